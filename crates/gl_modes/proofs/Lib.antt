@@ -1,0 +1,4 @@
+pub mod Each
+pub mod ModeLemmas
+pub mod NodeLemmas
+pub mod Spellings

@@ -1,0 +1,4 @@
+pub mod Modes
+pub mod Nodes
+pub mod Refusals
+pub mod Laws

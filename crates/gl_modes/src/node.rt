@@ -1,0 +1,14 @@
+//! The names of nodes.
+
+/// A node's name: the key under which it is kept, and its birth, which no other node ever has. So
+/// the name of a node that is gone names nothing, also where its key is used again.
+#[derive(Clone, Copy, PartialEq, Eq, Hash, Debug, Default)]
+pub struct NodeId {
+    pub key: usize,
+    pub birth: u64,
+}
+
+impl NodeId {
+    /// Names no node: births begin at 1.
+    pub const NONE: NodeId = NodeId { key: 0, birth: 0 };
+}
