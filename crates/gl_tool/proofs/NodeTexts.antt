@@ -1,0 +1,40 @@
+-- A node's text is read in one way, and a line's first field is its verb.
+use Rattle.std.proofs.Common.{◌≡◌, ◌≢◌, ℕ, ◌≤◌, ◌<◌, ◌^◌, ◌+◌, ◌⊎◌, List, [], ◌∷◌, ◌++◌, length, get_or, map, All, decimal, refl, sym, ap, ap₂, codes, ◌∙◌, subst, arith, inl, inr}
+use Rattle.std.proofs.lemmas.List.{get_or-map, length-map}
+use Rattle.std.proofs.lemmas.List.Elements.{All-weaker, All-get_or}
+use Rattle.gl_tool.specs.Views.{word}
+use Rattle.gl_tool.specs.declared.form.Verb.{Verb}
+use Rattle.gl_tool.specs.declared.form.Verb.TheVariants as verb
+use Rattle.gl_tool.specs.Grammar.{Command, Inner, Begin, Try, Group, Commit, fields, Node, Plain, Interval, IsName, IsNode, IsNameByte, node_text}
+use Rattle.gl_tool.proofs.Splitting.{cut_once, has_byte}
+
+no_dot : (b : ℕ) → IsNameByte b → b ≢ 46
+no_dot b (inl h) e = omega (arith, h.0, e)
+no_dot b (inr (inl h)) e = omega (arith, h.0, e)
+no_dot b (inr (inr h)) e = omega (arith, h, e)
+
+pub name_no_dot : (n : List ℕ) → IsName n → All (λ b. b ≢ 46) n
+name_no_dot n h = All-weaker IsNameByte (λ b. b ≢ 46) no_dot n h.rest
+
+pub none_plain : (text : List ℕ) → All (λ b. b ≢ 46) text → (IsName text → ⊥) → (n : Node) → IsNode n → text ≡ node_text n → ⊥
+none_plain text whole nay (Plain m) is e = nay (subst IsName (sym e) is)
+none_plain text whole nay (Interval m k) is e = has_byte 46 m (decimal k) (subst (All (λ b. b ≢ 46)) e whole)
+
+pub none_front : (text front back : List ℕ) → text ≡ front ++ 46 ∷ back → All (λ b. b ≢ 46) front → (IsName front → ⊥) → (n : Node) → IsNode n → text ≡ node_text n → ⊥
+none_front text front back cut here nay (Plain m) is e = has_byte 46 front back (subst (All (λ b. b ≢ 46)) (sym e ∙ cut) (name_no_dot m is))
+none_front text front back cut here nay (Interval m k) is e =
+    nay (subst IsName (sym (cut_once 46 front m back (decimal k) here (name_no_dot m is.0) (sym cut ∙ e)).0) is.0)
+
+pub none_back : (text front back : List ℕ) → text ≡ front ++ 46 ∷ back → All (λ b. b ≢ 46) front → ((k : ℕ) → k < 2 ^ 64 → back ≡ decimal k → ⊥)
+    → (n : Node) → IsNode n → text ≡ node_text n → ⊥
+none_back text front back cut here nay (Plain m) is e = has_byte 46 front back (subst (All (λ b. b ≢ 46)) (sym e ∙ cut) (name_no_dot m is))
+none_back text front back cut here nay (Interval m k) is e =
+    nay k is.1 (cut_once 46 front m back (decimal k) here (name_no_dot m is.0) (sym cut ∙ e)).1
+
+-- the first field of a command's line is its verb
+pub first_verb : (f : List ℕ) (rest : List (List ℕ)) (command : Command) → f ∷ rest ≡ fields command → (v : Verb) × (f ≡ word v)
+first_verb f rest (Inner n) e = (verb.Inner, cc)
+first_verb f rest (Begin t) e = (verb.Begin, cc)
+first_verb f rest (Try t m n) e = (verb.Try, cc)
+first_verb f rest (Group n) e = (verb.Group, cc)
+first_verb f rest (Commit t) e = (verb.Commit, cc)

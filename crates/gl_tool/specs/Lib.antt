@@ -1,0 +1,11 @@
+pub mod Grammar
+pub mod Numbers
+pub mod Desk
+pub mod Report
+pub mod Held
+pub mod Views
+pub mod SoFar
+pub mod Done
+pub mod Declaring
+pub use Rattle.gl_modes.specs.Modes
+pub use Rattle.gl_modes.specs.Refusals

@@ -1,0 +1,166 @@
+//! A script, from a reader to a writer.
+
+ghost use Rattle.std.specs.Prelude.{◌≡◌, ◌<◌, [], ◌∷◌, IfSome, OnOk, length, vec_len};
+ghost use Rattle.std.specs.Io.KnownBytes.{IsAtEnd};
+ghost use Rattle.gl_tool.specs.Report.{Ran};
+ghost use Rattle.gl_tool.specs.SoFar.{IsNew, Takes, Finishes, HasReported};
+
+use crate::answers::say;
+use crate::desk::{Desk, answer, empty_desk};
+use crate::sink::{Sink, flush, new_sink};
+use arrayvec::ArrayVec;
+use std::alloc::Global;
+use std::io::{Read, Write};
+use thiserror::Error as FaultText;
+
+/// Why a run ended before its script did.
+#[derive(Clone, Copy, Debug, PartialEq, Eq, FaultText)]
+pub enum RunFault {
+    /// A read failed. The whole lines read before it are answered.
+    #[error("read fault")]
+    Read,
+    /// A write failed or took nothing. What was written is a beginning of the report.
+    #[error("write fault")]
+    Write,
+    /// The script has more than 16,777,216 bytes. Its whole lines up to there are answered.
+    #[error("input too long")]
+    TooMuch,
+    /// There was no memory to begin with. Nothing was read or written.
+    #[error("no memory")]
+    Memory,
+}
+
+/// The most bytes that a script may have.
+const LIMIT: usize = 16_777_216;
+
+/// How many bytes are read at once.
+const BLOCK: usize = 65_536;
+
+/// What a run has made of the bytes so far.
+#[derive(Drop)]
+pub(crate) struct Tool {
+    pub(crate) desk: Desk,
+    /// The first 257 bytes of the line that has not ended.
+    pub(crate) line: ArrayVec<u8, 257>,
+    pub(crate) sink: Sink,
+}
+
+/// Answers a script, line by line as it is read.
+///
+/// What is written is the report of what is read; with `Ok` all of the reader was read. The answers
+/// to the lines at hand are written before the next read. Memory is taken before the first read,
+/// and beyond it for the names and grants of the script alone: a line that meets its want is
+/// answered `no 1 NoMemory`.
+///
+/// # Errors
+///
+/// The first fault ends the run; an interrupted read or write is a fault too.
+pub fn run<R: Read, W: Write>(alloc: Global, reader: &mut R, writer: &mut W) -> Result<(), RunFault>
+    ensures report { Ran (R.remaining reader.old) (R.remaining reader.new) (W.contents writer.old) (W.contents writer.new) result }
+    ensures whole { OnOk result (IsAtEnd (R.remaining reader.new)) }
+{
+    let Some(mut block) = new_block(alloc) else {
+        return Err(RunFault::Memory);
+    };
+    let mut tool = new_tool(alloc);
+    pump(&mut tool, reader, writer, &mut block)
+}
+
+/// Room for what one read gives.
+fn new_block(alloc: Global) -> Option<Vec<u8>>
+    ensures { IfSome result (λ block. 0 < vec_len block) }
+{
+    vec![in alloc; 0u8; BLOCK].ok()
+}
+
+/// A tool that has taken nothing.
+fn new_tool(alloc: Global) -> Tool
+    ensures { IsNew result }
+{
+    Tool {
+        desk: empty_desk(alloc),
+        line: ArrayVec::new(),
+        sink: new_sink(),
+    }
+}
+
+/// Answers a script by a new tool.
+fn pump<R: Read, W: Write>(
+    tool: &mut Tool,
+    reader: &mut R,
+    writer: &mut W,
+    block: &mut [u8],
+) -> Result<(), RunFault>
+    requires fresh { IsNew tool.old }
+    requires room { 0 < length block.old }
+    ensures report { Ran (R.remaining reader.old) (R.remaining reader.new) (W.contents writer.old) (W.contents writer.new) result }
+    ensures whole { OnOk result (IsAtEnd (R.remaining reader.new)) }
+{
+    let mut total = 0;
+    while total <= LIMIT {
+        let most = block.len().min(LIMIT + 1 - total);
+        let part = &mut block[..most];
+        let Ok(count) = reader.read(part) else {
+            return Err(RunFault::Read);
+        };
+        if count == 0 {
+            return finish(tool, writer);
+        }
+        take_block(tool, writer, &part[..count]);
+        if tool.sink.broken {
+            // The last line is answered too, to the broken sink: what was written is then the
+            // beginning of a report on all that was read.
+            let _ = finish(tool, writer);
+            return Err(RunFault::Write);
+        }
+        total += count;
+    }
+    Err(RunFault::TooMuch)
+}
+
+/// Takes the next bytes of the script, and writes the answers to the lines that they end.
+fn take_block<W: Write>(tool: &mut Tool, writer: &mut W, block: &[u8])
+    ensures takes { Takes (W.contents writer.old) tool.old (W.contents writer.new) tool.new block.now }
+    ensures empty { tool.new.sink.held.items ≡ [] }
+{
+    for byte in block {
+        take_byte(tool, writer, *byte);
+    }
+    flush(&mut tool.sink, writer);
+}
+
+/// Takes the next byte of the script.
+fn take_byte<W: Write>(tool: &mut Tool, writer: &mut W, byte: u8)
+    ensures { Takes (W.contents writer.old) tool.old (W.contents writer.new) tool.new (byte ∷ []) }
+{
+    if byte == b'\n' {
+        answer_line(tool, writer);
+        tool.line.clear();
+    } else if !tool.line.is_full() {
+        tool.line.push(byte);
+    }
+}
+
+/// Answers the line.
+fn answer_line<W: Write>(tool: &mut Tool, writer: &mut W)
+    ensures answers { HasReported (W.contents writer.old) tool.old (W.contents writer.new) tool.new }
+    ensures line { tool.new.line ≡ tool.old.line }
+{
+    let reply = answer(&mut tool.desk, tool.line.as_slice());
+    say(&mut tool.sink, writer, &reply);
+}
+
+/// Answers what is left after the last newline, if anything is.
+fn finish<W: Write>(tool: &mut Tool, writer: &mut W) -> Result<(), RunFault>
+    ensures { Finishes (W.contents writer.old) tool.old (W.contents writer.new) result }
+{
+    if !tool.line.is_empty() {
+        answer_line(tool, writer);
+    }
+    flush(&mut tool.sink, writer);
+    if tool.sink.broken {
+        Err(RunFault::Write)
+    } else {
+        Ok(())
+    }
+}
