@@ -1,9 +1,8 @@
 -- The desk's steps over plain values: a name is declared, a lock is tried, a transaction ends.
-use Rattle.std.proofs.Common.{◌≡◌, ◌≢◌, ◌⊎◌, ℕ, ◌+◌, ◌-◌, ◌^◌, ◌≤◌, ◌<◌, Bool, true, false, not, ◌&&◌, ◌||◌, ◌==◌, List, [], ◌∷◌, ◌++◌, map, Option, None, Some, refl, sym, ap, ap₂, ◌∙◌, subst, inl, inr, cond, length, arith, if◌then◌else◌}
+use Rattle.std.proofs.Common.{◌≡◌, ◌≢◌, ℕ, ◌+◌, ◌≤◌, ◌<◌, Bool, true, false, not, ◌&&◌, ◌||◌, ◌==◌, List, [], ◌∷◌, map, Option, None, Some, refl, sym, ap, ◌∙◌, inl, inr, cond, length, arith, if◌then◌else◌}
 use Rattle.std.specs.Prelude.{fold, filter, nat_le, unwrap_or}
 use Rattle.std.specs.List.{list_all}
 use Rattle.std.specs.Map.{lookup}
-use Rattle.std.specs.Option.{is_some, is_none}
 use Rattle.std.proofs.Math.Path.{fun_ext}
 use Rattle.std.proofs.lemmas.Bool.Decides.{nat_tests}
 use Rattle.gl_modes.specs.declared.mode.Mode.{Mode}
@@ -11,8 +10,8 @@ use Rattle.gl_modes.specs.declared.mode.Mode.TheVariants.{NL}
 use Rattle.gl_modes.specs.declared.refusal.Refusal.{Refusal}
 use Rattle.gl_modes.specs.declared.refusal.Refusal.TheVariants as no
 use Rattle.gl_modes.specs.Modes.{are_compatible, same_mode}
-use Rattle.gl_tool.specs.Grammar.{Text, Node, Plain, Command, Inner, Begin, Try, Group, Commit}
-use Rattle.gl_tool.specs.Desk.{Names, State, Answer, Done, InMode, Refused, Step, birth_of, is_in_use, node_named, fits, group_of, wanted, granted, committed, with_name, without_name, Grants, Goes}
+use Rattle.gl_tool.specs.Grammar.{Text, Node, Plain, Inner, Begin, Try, Group, Commit}
+use Rattle.gl_tool.specs.Desk.{Names, State, Answer, Done, InMode, Refused, Step, birth_of, is_in_use, node_named, fits, group_of, wanted, committed, with_name, Grants, Goes}
 use Rattle.gl_tool.specs.Declaring.{Declares, DeclareGoes, declared_answer}
 use Rattle.gl_tool.specs.declared.desk.Place.{Place}
 use Rattle.gl_tool.specs.Views.{held_in, names_of, same_place}

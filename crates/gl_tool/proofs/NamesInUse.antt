@@ -1,9 +1,8 @@
 -- What a map of names has, in the words of the model.
-use Rattle.std.proofs.Common.{◌≡◌, ℕ, Bool, true, false, List, [], ◌∷◌, ◌++◌, ◌||◌, map, Option, None, Some, refl, sym, ap, ◌∙◌, cond, length}
+use Rattle.std.proofs.Common.{◌≡◌, ℕ, Bool, true, false, List, [], ◌∷◌, map, Option, None, Some, refl, ap, cond}
 use Rattle.std.specs.Option.{is_some}
 use Rattle.std.specs.Map.{lookup, remove_entry}
 use Rattle.std.specs.Str.{bytes_eq}
-use Rattle.std.proofs.lemmas.List.{map-append}
 use Rattle.arrayvec.specs.ArrayVec.{ArrayVec}
 
 abbrev pub same_name : ArrayVec ℕ → ArrayVec ℕ → Bool

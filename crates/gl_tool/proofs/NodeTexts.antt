@@ -1,7 +1,6 @@
 -- A node's text is read in one way, and a line's first field is its verb.
-use Rattle.std.proofs.Common.{◌≡◌, ◌≢◌, ℕ, ◌≤◌, ◌<◌, ◌^◌, ◌+◌, ◌⊎◌, List, [], ◌∷◌, ◌++◌, length, get_or, map, All, decimal, refl, sym, ap, ap₂, codes, ◌∙◌, subst, arith, inl, inr}
-use Rattle.std.proofs.lemmas.List.{get_or-map, length-map}
-use Rattle.std.proofs.lemmas.List.Elements.{All-weaker, All-get_or}
+use Rattle.std.proofs.Common.{◌≡◌, ◌≢◌, ℕ, ◌<◌, ◌^◌, List, ◌∷◌, ◌++◌, All, decimal, sym, ◌∙◌, subst, arith, inl, inr}
+use Rattle.std.proofs.lemmas.List.Elements.{All-weaker}
 use Rattle.gl_tool.specs.Views.{word}
 use Rattle.gl_tool.specs.declared.form.Verb.{Verb}
 use Rattle.gl_tool.specs.declared.form.Verb.TheVariants as verb

@@ -1,5 +1,5 @@
 -- Numbers and their one spelling.
-use Rattle.std.proofs.Common.{◌≡◌, ◌≢◌, ℕ, ◌≤◌, ◌<◌, ◌^◌, List, [], ◌∷◌, length, get_or, slice_index, All, Result, Ok, Err, decimal, refl, sym, ap, ◌∙◌, subst, arith, eq-zero-or-pos, inl, inr, ◌⊎◌, rules}
+use Rattle.std.proofs.Common.{◌≡◌, ◌≢◌, ℕ, ◌<◌, ◌^◌, List, [], ◌∷◌, length, get_or, All, Result, Ok, Err, decimal, sym, ap, ◌∙◌, subst, arith, eq-zero-or-pos, inl, inr, ◌⊎◌, rules}
 use Rattle.std.specs.Str.Parse.{ParsesUnsigned, AllDigits, digits_value}
 use Rattle.std.specs.Str.{IsUtf8}
 use Rattle.std.proofs.lemmas.Str.{IsUtf8-from_ascii}

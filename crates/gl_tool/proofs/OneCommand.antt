@@ -1,9 +1,8 @@
 -- A line says at most one command: its first field tells the verb, and names, modes and numbers are spelt in one way.
-use Rattle.std.proofs.Common.{◌≡◌, ◌≢◌, ℕ, Bool, List, [], ◌∷◌, ◌++◌, All, true, false, true≢false, codes, decimal, refl, sym, ap, ap₂, ◌∙◌, subst}
+use Rattle.std.proofs.Common.{◌≡◌, ◌≢◌, ℕ, List, [], ◌∷◌, All, true, false, true≢false, decimal, refl, sym, ap, ap₂, ◌∙◌, subst}
 use Rattle.std.specs.Str.{bytes_eq}
 use Rattle.std.proofs.lemmas.Cmp.{nat_list_eq_equiv}
 use Rattle.std.proofs.lemmas.Fmt.{decimal_injective}
-use Rattle.gl_modes.specs.declared.mode.Mode.{Mode}
 use Rattle.gl_modes.specs.Modes.{mode_text}
 use Rattle.gl_modes.proofs.Spellings.{mode_text-injective}
 use Rattle.gl_tool.specs.Grammar.{Command, Inner, Begin, Try, Group, Commit, Node, Plain, Interval, IsNode, node_text, fields, SaysFields}

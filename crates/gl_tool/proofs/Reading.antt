@@ -1,19 +1,17 @@
 -- A script on its way through the tool: lines grow byte by byte, are answered, and end.
-use Rattle.std.proofs.Common.{◌≡◌, ◌≢◌, ℕ, ◌+◌, ◌<◌, ◌≤◌, ◌⊎◌, List, [], ◌∷◌, ◌++◌, Option, Result, Ok, Err, OnOk, length, take, get_or, All, flat_map, refl, sym, ap, ◌∙◌, subst, append_assoc, append-nil, arith, inl, inr, length-take, length-append, take_all, slice_index, Bool, true, false, ◌==◌, true≢false}
+use Rattle.std.proofs.Common.{◌≡◌, ◌≢◌, ℕ, ◌+◌, ◌<◌, ◌≤◌, List, [], ◌∷◌, ◌++◌, Option, Result, Ok, Err, OnOk, length, take, flat_map, refl, sym, ap, ◌∙◌, subst, append_assoc, append-nil, arith, inl, inr, length-take, length-append, take_all, true, false}
 use Rattle.std.proofs.lemmas.List.{flat_map_more, take-append-le}
 use Rattle.std.proofs.lemmas.List.Elements.{All-push, All-nil}
-use Rattle.std.proofs.lemmas.Grind.{common_steps}
 use Rattle.gl_tool.specs.declared.script.Tool.{Tool}
 use Rattle.gl_tool.specs.declared.script.RunFault.{RunFault}
 use Rattle.gl_tool.specs.declared.script.RunFault.TheVariants.{Read, Write, TooMuch}
 use Rattle.gl_tool.specs.Desk.{State, Answer, start}
-use Rattle.gl_tool.specs.Report.{Answers, Run, Prints, Splits, Report, ReportOfWhole, Left, Ran, IsOpen, IsSilent, ended, last_line}
+use Rattle.gl_tool.specs.Report.{Answers, Run, Prints, Splits, Report, ReportOfWhole, Left, Ran, IsOpen, ended, last_line}
 use Rattle.std.specs.Io.KnownBytes.{Appends, Consumes}
-use Rattle.std.proofs.lemmas.Bool.Decides.{Decides-eqb}
 use Rattle.gl_tool.specs.declared.sink.Sink.{Sink}
 use Rattle.gl_tool.specs.Held.{Holds, Hands, Handed}
 use Rattle.gl_tool.proofs.Writing.{Appends-nil}
-use Rattle.gl_tool.specs.SoFar.{IsNew, IsSoFar, SoFar, Takes, HasReported, Finishes}
+use Rattle.gl_tool.specs.SoFar.{IsNew, SoFar, Takes, HasReported, Finishes}
 use Rattle.gl_tool.specs.Views.{state_of}
 
 pub Splits-none : Splits [] [] []

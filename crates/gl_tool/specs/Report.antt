@@ -1,7 +1,6 @@
 -- What is printed for a script, from all bytes read to all bytes written.
-use Rattle.std.specs.Prelude.{◌≡◌, ◌≢◌, ℕ, ◌<◌, ◌≤◌, ◌⊎◌, List, [], ◌∷◌, ◌++◌, length, slice_index, All, codes, decimal, flat_map, Option, Some, None, Result, MatchResult}
+use Rattle.std.specs.Prelude.{◌≡◌, ◌≢◌, ◌<◌, ◌≤◌, ◌⊎◌, List, [], ◌∷◌, ◌++◌, length, slice_index, All, codes, decimal, flat_map, Option, Some, None, Result, MatchResult}
 use Rattle.std.specs.Io.KnownBytes.{Consumes, Appends}
-use Rattle.gl_modes.specs.declared.refusal.Refusal.{Refusal}
 use Rattle.gl_modes.specs.declared.refusal.Refusal.TheVariants.{BadLine}
 use Rattle.gl_modes.specs.Modes.{mode_text}
 use Rattle.gl_modes.specs.Refusals.{refusal_name, refusal_number}

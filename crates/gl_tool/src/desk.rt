@@ -118,13 +118,7 @@ fn serve(desk: &mut Desk, form: Form) -> Reply
 }
 
 /// Declares a name for what is born now. The room for it is made before any change.
-fn declare(
-    names: &mut Names,
-    accepted: &mut u64,
-    name: Name,
-    most: usize,
-    full: Refusal,
-) -> Reply
+fn declare(names: &mut Names, accepted: &mut u64, name: Name, most: usize, full: Refusal) -> Reply
     ensures { Declares (names_of names.old) accepted.old name.items most full (answer_of result) (names_of names.new) accepted.new }
 {
     if names.contains_key(&name) {
@@ -209,8 +203,7 @@ fn can_grant(
 ) -> bool
     ensures { result ≡ list_all (λ txn. (txn == asker) || are_compatible mode (held_in grants.now txn node)) (values txns.now) }
 {
-    txns.values()
-        .all(|&txn| txn == asker || compatible(mode, held(grants, txn, node)))
+    txns.values().all(|&txn| txn == asker || compatible(mode, held(grants, txn, node)))
 }
 
 /// Writes a grant down.

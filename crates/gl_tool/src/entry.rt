@@ -4,8 +4,11 @@ ghost use Rattle.std.specs.Prelude.{◌≡◌, ◌<◌, ◌≤◌, OnOk};
 ghost use Rattle.gl_tool.specs.Done.{HasRun};
 
 use crate::script::{RunFault, run};
+use crate::sink::send;
+use arrayvec::ArrayString;
 use std::alloc::Global;
 use std::convert::AsStr;
+use std::fmt::Write as FormatWrite;
 use std::io::{Read, Write};
 use thiserror::Error as FaultText;
 
@@ -45,7 +48,9 @@ pub fn complain<E: Write>(fault: ToolFault, faults: &mut E) -> u8
     ensures some { 0 < result }
     ensures bound { result ≤ 2 }
 {
-    let _ = writeln!(faults, "gltool: {fault}");
+    let mut line = ArrayString::<64>::new();
+    let _ = writeln!(line, "gltool: {fault}");
+    send(faults, line.as_bytes());
     match fault {
         ToolFault::Words => 2,
         ToolFault::Run(_) => 1,

@@ -47,8 +47,9 @@ pub(crate) fn flush<W: Write>(sink: &mut Sink, writer: &mut W)
     sink.held.clear();
 }
 
-/// Writes all of the text, and says whether that went well.
-fn send<W: Write>(writer: &mut W, text: &[u8]) -> bool
+/// Writes all of the text, and says whether that went well. No write is made again: an interrupted
+/// one is a fault, and so is one that takes nothing.
+pub(crate) fn send<W: Write>(writer: &mut W, text: &[u8]) -> bool
     ensures { Sends (W.contents writer.old) (W.contents writer.new) text.now result }
 {
     let mut at = 0;

@@ -1,6 +1,5 @@
 use Rattle.std.proofs.Common.{◌∙◌, sym}
 use Rattle.gl_tool.proofs.NamesInUse.{lookup-seen}
-use Rattle.gl_tool.proofs.DeskLemmas.{declares-taken}
 use Rattle.gl_tool.proofs.desk.birth.Goals as goal
 
 pub returns : goal.returns

@@ -1,4 +1,4 @@
-use Rattle.std.proofs.Common.{◌≡◌, ◌+◌, ◌∙◌, sym, ap, map, filter, rules, subst}
+use Rattle.std.proofs.Common.{◌≡◌, ◌∙◌, sym, ap, map, filter, rules, subst}
 use Rattle.indexmap.proofs.CallerLemmas.{filter-RetainsPairs}
 use Rattle.gl_tool.specs.Desk.{State, Step, Done, committed, without_name}
 use Rattle.gl_tool.specs.Grammar.{Commit}

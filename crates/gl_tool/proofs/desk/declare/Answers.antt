@@ -1,4 +1,4 @@
-use Rattle.std.proofs.Common.{◌≡◌, ◌∙◌, ◌∷◌, ◌+◌, ◌++◌, [], sym, ap, arith, length, map}
+use Rattle.std.proofs.Common.{◌≡◌, ◌∙◌, ◌∷◌, ◌+◌, ◌++◌, [], sym, ap, arith, map}
 use Rattle.std.proofs.lemmas.List.{map_push, length-map}
 use Rattle.indexmap.proofs.CallerLemmas.{insert_entry-new}
 use Rattle.gl_tool.specs.Views.{names_of}
@@ -16,7 +16,7 @@ returns-then-accepted-eq18446744073709551615 c =
 pub returns-then-len-most : goal.returns-then-len-most
 returns-then-len-most c =
     rw c.refused-then-len-most.ensures (declares-full _ _ _ _ _ (in_use-seen c.args.name _ ∙ sym c.contains_key.ensures ∙ c.if-contains_key.false) c.if-accepted-eq18446744073709551615.false
-      (omega (arith, c.if-len-most.true, c.len.ensures.len, length-map c.args.names.now.entries seen)))
+    (omega (arith, c.if-len-most.true, c.len.ensures.len, length-map c.args.names.now.entries seen)))
 
 pub returns-in-Err : goal.returns-in-Err
 returns-in-Err c =
@@ -33,4 +33,4 @@ returns-in-Ok c =
     let entries = c.in-Ok.ensures.entries ∙ insert_entry-new same_name names c.args.name birth (none_from_test _ none) in
     let named : names_of c.insert.new.self ≡ names_of names ++ (c.args.name.items, birth) ∷ [] = ap (map seen) entries ∙ map_push seen names.entries (c.args.name, birth) in
     rw named (declares-done _ _ _ _ _ (in_use-seen c.args.name names.entries ∙ none) c.if-accepted-eq18446744073709551615.false
-      (omega (arith, c.if-len-most.false, c.len.ensures.len, length-map names.entries seen)))
+    (omega (arith, c.if-len-most.false, c.len.ensures.len, length-map names.entries seen)))

@@ -1,10 +1,8 @@
-use Rattle.std.proofs.Common.{◌≡◌, ◌+◌, ◌∙◌, ap, inl, inr, refl}
+use Rattle.std.proofs.Common.{◌+◌, ap, inl, inr, refl}
 use Rattle.std.specs.Option.{unwrap_or}
-use Rattle.std.proofs.Math.Path.{fun_ext}
 use Rattle.gl_modes.specs.declared.mode.Mode.TheVariants.{NL}
 use Rattle.gl_modes.specs.Modes.{same_mode}
-use Rattle.gl_tool.specs.Desk.{granted}
-use Rattle.gl_tool.specs.Views.{held_in, state_of, same_place}
+use Rattle.gl_tool.specs.Views.{state_of}
 use Rattle.gl_tool.proofs.DeskLemmas.{held-unchanged, held-granted}
 use Rattle.gl_tool.proofs.desk.grant.Goals as goal
 

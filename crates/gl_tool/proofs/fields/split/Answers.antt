@@ -1,4 +1,4 @@
-use Rattle.std.proofs.Common.{◌≡◌, ◌∷◌, ◌++◌, [], List, ℕ, map, length, length-append, ap, ◌∙◌, sym, arith, subst, Bor}
+use Rattle.std.proofs.Common.{◌∷◌, List, ℕ, map, length, length-append, ap, ◌∙◌, arith, Bor}
 use Rattle.std.proofs.lemmas.List.{map_push}
 use Rattle.gl_tool.proofs.Splitting.{split_more, split_last}
 use Rattle.gl_tool.proofs.fields.split.Goals as goal

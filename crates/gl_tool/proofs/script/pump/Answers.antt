@@ -1,8 +1,8 @@
-use Rattle.std.proofs.Common.{◌≡◌, ◌++◌, ◌+◌, [], refl, arith, length, take, length-append, length-take, OnOk, Result, subst, append-nil}
+use Rattle.std.proofs.Common.{◌++◌, [], refl, arith, take, length-append, length-take, subst, append-nil}
 use Rattle.std.specs.Io.KnownBytes.{Consumes}
 use Rattle.gl_tool.specs.SoFar.{Takes}
 use Rattle.gl_tool.proofs.Writing.{Consumes-nil, Consumes-then, Consumes-kept}
-use Rattle.gl_tool.proofs.Reading.{SoFar-new, SoFar-whole, Ran-finished, Ran-broken, Ran-at_fault, Ran-too_much, OnOk-of}
+use Rattle.gl_tool.proofs.Reading.{SoFar-new, Ran-finished, Ran-broken, Ran-at_fault, Ran-too_much, OnOk-of}
 use Rattle.gl_tool.proofs.script.pump.Goals as goal
 
 pub loop-total-init : goal.loop-total-init

@@ -1,4 +1,4 @@
-use Rattle.std.proofs.Common.{◌≡◌, ◌∷◌, [], ◌+◌, ◌++◌, refl, subst, sym, ◌∙◌, get_or, take, take_all, le_refl, length, arith}
+use Rattle.std.proofs.Common.{◌≡◌, ◌∷◌, [], ◌+◌, ◌++◌, refl, subst, get_or, take, take_all, arith}
 use Rattle.std.proofs.lemmas.List.{take_more}
 use Rattle.gl_tool.specs.SoFar.{Takes, SoFar}
 use Rattle.gl_tool.proofs.Reading.{Takes-none, Takes-then, SoFar-flushed}

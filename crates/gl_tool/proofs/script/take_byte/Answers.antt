@@ -1,4 +1,4 @@
-use Rattle.std.proofs.Common.{◌≡◌, ◌∷◌, [], ◌++◌, ◌<◌, refl, subst, sym, ◌∙◌, arith, length, take, ap}
+use Rattle.std.proofs.Common.{◌≡◌, ◌∷◌, [], ◌++◌, ◌<◌, refl, subst, sym, ◌∙◌, arith, length, ap}
 use Rattle.gl_tool.specs.SoFar.{Takes}
 use Rattle.gl_tool.proofs.Reading.{SoFar-newline, SoFar-byte, front-byte, front-full}
 use Rattle.gl_tool.proofs.Splitting.{same_test, other_test}

@@ -1,6 +1,5 @@
-use Rattle.std.proofs.Common.{rules, ◌≡◌, [], ap, ◌∙◌, subst, sym}
+use Rattle.std.proofs.Common.{ap, ◌∙◌}
 use Rattle.gl_tool.specs.declared.sink.Sink.{Sink}
-use Rattle.gl_tool.specs.Held.{Hands, Sends}
 use Rattle.gl_tool.proofs.Writing.{Hands-sent, Hands-broken}
 use Rattle.gl_tool.proofs.sink.flush.Goals.{then-not-sink, else-not-sink}
 use Rattle.gl_tool.proofs.sink.flush.Goals as goal

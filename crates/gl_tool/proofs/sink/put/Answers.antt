@@ -1,6 +1,5 @@
-use Rattle.std.proofs.Common.{rules, ◌≡◌, ap, ◌∙◌, refl, subst, sym, [], ◌∷◌, ◌++◌, ◌+◌, take, get_or, append_assoc, append-nil}
+use Rattle.std.proofs.Common.{◌≡◌, refl, subst, [], ◌∷◌, ◌++◌, ◌+◌, take, get_or, append-nil}
 use Rattle.std.proofs.lemmas.List.{take_more}
-use Rattle.gl_tool.specs.declared.sink.Sink.{Sink}
 use Rattle.gl_tool.specs.Held.{Hands}
 use Rattle.gl_tool.proofs.Writing.{Hands-none, Hands-push, Hands-then}
 use Rattle.gl_tool.proofs.sink.put.Goals.{then-is_full, else-is_full}
