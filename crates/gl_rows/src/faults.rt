@@ -34,7 +34,10 @@ fn writes_fail(rt: HostRuntime) -> Result<(), Fail> {
     out.piece = 1;
     out.calls = 2;
     let mut source = Source::new(b"begin a\nbegin b\n", 99_999);
-    assert_eq!(rt; run(rt.alloc(), &mut source, &mut out), Err(RunFault::Write));
+    assert_eq!(rt;
+        run(rt.alloc(), &mut source, &mut out),
+        Err(RunFault::Write)
+    );
     assert_eq!(rt; out.text.as_slice(), b"ok".as_slice());
     for (script, report) in ROWS {
         for calls in 0..report.len() {

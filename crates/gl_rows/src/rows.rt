@@ -35,7 +35,10 @@ fn reports(rt: HostRuntime) -> Result<(), Fail> {
     for (at, (script, report)) in ROWS.iter().enumerate() {
         for piece in [1, 7, 99_999] {
             let mut out = Sheet::new(rt.alloc())?;
-            assert_eq!(rt; run(rt.alloc(), &mut Source::new(script, piece), &mut out), Ok(()));
+            assert_eq!(rt;
+                run(rt.alloc(), &mut Source::new(script, piece), &mut out),
+                Ok(())
+            );
             assert_eq!(rt; out.text.as_slice(), *report, "row {at} by {piece}");
         }
     }
@@ -54,7 +57,11 @@ fn too_many_transactions(rt: HostRuntime) -> Result<(), Fail> {
     script.extend_from_slice(b"begin t64\ncommit t5\nbegin t64\n")?;
     report.extend_from_slice(b"no 11 TooManyTxns\nok\nok\n")?;
     let mut out = Sheet::new(rt.alloc())?;
-    let ended = run(rt.alloc(), &mut Source::new(script.as_slice(), 99_999), &mut out);
+    let ended = run(
+        rt.alloc(),
+        &mut Source::new(script.as_slice(), 99_999),
+        &mut out,
+    );
     assert_eq!(rt; ended, Ok(()));
     assert_eq!(rt; out.text.as_slice(), report.as_slice());
     Ok(())
@@ -75,7 +82,11 @@ fn long_lines(rt: HostRuntime) -> Result<(), Fail> {
     script.extend_from_slice(b"\nbegin  a\nbegin a")?;
     for piece in [1, 255, 256, 257, 258, 99_999] {
         let mut out = Sheet::new(rt.alloc())?;
-        let ended = run(rt.alloc(), &mut Source::new(script.as_slice(), piece), &mut out);
+        let ended = run(
+            rt.alloc(),
+            &mut Source::new(script.as_slice(), piece),
+            &mut out,
+        );
         assert_eq!(rt; ended, Ok(()));
         let report = b"no 20 BadLine\nno 20 BadLine\nno 20 BadLine\nok\n";
         assert_eq!(rt; out.text.as_slice(), report.as_slice(), "by {piece}");

@@ -31,6 +31,7 @@ impl Write for Broken {
     }
 }
 
+/// Grows as the next test does, and fails where a growth is refused.
 #[test]
 fn runs_the_first_script(rt: HostRuntime) -> Result<(), Fail> {
     one_command();
@@ -49,8 +50,10 @@ fn runs_the_first_script(rt: HostRuntime) -> Result<(), Fail> {
 /// Where a growth is refused, nothing was read or written, or the first line that is answered
 /// otherwise is answered with want of memory.
 #[test]
-fn a_refused_growth_is_answered(rt: HostRuntime) -> Result<(), Fail> {
-    let mut out = Vec::with_capacity(rt.alloc(), 256)?;
+fn a_refused_growth_is_answered(rt: HostRuntime) {
+    let Ok(mut out) = Vec::with_capacity(rt.alloc(), 256) else {
+        return;
+    };
     let mut reader = SCRIPT;
     match run(rt.alloc(), &mut reader, &mut out) {
         Ok(()) => {
@@ -69,7 +72,6 @@ fn a_refused_growth_is_answered(rt: HostRuntime) -> Result<(), Fail> {
             assert!(rt; out.is_empty());
         }
     }
-    Ok(())
 }
 
 #[test]
