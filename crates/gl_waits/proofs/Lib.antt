@@ -1,0 +1,4 @@
+pub mod SetLemmas
+pub mod WalkLemmas
+mod Closing
+mod Chosen

@@ -1,0 +1,120 @@
+-- Sets of slots as numbers: union, intersection, one slot more or less, and the number of a test.
+use Rattle.std.proofs.Common.{◌≡◌, ◌≢◌, ℕ, zero, suc, ◌+◌, ◌-◌, ◌*◌, ◌/◌, ◌%◌, ◌^◌, ◌<◌, ◌≤◌, Bool, true, false, cond, not, min, ◌&&◌, ◌||◌, ◌==◌, bit_and, bit_or, ◌⊎◌, ⊎_elim, refl, sym, ap, ◌∙◌, pow-suc, arith}
+use Rattle.std.specs.Int.{bit_at, bit_not, w128, trailing_zeros}
+use Rattle.std.proofs.lemmas.Nat.{and_le_l}
+use Rattle.std.proofs.lemmas.Nat.Bits.{bit_at-suc, bit_at_lowest, bit_at-zero, bit_at-lt, bit_at_and, bit_at_or, bit_at_above, bit_at_set_same, bit_at_set_other, bit_at_clear_same, bit_at_clear_other, bit_at-trailing_zeros, same_from_bits, same_from_bits_below}
+use Rattle.std.proofs.lemmas.Bool.Decides.{nat_tests}
+use Rattle.gl_waits.specs.Sets.{has_slot, bits_of}
+
+pub has_slot-zero : (u : ℕ) → has_slot 0 u ≡ false
+has_slot-zero u = let e = bit_at-zero u in grind (arith, nat_tests)
+
+-- a set of slots below n has no slot from n on
+pub has_slot-above : (set n u : ℕ) → set < 2 ^ n → n ≤ u → has_slot set u ≡ false
+has_slot-above set n u small above = let e = bit_at_above set n u small above in grind (arith, nat_tests)
+
+pub has_slot-or : (a b u : ℕ) → has_slot (bit_or a b) u ≡ (has_slot a u || has_slot b u)
+has_slot-or a b u =
+    let e = bit_at_or a b u in
+    let x = bit_at-lt a u in
+    let y = bit_at-lt b u in
+    grind (arith, nat_tests)
+
+pub has_slot-and : (a b u : ℕ) → has_slot (bit_and a b) u ≡ (has_slot a u && has_slot b u)
+has_slot-and a b u =
+    let e = bit_at_and a b u in
+    let x = bit_at-lt a u in
+    let y = bit_at-lt b u in
+    grind (arith, nat_tests)
+
+-- sets with the same slots are one number
+pub same_slots : (a b : ℕ) → ((u : ℕ) → has_slot a u ≡ has_slot b u) → a ≡ b
+same_slots a b same = same_from_bits a b each
+  where
+    each : (u : ℕ) → bit_at a u ≡ bit_at b u
+    each u =
+        let e = same u in
+        let x = bit_at-lt a u in
+        let y = bit_at-lt b u in
+        grind (arith, nat_tests)
+
+pub same_slots_below : (n a b : ℕ) → a < 2 ^ n → b < 2 ^ n → ((u : ℕ) → u < n → has_slot a u ≡ has_slot b u) → a ≡ b
+same_slots_below n a b small_a small_b same = same_from_bits_below n a b small_a small_b each
+  where
+    each : (u : ℕ) → u < n → bit_at a u ≡ bit_at b u
+    each u low =
+        let e = same u low in
+        let x = bit_at-lt a u in
+        let y = bit_at-lt b u in
+        grind (arith, nat_tests)
+
+-- a set without slots is 0
+pub no_slot-zero : (set : ℕ) → ((u : ℕ) → has_slot set u ≡ false) → set ≡ 0
+no_slot-zero set none = same_slots set 0 (λ u. none u ∙ sym (has_slot-zero u))
+
+-- the number of a test
+
+halved : (b : Bool) (x : ℕ) → (cond b 1 0 + 2 * x) / 2 ≡ x
+halved true x = omega arith
+halved false x = omega arith
+
+odd : (b : Bool) (x : ℕ) → ((cond b 1 0 + 2 * x) % 2 == 1) ≡ b
+odd true x = let e : (1 + 2 * x) % 2 ≡ 1 = omega arith in ap (λ n. n == 1) e
+odd false x = let e : (0 + 2 * x) % 2 ≡ 0 = omega arith in ap (λ n. n == 1) e
+
+-- below n the slots of the set are those that pass
+pub has_slot-bits_of : (n : ℕ) (member : ℕ → Bool) (u : ℕ) → u < n → has_slot (bits_of n member) u ≡ member u
+has_slot-bits_of zero member u low = absurd (omega arith)
+has_slot-bits_of (suc n) member zero low =
+    ap (λ x. x == 1) (bit_at_lowest (bits_of (suc n) member)) ∙ odd (member 0) (bits_of n (λ u. member (suc u)))
+has_slot-bits_of (suc n) member (suc u) low =
+    ap (λ x. x == 1) (bit_at-suc (bits_of (suc n) member) u ∙ ap (λ m. bit_at m u) (halved (member 0) (bits_of n (λ u. member (suc u)))))
+    ∙ has_slot-bits_of n (λ u. member (suc u)) u (omega arith)
+
+pub bits_of-lt : (n : ℕ) (member : ℕ → Bool) → bits_of n member < 2 ^ n
+bits_of-lt zero member = omega arith
+bits_of-lt (suc n) member = by (member 0) (bits_of n (λ u. member (suc u))) (bits_of-lt n (λ u. member (suc u)))
+  where
+    by : (b : Bool) (x : ℕ) → x < 2 ^ n → cond b 1 0 + 2 * x < 2 ^ suc n
+    by true x h = rw pow-suc (omega arith)
+    by false x h = rw pow-suc (omega arith)
+
+-- one slot more, one slot less
+
+more : (set after k u : ℕ) → bit_at after k ≡ 1 → (u ≢ k → bit_at after u ≡ bit_at set u) → has_slot after u ≡ (has_slot set u || (u == k))
+more set after k u same other = grind (arith, nat_tests)
+
+less : (set after k u : ℕ) → bit_at after k ≡ 0 → (u ≢ k → bit_at after u ≡ bit_at set u) → has_slot after u ≡ (has_slot set u && not (u == k))
+less set after k u same other = grind (arith, nat_tests)
+
+-- what `set | 1 << k` and `set & !(1 << k)` compute
+pub has_slot-set : (set k : ℕ) → k < 128 → (u : ℕ) → has_slot (bit_or set (1 * 2 ^ k % 2 ^ 128)) u ≡ (has_slot set u || (u == k))
+has_slot-set set k low u = more set _ k u (bit_at_set_same w128 set k low) (bit_at_set_other w128 set k low u)
+
+pub has_slot-clear : (set k : ℕ) → set < 2 ^ 128 → k < 128 → (u : ℕ) → has_slot (bit_and set (bit_not w128 (1 * 2 ^ k % 2 ^ 128))) u ≡ (has_slot set u && not (u == k))
+has_slot-clear set k small low u = less set cleared k u (bit_at_clear_same w128 set k low) (⊎_elim (λ within. bit_at_clear_other w128 set k low u within) (λ above ne. outside above) (order u))
+  where
+    cleared : ℕ
+    cleared = bit_and set (bit_not w128 (1 * 2 ^ k % 2 ^ 128))
+
+    order : (x : ℕ) → (x < 128) ⊎ (128 ≤ x)
+    order x = grind arith
+
+    least : (x y z : ℕ) → x ≡ min y z → y ≡ 0 → x ≡ y
+    least x y z both none = omega arith
+
+    outside : 128 ≤ u → bit_at cleared u ≡ bit_at set u
+    outside above =
+        let both = bit_at_and set (bit_not w128 (1 * 2 ^ k % 2 ^ 128)) u in
+        let none = bit_at_above set 128 u small above in
+        least _ _ _ both none
+
+-- to take a slot out of a set makes a lesser number
+pub clear-lt : (set k : ℕ) → k < 128 → has_slot set k ≡ true → bit_and set (bit_not w128 (1 * 2 ^ k % 2 ^ 128)) < set
+clear-lt set k low has = by _ (and_le_l set _) (bit_at_clear_same w128 set k low)
+  where
+    by : (after : ℕ) → after ≤ set → bit_at after k ≡ 0 → after < set
+    by after le gone = let ne : after ≢ set = (λ e. clash (ap (λ n. bit_at n k) e)) in omega arith
+      where
+        clash : bit_at after k ≡ bit_at set k → ⊥
+        clash e = grind (arith, nat_tests)
