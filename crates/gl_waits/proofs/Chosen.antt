@@ -1,7 +1,9 @@
 -- The youngest of the slots looked at so far.
-use Rattle.std.proofs.Common.{◌≡◌, ◌≢◌, ℕ, ◌+◌, ◌<◌, ◌≤◌, ◌⊎◌, ⊎_elim, inl, inr, Bool, true, false, ◌&&◌, nat_lt, Option, Some, None, refl, sym, ap, ◌∙◌, subst, arith}
+use Rattle.std.proofs.Common.{◌≡◌, ◌≢◌, ℕ, ◌+◌, ◌<◌, ◌≤◌, ◌^◌, ◌↔◌, ◌⊎◌, ⊎_elim, inl, inr, Bool, true, false, ◌&&◌, nat_lt, Option, Some, None, IsNone, refl, sym, ap, ◌∙◌, subst, arith}
 use Rattle.std.proofs.lemmas.Bool.Decides.{nat_tests}
 use Rattle.std.specs.Option.{option_map_or}
+use Rattle.gl_waits.specs.Sets.{has_slot}
+use Rattle.gl_waits.proofs.SetLemmas.{has_slot-zero, has_slot-above, no_slot-zero}
 
 -- v is a member below i, none of those below i is older.. younger, and of equal age only later ones
 pub record IsBestBelow (member : ℕ → Bool) (age : ℕ → ℕ) (i v : ℕ) : Type 0 where
@@ -16,6 +18,9 @@ IsChosenBelow member age i (Some v) = IsBestBelow member age i v
 
 abbrev is_better : (ℕ → ℕ) → ℕ → Option ℕ → Bool
 is_better age i chosen = option_map_or (λ v. nat_lt (age v) (age i)) chosen true
+
+order : (a b : ℕ) → (a < b) ⊎ (b ≤ a)
+order a b = grind arith
 
 at_end : (u i : ℕ) → u < i + 1 → (u < i) ⊎ (u ≡ i)
 at_end u i low = grind arith
@@ -54,3 +59,11 @@ chosen-same member age i (Some v) before worse = record {
   where
     not_younger : member i ≡ true → age i ≤ age v
     not_younger h = grind (arith, nat_tests)
+
+-- when all slots were looked at, nobody was chosen from the empty set alone
+pub chosen-none : (set : ℕ) (age : ℕ → ℕ) (i : ℕ) (chosen : Option ℕ) → set < 2 ^ 128 → 128 ≤ i → IsChosenBelow (has_slot set) age i chosen → IsNone chosen ↔ (set ≡ 0)
+chosen-none set age i None small all none = ((λ h. no_slot-zero set each), (λ e. refl))
+  where
+    each : (u : ℕ) → has_slot set u ≡ false
+    each u = ⊎_elim (λ low. none u low) (λ past. has_slot-above set 128 u small (omega arith)) (order u i)
+chosen-none set age i (Some v) small all best = ((λ h. cc h), (λ e. cc (ap (λ n. has_slot n v) e, has_slot-zero v, best.chosen)))

@@ -1,4 +1,5 @@
 pub mod SetLemmas
 pub mod WalkLemmas
+pub mod BoardLemmas
 mod Closing
 mod Chosen

@@ -2,7 +2,7 @@
 use Rattle.std.proofs.Common.{◌≡◌, ◌≢◌, ℕ, zero, suc, ◌+◌, ◌-◌, ◌*◌, ◌/◌, ◌%◌, ◌^◌, ◌<◌, ◌≤◌, Bool, true, false, cond, not, min, ◌&&◌, ◌||◌, ◌==◌, bit_and, bit_or, ◌⊎◌, ⊎_elim, refl, sym, ap, ◌∙◌, pow-suc, arith}
 use Rattle.std.specs.Int.{bit_at, bit_not, w128, trailing_zeros}
 use Rattle.std.proofs.lemmas.Nat.{and_le_l}
-use Rattle.std.proofs.lemmas.Nat.Bits.{bit_at-suc, bit_at_lowest, bit_at-zero, bit_at-lt, bit_at_and, bit_at_or, bit_at_above, bit_at_set_same, bit_at_set_other, bit_at_clear_same, bit_at_clear_other, bit_at-trailing_zeros, same_from_bits, same_from_bits_below}
+use Rattle.std.proofs.lemmas.Nat.Bits.{bit_at-suc, bit_at_lowest, bit_at-zero, bit_at-lt, bit_at_and, bit_at_or, bit_at_above, bit_at_set_same, bit_at_set_other, bit_at_clear_same, bit_at_clear_other, bit_at_ones, same_from_bits, same_from_bits_below}
 use Rattle.std.proofs.lemmas.Bool.Decides.{nat_tests}
 use Rattle.gl_waits.specs.Sets.{has_slot, bits_of}
 
@@ -118,3 +118,7 @@ clear-lt set k low has = by _ (and_le_l set _) (bit_at_clear_same w128 set k low
       where
         clash : bit_at after k ≡ bit_at set k → ⊥
         clash e = grind (arith, nat_tests)
+
+-- `u128::MAX` has every slot
+pub has_slot-ones : (k u : ℕ) → u < k → has_slot (2 ^ k - 1) u ≡ true
+has_slot-ones k u low = ap (λ x. x == 1) (bit_at_ones k u low)

@@ -40,3 +40,11 @@ on_cycle-reaches edge t on = reaches_join edge t on.0 t on.1.there on.1.back
 
 pub reaches-on_cycle : (edge : ℕ → ℕ → Bool) (t : ℕ) → Reaches edge t t → IsOnCycle edge t
 reaches-on_cycle edge t r = (t, record { there = r; back = r })
+
+-- a slot from which no step leads is on no cycle
+pub no_step-no_cycle : (edge : ℕ → ℕ → Bool) (t : ℕ) → ((u : ℕ) → edge t u ≡ false) → IsOnNoCycle edge t
+no_step-no_cycle edge t none v on = by on.there.0 on.there.1
+  where
+    by : (way : List ℕ) → IsWalk edge t way v → ⊥
+    by [] h = cc (none v)
+    by (w ∷ way) h = cc (none w, h.0)

@@ -1,6 +1,6 @@
 //! Who is deadlocked at all.
 
-ghost use Rattle.std.specs.Prelude.{◌≡◌, ℕ, ◌<◌, ◌↔◌, ◌&&◌, ◌||◌, IsTrue};
+ghost use Rattle.std.specs.Prelude.{◌≡◌, ℕ, ◌<◌, ◌↔◌, ◌&&◌, ◌||◌, IsTrue, EachIndex, slice_index};
 ghost use Rattle.gl_waits.specs.Sets.{has_slot};
 ghost use Rattle.gl_waits.specs.Boards.{board_edge, row_edge};
 ghost use Rattle.gl_waits.specs.Waits.{IsOnCycle, Reaches};
@@ -15,11 +15,18 @@ use crate::set::{has, with};
 pub fn suspects(board: &Board) -> u128
     ensures { (s : ℕ) → IsTrue (has_slot result s) ↔ IsOnCycle (board_edge board.now) s }
 {
-    if board.rows.iter().all(|row| *row == 0) {
+    if nobody_waits(&board.rows) {
         0
     } else {
         diagonal(&reaches_of_all(&board.rows))
     }
+}
+
+/// Whether all rows are empty.
+fn nobody_waits(rows: &[u128; SLOTS]) -> bool
+    ensures { IsTrue result ↔ EachIndex rows.now (λ s. slice_index rows.now s ≡ 0) }
+{
+    rows.iter().all(|row| *row == 0)
 }
 
 /// By slot, what it reaches by one or more steps.

@@ -1,0 +1,47 @@
+-- Rows of a board, and cycles found by its rows and its columns.
+use Rattle.std.proofs.Common.{◌≡◌, ℕ, ◌<◌, ◌≤◌, ◌↔◌, ◌⊎◌, ⊎_elim, Bool, true, false, ◌&&◌, List, [], length, get_or, replicate, IsTrue, refl, sym, ap, ap₂, ◌∙◌, arith}
+use Rattle.std.proofs.lemmas.List.{get_or_past, get_or-replicate, length-replicate}
+use Rattle.gl_waits.specs.Waits.{Reaches, IsOnCycleOf}
+use Rattle.gl_waits.specs.Sets.{has_slot}
+use Rattle.gl_waits.specs.Boards.{row_edge}
+use Rattle.gl_waits.proofs.SetLemmas.{has_slot-zero}
+use Rattle.gl_waits.proofs.WalkLemmas.{reaches_join, reaches_back}
+
+empty_row : (rows : List ℕ) (s u : ℕ) → get_or rows s 0 ≡ 0 → row_edge rows s u ≡ false
+empty_row rows s u e = ap (λ set. has_slot set u) e ∙ has_slot-zero u
+
+-- a slot that has a row with a slot in it is below the number of rows
+pub row_edge-inside : (rows : List ℕ) (s u : ℕ) → row_edge rows s u ≡ true → s < length rows
+row_edge-inside rows s u h = ⊎_elim (λ low. low) (λ past. cc (empty_row rows s u (get_or_past rows s 0 past))) (order s (length rows))
+  where
+    order : (a b : ℕ) → (a < b) ⊎ (b ≤ a)
+    order a b = grind arith
+
+-- empty rows have no slot
+pub empty_rows : (rows : List ℕ) → ((s : ℕ) → s < length rows → get_or rows s 0 ≡ 0) → (s u : ℕ) → row_edge rows s u ≡ false
+empty_rows rows empty s u = by (row_edge rows s u) refl
+  where
+    by : (b : Bool) → row_edge rows s u ≡ b → b ≡ false
+    by true h = cc (empty_row rows s u (empty s (row_edge-inside rows s u h)))
+    by false h = refl
+
+pub row_edge-replicate : (n s u : ℕ) → row_edge (replicate n 0) s u ≡ false
+row_edge-replicate n = empty_rows (replicate n 0) (λ s low. let e = length-replicate {A = ℕ} n 0 in let inside : s < n = omega arith in get_or-replicate n s 0 0 inside)
+
+-- where the members are what a slot reaches, the slot one of them, and `back` turns their steps round, what it reaches forwards and backwards is on a cycle with it
+module _ (edge back : ℕ → ℕ → Bool) (member : ℕ → Bool) (slot : ℕ)
+    (reached : (v : ℕ) → IsTrue (member v) ↔ Reaches edge slot v) (turned : (s u : ℕ) → back u s ≡ (member s && edge s u)) where
+  pub meets-cycle : (u : ℕ) → member u ≡ true → Reaches back slot u → IsOnCycleOf edge slot u
+  meets-cycle u h r = record {
+    there = (reached u).0 h;
+    back = reaches_back back edge (λ _. true) (λ x y m e. refl) (λ x y m e. step (member y) (edge y x) (sym (turned y x) ∙ e)) slot u refl r;
+  }
+    where
+      step : (a b : Bool) → (a && b) ≡ true → b ≡ true
+      step true b h = h
+      step false b h = cc
+
+  pub cycle-meets : (u : ℕ) → IsOnCycleOf edge slot u → (member u ≡ true) × Reaches back slot u
+  cycle-meets u on =
+      let inside = (reached u).1 on.there in
+      (inside, reaches_back edge back member (λ x y m e. (reached y).1 (reaches_join edge slot x y ((reached x).0 m) ([], e))) (λ x y m e. turned x y ∙ ap₂ (λ a b. a && b) m e) u slot inside on.back)
