@@ -1,8 +1,9 @@
 -- Sets of slots as numbers: union, intersection, one slot more or less, and the number of a test.
-use Rattle.std.proofs.Common.{◌≡◌, ◌≢◌, ℕ, zero, suc, ◌+◌, ◌-◌, ◌*◌, ◌/◌, ◌%◌, ◌^◌, ◌<◌, ◌≤◌, Bool, true, false, cond, not, min, ◌&&◌, ◌||◌, ◌==◌, bit_and, bit_or, ◌⊎◌, ⊎_elim, refl, sym, ap, ◌∙◌, pow-suc, arith}
+use Rattle.std.proofs.Common.{◌≡◌, ◌≢◌, ℕ, zero, suc, ◌+◌, ◌-◌, ◌*◌, ◌/◌, ◌%◌, ◌^◌, ◌<◌, ◌≤◌, Bool, true, false, cond, not, min, ◌&&◌, ◌||◌, ◌==◌, bit_and, bit_or, ◌⊎◌, ⊎_elim, inl, inr, refl, sym, ap, ◌∙◌, pow-suc, mod-lt, arith}
 use Rattle.std.specs.Int.{bit_at, bit_not, w128, trailing_zeros}
-use Rattle.std.proofs.lemmas.Nat.{and_le_l}
-use Rattle.std.proofs.lemmas.Nat.Bits.{bit_at-suc, bit_at_lowest, bit_at-zero, bit_at-lt, bit_at_and, bit_at_or, bit_at_above, bit_at_set_same, bit_at_set_other, bit_at_clear_same, bit_at_clear_other, bit_at_ones, same_from_bits, same_from_bits_below}
+use Rattle.std.proofs.Math.Pow.{pow-lt}
+use Rattle.std.proofs.lemmas.Nat.{and_le_l, div-add-mod', one_shl, pow_pos}
+use Rattle.std.proofs.lemmas.Nat.Bits.{bit_at-suc, bit_at_lowest, bit_at-zero, bit_at-lt, bit_at_and, bit_at_or, bit_at_above, bit_at_set_same, bit_at_set_other, bit_at_clear_same, bit_at_clear_other, bit_at_ones, bit_at_ones_above, bit_at-pow_same, bit_at-pow_other, bit_at_cat_low, bit_at_cat_high, and_pow, same_from_bits, same_from_bits_below}
 use Rattle.std.proofs.lemmas.Bool.Decides.{nat_tests}
 use Rattle.gl_waits.specs.Sets.{has_slot, bits_of}
 
@@ -122,3 +123,78 @@ clear-lt set k low has = by _ (and_le_l set _) (bit_at_clear_same w128 set k low
 -- `u128::MAX` has every slot
 pub has_slot-ones : (k u : ℕ) → u < k → has_slot (2 ^ k - 1) u ≡ true
 has_slot-ones k u low = ap (λ x. x == 1) (bit_at_ones k u low)
+
+-- what `set & (1 << k) != 0` tests
+pub has_slot-test : (set k : ℕ) → k < 128 → not (bit_and set (1 * 2 ^ k % 2 ^ 128) == 0) ≡ has_slot set k
+has_slot-test set k low = ap (λ p. not (bit_and set p == 0)) (one_shl k 128 low) ∙ ap (λ n. not (n == 0)) (and_pow set k) ∙ by (bit_at set k) (2 ^ k) (bit_at-lt set k) (pow_pos k)
+  where
+    by : (b p : ℕ) → b < 2 → 0 < p → not (b * p == 0) ≡ (b == 1)
+    by zero p small above = let e : 0 * p ≡ 0 = omega arith in ap (λ n. not (n == 0)) e
+    by (suc zero) p small above = let ne : 1 * p ≢ 0 = omega arith in grind (arith, nat_tests)
+    by (suc (suc b)) p small above = absurd (omega arith)
+
+-- `set & (set - 1)`, where k is the lowest slot of the set
+module _ (set k : ℕ) (has : has_slot set k ≡ true) (none : (u : ℕ) → u < k → has_slot set u ≡ false) where
+  high : ℕ
+  high = set / 2 ^ suc k
+
+  low : ℕ
+  low = set % 2 ^ suc k
+
+  parts : set ≡ high * 2 ^ suc k + low
+  unfolding high low
+  parts = sym (div-add-mod' set (2 ^ suc k))
+
+  low-lt : low < 2 ^ suc k
+  unfolding low
+  low-lt = mod-lt set (pow_pos (suc k))
+
+  low-pow : low ≡ 2 ^ k
+  low-pow = same_slots_below (suc k) low (2 ^ k) low-lt (pow-lt (omega arith)) each
+    where
+      at_low : (u : ℕ) → u < suc k → has_slot low u ≡ has_slot set u
+      at_low u inside = ap (λ n. n == 1) (sym (ap (λ n. bit_at n u) parts ∙ bit_at_cat_low high (suc k) low u inside))
+
+      each : (u : ℕ) → u < suc k → has_slot low u ≡ has_slot (2 ^ k) u
+      each u inside =
+          at_low u inside
+          ∙ ⊎_elim
+          (λ below. none u below ∙ sym (ap (λ n. n == 1) (bit_at-pow_other k u (omega arith))))
+          (λ is. ap (has_slot set) is ∙ has ∙ sym (ap (has_slot (2 ^ k)) is ∙ ap (λ n. n == 1) (bit_at-pow_same k)))
+          (at_end u inside)
+        where
+          at_end : (v : ℕ) → v < suc k → (v < k) ⊎ (v ≡ k)
+          at_end v inside' = grind arith
+
+  less_one : set - 1 ≡ high * 2 ^ suc k + (2 ^ k - 1)
+  less_one = let above = pow_pos k in omega (arith, parts, low-pow)
+
+  gone : has_slot (set - 1) k ≡ false
+  gone = ap (λ n. n == 1) (ap (λ n. bit_at n k) less_one ∙ bit_at_cat_low high (suc k) (2 ^ k - 1) k (omega arith) ∙ bit_at_ones_above k k (omega arith))
+
+  kept : (u : ℕ) → k < u → has_slot (set - 1) u ≡ has_slot set u
+  kept u above =
+      ap (λ n. n == 1)
+      (ap (λ n. bit_at n u) less_one
+      ∙ bit_at_cat_high high (suc k) (2 ^ k - 1) u (let larger : 2 ^ k < 2 ^ suc k = pow-lt (omega arith) in omega arith) above
+      ∙ sym (ap (λ n. bit_at n u) parts ∙ bit_at_cat_high high (suc k) low u low-lt above))
+
+  pub has_slot-rest : (u : ℕ) → has_slot (bit_and set (set - 1)) u ≡ (has_slot set u && not (u == k))
+  has_slot-rest u = has_slot-and set (set - 1) u ∙ by (order u k)
+    where
+      order : (a b : ℕ) → (a < b) ⊎ ((a ≡ b) ⊎ (b < a))
+      order a b = grind arith
+
+      absent : (a b c : Bool) → a ≡ false → (a && b) ≡ (a && c)
+      absent a b c e = grind (arith, nat_tests)
+
+      at : (a b : Bool) → b ≡ false → u ≡ k → (a && b) ≡ (a && not (u == k))
+      at a b e is = grind (arith, nat_tests)
+
+      beyond : (a b : Bool) → b ≡ a → k < u → (a && b) ≡ (a && not (u == k))
+      beyond a b e above = grind (arith, nat_tests)
+
+      by : (u < k) ⊎ ((u ≡ k) ⊎ (k < u)) → (has_slot set u && has_slot (set - 1) u) ≡ (has_slot set u && not (u == k))
+      by (inl below) = absent _ _ _ (none u below)
+      by (inr (inl is)) = at _ _ (ap (has_slot (set - 1)) is ∙ gone) is
+      by (inr (inr above)) = beyond _ _ (kept u above) above
