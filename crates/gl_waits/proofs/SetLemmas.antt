@@ -1,6 +1,6 @@
 -- Sets of slots as numbers: union, intersection, one slot more or less, and the number of a test.
-use Rattle.std.proofs.Common.{◌≡◌, ◌≢◌, ℕ, zero, suc, ◌+◌, ◌-◌, ◌*◌, ◌/◌, ◌%◌, ◌^◌, ◌<◌, ◌≤◌, Bool, true, false, cond, not, min, ◌&&◌, ◌||◌, ◌==◌, bit_and, bit_or, ◌⊎◌, ⊎_elim, inl, inr, refl, sym, ap, ◌∙◌, pow-suc, mod-lt, arith}
-use Rattle.std.specs.Int.{bit_at, bit_not, w128, trailing_zeros}
+use Rattle.std.proofs.Common.{◌≡◌, ◌≢◌, ℕ, zero, suc, ◌+◌, ◌-◌, ◌*◌, ◌/◌, ◌%◌, ◌^◌, ◌<◌, ◌≤◌, Bool, true, false, cond, not, min, ◌&&◌, ◌||◌, ◌==◌, bit_and, bit_or, ◌⊎◌, ⊎_elim, inl, inr, sym, ap, ◌∙◌, pow-suc, mod-lt, arith}
+use Rattle.std.specs.Int.{bit_at, bit_not, w128}
 use Rattle.std.proofs.Math.Pow.{pow-lt}
 use Rattle.std.proofs.lemmas.Nat.{and_le_l, div-add-mod', one_shl, pow_pos}
 use Rattle.std.proofs.lemmas.Nat.Bits.{bit_at-suc, bit_at_lowest, bit_at-zero, bit_at-lt, bit_at_and, bit_at_or, bit_at_above, bit_at_set_same, bit_at_set_other, bit_at_clear_same, bit_at_clear_other, bit_at_ones, bit_at_ones_above, bit_at-pow_same, bit_at-pow_other, bit_at_cat_low, bit_at_cat_high, and_pow, same_from_bits, same_from_bits_below}

@@ -1,6 +1,6 @@
 -- Walks: joined, read backwards, and in a relation with more steps.
-use Rattle.std.proofs.Common.{◌≡◌, ℕ, Bool, true, false, List, [], ◌∷◌, ◌++◌, refl, sym, ◌∙◌}
-use Rattle.gl_waits.specs.Waits.{IsWalk, Reaches, IsOnCycleOf, IsOnCycle, IsOnNoCycle}
+use Rattle.std.proofs.Common.{◌≡◌, ℕ, Bool, true, false, List, [], ◌∷◌, ◌++◌}
+use Rattle.gl_waits.specs.Waits.{IsWalk, Reaches, IsOnCycle, IsOnNoCycle}
 
 walk_join : (edge : ℕ → ℕ → Bool) (a b c : ℕ) (way more : List ℕ) → IsWalk edge a way b → IsWalk edge b more c → IsWalk edge a (way ++ b ∷ more) c
 walk_join edge a b c [] more h k = (h, k)

@@ -10,13 +10,15 @@ use Rattle.gl_waits.proofs.cycle.on_cycle.Goals as goal
 pub returns-then-has : goal.returns-then-has
 returns-then-has c = λ u. (
   (λ h.
-  let both = and_both _ _ (sym (has_slot-and c.reached_from-reached.result c.reached_from.result u) ∙ h) in
-  meets-cycle (board_edge c.args.board.now) (row_edge c.columns.result) (has_slot c.reached_from-reached.result) c.args.slot c.reached_from-reached.ensures c.columns.ensures u both.0 ((c.reached_from.ensures u).0 both.1)),
+      let both = and_both _ _ (sym (has_slot-and c.reached_from-reached.result c.reached_from.result u) ∙ h) in
+      meets-cycle (board_edge c.args.board.now) (row_edge c.columns.result) (has_slot c.reached_from-reached.result) c.args.slot c.reached_from-reached.ensures c.columns.ensures u both.0 ((c.reached_from.ensures u).0 both.1)),
   (λ on.
-  let both = cycle-meets (board_edge c.args.board.now) (row_edge c.columns.result) (has_slot c.reached_from-reached.result) c.args.slot c.reached_from-reached.ensures c.columns.ensures u on in
-  has_slot-and c.reached_from-reached.result c.reached_from.result u ∙ ap₂ (λ a b. a && b) both.0 ((c.reached_from.ensures u).1 both.1)))
+      let both = cycle-meets (board_edge c.args.board.now) (row_edge c.columns.result) (has_slot c.reached_from-reached.result) c.args.slot c.reached_from-reached.ensures c.columns.ensures u on in
+      has_slot-and c.reached_from-reached.result c.reached_from.result u ∙ ap₂ (λ a b. a && b) both.0 ((c.reached_from.ensures u).1 both.1)),
+)
 
 pub returns-else-has : goal.returns-else-has
 returns-else-has c = λ u. (
   (λ h. cc (has_slot-zero u)),
-  (λ on. let round = (c.reached_from-reached.ensures c.args.slot).1 (reaches_join (board_edge c.args.board.now) c.args.slot u c.args.slot on.there on.back) in cc))
+  (λ on. let round = (c.reached_from-reached.ensures c.args.slot).1 (reaches_join (board_edge c.args.board.now) c.args.slot u c.args.slot on.there on.back) in cc),
+)

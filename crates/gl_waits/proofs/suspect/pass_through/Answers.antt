@@ -1,4 +1,4 @@
-use Rattle.std.proofs.Common.{◌≡◌, ◌≢◌, ℕ, ◌+◌, ◌<◌, ◌⊎◌, ⊎_elim, Bool, true, false, ◌&&◌, ◌||◌, nat_lt, List, length, get_or, set, bit_or, refl, sym, ap, ◌∙◌, subst, arith}
+use Rattle.std.proofs.Common.{◌≡◌, ◌≢◌, ℕ, ◌+◌, ⊎_elim, Bool, true, false, ◌&&◌, ◌||◌, nat_lt, List, get_or, set, bit_or, sym, ap, ◌∙◌, subst, arith}
 use Rattle.std.proofs.lemmas.Bool.{cases_eq}
 use Rattle.std.proofs.lemmas.Bool.Decides.{nat_tests}
 use Rattle.std.proofs.lemmas.List.{get_or-set_same, get_or-set_other, set-get_or}
@@ -23,7 +23,7 @@ untouched : (a now : Bool) (b : Bool) (i : ℕ) → now ≡ (a || (nat_lt i i &&
 untouched a now b i h = grind (arith, nat_tests)
 
 passed_row : (before now after : List ℕ) (middle beyond i : ℕ) → IsPassed before now middle beyond i → ((s u : ℕ) → s ≢ i → row_edge after s u ≡ row_edge now s u)
-  → ((u : ℕ) → row_edge after i u ≡ (row_edge now i u || (row_edge now i middle && has_slot beyond u))) → IsPassed before after middle beyond (i + 1)
+    → ((u : ℕ) → row_edge after i u ≡ (row_edge now i u || (row_edge now i middle && has_slot beyond u))) → IsPassed before after middle beyond (i + 1)
 passed_row before now after middle beyond i passed others this s u =
     ⊎_elim
     (λ is. subst (λ x. row_edge after x u ≡ (row_edge before x u || (nat_lt x (i + 1) && (row_edge before x middle && has_slot beyond u)))) (sym is)
@@ -58,6 +58,6 @@ passed_skip before now after middle beyond i passed has is =
 pub loop-row-preserved : goal.loop-row-preserved
 loop-row-preserved c =
     elim c.if-has.branch [
-      then-has w ↦ passed_write c.args.reaches.now c.loop-row.reaches c.if-has.reaches c.args.middle _ c.loop-row.row-index c.loop-row.invariant (sym c.has.ensures ∙ w.if-has.true) w.reaches-is
-    | else-has w ↦ passed_skip c.args.reaches.now c.loop-row.reaches c.if-has.reaches c.args.middle _ c.loop-row.row-index c.loop-row.invariant (sym c.has.ensures ∙ w.if-has.false) (w.reaches-is ∙ set-get_or c.loop-row.reaches c.loop-row.row-index 0)
+      | then-has w ↦ passed_write c.args.reaches.now c.loop-row.reaches c.if-has.reaches c.args.middle _ c.loop-row.row-index c.loop-row.invariant (sym c.has.ensures ∙ w.if-has.true) w.reaches-is
+      | else-has w ↦ passed_skip c.args.reaches.now c.loop-row.reaches c.if-has.reaches c.args.middle _ c.loop-row.row-index c.loop-row.invariant (sym c.has.ensures ∙ w.if-has.false) (w.reaches-is ∙ set-get_or c.loop-row.reaches c.loop-row.row-index 0)
     ]
