@@ -1,6 +1,6 @@
 -- Cycles: what a set of slots that was read from a board says of them, and cycles of a relation that changed.
-use Rattle.std.proofs.Common.{◌≡◌, ◌≢◌, ◌⊎◌, ℕ, ◌↔◌, Bool, true, false, List, [], ◌∷◌, IsTrue, refl, ap, subst, ⊎_elim, inl, inr}
-use Rattle.std.proofs.lemmas.Bool.{cases_eq}
+use Rattle.std.proofs.Common.{◌≡◌, ◌≢◌, ◌⊎◌, ℕ, ◌↔◌, Bool, true, List, [], ◌∷◌, IsTrue, ap, subst, ⊎_elim, inl, inr}
+use Rattle.std.proofs.lemmas.Bool.{cases_eq, false_from_ne_true}
 use Rattle.gl_waits.specs.Waits.{IsWalk, Reaches, IsOnCycleOf, IsOnCycle, IsOnNoCycle, IsYoungest, IsLowestYoungest}
 use Rattle.gl_waits.specs.Sets.{has_slot}
 use Rattle.gl_waits.proofs.SetLemmas.{has_slot-zero, no_slot-zero}
@@ -12,11 +12,7 @@ module _ (edge : ℕ → ℕ → Bool) (t set : ℕ) (exact : (u : ℕ) → IsTr
   empty-no_cycle e v on = cc ((exact v).1 on, ap (λ n. has_slot n v) e, has_slot-zero v)
 
   pub no_cycle-empty : IsOnNoCycle edge t → set ≡ 0
-  no_cycle-empty none = no_slot-zero set (λ u. by u (has_slot set u) refl)
-    where
-      by : (u : ℕ) (b : Bool) → has_slot set u ≡ b → b ≡ false
-      by u true h = absurd (none u ((exact u).0 h))
-      by u false h = refl
+  no_cycle-empty none = no_slot-zero set (λ u. false_from_ne_true (has_slot set u) (λ h. none u ((exact u).0 h)))
 
   -- the one that `youngest` answers for it is the youngest on the cycle
   pub youngest-on_cycle : (age : ℕ → ℕ) (v : ℕ) → IsLowestYoungest (λ u. IsTrue (has_slot set u)) age v → IsYoungest (IsOnCycleOf edge t) age v
@@ -31,11 +27,7 @@ module _ (edge : ℕ → ℕ → Bool) (set : ℕ) (exact : (s : ℕ) → IsTrue
   no_suspect-no_cycle e t v on = cc ((exact t).1 (v, on), ap (λ n. has_slot n t) e, has_slot-zero t)
 
   pub no_cycle-no_suspect : ((t : ℕ) → IsOnNoCycle edge t) → set ≡ 0
-  no_cycle-no_suspect none = no_slot-zero set (λ s. by s (has_slot set s) refl)
-    where
-      by : (s : ℕ) (b : Bool) → has_slot set s ≡ b → b ≡ false
-      by s true h = let on = (exact s).0 h in absurd (none s on.0 on.1)
-      by s false h = refl
+  no_cycle-no_suspect none = no_slot-zero set (λ s. false_from_ne_true (has_slot set s) (λ h. let on = (exact s).0 h in none s on.0 on.1))
 
 -- with more steps a cycle stays, so with fewer none appears
 pub cycle-more : (edge more : ℕ → ℕ → Bool) → ((x y : ℕ) → edge x y ≡ true → more x y ≡ true) → (t v : ℕ) → IsOnCycleOf edge t v → IsOnCycleOf more t v
