@@ -14,6 +14,6 @@
 #   that the board has some 8,000 waits.
 # - suspects of a chain, a ring, a queue and a closed queue: boards on which 127 or 128 slots wait.
 #
-# On one core of an Intel Xeon at 2.5 GHz, in the order of the lines: 43 ns, 0.7, 2.2, 18.4, 31.4,
-# 33.1, 33.2 and 34.8 microseconds.
+# On one core of an Intel Xeon at 2.5 GHz, in the order of the lines: 57 ns, then 0.7, 2.2, 18, 23,
+# 21, 17 and 17 microseconds.
 cd "$(dirname "$0")/../crates/bench_waits" && rt run -- "${1:-100000}" 2>&1 | grep ' ns ('
