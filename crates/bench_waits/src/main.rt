@@ -1,0 +1,117 @@
+//! How long it takes to read a board. Run with a number of turns, it prints on standard error what
+//! one turn of each reading takes; run without, it prints nothing.
+#![tactic(auto)]
+
+mod boards;
+
+use boards::{Shape, board_of};
+use gl_waits::{Board, on_cycle, suspects};
+use std::time::Instant;
+use std::{env, io};
+
+/// Whom a turn asks for.
+#[derive(Clone, Copy)]
+enum Reading {
+    Suspects,
+    CycleOfFirst,
+}
+
+fn read(board: &Board, reading: Reading) -> u128 {
+    match reading {
+        Reading::Suspects => suspects(board),
+        Reading::CycleOfFirst => on_cycle(board, 0),
+    }
+}
+
+/// Prints what one turn takes, and what the turns read, so that none can be left out.
+fn time(
+    rt: &HostRuntime,
+    name: &str,
+    turns: u64,
+    shape: Shape,
+    reading: Reading,
+) -> io::Result<()> {
+    let boards = [board_of(shape, 0), board_of(shape, 1)];
+    let mut seen = 0;
+    let start = Instant::now(rt)?;
+    for turn in 0..turns {
+        seen ^= read(&boards[(turn % 2) as usize], reading) ^ u128::from(turn);
+    }
+    let elapsed = start.elapsed(rt)?.as_nanos();
+    if turns > 0 {
+        let each = elapsed / u128::from(turns);
+        eprintln!(rt; "{name}: {each} ns ({seen:x})")?;
+    }
+    Ok(())
+}
+
+/// The first word after the program's name, as a number; 0 where it is none.
+fn turns_asked(rt: &HostRuntime) -> io::Result<u64> {
+    let mut turns = 0;
+    for (place, word) in env::args(rt)?.enumerate() {
+        if place == 1 {
+            turns = word.as_str().parse().unwrap_or(0);
+        }
+    }
+    Ok(turns)
+}
+
+fn main(rt: HostRuntime) -> io::Result<()> {
+    let turns = turns_asked(&rt)?;
+    time(
+        &rt,
+        "suspects, nobody waits",
+        turns,
+        Shape::Idle,
+        Reading::Suspects,
+    )?;
+    time(
+        &rt,
+        "on_cycle, a chain of 128",
+        turns,
+        Shape::Chain,
+        Reading::CycleOfFirst,
+    )?;
+    time(
+        &rt,
+        "on_cycle, a ring of 128",
+        turns,
+        Shape::Ring,
+        Reading::CycleOfFirst,
+    )?;
+    time(
+        &rt,
+        "on_cycle, a closed queue of 128",
+        turns,
+        Shape::ClosedQueue,
+        Reading::CycleOfFirst,
+    )?;
+    time(
+        &rt,
+        "suspects, a chain of 128",
+        turns,
+        Shape::Chain,
+        Reading::Suspects,
+    )?;
+    time(
+        &rt,
+        "suspects, a ring of 128",
+        turns,
+        Shape::Ring,
+        Reading::Suspects,
+    )?;
+    time(
+        &rt,
+        "suspects, a queue of 128",
+        turns,
+        Shape::Queue,
+        Reading::Suspects,
+    )?;
+    time(
+        &rt,
+        "suspects, a closed queue of 128",
+        turns,
+        Shape::ClosedQueue,
+        Reading::Suspects,
+    )
+}

@@ -1,0 +1,50 @@
+-- Walks: joined, read backwards, and in a relation with more steps.
+use Rattle.std.proofs.Common.{◌≡◌, ℕ, Bool, true, false, List, [], ◌∷◌, ◌++◌}
+use Rattle.gl_waits.specs.Waits.{IsWalk, Reaches, IsOnCycle, IsOnNoCycle}
+
+walk_join : (edge : ℕ → ℕ → Bool) (a b c : ℕ) (way more : List ℕ) → IsWalk edge a way b → IsWalk edge b more c → IsWalk edge a (way ++ b ∷ more) c
+walk_join edge a b c [] more h k = (h, k)
+walk_join edge a b c (v ∷ way) more h k = (h.0, walk_join edge v b c way more h.1 k)
+
+-- what reaches a slot that reaches a third reaches the third
+pub reaches_join : (edge : ℕ → ℕ → Bool) (a b c : ℕ) → Reaches edge a b → Reaches edge b c → Reaches edge a c
+reaches_join edge a b c h k = (h.0 ++ b ∷ k.0, walk_join edge a b c h.0 k.0 h.1 k.1)
+
+-- a set that has what one step from a reaches, and what one step from a member reaches, has all that a reaches
+walk_inside : (edge : ℕ → ℕ → Bool) (member : ℕ → Bool) → ((x y : ℕ) → member x ≡ true → edge x y ≡ true → member y ≡ true) → (a u : ℕ) (way : List ℕ) → ((y : ℕ) → edge a y ≡ true → member y ≡ true) → IsWalk edge a way u → member u ≡ true
+walk_inside edge member closed a u [] first h = first u h
+walk_inside edge member closed a u (v ∷ way) first h = walk_inside edge member closed v u way (λ y. closed v y (first v h.0)) h.1
+
+pub reaches_inside : (edge : ℕ → ℕ → Bool) (member : ℕ → Bool) → ((x y : ℕ) → member x ≡ true → edge x y ≡ true → member y ≡ true) → (a u : ℕ) → ((y : ℕ) → edge a y ≡ true → member y ≡ true) → Reaches edge a u → member u ≡ true
+reaches_inside edge member closed a u first r = walk_inside edge member closed a u r.0 first r.1
+
+-- where each step is one of another relation, read forwards, so is each walk
+less_walk : (edge more : ℕ → ℕ → Bool) → ((x y : ℕ) → edge x y ≡ true → more x y ≡ true) → (a u : ℕ) (way : List ℕ) → IsWalk edge a way u → IsWalk more a way u
+less_walk edge more sub a u [] h = sub a u h
+less_walk edge more sub a u (v ∷ way) h = (sub a v h.0, less_walk edge more sub v u way h.1)
+
+pub reaches_more : (edge more : ℕ → ℕ → Bool) → ((x y : ℕ) → edge x y ≡ true → more x y ≡ true) → (a u : ℕ) → Reaches edge a u → Reaches more a u
+reaches_more edge more sub a u r = (r.0, less_walk edge more sub a u r.0 r.1)
+
+-- where each step from a member is one of another relation, read backwards, and no step leaves the members, a walk is one backwards
+pub reaches_back : (edge back : ℕ → ℕ → Bool) (member : ℕ → Bool) → ((x y : ℕ) → member x ≡ true → edge x y ≡ true → member y ≡ true) → ((x y : ℕ) → member x ≡ true → edge x y ≡ true → back y x ≡ true) → (a u : ℕ) → member a ≡ true → Reaches edge a u → Reaches back u a
+reaches_back edge back member closed turned a u inside r = by a r.0 inside r.1
+  where
+    by : (x : ℕ) (way : List ℕ) → member x ≡ true → IsWalk edge x way u → Reaches back u x
+    by x [] m h = ([], turned x u m h)
+    by x (v ∷ way) m h = reaches_join back u v x (by v way (closed x v m h.0) h.1) ([], turned x v m h.0)
+
+-- t is on a cycle exactly where it reaches itself
+pub on_cycle-reaches : (edge : ℕ → ℕ → Bool) (t : ℕ) → IsOnCycle edge t → Reaches edge t t
+on_cycle-reaches edge t on = reaches_join edge t on.0 t on.1.there on.1.back
+
+pub reaches-on_cycle : (edge : ℕ → ℕ → Bool) (t : ℕ) → Reaches edge t t → IsOnCycle edge t
+reaches-on_cycle edge t r = (t, record { there = r; back = r })
+
+-- a slot from which no step leads is on no cycle
+pub no_step-no_cycle : (edge : ℕ → ℕ → Bool) (t : ℕ) → ((u : ℕ) → edge t u ≡ false) → IsOnNoCycle edge t
+no_step-no_cycle edge t none v on = by on.there.0 on.there.1
+  where
+    by : (way : List ℕ) → IsWalk edge t way v → ⊥
+    by [] h = cc (none v)
+    by (w ∷ way) h = cc (none w, h.0)

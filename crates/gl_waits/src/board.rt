@@ -1,0 +1,16 @@
+//! The board.
+
+/// How many slots a board has, so how many transactions live at once.
+pub const SLOTS: usize = 128;
+
+/// Who waits for whom at one moment.
+#[derive(Clone, Copy, PartialEq, Eq, Debug)]
+pub struct Board {
+    /// How many commands had been accepted by then.
+    pub epoch: u64,
+    /// By slot, the age of its transaction: its number in the order of begins, so that the
+    /// greatest is the youngest. A free slot has age 0.
+    pub ages: [u64; SLOTS],
+    /// Bit `u` of `rows[s]` says that slot `s` waits for slot `u`. A free slot has row 0.
+    pub rows: [u128; SLOTS],
+}

@@ -1,0 +1,38 @@
+//! Whose wait is given up.
+
+ghost use Rattle.std.specs.Prelude.{◌≡◌, ℕ, ◌<◌, ◌↔◌, IsNone, IfSome, IsTrue, nat_lt, true};
+ghost use Rattle.std.specs.Option.{ForSome, option_map_or};
+ghost use Rattle.gl_waits.specs.Sets.{has_slot};
+ghost use Rattle.gl_waits.specs.Boards.{age_in};
+ghost use Rattle.gl_waits.specs.Waits.{IsLowestYoungest};
+
+use crate::board::{Board, SLOTS};
+use crate::set::has;
+
+/// The youngest of a set of slots: the one with the greatest age, of equal ages the lowest. `None`
+/// for the empty set.
+pub fn youngest(board: &Board, set: u128) -> Option<usize>
+    ensures none { IsNone result ↔ (set ≡ 0) }
+    ensures some { IfSome result (IsLowestYoungest (λ u. IsTrue (has_slot set u)) (age_in board.now)) }
+{
+    let mut chosen: Option<usize> = None;
+    for slot in 0..SLOTS {
+        if has(set, slot) && is_younger(board, slot, chosen) {
+            chosen = Some(slot);
+        }
+    }
+    chosen
+}
+
+/// Whether `slot` is younger than the one chosen so far, if there is one.
+fn is_younger(board: &Board, slot: usize, chosen: Option<usize>) -> bool
+    requires low { slot < SLOTS }
+    requires chosen_low { ForSome chosen (λ other. other < SLOTS) }
+    ensures { result ≡
+        option_map_or (λ other. nat_lt (age_in board.now other) (age_in board.now slot)) chosen true }
+{
+    match chosen {
+        Some(other) => board.ages[other] < board.ages[slot],
+        None => true,
+    }
+}
