@@ -1,8 +1,8 @@
 -- A line falls into fields in one way.
-use Rattle.std.proofs.Common.{◌≡◌, ◌≢◌, ℕ, ◌==◌, Bool, true, false, Decides, List, [], ◌∷◌, ◌++◌, All, refl, sym, ap, ◌∙◌, append_assoc, true≢false}
+use Rattle.std.proofs.Common.{◌≡◌, ◌≢◌, ℕ, ◌==◌, Bool, true, false, Decides, List, [], ◌∷◌, ◌++◌, All, refl, sym, ap, ◌∙◌, append_assoc, true≢false, length, length-append, arith, ◌<◌, ◌≤◌}
 use Rattle.std.specs.List.{slice_split}
 use Rattle.std.proofs.lemmas.List.Elements.{All-head, All-tail, All-weaker}
-use Rattle.std.proofs.lemmas.List.Splits.{slice_split_at, slice_split_none}
+use Rattle.std.proofs.lemmas.List.Splits.{slice_split_at, slice_split_none, length-slice_split}
 use Rattle.std.proofs.lemmas.Bool.Decides.{Decides-eqb}
 
 pub refuted : {P : Type 0} (r : Bool) → Decides r P → ¬ P → r ≡ false
@@ -18,6 +18,18 @@ split_more line rest field more done before cut here =
     before ∙ ap (λ s. done ++ slice_split (λ b. b == 32) s) cut
     ∙ ap (λ s. done ++ s) (slice_split_at (λ b. b == 32) field 32 more (passes_not 32 field here) refl)
     ∙ sym (append_assoc done (field ∷ []) (slice_split (λ b. b == 32) more))
+
+-- three fields, one more and the rest are five at least
+pub split_long : (line rest field more : List ℕ) (done : List (List ℕ)) → slice_split (λ b. b == 32) line ≡ done ++ slice_split (λ b. b == 32) rest
+    → rest ≡ field ++ 32 ∷ more → All (λ b. b ≢ 32) field → 3 ≤ length done → 4 < length (slice_split (λ b. b == 32) line)
+split_long line rest field more done before cut here many =
+    omega (
+      arith,
+      ap length (split_more line rest field more done before cut here),
+      length-append (done ++ field ∷ []) (slice_split (λ b. b == 32) more),
+      length-append done (field ∷ []),
+      length-slice_split (λ b. b == 32) more,
+    )
 
 pub split_last : (line rest : List ℕ) (done : List (List ℕ)) → slice_split (λ b. b == 32) line ≡ done ++ slice_split (λ b. b == 32) rest
     → All (λ b. b ≢ 32) rest → done ++ rest ∷ [] ≡ slice_split (λ b. b == 32) line

@@ -5,7 +5,7 @@ pub mod Report
 pub mod Held
 pub mod Views
 pub mod SoFar
-pub mod Done
+pub mod Outcome
 pub mod Declaring
 pub use Rattle.gl_modes.specs.Modes
 pub use Rattle.gl_modes.specs.Refusals

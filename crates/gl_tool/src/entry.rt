@@ -1,7 +1,8 @@
 //! The whole program, over given words and streams.
 
-ghost use Rattle.std.specs.Prelude.{◌≡◌, ◌<◌, ◌≤◌, OnOk};
-ghost use Rattle.gl_tool.specs.Done.{HasRun};
+ghost use Rattle.std.specs.Prelude.{◌≡◌, ◌≢◌, ◌≤◌, ◌↔◌, []};
+ghost use Rattle.gl_tool.specs.declared.script.RunFault.{RunFault as TheRunFault};
+ghost use Rattle.gl_tool.specs.Outcome.{HasFaulted, HasRun, Works, status_of};
 
 use crate::script::{RunFault, run};
 use crate::sink::send;
@@ -34,6 +35,8 @@ pub fn program<S: AsStr, R: Read, W: Write, E: Write>(
     faults: &mut E,
 ) -> u8
     ensures done { result ≡ 0 → HasRun (R.remaining reader.old) (R.remaining reader.new) (W.contents writer.old) (W.contents writer.new) }
+    ensures fault { result ≡ 1 → (fault : TheRunFault) × HasFaulted fault (R.remaining reader.old) (R.remaining reader.new) (W.contents writer.old) (W.contents writer.new) }
+    ensures bad_words { (result ≡ 2) ↔ (words.now ≢ []) }
     ensures bound { result ≤ 2 }
 {
     match work(alloc, words, reader, writer) {
@@ -45,8 +48,7 @@ pub fn program<S: AsStr, R: Read, W: Write, E: Write>(
 /// Says on the given stream what ended the program, and answers the status. A fault in saying it
 /// changes nothing.
 pub fn complain<E: Write>(fault: ToolFault, faults: &mut E) -> u8
-    ensures some { 0 < result }
-    ensures bound { result ≤ 2 }
+    ensures { result ≡ status_of fault }
 {
     let mut line = ArrayString::<64>::new();
     let _ = writeln!(line, "gltool: {fault}");
@@ -64,7 +66,7 @@ fn work<S: AsStr, R: Read, W: Write>(
     reader: &mut R,
     writer: &mut W,
 ) -> Result<(), ToolFault>
-    ensures { OnOk result (HasRun (R.remaining reader.old) (R.remaining reader.new) (W.contents writer.old) (W.contents writer.new)) }
+    ensures { Works words.now (R.remaining reader.old) (R.remaining reader.new) (W.contents writer.old) (W.contents writer.new) result }
 {
     if !words.is_empty() {
         return Err(ToolFault::Words);

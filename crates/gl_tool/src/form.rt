@@ -33,11 +33,11 @@ pub(crate) enum Verb {
 
 /// The command that the line says, if it says one.
 pub(crate) fn parse(line: &[u8]) -> Option<Form>
-    requires { length line.now ≤ 256 }
     ensures says { IfSome result (λ form. Says line.now (command_of form)) }
     ensures none { IfNone result ((c : Command) → Says line.now c → ⊥) }
 {
-    read_fields(split(line).as_slice())
+    let fields = split(line)?;
+    read_fields(fields.as_slice())
 }
 
 /// The command that the fields say, if they say one.

@@ -1,10 +1,10 @@
-use Rattle.std.proofs.Common.{◌≡◌, ◌==◌, ◌≤◌, ◌+◌, ◌++◌, length, map}
+use Rattle.std.proofs.Common.{◌≡◌, ◌==◌, ◌≤◌, ◌++◌, length, map}
 use Rattle.std.specs.List.{slice_split}
 use Rattle.gl_tool.proofs.fields.split.Given as goal
 
 abbrev pub invariant-loop-field : goal.invariant-loop-field
 invariant-loop-field l = record {
-  room : length l.fields.items + length l.rest ≤ 256;
+  room : length l.fields.items ≤ 3;
   split : slice_split (λ b. b == 32) l.line ≡ map (λ f. f.now) l.fields.items ++ slice_split (λ b. b == 32) l.rest;
 }
 
