@@ -1,3 +1,10 @@
+pub mod Tests
+pub mod Fits
+pub mod GroupOf
+pub mod Fronts
 mod Lists
 mod Places
+mod Orderly
+mod Groups
+mod Pumped
 mod Steps

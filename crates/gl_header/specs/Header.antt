@@ -2,6 +2,8 @@
 use Rattle.std.specs.Prelude.{
   ◌≡◌,
   ◌≢◌,
+  ◌<◌,
+  ◌≤◌,
   ℕ,
   Bool,
   true,
@@ -42,6 +44,14 @@ holds g t = not (same_mode (g t) NL)
 abbrev pub with_mode : Members → ℕ → Mode → Members
 with_mode g t m = λ u. if u == t then m else g u
 
+-- what different slots hold is compatible
+abbrev pub IsCompatible : Members → Type 0
+IsCompatible g = (t u : ℕ) → t ≢ u → are_compatible (g t) (g u) ≡ true
+
+-- every member's slot is below the limit
+abbrev pub IsWithin : ℕ → Members → Type 0
+IsWithin most g = (u : ℕ) → most ≤ u → g u ≡ NL
+
 -- the mode is compatible with the grant of every other slot below the limit
 abbrev pub fits : ℕ → Members → ℕ → Mode → Bool
 fits most g t m = list_all (λ u. (u == t) || are_compatible m (g u)) (range_with_len 0 most)
@@ -61,6 +71,10 @@ is_waiter t w = w.0 == t
 -- t waits
 abbrev pub is_among_waiters : ℕ → List Waiter → Bool
 is_among_waiters t q = list_any (is_waiter t) q
+
+-- every waiter's slot is below the limit
+abbrev pub AreBelow : ℕ → List Waiter → Type 0
+AreBelow most q = (t : ℕ) → is_among_waiters t q ≡ true → t < most
 
 -- the mode of a wait
 abbrev pub mode_in : Option Waiter → Option Mode

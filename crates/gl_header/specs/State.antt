@@ -1,12 +1,15 @@
 -- What a contract sees of a header, and the law of every header.
-use Rattle.std.specs.Prelude.{◌≡◌, ◌≢◌, ◌<◌, ◌≤◌, ℕ, Bool, true, not, ◌&&◌, List, [], ◌∷◌, Some}
+use Rattle.std.specs.Prelude.{◌≡◌, ◌≢◌, ℕ, Bool, true, not, ◌&&◌, List, [], ◌∷◌, Some}
 use Rattle.std.specs.List.{filter, list_all, range_with_len}
 use Rattle.gl_modes.specs.declared.mode.Mode.{Mode}
 use Rattle.gl_modes.specs.declared.mode.Mode.TheVariants.{NL}
-use Rattle.gl_modes.specs.Modes.{are_compatible, supremum, is_at_least}
+use Rattle.gl_modes.specs.Modes.{supremum, is_at_least}
 use Rattle.gl_header.specs.Header.{
   Members,
   Waiter,
+  IsCompatible,
+  IsWithin,
+  AreBelow,
   holds,
   group_of,
   is_waiter,
@@ -52,12 +55,12 @@ is_unused h = nobody_holds slot_limit (members_of h) && is_empty h.queue
 -- the law of every header
 pub record IsLawfulHeader (h : HeaderState) : Type 0 where
   -- what different slots hold is compatible
-  pub compatible : (t u : ℕ) → t ≢ u → are_compatible (members_of h t) (members_of h u) ≡ true
+  pub compatible : IsCompatible (members_of h)
   -- the list of members has each member and nobody else
   pub listed : (t : ℕ) → is_among_waiters t h.members ≡ holds (members_of h) t
   -- slots are below 128
-  pub members_below : (t : ℕ) → 128 ≤ t → members_of h t ≡ NL
-  pub waiters_below : (t : ℕ) → is_among_waiters t h.queue ≡ true → t < 128
+  pub members_below : IsWithin 128 (members_of h)
+  pub waiters_below : AreBelow 128 h.queue
   -- nobody waits twice
   pub one_wait : (t : ℕ) (m : Mode) → wanted_by h.queue t ≡ Some m → filter (is_waiter t) h.queue ≡ (t, m) ∷ []
   -- a wanted mode is a lock, and the held mode or greater
