@@ -7,4 +7,5 @@ mod Places
 mod Orderly
 mod Groups
 mod Pumped
+pub mod Bridge
 mod Steps

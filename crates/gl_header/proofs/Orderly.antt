@@ -19,6 +19,7 @@ use Rattle.std.proofs.Common.{
   refl,
   sym,
   ap,
+  ap₂,
   ◌∙◌,
   arith,
   map,
@@ -53,6 +54,7 @@ use Rattle.gl_header.specs.Sound.{
   IsOrderly,
   placed_in,
 }
+use Rattle.gl_header.proofs.Tests.{both_true}
 use Rattle.gl_header.proofs.Lists.{
   among-with_grant,
   mode_at-with_grant,
@@ -135,10 +137,26 @@ orderly-front ms w ws o f =
 lesser-fits : (x m a : Mode) → is_at_least m a ≡ true → are_compatible x m ≡ true → are_compatible x a ≡ true
 lesser-fits x m a h f = compatible-symmetric x a ∙ lesser-compatible m a x h (compatible-symmetric m x ∙ f)
 
+beside-other : (s t : ℕ) (b : Bool) → (t == s) ≡ false → ((s == t) || b) ≡ true → b ≡ true
+beside-other s t b ne h = grind (arith, nat_tests)
+
+or_and_true : (a : Bool) → ((a || true) && true) ≡ true
+or_and_true true = refl
+or_and_true false = refl
+
 fits_beside-weaker : (es : List Waiter) (s : ℕ) (m : Mode) (t : ℕ) (x : Mode) → is_at_least m (mode_at es s) ≡ true → (t == s) ≡ false → fits_beside (with_grant es s m) t x ≡ true → fits_beside es t x ≡ true
 fits_beside-weaker [] s m t x h ne f = refl
 fits_beside-weaker (e ∷ es) s m t x h ne f =
-    grind (arith, nat_tests, fits_beside-weaker es s m t x, lesser-fits x m e.1)
+    elim (e.0 == s) as (λ b. is_at_least m (cond b e.1 (mode_at es s)) ≡ true → fits_beside (cond b ((s, m) ∷ es) (e ∷ with_grant es s m)) t x ≡ true → (((e.0 == t) || are_compatible x e.1) && fits_beside es t x) ≡ true) [
+      | true ↦ λ k g.
+        let p = both_true _ _ g in
+        let c : are_compatible x m ≡ true = beside-other s t _ ne p.0 in
+        let d : are_compatible x e.1 ≡ true = lesser-fits x m e.1 k c in
+        ap₂ (λ a b. ((e.0 == t) || a) && b) d p.1 ∙ or_and_true (e.0 == t)
+      | false ↦ λ k g.
+        let p = both_true _ _ g in
+        ap₂ (λ a b. a && b) p.0 (fits_beside-weaker es s m t x k ne p.1)
+    ] h f
 
 pub stuck-with_grant : (ms q : List Waiter) (s : ℕ) (m : Mode) → is_stuck ms q ≡ true → is_among_waiters s q ≡ false → is_at_least m (mode_at ms s) ≡ true → is_stuck (with_grant ms s m) q ≡ true
 stuck-with_grant ms [] s m k h r = refl
