@@ -8,4 +8,5 @@ mod Orderly
 mod Groups
 mod Pumped
 pub mod Bridge
+mod Lawful
 mod Steps
