@@ -91,7 +91,7 @@ length-le_128 es d v =
 pub is_entry-from : (s : ℕ) (m : Mode) → s < 128 → (m ≡ NL → ⊥) → is_entry (s, m) ≡ true
 is_entry-from s m b n = let k = not_NL m n in let t : ltb s 128 ≡ true = grind (arith, nat_tests) in grind arith
 
-empty-length : (q : List Waiter) → is_empty q ≡ (length q == 0)
+pub empty-length : (q : List Waiter) → is_empty q ≡ (length q == 0)
 empty-length [] = refl
 empty-length (w ∷ ws) = grind arith
 

@@ -39,7 +39,7 @@ use Rattle.gl_header.specs.Header.{
 }
 use Rattle.gl_header.specs.State.{HeaderState, IsLawfulHeader}
 use Rattle.gl_header.specs.Entries.{mode_at, supremum_of}
-use Rattle.gl_header.specs.Sound.{is_distinct, is_entry, all_new, is_ordered, all_rise, is_stuck, IsOrderly}
+use Rattle.gl_header.specs.Sound.{is_distinct, is_entry, all_new, is_ordered, all_rise, IsLawfulLists}
 use Rattle.gl_header.proofs.Tests.{both_true, by_test, differ-false}
 use Rattle.gl_header.proofs.Bridge.{listed, mode_at-within, stuck-front, group-list}
 
@@ -115,8 +115,9 @@ holders-first ms (w ∷ q) t u o h a =
       (λ k. let b = s.ahead in holders-first ms q t u (grind arith) h (grind arith)))
     (λ e. let n : is_among_waiters t ms ≡ false = new-not_held ms q t (grind arith) s.waits in cc)
 
-pub lawful : (h : HeaderState) → IsOrderly h.members h.queue → is_stuck h.members h.queue ≡ true → h.group ≡ supremum_of h.members → IsLawfulHeader h
-lawful h o k g =
+pub lawful : (h : HeaderState) → IsLawfulLists h.members h.queue → h.group ≡ supremum_of h.members → IsLawfulHeader h
+lawful h l g =
+    let o = l.orderly in
     let v = o.members_valid in
     record {
       compatible = λ t u ne. o.compatible t u (differ-false t u (λ e. ne (sym e)));
@@ -126,6 +127,6 @@ lawful h o k g =
       one_wait = λ t m e. one-wait h.queue t m o.queue_distinct e;
       wanted_rises = λ t m e. let r = wanted-rises h.members h.queue t m o.queue_valid o.rise e in (not-NL m r.0, r.1);
       holders_first = λ t u e a. sym (listed h.members u v) ∙ holders-first h.members h.queue t u o.ordered (listed h.members t v ∙ e) a;
-      front_waits = stuck-front h.members h.queue o k;
+      front_waits = stuck-front h.members h.queue o l.stuck;
       group_is = g ∙ group-list h.members o.members_distinct v;
     }

@@ -9,4 +9,6 @@ mod Groups
 mod Pumped
 pub mod Bridge
 mod Lawful
+mod Asks
+mod Drops
 mod Steps

@@ -26,21 +26,17 @@ use Rattle.std.specs.List.{remove, slice_get}
 use Rattle.gl_modes.specs.Modes.{supremum}
 use Rattle.gl_header.specs.Header.{Waiter}
 use Rattle.gl_header.specs.Entries.{fits_beside, supremum_of, with_grant}
-use Rattle.gl_header.specs.Sound.{IsOrderly, is_stuck, granted_from, grant_all, left_from}
+use Rattle.gl_header.specs.Sound.{IsOrderly, IsLawfulLists, granted_from, grant_all, left_from}
 use Rattle.gl_header.proofs.Lists.{length-with_grant}
 use Rattle.gl_header.proofs.Groups.{supremum_of-with_grant}
 use Rattle.gl_header.proofs.Orderly.{orderly-front}
 
--- the lists after a front was granted
-pub record IsPumped (ms q : List Waiter) : Type 0 where
-  pub orderly : IsOrderly ms q
-  pub stuck : is_stuck ms q ≡ true
-
-pub pumped : (ms q : List Waiter) → IsOrderly ms q → IsPumped (grant_all ms (granted_from ms q)) (left_from ms q)
-pumped ms [] o = record { orderly = o; stuck = refl }
-pumped ms (w ∷ ws) o =
-    elim (fits_beside ms w.0 w.1) as (λ b. fits_beside ms w.0 w.1 ≡ b → IsPumped (grant_all ms (cond b (w ∷ granted_from (with_grant ms w.0 w.1) ws) [])) (cond b (left_from (with_grant ms w.0 w.1) ws) (w ∷ ws))) [
-      | true ↦ λ f. pumped (with_grant ms w.0 w.1) ws (orderly-front ms w ws o f)
+-- the lists after a front was granted are lawful
+pub lawful-pumped : (ms q : List Waiter) → IsOrderly ms q → IsLawfulLists (grant_all ms (granted_from ms q)) (left_from ms q)
+lawful-pumped ms [] o = record { orderly = o; stuck = refl }
+lawful-pumped ms (w ∷ ws) o =
+    elim (fits_beside ms w.0 w.1) as (λ b. fits_beside ms w.0 w.1 ≡ b → IsLawfulLists (grant_all ms (cond b (w ∷ granted_from (with_grant ms w.0 w.1) ws) [])) (cond b (left_from (with_grant ms w.0 w.1) ws) (w ∷ ws))) [
+      | true ↦ λ f. lawful-pumped (with_grant ms w.0 w.1) ws (orderly-front ms w ws o f)
       | false ↦ λ f. record { orderly = o; stuck = grind arith }
     ] refl
 

@@ -37,7 +37,7 @@ abbrev pub is_stuck : List Waiter → List Waiter → Bool
 is_stuck ms [] = true
 is_stuck ms (w ∷ ws) = not (fits_beside ms w.0 w.1)
 
--- all of the law but that nobody at the front can be granted
+-- all of the law of the lists but that nobody at the front can be granted
 pub record IsOrderly (ms q : List Waiter) : Type 0 where
   pub members_distinct : is_distinct ms ≡ true
   pub queue_distinct : is_distinct q ≡ true
@@ -46,6 +46,11 @@ pub record IsOrderly (ms q : List Waiter) : Type 0 where
   pub compatible : (s t : ℕ) → (s == t) ≡ false → are_compatible (mode_at ms s) (mode_at ms t) ≡ true
   pub ordered : is_ordered ms q ≡ true
   pub rise : all_rise ms q ≡ true
+
+-- the law of the lists
+pub record IsLawfulLists (ms q : List Waiter) : Type 0 where
+  pub orderly : IsOrderly ms q
+  pub stuck : is_stuck ms q ≡ true
 
 -- the longest front of the queue whose waiters fit, each after those before it were granted
 abbrev pub granted_from : List Waiter → List Waiter → List Waiter
@@ -73,7 +78,6 @@ state_of h = record { members = h.members.items; queue = h.queue.items; group = 
 
 -- what holds of the fields, room for the later grant of each waiter included
 pub record IsSound (h : Inside) : Type 0 where
-  pub orderly : IsOrderly h.members.items h.queue.items
-  pub stuck : is_stuck h.members.items h.queue.items ≡ true
+  pub lists : IsLawfulLists h.members.items h.queue.items
   pub group_is : h.group ≡ supremum_of h.members.items
   pub room : HasRoomFor h.members (small_vec_len h.queue)
