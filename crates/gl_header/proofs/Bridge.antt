@@ -68,7 +68,7 @@ use Rattle.gl_header.specs.Sound.{
   left_from,
   placed_in,
 }
-use Rattle.gl_header.proofs.Tests.{
+use Rattle.gl_header.proofs.Ranges.{
   equal_tests,
   both_true,
   by_test,

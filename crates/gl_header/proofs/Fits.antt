@@ -39,7 +39,7 @@ use Rattle.gl_header.specs.Header.{
   is_empty,
 }
 use Rattle.gl_header.specs.State.{slot_limit}
-use Rattle.gl_header.proofs.Tests.{equal_tests, range-each, range-from_each, below_or_not}
+use Rattle.gl_header.proofs.Ranges.{equal_tests, range-each, range-from_each, below_or_not}
 
 -- the limit of slots is 128
 pub slot_limit-is : slot_limit ≡ 128

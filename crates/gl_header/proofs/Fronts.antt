@@ -41,7 +41,7 @@ use Rattle.gl_header.specs.Header.{
   is_among_waiters,
 }
 use Rattle.gl_header.specs.State.{slot_limit}
-use Rattle.gl_header.proofs.Tests.{by_test}
+use Rattle.gl_header.proofs.Ranges.{by_test}
 use Rattle.gl_header.proofs.Fits.{
   fits-all,
   fits-limits,

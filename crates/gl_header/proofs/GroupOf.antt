@@ -38,7 +38,7 @@ use Rattle.gl_modes.proofs.ModeLemmas.{
 }
 use Rattle.gl_header.specs.Header.{Members, IsWithin, group_of}
 use Rattle.gl_header.specs.State.{slot_limit}
-use Rattle.gl_header.proofs.Tests.{below_or_not}
+use Rattle.gl_header.proofs.Ranges.{below_or_not}
 use Rattle.gl_header.proofs.Fits.{within-limit}
 
 pub at_least-NL : (a : Mode) → is_at_least a NL ≡ true

@@ -40,7 +40,7 @@ use Rattle.gl_header.specs.Header.{
 use Rattle.gl_header.specs.State.{HeaderState, IsLawfulHeader}
 use Rattle.gl_header.specs.Entries.{mode_at, supremum_of}
 use Rattle.gl_header.specs.Sound.{is_distinct, is_entry, all_new, is_ordered, all_rise, IsLawfulLists}
-use Rattle.gl_header.proofs.Tests.{both_true, by_test, differ-false}
+use Rattle.gl_header.proofs.Ranges.{both_true, by_test, differ-false}
 use Rattle.gl_header.proofs.Bridge.{listed, mode_at-within, stuck-front, group-list}
 
 waiters-below : (q : List Waiter) → list_all is_entry q ≡ true → AreBelow 128 q

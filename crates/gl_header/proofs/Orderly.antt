@@ -54,7 +54,7 @@ use Rattle.gl_header.specs.Sound.{
   IsOrderly,
   placed_in,
 }
-use Rattle.gl_header.proofs.Tests.{both_true}
+use Rattle.gl_header.proofs.Ranges.{both_true}
 use Rattle.gl_header.proofs.Lists.{
   among-with_grant,
   mode_at-with_grant,
