@@ -1,39 +1,13 @@
 -- How an ask is decided over the lists, and what it leaves.
-use Rattle.std.proofs.Common.{
-  ◌≡◌,
-  ℕ,
-  ◌<◌,
-  Bool,
-  true,
-  false,
-  cond,
-  ◌&&◌,
-  ◌||◌,
-  not,
-  Option,
-  Some,
-  None,
-  List,
-  [],
-  ◌∷◌,
-  length,
-  refl,
-  sym,
-  ap,
-  ap₂,
-  ◌∙◌,
-  arith,
-}
-use Rattle.std.specs.Prelude.{◌==◌, ◌≢◌, if◌then◌else◌}
+use Rattle.std.proofs.Common.{◌≡◌, ℕ, ◌<◌, Bool, true, false, ◌&&◌, ◌||◌, Some, None, List, [], ◌∷◌, refl, sym, ap, ap₂, ◌∙◌, arith}
+use Rattle.std.specs.Prelude.{◌≢◌, if◌then◌else◌}
 use Rattle.std.specs.Option.{unwrap_or}
-use Rattle.std.specs.List.{list_all}
-use Rattle.std.proofs.lemmas.Bool.Decides.{nat_tests}
 use Rattle.gl_modes.specs.declared.mode.Mode.{Mode}
 use Rattle.gl_modes.specs.declared.mode.Mode.TheVariants.{NL}
-use Rattle.gl_modes.specs.Modes.{are_compatible, supremum, is_at_least, same_mode}
+use Rattle.gl_modes.specs.Modes.{are_compatible, supremum}
 use Rattle.gl_modes.proofs.ModeLemmas.{supremum-above, supremum-not_NL, not_NL}
 use Rattle.gl_header.specs.Header.{Waiter, is_among_waiters, wanted_by, is_empty, placed, with_mode}
-use Rattle.gl_header.specs.State.{HeaderState, members_of, wanted, is_granted}
+use Rattle.gl_header.specs.State.{HeaderState, wanted, is_granted}
 use Rattle.gl_header.specs.Answers.{asked_members, asked_queue}
 use Rattle.gl_header.specs.Entries.{mode_at, fits_beside, supremum_of, with_grant}
 use Rattle.gl_header.specs.Sound.{is_entry, IsOrderly, IsLawfulLists, placed_in}

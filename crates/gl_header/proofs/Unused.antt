@@ -1,5 +1,5 @@
 -- A header that nobody uses, both ways.
-use Rattle.std.proofs.Common.{◌≡◌, ℕ, ◌<◌, ◌≤◌, Bool, true, false, ◌&&◌, not, List, [], ◌∷◌, refl, sym, ap, ◌∙◌, arith}
+use Rattle.std.proofs.Common.{◌≡◌, ℕ, Bool, true, false, ◌&&◌, not, List, [], ◌∷◌, refl, arith}
 use Rattle.std.specs.Prelude.{◌⊎◌}
 use Rattle.std.proofs.Common.{inl, inr, ⊎_elim}
 use Rattle.gl_modes.specs.declared.mode.Mode.{Mode}
@@ -42,9 +42,9 @@ pub unused-false : (h : HeaderState) → is_unused h ≡ false → ((t : ℕ) ×
 unused-false h u =
     by_test (is_empty h.queue)
     (λ e.
-      let n : nobody_holds slot_limit (members_of h) ≡ false = first (nobody_holds slot_limit (members_of h)) (is_empty h.queue) e u in
-      let f = range-fails (λ t. not (holds (members_of h) t)) 0 slot_limit n in
-      inl (f.0, held-by (holds (members_of h) f.0) f.1))
+    let n : nobody_holds slot_limit (members_of h) ≡ false = first (nobody_holds slot_limit (members_of h)) (is_empty h.queue) e u in
+    let f = range-fails (λ t. not (holds (members_of h) t)) 0 slot_limit n in
+    inl (f.0, held-by (holds (members_of h) f.0) f.1))
     (λ e. inr e)
   where
     first : (a b : Bool) → b ≡ true → (a && b) ≡ false → a ≡ false

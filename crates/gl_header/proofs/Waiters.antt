@@ -1,41 +1,10 @@
 -- Who waits, by the queue and by the wanted mode; who can be dismissed.
-use Rattle.std.proofs.Common.{
-  ◌≡◌,
-  ℕ,
-  Bool,
-  true,
-  false,
-  ◌&&◌,
-  ◌||◌,
-  not,
-  Option,
-  Some,
-  None,
-  List,
-  [],
-  ◌∷◌,
-  refl,
-  sym,
-  ap,
-  ◌∙◌,
-  arith,
-}
+use Rattle.std.proofs.Common.{◌≡◌, ℕ, Bool, true, false, not, Some, None, List, [], ◌∷◌, refl, ap, ◌∙◌, arith}
 use Rattle.std.specs.Prelude.{◌==◌, if◌then◌else◌}
 use Rattle.std.proofs.lemmas.Bool.Decides.{nat_tests}
 use Rattle.gl_modes.specs.declared.mode.Mode.{Mode}
-use Rattle.gl_header.specs.Header.{
-  Members,
-  Waiter,
-  fits,
-  with_mode,
-  front,
-  is_waiter,
-  is_among_waiters,
-  wanted_by,
-  is_ahead,
-  without_waiter,
-}
-use Rattle.gl_header.proofs.Ranges.{by_test, both_true}
+use Rattle.gl_header.specs.Header.{Members, Waiter, fits, with_mode, front, is_among_waiters, wanted_by, is_ahead, without_waiter}
+use Rattle.gl_header.proofs.Ranges.{by_test}
 
 -- a slot waits exactly where it wants a mode
 

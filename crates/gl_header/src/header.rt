@@ -103,7 +103,6 @@ impl Header {
     }
 
     /// The mode that a slot holds, `NL` where it holds none.
-    
     pub fn mode_of(&self, slot: u8) -> Mode
         ensures { result ≡ members_of self.now slot }
     {
