@@ -1,0 +1,12 @@
+pub mod Look
+pub mod KindRules
+pub mod Routes
+pub mod Listings
+pub mod RouteLengths
+pub mod Born
+pub mod NewNodes
+pub mod NewIndex
+pub mod Removed
+pub mod Changed
+pub mod Moved
+pub mod Unrefused

@@ -1,0 +1,56 @@
+-- What it says of the graph that no test finds a reason to refuse.
+use Rattle.std.specs.Prelude.{◌≡◌, ℕ, ◌+◌, ◌<◌, ◌≤◌, Bool, true, false, not, ◌||◌, nat_lt, nat_le, List, [], ◌∷◌, length, Option, Some, None, if◌then◌else◌}
+use Rattle.std.specs.List.{list_all}
+use Rattle.std.proofs.Common.{refl, sym, ap, ◌∙◌, arith}
+use Rattle.std.proofs.lemmas.Bool.Decides.{nat_tests}
+use mathlib.Core.Bool.{true≢false}
+use Rattle.gl_modes.specs.declared.node.NodeId.{NodeId}
+use Rattle.gl_modes.specs.declared.refusal.Refusal.{Refusal}
+use Rattle.gl_modes.specs.declared.refusal.Refusal.TheVariants as refusal
+use Rattle.gl_graph.specs.Graph.{Graph, node_count}
+use Rattle.gl_graph.specs.Routes.{is_at_or_below}
+use Rattle.gl_graph.specs.Lawful.{IsRising, are_inner, are_distinct, AreInnerParents}
+use Rattle.gl_graph.specs.Refusals.{first_refusal, where_true, bad_parents, too_many_nodes, first_cycle, is_rising}
+use Rattle.gl_graph.proofs.Look.{split, none_some, and_both, both}
+
+pub not_refused : (x : Option Refusal) (xs : List (Option Refusal)) → first_refusal (x ∷ xs) ≡ None → (x ≡ None) × (first_refusal xs ≡ None)
+not_refused None xs h = (refl, h)
+not_refused (Some r) xs h = absurd (none_some (sym h))
+
+pub test_fails : (b : Bool) (r : Refusal) → where_true b r ≡ None → b ≡ false
+test_fails true r h = absurd (none_some (sym h))
+test_fails false r h = refl
+
+pub not_false : (b : Bool) → not b ≡ false → b ≡ true
+not_false true h = refl
+not_false false h = absurd (true≢false h)
+
+pub or_no : (a b : Bool) → (a || b) ≡ false → (a ≡ false) × (b ≡ false)
+or_no true b h = absurd (true≢false h)
+or_no false b h = (refl, h)
+
+pub lt_no : (a b : ℕ) → nat_lt a b ≡ false → b ≤ a
+lt_no a b h = grind (arith, nat_tests)
+
+pub le_no : (a b : ℕ) → nat_le a b ≡ false → b < a
+le_no a b h = grind (arith, nat_tests)
+
+pub inner_parents : (g : Graph) (least : ℕ) (ps : List NodeId) → bad_parents g least ps ≡ false → AreInnerParents g least ps
+inner_parents g least ps h =
+    let a = or_no (nat_lt (length ps) least || nat_lt 8 (length ps) || not (are_inner g ps)) (not (are_distinct ps)) h in
+    let b = or_no (nat_lt (length ps) least || nat_lt 8 (length ps)) (not (are_inner g ps)) a.0 in
+    let c = or_no (nat_lt (length ps) least) (nat_lt 8 (length ps)) b.0 in
+    record { enough = lt_no _ _ c.0; few = lt_no _ _ c.1; inner = not_false _ b.1; distinct = not_false _ a.1 }
+
+pub enough_room : (g : Graph) (more : ℕ) → too_many_nodes g more ≡ None → node_count g + more ≤ 65536
+enough_room g more h = lt_no 65536 (node_count g + more) (test_fails _ _ h)
+
+pub rising : (bs : List ℕ) → is_rising bs ≡ true → IsRising bs
+rising [] h = tt
+rising (b ∷ bs) h = let t = and_both (list_all (λ c. nat_lt b c) bs) (is_rising bs) h in (t.0, rising bs t.1)
+
+pub no_cycle : (g : Graph) (n : NodeId) (ps : List NodeId) → first_cycle g n ps ≡ None → list_all (λ p. not (is_at_or_below (node_count g) g n p)) ps ≡ true
+no_cycle g n [] h = refl
+no_cycle g n (p ∷ ps) h =
+    split (is_at_or_below (node_count g) g n p) (λ e. absurd (none_some (sym (sym (ap (λ b. if b then Some (refusal.Cycle p) else first_cycle g n ps) e) ∙ h))))
+    (λ e. both _ _ (ap not e) (no_cycle g n ps (sym (ap (λ b. if b then Some (refusal.Cycle p) else first_cycle g n ps) e) ∙ h)))
