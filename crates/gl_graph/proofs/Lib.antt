@@ -10,3 +10,4 @@ pub mod Removed
 pub mod Changed
 pub mod Moved
 pub mod Unrefused
+pub mod Slots

@@ -26,13 +26,13 @@ count_intervals id place [] = refl
 count_intervals id place (k ∷ ks) = ap suc (count_intervals id (place + 1) ks)
 
 -- the node at a place is the interval of that place
-pub interval_at : (id : NodeId) (place : ℕ) (keys : List ℕ) (k c : ℕ) (node : Node) → place + k ≡ c → place_in (interval_nodes id place keys) k ≡ Some node → node ≡ record { key = node.key; shape = Interval c; parents = id ∷ [] }
-interval_at id place [] k c node e f = absurd (none_some f)
-interval_at id place (key ∷ keys) zero c node e f =
+pub interval_node : (id : NodeId) (place : ℕ) (keys : List ℕ) (k c : ℕ) (node : Node) → place + k ≡ c → place_in (interval_nodes id place keys) k ≡ Some node → node ≡ record { key = node.key; shape = Interval c; parents = id ∷ [] }
+interval_node id place [] k c node e f = absurd (none_some f)
+interval_node id place (key ∷ keys) zero c node e f =
     let is : record { key = key; shape = Interval place; parents = id ∷ [] } ≡ node = some_is f in
     let same : place ≡ c = omega arith in
     sym is ∙ (λ i. record { key = (is i).key; shape = Interval (same i); parents = id ∷ [] })
-interval_at id place (key ∷ keys) (suc k) c node e f = interval_at id (place + 1) keys k c node (omega arith) f
+interval_node id place (key ∷ keys) (suc k) c node e f = interval_node id (place + 1) keys k c node (omega arith) f
 
 module _ (g : Graph) (law : IsLawfulGraph g) (key : ℕ) (ps : List NodeId) (file : NodeId) (bounds keys : List ℕ) where
   abbrev id : NodeId
@@ -53,7 +53,7 @@ module _ (g : Graph) (law : IsLawfulGraph g) (key : ℕ) (ps : List NodeId) (fil
       ap (λ b. node_at grown (record { key = key; birth = b })) birth ∙ new_node g law ns 0 index refl
 
   no_interval_index : (f : NodeId) (k : ℕ) (node : Node) → place_in (interval_nodes id 0 keys) k ≡ Some node → is_index_of_shape f (Some node.shape) ≡ false
-  no_interval_index f k node e = ap (λ x. is_index_of_shape f (Some x.shape)) (interval_at id 0 keys k k node (omega arith) e)
+  no_interval_index f k node e = ap (λ x. is_index_of_shape f (Some x.shape)) (interval_node id 0 keys k k node (omega arith) e)
 
   -- other files have the indexes that they had
   others : (f : NodeId) → same_node f file ≡ false → indexes_of grown f ≡ indexes_of g f
@@ -112,7 +112,7 @@ module _ (g : Graph) (law : IsLawfulGraph g) (key : ℕ) (ps : List NodeId) (fil
         let many = count_intervals id 0 keys in
         let there = place_there (interval_nodes id 0 keys) place (omega arith) in
         let at = interval_there place there.0 there.1 in
-        let is = interval_at id 0 keys place place there.0 (omega arith) there.1 in
+        let is = interval_node id 0 keys place place there.0 (omega arith) there.1 in
         ap (node_at grown) at ∙ new_node g law ns (suc place) there.0 there.1 ∙ ap Some is ∙ ap (λ (q : NodeId). Some (record { key = q.key; shape = Interval place; parents = id ∷ [] })) (sym at)
 
     index_well : HasShape grown id (Index file bounds) ps
@@ -126,7 +126,7 @@ module _ (g : Graph) (law : IsLawfulGraph g) (key : ℕ) (ps : List NodeId) (fil
         let birth : g.births + 1 ≡ g.births + 1 + 0 = omega arith in
         subst (λ y. IsWellFormed grown (new_id g law ns y 0) y) (some_is e) (subst (λ b. HasShape grown (record { key = key; birth = b }) (Index file bounds) ps) birth index_well)
     well (suc k) node e =
-        let is = interval_at id 0 keys k k node (omega arith) e in
+        let is = interval_node id 0 keys k k node (omega arith) e in
         let below = place_below (interval_nodes id 0 keys) k node e in
         let many = count_intervals id 0 keys in
         let low : k ≤ length bounds = omega arith in
@@ -139,7 +139,7 @@ module _ (g : Graph) (law : IsLawfulGraph g) (key : ℕ) (ps : List NodeId) (fil
     up : (k : ℕ) (node : Node) (p : NodeId) → place_in ns k ≡ Some node → list_any (same_node p) node.parents ≡ true → IsFresh g law ns p
     up zero node p e h = inl (inner_live p (ap (λ (y : Node). list_any (same_node p) y.parents) (some_is e) ∙ h))
     up (suc k) node p e h =
-        let is = interval_at id 0 keys k k node (omega arith) e in
+        let is = interval_node id 0 keys k k node (omega arith) e in
         or_elim (same_node p id) false (ap (λ (y : Node). list_any (same_node p) y.parents) (sym is) ∙ h)
         (λ here. subst (IsFresh g law ns) (sym (same_node_is p id here)) (inr (ap is_some index_there, λ q c. inner_live q (sym (ap (λ o. list_any (same_node q) (parents_in o)) index_there) ∙ c))))
         (λ none. absurd (no none))

@@ -5,4 +5,5 @@ pub mod Lawful
 pub mod Changes
 pub mod Refusals
 pub mod View
+pub mod Seen
 pub mod Sound

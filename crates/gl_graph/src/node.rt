@@ -1,0 +1,53 @@
+//! What is kept of a node.
+
+use gl_modes::NodeId;
+use smallvec::SmallVec;
+
+use crate::kind::Kind;
+
+/// What a node has beside its parents, by its kind. A file's indexes and the number of its records
+/// and an index's intervals could be found by a search; they are kept so that nothing is searched.
+#[derive(Drop)]
+pub(crate) enum Body {
+    Inner,
+    File {
+        indexes: SmallVec<NodeId, 1>,
+        records: usize,
+    },
+    Index {
+        file: NodeId,
+        bounds: Vec<u64>,
+        intervals: Vec<NodeId>,
+    },
+    Interval {
+        place: usize,
+    },
+    Rec {
+        keys: SmallVec<u64, 1>,
+    },
+}
+
+#[derive(Drop)]
+pub(crate) struct Node {
+    pub(crate) birth: u64,
+    pub(crate) parents: SmallVec<NodeId, 2>,
+    pub(crate) body: Body,
+}
+
+impl Body {
+    ghost use Rattle.std.specs.Prelude.{◌≡◌, Some};
+    ghost use Rattle.gl_graph.specs.Shapes.{kind_in};
+    ghost use Rattle.gl_graph.specs.Seen.{shape_in_body};
+
+    pub(crate) fn kind(&self) -> Kind
+        ensures { Some result ≡ kind_in (Some (shape_in_body self.now)) }
+    {
+        match self {
+            Body::Inner => Kind::Inner,
+            Body::File { .. } => Kind::File,
+            Body::Index { .. } => Kind::Index,
+            Body::Interval { .. } => Kind::Interval,
+            Body::Rec { .. } => Kind::Rec,
+        }
+    }
+}
