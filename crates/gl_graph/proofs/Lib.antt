@@ -11,3 +11,5 @@ pub mod Changed
 pub mod Moved
 pub mod Unrefused
 pub mod Slots
+pub mod Beside
+pub mod KeyPlace

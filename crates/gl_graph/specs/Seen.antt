@@ -64,3 +64,9 @@ pub record AreSound (nodes : Slab Node) (births : ℕ) : Type 0 where
   pub apart : AreBornApart nodes
   pub counted : slab_len nodes ≡ node_count (graph_of (seen nodes births))
   pub agree : (key : ℕ) (x : Node) → get nodes key ≡ Some x → AgreesAt (graph_of (seen nodes births)) key (vertex_of x)
+
+-- of an inner node or of a file with nothing kept beside it
+abbrev pub IsPlainBody : Body → Type 0
+IsPlainBody body.Inner = Unit {0}
+IsPlainBody (body.File indexes records) = (indexes.items ≡ []) × (records ≡ 0)
+IsPlainBody b = ⊥

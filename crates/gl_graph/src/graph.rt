@@ -19,9 +19,12 @@ use slab::Slab;
 use std::alloc::Global;
 use std::marker::Model;
 
+mod checks;
+mod make;
+
 use crate::bounds::interval_place;
 use crate::kind::Kind;
-use crate::node::{Body, Node};
+use crate::node::Node;
 use crate::store::find;
 
 /// How many births are held back: where no more are left, no node is made any more.
@@ -107,11 +110,8 @@ impl Graph {
         ensures { result.now ≡ keys_in (shape_of (graph_of self.now) rec) }
     {
         match find(&self.nodes, rec) {
-            Some(Node {
-                body: Body::Rec { keys },
-                ..
-            }) => keys.as_slice(),
-            _ => &[],
+            Some(node) => node.body.keys(),
+            None => &[],
         }
     }
 
@@ -121,11 +121,8 @@ impl Graph {
         ensures { result.now ≡ indexes_of (graph_of self.now) file }
     {
         match find(&self.nodes, file) {
-            Some(Node {
-                body: Body::File { indexes, .. },
-                ..
-            }) => indexes.as_slice(),
-            _ => &[],
+            Some(node) => node.body.indexes(),
+            None => &[],
         }
     }
 
@@ -135,11 +132,8 @@ impl Graph {
         ensures { result ≡ has_records (graph_of self.now) file }
     {
         match find(&self.nodes, file) {
-            Some(Node {
-                body: Body::File { records, .. },
-                ..
-            }) => *records > 0,
-            _ => false,
+            Some(node) => node.body.records() > 0,
+            None => false,
         }
     }
 
@@ -148,11 +142,8 @@ impl Graph {
         ensures { result ≡ interval_at (graph_of self.now) index place }
     {
         match find(&self.nodes, index) {
-            Some(Node {
-                body: Body::Index { intervals, .. },
-                ..
-            }) => intervals.get(place).copied(),
-            _ => None,
+            Some(node) => node.body.intervals().get(place).copied(),
+            None => None,
         }
     }
 
@@ -161,14 +152,9 @@ impl Graph {
         requires { is_index_shape (shape_of (graph_of self.now) index) ≡ true }
         ensures { result ≡ interval_of (graph_of self.now) index key }
     {
-        match find(&self.nodes, index) {
-            Some(Node {
-                body: Body::Index {
-                    bounds, intervals, ..
-                },
-                ..
-            }) => intervals[interval_place(bounds, key)],
-            _ => NodeId::NONE,
-        }
+        let Some(node) = find(&self.nodes, index) else {
+            unreachable!()
+        };
+        node.body.intervals()[interval_place(node.body.bounds(), key)]
     }
 }

@@ -36,8 +36,13 @@ pub(crate) struct Node {
 
 impl Body {
     ghost use Rattle.std.specs.Prelude.{◌≡◌, Some};
-    ghost use Rattle.gl_graph.specs.Shapes.{kind_in};
-    ghost use Rattle.gl_graph.specs.Seen.{shape_in_body};
+    ghost use Rattle.gl_graph.specs.Shapes.{bounds_in, keys_in, kind_in};
+    ghost use Rattle.gl_graph.specs.Seen.{
+      indexes_in_body,
+      intervals_in_body,
+      records_in_body,
+      shape_in_body,
+    };
 
     pub(crate) fn kind(&self) -> Kind
         ensures { Some result ≡ kind_in (Some (shape_in_body self.now)) }
@@ -48,6 +53,51 @@ impl Body {
             Body::Index { .. } => Kind::Index,
             Body::Interval { .. } => Kind::Interval,
             Body::Rec { .. } => Kind::Rec,
+        }
+    }
+
+    pub(crate) fn indexes(&self) -> &[NodeId]
+        ensures { result.now ≡ indexes_in_body self.now }
+    {
+        match self {
+            Body::File { indexes, .. } => indexes.as_slice(),
+            _ => &[],
+        }
+    }
+
+    pub(crate) fn records(&self) -> usize
+        ensures { result ≡ records_in_body self.now }
+    {
+        match self {
+            Body::File { records, .. } => *records,
+            _ => 0,
+        }
+    }
+
+    pub(crate) fn bounds(&self) -> &[u64]
+        ensures { result.now ≡ bounds_in (Some (shape_in_body self.now)) }
+    {
+        match self {
+            Body::Index { bounds, .. } => bounds.as_slice(),
+            _ => &[],
+        }
+    }
+
+    pub(crate) fn intervals(&self) -> &[NodeId]
+        ensures { result.now ≡ intervals_in_body self.now }
+    {
+        match self {
+            Body::Index { intervals, .. } => intervals.as_slice(),
+            _ => &[],
+        }
+    }
+
+    pub(crate) fn keys(&self) -> &[u64]
+        ensures { result.now ≡ keys_in (Some (shape_in_body self.now)) }
+    {
+        match self {
+            Body::Rec { keys } => keys.as_slice(),
+            _ => &[],
         }
     }
 }
