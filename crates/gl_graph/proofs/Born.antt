@@ -88,7 +88,7 @@ module _ (g : Graph) (law : IsLawfulGraph g) (ns : List Node) where
           let id : NodeId = record { key = x.key; birth = b } in
           ap (λ o. if is_index_of_shape f (shape_in o) then Some id else None) (ap (with_key x.key) (old_at g ns b low))
 
-  parts : (h : ℕ → Option NodeId) → filter_map h (range_with_len 1 grown.births) ≡ filter_map h (range_with_len 1 g.births) ++ filter_map h (range_with_len (g.births + 1) (length ns))
+  pub parts : (h : ℕ → Option NodeId) → filter_map h (range_with_len 1 grown.births) ≡ filter_map h (range_with_len 1 g.births) ++ filter_map h (range_with_len (g.births + 1) (length ns))
   parts h = let births = births_are g ns in ap (filter_map h) (range_append 1 g.births (length ns) grown.births (g.births + 1) (omega arith) (omega arith)) ∙ filter_map-append h (range_with_len 1 g.births) (range_with_len (g.births + 1) (length ns))
 
   -- the indexes that are born

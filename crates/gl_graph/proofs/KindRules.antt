@@ -37,7 +37,7 @@ rec_not_plain (Some (Interval place)) h k = no h
 rec_not_plain (Some (Rec keys)) h k = no k
 
 -- an index of a file
-index_of : (f : NodeId) (o : Option Shape) → is_index_of_shape f o ≡ true → (file : NodeId) × (bounds : List ℕ) × (o ≡ Some (Index file bounds))
+pub index_of : (f : NodeId) (o : Option Shape) → is_index_of_shape f o ≡ true → (file : NodeId) × (bounds : List ℕ) × (o ≡ Some (Index file bounds))
 index_of f None h = absurd (no h)
 index_of f (Some Inner) h = absurd (no h)
 index_of f (Some File) h = absurd (no h)
@@ -53,14 +53,14 @@ pub record Frames (g g' : Graph) : Type 0 where
 
 module _ (g : Graph) (law : IsLawfulGraph g) where
   -- what a node of each kind is
-  index_node : (n f : NodeId) (bs : List ℕ) → shape_of g n ≡ Some (Index f bs) → IsIndexNode g n f bs
+  pub index_node : (n f : NodeId) (bs : List ℕ) → shape_of g n ≡ Some (Index f bs) → IsIndexNode g n f bs
   index_node n f bs e =
       let there = shaped_node g n (Index f bs) e in
       let well = law.well_formed n there.0 there.1 in
       (subst (λ sh. HasShape g n sh there.0.parents) there.2 well).1
 
   -- the interval of an index in which a key lies
-  interval_is : (f i : NodeId) (k : ℕ) → is_index_of_shape f (shape_of g i) ≡ true → node_at g (interval_of g i k) ≡ Some (record { key = (interval_of g i k).key; shape = Interval (interval_place (bounds_in (shape_of g i)) k); parents = i ∷ [] })
+  pub interval_is : (f i : NodeId) (k : ℕ) → is_index_of_shape f (shape_of g i) ≡ true → node_at g (interval_of g i k) ≡ Some (record { key = (interval_of g i k).key; shape = Interval (interval_place (bounds_in (shape_of g i)) k); parents = i ∷ [] })
   interval_is f i k h =
       let index = index_of f (shape_of g i) h in
       let node = index_node i index.0 index.1 index.2 in
@@ -105,7 +105,7 @@ module _ (g g' : Graph) (law : IsLawfulGraph g) (same : Frames g g') where
   pub parents_kept : (least : ℕ) (ps : List NodeId) → AreInnerParents g least ps → AreInnerParents g' least ps
   parents_kept least ps a = record { enough = a.enough; few = a.few; inner = inner_kept ps a.inner; distinct = a.distinct }
 
-  interval_kept : (n : NodeId) (place : ℕ) (node : Node) → node_at g (interval g n place) ≡ Some node → node.shape ≡ Interval place → interval g' n place ≡ interval g n place
+  pub interval_kept : (n : NodeId) (place : ℕ) (node : Node) → node_at g (interval g n place) ≡ Some node → node.shape ≡ Interval place → interval g' n place ≡ interval g n place
   interval_kept n place node e shape =
       let was = found_at g (interval g n place) node e in
       let is = found_at g' (interval g n place) node (same.intervals (interval g n place) place node e shape) in
@@ -121,7 +121,7 @@ module _ (g g' : Graph) (law : IsLawfulGraph g) (same : Frames g g') where
         subst (λ q. node_at g' q ≡ Some (record { key = q.key; shape = Interval place; parents = n ∷ [] })) (sym (interval_kept n place _ e refl)) (same.intervals (interval g n place) place _ e refl);
   }
 
-  intervals_kept : (f : NodeId) (is : List NodeId) (keys : List ℕ) → list_all (λ i. is_index_of_shape f (shape_of g i)) is ≡ true → intervals_of g' is keys ≡ intervals_of g is keys
+  pub intervals_kept : (f : NodeId) (is : List NodeId) (keys : List ℕ) → list_all (λ i. is_index_of_shape f (shape_of g i)) is ≡ true → intervals_of g' is keys ≡ intervals_of g is keys
   intervals_kept f [] keys h = refl
   intervals_kept f (i ∷ is) [] h = refl
   intervals_kept f (i ∷ is) (key ∷ keys) h =

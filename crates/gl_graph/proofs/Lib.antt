@@ -13,3 +13,5 @@ pub mod Unrefused
 pub mod Slots
 pub mod Beside
 pub mod KeyPlace
+pub mod Counts
+pub mod Kept

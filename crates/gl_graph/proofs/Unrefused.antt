@@ -1,5 +1,5 @@
 -- What it says of the graph that no test finds a reason to refuse.
-use Rattle.std.specs.Prelude.{◌≡◌, ℕ, ◌+◌, ◌<◌, ◌≤◌, Bool, true, false, not, ◌||◌, nat_lt, nat_le, List, [], ◌∷◌, length, Option, Some, None, if◌then◌else◌}
+use Rattle.std.specs.Prelude.{◌≡◌, ℕ, ◌+◌, ◌<◌, ◌≤◌, Bool, true, false, not, ◌||◌, nat_lt, nat_le, List, [], ◌∷◌, length, Option, Some, None, Result, Ok, if◌then◌else◌, ◌-◌}
 use Rattle.std.specs.List.{list_all}
 use Rattle.std.proofs.Common.{refl, sym, ap, ◌∙◌, arith}
 use Rattle.std.proofs.lemmas.Bool.Decides.{nat_tests}
@@ -10,7 +10,7 @@ use Rattle.gl_modes.specs.declared.refusal.Refusal.TheVariants as refusal
 use Rattle.gl_graph.specs.Graph.{Graph, node_count}
 use Rattle.gl_graph.specs.Routes.{is_at_or_below}
 use Rattle.gl_graph.specs.Lawful.{IsRising, are_inner, are_distinct, AreInnerParents}
-use Rattle.gl_graph.specs.Refusals.{first_refusal, where_true, bad_parents, too_many_nodes, first_cycle, is_rising}
+use Rattle.gl_graph.specs.Refusals.{first_refusal, where_true, max_count, worn_births, some_no_node, bad_parents, too_many_nodes, first_cycle, is_rising, parents_refusal, verdict}
 use Rattle.gl_graph.proofs.Look.{split, none_some, and_both, both}
 
 pub not_refused : (x : Option Refusal) (xs : List (Option Refusal)) → first_refusal (x ∷ xs) ≡ None → (x ≡ None) × (first_refusal xs ≡ None)
@@ -54,3 +54,22 @@ no_cycle g n [] h = refl
 no_cycle g n (p ∷ ps) h =
     split (is_at_or_below (node_count g) g n p) (λ e. absurd (none_some (sym (sym (ap (λ b. if b then Some (refusal.Cycle p) else first_cycle g n ps) e) ∙ h))))
     (λ e. both _ _ (ap not e) (no_cycle g n ps (sym (ap (λ b. if b then Some (refusal.Cycle p) else first_cycle g n ps) e) ∙ h)))
+
+-- a test that answers no refusal found none
+pub verdict_ok : (o : Option Refusal) (u : Unit {0}) → Ok u ≡ verdict o → o ≡ None
+verdict_ok None u e = refl
+verdict_ok (Some r) u e = cc
+
+-- what a new inner node or file needs
+pub record AreRoomyParents (g : Graph) (least : ℕ) (ps : List NodeId) : Type 0 where
+  pub births : g.births ≤ max_count - 65536
+  pub inner : AreInnerParents g least ps
+  pub room : node_count g + 1 ≤ 65536
+
+pub parents_unrefused : (g : Graph) (least : ℕ) (ps : List NodeId) → parents_refusal g least ps ≡ None → AreRoomyParents g least ps
+parents_unrefused g least ps e =
+    let a = not_refused (worn_births g) _ e in
+    let b = not_refused (some_no_node g ps) _ a.1 in
+    let c = not_refused (where_true (bad_parents g least ps) refusal.BadParents) _ b.1 in
+    let d = not_refused (too_many_nodes g 1) [] c.1 in
+    record { births = lt_no (max_count - 65536) g.births (test_fails _ _ a.0); inner = inner_parents g least ps (test_fails _ _ c.0); room = enough_room g 1 d.0 }

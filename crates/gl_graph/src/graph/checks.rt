@@ -30,7 +30,7 @@ fn distinct(ids: &[NodeId]) -> bool
     ensures { result ≡ are_distinct ids.now }
 {
     for (place, id) in ids.iter().enumerate() {
-        if ids[place + 1..].contains(id) {
+        if ids[place + 1..].iter().any(|other| id == other) {
             return false;
         }
     }
