@@ -104,6 +104,18 @@ module _ (s : Slab Stored) (births : ℕ) (v : View) (sound : AreSound s births)
   pub intervals_found : (x : Stored) → named s n ≡ Some x → is_index_shape (Some (shape_in_body x.body)) ≡ true → KeepsIntervals (intervals_in_body x.body) (bounds_in (Some (shape_in_body x.body)))
   intervals_found x e h = index_beside x (shape_in_body x.body) refl e h
 
+-- where a file is stored
+pub record FileSlot (s : Slab Stored) (n : NodeId) : Type 0 where
+  pub stored : Stored
+  pub there : get s n.key ≡ Some stored
+  pub born : stored.birth ≡ n.birth
+  pub shape : shape_in_body stored.body ≡ File
+
+pub file_slot : (s : Slab Stored) (births : ℕ) (sound : AreSound s births) (n : NodeId) → is_file_shape (shape_of (graph_of (seen s births)) n) ≡ true → FileSlot s n
+file_slot s births sound n h =
+    cases_of (named s n) (λ e. absurd (file_not_missed s births (seen s births) sound refl n e h))
+    (λ x e. let slot = named_slot s n x e in record { stored = x; there = slot.0; born = slot.1; shape = file_shape s births (seen s births) sound refl n x e h })
+
 -- what is no index has no intervals
 pub no_intervals : (b : Body) → is_index_shape (Some (shape_in_body b)) ≡ false → intervals_in_body b ≡ []
 no_intervals body.Inner h = refl

@@ -54,13 +54,13 @@ plain_no_record (body.Interval place) p = absurd p
 plain_no_record (body.Rec keys) p = absurd p
 
 module _ (old new : Slab Stored) (births key : ℕ) (x : Stored) (sound : AreSound old births) (free : get old key ≡ None) (u : Updates old new key (Some x)) (next : x.birth ≡ births + 1) where
-  abbrev g : Graph
+  abbrev pub g : Graph
   g = graph_of (seen old births)
 
-  abbrev node : Node
+  abbrev pub node : Node
   node = node_of key (vertex_of x)
 
-  abbrev id : NodeId
+  abbrev pub id : NodeId
   id = record { key = key; birth = births + 1 }
 
   pub after : graph_of (seen new (births + 1)) ≡ born_node g node
@@ -72,7 +72,7 @@ module _ (old new : Slab Stored) (births key : ℕ) (x : Stored) (sound : AreSou
   not_there : is_live g id ≡ false
   not_there = split (is_live g id) (λ t. let low = old_below g sound.lawful [] id t in absurd (omega arith)) (λ t. t)
 
-  there : node_at (born_node g node) id ≡ Some node
+  pub there : node_at (born_node g node) id ≡ Some node
   there =
       let birth : births + 1 ≡ births + 1 + 0 = omega arith in
       ap (λ b. node_at (born_node g node) (record { key = key; birth = b })) birth ∙ new_node g sound.lawful (node ∷ []) 0 node refl

@@ -15,3 +15,5 @@ pub mod Beside
 pub mod KeyPlace
 pub mod Counts
 pub mod Kept
+pub mod RecordParents
+pub mod SoundRecord

@@ -1,5 +1,5 @@
 -- What it says of the graph that no test finds a reason to refuse.
-use Rattle.std.specs.Prelude.{◌≡◌, ℕ, ◌+◌, ◌<◌, ◌≤◌, Bool, true, false, not, ◌||◌, nat_lt, nat_le, List, [], ◌∷◌, length, Option, Some, None, Result, Ok, if◌then◌else◌, ◌-◌}
+use Rattle.std.specs.Prelude.{◌≡◌, ℕ, ◌+◌, ◌<◌, ◌≤◌, Bool, true, false, not, ◌||◌, ◌==◌, nat_lt, nat_le, List, [], ◌∷◌, length, Option, Some, None, Result, Ok, if◌then◌else◌, ◌-◌}
 use Rattle.std.specs.List.{list_all}
 use Rattle.std.proofs.Common.{refl, sym, ap, ◌∙◌, arith}
 use Rattle.std.proofs.lemmas.Bool.Decides.{nat_tests}
@@ -7,11 +7,12 @@ use mathlib.Core.Bool.{true≢false}
 use Rattle.gl_modes.specs.declared.node.NodeId.{NodeId}
 use Rattle.gl_modes.specs.declared.refusal.Refusal.{Refusal}
 use Rattle.gl_modes.specs.declared.refusal.Refusal.TheVariants as refusal
-use Rattle.gl_graph.specs.Graph.{Graph, node_count}
+use Rattle.gl_graph.specs.Graph.{Graph, node_count, shape_of, indexes_of}
+use Rattle.gl_graph.specs.Shapes.{is_file_shape}
 use Rattle.gl_graph.specs.Routes.{is_at_or_below}
 use Rattle.gl_graph.specs.Lawful.{IsRising, are_inner, are_distinct, AreInnerParents}
-use Rattle.gl_graph.specs.Refusals.{first_refusal, where_true, max_count, worn_births, some_no_node, bad_parents, too_many_nodes, first_cycle, is_rising, parents_refusal, verdict}
-use Rattle.gl_graph.proofs.Look.{split, none_some, and_both, both}
+use Rattle.gl_graph.specs.Refusals.{first_refusal, where_true, max_count, worn_births, some_no_node, bad_parents, too_many_nodes, first_cycle, is_rising, parents_refusal, record_refusal, verdict}
+use Rattle.gl_graph.proofs.Look.{split, none_some, and_both, both, same_number}
 
 pub not_refused : (x : Option Refusal) (xs : List (Option Refusal)) → first_refusal (x ∷ xs) ≡ None → (x ≡ None) × (first_refusal xs ≡ None)
 not_refused None xs h = (refl, h)
@@ -73,3 +74,19 @@ parents_unrefused g least ps e =
     let c = not_refused (where_true (bad_parents g least ps) refusal.BadParents) _ b.1 in
     let d = not_refused (too_many_nodes g 1) [] c.1 in
     record { births = lt_no (max_count - 65536) g.births (test_fails _ _ a.0); inner = inner_parents g least ps (test_fails _ _ c.0); room = enough_room g 1 d.0 }
+
+-- what a new record needs
+pub record IsRoomyRecord (g : Graph) (f : NodeId) (keys : List ℕ) : Type 0 where
+  pub births : g.births ≤ max_count - 65536
+  pub file : is_file_shape (shape_of g f) ≡ true
+  pub each : length keys ≡ length (indexes_of g f)
+  pub room : node_count g + 1 ≤ 65536
+
+pub record_unrefused : (g : Graph) (f : NodeId) (keys : List ℕ) → record_refusal g f keys ≡ None → IsRoomyRecord g f keys
+record_unrefused g f keys e =
+    let a = not_refused (worn_births g) _ e in
+    let b = not_refused (some_no_node g (f ∷ [])) _ a.1 in
+    let c = not_refused (where_true (not (is_file_shape (shape_of g f))) refusal.BadParents) _ b.1 in
+    let d = not_refused (where_true (not (length keys == length (indexes_of g f))) refusal.BadKeys) _ c.1 in
+    let r = not_refused (too_many_nodes g 1) [] d.1 in
+    record { births = lt_no (max_count - 65536) g.births (test_fails _ _ a.0); file = not_false _ (test_fails _ _ c.0); each = same_number _ _ (not_false _ (test_fails _ _ d.0)); room = enough_room g 1 r.0 }

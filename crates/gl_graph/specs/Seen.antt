@@ -70,3 +70,7 @@ abbrev pub IsPlainBody : Body → Type 0
 IsPlainBody body.Inner = Unit {0}
 IsPlainBody (body.File indexes records) = (indexes.items ≡ []) × (records ≡ 0)
 IsPlainBody b = ⊥
+
+abbrev pub body_with_records : Body → ℕ → Body
+body_with_records (body.File indexes records) fresh = body.File indexes fresh
+body_with_records b fresh = b

@@ -12,7 +12,7 @@ ghost use Rattle.gl_graph.specs.Graph.{
 };
 ghost use Rattle.gl_graph.specs.Lawful.{IsLawfulGraph};
 ghost use Rattle.gl_graph.specs.Refusals.{births_worn, has_records};
-ghost use Rattle.gl_graph.specs.View.{graph_of};
+ghost use Rattle.gl_graph.specs.View.{graph_of, record_count};
 
 use gl_modes::NodeId;
 use slab::Slab;
@@ -131,9 +131,17 @@ impl Graph {
         requires { is_file_shape (shape_of (graph_of self.now) file) ≡ true }
         ensures { result ≡ has_records (graph_of self.now) file }
     {
+        self.records(file) > 0
+    }
+
+    /// How many records a file has.
+    fn records(&self, file: NodeId) -> usize
+        requires { is_file_shape (shape_of (graph_of self.now) file) ≡ true }
+        ensures { result ≡ record_count (graph_of self.now) file }
+    {
         match find(&self.nodes, file) {
-            Some(node) => node.body.records() > 0,
-            None => false,
+            Some(node) => node.body.records(),
+            None => 0,
         }
     }
 

@@ -38,6 +38,7 @@ impl Body {
     ghost use Rattle.std.specs.Prelude.{◌≡◌, Some};
     ghost use Rattle.gl_graph.specs.Shapes.{bounds_in, keys_in, kind_in};
     ghost use Rattle.gl_graph.specs.Seen.{
+      body_with_records,
       indexes_in_body,
       intervals_in_body,
       records_in_body,
@@ -98,6 +99,16 @@ impl Body {
         match self {
             Body::Rec { keys } => keys.as_slice(),
             _ => &[],
+        }
+    }
+
+    /// A file with another number of records; another body as it is.
+    pub(crate) fn with_records(self, records: usize) -> Body
+        ensures { result ≡ body_with_records self records }
+    {
+        match self {
+            Body::File { indexes, .. } => Body::File { indexes, records },
+            other => other,
         }
     }
 }

@@ -1,7 +1,8 @@
 //! The tests that a call makes before it changes anything, each with the refusal that it answers.
 
 ghost use Rattle.std.specs.Prelude.{◌≡◌, ◌+◌, ◌||◌, Some, nat_lt, not};
-ghost use Rattle.std.specs.List.{list_all};
+ghost use Rattle.std.specs.List.{list_all, list_any};
+ghost use Rattle.gl_modes.specs.Nodes.{same_node};
 ghost use Rattle.gl_graph.specs.Shapes.{is_file_shape, is_inner_shape};
 ghost use Rattle.gl_graph.specs.Graph.{is_live, node_count, shape_of};
 ghost use Rattle.gl_graph.specs.Lawful.{are_distinct, are_inner};
@@ -25,12 +26,19 @@ const MOST_NODES: usize = 65_536;
 /// How many parents a node may have.
 const MOST_PARENTS: usize = 8;
 
+/// Whether the node is one of these.
+fn is_among(ids: &[NodeId], n: NodeId) -> bool
+    ensures { result ≡ list_any (same_node n) ids.now }
+{
+    ids.iter().any(|id| n == *id)
+}
+
 /// Whether no two of these are one node.
 fn distinct(ids: &[NodeId]) -> bool
     ensures { result ≡ are_distinct ids.now }
 {
     for (place, id) in ids.iter().enumerate() {
-        if ids[place + 1..].iter().any(|other| id == other) {
+        if is_among(&ids[place + 1..], *id) {
             return false;
         }
     }
@@ -95,6 +103,25 @@ impl Graph {
             Err(Refusal::NoSuchNode)
         } else if self.are_bad_parents(least, parents) {
             Err(Refusal::BadParents)
+        } else if self.too_many(1) {
+            Err(Refusal::TooManyNodes)
+        } else {
+            Ok(())
+        }
+    }
+
+    /// The tests for a record of a file, which needs a key for each of the file's indexes.
+    pub(super) fn check_record(&self, file: NodeId, keys: &[u64]) -> Result<(), Refusal>
+        ensures { result ≡ verdict (record_refusal (graph_of self.now) file keys.now) }
+    {
+        if self.worn() {
+            Err(Refusal::WornOut)
+        } else if !self.lives(file) {
+            Err(Refusal::NoSuchNode)
+        } else if !self.is_file(file) {
+            Err(Refusal::BadParents)
+        } else if keys.len() != self.indexes(file).len() {
+            Err(Refusal::BadKeys)
         } else if self.too_many(1) {
             Err(Refusal::TooManyNodes)
         } else {
