@@ -17,3 +17,4 @@ pub mod Counts
 pub mod Kept
 pub mod RecordParents
 pub mod SoundRecord
+pub mod Left
