@@ -1,8 +1,10 @@
 //! Changes of nodes that live.
 
-ghost use Rattle.std.specs.Prelude.{◌≡◌, true};
-ghost use Rattle.gl_graph.specs.Shapes.{is_index_of_shape, is_record_shape};
-ghost use Rattle.gl_graph.specs.Graph.{first_parent, shape_of};
+ghost use Rattle.std.specs.Prelude.{◌≡◌, Some, true, position};
+ghost use Rattle.std.specs.List.{list_any};
+ghost use Rattle.gl_modes.specs.Nodes.{same_node};
+ghost use Rattle.gl_graph.specs.Shapes.{is_file_shape, is_index_of_shape, is_record_shape};
+ghost use Rattle.gl_graph.specs.Graph.{first_parent, indexes_of, shape_of};
 ghost use Rattle.gl_graph.specs.Changes.{rekeyed, without_node};
 ghost use Rattle.gl_graph.specs.View.{graph_of};
 
@@ -10,6 +12,13 @@ use gl_modes::NodeId;
 
 use super::Graph;
 use crate::store::{write_key, write_records};
+
+/// The place of the first of these that is the node.
+fn place_among(ids: &[NodeId], n: NodeId) -> Option<usize>
+    ensures { result ≡ position (λ id. same_node id n) ids.now }
+{
+    ids.iter().position(|id| *id == n)
+}
 
 impl Graph {
     /// Takes a record out. Its key may be used again; its birth is not.
@@ -30,13 +39,21 @@ impl Graph {
         requires index { is_index_of_shape (first_parent (graph_of self.old) rec) (shape_of (graph_of self.old) index) ≡ true }
         ensures rekeyed { graph_of self.new ≡ rekeyed (graph_of self.old) rec index key }
     {
-        let file = self.file_of(rec);
+        let place = self.index_place(self.file_of(rec), index);
         let interval = self.interval_of(index, key);
-        let mut indexes = self.indexes(file).iter();
-        let Some(place) = indexes.position(|listed| *listed == index) else {
-            unreachable!()
-        };
         write_key(&mut self.nodes, rec.key, place, key, interval);
+    }
+
+    /// The place of an index among those of its file.
+    fn index_place(&self, file: NodeId, index: NodeId) -> usize
+        requires file { is_file_shape (shape_of (graph_of self.now) file) ≡ true }
+        requires listed { list_any (λ listed. same_node listed index) (indexes_of (graph_of self.now) file) ≡ true }
+        ensures { position (λ listed. same_node listed index) (indexes_of (graph_of self.now) file) ≡ Some result }
+    {
+        match place_among(self.indexes(file), index) {
+            Some(place) => place,
+            None => unreachable!(),
+        }
     }
 
     /// The file of a record, which is its first parent.
