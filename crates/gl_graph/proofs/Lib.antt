@@ -24,3 +24,4 @@ pub mod SoundChanged
 pub mod Rekey
 pub mod Grow
 pub mod Rising
+pub mod SoundIndex

@@ -1,20 +1,20 @@
 -- A new index with its intervals: the law of the graph is kept.
-use Rattle.std.specs.Prelude.{◌≡◌, ◌⊎◌, ℕ, zero, suc, ◌+◌, ◌<◌, ◌≤◌, true, false, ◌&&◌, ◌==◌, List, [], ◌∷◌, length, Option, Some, None, is_some}
+use Rattle.std.specs.Prelude.{◌≡◌, ◌⊎◌, ℕ, zero, suc, ◌+◌, ◌<◌, ◌≤◌, true, false, ◌&&◌, ◌==◌, List, [], ◌∷◌, ◌++◌, length, Option, Some, None, is_some, if◌then◌else◌}
 use Rattle.std.specs.List.{cons_option, list_any, filter_map, range_with_len}
 use Rattle.std.proofs.lemmas.List.{length-append}
-use Rattle.std.proofs.Common.{refl, sym, ap, ◌∙◌, subst, arith, inl, inr, ⊎_elim}
+use Rattle.std.proofs.Common.{refl, sym, ap, ap₂, ◌∙◌, subst, arith, inl, inr, ⊎_elim}
 use Rattle.gl_modes.specs.declared.node.NodeId.{NodeId}
 use Rattle.gl_modes.specs.Nodes.{same_node}
 use Rattle.gl_graph.specs.Shapes.{Index, Interval, bounds_in, is_inner_shape, is_file_shape, is_index_shape, is_record_shape, is_index_of_shape}
 use Rattle.gl_graph.specs.Graph.{Graph, Node, nodes, node_count, node_at, is_live, parents_in, shape_in, shape_of, is_child, indexes_of, interval, key_or_zero, IsFreeKey}
 use Rattle.gl_graph.specs.Lawful.{IsRising, AreInnerParents, HasShape, IsWellFormed, IsLawfulGraph}
 use Rattle.gl_graph.specs.Changes.{keys_of, are_apart, born_nodes, born_index, interval_nodes}
-use Rattle.gl_graph.proofs.Look.{split, or_elim, both, no, none_some, some_is, same_node_is, node_is, all_at}
+use Rattle.gl_graph.proofs.Look.{split, or_elim, both, no, none_some, some_is, same_node_is, same_node_refl, node_is, all_at}
 use Rattle.gl_graph.proofs.KindRules.{Frames, inner_plain, file_plain, plain_live, parents_kept}
 use Rattle.gl_graph.proofs.Moved.{some_at}
 use Rattle.gl_graph.proofs.RouteLengths.{listed}
 use Rattle.gl_graph.proofs.Listings.{index_born}
-use Rattle.gl_graph.proofs.Born.{place_in, place_below, new_at, none_above, new_id, new_node, new_indexes, indexes_grown, born_frames, born_lawful, IsFresh}
+use Rattle.gl_graph.proofs.Born.{place_in, new_index, place_below, new_at, none_above, new_id, new_node, new_indexes, indexes_grown, born_frames, born_lawful, IsFresh}
 use Rattle.gl_graph.proofs.NewNodes.{place_there, key_listed, places_apart, no_index_born, indexes_kept}
 
 pub keys_of_intervals : (id : NodeId) (place : ℕ) (keys : List ℕ) → keys_of (interval_nodes id place keys) ≡ keys
@@ -80,6 +80,24 @@ module _ (g : Graph) (law : IsLawfulGraph g) (key : ℕ) (ps : List NodeId) (fil
       by : (k : ℕ) (node : Node) → (g.births + 1 + k ≡ g.births + 1 + 1) ⊎ (g.births + 1 + 1 < g.births + 1 + k) → place_in ns k ≡ Some node → is_index_of_shape f (Some node.shape) ≡ false
       by zero node high e = absurd (⊎_elim (λ (h : g.births + 1 + 0 ≡ g.births + 1 + 1). omega arith) (λ (h : g.births + 1 + 1 < g.births + 1 + 0). omega arith) high)
       by (suc k) node high e = no_interval_index f k node e
+
+  -- the file has the index, last
+  pub file_index : indexes_of grown file ≡ indexes_of g file ++ id ∷ []
+  file_index =
+      let rest : filter_map (index_born grown file) (range_with_len (g.births + 1 + 1) (length (interval_nodes id 0 keys))) ≡ [] =
+      no_index_born g law ns file (g.births + 1 + 1) (length (interval_nodes id 0 keys)) (omega arith) (omega arith) by in
+      let birth : g.births + 1 ≡ g.births + 1 + 0 = omega arith in
+      let here : index_born grown file (g.births + 1) ≡ Some id =
+      ap (index_born grown file) birth ∙ new_index g law ns file 0 index refl ∙ ap (λ b. if b then Some (new_id g law ns index 0) else None) (same_node_refl file) ∙ (λ i. Some (record { key = key; birth = sym birth i })) in
+      indexes_grown g law ns file ∙ ap (λ xs. indexes_of g file ++ xs) (ap₂ cons_option here rest)
+    where
+      by : (k : ℕ) (node : Node) → (g.births + 1 + k ≡ g.births + 1 + 1) ⊎ (g.births + 1 + 1 < g.births + 1 + k) → place_in ns k ≡ Some node → is_index_of_shape file (Some node.shape) ≡ false
+      by zero node high e = absurd (⊎_elim (λ (h : g.births + 1 + 0 ≡ g.births + 1 + 1). omega arith) (λ (h : g.births + 1 + 1 < g.births + 1 + 0). omega arith) high)
+      by (suc k) node high e = no_interval_index file k node e
+
+  pub no_record_born : (k : ℕ) (node : Node) → place_in ns k ≡ Some node → is_record_shape (Some node.shape) ≡ false
+  no_record_born zero node e = ap (λ x. is_record_shape (Some x.shape)) (sym (some_is e))
+  no_record_born (suc k) node e = ap (λ x. is_record_shape (Some x.shape)) (interval_node id 0 keys k k node (omega arith) e)
 
   -- an interval stands where its index says
   pub interval_there : (k : ℕ) (node : Node) → place_in (interval_nodes id 0 keys) k ≡ Some node → interval grown id k ≡ new_id g law ns node (suc k)

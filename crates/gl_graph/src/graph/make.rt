@@ -104,11 +104,11 @@ impl Graph {
         ensures err { OnErr result (self.new ≡ self.old) }
     {
         self.check_index(parents, file, bounds)?;
-        let Ok(parts) = IndexParts::new(self.alloc, parents, bounds, self.indexes(file)) else {
-            return Err(Refusal::NoMemory);
-        };
         let count = bounds.len() + 1;
         let Ok(()) = self.nodes.reserve(count + 1) else {
+            return Err(Refusal::NoMemory);
+        };
+        let Ok(parts) = IndexParts::new(self.alloc, parents, bounds, self.indexes(file)) else {
             return Err(Refusal::NoMemory);
         };
         let IndexParts {

@@ -1,11 +1,21 @@
-use Rattle.std.proofs.Common.{rules, ◌+◌, ◌<◌, ◌≡◌, ◌≤◌, ◌^◌, Some, [], length, option_copied, vec_capacity, ℕ, ◌-◌, ◌*◌, ◌/◌, ◌%◌, Bool, true, false, nat_eq, nat_lt, List, ◌∷◌, ◌++◌, slice_index_or, slice_set, bit_and, bit_or, Fits, w8, w32, w64, Bor, MutBor}
-use Rattle.slab.specs.Slab.{ContainsKey, HasRoomFor, Updates, get, slab_len}
-use Rattle.gl_graph.specs.declared.node.Node.{Node}
-use Rattle.gl_graph.specs.Shapes.{keys_in}
-use Rattle.gl_graph.specs.Seen.{AreBornApart, AreBornWithin, body_with_indexes, body_with_intervals, body_with_records, named, shape_in_body, with_key_at}
-use Rattle.gl_graph.specs.Grown.{AreIntervalsBorn}
+use Rattle.std.proofs.Common.{◌≡◌, ◌+◌, ◌-◌, ◌≤◌, ap, ◌∙◌, arith, ◌++◌, ◌∷◌, [], length, refl}
+use Rattle.std.proofs.lemmas.List.{length-append}
+use Rattle.gl_graph.specs.declared.node.Body.TheVariants as body
+use Rattle.gl_graph.proofs.Grow.{intervals_born}
 use Rattle.gl_graph.proofs.store.insert_intervals.Goals as goal
 
--- src/store.rt:148:5
 pub loop-place-preserved : goal.loop-place-preserved
-loop-place-preserved c = ?
+loop-place-preserved c =
+    let room = c.loop-place.invariant.room in
+    let len = c.insert_reserved-key.ensures.len in
+    let capacity = c.insert_reserved-key.ensures.capacity in
+    let ids = c.push_reserved-in-loop-place.ensures.capacity in
+    let was = c.loop-place.invariant.list_room in
+    record {
+      room = omega arith;
+      list_room = omega arith;
+      listed = ap length c.push_reserved-in-loop-place.ensures.items ∙ length-append c.loop-place.ids.items (record { key = c.insert_reserved-key.result; birth = c.args.index.birth + 1 + c.loop-place.place } ∷ []) ∙ ap (λ n. n + 1) c.loop-place.invariant.listed;
+      born = intervals_born c.args.nodes.now c.loop-place.nodes c.insert_reserved-key.new.self c.args.index c.loop-place.place c.loop-place.ids.items c.push_reserved-in-loop-place.new.self.items c.loop-place.invariant.born c.insert_reserved-key.result
+          (record { birth = c.args.index.birth + 1 + c.loop-place.place; parents = c.push_reserved.new.self; body = body.Interval c.loop-place.place })
+          c.insert_reserved-key.ensures.was_vacant c.insert_reserved-key.ensures.updates refl len refl (c.push_reserved.ensures.items ∙ ap (λ xs. xs ++ c.args.index ∷ []) c.new-parents.ensures.items) c.push_reserved-in-loop-place.ensures.items;
+    }
