@@ -25,3 +25,5 @@ pub mod Rekey
 pub mod Grow
 pub mod Rising
 pub mod SoundIndex
+pub mod Climb
+pub mod SoundMoved
