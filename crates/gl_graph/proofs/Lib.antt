@@ -27,3 +27,5 @@ pub mod Rising
 pub mod SoundIndex
 pub mod Climb
 pub mod SoundMoved
+pub mod RootPaths
+pub mod KindsOf

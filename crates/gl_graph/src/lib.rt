@@ -5,6 +5,7 @@
 mod bounds;
 mod graph;
 mod kind;
+pub mod laws;
 mod node;
 mod store;
 
