@@ -90,8 +90,8 @@ module _ (old new : Slab Stored) (births key : ℕ) (x : Stored) (sound : AreSou
         (λ h. (
           one_indexes g sound.lawful node no_index n,
           (let count : record_count (born_node g node) n ≡ record_count g n + count_by (is_record_of (born_node g node) n) (id ∷ []) = records_grown g sound.lawful (node ∷ []) n in
-          let none : count_by (is_record_of (born_node g node) n) (id ∷ []) ≡ 0 = count_cons (is_record_of (born_node g node) n) id [] ∙ ap (λ b. cond b 1 0 + 0) (other h) in
-          omega arith),
+              let none : count_by (is_record_of (born_node g node) n) (id ∷ []) ≡ 0 = count_cons (is_record_of (born_node g node) n) id [] ∙ ap (λ b. cond b 1 0 + 0) (other h) in
+              omega arith),
         ))
         (sound.agree k y e)
 
@@ -107,7 +107,7 @@ module _ (old new : Slab Stored) (births key : ℕ) (x : Stored) (sound : AreSou
     new_kept (body.File indexes records) e p = (
       p.0 ∙ sym (one_indexes g sound.lawful node (plain_no_index x.body plain) id ∙ dead_indexes g sound.lawful id not_there),
       p.1
-      ∙ sym (records_grown g sound.lawful (node ∷ []) id ∙ ap₂ (λ a b. a + b) (dead_records g sound.lawful id not_there) (count_cons (is_record_of (born_node g node) id) id [] ∙ ap (λ b. cond b 1 0 + 0) (not_record id))),
+          ∙ sym (records_grown g sound.lawful (node ∷ []) id ∙ ap₂ (λ a b. a + b) (dead_records g sound.lawful id not_there) (count_cons (is_record_of (born_node g node) id) id [] ∙ ap (λ b. cond b 1 0 + 0) (not_record id))),
     )
     new_kept (body.Index file bounds intervals) e p = absurd p
     new_kept (body.Interval place) e p = absurd p

@@ -29,9 +29,17 @@ goes_up g (suc k) n = by (parents_of g n) refl (goes_up g k)
 
 pub root_path_there : NodesHaveRootPaths
 root_path_there g law n live =
-    let up = goes_up g (node_count g) n in
-    (up.way, (up.end, up.route, (live_end g law n up.end up.way live up.route,
-    ⊎_elim (λ (r : parents_of g up.end ≡ []). r) (λ (l : length up.way ≡ node_count g). absurd (let short = route_short g law n up.end up.way live up.route in omega arith)) up.done)))
+    let up = goes_up g (node_count g) n in (
+      up.way,
+      (
+        up.end,
+        up.route,
+        (
+          live_end g law n up.end up.way live up.route,
+          ⊎_elim (λ (r : parents_of g up.end ≡ []). r) (λ (l : length up.way ≡ node_count g). absurd (let short = route_short g law n up.end up.way live up.route in omega arith)) up.done,
+        ),
+      ),
+    )
 
 pub root_path_grows : RootPathsGrow
 root_path_grows g n p route child path = (path.0, (child, path.1), path.2)

@@ -56,9 +56,9 @@ module _ (old new : Slab Stored) (births : ℕ) (sound : AreSound old births) (n
         apart = written_apart old new births n.key was x sound.apart there u same_birth;
         counted = len ∙ sound.counted ∙ sym (ap length (nodes_same g n (node_of n.key (vertex_of was)) (node_of n.key (vertex_of x)) node_was refl)) ∙ ap node_count (sym changed_graph);
         agree = λ k y e. subst (λ h. AgreesAt h k (vertex_of y)) (sym changed_graph) (split (k == n.key)
-        (λ t.
-        let at : k ≡ n.key = same_number k n.key t in
-        let same : x ≡ y = some_is (sym u.changed ∙ ap (get new) (sym at) ∙ e) in
-        subst (λ c. AgreesAt changed c (vertex_of y)) (sym at) (subst (λ z. AgreesAt changed n.key (vertex_of z)) same here))
-        (λ t. still_kept k y (sym (u.others k (other_number k n.key t)) ∙ e)));
+            (λ t.
+            let at : k ≡ n.key = same_number k n.key t in
+            let same : x ≡ y = some_is (sym u.changed ∙ ap (get new) (sym at) ∙ e) in
+            subst (λ c. AgreesAt changed c (vertex_of y)) (sym at) (subst (λ z. AgreesAt changed n.key (vertex_of z)) same here))
+            (λ t. still_kept k y (sym (u.others k (other_number k n.key t)) ∙ e)));
       }

@@ -215,19 +215,19 @@ module _ (old mid grown : Slab Stored) (births key : ℕ) (x : Stored) (sound : 
           same)
           ∙ ap node_count (sym index_graph);
       agree = λ k y e. subst (λ h. AgreesAt h k (vertex_of y)) (sym index_graph) (split (k == file.key)
-      (λ t.
-      let here : k ≡ file.key = same_number k file.key t in
-      let same : f4 ≡ y = some_is (sym u4.changed ∙ ap (get fourth) (sym here) ∙ e) in
-      subst (λ c. AgreesAt after c (vertex_of y)) (sym here) (subst (λ z. AgreesAt after file.key (vertex_of z)) same file_agrees))
-      (λ t.
-      let ne : k ≢ file.key = other_number k file.key t in
-      let at3 : get third k ≡ Some y = sym (u4.others k ne) ∙ e in
-      split (k == key)
-      (λ w.
-      let here : k ≡ key = same_number k key w in
-      let same : x3 ≡ y = some_is (sym u3.changed ∙ ap (get third) (sym here) ∙ at3) in
-      subst (λ c. AgreesAt after c (vertex_of y)) (sym here) (subst (λ z. AgreesAt after key (vertex_of z)) same index_agrees))
-      (λ w. let other = other_number k key w in grown_agrees k y ne other (sym (u3.others k other) ∙ at3))));
+          (λ t.
+          let here : k ≡ file.key = same_number k file.key t in
+          let same : f4 ≡ y = some_is (sym u4.changed ∙ ap (get fourth) (sym here) ∙ e) in
+          subst (λ c. AgreesAt after c (vertex_of y)) (sym here) (subst (λ z. AgreesAt after file.key (vertex_of z)) same file_agrees))
+          (λ t.
+          let ne : k ≢ file.key = other_number k file.key t in
+          let at3 : get third k ≡ Some y = sym (u4.others k ne) ∙ e in
+          split (k == key)
+          (λ w.
+          let here : k ≡ key = same_number k key w in
+          let same : x3 ≡ y = some_is (sym u3.changed ∙ ap (get third) (sym here) ∙ at3) in
+          subst (λ c. AgreesAt after c (vertex_of y)) (sym here) (subst (λ z. AgreesAt after key (vertex_of z)) same index_agrees))
+          (λ w. let other = other_number k key w in grown_agrees k y ne other (sym (u3.others k other) ∙ at3))));
     }
 
     pub index_made : IsIndexBorn g (graph_of (seen fourth total)) id ps file bounds

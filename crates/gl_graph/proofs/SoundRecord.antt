@@ -71,12 +71,12 @@ module _ (old new : Slab Stored) (births key : ℕ) (f : Stored) (but : IsSoundB
     apart = written_apart old new births key f (record f { body = body_with_records f.body records }) but.apart but.there u refl;
     counted = len ∙ but.counted ∙ ap node_count (sym recount_unseen);
     agree = λ k y e. subst (λ h. AgreesAt h k (vertex_of y)) (sym recount_unseen) (split (k == key)
-    (λ t.
-    let here : k ≡ key = same_number k key t in
-    let same : record f { body = body_with_records f.body records } ≡ y = some_is (sym u.changed ∙ ap (get new) (sym here) ∙ e) in
-    subst (λ c. AgreesAt (graph_of (seen old births)) c (vertex_of y)) (sym here)
-    (subst (λ z. AgreesAt (graph_of (seen old births)) key (vertex_of z)) same (recounted_agrees f but.shape records (graph_of (seen old births)) (record { key = key; birth = f.birth }) but.indexes count)))
-    (λ t. let ne = other_number k key t in but.agree k y ne (sym (u.others k ne) ∙ e)));
+        (λ t.
+        let here : k ≡ key = same_number k key t in
+        let same : record f { body = body_with_records f.body records } ≡ y = some_is (sym u.changed ∙ ap (get new) (sym here) ∙ e) in
+        subst (λ c. AgreesAt (graph_of (seen old births)) c (vertex_of y)) (sym here)
+        (subst (λ z. AgreesAt (graph_of (seen old births)) key (vertex_of z)) same (recounted_agrees f but.shape records (graph_of (seen old births)) (record { key = key; birth = f.birth }) but.indexes count)))
+        (λ t. let ne = other_number k key t in but.agree k y ne (sym (u.others k ne) ∙ e)));
   }
 
 module _ (old new : Slab Stored) (births key : ℕ) (x : Stored) (sound : AreSound old births) (free : get old key ≡ None) (u : Updates old new key (Some x)) (next : x.birth ≡ births + 1)
@@ -130,14 +130,14 @@ module _ (old new : Slab Stored) (births key : ℕ) (x : Stored) (sound : AreSou
         (subst (KeepsBeside g0 (record { key = file.key; birth = f.birth }) (vertex_of f)) is_file (sound.agree file.key f at_file)).0
         ∙ sym (one_indexes g0 sound.lawful (node_of key (vertex_of x)) no_index (record { key = file.key; birth = f.birth })) ∙ ap (λ h. indexes_of h (record { key = file.key; birth = f.birth })) (sym born_graph);
     agree = λ k y ne e. subst (λ h. AgreesAt h k (vertex_of y)) (sym born_graph) (split (k == key)
-    (λ t.
-    let here : k ≡ key = same_number k key t in
-    let same : x ≡ y = some_is (sym u.changed ∙ ap (get new) (sym here) ∙ e) in
-    subst (λ z. AgreesAt g1 k (vertex_of z)) same (subst (KeepsBeside g1 (record { key = k; birth = x.birth }) (vertex_of x)) (sym shape) tt))
-    (λ t.
-    let was : get old k ≡ Some y = sym (u.others k (other_number k key t)) ∙ e in
-    old_kept old new births key x sound free u next no_index k y was
-    (λ h. record_of (record { key = k; birth = y.birth }) (ap is_file_shape (file_shape_at k y was) ∙ h) ∙ node_other (record { key = k; birth = y.birth }) file (λ same. ne (ap (λ q. q.key) same)))));
+        (λ t.
+        let here : k ≡ key = same_number k key t in
+        let same : x ≡ y = some_is (sym u.changed ∙ ap (get new) (sym here) ∙ e) in
+        subst (λ z. AgreesAt g1 k (vertex_of z)) same (subst (KeepsBeside g1 (record { key = k; birth = x.birth }) (vertex_of x)) (sym shape) tt))
+        (λ t.
+        let was : get old k ≡ Some y = sym (u.others k (other_number k key t)) ∙ e in
+        old_kept old new births key x sound free u next no_index k y was
+        (λ h. record_of (record { key = k; birth = y.birth }) (ap is_file_shape (file_shape_at k y was) ∙ h) ∙ node_other (record { key = k; birth = y.birth }) file (λ same. ne (ap (λ q. q.key) same)))));
   }
 
 -- a record is stored, and its file counts it

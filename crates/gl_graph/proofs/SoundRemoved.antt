@@ -79,8 +79,8 @@ module _ (old mid new : Slab Stored) (births : ℕ) (sound : AreSound old births
           (λ h. (
             indexes_left g sound.lawful r rec (record { key = k; birth = y.birth }),
             (let other = record_of_file g sound.lawful r rec (record { key = k; birth = y.birth }) (ap is_file_shape shape ∙ h) ∙ node_other (record { key = k; birth = y.birth }) file (λ same. ne (ap (λ q. q.key) same)) in
-            let count : record_count g (record { key = k; birth = y.birth }) ≡ record_count (without_node g r) (record { key = k; birth = y.birth }) + 0 = records_there g sound.lawful r live rec (record { key = k; birth = y.birth }) ∙ ap (λ b. record_count (without_node g r) (record { key = k; birth = y.birth }) + cond b 1 0) other in
-            omega arith),
+                let count : record_count g (record { key = k; birth = y.birth }) ≡ record_count (without_node g r) (record { key = k; birth = y.birth }) + 0 = records_there g sound.lawful r live rec (record { key = k; birth = y.birth }) ∙ ap (λ b. record_count (without_node g r) (record { key = k; birth = y.birth }) + cond b 1 0) other in
+                omega arith),
           ))
           (sound.agree k y was));
     }

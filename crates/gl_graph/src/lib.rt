@@ -11,3 +11,6 @@ mod store;
 
 pub use graph::Graph;
 pub use kind::Kind;
+
+#[cfg(test)]
+mod tests;

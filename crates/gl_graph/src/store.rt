@@ -27,12 +27,11 @@ ghost use Rattle.gl_graph.specs.Seen.{
 };
 ghost use Rattle.gl_graph.specs.Grown.{AreIntervalsBorn};
 
+use crate::node::{Body, Node};
 use gl_modes::NodeId;
 use slab::Slab;
 use smallvec::SmallVec;
 use std::alloc::Global;
-
-use crate::node::{Body, Node};
 
 /// The node that the id names.
 pub(crate) fn find(nodes: &Slab<Node>, n: NodeId) -> Option<&Node>

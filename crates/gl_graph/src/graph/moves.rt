@@ -12,13 +12,12 @@ ghost use Rattle.gl_graph.specs.Refusals.{first_cycle};
 ghost use Rattle.gl_graph.specs.View.{graph_of};
 ghost use Rattle.gl_graph.specs.Seen.{with_all};
 
+use super::Graph;
+use crate::store::write_parents;
 use gl_modes::{NodeId, Refusal};
 use indexmap::IndexSet;
 use smallvec::SmallVec;
 use std::alloc::AllocError;
-
-use super::Graph;
-use crate::store::write_parents;
 
 /// Appends those of `more` that are not among the found ones yet.
 fn add_missing(found: &mut IndexSet<NodeId>, more: &[NodeId]) -> Result<(), AllocError>
