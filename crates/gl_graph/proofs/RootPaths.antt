@@ -1,5 +1,5 @@
 -- Root paths: each node has one, and they grow and shrink by a step.
-use Rattle.std.specs.Prelude.{◌≡◌, ◌⊎◌, ℕ, zero, suc, true, List, [], ◌∷◌, length}
+use Rattle.std.specs.Prelude.{◌≡◌, ◌⊎◌, ℕ, zero, suc, List, [], ◌∷◌, length}
 use Rattle.std.specs.List.{list_any}
 use Rattle.std.proofs.Common.{refl, ap, ◌∙◌, arith, inl, inr, ⊎_elim}
 use Rattle.gl_modes.specs.declared.node.NodeId.{NodeId}

@@ -1,18 +1,17 @@
 -- An inner node, a file or an index gets other parents: what is kept beside the graph still agrees.
-use Rattle.std.specs.Prelude.{◌≡◌, ℕ, Bool, true, false, ◌&&◌, not, List, [], ◌∷◌, Option, Some, None, is_some}
-use Rattle.std.specs.List.{list_all, list_any}
+use Rattle.std.specs.Prelude.{◌≡◌, ℕ, true, false, ◌&&◌, List, [], ◌∷◌, Option, Some, None, is_some}
+use Rattle.std.specs.List.{list_all}
 use Rattle.std.proofs.Common.{refl, sym, ap, ◌∙◌, subst}
 use Rattle.smallvec.specs.SmallVec.{SmallVec}
 use Rattle.gl_modes.specs.declared.node.NodeId.{NodeId}
-use Rattle.gl_modes.specs.Nodes.{same_node}
 use Rattle.slab.specs.Slab.{Slab, get, slab_len, ContainsKey, Updates}
 use Rattle.gl_graph.specs.declared.node.Node.{Node as Stored}
 use Rattle.gl_graph.specs.Shapes.{Shape, Inner, File, Index, Interval, Rec, is_movable_shape, is_record_shape, least_parents}
-use Rattle.gl_graph.specs.Graph.{Graph, Node, node_at, node_count, is_live, is_child, shape_in, shape_of}
+use Rattle.gl_graph.specs.Graph.{Graph, Node, node_at, is_live, is_child, shape_in, shape_of}
 use Rattle.gl_graph.specs.Lawful.{IsLawfulGraph, AreInnerParents, are_inner}
 use Rattle.gl_graph.specs.Changes.{with_node, with_parents}
 use Rattle.gl_graph.specs.Refusals.{first_cycle}
-use Rattle.gl_graph.specs.View.{graph_of, node_of, KeepsBeside, AgreesAt}
+use Rattle.gl_graph.specs.View.{graph_of, node_of, KeepsBeside}
 use Rattle.gl_graph.specs.Seen.{shape_in_body, vertex_of, seen, AreSound}
 use Rattle.gl_graph.proofs.Look.{no, both, and_both}
 use Rattle.gl_graph.proofs.KindRules.{inner_plain, plain_live}

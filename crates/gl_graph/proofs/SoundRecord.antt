@@ -1,5 +1,5 @@
 -- A record is born: what is kept beside the graph agrees again once its file counts it.
-use Rattle.std.specs.Prelude.{◌≡◌, ◌≢◌, ℕ, ◌+◌, ◌<◌, ◌≤◌, Bool, true, false, ◌==◌, ◌&&◌, List, [], ◌∷◌, length, Option, Some, None, is_some, IsSome, cond, count_by}
+use Rattle.std.specs.Prelude.{◌≡◌, ◌≢◌, ℕ, ◌+◌, ◌≤◌, true, false, ◌==◌, ◌&&◌, List, [], ◌∷◌, length, Some, None, is_some, cond, count_by}
 use Rattle.std.specs.List.{list_any}
 use Rattle.std.proofs.Common.{refl, sym, ap, ap₂, ◌∙◌, subst, arith}
 use Rattle.gl_modes.specs.declared.node.NodeId.{NodeId}
@@ -8,19 +8,19 @@ use Rattle.slab.specs.Slab.{Slab, get, slab_len, ContainsKey, Updates}
 use Rattle.gl_graph.specs.declared.node.Body.{Body}
 use Rattle.gl_graph.specs.declared.node.Body.TheVariants as body
 use Rattle.gl_graph.specs.declared.node.Node.{Node as Stored}
-use Rattle.gl_graph.specs.Shapes.{Shape, Inner, File, Index, Interval, Rec, is_file_shape, is_record_shape, is_index_of_shape}
-use Rattle.gl_graph.specs.Graph.{Graph, Node, node_at, is_live, shape_in, shape_of, parents_in, is_child, indexes_of, node_count, is_record_of, record_parents}
+use Rattle.gl_graph.specs.Shapes.{File, Rec, is_file_shape, is_record_shape, is_index_of_shape}
+use Rattle.gl_graph.specs.Graph.{Graph, shape_in, shape_of, parents_in, indexes_of, node_count, is_record_of, record_parents}
 use Rattle.gl_graph.specs.Lawful.{IsLawfulGraph}
 use Rattle.gl_graph.specs.Changes.{born_node, IsBorn}
-use Rattle.gl_graph.specs.View.{View, Vertex, graph_of, node_of, record_count, KeepsBeside, AgreesAt}
+use Rattle.gl_graph.specs.View.{graph_of, node_of, record_count, KeepsBeside, AgreesAt}
 use Rattle.gl_graph.specs.Seen.{shape_in_body, indexes_in_body, body_with_records, vertex_of, seen, AreBornApart, AreSound}
-use Rattle.gl_graph.proofs.Look.{split, cases_of, no, none_some, some_is, number_same, same_number, other_number, number_other, same_node_is, is_same_node, node_other, same_node_refl}
+use Rattle.gl_graph.proofs.Look.{split, none_some, some_is, same_number, other_number, node_other, same_node_refl}
 use Rattle.gl_graph.proofs.NewNodes.{one_indexes, record_lawful}
 use Rattle.gl_graph.proofs.Counts.{count_cons, records_grown}
 use Rattle.gl_graph.proofs.RecordParents.{file_among}
 use Rattle.gl_graph.proofs.Slots.{node_there, inserted_apart, inserted_free, written_apart, unseen}
 use Rattle.gl_graph.proofs.Beside.{FileSlot, file_slot}
-use Rattle.gl_graph.proofs.Kept.{born_within, after, there, counted, old_kept, id, node, g}
+use Rattle.gl_graph.proofs.Kept.{born_within, after, there, counted, old_kept}
 
 -- a file with another count of records is seen as before, and keeps all else
 module _ (x : Stored) (file : shape_in_body x.body ≡ File) (records : ℕ) where
