@@ -1,0 +1,12 @@
+pub mod Shapes
+pub mod Graph
+pub mod Routes
+pub mod Lawful
+pub mod Changes
+pub mod Refusals
+pub mod View
+pub mod Seen
+pub mod Grown
+pub mod Parts
+pub mod Sound
+pub mod Laws

@@ -1,0 +1,195 @@
+//! The tests that a call makes before it changes anything, each with the refusal that it answers.
+
+ghost use Rattle.std.specs.Prelude.{◌≡◌, ◌+◌, ◌∷◌, nat_lt};
+ghost use Rattle.std.specs.List.{list_all, list_any};
+ghost use Rattle.gl_modes.specs.Nodes.{same_node};
+ghost use Rattle.gl_graph.specs.Shapes.{is_file_shape, is_inner_shape};
+ghost use Rattle.gl_graph.specs.Graph.{is_live, node_count, shape_of};
+ghost use Rattle.gl_graph.specs.Lawful.{are_distinct, are_inner};
+ghost use Rattle.gl_graph.specs.Refusals.{
+  bad_bounds,
+  bad_index_place,
+  bad_parents,
+  index_refusal,
+  is_rising,
+  parents_refusal,
+  record_refusal,
+  verdict,
+};
+ghost use Rattle.gl_graph.specs.View.{graph_of};
+
+use super::Graph;
+use crate::kind::Kind;
+use gl_modes::{NodeId, Refusal};
+
+/// How many nodes may live at once.
+const MOST_NODES: usize = 65_536;
+
+/// How many parents a node may have.
+const MOST_PARENTS: usize = 8;
+
+/// How many indexes a file may have.
+const MOST_INDEXES: usize = 7;
+
+/// How many bounds an index may have.
+const MOST_BOUNDS: usize = 256;
+
+/// Whether the node is one of these.
+fn is_among(ids: &[NodeId], n: NodeId) -> bool
+    ensures { result ≡ list_any (same_node n) ids.now }
+{
+    ids.iter().any(|id| n == *id)
+}
+
+/// Whether no two of these are one node.
+fn distinct(ids: &[NodeId]) -> bool
+    ensures { result ≡ are_distinct ids.now }
+{
+    for (place, id) in ids.iter().enumerate() {
+        if is_among(&ids[place + 1..], *id) {
+            return false;
+        }
+    }
+    true
+}
+
+/// Whether each of these is above the one before it, and the first above 0.
+fn are_rising(bounds: &[u64]) -> bool
+    ensures { result ≡ is_rising (0 ∷ bounds.now) }
+{
+    let mut last = 0;
+    for bound in bounds {
+        if *bound <= last {
+            return false;
+        }
+        last = *bound;
+    }
+    true
+}
+
+/// Whether these cannot be the bounds of an index.
+fn are_bad_bounds(bounds: &[u64]) -> bool
+    ensures { result ≡ bad_bounds bounds.now }
+{
+    bounds.len() > MOST_BOUNDS || !are_rising(bounds)
+}
+
+impl Graph {
+    fn is_inner(&self, n: NodeId) -> bool
+        ensures { result ≡ is_inner_shape (shape_of (graph_of self.now) n) }
+    {
+        matches!(self.kind(n), Some(Kind::Inner))
+    }
+
+    fn is_file(&self, n: NodeId) -> bool
+        ensures { result ≡ is_file_shape (shape_of (graph_of self.now) n) }
+    {
+        matches!(self.kind(n), Some(Kind::File))
+    }
+
+    fn lives(&self, n: NodeId) -> bool
+        ensures { result ≡ is_live (graph_of self.now) n }
+    {
+        self.kind(n).is_some()
+    }
+
+    fn all_live(&self, ids: &[NodeId]) -> bool
+        ensures { result ≡ list_all (is_live (graph_of self.now)) ids.now }
+    {
+        ids.iter().all(|n| self.lives(*n))
+    }
+
+    fn all_inner(&self, ids: &[NodeId]) -> bool
+        ensures { result ≡ are_inner (graph_of self.now) ids.now }
+    {
+        ids.iter().all(|n| self.is_inner(*n))
+    }
+
+    /// Whether with so many nodes more there are more than may live.
+    fn too_many(&self, more: usize) -> bool
+        ensures { result ≡ nat_lt 65536 (node_count (graph_of self.now) + more) }
+    {
+        more > MOST_NODES || self.len() > MOST_NODES - more
+    }
+
+    /// Whether these cannot be the parents of a node that needs so many at least.
+    fn are_bad_parents(&self, least: usize, parents: &[NodeId]) -> bool
+        ensures { result ≡ bad_parents (graph_of self.now) least parents.now }
+    {
+        parents.len() < least
+            || parents.len() > MOST_PARENTS
+            || !self.all_inner(parents)
+            || !distinct(parents)
+    }
+
+    /// The tests for an inner node or a file, which needs so many parents at least.
+    pub(super) fn check_parents(&self, least: usize, parents: &[NodeId]) -> Result<(), Refusal>
+        ensures { result ≡ verdict (parents_refusal (graph_of self.now) least parents.now) }
+    {
+        if self.worn() {
+            Err(Refusal::WornOut)
+        } else if !self.all_live(parents) {
+            Err(Refusal::NoSuchNode)
+        } else if self.are_bad_parents(least, parents) {
+            Err(Refusal::BadParents)
+        } else if self.too_many(1) {
+            Err(Refusal::TooManyNodes)
+        } else {
+            Ok(())
+        }
+    }
+
+    /// The tests for a record of a file, which needs a key for each of the file's indexes.
+    pub(super) fn check_record(&self, file: NodeId, keys: &[u64]) -> Result<(), Refusal>
+        ensures { result ≡ verdict (record_refusal (graph_of self.now) file keys.now) }
+    {
+        if self.worn() {
+            Err(Refusal::WornOut)
+        } else if !self.lives(file) {
+            Err(Refusal::NoSuchNode)
+        } else if !self.is_file(file) {
+            Err(Refusal::BadParents)
+        } else if keys.len() != self.indexes(file).len() {
+            Err(Refusal::BadKeys)
+        } else if self.too_many(1) {
+            Err(Refusal::TooManyNodes)
+        } else {
+            Ok(())
+        }
+    }
+
+    /// The tests for an index of a file.
+    pub(super) fn check_index(
+        &self,
+        parents: &[NodeId],
+        file: NodeId,
+        bounds: &[u64],
+    ) -> Result<(), Refusal>
+        ensures { result ≡ verdict (index_refusal (graph_of self.now) parents.now file bounds.now) }
+    {
+        if self.worn() {
+            Err(Refusal::WornOut)
+        } else if !self.all_live(parents) || !self.lives(file) {
+            Err(Refusal::NoSuchNode)
+        } else if self.is_bad_index_place(parents, file) {
+            Err(Refusal::BadParents)
+        } else if self.has_records(file) {
+            Err(Refusal::FileInUse)
+        } else if are_bad_bounds(bounds) {
+            Err(Refusal::BadKeys)
+        } else if self.too_many(bounds.len() + 2) {
+            Err(Refusal::TooManyNodes)
+        } else {
+            Ok(())
+        }
+    }
+
+    /// Whether no index of this file can be made under these parents.
+    fn is_bad_index_place(&self, parents: &[NodeId], file: NodeId) -> bool
+        ensures { result ≡ bad_index_place (graph_of self.now) parents.now file }
+    {
+        self.are_bad_parents(1, parents)
+            || !self.is_file(file)
+            || self.indexes(file).len() >= MOST_INDEXES
+    }
+}

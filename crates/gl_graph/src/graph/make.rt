@@ -1,0 +1,208 @@
+//! New nodes.
+
+ghost use Rattle.std.specs.Prelude.{◌≡◌, ◌+◌, ◌<◌, ◌^◌, ℕ, true, length, IfOk, OnErr, IfErr};
+ghost use Rattle.gl_modes.specs.declared.refusal.Refusal.{Refusal};
+ghost use Rattle.gl_graph.specs.Shapes.{File, Inner, Rec, is_file_shape};
+ghost use Rattle.gl_graph.specs.Graph.{IsFreeKey, indexes_of, record_parents, shape_of};
+ghost use Rattle.gl_graph.specs.Lawful.{IsLawfulGraph};
+ghost use Rattle.gl_graph.specs.Changes.{born_node, IsBorn, IsIndexBorn};
+ghost use Rattle.gl_graph.specs.Refusals.{file_refusal, index_refusal, inner_refusal, record_refusal, Refuses};
+ghost use Rattle.gl_graph.specs.View.{graph_of};
+ghost use Rattle.gl_graph.specs.Seen.{shape_in_body, IsPlainBody};
+
+use super::Graph;
+use crate::node::{Body, Node};
+use crate::store::{insert_intervals, write_indexes, write_intervals, write_records};
+use gl_modes::{NodeId, Refusal};
+use smallvec::SmallVec;
+use std::alloc::{AllocError, Global};
+
+/// What a new index takes memory for, made before anything changes.
+#[derive(Drop)]
+struct IndexParts {
+    parents: SmallVec<NodeId, 2>,
+    bounds: Vec<u64>,
+    // Empty, with room for all.
+    intervals: Vec<NodeId>,
+    // Those that the file has, with room for one more.
+    indexes: SmallVec<NodeId, 1>,
+}
+
+impl IndexParts {
+    ghost use Rattle.gl_graph.specs.Parts.{AreParts};
+
+    fn new(
+        alloc: Global,
+        parents: &[NodeId],
+        bounds: &[u64],
+        indexes: &[NodeId],
+    ) -> Result<Self, AllocError>
+        requires { length bounds.now < 2 ^ 63 }
+        ensures made { IfOk result (λ parts. AreParts parts parents.now bounds.now indexes.now) }
+    {
+        let parents = SmallVec::from_slice(alloc, parents)?;
+        let intervals = Vec::with_capacity(alloc, bounds.len() + 1)?;
+        let bounds = Vec::from_slice(alloc, bounds)?;
+        let mut indexes = SmallVec::from_slice(alloc, indexes)?;
+        indexes.reserve(1)?;
+        Ok(IndexParts {
+            parents,
+            bounds,
+            intervals,
+            indexes,
+        })
+    }
+}
+
+impl Graph {
+    /// Makes an inner node under 0 to 8 different inner nodes; without parents it is a root.
+    ///
+    /// Refused, in this order, with `WornOut`, `NoSuchNode`, `BadParents`, `TooManyNodes` and
+    /// `NoMemory`.
+    pub fn add_inner(&mut self, parents: &[NodeId]) -> Result<NodeId, Refusal>
+        ensures made { IfOk result (λ n. IsBorn (graph_of self.old) (graph_of self.new) n Inner parents.now) }
+        ensures refuses { Refuses (inner_refusal (graph_of self.old) parents.now) result }
+        ensures err { OnErr result (self.new ≡ self.old) }
+    {
+        self.check_parents(0, parents)?;
+        self.insert(parents, Body::Inner)
+    }
+
+    /// Makes a file under 1 to 8 different inner nodes. It has no indexes and no records.
+    ///
+    /// Refused, in this order, with `WornOut`, `NoSuchNode`, `BadParents`, `TooManyNodes` and
+    /// `NoMemory`.
+    pub fn add_file(&mut self, parents: &[NodeId]) -> Result<NodeId, Refusal>
+        ensures made { IfOk result (λ n. IsBorn (graph_of self.old) (graph_of self.new) n File parents.now) }
+        ensures refuses { Refuses (file_refusal (graph_of self.old) parents.now) result }
+        ensures err { OnErr result (self.new ≡ self.old) }
+    {
+        self.check_parents(1, parents)?;
+        let body = Body::File {
+            indexes: SmallVec::new(self.alloc),
+            records: 0,
+        };
+        self.insert(parents, body)
+    }
+
+    /// Makes an index of a file that has no records, under 1 to 8 different inner nodes, with at
+    /// most 256 strictly rising bounds above 0. The index is born first and then, in order, its
+    /// intervals: one that begins at key 0, and one at each bound.
+    ///
+    /// Refused, in this order, with `WornOut`, `NoSuchNode`, `BadParents` (also where the file is
+    /// none or has seven indexes), `FileInUse`, `BadKeys` (the bounds), `TooManyNodes` and
+    /// `NoMemory`.
+    pub fn add_index(
+        &mut self,
+        parents: &[NodeId],
+        file: NodeId,
+        bounds: &[u64],
+    ) -> Result<NodeId, Refusal>
+        ensures made { IfOk result (λ n. IsIndexBorn (graph_of self.old) (graph_of self.new) n parents.now file bounds.now) }
+        ensures refuses { Refuses (index_refusal (graph_of self.old) parents.now file bounds.now) result }
+        ensures err { OnErr result (self.new ≡ self.old) }
+    {
+        self.check_index(parents, file, bounds)?;
+        let count = bounds.len() + 1;
+        let Ok(()) = self.nodes.reserve(count + 1) else {
+            return Err(Refusal::NoMemory);
+        };
+        let Ok(parts) = IndexParts::new(self.alloc, parents, bounds, self.indexes(file)) else {
+            return Err(Refusal::NoMemory);
+        };
+        let IndexParts {
+            parents,
+            bounds,
+            mut intervals,
+            mut indexes,
+        } = parts;
+        let birth = self.births + 1;
+        let body = Body::Index {
+            file,
+            bounds,
+            intervals: Vec::new(self.alloc),
+        };
+        let key = self.nodes.insert_reserved(Node {
+            birth,
+            parents,
+            body,
+        });
+        let index = NodeId { key, birth };
+        insert_intervals(&mut self.nodes, self.alloc, index, count, &mut intervals);
+        indexes.push_reserved(index);
+        write_intervals(&mut self.nodes, key, intervals);
+        write_indexes(&mut self.nodes, file.key, indexes);
+        self.births = birth + count as u64;
+        Ok(index)
+    }
+
+    /// Makes a record of a file, with a key for each of the file's indexes, in order of their
+    /// making. Its parents are the file and then, for each index, the interval that holds the key.
+    ///
+    /// Refused, in this order, with `WornOut`, `NoSuchNode`, `BadParents` (no file), `BadKeys` (not
+    /// a key for each index), `TooManyNodes` and `NoMemory`.
+    pub fn add_record(&mut self, file: NodeId, keys: &[u64]) -> Result<NodeId, Refusal>
+        ensures made { IfOk result (λ n. IsBorn (graph_of self.old) (graph_of self.new) n (Rec keys.now) (record_parents (graph_of self.old) file keys.now)) }
+        ensures refuses { Refuses (record_refusal (graph_of self.old) file keys.now) result }
+        ensures err { OnErr result (self.new ≡ self.old) }
+    {
+        self.check_record(file, keys)?;
+        let Ok(parents) = self.record_parents(file, keys) else {
+            return Err(Refusal::NoMemory);
+        };
+        let Ok(keys) = SmallVec::from_slice(self.alloc, keys) else {
+            return Err(Refusal::NoMemory);
+        };
+        let records = self.records(file) + 1;
+        let birth = self.births + 1;
+        let node = Node {
+            birth,
+            parents,
+            body: Body::Rec { keys },
+        };
+        let Ok(key) = self.nodes.insert(node) else {
+            return Err(Refusal::NoMemory);
+        };
+        write_records(&mut self.nodes, file.key, records);
+        self.births = birth;
+        Ok(NodeId { key, birth })
+    }
+
+    /// The parents of a record of this file with these keys.
+    fn record_parents(&self, file: NodeId, keys: &[u64]) -> Result<SmallVec<NodeId, 2>, AllocError>
+        requires file { is_file_shape (shape_of (graph_of self.now) file) ≡ true }
+        requires keys { length keys.now ≡ length (indexes_of (graph_of self.now) file) }
+        ensures ok { IfOk result (λ parents. parents.items ≡ record_parents (graph_of self.now) file keys.now) }
+    {
+        let mut parents = SmallVec::from_slice(self.alloc, &[file])?;
+        for (place, index) in self.indexes(file).iter().enumerate() {
+            parents.push(self.interval_of(*index, keys[place]))?;
+        }
+        Ok(parents)
+    }
+
+    /// Stores a node with the next birth.
+    fn insert(&mut self, parents: &[NodeId], body: Body) -> Result<NodeId, Refusal>
+        requires births { self.old.births + 1 < 2 ^ 64 }
+        requires plain { IsPlainBody body }
+        requires lawful { (key : ℕ) → IsLawfulGraph (graph_of self.old) → IsFreeKey (graph_of self.old) key → IsLawfulGraph (born_node (graph_of self.old) (record { key = key; shape = shape_in_body body; parents = parents.now })) }
+        ensures made { IfOk result (λ n. IsBorn (graph_of self.old) (graph_of self.new) n (shape_in_body body) parents.now) }
+        ensures memory { IfErr result (λ r. r ≡ Refusal.NoMemory) }
+        ensures err { OnErr result (self.new ≡ self.old) }
+    {
+        let Ok(parents) = SmallVec::from_slice(self.alloc, parents) else {
+            return Err(Refusal::NoMemory);
+        };
+        let birth = self.births + 1;
+        let node = Node {
+            birth,
+            parents,
+            body,
+        };
+        let Ok(key) = self.nodes.insert(node) else {
+            return Err(Refusal::NoMemory);
+        };
+        self.births = birth;
+        Ok(NodeId { key, birth })
+    }
+}

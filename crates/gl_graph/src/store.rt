@@ -1,0 +1,170 @@
+//! The slab of nodes: looking one up, and writing one.
+
+ghost use Rattle.std.specs.Prelude.{
+  ◌+◌,
+  ◌<◌,
+  ◌≡◌,
+  ◌≤◌,
+  ◌^◌,
+  Some,
+  [],
+  length,
+  option_copied,
+  vec_capacity,
+};
+ghost use Rattle.slab.specs.Slab.{ContainsKey, HasRoomFor, Updates, get, slab_len};
+ghost use Rattle.gl_graph.specs.declared.node.Node.{Node};
+ghost use Rattle.gl_graph.specs.Shapes.{keys_in};
+ghost use Rattle.gl_graph.specs.Seen.{
+  AreBornApart,
+  AreBornWithin,
+  body_with_indexes,
+  body_with_intervals,
+  body_with_records,
+  named,
+  shape_in_body,
+  with_key_at,
+};
+ghost use Rattle.gl_graph.specs.Grown.{AreIntervalsBorn};
+
+use crate::node::{Body, Node};
+use gl_modes::NodeId;
+use slab::Slab;
+use smallvec::SmallVec;
+use std::alloc::Global;
+
+/// The node that the id names.
+pub(crate) fn find(nodes: &Slab<Node>, n: NodeId) -> Option<&Node>
+    ensures { option_copied result ≡ named nodes.now n }
+{
+    match nodes.get(n.key) {
+        Some(node) if node.birth == n.birth => Some(node),
+        _ => None,
+    }
+}
+
+/// Writes how many records a file has.
+pub(crate) fn write_records(nodes: &mut Slab<Node>, key: usize, records: usize)
+    requires { ContainsKey nodes.old key }
+    ensures written { (x : Node) → get nodes.old key ≡ Some x → Updates nodes.old nodes.new key (Some (record x { body = body_with_records x.body records })) }
+    ensures len { slab_len nodes.new ≡ slab_len nodes.old }
+{
+    let Node {
+        birth,
+        parents,
+        body,
+    } = nodes.remove(key);
+    let body = body.with_records(records);
+    nodes.insert_reserved(Node {
+        birth,
+        parents,
+        body,
+    });
+}
+
+/// Writes the parents of a node.
+pub(crate) fn write_parents(nodes: &mut Slab<Node>, key: usize, fresh: SmallVec<NodeId, 2>)
+    requires { ContainsKey nodes.old key }
+    ensures written { (x : Node) → get nodes.old key ≡ Some x → Updates nodes.old nodes.new key (Some (record x { parents = fresh })) }
+    ensures len { slab_len nodes.new ≡ slab_len nodes.old }
+{
+    let mut node = nodes.remove(key);
+    node.parents = fresh;
+    nodes.insert_reserved(node);
+}
+
+/// Writes one key of a record, and the interval in which it lies.
+pub(crate) fn write_key(
+    nodes: &mut Slab<Node>,
+    rec: usize,
+    place: usize,
+    key: u64,
+    interval: NodeId,
+)
+    requires there { ContainsKey nodes.old rec }
+    requires keys { (x : Node) → get nodes.old rec ≡ Some x → place < length (keys_in (Some (shape_in_body x.body))) }
+    requires parents { (x : Node) → get nodes.old rec ≡ Some x → place + 1 < length x.parents.items }
+    ensures written { (x : Node) → get nodes.old rec ≡ Some x → Updates nodes.old nodes.new rec (Some (with_key_at x place key interval)) }
+    ensures len { slab_len nodes.new ≡ slab_len nodes.old }
+{
+    let Node {
+        birth,
+        mut parents,
+        body,
+    } = nodes.remove(rec);
+    parents.as_mut_slice()[place + 1] = interval;
+    let body = body.with_key(place, key);
+    nodes.insert_reserved(Node {
+        birth,
+        parents,
+        body,
+    });
+}
+
+/// Writes the intervals of an index.
+pub(crate) fn write_intervals(nodes: &mut Slab<Node>, key: usize, intervals: Vec<NodeId>)
+    requires { ContainsKey nodes.old key }
+    ensures written { (x : Node) → get nodes.old key ≡ Some x → Updates nodes.old nodes.new key (Some (record x { body = body_with_intervals x.body intervals })) }
+    ensures len { slab_len nodes.new ≡ slab_len nodes.old }
+{
+    let Node {
+        birth,
+        parents,
+        body,
+    } = nodes.remove(key);
+    let body = body.with_intervals(intervals);
+    nodes.insert_reserved(Node {
+        birth,
+        parents,
+        body,
+    });
+}
+
+/// Writes the indexes of a file.
+pub(crate) fn write_indexes(nodes: &mut Slab<Node>, key: usize, indexes: SmallVec<NodeId, 1>)
+    requires { ContainsKey nodes.old key }
+    ensures written { (x : Node) → get nodes.old key ≡ Some x → Updates nodes.old nodes.new key (Some (record x { body = body_with_indexes x.body indexes })) }
+    ensures len { slab_len nodes.new ≡ slab_len nodes.old }
+{
+    let Node {
+        birth,
+        parents,
+        body,
+    } = nodes.remove(key);
+    let body = body.with_indexes(indexes);
+    nodes.insert_reserved(Node {
+        birth,
+        parents,
+        body,
+    });
+}
+
+/// Stores so many intervals of an index, with the births behind the index's, and lists them.
+pub(crate) fn insert_intervals(
+    nodes: &mut Slab<Node>,
+    alloc: Global,
+    index: NodeId,
+    count: usize,
+    ids: &mut Vec<NodeId>,
+)
+    requires room { HasRoomFor nodes.old count }
+    requires list_room { count ≤ vec_capacity ids.old }
+    requires none { ids.old.items ≡ [] }
+    requires births { index.birth + count < 2 ^ 64 }
+    requires apart { AreBornApart nodes.old }
+    requires within { AreBornWithin nodes.old index.birth }
+    ensures born { AreIntervalsBorn nodes.old nodes.new index count ids.new.items }
+{
+    for place in 0..count {
+        let mut parents = SmallVec::new(alloc);
+        parents.push_reserved(index);
+        let birth = index.birth + 1 + place as u64;
+        let body = Body::Interval { place };
+        let key = nodes.insert_reserved(Node {
+            birth,
+            parents,
+            body,
+        });
+        ids.push_reserved(NodeId { key, birth });
+    }
+}
