@@ -3,7 +3,6 @@
 use crate::{Graph, Kind};
 use gl_modes::{NodeId, Refusal};
 use std::alloc::Global;
-use std::process::Abort;
 use std::test::Fail;
 
 /// A root, a file under it, and an index of the file with these bounds.
@@ -130,6 +129,11 @@ fn a_stale_name_names_nothing(rt: HostRuntime) -> Result<(), Fail> {
     assert_eq!(rt; graph.keys(old), [50].as_slice());
     remove(&mut graph, old);
     let new = graph.add_record(file, &[200])?;
+    graph.law();
+    if let Some(Kind::File) = graph.kind(file) {
+        assert!(rt; graph.has_records(file));
+        assert_eq!(rt; graph.indexes(file).len(), 1);
+    }
     assert_eq!(rt; new.key, old.key);
     assert_eq!(rt; graph.kind(old), None);
     assert_eq!(rt; graph.kind(new), Some(Kind::Rec));
@@ -152,52 +156,64 @@ fn no_path_closes(rt: HostRuntime) -> Result<(), Fail> {
     Ok(())
 }
 
-/// A new file, or a new index of it.
-fn make(graph: &mut Graph, db: NodeId, file: Option<NodeId>) -> Result<NodeId, Refusal> {
-    match file {
-        None => graph.add_file(&[db]),
-        Some(file) => graph.add_index(&[db], file, &[10, 20, 30]),
-    }
+/// What can be seen of these nodes: kind, number of parents, first parent, first key.
+#[derive(Clone, Copy, PartialEq, Debug)]
+struct Seen {
+    len: usize,
+    nodes: [Option<(Kind, usize, NodeId, u64)>; 8],
 }
 
-/// Asks once more where memory was refused; nothing may have changed by then.
-fn make_again(
-    rt: &impl Abort,
-    graph: &mut Graph,
-    db: NodeId,
-    file: Option<NodeId>,
-) -> Result<NodeId, Refusal> {
-    let before = graph.len();
-    match make(graph, db, file) {
-        Err(Refusal::NoMemory) => {
-            assert_eq!(rt; graph.len(), before);
-            make(graph, db, file)
+fn look(graph: &Graph, names: &[NodeId; 8]) -> Seen {
+    let mut nodes = [None; 8];
+    for (place, name) in nodes.iter_mut().zip(names) {
+        if let Some(kind) = graph.kind(*name) {
+            let parents = graph.parents(*name);
+            let parent = parents.first().copied().unwrap_or(NodeId::NONE);
+            let key = graph.keys(*name).first().copied().unwrap_or(0);
+            *place = Some((kind, parents.len(), parent, key));
         }
-        answer => answer,
+    }
+    Seen {
+        len: graph.len(),
+        nodes,
     }
 }
 
+/// One growth after the other: inner nodes below one another, a file under all of them, an index,
+/// records, and an inner node that moves.
+fn grow(graph: &mut Graph, step: usize, names: &[NodeId; 8]) -> Result<NodeId, Refusal> {
+    let [db, x, y, file, ..] = *names;
+    match step {
+        0 => graph.add_inner(&[]),
+        1 => graph.add_inner(&[db]),
+        2 => graph.add_inner(&[x]),
+        3 => graph.add_file(&[db, x, y]),
+        4 => graph.add_index(&[db, x, y], file, &[10, 20, 30]),
+        5 => graph.add_record(file, &[15]),
+        6 => move_under(graph, y, db).map(|()| y),
+        _ => graph.add_record(file, &[25]),
+    }
+}
+
+/// Where a growth is refused nothing has changed, and the same call made again goes on.
 #[test]
 fn a_refused_growth_changes_nothing(rt: HostRuntime) -> Result<(), Fail> {
     let mut graph = Graph::new(rt.alloc());
-    let db = match graph.add_inner(&[]) {
-        Err(Refusal::NoMemory) => {
-            assert_eq!(rt; graph.len(), 0);
-            graph.add_inner(&[])?
-        }
-        answer => answer?,
-    };
-    let file = make_again(&rt, &mut graph, db, None)?;
-    let index = make_again(&rt, &mut graph, db, Some(file))?;
-    let births = [db.birth, file.birth, index.birth];
-    assert_eq!(rt; births, [1, 2, 3]);
-    let rec = match graph.add_record(file, &[15]) {
-        Err(Refusal::NoMemory) => {
-            assert_eq!(rt; graph.len(), 7);
-            graph.add_record(file, &[15])?
-        }
-        answer => answer?,
-    };
-    assert_eq!(rt; rec.birth, 8);
+    let mut names = [NodeId::NONE; 8];
+    for step in 0..8 {
+        let before = look(&graph, &names);
+        names[step] = match grow(&mut graph, step, &names) {
+            Err(Refusal::NoMemory) => {
+                assert_eq!(rt; look(&graph, &names), before);
+                grow(&mut graph, step, &names)?
+            }
+            answer => answer?,
+        };
+    }
+    let births = [1, 2, 3, 4, 5, 10, 3, 11];
+    for (name, birth) in names.iter().zip(births) {
+        assert_eq!(rt; name.birth, birth);
+    }
+    assert_eq!(rt; graph.parents(names[2]), [names[0]].as_slice());
     Ok(())
 }
