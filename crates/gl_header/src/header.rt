@@ -205,6 +205,9 @@ impl Header {
 
     /// Takes a slot's grant away, and grants from the front of the queue. Answers whom it granted,
     /// in the queue's order.
+    ///
+    /// Linear in the members and the waiters; each waiting member that is let convert costs one pass
+    /// over the members more.
     pub fn drop_grant(&mut self, slot: u8) -> ArrayVec<(u8, Mode), SLOTS>
         requires holds { holds (members_of self.old) slot ≡ true }
         requires not_waiting { is_among_waiters slot self.old.queue ≡ false }
@@ -220,6 +223,9 @@ impl Header {
 
     /// Takes a slot's wait away, and grants from the front of the queue. Answers whom it granted, in
     /// the queue's order.
+    ///
+    /// Linear in the members and the waiters; each waiting member that is let convert costs one pass
+    /// over the members more.
     pub fn drop_wait(&mut self, slot: u8) -> ArrayVec<(u8, Mode), SLOTS>
         requires { is_among_waiters slot self.old.queue ≡ true }
         ensures granted { result.items ≡ front slot_limit (members_of self.old) (without_waiter slot self.old.queue) }
