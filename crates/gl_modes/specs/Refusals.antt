@@ -25,6 +25,7 @@ use Rattle.gl_modes.specs.declared.refusal.Refusal.TheVariants.{
   Cycle,
 }
 
+-- the number of a refusal, by which scripts tell it
 abbrev pub refusal_number : Refusal → ℕ
 refusal_number NoMemory = 1
 refusal_number NoSuchNode = 2
@@ -48,6 +49,7 @@ refusal_number WornOut = 19
 refusal_number BadLine = 20
 refusal_number (Cycle _) = 21
 
+-- its name, as scripts print it
 abbrev pub refusal_name : Refusal → List ℕ
 refusal_name NoMemory = codes "NoMemory"
 refusal_name NoSuchNode = codes "NoSuchNode"

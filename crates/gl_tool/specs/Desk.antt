@@ -18,6 +18,7 @@ Names = List (Text × ℕ)
 abbrev pub birth_of : Names → Text → Option ℕ
 birth_of names n = lookup (bytes_eq n) names
 
+-- the name stands for something
 abbrev pub is_in_use : Names → Text → Bool
 is_in_use names n = is_some (birth_of names n)
 
@@ -28,6 +29,7 @@ pub record State : Type 0 where
   pub held : ℕ → ℕ → Mode  -- by transaction and node, NL for no grant
   pub accepted : ℕ
 
+-- nothing is declared and nothing is held
 abbrev pub start : State
 start = record { nodes = []; txns = []; held = λ _ _. NL; accepted = 0 }
 
@@ -57,9 +59,11 @@ first_answer [] = None
 first_answer (None ∷ answers) = first_answer answers
 first_answer (Some a ∷ answers) = Some a
 
+-- a refusal, where the test fails
 abbrev pub refused_where : Bool → Refusal → Option Node → Option Answer
 refused_where b r who = if b then Some (Refused r who) else None
 
+-- the name that is to be declared is in use
 abbrev pub name_taken : Names → Text → Option Answer
 name_taken names n = refused_where (is_in_use names n) no.NameTaken (Some (Plain n))
 
@@ -67,12 +71,15 @@ name_taken names n = refused_where (is_in_use names n) no.NameTaken (Some (Plain
 abbrev pub worn_out : State → Option Answer
 worn_out s = refused_where (s.accepted == 2 ^ 64 - 1) no.WornOut None
 
+-- no living transaction has the name
 abbrev pub no_txn : State → Text → Option Answer
 no_txn s t = refused_where (not (is_in_use s.txns t)) no.NoSuchTxn (Some (Plain t))
 
+-- no node has the name
 abbrev pub no_node : State → Node → Option Answer
 no_node s n = refused_where (is_none (node_named s.nodes n)) no.NoSuchNode (Some n)
 
+-- no lock is asked
 abbrev pub bad_mode : Mode → Option Answer
 bad_mode m = refused_where (same_mode m NL) no.BadMode None
 
@@ -80,6 +87,7 @@ bad_mode m = refused_where (same_mode m NL) no.BadMode None
 abbrev pub wanted : State → ℕ → ℕ → Mode → Mode
 wanted s t n m = supremum (s.held t n) m
 
+-- the wanted mode is not compatible with what another transaction holds
 abbrev pub blocked_at : State → Option ℕ → Option ℕ → Mode → Option Answer
 blocked_at s (Some t) (Some n) m = refused_where (not (fits s.txns s.held t n (wanted s t n m))) no.WouldBlock None
 blocked_at s t n m = None
@@ -92,6 +100,7 @@ tests_of s (Try t m n) = worn_out s ∷ no_txn s t ∷ no_node s n ∷ bad_mode 
 tests_of s (Group n) = no_node s n ∷ []
 tests_of s (Commit t) = worn_out s ∷ no_txn s t ∷ []
 
+-- why a command is refused, if it is
 abbrev pub refusal_of : State → Command → Option Answer
 refusal_of s c = first_answer (tests_of s c)
 
@@ -99,9 +108,11 @@ refusal_of s c = first_answer (tests_of s c)
 abbrev pub with_name : Names → Text → ℕ → Names
 with_name names n birth = names ++ (n, birth) ∷ []
 
+-- the name is free again
 abbrev pub without_name : Names → Text → Names
 without_name names n = remove_entry (bytes_eq n) names
 
+-- the transaction holds the node in this mode
 abbrev pub granted : State → ℕ → ℕ → Mode → State
 granted s t n m = record s { held = λ u q. if (t == u) && (n == q) then m else s.held u q; accepted = s.accepted + 1 }
 
@@ -120,14 +131,17 @@ Grants s t n m answer s' =
     ((answer ≡ InMode m) × (s' ≡ granted s t n m))
     ⊎ ((same_mode (s.held t n) NL ≡ true) × (answer ≡ Refused no.NoMemory None) × (s' ≡ s))
 
+-- a lock that is granted at once
 abbrev pub Tried : State → Option ℕ → Option ℕ → Mode → Answer → State → Type 0
 Tried s (Some t) (Some n) m answer s' = (answer ≡ InMode (wanted s t n m)) × (s' ≡ granted s t n (wanted s t n m))
 Tried s t n m answer s' = ⊥
 
+-- the end of a living transaction
 abbrev pub Committed : State → Text → Option ℕ → Answer → State → Type 0
 Committed s name (Some t) answer s' = (answer ≡ Done) × (s' ≡ committed s name t)
 Committed s name None answer s' = ⊥
 
+-- the group mode of a node that is there
 abbrev pub ShowsGroup : State → Option ℕ → Answer → State → Type 0
 ShowsGroup s (Some n) answer s' = (answer ≡ InMode (group_of s.txns s.held n)) × (s' ≡ s)
 ShowsGroup s None answer s' = ⊥
@@ -145,12 +159,14 @@ abbrev pub holds_none : State → Option ℕ → Option ℕ → Bool
 holds_none s (Some t) (Some n) = same_mode (s.held t n) NL
 holds_none s t n = false
 
+-- where want of memory may be the answer
 abbrev pub may_want_memory : State → Command → Bool
 may_want_memory s (Inner n) = not (is_in_use s.nodes n)
 may_want_memory s (Begin t) = not (is_in_use s.txns t)
 may_want_memory s (Try t m n) = is_none (refusal_of s (Try t m n)) && holds_none s (birth_of s.txns t) (node_named s.nodes n)
 may_want_memory s c = false
 
+-- a refusal leaves all as it was
 abbrev pub Goes : State → Command → Option Answer → Answer → State → Type 0
 Goes s c (Some refused) answer s' = (answer ≡ refused) × (s' ≡ s)
 Goes s c None answer s' = Accepts s c answer s'

@@ -4,6 +4,7 @@ use Rattle.std.specs.List.{slice_split}
 use Rattle.gl_modes.specs.declared.mode.Mode.{Mode}
 use Rattle.gl_modes.specs.Modes.{mode_text}
 
+-- bytes
 abbrev pub Text : Type 0
 Text = List ℕ
 
@@ -37,9 +38,11 @@ pub record IsName (name : Text) : Type 0 where
   pub not_on : name ≢ codes "on"
   pub not_at : name ≢ codes "at"
 
+-- what a `u64` can be
 abbrev pub IsNumber : ℕ → Type 0
 IsNumber n = n < 2 ^ 64
 
+-- the names and numbers of a node are such
 abbrev pub IsNode : Node → Type 0
 IsNode (Plain n) = IsName n
 IsNode (Interval n k) = IsName n × IsNumber k
@@ -65,6 +68,7 @@ fields (Try t m n) = codes "try" ∷ t ∷ mode_text m ∷ node_text n ∷ []
 fields (Group n) = codes "group" ∷ node_text n ∷ []
 fields (Commit t) = codes "commit" ∷ t ∷ []
 
+-- the fields are those of the command
 abbrev pub SaysFields : List Text → Command → Type 0
 SaysFields all command = IsCommand command × (all ≡ fields command)
 

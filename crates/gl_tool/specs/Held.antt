@@ -13,6 +13,7 @@ abbrev pub Handed : Option (List ℕ) → Option (List ℕ) → List ℕ → Boo
 Handed old new held false text = (sent : List ℕ) × Appends old new sent × (text ≡ sent ++ held)
 Handed old new held true text = (sent : List ℕ) × Appends old new sent × ((rest : List ℕ) × (text ≡ sent ++ rest))
 
+-- the same of a sink
 abbrev pub Holds : Option (List ℕ) → Option (List ℕ) → Sink → List ℕ → Type 0
 Holds old new sink text = Handed old new sink.held.items sink.broken text
 

@@ -47,6 +47,7 @@ Run s (line ∷ lines) text t =
 abbrev pub IsOpen : Text → Type 0
 IsOpen line = All (λ b. b ≢ 10) line
 
+-- a line with its newline
 abbrev pub ended : Text → Text
 ended line = line ++ 10 ∷ []
 

@@ -23,6 +23,7 @@ pub record IsSoFar (first : Option (List ℕ)) (read : List ℕ) (w : Option (Li
   pub line : tool.line.items ≡ take 257 rest
   pub handed : Holds first w tool.sink text
 
+-- the same, for some lines, rest and text
 abbrev pub SoFar : Option (List ℕ) → List ℕ → Option (List ℕ) → Tool → Type 0
 SoFar first read w tool = (lines : List (List ℕ)) × (rest : List ℕ) × (text : List ℕ) × IsSoFar first read w tool lines rest text
 

@@ -21,13 +21,16 @@ use Rattle.gl_tool.specs.Desk.{Names, State, Answer, Silent, Done, InMode, Refus
 abbrev pub texts : List (Bor (List ℕ)) → List (List ℕ)
 texts fields = map (λ f. f.now) fields
 
+-- a node by its name, or an interval by its index and number
 abbrev pub node_in : Text → Option ℕ → Node
 node_in name None = Plain name
 node_in name (Some k) = Interval name k
 
+-- the node that a used name is
 abbrev pub node_of : Used → Node
 node_of used = node_in used.name.items used.interval
 
+-- the command of a form
 abbrev pub command_of : Form → Command
 command_of (form.Inner n) = Inner n.items
 command_of (form.Begin t) = Begin t.items
@@ -35,6 +38,7 @@ command_of (form.Try t m n) = Try t.items m (node_of n)
 command_of (form.Group n) = Group (node_of n)
 command_of (form.Commit t) = Commit t.items
 
+-- how a verb is spelt
 abbrev pub word : Verb → List ℕ
 word verb.Inner = codes "inner"
 word verb.Begin = codes "begin"
@@ -42,9 +46,11 @@ word verb.Try = codes "try"
 word verb.Group = codes "group"
 word verb.Commit = codes "commit"
 
+-- whom a refusal names
 abbrev pub who_of : Option Used → Option Node
 who_of who = option_map node_of who
 
+-- the answer that a reply is
 abbrev pub answer_of : Reply → Answer
 answer_of reply.Silent = Silent
 answer_of reply.Done = Done
@@ -63,6 +69,7 @@ same_place a b = (a.txn == b.txn) && (a.node == b.node)
 abbrev pub held_in : {S : Type 0} → IndexMap Place Mode S → ℕ → ℕ → Mode
 held_in grants t n = unwrap_or (get same_place grants (record { txn = t; node = n })) NL
 
+-- the state of the desk
 abbrev pub state_of : Desk → State
 state_of desk =
     record {
