@@ -1,0 +1,5 @@
+pub mod Header
+pub mod Entries
+pub mod State
+pub mod Answers
+pub mod Sound

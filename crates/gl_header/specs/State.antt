@@ -1,0 +1,73 @@
+-- What a contract sees of a header, and the law of every header.
+use Rattle.std.specs.Prelude.{◌≡◌, ◌≢◌, ℕ, Bool, true, not, ◌&&◌, List, [], ◌∷◌, Some}
+use Rattle.std.specs.List.{filter, list_all, range_with_len}
+use Rattle.gl_modes.specs.declared.mode.Mode.{Mode}
+use Rattle.gl_modes.specs.declared.mode.Mode.TheVariants.{NL}
+use Rattle.gl_modes.specs.Modes.{supremum, is_at_least}
+use Rattle.gl_header.specs.Header.{
+  Members,
+  Waiter,
+  IsCompatible,
+  IsWithin,
+  AreBelow,
+  holds,
+  group_of,
+  is_waiter,
+  is_among_waiters,
+  wanted_by,
+  is_ahead,
+  is_empty,
+  enters,
+  front,
+}
+use Rattle.gl_header.specs.Entries.{mode_at}
+
+-- slots are below this: 128, kept from unfolding so that no proof walks over every slot
+unfoldable pub slot_limit : ℕ
+slot_limit = 128
+
+-- the members' slots with their modes, the waiters from the front on, and the group mode that is kept
+pub record HeaderState : Type 0 where
+  pub members : List Waiter
+  pub queue : List Waiter
+  pub group : Mode
+
+-- who holds what
+abbrev pub members_of : HeaderState → Members
+members_of h = λ t. mode_at h.members t
+
+-- the wanted mode: the held one raised by the asked one
+abbrev pub wanted : HeaderState → ℕ → Mode → Mode
+wanted h t m = supremum (members_of h t) m
+
+-- an ask is granted at once
+abbrev pub is_granted : HeaderState → ℕ → Mode → Bool
+is_granted h t m = enters slot_limit (members_of h) h.queue t (wanted h t m)
+
+-- nobody below the limit is a member
+abbrev pub nobody_holds : ℕ → Members → Bool
+nobody_holds most g = list_all (λ t. not (holds g t)) (range_with_len 0 most)
+
+-- nobody holds and nobody waits
+abbrev pub is_unused : HeaderState → Bool
+is_unused h = nobody_holds slot_limit (members_of h) && is_empty h.queue
+
+-- the law of every header
+pub record IsLawfulHeader (h : HeaderState) : Type 0 where
+  -- what different slots hold is compatible
+  pub compatible : IsCompatible (members_of h)
+  -- the list of members has each member and nobody else
+  pub listed : (t : ℕ) → is_among_waiters t h.members ≡ holds (members_of h) t
+  -- slots are below 128
+  pub members_below : IsWithin 128 (members_of h)
+  pub waiters_below : AreBelow 128 h.queue
+  -- nobody waits twice
+  pub one_wait : (t : ℕ) (m : Mode) → wanted_by h.queue t ≡ Some m → filter (is_waiter t) h.queue ≡ (t, m) ∷ []
+  -- a wanted mode is a lock, and the held mode or greater
+  pub wanted_rises : (t : ℕ) (m : Mode) → wanted_by h.queue t ≡ Some m → (m ≢ NL) × (is_at_least m (members_of h t) ≡ true)
+  -- members who wait stand ahead of all newcomers
+  pub holders_first : (t u : ℕ) → holds (members_of h) t ≡ true → is_ahead h.queue t u ≡ true → holds (members_of h) u ≡ true
+  -- the first waiter does not fit
+  pub front_waits : front slot_limit (members_of h) h.queue ≡ []
+  -- the group mode is the supremum of the members' modes
+  pub group_is : h.group ≡ group_of slot_limit (members_of h)
