@@ -1,0 +1,173 @@
+-- Nodes are born: the old ones are as they were, and the law of the graph is kept.
+use Rattle.std.specs.Prelude.{◌≡◌, ◌≢◌, ◌⊎◌, ℕ, zero, suc, ◌+◌, ◌-◌, ◌<◌, ◌≤◌, true, false, List, [], ◌∷◌, ◌++◌, length, Option, Some, None, is_some, if◌then◌else◌}
+use Rattle.std.specs.List.{list_any, filter_map, range_with_len}
+use Rattle.std.proofs.lemmas.List.Elements.{filter_map-append}
+use Rattle.std.proofs.lemmas.List.FromFn.{length-range_with_len}
+use Rattle.std.proofs.lemmas.List.{length-append}
+use Rattle.std.proofs.Common.{refl, sym, ap, ◌∙◌, subst, arith, rules, inl, inr, ⊎_elim}
+use Rattle.gl_modes.specs.declared.node.NodeId.{NodeId}
+use Rattle.gl_modes.specs.Nodes.{same_node}
+use Rattle.gl_graph.specs.Shapes.{is_record_shape, is_index_of_shape}
+use Rattle.gl_graph.specs.Graph.{Graph, Node, id_of, nodes, node_count, with_key, node_at, is_live, parents_in, shape_in, shape_of, is_child, indexes_of, IsFreeKey}
+use Rattle.gl_graph.specs.Lawful.{IsWellFormed, IsLawfulGraph}
+use Rattle.gl_graph.specs.Changes.{born_node, born_nodes}
+use Rattle.gl_graph.proofs.Look.{split, cases_of, no, none_some, number_same, number_other, node_is, found_at, finds, live_node, there_is, child_node}
+use Rattle.gl_graph.proofs.KindRules.{Frames, well_formed_kept, plain_live}
+use Rattle.gl_graph.proofs.Listings.{kept, index_born, indexes_are, range_append, map_same, map_short}
+use Rattle.gl_graph.proofs.Routes.{acyclic_beside}
+
+-- the node at this place of those that are born
+abbrev pub place_in : List Node → ℕ → Option Node
+place_in [] k = None
+place_in (n ∷ ns) zero = Some n
+place_in (n ∷ ns) (suc k) = place_in ns k
+
+pub place_below : (ns : List Node) (k : ℕ) (node : Node) → place_in ns k ≡ Some node → k < length ns
+place_below [] k node e = absurd (none_some e)
+place_below (n ∷ ns) zero node e = omega arith
+place_below (n ∷ ns) (suc k) node e = let low = place_below ns k node e in omega arith
+
+pub births_are : (g : Graph) (ns : List Node) → (born_nodes g ns).births ≡ g.births + length ns
+births_are g [] = omega arith
+births_are g (n ∷ ns) = let rest = births_are (born_node g n) ns in omega arith
+
+pub old_at : (g : Graph) (ns : List Node) (b : ℕ) → b ≤ g.births → (born_nodes g ns).at b ≡ g.at b
+old_at g [] b low = refl
+old_at g (n ∷ ns) b low = old_at (born_node g n) ns b (omega arith) ∙ ap (λ x. if x then Some n else g.at b) (let ne : b ≢ g.births + 1 = omega arith in number_other b (g.births + 1) ne)
+
+pub new_at : (g : Graph) (ns : List Node) (k b : ℕ) → ((c : ℕ) → g.births < c → g.at c ≡ None) → b ≡ g.births + 1 + k → (born_nodes g ns).at b ≡ place_in ns k
+new_at g [] k b none e = none b (omega arith)
+new_at g (n ∷ ns) zero b none e =
+    let here : b ≡ g.births + 1 = omega arith in
+    old_at (born_node g n) ns b (omega arith) ∙ ap (λ x. if x then Some n else g.at b) (number_same b (g.births + 1) here)
+new_at g (n ∷ ns) (suc k) b none e =
+    new_at (born_node g n) ns k b (λ c low. let ne : c ≢ g.births + 1 = omega arith in ap (λ x. if x then Some n else g.at c) (number_other c (g.births + 1) ne) ∙ none c (omega arith)) (omega arith)
+
+module _ (g : Graph) (law : IsLawfulGraph g) (ns : List Node) where
+  abbrev pub grown : Graph
+  grown = born_nodes g ns
+
+  pub none_above : (c : ℕ) → g.births < c → g.at c ≡ None
+  none_above c low = cases_of (g.at c) (λ e. e) (λ x e. let b = law.born c (there_is (g.at c) x e) in absurd (omega arith))
+
+  pub old_below : (q : NodeId) → is_live g q ≡ true → q.birth ≤ g.births
+  old_below q h = let n = live_node (node_at g q) h in (law.born q.birth (there_is (g.at q.birth) n.0 (found_at g q n.0 n.1).0)).1
+
+  pub old_same : (q : NodeId) → is_live g q ≡ true → node_at grown q ≡ node_at g q
+  old_same q h = ap (with_key q.key) (old_at g ns q.birth (old_below q h))
+
+  abbrev pub new_id : Node → ℕ → NodeId
+  new_id node k = record { key = node.key; birth = g.births + 1 + k }
+
+  pub new_node : (k : ℕ) (node : Node) → place_in ns k ≡ Some node → node_at grown (new_id node k) ≡ Some node
+  new_node k node e = finds node.key (grown.at (g.births + 1 + k)) node (new_at g ns k (g.births + 1 + k) none_above refl ∙ e) refl
+
+  -- a node is an old one, or one of those that were born
+  pub old_or_new : {C : Type 0} (q : NodeId) (node : Node) → node_at grown q ≡ Some node → (node_at g q ≡ Some node → C) → ((k : ℕ) → place_in ns k ≡ Some node → q ≡ new_id node k → C) → C
+  old_or_new q node e was is =
+      let at = found_at grown q node e in
+      ⊎_elim (λ (low : q.birth ≤ g.births). was (finds q.key (g.at q.birth) node (sym (old_at g ns q.birth low) ∙ at.0) at.1))
+      (λ (high : g.births < q.birth).
+      let k : ℕ = q.birth - (g.births + 1) in
+      let birth : q.birth ≡ g.births + 1 + (q.birth - (g.births + 1)) = omega arith in
+      is (q.birth - (g.births + 1)) (sym (new_at g ns (q.birth - (g.births + 1)) q.birth none_above birth) ∙ at.0) (node_is q (new_id node (q.birth - (g.births + 1))) (sym at.1) birth))
+      (below q.birth g.births)
+    where
+      below : (a b : ℕ) → (a ≤ b) ⊎ (b < a)
+      below a b = search rules
+
+  pub new_not_old : (k : ℕ) (node : Node) → is_live g (new_id node k) ≡ true → ⊥
+  new_not_old k node h = let low = old_below (new_id node k) h in absurd (omega arith)
+
+  old_index : (f : NodeId) (b : ℕ) → b ≤ g.births → index_born grown f b ≡ index_born g f b
+  old_index f b low = ap (λ o. kept (λ q. is_index_of_shape f (shape_of grown q)) (id_of b o)) (old_at g ns b low) ∙ by (g.at b)
+    where
+      by : (o : Option Node) → kept (λ q. is_index_of_shape f (shape_of grown q)) (id_of b o) ≡ kept (λ q. is_index_of_shape f (shape_of g q)) (id_of b o)
+      by None = refl
+      by (Some x) =
+          let id : NodeId = record { key = x.key; birth = b } in
+          ap (λ o. if is_index_of_shape f (shape_in o) then Some id else None) (ap (with_key x.key) (old_at g ns b low))
+
+  pub parts : (h : ℕ → Option NodeId) → filter_map h (range_with_len 1 grown.births) ≡ filter_map h (range_with_len 1 g.births) ++ filter_map h (range_with_len (g.births + 1) (length ns))
+  parts h = let births = births_are g ns in ap (filter_map h) (range_append 1 g.births (length ns) grown.births (g.births + 1) (omega arith) (omega arith)) ∙ filter_map-append h (range_with_len 1 g.births) (range_with_len (g.births + 1) (length ns))
+
+  -- the indexes that are born
+  abbrev pub new_indexes : NodeId → List NodeId
+  new_indexes f = filter_map (index_born grown f) (range_with_len (g.births + 1) (length ns))
+
+  pub indexes_grown : (f : NodeId) → indexes_of grown f ≡ indexes_of g f ++ new_indexes f
+  indexes_grown f =
+      indexes_are grown f ∙ parts (index_born grown f)
+      ∙ ap (λ xs. xs ++ new_indexes f) (map_same (index_born g f) (index_born grown f) 1 g.births (λ b low high. old_index f b (omega arith)) ∙ sym (indexes_are g f))
+
+  -- which of them is one of f
+  pub new_index : (f : NodeId) (k : ℕ) (node : Node) → place_in ns k ≡ Some node → index_born grown f (g.births + 1 + k) ≡ (if is_index_of_shape f (Some node.shape) then Some (new_id node k) else None)
+  new_index f k node e =
+      ap (λ o. kept (λ q. is_index_of_shape f (shape_of grown q)) (id_of (g.births + 1 + k) o)) (new_at g ns k (g.births + 1 + k) none_above refl ∙ e)
+      ∙ ap (λ o. if is_index_of_shape f (shape_in o) then Some (new_id node k) else None) (new_node k node e)
+
+  count_grown : node_count grown ≤ node_count g + length ns
+  count_grown =
+      let h : ℕ → Option NodeId = λ b. id_of b (grown.at b) in
+      let all : length (nodes grown) ≡ length (filter_map h (range_with_len 1 g.births)) + length (filter_map h (range_with_len (g.births + 1) (length ns)))
+      = ap length (parts h) ∙ length-append (filter_map h (range_with_len 1 g.births)) (filter_map h (range_with_len (g.births + 1) (length ns))) in
+      let old : length (filter_map h (range_with_len 1 g.births)) ≡ node_count g = ap length (map_same (λ b. id_of b (g.at b)) h 1 g.births (λ b low high. ap (id_of b) (old_at g ns b (omega arith)))) in
+      let new = map_short h (range_with_len (g.births + 1) (length ns)) in
+      let many = length-range_with_len (g.births + 1) (length ns) in
+      omega arith
+
+  abbrev pub IsFresh : NodeId → Type 0
+  IsFresh p = (is_live g p ≡ true) ⊎ ((is_live grown p ≡ true) × ((q : NodeId) → is_child grown q p ≡ true → is_live g q ≡ true))
+
+  module _ (indexes : (f r : NodeId) → is_record_shape (shape_of g r) ≡ true → is_child g f r ≡ true → indexes_of grown f ≡ indexes_of g f) where
+    pub born_frames : Frames g grown
+    born_frames = record {
+      shapes = λ q h. ap shape_in (old_same q (plain_live g q h));
+      intervals = λ q place node e shape. old_same q (ap is_some e) ∙ e;
+      indexes = indexes;
+    }
+
+    module _ (well : (k : ℕ) (node : Node) → place_in ns k ≡ Some node → IsWellFormed grown (new_id node k) node)
+        (up : (k : ℕ) (node : Node) (p : NodeId) → place_in ns k ≡ Some node → list_any (same_node p) node.parents ≡ true → IsFresh p)
+        (free : (k : ℕ) (node : Node) → place_in ns k ≡ Some node → IsFreeKey g node.key)
+        (differ : (j k : ℕ) (a b : Node) → place_in ns j ≡ Some a → place_in ns k ≡ Some b → a.key ≡ b.key → j ≡ k)
+        (seven : (f : NodeId) → length (indexes_of grown f) ≤ 7) (room : node_count g + length ns ≤ 65536) where
+      old_child : (p n : NodeId) → is_live g n ≡ true → is_child grown p n ≡ true → is_child g p n ≡ true
+      old_child p n h k = sym (ap (λ o. list_any (same_node p) (parents_in o)) (old_same n h)) ∙ k
+
+      live_later : (p : NodeId) → is_live g p ≡ true → is_live grown p ≡ true
+      live_later p h = ap is_some (old_same p h) ∙ h
+
+      new_child : (p n : NodeId) → is_live g n ≡ false → is_child grown p n ≡ true → IsFresh p
+      new_child p n h k =
+          let c = child_node grown n p k in
+          old_or_new n c.0 c.1 (λ e. absurd (no (sym h ∙ ap is_some e))) (λ j e same. up j c.0 p e c.2)
+
+      pub born_lawful : IsLawfulGraph grown
+      born_lawful = record {
+        well_formed = λ q node e. old_or_new q node e (λ was. well_formed_kept g grown law born_frames q node was) (λ k at same. subst (λ x. IsWellFormed grown x node) (sym same) (well k node at));
+        parents_live = λ n p h. split (is_live g n) (λ old. live_later p (law.parents_live n p (old_child p n old h)))
+            (λ new. ⊎_elim (live_later p) (λ (both : (is_live grown p ≡ true) × ((q : NodeId) → is_child grown q p ≡ true → is_live g q ≡ true)). both.0) (new_child p n new h));
+        acyclic = acyclic_beside g grown (λ p n h. law.parents_live n p h) old_child
+            (λ p n h k. ⊎_elim inl (λ (both : (is_live grown p ≡ true) × ((q : NodeId) → is_child grown q p ≡ true → is_live g q ≡ true)). inr both.1) (new_child p n h k)) law.acyclic;
+        keys_differ = λ a b h k e.
+            let x = live_node (node_at grown a) h in
+            let y = live_node (node_at grown b) k in
+            old_or_new a x.0 x.1
+            (λ was_a. old_or_new b y.0 y.1 (λ was_b. law.keys_differ a b (ap is_some was_a) (ap is_some was_b) e)
+            (λ j at same. absurd (free j y.0 at a (ap is_some was_a) (e ∙ ap (λ q. q.key) same))))
+            (λ i at_a same_a. old_or_new b y.0 y.1 (λ was_b. absurd (free i x.0 at_a b (ap is_some was_b) (sym e ∙ ap (λ q. q.key) same_a)))
+            (λ j at_b same_b.
+            let keys : x.0.key ≡ y.0.key = sym (ap (λ q. q.key) same_a) ∙ e ∙ ap (λ q. q.key) same_b in
+            let place : i ≡ j = differ i j x.0 y.0 at_a at_b keys in
+            same_a ∙ (λ l. record { key = keys l; birth = g.births + 1 + place l }) ∙ sym same_b));
+        born = λ b h.
+            let x = live_node (grown.at b) h in
+            let id : NodeId = record { key = x.0.key; birth = b } in
+            let births = births_are g ns in
+            old_or_new id x.0 (finds x.0.key (grown.at b) x.0 x.1 refl)
+            (λ was. let old = law.born b (there_is (g.at b) x.0 (found_at g id x.0 was).0) in (old.0, omega arith))
+            (λ k at same. let low = place_below ns k x.0 at in let birth : b ≡ g.births + 1 + k = ap (λ q. q.birth) same in (omega arith, omega arith));
+        seven_indexes = seven;
+        room = let few = count_grown in omega arith;
+      }

@@ -1,0 +1,165 @@
+-- What the kinds ask is kept where files, indexes, intervals and inner nodes are as they were: one lemma for each kind.
+use Rattle.std.specs.Prelude.{◌≡◌, ℕ, ◌≤◌, Bool, true, false, nat_le, List, [], ◌∷◌, length, Option, Some, None}
+use Rattle.std.specs.List.{list_all, list_any}
+use Rattle.std.proofs.lemmas.List.Sums.{count_by-le-length}
+use Rattle.std.proofs.Common.{refl, sym, ap, ap₂, ◌∙◌, subst, arith, rules}
+use Rattle.gl_modes.specs.declared.node.NodeId.{NodeId}
+use Rattle.gl_modes.specs.Nodes.{same_node}
+use Rattle.gl_graph.specs.Shapes.{Shape, Inner, File, Index, Interval, Rec, is_inner_shape, is_file_shape, is_record_shape, is_index_shape, is_index_of_shape, bounds_in}
+use Rattle.gl_graph.specs.Graph.{Graph, Node, nodes, node_at, is_live, shape_in, shape_of, parents_in, is_child, indexes_of, interval, interval_of, interval_place, intervals_of, record_parents, key_or_zero}
+use Rattle.gl_graph.specs.Lawful.{are_inner, AreInnerParents, IsIndexNode, HasShape, IsWellFormed, IsLawfulGraph}
+use Rattle.gl_graph.proofs.Look.{cases_of, or_elim, or_left, and_both, both, no, node_is, same_node_is, same_node_refl, all_at, all_filter, found_at, shaped_node, child_node, there_is}
+
+-- a living node that is no record
+abbrev pub is_plain : Option Shape → Bool
+is_plain None = false
+is_plain (Some (Rec keys)) = false
+is_plain (Some s) = true
+
+pub inner_plain : (o : Option Shape) → is_inner_shape o ≡ true → is_plain o ≡ true
+inner_plain o h = search rules
+
+pub file_plain : (o : Option Shape) → is_file_shape o ≡ true → is_plain o ≡ true
+file_plain o h = search rules
+
+pub index_plain : (o : Option Shape) → is_index_shape o ≡ true → is_plain o ≡ true
+index_plain o h = search rules
+
+pub plain_live : (g : Graph) (q : NodeId) → is_plain (shape_of g q) ≡ true → is_live g q ≡ true
+plain_live g q h = cases_of (node_at g q) (λ e. absurd (no (sym (ap (λ o. is_plain (shape_in o)) e) ∙ h))) (λ x e. there_is (node_at g q) x e)
+
+pub rec_not_plain : (o : Option Shape) → is_record_shape o ≡ true → is_plain o ≡ true → ⊥
+rec_not_plain None h k = no h
+rec_not_plain (Some Inner) h k = no h
+rec_not_plain (Some File) h k = no h
+rec_not_plain (Some (Index file bounds)) h k = no h
+rec_not_plain (Some (Interval place)) h k = no h
+rec_not_plain (Some (Rec keys)) h k = no k
+
+-- an index of a file
+pub index_of : (f : NodeId) (o : Option Shape) → is_index_of_shape f o ≡ true → (file : NodeId) × (bounds : List ℕ) × (o ≡ Some (Index file bounds))
+index_of f None h = absurd (no h)
+index_of f (Some Inner) h = absurd (no h)
+index_of f (Some File) h = absurd (no h)
+index_of f (Some (Index file bounds)) h = (file, bounds, refl)
+index_of f (Some (Interval place)) h = absurd (no h)
+index_of f (Some (Rec keys)) h = absurd (no h)
+
+-- what the kinds of the nodes that were there read is as it was
+pub record Frames (g g' : Graph) : Type 0 where
+  pub shapes : (q : NodeId) → is_plain (shape_of g q) ≡ true → shape_of g' q ≡ shape_of g q
+  pub intervals : (q : NodeId) (place : ℕ) (node : Node) → node_at g q ≡ Some node → node.shape ≡ Interval place → node_at g' q ≡ Some node
+  pub indexes : (f r : NodeId) → is_record_shape (shape_of g r) ≡ true → is_child g f r ≡ true → indexes_of g' f ≡ indexes_of g f
+
+module _ (g : Graph) (law : IsLawfulGraph g) where
+  -- what a node of each kind is
+  pub index_node : (n f : NodeId) (bs : List ℕ) → shape_of g n ≡ Some (Index f bs) → IsIndexNode g n f bs
+  index_node n f bs e =
+      let there = shaped_node g n (Index f bs) e in
+      let well = law.well_formed n there.0 there.1 in
+      (subst (λ sh. HasShape g n sh there.0.parents) there.2 well).1
+
+  -- the interval of an index in which a key lies
+  pub interval_is : (f i : NodeId) (k : ℕ) → is_index_of_shape f (shape_of g i) ≡ true → node_at g (interval_of g i k) ≡ Some (record { key = (interval_of g i k).key; shape = Interval (interval_place (bounds_in (shape_of g i)) k); parents = i ∷ [] })
+  interval_is f i k h =
+      let index = index_of f (shape_of g i) h in
+      let node = index_node i index.0 index.1 index.2 in
+      let low : interval_place (bounds_in (shape_of g i)) k ≤ length (bounds_in (shape_of g i)) = count_by-le-length (λ b. nat_le b k) (bounds_in (shape_of g i)) in
+      let few : length (bounds_in (shape_of g i)) ≡ length index.1 = ap (λ o. length (bounds_in o)) index.2 in
+      node.intervals (interval_place (bounds_in (shape_of g i)) k) (omega arith)
+
+  -- no record is a parent
+  among_intervals : (f p : NodeId) (is : List NodeId) (keys : List ℕ) → list_all (λ i. is_index_of_shape f (shape_of g i)) is ≡ true → list_any (same_node p) (intervals_of g is keys) ≡ true → is_plain (shape_of g p) ≡ true
+  among_intervals f p [] keys h k = absurd (no k)
+  among_intervals f p (i ∷ is) [] h k = absurd (no k)
+  among_intervals f p (i ∷ is) (key ∷ keys) h k =
+      let t = and_both _ _ h in
+      or_elim _ _ k
+      (λ here. let it = interval_is f i key t.0 in ap (λ q. is_plain (shape_of g q)) (same_node_is p _ here) ∙ ap (λ o. is_plain (shape_in o)) it)
+      (λ there. among_intervals f p is keys t.1 there)
+
+  pub record_parent_plain : (f p : NodeId) (keys : List ℕ) → is_file_shape (shape_of g f) ≡ true → list_any (same_node p) (record_parents g f keys) ≡ true → is_plain (shape_of g p) ≡ true
+  record_parent_plain f p keys h k =
+      or_elim _ _ k
+      (λ here. ap (λ q. is_plain (shape_of g q)) (same_node_is p f here) ∙ file_plain _ h)
+      (λ there. among_intervals f p (indexes_of g f) keys (all_filter (λ i. is_index_of_shape f (shape_of g i)) (nodes g)) there)
+
+  parent_plain_of : (sh : Shape) (ps : List NodeId) (n p : NodeId) → HasShape g n sh ps → list_any (same_node p) ps ≡ true → is_plain (shape_of g p) ≡ true
+  parent_plain_of Inner ps n p h k = inner_plain _ (all_at (λ q. is_inner_shape (shape_of g q)) ps p k h.inner)
+  parent_plain_of File ps n p h k = inner_plain _ (all_at (λ q. is_inner_shape (shape_of g q)) ps p k h.inner)
+  parent_plain_of (Index f bs) ps n p h k = inner_plain _ (all_at (λ q. is_inner_shape (shape_of g q)) ps p k h.0.inner)
+  parent_plain_of (Interval place) ps n p h k =
+      or_elim _ _ (sym (ap (list_any (same_node p)) h.1) ∙ k) (λ here. ap (λ q. is_plain (shape_of g q)) (same_node_is p h.0 here) ∙ index_plain _ h.2) (λ none. absurd (no none))
+  parent_plain_of (Rec keys) ps n p h k = record_parent_plain h.0 p keys h.1.file_is (sym (ap (list_any (same_node p)) h.1.parents) ∙ k)
+
+  pub parent_plain : (n p : NodeId) → is_child g p n ≡ true → is_plain (shape_of g p) ≡ true
+  parent_plain n p h = let c = child_node g n p h in parent_plain_of c.0.shape c.0.parents n p (law.well_formed n c.0 c.1) c.2
+
+module _ (g g' : Graph) (law : IsLawfulGraph g) (same : Frames g g') where
+  inner_kept : (ps : List NodeId) → are_inner g ps ≡ true → are_inner g' ps ≡ true
+  inner_kept [] h = refl
+  inner_kept (p ∷ ps) h =
+      let t = and_both _ _ h in
+      both _ _ (ap is_inner_shape (same.shapes p (inner_plain _ t.0)) ∙ t.0) (inner_kept ps t.1)
+
+  pub parents_kept : (least : ℕ) (ps : List NodeId) → AreInnerParents g least ps → AreInnerParents g' least ps
+  parents_kept least ps a = record { enough = a.enough; few = a.few; inner = inner_kept ps a.inner; distinct = a.distinct }
+
+  pub interval_kept : (n : NodeId) (place : ℕ) (node : Node) → node_at g (interval g n place) ≡ Some node → node.shape ≡ Interval place → interval g' n place ≡ interval g n place
+  interval_kept n place node e shape =
+      let was = found_at g (interval g n place) node e in
+      let is = found_at g' (interval g n place) node (same.intervals (interval g n place) place node e shape) in
+      node_is (interval g' n place) (interval g n place) (ap key_or_zero (is.0 ∙ sym was.0)) refl
+
+  pub index_kept : (n f : NodeId) (bs : List ℕ) → IsIndexNode g n f bs → IsIndexNode g' n f bs
+  index_kept n f bs h = record {
+    file = ap is_file_shape (same.shapes f (file_plain _ h.file)) ∙ h.file;
+    few = h.few;
+    rising = h.rising;
+    intervals = λ place low.
+        let e = h.intervals place low in
+        subst (λ q. node_at g' q ≡ Some (record { key = q.key; shape = Interval place; parents = n ∷ [] })) (sym (interval_kept n place _ e refl)) (same.intervals (interval g n place) place _ e refl);
+  }
+
+  pub intervals_kept : (f : NodeId) (is : List NodeId) (keys : List ℕ) → list_all (λ i. is_index_of_shape f (shape_of g i)) is ≡ true → intervals_of g' is keys ≡ intervals_of g is keys
+  intervals_kept f [] keys h = refl
+  intervals_kept f (i ∷ is) [] h = refl
+  intervals_kept f (i ∷ is) (key ∷ keys) h =
+      let t = and_both _ _ h in
+      let it = interval_is g law f i key t.0 in
+      let index = index_of f (shape_of g i) t.0 in
+      let shape : shape_of g' i ≡ shape_of g i = same.shapes i (ap is_plain index.2) in
+      let one : interval_of g' i key ≡ interval_of g i key =
+      ap (λ o. interval g' i (interval_place (bounds_in o) key)) shape ∙ interval_kept i (interval_place (bounds_in (shape_of g i)) key) _ it refl in
+      ap₂ (λ x xs. x ∷ xs) one (intervals_kept f is keys t.1)
+
+  pub record_parents_kept : (f : NodeId) (keys : List ℕ) → indexes_of g' f ≡ indexes_of g f → record_parents g' f keys ≡ record_parents g f keys
+  record_parents_kept f keys e =
+      ap (λ xs. f ∷ xs) (ap (λ is. intervals_of g' is keys) e ∙ intervals_kept f (indexes_of g f) keys (all_filter (λ i. is_index_of_shape f (shape_of g i)) (nodes g)))
+
+  -- what its kind asks of a node is kept
+  pub shape_kept : (sh : Shape) (ps : List NodeId) (n : NodeId) (node : Node) → node_at g n ≡ Some node → node.shape ≡ sh → node.parents ≡ ps → HasShape g n sh ps → HasShape g' n sh ps
+  shape_kept Inner ps n node e es ep h = parents_kept 0 ps h
+  shape_kept File ps n node e es ep h = parents_kept 1 ps h
+  shape_kept (Index f bs) ps n node e es ep h = (parents_kept 1 ps h.0, index_kept n f bs h.1)
+  shape_kept (Interval place) ps n node e es ep h =
+      let shape : shape_of g' h.0 ≡ shape_of g h.0 = same.shapes h.0 (index_plain _ h.2) in (
+        h.0,
+        h.1,
+        ap is_index_shape shape ∙ h.2,
+        subst (λ o. place ≤ length (bounds_in o)) (sym shape) h.3,
+        h.4 ∙ sym (interval_kept h.0 place node (subst (λ q. node_at g q ≡ Some node) h.4 e) es),
+      )
+  shape_kept (Rec keys) ps n node e es ep h =
+      let child : is_child g h.0 n ≡ true = ap (λ o. list_any (same_node h.0) (parents_in o)) e ∙ ap (list_any (same_node h.0)) (ep ∙ h.1.parents) ∙ or_left _ _ (same_node_refl h.0) in
+      let rec : is_record_shape (shape_of g n) ≡ true = ap (λ o. is_record_shape (shape_in o)) e ∙ ap (λ x. is_record_shape (Some x)) es in (
+        h.0,
+        record {
+          file_is = ap is_file_shape (same.shapes h.0 (file_plain _ h.1.file_is)) ∙ h.1.file_is;
+          a_key_each = h.1.a_key_each ∙ ap length (sym (same.indexes h.0 n rec child));
+          parents = h.1.parents ∙ sym (record_parents_kept h.0 keys (same.indexes h.0 n rec child));
+        },
+      )
+
+  pub well_formed_kept : (n : NodeId) (node : Node) → node_at g n ≡ Some node → IsWellFormed g' n node
+  well_formed_kept n node e = shape_kept node.shape node.parents n node e refl refl (law.well_formed n node e)

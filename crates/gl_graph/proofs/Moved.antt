@@ -1,0 +1,138 @@
+-- The law of the graph is kept where an inner node, a file or an index moves, and where a record gets another key.
+use Rattle.std.specs.Prelude.{◌≡◌, ℕ, zero, suc, ◌≤◌, Bool, true, false, not, ◌==◌, List, [], ◌∷◌, length, Option, Some, if◌then◌else◌}
+use Rattle.std.specs.List.{list_all, list_any}
+use Rattle.std.proofs.Math.Path.{fun_ext}
+use Rattle.std.proofs.Common.{refl, sym, ap, ◌∙◌, subst, arith}
+use Rattle.gl_modes.specs.declared.node.NodeId.{NodeId}
+use Rattle.gl_modes.specs.Nodes.{same_node}
+use Rattle.gl_graph.specs.Shapes.{Shape, Inner, File, Index, Interval, Rec, is_file_shape, is_record_shape, is_index_of_shape, is_movable_shape, keys_in}
+use Rattle.gl_graph.specs.Graph.{Graph, Node, node_count, node_at, is_live, parents_in, parents_of, shape_in, shape_of, is_child, indexes_of, record_parents, first_in, first_parent}
+use Rattle.gl_graph.specs.Routes.{IsRoute, is_at_or_below}
+use Rattle.gl_graph.specs.Lawful.{AreInnerParents, HasShape, IsLawfulGraph}
+use Rattle.gl_graph.specs.Changes.{with_node, reparented, with_parents, keys_with, rekeyed_keys, rekeyed_parents, rekeyed_node, rekeyed}
+use Rattle.gl_graph.specs.Shapes.{least_parents}
+use Rattle.gl_graph.proofs.Look.{split, or_elim, or_left, or_right, no, same_number, number_same, same_node_is, is_same_node, same_node_refl, all_at, found_at}
+use Rattle.gl_graph.proofs.KindRules.{Frames, is_plain, file_plain, plain_live, rec_not_plain, parent_plain, record_parent_plain, parents_kept, index_kept, record_parents_kept}
+use Rattle.gl_graph.proofs.Changed.{IsAlike, changed_frames, changed_lawful, indexes_same}
+use Rattle.gl_graph.proofs.RouteLengths.{route_short}
+
+pub some_at : (q : NodeId → Bool) (ps : List NodeId) (p : NodeId) → list_any (same_node p) ps ≡ true → q p ≡ true → list_any q ps ≡ true
+some_at q [] p h k = absurd (no h)
+some_at q (x ∷ xs) p h k = or_elim _ _ h (λ here. or_left (q x) _ (ap q (sym (same_node_is p x here)) ∙ k)) (λ there. or_right (q x) _ (some_at q xs p there k))
+
+-- p is n or has a route to n: by at most k steps, both ways
+pub below_found : (g : Graph) (n : NodeId) (k : ℕ) (p : NodeId) (way : List NodeId) → length way ≤ k → IsRoute g p way n → is_at_or_below k g n p ≡ true
+below_found g n zero p [] few r = is_same_node n p (sym r)
+below_found g n zero p (q ∷ way) few r = absurd (omega arith)
+below_found g n (suc k) p [] few r = or_left _ _ (is_same_node n p (sym r))
+below_found g n (suc k) p (q ∷ way) few r = or_right (same_node n p) _ (some_at (is_at_or_below k g n) (parents_of g p) q r.0 (below_found g n k q way (omega arith) r.1))
+
+pub below_route : (g : Graph) (n : NodeId) (k : ℕ) (p : NodeId) → is_at_or_below k g n p ≡ true → (way : List NodeId) × IsRoute g p way n
+below_route g n zero p h = ([], sym (same_node_is n p h))
+below_route g n (suc k) p h =
+    or_elim _ _ h (λ here. ([], sym (same_node_is n p here))) (λ up.
+    let step = some_parent (is_at_or_below k g n) (parents_of g p) up in
+    let rest = below_route g n k step.0 step.2 in
+    (step.0 ∷ rest.0, (step.1, rest.1)))
+  where
+    some_parent : (q : NodeId → Bool) (ps : List NodeId) → list_any q ps ≡ true → (p : NodeId) × (list_any (same_node p) ps ≡ true) × (q p ≡ true)
+    some_parent q [] h' = absurd (no h')
+    some_parent q (x ∷ xs) h' =
+        or_elim _ _ h' (λ here. (x, or_left _ _ (same_node_refl x), here)) (λ there. let f = some_parent q xs there in (f.0, or_right (same_node f.0 x) _ f.1, f.2))
+
+-- with as many steps as there are nodes nothing is missed
+pub below_complete : (g : Graph) (law : IsLawfulGraph g) (n p : NodeId) (way : List NodeId) → is_live g p ≡ true → IsRoute g p way n → is_at_or_below (node_count g) g n p ≡ true
+below_complete g law n p way live r = below_found g n (node_count g) p way (let few = route_short g law p n way live r in omega arith) r
+
+-- a graph with one place changed
+graph_at : (g : Graph) (f : ℕ → Option Node) (n : NodeId) (is : Node) → ((b : ℕ) → b ≡ n.birth → f b ≡ Some is) → ((b : ℕ) → (b == n.birth) ≡ false → f b ≡ g.at b) → with_node g n.birth is ≡ record { at = f; births = g.births }
+graph_at g f n is here other =
+    let e : (λ (b : ℕ). if b == n.birth then Some is else g.at b) ≡ f = fun_ext (λ b. split (b == n.birth)
+    (λ h. ap (λ x. if x then Some is else g.at b) h ∙ sym (here b (same_number b n.birth h)))
+    (λ h. ap (λ x. if x then Some is else g.at b) h ∙ sym (other b h))) in
+    λ i. record { at = e i; births = g.births }
+
+pub with_parents_is : (g : Graph) (n : NodeId) (ps : List NodeId) (was : Node) → node_at g n ≡ Some was → with_node g n.birth (record was { parents = ps }) ≡ with_parents g n ps
+with_parents_is g n ps was e =
+    graph_at g (with_parents g n ps).at n (record was { parents = ps })
+    (λ b same. ap (λ x. if x then reparented ps (g.at b) else g.at b) (same_birth b same) ∙ ap (reparented ps) (ap g.at same ∙ (found_at g n was e).0))
+    (λ b h. ap (λ x. if x then reparented ps (g.at b) else g.at b) h)
+  where
+    same_birth : (b : ℕ) → b ≡ n.birth → (b == n.birth) ≡ true
+    same_birth b same = number_same b n.birth same
+
+pub rekeyed_is : (g : Graph) (r index : NodeId) (key : ℕ) (was : Node) → node_at g r ≡ Some was
+    → with_node g r.birth (record { key = was.key; shape = Rec (rekeyed_keys g r index key); parents = rekeyed_parents g r index key }) ≡ rekeyed g r index key
+rekeyed_is g r index key was e =
+    graph_at g (rekeyed g r index key).at r (record { key = was.key; shape = Rec (rekeyed_keys g r index key); parents = rekeyed_parents g r index key })
+    (λ b same. ap (λ x. if x then rekeyed_node (rekeyed_keys g r index key) (rekeyed_parents g r index key) (g.at b) else g.at b) (number_same b r.birth same)
+    ∙ ap (rekeyed_node (rekeyed_keys g r index key) (rekeyed_parents g r index key)) (ap g.at same ∙ (found_at g r was e).0))
+    (λ b h. ap (λ x. if x then rekeyed_node (rekeyed_keys g r index key) (rekeyed_parents g r index key) (g.at b) else g.at b) h)
+
+pub movable_alike : (sh : Shape) → is_movable_shape (Some sh) ≡ true → IsAlike sh sh
+movable_alike sh h = record { plain = λ k. refl; index = λ f. refl; rec = refl; no_interval = λ place e. no (sym (ap (λ x. is_movable_shape (Some x)) e) ∙ h) }
+
+pub rec_alike : (was : Shape) (keys keys' : List ℕ) → was ≡ Rec keys → IsAlike was (Rec keys')
+rec_alike was keys keys' e = record {
+  plain = λ k. absurd (no (sym (ap (λ x. is_plain (Some x)) e) ∙ k));
+  index = λ f. sym (ap (λ x. is_index_of_shape f (Some x)) e);
+  rec = sym (ap (λ x. is_record_shape (Some x)) e);
+  no_interval = λ place i. no (ap (λ x. is_record_shape (Some x)) (sym i ∙ e));
+}
+
+module _ (g : Graph) (law : IsLawfulGraph g) (n : NodeId) (was : Node) (there : node_at g n ≡ Some was) where
+  -- a move
+  move_well : (ps : List NodeId) (g' : Graph) (sh : Shape) → was.shape ≡ sh → is_movable_shape (Some sh) ≡ true → Frames g g' → AreInnerParents g (least_parents (Some sh)) ps → HasShape g n sh was.parents → HasShape g' n sh ps
+  move_well ps g' Inner e m same inner h = parents_kept g g' law same 0 ps inner
+  move_well ps g' File e m same inner h = parents_kept g g' law same 1 ps inner
+  move_well ps g' (Index f bs) e m same inner h = (parents_kept g g' law same 1 ps inner, index_kept g g' law same n f bs h.1)
+  move_well ps g' (Interval place) e m same inner h = absurd (no m)
+  move_well ps g' (Rec keys) e m same inner h = absurd (no m)
+
+  pub move_lawful : (ps : List NodeId) → is_movable_shape (Some was.shape) ≡ true → AreInnerParents g (least_parents (Some was.shape)) ps → list_all (is_live g) ps ≡ true
+      → list_all (λ p. not (is_at_or_below (node_count g) g n p)) ps ≡ true → IsLawfulGraph (with_parents g n ps)
+  move_lawful ps movable inner live clear =
+      let alike = movable_alike was.shape movable in
+      subst IsLawfulGraph (with_parents_is g n ps was there)
+      (changed_lawful g n was (record was { parents = ps }) there refl alike law
+      (move_well ps (with_node g n.birth (record was { parents = ps })) was.shape refl movable (changed_frames g n was (record was { parents = ps }) there refl alike) inner (law.well_formed n was there))
+      (λ p h. all_at (is_live g) ps p h live)
+      (λ p way h r. no (sym (ap not (below_complete g law n p way (all_at (is_live g) ps p h live) r)) ∙ all_at (λ q. not (is_at_or_below (node_count g) g n q)) ps p h clear)))
+
+  -- no route leads to a record from what is none
+  pub record_end : (p : NodeId) (way : List NodeId) → is_record_shape (shape_of g n) ≡ true → is_plain (shape_of g p) ≡ true → IsRoute g p way n → ⊥
+  record_end p [] rec plain r = rec_not_plain (shape_of g n) rec (ap (λ q. is_plain (shape_of g q)) (sym r) ∙ plain)
+  record_end p (q ∷ way) rec plain r = record_end q way rec (parent_plain g law p q r.0) r.1
+
+  pub file_of_record : (keys : List ℕ) → was.shape ≡ Rec keys → (is_file_shape (shape_of g (first_parent g n)) ≡ true) × (length keys ≡ length (indexes_of g (first_parent g n))) × (is_child g (first_parent g n) n ≡ true) × (was.parents ≡ record_parents g (first_parent g n) keys)
+  file_of_record keys e =
+      let h = subst (λ sh. HasShape g n sh was.parents) e (law.well_formed n was there) in
+      let ps : parents_of g n ≡ record_parents g h.0 keys = ap parents_in there ∙ h.1.parents in
+      let first : first_parent g n ≡ h.0 = ap first_in ps in
+      subst (λ f. (is_file_shape (shape_of g f) ≡ true) × (length keys ≡ length (indexes_of g f)) × (is_child g f n ≡ true) × (was.parents ≡ record_parents g f keys)) (sym first)
+      (h.1.file_is, h.1.a_key_each, ap (list_any (same_node h.0)) ps ∙ or_left _ _ (same_node_refl h.0), h.1.parents)
+
+  keys_with_length : (is : List NodeId) (keys : List ℕ) (index : NodeId) (key : ℕ) → length keys ≡ length is → length (keys_with is keys index key) ≡ length is
+  keys_with_length [] keys index key e = e
+  keys_with_length (i ∷ is) [] index key e = e
+  keys_with_length (i ∷ is) (k ∷ ks) index key e = ap suc (keys_with_length is ks index key (omega arith))
+
+  pub rekey_lawful : (keys : List ℕ) (index : NodeId) (key : ℕ) → was.shape ≡ Rec keys → IsLawfulGraph (rekeyed g n index key)
+  rekey_lawful keys index key e =
+      let is : Node = record { key = was.key; shape = Rec (rekeyed_keys g n index key); parents = rekeyed_parents g n index key } in
+      let alike = rec_alike was.shape keys (rekeyed_keys g n index key) e in
+      let frames = changed_frames g n was is there refl alike in
+      let file = file_of_record keys e in
+      let rec : is_record_shape (shape_of g n) ≡ true = ap (λ o. is_record_shape (shape_in o)) there ∙ ap (λ x. is_record_shape (Some x)) e in
+      let keys_are : keys_in (shape_of g n) ≡ keys = ap (λ o. keys_in (shape_in o)) there ∙ ap (λ x. keys_in (Some x)) e in
+      subst IsLawfulGraph (rekeyed_is g n index key was there)
+      (changed_lawful g n was is there refl alike law (
+        first_parent g n,
+        record {
+          file_is = ap is_file_shape (frames.shapes (first_parent g n) (file_plain _ file.0)) ∙ file.0;
+          a_key_each = keys_with_length (indexes_of g (first_parent g n)) (keys_in (shape_of g n)) index key (ap length keys_are ∙ file.1) ∙ ap length (sym (indexes_same g n was is there refl alike (first_parent g n)));
+          parents = sym (record_parents_kept g (with_node g n.birth is) law frames (first_parent g n) (rekeyed_keys g n index key) (indexes_same g n was is there refl alike (first_parent g n)));
+        },
+      )
+      (λ p h. plain_live g p (record_parent_plain g law (first_parent g n) p (rekeyed_keys g n index key) file.0 h))
+      (λ p way h r. record_end p way rec (record_parent_plain g law (first_parent g n) p (rekeyed_keys g n index key) file.0 h) r))

@@ -1,0 +1,157 @@
+-- A new index with its intervals: the law of the graph is kept.
+use Rattle.std.specs.Prelude.{◌≡◌, ◌⊎◌, ℕ, zero, suc, ◌+◌, ◌<◌, ◌≤◌, true, false, ◌&&◌, ◌==◌, List, [], ◌∷◌, length, Option, Some, None, is_some}
+use Rattle.std.specs.List.{cons_option, list_any, filter_map, range_with_len}
+use Rattle.std.proofs.lemmas.List.{length-append}
+use Rattle.std.proofs.Common.{refl, sym, ap, ◌∙◌, subst, arith, inl, inr, ⊎_elim}
+use Rattle.gl_modes.specs.declared.node.NodeId.{NodeId}
+use Rattle.gl_modes.specs.Nodes.{same_node}
+use Rattle.gl_graph.specs.Shapes.{Index, Interval, bounds_in, is_inner_shape, is_file_shape, is_index_shape, is_record_shape, is_index_of_shape}
+use Rattle.gl_graph.specs.Graph.{Graph, Node, nodes, node_count, node_at, is_live, parents_in, shape_in, shape_of, is_child, indexes_of, interval, key_or_zero, IsFreeKey}
+use Rattle.gl_graph.specs.Lawful.{IsRising, AreInnerParents, HasShape, IsWellFormed, IsLawfulGraph}
+use Rattle.gl_graph.specs.Changes.{are_apart, born_nodes, born_index, interval_nodes}
+use Rattle.gl_graph.proofs.Look.{split, or_elim, both, no, none_some, some_is, same_node_is, node_is, all_at}
+use Rattle.gl_graph.proofs.KindRules.{Frames, inner_plain, file_plain, plain_live, parents_kept}
+use Rattle.gl_graph.proofs.Moved.{some_at}
+use Rattle.gl_graph.proofs.RouteLengths.{listed}
+use Rattle.gl_graph.proofs.Listings.{index_born}
+use Rattle.gl_graph.proofs.Born.{place_in, place_below, new_at, none_above, new_id, new_node, new_indexes, indexes_grown, born_frames, born_lawful, IsFresh}
+use Rattle.gl_graph.proofs.NewNodes.{place_there, keys_of, key_listed, places_apart, no_index_born, indexes_kept}
+
+keys_of_intervals : (id : NodeId) (place : ℕ) (keys : List ℕ) → keys_of (interval_nodes id place keys) ≡ keys
+keys_of_intervals id place [] = refl
+keys_of_intervals id place (k ∷ ks) = ap (λ xs. k ∷ xs) (keys_of_intervals id (place + 1) ks)
+
+count_intervals : (id : NodeId) (place : ℕ) (keys : List ℕ) → length (interval_nodes id place keys) ≡ length keys
+count_intervals id place [] = refl
+count_intervals id place (k ∷ ks) = ap suc (count_intervals id (place + 1) ks)
+
+-- the node at a place is the interval of that place
+pub interval_node : (id : NodeId) (place : ℕ) (keys : List ℕ) (k c : ℕ) (node : Node) → place + k ≡ c → place_in (interval_nodes id place keys) k ≡ Some node → node ≡ record { key = node.key; shape = Interval c; parents = id ∷ [] }
+interval_node id place [] k c node e f = absurd (none_some f)
+interval_node id place (key ∷ keys) zero c node e f =
+    let is : record { key = key; shape = Interval place; parents = id ∷ [] } ≡ node = some_is f in
+    let same : place ≡ c = omega arith in
+    sym is ∙ (λ i. record { key = (is i).key; shape = Interval (same i); parents = id ∷ [] })
+interval_node id place (key ∷ keys) (suc k) c node e f = interval_node id (place + 1) keys k c node (omega arith) f
+
+module _ (g : Graph) (law : IsLawfulGraph g) (key : ℕ) (ps : List NodeId) (file : NodeId) (bounds keys : List ℕ) where
+  abbrev id : NodeId
+  id = record { key = key; birth = g.births + 1 }
+
+  abbrev index : Node
+  index = record { key = key; shape = Index file bounds; parents = ps }
+
+  abbrev ns : List Node
+  ns = index ∷ interval_nodes id 0 keys
+
+  abbrev grown : Graph
+  grown = born_nodes g ns
+
+  index_there : node_at grown id ≡ Some index
+  index_there =
+      let birth : g.births + 1 ≡ g.births + 1 + 0 = omega arith in
+      ap (λ b. node_at grown (record { key = key; birth = b })) birth ∙ new_node g law ns 0 index refl
+
+  no_interval_index : (f : NodeId) (k : ℕ) (node : Node) → place_in (interval_nodes id 0 keys) k ≡ Some node → is_index_of_shape f (Some node.shape) ≡ false
+  no_interval_index f k node e = ap (λ x. is_index_of_shape f (Some x.shape)) (interval_node id 0 keys k k node (omega arith) e)
+
+  -- other files have the indexes that they had
+  others : (f : NodeId) → same_node f file ≡ false → indexes_of grown f ≡ indexes_of g f
+  others f other = indexes_kept g law ns f by
+    where
+      by : (k : ℕ) (node : Node) → place_in ns k ≡ Some node → is_index_of_shape f (Some node.shape) ≡ false
+      by zero node e = ap (λ x. is_index_of_shape f (Some x.shape)) (sym (some_is e)) ∙ other
+      by (suc k) node e = no_interval_index f k node e
+
+  one_more : (f : NodeId) → length (indexes_of grown f) ≤ length (indexes_of g f) + 1
+  one_more f =
+      let rest : filter_map (index_born grown f) (range_with_len (g.births + 1 + 1) (length (interval_nodes id 0 keys))) ≡ [] =
+      no_index_born g law ns f (g.births + 1 + 1) (length (interval_nodes id 0 keys)) (omega arith) (omega arith) by in
+      let few : length (cons_option (index_born grown f (g.births + 1)) []) ≤ 1 = short (index_born grown f (g.births + 1)) in
+      let new : new_indexes g law ns f ≡ cons_option (index_born grown f (g.births + 1)) [] = ap (cons_option (index_born grown f (g.births + 1))) rest in
+      let all : length (indexes_of grown f) ≡ length (indexes_of g f) + length (new_indexes g law ns f) = ap length (indexes_grown g law ns f) ∙ length-append (indexes_of g f) (new_indexes g law ns f) in
+      let size : length (new_indexes g law ns f) ≡ length (cons_option (index_born grown f (g.births + 1)) []) = ap length new in
+      omega arith
+    where
+      short : (o : Option NodeId) → length (cons_option o []) ≤ 1
+      short None = omega arith
+      short (Some x) = omega arith
+
+      by : (k : ℕ) (node : Node) → (g.births + 1 + k ≡ g.births + 1 + 1) ⊎ (g.births + 1 + 1 < g.births + 1 + k) → place_in ns k ≡ Some node → is_index_of_shape f (Some node.shape) ≡ false
+      by zero node high e = absurd (⊎_elim (λ (h : g.births + 1 + 0 ≡ g.births + 1 + 1). omega arith) (λ (h : g.births + 1 + 1 < g.births + 1 + 0). omega arith) high)
+      by (suc k) node high e = no_interval_index f k node e
+
+  -- an interval stands where its index says
+  interval_there : (k : ℕ) (node : Node) → place_in (interval_nodes id 0 keys) k ≡ Some node → interval grown id k ≡ new_id g law ns node (suc k)
+  interval_there k node e =
+      let birth : g.births + 1 + 1 + k ≡ g.births + 1 + suc k = omega arith in
+      node_is (interval grown id k) (new_id g law ns node (suc k))
+      (ap key_or_zero (new_at g ns (suc k) (g.births + 1 + 1 + k) (none_above g law ns) birth ∙ e)) birth
+
+  module _ (inner : AreInnerParents g 1 ps) (is_file : is_file_shape (shape_of g file) ≡ true) (few : length bounds ≤ 256) (rising : IsRising (0 ∷ bounds)) (no_records : list_any (λ r. is_record_shape (shape_of g r) && is_child g file r) (nodes g) ≡ false)
+      (room_for : length (indexes_of g file) + 1 ≤ 7) (each : length keys ≡ length bounds + 1) (apart : are_apart (key ∷ keys) ≡ true) (free : (k : ℕ) → list_any (λ x. x == k) (key ∷ keys) ≡ true → IsFreeKey g k)
+      (room : node_count g + (2 + length bounds) ≤ 65536) where
+    unused : (f r : NodeId) → is_record_shape (shape_of g r) ≡ true → is_child g f r ≡ true → indexes_of grown f ≡ indexes_of g f
+    unused f r rec child =
+        others f (split (same_node f file)
+        (λ e. absurd (no (sym no_records ∙ some_at (λ q. is_record_shape (shape_of g q) && is_child g file q) (nodes g) r (listed g law r (rec_live rec)) (both _ _ rec (subst (λ x. is_child g x r ≡ true) (same_node_is f file e) child)))))
+        (λ e. e))
+      where
+        rec_live : is_record_shape (shape_of g r) ≡ true → is_live g r ≡ true
+        rec_live h = by (node_at g r) h
+          where
+            by : (o : Option Node) → is_record_shape (shape_in o) ≡ true → is_some o ≡ true
+            by None h' = absurd (no h')
+            by (Some x) h' = refl
+
+    frames : Frames g grown
+    frames = born_frames g law ns unused
+
+    intervals_stand : (place : ℕ) → place ≤ length bounds → node_at grown (interval grown id place) ≡ Some (record { key = (interval grown id place).key; shape = Interval place; parents = id ∷ [] })
+    intervals_stand place low =
+        let many = count_intervals id 0 keys in
+        let there = place_there (interval_nodes id 0 keys) place (omega arith) in
+        let at = interval_there place there.0 there.1 in
+        let is = interval_node id 0 keys place place there.0 (omega arith) there.1 in
+        ap (node_at grown) at ∙ new_node g law ns (suc place) there.0 there.1 ∙ ap Some is ∙ ap (λ (q : NodeId). Some (record { key = q.key; shape = Interval place; parents = id ∷ [] })) (sym at)
+
+    index_well : HasShape grown id (Index file bounds) ps
+    index_well = (
+      parents_kept g grown law frames 1 ps inner,
+      record { file = ap is_file_shape (frames.shapes file (file_plain _ is_file)) ∙ is_file; few = few; rising = rising; intervals = intervals_stand },
+    )
+
+    well : (k : ℕ) (node : Node) → place_in ns k ≡ Some node → IsWellFormed grown (new_id g law ns node k) node
+    well zero node e =
+        let birth : g.births + 1 ≡ g.births + 1 + 0 = omega arith in
+        subst (λ y. IsWellFormed grown (new_id g law ns y 0) y) (some_is e) (subst (λ b. HasShape grown (record { key = key; birth = b }) (Index file bounds) ps) birth index_well)
+    well (suc k) node e =
+        let is = interval_node id 0 keys k k node (omega arith) e in
+        let below = place_below (interval_nodes id 0 keys) k node e in
+        let many = count_intervals id 0 keys in
+        let low : k ≤ length bounds = omega arith in
+        subst (λ (y : Node). HasShape grown (new_id g law ns node (suc k)) y.shape y.parents) (sym is)
+        (id, refl, ap (λ o. is_index_shape (shape_in o)) index_there, subst (λ (o : Option Node). k ≤ length (bounds_in (shape_in o))) (sym index_there) low, sym (interval_there k node e))
+
+    inner_live : (p : NodeId) → list_any (same_node p) ps ≡ true → is_live g p ≡ true
+    inner_live p h = plain_live g p (inner_plain _ (all_at (λ q. is_inner_shape (shape_of g q)) ps p h inner.inner))
+
+    up : (k : ℕ) (node : Node) (p : NodeId) → place_in ns k ≡ Some node → list_any (same_node p) node.parents ≡ true → IsFresh g law ns p
+    up zero node p e h = inl (inner_live p (ap (λ (y : Node). list_any (same_node p) y.parents) (some_is e) ∙ h))
+    up (suc k) node p e h =
+        let is = interval_node id 0 keys k k node (omega arith) e in
+        or_elim (same_node p id) false (ap (λ (y : Node). list_any (same_node p) y.parents) (sym is) ∙ h)
+        (λ here. subst (IsFresh g law ns) (sym (same_node_is p id here)) (inr (ap is_some index_there, λ q c. inner_live q (sym (ap (λ o. list_any (same_node q) (parents_in o)) index_there) ∙ c))))
+        (λ none. absurd (no none))
+
+    keys_are : keys_of ns ≡ key ∷ keys
+    keys_are = ap (λ xs. key ∷ xs) (keys_of_intervals id 0 keys)
+
+    pub index_lawful : IsLawfulGraph (born_index g key ps file bounds keys)
+    index_lawful =
+        born_lawful g law ns unused well up
+        (λ k node e. free node.key (ap (list_any (λ x. x == node.key)) (sym keys_are) ∙ key_listed ns k node e))
+        (places_apart ns (ap are_apart keys_are ∙ apart))
+        (λ f. split (same_node f file) (λ e. let more = one_more f in let same : length (indexes_of g f) ≡ length (indexes_of g file) = ap (λ x. length (indexes_of g x)) (same_node_is f file e) in omega arith)
+        (λ e. subst (λ (is : List NodeId). length is ≤ 7) (sym (others f e)) (law.seven_indexes f)))
+        (let many = count_intervals id 0 keys in omega arith)

@@ -1,0 +1,107 @@
+-- A new inner node, file or record, and a new index with its intervals: the law of the graph is kept.
+use Rattle.std.specs.Prelude.{◌≡◌, ◌⊎◌, ℕ, zero, suc, ◌+◌, ◌-◌, ◌<◌, ◌≤◌, true, false, not, ◌||◌, ◌==◌, List, [], ◌∷◌, ◌++◌, length, Some, None, if◌then◌else◌}
+use Rattle.std.specs.List.{list_any, filter_map, range_with_len}
+use Rattle.std.proofs.lemmas.List.{append-nil}
+use Rattle.std.proofs.Common.{refl, sym, ap, ◌∙◌, subst, arith, rules, inl}
+use Rattle.gl_modes.specs.declared.node.NodeId.{NodeId}
+use Rattle.gl_modes.specs.Nodes.{same_node}
+use Rattle.gl_graph.specs.Shapes.{Inner, File, Rec, is_inner_shape, is_file_shape, is_index_of_shape}
+use Rattle.gl_graph.specs.Graph.{Graph, Node, node_count, is_live, shape_of, indexes_of, record_parents, IsFreeKey}
+use Rattle.gl_graph.specs.Lawful.{AreInnerParents, IsWellFormed, IsLawfulGraph}
+use Rattle.gl_graph.specs.Changes.{are_apart, born_node, born_nodes}
+use Rattle.gl_graph.proofs.Look.{or_right, and_both, no, none_some, some_is, number_same, all_at}
+use Rattle.gl_graph.proofs.KindRules.{inner_plain, file_plain, plain_live, record_parent_plain, parents_kept, record_parents_kept}
+use Rattle.gl_graph.proofs.Listings.{index_born, map_none}
+use Rattle.gl_graph.proofs.Born.{place_in, new_id, new_index, indexes_grown, born_frames, born_lawful}
+
+pub place_there : (ns : List Node) (k : ℕ) → k < length ns → (node : Node) × (place_in ns k ≡ Some node)
+place_there [] k low = absurd (omega arith)
+place_there (n ∷ ns) zero low = (n, refl)
+place_there (n ∷ ns) (suc k) low = place_there ns k (omega arith)
+
+-- the keys in order of birth
+abbrev pub keys_of : List Node → List ℕ
+keys_of [] = []
+keys_of (n ∷ ns) = n.key ∷ keys_of ns
+
+pub key_listed : (ns : List Node) (k : ℕ) (node : Node) → place_in ns k ≡ Some node → list_any (λ x. x == node.key) (keys_of ns) ≡ true
+key_listed [] k node e = absurd (none_some e)
+key_listed (n ∷ ns) zero node e = ap (λ b. b || list_any (λ x. x == node.key) (keys_of ns)) (number_same n.key node.key (ap (λ x. x.key) (some_is e)))
+key_listed (n ∷ ns) (suc k) node e = or_right (n.key == node.key) _ (key_listed ns k node e)
+
+pub places_apart : (ns : List Node) → are_apart (keys_of ns) ≡ true → (j k : ℕ) (a b : Node) → place_in ns j ≡ Some a → place_in ns k ≡ Some b → a.key ≡ b.key → j ≡ k
+places_apart [] h j k a b e f same = absurd (none_some e)
+places_apart (n ∷ ns) h zero zero a b e f same = refl
+places_apart (n ∷ ns) h zero (suc k) a b e f same = absurd (clash n ns h k b f (ap (λ x. x.key) (some_is e) ∙ same))
+  where
+    clash : (n : Node) (ns : List Node) → are_apart (keys_of (n ∷ ns)) ≡ true → (k : ℕ) (b : Node) → place_in ns k ≡ Some b → n.key ≡ b.key → ⊥
+    clash n' ns' h' k' b' f' same' = no (sym (ap not (ap (λ x. list_any (λ y. y == x) (keys_of ns')) same' ∙ key_listed ns' k' b' f')) ∙ (and_both _ _ h').0)
+places_apart (n ∷ ns) h (suc j) zero a b e f same = absurd (clash n ns h j a e (ap (λ x. x.key) (some_is f) ∙ sym same))
+  where
+    clash : (n : Node) (ns : List Node) → are_apart (keys_of (n ∷ ns)) ≡ true → (k : ℕ) (b : Node) → place_in ns k ≡ Some b → n.key ≡ b.key → ⊥
+    clash n' ns' h' k' b' f' same' = no (sym (ap not (ap (λ x. list_any (λ y. y == x) (keys_of ns')) same' ∙ key_listed ns' k' b' f')) ∙ (and_both _ _ h').0)
+places_apart (n ∷ ns) h (suc j) (suc k) a b e f same = ap suc (places_apart ns (and_both _ _ h).1 j k a b e f same)
+
+module _ (g : Graph) (law : IsLawfulGraph g) (ns : List Node) where
+  -- no index of f is born
+  pub no_index_born : (f : NodeId) (from count : ℕ) → g.births + 1 ≤ from → from + count ≤ g.births + 1 + length ns
+      → ((k : ℕ) (node : Node) → g.births + 1 + k ≡ from ⊎ (from < g.births + 1 + k) → place_in ns k ≡ Some node → is_index_of_shape f (Some node.shape) ≡ false)
+      → filter_map (index_born (born_nodes g ns) f) (range_with_len from count) ≡ []
+  no_index_born f from count low high none =
+      map_none (index_born (born_nodes g ns) f) from count (λ b l h.
+      let birth : b ≡ g.births + 1 + (b - (g.births + 1)) = omega arith in
+      let there = place_there ns (b - (g.births + 1)) (omega arith) in
+      ap (index_born (born_nodes g ns) f) birth ∙ new_index g law ns f (b - (g.births + 1)) there.0 there.1
+      ∙ ap (λ z. if z then Some (new_id g law ns there.0 (b - (g.births + 1))) else None) (none (b - (g.births + 1)) there.0 (at_or_above (g.births + 1 + (b - (g.births + 1))) from (omega arith)) there.1))
+    where
+      at_or_above : (a b : ℕ) → b ≤ a → (a ≡ b) ⊎ (b < a)
+      at_or_above a b h = search rules
+
+  pub indexes_kept : (f : NodeId) → ((k : ℕ) (node : Node) → place_in ns k ≡ Some node → is_index_of_shape f (Some node.shape) ≡ false) → indexes_of (born_nodes g ns) f ≡ indexes_of g f
+  indexes_kept f none = indexes_grown g law ns f ∙ ap (λ xs. indexes_of g f ++ xs) (no_index_born f (g.births + 1) (length ns) (omega arith) (omega arith) (λ k node high e. none k node e)) ∙ append-nil (indexes_of g f)
+
+-- one new node, no index
+module _ (g : Graph) (law : IsLawfulGraph g) (node : Node) (no_index : (f : NodeId) → is_index_of_shape f (Some node.shape) ≡ false) where
+  abbrev one : List Node
+  one = node ∷ []
+
+  only : (k : ℕ) (x : Node) → place_in one k ≡ Some x → (k ≡ 0) × (node ≡ x)
+  only zero x e = (refl, some_is e)
+  only (suc k) x e = absurd (none_some e)
+
+  pub one_indexes : (f : NodeId) → indexes_of (born_node g node) f ≡ indexes_of g f
+  one_indexes f = indexes_kept g law one f (λ k x e. ap (λ y. is_index_of_shape f (Some y.shape)) (sym (only k x e).1) ∙ no_index f)
+
+  pub one_lawful : IsWellFormed (born_node g node) (record { key = node.key; birth = g.births + 1 }) node → ((p : NodeId) → list_any (same_node p) node.parents ≡ true → is_live g p ≡ true)
+      → IsFreeKey g node.key → node_count g + 1 ≤ 65536 → IsLawfulGraph (born_node g node)
+  one_lawful well up free room =
+      born_lawful g law one (λ f r h k. one_indexes f)
+      (λ k x e. let o = only k x e in let birth : g.births + 1 ≡ g.births + 1 + k = omega arith in
+      subst (λ y. IsWellFormed (born_node g node) (new_id g law one y k) y) o.1 (subst (λ b. IsWellFormed (born_node g node) (record { key = node.key; birth = b }) node) birth well))
+      (λ k x p e h. inl (up p (ap (λ y. list_any (same_node p) y.parents) (only k x e).1 ∙ h)))
+      (λ k x e. subst (λ y. IsFreeKey g y.key) (only k x e).1 free)
+      (λ j k a b e f same. (only j a e).0 ∙ sym (only k b f).0)
+      (λ f. subst (λ (is : List NodeId). length is ≤ 7) (sym (one_indexes f)) (law.seven_indexes f))
+      (omega arith)
+
+pub inner_lawful : (g : Graph) (law : IsLawfulGraph g) (key : ℕ) (ps : List NodeId) → AreInnerParents g 0 ps → IsFreeKey g key → node_count g + 1 ≤ 65536 → IsLawfulGraph (born_node g (record { key = key; shape = Inner; parents = ps }))
+inner_lawful g law key ps inner free room =
+    let node : Node = record { key = key; shape = Inner; parents = ps } in
+    one_lawful g law node (λ f. refl) (parents_kept g (born_node g node) law (born_frames g law (node ∷ []) (λ f r h k. one_indexes g law node (λ f'. refl) f)) 0 ps inner)
+    (λ p h. plain_live g p (inner_plain _ (all_at (λ q. is_inner_shape (shape_of g q)) ps p h inner.inner))) free room
+
+pub file_lawful : (g : Graph) (law : IsLawfulGraph g) (key : ℕ) (ps : List NodeId) → AreInnerParents g 1 ps → IsFreeKey g key → node_count g + 1 ≤ 65536 → IsLawfulGraph (born_node g (record { key = key; shape = File; parents = ps }))
+file_lawful g law key ps inner free room =
+    let node : Node = record { key = key; shape = File; parents = ps } in
+    one_lawful g law node (λ f. refl) (parents_kept g (born_node g node) law (born_frames g law (node ∷ []) (λ f r h k. one_indexes g law node (λ f'. refl) f)) 1 ps inner)
+    (λ p h. plain_live g p (inner_plain _ (all_at (λ q. is_inner_shape (shape_of g q)) ps p h inner.inner))) free room
+
+pub record_lawful : (g : Graph) (law : IsLawfulGraph g) (key : ℕ) (file : NodeId) (keys : List ℕ) → is_file_shape (shape_of g file) ≡ true → length keys ≡ length (indexes_of g file) → IsFreeKey g key → node_count g + 1 ≤ 65536
+    → IsLawfulGraph (born_node g (record { key = key; shape = Rec keys; parents = record_parents g file keys }))
+record_lawful g law key file keys is_file each free room =
+    let node : Node = record { key = key; shape = Rec keys; parents = record_parents g file keys } in
+    let frames = born_frames g law (node ∷ []) (λ f r h k. one_indexes g law node (λ f'. refl) f) in
+    let same = one_indexes g law node (λ f'. refl) file in
+    one_lawful g law node (λ f. refl)
+    (file, record { file_is = ap is_file_shape (frames.shapes file (file_plain _ is_file)) ∙ is_file; a_key_each = each ∙ ap length (sym same); parents = sym (record_parents_kept g (born_node g node) law frames file keys same) })
+    (λ p h. plain_live g p (record_parent_plain g law file p keys is_file h)) free room

@@ -1,0 +1,49 @@
+-- The parents of a record: one file, and one interval for each of its indexes.
+use Rattle.std.specs.Prelude.{◌≡◌, ℕ, ◌<◌, ◌≤◌, Bool, true, false, ◌||◌, nat_le, List, [], ◌∷◌, length, Option, Some, None, slice_index_or, zero, suc, ◌&&◌}
+use Rattle.std.specs.List.{list_all, list_any}
+use Rattle.std.proofs.lemmas.List.Sums.{count_by-le-length}
+use Rattle.std.proofs.Common.{refl, sym, ap, ◌∙◌, arith}
+use Rattle.gl_modes.specs.declared.node.NodeId.{NodeId}
+use Rattle.gl_modes.specs.Nodes.{same_node}
+use Rattle.gl_graph.specs.Shapes.{Shape, Inner, File, Index, Interval, Rec, is_file_shape, is_index_shape, is_record_shape, is_index_of_shape, bounds_in}
+use Rattle.gl_graph.specs.Graph.{Graph, shape_of, shape_in, parents_of, is_child, is_record_of, nodes, indexes_of, interval_of, interval_place, intervals_of, record_parents}
+use Rattle.gl_graph.specs.Lawful.{IsLawfulGraph}
+use Rattle.gl_graph.proofs.Look.{split, no, and_both, or_elim, same_node_is, all_filter}
+use Rattle.gl_graph.proofs.KindRules.{interval_is}
+
+pub all_at_place : {A : Type 0} (p : A → Bool) (xs : List A) (k : ℕ) (d : A) → list_all p xs ≡ true → k < length xs → p (slice_index_or xs k d) ≡ true
+all_at_place p [] k d all low = absurd (omega arith)
+all_at_place p (x ∷ xs) zero d all low = (and_both (p x) _ all).0
+all_at_place p (x ∷ xs) (suc k) d all low = all_at_place p xs k d (and_both (p x) _ all).1 (omega arith)
+
+pub index_of_index : (f : NodeId) (o : Option Shape) → is_index_of_shape f o ≡ true → is_index_shape o ≡ true
+index_of_index f None h = h
+index_of_index f (Some Inner) h = h
+index_of_index f (Some File) h = h
+index_of_index f (Some (Index file bounds)) h = refl
+index_of_index f (Some (Interval place)) h = h
+index_of_index f (Some (Rec keys)) h = h
+
+-- each index of a file is an index
+pub listed_index : (g : Graph) (f : NodeId) (k : ℕ) (d : NodeId) → k < length (indexes_of g f) → is_index_of_shape f (shape_of g (slice_index_or (indexes_of g f) k d)) ≡ true
+listed_index g f k d low = all_at_place (λ i. is_index_of_shape f (shape_of g i)) (indexes_of g f) k d (all_filter (λ i. is_index_of_shape f (shape_of g i)) (nodes g)) low
+
+module _ (g : Graph) (law : IsLawfulGraph g) where
+  no_file_among : (f n : NodeId) (is : List NodeId) (keys : List ℕ) → list_all (λ i. is_index_of_shape f (shape_of g i)) is ≡ true → is_file_shape (shape_of g n) ≡ true → list_any (same_node n) (intervals_of g is keys) ≡ false
+  no_file_among f n [] keys h k = refl
+  no_file_among f n (i ∷ is) [] h k = refl
+  no_file_among f n (i ∷ is) (key ∷ keys) h k =
+      let t = and_both _ _ h in
+      split (same_node n (interval_of g i key))
+      (λ same. absurd (no (sym (ap is_file_shape (ap (shape_of g) (same_node_is n _ same) ∙ ap shape_in (interval_is g law f i key t.0))) ∙ k)))
+      (λ other. ap (λ b. b || list_any (same_node n) (intervals_of g is keys)) other ∙ no_file_among f n is keys t.1 k)
+
+  -- of the parents of a record only the file is one
+  pub file_among : (f n : NodeId) (keys : List ℕ) → is_file_shape (shape_of g n) ≡ true → list_any (same_node n) (record_parents g f keys) ≡ same_node n f
+  file_among f n keys h =
+      ap (λ b. same_node n f || b) (no_file_among f n (indexes_of g f) keys (all_filter (λ i. is_index_of_shape f (shape_of g i)) (nodes g)) h)
+      ∙ or_nothing (same_node n f)
+    where
+      or_nothing : (b : Bool) → (b || false) ≡ b
+      or_nothing true = refl
+      or_nothing false = refl

@@ -1,0 +1,105 @@
+-- A record goes: the law of the graph is kept.
+use Rattle.std.specs.Prelude.{◌≡◌, ◌≢◌, ℕ, ◌≤◌, true, false, ◌==◌, List, length, Option, Some, None, is_some, if◌then◌else◌}
+use Rattle.std.specs.List.{list_any, filter_map, range_with_len}
+use Rattle.std.proofs.Math.Path.{fun_ext}
+use Rattle.std.proofs.Common.{refl, sym, ap, ◌∙◌, subst, arith, inl, inr}
+use Rattle.gl_modes.specs.declared.node.NodeId.{NodeId}
+use Rattle.gl_modes.specs.Nodes.{same_node}
+use Rattle.gl_graph.specs.Shapes.{Shape, Inner, File, Index, Interval, Rec, is_record_shape, is_index_of_shape}
+use Rattle.gl_graph.specs.Graph.{Graph, Node, id_of, with_key, node_at, is_live, parents_in, shape_in, shape_of, is_child, indexes_of}
+use Rattle.gl_graph.specs.Lawful.{IsLawfulGraph}
+use Rattle.gl_graph.specs.Changes.{without_node}
+use Rattle.gl_graph.proofs.Look.{split, cases_of, no, none_some, number_same, number_other, same_number, other_number, found_at, live_node, child_live, one_birth}
+use Rattle.gl_graph.proofs.KindRules.{is_plain, Frames, well_formed_kept, parent_plain, plain_live, rec_not_plain}
+use Rattle.gl_graph.proofs.Listings.{kept, index_born, indexes_are, map_fewer}
+use Rattle.gl_graph.proofs.Routes.{acyclic_fewer}
+
+module _ (g : Graph) (law : IsLawfulGraph g) (r : NodeId) (rec : is_record_shape (shape_of g r) ≡ true) where
+  at_gone : (b : ℕ) → b ≡ r.birth → (without_node g r).at b ≡ None
+  at_gone b e = ap (λ x. if x then None else g.at b) (number_same b r.birth e)
+
+  at_beside : (b : ℕ) → b ≢ r.birth → (without_node g r).at b ≡ g.at b
+  at_beside b ne = ap (λ x. if x then None else g.at b) (number_other b r.birth ne)
+
+  pub left_same : (q : NodeId) → q.birth ≢ r.birth → node_at (without_node g r) q ≡ node_at g q
+  left_same q ne = ap (with_key q.key) (at_beside q.birth ne)
+
+  rec_live : is_live g r ≡ true
+  rec_live = cases_of (node_at g r) (λ e. absurd (no (sym (ap (λ o. is_record_shape (shape_in o)) e) ∙ rec))) (λ x e. ap is_some e)
+
+  -- other living nodes stay
+  pub stays_there : (q : NodeId) → is_live g q ≡ true → q ≢ r → node_at (without_node g r) q ≡ node_at g q
+  stays_there q h ne = left_same q (λ e. ne (one_birth g q r h rec_live e))
+
+  pub plain_stays : (q : NodeId) → is_plain (shape_of g q) ≡ true → node_at (without_node g r) q ≡ node_at g q
+  plain_stays q h = stays_there q (plain_live g q h) (λ e. rec_not_plain (shape_of g r) rec (ap (λ x. is_plain (shape_of g x)) (sym e) ∙ h))
+
+  pub was_there : (q : NodeId) (x : Node) → node_at (without_node g r) q ≡ Some x → node_at g q ≡ Some x
+  was_there q x e =
+      split (q.birth == r.birth) (λ same. absurd (none_some (sym (ap (with_key q.key) (at_gone q.birth (same_number q.birth r.birth same))) ∙ e)))
+      (λ other. sym (left_same q (other_number q.birth r.birth other)) ∙ e)
+
+  pub was_live : (q : NodeId) → is_live (without_node g r) q ≡ true → is_live g q ≡ true
+  was_live q h = let n = live_node (node_at (without_node g r) q) h in ap is_some (was_there q n.0 n.1)
+
+  was_child : (p n : NodeId) → is_child (without_node g r) p n ≡ true → is_child g p n ≡ true
+  was_child p n h =
+      let n' = live_node (node_at (without_node g r) n) (child_live (without_node g r) n p h) in
+      ap (λ o. list_any (same_node p) (parents_in o)) (was_there n n'.0 n'.1 ∙ sym n'.1) ∙ h
+
+  index_same : (f : NodeId) (b : ℕ) → index_born (without_node g r) f b ≡ index_born g f b
+  index_same f b =
+      split (b == r.birth)
+      (λ e.
+      let same : b ≡ r.birth = same_number b r.birth e in
+      ap (λ o. kept (λ q. is_index_of_shape f (shape_of (without_node g r) q)) (id_of b o)) (at_gone b same) ∙ sym (no_index same))
+      (λ e.
+      let ne : b ≢ r.birth = other_number b r.birth e in
+      ap (λ o. kept (λ q. is_index_of_shape f (shape_of (without_node g r) q)) (id_of b o)) (at_beside b ne) ∙ by ne (g.at b))
+    where
+      by : b ≢ r.birth → (o : Option Node) → kept (λ q. is_index_of_shape f (shape_of (without_node g r) q)) (id_of b o) ≡ kept (λ q. is_index_of_shape f (shape_of g q)) (id_of b o)
+      by ne None = refl
+      by ne (Some x) =
+          let id : NodeId = record { key = x.key; birth = b } in
+          ap (λ o. if is_index_of_shape f (shape_in o) then Some id else None) (left_same id ne)
+
+      none_rec : (f : NodeId) (o : Option Shape) → is_record_shape o ≡ true → is_index_of_shape f o ≡ false
+      none_rec f' None h = refl
+      none_rec f' (Some Inner) h = refl
+      none_rec f' (Some File) h = refl
+      none_rec f' (Some (Index file bounds)) h = absurd (no h)
+      none_rec f' (Some (Interval place)) h = refl
+      none_rec f' (Some (Rec keys)) h = refl
+
+      no_index : b ≡ r.birth → index_born g f b ≡ None
+      no_index same =
+          let n = live_node (node_at g r) rec_live in
+          let at = found_at g r n.0 n.1 in
+          let id : NodeId = record { key = n.0.key; birth = b } in
+          let is_r : id ≡ r = λ i. record { key = at.1 i; birth = same i } in
+          ap (λ o. kept (λ q. is_index_of_shape f (shape_of g q)) (id_of b o)) (ap g.at same ∙ at.0)
+          ∙ ap (λ z. if z then Some id else None) (ap (λ q. is_index_of_shape f (shape_of g q)) is_r ∙ none_rec f (shape_of g r) rec)
+
+  pub indexes_left : (f : NodeId) → indexes_of (without_node g r) f ≡ indexes_of g f
+  indexes_left f = indexes_are (without_node g r) f ∙ ap (λ (h : ℕ → Option NodeId). filter_map h (range_with_len 1 g.births)) (fun_ext (index_same f)) ∙ sym (indexes_are g f)
+
+  removed_frames : Frames g (without_node g r)
+  removed_frames = record {
+    shapes = λ q h. ap shape_in (plain_stays q h);
+    intervals = λ q place node e shape. plain_stays q (ap (λ o. is_plain (shape_in o)) e ∙ ap (λ s. is_plain (Some s)) shape) ∙ e;
+    indexes = λ f q h k. indexes_left f;
+  }
+
+  pub removed_lawful : IsLawfulGraph (without_node g r)
+  removed_lawful = record {
+    well_formed = λ q node e. well_formed_kept g (without_node g r) law removed_frames q node (was_there q node e);
+    parents_live = λ q p h. let c = was_child p q h in ap is_some (plain_stays p (parent_plain g law q p c)) ∙ law.parents_live q p c;
+    acyclic = acyclic_fewer g (without_node g r) was_child law.acyclic;
+    keys_differ = λ a b h k e. law.keys_differ a b (was_live a h) (was_live b k) e;
+    born = λ b h. split (b == r.birth) (λ e. absurd (no (sym (ap is_some (at_gone b (same_number b r.birth e))) ∙ h))) (λ e. law.born b (sym (ap is_some (at_beside b (other_number b r.birth e))) ∙ h));
+    seven_indexes = λ f. subst (λ (is : List NodeId). length is ≤ 7) (sym (indexes_left f)) (law.seven_indexes f);
+    room =
+        let fewer = map_fewer (λ b. id_of b (g.at b)) (λ b. id_of b ((without_node g r).at b)) (λ b. split (b == r.birth) (λ e. inr (ap (id_of b) (at_gone b (same_number b r.birth e)))) (λ e. inl (ap (id_of b) (at_beside b (other_number b r.birth e))))) (range_with_len 1 g.births) in
+        let room = law.room in
+        omega arith;
+  }

@@ -1,0 +1,9 @@
+use Rattle.gl_graph.specs.View.{graph_of}
+use Rattle.gl_graph.proofs.Unrefused.{verdict_ok, parents_unrefused}
+use Rattle.gl_graph.proofs.NewNodes.{file_lawful}
+use Rattle.gl_graph.proofs.graph.Graph.add_file.Goals as goal
+
+pub insert-requires-clause-lawful : goal.insert-requires-clause-lawful
+insert-requires-clause-lawful c = λ key law free.
+    let may = parents_unrefused (graph_of c.args.self.now) 1 c.args.parents.now (verdict_ok _ _ c.in_ok-check_parents.ensures) in
+    file_lawful (graph_of c.args.self.now) law key c.args.parents.now may.inner free may.room

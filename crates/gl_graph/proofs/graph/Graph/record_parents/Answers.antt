@@ -1,0 +1,40 @@
+use Rattle.std.proofs.Common.{◌≡◌, ◌+◌, ◌≤◌, ◌<◌, ◌++◌, ◌∷◌, [], ℕ, List, drop, length, true, slice_index_or, refl, sym, ap, ap₂, ◌∙◌, subst, arith}
+use Rattle.std.proofs.lemmas.List.{drop_more, append_assoc, append-nil, drop_all}
+use Rattle.gl_modes.specs.declared.node.NodeId.{NodeId}
+use Rattle.gl_graph.specs.Shapes.{is_index_shape}
+use Rattle.gl_graph.specs.Graph.{Graph, shape_of, interval_of, intervals_of, record_parents}
+use Rattle.gl_graph.specs.View.{graph_of}
+use Rattle.gl_graph.proofs.RecordParents.{listed_index, index_of_index}
+use Rattle.gl_graph.proofs.graph.Graph.record_parents.Goals as goal
+
+pub loop-place-init : goal.loop-place-init
+loop-place-init c =
+    ap₂ (λ ps is. ps ++ intervals_of (graph_of c.args.self.now) is c.args.keys.now) c.in_ok-parents.ensures.ok c.indexes-index-items.ensures
+
+pub interval_of-requires : goal.interval_of-requires
+interval_of-requires c =
+    let low : c.loop-place.place < length c.indexes-index-items.result.now = c.loop-place-test.true in
+    let many = ap length c.indexes-index-items.ensures in
+    let index = listed_index (graph_of c.args.self.now) c.args.file c.loop-place.place (record { key = 0; birth = 0 }) (omega arith) in
+    ap (λ is. is_index_shape (shape_of (graph_of c.args.self.now) (slice_index_or is c.loop-place.place (record { key = 0; birth = 0 })))) c.indexes-index-items.ensures
+    ∙ index_of_index c.args.file _ index
+
+step : (g : Graph) (parents is : List NodeId) (keys : List ℕ) (place : ℕ) (all : List NodeId) → place < length is → place < length keys → parents ++ intervals_of g (drop place is) (drop place keys) ≡ all
+    → (parents ++ interval_of g (slice_index_or is place (record { key = 0; birth = 0 })) (slice_index_or keys place 0) ∷ []) ++ intervals_of g (drop (place + 1) is) (drop (place + 1) keys) ≡ all
+step g parents is keys place all low low' e =
+    append_assoc parents (interval_of g (slice_index_or is place (record { key = 0; birth = 0 })) (slice_index_or keys place 0) ∷ []) (intervals_of g (drop (place + 1) is) (drop (place + 1) keys))
+    ∙ sym (ap (λ xs. parents ++ xs) (ap₂ (intervals_of g) (drop_more is place (record { key = 0; birth = 0 }) low) (drop_more keys place 0 low'))) ∙ e
+
+pub loop-place-preserved : goal.loop-place-preserved
+loop-place-preserved c =
+    let low : c.loop-place.place < length c.indexes-index-items.result.now = c.loop-place-test.true in
+    let many = ap length c.indexes-index-items.ensures in
+    let each = c.requires.keys in
+    ap (λ ps. ps ++ intervals_of (graph_of c.args.self.now) (drop (c.loop-place.place + 1) c.indexes-index-items.result.now) (drop (c.loop-place.place + 1) c.args.keys.now))
+    (c.in_ok-push.ensures.ok ∙ ap (λ n. c.loop-place.parents.items ++ n ∷ []) c.interval_of.ensures)
+    ∙ step (graph_of c.args.self.now) c.loop-place.parents.items c.indexes-index-items.result.now c.args.keys.now c.loop-place.place _ low (omega arith) c.loop-place.invariant
+
+pub returns : goal.returns
+returns c =
+    let none : drop c.loop-place.place c.indexes-index-items.result.now ≡ [] = drop_all c.loop-place.place c.indexes-index-items.result.now (omega arith) in
+    record { ok = sym (append-nil c.loop-place.parents.items) ∙ sym (ap (λ is. c.loop-place.parents.items ++ intervals_of (graph_of c.args.self.now) is (drop c.loop-place.place c.args.keys.now)) none) ∙ c.loop-place.invariant }

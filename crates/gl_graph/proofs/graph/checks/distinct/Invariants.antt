@@ -1,0 +1,6 @@
+use Rattle.std.proofs.Common.{◌≡◌, drop}
+use Rattle.gl_graph.specs.Lawful.{are_distinct}
+use Rattle.gl_graph.proofs.graph.checks.distinct.Given as goal
+
+abbrev pub invariant-loop-place : goal.invariant-loop-place
+invariant-loop-place l = are_distinct (drop l.place l.ids) ≡ are_distinct l.ids

@@ -1,0 +1,85 @@
+-- What each call makes of the graph.
+use Rattle.std.specs.Prelude.{◌≡◌, ℕ, ◌+◌, Bool, true, false, not, ◌&&◌, ◌==◌, List, [], ◌∷◌, length, Option, Some, None, if◌then◌else◌}
+use Rattle.std.specs.List.{list_any}
+use Rattle.gl_modes.specs.declared.node.NodeId.{NodeId}
+use Rattle.gl_modes.specs.Nodes.{same_node}
+use Rattle.gl_graph.specs.Shapes.{Shape, Index, Interval, Rec, keys_in}
+use Rattle.gl_graph.specs.Graph.{Graph, Node, shape_of, indexes_of, record_parents, first_parent, IsFreeKey}
+
+-- the graph with another node of this birth
+abbrev pub with_node : Graph → ℕ → Node → Graph
+with_node g birth node = record { at = λ b. if b == birth then Some node else g.at b; births = g.births }
+
+-- the graph with a node more, which has the next birth
+abbrev pub born_node : Graph → Node → Graph
+born_node g node = record { at = λ b. if b == g.births + 1 then Some node else g.at b; births = g.births + 1 }
+
+abbrev pub born_nodes : Graph → List Node → Graph
+born_nodes g [] = g
+born_nodes g (n ∷ ns) = born_nodes (born_node g n) ns
+
+-- intervals of this index from this place on, with these keys
+abbrev pub interval_nodes : NodeId → ℕ → List ℕ → List Node
+interval_nodes index place [] = []
+interval_nodes index place (key ∷ keys) = record { key = key; shape = Interval place; parents = index ∷ [] } ∷ interval_nodes index (place + 1) keys
+
+-- the index, and then its intervals in order
+abbrev pub born_index : Graph → ℕ → List NodeId → NodeId → List ℕ → List ℕ → Graph
+born_index g key parents file bounds interval_keys =
+    let id : NodeId = record { key = key; birth = g.births + 1 } in
+    born_nodes g (record { key = key; shape = Index file bounds; parents = parents } ∷ interval_nodes id 0 interval_keys)
+
+-- no two of these keys are one
+abbrev pub are_apart : List ℕ → Bool
+are_apart [] = true
+are_apart (k ∷ ks) = not (list_any (λ x. x == k) ks) && are_apart ks
+
+-- n is born with the next birth under a key that no living node has, and nothing else changes
+pub record IsBorn (g g' : Graph) (n : NodeId) (shape : Shape) (parents : List NodeId) : Type 0 where
+  pub key_free : IsFreeKey g n.key
+  pub birth : n.birth ≡ g.births + 1
+  pub after : g' ≡ born_node g (record { key = n.key; shape = shape; parents = parents })
+
+-- the index n is born, and behind it an interval more than it has bounds, under different keys that no living node has
+pub record IsIndexBorn (g g' : Graph) (n : NodeId) (parents : List NodeId) (file : NodeId) (bounds : List ℕ) : Type 0 where
+  pub interval_keys : List ℕ
+  pub intervals : length interval_keys ≡ length bounds + 1
+  pub keys_apart : are_apart (n.key ∷ interval_keys) ≡ true
+  pub keys_free : (key : ℕ) → list_any (λ k. k == key) (n.key ∷ interval_keys) ≡ true → IsFreeKey g key
+  pub birth : n.birth ≡ g.births + 1
+  pub after : g' ≡ born_index g n.key parents file bounds interval_keys
+
+abbrev pub without_node : Graph → NodeId → Graph
+without_node g n = record { at = λ b. if b == n.birth then None else g.at b; births = g.births }
+
+abbrev pub reparented : List NodeId → Option Node → Option Node
+reparented ps None = None
+reparented ps (Some n) = Some (record n { parents = ps })
+
+-- the node has these parents
+abbrev pub with_parents : Graph → NodeId → List NodeId → Graph
+with_parents g n ps = record { at = λ b. if b == n.birth then reparented ps (g.at b) else g.at b; births = g.births }
+
+-- the keys with the one of an index changed
+abbrev pub keys_with : List NodeId → List ℕ → NodeId → ℕ → List ℕ
+keys_with [] keys index key = keys
+keys_with (i ∷ is) [] index key = []
+keys_with (i ∷ is) (k ∷ ks) index key = (if same_node i index then key else k) ∷ keys_with is ks index key
+
+abbrev pub rekeyed_keys : Graph → NodeId → NodeId → ℕ → List ℕ
+rekeyed_keys g rec index key = keys_with (indexes_of g (first_parent g rec)) (keys_in (shape_of g rec)) index key
+
+abbrev pub rekeyed_parents : Graph → NodeId → NodeId → ℕ → List NodeId
+rekeyed_parents g rec index key = record_parents g (first_parent g rec) (rekeyed_keys g rec index key)
+
+abbrev pub rekeyed_node : List ℕ → List NodeId → Option Node → Option Node
+rekeyed_node keys ps None = None
+rekeyed_node keys ps (Some n) = Some (record { key = n.key; shape = Rec keys; parents = ps })
+
+-- the record has another key for one index, and the interval in which it lies
+abbrev pub rekeyed : Graph → NodeId → NodeId → ℕ → Graph
+rekeyed g rec index key =
+    record {
+      at = λ b. if b == rec.birth then rekeyed_node (rekeyed_keys g rec index key) (rekeyed_parents g rec index key) (g.at b) else g.at b;
+      births = g.births;
+    }

@@ -1,0 +1,96 @@
+-- Why the graph's own calls are refused: the first of their tests, in order, that finds a reason.
+use Rattle.std.specs.Prelude.{◌≡◌, ℕ, ◌+◌, ◌-◌, ◌^◌, Bool, true, false, not, ◌&&◌, ◌||◌, ◌==◌, nat_lt, nat_le, List, [], ◌∷◌, ◌++◌, length, Option, Some, None, Result, Ok, Err, IfErr, if◌then◌else◌}
+use Rattle.std.specs.List.{list_all, list_any}
+use Rattle.gl_modes.specs.declared.node.NodeId.{NodeId}
+use Rattle.gl_modes.specs.declared.refusal.Refusal.{Refusal}
+use Rattle.gl_modes.specs.declared.refusal.Refusal.TheVariants as no
+use Rattle.gl_graph.specs.Shapes.{is_file_shape}
+use Rattle.gl_graph.specs.Graph.{Graph, nodes, node_count, is_live, shape_of, indexes_of, is_record_of}
+use Rattle.gl_graph.specs.Routes.{is_at_or_below}
+use Rattle.gl_graph.specs.Lawful.{are_inner, are_distinct}
+
+-- the first of these that is a refusal
+abbrev pub first_refusal : List (Option Refusal) → Option Refusal
+first_refusal [] = None
+first_refusal (None ∷ rs) = first_refusal rs
+first_refusal (Some r ∷ rs) = Some r
+
+abbrev pub where_true : Bool → Refusal → Option Refusal
+where_true b r = if b then Some r else None
+
+-- what a `u64` counts up to
+abbrev pub max_count : ℕ
+max_count = 2 ^ 64 - 1
+
+-- so many births were given that a full graph of new nodes might not be numbered any more
+abbrev pub births_worn : Graph → Bool
+births_worn g = nat_lt (max_count - 65536) g.births
+
+abbrev pub worn_births : Graph → Option Refusal
+worn_births g = where_true (births_worn g) no.WornOut
+
+abbrev pub some_no_node : Graph → List NodeId → Option Refusal
+some_no_node g ns = where_true (not (list_all (is_live g) ns)) no.NoSuchNode
+
+-- too few or too many parents, one of another kind than inner, or one twice
+abbrev pub bad_parents : Graph → ℕ → List NodeId → Bool
+bad_parents g least ps = nat_lt (length ps) least || nat_lt 8 (length ps) || not (are_inner g ps) || not (are_distinct ps)
+
+-- with so many nodes more there are more than may live
+abbrev pub too_many_nodes : Graph → ℕ → Option Refusal
+too_many_nodes g more = where_true (nat_lt 65536 (node_count g + more)) no.TooManyNodes
+
+abbrev pub has_records : Graph → NodeId → Bool
+has_records g f = list_any (is_record_of g f) (nodes g)
+
+abbrev pub is_rising : List ℕ → Bool
+is_rising [] = true
+is_rising (b ∷ bs) = list_all (λ c. nat_lt b c) bs && is_rising bs
+
+-- more than 256 bounds, or bounds that do not rise from above 0
+abbrev pub bad_bounds : List ℕ → Bool
+bad_bounds bs = nat_lt 256 (length bs) || not (is_rising (0 ∷ bs))
+
+-- of an inner node, which may have no parents, and of a file, which has one at least
+abbrev pub parents_refusal : Graph → ℕ → List NodeId → Option Refusal
+parents_refusal g least ps =
+    first_refusal (worn_births g ∷ some_no_node g ps ∷ where_true (bad_parents g least ps) no.BadParents ∷ too_many_nodes g 1 ∷ [])
+
+abbrev pub inner_refusal : Graph → List NodeId → Option Refusal
+inner_refusal g ps = parents_refusal g 0 ps
+
+abbrev pub file_refusal : Graph → List NodeId → Option Refusal
+file_refusal g ps = parents_refusal g 1 ps
+
+-- no index can be made of this file under these parents: one of them is of the wrong kind, or the file has seven
+abbrev pub bad_index_place : Graph → List NodeId → NodeId → Bool
+bad_index_place g ps f = bad_parents g 1 ps || not (is_file_shape (shape_of g f)) || nat_le 7 (length (indexes_of g f))
+
+abbrev pub index_refusal : Graph → List NodeId → NodeId → List ℕ → Option Refusal
+index_refusal g ps f bs =
+    first_refusal (
+    worn_births g ∷ some_no_node g (ps ++ f ∷ []) ∷ where_true (bad_index_place g ps f) no.BadParents ∷ where_true (has_records g f) no.FileInUse
+    ∷ where_true (bad_bounds bs) no.BadKeys ∷ too_many_nodes g (2 + length bs) ∷ []
+    )
+
+abbrev pub record_refusal : Graph → NodeId → List ℕ → Option Refusal
+record_refusal g f keys =
+    first_refusal (
+    worn_births g ∷ some_no_node g (f ∷ []) ∷ where_true (not (is_file_shape (shape_of g f))) no.BadParents
+    ∷ where_true (not (length keys == length (indexes_of g f))) no.BadKeys ∷ too_many_nodes g 1 ∷ []
+    )
+
+-- the first of these that is n or has a route to n
+abbrev pub first_cycle : Graph → NodeId → List NodeId → Option Refusal
+first_cycle g n [] = None
+first_cycle g n (p ∷ ps) = if is_at_or_below (node_count g) g n p then Some (no.Cycle p) else first_cycle g n ps
+
+-- a call answers this refusal; where there is none, it is refused for want of memory alone
+abbrev pub Refuses : {T : Type 0} → Option Refusal → Result T Refusal → Type 0
+Refuses (Some r) result = result ≡ Err r
+Refuses None result = IfErr result (λ r. r ≡ no.NoMemory)
+
+-- what a function answers that only tests
+abbrev pub verdict : Option Refusal → Result (Unit {0}) Refusal
+verdict None = Ok tt
+verdict (Some r) = Err r

@@ -1,0 +1,76 @@
+-- What a contract sees of a slab of nodes, and what holds of it always.
+use Rattle.std.specs.Prelude.{◌≡◌, ℕ, ◌==◌, List, [], map, Option, Some, None, if◌then◌else◌}
+use Rattle.gl_modes.specs.declared.node.NodeId.{NodeId}
+use Rattle.slab.specs.Slab.{Slab, get, slab_len}
+use Rattle.gl_graph.specs.declared.node.Body.{Body}
+use Rattle.gl_graph.specs.declared.node.Body.TheVariants as body
+use Rattle.gl_graph.specs.declared.node.Node.{Node}
+use Rattle.gl_graph.specs.Shapes.{Shape, Inner, File, Index, Interval, Rec}
+use Rattle.gl_graph.specs.Graph.{node_count}
+use Rattle.gl_graph.specs.Lawful.{IsLawfulGraph}
+use Rattle.gl_graph.specs.View.{Vertex, View, graph_of, AgreesAt}
+
+abbrev pub shape_in_body : Body → Shape
+shape_in_body body.Inner = Inner
+shape_in_body (body.File indexes records) = File
+shape_in_body (body.Index file bounds intervals) = Index file bounds.items
+shape_in_body (body.Interval place) = Interval place
+shape_in_body (body.Rec keys) = Rec keys.items
+
+abbrev pub indexes_in_body : Body → List NodeId
+indexes_in_body (body.File indexes records) = indexes.items
+indexes_in_body b = []
+
+abbrev pub records_in_body : Body → ℕ
+records_in_body (body.File indexes records) = records
+records_in_body b = 0
+
+abbrev pub intervals_in_body : Body → List NodeId
+intervals_in_body (body.Index file bounds intervals) = intervals.items
+intervals_in_body b = []
+
+abbrev pub vertex_of : Node → Vertex
+vertex_of x = record {
+  birth = x.birth;
+  shape = shape_in_body x.body;
+  parents = x.parents.items;
+  indexes = indexes_in_body x.body;
+  records = records_in_body x.body;
+  intervals = intervals_in_body x.body;
+}
+
+abbrev pub see : Option Node → Option Vertex
+see None = None
+see (Some x) = Some (vertex_of x)
+
+abbrev pub seen : Slab Node → ℕ → View
+seen nodes births = record { slots = map see nodes.slots; births = births }
+
+-- the node that an id names
+abbrev pub named_in : ℕ → Option Node → Option Node
+named_in birth None = None
+named_in birth (Some x) = if x.birth == birth then Some x else None
+
+abbrev pub named : Slab Node → NodeId → Option Node
+named nodes n = named_in n.birth (get nodes n.key)
+
+-- no two nodes have one birth
+abbrev pub AreBornApart : Slab Node → Type 0
+AreBornApart nodes = (j k : ℕ) (x y : Node) → get nodes j ≡ Some x → get nodes k ≡ Some y → x.birth ≡ y.birth → j ≡ k
+
+-- the graph is lawful, and what is kept beside it agrees with it
+pub record AreSound (nodes : Slab Node) (births : ℕ) : Type 0 where
+  pub lawful : IsLawfulGraph (graph_of (seen nodes births))
+  pub apart : AreBornApart nodes
+  pub counted : slab_len nodes ≡ node_count (graph_of (seen nodes births))
+  pub agree : (key : ℕ) (x : Node) → get nodes key ≡ Some x → AgreesAt (graph_of (seen nodes births)) key (vertex_of x)
+
+-- of an inner node or of a file with nothing kept beside it
+abbrev pub IsPlainBody : Body → Type 0
+IsPlainBody body.Inner = Unit {0}
+IsPlainBody (body.File indexes records) = (indexes.items ≡ []) × (records ≡ 0)
+IsPlainBody b = ⊥
+
+abbrev pub body_with_records : Body → ℕ → Body
+body_with_records (body.File indexes records) fresh = body.File indexes fresh
+body_with_records b fresh = b

@@ -1,0 +1,63 @@
+-- What a node is, and the tests of it.
+use Rattle.std.specs.Prelude.{ℕ, Bool, true, false, List, [], Option, Some, None}
+use Rattle.gl_modes.specs.declared.node.NodeId.{NodeId}
+use Rattle.gl_modes.specs.Nodes.{same_node}
+use Rattle.gl_graph.specs.declared.kind.Kind.{Kind}
+use Rattle.gl_graph.specs.declared.kind.Kind.TheVariants as kind
+
+-- an index has its file and its bounds, an interval its place in the index, a record its keys
+pub data Shape : Type 0 where
+  Inner : Shape
+  File : Shape
+  Index : (file : NodeId) → (bounds : List ℕ) → Shape
+  Interval : (place : ℕ) → Shape
+  Rec : (keys : List ℕ) → Shape
+
+abbrev pub kind_in : Option Shape → Option Kind
+kind_in None = None
+kind_in (Some Inner) = Some kind.Inner
+kind_in (Some File) = Some kind.File
+kind_in (Some (Index file bounds)) = Some kind.Index
+kind_in (Some (Interval place)) = Some kind.Interval
+kind_in (Some (Rec keys)) = Some kind.Rec
+
+abbrev pub is_inner_shape : Option Shape → Bool
+is_inner_shape (Some Inner) = true
+is_inner_shape s = false
+
+abbrev pub is_file_shape : Option Shape → Bool
+is_file_shape (Some File) = true
+is_file_shape s = false
+
+abbrev pub is_record_shape : Option Shape → Bool
+is_record_shape (Some (Rec keys)) = true
+is_record_shape s = false
+
+abbrev pub is_index_shape : Option Shape → Bool
+is_index_shape (Some (Index file bounds)) = true
+is_index_shape s = false
+
+-- an index of this file
+abbrev pub is_index_of_shape : NodeId → Option Shape → Bool
+is_index_of_shape f (Some (Index file bounds)) = same_node f file
+is_index_of_shape f s = false
+
+-- what can be given other parents: an inner node, a file, an index
+abbrev pub is_movable_shape : Option Shape → Bool
+is_movable_shape (Some Inner) = true
+is_movable_shape (Some File) = true
+is_movable_shape (Some (Index file bounds)) = true
+is_movable_shape s = false
+
+-- how many parents a movable node has at least
+abbrev pub least_parents : Option Shape → ℕ
+least_parents (Some Inner) = 0
+least_parents o = 1
+
+abbrev pub bounds_in : Option Shape → List ℕ
+bounds_in (Some (Index file bounds)) = bounds
+bounds_in s = []
+
+abbrev pub keys_in : Option Shape → List ℕ
+keys_in (Some (Rec keys)) = keys
+keys_in s = []

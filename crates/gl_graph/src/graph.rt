@@ -1,0 +1,168 @@
+//! The nodes of a lock graph, under keys that are used again, with births that are not.
+
+ghost use Rattle.std.specs.Prelude.{◌≡◌, ◌≢◌, ℕ, true, Option, None};
+ghost use Rattle.gl_graph.specs.Shapes.{is_file_shape, is_index_shape, keys_in, kind_in};
+ghost use Rattle.gl_graph.specs.Graph.{
+  indexes_of,
+  interval_at,
+  interval_of,
+  node_count,
+  parents_of,
+  shape_of,
+};
+ghost use Rattle.gl_graph.specs.Lawful.{IsLawfulGraph};
+ghost use Rattle.gl_graph.specs.Refusals.{births_worn, has_records};
+ghost use Rattle.gl_graph.specs.View.{graph_of, record_count};
+
+use gl_modes::NodeId;
+use slab::Slab;
+use std::alloc::Global;
+use std::marker::Model;
+
+mod checks;
+mod make;
+
+use crate::bounds::interval_place;
+use crate::kind::Kind;
+use crate::node::Node;
+use crate::store::find;
+
+/// How many births are held back: where no more are left, no node is made any more.
+const SPARE_BIRTHS: u64 = 65_536;
+
+/// A lawful lock graph: inner nodes, files and indexes under inner nodes, intervals under their
+/// index, records under their file and under one interval of each of its indexes.
+#[derive(Drop)]
+pub struct Graph {
+    nodes: Slab<Node>,
+    births: u64,
+    alloc: Global,
+}
+
+impl Model for Graph {
+    ghost use Rattle.gl_graph.specs.View.{View};
+
+    ghost Value = { View };
+
+    ghost use Rattle.gl_graph.specs.Sound.{view_of, IsSound};
+
+    ghost view = { view_of };
+
+    ghost invariant = { IsSound };
+}
+
+impl Graph {
+    /// A graph without nodes.
+    pub fn new(alloc: Global) -> Self
+        ensures empty { (birth : ℕ) → (graph_of result).at birth ≡ None }
+        ensures births { result.births ≡ 0 }
+    {
+        Graph {
+            nodes: Slab::new(alloc),
+            births: 0,
+            alloc,
+        }
+    }
+
+    /// Every graph is lawful.
+    pub fn law(&self)
+        ensures lawful { IsLawfulGraph (graph_of self.now) }
+    {
+        let _ = &self.nodes;
+    }
+
+    /// How many nodes live.
+    pub fn len(&self) -> usize
+        ensures count { result ≡ node_count (graph_of self.now) }
+    {
+        self.nodes.len()
+    }
+
+    /// Whether so many births were given that no node is made any more.
+    pub fn worn(&self) -> bool
+        ensures { result ≡ births_worn (graph_of self.now) }
+    {
+        self.births > u64::MAX - SPARE_BIRTHS
+    }
+
+    /// The kind of the node; `None` where the id names none.
+    pub fn kind(&self, n: NodeId) -> Option<Kind>
+        ensures { result ≡ kind_in (shape_of (graph_of self.now) n) }
+    {
+        match find(&self.nodes, n) {
+            Some(node) => Some(node.body.kind()),
+            None => None,
+        }
+    }
+
+    /// The parents of the node; none where the id names no node.
+    pub fn parents(&self, n: NodeId) -> &[NodeId]
+        ensures { result.now ≡ parents_of (graph_of self.now) n }
+    {
+        match find(&self.nodes, n) {
+            Some(node) => node.parents.as_slice(),
+            None => &[],
+        }
+    }
+
+    /// The keys of a record, one for each index of its file; none where the id names no record.
+    pub fn keys(&self, rec: NodeId) -> &[u64]
+        ensures { result.now ≡ keys_in (shape_of (graph_of self.now) rec) }
+    {
+        match find(&self.nodes, rec) {
+            Some(node) => node.body.keys(),
+            None => &[],
+        }
+    }
+
+    /// The indexes of a file, in order of making.
+    pub fn indexes(&self, file: NodeId) -> &[NodeId]
+        requires { is_file_shape (shape_of (graph_of self.now) file) ≡ true }
+        ensures { result.now ≡ indexes_of (graph_of self.now) file }
+    {
+        match find(&self.nodes, file) {
+            Some(node) => node.body.indexes(),
+            None => &[],
+        }
+    }
+
+    /// Whether a file has records.
+    pub fn has_records(&self, file: NodeId) -> bool
+        requires { is_file_shape (shape_of (graph_of self.now) file) ≡ true }
+        ensures { result ≡ has_records (graph_of self.now) file }
+    {
+        self.records(file) > 0
+    }
+
+    /// How many records a file has.
+    fn records(&self, file: NodeId) -> usize
+        requires { is_file_shape (shape_of (graph_of self.now) file) ≡ true }
+        ensures { result ≡ record_count (graph_of self.now) file }
+    {
+        match find(&self.nodes, file) {
+            Some(node) => node.body.records(),
+            None => 0,
+        }
+    }
+
+    /// The interval of an index that has this place, counted from 0; `None` where there is none.
+    pub fn interval(&self, index: NodeId, place: usize) -> Option<NodeId>
+        ensures { result ≡ interval_at (graph_of self.now) index place }
+    {
+        match find(&self.nodes, index) {
+            Some(node) => node.body.intervals().get(place).copied(),
+            None => None,
+        }
+    }
+
+    /// The one interval of an index in which the key lies.
+    pub fn interval_of(&self, index: NodeId, key: u64) -> NodeId
+        requires { is_index_shape (shape_of (graph_of self.now) index) ≡ true }
+        ensures { result ≡ interval_of (graph_of self.now) index key }
+    {
+        let Some(node) = find(&self.nodes, index) else {
+            unreachable!()
+        };
+        node.body.intervals()[interval_place(node.body.bounds(), key)]
+    }
+}

@@ -1,0 +1,12 @@
+//! The lock graph of Gray, Lorie, Putzolu and Traiger (1976) for a data base of inner nodes, files,
+//! indexes, intervals of indexes and records. No path closes, whatever is made, moved or removed.
+#![tactic(auto)]
+
+mod bounds;
+mod graph;
+mod kind;
+mod node;
+mod store;
+
+pub use graph::Graph;
+pub use kind::Kind;

@@ -1,0 +1,40 @@
+//! The slab of nodes: looking one up, and writing one.
+
+ghost use Rattle.std.specs.Prelude.{◌≡◌, Some, option_copied};
+ghost use Rattle.slab.specs.Slab.{ContainsKey, Updates, get, slab_len};
+ghost use Rattle.gl_graph.specs.declared.node.Node.{Node};
+ghost use Rattle.gl_graph.specs.Seen.{body_with_records, named};
+
+use gl_modes::NodeId;
+use slab::Slab;
+
+use crate::node::Node;
+
+/// The node that the id names.
+pub(crate) fn find(nodes: &Slab<Node>, n: NodeId) -> Option<&Node>
+    ensures { option_copied result ≡ named nodes.now n }
+{
+    match nodes.get(n.key) {
+        Some(node) if node.birth == n.birth => Some(node),
+        _ => None,
+    }
+}
+
+/// Writes how many records a file has.
+pub(crate) fn write_records(nodes: &mut Slab<Node>, key: usize, records: usize)
+    requires { ContainsKey nodes.old key }
+    ensures written { (x : Node) → get nodes.old key ≡ Some x → Updates nodes.old nodes.new key (Some (record x { body = body_with_records x.body records })) }
+    ensures len { slab_len nodes.new ≡ slab_len nodes.old }
+{
+    let Node {
+        birth,
+        parents,
+        body,
+    } = nodes.remove(key);
+    let body = body.with_records(records);
+    nodes.insert_reserved(Node {
+        birth,
+        parents,
+        body,
+    });
+}
