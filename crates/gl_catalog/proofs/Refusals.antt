@@ -1,0 +1,111 @@
+-- What it says that a command is not refused.
+use Rattle.std.specs.Prelude.{◌≡◌, ◌⊎◌, ℕ, ◌+◌, ◌<◌, ◌≤◌, Bool, true, false, not, ◌&&◌, ◌||◌, nat_lt, nat_le, List, [], ◌∷◌, length, Option, Some, None, if◌then◌else◌}
+use Rattle.std.specs.List.{list_all}
+use Rattle.std.proofs.Common.{refl, sym, ap, ◌∙◌, arith, inl, inr}
+use Rattle.std.proofs.lemmas.Bool.Decides.{nat_tests}
+use mathlib.Core.Bool.{true≢false}
+use Rattle.gl_modes.specs.declared.mode.Mode.{Mode}
+use Rattle.gl_modes.specs.declared.mode.Mode.TheVariants.{IX, X}
+use Rattle.gl_modes.specs.declared.node.NodeId.{NodeId}
+use Rattle.gl_modes.specs.declared.refusal.Refusal.{Refusal}
+use Rattle.gl_modes.specs.declared.refusal.Refusal.TheVariants as refusal
+use Rattle.gl_modes.specs.Modes.{is_at_least}
+use Rattle.gl_table.specs.declared.txn.TxnId.{TxnId}
+use Rattle.gl_table.specs.declared.txn.Status.{Status}
+use Rattle.gl_table.specs.declared.txn.Status.TheVariants.{Active, Waiting, Condemned}
+use Rattle.gl_graph.specs.Graph.{Graph, node_count, parents_of}
+use Rattle.gl_graph.specs.Lawful.{are_inner, are_distinct, IsRising, AreInnerParents}
+use Rattle.gl_graph.specs.Routes.{is_at_or_below}
+use Rattle.gl_graph.specs.Refusals.{is_rising}
+use Rattle.gl_modes.specs.Modes.{same_mode}
+use Rattle.gl_table.specs.State.{State, Txn, lives, live_by, status_of, status_in}
+use Rattle.gl_table.specs.Intends.{no_parents}
+use Rattle.gl_graph.specs.Refusals.{first_refusal, where_true, bad_parents, too_many_nodes, first_cycle}
+use Rattle.gl_table.specs.Refusals.{no_txn, waiting_test, condemned_test, first_not_ix, need_exclusive, need_new_parents, holds_x, holds_x_on_all, some_given}
+use Rattle.gl_graph.proofs.Look.{split, no, none_some, and_both, both}
+
+pub not_refused : (x : Option Refusal) (xs : List (Option Refusal)) → first_refusal (x ∷ xs) ≡ None → (x ≡ None) × (first_refusal xs ≡ None)
+not_refused None xs h = (refl, h)
+not_refused (Some r) xs h = absurd (none_some (sym h))
+
+pub test_fails : (b : Bool) (r : Refusal) → where_true b r ≡ None → b ≡ false
+test_fails true r h = absurd (none_some (sym h))
+test_fails false r h = refl
+
+pub not_false : (b : Bool) → not b ≡ false → b ≡ true
+not_false true h = refl
+not_false false h = absurd (true≢false h)
+
+pub or_no : (a b : Bool) → (a || b) ≡ false → (a ≡ false) × (b ≡ false)
+or_no true b h = absurd (true≢false h)
+or_no false b h = (refl, h)
+
+pub lt_no : (a b : ℕ) → nat_lt a b ≡ false → b ≤ a
+lt_no a b h = grind (arith, nat_tests)
+
+pub le_no : (a b : ℕ) → nat_le a b ≡ false → b < a
+le_no a b h = grind (arith, nat_tests)
+
+pub active_is : (s : State) (t : TxnId) → no_txn s t ≡ None → waiting_test (status_of s t.slot) ≡ None → condemned_test (status_of s t.slot) ≡ None → status_of s t.slot ≡ Some Active
+active_is s t h w c = by (s.txns t.slot) (not_false _ (test_fails (not (lives s t)) _ h)) w c
+  where
+    by : (o : Option Txn) → live_by t.age o ≡ true → waiting_test (status_in o) ≡ None → condemned_test (status_in o) ≡ None → status_in o ≡ Some Active
+    by None l w' c' = absurd (no l)
+    by (Some x) l w' c' = status x.status w' c'
+      where
+        status : (st : Status) → waiting_test (Some st) ≡ None → condemned_test (Some st) ≡ None → Some st ≡ Some Active
+        status Active w'' c'' = refl
+        status (Waiting n m) w'' c'' = absurd (none_some (sym w''))
+        status Condemned w'' c'' = absurd (none_some (sym c''))
+
+pub inner_parents : (s : State) (least : ℕ) (ps : List NodeId) → bad_parents s.graph least ps ≡ false → AreInnerParents s.graph least ps
+inner_parents s least ps h =
+    let a = or_no (nat_lt (length ps) least || nat_lt 8 (length ps) || not (are_inner s.graph ps)) (not (are_distinct ps)) h in
+    let b = or_no (nat_lt (length ps) least || nat_lt 8 (length ps)) (not (are_inner s.graph ps)) a.0 in
+    let c = or_no (nat_lt (length ps) least) (nat_lt 8 (length ps)) b.0 in
+    record { enough = lt_no _ _ c.0; few = lt_no _ _ c.1; inner = not_false _ b.1; distinct = not_false _ a.1 }
+
+pub enough_room : (s : State) (more : ℕ) → too_many_nodes s.graph more ≡ None → node_count s.graph + more ≤ 65536
+enough_room s more h = lt_no 65536 (node_count s.graph + more) (test_fails _ _ h)
+
+pub rising : (bs : List ℕ) → is_rising bs ≡ true → IsRising bs
+rising [] h = tt
+rising (b ∷ bs) h = let t = and_both (list_all (λ c. nat_lt b c) bs) (is_rising bs) h in (t.0, rising bs t.1)
+
+pub all_ix : (held : NodeId → Mode) (ps : List NodeId) → first_not_ix held ps ≡ None → list_all (λ p. is_at_least (held p) IX) ps ≡ true
+all_ix held [] h = refl
+all_ix held (p ∷ ps) h =
+    split (is_at_least (held p) IX) (λ e. both _ _ e (all_ix held ps (sym (ap (λ b. if b then first_not_ix held ps else Some (refusal.NeedParents p)) e) ∙ h)))
+    (λ e. absurd (none_some (sym (sym (ap (λ b. if b then first_not_ix held ps else Some (refusal.NeedParents p)) e) ∙ h))))
+
+pub no_cycle : (g : Graph) (n : NodeId) (ps : List NodeId) → first_cycle g n ps ≡ None → list_all (λ p. not (is_at_or_below (node_count g) g n p)) ps ≡ true
+no_cycle g n [] h = refl
+no_cycle g n (p ∷ ps) h =
+    split (is_at_or_below (node_count g) g n p) (λ e. absurd (none_some (sym (sym (ap (λ b. if b then Some (refusal.Cycle p) else first_cycle g n ps) e) ∙ h))))
+    (λ e. both _ _ (ap not e) (no_cycle g n ps (sym (ap (λ b. if b then Some (refusal.Cycle p) else first_cycle g n ps) e) ∙ h)))
+
+pub some_parents : (ps : List NodeId) → some_given ps ≡ true → no_parents ps ≡ false
+some_parents [] h = absurd (no h)
+some_parents (p ∷ ps) h = refl
+
+-- the mover has X on the node and IX or greater on all new parents, or X on all old and new ones
+pub record HoldsNode (s : State) (t : ℕ) (n : NodeId) (ps : List NodeId) : Type 0 where
+  pub x : same_mode (s.held t n) X ≡ true
+  pub new : list_all (λ p. is_at_least (s.held t p) IX) ps ≡ true
+
+pub record HoldsParents (s : State) (t : ℕ) (n : NodeId) (ps : List NodeId) : Type 0 where
+  pub some_old : no_parents (parents_of s.graph n) ≡ false
+  pub some_new : no_parents ps ≡ false
+  pub old : list_all (λ p. same_mode (s.held t p) X) (parents_of s.graph n) ≡ true
+  pub new : list_all (λ p. same_mode (s.held t p) X) ps ≡ true
+
+pub may_move : (s : State) (t : ℕ) (n : NodeId) (given : Bool) (ps : List NodeId) → need_exclusive s t n given ps ≡ None → need_new_parents s t n ps ≡ None
+    → (given ≡ true → (no_parents (parents_of s.graph n) ≡ false) × (no_parents ps ≡ false)) → HoldsNode s t n ps ⊎ HoldsParents s t n ps
+may_move s t n given ps h k some =
+    split (holds_x s t n)
+    (λ e. inl (record { x = e; new = all_ix (s.held t) ps (sym (ap (λ b. if b then first_not_ix (s.held t) ps else None) e) ∙ k) }))
+    (λ e.
+    let rest = not_false _ (ap (λ b. not b && not (given && holds_x_on_all s t (parents_of s.graph n) && holds_x_on_all s t ps)) (sym e) ∙ test_fails (not (holds_x s t n) && not (given && holds_x_on_all s t (parents_of s.graph n) && holds_x_on_all s t ps)) _ h) in
+    let a = and_both (given && holds_x_on_all s t (parents_of s.graph n)) (holds_x_on_all s t ps) rest in
+    let b = and_both given (holds_x_on_all s t (parents_of s.graph n)) a.0 in
+    inr (record { some_old = (some b.0).0; some_new = (some b.0).1; old = b.1; new = a.1 }))

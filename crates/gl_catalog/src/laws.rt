@@ -1,0 +1,29 @@
+//! The laws of all commands, each the contract of a call that does nothing.
+
+ghost use Rattle.gl_table.specs.Lawful.{EmptyIsLawful};
+ghost use Rattle.gl_table.specs.Waiting.{EmptyHasNoCycle};
+ghost use Rattle.gl_catalog.specs.Promises.{OthersKeepBelow, OthersKeepEffects, RunsKeepLaw, RunsKeepNoCycle, StepsKeepLaw};
+
+/// Each step of each command keeps the law; so does each run, and the empty state meets it.
+pub fn steps_keep_law()
+    ensures law { StepsKeepLaw }
+    ensures runs { RunsKeepLaw }
+    ensures start { EmptyIsLawful }
+{}
+
+/// Over a run that does not name it, a transaction's effective modes on the records that stand stay,
+/// or grow where it was told of a grant.
+pub fn others_keep_effects()
+    ensures { OthersKeepEffects }
+{}
+
+/// Over a run that does not name it, the records below what a transaction reads stay, with their keys.
+pub fn others_keep_below()
+    ensures { OthersKeepBelow }
+{}
+
+/// With detection at block no run makes a circle of waits, and the empty state has none.
+pub fn no_cycle()
+    ensures law { RunsKeepNoCycle }
+    ensures start { EmptyHasNoCycle }
+{}

@@ -1,0 +1,31 @@
+-- The rule of the lock graph, tested on explicit locks alone.
+use Rattle.std.specs.Prelude.{◌≡◌, ℕ, Bool, true, false, ◌||◌, List, [], ◌∷◌, if◌then◌else◌}
+use Rattle.std.specs.List.{list_any, list_all}
+use Rattle.gl_modes.specs.declared.mode.Mode.{Mode}
+use Rattle.gl_modes.specs.declared.node.NodeId.{NodeId}
+use Rattle.gl_modes.specs.declared.mode.Mode.TheVariants.{IS, IX, S, X}
+use Rattle.gl_graph.specs.Graph.{parents_of, shape_of}
+use Rattle.gl_graph.specs.Shapes.{is_record_shape}
+use Rattle.gl_modes.specs.Modes.{is_at_least, same_mode}
+use Rattle.gl_table.specs.State.{State}
+
+-- the graph rule, for the wanted mode
+abbrev pub is_write : Mode → Bool
+is_write m = is_at_least m IX
+
+abbrev pub no_parents : List NodeId → Bool
+no_parents [] = true
+no_parents (p ∷ ps) = false
+
+abbrev pub intends_over : (NodeId → Mode) → List NodeId → Mode → Bool
+intends_over held ps m =
+    if is_write m
+    then list_all (λ p. is_at_least (held p) IX) ps
+    else no_parents ps || list_any (λ p. is_at_least (held p) IS) ps
+
+abbrev pub intends : State → ℕ → NodeId → Mode → Bool
+intends s t n m = intends_over (s.held t) (parents_of s.graph n) m
+
+-- the law of a state
+abbrev pub ModeFitsKind : State → NodeId → Mode → Type 0
+ModeFitsKind s n m = is_record_shape (shape_of s.graph n) ≡ true → (same_mode m S || same_mode m X) ≡ true

@@ -1,0 +1,11 @@
+pub mod State
+pub mod Intends
+pub mod Effects
+pub mod Waiting
+pub mod Pumps
+pub mod Covered
+pub mod Lawful
+pub mod Tellings
+pub mod BoardOf
+pub mod Refusals
+pub mod Calls
