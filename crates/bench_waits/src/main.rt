@@ -4,12 +4,10 @@
 
 mod boards;
 
-use std::env;
-use std::io;
-use std::time::Instant;
-
 use boards::{Shape, board_of};
 use gl_waits::{Board, on_cycle, suspects};
+use std::time::Instant;
+use std::{env, io};
 
 /// Whom a turn asks for.
 #[derive(Clone, Copy)]
@@ -26,7 +24,13 @@ fn read(board: &Board, reading: Reading) -> u128 {
 }
 
 /// Prints what one turn takes, and what the turns read, so that none can be left out.
-fn time(rt: &HostRuntime, name: &str, turns: u64, shape: Shape, reading: Reading) -> io::Result<()> {
+fn time(
+    rt: &HostRuntime,
+    name: &str,
+    turns: u64,
+    shape: Shape,
+    reading: Reading,
+) -> io::Result<()> {
     let boards = [board_of(shape, 0), board_of(shape, 1)];
     let mut seen = 0;
     let start = Instant::now(rt)?;
@@ -54,12 +58,60 @@ fn turns_asked(rt: &HostRuntime) -> io::Result<u64> {
 
 fn main(rt: HostRuntime) -> io::Result<()> {
     let turns = turns_asked(&rt)?;
-    time(&rt, "suspects, nobody waits", turns, Shape::Idle, Reading::Suspects)?;
-    time(&rt, "on_cycle, a chain of 128", turns, Shape::Chain, Reading::CycleOfFirst)?;
-    time(&rt, "on_cycle, a ring of 128", turns, Shape::Ring, Reading::CycleOfFirst)?;
-    time(&rt, "on_cycle, a closed queue of 128", turns, Shape::ClosedQueue, Reading::CycleOfFirst)?;
-    time(&rt, "suspects, a chain of 128", turns, Shape::Chain, Reading::Suspects)?;
-    time(&rt, "suspects, a ring of 128", turns, Shape::Ring, Reading::Suspects)?;
-    time(&rt, "suspects, a queue of 128", turns, Shape::Queue, Reading::Suspects)?;
-    time(&rt, "suspects, a closed queue of 128", turns, Shape::ClosedQueue, Reading::Suspects)
+    time(
+        &rt,
+        "suspects, nobody waits",
+        turns,
+        Shape::Idle,
+        Reading::Suspects,
+    )?;
+    time(
+        &rt,
+        "on_cycle, a chain of 128",
+        turns,
+        Shape::Chain,
+        Reading::CycleOfFirst,
+    )?;
+    time(
+        &rt,
+        "on_cycle, a ring of 128",
+        turns,
+        Shape::Ring,
+        Reading::CycleOfFirst,
+    )?;
+    time(
+        &rt,
+        "on_cycle, a closed queue of 128",
+        turns,
+        Shape::ClosedQueue,
+        Reading::CycleOfFirst,
+    )?;
+    time(
+        &rt,
+        "suspects, a chain of 128",
+        turns,
+        Shape::Chain,
+        Reading::Suspects,
+    )?;
+    time(
+        &rt,
+        "suspects, a ring of 128",
+        turns,
+        Shape::Ring,
+        Reading::Suspects,
+    )?;
+    time(
+        &rt,
+        "suspects, a queue of 128",
+        turns,
+        Shape::Queue,
+        Reading::Suspects,
+    )?;
+    time(
+        &rt,
+        "suspects, a closed queue of 128",
+        turns,
+        Shape::ClosedQueue,
+        Reading::Suspects,
+    )
 }

@@ -1,5 +1,6 @@
 pub mod SetLemmas
 pub mod WalkLemmas
+pub mod CycleLemmas
 pub mod BoardLemmas
 mod Closing
 mod Chosen

@@ -4,6 +4,7 @@ use Rattle.std.specs.Int.{bit_at, bit_not, w128}
 use Rattle.std.proofs.Math.Pow.{pow-lt}
 use Rattle.std.proofs.lemmas.Nat.{and_le_l, div-add-mod', one_shl, pow_pos}
 use Rattle.std.proofs.lemmas.Nat.Bits.{bit_at-suc, bit_at_lowest, bit_at-zero, bit_at-lt, bit_at_and, bit_at_or, bit_at_above, bit_at_set_same, bit_at_set_other, bit_at_clear_same, bit_at_clear_other, bit_at_ones, bit_at_ones_above, bit_at-pow_same, bit_at-pow_other, bit_at_cat_low, bit_at_cat_high, and_pow, same_from_bits, same_from_bits_below}
+use Rattle.std.proofs.lemmas.Bool.{cases_lt, cases_order}
 use Rattle.std.proofs.lemmas.Bool.Decides.{nat_tests}
 use Rattle.gl_waits.specs.Sets.{has_slot, bits_of}
 
@@ -93,13 +94,10 @@ pub has_slot-set : (set k : ℕ) → k < 128 → (u : ℕ) → has_slot (bit_or 
 has_slot-set set k low u = more set _ k u (bit_at_set_same w128 set k low) (bit_at_set_other w128 set k low u)
 
 pub has_slot-clear : (set k : ℕ) → set < 2 ^ 128 → k < 128 → (u : ℕ) → has_slot (bit_and set (bit_not w128 (1 * 2 ^ k % 2 ^ 128))) u ≡ (has_slot set u && not (u == k))
-has_slot-clear set k small low u = less set cleared k u (bit_at_clear_same w128 set k low) (⊎_elim (λ within. bit_at_clear_other w128 set k low u within) (λ above ne. outside above) (order u))
+has_slot-clear set k small low u = less set cleared k u (bit_at_clear_same w128 set k low) (⊎_elim (λ within. bit_at_clear_other w128 set k low u within) (λ above ne. outside above) (cases_lt u 128))
   where
     cleared : ℕ
     cleared = bit_and set (bit_not w128 (1 * 2 ^ k % 2 ^ 128))
-
-    order : (x : ℕ) → (x < 128) ⊎ (128 ≤ x)
-    order x = grind arith
 
     least : (x y z : ℕ) → x ≡ min y z → y ≡ 0 → x ≡ y
     least x y z both none = omega arith
@@ -180,11 +178,8 @@ module _ (set k : ℕ) (has : has_slot set k ≡ true) (none : (u : ℕ) → u <
       ∙ sym (ap (λ n. bit_at n u) parts ∙ bit_at_cat_high high (suc k) low u low-lt above))
 
   pub has_slot-rest : (u : ℕ) → has_slot (bit_and set (set - 1)) u ≡ (has_slot set u && not (u == k))
-  has_slot-rest u = has_slot-and set (set - 1) u ∙ by (order u k)
+  has_slot-rest u = has_slot-and set (set - 1) u ∙ by (cases_order u k)
     where
-      order : (a b : ℕ) → (a < b) ⊎ ((a ≡ b) ⊎ (b < a))
-      order a b = grind arith
-
       absent : (a b c : Bool) → a ≡ false → (a && b) ≡ (a && c)
       absent a b c e = grind (arith, nat_tests)
 
@@ -194,7 +189,7 @@ module _ (set k : ℕ) (has : has_slot set k ≡ true) (none : (u : ℕ) → u <
       beyond : (a b : Bool) → b ≡ a → k < u → (a && b) ≡ (a && not (u == k))
       beyond a b e above = grind (arith, nat_tests)
 
-      by : (u < k) ⊎ ((u ≡ k) ⊎ (k < u)) → (has_slot set u && has_slot (set - 1) u) ≡ (has_slot set u && not (u == k))
-      by (inl below) = absent _ _ _ (none u below)
-      by (inr (inl is)) = at _ _ (ap (has_slot (set - 1)) is ∙ gone) is
+      by : (u ≡ k) ⊎ ((u < k) ⊎ (k < u)) → (has_slot set u && has_slot (set - 1) u) ≡ (has_slot set u && not (u == k))
+      by (inl is) = at _ _ (ap (has_slot (set - 1)) is ∙ gone) is
+      by (inr (inl below)) = absent _ _ _ (none u below)
       by (inr (inr above)) = beyond _ _ (kept u above) above

@@ -5,7 +5,7 @@ ghost use Rattle.gl_waits.specs.Sets.{has_slot};
 ghost use Rattle.gl_waits.specs.Boards.{board_edge};
 ghost use Rattle.gl_waits.specs.Waits.{IsOnCycleOf};
 
-use crate::board::Board;
+use crate::board::{Board, SLOTS};
 use crate::reach::{columns, reached_from};
 use crate::set::has;
 
@@ -15,7 +15,7 @@ use crate::set::has;
 /// Where `slot` is on no cycle this reads each row that it reaches once, and no other; where it is
 /// on one, these rows are read twice more, once bit by bit.
 pub fn on_cycle(board: &Board, slot: usize) -> u128
-    requires { slot < 128 }
+    requires { slot < SLOTS }
     ensures { (u : ℕ) → IsTrue (has_slot result u) ↔ IsOnCycleOf (board_edge board.now) slot u }
 {
     let reached = reached_from(&board.rows, slot);

@@ -42,8 +42,10 @@ fn reaches_of_all(rows: &[u128; SLOTS]) -> [u128; SLOTS]
 
 /// Adds what `middle` reaches to each row that has `middle`.
 fn pass_through(reaches: &mut [u128; SLOTS], middle: usize)
-    requires { middle < 128 }
-    ensures { (s u : ℕ) → row_edge reaches.new s u ≡ (row_edge reaches.old s u || (row_edge reaches.old s middle && row_edge reaches.old middle u)) }
+    requires { middle < SLOTS }
+    ensures { (s u : ℕ) → row_edge reaches.new s u ≡
+        (row_edge reaches.old s u
+        || (row_edge reaches.old s middle && row_edge reaches.old middle u)) }
 {
     let beyond = reaches[middle];
     if beyond == 0 {

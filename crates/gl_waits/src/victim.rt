@@ -26,9 +26,10 @@ pub fn youngest(board: &Board, set: u128) -> Option<usize>
 
 /// Whether `slot` is younger than the one chosen so far, if there is one.
 fn is_younger(board: &Board, slot: usize, chosen: Option<usize>) -> bool
-    requires low { slot < 128 }
-    requires chosen_low { ForSome chosen (λ other. other < 128) }
-    ensures { result ≡ option_map_or (λ other. nat_lt (age_in board.now other) (age_in board.now slot)) chosen true }
+    requires low { slot < SLOTS }
+    requires chosen_low { ForSome chosen (λ other. other < SLOTS) }
+    ensures { result ≡
+        option_map_or (λ other. nat_lt (age_in board.now other) (age_in board.now slot)) chosen true }
 {
     match chosen {
         Some(other) => board.ages[other] < board.ages[slot],

@@ -1,20 +1,20 @@
-use Rattle.std.proofs.Common.{◌&&◌, ap₂, sym, ◌∙◌}
+use Rattle.std.proofs.Common.{sym, ◌∙◌}
+use Rattle.std.proofs.lemmas.Bool.{and_parts, and_from}
 use Rattle.gl_waits.specs.Sets.{has_slot}
 use Rattle.gl_waits.specs.Boards.{board_edge, row_edge}
 use Rattle.gl_waits.proofs.SetLemmas.{has_slot-zero, has_slot-and}
 use Rattle.gl_waits.proofs.WalkLemmas.{reaches_join}
 use Rattle.gl_waits.proofs.BoardLemmas.{meets-cycle, cycle-meets}
-use Rattle.gl_waits.proofs.Closing.{and_both}
 use Rattle.gl_waits.proofs.cycle.on_cycle.Goals as goal
 
 pub returns-then-has : goal.returns-then-has
 returns-then-has c = λ u. (
   (λ h.
-      let both = and_both _ _ (sym (has_slot-and c.reached_from-reached.result c.reached_from.result u) ∙ h) in
+      let both = and_parts _ _ (sym (has_slot-and c.reached_from-reached.result c.reached_from.result u) ∙ h) in
       meets-cycle (board_edge c.args.board.now) (row_edge c.columns.result) (has_slot c.reached_from-reached.result) c.args.slot c.reached_from-reached.ensures c.columns.ensures u both.0 ((c.reached_from.ensures u).0 both.1)),
   (λ on.
       let both = cycle-meets (board_edge c.args.board.now) (row_edge c.columns.result) (has_slot c.reached_from-reached.result) c.args.slot c.reached_from-reached.ensures c.columns.ensures u on in
-      has_slot-and c.reached_from-reached.result c.reached_from.result u ∙ ap₂ (λ a b. a && b) both.0 ((c.reached_from.ensures u).1 both.1)),
+      has_slot-and c.reached_from-reached.result c.reached_from.result u ∙ and_from _ _ both.0 ((c.reached_from.ensures u).1 both.1)),
 )
 
 pub returns-else-has : goal.returns-else-has

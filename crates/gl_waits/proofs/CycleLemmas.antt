@@ -1,0 +1,67 @@
+-- Cycles: what a set of slots that was read from a board says of them, and cycles of a relation that changed.
+use Rattle.std.proofs.Common.{◌≡◌, ◌≢◌, ◌⊎◌, ℕ, ◌↔◌, Bool, true, List, [], ◌∷◌, IsTrue, ap, subst, ⊎_elim, inl, inr}
+use Rattle.std.proofs.lemmas.Bool.{cases_eq, false_from_ne_true}
+use Rattle.gl_waits.specs.Waits.{IsWalk, Reaches, IsOnCycleOf, IsOnCycle, IsOnNoCycle, IsYoungest, IsLowestYoungest}
+use Rattle.gl_waits.specs.Sets.{has_slot}
+use Rattle.gl_waits.proofs.SetLemmas.{has_slot-zero, no_slot-zero}
+use Rattle.gl_waits.proofs.WalkLemmas.{reaches_join, reaches_more}
+
+-- a set with exactly the slots on a cycle with t, as `on_cycle` answers
+module _ (edge : ℕ → ℕ → Bool) (t set : ℕ) (exact : (u : ℕ) → IsTrue (has_slot set u) ↔ IsOnCycleOf edge t u) where
+  pub empty-no_cycle : set ≡ 0 → IsOnNoCycle edge t
+  empty-no_cycle e v on = cc ((exact v).1 on, ap (λ n. has_slot n v) e, has_slot-zero v)
+
+  pub no_cycle-empty : IsOnNoCycle edge t → set ≡ 0
+  no_cycle-empty none = no_slot-zero set (λ u. false_from_ne_true (has_slot set u) (λ h. none u ((exact u).0 h)))
+
+  -- the one that `youngest` answers for it is the youngest on the cycle
+  pub youngest-on_cycle : (age : ℕ → ℕ) (v : ℕ) → IsLowestYoungest (λ u. IsTrue (has_slot set u)) age v → IsYoungest (IsOnCycleOf edge t) age v
+  youngest-on_cycle age v best = record {
+    is_member = (exact v).0 best.youngest.is_member;
+    greatest = λ u on. best.youngest.greatest u ((exact u).1 on);
+  }
+
+-- a set with exactly the slots on some cycle, as `suspects` answers
+module _ (edge : ℕ → ℕ → Bool) (set : ℕ) (exact : (s : ℕ) → IsTrue (has_slot set s) ↔ IsOnCycle edge s) where
+  pub no_suspect-no_cycle : set ≡ 0 → (t : ℕ) → IsOnNoCycle edge t
+  no_suspect-no_cycle e t v on = cc ((exact t).1 (v, on), ap (λ n. has_slot n t) e, has_slot-zero t)
+
+  pub no_cycle-no_suspect : ((t : ℕ) → IsOnNoCycle edge t) → set ≡ 0
+  no_cycle-no_suspect none = no_slot-zero set (λ s. false_from_ne_true (has_slot set s) (λ h. let on = (exact s).0 h in none s on.0 on.1))
+
+-- with more steps a cycle stays, so with fewer none appears
+pub cycle-more : (edge more : ℕ → ℕ → Bool) → ((x y : ℕ) → edge x y ≡ true → more x y ≡ true) → (t v : ℕ) → IsOnCycleOf edge t v → IsOnCycleOf more t v
+cycle-more edge more sub t v on = record { there = reaches_more edge more sub t v on.there; back = reaches_more edge more sub v t on.back }
+
+pub less-no_cycle : (edge less : ℕ → ℕ → Bool) → ((x y : ℕ) → less x y ≡ true → edge x y ≡ true) → ((t : ℕ) → IsOnNoCycle edge t) → (t : ℕ) → IsOnNoCycle less t
+less-no_cycle edge less sub none t v on = none t v (cycle-more less edge sub t v on)
+
+-- a relation that has new steps from t or to t alone
+module _ (edge new : ℕ → ℕ → Bool) (t : ℕ) (others : (x y : ℕ) → new x y ≡ true → x ≢ t → y ≢ t → edge x y ≡ true) where
+  -- a walk that does not pass t is one of before
+  past : (a u : ℕ) (way : List ℕ) → a ≢ t → u ≢ t → IsWalk new a way u → IsWalk edge a way u ⊎ (Reaches new a t × Reaches new t u)
+  past a u [] na nu h = inl (others a u h na nu)
+  past a u (v ∷ way) na nu h =
+      ⊎_elim
+      (λ is. inr (([], subst (λ x. new a x ≡ true) is h.0), (way, subst (λ x. IsWalk new x way u) is h.1)))
+      (λ nv. ⊎_elim (λ w. inl (others a v h.0 na nv, w)) (λ r. inr ((v ∷ r.0.0, (h.0, r.0.1)), r.1)) (past v u way nv nu h.1))
+      (cases_eq v t)
+
+  -- where there was no cycle, and t is on none now, there is none now
+  pub at_one-no_cycle : ((x : ℕ) → IsOnNoCycle edge x) → IsOnNoCycle new t → (x : ℕ) → IsOnNoCycle new x
+  at_one-no_cycle none free x v on =
+      ⊎_elim
+      (λ is. free v (subst (λ y. IsOnCycleOf new y v) is on))
+      (λ nx. ⊎_elim (λ is. free x (record { there = subst (λ y. Reaches new y x) is on.back; back = subst (Reaches new x) is on.there })) (λ nv. apart nx nv) (cases_eq v t))
+      (cases_eq x t)
+    where
+      back_too : IsWalk edge x on.there.0 v → x ≢ t → v ≢ t → ⊥
+      back_too w nx nv =
+          ⊎_elim
+          (λ w'. none x v (record { there = (on.there.0, w); back = (on.back.0, w') }))
+          (λ r. free x (record { there = r.1; back = reaches_join new x v t on.there r.0 }))
+          (past v x on.back.0 nv nx on.back.1)
+
+      apart : x ≢ t → v ≢ t → ⊥
+      apart nx nv =
+          ⊎_elim (λ w. back_too w nx nv) (λ r. free x (record { there = reaches_join new t v x r.1 on.back; back = r.0 })) (past x v on.there.0 nx nv on.there.1)
