@@ -1,62 +1,29 @@
 -- How an ask is decided over the lists, and what it leaves.
-use Rattle.std.proofs.Common.{
-  ◌≡◌,
-  ℕ,
-  ◌<◌,
-  Bool,
-  true,
-  false,
-  cond,
-  ◌&&◌,
-  ◌||◌,
-  not,
-  Option,
-  Some,
-  None,
-  List,
-  [],
-  ◌∷◌,
-  length,
-  refl,
-  sym,
-  ap,
-  ap₂,
-  ◌∙◌,
-  arith,
-}
-use Rattle.std.specs.Prelude.{◌==◌, ◌≢◌, if◌then◌else◌}
+use Rattle.std.proofs.Common.{◌≡◌, ℕ, ◌<◌, Bool, true, false, ◌&&◌, ◌||◌, Some, None, List, [], ◌∷◌, refl, sym, ap, ap₂, ◌∙◌, arith}
+use Rattle.std.specs.Prelude.{◌≢◌, if◌then◌else◌}
 use Rattle.std.specs.Option.{unwrap_or}
-use Rattle.std.specs.List.{list_all}
-use Rattle.std.proofs.lemmas.Bool.Decides.{nat_tests}
 use Rattle.gl_modes.specs.declared.mode.Mode.{Mode}
 use Rattle.gl_modes.specs.declared.mode.Mode.TheVariants.{NL}
-use Rattle.gl_modes.specs.Modes.{are_compatible, supremum, is_at_least, same_mode}
+use Rattle.gl_modes.specs.Modes.{are_compatible, supremum}
 use Rattle.gl_modes.proofs.ModeLemmas.{supremum-above, supremum-not_NL, not_NL}
 use Rattle.gl_header.specs.Header.{Waiter, is_among_waiters, wanted_by, is_empty, placed, with_mode}
-use Rattle.gl_header.specs.State.{HeaderState, members_of, wanted, is_granted}
+use Rattle.gl_header.specs.State.{HeaderState, wanted, is_granted}
 use Rattle.gl_header.specs.Answers.{asked_members, asked_queue}
 use Rattle.gl_header.specs.Entries.{mode_at, fits_beside, supremum_of, with_grant}
 use Rattle.gl_header.specs.Sound.{is_entry, IsOrderly, IsLawfulLists, placed_in}
 use Rattle.gl_header.proofs.Groups.{fits_beside-group, is_entry-from}
 use Rattle.gl_header.proofs.Orderly.{orderly-with_grant, orderly-placed_in, stuck-with_grant, stuck-placed_in}
+use Rattle.gl_header.proofs.Waiters.{wanted-none, wanted-some}
 use Rattle.gl_header.proofs.Bridge.{listed, fits-list, with_grant-list, placed-list}
 
--- a slot's entry, where it has one and where it has none
+-- the mode in a slot's entry, NL where it has none
 
-pub found-mode : (es : List Waiter) (s : ℕ) → unwrap_or (wanted_by es s) NL ≡ mode_at es s
-found-mode [] s = refl
-found-mode (e ∷ es) s = grind (arith, found-mode es s)
+pub mode_at-wanted : (es : List Waiter) (s : ℕ) → unwrap_or (wanted_by es s) NL ≡ mode_at es s
+mode_at-wanted [] s = refl
+mode_at-wanted (e ∷ es) s = grind (arith, mode_at-wanted es s)
 
-pub found-none : (es : List Waiter) (s : ℕ) → wanted_by es s ≡ None → is_among_waiters s es ≡ false
-found-none [] s h = refl
-found-none (e ∷ es) s h = grind (arith, found-none es s)
-
-pub found-some : (es : List Waiter) (s : ℕ) (m : Mode) → wanted_by es s ≡ Some m → is_among_waiters s es ≡ true
-found-some [] s m h = cc
-found-some (e ∷ es) s m h = grind (arith, found-some es s m)
-
-pub found-held : (es : List Waiter) (s : ℕ) (m : Mode) → wanted_by es s ≡ Some m → mode_at es s ≡ m
-found-held es s m h = sym (found-mode es s) ∙ ap (λ o. unwrap_or o NL) h
+pub mode_at-held : (es : List Waiter) (s : ℕ) (m : Mode) → wanted_by es s ≡ Some m → mode_at es s ≡ m
+mode_at-held es s m h = sym (mode_at-wanted es s) ∙ ap (λ o. unwrap_or o NL) h
 
 -- an ask is granted at once
 pub granted-list : (h : HeaderState) (s : ℕ) (m : Mode) → IsOrderly h.members h.queue → is_granted h s m ≡ (fits_beside h.members s (wanted h s m) && (is_among_waiters s h.members || is_empty h.queue))
@@ -79,17 +46,17 @@ and_or_last false b c h = refl
 pub granted-member : (h : HeaderState) (s : ℕ) (m held : Mode) → IsOrderly h.members h.queue → wanted_by h.members s ≡ Some held → is_granted h s m ≡ fits_beside h.members s (supremum held m)
 granted-member h s m held o f =
     granted-list h s m o
-    ∙ (and_or_true (fits_beside h.members s (wanted h s m)) _ _ (found-some h.members s held f) ∙ ap (λ x. fits_beside h.members s (supremum x m)) (found-held h.members s held f))
+    ∙ (and_or_true (fits_beside h.members s (wanted h s m)) _ _ (wanted-some h.members s held f) ∙ ap (λ x. fits_beside h.members s (supremum x m)) (mode_at-held h.members s held f))
 
 pub granted-newcomer : (h : HeaderState) (s : ℕ) (m : Mode) → IsOrderly h.members h.queue → h.group ≡ supremum_of h.members → wanted_by h.members s ≡ None → is_empty h.queue ≡ true → is_granted h s m ≡ are_compatible m h.group
 granted-newcomer h s m o g f e =
-    let none : mode_at h.members s ≡ NL = sym (found-mode h.members s) ∙ ap (λ x. unwrap_or x NL) f in
+    let none : mode_at h.members s ≡ NL = sym (mode_at-wanted h.members s) ∙ ap (λ x. unwrap_or x NL) f in
     granted-list h s m o
-    ∙ (and_or_last (fits_beside h.members s (wanted h s m)) _ _ e ∙ (ap (λ x. fits_beside h.members s (supremum x m)) none ∙ (fits_beside-group h.members s m (found-none h.members s f) ∙ ap (are_compatible m) (sym g))))
+    ∙ (and_or_last (fits_beside h.members s (wanted h s m)) _ _ e ∙ (ap (λ x. fits_beside h.members s (supremum x m)) none ∙ (fits_beside-group h.members s m (wanted-none h.members s f) ∙ ap (are_compatible m) (sym g))))
 
 pub granted-queued : (h : HeaderState) (s : ℕ) (m : Mode) → IsOrderly h.members h.queue → wanted_by h.members s ≡ None → is_empty h.queue ≡ false → is_granted h s m ≡ false
 granted-queued h s m o f e =
-    granted-list h s m o ∙ and_or_false (fits_beside h.members s (wanted h s m)) _ _ (found-none h.members s f) e
+    granted-list h s m o ∙ and_or_false (fits_beside h.members s (wanted h s m)) _ _ (wanted-none h.members s f) e
 
 -- the wanted mode is a lock of a slot below 128
 wanted-entry : (h : HeaderState) (s : ℕ) (m : Mode) → s < 128 → m ≢ NL → is_entry (s, wanted h s m) ≡ true

@@ -1,74 +1,18 @@
 -- The lists that the code keeps, in the words of members and queues.
-use Rattle.std.proofs.Common.{
-  ◌≡◌,
-  ℕ,
-  ◌+◌,
-  ◌<◌,
-  ◌≤◌,
-  Bool,
-  true,
-  false,
-  cond,
-  ◌&&◌,
-  ◌||◌,
-  not,
-  Option,
-  Some,
-  None,
-  List,
-  [],
-  ◌∷◌,
-  ◌++◌,
-  length,
-  drop,
-  refl,
-  sym,
-  ap,
-  ap₂,
-  ◌∙◌,
-  arith,
-}
-use Rattle.std.specs.Prelude.{◌==◌, ◌≢◌, if◌then◌else◌}
-use Rattle.std.specs.List.{filter, list_all, range_with_len}
+use Rattle.std.proofs.Common.{◌≡◌, ℕ, ◌<◌, Bool, true, false, cond, ◌&&◌, ◌||◌, not, List, [], ◌∷◌, ◌++◌, refl, sym, ap, ap₂, ◌∙◌, arith}
+use Rattle.std.specs.Prelude.{◌==◌, if◌then◌else◌}
+use Rattle.std.specs.List.{filter, list_all}
 use Rattle.std.proofs.Math.Path.{fun_ext}
 use Rattle.std.proofs.lemmas.Bool.Decides.{nat_tests}
 use Rattle.gl_modes.specs.declared.mode.Mode.{Mode}
 use Rattle.gl_modes.specs.declared.mode.Mode.TheVariants.{NL}
-use Rattle.gl_modes.specs.Modes.{are_compatible, supremum, same_mode, is_at_least}
+use Rattle.gl_modes.specs.Modes.{supremum, same_mode, is_at_least}
 use Rattle.gl_modes.proofs.ModeLemmas.{at_least-transitive, supremum-above, supremum-above_right, supremum-least}
-use Rattle.gl_header.specs.Header.{
-  Members,
-  Waiter,
-  IsWithin,
-  holds,
-  with_mode,
-  fits,
-  Fits,
-  group_of,
-  is_waiter,
-  is_among_waiters,
-  is_empty,
-  enters,
-  placed,
-  front,
-  after_grants,
-  without_waiter,
-}
+use Rattle.gl_header.specs.Header.{Waiter, IsWithin, holds, with_mode, fits, group_of, is_among_waiters, is_empty, placed, front, after_grants, without_waiter}
 use Rattle.gl_header.specs.State.{slot_limit, nobody_holds}
 use Rattle.gl_header.specs.Entries.{mode_at, fits_beside, supremum_of, with_grant, without}
-use Rattle.gl_header.specs.Sound.{
-  is_distinct,
-  is_entry,
-  all_new,
-  is_ordered,
-  is_stuck,
-  IsOrderly,
-  granted_from,
-  grant_all,
-  left_from,
-  placed_in,
-}
-use Rattle.gl_header.proofs.Tests.{
+use Rattle.gl_header.specs.Sound.{is_distinct, is_entry, all_new, is_ordered, is_stuck, IsOrderly, granted_from, grant_all, placed_in}
+use Rattle.gl_header.proofs.Ranges.{
   equal_tests,
   both_true,
   by_test,
@@ -79,7 +23,7 @@ use Rattle.gl_header.proofs.Tests.{
 }
 use Rattle.gl_header.proofs.Fits.{fits-all, fits-from_all, within-more, slot_limit-is}
 use Rattle.gl_header.proofs.GroupOf.{at_least-NL, group_of-unique}
-use Rattle.gl_header.proofs.Lists.{mode_at-none, mode_at-with_grant, mode_at-without, among-with_grant}
+use Rattle.gl_header.proofs.Lists.{mode_at-none, mode_at-with_grant, mode_at-without}
 use Rattle.gl_header.proofs.Orderly.{fits_beside-mode_at, fits_beside-from_mode_at, orderly-front}
 
 -- the first entry, and the others, are valid
@@ -156,9 +100,9 @@ front-list ms (w ∷ q) o =
     let f : fits slot_limit (mode_at ms) w.0 w.1 ≡ fits_beside ms w.0 w.1 = fits-list ms w.0 w.1 o.members_distinct o.members_valid in
     by_test (fits_beside ms w.0 w.1)
     (λ e.
-      let r : front slot_limit (mode_at (with_grant ms w.0 w.1)) q ≡ granted_from (with_grant ms w.0 w.1) q = front-list (with_grant ms w.0 w.1) q (orderly-front ms w q o e) in
-      let s : front slot_limit (with_mode (mode_at ms) w.0 w.1) q ≡ granted_from (with_grant ms w.0 w.1) q = ap (λ g. front slot_limit g q) (sym (with_grant-list ms w.0 w.1)) ∙ r in
-      ap₂ (λ b ws. if b then w ∷ ws else []) f s)
+    let r : front slot_limit (mode_at (with_grant ms w.0 w.1)) q ≡ granted_from (with_grant ms w.0 w.1) q = front-list (with_grant ms w.0 w.1) q (orderly-front ms w q o e) in
+    let s : front slot_limit (with_mode (mode_at ms) w.0 w.1) q ≡ granted_from (with_grant ms w.0 w.1) q = ap (λ g. front slot_limit g q) (sym (with_grant-list ms w.0 w.1)) ∙ r in
+    ap₂ (λ b ws. if b then w ∷ ws else []) f s)
     (λ e. rw (f, e) refl)
 
 -- nobody is granted where the first waiter does not fit
@@ -208,7 +152,6 @@ group-list es d v =
 
 -- a wait is put into its place
 
-
 -- the same over any test of who holds
 split-placed : (ms q : List Waiter) (e : Waiter) → is_among_waiters e.0 ms ≡ true → is_ordered ms q ≡ true → placed_in ms q e ≡ filter (λ w. is_among_waiters w.0 ms) q ++ e ∷ filter (λ w. not (is_among_waiters w.0 ms)) q
 split-placed ms [] e h o = refl
@@ -247,8 +190,8 @@ nobody-list (e ∷ es) v =
     let a : is_among_waiters e.0 (e ∷ es) ≡ true = grind (arith, nat_tests) in
     equal_tests _ _
     (λ h.
-      let n : not (holds (mode_at (e ∷ es)) e.0) ≡ true = range-each _ 0 slot_limit h e.0 (omega arith) (omega arith) in
-      absurd (clash _ (sym l ∙ a) n))
+    let n : not (holds (mode_at (e ∷ es)) e.0) ≡ true = range-each _ 0 slot_limit h e.0 (omega arith) (omega arith) in
+    absurd (clash _ (sym l ∙ a) n))
     (λ h. cc)
   where
     clash : (b : Bool) → b ≡ true → not b ≡ true → ⊥

@@ -1,5 +1,5 @@
 -- What a removal and the grants from the front leave, as a caller sees it.
-use Rattle.std.proofs.Common.{◌≡◌, ℕ, true, false, List, length, drop, refl, sym, ap, ap₂, ◌∙◌}
+use Rattle.std.proofs.Common.{◌≡◌, List, length, drop, sym, ap, ap₂, ◌∙◌}
 use Rattle.gl_header.specs.Header.{
   Members,
   Waiter,

@@ -1,26 +1,6 @@
 -- What fits, below any limit under which all members lie.
-use Rattle.std.proofs.Common.{
-  ◌≡◌,
-  ℕ,
-  ◌+◌,
-  ◌<◌,
-  ◌≤◌,
-  Bool,
-  true,
-  false,
-  ◌&&◌,
-  ◌||◌,
-  List,
-  refl,
-  sym,
-  ap,
-  ap₂,
-  ◌∙◌,
-  ⊎_elim,
-  arith,
-}
+use Rattle.std.proofs.Common.{◌≡◌, ℕ, ◌<◌, ◌≤◌, Bool, true, ◌&&◌, ◌||◌, List, refl, sym, ap, ap₂, ◌∙◌, ⊎_elim, arith}
 use Rattle.std.specs.Prelude.{◌==◌, ◌≢◌}
-use Rattle.std.specs.List.{list_all, range_with_len}
 use Rattle.std.proofs.lemmas.Bool.{cases_eq}
 use Rattle.std.proofs.lemmas.Bool.Decides.{nat_tests}
 use Rattle.gl_modes.specs.declared.mode.Mode.{Mode}
@@ -39,7 +19,7 @@ use Rattle.gl_header.specs.Header.{
   is_empty,
 }
 use Rattle.gl_header.specs.State.{slot_limit}
-use Rattle.gl_header.proofs.Tests.{equal_tests, range-each, range-from_each, below_or_not}
+use Rattle.gl_header.proofs.Ranges.{equal_tests, range-each, range-from_each, below_or_not}
 
 -- the limit of slots is 128
 pub slot_limit-is : slot_limit ≡ 128

@@ -1,47 +1,10 @@
 -- What granting from a front leaves.
-use Rattle.std.proofs.Common.{
-  ◌≡◌,
-  ℕ,
-  ◌+◌,
-  ◌<◌,
-  ◌≤◌,
-  Bool,
-  true,
-  false,
-  ◌||◌,
-  List,
-  [],
-  ◌∷◌,
-  ◌++◌,
-  length,
-  drop,
-  refl,
-  sym,
-  ap,
-  ap₂,
-  ◌∙◌,
-  arith,
-}
-use Rattle.std.specs.Prelude.{◌==◌, ◌≢◌, if◌then◌else◌}
+use Rattle.std.proofs.Common.{◌≡◌, ℕ, ◌<◌, ◌≤◌, Bool, true, false, List, [], ◌∷◌, ◌++◌, length, drop, refl, ap, ap₂, arith}
+use Rattle.std.specs.Prelude.{if◌then◌else◌}
 use Rattle.std.proofs.lemmas.Bool.Decides.{nat_tests}
-use Rattle.gl_modes.specs.declared.mode.Mode.{Mode}
-use Rattle.gl_header.specs.Header.{
-  Members,
-  Waiter,
-  IsCompatible,
-  IsWithin,
-  AreBelow,
-  fits,
-  with_mode,
-  front,
-  after_grants,
-  pumped_members,
-  pumped_queue,
-  is_waiter,
-  is_among_waiters,
-}
+use Rattle.gl_header.specs.Header.{Members, Waiter, IsCompatible, IsWithin, AreBelow, fits, with_mode, front, after_grants, pumped_members, pumped_queue, is_among_waiters}
 use Rattle.gl_header.specs.State.{slot_limit}
-use Rattle.gl_header.proofs.Tests.{by_test}
+use Rattle.gl_header.proofs.Ranges.{by_test}
 use Rattle.gl_header.proofs.Fits.{
   fits-all,
   fits-limits,

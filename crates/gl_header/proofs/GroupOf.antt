@@ -1,27 +1,5 @@
 -- The group mode is the least mode that is each member's or greater.
-use Rattle.std.proofs.Common.{
-  ◌≡◌,
-  ℕ,
-  zero,
-  suc,
-  ◌+◌,
-  ◌<◌,
-  ◌≤◌,
-  Bool,
-  true,
-  ◌&&◌,
-  List,
-  [],
-  ◌∷◌,
-  refl,
-  sym,
-  ap,
-  ap₂,
-  subst,
-  ◌∙◌,
-  ⊎_elim,
-  arith,
-}
+use Rattle.std.proofs.Common.{◌≡◌, ℕ, zero, suc, ◌+◌, ◌<◌, ◌≤◌, true, ◌&&◌, List, [], ◌∷◌, refl, ap, ap₂, ◌∙◌, ⊎_elim, arith}
 use Rattle.std.specs.List.{fold, range_with_len}
 use Rattle.std.proofs.lemmas.Bool.{cases_eq}
 use Rattle.gl_modes.specs.declared.mode.Mode.{Mode}
@@ -38,7 +16,7 @@ use Rattle.gl_modes.proofs.ModeLemmas.{
 }
 use Rattle.gl_header.specs.Header.{Members, IsWithin, group_of}
 use Rattle.gl_header.specs.State.{slot_limit}
-use Rattle.gl_header.proofs.Tests.{below_or_not}
+use Rattle.gl_header.proofs.Ranges.{below_or_not}
 use Rattle.gl_header.proofs.Fits.{within-limit}
 
 pub at_least-NL : (a : Mode) → is_at_least a NL ≡ true

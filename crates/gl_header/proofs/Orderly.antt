@@ -1,49 +1,13 @@
 -- Members and queue stay orderly under each change.
-use Rattle.std.proofs.Common.{
-  ◌≡◌,
-  ℕ,
-  ◌+◌,
-  ◌<◌,
-  ◌≤◌,
-  Bool,
-  true,
-  false,
-  cond,
-  ◌&&◌,
-  ◌||◌,
-  not,
-  List,
-  [],
-  ◌∷◌,
-  length,
-  refl,
-  sym,
-  ap,
-  ap₂,
-  ◌∙◌,
-  arith,
-  map,
-  ltb,
-}
+use Rattle.std.proofs.Common.{◌≡◌, ℕ, Bool, true, false, cond, ◌&&◌, ◌||◌, not, List, [], ◌∷◌, refl, ap₂, ◌∙◌, arith}
 use Rattle.std.specs.Prelude.{◌==◌}
-use Rattle.std.specs.List.{list_any, list_all, IsDistinct, AllByRecursion}
-use Rattle.std.proofs.lemmas.Map.Steps.{length-le_from_distinct_below}
+use Rattle.std.specs.List.{list_all}
 use Rattle.std.proofs.lemmas.Bool.Decides.{nat_tests}
 use Rattle.gl_modes.specs.declared.mode.Mode.{Mode}
-use Rattle.gl_modes.specs.declared.mode.Mode.TheVariants.{NL}
-use Rattle.gl_modes.specs.Modes.{are_compatible, supremum, same_mode, is_at_least}
-use Rattle.gl_modes.proofs.ModeLemmas.{
-  compatible-symmetric,
-  lesser-compatible,
-  supremum-tested,
-  supremum-associative,
-  supremum-NL,
-  supremum-raised,
-  NL-compatible,
-  not_NL,
-}
+use Rattle.gl_modes.specs.Modes.{are_compatible, is_at_least}
+use Rattle.gl_modes.proofs.ModeLemmas.{compatible-symmetric, lesser-compatible, NL-compatible}
 use Rattle.gl_header.specs.Header.{Waiter, is_among_waiters, is_empty}
-use Rattle.gl_header.specs.Entries.{mode_at, fits_beside, supremum_of, with_grant, without}
+use Rattle.gl_header.specs.Entries.{mode_at, fits_beside, with_grant, without}
 use Rattle.gl_header.specs.Sound.{
   is_distinct,
   is_entry,
@@ -54,7 +18,7 @@ use Rattle.gl_header.specs.Sound.{
   IsOrderly,
   placed_in,
 }
-use Rattle.gl_header.proofs.Tests.{both_true}
+use Rattle.gl_header.proofs.Ranges.{both_true}
 use Rattle.gl_header.proofs.Lists.{
   among-with_grant,
   mode_at-with_grant,
@@ -149,13 +113,13 @@ fits_beside-weaker [] s m t x h ne f = refl
 fits_beside-weaker (e ∷ es) s m t x h ne f =
     elim (e.0 == s) as (λ b. is_at_least m (cond b e.1 (mode_at es s)) ≡ true → fits_beside (cond b ((s, m) ∷ es) (e ∷ with_grant es s m)) t x ≡ true → (((e.0 == t) || are_compatible x e.1) && fits_beside es t x) ≡ true) [
       | true ↦ λ k g.
-        let p = both_true _ _ g in
-        let c : are_compatible x m ≡ true = beside-other s t _ ne p.0 in
-        let d : are_compatible x e.1 ≡ true = lesser-fits x m e.1 k c in
-        ap₂ (λ a b. ((e.0 == t) || a) && b) d p.1 ∙ or_and_true (e.0 == t)
+          let p = both_true _ _ g in
+          let c : are_compatible x m ≡ true = beside-other s t _ ne p.0 in
+          let d : are_compatible x e.1 ≡ true = lesser-fits x m e.1 k c in
+          ap₂ (λ a b. ((e.0 == t) || a) && b) d p.1 ∙ or_and_true (e.0 == t)
       | false ↦ λ k g.
-        let p = both_true _ _ g in
-        ap₂ (λ a b. a && b) p.0 (fits_beside-weaker es s m t x k ne p.1)
+          let p = both_true _ _ g in
+          ap₂ (λ a b. a && b) p.0 (fits_beside-weaker es s m t x k ne p.1)
     ] h f
 
 pub stuck-with_grant : (ms q : List Waiter) (s : ℕ) (m : Mode) → is_stuck ms q ≡ true → is_among_waiters s q ≡ false → is_at_least m (mode_at ms s) ≡ true → is_stuck (with_grant ms s m) q ≡ true

@@ -1,27 +1,5 @@
 -- What granting from the front does to the lists, one waiter after the other.
-use Rattle.std.proofs.Common.{
-  ◌≡◌,
-  ℕ,
-  ◌+◌,
-  ◌≤◌,
-  Bool,
-  true,
-  false,
-  cond,
-  Some,
-  List,
-  [],
-  ◌∷◌,
-  ◌++◌,
-  length,
-  drop,
-  refl,
-  sym,
-  subst,
-  ap,
-  ◌∙◌,
-  arith,
-}
+use Rattle.std.proofs.Common.{◌≡◌, ◌+◌, ◌≤◌, true, false, cond, Some, List, [], ◌∷◌, length, drop, refl, sym, subst, arith}
 use Rattle.std.specs.List.{remove, slice_get}
 use Rattle.gl_modes.specs.Modes.{supremum}
 use Rattle.gl_header.specs.Header.{Waiter}

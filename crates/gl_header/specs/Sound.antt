@@ -2,7 +2,6 @@
 use Rattle.std.specs.Prelude.{◌≡◌, ℕ, Bool, true, false, cond, ◌&&◌, not, List, [], ◌∷◌, ◌==◌, ltb}
 use Rattle.std.specs.List.{list_all}
 use Rattle.smallvec.specs.SmallVec.{small_vec_len, HasRoomFor}
-use Rattle.gl_modes.specs.declared.mode.Mode.{Mode}
 use Rattle.gl_modes.specs.declared.mode.Mode.TheVariants.{NL}
 use Rattle.gl_modes.specs.Modes.{are_compatible, same_mode, is_at_least}
 use Rattle.gl_header.specs.Header.{Waiter, is_among_waiters}

@@ -90,7 +90,7 @@ impl Header {
     /// it holds and stands in its place, the first waiter does not fit, and the group mode is the
     /// supremum of what is held.
     pub fn law(&self)
-        ensures { IsLawfulHeader self.now }
+        ensures lawful { IsLawfulHeader self.now }
     {
         let _ = &self.members;
     }
@@ -103,7 +103,6 @@ impl Header {
     }
 
     /// The mode that a slot holds, `NL` where it holds none.
-    
     pub fn mode_of(&self, slot: u8) -> Mode
         ensures { result ≡ members_of self.now slot }
     {
@@ -239,6 +238,6 @@ impl Header {
         ensures after { self.new ≡ record self.old { queue = without_waiter slot self.old.queue } }
         ensures lawful { IsLawfulHeader self.new }
     {
-        take_out(&mut self.queue, slot);
+        take_out(&mut self.queue, slot); // Nobody is granted.
     }
 }

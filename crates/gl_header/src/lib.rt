@@ -12,3 +12,6 @@ mod header;
 
 pub use changes::SLOTS;
 pub use header::{Asked, Header, Try};
+
+#[cfg(test)]
+mod tests;

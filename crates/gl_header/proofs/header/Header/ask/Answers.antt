@@ -1,4 +1,4 @@
-use Rattle.std.proofs.Common.{◌≡◌, true, false, arith, sym, subst, ap, ◌∙◌}
+use Rattle.std.proofs.Common.{◌≡◌, true, false, sym, subst, ap, ◌∙◌}
 use Rattle.gl_modes.specs.Modes.{supremum, is_at_least}
 use Rattle.gl_modes.proofs.ModeLemmas.{supremum-above}
 use Rattle.gl_header.specs.Answers.{asked_members, asked_queue}
@@ -23,7 +23,7 @@ use Rattle.gl_header.proofs.header.Header.ask.Goals as goal
 pub returns-in_default-clause-held : goal.returns-in_default-clause-held
 returns-in_default-clause-held c =
     λ h g. c.in_default.ensures.held
-      (listed c.self.inside.members.items c.args.slot c.self.invariant.lists.orderly.members_valid ∙ subst (λ (x : HeaderState). holds (members_of x) c.args.slot ≡ true) (sym c.self.view_is) h)
+    (listed c.self.inside.members.items c.args.slot c.self.invariant.lists.orderly.members_valid ∙ subst (λ (x : HeaderState). holds (members_of x) c.args.slot ≡ true) (sym c.self.view_is) h)
 
 pub returns-in_default-clause-lawful : goal.returns-in_default-clause-lawful
 returns-in_default-clause-lawful c =

@@ -1,7 +1,7 @@
-use Rattle.std.proofs.Common.{◌≡◌, [], true, arith, sym, subst, ap, ◌∙◌}
+use Rattle.std.proofs.Common.{◌≡◌, [], arith, sym, subst, ap, ◌∙◌}
 use Rattle.gl_header.specs.Header.{front, without_waiter}
-use Rattle.gl_header.specs.Entries.{mode_at, without}
-use Rattle.gl_header.specs.Sound.{IsOrderly, IsLawfulLists, is_stuck}
+use Rattle.gl_header.specs.Entries.{mode_at}
+use Rattle.gl_header.specs.Sound.{IsOrderly, IsLawfulLists}
 use Rattle.gl_header.specs.State.{HeaderState, members_of, slot_limit}
 use Rattle.gl_header.proofs.Lists.{length-without_le}
 use Rattle.gl_header.proofs.Orderly.{orderly-waiter_gone}

@@ -1,0 +1,56 @@
+-- A header that nobody uses, both ways.
+use Rattle.std.proofs.Common.{◌≡◌, ℕ, Bool, true, false, ◌&&◌, not, List, [], ◌∷◌, refl, arith}
+use Rattle.std.specs.Prelude.{◌⊎◌}
+use Rattle.std.proofs.Common.{inl, inr, ⊎_elim}
+use Rattle.gl_modes.specs.declared.mode.Mode.{Mode}
+use Rattle.gl_modes.specs.declared.mode.Mode.TheVariants.{NL}
+use Rattle.gl_modes.specs.Modes.{same_mode}
+use Rattle.gl_modes.proofs.ModeLemmas.{same_mode-equal}
+use Rattle.gl_header.specs.Header.{Members, Waiter, IsWithin, holds, is_empty}
+use Rattle.gl_header.specs.State.{HeaderState, IsLawfulHeader, members_of, nobody_holds, is_unused, slot_limit}
+use Rattle.gl_header.proofs.Ranges.{both_true, by_test, below_or_not, range-each, range-fails}
+use Rattle.gl_header.proofs.Fits.{within-limit}
+
+not-held : (m : Mode) → not (not (same_mode m NL)) ≡ true → m ≡ NL
+not-held m h = same_mode-equal m NL (twice (same_mode m NL) h)
+  where
+    twice : (b : Bool) → not (not b) ≡ true → b ≡ true
+    twice true h = refl
+    twice false h = h
+
+empty-list : (q : List Waiter) → is_empty q ≡ true → q ≡ []
+empty-list [] h = refl
+empty-list (w ∷ q) h = cc
+
+-- no slot below the limit holds, so none does
+pub nobody_holds-all : (most : ℕ) (g : Members) → IsWithin most g → nobody_holds most g ≡ true → (t : ℕ) → g t ≡ NL
+nobody_holds-all most g w h t =
+    ⊎_elim (λ lt. not-held (g t) (range-each _ 0 most h t (omega arith) (omega arith))) (w t) (below_or_not t most)
+
+-- nobody holds, and nobody waits
+pub unused-true : (h : HeaderState) → IsLawfulHeader h → is_unused h ≡ true → ((t : ℕ) → members_of h t ≡ NL) × (h.queue ≡ [])
+unused-true h l u =
+    let b = both_true (nobody_holds slot_limit (members_of h)) (is_empty h.queue) u in
+    (nobody_holds-all slot_limit (members_of h) (within-limit 128 (members_of h) (omega arith) l.members_below) b.0, empty-list h.queue b.1)
+
+held-by : (b : Bool) → not b ≡ false → b ≡ true
+held-by true h = refl
+held-by false h = cc
+
+-- somebody holds, or somebody waits
+pub unused-false : (h : HeaderState) → is_unused h ≡ false → ((t : ℕ) × (holds (members_of h) t ≡ true)) ⊎ (is_empty h.queue ≡ false)
+unused-false h u =
+    by_test (is_empty h.queue)
+    (λ e.
+    let n : nobody_holds slot_limit (members_of h) ≡ false = first (nobody_holds slot_limit (members_of h)) (is_empty h.queue) e u in
+    let f = range-fails (λ t. not (holds (members_of h) t)) 0 slot_limit n in
+    inl (f.0, held-by (holds (members_of h) f.0) f.1))
+    (λ e. inr e)
+  where
+    first : (a b : Bool) → b ≡ true → (a && b) ≡ false → a ≡ false
+    first true b h k = absurd (clash b h k)
+      where
+        clash : (b : Bool) → b ≡ true → b ≡ false → ⊥
+        clash true h k = cc
+        clash false h k = cc
+    first false b h k = refl

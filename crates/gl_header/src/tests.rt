@@ -1,0 +1,229 @@
+//! The worked rows, by slots, and what each call does where memory is refused.
+
+use crate::{Asked, Header, SLOTS, Try};
+use arrayvec::ArrayVec;
+use gl_modes::{Mode, Refusal};
+
+/// What a drop granted.
+type Granted = ArrayVec<(u8, Mode), SLOTS>;
+
+/// Asks where the call's conditions hold.
+#[tactic(auto, using(crate::proofs::Steps::caller_steps))]
+fn ask_once(header: &mut Header, slot: u8, mode: Mode) -> Result<Option<Asked>, Refusal> {
+    if slot >= 128 || mode == Mode::NL || header.wanted_by(slot).is_some() {
+        return Ok(None);
+    }
+    Ok(Some(header.ask(slot, mode)?))
+}
+
+/// Asks, and once more where memory was refused.
+fn ask(header: &mut Header, slot: u8, mode: Mode) -> Result<Option<Asked>, Refusal> {
+    match ask_once(header, slot, mode) {
+        Err(_) => ask_once(header, slot, mode),
+        answer => answer,
+    }
+}
+
+/// Tries where the call's conditions hold.
+#[tactic(auto, using(crate::proofs::Steps::caller_steps))]
+fn try_ask(header: &mut Header, slot: u8, mode: Mode) -> Result<Option<Try>, Refusal> {
+    if slot >= 128 || mode == Mode::NL || header.wanted_by(slot).is_some() {
+        return Ok(None);
+    }
+    Ok(Some(header.try_ask(slot, mode)?))
+}
+
+/// Drops a grant where there is one and the slot does not wait.
+#[tactic(auto, using(crate::proofs::Steps::caller_steps))]
+fn drop_grant(header: &mut Header, slot: u8) -> Option<Granted> {
+    if header.mode_of(slot) == Mode::NL || header.wanted_by(slot).is_some() {
+        return None;
+    }
+    Some(header.drop_grant(slot))
+}
+
+/// Drops a wait where there is one.
+#[tactic(auto, using(crate::proofs::Steps::caller_steps))]
+fn drop_wait(header: &mut Header, slot: u8) -> Option<Granted> {
+    if header.wanted_by(slot).is_none() {
+        return None;
+    }
+    Some(header.drop_wait(slot))
+}
+
+/// Dismisses a wait behind another one, which cannot let anybody in.
+#[tactic(auto, using(crate::proofs::Steps::caller_steps))]
+fn dismiss_behind(header: &mut Header, slot: u8, other: u8) -> bool {
+    if !header.ahead(slot, other) {
+        return false;
+    }
+    header.law();
+    header.dismiss(slot);
+    true
+}
+
+#[test]
+fn a_conversion_goes_first(rt: HostRuntime) -> Result<(), Refusal> {
+    let mut header = Header::new(rt.alloc());
+    assert_eq!(rt;
+        ask(&mut header, 0, Mode::S)?,
+        Some(Asked::Granted(Mode::S))
+    );
+    assert_eq!(rt;
+        ask(&mut header, 1, Mode::S)?,
+        Some(Asked::Granted(Mode::S))
+    );
+    assert_eq!(rt; ask(&mut header, 2, Mode::X)?, Some(Asked::Waiting));
+    assert_eq!(rt; ask(&mut header, 0, Mode::X)?, Some(Asked::Waiting));
+    let granted = drop_grant(&mut header, 1).expect(&rt, "slot 1 holds S");
+    assert_eq!(rt; granted.as_slice(), [(0, Mode::X)].as_slice());
+    assert_eq!(rt; header.group(), Mode::X);
+    let granted = drop_grant(&mut header, 0).expect(&rt, "slot 0 holds X");
+    assert_eq!(rt; granted.as_slice(), [(2, Mode::X)].as_slice());
+    Ok(())
+}
+
+#[test]
+fn a_conversion_passes_the_queue(rt: HostRuntime) -> Result<(), Refusal> {
+    let mut header = Header::new(rt.alloc());
+    assert_eq!(rt;
+        ask(&mut header, 0, Mode::IS)?,
+        Some(Asked::Granted(Mode::IS))
+    );
+    assert_eq!(rt; ask(&mut header, 1, Mode::X)?, Some(Asked::Waiting));
+    assert_eq!(rt;
+        ask(&mut header, 0, Mode::S)?,
+        Some(Asked::Granted(Mode::S))
+    );
+    Ok(())
+}
+
+#[test]
+fn one_release_lets_all_readers_in(rt: HostRuntime) -> Result<(), Refusal> {
+    for last in [63, 127] {
+        let mut header = Header::new(rt.alloc());
+        assert_eq!(rt;
+            ask(&mut header, 0, Mode::X)?,
+            Some(Asked::Granted(Mode::X))
+        );
+        for slot in 1..=last {
+            assert_eq!(rt; ask(&mut header, slot, Mode::S)?, Some(Asked::Waiting));
+        }
+        let granted = drop_grant(&mut header, 0).expect(&rt, "slot 0 holds X");
+        assert_eq!(rt; granted.len(), usize::from(last));
+        for (slot, grant) in (1..=last).zip(granted.as_slice()) {
+            assert_eq!(rt; *grant, (slot, Mode::S));
+        }
+        assert_eq!(rt; header.group(), Mode::S);
+    }
+    Ok(())
+}
+
+#[test]
+fn the_group_falls(rt: HostRuntime) -> Result<(), Refusal> {
+    let mut header = Header::new(rt.alloc());
+    assert_eq!(rt;
+        ask(&mut header, 0, Mode::IX)?,
+        Some(Asked::Granted(Mode::IX))
+    );
+    assert_eq!(rt;
+        ask(&mut header, 0, Mode::S)?,
+        Some(Asked::Granted(Mode::SIX))
+    );
+    assert_eq!(rt; try_ask(&mut header, 1, Mode::IX)?, Some(Try::WouldBlock));
+    assert_eq!(rt;
+        try_ask(&mut header, 1, Mode::IS)?,
+        Some(Try::Granted(Mode::IS))
+    );
+    let granted = drop_grant(&mut header, 0).expect(&rt, "slot 0 holds SIX");
+    assert!(rt; granted.is_empty());
+    assert_eq!(rt; header.group(), Mode::IS);
+    Ok(())
+}
+
+#[test]
+fn waits_are_taken_out(rt: HostRuntime) -> Result<(), Refusal> {
+    let mut header = Header::new(rt.alloc());
+    assert!(rt; header.is_empty());
+    assert_eq!(rt;
+        ask(&mut header, 0, Mode::S)?,
+        Some(Asked::Granted(Mode::S))
+    );
+    for (slot, mode) in [(1, Mode::X), (2, Mode::IX), (3, Mode::IS)] {
+        assert!(rt; !header.would_grant(slot, mode));
+        assert_eq!(rt; ask(&mut header, slot, mode)?, Some(Asked::Waiting));
+    }
+    assert!(rt; header.ahead(3, 1) && header.ahead(3, 2) && !header.ahead(2, 3));
+    assert_eq!(rt; header.wanted_by(2), Some(Mode::IX));
+    assert_eq!(rt; header.mode_of(2), Mode::NL);
+    assert!(rt; dismiss_behind(&mut header, 2, 1));
+    assert_eq!(rt; header.wanted_by(2), None);
+    let granted = drop_wait(&mut header, 1).expect(&rt, "slot 1 waits");
+    assert_eq!(rt; granted.as_slice(), [(3, Mode::IS)].as_slice());
+    assert!(rt; !header.is_empty());
+    for slot in [0, 3] {
+        let granted = drop_grant(&mut header, slot).expect(&rt, "both hold");
+        assert!(rt; granted.is_empty());
+    }
+    assert!(rt; header.is_empty());
+    assert_eq!(rt; header.group(), Mode::NL);
+    Ok(())
+}
+
+/// All that can be asked of the first slots.
+#[derive(Clone, Copy, PartialEq, Debug)]
+struct Seen {
+    group: Mode,
+    held: [Mode; 24],
+    wanted: [Option<Mode>; 24],
+}
+
+fn look(header: &Header) -> Seen {
+    let mut seen = Seen {
+        group: header.group(),
+        held: [Mode::NL; 24],
+        wanted: [None; 24],
+    };
+    for slot in 0..24 {
+        seen.held[slot as usize] = header.mode_of(slot);
+        seen.wanted[slot as usize] = header.wanted_by(slot);
+    }
+    seen
+}
+
+/// Where a wait's growth is refused nothing has changed, and the call made again goes on.
+#[test]
+fn a_refused_wait_changes_nothing(rt: HostRuntime) -> Result<(), Refusal> {
+    let mut header = Header::new(rt.alloc());
+    for slot in 0..24 {
+        let mode = if slot == 0 { Mode::X } else { Mode::S };
+        let before = look(&header);
+        if ask_once(&mut header, slot, mode).is_err() {
+            assert_eq!(rt; look(&header), before);
+            ask_once(&mut header, slot, mode)?;
+        }
+        assert_eq!(rt; header.wanted_by(slot).is_some(), slot > 0);
+    }
+    let granted = drop_grant(&mut header, 0).expect(&rt, "slot 0 holds X");
+    assert_eq!(rt; granted.len(), 23);
+    Ok(())
+}
+
+/// The same of grants at once; a member's raise takes no memory.
+#[test]
+fn a_refused_grant_changes_nothing(rt: HostRuntime) -> Result<(), Refusal> {
+    let mut header = Header::new(rt.alloc());
+    for slot in 0..24 {
+        let before = look(&header);
+        if try_ask(&mut header, slot, Mode::IS).is_err() {
+            assert_eq!(rt; look(&header), before);
+            try_ask(&mut header, slot, Mode::IS)?;
+        }
+        assert_eq!(rt;
+            ask_once(&mut header, slot, Mode::IX)?,
+            Some(Asked::Granted(Mode::IX))
+        );
+    }
+    assert_eq!(rt; header.group(), Mode::IX);
+    Ok(())
+}
