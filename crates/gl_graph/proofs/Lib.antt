@@ -17,3 +17,8 @@ pub mod Counts
 pub mod Kept
 pub mod RecordParents
 pub mod SoundRecord
+pub mod Left
+pub mod Distinct
+pub mod SoundRemoved
+pub mod SoundChanged
+pub mod Rekey

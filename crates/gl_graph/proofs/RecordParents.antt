@@ -2,14 +2,15 @@
 use Rattle.std.specs.Prelude.{◌≡◌, ℕ, ◌<◌, ◌≤◌, Bool, true, false, ◌||◌, nat_le, List, [], ◌∷◌, length, Option, Some, None, slice_index_or, zero, suc, ◌&&◌}
 use Rattle.std.specs.List.{list_all, list_any}
 use Rattle.std.proofs.lemmas.List.Sums.{count_by-le-length}
-use Rattle.std.proofs.Common.{refl, sym, ap, ◌∙◌, arith}
+use Rattle.std.proofs.Common.{refl, sym, ap, ap₂, ◌∙◌, subst, arith}
 use Rattle.gl_modes.specs.declared.node.NodeId.{NodeId}
 use Rattle.gl_modes.specs.Nodes.{same_node}
-use Rattle.gl_graph.specs.Shapes.{Shape, Inner, File, Index, Interval, Rec, is_file_shape, is_index_shape, is_record_shape, is_index_of_shape, bounds_in}
-use Rattle.gl_graph.specs.Graph.{Graph, shape_of, shape_in, parents_of, is_child, is_record_of, nodes, indexes_of, interval_of, interval_place, intervals_of, record_parents}
+use Rattle.gl_graph.specs.Shapes.{Shape, Inner, File, Index, Interval, Rec, is_file_shape, is_index_shape, is_record_shape, is_index_of_shape, bounds_in, keys_in}
+use Rattle.gl_graph.specs.Graph.{Graph, shape_of, shape_in, parents_in, parents_of, first_parent, is_child, is_record_of, nodes, indexes_of, interval_of, interval_place, intervals_of, record_parents}
 use Rattle.gl_graph.specs.Lawful.{IsLawfulGraph}
-use Rattle.gl_graph.proofs.Look.{split, no, and_both, or_elim, same_node_is, all_filter}
+use Rattle.gl_graph.proofs.Look.{split, no, and_both, or_elim, same_node_is, all_filter, shaped_node}
 use Rattle.gl_graph.proofs.KindRules.{interval_is}
+use Rattle.gl_graph.proofs.Moved.{file_of_record}
 
 pub all_at_place : {A : Type 0} (p : A → Bool) (xs : List A) (k : ℕ) (d : A) → list_all p xs ≡ true → k < length xs → p (slice_index_or xs k d) ≡ true
 all_at_place p [] k d all low = absurd (omega arith)
@@ -47,3 +48,36 @@ module _ (g : Graph) (law : IsLawfulGraph g) where
       or_nothing : (b : Bool) → (b || false) ≡ b
       or_nothing true = refl
       or_nothing false = refl
+
+record_shape : (o : Option Shape) → is_record_shape o ≡ true → (keys : List ℕ) × (o ≡ Some (Rec keys))
+record_shape None h = absurd (no h)
+record_shape (Some Inner) h = absurd (no h)
+record_shape (Some File) h = absurd (no h)
+record_shape (Some (Index file bounds)) h = absurd (no h)
+record_shape (Some (Interval place)) h = absurd (no h)
+record_shape (Some (Rec keys)) h = (keys, refl)
+
+-- a record that lives: its file is its first parent
+module _ (g : Graph) (law : IsLawfulGraph g) (r : NodeId) (rec : is_record_shape (shape_of g r) ≡ true) where
+  of_file : (is_file_shape (shape_of g (first_parent g r)) ≡ true) × (length (keys_in (shape_of g r)) ≡ length (indexes_of g (first_parent g r))) × (parents_of g r ≡ record_parents g (first_parent g r) (keys_in (shape_of g r)))
+  of_file =
+      let keys = record_shape (shape_of g r) rec in
+      let node = shaped_node g r (Rec keys.0) keys.1 in
+      let file = file_of_record g law r node.0 node.1 keys.0 node.2 in
+      let same : keys.0 ≡ keys_in (shape_of g r) = sym (ap keys_in keys.1) in
+      subst (λ ks. (is_file_shape (shape_of g (first_parent g r)) ≡ true) × (length ks ≡ length (indexes_of g (first_parent g r))) × (parents_of g r ≡ record_parents g (first_parent g r) ks)) same
+      (file.0, file.1, ap parents_in node.1 ∙ file.3)
+
+  pub its_file : is_file_shape (shape_of g (first_parent g r)) ≡ true
+  its_file = of_file.0
+
+  pub its_keys : length (keys_in (shape_of g r)) ≡ length (indexes_of g (first_parent g r))
+  its_keys = of_file.1
+
+  pub its_parents : parents_of g r ≡ record_parents g (first_parent g r) (keys_in (shape_of g r))
+  its_parents = of_file.2
+
+  -- it is a record of its file alone
+  pub record_of_file : (f : NodeId) → is_file_shape (shape_of g f) ≡ true → is_record_of g f r ≡ same_node f (first_parent g r)
+  record_of_file f h =
+      ap₂ (λ b ps. b && list_any (same_node f) ps) rec its_parents ∙ file_among g law (first_parent g r) f (keys_in (shape_of g r)) h

@@ -24,7 +24,7 @@ module _ (g : Graph) (law : IsLawfulGraph g) (r : NodeId) (rec : is_record_shape
   pub left_same : (q : NodeId) → q.birth ≢ r.birth → node_at (without_node g r) q ≡ node_at g q
   left_same q ne = ap (with_key q.key) (at_beside q.birth ne)
 
-  rec_live : is_live g r ≡ true
+  pub rec_live : is_live g r ≡ true
   rec_live = cases_of (node_at g r) (λ e. absurd (no (sym (ap (λ o. is_record_shape (shape_in o)) e) ∙ rec))) (λ x e. ap is_some e)
 
   -- other living nodes stay
@@ -83,7 +83,7 @@ module _ (g : Graph) (law : IsLawfulGraph g) (r : NodeId) (rec : is_record_shape
   pub indexes_left : (f : NodeId) → indexes_of (without_node g r) f ≡ indexes_of g f
   indexes_left f = indexes_are (without_node g r) f ∙ ap (λ (h : ℕ → Option NodeId). filter_map h (range_with_len 1 g.births)) (fun_ext (index_same f)) ∙ sym (indexes_are g f)
 
-  removed_frames : Frames g (without_node g r)
+  pub removed_frames : Frames g (without_node g r)
   removed_frames = record {
     shapes = λ q h. ap shape_in (plain_stays q h);
     intervals = λ q place node e shape. plain_stays q (ap (λ o. is_plain (shape_in o)) e ∙ ap (λ s. is_plain (Some s)) shape) ∙ e;

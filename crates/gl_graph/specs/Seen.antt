@@ -1,5 +1,5 @@
 -- What a contract sees of a slab of nodes, and what holds of it always.
-use Rattle.std.specs.Prelude.{◌≡◌, ℕ, ◌==◌, List, [], map, Option, Some, None, if◌then◌else◌}
+use Rattle.std.specs.Prelude.{◌≡◌, ℕ, ◌==◌, List, [], map, Option, Some, None, if◌then◌else◌, slice_set, ◌+◌}
 use Rattle.gl_modes.specs.declared.node.NodeId.{NodeId}
 use Rattle.slab.specs.Slab.{Slab, get, slab_len}
 use Rattle.gl_graph.specs.declared.node.Body.{Body}
@@ -74,3 +74,11 @@ IsPlainBody b = ⊥
 abbrev pub body_with_records : Body → ℕ → Body
 body_with_records (body.File indexes records) fresh = body.File indexes fresh
 body_with_records b fresh = b
+
+abbrev pub body_with_key : Body → ℕ → ℕ → Body
+body_with_key (body.Rec keys) place key = body.Rec (record keys { items = slice_set keys.items place key })
+body_with_key b place key = b
+
+-- a record with another key at this place, and another interval at the place behind it
+abbrev pub with_key_at : Node → ℕ → ℕ → NodeId → Node
+with_key_at x place key interval = record x { parents = record x.parents { items = slice_set x.parents.items (place + 1) interval }; body = body_with_key x.body place key }

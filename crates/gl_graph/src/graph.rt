@@ -19,6 +19,7 @@ use slab::Slab;
 use std::alloc::Global;
 use std::marker::Model;
 
+mod change;
 mod checks;
 mod make;
 

@@ -35,9 +35,10 @@ pub(crate) struct Node {
 }
 
 impl Body {
-    ghost use Rattle.std.specs.Prelude.{◌≡◌, Some};
+    ghost use Rattle.std.specs.Prelude.{◌≡◌, ◌<◌, Some, length};
     ghost use Rattle.gl_graph.specs.Shapes.{bounds_in, keys_in, kind_in};
     ghost use Rattle.gl_graph.specs.Seen.{
+      body_with_key,
       body_with_records,
       indexes_in_body,
       intervals_in_body,
@@ -108,6 +109,20 @@ impl Body {
     {
         match self {
             Body::File { indexes, .. } => Body::File { indexes, records },
+            other => other,
+        }
+    }
+
+    /// A record with another key at this place; another body as it is.
+    pub(crate) fn with_key(self, place: usize, key: u64) -> Body
+        requires { place < length (keys_in (Some (shape_in_body self))) }
+        ensures { result ≡ body_with_key self place key }
+    {
+        match self {
+            Body::Rec { mut keys } => {
+                keys.as_mut_slice()[place] = key;
+                Body::Rec { keys }
+            }
             other => other,
         }
     }

@@ -1,9 +1,10 @@
 //! The slab of nodes: looking one up, and writing one.
 
-ghost use Rattle.std.specs.Prelude.{◌≡◌, Some, option_copied};
+ghost use Rattle.std.specs.Prelude.{◌≡◌, ◌+◌, ◌<◌, Some, length, option_copied};
 ghost use Rattle.slab.specs.Slab.{ContainsKey, Updates, get, slab_len};
 ghost use Rattle.gl_graph.specs.declared.node.Node.{Node};
-ghost use Rattle.gl_graph.specs.Seen.{body_with_records, named};
+ghost use Rattle.gl_graph.specs.Shapes.{keys_in};
+ghost use Rattle.gl_graph.specs.Seen.{body_with_records, named, shape_in_body, with_key_at};
 
 use gl_modes::NodeId;
 use slab::Slab;
@@ -32,6 +33,34 @@ pub(crate) fn write_records(nodes: &mut Slab<Node>, key: usize, records: usize)
         body,
     } = nodes.remove(key);
     let body = body.with_records(records);
+    nodes.insert_reserved(Node {
+        birth,
+        parents,
+        body,
+    });
+}
+
+/// Writes one key of a record, and the interval in which it lies.
+pub(crate) fn write_key(
+    nodes: &mut Slab<Node>,
+    rec: usize,
+    place: usize,
+    key: u64,
+    interval: NodeId,
+)
+    requires there { ContainsKey nodes.old rec }
+    requires keys { (x : Node) → get nodes.old rec ≡ Some x → place < length (keys_in (Some (shape_in_body x.body))) }
+    requires parents { (x : Node) → get nodes.old rec ≡ Some x → place + 1 < length x.parents.items }
+    ensures written { (x : Node) → get nodes.old rec ≡ Some x → Updates nodes.old nodes.new rec (Some (with_key_at x place key interval)) }
+    ensures len { slab_len nodes.new ≡ slab_len nodes.old }
+{
+    let Node {
+        birth,
+        mut parents,
+        body,
+    } = nodes.remove(rec);
+    parents.as_mut_slice()[place + 1] = interval;
+    let body = body.with_key(place, key);
     nodes.insert_reserved(Node {
         birth,
         parents,

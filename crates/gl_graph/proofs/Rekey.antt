@@ -1,0 +1,193 @@
+-- One key of a record is written at the place of its index, and its interval behind it.
+use Rattle.std.specs.Prelude.{◌≡◌, ◌≢◌, ℕ, zero, suc, ◌+◌, ◌<◌, ◌≤◌, Bool, true, false, not, nat_lt, ◌&&◌, ◌||◌, List, [], ◌∷◌, length, Option, Some, None, is_some, if◌then◌else◌, slice_index_or, slice_set, position}
+use Rattle.std.specs.List.{list_any, position_or_len}
+use Rattle.std.proofs.lemmas.Bool.Decides.{nat_tests}
+use Rattle.gl_modes.proofs.NodeLemmas.{same_node-sym}
+use Rattle.std.proofs.lemmas.List.Quantifiers.{position-Some}
+use Rattle.std.proofs.Common.{refl, sym, ap, ap₂, ◌∙◌, subst, arith}
+use Rattle.gl_modes.specs.declared.node.NodeId.{NodeId}
+use Rattle.gl_modes.specs.Nodes.{same_node}
+use Rattle.slab.specs.Slab.{Slab, get, slab_len, ContainsKey, Updates}
+use Rattle.gl_graph.specs.declared.node.Body.{Body}
+use Rattle.gl_graph.specs.declared.node.Body.TheVariants as body
+use Rattle.gl_graph.specs.declared.node.Node.{Node as Stored}
+use Rattle.gl_graph.specs.Shapes.{Shape, Rec, is_file_shape, is_record_shape, is_index_of_shape, keys_in}
+use Rattle.gl_graph.specs.Graph.{Graph, Node, node_at, is_live, shape_in, shape_of, parents_in, parents_of, first_parent, indexes_of, interval_of, intervals_of, record_parents, is_record_of}
+use Rattle.gl_graph.specs.Lawful.{IsLawfulGraph}
+use Rattle.gl_graph.specs.Changes.{with_node, keys_with, rekeyed_keys, rekeyed_parents, rekeyed}
+use Rattle.gl_graph.specs.View.{graph_of, node_of, KeepsBeside, AgreesAt}
+use Rattle.gl_graph.specs.Seen.{shape_in_body, vertex_of, seen, with_key_at, body_with_key, AreSound}
+use Rattle.gl_graph.proofs.Look.{split, no, none_some, some_is, same_node_is, other_node, node_other}
+use Rattle.gl_graph.proofs.Changed.{IsAlike, at_here}
+use Rattle.gl_graph.proofs.Distinct.{one_place, indexes_distinct, index_listed}
+use Rattle.gl_graph.proofs.Moved.{rec_alike, rekeyed_is, rekey_lawful}
+use Rattle.gl_graph.proofs.Removed.{rec_live}
+use Rattle.gl_graph.proofs.RecordParents.{its_file, its_keys, its_parents, record_of_file, file_among}
+use Rattle.gl_graph.proofs.Slots.{stored_of, node_there}
+use Rattle.gl_graph.proofs.SoundChanged.{node_was, changed, changed_graph, changed_sound}
+
+no_node : NodeId
+no_node = record { key = 0; birth = 0 }
+
+keys_untouched : (is : List NodeId) (ks : List ℕ) (i : NodeId) (key : ℕ) → length ks ≡ length is → ((k : ℕ) (d : NodeId) → k < length is → same_node (slice_index_or is k d) i ≡ false) → keys_with is ks i key ≡ ks
+keys_untouched [] ks i key e none = refl
+keys_untouched (j ∷ is) [] i key e none = refl
+keys_untouched (j ∷ is) (k ∷ ks) i key e none =
+    ap₂ (λ b xs. (if b then key else k) ∷ xs) (none 0 i (omega arith)) (keys_untouched is ks i key (omega arith) (λ m d low. none (suc m) d (omega arith)))
+
+-- where only this place has the index, its key alone changes
+pub keys_set : (is : List NodeId) (ks : List ℕ) (i : NodeId) (key place : ℕ) → length ks ≡ length is → place < length is → ((d : NodeId) → same_node (slice_index_or is place d) i ≡ true)
+    → ((k : ℕ) (d : NodeId) → k < length is → k ≢ place → same_node (slice_index_or is k d) i ≡ false) → keys_with is ks i key ≡ slice_set ks place key
+keys_set [] ks i key place e low here other = absurd (omega arith)
+keys_set (j ∷ is) [] i key place e low here other = absurd (omega arith)
+keys_set (j ∷ is) (k ∷ ks) i key zero e low here other =
+    ap₂ (λ b xs. (if b then key else k) ∷ xs) (here i) (keys_untouched is ks i key (omega arith) (λ m d l. other (suc m) d (omega arith) (omega arith)))
+keys_set (j ∷ is) (k ∷ ks) i key (suc place) e low here other =
+    ap₂ (λ b xs. (if b then key else k) ∷ xs) (other 0 i (omega arith) (omega arith))
+    (keys_set is ks i key place (omega arith) (omega arith) (λ d. here d) (λ m d l ne. other (suc m) d (omega arith) (let apart : suc m ≢ suc place = omega arith in apart)))
+
+pub intervals_set : (g : Graph) (is : List NodeId) (ks : List ℕ) (i : NodeId) (key place : ℕ) → length ks ≡ length is → place < length is → ((d : NodeId) → slice_index_or is place d ≡ i)
+    → intervals_of g is (slice_set ks place key) ≡ slice_set (intervals_of g is ks) place (interval_of g i key)
+intervals_set g [] ks i key place e low here = absurd (omega arith)
+intervals_set g (j ∷ is) [] i key place e low here = absurd (omega arith)
+intervals_set g (j ∷ is) (k ∷ ks) i key zero e low here = ap (λ n. interval_of g n key ∷ intervals_of g is ks) (here i)
+intervals_set g (j ∷ is) (k ∷ ks) i key (suc place) e low here = ap (λ xs. interval_of g j k ∷ xs) (intervals_set g is ks i key place (omega arith) (omega arith) (λ d. here d))
+
+count_intervals_of : (g : Graph) (is : List NodeId) (ks : List ℕ) → length ks ≡ length is → length (intervals_of g is ks) ≡ length is
+count_intervals_of g [] ks e = refl
+count_intervals_of g (j ∷ is) [] e = e
+count_intervals_of g (j ∷ is) (k ∷ ks) e = ap suc (count_intervals_of g is ks (omega arith))
+
+body_keys : (b : Body) (place key : ℕ) → is_record_shape (Some (shape_in_body b)) ≡ true → shape_in_body (body_with_key b place key) ≡ Rec (slice_set (keys_in (Some (shape_in_body b))) place key)
+body_keys body.Inner place key h = absurd (no h)
+body_keys (body.File indexes records) place key h = absurd (no h)
+body_keys (body.Index f bounds intervals) place key h = absurd (no h)
+body_keys (body.Interval at) place key h = absurd (no h)
+body_keys (body.Rec keys) place key h = refl
+
+record_body : (sh : Shape) → is_record_shape (Some sh) ≡ true → sh ≡ Rec (keys_in (Some sh))
+record_body (Rec keys) h = refl
+record_body _ h = absurd (no h)
+
+module _ (old new : Slab Stored) (births : ℕ) (sound : AreSound old births) (r i : NodeId) (key place : ℕ) (rec : is_record_shape (shape_of (graph_of (seen old births)) r) ≡ true)
+    (at : position (λ listed. same_node listed i) (indexes_of (graph_of (seen old births)) (first_parent (graph_of (seen old births)) r)) ≡ Some place) where
+  abbrev pub g : Graph
+  g = graph_of (seen old births)
+
+  abbrev is : List NodeId
+  is = indexes_of g (first_parent g r)
+
+  abbrev keys : List ℕ
+  keys = keys_in (shape_of g r)
+
+  live : is_live g r ≡ true
+  live = rec_live g sound.lawful r rec
+
+  slot : (x : Stored) × (get old r.key ≡ Some x) × (x.birth ≡ r.birth)
+  slot = stored_of old births sound.apart r live
+
+  pub contained : ContainsKey old r.key
+  contained = ap is_some slot.1
+
+  -- whatever is stored under the record's key is the record
+  node_is : (x : Stored) → get old r.key ≡ Some x → node_at g r ≡ Some (node_of r.key (vertex_of x))
+  node_is x e =
+      let same : slot.0 ≡ x = some_is (sym slot.1 ∙ e) in
+      node_was old old births sound r slot.0 slot.0 slot.1 slot.2 refl ∙ ap (λ z. Some (node_of r.key (vertex_of z))) same
+
+  low : place < length is
+  low = (position-Some (λ listed. same_node listed i) is place no_node at).0
+
+  here : (d : NodeId) → slice_index_or is place d ≡ i
+  here d = same_node_is _ i (position-Some (λ listed. same_node listed i) is place d at).1
+
+  other : (k : ℕ) (d : NodeId) → k < length is → k ≢ place → same_node (slice_index_or is k d) i ≡ false
+  other k d l ne = node_other _ i (λ e. ne (one_place is k place d (indexes_distinct g (first_parent g r)) l low (e ∙ sym (here d))))
+
+  each : length keys ≡ length is
+  each = its_keys g sound.lawful r rec
+
+  pub key_there : (x : Stored) → get old r.key ≡ Some x → place < length (keys_in (Some (shape_in_body x.body)))
+  key_there x e = let same = ap (λ o. length (keys_in (shape_in o))) (node_is x e) in let l = low in let n = each in omega arith
+
+  pub parent_there : (x : Stored) → get old r.key ≡ Some x → place + 1 < length x.parents.items
+  parent_there x e =
+      let same : x.parents.items ≡ record_parents g (first_parent g r) keys = sym (ap parents_in (node_is x e)) ∙ its_parents g sound.lawful r rec in
+      let count : length x.parents.items ≡ suc (length is) = ap length same ∙ ap suc (count_intervals_of g is keys each) in
+      let l = low in
+      omega arith
+
+  keys_are : keys_with is keys i key ≡ slice_set keys place key
+  keys_are = keys_set is keys i key place each low (λ d. ap (λ q. same_node q i) (here d) ∙ same_self i) other
+    where
+      same_self : (q : NodeId) → same_node q q ≡ true
+      same_self q = split (same_node q q) (λ e. e) (λ e. absurd (other_node q q e refl))
+
+  module _ (write : (x : Stored) → get old r.key ≡ Some x → Updates old new r.key (Some (with_key_at x place key (interval_of g i key)))) (len : slab_len new ≡ slab_len old) where
+    abbrev was : Stored
+    was = slot.0
+
+    abbrev x : Stored
+    x = with_key_at was place key (interval_of g i key)
+
+    rec_body : is_record_shape (Some (shape_in_body was.body)) ≡ true
+    rec_body = ap (λ o. is_record_shape (shape_in o)) (sym (node_is was slot.1)) ∙ rec
+
+    shape_is : shape_in_body x.body ≡ Rec (rekeyed_keys g r i key)
+    shape_is = body_keys was.body place key rec_body ∙ ap (λ o. Rec (slice_set (keys_in (shape_in o)) place key)) (sym (node_is was slot.1)) ∙ ap Rec (sym keys_are)
+
+    parents_are : x.parents.items ≡ rekeyed_parents g r i key
+    parents_are =
+        let one : place + 1 ≡ suc place = omega arith in
+        ap₂ (λ ps k. slice_set ps k (interval_of g i key)) (sym (ap parents_in (node_is was slot.1)) ∙ its_parents g sound.lawful r rec) one
+        ∙ ap (λ xs. first_parent g r ∷ xs) (sym (intervals_set g is keys i key place each low here) ∙ ap (intervals_of g is) (sym keys_are))
+
+    node_rekeyed : node_of r.key (vertex_of x) ≡ record { key = r.key; shape = Rec (rekeyed_keys g r i key); parents = rekeyed_parents g r i key }
+    node_rekeyed = let s = shape_is in let p = parents_are in λ j. record { key = r.key; shape = s j; parents = p j }
+
+    graph_is : changed old new births sound r was x slot.1 slot.2 refl ≡ rekeyed g r i key
+    graph_is = ap (with_node g r.birth) node_rekeyed ∙ rekeyed_is g r i key (node_of r.key (vertex_of was)) (node_is was slot.1)
+
+    pub rekeyed_graph : graph_of (seen new births) ≡ rekeyed g r i key
+    rekeyed_graph = changed_graph old new births sound r was x slot.1 slot.2 refl (write was slot.1) ∙ graph_is
+
+    pub rekeyed_sound : AreSound new births
+    rekeyed_sound =
+        changed_sound old new births sound r was x slot.1 slot.2 refl (write was slot.1) len
+        (subst (λ s. IsAlike (shape_in_body was.body) s) (sym shape_is) (rec_alike (shape_in_body was.body) (keys_in (Some (shape_in_body was.body))) (rekeyed_keys g r i key) (record_body (shape_in_body was.body) rec_body)))
+        (subst IsLawfulGraph (sym graph_is) (rekey_lawful g sound.lawful r (node_of r.key (vertex_of was)) (node_is was slot.1) (keys_in (Some (shape_in_body was.body))) i key (record_body (shape_in_body was.body) rec_body)))
+        (λ f h.
+        ap (λ o. is_record_shape (shape_in o) && list_any (same_node f) (parents_in o)) (at_here g r (node_of r.key (vertex_of was)) (node_of r.key (vertex_of x)) (node_is was slot.1) refl)
+        ∙ ap₂ (λ s ps. is_record_shape (Some s) && list_any (same_node f) ps) shape_is parents_are
+        ∙ file_among g sound.lawful (first_parent g r) f (rekeyed_keys g r i key) h ∙ sym (record_of_file g sound.lawful r rec f h))
+        (subst (KeepsBeside (changed old new births sound r was x slot.1 slot.2 refl) (record { key = r.key; birth = x.birth }) (vertex_of x)) (sym shape_is) tt)
+
+-- what passes a test is found by it
+first_within : {A : Type 0} (p : A → Bool) (xs : List A) → list_any p xs ≡ true → position_or_len p xs < length xs
+first_within p [] h = absurd (no h)
+first_within p (x ∷ xs) h =
+    split (p x)
+    (λ e. let none : position_or_len p (x ∷ xs) ≡ 0 = ap (λ b. if not b then 1 + position_or_len p xs else 0) e in omega arith)
+    (λ e.
+    let rest = first_within p xs (sym (ap (λ b. b || list_any p xs) e) ∙ h) in
+    let more : position_or_len p (x ∷ xs) ≡ 1 + position_or_len p xs = ap (λ b. if not b then 1 + position_or_len p xs else 0) e in
+    omega arith)
+
+pub not_missed : {A : Type 0} (p : A → Bool) (xs : List A) → list_any p xs ≡ true → position p xs ≡ None → ⊥
+not_missed p xs h e =
+    let low = first_within p xs h in
+    let there : nat_lt (position_or_len p xs) (length xs) ≡ true = grind (arith, nat_tests) in
+    none_some (sym e ∙ ap (λ b. if b then Some (position_or_len p xs) else None) there)
+
+-- an index of a file is found among the file's
+pub index_among : (g : Graph) (law : IsLawfulGraph g) (f i : NodeId) → is_index_of_shape f (shape_of g i) ≡ true → list_any (λ listed. same_node listed i) (indexes_of g f) ≡ true
+index_among g law f i h =
+    turned (indexes_of g f) ∙ index_listed g law f i (by (node_at g i) h) h
+  where
+    by : (o : Option Node) → is_index_of_shape f (shape_in o) ≡ true → is_some o ≡ true
+    by None k = absurd (no k)
+    by (Some x) k = refl
+
+    turned : (xs : List NodeId) → list_any (λ listed. same_node listed i) xs ≡ list_any (same_node i) xs
+    turned [] = refl
+    turned (x ∷ xs) = ap₂ (λ a b. a || b) (same_node-sym x i) (turned xs)
