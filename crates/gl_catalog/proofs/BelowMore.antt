@@ -25,6 +25,7 @@ use Rattle.gl_table.specs.Effects.{SameBelow}
 use Rattle.gl_catalog.specs.Promises.{LeavesBelow}
 use Rattle.gl_graph.proofs.Look.{split, cases_of, no, none_some, some_is, number_same, same_number, other_number, all_at, node_is, found_at, misses}
 use Rattle.gl_graph.proofs.Born.{place_in, new_id, new_node, new_not_old}
+use Rattle.gl_graph.proofs.NewIndex.{interval_node}
 use Rattle.gl_graph.proofs.Removed.{left_same}
 use Rattle.gl_catalog.proofs.Refusals.{not_refused, test_fails, not_false, all_ix}
 use Rattle.gl_catalog.proofs.MoveCommands.{Moves, others_same, moved_node, move_moves, rekeyed_to, rekey_moves}
@@ -41,7 +42,7 @@ index_below t ps f bs s s' a told law free acc n reads =
   where
     by : (k : ℕ) (node : Node) → place_in (index_nodes s acc.0 ps.now f bs.now acc.1) k ≡ Some node → is_record_shape (Some node.shape) ≡ true → ⊥
     by zero node e rec = no (ap (λ (x : Node). is_record_shape (Some x.shape)) (some_is e) ∙ rec)
-    by (suc k) node e rec = no (sym (ap (λ (x : Node). is_record_shape (Some x.shape)) (interval_at (record { key = acc.0; birth = s.graph.births + 1 }) 0 acc.1 k k node (omega arith) e)) ∙ rec)
+    by (suc k) node e rec = no (sym (ap (λ (x : Node). is_record_shape (Some x.shape)) (interval_node (record { key = acc.0; birth = s.graph.births + 1 }) 0 acc.1 k k node (omega arith) e)) ∙ rec)
 
 pub insert_below : (t : ℕ) (u : TxnId) (f : NodeId) (keys : Bor (List ℕ)) → u.slot ≢ t → LeavesBelow t (command.Insert u f keys)
 insert_below t u f keys ne s s' a told law free acc n reads =

@@ -27,7 +27,6 @@ pub mod Play
 pub mod PlayIsStep
 pub mod Refusals
 pub mod Rows
-pub mod Settles
 pub mod Sound
 pub mod StepKeeps
 pub mod StepNoCycle

@@ -37,77 +37,12 @@ use Rattle.gl_table.proofs.Pumped.{pumped-lawful}
 use Rattle.gl_table.proofs.Taken.{taken-less, without_wait-lawful, released-lawful, settled-lawful}
 use Rattle.gl_table.proofs.Enqueued.{enqueued-lawful, begun-lawful}
 use Rattle.gl_table.proofs.Escalates.{raised-lawful, shed-lawful}
-use Rattle.gl_table.proofs.Tests.{skip, unset, not_false, active_on_is, mode_fits, rule_met, above_held, wanted_not_nl, no_child}
-
--- a lock that passed its tests
-pub record MayLock (s : State) (t : TxnId) (n : NodeId) (m : Mode) : Type 0 where
-  pub active : status_of s t.slot ≡ Some Active
-  pub live : is_live s.graph n ≡ true
-  pub not_bad : bad_mode s n m ≡ None
-  pub rule : intends s t.slot n (wanted s t.slot n m) ≡ true
-
-pub may_lock : (s : State) (t : TxnId) (n : NodeId) (m : Mode) (rest : List (Option Refusal))
-    → first_refusal (worn s ∷ active_on s t (n ∷ []) ++ bad_mode s n m ∷ need_parents s t.slot n (wanted s t.slot n m) ∷ rest) ≡ None → MayLock s t n m × (first_refusal rest ≡ None)
-may_lock s t n m rest h =
-    let a = active_on_is s t n _ h in
-    let b = skip (bad_mode s n m) _ a.2 in
-    let c = skip (need_parents s t.slot n (wanted s t.slot n m)) rest b.1 in
-    (record { active = a.0; live = a.1; not_bad = b.0; rule = rule_met (s.held t.slot) (parents_of s.graph n) (wanted s t.slot n m) c.0 }, c.1)
-
-enters_fits : (s : State) (t : ℕ) (n : NodeId) (m : Mode) → enters_at s t n m ≡ true → fits s.most (members s n) t (wanted s t n m) ≡ true
-enters_fits s t n m h = (and_both _ _ h).0
-
-pub granted-lawful : (s : State) → IsLawful s → (t : TxnId) (n : NodeId) (m : Mode) → MayLock s t n m → enters_at s t.slot n m ≡ true → IsLawful (with_grant s t.slot n (wanted s t.slot n m))
-granted-lawful s law t n m may h =
-    with_grant-lawful s law t.slot n (wanted s t.slot n m) may.active may.live (mode_fits s law t.slot n m may.not_bad).1 may.rule (above_held (s.held t.slot n) m) (enters_fits s t.slot n m h)
-
-pub waiting-lawful : (s : State) → IsLawful s → (t : TxnId) (n : NodeId) (m : Mode) → MayLock s t n m → enters_at s t.slot n m ≡ false → IsLawful (enqueued s t.slot n (wanted s t.slot n m))
-waiting-lawful s law t n m may h =
-    let mode = mode_fits s law t.slot n m may.not_bad in
-    enqueued-lawful s law t.slot n (wanted s t.slot n m) may.active may.live mode.1 may.rule (wanted_not_nl (s.held t.slot n) m mode.0) (above_held (s.held t.slot n) m) h
-
-pub wait_settles-lawful : (d : Detect) (s : State) (t : ℕ) (s' : State) → IsLawful s → WaitSettles d s t s' → IsLawful s'
-wait_settles-lawful AtBlock s t s' law h = settled-lawful s s' t law h
-wait_settles-lawful ByWatcher s t s' law h = subst IsLawful (sym h) law
-
-pub locks-lawful : (s s' : State) → IsLawful s → (t : TxnId) (n : NodeId) (m : Mode) → MayLock s t n m → Locks s t.slot n m s' → IsLawful s'
-locks-lawful s s' law t n m may h =
-    split (enters_at s t.slot n m)
-    (λ e. subst IsLawful (sym (h.granted e)) (granted-lawful s law t n m may e))
-    (λ e. wait_settles-lawful s.detect (enqueued s t.slot n (wanted s t.slot n m)) t.slot s' (waiting-lawful s law t n m may e) (h.waits e))
-
-same_node_turned : (p q : NodeId) → same_node p q ≡ same_node q p
-same_node_turned p q = grind (arith, nat_tests)
-
-pub unlocked-less : (s : State) → IsLawful s → (t : ℕ) (n : NodeId) → status_of s t ≡ Some Active → held_child s t n ≡ None
-    → IsLess s (λ u q. if (u == t) && same_node q n then NL else s.held u q) s.queue s.txns (same_node n)
-unlocked-less s law t n active childless =
-    taken-less s law t (λ q. same_node q n) (same_node n) active
-    (λ q p off h live child. not_true _ (λ e. no_child s law t n q childless live (ap (λ x. is_child s.graph x q) (sym (same_node_true p n e)) ∙ child) h))
-    (λ q off. same_node_turned q n ∙ off)
-
-pub unlocked-lawful : (s : State) → IsLawful s → (t : ℕ) (n : NodeId) → status_of s t ≡ Some Active → held_child s t n ≡ None → IsLawful (pumped (with_grant s t n NL) (same_node n))
-unlocked-lawful s law t n active childless =
-    pumped-lawful (with_grant s t n NL) (same_node n)
-    (less-lawful s law (λ u q. if (u == t) && same_node q n then NL else s.held u q) s.queue s.txns (same_node n) (unlocked-less s law t n active childless))
-
--- the first free slot
-free_slot : (s : State) (t : ℕ) (k len : ℕ) → find (λ u. is_none (s.txns u)) (range_with_len k len) ≡ Some t → (is_some (s.txns t) ≡ false) × (t < k + len)
-free_slot s t k zero h = absurd (cc)
-free_slot s t k (suc len) h = by (is_none (s.txns k)) refl h (free_slot s t (k + 1) len)
-  where
-    is_free : (x : Option Txn) → is_none x ≡ true → is_some x ≡ false
-    is_free None e = refl
-    is_free (Some x) e = clash e refl
-
-    by : (b : Bool) → is_none (s.txns k) ≡ b → cond b (Some k) (find (λ u. is_none (s.txns u)) (range_with_len (k + 1) len)) ≡ Some t
-        → (find (λ u. is_none (s.txns u)) (range_with_len (k + 1) len) ≡ Some t → (is_some (s.txns t) ≡ false) × (t < k + 1 + len)) → (is_some (s.txns t) ≡ false) × (t < k + suc len)
-    by true e l r = let is : k ≡ t = cc in (ap (λ u. is_some (s.txns u)) (sym is) ∙ is_free (s.txns k) e, omega arith)
-    by false e l r = let f = r l in let lt = f.1 in (f.0, omega arith)
+use Rattle.gl_table.proofs.Locked.{granted-lawful, locks-lawful, may_lock, unlocked-lawful, free_slot}
+use Rattle.gl_table.proofs.Tests.{skip, unset, not_false, active_after}
 
 pub escalated-lawful : (s : State) → IsLawful s → (t : TxnId) (n : NodeId) → refusal_of s (command.Escalate t n) ≡ None → IsLawful (shed (raised s t.slot n) t.slot n)
 escalated-lawful s law t n h =
-    let a = active_on_is s t n _ h in
+    let a = active_after s t n (worn s) _ h in
     let b = skip (where_true (is_record_shape (shape_of s.graph n)) no.BadParents) _ a.2 in
     let c = skip (not_held s t.slot n) _ b.1 in
     let d = skip (escalation_blocks s t.slot n) [] c.1 in
@@ -134,12 +69,12 @@ pub accepts-lawful : (s : State) (c : Command) (a : Answer) (told' : Told) (s' :
 accepts-lawful s command.Begin a told' s' is law h acc =
     let at = free_slot s acc.0 0 s.most acc.1 in let below = at.1 in
     subst IsLawful (sym acc.4) (begun-lawful s law acc.0 at.0 (omega arith))
-accepts-lawful s (command.Lock t n m) a told' s' is law h acc = locks-lawful s s' law t n m (may_lock s t n m [] h).0 acc.0
+accepts-lawful s (command.Lock t n m) a told' s' is law h acc = locks-lawful s s' law t n m (may_lock s t n m (worn s) [] h).0 acc.0
 accepts-lawful s (command.Try t n m) a told' s' is law h acc =
-    let may = may_lock s t n m (would_block s t.slot n m ∷ []) h in
+    let may = may_lock s t n m (worn s) (would_block s t.slot n m ∷ []) h in
     subst IsLawful (sym acc.2) (granted-lawful s law t n m may.0 (not_false _ (unset _ _ (skip (would_block s t.slot n m) [] may.1).0)))
 accepts-lawful s (command.Unlock t n) a told' s' is law h acc =
-    let a = active_on_is s t n _ h in
+    let a = active_after s t n (worn s) _ h in
     let b = skip (not_held s t.slot n) _ a.2 in
     subst IsLawful (sym acc.2) (unlocked-lawful s law t.slot n a.0 (skip (held_child s t.slot n) [] b.1).0)
 accepts-lawful s (command.Escalate t n) a told' s' is law h acc = subst IsLawful (sym acc.2) (escalated-lawful s law t n h)

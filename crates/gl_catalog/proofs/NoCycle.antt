@@ -28,7 +28,7 @@ use Rattle.gl_table.specs.Lawful.{IsLawful}
 use Rattle.gl_table.specs.Tellings.{Told}
 use Rattle.gl_catalog.specs.Step.{Accepts, Step, Goes, Answers, query_answer}
 use Rattle.gl_table.specs.Calls.{Locks, WaitSettles, wanted, enters_at, enqueued, begun, released, raised, shed, asked_by_escalation}
-use Rattle.gl_catalog.specs.Tests.{refusal_of}
+use Rattle.gl_catalog.specs.Tests.{refusal_of, worn}
 use Rattle.gl_graph.specs.Refusals.{where_true}
 use Rattle.gl_table.specs.Refusals.{not_held, held_child, escalation_blocks}
 use Rattle.gl_table.specs.Waiting.{HasNoCycle}
@@ -37,8 +37,9 @@ use Rattle.gl_table.proofs.Queues.{split}
 use Rattle.gl_table.proofs.Less.{IsLess, less-lawful}
 use Rattle.gl_table.proofs.Taken.{IsQuiet, at_all, without_wait-less, released-less, condemned-lawful}
 use Rattle.gl_table.proofs.Escalates.{raised-lawful, shed-less}
-use Rattle.gl_table.proofs.Tests.{skip, unset, not_false, active_on_is}
-use Rattle.gl_catalog.proofs.LocksKeepLaw.{MayLock, may_lock, waiting-lawful, unlocked-less, is_lock_command}
+use Rattle.gl_table.proofs.Tests.{skip, unset, not_false, active_after}
+use Rattle.gl_table.proofs.Locked.{MayLock, may_lock, waiting-lawful, unlocked-less}
+use Rattle.gl_catalog.proofs.LocksKeepLaw.{is_lock_command}
 use Rattle.gl_table.proofs.Cycles.{less-no_cycle, no_step-no_cycle, at_one-no_cycle}
 use Rattle.gl_table.proofs.Edges.{idle_no_step, less_steps, pumped_steps}
 use Rattle.gl_catalog.proofs.NewEdges.{enqueued_steps, granted_steps, begun_steps}
@@ -115,7 +116,7 @@ shed-no_cycle s law t n active none = taken-no_cycle s law (λ u c. if (u == t) 
 
 pub escalated-no_cycle : (s : State) → IsLawful s → (t : TxnId) (n : NodeId) → refusal_of s (command.Escalate t n) ≡ None → HasNoCycle s → HasNoCycle (shed (raised s t.slot n) t.slot n)
 escalated-no_cycle s law t n h none =
-    let a = active_on_is s t n _ h in
+    let a = active_after s t n (worn s) _ h in
     let b = skip (where_true (is_record_shape (shape_of s.graph n)) no.BadParents) _ a.2 in
     let c = skip (not_held s t.slot n) _ b.1 in
     let d = skip (escalation_blocks s t.slot n) [] c.1 in
@@ -125,10 +126,10 @@ escalated-no_cycle s law t n h none =
 
 pub accepts-no_cycle : (s : State) (c : Command) (a : Answer) (told' : Told) (s' : State) → is_lock_command c ≡ true → s.detect ≡ AtBlock → IsLawful s → HasNoCycle s → refusal_of s c ≡ None → Accepts s c a told' s' → HasNoCycle s'
 accepts-no_cycle s command.Begin a told' s' is at law none h acc = subst HasNoCycle (sym acc.4) (begun-no_cycle s acc.0 none)
-accepts-no_cycle s (command.Lock t n m) a told' s' is at law none h acc = locks-no_cycle s s' at law t n m (may_lock s t n m [] h).0 acc.0 none
-accepts-no_cycle s (command.Try t n m) a told' s' is at law none h acc = subst HasNoCycle (sym acc.2) (granted-no_cycle s t.slot n (wanted s t.slot n m) (active_on_is s t n _ h).0 none)
+accepts-no_cycle s (command.Lock t n m) a told' s' is at law none h acc = locks-no_cycle s s' at law t n m (may_lock s t n m (worn s) [] h).0 acc.0 none
+accepts-no_cycle s (command.Try t n m) a told' s' is at law none h acc = subst HasNoCycle (sym acc.2) (granted-no_cycle s t.slot n (wanted s t.slot n m) (active_after s t n (worn s) _ h).0 none)
 accepts-no_cycle s (command.Unlock t n) a told' s' is at law none h acc =
-    let a = active_on_is s t n _ h in
+    let a = active_after s t n (worn s) _ h in
     let b = skip (not_held s t.slot n) _ a.2 in
     subst HasNoCycle (sym acc.2) (unlocked-no_cycle s law t.slot n a.0 (skip (held_child s t.slot n) [] b.1).0 none)
 accepts-no_cycle s (command.Escalate t n) a told' s' is at law none h acc = subst HasNoCycle (sym acc.2) (escalated-no_cycle s law t n h none)

@@ -24,12 +24,12 @@ use Rattle.gl_table.specs.Waiting.{waits_for}
 use Rattle.gl_table.specs.Lawful.{IsLawful}
 use Rattle.gl_table.specs.Tellings.{Told}
 use Rattle.gl_catalog.specs.Step.{Accepts, Step, Goes, Answers, Run, query_answer}
-use Rattle.gl_catalog.specs.Tests.{refusal_of}
+use Rattle.gl_catalog.specs.Tests.{refusal_of, worn_making}
 use Rattle.gl_table.specs.Calls.{made, next_id, deleted, freed, none_but, freed_unless, moved_to, stays}
 use Rattle.gl_table.specs.Waiting.{HasNoCycle}
 use Rattle.gl_catalog.specs.Promises.{StepsKeepLaw}
 use Rattle.gl_table.proofs.Queues.{ahead, ahead_is, ahead_first, clash, none_filtered, or_elim, or_left, or_right}
-use Rattle.gl_table.proofs.Tests.{active_on_births}
+use Rattle.gl_table.proofs.Tests.{active_after}
 use Rattle.gl_table.proofs.Cycles.{less-no_cycle, no_step-no_cycle}
 use Rattle.gl_table.proofs.Edges.{step_is, is_step, idle_no_step}
 use Rattle.gl_catalog.proofs.NoCycle.{accepts-no_cycle, granted-no_cycle}
@@ -124,7 +124,7 @@ all_accepts-no_cycle s (command.File ps) a told' s' at law none h acc = subst Ha
 all_accepts-no_cycle s (command.Index ps f bs) a told' s' at law none h acc = subst HasNoCycle (sym acc.7) none
 all_accepts-no_cycle s (command.Insert t f keys) a told' s' at law none h acc =
     subst HasNoCycle (sym acc.4)
-    (granted-no_cycle (made s acc.0 (record { key = acc.0; shape = Rec keys.now; parents = record_parents s.graph f keys.now })) t.slot (next_id s acc.0) X (active_on_births s t f _ h) none)
+    (granted-no_cycle (made s acc.0 (record { key = acc.0; shape = Rec keys.now; parents = record_parents s.graph f keys.now })) t.slot (next_id s acc.0) X (active_after s t f (worn_making s) _ h).0 none)
 all_accepts-no_cycle s (command.Delete t r) a told' s' at law none h acc = subst HasNoCycle (sym acc.2) (less-no_cycle (waits_for s) (waits_for (deleted s r)) (deleted_steps s r) none)
 all_accepts-no_cycle s (command.Rekey t r i key) a told' s' at law none h acc = subst HasNoCycle (sym acc.2) (moved-no_cycle s law r (rekeyed_parents s.graph r i key) (rekeyed s.graph r i key) none)
 all_accepts-no_cycle s (command.Move t n ps) a told' s' at law none h acc = subst HasNoCycle (sym acc.2) (moved-no_cycle s law n ps.now (with_parents s.graph n ps.now) none)

@@ -10,17 +10,14 @@ use Rattle.gl_table.specs.State.{State, empty_state}
 use Rattle.gl_table.specs.Lawful.{IsLawful}
 use Rattle.gl_catalog.specs.Step.{Run}
 use Rattle.gl_table.specs.Tellings.{Told}
-use Rattle.gl_table.specs.Waiting.{HasNoCycle, EmptyHasNoCycle, ChainsEnd, SettlingEnds}
+use Rattle.gl_table.specs.Waiting.{HasNoCycle, EmptyHasNoCycle}
 use Rattle.gl_catalog.specs.Promises.{StepsKeepLaw, RunsKeepLaw, RunsKeepNoCycle, OthersKeepEffects, OthersKeepBelow}
 use Rattle.gl_table.specs.Lawful.{EmptyIsLawful}
-use Rattle.gl_catalog.proofs.Sound.{empty-lawful}
+use Rattle.gl_table.proofs.Empty.{empty-lawful}
 use Rattle.gl_catalog.proofs.StepKeeps.{graph_steps_keep}
 use Rattle.gl_catalog.proofs.LocksKeepLaw.{lock_steps_keep_law}
-use Rattle.gl_catalog.proofs.LockRuns.{settled_one}
-use Rattle.gl_catalog.proofs.Settles.{settles}
-use Rattle.gl_table.proofs.Chains.{chain_ends}
-use Rattle.sm_model.proofs.StepNoCycle as cycles -- ??
-use Rattle.sm_model.proofs.OthersKeep as others -- ??
+use Rattle.gl_catalog.proofs.StepNoCycle as cycles
+use Rattle.gl_catalog.proofs.OthersKeep as others
 
 -- the seven commands that change the graph, and all others
 pub steps_keep_law : StepsKeepLaw
@@ -60,9 +57,3 @@ reached_lawful detect most cs rs s' run = runs_keep_law (empty_state detect most
 
 pub reached_no_cycle : (most : ℕ) (cs : List Command) (rs : List (Answer × Told)) (s' : State) → Run (empty_state AtBlock most) cs rs s' → HasNoCycle s'
 reached_no_cycle most cs rs s' run = runs_keep_no_cycle (empty_state AtBlock most) s' cs rs refl (empty_is_lawful AtBlock most) (empty_has_no_cycle AtBlock most) run
-
-pub chains_end : ChainsEnd
-chains_end = chain_ends
-
-pub settling_ends : SettlingEnds
-settling_ends s law t = let end = settles s law t in (end.0, end.1, λ other h. settled_one s other end.0 t law h end.1)

@@ -15,7 +15,7 @@ use Rattle.gl_table.specs.Lawful.{IsLawful}
 use Rattle.gl_table.specs.Waiting.{HasNoCycle, is_wait}
 use Rattle.gl_table.proofs.Queues.{ahead, ahead_is, split, clash, or_elim, or_left, or_right, no_cons, among_by_filter}
 use Rattle.gl_table.proofs.Edges.{is_step}
-use Rattle.gl_catalog.proofs.Settles.{wait_is, low}
+use Rattle.gl_table.proofs.Settles.{wait_is, low}
 use Rattle.gl_table.proofs.Walks.{same, Distinct, short}
 
 one_fails : (f : ℕ → Bool) (xs : List ℕ) → list_all f xs ≡ false → (u : ℕ) × (f u ≡ false)

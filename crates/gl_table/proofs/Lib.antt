@@ -3,6 +3,7 @@ pub mod CutSet
 pub mod Cycles
 pub mod Edges
 pub mod Effects
+pub mod Empty
 pub mod Enqueued
 pub mod Escalates
 pub mod Follows
@@ -11,11 +12,14 @@ pub mod GrantKeeps
 pub mod LawfulBut
 pub mod NoConflict
 pub mod Less
+pub mod Locked
 pub mod NoChildren
+pub mod OneEnd
 pub mod Pumped
 pub mod Pumps
 pub mod QueueEdits
 pub mod Queues
+pub mod Settles
 pub mod Taken
 pub mod Tests
 pub mod Transfer

@@ -20,7 +20,6 @@ use Rattle.gl_table.specs.State.{State, Txn, members, status_in, status_of, live
 use Rattle.gl_table.specs.Intends.{is_write, no_parents, intends_over, ModeFitsKind}
 use Rattle.gl_table.specs.Lawful.{IsLawful}
 use Rattle.gl_graph.specs.Refusals.{first_refusal, where_true, some_no_node}
-use Rattle.gl_catalog.specs.Tests.{worn, worn_making}
 use Rattle.gl_table.specs.Refusals.{no_txn, waiting_test, condemned_test, active_on, bad_mode, first_not_ix, first_of_all, child_held, held_child}
 use Rattle.gl_table.specs.Calls.{wanted}
 use Rattle.gl_table.proofs.CutSet.{listed}
@@ -56,7 +55,7 @@ active_in age (Some x) live w c = by x.status w c
     by Condemned w c = no_some c
 
 -- an active transaction on a living node, whatever was tested first
-active_after : (s : State) (t : TxnId) (n : NodeId) (first : Option Refusal) (rest : List (Option Refusal)) → first_refusal (first ∷ active_on s t (n ∷ []) ++ rest) ≡ None
+pub active_after : (s : State) (t : TxnId) (n : NodeId) (first : Option Refusal) (rest : List (Option Refusal)) → first_refusal (first ∷ active_on s t (n ∷ []) ++ rest) ≡ None
     → (status_of s t.slot ≡ Some Active) × (is_live s.graph n ≡ true) × (first_refusal rest ≡ None)
 active_after s t n first rest h =
     let a = skip first _ h in
@@ -68,13 +67,6 @@ active_after s t n first rest h =
       (and_both (is_live s.graph n) _ (not_false _ (unset _ _ e.0))).0,
       e.1,
     )
-
-pub active_on_is : (s : State) (t : TxnId) (n : NodeId) (rest : List (Option Refusal)) → first_refusal (worn s ∷ active_on s t (n ∷ []) ++ rest) ≡ None
-    → (status_of s t.slot ≡ Some Active) × (is_live s.graph n ≡ true) × (first_refusal rest ≡ None)
-active_on_is s t n rest h = active_after s t n (worn s) rest h
-
-pub active_on_births : (s : State) (t : TxnId) (n : NodeId) (rest : List (Option Refusal)) → first_refusal (worn_making s ∷ active_on s t (n ∷ []) ++ rest) ≡ None → status_of s t.slot ≡ Some Active
-active_on_births s t n rest h = (active_after s t n (worn_making s) rest h).0
 
 -- modes
 pub above_held : (a m : Mode) → is_at_least (supremum a m) a ≡ true

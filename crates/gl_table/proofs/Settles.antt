@@ -26,7 +26,7 @@ use Rattle.gl_table.proofs.Less.{waiting_is}
 use Rattle.gl_table.proofs.Pumped.{woken_waits}
 use Rattle.gl_table.proofs.Taken.{without_wait-less, condemned-lawful}
 use Rattle.gl_table.proofs.Edges.{step_is}
-use Rattle.gl_catalog.proofs.LocksKeepLaw.{MayLock, waiting-lawful}
+use Rattle.gl_table.proofs.Locked.{MayLock, waiting-lawful}
 use Rattle.gl_table.proofs.Walks.{same, in_range, settled_or_youngest}
 
 -- how many pass

@@ -1,0 +1,45 @@
+-- Settling ends in one state.
+use Rattle.std.specs.Prelude.{◌≡◌, ℕ, zero, suc, true, List, [], ◌∷◌, is_some}
+use Rattle.std.proofs.Common.{sym, ◌∙◌, arith, subst}
+use Rattle.gl_table.specs.declared.detect.Detect.{Detect}
+use Rattle.gl_table.specs.declared.detect.Detect.TheVariants.{AtBlock, ByWatcher}
+use Rattle.gl_waits.specs.Waits.{IsWalk, IsYoungest}
+use Rattle.gl_table.specs.State.{State, age_of}
+use Rattle.gl_table.specs.Waiting.{waits_for, IsOnCycle, SettledWithin, Settled, SettlingEnds}
+use Rattle.gl_table.specs.Pumps.{condemned}
+use Rattle.gl_table.specs.Lawful.{IsLawful}
+use Rattle.gl_table.specs.Calls.{WaitSettles}
+use Rattle.gl_table.proofs.GrantKeeps.{txn_there}
+use Rattle.gl_table.proofs.Taken.{condemned-lawful}
+use Rattle.gl_table.proofs.Edges.{step_is}
+use Rattle.gl_table.proofs.Settles.{settles}
+
+-- the youngest on a cycle is one
+on_cycle_lives : (s : State) (v t : ℕ) (way : List ℕ) → IsWalk (waits_for s) v way t → is_some (s.txns v) ≡ true
+on_cycle_lives s v t [] h = txn_there (s.txns v) _ (step_is s v t h).2.waits
+on_cycle_lives s v t (u ∷ way) h = txn_there (s.txns v) _ (step_is s v u h.0).2.waits
+
+youngest_one : (s : State) → IsLawful s → (t v w : ℕ) → IsYoungest (IsOnCycle s t) (age_of s) v → IsYoungest (IsOnCycle s t) (age_of s) w → v ≡ w
+youngest_one s law t v w yv yw =
+    let below = yv.greatest w yw.is_member in let above = yw.greatest v yv.is_member in
+    law.ages_differ v w (on_cycle_lives s v t yv.is_member.back.0 yv.is_member.back.1) (omega arith)
+
+-- settling leaves one state
+settled_within_one : (j k : ℕ) (s a b : State) (t : ℕ) → IsLawful s → SettledWithin j s t a → SettledWithin k s t b → a ≡ b
+settled_within_one zero zero s a b t law h l = h.1 ∙ sym l.1
+settled_within_one zero (suc k) s a b t law h l = absurd (h.0 l.0 l.1.is_member)
+settled_within_one (suc j) zero s a b t law h l = absurd (l.0 h.0 h.1.is_member)
+settled_within_one (suc j) (suc k) s a b t law h l =
+    settled_within_one j k (condemned s h.0) a b t (condemned-lawful s law h.0) h.2 (subst (λ v. SettledWithin k (condemned s v) t b) (youngest_one s law t l.0 h.0 l.1 h.1) l.2)
+
+pub settled_one : (s a b : State) (t : ℕ) → IsLawful s → Settled s t a → Settled s t b → a ≡ b
+settled_one s a b t law h k = settled_within_one h.0 k.0 s a b t law h.1 k.1
+
+-- and so does a lock that waits, under both ways of detection
+pub wait_one : (d : Detect) (s a b : State) (t : ℕ) → IsLawful s → WaitSettles d s t a → WaitSettles d s t b → a ≡ b
+wait_one AtBlock s a b t law h k = settled_one s a b t law h k
+wait_one ByWatcher s a b t law h k = h ∙ sym k
+
+-- settling ends, and in one state
+pub settling_ends : SettlingEnds
+settling_ends s law t = let end = settles s law t in (end.0, end.1, λ other h. settled_one s other end.0 t law h end.1)
