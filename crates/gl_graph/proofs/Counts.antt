@@ -88,6 +88,23 @@ module _ (g : Graph) (law : IsLawfulGraph g) (ns : List Node) where
       ap (count_by (is_record_of grown f)) nodes_grown ∙ sum_by-append (λ q. cond (is_record_of grown f q) 1 0) (nodes g) (new_ids (g.births + 1) ns)
       ∙ ap (λ k. k + count_by (is_record_of grown f) (new_ids (g.births + 1) ns)) (count_same (is_live g) (is_record_of g f) (is_record_of grown f) (nodes g) (nodes_live g) (record_same f))
 
+  -- where no record is born, a file has those it had
+  module _ (none : (k : ℕ) (node : Node) → place_in ns k ≡ Some node → is_record_shape (Some node.shape) ≡ false) where
+    not_among : (f : NodeId) (ms : List Node) (k b : ℕ) → g.births + 1 + k ≡ b → ((j : ℕ) → place_in ms j ≡ place_in ns (k + j)) → count_by (is_record_of grown f) (new_ids b ms) ≡ 0
+    not_among f [] k b e part = refl
+    not_among f (m ∷ ms) k b e part =
+        let at : place_in ns k ≡ Some m = (let same : k ≡ k + 0 = omega arith in ap (place_in ns) same) ∙ sym (part 0) in
+        let there : node_at grown (record { key = m.key; birth = b }) ≡ Some m = ap (λ c. node_at grown (record { key = m.key; birth = c })) (sym e) ∙ new_node g law ns k m at in
+        let other : is_record_of grown f (record { key = m.key; birth = b }) ≡ false = ap (λ o. is_record_shape (shape_in o) && is_child grown f (record { key = m.key; birth = b })) there ∙ ap (λ t. t && is_child grown f (record { key = m.key; birth = b })) (none k m at) in
+        count_cons (is_record_of grown f) (record { key = m.key; birth = b }) (new_ids (b + 1) ms)
+        ∙ ap₂ (λ t n. cond t 1 0 + n) other (not_among f ms (k + 1) (b + 1) (omega arith) (λ j. part (suc j) ∙ (let same : k + suc j ≡ k + 1 + j = omega arith in ap (place_in ns) same)))
+
+    pub same_records : (f : NodeId) → record_count grown f ≡ record_count g f
+    same_records f =
+        let all = records_grown f in
+        let new = not_among f ns 0 (g.births + 1) (omega arith) (λ j. let same : j ≡ 0 + j = omega arith in ap (place_in ns) same) in
+        omega arith
+
 -- what names no node has no records and no indexes
 module _ (g : Graph) (law : IsLawfulGraph g) (f : NodeId) (dead : is_live g f ≡ false) where
   pub dead_records : record_count g f ≡ 0

@@ -11,13 +11,13 @@ use Rattle.gl_graph.specs.Graph.{Graph, Node, node_at, is_live, shape_in, shape_
 use Rattle.gl_graph.specs.Lawful.{IsLawfulGraph}
 use Rattle.gl_graph.specs.Changes.{born_node, born_nodes, IsBorn}
 use Rattle.gl_graph.specs.View.{View, Vertex, graph_of, node_of, record_count, KeepsBeside, AgreesAt}
-use Rattle.gl_graph.specs.Seen.{shape_in_body, vertex_of, seen, AreBornApart, AreSound, IsPlainBody}
+use Rattle.gl_graph.specs.Seen.{shape_in_body, vertex_of, seen, AreBornApart, AreBornWithin, AreSound, IsPlainBody}
 use Rattle.gl_graph.proofs.Look.{split, cases_of, no, none_some, some_is, same_number, other_number, there_is, live_node}
 use Rattle.gl_graph.proofs.KindRules.{Frames, index_node, interval_kept}
 use Rattle.gl_graph.proofs.Born.{born_frames, new_node, old_below}
 use Rattle.gl_graph.proofs.NewNodes.{one_indexes}
 use Rattle.gl_graph.proofs.Counts.{count_cons, count_grown, records_grown, new_ids, dead_records, dead_indexes}
-use Rattle.gl_graph.proofs.Slots.{at_slot, node_there, AreBornWithin, inserted, inserted_apart, inserted_free}
+use Rattle.gl_graph.proofs.Slots.{at_slot, node_there, inserted, inserted_apart, inserted_free}
 
 -- an index that stays has its intervals where they were
 pub intervals_same : (g g' : Graph) (law : IsLawfulGraph g) → Frames g g' → (n f : NodeId) (bs : List ℕ) → shape_of g n ≡ Some (Index f bs) → (place : ℕ) → place ≤ length bs → interval g' n place ≡ interval g n place

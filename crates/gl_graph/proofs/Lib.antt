@@ -22,3 +22,6 @@ pub mod Distinct
 pub mod SoundRemoved
 pub mod SoundChanged
 pub mod Rekey
+pub mod Grow
+pub mod Rising
+pub mod SoundIndex

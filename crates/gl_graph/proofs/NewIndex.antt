@@ -1,27 +1,27 @@
 -- A new index with its intervals: the law of the graph is kept.
-use Rattle.std.specs.Prelude.{◌≡◌, ◌⊎◌, ℕ, zero, suc, ◌+◌, ◌<◌, ◌≤◌, true, false, ◌&&◌, ◌==◌, List, [], ◌∷◌, length, Option, Some, None, is_some}
+use Rattle.std.specs.Prelude.{◌≡◌, ◌⊎◌, ℕ, zero, suc, ◌+◌, ◌<◌, ◌≤◌, true, false, ◌&&◌, ◌==◌, List, [], ◌∷◌, ◌++◌, length, Option, Some, None, is_some, if◌then◌else◌}
 use Rattle.std.specs.List.{cons_option, list_any, filter_map, range_with_len}
 use Rattle.std.proofs.lemmas.List.{length-append}
-use Rattle.std.proofs.Common.{refl, sym, ap, ◌∙◌, subst, arith, inl, inr, ⊎_elim}
+use Rattle.std.proofs.Common.{refl, sym, ap, ap₂, ◌∙◌, subst, arith, inl, inr, ⊎_elim}
 use Rattle.gl_modes.specs.declared.node.NodeId.{NodeId}
 use Rattle.gl_modes.specs.Nodes.{same_node}
 use Rattle.gl_graph.specs.Shapes.{Index, Interval, bounds_in, is_inner_shape, is_file_shape, is_index_shape, is_record_shape, is_index_of_shape}
 use Rattle.gl_graph.specs.Graph.{Graph, Node, nodes, node_count, node_at, is_live, parents_in, shape_in, shape_of, is_child, indexes_of, interval, key_or_zero, IsFreeKey}
 use Rattle.gl_graph.specs.Lawful.{IsRising, AreInnerParents, HasShape, IsWellFormed, IsLawfulGraph}
-use Rattle.gl_graph.specs.Changes.{are_apart, born_nodes, born_index, interval_nodes}
-use Rattle.gl_graph.proofs.Look.{split, or_elim, both, no, none_some, some_is, same_node_is, node_is, all_at}
+use Rattle.gl_graph.specs.Changes.{keys_of, are_apart, born_nodes, born_index, interval_nodes}
+use Rattle.gl_graph.proofs.Look.{split, or_elim, both, no, none_some, some_is, same_node_is, same_node_refl, node_is, all_at}
 use Rattle.gl_graph.proofs.KindRules.{Frames, inner_plain, file_plain, plain_live, parents_kept}
 use Rattle.gl_graph.proofs.Moved.{some_at}
 use Rattle.gl_graph.proofs.RouteLengths.{listed}
 use Rattle.gl_graph.proofs.Listings.{index_born}
-use Rattle.gl_graph.proofs.Born.{place_in, place_below, new_at, none_above, new_id, new_node, new_indexes, indexes_grown, born_frames, born_lawful, IsFresh}
-use Rattle.gl_graph.proofs.NewNodes.{place_there, keys_of, key_listed, places_apart, no_index_born, indexes_kept}
+use Rattle.gl_graph.proofs.Born.{place_in, new_index, place_below, new_at, none_above, new_id, new_node, new_indexes, indexes_grown, born_frames, born_lawful, IsFresh}
+use Rattle.gl_graph.proofs.NewNodes.{place_there, key_listed, places_apart, no_index_born, indexes_kept}
 
-keys_of_intervals : (id : NodeId) (place : ℕ) (keys : List ℕ) → keys_of (interval_nodes id place keys) ≡ keys
+pub keys_of_intervals : (id : NodeId) (place : ℕ) (keys : List ℕ) → keys_of (interval_nodes id place keys) ≡ keys
 keys_of_intervals id place [] = refl
 keys_of_intervals id place (k ∷ ks) = ap (λ xs. k ∷ xs) (keys_of_intervals id (place + 1) ks)
 
-count_intervals : (id : NodeId) (place : ℕ) (keys : List ℕ) → length (interval_nodes id place keys) ≡ length keys
+pub count_intervals : (id : NodeId) (place : ℕ) (keys : List ℕ) → length (interval_nodes id place keys) ≡ length keys
 count_intervals id place [] = refl
 count_intervals id place (k ∷ ks) = ap suc (count_intervals id (place + 1) ks)
 
@@ -35,28 +35,28 @@ interval_node id place (key ∷ keys) zero c node e f =
 interval_node id place (key ∷ keys) (suc k) c node e f = interval_node id (place + 1) keys k c node (omega arith) f
 
 module _ (g : Graph) (law : IsLawfulGraph g) (key : ℕ) (ps : List NodeId) (file : NodeId) (bounds keys : List ℕ) where
-  abbrev id : NodeId
+  abbrev pub id : NodeId
   id = record { key = key; birth = g.births + 1 }
 
-  abbrev index : Node
+  abbrev pub index : Node
   index = record { key = key; shape = Index file bounds; parents = ps }
 
-  abbrev ns : List Node
+  abbrev pub ns : List Node
   ns = index ∷ interval_nodes id 0 keys
 
-  abbrev grown : Graph
+  abbrev pub grown : Graph
   grown = born_nodes g ns
 
-  index_there : node_at grown id ≡ Some index
+  pub index_there : node_at grown id ≡ Some index
   index_there =
       let birth : g.births + 1 ≡ g.births + 1 + 0 = omega arith in
       ap (λ b. node_at grown (record { key = key; birth = b })) birth ∙ new_node g law ns 0 index refl
 
-  no_interval_index : (f : NodeId) (k : ℕ) (node : Node) → place_in (interval_nodes id 0 keys) k ≡ Some node → is_index_of_shape f (Some node.shape) ≡ false
+  pub no_interval_index : (f : NodeId) (k : ℕ) (node : Node) → place_in (interval_nodes id 0 keys) k ≡ Some node → is_index_of_shape f (Some node.shape) ≡ false
   no_interval_index f k node e = ap (λ x. is_index_of_shape f (Some x.shape)) (interval_node id 0 keys k k node (omega arith) e)
 
   -- other files have the indexes that they had
-  others : (f : NodeId) → same_node f file ≡ false → indexes_of grown f ≡ indexes_of g f
+  pub others : (f : NodeId) → same_node f file ≡ false → indexes_of grown f ≡ indexes_of g f
   others f other = indexes_kept g law ns f by
     where
       by : (k : ℕ) (node : Node) → place_in ns k ≡ Some node → is_index_of_shape f (Some node.shape) ≡ false
@@ -81,8 +81,26 @@ module _ (g : Graph) (law : IsLawfulGraph g) (key : ℕ) (ps : List NodeId) (fil
       by zero node high e = absurd (⊎_elim (λ (h : g.births + 1 + 0 ≡ g.births + 1 + 1). omega arith) (λ (h : g.births + 1 + 1 < g.births + 1 + 0). omega arith) high)
       by (suc k) node high e = no_interval_index f k node e
 
+  -- the file has the index, last
+  pub file_index : indexes_of grown file ≡ indexes_of g file ++ id ∷ []
+  file_index =
+      let rest : filter_map (index_born grown file) (range_with_len (g.births + 1 + 1) (length (interval_nodes id 0 keys))) ≡ [] =
+      no_index_born g law ns file (g.births + 1 + 1) (length (interval_nodes id 0 keys)) (omega arith) (omega arith) by in
+      let birth : g.births + 1 ≡ g.births + 1 + 0 = omega arith in
+      let here : index_born grown file (g.births + 1) ≡ Some id =
+      ap (index_born grown file) birth ∙ new_index g law ns file 0 index refl ∙ ap (λ b. if b then Some (new_id g law ns index 0) else None) (same_node_refl file) ∙ (λ i. Some (record { key = key; birth = sym birth i })) in
+      indexes_grown g law ns file ∙ ap (λ xs. indexes_of g file ++ xs) (ap₂ cons_option here rest)
+    where
+      by : (k : ℕ) (node : Node) → (g.births + 1 + k ≡ g.births + 1 + 1) ⊎ (g.births + 1 + 1 < g.births + 1 + k) → place_in ns k ≡ Some node → is_index_of_shape file (Some node.shape) ≡ false
+      by zero node high e = absurd (⊎_elim (λ (h : g.births + 1 + 0 ≡ g.births + 1 + 1). omega arith) (λ (h : g.births + 1 + 1 < g.births + 1 + 0). omega arith) high)
+      by (suc k) node high e = no_interval_index file k node e
+
+  pub no_record_born : (k : ℕ) (node : Node) → place_in ns k ≡ Some node → is_record_shape (Some node.shape) ≡ false
+  no_record_born zero node e = ap (λ x. is_record_shape (Some x.shape)) (sym (some_is e))
+  no_record_born (suc k) node e = ap (λ x. is_record_shape (Some x.shape)) (interval_node id 0 keys k k node (omega arith) e)
+
   -- an interval stands where its index says
-  interval_there : (k : ℕ) (node : Node) → place_in (interval_nodes id 0 keys) k ≡ Some node → interval grown id k ≡ new_id g law ns node (suc k)
+  pub interval_there : (k : ℕ) (node : Node) → place_in (interval_nodes id 0 keys) k ≡ Some node → interval grown id k ≡ new_id g law ns node (suc k)
   interval_there k node e =
       let birth : g.births + 1 + 1 + k ≡ g.births + 1 + suc k = omega arith in
       node_is (interval grown id k) (new_id g law ns node (suc k))
@@ -104,7 +122,7 @@ module _ (g : Graph) (law : IsLawfulGraph g) (key : ℕ) (ps : List NodeId) (fil
             by None h' = absurd (no h')
             by (Some x) h' = refl
 
-    frames : Frames g grown
+    pub frames : Frames g grown
     frames = born_frames g law ns unused
 
     intervals_stand : (place : ℕ) → place ≤ length bounds → node_at grown (interval grown id place) ≡ Some (record { key = (interval grown id place).key; shape = Interval place; parents = id ∷ [] })

@@ -8,7 +8,7 @@ use Rattle.gl_modes.specs.Nodes.{same_node}
 use Rattle.gl_graph.specs.Shapes.{Inner, File, Rec, is_inner_shape, is_file_shape, is_index_of_shape}
 use Rattle.gl_graph.specs.Graph.{Graph, Node, node_count, is_live, shape_of, indexes_of, record_parents, IsFreeKey}
 use Rattle.gl_graph.specs.Lawful.{AreInnerParents, IsWellFormed, IsLawfulGraph}
-use Rattle.gl_graph.specs.Changes.{are_apart, born_node, born_nodes}
+use Rattle.gl_graph.specs.Changes.{keys_of, are_apart, born_node, born_nodes}
 use Rattle.gl_graph.proofs.Look.{or_right, and_both, no, none_some, some_is, number_same, all_at}
 use Rattle.gl_graph.proofs.KindRules.{inner_plain, file_plain, plain_live, record_parent_plain, parents_kept, record_parents_kept}
 use Rattle.gl_graph.proofs.Listings.{index_born, map_none}
@@ -18,11 +18,6 @@ pub place_there : (ns : List Node) (k : ℕ) → k < length ns → (node : Node)
 place_there [] k low = absurd (omega arith)
 place_there (n ∷ ns) zero low = (n, refl)
 place_there (n ∷ ns) (suc k) low = place_there ns k (omega arith)
-
--- the keys in order of birth
-abbrev pub keys_of : List Node → List ℕ
-keys_of [] = []
-keys_of (n ∷ ns) = n.key ∷ keys_of ns
 
 pub key_listed : (ns : List Node) (k : ℕ) (node : Node) → place_in ns k ≡ Some node → list_any (λ x. x == node.key) (keys_of ns) ≡ true
 key_listed [] k node e = absurd (none_some e)

@@ -8,7 +8,7 @@ use Rattle.gl_graph.specs.declared.node.Node.{Node as Stored}
 use Rattle.gl_graph.specs.Graph.{Node, Graph, with_key, node_at, is_live, IsFreeKey}
 use Rattle.gl_graph.specs.Changes.{with_node, born_node, without_node}
 use Rattle.gl_graph.specs.View.{node_of, born_at, graph_of}
-use Rattle.gl_graph.specs.Seen.{vertex_of, see, seen, named_in, named, AreBornApart}
+use Rattle.gl_graph.specs.Seen.{vertex_of, see, seen, named_in, named, AreBornApart, AreBornWithin}
 use Rattle.gl_graph.proofs.Look.{split, cases_of, no, none_some, some_is, number_same, number_other, same_number, other_number, finds, misses, found_at, live_node}
 
 -- slots of a list, as those of a slab
@@ -142,10 +142,6 @@ module _ (old new : Slab Stored) (key : ℕ) (slot : Option Stored) (apart : Are
         let f = slot_at new x.birth node h in
         let ne : f.key ≢ key = λ k. none f.stored (sym u.changed ∙ ap (get new) (sym k) ∙ f.there) f.born in
         absurd (ne (apart f.key key f.stored x (sym (u.others f.key ne) ∙ f.there) e f.born)))
-
--- births are from 1 up to this
-abbrev pub AreBornWithin : Slab Stored → ℕ → Type 0
-AreBornWithin s births = (k : ℕ) (x : Stored) → get s k ≡ Some x → x.birth ≤ births
 
 -- a node comes under a key that was free
 module _ (old new : Slab Stored) (births key : ℕ) (x : Stored) (apart : AreBornApart old) (within : AreBornWithin old births) (free : get old key ≡ None) (u : Updates old new key (Some x)) (next : x.birth ≡ births + 1) where

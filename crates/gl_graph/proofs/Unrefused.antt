@@ -1,7 +1,7 @@
 -- What it says of the graph that no test finds a reason to refuse.
-use Rattle.std.specs.Prelude.{◌≡◌, ℕ, ◌+◌, ◌<◌, ◌≤◌, Bool, true, false, not, ◌||◌, ◌==◌, nat_lt, nat_le, List, [], ◌∷◌, length, Option, Some, None, Result, Ok, if◌then◌else◌, ◌-◌}
+use Rattle.std.specs.Prelude.{◌≡◌, ℕ, ◌+◌, ◌<◌, ◌≤◌, Bool, true, false, not, ◌||◌, ◌==◌, nat_lt, nat_le, List, [], ◌∷◌, length, Option, Some, None, Result, Ok, Err, ◌++◌, if◌then◌else◌, ◌-◌}
 use Rattle.std.specs.List.{list_all}
-use Rattle.std.proofs.Common.{refl, sym, ap, ◌∙◌, arith}
+use Rattle.std.proofs.Common.{refl, sym, ap, ◌∙◌, subst, arith}
 use Rattle.std.proofs.lemmas.Bool.Decides.{nat_tests}
 use mathlib.Core.Bool.{true≢false}
 use Rattle.gl_modes.specs.declared.node.NodeId.{NodeId}
@@ -11,8 +11,8 @@ use Rattle.gl_graph.specs.Graph.{Graph, node_count, shape_of, indexes_of}
 use Rattle.gl_graph.specs.Shapes.{is_file_shape}
 use Rattle.gl_graph.specs.Routes.{is_at_or_below}
 use Rattle.gl_graph.specs.Lawful.{IsRising, are_inner, are_distinct, AreInnerParents}
-use Rattle.gl_graph.specs.Refusals.{first_refusal, where_true, max_count, worn_births, some_no_node, bad_parents, too_many_nodes, first_cycle, is_rising, parents_refusal, record_refusal, verdict}
-use Rattle.gl_graph.proofs.Look.{split, none_some, and_both, both, same_number}
+use Rattle.gl_graph.specs.Refusals.{first_refusal, where_true, max_count, worn_births, some_no_node, bad_parents, too_many_nodes, first_cycle, is_rising, parents_refusal, record_refusal, index_refusal, bad_index_place, bad_bounds, has_records, Refuses, verdict}
+use Rattle.gl_graph.proofs.Look.{split, no, none_some, and_both, both, same_number}
 
 pub not_refused : (x : Option Refusal) (xs : List (Option Refusal)) → first_refusal (x ∷ xs) ≡ None → (x ≡ None) × (first_refusal xs ≡ None)
 not_refused None xs h = (refl, h)
@@ -90,3 +90,49 @@ record_unrefused g f keys e =
     let d = not_refused (where_true (not (length keys == length (indexes_of g f))) refusal.BadKeys) _ c.1 in
     let r = not_refused (too_many_nodes g 1) [] d.1 in
     record { births = lt_no (max_count - 65536) g.births (test_fails _ _ a.0); file = not_false _ (test_fails _ _ c.0); each = same_number _ _ (not_false _ (test_fails _ _ d.0)); room = enough_room g 1 r.0 }
+
+-- what a new index needs
+pub record IsRoomyIndex (g : Graph) (ps : List NodeId) (f : NodeId) (bs : List ℕ) : Type 0 where
+  pub births : g.births ≤ max_count - 65536
+  pub inner : AreInnerParents g 1 ps
+  pub file : is_file_shape (shape_of g f) ≡ true
+  pub indexes : length (indexes_of g f) + 1 ≤ 7
+  pub unused : has_records g f ≡ false
+  pub few : length bs ≤ 256
+  pub rise : IsRising (0 ∷ bs)
+  pub room : node_count g + (2 + length bs) ≤ 65536
+
+pub index_unrefused : (g : Graph) (ps : List NodeId) (f : NodeId) (bs : List ℕ) → index_refusal g ps f bs ≡ None → IsRoomyIndex g ps f bs
+index_unrefused g ps f bs e =
+    let a = not_refused (worn_births g) _ e in
+    let b = not_refused (some_no_node g (ps ++ f ∷ [])) _ a.1 in
+    let c = not_refused (where_true (bad_index_place g ps f) refusal.BadParents) _ b.1 in
+    let d = not_refused (where_true (has_records g f) refusal.FileInUse) _ c.1 in
+    let k = not_refused (where_true (bad_bounds bs) refusal.BadKeys) _ d.1 in
+    let r = not_refused (too_many_nodes g (2 + length bs)) [] k.1 in
+    let place = or_no (bad_parents g 1 ps || not (is_file_shape (shape_of g f))) (nat_le 7 (length (indexes_of g f))) (test_fails _ _ c.0) in
+    let kinds = or_no (bad_parents g 1 ps) (not (is_file_shape (shape_of g f))) place.0 in
+    let bounds = or_no (nat_lt 256 (length bs)) (not (is_rising (0 ∷ bs))) (test_fails _ _ k.0) in
+    let seven = le_no 7 (length (indexes_of g f)) place.1 in
+    record {
+      births = lt_no (max_count - 65536) g.births (test_fails _ _ a.0);
+      inner = inner_parents g 1 ps kinds.0;
+      file = not_false _ kinds.1;
+      indexes = omega arith;
+      unused = test_fails _ _ d.0;
+      few = lt_no 256 (length bs) bounds.0;
+      rise = rising (0 ∷ bs) (not_false _ bounds.1);
+      room = enough_room g (2 + length bs) r.0;
+    }
+
+abbrev passes : Result (Unit {0}) Refusal → Bool
+passes (Ok u) = true
+passes (Err r) = false
+
+-- a refusal that a test found is answered
+pub refused_by : {T : Type 0} (o : Option Refusal) (r : Refusal) (x : Result T Refusal) → Err r ≡ verdict o → x ≡ Err r → Refuses o x
+refused_by None r x e f = absurd (no (ap passes e))
+refused_by (Some s) r x e f = cc
+
+pub memory_only : {T : Type 0} (o : Option Refusal) (x : Result T Refusal) → o ≡ None → x ≡ Err refusal.NoMemory → Refuses o x
+memory_only o x e f = subst (λ p. Refuses p x) (sym e) (subst (λ y. Refuses None y) (sym f) refl)

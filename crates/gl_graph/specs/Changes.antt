@@ -29,6 +29,10 @@ born_index g key parents file bounds interval_keys =
     let id : NodeId = record { key = key; birth = g.births + 1 } in
     born_nodes g (record { key = key; shape = Index file bounds; parents = parents } ∷ interval_nodes id 0 interval_keys)
 
+abbrev pub keys_of : List Node → List ℕ
+keys_of [] = []
+keys_of (n ∷ ns) = n.key ∷ keys_of ns
+
 -- no two of these keys are one
 abbrev pub are_apart : List ℕ → Bool
 are_apart [] = true

@@ -6,4 +6,6 @@ pub mod Changes
 pub mod Refusals
 pub mod View
 pub mod Seen
+pub mod Grown
+pub mod Parts
 pub mod Sound

@@ -1,6 +1,8 @@
 -- What a contract sees of a slab of nodes, and what holds of it always.
-use Rattle.std.specs.Prelude.{◌≡◌, ℕ, ◌==◌, List, [], map, Option, Some, None, if◌then◌else◌, slice_set, ◌+◌}
+use Rattle.std.specs.Prelude.{◌≡◌, ℕ, ◌==◌, List, [], map, Option, Some, None, if◌then◌else◌, slice_set, ◌+◌, ◌≤◌, Vec}
 use Rattle.gl_modes.specs.declared.node.NodeId.{NodeId}
+use Rattle.std.specs.declared.alloc.Global.{Global}
+use Rattle.smallvec.specs.SmallVec.{SmallVec}
 use Rattle.slab.specs.Slab.{Slab, get, slab_len}
 use Rattle.gl_graph.specs.declared.node.Body.{Body}
 use Rattle.gl_graph.specs.declared.node.Body.TheVariants as body
@@ -58,6 +60,10 @@ named nodes n = named_in n.birth (get nodes n.key)
 abbrev pub AreBornApart : Slab Node → Type 0
 AreBornApart nodes = (j k : ℕ) (x y : Node) → get nodes j ≡ Some x → get nodes k ≡ Some y → x.birth ≡ y.birth → j ≡ k
 
+-- births are at most this
+abbrev pub AreBornWithin : Slab Node → ℕ → Type 0
+AreBornWithin nodes births = (k : ℕ) (x : Node) → get nodes k ≡ Some x → x.birth ≤ births
+
 -- the graph is lawful, and what is kept beside it agrees with it
 pub record AreSound (nodes : Slab Node) (births : ℕ) : Type 0 where
   pub lawful : IsLawfulGraph (graph_of (seen nodes births))
@@ -82,3 +88,11 @@ body_with_key b place key = b
 -- a record with another key at this place, and another interval at the place behind it
 abbrev pub with_key_at : Node → ℕ → ℕ → NodeId → Node
 with_key_at x place key interval = record x { parents = record x.parents { items = slice_set x.parents.items (place + 1) interval }; body = body_with_key x.body place key }
+
+abbrev pub body_with_intervals : Body → Vec NodeId Global → Body
+body_with_intervals (body.Index file bounds intervals) fresh = body.Index file bounds fresh
+body_with_intervals b fresh = b
+
+abbrev pub body_with_indexes : Body → SmallVec NodeId → Body
+body_with_indexes (body.File indexes records) fresh = body.File fresh records
+body_with_indexes b fresh = b

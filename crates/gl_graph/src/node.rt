@@ -38,6 +38,8 @@ impl Body {
     ghost use Rattle.std.specs.Prelude.{◌≡◌, ◌<◌, Some, length};
     ghost use Rattle.gl_graph.specs.Shapes.{bounds_in, keys_in, kind_in};
     ghost use Rattle.gl_graph.specs.Seen.{
+      body_with_indexes,
+      body_with_intervals,
       body_with_key,
       body_with_records,
       indexes_in_body,
@@ -123,6 +125,30 @@ impl Body {
                 keys.as_mut_slice()[place] = key;
                 Body::Rec { keys }
             }
+            other => other,
+        }
+    }
+
+    /// An index with its intervals; another body as it is.
+    pub(crate) fn with_intervals(self, intervals: Vec<NodeId>) -> Body
+        ensures { result ≡ body_with_intervals self intervals }
+    {
+        match self {
+            Body::Index { file, bounds, .. } => Body::Index {
+                file,
+                bounds,
+                intervals,
+            },
+            other => other,
+        }
+    }
+
+    /// A file with other indexes; another body as it is.
+    pub(crate) fn with_indexes(self, indexes: SmallVec<NodeId, 1>) -> Body
+        ensures { result ≡ body_with_indexes self indexes }
+    {
+        match self {
+            Body::File { records, .. } => Body::File { indexes, records },
             other => other,
         }
     }

@@ -1,15 +1,38 @@
 //! The slab of nodes: looking one up, and writing one.
 
-ghost use Rattle.std.specs.Prelude.{◌≡◌, ◌+◌, ◌<◌, Some, length, option_copied};
-ghost use Rattle.slab.specs.Slab.{ContainsKey, Updates, get, slab_len};
+ghost use Rattle.std.specs.Prelude.{
+  ◌+◌,
+  ◌<◌,
+  ◌≡◌,
+  ◌≤◌,
+  ◌^◌,
+  Some,
+  [],
+  length,
+  option_copied,
+  vec_capacity,
+};
+ghost use Rattle.slab.specs.Slab.{ContainsKey, HasRoomFor, Updates, get, slab_len};
 ghost use Rattle.gl_graph.specs.declared.node.Node.{Node};
 ghost use Rattle.gl_graph.specs.Shapes.{keys_in};
-ghost use Rattle.gl_graph.specs.Seen.{body_with_records, named, shape_in_body, with_key_at};
+ghost use Rattle.gl_graph.specs.Seen.{
+  AreBornApart,
+  AreBornWithin,
+  body_with_indexes,
+  body_with_intervals,
+  body_with_records,
+  named,
+  shape_in_body,
+  with_key_at,
+};
+ghost use Rattle.gl_graph.specs.Grown.{AreIntervalsBorn};
 
 use gl_modes::NodeId;
 use slab::Slab;
+use smallvec::SmallVec;
+use std::alloc::Global;
 
-use crate::node::Node;
+use crate::node::{Body, Node};
 
 /// The node that the id names.
 pub(crate) fn find(nodes: &Slab<Node>, n: NodeId) -> Option<&Node>
@@ -66,4 +89,72 @@ pub(crate) fn write_key(
         parents,
         body,
     });
+}
+
+/// Writes the intervals of an index.
+pub(crate) fn write_intervals(nodes: &mut Slab<Node>, key: usize, intervals: Vec<NodeId>)
+    requires { ContainsKey nodes.old key }
+    ensures written { (x : Node) → get nodes.old key ≡ Some x → Updates nodes.old nodes.new key (Some (record x { body = body_with_intervals x.body intervals })) }
+    ensures len { slab_len nodes.new ≡ slab_len nodes.old }
+{
+    let Node {
+        birth,
+        parents,
+        body,
+    } = nodes.remove(key);
+    let body = body.with_intervals(intervals);
+    nodes.insert_reserved(Node {
+        birth,
+        parents,
+        body,
+    });
+}
+
+/// Writes the indexes of a file.
+pub(crate) fn write_indexes(nodes: &mut Slab<Node>, key: usize, indexes: SmallVec<NodeId, 1>)
+    requires { ContainsKey nodes.old key }
+    ensures written { (x : Node) → get nodes.old key ≡ Some x → Updates nodes.old nodes.new key (Some (record x { body = body_with_indexes x.body indexes })) }
+    ensures len { slab_len nodes.new ≡ slab_len nodes.old }
+{
+    let Node {
+        birth,
+        parents,
+        body,
+    } = nodes.remove(key);
+    let body = body.with_indexes(indexes);
+    nodes.insert_reserved(Node {
+        birth,
+        parents,
+        body,
+    });
+}
+
+/// Stores so many intervals of an index, with the births behind the index's, and lists them.
+pub(crate) fn insert_intervals(
+    nodes: &mut Slab<Node>,
+    alloc: Global,
+    index: NodeId,
+    count: usize,
+    ids: &mut Vec<NodeId>,
+)
+    requires room { HasRoomFor nodes.old count }
+    requires list_room { count ≤ vec_capacity ids.old }
+    requires none { ids.old.items ≡ [] }
+    requires births { index.birth + count < 2 ^ 64 }
+    requires apart { AreBornApart nodes.old }
+    requires within { AreBornWithin nodes.old index.birth }
+    ensures born { AreIntervalsBorn nodes.old nodes.new index count ids.new.items }
+{
+    for place in 0..count {
+        let mut parents = SmallVec::new(alloc);
+        parents.push_reserved(index);
+        let birth = index.birth + 1 + place as u64;
+        let body = Body::Interval { place };
+        let key = nodes.insert_reserved(Node {
+            birth,
+            parents,
+            body,
+        });
+        ids.push_reserved(NodeId { key, birth });
+    }
 }

@@ -1,14 +1,17 @@
 //! The tests that a call makes before it changes anything, each with the refusal that it answers.
 
-ghost use Rattle.std.specs.Prelude.{◌≡◌, ◌+◌, ◌||◌, Some, nat_lt, not};
+ghost use Rattle.std.specs.Prelude.{◌≡◌, ◌+◌, ◌∷◌, nat_lt};
 ghost use Rattle.std.specs.List.{list_all, list_any};
 ghost use Rattle.gl_modes.specs.Nodes.{same_node};
 ghost use Rattle.gl_graph.specs.Shapes.{is_file_shape, is_inner_shape};
 ghost use Rattle.gl_graph.specs.Graph.{is_live, node_count, shape_of};
 ghost use Rattle.gl_graph.specs.Lawful.{are_distinct, are_inner};
 ghost use Rattle.gl_graph.specs.Refusals.{
+  bad_bounds,
+  bad_index_place,
   bad_parents,
   index_refusal,
+  is_rising,
   parents_refusal,
   record_refusal,
   verdict,
@@ -25,6 +28,12 @@ const MOST_NODES: usize = 65_536;
 
 /// How many parents a node may have.
 const MOST_PARENTS: usize = 8;
+
+/// How many indexes a file may have.
+const MOST_INDEXES: usize = 7;
+
+/// How many bounds an index may have.
+const MOST_BOUNDS: usize = 256;
 
 /// Whether the node is one of these.
 fn is_among(ids: &[NodeId], n: NodeId) -> bool
@@ -43,6 +52,27 @@ fn distinct(ids: &[NodeId]) -> bool
         }
     }
     true
+}
+
+/// Whether each of these is above the one before it, and the first above 0.
+fn are_rising(bounds: &[u64]) -> bool
+    ensures { result ≡ is_rising (0 ∷ bounds.now) }
+{
+    let mut last = 0;
+    for bound in bounds {
+        if *bound <= last {
+            return false;
+        }
+        last = *bound;
+    }
+    true
+}
+
+/// Whether these cannot be the bounds of an index.
+fn are_bad_bounds(bounds: &[u64]) -> bool
+    ensures { result ≡ bad_bounds bounds.now }
+{
+    bounds.len() > MOST_BOUNDS || !are_rising(bounds)
 }
 
 impl Graph {
@@ -127,5 +157,40 @@ impl Graph {
         } else {
             Ok(())
         }
+    }
+
+    /// The tests for an index of a file.
+    pub(super) fn check_index(
+        &self,
+        parents: &[NodeId],
+        file: NodeId,
+        bounds: &[u64],
+    ) -> Result<(), Refusal>
+        ensures { result ≡ verdict (index_refusal (graph_of self.now) parents.now file bounds.now) }
+    {
+        if self.worn() {
+            Err(Refusal::WornOut)
+        } else if !self.all_live(parents) || !self.lives(file) {
+            Err(Refusal::NoSuchNode)
+        } else if self.is_bad_index_place(parents, file) {
+            Err(Refusal::BadParents)
+        } else if self.has_records(file) {
+            Err(Refusal::FileInUse)
+        } else if are_bad_bounds(bounds) {
+            Err(Refusal::BadKeys)
+        } else if self.too_many(bounds.len() + 2) {
+            Err(Refusal::TooManyNodes)
+        } else {
+            Ok(())
+        }
+    }
+
+    /// Whether no index of this file can be made under these parents.
+    fn is_bad_index_place(&self, parents: &[NodeId], file: NodeId) -> bool
+        ensures { result ≡ bad_index_place (graph_of self.now) parents.now file }
+    {
+        self.are_bad_parents(1, parents)
+            || !self.is_file(file)
+            || self.indexes(file).len() >= MOST_INDEXES
     }
 }

@@ -5,18 +5,55 @@ ghost use Rattle.gl_modes.specs.declared.refusal.Refusal.{Refusal};
 ghost use Rattle.gl_graph.specs.Shapes.{File, Inner, Rec, is_file_shape};
 ghost use Rattle.gl_graph.specs.Graph.{IsFreeKey, indexes_of, record_parents, shape_of};
 ghost use Rattle.gl_graph.specs.Lawful.{IsLawfulGraph};
-ghost use Rattle.gl_graph.specs.Changes.{born_node, IsBorn};
-ghost use Rattle.gl_graph.specs.Refusals.{file_refusal, inner_refusal, record_refusal, Refuses};
+ghost use Rattle.gl_graph.specs.Changes.{born_node, IsBorn, IsIndexBorn};
+ghost use Rattle.gl_graph.specs.Refusals.{file_refusal, index_refusal, inner_refusal, record_refusal, Refuses};
 ghost use Rattle.gl_graph.specs.View.{graph_of};
 ghost use Rattle.gl_graph.specs.Seen.{shape_in_body, IsPlainBody};
 
 use gl_modes::{NodeId, Refusal};
 use smallvec::SmallVec;
-use std::alloc::AllocError;
+use std::alloc::{AllocError, Global};
 
 use super::Graph;
 use crate::node::{Body, Node};
-use crate::store::write_records;
+use crate::store::{insert_intervals, write_indexes, write_intervals, write_records};
+
+/// What a new index takes memory for, made before anything changes.
+#[derive(Drop)]
+struct IndexParts {
+    parents: SmallVec<NodeId, 2>,
+    bounds: Vec<u64>,
+    // Empty, with room for all.
+    intervals: Vec<NodeId>,
+    // Those that the file has, with room for one more.
+    indexes: SmallVec<NodeId, 1>,
+}
+
+impl IndexParts {
+    ghost use Rattle.gl_graph.specs.Parts.{AreParts};
+
+    fn new(
+        alloc: Global,
+        parents: &[NodeId],
+        bounds: &[u64],
+        indexes: &[NodeId],
+    ) -> Result<Self, AllocError>
+        requires { length bounds.now < 2 ^ 63 }
+        ensures made { IfOk result (λ parts. AreParts parts parents.now bounds.now indexes.now) }
+    {
+        let parents = SmallVec::from_slice(alloc, parents)?;
+        let intervals = Vec::with_capacity(alloc, bounds.len() + 1)?;
+        let bounds = Vec::from_slice(alloc, bounds)?;
+        let mut indexes = SmallVec::from_slice(alloc, indexes)?;
+        indexes.reserve(1)?;
+        Ok(IndexParts {
+            parents,
+            bounds,
+            intervals,
+            indexes,
+        })
+    }
+}
 
 impl Graph {
     /// Makes an inner node under 0 to 8 different inner nodes; without parents it is a root.
@@ -47,6 +84,57 @@ impl Graph {
             records: 0,
         };
         self.insert(parents, body)
+    }
+
+    /// Makes an index of a file that has no records, under 1 to 8 different inner nodes, with at
+    /// most 256 strictly rising bounds above 0. The index is born first and then, in order, its
+    /// intervals: one that begins at key 0, and one at each bound.
+    ///
+    /// Refused, in this order, with `WornOut`, `NoSuchNode`, `BadParents` (also where the file is
+    /// none or has seven indexes), `FileInUse`, `BadKeys` (the bounds), `TooManyNodes` and
+    /// `NoMemory`.
+    pub fn add_index(
+        &mut self,
+        parents: &[NodeId],
+        file: NodeId,
+        bounds: &[u64],
+    ) -> Result<NodeId, Refusal>
+        ensures made { IfOk result (λ n. IsIndexBorn (graph_of self.old) (graph_of self.new) n parents.now file bounds.now) }
+        ensures refuses { Refuses (index_refusal (graph_of self.old) parents.now file bounds.now) result }
+        ensures err { OnErr result (self.new ≡ self.old) }
+    {
+        self.check_index(parents, file, bounds)?;
+        let count = bounds.len() + 1;
+        let Ok(()) = self.nodes.reserve(count + 1) else {
+            return Err(Refusal::NoMemory);
+        };
+        let Ok(parts) = IndexParts::new(self.alloc, parents, bounds, self.indexes(file)) else {
+            return Err(Refusal::NoMemory);
+        };
+        let IndexParts {
+            parents,
+            bounds,
+            mut intervals,
+            mut indexes,
+        } = parts;
+        let birth = self.births + 1;
+        let body = Body::Index {
+            file,
+            bounds,
+            intervals: Vec::new(self.alloc),
+        };
+        let key = self.nodes.insert_reserved(Node {
+            birth,
+            parents,
+            body,
+        });
+        let index = NodeId { key, birth };
+        insert_intervals(&mut self.nodes, self.alloc, index, count, &mut intervals);
+        indexes.push_reserved(index);
+        write_intervals(&mut self.nodes, key, intervals);
+        write_indexes(&mut self.nodes, file.key, indexes);
+        self.births = birth + count as u64;
+        Ok(index)
     }
 
     /// Makes a record of a file, with a key for each of the file's indexes, in order of their

@@ -1,0 +1,238 @@
+-- An index is born with its intervals: what is kept beside the graph agrees.
+use Rattle.std.specs.Prelude.{◌≡◌, ◌≢◌, ◌⊎◌, ℕ, zero, suc, ◌+◌, ◌<◌, ◌≤◌, Bool, true, false, not, ◌==◌, ◌&&◌, ◌||◌, List, [], ◌∷◌, ◌++◌, length, Option, Some, None, is_some, slice_get, Vec}
+use Rattle.std.specs.List.{list_any}
+use Rattle.std.specs.declared.alloc.Global.{Global}
+use Rattle.std.proofs.Common.{refl, sym, ap, ap₂, ◌∙◌, subst, arith, ⊎_elim}
+use Rattle.smallvec.specs.SmallVec.{SmallVec}
+use Rattle.gl_modes.specs.declared.node.NodeId.{NodeId}
+use Rattle.gl_modes.specs.Nodes.{same_node}
+use Rattle.slab.specs.Slab.{Slab, get, slab_len, Updates}
+use Rattle.gl_graph.specs.declared.node.Body.{Body}
+use Rattle.gl_graph.specs.declared.node.Body.TheVariants as body
+use Rattle.gl_graph.specs.declared.node.Node.{Node as Stored}
+use Rattle.gl_graph.specs.Shapes.{Shape, Inner, File, Index, Interval, Rec, is_file_shape}
+use Rattle.gl_graph.specs.Graph.{Graph, Node, shape_in, shape_of, interval, indexes_of, node_count, IsFreeKey}
+use Rattle.gl_graph.specs.Lawful.{IsLawfulGraph, AreInnerParents, IsRising}
+use Rattle.gl_graph.specs.Changes.{born_node, born_nodes, born_index, interval_nodes, keys_of, are_apart, IsIndexBorn}
+use Rattle.gl_graph.specs.Refusals.{has_records}
+use Rattle.gl_graph.specs.View.{graph_of, node_of, record_count, KeepsBeside, AgreesAt}
+use Rattle.gl_graph.specs.Seen.{shape_in_body, indexes_in_body, records_in_body, intervals_in_body, body_with_intervals, body_with_indexes, vertex_of, seen, AreSound}
+use Rattle.gl_graph.specs.Grown.{IsGrown, ids_of, AreIntervalsBorn}
+use Rattle.gl_graph.proofs.Look.{split, no, none_some, some_is, both, number_same, same_number, other_number, node_other, or_elim}
+use Rattle.gl_graph.proofs.Born.{place_in, new_id}
+use Rattle.gl_graph.proofs.NewNodes.{place_there}
+use Rattle.gl_graph.proofs.NewIndex.{keys_of_intervals, count_intervals, others, interval_there, file_index, no_record_born, frames, index_lawful, interval_node}
+use Rattle.gl_graph.proofs.Counts.{count_grown, same_records}
+use Rattle.gl_graph.proofs.Slots.{stored_of, node_there, inserted, inserted_apart, inserted_within, written_apart, unseen}
+use Rattle.gl_graph.proofs.Beside.{FileSlot, file_slot}
+use Rattle.gl_graph.proofs.Kept.{born_within, beside_kept}
+use Rattle.gl_graph.proofs.Unrefused.{IsRoomyIndex}
+
+same_shape : (b : Body) (fresh : Vec NodeId Global) → shape_in_body (body_with_intervals b fresh) ≡ shape_in_body b
+same_shape body.Inner fresh = refl
+same_shape (body.File indexes records) fresh = refl
+same_shape (body.Index f bounds intervals) fresh = refl
+same_shape (body.Interval place) fresh = refl
+same_shape (body.Rec keys) fresh = refl
+
+has_intervals : (b : Body) (fresh : Vec NodeId Global) (f : NodeId) (bs : List ℕ) → shape_in_body b ≡ Index f bs → intervals_in_body (body_with_intervals b fresh) ≡ fresh.items
+has_intervals body.Inner fresh f bs e = cc
+has_intervals (body.File indexes records) fresh f bs e = cc
+has_intervals (body.Index g bounds intervals) fresh f bs e = refl
+has_intervals (body.Interval place) fresh f bs e = cc
+has_intervals (body.Rec keys) fresh f bs e = cc
+
+file_same_shape : (b : Body) (fresh : SmallVec NodeId) → shape_in_body (body_with_indexes b fresh) ≡ shape_in_body b
+file_same_shape body.Inner fresh = refl
+file_same_shape (body.File indexes records) fresh = refl
+file_same_shape (body.Index f bounds intervals) fresh = refl
+file_same_shape (body.Interval place) fresh = refl
+file_same_shape (body.Rec keys) fresh = refl
+
+has_indexes : (b : Body) (fresh : SmallVec NodeId) → shape_in_body b ≡ File → (indexes_in_body (body_with_indexes b fresh) ≡ fresh.items) × (records_in_body (body_with_indexes b fresh) ≡ records_in_body b)
+has_indexes body.Inner fresh e = cc
+has_indexes (body.File indexes records) fresh e = (refl, refl)
+has_indexes (body.Index g bounds intervals) fresh e = cc
+has_indexes (body.Interval place) fresh e = cc
+has_indexes (body.Rec keys) fresh e = cc
+
+-- the list of intervals names each at its place
+ids_at : (index : NodeId) (from birth : ℕ) (keys : List ℕ) (k b : ℕ) (node : Node) → birth + k ≡ b → place_in (interval_nodes index from keys) k ≡ Some node → slice_get (ids_of birth keys) k ≡ Some (record { key = node.key; birth = b })
+ids_at index from birth [] k b node e f = absurd (none_some f)
+ids_at index from birth (key ∷ keys) zero b node e f = let same : birth ≡ b = omega arith in let is = some_is f in λ i. Some (record { key = (is i).key; birth = same i })
+ids_at index from birth (key ∷ keys) (suc k) b node e f = ids_at index (from + 1) (birth + 1) keys k b node (omega arith) f
+
+vacant_free : (s : Slab Stored) (births : ℕ) (sound : AreSound s births) (key : ℕ) → get s key ≡ None → IsFreeKey (graph_of (seen s births)) key
+vacant_free s births sound key e n h same = let x = stored_of s births sound.apart n h in none_some (sym e ∙ ap (get s) (sym same) ∙ x.1)
+
+count_ids_of : (birth : ℕ) (keys : List ℕ) → length (ids_of birth keys) ≡ length keys
+count_ids_of birth [] = refl
+count_ids_of birth (k ∷ keys) = ap suc (count_ids_of (birth + 1) keys)
+
+module _ (old mid grown : Slab Stored) (births key : ℕ) (x : Stored) (sound : AreSound old births) (free : get old key ≡ None) (u : Updates old mid key (Some x)) (next : x.birth ≡ births + 1) (len : slab_len mid ≡ slab_len old + 1)
+    (file : NodeId) (ps : List NodeId) (bounds : List ℕ) (shape : shape_in_body x.body ≡ Index file bounds) (parents : x.parents.items ≡ ps) (may : IsRoomyIndex (graph_of (seen old births)) ps file bounds)
+    (ids : List NodeId) (born : AreIntervalsBorn mid grown (record { key = key; birth = births + 1 }) (length bounds + 1) ids) where
+  abbrev pub g : Graph
+  g = graph_of (seen old births)
+
+  abbrev pub id : NodeId
+  id = record { key = key; birth = births + 1 }
+
+  abbrev pub keys : List ℕ
+  keys = born.keys
+
+  abbrev pub total : ℕ
+  total = births + 1 + (length bounds + 1)
+
+  abbrev pub after : Graph
+  after = born_index g key ps file bounds keys
+
+  index_born : graph_of (seen mid (births + 1)) ≡ born_node g (record { key = key; shape = Index file bounds; parents = ps })
+  index_born = inserted old mid births key x sound.apart (born_within old births sound) free u next ∙ (λ i. born_node g (record { key = key; shape = shape i; parents = parents i }))
+
+  count : births + 1 + length (interval_nodes id 0 keys) ≡ total
+  count = let c = count_intervals id 0 keys in let m = born.many in omega arith
+
+  all_born : graph_of (seen grown total) ≡ after
+  all_born = ap (λ b. graph_of (seen grown b)) (sym count) ∙ born.grown.graph ∙ ap (λ h. born_nodes h (interval_nodes id 0 keys)) index_born
+
+  free_keys : (k : ℕ) → list_any (λ y. y == k) (key ∷ keys) ≡ true → IsFreeKey g k
+  free_keys k h =
+      or_elim (key == k) (list_any (λ y. y == k) keys) h (λ here. vacant_free old births sound k (ap (get old) (sym (same_number key k here)) ∙ free))
+      (λ there.
+      let vacant : get mid k ≡ None = born.grown.vacant k (ap (list_any (λ y. y == k)) (keys_of_intervals id 0 keys) ∙ there) in
+      vacant_free old births sound k (by k vacant (get old k) refl))
+    where
+      by : (k' : ℕ) → get mid k' ≡ None → (o : Option Stored) → get old k' ≡ o → get old k' ≡ None
+      by k' v None e = e
+      by k' v (Some y) e = absurd (none_some (sym v ∙ u.others k' (λ same. none_some (sym free ∙ ap (get old) (sym same) ∙ e)) ∙ e))
+
+  apart_keys : are_apart (key ∷ keys) ≡ true
+  apart_keys =
+      both _ _
+      (split (list_any (λ y. y == key) keys) (λ t. absurd (none_some (sym (born.grown.vacant key (ap (list_any (λ y. y == key)) (keys_of_intervals id 0 keys) ∙ t)) ∙ u.changed))) (λ t. ap not t))
+      (ap are_apart (sym (keys_of_intervals id 0 keys)) ∙ born.grown.keys_apart)
+
+  pub lawful : IsLawfulGraph after
+  lawful = index_lawful g sound.lawful key ps file bounds keys may.inner may.file may.few may.rise may.unused may.indexes born.many apart_keys free_keys may.room
+
+  abbrev pub ns : List Node
+  ns = record { key = key; shape = Index file bounds; parents = ps } ∷ interval_nodes id 0 keys
+
+  pub records_kept : (f : NodeId) → record_count after f ≡ record_count g f
+  records_kept f = same_records g sound.lawful ns (no_record_born g sound.lawful key ps file bounds keys) f
+
+  abbrev pub slot : FileSlot old file
+  slot = file_slot old births sound file may.file
+
+  pub file_apart : file.key ≢ key
+  file_apart e = none_some (sym free ∙ ap (get old) (sym e) ∙ slot.there)
+
+  pub file_there : get grown file.key ≡ Some slot.stored
+  file_there = born.grown.stays file.key slot.stored (u.others file.key file_apart ∙ slot.there)
+
+  pub index_there : get grown key ≡ Some x
+  index_there = born.grown.stays key x u.changed
+
+  -- a node that stays, and is not the file, agrees as before
+  pub old_agrees : (k : ℕ) (y : Stored) → k ≢ file.key → get old k ≡ Some y → AgreesAt after k (vertex_of y)
+  old_agrees k y ne e =
+      let shape_there : shape_of g (record { key = k; birth = y.birth }) ≡ Some (shape_in_body y.body) = ap shape_in (node_there old births sound.apart k y e) in
+      beside_kept g after sound.lawful (frames g sound.lawful key ps file bounds keys may.inner may.file may.few may.rise may.unused may.indexes born.many apart_keys free_keys may.room) (record { key = k; birth = y.birth }) (vertex_of y) (shape_in_body y.body) shape_there
+      (λ h. (others g sound.lawful key ps file bounds keys (record { key = k; birth = y.birth }) (node_other (record { key = k; birth = y.birth }) file (λ same. ne (ap (λ q. q.key) same))), records_kept (record { key = k; birth = y.birth })))
+      (sound.agree k y e)
+
+  -- so does what has come
+  pub grown_agrees : (k : ℕ) (y : Stored) → k ≢ file.key → k ≢ key → get grown k ≡ Some y → AgreesAt after k (vertex_of y)
+  grown_agrees k y ne other e =
+      ⊎_elim (λ (was : get mid k ≡ Some y). old_agrees k y ne (sym (u.others k other) ∙ was))
+      (λ (new : (place : ℕ) × (shape_in_body y.body ≡ Interval place)). subst (KeepsBeside after (record { key = k; birth = y.birth }) (vertex_of y)) (sym new.1) tt) (born.grown.came k y e)
+
+  intervals_at : (place : ℕ) → place ≤ length bounds → slice_get ids place ≡ Some (interval after id place)
+  intervals_at place low =
+      let many = count_intervals id 0 keys in
+      let length_is = born.many in
+      let there = place_there (interval_nodes id 0 keys) place (omega arith) in
+      let at = interval_there g sound.lawful key ps file bounds keys place there.0 there.1 in
+      let birth : births + 1 + suc place ≡ births + 1 + 1 + place = omega arith in
+      ap (λ xs. slice_get xs place) born.ids_are ∙ ids_at id 0 (births + 1 + 1) keys place (births + 1 + suc place) there.0 (omega arith) there.1 ∙ ap Some (sym at)
+
+  module _ (third fourth : Slab Stored) (fresh : Vec NodeId Global) (fresh_is : fresh.items ≡ ids) (write : (y : Stored) → get grown key ≡ Some y → Updates grown third key (Some (record y { body = body_with_intervals y.body fresh }))) (len3 : slab_len third ≡ slab_len grown)
+      (list : SmallVec NodeId) (list_is : list.items ≡ indexes_of g file ++ id ∷ []) (rewrite : (y : Stored) → get third file.key ≡ Some y → Updates third fourth file.key (Some (record y { body = body_with_indexes y.body list }))) (len4 : slab_len fourth ≡ slab_len third) where
+    abbrev x3 : Stored
+    x3 = record x { body = body_with_intervals x.body fresh }
+
+    abbrev f4 : Stored
+    f4 = record slot.stored { body = body_with_indexes slot.stored.body list }
+
+    u3 : Updates grown third key (Some x3)
+    u3 = write x index_there
+
+    pub file_third : get third file.key ≡ Some slot.stored
+    file_third = u3.others file.key file_apart ∙ file_there
+
+    u4 : Updates third fourth file.key (Some f4)
+    u4 = rewrite slot.stored file_third
+
+    alike3 : node_of key (vertex_of x3) ≡ node_of key (vertex_of x)
+    alike3 = let s = same_shape x.body fresh in λ i. record { key = key; shape = s i; parents = x.parents.items }
+
+    alike4 : node_of file.key (vertex_of f4) ≡ node_of file.key (vertex_of slot.stored)
+    alike4 = let s = file_same_shape slot.stored.body list in λ i. record { key = file.key; shape = s i; parents = slot.stored.parents.items }
+
+    graph3 : graph_of (seen third total) ≡ graph_of (seen grown total)
+    graph3 = unseen grown third total key x x3 born.grown.apart index_there u3 refl alike3
+
+    pub index_graph : graph_of (seen fourth total) ≡ after
+    index_graph = unseen third fourth total file.key slot.stored f4 (written_apart grown third total key x x3 born.grown.apart index_there u3 refl) file_third u4 refl alike4 ∙ graph3 ∙ all_born
+
+    file_agrees : AgreesAt after file.key (vertex_of f4)
+    file_agrees =
+        let kept = has_indexes slot.stored.body list slot.shape in
+        let was = subst (KeepsBeside g (record { key = file.key; birth = slot.stored.birth }) (vertex_of slot.stored)) slot.shape (sound.agree file.key slot.stored slot.there) in
+        let here : NodeId = record { key = file.key; birth = slot.stored.birth } in
+        let is_file : here ≡ file = (let b = slot.born in λ i. record { key = file.key; birth = b i }) in
+        subst (KeepsBeside after (record { key = file.key; birth = slot.stored.birth }) (vertex_of f4)) (sym (file_same_shape slot.stored.body list ∙ slot.shape))
+        (kept.0 ∙ list_is ∙ sym (file_index g sound.lawful key ps file bounds keys) ∙ ap (indexes_of after) (sym is_file), kept.1 ∙ was.1 ∙ sym (records_kept (record { key = file.key; birth = slot.stored.birth })))
+
+    index_agrees : AgreesAt after key (vertex_of x3)
+    index_agrees =
+        let kept = has_intervals x.body fresh file bounds shape ∙ fresh_is in
+        let many : length ids ≡ length bounds + 1 = ap length born.ids_are ∙ count_ids_of (births + 1 + 1) keys ∙ born.many in
+        subst (λ b. KeepsBeside after (record { key = key; birth = b }) (vertex_of x3) (shape_in_body x3.body)) (sym next)
+        (subst (KeepsBeside after id (vertex_of x3)) (sym (same_shape x.body fresh ∙ shape)) (ap length kept ∙ many, λ place low. ap (λ is. slice_get is place) kept ∙ intervals_at place low))
+
+    pub index_sound : AreSound fourth total
+    index_sound = record {
+      lawful = subst IsLawfulGraph (sym index_graph) lawful;
+      apart = written_apart third fourth total file.key slot.stored f4 (written_apart grown third total key x x3 born.grown.apart index_there u3 refl) file_third u4 refl;
+      counted =
+          (let all = count_grown g sound.lawful ns in
+          let many = count_intervals id 0 keys in
+          let was = sound.counted in
+          let grew = born.grown.len in
+          let same : slab_len fourth ≡ node_count after = omega arith in
+          same)
+          ∙ ap node_count (sym index_graph);
+      agree = λ k y e. subst (λ h. AgreesAt h k (vertex_of y)) (sym index_graph) (split (k == file.key)
+      (λ t.
+      let here : k ≡ file.key = same_number k file.key t in
+      let same : f4 ≡ y = some_is (sym u4.changed ∙ ap (get fourth) (sym here) ∙ e) in
+      subst (λ c. AgreesAt after c (vertex_of y)) (sym here) (subst (λ z. AgreesAt after file.key (vertex_of z)) same file_agrees))
+      (λ t.
+      let ne : k ≢ file.key = other_number k file.key t in
+      let at3 : get third k ≡ Some y = sym (u4.others k ne) ∙ e in
+      split (k == key)
+      (λ w.
+      let here : k ≡ key = same_number k key w in
+      let same : x3 ≡ y = some_is (sym u3.changed ∙ ap (get third) (sym here) ∙ at3) in
+      subst (λ c. AgreesAt after c (vertex_of y)) (sym here) (subst (λ z. AgreesAt after key (vertex_of z)) same index_agrees))
+      (λ w. let other = other_number k key w in grown_agrees k y ne other (sym (u3.others k other) ∙ at3))));
+    }
+
+    pub index_made : IsIndexBorn g (graph_of (seen fourth total)) id ps file bounds
+    index_made = record { interval_keys = keys; intervals = born.many; keys_apart = apart_keys; keys_free = free_keys; birth = refl; after = index_graph }
+
+-- the capacity is not seen
+pub sound_capacity : (s : Slab Stored) (births capacity : ℕ) → AreSound s births → AreSound (record s { capacity = capacity }) births
+sound_capacity s births capacity sound = record { lawful = sound.lawful; apart = sound.apart; counted = sound.counted; agree = sound.agree }

@@ -1,0 +1,10 @@
+use Rattle.std.proofs.Common.{◌≡◌, ◌∷◌, ◌+◌, drop, slice_index_or, sym, ap, ◌∙◌, arith}
+use Rattle.gl_graph.specs.Refusals.{is_rising}
+use Rattle.gl_graph.proofs.Rising.{rising_step, rising_ends, rising_all}
+use Rattle.gl_graph.proofs.graph.checks.are_rising.Goals as goal
+
+pub returns-then-bound-last : goal.returns-then-bound-last
+returns-then-bound-last c = sym (rising_ends c.loop-bound.last c.args.bounds.now c.loop-bound.bound-index c.loop-bound-test.true c.if-bound-last.true) ∙ c.loop-bound.invariant
+
+pub loop-bound-preserved : goal.loop-bound-preserved
+loop-bound-preserved c = rising_step c.loop-bound.last c.args.bounds.now c.loop-bound.bound-index c.loop-bound-test.true c.if-bound-last.false ∙ c.loop-bound.invariant
