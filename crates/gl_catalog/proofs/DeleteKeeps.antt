@@ -21,12 +21,12 @@ use Rattle.gl_table.specs.Calls.{deleted}
 use Rattle.gl_catalog.specs.Tests.{worn}
 use Rattle.gl_graph.specs.Refusals.{some_no_node, where_true}
 use Rattle.gl_table.specs.Refusals.{no_txn, waiting_test, condemned_test}
-use Rattle.gl_catalog.specs.Promises.{KeepsLaw}
+use Rattle.gl_catalog.proofs.KeepsLaw.{KeepsLaw}
 use Rattle.gl_graph.proofs.Look.{split, no, or_left, or_right, other_node, node_other, same_node_refl}
 use Rattle.gl_graph.proofs.KindRules.{is_plain, parent_plain, rec_not_plain}
 use Rattle.gl_graph.proofs.Removed.{stays_there, removed_lawful}
 use Rattle.gl_catalog.proofs.MakeKeeps.{waits_among}
-use Rattle.gl_catalog.proofs.Refusals.{not_refused, test_fails, not_false}
+use Rattle.gl_graph.proofs.Unrefused.{not_refused, test_fails, not_false}
 use Rattle.gl_table.proofs.Waiting.{some_freed, age_freed, still_waits, waits_still}
 
 pub all_same : (p q : NodeId → Bool) (ps : List NodeId) → ((x : NodeId) → list_any (same_node x) ps ≡ true → q x ≡ p x) → list_all q ps ≡ list_all p ps

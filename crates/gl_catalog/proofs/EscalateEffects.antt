@@ -26,13 +26,16 @@ use Rattle.gl_table.specs.Calls.{wanted, asked_by_escalation, raised, shed}
 use Rattle.gl_catalog.specs.Tests.{worn}
 use Rattle.gl_table.specs.Refusals.{no_txn, waiting_test, condemned_test}
 use Rattle.gl_table.specs.Effects.{is_at_least_effect}
-use Rattle.gl_catalog.specs.Promises.{LowersNone}
+use Rattle.gl_catalog.specs.Promises.{EscalateLowersNone}
 use Rattle.gl_graph.proofs.Look.{split, cases_of, no, or_elim, or_left, or_right, and_both, both, same_number, number_same, same_node_is, same_node_refl, all_at, child_live}
 use Rattle.gl_graph.proofs.Routes.{join}
 use Rattle.gl_graph.proofs.Moved.{some_at}
 use Rattle.gl_table.proofs.CutSet.{listed, route_short, cut_set_on}
 use Rattle.gl_catalog.proofs.MakeKeeps.{nobody_holds}
-use Rattle.gl_catalog.proofs.Refusals.{not_refused, or_no, active_is}
+use Rattle.gl_graph.proofs.Unrefused.{not_refused, or_no}
+use Rattle.gl_catalog.proofs.EachStep.{each_step}
+use Rattle.gl_catalog.proofs.Keeps.{effect_refl}
+use Rattle.gl_catalog.proofs.Refusals.{active_is}
 
 x_stays : (a b : Mode) → is_at_least b a ≡ true → same_mode a X ≡ true → same_mode b X ≡ true
 x_stays a b h k = search rules
@@ -218,10 +221,13 @@ module _ (s : State) (law : IsLawful s) (t : ℕ) (n : NodeId) (active : status_
       effects (eff_x (node_count s.graph) s.graph (s.held t) q) (eff_s (node_count s.graph) s.graph (s.held t) q) (eff_x (node_count s.graph) s.graph (after.held t) q) (eff_s (node_count s.graph) s.graph (after.held t) q)
       (x_later q (ap is_some there)) (s_later q (ap is_some there)))
 
-pub escalate_lowers_none : (t : TxnId) (n : NodeId) → LowersNone t.slot (command.Escalate t n)
-escalate_lowers_none t n s s' a told law free acc q =
+pub escalate_lowers_none : EscalateLowersNone
+escalate_lowers_none t n s s' a told law step q =
+    each_step (λ x. is_at_least_effect (effective x t.slot q) (effective s t.slot q) ≡ true) s (command.Escalate t n) a told s' (effect_refl (effective s t.slot q)) (λ next same. same)
+    (λ free next acc.
     let t1 = not_refused (worn s) _ free in
     let t2 = not_refused (no_txn s t) _ t1.1 in
     let t3 = not_refused (waiting_test (status_of s t.slot)) _ t2.1 in
     let t4 = not_refused (condemned_test (status_of s t.slot)) _ t3.1 in
-    ap (λ x. is_at_least_effect (effective x t.slot q) (effective s t.slot q)) acc.2 ∙ lowers_none s law t.slot n (active_is s t t2.0 t3.0 t4.0) q
+    ap (λ x. is_at_least_effect (effective x t.slot q) (effective s t.slot q)) acc.2 ∙ lowers_none s law t.slot n (active_is s t t2.0 t3.0 t4.0) q)
+    step

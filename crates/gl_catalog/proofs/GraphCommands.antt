@@ -20,13 +20,14 @@ use Rattle.gl_table.specs.Lawful.{IsLawful}
 use Rattle.gl_table.specs.Effects.{is_read, EffX}
 use Rattle.gl_table.specs.Intends.{no_parents}
 use Rattle.gl_table.specs.Tellings.{Told}
-use Rattle.gl_table.specs.Calls.{accepted_once, made, next_id, freed, freed_unless, stays, moved_to, deleted}
+use Rattle.gl_table.specs.Calls.{accepted_once, freed, freed_unless, stays, moved_to, deleted}
 use Rattle.gl_table.specs.State.{with_graph}
 use Rattle.gl_table.specs.Refusals.{holds_x, some_given}
 use Rattle.gl_table.proofs.CutSet.{and_both, same_node_true}
 use Rattle.gl_table.proofs.Effects.{split, ReadOn}
 use Rattle.gl_table.proofs.Follows.{SameGrants}
 use Rattle.gl_catalog.proofs.OtherChanges.{with_grant_same}
+use Rattle.gl_catalog.proofs.Made.{made, next_id}
 use Rattle.gl_catalog.proofs.Keeps.{Keeps, keeps_graph}
 use Rattle.gl_catalog.proofs.StepTests.{OnParents, given_some, record_has_parents}
 use Rattle.gl_catalog.proofs.GraphChanges.{quiet_under, x_here, x_on_parents, beside_x, is_new, no_records, born_births, born_old, born_step, born_step_records, unborn_shape, KeepsKey, changed_at, changed_here, changed_births, changed_old, changed_step, gone_keeps, rekeyed_keeps, reparented_keeps, rekeyed_parents_in, reparented_parents_in}
@@ -75,10 +76,10 @@ module _ (s : State) (law : IsLawful s) (t : TxnId) (alive : lives s t ≡ true)
       keeps_graph s (accepted_once next) t told' (is_new s.graph) law law' (ap (live_by t.age) txn ∙ alive) (born_births s (accepted_once next) law ns is) (born_old s (accepted_once next) law ns is) same
       (born_step s (accepted_once next) law ns is t.slot plain)
 
-  pub inner_keeps : (key : ℕ) (ps : List NodeId) → next ≡ made s key (record { key = key; shape = Inner; parents = ps }) → Kept
+  pub inner_keeps : (key : ℕ) (ps : List NodeId) → next ≡ made s (record { key = key; shape = Inner; parents = ps }) → Kept
   inner_keeps key ps is = made_keeps (record { key = key; shape = Inner; parents = ps } ∷ []) (ap (λ x. x.graph) is) refl (ap (λ x. x.txns t.slot) is) (λ q. ap (λ x. x.held t.slot q) is)
 
-  pub file_keeps : (key : ℕ) (ps : List NodeId) → next ≡ made s key (record { key = key; shape = File; parents = ps }) → Kept
+  pub file_keeps : (key : ℕ) (ps : List NodeId) → next ≡ made s (record { key = key; shape = File; parents = ps }) → Kept
   file_keeps key ps is = made_keeps (record { key = key; shape = File; parents = ps } ∷ []) (ap (λ x. x.graph) is) refl (ap (λ x. x.txns t.slot) is) (λ q. ap (λ x. x.held t.slot q) is)
 
   pub index_keeps : (key : ℕ) (ps : List NodeId) (f : NodeId) (bs keys : List ℕ) → next ≡ with_graph s (born_index s.graph key ps f bs keys) → Kept
@@ -87,7 +88,7 @@ module _ (s : State) (law : IsLawful s) (t : TxnId) (alive : lives s t ≡ true)
       (λ q. ap (λ x. x.held t.slot q) is)
 
   -- a new record, which another holds in X
-  pub insert_keeps : (u key : ℕ) (keys : List ℕ) (ps : List NodeId) → u ≢ t.slot → next ≡ with_grant (made s key (new_record key keys ps)) u (next_id s key) X → Kept
+  pub insert_keeps : (u key : ℕ) (keys : List ℕ) (ps : List NodeId) → u ≢ t.slot → next ≡ with_grant (made s (new_record key keys ps)) u (next_id s key) X → Kept
   insert_keeps u key keys ps ne is =
       keeps_graph s (accepted_once next) t told' (is_new s.graph) law law' (ap (λ x. live_by t.age (x.txns t.slot)) is ∙ alive) (born_births s (accepted_once next) law (new_record key keys ps ∷ []) graph) (born_old s (accepted_once next) law (new_record key keys ps ∷ []) graph) same
       (born_step_records s (accepted_once next) law (new_record key keys ps ∷ []) graph t.slot (λ c new rec r. out c new rec (subst (λ h. ReadOn next.graph h c) (sym (fun_ext same)) r)))
@@ -96,7 +97,7 @@ module _ (s : State) (law : IsLawful s) (t : TxnId) (alive : lives s t ≡ true)
       graph = ap (λ x. x.graph) is
 
       same : SameGrants s next t.slot
-      same q = ap (λ x. x.held t.slot q) is ∙ with_grant_same (made s key (new_record key keys ps)) u t.slot (next_id s key) X ne q
+      same q = ap (λ x. x.held t.slot q) is ∙ with_grant_same (made s (new_record key keys ps)) u t.slot (next_id s key) X ne q
 
       out : (c : NodeId) → s.graph.births < c.birth → is_record_shape (shape_of next.graph c) ≡ true → ReadOn next.graph (next.held t.slot) c → ⊥
       out c new rec r =

@@ -1,36 +1,37 @@
 -- New nodes keep the law of a state: inner, file, index and insert.
-use Rattle.std.specs.Prelude.{◌≡◌, ℕ, ◌+◌, Bool, true, not, ◌||◌, ◌==◌, nat_lt, nat_le, List, [], ◌∷◌, ◌++◌, length, Some, is_some, if◌then◌else◌}
+use Rattle.std.specs.Prelude.{◌≡◌, ℕ, ◌+◌, Bool, true, not, ◌||◌, ◌==◌, nat_lt, nat_le, List, [], ◌∷◌, ◌++◌, length, Option, Some, None, is_some, if◌then◌else◌}
 use Rattle.std.specs.List.{list_all, list_any, filter, range_with_len}
 use denote.Bor.{Bor}
 use Rattle.std.proofs.Common.{refl, sym, ap, ◌∙◌, subst, arith}
 use Rattle.gl_modes.specs.declared.mode.Mode.{Mode}
 use Rattle.gl_modes.specs.declared.mode.Mode.TheVariants.{NL, IX, X}
 use Rattle.gl_modes.specs.declared.node.NodeId.{NodeId}
+use Rattle.gl_modes.specs.declared.refusal.Refusal.{Refusal}
 use Rattle.gl_modes.specs.Modes.{are_compatible, is_at_least}
 use Rattle.gl_table.specs.declared.txn.TxnId.{TxnId}
 use Rattle.gl_table.specs.declared.txn.Status.TheVariants.{Waiting}
 use Rattle.gl_catalog.specs.declared.command.Command.TheVariants as command
 use Rattle.gl_graph.specs.Graph.{Graph, Node, node_at, is_live, parents_in, shape_in, shape_of, indexes_of, record_parents}
 use Rattle.gl_graph.specs.Shapes.{Inner, File, Index, Rec, is_record_shape, is_file_shape}
-use Rattle.gl_graph.specs.Refusals.{is_rising}
 use Rattle.gl_graph.specs.Changes.{born_node, born_index, interval_nodes}
 use Rattle.gl_graph.specs.Lawful.{IsLawfulGraph}
 use Rattle.gl_header.specs.Header.{Waiter, holds, is_waiter, is_among_waiters}
 use Rattle.gl_table.specs.State.{State, members, status_of}
 use Rattle.gl_table.specs.Intends.{intends, intends_over, ModeFitsKind}
 use Rattle.gl_table.specs.Lawful.{IsLawful}
-use Rattle.gl_graph.specs.Refusals.{where_true, some_no_node, bad_parents, too_many_nodes, has_records}
-use Rattle.gl_catalog.specs.Tests.{worn_making}
+use Rattle.gl_graph.specs.Refusals.{file_refusal, first_refusal, index_refusal, inner_refusal, some_no_node, too_many_nodes, where_true, worn_births}
+use Rattle.gl_catalog.specs.Tests.{worn}
 use Rattle.gl_table.specs.Refusals.{no_txn, waiting_test, condemned_test, first_not_ix}
 use Rattle.gl_table.specs.State.{with_graph}
-use Rattle.gl_table.specs.Calls.{made, next_id}
-use Rattle.gl_catalog.specs.Promises.{KeepsLaw}
+use Rattle.gl_catalog.proofs.KeepsLaw.{KeepsLaw}
 use Rattle.gl_graph.proofs.Look.{split, or_right, both, same_number}
 use Rattle.gl_graph.proofs.Born.{old_same, old_below, new_node}
 use Rattle.gl_graph.proofs.NewNodes.{inner_lawful, file_lawful, record_lawful}
 use Rattle.gl_graph.proofs.NewIndex.{index_lawful}
 use Rattle.gl_table.proofs.GrantKeeps.{nl_is, with_grant-lawful}
-use Rattle.gl_catalog.proofs.Refusals.{not_refused, test_fails, not_false, or_no, lt_no, le_no, active_is, inner_parents, enough_room, rising, all_ix}
+use Rattle.gl_graph.proofs.Unrefused.{not_refused, test_fails, not_false, enough_room, parents_unrefused, index_unrefused}
+use Rattle.gl_catalog.proofs.Made.{made, next_id, made_is, indexed_is, inserted_is}
+use Rattle.gl_catalog.proofs.Refusals.{active_is, all_ix}
 
 pub any_of_filter : (p : Waiter → Bool) (xs ys : List Waiter) (y : Waiter) → filter p xs ≡ y ∷ ys → list_any p xs ≡ true
 any_of_filter p [] ys y e = cc
@@ -71,44 +72,34 @@ module _ (s : State) (law : IsLawful s) (g' : Graph) (lawful : IsLawfulGraph g')
     ages_differ = law.ages_differ;
   }
 
-pub made_lawful : (s : State) (law : IsLawful s) (key : ℕ) (node : Node) → IsLawfulGraph (born_node s.graph node) → IsLawful (made s key node)
-made_lawful s law key node lawful = regraphed_lawful s law (born_node s.graph node) lawful (old_same s.graph law.graph (node ∷ []))
+pub made_lawful : (s : State) (law : IsLawful s) (node : Node) → IsLawfulGraph (born_node s.graph node) → IsLawful (made s node)
+made_lawful s law node lawful = regraphed_lawful s law (born_node s.graph node) lawful (old_same s.graph law.graph (node ∷ []))
+
+-- a test that was passed behind the count of commands
+behind_worn : (s : State) (o : Option Refusal) → first_refusal (worn s ∷ o ∷ []) ≡ None → o ≡ None
+behind_worn s o h = (not_refused o [] (not_refused (worn s) (o ∷ []) h).1).0
 
 pub inner_keeps : (ps : Bor (List NodeId)) → KeepsLaw (command.Inner ps)
 inner_keeps ps s s' a told law free acc =
-    let t1 = not_refused (worn_making s) _ free in
-    let t2 = not_refused (some_no_node s.graph ps.now) _ t1.1 in
-    let t3 = not_refused (where_true (bad_parents s.graph 0 ps.now) _) _ t2.1 in
-    let t4 = not_refused (too_many_nodes s.graph 1) [] t3.1 in
-    let node : Node = record { key = acc.0; shape = Inner; parents = ps.now } in
-    subst IsLawful (sym acc.4) (made_lawful s law acc.0 node (inner_lawful s.graph law.graph acc.0 ps.now (inner_parents s 0 ps.now (test_fails _ _ t3.0)) acc.1 (enough_room s 1 t4.0)))
+    let room = parents_unrefused s.graph 0 ps.now (behind_worn s (inner_refusal s.graph ps.now) free) in
+    let node : Node = record { key = acc.0.key; shape = Inner; parents = ps.now } in
+    subst IsLawful (sym (made_is s s' acc.1 acc.4)) (made_lawful s law node (inner_lawful s.graph law.graph acc.0.key ps.now room.inner acc.1.key_free room.room))
 
 pub file_keeps : (ps : Bor (List NodeId)) → KeepsLaw (command.File ps)
 file_keeps ps s s' a told law free acc =
-    let t1 = not_refused (worn_making s) _ free in
-    let t2 = not_refused (some_no_node s.graph ps.now) _ t1.1 in
-    let t3 = not_refused (where_true (bad_parents s.graph 1 ps.now) _) _ t2.1 in
-    let t4 = not_refused (too_many_nodes s.graph 1) [] t3.1 in
-    let node : Node = record { key = acc.0; shape = File; parents = ps.now } in
-    subst IsLawful (sym acc.4) (made_lawful s law acc.0 node (file_lawful s.graph law.graph acc.0 ps.now (inner_parents s 1 ps.now (test_fails _ _ t3.0)) acc.1 (enough_room s 1 t4.0)))
+    let room = parents_unrefused s.graph 1 ps.now (behind_worn s (file_refusal s.graph ps.now) free) in
+    let node : Node = record { key = acc.0.key; shape = File; parents = ps.now } in
+    subst IsLawful (sym (made_is s s' acc.1 acc.4)) (made_lawful s law node (file_lawful s.graph law.graph acc.0.key ps.now room.inner acc.1.key_free room.room))
 
 pub index_keeps : (ps : Bor (List NodeId)) (f : NodeId) (bs : Bor (List ℕ)) → KeepsLaw (command.Index ps f bs)
 index_keeps ps f bs s s' a told law free acc =
-    let t1 = not_refused (worn_making s) _ free in
-    let t2 = not_refused (some_no_node s.graph (ps.now ++ f ∷ [])) _ t1.1 in
-    let t3 = not_refused (where_true (bad_parents s.graph 1 ps.now || not (is_file_shape (shape_of s.graph f)) || nat_le 7 (length (indexes_of s.graph f))) _) _ t2.1 in
-    let t4 = not_refused (where_true (has_records s.graph f) _) _ t3.1 in
-    let t5 = not_refused (where_true (nat_lt 256 (length bs.now) || not (is_rising (0 ∷ bs.now))) _) _ t4.1 in
-    let t6 = not_refused (too_many_nodes s.graph (2 + length bs.now)) [] t5.1 in
-    let bad = or_no (bad_parents s.graph 1 ps.now || not (is_file_shape (shape_of s.graph f))) (nat_le 7 (length (indexes_of s.graph f))) (test_fails _ _ t3.0) in
-    let bad' = or_no (bad_parents s.graph 1 ps.now) (not (is_file_shape (shape_of s.graph f))) bad.0 in
-    let keys = or_no (nat_lt 256 (length bs.now)) (not (is_rising (0 ∷ bs.now))) (test_fails _ _ t5.0) in
-    let few = le_no 7 (length (indexes_of s.graph f)) bad.1 in
-    let index : Node = record { key = acc.0; shape = Index f bs.now; parents = ps.now } in
-    let id : NodeId = record { key = acc.0; birth = s.graph.births + 1 } in
-    let lawful = index_lawful s.graph law.graph acc.0 ps.now f bs.now acc.1 (inner_parents s 1 ps.now bad'.0) (not_false _ bad'.1) (lt_no 256 (length bs.now) keys.0) (rising (0 ∷ bs.now) (not_false _ keys.1))
-    (test_fails _ _ t4.0) (omega arith) acc.2 acc.3 acc.4 (enough_room s (2 + length bs.now) t6.0) in
-    subst IsLawful (sym acc.7) (regraphed_lawful s law (born_index s.graph acc.0 ps.now f bs.now acc.1) lawful (old_same s.graph law.graph (index ∷ interval_nodes id 0 acc.1)))
+    let room = index_unrefused s.graph ps.now f bs.now (behind_worn s (index_refusal s.graph ps.now f bs.now) free) in
+    let born = acc.1 in
+    let index : Node = record { key = acc.0.key; shape = Index f bs.now; parents = ps.now } in
+    let id : NodeId = record { key = acc.0.key; birth = s.graph.births + 1 } in
+    let lawful = index_lawful s.graph law.graph acc.0.key ps.now f bs.now born.interval_keys room.inner room.file room.few room.rise room.unused room.indexes born.intervals born.keys_apart born.keys_free room.room in
+    subst IsLawful (sym (indexed_is s s' born acc.4))
+    (regraphed_lawful s law (born_index s.graph acc.0.key ps.now f bs.now born.interval_keys) lawful (old_same s.graph law.graph (index ∷ interval_nodes id 0 born.interval_keys)))
 
 pub nobody_holds : (s : State) (law : IsLawful s) (u : ℕ) (n : NodeId) → (is_live s.graph n ≡ true → ⊥) → s.held u n ≡ NL
 nobody_holds s law u n gone = split (holds (members s n) u) (λ h. absurd (gone (law.grants_live u n h).1)) (λ h. nl_is (s.held u n) h)
@@ -125,7 +116,8 @@ nl_below a e = ap (is_at_least X) e
 
 pub insert_keeps : (t : TxnId) (f : NodeId) (keys : Bor (List ℕ)) → KeepsLaw (command.Insert t f keys)
 insert_keeps t f keys s s' a told law free acc =
-    let t1 = not_refused (worn_making s) _ free in
+    let t0 = not_refused (worn s) _ free in
+    let t1 = not_refused (worn_births s.graph) _ t0.1 in
     let t2 = not_refused (no_txn s t) _ t1.1 in
     let t3 = not_refused (waiting_test (status_of s t.slot)) _ t2.1 in
     let t4 = not_refused (condemned_test (status_of s t.slot)) _ t3.1 in
@@ -134,13 +126,13 @@ insert_keeps t f keys s s' a told law free acc =
     let t7 = not_refused (where_true (not (length keys.now == length (indexes_of s.graph f))) _) _ t6.1 in
     let t8 = not_refused (first_not_ix (s.held t.slot) (record_parents s.graph f keys.now)) _ t7.1 in
     let t9 = not_refused (too_many_nodes s.graph 1) [] t8.1 in
-    let node : Node = record { key = acc.0; shape = Rec keys.now; parents = record_parents s.graph f keys.now } in
-    let id = next_id s acc.0 in
-    let graph = record_lawful s.graph law.graph acc.0 f keys.now (not_false _ (test_fails _ _ t6.0)) (same_number _ _ (not_false _ (test_fails _ _ t7.0))) acc.1 (enough_room s 1 t9.0) in
+    let node : Node = record { key = acc.0.key; shape = Rec keys.now; parents = record_parents s.graph f keys.now } in
+    let id = next_id s acc.0.key in
+    let graph = record_lawful s.graph law.graph acc.0.key f keys.now (not_false _ (test_fails _ _ t6.0)) (same_number _ _ (not_false _ (test_fails _ _ t7.0))) acc.1.key_free (enough_room s.graph 1 t9.0) in
     let there : node_at (born_node s.graph node) id ≡ Some node = new_there s.graph law.graph node in
     let fresh : (u : ℕ) → s.held u id ≡ NL = λ u. nobody_holds s law u id (λ h. let low = old_below s.graph law.graph (node ∷ []) id h in absurd (omega arith)) in
-    subst IsLawful (sym acc.4)
-    (with_grant-lawful (made s acc.0 node) (made_lawful s law acc.0 node graph) t.slot id X (active_is s t t2.0 t3.0 t4.0) (ap is_some there) (λ _. refl)
+    subst IsLawful (sym (inserted_is s s' t.slot acc.1 acc.4))
+    (with_grant-lawful (made s node) (made_lawful s law node graph) t.slot id X (active_is s t t2.0 t3.0 t4.0) (ap is_some there) (λ _. refl)
     (ap (λ o. intends_over (s.held t.slot) (parents_in o) X) there ∙ all_write (s.held t.slot) node.parents (all_ix (s.held t.slot) node.parents t8.0))
     (nl_below (s.held t.slot id) (fresh t.slot))
     (x_fits s.most (λ u. s.held u id) t.slot (range_with_len 0 s.most) fresh))

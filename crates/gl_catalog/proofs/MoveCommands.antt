@@ -8,7 +8,7 @@ use Rattle.gl_table.specs.declared.txn.TxnId.{TxnId}
 use Rattle.gl_table.specs.declared.txn.Status.TheVariants.{Active}
 use Rattle.gl_catalog.specs.declared.command.Command.TheVariants as command
 use Rattle.gl_graph.specs.Graph.{Graph, Node, node_at, parents_in, parents_of, is_live, shape_in, shape_of, first_parent, node_count}
-use Rattle.gl_graph.specs.Shapes.{Shape, Rec, Inner, File, Index, Interval, is_record_shape, is_index_of_shape, is_movable_shape}
+use Rattle.gl_graph.specs.Shapes.{Shape, Rec, Inner, File, Index, Interval, is_record_shape, is_index_of_shape, is_movable_shape, least_parents}
 use Rattle.gl_graph.specs.Changes.{with_node, with_parents, rekeyed, rekeyed_keys, rekeyed_parents}
 use Rattle.gl_graph.specs.Lawful.{IsLawfulGraph}
 use Rattle.gl_table.specs.State.{State, status_of}
@@ -17,13 +17,14 @@ use Rattle.gl_table.specs.Lawful.{IsLawful}
 use Rattle.gl_table.specs.Calls.{moved_to}
 use Rattle.gl_catalog.specs.Tests.{worn, refusal_of}
 use Rattle.gl_graph.specs.Refusals.{some_no_node, where_true, bad_parents, first_cycle}
-use Rattle.gl_table.specs.Refusals.{no_txn, waiting_test, condemned_test, least_parents, need_exclusive, need_new_parents, some_given}
-use Rattle.gl_catalog.specs.Promises.{KeepsLaw}
+use Rattle.gl_table.specs.Refusals.{no_txn, waiting_test, condemned_test, need_exclusive, need_new_parents, some_given}
+use Rattle.gl_catalog.proofs.KeepsLaw.{KeepsLaw}
 use Rattle.gl_graph.proofs.Look.{no, some_is, and_both, live_node}
 use Rattle.gl_graph.proofs.Changed.{IsAlike, at_here, at_other, nodes_same, live_same, rec_same}
 use Rattle.gl_graph.proofs.Moved.{movable_alike, rec_alike, with_parents_is, rekeyed_is, move_lawful, rekey_lawful, file_of_record}
 use Rattle.gl_catalog.proofs.MoveKeeps.{moved_lawful}
-use Rattle.gl_catalog.proofs.Refusals.{not_refused, test_fails, not_false, or_no, active_is, inner_parents, no_cycle, some_parents, may_move, HoldsNode, HoldsParents}
+use Rattle.gl_graph.proofs.Unrefused.{not_refused, test_fails, not_false, or_no, inner_parents, no_cycle}
+use Rattle.gl_catalog.proofs.Refusals.{active_is, some_parents, may_move, HoldsNode, HoldsParents}
 
 -- what no refusal of a move says: a node with the same key, alike, and the mover may change its parents
 pub record Moves (s : State) (t : ℕ) (n : NodeId) (was is : Node) (g' : Graph) : Type 0 where
@@ -73,7 +74,7 @@ move_moves s law t n ps free =
     let bad = or_no (not (is_movable_shape (shape_of s.graph n))) (bad_parents s.graph (least_parents (shape_of s.graph n)) ps.now) (test_fails _ _ t6.0) in
     let node = live_node (node_at s.graph n) lives.0 in
     let movable : is_movable_shape (Some node.0.shape) ≡ true = sym (ap (λ o. is_movable_shape (shape_in o)) node.1) ∙ not_false _ bad.0 in
-    let inner = inner_parents s (least_parents (Some node.0.shape)) ps.now (ap (λ o. bad_parents s.graph (least_parents (shape_in o)) ps.now) (sym node.1) ∙ bad.1) in
+    let inner = inner_parents s.graph (least_parents (Some node.0.shape)) ps.now (ap (λ o. bad_parents s.graph (least_parents (shape_in o)) ps.now) (sym node.1) ∙ bad.1) in
     let right = may_move s t.slot n (some_given (parents_of s.graph n) && some_given ps.now) ps.now t7.0 t8.0
     (λ h. let g = and_both (some_given (parents_of s.graph n)) (some_given ps.now) h in (some_parents (parents_of s.graph n) g.0, some_parents ps.now g.1)) in (
       node.0,

@@ -1,14 +1,12 @@
 -- A rekey and a move leave the mover's effective mode on every node as it was.
 use Rattle.std.specs.Prelude.{◌≡◌, ◌≢◌, ℕ, zero, suc, Bool, true, false, not, ◌&&◌, ◌||◌, List, [], ◌∷◌, if◌then◌else◌}
 use Rattle.std.specs.List.{list_all, list_any}
-use denote.Bor.{Bor}
 use Rattle.std.proofs.Math.Path.{fun_ext}
 use Rattle.std.proofs.Common.{refl, sym, ap, ap₂, ◌∙◌, rules, ⊎_elim}
 use mathlib.Core.Bool.{true≢false}
 use Rattle.gl_modes.specs.declared.mode.Mode.{Mode}
 use Rattle.gl_modes.specs.declared.mode.Mode.TheVariants.{X}
 use Rattle.gl_modes.specs.declared.node.NodeId.{NodeId}
-use Rattle.gl_table.specs.declared.txn.TxnId.{TxnId}
 use Rattle.gl_table.specs.declared.effect.Effect.TheVariants as effect
 use Rattle.gl_catalog.specs.declared.command.Command.TheVariants as command
 use Rattle.gl_graph.specs.Graph.{Graph, Node, parents_of, node_count}
@@ -19,8 +17,9 @@ use Rattle.gl_table.specs.State.{State}
 use Rattle.gl_table.specs.Effects.{eff_s, eff_x, is_read, effective}
 use Rattle.gl_table.specs.Intends.{no_parents}
 use Rattle.gl_table.specs.Calls.{moved_to}
-use Rattle.gl_catalog.specs.Promises.{KeepsMover}
+use Rattle.gl_catalog.specs.Promises.{MoveKeepsMover, RekeyKeepsMover}
 use Rattle.gl_graph.proofs.Look.{split, or_left, or_right, and_both, both, same_node_is, other_node}
+use Rattle.gl_catalog.proofs.EachStep.{each_step}
 use Rattle.gl_catalog.proofs.Refusals.{HoldsNode, HoldsParents}
 use Rattle.gl_catalog.proofs.MoveCommands.{Moves, others_parents, new_parents, count_same, moved_node, move_moves, rekeyed_to, rekey_moves}
 
@@ -86,12 +85,18 @@ module _ (s : State) (t : ℕ) (n : NodeId) (was is : Node) (g' : Graph) (m : Mo
       (ap (λ k. eff_x k g' (s.held t) q) count ∙ x_same s.graph g' (s.held t) n others x_kept s_kept (node_count s.graph) q)
       (ap (λ k. eff_s k g' (s.held t) q) count ∙ s_same s.graph g' (s.held t) n others x_kept s_kept (node_count s.graph) q)
 
-pub move_keeps_mover : (t : TxnId) (n : NodeId) (ps : Bor (List NodeId)) → KeepsMover t.slot (command.Move t n ps)
-move_keeps_mover t n ps s s' a told law free acc q =
+pub move_keeps_mover : MoveKeepsMover
+move_keeps_mover t n ps s s' a told law step q =
+    each_step (λ x. effective x t.slot q ≡ effective s t.slot q) s (command.Move t n ps) a told s' refl (λ next same. same)
+    (λ free next acc.
     let m = move_moves s law t n ps free in
-    ap (λ x. effective x t.slot q) acc.2 ∙ mover_same s t.slot n m.0 (moved_node ps.now m.0) (with_parents s.graph n ps.now) m.1 q
+    ap (λ x. effective x t.slot q) acc.2 ∙ mover_same s t.slot n m.0 (moved_node ps.now m.0) (with_parents s.graph n ps.now) m.1 q)
+    step
 
-pub rekey_keeps_mover : (t : TxnId) (r i : NodeId) (key : ℕ) → KeepsMover t.slot (command.Rekey t r i key)
-rekey_keeps_mover t r i key s s' a told law free acc q =
+pub rekey_keeps_mover : RekeyKeepsMover
+rekey_keeps_mover t r i key s s' a told law step q =
+    each_step (λ x. effective x t.slot q ≡ effective s t.slot q) s (command.Rekey t r i key) a told s' refl (λ next same. same)
+    (λ free next acc.
     let m = rekey_moves s law t r i key free in
-    ap (λ x. effective x t.slot q) acc.2 ∙ mover_same s t.slot r m.0 (rekeyed_to s.graph r i key m.0) (rekeyed s.graph r i key) m.1 q
+    ap (λ x. effective x t.slot q) acc.2 ∙ mover_same s t.slot r m.0 (rekeyed_to s.graph r i key m.0) (rekeyed s.graph r i key) m.1 q)
+    step

@@ -39,8 +39,8 @@ use Rattle.gl_table.proofs.Taken.{IsQuiet, at_all, without_wait-less, released-l
 use Rattle.gl_table.proofs.Escalates.{raised-lawful, shed-less}
 use Rattle.gl_table.proofs.Tests.{skip, unset, not_false, active_after}
 use Rattle.gl_table.proofs.Locked.{MayLock, may_lock, waiting-lawful, unlocked-less}
-use Rattle.gl_catalog.proofs.LocksKeepLaw.{is_lock_command}
-use Rattle.gl_table.proofs.Cycles.{less-no_cycle, no_step-no_cycle, at_one-no_cycle}
+use Rattle.gl_waits.proofs.WalkLemmas.{no_step-no_cycle}
+use Rattle.gl_waits.proofs.CycleLemmas.{less-no_cycle, at_one-no_cycle}
 use Rattle.gl_table.proofs.Edges.{idle_no_step, less_steps, pumped_steps}
 use Rattle.gl_catalog.proofs.NewEdges.{enqueued_steps, granted_steps, begun_steps}
 
@@ -123,34 +123,3 @@ escalated-no_cycle s law t n h none =
     shed-no_cycle (raised s t.slot n)
     (raised-lawful s law t.slot n a.0 a.1 (unset _ _ b.0) (not_false _ (unset _ _ c.0)) (not_false _ (unset _ _ d.0))) t.slot n a.0
     (granted-no_cycle s t.slot n (wanted s t.slot n (asked_by_escalation s t.slot n)) a.0 none)
-
-pub accepts-no_cycle : (s : State) (c : Command) (a : Answer) (told' : Told) (s' : State) → is_lock_command c ≡ true → s.detect ≡ AtBlock → IsLawful s → HasNoCycle s → refusal_of s c ≡ None → Accepts s c a told' s' → HasNoCycle s'
-accepts-no_cycle s command.Begin a told' s' is at law none h acc = subst HasNoCycle (sym acc.4) (begun-no_cycle s acc.0 none)
-accepts-no_cycle s (command.Lock t n m) a told' s' is at law none h acc = locks-no_cycle s s' at law t n m (may_lock s t n m (worn s) [] h).0 acc.0 none
-accepts-no_cycle s (command.Try t n m) a told' s' is at law none h acc = subst HasNoCycle (sym acc.2) (granted-no_cycle s t.slot n (wanted s t.slot n m) (active_after s t n (worn s) _ h).0 none)
-accepts-no_cycle s (command.Unlock t n) a told' s' is at law none h acc =
-    let a = active_after s t n (worn s) _ h in
-    let b = skip (not_held s t.slot n) _ a.2 in
-    subst HasNoCycle (sym acc.2) (unlocked-no_cycle s law t.slot n a.0 (skip (held_child s t.slot n) [] b.1).0 none)
-accepts-no_cycle s (command.Escalate t n) a told' s' is at law none h acc = subst HasNoCycle (sym acc.2) (escalated-no_cycle s law t n h none)
-accepts-no_cycle s (command.Cancel t) a told' s' is at law none h acc = subst HasNoCycle (sym acc.2) (given_up-no_cycle s law t.slot Active (λ q m e. cc) none)
-accepts-no_cycle s (command.Commit t) a told' s' is at law none h acc = subst HasNoCycle (sym acc.2) (released-no_cycle s law t.slot none)
-accepts-no_cycle s (command.Abort t) a told' s' is at law none h acc = subst HasNoCycle (sym acc.2) (released-no_cycle s law t.slot none)
-accepts-no_cycle s (command.Settle t) a told' s' is at law none h acc = settled-no_cycle s s' t.slot law acc.2 none
-accepts-no_cycle s (command.Group n) a told' s' is at law none h acc = absurd acc
-accepts-no_cycle s (command.Held t n) a told' s' is at law none h acc = absurd acc
-accepts-no_cycle s (command.Effective t n) a told' s' is at law none h acc = absurd acc
-accepts-no_cycle s c a told' s' is at law none h acc = absurd (true≢false (sym is))
-
-answers-no_cycle : (s : State) (c : Command) (q : Option Answer) (a : Answer) (told' : Told) (s' : State) → is_lock_command c ≡ true → s.detect ≡ AtBlock → IsLawful s → HasNoCycle s → refusal_of s c ≡ None → Answers s c q a told' s' → HasNoCycle s'
-answers-no_cycle s c (Some q) a told' s' is at law none h step = subst HasNoCycle (sym step.same) none
-answers-no_cycle s c None a told' s' is at law none h step = subst HasNoCycle (sym step.2) (accepts-no_cycle s c a told' step.0 is at law none h step.1)
-
-goes-no_cycle : (s : State) (c : Command) (r : Option Refusal) (a : Answer) (told' : Told) (s' : State) → is_lock_command c ≡ true → s.detect ≡ AtBlock → IsLawful s → HasNoCycle s → refusal_of s c ≡ r → Goes s c r a told' s' → HasNoCycle s'
-goes-no_cycle s c (Some r) a told' s' is at law none h step = subst HasNoCycle (sym step.same) none
-goes-no_cycle s c None a told' s' is at law none h step = answers-no_cycle s c (query_answer s c) a told' s' is at law none h step
-
--- no cycle after each step
-pub lock_steps_keep_no_cycle : (s s' : State) (c : Command) (a : Answer) (told' : Told) → is_lock_command c ≡ true → s.detect ≡ AtBlock → IsLawful s → HasNoCycle s → Step s c a told' s' → HasNoCycle s'
-lock_steps_keep_no_cycle s s' c a told' is at law none step =
-    ⊎_elim (λ went. goes-no_cycle s c (refusal_of s c) a told' s' is at law none refl went) (λ want. subst HasNoCycle (sym want.1.same) none) step

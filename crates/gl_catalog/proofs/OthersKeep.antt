@@ -24,6 +24,7 @@ use Rattle.gl_catalog.proofs.ToldGrants.{tells, tells_grant, any_weaker}
 use Rattle.gl_table.proofs.Follows.{SameGrants, GrantedTo}
 use Rattle.gl_catalog.proofs.Keeps.{Keeps, ToldGrant, grown, effect_refl, below_itself}
 use Rattle.gl_catalog.proofs.OneStep.{step_keeps}
+use Rattle.gl_catalog.proofs.StepsKeepLaw.{steps_keep_law}
 
 -- the same of many steps
 pub record KeepsOver (s s' : State) (t : TxnId) (granted : Bool) : Type 0 where
@@ -111,39 +112,22 @@ over_trans s mid s' t g h law a b = record {
     between : (n : NodeId) → is_live s.graph n ≡ true → is_live s'.graph n ≡ true → is_live mid.graph n ≡ true
     between n live live' = b.old n (let old = birth_of s.graph law.graph n live in let first = a.births in omega arith) live'
 
--- a run whose states are all lawful
-abbrev pub LawfulRun : State → List Command → List (Answer × Told) → State → Type 0
-LawfulRun s [] [] s' = s' ≡ s
-LawfulRun s (c ∷ cs) (r ∷ rs) s' = (mid : State) × IsLawful mid × Step s c r.0 r.1 mid × LawfulRun mid cs rs s'
-LawfulRun s [] (r ∷ rs) s' = ⊥
-LawfulRun s (c ∷ cs) [] s' = ⊥
-
-pub lawful_run_keeps : (cs : List Command) (rs : List (Answer × Told)) (s s' : State) (t : TxnId) → IsLawful s → LawfulRun s cs rs s' → lives s t ≡ true → list_any (names t) cs ≡ false → KeepsOver s s' t (told_granted t rs)
-lawful_run_keeps [] [] s s' t law run alive apart = over_none s s' t alive run
-lawful_run_keeps [] (r ∷ rs) s s' t law run alive apart = absurd run
-lawful_run_keeps (c ∷ cs) [] s s' t law run alive apart = absurd run
-lawful_run_keeps (c ∷ cs) (r ∷ rs) s s' t law run alive apart =
+pub run_keeps : (cs : List Command) (rs : List (Answer × Told)) (s s' : State) (t : TxnId) → IsLawful s → Run s cs rs s' → lives s t ≡ true → list_any (names t) cs ≡ false → KeepsOver s s' t (told_granted t rs)
+run_keeps [] [] s s' t law run alive apart = over_none s s' t alive run
+run_keeps [] (r ∷ rs) s s' t law run alive apart = absurd run
+run_keeps (c ∷ cs) [] s s' t law run alive apart = absurd run
+run_keeps (c ∷ cs) (r ∷ rs) s s' t law run alive apart =
     let both = or_no (names t c) (list_any (names t) cs) apart in
-    let first = over_of_step s run.0 t r.1 (step_keeps s law t alive r.0 r.1 run.0 run.1 c both.0 run.2) in
-    over_trans s run.0 s' t (list_any (is_grant_to t) r.1) (told_granted t rs) law first (lawful_run_keeps cs rs run.0 s' t run.1 run.3 first.alive both.1)
-
--- where steps keep the law every run is one
-lawful_run : StepsKeepLaw → (cs : List Command) (rs : List (Answer × Told)) (s s' : State) → IsLawful s → Run s cs rs s' → LawfulRun s cs rs s'
-lawful_run keep [] [] s s' law run = run
-lawful_run keep [] (r ∷ rs) s s' law run = absurd run
-lawful_run keep (c ∷ cs) [] s s' law run = absurd run
-lawful_run keep (c ∷ cs) (r ∷ rs) s s' law run =
-    let law' = keep s run.0 c r.0 r.1 law run.1 in (run.0, law', run.1, lawful_run keep cs rs run.0 s' law' run.2)
-
-pub run_keeps : StepsKeepLaw → (cs : List Command) (rs : List (Answer × Told)) (s s' : State) (t : TxnId) → IsLawful s → Run s cs rs s' → lives s t ≡ true → list_any (names t) cs ≡ false → KeepsOver s s' t (told_granted t rs)
-run_keeps keep cs rs s s' t law run alive apart = lawful_run_keeps cs rs s s' t law (lawful_run keep cs rs s s' law run) alive apart
+    let law' = steps_keep_law s run.0 c r.0 r.1 law run.1 in
+    let first = over_of_step s run.0 t r.1 (step_keeps s law t alive r.0 r.1 run.0 law' c both.0 run.1) in
+    over_trans s run.0 s' t (list_any (is_grant_to t) r.1) (told_granted t rs) law first (run_keeps cs rs run.0 s' t law' run.2 first.alive both.1)
 
 -- a holder's effective modes are the same, or the same or greater where it was told of a grant
-pub others_keep_effects : StepsKeepLaw → OthersKeepEffects
-others_keep_effects keep s s' cs rs t law run alive apart =
-    let kept = run_keeps keep cs rs s s' t law run alive apart in
+pub others_keep_effects : OthersKeepEffects
+others_keep_effects s s' cs rs t law run alive apart =
+    let kept = run_keeps cs rs s s' t law run alive apart in
     record { same = λ quiet r both. kept.same quiet r both.0 both.1; greater = λ r both. kept.greater r both.0 both.1 }
 
 -- below a node on which t has effective S, no record comes or goes or changes a key
-pub others_keep_below : StepsKeepLaw → OthersKeepBelow
-others_keep_below keep s s' cs rs t n law run alive apart reads = (run_keeps keep cs rs s s' t law run alive apart).below n reads
+pub others_keep_below : OthersKeepBelow
+others_keep_below s s' cs rs t n law run alive apart reads = (run_keeps cs rs s s' t law run alive apart).below n reads

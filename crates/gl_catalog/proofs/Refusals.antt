@@ -23,28 +23,7 @@ use Rattle.gl_table.specs.Intends.{no_parents}
 use Rattle.gl_graph.specs.Refusals.{first_refusal, where_true, bad_parents, too_many_nodes, first_cycle}
 use Rattle.gl_table.specs.Refusals.{no_txn, waiting_test, condemned_test, first_not_ix, need_exclusive, need_new_parents, holds_x, holds_x_on_all, some_given}
 use Rattle.gl_graph.proofs.Look.{split, no, none_some, and_both, both}
-
-pub not_refused : (x : Option Refusal) (xs : List (Option Refusal)) → first_refusal (x ∷ xs) ≡ None → (x ≡ None) × (first_refusal xs ≡ None)
-not_refused None xs h = (refl, h)
-not_refused (Some r) xs h = absurd (none_some (sym h))
-
-pub test_fails : (b : Bool) (r : Refusal) → where_true b r ≡ None → b ≡ false
-test_fails true r h = absurd (none_some (sym h))
-test_fails false r h = refl
-
-pub not_false : (b : Bool) → not b ≡ false → b ≡ true
-not_false true h = refl
-not_false false h = absurd (true≢false h)
-
-pub or_no : (a b : Bool) → (a || b) ≡ false → (a ≡ false) × (b ≡ false)
-or_no true b h = absurd (true≢false h)
-or_no false b h = (refl, h)
-
-pub lt_no : (a b : ℕ) → nat_lt a b ≡ false → b ≤ a
-lt_no a b h = grind (arith, nat_tests)
-
-pub le_no : (a b : ℕ) → nat_le a b ≡ false → b < a
-le_no a b h = grind (arith, nat_tests)
+use Rattle.gl_graph.proofs.Unrefused.{test_fails, not_false}
 
 pub active_is : (s : State) (t : TxnId) → no_txn s t ≡ None → waiting_test (status_of s t.slot) ≡ None → condemned_test (status_of s t.slot) ≡ None → status_of s t.slot ≡ Some Active
 active_is s t h w c = by (s.txns t.slot) (not_false _ (test_fails (not (lives s t)) _ h)) w c
@@ -58,31 +37,11 @@ active_is s t h w c = by (s.txns t.slot) (not_false _ (test_fails (not (lives s 
         status (Waiting n m) w'' c'' = absurd (none_some (sym w''))
         status Condemned w'' c'' = absurd (none_some (sym c''))
 
-pub inner_parents : (s : State) (least : ℕ) (ps : List NodeId) → bad_parents s.graph least ps ≡ false → AreInnerParents s.graph least ps
-inner_parents s least ps h =
-    let a = or_no (nat_lt (length ps) least || nat_lt 8 (length ps) || not (are_inner s.graph ps)) (not (are_distinct ps)) h in
-    let b = or_no (nat_lt (length ps) least || nat_lt 8 (length ps)) (not (are_inner s.graph ps)) a.0 in
-    let c = or_no (nat_lt (length ps) least) (nat_lt 8 (length ps)) b.0 in
-    record { enough = lt_no _ _ c.0; few = lt_no _ _ c.1; inner = not_false _ b.1; distinct = not_false _ a.1 }
-
-pub enough_room : (s : State) (more : ℕ) → too_many_nodes s.graph more ≡ None → node_count s.graph + more ≤ 65536
-enough_room s more h = lt_no 65536 (node_count s.graph + more) (test_fails _ _ h)
-
-pub rising : (bs : List ℕ) → is_rising bs ≡ true → IsRising bs
-rising [] h = tt
-rising (b ∷ bs) h = let t = and_both (list_all (λ c. nat_lt b c) bs) (is_rising bs) h in (t.0, rising bs t.1)
-
 pub all_ix : (held : NodeId → Mode) (ps : List NodeId) → first_not_ix held ps ≡ None → list_all (λ p. is_at_least (held p) IX) ps ≡ true
 all_ix held [] h = refl
 all_ix held (p ∷ ps) h =
     split (is_at_least (held p) IX) (λ e. both _ _ e (all_ix held ps (sym (ap (λ b. if b then first_not_ix held ps else Some (refusal.NeedParents p)) e) ∙ h)))
     (λ e. absurd (none_some (sym (sym (ap (λ b. if b then first_not_ix held ps else Some (refusal.NeedParents p)) e) ∙ h))))
-
-pub no_cycle : (g : Graph) (n : NodeId) (ps : List NodeId) → first_cycle g n ps ≡ None → list_all (λ p. not (is_at_or_below (node_count g) g n p)) ps ≡ true
-no_cycle g n [] h = refl
-no_cycle g n (p ∷ ps) h =
-    split (is_at_or_below (node_count g) g n p) (λ e. absurd (none_some (sym (sym (ap (λ b. if b then Some (refusal.Cycle p) else first_cycle g n ps) e) ∙ h))))
-    (λ e. both _ _ (ap not e) (no_cycle g n ps (sym (ap (λ b. if b then Some (refusal.Cycle p) else first_cycle g n ps) e) ∙ h)))
 
 pub some_parents : (ps : List NodeId) → some_given ps ≡ true → no_parents ps ≡ false
 some_parents [] h = absurd (no h)

@@ -14,26 +14,32 @@ use Rattle.gl_table.specs.declared.detect.Detect.TheVariants.{AtBlock}
 use Rattle.gl_catalog.specs.declared.command.Answer.{Answer}
 use Rattle.gl_catalog.specs.declared.command.Command.{Command}
 use Rattle.gl_catalog.specs.declared.command.Command.TheVariants as command
-use Rattle.gl_graph.specs.Graph.{Graph, record_parents}
-use Rattle.gl_graph.specs.Shapes.{Rec}
+use Rattle.gl_graph.specs.Graph.{Graph}
 use Rattle.gl_modes.specs.Nodes.{same_node}
 use Rattle.gl_graph.specs.Changes.{rekeyed, rekeyed_parents, with_parents}
 use Rattle.gl_header.specs.Header.{Waiter, is_ahead, is_among_waiters, is_waiter}
-use Rattle.gl_table.specs.State.{State, Txn, status_in, status_of, empty_state}
+use Rattle.gl_table.specs.State.{State, Txn, status_in, status_of, empty_state, with_graph}
 use Rattle.gl_table.specs.Waiting.{waits_for}
 use Rattle.gl_table.specs.Lawful.{IsLawful}
 use Rattle.gl_table.specs.Tellings.{Told}
-use Rattle.gl_catalog.specs.Step.{Accepts, Step, Goes, Answers, Run, query_answer}
-use Rattle.gl_catalog.specs.Tests.{refusal_of, worn_making}
-use Rattle.gl_table.specs.Calls.{made, next_id, deleted, freed, none_but, freed_unless, moved_to, stays}
-use Rattle.gl_table.specs.Waiting.{HasNoCycle}
-use Rattle.gl_catalog.specs.Promises.{StepsKeepLaw}
+use Rattle.gl_catalog.specs.Step.{Accepts, Step}
+use Rattle.gl_catalog.specs.Tests.{refusal_of, worn}
+use Rattle.gl_table.specs.Refusals.{held_child, not_held}
+use Rattle.gl_table.specs.Calls.{wanted, deleted, freed, none_but, freed_unless, moved_to, stays}
+use Rattle.gl_table.specs.Waiting.{HasNoCycle, EmptyHasNoCycle}
+use Rattle.gl_catalog.specs.Promises.{RunsKeepNoCycle}
+use Rattle.gl_graph.specs.Refusals.{worn_births}
+use Rattle.gl_graph.proofs.Unrefused.{not_refused}
 use Rattle.gl_table.proofs.Queues.{ahead, ahead_is, ahead_first, clash, none_filtered, or_elim, or_left, or_right}
-use Rattle.gl_table.proofs.Tests.{active_after}
-use Rattle.gl_table.proofs.Cycles.{less-no_cycle, no_step-no_cycle}
+use Rattle.gl_table.proofs.Tests.{active_after, skip}
+use Rattle.gl_waits.proofs.WalkLemmas.{no_step-no_cycle}
+use Rattle.gl_waits.proofs.CycleLemmas.{less-no_cycle}
 use Rattle.gl_table.proofs.Edges.{step_is, is_step, idle_no_step}
-use Rattle.gl_catalog.proofs.NoCycle.{accepts-no_cycle, granted-no_cycle}
-use Rattle.gl_catalog.proofs.LockRuns.{accepts_detect}
+use Rattle.gl_table.proofs.Locked.{may_lock}
+use Rattle.gl_catalog.proofs.NoCycle.{begun-no_cycle, granted-no_cycle, locks-no_cycle, unlocked-no_cycle, escalated-no_cycle, given_up-no_cycle, released-no_cycle, settled-no_cycle}
+use Rattle.gl_catalog.proofs.EachStep.{each_step}
+use Rattle.gl_catalog.proofs.Detection.{steps_keep_detect}
+use Rattle.gl_catalog.proofs.StepsKeepLaw.{steps_keep_law}
 
 -- who waits elsewhere still waits
 freed_waits : (r n : NodeId) (m : Mode) (x : Option Txn) → status_in (freed r x) ≡ Some (Waiting n m) → (status_in x ≡ Some (Waiting n m)) × (same_node n r ≡ false)
@@ -118,59 +124,42 @@ moved_steps s law r ps g x y h =
 moved-no_cycle : (s : State) → IsLawful s → (r : NodeId) (ps : List NodeId) (g : Graph) → HasNoCycle s → HasNoCycle (moved_to s r ps g)
 moved-no_cycle s law r ps g none = less-no_cycle (waits_for s) (waits_for (moved_to s r ps g)) (moved_steps s law r ps g) none
 
-pub all_accepts-no_cycle : (s : State) (c : Command) (a : Answer) (told' : Told) (s' : State) → s.detect ≡ AtBlock → IsLawful s → HasNoCycle s → refusal_of s c ≡ None → Accepts s c a told' s' → HasNoCycle s'
-all_accepts-no_cycle s (command.Inner ps) a told' s' at law none h acc = subst HasNoCycle (sym acc.4) none
-all_accepts-no_cycle s (command.File ps) a told' s' at law none h acc = subst HasNoCycle (sym acc.4) none
-all_accepts-no_cycle s (command.Index ps f bs) a told' s' at law none h acc = subst HasNoCycle (sym acc.7) none
-all_accepts-no_cycle s (command.Insert t f keys) a told' s' at law none h acc =
-    subst HasNoCycle (sym acc.4)
-    (granted-no_cycle (made s acc.0 (record { key = acc.0; shape = Rec keys.now; parents = record_parents s.graph f keys.now })) t.slot (next_id s acc.0) X (active_after s t f (worn_making s) _ h).0 none)
-all_accepts-no_cycle s (command.Delete t r) a told' s' at law none h acc = subst HasNoCycle (sym acc.2) (less-no_cycle (waits_for s) (waits_for (deleted s r)) (deleted_steps s r) none)
-all_accepts-no_cycle s (command.Rekey t r i key) a told' s' at law none h acc = subst HasNoCycle (sym acc.2) (moved-no_cycle s law r (rekeyed_parents s.graph r i key) (rekeyed s.graph r i key) none)
-all_accepts-no_cycle s (command.Move t n ps) a told' s' at law none h acc = subst HasNoCycle (sym acc.2) (moved-no_cycle s law n ps.now (with_parents s.graph n ps.now) none)
-all_accepts-no_cycle s c a told' s' at law none h acc = accepts-no_cycle s c a told' s' refl at law none h acc
-
-answers-no_cycle : (s : State) (c : Command) (q : Option Answer) (a : Answer) (told' : Told) (s' : State) → s.detect ≡ AtBlock → IsLawful s → HasNoCycle s → refusal_of s c ≡ None → Answers s c q a told' s' → HasNoCycle s'
-answers-no_cycle s c (Some q) a told' s' at law none h step = subst HasNoCycle (sym step.same) none
-answers-no_cycle s c None a told' s' at law none h step = subst HasNoCycle (sym step.2) (all_accepts-no_cycle s c a told' step.0 at law none h step.1)
-
-goes-no_cycle : (s : State) (c : Command) (r : Option Refusal) (a : Answer) (told' : Told) (s' : State) → s.detect ≡ AtBlock → IsLawful s → HasNoCycle s → refusal_of s c ≡ r → Goes s c r a told' s' → HasNoCycle s'
-goes-no_cycle s c (Some r) a told' s' at law none h step = subst HasNoCycle (sym step.same) none
-goes-no_cycle s c None a told' s' at law none h step = answers-no_cycle s c (query_answer s c) a told' s' at law none h step
+accepts-no_cycle : (s : State) (c : Command) (a : Answer) (told' : Told) (s' : State) → s.detect ≡ AtBlock → IsLawful s → HasNoCycle s → refusal_of s c ≡ None → Accepts s c a told' s' → HasNoCycle s'
+accepts-no_cycle s (command.Inner ps) a told' s' at law none h acc = subst HasNoCycle (sym acc.4) none
+accepts-no_cycle s (command.File ps) a told' s' at law none h acc = subst HasNoCycle (sym acc.4) none
+accepts-no_cycle s (command.Index ps f bs) a told' s' at law none h acc = subst HasNoCycle (sym acc.4) none
+accepts-no_cycle s (command.Insert t f keys) a told' s' at law none h acc =
+    subst HasNoCycle (sym acc.4) (granted-no_cycle (with_graph s s'.graph) t.slot acc.0 X (active_after s t f (worn_births s.graph) _ (not_refused (worn s) _ h).1).0 none)
+accepts-no_cycle s (command.Delete t r) a told' s' at law none h acc = subst HasNoCycle (sym acc.2) (less-no_cycle (waits_for s) (waits_for (deleted s r)) (deleted_steps s r) none)
+accepts-no_cycle s (command.Rekey t r i key) a told' s' at law none h acc = subst HasNoCycle (sym acc.2) (moved-no_cycle s law r (rekeyed_parents s.graph r i key) (rekeyed s.graph r i key) none)
+accepts-no_cycle s (command.Move t n ps) a told' s' at law none h acc = subst HasNoCycle (sym acc.2) (moved-no_cycle s law n ps.now (with_parents s.graph n ps.now) none)
+accepts-no_cycle s command.Begin a told' s' at law none h acc = subst HasNoCycle (sym acc.4) (begun-no_cycle s acc.0 none)
+accepts-no_cycle s (command.Lock t n m) a told' s' at law none h acc = locks-no_cycle s s' at law t n m (may_lock s t n m (worn s) [] h).0 acc.0 none
+accepts-no_cycle s (command.Try t n m) a told' s' at law none h acc = subst HasNoCycle (sym acc.2) (granted-no_cycle s t.slot n (wanted s t.slot n m) (active_after s t n (worn s) _ h).0 none)
+accepts-no_cycle s (command.Unlock t n) a told' s' at law none h acc =
+    let a = active_after s t n (worn s) _ h in
+    let b = skip (not_held s t.slot n) _ a.2 in
+    subst HasNoCycle (sym acc.2) (unlocked-no_cycle s law t.slot n a.0 (skip (held_child s t.slot n) [] b.1).0 none)
+accepts-no_cycle s (command.Escalate t n) a told' s' at law none h acc = subst HasNoCycle (sym acc.2) (escalated-no_cycle s law t n h none)
+accepts-no_cycle s (command.Cancel t) a told' s' at law none h acc = subst HasNoCycle (sym acc.2) (given_up-no_cycle s law t.slot Active (λ q m e. cc) none)
+accepts-no_cycle s (command.Commit t) a told' s' at law none h acc = subst HasNoCycle (sym acc.2) (released-no_cycle s law t.slot none)
+accepts-no_cycle s (command.Abort t) a told' s' at law none h acc = subst HasNoCycle (sym acc.2) (released-no_cycle s law t.slot none)
+accepts-no_cycle s (command.Settle t) a told' s' at law none h acc = settled-no_cycle s s' t.slot law acc.2 none
+accepts-no_cycle s (command.Group n) a told' s' at law none h acc = absurd acc
+accepts-no_cycle s (command.Held t n) a told' s' at law none h acc = absurd acc
+accepts-no_cycle s (command.Effective t n) a told' s' at law none h acc = absurd acc
 
 -- no cycle after each step, of any command
 pub steps_keep_no_cycle : (s s' : State) (c : Command) (a : Answer) (told' : Told) → s.detect ≡ AtBlock → IsLawful s → HasNoCycle s → Step s c a told' s' → HasNoCycle s'
-steps_keep_no_cycle s s' c a told' at law none step =
-    ⊎_elim (λ went. goes-no_cycle s c (refusal_of s c) a told' s' at law none refl went) (λ want. subst HasNoCycle (sym want.1.same) none) step
+steps_keep_no_cycle s s' c a told' at law none step = each_step HasNoCycle s c a told' s' none (λ next none'. none') (λ free next acc. accepts-no_cycle s c a told' next at law none free acc) step
 
-all_accepts_detect : (s : State) (c : Command) (a : Answer) (told' : Told) (s' : State) → Accepts s c a told' s' → s'.detect ≡ s.detect
-all_accepts_detect s (command.Inner ps) a told' s' acc = ap (λ z. z.detect) acc.4
-all_accepts_detect s (command.File ps) a told' s' acc = ap (λ z. z.detect) acc.4
-all_accepts_detect s (command.Index ps f bs) a told' s' acc = ap (λ z. z.detect) acc.7
-all_accepts_detect s (command.Insert t f keys) a told' s' acc = ap (λ z. z.detect) acc.4
-all_accepts_detect s (command.Delete t r) a told' s' acc = ap (λ z. z.detect) acc.2
-all_accepts_detect s (command.Rekey t r i key) a told' s' acc = ap (λ z. z.detect) acc.2
-all_accepts_detect s (command.Move t n ps) a told' s' acc = ap (λ z. z.detect) acc.2
-all_accepts_detect s c a told' s' acc = accepts_detect s c a told' s' refl acc
+-- nor after a whole run
+pub runs_keep_no_cycle : RunsKeepNoCycle
+runs_keep_no_cycle s s' [] [] at law none run = subst HasNoCycle (sym run) none
+runs_keep_no_cycle s s' [] (r ∷ rs) at law none run = absurd run
+runs_keep_no_cycle s s' (c ∷ cs) [] at law none run = absurd run
+runs_keep_no_cycle s s' (c ∷ cs) (r ∷ rs) at law none run =
+    runs_keep_no_cycle run.0 s' cs rs (steps_keep_detect s run.0 c r.0 r.1 run.1 ∙ at) (steps_keep_law s run.0 c r.0 r.1 law run.1) (steps_keep_no_cycle s run.0 c r.0 r.1 at law none run.1) run.2
 
-answers_detect : (s : State) (c : Command) (q : Option Answer) (a : Answer) (told' : Told) (s' : State) → Answers s c q a told' s' → s'.detect ≡ s.detect
-answers_detect s c (Some q) a told' s' step = ap (λ z. z.detect) step.same
-answers_detect s c None a told' s' step = ap (λ z. z.detect) step.2 ∙ all_accepts_detect s c a told' step.0 step.1
-
-goes_detect : (s : State) (c : Command) (r : Option Refusal) (a : Answer) (told' : Told) (s' : State) → Goes s c r a told' s' → s'.detect ≡ s.detect
-goes_detect s c (Some r) a told' s' step = ap (λ z. z.detect) step.same
-goes_detect s c None a told' s' step = answers_detect s c (query_answer s c) a told' s' step
-
-pub steps_keep_detect : (s s' : State) (c : Command) (a : Answer) (told' : Told) → Step s c a told' s' → s'.detect ≡ s.detect
-steps_keep_detect s s' c a told' step = ⊎_elim (λ went. goes_detect s c (refusal_of s c) a told' s' went) (λ want. ap (λ z. z.detect) want.1.same) step
-
--- whole runs, once every step keeps the law
-pub runs_keep_no_cycle : StepsKeepLaw → (cs : List Command) (rs : List (Answer × Told)) (s s' : State) → s.detect ≡ AtBlock → IsLawful s → HasNoCycle s → Run s cs rs s' → HasNoCycle s'
-runs_keep_no_cycle keeps [] [] s s' at law none run = subst HasNoCycle (sym run) none
-runs_keep_no_cycle keeps [] (r ∷ rs) s s' at law none run = absurd run
-runs_keep_no_cycle keeps (c ∷ cs) [] s s' at law none run = absurd run
-runs_keep_no_cycle keeps (c ∷ cs) (r ∷ rs) s s' at law none run =
-    runs_keep_no_cycle keeps cs rs run.0 s' (steps_keep_detect s run.0 c r.0 r.1 run.1 ∙ at) (keeps s run.0 c r.0 r.1 law run.1) (steps_keep_no_cycle s run.0 c r.0 r.1 at law none run.1) run.2
-
-pub empty-no_cycle : (d : Detect) (most : ℕ) → HasNoCycle (empty_state d most)
+pub empty-no_cycle : EmptyHasNoCycle
 empty-no_cycle d most t = no_step-no_cycle (waits_for (empty_state d most)) t (idle_no_step (empty_state d most) t (λ n m st. cc))

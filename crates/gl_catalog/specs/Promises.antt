@@ -1,6 +1,7 @@
 -- What others cannot do to a holder, over runs; what the laws say.
-use Rattle.std.specs.Prelude.{◌≡◌, ℕ, Bool, true, false, ◌&&◌, ◌==◌, List, None}
+use Rattle.std.specs.Prelude.{◌≡◌, ℕ, Bool, true, false, ◌&&◌, ◌==◌, List}
 use Rattle.std.specs.List.{list_any}
+use denote.Bor.{Bor}
 use Rattle.gl_table.specs.declared.txn.TxnId.{TxnId}
 use Rattle.gl_table.specs.declared.notice.Notice.{Notice}
 use Rattle.gl_catalog.specs.declared.command.Answer.{Answer}
@@ -9,13 +10,11 @@ use Rattle.gl_modes.specs.declared.node.NodeId.{NodeId}
 use Rattle.gl_table.specs.declared.detect.Detect.TheVariants.{AtBlock}
 use Rattle.gl_table.specs.declared.notice.Notice.TheVariants as notice
 use Rattle.gl_catalog.specs.declared.command.Command.TheVariants as command
-use Rattle.gl_catalog.specs.Step.{Accepts, Run, Step}
-use Rattle.gl_catalog.specs.Tests.{refusal_of}
-use Rattle.gl_graph.specs.Graph.{is_live}
+use Rattle.gl_catalog.specs.Step.{Run, Step}
 use Rattle.gl_table.specs.Effects.{EffS, KeepsEffects, SameBelow, effective, is_at_least_effect}
 use Rattle.gl_table.specs.Lawful.{IsLawful}
 use Rattle.gl_table.specs.State.{State, lives}
-use Rattle.gl_table.specs.Tellings.{Told, told}
+use Rattle.gl_table.specs.Tellings.{Told}
 use Rattle.gl_table.specs.Waiting.{HasNoCycle}
 
 abbrev pub same_txn : TxnId → TxnId → Bool
@@ -63,22 +62,23 @@ RunsKeepLaw = (s s' : State) (cs : List Command) (rs : List (Answer × Told)) �
 abbrev pub RunsKeepNoCycle : Type 0
 RunsKeepNoCycle = (s s' : State) (cs : List Command) (rs : List (Answer × Told)) → s.detect ≡ AtBlock → IsLawful s → HasNoCycle s → Run s cs rs s' → HasNoCycle s'
 
--- one command that is not refused keeps the law
-abbrev pub KeepsLaw : Command → Type 0
-KeepsLaw c = (s s' : State) (a : Answer) (told : Told) → IsLawful s → refusal_of s c ≡ None → Accepts s c a told s' → IsLawful s'
+-- a command that leaves the effective mode of one slot on every node as it was
+abbrev pub KeepsModes : ℕ → Command → Type 0
+KeepsModes t c = (s s' : State) (a : Answer) (told : Told) → IsLawful s → Step s c a told s' → (n : NodeId) → effective s' t n ≡ effective s t n
 
--- a command that is not refused leaves this slot's effective mode on every node as it was, or lowers none
-abbrev pub KeepsMover : ℕ → Command → Type 0
-KeepsMover t c = (s s' : State) (a : Answer) (told : Told) → IsLawful s → refusal_of s c ≡ None → Accepts s c a told s' → (n : NodeId) → effective s' t n ≡ effective s t n
-
+-- a command that lowers the effective mode of one slot on no node
 abbrev pub LowersNone : ℕ → Command → Type 0
-LowersNone t c = (s s' : State) (a : Answer) (told : Told) → IsLawful s → refusal_of s c ≡ None → Accepts s c a told s' → (n : NodeId) → is_at_least_effect (effective s' t n) (effective s t n) ≡ true
+LowersNone t c = (s s' : State) (a : Answer) (told : Told) → IsLawful s → Step s c a told s' → (n : NodeId) → is_at_least_effect (effective s' t n) (effective s t n) ≡ true
 
--- a command that is not refused leaves everyone's effective mode on every node that stands before and after
-abbrev pub LeavesEffects : Command → Type 0
-LeavesEffects c =
-    (s s' : State) (a : Answer) (told : Told) → IsLawful s → refusal_of s c ≡ None → Accepts s c a told s' → (t : ℕ) (n : NodeId) → is_live s.graph n ≡ true → is_live s'.graph n ≡ true → effective s' t n ≡ effective s t n
+abbrev pub RekeyKeepsMover : Type 0
+RekeyKeepsMover = (t : TxnId) (r i : NodeId) (key : ℕ) → KeepsModes t.slot (command.Rekey t r i key)
 
--- a command that is not refused leaves the records below what this slot reads
-abbrev pub LeavesBelow : ℕ → Command → Type 0
-LeavesBelow t c = (s s' : State) (a : Answer) (told : Told) → IsLawful s → refusal_of s c ≡ None → Accepts s c a told s' → (n : NodeId) → EffS s t n → SameBelow s.graph s'.graph n
+abbrev pub MoveKeepsMover : Type 0
+MoveKeepsMover = (t : TxnId) (n : NodeId) (ps : Bor (List NodeId)) → KeepsModes t.slot (command.Move t n ps)
+
+abbrev pub EscalateLowersNone : Type 0
+EscalateLowersNone = (t : TxnId) (n : NodeId) → LowersNone t.slot (command.Escalate t n)
+
+-- in a lawful state there is a step for every command, so what is said of steps is never said of nothing
+abbrev pub AlwaysAnswers : Type 0
+AlwaysAnswers = (s : State) (c : Command) → IsLawful s → (a : Answer) × (told : Told) × (s' : State) × Step s c a told s'

@@ -1,12 +1,13 @@
 -- One command: its answer, the state that it leaves, and what others are told; and runs of commands.
-use Rattle.std.specs.Prelude.{◌≡◌, ◌⊎◌, ℕ, ◌+◌, ◌-◌, true, ◌==◌, List, [], ◌∷◌, length, Option, Some, None, is_none}
-use Rattle.std.specs.List.{find, list_any}
+use Rattle.std.specs.Prelude.{◌≡◌, ◌⊎◌, ℕ, ◌+◌, ◌-◌, true, ◌==◌, List, [], ◌∷◌, Option, Some, None, is_none}
+use Rattle.std.specs.List.{find}
 use Rattle.gl_table.specs.declared.txn.Status.{Status}
 use Rattle.gl_table.specs.declared.effect.Effect.{Effect}
 use Rattle.gl_catalog.specs.declared.command.Escalated.{Escalated}
 use Rattle.gl_catalog.specs.declared.command.Answer.{Answer}
 use Rattle.gl_catalog.specs.declared.command.Command.{Command}
 use Rattle.gl_modes.specs.declared.mode.Mode.{Mode}
+use Rattle.gl_modes.specs.declared.node.NodeId.{NodeId}
 use Rattle.gl_modes.specs.declared.refusal.Refusal.{Refusal}
 use Rattle.gl_modes.specs.declared.mode.Mode.TheVariants.{NL, X}
 use Rattle.gl_table.specs.declared.txn.Status.TheVariants.{Active, Waiting, Condemned}
@@ -14,12 +15,12 @@ use Rattle.gl_modes.specs.declared.refusal.Refusal.TheVariants as no
 use Rattle.gl_catalog.specs.declared.command.Answer.TheVariants as answer
 use Rattle.gl_catalog.specs.declared.command.Command.TheVariants as command
 use Rattle.gl_catalog.specs.Tests.{may_want_memory, refusal_of}
-use Rattle.gl_graph.specs.Changes.{are_apart, born_index, rekeyed, rekeyed_parents, with_parents}
-use Rattle.gl_graph.specs.Graph.{IsFreeKey, Node, record_parents}
+use Rattle.gl_graph.specs.Changes.{IsBorn, IsIndexBorn, rekeyed, rekeyed_parents, with_parents}
+use Rattle.gl_graph.specs.Graph.{record_parents}
 use Rattle.gl_graph.specs.Shapes.{File, Inner, Rec}
 use Rattle.gl_header.specs.Header.{group_of}
 use Rattle.gl_modes.specs.Nodes.{same_node}
-use Rattle.gl_table.specs.Calls.{Locks, accepted_once, begun, deleted, made, moved_to, next_id, raised, released, shed, wanted}
+use Rattle.gl_table.specs.Calls.{Locks, accepted_once, begun, deleted, moved_to, raised, released, shed, wanted}
 use Rattle.gl_table.specs.Covered.{covered_children, held_children}
 use Rattle.gl_table.specs.Effects.{effective}
 use Rattle.gl_table.specs.Pumps.{is_waiting_at, pumped, without_wait}
@@ -36,11 +37,9 @@ lock_answer held None = answer.Done
 
 -- a command that is not refused: s' with one accepted command less
 abbrev pub Accepts : State → Command → Answer → Told → State → Type 0
-Accepts s (command.Inner ps) a told' s' = (key : ℕ) × IsFreeKey s.graph key × (a ≡ answer.Node (next_id s key)) × (told' ≡ []) × (s' ≡ made s key (record { key = key; shape = Inner; parents = ps.now }))
-Accepts s (command.File ps) a told' s' = (key : ℕ) × IsFreeKey s.graph key × (a ≡ answer.Node (next_id s key)) × (told' ≡ []) × (s' ≡ made s key (record { key = key; shape = File; parents = ps.now }))
-Accepts s (command.Index ps f bs) a told' s' =
-    (key : ℕ) × (keys : List ℕ) × (length keys ≡ length bs.now + 1) × (are_apart (key ∷ keys) ≡ true) × ((k : ℕ) → list_any (λ x. x == k) (key ∷ keys) ≡ true → IsFreeKey s.graph k)
-    × (a ≡ answer.Node (next_id s key)) × (told' ≡ []) × (s' ≡ with_graph s (born_index s.graph key ps.now f bs.now keys))
+Accepts s (command.Inner ps) a told' s' = (n : NodeId) × IsBorn s.graph s'.graph n Inner ps.now × (a ≡ answer.Node n) × (told' ≡ []) × (s' ≡ with_graph s s'.graph)
+Accepts s (command.File ps) a told' s' = (n : NodeId) × IsBorn s.graph s'.graph n File ps.now × (a ≡ answer.Node n) × (told' ≡ []) × (s' ≡ with_graph s s'.graph)
+Accepts s (command.Index ps f bs) a told' s' = (n : NodeId) × IsIndexBorn s.graph s'.graph n ps.now f bs.now × (a ≡ answer.Node n) × (told' ≡ []) × (s' ≡ with_graph s s'.graph)
 Accepts s command.Begin a told' s' =
     (t : ℕ) × (find (λ u. is_none (s.txns u)) (slots s) ≡ Some t) × (a ≡ answer.Begun (record { slot = t; age = s.begins + 1 })) × (told' ≡ []) × (s' ≡ begun s t)
 Accepts s (command.Lock t n m) a told' s' = Locks s t.slot n m s' × (a ≡ lock_answer (s'.held t.slot n) (status_of s' t.slot)) × (told' ≡ told_but t.slot s s')
@@ -55,8 +54,7 @@ Accepts s (command.Commit t) a told' s' = (a ≡ answer.Done) × (told' ≡ told
 Accepts s (command.Abort t) a told' s' = (a ≡ answer.Done) × (told' ≡ told s s') × (s' ≡ released s t.slot)
 Accepts s (command.Settle t) a told' s' = (a ≡ answer.Done) × (told' ≡ told s s') × Settled s t.slot s'
 Accepts s (command.Insert t f keys) a told' s' =
-    (key : ℕ) × IsFreeKey s.graph key × (a ≡ answer.Node (next_id s key)) × (told' ≡ [])
-    × (s' ≡ with_grant (made s key (record { key = key; shape = Rec keys.now; parents = record_parents s.graph f keys.now })) t.slot (next_id s key) X)
+    (n : NodeId) × IsBorn s.graph s'.graph n (Rec keys.now) (record_parents s.graph f keys.now) × (a ≡ answer.Node n) × (told' ≡ []) × (s' ≡ with_grant (with_graph s s'.graph) t.slot n X)
 Accepts s (command.Delete t r) a told' s' = (a ≡ answer.Done) × (told' ≡ told s s') × (s' ≡ deleted s r)
 Accepts s (command.Rekey t r i key) a told' s' = (a ≡ answer.Done) × (told' ≡ told s s') × (s' ≡ moved_to s r (rekeyed_parents s.graph r i key) (rekeyed s.graph r i key))
 Accepts s (command.Move t n ps) a told' s' = (a ≡ answer.Done) × (told' ≡ told s s') × (s' ≡ moved_to s n ps.now (with_parents s.graph n ps.now))

@@ -1,5 +1,5 @@
 -- The tests of each command in their order.
-use Rattle.std.specs.Prelude.{◌+◌, ◌-◌, Bool, true, false, not, ◌&&◌, ◌||◌, ◌==◌, nat_lt, nat_le, List, [], ◌∷◌, ◌++◌, length, Option, Some, is_none}
+use Rattle.std.specs.Prelude.{◌-◌, ℕ, Bool, true, false, not, ◌&&◌, ◌||◌, ◌==◌, List, [], ◌∷◌, ◌++◌, length, Option, Some, is_none}
 use Rattle.gl_table.specs.declared.txn.TxnId.{TxnId}
 use Rattle.gl_catalog.specs.declared.command.Command.{Command}
 use Rattle.gl_modes.specs.declared.node.NodeId.{NodeId}
@@ -8,63 +8,74 @@ use Rattle.gl_modes.specs.declared.refusal.Refusal.TheVariants as no
 use Rattle.gl_catalog.specs.declared.command.Command.TheVariants as command
 use Rattle.gl_graph.specs.Changes.{rekeyed_parents}
 use Rattle.gl_graph.specs.Graph.{first_parent, indexes_of, parents_of, record_parents, shape_of}
-use Rattle.gl_graph.specs.Refusals.{bad_parents, first_cycle, first_refusal, has_records, is_rising, max_count, some_no_node, too_many_nodes, where_true}
-use Rattle.gl_graph.specs.Shapes.{File, Inner, is_file_shape, is_index_of_shape, is_movable_shape, is_record_shape}
+use Rattle.gl_graph.specs.Refusals.{bad_parents, file_refusal, first_cycle, first_refusal, index_refusal, inner_refusal, max_count, too_many_nodes, where_true, worn_births}
+use Rattle.gl_graph.specs.Shapes.{is_file_shape, is_index_of_shape, is_movable_shape, is_record_shape, least_parents}
 use Rattle.gl_header.specs.Header.{holds}
-use Rattle.gl_table.specs.Calls.{enters_at, wanted}
-use Rattle.gl_table.specs.Refusals.{active, active_on, bad_mode, condemned_test, escalation_blocks, first_not_ix, held_child, holds_x, idle_test, least_parents, need_exclusive, need_new_parents, need_parents, no_node, no_txn, not_held, some_given, too_many_txns, worn_begins, would_block}
-use Rattle.gl_table.specs.State.{State, members, status_of}
+use Rattle.gl_table.specs.Calls.{enters_at}
+use Rattle.gl_table.specs.Refusals.{active_on, begin_tests, cancel_tests, commit_tests, escalation_blocks, first_not_ix, group_tests, held_tests, holds_x, living_tests, lock_tests, need_exclusive, need_new_parents, not_held, some_given, try_tests, unlock_tests}
+use Rattle.gl_table.specs.State.{State, members}
 
+-- no further command can be counted
 abbrev pub worn : State → Option Refusal
 worn s = where_true (s.accepted == max_count) no.WornOut
 
-abbrev pub worn_making : State → Option Refusal
-worn_making s = where_true ((s.accepted == max_count) || nat_lt (max_count - 65536) s.graph.births) no.WornOut
-
-abbrev pub joined : List (Option Refusal) → List (Option Refusal) → List (Option Refusal)
-joined xs ys = xs ++ ys
-
--- the tests of each command in their order, want of memory aside
-abbrev pub tests_of : State → Command → List (Option Refusal)
-tests_of s (command.Inner ps) = worn_making s ∷ some_no_node s.graph ps.now ∷ where_true (bad_parents s.graph 0 ps.now) no.BadParents ∷ too_many_nodes s.graph 1 ∷ []
-tests_of s (command.File ps) = worn_making s ∷ some_no_node s.graph ps.now ∷ where_true (bad_parents s.graph 1 ps.now) no.BadParents ∷ too_many_nodes s.graph 1 ∷ []
-tests_of s (command.Index ps f bs) =
-    worn_making s ∷ some_no_node s.graph (ps.now ++ f ∷ [])
-    ∷ where_true (bad_parents s.graph 1 ps.now || not (is_file_shape (shape_of s.graph f)) || nat_le 7 (length (indexes_of s.graph f))) no.BadParents
-    ∷ where_true (has_records s.graph f) no.FileInUse
-    ∷ where_true (nat_lt 256 (length bs.now) || not (is_rising (0 ∷ bs.now))) no.BadKeys
-    ∷ too_many_nodes s.graph (2 + length bs.now) ∷ []
-tests_of s command.Begin = worn_begins s ∷ too_many_txns s ∷ []
-tests_of s (command.Lock t n m) = worn s ∷ active_on s t (n ∷ []) ++ bad_mode s n m ∷ need_parents s t.slot n (wanted s t.slot n m) ∷ []
-tests_of s (command.Try t n m) = worn s ∷ active_on s t (n ∷ []) ++ bad_mode s n m ∷ need_parents s t.slot n (wanted s t.slot n m) ∷ would_block s t.slot n m ∷ []
-tests_of s (command.Unlock t n) = worn s ∷ active_on s t (n ∷ []) ++ not_held s t.slot n ∷ held_child s t.slot n ∷ []
-tests_of s (command.Escalate t n) = worn s ∷ active_on s t (n ∷ []) ++ where_true (is_record_shape (shape_of s.graph n)) no.BadParents ∷ not_held s t.slot n ∷ escalation_blocks s t.slot n ∷ []
-tests_of s (command.Cancel t) = worn s ∷ no_txn s t ∷ condemned_test (status_of s t.slot) ∷ idle_test (status_of s t.slot) ∷ []
-tests_of s (command.Commit t) = worn s ∷ active s t
-tests_of s (command.Abort t) = worn s ∷ no_txn s t ∷ []
-tests_of s (command.Settle t) = worn s ∷ no_txn s t ∷ []
-tests_of s (command.Insert t f keys) =
-    worn_making s ∷ active_on s t (f ∷ [])
+-- Insert: X on the new record asks IX or greater on each of its parents to be.
+abbrev pub insert_tests : State → TxnId → NodeId → List ℕ → List (Option Refusal)
+insert_tests s t f keys =
+    worn_births s.graph ∷ active_on s t (f ∷ [])
     ++ where_true (not (is_file_shape (shape_of s.graph f))) no.BadParents
-    ∷ where_true (not (length keys.now == length (indexes_of s.graph f))) no.BadKeys
-    ∷ first_not_ix (s.held t.slot) (record_parents s.graph f keys.now)
+    ∷ where_true (not (length keys == length (indexes_of s.graph f))) no.BadKeys
+    ∷ first_not_ix (s.held t.slot) (record_parents s.graph f keys)
     ∷ too_many_nodes s.graph 1 ∷ []
-tests_of s (command.Delete t r) = worn s ∷ active_on s t (r ∷ []) ++ where_true (not (is_record_shape (shape_of s.graph r))) no.BadParents ∷ where_true (not (holds_x s t.slot r)) no.NeedExclusive ∷ []
-tests_of s (command.Rekey t r i key) =
-    worn s ∷ active_on s t (r ∷ i ∷ [])
+
+-- Delete: only a record, and with X on it.
+abbrev pub delete_tests : State → TxnId → NodeId → List (Option Refusal)
+delete_tests s t r = active_on s t (r ∷ []) ++ where_true (not (is_record_shape (shape_of s.graph r))) no.BadParents ∷ where_true (not (holds_x s t.slot r)) no.NeedExclusive ∷ []
+
+-- Rekey: only a record, for an index of its file.
+abbrev pub rekey_tests : State → TxnId → NodeId → NodeId → ℕ → List (Option Refusal)
+rekey_tests s t r i key =
+    active_on s t (r ∷ i ∷ [])
     ++ where_true (not (is_record_shape (shape_of s.graph r) && is_index_of_shape (first_parent s.graph r) (shape_of s.graph i))) no.BadParents
     ∷ need_exclusive s t.slot r true (rekeyed_parents s.graph r i key)
     ∷ need_new_parents s t.slot r (rekeyed_parents s.graph r i key) ∷ []
-tests_of s (command.Move t n ps) =
-    worn s ∷ active_on s t (n ∷ ps.now)
-    ++ where_true (not (is_movable_shape (shape_of s.graph n)) || bad_parents s.graph (least_parents (shape_of s.graph n)) ps.now) no.BadParents
-    ∷ need_exclusive s t.slot n (some_given (parents_of s.graph n) && some_given ps.now) ps.now
-    ∷ need_new_parents s t.slot n ps.now
-    ∷ first_cycle s.graph n ps.now ∷ []
-tests_of s (command.Group n) = no_node s n ∷ []
-tests_of s (command.Held t n) = no_txn s t ∷ no_node s n ∷ []
-tests_of s (command.Effective t n) = no_txn s t ∷ no_node s n ∷ []
 
+-- Move: an inner node, a file or an index, to parents that it could have been made under.
+abbrev pub move_tests : State → TxnId → NodeId → List NodeId → List (Option Refusal)
+move_tests s t n ps =
+    active_on s t (n ∷ ps)
+    ++ where_true (not (is_movable_shape (shape_of s.graph n)) || bad_parents s.graph (least_parents (shape_of s.graph n)) ps) no.BadParents
+    ∷ need_exclusive s t.slot n (some_given (parents_of s.graph n) && some_given ps) ps
+    ∷ need_new_parents s t.slot n ps
+    ∷ first_cycle s.graph n ps ∷ []
+
+-- Escalate: any node but a record.
+abbrev pub escalate_tests : State → TxnId → NodeId → List (Option Refusal)
+escalate_tests s t n = active_on s t (n ∷ []) ++ where_true (is_record_shape (shape_of s.graph n)) no.BadParents ∷ not_held s t.slot n ∷ escalation_blocks s t.slot n ∷ []
+
+-- the tests of each command in their order, want of memory aside: first whether the command can be counted, then those of the call that does it
+abbrev pub tests_of : State → Command → List (Option Refusal)
+tests_of s (command.Inner ps) = worn s ∷ inner_refusal s.graph ps.now ∷ []
+tests_of s (command.File ps) = worn s ∷ file_refusal s.graph ps.now ∷ []
+tests_of s (command.Index ps f bs) = worn s ∷ index_refusal s.graph ps.now f bs.now ∷ []
+tests_of s command.Begin = worn s ∷ begin_tests s
+tests_of s (command.Lock t n m) = worn s ∷ lock_tests s t n m
+tests_of s (command.Try t n m) = worn s ∷ try_tests s t n m
+tests_of s (command.Unlock t n) = worn s ∷ unlock_tests s t n
+tests_of s (command.Escalate t n) = worn s ∷ escalate_tests s t n
+tests_of s (command.Cancel t) = worn s ∷ cancel_tests s t
+tests_of s (command.Commit t) = worn s ∷ commit_tests s t
+tests_of s (command.Abort t) = worn s ∷ living_tests s t
+tests_of s (command.Settle t) = worn s ∷ living_tests s t
+tests_of s (command.Insert t f keys) = worn s ∷ insert_tests s t f keys.now
+tests_of s (command.Delete t r) = worn s ∷ delete_tests s t r
+tests_of s (command.Rekey t r i key) = worn s ∷ rekey_tests s t r i key
+tests_of s (command.Move t n ps) = worn s ∷ move_tests s t n ps.now
+tests_of s (command.Group n) = group_tests s n
+tests_of s (command.Held t n) = held_tests s t n
+tests_of s (command.Effective t n) = held_tests s t n
+
+-- why the command is refused, if it is
 abbrev pub refusal_of : State → Command → Option Refusal
 refusal_of s c = first_refusal (tests_of s c)
 

@@ -2,7 +2,7 @@
 
 ghost use Rattle.gl_table.specs.Lawful.{EmptyIsLawful};
 ghost use Rattle.gl_table.specs.Waiting.{EmptyHasNoCycle};
-ghost use Rattle.gl_catalog.specs.Promises.{OthersKeepBelow, OthersKeepEffects, RunsKeepLaw, RunsKeepNoCycle, StepsKeepLaw};
+ghost use Rattle.gl_catalog.specs.Promises.{EscalateLowersNone, MoveKeepsMover, OthersKeepBelow, OthersKeepEffects, RekeyKeepsMover, RunsKeepLaw, RunsKeepNoCycle, StepsKeepLaw};
 
 /// Each step of each command keeps the law; so does each run, and the empty state meets it.
 pub fn steps_keep_law()
@@ -26,4 +26,12 @@ pub fn others_keep_below()
 pub fn no_cycle()
     ensures law { RunsKeepNoCycle }
     ensures start { EmptyHasNoCycle }
+{}
+
+/// A rekey and a move leave the mover's effective mode on every node as it was, and an escalation
+/// lowers the caller's on none.
+pub fn mover_keeps_effects()
+    ensures rekeyed { RekeyKeepsMover }
+    ensures moved { MoveKeepsMover }
+    ensures escalated { EscalateLowersNone }
 {}

@@ -1,6 +1,5 @@
 pub mod Chains
 pub mod CutSet
-pub mod Cycles
 pub mod Edges
 pub mod Effects
 pub mod Empty
@@ -13,7 +12,6 @@ pub mod LawfulBut
 pub mod NoConflict
 pub mod Less
 pub mod Locked
-pub mod NoChildren
 pub mod OneEnd
 pub mod Pumped
 pub mod Pumps

@@ -3,23 +3,23 @@ use Rattle.std.specs.Prelude.{◌≡◌, ℕ, zero, suc, true, List, [], ◌∷�
 use Rattle.std.proofs.Common.{sym, ◌∙◌, arith, subst}
 use Rattle.gl_table.specs.declared.detect.Detect.{Detect}
 use Rattle.gl_table.specs.declared.detect.Detect.TheVariants.{AtBlock, ByWatcher}
-use Rattle.gl_waits.specs.Waits.{IsWalk, IsYoungest}
+use Rattle.gl_waits.specs.Waits.{IsWalk, IsOnCycleOf, IsYoungest}
 use Rattle.gl_table.specs.State.{State, age_of}
-use Rattle.gl_table.specs.Waiting.{waits_for, IsOnCycle, SettledWithin, Settled, SettlingEnds}
+use Rattle.gl_table.specs.Waiting.{waits_for, SettledWithin, Settled, SettlingEnds}
 use Rattle.gl_table.specs.Pumps.{condemned}
 use Rattle.gl_table.specs.Lawful.{IsLawful}
 use Rattle.gl_table.specs.Calls.{WaitSettles}
 use Rattle.gl_table.proofs.GrantKeeps.{txn_there}
 use Rattle.gl_table.proofs.Taken.{condemned-lawful}
 use Rattle.gl_table.proofs.Edges.{step_is}
-use Rattle.gl_table.proofs.Settles.{settles}
+use Rattle.gl_table.proofs.Settles.{settled, settles}
 
 -- the youngest on a cycle is one
 on_cycle_lives : (s : State) (v t : ℕ) (way : List ℕ) → IsWalk (waits_for s) v way t → is_some (s.txns v) ≡ true
 on_cycle_lives s v t [] h = txn_there (s.txns v) _ (step_is s v t h).2.waits
 on_cycle_lives s v t (u ∷ way) h = txn_there (s.txns v) _ (step_is s v u h.0).2.waits
 
-youngest_one : (s : State) → IsLawful s → (t v w : ℕ) → IsYoungest (IsOnCycle s t) (age_of s) v → IsYoungest (IsOnCycle s t) (age_of s) w → v ≡ w
+youngest_one : (s : State) → IsLawful s → (t v w : ℕ) → IsYoungest (IsOnCycleOf (waits_for s) t) (age_of s) v → IsYoungest (IsOnCycleOf (waits_for s) t) (age_of s) w → v ≡ w
 youngest_one s law t v w yv yw =
     let below = yv.greatest w yw.is_member in let above = yw.greatest v yv.is_member in
     law.ages_differ v w (on_cycle_lives s v t yv.is_member.back.0 yv.is_member.back.1) (omega arith)
@@ -42,4 +42,4 @@ wait_one ByWatcher s a b t law h k = h ∙ sym k
 
 -- settling ends, and in one state
 pub settling_ends : SettlingEnds
-settling_ends s law t = let end = settles s law t in (end.0, end.1, λ other h. settled_one s other end.0 t law h end.1)
+settling_ends s law t = (settled s t, settles s law t, λ other h. settled_one s other (settled s t) t law h (settles s law t))

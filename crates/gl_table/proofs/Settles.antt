@@ -1,7 +1,7 @@
 -- Settling always comes to an end: each turn leaves fewer that wait.
 use Rattle.std.specs.Prelude.{◌≡◌, ℕ, zero, suc, ◌<◌, ◌≤◌, Bool, true, false, not, ◌==◌, List, [], ◌∷◌, Option, Some, None, if◌then◌else◌}
 use Rattle.std.specs.List.{list_any}
-use Rattle.std.proofs.Common.{refl, sym, ap, ◌∙◌, arith, rules, ⊎_elim}
+use Rattle.std.proofs.Common.{refl, sym, ap, ◌∙◌, arith, rules}
 use Rattle.std.proofs.lemmas.Bool.Decides.{nat_tests}
 use Rattle.gl_modes.specs.declared.mode.Mode.{Mode}
 use Rattle.gl_modes.specs.declared.mode.Mode.TheVariants.{NL}
@@ -13,7 +13,7 @@ use Rattle.gl_table.specs.declared.txn.Status.TheVariants.{Active, Waiting, Cond
 use Rattle.gl_table.specs.declared.detect.Detect.{Detect}
 use Rattle.gl_table.specs.declared.detect.Detect.TheVariants.{AtBlock, ByWatcher}
 use Rattle.gl_header.specs.Header.{holds, is_ahead}
-use Rattle.gl_waits.specs.Waits.{IsWalk}
+use Rattle.gl_waits.specs.Waits.{IsWalk, IsOnCycleOf, IsYoungest}
 use Rattle.gl_table.specs.State.{State, Txn, members, slots, status_in, status_of, age_of, restatus, with_grant}
 use Rattle.gl_table.specs.Pumps.{without_wait, is_waiting_at, granted_at, condemned}
 use Rattle.gl_table.specs.Waiting.{waits_for, Settled}
@@ -27,10 +27,10 @@ use Rattle.gl_table.proofs.Pumped.{woken_waits}
 use Rattle.gl_table.proofs.Taken.{without_wait-less, condemned-lawful}
 use Rattle.gl_table.proofs.Edges.{step_is}
 use Rattle.gl_table.proofs.Locked.{MayLock, waiting-lawful}
-use Rattle.gl_table.proofs.Walks.{same, in_range, settled_or_youngest}
+use Rattle.gl_table.proofs.Walks.{same, in_range, victim, IsVictim, victim_is}
 
 -- how many pass
-abbrev tally : (ℕ → Bool) → List ℕ → ℕ
+abbrev pub tally : (ℕ → Bool) → List ℕ → ℕ
 tally p [] = 0
 tally p (x ∷ xs) = if p x then suc (tally p xs) else tally p xs
 
@@ -68,7 +68,7 @@ module _ (p q : ℕ → Bool) (sub : (u : ℕ) → q u ≡ true → p u ≡ true
       there false false ea eb lt = omega arith
 
 -- who waits
-abbrev waiting : State → ℕ → Bool
+abbrev pub waiting : State → ℕ → Bool
 waiting s u = is_wait (status_of s u)
 
 pub wait_is : (o : Option Status) → is_wait o ≡ true → (n : NodeId) × (m : Mode) × (o ≡ Some (Waiting n m))
@@ -123,29 +123,54 @@ fewer s law v w =
     let lt = wait_low s law v w in
     tally_lt (waiting s) (waiting (condemned s v)) (still_waits s law v) v (slots s) (in_range v 0 s.most (omega arith) (omega arith)) w (waits_no_more s law v)
 
-settles_within : (k : ℕ) (s : State) → IsLawful s → (t : ℕ) → tally (waiting s) (slots s) ≤ k → (s' : State) × Settled s t s'
-settles_within zero s law t le =
-    ⊎_elim (λ none. (s, (zero, (none, refl))))
-    (λ one. let v = one.0 in let w = cycle_waits s law v t one.1.is_member.back.0 one.1.is_member.back.1 in let lt = fewer s law v w in absurd (omega arith))
-    (settled_or_youngest (waits_for s) s.most (low s law) (age_of s) t)
-settles_within (suc k) s law t le =
-    ⊎_elim (λ none. (s, (zero, (none, refl))))
-    (λ one. let v = one.0 in let w = cycle_waits s law v t one.1.is_member.back.0 one.1.is_member.back.1 in let lt = fewer s law v w in
-    let rest = settles_within k (condemned s v) (condemned-lawful s law v) t (omega arith) in
-    (rest.0, (suc rest.1.0, (v, one.1, rest.1.1))))
-    (settled_or_youngest (waits_for s) s.most (low s law) (age_of s) t)
+-- a turn takes the victim, if there is one
+abbrev pub by_victim : (ℕ → State) → State → Option ℕ → State
+by_victim turn s None = s
+by_victim turn s (Some v) = turn v
 
--- one state at least that settling leaves, by `settled_one` no other
-pub settles : (s : State) → IsLawful s → (t : ℕ) → (s' : State) × Settled s t s'
+-- so many turns of settling
+abbrev pub settled_by : ℕ → State → ℕ → State
+settled_by zero s t = s
+settled_by (suc k) s t = by_victim (λ v. settled_by k (condemned s v) t) s (victim (waits_for s) s.most (age_of s) t)
+
+settles_within : (k : ℕ) (s : State) → IsLawful s → (t : ℕ) → tally (waiting s) (slots s) ≤ k → Settled s t (settled_by k s t)
+settles_within zero s law t le = by (victim (waits_for s) s.most (age_of s) t) (victim_is (waits_for s) s.most (low s law) (age_of s) t)
+  where
+    by : (o : Option ℕ) → IsVictim (waits_for s) (age_of s) t o → Settled s t s
+    by None none = (zero, (none, refl))
+    by (Some v) one = let w = cycle_waits s law v t one.is_member.back.0 one.is_member.back.1 in let lt = fewer s law v w in absurd (omega arith)
+settles_within (suc k) s law t le =
+    by (victim (waits_for s) s.most (age_of s) t) (victim_is (waits_for s) s.most (low s law) (age_of s) t)
+    (λ v one. let w = cycle_waits s law v t one.is_member.back.0 one.is_member.back.1 in let lt = fewer s law v w in settles_within k (condemned s v) (condemned-lawful s law v) t (omega arith))
+  where
+    by : (o : Option ℕ) → IsVictim (waits_for s) (age_of s) t o → ((v : ℕ) → IsYoungest (IsOnCycleOf (waits_for s) t) (age_of s) v → Settled (condemned s v) t (settled_by k (condemned s v) t))
+        → Settled s t (by_victim (λ v. settled_by k (condemned s v) t) s o)
+    by None none rest = (zero, (none, refl))
+    by (Some v) one rest = let r = rest v one in (suc r.0, (v, one, r.1))
+
+-- what settling leaves, by as many turns as there are that wait
+abbrev pub settled : State → ℕ → State
+settled s t = settled_by (tally (waiting s) (slots s)) s t
+
+pub settles : (s : State) → IsLawful s → (t : ℕ) → Settled s t (settled s t)
 settles s law t = settles_within (tally (waiting s) (slots s)) s law t (omega arith)
 
--- a lock that may wait has an outcome under both ways of detection
-pub locks_some : (s : State) → IsLawful s → (t : TxnId) (n : NodeId) (m : Mode) → MayLock s t n m → (s' : State) × Locks s t.slot n m s'
-locks_some s law t n m may = split (enters_at s t.slot n m)
-    (λ e. (with_grant s t.slot n (wanted s t.slot n m), record { granted = λ _. refl; waits = λ f. clash e f }))
-    (λ e. let out = wait_some s.detect (enqueued s t.slot n (wanted s t.slot n m)) t.slot (waiting-lawful s law t n m may e) in
-    (out.0, record { granted = λ f. clash f e; waits = λ _. out.1 }))
+-- what a lock leaves, granted at once or waiting
+abbrev pub waited : Detect → State → ℕ → State
+waited AtBlock s t = settled s t
+waited ByWatcher s t = s
+
+abbrev pub locked : State → ℕ → NodeId → Mode → State
+locked s t n m = if enters_at s t n m then with_grant s t n (wanted s t n m) else waited s.detect (enqueued s t n (wanted s t n m)) t
+
+-- so a lock that passed its tests has an outcome under both ways of detection
+pub locks_some : (s : State) → IsLawful s → (t : TxnId) (n : NodeId) (m : Mode) → MayLock s t n m → Locks s t.slot n m (locked s t.slot n m)
+locks_some s law t n m may = by (enters_at s t.slot n m) refl
   where
-    wait_some : (d : Detect) (z : State) (u : ℕ) → IsLawful z → (s' : State) × WaitSettles d z u s'
+    wait_some : (d : Detect) (z : State) (u : ℕ) → IsLawful z → WaitSettles d z u (waited d z u)
     wait_some AtBlock z u lawful = settles z lawful u
-    wait_some ByWatcher z u lawful = (z, refl)
+    wait_some ByWatcher z u lawful = refl
+
+    by : (b : Bool) → enters_at s t.slot n m ≡ b → Locks s t.slot n m (if b then with_grant s t.slot n (wanted s t.slot n m) else waited s.detect (enqueued s t.slot n (wanted s t.slot n m)) t.slot)
+    by true e = record { granted = λ _. refl; waits = λ f. clash e f }
+    by false e = record { granted = λ f. clash f e; waits = λ _. wait_some s.detect (enqueued s t.slot n (wanted s t.slot n m)) t.slot (waiting-lawful s law t n m may e) }

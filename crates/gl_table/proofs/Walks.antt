@@ -1,8 +1,8 @@
 -- Walks of a relation between finitely many numbers: whether there is one, and the youngest on a cycle.
-use Rattle.std.specs.Prelude.{◌≡◌, ◌≢◌, ◌⊎◌, ℕ, zero, suc, ◌+◌, ◌<◌, ◌≤◌, Bool, true, false, ◌&&◌, ◌||◌, ◌==◌, List, [], ◌∷◌, length, ⊤}
+use Rattle.std.specs.Prelude.{◌≡◌, ◌≢◌, ℕ, zero, suc, ◌+◌, ◌<◌, ◌≤◌, Bool, true, false, ◌&&◌, ◌||◌, ◌==◌, nat_le, List, [], ◌∷◌, length, ⊤, Option, Some, None, if◌then◌else◌}
 use Rattle.std.specs.List.{list_any, range_with_len, AllByRecursion, IsDistinct}
 use Rattle.std.specs.Cmp.{IsEquivalence}
-use Rattle.std.proofs.Common.{refl, sym, ap, ap₂, ◌∙◌, arith, subst, ⊎_elim, inl, inr}
+use Rattle.std.proofs.Common.{refl, sym, ap, ap₂, ◌∙◌, arith, subst}
 use Rattle.std.proofs.lemmas.Bool.Decides.{nat_tests}
 use Rattle.std.proofs.lemmas.Map.Made.{length-le_from_is_member}
 use Rattle.std.proofs.lemmas.List.FromFn.{length-range_with_len}
@@ -50,35 +50,57 @@ one_found : (f : ℕ → Bool) (q : ℕ) (xs : List ℕ) → f q ≡ true → li
 one_found f q [] h k = k
 one_found f q (x ∷ xs) h k = or_elim _ _ k (λ here. or_left _ _ (ap f (sym (same_true q x here)) ∙ h)) (λ there. or_right (f x) _ (one_found f q xs h there))
 
--- none below n passes, or one of those that do has the greatest age
-abbrev Greatest : (ℕ → ℕ) → (ℕ → Bool) → ℕ → Type 0
-Greatest age p n = ((u : ℕ) → u < n → p u ≡ false) ⊎ ((v : ℕ) × (p v ≡ true) × ((u : ℕ) → u < n → p u ≡ true → age u ≤ age v))
+-- the one of greater age, of equal ages the later
+abbrev pub younger : (ℕ → ℕ) → ℕ → Option ℕ → Option ℕ
+younger age n None = Some n
+younger age n (Some v) = if nat_le (age v) (age n) then Some n else Some v
 
-pub greatest_below : (age : ℕ → ℕ) (p : ℕ → Bool) (n : ℕ) → Greatest age p n
-greatest_below age p zero = inl (λ u lt. absurd (omega arith))
-greatest_below age p (suc n) = let before = greatest_below age p n in split (p n) (found before) (skipped before)
+-- of those below n that pass, one of the greatest age
+abbrev pub youngest_below : (ℕ → ℕ) → (ℕ → Bool) → ℕ → Option ℕ
+youngest_below age p zero = None
+youngest_below age p (suc n) = if p n then younger age n (youngest_below age p n) else youngest_below age p n
+
+abbrev Greatest : (ℕ → ℕ) → (ℕ → Bool) → ℕ → Option ℕ → Type 0
+Greatest age p n None = (u : ℕ) → u < n → p u ≡ false
+Greatest age p n (Some v) = (p v ≡ true) × ((u : ℕ) → u < n → p u ≡ true → age u ≤ age v)
+
+youngest_is : (age : ℕ → ℕ) (p : ℕ → Bool) (n : ℕ) → Greatest age p n (youngest_below age p n)
+youngest_is age p zero = λ u lt. absurd (omega arith)
+youngest_is age p (suc n) = by (p n) refl (youngest_below age p n) (youngest_is age p n)
   where
     at_end : {C : Type 0} (u : ℕ) → u < suc n → (u ≡ n → C) → (u < n → C) → C
     at_end u lt here there = split (u == n) (λ e. here (same_true u n e)) (λ e. let ne : u ≢ n = grind (arith, nat_tests) in there (omega arith))
 
-    order : (a b : ℕ) → (a ≤ b) ⊎ (b ≤ a)
-    order a b = grind arith
+    by : (b : Bool) → p n ≡ b → (o : Option ℕ) → Greatest age p n o → Greatest age p (suc n) (if b then younger age n o else o)
+    by false e None none = λ u lt. at_end u lt (λ is. ap p is ∙ e) (λ less. none u less)
+    by false e (Some v) one = (one.0, λ u lt h. at_end u lt (λ is. clash (sym (ap p is) ∙ h) e) (λ less. one.1 u less h))
+    by true e None none = (e, λ u lt h. at_end u lt (λ is. let a : age u ≡ age n = ap age is in omega arith) (λ less. clash h (none u less)))
+    by true e (Some v) one = order (nat_le (age v) (age n)) refl
+      where
+        order : (c : Bool) → nat_le (age v) (age n) ≡ c → Greatest age p (suc n) (if c then Some n else Some v)
+        order true k =
+            let le : age v ≤ age n = grind (arith, nat_tests) in
+            (e, λ u lt h. at_end u lt (λ is. let a : age u ≡ age n = ap age is in omega arith) (λ less. let low = one.1 u less h in omega arith))
+        order false k =
+            let le : age n ≤ age v = grind (arith, nat_tests) in
+            (one.0, λ u lt h. at_end u lt (λ is. let a : age u ≡ age n = ap age is in omega arith) (λ less. one.1 u less h))
 
-    found : Greatest age p n → p n ≡ true → Greatest age p (suc n)
-    found before e =
-        ⊎_elim
-        (λ none. inr (n, e, λ u lt h. at_end u lt (λ is. let a : age u ≡ age n = ap age is in omega arith) (λ less. clash h (none u less))))
-        (λ one. ⊎_elim
-        (λ le. inr (n, e, λ u lt h. at_end u lt (λ is. let a : age u ≡ age n = ap age is in omega arith) (λ less. let b : age u ≤ age one.0 = one.2 u less h in omega arith)))
-        (λ ge. inr (one.0, one.1, λ u lt h. at_end u lt (λ is. let a : age u ≡ age n = ap age is in omega arith) (λ less. one.2 u less h)))
-        (order (age one.0) (age n)))
-        before
+-- y is reached from x by at most k slots on the way
+abbrev pub hops : (ℕ → ℕ → Bool) → ℕ → ℕ → ℕ → ℕ → Bool
+hops edge most zero x y = edge x y
+hops edge most (suc k) x y = edge x y || list_any (λ v. edge x v && hops edge most k v y) (range_with_len 0 most)
 
-    skipped : Greatest age p n → p n ≡ false → Greatest age p (suc n)
-    skipped before e =
-        ⊎_elim (λ none. inl (λ u lt. at_end u lt (λ is. ap p is ∙ e) (λ less. none u less)))
-        (λ one. inr (one.0, one.1, λ u lt h. at_end u lt (λ is. clash (sym (ap p is) ∙ h) e) (λ less. one.2 u less h)))
-        before
+-- t and v reach each other
+abbrev pub circles : (ℕ → ℕ → Bool) → ℕ → ℕ → ℕ → Bool
+circles edge most t v = hops edge most most t v && hops edge most most v t
+
+-- the youngest on a cycle with t
+abbrev pub victim : (ℕ → ℕ → Bool) → ℕ → (ℕ → ℕ) → ℕ → Option ℕ
+victim edge most age t = youngest_below age (circles edge most t) most
+
+abbrev pub IsVictim : (ℕ → ℕ → Bool) → (ℕ → ℕ) → ℕ → Option ℕ → Type 0
+IsVictim edge age t None = IsOnNoCycle edge t
+IsVictim edge age t (Some v) = IsYoungest (IsOnCycleOf edge t) age v
 
 module _ (edge : ℕ → ℕ → Bool) (most : ℕ) (low : (x y : ℕ) → edge x y ≡ true → y < most) where
   -- a walk that meets v goes on from v
@@ -97,7 +119,7 @@ module _ (edge : ℕ → ℕ → Bool) (most : ℕ) (low : (x y : ℕ) → edge 
       (λ k. let c = cut v v y r.0 r.1 k r.2 in (v ∷ c.0, (h.0, c.1), (c.3, c.2)))
       (λ k. (v ∷ r.0, (h.0, r.1), (k, r.2)))
 
-  pub on_way : (way : List ℕ) (x y q : ℕ) → IsWalk edge x way y → list_any (same q) way ≡ true → q < most
+  on_way : (way : List ℕ) (x y q : ℕ) → IsWalk edge x way y → list_any (same q) way ≡ true → q < most
   on_way [] x y q h k = clash k refl
   on_way (v ∷ way) x y q h k = or_elim (same q v) (list_any (same q) way) k (λ e. subst (λ z. z < most) (sym (same_true q v e)) (low x v h.0)) (λ there. on_way way v y q h.1 there)
 
@@ -107,44 +129,38 @@ module _ (edge : ℕ → ℕ → Bool) (most : ℕ) (low : (x y : ℕ) → edge 
       let len = length-range_with_len 0 most in
       omega arith
 
-  pub hops : ℕ → ℕ → ℕ → Bool
-  hops zero x y = edge x y
-  hops (suc k) x y = edge x y || list_any (λ v. edge x v && hops k v y) (range_with_len 0 most)
-
-  sound : (k x y : ℕ) → hops k x y ≡ true → Reaches edge x y
-  unfolding hops
+  sound : (k x y : ℕ) → hops edge most k x y ≡ true → Reaches edge x y
   sound zero x y h = ([], h)
   sound (suc k) x y h =
-      or_elim (edge x y) (list_any (λ v. edge x v && hops k v y) (range_with_len 0 most)) h (λ e. ([], e))
-      (λ e. let found = any_of (λ v. edge x v && hops k v y) (range_with_len 0 most) e in
-      let both = and_both (edge x found.0) (hops k found.0 y) found.1 in
+      or_elim (edge x y) (list_any (λ v. edge x v && hops edge most k v y) (range_with_len 0 most)) h (λ e. ([], e))
+      (λ e. let found = any_of (λ v. edge x v && hops edge most k v y) (range_with_len 0 most) e in
+      let both = and_both (edge x found.0) (hops edge most k found.0 y) found.1 in
       let rest = sound k found.0 y both.1 in (found.0 ∷ rest.0, (both.0, rest.1)))
 
-  complete : (k : ℕ) (way : List ℕ) (x y : ℕ) → length way ≤ k → IsWalk edge x way y → hops k x y ≡ true
-  unfolding hops
+  complete : (k : ℕ) (way : List ℕ) (x y : ℕ) → length way ≤ k → IsWalk edge x way y → hops edge most k x y ≡ true
   complete zero [] x y le h = h
   complete zero (v ∷ way) x y le h = absurd (omega arith)
-  complete (suc k) [] x y le h = or_left (edge x y) (list_any (λ v. edge x v && hops k v y) (range_with_len 0 most)) h
+  complete (suc k) [] x y le h = or_left (edge x y) (list_any (λ v. edge x v && hops edge most k v y) (range_with_len 0 most)) h
   complete (suc k) (v ∷ way) x y le h =
       let lt = low x v h.0 in
-      or_right (edge x y) (list_any (λ u. edge x u && hops k u y) (range_with_len 0 most))
-      (one_found (λ u. edge x u && hops k u y) v (range_with_len 0 most) (ap₂ (λ a b. a && b) h.0 (complete k way v y (omega arith) h.1)) (in_range v 0 most (omega arith) (omega arith)))
+      or_right (edge x y) (list_any (λ u. edge x u && hops edge most k u y) (range_with_len 0 most))
+      (one_found (λ u. edge x u && hops edge most k u y) v (range_with_len 0 most) (ap₂ (λ a b. a && b) h.0 (complete k way v y (omega arith) h.1)) (in_range v 0 most (omega arith) (omega arith)))
 
-  reached_is : (x y : ℕ) → Reaches edge x y → hops most x y ≡ true
+  reached_is : (x y : ℕ) → Reaches edge x y → hops edge most most x y ≡ true
   reached_is x y r = let way = simple r.0 x y r.1 in complete most way.0 x y (short way.0 x y way.1 way.2) way.1
 
   end_low : (way : List ℕ) (x y : ℕ) → IsWalk edge x way y → y < most
   end_low [] x y h = low x y h
   end_low (v ∷ way) x y h = end_low way v y h.1
 
-  -- t is on no cycle, or one is the youngest on a cycle with it
-  pub settled_or_youngest : (age : ℕ → ℕ) (t : ℕ) → IsOnNoCycle edge t ⊎ ((v : ℕ) × IsYoungest (IsOnCycleOf edge t) age v)
-  settled_or_youngest age t =
-      ⊎_elim
-      (λ none. inl (λ v on. clash (circles v on) (none v (end_low on.there.0 t v on.there.1))))
-      (λ one. let both = and_both (hops most t one.0) (hops most one.0 t) one.1 in
-      inr (one.0, record { is_member = record { there = sound most t one.0 both.0; back = sound most one.0 t both.1 }; greatest = λ u on. one.2 u (end_low on.there.0 t u on.there.1) (circles u on) }))
-      (greatest_below age (λ v. hops most t v && hops most v t) most)
+  pub victim_is : (age : ℕ → ℕ) (t : ℕ) → IsVictim edge age t (victim edge most age t)
+  victim_is age t = by (victim edge most age t) (youngest_is age (circles edge most t) most)
     where
-      circles : (v : ℕ) → IsOnCycleOf edge t v → (hops most t v && hops most v t) ≡ true
-      circles v on = ap₂ (λ a b. a && b) (reached_is t v on.there) (reached_is v t on.back)
+      turns : (v : ℕ) → IsOnCycleOf edge t v → circles edge most t v ≡ true
+      turns v on = ap₂ (λ a b. a && b) (reached_is t v on.there) (reached_is v t on.back)
+
+      by : (o : Option ℕ) → Greatest age (circles edge most t) most o → IsVictim edge age t o
+      by None none = λ v on. clash (turns v on) (none v (end_low on.there.0 t v on.there.1))
+      by (Some v) one =
+          let both = and_both (hops edge most most t v) (hops edge most most v t) one.0 in
+          record { is_member = record { there = sound most t v both.0; back = sound most v t both.1 }; greatest = λ u on. one.1 u (end_low on.there.0 t u on.there.1) (turns u on) }

@@ -33,12 +33,6 @@ asked_by_escalation s t n = if list_any (λ c. is_child s.graph n c && is_write 
 abbrev pub accepted_once : State → State
 accepted_once s = record s { accepted = s.accepted + 1 }
 
-abbrev pub made : State → ℕ → Node → State
-made s key node = with_graph s (born_node s.graph node)
-
-abbrev pub next_id : State → ℕ → NodeId
-next_id s key = record { key = key; birth = s.graph.births + 1 }
-
 abbrev pub begun : State → ℕ → State
 begun s t = record (with_txn s t (Some (record { age = s.begins + 1; status = Active }))) { begins = s.begins + 1 }
 

@@ -1,5 +1,5 @@
 -- The tests by which the table refuses, each by itself.
-use Rattle.std.specs.Prelude.{ℕ, ◌-◌, Bool, true, false, not, ◌&&◌, ◌||◌, ◌==◌, List, [], ◌∷◌, Option, Some, None, if◌then◌else◌, is_some}
+use Rattle.std.specs.Prelude.{ℕ, ◌-◌, Bool, true, false, not, ◌&&◌, ◌||◌, ◌==◌, List, [], ◌∷◌, ◌++◌, Option, Some, None, if◌then◌else◌, is_some}
 use Rattle.std.specs.List.{find, list_all}
 use Rattle.gl_table.specs.declared.txn.TxnId.{TxnId}
 use Rattle.gl_table.specs.declared.txn.Status.{Status}
@@ -11,15 +11,16 @@ use Rattle.gl_table.specs.declared.txn.Status.TheVariants.{Active, Waiting, Cond
 use Rattle.gl_modes.specs.declared.refusal.Refusal.TheVariants as no
 use Rattle.gl_graph.specs.Graph.{is_child, is_live, nodes, parents_of, shape_of}
 use Rattle.gl_graph.specs.Refusals.{max_count, some_no_node, where_true}
-use Rattle.gl_graph.specs.Shapes.{Inner, Shape, is_record_shape}
+use Rattle.gl_graph.specs.Shapes.{is_record_shape}
 use Rattle.gl_header.specs.Header.{fits, holds}
 use Rattle.gl_modes.specs.Modes.{is_at_least, same_mode}
 use Rattle.gl_table.specs.Calls.{asked_by_escalation, enters_at, wanted}
 use Rattle.gl_table.specs.Intends.{intends, is_write}
 use Rattle.gl_table.specs.State.{State, lives, members, slots, status_of}
 
+-- no further age can be given
 abbrev pub worn_begins : State → Option Refusal
-worn_begins s = where_true ((s.accepted == max_count) || (s.begins == max_count)) no.WornOut
+worn_begins s = where_true (s.begins == max_count) no.WornOut
 
 abbrev pub no_txn : State → TxnId → Option Refusal
 no_txn s t = where_true (not (lives s t)) no.NoSuchTxn
@@ -42,9 +43,6 @@ no_node s n = where_true (not (is_live s.graph n)) no.NoSuchNode
 -- of an Active transaction on a living node
 abbrev pub active_on : State → TxnId → List NodeId → List (Option Refusal)
 active_on s t ns = no_txn s t ∷ waiting_test (status_of s t.slot) ∷ condemned_test (status_of s t.slot) ∷ some_no_node s.graph ns ∷ []
-
-abbrev pub active : State → TxnId → List (Option Refusal)
-active s t = no_txn s t ∷ waiting_test (status_of s t.slot) ∷ condemned_test (status_of s t.slot) ∷ []
 
 abbrev pub bad_mode : State → NodeId → Mode → Option Refusal
 bad_mode s n m = where_true (same_mode m NL || (is_record_shape (shape_of s.graph n) && not (same_mode m S || same_mode m X))) no.BadMode
@@ -95,13 +93,39 @@ need_exclusive s t n both_given new =
 abbrev pub need_new_parents : State → ℕ → NodeId → List NodeId → Option Refusal
 need_new_parents s t n new = if holds_x s t n then first_not_ix (s.held t) new else None
 
-abbrev pub least_parents : Option Shape → ℕ
-least_parents (Some Inner) = 0
-least_parents o = 1
-
 abbrev pub some_given : {A : Type 0} → List A → Bool
 some_given [] = false
 some_given (x ∷ xs) = true
 
 abbrev pub escalation_blocks : State → ℕ → NodeId → Option Refusal
 escalation_blocks s t n = where_true (not (fits s.most (members s n) t (wanted s t n (asked_by_escalation s t n)))) no.WouldBlock
+
+-- The tests of each call of the table, in their order.
+abbrev pub begin_tests : State → List (Option Refusal)
+begin_tests s = worn_begins s ∷ too_many_txns s ∷ []
+
+abbrev pub lock_tests : State → TxnId → NodeId → Mode → List (Option Refusal)
+lock_tests s t n m = active_on s t (n ∷ []) ++ bad_mode s n m ∷ need_parents s t.slot n (wanted s t.slot n m) ∷ []
+
+abbrev pub try_tests : State → TxnId → NodeId → Mode → List (Option Refusal)
+try_tests s t n m = active_on s t (n ∷ []) ++ bad_mode s n m ∷ need_parents s t.slot n (wanted s t.slot n m) ∷ would_block s t.slot n m ∷ []
+
+abbrev pub unlock_tests : State → TxnId → NodeId → List (Option Refusal)
+unlock_tests s t n = active_on s t (n ∷ []) ++ not_held s t.slot n ∷ held_child s t.slot n ∷ []
+
+abbrev pub cancel_tests : State → TxnId → List (Option Refusal)
+cancel_tests s t = no_txn s t ∷ condemned_test (status_of s t.slot) ∷ idle_test (status_of s t.slot) ∷ []
+
+abbrev pub commit_tests : State → TxnId → List (Option Refusal)
+commit_tests s t = no_txn s t ∷ waiting_test (status_of s t.slot) ∷ condemned_test (status_of s t.slot) ∷ []
+
+-- abort and settle ask only that the transaction lives
+abbrev pub living_tests : State → TxnId → List (Option Refusal)
+living_tests s t = no_txn s t ∷ []
+
+-- of the question what a transaction holds on a node, by itself or by effect
+abbrev pub held_tests : State → TxnId → NodeId → List (Option Refusal)
+held_tests s t n = no_txn s t ∷ no_node s n ∷ []
+
+abbrev pub group_tests : State → NodeId → List (Option Refusal)
+group_tests s n = no_node s n ∷ []

@@ -18,13 +18,10 @@ blocks s t u o = false
 abbrev pub waits_for : State → ℕ → ℕ → Bool
 waits_for s t u = not (t == u) && blocks s t u (status_of s t)
 
-abbrev pub IsOnCycle : State → ℕ → ℕ → Type 0
-IsOnCycle s t v = IsOnCycleOf (waits_for s) t v
-
 -- after at most k turns t is on no cycle
 abbrev pub SettledWithin : ℕ → State → ℕ → State → Type 0
 SettledWithin zero s t s' = IsOnNoCycle (waits_for s) t × (s' ≡ s)
-SettledWithin (suc k) s t s' = (v : ℕ) × IsYoungest (IsOnCycle s t) (age_of s) v × SettledWithin k (condemned s v) t s'
+SettledWithin (suc k) s t s' = (v : ℕ) × IsYoungest (IsOnCycleOf (waits_for s) t) (age_of s) v × SettledWithin k (condemned s v) t s'
 
 abbrev pub Settled : State → ℕ → State → Type 0
 Settled s t s' = (k : ℕ) × SettledWithin k s t s'

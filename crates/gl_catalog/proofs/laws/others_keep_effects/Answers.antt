@@ -1,5 +1,5 @@
-use Rattle.gl_catalog.proofs.Whole as whole
+use Rattle.gl_catalog.proofs.OthersKeep.{others_keep_effects}
 use Rattle.gl_catalog.proofs.laws.others_keep_effects.Goals as goal
 
 pub returns : goal.returns
-returns c = whole.others_keep_effects
+returns c = others_keep_effects
