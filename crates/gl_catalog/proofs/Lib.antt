@@ -18,6 +18,8 @@ pub mod Refusals
 pub mod StepNoCycle
 pub mod StepTests
 pub mod ToldGrants
+pub mod Play
+pub mod PlayIsStep
 pub mod EachStep
 pub mod KeepsLaw
 pub mod LockCommands

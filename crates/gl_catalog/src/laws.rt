@@ -2,7 +2,7 @@
 
 ghost use Rattle.gl_table.specs.Lawful.{EmptyIsLawful};
 ghost use Rattle.gl_table.specs.Waiting.{EmptyHasNoCycle};
-ghost use Rattle.gl_catalog.specs.Promises.{EscalateLowersNone, MoveKeepsMover, OthersKeepBelow, OthersKeepEffects, RekeyKeepsMover, RunsKeepLaw, RunsKeepNoCycle, StepsKeepLaw};
+ghost use Rattle.gl_catalog.specs.Promises.{AlwaysAnswers, EscalateLowersNone, MoveKeepsMover, OthersKeepBelow, OthersKeepEffects, RekeyKeepsMover, RunsKeepLaw, RunsKeepNoCycle, StepsKeepLaw};
 
 /// Each step of each command keeps the law; so does each run, and the empty state meets it.
 pub fn steps_keep_law()
@@ -34,4 +34,9 @@ pub fn mover_keeps_effects()
     ensures rekeyed { RekeyKeepsMover }
     ensures moved { MoveKeepsMover }
     ensures escalated { EscalateLowersNone }
+{}
+
+/// In a lawful state there is a step for every command, so no law of steps is empty.
+pub fn always_answers()
+    ensures { AlwaysAnswers }
 {}

@@ -6,5 +6,5 @@ mod laws;
 
 pub use command::{Answer, Command, Escalated, Reply};
 pub use laws::{
-    mover_keeps_effects, no_cycle, others_keep_below, others_keep_effects, steps_keep_law,
+    always_answers, mover_keeps_effects, no_cycle, others_keep_below, others_keep_effects, steps_keep_law,
 };
