@@ -20,6 +20,10 @@ pub mod StepTests
 pub mod ToldGrants
 pub mod Play
 pub mod PlayIsStep
+pub mod RowWords
+mod LockRows
+mod RecordRows
+mod MoveRows
 pub mod EachStep
 pub mod KeepsLaw
 pub mod LockCommands

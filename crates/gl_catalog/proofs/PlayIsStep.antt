@@ -4,7 +4,7 @@ use Rattle.std.specs.List.{find, list_all, list_any, range_with_len}
 use Rattle.std.proofs.lemmas.List.FromFn.{length-range_with_len}
 use Rattle.std.proofs.lemmas.Bool.{cases_eq}
 use Rattle.std.proofs.lemmas.Bool.Decides.{nat_tests}
-use Rattle.std.proofs.Common.{refl, sym, ap, ◌∙◌, subst, arith, inl, ⊎_elim}
+use Rattle.std.proofs.Common.{refl, sym, ap, ◌∙◌, arith, inl, ⊎_elim}
 use Rattle.gl_modes.specs.declared.refusal.Refusal.{Refusal}
 use Rattle.gl_modes.specs.declared.refusal.Refusal.TheVariants as no
 use Rattle.gl_catalog.specs.declared.command.Answer.{Answer}
@@ -13,8 +13,7 @@ use Rattle.gl_catalog.specs.declared.command.Command.TheVariants as command
 use Rattle.gl_graph.specs.Graph.{Graph, Node, IsFreeKey, node_at}
 use Rattle.gl_graph.specs.Changes.{are_apart}
 use Rattle.gl_graph.specs.Lawful.{IsLawfulGraph}
-use Rattle.gl_table.specs.declared.detect.Detect.{Detect}
-use Rattle.gl_table.specs.State.{State, Txn, empty_state, slots}
+use Rattle.gl_table.specs.State.{State, Txn, slots}
 use Rattle.gl_table.specs.Lawful.{IsLawful}
 use Rattle.gl_table.specs.Refusals.{too_many_txns, worn_begins}
 use Rattle.gl_table.specs.Tellings.{Told}
@@ -25,7 +24,6 @@ use Rattle.gl_graph.proofs.Look.{split, or_elim, both, no, same_number, live_nod
 use Rattle.gl_graph.proofs.Unrefused.{not_refused, test_fails}
 use Rattle.gl_table.proofs.Locked.{may_lock}
 use Rattle.gl_table.proofs.Settles.{locks_some, settles}
-use Rattle.gl_table.proofs.Empty.{empty-lawful}
 use Rattle.gl_catalog.proofs.StepsKeepLaw.{steps_keep_law}
 use Rattle.gl_catalog.proofs.Play.{above_key, after, free_key, go, greater, interval_keys, play, replies, slot_or_zero, tested, top}
 
@@ -137,10 +135,3 @@ always_answers s c law = ((play s c).0, (play s c).1, (play s c).2, play_steps s
 pub play_runs : (cs : List Command) (s : State) → IsLawful s → Run s cs (replies s cs) (after s cs)
 play_runs [] s law = refl
 play_runs (c ∷ cs) s law = ((play s c).2, play_steps s law c, play_runs cs (play s c).2 (steps_keep_law s (play s c).2 c (play s c).0 (play s c).1 law (play_steps s law c)))
-
--- from the empty state, with this way of detection and room for so many transactions, these commands may be answered so
-abbrev pub Row : Detect → ℕ → List Command → List (Answer × Told) → Type 0
-Row detect most cs rs = (s' : State) × Run (empty_state detect most) cs rs s'
-
-pub played : (detect : Detect) (most : ℕ) (cs : List Command) {rs : List (Answer × Told)} → replies (empty_state detect most) cs ≡ rs → Row detect most cs rs
-played detect most cs same = (after (empty_state detect most) cs, subst (λ rs. Run (empty_state detect most) cs rs (after (empty_state detect most) cs)) same (play_runs cs (empty_state detect most) (empty-lawful detect most)))
