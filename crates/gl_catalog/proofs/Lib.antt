@@ -24,6 +24,7 @@ pub mod RowWords
 mod LockRows
 mod RecordRows
 mod MoveRows
+mod RefusalRows
 pub mod EachStep
 pub mod KeepsLaw
 pub mod LockCommands
