@@ -25,6 +25,7 @@ mod LockRows
 mod RecordRows
 mod MoveRows
 mod RefusalRows
+mod Limits
 pub mod EachStep
 pub mod KeepsLaw
 pub mod LockCommands
