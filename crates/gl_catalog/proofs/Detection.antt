@@ -12,8 +12,8 @@ use Rattle.gl_table.specs.Pumps.{condemned}
 use Rattle.gl_table.specs.Tellings.{Told}
 use Rattle.gl_catalog.specs.Step.{Accepts, Step}
 use Rattle.gl_table.specs.Calls.{WaitSettles, wanted, enters_at, enqueued}
-use Rattle.gl_table.proofs.Queues.{split}
 use Rattle.gl_catalog.proofs.EachStep.{each_step}
+use Rattle.gl_graph.proofs.Look.{split}
 
 -- the way of detection stays
 settled_detect : (k : ℕ) (s s' : State) (t : ℕ) → SettledWithin k s t s' → s'.detect ≡ s.detect

@@ -30,27 +30,18 @@ use Rattle.gl_catalog.specs.Promises.{EscalateLowersNone}
 use Rattle.gl_graph.proofs.Look.{split, cases_of, no, or_elim, or_left, or_right, and_both, both, same_number, number_same, same_node_is, same_node_refl, all_at, child_live}
 use Rattle.gl_graph.proofs.Routes.{join}
 use Rattle.gl_graph.proofs.Moved.{some_at}
-use Rattle.gl_table.proofs.CutSet.{listed, route_short, cut_set_on}
+use Rattle.gl_graph.proofs.RouteLengths.{listed, route_short}
+use Rattle.gl_table.proofs.CutSet.{cut_set_on}
 use Rattle.gl_catalog.proofs.MakeKeeps.{nobody_holds}
 use Rattle.gl_graph.proofs.Unrefused.{not_refused, or_no}
 use Rattle.gl_catalog.proofs.EachStep.{each_step}
-use Rattle.gl_catalog.proofs.Keeps.{effect_refl}
+use Rattle.gl_catalog.proofs.Keeps.{effect_refl, x_more, read_more}
 use Rattle.gl_catalog.proofs.Refusals.{active_is}
-
-x_stays : (a b : Mode) → is_at_least b a ≡ true → same_mode a X ≡ true → same_mode b X ≡ true
-x_stays a b h k = search rules
-
-read_stays : (a b : Mode) → is_at_least b a ≡ true → is_read a ≡ true → is_read b ≡ true
-read_stays a b h k = search rules
-
-sup_left : (a b : Mode) → is_at_least (supremum a b) a ≡ true
-sup_left a b = search rules
+use Rattle.gl_modes.proofs.ModeLemmas.{at_least-refl, supremum-above}
+use Rattle.gl_table.proofs.Edges.{not_is}
 
 sup_reads : (a b : Mode) → is_read b ≡ true → is_read (supremum a b) ≡ true
 sup_reads a b h = search rules
-
-self : (a : Mode) → is_at_least a a ≡ true
-self a = search rules
 
 -- an effective S is a route to a node that is held in S or greater, both ways
 pub s_route : (g : Graph) (held : NodeId → Mode) (k : ℕ) (q : NodeId) → eff_s k g held q ≡ true → (r : NodeId) × (way : List NodeId) × IsRoute g q way r × (is_read (held r) ≡ true)
@@ -134,8 +125,8 @@ module _ (s : State) (law : IsLawful s) (t : ℕ) (n : NodeId) (active : status_
   grew p =
       ap (λ b. is_at_least (if b && same_node p n then wanted s t n (asked_by_escalation s t n) else s.held t p) (s.held t p)) (number_same t t refl)
       ∙ split (same_node p n)
-      (λ e. ap (λ b. is_at_least (if b then wanted s t n (asked_by_escalation s t n) else s.held t p) (s.held t p)) e ∙ ap (λ x. is_at_least (wanted s t n (asked_by_escalation s t n)) (s.held t x)) (same_node_is p n e) ∙ sup_left (s.held t n) (asked_by_escalation s t n))
-      (λ e. ap (λ b. is_at_least (if b then wanted s t n (asked_by_escalation s t n) else s.held t p) (s.held t p)) e ∙ self (s.held t p))
+      (λ e. ap (λ b. is_at_least (if b then wanted s t n (asked_by_escalation s t n) else s.held t p) (s.held t p)) e ∙ ap (λ x. is_at_least (wanted s t n (asked_by_escalation s t n)) (s.held t x)) (same_node_is p n e) ∙ supremum-above (s.held t n) (asked_by_escalation s t n))
+      (λ e. ap (λ b. is_at_least (if b then wanted s t n (asked_by_escalation s t n) else s.held t p) (s.held t p)) e ∙ at_least-refl (s.held t p))
 
   asked_reads : is_read (asked_by_escalation s t n) ≡ true
   asked_reads = by (list_any (λ c. is_child s.graph n c && is_write (s.held t c)) (nodes s.graph))
@@ -156,11 +147,7 @@ module _ (s : State) (law : IsLawful s) (t : ℕ) (n : NodeId) (active : status_
       let a = and_both (is_child s.graph n c && holds (members up c) t && not (holds_child up t c)) (not (same_mode (up.held t c) X) || list_all (λ p. same_mode (up.held t p) X) (parents_of s.graph c)) h in
       let b = and_both (is_child s.graph n c && holds (members up c) t) (not (holds_child up t c)) a.0 in
       let d = and_both (is_child s.graph n c) (holds (members up c) t) b.0 in
-      (d.0, d.1, not_true (holds_child up t c) b.1, a.1)
-    where
-      not_true : (b : Bool) → not b ≡ true → b ≡ false
-      not_true true e = absurd (no e)
-      not_true false e = refl
+      (d.0, d.1, not_is (holds_child up t c) b.1, a.1)
 
   node_stays : gone n ≡ false
   node_stays = split (gone n) (λ e. absurd (law.graph.acyclic n n [] ((covers n e).0, refl))) (λ e. e)
@@ -176,7 +163,7 @@ module _ (s : State) (law : IsLawful s) (t : ℕ) (n : NodeId) (active : status_
       (λ e. e)
 
   x_kept : (p : NodeId) → gone p ≡ false → same_mode (s.held t p) X ≡ true → same_mode (after.held t p) X ≡ true
-  x_kept p e h = ap (λ m. same_mode m X) (held_kept p e) ∙ x_stays (s.held t p) (up.held t p) (grew p) h
+  x_kept p e h = ap (λ m. same_mode m X) (held_kept p e) ∙ x_more (s.held t p) (up.held t p) (grew p) h
 
   -- a cut stays one
   path_x : (q r : NodeId) (way : List NodeId) → IsRoute s.graph q way r → parents_of s.graph r ≡ [] → list_any (λ p. same_mode (s.held t p) X) (q ∷ way) ≡ true → list_any (λ p. same_mode (after.held t p) X) (q ∷ way) ≡ true
@@ -187,7 +174,7 @@ module _ (s : State) (law : IsLawful s) (t : ℕ) (n : NodeId) (active : status_
       or_elim (same_mode (s.held t q) X) (list_any (λ y. same_mode (s.held t y) X) (p ∷ way)) h
       (λ here. split (gone q)
       (λ e.
-      let at_q = x_stays (s.held t q) (up.held t q) (grew q) here in
+      let at_q = x_more (s.held t q) (up.held t q) (grew q) here in
       let above = or_elim (not (same_mode (up.held t q) X)) (list_all (λ y. same_mode (up.held t y) X) (parents_of s.graph q)) (covers q e).3 (λ f. absurd (no (sym (ap not at_q) ∙ f))) (λ a. a) in
       let at_p : same_mode (up.held t p) X ≡ true = all_at (λ y. same_mode (up.held t y) X) (parents_of s.graph q) p route.0 above in
       or_right (same_mode (after.held t q) X) _ (or_left (same_mode (after.held t p) X) _ (ap (λ m. same_mode m X) (held_kept p (above_stays q p e route.0)) ∙ at_p)))
@@ -204,7 +191,7 @@ module _ (s : State) (law : IsLawful s) (t : ℕ) (n : NodeId) (active : status_
       (λ e.
       let way = join s.graph q old.0 n old.1 (n ∷ []) old.2 ((covers old.0 e).0, refl) in
       found n (old.1 ++ n ∷ []) way (ap is_read (held_kept n node_stays) ∙ node_reads))
-      (λ e. found old.0 old.1 old.2 (ap is_read (held_kept old.0 e) ∙ read_stays (s.held t old.0) (up.held t old.0) (grew old.0) old.3))
+      (λ e. found old.0 old.1 old.2 (ap is_read (held_kept old.0 e) ∙ read_more (s.held t old.0) (up.held t old.0) (grew old.0) old.3))
     where
       found : (r : NodeId) (way : List NodeId) → IsRoute s.graph q way r → is_read (after.held t r) ≡ true → eff_s (node_count s.graph) s.graph (after.held t) q ≡ true
       found r way route reads = let few = route_short s.graph law.graph q r way live route in route_s s.graph (after.held t) (node_count s.graph) q r way (omega arith) route reads

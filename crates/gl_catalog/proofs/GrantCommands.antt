@@ -16,11 +16,11 @@ use Rattle.gl_table.specs.Tellings.{told, told_but}
 use Rattle.gl_catalog.specs.Step.{Accepts}
 use Rattle.gl_table.specs.Tellings.{Told}
 use Rattle.gl_table.specs.Calls.{accepted_once, enters_at, wanted, enqueued, released}
-use Rattle.gl_table.proofs.Effects.{split}
 use Rattle.gl_table.proofs.Follows.{Follows, GrantedTo, WaitsWell, lawful_waits, follows_refl, follows_same, follows_trans}
 use Rattle.gl_catalog.proofs.OtherChanges.{other, with_grant_follows, begun_follows, enqueued_follows, settled_follows, wait_settles_follows, released_follows, escalated_follows, unlocked_follows, cancelled_follows}
 use Rattle.gl_catalog.proofs.ToldGrants.{tells, told_of_grant, told_but_of_grant}
 use Rattle.gl_catalog.proofs.Keeps.{Keeps, keeps_follows}
+use Rattle.gl_graph.proofs.Look.{split}
 
 accepted_follows : (s next : State) (t : ℕ) → Follows s next t → Follows s (accepted_once next) t
 accepted_follows s next t f = follows_trans s next (accepted_once next) t f (follows_same next (accepted_once next) t f.well refl refl (λ q. refl) (λ n. refl))

@@ -19,13 +19,12 @@ use Rattle.gl_table.specs.Lawful.{IsLawful}
 use Rattle.gl_table.specs.Effects.{eff_x, EffX}
 use Rattle.gl_table.specs.Intends.{no_parents}
 use Rattle.gl_table.proofs.NoConflict.{no_conflict_law}
-use Rattle.gl_table.proofs.CutSet.{and_both, same_node_true}
-use Rattle.gl_table.proofs.Effects.{split, or_true, ReadOn, read_on_eff, eff_x_any}
+use Rattle.gl_table.proofs.Effects.{or_true, ReadOn, read_on_eff, eff_x_any}
 use Rattle.gl_table.proofs.Transfer.{GraphStep}
 use Rattle.gl_catalog.proofs.Keeps.{read_lives}
-
-no : false ≡ true → ⊥
-no e = true≢false (sym e)
+use Rattle.gl_graph.proofs.Look.{split, and_both, no}
+use Rattle.gl_modes.proofs.NodeLemmas.{same_node-equal}
+use Rattle.gl_table.proofs.Edges.{not_is}
 
 -- under an effective X of u, t has no effective S
 pub quiet_under : (s : State) → IsLawful s → (u t : ℕ) → u ≢ t → (n : NodeId) → EffX s u n → ReadOn s.graph (s.held t) n → ⊥
@@ -90,15 +89,11 @@ shape_found key n h = by (n.key == key)
     by true = h
     by false = refl
 
-not_true : (b : Bool) → not b ≡ true → b ≡ false
-not_true true h = sym h
-not_true false h = refl
-
 born_no_records : (b : ℕ) (g : Graph) (ns : List Node) → no_records ns ≡ true → NoRecordsAbove b g → NoRecordsAbove b (born_nodes g ns)
 born_no_records b g [] plain above = above
 born_no_records b g (n ∷ ns) plain above =
     let both = and_both _ _ plain in
-    born_no_records b (born_node g n) ns both.1 (λ c new. by c (c.birth == g.births + 1) (not_true _ both.0) (above c new))
+    born_no_records b (born_node g n) ns both.1 (λ c new. by c (c.birth == g.births + 1) (not_is _ both.0) (above c new))
   where
     by : (c : NodeId) (e : Bool) → is_record_shape (Some n.shape) ≡ false → is_record_shape (shape_of g c) ≡ false → is_record_shape (shape_in (with_key c.key (if e then Some n else g.at c.birth))) ≡ false
     by c true p a = shape_found c.key n p
@@ -170,15 +165,15 @@ module _ (s s' : State) (law : IsLawful s) (x : NodeId) (f : Option Node → Opt
   changed_births = let e : s'.graph.births ≡ s.graph.births = ap (λ g. g.births) moved in omega arith
 
   pub changed_old : (c : NodeId) → c.birth ≤ s.graph.births → is_live s'.graph c ≡ true → is_live s.graph c ≡ true
-  changed_old c _ on = split (same_node c x) (λ e. ap (is_live s.graph) (same_node_true c x e) ∙ live) (λ e. ap is_some (sym (at_same c e)) ∙ on)
+  changed_old c _ on = split (same_node c x) (λ e. ap (is_live s.graph) (same_node-equal c x e) ∙ live) (λ e. ap is_some (sym (at_same c e)) ∙ on)
 
   -- t has no effective S there, before and after
   pub changed_step : (t : ℕ) → (ReadOn s.graph (s.held t) x → ⊥) → (ReadOn s'.graph (s.held t) x → ⊥) → GraphStep s.graph s'.graph (s.held t) (λ c. same_node c x)
   changed_step t before after = record {
     same = at_same;
-    before = λ c e r. before (subst (ReadOn s.graph (s.held t)) (same_node_true c x e) r);
-    after = λ c e _ r. after (subst (ReadOn s'.graph (s.held t)) (same_node_true c x e) r);
-    after_record = λ c e _ r. after (subst (ReadOn s'.graph (s.held t)) (same_node_true c x e) r);
+    before = λ c e r. before (subst (ReadOn s.graph (s.held t)) (same_node-equal c x e) r);
+    after = λ c e _ r. after (subst (ReadOn s'.graph (s.held t)) (same_node-equal c x e) r);
+    after_record = λ c e _ r. after (subst (ReadOn s'.graph (s.held t)) (same_node-equal c x e) r);
   }
 
 -- the three changes

@@ -23,14 +23,15 @@ use Rattle.gl_table.specs.Tellings.{Told}
 use Rattle.gl_table.specs.Calls.{accepted_once, freed, freed_unless, stays, moved_to, deleted}
 use Rattle.gl_table.specs.State.{with_graph}
 use Rattle.gl_table.specs.Refusals.{holds_x, some_given}
-use Rattle.gl_table.proofs.CutSet.{and_both, same_node_true}
-use Rattle.gl_table.proofs.Effects.{split, ReadOn}
+use Rattle.gl_table.proofs.Effects.{ReadOn}
 use Rattle.gl_table.proofs.Follows.{SameGrants}
 use Rattle.gl_catalog.proofs.OtherChanges.{with_grant_same}
 use Rattle.gl_catalog.proofs.Made.{made, next_id}
 use Rattle.gl_catalog.proofs.Keeps.{Keeps, keeps_graph}
 use Rattle.gl_catalog.proofs.StepTests.{OnParents, given_some, record_has_parents}
 use Rattle.gl_catalog.proofs.GraphChanges.{quiet_under, x_here, x_on_parents, beside_x, is_new, no_records, born_births, born_old, born_step, born_step_records, unborn_shape, KeepsKey, changed_at, changed_here, changed_births, changed_old, changed_step, gone_keeps, rekeyed_keeps, reparented_keeps, rekeyed_parents_in, reparented_parents_in}
+use Rattle.gl_graph.proofs.Look.{split, and_both}
+use Rattle.gl_modes.proofs.NodeLemmas.{same_node-equal}
 
 freed_lives : (n : NodeId) (age : ℕ) (x : Option Txn) → live_by age (freed n x) ≡ live_by age x
 freed_lives n age None = refl
@@ -58,7 +59,7 @@ new_record key keys ps = record { key = key; shape = Rec keys; parents = ps }
 pub deleted_same : (s : State) → IsLawful s → (u t : ℕ) (x : NodeId) → u ≢ t → same_mode (s.held u x) X ≡ true → SameGrants s (deleted s x) t
 deleted_same s law u t x ne holds q =
     let nothing = beside_x (s.held u x) (s.held t x) holds (law.compatible u t x ne) in
-    split (same_node q x) (λ e. ap (λ b. if b then NL else s.held t q) e ∙ sym (ap (s.held t) (same_node_true q x e) ∙ nothing)) (λ e. ap (λ b. if b then NL else s.held t q) e)
+    split (same_node q x) (λ e. ap (λ b. if b then NL else s.held t q) e ∙ sym (ap (s.held t) (same_node-equal q x e) ∙ nothing)) (λ e. ap (λ b. if b then NL else s.held t q) e)
 
 pub moved_same : (s : State) (t : ℕ) (x : NodeId) (ps : List NodeId) (g : Graph) → SameGrants s (moved_to s x ps g) t
 moved_same s t x ps g q = refl

@@ -22,11 +22,13 @@ use Rattle.gl_table.specs.Intends.{no_parents}
 use Rattle.gl_table.specs.Tellings.{Told}
 use Rattle.gl_table.specs.Effects.{is_at_least_effect, SameBelow}
 use Rattle.gl_catalog.specs.Promises.{is_grant_to}
-use Rattle.gl_table.proofs.CutSet.{or_elim, and_both, all_at, same_node_true}
-use Rattle.gl_table.proofs.Effects.{split, or_true, all_from, any_found, any_at, ReadOn, eff_s_route, read_on_eff}
+use Rattle.gl_table.proofs.Effects.{or_true, all_from, any_found, any_at, ReadOn, eff_s_route, read_on_eff}
 use Rattle.gl_table.proofs.Transfer.{GraphStep, reads_carry, effective_same, below_same}
 use Rattle.gl_catalog.proofs.ToldGrants.{tells, tells_grant, any_weaker}
 use Rattle.gl_table.proofs.Follows.{Follows, SameGrants, GrantedTo}
+use Rattle.gl_graph.proofs.Look.{split, or_elim, and_both, all_at}
+use Rattle.gl_modes.proofs.NodeLemmas.{same_node-equal}
+use Rattle.gl_modes.proofs.ModeLemmas.{at_least-refl}
 
 abbrev pub ToldGrant : State → State → TxnId → Told → Type 0
 ToldGrant s s' t told' = (g : GrantedTo s s' t.slot) × (list_any (tells t g.node g.mode) told' ≡ true)
@@ -43,9 +45,6 @@ pub record Keeps (s s' : State) (t : TxnId) (told' : Told) : Type 0 where
   pub reads : (n : NodeId) → EffS s t.slot n → EffS s' t.slot n
   pub below : (n : NodeId) → EffS s t.slot n → SameBelow s.graph s'.graph n
 
-at_least_refl : (m : Mode) → is_at_least m m ≡ true
-at_least_refl m = search rules
-
 pub read_more : (a b : Mode) → is_at_least b a ≡ true → is_read a ≡ true → is_read b ≡ true
 read_more a b h r = search rules
 
@@ -60,11 +59,11 @@ pub grown : (s s' : State) (t : ℕ) → SameGrants s s' t ⊎ GrantedTo s s' t 
 grown s s' t grants q = by grants
   where
     by : SameGrants s s' t ⊎ GrantedTo s s' t → is_at_least (s'.held t q) (s.held t q) ≡ true
-    by (inl same) = ap (λ m. is_at_least m (s.held t q)) (same q) ∙ at_least_refl (s.held t q)
+    by (inl same) = ap (λ m. is_at_least m (s.held t q)) (same q) ∙ at_least-refl (s.held t q)
     by (inr g) =
         split (same_node g.node q)
-        (λ e. let at : g.node ≡ q = same_node_true g.node q e in ap₂ is_at_least (ap (s'.held t) (sym at) ∙ g.at) (ap (s.held t) (sym at)) ∙ g.more)
-        (λ e. ap (λ m. is_at_least m (s.held t q)) (g.elsewhere q e) ∙ at_least_refl (s.held t q))
+        (λ e. let at : g.node ≡ q = same_node-equal g.node q e in ap₂ is_at_least (ap (s'.held t) (sym at) ∙ g.at) (ap (s.held t) (sym at)) ∙ g.more)
+        (λ e. ap (λ m. is_at_least m (s.held t q)) (g.elsewhere q e) ∙ at_least-refl (s.held t q))
 
 -- greater grants over the same graph
 module _ (g : Graph) (h h' : NodeId → Mode) (more : (q : NodeId) → is_at_least (h' q) (h q) ≡ true) where

@@ -20,16 +20,17 @@ use Rattle.gl_table.proofs.Taken.{without_wait-lawful, released-lawful, settled-
 use Rattle.gl_table.proofs.Enqueued.{begun-lawful}
 use Rattle.gl_table.proofs.Escalates.{raised-lawful, shed-lawful}
 use Rattle.gl_table.proofs.Locked.{granted-lawful, locks-lawful, may_lock, unlocked-lawful, free_slot}
-use Rattle.gl_table.proofs.Tests.{skip, unset, not_false, active_after}
+use Rattle.gl_table.proofs.Tests.{active_after}
+use Rattle.gl_graph.proofs.Unrefused.{not_refused, test_fails, not_false}
 
 pub escalated-lawful : (s : State) → IsLawful s → (t : TxnId) (n : NodeId) → refusal_of s (command.Escalate t n) ≡ None → IsLawful (shed (raised s t.slot n) t.slot n)
 escalated-lawful s law t n h =
     let a = active_after s t n (worn s) _ h in
-    let b = skip (where_true (is_record_shape (shape_of s.graph n)) no.BadParents) _ a.2 in
-    let c = skip (not_held s t.slot n) _ b.1 in
-    let d = skip (escalation_blocks s t.slot n) [] c.1 in
+    let b = not_refused (where_true (is_record_shape (shape_of s.graph n)) no.BadParents) _ a.2 in
+    let c = not_refused (not_held s t.slot n) _ b.1 in
+    let d = not_refused (escalation_blocks s t.slot n) [] c.1 in
     shed-lawful (raised s t.slot n)
-    (raised-lawful s law t.slot n a.0 a.1 (unset _ _ b.0) (not_false _ (unset _ _ c.0)) (not_false _ (unset _ _ d.0))) t.slot n a.0
+    (raised-lawful s law t.slot n a.0 a.1 (test_fails _ _ b.0) (not_false _ (test_fails _ _ c.0)) (not_false _ (test_fails _ _ d.0))) t.slot n a.0
 
 pub begin_keeps : KeepsLaw command.Begin
 begin_keeps s s' a told law h acc =
@@ -42,13 +43,13 @@ lock_keeps t n m s s' a told law h acc = locks-lawful s s' law t n m (may_lock s
 pub try_keeps : (t : TxnId) (n : NodeId) (m : Mode) → KeepsLaw (command.Try t n m)
 try_keeps t n m s s' a told law h acc =
     let may = may_lock s t n m (worn s) (would_block s t.slot n m ∷ []) h in
-    subst IsLawful (sym acc.2) (granted-lawful s law t n m may.0 (not_false _ (unset _ _ (skip (would_block s t.slot n m) [] may.1).0)))
+    subst IsLawful (sym acc.2) (granted-lawful s law t n m may.0 (not_false _ (test_fails _ _ (not_refused (would_block s t.slot n m) [] may.1).0)))
 
 pub unlock_keeps : (t : TxnId) (n : NodeId) → KeepsLaw (command.Unlock t n)
 unlock_keeps t n s s' a told law h acc =
     let a = active_after s t n (worn s) _ h in
-    let b = skip (not_held s t.slot n) _ a.2 in
-    subst IsLawful (sym acc.2) (unlocked-lawful s law t.slot n a.0 (skip (held_child s t.slot n) [] b.1).0)
+    let b = not_refused (not_held s t.slot n) _ a.2 in
+    subst IsLawful (sym acc.2) (unlocked-lawful s law t.slot n a.0 (not_refused (held_child s t.slot n) [] b.1).0)
 
 pub escalate_keeps : (t : TxnId) (n : NodeId) → KeepsLaw (command.Escalate t n)
 escalate_keeps t n s s' a told law h acc = subst IsLawful (sym acc.2) (escalated-lawful s law t n h)

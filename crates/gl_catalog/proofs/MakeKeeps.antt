@@ -31,7 +31,8 @@ use Rattle.gl_graph.proofs.NewIndex.{index_lawful}
 use Rattle.gl_table.proofs.GrantKeeps.{nl_is, with_grant-lawful}
 use Rattle.gl_graph.proofs.Unrefused.{not_refused, test_fails, not_false, enough_room, parents_unrefused, index_unrefused}
 use Rattle.gl_catalog.proofs.Made.{made, next_id, made_is, indexed_is, inserted_is}
-use Rattle.gl_catalog.proofs.Refusals.{active_is, all_ix}
+use Rattle.gl_catalog.proofs.Refusals.{active_is}
+use Rattle.gl_table.proofs.Tests.{all_ix}
 
 pub any_of_filter : (p : Waiter → Bool) (xs ys : List Waiter) (y : Waiter) → filter p xs ≡ y ∷ ys → list_any p xs ≡ true
 any_of_filter p [] ys y e = cc

@@ -20,14 +20,13 @@ use Rattle.gl_table.specs.Intends.{intends, intends_over, is_write, no_parents, 
 use Rattle.gl_table.specs.Lawful.{IsLawful}
 use Rattle.gl_table.specs.Calls.{stays, moved_to}
 use Rattle.gl_graph.proofs.Look.{split, no, and_both, or_elim, same_number, number_same, other_number, same_node_is, other_node}
-use Rattle.gl_table.proofs.NoConflict.{x_blocks, any_all, holds_one}
-use Rattle.gl_table.proofs.Fronts.{range_all}
+use Rattle.gl_table.proofs.NoConflict.{x_blocks, any_all, holds_one, x_is}
+use Rattle.gl_header.proofs.Ranges.{range-each}
 use Rattle.gl_table.proofs.GrantKeeps.{txn_there, apart}
 use Rattle.gl_catalog.proofs.Refusals.{HoldsNode, HoldsParents}
-use Rattle.gl_table.proofs.Waiting.{filter_yes, any_left, one_stays, one_left, waits_for_mode, unless_some, unless_age, unless_waits, waits_unless}
-
-x_leaves : (a b : Mode) → same_mode a X ≡ true → are_compatible a b ≡ true → b ≡ NL
-x_leaves a b h k = search rules
+use Rattle.gl_table.proofs.Waiting.{filter_yes, any_left, one_stays, one_left, unless_some, unless_age, unless_waits, waits_unless}
+use Rattle.gl_catalog.proofs.GraphChanges.{beside_x}
+use Rattle.gl_table.proofs.Less.{waiting_is}
 
 x_above : (a b : Mode) → same_mode b X ≡ true → are_compatible a b ≡ true → a ≡ NL
 x_above a b h k = search rules
@@ -35,15 +34,12 @@ x_above a b h k = search rules
 x_writes : (a : Mode) → same_mode a X ≡ true → is_write a ≡ true
 x_writes a h = search rules
 
-x_at_least : (a : Mode) → same_mode a X ≡ true → is_at_least a IX ≡ true
-x_at_least a h = search rules
-
 x_at_least_is : (a : Mode) → same_mode a X ≡ true → is_at_least a IS ≡ true
 x_at_least_is a h = search rules
 
 all_x_ix : (held : NodeId → Mode) (ps : List NodeId) → list_all (λ p. same_mode (held p) X) ps ≡ true → list_all (λ p. is_at_least (held p) IX) ps ≡ true
 all_x_ix held [] h = refl
-all_x_ix held (p ∷ ps) h = let t = and_both _ _ h in ap₂ (λ a b. a && b) (x_at_least (held p) t.0) (all_x_ix held ps t.1)
+all_x_ix held (p ∷ ps) h = let t = and_both _ _ h in ap₂ (λ a b. a && b) (x_is (held p) t.0) (all_x_ix held ps t.1)
 
 -- who writes over IX on all parents meets the rule; so does everyone over X on all of some
 write_intends : (held : NodeId → Mode) (ps : List NodeId) (m : Mode) → is_write m ≡ true → list_all (λ p. is_at_least (held p) IX) ps ≡ true → intends_over held ps m ≡ true
@@ -84,7 +80,7 @@ module _ (s : State) (law : IsLawful s) (t : ℕ) (n : NodeId) (ps : List NodeId
       (λ e.
       let ne : t ≢ u = λ same. other_number u t e (sym same) in
       absurd (⊎_elim
-      (λ (a : HoldsNode s t n ps). true≢false (sym h ∙ ap (λ m. not (same_mode m NL)) (x_leaves (s.held t n) (s.held u n) a.x (law.compatible t u n ne))))
+      (λ (a : HoldsNode s t n ps). true≢false (sym h ∙ ap (λ m. not (same_mode m NL)) (beside_x (s.held t n) (s.held u n) a.x (law.compatible t u n ne))))
       (λ (b : HoldsParents s t n ps). x_excludes (s.held t) (s.held u) (parents_of s.graph n) (s.held u n) (λ p. law.compatible t u p ne) b.some_old b.old (law.grants_intend u n h))
       right))
 
@@ -141,7 +137,7 @@ module _ (s : State) (law : IsLawful s) (t : ℕ) (n : NodeId) (ps : List NodeId
   first_waits : (q : NodeId) (w : Waiter) (rest : List Waiter) → same_node q n ≡ true → after.queue q ≡ w ∷ rest → fits s.most (members s q) w.0 w.1 ≡ false
   first_waits q w rest same e =
       let first : is_among_waiters w.0 (after.queue q) ≡ true = ap (is_among_waiters w.0) e ∙ ap (λ b. b || is_among_waiters w.0 rest) (number_same w.0 w.0 refl) in
-      let st = waits_for_mode (status_of after w.0) q (waits_are_after w.0 q first) in
+      let st = waiting_is (status_of after w.0) q (waits_are_after w.0 q first) in
       let one : w ∷ filter (is_waiter w.0) rest ≡ (w.0, st.0) ∷ [] = sym (filter_yes (is_waiter w.0) w rest (number_same w.0 w.0 refl)) ∙ ap (filter (is_waiter w.0)) (sym e) ∙ one_wait_after w.0 q st.0 st.1 in
       let mode : w.1 ≡ st.0 = mode_of w (filter (is_waiter w.0) rest) (w.0, st.0) one in
       let old = waited w.0 q st.0 st.1 in
@@ -149,7 +145,7 @@ module _ (s : State) (law : IsLawful s) (t : ℕ) (n : NodeId) (ps : List NodeId
       split (fits s.most (members s q) w.0 w.1)
       (λ fit. absurd (⊎_elim
       (λ (a : HoldsNode s t n ps).
-      let at : ((t == w.0) || are_compatible w.1 (s.held t q)) ≡ true = range_all (λ u. (u == w.0) || are_compatible w.1 (s.held u q)) 0 s.most fit t (omega arith) (let low = mover_below a in omega arith) in
+      let at : ((t == w.0) || are_compatible w.1 (s.held t q)) ≡ true = range-each (λ u. (u == w.0) || are_compatible w.1 (s.held u q)) 0 s.most fit t (omega arith) (let low = mover_below a in omega arith) in
       let x : same_mode (s.held t q) X ≡ true = ap (λ y. same_mode (s.held t y) X) (same_node_is q n same) ∙ a.x in
       or_elim (t == w.0) (are_compatible w.1 (s.held t q)) at (λ is. ne (same_number t w.0 is)) (λ c. (law.waits_intend w.0 q st.0 old.0).1 (sym mode ∙ x_above w.1 (s.held t q) x c)))
       (λ (b : HoldsParents s t n ps). x_excludes (s.held t) (s.held w.0) ps st.0 (λ p. law.compatible t w.0 p ne) b.some_new b.new (stayed w.0 q st.0 st.1 same))

@@ -22,13 +22,8 @@ use Rattle.gl_graph.proofs.Look.{split, or_left, or_right, and_both, both, same_
 use Rattle.gl_catalog.proofs.EachStep.{each_step}
 use Rattle.gl_catalog.proofs.Refusals.{HoldsNode, HoldsParents}
 use Rattle.gl_catalog.proofs.MoveCommands.{Moves, others_parents, new_parents, count_same, moved_node, move_moves, rekeyed_to, rekey_moves}
-
-pub x_reads : (a : Mode) → same_mode a X ≡ true → is_read a ≡ true
-x_reads a h = search rules
-
-pub x_held : (k : ℕ) (g : Graph) (held : NodeId → Mode) (n : NodeId) → same_mode (held n) X ≡ true → eff_x k g held n ≡ true
-x_held zero g held n h = h
-x_held (suc k) g held n h = or_left (same_mode (held n) X) _ h
+use Rattle.gl_table.proofs.Effects.{x_reads}
+use Rattle.gl_catalog.proofs.GraphChanges.{held_x}
 
 s_held : (k : ℕ) (g : Graph) (held : NodeId → Mode) (n : NodeId) → is_read (held n) ≡ true → eff_s k g held n ≡ true
 s_held zero g held n h = h
@@ -36,7 +31,7 @@ s_held (suc k) g held n h = or_left (is_read (held n)) _ h
 
 x_over : (k : ℕ) (g : Graph) (held : NodeId → Mode) (ps : List NodeId) → list_all (λ p. same_mode (held p) X) ps ≡ true → list_all (eff_x k g held) ps ≡ true
 x_over k g held [] h = refl
-x_over k g held (p ∷ ps) h = let t = and_both _ _ h in both (eff_x k g held p) (list_all (eff_x k g held) ps) (x_held k g held p t.0) (x_over k g held ps t.1)
+x_over k g held (p ∷ ps) h = let t = and_both _ _ h in both (eff_x k g held p) (list_all (eff_x k g held) ps) (held_x k g held p t.0) (x_over k g held ps t.1)
 
 s_over : (k : ℕ) (g : Graph) (held : NodeId → Mode) (ps : List NodeId) → no_parents ps ≡ false → list_all (λ p. same_mode (held p) X) ps ≡ true → list_any (eff_s k g held) ps ≡ true
 s_over k g held [] some h = absurd (true≢false some)
@@ -68,7 +63,7 @@ module _ (s : State) (t : ℕ) (n : NodeId) (was is : Node) (g' : Graph) (m : Mo
   x_kept : (k : ℕ) → eff_x k g' (s.held t) n ≡ eff_x k s.graph (s.held t) n
   x_kept zero = refl
   x_kept (suc k) =
-      ⊎_elim (λ (a : HoldsNode s t n is.parents). x_held (suc k) g' (s.held t) n a.x ∙ sym (x_held (suc k) s.graph (s.held t) n a.x))
+      ⊎_elim (λ (a : HoldsNode s t n is.parents). held_x (suc k) g' (s.held t) n a.x ∙ sym (held_x (suc k) s.graph (s.held t) n a.x))
       (λ (b : HoldsParents s t n is.parents). x_by_parents k g' (s.held t) n is.parents (new_parents s t n was is g' m) b.some_new b.new ∙ sym (x_by_parents k s.graph (s.held t) n (parents_of s.graph n) refl b.some_old b.old)) m.right
 
   s_kept : (k : ℕ) → eff_s k g' (s.held t) n ≡ eff_s k s.graph (s.held t) n

@@ -14,11 +14,11 @@ use Rattle.gl_table.specs.State.{State, members, status_in, restatus, with_grant
 use Rattle.gl_table.specs.Waiting.{waits_for}
 use Rattle.gl_table.specs.Lawful.{IsLawful}
 use Rattle.gl_table.specs.Calls.{enqueued, begun}
-use Rattle.gl_table.proofs.GrantKeeps.{same_node_true}
-use Rattle.gl_table.proofs.Queues.{ahead, ahead_is, ahead_first, split, clash, or_elim, or_left, or_right, among_append}
+use Rattle.gl_table.proofs.Queues.{ahead, ahead_is, ahead_first, clash, among_append}
 use Rattle.gl_table.proofs.QueueEdits.{HoldersFirst, chosen_is, slots_differ, ahead_within}
-use Rattle.gl_table.proofs.Taken.{slots_apart}
 use Rattle.gl_table.proofs.Edges.{step_is, is_step, keep_ahead, among_kept}
+use Rattle.gl_graph.proofs.Look.{split, or_elim, or_left, or_right, number_other}
+use Rattle.gl_modes.proofs.NodeLemmas.{same_node-equal}
 
 -- of two that wait, one stands ahead
 one_ahead : (x y : ℕ) (q : List Waiter) → x ≢ y → is_among_waiters x q ≡ true → is_among_waiters y q ≡ true → (ahead q x y ≡ true) ⊎ (ahead q y x ≡ true)
@@ -100,14 +100,14 @@ enqueued_steps s law t n m x y h nx ny =
     let st = step_is (enqueued s t n m) x y h in
     is_step s x y st.0 st.1 (record {
       differ = st.2.differ;
-      waits = ap (λ b. status_in (if b then restatus (Waiting n m) (s.txns t) else s.txns x)) (sym (slots_apart x t nx)) ∙ st.2.waits;
+      waits = ap (λ b. status_in (if b then restatus (Waiting n m) (s.txns t) else s.txns x)) (sym (number_other x t nx)) ∙ st.2.waits;
       blocked = or_elim _ _ st.2.blocked (λ b. or_left _ _ b) (λ b. or_right _ _ (order st.0 (apart_by x y st.2.differ) b));
     })
   where
     order : (q : NodeId) → x ≢ y → is_ahead ((enqueued s t n m).queue q) x y ≡ true → is_ahead (s.queue q) x y ≡ true
     order q ne k =
         split (same_node q n)
-        (λ e. let at = same_node_true q n e in
+        (λ e. let at = same_node-equal q n e in
         ap (λ p. is_ahead (s.queue p) x y) at ∙ ahead_is (s.queue n) x y
         ∙ placed_ahead (members s n) (s.queue n) t m x y (λ a b ha l. law.holders_first a b n ha (ahead_is (s.queue n) a b ∙ l)) ne nx ny
         (sym (ahead_is (placed (members s n) (s.queue n) t m) x y) ∙ ap (λ b. is_ahead (if b then placed (members s n) (s.queue n) t m else s.queue q) x y) (sym e) ∙ k))
@@ -120,7 +120,7 @@ granted_steps s t n m x y h nx ny =
     is_step s x y st.0 st.1 (record {
       differ = st.2.differ;
       waits = st.2.waits;
-      blocked = or_elim _ _ st.2.blocked (λ b. or_left _ _ (ap (λ k. not (are_compatible st.1 k)) (ap (λ b. if b && same_node st.0 n then m else s.held y st.0) (sym (slots_apart y t ny))) ∙ b)) (λ b. or_right _ _ b);
+      blocked = or_elim _ _ st.2.blocked (λ b. or_left _ _ (ap (λ k. not (are_compatible st.1 k)) (ap (λ b. if b && same_node st.0 n then m else s.held y st.0) (sym (number_other y t ny))) ∙ b)) (λ b. or_right _ _ b);
     })
 
 -- a new transaction t
@@ -129,6 +129,6 @@ begun_steps s t x y h nx ny =
     let st = step_is (begun s t) x y h in
     is_step s x y st.0 st.1 (record {
       differ = st.2.differ;
-      waits = ap (λ b. status_in (if b then Some (record { age = s.begins + 1; status = Active }) else s.txns x)) (sym (slots_apart x t nx)) ∙ st.2.waits;
+      waits = ap (λ b. status_in (if b then Some (record { age = s.begins + 1; status = Active }) else s.txns x)) (sym (number_other x t nx)) ∙ st.2.waits;
       blocked = st.2.blocked;
     })

@@ -33,16 +33,17 @@ use Rattle.gl_graph.specs.Refusals.{where_true}
 use Rattle.gl_table.specs.Refusals.{not_held, held_child, escalation_blocks}
 use Rattle.gl_table.specs.Waiting.{HasNoCycle}
 use Rattle.gl_table.proofs.GrantKeeps.{apart}
-use Rattle.gl_table.proofs.Queues.{split}
 use Rattle.gl_table.proofs.Less.{IsLess, less-lawful}
 use Rattle.gl_table.proofs.Taken.{IsQuiet, at_all, without_wait-less, released-less, condemned-lawful}
 use Rattle.gl_table.proofs.Escalates.{raised-lawful, shed-less}
-use Rattle.gl_table.proofs.Tests.{skip, unset, not_false, active_after}
+use Rattle.gl_table.proofs.Tests.{active_after}
 use Rattle.gl_table.proofs.Locked.{MayLock, may_lock, waiting-lawful, unlocked-less}
 use Rattle.gl_waits.proofs.WalkLemmas.{no_step-no_cycle}
 use Rattle.gl_waits.proofs.CycleLemmas.{less-no_cycle, at_one-no_cycle}
 use Rattle.gl_table.proofs.Edges.{idle_no_step, less_steps, pumped_steps}
 use Rattle.gl_catalog.proofs.NewEdges.{enqueued_steps, granted_steps, begun_steps}
+use Rattle.gl_graph.proofs.Look.{split}
+use Rattle.gl_graph.proofs.Unrefused.{not_refused, test_fails, not_false}
 
 -- taking, and then granting from the fronts, adds no step
 pub taken_steps : (s : State) → IsLawful s → (held : ℕ → NodeId → Mode) (queue : NodeId → List Waiter) (txns : ℕ → Option Txn) (chosen : NodeId → Bool) → IsLess s held queue txns chosen
@@ -117,9 +118,9 @@ shed-no_cycle s law t n active none = taken-no_cycle s law (λ u c. if (u == t) 
 pub escalated-no_cycle : (s : State) → IsLawful s → (t : TxnId) (n : NodeId) → refusal_of s (command.Escalate t n) ≡ None → HasNoCycle s → HasNoCycle (shed (raised s t.slot n) t.slot n)
 escalated-no_cycle s law t n h none =
     let a = active_after s t n (worn s) _ h in
-    let b = skip (where_true (is_record_shape (shape_of s.graph n)) no.BadParents) _ a.2 in
-    let c = skip (not_held s t.slot n) _ b.1 in
-    let d = skip (escalation_blocks s t.slot n) [] c.1 in
+    let b = not_refused (where_true (is_record_shape (shape_of s.graph n)) no.BadParents) _ a.2 in
+    let c = not_refused (not_held s t.slot n) _ b.1 in
+    let d = not_refused (escalation_blocks s t.slot n) [] c.1 in
     shed-no_cycle (raised s t.slot n)
-    (raised-lawful s law t.slot n a.0 a.1 (unset _ _ b.0) (not_false _ (unset _ _ c.0)) (not_false _ (unset _ _ d.0))) t.slot n a.0
+    (raised-lawful s law t.slot n a.0 a.1 (test_fails _ _ b.0) (not_false _ (test_fails _ _ c.0)) (not_false _ (test_fails _ _ d.0))) t.slot n a.0
     (granted-no_cycle s t.slot n (wanted s t.slot n (asked_by_escalation s t.slot n)) a.0 none)

@@ -16,12 +16,13 @@ use Rattle.gl_graph.specs.Refusals.{first_refusal}
 use Rattle.gl_catalog.specs.Tests.{tests_of, refusal_of}
 use Rattle.gl_table.specs.Refusals.{no_txn}
 use Rattle.gl_catalog.specs.Promises.{names, same_txn}
-use Rattle.gl_table.proofs.CutSet.{and_both}
 use Rattle.gl_catalog.proofs.Keeps.{Keeps}
 use Rattle.gl_catalog.proofs.Made.{made_is, indexed_is, inserted_is}
-use Rattle.gl_catalog.proofs.StepTests.{where_no, not_no, txn_lives, nodes_live, differ, exclusive}
+use Rattle.gl_catalog.proofs.StepTests.{txn_lives, nodes_live, differ, exclusive}
 use Rattle.gl_catalog.proofs.GrantCommands.{lock_keeps, try_keeps, unlock_keeps, escalate_keeps, cancel_keeps, release_keeps, settle_keeps, begin_keeps, same_keeps}
 use Rattle.gl_catalog.proofs.GraphCommands.{inner_keeps, file_keeps, index_keeps, insert_keeps, delete_keeps, rekey_keeps, move_keeps}
+use Rattle.gl_graph.proofs.Look.{and_both}
+use Rattle.gl_graph.proofs.Unrefused.{test_fails, not_false}
 
 -- each of these passed
 abbrev pub AllNone : List (Option Refusal) → Type 0
@@ -63,10 +64,10 @@ module _ (s : State) (law : IsLawful s) (t : TxnId) (alive : lives s t ≡ true)
       finish ans.0 ans.2 (λ l. insert_keeps s law t alive ans.0 l _ u.slot ans.1.0.key keys.now _ (other_slot u apart passed.1.1.0) (inserted_is s ans.0 u.slot ans.1.1 ans.1.4))
   accepted (command.Delete u r) apart passed ans =
       finish ans.0 ans.2 (λ l. delete_keeps s law t alive ans.0 l _ u.slot r (other_slot u apart passed.1.0) (and_both _ _ (nodes_live s (r ∷ []) passed.1.1.1.1.0)).0
-      (not_no _ (where_no _ no.NeedExclusive passed.1.1.1.1.1.1.0)) ans.1.2)
+      (not_false _ (test_fails _ no.NeedExclusive passed.1.1.1.1.1.1.0)) ans.1.2)
   accepted (command.Rekey u r i key) apart passed ans =
       finish ans.0 ans.2 (λ l. rekey_keeps s law t alive ans.0 l _ u.slot r i key (other_slot u apart passed.1.0) (and_both _ _ (nodes_live s (r ∷ i ∷ []) passed.1.1.1.1.0)).0
-      (and_both _ _ (not_no _ (where_no _ no.BadParents passed.1.1.1.1.1.0))).0 (exclusive s u.slot r true _ passed.1.1.1.1.1.1.0) ans.1.2)
+      (and_both _ _ (not_false _ (test_fails _ no.BadParents passed.1.1.1.1.1.0))).0 (exclusive s u.slot r true _ passed.1.1.1.1.1.1.0) ans.1.2)
   accepted (command.Move u n ps) apart passed ans =
       finish ans.0 ans.2 (λ l. move_keeps s law t alive ans.0 l _ u.slot n ps.now (other_slot u apart passed.1.0) (and_both _ _ (nodes_live s (n ∷ ps.now) passed.1.1.1.1.0)).0
       (exclusive s u.slot n _ ps.now passed.1.1.1.1.1.1.0) ans.1.2)

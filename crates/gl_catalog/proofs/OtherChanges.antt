@@ -18,16 +18,13 @@ use Rattle.gl_table.specs.Covered.{is_covered}
 use Rattle.gl_table.specs.Waiting.{blocks, waits_for, SettledWithin, Settled}
 use Rattle.gl_waits.specs.Waits.{IsWalk}
 use Rattle.gl_table.specs.Calls.{begun, enqueued, released, shed, raised, WaitSettles}
-use Rattle.gl_table.proofs.CutSet.{and_both, same_node_true}
-use Rattle.gl_table.proofs.Effects.{split}
 use Rattle.gl_table.proofs.Waiters.{waits_of, without_other, without_self, placed_other}
 use Rattle.gl_table.proofs.Follows.{WaitsWell, Follows, SameGrants, follows_trans, follows_same, absent_well, pumped_follows}
+use Rattle.gl_graph.proofs.Look.{split, and_both, same_number}
+use Rattle.gl_modes.proofs.NodeLemmas.{same_node-equal}
 
 pub other : (u t : ℕ) → u ≢ t → (t == u) ≡ false
 other u t ne = grind (arith, nat_tests)
-
-same_slot : (u t : ℕ) → (u == t) ≡ true → u ≡ t
-same_slot u t h = grind (arith, nat_tests)
 
 -- the grants of t, where another's are changed
 pub with_grant_same : (s : State) (u t : ℕ) (n : NodeId) (m : Mode) → u ≢ t → SameGrants s (with_grant s u n m) t
@@ -46,7 +43,7 @@ enqueued_follows s u t n m ne well =
     (λ q. by q (same_node q n) refl)
   where
     by : (q : NodeId) (b : Bool) → same_node q n ≡ b → waits_of t (if b then placed (members s n) (s.queue n) u m else s.queue q) ≡ waits_of t (s.queue q)
-    by q true e = placed_other (members s n) u t (s.queue n) m ne ∙ ap (λ x. waits_of t (s.queue x)) (sym (same_node_true q n e))
+    by q true e = placed_other (members s n) u t (s.queue n) m ne ∙ ap (λ x. waits_of t (s.queue x)) (sym (same_node-equal q n e))
     by q false e = refl
 
 pub without_wait_follows : (s : State) (u t : ℕ) (st : Status) → u ≢ t → WaitsWell s t → Follows s (without_wait s u st) t
@@ -93,7 +90,7 @@ Waits s v = (n : NodeId) × (m : Mode) × (status_of s v ≡ Some (Waiting n m))
 pub condemned_follows : (s : State) (v t : ℕ) → Waits s v → WaitsWell s t → Follows s (condemned s v) t
 condemned_follows s v t waits well =
     split (v == t)
-    (λ e. let same = same_slot v t e in
+    (λ e. let same = same_number v t e in
     let f : Follows s (without_wait s v Condemned) t = subst (λ x. Follows s (without_wait s x Condemned) t) (sym same) (condemned_self s t waits.0 waits.1 (ap (status_of s) (sym same) ∙ waits.2)) in
     follows_trans s (without_wait s v Condemned) (condemned s v) t f (pumped_follows (without_wait s v Condemned) (is_waiting_at s v) t f.well))
     (λ e. let f = without_wait_follows s v t Condemned (differ e) well in

@@ -19,12 +19,13 @@ use Rattle.gl_catalog.specs.Step.{Step, Run}
 use Rattle.gl_table.specs.Tellings.{Told}
 use Rattle.gl_table.specs.Effects.{is_at_least_effect, SameBelow}
 use Rattle.gl_catalog.specs.Promises.{names, is_grant_to, told_granted, OthersKeepEffects, OthersKeepBelow, StepsKeepLaw}
-use Rattle.gl_table.proofs.CutSet.{or_no}
 use Rattle.gl_catalog.proofs.ToldGrants.{tells, tells_grant, any_weaker}
 use Rattle.gl_table.proofs.Follows.{SameGrants, GrantedTo}
 use Rattle.gl_catalog.proofs.Keeps.{Keeps, ToldGrant, grown, effect_refl, below_itself}
 use Rattle.gl_catalog.proofs.OneStep.{step_keeps}
 use Rattle.gl_catalog.proofs.StepsKeepLaw.{steps_keep_law}
+use Rattle.gl_modes.proofs.ModeLemmas.{at_least-refl, at_least-transitive}
+use Rattle.gl_graph.proofs.Unrefused.{or_no}
 
 -- the same of many steps
 pub record KeepsOver (s s' : State) (t : TxnId) (granted : Bool) : Type 0 where
@@ -37,12 +38,6 @@ pub record KeepsOver (s s' : State) (t : TxnId) (granted : Bool) : Type 0 where
   pub greater : (n : NodeId) → is_live s.graph n ≡ true → is_live s'.graph n ≡ true → is_at_least_effect (effective s' t.slot n) (effective s t.slot n) ≡ true
   pub reads : (n : NodeId) → EffS s t.slot n → EffS s' t.slot n
   pub below : (n : NodeId) → EffS s t.slot n → SameBelow s.graph s'.graph n
-
-at_least_refl : (m : Mode) → is_at_least m m ≡ true
-at_least_refl m = search rules
-
-at_least_trans : (a b c : Mode) → is_at_least a b ≡ true → is_at_least b c ≡ true → is_at_least a c ≡ true
-at_least_trans a b c h k = search rules
 
 effect_trans : (a b c : Effect) → is_at_least_effect a b ≡ true → is_at_least_effect b c ≡ true → is_at_least_effect a c ≡ true
 effect_trans a b c h k = search rules
@@ -64,7 +59,7 @@ over_none : (s s' : State) (t : TxnId) → lives s t ≡ true → s' ≡ s → K
 over_none s s' t alive e = subst (λ x. KeepsOver s x t false) (sym e) (record {
   alive = alive;
   held_same = λ _ q. refl;
-  held_more = λ n. at_least_refl (s.held t.slot n);
+  held_more = λ n. at_least-refl (s.held t.slot n);
   births = omega arith;
   old = λ n _ live. live;
   same = λ _ n _ _. refl;
@@ -100,7 +95,7 @@ pub over_trans : (s mid s' : State) (t : TxnId) (g h : Bool) → IsLawful s → 
 over_trans s mid s' t g h law a b = record {
   alive = b.alive;
   held_same = λ quiet q. let q' = or_no g h quiet in b.held_same q'.1 q ∙ a.held_same q'.0 q;
-  held_more = λ n. at_least_trans (s'.held t.slot n) (mid.held t.slot n) (s.held t.slot n) (b.held_more n) (a.held_more n);
+  held_more = λ n. at_least-transitive (s'.held t.slot n) (mid.held t.slot n) (s.held t.slot n) (b.held_more n) (a.held_more n);
   births = let first = a.births in let second = b.births in omega arith;
   old = λ n le live. a.old n le (b.old n (let first = a.births in omega arith) live);
   same = λ quiet n live live'. let q' = or_no g h quiet in b.same q'.1 n (between n live live') live' ∙ a.same q'.0 n live (between n live live');

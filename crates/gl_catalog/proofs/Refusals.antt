@@ -24,6 +24,7 @@ use Rattle.gl_graph.specs.Refusals.{first_refusal, where_true, bad_parents, too_
 use Rattle.gl_table.specs.Refusals.{no_txn, waiting_test, condemned_test, first_not_ix, need_exclusive, need_new_parents, holds_x, holds_x_on_all, some_given}
 use Rattle.gl_graph.proofs.Look.{split, no, none_some, and_both, both}
 use Rattle.gl_graph.proofs.Unrefused.{test_fails, not_false}
+use Rattle.gl_table.proofs.Tests.{all_ix}
 
 pub active_is : (s : State) (t : TxnId) → no_txn s t ≡ None → waiting_test (status_of s t.slot) ≡ None → condemned_test (status_of s t.slot) ≡ None → status_of s t.slot ≡ Some Active
 active_is s t h w c = by (s.txns t.slot) (not_false _ (test_fails (not (lives s t)) _ h)) w c
@@ -36,12 +37,6 @@ active_is s t h w c = by (s.txns t.slot) (not_false _ (test_fails (not (lives s 
         status Active w'' c'' = refl
         status (Waiting n m) w'' c'' = absurd (none_some (sym w''))
         status Condemned w'' c'' = absurd (none_some (sym c''))
-
-pub all_ix : (held : NodeId → Mode) (ps : List NodeId) → first_not_ix held ps ≡ None → list_all (λ p. is_at_least (held p) IX) ps ≡ true
-all_ix held [] h = refl
-all_ix held (p ∷ ps) h =
-    split (is_at_least (held p) IX) (λ e. both _ _ e (all_ix held ps (sym (ap (λ b. if b then first_not_ix held ps else Some (refusal.NeedParents p)) e) ∙ h)))
-    (λ e. absurd (none_some (sym (sym (ap (λ b. if b then first_not_ix held ps else Some (refusal.NeedParents p)) e) ∙ h))))
 
 pub some_parents : (ps : List NodeId) → some_given ps ≡ true → no_parents ps ≡ false
 some_parents [] h = absurd (no h)

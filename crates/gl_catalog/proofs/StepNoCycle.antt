@@ -30,8 +30,8 @@ use Rattle.gl_table.specs.Waiting.{HasNoCycle, EmptyHasNoCycle}
 use Rattle.gl_catalog.specs.Promises.{RunsKeepNoCycle}
 use Rattle.gl_graph.specs.Refusals.{worn_births}
 use Rattle.gl_graph.proofs.Unrefused.{not_refused}
-use Rattle.gl_table.proofs.Queues.{ahead, ahead_is, ahead_first, clash, none_filtered, or_elim, or_left, or_right}
-use Rattle.gl_table.proofs.Tests.{active_after, skip}
+use Rattle.gl_table.proofs.Queues.{ahead, ahead_is, ahead_first, clash, none_filtered}
+use Rattle.gl_table.proofs.Tests.{active_after}
 use Rattle.gl_waits.proofs.WalkLemmas.{no_step-no_cycle}
 use Rattle.gl_waits.proofs.CycleLemmas.{less-no_cycle}
 use Rattle.gl_table.proofs.Edges.{step_is, is_step, idle_no_step}
@@ -40,25 +40,13 @@ use Rattle.gl_catalog.proofs.NoCycle.{begun-no_cycle, granted-no_cycle, locks-no
 use Rattle.gl_catalog.proofs.EachStep.{each_step}
 use Rattle.gl_catalog.proofs.Detection.{steps_keep_detect}
 use Rattle.gl_catalog.proofs.StepsKeepLaw.{steps_keep_law}
-
--- who waits elsewhere still waits
-freed_waits : (r n : NodeId) (m : Mode) (x : Option Txn) → status_in (freed r x) ≡ Some (Waiting n m) → (status_in x ≡ Some (Waiting n m)) × (same_node n r ≡ false)
-freed_waits r n m None h = absurd (cc)
-freed_waits r n m (Some x) h = by x.status h
-  where
-    by : (st : Status) → Some (none_but st r) ≡ Some (Waiting n m) → (Some st ≡ Some (Waiting n m)) × (same_node n r ≡ false)
-    by Active k = absurd (cc)
-    by Condemned k = absurd (cc)
-    by (Waiting q w) k = at (same_node q r) refl k
-      where
-        at : (b : Bool) → same_node q r ≡ b → Some (if b then Active else Waiting q w) ≡ Some (Waiting n m) → (Some (Waiting q w) ≡ Some (Waiting n m)) × (same_node n r ≡ false)
-        at true e l = absurd (cc)
-        at false e l = let is : q ≡ n = cc in (l, ap (λ p. same_node p r) (sym is) ∙ e)
+use Rattle.gl_graph.proofs.Look.{or_elim, or_left, or_right}
+use Rattle.gl_table.proofs.Waiting.{still_waits}
 
 deleted_steps : (s : State) (r : NodeId) (x y : ℕ) → waits_for (deleted s r) x y ≡ true → waits_for s x y ≡ true
 deleted_steps s r x y h =
     let st = step_is (deleted s r) x y h in let n = st.0 in let m = st.1 in
-    let was = freed_waits r n m (s.txns x) st.2.waits in
+    let was = still_waits r n m (s.txns x) st.2.waits in
     is_step s x y n m (record {
       differ = st.2.differ;
       waits = was.0;
@@ -103,7 +91,7 @@ unless_waits keeps r n m u x h = by (keeps u) h
   where
     by : (b : Bool) → status_in (if b then x else freed r x) ≡ Some (Waiting n m) → status_in x ≡ Some (Waiting n m)
     by true k = k
-    by false k = (freed_waits r n m x k).0
+    by false k = (still_waits r n m x k).0
 
 moved_steps : (s : State) → IsLawful s → (r : NodeId) (ps : List NodeId) (g : Graph) (x y : ℕ) → waits_for (moved_to s r ps g) x y ≡ true → waits_for s x y ≡ true
 moved_steps s law r ps g x y h =
@@ -138,8 +126,8 @@ accepts-no_cycle s (command.Lock t n m) a told' s' at law none h acc = locks-no_
 accepts-no_cycle s (command.Try t n m) a told' s' at law none h acc = subst HasNoCycle (sym acc.2) (granted-no_cycle s t.slot n (wanted s t.slot n m) (active_after s t n (worn s) _ h).0 none)
 accepts-no_cycle s (command.Unlock t n) a told' s' at law none h acc =
     let a = active_after s t n (worn s) _ h in
-    let b = skip (not_held s t.slot n) _ a.2 in
-    subst HasNoCycle (sym acc.2) (unlocked-no_cycle s law t.slot n a.0 (skip (held_child s t.slot n) [] b.1).0 none)
+    let b = not_refused (not_held s t.slot n) _ a.2 in
+    subst HasNoCycle (sym acc.2) (unlocked-no_cycle s law t.slot n a.0 (not_refused (held_child s t.slot n) [] b.1).0 none)
 accepts-no_cycle s (command.Escalate t n) a told' s' at law none h acc = subst HasNoCycle (sym acc.2) (escalated-no_cycle s law t n h none)
 accepts-no_cycle s (command.Cancel t) a told' s' at law none h acc = subst HasNoCycle (sym acc.2) (given_up-no_cycle s law t.slot Active (λ q m e. cc) none)
 accepts-no_cycle s (command.Commit t) a told' s' at law none h acc = subst HasNoCycle (sym acc.2) (released-no_cycle s law t.slot none)

@@ -16,28 +16,17 @@ use Rattle.gl_table.specs.Intends.{no_parents}
 use Rattle.gl_graph.specs.Refusals.{first_refusal, where_true, some_no_node}
 use Rattle.gl_table.specs.Refusals.{no_txn, need_exclusive, holds_x, holds_x_on_all, some_given}
 use Rattle.gl_catalog.specs.Promises.{same_txn}
-use Rattle.gl_table.proofs.CutSet.{and_both}
+use Rattle.gl_graph.proofs.Look.{and_both}
+use Rattle.gl_graph.proofs.Unrefused.{not_refused, test_fails, not_false}
 
 some_none : {A : Type 0} {x : A} → Some x ≡ None → ⊥
 some_none e = cc
 
-pub first_none : (r : Option Refusal) (rs : List (Option Refusal)) → first_refusal (r ∷ rs) ≡ None → (r ≡ None) × (first_refusal rs ≡ None)
-first_none None rs h = (refl, h)
-first_none (Some r) rs h = absurd (some_none h)
-
-pub where_no : (b : Bool) (r : Refusal) → where_true b r ≡ None → b ≡ false
-where_no true r h = absurd (some_none h)
-where_no false r h = refl
-
-pub not_no : (b : Bool) → not b ≡ false → b ≡ true
-not_no true h = refl
-not_no false h = absurd (true≢false h)
-
 pub txn_lives : (s : State) (u : TxnId) → no_txn s u ≡ None → lives s u ≡ true
-txn_lives s u h = not_no _ (where_no _ no.NoSuchTxn h)
+txn_lives s u h = not_false _ (test_fails _ no.NoSuchTxn h)
 
 pub nodes_live : (s : State) (ns : List NodeId) → some_no_node s.graph ns ≡ None → list_all (is_live s.graph) ns ≡ true
-nodes_live s ns h = not_no _ (where_no _ no.NoSuchNode h)
+nodes_live s ns h = not_false _ (test_fails _ no.NoSuchNode h)
 
 same_age : (a b : ℕ) (x : Option Txn) → live_by a x ≡ true → live_by b x ≡ true → a ≡ b
 same_age a b None h k = absurd (true≢false (sym h))
@@ -59,10 +48,10 @@ pub record OnParents (s : State) (u : ℕ) (n : NodeId) (given : Bool) (new : Li
 
 or_cases : (a b : Bool) → (not a && not b) ≡ false → (a ≡ true) ⊎ (b ≡ true)
 or_cases true b h = inl refl
-or_cases false b h = inr (not_no b h)
+or_cases false b h = inr (not_false b h)
 
 pub exclusive : (s : State) (u : ℕ) (n : NodeId) (given : Bool) (new : List NodeId) → need_exclusive s u n given new ≡ None → (holds_x s u n ≡ true) ⊎ OnParents s u n given new
-exclusive s u n given new h = by (or_cases _ _ (where_no _ no.NeedExclusive h))
+exclusive s u n given new h = by (or_cases _ _ (test_fails _ no.NeedExclusive h))
   where
     by : (holds_x s u n ≡ true) ⊎ ((given && holds_x_on_all s u (parents_of s.graph n) && holds_x_on_all s u new) ≡ true) → (holds_x s u n ≡ true) ⊎ OnParents s u n given new
     by (inl x) = inl x

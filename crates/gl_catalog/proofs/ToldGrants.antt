@@ -17,10 +17,12 @@ use Rattle.gl_table.specs.State.{State, Txn, lives, live_by, status_of, age_of, 
 use Rattle.gl_table.specs.Lawful.{IsLawful}
 use Rattle.gl_table.specs.Tellings.{told, told_but, told_from, notice_of, addressed}
 use Rattle.gl_catalog.specs.Promises.{is_grant_to, same_txn}
-use Rattle.gl_table.proofs.CutSet.{refl_node, and_both, or_elim}
-use Rattle.gl_table.proofs.Effects.{split, or_true}
+use Rattle.gl_table.proofs.Effects.{or_true}
 use Rattle.gl_table.proofs.Waiters.{one_among}
 use Rattle.gl_table.proofs.Follows.{GrantedTo}
+use Rattle.gl_graph.proofs.Look.{split, or_elim, and_both}
+use Rattle.gl_modes.proofs.NodeLemmas.{same_node-refl}
+use Rattle.gl_modes.proofs.ModeLemmas.{same_mode-refl}
 
 -- a notice to t of this grant
 abbrev pub tells : TxnId → NodeId → Mode → TxnId × Notice → Bool
@@ -56,9 +58,6 @@ any_filtered p q (y ∷ ys) more h = by (q y) (more y) (any_filtered p q ys more
     by true f rest = or_elim (p y) (list_any p ys) h (λ here. ap (λ b. b || list_any p (filter q ys)) here) (λ there. ap (λ b. p y || b) (rest there) ∙ or_true (p y))
     by false f rest = or_elim (p y) (list_any p ys) h (λ here. absurd (true≢false (sym (f here)))) (λ there. rest there)
 
-same_mode_refl : (m : Mode) → same_mode m m ≡ true
-same_mode_refl m = search rules
-
 pub age_is : (age : ℕ) (x : Option Txn) → live_by age x ≡ true → (age == age_in x) ≡ true
 age_is age None h = absurd (true≢false (sym h))
 age_is age (Some x) h = grind (arith, nat_tests)
@@ -73,7 +72,7 @@ module _ (s s' : State) (law : IsLawful s) (t : TxnId) (alive : lives s t ≡ tr
       ap (told_from s' t.slot) g.was ∙ ap (notice_of s' t.slot g.node g.mode) g.is
       ∙ ap₂ (λ a b. if not a then Some notice.Gone else (if b then Some (notice.Granted g.node g.mode) else Some notice.Moved))
       (live_same g.node (law.waits_live t.slot g.node (one_among t.slot (s.queue g.node) (t.slot, g.mode) (law.one_wait t.slot g.node g.mode g.was))))
-      (ap (λ m. same_mode m g.mode) g.at ∙ same_mode_refl g.mode)
+      (ap (λ m. same_mode m g.mode) g.at ∙ same_mode-refl g.mode)
 
   itself : same_txn t (record { slot = t.slot; age = age_of s t.slot }) ≡ true
   itself = let a : (t.slot == t.slot) ≡ true = grind (arith, nat_tests) in ap₂ (λ x y. x && y) a (age_is t.age (s.txns t.slot) alive)
@@ -82,7 +81,7 @@ module _ (s s' : State) (law : IsLawful s) (t : TxnId) (alive : lives s t ≡ tr
   told_of_grant =
       any_mapped (tells t g.node g.mode) (λ u. addressed (record { slot = u; age = age_of s u }) (told_from s' u (status_of s u))) t.slot
       (record { slot = t.slot; age = age_of s t.slot }, notice.Granted g.node g.mode)
-      (ap (addressed (record { slot = t.slot; age = age_of s t.slot })) notice_is) (ap₂ (λ a b. a && b) itself (ap₂ (λ a b. a && b) (refl_node g.node) (same_mode_refl g.mode))) 0 s.most (omega arith) (let below = law.slots_below t.slot (txn_there t.age (s.txns t.slot) alive) in omega arith)
+      (ap (addressed (record { slot = t.slot; age = age_of s t.slot })) notice_is) (ap₂ (λ a b. a && b) itself (ap₂ (λ a b. a && b) (same_node-refl g.node) (same_mode-refl g.mode))) 0 s.most (omega arith) (let below = law.slots_below t.slot (txn_there t.age (s.txns t.slot) alive) in omega arith)
 
   other_told : (u : ℕ) → u ≢ t.slot → (x : TxnId × Notice) → is_grant_to t x ≡ true → not (x.0.slot == u) ≡ true
   other_told u ne (v, notice.Granted n m) h =

@@ -13,18 +13,16 @@ use Rattle.gl_table.specs.State.{State, members, status_of}
 use Rattle.gl_table.specs.Waiting.{waits_for}
 use Rattle.gl_table.specs.Lawful.{IsLawful}
 use Rattle.gl_table.specs.Waiting.{HasNoCycle, is_wait}
-use Rattle.gl_table.proofs.Queues.{ahead, ahead_is, split, clash, or_elim, or_left, or_right, no_cons, among_by_filter}
+use Rattle.gl_table.proofs.Queues.{ahead, ahead_is, clash, no_cons, among_by_filter}
 use Rattle.gl_table.proofs.Edges.{is_step}
 use Rattle.gl_table.proofs.Settles.{wait_is, low}
 use Rattle.gl_table.proofs.Walks.{same, Distinct, short}
+use Rattle.gl_graph.proofs.Look.{split, or_elim, or_left, or_right}
+use Rattle.gl_graph.proofs.Unrefused.{or_no}
 
 one_fails : (f : ℕ → Bool) (xs : List ℕ) → list_all f xs ≡ false → (u : ℕ) × (f u ≡ false)
 one_fails f [] h = clash refl h
 one_fails f (x ∷ xs) h = split (f x) (λ e. one_fails f xs (sym (ap (λ b. b && list_all f xs) e) ∙ h)) (λ e. (x, e))
-
-or_no : (a b : Bool) → (a || b) ≡ false → (a ≡ false) × (b ≡ false)
-or_no true b k = clash refl k
-or_no false b k = (refl, k)
 
 -- whoever waits waits for someone
 module _ (s : State) (law : IsLawful s) (t : ℕ) (n : NodeId) (m : Mode) (st : status_of s t ≡ Some (Waiting n m)) where

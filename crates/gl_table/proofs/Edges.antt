@@ -13,10 +13,16 @@ use Rattle.gl_header.specs.Header.{Waiter, is_ahead, is_among_waiters}
 use Rattle.gl_table.specs.State.{State, Txn, status_of}
 use Rattle.gl_table.specs.Waiting.{blocks, waits_for}
 use Rattle.gl_table.specs.Pumps.{pumped, granted_at}
-use Rattle.gl_table.proofs.Queues.{ahead, ahead_is, ahead_first, ahead_after, ahead_across, split, clash, and_both, or_elim, or_left, or_right, among_append, among_by_filter}
+use Rattle.gl_table.proofs.Queues.{ahead, ahead_is, ahead_first, ahead_after, ahead_across, clash, among_append, among_by_filter}
 use Rattle.gl_table.proofs.LawfulBut.{IsLawfulBut}
 use Rattle.gl_table.proofs.Less.{IsLess}
 use Rattle.gl_table.proofs.Pumped.{woken_waits, granted_rest, grant_case}
+use Rattle.gl_graph.proofs.Look.{split, or_elim, or_left, or_right, and_both}
+use Rattle.gl_modes.proofs.ModeLemmas.{NL-compatible}
+
+pub not_is : (b : Bool) → not b ≡ true → b ≡ false
+not_is true k = clash k refl
+not_is false k = refl
 
 blocks_is : (s : State) (t u : ℕ) (o : Option Status) → blocks s t u o ≡ true → (n : NodeId) × (m : Mode) × (o ≡ Some (Waiting n m)) × ((not (are_compatible m (s.held u n)) || is_ahead (s.queue n) t u) ≡ true)
 blocks_is s t u None h = clash h refl
@@ -37,9 +43,6 @@ step_is s x y h =
 pub is_step : (s : State) (x y : ℕ) (n : NodeId) (m : Mode) → IsStep s x y n m → waits_for s x y ≡ true
 is_step s x y n m h = ap₂ (λ a b. a && b) h.differ (ap (blocks s x y) h.waits ∙ h.blocked)
 
-nl_right : (m : Mode) → are_compatible m NL ≡ true
-nl_right m = search rules
-
 -- a slot that does not wait has no step
 pub idle_no_step : (s : State) (t : ℕ) → ((n : NodeId) (m : Mode) → status_of s t ≡ Some (Waiting n m) → ⊥) → (u : ℕ) → waits_for s t u ≡ false
 idle_no_step s t idle u = split (waits_for s t u) (λ h. let st = step_is s t u h in absurd (idle st.0 st.1 st.2.waits)) (λ h. h)
@@ -54,13 +57,9 @@ less_steps s held queue txns chosen less x y h =
       differ = st.2.differ;
       waits = (less.waits_same x n m st.2.waits).0;
       blocked = or_elim _ _ st.2.blocked
-          (λ b. ⊎_elim (λ e. clash (ap (are_compatible m) e ∙ nl_right m) (not_is _ b)) (λ e. or_left _ _ (ap (λ k. not (are_compatible m k)) (sym e) ∙ b)) (less.kept y n))
+          (λ b. ⊎_elim (λ e. clash (ap (are_compatible m) e ∙ NL-compatible m) (not_is _ b)) (λ e. or_left _ _ (ap (λ k. not (are_compatible m k)) (sym e) ∙ b)) (less.kept y n))
           (λ b. or_right _ _ (less.order n x y b));
     })
-  where
-    not_is : (b : Bool) → not b ≡ true → b ≡ false
-    not_is true k = clash k refl
-    not_is false k = refl
 
 -- granting from fronts adds no step
 pub pumped_steps : (s : State) (chosen : NodeId → Bool) → IsLawfulBut chosen s → (x y : ℕ) → waits_for (pumped s chosen) x y ≡ true → waits_for s x y ≡ true

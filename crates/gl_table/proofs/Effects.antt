@@ -16,12 +16,10 @@ use Rattle.gl_table.specs.Effects.{eff_s, eff_x, is_read, EffX}
 use Rattle.gl_table.specs.Intends.{no_parents}
 use Rattle.gl_table.specs.State.{State}
 use Rattle.gl_table.specs.Lawful.{IsLawful}
-use Rattle.gl_table.proofs.CutSet.{or_elim, and_both, same_node_true, refl_node, node_equivalence, distinct, live_way, listed, on_path, cut_set_law}
-
--- by cases on a test, with its equation
-pub split : {C : Type 0} (b : Bool) → (b ≡ true → C) → (b ≡ false → C) → C
-split true f g = f refl
-split false f g = g refl
+use Rattle.gl_graph.proofs.RouteLengths.{node_equivalence, distinct, live_way, listed}
+use Rattle.gl_table.proofs.CutSet.{on_path, cut_set_law}
+use Rattle.gl_graph.proofs.Look.{split, or_elim, and_both}
+use Rattle.gl_modes.proofs.NodeLemmas.{same_node-equal, same_node-refl}
 
 pub or_true : (b : Bool) → (b || true) ≡ true
 or_true true = refl
@@ -30,27 +28,27 @@ or_true false = refl
 pub any_found : (q : NodeId → Bool) (ps : List NodeId) → list_any q ps ≡ true → (p : NodeId) × (list_any (same_node p) ps ≡ true) × (q p ≡ true)
 any_found q [] h = absurd (true≢false (sym h))
 any_found q (x ∷ xs) h =
-    or_elim (q x) (list_any q xs) h (λ here. (x, ap (λ b. b || list_any (same_node x) xs) (refl_node x), here)) (λ there.
+    or_elim (q x) (list_any q xs) h (λ here. (x, ap (λ b. b || list_any (same_node x) xs) (same_node-refl x), here)) (λ there.
     let f = any_found q xs there in (f.0, ap (λ b. same_node f.0 x || b) f.1 ∙ or_true _, f.2))
 
 pub any_at : (q : NodeId → Bool) (ps : List NodeId) (p : NodeId) → list_any (same_node p) ps ≡ true → q p ≡ true → list_any q ps ≡ true
 any_at q [] p h k = absurd (true≢false (sym h))
 any_at q (x ∷ xs) p h k =
-    or_elim (same_node p x) (list_any (same_node p) xs) h (λ here. ap (λ b. b || list_any q xs) (ap q (sym (same_node_true p x here)) ∙ k))
+    or_elim (same_node p x) (list_any (same_node p) xs) h (λ here. ap (λ b. b || list_any q xs) (ap q (sym (same_node-equal p x here)) ∙ k))
     (λ there. ap (λ b. q x || b) (any_at q xs p there k) ∙ or_true (q x))
 
 -- all pass where each that is listed passes
 pub all_from : (q : NodeId → Bool) (ps : List NodeId) → ((p : NodeId) → list_any (same_node p) ps ≡ true → q p ≡ true) → list_all q ps ≡ true
 all_from q [] f = refl
 all_from q (x ∷ xs) f =
-    ap₂ (λ a b. a && b) (f x (ap (λ b. b || list_any (same_node x) xs) (refl_node x)))
+    ap₂ (λ a b. a && b) (f x (ap (λ b. b || list_any (same_node x) xs) (same_node-refl x)))
     (all_from q xs (λ p h. f p (ap (λ b. same_node p x || b) h ∙ or_true _)))
 
 all_some : (q : NodeId → Bool) (ps : List NodeId) → not (no_parents ps) ≡ true → list_all q ps ≡ true → list_any q ps ≡ true
 all_some q [] some h = absurd (true≢false (sym some))
 all_some q (x ∷ xs) some h = ap (λ b. b || list_any q xs) (and_both _ _ h).0
 
-x_reads : (m : Mode) → same_mode m X ≡ true → is_read m ≡ true
+pub x_reads : (m : Mode) → same_mode m X ≡ true → is_read m ≡ true
 x_reads m h = search rules
 
 -- a route to a node that is held in S, SIX or X

@@ -5,12 +5,7 @@ use mathlib.Core.Bool.{true≢false}
 use Rattle.gl_table.specs.declared.detect.Detect.{Detect}
 use Rattle.gl_table.specs.Lawful.{IsLawful}
 use Rattle.gl_table.specs.State.{empty_state}
-
-none_some : {A : Type 0} {x : A} → None ≡ Some x → ⊥
-none_some e = cc
-
-no : false ≡ true → ⊥
-no e = true≢false (sym e)
+use Rattle.gl_graph.proofs.Look.{none_some, no}
 
 pub empty-lawful : (d : Detect) (most : ℕ) → IsLawful (empty_state d most)
 empty-lawful d most = record {

@@ -16,23 +16,17 @@ use Rattle.gl_table.specs.Pumps.{waits_at, is_waiting_at}
 use Rattle.gl_table.specs.Intends.{intends, ModeFitsKind}
 use Rattle.gl_table.specs.Lawful.{IsLawful}
 use Rattle.gl_table.specs.Calls.{enqueued, begun}
-use Rattle.gl_table.proofs.GrantKeeps.{same_node_true, same_slot, apart, txn_there}
-use Rattle.gl_table.proofs.Queues.{ahead_is, split, clash}
+use Rattle.gl_table.proofs.GrantKeeps.{apart, txn_there}
+use Rattle.gl_table.proofs.Queues.{ahead_is, clash}
 use Rattle.gl_table.proofs.QueueEdits.{HoldersFirst, among_same, placed_other, placed_self, placed_order, placed_front}
-use Rattle.gl_table.proofs.Less.{waiting_is, node_refl, age_none}
-use Rattle.gl_table.proofs.Taken.{slot_differs}
+use Rattle.gl_table.proofs.Less.{waiting_is, age_none}
+use Rattle.gl_graph.proofs.Look.{split, same_number, other_number}
+use Rattle.gl_modes.proofs.NodeLemmas.{same_node-equal, same_node-refl}
+use Rattle.gl_table.proofs.Taken.{restatus_some, restatus_age}
 
 restatus_is : (st was : Status) (x : Option Txn) → status_in x ≡ Some was → status_in (restatus st x) ≡ Some st
 restatus_is st was None h = absurd (cc)
 restatus_is st was (Some x) h = refl
-
-restatus_some : (st : Status) (x : Option Txn) → is_some (restatus st x) ≡ is_some x
-restatus_some st None = refl
-restatus_some st (Some x) = refl
-
-restatus_age : (st : Status) (x : Option Txn) → age_in (restatus st x) ≡ age_in x
-restatus_age st None = refl
-restatus_age st (Some x) = refl
 
 same_wait : (n q : NodeId) (m w : Mode) → Some (Waiting n m) ≡ Some (Waiting q w) → (n ≡ q) × (m ≡ w)
 same_wait n q m w h = let e : n ≡ q = cc in let f : m ≡ w = cc in (e, f)
@@ -44,16 +38,16 @@ module _ (s : State) (law : IsLawful s) (t : ℕ) (n : NodeId) (m : Mode) (activ
 
   queue_case : {C : Type 0} (q : NodeId) → (q ≡ n → after.queue q ≡ placed (members s n) (s.queue n) t m → C) → (after.queue q ≡ s.queue q → C) → C
   queue_case q here there =
-      split (same_node q n) (λ e. here (same_node_true q n e) (ap (λ b. if b then placed (members s n) (s.queue n) t m else s.queue q) e))
+      split (same_node q n) (λ e. here (same_node-equal q n e) (ap (λ b. if b then placed (members s n) (s.queue n) t m else s.queue q) e))
       (λ e. there (ap (λ b. if b then placed (members s n) (s.queue n) t m else s.queue q) e))
 
   at_node : after.queue n ≡ placed (members s n) (s.queue n) t m
-  at_node = ap (λ b. if b then placed (members s n) (s.queue n) t m else s.queue n) (node_refl n)
+  at_node = ap (λ b. if b then placed (members s n) (s.queue n) t m else s.queue n) (same_node-refl n)
 
   txn_case : {C : Type 0} (u : ℕ) → (u ≡ t → after.txns u ≡ restatus (Waiting n m) (s.txns t) → C) → (u ≢ t → after.txns u ≡ s.txns u → C) → C
   txn_case u here there =
-      split (u == t) (λ e. here (same_slot u t e) (ap (λ b. if b then restatus (Waiting n m) (s.txns t) else s.txns u) e))
-      (λ e. there (slot_differs u t e) (ap (λ b. if b then restatus (Waiting n m) (s.txns t) else s.txns u) e))
+      split (u == t) (λ e. here (same_number u t e) (ap (λ b. if b then restatus (Waiting n m) (s.txns t) else s.txns u) e))
+      (λ e. there (other_number u t e) (ap (λ b. if b then restatus (Waiting n m) (s.txns t) else s.txns u) e))
 
   status_case : {C : Type 0} (u : ℕ) → (u ≡ t → status_of after u ≡ Some (Waiting n m) → C) → (u ≢ t → status_of after u ≡ status_of s u → C) → C
   status_case u here there = txn_case u (λ is e. here is (ap status_in e ∙ restatus_is (Waiting n m) Active (s.txns t) active)) (λ ne e. there ne (ap status_in e))
@@ -93,7 +87,7 @@ module _ (s : State) (law : IsLawful s) (t : ℕ) (n : NodeId) (m : Mode) (activ
         (λ at f. ap (filter (is_waiter u)) f ∙ placed_other (members s n) (s.queue n) t u m ne ∙ ap (λ p. filter (is_waiter u) (s.queue p)) (sym at) ∙ old)
         (λ f. ap (filter (is_waiter u)) f ∙ old));
     waits_are = λ u q h. queue_case q
-        (λ at f. status_case u (λ is e. ap (λ o. waits_at o q) e ∙ ap (same_node n) at ∙ node_refl n)
+        (λ at f. status_case u (λ is e. ap (λ o. waits_at o q) e ∙ ap (same_node n) at ∙ same_node-refl n)
         (λ ne e. ap (λ o. waits_at o q) e ∙ ap (λ p. is_waiting_at s u p) at ∙ law.waits_are u n (among_same u (placed (members s n) (s.queue n) t m) (s.queue n) (placed_other (members s n) (s.queue n) t u m ne) (ap (is_among_waiters u) (sym f) ∙ h))))
         (λ f. let among = ap (is_among_waiters u) (sym f) ∙ h in
         status_case u (λ is e. clash (ap (λ v. is_among_waiters v (s.queue q)) (sym is) ∙ among) (not_waiting q)) (λ ne e. ap (λ o. waits_at o q) e ∙ law.waits_are u q among));
@@ -113,7 +107,7 @@ module _ (s : State) (law : IsLawful s) (t : ℕ) (free : is_some (s.txns t) ≡
   newcomer = Some (record { age = s.begins + 1; status = Active })
 
   begun_case : {C : Type 0} (u : ℕ) → (u ≡ t → (begun s t).txns u ≡ newcomer → C) → (u ≢ t → (begun s t).txns u ≡ s.txns u → C) → C
-  begun_case u here there = split (u == t) (λ e. here (same_slot u t e) (ap (λ b. if b then newcomer else s.txns u) e)) (λ e. there (slot_differs u t e) (ap (λ b. if b then newcomer else s.txns u) e))
+  begun_case u here there = split (u == t) (λ e. here (same_number u t e) (ap (λ b. if b then newcomer else s.txns u) e)) (λ e. there (other_number u t e) (ap (λ b. if b then newcomer else s.txns u) e))
 
   age_low : (u : ℕ) → age_of s u ≤ s.begins
   age_low u = split (is_some (s.txns u)) (λ h. (law.ages u h).1) (λ h. let none : age_of s u ≡ 0 = age_none (s.txns u) h in omega arith)

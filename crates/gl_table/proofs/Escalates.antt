@@ -17,13 +17,16 @@ use Rattle.gl_table.specs.Intends.{is_write, no_parents, intends_over}
 use Rattle.gl_table.specs.Covered.{is_covered}
 use Rattle.gl_table.specs.Lawful.{IsLawful}
 use Rattle.gl_table.specs.Calls.{wanted, asked_by_escalation, raised, shed}
-use Rattle.gl_table.proofs.CutSet.{listed}
-use Rattle.gl_table.proofs.GrantKeeps.{same_node_true, with_grant-lawful}
-use Rattle.gl_table.proofs.Queues.{split, clash, and_both, or_elim, not_true}
+use Rattle.gl_graph.proofs.RouteLengths.{listed}
+use Rattle.gl_table.proofs.GrantKeeps.{with_grant-lawful}
+use Rattle.gl_table.proofs.Queues.{clash, not_true}
 use Rattle.gl_table.proofs.Less.{IsLess, less-lawful}
 use Rattle.gl_table.proofs.Pumped.{pumped-lawful}
 use Rattle.gl_table.proofs.Taken.{taken-less}
-use Rattle.gl_table.proofs.Tests.{above_held, one_found}
+use Rattle.gl_table.proofs.Tests.{one_found}
+use Rattle.gl_graph.proofs.Look.{split, or_elim, and_both}
+use Rattle.gl_modes.proofs.NodeLemmas.{same_node-equal}
+use Rattle.gl_modes.proofs.ModeLemmas.{supremum-above}
 
 -- where the old mode meets the rule, so does a new one that writes only if the old one did
 rule_of_old : (held : NodeId → Mode) (ps : List NodeId) (a m : Mode) → is_write m ≡ is_write a → intends_over held ps a ≡ true → intends_over held ps m ≡ true
@@ -44,7 +47,7 @@ any_of f (x ∷ xs) h = or_elim _ _ h (λ here. (x, here)) (λ there. any_of f x
 
 all_at : (f : NodeId → Bool) (q : NodeId) (xs : List NodeId) → list_any (same_node q) xs ≡ true → list_all f xs ≡ true → f q ≡ true
 all_at f q [] h k = clash h refl
-all_at f q (x ∷ xs) h k = let both = and_both (f x) _ k in or_elim _ _ h (λ here. ap f (same_node_true q x here) ∙ both.0) (λ there. all_at f q xs there both.1)
+all_at f q (x ∷ xs) h k = let both = and_both (f x) _ k in or_elim _ _ h (λ here. ap f (same_node-equal q x here) ∙ both.0) (λ there. all_at f q xs there both.1)
 
 module _ (s : State) (law : IsLawful s) (t : ℕ) (n : NodeId) (active : status_of s t ≡ Some Active) (live : is_live s.graph n ≡ true) (plain : is_record_shape (shape_of s.graph n) ≡ false)
     (held : holds (members s n) t ≡ true) (fit : fits s.most (members s n) t (wanted s t n (asked_by_escalation s t n)) ≡ true) where
@@ -67,7 +70,7 @@ module _ (s : State) (law : IsLawful s) (t : ℕ) (n : NodeId) (active : status_
   raised-lawful =
       with_grant-lawful s law t n (wanted s t n (asked_by_escalation s t n)) active live (λ is. clash is plain)
       (rule_of_old (s.held t) (parents_of s.graph n) (s.held t n) (wanted s t n (asked_by_escalation s t n)) writes_same (law.grants_intend t n held))
-      (above_held (s.held t n) (asked_by_escalation s t n)) fit
+      (supremum-above (s.held t n) (asked_by_escalation s t n)) fit
 
 -- children are released whose own children are not held
 module _ (s : State) (law : IsLawful s) (t : ℕ) (n : NodeId) (active : status_of s t ≡ Some Active) where

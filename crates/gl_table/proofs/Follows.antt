@@ -13,9 +13,10 @@ use Rattle.gl_header.specs.Header.{Waiter, is_waiter, is_among_waiters}
 use Rattle.gl_table.specs.State.{State, Txn, members, live_by, status_of, status_in}
 use Rattle.gl_table.specs.Lawful.{IsLawful}
 use Rattle.gl_table.specs.Pumps.{waits_at, is_waiting_at, front_at, granted_at, pumped, awake, woken}
-use Rattle.gl_table.proofs.CutSet.{same_node_true}
-use Rattle.gl_table.proofs.Effects.{split}
-use Rattle.gl_table.proofs.Waiters.{waits_of, last_mode, none_of_absent, nobody_among, one_among, among_waits, some_wait, granted_mode, front_and_rest, split_none, split_one}
+use Rattle.gl_table.proofs.Waiters.{waits_of, last_mode, none_of_absent, nobody_among, one_among, among_waits, some_wait, granted_mode, split_one, both_empty}
+use Rattle.gl_graph.proofs.Look.{split}
+use Rattle.gl_modes.proofs.NodeLemmas.{same_node-equal}
+use Rattle.gl_header.proofs.Fronts.{front-and_rest}
 
 -- t, which waited for it, was granted a mode on a node; nothing else that it holds changed
 pub record GrantedTo (s s' : State) (t : ℕ) : Type 0 where
@@ -137,7 +138,7 @@ module _ (s : State) (chosen : NodeId → Bool) (t : ℕ) (well : WaitsWell s t)
   parts n = by (chosen n)
     where
       by : (b : Bool) → (if b then front_at s n else []) ++ drop (length (if b then front_at s n else [])) (s.queue n) ≡ s.queue n
-      by true = front_and_rest s.most (members s n) (s.queue n)
+      by true = front-and_rest s.most (members s n) (s.queue n)
       by false = refl
 
   waits_parts : (n : NodeId) → waits_of t (granted n) ++ waits_of t (rest n) ≡ waits_of t (s.queue n)
@@ -156,8 +157,8 @@ module _ (s : State) (chosen : NodeId → Bool) (t : ℕ) (well : WaitsWell s t)
     lives = λ age h. woken_lives granted t age (s.txns t) ∙ h;
     active = λ h. status ∙ h;
     was_waiting = λ n m h. sym status ∙ h;
-    grants = inl (λ n. held_same n (split_none _ _ (waits_parts n ∙ absent n)).0);
-    well = absent_well (pumped s chosen) t (λ n. (split_none _ _ (waits_parts n ∙ absent n)).1) (λ n m h. idle n m (sym status ∙ h));
+    grants = inl (λ n. held_same n (both_empty _ _ (waits_parts n ∙ absent n)).0);
+    well = absent_well (pumped s chosen) t (λ n. (both_empty _ _ (waits_parts n ∙ absent n)).1) (λ n m h. idle n m (sym status ∙ h));
   }
 
   nowhere : (o : Option Status) → status_of s t ≡ o → ((n : NodeId) → waits_at o n ≡ false) → (n : NodeId) → waits_of t (s.queue n) ≡ []
@@ -194,11 +195,11 @@ module _ (s : State) (chosen : NodeId → Bool) (t : ℕ) (well : WaitsWell s t)
           was = e;
           is = status;
           at = held_is n ∙ ap (last_mode (s.held t n)) goes.0;
-          elsewhere = λ q ne. held_same q (split_none _ _ (waits_parts q ∙ elsewhere q ne)).0;
+          elsewhere = λ q ne. held_same q (both_empty _ _ (waits_parts q ∙ elsewhere q ne)).0;
           more = well.more n m e;
         });
         well = absent_well (pumped s chosen) t
-            (λ q. split (same_node n q) (λ h. subst (λ x. waits_of t (rest x) ≡ []) (same_node_true n q h) goes.1) (λ h. (split_none _ _ (waits_parts q ∙ elsewhere q h)).1))
+            (λ q. split (same_node n q) (λ h. subst (λ x. waits_of t (rest x) ≡ []) (same_node-equal n q h) goes.1) (λ h. (both_empty _ _ (waits_parts q ∙ elsewhere q h)).1))
             (λ q w h. apart (sym status ∙ h));
       })
       (split_one _ _ (t, m) (waits_parts n ∙ well.one n m e))
@@ -207,7 +208,7 @@ module _ (s : State) (chosen : NodeId → Bool) (t : ℕ) (well : WaitsWell s t)
       elsewhere q ne = none_of_absent t (s.queue q) (λ h. true≢false (sym (well.are q h) ∙ ap (λ x. waits_at x q) e ∙ ne))
 
       none_granted : waits_of t (granted n) ≡ [] → (q : NodeId) → waits_of t (granted q) ≡ []
-      none_granted here q = split (same_node n q) (λ h. subst (λ x. waits_of t (granted x) ≡ []) (same_node_true n q h) here) (λ h. (split_none _ _ (waits_parts q ∙ elsewhere q h)).0)
+      none_granted here q = split (same_node n q) (λ h. subst (λ x. waits_of t (granted x) ≡ []) (same_node-equal n q h) here) (λ h. (both_empty _ _ (waits_parts q ∙ elsewhere q h)).0)
 
       waits_left : waits_of t (granted n) ≡ [] → (q : NodeId) → waits_of t (rest q) ≡ waits_of t (s.queue q)
       waits_left here q = ap (λ ws. ws ++ waits_of t (rest q)) (sym (none_granted here q)) ∙ waits_parts q

@@ -12,34 +12,16 @@ use Rattle.gl_table.specs.declared.txn.Status.{Status}
 use Rattle.gl_table.specs.declared.txn.Status.TheVariants.{Active, Waiting}
 use Rattle.gl_modes.specs.Nodes.{same_node}
 use Rattle.gl_graph.specs.Graph.{parents_of, is_live}
-use Rattle.gl_header.specs.Header.{Members, Waiter, fits, holds, with_mode, front}
+use Rattle.gl_header.specs.Header.{Members, Waiter, fits, holds, with_mode, front, IsWithin}
 use Rattle.gl_modes.specs.Modes.{same_mode}
 use Rattle.gl_table.specs.State.{Txn, status_in, State, members, status_of, with_grant}
 use Rattle.gl_table.specs.Pumps.{waits_at, is_waiting_at}
 use Rattle.gl_table.specs.Intends.{intends, intends_over, is_write, no_parents, ModeFitsKind}
 use Rattle.gl_table.specs.Lawful.{IsLawful}
-use Rattle.gl_table.proofs.Fronts.{IsWithin, fits_all}
-
-pub same_node_true : (a b : NodeId) → same_node a b ≡ true → a ≡ b
-same_node_true a b h =
-    let key : a.key ≡ b.key = grind (arith, nat_tests) in
-    let birth : a.birth ≡ b.birth = grind (arith, nat_tests) in
-    λ i. record { key = key i; birth = birth i }
-
-and_both : (a b : Bool) → (a && b) ≡ true → (a ≡ true) × (b ≡ true)
-and_both true b h = (refl, h)
-and_both false b h = absurd (true≢false (sym h))
-
--- by cases on a test, with its equation
-split : {C : Type 0} (b : Bool) → (b ≡ true → C) → (b ≡ false → C) → C
-split true f g = f refl
-split false f g = g refl
-
-pub at_least_trans : (a b c : Mode) → is_at_least a b ≡ true → is_at_least b c ≡ true → is_at_least a c ≡ true
-at_least_trans a b c h k = search rules
-
-pub at_least_refl : (a : Mode) → is_at_least a a ≡ true
-at_least_refl a = search rules
+use Rattle.gl_header.proofs.Fits.{fits-all}
+use Rattle.gl_graph.proofs.Look.{split, and_both, same_number}
+use Rattle.gl_modes.proofs.NodeLemmas.{same_node-equal}
+use Rattle.gl_modes.proofs.ModeLemmas.{at_least-refl, at_least-transitive, compatible-symmetric}
 
 -- a greater mode blocks no less
 less_compatible : (m a b : Mode) → is_at_least b a ≡ true → are_compatible m b ≡ true → are_compatible m a ≡ true
@@ -62,13 +44,13 @@ nl_is a h = search rules
 -- the graph rule over greater modes
 all_more : (h h' : NodeId → Mode) → ((p : NodeId) → is_at_least (h' p) (h p) ≡ true) → (m : Mode) (ps : List NodeId) → list_all (λ p. is_at_least (h p) m) ps ≡ true → list_all (λ p. is_at_least (h' p) m) ps ≡ true
 all_more h h' more m [] k = refl
-all_more h h' more m (p ∷ ps) k = let both = and_both _ _ k in ap₂ (λ a b. a && b) (at_least_trans _ _ _ (more p) both.0) (all_more h h' more m ps both.1)
+all_more h h' more m (p ∷ ps) k = let both = and_both _ _ k in ap₂ (λ a b. a && b) (at_least-transitive _ _ _ (more p) both.0) (all_more h h' more m ps both.1)
 
 any_more : (h h' : NodeId → Mode) → ((p : NodeId) → is_at_least (h' p) (h p) ≡ true) → (m : Mode) (ps : List NodeId) → list_any (λ p. is_at_least (h p) m) ps ≡ true → list_any (λ p. is_at_least (h' p) m) ps ≡ true
 any_more h h' more m [] k = k
 any_more h h' more m (p ∷ ps) k =
     split (is_at_least (h p) m)
-    (λ e. ap (λ b. b || list_any (λ q. is_at_least (h' q) m) ps) (at_least_trans _ _ _ (more p) e))
+    (λ e. ap (λ b. b || list_any (λ q. is_at_least (h' q) m) ps) (at_least-transitive _ _ _ (more p) e))
     (λ e. ap (λ b. is_at_least (h' p) m || b) (any_more h h' more m ps (sym (ap (λ b. b || list_any (λ q. is_at_least (h q) m) ps) e) ∙ k)) ∙ or_true (is_at_least (h' p) m))
   where
     or_true : (b : Bool) → (b || true) ≡ true
@@ -104,12 +86,6 @@ front_less most g g' more (w ∷ q) h = split (fits most g' w.0 w.1) (λ e. absu
     no_cons : {x : Waiter} {xs : List Waiter} → x ∷ xs ≡ [] → ⊥
     no_cons e = cc
 
-pub sym_compatible : (a b : Mode) → are_compatible a b ≡ are_compatible b a
-sym_compatible a b = search rules
-
-pub same_slot : (u t : ℕ) → (u == t) ≡ true → u ≡ t
-same_slot u t h = grind (arith, nat_tests)
-
 pub txn_there : (x : Option Txn) (st : Status) → status_in x ≡ Some st → is_some x ≡ true
 txn_there None st h = cc
 txn_there (Some x) st h = refl
@@ -123,11 +99,11 @@ module _ (s : State) (law : IsLawful s) (t : ℕ) (n : NodeId) (m : Mode) (activ
   at_case : {C : Type 0} (u : ℕ) (q : NodeId) → (u ≡ t → q ≡ n → (with_grant s t n m).held u q ≡ m → C) → ((with_grant s t n m).held u q ≡ s.held u q → C) → C
   at_case u q here there =
       split ((u == t) && same_node q n)
-      (λ e. let both = and_both _ _ e in here (same_slot u t both.0) (same_node_true q n both.1) (ap (λ b. if b then m else s.held u q) e))
+      (λ e. let both = and_both _ _ e in here (same_number u t both.0) (same_node-equal q n both.1) (ap (λ b. if b then m else s.held u q) e))
       (λ e. there (ap (λ b. if b then m else s.held u q) e))
 
   grew : (u : ℕ) (q : NodeId) → is_at_least ((with_grant s t n m).held u q) (s.held u q) ≡ true
-  grew u q = at_case u q (λ eu eq eh. ap₂ is_at_least eh (ap₂ s.held eu eq) ∙ more) (λ eh. ap (λ a. is_at_least a (s.held u q)) eh ∙ at_least_refl (s.held u q))
+  grew u q = at_case u q (λ eu eq eh. ap₂ is_at_least eh (ap₂ s.held eu eq) ∙ more) (λ eh. ap (λ a. is_at_least a (s.held u q)) eh ∙ at_least-refl (s.held u q))
 
   within : IsWithin s.most (members s n)
   within u le = split (holds (members s n) u) (λ h. let lt = law.slots_below u (law.grants_live u n h).0 in absurd (omega arith)) (λ h. nl_is (s.held u n) h)
@@ -144,9 +120,9 @@ module _ (s : State) (law : IsLawful s) (t : ℕ) (n : NodeId) (m : Mode) (activ
     waits_live = law.waits_live;
     compatible = λ u v q ne. at_case u q
         (λ eu eq eh. at_case v q (λ ev _ _. absurd (ne (eu ∙ sym ev)))
-        (λ fh. ap₂ are_compatible eh fh ∙ ap (λ p. are_compatible m (s.held v p)) eq ∙ fits_all s.most (members s n) t m within fit v (λ ev. ne (eu ∙ sym ev))))
+        (λ fh. ap₂ are_compatible eh fh ∙ ap (λ p. are_compatible m (s.held v p)) eq ∙ fits-all s.most (members s n) t m within fit v (λ ev. ne (eu ∙ sym ev))))
         (λ eh. at_case v q
-        (λ ev eq fh. ap₂ are_compatible eh fh ∙ sym_compatible (s.held u q) m ∙ ap (λ p. are_compatible m (s.held u p)) eq ∙ fits_all s.most (members s n) t m within fit u (λ eu. ne (eu ∙ sym ev)))
+        (λ ev eq fh. ap₂ are_compatible eh fh ∙ compatible-symmetric (s.held u q) m ∙ ap (λ p. are_compatible m (s.held u p)) eq ∙ fits-all s.most (members s n) t m within fit u (λ eu. ne (eu ∙ sym ev)))
         (λ fh. ap₂ are_compatible eh fh ∙ law.compatible u v q ne));
     grants_intend = λ u q h. rule_more (s.held u) ((with_grant s t n m).held u) (grew u) (parents_of s.graph q) ((with_grant s t n m).held u q)
         (at_case u q (λ eu eq eh. ap₂ (λ v p. intends s v p ((with_grant s t n m).held u q)) eu eq ∙ ap (intends s t n) eh ∙ rule)

@@ -17,27 +17,21 @@ use Rattle.gl_table.specs.State.{State, Txn, members, status_in, status_of, age_
 use Rattle.gl_table.specs.Pumps.{waits_at}
 use Rattle.gl_table.specs.Intends.{is_write, no_parents, intends, intends_over, ModeFitsKind}
 use Rattle.gl_table.specs.Lawful.{IsLawful}
-use Rattle.gl_table.proofs.Queues.{ahead_is, ahead_second, split, clash, or_left, or_right}
-use Rattle.gl_table.proofs.GrantKeeps.{same_node_true, front_less, at_least_refl}
+use Rattle.gl_table.proofs.Queues.{ahead_is, ahead_second, clash}
+use Rattle.gl_table.proofs.GrantKeeps.{front_less}
 use Rattle.gl_table.proofs.LawfulBut.{IsLawfulBut}
-
-pub node_refl : (n : NodeId) → same_node n n ≡ true
-node_refl n = grind (arith, nat_tests)
+use Rattle.gl_graph.proofs.Look.{split, or_left, or_right}
+use Rattle.gl_modes.proofs.NodeLemmas.{same_node-equal, same_node-refl}
+use Rattle.gl_modes.proofs.ModeLemmas.{at_least-refl, NL-compatible, NL-compatible_left}
 
 pub waiting_is : (o : Option Status) (n : NodeId) → waits_at o n ≡ true → (m : Mode) × (o ≡ Some (Waiting n m))
 waiting_is None n h = clash h refl
 waiting_is (Some Active) n h = clash h refl
 waiting_is (Some Condemned) n h = clash h refl
-waiting_is (Some (Waiting q m)) n h = (m, ap (λ p. Some (Waiting p m)) (same_node_true q n h))
+waiting_is (Some (Waiting q m)) n h = (m, ap (λ p. Some (Waiting p m)) (same_node-equal q n h))
 
 pub nl_holds : (a : Mode) → a ≡ NL → not (same_mode a NL) ≡ false
 nl_holds a e = ap (λ m. not (same_mode m NL)) e
-
-nl_left : (m : Mode) → are_compatible NL m ≡ true
-nl_left m = refl
-
-nl_right : (m : Mode) → are_compatible m NL ≡ true
-nl_right m = search rules
 
 at_least_nl : (m : Mode) → is_at_least m NL ≡ true
 at_least_nl m = search rules
@@ -52,11 +46,11 @@ rule_same h h' m ps same = ap₂ (λ a b. cond (is_write m) a (no_parents ps || 
   where
     all_same : (ps : List NodeId) → ((p : NodeId) → list_any (same_node p) ps ≡ true → h' p ≡ h p) → list_all (λ p. is_at_least (h' p) IX) ps ≡ list_all (λ p. is_at_least (h p) IX) ps
     all_same [] same = refl
-    all_same (p ∷ ps) same = ap₂ (λ a b. a && b) (ap (λ x. is_at_least x IX) (same p (or_left _ _ (node_refl p)))) (all_same ps (λ q k. same q (or_right (same_node q p) _ k)))
+    all_same (p ∷ ps) same = ap₂ (λ a b. a && b) (ap (λ x. is_at_least x IX) (same p (or_left _ _ (same_node-refl p)))) (all_same ps (λ q k. same q (or_right (same_node q p) _ k)))
 
     any_same : (ps : List NodeId) → ((p : NodeId) → list_any (same_node p) ps ≡ true → h' p ≡ h p) → list_any (λ p. is_at_least (h' p) IS) ps ≡ list_any (λ p. is_at_least (h p) IS) ps
     any_same [] same = refl
-    any_same (p ∷ ps) same = ap₂ (λ a b. a || b) (ap (λ x. is_at_least x IS) (same p (or_left _ _ (node_refl p)))) (any_same ps (λ q k. same q (or_right (same_node q p) _ k)))
+    any_same (p ∷ ps) same = ap₂ (λ a b. a || b) (ap (λ x. is_at_least x IS) (same p (or_left _ _ (same_node-refl p)))) (any_same ps (λ q k. same q (or_right (same_node q p) _ k)))
 
 -- these grants, queues and transactions are some of the state's: no grant without those that it needs, each wait whole
 pub record IsLess (s : State) (held : ℕ → NodeId → Mode) (queue : NodeId → List Waiter) (txns : ℕ → Option Txn) (chosen : NodeId → Bool) : Type 0 where
@@ -87,7 +81,7 @@ module _ (s : State) (law : IsLawful s) (held : ℕ → NodeId → Mode) (queue 
         (less.holders_live u q h old.0, old.1, subst (ModeFitsKind s q) (sym (held_same u q h)) old.2);
     waits_live = λ u q h. law.waits_live u q (less.waiters_same u q h).0;
     compatible = λ u v q ne.
-        ⊎_elim (λ e. ap (λ m. are_compatible m (held v q)) e) (λ e. ⊎_elim (λ f. ap₂ are_compatible refl f ∙ nl_right (held u q)) (λ f. ap₂ are_compatible e f ∙ law.compatible u v q ne) (less.kept v q)) (less.kept u q);
+        ⊎_elim (λ e. ap (λ m. are_compatible m (held v q)) e) (λ e. ⊎_elim (λ f. ap₂ are_compatible refl f ∙ NL-compatible (held u q)) (λ f. ap₂ are_compatible e f ∙ law.compatible u v q ne) (less.kept v q)) (less.kept u q);
     grants_intend = λ u q h. let old = law.grants_intend u q (holds_old u q h) in let live = (law.grants_live u q (holds_old u q h)).1 in
         rule_same (s.held u) (held u) (held u q) (parents_of s.graph q) (λ p k. less.above u q p h live (is_child_from p q k)) ∙ ap (intends s u q) (held_same u q h) ∙ old;
     waits_intend = λ u q m st. let was = less.waits_same u q m st in let old = law.waits_intend u q m was.0 in (
@@ -106,7 +100,7 @@ module _ (s : State) (law : IsLawful s) (held : ℕ → NodeId → Mode) (queue 
         ap (λ m. not (same_mode m NL)) (same.1 q) ∙ old;
     front_waits = λ q no. let same = less.fronts q no in
         ap (front s.most (λ u. held u q)) same.0
-        ∙ front_less s.most (members s q) (λ u. held u q) (λ u. ap (λ m. is_at_least m (s.held u q)) (same.1 u) ∙ at_least_refl (s.held u q)) (s.queue q) (law.front_waits q);
+        ∙ front_less s.most (members s q) (λ u. held u q) (λ u. ap (λ m. is_at_least m (s.held u q)) (same.1 u) ∙ at_least-refl (s.held u q)) (s.queue q) (law.front_waits q);
     slots_below = λ u h. law.slots_below u (less.txns_same u h).0;
     ages = λ u h. let was = less.txns_same u h in let old = law.ages u was.0 in (subst (λ a. 1 ≤ a) (sym was.1) old.0, subst (λ a. a ≤ s.begins) (sym was.1) old.1);
     ages_differ = λ u v h e. let was = less.txns_same u h in

@@ -6,7 +6,6 @@ pub mod Empty
 pub mod Enqueued
 pub mod Escalates
 pub mod Follows
-pub mod Fronts
 pub mod GrantKeeps
 pub mod LawfulBut
 pub mod NoConflict

@@ -21,13 +21,17 @@ use Rattle.gl_table.specs.Intends.{intends}
 use Rattle.gl_table.specs.Lawful.{IsLawful}
 use Rattle.gl_table.specs.Calls.{Locks, WaitSettles, wanted, enters_at, enqueued}
 use Rattle.gl_table.specs.Refusals.{active_on, bad_mode, need_parents, held_child}
-use Rattle.gl_table.proofs.GrantKeeps.{same_node_true, with_grant-lawful}
-use Rattle.gl_table.proofs.Queues.{split, clash, and_both, not_true}
+use Rattle.gl_table.proofs.GrantKeeps.{with_grant-lawful}
+use Rattle.gl_table.proofs.Queues.{clash, not_true}
 use Rattle.gl_table.proofs.Less.{IsLess, less-lawful}
 use Rattle.gl_table.proofs.Pumped.{pumped-lawful}
 use Rattle.gl_table.proofs.Taken.{taken-less, settled-lawful}
 use Rattle.gl_table.proofs.Enqueued.{enqueued-lawful}
-use Rattle.gl_table.proofs.Tests.{skip, active_after, mode_fits, rule_met, above_held, wanted_not_nl, no_child}
+use Rattle.gl_table.proofs.Tests.{active_after, mode_fits, rule_met, wanted_not_nl, no_child}
+use Rattle.gl_graph.proofs.Look.{split, and_both}
+use Rattle.gl_modes.proofs.NodeLemmas.{same_node-equal, same_node-sym}
+use Rattle.gl_modes.proofs.ModeLemmas.{supremum-above}
+use Rattle.gl_graph.proofs.Unrefused.{not_refused}
 
 -- a lock that passed its tests
 pub record MayLock (s : State) (t : TxnId) (n : NodeId) (m : Mode) : Type 0 where
@@ -41,8 +45,8 @@ pub may_lock : (s : State) (t : TxnId) (n : NodeId) (m : Mode) (first : Option R
     → first_refusal (first ∷ active_on s t (n ∷ []) ++ bad_mode s n m ∷ need_parents s t.slot n (wanted s t.slot n m) ∷ rest) ≡ None → MayLock s t n m × (first_refusal rest ≡ None)
 may_lock s t n m first rest h =
     let a = active_after s t n first _ h in
-    let b = skip (bad_mode s n m) _ a.2 in
-    let c = skip (need_parents s t.slot n (wanted s t.slot n m)) rest b.1 in
+    let b = not_refused (bad_mode s n m) _ a.2 in
+    let c = not_refused (need_parents s t.slot n (wanted s t.slot n m)) rest b.1 in
     (record { active = a.0; live = a.1; not_bad = b.0; rule = rule_met (s.held t.slot) (parents_of s.graph n) (wanted s t.slot n m) c.0 }, c.1)
 
 enters_fits : (s : State) (t : ℕ) (n : NodeId) (m : Mode) → enters_at s t n m ≡ true → fits s.most (members s n) t (wanted s t n m) ≡ true
@@ -50,12 +54,12 @@ enters_fits s t n m h = (and_both _ _ h).0
 
 pub granted-lawful : (s : State) → IsLawful s → (t : TxnId) (n : NodeId) (m : Mode) → MayLock s t n m → enters_at s t.slot n m ≡ true → IsLawful (with_grant s t.slot n (wanted s t.slot n m))
 granted-lawful s law t n m may h =
-    with_grant-lawful s law t.slot n (wanted s t.slot n m) may.active may.live (mode_fits s law t.slot n m may.not_bad).1 may.rule (above_held (s.held t.slot n) m) (enters_fits s t.slot n m h)
+    with_grant-lawful s law t.slot n (wanted s t.slot n m) may.active may.live (mode_fits s law t.slot n m may.not_bad).1 may.rule (supremum-above (s.held t.slot n) m) (enters_fits s t.slot n m h)
 
 pub waiting-lawful : (s : State) → IsLawful s → (t : TxnId) (n : NodeId) (m : Mode) → MayLock s t n m → enters_at s t.slot n m ≡ false → IsLawful (enqueued s t.slot n (wanted s t.slot n m))
 waiting-lawful s law t n m may h =
     let mode = mode_fits s law t.slot n m may.not_bad in
-    enqueued-lawful s law t.slot n (wanted s t.slot n m) may.active may.live mode.1 may.rule (wanted_not_nl (s.held t.slot n) m mode.0) (above_held (s.held t.slot n) m) h
+    enqueued-lawful s law t.slot n (wanted s t.slot n m) may.active may.live mode.1 may.rule (wanted_not_nl (s.held t.slot n) m mode.0) (supremum-above (s.held t.slot n) m) h
 
 pub wait_settles-lawful : (d : Detect) (s : State) (t : ℕ) (s' : State) → IsLawful s → WaitSettles d s t s' → IsLawful s'
 wait_settles-lawful AtBlock s t s' law h = settled-lawful s s' t law h
@@ -67,15 +71,12 @@ locks-lawful s s' law t n m may h =
     (λ e. subst IsLawful (sym (h.granted e)) (granted-lawful s law t n m may e))
     (λ e. wait_settles-lawful s.detect (enqueued s t.slot n (wanted s t.slot n m)) t.slot s' (waiting-lawful s law t n m may e) (h.waits e))
 
-same_node_turned : (p q : NodeId) → same_node p q ≡ same_node q p
-same_node_turned p q = grind (arith, nat_tests)
-
 pub unlocked-less : (s : State) → IsLawful s → (t : ℕ) (n : NodeId) → status_of s t ≡ Some Active → held_child s t n ≡ None
     → IsLess s (λ u q. if (u == t) && same_node q n then NL else s.held u q) s.queue s.txns (same_node n)
 unlocked-less s law t n active childless =
     taken-less s law t (λ q. same_node q n) (same_node n) active
-    (λ q p off h live child. not_true _ (λ e. no_child s law t n q childless live (ap (λ x. is_child s.graph x q) (sym (same_node_true p n e)) ∙ child) h))
-    (λ q off. same_node_turned q n ∙ off)
+    (λ q p off h live child. not_true _ (λ e. no_child s law t n q childless live (ap (λ x. is_child s.graph x q) (sym (same_node-equal p n e)) ∙ child) h))
+    (λ q off. same_node-sym q n ∙ off)
 
 pub unlocked-lawful : (s : State) → IsLawful s → (t : ℕ) (n : NodeId) → status_of s t ≡ Some Active → held_child s t n ≡ None → IsLawful (pumped (with_grant s t n NL) (same_node n))
 unlocked-lawful s law t n active childless =

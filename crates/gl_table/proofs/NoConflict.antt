@@ -11,6 +11,7 @@ use Rattle.gl_graph.specs.Graph.{Graph, node_count, parents_of}
 use Rattle.gl_modes.specs.Modes.{same_mode}
 use Rattle.gl_table.specs.Effects.{eff_s, eff_x, is_read, NoConflictLaw}
 use Rattle.gl_table.specs.Intends.{is_write, no_parents, intends_over}
+use Rattle.gl_graph.proofs.Look.{or_elim, and_both}
 
 -- what a mode of one rules out of another's
 pub x_blocks : (m w : Mode) → same_mode m X ≡ true → is_at_least w IS ≡ true → are_compatible m w ≡ true → ⊥
@@ -27,14 +28,6 @@ x_is w h = search rules
 
 pub ix_is : (w : Mode) → is_at_least w IX ≡ true → is_at_least w IS ≡ true
 ix_is w h = search rules
-
-or_elim : {C : Type 0} (a b : Bool) → (a || b) ≡ true → (a ≡ true → C) → (b ≡ true → C) → C
-or_elim true b h f g = f refl
-or_elim false b h f g = g h
-
-and_both : (a b : Bool) → (a && b) ≡ true → (a ≡ true) × (b ≡ true)
-and_both true b h = (refl, h)
-and_both false b h = absurd (true≢false (sym h))
 
 pub any_all : (p q : NodeId → Bool) (ps : List NodeId) → list_any p ps ≡ true → list_all q ps ≡ true → (x : NodeId) × (p x ≡ true) × (q x ≡ true)
 any_all p q [] h k = absurd (true≢false (sym h))

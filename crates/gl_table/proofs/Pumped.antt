@@ -11,17 +11,20 @@ use Rattle.gl_modes.specs.Modes.{is_at_least}
 use Rattle.gl_table.specs.declared.txn.Status.{Status}
 use Rattle.gl_table.specs.declared.txn.Status.TheVariants.{Active, Waiting, Condemned}
 use Rattle.gl_graph.specs.Graph.{parents_of}
-use Rattle.gl_header.specs.Header.{Waiter, holds, front, after_grants, is_among_waiters, is_waiter}
+use Rattle.gl_header.specs.Header.{Waiter, holds, front, after_grants, is_among_waiters, is_waiter, IsWithin, IsCompatible}
 use Rattle.gl_modes.specs.Modes.{same_mode}
 use Rattle.gl_table.specs.State.{State, Txn, members, status_in, status_of, age_in}
 use Rattle.gl_table.specs.Pumps.{waits_at, granted_at, pumped, woken, awake}
 use Rattle.gl_table.specs.Intends.{intends, ModeFitsKind}
 use Rattle.gl_table.specs.Lawful.{IsLawful}
-use Rattle.gl_table.proofs.Fronts.{IsWithin, IsCompatible, front-compatible, front-after_front}
-use Rattle.gl_table.proofs.GrantKeeps.{rule_more, at_least_refl, more_held, nl_is, txn_there}
-use Rattle.gl_table.proofs.Queues.{ahead, ahead_is, ahead_first, ahead_after, split, clash, or_left, or_right, among_append, not_among, none_filtered, one_in_first, front_rest, grants_other, grants_one}
+use Rattle.gl_header.proofs.Fronts.{front-and_rest, front-after_front, pumped-compatible}
+use Rattle.gl_table.proofs.GrantKeeps.{rule_more, more_held, nl_is, txn_there}
+use Rattle.gl_table.proofs.Queues.{ahead, ahead_is, ahead_first, ahead_after, clash, among_append, not_among, none_filtered, one_in_first, grants_other, grants_one}
 use Rattle.gl_table.proofs.LawfulBut.{IsLawfulBut}
-use Rattle.gl_table.proofs.Less.{waiting_is, node_refl}
+use Rattle.gl_table.proofs.Less.{waiting_is}
+use Rattle.gl_graph.proofs.Look.{split, or_left, or_right}
+use Rattle.gl_modes.proofs.NodeLemmas.{same_node-refl}
+use Rattle.gl_modes.proofs.ModeLemmas.{at_least-refl}
 
 -- what the granted lists do to a transaction
 module _ (g : NodeId → List Waiter) (u : ℕ) where
@@ -53,13 +56,6 @@ module _ (g : NodeId → List Waiter) (u : ℕ) where
   woken_sleeps q m None h k = absurd (cc)
   woken_sleeps q m (Some x) h k = sleeps q m x.status h k
 
-all_below : (most : ℕ) (q : List Waiter) → ((u : ℕ) → is_among_waiters u q ≡ true → u < most) → AllByRecursion (λ w. w.0 < most) q
-all_below most [] h = tt
-all_below most (w ∷ q) h = (h w.0 (or_left _ _ (same w.0)), all_below most q (λ u k. h u (or_right (w.0 == u) _ k)))
-  where
-    same : (t : ℕ) → (t == t) ≡ true
-    same t = grind (arith, nat_tests)
-
 module _ (s : State) (chosen : NodeId → Bool) (law : IsLawfulBut chosen s) where
   abbrev got : NodeId → List Waiter
   got q = granted_at s chosen q
@@ -71,7 +67,7 @@ module _ (s : State) (chosen : NodeId → Bool) (law : IsLawfulBut chosen s) whe
   granted_rest q = by (chosen q)
     where
       by : (b : Bool) → (if b then front s.most (members s q) (s.queue q) else []) ++ drop (length (if b then front s.most (members s q) (s.queue q) else [])) (s.queue q) ≡ s.queue q
-      by true = front_rest s.most (members s q) (s.queue q)
+      by true = front-and_rest s.most (members s q) (s.queue q)
       by false = refl
 
   pub got_waits : (u : ℕ) (q : NodeId) → is_among_waiters u (got q) ≡ true → is_among_waiters u (s.queue q) ≡ true
@@ -100,7 +96,7 @@ module _ (s : State) (chosen : NodeId → Bool) (law : IsLawfulBut chosen s) whe
       (λ h. there h (grants_other (got q) (members s q) u h))
 
   pub grew : (u : ℕ) (q : NodeId) → is_at_least ((pumped s chosen).held u q) (s.held u q) ≡ true
-  grew u q = grant_case u q (λ m st h e out. ap (λ a. is_at_least a (s.held u q)) e ∙ (law.waits_intend u q m st).2) (λ h e. ap (λ a. is_at_least a (s.held u q)) e ∙ at_least_refl (s.held u q))
+  grew u q = grant_case u q (λ m st h e out. ap (λ a. is_at_least a (s.held u q)) e ∙ (law.waits_intend u q m st).2) (λ h e. ap (λ a. is_at_least a (s.held u q)) e ∙ at_least-refl (s.held u q))
 
   within : (q : NodeId) → IsWithin s.most (members s q)
   within q u le = split (holds (members s q) u) (λ h. let lt = law.slots_below u (law.grants_live u q h).0 in absurd (omega arith)) (λ h. nl_is (s.held u q) h)
@@ -109,7 +105,7 @@ module _ (s : State) (chosen : NodeId → Bool) (law : IsLawfulBut chosen s) whe
   compatible_now q = by (chosen q)
     where
       by : (b : Bool) → IsCompatible (after_grants (members s q) (if b then front s.most (members s q) (s.queue q) else []))
-      by true = front-compatible s.most (members s q) (s.queue q) (all_below s.most (s.queue q) (λ u h. let st = wait_of u q h in law.slots_below u (txn_there (s.txns u) _ st.1))) (within q) (λ t u ne. law.compatible t u q ne)
+      by true = pumped-compatible s.most (members s q) (s.queue q) (λ u h. let st = wait_of u q h in law.slots_below u (txn_there (s.txns u) _ st.1)) (within q) (λ t u ne. law.compatible t u q ne)
       by false = λ t u ne. law.compatible t u q ne
 
   front_now : (q : NodeId) → front s.most (λ t. (pumped s chosen).held t q) (left q) ≡ []
@@ -140,7 +136,7 @@ module _ (s : State) (chosen : NodeId → Bool) (law : IsLawfulBut chosen s) whe
         sym (filter-append (is_waiter u) (got q) (left q) ∙ ap (λ l. l ++ filter (is_waiter u) (left q)) (not_among u (got q) was.1)) ∙ ap (filter (is_waiter u)) (granted_rest q) ∙ law.one_wait u q m was.0;
     waits_are = λ u q h. let st = wait_of u q (left_waits u q h) in
         let out : is_among_waiters u (got q) ≡ false = grant_case u q (λ m _ g e out. clash h out) (λ g e. g) in
-        ap (λ o. waits_at o q) (woken_sleeps got u q st.0 (s.txns u) st.1 out) ∙ node_refl q;
+        ap (λ o. waits_at o q) (woken_sleeps got u q st.0 (s.txns u) st.1 out) ∙ same_node-refl q;
     holders_first = λ a b q ha h.
         let ah = sym (ahead_is (left q) a b) ∙ h in
         grant_case a q (λ m _ g e out. clash (ahead_first (left q) a b ah) out)

@@ -7,16 +7,14 @@ use Rattle.std.proofs.lemmas.List.Elements.{filter-append}
 use Rattle.gl_modes.specs.declared.mode.Mode.{Mode}
 use Rattle.gl_header.specs.Header.{Members, Waiter, fits, with_mode, front, is_waiter, is_among_waiters, without_waiter, placed, holds, is_empty, enters}
 use Rattle.std.proofs.lemmas.List.{append-nil}
-use Rattle.gl_table.proofs.Queues.{ahead, ahead_first, split, clash, no_cons, or_elim, or_left, or_right, and_both, among_append, not_among, none_filtered}
+use Rattle.gl_table.proofs.Queues.{ahead, ahead_first, clash, no_cons, among_append, not_among, none_filtered}
+use Rattle.gl_graph.proofs.Look.{split, or_elim, or_left, or_right, and_both, same_number}
 
 same_slot : (t : ℕ) → (t == t) ≡ true
 same_slot t = grind (arith, nat_tests)
 
 pub slots_differ : (t u : ℕ) → u ≢ t → (t == u) ≡ false
 slots_differ t u ne = grind (arith, nat_tests)
-
-slot_is : (t u : ℕ) → (t == u) ≡ true → t ≡ u
-slot_is t u h = grind (arith, nat_tests)
 
 pub out_of_without : (t u : ℕ) (q : List Waiter) → is_among_waiters u (without_waiter t q) ≡ true → (is_among_waiters u q ≡ true) × (u ≢ t)
 out_of_without t u [] h = clash h refl
@@ -154,7 +152,7 @@ holders_then p r a b [] rest h = rest h
 holders_then p r a b (w ∷ q) rest h = by (p w.0) (w.0 == a) (w.0 == b) refl refl h (holders_then p r a b q rest)
   where
     by : (x y z : Bool) → p w.0 ≡ x → (w.0 == b) ≡ z → ahead ((if x then w ∷ filter (λ v. p v.0) q else filter (λ v. p v.0) q) ++ r) a b ≡ true → (ahead (filter (λ v. p v.0) q ++ r) a b ≡ true → p b ≡ true) → p b ≡ true
-    by true y true ex ez k f = sym (ap p (slot_is w.0 b ez)) ∙ ex
+    by true y true ex ez k f = sym (ap p (same_number w.0 b ez)) ∙ ex
     by true y false ex ez k f =
         let both = and_both (not (w.0 == a)) _ k in
         f (sym (ap (λ z. if z then is_among_waiters a (filter (λ v. p v.0) q ++ r) else ahead (filter (λ v. p v.0) q ++ r) a b) ez) ∙ both.1)
@@ -176,14 +174,14 @@ placed_order g q t m sorted a b ha h = by (holds g t) refl h
     behind : holds g t ≡ true → ahead ((t, m) ∷ filter (λ w. not (holds g w.0)) q) a b ≡ true → holds g b ≡ true
     behind et k =
         let both = and_both (not (t == a)) _ k in
-        split (t == b) (λ e. sym (ap (holds g) (slot_is t b e)) ∙ et)
+        split (t == b) (λ e. sym (ap (holds g) (same_number t b e)) ∙ et)
         (λ e. let on = sym (ap (λ z. if z then is_among_waiters a (filter (λ w. not (holds g w.0)) q) else ahead (filter (λ w. not (holds g w.0)) q) a b) e) ∙ both.1 in
         clash (chosen_is (λ x. not (holds g x)) a q (ahead_first (filter (λ w. not (holds g w.0)) q) a b on)) (ap not ha))
 
     last : holds g t ≡ false → ahead (q ++ (t, m) ∷ []) a b ≡ true → holds g b ≡ true
     last et k = split (is_among_waiters a q) (λ e. sorted a b ha (ahead_within a b ((t, m) ∷ []) q e k))
         (λ e. or_elim _ _ (sym (among_append a q ((t, m) ∷ [])) ∙ ahead_first (q ++ (t, m) ∷ []) a b k) (λ f. clash f e)
-        (λ f. or_elim (t == a) false f (λ is. clash (ap (holds g) (slot_is t a is) ∙ ha) et) (λ no. clash no refl)))
+        (λ f. or_elim (t == a) false f (λ is. clash (ap (holds g) (same_number t a is) ∙ ha) et) (λ no. clash no refl)))
 
     by : (x : Bool) → holds g t ≡ x → ahead (if x then filter (λ w. holds g w.0) q ++ (t, m) ∷ filter (λ w. not (holds g w.0)) q else q ++ (t, m) ∷ []) a b ≡ true → holds g b ≡ true
     by true et k = holders_then (holds g) ((t, m) ∷ filter (λ w. not (holds g w.0)) q) a b q (behind et) k
@@ -218,7 +216,7 @@ placed_front most g q t m sorted before out = by (holds g t) refl out
       where
         first_ahead : (a : ℕ) → is_among_waiters a l ≡ true → holds g a ≡ true → holds g w.0 ≡ false → ahead (w ∷ l) a w.0 ≡ true
         first_ahead a h ha hw =
-            let apart : (w.0 == a) ≡ false = split (w.0 == a) (λ e. clash (ap (holds g) (slot_is w.0 a e) ∙ ha) hw) (λ e. e) in
+            let apart : (w.0 == a) ≡ false = split (w.0 == a) (λ e. clash (ap (holds g) (same_number w.0 a e) ∙ ha) hw) (λ e. e) in
             ap₂ (λ x y. not x && (if y then is_among_waiters a l else ahead l a w.0)) apart (same_slot w.0) ∙ h
 
     as_newcomer : (l : List Waiter) → front most g l ≡ [] → (fits most g t m && is_empty l) ≡ false → front most g (l ++ (t, m) ∷ []) ≡ []

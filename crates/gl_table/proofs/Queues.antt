@@ -7,6 +7,7 @@ use Rattle.std.proofs.lemmas.List.Folds.{list_any-append}
 use mathlib.Core.Bool.{true≢false}
 use Rattle.gl_modes.specs.declared.mode.Mode.{Mode}
 use Rattle.gl_header.specs.Header.{Members, Waiter, fits, with_mode, front, after_grants, is_waiter, is_among_waiters, is_ahead}
+use Rattle.gl_graph.proofs.Look.{split, or_elim, or_left, or_right, and_both}
 
 -- who stands ahead, one waiter after another
 abbrev pub ahead : List Waiter → ℕ → ℕ → Bool
@@ -19,26 +20,6 @@ ahead_is (w ∷ q) t u = by (w.0 == t) (w.0 == u) (is_among_waiters t q) refl (a
   where
     by : (a b c : Bool) → is_among_waiters t q ≡ c → (is_among_waiters t q && is_among_waiters u (before_first (is_waiter t) q)) ≡ ahead q t u → is_ahead (w ∷ q) t u ≡ ahead (w ∷ q) t u
     by a b c e h = grind (arith, nat_tests)
-
--- by cases on a test, with its equation
-pub split : {C : Type 0} (b : Bool) → (b ≡ true → C) → (b ≡ false → C) → C
-split true f g = f refl
-split false f g = g refl
-
-pub and_both : (a b : Bool) → (a && b) ≡ true → (a ≡ true) × (b ≡ true)
-and_both true b h = (refl, h)
-and_both false b h = absurd (true≢false (sym h))
-
-pub or_elim : {C : Type 0} (a b : Bool) → (a || b) ≡ true → (a ≡ true → C) → (b ≡ true → C) → C
-or_elim true b h f g = f refl
-or_elim false b h f g = g h
-
-pub or_left : (a b : Bool) → a ≡ true → (a || b) ≡ true
-or_left a b h = ap (λ x. x || b) h
-
-pub or_right : (a b : Bool) → b ≡ true → (a || b) ≡ true
-or_right true b h = refl
-or_right false b h = h
 
 pub not_true : (b : Bool) → (b ≡ true → ⊥) → b ≡ false
 not_true true f = absurd (f refl)
@@ -135,16 +116,6 @@ ahead_across (w ∷ a) b t u out later h = by (w.0 == t) (w.0 == u) refl refl ou
     by true y ex ey o k r = clash refl o
     by false true ex ey o k r = ap₂ (λ p q. not p && (if q then is_among_waiters t (a ++ b) else ahead (a ++ b) t u)) ex ey ∙ among_append t a b ∙ or_right (is_among_waiters t a) _ later
     by false false ex ey o k r = ap₂ (λ p q. not p && (if q then is_among_waiters t (a ++ b) else ahead (a ++ b) t u)) ex ey ∙ r o later k
-
--- a front is the first part of its queue
-pub front_rest : (most : ℕ) (g : Members) (q : List Waiter) → front most g q ++ drop (length (front most g q)) q ≡ q
-front_rest most g [] = refl
-front_rest most g (w ∷ q) = by (fits most g w.0 w.1) (front_rest most (with_mode g w.0 w.1) q)
-  where
-    by : (b : Bool) → front most (with_mode g w.0 w.1) q ++ drop (length (front most (with_mode g w.0 w.1) q)) q ≡ q
-        → (if b then w ∷ front most (with_mode g w.0 w.1) q else []) ++ drop (length (if b then w ∷ front most (with_mode g w.0 w.1) q else [])) (w ∷ q) ≡ w ∷ q
-    by true h = ap (λ l. w ∷ l) h
-    by false h = refl
 
 -- what a slot holds once these are granted
 pub grants_other : (ws : List Waiter) (g : Members) (t : ℕ) → is_among_waiters t ws ≡ false → after_grants g ws t ≡ g t

@@ -21,13 +21,14 @@ use Rattle.gl_table.specs.Lawful.{IsLawful}
 use Rattle.gl_table.specs.Calls.{Locks, WaitSettles, wanted, enters_at, enqueued}
 use Rattle.gl_table.specs.Waiting.{is_wait}
 use Rattle.gl_table.proofs.GrantKeeps.{nl_is, txn_there}
-use Rattle.gl_table.proofs.Queues.{ahead_is, ahead_second, split, clash, or_elim}
+use Rattle.gl_table.proofs.Queues.{ahead_is, ahead_second, clash}
 use Rattle.gl_table.proofs.Less.{waiting_is}
 use Rattle.gl_table.proofs.Pumped.{woken_waits}
 use Rattle.gl_table.proofs.Taken.{without_wait-less, condemned-lawful}
 use Rattle.gl_table.proofs.Edges.{step_is}
 use Rattle.gl_table.proofs.Locked.{MayLock, waiting-lawful}
 use Rattle.gl_table.proofs.Walks.{same, in_range, victim, IsVictim, victim_is}
+use Rattle.gl_graph.proofs.Look.{split, or_elim}
 
 -- how many pass
 abbrev pub tally : (ℕ → Bool) → List ℕ → ℕ

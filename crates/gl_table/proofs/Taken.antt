@@ -15,20 +15,13 @@ use Rattle.gl_table.specs.Pumps.{is_waiting_at, without_wait, pumped, condemned}
 use Rattle.gl_table.specs.Waiting.{SettledWithin, Settled}
 use Rattle.gl_table.specs.Lawful.{IsLawful}
 use Rattle.gl_table.specs.Calls.{released}
-use Rattle.gl_table.proofs.GrantKeeps.{same_slot, apart, nl_is}
-use Rattle.gl_table.proofs.Queues.{ahead_is, split, clash, and_both}
+use Rattle.gl_table.proofs.GrantKeeps.{apart, nl_is}
+use Rattle.gl_table.proofs.Queues.{ahead_is, clash}
 use Rattle.gl_table.proofs.QueueEdits.{out_of_without, without_filter, without_ahead, without_none}
 use Rattle.gl_table.proofs.Less.{IsLess, less-lawful, nl_holds}
 use Rattle.gl_table.proofs.Pumped.{pumped-lawful}
-
-pub slot_differs : (u t : ℕ) → (u == t) ≡ false → u ≢ t
-slot_differs u t h e = clash (slot_same u t e) h
-  where
-    slot_same : (u t : ℕ) → u ≡ t → (u == t) ≡ true
-    slot_same u t e = grind (arith, nat_tests)
-
-pub slots_apart : (u t : ℕ) → u ≢ t → (u == t) ≡ false
-slots_apart u t ne = grind (arith, nat_tests)
+use Rattle.gl_graph.proofs.Look.{split, and_both, same_number, number_other, other_number}
+use Rattle.gl_graph.proofs.Unrefused.{or_no}
 
 -- grants of one active transaction
 module _ (s : State) (law : IsLawful s) (t : ℕ) (gone chosen : NodeId → Bool) (active : status_of s t ≡ Some Active)
@@ -39,7 +32,7 @@ module _ (s : State) (law : IsLawful s) (t : ℕ) (gone chosen : NodeId → Bool
 
   held_case : {C : Type 0} (u : ℕ) (q : NodeId) → (u ≡ t → gone q ≡ true → held_but u q ≡ NL → C) → (held_but u q ≡ s.held u q → C) → C
   held_case u q here there =
-      split ((u == t) && gone q) (λ e. let both = and_both _ _ e in here (same_slot u t both.0) both.1 (ap (λ b. if b then NL else s.held u q) e)) (λ e. there (ap (λ b. if b then NL else s.held u q) e))
+      split ((u == t) && gone q) (λ e. let both = and_both _ _ e in here (same_number u t both.0) both.1 (ap (λ b. if b then NL else s.held u q) e)) (λ e. there (ap (λ b. if b then NL else s.held u q) e))
 
   held_other : (u : ℕ) (q : NodeId) → u ≢ t → held_but u q ≡ s.held u q
   held_other u q ne = held_case u q (λ e _ _. absurd (ne e)) (λ e. e)
@@ -54,11 +47,11 @@ module _ (s : State) (law : IsLawful s) (t : ℕ) (gone chosen : NodeId → Bool
     holders_live = λ u q h live. live;
     above = λ u q p h live child.
         split (u == t)
-        (λ e. let is = same_slot u t e in split (gone q)
+        (λ e. let is = same_number u t e in split (gone q)
         (λ g. clash h (nl_holds _ (ap₂ (λ a b. if a && b then NL else s.held u q) e g)))
         (λ g. let kept = held_left u q g in
         held_left u p (free q p g (ap (λ v. holds (members s q) v) (sym is) ∙ sym (ap (λ m. not (same_mode m NL)) kept) ∙ h) live child)))
-        (λ e. held_other u p (slot_differs u t e));
+        (λ e. held_other u p (other_number u t e));
     waits_same = λ u n m st.
         let ne : u ≢ t = λ is. apart (sym active ∙ ap (status_of s) (sym is) ∙ st) in
         (st, λ p. held_other u p ne, refl);
@@ -79,7 +72,7 @@ module _ (s : State) (law : IsLawful s) (t : ℕ) (held : ℕ → NodeId → Mod
   txns_but u = if u == t then x else s.txns u
 
   txn_case : {C : Type 0} (u : ℕ) → (u ≡ t → txns_but u ≡ x → C) → (u ≢ t → txns_but u ≡ s.txns u → C) → C
-  txn_case u here there = split (u == t) (λ e. here (same_slot u t e) (ap (λ b. if b then x else s.txns u) e)) (λ e. there (slot_differs u t e) (ap (λ b. if b then x else s.txns u) e))
+  txn_case u here there = split (u == t) (λ e. here (same_number u t e) (ap (λ b. if b then x else s.txns u) e)) (λ e. there (other_number u t e) (ap (λ b. if b then x else s.txns u) e))
 
   at_own : (u : ℕ) (q : NodeId) → u ≡ t → held t q ≡ s.held t q → held u q ≡ s.held u q
   at_own u q is e = ap (λ v. held v q) is ∙ e ∙ sym (ap (λ v. s.held v q) is)
@@ -113,11 +106,11 @@ restatus_quiet : (st : Status) → IsQuiet st → (x : Option Txn) (q : NodeId) 
 restatus_quiet st quiet None q m h = cc
 restatus_quiet st quiet (Some x) q m h = quiet q m h
 
-restatus_some : (st : Status) (x : Option Txn) → is_some (restatus st x) ≡ is_some x
+pub restatus_some : (st : Status) (x : Option Txn) → is_some (restatus st x) ≡ is_some x
 restatus_some st None = refl
 restatus_some st (Some x) = refl
 
-restatus_age : (st : Status) (x : Option Txn) → age_in (restatus st x) ≡ age_in x
+pub restatus_age : (st : Status) (x : Option Txn) → age_in (restatus st x) ≡ age_in x
 restatus_age st None = refl
 restatus_age st (Some x) = refl
 
@@ -143,10 +136,6 @@ settled_within-lawful (suc k) s s' t law h = settled_within-lawful k (condemned 
 pub settled-lawful : (s s' : State) (t : ℕ) → IsLawful s → Settled s t s' → IsLawful s'
 settled-lawful s s' t law h = settled_within-lawful h.0 s s' t law h.1
 
-or_no : (a b : Bool) → (a || b) ≡ false → (a ≡ false) × (b ≡ false)
-or_no true b k = clash refl k
-or_no false b k = (refl, k)
-
 -- where t holds or waits
 abbrev pub at_all : State → ℕ → NodeId → Bool
 at_all s t n = holds (members s n) t || is_waiting_at s t n
@@ -154,7 +143,7 @@ at_all s t n = holds (members s n) t || is_waiting_at s t n
 pub released-less : (s : State) → IsLawful s → (t : ℕ) → IsLess s (λ u n. if u == t then NL else s.held u n) (λ n. without_waiter t (s.queue n)) (λ u. if u == t then None else s.txns u) (at_all s t)
 released-less s law t =
     out-less s law t (λ u n. if u == t then NL else s.held u n) None (at_all s t)
-    (λ u q ne. ap (λ b. if b then NL else s.held u q) (slots_apart u t ne)) (inl own) (λ q m h. cc) (λ h. clash h refl)
+    (λ u q ne. ap (λ b. if b then NL else s.held u q) (number_other u t ne)) (inl own) (λ q m h. cc) (λ h. clash h refl)
     (λ q no. let both = or_no _ _ no in (both.1, own q ∙ sym (nl_is (s.held t q) both.0)))
   where
     same : (u : ℕ) → (u == u) ≡ true

@@ -22,28 +22,16 @@ use Rattle.gl_table.specs.Lawful.{IsLawful}
 use Rattle.gl_graph.specs.Refusals.{first_refusal, where_true, some_no_node}
 use Rattle.gl_table.specs.Refusals.{no_txn, waiting_test, condemned_test, active_on, bad_mode, first_not_ix, first_of_all, child_held, held_child}
 use Rattle.gl_table.specs.Calls.{wanted}
-use Rattle.gl_table.proofs.CutSet.{listed}
-use Rattle.gl_table.proofs.GrantKeeps.{same_node_true, nl_is}
-use Rattle.gl_table.proofs.Queues.{split, clash, and_both, or_elim, or_left, or_right}
+use Rattle.gl_graph.proofs.RouteLengths.{listed}
+use Rattle.gl_table.proofs.GrantKeeps.{nl_is}
+use Rattle.gl_table.proofs.Queues.{clash}
+use Rattle.gl_graph.proofs.Look.{split, or_elim, or_left, or_right, and_both}
+use Rattle.gl_modes.proofs.NodeLemmas.{same_node-equal}
+use Rattle.gl_modes.proofs.ModeLemmas.{supremum-above, supremum-not_NL}
+use Rattle.gl_graph.proofs.Unrefused.{not_refused, test_fails, not_false, or_no}
 
 pub no_some : {A C : Type 0} {x : A} → Some x ≡ None → C
 no_some e = absurd (cc)
-
-pub skip : (o : Option Refusal) (rs : List (Option Refusal)) → first_refusal (o ∷ rs) ≡ None → (o ≡ None) × (first_refusal rs ≡ None)
-skip None rs h = (refl, h)
-skip (Some r) rs h = no_some h
-
-pub unset : (b : Bool) (r : Refusal) → where_true b r ≡ None → b ≡ false
-unset true r h = no_some h
-unset false r h = refl
-
-pub not_false : (b : Bool) → not b ≡ false → b ≡ true
-not_false true h = refl
-not_false false h = clash refl h
-
-pub or_no : (a b : Bool) → (a || b) ≡ false → (a ≡ false) × (b ≡ false)
-or_no true b k = clash refl k
-or_no false b k = (refl, k)
 
 active_in : (age : ℕ) (x : Option Txn) → live_by age x ≡ true → waiting_test (status_in x) ≡ None → condemned_test (status_in x) ≡ None → status_in x ≡ Some Active
 active_in age None live w c = clash live refl
@@ -58,25 +46,18 @@ active_in age (Some x) live w c = by x.status w c
 pub active_after : (s : State) (t : TxnId) (n : NodeId) (first : Option Refusal) (rest : List (Option Refusal)) → first_refusal (first ∷ active_on s t (n ∷ []) ++ rest) ≡ None
     → (status_of s t.slot ≡ Some Active) × (is_live s.graph n ≡ true) × (first_refusal rest ≡ None)
 active_after s t n first rest h =
-    let a = skip first _ h in
-    let b = skip (no_txn s t) _ a.1 in
-    let c = skip (waiting_test (status_of s t.slot)) _ b.1 in
-    let d = skip (condemned_test (status_of s t.slot)) _ c.1 in
-    let e = skip (some_no_node s.graph (n ∷ [])) _ d.1 in (
-      active_in t.age (s.txns t.slot) (not_false _ (unset _ _ b.0)) c.0 d.0,
-      (and_both (is_live s.graph n) _ (not_false _ (unset _ _ e.0))).0,
+    let a = not_refused first _ h in
+    let b = not_refused (no_txn s t) _ a.1 in
+    let c = not_refused (waiting_test (status_of s t.slot)) _ b.1 in
+    let d = not_refused (condemned_test (status_of s t.slot)) _ c.1 in
+    let e = not_refused (some_no_node s.graph (n ∷ [])) _ d.1 in (
+      active_in t.age (s.txns t.slot) (not_false _ (test_fails _ _ b.0)) c.0 d.0,
+      (and_both (is_live s.graph n) _ (not_false _ (test_fails _ _ e.0))).0,
       e.1,
     )
 
--- modes
-pub above_held : (a m : Mode) → is_at_least (supremum a m) a ≡ true
-above_held a m = search rules
-
-wanted_some : (a m : Mode) → same_mode m NL ≡ false → same_mode (supremum a m) NL ≡ false
-wanted_some a m h = search rules
-
 pub wanted_not_nl : (a m : Mode) → same_mode m NL ≡ false → supremum a m ≢ NL
-wanted_not_nl a m h e = clash (ap (λ x. same_mode x NL) e) (wanted_some a m h)
+wanted_not_nl a m h e = clash (ap (λ x. same_mode x NL) e) (supremum-not_NL a m h)
 
 nl_supremum : (m : Mode) → supremum NL m ≡ m
 nl_supremum m = refl
@@ -86,7 +67,7 @@ record_modes a m h k = search rules
 
 pub mode_fits : (s : State) → IsLawful s → (t : ℕ) (n : NodeId) (m : Mode) → bad_mode s n m ≡ None → (same_mode m NL ≡ false) × ModeFitsKind s n (wanted s t n m)
 mode_fits s law t n m h =
-    let both = or_no _ _ (unset _ _ h) in (
+    let both = or_no _ _ (test_fails _ _ h) in (
       both.0,
       λ is. let own = asked is both.1 in split (holds (members s n) t) (λ k. record_modes (s.held t n) m ((law.grants_live t n k).2 is) own)
           (λ k. ap (λ a. same_mode (supremum a m) S || same_mode (supremum a m) X) (nl_is (s.held t n) k) ∙ own),
@@ -96,7 +77,7 @@ mode_fits s law t n m h =
     asked is k = not_false _ (sym (ap (λ b. b && not (same_mode m S || same_mode m X)) is) ∙ k)
 
 -- the graph rule
-all_ix : (held : NodeId → Mode) (ps : List NodeId) → first_not_ix held ps ≡ None → list_all (λ p. is_at_least (held p) IX) ps ≡ true
+pub all_ix : (held : NodeId → Mode) (ps : List NodeId) → first_not_ix held ps ≡ None → list_all (λ p. is_at_least (held p) IX) ps ≡ true
 all_ix held [] h = refl
 all_ix held (p ∷ ps) h = by (is_at_least (held p) IX) refl h (all_ix held ps)
   where
@@ -123,11 +104,11 @@ none_found f q (x ∷ xs) h k = by (f x) refl h (none_found f q xs)
   where
     by : (b : Bool) → f x ≡ b → child_held (cond b (Some x) (find f xs)) ≡ None → (child_held (find f xs) ≡ None → list_any (same_node q) xs ≡ true → f q ≡ false) → f q ≡ false
     by true e l r = no_some l
-    by false e l r = or_elim _ _ k (λ here. ap f (same_node_true q x here) ∙ e) (λ there. r l there)
+    by false e l r = or_elim _ _ k (λ here. ap f (same_node-equal q x here) ∙ e) (λ there. r l there)
 
 pub one_found : (f : NodeId → Bool) (q : NodeId) (xs : List NodeId) → f q ≡ true → list_any (same_node q) xs ≡ true → list_any f xs ≡ true
 one_found f q [] h k = k
-one_found f q (x ∷ xs) h k = or_elim _ _ k (λ here. or_left _ _ (ap f (sym (same_node_true q x here)) ∙ h)) (λ there. or_right (f x) _ (one_found f q xs h there))
+one_found f q (x ∷ xs) h k = or_elim _ _ k (λ here. or_left _ _ (ap f (sym (same_node-equal q x here)) ∙ h)) (λ there. or_right (f x) _ (one_found f q xs h there))
 
 pub no_child : (s : State) → IsLawful s → (t : ℕ) (n q : NodeId) → held_child s t n ≡ None → is_live s.graph q ≡ true → is_child s.graph n q ≡ true → holds (members s q) t ≡ true → ⊥
 no_child s law t n q h live child held =

@@ -17,8 +17,8 @@ use Rattle.gl_table.specs.Intends.{no_parents}
 use Rattle.gl_table.specs.State.{State}
 use Rattle.gl_table.specs.Lawful.{IsLawful}
 use Rattle.gl_table.specs.Effects.{SameBelow}
-use Rattle.gl_table.proofs.CutSet.{or_elim, and_both, all_at}
-use Rattle.gl_table.proofs.Effects.{split, or_true, all_from, ReadOn, read_on_route, eff_s_route, eff_x_route, read_on_eff, eff_x_any}
+use Rattle.gl_table.proofs.Effects.{or_true, all_from, ReadOn, read_on_route, eff_s_route, eff_x_route, read_on_eff, eff_x_any}
+use Rattle.gl_graph.proofs.Look.{split, or_elim, and_both, all_at}
 
 -- the graph changes at the nodes of a set; h has no effective S there, where the node stood before or is a record after
 pub record GraphStep (g g' : Graph) (h : NodeId → Mode) (changed : NodeId → Bool) : Type 0 where

@@ -8,7 +8,15 @@ use Rattle.std.proofs.lemmas.Bool.Decides.{nat_tests}
 use mathlib.Core.Bool.{true≢false}
 use Rattle.gl_modes.specs.declared.mode.Mode.{Mode}
 use Rattle.gl_header.specs.Header.{Members, Waiter, front, fits, with_mode, after_grants, is_waiter, is_among_waiters, without_waiter, placed, holds}
-use Rattle.gl_table.proofs.Effects.{split}
+use Rattle.gl_graph.proofs.Look.{split}
+use Rattle.gl_header.proofs.Fronts.{front-and_rest}
+
+pub both_empty : (xs ys : List Waiter) → xs ++ ys ≡ [] → (xs ≡ []) × (ys ≡ [])
+both_empty [] ys e = (refl, e)
+both_empty (x ∷ xs) ys e = absurd (no_cons e)
+  where
+    no_cons : {x : Waiter} {xs : List Waiter} → x ∷ xs ≡ [] → ⊥
+    no_cons e = cc
 
 -- the waits of one slot
 abbrev pub waits_of : ℕ → List Waiter → List Waiter
@@ -59,23 +67,6 @@ granted_mode g t (w ∷ ws) =
         → last_mode (with_mode g w.0 w.1 t) (waits_of t ws) ≡ last_mode (g t) (if b then w ∷ waits_of t ws else waits_of t ws)
     by true f h = ap (λ m. last_mode m (waits_of t ws)) (f refl)
     by false f h = ap (λ m. last_mode m (waits_of t ws)) (h refl)
-
--- a front and what stays make up the queue
-pub front_and_rest : (most : ℕ) (g : Members) (q : List Waiter) → front most g q ++ drop (length (front most g q)) q ≡ q
-front_and_rest most g [] = refl
-front_and_rest most g (w ∷ q) = by (fits most g w.0 w.1) (front_and_rest most (with_mode g w.0 w.1) q)
-  where
-    by : (b : Bool) → front most (with_mode g w.0 w.1) q ++ drop (length (front most (with_mode g w.0 w.1) q)) q ≡ q
-        → (if b then w ∷ front most (with_mode g w.0 w.1) q else []) ++ drop (length (if b then w ∷ front most (with_mode g w.0 w.1) q else [])) (w ∷ q) ≡ w ∷ q
-    by true e = ap (λ r. w ∷ r) e
-    by false e = refl
-
-pub split_none : (xs ys : List Waiter) → xs ++ ys ≡ [] → (xs ≡ []) × (ys ≡ [])
-split_none [] ys e = (refl, e)
-split_none (x ∷ xs) ys e = absurd (no_cons e)
-  where
-    no_cons : {x : Waiter} {xs : List Waiter} → x ∷ xs ≡ [] → ⊥
-    no_cons e = cc
 
 pub split_one : (xs ys : List Waiter) (w : Waiter) → xs ++ ys ≡ w ∷ [] → ((xs ≡ []) × (ys ≡ w ∷ [])) ⊎ ((xs ≡ w ∷ []) × (ys ≡ []))
 split_one [] ys w e = inl (refl, e)

@@ -13,6 +13,7 @@ use Rattle.gl_table.specs.State.{Txn, status_in, age_in}
 use Rattle.gl_table.specs.Pumps.{waits_at}
 use Rattle.gl_table.specs.Calls.{none_but, freed, freed_unless}
 use Rattle.gl_graph.proofs.Look.{split, no, or_elim, or_left, or_right, none_some, some_is, same_node_is}
+use Rattle.gl_table.proofs.Less.{waiting_is}
 
 pub filter_yes : (p : Waiter → Bool) (x : Waiter) (xs : List Waiter) → p x ≡ true → filter p (x ∷ xs) ≡ x ∷ filter p xs
 filter_yes p x xs t = ap (λ b. if b then x ∷ filter p xs else filter p xs) t
@@ -92,12 +93,6 @@ waits_still n q (Some x) h other = by x.status h
     by Active h' = absurd (no h')
     by Condemned h' = absurd (no h')
     by (Waiting p w) h' = ap (λ b. waits_at (Some (if b then Active else Waiting p w)) q) (ap (λ y. same_node y n) (same_node_is p q h') ∙ other) ∙ h'
-
-pub waits_for_mode : (o : Option Status) (q : NodeId) → waits_at o q ≡ true → (m : Mode) × (o ≡ Some (Waiting q m))
-waits_for_mode None q h = absurd (no h)
-waits_for_mode (Some Active) q h = absurd (no h)
-waits_for_mode (Some Condemned) q h = absurd (no h)
-waits_for_mode (Some (Waiting p m)) q h = (m, ap (λ x. Some (Waiting x m)) (same_node_is p q h))
 
 pub unless_some : (keeps : ℕ → Bool) (n : NodeId) (u : ℕ) (o : Option Txn) → is_some (freed_unless keeps n u o) ≡ is_some o
 unless_some keeps n u o = split (keeps u) (λ t. ap (λ b. is_some (if b then o else freed n o)) t) (λ f. ap (λ b. is_some (if b then o else freed n o)) f ∙ some_freed n o)

@@ -7,7 +7,8 @@ use Rattle.std.proofs.lemmas.Bool.Decides.{nat_tests}
 use Rattle.std.proofs.lemmas.Map.Made.{length-le_from_is_member}
 use Rattle.std.proofs.lemmas.List.FromFn.{length-range_with_len}
 use Rattle.gl_waits.specs.Waits.{IsWalk, Reaches, IsOnCycleOf, IsOnNoCycle, IsYoungest}
-use Rattle.gl_table.proofs.Queues.{split, clash, and_both, or_elim, or_left, or_right}
+use Rattle.gl_table.proofs.Queues.{clash}
+use Rattle.gl_graph.proofs.Look.{split, or_elim, or_left, or_right, and_both}
 
 abbrev pub same : ℕ → ℕ → Bool
 same x y = x == y
