@@ -1,6 +1,6 @@
 -- No command changes the way of detection.
 use Rattle.std.specs.Prelude.{◌≡◌, ℕ, zero, suc}
-use Rattle.std.proofs.Common.{ap, ◌∙◌, refl}
+use Rattle.std.proofs.Common.{ap, refl}
 use Rattle.gl_table.specs.declared.detect.Detect.{Detect}
 use Rattle.gl_table.specs.declared.detect.Detect.TheVariants.{AtBlock, ByWatcher}
 use Rattle.gl_catalog.specs.declared.command.Answer.{Answer}

@@ -1,5 +1,5 @@
 -- Each command on locks and transactions keeps the law of a state.
-use Rattle.std.specs.Prelude.{◌≡◌, ◌<◌, ◌∷◌, [], None}
+use Rattle.std.specs.Prelude.{◌≡◌, ◌∷◌, [], None}
 use Rattle.std.proofs.Common.{sym, arith, subst}
 use Rattle.gl_modes.specs.declared.mode.Mode.{Mode}
 use Rattle.gl_modes.specs.declared.node.NodeId.{NodeId}

@@ -1,5 +1,5 @@
 -- Worked rows of one or two roots: conversions, queues, deadlocks, limits and cancels.
-use Rattle.std.specs.Prelude.{◌+◌, List, [], ◌∷◌, ◌++◌, map}
+use Rattle.std.specs.Prelude.{◌+◌, [], ◌∷◌, ◌++◌, map}
 use Rattle.std.specs.List.{range_with_len}
 use Rattle.std.proofs.Common.{refl}
 use Rattle.gl_modes.specs.declared.mode.Mode.TheVariants.{NL, IX, S, SIX, X}
@@ -10,7 +10,7 @@ use Rattle.gl_table.specs.declared.detect.Detect.TheVariants.{AtBlock, ByWatcher
 use Rattle.gl_table.specs.declared.notice.Notice.TheVariants as notice
 use Rattle.gl_catalog.specs.declared.command.Answer.TheVariants as answer
 use Rattle.gl_catalog.specs.declared.command.Command.TheVariants as command
-use Rattle.gl_catalog.proofs.RowWords.{Line, Rows, begins, computed, done, group, holds, id, locks, refuses, roots, says, tells, txn, waits}
+use Rattle.gl_catalog.proofs.RowWords.{Rows, begins, computed, done, group, holds, id, locks, refuses, roots, says, tells, txn, waits}
 
 abbrev db : NodeId
 db = id 1

@@ -1,5 +1,5 @@
 -- New nodes keep the law of a state: inner, file, index and insert.
-use Rattle.std.specs.Prelude.{◌≡◌, ℕ, ◌+◌, Bool, true, not, ◌||◌, ◌==◌, nat_lt, nat_le, List, [], ◌∷◌, ◌++◌, length, Option, Some, None, is_some, if◌then◌else◌}
+use Rattle.std.specs.Prelude.{◌≡◌, ℕ, ◌+◌, Bool, true, not, ◌||◌, ◌==◌, List, [], ◌∷◌, length, Option, Some, None, is_some, if◌then◌else◌}
 use Rattle.std.specs.List.{list_all, list_any, filter, range_with_len}
 use denote.Bor.{Bor}
 use Rattle.std.proofs.Common.{refl, sym, ap, ◌∙◌, subst, arith}

@@ -1,19 +1,15 @@
 -- With detection at each block, no command on locks leaves a cycle.
 use Rattle.std.specs.Prelude.{◌≡◌, ℕ, ◌+◌, zero, suc, Bool, true, false, ◌&&◌, ◌==◌, List, [], Option, Some, None, if◌then◌else◌}
-use Rattle.std.proofs.Common.{refl, sym, ap, ◌∙◌, arith, subst, ⊎_elim}
+use Rattle.std.proofs.Common.{sym, ap, ◌∙◌, arith, subst}
 use Rattle.std.proofs.lemmas.Bool.Decides.{nat_tests}
-use mathlib.Core.Bool.{true≢false}
 use Rattle.gl_modes.specs.declared.mode.Mode.{Mode}
 use Rattle.gl_modes.specs.declared.mode.Mode.TheVariants.{NL}
 use Rattle.gl_modes.specs.declared.node.NodeId.{NodeId}
-use Rattle.gl_modes.specs.declared.refusal.Refusal.{Refusal}
 use Rattle.gl_modes.specs.declared.refusal.Refusal.TheVariants as no
 use Rattle.gl_table.specs.declared.txn.TxnId.{TxnId}
 use Rattle.gl_table.specs.declared.txn.Status.{Status}
 use Rattle.gl_table.specs.declared.txn.Status.TheVariants.{Active, Condemned}
 use Rattle.gl_table.specs.declared.detect.Detect.TheVariants.{AtBlock}
-use Rattle.gl_catalog.specs.declared.command.Answer.{Answer}
-use Rattle.gl_catalog.specs.declared.command.Command.{Command}
 use Rattle.gl_catalog.specs.declared.command.Command.TheVariants as command
 use Rattle.gl_modes.specs.Nodes.{same_node}
 use Rattle.gl_graph.specs.Shapes.{is_record_shape}
@@ -25,8 +21,6 @@ use Rattle.gl_table.specs.Pumps.{without_wait, is_waiting_at, pumped, condemned}
 use Rattle.gl_table.specs.Covered.{is_covered}
 use Rattle.gl_table.specs.Waiting.{waits_for, SettledWithin, Settled}
 use Rattle.gl_table.specs.Lawful.{IsLawful}
-use Rattle.gl_table.specs.Tellings.{Told}
-use Rattle.gl_catalog.specs.Step.{Accepts, Step, Goes, Answers, query_answer}
 use Rattle.gl_table.specs.Calls.{Locks, WaitSettles, wanted, enters_at, enqueued, begun, released, raised, shed, asked_by_escalation}
 use Rattle.gl_catalog.specs.Tests.{refusal_of, worn}
 use Rattle.gl_graph.specs.Refusals.{where_true}
@@ -37,7 +31,7 @@ use Rattle.gl_table.proofs.Less.{IsLess, less-lawful}
 use Rattle.gl_table.proofs.Taken.{IsQuiet, at_all, without_wait-less, released-less, condemned-lawful}
 use Rattle.gl_table.proofs.Escalates.{raised-lawful, shed-less}
 use Rattle.gl_table.proofs.Tests.{active_after}
-use Rattle.gl_table.proofs.Locked.{MayLock, may_lock, waiting-lawful, unlocked-less}
+use Rattle.gl_table.proofs.Locked.{MayLock, waiting-lawful, unlocked-less}
 use Rattle.gl_waits.proofs.WalkLemmas.{no_step-no_cycle}
 use Rattle.gl_waits.proofs.CycleLemmas.{less-no_cycle, at_one-no_cycle}
 use Rattle.gl_table.proofs.Edges.{idle_no_step, less_steps, pumped_steps}

@@ -3,7 +3,6 @@ use Rattle.std.specs.Prelude.{◌≡◌, ◌⊎◌, ℕ, ◌≤◌, Bool, true, 
 use Rattle.std.specs.List.{list_any}
 use Rattle.std.proofs.Common.{refl, sym, subst, ◌∙◌, arith, rules, inl, inr}
 use mathlib.Core.Bool.{true≢false}
-use Rattle.gl_modes.specs.declared.mode.Mode.{Mode}
 use Rattle.gl_modes.specs.declared.node.NodeId.{NodeId}
 use Rattle.gl_modes.specs.Modes.{is_at_least}
 use Rattle.gl_table.specs.declared.txn.TxnId.{TxnId}
@@ -15,10 +14,10 @@ use Rattle.gl_graph.specs.Lawful.{IsLawfulGraph}
 use Rattle.gl_table.specs.State.{State, lives}
 use Rattle.gl_table.specs.Lawful.{IsLawful}
 use Rattle.gl_table.specs.Effects.{effective, EffS}
-use Rattle.gl_catalog.specs.Step.{Step, Run}
+use Rattle.gl_catalog.specs.Step.{Run}
 use Rattle.gl_table.specs.Tellings.{Told}
 use Rattle.gl_table.specs.Effects.{is_at_least_effect, SameBelow}
-use Rattle.gl_catalog.specs.Promises.{names, is_grant_to, told_granted, OthersKeepEffects, OthersKeepBelow, StepsKeepLaw}
+use Rattle.gl_catalog.specs.Promises.{names, is_grant_to, told_granted, OthersKeepEffects, OthersKeepBelow}
 use Rattle.gl_catalog.proofs.ToldGrants.{tells, tells_grant, any_weaker}
 use Rattle.gl_table.proofs.Follows.{SameGrants, GrantedTo}
 use Rattle.gl_catalog.proofs.Keeps.{Keeps, ToldGrant, grown, effect_refl, below_itself}

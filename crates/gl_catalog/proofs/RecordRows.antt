@@ -1,5 +1,5 @@
 -- Worked rows with records: the rule of the graph, effective modes, keys that change, escalation, records that come and go.
-use Rattle.std.specs.Prelude.{List, [], ◌∷◌, ◌++◌}
+use Rattle.std.specs.Prelude.{[], ◌∷◌, ◌++◌}
 use Rattle.std.proofs.Common.{refl}
 use Rattle.gl_modes.specs.declared.mode.Mode.TheVariants.{NL, IS, IX, S, X}
 use Rattle.gl_modes.specs.declared.refusal.Refusal.TheVariants as no
@@ -8,7 +8,7 @@ use Rattle.gl_table.specs.declared.effect.Effect.TheVariants as effect
 use Rattle.gl_table.specs.declared.notice.Notice.TheVariants as notice
 use Rattle.gl_catalog.specs.declared.command.Answer.TheVariants as answer
 use Rattle.gl_catalog.specs.declared.command.Command.TheVariants as command
-use Rattle.gl_catalog.proofs.RowWords.{Rows, a, b, begins, c, computed, db, done, f1, holds, i1, i1_0, i1_1, id, locks, locks_all, prelude, r1, r2, ref, refuses, says, tells, waits}
+use Rattle.gl_catalog.proofs.RowWords.{Rows, a, b, begins, c, computed, db, done, f1, holds, i1, i1_0, i1_1, locks, locks_all, prelude, r1, r2, ref, refuses, says, tells, waits}
 
 -- X asks IX on every parent, S on one; a node is left after its children
 row_9 : Rows AtBlock 1 (prelude ++

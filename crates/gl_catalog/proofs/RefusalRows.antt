@@ -1,5 +1,5 @@
 -- For each refusal runs from the empty state in which it is the answer, by the commands that can answer it. The two that only a full graph and a worn out count can meet are in Limits.
-use Rattle.std.specs.Prelude.{List, [], ◌∷◌, ◌++◌}
+use Rattle.std.specs.Prelude.{[], ◌∷◌, ◌++◌}
 use Rattle.std.proofs.Common.{refl}
 use Rattle.gl_modes.specs.declared.mode.Mode.TheVariants.{NL, IS, IX, S, X}
 use Rattle.gl_modes.specs.declared.node.NodeId.{NodeId}
@@ -8,7 +8,7 @@ use Rattle.gl_table.specs.declared.detect.Detect.TheVariants.{AtBlock, ByWatcher
 use Rattle.gl_table.specs.declared.txn.TxnId.{TxnId}
 use Rattle.gl_catalog.specs.declared.command.Answer.TheVariants as answer
 use Rattle.gl_catalog.specs.declared.command.Command.TheVariants as command
-use Rattle.gl_catalog.proofs.RowWords.{Line, Rows, a, b, begins, computed, db, f1, file, holds, i1, i1_0, id, indexed, locks, locks_all, prelude, r1, r2, ref, refuses, roots, says, txn, waits, z}
+use Rattle.gl_catalog.proofs.RowWords.{Rows, a, b, begins, computed, db, f1, holds, i1, id, indexed, locks, locks_all, prelude, r1, ref, refuses, says, waits, z}
 
 -- names a node that never was, and a transaction that has ended
 abbrev nowhere : NodeId

@@ -1,28 +1,19 @@
 -- What it says that a command is not refused.
-use Rattle.std.specs.Prelude.{◌≡◌, ◌⊎◌, ℕ, ◌+◌, ◌<◌, ◌≤◌, Bool, true, false, not, ◌&&◌, ◌||◌, nat_lt, nat_le, List, [], ◌∷◌, length, Option, Some, None, if◌then◌else◌}
+use Rattle.std.specs.Prelude.{◌≡◌, ◌⊎◌, ℕ, Bool, true, false, not, ◌&&◌, List, [], ◌∷◌, Option, Some, None, if◌then◌else◌}
 use Rattle.std.specs.List.{list_all}
-use Rattle.std.proofs.Common.{refl, sym, ap, ◌∙◌, arith, inl, inr}
-use Rattle.std.proofs.lemmas.Bool.Decides.{nat_tests}
-use mathlib.Core.Bool.{true≢false}
-use Rattle.gl_modes.specs.declared.mode.Mode.{Mode}
+use Rattle.std.proofs.Common.{refl, sym, ap, ◌∙◌, inl, inr}
 use Rattle.gl_modes.specs.declared.mode.Mode.TheVariants.{IX, X}
 use Rattle.gl_modes.specs.declared.node.NodeId.{NodeId}
-use Rattle.gl_modes.specs.declared.refusal.Refusal.{Refusal}
-use Rattle.gl_modes.specs.declared.refusal.Refusal.TheVariants as refusal
 use Rattle.gl_modes.specs.Modes.{is_at_least}
 use Rattle.gl_table.specs.declared.txn.TxnId.{TxnId}
 use Rattle.gl_table.specs.declared.txn.Status.{Status}
 use Rattle.gl_table.specs.declared.txn.Status.TheVariants.{Active, Waiting, Condemned}
-use Rattle.gl_graph.specs.Graph.{Graph, node_count, parents_of}
-use Rattle.gl_graph.specs.Lawful.{are_inner, are_distinct, IsRising, AreInnerParents}
-use Rattle.gl_graph.specs.Routes.{is_at_or_below}
-use Rattle.gl_graph.specs.Refusals.{is_rising}
+use Rattle.gl_graph.specs.Graph.{parents_of}
 use Rattle.gl_modes.specs.Modes.{same_mode}
 use Rattle.gl_table.specs.State.{State, Txn, lives, live_by, status_of, status_in}
 use Rattle.gl_table.specs.Intends.{no_parents}
-use Rattle.gl_graph.specs.Refusals.{first_refusal, where_true, bad_parents, too_many_nodes, first_cycle}
 use Rattle.gl_table.specs.Refusals.{no_txn, waiting_test, condemned_test, first_not_ix, need_exclusive, need_new_parents, holds_x, holds_x_on_all, some_given}
-use Rattle.gl_graph.proofs.Look.{split, no, none_some, and_both, both}
+use Rattle.gl_graph.proofs.Look.{split, no, none_some, and_both}
 use Rattle.gl_graph.proofs.Unrefused.{test_fails, not_false}
 use Rattle.gl_table.proofs.Tests.{all_ix}
 

@@ -1,6 +1,5 @@
 -- Words for worked rows: commands with what is answered to them, as runs from the empty state.
-use Rattle.std.specs.Prelude.{◌≡◌, ℕ, ◌+◌, ◌-◌, List, [], ◌∷◌, ◌++◌, map}
-use Rattle.std.specs.List.{range_with_len}
+use Rattle.std.specs.Prelude.{◌≡◌, ℕ, ◌-◌, List, [], ◌∷◌, ◌++◌, map}
 use Rattle.std.proofs.Common.{subst}
 use denote.Bor.{Bor}
 use Rattle.gl_modes.specs.declared.mode.Mode.{Mode}

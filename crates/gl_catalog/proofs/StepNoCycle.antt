@@ -1,15 +1,12 @@
 -- With detection at each block no command at all leaves a cycle: those on the graph add no step.
 use Rattle.std.specs.Prelude.{◌≡◌, ℕ, Bool, true, false, not, ◌&&◌, ◌||◌, ◌==◌, List, [], ◌∷◌, Option, Some, None, if◌then◌else◌}
 use Rattle.std.specs.List.{filter}
-use Rattle.std.proofs.Common.{refl, sym, ap, ap₂, ◌∙◌, subst, ⊎_elim}
+use Rattle.std.proofs.Common.{refl, sym, ap₂, ◌∙◌, subst}
 use Rattle.gl_modes.specs.declared.mode.Mode.{Mode}
 use Rattle.gl_modes.specs.declared.mode.Mode.TheVariants.{NL, X}
 use Rattle.gl_modes.specs.declared.node.NodeId.{NodeId}
-use Rattle.gl_modes.specs.declared.refusal.Refusal.{Refusal}
 use Rattle.gl_modes.specs.Modes.{are_compatible}
-use Rattle.gl_table.specs.declared.txn.Status.{Status}
-use Rattle.gl_table.specs.declared.txn.Status.TheVariants.{Active, Waiting, Condemned}
-use Rattle.gl_table.specs.declared.detect.Detect.{Detect}
+use Rattle.gl_table.specs.declared.txn.Status.TheVariants.{Active, Waiting}
 use Rattle.gl_table.specs.declared.detect.Detect.TheVariants.{AtBlock}
 use Rattle.gl_catalog.specs.declared.command.Answer.{Answer}
 use Rattle.gl_catalog.specs.declared.command.Command.{Command}
@@ -25,7 +22,7 @@ use Rattle.gl_table.specs.Tellings.{Told}
 use Rattle.gl_catalog.specs.Step.{Accepts, Step}
 use Rattle.gl_catalog.specs.Tests.{refusal_of, worn}
 use Rattle.gl_table.specs.Refusals.{held_child, not_held}
-use Rattle.gl_table.specs.Calls.{wanted, deleted, freed, none_but, freed_unless, moved_to, stays}
+use Rattle.gl_table.specs.Calls.{wanted, deleted, freed, freed_unless, moved_to, stays}
 use Rattle.gl_table.specs.Waiting.{HasNoCycle, EmptyHasNoCycle}
 use Rattle.gl_catalog.specs.Promises.{RunsKeepNoCycle}
 use Rattle.gl_graph.specs.Refusals.{worn_births}

@@ -5,7 +5,6 @@ use Rattle.std.proofs.Common.{refl, sym, ap, ap₂, ◌∙◌, arith, inl, inr}
 use Rattle.std.proofs.lemmas.Bool.Decides.{nat_tests}
 use mathlib.Core.Bool.{true≢false}
 use Rattle.gl_modes.specs.declared.node.NodeId.{NodeId}
-use Rattle.gl_modes.specs.declared.refusal.Refusal.{Refusal}
 use Rattle.gl_modes.specs.declared.refusal.Refusal.TheVariants as no
 use Rattle.gl_table.specs.declared.txn.TxnId.{TxnId}
 use Rattle.gl_graph.specs.Graph.{Graph, Node, node_at, is_live, parents_of, parents_in, shape_of, shape_in}
@@ -13,11 +12,11 @@ use Rattle.gl_graph.specs.Shapes.{Shape, Inner, File, Index, Interval, Rec, is_r
 use Rattle.gl_graph.specs.Lawful.{HasShape, IsLawfulGraph}
 use Rattle.gl_table.specs.State.{State, Txn, lives, live_by}
 use Rattle.gl_table.specs.Intends.{no_parents}
-use Rattle.gl_graph.specs.Refusals.{first_refusal, where_true, some_no_node}
+use Rattle.gl_graph.specs.Refusals.{some_no_node}
 use Rattle.gl_table.specs.Refusals.{no_txn, need_exclusive, holds_x, holds_x_on_all, some_given}
 use Rattle.gl_catalog.specs.Promises.{same_txn}
 use Rattle.gl_graph.proofs.Look.{and_both}
-use Rattle.gl_graph.proofs.Unrefused.{not_refused, test_fails, not_false}
+use Rattle.gl_graph.proofs.Unrefused.{test_fails, not_false}
 
 some_none : {A : Type 0} {x : A} → Some x ≡ None → ⊥
 some_none e = cc

@@ -1,9 +1,7 @@
 -- One command: its answer, the state that it leaves, and what others are told; and runs of commands.
-use Rattle.std.specs.Prelude.{◌≡◌, ◌⊎◌, ℕ, ◌+◌, ◌-◌, true, ◌==◌, List, [], ◌∷◌, Option, Some, None, is_none}
+use Rattle.std.specs.Prelude.{◌≡◌, ◌⊎◌, ℕ, ◌+◌, ◌-◌, true, List, [], ◌∷◌, Option, Some, None, is_none}
 use Rattle.std.specs.List.{find}
 use Rattle.gl_table.specs.declared.txn.Status.{Status}
-use Rattle.gl_table.specs.declared.effect.Effect.{Effect}
-use Rattle.gl_catalog.specs.declared.command.Escalated.{Escalated}
 use Rattle.gl_catalog.specs.declared.command.Answer.{Answer}
 use Rattle.gl_catalog.specs.declared.command.Command.{Command}
 use Rattle.gl_modes.specs.declared.mode.Mode.{Mode}

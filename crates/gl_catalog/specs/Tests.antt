@@ -1,5 +1,5 @@
 -- The tests of each command in their order.
-use Rattle.std.specs.Prelude.{◌-◌, ℕ, Bool, true, false, not, ◌&&◌, ◌||◌, ◌==◌, List, [], ◌∷◌, ◌++◌, length, Option, Some, is_none}
+use Rattle.std.specs.Prelude.{ℕ, Bool, true, false, not, ◌&&◌, ◌||◌, ◌==◌, List, [], ◌∷◌, ◌++◌, length, Option, Some, is_none}
 use Rattle.gl_table.specs.declared.txn.TxnId.{TxnId}
 use Rattle.gl_catalog.specs.declared.command.Command.{Command}
 use Rattle.gl_modes.specs.declared.node.NodeId.{NodeId}

@@ -6,5 +6,6 @@ mod laws;
 
 pub use command::{Answer, Command, Escalated, Reply};
 pub use laws::{
-    always_answers, mover_keeps_effects, no_cycle, others_keep_below, others_keep_effects, steps_keep_law,
+    always_answers, mover_keeps_effects, no_cycle, others_keep_below, others_keep_effects,
+    steps_keep_law,
 };

@@ -18,7 +18,7 @@ use Rattle.gl_table.specs.State.{State}
 use Rattle.gl_table.specs.Lawful.{IsLawful}
 use Rattle.gl_graph.proofs.RouteLengths.{node_equivalence, distinct, live_way, listed}
 use Rattle.gl_table.proofs.CutSet.{on_path, cut_set_law}
-use Rattle.gl_graph.proofs.Look.{split, or_elim, and_both}
+use Rattle.gl_graph.proofs.Look.{or_elim, and_both}
 use Rattle.gl_modes.proofs.NodeLemmas.{same_node-equal, same_node-refl}
 
 pub or_true : (b : Bool) → (b || true) ≡ true

@@ -1,7 +1,6 @@
 -- The empty state meets the law, and nobody waits in it.
-use Rattle.std.specs.Prelude.{◌≡◌, ℕ, true, false, [], ◌∷◌, Some, None}
-use Rattle.std.proofs.Common.{refl, sym, arith}
-use mathlib.Core.Bool.{true≢false}
+use Rattle.std.specs.Prelude.{ℕ}
+use Rattle.std.proofs.Common.{refl, arith}
 use Rattle.gl_table.specs.declared.detect.Detect.{Detect}
 use Rattle.gl_table.specs.Lawful.{IsLawful}
 use Rattle.gl_table.specs.State.{empty_state}

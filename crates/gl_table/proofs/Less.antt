@@ -2,7 +2,6 @@
 use Rattle.std.specs.Prelude.{◌≡◌, ◌⊎◌, ℕ, ◌≤◌, Bool, true, false, cond, not, ◌&&◌, ◌||◌, List, [], ◌∷◌, Option, Some, None, is_some}
 use Rattle.std.specs.List.{filter, list_any, list_all}
 use Rattle.std.proofs.Common.{refl, sym, ap, ap₂, ◌∙◌, arith, rules, subst, ⊎_elim}
-use Rattle.std.proofs.lemmas.Bool.Decides.{nat_tests}
 use Rattle.gl_modes.specs.declared.mode.Mode.{Mode}
 use Rattle.gl_modes.specs.declared.mode.Mode.TheVariants.{NL, IS, IX}
 use Rattle.gl_modes.specs.declared.node.NodeId.{NodeId}
@@ -22,7 +21,7 @@ use Rattle.gl_table.proofs.GrantKeeps.{front_less}
 use Rattle.gl_table.proofs.LawfulBut.{IsLawfulBut}
 use Rattle.gl_graph.proofs.Look.{split, or_left, or_right}
 use Rattle.gl_modes.proofs.NodeLemmas.{same_node-equal, same_node-refl}
-use Rattle.gl_modes.proofs.ModeLemmas.{at_least-refl, NL-compatible, NL-compatible_left}
+use Rattle.gl_modes.proofs.ModeLemmas.{at_least-refl, NL-compatible}
 
 pub waiting_is : (o : Option Status) (n : NodeId) → waits_at o n ≡ true → (m : Mode) × (o ≡ Some (Waiting n m))
 waiting_is None n h = clash h refl

@@ -1,13 +1,13 @@
 -- Lists of waiters: who stands ahead, what a front takes, what a taken wait leaves.
-use Rattle.std.specs.Prelude.{length, drop, ◌≡◌, ℕ, Bool, true, false, not, ◌&&◌, ◌||◌, ◌==◌, List, [], ◌∷◌, ◌++◌, if◌then◌else◌}
+use Rattle.std.specs.Prelude.{◌≡◌, ℕ, Bool, true, false, not, ◌&&◌, ◌||◌, ◌==◌, List, [], ◌∷◌, ◌++◌, if◌then◌else◌}
 use Rattle.std.specs.List.{filter, before_first}
 use Rattle.std.proofs.Common.{refl, sym, ap, ap₂, ◌∙◌, arith}
 use Rattle.std.proofs.lemmas.Bool.Decides.{nat_tests}
 use Rattle.std.proofs.lemmas.List.Folds.{list_any-append}
 use mathlib.Core.Bool.{true≢false}
 use Rattle.gl_modes.specs.declared.mode.Mode.{Mode}
-use Rattle.gl_header.specs.Header.{Members, Waiter, fits, with_mode, front, after_grants, is_waiter, is_among_waiters, is_ahead}
-use Rattle.gl_graph.proofs.Look.{split, or_elim, or_left, or_right, and_both}
+use Rattle.gl_header.specs.Header.{Members, Waiter, with_mode, after_grants, is_waiter, is_among_waiters, is_ahead}
+use Rattle.gl_graph.proofs.Look.{split, or_left, or_right}
 
 -- who stands ahead, one waiter after another
 abbrev pub ahead : List Waiter → ℕ → ℕ → Bool

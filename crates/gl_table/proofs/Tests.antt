@@ -19,7 +19,7 @@ use Rattle.gl_modes.specs.Modes.{same_mode}
 use Rattle.gl_table.specs.State.{State, Txn, members, status_in, status_of, live_by}
 use Rattle.gl_table.specs.Intends.{is_write, no_parents, intends_over, ModeFitsKind}
 use Rattle.gl_table.specs.Lawful.{IsLawful}
-use Rattle.gl_graph.specs.Refusals.{first_refusal, where_true, some_no_node}
+use Rattle.gl_graph.specs.Refusals.{first_refusal, some_no_node}
 use Rattle.gl_table.specs.Refusals.{no_txn, waiting_test, condemned_test, active_on, bad_mode, first_not_ix, first_of_all, child_held, held_child}
 use Rattle.gl_table.specs.Calls.{wanted}
 use Rattle.gl_graph.proofs.RouteLengths.{listed}
@@ -27,7 +27,7 @@ use Rattle.gl_table.proofs.GrantKeeps.{nl_is}
 use Rattle.gl_table.proofs.Queues.{clash}
 use Rattle.gl_graph.proofs.Look.{split, or_elim, or_left, or_right, and_both}
 use Rattle.gl_modes.proofs.NodeLemmas.{same_node-equal}
-use Rattle.gl_modes.proofs.ModeLemmas.{supremum-above, supremum-not_NL}
+use Rattle.gl_modes.proofs.ModeLemmas.{supremum-not_NL}
 use Rattle.gl_graph.proofs.Unrefused.{not_refused, test_fails, not_false, or_no}
 
 pub no_some : {A C : Type 0} {x : A} → Some x ≡ None → C

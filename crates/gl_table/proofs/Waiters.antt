@@ -1,5 +1,5 @@
 -- One slot's waits in a queue, and what granting from a front gives it.
-use Rattle.std.specs.Prelude.{◌≡◌, ◌≢◌, ◌⊎◌, ℕ, Bool, true, false, not, ◌||◌, ◌==◌, List, [], ◌∷◌, ◌++◌, length, drop, if◌then◌else◌}
+use Rattle.std.specs.Prelude.{◌≡◌, ◌≢◌, ◌⊎◌, ℕ, Bool, true, false, not, ◌||◌, ◌==◌, List, [], ◌∷◌, ◌++◌, if◌then◌else◌}
 use Rattle.std.specs.List.{filter}
 use Rattle.std.proofs.Common.{refl, sym, ap, ap₂, ◌∙◌, arith, inl, inr}
 use Rattle.std.proofs.lemmas.List.Elements.{filter-append}
@@ -7,9 +7,8 @@ use Rattle.std.proofs.lemmas.List.{append-nil}
 use Rattle.std.proofs.lemmas.Bool.Decides.{nat_tests}
 use mathlib.Core.Bool.{true≢false}
 use Rattle.gl_modes.specs.declared.mode.Mode.{Mode}
-use Rattle.gl_header.specs.Header.{Members, Waiter, front, fits, with_mode, after_grants, is_waiter, is_among_waiters, without_waiter, placed, holds}
+use Rattle.gl_header.specs.Header.{Members, Waiter, with_mode, after_grants, is_waiter, is_among_waiters, without_waiter, placed, holds}
 use Rattle.gl_graph.proofs.Look.{split}
-use Rattle.gl_header.proofs.Fronts.{front-and_rest}
 
 pub both_empty : (xs ys : List Waiter) → xs ++ ys ≡ [] → (xs ≡ []) × (ys ≡ [])
 both_empty [] ys e = (refl, e)

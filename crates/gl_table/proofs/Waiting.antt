@@ -13,7 +13,6 @@ use Rattle.gl_table.specs.State.{Txn, status_in, age_in}
 use Rattle.gl_table.specs.Pumps.{waits_at}
 use Rattle.gl_table.specs.Calls.{none_but, freed, freed_unless}
 use Rattle.gl_graph.proofs.Look.{split, no, or_elim, or_left, or_right, none_some, some_is, same_node_is}
-use Rattle.gl_table.proofs.Less.{waiting_is}
 
 pub filter_yes : (p : Waiter → Bool) (x : Waiter) (xs : List Waiter) → p x ≡ true → filter p (x ∷ xs) ≡ x ∷ filter p xs
 filter_yes p x xs t = ap (λ b. if b then x ∷ filter p xs else filter p xs) t

@@ -1,5 +1,5 @@
 -- What each call of the table leaves.
-use Rattle.std.specs.Prelude.{◌≡◌, ℕ, ◌+◌, ◌-◌, Bool, true, false, ◌&&◌, ◌||◌, ◌==◌, List, [], Option, Some, None, if◌then◌else◌}
+use Rattle.std.specs.Prelude.{◌≡◌, ℕ, ◌+◌, Bool, true, false, ◌&&◌, ◌||◌, ◌==◌, List, [], Option, Some, None, if◌then◌else◌}
 use Rattle.std.specs.List.{filter, list_any}
 use Rattle.gl_table.specs.declared.txn.Status.{Status}
 use Rattle.gl_table.specs.declared.detect.Detect.{Detect}
@@ -8,15 +8,15 @@ use Rattle.gl_modes.specs.declared.node.NodeId.{NodeId}
 use Rattle.gl_modes.specs.declared.mode.Mode.TheVariants.{NL, S, X}
 use Rattle.gl_table.specs.declared.txn.Status.TheVariants.{Active, Waiting, Condemned}
 use Rattle.gl_table.specs.declared.detect.Detect.TheVariants.{AtBlock, ByWatcher}
-use Rattle.gl_graph.specs.Changes.{born_node, without_node}
-use Rattle.gl_graph.specs.Graph.{Graph, Node, is_child, nodes}
+use Rattle.gl_graph.specs.Changes.{without_node}
+use Rattle.gl_graph.specs.Graph.{Graph, is_child, nodes}
 use Rattle.gl_header.specs.Header.{Waiter, enters, holds, is_among_waiters, placed, without_waiter}
 use Rattle.gl_modes.specs.Modes.{supremum}
 use Rattle.gl_modes.specs.Nodes.{same_node}
 use Rattle.gl_table.specs.Covered.{is_covered}
 use Rattle.gl_table.specs.Intends.{intends_over, is_write}
 use Rattle.gl_table.specs.Pumps.{is_waiting_at, pumped}
-use Rattle.gl_table.specs.State.{State, Txn, members, with_grant, with_graph, with_queue, with_status, with_txn}
+use Rattle.gl_table.specs.State.{State, Txn, members, with_grant, with_queue, with_status, with_txn}
 use Rattle.gl_table.specs.Waiting.{Settled}
 
 abbrev pub wanted : State → ℕ → NodeId → Mode → Mode

@@ -1,5 +1,5 @@
 -- What others are told of a command.
-use Rattle.std.specs.Prelude.{ℕ, not, ◌==◌, List, Option, Some, None, if◌then◌else◌, ◌-◌}
+use Rattle.std.specs.Prelude.{ℕ, not, ◌==◌, List, Option, Some, None, if◌then◌else◌}
 use Rattle.std.specs.List.{filter, filter_map}
 use Rattle.gl_table.specs.declared.txn.TxnId.{TxnId}
 use Rattle.gl_table.specs.declared.txn.Status.{Status}
