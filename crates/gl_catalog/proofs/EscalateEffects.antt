@@ -29,7 +29,7 @@ use Rattle.gl_catalog.specs.Promises.{EscalateLowersNone}
 use Rattle.gl_graph.proofs.Look.{split, cases_of, no, or_elim, or_left, or_right, and_both, both, same_number, number_same, same_node_is, same_node_refl, all_at, child_live}
 use Rattle.gl_graph.proofs.Routes.{join}
 use Rattle.gl_graph.proofs.Moved.{some_at}
-use Rattle.gl_graph.proofs.RouteLengths.{listed, route_short}
+use Rattle.gl_graph.proofs.RouteLengths.{listed}
 use Rattle.gl_table.proofs.CutSet.{cut_set_on}
 use Rattle.gl_catalog.proofs.MakeKeeps.{nobody_holds}
 use Rattle.gl_graph.proofs.Unrefused.{not_refused, or_no}
@@ -38,29 +38,11 @@ use Rattle.gl_catalog.proofs.Keeps.{effect_refl, x_more, read_more}
 use Rattle.gl_catalog.proofs.Refusals.{active_is}
 use Rattle.gl_modes.proofs.ModeLemmas.{at_least-refl, supremum-above}
 use Rattle.gl_table.proofs.Edges.{not_is}
+use Rattle.gl_table.proofs.Effects.{eff_s_route, read_on_eff}
+use Rattle.gl_table.proofs.Queues.{grants_other}
 
 sup_reads : (a b : Mode) → is_read b ≡ true → is_read (supremum a b) ≡ true
 sup_reads a b h = search rules
-
--- an effective S is a route to a node that is held in S or greater, both ways
-pub s_route : (g : Graph) (held : NodeId → Mode) (k : ℕ) (q : NodeId) → eff_s k g held q ≡ true → (r : NodeId) × (way : List NodeId) × IsRoute g q way r × (is_read (held r) ≡ true)
-s_route g held zero q h = (q, [], refl, h)
-s_route g held (suc k) q h =
-    or_elim (is_read (held q)) (list_any (eff_s k g held) (parents_of g q)) h (λ here. (q, [], refl, here)) (λ up.
-    let step = some_parent (eff_s k g held) (parents_of g q) up in
-    let rest = s_route g held k step.0 step.2 in
-    (rest.0, step.0 ∷ rest.1, (step.1, rest.2), rest.3))
-  where
-    some_parent : (f : NodeId → Bool) (ps : List NodeId) → list_any f ps ≡ true → (p : NodeId) × (list_any (same_node p) ps ≡ true) × (f p ≡ true)
-    some_parent f [] h' = absurd (no h')
-    some_parent f (x ∷ xs) h' =
-        or_elim (f x) (list_any f xs) h' (λ here. (x, or_left (same_node x x) _ (same_node_refl x), here)) (λ there. let e = some_parent f xs there in (e.0, or_right (same_node e.0 x) _ e.1, e.2))
-
-pub route_s : (g : Graph) (held : NodeId → Mode) (k : ℕ) (q r : NodeId) (way : List NodeId) → length way ≤ k → IsRoute g q way r → is_read (held r) ≡ true → eff_s k g held q ≡ true
-route_s g held zero q r [] few route h = ap (λ x. is_read (held x)) route ∙ h
-route_s g held zero q r (p ∷ way) few route h = absurd (omega arith)
-route_s g held (suc k) q r [] few route h = or_left (is_read (held q)) _ (ap (λ x. is_read (held x)) route ∙ h)
-route_s g held (suc k) q r (p ∷ way) few route h = or_right (is_read (held q)) _ (some_at (eff_s k g held) (parents_of g q) p route.0 (route_s g held k p r way (omega arith) route.1 h))
 
 -- who does not wait is granted nothing from a queue
 front_among : (most : ℕ) (g : Members) (t : ℕ) (q : List Waiter) → is_among_waiters t q ≡ false → is_among_waiters t (front most g q) ≡ false
@@ -70,15 +52,6 @@ front_among most g t (w ∷ q) h =
     split (fits most g w.0 w.1)
     (λ e. ap (λ b. is_among_waiters t (if b then w ∷ front most (with_mode g w.0 w.1) q else [])) e ∙ ap₂ (λ a b. a || b) both.0 (front_among most (with_mode g w.0 w.1) t q both.1))
     (λ e. ap (λ b. is_among_waiters t (if b then w ∷ front most (with_mode g w.0 w.1) q else [])) e)
-
-grants_miss : (g : Members) (t : ℕ) (ws : List Waiter) → is_among_waiters t ws ≡ false → after_grants g ws t ≡ g t
-grants_miss g t [] h = refl
-grants_miss g t (w ∷ ws) h =
-    let both = or_no (is_waiter t w) (is_among_waiters t ws) h in
-    grants_miss (with_mode g w.0 w.1) t ws both.1 ∙ ap (λ b. if b then w.1 else g t) (flip t w.0 both.0)
-  where
-    flip : (a b : ℕ) → (b == a) ≡ false → (a == b) ≡ false
-    flip a b e = split (a == b) (λ y. absurd (true≢false (sym (number_same b a (sym (same_number a b y))) ∙ e))) (λ y. y)
 
 dead_x : (g : Graph) (held : NodeId → Mode) (k : ℕ) (q : NodeId) → node_at g q ≡ None → held q ≡ NL → eff_x k g held q ≡ false
 dead_x g held zero q e h = ap (λ m. same_mode m X) h
@@ -112,7 +85,7 @@ module _ (s : State) (law : IsLawful s) (t : ℕ) (n : NodeId) (active : status_
   held_after : (p : NodeId) → after.held t p ≡ (if gone p then NL else up.held t p)
   held_after p =
       let x : State = record up { held = λ u c. if (u == t) && gone c then NL else up.held u c } in
-      grants_miss (members x p) t (granted_at x gone p) (split (gone p)
+      grants_other (granted_at x gone p) (members x p) t (split (gone p)
       (λ e. ap (λ b. is_among_waiters t (if b then front_at x p else [])) e ∙ front_among x.most (members x p) t (x.queue p) (not_waiting p))
       (λ e. ap (λ b. is_among_waiters t (if b then front_at x p else [])) e))
       ∙ ap (λ b. if b && gone p then NL else up.held t p) (number_same t t refl)
@@ -185,7 +158,7 @@ module _ (s : State) (law : IsLawful s) (t : ℕ) (n : NodeId) (active : status_
 
   s_later : (q : NodeId) → is_live s.graph q ≡ true → eff_s (node_count s.graph) s.graph (s.held t) q ≡ true → eff_s (node_count s.graph) s.graph (after.held t) q ≡ true
   s_later q live h =
-      let old = s_route s.graph (s.held t) (node_count s.graph) q h in
+      let old = eff_s_route s.graph (s.held t) (node_count s.graph) q h in
       split (gone old.0)
       (λ e.
       let way = join s.graph q old.0 n old.1 (n ∷ []) old.2 ((covers old.0 e).0, refl) in
@@ -193,7 +166,7 @@ module _ (s : State) (law : IsLawful s) (t : ℕ) (n : NodeId) (active : status_
       (λ e. found old.0 old.1 old.2 (ap is_read (held_kept old.0 e) ∙ read_more (s.held t old.0) (up.held t old.0) (grew old.0) old.3))
     where
       found : (r : NodeId) (way : List NodeId) → IsRoute s.graph q way r → is_read (after.held t r) ≡ true → eff_s (node_count s.graph) s.graph (after.held t) q ≡ true
-      found r way route reads = let few = route_short s.graph law.graph q r way live route in route_s s.graph (after.held t) (node_count s.graph) q r way (omega arith) route reads
+      found r way route reads = read_on_eff s.graph law.graph (after.held t) q live (r, way, route, reads)
 
   pub lowers_none : (q : NodeId) → is_at_least_effect (effective after t q) (effective s t q) ≡ true
   lowers_none q =

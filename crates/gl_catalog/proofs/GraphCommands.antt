@@ -61,12 +61,6 @@ deleted_same s law u t x ne holds q =
     let nothing = beside_x (s.held u x) (s.held t x) holds (law.compatible u t x ne) in
     split (same_node q x) (λ e. ap (λ b. if b then NL else s.held t q) e ∙ sym (ap (s.held t) (same_node-equal q x e) ∙ nothing)) (λ e. ap (λ b. if b then NL else s.held t q) e)
 
-pub moved_same : (s : State) (t : ℕ) (x : NodeId) (ps : List NodeId) (g : Graph) → SameGrants s (moved_to s x ps g) t
-moved_same s t x ps g q = refl
-
-pub with_graph_same : (s : State) (t : ℕ) (g : Graph) → SameGrants s (with_graph s g) t
-with_graph_same s t g q = refl
-
 module _ (s : State) (law : IsLawful s) (t : TxnId) (alive : lives s t ≡ true) (next : State) (law' : IsLawful (accepted_once next)) (told' : Told) where
   abbrev Kept : Type 0
   Kept = Keeps s (accepted_once next) t told'

@@ -22,13 +22,14 @@ use Rattle.gl_table.specs.Intends.{no_parents}
 use Rattle.gl_table.specs.Tellings.{Told}
 use Rattle.gl_table.specs.Effects.{is_at_least_effect, SameBelow}
 use Rattle.gl_catalog.specs.Promises.{is_grant_to}
-use Rattle.gl_table.proofs.Effects.{or_true, all_from, any_found, any_at, ReadOn, eff_s_route, read_on_eff}
+use Rattle.gl_table.proofs.Effects.{or_true, all_from, any_found, ReadOn, eff_s_route, read_on_eff}
 use Rattle.gl_table.proofs.Transfer.{GraphStep, reads_carry, effective_same, below_same}
 use Rattle.gl_catalog.proofs.ToldGrants.{tells, tells_grant, any_weaker}
 use Rattle.gl_table.proofs.Follows.{Follows, SameGrants, GrantedTo}
 use Rattle.gl_graph.proofs.Look.{split, or_elim, and_both, all_at}
 use Rattle.gl_modes.proofs.NodeLemmas.{same_node-equal}
 use Rattle.gl_modes.proofs.ModeLemmas.{at_least-refl}
+use Rattle.gl_graph.proofs.Moved.{some_at}
 
 abbrev pub ToldGrant : State → State → TxnId → Told → Type 0
 ToldGrant s s' t told' = (g : GrantedTo s s' t.slot) × (list_any (tells t g.node g.mode) told' ≡ true)
@@ -72,7 +73,7 @@ module _ (g : Graph) (h h' : NodeId → Mode) (more : (q : NodeId) → is_at_lea
   more_s (suc k) n x =
       or_elim _ _ x (λ here. ap (λ b. b || list_any (eff_s k g h') (parents_of g n)) (read_more _ _ (more n) here))
       (λ up. let f = any_found (eff_s k g h) (parents_of g n) up in
-      ap (λ b. is_read (h' n) || b) (any_at (eff_s k g h') (parents_of g n) f.0 f.1 (more_s k f.0 f.2)) ∙ or_true _)
+      ap (λ b. is_read (h' n) || b) (some_at (eff_s k g h') (parents_of g n) f.0 f.1 (more_s k f.0 f.2)) ∙ or_true _)
 
   more_x : (k : ℕ) (n : NodeId) → eff_x k g h n ≡ true → eff_x k g h' n ≡ true
   more_x zero n x = x_more _ _ (more n) x

@@ -43,9 +43,6 @@ module _ (s : State) (t : ℕ) (n : NodeId) (was is : Node) (g' : Graph) (m : Mo
   pub new_parents : parents_of g' n ≡ is.parents
   new_parents = ap (λ g. parents_of g n) (sym m.graph) ∙ ap parents_in (at_here s.graph n was is m.there m.key)
 
-  pub others_same : (q : NodeId) → q ≢ n → node_at g' q ≡ node_at s.graph q
-  others_same q ne = ap (λ g. node_at g q) (sym m.graph) ∙ at_other s.graph n was is m.there m.key q ne
-
   pub count_same : node_count g' ≡ node_count s.graph
   count_same = ap node_count (sym m.graph) ∙ ap length (nodes_same s.graph n was is m.there m.key)
 

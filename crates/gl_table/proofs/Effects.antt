@@ -16,10 +16,11 @@ use Rattle.gl_table.specs.Effects.{eff_s, eff_x, is_read, EffX}
 use Rattle.gl_table.specs.Intends.{no_parents}
 use Rattle.gl_table.specs.State.{State}
 use Rattle.gl_table.specs.Lawful.{IsLawful}
-use Rattle.gl_graph.proofs.RouteLengths.{node_equivalence, distinct, live_way, listed}
+use Rattle.gl_graph.proofs.RouteLengths.{route_short}
 use Rattle.gl_table.proofs.CutSet.{on_path, cut_set_law}
 use Rattle.gl_graph.proofs.Look.{or_elim, and_both}
 use Rattle.gl_modes.proofs.NodeLemmas.{same_node-equal, same_node-refl}
+use Rattle.gl_graph.proofs.Moved.{some_at}
 
 pub or_true : (b : Bool) → (b || true) ≡ true
 or_true true = refl
@@ -30,12 +31,6 @@ any_found q [] h = absurd (true≢false (sym h))
 any_found q (x ∷ xs) h =
     or_elim (q x) (list_any q xs) h (λ here. (x, ap (λ b. b || list_any (same_node x) xs) (same_node-refl x), here)) (λ there.
     let f = any_found q xs there in (f.0, ap (λ b. same_node f.0 x || b) f.1 ∙ or_true _, f.2))
-
-pub any_at : (q : NodeId → Bool) (ps : List NodeId) (p : NodeId) → list_any (same_node p) ps ≡ true → q p ≡ true → list_any q ps ≡ true
-any_at q [] p h k = absurd (true≢false (sym h))
-any_at q (x ∷ xs) p h k =
-    or_elim (same_node p x) (list_any (same_node p) xs) h (λ here. ap (λ b. b || list_any q xs) (ap q (sym (same_node-equal p x here)) ∙ k))
-    (λ there. ap (λ b. q x || b) (any_at q xs p there k) ∙ or_true (q x))
 
 -- all pass where each that is listed passes
 pub all_from : (q : NodeId → Bool) (ps : List NodeId) → ((p : NodeId) → list_any (same_node p) ps ≡ true → q p ≡ true) → list_all q ps ≡ true
@@ -83,17 +78,12 @@ module _ (g : Graph) (h : NodeId → Mode) where
   route_eff_s zero n m (p ∷ way) route read le = absurd (omega arith)
   route_eff_s (suc k) n m [] route read le = ap (λ b. b || list_any (eff_s k g h) (parents_of g n)) (ap (λ x. is_read (h x)) route ∙ read)
   route_eff_s (suc k) n m (p ∷ way) route read le =
-      ap (λ b. is_read (h n) || b) (any_at (eff_s k g h) (parents_of g n) p route.0 (route_eff_s k p m way route.1 read (omega arith))) ∙ or_true _
+      ap (λ b. is_read (h n) || b) (some_at (eff_s k g h) (parents_of g n) p route.0 (route_eff_s k p m way route.1 read (omega arith))) ∙ or_true _
 
 -- in a lawful graph the number of nodes is enough fuel
 module _ (g : Graph) (law : IsLawfulGraph g) (h : NodeId → Mode) where
-  short : (n m : NodeId) (way : List NodeId) → is_live g n ≡ true → IsRoute g n way m → length way ≤ node_count g
-  short n m way live route =
-      let few = length-le_from_is_member node_equivalence (n ∷ way) (nodes g) (distinct g law n m way route) (λ q x. listed g law q (live_way g law n m q way live route x)) in
-      omega arith
-
   pub read_on_eff : (n : NodeId) → is_live g n ≡ true → ReadOn g h n → eff_s (node_count g) g h n ≡ true
-  read_on_eff n live r = route_eff_s g h (node_count g) n r.0 r.1 r.2 r.3 (short n r.0 r.1 live r.2)
+  read_on_eff n live r = let few = route_short g law n r.0 r.1 live r.2 in route_eff_s g h (node_count g) n r.0 r.1 r.2 r.3 (omega arith)
 
 -- an effective X after any number of steps is one
 pub eff_x_any : (s : State) → IsLawful s → (t : ℕ) (k : ℕ) (n : NodeId) → is_live s.graph n ≡ true → eff_x k s.graph (s.held t) n ≡ true → EffX s t n

@@ -19,7 +19,8 @@ use Rattle.gl_table.specs.Lawful.{IsLawful}
 use Rattle.gl_table.specs.Calls.{wanted, asked_by_escalation, raised, shed}
 use Rattle.gl_graph.proofs.RouteLengths.{listed}
 use Rattle.gl_table.proofs.GrantKeeps.{with_grant-lawful}
-use Rattle.gl_table.proofs.Queues.{clash, not_true}
+use Rattle.gl_table.proofs.Queues.{clash}
+use Rattle.gl_header.proofs.Ranges.{not_true}
 use Rattle.gl_table.proofs.Less.{IsLess, less-lawful}
 use Rattle.gl_table.proofs.Pumped.{pumped-lawful}
 use Rattle.gl_table.proofs.Taken.{taken-less}

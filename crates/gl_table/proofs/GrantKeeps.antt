@@ -29,14 +29,6 @@ less_compatible m a b h k = search rules
 pub more_held : (a b : Mode) → is_at_least b a ≡ true → not (same_mode a NL) ≡ true → not (same_mode b NL) ≡ true
 more_held a b h k = search rules
 
-pub not_nl : (a : Mode) → a ≢ NL → not (same_mode a NL) ≡ true
-not_nl NL ne = absurd (ne refl)
-not_nl IS ne = refl
-not_nl IX ne = refl
-not_nl S ne = refl
-not_nl SIX ne = refl
-not_nl X ne = refl
-
 pub nl_is : (a : Mode) → not (same_mode a NL) ≡ false → a ≡ NL
 nl_is a h = search rules
 

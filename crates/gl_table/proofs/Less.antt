@@ -32,9 +32,6 @@ waiting_is (Some (Waiting q m)) n h = (m, ap (λ p. Some (Waiting p m)) (same_no
 pub nl_holds : (a : Mode) → a ≡ NL → not (same_mode a NL) ≡ false
 nl_holds a e = ap (λ m. not (same_mode m NL)) e
 
-at_least_nl : (m : Mode) → is_at_least m NL ≡ true
-at_least_nl m = search rules
-
 pub age_none : (x : Option Txn) → is_some x ≡ false → age_in x ≡ 0
 age_none None h = refl
 age_none (Some x) h = clash refl h

@@ -21,7 +21,8 @@ use Rattle.gl_table.specs.Lawful.{IsLawful}
 use Rattle.gl_table.specs.Calls.{Locks, WaitSettles, wanted, enters_at, enqueued}
 use Rattle.gl_table.specs.Refusals.{active_on, bad_mode, need_parents, held_child}
 use Rattle.gl_table.proofs.GrantKeeps.{with_grant-lawful}
-use Rattle.gl_table.proofs.Queues.{clash, not_true}
+use Rattle.gl_table.proofs.Queues.{clash}
+use Rattle.gl_header.proofs.Ranges.{not_true}
 use Rattle.gl_table.proofs.Less.{IsLess, less-lawful}
 use Rattle.gl_table.proofs.Pumped.{pumped-lawful}
 use Rattle.gl_table.proofs.Taken.{taken-less, settled-lawful}

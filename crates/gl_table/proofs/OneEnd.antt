@@ -35,11 +35,6 @@ settled_within_one (suc j) (suc k) s a b t law h l =
 pub settled_one : (s a b : State) (t : ℕ) → IsLawful s → Settled s t a → Settled s t b → a ≡ b
 settled_one s a b t law h k = settled_within_one h.0 k.0 s a b t law h.1 k.1
 
--- and so does a lock that waits, under both ways of detection
-pub wait_one : (d : Detect) (s a b : State) (t : ℕ) → IsLawful s → WaitSettles d s t a → WaitSettles d s t b → a ≡ b
-wait_one AtBlock s a b t law h k = settled_one s a b t law h k
-wait_one ByWatcher s a b t law h k = h ∙ sym k
-
 -- settling ends, and in one state
 pub settling_ends : SettlingEnds
 settling_ends s law t = (settled s t, settles s law t, λ other h. settled_one s other (settled s t) t law h (settles s law t))

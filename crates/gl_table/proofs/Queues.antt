@@ -21,10 +21,6 @@ ahead_is (w ∷ q) t u = by (w.0 == t) (w.0 == u) (is_among_waiters t q) refl (a
     by : (a b c : Bool) → is_among_waiters t q ≡ c → (is_among_waiters t q && is_among_waiters u (before_first (is_waiter t) q)) ≡ ahead q t u → is_ahead (w ∷ q) t u ≡ ahead (w ∷ q) t u
     by a b c e h = grind (arith, nat_tests)
 
-pub not_true : (b : Bool) → (b ≡ true → ⊥) → b ≡ false
-not_true true f = absurd (f refl)
-not_true false f = refl
-
 pub clash : {C : Type 0} {b : Bool} → b ≡ true → b ≡ false → C
 clash h k = absurd (true≢false (sym h ∙ k))
 

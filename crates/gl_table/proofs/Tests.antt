@@ -59,9 +59,6 @@ active_after s t n first rest h =
 pub wanted_not_nl : (a m : Mode) → same_mode m NL ≡ false → supremum a m ≢ NL
 wanted_not_nl a m h e = clash (ap (λ x. same_mode x NL) e) (supremum-not_NL a m h)
 
-nl_supremum : (m : Mode) → supremum NL m ≡ m
-nl_supremum m = refl
-
 record_modes : (a m : Mode) → (same_mode a S || same_mode a X) ≡ true → (same_mode m S || same_mode m X) ≡ true → (same_mode (supremum a m) S || same_mode (supremum a m) X) ≡ true
 record_modes a m h k = search rules
 
