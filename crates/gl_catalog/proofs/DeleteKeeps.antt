@@ -5,7 +5,7 @@ use Rattle.std.proofs.Common.{refl, sym, ap, ap₂, ◌∙◌, subst}
 use Rattle.gl_modes.specs.declared.mode.Mode.{Mode}
 use Rattle.gl_modes.specs.declared.mode.Mode.TheVariants.{NL, IS, IX}
 use Rattle.gl_modes.specs.declared.node.NodeId.{NodeId}
-use Rattle.gl_modes.specs.Modes.{are_compatible, is_at_least}
+use Rattle.gl_modes.specs.Modes.{are_compatible, is_at_least, same_mode}
 use Rattle.gl_table.specs.declared.txn.TxnId.{TxnId}
 use Rattle.gl_table.specs.declared.txn.Status.TheVariants.{Waiting}
 use Rattle.gl_catalog.specs.declared.command.Command.TheVariants as command
@@ -13,10 +13,9 @@ use Rattle.gl_modes.specs.Nodes.{same_node}
 use Rattle.gl_graph.specs.Graph.{parents_in, parents_of, is_live, shape_in, shape_of}
 use Rattle.gl_graph.specs.Shapes.{is_record_shape}
 use Rattle.gl_header.specs.Header.{Waiter, holds, front, is_waiter, is_among_waiters, is_ahead}
-use Rattle.gl_modes.specs.Modes.{same_mode}
 use Rattle.gl_table.specs.State.{State, members, status_of}
-use Rattle.gl_table.specs.Intends.{intends, intends_over, is_write, no_parents, ModeFitsKind}
-use Rattle.gl_table.specs.Lawful.{IsLawful}
+use Rattle.gl_table.specs.Intends.{intends, intends_over, is_write, no_parents}
+use Rattle.gl_table.specs.Lawful.{ModeFitsKind, IsLawful}
 use Rattle.gl_table.specs.Calls.{deleted}
 use Rattle.gl_catalog.specs.Tests.{worn}
 use Rattle.gl_graph.specs.Refusals.{some_no_node, where_true}

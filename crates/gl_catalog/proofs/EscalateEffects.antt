@@ -6,7 +6,7 @@ use mathlib.Core.Bool.{true≢false}
 use Rattle.gl_modes.specs.declared.mode.Mode.{Mode}
 use Rattle.gl_modes.specs.declared.mode.Mode.TheVariants.{NL, S, X}
 use Rattle.gl_modes.specs.declared.node.NodeId.{NodeId}
-use Rattle.gl_modes.specs.Modes.{is_at_least, supremum}
+use Rattle.gl_modes.specs.Modes.{is_at_least, supremum, same_mode}
 use Rattle.gl_table.specs.declared.effect.Effect.TheVariants as effect
 use Rattle.gl_table.specs.declared.txn.Status.TheVariants.{Active}
 use Rattle.gl_catalog.specs.declared.command.Command.TheVariants as command
@@ -14,9 +14,8 @@ use Rattle.gl_graph.specs.Graph.{Graph, nodes, node_at, node_count, is_live, par
 use Rattle.gl_modes.specs.Nodes.{same_node}
 use Rattle.gl_graph.specs.Routes.{IsRoute}
 use Rattle.gl_header.specs.Header.{Members, Waiter, fits, holds, with_mode, front, after_grants, is_waiter, is_among_waiters}
-use Rattle.gl_modes.specs.Modes.{same_mode}
 use Rattle.gl_table.specs.State.{State, members, status_of}
-use Rattle.gl_table.specs.Effects.{eff_s, eff_x, is_read, effective, EffX}
+use Rattle.gl_table.specs.Effects.{eff_s, eff_x, is_read, effective, EffX, is_at_least_effect}
 use Rattle.gl_table.specs.Intends.{no_parents, is_write}
 use Rattle.gl_table.specs.Pumps.{waits_at, front_at, granted_at}
 use Rattle.gl_table.specs.Covered.{holds_child, is_covered}
@@ -24,7 +23,6 @@ use Rattle.gl_table.specs.Lawful.{IsLawful}
 use Rattle.gl_table.specs.Calls.{wanted, asked_by_escalation, raised, shed}
 use Rattle.gl_catalog.specs.Tests.{worn}
 use Rattle.gl_table.specs.Refusals.{no_txn, waiting_test, condemned_test}
-use Rattle.gl_table.specs.Effects.{is_at_least_effect}
 use Rattle.gl_catalog.specs.Promises.{EscalateLowersNone}
 use Rattle.gl_graph.proofs.Look.{split, cases_of, no, or_elim, or_left, or_right, and_both, both, same_number, number_same, same_node_is, same_node_refl, all_at, child_live}
 use Rattle.gl_graph.proofs.Routes.{join}

@@ -7,13 +7,12 @@ use mathlib.Core.Bool.{true≢false}
 use Rattle.gl_modes.specs.declared.mode.Mode.{Mode}
 use Rattle.gl_modes.specs.declared.mode.Mode.TheVariants.{NL, X}
 use Rattle.gl_modes.specs.declared.node.NodeId.{NodeId}
-use Rattle.gl_modes.specs.Modes.{are_compatible}
+use Rattle.gl_modes.specs.Modes.{are_compatible, same_mode}
 use Rattle.gl_graph.specs.Graph.{Graph, Node, node_at, node_count, parents_of, parents_in, shape_of, shape_in, with_key, is_live}
 use Rattle.gl_graph.specs.Shapes.{Rec, is_record_shape}
 use Rattle.gl_modes.specs.Nodes.{same_node}
 use Rattle.gl_graph.specs.Changes.{born_node, born_nodes, rekeyed_node, reparented}
 use Rattle.gl_graph.specs.Lawful.{IsLawfulGraph}
-use Rattle.gl_modes.specs.Modes.{same_mode}
 use Rattle.gl_table.specs.State.{State}
 use Rattle.gl_table.specs.Lawful.{IsLawful}
 use Rattle.gl_table.specs.Effects.{eff_x, EffX}

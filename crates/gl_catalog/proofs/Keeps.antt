@@ -7,20 +7,19 @@ use mathlib.Core.Bool.{true≢false}
 use Rattle.gl_modes.specs.declared.mode.Mode.{Mode}
 use Rattle.gl_modes.specs.declared.mode.Mode.TheVariants.{NL, X}
 use Rattle.gl_modes.specs.declared.node.NodeId.{NodeId}
-use Rattle.gl_modes.specs.Modes.{is_at_least}
+use Rattle.gl_modes.specs.Modes.{is_at_least, same_mode}
 use Rattle.gl_table.specs.declared.txn.TxnId.{TxnId}
 use Rattle.gl_table.specs.declared.effect.Effect.{Effect}
 use Rattle.gl_table.specs.declared.effect.Effect.TheVariants as effect
 use Rattle.gl_graph.specs.Graph.{Graph, Node, node_at, node_count, parents_of, parents_in, is_live}
 use Rattle.gl_modes.specs.Nodes.{same_node}
 use Rattle.gl_graph.specs.Routes.{IsRoute}
-use Rattle.gl_modes.specs.Modes.{same_mode}
 use Rattle.gl_table.specs.State.{State, lives}
 use Rattle.gl_table.specs.Lawful.{IsLawful}
-use Rattle.gl_table.specs.Effects.{eff_s, eff_x, is_read, EffS, effective}
+use Rattle.gl_table.specs.Effects.{eff_s, eff_x, is_read, EffS, effective, is_at_least_effect}
 use Rattle.gl_table.specs.Intends.{no_parents}
 use Rattle.gl_table.specs.Tellings.{Told}
-use Rattle.gl_table.specs.Effects.{is_at_least_effect, SameBelow}
+use Rattle.gl_table.specs.Below.{SameBelow}
 use Rattle.gl_catalog.specs.Promises.{is_grant_to}
 use Rattle.gl_table.proofs.Effects.{or_true, all_from, any_found, ReadOn, eff_s_route, read_on_eff}
 use Rattle.gl_table.proofs.Transfer.{GraphStep, reads_carry, effective_same, below_same}

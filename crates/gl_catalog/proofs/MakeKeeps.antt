@@ -16,13 +16,12 @@ use Rattle.gl_graph.specs.Shapes.{Inner, File, Index, Rec, is_record_shape, is_f
 use Rattle.gl_graph.specs.Changes.{born_node, born_index, interval_nodes}
 use Rattle.gl_graph.specs.Lawful.{IsLawfulGraph}
 use Rattle.gl_header.specs.Header.{Waiter, holds, is_waiter, is_among_waiters}
-use Rattle.gl_table.specs.State.{State, members, status_of}
-use Rattle.gl_table.specs.Intends.{intends, intends_over, ModeFitsKind}
-use Rattle.gl_table.specs.Lawful.{IsLawful}
+use Rattle.gl_table.specs.State.{State, members, status_of, with_graph}
+use Rattle.gl_table.specs.Intends.{intends, intends_over}
+use Rattle.gl_table.specs.Lawful.{ModeFitsKind, IsLawful}
 use Rattle.gl_graph.specs.Refusals.{file_refusal, first_refusal, index_refusal, inner_refusal, some_no_node, too_many_nodes, where_true, worn_births}
 use Rattle.gl_catalog.specs.Tests.{worn}
 use Rattle.gl_table.specs.Refusals.{no_txn, waiting_test, condemned_test, first_not_ix}
-use Rattle.gl_table.specs.State.{with_graph}
 use Rattle.gl_catalog.proofs.KeepsLaw.{KeepsLaw}
 use Rattle.gl_graph.proofs.Look.{split, or_right, both, same_number}
 use Rattle.gl_graph.proofs.Born.{old_same, old_below, new_node}

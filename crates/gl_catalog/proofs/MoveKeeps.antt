@@ -6,18 +6,17 @@ use mathlib.Core.Bool.{true≢false}
 use Rattle.gl_modes.specs.declared.mode.Mode.{Mode}
 use Rattle.gl_modes.specs.declared.mode.Mode.TheVariants.{NL, IS, IX, X}
 use Rattle.gl_modes.specs.declared.node.NodeId.{NodeId}
-use Rattle.gl_modes.specs.Modes.{are_compatible, is_at_least}
+use Rattle.gl_modes.specs.Modes.{are_compatible, is_at_least, same_mode}
 use Rattle.gl_table.specs.declared.txn.Status.TheVariants.{Active, Waiting}
 use Rattle.gl_graph.specs.Graph.{Graph, parents_of, is_live, shape_of}
 use Rattle.gl_modes.specs.Nodes.{same_node}
 use Rattle.gl_graph.specs.Shapes.{is_record_shape}
 use Rattle.gl_graph.specs.Lawful.{IsLawfulGraph}
 use Rattle.gl_header.specs.Header.{Members, Waiter, fits, holds, with_mode, front, is_waiter, is_among_waiters, is_ahead}
-use Rattle.gl_modes.specs.Modes.{same_mode}
 use Rattle.gl_table.specs.State.{State, members, status_of, age_of}
 use Rattle.gl_table.specs.Pumps.{waits_at, is_waiting_at}
-use Rattle.gl_table.specs.Intends.{intends, intends_over, is_write, no_parents, ModeFitsKind}
-use Rattle.gl_table.specs.Lawful.{IsLawful}
+use Rattle.gl_table.specs.Intends.{intends, intends_over, is_write, no_parents}
+use Rattle.gl_table.specs.Lawful.{ModeFitsKind, IsLawful}
 use Rattle.gl_table.specs.Calls.{stays, moved_to}
 use Rattle.gl_graph.proofs.Look.{split, no, and_both, or_elim, same_number, number_same, other_number, same_node_is, other_node}
 use Rattle.gl_table.proofs.NoConflict.{x_blocks, any_all, holds_one, x_is}

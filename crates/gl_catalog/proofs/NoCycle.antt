@@ -19,13 +19,12 @@ use Rattle.gl_waits.specs.Waits.{IsOnNoCycle}
 use Rattle.gl_table.specs.State.{State, Txn, status_in, status_of, restatus, with_grant}
 use Rattle.gl_table.specs.Pumps.{without_wait, is_waiting_at, pumped, condemned}
 use Rattle.gl_table.specs.Covered.{is_covered}
-use Rattle.gl_table.specs.Waiting.{waits_for, SettledWithin, Settled}
+use Rattle.gl_table.specs.Waiting.{waits_for, SettledWithin, Settled, HasNoCycle}
 use Rattle.gl_table.specs.Lawful.{IsLawful}
 use Rattle.gl_table.specs.Calls.{Locks, WaitSettles, wanted, enters_at, enqueued, begun, released, raised, shed, asked_by_escalation}
 use Rattle.gl_catalog.specs.Tests.{refusal_of, worn}
 use Rattle.gl_graph.specs.Refusals.{where_true}
 use Rattle.gl_table.specs.Refusals.{not_held, held_child, escalation_blocks}
-use Rattle.gl_table.specs.Waiting.{HasNoCycle}
 use Rattle.gl_table.proofs.GrantKeeps.{apart}
 use Rattle.gl_table.proofs.Less.{IsLess, less-lawful}
 use Rattle.gl_table.proofs.Taken.{IsQuiet, at_all, without_wait-less, released-less, condemned-lawful}

@@ -16,14 +16,14 @@ use Rattle.gl_modes.specs.Nodes.{same_node}
 use Rattle.gl_graph.specs.Changes.{rekeyed, rekeyed_parents, with_parents}
 use Rattle.gl_header.specs.Header.{Waiter, is_ahead, is_among_waiters, is_waiter}
 use Rattle.gl_table.specs.State.{State, Txn, status_in, status_of, empty_state, with_graph}
-use Rattle.gl_table.specs.Waiting.{waits_for}
+use Rattle.gl_table.specs.Waiting.{waits_for, HasNoCycle}
 use Rattle.gl_table.specs.Lawful.{IsLawful}
 use Rattle.gl_table.specs.Tellings.{Told}
 use Rattle.gl_catalog.specs.Step.{Accepts, Step}
 use Rattle.gl_catalog.specs.Tests.{refusal_of, worn}
 use Rattle.gl_table.specs.Refusals.{held_child, not_held}
 use Rattle.gl_table.specs.Calls.{wanted, deleted, freed, freed_unless, moved_to, stays}
-use Rattle.gl_table.specs.Waiting.{HasNoCycle, EmptyHasNoCycle}
+use Rattle.gl_table.specs.Laws.{EmptyHasNoCycle}
 use Rattle.gl_catalog.specs.Promises.{RunsKeepNoCycle}
 use Rattle.gl_graph.specs.Refusals.{worn_births}
 use Rattle.gl_graph.proofs.Unrefused.{not_refused}

@@ -1,4 +1,4 @@
--- One command: its answer, the state that it leaves, and what others are told; and runs of commands.
+-- One command: its answer, the state that it leaves, and what others are told; and runs of commands (own).
 use Rattle.std.specs.Prelude.{◌≡◌, ◌⊎◌, ℕ, ◌+◌, ◌-◌, true, List, [], ◌∷◌, Option, Some, None, is_none}
 use Rattle.std.specs.List.{find}
 use Rattle.gl_table.specs.declared.txn.Status.{Status}
@@ -26,14 +26,14 @@ use Rattle.gl_table.specs.State.{State, members, slots, status_of, with_grant, w
 use Rattle.gl_table.specs.Tellings.{Told, told, told_but}
 use Rattle.gl_table.specs.Waiting.{Settled}
 
--- the answer of a lock: by the asker's status at the end
+-- the answer of a lock, by the asker's status at the end
 abbrev pub lock_answer : Mode → Option Status → Answer
 lock_answer held (Some Active) = answer.Granted held
 lock_answer held (Some (Waiting n m)) = answer.Waiting
 lock_answer held (Some Condemned) = answer.Victim
 lock_answer held None = answer.Done
 
--- a command that is not refused: s' with one accepted command less
+-- a command that is not refused: what it answers, tells, and leaves, the count of accepted commands aside
 abbrev pub Accepts : State → Command → Answer → Told → State → Type 0
 Accepts s (command.Inner ps) a told' s' = (n : NodeId) × IsBorn s.graph s'.graph n Inner ps.now × (a ≡ answer.Node n) × (told' ≡ []) × (s' ≡ with_graph s s'.graph)
 Accepts s (command.File ps) a told' s' = (n : NodeId) × IsBorn s.graph s'.graph n File ps.now × (a ≡ answer.Node n) × (told' ≡ []) × (s' ≡ with_graph s s'.graph)
@@ -60,33 +60,36 @@ Accepts s (command.Group n) a told' s' = ⊥
 Accepts s (command.Held t n) a told' s' = ⊥
 Accepts s (command.Effective t n) a told' s' = ⊥
 
--- what a query answers
+-- what a query answers; no other command is one
 abbrev pub query_answer : State → Command → Option Answer
 query_answer s (command.Group n) = Some (answer.Mode (group_of s.most (members s n)))
 query_answer s (command.Held t n) = Some (answer.Mode (s.held t.slot n))
 query_answer s (command.Effective t n) = Some (answer.Effect (effective s t.slot n))
 query_answer s c = None
 
+-- this answer, nobody told, and the state as it was
 pub record Unchanged (s : State) (a : Answer) (told' : Told) (s' : State) (is : Answer) : Type 0 where
   pub answer_is : a ≡ is
   pub nobody_told : told' ≡ []
   pub same : s' ≡ s
 
+-- a query is answered, and changes nothing; any other command is accepted, and counted
 abbrev pub Answers : State → Command → Option Answer → Answer → Told → State → Type 0
 Answers s c (Some q) a told' s' = Unchanged s a told' s' q
 Answers s c None a told' s' = (next : State) × Accepts s c a told' next × (s' ≡ accepted_once next)
 
+-- a refused command is answered with its refusal, and changes nothing; any other goes
 abbrev pub Goes : State → Command → Option Refusal → Answer → Told → State → Type 0
 Goes s c (Some r) a told' s' = Unchanged s a told' s' (answer.Refused r)
 Goes s c None a told' s' = Answers s c (query_answer s c) a told' s'
 
--- one step
+-- one step: the command goes, or memory is wanting where it may be
 abbrev pub Step : State → Command → Answer → Told → State → Type 0
 Step s c a told' s' =
     Goes s c (refusal_of s c) a told' s'
     ⊎ ((may_want_memory s c ≡ true) × Unchanged s a told' s' (answer.Refused no.NoMemory))
 
--- steps along a list
+-- steps along a list of commands, a reply to each
 abbrev pub Run : State → List Command → List (Answer × Told) → State → Type 0
 Run s [] [] s' = s' ≡ s
 Run s (c ∷ cs) (r ∷ rs) s' = (mid : State) × Step s c r.0 r.1 mid × Run mid cs rs s'

@@ -1,4 +1,4 @@
--- The tests of each command in their order.
+-- Why a command is refused: the tests of each in their order, and where memory may be wanting.
 use Rattle.std.specs.Prelude.{ℕ, Bool, true, false, not, ◌&&◌, ◌||◌, ◌==◌, List, [], ◌∷◌, ◌++◌, length, Option, Some, is_none}
 use Rattle.gl_table.specs.declared.txn.TxnId.{TxnId}
 use Rattle.gl_catalog.specs.declared.command.Command.{Command}
@@ -19,7 +19,7 @@ use Rattle.gl_table.specs.State.{State, members}
 abbrev pub worn : State → Option Refusal
 worn s = where_true (s.accepted == max_count) no.WornOut
 
--- Insert: X on the new record asks IX or greater on each of its parents to be.
+-- insert asks IX or greater on each parent that the new record will have
 abbrev pub insert_tests : State → TxnId → NodeId → List ℕ → List (Option Refusal)
 insert_tests s t f keys =
     worn_births s.graph ∷ active_on s t (f ∷ [])
@@ -28,11 +28,11 @@ insert_tests s t f keys =
     ∷ first_not_ix (s.held t.slot) (record_parents s.graph f keys)
     ∷ too_many_nodes s.graph 1 ∷ []
 
--- Delete: only a record, and with X on it.
+-- delete takes a record alone, and asks X on it
 abbrev pub delete_tests : State → TxnId → NodeId → List (Option Refusal)
 delete_tests s t r = active_on s t (r ∷ []) ++ where_true (not (is_record_shape (shape_of s.graph r))) no.BadParents ∷ where_true (not (holds_x s t.slot r)) no.NeedExclusive ∷ []
 
--- Rekey: only a record, for an index of its file.
+-- rekey takes a record, and an index of its file
 abbrev pub rekey_tests : State → TxnId → NodeId → NodeId → ℕ → List (Option Refusal)
 rekey_tests s t r i key =
     active_on s t (r ∷ i ∷ [])
@@ -40,7 +40,7 @@ rekey_tests s t r i key =
     ∷ need_exclusive s t.slot r true (rekeyed_parents s.graph r i key)
     ∷ need_new_parents s t.slot r (rekeyed_parents s.graph r i key) ∷ []
 
--- Move: an inner node, a file or an index, to parents that it could have been made under.
+-- move takes an inner node, a file or an index, to parents that it could have been made under
 abbrev pub move_tests : State → TxnId → NodeId → List NodeId → List (Option Refusal)
 move_tests s t n ps =
     active_on s t (n ∷ ps)
@@ -49,11 +49,11 @@ move_tests s t n ps =
     ∷ need_new_parents s t.slot n ps
     ∷ first_cycle s.graph n ps ∷ []
 
--- Escalate: any node but a record.
+-- escalate takes any node but a record
 abbrev pub escalate_tests : State → TxnId → NodeId → List (Option Refusal)
 escalate_tests s t n = active_on s t (n ∷ []) ++ where_true (is_record_shape (shape_of s.graph n)) no.BadParents ∷ not_held s t.slot n ∷ escalation_blocks s t.slot n ∷ []
 
--- the tests of each command in their order, want of memory aside: first whether the command can be counted, then those of the call that does it
+-- the tests of each command, want of memory aside: first whether it can be counted, then those of the call that does it
 abbrev pub tests_of : State → Command → List (Option Refusal)
 tests_of s (command.Inner ps) = worn s ∷ inner_refusal s.graph ps.now ∷ []
 tests_of s (command.File ps) = worn s ∷ file_refusal s.graph ps.now ∷ []
@@ -75,18 +75,20 @@ tests_of s (command.Group n) = group_tests s n
 tests_of s (command.Held t n) = held_tests s t n
 tests_of s (command.Effective t n) = held_tests s t n
 
--- why the command is refused, if it is
+-- why the command is refused, if it is: the first test that finds a reason
 abbrev pub refusal_of : State → Command → Option Refusal
 refusal_of s c = first_refusal (tests_of s c)
 
--- where want of memory is a permitted answer, if nothing else is refused; for a move also in place of Cycle
+-- the refusal is that a path would close
 abbrev pub is_cycle : Option Refusal → Bool
 is_cycle (Some (no.Cycle n)) = true
 is_cycle o = false
 
+-- t does not hold n
 abbrev pub newcomer : State → TxnId → NodeId → Bool
 newcomer s t n = not (holds (members s n) t.slot)
 
+-- the commands for which memory may be wanting: those that make something, and a lock for a newcomer or for one who waits
 abbrev pub lists_memory : State → Command → Bool
 lists_memory s (command.Inner ps) = true
 lists_memory s (command.File ps) = true
@@ -99,9 +101,6 @@ lists_memory s (command.Move t n ps) = true
 lists_memory s (command.Effective t n) = true
 lists_memory s c = false
 
-abbrev pub moves : Command → Bool
-moves (command.Move t n ps) = true
-moves c = false
-
+-- memory is a permitted reason where nothing else is; for a move also in place of a path that closes, since the search for it may want memory
 abbrev pub may_want_memory : State → Command → Bool
 may_want_memory s c = lists_memory s c && (is_none (refusal_of s c) || is_cycle (refusal_of s c))

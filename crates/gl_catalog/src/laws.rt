@@ -1,7 +1,6 @@
 //! The laws of all commands, each the contract of a call that does nothing.
 
-ghost use Rattle.gl_table.specs.Lawful.{EmptyIsLawful};
-ghost use Rattle.gl_table.specs.Waiting.{EmptyHasNoCycle};
+ghost use Rattle.gl_table.specs.Laws.{EmptyIsLawful, EmptyHasNoCycle};
 ghost use Rattle.gl_catalog.specs.Promises.{AlwaysAnswers, EscalateLowersNone, MoveKeepsMover, OthersKeepBelow, OthersKeepEffects, RekeyKeepsMover, RunsKeepLaw, RunsKeepNoCycle, StepsKeepLaw};
 
 /// Each step of each command keeps the law; so does each run, and the empty state meets it.

@@ -10,9 +10,8 @@ use Rattle.gl_table.specs.declared.txn.Status.TheVariants.{Waiting}
 use Rattle.gl_header.specs.Header.{Waiter, fits, front, with_mode, is_ahead, is_among_waiters, is_waiter}
 use Rattle.gl_waits.specs.Waits.{IsWalk, Reaches}
 use Rattle.gl_table.specs.State.{State, members, status_of}
-use Rattle.gl_table.specs.Waiting.{waits_for}
+use Rattle.gl_table.specs.Waiting.{waits_for, HasNoCycle, is_wait}
 use Rattle.gl_table.specs.Lawful.{IsLawful}
-use Rattle.gl_table.specs.Waiting.{HasNoCycle, is_wait}
 use Rattle.gl_table.proofs.Queues.{ahead, ahead_is, clash, no_cons, among_by_filter}
 use Rattle.gl_table.proofs.Edges.{is_step}
 use Rattle.gl_table.proofs.Settles.{wait_is, low}

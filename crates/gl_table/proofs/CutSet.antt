@@ -12,7 +12,8 @@ use Rattle.gl_graph.specs.Routes.{IsRoute}
 use Rattle.gl_graph.specs.Lawful.{IsLawfulGraph}
 use Rattle.gl_modes.specs.Modes.{same_mode}
 use Rattle.gl_table.specs.State.{State}
-use Rattle.gl_table.specs.Effects.{EffX, eff_x, IsCut, CutSetLaw}
+use Rattle.gl_table.specs.Effects.{EffX, eff_x, IsCut}
+use Rattle.gl_table.specs.Laws.{CutSetLaw}
 use Rattle.gl_table.specs.Intends.{no_parents}
 use Rattle.gl_graph.proofs.Look.{or_elim, and_both, all_at}
 use Rattle.gl_modes.proofs.NodeLemmas.{same_node-refl}

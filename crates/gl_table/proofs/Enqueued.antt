@@ -13,8 +13,8 @@ use Rattle.gl_graph.specs.Graph.{is_live}
 use Rattle.gl_header.specs.Header.{holds, front, enters, placed, is_ahead, is_among_waiters, is_waiter}
 use Rattle.gl_table.specs.State.{State, Txn, members, status_in, status_of, age_in, age_of, restatus}
 use Rattle.gl_table.specs.Pumps.{waits_at, is_waiting_at}
-use Rattle.gl_table.specs.Intends.{intends, ModeFitsKind}
-use Rattle.gl_table.specs.Lawful.{IsLawful}
+use Rattle.gl_table.specs.Intends.{intends}
+use Rattle.gl_table.specs.Lawful.{ModeFitsKind, IsLawful}
 use Rattle.gl_table.specs.Calls.{enqueued, begun}
 use Rattle.gl_table.proofs.GrantKeeps.{apart, txn_there}
 use Rattle.gl_table.proofs.Queues.{ahead_is, clash}

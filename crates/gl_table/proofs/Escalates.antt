@@ -5,13 +5,12 @@ use Rattle.std.proofs.Common.{refl, sym, ap, ap₂, ◌∙◌, rules}
 use Rattle.gl_modes.specs.declared.mode.Mode.{Mode}
 use Rattle.gl_modes.specs.declared.mode.Mode.TheVariants.{NL, IS, IX, S, X}
 use Rattle.gl_modes.specs.declared.node.NodeId.{NodeId}
-use Rattle.gl_modes.specs.Modes.{supremum, is_at_least}
+use Rattle.gl_modes.specs.Modes.{supremum, is_at_least, same_mode}
 use Rattle.gl_table.specs.declared.txn.Status.TheVariants.{Active}
 use Rattle.gl_modes.specs.Nodes.{same_node}
 use Rattle.gl_graph.specs.Graph.{is_live, is_child, nodes, parents_of, shape_of}
 use Rattle.gl_graph.specs.Shapes.{is_record_shape}
 use Rattle.gl_header.specs.Header.{holds, fits}
-use Rattle.gl_modes.specs.Modes.{same_mode}
 use Rattle.gl_table.specs.State.{State, members, status_of}
 use Rattle.gl_table.specs.Intends.{is_write, no_parents, intends_over}
 use Rattle.gl_table.specs.Covered.{is_covered}

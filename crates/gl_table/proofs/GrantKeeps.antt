@@ -6,17 +6,16 @@ use mathlib.Core.Bool.{true≢false}
 use Rattle.gl_modes.specs.declared.mode.Mode.{Mode}
 use Rattle.gl_modes.specs.declared.mode.Mode.TheVariants.{NL, IS, IX, S, SIX, X}
 use Rattle.gl_modes.specs.declared.node.NodeId.{NodeId}
-use Rattle.gl_modes.specs.Modes.{are_compatible, is_at_least}
+use Rattle.gl_modes.specs.Modes.{are_compatible, is_at_least, same_mode}
 use Rattle.gl_table.specs.declared.txn.Status.{Status}
 use Rattle.gl_table.specs.declared.txn.Status.TheVariants.{Active, Waiting}
 use Rattle.gl_modes.specs.Nodes.{same_node}
 use Rattle.gl_graph.specs.Graph.{parents_of, is_live}
 use Rattle.gl_header.specs.Header.{Members, Waiter, fits, holds, with_mode, front, IsWithin}
-use Rattle.gl_modes.specs.Modes.{same_mode}
 use Rattle.gl_table.specs.State.{Txn, status_in, State, members, status_of, with_grant}
 use Rattle.gl_table.specs.Pumps.{waits_at, is_waiting_at}
-use Rattle.gl_table.specs.Intends.{intends, intends_over, is_write, no_parents, ModeFitsKind}
-use Rattle.gl_table.specs.Lawful.{IsLawful}
+use Rattle.gl_table.specs.Intends.{intends, intends_over, is_write, no_parents}
+use Rattle.gl_table.specs.Lawful.{ModeFitsKind, IsLawful}
 use Rattle.gl_header.proofs.Fits.{fits-all}
 use Rattle.gl_graph.proofs.Look.{split, and_both, same_number}
 use Rattle.gl_modes.proofs.NodeLemmas.{same_node-equal}

@@ -10,7 +10,8 @@ use Rattle.gl_graph.specs.Lawful.{IsLawfulGraph}
 use Rattle.gl_graph.specs.Graph.{is_live}
 use Rattle.gl_header.specs.Header.{holds, is_ahead, is_among_waiters, is_waiter}
 use Rattle.gl_table.specs.State.{State, members, status_of, age_of}
-use Rattle.gl_table.specs.Intends.{intends, ModeFitsKind}
+use Rattle.gl_table.specs.Intends.{intends}
+use Rattle.gl_table.specs.Lawful.{ModeFitsKind}
 use Rattle.gl_table.specs.Pumps.{front_at, is_waiting_at}
 
 -- `front_waits` is asked of the nodes not chosen

@@ -5,17 +5,16 @@ use Rattle.std.proofs.Common.{refl, sym, ap, ap₂, ◌∙◌, arith, rules, sub
 use Rattle.gl_modes.specs.declared.mode.Mode.{Mode}
 use Rattle.gl_modes.specs.declared.mode.Mode.TheVariants.{NL, IS, IX}
 use Rattle.gl_modes.specs.declared.node.NodeId.{NodeId}
-use Rattle.gl_modes.specs.Modes.{are_compatible, is_at_least}
+use Rattle.gl_modes.specs.Modes.{are_compatible, is_at_least, same_mode}
 use Rattle.gl_table.specs.declared.txn.Status.{Status}
 use Rattle.gl_table.specs.declared.txn.Status.TheVariants.{Active, Waiting, Condemned}
 use Rattle.gl_modes.specs.Nodes.{same_node}
 use Rattle.gl_graph.specs.Graph.{parents_of, is_child, is_live}
 use Rattle.gl_header.specs.Header.{Waiter, front, is_ahead, is_among_waiters, is_waiter}
-use Rattle.gl_modes.specs.Modes.{same_mode}
 use Rattle.gl_table.specs.State.{State, Txn, members, status_in, status_of, age_in, age_of}
 use Rattle.gl_table.specs.Pumps.{waits_at}
-use Rattle.gl_table.specs.Intends.{is_write, no_parents, intends, intends_over, ModeFitsKind}
-use Rattle.gl_table.specs.Lawful.{IsLawful}
+use Rattle.gl_table.specs.Intends.{is_write, no_parents, intends, intends_over}
+use Rattle.gl_table.specs.Lawful.{ModeFitsKind, IsLawful}
 use Rattle.gl_table.proofs.Queues.{ahead_is, ahead_second, clash}
 use Rattle.gl_table.proofs.GrantKeeps.{front_less}
 use Rattle.gl_table.proofs.LawfulBut.{IsLawfulBut}

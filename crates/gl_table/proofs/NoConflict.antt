@@ -6,10 +6,10 @@ use mathlib.Core.Bool.{true≢false}
 use Rattle.gl_modes.specs.declared.mode.Mode.{Mode}
 use Rattle.gl_modes.specs.declared.mode.Mode.TheVariants.{NL, IS, IX, X}
 use Rattle.gl_modes.specs.declared.node.NodeId.{NodeId}
-use Rattle.gl_modes.specs.Modes.{are_compatible, is_at_least}
+use Rattle.gl_modes.specs.Modes.{are_compatible, is_at_least, same_mode}
 use Rattle.gl_graph.specs.Graph.{Graph, node_count, parents_of}
-use Rattle.gl_modes.specs.Modes.{same_mode}
-use Rattle.gl_table.specs.Effects.{eff_s, eff_x, is_read, NoConflictLaw}
+use Rattle.gl_table.specs.Effects.{eff_s, eff_x, is_read}
+use Rattle.gl_table.specs.Laws.{NoConflictLaw}
 use Rattle.gl_table.specs.Intends.{is_write, no_parents, intends_over}
 use Rattle.gl_graph.proofs.Look.{or_elim, and_both}
 

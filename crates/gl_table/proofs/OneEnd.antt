@@ -5,7 +5,8 @@ use Rattle.gl_table.specs.declared.detect.Detect.{Detect}
 use Rattle.gl_table.specs.declared.detect.Detect.TheVariants.{AtBlock, ByWatcher}
 use Rattle.gl_waits.specs.Waits.{IsWalk, IsOnCycleOf, IsYoungest}
 use Rattle.gl_table.specs.State.{State, age_of}
-use Rattle.gl_table.specs.Waiting.{waits_for, SettledWithin, Settled, SettlingEnds}
+use Rattle.gl_table.specs.Waiting.{waits_for, SettledWithin, Settled}
+use Rattle.gl_table.specs.Laws.{SettlingEnds}
 use Rattle.gl_table.specs.Pumps.{condemned}
 use Rattle.gl_table.specs.Lawful.{IsLawful}
 use Rattle.gl_table.specs.Calls.{WaitSettles}

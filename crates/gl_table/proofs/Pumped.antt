@@ -6,16 +6,15 @@ use Rattle.std.proofs.lemmas.List.Elements.{filter-append}
 use Rattle.gl_modes.specs.declared.mode.Mode.{Mode}
 use Rattle.gl_modes.specs.declared.mode.Mode.TheVariants.{NL}
 use Rattle.gl_modes.specs.declared.node.NodeId.{NodeId}
-use Rattle.gl_modes.specs.Modes.{is_at_least}
+use Rattle.gl_modes.specs.Modes.{is_at_least, same_mode}
 use Rattle.gl_table.specs.declared.txn.Status.{Status}
 use Rattle.gl_table.specs.declared.txn.Status.TheVariants.{Active, Waiting, Condemned}
 use Rattle.gl_graph.specs.Graph.{parents_of}
 use Rattle.gl_header.specs.Header.{Waiter, holds, front, after_grants, is_among_waiters, is_waiter, IsWithin, IsCompatible}
-use Rattle.gl_modes.specs.Modes.{same_mode}
 use Rattle.gl_table.specs.State.{State, Txn, members, status_in, status_of, age_in}
 use Rattle.gl_table.specs.Pumps.{waits_at, granted_at, pumped, woken, awake}
-use Rattle.gl_table.specs.Intends.{intends, ModeFitsKind}
-use Rattle.gl_table.specs.Lawful.{IsLawful}
+use Rattle.gl_table.specs.Intends.{intends}
+use Rattle.gl_table.specs.Lawful.{ModeFitsKind, IsLawful}
 use Rattle.gl_header.proofs.Fronts.{front-and_rest, front-after_front, pumped-compatible}
 use Rattle.gl_table.proofs.GrantKeeps.{rule_more, more_held, nl_is, txn_there}
 use Rattle.gl_table.proofs.Queues.{ahead, ahead_is, ahead_first, ahead_after, clash, among_append, not_among, none_filtered, one_in_first, grants_other, grants_one}

@@ -16,10 +16,9 @@ use Rattle.gl_header.specs.Header.{holds, is_ahead}
 use Rattle.gl_waits.specs.Waits.{IsWalk, IsOnCycleOf, IsYoungest}
 use Rattle.gl_table.specs.State.{State, Txn, members, slots, status_in, status_of, age_of, restatus, with_grant}
 use Rattle.gl_table.specs.Pumps.{without_wait, is_waiting_at, granted_at, condemned}
-use Rattle.gl_table.specs.Waiting.{waits_for, Settled}
+use Rattle.gl_table.specs.Waiting.{waits_for, Settled, is_wait}
 use Rattle.gl_table.specs.Lawful.{IsLawful}
 use Rattle.gl_table.specs.Calls.{Locks, WaitSettles, wanted, enters_at, enqueued}
-use Rattle.gl_table.specs.Waiting.{is_wait}
 use Rattle.gl_table.proofs.GrantKeeps.{nl_is, txn_there}
 use Rattle.gl_table.proofs.Queues.{ahead_is, ahead_second, clash}
 use Rattle.gl_table.proofs.Less.{waiting_is}

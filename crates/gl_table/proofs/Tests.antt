@@ -7,7 +7,7 @@ use Rattle.gl_modes.specs.declared.mode.Mode.TheVariants.{NL, IS, IX, S, X}
 use Rattle.gl_modes.specs.declared.node.NodeId.{NodeId}
 use Rattle.gl_modes.specs.declared.refusal.Refusal.{Refusal}
 use Rattle.gl_modes.specs.declared.refusal.Refusal.TheVariants as no
-use Rattle.gl_modes.specs.Modes.{supremum, is_at_least}
+use Rattle.gl_modes.specs.Modes.{supremum, is_at_least, same_mode}
 use Rattle.gl_table.specs.declared.txn.TxnId.{TxnId}
 use Rattle.gl_table.specs.declared.txn.Status.{Status}
 use Rattle.gl_table.specs.declared.txn.Status.TheVariants.{Active, Waiting, Condemned}
@@ -15,10 +15,9 @@ use Rattle.gl_modes.specs.Nodes.{same_node}
 use Rattle.gl_graph.specs.Graph.{is_live, is_child, nodes, shape_of}
 use Rattle.gl_graph.specs.Shapes.{is_record_shape}
 use Rattle.gl_header.specs.Header.{holds}
-use Rattle.gl_modes.specs.Modes.{same_mode}
 use Rattle.gl_table.specs.State.{State, Txn, members, status_in, status_of, live_by}
-use Rattle.gl_table.specs.Intends.{is_write, no_parents, intends_over, ModeFitsKind}
-use Rattle.gl_table.specs.Lawful.{IsLawful}
+use Rattle.gl_table.specs.Intends.{is_write, no_parents, intends_over}
+use Rattle.gl_table.specs.Lawful.{ModeFitsKind, IsLawful}
 use Rattle.gl_graph.specs.Refusals.{first_refusal, some_no_node}
 use Rattle.gl_table.specs.Refusals.{no_txn, waiting_test, condemned_test, active_on, bad_mode, first_not_ix, first_of_all, child_held, held_child}
 use Rattle.gl_table.specs.Calls.{wanted}

@@ -16,7 +16,7 @@ use Rattle.gl_table.specs.Effects.{eff_s, eff_x, effective}
 use Rattle.gl_table.specs.Intends.{no_parents}
 use Rattle.gl_table.specs.State.{State}
 use Rattle.gl_table.specs.Lawful.{IsLawful}
-use Rattle.gl_table.specs.Effects.{SameBelow}
+use Rattle.gl_table.specs.Below.{SameBelow}
 use Rattle.gl_table.proofs.Effects.{or_true, all_from, ReadOn, read_on_route, eff_s_route, eff_x_route, read_on_eff, eff_x_any}
 use Rattle.gl_graph.proofs.Look.{split, or_elim, and_both, all_at}
 

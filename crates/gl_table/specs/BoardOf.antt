@@ -6,6 +6,7 @@ use Rattle.gl_table.specs.State.{State, age_of}
 use Rattle.gl_table.specs.Waiting.{waits_for}
 use Rattle.gl_waits.specs.Sets.{bits_of}
 
+-- the board of this moment: the count of accepted commands, the ages, and a bit for each wait; it has 128 places whatever the limit is (own)
 abbrev pub board_of : State → Board
 board_of s =
     record {

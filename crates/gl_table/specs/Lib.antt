@@ -1,11 +1,13 @@
 pub mod State
 pub mod Intends
 pub mod Effects
-pub mod Waiting
+pub mod Below
 pub mod Pumps
-pub mod Covered
+pub mod Waiting
 pub mod Lawful
+pub mod Laws
+pub mod Covered
+pub mod Calls
+pub mod Refusals
 pub mod Tellings
 pub mod BoardOf
-pub mod Refusals
-pub mod Calls

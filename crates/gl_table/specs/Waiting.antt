@@ -10,37 +10,29 @@ use Rattle.gl_table.specs.Pumps.{condemned}
 use Rattle.gl_table.specs.State.{State, age_of, empty_state, status_of}
 use Rattle.gl_waits.specs.Waits.{IsOnCycleOf, IsOnNoCycle, IsYoungest, Reaches}
 
--- waits
+-- what a wait is for: u holds the node in a mode that does not go with the wanted one, or stands ahead in its queue (Gray and Reuter; that all ahead count is own)
 abbrev pub blocks : State → ℕ → ℕ → Option Status → Bool
 blocks s t u (Some (Waiting n m)) = not (are_compatible m (s.held u n)) || is_ahead (s.queue n) t u
 blocks s t u o = false
 
+-- t waits for u
 abbrev pub waits_for : State → ℕ → ℕ → Bool
 waits_for s t u = not (t == u) && blocks s t u (status_of s t)
 
--- after at most k turns t is on no cycle
+-- settling t in this many turns (own): while some are on a cycle with t, the youngest of them is condemned
 abbrev pub SettledWithin : ℕ → State → ℕ → State → Type 0
 SettledWithin zero s t s' = IsOnNoCycle (waits_for s) t × (s' ≡ s)
 SettledWithin (suc k) s t s' = (v : ℕ) × IsYoungest (IsOnCycleOf (waits_for s) t) (age_of s) v × SettledWithin k (condemned s v) t s'
 
+-- settling t, in as many turns as it takes
 abbrev pub Settled : State → ℕ → State → Type 0
 Settled s t s' = (k : ℕ) × SettledWithin k s t s'
 
--- no one waits in a circle
+-- nobody waits, over some steps, for itself
 abbrev pub HasNoCycle : State → Type 0
 HasNoCycle s = (t : ℕ) → IsOnNoCycle (waits_for s) t
 
-abbrev pub EmptyHasNoCycle : Type 0
-EmptyHasNoCycle = (detect : Detect) (most : ℕ) → HasNoCycle (empty_state detect most)
-
+-- the status is that of a wait
 abbrev pub is_wait : Option Status → Bool
 is_wait (Some (Waiting n m)) = true
 is_wait o = false
-
--- where no one waits in a circle, whoever waits waits, over some steps, for one who does not wait
-abbrev pub ChainsEnd : Type 0
-ChainsEnd = (s : State) → IsLawful s → HasNoCycle s → (t : ℕ) → is_wait (status_of s t) ≡ true → (u : ℕ) × Reaches (waits_for s) t u × (is_wait (status_of s u) ≡ false)
-
--- settling ends, and in one state
-abbrev pub SettlingEnds : Type 0
-SettlingEnds = (s : State) → IsLawful s → (t : ℕ) → (s' : State) × Settled s t s' × ((other : State) → Settled s t other → other ≡ s')

@@ -1,7 +1,6 @@
 //! The laws of the model, each the contract of a call that does nothing.
 
-ghost use Rattle.gl_table.specs.Effects.{CutSetLaw, NoConflictLaw};
-ghost use Rattle.gl_table.specs.Waiting.{ChainsEnd, SettlingEnds};
+ghost use Rattle.gl_table.specs.Laws.{NoConflictLaw, CutSetLaw, SettlingEnds, ChainsEnd};
 
 /// In a lawful state no two transactions hold conflicting effective modes on any node.
 pub fn no_conflict()
