@@ -1,7 +1,7 @@
 -- An escalate lowers the caller's effective mode on no node.
-use Rattle.std.specs.Prelude.{◌≡◌, ℕ, zero, suc, ◌≤◌, Bool, true, false, not, ◌&&◌, ◌||◌, ◌==◌, List, [], ◌∷◌, ◌++◌, length, Some, None, is_some, if◌then◌else◌}
+use Rattle.std.specs.Prelude.{◌≡◌, ℕ, zero, suc, Bool, true, false, not, ◌&&◌, ◌||◌, ◌==◌, List, [], ◌∷◌, ◌++◌, Some, None, is_some, if◌then◌else◌}
 use Rattle.std.specs.List.{list_all, list_any}
-use Rattle.std.proofs.Common.{refl, sym, ap, ap₂, ◌∙◌, arith, rules}
+use Rattle.std.proofs.Common.{refl, sym, ap, ap₂, ◌∙◌, rules}
 use mathlib.Core.Bool.{true≢false}
 use Rattle.gl_modes.specs.declared.mode.Mode.{Mode}
 use Rattle.gl_modes.specs.declared.mode.Mode.TheVariants.{NL, S, X}
@@ -13,7 +13,7 @@ use Rattle.gl_catalog.specs.declared.command.Command.TheVariants as command
 use Rattle.gl_graph.specs.Graph.{Graph, nodes, node_at, node_count, is_live, parents_in, parents_of, is_child}
 use Rattle.gl_modes.specs.Nodes.{same_node}
 use Rattle.gl_graph.specs.Routes.{IsRoute}
-use Rattle.gl_header.specs.Header.{Members, Waiter, fits, holds, with_mode, front, after_grants, is_waiter, is_among_waiters}
+use Rattle.gl_header.specs.Header.{Members, Waiter, fits, holds, with_mode, front, is_waiter, is_among_waiters}
 use Rattle.gl_table.specs.State.{State, members, status_of}
 use Rattle.gl_table.specs.Effects.{eff_s, eff_x, is_read, effective, EffX, is_at_least_effect}
 use Rattle.gl_table.specs.Intends.{no_parents, is_write}
@@ -24,7 +24,7 @@ use Rattle.gl_table.specs.Calls.{wanted, asked_by_escalation, raised, shed}
 use Rattle.gl_catalog.specs.Tests.{worn}
 use Rattle.gl_table.specs.Refusals.{no_txn, waiting_test, condemned_test}
 use Rattle.gl_catalog.specs.Promises.{EscalateLowersNone}
-use Rattle.gl_graph.proofs.Look.{split, cases_of, no, or_elim, or_left, or_right, and_both, both, same_number, number_same, same_node_is, same_node_refl, all_at, child_live}
+use Rattle.gl_graph.proofs.Look.{split, cases_of, no, or_elim, or_left, or_right, and_both, both, number_same, same_node_is, same_node_refl, all_at, child_live}
 use Rattle.gl_graph.proofs.Routes.{join}
 use Rattle.gl_graph.proofs.Moved.{some_at}
 use Rattle.gl_graph.proofs.RouteLengths.{listed}

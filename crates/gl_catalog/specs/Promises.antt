@@ -13,7 +13,6 @@ use Rattle.gl_catalog.specs.declared.command.Command.TheVariants as command
 use Rattle.gl_catalog.specs.Step.{Run, Step}
 use Rattle.gl_graph.specs.Graph.{is_live, shape_of}
 use Rattle.gl_graph.specs.Shapes.{is_record_shape}
-use Rattle.gl_table.specs.declared.effect.Effect.{Effect}
 use Rattle.gl_table.specs.Effects.{EffS, effective, is_at_least_effect}
 use Rattle.gl_table.specs.Below.{SameBelow}
 use Rattle.gl_table.specs.Lawful.{IsLawful}

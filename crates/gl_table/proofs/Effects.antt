@@ -1,13 +1,12 @@
 -- Effective modes, without fuel: a route to a node held in S, SIX or X; an effective X after any number of steps.
 use Rattle.std.specs.Prelude.{◌≡◌, ℕ, zero, suc, ◌≤◌, Bool, true, false, not, ◌&&◌, ◌||◌, List, [], ◌∷◌, length}
 use Rattle.std.specs.List.{list_all, list_any}
-use Rattle.std.proofs.lemmas.Map.Made.{length-le_from_is_member}
 use Rattle.std.proofs.Common.{refl, sym, ap, ap₂, subst, ◌∙◌, arith, rules}
 use mathlib.Core.Bool.{true≢false}
 use Rattle.gl_modes.specs.declared.mode.Mode.{Mode}
 use Rattle.gl_modes.specs.declared.mode.Mode.TheVariants.{X}
 use Rattle.gl_modes.specs.declared.node.NodeId.{NodeId}
-use Rattle.gl_graph.specs.Graph.{Graph, nodes, node_count, parents_of, is_live}
+use Rattle.gl_graph.specs.Graph.{Graph, node_count, parents_of, is_live}
 use Rattle.gl_modes.specs.Nodes.{same_node}
 use Rattle.gl_graph.specs.Routes.{IsRoute}
 use Rattle.gl_graph.specs.Lawful.{IsLawfulGraph}
@@ -19,7 +18,7 @@ use Rattle.gl_table.specs.Lawful.{IsLawful}
 use Rattle.gl_graph.proofs.RouteLengths.{route_short}
 use Rattle.gl_table.proofs.CutSet.{on_path, cut_set_law}
 use Rattle.gl_graph.proofs.Look.{or_elim, and_both}
-use Rattle.gl_modes.proofs.NodeLemmas.{same_node-equal, same_node-refl}
+use Rattle.gl_modes.proofs.NodeLemmas.{same_node-refl}
 use Rattle.gl_graph.proofs.Moved.{some_at}
 
 pub or_true : (b : Bool) → (b || true) ≡ true

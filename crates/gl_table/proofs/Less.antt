@@ -1,7 +1,7 @@
 -- A state with fewer grants, waits and transactions keeps the law, but for the fronts where something was taken.
 use Rattle.std.specs.Prelude.{◌≡◌, ◌⊎◌, ℕ, ◌≤◌, Bool, true, false, cond, not, ◌&&◌, ◌||◌, List, [], ◌∷◌, Option, Some, None, is_some}
 use Rattle.std.specs.List.{filter, list_any, list_all}
-use Rattle.std.proofs.Common.{refl, sym, ap, ap₂, ◌∙◌, arith, rules, subst, ⊎_elim}
+use Rattle.std.proofs.Common.{refl, sym, ap, ap₂, ◌∙◌, arith, subst, ⊎_elim}
 use Rattle.gl_modes.specs.declared.mode.Mode.{Mode}
 use Rattle.gl_modes.specs.declared.mode.Mode.TheVariants.{NL, IS, IX}
 use Rattle.gl_modes.specs.declared.node.NodeId.{NodeId}

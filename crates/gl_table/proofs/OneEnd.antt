@@ -1,15 +1,12 @@
 -- Settling ends in one state.
 use Rattle.std.specs.Prelude.{◌≡◌, ℕ, zero, suc, true, List, [], ◌∷◌, is_some}
 use Rattle.std.proofs.Common.{sym, ◌∙◌, arith, subst}
-use Rattle.gl_table.specs.declared.detect.Detect.{Detect}
-use Rattle.gl_table.specs.declared.detect.Detect.TheVariants.{AtBlock, ByWatcher}
 use Rattle.gl_waits.specs.Waits.{IsWalk, IsOnCycleOf, IsYoungest}
 use Rattle.gl_table.specs.State.{State, age_of}
 use Rattle.gl_table.specs.Waiting.{waits_for, SettledWithin, Settled}
 use Rattle.gl_table.specs.Laws.{SettlingEnds}
 use Rattle.gl_table.specs.Pumps.{condemned}
 use Rattle.gl_table.specs.Lawful.{IsLawful}
-use Rattle.gl_table.specs.Calls.{WaitSettles}
 use Rattle.gl_table.proofs.GrantKeeps.{txn_there}
 use Rattle.gl_table.proofs.Taken.{condemned-lawful}
 use Rattle.gl_table.proofs.Edges.{step_is}

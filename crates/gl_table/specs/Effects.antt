@@ -1,18 +1,15 @@
 -- Effective modes: explicit locks, and those implied by locks further up.
 use Rattle.std.specs.Prelude.{◌≡◌, ◌≢◌, ℕ, zero, suc, Bool, true, false, not, ◌&&◌, ◌||◌, List, ◌∷◌, if◌then◌else◌}
 use Rattle.std.specs.List.{list_any, list_all}
-use Rattle.gl_table.specs.declared.txn.TxnId.{TxnId}
 use Rattle.gl_table.specs.declared.effect.Effect.{Effect}
 use Rattle.gl_modes.specs.declared.mode.Mode.{Mode}
 use Rattle.gl_modes.specs.declared.node.NodeId.{NodeId}
 use Rattle.gl_modes.specs.declared.mode.Mode.TheVariants.{S, X}
 use Rattle.gl_table.specs.declared.effect.Effect.TheVariants as effect
-use Rattle.gl_graph.specs.Graph.{Graph, is_live, node_count, parents_of, shape_of}
-use Rattle.gl_graph.specs.Routes.{IsBelow, IsRootPath}
-use Rattle.gl_graph.specs.Shapes.{is_record_shape, keys_in}
+use Rattle.gl_graph.specs.Graph.{Graph, node_count, parents_of}
+use Rattle.gl_graph.specs.Routes.{IsRootPath}
 use Rattle.gl_modes.specs.Modes.{is_at_least, same_mode}
 use Rattle.gl_table.specs.Intends.{no_parents}
-use Rattle.gl_table.specs.Lawful.{IsLawful}
 use Rattle.gl_table.specs.State.{State}
 
 -- a mode that reads the node and all below it: S, SIX or X (1976)

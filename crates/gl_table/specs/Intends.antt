@@ -1,12 +1,11 @@
 -- The rule of the lock graph, tested on explicit locks alone.
-use Rattle.std.specs.Prelude.{◌≡◌, ℕ, Bool, true, false, ◌||◌, List, [], ◌∷◌, if◌then◌else◌}
+use Rattle.std.specs.Prelude.{ℕ, Bool, true, false, ◌||◌, List, [], ◌∷◌, if◌then◌else◌}
 use Rattle.std.specs.List.{list_any, list_all}
 use Rattle.gl_modes.specs.declared.mode.Mode.{Mode}
 use Rattle.gl_modes.specs.declared.node.NodeId.{NodeId}
-use Rattle.gl_modes.specs.declared.mode.Mode.TheVariants.{IS, IX, S, X}
-use Rattle.gl_graph.specs.Graph.{parents_of, shape_of}
-use Rattle.gl_graph.specs.Shapes.{is_record_shape}
-use Rattle.gl_modes.specs.Modes.{is_at_least, same_mode}
+use Rattle.gl_modes.specs.declared.mode.Mode.TheVariants.{IS, IX}
+use Rattle.gl_graph.specs.Graph.{parents_of}
+use Rattle.gl_modes.specs.Modes.{is_at_least}
 use Rattle.gl_table.specs.State.{State}
 
 -- a mode that may write here or further down: IX, SIX or X (1976)

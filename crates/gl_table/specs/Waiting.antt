@@ -1,14 +1,12 @@
 -- Who waits for whom, cycles, and victims.
 use Rattle.std.specs.Prelude.{◌≡◌, ℕ, zero, suc, Bool, true, false, not, ◌&&◌, ◌||◌, ◌==◌, Option, Some}
 use Rattle.gl_table.specs.declared.txn.Status.{Status}
-use Rattle.gl_table.specs.declared.detect.Detect.{Detect}
 use Rattle.gl_table.specs.declared.txn.Status.TheVariants.{Waiting}
 use Rattle.gl_header.specs.Header.{is_ahead}
 use Rattle.gl_modes.specs.Modes.{are_compatible}
-use Rattle.gl_table.specs.Lawful.{IsLawful}
 use Rattle.gl_table.specs.Pumps.{condemned}
-use Rattle.gl_table.specs.State.{State, age_of, empty_state, status_of}
-use Rattle.gl_waits.specs.Waits.{IsOnCycleOf, IsOnNoCycle, IsYoungest, Reaches}
+use Rattle.gl_table.specs.State.{State, age_of, status_of}
+use Rattle.gl_waits.specs.Waits.{IsOnCycleOf, IsOnNoCycle, IsYoungest}
 
 -- what a wait is for: u holds the node in a mode that does not go with the wanted one, or stands ahead in its queue (Gray and Reuter; that all ahead count is own)
 abbrev pub blocks : State → ℕ → ℕ → Option Status → Bool
