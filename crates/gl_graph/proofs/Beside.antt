@@ -14,12 +14,11 @@ use Rattle.gl_graph.specs.declared.node.Body.{Body}
 use Rattle.gl_graph.specs.declared.node.Body.TheVariants as body
 use Rattle.gl_graph.specs.declared.node.Node.{Node as Stored}
 use Rattle.gl_graph.specs.Shapes.{Shape, Inner, File, Index, Interval, Rec, is_file_shape, is_index_shape, bounds_in}
-use Rattle.gl_graph.specs.Graph.{Graph, node_at, shape_of, shape_in, parents_in, parents_of, is_live, interval, interval_at, indexes_of, nodes, is_record_of}
+use Rattle.gl_graph.specs.Graph.{node_at, shape_of, shape_in, parents_in, parents_of, interval, interval_at, indexes_of}
 use Rattle.gl_graph.specs.Lawful.{IsRising, HasShape}
-use Rattle.gl_graph.specs.Refusals.{has_records}
-use Rattle.gl_graph.specs.View.{View, Vertex, graph_of, node_of, record_count, KeepsBeside}
+use Rattle.gl_graph.specs.View.{View, graph_of, node_of, record_count, KeepsBeside}
 use Rattle.gl_graph.specs.Seen.{shape_in_body, indexes_in_body, records_in_body, intervals_in_body, vertex_of, seen, named_in, named, AreSound}
-use Rattle.gl_graph.proofs.Look.{split, cases_of, no, none_some, some_is, same_number, and_both}
+use Rattle.gl_graph.proofs.Look.{split, cases_of, no, none_some, some_is, same_number}
 use Rattle.gl_graph.proofs.Slots.{node_named, seen_in}
 
 -- the slot of a node that an id names

@@ -1,17 +1,17 @@
 -- The nodes and the records of a file, counted.
-use Rattle.std.specs.Prelude.{◌≡◌, ◌≢◌, ℕ, zero, suc, ◌+◌, ◌<◌, ◌≤◌, Bool, true, false, ◌&&◌, ◌||◌, List, [], ◌∷◌, ◌++◌, length, Option, Some, None, is_some, cond, if◌then◌else◌, count_by}
+use Rattle.std.specs.Prelude.{◌≡◌, ℕ, suc, ◌+◌, Bool, true, false, ◌&&◌, List, [], ◌∷◌, ◌++◌, length, Option, Some, None, cond, if◌then◌else◌, count_by}
 use Rattle.std.specs.List.{cons_option, filter, filter_map, list_all, list_any, range_with_len}
 use Rattle.std.proofs.lemmas.List.Sums.{sum_by-cons, sum_by-append}
 use Rattle.std.proofs.lemmas.List.{length-append}
-use Rattle.std.proofs.Common.{refl, sym, ap, ap₂, ◌∙◌, subst, arith, zero-add}
+use Rattle.std.proofs.Common.{refl, sym, ap, ap₂, ◌∙◌, arith}
 use Rattle.gl_modes.specs.declared.node.NodeId.{NodeId}
 use Rattle.gl_modes.specs.Nodes.{same_node}
-use Rattle.gl_graph.specs.Shapes.{Shape, is_record_shape, is_file_shape, is_index_of_shape}
+use Rattle.gl_graph.specs.Shapes.{is_record_shape, is_file_shape, is_index_of_shape}
 use Rattle.gl_graph.specs.Graph.{Graph, Node, id_of, nodes, node_count, node_at, is_live, shape_in, shape_of, parents_in, is_child, is_record_of, indexes_of}
 use Rattle.gl_graph.specs.Lawful.{IsLawfulGraph}
 use Rattle.gl_graph.specs.Changes.{born_nodes}
 use Rattle.gl_graph.specs.View.{record_count}
-use Rattle.gl_graph.proofs.Look.{split, cases_of, no, none_some, some_is, both, and_both, finds, there_is, same_node_is}
+use Rattle.gl_graph.proofs.Look.{split, no, none_some, some_is, both, and_both, finds, there_is, same_node_is}
 use Rattle.gl_graph.proofs.KindRules.{plain_live, file_plain, index_of, index_node}
 use Rattle.gl_graph.proofs.Listings.{map_same}
 use Rattle.gl_graph.proofs.Born.{place_in, old_at, new_at, none_above, old_same, parts, new_node}

@@ -1,5 +1,5 @@
 -- No node is listed twice, among the nodes or among the indexes of a file.
-use Rattle.std.specs.Prelude.{◌≡◌, ◌≢◌, ℕ, zero, suc, ◌+◌, ◌<◌, ◌≤◌, Bool, true, false, not, ◌&&◌, ◌||◌, List, [], ◌∷◌, length, Option, Some, None, if◌then◌else◌, slice_index_or}
+use Rattle.std.specs.Prelude.{◌≡◌, ℕ, zero, suc, ◌+◌, ◌<◌, Bool, true, false, not, ◌||◌, List, [], ◌∷◌, length, Option, Some, None, if◌then◌else◌, slice_index_or}
 use Rattle.std.specs.List.{cons_option, filter, filter_map, list_any, range_with_len}
 use Rattle.std.proofs.Common.{refl, sym, ap, ap₂, ◌∙◌, arith}
 use Rattle.gl_modes.specs.declared.node.NodeId.{NodeId}
@@ -7,7 +7,7 @@ use Rattle.gl_modes.specs.Nodes.{same_node}
 use Rattle.gl_graph.specs.Shapes.{is_index_of_shape}
 use Rattle.gl_graph.specs.Graph.{Graph, Node, id_of, nodes, is_live, shape_of, indexes_of}
 use Rattle.gl_graph.specs.Lawful.{IsLawfulGraph, are_distinct}
-use Rattle.gl_graph.proofs.Look.{split, no, none_some, some_is, or_elim, or_left, or_right, both, and_both, same_node_is, node_other, same_node_refl, is_same_node}
+use Rattle.gl_graph.proofs.Look.{split, no, none_some, some_is, or_elim, or_left, or_right, both, and_both, same_node_is, node_other, is_same_node}
 use Rattle.gl_graph.proofs.Unrefused.{or_no}
 use Rattle.gl_graph.proofs.RouteLengths.{listed}
 

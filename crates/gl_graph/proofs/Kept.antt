@@ -1,5 +1,5 @@
 -- What is kept beside the graph still agrees with it after a change.
-use Rattle.std.specs.Prelude.{◌≡◌, ◌≢◌, ℕ, ◌+◌, ◌<◌, ◌≤◌, Bool, true, false, ◌==◌, ◌&&◌, List, [], ◌∷◌, ◌++◌, length, Option, Some, None, is_some, cond, slice_get, count_by}
+use Rattle.std.specs.Prelude.{◌≡◌, ℕ, ◌+◌, ◌≤◌, true, false, ◌==◌, ◌&&◌, List, [], ◌∷◌, length, Some, None, is_some, cond, count_by}
 use Rattle.std.proofs.Common.{refl, sym, ap, ap₂, ◌∙◌, subst, arith}
 use Rattle.gl_modes.specs.declared.node.NodeId.{NodeId}
 use Rattle.slab.specs.Slab.{Slab, get, slab_len, Updates}
@@ -9,14 +9,14 @@ use Rattle.gl_graph.specs.declared.node.Node.{Node as Stored}
 use Rattle.gl_graph.specs.Shapes.{Shape, Inner, File, Index, Interval, Rec, is_file_shape, is_record_shape, is_index_of_shape}
 use Rattle.gl_graph.specs.Graph.{Graph, Node, node_at, is_live, shape_in, shape_of, is_child, interval, indexes_of, node_count, is_record_of}
 use Rattle.gl_graph.specs.Lawful.{IsLawfulGraph}
-use Rattle.gl_graph.specs.Changes.{born_node, born_nodes, IsBorn}
-use Rattle.gl_graph.specs.View.{View, Vertex, graph_of, node_of, record_count, KeepsBeside, AgreesAt}
-use Rattle.gl_graph.specs.Seen.{shape_in_body, vertex_of, seen, AreBornApart, AreBornWithin, AreSound, IsPlainBody}
-use Rattle.gl_graph.proofs.Look.{split, cases_of, no, none_some, some_is, same_number, other_number, there_is, live_node}
+use Rattle.gl_graph.specs.Changes.{born_node, IsBorn}
+use Rattle.gl_graph.specs.View.{Vertex, graph_of, node_of, record_count, KeepsBeside, AgreesAt}
+use Rattle.gl_graph.specs.Seen.{shape_in_body, vertex_of, seen, AreBornWithin, AreSound, IsPlainBody}
+use Rattle.gl_graph.proofs.Look.{split, some_is, same_number, other_number}
 use Rattle.gl_graph.proofs.KindRules.{Frames, index_node, interval_kept}
 use Rattle.gl_graph.proofs.Born.{born_frames, new_node, old_below}
 use Rattle.gl_graph.proofs.NewNodes.{one_indexes}
-use Rattle.gl_graph.proofs.Counts.{count_cons, count_grown, records_grown, new_ids, dead_records, dead_indexes}
+use Rattle.gl_graph.proofs.Counts.{count_cons, count_grown, records_grown, dead_records, dead_indexes}
 use Rattle.gl_graph.proofs.Slots.{at_slot, node_there, inserted, inserted_apart, inserted_free}
 
 -- an index that stays has its intervals where they were
@@ -90,8 +90,8 @@ module _ (old new : Slab Stored) (births key : ℕ) (x : Stored) (sound : AreSou
         (λ h. (
           one_indexes g sound.lawful node no_index n,
           (let count : record_count (born_node g node) n ≡ record_count g n + count_by (is_record_of (born_node g node) n) (id ∷ []) = records_grown g sound.lawful (node ∷ []) n in
-          let none : count_by (is_record_of (born_node g node) n) (id ∷ []) ≡ 0 = count_cons (is_record_of (born_node g node) n) id [] ∙ ap (λ b. cond b 1 0 + 0) (other h) in
-          omega arith),
+              let none : count_by (is_record_of (born_node g node) n) (id ∷ []) ≡ 0 = count_cons (is_record_of (born_node g node) n) id [] ∙ ap (λ b. cond b 1 0 + 0) (other h) in
+              omega arith),
         ))
         (sound.agree k y e)
 
@@ -107,7 +107,7 @@ module _ (old new : Slab Stored) (births key : ℕ) (x : Stored) (sound : AreSou
     new_kept (body.File indexes records) e p = (
       p.0 ∙ sym (one_indexes g sound.lawful node (plain_no_index x.body plain) id ∙ dead_indexes g sound.lawful id not_there),
       p.1
-      ∙ sym (records_grown g sound.lawful (node ∷ []) id ∙ ap₂ (λ a b. a + b) (dead_records g sound.lawful id not_there) (count_cons (is_record_of (born_node g node) id) id [] ∙ ap (λ b. cond b 1 0 + 0) (not_record id))),
+          ∙ sym (records_grown g sound.lawful (node ∷ []) id ∙ ap₂ (λ a b. a + b) (dead_records g sound.lawful id not_there) (count_cons (is_record_of (born_node g node) id) id [] ∙ ap (λ b. cond b 1 0 + 0) (not_record id))),
     )
     new_kept (body.Index file bounds intervals) e p = absurd p
     new_kept (body.Interval place) e p = absurd p

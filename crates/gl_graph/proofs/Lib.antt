@@ -25,3 +25,7 @@ pub mod Rekey
 pub mod Grow
 pub mod Rising
 pub mod SoundIndex
+pub mod Climb
+pub mod SoundMoved
+pub mod RootPaths
+pub mod KindsOf

@@ -1,14 +1,13 @@
 -- The parents of a record: one file, and one interval for each of its indexes.
-use Rattle.std.specs.Prelude.{◌≡◌, ℕ, ◌<◌, ◌≤◌, Bool, true, false, ◌||◌, nat_le, List, [], ◌∷◌, length, Option, Some, None, slice_index_or, zero, suc, ◌&&◌}
+use Rattle.std.specs.Prelude.{◌≡◌, ℕ, ◌<◌, Bool, true, false, ◌||◌, List, [], ◌∷◌, length, Option, Some, None, slice_index_or, zero, suc, ◌&&◌}
 use Rattle.std.specs.List.{list_all, list_any}
-use Rattle.std.proofs.lemmas.List.Sums.{count_by-le-length}
 use Rattle.std.proofs.Common.{refl, sym, ap, ap₂, ◌∙◌, subst, arith}
 use Rattle.gl_modes.specs.declared.node.NodeId.{NodeId}
 use Rattle.gl_modes.specs.Nodes.{same_node}
-use Rattle.gl_graph.specs.Shapes.{Shape, Inner, File, Index, Interval, Rec, is_file_shape, is_index_shape, is_record_shape, is_index_of_shape, bounds_in, keys_in}
-use Rattle.gl_graph.specs.Graph.{Graph, shape_of, shape_in, parents_in, parents_of, first_parent, is_child, is_record_of, nodes, indexes_of, interval_of, interval_place, intervals_of, record_parents}
+use Rattle.gl_graph.specs.Shapes.{Shape, Inner, File, Index, Interval, Rec, is_file_shape, is_index_shape, is_record_shape, is_index_of_shape, keys_in}
+use Rattle.gl_graph.specs.Graph.{Graph, shape_of, shape_in, parents_in, parents_of, first_parent, is_record_of, nodes, indexes_of, interval_of, intervals_of, record_parents}
 use Rattle.gl_graph.specs.Lawful.{IsLawfulGraph}
-use Rattle.gl_graph.proofs.Look.{split, no, and_both, or_elim, same_node_is, all_filter, shaped_node}
+use Rattle.gl_graph.proofs.Look.{split, no, and_both, same_node_is, all_filter, shaped_node}
 use Rattle.gl_graph.proofs.KindRules.{interval_is}
 use Rattle.gl_graph.proofs.Moved.{file_of_record}
 

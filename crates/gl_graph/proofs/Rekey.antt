@@ -1,5 +1,5 @@
 -- One key of a record is written at the place of its index, and its interval behind it.
-use Rattle.std.specs.Prelude.{◌≡◌, ◌≢◌, ℕ, zero, suc, ◌+◌, ◌<◌, ◌≤◌, Bool, true, false, not, nat_lt, ◌&&◌, ◌||◌, List, [], ◌∷◌, length, Option, Some, None, is_some, if◌then◌else◌, slice_index_or, slice_set, position}
+use Rattle.std.specs.Prelude.{◌≡◌, ◌≢◌, ℕ, zero, suc, ◌+◌, ◌<◌, Bool, true, false, not, nat_lt, ◌&&◌, ◌||◌, List, [], ◌∷◌, length, Option, Some, None, is_some, if◌then◌else◌, slice_index_or, slice_set, position}
 use Rattle.std.specs.List.{list_any, position_or_len}
 use Rattle.std.proofs.lemmas.Bool.Decides.{nat_tests}
 use Rattle.gl_modes.proofs.NodeLemmas.{same_node-sym}
@@ -11,19 +11,19 @@ use Rattle.slab.specs.Slab.{Slab, get, slab_len, ContainsKey, Updates}
 use Rattle.gl_graph.specs.declared.node.Body.{Body}
 use Rattle.gl_graph.specs.declared.node.Body.TheVariants as body
 use Rattle.gl_graph.specs.declared.node.Node.{Node as Stored}
-use Rattle.gl_graph.specs.Shapes.{Shape, Rec, is_file_shape, is_record_shape, is_index_of_shape, keys_in}
-use Rattle.gl_graph.specs.Graph.{Graph, Node, node_at, is_live, shape_in, shape_of, parents_in, parents_of, first_parent, indexes_of, interval_of, intervals_of, record_parents, is_record_of}
+use Rattle.gl_graph.specs.Shapes.{Shape, Rec, is_record_shape, is_index_of_shape, keys_in}
+use Rattle.gl_graph.specs.Graph.{Graph, Node, node_at, is_live, shape_in, shape_of, parents_in, first_parent, indexes_of, interval_of, intervals_of, record_parents}
 use Rattle.gl_graph.specs.Lawful.{IsLawfulGraph}
 use Rattle.gl_graph.specs.Changes.{with_node, keys_with, rekeyed_keys, rekeyed_parents, rekeyed}
-use Rattle.gl_graph.specs.View.{graph_of, node_of, KeepsBeside, AgreesAt}
+use Rattle.gl_graph.specs.View.{graph_of, node_of, KeepsBeside}
 use Rattle.gl_graph.specs.Seen.{shape_in_body, vertex_of, seen, with_key_at, body_with_key, AreSound}
 use Rattle.gl_graph.proofs.Look.{split, no, none_some, some_is, same_node_is, other_node, node_other}
 use Rattle.gl_graph.proofs.Changed.{IsAlike, at_here}
 use Rattle.gl_graph.proofs.Distinct.{one_place, indexes_distinct, index_listed}
 use Rattle.gl_graph.proofs.Moved.{rec_alike, rekeyed_is, rekey_lawful}
 use Rattle.gl_graph.proofs.Removed.{rec_live}
-use Rattle.gl_graph.proofs.RecordParents.{its_file, its_keys, its_parents, record_of_file, file_among}
-use Rattle.gl_graph.proofs.Slots.{stored_of, node_there}
+use Rattle.gl_graph.proofs.RecordParents.{its_keys, its_parents, record_of_file, file_among}
+use Rattle.gl_graph.proofs.Slots.{stored_of}
 use Rattle.gl_graph.proofs.SoundChanged.{node_was, changed, changed_graph, changed_sound}
 
 no_node : NodeId

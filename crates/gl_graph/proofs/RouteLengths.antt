@@ -12,7 +12,7 @@ use Rattle.gl_modes.specs.Nodes.{same_node}
 use Rattle.gl_graph.specs.Graph.{Graph, Node, id_of, with_key, nodes, node_count, parents_of, is_live}
 use Rattle.gl_graph.specs.Routes.{IsRoute}
 use Rattle.gl_graph.specs.Lawful.{IsLawfulGraph}
-use Rattle.gl_graph.proofs.Look.{or_elim, or_right, same_node_is, same_node_refl}
+use Rattle.gl_graph.proofs.Look.{or_elim, same_node_is, same_node_refl}
 
 pub node_equivalence : IsEquivalence same_node
 node_equivalence = record { refl = same_node_refl; symm = λ a b. grind (arith, nat_tests); congr = λ a b c h. ap (λ x. same_node x c) (same_node_is a b h) }

@@ -1,19 +1,19 @@
 -- A node is written with other parents, or as a record with other keys: what is kept beside the graph still agrees.
-use Rattle.std.specs.Prelude.{◌≡◌, ◌≢◌, ℕ, ◌+◌, Bool, true, false, ◌==◌, ◌&&◌, List, [], length, Option, Some, None, is_some, count_by}
+use Rattle.std.specs.Prelude.{◌≡◌, ℕ, true, ◌==◌, ◌&&◌, length, Some, count_by}
 use Rattle.std.specs.List.{list_any}
-use Rattle.std.proofs.Common.{refl, sym, ap, ap₂, ◌∙◌, subst, arith}
+use Rattle.std.proofs.Common.{refl, sym, ap, ◌∙◌, subst}
 use Rattle.gl_modes.specs.declared.node.NodeId.{NodeId}
 use Rattle.gl_modes.specs.Nodes.{same_node}
 use Rattle.slab.specs.Slab.{Slab, get, slab_len, Updates}
 use Rattle.gl_graph.specs.declared.node.Node.{Node as Stored}
-use Rattle.gl_graph.specs.Shapes.{Shape, is_file_shape, is_record_shape}
-use Rattle.gl_graph.specs.Graph.{Graph, Node, nodes, node_count, node_at, is_live, shape_in, shape_of, parents_in, is_record_of, indexes_of}
+use Rattle.gl_graph.specs.Shapes.{is_file_shape, is_record_shape}
+use Rattle.gl_graph.specs.Graph.{Graph, nodes, node_count, node_at, is_live, shape_in, shape_of, parents_in, is_record_of}
 use Rattle.gl_graph.specs.Lawful.{IsLawfulGraph}
 use Rattle.gl_graph.specs.Changes.{with_node}
-use Rattle.gl_graph.specs.View.{graph_of, node_of, record_count, KeepsBeside, AgreesAt}
+use Rattle.gl_graph.specs.View.{graph_of, node_of, record_count, AgreesAt}
 use Rattle.gl_graph.specs.Seen.{shape_in_body, vertex_of, seen, AreSound}
 use Rattle.gl_graph.proofs.Look.{split, some_is, same_number, other_number, same_node_is, other_node}
-use Rattle.gl_graph.proofs.Changed.{IsAlike, after, nodes_same, at_other, indexes_same, changed_frames}
+use Rattle.gl_graph.proofs.Changed.{IsAlike, nodes_same, at_other, indexes_same, changed_frames}
 use Rattle.gl_graph.proofs.Counts.{count_same, nodes_live}
 use Rattle.gl_graph.proofs.Slots.{node_there, written, written_apart}
 use Rattle.gl_graph.proofs.Kept.{beside_kept}
@@ -56,9 +56,9 @@ module _ (old new : Slab Stored) (births : ℕ) (sound : AreSound old births) (n
         apart = written_apart old new births n.key was x sound.apart there u same_birth;
         counted = len ∙ sound.counted ∙ sym (ap length (nodes_same g n (node_of n.key (vertex_of was)) (node_of n.key (vertex_of x)) node_was refl)) ∙ ap node_count (sym changed_graph);
         agree = λ k y e. subst (λ h. AgreesAt h k (vertex_of y)) (sym changed_graph) (split (k == n.key)
-        (λ t.
-        let at : k ≡ n.key = same_number k n.key t in
-        let same : x ≡ y = some_is (sym u.changed ∙ ap (get new) (sym at) ∙ e) in
-        subst (λ c. AgreesAt changed c (vertex_of y)) (sym at) (subst (λ z. AgreesAt changed n.key (vertex_of z)) same here))
-        (λ t. still_kept k y (sym (u.others k (other_number k n.key t)) ∙ e)));
+            (λ t.
+            let at : k ≡ n.key = same_number k n.key t in
+            let same : x ≡ y = some_is (sym u.changed ∙ ap (get new) (sym at) ∙ e) in
+            subst (λ c. AgreesAt changed c (vertex_of y)) (sym at) (subst (λ z. AgreesAt changed n.key (vertex_of z)) same here))
+            (λ t. still_kept k y (sym (u.others k (other_number k n.key t)) ∙ e)));
       }

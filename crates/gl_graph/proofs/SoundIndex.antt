@@ -1,29 +1,27 @@
 -- An index is born with its intervals: what is kept beside the graph agrees.
-use Rattle.std.specs.Prelude.{◌≡◌, ◌≢◌, ◌⊎◌, ℕ, zero, suc, ◌+◌, ◌<◌, ◌≤◌, Bool, true, false, not, ◌==◌, ◌&&◌, ◌||◌, List, [], ◌∷◌, ◌++◌, length, Option, Some, None, is_some, slice_get, Vec}
+use Rattle.std.specs.Prelude.{◌≡◌, ◌≢◌, ℕ, zero, suc, ◌+◌, ◌≤◌, true, not, ◌==◌, List, [], ◌∷◌, ◌++◌, length, Option, Some, None, slice_get, Vec}
 use Rattle.std.specs.List.{list_any}
 use Rattle.std.specs.declared.alloc.Global.{Global}
-use Rattle.std.proofs.Common.{refl, sym, ap, ap₂, ◌∙◌, subst, arith, ⊎_elim}
+use Rattle.std.proofs.Common.{refl, sym, ap, ◌∙◌, subst, arith, ⊎_elim}
 use Rattle.smallvec.specs.SmallVec.{SmallVec}
 use Rattle.gl_modes.specs.declared.node.NodeId.{NodeId}
-use Rattle.gl_modes.specs.Nodes.{same_node}
 use Rattle.slab.specs.Slab.{Slab, get, slab_len, Updates}
 use Rattle.gl_graph.specs.declared.node.Body.{Body}
 use Rattle.gl_graph.specs.declared.node.Body.TheVariants as body
 use Rattle.gl_graph.specs.declared.node.Node.{Node as Stored}
-use Rattle.gl_graph.specs.Shapes.{Shape, Inner, File, Index, Interval, Rec, is_file_shape}
+use Rattle.gl_graph.specs.Shapes.{File, Index, Interval}
 use Rattle.gl_graph.specs.Graph.{Graph, Node, shape_in, shape_of, interval, indexes_of, node_count, IsFreeKey}
-use Rattle.gl_graph.specs.Lawful.{IsLawfulGraph, AreInnerParents, IsRising}
-use Rattle.gl_graph.specs.Changes.{born_node, born_nodes, born_index, interval_nodes, keys_of, are_apart, IsIndexBorn}
-use Rattle.gl_graph.specs.Refusals.{has_records}
+use Rattle.gl_graph.specs.Lawful.{IsLawfulGraph}
+use Rattle.gl_graph.specs.Changes.{born_node, born_nodes, born_index, interval_nodes, are_apart, IsIndexBorn}
 use Rattle.gl_graph.specs.View.{graph_of, node_of, record_count, KeepsBeside, AgreesAt}
 use Rattle.gl_graph.specs.Seen.{shape_in_body, indexes_in_body, records_in_body, intervals_in_body, body_with_intervals, body_with_indexes, vertex_of, seen, AreSound}
-use Rattle.gl_graph.specs.Grown.{IsGrown, ids_of, AreIntervalsBorn}
-use Rattle.gl_graph.proofs.Look.{split, no, none_some, some_is, both, number_same, same_number, other_number, node_other, or_elim}
-use Rattle.gl_graph.proofs.Born.{place_in, new_id}
+use Rattle.gl_graph.specs.Grown.{ids_of, AreIntervalsBorn}
+use Rattle.gl_graph.proofs.Look.{split, none_some, some_is, both, same_number, other_number, node_other, or_elim}
+use Rattle.gl_graph.proofs.Born.{place_in}
 use Rattle.gl_graph.proofs.NewNodes.{place_there}
-use Rattle.gl_graph.proofs.NewIndex.{keys_of_intervals, count_intervals, others, interval_there, file_index, no_record_born, frames, index_lawful, interval_node}
+use Rattle.gl_graph.proofs.NewIndex.{keys_of_intervals, count_intervals, others, interval_there, file_index, no_record_born, frames, index_lawful}
 use Rattle.gl_graph.proofs.Counts.{count_grown, same_records}
-use Rattle.gl_graph.proofs.Slots.{stored_of, node_there, inserted, inserted_apart, inserted_within, written_apart, unseen}
+use Rattle.gl_graph.proofs.Slots.{stored_of, node_there, inserted, written_apart, unseen}
 use Rattle.gl_graph.proofs.Beside.{FileSlot, file_slot}
 use Rattle.gl_graph.proofs.Kept.{born_within, beside_kept}
 use Rattle.gl_graph.proofs.Unrefused.{IsRoomyIndex}
@@ -215,19 +213,19 @@ module _ (old mid grown : Slab Stored) (births key : ℕ) (x : Stored) (sound : 
           same)
           ∙ ap node_count (sym index_graph);
       agree = λ k y e. subst (λ h. AgreesAt h k (vertex_of y)) (sym index_graph) (split (k == file.key)
-      (λ t.
-      let here : k ≡ file.key = same_number k file.key t in
-      let same : f4 ≡ y = some_is (sym u4.changed ∙ ap (get fourth) (sym here) ∙ e) in
-      subst (λ c. AgreesAt after c (vertex_of y)) (sym here) (subst (λ z. AgreesAt after file.key (vertex_of z)) same file_agrees))
-      (λ t.
-      let ne : k ≢ file.key = other_number k file.key t in
-      let at3 : get third k ≡ Some y = sym (u4.others k ne) ∙ e in
-      split (k == key)
-      (λ w.
-      let here : k ≡ key = same_number k key w in
-      let same : x3 ≡ y = some_is (sym u3.changed ∙ ap (get third) (sym here) ∙ at3) in
-      subst (λ c. AgreesAt after c (vertex_of y)) (sym here) (subst (λ z. AgreesAt after key (vertex_of z)) same index_agrees))
-      (λ w. let other = other_number k key w in grown_agrees k y ne other (sym (u3.others k other) ∙ at3))));
+          (λ t.
+          let here : k ≡ file.key = same_number k file.key t in
+          let same : f4 ≡ y = some_is (sym u4.changed ∙ ap (get fourth) (sym here) ∙ e) in
+          subst (λ c. AgreesAt after c (vertex_of y)) (sym here) (subst (λ z. AgreesAt after file.key (vertex_of z)) same file_agrees))
+          (λ t.
+          let ne : k ≢ file.key = other_number k file.key t in
+          let at3 : get third k ≡ Some y = sym (u4.others k ne) ∙ e in
+          split (k == key)
+          (λ w.
+          let here : k ≡ key = same_number k key w in
+          let same : x3 ≡ y = some_is (sym u3.changed ∙ ap (get third) (sym here) ∙ at3) in
+          subst (λ c. AgreesAt after c (vertex_of y)) (sym here) (subst (λ z. AgreesAt after key (vertex_of z)) same index_agrees))
+          (λ w. let other = other_number k key w in grown_agrees k y ne other (sym (u3.others k other) ∙ at3))));
     }
 
     pub index_made : IsIndexBorn g (graph_of (seen fourth total)) id ps file bounds

@@ -1,5 +1,5 @@
 -- A record is born: what is kept beside the graph agrees again once its file counts it.
-use Rattle.std.specs.Prelude.{◌≡◌, ◌≢◌, ℕ, ◌+◌, ◌<◌, ◌≤◌, Bool, true, false, ◌==◌, ◌&&◌, List, [], ◌∷◌, length, Option, Some, None, is_some, IsSome, cond, count_by}
+use Rattle.std.specs.Prelude.{◌≡◌, ◌≢◌, ℕ, ◌+◌, ◌≤◌, true, false, ◌==◌, ◌&&◌, List, [], ◌∷◌, length, Some, None, is_some, cond, count_by}
 use Rattle.std.specs.List.{list_any}
 use Rattle.std.proofs.Common.{refl, sym, ap, ap₂, ◌∙◌, subst, arith}
 use Rattle.gl_modes.specs.declared.node.NodeId.{NodeId}
@@ -8,19 +8,19 @@ use Rattle.slab.specs.Slab.{Slab, get, slab_len, ContainsKey, Updates}
 use Rattle.gl_graph.specs.declared.node.Body.{Body}
 use Rattle.gl_graph.specs.declared.node.Body.TheVariants as body
 use Rattle.gl_graph.specs.declared.node.Node.{Node as Stored}
-use Rattle.gl_graph.specs.Shapes.{Shape, Inner, File, Index, Interval, Rec, is_file_shape, is_record_shape, is_index_of_shape}
-use Rattle.gl_graph.specs.Graph.{Graph, Node, node_at, is_live, shape_in, shape_of, parents_in, is_child, indexes_of, node_count, is_record_of, record_parents}
+use Rattle.gl_graph.specs.Shapes.{File, Rec, is_file_shape, is_record_shape, is_index_of_shape}
+use Rattle.gl_graph.specs.Graph.{Graph, shape_in, shape_of, parents_in, indexes_of, node_count, is_record_of, record_parents}
 use Rattle.gl_graph.specs.Lawful.{IsLawfulGraph}
 use Rattle.gl_graph.specs.Changes.{born_node, IsBorn}
-use Rattle.gl_graph.specs.View.{View, Vertex, graph_of, node_of, record_count, KeepsBeside, AgreesAt}
+use Rattle.gl_graph.specs.View.{graph_of, node_of, record_count, KeepsBeside, AgreesAt}
 use Rattle.gl_graph.specs.Seen.{shape_in_body, indexes_in_body, body_with_records, vertex_of, seen, AreBornApart, AreSound}
-use Rattle.gl_graph.proofs.Look.{split, cases_of, no, none_some, some_is, number_same, same_number, other_number, number_other, same_node_is, is_same_node, node_other, same_node_refl}
+use Rattle.gl_graph.proofs.Look.{split, none_some, some_is, same_number, other_number, node_other, same_node_refl}
 use Rattle.gl_graph.proofs.NewNodes.{one_indexes, record_lawful}
 use Rattle.gl_graph.proofs.Counts.{count_cons, records_grown}
 use Rattle.gl_graph.proofs.RecordParents.{file_among}
 use Rattle.gl_graph.proofs.Slots.{node_there, inserted_apart, inserted_free, written_apart, unseen}
 use Rattle.gl_graph.proofs.Beside.{FileSlot, file_slot}
-use Rattle.gl_graph.proofs.Kept.{born_within, after, there, counted, old_kept, id, node, g}
+use Rattle.gl_graph.proofs.Kept.{born_within, after, there, counted, old_kept}
 
 -- a file with another count of records is seen as before, and keeps all else
 module _ (x : Stored) (file : shape_in_body x.body ≡ File) (records : ℕ) where
@@ -71,12 +71,12 @@ module _ (old new : Slab Stored) (births key : ℕ) (f : Stored) (but : IsSoundB
     apart = written_apart old new births key f (record f { body = body_with_records f.body records }) but.apart but.there u refl;
     counted = len ∙ but.counted ∙ ap node_count (sym recount_unseen);
     agree = λ k y e. subst (λ h. AgreesAt h k (vertex_of y)) (sym recount_unseen) (split (k == key)
-    (λ t.
-    let here : k ≡ key = same_number k key t in
-    let same : record f { body = body_with_records f.body records } ≡ y = some_is (sym u.changed ∙ ap (get new) (sym here) ∙ e) in
-    subst (λ c. AgreesAt (graph_of (seen old births)) c (vertex_of y)) (sym here)
-    (subst (λ z. AgreesAt (graph_of (seen old births)) key (vertex_of z)) same (recounted_agrees f but.shape records (graph_of (seen old births)) (record { key = key; birth = f.birth }) but.indexes count)))
-    (λ t. let ne = other_number k key t in but.agree k y ne (sym (u.others k ne) ∙ e)));
+        (λ t.
+        let here : k ≡ key = same_number k key t in
+        let same : record f { body = body_with_records f.body records } ≡ y = some_is (sym u.changed ∙ ap (get new) (sym here) ∙ e) in
+        subst (λ c. AgreesAt (graph_of (seen old births)) c (vertex_of y)) (sym here)
+        (subst (λ z. AgreesAt (graph_of (seen old births)) key (vertex_of z)) same (recounted_agrees f but.shape records (graph_of (seen old births)) (record { key = key; birth = f.birth }) but.indexes count)))
+        (λ t. let ne = other_number k key t in but.agree k y ne (sym (u.others k ne) ∙ e)));
   }
 
 module _ (old new : Slab Stored) (births key : ℕ) (x : Stored) (sound : AreSound old births) (free : get old key ≡ None) (u : Updates old new key (Some x)) (next : x.birth ≡ births + 1)
@@ -130,14 +130,14 @@ module _ (old new : Slab Stored) (births key : ℕ) (x : Stored) (sound : AreSou
         (subst (KeepsBeside g0 (record { key = file.key; birth = f.birth }) (vertex_of f)) is_file (sound.agree file.key f at_file)).0
         ∙ sym (one_indexes g0 sound.lawful (node_of key (vertex_of x)) no_index (record { key = file.key; birth = f.birth })) ∙ ap (λ h. indexes_of h (record { key = file.key; birth = f.birth })) (sym born_graph);
     agree = λ k y ne e. subst (λ h. AgreesAt h k (vertex_of y)) (sym born_graph) (split (k == key)
-    (λ t.
-    let here : k ≡ key = same_number k key t in
-    let same : x ≡ y = some_is (sym u.changed ∙ ap (get new) (sym here) ∙ e) in
-    subst (λ z. AgreesAt g1 k (vertex_of z)) same (subst (KeepsBeside g1 (record { key = k; birth = x.birth }) (vertex_of x)) (sym shape) tt))
-    (λ t.
-    let was : get old k ≡ Some y = sym (u.others k (other_number k key t)) ∙ e in
-    old_kept old new births key x sound free u next no_index k y was
-    (λ h. record_of (record { key = k; birth = y.birth }) (ap is_file_shape (file_shape_at k y was) ∙ h) ∙ node_other (record { key = k; birth = y.birth }) file (λ same. ne (ap (λ q. q.key) same)))));
+        (λ t.
+        let here : k ≡ key = same_number k key t in
+        let same : x ≡ y = some_is (sym u.changed ∙ ap (get new) (sym here) ∙ e) in
+        subst (λ z. AgreesAt g1 k (vertex_of z)) same (subst (KeepsBeside g1 (record { key = k; birth = x.birth }) (vertex_of x)) (sym shape) tt))
+        (λ t.
+        let was : get old k ≡ Some y = sym (u.others k (other_number k key t)) ∙ e in
+        old_kept old new births key x sound free u next no_index k y was
+        (λ h. record_of (record { key = k; birth = y.birth }) (ap is_file_shape (file_shape_at k y was) ∙ h) ∙ node_other (record { key = k; birth = y.birth }) file (λ same. ne (ap (λ q. q.key) same)))));
   }
 
 -- a record is stored, and its file counts it

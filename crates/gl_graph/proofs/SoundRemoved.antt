@@ -1,17 +1,16 @@
 -- A record is taken out, and its file counts one less.
-use Rattle.std.specs.Prelude.{◌≡◌, ◌≢◌, ℕ, ◌+◌, ◌-◌, ◌<◌, ◌≤◌, Bool, true, false, ◌==◌, List, [], length, Option, Some, None, is_some, cond}
-use Rattle.std.proofs.Common.{refl, sym, ap, ◌∙◌, subst, arith, rules}
+use Rattle.std.specs.Prelude.{◌≡◌, ℕ, ◌+◌, true, false, Option, Some, None, is_some, cond}
+use Rattle.std.proofs.Common.{sym, ap, ◌∙◌, subst, arith, rules}
 use Rattle.gl_modes.specs.declared.node.NodeId.{NodeId}
-use Rattle.gl_modes.specs.Nodes.{same_node}
 use Rattle.slab.specs.Slab.{Slab, get, slab_len, ContainsKey, Updates}
 use Rattle.gl_graph.specs.declared.node.Node.{Node as Stored}
-use Rattle.gl_graph.specs.Shapes.{Shape, File, is_file_shape, is_record_shape}
+use Rattle.gl_graph.specs.Shapes.{Shape, is_file_shape, is_record_shape}
 use Rattle.gl_graph.specs.Graph.{Graph, is_live, shape_in, shape_of, first_parent, indexes_of, node_count}
 use Rattle.gl_graph.specs.Lawful.{IsLawfulGraph}
 use Rattle.gl_graph.specs.Changes.{without_node}
 use Rattle.gl_graph.specs.View.{graph_of, record_count, KeepsBeside, AgreesAt}
 use Rattle.gl_graph.specs.Seen.{shape_in_body, body_with_records, vertex_of, seen, AreSound}
-use Rattle.gl_graph.proofs.Look.{split, no, none_some, some_is, same_number, other_number, number_same, same_node_refl, node_other}
+use Rattle.gl_graph.proofs.Look.{no, none_some, same_node_refl, node_other}
 use Rattle.gl_graph.proofs.KindRules.{plain_live, file_plain}
 use Rattle.gl_graph.proofs.Removed.{rec_live, removed_frames, removed_lawful, indexes_left}
 use Rattle.gl_graph.proofs.Left.{fewer_nodes, records_there}
@@ -79,8 +78,8 @@ module _ (old mid new : Slab Stored) (births : ℕ) (sound : AreSound old births
           (λ h. (
             indexes_left g sound.lawful r rec (record { key = k; birth = y.birth }),
             (let other = record_of_file g sound.lawful r rec (record { key = k; birth = y.birth }) (ap is_file_shape shape ∙ h) ∙ node_other (record { key = k; birth = y.birth }) file (λ same. ne (ap (λ q. q.key) same)) in
-            let count : record_count g (record { key = k; birth = y.birth }) ≡ record_count (without_node g r) (record { key = k; birth = y.birth }) + 0 = records_there g sound.lawful r live rec (record { key = k; birth = y.birth }) ∙ ap (λ b. record_count (without_node g r) (record { key = k; birth = y.birth }) + cond b 1 0) other in
-            omega arith),
+                let count : record_count g (record { key = k; birth = y.birth }) ≡ record_count (without_node g r) (record { key = k; birth = y.birth }) + 0 = records_there g sound.lawful r live rec (record { key = k; birth = y.birth }) ∙ ap (λ b. record_count (without_node g r) (record { key = k; birth = y.birth }) + cond b 1 0) other in
+                omega arith),
           ))
           (sound.agree k y was));
     }

@@ -9,3 +9,4 @@ pub mod Seen
 pub mod Grown
 pub mod Parts
 pub mod Sound
+pub mod Laws

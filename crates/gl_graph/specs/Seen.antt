@@ -1,6 +1,8 @@
 -- What a contract sees of a slab of nodes, and what holds of it always.
-use Rattle.std.specs.Prelude.{◌≡◌, ℕ, ◌==◌, List, [], map, Option, Some, None, if◌then◌else◌, slice_set, ◌+◌, ◌≤◌, Vec}
+use Rattle.std.specs.Prelude.{◌≡◌, ℕ, ◌==◌, List, [], ◌∷◌, ◌++◌, map, Option, Some, None, if◌then◌else◌, slice_set, ◌+◌, ◌≤◌, Vec}
+use Rattle.std.specs.List.{list_any}
 use Rattle.gl_modes.specs.declared.node.NodeId.{NodeId}
+use Rattle.gl_modes.specs.Nodes.{same_node}
 use Rattle.std.specs.declared.alloc.Global.{Global}
 use Rattle.smallvec.specs.SmallVec.{SmallVec}
 use Rattle.slab.specs.Slab.{Slab, get, slab_len}
@@ -96,3 +98,8 @@ body_with_intervals b fresh = b
 abbrev pub body_with_indexes : Body → SmallVec NodeId → Body
 body_with_indexes (body.File indexes records) fresh = body.File fresh records
 body_with_indexes b fresh = b
+
+-- ids, and then those of more that are not there yet
+abbrev pub with_all : List NodeId → List NodeId → List NodeId
+with_all ids [] = ids
+with_all ids (m ∷ more) = with_all (if list_any (same_node m) ids then ids else ids ++ m ∷ []) more

@@ -22,6 +22,7 @@ use std::marker::Model;
 mod change;
 mod checks;
 mod make;
+mod moves;
 
 use crate::bounds::interval_place;
 use crate::kind::Kind;

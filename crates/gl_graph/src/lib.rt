@@ -5,8 +5,12 @@
 mod bounds;
 mod graph;
 mod kind;
+pub mod laws;
 mod node;
 mod store;
 
 pub use graph::Graph;
 pub use kind::Kind;
+
+#[cfg(test)]
+mod tests;

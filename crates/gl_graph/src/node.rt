@@ -1,9 +1,8 @@
 //! What is kept of a node.
 
+use crate::kind::Kind;
 use gl_modes::NodeId;
 use smallvec::SmallVec;
-
-use crate::kind::Kind;
 
 /// What a node has beside its parents, by its kind. A file's indexes and the number of its records
 /// and an index's intervals could be found by a search; they are kept so that nothing is searched.

@@ -27,12 +27,11 @@ ghost use Rattle.gl_graph.specs.Seen.{
 };
 ghost use Rattle.gl_graph.specs.Grown.{AreIntervalsBorn};
 
+use crate::node::{Body, Node};
 use gl_modes::NodeId;
 use slab::Slab;
 use smallvec::SmallVec;
 use std::alloc::Global;
-
-use crate::node::{Body, Node};
 
 /// The node that the id names.
 pub(crate) fn find(nodes: &Slab<Node>, n: NodeId) -> Option<&Node>
@@ -61,6 +60,17 @@ pub(crate) fn write_records(nodes: &mut Slab<Node>, key: usize, records: usize)
         parents,
         body,
     });
+}
+
+/// Writes the parents of a node.
+pub(crate) fn write_parents(nodes: &mut Slab<Node>, key: usize, fresh: SmallVec<NodeId, 2>)
+    requires { ContainsKey nodes.old key }
+    ensures written { (x : Node) → get nodes.old key ≡ Some x → Updates nodes.old nodes.new key (Some (record x { parents = fresh })) }
+    ensures len { slab_len nodes.new ≡ slab_len nodes.old }
+{
+    let mut node = nodes.remove(key);
+    node.parents = fresh;
+    nodes.insert_reserved(node);
 }
 
 /// Writes one key of a record, and the interval in which it lies.

@@ -8,10 +8,9 @@ ghost use Rattle.gl_graph.specs.Graph.{first_parent, indexes_of, shape_of};
 ghost use Rattle.gl_graph.specs.Changes.{rekeyed, without_node};
 ghost use Rattle.gl_graph.specs.View.{graph_of};
 
-use gl_modes::NodeId;
-
 use super::Graph;
 use crate::store::{write_key, write_records};
+use gl_modes::NodeId;
 
 /// The place of the first of these that is the node.
 fn place_among(ids: &[NodeId], n: NodeId) -> Option<usize>

@@ -18,10 +18,9 @@ ghost use Rattle.gl_graph.specs.Refusals.{
 };
 ghost use Rattle.gl_graph.specs.View.{graph_of};
 
-use gl_modes::{NodeId, Refusal};
-
 use super::Graph;
 use crate::kind::Kind;
+use gl_modes::{NodeId, Refusal};
 
 /// How many nodes may live at once.
 const MOST_NODES: usize = 65_536;

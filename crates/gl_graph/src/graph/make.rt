@@ -10,13 +10,12 @@ ghost use Rattle.gl_graph.specs.Refusals.{file_refusal, index_refusal, inner_ref
 ghost use Rattle.gl_graph.specs.View.{graph_of};
 ghost use Rattle.gl_graph.specs.Seen.{shape_in_body, IsPlainBody};
 
-use gl_modes::{NodeId, Refusal};
-use smallvec::SmallVec;
-use std::alloc::{AllocError, Global};
-
 use super::Graph;
 use crate::node::{Body, Node};
 use crate::store::{insert_intervals, write_indexes, write_intervals, write_records};
+use gl_modes::{NodeId, Refusal};
+use smallvec::SmallVec;
+use std::alloc::{AllocError, Global};
 
 /// What a new index takes memory for, made before anything changes.
 #[derive(Drop)]

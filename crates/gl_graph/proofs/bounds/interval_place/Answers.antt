@@ -1,4 +1,4 @@
-use Rattle.std.proofs.Common.{◌≤◌, ◌<◌, ◌+◌, ◌-◌, ◌/◌, ℕ, length, arith, slice_index_or, ◌⊎◌, ⊎_elim, subst, inl, inr, rules, ◌≡◌, ap}
+use Rattle.std.proofs.Common.{◌≤◌, ◌<◌, ◌+◌, ◌-◌, ◌/◌, ℕ, arith, slice_index_or, ◌⊎◌, ⊎_elim, rules, ◌≡◌, ap}
 use Rattle.gl_graph.proofs.KeyPlace.{rising_at, place_counted}
 use Rattle.gl_graph.proofs.bounds.interval_place.Goals as goal
 

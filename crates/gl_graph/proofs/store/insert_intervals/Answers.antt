@@ -1,4 +1,4 @@
-use Rattle.std.proofs.Common.{◌≡◌, ◌+◌, ◌-◌, ◌≤◌, ap, ◌∙◌, arith, ◌++◌, ◌∷◌, [], length, refl}
+use Rattle.std.proofs.Common.{◌+◌, ap, ◌∙◌, arith, ◌++◌, ◌∷◌, [], length, refl}
 use Rattle.std.proofs.lemmas.List.{length-append}
 use Rattle.gl_graph.specs.declared.node.Body.TheVariants as body
 use Rattle.gl_graph.proofs.Grow.{intervals_born}

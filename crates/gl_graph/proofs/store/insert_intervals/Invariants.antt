@@ -1,4 +1,4 @@
-use Rattle.std.proofs.Common.{◌≡◌, ◌+◌, ◌-◌, ◌≤◌, ℕ, vec_capacity, length}
+use Rattle.std.proofs.Common.{◌≡◌, ◌-◌, ◌≤◌, vec_capacity, length}
 use Rattle.slab.specs.Slab.{HasRoomFor}
 use Rattle.gl_graph.specs.Grown.{AreIntervalsBorn}
 use Rattle.gl_graph.proofs.store.insert_intervals.Given as goal

@@ -5,7 +5,6 @@ use Rattle.slab.specs.Slab.{Slab}
 use Rattle.gl_graph.specs.declared.node.Body.TheVariants as body
 use Rattle.gl_graph.specs.declared.node.Node.{Node as Stored}
 use Rattle.gl_graph.specs.Shapes.{Index}
-use Rattle.gl_graph.specs.Graph.{indexes_of}
 use Rattle.gl_graph.specs.Changes.{IsIndexBorn}
 use Rattle.gl_graph.specs.View.{View, graph_of}
 use Rattle.gl_graph.specs.Seen.{seen, AreSound}

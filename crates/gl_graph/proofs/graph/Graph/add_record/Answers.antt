@@ -1,11 +1,11 @@
-use Rattle.std.proofs.Common.{◌≡◌, ◌+◌, ℕ, true, length, refl, sym, ap, ◌∙◌, subst}
+use Rattle.std.proofs.Common.{◌+◌, refl, sym, ap, ◌∙◌, subst}
 use Rattle.gl_graph.specs.declared.node.Body.TheVariants as body
 use Rattle.gl_graph.specs.declared.node.Node.{Node as Stored}
-use Rattle.gl_graph.specs.Shapes.{Rec, is_file_shape}
-use Rattle.gl_graph.specs.Graph.{Graph, shape_of, indexes_of, record_parents}
+use Rattle.gl_graph.specs.Shapes.{Rec}
+use Rattle.gl_graph.specs.Graph.{record_parents}
 use Rattle.gl_graph.specs.Changes.{IsBorn}
 use Rattle.gl_graph.specs.View.{View, graph_of, record_count}
-use Rattle.gl_graph.specs.Seen.{shape_in_body, seen}
+use Rattle.gl_graph.specs.Seen.{seen}
 use Rattle.gl_graph.proofs.Unrefused.{IsRoomyRecord, verdict_ok, record_unrefused}
 use Rattle.gl_graph.proofs.SoundRecord.{file_contained, record_sound, record_born}
 use Rattle.gl_graph.proofs.graph.Graph.add_record.Goals as goal

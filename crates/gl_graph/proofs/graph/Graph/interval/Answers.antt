@@ -1,6 +1,5 @@
 use Rattle.std.proofs.Common.{sym, ap, ◌∙◌}
 use Rattle.std.specs.List.{slice_get}
-use Rattle.gl_modes.specs.declared.node.NodeId.{NodeId}
 use Rattle.gl_graph.proofs.Beside.{interval_found, interval_missed, item_copied}
 use Rattle.gl_graph.proofs.graph.Graph.interval.Goals as goal
 

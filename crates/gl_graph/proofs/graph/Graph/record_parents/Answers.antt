@@ -1,8 +1,8 @@
-use Rattle.std.proofs.Common.{◌≡◌, ◌+◌, ◌≤◌, ◌<◌, ◌++◌, ◌∷◌, [], ℕ, List, drop, length, true, slice_index_or, refl, sym, ap, ap₂, ◌∙◌, subst, arith}
+use Rattle.std.proofs.Common.{◌≡◌, ◌+◌, ◌<◌, ◌++◌, ◌∷◌, [], ℕ, List, drop, length, slice_index_or, sym, ap, ap₂, ◌∙◌, arith}
 use Rattle.std.proofs.lemmas.List.{drop_more, append_assoc, append-nil, drop_all}
 use Rattle.gl_modes.specs.declared.node.NodeId.{NodeId}
 use Rattle.gl_graph.specs.Shapes.{is_index_shape}
-use Rattle.gl_graph.specs.Graph.{Graph, shape_of, interval_of, intervals_of, record_parents}
+use Rattle.gl_graph.specs.Graph.{Graph, shape_of, interval_of, intervals_of}
 use Rattle.gl_graph.specs.View.{graph_of}
 use Rattle.gl_graph.proofs.RecordParents.{listed_index, index_of_index}
 use Rattle.gl_graph.proofs.graph.Graph.record_parents.Goals as goal

@@ -1,4 +1,4 @@
-use Rattle.std.proofs.Common.{◌≡◌, ℕ, true, Some, sym, ap, ◌∙◌, subst, position}
+use Rattle.std.proofs.Common.{◌≡◌, true, Some, sym, ap, ◌∙◌, subst, position}
 use Rattle.std.specs.List.{list_any}
 use Rattle.gl_modes.specs.Nodes.{same_node}
 use Rattle.gl_modes.specs.declared.node.NodeId.{NodeId}

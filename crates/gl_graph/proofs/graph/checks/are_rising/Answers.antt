@@ -1,6 +1,5 @@
-use Rattle.std.proofs.Common.{◌≡◌, ◌∷◌, ◌+◌, drop, slice_index_or, sym, ap, ◌∙◌, arith}
-use Rattle.gl_graph.specs.Refusals.{is_rising}
-use Rattle.gl_graph.proofs.Rising.{rising_step, rising_ends, rising_all}
+use Rattle.std.proofs.Common.{sym, ◌∙◌}
+use Rattle.gl_graph.proofs.Rising.{rising_step, rising_ends}
 use Rattle.gl_graph.proofs.graph.checks.are_rising.Goals as goal
 
 pub returns-then-bound-last : goal.returns-then-bound-last

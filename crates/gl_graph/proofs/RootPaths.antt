@@ -1,0 +1,48 @@
+-- Root paths: each node has one, and they grow and shrink by a step.
+use Rattle.std.specs.Prelude.{◌≡◌, ◌⊎◌, ℕ, zero, suc, List, [], ◌∷◌, length}
+use Rattle.std.specs.List.{list_any}
+use Rattle.std.proofs.Common.{refl, ap, ◌∙◌, arith, inl, inr, ⊎_elim}
+use Rattle.gl_modes.specs.declared.node.NodeId.{NodeId}
+use Rattle.gl_modes.specs.Nodes.{same_node}
+use Rattle.gl_graph.specs.Graph.{Graph, parents_of, node_count}
+use Rattle.gl_graph.specs.Routes.{IsRoute}
+use Rattle.gl_graph.specs.Laws.{NodesHaveRootPaths, RootPathsGrow, RootPathsShrink}
+use Rattle.gl_graph.proofs.Look.{or_left, same_node_refl}
+use Rattle.gl_graph.proofs.RouteLengths.{live_end, route_short}
+
+-- a way up to a node without parents, or of k steps
+record GoesUp (g : Graph) (k : ℕ) (n : NodeId) : Type 0 where
+  pub end : NodeId
+  pub way : List NodeId
+  pub route : IsRoute g n way end
+  pub done : (parents_of g end ≡ []) ⊎ (length way ≡ k)
+
+goes_up : (g : Graph) (k : ℕ) (n : NodeId) → GoesUp g k n
+goes_up g zero n = record { end = n; way = []; route = refl; done = inr refl }
+goes_up g (suc k) n = by (parents_of g n) refl (goes_up g k)
+  where
+    by : (ps : List NodeId) → parents_of g n ≡ ps → ((p : NodeId) → GoesUp g k p) → GoesUp g (suc k) n
+    by [] e rest = record { end = n; way = []; route = refl; done = inl e }
+    by (p ∷ ps) e rest =
+        let up = rest p in
+        record { end = up.end; way = p ∷ up.way; route = (ap (list_any (same_node p)) e ∙ or_left _ _ (same_node_refl p), up.route); done = ⊎_elim (λ (r : parents_of g up.end ≡ []). inl r) (λ (l : length up.way ≡ k). inr (ap suc l)) up.done }
+
+pub root_path_there : NodesHaveRootPaths
+root_path_there g law n live =
+    let up = goes_up g (node_count g) n in (
+      up.way,
+      (
+        up.end,
+        up.route,
+        (
+          live_end g law n up.end up.way live up.route,
+          ⊎_elim (λ (r : parents_of g up.end ≡ []). r) (λ (l : length up.way ≡ node_count g). absurd (let short = route_short g law n up.end up.way live up.route in omega arith)) up.done,
+        ),
+      ),
+    )
+
+pub root_path_grows : RootPathsGrow
+root_path_grows g n p route child path = (path.0, (child, path.1), path.2)
+
+pub root_path_shrinks : RootPathsShrink
+root_path_shrinks g n p route path = (path.1.0, (path.0, path.1.1, path.2))

@@ -1,0 +1,103 @@
+-- An inner node, a file or an index gets other parents: what is kept beside the graph still agrees.
+use Rattle.std.specs.Prelude.{◌≡◌, ℕ, true, false, ◌&&◌, List, [], ◌∷◌, Option, Some, None, is_some}
+use Rattle.std.specs.List.{list_all}
+use Rattle.std.proofs.Common.{refl, sym, ap, ◌∙◌, subst}
+use Rattle.smallvec.specs.SmallVec.{SmallVec}
+use Rattle.gl_modes.specs.declared.node.NodeId.{NodeId}
+use Rattle.slab.specs.Slab.{Slab, get, slab_len, ContainsKey, Updates}
+use Rattle.gl_graph.specs.declared.node.Node.{Node as Stored}
+use Rattle.gl_graph.specs.Shapes.{Shape, Inner, File, Index, Interval, Rec, is_movable_shape, is_record_shape, least_parents}
+use Rattle.gl_graph.specs.Graph.{Graph, Node, node_at, is_live, is_child, shape_in, shape_of}
+use Rattle.gl_graph.specs.Lawful.{IsLawfulGraph, AreInnerParents, are_inner}
+use Rattle.gl_graph.specs.Changes.{with_node, with_parents}
+use Rattle.gl_graph.specs.Refusals.{first_cycle}
+use Rattle.gl_graph.specs.View.{graph_of, node_of, KeepsBeside}
+use Rattle.gl_graph.specs.Seen.{shape_in_body, vertex_of, seen, AreSound}
+use Rattle.gl_graph.proofs.Look.{no, both, and_both}
+use Rattle.gl_graph.proofs.KindRules.{inner_plain, plain_live}
+use Rattle.gl_graph.proofs.Changed.{at_here}
+use Rattle.gl_graph.proofs.Moved.{movable_alike, move_lawful, with_parents_is}
+use Rattle.gl_graph.proofs.Unrefused.{no_cycle}
+use Rattle.gl_graph.proofs.Slots.{stored_of}
+use Rattle.gl_graph.proofs.SoundChanged.{node_was, changed, changed_graph, changed_sound, still_kept}
+
+pub inner_live : (g : Graph) (ps : List NodeId) → are_inner g ps ≡ true → list_all (is_live g) ps ≡ true
+inner_live g [] h = refl
+inner_live g (p ∷ ps) h = let t = and_both _ (are_inner g ps) h in both _ _ (plain_live g p (inner_plain _ t.0)) (inner_live g ps t.1)
+
+movable_no_record : (o : Option Shape) → is_movable_shape o ≡ true → is_record_shape o ≡ false
+movable_no_record None h = refl
+movable_no_record (Some Inner) h = refl
+movable_no_record (Some File) h = refl
+movable_no_record (Some (Index f bs)) h = refl
+movable_no_record (Some (Interval place)) h = refl
+movable_no_record (Some (Rec keys)) h = absurd (no h)
+
+movable_live : (g : Graph) (n : NodeId) → is_movable_shape (shape_of g n) ≡ true → is_live g n ≡ true
+movable_live g n h = by (node_at g n) h
+  where
+    by : (o : Option Node) → is_movable_shape (shape_in o) ≡ true → is_some o ≡ true
+    by None k = absurd (no k)
+    by (Some x) k = refl
+
+-- what is kept beside a node does not depend on its parents
+same_beside : (g : Graph) (n : NodeId) (was : Stored) (fresh : SmallVec NodeId) (sh : Shape) → KeepsBeside g n (vertex_of was) sh → KeepsBeside g n (vertex_of (record was { parents = fresh })) sh
+same_beside g n was fresh Inner k = k
+same_beside g n was fresh File k = k
+same_beside g n was fresh (Index f bs) k = k
+same_beside g n was fresh (Interval place) k = k
+same_beside g n was fresh (Rec keys) k = k
+
+module _ (old new : Slab Stored) (births : ℕ) (sound : AreSound old births) (n : NodeId) (movable : is_movable_shape (shape_of (graph_of (seen old births)) n) ≡ true) where
+  abbrev pub g : Graph
+  g = graph_of (seen old births)
+
+  slot : (x : Stored) × (get old n.key ≡ Some x) × (x.birth ≡ n.birth)
+  slot = stored_of old births sound.apart n (movable_live g n movable)
+
+  pub contained : ContainsKey old n.key
+  contained = ap is_some slot.1
+
+  module _ (ps : List NodeId) (inner : AreInnerParents g (least_parents (shape_of g n)) ps) (clear : first_cycle g n ps ≡ None) (fresh : SmallVec NodeId) (fresh_is : fresh.items ≡ ps)
+      (write : (x : Stored) → get old n.key ≡ Some x → Updates old new n.key (Some (record x { parents = fresh }))) (len : slab_len new ≡ slab_len old) where
+    abbrev was : Stored
+    was = slot.0
+
+    abbrev x : Stored
+    x = record was { parents = fresh }
+
+    there : node_at g n ≡ Some (node_of n.key (vertex_of was))
+    there = node_was old new births sound n was x slot.1 slot.2 refl
+
+    shape_is : shape_of g n ≡ Some (shape_in_body was.body)
+    shape_is = ap shape_in there
+
+    can_move : is_movable_shape (Some (shape_in_body was.body)) ≡ true
+    can_move = ap is_movable_shape (sym shape_is) ∙ movable
+
+    graph_is : changed old new births sound n was x slot.1 slot.2 refl ≡ with_parents g n ps
+    graph_is =
+        (λ i. with_node g n.birth (record { key = n.key; shape = shape_in_body was.body; parents = fresh_is i }))
+        ∙ with_parents_is g n ps (node_of n.key (vertex_of was)) there
+
+    pub moved_graph : graph_of (seen new births) ≡ with_parents g n ps
+    moved_graph = changed_graph old new births sound n was x slot.1 slot.2 refl (write was slot.1) ∙ graph_is
+
+    lawful : IsLawfulGraph (changed old new births sound n was x slot.1 slot.2 refl)
+    lawful =
+        subst IsLawfulGraph (sym graph_is)
+        (move_lawful g sound.lawful n (node_of n.key (vertex_of was)) there ps can_move (subst (λ (o : Option Shape). AreInnerParents g (least_parents o) ps) shape_is inner) (inner_live g ps inner.inner) (no_cycle g n ps clear))
+
+    no_record : is_record_shape (Some (shape_in_body was.body)) ≡ false
+    no_record = movable_no_record (Some (shape_in_body was.body)) can_move
+
+    records : (f : NodeId) → (is_record_shape (shape_of (changed old new births sound n was x slot.1 slot.2 refl) n) && is_child (changed old new births sound n was x slot.1 slot.2 refl) f n) ≡ (is_record_shape (shape_of g n) && is_child g f n)
+    records f =
+        ap (λ b. b && is_child (changed old new births sound n was x slot.1 slot.2 refl) f n) (ap (λ o. is_record_shape (shape_in o)) (at_here g n (node_of n.key (vertex_of was)) (node_of n.key (vertex_of x)) there refl) ∙ no_record)
+        ∙ sym (ap (λ b. b && is_child g f n) (ap is_record_shape shape_is ∙ no_record))
+
+    pub moved_sound : AreSound new births
+    moved_sound =
+        changed_sound old new births sound n was x slot.1 slot.2 refl (write was slot.1) len (movable_alike (shape_in_body was.body) can_move) lawful (λ f h. records f)
+        (same_beside (changed old new births sound n was x slot.1 slot.2 refl) (record { key = n.key; birth = was.birth }) was fresh (shape_in_body was.body)
+        (still_kept old new births sound n was x slot.1 slot.2 refl (write was slot.1) len (movable_alike (shape_in_body was.body) can_move) lawful (λ f h. records f) n.key was slot.1))
