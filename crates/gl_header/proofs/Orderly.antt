@@ -50,7 +50,8 @@ fits_beside-from_mode_at (e ∷ es) s m d c =
 
 -- a grant
 
-ordered-with_grant : (ms q : List Waiter) (s : ℕ) (m : Mode) → is_among_waiters s q ≡ false → (is_ordered (with_grant ms s m) q ≡ is_ordered ms q) × (all_new (with_grant ms s m) q ≡ all_new ms q)
+-- a grant to one who does not wait moves no border between members and newcomers
+pub ordered-with_grant : (ms q : List Waiter) (s : ℕ) (m : Mode) → is_among_waiters s q ≡ false → (is_ordered (with_grant ms s m) q ≡ is_ordered ms q) × (all_new (with_grant ms s m) q ≡ all_new ms q)
 ordered-with_grant ms [] s m h = (refl, refl)
 ordered-with_grant ms (w ∷ ws) s m h = grind (arith, nat_tests, ordered-with_grant ms ws s m, among-with_grant ms s m)
 

@@ -1,13 +1,12 @@
 -- What granting from the front does to the lists, one waiter after the other.
-use Rattle.std.proofs.Common.{◌≡◌, ◌+◌, ◌≤◌, true, false, cond, Some, List, [], ◌∷◌, length, drop, refl, sym, subst, arith}
-use Rattle.std.specs.List.{remove, slice_get}
+use Rattle.std.proofs.Common.{◌≡◌, ◌+◌, ◌≤◌, true, false, cond, List, [], ◌∷◌, length, drop, refl, sym, subst, ◌∙◌, arith}
 use Rattle.gl_modes.specs.Modes.{supremum}
-use Rattle.gl_header.specs.Header.{Waiter}
+use Rattle.gl_header.specs.Header.{Waiter, is_among_waiters}
 use Rattle.gl_header.specs.Entries.{fits_beside, supremum_of, with_grant}
-use Rattle.gl_header.specs.Sound.{IsOrderly, IsLawfulLists, granted_from, grant_all, left_from}
+use Rattle.gl_header.specs.Sound.{IsOrderly, IsLawfulLists, all_new, granted_from, grant_all, left_from}
 use Rattle.gl_header.proofs.Lists.{length-with_grant}
 use Rattle.gl_header.proofs.Groups.{supremum_of-with_grant}
-use Rattle.gl_header.proofs.Orderly.{orderly-front}
+use Rattle.gl_header.proofs.Orderly.{ordered-with_grant, orderly-front}
 
 -- the lists after a front was granted are lawful
 pub lawful-pumped : (ms q : List Waiter) → IsOrderly ms q → IsLawfulLists (grant_all ms (granted_from ms q)) (left_from ms q)
@@ -62,6 +61,11 @@ pub front-length : (ms q : List Waiter) (w : Waiter) (ms' q' : List Waiter) → 
 front-length ms q w ms' q' s =
     front-by (λ x y z. length y + length z ≤ length ms + length x) ms q w ms' q' s (grind (arith, length-with_grant ms w.0 w.1))
 
-pub first-and_rest : (q : List Waiter) (w : Waiter) → slice_get q 0 ≡ Some w → q ≡ w ∷ remove q 0
-first-and_rest [] w e = cc
-first-and_rest (x ∷ xs) w e = cc
+-- behind a newcomer who was granted all are newcomers still
+pub front-newcomers : (ms q : List Waiter) (w : Waiter) (ms' q' : List Waiter) → IsFrontGranted ms q w ms' q' → IsOrderly ms q → is_among_waiters w.0 ms ≡ false → all_new ms' q' ≡ true
+front-newcomers ms q w ms' q' s =
+    front-by (λ x y z. IsOrderly ms x → is_among_waiters w.0 ms ≡ false → all_new y z ≡ true) ms q w ms' q' s
+    (λ o n.
+    let d = o.queue_distinct in
+    let p = o.ordered in
+    (ordered-with_grant ms q' w.0 w.1 (grind arith)).1 ∙ grind arith)

@@ -1,12 +1,12 @@
 //! Changes of the lists of one header.
 
-ghost use Rattle.std.specs.Prelude.{◌≡◌, ◌≤◌, IsOk, OnErr, OnOk, false, length, true};
+ghost use Rattle.std.specs.Prelude.{◌≡◌, ◌≤◌, IsOk, OnErr, OnOk, drop, false, length, not, true};
 ghost use Rattle.smallvec.specs.SmallVec.{HasRoomFor, small_vec_len};
 ghost use Rattle.gl_header.specs.Entries.{supremum_of, with_grant, without};
 ghost use Rattle.gl_header.specs.Header.{is_among_waiters};
 ghost use Rattle.gl_header.specs.Sound.{IsOrderly, grant_all, granted_from, left_from, placed_in};
 
-use crate::entries::{Entry, fits_others, has_slot, place_of, waiting_members};
+use crate::entries::{Entry, fits_waiting, has_slot, is_newcomer, place_of, waiting_members};
 use arrayvec::ArrayVec;
 use gl_modes::{Mode, sup};
 use smallvec::SmallVec;
@@ -89,8 +89,34 @@ pub(crate) fn take_out(entries: &mut Entries, slot: u8)
     }
 }
 
+/// Gives a waiter its mode, a newcomer's without a search.
+#[tactic(auto, using(crate::proofs::Steps::list_steps))]
+fn grant_waiter(members: &mut Entries, newcomer: bool, slot: u8, mode: Mode)
+    requires newcomer_is { newcomer ≡ not (is_among_waiters slot members.old.items) }
+    requires room { HasRoomFor members.old 1 }
+    ensures items { members.new.items ≡ with_grant members.old.items slot mode }
+    ensures capacity { members.new.capacity ≡ members.old.capacity }
+{
+    if newcomer {
+        members.push_reserved((slot, mode));
+    } else {
+        grant(members, slot, mode);
+    }
+}
+
+/// Takes out the first waiters, and moves up the others once.
+fn take_front(queue: &mut Entries, count: usize)
+    requires { count ≤ length queue.old.items }
+    ensures items { queue.new.items ≡ drop count queue.old.items }
+    ensures capacity { queue.new.capacity ≡ queue.old.capacity }
+{
+    queue.drain(..count);
+}
+
 /// Grants from the front of the queue, and stops at the first waiter that does not fit. What was
 /// granted is handed back in the queue's order.
+///
+/// A waiting member costs a pass over the members, and all newcomers together cost one.
 pub(crate) fn pump(
     members: &mut Entries,
     queue: &mut Entries,
@@ -106,14 +132,16 @@ pub(crate) fn pump(
     ensures room { HasRoomFor members.new (small_vec_len queue.new) }
 {
     let mut granted = ArrayVec::new();
-    while let Some(&(slot, mode)) = queue.first() {
-        if !fits_others(members, slot, mode) {
+    let mut newcomers = false; // Whether a newcomer was met: all behind it are newcomers.
+    for &(slot, mode) in queue.iter() {
+        newcomers = is_newcomer(members, newcomers, slot);
+        if !fits_waiting(members, *group, newcomers, slot, mode) {
             break;
         }
-        queue.remove(0);
-        grant(members, slot, mode);
+        grant_waiter(members, newcomers, slot, mode);
         *group = sup(*group, mode);
         granted.push((slot, mode));
     }
+    take_front(queue, granted.len());
     granted
 }

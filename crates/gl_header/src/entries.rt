@@ -1,6 +1,6 @@
 //! Reading a list of slots with their modes.
 
-ghost use Rattle.std.specs.Prelude.{◌≡◌, MatchOption, false, position};
+ghost use Rattle.std.specs.Prelude.{◌≡◌, MatchOption, false, not, position, true};
 ghost use Rattle.std.specs.List.{prefix_len};
 ghost use Rattle.gl_header.specs.Entries.{IsPlaceOf, fits_beside, mode_at, supremum_of};
 ghost use Rattle.gl_header.specs.Header.{is_among_waiters, is_waiter, wanted_by};
@@ -50,6 +50,35 @@ pub(crate) fn fits_others(members: &[Entry], slot: u8, mode: Mode) -> bool
     members
         .iter()
         .all(|entry| entry.0 == slot || compatible(mode, entry.1))
+}
+
+/// Whether `slot` is no member. Behind a newcomer nobody is, so there is nothing to look for.
+pub(crate) fn is_newcomer(members: &[Entry], behind_newcomer: bool, slot: u8) -> bool
+    requires { behind_newcomer ≡ true → is_among_waiters slot members.now ≡ false }
+    ensures { result ≡ not (is_among_waiters slot members.now) }
+{
+    behind_newcomer || !has_slot(members, slot)
+}
+
+/// Whether a waiter's mode is compatible with the mode of every other member. A newcomer is none of
+/// the members, so one test against the group says it.
+#[tactic(auto, using(crate::proofs::Steps::group_steps))]
+pub(crate) fn fits_waiting(
+    members: &[Entry],
+    group: Mode,
+    newcomer: bool,
+    slot: u8,
+    mode: Mode,
+) -> bool
+    requires group_is { group ≡ supremum_of members.now }
+    requires newcomer_is { newcomer ≡ not (is_among_waiters slot members.now) }
+    ensures { result ≡ fits_beside members.now slot mode }
+{
+    if newcomer {
+        compatible(mode, group)
+    } else {
+        fits_others(members, slot, mode)
+    }
 }
 
 /// The supremum of the members' modes.

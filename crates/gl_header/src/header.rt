@@ -1,6 +1,6 @@
 //! The header of one node.
 
-ghost use Rattle.std.specs.Prelude.{◌≡◌, ◌≢◌, ◌<◌, [], IfErr, IfOk, IsOk, OnErr, OnOk, false, true};
+ghost use Rattle.std.specs.Prelude.{◌≡◌, ◌≢◌, ◌<◌, [], IfErr, IfOk, IsOk, Ok, OnErr, OnOk, false, true};
 ghost use Rattle.gl_modes.specs.declared.mode.Mode.TheVariants.{NL};
 ghost use Rattle.gl_header.specs.Answers.{asked, asked_members, asked_queue, tried};
 ghost use Rattle.gl_header.specs.Header.{
@@ -178,7 +178,7 @@ impl Header {
 
     /// Asks for a mode that is granted at once, or not at all.
     ///
-    /// The only refusal is `NoMemory`; a member never meets it.
+    /// The only refusal is `NoMemory`; neither a member nor one who would have to wait meets it.
     pub fn try_ask(&mut self, slot: u8, mode: Mode) -> Result<Try, Refusal>
         requires below { slot < 128 }
         requires not_waiting { is_among_waiters slot self.old.queue ≡ false }
@@ -186,7 +186,8 @@ impl Header {
         ensures answer { IfOk result (λ answer. answer ≡ tried self.old slot mode) }
         ensures members { OnOk result (members_of self.new ≡ asked_members self.old slot mode) }
         ensures queue { self.new.queue ≡ self.old.queue }
-        ensures blocked { is_granted self.old slot mode ≡ false → self.new ≡ self.old }
+        ensures blocked { is_granted self.old slot mode ≡ false → result ≡ Ok Try.WouldBlock }
+        ensures unchanged { is_granted self.old slot mode ≡ false → self.new ≡ self.old }
         ensures err { OnErr result (self.new ≡ self.old) }
         ensures no_memory { IfErr result (λ refusal. refusal ≡ Refusal.NoMemory) }
         ensures held { holds (members_of self.old) slot ≡ true → IsOk result }
@@ -204,6 +205,9 @@ impl Header {
 
     /// Takes a slot's grant away, and grants from the front of the queue. Answers whom it granted,
     /// in the queue's order.
+    ///
+    /// Linear in the members and the waiters; each waiting member that is let convert costs one pass
+    /// over the members more.
     pub fn drop_grant(&mut self, slot: u8) -> ArrayVec<(u8, Mode), SLOTS>
         requires holds { holds (members_of self.old) slot ≡ true }
         requires not_waiting { is_among_waiters slot self.old.queue ≡ false }
@@ -219,6 +223,9 @@ impl Header {
 
     /// Takes a slot's wait away, and grants from the front of the queue. Answers whom it granted, in
     /// the queue's order.
+    ///
+    /// Linear in the members and the waiters; each waiting member that is let convert costs one pass
+    /// over the members more.
     pub fn drop_wait(&mut self, slot: u8) -> ArrayVec<(u8, Mode), SLOTS>
         requires { is_among_waiters slot self.old.queue ≡ true }
         ensures granted { result.items ≡ front slot_limit (members_of self.old) (without_waiter slot self.old.queue) }
