@@ -34,7 +34,7 @@ accepts_detect s (command.Rekey t r i key) a told' s' acc = ap (λ z. z.detect) 
 accepts_detect s (command.Move t n ps) a told' s' acc = ap (λ z. z.detect) acc.2
 accepts_detect s command.Begin a told' s' acc = ap (λ z. z.detect) acc.4
 accepts_detect s (command.Lock t n m) a told' s' acc =
-    split (enters_at s t.slot n m) (λ e. ap (λ z. z.detect) (acc.0.granted e)) (λ e. wait_detect s.detect (enqueued s t.slot n (wanted s t.slot n m)) s' t.slot (acc.0.waits e))
+    split (enters_at s t.slot n m) (λ e. ap (λ z. z.detect) (acc.0.at_once e)) (λ e. wait_detect s.detect (enqueued s t.slot n (wanted s t.slot n m)) s' t.slot (acc.0.waits e))
 accepts_detect s (command.Try t n m) a told' s' acc = ap (λ z. z.detect) acc.2
 accepts_detect s (command.Unlock t n) a told' s' acc = ap (λ z. z.detect) acc.2
 accepts_detect s (command.Escalate t n) a told' s' acc = ap (λ z. z.detect) acc.2

@@ -63,7 +63,7 @@ module _ (s : State) (law : IsLawful s) (t : TxnId) (alive : lives s t ≡ true)
   pub lock_keeps : (u : TxnId) (n : NodeId) (m : Mode) (a : Answer) (told' : Told) → u.slot ≢ t.slot → Accepts s (command.Lock u n m) a told' next → Kept told'
   lock_keeps u n m a told' ne acc =
       kept_told_but u.slot ne told' acc.2
-      (split (enters_at s u.slot n m) (λ e. follows_is _ (acc.0.granted e) (with_grant_follows s u.slot t.slot n _ ne well))
+      (split (enters_at s u.slot n m) (λ e. follows_is _ (acc.0.at_once e) (with_grant_follows s u.slot t.slot n _ ne well))
       (λ e. let f = enqueued_follows s u.slot t.slot n (wanted s u.slot n m) ne well in
       follows_trans s (enqueued s u.slot n (wanted s u.slot n m)) next t.slot f (wait_settles_follows s.detect (enqueued s u.slot n (wanted s u.slot n m)) u.slot next t.slot (acc.0.waits e) f.well)))
 

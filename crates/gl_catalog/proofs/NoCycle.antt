@@ -95,7 +95,7 @@ waiting-no_cycle s s' law t n m may e settled none =
 pub locks-no_cycle : (s s' : State) → s.detect ≡ AtBlock → IsLawful s → (t : TxnId) (n : NodeId) (m : Mode) → MayLock s t n m → Locks s t.slot n m s' → HasNoCycle s → HasNoCycle s'
 locks-no_cycle s s' at law t n m may h none =
     split (enters_at s t.slot n m)
-    (λ e. subst HasNoCycle (sym (h.granted e)) (granted-no_cycle s t.slot n (wanted s t.slot n m) may.active none))
+    (λ e. subst HasNoCycle (sym (h.at_once e)) (granted-no_cycle s t.slot n (wanted s t.slot n m) may.active none))
     (λ e. waiting-no_cycle s s' law t n m may e (subst (λ d. WaitSettles d (enqueued s t.slot n (wanted s t.slot n m)) t.slot s') at (h.waits e)) none)
 
 pub unlocked-no_cycle : (s : State) → IsLawful s → (t : ℕ) (n : NodeId) → status_of s t ≡ Some Active → held_child s t n ≡ None → HasNoCycle s → HasNoCycle (pumped (with_grant s t n NL) (same_node n))

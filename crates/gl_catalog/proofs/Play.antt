@@ -14,7 +14,7 @@ use Rattle.gl_graph.specs.Shapes.{Shape, Inner, File, Rec}
 use Rattle.gl_graph.specs.Graph.{Node, record_parents}
 use Rattle.gl_graph.specs.Changes.{born_index, rekeyed, rekeyed_parents, with_parents}
 use Rattle.gl_table.specs.State.{State, slots, status_of, with_grant, with_graph}
-use Rattle.gl_table.specs.Calls.{accepted_once, begun, deleted, moved_to, raised, released, shed, wanted}
+use Rattle.gl_table.specs.Calls.{accepted_once, begun, cancelled, deleted, free_slot, granted, unlocked, moved_to, raised, released, shed, wanted}
 use Rattle.gl_table.specs.Covered.{covered_children, held_children}
 use Rattle.gl_table.specs.Pumps.{is_waiting_at, pumped, without_wait}
 use Rattle.gl_table.specs.Tellings.{Told, told, told_but}
@@ -45,9 +45,6 @@ abbrev pub slot_or_zero : Option ℕ → ℕ
 slot_or_zero None = 0
 slot_or_zero (Some t) = t
 
-abbrev pub free_slot : State → ℕ
-free_slot s = slot_or_zero (find (λ u. is_none (s.txns u)) (slots s))
-
 abbrev pub new_node : State → Shape → List NodeId → Node
 new_node s shape ps = record { key = free_key s; shape = shape; parents = ps }
 
@@ -65,18 +62,18 @@ abbrev pub go : State → Command → Outcome
 go s (command.Inner ps) = one_made s Inner ps.now
 go s (command.File ps) = one_made s File ps.now
 go s (command.Index ps f bs) = (answer.Node (next_id s (free_key s)), [], with_graph s (born_index s.graph (free_key s) ps.now f bs.now (interval_keys s bs.now)))
-go s command.Begin = (answer.Begun (record { slot = free_slot s; age = s.begins + 1 }), [], begun s (free_slot s))
+go s command.Begin = (answer.Begun (record { slot = slot_or_zero (free_slot s); age = s.begins + 1 }), [], begun s (slot_or_zero (free_slot s)))
 go s (command.Lock t n m) =
     let s' : State = locked s t.slot n m in
     (lock_answer (s'.held t.slot n) (status_of s' t.slot), told_but t.slot s s', s')
-go s (command.Try t n m) = (answer.Granted (wanted s t.slot n m), [], with_grant s t.slot n (wanted s t.slot n m))
-go s (command.Unlock t n) = done s (pumped (with_grant s t.slot n NL) (same_node n))
+go s (command.Try t n m) = (answer.Granted (wanted s t.slot n m), [], granted s t.slot n m)
+go s (command.Unlock t n) = done s (unlocked s t.slot n)
 go s (command.Escalate t n) =
     let up : State = raised s t.slot n in
     let gone = covered_children up t.slot n in
     let s' = shed up t.slot n in
     (answer.Escalated (record { mode = up.held t.slot n; released = gone; kept = held_children up t.slot n - gone }), told s s', s')
-go s (command.Cancel t) = let s' = pumped (without_wait s t.slot Active) (is_waiting_at s t.slot) in (answer.Done, told_but t.slot s s', s')
+go s (command.Cancel t) = let s' = cancelled s t.slot in (answer.Done, told_but t.slot s s', s')
 go s (command.Commit t) = done s (released s t.slot)
 go s (command.Abort t) = done s (released s t.slot)
 go s (command.Settle t) = done s (settled s t.slot)

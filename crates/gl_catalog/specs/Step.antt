@@ -18,7 +18,7 @@ use Rattle.gl_graph.specs.Graph.{record_parents}
 use Rattle.gl_graph.specs.Shapes.{File, Inner, Rec}
 use Rattle.gl_header.specs.Header.{group_of}
 use Rattle.gl_modes.specs.Nodes.{same_node}
-use Rattle.gl_table.specs.Calls.{Locks, accepted_once, begun, deleted, moved_to, raised, released, shed, wanted}
+use Rattle.gl_table.specs.Calls.{Locks, accepted_once, begun, cancelled, deleted, free_slot, granted, moved_to, raised, released, shed, unlocked, wanted}
 use Rattle.gl_table.specs.Covered.{covered_children, held_children}
 use Rattle.gl_table.specs.Effects.{effective}
 use Rattle.gl_table.specs.Pumps.{is_waiting_at, pumped, without_wait}
@@ -39,15 +39,15 @@ Accepts s (command.Inner ps) a told' s' = (n : NodeId) × IsBorn s.graph s'.grap
 Accepts s (command.File ps) a told' s' = (n : NodeId) × IsBorn s.graph s'.graph n File ps.now × (a ≡ answer.Node n) × (told' ≡ []) × (s' ≡ with_graph s s'.graph)
 Accepts s (command.Index ps f bs) a told' s' = (n : NodeId) × IsIndexBorn s.graph s'.graph n ps.now f bs.now × (a ≡ answer.Node n) × (told' ≡ []) × (s' ≡ with_graph s s'.graph)
 Accepts s command.Begin a told' s' =
-    (t : ℕ) × (find (λ u. is_none (s.txns u)) (slots s) ≡ Some t) × (a ≡ answer.Begun (record { slot = t; age = s.begins + 1 })) × (told' ≡ []) × (s' ≡ begun s t)
+    (t : ℕ) × (free_slot s ≡ Some t) × (a ≡ answer.Begun (record { slot = t; age = s.begins + 1 })) × (told' ≡ []) × (s' ≡ begun s t)
 Accepts s (command.Lock t n m) a told' s' = Locks s t.slot n m s' × (a ≡ lock_answer (s'.held t.slot n) (status_of s' t.slot)) × (told' ≡ told_but t.slot s s')
-Accepts s (command.Try t n m) a told' s' = (a ≡ answer.Granted (wanted s t.slot n m)) × (told' ≡ []) × (s' ≡ with_grant s t.slot n (wanted s t.slot n m))
-Accepts s (command.Unlock t n) a told' s' = (a ≡ answer.Done) × (told' ≡ told s s') × (s' ≡ pumped (with_grant s t.slot n NL) (same_node n))
+Accepts s (command.Try t n m) a told' s' = (a ≡ answer.Granted (wanted s t.slot n m)) × (told' ≡ []) × (s' ≡ granted s t.slot n m)
+Accepts s (command.Unlock t n) a told' s' = (a ≡ answer.Done) × (told' ≡ told s s') × (s' ≡ unlocked s t.slot n)
 Accepts s (command.Escalate t n) a told' s' =
     let up : State = raised s t.slot n in
     let gone = covered_children up t.slot n in
     (a ≡ answer.Escalated (record { mode = up.held t.slot n; released = gone; kept = held_children up t.slot n - gone })) × (told' ≡ told s s') × (s' ≡ shed up t.slot n)
-Accepts s (command.Cancel t) a told' s' = (a ≡ answer.Done) × (told' ≡ told_but t.slot s s') × (s' ≡ pumped (without_wait s t.slot Active) (is_waiting_at s t.slot))
+Accepts s (command.Cancel t) a told' s' = (a ≡ answer.Done) × (told' ≡ told_but t.slot s s') × (s' ≡ cancelled s t.slot)
 Accepts s (command.Commit t) a told' s' = (a ≡ answer.Done) × (told' ≡ told s s') × (s' ≡ released s t.slot)
 Accepts s (command.Abort t) a told' s' = (a ≡ answer.Done) × (told' ≡ told s s') × (s' ≡ released s t.slot)
 Accepts s (command.Settle t) a told' s' = (a ≡ answer.Done) × (told' ≡ told s s') × Settled s t.slot s'

@@ -2,10 +2,6 @@
 #![tactic(auto)]
 
 mod command;
-mod laws;
+pub mod laws;
 
 pub use command::{Answer, Command, Escalated, Reply};
-pub use laws::{
-    always_answers, mover_keeps_effects, no_cycle, others_keep_below, others_keep_effects,
-    steps_keep_law,
-};

@@ -68,7 +68,7 @@ wait_settles-lawful ByWatcher s t s' law h = subst IsLawful (sym h) law
 pub locks-lawful : (s s' : State) → IsLawful s → (t : TxnId) (n : NodeId) (m : Mode) → MayLock s t n m → Locks s t.slot n m s' → IsLawful s'
 locks-lawful s s' law t n m may h =
     split (enters_at s t.slot n m)
-    (λ e. subst IsLawful (sym (h.granted e)) (granted-lawful s law t n m may e))
+    (λ e. subst IsLawful (sym (h.at_once e)) (granted-lawful s law t n m may e))
     (λ e. wait_settles-lawful s.detect (enqueued s t.slot n (wanted s t.slot n m)) t.slot s' (waiting-lawful s law t n m may e) (h.waits e))
 
 pub unlocked-less : (s : State) → IsLawful s → (t : ℕ) (n : NodeId) → status_of s t ≡ Some Active → held_child s t n ≡ None

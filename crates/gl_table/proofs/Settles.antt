@@ -172,5 +172,5 @@ locks_some s law t n m may = by (enters_at s t.slot n m) refl
     wait_some ByWatcher z u lawful = refl
 
     by : (b : Bool) → enters_at s t.slot n m ≡ b → Locks s t.slot n m (if b then with_grant s t.slot n (wanted s t.slot n m) else waited s.detect (enqueued s t.slot n (wanted s t.slot n m)) t.slot)
-    by true e = record { granted = λ _. refl; waits = λ f. clash e f }
-    by false e = record { granted = λ f. clash f e; waits = λ _. wait_some s.detect (enqueued s t.slot n (wanted s t.slot n m)) t.slot (waiting-lawful s law t n m may e) }
+    by true e = record { at_once = λ _. refl; waits = λ f. clash e f }
+    by false e = record { at_once = λ f. clash f e; waits = λ _. wait_some s.detect (enqueued s t.slot n (wanted s t.slot n m)) t.slot (waiting-lawful s law t n m may e) }

@@ -1,6 +1,6 @@
 -- What each call of the table leaves, where it is not refused.
-use Rattle.std.specs.Prelude.{◌≡◌, ℕ, ◌+◌, Bool, true, false, ◌&&◌, ◌||◌, ◌==◌, List, [], Option, Some, None, if◌then◌else◌}
-use Rattle.std.specs.List.{filter, list_any}
+use Rattle.std.specs.Prelude.{◌≡◌, ℕ, ◌+◌, Bool, true, false, ◌&&◌, ◌||◌, ◌==◌, List, [], Option, Some, None, if◌then◌else◌, is_none}
+use Rattle.std.specs.List.{filter, find, list_any}
 use Rattle.gl_table.specs.declared.txn.Status.{Status}
 use Rattle.gl_table.specs.declared.detect.Detect.{Detect}
 use Rattle.gl_modes.specs.declared.mode.Mode.{Mode}
@@ -15,8 +15,8 @@ use Rattle.gl_modes.specs.Modes.{supremum}
 use Rattle.gl_modes.specs.Nodes.{same_node}
 use Rattle.gl_table.specs.Covered.{is_covered}
 use Rattle.gl_table.specs.Intends.{intends_over, is_write}
-use Rattle.gl_table.specs.Pumps.{is_waiting_at, pumped}
-use Rattle.gl_table.specs.State.{State, Txn, members, with_grant, with_queue, with_status, with_txn}
+use Rattle.gl_table.specs.Pumps.{is_waiting_at, pumped, without_wait}
+use Rattle.gl_table.specs.State.{State, Txn, members, with_grant, with_queue, with_status, with_txn, slots}
 use Rattle.gl_table.specs.Waiting.{Settled}
 
 -- the wanted mode: the supremum of what is held and what is asked (1976, conversions)
@@ -26,6 +26,22 @@ wanted s t n m = supremum (s.held t n) m
 -- the ask is granted at once
 abbrev pub enters_at : State → ℕ → NodeId → Mode → Bool
 enters_at s t n m = enters s.most (members s n) (s.queue n) t (wanted s t n m)
+
+-- the wanted mode is granted
+abbrev pub granted : State → ℕ → NodeId → Mode → State
+granted s t n m = with_grant s t n (wanted s t n m)
+
+-- one node is released, and grants from its front
+abbrev pub unlocked : State → ℕ → NodeId → State
+unlocked s t n = pumped (with_grant s t n NL) (same_node n)
+
+-- t's wait is taken back, and its node grants from its front
+abbrev pub cancelled : State → ℕ → State
+cancelled s t = pumped (without_wait s t Active) (is_waiting_at s t)
+
+-- the lowest free slot
+abbrev pub free_slot : State → Option ℕ
+free_slot s = find (λ u. is_none (s.txns u)) (slots s)
 
 -- what an escalation to n asks: X where some child is held to write, else S (own)
 abbrev pub asked_by_escalation : State → ℕ → NodeId → Mode
@@ -94,7 +110,7 @@ moved_to s n ps g =
 
 -- the grant on n is raised by an escalation
 abbrev pub raised : State → ℕ → NodeId → State
-raised s t n = with_grant s t n (wanted s t n (asked_by_escalation s t n))
+raised s t n = granted s t n (asked_by_escalation s t n)
 
 -- the children that n covers are released, and grant from their fronts
 abbrev pub shed : State → ℕ → NodeId → State
@@ -109,5 +125,5 @@ WaitSettles ByWatcher s t s' = s' ≡ s
 
 -- what a lock leaves: it is granted at once, or it waits
 pub record Locks (s : State) (t : ℕ) (n : NodeId) (m : Mode) (s' : State) : Type 0 where
-  pub granted : enters_at s t n m ≡ true → s' ≡ with_grant s t n (wanted s t n m)
+  pub at_once : enters_at s t n m ≡ true → s' ≡ granted s t n m
   pub waits : enters_at s t n m ≡ false → WaitSettles s.detect (enqueued s t n (wanted s t n m)) t s'

@@ -3,12 +3,11 @@
 
 mod detect;
 mod effect;
-mod laws;
+pub mod laws;
 mod notice;
 mod txn;
 
 pub use detect::Detect;
 pub use effect::Effect;
-pub use laws::{chains_end, cut_sets, no_conflict, settling_ends};
 pub use notice::{Notice, Told};
 pub use txn::{Status, TxnId};
