@@ -45,9 +45,11 @@ pub record Keeps (s s' : State) (t : TxnId) (told' : Told) : Type 0 where
   pub reads : (n : NodeId) → EffS s t.slot n → EffS s' t.slot n
   pub below : (n : NodeId) → EffS s t.slot n → SameBelow s.graph s'.graph n
 
+-- a greater mode reads too
 pub read_more : (a b : Mode) → is_at_least b a ≡ true → is_read a ≡ true → is_read b ≡ true
 read_more a b h r = search rules
 
+-- only X is above X
 pub x_more : (a b : Mode) → is_at_least b a ≡ true → same_mode a X ≡ true → same_mode b X ≡ true
 x_more a b h x = search rules
 
@@ -101,6 +103,7 @@ effect_refl effect.None = refl
 effect_refl effect.S = refl
 effect_refl effect.X = refl
 
+-- nothing has changed below
 pub below_itself : (g : Graph) (n : NodeId) → SameBelow g g n
 below_itself g n = record { kept = λ r b. (b, refl); no_more = λ r b. b }
 
@@ -131,6 +134,7 @@ pub parent_lives : (p : NodeId) (o : Option Node) → list_any (same_node p) (pa
 parent_lives p None h = h
 parent_lives p (Some n) h = refl
 
+-- what is read over a route lives
 pub read_lives : (s : State) → IsLawful s → (t : ℕ) (n m : NodeId) (way : List NodeId) → IsRoute s.graph n way m → is_read (s.held t m) ≡ true → is_live s.graph n ≡ true
 read_lives s law t n m [] route read = ap (is_live s.graph) route ∙ (law.grants_live t m (read_holds _ read)).1
 read_lives s law t n m (p ∷ way) route read = parent_lives p (node_at s.graph n) route.0

@@ -23,6 +23,7 @@ use Rattle.gl_table.proofs.Locked.{granted-lawful, locks-lawful, may_lock, unloc
 use Rattle.gl_table.proofs.Tests.{active_after}
 use Rattle.gl_graph.proofs.Unrefused.{not_refused, test_fails, not_false}
 
+-- raised, and then shed
 pub escalated-lawful : (s : State) → IsLawful s → (t : TxnId) (n : NodeId) → refusal_of s (command.Escalate t n) ≡ None → IsLawful (shed (raised s t.slot n) t.slot n)
 escalated-lawful s law t n h =
     let a = active_after s t n (worn s) _ h in

@@ -33,6 +33,7 @@ use Rattle.gl_catalog.proofs.Made.{made, next_id, made_is, indexed_is, inserted_
 use Rattle.gl_catalog.proofs.Refusals.{active_is}
 use Rattle.gl_table.proofs.Tests.{all_ix}
 
+-- what a filter leaves passes its test
 pub any_of_filter : (p : Waiter → Bool) (xs ys : List Waiter) (y : Waiter) → filter p xs ≡ y ∷ ys → list_any p xs ≡ true
 any_of_filter p [] ys y e = cc
 any_of_filter p (x ∷ xs) ys y e =
@@ -52,6 +53,7 @@ module _ (s : State) (law : IsLawful s) (g' : Graph) (lawful : IsLawfulGraph g')
   rule_later : (t : ℕ) (n : NodeId) (m : Mode) → is_live s.graph n ≡ true → intends s t n m ≡ true → intends (with_graph s g') t n m ≡ true
   rule_later t n m h k = ap (λ o. intends_over (s.held t) (parents_in o) m) (same n h) ∙ k
 
+  -- a graph in which all old nodes are as they were
   pub regraphed_lawful : IsLawful (with_graph s g')
   regraphed_lawful = record {
     graph = lawful;
@@ -101,6 +103,7 @@ index_keeps ps f bs s s' a told law free acc =
     subst IsLawful (sym (indexed_is s s' born acc.4))
     (regraphed_lawful s law (born_index s.graph acc.0.key ps.now f bs.now born.interval_keys) lawful (old_same s.graph law.graph (index ∷ interval_nodes id 0 born.interval_keys)))
 
+-- nobody holds a node that does not live
 pub nobody_holds : (s : State) (law : IsLawful s) (u : ℕ) (n : NodeId) → (is_live s.graph n ≡ true → ⊥) → s.held u n ≡ NL
 nobody_holds s law u n gone = split (holds (members s n) u) (λ h. absurd (gone (law.grants_live u n h).1)) (λ h. nl_is (s.held u n) h)
 

@@ -37,15 +37,19 @@ pub record Moves (s : State) (t : ℕ) (n : NodeId) (was is : Node) (g' : Graph)
   pub lawful : IsLawfulGraph g'
 
 module _ (s : State) (t : ℕ) (n : NodeId) (was is : Node) (g' : Graph) (m : Moves s t n was is g') where
+  -- other nodes keep their parents
   pub others_parents : (q : NodeId) → q ≢ n → parents_of g' q ≡ parents_of s.graph q
   others_parents q ne = ap (λ g. parents_of g q) (sym m.graph) ∙ ap parents_in (at_other s.graph n was is m.there m.key q ne)
 
+  -- the moved node has the new ones
   pub new_parents : parents_of g' n ≡ is.parents
   new_parents = ap (λ g. parents_of g n) (sym m.graph) ∙ ap parents_in (at_here s.graph n was is m.there m.key)
 
+  -- no node came or went
   pub count_same : node_count g' ≡ node_count s.graph
   count_same = ap node_count (sym m.graph) ∙ ap length (nodes_same s.graph n was is m.there m.key)
 
+  -- so the state keeps its law
   pub changed_keeps : IsLawful s → IsLawful (moved_to s n is.parents g')
   changed_keeps law =
       moved_lawful s law t n is.parents g' m.active m.lawful
@@ -53,9 +57,11 @@ module _ (s : State) (t : ℕ) (n : NodeId) (was is : Node) (g' : Graph) (m : Mo
       (λ q. ap (λ g. is_record_shape (shape_of g q)) (sym m.graph) ∙ rec_same s.graph n was is m.there m.key m.alike q)
       others_parents new_parents m.right
 
+-- the node with its new parents
 abbrev pub moved_node : List NodeId → Node → Node
 moved_node ps was = record was { parents = ps }
 
+-- a move that is not refused is lawful for its mover
 pub move_moves : (s : State) (law : IsLawful s) (t : TxnId) (n : NodeId) (ps : Bor (List NodeId)) → refusal_of s (command.Move t n ps) ≡ None → (was : Node) × Moves s t.slot n was (moved_node ps.now was) (with_parents s.graph n ps.now)
 move_moves s law t n ps free =
     let t1 = not_refused (worn s) _ free in
@@ -97,9 +103,11 @@ rec_keys (Some (Index file bounds)) h = absurd (no h)
 rec_keys (Some (Interval place)) h = absurd (no h)
 rec_keys (Some (Rec keys)) h = (keys, refl)
 
+-- the record with its new key
 abbrev pub rekeyed_to : Graph → NodeId → NodeId → ℕ → Node → Node
 rekeyed_to g r i key was = record { key = was.key; shape = Rec (rekeyed_keys g r i key); parents = rekeyed_parents g r i key }
 
+-- so is a rekey
 pub rekey_moves : (s : State) (law : IsLawful s) (t : TxnId) (r i : NodeId) (key : ℕ) → refusal_of s (command.Rekey t r i key) ≡ None → (was : Node) × Moves s t.slot r was (rekeyed_to s.graph r i key was) (rekeyed s.graph r i key)
 rekey_moves s law t r i key free =
     let t1 = not_refused (worn s) _ free in

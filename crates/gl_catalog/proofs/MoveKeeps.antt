@@ -168,6 +168,7 @@ module _ (s : State) (law : IsLawful s) (t : ℕ) (n : NodeId) (ps : List NodeId
   same_age : (u : ℕ) → age_of after u ≡ age_of s u
   same_age u = unless_age keeps n u (s.txns u)
 
+  -- the fields of the law, for the new graph and the queue that is left
   pub moved_lawful : IsLawful (moved_to s n ps g')
   moved_lawful = record {
     graph = lawful;

@@ -47,12 +47,14 @@ s_by_parents k g held n ps e some h = ap (λ qs. is_read (held n) || list_any (e
 -- where the mode on one node is the same and others have the same parents, all modes are the same
 module _ (g g' : Graph) (held : NodeId → Mode) (n : NodeId) (others : (q : NodeId) → q ≢ n → parents_of g' q ≡ parents_of g q)
     (x_here : (k : ℕ) → eff_x k g' held n ≡ eff_x k g held n) (s_here : (k : ℕ) → eff_s k g' held n ≡ eff_s k g held n) where
+  -- effective X, by the steps up
   pub x_same : (k : ℕ) (q : NodeId) → eff_x k g' held q ≡ eff_x k g held q
   x_same zero q = refl
   x_same (suc k) q =
       split (same_node q n) (λ e. ap (eff_x (suc k) g' held) (same_node_is q n e) ∙ x_here (suc k) ∙ sym (ap (eff_x (suc k) g held) (same_node_is q n e)))
       (λ e. ap₂ (λ (ps : List NodeId) (f : NodeId → Bool). same_mode (held q) X || (not (no_parents ps) && list_all f ps)) (others q (other_node q n e)) (fun_ext (x_same k)))
 
+  -- effective S, by the steps up
   pub s_same : (k : ℕ) (q : NodeId) → eff_s k g' held q ≡ eff_s k g held q
   s_same zero q = refl
   s_same (suc k) q =
@@ -72,6 +74,7 @@ module _ (s : State) (t : ℕ) (n : NodeId) (was is : Node) (g' : Graph) (m : Mo
       ⊎_elim (λ (a : HoldsNode s t n is.parents). s_held (suc k) g' (s.held t) n (x_reads (s.held t n) a.x) ∙ sym (s_held (suc k) s.graph (s.held t) n (x_reads (s.held t n) a.x)))
       (λ (b : HoldsParents s t n is.parents). s_by_parents k g' (s.held t) n is.parents (new_parents s t n was is g' m) b.some_new b.new ∙ sym (s_by_parents k s.graph (s.held t) n (parents_of s.graph n) refl b.some_old b.old)) m.right
 
+  -- and so the effective mode on every node
   pub mover_same : (q : NodeId) → effective (moved_to s n is.parents g') t q ≡ effective s t q
   mover_same q =
       let others = others_parents s t n was is g' m in

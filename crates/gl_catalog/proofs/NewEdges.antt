@@ -84,6 +84,7 @@ sorted_ahead g q x y sorted ne h = split (holds g x) holder other
         (λ e. keep_ahead (λ u. not (holds g u)) x y q (ap not hx) e)
         (ahead_parts x y (filter (λ w. not (holds g w.0)) q) (filter (λ w. holds g w.0) q) h)
 
+-- others stand as they stood
 pub placed_ahead : (g : Members) (q : List Waiter) (t : ℕ) (m : Mode) (x y : ℕ) → HoldersFirst g q → x ≢ y → x ≢ t → y ≢ t → ahead (placed g q t m) x y ≡ true → ahead q x y ≡ true
 placed_ahead g q t m x y sorted ne nx ny h = by (holds g t) h
   where

@@ -44,6 +44,7 @@ pub taken_steps : (s : State) → IsLawful s → (held : ℕ → NodeId → Mode
 taken_steps s law held queue txns chosen less x y h =
     less_steps s held queue txns chosen less x y (pumped_steps (record s { held = held; queue = queue; txns = txns }) chosen (less-lawful s law held queue txns chosen less) x y h)
 
+-- what is taken away leads to no new wait
 pub taken-no_cycle : (s : State) → IsLawful s → (held : ℕ → NodeId → Mode) (queue : NodeId → List Waiter) (txns : ℕ → Option Txn) (chosen : NodeId → Bool) → IsLess s held queue txns chosen
     → HasNoCycle s → HasNoCycle (pumped (record s { held = held; queue = queue; txns = txns }) chosen)
 taken-no_cycle s law held queue txns chosen less none = less-no_cycle (waits_for s) (waits_for (pumped (record s { held = held; queue = queue; txns = txns }) chosen)) (taken_steps s law held queue txns chosen less) none
@@ -52,6 +53,7 @@ pub given_up-no_cycle : (s : State) → IsLawful s → (t : ℕ) (st : Status) �
 given_up-no_cycle s law t st quiet none =
     taken-no_cycle s law s.held (λ n. without_waiter t (s.queue n)) (λ u. if u == t then restatus st (s.txns t) else s.txns u) (is_waiting_at s t) (without_wait-less s law t st quiet) none
 
+-- a turn of settling adds no step
 pub condemned_steps : (s : State) → IsLawful s → (t x y : ℕ) → waits_for (condemned s t) x y ≡ true → waits_for s x y ≡ true
 condemned_steps s law t x y h =
     taken_steps s law s.held (λ n. without_waiter t (s.queue n)) (λ u. if u == t then restatus Condemned (s.txns t) else s.txns u) (is_waiting_at s t) (without_wait-less s law t Condemned (λ q m e. cc)) x y h
@@ -61,10 +63,12 @@ pub settled_steps : (k : ℕ) (s s' : State) (t : ℕ) → IsLawful s → Settle
 settled_steps zero s s' t law h x y e = ap (λ z. waits_for z x y) (sym h.1) ∙ e
 settled_steps (suc k) s s' t law h x y e = condemned_steps s law h.0 x y (settled_steps k (condemned s h.0) s' t (condemned-lawful s law h.0) h.2 x y e)
 
+-- at the end t is on no cycle
 pub settled_free : (k : ℕ) (s s' : State) (t : ℕ) → SettledWithin k s t s' → IsOnNoCycle (waits_for s') t
 settled_free zero s s' t h = subst (λ z. IsOnNoCycle (waits_for z) t) (sym h.1) h.0
 settled_free (suc k) s s' t h = settled_free k (condemned s h.0) s' t h.2
 
+-- and fewer steps make no cycle
 pub settled-no_cycle : (s s' : State) (t : ℕ) → IsLawful s → Settled s t s' → HasNoCycle s → HasNoCycle s'
 settled-no_cycle s s' t law h none = less-no_cycle (waits_for s) (waits_for s') (settled_steps h.0 s s' t law h.1) none
 
@@ -76,6 +80,7 @@ pub granted-no_cycle : (s : State) (t : ℕ) (n : NodeId) (m : Mode) → status_
 granted-no_cycle s t n m active none =
     at_one-no_cycle (waits_for s) (waits_for (with_grant s t n m)) t (granted_steps s t n m) none (no_step-no_cycle (waits_for (with_grant s t n m)) t (active_idle (with_grant s t n m) t active))
 
+-- who begins waits for nobody
 pub begun-no_cycle : (s : State) (t : ℕ) → HasNoCycle s → HasNoCycle (begun s t)
 begun-no_cycle s t none = at_one-no_cycle (waits_for s) (waits_for (begun s t)) t (begun_steps s t) none (no_step-no_cycle (waits_for (begun s t)) t (active_idle (begun s t) t now))
   where
@@ -92,6 +97,7 @@ waiting-no_cycle s s' law t n m may e settled none =
     (λ x y h nx ny. enqueued_steps s law t.slot n (wanted s t.slot n m) x y (settled_steps settled.0 (enqueued s t.slot n (wanted s t.slot n m)) s' t.slot (waiting-lawful s law t n m may e) settled.1 x y h) nx ny)
     none (settled_free settled.0 (enqueued s t.slot n (wanted s t.slot n m)) s' t.slot settled.1)
 
+-- a lock adds steps at the asker alone, who is settled
 pub locks-no_cycle : (s s' : State) → s.detect ≡ AtBlock → IsLawful s → (t : TxnId) (n : NodeId) (m : Mode) → MayLock s t n m → Locks s t.slot n m s' → HasNoCycle s → HasNoCycle s'
 locks-no_cycle s s' at law t n m may h none =
     split (enters_at s t.slot n m)

@@ -29,6 +29,7 @@ abbrev pub AllNone : List (Option Refusal) → Type 0
 AllNone [] = Unit {0}
 AllNone (r ∷ rs) = (r ≡ None) × AllNone rs
 
+-- the tests that were passed, one by one
 pub all_none : (rs : List (Option Refusal)) → first_refusal rs ≡ None → AllNone rs
 all_none [] h = tt
 all_none (None ∷ rs) h = (refl, all_none rs h)
@@ -75,6 +76,7 @@ module _ (s : State) (law : IsLawful s) (t : TxnId) (alive : lives s t ≡ true)
   accepted (command.Held u n) apart passed ans = same_keeps s law t alive s' told' s' ans.same
   accepted (command.Effective u n) apart passed ans = same_keeps s law t alive s' told' s' ans.same
 
+  -- each command, and a step that changes nothing
   pub step_keeps : (c : Command) → names t c ≡ false → Step s c a told' s' → Kept s'
   step_keeps c apart (inr want) = same_keeps s law t alive s' told' s' want.1.same
   step_keeps c apart (inl goes) = by (refusal_of s c) refl goes

@@ -30,13 +30,16 @@ other u t ne = grind (arith, nat_tests)
 pub with_grant_same : (s : State) (u t : ℕ) (n : NodeId) (m : Mode) → u ≢ t → SameGrants s (with_grant s u n m) t
 with_grant_same s u t n m ne q = ap (λ b. if b && same_node q n then m else s.held t q) (other u t ne)
 
+-- another is granted a node
 pub with_grant_follows : (s : State) (u t : ℕ) (n : NodeId) (m : Mode) → u ≢ t → WaitsWell s t → Follows s (with_grant s u n m) t
 with_grant_follows s u t n m ne well = follows_same s (with_grant s u n m) t well refl refl (with_grant_same s u t n m ne) (λ q. refl)
 
+-- another begins
 pub begun_follows : (s : State) (u t : ℕ) → u ≢ t → WaitsWell s t → Follows s (begun s u) t
 begun_follows s u t ne well =
     follows_same s (begun s u) t well refl (ap (λ b. if b then Some (record { age = s.begins + 1; status = Active }) else s.txns t) (other u t ne)) (λ q. refl) (λ q. refl)
 
+-- another waits
 pub enqueued_follows : (s : State) (u t : ℕ) (n : NodeId) (m : Mode) → u ≢ t → WaitsWell s t → Follows s (enqueued s u n m) t
 enqueued_follows s u t n m ne well =
     follows_same s (enqueued s u n m) t well refl (ap (λ b. if b then restatus (Waiting n m) (s.txns u) else s.txns t) (other u t ne)) (λ q. refl)
@@ -46,6 +49,7 @@ enqueued_follows s u t n m ne well =
     by q true e = placed_other (members s n) u t (s.queue n) m ne ∙ ap (λ x. waits_of t (s.queue x)) (sym (same_node-equal q n e))
     by q false e = refl
 
+-- another's wait is taken out
 pub without_wait_follows : (s : State) (u t : ℕ) (st : Status) → u ≢ t → WaitsWell s t → Follows s (without_wait s u st) t
 without_wait_follows s u t st ne well =
     follows_same s (without_wait s u st) t well refl (ap (λ b. if b then restatus st (s.txns u) else s.txns t) (other u t ne)) (λ q. refl) (λ q. without_other u t (s.queue q) ne)
@@ -87,6 +91,7 @@ condemned_self s t n m e = record {
 abbrev Waits : State → ℕ → Type 0
 Waits s v = (n : NodeId) × (m : Mode) × (status_of s v ≡ Some (Waiting n m))
 
+-- another is condemned; t too may be the one, if it waits
 pub condemned_follows : (s : State) (v t : ℕ) → Waits s v → WaitsWell s t → Follows s (condemned s v) t
 condemned_follows s v t waits well =
     split (v == t)
@@ -119,6 +124,7 @@ settled_within_follows (suc k) s u s' t more well =
     let f = condemned_follows s more.0 t (walk_waits s more.0 u more.1.is_member.back.0 more.1.is_member.back.1) well in
     follows_trans s (condemned s more.0) s' t f (settled_within_follows k (condemned s more.0) u s' t more.2 f.well)
 
+-- someone is settled
 pub settled_follows : (s : State) (u : ℕ) (s' : State) (t : ℕ) → Settled s u s' → WaitsWell s t → Follows s s' t
 settled_follows s u s' t settled well = settled_within_follows settled.0 s u s' t settled.1 well
 
@@ -135,28 +141,33 @@ cleared s u =
       txns = λ v. if v == u then None else s.txns v;
     }
 
+-- another ends
 pub released_follows : (s : State) (u t : ℕ) → u ≢ t → WaitsWell s t → Follows s (released s u) t
 released_follows s u t ne well =
     let f : Follows s (cleared s u) t =
     follows_same s (cleared s u) t well refl (ap (λ b. if b then None else s.txns t) (other u t ne)) (λ q. ap (λ b. if b then NL else s.held t q) (other u t ne)) (λ q. without_other u t (s.queue q) ne) in
     follows_trans s (cleared s u) (released s u) t f (pumped_follows (cleared s u) (λ n. holds (members s n) u || is_waiting_at s u n) t f.well)
 
+-- another's children are released
 pub shed_follows : (s : State) (u t : ℕ) (n : NodeId) → u ≢ t → WaitsWell s t → Follows s (shed s u n) t
 shed_follows s u t n ne well =
     let less : State = record s { held = λ v c. if (v == u) && is_covered s u n c then NL else s.held v c } in
     let f : Follows s less t = follows_same s less t well refl refl (λ q. ap (λ b. if b && is_covered s u n q then NL else s.held t q) (other u t ne)) (λ q. refl) in
     follows_trans s less (shed s u n) t f (pumped_follows less (is_covered s u n) t f.well)
 
+-- another escalates
 pub escalated_follows : (s : State) (u t : ℕ) (n : NodeId) → u ≢ t → WaitsWell s t → Follows s (shed (raised s u n) u n) t
 escalated_follows s u t n ne well =
     let f = with_grant_follows s u t n _ ne well in
     follows_trans s (raised s u n) (shed (raised s u n) u n) t f (shed_follows (raised s u n) u t n ne f.well)
 
+-- another releases a node
 pub unlocked_follows : (s : State) (u t : ℕ) (n : NodeId) → u ≢ t → WaitsWell s t → Follows s (pumped (with_grant s u n NL) (same_node n)) t
 unlocked_follows s u t n ne well =
     let f = with_grant_follows s u t n NL ne well in
     follows_trans s (with_grant s u n NL) (pumped (with_grant s u n NL) (same_node n)) t f (pumped_follows (with_grant s u n NL) (same_node n) t f.well)
 
+-- another takes its wait back
 pub cancelled_follows : (s : State) (u t : ℕ) → u ≢ t → WaitsWell s t → Follows s (pumped (without_wait s u Active) (is_waiting_at s u)) t
 cancelled_follows s u t ne well =
     let f = without_wait_follows s u t Active ne well in

@@ -106,6 +106,7 @@ over_trans s mid s' t g h law a b = record {
     between : (n : NodeId) → is_live s.graph n ≡ true → is_live s'.graph n ≡ true → is_live mid.graph n ≡ true
     between n live live' = b.old n (let old = birth_of s.graph law.graph n live in let first = a.births in omega arith) live'
 
+-- step by step, since each state of the run is lawful
 pub run_keeps : (cs : List Command) (rs : List (Answer × Told)) (s s' : State) (t : TxnId) → IsLawful s → Run s cs rs s' → lives s t ≡ true → list_any (names t) cs ≡ false → KeepsOver s s' t (told_granted t rs)
 run_keeps [] [] s s' t law run alive apart = over_none s s' t alive run
 run_keeps [] (r ∷ rs) s s' t law run alive apart = absurd run

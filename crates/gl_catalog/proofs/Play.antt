@@ -23,12 +23,15 @@ use Rattle.gl_catalog.specs.Step.{lock_answer, query_answer}
 use Rattle.gl_table.proofs.Settles.{locked, settled}
 use Rattle.gl_catalog.proofs.Made.{made, next_id}
 
+-- an answer, who is told, and what is left
 abbrev pub Outcome : Type 0
 Outcome = Answer × Told × State
 
+-- the greater of two numbers
 abbrev pub greater : ℕ → ℕ → ℕ
 greater a b = if nat_le a b then b else a
 
+-- the number above a node's key
 abbrev pub above_key : Option Node → ℕ
 above_key None = 0
 above_key (Some n) = n.key + 1
@@ -38,22 +41,28 @@ abbrev pub top : (ℕ → Option Node) → ℕ → ℕ
 top at zero = 0
 top at (suc n) = greater (top at n) (above_key (at (suc n)))
 
+-- the key of the next node
 abbrev pub free_key : State → ℕ
 free_key s = top s.graph.at s.graph.births
 
+-- the slot found
 abbrev pub slot_or_zero : Option ℕ → ℕ
 slot_or_zero None = 0
 slot_or_zero (Some t) = t
 
+-- the next node
 abbrev pub new_node : State → Shape → List NodeId → Node
 new_node s shape ps = record { key = free_key s; shape = shape; parents = ps }
 
+-- the keys of the intervals of the next index
 abbrev pub interval_keys : State → List ℕ → List ℕ
 interval_keys s bs = range_with_len (free_key s + 1) (length bs + 1)
 
+-- one node is made
 abbrev pub one_made : State → Shape → List NodeId → Outcome
 one_made s shape ps = (answer.Node (next_id s (free_key s)), [], made s (new_node s shape ps))
 
+-- done, and those who no longer wait are told
 abbrev pub done : State → State → Outcome
 done s s' = (answer.Done, told s s', s')
 
@@ -84,17 +93,21 @@ go s (command.Rekey t r i key) = done s (moved_to s r (rekeyed_parents s.graph r
 go s (command.Move t n ps) = done s (moved_to s n ps.now (with_parents s.graph n ps.now))
 go s c = (answer.Done, [], s)
 
+-- the command is counted
 abbrev pub counted : Outcome → Outcome
 counted o = (o.0, o.1, accepted_once o.2)
 
+-- a query is answered, any other command goes
 abbrev pub answered : State → Command → Option Answer → Outcome
 answered s c (Some a) = (a, [], s)
 answered s c None = counted (go s c)
 
+-- a refusal is answered
 abbrev pub tested : State → Command → Option Refusal → Outcome
 tested s c (Some r) = (answer.Refused r, [], s)
 tested s c None = answered s c (query_answer s c)
 
+-- one command
 abbrev pub play : State → Command → Outcome
 play s c = tested s c (refusal_of s c)
 
@@ -103,6 +116,7 @@ abbrev pub after : State → List Command → State
 after s [] = s
 after s (c ∷ cs) = after (play s c).2 cs
 
+-- what is answered to these commands
 abbrev pub replies : State → List Command → List (Answer × Told)
 replies s [] = []
 replies s (c ∷ cs) = let o = play s c in (o.0, o.1) ∷ replies o.2 cs

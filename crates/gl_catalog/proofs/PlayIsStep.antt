@@ -124,12 +124,15 @@ module _ (s : State) (law : IsLawful s) where
   goes (command.Held t n) None e = record { answer_is = refl; nobody_told = refl; same = refl }
   goes (command.Effective t n) None e = record { answer_is = refl; nobody_told = refl; same = refl }
 
+  -- whatever the command
   pub play_steps : (c : Command) → Step s c (play s c).0 (play s c).1 (play s c).2
   play_steps c = inl (goes c (refusal_of s c) refl)
 
+-- so there is a step
 pub always_answers : AlwaysAnswers
 always_answers s c law = ((play s c).0, (play s c).1, (play s c).2, play_steps s law c)
 
+-- a list of commands is a run
 pub play_runs : (cs : List Command) (s : State) → IsLawful s → Run s cs (replies s cs) (after s cs)
 play_runs [] s law = refl
 play_runs (c ∷ cs) s law = ((play s c).2, play_steps s law c, play_runs cs (play s c).2 (steps_keep_law s (play s c).2 c (play s c).0 (play s c).1 law (play_steps s law c)))

@@ -16,6 +16,7 @@ use Rattle.gl_graph.proofs.Look.{split, no, none_some, and_both}
 use Rattle.gl_graph.proofs.Unrefused.{test_fails, not_false}
 use Rattle.gl_table.proofs.Tests.{all_ix}
 
+-- the three tests of a transaction were passed
 pub active_is : (s : State) (t : TxnId) → no_txn s t ≡ None → waiting_test (status_of s t.slot) ≡ None → condemned_test (status_of s t.slot) ≡ None → status_of s t.slot ≡ Some Active
 active_is s t h w c = by (s.txns t.slot) (not_false _ (test_fails (not (lives s t)) _ h)) w c
   where
@@ -37,12 +38,14 @@ pub record HoldsNode (s : State) (t : ℕ) (n : NodeId) (ps : List NodeId) : Typ
   pub x : same_mode (s.held t n) X ≡ true
   pub new : list_all (λ p. is_at_least (s.held t p) IX) ps ≡ true
 
+-- X on all old and all new parents, of which there are some
 pub record HoldsParents (s : State) (t : ℕ) (n : NodeId) (ps : List NodeId) : Type 0 where
   pub some_old : no_parents (parents_of s.graph n) ≡ false
   pub some_new : no_parents ps ≡ false
   pub old : list_all (λ p. same_mode (s.held t p) X) (parents_of s.graph n) ≡ true
   pub new : list_all (λ p. same_mode (s.held t p) X) ps ≡ true
 
+-- the two tests of a move were passed
 pub may_move : (s : State) (t : ℕ) (n : NodeId) (given : Bool) (ps : List NodeId) → need_exclusive s t n given ps ≡ None → need_new_parents s t n ps ≡ None
     → (given ≡ true → (no_parents (parents_of s.graph n) ≡ false) × (no_parents ps ≡ false)) → HoldsNode s t n ps ⊎ HoldsParents s t n ps
 may_move s t n given ps h k some =

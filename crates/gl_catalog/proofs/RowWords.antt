@@ -24,9 +24,11 @@ use Rattle.gl_catalog.proofs.PlayIsStep.{play_runs}
 abbrev pub Line : Type 0
 Line = Command × Answer × Told
 
+-- the commands of these lines
 abbrev pub commands : List Line → List Command
 commands lines = map (λ l. l.0) lines
 
+-- what they answer and tell
 abbrev pub answers : List Line → List (Answer × Told)
 answers lines = map (λ l. (l.1, l.2)) lines
 
@@ -44,6 +46,7 @@ computed {detect = detect} {most = most} {lines = lines} same =
       run = subst (λ rs. Run start (commands lines) rs (after start (commands lines))) same (play_runs (commands lines) start (empty-lawful detect most));
     }
 
+-- a borrowed list, as a command has it
 abbrev pub ref : {A : Type 0} → A → Bor A
 ref x = record { ref_ptr = (0, 0); now = x }
 
@@ -51,6 +54,7 @@ ref x = record { ref_ptr = (0, 0); now = x }
 abbrev pub id : ℕ → NodeId
 id birth = record { key = birth - 1; birth = birth }
 
+-- the transaction in a slot, of an age
 abbrev pub txn : ℕ → ℕ → TxnId
 txn slot age = record { slot = slot; age = age }
 
@@ -58,9 +62,11 @@ txn slot age = record { slot = slot; age = age }
 abbrev pub says : Command → Answer → Line
 says c a = (c, a, [])
 
+-- done, and nobody is told
 abbrev pub done : Command → Line
 done c = says c answer.Done
 
+-- refused
 abbrev pub refuses : Command → Refusal → Line
 refuses c r = says c (answer.Refused r)
 
@@ -68,12 +74,15 @@ refuses c r = says c (answer.Refused r)
 abbrev pub tells : Command → TxnId → Notice → Line
 tells c t n = (c, answer.Done, (t, n) ∷ [])
 
+-- granted what was asked
 abbrev pub locks : TxnId → Mode → NodeId → Line
 locks t m n = says (command.Lock t n m) (answer.Granted m)
 
+-- it waits
 abbrev pub waits : TxnId → Mode → NodeId → Line
 waits t m n = says (command.Lock t n m) answer.Waiting
 
+-- the same mode on these nodes
 abbrev pub locks_all : TxnId → Mode → List NodeId → List Line
 locks_all t m ns = map (locks t m) ns
 
@@ -81,18 +90,23 @@ locks_all t m ns = map (locks t m) ns
 abbrev pub begins : TxnId → Line
 begins t = says command.Begin (answer.Begun t)
 
+-- a new root
 abbrev pub roots : NodeId → Line
 roots n = says (command.Inner (ref [])) (answer.Node n)
 
+-- a new inner node
 abbrev pub inner : List NodeId → NodeId → Line
 inner ps n = says (command.Inner (ref ps)) (answer.Node n)
 
+-- a new file
 abbrev pub file : List NodeId → NodeId → Line
 file ps n = says (command.File (ref ps)) (answer.Node n)
 
+-- what is held
 abbrev pub holds : TxnId → NodeId → Mode → Line
 holds t n m = says (command.Held t n) (answer.Mode m)
 
+-- the group mode
 abbrev pub group : NodeId → Mode → Line
 group n m = says (command.Group n) (answer.Mode m)
 
@@ -121,9 +135,11 @@ r2 = id 7
 abbrev pub z : TxnId
 z = txn 0 1
 
+-- a file under a root, with an index parted at 100
 abbrev pub indexed : List Line
 indexed = roots db ∷ file (db ∷ []) f1 ∷ says (command.Index (ref (db ∷ [])) f1 (ref (100 ∷ []))) (answer.Node i1) ∷ []
 
+-- and two records, one in each interval
 abbrev pub prelude : List Line
 prelude =
     indexed ++ begins z ∷ locks_all z IX (db ∷ f1 ∷ i1 ∷ i1_0 ∷ i1_1 ∷ [])

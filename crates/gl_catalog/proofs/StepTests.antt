@@ -49,6 +49,7 @@ or_cases : (a b : Bool) → (not a && not b) ≡ false → (a ≡ true) ⊎ (b �
 or_cases true b h = inl refl
 or_cases false b h = inr (not_false b h)
 
+-- X on the node, or on all parents
 pub exclusive : (s : State) (u : ℕ) (n : NodeId) (given : Bool) (new : List NodeId) → need_exclusive s u n given new ≡ None → (holds_x s u n ≡ true) ⊎ OnParents s u n given new
 exclusive s u n given new h = by (or_cases _ _ (test_fails _ no.NeedExclusive h))
   where

@@ -29,12 +29,14 @@ abbrev pub tells : TxnId → NodeId → Mode → TxnId × Notice → Bool
 tells t n m (u, notice.Granted q w) = same_txn t u && (same_node q n && same_mode w m)
 tells t n m (u, x) = false
 
+-- a notice of this grant is a notice of a grant
 pub tells_grant : (t : TxnId) (n : NodeId) (m : Mode) (x : TxnId × Notice) → tells t n m x ≡ true → is_grant_to t x ≡ true
 tells_grant t n m (u, notice.Granted q w) h = (and_both _ _ h).0
 tells_grant t n m (u, notice.Victim) h = h
 tells_grant t n m (u, notice.Moved) h = h
 tells_grant t n m (u, notice.Gone) h = h
 
+-- a weaker test passes too
 pub any_weaker : {Y : Type 0} (p q : Y → Bool) (xs : List Y) → ((y : Y) → p y ≡ true → q y ≡ true) → list_any p xs ≡ true → list_any q xs ≡ true
 any_weaker p q [] more h = h
 any_weaker p q (y ∷ ys) more h = or_elim (p y) (list_any p ys) h (λ here. ap (λ b. b || list_any q ys) (more y here)) (λ there. ap (λ b. q y || b) (any_weaker p q ys more there) ∙ or_true (q y))
@@ -77,6 +79,7 @@ module _ (s s' : State) (law : IsLawful s) (t : TxnId) (alive : lives s t ≡ tr
   itself : same_txn t (record { slot = t.slot; age = age_of s t.slot }) ≡ true
   itself = let a : (t.slot == t.slot) ≡ true = grind (arith, nat_tests) in ap₂ (λ x y. x && y) a (age_is t.age (s.txns t.slot) alive)
 
+  -- the list of notices has it
   pub told_of_grant : list_any (tells t g.node g.mode) (told s s') ≡ true
   told_of_grant =
       any_mapped (tells t g.node g.mode) (λ u. addressed (record { slot = u; age = age_of s u }) (told_from s' u (status_of s u))) t.slot
@@ -92,5 +95,6 @@ module _ (s s' : State) (law : IsLawful s) (t : TxnId) (alive : lives s t ≡ tr
   other_told u ne (v, notice.Moved) h = absurd (true≢false (sym h))
   other_told u ne (v, notice.Gone) h = absurd (true≢false (sym h))
 
+  -- and so has the list without the caller's
   pub told_but_of_grant : (u : ℕ) → u ≢ t.slot → list_any (tells t g.node g.mode) (told_but u s s') ≡ true
   told_but_of_grant u ne = any_filtered (tells t g.node g.mode) (λ x. not (x.0.slot == u)) (told s s') (λ x h. other_told u ne x (tells_grant t g.node g.mode x h)) told_of_grant

@@ -66,6 +66,7 @@ module _ (s : State) (law : IsLawful s) (t : ℕ) (n : NodeId) (m : Mode) (st : 
             }),
           )
 
+  -- the lawful fronts are empty, so the wait does not fit or stands behind another
   pub waits_for_one : (u : ℕ) × (waits_for s t u ≡ true)
   waits_for_one = by_queue (s.queue n) refl (law.front_waits n) (law.one_wait t n m st)
 

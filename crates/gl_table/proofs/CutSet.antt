@@ -35,6 +35,7 @@ not_all q (x ∷ xs) h =
     by true e h' rest = let f = rest h' in (f.0, ap (λ b. same_node f.0 x || b) f.1 ∙ or_true _, f.2)
 
 module _ (g : Graph) (held : NodeId → Mode) where
+  -- a node held in X
   abbrev pub is_x : NodeId → Bool
   is_x n = same_mode (held n) X
 
@@ -56,6 +57,7 @@ module _ (g : Graph) (held : NodeId → Mode) where
   abbrev pub Escapes : ℕ → NodeId → Type 0
   Escapes k n = (r : NodeId) × (way : List NodeId) × IsRoute g n way r × (list_any is_x (n ∷ way) ≡ false) × ((parents_of g r ≡ []) ⊎ (length way ≡ k))
 
+  -- no effective X: some parent has none either, step by step up
   pub escape : (k : ℕ) (n : NodeId) → eff_x k g held n ≡ false → Escapes k n
   escape zero n h = (n, [], refl, ap (λ b. b || false) h, inr refl)
   escape (suc k) n h =

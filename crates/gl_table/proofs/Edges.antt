@@ -35,10 +35,12 @@ pub record IsStep (s : State) (x y : ℕ) (n : NodeId) (m : Mode) : Type 0 where
   pub waits : status_of s x ≡ Some (Waiting n m)
   pub blocked : (not (are_compatible m (s.held y n)) || is_ahead (s.queue n) x y) ≡ true
 
+-- a step of waits is a wait and its reason
 pub step_is : (s : State) (x y : ℕ) → waits_for s x y ≡ true → (n : NodeId) × (m : Mode) × IsStep s x y n m
 step_is s x y h =
     let both = and_both _ _ h in let b = blocks_is s x y (status_of s x) both.1 in (b.0, b.1, record { differ = both.0; waits = b.2; blocked = b.3 })
 
+-- and back
 pub is_step : (s : State) (x y : ℕ) (n : NodeId) (m : Mode) → IsStep s x y n m → waits_for s x y ≡ true
 is_step s x y n m h = ap₂ (λ a b. a && b) h.differ (ap (blocks s x y) h.waits ∙ h.blocked)
 
@@ -82,6 +84,7 @@ pumped_steps s chosen law x y h =
         or_elim _ _ (sym (among_append x (granted_at s chosen n) (drop (length (granted_at s chosen n)) (s.queue n))) ∙ ap (is_among_waiters x) (granted_rest s chosen law n) ∙ among_by_filter x (x, m) [] (s.queue n) (law.one_wait x n m st))
         (λ k. clash k out) (λ k. k)
 
+-- what is filtered out of a queue was in it
 pub among_kept : (p : ℕ → Bool) (a : ℕ) (q : List Waiter) → is_among_waiters a (filter (λ w. p w.0) q) ≡ true → is_among_waiters a q ≡ true
 among_kept p a [] h = h
 among_kept p a (w ∷ q) h = by (p w.0) h (among_kept p a q)

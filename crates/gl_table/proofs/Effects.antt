@@ -25,6 +25,7 @@ pub or_true : (b : Bool) → (b || true) ≡ true
 or_true true = refl
 or_true false = refl
 
+-- where some pass one is found
 pub any_found : (q : NodeId → Bool) (ps : List NodeId) → list_any q ps ≡ true → (p : NodeId) × (list_any (same_node p) ps ≡ true) × (q p ≡ true)
 any_found q [] h = absurd (true≢false (sym h))
 any_found q (x ∷ xs) h =
@@ -55,6 +56,7 @@ read_on_route g h n m [] route r = subst (ReadOn g h) (sym route) r
 read_on_route g h n m (p ∷ way) route r = let up = read_on_route g h p m way route.1 r in (up.0, p ∷ up.1, (route.0, up.2), up.3)
 
 module _ (g : Graph) (h : NodeId → Mode) where
+  -- an effective S comes over a route
   pub eff_s_route : (k : ℕ) (n : NodeId) → eff_s k g h n ≡ true → ReadOn g h n
   eff_s_route zero n x = (n, [], refl, x)
   eff_s_route (suc k) n x =
@@ -63,6 +65,7 @@ module _ (g : Graph) (h : NodeId → Mode) where
       let above = eff_s_route k f.0 f.2 in
       (above.0, f.0 ∷ above.1, (f.1, above.2), above.3))
 
+  -- and so does an effective X
   pub eff_x_route : (k : ℕ) (n : NodeId) → eff_x k g h n ≡ true → ReadOn g h n
   eff_x_route zero n x = (n, [], refl, x_reads _ x)
   eff_x_route (suc k) n x =
@@ -81,6 +84,7 @@ module _ (g : Graph) (h : NodeId → Mode) where
 
 -- in a lawful graph the number of nodes is enough fuel
 module _ (g : Graph) (law : IsLawfulGraph g) (h : NodeId → Mode) where
+  -- a route is short, so the number of nodes is enough steps
   pub read_on_eff : (n : NodeId) → is_live g n ≡ true → ReadOn g h n → eff_s (node_count g) g h n ≡ true
   read_on_eff n live r = let few = route_short g law n r.0 r.1 live r.2 in route_eff_s g h (node_count g) n r.0 r.1 r.2 r.3 (omega arith)
 

@@ -72,6 +72,7 @@ module _ (s : State) (law : IsLawful s) (t : ℕ) (n : NodeId) (m : Mode) (activ
     subst (λ p. ModeFitsKind s p w) en (subst (ModeFitsKind s n) em kind),
   )
 
+  -- the queue's front stays empty, as what is placed does not fit
   pub enqueued-lawful : IsLawful (enqueued s t n m)
   enqueued-lawful = record {
     graph = law.graph;
@@ -112,6 +113,7 @@ module _ (s : State) (law : IsLawful s) (t : ℕ) (free : is_some (s.txns t) ≡
   age_low : (u : ℕ) → age_of s u ≤ s.begins
   age_low u = split (is_some (s.txns u)) (λ h. (law.ages u h).1) (λ h. let none : age_of s u ≡ 0 = age_none (s.txns u) h in omega arith)
 
+  -- the new age is above all others
   pub begun-lawful : IsLawful (begun s t)
   begun-lawful = record {
     graph = law.graph;

@@ -66,6 +66,7 @@ module _ (s : State) (law : IsLawful s) (t : ℕ) (n : NodeId) (active : status_
       none_writes : is_write (s.held t n) ≡ false → list_any (λ c. is_child s.graph n c && is_write (s.held t c)) (nodes s.graph) ≡ false
       none_writes e = not_true _ (λ h. let found = any_of (λ c. is_child s.graph n c && is_write (s.held t c)) (nodes s.graph) h in let both = and_both _ _ found.1 in clash (writes_up found.0 both.0 both.1) e)
 
+  -- the raised mode writes only where the old one did, so the rule of the graph is met as before
   pub raised-lawful : IsLawful (raised s t n)
   raised-lawful =
       with_grant-lawful s law t n (wanted s t n (asked_by_escalation s t n)) active live (λ is. clash is plain)
@@ -79,9 +80,11 @@ module _ (s : State) (law : IsLawful s) (t : ℕ) (n : NodeId) (active : status_
       not_true _ (λ e. let a = and_both _ _ e in let b = and_both _ _ a.0 in
       clash b.1 (ap not (one_found (λ x. is_child s.graph p x && holds (members s x) t) q (nodes s.graph) (ap₂ (λ x y. x && y) child h) (listed s.graph law.graph q live))))
 
+  -- a covered child has no child that is held, so every lock that stays has its parents
   pub shed-less : IsLess s (λ u c. if (u == t) && is_covered s t n c then NL else s.held u c) s.queue s.txns (is_covered s t n)
   shed-less = taken-less s law t (is_covered s t n) (is_covered s t n) active free (λ q h. h)
 
+  -- and then the children grant from their fronts
   pub shed-lawful : IsLawful (shed s t n)
   shed-lawful =
       pumped-lawful (record s { held = λ u c. if (u == t) && is_covered s t n c then NL else s.held u c }) (is_covered s t n)

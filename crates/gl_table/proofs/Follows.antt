@@ -34,9 +34,11 @@ pub record WaitsWell (s : State) (t : ℕ) : Type 0 where
   pub more : (n : NodeId) (m : Mode) → status_of s t ≡ Some (Waiting n m) → is_at_least m (s.held t n) ≡ true
   pub are : (n : NodeId) → is_among_waiters t (s.queue n) ≡ true → is_waiting_at s t n ≡ true
 
+-- one slot holds the same on every node
 abbrev pub SameGrants : State → State → ℕ → Type 0
 SameGrants s s' t = (q : NodeId) → s'.held t q ≡ s.held t q
 
+-- a change that leaves one slot all that it had, and raises it at most at one node, where it waited
 pub record Follows (s s' : State) (t : ℕ) : Type 0 where
   pub graph : s'.graph ≡ s.graph
   pub lives : (age : ℕ) → live_by age (s.txns t) ≡ true → live_by age (s'.txns t) ≡ true
@@ -45,12 +47,14 @@ pub record Follows (s s' : State) (t : ℕ) : Type 0 where
   pub grants : SameGrants s s' t ⊎ GrantedTo s s' t
   pub well : WaitsWell s' t
 
+-- the law says so of every slot
 pub lawful_waits : (s : State) → IsLawful s → (t : ℕ) → WaitsWell s t
 lawful_waits s law t = record { one = law.one_wait t; more = λ n m e. (law.waits_intend t n m e).2; are = law.waits_are t }
 
 apart : {q : NodeId} {w : Mode} → Some Active ≡ Some (Waiting q w) → ⊥
 apart e = cc
 
+-- one change and then another
 pub follows_trans : (s mid s' : State) (t : ℕ) → Follows s mid t → Follows mid s' t → Follows s s' t
 follows_trans s mid s' t f g = record {
   graph = g.graph ∙ f.graph;
@@ -98,6 +102,7 @@ follows_same s s' t well graph txn grants waits = record {
   };
 }
 
+-- no change
 pub follows_refl : (s : State) (t : ℕ) → WaitsWell s t → Follows s s t
 follows_refl s t well = follows_same s s t well refl refl (λ q. refl) (λ n. refl)
 
@@ -213,6 +218,7 @@ module _ (s : State) (chosen : NodeId → Bool) (t : ℕ) (well : WaitsWell s t)
       waits_left : waits_of t (granted n) ≡ [] → (q : NodeId) → waits_of t (rest q) ≡ waits_of t (s.queue q)
       waits_left here q = ap (λ ws. ws ++ waits_of t (rest q)) (sym (none_granted here q)) ∙ waits_parts q
 
+  -- granting from fronts gives a slot what it waits for, and nothing else
   pub pumped_follows : Follows s (pumped s chosen) t
   pumped_follows = by (status_of s t) refl
     where

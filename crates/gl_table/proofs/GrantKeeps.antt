@@ -25,9 +25,11 @@ use Rattle.gl_modes.proofs.ModeLemmas.{at_least-refl, at_least-transitive, compa
 less_compatible : (m a b : Mode) → is_at_least b a ≡ true → are_compatible m b ≡ true → are_compatible m a ≡ true
 less_compatible m a b h k = search rules
 
+-- who holds no less holds
 pub more_held : (a b : Mode) → is_at_least b a ≡ true → not (same_mode a NL) ≡ true → not (same_mode b NL) ≡ true
 more_held a b h k = search rules
 
+-- who does not hold holds NL
 pub nl_is : (a : Mode) → not (same_mode a NL) ≡ false → a ≡ NL
 nl_is a h = search rules
 
@@ -47,6 +49,7 @@ any_more h h' more m (p ∷ ps) k =
     or_true true = refl
     or_true false = refl
 
+-- a holder of no less meets the rule as before
 pub rule_more : (h h' : NodeId → Mode) → ((p : NodeId) → is_at_least (h' p) (h p) ≡ true) → (ps : List NodeId) (m : Mode) → intends_over h ps m ≡ true → intends_over h' ps m ≡ true
 rule_more h h' more ps m k = by (is_write m) k
   where
@@ -69,6 +72,7 @@ fits_less g g' more t m (u ∷ us) k =
     or_less true h = refl
     or_less false h = less_compatible m (g u) (g' u) (more u) h
 
+-- with no less held, a front that was empty stays empty
 pub front_less : (most : ℕ) (g g' : Members) → ((u : ℕ) → is_at_least (g' u) (g u) ≡ true) → (q : List Waiter) → front most g q ≡ [] → front most g' q ≡ []
 front_less most g g' more [] h = refl
 front_less most g g' more (w ∷ q) h = split (fits most g' w.0 w.1) (λ e. absurd (no_cons (sym (ap (λ b. if b then w ∷ front most (with_mode g w.0 w.1) q else []) (fits_less g g' more w.0 w.1 (range_with_len 0 most) e)) ∙ h))) (λ e. ap (λ b. if b then w ∷ front most (with_mode g' w.0 w.1) q else []) e)
@@ -101,6 +105,7 @@ module _ (s : State) (law : IsLawful s) (t : ℕ) (n : NodeId) (m : Mode) (activ
   not_waiting : (q : NodeId) → is_waiting_at s t q ≡ true → ⊥
   not_waiting q h = true≢false (sym h ∙ ap (λ o. waits_at o q) active)
 
+  -- the fields of the law, one after the other
   pub with_grant-lawful : IsLawful (with_grant s t n m)
   with_grant-lawful = record {
     graph = law.graph;

@@ -22,6 +22,7 @@ use Rattle.gl_graph.proofs.Look.{split, or_left, or_right}
 use Rattle.gl_modes.proofs.NodeLemmas.{same_node-equal, same_node-refl}
 use Rattle.gl_modes.proofs.ModeLemmas.{at_least-refl, NL-compatible}
 
+-- a wait on n, with its mode
 pub waiting_is : (o : Option Status) (n : NodeId) → waits_at o n ≡ true → (m : Mode) × (o ≡ Some (Waiting n m))
 waiting_is None n h = clash h refl
 waiting_is (Some Active) n h = clash h refl
@@ -69,6 +70,7 @@ module _ (s : State) (law : IsLawful s) (held : ℕ → NodeId → Mode) (queue 
   holds_old : (u : ℕ) (q : NodeId) → not (same_mode (held u q) NL) ≡ true → not (same_mode (s.held u q) NL) ≡ true
   holds_old u q h = sym (ap (λ m. not (same_mode m NL)) (held_same u q h)) ∙ h
 
+  -- what stays keeps the law, each field by itself
   pub less-lawful : IsLawfulBut chosen less_state
   less-lawful = record {
     graph = law.graph;

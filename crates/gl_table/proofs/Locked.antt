@@ -52,25 +52,30 @@ may_lock s t n m first rest h =
 enters_fits : (s : State) (t : ℕ) (n : NodeId) (m : Mode) → enters_at s t n m ≡ true → fits s.most (members s n) t (wanted s t n m) ≡ true
 enters_fits s t n m h = (and_both _ _ h).0
 
+-- granted at once
 pub granted-lawful : (s : State) → IsLawful s → (t : TxnId) (n : NodeId) (m : Mode) → MayLock s t n m → enters_at s t.slot n m ≡ true → IsLawful (with_grant s t.slot n (wanted s t.slot n m))
 granted-lawful s law t n m may h =
     with_grant-lawful s law t.slot n (wanted s t.slot n m) may.active may.live (mode_fits s law t.slot n m may.not_bad).1 may.rule (supremum-above (s.held t.slot n) m) (enters_fits s t.slot n m h)
 
+-- placed in the queue
 pub waiting-lawful : (s : State) → IsLawful s → (t : TxnId) (n : NodeId) (m : Mode) → MayLock s t n m → enters_at s t.slot n m ≡ false → IsLawful (enqueued s t.slot n (wanted s t.slot n m))
 waiting-lawful s law t n m may h =
     let mode = mode_fits s law t.slot n m may.not_bad in
     enqueued-lawful s law t.slot n (wanted s t.slot n m) may.active may.live mode.1 may.rule (wanted_not_nl (s.held t.slot n) m mode.0) (supremum-above (s.held t.slot n) m) h
 
+-- and settled, at block
 pub wait_settles-lawful : (d : Detect) (s : State) (t : ℕ) (s' : State) → IsLawful s → WaitSettles d s t s' → IsLawful s'
 wait_settles-lawful AtBlock s t s' law h = settled-lawful s s' t law h
 wait_settles-lawful ByWatcher s t s' law h = subst IsLawful (sym h) law
 
+-- either way
 pub locks-lawful : (s s' : State) → IsLawful s → (t : TxnId) (n : NodeId) (m : Mode) → MayLock s t n m → Locks s t.slot n m s' → IsLawful s'
 locks-lawful s s' law t n m may h =
     split (enters_at s t.slot n m)
     (λ e. subst IsLawful (sym (h.at_once e)) (granted-lawful s law t n m may e))
     (λ e. wait_settles-lawful s.detect (enqueued s t.slot n (wanted s t.slot n m)) t.slot s' (waiting-lawful s law t n m may e) (h.waits e))
 
+-- no child is held, so no lock that stays loses a parent
 pub unlocked-less : (s : State) → IsLawful s → (t : ℕ) (n : NodeId) → status_of s t ≡ Some Active → held_child s t n ≡ None
     → IsLess s (λ u q. if (u == t) && same_node q n then NL else s.held u q) s.queue s.txns (same_node n)
 unlocked-less s law t n active childless =
@@ -78,6 +83,7 @@ unlocked-less s law t n active childless =
     (λ q p off h live child. not_true _ (λ e. no_child s law t n q childless live (ap (λ x. is_child s.graph x q) (sym (same_node-equal p n e)) ∙ child) h))
     (λ q off. same_node-sym q n ∙ off)
 
+-- and then the node grants from its front
 pub unlocked-lawful : (s : State) → IsLawful s → (t : ℕ) (n : NodeId) → status_of s t ≡ Some Active → held_child s t n ≡ None → IsLawful (pumped (with_grant s t n NL) (same_node n))
 unlocked-lawful s law t n active childless =
     pumped-lawful (with_grant s t n NL) (same_node n)

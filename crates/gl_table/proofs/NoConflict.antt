@@ -29,6 +29,7 @@ x_is w h = search rules
 pub ix_is : (w : Mode) → is_at_least w IX ≡ true → is_at_least w IS ≡ true
 ix_is w h = search rules
 
+-- where some pass one test and all another, one passes both
 pub any_all : (p q : NodeId → Bool) (ps : List NodeId) → list_any p ps ≡ true → list_all q ps ≡ true → (x : NodeId) × (p x ≡ true) × (q x ≡ true)
 any_all p q [] h k = absurd (true≢false (sym h))
 any_all p q (x ∷ xs) h k =
@@ -67,6 +68,7 @@ module _ (g : Graph) (ht hu : NodeId → Mode) (fit : (n : NodeId) → are_compa
       let found = any_all _ _ (parents_of g n) up (holds_all ht (parents_of g n) (ht n) w (rule_t n (ix_is _ w))) in
       none_read j found.0 found.1 found.2)
 
+  -- on the way up from the node the X of the one meets the S of the other, or an intention to write above it does
   pub no_conflict : (j k : ℕ) (n : NodeId) → eff_x k g ht n ≡ true → eff_s j g hu n ≡ true → ⊥
   no_conflict zero k n x s = none_held k n x (read_is _ s)
   no_conflict (suc j) zero n x s = none_read (suc j) n s (x_is _ x)
@@ -79,6 +81,7 @@ module _ (g : Graph) (ht hu : NodeId → Mode) (fit : (n : NodeId) → are_compa
 pub held_is : (m : Mode) → is_at_least m IS ≡ true → not (same_mode m NL) ≡ true
 held_is m h = search rules
 
+-- for every pair of slots
 pub no_conflict_law : NoConflictLaw
 no_conflict_law s law t u r c =
     no_conflict s.graph (s.held t) (s.held u) (λ n. law.compatible t u n c.differ)

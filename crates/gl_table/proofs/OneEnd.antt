@@ -30,6 +30,7 @@ settled_within_one (suc j) zero s a b t law h l = absurd (l.0 h.0 h.1.is_member)
 settled_within_one (suc j) (suc k) s a b t law h l =
     settled_within_one j k (condemned s h.0) a b t (condemned-lawful s law h.0) h.2 (subst (λ v. SettledWithin k (condemned s v) t b) (youngest_one s law t l.0 h.0 l.1 h.1) l.2)
 
+-- ages differ, so the youngest is one, turn by turn
 pub settled_one : (s a b : State) (t : ℕ) → IsLawful s → Settled s t a → Settled s t b → a ≡ b
 settled_one s a b t law h k = settled_within_one h.0 k.0 s a b t law h.1 k.1
 

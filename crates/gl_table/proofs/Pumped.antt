@@ -43,6 +43,7 @@ module _ (g : NodeId → List Waiter) (u : ℕ) where
       by true e k = absurd (cc)
       by false e k = let is : n ≡ q = cc in (k, ap (λ p. is_among_waiters u (g p)) (sym is) ∙ e)
 
+  -- who still waits was not granted
   pub woken_waits : (q : NodeId) (m : Mode) (x : Option Txn) → status_in (woken g u x) ≡ Some (Waiting q m) → (status_in x ≡ Some (Waiting q m)) × (is_among_waiters u (g q) ≡ false)
   woken_waits q m None h = absurd (cc)
   woken_waits q m (Some x) h = still q m x.status h
@@ -50,6 +51,7 @@ module _ (g : NodeId → List Waiter) (u : ℕ) where
   sleeps : (q : NodeId) (m : Mode) (st : Status) → Some st ≡ Some (Waiting q m) → is_among_waiters u (g q) ≡ false → Some (awake g u st) ≡ Some (Waiting q m)
   sleeps q m st h k = let is : st ≡ Waiting q m = cc in ap (λ x. Some (awake g u x)) is ∙ ap (λ b. Some (if b then Active else Waiting q m)) k
 
+  -- and who was not granted still waits
   pub woken_sleeps : (q : NodeId) (m : Mode) (x : Option Txn) → status_in x ≡ Some (Waiting q m) → is_among_waiters u (g q) ≡ false → status_in (woken g u x) ≡ Some (Waiting q m)
   woken_sleeps q m None h k = absurd (cc)
   woken_sleeps q m (Some x) h k = sleeps q m x.status h k
@@ -61,6 +63,7 @@ module _ (s : State) (chosen : NodeId → Bool) (law : IsLawfulBut chosen s) whe
   abbrev left : NodeId → List Waiter
   left q = drop (length (got q)) (s.queue q)
 
+  -- a queue is what is granted and what is left
   pub granted_rest : (q : NodeId) → got q ++ left q ≡ s.queue q
   granted_rest q = by (chosen q)
     where
@@ -77,6 +80,7 @@ module _ (s : State) (chosen : NodeId → Bool) (law : IsLawfulBut chosen s) whe
   pub wait_of : (u : ℕ) (q : NodeId) → is_among_waiters u (s.queue q) ≡ true → (m : Mode) × (status_of s u ≡ Some (Waiting q m))
   wait_of u q h = waiting_is (status_of s u) q (law.waits_are u q h)
 
+  -- who is granted stood once in the queue, so it is gone from what is left
   pub one_of : (u : ℕ) (q : NodeId) (m : Mode) → status_of s u ≡ Some (Waiting q m) → is_among_waiters u (got q) ≡ true → (filter (is_waiter u) (got q) ≡ (u, m) ∷ []) × (filter (is_waiter u) (left q) ≡ [])
   one_of u q m st h =
       one_in_first (filter (is_waiter u) (got q)) (filter (is_waiter u) (left q)) (u, m)
@@ -93,6 +97,7 @@ module _ (s : State) (chosen : NodeId → Bool) (law : IsLawfulBut chosen s) whe
       here st.0 st.1 h (grants_one (got q) (members s q) u st.0 one.0) (none_filtered u (left q) one.1))
       (λ h. there h (grants_other (got q) (members s q) u h))
 
+  -- nobody loses by it
   pub grew : (u : ℕ) (q : NodeId) → is_at_least ((pumped s chosen).held u q) (s.held u q) ≡ true
   grew u q = grant_case u q (λ m st h e out. ap (λ a. is_at_least a (s.held u q)) e ∙ (law.waits_intend u q m st).2) (λ h e. ap (λ a. is_at_least a (s.held u q)) e ∙ at_least-refl (s.held u q))
 
@@ -113,6 +118,7 @@ module _ (s : State) (chosen : NodeId → Bool) (law : IsLawfulBut chosen s) whe
       by true e = front-after_front s.most (members s q) (s.queue q)
       by false e = law.front_waits q e
 
+  -- the fields of the law: what was granted fits, what is left does not
   pub pumped-lawful : IsLawful (pumped s chosen)
   pumped-lawful = record {
     graph = law.graph;

@@ -16,6 +16,7 @@ same_slot t = grind (arith, nat_tests)
 pub slots_differ : (t u : ℕ) → u ≢ t → (t == u) ≡ false
 slots_differ t u ne = grind (arith, nat_tests)
 
+-- who is left is another
 pub out_of_without : (t u : ℕ) (q : List Waiter) → is_among_waiters u (without_waiter t q) ≡ true → (is_among_waiters u q ≡ true) × (u ≢ t)
 out_of_without t u [] h = clash h refl
 out_of_without t u (w ∷ q) h = by (w.0 == t) refl h (out_of_without t u q)
@@ -28,6 +29,7 @@ out_of_without t u (w ∷ q) h = by (w.0 == t) refl h (out_of_without t u q)
     by true e k r = let old = r k in (or_right (w.0 == u) _ old.0, old.1)
     by false e k r = or_elim (w.0 == u) _ k (λ f. (ap (λ x. x || is_among_waiters u q) f, differ e f)) (λ f. let old = r f in (or_right (w.0 == u) _ old.0, old.1))
 
+-- another's waits stay
 pub without_filter : (t u : ℕ) (q : List Waiter) → u ≢ t → filter (is_waiter u) (without_waiter t q) ≡ filter (is_waiter u) q
 without_filter t u [] ne = refl
 without_filter t u (w ∷ q) ne = by (w.0 == t) (w.0 == u) refl refl (without_filter t u q ne)
@@ -42,6 +44,7 @@ without_filter t u (w ∷ q) ne = by (w.0 == t) (w.0 == u) refl refl (without_fi
     by false true e f r = ap (λ b. if b then w ∷ filter (is_waiter u) (without_waiter t q) else filter (is_waiter u) (without_waiter t q)) f ∙ ap (λ l. w ∷ l) r
     by false false e f r = ap (λ b. if b then w ∷ filter (is_waiter u) (without_waiter t q) else filter (is_waiter u) (without_waiter t q)) f ∙ r
 
+-- and the order among the others
 pub without_ahead : (t a b : ℕ) (q : List Waiter) → ahead (without_waiter t q) a b ≡ true → ahead q a b ≡ true
 without_ahead t a b [] h = h
 without_ahead t a b (w ∷ q) h = by (w.0 == t) (w.0 == a) (w.0 == b) refl refl refl h (without_ahead t a b q) (λ k. (out_of_without t a q k).0) (λ k. (out_of_without t a q k).1)
@@ -115,6 +118,7 @@ none_kept p (w ∷ q) out =
 pub among_same : (u : ℕ) (a b : List Waiter) → filter (is_waiter u) a ≡ filter (is_waiter u) b → is_among_waiters u a ≡ true → is_among_waiters u b ≡ true
 among_same u a b e h = split (is_among_waiters u b) (λ k. k) (λ k. clash h (none_filtered u a (e ∙ not_among u b k)))
 
+-- another's waits stay
 pub placed_other : (g : Members) (q : List Waiter) (t u : ℕ) (m : Mode) → u ≢ t → filter (is_waiter u) (placed g q t m) ≡ filter (is_waiter u) q
 placed_other g q t u m ne = by (holds g t)
   where
@@ -125,6 +129,7 @@ placed_other g q t u m ne = by (holds g t)
     by true = filter-append (is_waiter u) (filter (λ w. holds g w.0) q) ((t, m) ∷ filter (λ w. not (holds g w.0)) q) ∙ ap (λ l. filter (is_waiter u) (filter (λ w. holds g w.0) q) ++ l) (skip (filter (λ w. not (holds g w.0)) q)) ∙ keep_parts (holds g) u q
     by false = filter-append (is_waiter u) q ((t, m) ∷ []) ∙ ap (λ l. filter (is_waiter u) q ++ l) (skip []) ∙ append-nil (filter (is_waiter u) q)
 
+-- t stands there once, with its mode
 pub placed_self : (g : Members) (q : List Waiter) (t : ℕ) (m : Mode) → is_among_waiters t q ≡ false → filter (is_waiter t) (placed g q t m) ≡ (t, m) ∷ []
 placed_self g q t m out = by (holds g t)
   where
@@ -158,6 +163,7 @@ holders_then p r a b (w ∷ q) rest h = by (p w.0) (w.0 == a) (w.0 == b) refl re
         f (sym (ap (λ z. if z then is_among_waiters a (filter (λ v. p v.0) q ++ r) else ahead (filter (λ v. p v.0) q ++ r) a b) ez) ∙ both.1)
     by false y z ex ez k f = f k
 
+-- the order within a first part is the order of the whole
 pub ahead_within : (a b : ℕ) (r q : List Waiter) → is_among_waiters a q ≡ true → ahead (q ++ r) a b ≡ true → ahead q a b ≡ true
 ahead_within a b r [] here h = clash here refl
 ahead_within a b r (w ∷ q) here h = by (w.0 == a) (w.0 == b) here h (ahead_within a b r q)
@@ -168,6 +174,7 @@ ahead_within a b r (w ∷ q) here h = by (w.0 == a) (w.0 == b) here h (ahead_wit
     by false true k l f = k
     by false false k l f = f k l
 
+-- holders stay ahead of newcomers
 pub placed_order : (g : Members) (q : List Waiter) (t : ℕ) (m : Mode) → HoldersFirst g q → HoldersFirst g (placed g q t m)
 placed_order g q t m sorted a b ha h = by (holds g t) refl h
   where
@@ -197,6 +204,7 @@ front_head most g w q r h = by (fits most g w.0 w.1) h
 front_none : (most : ℕ) (g : Members) (t : ℕ) (m : Mode) (r : List Waiter) → fits most g t m ≡ false → front most g ((t, m) ∷ r) ≡ []
 front_none most g t m r h = ap (λ b. if b then (t, m) ∷ front most (with_mode g t m) r else []) h
 
+-- the head of the queue is as before, or is what does not fit
 pub placed_front : (most : ℕ) (g : Members) (q : List Waiter) (t : ℕ) (m : Mode) → HoldersFirst g q → front most g q ≡ [] → enters most g q t m ≡ false → front most g (placed g q t m) ≡ []
 placed_front most g q t m sorted before out = by (holds g t) refl out
   where

@@ -14,6 +14,7 @@ abbrev pub ahead : List Waiter → ℕ → ℕ → Bool
 ahead [] t u = false
 ahead (w ∷ q) t u = not (w.0 == t) && (if w.0 == u then is_among_waiters t q else ahead q t u)
 
+-- the definition of ahead as a recursion
 pub ahead_is : (q : List Waiter) (t u : ℕ) → is_ahead q t u ≡ ahead q t u
 ahead_is [] t u = refl
 ahead_is (w ∷ q) t u = by (w.0 == t) (w.0 == u) (is_among_waiters t q) refl (ahead_is q t u)
@@ -21,12 +22,14 @@ ahead_is (w ∷ q) t u = by (w.0 == t) (w.0 == u) (is_among_waiters t q) refl (a
     by : (a b c : Bool) → is_among_waiters t q ≡ c → (is_among_waiters t q && is_among_waiters u (before_first (is_waiter t) q)) ≡ ahead q t u → is_ahead (w ∷ q) t u ≡ ahead (w ∷ q) t u
     by a b c e h = grind (arith, nat_tests)
 
+-- a test passes and fails
 pub clash : {C : Type 0} {b : Bool} → b ≡ true → b ≡ false → C
 clash h k = absurd (true≢false (sym h ∙ k))
 
 pub no_cons : {A C : Type 0} {x : A} {xs : List A} → x ∷ xs ≡ [] → C
 no_cons e = absurd (cc)
 
+-- who is in one of two parts is in the whole
 pub among_append : (t : ℕ) (a b : List Waiter) → is_among_waiters t (a ++ b) ≡ (is_among_waiters t a || is_among_waiters t b)
 among_append t a b = list_any-append (is_waiter t) a b
 
@@ -35,6 +38,7 @@ pub among_by_filter : (t : ℕ) (w : Waiter) (ws q : List Waiter) → filter (is
 among_by_filter t w ws [] h = absurd (no_cons (sym h))
 among_by_filter t w ws (v ∷ q) h = split (v.0 == t) (λ e. or_left _ _ e) (λ e. or_right (v.0 == t) _ (among_by_filter t w ws q (sym (ap (λ b. if b then v ∷ filter (is_waiter t) q else filter (is_waiter t) q) e) ∙ h)))
 
+-- who does not wait there has no waits there
 pub not_among : (t : ℕ) (q : List Waiter) → is_among_waiters t q ≡ false → filter (is_waiter t) q ≡ []
 not_among t [] h = refl
 not_among t (v ∷ q) h = by (v.0 == t) (is_among_waiters t q) refl refl (not_among t q) h
@@ -92,6 +96,7 @@ ahead_first (w ∷ q) t u h = by (w.0 == t) (w.0 == u) (is_among_waiters t q) h 
     by false true d k r = k
     by false false d k r = r k
 
+-- who stands ahead waits
 pub ahead_second : (q : List Waiter) (t u : ℕ) → ahead q t u ≡ true → is_among_waiters u q ≡ true
 ahead_second [] t u h = clash h refl
 ahead_second (w ∷ q) t u h = by (w.0 == t) (w.0 == u) h (ahead_second q t u)
@@ -126,6 +131,7 @@ grants_other (w ∷ ws) g t h =
     other : (w.0 == t) ≡ false → (if t == w.0 then w.1 else g t) ≡ g t
     other k = grind (arith, nat_tests)
 
+-- one grant to a slot is what it then holds
 pub grants_one : (ws : List Waiter) (g : Members) (t : ℕ) (m : Mode) → filter (is_waiter t) ws ≡ (t, m) ∷ [] → after_grants g ws t ≡ m
 grants_one [] g t m h = no_cons (sym h)
 grants_one (w ∷ ws) g t m h = by (w.0 == t) refl h (λ g'. grants_one ws g' t m)

@@ -71,6 +71,7 @@ module _ (p q : ℕ → Bool) (sub : (u : ℕ) → q u ≡ true → p u ≡ true
 abbrev pub waiting : State → ℕ → Bool
 waiting s u = is_wait (status_of s u)
 
+-- a wait has a node and a mode
 pub wait_is : (o : Option Status) → is_wait o ≡ true → (n : NodeId) × (m : Mode) × (o ≡ Some (Waiting n m))
 wait_is None h = clash h refl
 wait_is (Some Active) h = clash h refl
@@ -152,6 +153,7 @@ settles_within (suc k) s law t le =
 abbrev pub settled : State → ℕ → State
 settled s t = settled_by (tally (waiting s) (slots s)) s t
 
+-- so many turns are enough
 pub settles : (s : State) → IsLawful s → (t : ℕ) → Settled s t (settled s t)
 settles s law t = settles_within (tally (waiting s) (slots s)) s law t (omega arith)
 
@@ -160,6 +162,7 @@ abbrev pub waited : Detect → State → ℕ → State
 waited AtBlock s t = settled s t
 waited ByWatcher s t = s
 
+-- what a lock leaves
 abbrev pub locked : State → ℕ → NodeId → Mode → State
 locked s t n m = if enters_at s t n m then with_grant s t n (wanted s t n m) else waited s.detect (enqueued s t n (wanted s t n m)) t
 

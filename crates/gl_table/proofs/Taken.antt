@@ -27,6 +27,7 @@ use Rattle.gl_graph.proofs.Unrefused.{or_no}
 module _ (s : State) (law : IsLawful s) (t : ℕ) (gone chosen : NodeId → Bool) (active : status_of s t ≡ Some Active)
     (free : (q p : NodeId) → gone q ≡ false → holds (members s q) t ≡ true → is_live s.graph q ≡ true → is_child s.graph p q ≡ true → gone p ≡ false)
     (all_chosen : (q : NodeId) → chosen q ≡ false → gone q ≡ false) where
+  -- grants of t on some nodes are gone
   abbrev pub held_but : ℕ → NodeId → Mode
   held_but u q = if (u == t) && gone q then NL else s.held u q
 
@@ -77,6 +78,7 @@ module _ (s : State) (law : IsLawful s) (t : ℕ) (held : ℕ → NodeId → Mod
   at_own : (u : ℕ) (q : NodeId) → u ≡ t → held t q ≡ s.held t q → held u q ≡ s.held u q
   at_own u q is e = ap (λ v. held v q) is ∙ e ∙ sym (ap (λ v. s.held v q) is)
 
+  -- a wait is gone, and its transaction waits nowhere
   pub out-less : IsLess s held (λ n. without_waiter t (s.queue n)) txns_but chosen
   out-less = record {
     kept = λ u q. txn_case u (λ is _. ⊎_elim (λ f. inl (ap (λ v. held v q) is ∙ f q)) (λ f. inr (at_own u q is (f.0 q))) own) (λ ne _. inr (others u q ne));
@@ -126,9 +128,11 @@ without_wait-lawful s law t st quiet =
     pumped-lawful (without_wait s t st) (is_waiting_at s t)
     (less-lawful s law s.held (λ n. without_waiter t (s.queue n)) (λ u. if u == t then restatus st (s.txns t) else s.txns u) (is_waiting_at s t) (without_wait-less s law t st quiet))
 
+-- a wait taken out and its node pumped
 pub condemned-lawful : (s : State) → IsLawful s → (t : ℕ) → IsLawful (condemned s t)
 condemned-lawful s law t = without_wait-lawful s law t Condemned (λ q m h. cc)
 
+-- turn by turn
 pub settled_within-lawful : (k : ℕ) (s s' : State) (t : ℕ) → IsLawful s → SettledWithin k s t s' → IsLawful s'
 settled_within-lawful zero s s' t law h = subst IsLawful (sym h.1) law
 settled_within-lawful (suc k) s s' t law h = settled_within-lawful k (condemned s h.0) s' t (condemned-lawful s law h.0) h.2
@@ -140,6 +144,7 @@ settled-lawful s s' t law h = settled_within-lawful h.0 s s' t law h.1
 abbrev pub at_all : State → ℕ → NodeId → Bool
 at_all s t n = holds (members s n) t || is_waiting_at s t n
 
+-- all of t is gone
 pub released-less : (s : State) → IsLawful s → (t : ℕ) → IsLess s (λ u n. if u == t then NL else s.held u n) (λ n. without_waiter t (s.queue n)) (λ u. if u == t then None else s.txns u) (at_all s t)
 released-less s law t =
     out-less s law t (λ u n. if u == t then NL else s.held u n) None (at_all s t)

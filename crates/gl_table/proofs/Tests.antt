@@ -61,6 +61,7 @@ wanted_not_nl a m h e = clash (ap (λ x. same_mode x NL) e) (supremum-not_NL a m
 record_modes : (a m : Mode) → (same_mode a S || same_mode a X) ≡ true → (same_mode m S || same_mode m X) ≡ true → (same_mode (supremum a m) S || same_mode (supremum a m) X) ≡ true
 record_modes a m h k = search rules
 
+-- the wanted mode fits the kind, as the held and the asked one do
 pub mode_fits : (s : State) → IsLawful s → (t : ℕ) (n : NodeId) (m : Mode) → bad_mode s n m ≡ None → (same_mode m NL ≡ false) × ModeFitsKind s n (wanted s t n m)
 mode_fits s law t n m h =
     let both = or_no _ _ (test_fails _ _ h) in (
@@ -81,6 +82,7 @@ all_ix held (p ∷ ps) h = by (is_at_least (held p) IX) refl h (all_ix held ps)
     by true e k r = ap₂ (λ a b. a && b) e (r k)
     by false e k r = no_some k
 
+-- no refusal by the rule of the graph means that it is met
 pub rule_met : (held : NodeId → Mode) (ps : List NodeId) (m : Mode) → cond (intends_over held ps m) None (cond (is_write m) (first_not_ix held ps) (first_of_all ps)) ≡ None → intends_over held ps m ≡ true
 rule_met held ps m h = by (intends_over held ps m) (is_write m) refl refl h
   where
@@ -102,10 +104,12 @@ none_found f q (x ∷ xs) h k = by (f x) refl h (none_found f q xs)
     by true e l r = no_some l
     by false e l r = or_elim _ _ k (λ here. ap f (same_node-equal q x here) ∙ e) (λ there. r l there)
 
+-- one that is listed and passes is found
 pub one_found : (f : NodeId → Bool) (q : NodeId) (xs : List NodeId) → f q ≡ true → list_any (same_node q) xs ≡ true → list_any f xs ≡ true
 one_found f q [] h k = k
 one_found f q (x ∷ xs) h k = or_elim _ _ k (λ here. or_left _ _ (ap f (sym (same_node-equal q x here)) ∙ h)) (λ there. or_right (f x) _ (one_found f q xs h there))
 
+-- no child was found, so none is held
 pub no_child : (s : State) → IsLawful s → (t : ℕ) (n q : NodeId) → held_child s t n ≡ None → is_live s.graph q ≡ true → is_child s.graph n q ≡ true → holds (members s q) t ≡ true → ⊥
 no_child s law t n q h live child held =
     clash (ap₂ (λ a b. a && b) child held) (none_found (λ c. is_child s.graph n c && holds (members s c) t) q (nodes s.graph) h (listed s.graph law.graph q live))

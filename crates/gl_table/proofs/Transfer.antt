@@ -47,12 +47,15 @@ module _ (g g' : Graph) (h : NodeId → Mode) (changed : NodeId → Bool) (step 
       split (changed n) (λ e. absurd (never n (p ∷ way) e live route))
       (λ e. let up : list_any (same_node p) (parents_of g n) ≡ true = ap (list_any (same_node p)) (sym (same_parents n e)) ∙ route.0 in (up, back p m way (parents_live n p up) route.1 never))
 
+  -- a route to what is read cannot pass a changed node, since the node would be read
   pub reads_carry : (n : NodeId) → ReadOn g h n → ReadOn g' h n
   reads_carry n r = (r.0, r.1, carry n r.0 r.1 r.2 (λ c pre e route. step.before c e (r.0, pre, route, r.3)), r.3)
 
+  -- nor after the change
   pub reads_back : (n : NodeId) → is_live g n ≡ true → ReadOn g' h n → ReadOn g h n
   reads_back n live r = (r.0, r.1, back n r.0 r.1 live r.2 (λ c pre e on route. step.after c e on (r.0, pre, route, r.3)), r.3)
 
+  -- an effective X below is an effective S, so the node is not a changed one
   pub x_carry : (k : ℕ) (n : NodeId) → eff_x k g h n ≡ true → eff_x k g' h n ≡ true
   x_carry zero n x = x
   x_carry (suc k) n x =
@@ -62,6 +65,7 @@ module _ (g g' : Graph) (h : NodeId → Mode) (changed : NodeId → Bool) (step 
       ap (λ b. same_mode (h n) X || b) (ap₂ (λ a b. a && b) (ap (λ ps. not (no_parents ps)) (same_parents n e) ∙ both.0)
       (ap (list_all (eff_x k g' h)) (same_parents n e) ∙ all_from (eff_x k g' h) (parents_of g n) (λ p on. x_carry k p (all_at (eff_x k g h) (parents_of g n) p on both.1)))) ∙ or_true _))
 
+  -- the same, back
   pub x_back : (k : ℕ) (n : NodeId) → is_live g n ≡ true → eff_x k g' h n ≡ true → eff_x k g h n ≡ true
   x_back zero n live x = x
   x_back (suc k) n live x =
@@ -72,6 +76,7 @@ module _ (g g' : Graph) (h : NodeId → Mode) (changed : NodeId → Bool) (step 
       ap (λ b. same_mode (h n) X || b) (ap₂ (λ a b. a && b) (ap (λ ps. not (no_parents ps)) (sym (same_parents n e)) ∙ both.0)
       (all_from (eff_x k g h) (parents_of g n) (λ p on. x_back k p (parents_live n p on) (all_at (eff_x k g' h) (parents_of g n) p on all)))) ∙ or_true _))
 
+  -- what lies below a node that is read is read, so it did not change
   pub below_same : (n : NodeId) → ReadOn g h n → SameBelow g g' n
   below_same n r = record {
     kept = λ c below.

@@ -33,6 +33,7 @@ among_waits t (w ∷ q) = by (is_waiter t w) (among_waits t q)
     by true e = refl
     by false e = e
 
+-- who does not wait there has no waits there
 pub none_of_absent : (t : ℕ) (q : List Waiter) → (is_among_waiters t q ≡ true → ⊥) → waits_of t q ≡ []
 none_of_absent t q absent = by (waits_of t q) (λ h. absent (among_waits t q ∙ h))
   where
@@ -57,6 +58,7 @@ with_mode_here g t w e = let same : (t == w.0) ≡ true = grind (arith, nat_test
 with_mode_there : (g : Members) (t : ℕ) (w : Waiter) → is_waiter t w ≡ false → with_mode g w.0 w.1 t ≡ g t
 with_mode_there g t w e = let other : (t == w.0) ≡ false = grind (arith, nat_tests) in ap (λ b. if b then w.1 else g t) other
 
+-- a slot holds what it was granted last, or what it held
 pub granted_mode : (g : Members) (t : ℕ) (ws : List Waiter) → after_grants g ws t ≡ last_mode (g t) (waits_of t ws)
 granted_mode g t [] = refl
 granted_mode g t (w ∷ ws) =
@@ -67,6 +69,7 @@ granted_mode g t (w ∷ ws) =
     by true f h = ap (λ m. last_mode m (waits_of t ws)) (f refl)
     by false f h = ap (λ m. last_mode m (waits_of t ws)) (h refl)
 
+-- one wait stands in the one part or in the other
 pub split_one : (xs ys : List Waiter) (w : Waiter) → xs ++ ys ≡ w ∷ [] → ((xs ≡ []) × (ys ≡ w ∷ [])) ⊎ ((xs ≡ w ∷ []) × (ys ≡ []))
 split_one [] ys w e = inl (refl, e)
 split_one (x ∷ []) [] w e = inr (e, refl)
@@ -91,6 +94,7 @@ kept_waits t p (w ∷ q) all = by (p w) (is_waiter t w) refl (all w) (kept_waits
     by false true here f e = absurd (true≢false (sym (f here)))
     by false false here f e = e
 
+-- a wait that a filter drops is gone
 pub gone_waits : (t : ℕ) (p : Waiter → Bool) (q : List Waiter) → ((w : Waiter) → is_waiter t w ≡ true → p w ≡ false) → waits_of t (filter p q) ≡ []
 gone_waits t p [] none = refl
 gone_waits t p (w ∷ q) none = by (p w) (is_waiter t w) refl (none w) (gone_waits t p q none)
