@@ -33,7 +33,7 @@ use Rattle.gl_catalog.proofs.MakeKeeps.{nobody_holds}
 use Rattle.gl_graph.proofs.Unrefused.{not_refused, or_no}
 use Rattle.gl_catalog.proofs.EachStep.{each_step}
 use Rattle.gl_catalog.proofs.Keeps.{effect_refl, x_more, read_more}
-use Rattle.gl_catalog.proofs.Refusals.{active_is}
+use Rattle.gl_catalog.proofs.NotRefused.{active_is}
 use Rattle.gl_modes.proofs.ModeLemmas.{at_least-refl, supremum-above}
 use Rattle.gl_table.proofs.Edges.{not_is}
 use Rattle.gl_table.proofs.Effects.{eff_s_route, read_on_eff}

@@ -27,7 +27,7 @@ use Rattle.gl_table.proofs.Follows.{SameGrants}
 use Rattle.gl_catalog.proofs.OtherChanges.{with_grant_same}
 use Rattle.gl_catalog.proofs.Made.{made, next_id}
 use Rattle.gl_catalog.proofs.Keeps.{Keeps, keeps_graph}
-use Rattle.gl_catalog.proofs.StepTests.{OnParents, given_some, record_has_parents}
+use Rattle.gl_catalog.proofs.NotRefused.{OnParents, given_some, record_has_parents}
 use Rattle.gl_catalog.proofs.GraphChanges.{quiet_under, x_here, x_on_parents, beside_x, is_new, no_records, born_births, born_old, born_step, born_step_records, unborn_shape, KeepsKey, changed_at, changed_here, changed_births, changed_old, changed_step, gone_keeps, rekeyed_keeps, reparented_keeps, rekeyed_parents_in, reparented_parents_in}
 use Rattle.gl_graph.proofs.Look.{split, and_both}
 use Rattle.gl_modes.proofs.NodeLemmas.{same_node-equal}

@@ -14,9 +14,7 @@ pub mod NoCycle
 pub mod OneStep
 pub mod OtherChanges
 pub mod OthersKeep
-pub mod Refusals
 pub mod StepNoCycle
-pub mod StepTests
 pub mod ToldGrants
 pub mod Play
 pub mod PlayIsStep
@@ -31,3 +29,5 @@ pub mod KeepsLaw
 pub mod LockCommands
 pub mod StepsKeepLaw
 pub mod Detection
+pub mod NotRefused
+pub mod OneOutcome

@@ -30,7 +30,7 @@ use Rattle.gl_graph.proofs.NewIndex.{index_lawful}
 use Rattle.gl_table.proofs.GrantKeeps.{nl_is, with_grant-lawful}
 use Rattle.gl_graph.proofs.Unrefused.{not_refused, test_fails, not_false, enough_room, parents_unrefused, index_unrefused}
 use Rattle.gl_catalog.proofs.Made.{made, next_id, made_is, indexed_is, inserted_is}
-use Rattle.gl_catalog.proofs.Refusals.{active_is}
+use Rattle.gl_catalog.proofs.NotRefused.{active_is}
 use Rattle.gl_table.proofs.Tests.{all_ix}
 
 -- what a filter leaves passes its test

@@ -24,7 +24,7 @@ use Rattle.gl_graph.proofs.Changed.{IsAlike, at_here, at_other, nodes_same, live
 use Rattle.gl_graph.proofs.Moved.{movable_alike, rec_alike, with_parents_is, rekeyed_is, move_lawful, rekey_lawful, file_of_record}
 use Rattle.gl_catalog.proofs.MoveKeeps.{moved_lawful}
 use Rattle.gl_graph.proofs.Unrefused.{not_refused, test_fails, not_false, or_no, inner_parents, no_cycle}
-use Rattle.gl_catalog.proofs.Refusals.{active_is, some_parents, may_move, HoldsNode, HoldsParents}
+use Rattle.gl_catalog.proofs.NotRefused.{active_is, some_parents, may_move, HoldsNode, HoldsParents}
 
 -- what no refusal of a move says: a node with the same key, alike, and the mover may change its parents
 pub record Moves (s : State) (t : ℕ) (n : NodeId) (was is : Node) (g' : Graph) : Type 0 where

@@ -22,7 +22,7 @@ use Rattle.gl_graph.proofs.Look.{split, no, and_both, or_elim, same_number, numb
 use Rattle.gl_table.proofs.NoConflict.{x_blocks, any_all, holds_one, x_is}
 use Rattle.gl_header.proofs.Ranges.{range-each}
 use Rattle.gl_table.proofs.GrantKeeps.{txn_there, apart}
-use Rattle.gl_catalog.proofs.Refusals.{HoldsNode, HoldsParents}
+use Rattle.gl_catalog.proofs.NotRefused.{HoldsNode, HoldsParents}
 use Rattle.gl_table.proofs.Waiting.{filter_yes, any_left, one_stays, one_left, unless_some, unless_age, unless_waits, waits_unless}
 use Rattle.gl_catalog.proofs.GraphChanges.{beside_x}
 use Rattle.gl_table.proofs.Less.{waiting_is}

@@ -18,7 +18,7 @@ use Rattle.gl_table.specs.Refusals.{no_txn}
 use Rattle.gl_catalog.specs.Promises.{names, same_txn}
 use Rattle.gl_catalog.proofs.Keeps.{Keeps}
 use Rattle.gl_catalog.proofs.Made.{made_is, indexed_is, inserted_is}
-use Rattle.gl_catalog.proofs.StepTests.{txn_lives, nodes_live, differ, exclusive}
+use Rattle.gl_catalog.proofs.NotRefused.{txn_lives, nodes_live, differ, exclusive}
 use Rattle.gl_catalog.proofs.GrantCommands.{lock_keeps, try_keeps, unlock_keeps, escalate_keeps, cancel_keeps, release_keeps, settle_keeps, begin_keeps, same_keeps}
 use Rattle.gl_catalog.proofs.GraphCommands.{inner_keeps, file_keeps, index_keeps, insert_keeps, delete_keeps, rekey_keeps, move_keeps}
 use Rattle.gl_graph.proofs.Look.{and_both}

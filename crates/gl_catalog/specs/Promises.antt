@@ -10,7 +10,8 @@ use Rattle.gl_modes.specs.declared.node.NodeId.{NodeId}
 use Rattle.gl_table.specs.declared.detect.Detect.TheVariants.{AtBlock}
 use Rattle.gl_table.specs.declared.notice.Notice.TheVariants as notice
 use Rattle.gl_catalog.specs.declared.command.Command.TheVariants as command
-use Rattle.gl_catalog.specs.Step.{Run, Step}
+use Rattle.gl_catalog.specs.Tests.{refusal_of}
+use Rattle.gl_catalog.specs.Step.{Goes, Run, Step}
 use Rattle.gl_graph.specs.Graph.{is_live, shape_of}
 use Rattle.gl_graph.specs.Shapes.{is_record_shape}
 use Rattle.gl_table.specs.Effects.{EffS, effective, is_at_least_effect}
@@ -103,3 +104,17 @@ EscalateLowersNone = (t : TxnId) (n : NodeId) → LowersNone t.slot (command.Esc
 -- in a lawful state there is a step for every command, so what is said of steps is never said of nothing
 abbrev pub AlwaysAnswers : Type 0
 AlwaysAnswers = (s : State) (c : Command) → IsLawful s → (a : Answer) × (told : Told) × (s' : State) × Step s c a told s'
+
+-- a command that makes a node, whose key may be any that is free
+abbrev pub makes_node : Command → Bool
+makes_node (command.Inner ps) = true
+makes_node (command.File ps) = true
+makes_node (command.Index ps f bs) = true
+makes_node (command.Insert t f keys) = true
+makes_node c = false
+
+-- in a lawful state a command that makes no node has one answer, one list of notices and one state, want of memory aside
+abbrev pub OneOutcome : Type 0
+OneOutcome =
+    (s s₁ s₂ : State) (c : Command) (a₁ a₂ : Answer) (told₁ told₂ : Told) → IsLawful s → makes_node c ≡ false → Goes s c (refusal_of s c) a₁ told₁ s₁ → Goes s c (refusal_of s c) a₂ told₂ s₂
+    → (a₁ ≡ a₂) × (told₁ ≡ told₂) × (s₁ ≡ s₂)

@@ -1,7 +1,7 @@
 //! The laws of all commands, each the contract of a call that does nothing.
 
 ghost use Rattle.gl_table.specs.Laws.{EmptyIsLawful, EmptyHasNoCycle};
-ghost use Rattle.gl_catalog.specs.Promises.{AlwaysAnswers, EscalateLowersNone, MoveKeepsMover, OthersKeepBelow, OthersKeepEffects, RekeyKeepsMover, RunsKeepLaw, RunsKeepNoCycle, StepsKeepLaw};
+ghost use Rattle.gl_catalog.specs.Promises.{AlwaysAnswers, EscalateLowersNone, MoveKeepsMover, OneOutcome, OthersKeepBelow, OthersKeepEffects, RekeyKeepsMover, RunsKeepLaw, RunsKeepNoCycle, StepsKeepLaw};
 
 /// Each step of each command keeps the law; so does each run, and the empty state meets it.
 pub fn steps_keep_law()
@@ -38,4 +38,9 @@ pub fn mover_keeps_effects()
 /// In a lawful state there is a step for every command, so no law of steps is empty.
 pub fn always_answers()
     ensures { AlwaysAnswers }
+{}
+
+/// In a lawful state a command that makes no node has one outcome, want of memory aside.
+pub fn one_outcome()
+    ensures { OneOutcome }
 {}
