@@ -1,21 +1,34 @@
+-- steps
+pub mod EachStep
+pub mod Made
+pub mod NotRefused
+-- every command keeps the law
+pub mod KeepsLaw
+pub mod LockCommands
+pub mod MakeKeeps
 pub mod DeleteKeeps
-pub mod EscalateEffects
+pub mod MoveKeeps
+pub mod MoveCommands
+pub mod StepsKeepLaw
+-- no command makes a circle of waits
+pub mod Detection
+pub mod NewEdges
+pub mod NoCycle
+pub mod StepNoCycle
+-- what others cannot do to a holder
+pub mod OtherChanges
+pub mod ToldGrants
+pub mod Keeps
 pub mod GrantCommands
 pub mod GraphChanges
 pub mod GraphCommands
-pub mod Keeps
-pub mod Made
-pub mod MakeKeeps
-pub mod MoveCommands
-pub mod MoveKeeps
-pub mod MoverEffects
-pub mod NewEdges
-pub mod NoCycle
 pub mod OneStep
-pub mod OtherChanges
 pub mod OthersKeep
-pub mod StepNoCycle
-pub mod ToldGrants
+-- what a mover's own commands leave it
+pub mod MoverEffects
+pub mod EscalateEffects
+-- the model as a program, and rows that it computes
+pub mod OneOutcome
 pub mod Play
 pub mod PlayIsStep
 pub mod RowWords
@@ -24,10 +37,3 @@ mod RecordRows
 mod MoveRows
 mod RefusalRows
 mod Limits
-pub mod EachStep
-pub mod KeepsLaw
-pub mod LockCommands
-pub mod StepsKeepLaw
-pub mod Detection
-pub mod NotRefused
-pub mod OneOutcome

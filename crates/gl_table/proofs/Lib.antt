@@ -1,25 +1,30 @@
-pub mod Chains
-pub mod CutSet
-pub mod Edges
-pub mod Effects
-pub mod Empty
-pub mod Enqueued
-pub mod Escalates
-pub mod Follows
-pub mod GrantKeeps
-pub mod LawfulBut
-pub mod NoConflict
-pub mod Less
-pub mod Locked
-pub mod OneEnd
-pub mod Pumped
-pub mod Pumps
-pub mod QueueEdits
+-- lists of waiters, and who waits for whom
 pub mod Queues
-pub mod Settles
-pub mod Taken
-pub mod Tests
-pub mod Transfer
+pub mod QueueEdits
 pub mod Waiters
 pub mod Waiting
 pub mod Walks
+pub mod Edges
+-- effective modes
+pub mod NoConflict
+pub mod CutSet
+pub mod Effects
+pub mod Transfer
+-- what changes keep of the law
+pub mod Empty
+pub mod LawfulBut
+pub mod GrantKeeps
+pub mod Pumps
+pub mod Pumped
+pub mod Less
+pub mod Taken
+pub mod Enqueued
+pub mod Tests
+pub mod Escalates
+pub mod Locked
+-- what changes leave to one slot
+pub mod Follows
+-- settling, and where chains of waits end
+pub mod Settles
+pub mod OneEnd
+pub mod Chains
