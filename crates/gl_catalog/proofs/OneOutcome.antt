@@ -1,5 +1,5 @@
 -- In a lawful state a command that makes no node has one outcome, since settling ends in one state and all else is an equation.
-use Rattle.std.specs.Prelude.{◌≡◌, ◌+◌, ℕ, [], true, false, Option, Some, None}
+use Rattle.std.specs.Prelude.{◌≡◌, ◌+◌, ℕ, [], false, Option, Some, None}
 use Rattle.std.proofs.Common.{refl, sym, ap, ◌∙◌}
 use mathlib.Core.Bool.{true≢false}
 use Rattle.gl_modes.specs.declared.refusal.Refusal.{Refusal}
@@ -10,9 +10,8 @@ use Rattle.gl_catalog.specs.declared.command.Answer.TheVariants as answer
 use Rattle.gl_catalog.specs.declared.command.Command.{Command}
 use Rattle.gl_catalog.specs.declared.command.Command.TheVariants as command
 use Rattle.gl_table.specs.State.{State, status_of}
-use Rattle.gl_table.specs.Calls.{Locks, WaitSettles, begun, enqueued, enters_at, wanted}
+use Rattle.gl_table.specs.Calls.{WaitSettles, begun, enqueued, enters_at, wanted}
 use Rattle.gl_table.specs.Lawful.{IsLawful}
-use Rattle.gl_table.specs.Refusals.{bad_mode}
 use Rattle.gl_table.specs.Tellings.{Told, told, told_but}
 use Rattle.gl_catalog.specs.Tests.{refusal_of, worn}
 use Rattle.gl_catalog.specs.Step.{Accepts, Answers, Goes, lock_answer, query_answer}

@@ -1,11 +1,9 @@
 -- The model as a program: what a state answers to a command, and what is left. A new node gets the least key above all others, and settling takes as many turns as there are that wait.
-use Rattle.std.specs.Prelude.{ℕ, zero, suc, ◌+◌, ◌-◌, nat_le, List, [], ◌∷◌, length, Option, Some, None, if◌then◌else◌, is_none}
-use Rattle.std.specs.List.{find, range_with_len}
-use Rattle.gl_modes.specs.declared.mode.Mode.TheVariants.{NL, X}
+use Rattle.std.specs.Prelude.{ℕ, zero, suc, ◌+◌, ◌-◌, nat_le, List, [], ◌∷◌, length, Option, Some, None, if◌then◌else◌}
+use Rattle.std.specs.List.{range_with_len}
+use Rattle.gl_modes.specs.declared.mode.Mode.TheVariants.{X}
 use Rattle.gl_modes.specs.declared.node.NodeId.{NodeId}
 use Rattle.gl_modes.specs.declared.refusal.Refusal.{Refusal}
-use Rattle.gl_modes.specs.Nodes.{same_node}
-use Rattle.gl_table.specs.declared.txn.Status.TheVariants.{Active}
 use Rattle.gl_catalog.specs.declared.command.Answer.{Answer}
 use Rattle.gl_catalog.specs.declared.command.Answer.TheVariants as answer
 use Rattle.gl_catalog.specs.declared.command.Command.{Command}
@@ -13,10 +11,9 @@ use Rattle.gl_catalog.specs.declared.command.Command.TheVariants as command
 use Rattle.gl_graph.specs.Shapes.{Shape, Inner, File, Rec}
 use Rattle.gl_graph.specs.Graph.{Node, record_parents}
 use Rattle.gl_graph.specs.Changes.{born_index, rekeyed, rekeyed_parents, with_parents}
-use Rattle.gl_table.specs.State.{State, slots, status_of, with_grant, with_graph}
+use Rattle.gl_table.specs.State.{State, status_of, with_grant, with_graph}
 use Rattle.gl_table.specs.Calls.{accepted_once, begun, cancelled, deleted, free_slot, granted, unlocked, moved_to, raised, released, shed, wanted}
 use Rattle.gl_table.specs.Covered.{covered_children, held_children}
-use Rattle.gl_table.specs.Pumps.{is_waiting_at, pumped, without_wait}
 use Rattle.gl_table.specs.Tellings.{Told, told, told_but}
 use Rattle.gl_catalog.specs.Tests.{refusal_of}
 use Rattle.gl_catalog.specs.Step.{lock_answer, query_answer}

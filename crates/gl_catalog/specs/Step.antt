@@ -1,13 +1,12 @@
 -- One command: its answer, the state that it leaves, and what others are told; and runs of commands (own).
-use Rattle.std.specs.Prelude.{◌≡◌, ◌⊎◌, ℕ, ◌+◌, ◌-◌, true, List, [], ◌∷◌, Option, Some, None, is_none}
-use Rattle.std.specs.List.{find}
+use Rattle.std.specs.Prelude.{◌≡◌, ◌⊎◌, ℕ, ◌+◌, ◌-◌, true, List, [], ◌∷◌, Option, Some, None}
 use Rattle.gl_table.specs.declared.txn.Status.{Status}
 use Rattle.gl_catalog.specs.declared.command.Answer.{Answer}
 use Rattle.gl_catalog.specs.declared.command.Command.{Command}
 use Rattle.gl_modes.specs.declared.mode.Mode.{Mode}
 use Rattle.gl_modes.specs.declared.node.NodeId.{NodeId}
 use Rattle.gl_modes.specs.declared.refusal.Refusal.{Refusal}
-use Rattle.gl_modes.specs.declared.mode.Mode.TheVariants.{NL, X}
+use Rattle.gl_modes.specs.declared.mode.Mode.TheVariants.{X}
 use Rattle.gl_table.specs.declared.txn.Status.TheVariants.{Active, Waiting, Condemned}
 use Rattle.gl_modes.specs.declared.refusal.Refusal.TheVariants as no
 use Rattle.gl_catalog.specs.declared.command.Answer.TheVariants as answer
@@ -17,12 +16,10 @@ use Rattle.gl_graph.specs.Changes.{IsBorn, IsIndexBorn, rekeyed, rekeyed_parents
 use Rattle.gl_graph.specs.Graph.{record_parents}
 use Rattle.gl_graph.specs.Shapes.{File, Inner, Rec}
 use Rattle.gl_header.specs.Header.{group_of}
-use Rattle.gl_modes.specs.Nodes.{same_node}
 use Rattle.gl_table.specs.Calls.{Locks, accepted_once, begun, cancelled, deleted, free_slot, granted, moved_to, raised, released, shed, unlocked, wanted}
 use Rattle.gl_table.specs.Covered.{covered_children, held_children}
 use Rattle.gl_table.specs.Effects.{effective}
-use Rattle.gl_table.specs.Pumps.{is_waiting_at, pumped, without_wait}
-use Rattle.gl_table.specs.State.{State, members, slots, status_of, with_grant, with_graph}
+use Rattle.gl_table.specs.State.{State, members, status_of, with_grant, with_graph}
 use Rattle.gl_table.specs.Tellings.{Told, told, told_but}
 use Rattle.gl_table.specs.Waiting.{Settled}
 

@@ -54,42 +54,96 @@ pub struct Reply {
 #[derive(Clone, Copy)]
 pub enum Command<'a> {
     /// A new inner node, under 0 to 8 inner nodes.
-    Inner { parents: &'a [NodeId] },
+    Inner {
+        parents: &'a [NodeId],
+    },
     /// A new file, under 1 to 8 inner nodes.
-    File { parents: &'a [NodeId] },
+    File {
+        parents: &'a [NodeId],
+    },
     /// A new index of a file without records, under 1 to 8 inner nodes, with at most 256 rising
     /// bounds above 0 that part its intervals.
-    Index { parents: &'a [NodeId], file: NodeId, bounds: &'a [u64] },
+    Index {
+        parents: &'a [NodeId],
+        file: NodeId,
+        bounds: &'a [u64],
+    },
     /// A new transaction.
     Begin,
     /// Ask for a lock, and wait where it cannot be granted at once.
-    Lock { txn: TxnId, node: NodeId, mode: Mode },
+    Lock {
+        txn: TxnId,
+        node: NodeId,
+        mode: Mode,
+    },
     /// Ask for a lock, and be refused where it cannot be granted at once.
-    Try { txn: TxnId, node: NodeId, mode: Mode },
+    Try {
+        txn: TxnId,
+        node: NodeId,
+        mode: Mode,
+    },
     /// Release one node, of which no child is held.
-    Unlock { txn: TxnId, node: NodeId },
+    Unlock {
+        txn: TxnId,
+        node: NodeId,
+    },
     /// Raise the lock of a node, and release the children whose locks it then implies.
-    Escalate { txn: TxnId, node: NodeId },
+    Escalate {
+        txn: TxnId,
+        node: NodeId,
+    },
     /// Take a wait back.
-    Cancel { txn: TxnId },
+    Cancel {
+        txn: TxnId,
+    },
     /// End, and release everything.
-    Commit { txn: TxnId },
+    Commit {
+        txn: TxnId,
+    },
     /// End and release everything, also while waiting or condemned.
-    Abort { txn: TxnId },
+    Abort {
+        txn: TxnId,
+    },
     /// Condemn the youngest on a cycle with this transaction until it is on none.
-    Settle { txn: TxnId },
+    Settle {
+        txn: TxnId,
+    },
     /// A new record of a file, with a key for each of its indexes, held in X.
-    Insert { txn: TxnId, file: NodeId, keys: &'a [u64] },
+    Insert {
+        txn: TxnId,
+        file: NodeId,
+        keys: &'a [u64],
+    },
     /// Take a record away.
-    Delete { txn: TxnId, rec: NodeId },
+    Delete {
+        txn: TxnId,
+        rec: NodeId,
+    },
     /// Give a record another key for one index.
-    Rekey { txn: TxnId, rec: NodeId, index: NodeId, key: u64 },
+    Rekey {
+        txn: TxnId,
+        rec: NodeId,
+        index: NodeId,
+        key: u64,
+    },
     /// Give an inner node, a file or an index other parents.
-    Move { txn: TxnId, node: NodeId, parents: &'a [NodeId] },
+    Move {
+        txn: TxnId,
+        node: NodeId,
+        parents: &'a [NodeId],
+    },
     /// The group mode of a node.
-    Group { node: NodeId },
+    Group {
+        node: NodeId,
+    },
     /// The mode in which a transaction holds a node.
-    Held { txn: TxnId, node: NodeId },
+    Held {
+        txn: TxnId,
+        node: NodeId,
+    },
     /// What a transaction may do to a node by all its locks together.
-    Effective { txn: TxnId, node: NodeId },
+    Effective {
+        txn: TxnId,
+        node: NodeId,
+    },
 }
