@@ -1,0 +1,39 @@
+-- steps
+pub mod EachStep
+pub mod Made
+pub mod NotRefused
+-- every command keeps the law
+pub mod KeepsLaw
+pub mod LockCommands
+pub mod MakeKeeps
+pub mod DeleteKeeps
+pub mod MoveKeeps
+pub mod MoveCommands
+pub mod StepsKeepLaw
+-- no command makes a circle of waits
+pub mod Detection
+pub mod NewEdges
+pub mod NoCycle
+pub mod StepNoCycle
+-- what others cannot do to a holder
+pub mod OtherChanges
+pub mod ToldGrants
+pub mod Keeps
+pub mod GrantCommands
+pub mod GraphChanges
+pub mod GraphCommands
+pub mod OneStep
+pub mod OthersKeep
+-- what a mover's own commands leave it
+pub mod MoverEffects
+pub mod EscalateEffects
+-- the model as a program, and rows that it computes
+pub mod OneOutcome
+pub mod Play
+pub mod PlayIsStep
+pub mod RowWords
+mod LockRows
+mod RecordRows
+mod MoveRows
+mod RefusalRows
+mod Limits

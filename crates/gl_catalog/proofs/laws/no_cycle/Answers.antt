@@ -1,0 +1,5 @@
+use Rattle.gl_catalog.proofs.StepNoCycle.{runs_keep_no_cycle, empty-no_cycle}
+use Rattle.gl_catalog.proofs.laws.no_cycle.Goals as goal
+
+pub returns : goal.returns
+returns c = record { law = runs_keep_no_cycle; start = empty-no_cycle }

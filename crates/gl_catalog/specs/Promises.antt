@@ -1,0 +1,120 @@
+-- What is promised of commands and of whole runs.
+use Rattle.std.specs.Prelude.{◌≡◌, ℕ, Bool, true, false, ◌&&◌, ◌==◌, List}
+use Rattle.std.specs.List.{list_any}
+use denote.Bor.{Bor}
+use Rattle.gl_table.specs.declared.txn.TxnId.{TxnId}
+use Rattle.gl_table.specs.declared.notice.Notice.{Notice}
+use Rattle.gl_catalog.specs.declared.command.Answer.{Answer}
+use Rattle.gl_catalog.specs.declared.command.Command.{Command}
+use Rattle.gl_modes.specs.declared.node.NodeId.{NodeId}
+use Rattle.gl_table.specs.declared.detect.Detect.TheVariants.{AtBlock}
+use Rattle.gl_table.specs.declared.notice.Notice.TheVariants as notice
+use Rattle.gl_catalog.specs.declared.command.Command.TheVariants as command
+use Rattle.gl_catalog.specs.Tests.{refusal_of}
+use Rattle.gl_catalog.specs.Step.{Goes, Run, Step}
+use Rattle.gl_graph.specs.Graph.{is_live, shape_of}
+use Rattle.gl_graph.specs.Shapes.{is_record_shape}
+use Rattle.gl_table.specs.Effects.{EffS, effective, is_at_least_effect}
+use Rattle.gl_table.specs.Below.{SameBelow}
+use Rattle.gl_table.specs.Lawful.{IsLawful}
+use Rattle.gl_table.specs.State.{State, lives}
+use Rattle.gl_table.specs.Tellings.{Told}
+use Rattle.gl_table.specs.Waiting.{HasNoCycle}
+
+-- two names of one transaction
+abbrev pub same_txn : TxnId → TxnId → Bool
+same_txn t u = (t.slot == u.slot) && (t.age == u.age)
+
+-- the command names t as its transaction; settle names one too, but asks nothing of its locks, so a settle of t counts as another's command
+abbrev pub names : TxnId → Command → Bool
+names t (command.Lock u n m) = same_txn t u
+names t (command.Try u n m) = same_txn t u
+names t (command.Unlock u n) = same_txn t u
+names t (command.Escalate u n) = same_txn t u
+names t (command.Cancel u) = same_txn t u
+names t (command.Commit u) = same_txn t u
+names t (command.Abort u) = same_txn t u
+names t (command.Settle u) = false
+names t (command.Insert u f ks) = same_txn t u
+names t (command.Delete u r) = same_txn t u
+names t (command.Rekey u r i k) = same_txn t u
+names t (command.Move u n ps) = same_txn t u
+names t c = false
+
+-- the notice tells t of a grant
+abbrev pub is_grant_to : TxnId → TxnId × Notice → Bool
+is_grant_to t (u, notice.Granted n m) = same_txn t u
+is_grant_to t (u, x) = false
+
+-- some reply tells t of a grant
+abbrev pub told_granted : TxnId → List (Answer × Told) → Bool
+told_granted t rs = list_any (λ r. list_any (is_grant_to t) r.1) rs
+
+-- a record that lives in both states
+abbrev pub StandsInBoth : State → State → NodeId → Type 0
+StandsInBoth s s' r = (is_live s.graph r ≡ true) × (is_live s'.graph r ≡ true) × (is_record_shape (shape_of s.graph r) ≡ true)
+
+-- t's effective mode on every such record is the same, or the same or greater where t was told of a grant
+pub record KeepsEffects (s s' : State) (t : TxnId) (granted : Bool) : Type 0 where
+  pub same : granted ≡ false → (r : NodeId) → StandsInBoth s s' r → effective s' t.slot r ≡ effective s t.slot r
+  pub greater : (r : NodeId) → StandsInBoth s s' r → is_at_least_effect (effective s' t.slot r) (effective s t.slot r) ≡ true
+
+-- over a run that does not name t, its effective modes on the records that stand stay, or grow where it was told of a grant (own)
+abbrev pub OthersKeepEffects : Type 0
+OthersKeepEffects =
+    (s s' : State) (cs : List Command) (rs : List (Answer × Told)) (t : TxnId) → IsLawful s → Run s cs rs s' → lives s t ≡ true → list_any (names t) cs ≡ false → KeepsEffects s s' t (told_granted t rs)
+
+-- over a run that does not name t, no record comes, goes or changes a key below a node that t reads (own)
+abbrev pub OthersKeepBelow : Type 0
+OthersKeepBelow =
+    (s s' : State) (cs : List Command) (rs : List (Answer × Told)) (t : TxnId) (n : NodeId) → IsLawful s → Run s cs rs s' → lives s t ≡ true → list_any (names t) cs ≡ false → EffS s t.slot n → SameBelow s.graph s'.graph n
+
+-- each step of each command keeps the law of a state
+abbrev pub StepsKeepLaw : Type 0
+StepsKeepLaw = (s s' : State) (c : Command) (a : Answer) (told : Told) → IsLawful s → Step s c a told s' → IsLawful s'
+
+-- and so does a run
+abbrev pub RunsKeepLaw : Type 0
+RunsKeepLaw = (s s' : State) (cs : List Command) (rs : List (Answer × Told)) → IsLawful s → Run s cs rs s' → IsLawful s'
+
+-- with detection at block no run makes a circle of waits
+abbrev pub RunsKeepNoCycle : Type 0
+RunsKeepNoCycle = (s s' : State) (cs : List Command) (rs : List (Answer × Told)) → s.detect ≡ AtBlock → IsLawful s → HasNoCycle s → Run s cs rs s' → HasNoCycle s'
+
+-- a command leaves the effective mode of one slot on every node as it was
+abbrev pub KeepsModes : ℕ → Command → Type 0
+KeepsModes t c = (s s' : State) (a : Answer) (told : Told) → IsLawful s → Step s c a told s' → (n : NodeId) → effective s' t n ≡ effective s t n
+
+-- a command lowers the effective mode of one slot on no node
+abbrev pub LowersNone : ℕ → Command → Type 0
+LowersNone t c = (s s' : State) (a : Answer) (told : Told) → IsLawful s → Step s c a told s' → (n : NodeId) → is_at_least_effect (effective s' t n) (effective s t n) ≡ true
+
+-- a rekey leaves the mover's effective modes (own)
+abbrev pub RekeyKeepsMover : Type 0
+RekeyKeepsMover = (t : TxnId) (r i : NodeId) (key : ℕ) → KeepsModes t.slot (command.Rekey t r i key)
+
+-- a move leaves the mover's effective modes (own)
+abbrev pub MoveKeepsMover : Type 0
+MoveKeepsMover = (t : TxnId) (n : NodeId) (ps : Bor (List NodeId)) → KeepsModes t.slot (command.Move t n ps)
+
+-- an escalation lowers the caller's effective mode nowhere (own)
+abbrev pub EscalateLowersNone : Type 0
+EscalateLowersNone = (t : TxnId) (n : NodeId) → LowersNone t.slot (command.Escalate t n)
+
+-- in a lawful state there is a step for every command, so what is said of steps is never said of nothing
+abbrev pub AlwaysAnswers : Type 0
+AlwaysAnswers = (s : State) (c : Command) → IsLawful s → (a : Answer) × (told : Told) × (s' : State) × Step s c a told s'
+
+-- a command that makes a node, whose key may be any that is free
+abbrev pub makes_node : Command → Bool
+makes_node (command.Inner ps) = true
+makes_node (command.File ps) = true
+makes_node (command.Index ps f bs) = true
+makes_node (command.Insert t f keys) = true
+makes_node c = false
+
+-- in a lawful state a command that makes no node has one answer, one list of notices and one state, want of memory aside
+abbrev pub OneOutcome : Type 0
+OneOutcome =
+    (s s₁ s₂ : State) (c : Command) (a₁ a₂ : Answer) (told₁ told₂ : Told) → IsLawful s → makes_node c ≡ false → Goes s c (refusal_of s c) a₁ told₁ s₁ → Goes s c (refusal_of s c) a₂ told₂ s₂
+    → (a₁ ≡ a₂) × (told₁ ≡ told₂) × (s₁ ≡ s₂)

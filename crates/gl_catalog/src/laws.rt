@@ -1,0 +1,46 @@
+//! The laws of all commands, each the contract of a call that does nothing.
+
+ghost use Rattle.gl_table.specs.Laws.{EmptyIsLawful, EmptyHasNoCycle};
+ghost use Rattle.gl_catalog.specs.Promises.{AlwaysAnswers, EscalateLowersNone, MoveKeepsMover, OneOutcome, OthersKeepBelow, OthersKeepEffects, RekeyKeepsMover, RunsKeepLaw, RunsKeepNoCycle, StepsKeepLaw};
+
+/// Each step of each command keeps the law; so does each run, and the empty state meets it.
+pub fn steps_keep_law()
+    ensures law { StepsKeepLaw }
+    ensures runs { RunsKeepLaw }
+    ensures start { EmptyIsLawful }
+{}
+
+/// Over a run that does not name it, a transaction's effective modes on the records that stand stay,
+/// or grow where it was told of a grant.
+pub fn others_keep_effects()
+    ensures { OthersKeepEffects }
+{}
+
+/// Over a run that does not name it, the records below what a transaction reads stay, with their keys.
+pub fn others_keep_below()
+    ensures { OthersKeepBelow }
+{}
+
+/// With detection at block no run makes a circle of waits, and the empty state has none.
+pub fn no_cycle()
+    ensures law { RunsKeepNoCycle }
+    ensures start { EmptyHasNoCycle }
+{}
+
+/// A rekey and a move leave the mover's effective mode on every node as it was, and an escalation
+/// lowers the caller's on none.
+pub fn mover_keeps_effects()
+    ensures rekeyed { RekeyKeepsMover }
+    ensures moved { MoveKeepsMover }
+    ensures escalated { EscalateLowersNone }
+{}
+
+/// In a lawful state there is a step for every command, so no law of steps is empty.
+pub fn always_answers()
+    ensures { AlwaysAnswers }
+{}
+
+/// In a lawful state a command that makes no node has one outcome, want of memory aside.
+pub fn one_outcome()
+    ensures { OneOutcome }
+{}

@@ -1,0 +1,120 @@
+-- A graph that changes only at nodes on which a holder has no effective S: its effective modes and what lies below stay.
+use Rattle.std.specs.Prelude.{◌≡◌, ℕ, zero, suc, Bool, true, false, not, ◌&&◌, ◌||◌, List, [], ◌∷◌, Option, Some, None, is_some, if◌then◌else◌}
+use Rattle.std.specs.List.{list_all, list_any}
+use Rattle.std.proofs.Common.{refl, sym, ap, ap₂, ◌∙◌}
+use mathlib.Core.Bool.{true≢false}
+use Rattle.gl_modes.specs.declared.mode.Mode.{Mode}
+use Rattle.gl_modes.specs.declared.mode.Mode.TheVariants.{X}
+use Rattle.gl_modes.specs.declared.node.NodeId.{NodeId}
+use Rattle.gl_table.specs.declared.effect.Effect.TheVariants as effect
+use Rattle.gl_graph.specs.Graph.{Graph, Node, node_at, node_count, parents_of, parents_in, shape_of, shape_in, is_live}
+use Rattle.gl_graph.specs.Shapes.{keys_in, is_record_shape}
+use Rattle.gl_modes.specs.Nodes.{same_node}
+use Rattle.gl_graph.specs.Routes.{IsRoute}
+use Rattle.gl_modes.specs.Modes.{same_mode}
+use Rattle.gl_table.specs.Effects.{eff_s, eff_x, effective}
+use Rattle.gl_table.specs.Intends.{no_parents}
+use Rattle.gl_table.specs.State.{State}
+use Rattle.gl_table.specs.Lawful.{IsLawful}
+use Rattle.gl_table.specs.Below.{SameBelow}
+use Rattle.gl_table.proofs.Effects.{or_true, all_from, ReadOn, read_on_route, eff_s_route, eff_x_route, read_on_eff, eff_x_any}
+use Rattle.gl_graph.proofs.Look.{split, or_elim, and_both, all_at}
+
+-- the graph changes at the nodes of a set; h has no effective S there, where the node stood before or is a record after
+pub record GraphStep (g g' : Graph) (h : NodeId → Mode) (changed : NodeId → Bool) : Type 0 where
+  pub same : (c : NodeId) → changed c ≡ false → node_at g' c ≡ node_at g c
+  pub before : (c : NodeId) → changed c ≡ true → ReadOn g h c → ⊥
+  pub after : (c : NodeId) → changed c ≡ true → is_live g c ≡ true → ReadOn g' h c → ⊥
+  pub after_record : (c : NodeId) → changed c ≡ true → is_record_shape (shape_of g' c) ≡ true → ReadOn g' h c → ⊥
+
+record_lives : (o : Option Node) → is_record_shape (shape_in o) ≡ true → is_some o ≡ true
+record_lives None h = absurd (true≢false (sym h))
+record_lives (Some n) h = refl
+
+module _ (g g' : Graph) (h : NodeId → Mode) (changed : NodeId → Bool) (step : GraphStep g g' h changed) (parents_live : (n p : NodeId) → list_any (same_node p) (parents_of g n) ≡ true → is_live g p ≡ true) where
+  same_parents : (n : NodeId) → changed n ≡ false → parents_of g' n ≡ parents_of g n
+  same_parents n e = ap parents_in (step.same n e)
+
+  -- a route to a node under no changed one
+  carry : (n m : NodeId) (way : List NodeId) → IsRoute g n way m → ((c : NodeId) (pre : List NodeId) → changed c ≡ true → IsRoute g c pre m → ⊥) → IsRoute g' n way m
+  carry n m [] route never = route
+  carry n m (p ∷ way) route never =
+      split (changed n) (λ e. absurd (never n (p ∷ way) e route)) (λ e. (ap (list_any (same_node p)) (same_parents n e) ∙ route.0, carry p m way route.1 never))
+
+  back : (n m : NodeId) (way : List NodeId) → is_live g n ≡ true → IsRoute g' n way m → ((c : NodeId) (pre : List NodeId) → changed c ≡ true → is_live g c ≡ true → IsRoute g' c pre m → ⊥) → IsRoute g n way m
+  back n m [] live route never = route
+  back n m (p ∷ way) live route never =
+      split (changed n) (λ e. absurd (never n (p ∷ way) e live route))
+      (λ e. let up : list_any (same_node p) (parents_of g n) ≡ true = ap (list_any (same_node p)) (sym (same_parents n e)) ∙ route.0 in (up, back p m way (parents_live n p up) route.1 never))
+
+  -- a route to what is read cannot pass a changed node, since the node would be read
+  pub reads_carry : (n : NodeId) → ReadOn g h n → ReadOn g' h n
+  reads_carry n r = (r.0, r.1, carry n r.0 r.1 r.2 (λ c pre e route. step.before c e (r.0, pre, route, r.3)), r.3)
+
+  -- nor after the change
+  pub reads_back : (n : NodeId) → is_live g n ≡ true → ReadOn g' h n → ReadOn g h n
+  reads_back n live r = (r.0, r.1, back n r.0 r.1 live r.2 (λ c pre e on route. step.after c e on (r.0, pre, route, r.3)), r.3)
+
+  -- an effective X below is an effective S, so the node is not a changed one
+  pub x_carry : (k : ℕ) (n : NodeId) → eff_x k g h n ≡ true → eff_x k g' h n ≡ true
+  x_carry zero n x = x
+  x_carry (suc k) n x =
+      split (changed n) (λ e. absurd (step.before n e (eff_x_route g h (suc k) n x)))
+      (λ e. or_elim _ _ x (λ here. ap (λ b. b || (not (no_parents (parents_of g' n)) && list_all (eff_x k g' h) (parents_of g' n))) here)
+      (λ up. let both = and_both _ _ up in
+      ap (λ b. same_mode (h n) X || b) (ap₂ (λ a b. a && b) (ap (λ ps. not (no_parents ps)) (same_parents n e) ∙ both.0)
+      (ap (list_all (eff_x k g' h)) (same_parents n e) ∙ all_from (eff_x k g' h) (parents_of g n) (λ p on. x_carry k p (all_at (eff_x k g h) (parents_of g n) p on both.1)))) ∙ or_true _))
+
+  -- the same, back
+  pub x_back : (k : ℕ) (n : NodeId) → is_live g n ≡ true → eff_x k g' h n ≡ true → eff_x k g h n ≡ true
+  x_back zero n live x = x
+  x_back (suc k) n live x =
+      split (changed n) (λ e. absurd (step.after n e live (eff_x_route g' h (suc k) n x)))
+      (λ e. or_elim _ _ x (λ here. ap (λ b. b || (not (no_parents (parents_of g n)) && list_all (eff_x k g h) (parents_of g n))) here)
+      (λ up. let both = and_both _ _ up in
+      let all : list_all (eff_x k g' h) (parents_of g n) ≡ true = ap (list_all (eff_x k g' h)) (sym (same_parents n e)) ∙ both.1 in
+      ap (λ b. same_mode (h n) X || b) (ap₂ (λ a b. a && b) (ap (λ ps. not (no_parents ps)) (sym (same_parents n e)) ∙ both.0)
+      (all_from (eff_x k g h) (parents_of g n) (λ p on. x_back k p (parents_live n p on) (all_at (eff_x k g' h) (parents_of g n) p on all)))) ∙ or_true _))
+
+  -- what lies below a node that is read is read, so it did not change
+  pub below_same : (n : NodeId) → ReadOn g h n → SameBelow g g' n
+  below_same n r = record {
+    kept = λ c below.
+        let under : ReadOn g h c = read_on_route g h c n below.route.0 below.route.1 r in
+        let e : node_at g' c ≡ node_at g c = split (changed c) (λ e. absurd (step.before c e under)) (λ e. step.same c e) in (
+          record {
+            is_record = ap (λ o. is_record_shape (shape_in o)) e ∙ below.is_record;
+            route = (below.route.0, carry c n below.route.0 below.route.1 (λ d pre e' route. step.before d e' (read_on_route g h d n pre route r)));
+          },
+          ap (λ o. keys_in (shape_in o)) e,
+        );
+    no_more = λ c below.
+        let r' = reads_carry n r in
+        let under : ReadOn g' h c = read_on_route g' h c n below.route.0 below.route.1 r' in
+        let e : node_at g' c ≡ node_at g c = split (changed c) (λ e. absurd (step.after_record c e below.is_record under)) (λ e. step.same c e) in
+        let is : is_record_shape (shape_of g c) ≡ true = ap (λ o. is_record_shape (shape_in o)) (sym e) ∙ below.is_record in
+        record {
+          is_record = is;
+          route = (below.route.0, back c n below.route.0 (record_lives (node_at g c) is) below.route.1 (λ d pre e' live route. step.after d e' live (read_on_route g' h d n pre route r')));
+        };
+  }
+
+pub same_bool : (a b : Bool) → (a ≡ true → b ≡ true) → (b ≡ true → a ≡ true) → b ≡ a
+same_bool true b f g = f refl
+same_bool false true f g = sym (g refl)
+same_bool false false f g = refl
+
+-- a holder's effective modes where its grants stay and the graph makes such a step
+pub effective_same : (s s' : State) (t : ℕ) (changed : NodeId → Bool) → IsLawful s → IsLawful s' → GraphStep s.graph s'.graph (s.held t) changed → s'.held t ≡ s.held t
+    → (n : NodeId) → is_live s.graph n ≡ true → is_live s'.graph n ≡ true → effective s' t n ≡ effective s t n
+effective_same s s' t changed law law' step keeps n live live' =
+    let h' : ℕ → NodeId → Mode = s'.held in
+    let xs : eff_x (node_count s'.graph) s'.graph (s'.held t) n ≡ eff_x (node_count s.graph) s.graph (s.held t) n =
+    same_bool _ _
+    (λ x. eff_x_any s' law' t (node_count s.graph) n live' (ap (λ h. eff_x (node_count s.graph) s'.graph h n) keeps ∙ x_carry s.graph s'.graph (s.held t) changed step law.graph.parents_live (node_count s.graph) n x))
+    (λ x. eff_x_any s law t (node_count s'.graph) n live (x_back s.graph s'.graph (s.held t) changed step law.graph.parents_live (node_count s'.graph) n live (ap (λ h. eff_x (node_count s'.graph) s'.graph h n) (sym keeps) ∙ x))) in
+    let ss : eff_s (node_count s'.graph) s'.graph (s'.held t) n ≡ eff_s (node_count s.graph) s.graph (s.held t) n =
+    same_bool _ _
+    (λ x. ap (λ h. eff_s (node_count s'.graph) s'.graph h n) keeps ∙ read_on_eff s'.graph law'.graph (s.held t) n live' (reads_carry s.graph s'.graph (s.held t) changed step law.graph.parents_live n (eff_s_route s.graph (s.held t) (node_count s.graph) n x)))
+    (λ x. read_on_eff s.graph law.graph (s.held t) n live (reads_back s.graph s'.graph (s.held t) changed step law.graph.parents_live n live (eff_s_route s'.graph (s.held t) (node_count s'.graph) n (ap (λ h. eff_s (node_count s'.graph) s'.graph h n) (sym keeps) ∙ x)))) in
+    ap₂ (λ x y. if x then effect.X else (if y then effect.S else effect.None)) xs ss

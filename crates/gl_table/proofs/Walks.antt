@@ -1,0 +1,167 @@
+-- Walks of a relation between finitely many numbers: whether there is one, and the youngest on a cycle.
+use Rattle.std.specs.Prelude.{◌≡◌, ◌≢◌, ℕ, zero, suc, ◌+◌, ◌<◌, ◌≤◌, Bool, true, false, ◌&&◌, ◌||◌, ◌==◌, nat_le, List, [], ◌∷◌, length, ⊤, Option, Some, None, if◌then◌else◌}
+use Rattle.std.specs.List.{list_any, range_with_len, AllByRecursion, IsDistinct}
+use Rattle.std.specs.Cmp.{IsEquivalence}
+use Rattle.std.proofs.Common.{refl, sym, ap, ap₂, ◌∙◌, arith, subst}
+use Rattle.std.proofs.lemmas.Bool.Decides.{nat_tests}
+use Rattle.std.proofs.lemmas.Map.Made.{length-le_from_is_member}
+use Rattle.std.proofs.lemmas.List.FromFn.{length-range_with_len}
+use Rattle.gl_waits.specs.Waits.{IsWalk, Reaches, IsOnCycleOf, IsOnNoCycle, IsYoungest}
+use Rattle.gl_table.proofs.Queues.{clash}
+use Rattle.gl_graph.proofs.Look.{split, or_elim, or_left, or_right, and_both}
+
+abbrev pub same : ℕ → ℕ → Bool
+same x y = x == y
+
+same_true : (x y : ℕ) → same x y ≡ true → x ≡ y
+same_true x y h = grind (arith, nat_tests)
+
+same_refl : (x : ℕ) → same x x ≡ true
+same_refl x = grind (arith, nat_tests)
+
+same_equivalence : IsEquivalence same
+same_equivalence = record { refl = same_refl; symm = λ a b. grind (arith, nat_tests); congr = λ a b c h. ap (λ x. same x c) (same_true a b h) }
+
+abbrev pub Distinct : List ℕ → Type 0
+Distinct [] = ⊤
+Distinct (v ∷ way) = (list_any (same v) way ≡ false) × Distinct way
+
+all_differ : (v : ℕ) (way : List ℕ) → list_any (same v) way ≡ false → AllByRecursion (λ y. same v y ≡ false) way
+all_differ v [] h = tt
+all_differ v (w ∷ way) h = by (same v w) refl h (all_differ v way)
+  where
+    by : (b : Bool) → same v w ≡ b → (b || list_any (same v) way) ≡ false → (list_any (same v) way ≡ false → AllByRecursion (λ y. same v y ≡ false) way) → (same v w ≡ false) × AllByRecursion (λ y. same v y ≡ false) way
+    by true e k r = clash refl k
+    by false e k r = (e, r k)
+
+is_distinct : (way : List ℕ) → Distinct way → IsDistinct same way
+unfolding IsDistinct
+is_distinct [] d = tt
+is_distinct (v ∷ way) d = (all_differ v way d.0, is_distinct way d.1)
+
+pub in_range : (q k n : ℕ) → k ≤ q → q < k + n → list_any (same q) (range_with_len k n) ≡ true
+in_range q k zero low high = absurd (omega arith)
+in_range q k (suc n) low high = split (same q k) (λ e. or_left _ _ e) (λ e. let ne : q ≢ k = grind (arith, nat_tests) in or_right (same q k) _ (in_range q (k + 1) n (omega arith) (omega arith)))
+
+any_of : (f : ℕ → Bool) (xs : List ℕ) → list_any f xs ≡ true → (q : ℕ) × (f q ≡ true)
+any_of f [] h = clash h refl
+any_of f (x ∷ xs) h = or_elim _ _ h (λ here. (x, here)) (λ there. any_of f xs there)
+
+one_found : (f : ℕ → Bool) (q : ℕ) (xs : List ℕ) → f q ≡ true → list_any (same q) xs ≡ true → list_any f xs ≡ true
+one_found f q [] h k = k
+one_found f q (x ∷ xs) h k = or_elim _ _ k (λ here. or_left _ _ (ap f (sym (same_true q x here)) ∙ h)) (λ there. or_right (f x) _ (one_found f q xs h there))
+
+-- the one of greater age, of equal ages the later
+abbrev pub younger : (ℕ → ℕ) → ℕ → Option ℕ → Option ℕ
+younger age n None = Some n
+younger age n (Some v) = if nat_le (age v) (age n) then Some n else Some v
+
+-- of those below n that pass, one of the greatest age
+abbrev pub youngest_below : (ℕ → ℕ) → (ℕ → Bool) → ℕ → Option ℕ
+youngest_below age p zero = None
+youngest_below age p (suc n) = if p n then younger age n (youngest_below age p n) else youngest_below age p n
+
+abbrev Greatest : (ℕ → ℕ) → (ℕ → Bool) → ℕ → Option ℕ → Type 0
+Greatest age p n None = (u : ℕ) → u < n → p u ≡ false
+Greatest age p n (Some v) = (p v ≡ true) × ((u : ℕ) → u < n → p u ≡ true → age u ≤ age v)
+
+youngest_is : (age : ℕ → ℕ) (p : ℕ → Bool) (n : ℕ) → Greatest age p n (youngest_below age p n)
+youngest_is age p zero = λ u lt. absurd (omega arith)
+youngest_is age p (suc n) = by (p n) refl (youngest_below age p n) (youngest_is age p n)
+  where
+    at_end : {C : Type 0} (u : ℕ) → u < suc n → (u ≡ n → C) → (u < n → C) → C
+    at_end u lt here there = split (u == n) (λ e. here (same_true u n e)) (λ e. let ne : u ≢ n = grind (arith, nat_tests) in there (omega arith))
+
+    by : (b : Bool) → p n ≡ b → (o : Option ℕ) → Greatest age p n o → Greatest age p (suc n) (if b then younger age n o else o)
+    by false e None none = λ u lt. at_end u lt (λ is. ap p is ∙ e) (λ less. none u less)
+    by false e (Some v) one = (one.0, λ u lt h. at_end u lt (λ is. clash (sym (ap p is) ∙ h) e) (λ less. one.1 u less h))
+    by true e None none = (e, λ u lt h. at_end u lt (λ is. let a : age u ≡ age n = ap age is in omega arith) (λ less. clash h (none u less)))
+    by true e (Some v) one = order (nat_le (age v) (age n)) refl
+      where
+        order : (c : Bool) → nat_le (age v) (age n) ≡ c → Greatest age p (suc n) (if c then Some n else Some v)
+        order true k =
+            let le : age v ≤ age n = grind (arith, nat_tests) in
+            (e, λ u lt h. at_end u lt (λ is. let a : age u ≡ age n = ap age is in omega arith) (λ less. let low = one.1 u less h in omega arith))
+        order false k =
+            let le : age n ≤ age v = grind (arith, nat_tests) in
+            (one.0, λ u lt h. at_end u lt (λ is. let a : age u ≡ age n = ap age is in omega arith) (λ less. one.1 u less h))
+
+-- y is reached from x by at most k slots on the way
+abbrev pub hops : (ℕ → ℕ → Bool) → ℕ → ℕ → ℕ → ℕ → Bool
+hops edge most zero x y = edge x y
+hops edge most (suc k) x y = edge x y || list_any (λ v. edge x v && hops edge most k v y) (range_with_len 0 most)
+
+-- t and v reach each other
+abbrev pub circles : (ℕ → ℕ → Bool) → ℕ → ℕ → ℕ → Bool
+circles edge most t v = hops edge most most t v && hops edge most most v t
+
+-- the youngest on a cycle with t
+abbrev pub victim : (ℕ → ℕ → Bool) → ℕ → (ℕ → ℕ) → ℕ → Option ℕ
+victim edge most age t = youngest_below age (circles edge most t) most
+
+abbrev pub IsVictim : (ℕ → ℕ → Bool) → (ℕ → ℕ) → ℕ → Option ℕ → Type 0
+IsVictim edge age t None = IsOnNoCycle edge t
+IsVictim edge age t (Some v) = IsYoungest (IsOnCycleOf edge t) age v
+
+module _ (edge : ℕ → ℕ → Bool) (most : ℕ) (low : (x y : ℕ) → edge x y ≡ true → y < most) where
+  -- a walk that meets v goes on from v
+  cut : (u v y : ℕ) (way : List ℕ) → IsWalk edge u way y → list_any (same v) way ≡ true → Distinct way → (post : List ℕ) × IsWalk edge v post y × Distinct post × (list_any (same v) post ≡ false)
+  cut u v y [] h k d = clash k refl
+  cut u v y (w ∷ way) h k d =
+      or_elim (same v w) (list_any (same v) way) k
+      (λ e. let is = same_true v w e in (way, subst (λ x. IsWalk edge x way y) (sym is) h.1, d.1, ap (λ x. list_any (same x) way) is ∙ d.0))
+      (λ there. cut w v y way h.1 there d.1)
+
+  simple : (way : List ℕ) (x y : ℕ) → IsWalk edge x way y → (short : List ℕ) × IsWalk edge x short y × Distinct short
+  simple [] x y h = ([], h, tt)
+  simple (v ∷ way) x y h =
+      let r = simple way v y h.1 in
+      split (list_any (same v) r.0)
+      (λ k. let c = cut v v y r.0 r.1 k r.2 in (v ∷ c.0, (h.0, c.1), (c.3, c.2)))
+      (λ k. (v ∷ r.0, (h.0, r.1), (k, r.2)))
+
+  on_way : (way : List ℕ) (x y q : ℕ) → IsWalk edge x way y → list_any (same q) way ≡ true → q < most
+  on_way [] x y q h k = clash k refl
+  on_way (v ∷ way) x y q h k = or_elim (same q v) (list_any (same q) way) k (λ e. subst (λ z. z < most) (sym (same_true q v e)) (low x v h.0)) (λ there. on_way way v y q h.1 there)
+
+  pub short : (way : List ℕ) (x y : ℕ) → IsWalk edge x way y → Distinct way → length way ≤ most
+  short way x y h d =
+      let few = length-le_from_is_member same_equivalence way (range_with_len 0 most) (is_distinct way d) (λ q k. let lt = on_way way x y q h k in in_range q 0 most (omega arith) (omega arith)) in
+      let len = length-range_with_len 0 most in
+      omega arith
+
+  sound : (k x y : ℕ) → hops edge most k x y ≡ true → Reaches edge x y
+  sound zero x y h = ([], h)
+  sound (suc k) x y h =
+      or_elim (edge x y) (list_any (λ v. edge x v && hops edge most k v y) (range_with_len 0 most)) h (λ e. ([], e))
+      (λ e. let found = any_of (λ v. edge x v && hops edge most k v y) (range_with_len 0 most) e in
+      let both = and_both (edge x found.0) (hops edge most k found.0 y) found.1 in
+      let rest = sound k found.0 y both.1 in (found.0 ∷ rest.0, (both.0, rest.1)))
+
+  complete : (k : ℕ) (way : List ℕ) (x y : ℕ) → length way ≤ k → IsWalk edge x way y → hops edge most k x y ≡ true
+  complete zero [] x y le h = h
+  complete zero (v ∷ way) x y le h = absurd (omega arith)
+  complete (suc k) [] x y le h = or_left (edge x y) (list_any (λ v. edge x v && hops edge most k v y) (range_with_len 0 most)) h
+  complete (suc k) (v ∷ way) x y le h =
+      let lt = low x v h.0 in
+      or_right (edge x y) (list_any (λ u. edge x u && hops edge most k u y) (range_with_len 0 most))
+      (one_found (λ u. edge x u && hops edge most k u y) v (range_with_len 0 most) (ap₂ (λ a b. a && b) h.0 (complete k way v y (omega arith) h.1)) (in_range v 0 most (omega arith) (omega arith)))
+
+  reached_is : (x y : ℕ) → Reaches edge x y → hops edge most most x y ≡ true
+  reached_is x y r = let way = simple r.0 x y r.1 in complete most way.0 x y (short way.0 x y way.1 way.2) way.1
+
+  end_low : (way : List ℕ) (x y : ℕ) → IsWalk edge x way y → y < most
+  end_low [] x y h = low x y h
+  end_low (v ∷ way) x y h = end_low way v y h.1
+
+  pub victim_is : (age : ℕ → ℕ) (t : ℕ) → IsVictim edge age t (victim edge most age t)
+  victim_is age t = by (victim edge most age t) (youngest_is age (circles edge most t) most)
+    where
+      turns : (v : ℕ) → IsOnCycleOf edge t v → circles edge most t v ≡ true
+      turns v on = ap₂ (λ a b. a && b) (reached_is t v on.there) (reached_is v t on.back)
+
+      by : (o : Option ℕ) → Greatest age (circles edge most t) most o → IsVictim edge age t o
+      by None none = λ v on. clash (turns v on) (none v (end_low on.there.0 t v on.there.1))
+      by (Some v) one =
+          let both = and_both (hops edge most most t v) (hops edge most most v t) one.0 in
+          record { is_member = record { there = sound most t v both.0; back = sound most v t both.1 }; greatest = λ u on. one.1 u (end_low on.there.0 t u on.there.1) (turns u on) }

@@ -1,0 +1,5 @@
+use Rattle.gl_table.proofs.OneEnd.{settling_ends}
+use Rattle.gl_table.proofs.laws.settling_ends.Goals as goal
+
+pub returns : goal.returns
+returns c = settling_ends

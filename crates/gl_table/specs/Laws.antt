@@ -1,0 +1,34 @@
+-- The laws of a state, each said once and proved once.
+use Rattle.std.specs.Prelude.{◌≡◌, ℕ, true, false}
+use Rattle.gl_modes.specs.declared.node.NodeId.{NodeId}
+use Rattle.gl_graph.specs.Graph.{is_live}
+use Rattle.gl_waits.specs.Waits.{Reaches}
+use Rattle.gl_table.specs.declared.detect.Detect.{Detect}
+use Rattle.gl_table.specs.State.{State, empty_state, status_of}
+use Rattle.gl_table.specs.Effects.{EffX, HasNoConflict, IsCut}
+use Rattle.gl_table.specs.Lawful.{IsLawful}
+use Rattle.gl_table.specs.Waiting.{HasNoCycle, Settled, is_wait, waits_for}
+
+-- in a lawful state no two transactions conflict
+abbrev pub NoConflictLaw : Type 0
+NoConflictLaw = (s : State) → IsLawful s → HasNoConflict s
+
+-- an effective X is an X on every root path, and an X on every root path is an effective X
+abbrev pub CutSetLaw : Type 0
+CutSetLaw = (s : State) → IsLawful s → (t : ℕ) (n : NodeId) → is_live s.graph n ≡ true → (EffX s t n → IsCut s t n) × (IsCut s t n → EffX s t n)
+
+-- where nobody waits in a circle, whoever waits waits, over some steps, for one who does not wait
+abbrev pub ChainsEnd : Type 0
+ChainsEnd = (s : State) → IsLawful s → HasNoCycle s → (t : ℕ) → is_wait (status_of s t) ≡ true → (u : ℕ) × Reaches (waits_for s) t u × (is_wait (status_of s u) ≡ false)
+
+-- settling ends, and in one state
+abbrev pub SettlingEnds : Type 0
+SettlingEnds = (s : State) → IsLawful s → (t : ℕ) → (s' : State) × Settled s t s' × ((other : State) → Settled s t other → other ≡ s')
+
+-- the law can be met: the empty state meets it, under both ways of detection and every limit
+abbrev pub EmptyIsLawful : Type 0
+EmptyIsLawful = (detect : Detect) (most : ℕ) → IsLawful (empty_state detect most)
+
+-- and nobody waits in it
+abbrev pub EmptyHasNoCycle : Type 0
+EmptyHasNoCycle = (detect : Detect) (most : ℕ) → HasNoCycle (empty_state detect most)

@@ -1,0 +1,13 @@
+pub mod State
+pub mod Intends
+pub mod Effects
+pub mod Below
+pub mod Pumps
+pub mod Waiting
+pub mod Lawful
+pub mod Laws
+pub mod Covered
+pub mod Calls
+pub mod Refusals
+pub mod Tellings
+pub mod BoardOf

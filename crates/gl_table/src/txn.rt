@@ -1,0 +1,27 @@
+//! Transactions: their names and their states.
+
+use gl_modes::{Mode, NodeId};
+
+/// A transaction's name: its slot, and its age, which is the count of begins at its own. No two
+/// transactions have one age, so the name of one that has ended names nothing.
+#[derive(Clone, Copy, PartialEq, Eq, Debug)]
+pub struct TxnId {
+    pub slot: u8,
+    pub age: u64,
+}
+
+impl TxnId {
+    /// Names no transaction: ages begin at 1.
+    pub const NONE: TxnId = TxnId { slot: 0, age: 0 };
+}
+
+/// What a living transaction is doing.
+#[derive(Clone, Copy, PartialEq, Eq, Debug)]
+pub enum Status {
+    /// It may ask for locks.
+    Active,
+    /// It waits on a node for a mode.
+    Waiting { node: NodeId, wanted: Mode },
+    /// It was chosen as a victim, and can only abort.
+    Condemned,
+}
