@@ -14,6 +14,7 @@ with_node g birth node = record { at = λ b. if b == birth then Some node else g
 abbrev pub born_node : Graph → Node → Graph
 born_node g node = record { at = λ b. if b == g.births + 1 then Some node else g.at b; births = g.births + 1 }
 
+-- these nodes are born, one after the other
 abbrev pub born_nodes : Graph → List Node → Graph
 born_nodes g [] = g
 born_nodes g (n ∷ ns) = born_nodes (born_node g n) ns
@@ -29,6 +30,7 @@ born_index g key parents file bounds interval_keys =
     let id : NodeId = record { key = key; birth = g.births + 1 } in
     born_nodes g (record { key = key; shape = Index file bounds; parents = parents } ∷ interval_nodes id 0 interval_keys)
 
+-- the keys of these nodes
 abbrev pub keys_of : List Node → List ℕ
 keys_of [] = []
 keys_of (n ∷ ns) = n.key ∷ keys_of ns
@@ -53,9 +55,11 @@ pub record IsIndexBorn (g g' : Graph) (n : NodeId) (parents : List NodeId) (file
   pub birth : n.birth ≡ g.births + 1
   pub after : g' ≡ born_index g n.key parents file bounds interval_keys
 
+-- the graph with one node less
 abbrev pub without_node : Graph → NodeId → Graph
 without_node g n = record { at = λ b. if b == n.birth then None else g.at b; births = g.births }
 
+-- the node with these parents
 abbrev pub reparented : List NodeId → Option Node → Option Node
 reparented ps None = None
 reparented ps (Some n) = Some (record n { parents = ps })
@@ -70,12 +74,15 @@ keys_with [] keys index key = keys
 keys_with (i ∷ is) [] index key = []
 keys_with (i ∷ is) (k ∷ ks) index key = (if same_node i index then key else k) ∷ keys_with is ks index key
 
+-- a record's keys with the one for an index changed
 abbrev pub rekeyed_keys : Graph → NodeId → NodeId → ℕ → List ℕ
 rekeyed_keys g rec index key = keys_with (indexes_of g (first_parent g rec)) (keys_in (shape_of g rec)) index key
 
+-- the parents that it has with these keys
 abbrev pub rekeyed_parents : Graph → NodeId → NodeId → ℕ → List NodeId
 rekeyed_parents g rec index key = record_parents g (first_parent g rec) (rekeyed_keys g rec index key)
 
+-- the node as a record with these keys and parents
 abbrev pub rekeyed_node : List ℕ → List NodeId → Option Node → Option Node
 rekeyed_node keys ps None = None
 rekeyed_node keys ps (Some n) = Some (record { key = n.key; shape = Rec keys; parents = ps })

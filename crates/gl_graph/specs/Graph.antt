@@ -5,6 +5,7 @@ use Rattle.gl_modes.specs.declared.node.NodeId.{NodeId}
 use Rattle.gl_modes.specs.Nodes.{same_node}
 use Rattle.gl_graph.specs.Shapes.{Shape, is_record_shape, is_index_of_shape, is_index_shape, bounds_in}
 
+-- the key under which a node is kept, what it is, and its parents
 pub record Node : Type 0 where
   pub key : ℕ
   pub shape : Shape
@@ -15,6 +16,7 @@ pub record Graph : Type 0 where
   pub at : ℕ → Option Node
   pub births : ℕ
 
+-- the node, where it is kept under this key
 abbrev pub with_key : ℕ → Option Node → Option Node
 with_key key None = None
 with_key key (Some n) = if n.key == key then Some n else None
@@ -23,23 +25,29 @@ with_key key (Some n) = if n.key == key then Some n else None
 abbrev pub node_at : Graph → NodeId → Option Node
 node_at g n = with_key n.key (g.at n.birth)
 
+-- the id names a node
 abbrev pub is_live : Graph → NodeId → Bool
 is_live g n = is_some (node_at g n)
 
+-- the parents of a node that is there
 abbrev pub parents_in : Option Node → List NodeId
 parents_in None = []
 parents_in (Some n) = n.parents
 
+-- the parents of the node that an id names
 abbrev pub parents_of : Graph → NodeId → List NodeId
 parents_of g n = parents_in (node_at g n)
 
+-- what a node that is there is
 abbrev pub shape_in : Option Node → Option Shape
 shape_in None = None
 shape_in (Some n) = Some n.shape
 
+-- what the node that an id names is
 abbrev pub shape_of : Graph → NodeId → Option Shape
 shape_of g n = shape_in (node_at g n)
 
+-- the id of the node of a birth
 abbrev pub id_of : ℕ → Option Node → Option NodeId
 id_of birth None = None
 id_of birth (Some n) = Some (record { key = n.key; birth = birth })
@@ -48,6 +56,7 @@ id_of birth (Some n) = Some (record { key = n.key; birth = birth })
 abbrev pub nodes : Graph → List NodeId
 nodes g = filter_map (λ b. id_of b (g.at b)) (range_with_len 1 g.births)
 
+-- how many nodes live
 abbrev pub node_count : Graph → ℕ
 node_count g = length (nodes g)
 
@@ -67,6 +76,7 @@ indexes_of g f = filter (λ n. is_index_of_shape f (shape_of g n)) (nodes g)
 abbrev pub interval_place : List ℕ → ℕ → ℕ
 interval_place bounds key = count_by (λ b. nat_le b key) bounds
 
+-- the key of a node that is there
 abbrev pub key_or_zero : Option Node → ℕ
 key_or_zero None = 0
 key_or_zero (Some n) = n.key
@@ -85,6 +95,7 @@ interval_at g index place =
 abbrev pub interval_of : Graph → NodeId → ℕ → NodeId
 interval_of g index key = interval g index (interval_place (bounds_in (shape_of g index)) key)
 
+-- for each index the interval that holds its key
 abbrev pub intervals_of : Graph → List NodeId → List ℕ → List NodeId
 intervals_of g [] keys = []
 intervals_of g (i ∷ is) [] = []
@@ -103,5 +114,6 @@ abbrev pub first_in : List NodeId → NodeId
 first_in [] = record { key = 0; birth = 0 }
 first_in (p ∷ ps) = p
 
+-- the first parent of a node: of a record, its file
 abbrev pub first_parent : Graph → NodeId → NodeId
 first_parent g n = first_in (parents_of g n)

@@ -7,13 +7,16 @@ use Rattle.gl_graph.specs.Shapes.{Shape, Inner, File, Index, Interval, Rec, is_i
 use Rattle.gl_graph.specs.Graph.{Graph, Node, node_at, is_live, shape_of, is_child, node_count, indexes_of, interval, record_parents}
 use Rattle.gl_graph.specs.Routes.{IsAcyclic}
 
+-- each of these numbers is below all those behind it
 abbrev pub IsRising : List ℕ → Type 0
 IsRising [] = ⊤
 IsRising (b ∷ bs) = list_all (λ c. nat_lt b c) bs ≡ true × IsRising bs
 
+-- these are inner nodes
 abbrev pub are_inner : Graph → List NodeId → Bool
 are_inner g ps = list_all (λ p. is_inner_shape (shape_of g p)) ps
 
+-- no two of these are one node
 abbrev pub are_distinct : List NodeId → Bool
 are_distinct [] = true
 are_distinct (n ∷ ns) = not (list_any (same_node n) ns) && are_distinct ns
@@ -46,9 +49,11 @@ HasShape g n (Index f bs) ps = AreInnerParents g 1 ps × IsIndexNode g n f bs
 HasShape g n (Interval place) ps = (index : NodeId) × (ps ≡ index ∷ []) × (is_index_shape (shape_of g index) ≡ true) × (place ≤ length (bounds_in (shape_of g index))) × (n ≡ interval g index place)
 HasShape g n (Rec keys) ps = (file : NodeId) × IsRecordNode g keys ps file
 
+-- the node is what its shape asks
 abbrev pub IsWellFormed : Graph → NodeId → Node → Type 0
 IsWellFormed g n node = HasShape g n node.shape node.parents
 
+-- the law of a graph
 pub record IsLawfulGraph (g : Graph) : Type 0 where
   pub well_formed : (n : NodeId) (node : Node) → node_at g n ≡ Some node → IsWellFormed g n node
   pub parents_live : (n p : NodeId) → is_child g p n ≡ true → is_live g p ≡ true

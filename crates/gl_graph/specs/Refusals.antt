@@ -15,6 +15,7 @@ first_refusal [] = None
 first_refusal (None ∷ rs) = first_refusal rs
 first_refusal (Some r ∷ rs) = Some r
 
+-- a refusal, where the test fails
 abbrev pub where_true : Bool → Refusal → Option Refusal
 where_true b r = if b then Some r else None
 
@@ -26,9 +27,11 @@ max_count = 2 ^ 64 - 1
 abbrev pub births_worn : Graph → Bool
 births_worn g = nat_lt (max_count - 65536) g.births
 
+-- no more births can be given
 abbrev pub worn_births : Graph → Option Refusal
 worn_births g = where_true (births_worn g) no.WornOut
 
+-- one of these names no node
 abbrev pub some_no_node : Graph → List NodeId → Option Refusal
 some_no_node g ns = where_true (not (list_all (is_live g) ns)) no.NoSuchNode
 
@@ -40,9 +43,11 @@ bad_parents g least ps = nat_lt (length ps) least || nat_lt 8 (length ps) || not
 abbrev pub too_many_nodes : Graph → ℕ → Option Refusal
 too_many_nodes g more = where_true (nat_lt 65536 (node_count g + more)) no.TooManyNodes
 
+-- the file has records
 abbrev pub has_records : Graph → NodeId → Bool
 has_records g f = list_any (is_record_of g f) (nodes g)
 
+-- each of these numbers is below all those behind it
 abbrev pub is_rising : List ℕ → Bool
 is_rising [] = true
 is_rising (b ∷ bs) = list_all (λ c. nat_lt b c) bs && is_rising bs
@@ -56,9 +61,11 @@ abbrev pub parents_refusal : Graph → ℕ → List NodeId → Option Refusal
 parents_refusal g least ps =
     first_refusal (worn_births g ∷ some_no_node g ps ∷ where_true (bad_parents g least ps) no.BadParents ∷ too_many_nodes g 1 ∷ [])
 
+-- why no inner node can be made under these parents, if none can
 abbrev pub inner_refusal : Graph → List NodeId → Option Refusal
 inner_refusal g ps = parents_refusal g 0 ps
 
+-- why no file can
 abbrev pub file_refusal : Graph → List NodeId → Option Refusal
 file_refusal g ps = parents_refusal g 1 ps
 
@@ -66,6 +73,7 @@ file_refusal g ps = parents_refusal g 1 ps
 abbrev pub bad_index_place : Graph → List NodeId → NodeId → Bool
 bad_index_place g ps f = bad_parents g 1 ps || not (is_file_shape (shape_of g f)) || nat_le 7 (length (indexes_of g f))
 
+-- why no index of this file can be made under these parents, with these bounds
 abbrev pub index_refusal : Graph → List NodeId → NodeId → List ℕ → Option Refusal
 index_refusal g ps f bs =
     first_refusal (
@@ -73,6 +81,7 @@ index_refusal g ps f bs =
     ∷ where_true (bad_bounds bs) no.BadKeys ∷ too_many_nodes g (2 + length bs) ∷ []
     )
 
+-- why no record of this file can be made, with these keys
 abbrev pub record_refusal : Graph → NodeId → List ℕ → Option Refusal
 record_refusal g f keys =
     first_refusal (

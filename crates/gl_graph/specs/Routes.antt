@@ -15,6 +15,7 @@ IsRoute g n (p ∷ route) m = (list_any (same_node p) (parents_of g n) ≡ true)
 abbrev pub IsAcyclic : Graph → Type 0
 IsAcyclic g = (n p : NodeId) (route : List NodeId) → IsRoute g n (p ∷ route) n → ⊥
 
+-- a living node without parents
 abbrev pub IsRoot : Graph → NodeId → Type 0
 IsRoot g n = (is_live g n ≡ true) × (parents_of g n ≡ [])
 

@@ -14,6 +14,7 @@ use Rattle.gl_graph.specs.Graph.{node_count}
 use Rattle.gl_graph.specs.Lawful.{IsLawfulGraph}
 use Rattle.gl_graph.specs.View.{Vertex, View, graph_of, AgreesAt}
 
+-- what a body says of the shape
 abbrev pub shape_in_body : Body → Shape
 shape_in_body body.Inner = Inner
 shape_in_body (body.File indexes records) = File
@@ -21,18 +22,22 @@ shape_in_body (body.Index file bounds intervals) = Index file bounds.items
 shape_in_body (body.Interval place) = Interval place
 shape_in_body (body.Rec keys) = Rec keys.items
 
+-- a file's indexes, as they are kept
 abbrev pub indexes_in_body : Body → List NodeId
 indexes_in_body (body.File indexes records) = indexes.items
 indexes_in_body b = []
 
+-- the number of a file's records, as it is kept
 abbrev pub records_in_body : Body → ℕ
 records_in_body (body.File indexes records) = records
 records_in_body b = 0
 
+-- an index's intervals, as they are kept
 abbrev pub intervals_in_body : Body → List NodeId
 intervals_in_body (body.Index file bounds intervals) = intervals.items
 intervals_in_body b = []
 
+-- what a contract sees of a stored node
 abbrev pub vertex_of : Node → Vertex
 vertex_of x = record {
   birth = x.birth;
@@ -43,10 +48,12 @@ vertex_of x = record {
   intervals = intervals_in_body x.body;
 }
 
+-- the same of a slot
 abbrev pub see : Option Node → Option Vertex
 see None = None
 see (Some x) = Some (vertex_of x)
 
+-- what a contract sees of all slots
 abbrev pub seen : Slab Node → ℕ → View
 seen nodes births = record { slots = map see nodes.slots; births = births }
 
@@ -55,6 +62,7 @@ abbrev pub named_in : ℕ → Option Node → Option Node
 named_in birth None = None
 named_in birth (Some x) = if x.birth == birth then Some x else None
 
+-- the stored node that an id names
 abbrev pub named : Slab Node → NodeId → Option Node
 named nodes n = named_in n.birth (get nodes n.key)
 
@@ -79,10 +87,12 @@ IsPlainBody body.Inner = Unit {0}
 IsPlainBody (body.File indexes records) = (indexes.items ≡ []) × (records ≡ 0)
 IsPlainBody b = ⊥
 
+-- a file with this number of records
 abbrev pub body_with_records : Body → ℕ → Body
 body_with_records (body.File indexes records) fresh = body.File indexes fresh
 body_with_records b fresh = b
 
+-- a record with one key changed
 abbrev pub body_with_key : Body → ℕ → ℕ → Body
 body_with_key (body.Rec keys) place key = body.Rec (record keys { items = slice_set keys.items place key })
 body_with_key b place key = b
@@ -91,10 +101,12 @@ body_with_key b place key = b
 abbrev pub with_key_at : Node → ℕ → ℕ → NodeId → Node
 with_key_at x place key interval = record x { parents = record x.parents { items = slice_set x.parents.items (place + 1) interval }; body = body_with_key x.body place key }
 
+-- an index with these intervals
 abbrev pub body_with_intervals : Body → Vec NodeId Global → Body
 body_with_intervals (body.Index file bounds intervals) fresh = body.Index file bounds fresh
 body_with_intervals b fresh = b
 
+-- a file with these indexes
 abbrev pub body_with_indexes : Body → SmallVec NodeId → Body
 body_with_indexes (body.File indexes records) fresh = body.File fresh records
 body_with_indexes b fresh = b

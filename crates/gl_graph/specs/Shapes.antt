@@ -13,6 +13,7 @@ pub data Shape : Type 0 where
   Interval : (place : ℕ) → Shape
   Rec : (keys : List ℕ) → Shape
 
+-- the kind of a shape that is there
 abbrev pub kind_in : Option Shape → Option Kind
 kind_in None = None
 kind_in (Some Inner) = Some kind.Inner
@@ -21,18 +22,22 @@ kind_in (Some (Index file bounds)) = Some kind.Index
 kind_in (Some (Interval place)) = Some kind.Interval
 kind_in (Some (Rec keys)) = Some kind.Rec
 
+-- of an inner node
 abbrev pub is_inner_shape : Option Shape → Bool
 is_inner_shape (Some Inner) = true
 is_inner_shape s = false
 
+-- of a file
 abbrev pub is_file_shape : Option Shape → Bool
 is_file_shape (Some File) = true
 is_file_shape s = false
 
+-- of a record
 abbrev pub is_record_shape : Option Shape → Bool
 is_record_shape (Some (Rec keys)) = true
 is_record_shape s = false
 
+-- of an index
 abbrev pub is_index_shape : Option Shape → Bool
 is_index_shape (Some (Index file bounds)) = true
 is_index_shape s = false
@@ -54,10 +59,12 @@ abbrev pub least_parents : Option Shape → ℕ
 least_parents (Some Inner) = 0
 least_parents o = 1
 
+-- the bounds of an index
 abbrev pub bounds_in : Option Shape → List ℕ
 bounds_in (Some (Index file bounds)) = bounds
 bounds_in s = []
 
+-- the keys of a record
 abbrev pub keys_in : Option Shape → List ℕ
 keys_in (Some (Rec keys)) = keys
 keys_in s = []

@@ -19,9 +19,11 @@ pub record View : Type 0 where
   pub slots : List (Option Vertex)
   pub births : ℕ
 
+-- what is kept under a key
 abbrev pub vertex_at : View → ℕ → Option Vertex
 vertex_at v key = slice_index_or v.slots key None
 
+-- the node that it is
 abbrev pub node_of : ℕ → Vertex → Node
 node_of key x = record { key = key; shape = x.shape; parents = x.parents }
 
@@ -35,6 +37,7 @@ born_at key (Some x ∷ slots) birth = if x.birth == birth then Some (node_of ke
 abbrev pub graph_of : View → Graph
 graph_of v = record { at = born_at 0 v.slots; births = v.births }
 
+-- how many records a file has
 abbrev pub record_count : Graph → NodeId → ℕ
 record_count g f = count_by (is_record_of g f) (nodes g)
 
@@ -44,5 +47,6 @@ KeepsBeside g n x File = (x.indexes ≡ indexes_of g n) × (x.records ≡ record
 KeepsBeside g n x (Index file bounds) = (length x.intervals ≡ length bounds + 1) × ((place : ℕ) → place ≤ length bounds → slice_get x.intervals place ≡ Some (interval g n place))
 KeepsBeside g n x shape = Unit {0}
 
+-- what is kept beside the map of nodes agrees with it
 abbrev pub AgreesAt : Graph → ℕ → Vertex → Type 0
 AgreesAt g key x = KeepsBeside g (record { key = key; birth = x.birth }) x x.shape

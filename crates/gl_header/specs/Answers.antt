@@ -8,9 +8,11 @@ use Rattle.gl_header.specs.declared.header.Asked.TheVariants.{Granted, Waiting}
 use Rattle.gl_header.specs.declared.header.Try.{Try}
 use Rattle.gl_header.specs.declared.header.Try.TheVariants.{Granted as Tried, WouldBlock}
 
+-- what `ask` answers
 abbrev pub asked : HeaderState → ℕ → Mode → Asked
 asked h t m = if is_granted h t m then Granted (wanted h t m) else Waiting
 
+-- what `try_ask` answers
 abbrev pub tried : HeaderState → ℕ → Mode → Try
 tried h t m = if is_granted h t m then Tried (wanted h t m) else WouldBlock
 

@@ -89,6 +89,7 @@ wanted_by q t = mode_in (find (is_waiter t) q)
 abbrev pub is_ahead : List Waiter → ℕ → ℕ → Bool
 is_ahead q t u = is_among_waiters t q && is_among_waiters u (before_first (is_waiter t) q)
 
+-- there is none
 abbrev pub is_empty : {A : Type 0} → List A → Bool
 is_empty [] = true
 is_empty (x ∷ xs) = false
