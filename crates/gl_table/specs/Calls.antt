@@ -114,9 +114,7 @@ raised s t n = granted s t n (asked_by_escalation s t n)
 
 -- the children that n covers are released, and grant from their fronts
 abbrev pub shed : State → ℕ → NodeId → State
-shed s t n =
-    let up : State = s in
-    pumped (record up { held = λ u c. if (u == t) && is_covered up t n c then NL else up.held u c }) (is_covered up t n)
+shed s t n = pumped (record s { held = λ u c. if (u == t) && is_covered s t n c then NL else s.held u c }) (is_covered s t n)
 
 -- what a lock that waits leaves: at block, the asker is settled; by watcher, it waits
 abbrev pub WaitSettles : Detect → State → ℕ → State → Type 0
