@@ -25,36 +25,36 @@ abbrev c : TxnId
 c = txn 2 3
 
 -- a transaction's own grant does not stand in its way
-row_2 : Rows AtBlock 2 (
+row_own_grant : Rows AtBlock 2 (
     roots db ∷ begins a
     ∷ says (command.Try a db IX) (answer.Granted IX)
     ∷ says (command.Try a db S) (answer.Granted SIX)
     ∷ group db SIX
     ∷ done (command.Commit a)
     ∷ group db NL ∷ [])
-row_2 = computed refl
+row_own_grant = computed refl
 
 -- a release grants from the queue, and the group mode is lowered
-row_3 : Rows AtBlock 2 (
+row_grant_on_commit : Rows AtBlock 2 (
     roots db ∷ begins a ∷ begins b
     ∷ locks a S db
     ∷ waits b IX db
     ∷ tells (command.Commit a) b (notice.Granted db IX)
     ∷ group db IX ∷ [])
-row_3 = computed refl
+row_grant_on_commit = computed refl
 
 -- a newcomer waits behind a queue though it goes with all that is granted
-row_4 : Rows AtBlock 3 (
+row_newcomer_behind_queue : Rows AtBlock 3 (
     roots db ∷ begins a ∷ begins b ∷ begins c
     ∷ locks a S db
     ∷ waits b X db
     ∷ waits c S db
     ∷ tells (command.Commit a) b (notice.Granted db X)
     ∷ tells (command.Commit b) c (notice.Granted db S) ∷ [])
-row_4 = computed refl
+row_newcomer_behind_queue = computed refl
 
 -- a conversion waits ahead of newcomers
-row_5 : Rows AtBlock 3 (
+row_conversion_ahead : Rows AtBlock 3 (
     roots db ∷ begins a ∷ begins b ∷ begins c
     ∷ locks a S db
     ∷ locks b S db
@@ -62,10 +62,10 @@ row_5 : Rows AtBlock 3 (
     ∷ waits a X db
     ∷ tells (command.Commit b) a (notice.Granted db X)
     ∷ holds c db NL ∷ [])
-row_5 = computed refl
+row_conversion_ahead = computed refl
 
 -- two conversions that wait for each other: the youngest is the victim, here the asker
-row_6 : Rows AtBlock 2 (
+row_asker_is_victim : Rows AtBlock 2 (
     roots db ∷ begins a ∷ begins b
     ∷ locks a S db
     ∷ locks b S db
@@ -73,20 +73,20 @@ row_6 : Rows AtBlock 2 (
     ∷ says (command.Lock b db X) answer.Victim
     ∷ refuses (command.Commit b) no.TxnCondemned
     ∷ tells (command.Abort b) a (notice.Granted db X) ∷ [])
-row_6 = computed refl
+row_asker_is_victim = computed refl
 
 -- and here the one that waited first
-row_7 : Rows AtBlock 2 (
+row_other_is_victim : Rows AtBlock 2 (
     roots db ∷ begins a ∷ begins b
     ∷ locks a S db
     ∷ locks b S db
     ∷ waits b X db
     ∷ (command.Lock a db X, answer.Waiting, (b, notice.Victim) ∷ [])
     ∷ tells (command.Abort b) a (notice.Granted db X) ∷ [])
-row_7 = computed refl
+row_other_is_victim = computed refl
 
 -- a cycle through a waiter that stands ahead
-row_8 : Rows AtBlock 3 (
+row_cycle_through_waiter_ahead : Rows AtBlock 3 (
     roots (id 1) ∷ roots (id 2) ∷ begins a ∷ begins b ∷ begins c
     ∷ locks a S (id 1)
     ∷ locks c X (id 2)
@@ -94,18 +94,18 @@ row_8 : Rows AtBlock 3 (
     ∷ waits c S (id 1)
     ∷ (command.Lock a (id 2) S, answer.Waiting, (c, notice.Victim) ∷ [])
     ∷ tells (command.Abort c) a (notice.Granted (id 2) S) ∷ [])
-row_8 = computed refl
+row_cycle_through_waiter_ahead = computed refl
 
 -- the lowest free slot is taken, and the limit is what the state says
-row_17 : Rows AtBlock 64 (
+row_lowest_slot : Rows AtBlock 64 (
     map (λ k. begins (txn k (k + 1))) (range_with_len 0 64)
     ++ refuses command.Begin no.TooManyTxns
     ∷ done (command.Commit (txn 5 6))
     ∷ begins (txn 5 65) ∷ [])
-row_17 = computed refl
+row_lowest_slot = computed refl
 
 -- a try does not wait, and a wait can be given up
-row_19 : Rows AtBlock 2 (
+row_try_and_cancel : Rows AtBlock 2 (
     roots db ∷ begins a ∷ begins b
     ∷ locks a S db
     ∷ refuses (command.Try b db IX) no.WouldBlock
@@ -115,10 +115,10 @@ row_19 : Rows AtBlock 2 (
     ∷ refuses (command.Commit b) no.TxnWaiting
     ∷ done (command.Cancel b)
     ∷ done (command.Commit b) ∷ [])
-row_19 = computed refl
+row_try_and_cancel = computed refl
 
 -- with detection by a watcher a deadlock stays until someone asks to settle it
-row_20 : Rows ByWatcher 2 (
+row_by_watcher : Rows ByWatcher 2 (
     roots db ∷ begins a ∷ begins b
     ∷ locks a S db
     ∷ locks b S db
@@ -127,4 +127,4 @@ row_20 : Rows ByWatcher 2 (
     ∷ tells (command.Settle a) b notice.Victim
     ∷ done (command.Settle a)
     ∷ tells (command.Abort b) a (notice.Granted db X) ∷ [])
-row_20 = computed refl
+row_by_watcher = computed refl

@@ -11,7 +11,7 @@ use Rattle.gl_catalog.specs.declared.command.Command.TheVariants as command
 use Rattle.gl_catalog.proofs.RowWords.{Rows, a, b, begins, c, computed, db, done, f1, holds, i1, i1_0, i1_1, locks, locks_all, prelude, r1, r2, ref, refuses, says, tells, waits}
 
 -- X asks IX on every parent, S on one; a node is left after its children
-row_9 : Rows AtBlock 1 (prelude ++
+row_graph_rule : Rows AtBlock 1 (prelude ++
     begins a ∷ locks_all a IX (db ∷ f1 ∷ []) ++
     refuses (command.Lock a r1 X) (no.NeedParents i1_0)
     ∷ locks a S r1
@@ -20,10 +20,10 @@ row_9 : Rows AtBlock 1 (prelude ++
     ∷ done (command.Unlock a r1)
     ∷ done (command.Unlock a f1)
     ∷ refuses (command.Unlock a f1) no.NotHeld ∷ [])
-row_9 = computed refl
+row_graph_rule = computed refl
 
 -- X on one parent is not X on the record
-row_10 : Rows AtBlock 2 (prelude ++
+row_effective : Rows AtBlock 2 (prelude ++
     begins a ∷ begins b
     ∷ locks a IX db
     ∷ locks a X f1
@@ -31,10 +31,10 @@ row_10 : Rows AtBlock 2 (prelude ++
     ++ locks b S r1
     ∷ says (command.Effective a r1) (answer.Effect effect.S)
     ∷ says (command.Effective a f1) (answer.Effect effect.X) ∷ [])
-row_10 = computed refl
+row_effective = computed refl
 
 -- a rekey asks IX on the new interval
-row_11 : Rows AtBlock 2 (prelude ++
+row_rekey_needs_new_interval : Rows AtBlock 2 (prelude ++
     begins a ∷ begins b ∷ locks_all a IX (db ∷ f1 ∷ i1 ∷ i1_0 ∷ [])
     ++ locks a X r1
     ∷ locks_all b IS (db ∷ i1 ∷ [])
@@ -43,10 +43,10 @@ row_11 : Rows AtBlock 2 (prelude ++
     ∷ waits a IX i1_1
     ∷ tells (command.Commit b) a (notice.Granted i1_1 IX)
     ∷ done (command.Rekey a r1 i1 150) ∷ [])
-row_11 = computed refl
+row_rekey_needs_new_interval = computed refl
 
 -- of the waiters on a record that moves those go that lose the rule of the graph
-row_12 : Rows AtBlock 3 (prelude ++
+row_rekey_moves_waiters : Rows AtBlock 3 (prelude ++
     begins a ∷ begins b ∷ begins c ∷ locks_all a IX (db ∷ f1 ∷ i1 ∷ i1_0 ∷ [])
     ++ locks a X r1
     ∷ locks a IX i1_1
@@ -59,10 +59,10 @@ row_12 : Rows AtBlock 3 (prelude ++
     ∷ done (command.Unlock a i1_0)
     ∷ refuses (command.Unlock a i1_1) (no.HeldChild r1)
     ∷ tells (command.Commit a) c (notice.Granted r1 S) ∷ [])
-row_12 = computed refl
+row_rekey_moves_waiters = computed refl
 
 -- X on all old and all new parents does in place of X on the record
-row_13 : Rows AtBlock 1 (prelude ++
+row_rekey_under_parents : Rows AtBlock 1 (prelude ++
     begins a
     ∷ locks a IX db
     ∷ locks a X f1
@@ -73,10 +73,10 @@ row_13 : Rows AtBlock 1 (prelude ++
     ∷ locks a X i1_1
     ∷ done (command.Rekey a r1 i1 150)
     ∷ says (command.Effective a r1) (answer.Effect effect.X) ∷ [])
-row_13 = computed refl
+row_rekey_under_parents = computed refl
 
 -- an escalation keeps an X that not all parents imply
-row_14 : Rows AtBlock 1 (prelude ++
+row_escalate : Rows AtBlock 1 (prelude ++
     begins a ∷ locks_all a IX (db ∷ f1 ∷ i1 ∷ [])
     ++ locks a X i1_0
     ∷ locks a IX i1_1
@@ -86,10 +86,10 @@ row_14 : Rows AtBlock 1 (prelude ++
     ∷ holds a r1 NL
     ∷ says (command.Effective a r1) (answer.Effect effect.X)
     ∷ holds a r2 X ∷ [])
-row_14 = computed refl
+row_escalate = computed refl
 
 -- who waits on a record that is deleted is told, and keeps its other locks
-row_15 : Rows AtBlock 2 (prelude ++
+row_delete_with_waiter : Rows AtBlock 2 (prelude ++
     begins a ∷ begins b ∷ locks_all a IX (db ∷ f1 ∷ i1 ∷ i1_0 ∷ [])
     ++ locks a X r1
     ∷ locks_all b IS (db ∷ f1 ∷ [])
@@ -97,17 +97,17 @@ row_15 : Rows AtBlock 2 (prelude ++
     ∷ tells (command.Delete a r1) b notice.Gone
     ∷ refuses (command.Held b r1) no.NoSuchNode
     ∷ holds b f1 IS ∷ [])
-row_15 = computed refl
+row_delete_with_waiter = computed refl
 
 -- the interval in which a key lies, at its edges
-row_16 : Rows AtBlock 1 (prelude ++
+row_insert : Rows AtBlock 1 (prelude ++
     begins a ∷ locks_all a IX (db ∷ f1 ∷ [])
     ++ refuses (command.Insert a f1 (ref (0 ∷ []))) (no.NeedParents i1_0)
     ∷ refuses (command.Insert a f1 (ref (99 ∷ []))) (no.NeedParents i1_0)
     ∷ refuses (command.Insert a f1 (ref (100 ∷ []))) (no.NeedParents i1_1)
     ∷ refuses (command.Insert a f1 (ref (18446744073709551615 ∷ []))) (no.NeedParents i1_1)
     ∷ refuses (command.Insert a f1 (ref [])) no.BadKeys ∷ [])
-row_16 = computed refl
+row_insert = computed refl
 
 -- a key is used again, and the old name names nothing
 row_key_again : Rows AtBlock 1 (prelude ++
