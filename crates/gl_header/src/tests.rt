@@ -191,6 +191,21 @@ fn look(header: &Header) -> Seen {
     seen
 }
 
+/// Grows as the two tests below do, and fails where a growth is refused.
+#[test]
+fn many_wait_and_many_hold(rt: HostRuntime) -> Result<(), Refusal> {
+    let mut waited = Header::new(rt.alloc());
+    let mut held = Header::new(rt.alloc());
+    for slot in 0..24 {
+        let mode = if slot == 0 { Mode::X } else { Mode::S };
+        ask(&mut waited, slot, mode)?;
+        try_ask(&mut held, slot, Mode::IS)?;
+    }
+    assert_eq!(rt; waited.wanted_by(23), Some(Mode::S));
+    assert_eq!(rt; held.mode_of(23), Mode::IS);
+    Ok(())
+}
+
 /// Where a wait's growth is refused nothing has changed, and the call made again goes on.
 #[test]
 fn a_refused_wait_changes_nothing(rt: HostRuntime) -> Result<(), Refusal> {
