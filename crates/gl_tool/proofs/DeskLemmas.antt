@@ -156,10 +156,6 @@ pub all-seen : (p : ℕ → Bool) (es : List (ArrayVec ℕ × ℕ)) → list_all
 all-seen p [] = refl
 all-seen p (e ∷ es) = ap (λ b. p e.1 && b) (all-seen p es)
 
-pub fold-seen : (f : Mode → ℕ → Mode) (m : Mode) (es : List (ArrayVec ℕ × ℕ)) → fold (λ a u. f a u.1) m (map seen es) ≡ fold f m (map (λ e. e.1) es)
-fold-seen f m [] = refl
-fold-seen f m (e ∷ es) = fold-seen f (f m e.1) es
-
 -- the test of a lock, by the values of the map of names
 pub fits-tested : {S : Type 0} (txns : IndexMap (ArrayVec ℕ) ℕ S) (held : ℕ → ℕ → Mode) (t n : ℕ) (m asked : Mode) (result answer : Bool)
     → result ≡ list_all (λ u. (u == t) || are_compatible asked (held u n)) (values txns) → asked ≡ m → result ≡ answer → fits (names_of txns) held t n m ≡ answer
