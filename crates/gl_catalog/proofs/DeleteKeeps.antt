@@ -24,8 +24,8 @@ use Rattle.gl_catalog.proofs.KeepsLaw.{KeepsLaw}
 use Rattle.gl_graph.proofs.Look.{split, no, or_left, or_right, other_node, node_other, same_node_refl}
 use Rattle.gl_graph.proofs.KindRules.{is_plain, parent_plain, rec_not_plain}
 use Rattle.gl_graph.proofs.Removed.{stays_there, removed_lawful}
-use Rattle.gl_catalog.proofs.MakeKeeps.{waits_among}
 use Rattle.gl_graph.proofs.Unrefused.{not_refused, test_fails, not_false}
+use Rattle.gl_table.proofs.Queues.{among_by_filter}
 use Rattle.gl_table.proofs.Waiting.{some_freed, age_freed, still_waits, waits_still}
 
 pub all_same : (p q : NodeId → Bool) (ps : List NodeId) → ((x : NodeId) → list_any (same_node x) ps ≡ true → q x ≡ p x) → list_all q ps ≡ list_all p ps
@@ -97,7 +97,7 @@ module _ (s : State) (law : IsLawful s) (r : NodeId) (rec : is_record_shape (sha
     waits_intend = λ u q m st.
         let w = waited u q m st in
         let old = law.waits_intend u q m w.0 in
-        let live = law.waits_live u q (waits_among s law u q m w.0) in
+        let live = law.waits_live u q (among_by_filter u (u, m) [] (s.queue q) (law.one_wait u q m w.0)) in
         (rule_later u q m live w.1 old.0, old.1, ap (is_at_least m) (held_there u q w.1) ∙ old.2, kind_later q m live w.1 old.3);
     one_wait = λ u q m st. let w = waited u q m st in ap (filter (is_waiter u)) (queue_there q w.1) ∙ law.one_wait u q m w.0;
     waits_are = λ u q h. let w = was_among u q h in waits_still r q (s.txns u) (law.waits_are u q w.1) w.0;

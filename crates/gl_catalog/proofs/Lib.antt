@@ -12,8 +12,6 @@ pub mod MoveCommands
 pub mod StepsKeepLaw
 -- no command makes a circle of waits
 pub mod Detection
-pub mod NewEdges
-pub mod NoCycle
 pub mod StepNoCycle
 -- what others cannot do to a holder
 pub mod OtherChanges

@@ -1,6 +1,6 @@
 -- New nodes keep the law of a state: inner, file, index and insert.
-use Rattle.std.specs.Prelude.{◌≡◌, ℕ, ◌+◌, Bool, true, not, ◌||◌, ◌==◌, List, [], ◌∷◌, length, Option, Some, None, is_some, if◌then◌else◌}
-use Rattle.std.specs.List.{list_all, list_any, filter, range_with_len}
+use Rattle.std.specs.Prelude.{◌≡◌, ℕ, ◌+◌, true, not, ◌||◌, ◌==◌, List, [], ◌∷◌, length, Option, Some, None, is_some}
+use Rattle.std.specs.List.{list_all, range_with_len}
 use denote.Bor.{Bor}
 use Rattle.std.proofs.Common.{refl, sym, ap, ◌∙◌, subst, arith}
 use Rattle.gl_modes.specs.declared.mode.Mode.{Mode}
@@ -9,73 +9,28 @@ use Rattle.gl_modes.specs.declared.node.NodeId.{NodeId}
 use Rattle.gl_modes.specs.declared.refusal.Refusal.{Refusal}
 use Rattle.gl_modes.specs.Modes.{are_compatible, is_at_least}
 use Rattle.gl_table.specs.declared.txn.TxnId.{TxnId}
-use Rattle.gl_table.specs.declared.txn.Status.TheVariants.{Waiting}
 use Rattle.gl_catalog.specs.declared.command.Command.TheVariants as command
-use Rattle.gl_graph.specs.Graph.{Graph, Node, node_at, is_live, parents_in, shape_in, shape_of, indexes_of, record_parents}
-use Rattle.gl_graph.specs.Shapes.{Inner, File, Index, Rec, is_record_shape, is_file_shape}
-use Rattle.gl_graph.specs.Changes.{born_node, born_index, interval_nodes}
+use Rattle.gl_graph.specs.Graph.{Graph, Node, node_at, is_live, parents_in, shape_of, indexes_of, record_parents}
+use Rattle.gl_graph.specs.Shapes.{Rec, is_file_shape}
+use Rattle.gl_graph.specs.Changes.{born_node}
 use Rattle.gl_graph.specs.Lawful.{IsLawfulGraph}
-use Rattle.gl_header.specs.Header.{Waiter, holds, is_waiter, is_among_waiters}
-use Rattle.gl_table.specs.State.{State, members, status_of, with_graph}
-use Rattle.gl_table.specs.Intends.{intends, intends_over}
-use Rattle.gl_table.specs.Lawful.{ModeFitsKind, IsLawful}
+use Rattle.gl_header.specs.Header.{holds}
+use Rattle.gl_table.specs.State.{State, members, status_of}
+use Rattle.gl_table.specs.Intends.{intends_over}
+use Rattle.gl_table.specs.Lawful.{IsLawful}
 use Rattle.gl_graph.specs.Refusals.{file_refusal, first_refusal, index_refusal, inner_refusal, some_no_node, too_many_nodes, where_true, worn_births}
 use Rattle.gl_catalog.specs.Tests.{worn}
 use Rattle.gl_table.specs.Refusals.{no_txn, waiting_test, condemned_test, first_not_ix}
 use Rattle.gl_catalog.proofs.KeepsLaw.{KeepsLaw}
 use Rattle.gl_graph.proofs.Look.{split, or_right, both, same_number}
-use Rattle.gl_graph.proofs.Born.{old_same, old_below, new_node}
-use Rattle.gl_graph.proofs.NewNodes.{inner_lawful, file_lawful, record_lawful}
-use Rattle.gl_graph.proofs.NewIndex.{index_lawful}
+use Rattle.gl_graph.proofs.Born.{old_below, new_node}
+use Rattle.gl_graph.proofs.NewNodes.{record_lawful}
+use Rattle.gl_table.proofs.Births.{born-lawful, file-grows, grown-lawful, index-grows, inner-grows}
 use Rattle.gl_table.proofs.GrantKeeps.{nl_is, with_grant-lawful}
-use Rattle.gl_graph.proofs.Unrefused.{not_refused, test_fails, not_false, enough_room, parents_unrefused, index_unrefused}
-use Rattle.gl_catalog.proofs.Made.{made, next_id, made_is, indexed_is, inserted_is}
+use Rattle.gl_graph.proofs.Unrefused.{not_refused, test_fails, not_false, enough_room}
+use Rattle.gl_catalog.proofs.Made.{made, next_id, inserted_is}
 use Rattle.gl_catalog.proofs.NotRefused.{active_is}
-use Rattle.gl_table.proofs.Tests.{all_ix}
-
--- what a filter leaves passes its test
-pub any_of_filter : (p : Waiter → Bool) (xs ys : List Waiter) (y : Waiter) → filter p xs ≡ y ∷ ys → list_any p xs ≡ true
-any_of_filter p [] ys y e = cc
-any_of_filter p (x ∷ xs) ys y e =
-    split (p x) (λ t. ap (λ b. b || list_any p xs) t) (λ t. ap (λ b. b || list_any p xs) t ∙ any_of_filter p xs ys y (sym (ap (λ b. if b then x ∷ filter p xs else filter p xs) t) ∙ e))
-
--- who waits on a node stands in its queue, and the node lives
-pub waits_among : (s : State) (law : IsLawful s) (t : ℕ) (n : NodeId) (m : Mode) → status_of s t ≡ Some (Waiting n m) → is_among_waiters t (s.queue n) ≡ true
-waits_among s law t n m st = any_of_filter (is_waiter t) (s.queue n) [] (t, m) (law.one_wait t n m st)
-
-module _ (s : State) (law : IsLawful s) (g' : Graph) (lawful : IsLawfulGraph g') (same : (n : NodeId) → is_live s.graph n ≡ true → node_at g' n ≡ node_at s.graph n) where
-  live_later : (n : NodeId) → is_live s.graph n ≡ true → is_live g' n ≡ true
-  live_later n h = ap is_some (same n h) ∙ h
-
-  kind_later : (n : NodeId) (m : Mode) → is_live s.graph n ≡ true → ModeFitsKind s n m → ModeFitsKind (with_graph s g') n m
-  kind_later n m h k rec = k (sym (ap (λ o. is_record_shape (shape_in o)) (same n h)) ∙ rec)
-
-  rule_later : (t : ℕ) (n : NodeId) (m : Mode) → is_live s.graph n ≡ true → intends s t n m ≡ true → intends (with_graph s g') t n m ≡ true
-  rule_later t n m h k = ap (λ o. intends_over (s.held t) (parents_in o) m) (same n h) ∙ k
-
-  -- a graph in which all old nodes are as they were
-  pub regraphed_lawful : IsLawful (with_graph s g')
-  regraphed_lawful = record {
-    graph = lawful;
-    grants_live = λ t n h. let old = law.grants_live t n h in (old.0, live_later n old.1, kind_later n (s.held t n) old.1 old.2);
-    waits_live = λ t n h. live_later n (law.waits_live t n h);
-    compatible = law.compatible;
-    grants_intend = λ t n h. rule_later t n (s.held t n) (law.grants_live t n h).1 (law.grants_intend t n h);
-    waits_intend = λ t n m st.
-        let live = law.waits_live t n (waits_among s law t n m st) in
-        let old = law.waits_intend t n m st in
-        (rule_later t n m live old.0, old.1, old.2, kind_later n m live old.3);
-    one_wait = law.one_wait;
-    waits_are = law.waits_are;
-    holders_first = law.holders_first;
-    front_waits = law.front_waits;
-    slots_below = law.slots_below;
-    ages = law.ages;
-    ages_differ = law.ages_differ;
-  }
-
-pub made_lawful : (s : State) (law : IsLawful s) (node : Node) → IsLawfulGraph (born_node s.graph node) → IsLawful (made s node)
-made_lawful s law node lawful = regraphed_lawful s law (born_node s.graph node) lawful (old_same s.graph law.graph (node ∷ []))
+use Rattle.gl_table.proofs.TestsPass.{all_ix}
 
 -- a test that was passed behind the count of commands
 behind_worn : (s : State) (o : Option Refusal) → first_refusal (worn s ∷ o ∷ []) ≡ None → o ≡ None
@@ -83,25 +38,16 @@ behind_worn s o h = (not_refused o [] (not_refused (worn s) (o ∷ []) h).1).0
 
 pub inner_keeps : (ps : Bor (List NodeId)) → KeepsLaw (command.Inner ps)
 inner_keeps ps s s' a told law free acc =
-    let room = parents_unrefused s.graph 0 ps.now (behind_worn s (inner_refusal s.graph ps.now) free) in
-    let node : Node = record { key = acc.0.key; shape = Inner; parents = ps.now } in
-    subst IsLawful (sym (made_is s s' acc.1 acc.4)) (made_lawful s law node (inner_lawful s.graph law.graph acc.0.key ps.now room.inner acc.1.key_free room.room))
+    subst IsLawful (sym acc.4) (grown-lawful s law s'.graph (inner-grows s.graph s'.graph law.graph ps.now acc.0 (behind_worn s (inner_refusal s.graph ps.now) free) acc.1))
 
 pub file_keeps : (ps : Bor (List NodeId)) → KeepsLaw (command.File ps)
 file_keeps ps s s' a told law free acc =
-    let room = parents_unrefused s.graph 1 ps.now (behind_worn s (file_refusal s.graph ps.now) free) in
-    let node : Node = record { key = acc.0.key; shape = File; parents = ps.now } in
-    subst IsLawful (sym (made_is s s' acc.1 acc.4)) (made_lawful s law node (file_lawful s.graph law.graph acc.0.key ps.now room.inner acc.1.key_free room.room))
+    subst IsLawful (sym acc.4) (grown-lawful s law s'.graph (file-grows s.graph s'.graph law.graph ps.now acc.0 (behind_worn s (file_refusal s.graph ps.now) free) acc.1))
 
 pub index_keeps : (ps : Bor (List NodeId)) (f : NodeId) (bs : Bor (List ℕ)) → KeepsLaw (command.Index ps f bs)
 index_keeps ps f bs s s' a told law free acc =
-    let room = index_unrefused s.graph ps.now f bs.now (behind_worn s (index_refusal s.graph ps.now f bs.now) free) in
-    let born = acc.1 in
-    let index : Node = record { key = acc.0.key; shape = Index f bs.now; parents = ps.now } in
-    let id : NodeId = record { key = acc.0.key; birth = s.graph.births + 1 } in
-    let lawful = index_lawful s.graph law.graph acc.0.key ps.now f bs.now born.interval_keys room.inner room.file room.few room.rise room.unused room.indexes born.intervals born.keys_apart born.keys_free room.room in
-    subst IsLawful (sym (indexed_is s s' born acc.4))
-    (regraphed_lawful s law (born_index s.graph acc.0.key ps.now f bs.now born.interval_keys) lawful (old_same s.graph law.graph (index ∷ interval_nodes id 0 born.interval_keys)))
+    subst IsLawful (sym acc.4)
+    (grown-lawful s law s'.graph (index-grows s.graph s'.graph law.graph ps.now acc.0 f bs.now (behind_worn s (index_refusal s.graph ps.now f bs.now) free) acc.1))
 
 -- nobody holds a node that does not live
 pub nobody_holds : (s : State) (law : IsLawful s) (u : ℕ) (n : NodeId) → (is_live s.graph n ≡ true → ⊥) → s.held u n ≡ NL
@@ -135,7 +81,7 @@ insert_keeps t f keys s s' a told law free acc =
     let there : node_at (born_node s.graph node) id ≡ Some node = new_there s.graph law.graph node in
     let fresh : (u : ℕ) → s.held u id ≡ NL = λ u. nobody_holds s law u id (λ h. let low = old_below s.graph law.graph (node ∷ []) id h in absurd (omega arith)) in
     subst IsLawful (sym (inserted_is s s' t.slot acc.1 acc.4))
-    (with_grant-lawful (made s node) (made_lawful s law node graph) t.slot id X (active_is s t t2.0 t3.0 t4.0) (ap is_some there) (λ _. refl)
+    (with_grant-lawful (made s node) (born-lawful s law (node ∷ []) graph) t.slot id X (active_is s t t2.0 t3.0 t4.0) (ap is_some there) (λ _. refl)
     (ap (λ o. intends_over (s.held t.slot) (parents_in o) X) there ∙ all_write (s.held t.slot) node.parents (all_ix (s.held t.slot) node.parents t8.0))
     (nl_below (s.held t.slot id) (fresh t.slot))
     (x_fits s.most (λ u. s.held u id) t.slot (range_with_len 0 s.most) fresh))

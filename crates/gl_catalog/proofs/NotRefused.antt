@@ -14,7 +14,7 @@ use Rattle.gl_table.specs.Intends.{no_parents}
 use Rattle.gl_table.specs.Refusals.{no_txn, waiting_test, condemned_test, first_not_ix, need_exclusive, need_new_parents, holds_x, holds_x_on_all, some_given}
 use Rattle.gl_graph.proofs.Look.{split, no, none_some, and_both}
 use Rattle.gl_graph.proofs.Unrefused.{test_fails, not_false}
-use Rattle.gl_table.proofs.Tests.{all_ix}
+use Rattle.gl_table.proofs.TestsPass.{all_ix}
 use Rattle.std.proofs.lemmas.Bool.Decides.{nat_tests}
 use mathlib.Core.Bool.{true≢false}
 use Rattle.gl_graph.specs.Shapes.{Shape, Inner, File, Index, Interval, Rec, is_record_shape}

@@ -15,25 +15,28 @@ use Rattle.gl_graph.specs.Graph.{Graph}
 use Rattle.gl_modes.specs.Nodes.{same_node}
 use Rattle.gl_graph.specs.Changes.{rekeyed, rekeyed_parents, with_parents}
 use Rattle.gl_header.specs.Header.{Waiter, is_ahead, is_among_waiters, is_waiter}
-use Rattle.gl_table.specs.State.{State, Txn, status_in, status_of, empty_state, with_graph}
+use Rattle.gl_table.specs.State.{State, Txn, status_in, status_of, with_graph}
 use Rattle.gl_table.specs.Waiting.{waits_for, HasNoCycle}
 use Rattle.gl_table.specs.Lawful.{IsLawful}
 use Rattle.gl_table.specs.Tellings.{Told}
 use Rattle.gl_catalog.specs.Step.{Accepts, Step}
 use Rattle.gl_catalog.specs.Tests.{refusal_of, worn}
-use Rattle.gl_table.specs.Refusals.{held_child, not_held}
-use Rattle.gl_table.specs.Calls.{wanted, deleted, freed, freed_unless, moved_to, stays}
-use Rattle.gl_table.specs.Laws.{EmptyHasNoCycle}
+use Rattle.gl_modes.specs.declared.refusal.Refusal.TheVariants as no
+use Rattle.gl_table.specs.declared.txn.TxnId.{TxnId}
+use Rattle.gl_graph.specs.Graph.{shape_of}
+use Rattle.gl_graph.specs.Shapes.{is_record_shape}
+use Rattle.gl_table.specs.Refusals.{escalation_blocks, held_child, not_held}
+use Rattle.gl_table.specs.Calls.{asked_by_escalation, raised, shed, wanted, deleted, freed, freed_unless, moved_to, stays}
 use Rattle.gl_catalog.specs.Promises.{RunsKeepNoCycle}
-use Rattle.gl_graph.specs.Refusals.{worn_births}
-use Rattle.gl_graph.proofs.Unrefused.{not_refused}
+use Rattle.gl_graph.specs.Refusals.{where_true, worn_births}
+use Rattle.gl_graph.proofs.Unrefused.{not_false, not_refused, test_fails}
+use Rattle.gl_table.proofs.Escalates.{raised-lawful}
 use Rattle.gl_table.proofs.Queues.{ahead, ahead_is, ahead_first, clash, none_filtered}
-use Rattle.gl_table.proofs.Tests.{active_after}
-use Rattle.gl_waits.proofs.WalkLemmas.{no_step-no_cycle}
+use Rattle.gl_table.proofs.TestsPass.{active_after}
 use Rattle.gl_waits.proofs.CycleLemmas.{less-no_cycle}
-use Rattle.gl_table.proofs.Edges.{step_is, is_step, idle_no_step}
+use Rattle.gl_table.proofs.Edges.{step_is, is_step}
 use Rattle.gl_table.proofs.Locked.{may_lock}
-use Rattle.gl_catalog.proofs.NoCycle.{begun-no_cycle, granted-no_cycle, locks-no_cycle, unlocked-no_cycle, escalated-no_cycle, given_up-no_cycle, released-no_cycle, settled-no_cycle}
+use Rattle.gl_table.proofs.NoCycle.{begun-no_cycle, granted-no_cycle, locks-no_cycle, unlocked-no_cycle, shed-no_cycle, given_up-no_cycle, released-no_cycle, settled-no_cycle}
 use Rattle.gl_catalog.proofs.EachStep.{each_step}
 use Rattle.gl_catalog.proofs.Detection.{steps_keep_detect}
 use Rattle.gl_catalog.proofs.StepsKeepLaw.{steps_keep_law}
@@ -109,6 +112,17 @@ moved_steps s law r ps g x y h =
 moved-no_cycle : (s : State) → IsLawful s → (r : NodeId) (ps : List NodeId) (g : Graph) → HasNoCycle s → HasNoCycle (moved_to s r ps g)
 moved-no_cycle s law r ps g none = less-no_cycle (waits_for s) (waits_for (moved_to s r ps g)) (moved_steps s law r ps g) none
 
+-- the grant is raised, and then the children are released
+escalated-no_cycle : (s : State) → IsLawful s → (t : TxnId) (n : NodeId) → refusal_of s (command.Escalate t n) ≡ None → HasNoCycle s → HasNoCycle (shed (raised s t.slot n) t.slot n)
+escalated-no_cycle s law t n h none =
+    let a = active_after s t n (worn s) _ h in
+    let b = not_refused (where_true (is_record_shape (shape_of s.graph n)) no.BadParents) _ a.2 in
+    let c = not_refused (not_held s t.slot n) _ b.1 in
+    let d = not_refused (escalation_blocks s t.slot n) [] c.1 in
+    shed-no_cycle (raised s t.slot n)
+    (raised-lawful s law t.slot n a.0 a.1 (test_fails _ _ b.0) (not_false _ (test_fails _ _ c.0)) (not_false _ (test_fails _ _ d.0))) t.slot n a.0
+    (granted-no_cycle s t.slot n (wanted s t.slot n (asked_by_escalation s t.slot n)) a.0 none)
+
 accepts-no_cycle : (s : State) (c : Command) (a : Answer) (told' : Told) (s' : State) → s.detect ≡ AtBlock → IsLawful s → HasNoCycle s → refusal_of s c ≡ None → Accepts s c a told' s' → HasNoCycle s'
 accepts-no_cycle s (command.Inner ps) a told' s' at law none h acc = subst HasNoCycle (sym acc.4) none
 accepts-no_cycle s (command.File ps) a told' s' at law none h acc = subst HasNoCycle (sym acc.4) none
@@ -145,6 +159,3 @@ runs_keep_no_cycle s s' [] (r ∷ rs) at law none run = absurd run
 runs_keep_no_cycle s s' (c ∷ cs) [] at law none run = absurd run
 runs_keep_no_cycle s s' (c ∷ cs) (r ∷ rs) at law none run =
     runs_keep_no_cycle run.0 s' cs rs (steps_keep_detect s run.0 c r.0 r.1 run.1 ∙ at) (steps_keep_law s run.0 c r.0 r.1 law run.1) (steps_keep_no_cycle s run.0 c r.0 r.1 at law none run.1) run.2
-
-pub empty-no_cycle : EmptyHasNoCycle
-empty-no_cycle d most t = no_step-no_cycle (waits_for (empty_state d most)) t (idle_no_step (empty_state d most) t (λ n m st. cc))

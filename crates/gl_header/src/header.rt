@@ -102,6 +102,20 @@ impl Header {
         self.group
     }
 
+    /// The members, each with the mode that it holds.
+    pub fn members(&self) -> &[(u8, Mode)]
+        ensures { result.now ≡ self.now.members }
+    {
+        self.members.as_slice()
+    }
+
+    /// The waiters from the front on, each with the mode that it waits for.
+    pub fn queue(&self) -> &[(u8, Mode)]
+        ensures { result.now ≡ self.now.queue }
+    {
+        self.queue.as_slice()
+    }
+
     /// The mode that a slot holds, `NL` where it holds none.
     pub fn mode_of(&self, slot: u8) -> Mode
         ensures { result ≡ members_of self.now slot }

@@ -23,7 +23,7 @@ use Rattle.gl_header.proofs.Ranges.{not_true}
 use Rattle.gl_table.proofs.Less.{IsLess, less-lawful}
 use Rattle.gl_table.proofs.Pumped.{pumped-lawful}
 use Rattle.gl_table.proofs.Taken.{taken-less}
-use Rattle.gl_table.proofs.Tests.{one_found}
+use Rattle.gl_table.proofs.TestsPass.{one_found}
 use Rattle.gl_graph.proofs.Look.{split, or_elim, and_both}
 use Rattle.gl_modes.proofs.NodeLemmas.{same_node-equal}
 use Rattle.gl_modes.proofs.ModeLemmas.{supremum-above}

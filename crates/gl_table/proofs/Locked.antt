@@ -27,7 +27,7 @@ use Rattle.gl_table.proofs.Less.{IsLess, less-lawful}
 use Rattle.gl_table.proofs.Pumped.{pumped-lawful}
 use Rattle.gl_table.proofs.Taken.{taken-less, settled-lawful}
 use Rattle.gl_table.proofs.Enqueued.{enqueued-lawful}
-use Rattle.gl_table.proofs.Tests.{active_after, mode_fits, rule_met, wanted_not_nl, no_child}
+use Rattle.gl_table.proofs.TestsPass.{active_after, mode_fits, rule_met, wanted_not_nl, no_child}
 use Rattle.gl_graph.proofs.Look.{split, and_both}
 use Rattle.gl_modes.proofs.NodeLemmas.{same_node-equal, same_node-sym}
 use Rattle.gl_modes.proofs.ModeLemmas.{supremum-above}

@@ -34,12 +34,13 @@ EffS s t n = eff_s (node_count s.graph) s.graph (s.held t) n ≡ true
 abbrev pub EffX : State → ℕ → NodeId → Type 0
 EffX s t n = eff_x (node_count s.graph) s.graph (s.held t) n ≡ true
 
--- the effective mode: X, else S, else none
+-- the effective mode of one who holds these modes: X, else S, else none
+abbrev pub effect_on : Graph → (NodeId → Mode) → NodeId → Effect
+effect_on g held n = if eff_x (node_count g) g held n then effect.X else (if eff_s (node_count g) g held n then effect.S else effect.None)
+
+-- the effective mode of a transaction
 abbrev pub effective : State → ℕ → NodeId → Effect
-effective s t n =
-    if eff_x (node_count s.graph) s.graph (s.held t) n
-    then effect.X
-    else (if eff_s (node_count s.graph) s.graph (s.held t) n then effect.S else effect.None)
+effective s t n = effect_on s.graph (s.held t) n
 
 -- X on some node of every root path (1976, cut sets)
 abbrev pub IsCut : State → ℕ → NodeId → Type 0

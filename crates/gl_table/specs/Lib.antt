@@ -11,3 +11,15 @@ pub mod Calls
 pub mod Refusals
 pub mod Tellings
 pub mod BoardOf
+pub mod Seats
+pub mod Telling
+pub mod Lists
+pub mod Headers
+pub mod Slots
+pub mod Steps
+pub mod Tells
+pub mod Locks
+pub mod Pumping
+pub mod Table
+pub mod Sound
+pub mod Answers

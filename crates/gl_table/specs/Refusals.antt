@@ -15,7 +15,7 @@ use Rattle.gl_graph.specs.Shapes.{is_record_shape}
 use Rattle.gl_header.specs.Header.{fits, holds}
 use Rattle.gl_modes.specs.Modes.{is_at_least, same_mode}
 use Rattle.gl_table.specs.Calls.{asked_by_escalation, enters_at, wanted}
-use Rattle.gl_table.specs.Intends.{intends, is_write}
+use Rattle.gl_table.specs.Intends.{intends_over, is_write}
 use Rattle.gl_table.specs.State.{State, lives, members, slots, status_of}
 
 -- no further age can be given
@@ -63,12 +63,13 @@ abbrev pub first_of_all : List NodeId → Option Refusal
 first_of_all [] = None
 first_of_all (p ∷ ps) = Some (no.NeedParents p)
 
--- the rule of the graph fails: to write, the first parent not held in IX or greater; to read, the first parent
+-- the rule of the graph fails for one who holds these modes: to write, the first parent not held in IX or greater; to read, the first parent
+abbrev pub rule_refusal : (NodeId → Mode) → List NodeId → Mode → Option Refusal
+rule_refusal held ps m = if intends_over held ps m then None else (if is_write m then first_not_ix held ps else first_of_all ps)
+
+-- the rule of the graph fails
 abbrev pub need_parents : State → ℕ → NodeId → Mode → Option Refusal
-need_parents s t n m =
-    if intends s t n m
-    then None
-    else (if is_write m then first_not_ix (s.held t) (parents_of s.graph n) else first_of_all (parents_of s.graph n))
+need_parents s t n m = rule_refusal (s.held t) (parents_of s.graph n) m
 
 -- the transaction does not hold the node
 abbrev pub not_held : State → ℕ → NodeId → Option Refusal

@@ -5,7 +5,7 @@ use arrayvec::ArrayVec;
 use gl_modes::{Mode, NodeId};
 
 /// What a transaction is told of another's command.
-#[derive(Clone, Copy, PartialEq, Eq, Debug)]
+#[derive(Clone, Copy, PartialEq, Eq, Debug, Default)]
 pub enum Notice {
     /// Its wait is over: it holds the node in this mode.
     Granted(NodeId, Mode),
@@ -14,6 +14,7 @@ pub enum Notice {
     /// The node moved, and its wait no longer meets the rule of the graph.
     Moved,
     /// The node is gone.
+    #[default]
     Gone,
 }
 

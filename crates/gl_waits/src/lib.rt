@@ -5,7 +5,7 @@
 mod board;
 mod cycle;
 mod reach;
-mod set;
+pub mod set;
 mod suspect;
 mod victim;
 

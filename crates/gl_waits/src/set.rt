@@ -4,7 +4,7 @@ ghost use Rattle.std.specs.Prelude.{◌≡◌, ℕ, ◌<◌, ◌==◌, ◌&&◌,
 ghost use Rattle.gl_waits.specs.Sets.{has_slot};
 
 /// Whether `slot` is in the set.
-pub(crate) fn has(set: u128, slot: usize) -> bool
+pub fn has(set: u128, slot: usize) -> bool
     requires { slot < 128 }
     ensures { result ≡ has_slot set slot }
 {
@@ -12,7 +12,7 @@ pub(crate) fn has(set: u128, slot: usize) -> bool
 }
 
 /// The set with `slot` too.
-pub(crate) fn with(set: u128, slot: usize) -> u128
+pub fn with(set: u128, slot: usize) -> u128
     requires { slot < 128 }
     ensures { (u : ℕ) → has_slot result u ≡ (has_slot set u || (u == slot)) }
 {
@@ -20,7 +20,7 @@ pub(crate) fn with(set: u128, slot: usize) -> u128
 }
 
 /// The set without `slot`.
-pub(crate) fn without(set: u128, slot: usize) -> u128
+pub fn without(set: u128, slot: usize) -> u128
     requires { slot < 128 }
     ensures left { (u : ℕ) → has_slot result u ≡ (has_slot set u && not (u == slot)) }
     ensures fewer { has_slot set slot ≡ true → result < set }
@@ -29,7 +29,7 @@ pub(crate) fn without(set: u128, slot: usize) -> u128
 }
 
 /// The lowest slot of a set that has one.
-pub(crate) fn lowest(set: u128) -> usize
+pub fn lowest(set: u128) -> usize
     requires { 0 < set }
     ensures within { result < 128 }
     ensures member { has_slot set result ≡ true }
@@ -39,7 +39,7 @@ pub(crate) fn lowest(set: u128) -> usize
 }
 
 /// The lowest slot of a set that has one, and the set without it.
-pub(crate) fn take_lowest(set: u128) -> (usize, u128)
+pub fn take_lowest(set: u128) -> (usize, u128)
     requires { 0 < set }
     ensures within { result.0 < 128 }
     ensures member { has_slot set result.0 ≡ true }

@@ -1,4 +1,5 @@
-use Rattle.gl_catalog.proofs.StepNoCycle.{runs_keep_no_cycle, empty-no_cycle}
+use Rattle.gl_catalog.proofs.StepNoCycle.{runs_keep_no_cycle}
+use Rattle.gl_table.proofs.NoCycle.{empty-no_cycle}
 use Rattle.gl_catalog.proofs.laws.no_cycle.Goals as goal
 
 pub returns : goal.returns

@@ -1,42 +1,35 @@
 -- With detection at each block, no command on locks leaves a cycle.
-use Rattle.std.specs.Prelude.{◌≡◌, ℕ, ◌+◌, zero, suc, Bool, true, false, ◌&&◌, ◌==◌, List, [], Option, Some, None, if◌then◌else◌}
+use Rattle.std.specs.Prelude.{◌≡◌, ℕ, ◌+◌, zero, suc, Bool, true, false, ◌&&◌, ◌==◌, List, Option, Some, None, if◌then◌else◌}
 use Rattle.std.proofs.Common.{sym, ap, ◌∙◌, arith, subst}
 use Rattle.std.proofs.lemmas.Bool.Decides.{nat_tests}
 use Rattle.gl_modes.specs.declared.mode.Mode.{Mode}
 use Rattle.gl_modes.specs.declared.mode.Mode.TheVariants.{NL}
 use Rattle.gl_modes.specs.declared.node.NodeId.{NodeId}
-use Rattle.gl_modes.specs.declared.refusal.Refusal.TheVariants as no
 use Rattle.gl_table.specs.declared.txn.TxnId.{TxnId}
 use Rattle.gl_table.specs.declared.txn.Status.{Status}
 use Rattle.gl_table.specs.declared.txn.Status.TheVariants.{Active, Condemned}
 use Rattle.gl_table.specs.declared.detect.Detect.TheVariants.{AtBlock}
-use Rattle.gl_catalog.specs.declared.command.Command.TheVariants as command
 use Rattle.gl_modes.specs.Nodes.{same_node}
-use Rattle.gl_graph.specs.Shapes.{is_record_shape}
-use Rattle.gl_graph.specs.Graph.{shape_of}
 use Rattle.gl_header.specs.Header.{Waiter, without_waiter}
 use Rattle.gl_waits.specs.Waits.{IsOnNoCycle}
-use Rattle.gl_table.specs.State.{State, Txn, status_in, status_of, restatus, with_grant}
+use Rattle.gl_table.specs.Laws.{EmptyHasNoCycle}
+use Rattle.gl_table.specs.State.{State, empty_state, Txn, status_in, status_of, restatus, with_grant}
 use Rattle.gl_table.specs.Pumps.{without_wait, is_waiting_at, pumped, condemned}
 use Rattle.gl_table.specs.Covered.{is_covered}
 use Rattle.gl_table.specs.Waiting.{waits_for, SettledWithin, Settled, HasNoCycle}
 use Rattle.gl_table.specs.Lawful.{IsLawful}
-use Rattle.gl_table.specs.Calls.{Locks, WaitSettles, wanted, enters_at, enqueued, begun, released, raised, shed, asked_by_escalation}
-use Rattle.gl_catalog.specs.Tests.{refusal_of, worn}
-use Rattle.gl_graph.specs.Refusals.{where_true}
-use Rattle.gl_table.specs.Refusals.{not_held, held_child, escalation_blocks}
+use Rattle.gl_table.specs.Calls.{Locks, WaitSettles, wanted, enters_at, enqueued, begun, released, shed}
+use Rattle.gl_table.specs.Refusals.{held_child}
 use Rattle.gl_table.proofs.GrantKeeps.{apart}
 use Rattle.gl_table.proofs.Less.{IsLess, less-lawful}
 use Rattle.gl_table.proofs.Taken.{IsQuiet, at_all, without_wait-less, released-less, condemned-lawful}
-use Rattle.gl_table.proofs.Escalates.{raised-lawful, shed-less}
-use Rattle.gl_table.proofs.Tests.{active_after}
+use Rattle.gl_table.proofs.Escalates.{shed-less}
 use Rattle.gl_table.proofs.Locked.{MayLock, waiting-lawful, unlocked-less}
 use Rattle.gl_waits.proofs.WalkLemmas.{no_step-no_cycle}
 use Rattle.gl_waits.proofs.CycleLemmas.{less-no_cycle, at_one-no_cycle}
 use Rattle.gl_table.proofs.Edges.{idle_no_step, less_steps, pumped_steps}
-use Rattle.gl_catalog.proofs.NewEdges.{enqueued_steps, granted_steps, begun_steps}
+use Rattle.gl_table.proofs.NewEdges.{enqueued_steps, granted_steps, begun_steps}
 use Rattle.gl_graph.proofs.Look.{split}
-use Rattle.gl_graph.proofs.Unrefused.{not_refused, test_fails, not_false}
 
 -- taking, and then granting from the fronts, adds no step
 pub taken_steps : (s : State) → IsLawful s → (held : ℕ → NodeId → Mode) (queue : NodeId → List Waiter) (txns : ℕ → Option Txn) (chosen : NodeId → Bool) → IsLess s held queue txns chosen
@@ -114,12 +107,6 @@ released-no_cycle s law t none =
 pub shed-no_cycle : (s : State) → IsLawful s → (t : ℕ) (n : NodeId) → status_of s t ≡ Some Active → HasNoCycle s → HasNoCycle (shed s t n)
 shed-no_cycle s law t n active none = taken-no_cycle s law (λ u c. if (u == t) && is_covered s t n c then NL else s.held u c) s.queue s.txns (is_covered s t n) (shed-less s law t n active) none
 
-pub escalated-no_cycle : (s : State) → IsLawful s → (t : TxnId) (n : NodeId) → refusal_of s (command.Escalate t n) ≡ None → HasNoCycle s → HasNoCycle (shed (raised s t.slot n) t.slot n)
-escalated-no_cycle s law t n h none =
-    let a = active_after s t n (worn s) _ h in
-    let b = not_refused (where_true (is_record_shape (shape_of s.graph n)) no.BadParents) _ a.2 in
-    let c = not_refused (not_held s t.slot n) _ b.1 in
-    let d = not_refused (escalation_blocks s t.slot n) [] c.1 in
-    shed-no_cycle (raised s t.slot n)
-    (raised-lawful s law t.slot n a.0 a.1 (test_fails _ _ b.0) (not_false _ (test_fails _ _ c.0)) (not_false _ (test_fails _ _ d.0))) t.slot n a.0
-    (granted-no_cycle s t.slot n (wanted s t.slot n (asked_by_escalation s t.slot n)) a.0 none)
+-- nobody waits in the empty state
+pub empty-no_cycle : EmptyHasNoCycle
+empty-no_cycle d most t = no_step-no_cycle (waits_for (empty_state d most)) t (idle_no_step (empty_state d most) t (λ n m st. cc))

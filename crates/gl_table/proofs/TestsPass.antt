@@ -32,7 +32,7 @@ use Rattle.gl_graph.proofs.Unrefused.{not_refused, test_fails, not_false, or_no}
 pub no_some : {A C : Type 0} {x : A} → Some x ≡ None → C
 no_some e = absurd (cc)
 
-active_in : (age : ℕ) (x : Option Txn) → live_by age x ≡ true → waiting_test (status_in x) ≡ None → condemned_test (status_in x) ≡ None → status_in x ≡ Some Active
+pub active_in : (age : ℕ) (x : Option Txn) → live_by age x ≡ true → waiting_test (status_in x) ≡ None → condemned_test (status_in x) ≡ None → status_in x ≡ Some Active
 active_in age None live w c = clash live refl
 active_in age (Some x) live w c = by x.status w c
   where

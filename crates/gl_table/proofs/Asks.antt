@@ -1,0 +1,157 @@
+-- What is known of an active slot that asks for a node, and of its list.
+use Rattle.std.specs.Prelude.{◌≡◌, ℕ, ◌+◌, ◌<◌, ◌≤◌, ◌^◌, Bool, true, false, not, ◌||◌, length, Some, slice_index_or}
+use Rattle.std.specs.List.{count_by}
+use Rattle.std.proofs.Common.{refl, sym, ap, ◌∙◌, subst, arith}
+use Rattle.std.proofs.lemmas.List.Sums.{count_by-le-length}
+use Rattle.indexmap.specs.IndexMap.{spare}
+use Rattle.gl_modes.specs.declared.mode.Mode.{Mode}
+use Rattle.gl_modes.specs.declared.mode.Mode.TheVariants.{NL}
+use Rattle.gl_modes.specs.declared.node.NodeId.{NodeId}
+use Rattle.gl_modes.specs.Modes.{same_mode}
+use Rattle.gl_modes.specs.Nodes.{same_node}
+use Rattle.gl_graph.specs.Graph.{Graph, parents_of}
+use Rattle.gl_graph.specs.Lawful.{IsLawfulGraph}
+use Rattle.gl_graph.proofs.Look.{split}
+use Rattle.gl_header.specs.Header.{enters, holds, is_among_waiters}
+use Rattle.gl_header.specs.State.{slot_limit}
+use Rattle.gl_table.specs.declared.list.LockList.{LockList}
+use Rattle.gl_table.specs.declared.locks.Locks.{Locks}
+use Rattle.gl_table.specs.declared.txn.Status.TheVariants.{Active}
+use Rattle.gl_table.specs.Calls.{enters_at, wanted}
+use Rattle.gl_table.specs.Covered.{held_children}
+use Rattle.gl_table.specs.Headers.{AreHeaders, held_of, members_at, queue_of}
+use Rattle.gl_table.specs.Lists.{HasRoom, IsApart, count_of, is_listed, mode_of, unlisted}
+use Rattle.gl_table.specs.Locks.{Agrees, AreSound, CountsHeld, IsOrderly, state_on}
+use Rattle.gl_table.specs.Slots.{HasRoomAt, KeepsLists}
+use Rattle.gl_table.specs.State.{State, members, status_of}
+use Rattle.gl_table.proofs.Children.{children_few, few_parents}
+use Rattle.gl_table.proofs.GrantKeeps.{apart, txn_there}
+use Rattle.gl_table.proofs.Less.{waiting_is}
+use Rattle.gl_table.proofs.Limits.{enters-most}
+use Rattle.gl_table.proofs.Rooms.{keeps-agrees, keeps-counts}
+use Rattle.gl_table.proofs.Slots.{by_list-at, slice_get-at}
+
+-- the slot is active, and the lists say what the headers say
+pub record MayAsk (g : Graph) (l : Locks) (t : ℕ) : Type 0 where
+  pub sound : AreSound l
+  pub orderly : IsOrderly (state_on g l)
+  pub agree : (u : ℕ) → Agrees (state_on g l) l.lists.items u
+  pub count : (u : ℕ) → CountsHeld (state_on g l) l.lists.items u
+  pub active : status_of (state_on g l) t ≡ Some Active
+
+-- room was made in the list of the slot, if it was wanted; all says what it said
+pub record HasMadeRoom (l l' : Locks) (t : ℕ) (wanted : Bool) : Type 0 where
+  pub headers : l'.headers ≡ l.headers
+  pub seats : l'.seats ≡ l.seats
+  pub lists : KeepsLists l.lists.items l'.lists.items
+  pub room : wanted ≡ true → HasRoomAt l'.lists.items t
+
+-- headers and seats alone make the state
+pub state-same : (g : Graph) (l l' : Locks) → l'.headers.entries ≡ l.headers.entries → l'.seats ≡ l.seats → state_on g l' ≡ state_on g l
+state-same g l l' headers seats = λ i. record (state_on g (record l { seats = seats i })) { held = held_of (headers i); queue = queue_of (headers i) }
+
+pub room-state : (g : Graph) (l l' : Locks) (t : ℕ) (wanted : Bool) → HasMadeRoom l l' t wanted → state_on g l' ≡ state_on g l
+room-state g l l' t wanted made = state-same g l l' (ap (λ h. h.entries) made.headers) made.seats
+
+pub room-may_ask : (g : Graph) (l l' : Locks) (t : ℕ) (wanted : Bool) → HasMadeRoom l l' t wanted → MayAsk g l t → MayAsk g l' t
+room-may_ask g l l' t wanted made may = record {
+  sound = record {
+    headers = subst AreHeaders (ap (λ h. h.entries) (sym made.headers)) may.sound.headers;
+    few = subst (λ (k : ℕ). k ≤ 128) (sym seats) may.sound.few;
+    lists = made.lists.len ∙ may.sound.lists ∙ sym seats;
+    apart = made.lists.apart may.sound.apart;
+  };
+  orderly = subst IsOrderly (sym same) may.orderly;
+  agree = λ u. subst (λ s. Agrees s l'.lists.items u) (sym same) (keeps-agrees (state_on g l) l.lists.items l'.lists.items u made.lists (may.agree u));
+  count = λ u. subst (λ s. CountsHeld s l'.lists.items u) (sym same) (keeps-counts (state_on g l) l.lists.items l'.lists.items u made.lists (may.count u));
+  active = ap (λ s. status_of s t) same ∙ may.active;
+}
+  where
+    same : state_on g l' ≡ state_on g l
+    same = room-state g l l' t wanted made
+
+    seats : length l'.seats.items ≡ length l.seats.items
+    seats = ap (λ x. length x.items) made.seats
+
+module _ (g : Graph) (l : Locks) (t : ℕ) (may : MayAsk g l t) where
+  abbrev s : State
+  s = state_on g l
+
+  pub slot-below : t < length l.seats.items
+  slot-below = may.orderly.below t (txn_there (s.txns t) Active may.active)
+
+  pub slot-few : t < 128
+  slot-few = let below = slot-below in let few = may.sound.few in omega arith
+
+  pub slot-listed : t < length l.lists.items
+  slot-listed = subst (λ (k : ℕ). t < k) (sym may.sound.lists) slot-below
+
+  pub active-waits_nowhere : (q : NodeId) → is_among_waiters t (s.queue q) ≡ false
+  active-waits_nowhere q = split (is_among_waiters t (s.queue q)) (λ h. let w = waiting_is (status_of s t) q (may.orderly.waits_are t q h) in absurd (apart (sym may.active ∙ w.1))) (λ h. h)
+
+  -- its list has what it holds
+  module _ (x : LockList) (at : x ≡ slice_index_or l.lists.items t x) where
+    pub own-mode : (q : NodeId) → mode_of x q ≡ s.held t q
+    own-mode q = sym (by_list-at (λ y. mode_of y q) NL l.lists.items t x slot-listed at) ∙ (may.agree t).modes q
+
+    pub own-holds : (q : NodeId) → not (same_mode (mode_of x q) NL) ≡ holds (members s q) t
+    own-holds q = ap (λ m. not (same_mode m NL)) (own-mode q)
+
+    pub own-listed : (q : NodeId) → is_listed x q ≡ holds (members s q) t
+    own-listed q = sym (by_list-at (λ y. is_listed y q) false l.lists.items t x slot-listed at) ∙ (may.agree t).listed q ∙ ap (λ b. holds (members s q) t || b) (active-waits_nowhere q) ∙ or_none (holds (members s q) t)
+      where
+        or_none : (b : Bool) → (b || false) ≡ b
+        or_none true = refl
+        or_none false = refl
+
+    pub own-count : (q : NodeId) → count_of x q ≡ held_children s t q
+    own-count q = sym (by_list-at (λ y. count_of y q) 0 l.lists.items t x slot-listed at) ∙ may.count t q
+
+    pub own-apart : IsApart x
+    own-apart = may.sound.apart t x (slice_get-at l.lists.items t x slot-listed at)
+
+    pub own-room : HasRoomAt l.lists.items t → HasRoom x
+    own-room room = (
+      subst (λ (k : ℕ). 0 < k) (by_list-at (λ y. spare y.entries) 0 l.lists.items t x slot-listed at) room.entry,
+      subst (λ (k : ℕ). 9 ≤ k) (by_list-at (λ y. spare y.loose) 0 l.lists.items t x slot-listed at) room.counts,
+    )
+
+    -- one child more of each of these can be counted
+    pub own-few : IsLawfulGraph g → (n q : NodeId) → count_of x q + count_by (same_node q) (parents_of g n) < 2 ^ 32
+    own-few law n q =
+        let count = own-count q in
+        let children = children_few g law (λ c. holds (members s c) t) q in
+        let once = count_by-le-length (same_node q) (parents_of g n) in
+        let few = few_parents g law n in
+        omega arith
+
+-- a list with room for nine has room for the parents of a node
+pub parents-room : (g : Graph) → IsLawfulGraph g → (n : NodeId) (x : LockList) → 9 ≤ spare x.loose → unlisted x (parents_of g n) ≤ spare x.loose
+parents-room g law n x room =
+    let some = count_by-le-length (λ p. not (is_listed x p)) (parents_of g n) in
+    let few = few_parents g law n in
+    omega arith
+
+-- room was made for an ask; the flags say whether the slot holds the node, and whether the ask is granted at once
+pub record IsReady (g : Graph) (l l' : Locks) (t : ℕ) (n : NodeId) (m : Mode) (held now : Bool) : Type 0 where
+  pub may : MayAsk g l' t
+  pub same : state_on g l' ≡ state_on g l
+  pub room : held ≡ false → HasRoomAt l'.lists.items t
+  pub enters : enters slot_limit (members_at l'.headers.entries n) (queue_of l'.headers.entries n) t (wanted (state_on g l') t n m) ≡ now
+  pub is_held : holds (members (state_on g l') n) t ≡ held
+
+pub is_ready : (g : Graph) (l l' : Locks) (t : ℕ) (n : NodeId) (m : Mode) (held now : Bool) → MayAsk g l t → enters_at (state_on g l) t n m ≡ now → held ≡ holds (members (state_on g l) n) t → HasMadeRoom l l' t (not held)
+    → IsReady g l l' t n m held now
+is_ready g l l' t n m held now may enters held_is made = record {
+  may = may_now;
+  same = same;
+  room = λ e. made.room (ap not e);
+  enters = sym (enters-most (state_on g l') may_now.orderly may_now.sound.few t n (wanted (state_on g l') t n m)) ∙ ap (λ s. enters_at s t n m) same ∙ enters;
+  is_held = ap (λ s. holds (members s n) t) same ∙ sym held_is;
+}
+  where
+    same : state_on g l' ≡ state_on g l
+    same = room-state g l l' t (not held) made
+
+    may_now : MayAsk g l' t
+    may_now = room-may_ask g l l' t (not held) made may

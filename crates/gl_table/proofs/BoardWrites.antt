@@ -1,0 +1,236 @@
+-- The board of a moment, written seat by seat.
+use Rattle.std.proofs.Common.{◌≡◌, ◌≢◌, ℕ, ◌+◌, ◌<◌, ◌≤◌, Bool, true, false, not, ◌&&◌, ◌||◌, ◌==◌, cond, nat_lt, List, Option, Some, None, length, get_or, set, map, replicate, refl, sym, ap, subst, ◌∙◌, ⊎_elim, arith}
+use Rattle.std.specs.List.{range_with_len}
+use Rattle.std.proofs.lemmas.Bool.{cases_eq, cases_lt}
+use Rattle.std.proofs.lemmas.Bool.Decides.{nat_tests}
+use Rattle.std.proofs.lemmas.List.{get_or-replicate, get_or-set_other, get_or-set_same, get_or_past, length-replicate, length-set}
+use Rattle.std.proofs.lemmas.List.FromFn.{fill_by_all, get_or-map-range_with_len}
+use Rattle.std.proofs.lemmas.Option.{slice_get-get_or, slice_get_past}
+use Rattle.gl_modes.specs.declared.mode.Mode.{Mode}
+use Rattle.gl_modes.specs.declared.node.NodeId.{NodeId}
+use Rattle.gl_modes.specs.Modes.{are_compatible}
+use Rattle.gl_modes.proofs.ModeLemmas.{NL-compatible}
+use Rattle.gl_header.specs.Header.{is_ahead}
+use Rattle.gl_header.specs.State.{HeaderState, IsLawfulHeader, members_of}
+use Rattle.gl_waits.specs.declared.board.Board.{Board}
+use Rattle.gl_waits.specs.Sets.{bits_of, has_slot}
+use Rattle.gl_waits.specs.Boards.{row_edge}
+use Rattle.gl_waits.proofs.BoardLemmas.{row_edge-bits_of, row_edge-replicate}
+use Rattle.gl_waits.proofs.SetLemmas.{same_slots}
+use Rattle.gl_graph.proofs.Look.{none_some, or_elim, some_is}
+use Rattle.gl_table.specs.declared.detect.Detect.TheVariants.{ByWatcher}
+use Rattle.gl_table.specs.declared.seat.Seat.{Seat}
+use Rattle.gl_table.specs.declared.txn.Status.TheVariants.{Waiting}
+use Rattle.gl_table.specs.BoardOf.{board_of}
+use Rattle.gl_table.specs.Headers.{AreHeaders, Entries, header_at, header_or_new, held_of, queue_of}
+use Rattle.gl_table.specs.Seats.{txn_in, txns_of}
+use Rattle.gl_table.specs.State.{State, age_in, age_of, empty_state, status_in}
+use Rattle.gl_table.specs.Waiting.{blocks, waits_for}
+use Rattle.gl_table.proofs.Edges.{idle_no_step, not_is, step_is}
+use Rattle.gl_table.proofs.Queues.{ahead_is, ahead_second, clash}
+
+-- a list of numbers by slot, written below i
+
+-- below i the ages stand, from i on 0
+abbrev pub AreAgesBelow : (ℕ → ℕ) → ℕ → List ℕ → Type 0
+AreAgesBelow age i xs = (t : ℕ) → get_or xs t 0 ≡ cond (nat_lt t i) (age t) 0
+
+-- below i the rows have the relation's steps, from i on none
+abbrev pub AreRowsBelow : (ℕ → ℕ → Bool) → ℕ → List ℕ → Type 0
+AreRowsBelow edge i xs = (t u : ℕ) → row_edge xs t u ≡ (nat_lt t i && edge t u)
+
+-- nothing is written yet
+ages-none : (age : ℕ → ℕ) (n : ℕ) → AreAgesBelow age 0 (replicate n 0)
+ages-none age n t = ⊎_elim (λ low. get_or-replicate n t 0 0 low) (λ past. get_or_past (replicate n 0) t 0 (let e = length-replicate {A = ℕ} n 0 in omega arith)) (cases_lt t n) ∙ by (age t)
+  where
+    by : (x : ℕ) → 0 ≡ cond (nat_lt t 0) x 0
+    by x = grind (arith, nat_tests)
+
+rows-none : (edge : ℕ → ℕ → Bool) (n : ℕ) → AreRowsBelow edge 0 (replicate n 0)
+rows-none edge n t u = row_edge-replicate n t u ∙ by (edge t u)
+  where
+    by : (x : Bool) → false ≡ (nat_lt t 0 && x)
+    by x = grind (arith, nat_tests)
+
+-- slot i is written
+ages-written : (age : ℕ → ℕ) (i a : ℕ) (xs : List ℕ) → i < length xs → a ≡ age i → AreAgesBelow age i xs → AreAgesBelow age (i + 1) (set xs i a)
+ages-written age i a xs low is ages t =
+    ⊎_elim
+    (λ e. subst (λ x. get_or (set xs i a) x 0 ≡ cond (nat_lt x (i + 1)) (age x) 0) (sym e) (get_or-set_same xs i a 0 low ∙ is ∙ here (age i)))
+    (λ ne. get_or-set_other xs i t a 0 ne ∙ ages t ∙ other (age t) ne)
+    (cases_eq t i)
+  where
+    here : (x : ℕ) → x ≡ cond (nat_lt i (i + 1)) x 0
+    here x = grind (arith, nat_tests)
+
+    other : (x : ℕ) → t ≢ i → cond (nat_lt t i) x 0 ≡ cond (nat_lt t (i + 1)) x 0
+    other x ne = grind (arith, nat_tests)
+
+-- slot i is left at 0
+ages-passed : (age : ℕ → ℕ) (i : ℕ) (xs : List ℕ) → age i ≡ 0 → AreAgesBelow age i xs → AreAgesBelow age (i + 1) xs
+ages-passed age i xs free ages t = ages t ∙ ⊎_elim (λ e. here e (age t) (ap age e ∙ free)) (λ ne. other (age t) ne) (cases_eq t i)
+  where
+    here : t ≡ i → (x : ℕ) → x ≡ 0 → cond (nat_lt t i) x 0 ≡ cond (nat_lt t (i + 1)) x 0
+    here e x z = grind (arith, nat_tests)
+
+    other : (x : ℕ) → t ≢ i → cond (nat_lt t i) x 0 ≡ cond (nat_lt t (i + 1)) x 0
+    other x ne = grind (arith, nat_tests)
+
+-- the same of a row
+rows-written : (edge : ℕ → ℕ → Bool) (i r : ℕ) (xs : List ℕ) → i < length xs → ((u : ℕ) → has_slot r u ≡ edge i u) → AreRowsBelow edge i xs → AreRowsBelow edge (i + 1) (set xs i r)
+rows-written edge i r xs low is rows t u =
+    ⊎_elim
+    (λ e. subst (λ x. row_edge (set xs i r) x u ≡ (nat_lt x (i + 1) && edge x u)) (sym e) (ap (λ n. has_slot n u) (get_or-set_same xs i r 0 low) ∙ is u ∙ here (edge i u)))
+    (λ ne. ap (λ n. has_slot n u) (get_or-set_other xs i t r 0 ne) ∙ rows t u ∙ other (edge t u) ne)
+    (cases_eq t i)
+  where
+    here : (x : Bool) → x ≡ (nat_lt i (i + 1) && x)
+    here x = grind (arith, nat_tests)
+
+    other : (x : Bool) → t ≢ i → (nat_lt t i && x) ≡ (nat_lt t (i + 1) && x)
+    other x ne = grind (arith, nat_tests)
+
+-- and of one that stays empty
+rows-passed : (edge : ℕ → ℕ → Bool) (i : ℕ) (xs : List ℕ) → ((u : ℕ) → edge i u ≡ false) → AreRowsBelow edge i xs → AreRowsBelow edge (i + 1) xs
+rows-passed edge i xs idle rows t u = rows t u ∙ ⊎_elim (λ e. here e (edge t u) (ap (λ x. edge x u) e ∙ idle u)) (λ ne. other (edge t u) ne) (cases_eq t i)
+  where
+    here : t ≡ i → (x : Bool) → x ≡ false → (nat_lt t i && x) ≡ (nat_lt t (i + 1) && x)
+    here e x z = grind (arith, nat_tests)
+
+    other : (x : Bool) → t ≢ i → (nat_lt t i && x) ≡ (nat_lt t (i + 1) && x)
+    other x ne = grind (arith, nat_tests)
+
+-- once no slot from i on has an age or a step, the lists are those of the relation
+
+ages-all : (age : ℕ → ℕ) (i n : ℕ) (xs : List ℕ) → length xs ≡ n → ((t : ℕ) → i ≤ t → age t ≡ 0) → AreAgesBelow age i xs → xs ≡ map age (range_with_len 0 n)
+ages-all age i n xs size free ages = fill_by_all age xs n 0 size (λ k low. ages k ∙ by k (age k) (free k))
+  where
+    by : (k x : ℕ) → (i ≤ k → x ≡ 0) → cond (nat_lt k i) x 0 ≡ x
+    by k x z = grind (arith, nat_tests)
+
+rows-all : (edge : ℕ → ℕ → Bool) (i n m : ℕ) (xs : List ℕ) → length xs ≡ n → ((t u : ℕ) → edge t u ≡ true → (t < n) × (u < m)) → ((t u : ℕ) → i ≤ t → edge t u ≡ false) → AreRowsBelow edge i xs
+    → xs ≡ map (λ t. bits_of m (edge t)) (range_with_len 0 n)
+rows-all edge i n m xs size low idle rows =
+    fill_by_all (λ t. bits_of m (edge t)) xs n 0 size
+    (λ k inside. same_slots _ _ (λ u. rows k u ∙ by k (edge k u) (idle k u) ∙ sym (row_edge-bits_of n m edge low k u)) ∙ get_or-map-range_with_len (λ t. bits_of m (edge t)) 0 n k k 0 inside (omega arith))
+  where
+    by : (k : ℕ) (x : Bool) → (i ≤ k → x ≡ false) → (nat_lt k i && x) ≡ x
+    by k x z = grind (arith, nat_tests)
+
+-- whom somebody waits for is below 128
+
+blocker-below : (o : Option HeaderState) → ((h : HeaderState) → o ≡ Some h → IsLawfulHeader h) → (w : Mode) (t u : ℕ) → (not (are_compatible w (members_of (header_or_new o) u)) || is_ahead (header_or_new o).queue t u) ≡ true → u < 128
+blocker-below None lawful w t u h =
+    or_elim _ _ h (λ k. clash (NL-compatible w) (not_is _ k)) (λ k. clash k refl)
+blocker-below (Some x) lawful w t u h =
+    or_elim _ _ h
+    (λ k. ⊎_elim (λ low. low) (λ past. clash (ap (are_compatible w) (law.members_below u past) ∙ NL-compatible w) (not_is _ k)) (cases_lt u 128))
+    (λ k. law.waiters_below u (ahead_second x.queue t u (sym (ahead_is x.queue t u) ∙ k)))
+  where
+    law : IsLawfulHeader x
+    law = lawful x refl
+
+-- the state that a board shows
+abbrev pub shown : Entries → List (Option Seat) → ℕ → State
+shown hs seats epoch =
+    record (empty_state ByWatcher (length seats)) { txns = txns_of seats; held = held_of hs; queue = queue_of hs; accepted = epoch }
+
+awaited-below : (hs : Entries) (seats : List (Option Seat)) (epoch : ℕ) → AreHeaders hs → (t u : ℕ) → waits_for (shown hs seats epoch) t u ≡ true → u < 128
+awaited-below hs seats epoch law t u h =
+    let st = step_is (shown hs seats epoch) t u h in let n = st.0 in blocker-below (header_at hs n) (law.lawful n) st.1 t u st.2.blocked
+
+-- the board with the seats below i written
+pub record IsBoardBelow (s : State) (i : ℕ) (b : Board) : Type 0 where
+  pub epoch : b.epoch ≡ s.accepted
+  pub ages_len : length b.ages ≡ 128
+  pub rows_len : length b.rows ≡ 128
+  pub ages : AreAgesBelow (age_of s) i b.ages
+  pub rows : AreRowsBelow (waits_for s) i b.rows
+
+pub board-none : (s : State) → IsBoardBelow s 0 (record { epoch = s.accepted; ages = replicate 128 0; rows = replicate 128 0 })
+board-none s = record {
+  epoch = refl;
+  ages_len = length-replicate {A = ℕ} 128 0;
+  rows_len = length-replicate {A = ℕ} 128 0;
+  ages = ages-none (age_of s) 128;
+  rows = rows-none (waits_for s) 128;
+}
+
+-- one seat more
+module _ (hs : Entries) (seats : List (Option Seat)) (epoch i : ℕ) (b after : Board)
+    (few : length seats ≤ 128) (low : i < length seats) (sofar : IsBoardBelow (shown hs seats epoch) i b) where
+  abbrev s : State
+  s = shown hs seats epoch
+
+  -- the seat, as the code reads it, is what the state has of the slot
+  seat-at : (o : Option Seat) → get_or seats i None ≡ o → txns_of seats i ≡ txn_in (Some o)
+  seat-at o is = ap txn_in (slice_get-get_or seats i None low ∙ ap Some is)
+
+  age-written : (x : Seat) (a : ℕ) → get_or seats i None ≡ Some x → a ≡ x.age → AreAgesBelow (age_of s) (i + 1) (set b.ages i a)
+  age-written x a is age =
+      let size = sofar.ages_len in
+      ages-written (age_of s) i a b.ages (omega arith) (age ∙ sym (ap age_in (seat-at (Some x) is))) sofar.ages
+
+  -- it is free
+  pub free-next : get_or seats i None ≡ None → after ≡ b → IsBoardBelow (shown hs seats epoch) (i + 1) after
+  free-next free same =
+      subst (IsBoardBelow s (i + 1)) (sym same) (record {
+        epoch = sofar.epoch;
+        ages_len = sofar.ages_len;
+        rows_len = sofar.rows_len;
+        ages = ages-passed (age_of s) i b.ages (ap age_in (seat-at None free)) sofar.ages;
+        rows = rows-passed (waits_for s) i b.rows (idle_no_step s i (λ n m e. none_some (sym (ap status_in (seat-at None free)) ∙ e))) sofar.rows;
+      })
+
+  -- its transaction does not wait
+  pub idle-next : (x : Seat) (a : ℕ) → get_or seats i None ≡ Some x → ((n : NodeId) (m : Mode) → x.status ≡ Waiting n m → ⊥) → a ≡ x.age
+      → after ≡ record { epoch = b.epoch; ages = set b.ages i a; rows = b.rows } → IsBoardBelow (shown hs seats epoch) (i + 1) after
+  idle-next x a is idle age same =
+      subst (IsBoardBelow s (i + 1)) (sym same) (record {
+        epoch = sofar.epoch;
+        ages_len = length-set b.ages i a ∙ sofar.ages_len;
+        rows_len = sofar.rows_len;
+        ages = age-written x a is age;
+        rows = rows-passed (waits_for s) i b.rows (idle_no_step s i (λ n m e. idle n m (some_is (sym (ap status_in (seat-at (Some x) is)) ∙ e)))) sofar.rows;
+      })
+
+  -- its transaction waits
+  pub waits-next : (x : Seat) (a row : ℕ) (n : NodeId) (m : Mode) → get_or seats i None ≡ Some x → x.status ≡ Waiting n m → a ≡ x.age
+      → ((u : ℕ) → has_slot row u ≡ (not (i == u) && (not (are_compatible m (held_of hs u n)) || is_ahead (queue_of hs n) i u)))
+      → after ≡ record { epoch = b.epoch; ages = set b.ages i a; rows = set b.rows i row } → IsBoardBelow (shown hs seats epoch) (i + 1) after
+  waits-next x a row n m is waits age r same =
+      let st = ap status_in (seat-at (Some x) is) ∙ ap Some waits in
+      let size = sofar.rows_len in
+      subst (IsBoardBelow s (i + 1)) (sym same) (record {
+        epoch = sofar.epoch;
+        ages_len = length-set b.ages i a ∙ sofar.ages_len;
+        rows_len = length-set b.rows i row ∙ sofar.rows_len;
+        ages = age-written x a is age;
+        rows = rows-written (waits_for s) i row b.rows (omega arith) (λ u. r u ∙ sym (ap (λ o. not (i == u) && blocks s i u o) st)) sofar.rows;
+      })
+
+board-is : (b : Board) (epoch : ℕ) (ages rows : List ℕ) → b.epoch ≡ epoch → b.ages ≡ ages → b.rows ≡ rows → b ≡ record { epoch = epoch; ages = ages; rows = rows }
+board-is b epoch ages rows e a r = λ j. record { epoch = e j; ages = a j; rows = r j }
+
+-- when all seats are read, it is the board
+pub board-all : (hs : Entries) (seats : List (Option Seat)) (epoch i : ℕ) (b : Board) → AreHeaders hs → length seats ≤ 128 → i ≡ length seats → IsBoardBelow (shown hs seats epoch) i b → b ≡ board_of (shown hs seats epoch)
+board-all hs seats epoch i b law few end h =
+    board-is b _ _ _ h.epoch
+    (ages-all (age_of s) i 128 b.ages h.ages_len (λ t k. ap age_in (free t k)) h.ages)
+    (rows-all (waits_for s) i 128 128 b.rows h.rows_len (λ t u w. (taken t u w, awaited-below hs seats epoch law t u w)) idle h.rows)
+  where
+    s : State
+    s = shown hs seats epoch
+
+    free : (t : ℕ) → i ≤ t → txns_of seats t ≡ None
+    free t k = ap txn_in (slice_get_past seats t (omega arith))
+
+    idle : (t u : ℕ) → i ≤ t → waits_for s t u ≡ false
+    idle t u k = ap (λ o. not (t == u) && blocks s t u (status_in o)) (free t k) ∙ no_and (not (t == u))
+      where
+        no_and : (x : Bool) → (x && false) ≡ false
+        no_and true = refl
+        no_and false = refl
+
+    taken : (t u : ℕ) → waits_for s t u ≡ true → t < 128
+    taken t u w = ⊎_elim (λ below. let few' = few in omega arith) (λ past. clash w (idle t u past)) (cases_lt t i)

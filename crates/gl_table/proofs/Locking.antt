@@ -1,0 +1,153 @@
+-- The tests of an ask, and what a grant makes of a table.
+use Rattle.std.specs.Prelude.{◌≡◌, ℕ, ◌∷◌, ◌++◌, [], ◌&&◌, Bool, true, false, not, List, length, Option, Some, None, Result, Ok, Err, OnErr, OnOk, if◌then◌else◌}
+use Rattle.std.proofs.Common.{refl, sym, ap, ◌∙◌, subst}
+use Rattle.std.proofs.Math.Path.{fun_ext}
+use Rattle.gl_modes.specs.declared.mode.Mode.{Mode}
+use Rattle.gl_modes.specs.declared.node.NodeId.{NodeId}
+use Rattle.gl_modes.specs.declared.refusal.Refusal.{Refusal}
+use Rattle.gl_modes.specs.declared.refusal.Refusal.TheVariants as no
+use Rattle.gl_modes.specs.Modes.{supremum}
+use Rattle.gl_graph.specs.Graph.{parents_of}
+use Rattle.gl_graph.specs.Refusals.{first_refusal, some_no_node, verdict, where_true}
+use Rattle.gl_graph.specs.View.{graph_of}
+use Rattle.gl_graph.proofs.Unrefused.{not_refused, test_fails, not_false}
+use Rattle.gl_header.specs.Header.{enters}
+use Rattle.gl_header.specs.State.{slot_limit}
+use Rattle.gl_table.specs.declared.locks.Locks.{Locks}
+use Rattle.gl_table.specs.declared.table.Table.TheInside.{Inside}
+use Rattle.gl_table.specs.declared.txn.TxnId.{TxnId}
+use Rattle.gl_table.specs.Calls.{enters_at, granted, wanted}
+use Rattle.gl_table.specs.Headers.{held_of, members_at, queue_of}
+use Rattle.gl_table.specs.Lawful.{IsLawful}
+use Rattle.gl_table.specs.Locks.{Agrees, AreSound, CountsHeld, state_on}
+use Rattle.gl_table.specs.Refusals.{bad_mode, commit_tests, condemned_test, lock_tests, need_parents, no_node, no_txn, rule_refusal, try_tests, waiting_test, would_block}
+use Rattle.gl_table.specs.Seats.{txns_of}
+use Rattle.gl_table.specs.Slots.{held_by}
+use Rattle.gl_table.specs.Sound.{IsSound, view_of}
+use Rattle.gl_table.specs.State.{State, status_of}
+use Rattle.gl_table.specs.Table.{TableView, state_of}
+use Rattle.gl_table.specs.Waiting.{HasNoCycle}
+use Rattle.gl_table.proofs.Limits.{enters-most}
+use Rattle.gl_table.proofs.Locked.{MayLock, granted-lawful, may_lock}
+use Rattle.gl_table.proofs.NoCycle.{granted-no_cycle}
+use Rattle.gl_table.proofs.Queries.{modes-seen}
+use Rattle.gl_table.proofs.TableCalls.{orderly, test_passed}
+
+-- the tests before the last have passed
+last_test : (a b c d e r : Option Refusal) → a ≡ None → b ≡ None → c ≡ None → d ≡ None → e ≡ None → first_refusal (a ∷ b ∷ c ∷ d ∷ e ∷ r ∷ []) ≡ r
+last_test None None None None None None a b c d e = refl
+last_test None None None None None (Some r) a b c d e = refl
+last_test (Some x) b' c' d' e' r a b c d e = absurd (cc)
+last_test None (Some x) c' d' e' r a b c d e = absurd (cc)
+last_test None None (Some x) d' e' r a b c d e = absurd (cc)
+last_test None None None (Some x) e' r a b c d e = absurd (cc)
+last_test None None None None (Some x) r a b c d e = absurd (cc)
+
+-- one node lives where it is no node that does not
+one_node : (s : State) (n : NodeId) → no_node s n ≡ None → some_no_node s.graph (n ∷ []) ≡ None
+one_node s n h = ap (λ b. where_true (not (b && true)) no.NoSuchNode) (not_false _ (test_fails _ _ h))
+
+module _ (i : Inside) (sound : IsSound i) (v : TableView) (view : view_of i ≡ v) (t : TxnId) (n : NodeId) (m : Mode) where
+  -- only the rule of the graph is left to be tested
+  pub rule_decides : (x y : Unit {0}) → Ok x ≡ verdict (first_refusal (commit_tests (state_of v) t)) → Ok y ≡ verdict (no_node (state_of v) n) → bad_mode (state_of v) n m ≡ None
+      → verdict (rule_refusal (held_by i.locks.lists.items t.slot) (parents_of (graph_of i.graph) n) (supremum (held_by i.locks.lists.items t.slot n) m)) ≡ verdict (first_refusal (lock_tests (state_of v) t n m))
+  rule_decides x y a b good =
+      let s = state_of v in
+      let first = not_refused (no_txn s t) _ (test_passed _ x a) in
+      let second = not_refused (waiting_test (status_of s t.slot)) _ first.1 in
+      let third = not_refused (condemned_test (status_of s t.slot)) [] second.1 in
+      ap (λ (h : NodeId → Mode). verdict (rule_refusal h (parents_of (graph_of i.graph) n) (supremum (h n) m))) (fun_ext (modes-seen i sound v view t.slot))
+      ∙ ap (λ (w : TableView). verdict (rule_refusal ((state_of v).held t.slot) (parents_of (graph_of w.graph) n) (supremum ((state_of v).held t.slot n) m))) view
+      ∙ ap verdict (sym (last_test _ _ _ _ _ (need_parents s t.slot n (wanted s t.slot n m)) first.0 second.0 third.0 (one_node s n (test_passed _ y b)) good))
+
+-- tests, and then more
+
+refused-append : (xs ys : List (Option Refusal)) (r : Refusal) → first_refusal xs ≡ Some r → first_refusal (xs ++ ys) ≡ Some r
+refused-append [] ys r h = absurd (cc)
+refused-append (None ∷ xs) ys r h = refused-append xs ys r h
+refused-append (Some x ∷ xs) ys r h = h
+
+passed-append : (xs ys : List (Option Refusal)) → first_refusal xs ≡ None → first_refusal (xs ++ ys) ≡ first_refusal ys
+passed-append [] ys h = refl
+passed-append (None ∷ xs) ys h = passed-append xs ys h
+passed-append (Some x ∷ xs) ys h = absurd (cc)
+
+test_refused : (o : Option Refusal) (r : Refusal) → Err r ≡ verdict o → o ≡ Some r
+test_refused None r h = absurd (cc)
+test_refused (Some x) r h = let same : r ≡ x = cc in ap Some (sym same)
+
+blocked : (s : State) (t : ℕ) (n : NodeId) (m : Mode) (b : Bool) → enters_at s t n m ≡ b → first_refusal (would_block s t n m ∷ []) ≡ (if b then None else Some no.WouldBlock)
+blocked s t n m true e = ap (λ b. first_refusal (where_true (not b) no.WouldBlock ∷ [])) e
+blocked s t n m false e = ap (λ b. first_refusal (where_true (not b) no.WouldBlock ∷ [])) e
+
+module _ (s : State) (t : TxnId) (n : NodeId) (m : Mode) where
+  -- what refuses a lock refuses a try
+  pub try_refused : (r : Refusal) → Err r ≡ verdict (first_refusal (lock_tests s t n m)) → first_refusal (try_tests s t n m) ≡ Some r
+  try_refused r h = refused-append (lock_tests s t n m) (would_block s t.slot n m ∷ []) r (test_refused _ r h)
+
+  -- and so does an ask that would wait
+  pub try_decides : (x : Unit {0}) → Ok x ≡ verdict (first_refusal (lock_tests s t n m)) → (b : Bool) → enters_at s t.slot n m ≡ b → first_refusal (try_tests s t n m) ≡ (if b then None else Some no.WouldBlock)
+  try_decides x h b e = passed-append (lock_tests s t n m) (would_block s t.slot n m ∷ []) (test_passed _ x h) ∙ blocked s t.slot n m b e
+
+  pub may_lock_by : (x : Unit {0}) → Ok x ≡ verdict (first_refusal (lock_tests s t n m)) → MayLock s t n m
+  may_lock_by x h = (may_lock s t n m None [] (test_passed _ x h)).0
+
+module _ (i : Inside) (sound : IsSound i) (t : TxnId) (n : NodeId) (m : Mode) where
+  abbrev s : State
+  s = state_of (view_of i)
+
+  abbrev l : State
+  l = state_on (graph_of i.graph) i.locks
+
+  -- the header says what the state says
+  pub same_enters : enters slot_limit (members_at i.locks.headers.entries n) (queue_of i.locks.headers.entries n) t.slot (supremum (held_of i.locks.headers.entries t.slot n) m) ≡ enters_at s t.slot n m
+  same_enters = sym (enters-most l (orderly i sound) sound.sound.few t.slot n (wanted l t.slot n m))
+
+  -- the grant was made
+  module _ (may : MayLock s t n m) (fits : enters_at s t.slot n m ≡ true) (locks : Locks) (is : state_on (graph_of i.graph) locks ≡ granted l t.slot n m) where
+    abbrev after : Inside
+    after = record i { locks = locks }
+
+    pub state_granted : state_of (view_of after) ≡ granted s t.slot n m
+    state_granted = ap {A = State} (λ x. record x { detect = i.detect; begins = i.begins }) is
+
+    pub sound_granted : AreSound locks → ((u : ℕ) → Agrees (state_on (graph_of i.graph) locks) locks.lists.items u) → ((u : ℕ) → CountsHeld (state_on (graph_of i.graph) locks) locks.lists.items u) → IsSound after
+    sound_granted are agrees counts = record {
+      lawful = subst IsLawful (sym state_granted) (granted-lawful s sound.lawful t n m may fits);
+      sound = are;
+      agrees = agrees;
+      counts = counts;
+      no_cycle = λ at. subst HasNoCycle (sym state_granted) (granted-no_cycle s t.slot n (wanted s t.slot n m) may.active (sound.no_cycle at));
+    }
+
+  -- it was granted, or nothing but room was made
+  pub sound_tried : (r : Result Mode Refusal) (locks : Locks) → MayLock s t n m → enters_at s t.slot n m ≡ true → OnOk r (state_on (graph_of i.graph) locks ≡ granted l t.slot n m)
+      → OnErr r (locks.headers.entries ≡ i.locks.headers.entries) → OnErr r (locks.seats ≡ i.locks.seats)
+      → AreSound locks → ((u : ℕ) → Agrees (state_on (graph_of i.graph) locks) locks.lists.items u) → ((u : ℕ) → CountsHeld (state_on (graph_of i.graph) locks) locks.lists.items u) → IsSound (record i { locks = locks })
+  sound_tried (Ok x) locks may fits ok headers seats are agrees counts = sound_granted may fits locks ok are agrees counts
+  sound_tried (Err x) locks may fits ok headers seats are agrees counts = record {
+    lawful = subst IsLawful same sound.lawful;
+    sound = are;
+    agrees = agrees;
+    counts = counts;
+    no_cycle = λ at. subst HasNoCycle same (sound.no_cycle at);
+  }
+    where
+      same : s ≡ state_of (view_of (record i { locks = locks }))
+      same = λ z. record s {
+        txns = txns_of (sym seats z).items;
+        held = held_of (sym headers z);
+        queue = queue_of (sym headers z);
+        most = length (sym seats z).items;
+      }
+
+  pub state_tried : (r : Result Mode Refusal) (locks : Locks) → OnOk r (state_on (graph_of i.graph) locks ≡ granted l t.slot n m) → OnOk r (state_of (view_of (record i { locks = locks })) ≡ granted s t.slot n m)
+  state_tried (Ok x) locks ok = ap {A = State} (λ x. record x { detect = i.detect; begins = i.begins }) ok
+  state_tried (Err x) locks ok = ok
+
+-- what a try answers once the tests of a lock passed, by what the header says
+pub decided : (i : Inside) (sound : IsSound i) (v : TableView) → view_of i ≡ v → (t : TxnId) (n : NodeId) (m : Mode) (x : Unit {0}) → Ok x ≡ verdict (first_refusal (lock_tests (state_of v) t n m)) → (b : Bool)
+    → b ≡ enters slot_limit (members_at i.locks.headers.entries n) (queue_of i.locks.headers.entries n) t.slot (supremum (held_of i.locks.headers.entries t.slot n) m)
+    → first_refusal (try_tests (state_of v) t n m) ≡ (if b then None else Some no.WouldBlock)
+decided i sound v view t n m x h b e =
+    try_decides (state_of v) t n m x h b (ap (λ (w : TableView). enters_at (state_of w) t.slot n m) (sym view) ∙ sym (same_enters i sound t n m) ∙ sym e)

@@ -1,0 +1,58 @@
+-- Lists in which nothing stands.
+use Rattle.std.specs.Prelude.{◌≡◌, ℕ, zero, suc, ◌+◌, false, List, [], ◌∷◌, ◌++◌, length, Option, Some, None, is_some, replicate, ⊤}
+use Rattle.std.proofs.Common.{refl, ap, ◌∙◌, subst, arith}
+use Rattle.gl_modes.specs.declared.mode.Mode.TheVariants.{NL}
+use Rattle.gl_modes.specs.declared.node.NodeId.{NodeId}
+use Rattle.gl_table.specs.declared.list.Entry.{Entry}
+use Rattle.gl_table.specs.declared.list.LockList.{LockList}
+use Rattle.gl_table.specs.Lists.{IsApart, count_of, entry_of, is_listed, mode_in, mode_of}
+use Rattle.gl_table.specs.Slots.{AreApart, by_list, counted_by, held_by, listed_by}
+
+-- nothing is listed and nothing is counted
+pub record IsBare (l : LockList) : Type 0 where
+  pub listed : (n : NodeId) → is_listed l n ≡ false
+  pub counts : (n : NodeId) → count_of l n ≡ 0
+  pub apart : IsApart l
+
+abbrev pub AreBare : List LockList → Type 0
+AreBare [] = ⊤
+AreBare (l ∷ ls) = IsBare l × AreBare ls
+
+pub bare-more : (ls : List LockList) (l : LockList) → AreBare ls → IsBare l → AreBare (ls ++ l ∷ [])
+bare-more [] l h k = (k, tt)
+bare-more (x ∷ ls) l h k = (h.0, bare-more ls l h.1 k)
+
+-- what such lists say by slot
+bare_by : {A : Type 0} (f : LockList → A) (none : A) → ((l : LockList) → IsBare l → f l ≡ none) → (ls : List LockList) → AreBare ls → (t : ℕ) → by_list f none ls t ≡ none
+bare_by f none is [] h t = refl
+bare_by f none is (l ∷ ls) h zero = is l h.0
+bare_by f none is (l ∷ ls) h (suc t) = bare_by f none is ls h.1 t
+
+no_mode : (e : Option Entry) → is_some e ≡ false → mode_in e ≡ NL
+no_mode None h = refl
+no_mode (Some e) h = absurd (cc)
+
+pub bare-listed : (ls : List LockList) → AreBare ls → (t : ℕ) (n : NodeId) → listed_by ls t n ≡ false
+bare-listed ls h t n = bare_by (λ l. is_listed l n) false (λ l b. b.listed n) ls h t
+
+pub bare-modes : (ls : List LockList) → AreBare ls → (t : ℕ) (n : NodeId) → held_by ls t n ≡ NL
+bare-modes ls h t n = bare_by (λ l. mode_of l n) NL (λ l b. no_mode (entry_of l n) (b.listed n)) ls h t
+
+pub bare-counts : (ls : List LockList) → AreBare ls → (t : ℕ) (n : NodeId) → counted_by ls t n ≡ 0
+bare-counts ls h t n = bare_by (λ l. count_of l n) 0 (λ l b. b.counts n) ls h t
+
+pub bare-apart : (ls : List LockList) → AreBare ls → AreApart ls
+bare-apart [] h t l e = absurd (cc)
+bare-apart (x ∷ ls) h zero l e = let is : x ≡ l = cc in subst IsApart is h.0.apart
+bare-apart (x ∷ ls) h (suc t) l e = bare-apart ls h.1 t l e
+
+pub replicate-more : {A : Type 0} (x : A) (k : ℕ) → replicate k x ++ x ∷ [] ≡ replicate (k + 1) x
+replicate-more x k = let next : suc k ≡ k + 1 = omega arith in by k ∙ ap (λ n. replicate n x) next
+  where
+    by : (k : ℕ) → replicate k x ++ x ∷ [] ≡ replicate (suc k) x
+    by zero = refl
+    by (suc k) = ap (λ xs. x ∷ xs) (by k)
+
+pub length-more : {A : Type 0} (xs : List A) (x : A) → length (xs ++ x ∷ []) ≡ length xs + 1
+length-more [] x = refl
+length-more (y ∷ xs) x = let rest = length-more xs x in omega arith

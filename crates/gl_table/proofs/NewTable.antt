@@ -1,0 +1,63 @@
+-- A table in which nothing stands.
+use Rattle.std.specs.Prelude.{◌≡◌, ℕ, zero, suc, ◌≤◌, ◌||◌, [], length, Option, None, replicate}
+use Rattle.std.proofs.Common.{refl, sym, ap, ◌∙◌, subst}
+use Rattle.gl_graph.specs.View.{graph_of}
+use Rattle.gl_table.specs.declared.seat.Seat.{Seat}
+use Rattle.gl_table.specs.declared.table.Table.TheInside.{Inside}
+use Rattle.gl_table.specs.Headers.{AreHeaders, held_of, queue_of}
+use Rattle.gl_header.specs.Header.{holds, is_among_waiters}
+use Rattle.gl_table.specs.Covered.{held_children}
+use Rattle.gl_table.specs.Lawful.{IsLawful}
+use Rattle.gl_table.specs.Locks.{AreNew}
+use Rattle.gl_table.specs.Seats.{txns_of}
+use Rattle.gl_table.specs.Sound.{IsSound, view_of}
+use Rattle.gl_table.specs.State.{State, empty_state, members, status_of}
+use Rattle.gl_table.specs.Table.{state_of}
+use Rattle.gl_table.specs.Waiting.{HasNoCycle, is_wait}
+use Rattle.gl_table.proofs.NoCycle.{empty-no_cycle}
+use Rattle.gl_table.proofs.Queues.{clash}
+use Rattle.gl_table.proofs.Empty.{empty-lawful}
+
+length-replicate : (k : ℕ) → length (replicate {A = Option Seat} k None) ≡ k
+length-replicate zero = refl
+length-replicate (suc k) = ap suc (length-replicate k)
+
+free_seats : (k t : ℕ) → txns_of (replicate k None) t ≡ None
+free_seats zero t = refl
+free_seats (suc k) zero = refl
+free_seats (suc k) (suc t) = free_seats k t
+
+no_headers : AreHeaders []
+no_headers = record { lawful = λ n h e. absurd (cc); used = λ n h e. absurd (cc) }
+
+module _ (i : Inside) (most : ℕ) (few : most ≤ 128) (none : (birth : ℕ) → (graph_of i.graph).at birth ≡ None) (births : i.graph.births ≡ 0) (begins : i.begins ≡ 0) (new : AreNew i.locks most) where
+  abbrev s : State
+  s = state_of (view_of i)
+
+  pub new_state : s ≡ empty_state i.detect most
+  new_state = λ z. record (empty_state i.detect most) {
+    graph = record { at = λ b. none b z; births = births z };
+    txns = λ t. (ap (λ xs. txns_of xs t) new.seats ∙ free_seats most t) z;
+    held = λ t n. held_of (new.headers z) t n;
+    queue = λ n. queue_of (new.headers z) n;
+    most = (ap length new.seats ∙ length-replicate most) z;
+    begins = begins z;
+  }
+
+  pub new_sound : IsSound i
+  new_sound = record {
+    lawful = subst IsLawful (sym new_state) (empty-lawful i.detect most);
+    sound = record {
+      headers = subst AreHeaders (sym new.headers) no_headers;
+      few = subst (λ (k : ℕ). k ≤ 128) (sym (ap length new.seats ∙ length-replicate most)) few;
+      lists = new.lists ∙ sym (ap length new.seats ∙ length-replicate most);
+      apart = new.apart;
+    };
+    agrees = λ u. record {
+      modes = λ q. new.modes u q ∙ sym (ap (λ x. x.held u q) new_state);
+      listed = λ q. new.listed u q ∙ sym (ap (λ x. holds (members x q) u || is_among_waiters u (x.queue q)) new_state);
+      room = λ h. clash (ap (λ x. is_wait (status_of x u)) (sym new_state) ∙ h) refl;
+    };
+    counts = λ u p. new.counts u p ∙ sym (ap (λ x. held_children x u p) new_state);
+    no_cycle = λ _. subst HasNoCycle (sym new_state) (empty-no_cycle i.detect most);
+  }

@@ -1,0 +1,123 @@
+-- Where who stands in a queue waits there, once: what follows for the front that its node grants.
+use Rattle.std.specs.Prelude.{◌≡◌, ℕ, Bool, true, false, not, List, [], ◌∷◌, ◌++◌, Option, Some, None, if◌then◌else◌}
+use Rattle.std.proofs.Common.{refl, sym, ap, ◌∙◌, arith}
+use Rattle.std.proofs.lemmas.List.Elements.{filter-append}
+use Rattle.gl_modes.specs.declared.mode.Mode.{Mode}
+use Rattle.gl_modes.specs.declared.node.NodeId.{NodeId}
+use Rattle.gl_modes.specs.Nodes.{same_node}
+use Rattle.gl_modes.proofs.NodeLemmas.{same_node-equal, same_node-refl}
+use Rattle.gl_graph.proofs.Look.{both, number_other, number_same, or_left, or_right, split}
+use Rattle.gl_header.specs.Header.{AreBelow, IsWithin, Waiter, holds, is_among_waiters, is_waiter, pumped_queue}
+use Rattle.gl_header.specs.Sound.{is_distinct}
+use Rattle.gl_header.proofs.Fronts.{front-and_rest, front-waited}
+use Rattle.gl_header.proofs.Ranges.{not_true}
+use Rattle.gl_table.specs.declared.txn.Status.{Status}
+use Rattle.gl_table.specs.declared.txn.Status.TheVariants.{Active, Waiting}
+use Rattle.gl_table.specs.Locks.{IsOrderly}
+use Rattle.gl_table.specs.Pumping.{WaitWell}
+use Rattle.gl_table.specs.Pumps.{awake, front_at, granted_at, is_waiting_at, waits_at, without_wait, woken}
+use Rattle.gl_table.specs.State.{State, Txn, members, restatus, status_in, status_of, with_grant}
+use Rattle.gl_table.proofs.GrantKeeps.{nl_is, txn_there}
+use Rattle.gl_table.proofs.Less.{waiting_is}
+use Rattle.gl_table.proofs.Queues.{among_by_filter, clash, none_filtered, one_in_first}
+use Rattle.gl_table.proofs.QueueEdits.{out_of_without, without_filter}
+use Rattle.gl_table.proofs.Tells.{is_by_test, woken_same}
+use Rattle.gl_table.proofs.Waiters.{waits_of}
+use Rattle.gl_table.proofs.Ways.{without_wait_other}
+
+-- where each slot stands once, no slot stands twice
+pub distinct_once : (q : List Waiter) → ((u : ℕ) → is_among_waiters u q ≡ true → (w : Waiter) × (waits_of u q ≡ w ∷ [])) → is_distinct q ≡ true
+distinct_once [] one = refl
+distinct_once (w ∷ q) one = both (not (is_among_waiters w.0 q)) (is_distinct q) (ap not alone) (distinct_once q later)
+  where
+    last : {x y : Waiter} {xs : List Waiter} → x ∷ xs ≡ y ∷ [] → xs ≡ []
+    last e = cc
+
+    waits_cons : (u : ℕ) (b : Bool) → is_waiter u w ≡ b → waits_of u (w ∷ q) ≡ (if b then w ∷ waits_of u q else waits_of u q)
+    waits_cons u b e = ap (λ x. if x then w ∷ waits_of u q else waits_of u q) e
+
+    own : is_waiter w.0 w ≡ true
+    own = number_same w.0 w.0 refl
+
+    alone : is_among_waiters w.0 q ≡ false
+    alone = none_filtered w.0 q (last (sym (waits_cons w.0 true own) ∙ (one w.0 (or_left _ _ own)).1))
+
+    later : (u : ℕ) → is_among_waiters u q ≡ true → (v : Waiter) × (waits_of u q ≡ v ∷ [])
+    later u h = let was = one u (or_right (is_waiter u w) _ h) in
+        split (is_waiter u w) (λ e. clash h (none_filtered u q (last (sym (waits_cons u true e) ∙ was.1)))) (λ e. (was.0, sym (waits_cons u false e) ∙ was.1))
+
+module _ (s : State) (o : IsOrderly s) where
+  pub waits_there : (u : ℕ) (q : NodeId) → is_among_waiters u (s.queue q) ≡ true → (m : Mode) × (status_of s u ≡ Some (Waiting q m))
+  waits_there u q h = waiting_is (status_of s u) q (o.waits_are u q h)
+
+  -- waiters and members are below the limit
+  pub waiters_below : (q : NodeId) → AreBelow s.most (s.queue q)
+  waiters_below q u h = o.below u (txn_there (s.txns u) _ (waits_there u q h).1)
+
+  pub members_within : (q : NodeId) → IsWithin s.most (members s q)
+  members_within q u le = split (holds (members s q) u) (λ h. let lt = o.below u (o.holders u q h) in absurd (omega arith)) (λ h. nl_is (s.held u q) h)
+
+  -- a changed grant changes no queue
+  pub well_granted : (t : ℕ) (p : NodeId) (m : Mode) (q : NodeId) → WaitWell (with_grant s t p m) q
+  well_granted t p m q = record {
+    waits_are = λ u h. o.waits_are u q h;
+    one_wait = λ u h. let st = waits_there u q h in let one = o.one_wait u q st.0 st.1 in (st.0, one.0, one.1);
+  }
+
+  -- with one wait taken out, all others stand as they did
+  pub well_without : (t : ℕ) (st : Status) (q : NodeId) → WaitWell (without_wait s t st) q
+  well_without t st q = record {
+    waits_are = λ u h. let was = out_of_without t u (s.queue q) h in ap (λ x. waits_at (status_in x) q) (without_wait_other s t st u (number_other u t was.1)) ∙ o.waits_are u q was.0;
+    one_wait = λ u h. let was = out_of_without t u (s.queue q) h in let w = waits_there u q was.0 in let one = o.one_wait u q w.0 w.1 in (w.0, without_filter t u (s.queue q) was.1 ∙ one.0, one.1);
+  }
+
+  pub below_without : (t : ℕ) (st : Status) (q : NodeId) → AreBelow s.most ((without_wait s t st).queue q)
+  below_without t st q u h = waiters_below q u (out_of_without t u (s.queue q) h).0
+
+-- who waits at a node waits nowhere else
+pub waits_only : (s : State) (t : ℕ) (n : NodeId) → is_waiting_at s t n ≡ true → is_waiting_at s t ≡ same_node n
+waits_only s t n h = ap waits_at (waiting_is (status_of s t) n h).1
+
+-- and it stands there, and in no other queue
+
+pub stands_there : (s : State) → IsOrderly s → (t : ℕ) (n : NodeId) → is_waiting_at s t n ≡ true → is_among_waiters t (s.queue n) ≡ true
+stands_there s o t n h = let wait = waiting_is (status_of s t) n h in among_by_filter t (t, wait.0) [] (s.queue n) (o.one_wait t n wait.0 wait.1).0
+
+pub stands_only : (s : State) → IsOrderly s → (t : ℕ) (n : NodeId) → is_waiting_at s t n ≡ true → (q : NodeId) → same_node n q ≡ false → is_among_waiters t (s.queue q) ≡ false
+stands_only s o t n h q e = not_true _ (λ k. clash (o.waits_are t q k) (ap (λ f. f q) (waits_only s t n h) ∙ e))
+
+-- what is granted on each node, where only n grants
+
+pub granted_here : (b : State) (n : NodeId) → granted_at b (same_node n) n ≡ front_at b n
+granted_here b n = ap (λ c. if c then front_at b n else []) (same_node-refl n)
+
+pub granted_apart : (b : State) (n q : NodeId) → same_node n q ≡ false → granted_at b (same_node n) q ≡ []
+granted_apart b n q e = ap (λ c. if c then front_at b q else []) e
+
+module _ (b : State) (n : NodeId) (well : WaitWell b n) where
+  pub front_stands : (u : ℕ) → is_among_waiters u (front_at b n) ≡ true → is_among_waiters u (b.queue n) ≡ true
+  front_stands u h = front-waited b.most (members b n) (b.queue n) u h
+
+  -- who stays in the queue
+  abbrev rest : List Waiter
+  rest = pumped_queue b.most (members b n) (b.queue n)
+
+  pub front_distinct : is_distinct (front_at b n) ≡ true
+  front_distinct = distinct_once (front_at b n) (λ u h. let one = well.one_wait u (front_stands u h) in
+      ((u, one.0), (one_in_first (waits_of u (front_at b n)) (waits_of u rest) (u, one.0) (parts u ∙ one.1) (λ e. clash h (none_filtered u (front_at b n) e))).0))
+    where
+      parts : (u : ℕ) → waits_of u (front_at b n) ++ waits_of u rest ≡ waits_of u (b.queue n)
+      parts u = sym (filter-append (is_waiter u) (front_at b n) rest) ∙ ap (waits_of u) (front-and_rest b.most (members b n) (b.queue n))
+
+  -- who is in the front waited there and is active, and all others are as they were
+  pub woken_front : (u : ℕ) → woken (granted_at b (same_node n)) u (b.txns u) ≡ (if is_among_waiters u (front_at b n) then restatus Active (b.txns u) else b.txns u)
+  woken_front u = is_by_test (is_among_waiters u (front_at b n))
+      (λ h. let wait = waiting_is (status_of b u) n (well.waits_are u (front_stands u h)) in active wait.0 (b.txns u) wait.1 (ap (is_among_waiters u) (granted_here b n) ∙ h))
+      (λ h. woken_same (granted_at b (same_node n)) u (λ q. split (same_node n q)
+      (λ e. ap (λ p. is_among_waiters u (granted_at b (same_node n) p)) (sym (same_node-equal n q e)) ∙ ap (is_among_waiters u) (granted_here b n) ∙ h)
+      (λ e. ap (is_among_waiters u) (granted_apart b n q e))) (b.txns u))
+    where
+      active : (m : Mode) (x : Option Txn) → status_in x ≡ Some (Waiting n m) → is_among_waiters u (granted_at b (same_node n) n) ≡ true → woken (granted_at b (same_node n)) u x ≡ restatus Active x
+      active m None st k = refl
+      active m (Some x) st k = let is : x.status ≡ Waiting n m = cc in
+          ap (λ y. Some (record { age = x.age; status = awake (granted_at b (same_node n)) u y })) is ∙ ap (λ c. Some (record { age = x.age; status = if c then Active else Waiting n m })) k

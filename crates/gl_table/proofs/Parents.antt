@@ -1,0 +1,79 @@
+-- The parents of a node in a lawful graph: no two alike, and at most eight.
+use Rattle.std.specs.Prelude.{◌≡◌, ℕ, ◌≤◌, Bool, true, false, not, List, [], ◌∷◌, length}
+use Rattle.std.specs.List.{list_all, list_any}
+use Rattle.std.proofs.Common.{refl, sym, ap, ◌∙◌, subst, arith}
+use Rattle.gl_modes.specs.declared.node.NodeId.{NodeId}
+use Rattle.gl_modes.specs.Nodes.{same_node}
+use Rattle.gl_graph.specs.Shapes.{Shape, Inner, File, Index, Interval, Rec, is_file_shape, is_index_of_shape}
+use Rattle.gl_graph.specs.Graph.{Graph, node_at, shape_in, shape_of, parents_in, parents_of, first_in, first_parent, nodes, indexes_of, interval_of, intervals_of}
+use Rattle.gl_graph.specs.Lawful.{IsLawfulGraph, HasShape, are_distinct}
+use Rattle.gl_graph.proofs.Look.{cases_of, or_elim, or_left, or_right, and_both, both, no, same_node_is, is_same_node, all_filter}
+use Rattle.gl_graph.proofs.KindRules.{interval_is}
+use Rattle.gl_graph.proofs.Distinct.{indexes_distinct}
+use Rattle.gl_header.proofs.Ranges.{not_true}
+
+short_intervals : (g : Graph) (is : List NodeId) (keys : List ℕ) → length (intervals_of g is keys) ≤ length is
+short_intervals g [] keys = omega arith
+short_intervals g (i ∷ is) [] = omega arith
+short_intervals g (i ∷ is) (k ∷ keys) = let rest = short_intervals g is keys in omega arith
+
+module _ (g : Graph) (law : IsLawfulGraph g) where
+  -- all of these are indexes of the file
+  abbrev are_of : NodeId → List NodeId → Bool
+  are_of f is = list_all (λ i. is_index_of_shape f (shape_of g i)) is
+
+  -- an interval is no file, and its index is its parent
+  interval_among : (f p : NodeId) (is : List NodeId) (keys : List ℕ) → are_of f is ≡ true → list_any (same_node p) (intervals_of g is keys) ≡ true
+      → (is_file_shape (shape_of g p) ≡ false) × (list_any (same_node (first_parent g p)) is ≡ true)
+  interval_among f p [] keys h k = absurd (no k)
+  interval_among f p (i ∷ is) [] h k = absurd (no k)
+  interval_among f p (i ∷ is) (key ∷ keys) h k =
+      let t = and_both _ _ h in
+      or_elim (same_node p (interval_of g i key)) _ k
+      (λ here.
+      let there = ap (node_at g) (same_node_is p _ here) ∙ interval_is g law f i key t.0 in
+      (ap (λ o. is_file_shape (shape_in o)) there, or_left _ _ (is_same_node (first_parent g p) i (ap (λ o. first_in (parents_in o)) there))))
+      (λ rest. let r = interval_among f p is keys t.1 rest in (r.0, or_right (same_node (first_parent g p) i) _ r.1))
+
+  intervals_distinct : (f : NodeId) (is : List NodeId) (keys : List ℕ) → are_of f is ≡ true → are_distinct is ≡ true → are_distinct (intervals_of g is keys) ≡ true
+  intervals_distinct f [] keys h d = refl
+  intervals_distinct f (i ∷ is) [] h d = refl
+  intervals_distinct f (i ∷ is) (key ∷ keys) h d =
+      let t = and_both _ _ h in
+      let u = and_both (not (list_any (same_node i) is)) (are_distinct is) d in
+      let own : first_parent g (interval_of g i key) ≡ i = ap (λ o. first_in (parents_in o)) (interval_is g law f i key t.0) in
+      both _ _
+      (ap not (not_true _ (λ k. no (sym (ap not (ap (λ q. list_any (same_node q) is) (sym own) ∙ (interval_among f (interval_of g i key) is keys t.1 k).1)) ∙ u.0))))
+      (intervals_distinct f is keys t.1 u.1)
+
+  distinct_of : (sh : Shape) (ps : List NodeId) (n : NodeId) → HasShape g n sh ps → are_distinct ps ≡ true
+  distinct_of Inner ps n h = h.distinct
+  distinct_of File ps n h = h.distinct
+  distinct_of (Index f bs) ps n h = h.0.distinct
+  distinct_of (Interval place) ps n h = ap are_distinct h.1
+  distinct_of (Rec keys) ps n h =
+      let indexes = all_filter (λ i. is_index_of_shape h.0 (shape_of g i)) (nodes g) in
+      ap are_distinct h.1.parents
+      ∙ both _ _ (ap not (not_true _ (λ k. no (sym (interval_among h.0 h.0 (indexes_of g h.0) keys indexes k).0 ∙ h.1.file_is))))
+      (intervals_distinct h.0 (indexes_of g h.0) keys indexes (indexes_distinct g h.0))
+
+  few_of : (sh : Shape) (ps : List NodeId) (n : NodeId) → HasShape g n sh ps → length ps ≤ 8
+  few_of Inner ps n h = h.few
+  few_of File ps n h = h.few
+  few_of (Index f bs) ps n h = h.0.few
+  few_of (Interval place) ps n h = let one = ap length h.1 in omega arith
+  few_of (Rec keys) ps n h =
+      let all = ap length h.1.parents in
+      let short = short_intervals g (indexes_of g h.0) keys in
+      let seven = law.seven_indexes h.0 in
+      omega arith
+
+  pub parents_distinct : (n : NodeId) → are_distinct (parents_of g n) ≡ true
+  parents_distinct n =
+      cases_of (node_at g n) (λ e. ap (λ o. are_distinct (parents_in o)) e)
+      (λ x e. ap (λ o. are_distinct (parents_in o)) e ∙ distinct_of x.shape x.parents n (law.well_formed n x e))
+
+  pub parents_few : (n : NodeId) → length (parents_of g n) ≤ 8
+  parents_few n =
+      cases_of (node_at g n) (λ e. subst (λ o. length (parents_in o) ≤ 8) (sym e) (omega arith))
+      (λ x e. subst (λ o. length (parents_in o) ≤ 8) (sym e) (few_of x.shape x.parents n (law.well_formed n x e)))

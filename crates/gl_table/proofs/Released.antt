@@ -1,0 +1,121 @@
+-- One node is released: the lists agree with what is left.
+use Rattle.std.specs.Prelude.{◌≡◌, ℕ, ◌+◌, ◌≤◌, ◌<◌, Bool, true, false, not, ◌&&◌, ◌||◌, ◌==◌, List, length, Some, if◌then◌else◌}
+use Rattle.std.specs.List.{count_by}
+use Rattle.std.proofs.Common.{refl, sym, ap, ap₂, ◌∙◌, subst, arith}
+use Rattle.gl_modes.specs.declared.mode.Mode.{Mode}
+use Rattle.gl_modes.specs.declared.mode.Mode.TheVariants.{NL}
+use Rattle.gl_modes.specs.declared.node.NodeId.{NodeId}
+use Rattle.gl_modes.specs.Modes.{same_mode}
+use Rattle.gl_modes.specs.Nodes.{same_node}
+use Rattle.gl_modes.proofs.NodeLemmas.{same_node-equal, same_node-refl}
+use Rattle.gl_graph.specs.Graph.{is_live, parents_of}
+use Rattle.gl_graph.specs.Lawful.{IsLawfulGraph}
+use Rattle.gl_graph.proofs.Look.{split, number_same, same_number}
+use Rattle.gl_header.specs.Header.{after_grants, holds, is_among_waiters}
+use Rattle.gl_header.proofs.Ranges.{not_true}
+use Rattle.gl_table.specs.declared.list.LockList.{LockList}
+use Rattle.gl_table.specs.declared.txn.Status.TheVariants.{Active, Waiting}
+use Rattle.gl_table.specs.Calls.{unlocked}
+use Rattle.gl_table.specs.Covered.{held_children}
+use Rattle.gl_table.specs.Locks.{Agrees, CountsHeld, IsOrderly}
+use Rattle.gl_table.specs.Pumps.{front_at, granted_at}
+use Rattle.gl_table.specs.Slots.{CanStrike, Strikes, WakesLists, counted_by, held_by, listed_by}
+use Rattle.gl_table.specs.State.{State, members, status_of, with_grant}
+use Rattle.gl_table.specs.Waiting.{is_wait}
+use Rattle.gl_table.proofs.Children.{children_down}
+use Rattle.gl_table.proofs.OneWaits.{front_stands, well_granted}
+use Rattle.gl_table.proofs.Orderly.{in_no_queue}
+use Rattle.gl_table.proofs.Pumped.{woken_waits}
+use Rattle.gl_table.proofs.Queues.{clash, grants_other}
+use Rattle.gl_table.proofs.Settles.{wait_is}
+use Rattle.gl_table.proofs.Unlocked.{agrees_unlocked, counts_unlocked, unlocked_own}
+use Rattle.gl_table.proofs.Ways.{left_stands}
+
+module _ (s : State) (o : IsOrderly s) (law : IsLawfulGraph s.graph) (t : ℕ) (n : NodeId) (active : status_of s t ≡ Some Active) (live : is_live s.graph n ≡ true) (holding : holds (members s n) t ≡ true)
+    (ls mid : List LockList) (agree : (u : ℕ) → Agrees s ls u) (count : (u : ℕ) → CountsHeld s ls u) (wakes : WakesLists ls n (parents_of s.graph n) (front_at (with_grant s t n NL) n) mid) where
+  abbrev b : State
+  b = with_grant s t n NL
+
+  abbrev after : State
+  after = unlocked s t n
+
+  out : (q : NodeId) → is_among_waiters t (s.queue q) ≡ false
+  out q = in_no_queue s o t (ap is_wait active) q
+
+  not_front : is_among_waiters t (front_at b n) ≡ false
+  not_front = not_true _ (λ h. clash (front_stands b n (well_granted s o t n NL n) t h) (out n))
+
+  after_own : (q : NodeId) → after.held t q ≡ (if same_node q n then NL else s.held t q)
+  after_own = unlocked_own s t n out
+
+  mode_own : (q : NodeId) → held_by mid t q ≡ s.held t q
+  mode_own q = wakes.modes t q ∙ split (same_node q n)
+      (λ e. ap (λ k. if k then after_grants (λ v. held_by ls v n) (front_at b n) t else held_by ls t q) e ∙ grants_other (front_at b n) (λ v. held_by ls v n) t not_front ∙ (agree t).modes n ∙ ap (s.held t) (sym (same_node-equal q n e)))
+      (λ e. ap (λ k. if k then after_grants (λ v. held_by ls v n) (front_at b n) t else held_by ls t q) e ∙ (agree t).modes q)
+
+  count_own : (p : NodeId) → counted_by mid t p ≡ held_children s t p
+  count_own p = wakes.counts t p ∙ ap (λ k. counted_by ls t p + (if k && same_mode (held_by ls t n) NL then count_by (same_node p) (parents_of s.graph n) else 0)) not_front
+      ∙ no_more (counted_by ls t p) ∙ count t p
+    where
+      no_more : (k : ℕ) → k + 0 ≡ k
+      no_more k = omega arith
+
+  -- each parent has one held child less
+  less : (p : NodeId) → held_children after t p + count_by (same_node p) (parents_of s.graph n) ≡ held_children s t p
+  less p = children_down s.graph law (λ c. holds (members s c) t) (λ c. holds (members after c) t) n live holding
+      (ap (λ m. not (same_mode m NL)) (after_own n ∙ ap (λ k. if k then NL else s.held t n) (same_node-refl n)))
+      (λ q e. ap (λ m. not (same_mode m NL)) (after_own q ∙ ap (λ k. if k then NL else s.held t q) e)) p
+
+  pub can_strike : t < length mid → held_children s t n ≡ 0 → CanStrike mid t n (parents_of s.graph n)
+  can_strike lt none = record {
+    slot = lt;
+    childless = count_own n ∙ none;
+    some = λ q. subst (λ (k : ℕ). count_by (same_node q) (parents_of s.graph n) ≤ k) (sym (count_own q)) (let l = less q in omega arith);
+  }
+
+  module _ (ls' : List LockList) (strikes : Strikes mid ls' t n (parents_of s.graph n)) where
+    agrees_other : (u : ℕ) → (u == t) ≡ false → Agrees after ls' u
+    agrees_other u e =
+        let now = agrees_unlocked s t n o ls mid wakes u e (agree u) in
+        record {
+          modes = λ q. strikes.modes u q ∙ ap (λ k. if k && same_node q n then NL else held_by mid u q) e ∙ now.modes q;
+          listed = λ q. strikes.listed u q ∙ ap (λ k. if k && same_node q n then false else listed_by mid u q) e ∙ now.listed q;
+          room = λ h. subst (λ (k : ℕ). 9 ≤ k) (sym (strikes.rooms u e)) (now.room h);
+        }
+
+    agrees_own : Agrees after ls' t
+    agrees_own = record {
+      modes = λ q. strikes.modes t q ∙ ap (λ k. if k && same_node q n then NL else held_by mid t q) (number_same t t refl) ∙ ap (λ m. if same_node q n then NL else m) (mode_own q) ∙ sym (after_own q);
+      listed = λ q. strikes.listed t q ∙ ap (λ k. if k && same_node q n then false else listed_by mid t q) (number_same t t refl)
+          ∙ ap (λ k. if same_node q n then false else k) (wakes.listed t q ∙ (agree t).listed q ∙ ap (λ k. holds (members s q) t || k) (out q))
+          ∙ own (same_node q n) (s.held t q)
+          ∙ ap₂ (λ m k. not (same_mode m NL) || k) (sym (after_own q)) (sym (not_true _ (λ h. clash (left_stands b (same_node n) t q h) (out q))));
+      room = λ h. let w = wait_is (status_of after t) h in other (sym active ∙ (woken_waits (granted_at b (same_node n)) t w.0 w.1 (s.txns t) w.2).0);
+    }
+      where
+        own : (k : Bool) (m : Mode) → (if k then false else (not (same_mode m NL) || false)) ≡ (not (same_mode (if k then NL else m) NL) || false)
+        own true m = refl
+        own false m = refl
+
+        other : {C : Type 0} {x : NodeId} {m : Mode} → Some Active ≡ Some (Waiting x m) → C
+        other e = absurd (cc)
+
+    pub agrees_released : (u : ℕ) → Agrees after ls' u
+    agrees_released u = split (u == t) (λ e. subst (Agrees after ls') (sym (same_number u t e)) agrees_own) (λ e. agrees_other u e)
+
+    counts_other : (u : ℕ) → (u == t) ≡ false → CountsHeld after ls' u
+    counts_other u e p =
+        no_more (counted_by ls' u p) ∙ ap (λ k. counted_by ls' u p + (if k then count_by (same_node p) (parents_of s.graph n) else 0)) (sym e) ∙ strikes.counts u p
+        ∙ counts_unlocked s t n o ls mid wakes u e (agree u) law live (count u) p
+      where
+        no_more : (k : ℕ) → k ≡ k + 0
+        no_more k = omega arith
+
+    counts_own : CountsHeld after ls' t
+    counts_own p =
+        let now = sym (ap (λ k. counted_by ls' t p + (if k then count_by (same_node p) (parents_of s.graph n) else 0)) (number_same t t refl)) ∙ strikes.counts t p ∙ count_own p in
+        let l = less p in
+        omega arith
+
+    pub counts_released : (u : ℕ) → CountsHeld after ls' u
+    counts_released u = split (u == t) (λ e. subst (CountsHeld after ls') (sym (same_number u t e)) counts_own) (λ e. counts_other u e)

@@ -1,0 +1,75 @@
+-- Lists with more room say what they said.
+use Rattle.std.specs.Prelude.{◌≡◌, ℕ, zero, suc, ◌<◌, ◌≤◌, false, ◌==◌, List, [], ◌∷◌, length, map, is_some, if◌then◌else◌, slice_set, slice_index_or}
+use Rattle.std.specs.Map.{lookup}
+use Rattle.std.proofs.Common.{refl, sym, ap, ap₂, ◌∙◌, subst, arith, length-set}
+use Rattle.indexmap.specs.IndexMap.{spare}
+use Rattle.gl_modes.specs.declared.mode.Mode.TheVariants.{NL}
+use Rattle.gl_modes.specs.declared.node.NodeId.{NodeId}
+use Rattle.gl_modes.specs.Nodes.{same_node}
+use Rattle.gl_graph.proofs.Look.{number_same, same_number, split}
+use Rattle.gl_table.specs.declared.list.Entry.{Entry}
+use Rattle.gl_table.specs.declared.list.LockList.{LockList}
+use Rattle.gl_table.specs.Lists.{HasRoom, count_in, count_of, is_listed, mode_in, mode_of}
+use Rattle.gl_table.specs.Locks.{Agrees, CountsHeld}
+use Rattle.gl_table.specs.Slots.{HasRoomAt, KeepsLists, by_list, room_by}
+use Rattle.gl_table.specs.State.{State}
+use Rattle.gl_table.proofs.Slots.{apart-set, by_list-at, by_list-set, slice_get-at}
+
+-- where a list that says the same is written, all say the same
+map-set : {A : Type 0} (f : LockList → A) (ls : List LockList) (t : ℕ) (l l' : LockList) → t < length ls → l ≡ slice_index_or ls t l → f l' ≡ f l → map f (slice_set ls t l') ≡ map f ls
+map-set f [] t l l' lt at e = absurd (omega arith)
+map-set f (x ∷ xs) zero l l' lt at e = ap (λ y. y ∷ map f xs) (e ∙ ap f at)
+map-set f (x ∷ xs) (suc t) l l' lt at e = ap (λ ys. f x ∷ ys) (map-set f xs t l l' (omega arith) at e)
+
+module _ (ls : List LockList) (t : ℕ) (l l' : LockList) (lt : t < length ls) (at : l ≡ slice_index_or ls t l) where
+  by_list-kept : {A : Type 0} (f : LockList → A) (none : A) → f l' ≡ f l → (u : ℕ) → by_list f none (slice_set ls t l') u ≡ by_list f none ls u
+  by_list-kept f none e u = by_list-set ls t l' lt f none u ∙ split (u == t)
+      (λ k. ap (λ b. if b then f l' else by_list f none ls u) k ∙ e ∙ sym (by_list-at f none ls t l lt at) ∙ ap (by_list f none ls) (sym (same_number u t k)))
+      (λ k. ap (λ b. if b then f l' else by_list f none ls u) k)
+
+  pub keeps-set : l'.entries.entries ≡ l.entries.entries → l'.loose.entries ≡ l.loose.entries → spare l.loose ≤ spare l'.loose → KeepsLists ls (slice_set ls t l')
+  keeps-set entries loose more = record {
+    len = length-set ls t l';
+    entries = map-set (λ x. x.entries.entries) ls t l l' lt at entries;
+    apart = λ apart. apart-set ls t l' lt apart (λ n h. ap (λ (es : List (NodeId × ℕ)). lookup (same_node n) es) loose ∙ apart t l (slice_get-at ls t l lt at) n (sym (listed n) ∙ h));
+    modes = λ u q. by_list-kept (λ x. mode_of x q) NL (ap (λ (es : List (NodeId × Entry)). mode_in (lookup (same_node q) es)) entries) u;
+    listed = λ u q. by_list-kept (λ x. is_listed x q) false (listed q) u;
+    counts = λ u q. by_list-kept (λ x. count_of x q) 0 (ap₂ (λ (es : List (NodeId × Entry)) (ks : List (NodeId × ℕ)). count_in (lookup (same_node q) es) (lookup (same_node q) ks)) entries loose) u;
+    rooms = λ u. subst (λ (k : ℕ). room_by ls u ≤ k) (sym (by_list-set ls t l' lt (λ x. spare x.loose) 0 u)) (split (u == t)
+        (λ k. subst (λ b. room_by ls u ≤ (if b then spare l'.loose else room_by ls u)) (sym k)
+        (subst (λ (r : ℕ). r ≤ spare l'.loose) (sym (ap (room_by ls) (same_number u t k) ∙ by_list-at (λ x. spare x.loose) 0 ls t l lt at)) more))
+        (λ k. subst (λ b. room_by ls u ≤ (if b then spare l'.loose else room_by ls u)) (sym k) (omega arith)));
+  }
+    where
+      listed : (n : NodeId) → is_listed l' n ≡ is_listed l n
+      listed n = ap (λ (es : List (NodeId × Entry)). is_some (lookup (same_node n) es)) entries
+
+  pub has_room-set : HasRoom l' → HasRoomAt (slice_set ls t l') t
+  has_room-set room = record {
+    entry = subst (λ (k : ℕ). 0 < k) (sym (here (λ x. spare x.entries))) room.0;
+    counts = subst (λ (k : ℕ). 9 ≤ k) (sym (here (λ x. spare x.loose))) room.1;
+  }
+    where
+      here : (f : LockList → ℕ) → by_list f 0 (slice_set ls t l') t ≡ f l'
+      here f = by_list-set ls t l' lt f 0 t ∙ ap (λ b. if b then f l' else by_list f 0 ls t) (number_same t t refl)
+
+pub keeps-none : (ls : List LockList) → KeepsLists ls ls
+keeps-none ls = record {
+  len = refl;
+  entries = refl;
+  apart = λ apart. apart;
+  modes = λ u q. refl;
+  listed = λ u q. refl;
+  counts = λ u q. refl;
+  rooms = λ u. omega arith;
+}
+
+pub keeps-agrees : (s : State) (ls ls' : List LockList) (u : ℕ) → KeepsLists ls ls' → Agrees s ls u → Agrees s ls' u
+keeps-agrees s ls ls' u keeps agrees = record {
+  modes = λ q. keeps.modes u q ∙ agrees.modes q;
+  listed = λ q. keeps.listed u q ∙ agrees.listed q;
+  room = λ w. let room = agrees.room w in let more = keeps.rooms u in omega arith;
+}
+
+pub keeps-counts : (s : State) (ls ls' : List LockList) (u : ℕ) → KeepsLists ls ls' → CountsHeld s ls u → CountsHeld s ls' u
+keeps-counts s ls ls' u keeps counts p = keeps.counts u p ∙ counts p

@@ -1,0 +1,177 @@
+-- What the steps of a way tell: who is granted, who gives its wait up, and all others what they were told before.
+use Rattle.std.specs.Prelude.{◌≡◌, ℕ, Bool, true, false, not, ◌&&◌, ◌==◌, List, [], ◌∷◌, Option, Some, None, if◌then◌else◌}
+use Rattle.std.proofs.Common.{refl, sym, ap, ap₂, ◌∙◌}
+use Rattle.gl_modes.specs.declared.mode.Mode.{Mode}
+use Rattle.gl_modes.specs.declared.mode.Mode.TheVariants.{NL}
+use Rattle.gl_modes.specs.declared.node.NodeId.{NodeId}
+use Rattle.gl_modes.specs.Modes.{same_mode}
+use Rattle.gl_modes.specs.Nodes.{same_node}
+use Rattle.gl_modes.proofs.ModeLemmas.{same_mode-refl}
+use Rattle.gl_modes.proofs.NodeLemmas.{same_node-equal, same_node-refl}
+use Rattle.gl_graph.specs.Graph.{is_live}
+use Rattle.gl_graph.proofs.Look.{split, same_number}
+use Rattle.gl_header.specs.Header.{Waiter, is_among_waiters}
+use Rattle.gl_table.specs.declared.notice.Notice.TheVariants as notice
+use Rattle.gl_table.specs.declared.txn.Status.{Status}
+use Rattle.gl_table.specs.declared.txn.Status.TheVariants.{Active, Waiting, Condemned}
+use Rattle.gl_table.specs.declared.txn.TxnId.{TxnId}
+use Rattle.gl_table.specs.Pumps.{awake, front_at, granted_at, is_waiting_at, pumped, waits_at, without_wait, woken}
+use Rattle.gl_table.specs.Slots.{grant_notice, mode_given}
+use Rattle.gl_table.specs.State.{State, Txn, age_of, members, restatus, status_in, status_of, with_grant, with_txn}
+use Rattle.gl_table.specs.Tellings.{addressed, notice_of, told_from}
+use Rattle.gl_table.specs.Tells.{CancelTells, GoneTells, IsOnWay, NobodyTold, ReleaseTells, ActiveUntold, VictimTells, told_to}
+use Rattle.gl_table.proofs.Follows.{SameGrants}
+use Rattle.gl_table.proofs.Queues.{grants_one, grants_other}
+use Rattle.gl_table.proofs.Taken.{IsQuiet}
+use Rattle.gl_table.proofs.Waiters.{waits_of}
+use Rattle.gl_table.proofs.Ways.{granted_stands, way_granted_once, way_wait, way_with_grant, way_without_wait, without_wait_other, without_wait_own}
+
+-- what is the one where a test passes and the other where it fails
+pub is_by_test : {A : Type 0} {x y z : A} (b : Bool) → (b ≡ true → x ≡ y) → (b ≡ false → x ≡ z) → x ≡ (if b then y else z)
+is_by_test true f g = f refl
+is_by_test false f g = g refl
+
+-- who was granted where it waited is active
+pub woken_up : (g : NodeId → List Waiter) (u : ℕ) (q : NodeId) (m : Mode) (x : Option Txn) → status_in x ≡ Some (Waiting q m) → is_among_waiters u (g q) ≡ true → status_in (woken g u x) ≡ Some Active
+woken_up g u q m None h k = absurd (cc)
+woken_up g u q m (Some x) h k = let is : x.status ≡ Waiting q m = cc in ap (λ st. Some (awake g u st)) is ∙ ap (λ b. Some (if b then Active else Waiting q m)) k
+
+-- who was granted nowhere is as it was
+pub woken_same : (g : NodeId → List Waiter) (u : ℕ) → ((q : NodeId) → is_among_waiters u (g q) ≡ false) → (x : Option Txn) → woken g u x ≡ x
+woken_same g u out None = refl
+woken_same g u out (Some x) = ap (λ st. Some (record { age = x.age; status = st })) (by x.status)
+  where
+    by : (st : Status) → awake g u st ≡ st
+    by Active = refl
+    by (Waiting q m) = ap (λ b. if b then Active else Waiting q m) (out q)
+    by Condemned = refl
+
+restatus_is : (st : Status) (x : Option Txn) (was : Status) → status_in x ≡ Some was → status_in (restatus st x) ≡ Some st
+restatus_is st None was h = absurd (cc)
+restatus_is st (Some x) was h = refl
+
+-- what a slot is told is read from the graph, and from its own transaction and grants
+pub told_same : (now s' : State) (u : ℕ) → s'.graph ≡ now.graph → s'.txns u ≡ now.txns u → SameGrants now s' u → (o : Option Status) → told_from s' u o ≡ told_from now u o
+told_same now s' u graph txn grants None = refl
+told_same now s' u graph txn grants (Some Active) = refl
+told_same now s' u graph txn grants (Some Condemned) = refl
+told_same now s' u graph txn grants (Some (Waiting n m)) = ap (notice_of s' u n m) (ap status_in txn) ∙ by (status_of now u)
+  where
+    by : (o : Option Status) → notice_of s' u n m o ≡ notice_of now u n m o
+    by None = refl
+    by (Some Active) = ap₂ (λ g w. if not (is_live g n) then Some notice.Gone else (if same_mode w m then Some (notice.Granted n m) else Some notice.Moved)) graph (grants n)
+    by (Some (Waiting q w)) = refl
+    by (Some Condemned) = refl
+
+-- only who waited at the beginning is told
+pub told_waits : (s now : State) (u : ℕ) (st : Status) → IsQuiet st → status_of s u ≡ Some st → told_to s now u ≡ None
+told_waits s now u st quiet h = ap (λ o. addressed (record { slot = u; age = age_of s u }) (told_from now u o)) h ∙ by st quiet
+  where
+    by : (x : Status) → IsQuiet x → addressed (record { slot = u; age = age_of s u }) (told_from now u (Some x)) ≡ None
+    by Active k = refl
+    by (Waiting q m) k = absurd (k q m refl)
+    by Condemned k = refl
+
+module _ (s now : State) (way : IsOnWay s now) where
+  module _ (n : NodeId) (u : ℕ) where
+    abbrev after : State
+    after = pumped now (same_node n)
+
+    abbrev name : TxnId
+    name = record { slot = u; age = age_of s u }
+
+    -- whom a node grants from its front is told of its mode: it waited for it from the beginning
+    pub granted_told : is_among_waiters u (front_at now n) ≡ true → told_to s (pumped now (same_node n)) u ≡ grant_notice s.txns n (front_at now n) u
+    granted_told h =
+        ap (λ o. addressed name (told_from after u o)) (way.waited u n wait.0 wait.1)
+        ∙ ap (λ o. addressed name (notice_of after u n wait.0 o)) (woken_up (granted_at now (same_node n)) u n wait.0 (now.txns u) wait.1 granted)
+        ∙ ap₂ (λ a b. addressed name (if not a then Some notice.Gone else (if b then Some (notice.Granted n wait.0) else Some notice.Moved)))
+        (ap (λ g. is_live g n) way.graph ∙ way.live u n wait.0 (way.waited u n wait.0 wait.1))
+        (ap (λ w. same_mode w wait.0) (grants_one (granted_at now (same_node n) n) (members now n) u wait.0 once) ∙ same_mode-refl wait.0)
+        ∙ ap (λ w. Some (name, notice.Granted n w)) (sym (ap (λ ws. mode_given ws u) (sym here) ∙ grants_one (granted_at now (same_node n) n) (λ _. NL) u wait.0 once))
+      where
+        here : granted_at now (same_node n) n ≡ front_at now n
+        here = ap (λ b. if b then front_at now n else []) (same_node-refl n)
+
+        granted : is_among_waiters u (granted_at now (same_node n) n) ≡ true
+        granted = ap (is_among_waiters u) here ∙ h
+
+        wait : (m : Mode) × (status_of now u ≡ Some (Waiting n m))
+        wait = way_wait s now way u n (granted_stands now (same_node n) u n granted)
+
+        once : waits_of u (granted_at now (same_node n) n) ≡ (u, wait.0) ∷ []
+        once = (way_granted_once s now way (same_node n) u n wait.0 wait.1 granted).0
+
+    -- all others are told what they were
+    pub others_told : is_among_waiters u (front_at now n) ≡ false → told_to s (pumped now (same_node n)) u ≡ told_to s now u
+    others_told h =
+        ap (addressed name) (told_same now after u refl (woken_same (granted_at now (same_node n)) u out (now.txns u)) (λ q. grants_other (granted_at now (same_node n) q) (members now q) u (out q)) (status_of s u))
+      where
+        out : (q : NodeId) → is_among_waiters u (granted_at now (same_node n) q) ≡ false
+        out q = split (same_node n q)
+            (λ e. ap (λ b. is_among_waiters u (if b then front_at now q else [])) e ∙ ap (λ p. is_among_waiters u (front_at now p)) (sym (same_node-equal n q e)) ∙ h)
+            (λ e. ap (λ b. is_among_waiters u (if b then front_at now q else [])) e)
+
+    pub pumped_told : told_to s (pumped now (same_node n)) u ≡ (if is_among_waiters u (front_at now n) then grant_notice s.txns n (front_at now n) u else told_to s now u)
+    pumped_told = is_by_test (is_among_waiters u (front_at now n)) granted_told others_told
+
+-- another's wait that is over tells nothing
+pub without_wait_told : (s now : State) (t : ℕ) (st : Status) (u : ℕ) → (u == t) ≡ false → told_to s (without_wait now t st) u ≡ told_to s now u
+without_wait_told s now t st u e = ap (addressed (record { slot = u; age = age_of s u })) (told_same now (without_wait now t st) u refl (without_wait_other now t st u e) (λ q. refl) (status_of s u))
+
+-- of a wait that is over those are told whom its node grants, and all others what they are told of its end
+pub wait_over_told : (s now : State) (t : ℕ) (n : NodeId) (m : Mode) (st : Status) → IsQuiet st → status_of now t ≡ Some (Waiting n m) → IsOnWay s now → (u : ℕ)
+    → told_to s (pumped (without_wait now t st) (is_waiting_at now t)) u
+    ≡ (if is_among_waiters u (front_at (without_wait now t st) n) then grant_notice s.txns n (front_at (without_wait now t st) n) u else told_to s (without_wait now t st) u)
+wait_over_told s now t n m st quiet waits way u =
+    ap (λ o. told_to s (pumped (without_wait now t st) (waits_at o)) u) waits
+    ∙ pumped_told s (without_wait now t st) (way_without_wait s now way t st quiet) n u
+
+pub release_tells : ReleaseTells
+release_tells s now t n way u e =
+    pumped_told s (with_grant now t n NL) (way_with_grant s now way t n NL) n u
+    ∙ ap (λ x. if is_among_waiters u (front_at (with_grant now t n NL) n) then grant_notice s.txns n (front_at (with_grant now t n NL) n) u else x)
+    (ap (addressed (record { slot = u; age = age_of s u })) (told_same now (with_grant now t n NL) u refl refl (λ q. ap (λ b. if b && same_node q n then NL else now.held u q) e) (status_of s u)))
+
+pub active_untold : ActiveUntold
+active_untold s now t is = told_waits s now t Active (λ q m h. cc) is
+
+pub victim_tells : VictimTells
+victim_tells s now t n m waits way u =
+    wait_over_told s now t n m Condemned (λ q w h. cc) waits way u
+    ∙ ap (λ x. if is_among_waiters u (front_at (without_wait now t Condemned) n) then grant_notice s.txns n (front_at (without_wait now t Condemned) n) u else x) over
+  where
+    own : told_to s (without_wait now t Condemned) t ≡ Some (record { slot = t; age = age_of s t }, notice.Victim)
+    own = ap (λ o. addressed (record { slot = t; age = age_of s t }) (told_from (without_wait now t Condemned) t o)) (way.waited t n m waits)
+        ∙ ap (λ o. addressed (record { slot = t; age = age_of s t }) (notice_of (without_wait now t Condemned) t n m o))
+        (ap status_in (without_wait_own now t Condemned) ∙ restatus_is Condemned (now.txns t) (Waiting n m) waits)
+
+    over : told_to s (without_wait now t Condemned) u ≡ (if u == t then Some (record { slot = t; age = age_of s t }, notice.Victim) else told_to s now u)
+    over = is_by_test (u == t) (λ e. ap (told_to s (without_wait now t Condemned)) (same_number u t e) ∙ own) (without_wait_told s now t Condemned u)
+
+pub cancel_tells : CancelTells
+cancel_tells s now t n m waits way u other =
+    wait_over_told s now t n m Active (λ q w h. cc) waits way u
+    ∙ ap (λ x. if is_among_waiters u (front_at (without_wait now t Active) n) then grant_notice s.txns n (front_at (without_wait now t Active) n) u else x)
+    (without_wait_told s now t Active u other)
+
+pub nobody_told : NobodyTold
+nobody_told s u = by (status_of s u) refl
+  where
+    by : (o : Option Status) → status_of s u ≡ o → addressed (record { slot = u; age = age_of s u }) (told_from s u o) ≡ None
+    by None e = refl
+    by (Some Active) e = refl
+    by (Some Condemned) e = refl
+    by (Some (Waiting n m)) e = ap (λ o. addressed (record { slot = u; age = age_of s u }) (notice_of s u n m o)) e
+
+pub gone_tells : GoneTells
+gone_tells s now t u =
+    is_by_test (u == t) (λ e. nothing e (status_of s u))
+    (λ e. ap (addressed (record { slot = u; age = age_of s u })) (told_same now (with_txn now t None) u refl (ap (λ b. if b then None else now.txns u) e) (λ q. refl) (status_of s u)))
+  where
+    -- who is gone is told nothing
+    nothing : (u == t) ≡ true → (o : Option Status) → addressed (record { slot = u; age = age_of s u }) (told_from (with_txn now t None) u o) ≡ None
+    nothing e None = refl
+    nothing e (Some Active) = refl
+    nothing e (Some Condemned) = refl
+    nothing e (Some (Waiting n m)) = ap (λ b. addressed (record { slot = u; age = age_of s u }) (notice_of (with_txn now t None) u n m (status_in (if b then None else now.txns u)))) e

@@ -1,0 +1,77 @@
+-- The front of a node's queue may be woken.
+use Rattle.std.specs.Prelude.{◌≡◌, ℕ, ◌<◌, ◌≤◌, true, not, List, length, Option, Some, None, slice_get}
+use Rattle.std.specs.Option.{option_map_or}
+use Rattle.std.proofs.Common.{sym, ap, ◌∙◌, subst, arith}
+use Rattle.std.proofs.lemmas.List.Sums.{count_by-le-length}
+use Rattle.gl_modes.specs.declared.node.NodeId.{NodeId}
+use Rattle.gl_modes.specs.Nodes.{same_node}
+use Rattle.gl_graph.specs.Graph.{Graph, parents_of}
+use Rattle.gl_graph.specs.Lawful.{IsLawfulGraph}
+use Rattle.gl_graph.proofs.Look.{or_right}
+use Rattle.gl_header.specs.Header.{Waiter, holds, is_among_waiters}
+use Rattle.gl_header.specs.Sound.{is_distinct}
+use Rattle.gl_table.specs.declared.list.LockList.{LockList}
+use Rattle.gl_table.specs.declared.locks.Locks.{Locks}
+use Rattle.gl_table.specs.Lists.{is_listed, unlisted}
+use Rattle.gl_table.specs.Locks.{Agrees, AreSound, CountsHeld, IsOrderly, state_on}
+use Rattle.gl_table.specs.Pumping.{WaitWell}
+use Rattle.gl_table.specs.Pumps.{front_at}
+use Rattle.gl_table.specs.Slots.{CanHold, CanWake, unlisted_by}
+use Rattle.gl_table.specs.State.{State, members}
+use Rattle.gl_table.specs.Telling.{IsBySlot, notices_in}
+use Rattle.gl_table.specs.Tellings.{Told}
+use Rattle.gl_table.specs.Waiting.{is_wait}
+use Rattle.gl_table.proofs.Children.{children_few, few_parents}
+use Rattle.gl_table.proofs.OneWaits.{front_distinct, front_stands, waiters_below, waits_there}
+
+-- no more are not listed than there are
+unlisted_by-few : (ls : List LockList) (t : ℕ) (ps : List NodeId) → unlisted_by ls t ps ≤ length ps
+unlisted_by-few ls t ps = by (slice_get ls t)
+  where
+    by : (o : Option LockList) → option_map_or (λ l. unlisted l ps) o 0 ≤ length ps
+    by None = omega arith
+    by (Some l) = count_by-le-length (λ p. not (is_listed l p)) ps
+
+-- who waits for a node may come to hold it: its list has the node, and room for the counts of the parents
+pub can_hold_there : (s : State) → IsOrderly s → IsLawfulGraph s.graph → (n : NodeId) (ls : List LockList) (u : ℕ) → is_among_waiters u (s.queue n) ≡ true → u < length ls → Agrees s ls u → CountsHeld s ls u
+    → CanHold ls u n (parents_of s.graph n)
+can_hold_there s o law n ls u h lt agree count =
+    let parents = few_parents s.graph law n in
+    record {
+      slot = lt;
+      listed = agree.listed n ∙ or_right (holds (members s n) u) _ h;
+      room = λ _. let few = unlisted_by-few ls u (parents_of s.graph n) in let room = agree.room (ap is_wait (waits_there s o u n h).1) in omega arith;
+      few = λ q _.
+          let few = count_by-le-length (same_node q) (parents_of s.graph n) in
+          let held = children_few s.graph law (λ c. holds (members s c) u) q in
+          let is = count q in
+          omega arith;
+    }
+
+-- the front of a node may be woken, in a state b whose waiters there are among those of the locks
+pub can_wake_front : (g : Graph) (l : Locks) → IsLawfulGraph g → AreSound l → IsOrderly (state_on g l) → (n : NodeId) (b : State) → WaitWell b n
+    → ((u : ℕ) → is_among_waiters u (b.queue n) ≡ true → is_among_waiters u ((state_on g l).queue n) ≡ true)
+    → ((u : ℕ) → is_among_waiters u ((state_on g l).queue n) ≡ true → Agrees (state_on g l) l.lists.items u)
+    → ((u : ℕ) → is_among_waiters u ((state_on g l).queue n) ≡ true → CountsHeld (state_on g l) l.lists.items u)
+    → (told : Told) → IsBySlot told → ((u : ℕ) → is_among_waiters u (b.queue n) ≡ true → notices_in told u ≡ None)
+    → (ps : List NodeId) (ws : List Waiter) → ps ≡ parents_of g n → ws ≡ front_at b n → CanWake l.seats.items l.lists.items told n ps ws
+can_wake_front g l law sound o n b well stand agree count told by_slot untold ps ws parents front =
+    record {
+      few = sound.few;
+      len = sound.lists;
+      apart = sound.apart;
+      by_slot = by_slot;
+      distinct = ap is_distinct front ∙ front_distinct b n well;
+      below = λ u h. below u (stand u (stands u h));
+      can_hold = λ u h.
+          let there = stand u (stands u h) in
+          subst (λ (xs : List NodeId). CanHold l.lists.items u n xs) (sym parents)
+          (can_hold_there (state_on g l) o law n l.lists.items u there (subst (λ (k : ℕ). u < k) (sym sound.lists) (below u there)) (agree u there) (count u there));
+      untold = λ u h. untold u (stands u h);
+    }
+  where
+    stands : (u : ℕ) → is_among_waiters u ws ≡ true → is_among_waiters u (b.queue n) ≡ true
+    stands u h = front_stands b n well u (ap (is_among_waiters u) (sym front) ∙ h)
+
+    below : (u : ℕ) → is_among_waiters u ((state_on g l).queue n) ≡ true → u < length l.seats.items
+    below u h = waiters_below (state_on g l) o n u h

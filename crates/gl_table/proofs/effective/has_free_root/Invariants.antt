@@ -1,0 +1,12 @@
+use Rattle.std.proofs.Common.{◌-◌, ◌^◌}
+use Rattle.gl_graph.specs.View.{graph_of}
+use Rattle.gl_table.specs.Lists.{mode_of}
+use Rattle.gl_table.proofs.CutSet.{is_x}
+use Rattle.gl_table.proofs.Searches.{IsSearch, is_top}
+use Rattle.gl_table.proofs.effective.has_free_root.Given as goal
+
+abbrev pub invariant-loop-node : goal.invariant-loop-node
+invariant-loop-node l = let g = graph_of l.graph in IsSearch g (is_x g (mode_of l.list)) (is_top g) l.fn.n l.found.keys l.at
+
+abbrev pub decreases-loop-node : goal.decreases-loop-node
+decreases-loop-node l = 2 ^ 64 - l.at

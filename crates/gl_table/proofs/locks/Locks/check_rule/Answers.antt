@@ -1,0 +1,23 @@
+use Rattle.std.specs.Prelude.{◌≡◌}
+use Rattle.std.proofs.Common.{ap, ap₂, sym, ◌∙◌}
+use Rattle.std.proofs.Math.Path.{fun_ext}
+use Rattle.gl_modes.specs.declared.mode.Mode.{Mode}
+use Rattle.gl_modes.specs.declared.mode.Mode.TheVariants.{NL}
+use Rattle.gl_modes.specs.declared.node.NodeId.{NodeId}
+use Rattle.gl_modes.specs.Modes.{supremum}
+use Rattle.gl_graph.specs.Graph.{parents_of}
+use Rattle.gl_graph.specs.Refusals.{verdict}
+use Rattle.gl_graph.specs.View.{graph_of}
+use Rattle.gl_table.specs.Lists.{mode_of}
+use Rattle.gl_table.specs.Refusals.{rule_refusal}
+use Rattle.gl_table.specs.Slots.{held_by}
+use Rattle.gl_table.proofs.Slots.{by_list-at}
+use Rattle.gl_table.proofs.locks.Locks.check_rule.Goals as goal
+
+pub returns : goal.returns
+returns c =
+    let list = c.index-list.result.now in
+    let held : held_by c.args.self.now.lists.items c.args.slot ≡ mode_of list = fun_ext (λ q. by_list-at (λ l. mode_of l q) NL c.args.self.now.lists.items c.args.slot list c.requires c.index-list.ensures) in
+    c.check_rule.ensures
+    ∙ ap₂ (λ ps m. verdict (rule_refusal (mode_of list) ps m)) c.parents.ensures (c.sup.ensures ∙ ap (λ x. supremum x c.args.mode) c.mode.ensures)
+    ∙ ap (λ (f : NodeId → Mode). verdict (rule_refusal f (parents_of (graph_of c.args.graph.now) c.args.node) (supremum (f c.args.node) c.args.mode))) (sym held)

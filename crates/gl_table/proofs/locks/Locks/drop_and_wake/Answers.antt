@@ -1,0 +1,62 @@
+use Rattle.std.specs.Prelude.{◌≡◌, ℕ, Bool, true, false, ◌&&◌, ◌==◌, if◌then◌else◌}
+use Rattle.std.proofs.Common.{refl, sym, ap, ◌∙◌}
+use Rattle.gl_modes.specs.declared.mode.Mode.TheVariants.{NL}
+use Rattle.gl_modes.specs.declared.node.NodeId.{NodeId}
+use Rattle.gl_modes.specs.Nodes.{same_node}
+use Rattle.gl_graph.specs.Graph.{parents_of}
+use Rattle.gl_graph.specs.View.{graph_of}
+use Rattle.gl_header.specs.Header.{front, with_mode}
+use Rattle.gl_header.specs.State.{slot_limit}
+use Rattle.gl_table.specs.Headers.{held_of, queue_of}
+use Rattle.gl_table.specs.Locks.{state_on}
+use Rattle.gl_table.specs.Pumps.{front_at}
+use Rattle.gl_table.specs.Seats.{txns_of}
+use Rattle.gl_table.specs.Slots.{Wakes}
+use Rattle.gl_table.specs.State.{State, members, with_grant}
+use Rattle.gl_table.proofs.FrontsGranted.{held-pumped, members-with_grant, pumped_by_fields, queue-pumped, released_front, wakes-same}
+use Rattle.gl_table.proofs.OneWaits.{well_granted, woken_front}
+use Rattle.gl_table.proofs.WakesFronts.{can_wake_front}
+use Rattle.gl_table.proofs.locks.Locks.drop_and_wake.Goals as goal
+
+pub wake-requires : goal.wake-requires
+wake-requires c =
+    let s = state_on (graph_of c.args.graph.now) c.args.self.now in
+    can_wake_front (graph_of c.args.graph.now) c.args.self.now c.law.ensures.lawful c.requires.sound c.requires.orderly c.args.node (with_grant s c.args.slot c.args.node NL)
+    (well_granted s c.requires.orderly c.args.slot c.args.node NL c.args.node) (λ u h. h) c.requires.agree c.requires.count c.args.told.now.items c.requires.by_slot c.requires.untold _ _ c.parents.ensures
+    (c.as_slice.ensures.value ∙ c.drop_grant-granted.ensures.granted ∙ released_front s c.requires.orderly c.requires.sound.few c.args.slot c.args.node)
+
+abbrev before : goal.After-wake → State
+before c = state_on (graph_of c.args.graph.now) c.args.self.now
+
+abbrev dropped : goal.After-wake → State
+dropped c = with_grant (before c) c.args.slot c.args.node NL
+
+-- the front that was granted
+front_is : (c : goal.After-wake) → front slot_limit (with_mode (members (before c) c.args.node) c.args.slot NL) ((before c).queue c.args.node) ≡ front_at (dropped c) c.args.node
+front_is c = released_front (before c) c.requires.orderly c.requires.sound.few c.args.slot c.args.node
+
+woken : (c : goal.After-wake) → Wakes c.args.self.now.seats.items c.args.self.now.lists.items c.args.told.now.items c.args.node (parents_of (before c).graph c.args.node) (front_at (dropped c) c.args.node)
+    c.wake.new.seats.items c.wake.new.lists.items c.wake.new.told.items
+woken c = wakes-same _ _ _ _ _ _ c.args.node _ _ _ _ c.parents.ensures (c.as_slice.ensures.value ∙ c.drop_grant-granted.ensures.granted ∙ front_is c) c.wake.ensures
+
+pub returns-clause-state : goal.returns-clause-state
+returns-clause-state c =
+    let b = dropped c in
+    pumped_by_fields b (same_node c.args.node) (held_of c.drop_grant-granted.new.headers.entries) (queue_of c.drop_grant-granted.new.headers.entries) (txns_of c.wake.new.seats.items) _
+    (c.drop_grant-granted.ensures.held ∙ held-pumped b c.args.node (before c).held _ _ (members-with_grant (before c) c.args.slot c.args.node NL) (front_is c) apart)
+    (c.drop_grant-granted.ensures.queue ∙ queue-pumped b c.args.node (before c).queue _ (front_is c) (λ q e. refl))
+    (λ u. (woken c).txns u ∙ sym (woken_front b c.args.node (well_granted (before c) c.requires.orderly c.args.slot c.args.node NL c.args.node) u))
+    (woken c).len
+  where
+    apart : (u : ℕ) (q : NodeId) → same_node q c.args.node ≡ false → (before c).held u q ≡ (dropped c).held u q
+    apart u q e = sym (ap (λ x. if x then NL else (before c).held u q) (off (u == c.args.slot) e))
+      where
+        off : (a : Bool) {b : Bool} → b ≡ false → (a && b) ≡ false
+        off true h = h
+        off false h = refl
+
+pub returns-clause-lists : goal.returns-clause-lists
+returns-clause-lists c = (woken c).lists
+
+pub returns-clause-tells : goal.returns-clause-tells
+returns-clause-tells c = (woken c).tells

@@ -1,0 +1,8 @@
+use Rattle.std.specs.Prelude.{◌≡◌, drop}
+use Rattle.gl_table.specs.Lists.{mode_of}
+use Rattle.gl_table.specs.Refusals.{first_not_ix}
+use Rattle.gl_table.proofs.rule.check_writable.Given as goal
+
+-- all before this parent are held in IX or greater
+abbrev pub invariant-loop-parent : goal.invariant-loop-parent
+invariant-loop-parent l = first_not_ix (mode_of l.list) l.parents ≡ first_not_ix (mode_of l.list) (drop l.parent-index l.parents)

@@ -1,0 +1,15 @@
+use Rattle.gl_graph.specs.Changes.{IsBorn}
+use Rattle.gl_graph.specs.Refusals.{file_refusal}
+use Rattle.gl_graph.specs.Shapes.{File}
+use Rattle.gl_graph.specs.View.{graph_of}
+use Rattle.gl_table.proofs.Births.{file-grows}
+use Rattle.gl_table.proofs.TableBirths.{called-sound}
+use Rattle.gl_table.proofs.table.Table.add_file.Goals as goal
+
+pub invariant_of-self : goal.invariant_of-self
+invariant_of-self c =
+    let g = graph_of c.self.inside.graph in
+    let g' = graph_of c.add_file.new.self in
+    let ps = c.args.parents.now in
+    called-sound c.self.inside c.self.invariant c.add_file.new.self (file_refusal g ps) c.add_file.result (λ n. IsBorn g g' n File ps)
+    c.add_file.ensures.refuses c.add_file.ensures.made c.add_file.ensures.err (file-grows g g' c.self.invariant.lawful.graph ps)

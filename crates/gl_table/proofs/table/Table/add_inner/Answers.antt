@@ -1,0 +1,15 @@
+use Rattle.gl_graph.specs.Changes.{IsBorn}
+use Rattle.gl_graph.specs.Refusals.{inner_refusal}
+use Rattle.gl_graph.specs.Shapes.{Inner}
+use Rattle.gl_graph.specs.View.{graph_of}
+use Rattle.gl_table.proofs.Births.{inner-grows}
+use Rattle.gl_table.proofs.TableBirths.{called-sound}
+use Rattle.gl_table.proofs.table.Table.add_inner.Goals as goal
+
+pub invariant_of-self : goal.invariant_of-self
+invariant_of-self c =
+    let g = graph_of c.self.inside.graph in
+    let g' = graph_of c.add_inner.new.self in
+    let ps = c.args.parents.now in
+    called-sound c.self.inside c.self.invariant c.add_inner.new.self (inner_refusal g ps) c.add_inner.result (λ n. IsBorn g g' n Inner ps)
+    c.add_inner.ensures.refuses c.add_inner.ensures.made c.add_inner.ensures.err (inner-grows g g' c.self.invariant.lawful.graph ps)

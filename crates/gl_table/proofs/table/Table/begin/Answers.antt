@@ -1,0 +1,48 @@
+use Rattle.std.specs.List.{position}
+use Rattle.std.proofs.Common.{◌≡◌, ◌+◌, None, Some, Ok, Err, refl, sym, ap, ◌∙◌, subst}
+use Rattle.gl_modes.specs.declared.refusal.Refusal.TheVariants as no
+use Rattle.gl_graph.specs.Refusals.{Refuses, first_refusal}
+use Rattle.gl_graph.proofs.Look.{none_some}
+use Rattle.gl_table.specs.declared.txn.TxnId.{TxnId}
+use Rattle.gl_table.specs.Calls.{begun, free_slot}
+use Rattle.gl_table.specs.Refusals.{begin_tests}
+use Rattle.gl_table.specs.Seats.{is_free}
+use Rattle.gl_table.specs.Table.{TableView, state_of}
+use Rattle.gl_table.proofs.Begins.{begin-refusal, begun-sound, begun-state, found-slot}
+use Rattle.gl_table.proofs.table.Table.begin.Goals as goal
+
+-- no slot is free
+
+full : (c : goal.In_default) → first_refusal (begin_tests (state_of c.args.self.now)) ≡ Some no.TooManyTxns
+full c =
+    let none = sym c.in_default.is ∙ c.first_free.ensures ∙ ap (position is_free) (c.as_slice.ensures.value ∙ ap (λ (v : TableView). v.seats) c.self.view_is) in
+    begin-refusal (state_of c.args.self.now) None (λ e. c.if-self.false (ap (λ (v : TableView). v.begins) c.self.view_is ∙ e)) (found-slot c.args.self.now None none)
+
+pub returns-in_default-clause-goes : goal.returns-in_default-clause-goes
+returns-in_default-clause-goes c = λ e. absurd (none_some (sym e ∙ full c))
+
+pub returns-in_default-clause-refuses : goal.returns-in_default-clause-refuses
+returns-in_default-clause-refuses c = subst (λ r. Refuses {T = TxnId} r (Err no.TooManyTxns)) (sym (full c)) refl
+
+-- a slot is free
+
+seat : (c : goal.After-self-2-1) → Some c.in-Some.slot ≡ position is_free c.self.inside.locks.seats.items
+seat c = sym c.in-Some.is ∙ c.first_free.ensures ∙ ap (position is_free) c.as_slice.ensures.value
+
+slot : (c : goal.After-self-2-1) → free_slot (state_of c.args.self.now) ≡ Some c.in-Some.slot
+slot c = found-slot c.args.self.now (Some c.in-Some.slot) (seat c ∙ ap (λ (v : TableView). position is_free v.seats) c.self.view_is)
+
+pub invariant_of-self : goal.invariant_of-self
+invariant_of-self c = begun-sound c.self.inside c.self.invariant c.in-Some.slot (seat c)
+
+pub returns-clause-begun : goal.returns-clause-begun
+returns-clause-begun c = (
+  slot c,
+  ap (λ (v : TableView). v.begins + 1) c.self.view_is,
+  begun-state c.self.inside c.self.invariant c.in-Some.slot (seat c) ∙ ap (λ (v : TableView). begun (state_of v) c.in-Some.slot) c.self.view_is,
+)
+
+pub returns-clause-refuses : goal.returns-clause-refuses
+returns-clause-refuses c =
+    let goes = begin-refusal (state_of c.args.self.now) (Some c.in-Some.slot) (λ e. c.if-self.false (ap (λ (v : TableView). v.begins) c.self.view_is ∙ e)) (slot c) in
+    subst (λ r. Refuses {T = TxnId} r (Ok (record { slot = c.in-Some.slot; age = c.self.inside.begins + 1 }))) (sym goes) tt

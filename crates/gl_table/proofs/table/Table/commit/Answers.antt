@@ -1,0 +1,23 @@
+use Rattle.std.proofs.Common.{ap, ◌∙◌}
+use Rattle.gl_table.specs.Calls.{released}
+use Rattle.gl_table.specs.Sound.{view_of}
+use Rattle.gl_table.specs.Table.{TableView, state_of}
+use Rattle.gl_table.specs.Tellings.{told}
+use Rattle.gl_table.proofs.TableCalls.{may_commit, orderly, sound_released, state_released, told_ended}
+use Rattle.gl_table.proofs.table.Table.commit.Goals as goal
+
+pub end-requires-clause-orderly : goal.end-requires-clause-orderly
+end-requires-clause-orderly c = orderly c.self.inside c.self.invariant
+
+pub invariant_of-self : goal.invariant_of-self
+invariant_of-self c = sound_released c.self.inside c.self.invariant c.args.t.slot c.end.new.self c.end.ensures.state c.end.ensures.sound c.end.ensures.agree c.end.ensures.count
+
+pub returns-clause-state : goal.returns-clause-state
+returns-clause-state c =
+    state_released c.self.inside c.self.invariant c.args.t.slot c.end.new.self c.end.ensures.state ∙ ap (λ (v : TableView). released (state_of v) c.args.t.slot) c.self.view_is
+
+pub returns-clause-told : goal.returns-clause-told
+returns-clause-told c =
+    let active = may_commit c.self.inside c.self.invariant c.args.self.now c.self.view_is c.args.t c.in_ok-check_active.field-0 c.in_ok-check_active.ensures in
+    told_ended c.self.inside c.self.invariant c.args.t.slot c.end.new.self c.end.ensures.state active c.new-told.result.items c.end.new.told.items c.new-told.ensures c.end.ensures.by_slot c.end.ensures.tells c.end.ensures.own
+    ∙ ap (λ (v : TableView). told (state_of v) (state_of (view_of (record c.self.inside { locks = c.end.new.self })))) c.self.view_is

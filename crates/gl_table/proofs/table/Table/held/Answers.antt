@@ -1,0 +1,9 @@
+use Rattle.std.proofs.Common.{◌∙◌}
+use Rattle.gl_graph.proofs.Unrefused.{verdict_ok}
+use Rattle.gl_table.proofs.Queries.{answers, both_pass, modes-seen}
+use Rattle.gl_table.proofs.table.Table.held.Goals as goal
+
+pub returns : goal.returns
+returns c =
+    answers _ _ _ (both_pass _ _ (verdict_ok _ _ c.in_ok-check_txn.ensures) (verdict_ok _ _ c.in_ok-check_node.ensures))
+    (c.mode.ensures ∙ modes-seen c.self.inside c.self.invariant c.args.self.now c.self.view_is c.args.t.slot c.args.n)

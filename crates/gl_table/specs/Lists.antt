@@ -1,0 +1,54 @@
+-- The list of one transaction: the nodes that it holds or waits for, each with its mode and the count of its held children.
+use Rattle.std.specs.Prelude.{◌≡◌, ℕ, ◌≤◌, ◌<◌, Bool, true, not, List, Option, Some, None, is_some}
+use Rattle.std.specs.List.{count_by}
+use Rattle.std.specs.Map.{lookup}
+use Rattle.indexmap.specs.IndexMap.{spare}
+use Rattle.gl_modes.specs.declared.mode.Mode.{Mode}
+use Rattle.gl_modes.specs.declared.mode.Mode.TheVariants.{NL}
+use Rattle.gl_modes.specs.declared.node.NodeId.{NodeId}
+use Rattle.gl_modes.specs.Nodes.{same_node}
+use Rattle.gl_table.specs.declared.list.Entry.{Entry}
+use Rattle.gl_table.specs.declared.list.LockList.{LockList}
+
+-- what is said of a node
+abbrev pub entry_of : LockList → NodeId → Option Entry
+entry_of l n = lookup (same_node n) l.entries.entries
+
+-- what is counted apart of a node that is not listed
+abbrev pub loose_of : LockList → NodeId → Option ℕ
+loose_of l n = lookup (same_node n) l.loose.entries
+
+-- the node is listed
+abbrev pub is_listed : LockList → NodeId → Bool
+is_listed l n = is_some (entry_of l n)
+
+-- the mode of a node, NL where nothing is said of it
+abbrev pub mode_in : Option Entry → Mode
+mode_in None = NL
+mode_in (Some e) = e.mode
+
+-- the mode in which the node is held
+abbrev pub mode_of : LockList → NodeId → Mode
+mode_of l n = mode_in (entry_of l n)
+
+-- the count beside a node, or the one apart, or 0
+abbrev pub count_in : Option Entry → Option ℕ → ℕ
+count_in (Some e) o = e.children
+count_in None (Some k) = k
+count_in None None = 0
+
+-- how many children of the node are held
+abbrev pub count_of : LockList → NodeId → ℕ
+count_of l n = count_in (entry_of l n) (loose_of l n)
+
+-- no node is both listed and counted apart
+abbrev pub IsApart : LockList → Type 0
+IsApart l = (n : NodeId) → is_listed l n ≡ true → loose_of l n ≡ None
+
+-- how many of these are not listed
+abbrev pub unlisted : LockList → List NodeId → ℕ
+unlisted l ps = count_by (λ p. not (is_listed l p)) ps
+
+-- room for one node more, and for the counts of nine nodes that are not listed
+abbrev pub HasRoom : LockList → Type 0
+HasRoom l = (0 < spare l.entries) × (9 ≤ spare l.loose)

@@ -1,0 +1,29 @@
+-- What a contract sees of a table's fields, and what holds of them always.
+use Rattle.std.specs.Prelude.{◌≡◌, ℕ, map}
+use Rattle.gl_table.specs.declared.detect.Detect.TheVariants.{AtBlock}
+use Rattle.gl_table.specs.declared.table.Table.TheInside.{Inside}
+use Rattle.gl_table.specs.Lawful.{IsLawful}
+use Rattle.gl_graph.specs.View.{graph_of}
+use Rattle.gl_table.specs.Locks.{Agrees, AreSound, CountsHeld, state_on}
+use Rattle.gl_table.specs.Table.{TableView, state_of}
+use Rattle.gl_table.specs.Waiting.{HasNoCycle}
+
+-- what a contract sees: of the lists their nodes, and not for how many there is room
+abbrev pub view_of : Inside → TableView
+view_of t =
+    record {
+      graph = t.graph;
+      headers = t.locks.headers.entries;
+      seats = t.locks.seats.items;
+      lists = map (λ l. l.entries.entries) t.locks.lists.items;
+      detect = t.detect;
+      begins = t.begins;
+    }
+
+-- what holds of the fields
+pub record IsSound (t : Inside) : Type 0 where
+  pub lawful : IsLawful (state_of (view_of t))
+  pub sound : AreSound t.locks
+  pub agrees : (u : ℕ) → Agrees (state_on (graph_of t.graph) t.locks) t.locks.lists.items u
+  pub counts : (u : ℕ) → CountsHeld (state_on (graph_of t.graph) t.locks) t.locks.lists.items u
+  pub no_cycle : t.detect ≡ AtBlock → HasNoCycle (state_of (view_of t))

@@ -1,0 +1,184 @@
+//! The headers of all nodes: one for each node that somebody holds or waits for, and no other.
+
+ghost use Rattle.std.specs.Prelude.{◌≡◌, ◌≢◌, ◌<◌, [], IfErr, IfOk, IsOk, OnErr, OnOk, false, true, if◌then◌else◌};
+ghost use Rattle.gl_modes.specs.declared.mode.Mode.TheVariants.{NL};
+ghost use Rattle.gl_modes.specs.Modes.{supremum};
+ghost use Rattle.gl_header.specs.State.{slot_limit};
+ghost use Rattle.gl_header.specs.Header.{
+  enters,
+  front,
+  group_of,
+  holds,
+  is_among_waiters,
+  placed,
+  pumped_members,
+  pumped_queue,
+  with_mode,
+  without_waiter,
+};
+ghost use Rattle.gl_table.specs.Headers.{AreHeaders, AreHeadersBut, held_of, members_at, queue_of, with_members, with_waiters};
+
+use arrayvec::ArrayVec;
+use gl_header::{Asked, Header, SLOTS};
+use gl_modes::{Mode, NodeId, Refusal};
+use indexmap::IndexMap;
+use std::alloc::Global;
+
+/// A header for each node that somebody holds or waits for.
+pub(crate) type Headers = IndexMap<NodeId, Header>;
+
+/// The group mode of a node.
+pub(crate) fn group(headers: &Headers, node: NodeId) -> Mode
+    requires { AreHeaders headers.now.entries }
+    ensures { result ≡ group_of slot_limit (members_at headers.now.entries node) }
+{
+    match headers.get(&node) {
+        Some(header) => {
+            header.law();
+            header.group()
+        }
+        None => Mode::NL,
+    }
+}
+
+/// Whether `ask` would grant at once.
+pub(crate) fn would_grant(headers: &Headers, slot: u8, node: NodeId, mode: Mode) -> bool
+    ensures { result ≡ enters slot_limit (members_at headers.now.entries node) (queue_of headers.now.entries node) slot (supremum (held_of headers.now.entries slot node) mode) }
+{
+    match headers.get(&node) {
+        Some(header) => header.would_grant(slot, mode),
+        None => true,
+    }
+}
+
+/// Asks for a mode: it is granted at once, or the slot waits in its place. The only refusal is
+/// `NoMemory`, and all room is made before any change.
+pub(crate) fn ask(
+    alloc: Global,
+    headers: &mut Headers,
+    slot: u8,
+    node: NodeId,
+    mode: Mode,
+) -> Result<Asked, Refusal>
+    requires headers { AreHeaders headers.old.entries }
+    requires below { slot < 128 }
+    requires not_waiting { is_among_waiters slot (queue_of headers.old.entries node) ≡ false }
+    requires lock { mode ≢ Mode.NL }
+    ensures headers { AreHeaders headers.new.entries }
+    ensures answer { IfOk result (λ answer. answer ≡
+        (if enters slot_limit (members_at headers.old.entries node) (queue_of headers.old.entries node) slot (supremum (held_of headers.old.entries slot node) mode)
+        then Asked.Granted (supremum (held_of headers.old.entries slot node) mode)
+        else Asked.Waiting)) }
+    ensures granted { OnOk result
+        (enters slot_limit (members_at headers.old.entries node) (queue_of headers.old.entries node) slot (supremum (held_of headers.old.entries slot node) mode) ≡ true
+        → (held_of headers.new.entries ≡ with_members (held_of headers.old.entries) node (with_mode (members_at headers.old.entries node) slot (supremum (held_of headers.old.entries slot node) mode)))
+        × (queue_of headers.new.entries ≡ queue_of headers.old.entries)) }
+    ensures waits { OnOk result
+        (enters slot_limit (members_at headers.old.entries node) (queue_of headers.old.entries node) slot (supremum (held_of headers.old.entries slot node) mode) ≡ false
+        → (held_of headers.new.entries ≡ held_of headers.old.entries)
+        × (queue_of headers.new.entries ≡ with_waiters (queue_of headers.old.entries) node (placed (members_at headers.old.entries node) (queue_of headers.old.entries node) slot (supremum (held_of headers.old.entries slot node) mode)))) }
+    ensures err { OnErr result (headers.new.entries ≡ headers.old.entries) }
+    ensures no_memory { IfErr result (λ refusal. refusal ≡ Refusal.NoMemory) }
+    ensures member { holds (members_at headers.old.entries node) slot ≡ true
+        → enters slot_limit (members_at headers.old.entries node) (queue_of headers.old.entries node) slot (supremum (held_of headers.old.entries slot node) mode) ≡ true
+        → IsOk result }
+{
+    match headers.get_mut(&node) {
+        Some(header) => header.ask(slot, mode),
+        None => {
+            let mut header = Header::new(alloc);
+            let asked = header.ask(slot, mode)?;
+            let Ok(_) = headers.insert(node, header) else {
+                return Err(Refusal::NoMemory);
+            };
+            Ok(asked)
+        }
+    }
+}
+
+/// Takes a grant away, and grants from the front of the node's queue. Answers whom it granted, in
+/// the queue's order. A header that nobody needs any more goes.
+pub(crate) fn drop_grant(
+    headers: &mut Headers,
+    slot: u8,
+    node: NodeId,
+) -> ArrayVec<(u8, Mode), SLOTS>
+    requires headers { AreHeaders headers.old.entries }
+    requires holds { holds (members_at headers.old.entries node) slot ≡ true }
+    requires not_waiting { is_among_waiters slot (queue_of headers.old.entries node) ≡ false }
+    ensures headers { AreHeaders headers.new.entries }
+    ensures granted { result.items ≡ front slot_limit (with_mode (members_at headers.old.entries node) slot NL) (queue_of headers.old.entries node) }
+    ensures held { held_of headers.new.entries ≡ with_members (held_of headers.old.entries) node (pumped_members slot_limit (with_mode (members_at headers.old.entries node) slot NL) (queue_of headers.old.entries node)) }
+    ensures queue { queue_of headers.new.entries ≡ with_waiters (queue_of headers.old.entries) node (pumped_queue slot_limit (with_mode (members_at headers.old.entries node) slot NL) (queue_of headers.old.entries node)) }
+{
+    let granted = match headers.get_mut(&node) {
+        Some(header) => header.drop_grant(slot),
+        None => unreachable!(),
+    };
+    sweep(headers, node);
+    granted
+}
+
+/// Takes a wait away, and grants from the front of the node's queue. Answers whom it granted, in the
+/// queue's order. A header that nobody needs any more goes.
+pub(crate) fn drop_wait(
+    headers: &mut Headers,
+    slot: u8,
+    node: NodeId,
+) -> ArrayVec<(u8, Mode), SLOTS>
+    requires headers { AreHeaders headers.old.entries }
+    requires waits { is_among_waiters slot (queue_of headers.old.entries node) ≡ true }
+    ensures headers { AreHeaders headers.new.entries }
+    ensures granted { result.items ≡ front slot_limit (members_at headers.old.entries node) (without_waiter slot (queue_of headers.old.entries node)) }
+    ensures held { held_of headers.new.entries ≡ with_members (held_of headers.old.entries) node (pumped_members slot_limit (members_at headers.old.entries node) (without_waiter slot (queue_of headers.old.entries node))) }
+    ensures queue { queue_of headers.new.entries ≡ with_waiters (queue_of headers.old.entries) node (pumped_queue slot_limit (members_at headers.old.entries node) (without_waiter slot (queue_of headers.old.entries node))) }
+{
+    let granted = match headers.get_mut(&node) {
+        Some(header) => header.drop_wait(slot),
+        None => unreachable!(),
+    };
+    sweep(headers, node);
+    granted
+}
+
+/// Takes a wait away and grants nobody, where nobody at the front of what is left can be granted. A
+/// header that nobody needs any more goes.
+pub(crate) fn dismiss(headers: &mut Headers, slot: u8, node: NodeId)
+    requires headers { AreHeaders headers.old.entries }
+    requires waits { is_among_waiters slot (queue_of headers.old.entries node) ≡ true }
+    requires front_waits { front slot_limit (members_at headers.old.entries node) (without_waiter slot (queue_of headers.old.entries node)) ≡ [] }
+    ensures headers { AreHeaders headers.new.entries }
+    ensures held { held_of headers.new.entries ≡ held_of headers.old.entries }
+    ensures queue { queue_of headers.new.entries ≡ with_waiters (queue_of headers.old.entries) node (without_waiter slot (queue_of headers.old.entries node)) }
+{
+    match headers.get_mut(&node) {
+        Some(header) => header.dismiss(slot),
+        None => unreachable!(),
+    }
+    sweep(headers, node);
+}
+
+/// Takes a header without members and waiters out.
+fn sweep(headers: &mut Headers, node: NodeId)
+    requires { AreHeadersBut node headers.old.entries }
+    ensures headers { AreHeaders headers.new.entries }
+    ensures held { held_of headers.new.entries ≡ held_of headers.old.entries }
+    ensures queue { queue_of headers.new.entries ≡ queue_of headers.old.entries }
+{
+    if let Some(header) = headers.get(&node) {
+        if header.is_empty() {
+            headers.swap_remove(&node);
+        }
+    }
+}
+
+/// Takes the header of a node out with all that it says.
+pub(crate) fn take(headers: &mut Headers, node: NodeId) -> Option<Header>
+    requires headers { AreHeaders headers.old.entries }
+    ensures headers { AreHeaders headers.new.entries }
+    ensures held { held_of headers.new.entries ≡ with_members (held_of headers.old.entries) node (λ _. NL) }
+    ensures queue { queue_of headers.new.entries ≡ with_waiters (queue_of headers.old.entries) node [] }
+    ensures taken { result ≡ Rattle.gl_table.specs.Headers.header_at headers.old.entries node }
+{
+    headers.swap_remove(&node)
+}

@@ -1,0 +1,187 @@
+//! The locks: the headers of all nodes, and by slot the transactions with their lists.
+
+ghost use Rattle.std.specs.Prelude.{◌≡◌, ◌≢◌, ◌<◌, ◌≤◌, ◌||◌, ◌==◌, ℕ, IfErr, IfOk, IsOk, OnErr, OnOk, None, Some, false, length, not, true, if◌then◌else◌};
+ghost use Rattle.gl_modes.specs.declared.mode.Mode.{Mode as AMode};
+ghost use Rattle.gl_modes.specs.declared.mode.Mode.TheVariants.{NL};
+ghost use Rattle.gl_modes.specs.declared.node.NodeId.{NodeId as Node};
+ghost use Rattle.std.specs.Prelude.{◌&&◌};
+ghost use Rattle.std.specs.List.{find};
+ghost use Rattle.gl_graph.specs.Graph.{is_child, is_live, nodes, parents_of};
+ghost use Rattle.gl_graph.specs.Lawful.{IsLawfulGraph};
+ghost use Rattle.gl_graph.specs.View.{graph_of};
+ghost use Rattle.gl_header.specs.Header.{holds, is_among_waiters};
+ghost use Rattle.gl_table.specs.Calls.{enters_at, granted, unlocked, wanted};
+ghost use Rattle.gl_table.specs.Locks.{Agrees, AreSound, CountsHeld, IsOrderly, state_on};
+ghost use Rattle.gl_table.specs.Pumps.{front_at, is_waiting_at, pumped, without_wait};
+ghost use Rattle.gl_table.specs.Locks.{AreNew};
+ghost use Rattle.gl_table.specs.Seats.{txn_in, txns_of};
+ghost use Rattle.gl_table.specs.Effects.{effect_on};
+ghost use Rattle.gl_table.specs.Slots.{WakesLists, WakesTold, counted_by, held_by};
+ghost use Rattle.gl_table.specs.State.{members, status_of, with_grant};
+ghost use Rattle.gl_table.specs.Telling.{IsBySlot, notices_in};
+ghost use Rattle.gl_table.specs.declared.txn.Status.TheVariants.{Waiting};
+
+use crate::effect::Effect;
+use crate::effective::effective;
+use crate::headers::{Headers, drop_grant, drop_wait};
+use crate::list::LockList;
+use crate::notice::Told;
+use crate::seat::{Seat, set_status};
+use crate::txn::Status;
+use crate::waking::wake;
+use gl_graph::Graph;
+use gl_modes::{Mode, NodeId};
+use indexmap::IndexMap;
+use std::alloc::{AllocError, Global};
+
+/// Who holds what and who waits where. The same is kept twice, so that neither way of asking is a
+/// search: by node in the headers, and by transaction in the lists.
+#[derive(Drop)]
+pub(crate) struct Locks {
+    pub(crate) alloc: Global,
+    pub(crate) headers: Headers,
+    pub(crate) seats: Vec<Option<Seat>>,
+    pub(crate) lists: Vec<LockList>,
+}
+
+impl Locks {
+    /// No locks, and so many free slots.
+    pub(crate) fn new(alloc: Global, most: usize) -> Result<Self, AllocError>
+        requires { most ≤ 128 }
+        ensures { IfOk result (λ locks. AreNew locks most) }
+    {
+        let mut seats = Vec::new(alloc);
+        let mut lists = Vec::new(alloc);
+        for slot in 0..most {
+            seats.push(None)?;
+            lists.push(LockList::new(alloc))?;
+        }
+        Ok(Locks {
+            alloc,
+            headers: IndexMap::new(alloc),
+            seats,
+            lists,
+        })
+    }
+
+    /// The transaction in a slot.
+    pub(crate) fn seat(&self, slot: u8) -> Option<Seat>
+        ensures { txn_in (Some result) ≡ txns_of self.now.seats.items slot }
+    {
+        match self.seats.get(slot as usize) {
+            Some(seat) => *seat,
+            None => None,
+        }
+    }
+
+    /// The mode in which a slot holds a node, `NL` for none.
+    pub(crate) fn mode(&self, slot: u8, node: NodeId) -> Mode
+        ensures { result ≡ held_by self.now.lists.items slot node }
+    {
+        match self.lists.get(slot as usize) {
+            Some(list) => list.mode(node),
+            None => Mode::NL,
+        }
+    }
+
+    /// How many children of a node a slot holds, where it holds the node.
+    pub(crate) fn children(&self, slot: u8, node: NodeId) -> Option<u32>
+        ensures { result ≡ (if holds (λ t. held_by self.now.lists.items t node) slot then Some (counted_by self.now.lists.items slot node) else None) }
+    {
+        let entry = self.lists.get(slot as usize)?.entry(node)?;
+        if matches!(entry.mode, Mode::NL) {
+            None
+        } else {
+            Some(entry.children)
+        }
+    }
+
+    /// The held child of a node that was born first.
+    pub(crate) fn first_child(&self, graph: &Graph, slot: u8, node: NodeId) -> Option<NodeId>
+        requires live { (c : Node) → holds (λ t. held_by self.now.lists.items t c) slot ≡ true → is_live (graph_of graph.now) c ≡ true }
+        ensures { result ≡ find (λ c. is_child (graph_of graph.now) node c && holds (λ t. held_by self.now.lists.items t c) slot) (nodes (graph_of graph.now)) }
+    {
+        match self.lists.get(slot as usize) {
+            Some(list) => list.first_child(graph, node),
+            None => None,
+        }
+    }
+
+    /// The effective mode of a slot on a node.
+    pub(crate) fn effective(
+        &self,
+        graph: &Graph,
+        slot: u8,
+        node: NodeId,
+    ) -> Result<Effect, AllocError>
+        requires slot { slot < length self.now.lists.items }
+        requires live { is_live (graph_of graph.now) node ≡ true }
+        ensures { IfOk result (λ effect. effect ≡ effect_on (graph_of graph.now) (held_by self.now.lists.items slot) node) }
+    {
+        effective(self.alloc, graph, &self.lists[slot as usize], node)
+    }
+
+    /// Takes the grant of a slot from the header of a node, which then grants from its front. The
+    /// slot's own list is left as it is.
+    pub(crate) fn drop_and_wake(&mut self, graph: &Graph, slot: u8, node: NodeId, told: &mut Told)
+        requires sound { AreSound self.old }
+        requires orderly { IsOrderly (state_on (graph_of graph.now) self.old) }
+        requires holds { holds (members (state_on (graph_of graph.now) self.old) node) slot ≡ true }
+        requires no_wait { is_among_waiters slot ((state_on (graph_of graph.now) self.old).queue node) ≡ false }
+        requires agree { (u : ℕ) → is_among_waiters u ((state_on (graph_of graph.now) self.old).queue node) ≡ true → Agrees (state_on (graph_of graph.now) self.old) self.old.lists.items u }
+        requires count { (u : ℕ) → is_among_waiters u ((state_on (graph_of graph.now) self.old).queue node) ≡ true → CountsHeld (state_on (graph_of graph.now) self.old) self.old.lists.items u }
+        requires by_slot { IsBySlot told.old.items }
+        requires untold { (u : ℕ) → is_among_waiters u ((state_on (graph_of graph.now) self.old).queue node) ≡ true → notices_in told.old.items u ≡ None }
+        ensures sound { AreSound self.new }
+        ensures state { state_on (graph_of graph.now) self.new ≡ unlocked (state_on (graph_of graph.now) self.old) slot node }
+        ensures lists { WakesLists self.old.lists.items node (parents_of (graph_of graph.now) node) (front_at (with_grant (state_on (graph_of graph.now) self.old) slot node NL) node) self.new.lists.items }
+        ensures tells { WakesTold (state_on (graph_of graph.now) self.old).txns node (front_at (with_grant (state_on (graph_of graph.now) self.old) slot node NL) node) told.old.items told.new.items }
+    {
+        graph.law();
+        let granted = drop_grant(&mut self.headers, slot, node);
+        wake(
+            &mut self.seats,
+            &mut self.lists,
+            told,
+            node,
+            graph.parents(node),
+            granted.as_slice(),
+        );
+    }
+
+    /// Takes the wait of a slot from the header of its node, which then grants from its front. The
+    /// slot's own list is left as it is; its status is written.
+    pub(crate) fn leave_queue(
+        &mut self,
+        graph: &Graph,
+        slot: u8,
+        node: NodeId,
+        status: Status,
+        told: &mut Told,
+    )
+        requires sound { AreSound self.old }
+        requires orderly { IsOrderly (state_on (graph_of graph.now) self.old) }
+        requires waits { is_waiting_at (state_on (graph_of graph.now) self.old) slot node ≡ true }
+        requires quiet { (q : Node) (m : AMode) → Some status ≡ Some (Waiting q m) → ⊥ }
+        requires agree { (u : ℕ) → is_among_waiters u ((state_on (graph_of graph.now) self.old).queue node) ≡ true → Agrees (state_on (graph_of graph.now) self.old) self.old.lists.items u }
+        requires count { (u : ℕ) → is_among_waiters u ((state_on (graph_of graph.now) self.old).queue node) ≡ true → CountsHeld (state_on (graph_of graph.now) self.old) self.old.lists.items u }
+        requires by_slot { IsBySlot told.old.items }
+        requires untold { (u : ℕ) → is_among_waiters u ((state_on (graph_of graph.now) self.old).queue node) ≡ true → (u == slot) ≡ false → notices_in told.old.items u ≡ None }
+        ensures sound { AreSound self.new }
+        ensures state { state_on (graph_of graph.now) self.new ≡ pumped (without_wait (state_on (graph_of graph.now) self.old) slot status) (is_waiting_at (state_on (graph_of graph.now) self.old) slot) }
+        ensures lists { WakesLists self.old.lists.items node (parents_of (graph_of graph.now) node) (front_at (without_wait (state_on (graph_of graph.now) self.old) slot status) node) self.new.lists.items }
+        ensures tells { WakesTold (state_on (graph_of graph.now) self.old).txns node (front_at (without_wait (state_on (graph_of graph.now) self.old) slot status) node) told.old.items told.new.items }
+    {
+        graph.law();
+        let granted = drop_wait(&mut self.headers, slot, node);
+        wake(
+            &mut self.seats,
+            &mut self.lists,
+            told,
+            node,
+            graph.parents(node),
+            granted.as_slice(),
+        );
+        set_status(&mut self.seats, slot, status);
+    }
+}

@@ -1,0 +1,99 @@
+//! The table of locks.
+
+ghost use Rattle.std.specs.Prelude.{◌≡◌, ◌≤◌, ◌<◌, ◌+◌, ◌&&◌, ℕ, IfErr, IfOk, None, OnErr, OnOk, Some, if◌then◌else◌};
+ghost use Rattle.gl_modes.specs.declared.refusal.Refusal.{Refusal as ARefusal};
+ghost use Rattle.gl_graph.specs.View.{graph_of};
+ghost use Rattle.gl_table.specs.Effects.{HasNoConflict};
+ghost use Rattle.gl_table.specs.Headers.{AreHeaders};
+ghost use Rattle.gl_table.specs.Lawful.{IsLawful};
+ghost use Rattle.gl_table.specs.State.{empty_state, lives, status_of};
+ghost use Rattle.gl_table.specs.Table.{ListsAgree, state_of};
+ghost use Rattle.gl_table.specs.Waiting.{HasNoCycle};
+ghost use Rattle.gl_table.specs.declared.detect.Detect.TheVariants.{AtBlock};
+
+use crate::detect::Detect;
+use crate::locks::Locks;
+use crate::txn::{Status, TxnId};
+use gl_graph::Graph;
+use gl_modes::Refusal;
+use std::alloc::{AllocError, Global};
+use std::marker::Model;
+
+mod begin;
+mod checks;
+mod lock;
+mod nodes;
+mod queries;
+mod release;
+
+/// The table of locks: the lock graph, who holds what, and who waits where.
+#[derive(Drop)]
+pub struct Table {
+    graph: Graph,
+    locks: Locks,
+    detect: Detect,
+    begins: u64,
+}
+
+impl Model for Table {
+    ghost use Rattle.gl_table.specs.Table.{TableView};
+
+    ghost Value = { TableView };
+
+    ghost use Rattle.gl_table.specs.Sound.{view_of, IsSound};
+
+    ghost view = { view_of };
+
+    ghost invariant = { IsSound };
+}
+
+impl Table {
+    /// A table without nodes and transactions, for at most so many transactions at once. The only
+    /// refusal is `NoMemory`.
+    pub fn new(alloc: Global, detect: Detect, most: usize) -> Result<Self, Refusal>
+        requires some { 1 ≤ most }
+        requires few { most ≤ 128 }
+        ensures made { IfOk result (λ table. state_of table ≡ empty_state detect most) }
+        ensures refused { IfErr result (λ refusal. refusal ≡ ARefusal.NoMemory) }
+    {
+        match Locks::new(alloc, most) {
+            Ok(locks) => Ok(Table {
+                graph: Graph::new(alloc),
+                locks,
+                detect,
+                begins: 0,
+            }),
+            Err(AllocError) => Err(Refusal::NoMemory),
+        }
+    }
+
+    /// The law of every table: its state is lawful; a header stands exactly where somebody holds or
+    /// waits, with the supremum of the grants as its group mode; the lists agree; no two
+    /// transactions conflict; and with detection at block nobody waits in a circle.
+    pub fn law(&self)
+        ensures lawful { IsLawful (state_of self.now) }
+        ensures headers { AreHeaders self.now.headers }
+        ensures lists { ListsAgree self.now }
+        ensures no_conflict { HasNoConflict (state_of self.now) }
+        ensures no_cycle { self.now.detect ≡ AtBlock → HasNoCycle (state_of self.now) }
+    {
+        let _ = &self.detect;
+    }
+
+    /// The lock graph.
+    pub fn graph(&self) -> &Graph
+        ensures { result.now ≡ self.now.graph }
+    {
+        &self.graph
+    }
+
+    /// What a transaction is doing; `None` where the name names none that lives.
+    pub fn status(&self, t: TxnId) -> Option<Status>
+        ensures { result ≡ (if lives (state_of self.now) t then status_of (state_of self.now) t.slot else None) }
+    {
+        match self.locks.seat(t.slot) {
+            Some(seat) if seat.age == t.age => Some(seat.status),
+            _ => None,
+        }
+    }
+}

@@ -1,0 +1,42 @@
+//! Transactions begin.
+
+ghost use Rattle.std.specs.Prelude.{◌≡◌, ◌+◌, IfOk, IsOk, None, OnErr, Some};
+ghost use Rattle.gl_graph.specs.Refusals.{Refuses, first_refusal};
+ghost use Rattle.gl_table.specs.Calls.{begun, free_slot};
+ghost use Rattle.gl_table.specs.Refusals.{begin_tests};
+ghost use Rattle.gl_table.specs.Table.{state_of};
+
+use super::Table;
+use crate::seat::{Seat, first_free};
+use crate::txn::{Status, TxnId};
+use gl_modes::Refusal;
+
+impl Table {
+    /// Begins a transaction, in the lowest free slot. Its age is the count of begins, this one
+    /// included. Refused, in this order, with `WornOut` where `u64::MAX` have begun, and
+    /// `TooManyTxns` where all slots are taken. `NoMemory` never comes: nothing is allocated.
+    pub fn begin(&mut self) -> Result<TxnId, Refusal>
+        ensures begun { IfOk result (λ t. (free_slot (state_of self.old) ≡ Some t.slot)
+            × (t.age ≡ (state_of self.old).begins + 1)
+            × (state_of self.new ≡ begun (state_of self.old) t.slot)) }
+        ensures goes { first_refusal (begin_tests (state_of self.old)) ≡ None → IsOk result }
+        ensures refuses { Refuses (first_refusal (begin_tests (state_of self.old))) result }
+        ensures err { OnErr result (self.new ≡ self.old) }
+    {
+        if self.begins == u64::MAX {
+            return Err(Refusal::WornOut);
+        }
+        let Some(slot) = first_free(self.locks.seats.as_slice()) else {
+            return Err(Refusal::TooManyTxns);
+        };
+        self.begins += 1;
+        self.locks.seats[slot] = Some(Seat {
+            age: self.begins,
+            status: Status::Active,
+        });
+        Ok(TxnId {
+            slot: slot as u8,
+            age: self.begins,
+        })
+    }
+}

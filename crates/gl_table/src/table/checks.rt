@@ -1,0 +1,58 @@
+//! The tests that calls make before they change anything, each with the refusal that it answers.
+
+ghost use Rattle.std.specs.Prelude.{◌≡◌, ◌∷◌, []};
+ghost use Rattle.gl_graph.specs.Refusals.{first_refusal, verdict};
+ghost use Rattle.gl_table.specs.Refusals.{commit_tests, held_child, no_node, no_txn, not_held};
+ghost use Rattle.gl_table.specs.Table.{state_of};
+
+use super::Table;
+use crate::txn::{Status, TxnId};
+use gl_modes::{NodeId, Refusal};
+
+impl Table {
+    /// Whether the name names a transaction that lives.
+    pub(super) fn check_txn(&self, t: TxnId) -> Result<(), Refusal>
+        ensures { result ≡ verdict (no_txn (state_of self.now) t) }
+    {
+        match self.status(t) {
+            Some(_) => Ok(()),
+            None => Err(Refusal::NoSuchTxn),
+        }
+    }
+
+    /// Whether the name names a transaction that lives and neither waits nor is condemned.
+    pub(super) fn check_active(&self, t: TxnId) -> Result<(), Refusal>
+        ensures { result ≡ verdict (first_refusal (commit_tests (state_of self.now) t)) }
+    {
+        match self.status(t) {
+            Some(Status::Active) => Ok(()),
+            Some(Status::Waiting { .. }) => Err(Refusal::TxnWaiting),
+            Some(Status::Condemned) => Err(Refusal::TxnCondemned),
+            None => Err(Refusal::NoSuchTxn),
+        }
+    }
+
+    /// Whether the id names a node.
+    pub(super) fn check_node(&self, n: NodeId) -> Result<(), Refusal>
+        ensures { result ≡ verdict (no_node (state_of self.now) n) }
+    {
+        match self.graph.kind(n) {
+            Some(_) => Ok(()),
+            None => Err(Refusal::NoSuchNode),
+        }
+    }
+
+    /// Whether the transaction holds the node, and no child of it.
+    pub(super) fn check_childless(&self, t: TxnId, n: NodeId) -> Result<(), Refusal>
+        ensures { result ≡ verdict (first_refusal (not_held (state_of self.now) t.slot n ∷ held_child (state_of self.now) t.slot n ∷ [])) }
+    {
+        match self.locks.children(t.slot, n) {
+            None => Err(Refusal::NotHeld),
+            Some(0) => Ok(()),
+            Some(_) => match self.locks.first_child(&self.graph, t.slot, n) {
+                Some(node) => Err(Refusal::HeldChild { node }),
+                None => Ok(()),
+            },
+        }
+    }
+}

@@ -1,0 +1,76 @@
+//! What can be asked, and changes nothing.
+
+ghost use Rattle.std.specs.Prelude.{◌≡◌, ◌&&◌, IfErr, IfOk, None, Some, if◌then◌else◌};
+ghost use Rattle.gl_modes.specs.declared.refusal.Refusal.{Refusal as ARefusal};
+ghost use Rattle.gl_graph.specs.Refusals.{Refuses, first_refusal};
+ghost use Rattle.gl_header.specs.Header.{group_of, holds};
+ghost use Rattle.gl_table.specs.Answers.{answered};
+ghost use Rattle.gl_table.specs.BoardOf.{board_of};
+ghost use Rattle.gl_table.specs.Covered.{held_children};
+ghost use Rattle.gl_table.specs.Effects.{effective};
+ghost use Rattle.gl_table.specs.Refusals.{group_tests, held_tests};
+ghost use Rattle.gl_table.specs.State.{lives, members};
+ghost use Rattle.gl_table.specs.Table.{state_of};
+
+use super::Table;
+use crate::boards::board;
+use crate::effect::Effect;
+use crate::effective::effective;
+use crate::headers::group;
+use crate::txn::TxnId;
+use gl_modes::{Mode, NodeId, Refusal};
+use gl_waits::Board;
+
+impl Table {
+    /// The mode in which a transaction holds a node, `NL` for none. Refused, in this order, with
+    /// `NoSuchTxn` and `NoSuchNode`.
+    pub fn held(&self, t: TxnId, n: NodeId) -> Result<Mode, Refusal>
+        ensures { result ≡ answered (first_refusal (held_tests (state_of self.now) t n)) ((state_of self.now).held t.slot n) }
+    {
+        self.check_txn(t)?;
+        self.check_node(n)?;
+        Ok(self.locks.mode(t.slot, n))
+    }
+
+    /// The group mode of a node, which is the supremum of the modes in which it is held. Refused
+    /// with `NoSuchNode`.
+    pub fn group(&self, n: NodeId) -> Result<Mode, Refusal>
+        ensures { result ≡ answered (first_refusal (group_tests (state_of self.now) n)) (group_of (state_of self.now).most (members (state_of self.now) n)) }
+    {
+        self.check_node(n)?;
+        Ok(group(&self.locks.headers, n))
+    }
+
+    /// How many children of a node a transaction holds; `None` where it does not live or does not
+    /// hold the node.
+    pub fn children(&self, t: TxnId, n: NodeId) -> Option<u32>
+        ensures { result ≡ (if lives (state_of self.now) t && holds (members (state_of self.now) n) t.slot then Some (held_children (state_of self.now) t.slot n) else None) }
+    {
+        match self.status(t) {
+            Some(_) => self.locks.children(t.slot, n),
+            None => None,
+        }
+    }
+
+    /// What a transaction may do to a node by all its locks together: each ancestor is looked at
+    /// once for each of the two modes. Refused, in this order, with `NoSuchTxn`, `NoSuchNode` and
+    /// `NoMemory`.
+    pub fn effective(&self, t: TxnId, n: NodeId) -> Result<Effect, Refusal>
+        ensures effect { IfOk result (λ effect. effect ≡ effective (state_of self.now) t.slot n) }
+        ensures refuses { Refuses (first_refusal (held_tests (state_of self.now) t n)) result }
+    {
+        self.check_txn(t)?;
+        self.check_node(n)?;
+        match self.locks.effective(&self.graph, t.slot, n) {
+            Ok(effect) => Ok(effect),
+            Err(_) => Err(Refusal::NoMemory),
+        }
+    }
+
+    /// Who waits for whom at this moment, under this epoch.
+    pub fn board(&self, epoch: u64) -> Board
+        ensures { result ≡ board_of (record (state_of self.now) { accepted = epoch }) }
+    {
+        board(&self.locks.headers, self.locks.seats.as_slice(), epoch)
+    }
+}

@@ -1,0 +1,51 @@
+//! Locks are given back.
+
+ghost use Rattle.std.specs.Prelude.{◌≡◌, IfOk, OnErr, OnOk};
+ghost use Rattle.gl_graph.specs.Refusals.{first_refusal};
+ghost use Rattle.gl_table.specs.Answers.{RefusesOnly};
+ghost use Rattle.gl_table.specs.Calls.{released, unlocked};
+ghost use Rattle.gl_table.specs.Refusals.{commit_tests, unlock_tests};
+ghost use Rattle.gl_table.specs.Table.{state_of};
+ghost use Rattle.gl_table.specs.Tellings.{told};
+
+use super::Table;
+use crate::notice::Told;
+use crate::txn::TxnId;
+use gl_modes::{NodeId, Refusal};
+
+impl Table {
+    /// Releases one node, of which the transaction holds no child; the node grants from its front.
+    /// Answers who is told of a grant, by rising slot.
+    ///
+    /// Refused, in this order, with `NoSuchTxn`, `TxnWaiting`, `TxnCondemned`, `NoSuchNode`,
+    /// `NotHeld` and `HeldChild`, naming the held child that was born first. It takes no memory.
+    pub fn unlock(&mut self, t: TxnId, n: NodeId) -> Result<Told, Refusal>
+        ensures told { IfOk result (λ list. list.items ≡ told (state_of self.old) (state_of self.new)) }
+        ensures state { OnOk result (state_of self.new ≡ unlocked (state_of self.old) t.slot n) }
+        ensures refuses { RefusesOnly (first_refusal (unlock_tests (state_of self.old) t n)) result }
+        ensures err { OnErr result (self.new ≡ self.old) }
+    {
+        self.check_active(t)?;
+        self.check_node(n)?;
+        self.check_childless(t, n)?;
+        let mut told = Told::new();
+        self.locks.release(&self.graph, t.slot, n, &mut told);
+        Ok(told)
+    }
+
+    /// Ends a transaction and releases everything; each node that it held grants from its front.
+    /// Answers who is told of a grant, by rising slot.
+    ///
+    /// Refused, in this order, with `NoSuchTxn`, `TxnWaiting` and `TxnCondemned`. It takes no memory.
+    pub fn commit(&mut self, t: TxnId) -> Result<Told, Refusal>
+        ensures told { IfOk result (λ list. list.items ≡ told (state_of self.old) (state_of self.new)) }
+        ensures state { OnOk result (state_of self.new ≡ released (state_of self.old) t.slot) }
+        ensures refuses { RefusesOnly (first_refusal (commit_tests (state_of self.old) t)) result }
+        ensures err { OnErr result (self.new ≡ self.old) }
+    {
+        self.check_active(t)?;
+        let mut told = Told::new();
+        self.locks.end(&self.graph, t.slot, &mut told);
+        Ok(told)
+    }
+}

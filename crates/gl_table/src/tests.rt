@@ -1,0 +1,199 @@
+//! Small stories with the answers that are wanted, and calls that run out of memory.
+
+use crate::{Detect, Effect, Table, Told, TxnId};
+use gl_modes::{Mode, NodeId, Refusal};
+use std::alloc::Global;
+use std::test::Fail;
+
+/// A table for four transactions with a root and a file under it.
+fn small(alloc: Global) -> Result<(Table, NodeId, NodeId), Refusal> {
+    let mut table = Table::new(alloc, Detect::AtBlock, 4)?;
+    let db = table.add_inner(&[])?;
+    let file = table.add_file(&[db])?;
+    Ok((table, db, file))
+}
+
+/// The refusal, `None` for another answer; want of memory is handed on.
+fn refusal<T: Drop>(answer: Result<T, Refusal>) -> Result<Option<Refusal>, Refusal> {
+    match answer {
+        Err(Refusal::NoMemory) => Err(Refusal::NoMemory),
+        Err(refusal) => Ok(Some(refusal)),
+        Ok(_) => Ok(None),
+    }
+}
+
+#[test]
+fn children_are_released_first(rt: HostRuntime) -> Result<(), Fail> {
+    let (mut table, db, file) = small(rt.alloc())?;
+    let a = table.begin()?;
+    assert_eq!(rt; table.try_lock(a, db, Mode::IX)?, Mode::IX);
+    assert_eq!(rt; table.try_lock(a, file, Mode::X)?, Mode::X);
+    assert_eq!(rt; table.children(a, db), Some(1));
+    let refused = refusal(table.unlock(a, db))?;
+    assert_eq!(rt; refused, Some(Refusal::HeldChild { node: file }));
+    assert!(rt; table.unlock(a, file)?.is_empty());
+    assert_eq!(rt; table.children(a, db), Some(0));
+    assert!(rt; table.unlock(a, db)?.is_empty());
+    assert_eq!(rt; table.children(a, db), None);
+    assert_eq!(rt; refusal(table.unlock(a, db))?, Some(Refusal::NotHeld));
+    Ok(())
+}
+
+#[test]
+fn a_conversion_raises_to_the_supremum(rt: HostRuntime) -> Result<(), Fail> {
+    let (mut table, db, _) = small(rt.alloc())?;
+    let a = table.begin()?;
+    assert_eq!(rt; table.try_lock(a, db, Mode::IX)?, Mode::IX);
+    assert_eq!(rt; table.try_lock(a, db, Mode::S)?, Mode::SIX);
+    assert_eq!(rt; table.group(db)?, Mode::SIX);
+    assert!(rt; table.commit(a)?.is_empty());
+    assert_eq!(rt; table.group(db)?, Mode::NL);
+    assert_eq!(rt; refusal(table.commit(a))?, Some(Refusal::NoSuchTxn));
+    Ok(())
+}
+
+#[test]
+fn a_try_that_would_wait_is_refused(rt: HostRuntime) -> Result<(), Fail> {
+    let (mut table, db, file) = small(rt.alloc())?;
+    let a = table.begin()?;
+    let b = table.begin()?;
+    assert_eq!(rt; table.try_lock(a, db, Mode::S)?, Mode::S);
+    let refused = refusal(table.try_lock(b, db, Mode::IX))?;
+    assert_eq!(rt; refused, Some(Refusal::WouldBlock));
+    assert_eq!(rt; table.held(b, db)?, Mode::NL);
+    assert_eq!(rt; table.try_lock(b, db, Mode::IS)?, Mode::IS);
+    let refused = refusal(table.try_lock(b, file, Mode::X))?;
+    assert_eq!(rt; refused, Some(Refusal::NeedParents { node: db }));
+    assert_eq!(rt;
+        refusal(table.try_lock(b, file, Mode::NL))?,
+        Some(Refusal::BadMode)
+    );
+    let refused = refusal(table.try_lock(b, NodeId::NONE, Mode::S))?;
+    assert_eq!(rt; refused, Some(Refusal::NoSuchNode));
+    let refused = refusal(table.try_lock(TxnId::NONE, db, Mode::S))?;
+    assert_eq!(rt; refused, Some(Refusal::NoSuchTxn));
+    Ok(())
+}
+
+#[test]
+fn locks_further_up_imply_locks(rt: HostRuntime) -> Result<(), Fail> {
+    let mut table = Table::new(rt.alloc(), Detect::AtBlock, 1)?;
+    let g = table.add_inner(&[])?;
+    let h = table.add_inner(&[])?;
+    let k = table.add_inner(&[g, h])?;
+    let a = table.begin()?;
+    assert_eq!(rt; table.effective(a, k)?, Effect::None);
+    assert_eq!(rt; table.try_lock(a, g, Mode::X)?, Mode::X);
+    assert_eq!(rt; table.effective(a, k)?, Effect::S);
+    assert_eq!(rt; table.try_lock(a, h, Mode::X)?, Mode::X);
+    assert_eq!(rt; table.effective(a, k)?, Effect::X);
+    assert_eq!(rt; table.held(a, k)?, Mode::NL);
+    assert_eq!(rt; table.try_lock(a, k, Mode::SIX)?, Mode::SIX);
+    let refused = refusal(table.unlock(a, g))?;
+    assert_eq!(rt; refused, Some(Refusal::HeldChild { node: k }));
+    Ok(())
+}
+
+#[test]
+fn a_child_may_be_held_before_its_second_parent(rt: HostRuntime) -> Result<(), Fail> {
+    let mut table = Table::new(rt.alloc(), Detect::ByWatcher, 1)?;
+    let g = table.add_inner(&[])?;
+    let h = table.add_inner(&[])?;
+    let k = table.add_inner(&[g, h])?;
+    let a = table.begin()?;
+    table.try_lock(a, g, Mode::IS)?;
+    table.try_lock(a, k, Mode::S)?;
+    assert_eq!(rt; table.children(a, h), None);
+    table.try_lock(a, h, Mode::IS)?;
+    assert_eq!(rt; table.children(a, h), Some(1));
+    let refused = refusal(table.unlock(a, h))?;
+    assert_eq!(rt; refused, Some(Refusal::HeldChild { node: k }));
+    table.unlock(a, k)?;
+    assert_eq!(rt; table.children(a, h), Some(0));
+    Ok(())
+}
+
+#[test]
+fn the_lowest_free_slot_is_taken(rt: HostRuntime) -> Result<(), Fail> {
+    let mut table = Table::new(rt.alloc(), Detect::AtBlock, 128)?;
+    let mut names = [TxnId::NONE; 128];
+    for slot in 0..128usize {
+        names[slot] = table.begin()?;
+        assert_eq!(rt; names[slot].slot as usize, slot);
+    }
+    assert_eq!(rt; refusal(table.begin())?, Some(Refusal::TooManyTxns));
+    table.commit(names[5])?;
+    let again = table.begin()?;
+    assert_eq!(rt; again, TxnId { slot: 5, age: 129 });
+    assert!(rt; table.status(names[5]).is_none());
+    Ok(())
+}
+
+#[test]
+fn a_board_shows_who_lives(rt: HostRuntime) -> Result<(), Fail> {
+    let mut table = Table::new(rt.alloc(), Detect::AtBlock, 2)?;
+    let a = table.begin()?;
+    table.begin()?;
+    table.commit(a)?;
+    let board = table.board(7);
+    assert_eq!(rt; board.epoch, 7);
+    assert_eq!(rt; (board.ages[0], board.ages[1], board.ages[2]), (0, 2, 0));
+    assert!(rt; board.rows.iter().all(|row| *row == 0));
+    Ok(())
+}
+
+/// What the story below asks of a table.
+fn look(table: &Table, a: TxnId, nodes: &[NodeId; 4]) -> Result<[(Mode, Mode, u32); 4], Refusal> {
+    let mut seen = [(Mode::NL, Mode::NL, 0); 4];
+    for place in 0..4usize {
+        let n = nodes[place];
+        if table.graph().kind(n).is_some() {
+            let held = table.held(a, n).unwrap_or(Mode::NL);
+            seen[place] = (held, table.group(n)?, table.children(a, n).unwrap_or(0));
+        }
+    }
+    Ok(seen)
+}
+
+/// One step of a story in which each call may want memory.
+fn grow(table: &mut Table, step: usize, a: TxnId, nodes: &mut [NodeId; 4]) -> Result<(), Refusal> {
+    match step {
+        0 => nodes[0] = table.add_inner(&[])?,
+        1 => nodes[1] = table.add_file(&[nodes[0]])?,
+        2 => nodes[2] = table.add_index(&[nodes[0]], nodes[1], &[100])?,
+        3 => {
+            table.try_lock(a, nodes[0], Mode::IX)?;
+        }
+        4 => {
+            table.try_lock(a, nodes[1], Mode::IX)?;
+        }
+        _ => {
+            table.try_lock(a, nodes[2], Mode::S)?;
+        }
+    }
+    Ok(())
+}
+
+#[test]
+fn a_refused_growth_changes_nothing(rt: HostRuntime) -> Result<(), Fail> {
+    let mut table = match Table::new(rt.alloc(), Detect::AtBlock, 2) {
+        Err(Refusal::NoMemory) => Table::new(rt.alloc(), Detect::AtBlock, 2)?,
+        answer => answer?,
+    };
+    let a = table.begin()?;
+    let mut nodes = [NodeId::NONE; 4];
+    for step in 0..6 {
+        let before = look(&table, a, &nodes)?;
+        match grow(&mut table, step, a, &mut nodes) {
+            Err(Refusal::NoMemory) => {
+                assert_eq!(rt; look(&table, a, &nodes)?, before);
+                grow(&mut table, step, a, &mut nodes)?;
+            }
+            answer => answer?,
+        }
+    }
+    assert_eq!(rt; table.children(a, nodes[0]), Some(2));
+    let told: Told = table.commit(a)?;
+    assert!(rt; told.is_empty());
+    Ok(())
+}

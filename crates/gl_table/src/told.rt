@@ -1,0 +1,27 @@
+//! Telling: notices by rising slot.
+
+ghost use Rattle.std.specs.Prelude.{◌≡◌, ◌<◌, ◌==◌, ℕ, None, Some, if◌then◌else◌, nat_lt};
+ghost use Rattle.std.specs.List.{prefix_len};
+ghost use Rattle.gl_table.specs.Telling.{IsBySlot, notices_in};
+
+use crate::notice::{Notice, Told};
+use crate::txn::TxnId;
+
+/// Adds a notice in its place.
+pub(crate) fn tell(told: &mut Told, t: TxnId, notice: Notice)
+    requires by_slot { IsBySlot told.old.items }
+    requires absent { notices_in told.old.items t.slot ≡ None }
+    requires below { t.slot < 128 }
+    ensures by_slot { IsBySlot told.new.items }
+    ensures notices { (u : ℕ) → notices_in told.new.items u ≡ (if u == t.slot then Some (t, notice) else notices_in told.old.items u) }
+{
+    let place = place_of(told.as_slice(), t.slot);
+    told.insert(place, (t, notice));
+}
+
+/// How many notices are to slots below this one.
+fn place_of(told: &[(TxnId, Notice)], slot: u8) -> usize
+    ensures { result ≡ prefix_len (λ x. nat_lt x.0.slot slot) told.now }
+{
+    told.iter().take_while(|x| x.0.slot < slot).count()
+}
