@@ -29,7 +29,7 @@ use Rattle.gl_graph.proofs.Routes.{join}
 use Rattle.gl_graph.proofs.Moved.{some_at}
 use Rattle.gl_graph.proofs.RouteLengths.{listed}
 use Rattle.gl_table.proofs.CutSet.{cut_set_on}
-use Rattle.gl_catalog.proofs.MakeKeeps.{nobody_holds}
+use Rattle.gl_table.proofs.Placed.{nobody_holds}
 use Rattle.gl_graph.proofs.Unrefused.{not_refused, or_no}
 use Rattle.gl_catalog.proofs.EachStep.{each_step}
 use Rattle.gl_catalog.proofs.Keeps.{effect_refl, x_more, read_more}

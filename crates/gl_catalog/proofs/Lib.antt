@@ -7,7 +7,6 @@ pub mod KeepsLaw
 pub mod LockCommands
 pub mod MakeKeeps
 pub mod DeleteKeeps
-pub mod MoveKeeps
 pub mod MoveCommands
 pub mod StepsKeepLaw
 -- no command makes a circle of waits

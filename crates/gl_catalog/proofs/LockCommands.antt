@@ -19,7 +19,7 @@ use Rattle.gl_catalog.proofs.KeepsLaw.{KeepsLaw}
 use Rattle.gl_table.proofs.Taken.{without_wait-lawful, released-lawful, settled-lawful}
 use Rattle.gl_table.proofs.Enqueued.{begun-lawful}
 use Rattle.gl_table.proofs.Escalates.{raised-lawful, shed-lawful}
-use Rattle.gl_table.proofs.Locked.{granted-lawful, locks-lawful, may_lock, unlocked-lawful, free_slot}
+use Rattle.gl_table.proofs.LockKeeps.{granted-lawful, locks-lawful, may_lock, unlocked-lawful, free_slot}
 use Rattle.gl_table.proofs.TestsPass.{active_after}
 use Rattle.gl_graph.proofs.Unrefused.{not_refused, test_fails, not_false}
 

@@ -20,8 +20,9 @@ use Rattle.gl_table.specs.Calls.{moved_to}
 use Rattle.gl_catalog.specs.Promises.{MoveKeepsMover, RekeyKeepsMover}
 use Rattle.gl_graph.proofs.Look.{split, or_left, or_right, and_both, both, same_node_is, other_node}
 use Rattle.gl_catalog.proofs.EachStep.{each_step}
-use Rattle.gl_catalog.proofs.NotRefused.{HoldsNode, HoldsParents}
-use Rattle.gl_catalog.proofs.MoveCommands.{Moves, others_parents, new_parents, count_same, moved_node, move_moves, rekeyed_to, rekey_moves}
+use Rattle.gl_table.proofs.Movers.{HoldsNode, HoldsParents}
+use Rattle.gl_table.proofs.MovedNodes.{Moves, others_parents, new_parents, count_same, moved_node, rekeyed_to}
+use Rattle.gl_catalog.proofs.MoveCommands.{move_moves, rekey_moves}
 use Rattle.gl_table.proofs.Effects.{x_reads}
 use Rattle.gl_catalog.proofs.GraphChanges.{held_x}
 

@@ -18,7 +18,7 @@ use Rattle.gl_catalog.specs.Step.{Accepts, Answers, Goes, lock_answer, query_ans
 use Rattle.gl_table.specs.Calls.{accepted_once}
 use Rattle.gl_catalog.specs.Promises.{OneOutcome, makes_node}
 use Rattle.gl_graph.proofs.Look.{some_is, split}
-use Rattle.gl_table.proofs.Locked.{MayLock, may_lock, waiting-lawful}
+use Rattle.gl_table.proofs.LockKeeps.{MayLock, may_lock, waiting-lawful}
 use Rattle.gl_table.proofs.OneEnd.{settled_one}
 
 wait_one : (d : Detect) (s s₁ s₂ : State) (t : ℕ) → IsLawful s → WaitSettles d s t s₁ → WaitSettles d s t s₂ → s₁ ≡ s₂

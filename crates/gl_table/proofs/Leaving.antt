@@ -87,7 +87,7 @@ left_all s now t free out was = sym was ∙ stripped_free now t free out
 
 -- what t's node grants with t's grant there, and then once it is gone, is what it grants at once without t
 pub abort_is_release : AbortIsRelease
-abort_is_release s law t =
+abort_is_release s t =
     ap₂ pumped (sym (stripped_wait s t Active)) (fun_ext (λ n. or_turned (holds (members s n) t) (is_waiting_at s t n)))
     ∙ sym (stripped_after (without_wait s t Active) t (is_waiting_at s t) (λ n. holds (members s n) t) out free)
     ∙ ap (pumped (stripped (cancelled s t) t)) (fun_ext (λ n. sym (ap₂ (λ a b. a || b) (same n) (active n) ∙ or_none (holds (members s n) t))))

@@ -21,11 +21,12 @@ pub mod Taken
 pub mod Enqueued
 pub mod TestsPass
 pub mod Escalates
-pub mod Locked
+pub mod LockKeeps
 -- what changes leave to one slot
 pub mod Follows
 -- settling, and where chains of waits end
 pub mod Settles
+pub mod SettledTable
 pub mod OneEnd
 pub mod Chains
 pub mod Telling
@@ -77,6 +78,37 @@ pub mod OtherLists
 pub mod Fewer
 pub mod Departures
 pub mod FreedSlots
+-- waits given up, and deadlocks
+pub mod Withdrawn
+pub mod OrderlyWithout
+pub mod GivenUp
+pub mod Condemned
+pub mod Victims
+pub mod FewerWait
+pub mod Settling
+-- the ends of waits and transactions, of a table
+pub mod Cancelled
+pub mod TableEnds
+pub mod Blocking
 -- new nodes
 pub mod Births
 pub mod TableBirths
+-- records that come and go
+pub mod FreedWaiters
+pub mod Deleted
+pub mod Vacated
+pub mod Placed
+pub mod NewHolders
+pub mod TableRecords
+pub mod TablePlaces
+-- nodes that move
+pub mod Movers
+pub mod Strays
+pub mod MoveKeeps
+pub mod MovedNodes
+pub mod MoveSteps
+pub mod MovedCounts
+pub mod TurnedAway
+pub mod Recounted
+pub mod MoveTold
+pub mod TableMoves

@@ -8,7 +8,7 @@ use Rattle.gl_modes.specs.declared.refusal.Refusal.{Refusal}
 use Rattle.gl_modes.specs.declared.refusal.Refusal.TheVariants as no
 use Rattle.gl_modes.specs.Modes.{supremum}
 use Rattle.gl_graph.specs.Graph.{parents_of}
-use Rattle.gl_graph.specs.Refusals.{first_refusal, some_no_node, verdict, where_true}
+use Rattle.gl_graph.specs.Refusals.{Refuses, first_refusal, some_no_node, verdict, where_true}
 use Rattle.gl_graph.specs.View.{graph_of}
 use Rattle.gl_graph.proofs.Unrefused.{not_refused, test_fails, not_false}
 use Rattle.gl_header.specs.Header.{enters}
@@ -28,7 +28,7 @@ use Rattle.gl_table.specs.State.{State, status_of}
 use Rattle.gl_table.specs.Table.{TableView, state_of}
 use Rattle.gl_table.specs.Waiting.{HasNoCycle}
 use Rattle.gl_table.proofs.Limits.{enters-most}
-use Rattle.gl_table.proofs.Locked.{MayLock, granted-lawful, may_lock}
+use Rattle.gl_table.proofs.LockKeeps.{MayLock, granted-lawful, may_lock}
 use Rattle.gl_table.proofs.NoCycle.{granted-no_cycle}
 use Rattle.gl_table.proofs.Queries.{modes-seen}
 use Rattle.gl_table.proofs.TableCalls.{orderly, test_passed}
@@ -72,9 +72,14 @@ passed-append [] ys h = refl
 passed-append (None ∷ xs) ys h = passed-append xs ys h
 passed-append (Some x ∷ xs) ys h = absurd (cc)
 
-test_refused : (o : Option Refusal) (r : Refusal) → Err r ≡ verdict o → o ≡ Some r
+pub test_refused : (o : Option Refusal) (r : Refusal) → Err r ≡ verdict o → o ≡ Some r
 test_refused None r h = absurd (cc)
 test_refused (Some x) r h = let same : r ≡ x = cc in ap Some (sym same)
+
+-- where no test refuses, a value is no refusal
+pub unrefused : {T : Type 0} (o : Option Refusal) (x : T) → o ≡ None → Refuses o (Ok x)
+unrefused None x h = tt
+unrefused (Some r) x h = absurd (cc)
 
 blocked : (s : State) (t : ℕ) (n : NodeId) (m : Mode) (b : Bool) → enters_at s t n m ≡ b → first_refusal (would_block s t n m ∷ []) ≡ (if b then None else Some no.WouldBlock)
 blocked s t n m true e = ap (λ b. first_refusal (where_true (not b) no.WouldBlock ∷ [])) e
@@ -120,12 +125,10 @@ module _ (i : Inside) (sound : IsSound i) (t : TxnId) (n : NodeId) (m : Mode) wh
       no_cycle = λ at. subst HasNoCycle (sym state_granted) (granted-no_cycle s t.slot n (wanted s t.slot n m) may.active (sound.no_cycle at));
     }
 
-  -- it was granted, or nothing but room was made
-  pub sound_tried : (r : Result Mode Refusal) (locks : Locks) → MayLock s t n m → enters_at s t.slot n m ≡ true → OnOk r (state_on (graph_of i.graph) locks ≡ granted l t.slot n m)
-      → OnErr r (locks.headers.entries ≡ i.locks.headers.entries) → OnErr r (locks.seats ≡ i.locks.seats)
+  -- nothing but room was made
+  pub sound_kept : (locks : Locks) → locks.headers.entries ≡ i.locks.headers.entries → locks.seats ≡ i.locks.seats
       → AreSound locks → ((u : ℕ) → Agrees (state_on (graph_of i.graph) locks) locks.lists.items u) → ((u : ℕ) → CountsHeld (state_on (graph_of i.graph) locks) locks.lists.items u) → IsSound (record i { locks = locks })
-  sound_tried (Ok x) locks may fits ok headers seats are agrees counts = sound_granted may fits locks ok are agrees counts
-  sound_tried (Err x) locks may fits ok headers seats are agrees counts = record {
+  sound_kept locks headers seats are agrees counts = record {
     lawful = subst IsLawful same sound.lawful;
     sound = are;
     agrees = agrees;
@@ -140,6 +143,13 @@ module _ (i : Inside) (sound : IsSound i) (t : TxnId) (n : NodeId) (m : Mode) wh
         queue = queue_of (sym headers z);
         most = length (sym seats z).items;
       }
+
+  -- it was granted, or nothing but room was made
+  pub sound_tried : (r : Result Mode Refusal) (locks : Locks) → MayLock s t n m → enters_at s t.slot n m ≡ true → OnOk r (state_on (graph_of i.graph) locks ≡ granted l t.slot n m)
+      → OnErr r (locks.headers.entries ≡ i.locks.headers.entries) → OnErr r (locks.seats ≡ i.locks.seats)
+      → AreSound locks → ((u : ℕ) → Agrees (state_on (graph_of i.graph) locks) locks.lists.items u) → ((u : ℕ) → CountsHeld (state_on (graph_of i.graph) locks) locks.lists.items u) → IsSound (record i { locks = locks })
+  sound_tried (Ok x) locks may fits ok headers seats are agrees counts = sound_granted may fits locks ok are agrees counts
+  sound_tried (Err x) locks may fits ok headers seats are agrees counts = sound_kept locks headers seats are agrees counts
 
   pub state_tried : (r : Result Mode Refusal) (locks : Locks) → OnOk r (state_on (graph_of i.graph) locks ≡ granted l t.slot n m) → OnOk r (state_of (view_of (record i { locks = locks })) ≡ granted s t.slot n m)
   state_tried (Ok x) locks ok = ap {A = State} (λ x. record x { detect = i.detect; begins = i.begins }) ok

@@ -24,7 +24,7 @@ use Rattle.gl_table.proofs.GrantKeeps.{apart}
 use Rattle.gl_table.proofs.Less.{IsLess, less-lawful}
 use Rattle.gl_table.proofs.Taken.{IsQuiet, at_all, without_wait-less, released-less, condemned-lawful}
 use Rattle.gl_table.proofs.Escalates.{shed-less}
-use Rattle.gl_table.proofs.Locked.{MayLock, waiting-lawful, unlocked-less}
+use Rattle.gl_table.proofs.LockKeeps.{MayLock, waiting-lawful, unlocked-less}
 use Rattle.gl_waits.proofs.WalkLemmas.{no_step-no_cycle}
 use Rattle.gl_waits.proofs.CycleLemmas.{less-no_cycle, at_one-no_cycle}
 use Rattle.gl_table.proofs.Edges.{idle_no_step, less_steps, pumped_steps}

@@ -32,7 +32,7 @@ pub stands_other : (s : State) → IsOrderly s → (t : ℕ) → is_wait (status
 stands_other s o t quiet u q h = not_true _ (λ e. clash (ap (λ v. is_among_waiters v (s.queue q)) (sym (same_number u t e)) ∙ h) (in_no_queue s o t quiet q))
 
 -- a way from the state itself begins
-way_here : (s : State) → IsOrderly s → IsOnWay s s
+pub way_here : (s : State) → IsOrderly s → IsOnWay s s
 way_here s o = record {
   graph = refl;
   ages = λ u. refl;

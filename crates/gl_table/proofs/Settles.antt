@@ -25,7 +25,7 @@ use Rattle.gl_table.proofs.Less.{waiting_is}
 use Rattle.gl_table.proofs.Pumped.{woken_waits}
 use Rattle.gl_table.proofs.Taken.{without_wait-less, condemned-lawful}
 use Rattle.gl_table.proofs.Edges.{step_is}
-use Rattle.gl_table.proofs.Locked.{MayLock, waiting-lawful}
+use Rattle.gl_table.proofs.LockKeeps.{MayLock, waiting-lawful}
 use Rattle.gl_table.proofs.Walks.{same, in_range, victim, IsVictim, victim_is}
 use Rattle.gl_graph.proofs.Look.{split, or_elim}
 

@@ -30,7 +30,7 @@ use Rattle.gl_table.specs.Tellings.{Told, told}
 use Rattle.gl_table.specs.Tells.{IsOnWay, told_to}
 use Rattle.gl_table.specs.Waiting.{HasNoCycle, is_wait}
 use Rattle.gl_table.proofs.Childless.{none_found_counted}
-use Rattle.gl_table.proofs.Locked.{unlocked-lawful}
+use Rattle.gl_table.proofs.LockKeeps.{unlocked-lawful}
 use Rattle.gl_table.proofs.NoCycle.{released-no_cycle, unlocked-no_cycle}
 use Rattle.gl_table.proofs.Taken.{released-lawful}
 use Rattle.gl_table.proofs.OneWaits.{front_stands, well_granted}

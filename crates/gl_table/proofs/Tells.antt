@@ -155,14 +155,18 @@ cancel_tells s now t n m waits way u other =
     ∙ ap (λ x. if is_among_waiters u (front_at (without_wait now t Active) n) then grant_notice s.txns n (front_at (without_wait now t Active) n) u else x)
     (without_wait_told s now t Active u other)
 
-pub nobody_told : NobodyTold
-nobody_told s u = by (status_of s u) refl
+-- while the status of all is the same, nobody is told
+pub quiet_told : (s now : State) → ((u : ℕ) → status_of now u ≡ status_of s u) → (u : ℕ) → told_to s now u ≡ None
+quiet_told s now same u = by (status_of s u) refl
   where
-    by : (o : Option Status) → status_of s u ≡ o → addressed (record { slot = u; age = age_of s u }) (told_from s u o) ≡ None
+    by : (o : Option Status) → status_of s u ≡ o → addressed (record { slot = u; age = age_of s u }) (told_from now u o) ≡ None
     by None e = refl
     by (Some Active) e = refl
     by (Some Condemned) e = refl
-    by (Some (Waiting n m)) e = ap (λ o. addressed (record { slot = u; age = age_of s u }) (notice_of s u n m o)) e
+    by (Some (Waiting n m)) e = ap (λ o. addressed (record { slot = u; age = age_of s u }) (notice_of now u n m o)) (same u ∙ e)
+
+pub nobody_told : NobodyTold
+nobody_told s u = quiet_told s s (λ v. refl) u
 
 pub gone_tells : GoneTells
 gone_tells s now t u =

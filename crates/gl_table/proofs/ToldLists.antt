@@ -7,11 +7,12 @@ use Rattle.std.proofs.lemmas.Bool.Decides.{nat_tests}
 use Rattle.gl_graph.proofs.Look.{split, and_both, number_same}
 use Rattle.gl_table.specs.declared.notice.Notice.{Notice}
 use Rattle.gl_table.specs.declared.txn.TxnId.{TxnId}
-use Rattle.gl_table.specs.State.{State, Txn, age_of, slots, status_in, status_of}
-use Rattle.gl_table.specs.Telling.{is_rising, notices_in}
-use Rattle.gl_table.specs.Tellings.{Told, addressed, told_from}
+use Rattle.gl_table.specs.State.{State, Txn, age_in, age_of, slots, status_in, status_of}
+use Rattle.gl_table.specs.Telling.{IsBySlot, is_rising, notices_in}
+use Rattle.gl_table.specs.Tellings.{Told, addressed, told, told_but, told_from}
 use Rattle.gl_table.specs.Tells.{ToldButIs, ToldIs, told_to}
 use Rattle.gl_table.proofs.Queues.{clash}
+use Rattle.gl_table.proofs.Tells.{quiet_told}
 
 -- what passes the test
 abbrev pub kept : {Y : Type 0} → (Y → Bool) → Option Y → Option Y
@@ -114,8 +115,31 @@ told_lives s now u h = by (s.txns u) h
     by None k = k
     by (Some x) k = refl
 
+-- where slots are below the limit, notices by rising slot that are those of each slot are what is told
+pub told_in_order : (s now : State) → ((u : ℕ) → is_some (s.txns u) ≡ true → u < s.most) → (xs : Told) → IsBySlot xs → ((u : ℕ) → notices_in xs u ≡ told_to s now u) → xs ≡ told s now
+told_in_order s now below xs sorted each = rising_all (told_to s now) s.most xs sorted.rising each (λ u h. below u (told_lives s now u h))
+
 pub told_is : ToldIs
-told_is s now xs law most sorted each = rising_all (told_to s now) s.most xs sorted.rising each (λ u h. law.slots_below u (told_lives s now u h))
+told_is s now xs law most sorted each = told_in_order s now law.slots_below xs sorted each
+
+-- what is told from two states is the same but for t, where they agree on all others
+pub told_but_same : (s s' now : State) (t : ℕ) → s'.most ≡ s.most → ((u : ℕ) → (u == t) ≡ false → s'.txns u ≡ s.txns u) → told_but t s' now ≡ told_but t s now
+told_but_same s s' now t most same =
+    filter-filter_map (λ x. not (x.0.slot == t)) (told_to s' now) (slots s')
+    ∙ ap₂ filter_map (fun_ext each) (ap (range_with_len 0) most)
+    ∙ sym (filter-filter_map (λ x. not (x.0.slot == t)) (told_to s now) (slots s))
+  where
+    from : Option Txn → ℕ → Option (TxnId × Notice)
+    from x u = addressed (record { slot = u; age = age_in x }) (told_from now u (status_in x))
+
+    each : (u : ℕ) → kept (λ x. not (x.0.slot == t)) (told_to s' now u) ≡ kept (λ x. not (x.0.slot == t)) (told_to s now u)
+    each u = split (u == t)
+        (λ e. left_out e (told_from now u (status_of s' u)) (age_of s' u) ∙ sym (left_out e (told_from now u (status_of s u)) (age_of s u)))
+        (λ e. ap (λ x. kept (λ z. not (z.0.slot == t)) (from x u)) (same u e))
+      where
+        left_out : (u == t) ≡ true → (o : Option Notice) (k : ℕ) → kept (λ x. not (x.0.slot == t)) (addressed (record { slot = u; age = k }) o) ≡ None
+        left_out e None k = refl
+        left_out e (Some x) k = ap (λ b. if not b then Some (record { slot = u; age = k }, x) else None) e
 
 -- a name is left out by its slot
 kept_name : (t : ℕ) (name : TxnId) (o : Option Notice) → kept (λ x. not (x.0.slot == t)) (addressed name o) ≡ (if name.slot == t then None else addressed name o)
@@ -139,3 +163,7 @@ told_but_is s now t xs law most sorted each =
     but : (u : ℕ) (b : Bool) → is_some (if b then None else told_to s now u) ≡ true → is_some (told_to s now u) ≡ true
     but u true h = clash h refl
     but u false h = h
+
+-- and where the status of all is the same, nothing is told
+pub told_nothing : (s now : State) (t : ℕ) → ((u : ℕ) → is_some (s.txns u) ≡ true → u < s.most) → ((u : ℕ) → status_of now u ≡ status_of s u) → [] ≡ told_but t s now
+told_nothing s now t below same = ap (filter (λ x. not (x.0.slot == t))) (told_in_order s now below [] (record { rising = refl; below = refl }) (λ u. sym (quiet_told s now same u)))

@@ -25,7 +25,7 @@ use Rattle.std.proofs.lemmas.Bool.{not-true}
 use Rattle.std.proofs.Math.Path.{fun_ext}
 
 -- one waiter more is taken from the front
-among_more : (u : ℕ) (ws : List Waiter) (i : ℕ) (d : Waiter) → i < length ws → is_among_waiters u (take (i + 1) ws) ≡ (is_among_waiters u (take i ws) || is_waiter u (slice_index_or ws i d))
+pub among_more : (u : ℕ) (ws : List Waiter) (i : ℕ) (d : Waiter) → i < length ws → is_among_waiters u (take (i + 1) ws) ≡ (is_among_waiters u (take i ws) || is_waiter u (slice_index_or ws i d))
 among_more u ws i d lt = let next : i + 1 ≡ suc i = omega arith in ap (λ k. is_among_waiters u (take k ws)) next ∙ by ws i lt
   where
     or_none : (b : Bool) → (b || false) ≡ b
@@ -52,13 +52,13 @@ grants_more g ws i d lt = let next : i + 1 ≡ suc i = omega arith in ap (λ k. 
     by g (w ∷ ws) (suc i) lt = by (with_mode g w.0 w.1) ws i (omega arith)
 
 -- one of all
-is_among_all : (ws : List Waiter) (i : ℕ) (d : Waiter) → i < length ws → is_among_waiters (slice_index_or ws i d).0 ws ≡ true
+pub is_among_all : (ws : List Waiter) (i : ℕ) (d : Waiter) → i < length ws → is_among_waiters (slice_index_or ws i d).0 ws ≡ true
 is_among_all [] i d lt = absurd (omega arith)
 is_among_all (w ∷ ws) zero d lt = or_left (is_waiter w.0 w) (is_among_waiters w.0 ws) (grind (arith, nat_tests))
 is_among_all (w ∷ ws) (suc i) d lt = or_right (is_waiter (slice_index_or ws i d).0 w) (is_among_waiters (slice_index_or ws i d).0 ws) (is_among_all ws i d (omega arith))
 
 -- and none of those before it
-none_before : (ws : List Waiter) (i : ℕ) (d : Waiter) → is_distinct ws ≡ true → i < length ws → is_among_waiters (slice_index_or ws i d).0 (take i ws) ≡ false
+pub none_before : (ws : List Waiter) (i : ℕ) (d : Waiter) → is_distinct ws ≡ true → i < length ws → is_among_waiters (slice_index_or ws i d).0 (take i ws) ≡ false
 none_before [] i d h lt = absurd (omega arith)
 none_before (w ∷ ws) zero d h lt = refl
 none_before (w ∷ ws) (suc i) d h lt =

@@ -1,8 +1,13 @@
--- What a call answers that takes no memory: its first refusal, or the value.
+-- What calls answer.
 use Rattle.std.specs.Prelude.{◌≡◌, IsOk, Option, Some, None, Result, Ok, Err}
+use Rattle.gl_modes.specs.declared.mode.Mode.{Mode}
 use Rattle.gl_modes.specs.declared.refusal.Refusal.{Refusal}
+use Rattle.gl_table.specs.declared.outcome.Locked.{Locked}
+use Rattle.gl_table.specs.declared.outcome.Locked.TheVariants as locked
+use Rattle.gl_table.specs.declared.txn.Status.{Status}
+use Rattle.gl_table.specs.declared.txn.Status.TheVariants.{Waiting, Condemned}
 
--- the value, where no test finds a reason to refuse
+-- what a call answers that takes no memory: the value, where no test finds a reason to refuse
 abbrev pub answered : {A : Type 0} → Option Refusal → A → Result A Refusal
 answered None x = Ok x
 answered (Some r) x = Err r
@@ -11,3 +16,9 @@ answered (Some r) x = Err r
 abbrev pub RefusesOnly : {A : Type 0} → Option Refusal → Result A Refusal → Type 0
 RefusesOnly (Some r) result = result ≡ Err r
 RefusesOnly None result = IsOk result
+
+-- what a lock came to, by the mode held and the asker's status at the end
+abbrev pub locked_as : Mode → Option Status → Locked
+locked_as held (Some (Waiting n m)) = locked.Waiting
+locked_as held (Some Condemned) = locked.Victim
+locked_as held o = locked.Granted held

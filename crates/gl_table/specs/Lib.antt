@@ -23,3 +23,5 @@ pub mod Pumping
 pub mod Table
 pub mod Sound
 pub mod Answers
+pub mod Frees
+pub mod OneHolder

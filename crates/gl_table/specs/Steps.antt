@@ -8,7 +8,6 @@ use Rattle.gl_graph.specs.Graph.{Graph, is_child, is_live, nodes, parents_of}
 use Rattle.gl_graph.specs.Lawful.{IsLawfulGraph}
 use Rattle.gl_header.specs.Header.{holds, is_among_waiters, without_waiter}
 use Rattle.gl_table.specs.Calls.{cancelled, released, unlocked}
-use Rattle.gl_table.specs.Lawful.{IsLawful}
 use Rattle.gl_table.specs.Pumps.{is_waiting_at, pumped}
 use Rattle.gl_table.specs.State.{State, members, with_txn}
 
@@ -63,4 +62,4 @@ LeftAll =
 
 -- to release one who waits: first its wait is taken back, then the rest is released
 abbrev pub AbortIsRelease : Type 0
-AbortIsRelease = (s : State) → IsLawful s → (t : ℕ) → released s t ≡ released (cancelled s t) t
+AbortIsRelease = (s : State) (t : ℕ) → released s t ≡ released (cancelled s t) t

@@ -9,24 +9,27 @@ ghost use Rattle.gl_graph.specs.Refusals.{verdict};
 ghost use Rattle.gl_table.specs.Refusals.{rule_refusal};
 ghost use Rattle.gl_graph.specs.View.{graph_of};
 ghost use Rattle.gl_header.specs.Header.{holds};
+ghost use Rattle.gl_table.specs.Answers.{locked_as};
 ghost use Rattle.gl_table.specs.Calls.{enqueued, enters_at, granted, wanted};
 ghost use Rattle.gl_table.specs.Locks.{Agrees, AreSound, CountsHeld, IsOrderly, state_on};
 ghost use Rattle.gl_table.specs.Slots.{HasRoomAt, KeepsLists, held_by};
-ghost use Rattle.gl_table.specs.State.{members, status_of};
+ghost use Rattle.gl_table.specs.Seats.{txns_of};
+ghost use Rattle.gl_table.specs.State.{members, status_in, status_of};
 ghost use Rattle.gl_table.specs.declared.txn.Status.TheVariants.{Active};
 
 use crate::headers::ask;
 use crate::list::LockList;
 use crate::locks::Locks;
+use crate::outcome::Locked;
 use crate::rule::check_rule;
-use crate::seat::set_status;
+use crate::seat::{Seat, set_status};
 use crate::txn::Status;
 use gl_graph::Graph;
 use gl_header::Asked;
 use gl_modes::{Mode, NodeId, Refusal, sup};
 
 /// Makes room in the list of a slot for one node more, and for the counts of its parents.
-fn make_room(lists: &mut Vec<LockList>, slot: u8) -> Result<(), Refusal>
+pub(crate) fn make_room(lists: &mut Vec<LockList>, slot: u8) -> Result<(), Refusal>
     requires { slot < length lists.old.items }
     ensures kept { KeepsLists lists.old.items lists.new.items }
     ensures ok { OnOk result (HasRoomAt lists.new.items slot) }
@@ -136,5 +139,26 @@ impl Locks {
         }
         set_status(&mut self.seats, slot, Status::Waiting { node, wanted });
         Ok(())
+    }
+
+    /// What an ask of a slot for a node came to.
+    pub(crate) fn outcome(&self, slot: u8, node: NodeId) -> Locked
+        ensures { result ≡ locked_as (held_by self.now.lists.items slot node) (status_in (txns_of self.now.seats.items slot)) }
+    {
+        match self.seat(slot) {
+            Some(
+                Seat {
+                    status: Status::Waiting { .. },
+                    ..
+                },
+            ) => Locked::Waiting,
+            Some(
+                Seat {
+                    status: Status::Condemned,
+                    ..
+                },
+            ) => Locked::Victim,
+            _ => Locked::Granted(self.mode(slot, node)),
+        }
     }
 }

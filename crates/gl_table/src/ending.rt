@@ -14,9 +14,43 @@ ghost use Rattle.gl_table.specs.Waiting.{is_wait};
 
 use crate::locks::Locks;
 use crate::notice::Told;
+use crate::seat::Seat;
+use crate::txn::Status;
 use gl_graph::Graph;
 
 impl Locks {
+    /// Takes back the wait of a slot, if it has one, releases all that it holds, and frees it. Each
+    /// node grants from its front.
+    pub(crate) fn abort(&mut self, graph: &Graph, slot: u8, told: &mut Told)
+        requires sound { AreSound self.old }
+        requires orderly { IsOrderly (state_on (graph_of graph.now) self.old) }
+        requires agree { (u : ℕ) → Agrees (state_on (graph_of graph.now) self.old) self.old.lists.items u }
+        requires count { (u : ℕ) → CountsHeld (state_on (graph_of graph.now) self.old) self.old.lists.items u }
+        requires seated { slot < length self.old.seats.items }
+        requires by_slot { IsBySlot told.old.items }
+        requires untold { (u : ℕ) → is_wait (status_of (state_on (graph_of graph.now) self.old) u) ≡ true → notices_in told.old.items u ≡ None }
+        ensures sound { AreSound self.new }
+        ensures state { state_on (graph_of graph.now) self.new ≡ released (state_on (graph_of graph.now) self.old) slot }
+        ensures agree { (u : ℕ) → Agrees (state_on (graph_of graph.now) self.new) self.new.lists.items u }
+        ensures count { (u : ℕ) → CountsHeld (state_on (graph_of graph.now) self.new) self.new.lists.items u }
+        ensures by_slot { IsBySlot told.new.items }
+        ensures tells { (s : State) → IsOnWay s (state_on (graph_of graph.now) self.old)
+            → ((u : ℕ) → (u == slot) ≡ false → notices_in told.old.items u ≡ told_to s (state_on (graph_of graph.now) self.old) u)
+            → (u : ℕ) → (u == slot) ≡ false → notices_in told.new.items u ≡ told_to s (state_on (graph_of graph.now) self.new) u }
+        ensures own { notices_in told.new.items slot ≡ notices_in told.old.items slot }
+    {
+        if let Some(
+            Seat {
+                status: Status::Waiting { node, .. },
+                ..
+            },
+        ) = self.seat(slot)
+        {
+            self.withdraw(graph, slot, node, Status::Active, told);
+        }
+        self.end(graph, slot, told);
+    }
+
     /// Releases all that a slot holds, which waits for nothing, and frees the slot. Each node grants
     /// from its front.
     pub(crate) fn end(&mut self, graph: &Graph, slot: u8, told: &mut Told)

@@ -5,6 +5,7 @@
 mod asking;
 mod boards;
 mod detect;
+mod detecting;
 mod effect;
 mod effective;
 mod ending;
@@ -12,7 +13,10 @@ mod headers;
 pub mod laws;
 mod list;
 mod locks;
+mod moving;
 mod notice;
+mod outcome;
+mod placing;
 mod releasing;
 mod rule;
 mod seat;
@@ -20,12 +24,11 @@ mod table;
 mod told;
 mod txn;
 mod waking;
+mod withdrawing;
 
 pub use detect::Detect;
 pub use effect::Effect;
 pub use notice::{Notice, Told};
+pub use outcome::Locked;
 pub use table::Table;
 pub use txn::{Status, TxnId};
-
-#[cfg(test)]
-mod tests;

@@ -21,7 +21,7 @@ use gl_modes::NodeId;
 
 /// Takes a node, of which no child is held, out of the list of a slot; each parent has one held
 /// child less.
-fn strike(lists: &mut Vec<LockList>, slot: u8, node: NodeId, parents: &[NodeId])
+pub(crate) fn strike(lists: &mut Vec<LockList>, slot: u8, node: NodeId, parents: &[NodeId])
     requires can { CanStrike lists.old.items slot node parents.now }
     requires apart { AreApart lists.old.items }
     ensures { Strikes lists.old.items lists.new.items slot node parents.now }

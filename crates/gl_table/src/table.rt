@@ -22,9 +22,12 @@ use std::marker::Model;
 mod begin;
 mod checks;
 mod lock;
+mod moves;
 mod nodes;
 mod queries;
+mod records;
 mod release;
+mod waits;
 
 /// The table of locks: the lock graph, who holds what, and who waits where.
 #[derive(Drop)]

@@ -7,18 +7,49 @@ ghost use Rattle.gl_graph.specs.Graph.{shape_of};
 ghost use Rattle.gl_graph.specs.Refusals.{Refuses, first_refusal, verdict};
 ghost use Rattle.gl_graph.specs.Shapes.{is_record_shape};
 ghost use Rattle.gl_header.specs.Header.{holds};
-ghost use Rattle.gl_table.specs.Calls.{granted, wanted};
+ghost use Rattle.gl_table.specs.Answers.{locked_as};
+ghost use Rattle.gl_table.specs.Calls.{Locks, enters_at, granted, wanted};
 ghost use Rattle.gl_table.specs.Refusals.{lock_tests, try_tests};
-ghost use Rattle.gl_table.specs.State.{members};
+ghost use Rattle.gl_table.specs.State.{members, status_of};
 ghost use Rattle.gl_table.specs.Table.{state_of};
+ghost use Rattle.gl_table.specs.Tellings.{told_but};
 
 use super::Table;
 use crate::headers::would_grant;
+use crate::notice::Told;
+use crate::outcome::Locked;
 use crate::txn::TxnId;
 use gl_graph::Kind;
 use gl_modes::{Mode, NodeId, Refusal};
 
 impl Table {
+    /// Asks for a mode on a node, and waits where it cannot be granted at once. What is granted is
+    /// the supremum of the held and the asked mode. With detection at block, the youngest of those on
+    /// a circle with the asker are condemned until it is on none. Answers what the ask came to, and
+    /// who else is told of a grant or of being a victim, by rising slot.
+    ///
+    /// Refused, in this order, with `NoSuchTxn`, `TxnWaiting`, `TxnCondemned`, `NoSuchNode`,
+    /// `BadMode` (`NL`, or other than `S` and `X` on a record), `NeedParents` and `NoMemory`, which
+    /// a conversion granted at once never meets.
+    pub fn lock(&mut self, t: TxnId, n: NodeId, mode: Mode) -> Result<(Locked, Told), Refusal>
+        ensures answer { IfOk result (λ answer. answer.0 ≡ locked_as ((state_of self.new).held t.slot n) (status_of (state_of self.new) t.slot)) }
+        ensures told { IfOk result (λ answer. answer.1.items ≡ told_but t.slot (state_of self.old) (state_of self.new)) }
+        ensures state { OnOk result (Locks (state_of self.old) t.slot n mode (state_of self.new)) }
+        ensures refuses { Refuses (first_refusal (lock_tests (state_of self.old) t n mode)) result }
+        ensures held { first_refusal (lock_tests (state_of self.old) t n mode) ≡ None → enters_at (state_of self.old) t.slot n mode ≡ true
+            → holds (members (state_of self.old) n) t.slot ≡ true → IsOk result }
+        ensures err { OnErr result (self.new ≡ self.old) }
+    {
+        self.check_lock(t, n, mode)?;
+        if would_grant(&self.locks.headers, t.slot, n, mode) {
+            let granted = self.locks.grant(&self.graph, t.slot, n, mode)?;
+            return Ok((Locked::Granted(granted), Told::new()));
+        }
+        self.locks.wait(&self.graph, t.slot, n, mode)?;
+        let told = self.locks.settle_asker(&self.graph, self.detect, t.slot);
+        Ok((self.locks.outcome(t.slot, n), told))
+    }
+
     /// Asks for a mode on a node, and is refused where it cannot be granted at once. What is granted
     /// is the supremum of the held and the asked mode.
     ///

@@ -4,7 +4,7 @@ ghost use Rattle.std.specs.Prelude.{◌≡◌, IfOk, OnErr, OnOk};
 ghost use Rattle.gl_graph.specs.Refusals.{first_refusal};
 ghost use Rattle.gl_table.specs.Answers.{RefusesOnly};
 ghost use Rattle.gl_table.specs.Calls.{released, unlocked};
-ghost use Rattle.gl_table.specs.Refusals.{commit_tests, unlock_tests};
+ghost use Rattle.gl_table.specs.Refusals.{commit_tests, living_tests, unlock_tests};
 ghost use Rattle.gl_table.specs.Table.{state_of};
 ghost use Rattle.gl_table.specs.Tellings.{told};
 
@@ -46,6 +46,23 @@ impl Table {
         self.check_active(t)?;
         let mut told = Told::new();
         self.locks.end(&self.graph, t.slot, &mut told);
+        Ok(told)
+    }
+
+    /// Ends a transaction whatever it is doing, takes back its wait, and releases everything; each
+    /// node that it held or waited on grants from its front. Answers who is told of a grant, by
+    /// rising slot.
+    ///
+    /// Refused with `NoSuchTxn`. It takes no memory.
+    pub fn abort(&mut self, t: TxnId) -> Result<Told, Refusal>
+        ensures told { IfOk result (λ list. list.items ≡ told (state_of self.old) (state_of self.new)) }
+        ensures state { OnOk result (state_of self.new ≡ released (state_of self.old) t.slot) }
+        ensures refuses { RefusesOnly (first_refusal (living_tests (state_of self.old) t)) result }
+        ensures err { OnErr result (self.new ≡ self.old) }
+    {
+        self.check_txn(t)?;
+        let mut told = Told::new();
+        self.locks.abort(&self.graph, t.slot, &mut told);
         Ok(told)
     }
 }

@@ -8,7 +8,7 @@ use Rattle.gl_graph.specs.Refusals.{Refuses}
 use Rattle.gl_table.specs.Calls.{granted}
 use Rattle.gl_table.specs.Sound.{view_of}
 use Rattle.gl_table.specs.Table.{TableView, state_of}
-use Rattle.gl_table.proofs.Locked.{MayLock}
+use Rattle.gl_table.proofs.LockKeeps.{MayLock}
 use Rattle.gl_table.proofs.Locking.{decided, may_lock_by, same_enters, sound_tried, state_tried, try_refused}
 use Rattle.gl_table.proofs.TableCalls.{orderly}
 use Rattle.gl_table.proofs.table.Table.try_lock.Goals as goal

@@ -1,7 +1,7 @@
-//! Small stories with the answers that are wanted, and calls that run out of memory.
+//! Transactions that try and release locks, and what they are answered.
 
-use crate::{Detect, Effect, Table, Told, TxnId};
 use gl_modes::{Mode, NodeId, Refusal};
+use gl_table::{Detect, Effect, Table, TxnId};
 use std::alloc::Global;
 use std::test::Fail;
 
@@ -139,61 +139,5 @@ fn a_board_shows_who_lives(rt: HostRuntime) -> Result<(), Fail> {
     assert_eq!(rt; board.epoch, 7);
     assert_eq!(rt; (board.ages[0], board.ages[1], board.ages[2]), (0, 2, 0));
     assert!(rt; board.rows.iter().all(|row| *row == 0));
-    Ok(())
-}
-
-/// What the story below asks of a table.
-fn look(table: &Table, a: TxnId, nodes: &[NodeId; 4]) -> Result<[(Mode, Mode, u32); 4], Refusal> {
-    let mut seen = [(Mode::NL, Mode::NL, 0); 4];
-    for place in 0..4usize {
-        let n = nodes[place];
-        if table.graph().kind(n).is_some() {
-            let held = table.held(a, n).unwrap_or(Mode::NL);
-            seen[place] = (held, table.group(n)?, table.children(a, n).unwrap_or(0));
-        }
-    }
-    Ok(seen)
-}
-
-/// One step of a story in which each call may want memory.
-fn grow(table: &mut Table, step: usize, a: TxnId, nodes: &mut [NodeId; 4]) -> Result<(), Refusal> {
-    match step {
-        0 => nodes[0] = table.add_inner(&[])?,
-        1 => nodes[1] = table.add_file(&[nodes[0]])?,
-        2 => nodes[2] = table.add_index(&[nodes[0]], nodes[1], &[100])?,
-        3 => {
-            table.try_lock(a, nodes[0], Mode::IX)?;
-        }
-        4 => {
-            table.try_lock(a, nodes[1], Mode::IX)?;
-        }
-        _ => {
-            table.try_lock(a, nodes[2], Mode::S)?;
-        }
-    }
-    Ok(())
-}
-
-#[test]
-fn a_refused_growth_changes_nothing(rt: HostRuntime) -> Result<(), Fail> {
-    let mut table = match Table::new(rt.alloc(), Detect::AtBlock, 2) {
-        Err(Refusal::NoMemory) => Table::new(rt.alloc(), Detect::AtBlock, 2)?,
-        answer => answer?,
-    };
-    let a = table.begin()?;
-    let mut nodes = [NodeId::NONE; 4];
-    for step in 0..6 {
-        let before = look(&table, a, &nodes)?;
-        match grow(&mut table, step, a, &mut nodes) {
-            Err(Refusal::NoMemory) => {
-                assert_eq!(rt; look(&table, a, &nodes)?, before);
-                grow(&mut table, step, a, &mut nodes)?;
-            }
-            answer => answer?,
-        }
-    }
-    assert_eq!(rt; table.children(a, nodes[0]), Some(2));
-    let told: Told = table.commit(a)?;
-    assert!(rt; told.is_empty());
     Ok(())
 }

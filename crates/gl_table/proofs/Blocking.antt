@@ -1,0 +1,98 @@
+-- A lock that is granted at once, and one that waits: what each makes of a table.
+use Rattle.std.specs.Prelude.{◌≡◌, ℕ, ◌==◌, ◌&&◌, Bool, true, false, [], Some, if◌then◌else◌}
+use Rattle.std.proofs.Common.{refl, sym, ap, ap₂, ◌∙◌, subst}
+use Rattle.gl_modes.specs.declared.mode.Mode.{Mode}
+use Rattle.gl_modes.specs.declared.node.NodeId.{NodeId}
+use Rattle.gl_modes.proofs.NodeLemmas.{same_node-refl}
+use Rattle.gl_graph.specs.View.{graph_of}
+use Rattle.gl_graph.proofs.Look.{number_same}
+use Rattle.gl_table.specs.declared.detect.Detect.{Detect}
+use Rattle.gl_table.specs.declared.detect.Detect.TheVariants.{AtBlock, ByWatcher}
+use Rattle.gl_table.specs.declared.locks.Locks as code
+use Rattle.gl_table.specs.declared.outcome.Locked.TheVariants as locked
+use Rattle.gl_table.specs.declared.table.Table.TheInside.{Inside}
+use Rattle.gl_table.specs.declared.txn.Status.TheVariants.{Active}
+use Rattle.gl_table.specs.declared.txn.TxnId.{TxnId}
+use Rattle.gl_table.specs.Answers.{locked_as}
+use Rattle.gl_table.specs.Calls.{Locks, WaitSettles, enqueued, enters_at, granted, wanted}
+use Rattle.gl_table.specs.Lawful.{IsLawful}
+use Rattle.gl_table.specs.Locks.{Agrees, AreSound, CountsHeld, IsOrderly, state_on}
+use Rattle.gl_table.specs.Sound.{IsSound, view_of}
+use Rattle.gl_table.specs.State.{State, status_of}
+use Rattle.gl_table.specs.Table.{state_of}
+use Rattle.gl_table.specs.Tellings.{Told, told_but}
+use Rattle.gl_table.proofs.LockKeeps.{MayLock, locks-lawful, waiting-lawful}
+use Rattle.gl_table.proofs.NoCycle.{locks-no_cycle}
+use Rattle.gl_table.proofs.Queues.{clash}
+use Rattle.gl_table.proofs.SettledTable.{settled_also}
+use Rattle.gl_table.proofs.TableCalls.{lawful_orderly}
+use Rattle.gl_table.proofs.ToldLists.{told_but_same, told_nothing}
+
+-- to settle a wait, or not, looks neither at the way of detection that the state names nor at how many began
+settles_on : (by : Detect) (x x' : State) (t : ℕ) (d : Detect) (b : ℕ) → WaitSettles by x t x' → WaitSettles by (record x { detect = d; begins = b }) t (record x' { detect = d; begins = b })
+settles_on AtBlock x x' t d b h = settled_also x x' t d b h
+settles_on ByWatcher x x' t d b h = ap (λ (y : State). record y { detect = d; begins = b }) h
+
+-- a lock was granted at once
+pub granted_locks : (s s' : State) (t : ℕ) (n : NodeId) (m : Mode) → enters_at s t n m ≡ true → s' ≡ granted s t n m → Locks s t n m s'
+granted_locks s s' t n m enters is = record { at_once = λ h. is; waits = λ h. absurd (apart (sym h ∙ enters)) }
+  where
+    apart : false ≡ true → ⊥
+    apart h = cc
+
+-- and its answer is the granted mode
+pub granted_answer : (s s' : State) (t : ℕ) (n : NodeId) (m x : Mode) → status_of s t ≡ Some Active → s' ≡ granted s t n m → x ≡ wanted s t n m → locked.Granted x ≡ locked_as (s'.held t n) (status_of s' t)
+granted_answer s s' t n m x active is mode =
+    ap locked.Granted mode
+    ∙ sym (ap₂ locked_as (ap₂ (λ a b. if a && b then wanted s t n m else s.held t n) (number_same t t refl) (same_node-refl n)) active)
+    ∙ ap (λ (z : State). locked_as (z.held t n) (status_of z t)) (sym is)
+
+-- and nobody is told
+pub granted_told : (s s' : State) (t : ℕ) (n : NodeId) (m : Mode) → IsLawful s → s' ≡ granted s t n m → [] ≡ told_but t s s'
+granted_told s s' t n m law is = told_nothing s (granted s t n m) t law.slots_below (λ u. refl) ∙ ap (told_but t s) (sym is)
+
+module _ (i : Inside) (sound : IsSound i) (t : TxnId) (n : NodeId) (m : Mode) (may : MayLock (state_of (view_of i)) t n m) (blocks : enters_at (state_of (view_of i)) t.slot n m ≡ false) where
+  abbrev s : State
+  s = state_of (view_of i)
+
+  abbrev l : State
+  l = state_on (graph_of i.graph) i.locks
+
+  -- the asker waits
+  module _ (locks : code.Locks) (is : state_on (graph_of i.graph) locks ≡ enqueued l t.slot n (wanted l t.slot n m)) where
+    pub waiting_orderly : IsOrderly (state_on (graph_of i.graph) locks)
+    waiting_orderly =
+        let o = lawful_orderly _ (waiting-lawful s sound.lawful t n m may blocks) in
+        subst IsOrderly (sym is) (record { holders = o.holders; holders_live = o.holders_live; waiters_live = o.waiters_live; waits_are = o.waits_are; one_wait = o.one_wait; below = o.below })
+
+    -- and was settled, where that is the way of detection
+    module _ (left : code.Locks) (settles : WaitSettles i.detect (state_on (graph_of i.graph) locks) t.slot (state_on (graph_of i.graph) left)) where
+      abbrev after : Inside
+      after = record i { locks = left }
+
+      pub state_locked : Locks s t.slot n m (state_of (view_of after))
+      state_locked = record {
+        at_once = λ h. clash h blocks;
+        waits = λ h. settles_on i.detect (enqueued l t.slot n (wanted l t.slot n m)) (state_on (graph_of i.graph) left) t.slot i.detect i.begins
+            (subst (λ (x : State). WaitSettles i.detect x t.slot (state_on (graph_of i.graph) left)) is settles);
+      }
+
+      pub sound_locked : AreSound left → ((u : ℕ) → Agrees (state_on (graph_of i.graph) left) left.lists.items u) → ((u : ℕ) → CountsHeld (state_on (graph_of i.graph) left) left.lists.items u) → IsSound after
+      sound_locked are agrees counts = record {
+        lawful = locks-lawful s (state_of (view_of after)) sound.lawful t n m may state_locked;
+        sound = are;
+        agrees = agrees;
+        counts = counts;
+        no_cycle = λ at. locks-no_cycle s (state_of (view_of after)) at sound.lawful t n m may state_locked (sound.no_cycle at);
+      }
+
+      -- the asker's own wait is told to nobody
+      pub told_locked : (list : Told) → list ≡ told_but t.slot (state_on (graph_of i.graph) locks) (state_on (graph_of i.graph) left) → list ≡ told_but t.slot s (state_of (view_of after))
+      told_locked list told =
+          told
+          ∙ ap (λ (x : State). told_but t.slot x (state_of (view_of after))) is
+          ∙ told_but_same s (enqueued l t.slot n (wanted l t.slot n m)) (state_of (view_of after)) t.slot refl (λ u e. others (u == t.slot) _ _ e)
+        where
+          others : {A : Type 0} (b : Bool) (x y : A) → b ≡ false → (if b then x else y) ≡ y
+          others true x y e = clash (sym e) refl
+          others false x y e = refl

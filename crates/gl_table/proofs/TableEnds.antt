@@ -1,0 +1,123 @@
+-- What the ends of waits and of transactions make of a table.
+use Rattle.std.specs.Prelude.{◌≡◌, ℕ, Bool, true, false, ◌==◌, List, [], ◌||◌, Option, Some, None, if◌then◌else◌}
+use Rattle.std.proofs.Common.{refl, sym, ap, ◌∙◌, subst}
+use Rattle.gl_modes.specs.declared.node.NodeId.{NodeId}
+use Rattle.gl_graph.specs.View.{graph_of}
+use Rattle.gl_graph.proofs.Look.{number_same, same_number, split}
+use Rattle.gl_header.specs.Header.{Waiter, holds}
+use Rattle.gl_table.specs.declared.locks.Locks.{Locks}
+use Rattle.gl_table.specs.declared.table.Table.TheInside.{Inside}
+use Rattle.gl_table.specs.declared.txn.Status.{Status}
+use Rattle.gl_table.specs.declared.txn.Status.TheVariants.{Active, Waiting, Condemned}
+use Rattle.gl_table.specs.Calls.{cancelled, released}
+use Rattle.gl_table.specs.Lawful.{IsLawful}
+use Rattle.gl_table.specs.Locks.{Agrees, AreSound, CountsHeld, state_on}
+use Rattle.gl_table.specs.Pumps.{front_at, granted_at, is_waiting_at, without_wait, woken}
+use Rattle.gl_table.specs.Slots.{WakesTold}
+use Rattle.gl_table.specs.Sound.{IsSound, view_of}
+use Rattle.gl_table.specs.State.{State, Txn, age_of, members, status_in, status_of}
+use Rattle.gl_table.specs.Steps.{stripped}
+use Rattle.gl_table.specs.Table.{state_of}
+use Rattle.gl_table.specs.Telling.{IsBySlot, notices_in}
+use Rattle.gl_table.specs.Tellings.{Told, addressed, notice_of, told, told_but, told_from}
+use Rattle.gl_table.specs.Tells.{IsOnWay, told_to}
+use Rattle.gl_table.specs.Waiting.{HasNoCycle, Settled}
+use Rattle.gl_table.proofs.Cancelled.{cancelled_own, cancelled_tells}
+use Rattle.gl_table.proofs.NoCycle.{given_up-no_cycle, settled-no_cycle}
+use Rattle.gl_table.proofs.Queues.{clash}
+use Rattle.gl_table.proofs.SettledTable.{settled_also}
+use Rattle.gl_table.proofs.TableCalls.{orderly, state_released, table_way}
+use Rattle.gl_table.proofs.Taken.{settled-lawful, without_wait-lawful}
+use Rattle.gl_table.proofs.Tells.{is_by_test, nobody_told}
+use Rattle.gl_table.proofs.ToldLists.{told_but_is, told_is}
+
+-- whose slot is free at the end is told nothing
+untold_gone : (s now : State) (t : ℕ) → status_of now t ≡ None → told_to s now t ≡ None
+untold_gone s now t gone = by (status_of s t)
+  where
+    by : (o : Option Status) → addressed (record { slot = t; age = age_of s t }) (told_from now t o) ≡ None
+    by None = refl
+    by (Some Active) = refl
+    by (Some Condemned) = refl
+    by (Some (Waiting n m)) = ap (λ o. addressed (record { slot = t; age = age_of s t }) (notice_of now t n m o)) gone
+
+-- who is released has no slot
+released_gone : (s : State) (t : ℕ) → status_of (released s t) t ≡ None
+released_gone s t = by (granted_at (stripped s t) (λ n. holds (members s n) t || is_waiting_at s t n)) (t == t) (number_same t t refl) (s.txns t)
+  where
+    by : (g : NodeId → List Waiter) (b : Bool) → b ≡ true → (x : Option Txn) → status_in (woken g t (if b then None else x)) ≡ None
+    by g true e x = refl
+    by g false e x = clash e refl
+
+module _ (i : Inside) (sound : IsSound i) where
+  abbrev s : State
+  s = state_of (view_of i)
+
+  -- the locks alone, as a state
+  abbrev l : State
+  l = state_on (graph_of i.graph) i.locks
+
+  -- a transaction ended, whatever it was doing: all others are told, and it is told nothing itself
+  pub told_aborted : (t : ℕ) (locks : Locks) → state_on (graph_of i.graph) locks ≡ released l t → (first list : Told) → first ≡ [] → IsBySlot list
+      → ((from : State) → IsOnWay from l → ((u : ℕ) → (u == t) ≡ false → notices_in first u ≡ told_to from l u) → (u : ℕ) → (u == t) ≡ false → notices_in list u ≡ told_to from (state_on (graph_of i.graph) locks) u)
+      → notices_in list t ≡ notices_in first t → list ≡ told s (state_of (view_of (record i { locks = locks })))
+  told_aborted t locks is first list none by_slot tells own =
+      told_is s after list sound.lawful sound.sound.few by_slot
+      (λ u. split (u == t)
+      (λ e. ap (notices_in list) (same_number u t e) ∙ own ∙ ap (λ xs. notices_in xs t) none ∙ sym (ap (told_to s after) (same_number u t e) ∙ untold_gone s after t gone))
+      (λ e. tells s (table_way i sound) (λ v k. ap (λ xs. notices_in xs v) none ∙ sym (nobody_told s v)) u e))
+    where
+      after : State
+      after = state_of (view_of (record i { locks = locks }))
+
+      gone : status_of after t ≡ None
+      gone = ap (λ x. status_of x t) (state_released i sound t locks is) ∙ released_gone s t
+
+  -- a wait was taken back
+  module _ (t : ℕ) (n : NodeId) (waits : is_waiting_at s t n ≡ true) (locks : Locks) (is : state_on (graph_of i.graph) locks ≡ cancelled l t) where
+    abbrev after : Inside
+    after = record i { locks = locks }
+
+    pub state_cancelled : state_of (view_of after) ≡ cancelled s t
+    state_cancelled = ap {A = State} (λ x. record x { detect = i.detect; begins = i.begins }) is
+
+    pub sound_cancelled : AreSound locks → ((u : ℕ) → Agrees (state_on (graph_of i.graph) locks) locks.lists.items u) → ((u : ℕ) → CountsHeld (state_on (graph_of i.graph) locks) locks.lists.items u) → IsSound after
+    sound_cancelled are agrees counts = record {
+      lawful = subst IsLawful (sym state_cancelled) (without_wait-lawful s sound.lawful t Active (λ q m e. cc));
+      sound = are;
+      agrees = agrees;
+      counts = counts;
+      no_cycle = λ at. subst HasNoCycle (sym state_cancelled) (given_up-no_cycle s sound.lawful t Active (λ q m e. cc) (sound.no_cycle at));
+    }
+
+    -- the others are told
+    pub told_cancelled : (first list : Told) → first ≡ [] → WakesTold l.txns n (front_at (without_wait l t Active) n) first list → list ≡ told_but t s (state_of (view_of after))
+    told_cancelled first list none tells =
+        told_but_is s (state_of (view_of after)) t list sound.lawful sound.sound.few tells.by_slot
+        (λ u. is_by_test (u == t)
+        (λ e. ap (notices_in list) (same_number u t e) ∙ cancelled_own l (orderly i sound) t n waits first list tells ∙ ap (λ xs. notices_in xs t) none)
+        (λ e. (cancelled_tells l (orderly i sound) t n waits first list tells s (table_way i sound) (λ v k. ap (λ xs. notices_in xs v) none ∙ sym (nobody_told s v))).1 u e ∙ ap (λ x. told_to s x u) (sym is)))
+
+  -- a transaction was settled
+  module _ (t : ℕ) (locks : Locks) (is : Settled l t (state_on (graph_of i.graph) locks)) where
+    abbrev now : Inside
+    now = record i { locks = locks }
+
+    pub state_settled : Settled s t (state_of (view_of now))
+    state_settled = settled_also l (state_on (graph_of i.graph) locks) t i.detect i.begins is
+
+    pub sound_settled : AreSound locks → ((u : ℕ) → Agrees (state_on (graph_of i.graph) locks) locks.lists.items u) → ((u : ℕ) → CountsHeld (state_on (graph_of i.graph) locks) locks.lists.items u) → IsSound now
+    sound_settled are agrees counts = record {
+      lawful = settled-lawful s (state_of (view_of now)) t sound.lawful state_settled;
+      sound = are;
+      agrees = agrees;
+      counts = counts;
+      no_cycle = λ at. settled-no_cycle s (state_of (view_of now)) t sound.lawful state_settled (sound.no_cycle at);
+    }
+
+    -- who is granted is told, and who is a victim
+    pub told_settled : (first list : Told) → first ≡ [] → IsBySlot list
+        → ((from : State) → IsOnWay from l → ((u : ℕ) → notices_in first u ≡ told_to from l u) → (u : ℕ) → notices_in list u ≡ told_to from (state_on (graph_of i.graph) locks) u)
+        → list ≡ told s (state_of (view_of now))
+    told_settled first list none by_slot tells =
+        told_is s (state_of (view_of now)) list sound.lawful sound.sound.few by_slot (tells s (table_way i sound) (λ u. ap (λ xs. notices_in xs u) none ∙ sym (nobody_told s u)))

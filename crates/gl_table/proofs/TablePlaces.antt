@@ -1,0 +1,117 @@
+-- A record is made in a table, and one transaction holds it in X: what holds of the fields still does.
+use Rattle.std.specs.Prelude.{◌≡◌, ℕ, ◌+◌, ◌≤◌, false, true, not, ◌&&◌, nat_lt, [], ◌∷◌, List, length, IfOk, None, OnErr, Result, Some}
+use Rattle.std.proofs.Common.{sym, ap, ◌∙◌, subst}
+use Rattle.gl_modes.specs.declared.mode.Mode.TheVariants.{NL, X}
+use Rattle.gl_modes.specs.declared.node.NodeId.{NodeId}
+use Rattle.gl_modes.specs.declared.refusal.Refusal.{Refusal}
+use Rattle.gl_modes.specs.declared.refusal.Refusal.TheVariants as no
+use Rattle.gl_graph.specs.Changes.{IsBorn}
+use Rattle.gl_graph.specs.Graph.{Graph, indexes_of, is_live, node_count, record_parents, shape_of}
+use Rattle.gl_graph.specs.Refusals.{Refuses, births_worn, first_refusal, record_refusal, where_true}
+use Rattle.gl_graph.specs.Shapes.{Rec, is_file_shape}
+use Rattle.gl_graph.specs.View.{View, graph_of}
+use Rattle.gl_graph.proofs.KindRules.{file_plain, plain_live}
+use Rattle.gl_graph.proofs.Look.{number_same}
+use Rattle.gl_graph.proofs.Unrefused.{IsRoomyRecord, record_unrefused}
+use Rattle.gl_table.specs.declared.locks.Locks.{Locks}
+use Rattle.gl_table.specs.declared.table.Table.TheInside.{Inside}
+use Rattle.gl_table.specs.declared.txn.Status.TheVariants.{Active}
+use Rattle.gl_table.specs.Headers.{AreHeaders}
+use Rattle.gl_table.specs.Lawful.{IsLawful}
+use Rattle.gl_table.specs.Locks.{Agrees, AreSound, CountsHeld, state_on}
+use Rattle.gl_table.specs.Refusals.{first_not_ix}
+use Rattle.gl_table.specs.Slots.{KeepsLists}
+use Rattle.gl_table.specs.Sound.{IsSound, view_of}
+use Rattle.gl_table.specs.State.{State, status_of, with_grant, with_graph}
+use Rattle.gl_table.specs.Table.{state_of}
+use Rattle.gl_table.specs.Waiting.{HasNoCycle}
+use Rattle.gl_table.proofs.Asks.{state-same}
+use Rattle.gl_table.proofs.NoCycle.{granted-no_cycle}
+use Rattle.gl_table.proofs.Placed.{born-live, born-unawaited, born-unheld, placed-lawful, record-grows}
+use Rattle.gl_table.proofs.Rooms.{keeps-agrees, keeps-counts}
+use Rattle.gl_table.proofs.TableBirths.{called-sound}
+
+-- a record that meets the conditions is refused for want of memory alone
+pub record-passes : (g : Graph) (f : NodeId) (keys : List ℕ) → births_worn g ≡ false → is_file_shape (shape_of g f) ≡ true → length keys ≡ length (indexes_of g f) → nat_lt 65536 (node_count g + 1) ≡ false → record_refusal g f keys ≡ None
+record-passes g f keys worn file each room =
+    let live : is_live g f ≡ true = plain_live g f (file_plain (shape_of g f) file) in
+    λ i. first_refusal (
+    where_true (worn i) no.WornOut
+    ∷ where_true (not (live i && true)) no.NoSuchNode
+    ∷ where_true (not (file i)) no.BadParents
+    ∷ where_true (not (number_same (length keys) (length (indexes_of g f)) each i)) no.BadKeys
+    ∷ where_true (room i) no.TooManyNodes ∷ []
+    )
+
+-- room was made, and all says what it said
+module _ (i : Inside) (sound : IsSound i) (locks : Locks) (headers : locks.headers.entries ≡ i.locks.headers.entries) (seats : locks.seats ≡ i.locks.seats) (lists : KeepsLists i.locks.lists.items locks.lists.items) where
+  abbrev roomy : Inside
+  roomy = record i { locks = locks }
+
+  same_on : (g : Graph) → state_on g locks ≡ state_on g i.locks
+  same_on g = state-same g i.locks locks headers seats
+
+  pub same_state : state_of (view_of roomy) ≡ state_of (view_of i)
+  same_state = ap {A = State} (λ x. record x { detect = i.detect; begins = i.begins }) (same_on (graph_of i.graph))
+
+  pub sound_roomy : IsSound roomy
+  sound_roomy = record {
+    lawful = subst IsLawful (sym same_state) sound.lawful;
+    sound = record {
+      headers = subst AreHeaders (sym headers) sound.sound.headers;
+      few = subst (λ (k : ℕ). k ≤ 128) (sym many) sound.sound.few;
+      lists = lists.len ∙ sound.sound.lists ∙ sym many;
+      apart = lists.apart sound.sound.apart;
+    };
+    agrees = λ u. subst (λ x. Agrees x locks.lists.items u) (sym (same_on (graph_of i.graph))) (keeps-agrees (state_on (graph_of i.graph) i.locks) i.locks.lists.items locks.lists.items u lists (sound.agrees u));
+    counts = λ u. subst (λ x. CountsHeld x locks.lists.items u) (sym (same_on (graph_of i.graph))) (keeps-counts (state_on (graph_of i.graph) i.locks) i.locks.lists.items locks.lists.items u lists (sound.counts u));
+    no_cycle = λ at. subst HasNoCycle (sym same_state) (sound.no_cycle at);
+  }
+    where
+      many : length locks.seats.items ≡ length i.locks.seats.items
+      many = ap (λ x. length x.items) seats
+
+module _ (i : Inside) (sound : IsSound i) (f : NodeId) (keys : List ℕ) (free : record_refusal (graph_of i.graph) f keys ≡ None) (v : View) where
+  abbrev s : State
+  s = state_of (view_of i)
+
+  abbrev grown : Inside
+  grown = record i { graph = v }
+
+  roomy_record : IsRoomyRecord (graph_of i.graph) f keys
+  roomy_record = record_unrefused (graph_of i.graph) f keys free
+
+  -- the graph was asked for the record
+  pub sound_grown : (r : Result NodeId Refusal) → Refuses (record_refusal (graph_of i.graph) f keys) r
+      → IfOk r (λ n. IsBorn (graph_of i.graph) (graph_of v) n (Rec keys) (record_parents (graph_of i.graph) f keys)) → OnErr r (v ≡ i.graph) → IsSound grown
+  sound_grown r refuses made same =
+      called-sound i sound v (record_refusal (graph_of i.graph) f keys) r (λ n. IsBorn (graph_of i.graph) (graph_of v) n (Rec keys) (record_parents (graph_of i.graph) f keys)) refuses made same
+      (λ n free' born. record-grows s sound.lawful f keys roomy_record.file roomy_record.each roomy_record.room (graph_of v) n born)
+
+  module _ (n : NodeId) (born : IsBorn (graph_of i.graph) (graph_of v) n (Rec keys) (record_parents (graph_of i.graph) f keys)) where
+    pub record_lives : is_live (graph_of v) n ≡ true
+    record_lives = born-live s sound.lawful f keys roomy_record.file roomy_record.each roomy_record.room (graph_of v) n born
+
+    pub record_unheld : (u : ℕ) → s.held u n ≡ NL
+    record_unheld = born-unheld s sound.lawful f keys roomy_record.file roomy_record.each roomy_record.room (graph_of v) n born
+
+    pub record_unawaited : s.queue n ≡ []
+    record_unawaited = born-unawaited s sound.lawful f keys roomy_record.file roomy_record.each roomy_record.room (graph_of v) n born
+
+    -- the slot holds it
+    module _ (t : ℕ) (locks : Locks) (is : state_on (graph_of v) locks ≡ with_grant (state_on (graph_of v) i.locks) t n X) where
+      abbrev after : Inside
+      after = record grown { locks = locks }
+
+      pub state_placed : state_of (view_of after) ≡ with_grant (with_graph s (graph_of v)) t n X
+      state_placed = ap {A = State} (λ x. record x { detect = i.detect; begins = i.begins }) is
+
+      pub sound_placed : status_of s t ≡ Some Active → first_not_ix (s.held t) (record_parents (graph_of i.graph) f keys) ≡ None
+          → AreSound locks → ((u : ℕ) → Agrees (state_on (graph_of v) locks) locks.lists.items u) → ((u : ℕ) → CountsHeld (state_on (graph_of v) locks) locks.lists.items u) → IsSound after
+      sound_placed active rule are agrees counts = record {
+        lawful = subst IsLawful (sym state_placed) (placed-lawful s sound.lawful f keys roomy_record.file roomy_record.each roomy_record.room (graph_of v) n born t active rule);
+        sound = are;
+        agrees = agrees;
+        counts = counts;
+        no_cycle = λ at. subst HasNoCycle (sym state_placed) (granted-no_cycle (with_graph s (graph_of v)) t n X active (sound.no_cycle at));
+      }

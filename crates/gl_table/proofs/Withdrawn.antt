@@ -1,0 +1,204 @@
+-- One wait is given up: the lists agree with what is left.
+use Rattle.std.specs.Prelude.{◌≡◌, ℕ, ◌+◌, ◌≤◌, ◌<◌, Bool, true, false, not, ◌&&◌, ◌||◌, ◌==◌, List, length, Option, Some, None, is_some, if◌then◌else◌, slice_set, slice_index_or}
+use Rattle.std.specs.List.{count_by}
+use Rattle.std.proofs.Common.{refl, sym, ap, ap₂, ◌∙◌, subst, arith, length-set}
+use Rattle.std.proofs.Math.Path.{fun_ext}
+use Rattle.indexmap.specs.IndexMap.{spare}
+use Rattle.gl_modes.specs.declared.mode.Mode.{Mode}
+use Rattle.gl_modes.specs.declared.mode.Mode.TheVariants.{NL}
+use Rattle.gl_modes.specs.declared.node.NodeId.{NodeId}
+use Rattle.gl_modes.specs.Modes.{same_mode}
+use Rattle.gl_modes.specs.Nodes.{same_node}
+use Rattle.gl_modes.proofs.ModeLemmas.{same_mode-equal}
+use Rattle.gl_modes.proofs.NodeLemmas.{same_node-equal, same_node-sym}
+use Rattle.gl_graph.specs.Graph.{is_live, parents_of}
+use Rattle.gl_graph.specs.Lawful.{IsLawfulGraph}
+use Rattle.gl_graph.proofs.Look.{split, number_same, other_number, same_number}
+use Rattle.gl_header.specs.Header.{Waiter, after_grants, holds, is_among_waiters, without_waiter}
+use Rattle.gl_header.proofs.Ranges.{not_true}
+use Rattle.gl_table.specs.declared.list.Entry.{Entry}
+use Rattle.gl_table.specs.declared.list.LockList.{LockList}
+use Rattle.gl_table.specs.declared.txn.Status.{Status}
+use Rattle.gl_table.specs.declared.txn.Status.TheVariants.{Waiting}
+use Rattle.gl_table.specs.Covered.{held_children}
+use Rattle.gl_table.specs.Lists.{IsApart, count_of, entry_of, is_listed, mode_in, mode_of}
+use Rattle.gl_table.specs.Locks.{Agrees, CountsHeld, IsOrderly}
+use Rattle.gl_table.specs.Pumping.{WaitWell}
+use Rattle.gl_table.specs.Pumps.{front_at, granted_at, is_waiting_at, pumped, without_wait}
+use Rattle.gl_table.specs.Slots.{AreApart, WakesLists, by_list, counted_by, held_by, listed_by, room_by}
+use Rattle.gl_table.specs.State.{State, Txn, members, restatus, status_in, status_of}
+use Rattle.gl_table.specs.Steps.{children_that}
+use Rattle.gl_table.specs.Waiting.{is_wait}
+use Rattle.gl_table.proofs.Less.{waiting_is}
+use Rattle.gl_table.proofs.OneWaits.{front_stands, stands_only, stands_there, well_without}
+use Rattle.gl_table.proofs.Pumped.{woken_waits}
+use Rattle.gl_table.proofs.Pumping.{agrees_pumped, counts_pumped}
+use Rattle.gl_table.proofs.Queues.{clash, grants_other}
+use Rattle.gl_table.proofs.QueueEdits.{out_of_without, without_filter}
+use Rattle.gl_table.proofs.Settles.{wait_is}
+use Rattle.gl_table.proofs.Slots.{apart-set, by_list-at, by_list-set, slice_get-at}
+use Rattle.gl_table.proofs.Taken.{IsQuiet}
+use Rattle.gl_table.proofs.Waiters.{among_waits, some_wait}
+use Rattle.gl_table.proofs.Ways.{granted_stands, left_stands, without_wait_other, without_wait_own}
+
+-- the list of t has n only where t holds it; what the lists say else is as it was
+pub record Unlists (ls ls' : List LockList) (t : ℕ) (n : NodeId) : Type 0 where
+  pub len : length ls' ≡ length ls
+  pub apart : AreApart ls'
+  pub modes : (u : ℕ) (q : NodeId) → held_by ls' u q ≡ held_by ls u q
+  pub listed : (u : ℕ) (q : NodeId) → listed_by ls' u q ≡ (if (u == t) && same_node q n then not (same_mode (held_by ls t n) NL) else listed_by ls u q)
+  pub counts : (u : ℕ) (q : NodeId) → counted_by ls' u q ≡ counted_by ls u q
+  pub rooms : (u : ℕ) → (u == t) ≡ false → room_by ls' u ≡ room_by ls u
+
+-- what is held is listed
+held_listed : (o : Option Entry) → same_mode (mode_in o) NL ≡ false → is_some o ≡ true
+held_listed None h = clash refl h
+held_listed (Some e) h = refl
+
+-- a list that has a node where it holds it
+only_held : (l : LockList) (n : NodeId) → same_mode (mode_of l n) NL ≡ false → (q : NodeId) → is_listed l q ≡ (if same_node q n then not (same_mode (mode_of l n) NL) else is_listed l q)
+only_held l n h q = split (same_node q n)
+    (λ e. ap (is_listed l) (same_node-equal q n e) ∙ held_listed (entry_of l n) h ∙ ap not (sym h) ∙ sym (ap (λ k. if k then not (same_mode (mode_of l n) NL) else is_listed l q) e))
+    (λ e. sym (ap (λ k. if k then not (same_mode (mode_of l n) NL) else is_listed l q) e))
+
+-- and one from which a node was taken that it did not hold
+unheld_left : (l l' : LockList) (n : NodeId) → same_mode (mode_of l n) NL ≡ true → ((q : NodeId) → is_listed l' q ≡ (is_listed l q && not (same_node q n)))
+    → (q : NodeId) → is_listed l' q ≡ (if same_node q n then not (same_mode (mode_of l n) NL) else is_listed l q)
+unheld_left l l' n h left q = left q ∙ by (is_listed l q) (same_node q n) ∙ ap (λ k. if same_node q n then not k else is_listed l q) (sym h)
+  where
+    by : (a b : Bool) → (a && not b) ≡ (if b then false else a)
+    by true true = refl
+    by true false = refl
+    by false true = refl
+    by false false = refl
+
+-- where a node was taken out that was not held, the modes are the same
+unheld_modes : (l : LockList) (n : NodeId) → same_mode (mode_of l n) NL ≡ true → (q : NodeId) → (if same_node q n then NL else mode_of l q) ≡ mode_of l q
+unheld_modes l n h q = split (same_node q n)
+    (λ e. ap (λ k. if k then NL else mode_of l q) e ∙ sym (same_mode-equal (mode_of l n) NL h) ∙ ap (mode_of l) (sym (same_node-equal q n e)))
+    (λ e. ap (λ k. if k then NL else mode_of l q) e)
+
+module _ (ls : List LockList) (t : ℕ) (n : NodeId) (l : LockList) (lt : t < length ls) (at : l ≡ slice_index_or ls t l) (apart : AreApart ls) where
+  module _ (l' : LockList) where
+    -- what the new list says as the old one, all lists say as before
+    kept : {A : Type 0} (f : LockList → A) (none : A) → f l' ≡ f l → (u : ℕ) → by_list f none (slice_set ls t l') u ≡ by_list f none ls u
+    kept f none e u = by_list-set ls t l' lt f none u ∙ split (u == t)
+        (λ k. ap (λ b. if b then f l' else by_list f none ls u) k ∙ e ∙ sym (by_list-at f none ls t l lt at) ∙ ap (by_list f none ls) (sym (same_number u t k)))
+        (λ k. ap (λ b. if b then f l' else by_list f none ls u) k)
+
+    -- a list is written that says the same, but has n only where it holds it
+    unlists_set : IsApart l' → ((q : NodeId) → mode_of l' q ≡ mode_of l q) → ((q : NodeId) → is_listed l' q ≡ (if same_node q n then not (same_mode (mode_of l n) NL) else is_listed l q))
+        → ((q : NodeId) → count_of l' q ≡ count_of l q) → Unlists ls (slice_set ls t l') t n
+    unlists_set here modes listed counts = record {
+      len = length-set ls t l';
+      apart = apart-set ls t l' lt apart here;
+      modes = λ u q. kept (λ x. mode_of x q) NL (modes q) u;
+      listed = λ u q. by_list-set ls t l' lt (λ x. is_listed x q) false u ∙ split (u == t)
+          (λ e. ap (λ k. if k then is_listed l' q else listed_by ls u q) e ∙ listed q
+          ∙ ap₂ (λ m k. if same_node q n then not (same_mode m NL) else k) (sym (by_list-at (λ x. mode_of x n) NL ls t l lt at))
+          (sym (ap (λ v. listed_by ls v q) (same_number u t e) ∙ by_list-at (λ x. is_listed x q) false ls t l lt at))
+          ∙ ap (λ k. if k && same_node q n then not (same_mode (held_by ls t n) NL) else listed_by ls u q) (sym e))
+          (λ e. ap (λ k. if k then is_listed l' q else listed_by ls u q) e ∙ ap (λ k. if k && same_node q n then not (same_mode (held_by ls t n) NL) else listed_by ls u q) (sym e));
+      counts = λ u q. kept (λ x. count_of x q) 0 (counts q) u;
+      rooms = λ u e. by_list-set ls t l' lt (λ x. spare x.loose) 0 u ∙ ap (λ k. if k then spare l'.loose else room_by ls u) e;
+    }
+
+    pub unlists_left : same_mode (mode_of l n) NL ≡ true → IsApart l' → ((q : NodeId) → mode_of l' q ≡ (if same_node q n then NL else mode_of l q))
+        → ((q : NodeId) → is_listed l' q ≡ (is_listed l q && not (same_node q n))) → ((q : NodeId) → count_of l' q ≡ count_of l q) → Unlists ls (slice_set ls t l') t n
+    unlists_left h here modes listed counts = unlists_set here (λ q. modes q ∙ unheld_modes l n h q) (unheld_left l l' n h listed) counts
+
+  pub unlists_held : same_mode (mode_of l n) NL ≡ false → Unlists ls (slice_set ls t l) t n
+  unlists_held h = unlists_set l (apart t l (slice_get-at ls t l lt at)) (λ q. refl) (only_held l n h) (λ q. refl)
+
+-- who gave its wait up waits no more
+pub rests : (st : Status) → IsQuiet st → (x : Option Txn) (q : NodeId) (m : Mode) → status_in (restatus st x) ≡ Some (Waiting q m) → ⊥
+rests st quiet None q m h = cc
+rests st quiet (Some x) q m h = quiet q m h
+
+-- all others stand in the queue where they stood
+pub others_among : (t u : ℕ) (ws : List Waiter) → (u == t) ≡ false → is_among_waiters u (without_waiter t ws) ≡ is_among_waiters u ws
+others_among t u ws e = among_waits u (without_waiter t ws) ∙ ap some_wait (without_filter t u ws (other_number u t e)) ∙ sym (among_waits u ws)
+
+module _ (s : State) (o : IsOrderly s) (law : IsLawfulGraph s.graph) (t : ℕ) (n : NodeId) (st : Status) (quiet : IsQuiet st) (waits : is_waiting_at s t n ≡ true)
+    (ls mid : List LockList) (agree : (u : ℕ) → Agrees s ls u) (count : (u : ℕ) → CountsHeld s ls u) (wakes : WakesLists ls n (parents_of s.graph n) (front_at (without_wait s t st) n) mid) where
+  abbrev b : State
+  b = without_wait s t st
+
+  abbrev after : State
+  after = pumped b (same_node n)
+
+  well : WaitWell b n
+  well = well_without s o t st n
+
+  -- who left stands in no queue, and is not granted
+  out : (q : NodeId) → is_among_waiters t (b.queue q) ≡ false
+  out q = not_true _ (λ h. (out_of_without t t (s.queue q) h).1 refl)
+
+  not_granted : (q : NodeId) → is_among_waiters t (granted_at b (same_node n) q) ≡ false
+  not_granted q = not_true _ (λ h. clash (granted_stands b (same_node n) t q h) (out q))
+
+  not_front : is_among_waiters t (front_at b n) ≡ false
+  not_front = not_true _ (λ h. clash (front_stands b n well t h) (out n))
+
+  after_own : (q : NodeId) → after.held t q ≡ s.held t q
+  after_own q = grants_other (granted_at b (same_node n) q) (members b q) t (not_granted q)
+
+  mode_own : (q : NodeId) → held_by mid t q ≡ s.held t q
+  mode_own q = wakes.modes t q ∙ split (same_node q n)
+      (λ e. ap (λ k. if k then after_grants (λ v. held_by ls v n) (front_at b n) t else held_by ls t q) e ∙ grants_other (front_at b n) (λ v. held_by ls v n) t not_front ∙ (agree t).modes n ∙ ap (s.held t) (sym (same_node-equal q n e)))
+      (λ e. ap (λ k. if k then after_grants (λ v. held_by ls v n) (front_at b n) t else held_by ls t q) e ∙ (agree t).modes q)
+
+  count_own : (p : NodeId) → counted_by mid t p ≡ held_children s t p
+  count_own p = wakes.counts t p ∙ ap (λ k. counted_by ls t p + (if k && same_mode (held_by ls t n) NL then count_by (same_node p) (parents_of s.graph n) else 0)) not_front
+      ∙ no_more (counted_by ls t p) ∙ count t p
+    where
+      no_more : (k : ℕ) → k + 0 ≡ k
+      no_more k = omega arith
+
+  -- its list has room to count the node apart
+  pub room_left : 0 < room_by mid t
+  room_left = let nine = subst (λ (k : ℕ). 9 ≤ k) (sym (wakes.rooms t not_front)) ((agree t).room (ap is_wait (waiting_is (status_of s t) n waits).1)) in omega arith
+
+  module _ (ls' : List LockList) (unlists : Unlists mid ls' t n) where
+    agrees_other : (u : ℕ) → (u == t) ≡ false → Agrees after ls' u
+    agrees_other u e =
+        let now = agrees_pumped b n well ls mid wakes u (record {
+          modes = (agree u).modes;
+          listed = λ q. (agree u).listed q ∙ ap (λ k. holds (members s q) u || k) (sym (others_among t u (s.queue q) e));
+          room = λ h. (agree u).room (ap (λ x. is_wait (status_in x)) (sym (without_wait_other s t st u e)) ∙ h);
+        }) in
+        record {
+          modes = λ q. unlists.modes u q ∙ now.modes q;
+          listed = λ q. unlists.listed u q ∙ ap (λ k. if k && same_node q n then not (same_mode (held_by mid t n) NL) else listed_by mid u q) e ∙ now.listed q;
+          room = λ h. subst (λ (k : ℕ). 9 ≤ k) (sym (unlists.rooms u e)) (now.room h);
+        }
+
+    agrees_own : Agrees after ls' t
+    agrees_own = record {
+      modes = λ q. unlists.modes t q ∙ mode_own q ∙ sym (after_own q);
+      listed = λ q. unlists.listed t q ∙ ap (λ k. if k && same_node q n then not (same_mode (held_by mid t n) NL) else listed_by mid t q) (number_same t t refl)
+          ∙ split (same_node q n)
+          (λ e. ap (λ k. if k then not (same_mode (held_by mid t n) NL) else listed_by mid t q) e
+          ∙ ap (λ m. not (same_mode m NL)) (mode_own n ∙ ap (s.held t) (sym (same_node-equal q n e))) ∙ only (holds (members s q) t))
+          (λ e. ap (λ k. if k then not (same_mode (held_by mid t n) NL) else listed_by mid t q) e ∙ wakes.listed t q ∙ (agree t).listed q
+          ∙ ap (λ k. holds (members s q) t || k) (stands_only s o t n waits q (same_node-sym n q ∙ e)))
+          ∙ ap₂ (λ m k. not (same_mode m NL) || k) (sym (after_own q)) (sym (not_true _ (λ h. clash (left_stands b (same_node n) t q h) (out q))));
+      room = λ h. let w = wait_is (status_of after t) h in
+          absurd (rests st quiet (s.txns t) w.0 w.1 (ap status_in (sym (without_wait_own s t st)) ∙ (woken_waits (granted_at b (same_node n)) t w.0 w.1 (b.txns t) w.2).0));
+    }
+      where
+        only : (k : Bool) → k ≡ (k || false)
+        only true = refl
+        only false = refl
+
+    pub agrees_withdrawn : (u : ℕ) → Agrees after ls' u
+    agrees_withdrawn u = split (u == t) (λ e. subst (Agrees after ls') (sym (same_number u t e)) agrees_own) (λ e. agrees_other u e)
+
+    pub counts_withdrawn : (u : ℕ) → CountsHeld after ls' u
+    counts_withdrawn u = split (u == t) (λ e. subst (CountsHeld after ls') (sym (same_number u t e)) own) (λ e p. unlists.counts u p ∙ counts_pumped b n well ls mid wakes law live u ((agree u).modes n) (count u) p)
+      where
+        live : is_live s.graph n ≡ true
+        live = o.waiters_live t n (stands_there s o t n waits)
+
+        own : CountsHeld after ls' t
+        own p = unlists.counts t p ∙ count_own p ∙ ap (λ f. children_that s.graph f p) (fun_ext (λ c. ap (λ m. not (same_mode m NL)) (sym (after_own c))))

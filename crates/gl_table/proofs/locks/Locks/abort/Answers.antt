@@ -1,0 +1,49 @@
+use Rattle.std.specs.Prelude.{◌≡◌, false}
+use Rattle.std.proofs.Common.{◌∙◌, ap, rules}
+use Rattle.gl_graph.specs.View.{graph_of}
+use Rattle.gl_table.specs.Calls.{cancelled}
+use Rattle.gl_table.specs.Locks.{state_on}
+use Rattle.gl_table.specs.State.{State, status_of}
+use Rattle.gl_table.specs.Waiting.{is_wait}
+use Rattle.gl_table.proofs.Cancelled.{IsFree, free_cancelled, free_idle, free_same}
+use Rattle.gl_table.proofs.locks.Locks.abort.Goals.{Joined-seat, in-Some-Waiting, in-Some+in-Active-1, in-None-1}
+use Rattle.gl_table.proofs.locks.Locks.abort.Goals as goal
+
+abbrev before : Joined-seat → State
+before c = state_on (graph_of c.args.graph.now) c.args.self.now
+
+-- where nothing was taken back, all is as it was
+idle : (c : Joined-seat) → is_wait (status_of (before c) c.args.slot) ≡ false → c.match-seat.self ≡ c.args.self.now → c.match-seat.told ≡ c.args.told.now
+    → IsFree (before c) (state_on (graph_of c.args.graph.now) c.match-seat.self) c.args.slot c.args.told.now.items c.match-seat.told.items
+idle c quiet self told =
+    free_same (before c) (before c) _ c.args.slot c.args.told.now.items c.args.told.now.items _ (ap (state_on (graph_of c.args.graph.now)) self) (ap (λ x. x.items) told)
+    (free_idle (before c) c.args.slot c.args.told.now.items c.requires.orderly quiet c.requires.untold)
+
+-- the slot waits for nothing, once its wait is taken back, if it has one
+free : (c : Joined-seat) → IsFree (before c) (state_on (graph_of c.args.graph.now) c.match-seat.self) c.args.slot c.args.told.now.items c.match-seat.told.items
+free c = elim c.match-seat.branch [
+  | in-Some-Waiting w ↦
+      free_same (before c) (cancelled (before c) c.args.slot) _ c.args.slot c.args.told.now.items w.withdraw.new.told.items _ (ap (state_on (graph_of c.args.graph.now)) w.self-is ∙ w.withdraw.ensures.state) (ap (λ x. x.items) w.told-is)
+      (free_cancelled (before c) c.requires.orderly c.args.slot w.in-Some-Waiting.node (search rules) c.args.told.now.items w.withdraw.new.told.items w.withdraw.ensures.tells c.requires.untold)
+  | in-Some+in-Active-1 w ↦ idle c (search rules) w.self-is w.told-is
+  | in-None-1 w ↦ idle c (search rules) w.self-is w.told-is
+]
+
+pub end-requires-clause-orderly : goal.end-requires-clause-orderly
+end-requires-clause-orderly c = (free (goal.at.end-requires-clause-orderly c).Joined-seat).orderly
+
+pub end-requires-clause-quiet : goal.end-requires-clause-quiet
+end-requires-clause-quiet c = (free (goal.at.end-requires-clause-quiet c).Joined-seat).quiet
+
+pub end-requires-clause-untold : goal.end-requires-clause-untold
+end-requires-clause-untold c = (free (goal.at.end-requires-clause-untold c).Joined-seat).untold
+
+pub returns-clause-state : goal.returns-clause-state
+returns-clause-state c = c.end.ensures.state ∙ (free (goal.at.returns-clause-state c).Joined-seat).released
+
+pub returns-clause-tells : goal.returns-clause-tells
+returns-clause-tells c = let f = free (goal.at.returns-clause-tells c).Joined-seat in
+    λ s way same. let now = f.tells s way same in c.end.ensures.tells s now.0 now.1
+
+pub returns-clause-own : goal.returns-clause-own
+returns-clause-own c = c.end.ensures.own ∙ (free (goal.at.returns-clause-own c).Joined-seat).own

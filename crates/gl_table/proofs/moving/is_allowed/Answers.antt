@@ -1,0 +1,16 @@
+use Rattle.std.specs.Prelude.{◌≡◌, is_none, is_ok, Option, Some, None}
+use Rattle.std.proofs.Common.{◌∙◌, refl, ap}
+use Rattle.gl_modes.specs.declared.refusal.Refusal.{Refusal}
+use Rattle.gl_graph.specs.Refusals.{verdict}
+use Rattle.gl_table.specs.Lists.{mode_of}
+use Rattle.gl_table.proofs.Strays.{rule_allows}
+use Rattle.gl_table.proofs.moving.is_allowed.Goals as goal
+
+-- no reason to refuse
+passes : (o : Option Refusal) → is_ok (verdict o) ≡ is_none o
+passes None = refl
+passes (Some r) = refl
+
+pub returns : goal.returns
+returns c =
+    c.is_ok.ensures.value ∙ ap is_ok c.check_rule.ensures ∙ passes _ ∙ rule_allows (mode_of c.args.list.now) c.args.parents.now c.args.mode

@@ -1,0 +1,24 @@
+use Rattle.std.proofs.Common.{ap, subst, ◌∙◌}
+use Rattle.gl_table.specs.Sound.{view_of}
+use Rattle.gl_table.specs.Table.{TableView, state_of}
+use Rattle.gl_table.specs.Tellings.{told}
+use Rattle.gl_table.specs.Waiting.{Settled}
+use Rattle.gl_table.proofs.TableCalls.{orderly}
+use Rattle.gl_table.proofs.TableEnds.{sound_settled, state_settled, told_settled}
+use Rattle.gl_table.proofs.table.Table.settle.Goals as goal
+
+pub settle-requires-clause-orderly : goal.settle-requires-clause-orderly
+settle-requires-clause-orderly c = orderly c.self.inside c.self.invariant
+
+pub invariant_of-self : goal.invariant_of-self
+invariant_of-self c = sound_settled c.self.inside c.self.invariant c.args.t.slot c.settle.new.self c.settle.ensures.state c.settle.ensures.sound c.settle.ensures.agree c.settle.ensures.count
+
+pub returns-clause-state : goal.returns-clause-state
+returns-clause-state c =
+    subst (λ (v : TableView). Settled (state_of v) c.args.t.slot (state_of (view_of (record c.self.inside { locks = c.settle.new.self })))) c.self.view_is
+    (state_settled c.self.inside c.self.invariant c.args.t.slot c.settle.new.self c.settle.ensures.state)
+
+pub returns-clause-told : goal.returns-clause-told
+returns-clause-told c =
+    told_settled c.self.inside c.self.invariant c.args.t.slot c.settle.new.self c.settle.ensures.state c.new-told.result.items c.settle.new.told.items c.new-told.ensures c.settle.ensures.by_slot c.settle.ensures.tells
+    ∙ ap (λ (v : TableView). told (state_of v) (state_of (view_of (record c.self.inside { locks = c.settle.new.self })))) c.self.view_is

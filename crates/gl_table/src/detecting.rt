@@ -1,0 +1,118 @@
+//! Deadlocks are found, and victims chosen.
+
+ghost use Rattle.std.specs.Prelude.{◌≡◌, ◌<◌, ◌==◌, ℕ, IfNone, IfSome, None, Some, false, length, true};
+ghost use Rattle.gl_graph.specs.Graph.{Graph as AGraph};
+ghost use Rattle.gl_graph.specs.View.{graph_of};
+ghost use Rattle.gl_waits.specs.Waits.{IsOnCycleOf, IsOnNoCycle, IsYoungest};
+ghost use Rattle.gl_table.specs.Locks.{Agrees, AreSound, CountsHeld, IsOrderly, state_on};
+ghost use Rattle.gl_table.specs.Calls.{WaitSettles};
+ghost use Rattle.gl_table.specs.Pumps.{condemned};
+ghost use Rattle.gl_table.specs.State.{State, age_of, status_of};
+ghost use Rattle.gl_table.specs.Telling.{IsBySlot, notices_in};
+ghost use Rattle.gl_table.specs.Tellings.{told_but};
+ghost use Rattle.gl_table.specs.Tells.{IsOnWay, told_to};
+ghost use Rattle.gl_table.specs.Waiting.{Settled, is_wait, waits_for};
+
+use crate::boards::board;
+use crate::detect::Detect;
+use crate::locks::Locks;
+use crate::notice::{Notice, Told};
+use crate::seat::Seat;
+use crate::told::tell;
+use crate::txn::{Status, TxnId};
+use gl_graph::Graph;
+use gl_waits::{on_cycle, youngest};
+
+impl Locks {
+    /// With detection at block, settles a slot that has begun to wait. Answers who else is told, by
+    /// rising slot.
+    pub(crate) fn settle_asker(&mut self, graph: &Graph, detect: Detect, slot: u8) -> Told
+        requires sound { AreSound self.old }
+        requires orderly { IsOrderly (state_on (graph_of graph.now) self.old) }
+        requires agree { (u : ℕ) → Agrees (state_on (graph_of graph.now) self.old) self.old.lists.items u }
+        requires count { (u : ℕ) → CountsHeld (state_on (graph_of graph.now) self.old) self.old.lists.items u }
+        requires seated { slot < length self.old.seats.items }
+        ensures sound { AreSound self.new }
+        ensures state { WaitSettles detect (state_on (graph_of graph.now) self.old) slot (state_on (graph_of graph.now) self.new) }
+        ensures agree { (u : ℕ) → Agrees (state_on (graph_of graph.now) self.new) self.new.lists.items u }
+        ensures count { (u : ℕ) → CountsHeld (state_on (graph_of graph.now) self.new) self.new.lists.items u }
+        ensures told { result.items ≡ told_but slot (state_on (graph_of graph.now) self.old) (state_on (graph_of graph.now) self.new) }
+    {
+        let mut told = Told::new();
+        if matches!(detect, Detect::AtBlock) {
+            self.settle(graph, slot, &mut told);
+            told.retain(|notice| notice.0.slot != slot);
+        }
+        told
+    }
+
+    /// Condemns the youngest of those on a cycle with a slot, until the slot is on none. Each time
+    /// the victim's wait is given up, and its node grants from its front.
+    pub(crate) fn settle(&mut self, graph: &Graph, slot: u8, told: &mut Told)
+        requires sound { AreSound self.old }
+        requires orderly { IsOrderly (state_on (graph_of graph.now) self.old) }
+        requires agree { (u : ℕ) → Agrees (state_on (graph_of graph.now) self.old) self.old.lists.items u }
+        requires count { (u : ℕ) → CountsHeld (state_on (graph_of graph.now) self.old) self.old.lists.items u }
+        requires seated { slot < length self.old.seats.items }
+        requires by_slot { IsBySlot told.old.items }
+        requires untold { (u : ℕ) → is_wait (status_of (state_on (graph_of graph.now) self.old) u) ≡ true → notices_in told.old.items u ≡ None }
+        ensures sound { AreSound self.new }
+        ensures state { Settled (state_on (graph_of graph.now) self.old) slot (state_on (graph_of graph.now) self.new) }
+        ensures agree { (u : ℕ) → Agrees (state_on (graph_of graph.now) self.new) self.new.lists.items u }
+        ensures count { (u : ℕ) → CountsHeld (state_on (graph_of graph.now) self.new) self.new.lists.items u }
+        ensures by_slot { IsBySlot told.new.items }
+        ensures tells { (s : State) → IsOnWay s (state_on (graph_of graph.now) self.old)
+            → ((u : ℕ) → notices_in told.old.items u ≡ told_to s (state_on (graph_of graph.now) self.old) u)
+            → (u : ℕ) → notices_in told.new.items u ≡ told_to s (state_on (graph_of graph.now) self.new) u }
+    {
+        while let Some(victim) = self.victim(slot) {
+            self.condemn(graph, victim, told);
+        }
+    }
+
+    /// The youngest of those on a cycle with a slot; `None` where it is on none.
+    fn victim(&self, slot: u8) -> Option<u8>
+        requires sound { AreSound self.now }
+        requires seated { slot < length self.now.seats.items }
+        ensures none { IfNone result ((g : AGraph) → IsOrderly (state_on g self.now) → IsOnNoCycle (waits_for (state_on g self.now)) slot) }
+        ensures some { IfSome result (λ v. (g : AGraph) → IsOrderly (state_on g self.now) → IsYoungest (IsOnCycleOf (waits_for (state_on g self.now)) slot) (age_of (state_on g self.now)) v) }
+        ensures waits { IfSome result (λ v. (g : AGraph) → IsOrderly (state_on g self.now) → is_wait (status_of (state_on g self.now) v) ≡ true) }
+    {
+        let board = board(&self.headers, self.seats.as_slice(), 0);
+        let victim = youngest(&board, on_cycle(&board, slot as usize))?;
+        Some(victim as u8)
+    }
+
+    /// Gives up the wait of a slot, which is condemned and told so. Its node grants from its front.
+    fn condemn(&mut self, graph: &Graph, slot: u8, told: &mut Told)
+        requires sound { AreSound self.old }
+        requires orderly { IsOrderly (state_on (graph_of graph.now) self.old) }
+        requires agree { (u : ℕ) → Agrees (state_on (graph_of graph.now) self.old) self.old.lists.items u }
+        requires count { (u : ℕ) → CountsHeld (state_on (graph_of graph.now) self.old) self.old.lists.items u }
+        requires waits { is_wait (status_of (state_on (graph_of graph.now) self.old) slot) ≡ true }
+        requires by_slot { IsBySlot told.old.items }
+        requires untold { (u : ℕ) → is_wait (status_of (state_on (graph_of graph.now) self.old) u) ≡ true → notices_in told.old.items u ≡ None }
+        ensures sound { AreSound self.new }
+        ensures orderly { IsOrderly (state_on (graph_of graph.now) self.new) }
+        ensures state { state_on (graph_of graph.now) self.new ≡ condemned (state_on (graph_of graph.now) self.old) slot }
+        ensures agree { (u : ℕ) → Agrees (state_on (graph_of graph.now) self.new) self.new.lists.items u }
+        ensures count { (u : ℕ) → CountsHeld (state_on (graph_of graph.now) self.new) self.new.lists.items u }
+        ensures by_slot { IsBySlot told.new.items }
+        ensures untold { (u : ℕ) → is_wait (status_of (state_on (graph_of graph.now) self.new) u) ≡ true → notices_in told.new.items u ≡ None }
+        ensures ways { (s : State) → IsOnWay s (state_on (graph_of graph.now) self.old) → IsOnWay s (state_on (graph_of graph.now) self.new) }
+        ensures tells { (s : State) → IsOnWay s (state_on (graph_of graph.now) self.old)
+            → ((u : ℕ) → notices_in told.old.items u ≡ told_to s (state_on (graph_of graph.now) self.old) u)
+            → (u : ℕ) → notices_in told.new.items u ≡ told_to s (state_on (graph_of graph.now) self.new) u }
+    {
+        if let Some(
+            Seat {
+                age,
+                status: Status::Waiting { node, .. },
+            },
+        ) = self.seat(slot)
+        {
+            self.withdraw(graph, slot, node, Status::Condemned, told);
+            tell(told, TxnId { slot, age }, Notice::Victim);
+        }
+    }
+}

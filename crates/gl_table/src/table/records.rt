@@ -1,0 +1,70 @@
+//! Records come and go.
+
+ghost use Rattle.std.specs.Prelude.{◌≡◌, ◌∷◌, [], IfOk, None, OnErr, Some, length, true};
+ghost use Rattle.gl_modes.specs.declared.mode.Mode.TheVariants.{X};
+ghost use Rattle.gl_modes.specs.Modes.{same_mode};
+ghost use Rattle.gl_graph.specs.Changes.{IsBorn};
+ghost use Rattle.gl_graph.specs.Graph.{indexes_of, record_parents, shape_of};
+ghost use Rattle.gl_graph.specs.Refusals.{Refuses, first_refusal, too_many_nodes, worn_births};
+ghost use Rattle.gl_graph.specs.Shapes.{Rec, is_file_shape, is_record_shape};
+ghost use Rattle.gl_table.specs.Calls.{deleted};
+ghost use Rattle.gl_table.specs.Refusals.{first_not_ix};
+ghost use Rattle.gl_table.specs.State.{status_of, with_grant, with_graph};
+ghost use Rattle.gl_table.specs.Table.{state_of};
+ghost use Rattle.gl_table.specs.Tellings.{told};
+ghost use Rattle.gl_table.specs.declared.txn.Status.TheVariants.{Active};
+
+use super::Table;
+use crate::notice::Told;
+use crate::txn::TxnId;
+use gl_modes::{NodeId, Refusal};
+
+/// How many nodes may live at once.
+const MOST_NODES: usize = 65_536;
+
+impl Table {
+    /// Makes a record of a file, with a key for each of the file's indexes, in order of their making,
+    /// and gives it in X to an active transaction that holds each of the record's parents in IX or
+    /// greater: the file and, for each index, the interval that holds the key.
+    ///
+    /// Refused, in this order, with `WornOut`, `TooManyNodes` and `NoMemory`. All room is made before
+    /// anything changes.
+    pub fn place(&mut self, t: TxnId, file: NodeId, keys: &[u64]) -> Result<NodeId, Refusal>
+        requires active { status_of (state_of self.old) t.slot ≡ Some Active }
+        requires file { is_file_shape (shape_of (state_of self.old).graph file) ≡ true }
+        requires keys { length keys.now ≡ length (indexes_of (state_of self.old).graph file) }
+        requires parents { first_not_ix ((state_of self.old).held t.slot) (record_parents (state_of self.old).graph file keys.now) ≡ None }
+        ensures made { IfOk result (λ n. IsBorn (state_of self.old).graph (state_of self.new).graph n (Rec keys.now) (record_parents (state_of self.old).graph file keys.now)) }
+        ensures state { IfOk result (λ n. state_of self.new ≡ with_grant (with_graph (state_of self.old) (state_of self.new).graph) t.slot n X) }
+        ensures refuses { Refuses (first_refusal (worn_births (state_of self.old).graph ∷ too_many_nodes (state_of self.old).graph 1 ∷ [])) result }
+        ensures err { OnErr result (self.new ≡ self.old) }
+    {
+        if self.graph.worn() {
+            return Err(Refusal::WornOut);
+        }
+        if self.graph.len() >= MOST_NODES {
+            return Err(Refusal::TooManyNodes);
+        }
+        let header = self.locks.prepare(t.slot)?;
+        let rec = self.graph.add_record(file, keys)?;
+        self.locks.place(&self.graph, t.slot, rec, header);
+        Ok(rec)
+    }
+
+    /// Takes a record away that an active transaction holds in X. Each waiter on it is active again.
+    /// Answers who is told that it is gone, by rising slot.
+    ///
+    /// It takes no memory, and looks at the record's parents and waiters alone.
+    pub fn remove(&mut self, t: TxnId, rec: NodeId) -> Told
+        requires active { status_of (state_of self.old) t.slot ≡ Some Active }
+        requires record { is_record_shape (shape_of (state_of self.old).graph rec) ≡ true }
+        requires exclusive { same_mode ((state_of self.old).held t.slot rec) X ≡ true }
+        ensures state { state_of self.new ≡ deleted (state_of self.old) rec }
+        ensures told { result.items ≡ told (state_of self.old) (state_of self.new) }
+    {
+        let mut told = Told::new();
+        self.locks.vacate(&self.graph, t.slot, rec, &mut told);
+        self.graph.remove_record(rec);
+        told
+    }
+}

@@ -1,0 +1,65 @@
+//! Waits are given up.
+
+ghost use Rattle.std.specs.Prelude.{◌≡◌, IfOk, OnErr, OnOk, true};
+ghost use Rattle.gl_graph.specs.Refusals.{first_refusal};
+ghost use Rattle.gl_table.specs.Answers.{RefusesOnly};
+ghost use Rattle.gl_table.specs.Calls.{cancelled};
+ghost use Rattle.gl_table.specs.Pumps.{is_waiting_at};
+ghost use Rattle.gl_table.specs.Refusals.{cancel_tests, living_tests};
+ghost use Rattle.gl_table.specs.Table.{state_of};
+ghost use Rattle.gl_table.specs.Tellings.{told, told_but};
+ghost use Rattle.gl_table.specs.Waiting.{Settled};
+
+use super::Table;
+use crate::notice::Told;
+use crate::txn::{Status, TxnId};
+use gl_modes::{NodeId, Refusal};
+
+impl Table {
+    /// Takes back the wait of a transaction, which is active then; its node grants from its front.
+    /// Answers who else is told of a grant, by rising slot.
+    ///
+    /// Refused, in this order, with `NoSuchTxn`, `TxnCondemned` and `NotWaiting`. It takes no memory.
+    pub fn cancel(&mut self, t: TxnId) -> Result<Told, Refusal>
+        ensures told { IfOk result (λ list. list.items ≡ told_but t.slot (state_of self.old) (state_of self.new)) }
+        ensures state { OnOk result (state_of self.new ≡ cancelled (state_of self.old) t.slot) }
+        ensures refuses { RefusesOnly (first_refusal (cancel_tests (state_of self.old) t)) result }
+        ensures err { OnErr result (self.new ≡ self.old) }
+    {
+        let node = self.check_waiting(t)?;
+        let mut told = Told::new();
+        self.locks
+            .withdraw(&self.graph, t.slot, node, Status::Active, &mut told);
+        Ok(told)
+    }
+
+    /// While the transaction waits in a circle, condemns the youngest of those on a circle with it.
+    /// Each victim's wait is given up, and its node grants from its front. Answers who is told of a
+    /// grant or of being a victim, by rising slot.
+    ///
+    /// Refused with `NoSuchTxn`. It takes no memory.
+    pub fn settle(&mut self, t: TxnId) -> Result<Told, Refusal>
+        ensures told { IfOk result (λ list. list.items ≡ told (state_of self.old) (state_of self.new)) }
+        ensures state { OnOk result (Settled (state_of self.old) t.slot (state_of self.new)) }
+        ensures refuses { RefusesOnly (first_refusal (living_tests (state_of self.old) t)) result }
+        ensures err { OnErr result (self.new ≡ self.old) }
+    {
+        self.check_txn(t)?;
+        let mut told = Told::new();
+        self.locks.settle(&self.graph, t.slot, &mut told);
+        Ok(told)
+    }
+
+    /// The node that the transaction waits for, where its wait can be taken back.
+    fn check_waiting(&self, t: TxnId) -> Result<NodeId, Refusal>
+        ensures waits { IfOk result (λ n. is_waiting_at (state_of self.now) t.slot n ≡ true) }
+        ensures refuses { RefusesOnly (first_refusal (cancel_tests (state_of self.now) t)) result }
+    {
+        match self.status(t) {
+            Some(Status::Waiting { node, .. }) => Ok(node),
+            Some(Status::Active) => Err(Refusal::NotWaiting),
+            Some(Status::Condemned) => Err(Refusal::TxnCondemned),
+            None => Err(Refusal::NoSuchTxn),
+        }
+    }
+}
