@@ -60,6 +60,7 @@ pub mod Released
 pub mod FirstChild
 pub mod Childless
 pub mod Queries
+pub mod WritesBelow
 pub mod Begins
 pub mod TableCalls
 pub mod Rules

@@ -12,10 +12,11 @@ ghost use Rattle.gl_graph.specs.View.{graph_of};
 ghost use Rattle.gl_modes.specs.declared.node.NodeId.{NodeId as Node};
 ghost use Rattle.gl_modes.specs.Modes.{same_mode};
 ghost use Rattle.gl_modes.specs.Nodes.{same_node};
+ghost use Rattle.gl_table.specs.Intends.{is_write};
 ghost use Rattle.gl_table.specs.Lists.{HasRoom, IsApart, count_of, entry_of, is_listed, mode_of, unlisted};
 
 use gl_graph::Graph;
-use gl_modes::{Mode, NodeId};
+use gl_modes::{Mode, NodeId, covers};
 use indexmap::IndexMap;
 use std::alloc::{AllocError, Global};
 
@@ -264,6 +265,25 @@ impl LockList {
         } else {
             found
         }
+    }
+
+    /// Whether some child of a node is held in `IX`, `SIX` or `X`.
+    ///
+    /// Goes over all that is listed.
+    pub(crate) fn writes_below(&self, graph: &Graph, node: NodeId) -> bool
+        requires live { (c : Node) → not (same_mode (mode_of self.now c) NL) ≡ true → is_live (graph_of graph.now) c ≡ true }
+        ensures { result ≡ list_any (λ c. is_child (graph_of graph.now) node c && is_write (mode_of self.now c)) (nodes (graph_of graph.now)) }
+    {
+        graph.law();
+        self.writes_among(graph, node, self.entries.keys().as_slice())
+    }
+
+    /// Whether some of these is a child of the node and held in `IX`, `SIX` or `X`.
+    fn writes_among(&self, graph: &Graph, node: NodeId, nodes: &[NodeId]) -> bool
+        ensures { result ≡ list_any (λ c. is_child (graph_of graph.now) node c && is_write (mode_of self.now c)) nodes.now }
+    {
+        nodes.iter().any(|child| is_child(graph, node, *child)
+            && covers(self.mode(*child), Mode::IX))
     }
 }
 

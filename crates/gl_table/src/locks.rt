@@ -5,12 +5,13 @@ ghost use Rattle.gl_modes.specs.declared.mode.Mode.{Mode as AMode};
 ghost use Rattle.gl_modes.specs.declared.mode.Mode.TheVariants.{NL};
 ghost use Rattle.gl_modes.specs.declared.node.NodeId.{NodeId as Node};
 ghost use Rattle.std.specs.Prelude.{◌&&◌};
-ghost use Rattle.std.specs.List.{find};
+ghost use Rattle.std.specs.List.{find, list_any};
 ghost use Rattle.gl_graph.specs.Graph.{is_child, is_live, nodes, parents_of};
 ghost use Rattle.gl_graph.specs.Lawful.{IsLawfulGraph};
 ghost use Rattle.gl_graph.specs.View.{graph_of};
 ghost use Rattle.gl_header.specs.Header.{holds, is_among_waiters};
 ghost use Rattle.gl_table.specs.Calls.{enters_at, granted, unlocked, wanted};
+ghost use Rattle.gl_table.specs.Intends.{is_write};
 ghost use Rattle.gl_table.specs.Locks.{Agrees, AreSound, CountsHeld, IsOrderly, state_on};
 ghost use Rattle.gl_table.specs.Pumps.{front_at, is_waiting_at, pumped, without_wait};
 ghost use Rattle.gl_table.specs.Locks.{AreNew};
@@ -104,6 +105,17 @@ impl Locks {
         match self.lists.get(slot as usize) {
             Some(list) => list.first_child(graph, node),
             None => None,
+        }
+    }
+
+    /// Whether a slot holds some child of a node in `IX`, `SIX` or `X`.
+    pub(crate) fn writes_below(&self, graph: &Graph, slot: u8, node: NodeId) -> bool
+        requires live { (c : Node) → holds (λ t. held_by self.now.lists.items t c) slot ≡ true → is_live (graph_of graph.now) c ≡ true }
+        ensures { result ≡ list_any (λ c. is_child (graph_of graph.now) node c && is_write (held_by self.now.lists.items slot c)) (nodes (graph_of graph.now)) }
+    {
+        match self.lists.get(slot as usize) {
+            Some(list) => list.writes_below(graph, node),
+            None => false,
         }
     }
 

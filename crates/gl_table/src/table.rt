@@ -20,6 +20,7 @@ use std::alloc::{AllocError, Global};
 use std::marker::Model;
 
 mod begin;
+mod below;
 mod checks;
 mod lock;
 mod moves;

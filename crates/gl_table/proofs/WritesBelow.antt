@@ -1,0 +1,68 @@
+-- Whether some child is held to write, asked of what is listed.
+use Rattle.std.specs.Prelude.{◌≡◌, ℕ, Bool, true, false, not, ◌&&◌, ◌||◌, List, [], ◌∷◌, None, slice_get}
+use Rattle.std.specs.List.{list_any}
+use Rattle.std.specs.Option.{option_map_or}
+use Rattle.std.proofs.Common.{sym, refl, ap, ap₂, ◌∙◌, rules}
+use Rattle.std.proofs.Math.Path.{fun_ext}
+use Rattle.gl_modes.specs.declared.mode.Mode.{Mode}
+use Rattle.gl_modes.specs.declared.mode.Mode.TheVariants.{NL}
+use Rattle.gl_modes.specs.declared.node.NodeId.{NodeId}
+use Rattle.gl_modes.specs.Modes.{same_mode}
+use Rattle.gl_modes.specs.Nodes.{same_node}
+use Rattle.indexmap.specs.IndexMap.{keys}
+use Rattle.gl_graph.specs.Graph.{Graph, is_child, is_live, nodes}
+use Rattle.gl_graph.specs.Lawful.{IsLawfulGraph}
+use Rattle.gl_graph.proofs.Look.{and_both, split}
+use Rattle.gl_graph.proofs.RouteLengths.{listed}
+use Rattle.gl_header.proofs.Ranges.{not_true}
+use Rattle.gl_graph.specs.View.{graph_of}
+use Rattle.gl_table.specs.declared.list.LockList.{LockList}
+use Rattle.gl_table.specs.declared.table.Table.TheInside.{Inside}
+use Rattle.gl_table.specs.Intends.{is_write}
+use Rattle.gl_table.specs.Lists.{mode_of}
+use Rattle.gl_table.specs.Slots.{held_by}
+use Rattle.gl_table.specs.Sound.{IsSound, view_of}
+use Rattle.gl_table.specs.Table.{TableView, state_of}
+use Rattle.gl_table.proofs.Effects.{any_found}
+use Rattle.gl_table.proofs.FirstChild.{held_listed}
+use Rattle.gl_table.proofs.Queries.{modes-seen}
+use Rattle.gl_table.proofs.Queues.{clash}
+use Rattle.gl_table.proofs.TestsPass.{one_found}
+
+-- where all that pass a test stand in both of two lists, some pass it in one where some do in the other
+any_alike : (p : NodeId → Bool) (xs ys : List NodeId) → ((c : NodeId) → p c ≡ true → list_any (same_node c) xs ≡ true) → ((c : NodeId) → p c ≡ true → list_any (same_node c) ys ≡ true) → list_any p xs ≡ list_any p ys
+any_alike p xs ys in_xs in_ys = split (list_any p ys)
+    (λ e. let f = any_found p ys e in one_found p f.0 xs f.2 (in_xs f.0 f.2) ∙ sym e)
+    (λ e. not_true _ (λ h. let f = any_found p xs h in clash (one_found p f.0 ys f.2 (in_ys f.0 f.2)) e) ∙ sym e)
+
+-- a mode to write is one
+write_held : (m : Mode) → is_write m ≡ true → not (same_mode m NL) ≡ true
+write_held m h = search rules
+
+-- all that is held is listed, and lives
+pub writes_listed : (g : Graph) → IsLawfulGraph g → (l : LockList) (n : NodeId) → ((c : NodeId) → not (same_mode (mode_of l c) NL) ≡ true → is_live g c ≡ true)
+    → list_any (λ c. is_child g n c && is_write (mode_of l c)) (keys l.entries) ≡ list_any (λ c. is_child g n c && is_write (mode_of l c)) (nodes g)
+writes_listed g law l n live = any_alike (λ c. is_child g n c && is_write (mode_of l c)) (keys l.entries) (nodes g) (λ c h. held_listed l c (held c h)) (λ c h. listed g law c (live c (held c h)))
+  where
+    held : (c : NodeId) → (is_child g n c && is_write (mode_of l c)) ≡ true → not (same_mode (mode_of l c) NL) ≡ true
+    held c h = write_held (mode_of l c) (and_both (is_child g n c) (is_write (mode_of l c)) h).1
+
+-- a slot without list holds nothing to write
+pub no_writes : (ls : List LockList) (g : Graph) (t : ℕ) (n : NodeId) → slice_get ls t ≡ None → false ≡ list_any (λ c. is_child g n c && is_write (held_by ls t c)) (nodes g)
+no_writes ls g t n e = sym (none_passes (nodes g))
+  where
+    and_off : (a b : Bool) → b ≡ false → (a && b) ≡ false
+    and_off true b h = h
+    and_off false b h = refl
+
+    fails : (c : NodeId) → (is_child g n c && is_write (held_by ls t c)) ≡ false
+    fails c = and_off (is_child g n c) _ (ap (λ o. is_write (option_map_or (λ l. mode_of l c) o NL)) e)
+
+    none_passes : (ns : List NodeId) → list_any (λ c. is_child g n c && is_write (held_by ls t c)) ns ≡ false
+    none_passes [] = refl
+    none_passes (c ∷ ns) = ap₂ (λ a b. a || b) (fails c) (none_passes ns)
+
+-- what the lists say is held to write is what the state says
+pub writes-seen : (i : Inside) → IsSound i → (v : TableView) → view_of i ≡ v → (t : ℕ) (n : NodeId)
+    → list_any (λ c. is_child (graph_of i.graph) n c && is_write (held_by i.locks.lists.items t c)) (nodes (graph_of i.graph)) ≡ list_any (λ c. is_child (state_of v).graph n c && is_write ((state_of v).held t c)) (nodes (state_of v).graph)
+writes-seen i sound v view t n = ap₂ (λ (w : TableView) (h : NodeId → Mode). list_any (λ c. is_child (graph_of w.graph) n c && is_write (h c)) (nodes (graph_of w.graph))) view (fun_ext (modes-seen i sound v view t))
