@@ -113,3 +113,9 @@ pub mod TurnedAway
 pub mod Recounted
 pub mod MoveTold
 pub mod TableMoves
+-- what covered children leave
+pub mod Marked
+pub mod MarkedLists
+pub mod TableSheds
+pub mod MarkedPlaces
+pub mod MarkedCovered

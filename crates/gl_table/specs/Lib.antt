@@ -25,3 +25,4 @@ pub mod Sound
 pub mod Answers
 pub mod Frees
 pub mod OneHolder
+pub mod Marks

@@ -1,15 +1,18 @@
 //! The list of one transaction.
 
 ghost use Rattle.std.specs.Prelude.{◌≡◌, ℕ, ◌+◌, ◌<◌, ◌≤◌, ◌^◌, ◌&&◌, ◌||◌, not, true, false, length, OnOk, IfSome, IfNone, if◌then◌else◌};
-ghost use Rattle.std.specs.List.{count_by, list_any};
+ghost use Rattle.std.specs.List.{count_by, list_all, list_any};
 ghost use Rattle.indexmap.specs.IndexMap.{spare};
-ghost use Rattle.std.specs.Prelude.{Some, nat_lt};
+ghost use Rattle.std.specs.Prelude.{Some, nat_lt, slice_get};
 ghost use Rattle.std.specs.List.{find};
 ghost use Rattle.std.specs.Option.{option_map_or};
-ghost use Rattle.gl_modes.specs.declared.mode.Mode.TheVariants.{NL};
-ghost use Rattle.gl_graph.specs.Graph.{is_child, is_live, nodes};
+ghost use Rattle.gl_modes.specs.declared.mode.Mode.TheVariants.{NL, X};
+ghost use Rattle.gl_graph.specs.Graph.{is_child, is_live, nodes, parents_of};
 ghost use Rattle.gl_graph.specs.View.{graph_of};
 ghost use Rattle.gl_modes.specs.declared.node.NodeId.{NodeId as Node};
+ghost use Rattle.gl_table.specs.Marks.{NoneMarkedFrom, covered_in};
+ghost use Rattle.indexmap.specs.IndexMap.{keys, swap_remove_entry};
+ghost use Rattle.std.specs.Map.{keys_of};
 ghost use Rattle.gl_modes.specs.Modes.{same_mode};
 ghost use Rattle.gl_modes.specs.Nodes.{same_node};
 ghost use Rattle.gl_table.specs.Intends.{is_write};
@@ -113,6 +116,7 @@ impl LockList {
         ensures modes { (q : Node) → mode_of self.new q ≡ (if same_node q n then mode else mode_of self.old q) }
         ensures counts { (q : Node) → count_of self.new q ≡ count_of self.old q }
         ensures loose { self.new.loose ≡ self.old.loose }
+        ensures keys { keys self.new.entries ≡ keys self.old.entries }
     {
         if let Some(entry) = self.entries.get_mut(&n) {
             entry.mode = mode;
@@ -127,6 +131,7 @@ impl LockList {
         ensures modes { (q : Node) → mode_of self.new q ≡ (if same_node q n then NL else mode_of self.old q) }
         ensures counts { (q : Node) → count_of self.new q ≡ count_of self.old q }
         ensures apart { IsApart self.new }
+        ensures keys { keys self.new.entries ≡ keys_of (swap_remove_entry (same_node n) self.old.entries.entries) }
     {
         if let Some(entry) = self.entries.swap_remove(&n) {
             if entry.children > 0 {
@@ -179,6 +184,7 @@ impl LockList {
         ensures counts { (q : Node) → count_of self.new q + count_by (same_node q) parents.now ≡ count_of self.old q }
         ensures apart { IsApart self.new }
         ensures room { spare self.old.loose ≤ spare self.new.loose }
+        ensures keys { keys self.new.entries ≡ keys self.old.entries }
     {
         for parent in parents {
             self.count_one_down(*parent);
@@ -194,6 +200,7 @@ impl LockList {
         ensures counts { (q : Node) → count_of self.new q + (if same_node q n then 1 else 0) ≡ count_of self.old q }
         ensures apart { IsApart self.new }
         ensures room { spare self.old.loose ≤ spare self.new.loose }
+        ensures keys { keys self.new.entries ≡ keys self.old.entries }
     {
         if let Some(entry) = self.entries.get_mut(&n) {
             entry.children -= 1;
@@ -284,6 +291,98 @@ impl LockList {
     {
         nodes.iter().any(|child| is_child(graph, node, *child)
             && covers(self.mode(*child), Mode::IX))
+    }
+
+    /// How many nodes are listed.
+    pub(crate) fn len(&self) -> usize
+        ensures { result ≡ length (keys self.now.entries) }
+    {
+        self.entries.len()
+    }
+
+    /// Marks the covered children of a node by the mode `NL`.
+    pub(crate) fn mark_covered(&mut self, graph: &Graph, node: NodeId)
+        requires counted { (c p : Node) → not (same_mode (mode_of self.old c) NL) ≡ true → list_any (same_node p) (parents_of (graph_of graph.now) c) ≡ true → 0 < count_of self.old p }
+        ensures listed { (q : Node) → is_listed self.new q ≡ is_listed self.old q }
+        ensures modes { (q : Node) → mode_of self.new q ≡ (if covered_in (graph_of graph.now) self.old node q then NL else mode_of self.old q) }
+        ensures counts { (q : Node) → count_of self.new q ≡ count_of self.old q }
+        ensures loose { self.new.loose ≡ self.old.loose }
+    {
+        for at in 0..self.entries.len() {
+            self.mark_one(graph, node, at);
+        }
+    }
+
+    /// Marks the node at a place where it is a covered child.
+    fn mark_one(&mut self, graph: &Graph, node: NodeId, at: usize)
+        requires within { at < length (keys self.old.entries) }
+        ensures marks { (n : Node) → slice_get (keys self.old.entries) at ≡ Some n → (q : Node)
+            → mode_of self.new q ≡ (if same_node q n && covered_in (graph_of graph.now) self.old node n then NL else mode_of self.old q) }
+        ensures listed { (q : Node) → is_listed self.new q ≡ is_listed self.old q }
+        ensures counts { (q : Node) → count_of self.new q ≡ count_of self.old q }
+        ensures loose { self.new.loose ≡ self.old.loose }
+        ensures keys { keys self.new.entries ≡ keys self.old.entries }
+    {
+        if let Some((child, _)) = self.entries.get_index(at) {
+            let child = *child;
+            if self.covers(graph, node, child) {
+                self.set_mode(child, Mode::NL);
+            }
+        }
+    }
+
+    /// Whether the node is a child that the lock on a node covers.
+    fn covers(&self, graph: &Graph, node: NodeId, child: NodeId) -> bool
+        ensures { result ≡ covered_in (graph_of graph.now) self.now node child }
+    {
+        is_child(graph, node, child)
+            && self.holds(child)
+            && self.count(child) == 0
+            && (self.mode(child) != Mode::X || self.all_exclusive(graph.parents(child)))
+    }
+
+    /// How many children of the node are held.
+    fn count(&self, n: NodeId) -> u32
+        ensures { result ≡ count_of self.now n }
+    {
+        match self.entry(n) {
+            Some(entry) => entry.children,
+            None => self.loose.get(&n).copied().unwrap_or(0),
+        }
+    }
+
+    /// Whether all of these are held in `X`.
+    fn all_exclusive(&self, parents: &[NodeId]) -> bool
+        ensures { result ≡ list_all (λ p. same_mode (mode_of self.now p) X) parents.now }
+    {
+        parents.iter().all(|parent| self.mode(*parent) == Mode::X)
+    }
+
+    /// Takes out the node at a place if it is marked; each of its parents has one held child less.
+    /// The nodes further back are not marked.
+    pub(crate) fn take_marked(&mut self, graph: &Graph, at: usize) -> Option<NodeId>
+        requires within { at < length (keys self.old.entries) }
+        requires apart { IsApart self.old }
+        requires childless { (c : Node) → is_listed self.old c ≡ true → mode_of self.old c ≡ NL → count_of self.old c ≡ 0 }
+        requires counted { (c q : Node) → is_listed self.old c ≡ true → mode_of self.old c ≡ NL → count_by (same_node q) (parents_of (graph_of graph.now) c) ≤ count_of self.old q }
+        requires passed { NoneMarkedFrom self.old (at + 1) }
+        ensures apart { IsApart self.new }
+        ensures passed { NoneMarkedFrom self.new at }
+        ensures len { at ≤ length (keys self.new.entries) }
+        ensures none { IfNone result (self.new ≡ self.old) }
+        ensures was { IfSome result (λ n. is_listed self.old n ≡ true) }
+        ensures was_marked { IfSome result (λ n. mode_of self.old n ≡ NL) }
+        ensures listed { IfSome result (λ n. (q : Node) → is_listed self.new q ≡ (is_listed self.old q && not (same_node q n))) }
+        ensures modes { IfSome result (λ n. (q : Node) → mode_of self.new q ≡ mode_of self.old q) }
+        ensures counts { IfSome result (λ n. (q : Node) → count_of self.new q + count_by (same_node q) (parents_of (graph_of graph.now) n) ≡ count_of self.old q) }
+    {
+        let node = *self.entries.get_index(at)?.0;
+        if self.holds(node) {
+            return None;
+        }
+        self.leave(node);
+        self.count_down(graph.parents(node));
+        Some(node)
     }
 }
 

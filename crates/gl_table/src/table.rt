@@ -28,6 +28,7 @@ mod nodes;
 mod queries;
 mod records;
 mod release;
+mod shed;
 mod waits;
 
 /// The table of locks: the lock graph, who holds what, and who waits where.

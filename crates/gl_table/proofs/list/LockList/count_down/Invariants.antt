@@ -1,6 +1,6 @@
 use Rattle.std.proofs.Common.{◌≡◌, ◌+◌, ◌≤◌, take}
 use Rattle.std.specs.List.{count_by}
-use Rattle.indexmap.specs.IndexMap.{spare}
+use Rattle.indexmap.specs.IndexMap.{keys, spare}
 use Rattle.gl_modes.specs.declared.node.NodeId.{NodeId as Node}
 use Rattle.gl_modes.specs.Nodes.{same_node}
 use Rattle.gl_table.specs.Lists.{IsApart, count_of, is_listed, mode_of}
@@ -13,4 +13,5 @@ invariant-loop-parent l = record {
   modes : (q : Node) → mode_of l.self q ≡ mode_of l.fn.self q;
   counts : (q : Node) → count_of l.self q + count_by (same_node q) (take l.parent-index l.parents) ≡ count_of l.fn.self q;
   room : spare l.fn.self.loose ≤ spare l.self.loose;
+  keys : keys l.self.entries ≡ keys l.fn.self.entries;
 }

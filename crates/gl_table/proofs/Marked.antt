@@ -1,0 +1,333 @@
+-- Marked children are released, one after the other: what holds after each.
+use Rattle.std.specs.Prelude.{◌≡◌, ℕ, zero, suc, ◌+◌, ◌≤◌, ◌<◌, Bool, true, false, cond, not, ◌&&◌, ◌||◌, ◌==◌, List, [], ◌∷◌, drop, length, map, Option, Some, None, is_some, if◌then◌else◌, slice_get}
+use Rattle.std.specs.List.{count_by, list_all, list_any}
+use Rattle.std.specs.Map.{lookup}
+use Rattle.std.proofs.Common.{refl, sym, ap, ap₂, ◌∙◌, subst, arith}
+use Rattle.std.proofs.Math.Bool.{and-false, and-not_self, and-true, or-true}
+use Rattle.std.proofs.Math.Path.{fun_ext}
+use Rattle.indexmap.specs.IndexMap.{keys}
+use Rattle.gl_modes.specs.declared.mode.Mode.{Mode}
+use Rattle.gl_modes.specs.declared.mode.Mode.TheVariants.{NL, X}
+use Rattle.gl_modes.specs.declared.node.NodeId.{NodeId}
+use Rattle.gl_modes.specs.Modes.{same_mode}
+use Rattle.gl_modes.specs.Nodes.{same_node}
+use Rattle.gl_modes.proofs.NodeLemmas.{same_node-equal, same_node-refl, same_node-sym}
+use Rattle.gl_graph.specs.Graph.{Graph, is_child, nodes, parents_of}
+use Rattle.gl_graph.specs.Lawful.{IsLawfulGraph}
+use Rattle.gl_graph.proofs.Counts.{count_cons}
+use Rattle.gl_graph.proofs.Look.{and_both, number_same, split}
+use Rattle.gl_graph.proofs.Unrefused.{or_no}
+use Rattle.gl_header.specs.Header.{Members, Waiter, after_grants, front, holds, is_among_waiters}
+use Rattle.gl_header.proofs.Ranges.{not_true}
+use Rattle.gl_table.specs.declared.list.LockList.{LockList}
+use Rattle.gl_table.specs.declared.notice.Notice.TheVariants as notice
+use Rattle.gl_table.specs.declared.txn.Status.TheVariants.{Active}
+use Rattle.gl_table.specs.declared.txn.TxnId.{TxnId}
+use Rattle.gl_table.specs.Calls.{shed, unlocked}
+use Rattle.gl_table.specs.Covered.{held_children, holds_child, is_covered}
+use Rattle.gl_table.specs.Lists.{IsApart, count_of, is_listed, mode_of}
+use Rattle.gl_table.specs.Locks.{Agrees, CountsHeld, IsOrderly}
+use Rattle.gl_table.specs.Marks.{IsShedding, NoneMarkedFrom}
+use Rattle.gl_table.specs.Pumps.{front_at, granted_at, pumped, woken}
+use Rattle.gl_table.specs.Slots.{WakesLists, WakesTold, grant_notice, mode_given}
+use Rattle.gl_table.specs.State.{State, Txn, members, restatus, status_in, status_of, with_grant}
+use Rattle.gl_table.specs.Telling.{IsBySlot, notices_in}
+use Rattle.gl_table.specs.Tellings.{Told}
+use Rattle.gl_table.specs.Tells.{IsOnWay, told_to}
+use Rattle.gl_table.specs.Waiting.{is_wait}
+use Rattle.gl_table.proofs.Children.{children_down}
+use Rattle.gl_table.proofs.Departures.{StillTells, left_by}
+use Rattle.gl_table.proofs.GrantKeeps.{nl_is}
+use Rattle.gl_table.proofs.OneWaits.{front_stands, well_granted, woken_front}
+use Rattle.gl_table.proofs.Orderly.{in_no_queue, orderly_unlocked}
+use Rattle.gl_table.proofs.Pumps.{pumped-pumped}
+use Rattle.gl_table.proofs.Queues.{clash}
+use Rattle.gl_table.proofs.Tells.{release_tells, woken_same}
+use Rattle.gl_table.proofs.Unlocked.{agrees_unlocked, counts_unlocked, unlocked_own}
+use Rattle.gl_table.proofs.Ways.{way_releases}
+
+-- the state without t's grants on these nodes
+abbrev pub taken_from : State → ℕ → (NodeId → Bool) → State
+taken_from s t left = record s { held = λ u q. if (u == t) && left q then NL else s.held u q }
+
+-- where nothing is taken nothing grants
+pub taken_none : (s : State) (t : ℕ) → s ≡ pumped (taken_from s t (λ q. false)) (λ q. false)
+taken_none s t = λ i. record s { held = λ u q. by (u == t) (s.held u q) i; txns = λ u. sym (woken_same (λ q. []) u (λ q. refl) (s.txns u)) i }
+  where
+    by : (a : Bool) (m : Mode) → m ≡ (if a && false then NL else m)
+    by true m = refl
+    by false m = refl
+
+-- one node more is taken from t, and grants from its front
+module _ (s : State) (t : ℕ) (c : NodeId) (left : NodeId → Bool) (off : left c ≡ false) where
+  abbrev more : NodeId → Bool
+  more q = left q || same_node c q
+
+  apart : (q : NodeId) → left q ≡ true → same_node c q ≡ false
+  apart q h = not_true _ (λ k. clash (ap left (same_node-equal c q k) ∙ h) off)
+
+  same_front : (q : NodeId) → granted_at (taken_from s t left) left q ≡ granted_at (taken_from s t more) left q
+  same_front q = by (left q) (same_node c q)
+    where
+      by : (b x : Bool)
+          → (if b then front s.most (λ u. if (u == t) && b then NL else s.held u q) (s.queue q) else [])
+          ≡ (if b then front s.most (λ u. if (u == t) && (b || x) then NL else s.held u q) (s.queue q) else [])
+      by true x = refl
+      by false x = refl
+
+  same_held : (u : ℕ) (q : NodeId) → (with_grant (pumped (taken_from s t left) left) t c NL).held u q ≡ (pumped (taken_from s t more) left).held u q
+  same_held u q = by (left q) (same_node c q) (same_node q c) (same_node-sym q c) (apart q)
+    where
+      none : (a x : Bool) (m : Mode) → (if a && x then NL else (if a && false then NL else m)) ≡ (if a && (false || x) then NL else m)
+      none true true m = refl
+      none true false m = refl
+      none false x m = refl
+
+      kept : (a : Bool) (m : Mode) → (if a && false then NL else m) ≡ m
+      kept true m = refl
+      kept false m = refl
+
+      by : (b x y : Bool) → y ≡ x → (b ≡ true → x ≡ false)
+          → (if (u == t) && y then NL else after_grants (λ v. if (v == t) && b then NL else s.held v q) (if b then front s.most (λ v. if (v == t) && b then NL else s.held v q) (s.queue q) else []) u)
+          ≡ after_grants (λ v. if (v == t) && (b || x) then NL else s.held v q) (if b then front s.most (λ v. if (v == t) && (b || x) then NL else s.held v q) (s.queue q) else []) u
+      by true x true e f = clash (sym e) (f refl)
+      by true x false e f = kept (u == t) _
+      by false x y e f = ap (λ z. if (u == t) && z then NL else (if (u == t) && false then NL else s.held u q)) e ∙ none (u == t) x (s.held u q)
+
+  same_taken : with_grant (pumped (taken_from s t left) left) t c NL ≡ pumped (taken_from s t more) left
+  same_taken = λ i. record s {
+    held = λ u q. same_held u q i;
+    queue = λ q. ap (λ ws. drop (length ws) (s.queue q)) (same_front q) i;
+    txns = λ u. ap (λ (g : NodeId → List Waiter). woken g u (s.txns u)) (fun_ext same_front) i;
+  }
+
+  pub taken_one : (now : State) → now ≡ pumped (taken_from s t left) left → unlocked now t c ≡ pumped (taken_from s t more) more
+  taken_one now is =
+      ap (λ x. unlocked x t c) is
+      ∙ ap (λ x. pumped x (same_node c)) same_taken
+      ∙ pumped-pumped (taken_from s t more) left (same_node c) (λ q. not_true _ (λ h. let both = and_both (left q) (same_node c q) h in clash both.1 (apart q both.0)))
+
+-- t released some of the children of n that were covered in s
+pub record IsReleasing (s now : State) (t : ℕ) (n : NodeId) (ls : List LockList) (l : LockList) (was told : Told) : Type 0 where
+  pub graph : now.graph ≡ s.graph
+  pub orderly : IsOrderly now
+  pub most : now.most ≡ s.most
+  pub active : status_of now t ≡ Some Active
+  pub agree : (u : ℕ) → (u == t) ≡ false → Agrees now ls u
+  pub count : (u : ℕ) → (u == t) ≡ false → CountsHeld now ls u
+  pub marked : IsShedding s now t n l
+  pub less : (q : NodeId) → holds (members now q) t ≡ true → holds (members s q) t ≡ true
+  pub left : now ≡ pumped (taken_from s t (left_by s now t)) (left_by s now t)
+  pub covered : (q : NodeId) → left_by s now t q ≡ true → is_covered s t n q ≡ true
+  pub by_slot : IsBySlot told
+  pub untold : (u : ℕ) → is_wait (status_of now u) ≡ true → notices_in told u ≡ None
+  pub own : notices_in told t ≡ notices_in was t
+  pub tells : StillTells s now t was told
+
+-- at the beginning none is released
+pub releasing_begins : (s : State) (t : ℕ) (n : NodeId) (ls : List LockList) (l : LockList) (told : Told) → IsOrderly s → status_of s t ≡ Some Active → ((u : ℕ) → (u == t) ≡ false → Agrees s ls u)
+    → ((u : ℕ) → (u == t) ≡ false → CountsHeld s ls u) → IsShedding s s t n l → IsBySlot told → ((u : ℕ) → is_wait (status_of s u) ≡ true → notices_in told u ≡ None) → IsReleasing s s t n ls l told told
+releasing_begins s t n ls l told o active agree count marked by_slot untold = record {
+  graph = refl;
+  orderly = o;
+  most = refl;
+  active = active;
+  agree = agree;
+  count = count;
+  marked = marked;
+  less = λ q h. h;
+  left = taken_none s t ∙ ap (λ f. pumped (taken_from s t f) f) (fun_ext (λ q. sym (and-not_self (holds (members s q) t))));
+  covered = λ q h. clash h (and-not_self (holds (members s q) t));
+  by_slot = by_slot;
+  untold = untold;
+  own = refl;
+  tells = λ begin way same. (way, same);
+}
+
+-- nothing is counted where whatever passes passes a test that nothing passes
+none_passes : (f g : NodeId → Bool) (xs : List NodeId) → list_any g xs ≡ false → ((x : NodeId) → f x ≡ true → g x ≡ true) → count_by f xs ≡ 0
+none_passes f g [] h less = refl
+none_passes f g (x ∷ xs) h less =
+    let both = or_no (g x) (list_any g xs) h in
+    count_cons f x xs ∙ ap₂ (λ b k. cond b 1 0 + k) (not_true (f x) (λ k. clash (less x k) both.0)) (none_passes f g xs both.1 less)
+
+module _ (s now : State) (t : ℕ) (n : NodeId) (ls : List LockList) (l : LockList) (was told : Told) (is : IsReleasing s now t n ls l was told) where
+  out : (q : NodeId) → is_among_waiters t (now.queue q) ≡ false
+  out q = in_no_queue now is.orderly t (ap is_wait is.active) q
+
+  -- what is marked is held and was covered
+  pub marked_held : (c : NodeId) → is_listed l c ≡ true → holds (members now c) t ≡ true
+  marked_held c h = sym (is.marked.listed c) ∙ h
+
+  pub marked_covered : (c : NodeId) → is_listed l c ≡ true → mode_of l c ≡ NL → is_covered s t n c ≡ true
+  marked_covered c h m = split (is_covered s t n c) (λ e. e)
+      (λ e. clash (marked_held c h) (ap (λ x. not (same_mode x NL)) (sym (ap (λ b. if b then NL else now.held t c) e) ∙ sym (is.marked.modes c) ∙ m)))
+
+  -- no child of it is held
+  pub marked_childless : (c : NodeId) → is_listed l c ≡ true → mode_of l c ≡ NL → count_of l c ≡ 0
+  marked_childless c h m =
+      is.marked.counts c
+      ∙ ap (λ g. count_by (λ x. is_child g c x && holds (members now x) t) (nodes g)) is.graph
+      ∙ none_passes (λ x. is_child s.graph c x && holds (members now x) t) (λ x. is_child s.graph c x && holds (members s x) t) (nodes s.graph) (childless (holds_child s t c) (and_both _ _ (and_both _ _ (marked_covered c h m)).0).1)
+      (λ x k. let both = and_both _ _ k in ap₂ (λ a b. a && b) both.0 (is.less x both.1))
+    where
+      childless : (b : Bool) → not b ≡ true → b ≡ false
+      childless true e = clash e refl
+      childless false e = refl
+
+  module _ (c : NodeId) (listed : is_listed l c ≡ true) where
+    abbrev after : State
+    after = unlocked now t c
+
+    abbrev first : List Waiter
+    first = front_at (with_grant now t c NL) c
+
+    own_after : (q : NodeId) → after.held t q ≡ (if same_node q c then NL else now.held t q)
+    own_after = unlocked_own now t c out
+
+    held_own : (q : NodeId) → holds (members after q) t ≡ (holds (members now q) t && not (same_node q c))
+    held_own q = ap (λ m. not (same_mode m NL)) (own_after q) ∙ by (same_node q c) (now.held t q)
+      where
+        by : (b : Bool) (m : Mode) → not (same_mode (if b then NL else m) NL) ≡ (not (same_mode m NL) && not b)
+        by true m = sym (and-false (not (same_mode m NL)))
+        by false m = sym (and-true (not (same_mode m NL)))
+
+    held_still : (q : NodeId) → holds (members after q) t ≡ true → holds (members now q) t ≡ true
+    held_still q h = (and_both (holds (members now q) t) (not (same_node q c)) (sym (held_own q) ∙ h)).0
+
+    -- each parent has one held child less
+    fewer_held : IsLawfulGraph now.graph → (p : NodeId) → held_children after t p + count_by (same_node p) (parents_of now.graph c) ≡ held_children now t p
+    fewer_held law p = children_down now.graph law (λ x. holds (members now x) t) (λ x. holds (members after x) t) c (is.orderly.holders_live t c (marked_held c listed)) (marked_held c listed)
+        (ap (λ m. not (same_mode m NL)) (own_after c ∙ ap (λ k. if k then NL else now.held t c) (same_node-refl c)))
+        (λ q e. ap (λ m. not (same_mode m NL)) (own_after q ∙ ap (λ k. if k then NL else now.held t q) e)) p
+
+    pub marked_counted : IsLawfulGraph now.graph → (q : NodeId) → count_by (same_node q) (parents_of now.graph c) ≤ count_of l q
+    marked_counted law q = subst (λ (k : ℕ). count_by (same_node q) (parents_of now.graph c) ≤ k) (sym (is.marked.counts q)) (let e = fewer_held law q in omega arith)
+
+    left_same : (q : NodeId) → (left_by s now t q || same_node c q) ≡ left_by s after t q
+    left_same q = by (same_node c q) refl
+      where
+        more_same : (a b : Bool) → ((a && not b) || false) ≡ (a && not (b && not false))
+        more_same true true = refl
+        more_same true false = refl
+        more_same false b = refl
+
+        by : (b : Bool) → same_node c q ≡ b → (left_by s now t q || b) ≡ left_by s after t q
+        by true e =
+            or-true (left_by s now t q)
+            ∙ sym (ap₂ (λ a x. a && not x) (ap (λ x. holds (members s x) t) (sym (same_node-equal c q e)) ∙ is.less c (marked_held c listed))
+            (held_own q ∙ ap (λ b. holds (members now q) t && not b) (same_node-sym q c ∙ e) ∙ and-false (holds (members now q) t)))
+        by false e =
+            more_same (holds (members s q) t) (holds (members now q) t)
+            ∙ sym (ap (λ b. holds (members s q) t && not b) (held_own q ∙ ap (λ b. holds (members now q) t && not b) (same_node-sym q c ∙ e)))
+
+    left_more : after ≡ pumped (taken_from s t (left_by s after t)) (left_by s after t)
+    left_more =
+        taken_one s t c (left_by s now t) (ap (λ b. holds (members s c) t && not b) (marked_held c listed) ∙ and-false (holds (members s c) t)) now is.left
+        ∙ ap (λ f. pumped (taken_from s t f) f) (fun_ext left_same)
+
+    module _ (law : IsLawfulGraph now.graph) (mark : mode_of l c ≡ NL) (ls' : List LockList) (l' : LockList) (told' : Told) (apart' : IsApart l')
+        (listed' : (q : NodeId) → is_listed l' q ≡ (is_listed l q && not (same_node q c))) (modes' : (q : NodeId) → mode_of l' q ≡ mode_of l q)
+        (counts' : (q : NodeId) → count_of l' q + count_by (same_node q) (parents_of now.graph c) ≡ count_of l q)
+        (wakes : WakesLists ls c (parents_of now.graph c) first ls') (tell : WakesTold now.txns c first told told') where
+      txn_is : (u : ℕ) → after.txns u ≡ (if is_among_waiters u first then restatus Active (now.txns u) else now.txns u)
+      txn_is u = woken_front (with_grant now t c NL) c (well_granted now is.orderly t c NL c) u
+
+      not_first : is_among_waiters t first ≡ false
+      not_first = not_true _ (λ h. clash (front_stands (with_grant now t c NL) c (well_granted now is.orderly t c NL c) t h) (out c))
+
+      -- all others are as they were
+      same_txn : (u : ℕ) → is_among_waiters u first ≡ false → after.txns u ≡ now.txns u
+      same_txn u e = txn_is u ∙ ap (λ b. if b then restatus Active (now.txns u) else now.txns u) e
+
+      -- who waits still was not granted, and was told nothing
+      still_untold : (u : ℕ) → is_wait (status_of after u) ≡ true → notices_in told' u ≡ None
+      still_untold u h = split (is_among_waiters u first)
+          (λ e. clash h (ap (λ x. is_wait (status_in x)) (txn_is u ∙ ap (λ b. if b then restatus Active (now.txns u) else now.txns u) e) ∙ active (now.txns u)))
+          (λ e. tell.notices u ∙ ap (λ b. if b then grant_notice now.txns c first u else notices_in told u) e ∙ is.untold u (ap (λ x. is_wait (status_in x)) (sym (same_txn u e)) ∙ h))
+        where
+          active : (x : Option Txn) → is_wait (status_in (restatus Active x)) ≡ false
+          active None = refl
+          active (Some x) = refl
+
+      still_tells : StillTells s after t was told'
+      still_tells begin way same =
+          let so_far = is.tells begin way same in (
+            way_releases begin now t c so_far.0,
+            λ u e.
+                tell.notices u
+                ∙ ap₂ (λ x y. if is_among_waiters u first then x else y) (ap (λ (a : ℕ). let name : TxnId = record { slot = u; age = a } in Some (name, notice.Granted c (mode_given first u))) (so_far.0.ages u)) (so_far.1 u e)
+                ∙ sym (release_tells begin now t c so_far.0 u e),
+          )
+
+      -- the list has all that is held still, and what is marked still
+      marked_after : IsShedding s after t n l'
+      marked_after = record {
+        apart = apart';
+        listed = λ q. listed' q ∙ ap (λ b. b && not (same_node q c)) (is.marked.listed q) ∙ sym (held_own q);
+        modes = λ q. modes' q ∙ is.marked.modes q ∙ split (same_node q c)
+            (λ e. let yes = ap (is_covered s t n) (same_node-equal q c e) ∙ marked_covered c listed mark in ap (λ b. if b then NL else now.held t q) yes ∙ sym (ap (λ b. if b then NL else after.held t q) yes))
+            (λ e. ap (λ m. if is_covered s t n q then NL else m) (sym (own_after q ∙ ap (λ k. if k then NL else now.held t q) e)));
+        counts = λ p. let a = counts' p in let b = is.marked.counts p in let d = fewer_held law p in omega arith;
+      }
+
+      pub releasing_one : IsReleasing s after t n ls' l' was told'
+      releasing_one = record {
+        graph = is.graph;
+        orderly = orderly_unlocked now is.orderly t c;
+        most = is.most;
+        active = ap status_in (same_txn t not_first) ∙ is.active;
+        agree = λ u e. agrees_unlocked now t c is.orderly ls ls' wakes u e (is.agree u e);
+        count = λ u e. counts_unlocked now t c is.orderly ls ls' wakes u e (is.agree u e) law (is.orderly.holders_live t c (marked_held c listed)) (is.count u e);
+        marked = marked_after;
+        less = λ q h. is.less q (held_still q h);
+        left = left_more;
+        covered = λ q h. split (same_node c q) (λ e. ap (is_covered s t n) (sym (same_node-equal c q e)) ∙ marked_covered c listed mark)
+            (λ e. is.covered q (back (left_by s now t q) (same_node c q) (left_same q ∙ h) e));
+        by_slot = tell.by_slot;
+        untold = still_untold;
+        own = tell.notices t ∙ ap (λ b. if b then grant_notice now.txns c first t else notices_in told t) not_first ∙ is.own;
+        tells = still_tells;
+      }
+        where
+          back : (a b : Bool) → (a || b) ≡ true → b ≡ false → a ≡ true
+          back true b h e = refl
+          back false b h e = clash h e
+
+-- what is listed stands at some place
+place_of_listed : {A : Type 0} (q : NodeId) (es : List (NodeId × A)) → is_some (lookup (same_node q) es) ≡ true → (i : ℕ) × (slice_get (map (λ e. e.0) es) i ≡ Some q)
+place_of_listed q [] h = clash h refl
+place_of_listed {A} q (e ∷ es) h = by (same_node q e.0) refl h (place_of_listed q es)
+  where
+    by : (b : Bool) → same_node q e.0 ≡ b → is_some (cond b (Some e.1) (lookup (same_node q) es)) ≡ true
+        → (is_some (lookup (same_node q) es) ≡ true → (i : ℕ) × (slice_get (map (λ x. x.0) es) i ≡ Some q)) → (i : ℕ) × (slice_get (map (λ x. x.0) (e ∷ es)) i ≡ Some q)
+    by true k h r = (0, ap (λ x. Some x) (sym (same_node-equal q e.0 k)))
+    by false k h r = let rest = r h in (suc rest.0, rest.1)
+
+-- what is covered is held
+covered_held : (s : State) (t : ℕ) (n q : NodeId) → is_covered s t n q ≡ true → holds (members s q) t ≡ true
+covered_held s t n q e =
+    let a = and_both (is_child s.graph n q && holds (members s q) t && not (holds_child s t q)) (not (same_mode (s.held t q) X) || list_all (λ p. same_mode (s.held t p) X) (parents_of s.graph q)) e in
+    let b = and_both (is_child s.graph n q && holds (members s q) t) (not (holds_child s t q)) a.0 in
+    (and_both (is_child s.graph n q) (holds (members s q) t) b.0).1
+
+module _ (s now : State) (t : ℕ) (n : NodeId) (ls : List LockList) (l : LockList) (was told : Told) (is : IsReleasing s now t n ls l was told) (none : NoneMarkedFrom l 0) where
+  gone : (q : NodeId) → is_covered s t n q ≡ true → holds (members now q) t ≡ false
+  gone q e = not_true _ (λ h.
+      let at = place_of_listed q l.entries.entries (is.marked.listed q ∙ h) in
+      clash (ap (λ m. same_mode m NL) (is.marked.modes q ∙ ap (λ b. if b then NL else now.held t q) e)) (none at.0 q (omega arith) at.1))
+
+  same_left : (q : NodeId) → left_by s now t q ≡ is_covered s t n q
+  same_left q = split (is_covered s t n q)
+      (λ e. ap₂ (λ x y. x && not y) (covered_held s t n q e) (gone q e) ∙ sym e)
+      (λ e. not_true _ (λ h. clash (is.covered q h) e) ∙ sym e)
+
+  -- once none is marked all that was covered is released
+  pub releasing_ends : now ≡ shed s t n
+  releasing_ends = is.left ∙ ap (λ f. pumped (taken_from s t f) f) (fun_ext same_left)
+
+  -- and the list says what is held
+  pub releasing_modes : (q : NodeId) → mode_of l q ≡ now.held t q
+  releasing_modes q = is.marked.modes q ∙ split (is_covered s t n q)
+      (λ e. ap (λ b. if b then NL else now.held t q) e ∙ sym (nl_is (now.held t q) (gone q e)))
+      (λ e. ap (λ b. if b then NL else now.held t q) e)
