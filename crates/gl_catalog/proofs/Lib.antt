@@ -34,3 +34,17 @@ mod RecordRows
 mod MoveRows
 mod RefusalRows
 mod Limits
+-- the manager over the table
+pub mod Counting
+pub mod Carried
+pub mod Managed
+pub mod Applied
+pub mod FirstOf
+pub mod Insertions
+pub mod Deletions
+pub mod Raising
+pub mod RunsOn
+pub mod MoveChecks
+pub mod KeyedBy
+pub mod Relocations
+pub mod Rekeyings

@@ -1,3 +1,6 @@
 pub mod Tests
 pub mod Step
 pub mod Promises
+pub mod Manager
+pub mod Replies
+pub mod Sound

@@ -69,6 +69,15 @@ abbrev pub OthersKeepBelow : Type 0
 OthersKeepBelow =
     (s s' : State) (cs : List Command) (rs : List (Answer × Told)) (t : TxnId) (n : NodeId) → IsLawful s → Run s cs rs s' → lives s t ≡ true → list_any (names t) cs ≡ false → EffS s t.slot n → SameBelow s.graph s'.graph n
 
+-- what a run leaves a transaction that it does not name: its effective modes, and the records below what it reads
+pub record Leaves (s s' : State) (rs : List (Answer × Told)) (t : TxnId) : Type 0 where
+  pub effects : KeepsEffects s s' t (told_granted t rs)
+  pub below : (n : NodeId) → EffS s t.slot n → SameBelow s.graph s'.graph n
+
+-- a run leaves that to every living transaction that it does not name
+abbrev pub LeavesOthers : State → List Command → List (Answer × Told) → State → Type 0
+LeavesOthers s cs rs s' = (t : TxnId) → lives s t ≡ true → list_any (names t) cs ≡ false → Leaves s s' rs t
+
 -- each step of each command keeps the law of a state
 abbrev pub StepsKeepLaw : Type 0
 StepsKeepLaw = (s s' : State) (c : Command) (a : Answer) (told : Told) → IsLawful s → Step s c a told s' → IsLawful s'
@@ -100,6 +109,13 @@ MoveKeepsMover = (t : TxnId) (n : NodeId) (ps : Bor (List NodeId)) → KeepsMode
 -- an escalation lowers the caller's effective mode nowhere (own)
 abbrev pub EscalateLowersNone : Type 0
 EscalateLowersNone = (t : TxnId) (n : NodeId) → LowersNone t.slot (command.Escalate t n)
+
+-- what a command leaves its caller: a rekey and a move leave its effective modes as they were, and an escalation lowers none
+abbrev pub KeepsCaller : Command → State → State → Type 0
+KeepsCaller (command.Rekey t r i key) s s' = (n : NodeId) → effective s' t.slot n ≡ effective s t.slot n
+KeepsCaller (command.Move t x ps) s s' = (n : NodeId) → effective s' t.slot n ≡ effective s t.slot n
+KeepsCaller (command.Escalate t x) s s' = (n : NodeId) → is_at_least_effect (effective s' t.slot n) (effective s t.slot n) ≡ true
+KeepsCaller c s s' = Unit {0}
 
 -- in a lawful state there is a step for every command, so what is said of steps is never said of nothing
 abbrev pub AlwaysAnswers : Type 0

@@ -1,13 +1,15 @@
 -- One command: its answer, the state that it leaves, and what others are told; and runs of commands (own).
 use Rattle.std.specs.Prelude.{◌≡◌, ◌⊎◌, ℕ, ◌+◌, ◌-◌, true, List, [], ◌∷◌, Option, Some, None}
 use Rattle.gl_table.specs.declared.txn.Status.{Status}
+use Rattle.gl_table.specs.declared.outcome.Locked.{Locked}
+use Rattle.gl_table.specs.declared.outcome.Locked.TheVariants as locked
+use Rattle.gl_table.specs.Answers.{locked_as}
 use Rattle.gl_catalog.specs.declared.command.Answer.{Answer}
 use Rattle.gl_catalog.specs.declared.command.Command.{Command}
 use Rattle.gl_modes.specs.declared.mode.Mode.{Mode}
 use Rattle.gl_modes.specs.declared.node.NodeId.{NodeId}
 use Rattle.gl_modes.specs.declared.refusal.Refusal.{Refusal}
 use Rattle.gl_modes.specs.declared.mode.Mode.TheVariants.{X}
-use Rattle.gl_table.specs.declared.txn.Status.TheVariants.{Active, Waiting, Condemned}
 use Rattle.gl_modes.specs.declared.refusal.Refusal.TheVariants as no
 use Rattle.gl_catalog.specs.declared.command.Answer.TheVariants as answer
 use Rattle.gl_catalog.specs.declared.command.Command.TheVariants as command
@@ -23,12 +25,15 @@ use Rattle.gl_table.specs.State.{State, members, status_of, with_grant, with_gra
 use Rattle.gl_table.specs.Tellings.{Told, told, told_but}
 use Rattle.gl_table.specs.Waiting.{Settled}
 
--- the answer of a lock, by the asker's status at the end
+-- the answer of a lock
+abbrev pub answer_of_lock : Locked → Answer
+answer_of_lock (locked.Granted m) = answer.Granted m
+answer_of_lock locked.Waiting = answer.Waiting
+answer_of_lock locked.Victim = answer.Victim
+
+-- the same by the mode held and the asker's status at the end
 abbrev pub lock_answer : Mode → Option Status → Answer
-lock_answer held (Some Active) = answer.Granted held
-lock_answer held (Some (Waiting n m)) = answer.Waiting
-lock_answer held (Some Condemned) = answer.Victim
-lock_answer held None = answer.Done
+lock_answer held o = answer_of_lock (locked_as held o)
 
 -- a command that is not refused: what it answers, tells, and leaves, the count of accepted commands aside
 abbrev pub Accepts : State → Command → Answer → Told → State → Type 0

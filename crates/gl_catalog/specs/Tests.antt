@@ -20,13 +20,16 @@ abbrev pub worn : State → Option Refusal
 worn s = where_true (s.accepted == max_count) no.WornOut
 
 -- insert asks IX or greater on each parent that the new record will have
-abbrev pub insert_tests : State → TxnId → NodeId → List ℕ → List (Option Refusal)
-insert_tests s t f keys =
+abbrev pub insert_asks : State → TxnId → NodeId → List ℕ → List (Option Refusal)
+insert_asks s t f keys =
     worn_births s.graph ∷ active_on s t (f ∷ [])
     ++ where_true (not (is_file_shape (shape_of s.graph f))) no.BadParents
     ∷ where_true (not (length keys == length (indexes_of s.graph f))) no.BadKeys
-    ∷ first_not_ix (s.held t.slot) (record_parents s.graph f keys)
-    ∷ too_many_nodes s.graph 1 ∷ []
+    ∷ first_not_ix (s.held t.slot) (record_parents s.graph f keys) ∷ []
+
+-- and there must be room for the record
+abbrev pub insert_tests : State → TxnId → NodeId → List ℕ → List (Option Refusal)
+insert_tests s t f keys = insert_asks s t f keys ++ too_many_nodes s.graph 1 ∷ []
 
 -- delete takes a record alone, and asks X on it
 abbrev pub delete_tests : State → TxnId → NodeId → List (Option Refusal)
@@ -41,17 +44,24 @@ rekey_tests s t r i key =
     ∷ need_new_parents s t.slot r (rekeyed_parents s.graph r i key) ∷ []
 
 -- move takes an inner node, a file or an index, to parents that it could have been made under
-abbrev pub move_tests : State → TxnId → NodeId → List NodeId → List (Option Refusal)
-move_tests s t n ps =
+abbrev pub move_asks : State → TxnId → NodeId → List NodeId → List (Option Refusal)
+move_asks s t n ps =
     active_on s t (n ∷ ps)
     ++ where_true (not (is_movable_shape (shape_of s.graph n)) || bad_parents s.graph (least_parents (shape_of s.graph n)) ps) no.BadParents
     ∷ need_exclusive s t.slot n (some_given (parents_of s.graph n) && some_given ps) ps
-    ∷ need_new_parents s t.slot n ps
-    ∷ first_cycle s.graph n ps ∷ []
+    ∷ need_new_parents s t.slot n ps ∷ []
 
--- escalate takes any node but a record
+-- and no path may close
+abbrev pub move_tests : State → TxnId → NodeId → List NodeId → List (Option Refusal)
+move_tests s t n ps = move_asks s t n ps ++ first_cycle s.graph n ps ∷ []
+
+-- escalate takes any node but a record, which must be held
+abbrev pub escalate_asks : State → TxnId → NodeId → List (Option Refusal)
+escalate_asks s t n = active_on s t (n ∷ []) ++ where_true (is_record_shape (shape_of s.graph n)) no.BadParents ∷ not_held s t.slot n ∷ []
+
+-- and the raised mode must fit
 abbrev pub escalate_tests : State → TxnId → NodeId → List (Option Refusal)
-escalate_tests s t n = active_on s t (n ∷ []) ++ where_true (is_record_shape (shape_of s.graph n)) no.BadParents ∷ not_held s t.slot n ∷ escalation_blocks s t.slot n ∷ []
+escalate_tests s t n = escalate_asks s t n ++ escalation_blocks s t.slot n ∷ []
 
 -- the tests of each command, want of memory aside: first whether it can be counted, then those of the call that does it
 abbrev pub tests_of : State → Command → List (Option Refusal)

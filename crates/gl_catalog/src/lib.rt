@@ -1,7 +1,13 @@
-//! The catalog's commands, the model of what each does, and the laws that hold over every run.
+//! The catalog: commands, the manager that carries them out, the model of what each does, and the
+//! laws that hold over every run.
 #![tactic(auto)]
 
 mod command;
 pub mod laws;
+mod manager;
+mod replies;
+mod run;
 
 pub use command::{Answer, Command, Escalated, Reply};
+pub use manager::Manager;
+pub use run::run_commands;

@@ -112,8 +112,9 @@ impl Graph {
         more > MOST_NODES || self.len() > MOST_NODES - more
     }
 
-    /// Whether these cannot be the parents of a node that needs so many at least.
-    fn are_bad_parents(&self, least: usize, parents: &[NodeId]) -> bool
+    /// Whether these cannot be the parents of a node that needs so many at least: one is no inner
+    /// node, or stands there twice, or there are too few or more than 8.
+    pub fn are_bad_parents(&self, least: usize, parents: &[NodeId]) -> bool
         ensures { result ≡ bad_parents (graph_of self.now) least parents.now }
     {
         parents.len() < least

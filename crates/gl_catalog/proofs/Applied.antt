@@ -1,0 +1,61 @@
+-- What a reply says of the call that it answers.
+use Rattle.std.specs.Prelude.{◌≡◌, ◌+◌, ◌&&◌, ◌||◌, true, [], Option, Some, None, is_none, Result, Ok, Err, IfOk, OnErr, OnOk}
+use Rattle.std.proofs.Common.{ap₂, arith, inl, refl, subst, sym}
+use Rattle.gl_modes.specs.declared.refusal.Refusal.{Refusal}
+use Rattle.gl_graph.specs.Refusals.{Refuses}
+use Rattle.gl_table.specs.Answers.{answered}
+use Rattle.gl_table.specs.Lawful.{IsLawful}
+use Rattle.gl_table.specs.State.{State}
+use Rattle.gl_table.specs.Tellings.{Told}
+use Rattle.gl_catalog.specs.declared.command.Answer.{Answer}
+use Rattle.gl_catalog.specs.declared.command.Command.{Command}
+use Rattle.gl_catalog.specs.declared.command.Command.TheVariants as command
+use Rattle.gl_catalog.specs.declared.command.Reply.{Reply}
+use Rattle.gl_catalog.specs.Manager.{ManagerView}
+use Rattle.gl_catalog.specs.Promises.{KeepsCaller}
+use Rattle.gl_catalog.specs.Replies.{CallSteps, RepliesTo, Says, said}
+use Rattle.gl_catalog.specs.Step.{Answers, Goes, Step, query_answer}
+use Rattle.gl_catalog.specs.Tests.{is_cycle, lists_memory, refusal_of}
+use Rattle.gl_catalog.proofs.Carried.{memory_step, refused_step}
+use Rattle.gl_catalog.proofs.MoverEffects.{move_keeps_mover, rekey_keeps_mover}
+use Rattle.gl_catalog.proofs.EscalateEffects.{escalate_lowers_none}
+
+-- a call that is a step, and the reply that says what it answered
+pub replied : {A : Type 0} (says : A → Says) (s s' : State) (c c' : Command) (result : Result A Refusal) (reply : Reply) → CallSteps s c says result s' → RepliesTo says result reply → c' ≡ c
+    → Step s c' reply.answer reply.told.items s'
+replied says s s' c c' result reply step to is =
+    subst (λ (x : Command). Step s x reply.answer reply.told.items s') (sym is)
+    (subst (λ (a : Answer). Step s c a reply.told.items s') (sym to.answer) (subst (λ (t : Told). Step s c (said says result).0 t s') (sym to.told) step))
+
+-- where the count stays, the call was refused
+pub uncounted : {A : Type 0} (v v' : ManagerView) (result : Result A Refusal) → OnErr result (v' ≡ v) → OnOk result (v'.accepted ≡ v.accepted + 1) → v'.accepted ≡ v.accepted → v' ≡ v
+uncounted v v' (Ok x) err ok e = let counted = ok in absurd (grind arith)
+uncounted v v' (Err r) err ok e = err
+
+-- what a step leaves its caller
+pub keeps_caller : (c : Command) (s s' : State) (a : Answer) (told : Told) → IsLawful s → Step s c a told s' → KeepsCaller c s s'
+keeps_caller (command.Rekey t r i key) s s' a told law step = rekey_keeps_mover t r i key s s' a told law step
+keeps_caller (command.Move t n ps) s s' a told law step = move_keeps_mover t n ps s s' a told law step
+keeps_caller (command.Escalate t n) s s' a told law step = escalate_lowers_none t n s s' a told law step
+keeps_caller c s s' a told law step = tt
+
+module _ {A : Type 0} (says : A → Says) (c : Command) (s : State) where
+  -- a query is answered with its value
+  pub answered_step : (x : A) (result : Result A Refusal) → result ≡ answered (refusal_of s c) x → query_answer s c ≡ Some (says x).0 → (says x).1 ≡ [] → CallSteps s c says result s
+  answered_step x result is value quiet = subst (λ (r : Result A Refusal). CallSteps s c says r s) (sym is) (by (refusal_of s c) refl)
+    where
+      by : (o : Option Refusal) → refusal_of s c ≡ o → CallSteps s c says (answered o x) s
+      by (Some r) e = refused_step says c s r e
+      by None e =
+          inl (subst (λ o. Goes s c o (says x).0 (says x).1 s) (sym e) (subst (λ q. Answers s c q (says x).0 (says x).1 s) (sym value) (record { answer_is = refl; nobody_told = quiet; same = refl })))
+
+  -- or is refused, maybe for want of memory
+  pub asked_step : (v : A) (result : Result A Refusal) → Refuses (refusal_of s c) result → IfOk result (λ x. x ≡ v) → query_answer s c ≡ Some (says v).0 → (says v).1 ≡ [] → lists_memory s c ≡ true → CallSteps s c says result s
+  asked_step v result refuses ok value quiet lists = by (refusal_of s c) refl result refuses ok
+    where
+      by : (o : Option Refusal) → refusal_of s c ≡ o → (r : Result A Refusal) → Refuses o r → IfOk r (λ x. x ≡ v) → CallSteps s c says r s
+      by (Some y) e r is ok' = subst (λ (z : Result A Refusal). CallSteps s c says z s) (sym is) (refused_step says c s y e)
+      by None e (Ok x) is ok' =
+          subst (λ (z : A). CallSteps s c says (Ok z) s) (sym ok')
+          (inl (subst (λ o. Goes s c o (says v).0 (says v).1 s) (sym e) (subst (λ q. Answers s c q (says v).0 (says v).1 s) (sym value) (record { answer_is = refl; nobody_told = quiet; same = refl }))))
+      by None e (Err r) is ok' = memory_step says c s r (ap₂ (λ l o. l && (is_none o || is_cycle o)) lists e) is

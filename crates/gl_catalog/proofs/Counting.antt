@@ -1,0 +1,79 @@
+-- No definition of the table asks for the count of accepted commands.
+use Rattle.std.specs.Prelude.{◌≡◌, ℕ, zero, suc}
+use Rattle.std.proofs.Common.{refl, ap}
+use Rattle.gl_modes.specs.declared.mode.Mode.{Mode}
+use Rattle.gl_modes.specs.declared.node.NodeId.{NodeId}
+use Rattle.gl_table.specs.declared.detect.Detect.{Detect}
+use Rattle.gl_table.specs.declared.detect.Detect.TheVariants.{AtBlock, ByWatcher}
+use Rattle.gl_table.specs.Calls.{Locks, WaitSettles, enqueued, wanted}
+use Rattle.gl_table.specs.Effects.{HasNoConflict}
+use Rattle.gl_table.specs.Headers.{AreHeaders}
+use Rattle.gl_table.specs.Lawful.{IsLawful}
+use Rattle.gl_table.specs.Pumps.{condemned}
+use Rattle.gl_table.specs.State.{State}
+use Rattle.gl_table.specs.Table.{ListsAgree, TableView}
+use Rattle.gl_table.specs.Table.{state_of as table_state}
+use Rattle.gl_table.specs.Tellings.{told}
+use Rattle.gl_table.specs.Waiting.{HasNoCycle, Settled, SettledWithin}
+use Rattle.gl_catalog.specs.Manager.{IsLawfulManager, counting}
+
+module _ (k : ℕ) where
+  -- the law does not
+  pub lawful_counting : (s : State) → IsLawful s → IsLawful (counting k s)
+  lawful_counting s law = record {
+    graph = law.graph;
+    grants_live = law.grants_live;
+    waits_live = law.waits_live;
+    compatible = law.compatible;
+    grants_intend = law.grants_intend;
+    waits_intend = law.waits_intend;
+    one_wait = law.one_wait;
+    waits_are = law.waits_are;
+    holders_first = law.holders_first;
+    front_waits = law.front_waits;
+    slots_below = law.slots_below;
+    ages = law.ages;
+    ages_differ = law.ages_differ;
+  }
+
+  -- nor do conflicts
+  no_conflict_counting : (s : State) → HasNoConflict s → HasNoConflict (counting k s)
+  no_conflict_counting s none t u r c = none t u r (record { differ = c.differ; writes = c.writes; reads = c.reads })
+
+  -- nor who waits for whom
+  no_cycle_counting : (s : State) → HasNoCycle s → HasNoCycle (counting k s)
+  no_cycle_counting s none = none
+
+  -- nor what is told
+  pub told_counting : (s s' : State) → told (counting k s) (counting k s') ≡ told s s'
+  told_counting s s' = refl
+
+  -- nor settling
+  within_counting : (turns : ℕ) (s : State) (t : ℕ) (s' : State) → SettledWithin turns s t s' → SettledWithin turns (counting k s) t (counting k s')
+  within_counting zero s t s' h = (h.0, ap (counting k) h.1)
+  within_counting (suc turns) s t s' h = (h.0, h.1, within_counting turns (condemned s h.0) t s' h.2)
+
+  pub settled_counting : (s : State) (t : ℕ) (s' : State) → Settled s t s' → Settled (counting k s) t (counting k s')
+  settled_counting s t s' h = (h.0, within_counting h.0 s t s' h.1)
+
+  -- nor what a lock leaves
+  waits_counting : (d : Detect) (s : State) (t : ℕ) (s' : State) → WaitSettles d s t s' → WaitSettles d (counting k s) t (counting k s')
+  waits_counting AtBlock s t s' h = settled_counting s t s' h
+  waits_counting ByWatcher s t s' h = ap (counting k) h
+
+  pub locks_counting : (s : State) (t : ℕ) (n : NodeId) (m : Mode) (s' : State) → Locks s t n m s' → Locks (counting k s) t n m (counting k s')
+  locks_counting s t n m s' h = record {
+    at_once = λ e. ap (counting k) (h.at_once e);
+    waits = λ e. waits_counting s.detect (enqueued s t n (wanted s t n m)) t s' (h.waits e);
+  }
+
+  -- a lawful table with this count is a lawful manager
+  pub lawful_manager : (v : TableView) → IsLawful (table_state v) → AreHeaders v.headers → ListsAgree v → HasNoConflict (table_state v) → (v.detect ≡ AtBlock → HasNoCycle (table_state v))
+      → IsLawfulManager (record { table = v; accepted = k })
+  lawful_manager v law headers lists conflict cycle = record {
+    lawful = lawful_counting (table_state v) law;
+    headers = headers;
+    lists = lists;
+    no_conflict = no_conflict_counting (table_state v) conflict;
+    no_cycle = λ at. no_cycle_counting (table_state v) (cycle at);
+  }

@@ -1,0 +1,103 @@
+-- The tests of a node that moves, one after the other.
+use Rattle.std.specs.Prelude.{◌≡◌, ℕ, ◌+◌, ◌<◌, Bool, true, false, not, ◌&&◌, ◌||◌, ◌==◌, List, [], ◌∷◌, ◌++◌, length, drop, Option, Some, None, Ok, Err, if◌then◌else◌, get_or}
+use Rattle.std.specs.List.{list_all, list_any}
+use Rattle.std.proofs.Common.{refl, sym, ap, ◌∙◌, arith}
+use Rattle.std.proofs.lemmas.Bool.Decides.{nat_tests}
+use mathlib.Core.Bool.{true≢false}
+use Rattle.gl_modes.specs.declared.mode.Mode.{Mode}
+use Rattle.gl_modes.specs.declared.mode.Mode.TheVariants.{IX}
+use Rattle.gl_modes.specs.declared.node.NodeId.{NodeId}
+use Rattle.gl_modes.specs.declared.refusal.Refusal.{Refusal}
+use Rattle.gl_modes.specs.declared.refusal.Refusal.TheVariants as no
+use Rattle.gl_modes.specs.Modes.{is_at_least}
+use Rattle.gl_modes.specs.Nodes.{same_node}
+use Rattle.gl_graph.specs.Changes.{rekeyed_parents}
+use Rattle.gl_graph.specs.Graph.{Graph, first_parent, is_live, parents_of, shape_of}
+use Rattle.gl_graph.specs.Lawful.{IsLawfulGraph}
+use Rattle.gl_graph.specs.Refusals.{bad_parents, first_refusal, some_no_node, verdict, where_true}
+use Rattle.gl_graph.specs.Shapes.{is_index_of_shape, is_movable_shape, is_record_shape, least_parents}
+use Rattle.gl_graph.proofs.Look.{both, split}
+use Rattle.gl_graph.proofs.Unrefused.{verdict_ok}
+use Rattle.gl_table.specs.Refusals.{commit_tests, first_not_ix, need_exclusive, need_new_parents, some_given}
+use Rattle.gl_table.specs.State.{State}
+use Rattle.gl_table.specs.declared.txn.TxnId.{TxnId}
+use Rattle.gl_table.proofs.CutSet.{not_all}
+use Rattle.gl_table.proofs.Rules.{first_not_ix-drop}
+use Rattle.gl_catalog.specs.Tests.{move_asks, rekey_tests, worn}
+use Rattle.gl_catalog.proofs.FirstOf.{passed_then}
+
+-- of these nodes the first decides, where it is not held in IX or greater
+pub first_decides : (held : NodeId → Mode) (ps : List NodeId) (i : ℕ) (d : NodeId) (r : Refusal) → i < length ps → Err r ≡ verdict (first_not_ix held (get_or ps i d ∷ [])) → Err r ≡ verdict (first_not_ix held (drop i ps))
+first_decides held ps i d r low e = by (is_at_least (held (get_or ps i d)) IX) e ∙ ap verdict (sym (first_not_ix-drop held ps i d low))
+  where
+    by : (b : Bool) → Err r ≡ verdict (if b then None else Some (no.NeedParents (get_or ps i d))) → Err r ≡ verdict (if b then first_not_ix held (drop (i + 1) ps) else Some (no.NeedParents (get_or ps i d)))
+    by true e = cc
+    by false e = e
+
+-- else those behind it do
+pub others_decide : (held : NodeId → Mode) (ps : List NodeId) (i : ℕ) (d : NodeId) → i < length ps → Ok tt ≡ verdict (first_not_ix held (get_or ps i d ∷ [])) → first_not_ix held (drop i ps) ≡ first_not_ix held (drop (i + 1) ps)
+others_decide held ps i d low e = first_not_ix-drop held ps i d low ∙ by (is_at_least (held (get_or ps i d)) IX) e
+  where
+    by : (b : Bool) → Ok tt ≡ verdict (if b then None else Some (no.NeedParents (get_or ps i d))) → (if b then first_not_ix held (drop (i + 1) ps) else Some (no.NeedParents (get_or ps i d))) ≡ first_not_ix held (drop (i + 1) ps)
+    by true e = refl
+    by false e = cc
+
+-- a test that each of these nodes passes, all pass
+pub all_among : (q : NodeId → Bool) (ps : List NodeId) → ((p : NodeId) → list_any (same_node p) ps ≡ true → q p ≡ true) → list_all q ps ≡ true
+all_among q ps each = split (list_all q ps) (λ all. all) (λ fails. let out = not_all q ps fails in absurd (true≢false (sym (each out.0 out.1) ∙ out.2)))
+
+-- in a lawful graph the parents of a node live
+pub parents_all_live : (g : Graph) → IsLawfulGraph g → (n : NodeId) → list_all (is_live g) (parents_of g n) ≡ true
+parents_all_live g law n = all_among (is_live g) (parents_of g n) (law.parents_live n)
+
+-- where the count and the one who asks pass, and these nodes live, the kinds decide, and then what follows
+then_kinds : (s : State) (t : TxnId) (ns : List NodeId) (bad : Bool) (rest : List (Option Refusal)) → Ok tt ≡ verdict (worn s) → Ok tt ≡ verdict (first_refusal (commit_tests s t)) → list_all (is_live s.graph) ns ≡ true
+    → first_refusal (worn s ∷ commit_tests s t ++ some_no_node s.graph ns ∷ where_true bad no.BadParents ∷ rest) ≡ (if bad then Some no.BadParents else first_refusal rest)
+then_kinds s t ns bad rest counts active live =
+    let tests : List (Option Refusal) = some_no_node s.graph ns ∷ where_true bad no.BadParents ∷ rest in
+    ap (λ o. first_refusal (o ∷ commit_tests s t ++ tests)) (verdict_ok (worn s) tt counts) ∙ passed_then (commit_tests s t) tests (verdict_ok _ tt active)
+    ∙ ap (λ b. first_refusal (where_true (not b) no.NoSuchNode ∷ where_true bad no.BadParents ∷ rest)) live ∙ by bad
+  where
+    by : (b : Bool) → first_refusal (where_true b no.BadParents ∷ rest) ≡ (if b then Some no.BadParents else first_refusal rest)
+    by true = refl
+    by false = refl
+
+-- one of the two is wanting
+not_both : (a b : Bool) → (not a || b) ≡ not (a && not b)
+not_both true true = refl
+not_both true false = refl
+not_both false b = refl
+
+-- a list has members where its length is not 0
+pub some_given-is : {A : Type 0} (xs : List A) → some_given xs ≡ not (length xs == 0)
+some_given-is [] = refl
+some_given-is (x ∷ xs) = grind (arith, nat_tests)
+
+turned : (b : Bool) (x y : Option Refusal) → (if not b then x else y) ≡ (if b then y else x)
+turned true x y = refl
+turned false x y = refl
+
+-- what is left of the tests of a move, where the count and the one who asks pass, and the nodes live
+pub move_kinds : (s : State) (t : TxnId) (n : NodeId) (ps : List NodeId) → Ok tt ≡ verdict (worn s) → Ok tt ≡ verdict (first_refusal (commit_tests s t)) → is_live s.graph n ≡ true → list_all (is_live s.graph) ps ≡ true
+    → first_refusal (worn s ∷ move_asks s t n ps)
+    ≡ (if is_movable_shape (shape_of s.graph n) && not (bad_parents s.graph (least_parents (shape_of s.graph n)) ps)
+    then first_refusal (need_exclusive s t.slot n (some_given (parents_of s.graph n) && some_given ps) ps ∷ need_new_parents s t.slot n ps ∷ [])
+    else Some no.BadParents)
+move_kinds s t n ps counts active live all =
+    let rest : List (Option Refusal) = need_exclusive s t.slot n (some_given (parents_of s.graph n) && some_given ps) ps ∷ need_new_parents s t.slot n ps ∷ [] in
+    let movable : Bool = is_movable_shape (shape_of s.graph n) in
+    let bad : Bool = bad_parents s.graph (least_parents (shape_of s.graph n)) ps in
+    then_kinds s t (n ∷ ps) (not movable || bad) rest counts active (both (is_live s.graph n) (list_all (is_live s.graph) ps) live all) ∙ ap (λ b. if b then Some no.BadParents else first_refusal rest) (not_both movable bad)
+    ∙ turned (movable && not bad) (Some no.BadParents) (first_refusal rest)
+
+-- the same of a rekey
+pub rekey_kinds : (s : State) (t : TxnId) (r i : NodeId) (key : ℕ) → Ok tt ≡ verdict (worn s) → Ok tt ≡ verdict (first_refusal (commit_tests s t)) → is_live s.graph r ≡ true → is_live s.graph i ≡ true
+    → first_refusal (worn s ∷ rekey_tests s t r i key)
+    ≡ (if is_record_shape (shape_of s.graph r) && is_index_of_shape (first_parent s.graph r) (shape_of s.graph i)
+    then first_refusal (need_exclusive s t.slot r true (rekeyed_parents s.graph r i key) ∷ need_new_parents s t.slot r (rekeyed_parents s.graph r i key) ∷ [])
+    else Some no.BadParents)
+rekey_kinds s t r i key counts active live also =
+    let rest : List (Option Refusal) = need_exclusive s t.slot r true (rekeyed_parents s.graph r i key) ∷ need_new_parents s t.slot r (rekeyed_parents s.graph r i key) ∷ [] in
+    let keyed : Bool = is_record_shape (shape_of s.graph r) && is_index_of_shape (first_parent s.graph r) (shape_of s.graph i) in
+    then_kinds s t (r ∷ i ∷ []) (not keyed) rest counts active (both (is_live s.graph r) (is_live s.graph i && true) live (both (is_live s.graph i) true also refl))
+    ∙ turned keyed (Some no.BadParents) (first_refusal rest)

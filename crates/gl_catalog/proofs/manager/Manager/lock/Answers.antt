@@ -1,0 +1,27 @@
+use Rattle.std.specs.Prelude.{Err, Result}
+use Rattle.std.proofs.Common.{ap, refl, rules, subst, sym, ◌≡◌}
+use Rattle.gl_modes.specs.declared.refusal.Refusal.{Refusal}
+use Rattle.gl_graph.proofs.Look.{no}
+use Rattle.gl_table.specs.declared.outcome.Locked.{Locked}
+use Rattle.gl_table.specs.Refusals.{lock_tests}
+use Rattle.gl_table.specs.Table.{state_of as table_state}
+use Rattle.gl_catalog.specs.declared.command.Command.TheVariants as command
+use Rattle.gl_catalog.specs.Manager.{counting, state_of}
+use Rattle.gl_catalog.specs.Replies.{CallSteps, Notices, asked}
+use Rattle.gl_catalog.specs.Step.{answer_of_lock}
+use Rattle.gl_catalog.proofs.Counting.{locks_counting}
+use Rattle.gl_catalog.proofs.Managed.{managed_err_or_memory, managed_ok, not_both}
+use Rattle.gl_catalog.proofs.manager.Manager.lock.Goals as goal
+
+pub returns-in_err-answer-clause-step : goal.returns-in_err-answer-clause-step
+returns-in_err-answer-clause-step c =
+    let is : c.from_residual-in_err-answer.result ≡ Err c.in_err-answer.field-0.0 = search rules in
+    subst (λ (r : Result (Locked × Notices) Refusal). CallSteps (state_of c.args.self.now) (command.Lock c.args.t c.args.n c.args.mode) asked r (counting c.self.inside.accepted (table_state c.lock.new.self))) (sym is)
+    (managed_err_or_memory asked (command.Lock c.args.t c.args.n c.args.mode) c.self.inside.table c.self.inside.accepted c.args.self.now c.self.view_is (lock_tests (table_state c.self.inside.table) c.args.t c.args.n c.args.mode) refl
+    c.in_err-answer.field-0.0 c.lock.new.self c.in_ok-check_count.ensures (λ none. not_both _ _ (λ enters holds. no (c.in_err-answer.ensures.held none enters holds))) c.in_err-answer.ensures.refuses c.in_err-answer.ensures.err)
+
+pub returns-clause-step : goal.returns-clause-step
+returns-clause-step c =
+    managed_ok asked (command.Lock c.args.t c.args.n c.args.mode) c.self.inside.table c.self.inside.accepted c.args.self.now c.self.view_is (lock_tests (table_state c.self.inside.table) c.args.t c.args.n c.args.mode) refl
+    c.in_ok-answer.answer c.lock.new.self c.in_ok-check_count.ensures c.in_ok-answer.ensures.refuses refl
+    (locks_counting c.self.inside.accepted (table_state c.self.inside.table) c.args.t.slot c.args.n c.args.mode (table_state c.lock.new.self) c.in_ok-answer.ensures.state, ap answer_of_lock c.in_ok-answer.ensures.answer, c.in_ok-answer.ensures.told)

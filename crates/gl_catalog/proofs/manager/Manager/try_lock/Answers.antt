@@ -1,0 +1,32 @@
+use Rattle.std.specs.Prelude.{Err, Result}
+use Rattle.std.proofs.Common.{ap, refl, rules, subst, sym, ◌≡◌}
+use Rattle.gl_modes.specs.declared.mode.Mode.{Mode}
+use Rattle.gl_modes.specs.declared.refusal.Refusal.{Refusal}
+use Rattle.gl_graph.proofs.Look.{no}
+use Rattle.gl_table.specs.Refusals.{try_tests}
+use Rattle.gl_table.specs.Table.{state_of as table_state}
+use Rattle.gl_catalog.specs.declared.command.Answer.TheVariants as answer
+use Rattle.gl_catalog.specs.declared.command.Command.TheVariants as command
+use Rattle.gl_catalog.specs.Manager.{counting, state_of}
+use Rattle.gl_catalog.specs.Replies.{CallSteps, took}
+use Rattle.gl_catalog.proofs.Managed.{managed_err_or_memory, managed_ok, managed_worn, never_true}
+use Rattle.gl_catalog.proofs.manager.Manager.try_lock.Goals as goal
+
+pub returns-in_err-check_count-clause-step : goal.returns-in_err-check_count-clause-step
+returns-in_err-check_count-clause-step c =
+    let is : c.from_residual.result ≡ Err c.in_err-check_count.field-0.0 = search rules in
+    subst (λ (r : Result Mode Refusal). CallSteps (state_of c.args.self.now) (command.Try c.args.t c.args.n c.args.mode) took r (state_of c.args.self.now)) (sym is)
+    (managed_worn took (command.Try c.args.t c.args.n c.args.mode) c.self.inside.table c.self.inside.accepted c.args.self.now c.self.view_is (try_tests (table_state c.self.inside.table) c.args.t c.args.n c.args.mode) refl c.in_err-check_count.field-0.0 c.in_err-check_count.ensures)
+
+pub returns-in_err-mode-clause-step : goal.returns-in_err-mode-clause-step
+returns-in_err-mode-clause-step c =
+    let is : c.from_residual-in_err-mode.result ≡ Err c.in_err-mode.field-0.0 = search rules in
+    subst (λ (r : Result Mode Refusal). CallSteps (state_of c.args.self.now) (command.Try c.args.t c.args.n c.args.mode) took r (counting c.self.inside.accepted (table_state c.try_lock.new.self))) (sym is)
+    (managed_err_or_memory took (command.Try c.args.t c.args.n c.args.mode) c.self.inside.table c.self.inside.accepted c.args.self.now c.self.view_is (try_tests (table_state c.self.inside.table) c.args.t c.args.n c.args.mode) refl
+    c.in_err-mode.field-0.0 c.try_lock.new.self c.in_ok-check_count.ensures (λ none. never_true _ (λ holds. no (c.in_err-mode.ensures.held none holds))) c.in_err-mode.ensures.refuses c.in_err-mode.ensures.err)
+
+pub returns-clause-step : goal.returns-clause-step
+returns-clause-step c =
+    managed_ok took (command.Try c.args.t c.args.n c.args.mode) c.self.inside.table c.self.inside.accepted c.args.self.now c.self.view_is (try_tests (table_state c.self.inside.table) c.args.t c.args.n c.args.mode) refl
+    c.in_ok-mode.mode c.try_lock.new.self c.in_ok-check_count.ensures c.in_ok-mode.ensures.refuses refl
+    (ap answer.Granted c.in_ok-mode.ensures.mode, refl, ap (counting c.self.inside.accepted) c.in_ok-mode.ensures.state)

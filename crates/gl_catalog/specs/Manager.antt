@@ -1,0 +1,31 @@
+-- What a contract sees of a manager, the state of the model that it stands for, and what holds of every manager.
+use Rattle.std.specs.Prelude.{◌≡◌, ℕ}
+use Rattle.gl_table.specs.declared.detect.Detect.TheVariants.{AtBlock}
+use Rattle.gl_table.specs.Effects.{HasNoConflict}
+use Rattle.gl_table.specs.Headers.{AreHeaders}
+use Rattle.gl_table.specs.Lawful.{IsLawful}
+use Rattle.gl_table.specs.State.{State}
+use Rattle.gl_table.specs.Table.{ListsAgree, TableView}
+use Rattle.gl_table.specs.Table.{state_of as table_state}
+use Rattle.gl_table.specs.Waiting.{HasNoCycle}
+
+-- a manager: its table, and how many commands were accepted
+pub record ManagerView : Type 0 where
+  pub table : TableView
+  pub accepted : ℕ
+
+-- the state with this count of accepted commands
+abbrev pub counting : ℕ → State → State
+counting k s = record s { accepted = k }
+
+-- the state that it stands for
+abbrev pub state_of : ManagerView → State
+state_of m = counting m.accepted (table_state m.table)
+
+-- what holds of every manager: the state is lawful; a header stands exactly where somebody holds or waits, its group the supremum of the grants; the lists agree; nobody conflicts; and with detection at block nobody waits in a circle
+pub record IsLawfulManager (m : ManagerView) : Type 0 where
+  pub lawful : IsLawful (state_of m)
+  pub headers : AreHeaders m.table.headers
+  pub lists : ListsAgree m.table
+  pub no_conflict : HasNoConflict (state_of m)
+  pub no_cycle : m.table.detect ≡ AtBlock → HasNoCycle (state_of m)

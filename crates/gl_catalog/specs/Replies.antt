@@ -1,0 +1,83 @@
+-- What the calls of the manager answer, in the words of commands and replies.
+use Rattle.std.specs.Prelude.{◌≡◌, List, [], Option, Some, None, Result, Ok, Err, map}
+use Rattle.arrayvec.specs.ArrayVec.{ArrayVec}
+use Rattle.gl_modes.specs.declared.mode.Mode.{Mode}
+use Rattle.gl_modes.specs.declared.node.NodeId.{NodeId}
+use Rattle.gl_modes.specs.declared.refusal.Refusal.{Refusal}
+use Rattle.gl_table.specs.declared.effect.Effect.{Effect}
+use Rattle.gl_table.specs.declared.notice.Notice.{Notice}
+use Rattle.gl_table.specs.declared.outcome.Locked.{Locked}
+use Rattle.gl_table.specs.declared.txn.Status.{Status}
+use Rattle.gl_table.specs.declared.txn.Status.TheVariants.{Waiting}
+use Rattle.gl_table.specs.declared.txn.TxnId.{TxnId}
+use Rattle.gl_table.specs.State.{State}
+use Rattle.gl_table.specs.Tellings.{Told}
+use Rattle.gl_catalog.specs.declared.command.Answer.{Answer}
+use Rattle.gl_catalog.specs.declared.command.Answer.TheVariants as answer
+use Rattle.gl_catalog.specs.declared.command.Command.{Command}
+use Rattle.gl_catalog.specs.declared.command.Escalated.{Escalated}
+use Rattle.gl_catalog.specs.declared.command.Reply.{Reply}
+use Rattle.gl_catalog.specs.Step.{Step, answer_of_lock}
+
+-- an answer, and who is told what
+abbrev pub Says : Type 0
+Says = Answer × Told
+
+-- the notices of a told list
+abbrev pub Notices : Type 0
+Notices = ArrayVec (TxnId × Notice)
+
+-- a node was made
+abbrev pub made : NodeId → Says
+made n = (answer.Node n, [])
+
+-- a transaction began
+abbrev pub began : TxnId → Says
+began t = (answer.Begun t, [])
+
+-- it was done
+abbrev pub done : Notices → Says
+done told = (answer.Done, told.items)
+
+-- a mode was granted
+abbrev pub took : Mode → Says
+took m = (answer.Granted m, [])
+
+-- a lock was asked for
+abbrev pub asked : Locked × Notices → Says
+asked x = (answer_of_lock x.0, x.1.items)
+
+-- an escalation was done
+abbrev pub rose : Escalated × Notices → Says
+rose x = (answer.Escalated x.0, x.1.items)
+
+-- a mode was asked after
+abbrev pub read_mode : Mode → Says
+read_mode m = (answer.Mode m, [])
+
+-- an effective mode was asked after
+abbrev pub read_effect : Effect → Says
+read_effect e = (answer.Effect e, [])
+
+-- what is said where a call may be refused
+abbrev pub said : {A : Type 0} → (A → Says) → Result A Refusal → Says
+said says (Ok x) = says x
+said says (Err r) = (answer.Refused r, [])
+
+-- a call is a step of the model
+abbrev pub CallSteps : {A : Type 0} → State → Command → (A → Says) → Result A Refusal → State → Type 0
+CallSteps s c says result s' = Step s c (said says result).0 (said says result).1 s'
+
+-- a reply that says what a call answered
+pub record RepliesTo {A : Type 0} (says : A → Says) (result : Result A Refusal) (reply : Reply) : Type 0 where
+  pub answer : reply.answer ≡ (said says result).0
+  pub told : reply.told.items ≡ (said says result).1
+
+-- what is waited for, and the wanted mode
+abbrev pub wait_of : Option Status → Option (NodeId × Mode)
+wait_of (Some (Waiting n m)) = Some (n, m)
+wait_of o = None
+
+-- what a list of replies says
+abbrev pub said_in : List Reply → List Says
+said_in replies = map (λ r. (r.answer, r.told.items)) replies

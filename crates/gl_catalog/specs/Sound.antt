@@ -1,0 +1,11 @@
+-- What a contract sees of a manager's fields, and what holds of them always.
+use Rattle.gl_catalog.specs.declared.manager.Manager.TheInside.{Inside}
+use Rattle.gl_catalog.specs.Manager.{IsLawfulManager, ManagerView}
+
+-- what a contract sees
+abbrev pub view_of : Inside → ManagerView
+view_of m = record { table = m.table; accepted = m.accepted }
+
+-- what holds of the fields
+abbrev pub IsSound : Inside → Type 0
+IsSound m = IsLawfulManager (view_of m)

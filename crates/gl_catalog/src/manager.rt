@@ -1,0 +1,107 @@
+//! The manager of locks: a table, and the count of accepted commands.
+
+ghost use Rattle.std.specs.Prelude.{◌≡◌, ◌≤◌, ◌&&◌, IfErr, IfOk, None, Some, if◌then◌else◌};
+ghost use Rattle.gl_modes.specs.declared.refusal.Refusal.{Refusal as ARefusal};
+ghost use Rattle.gl_header.specs.Header.{holds};
+ghost use Rattle.gl_table.specs.BoardOf.{board_of};
+ghost use Rattle.gl_table.specs.Covered.{held_children};
+ghost use Rattle.gl_table.specs.State.{empty_state, lives, members, status_of};
+ghost use Rattle.gl_catalog.specs.Manager.{IsLawfulManager, state_of};
+ghost use Rattle.gl_catalog.specs.Replies.{wait_of};
+
+use gl_graph::Graph;
+use gl_modes::{Mode, NodeId, Refusal};
+use gl_table::{Detect, Status, Table, TxnId};
+use gl_waits::Board;
+use std::alloc::Global;
+use std::marker::Model;
+
+mod apply;
+mod checks;
+mod escalation;
+mod locks;
+mod moves;
+mod nodes;
+mod records;
+
+/// The lock manager of one thread: the table of locks, and how many commands it has accepted.
+#[derive(Drop)]
+pub struct Manager {
+    table: Table,
+    accepted: u64,
+}
+
+impl Model for Manager {
+    ghost use Rattle.gl_catalog.specs.Manager.{ManagerView};
+
+    ghost Value = { ManagerView };
+
+    ghost use Rattle.gl_catalog.specs.Sound.{view_of, IsSound};
+
+    ghost view = { view_of };
+
+    ghost invariant = { IsSound };
+}
+
+impl Manager {
+    /// A manager without nodes and transactions, for at most so many transactions at once. The only
+    /// refusal is `NoMemory`.
+    pub fn new(alloc: Global, detect: Detect, most: usize) -> Result<Self, Refusal>
+        requires some { 1 ≤ most }
+        requires few { most ≤ 128 }
+        ensures made { IfOk result (λ manager. state_of manager ≡ empty_state detect most) }
+        ensures refused { IfErr result (λ refusal. refusal ≡ ARefusal.NoMemory) }
+    {
+        let table = Table::new(alloc, detect, most)?;
+        table.law();
+        Ok(Manager { table, accepted: 0 })
+    }
+
+    /// The law of every manager, whatever commands it has carried out.
+    pub fn law(&self)
+        ensures { IsLawfulManager self.now }
+    {
+        let _ = &self.accepted;
+    }
+
+    /// How many commands were accepted: every command that changes something counts, where it was
+    /// not refused.
+    pub fn accepted(&self) -> u64
+        ensures { result ≡ self.now.accepted }
+    {
+        self.accepted
+    }
+
+    /// Who waits for whom at this moment; its epoch is the count of accepted commands.
+    pub fn board(&self) -> Board
+        ensures { result ≡ board_of (state_of self.now) }
+    {
+        self.table.board(self.accepted)
+    }
+
+    /// The lock graph.
+    pub fn graph(&self) -> &Graph
+        ensures { result.now ≡ self.now.table.graph }
+    {
+        self.table.graph()
+    }
+
+    /// The node that a transaction waits for, and the wanted mode; `None` where it does not live or
+    /// does not wait. It takes no memory.
+    pub fn waiting(&self, t: TxnId) -> Option<(NodeId, Mode)>
+        ensures { result ≡ (if lives (state_of self.now) t then wait_of (status_of (state_of self.now) t.slot) else None) }
+    {
+        match self.table.status(t) {
+            Some(Status::Waiting { node, wanted }) => Some((node, wanted)),
+            _ => None,
+        }
+    }
+
+    /// How many children of a node a transaction holds; `None` where it does not live or does not
+    /// hold the node. It takes no memory.
+    pub fn children(&self, t: TxnId, n: NodeId) -> Option<u32>
+        ensures { result ≡ (if lives (state_of self.now) t && holds (members (state_of self.now) n) t.slot then Some (held_children (state_of self.now) t.slot n) else None) }
+    {
+        self.table.children(t, n)
+    }
+}

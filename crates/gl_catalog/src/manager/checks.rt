@@ -1,0 +1,71 @@
+//! The tests that the manager makes before it changes anything, each with the refusal that it
+//! answers.
+
+ghost use Rattle.std.specs.Prelude.{◌≡◌, ◌∷◌, [], true};
+ghost use Rattle.gl_graph.specs.Graph.{is_live};
+ghost use Rattle.gl_graph.specs.Refusals.{first_refusal, verdict};
+ghost use Rattle.gl_table.specs.Refusals.{commit_tests, first_not_ix};
+ghost use Rattle.gl_table.specs.State.{lives};
+ghost use Rattle.gl_catalog.specs.Manager.{state_of};
+ghost use Rattle.gl_catalog.specs.Tests.{worn};
+
+use super::Manager;
+use gl_modes::{Mode, NodeId, Refusal, covers};
+use gl_table::{Status, TxnId};
+
+impl Manager {
+    /// Whether one command more can be counted.
+    pub(super) fn check_count(&self) -> Result<(), Refusal>
+        ensures { result ≡ verdict (worn (state_of self.now)) }
+    {
+        if self.accepted == u64::MAX {
+            Err(Refusal::WornOut)
+        } else {
+            Ok(())
+        }
+    }
+
+    /// Whether the name names a transaction that lives and neither waits nor is condemned.
+    pub(super) fn check_active(&self, t: TxnId) -> Result<(), Refusal>
+        ensures { result ≡ verdict (first_refusal (commit_tests (state_of self.now) t)) }
+    {
+        match self.table.status(t) {
+            Some(Status::Active) => Ok(()),
+            Some(Status::Waiting { .. }) => Err(Refusal::TxnWaiting),
+            Some(Status::Condemned) => Err(Refusal::TxnCondemned),
+            None => Err(Refusal::NoSuchTxn),
+        }
+    }
+
+    /// Whether the id names a node.
+    pub(super) fn lives(&self, n: NodeId) -> bool
+        ensures { result ≡ is_live (state_of self.now).graph n }
+    {
+        self.table.graph().kind(n).is_some()
+    }
+
+    /// The mode in which a living transaction holds a living node.
+    pub(super) fn mode(&self, t: TxnId, n: NodeId) -> Mode
+        requires txn { lives (state_of self.now) t ≡ true }
+        requires node { is_live (state_of self.now).graph n ≡ true }
+        ensures { result ≡ (state_of self.now).held t.slot n }
+    {
+        match self.table.held(t, n) {
+            Ok(mode) => mode,
+            Err(_) => unreachable!(),
+        }
+    }
+    /// Whether a living transaction holds a living node in IX or greater, as one who writes below it
+    /// must.
+    pub(super) fn check_writes(&self, t: TxnId, n: NodeId) -> Result<(), Refusal>
+        requires txn { lives (state_of self.now) t ≡ true }
+        requires node { is_live (state_of self.now).graph n ≡ true }
+        ensures { result ≡ verdict (first_not_ix ((state_of self.now).held t.slot) (n ∷ [])) }
+    {
+        if covers(self.mode(t, n), Mode::IX) {
+            Ok(())
+        } else {
+            Err(Refusal::NeedParents { node: n })
+        }
+    }
+}

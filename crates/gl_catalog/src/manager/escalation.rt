@@ -1,0 +1,68 @@
+//! A lock on a node in place of locks on its children.
+
+ghost use Rattle.std.specs.Prelude.{◌≡◌, ◌+◌, ◌∷◌, OnErr, OnOk};
+ghost use Rattle.gl_graph.specs.Refusals.{first_refusal, verdict};
+ghost use Rattle.gl_catalog.specs.declared.command.Command.TheVariants as command;
+ghost use Rattle.gl_catalog.specs.Manager.{state_of};
+ghost use Rattle.gl_catalog.specs.Replies.{CallSteps, rose};
+ghost use Rattle.gl_catalog.specs.Tests.{escalate_asks, worn};
+
+use super::Manager;
+use crate::command::Escalated;
+use gl_graph::Kind;
+use gl_modes::{Mode, NodeId, Refusal};
+use gl_table::{Told, TxnId};
+
+impl Manager {
+    /// Raises the lock of a node, to X where the transaction holds some child of it in IX, SIX or X,
+    /// else to S, and releases the children whose locks the raised one implies: a held child of which
+    /// no child is held, not held in X, or held in X with X on each of its parents. Each child that
+    /// was released grants from its front. Answers what was done, and who is told of a grant, by
+    /// rising slot.
+    ///
+    /// Refused, in this order, with `WornOut`, `NoSuchTxn`, `TxnWaiting`, `TxnCondemned`,
+    /// `NoSuchNode`, `BadParents` (a record), `NotHeld` and `WouldBlock`, where the raised mode is not
+    /// granted at once. It takes no memory, and goes over what the transaction holds.
+    pub fn escalate(&mut self, t: TxnId, n: NodeId) -> Result<(Escalated, Told), Refusal>
+        ensures step { CallSteps (state_of self.old) (command.Escalate t n) rose result (state_of self.new) }
+        ensures counted { OnOk result (self.new.accepted ≡ self.old.accepted + 1) }
+        ensures err { OnErr result (self.new ≡ self.old) }
+    {
+        self.check_escalate(t, n)?;
+        let asked = if self.table.writes_below(t, n) {
+            Mode::X
+        } else {
+            Mode::S
+        };
+        let mode = self.table.try_lock(t, n, asked)?;
+        let (released, kept, told) = self.table.shed(t, n);
+        self.table.law();
+        self.accepted += 1;
+        Ok((
+            Escalated {
+                mode,
+                released,
+                kept,
+            },
+            told,
+        ))
+    }
+
+    /// The tests of `escalate` but for whether the raised mode is granted at once.
+    fn check_escalate(&self, t: TxnId, n: NodeId) -> Result<(), Refusal>
+        ensures { result ≡ verdict (first_refusal (worn (state_of self.now) ∷ escalate_asks (state_of self.now) t n)) }
+    {
+        self.check_count()?;
+        self.check_active(t)?;
+        match self.table.graph().kind(n) {
+            Some(Kind::Rec) => return Err(Refusal::BadParents),
+            Some(_) => {}
+            None => return Err(Refusal::NoSuchNode),
+        }
+        if self.mode(t, n) == Mode::NL {
+            Err(Refusal::NotHeld)
+        } else {
+            Ok(())
+        }
+    }
+}

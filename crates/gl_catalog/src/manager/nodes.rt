@@ -1,0 +1,55 @@
+//! New nodes of the graph.
+
+ghost use Rattle.std.specs.Prelude.{◌≡◌, ◌+◌, OnErr, OnOk};
+ghost use Rattle.gl_catalog.specs.declared.command.Command.TheVariants as command;
+ghost use Rattle.gl_catalog.specs.Manager.{state_of};
+ghost use Rattle.gl_catalog.specs.Replies.{CallSteps, made};
+
+use super::Manager;
+use gl_modes::{NodeId, Refusal};
+
+impl Manager {
+    /// A new inner node.
+    pub(super) fn add_inner(&mut self, parents: &[NodeId]) -> Result<NodeId, Refusal>
+        ensures step { CallSteps (state_of self.old) (command.Inner parents.entry) made result (state_of self.new) }
+        ensures counted { OnOk result (self.new.accepted ≡ self.old.accepted + 1) }
+        ensures err { OnErr result (self.new ≡ self.old) }
+    {
+        self.check_count()?;
+        let node = self.table.add_inner(parents)?;
+        self.table.law();
+        self.accepted += 1;
+        Ok(node)
+    }
+
+    /// A new file.
+    pub(super) fn add_file(&mut self, parents: &[NodeId]) -> Result<NodeId, Refusal>
+        ensures step { CallSteps (state_of self.old) (command.File parents.entry) made result (state_of self.new) }
+        ensures counted { OnOk result (self.new.accepted ≡ self.old.accepted + 1) }
+        ensures err { OnErr result (self.new ≡ self.old) }
+    {
+        self.check_count()?;
+        let node = self.table.add_file(parents)?;
+        self.table.law();
+        self.accepted += 1;
+        Ok(node)
+    }
+
+    /// A new index of a file, with its intervals.
+    pub(super) fn add_index(
+        &mut self,
+        parents: &[NodeId],
+        file: NodeId,
+        bounds: &[u64],
+    ) -> Result<NodeId, Refusal>
+        ensures step { CallSteps (state_of self.old) (command.Index parents.entry file bounds.entry) made result (state_of self.new) }
+        ensures counted { OnOk result (self.new.accepted ≡ self.old.accepted + 1) }
+        ensures err { OnErr result (self.new ≡ self.old) }
+    {
+        self.check_count()?;
+        let node = self.table.add_index(parents, file, bounds)?;
+        self.table.law();
+        self.accepted += 1;
+        Ok(node)
+    }
+}

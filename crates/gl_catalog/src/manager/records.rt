@@ -1,0 +1,109 @@
+//! Records come and go.
+
+ghost use Rattle.std.specs.Prelude.{◌≡◌, ◌+◌, ◌∷◌, OnErr, OnOk, length, true};
+ghost use Rattle.gl_graph.specs.Graph.{indexes_of, record_parents, shape_of};
+ghost use Rattle.gl_graph.specs.Refusals.{first_refusal, verdict};
+ghost use Rattle.gl_graph.specs.Shapes.{is_file_shape};
+ghost use Rattle.gl_table.specs.Refusals.{first_not_ix};
+ghost use Rattle.gl_table.specs.State.{lives};
+ghost use Rattle.gl_catalog.specs.declared.command.Command.TheVariants as command;
+ghost use Rattle.gl_catalog.specs.Manager.{state_of};
+ghost use Rattle.gl_catalog.specs.Replies.{CallSteps, done, made};
+ghost use Rattle.gl_catalog.specs.Tests.{insert_asks, refusal_of, worn};
+
+use super::Manager;
+use gl_graph::Kind;
+use gl_modes::{Mode, NodeId, Refusal};
+use gl_table::{Told, TxnId};
+
+impl Manager {
+    /// Makes a record of a file, with a key for each of the file's indexes, in order of their making,
+    /// and gives it to the transaction in X. The record lies under the file and, for each index, under
+    /// the interval that holds its key.
+    ///
+    /// Refused, in this order, with `WornOut`, `NoSuchTxn`, `TxnWaiting`, `TxnCondemned`,
+    /// `NoSuchNode`, `BadParents` (the node is no file), `BadKeys` (not one for each index),
+    /// `NeedParents` (the first of the parents that is not held in IX or greater), `TooManyNodes` and
+    /// `NoMemory`.
+    pub fn insert(&mut self, t: TxnId, file: NodeId, keys: &[u64]) -> Result<NodeId, Refusal>
+        ensures step { CallSteps (state_of self.old) (command.Insert t file keys.entry) made result (state_of self.new) }
+        ensures counted { OnOk result (self.new.accepted ≡ self.old.accepted + 1) }
+        ensures err { OnErr result (self.new ≡ self.old) }
+    {
+        self.check_insert(t, file, keys)?;
+        let rec = self.table.place(t, file, keys)?;
+        self.table.law();
+        self.accepted += 1;
+        Ok(rec)
+    }
+
+    /// Takes a record away that the transaction holds in X. Who waits for it is active again. Answers
+    /// who is told that it is gone, by rising slot.
+    ///
+    /// Refused, in this order, with `WornOut`, `NoSuchTxn`, `TxnWaiting`, `TxnCondemned`,
+    /// `NoSuchNode`, `BadParents` (the node is no record) and `NeedExclusive`. It takes no memory.
+    pub fn delete(&mut self, t: TxnId, rec: NodeId) -> Result<Told, Refusal>
+        ensures step { CallSteps (state_of self.old) (command.Delete t rec) done result (state_of self.new) }
+        ensures counted { OnOk result (self.new.accepted ≡ self.old.accepted + 1) }
+        ensures err { OnErr result (self.new ≡ self.old) }
+    {
+        self.check_delete(t, rec)?;
+        let told = self.table.remove(t, rec);
+        self.table.law();
+        self.accepted += 1;
+        Ok(told)
+    }
+
+    /// The tests of `insert` but for the room in the graph and in memory.
+    fn check_insert(&self, t: TxnId, file: NodeId, keys: &[u64]) -> Result<(), Refusal>
+        ensures { result ≡ verdict (first_refusal (worn (state_of self.now) ∷ insert_asks (state_of self.now) t file keys.now)) }
+    {
+        self.check_count()?;
+        if self.table.graph().worn() {
+            return Err(Refusal::WornOut);
+        }
+        self.check_active(t)?;
+        match self.table.graph().kind(file) {
+            Some(Kind::File) => {}
+            Some(_) => return Err(Refusal::BadParents),
+            None => return Err(Refusal::NoSuchNode),
+        }
+        if keys.len() != self.table.graph().indexes(file).len() {
+            return Err(Refusal::BadKeys);
+        }
+        self.check_parents(t, file, keys)
+    }
+
+    /// Whether each parent of a new record would be held in IX or greater.
+    fn check_parents(&self, t: TxnId, file: NodeId, keys: &[u64]) -> Result<(), Refusal>
+        requires txn { lives (state_of self.now) t ≡ true }
+        requires file { is_file_shape (shape_of (state_of self.now).graph file) ≡ true }
+        requires keys { length keys.now ≡ length (indexes_of (state_of self.now).graph file) }
+        ensures { result ≡ verdict (first_not_ix ((state_of self.now).held t.slot) (record_parents (state_of self.now).graph file keys.now)) }
+    {
+        self.check_writes(t, file)?;
+        let graph = self.table.graph();
+        for (index, key) in graph.indexes(file).iter().zip(keys) {
+            self.check_writes(t, graph.interval_of(*index, *key))?;
+        }
+        Ok(())
+    }
+
+    /// The tests of `delete`.
+    fn check_delete(&self, t: TxnId, rec: NodeId) -> Result<(), Refusal>
+        ensures { result ≡ verdict (refusal_of (state_of self.now) (command.Delete t rec)) }
+    {
+        self.check_count()?;
+        self.check_active(t)?;
+        match self.table.graph().kind(rec) {
+            Some(Kind::Rec) => {}
+            Some(_) => return Err(Refusal::BadParents),
+            None => return Err(Refusal::NoSuchNode),
+        }
+        if self.mode(t, rec) == Mode::X {
+            Ok(())
+        } else {
+            Err(Refusal::NeedExclusive)
+        }
+    }
+}
