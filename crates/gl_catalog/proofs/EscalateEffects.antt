@@ -35,9 +35,9 @@ use Rattle.gl_catalog.proofs.EachStep.{each_step}
 use Rattle.gl_catalog.proofs.Keeps.{effect_refl, x_more, read_more}
 use Rattle.gl_catalog.proofs.NotRefused.{active_is}
 use Rattle.gl_modes.proofs.ModeLemmas.{at_least-refl, supremum-above}
-use Rattle.gl_table.proofs.Edges.{not_is}
 use Rattle.gl_table.proofs.Effects.{eff_s_route, read_on_eff}
 use Rattle.gl_table.proofs.Queues.{grants_other}
+use Rattle.std.proofs.lemmas.Bool.{not-true}
 
 sup_reads : (a b : Mode) → is_read b ≡ true → is_read (supremum a b) ≡ true
 sup_reads a b h = search rules
@@ -117,7 +117,7 @@ module _ (s : State) (law : IsLawful s) (t : ℕ) (n : NodeId) (active : status_
       let a = and_both (is_child s.graph n c && holds (members up c) t && not (holds_child up t c)) (not (same_mode (up.held t c) X) || list_all (λ p. same_mode (up.held t p) X) (parents_of s.graph c)) h in
       let b = and_both (is_child s.graph n c && holds (members up c) t) (not (holds_child up t c)) a.0 in
       let d = and_both (is_child s.graph n c) (holds (members up c) t) b.0 in
-      (d.0, d.1, not_is (holds_child up t c) b.1, a.1)
+      (d.0, d.1, not-true (holds_child up t c) b.1, a.1)
 
   node_stays : gone n ≡ false
   node_stays = split (gone n) (λ e. absurd (law.graph.acyclic n n [] ((covers n e).0, refl))) (λ e. e)

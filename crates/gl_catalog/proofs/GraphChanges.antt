@@ -18,12 +18,13 @@ use Rattle.gl_table.specs.Lawful.{IsLawful}
 use Rattle.gl_table.specs.Effects.{eff_x, EffX}
 use Rattle.gl_table.specs.Intends.{no_parents}
 use Rattle.gl_table.proofs.NoConflict.{no_conflict_law}
-use Rattle.gl_table.proofs.Effects.{or_true, ReadOn, read_on_eff, eff_x_any}
+use Rattle.gl_table.proofs.Effects.{ReadOn, read_on_eff, eff_x_any}
 use Rattle.gl_table.proofs.Transfer.{GraphStep}
 use Rattle.gl_catalog.proofs.Keeps.{read_lives}
 use Rattle.gl_graph.proofs.Look.{split, and_both, no}
 use Rattle.gl_modes.proofs.NodeLemmas.{same_node-equal}
-use Rattle.gl_table.proofs.Edges.{not_is}
+use Rattle.std.proofs.lemmas.Bool.{not-true}
+use Rattle.std.proofs.Math.Bool.{or-true}
 
 -- under an effective X of u, t has no effective S
 pub quiet_under : (s : State) → IsLawful s → (u t : ℕ) → u ≢ t → (n : NodeId) → EffX s u n → ReadOn s.graph (s.held t) n → ⊥
@@ -39,7 +40,7 @@ x_here s u n x = held_x (node_count s.graph) s.graph (s.held u) n x
 
 pub x_on_parents : (s : State) → IsLawful s → (u : ℕ) (n : NodeId) → is_live s.graph n ≡ true → not (no_parents (parents_of s.graph n)) ≡ true → list_all (λ p. same_mode (s.held u p) X) (parents_of s.graph n) ≡ true → EffX s u n
 x_on_parents s law u n live some all =
-    eff_x_any s law u 1 n live (ap (λ b. same_mode (s.held u n) X || b) (ap₂ (λ a b. a && b) some all) ∙ or_true _)
+    eff_x_any s law u 1 n live (ap (λ b. same_mode (s.held u n) X || b) (ap₂ (λ a b. a && b) some all) ∙ or-true _)
 
 -- what t may hold beside an X
 pub beside_x : (m w : Mode) → same_mode m X ≡ true → are_compatible m w ≡ true → w ≡ NL
@@ -92,7 +93,7 @@ born_no_records : (b : ℕ) (g : Graph) (ns : List Node) → no_records ns ≡ t
 born_no_records b g [] plain above = above
 born_no_records b g (n ∷ ns) plain above =
     let both = and_both _ _ plain in
-    born_no_records b (born_node g n) ns both.1 (λ c new. by c (c.birth == g.births + 1) (not_is _ both.0) (above c new))
+    born_no_records b (born_node g n) ns both.1 (λ c new. by c (c.birth == g.births + 1) (not-true _ both.0) (above c new))
   where
     by : (c : NodeId) (e : Bool) → is_record_shape (Some n.shape) ≡ false → is_record_shape (shape_of g c) ≡ false → is_record_shape (shape_in (with_key c.key (if e then Some n else g.at c.birth))) ≡ false
     by c true p a = shape_found c.key n p

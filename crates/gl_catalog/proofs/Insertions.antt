@@ -31,7 +31,7 @@ use Rattle.gl_catalog.specs.Manager.{IsLawfulManager, ManagerView, counting, sta
 use Rattle.gl_catalog.specs.Replies.{CallSteps, made}
 use Rattle.gl_catalog.specs.Tests.{insert_asks, refusal_of, worn}
 use Rattle.gl_catalog.proofs.Carried.{accepted_step, refused_step}
-use Rattle.gl_catalog.proofs.FirstOf.{passed_then, refused_first}
+use Rattle.gl_graph.proofs.FirstOf.{passed_then, refused_first}
 
 -- the graph of a manager is lawful
 pub lawful_graph : (v w : ManagerView) → v ≡ w → IsLawfulManager v → IsLawfulGraph (state_of w).graph

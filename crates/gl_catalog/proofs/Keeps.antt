@@ -21,14 +21,15 @@ use Rattle.gl_table.specs.Intends.{no_parents}
 use Rattle.gl_table.specs.Tellings.{Told}
 use Rattle.gl_table.specs.Below.{SameBelow}
 use Rattle.gl_catalog.specs.Promises.{is_grant_to}
-use Rattle.gl_table.proofs.Effects.{or_true, all_from, any_found, ReadOn, eff_s_route, read_on_eff}
+use Rattle.gl_table.proofs.Effects.{all_from, ReadOn, eff_s_route, read_on_eff}
 use Rattle.gl_table.proofs.Transfer.{GraphStep, reads_carry, effective_same, below_same}
 use Rattle.gl_catalog.proofs.ToldGrants.{tells, tells_grant, any_weaker}
 use Rattle.gl_table.proofs.Follows.{Follows, SameGrants, GrantedTo}
 use Rattle.gl_graph.proofs.Look.{split, or_elim, and_both, all_at}
 use Rattle.gl_modes.proofs.NodeLemmas.{same_node-equal}
 use Rattle.gl_modes.proofs.ModeLemmas.{at_least-refl}
-use Rattle.gl_graph.proofs.Moved.{some_at}
+use Rattle.gl_graph.proofs.Moved.{some_at, any_found}
+use Rattle.std.proofs.Math.Bool.{or-true}
 
 abbrev pub ToldGrant : State → State → TxnId → Told → Type 0
 ToldGrant s s' t told' = (g : GrantedTo s s' t.slot) × (list_any (tells t g.node g.mode) told' ≡ true)
@@ -74,14 +75,14 @@ module _ (g : Graph) (h h' : NodeId → Mode) (more : (q : NodeId) → is_at_lea
   more_s (suc k) n x =
       or_elim _ _ x (λ here. ap (λ b. b || list_any (eff_s k g h') (parents_of g n)) (read_more _ _ (more n) here))
       (λ up. let f = any_found (eff_s k g h) (parents_of g n) up in
-      ap (λ b. is_read (h' n) || b) (some_at (eff_s k g h') (parents_of g n) f.0 f.1 (more_s k f.0 f.2)) ∙ or_true _)
+      ap (λ b. is_read (h' n) || b) (some_at (eff_s k g h') (parents_of g n) f.0 f.1 (more_s k f.0 f.2)) ∙ or-true _)
 
   more_x : (k : ℕ) (n : NodeId) → eff_x k g h n ≡ true → eff_x k g h' n ≡ true
   more_x zero n x = x_more _ _ (more n) x
   more_x (suc k) n x =
       or_elim _ _ x (λ here. ap (λ b. b || (not (no_parents (parents_of g n)) && list_all (eff_x k g h') (parents_of g n))) (x_more _ _ (more n) here))
       (λ up. let both = and_both _ _ up in
-      ap (λ b. same_mode (h' n) X || b) (ap₂ (λ a b. a && b) both.0 (all_from (eff_x k g h') (parents_of g n) (λ p on. more_x k p (all_at (eff_x k g h) (parents_of g n) p on both.1)))) ∙ or_true _)
+      ap (λ b. same_mode (h' n) X || b) (ap₂ (λ a b. a && b) both.0 (all_from (eff_x k g h') (parents_of g n) (λ p on. more_x k p (all_at (eff_x k g h) (parents_of g n) p on both.1)))) ∙ or-true _)
 
 abbrev effect_of : Bool → Bool → Effect
 effect_of x r = if x then effect.X else (if r then effect.S else effect.None)

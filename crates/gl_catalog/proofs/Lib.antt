@@ -39,7 +39,6 @@ pub mod Counting
 pub mod Carried
 pub mod Managed
 pub mod Applied
-pub mod FirstOf
 pub mod Insertions
 pub mod Deletions
 pub mod Raising

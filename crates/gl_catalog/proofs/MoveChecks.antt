@@ -24,7 +24,7 @@ use Rattle.gl_table.specs.declared.txn.TxnId.{TxnId}
 use Rattle.gl_table.proofs.CutSet.{not_all}
 use Rattle.gl_table.proofs.Rules.{first_not_ix-drop}
 use Rattle.gl_catalog.specs.Tests.{move_asks, rekey_tests, worn}
-use Rattle.gl_catalog.proofs.FirstOf.{passed_then}
+use Rattle.gl_graph.proofs.FirstOf.{passed_then}
 
 -- of these nodes the first decides, where it is not held in IX or greater
 pub first_decides : (held : NodeId → Mode) (ps : List NodeId) (i : ℕ) (d : NodeId) (r : Refusal) → i < length ps → Err r ≡ verdict (first_not_ix held (get_or ps i d ∷ [])) → Err r ≡ verdict (first_not_ix held (drop i ps))

@@ -1,30 +1,29 @@
 -- An escalation by the calls of the table: whether some child is held to write, a try of the mode that follows from it, and then the shedding.
 use Rattle.std.specs.Prelude.{◌≡◌, ℕ, ◌+◌, ◌-◌, Bool, true, false, not, ◌&&◌, ◌||◌, [], ◌∷◌, Option, Some, None, Ok, Err, IsOk, if◌then◌else◌}
-use Rattle.std.specs.List.{list_all, list_any}
+use Rattle.std.specs.List.{list_any}
 use Rattle.std.proofs.Common.{refl, sym, ap, ◌∙◌}
 use Rattle.gl_modes.specs.declared.mode.Mode.{Mode}
-use Rattle.gl_modes.specs.declared.mode.Mode.TheVariants.{NL, IS, IX, S, X}
+use Rattle.gl_modes.specs.declared.mode.Mode.TheVariants.{NL, S, X}
 use Rattle.gl_modes.specs.declared.node.NodeId.{NodeId}
 use Rattle.gl_modes.specs.declared.refusal.Refusal.{Refusal}
 use Rattle.gl_modes.specs.declared.refusal.Refusal.TheVariants as no
 use Rattle.gl_modes.specs.Modes.{is_at_least, same_mode, supremum}
-use Rattle.gl_modes.proofs.Each.{every-true, implied, implies, same, same-equal}
+use Rattle.gl_modes.proofs.Each.{every-true}
 use Rattle.gl_graph.specs.Graph.{is_child, nodes, parents_of, shape_of}
 use Rattle.gl_graph.specs.Refusals.{Refuses, first_refusal, verdict, where_true}
 use Rattle.gl_graph.specs.Shapes.{is_record_shape}
-use Rattle.gl_graph.proofs.Look.{all_at, and_both, both, no, number_same, or_left, same_node_refl}
+use Rattle.gl_graph.proofs.Look.{both, no, number_same, or_left, same_node_refl}
 use Rattle.gl_graph.proofs.Unrefused.{not_false, not_refused, test_fails}
 use Rattle.gl_header.specs.Header.{fits, holds, is_empty}
 use Rattle.gl_table.specs.declared.txn.Status.TheVariants.{Active}
 use Rattle.gl_table.specs.declared.txn.TxnId.{TxnId}
 use Rattle.gl_table.specs.Calls.{asked_by_escalation, granted, raised, shed, wanted}
 use Rattle.gl_table.specs.Covered.{covered_children, held_children}
-use Rattle.gl_table.specs.Intends.{is_write, no_parents}
+use Rattle.gl_table.specs.Intends.{is_write}
 use Rattle.gl_table.specs.Lawful.{IsLawful}
 use Rattle.gl_table.specs.Refusals.{active_on, bad_mode, escalation_blocks, first_not_ix, first_of_all, need_parents, no_txn, not_held, try_tests, would_block}
 use Rattle.gl_table.specs.State.{State, lives, members, status_of}
 use Rattle.gl_table.specs.Tellings.{told}
-use Rattle.gl_table.proofs.Effects.{any_found}
 use Rattle.gl_table.proofs.Locking.{test_refused}
 use Rattle.gl_table.proofs.TestsPass.{active_after}
 use Rattle.gl_catalog.specs.declared.command.Answer.TheVariants as answer
@@ -34,26 +33,18 @@ use Rattle.gl_catalog.specs.Manager.{counting}
 use Rattle.gl_catalog.specs.Replies.{CallSteps, Notices, rose}
 use Rattle.gl_catalog.specs.Tests.{escalate_asks, refusal_of, worn}
 use Rattle.gl_catalog.proofs.Carried.{accepted_step, refused_step}
-use Rattle.gl_catalog.proofs.FirstOf.{passed_then, passes_first, refused_first}
+use Rattle.gl_graph.proofs.FirstOf.{passed_then, passes_first, refused_first}
 use Rattle.gl_catalog.proofs.NotRefused.{txn_lives}
+use Rattle.gl_table.proofs.Escalates.{raised_intends}
 
 -- what an escalation asks, by whether some child is held to write
 abbrev asked_if : Bool → Mode
 asked_if b = if b then X else S
 
--- the raised mode writes only where the old one did, if the node was held to write where a child is
-raised_writes : (a : Mode) (b : Bool) → (b ≡ true → is_write a ≡ true) → is_write (supremum a (asked_if b)) ≡ is_write a
-raised_writes a true h = every-true (λ x. is_write (supremum x X)) refl a ∙ sym (h refl)
-raised_writes a false h = same-equal _ _ (every-true (λ x. same (is_write (supremum x S)) (is_write x)) refl a)
-
--- and it reads
+-- the raised mode reads
 raised_reads : (a : Mode) (b : Bool) → is_at_least (supremum a (asked_if b)) S ≡ true
 raised_reads a true = every-true (λ x. is_at_least (supremum x X) S) refl a
 raised_reads a false = every-true (λ x. is_at_least (supremum x S) S) refl a
-
--- a mode to write is one
-write_held : (m : Mode) → is_write m ≡ true → not (same_mode m NL) ≡ true
-write_held m h = implied _ _ (every-true (λ x. implies (is_write x) (not (same_mode x NL))) refl m) h
 
 -- the asked mode suits each node but a record
 suits : (b rec : Bool) → rec ≡ false → where_true (same_mode (asked_if b) NL || (rec && not (same_mode (asked_if b) S || same_mode (asked_if b) X))) no.BadMode ≡ None
@@ -96,21 +87,9 @@ module _ (s : State) (t : TxnId) (n : NodeId) (passed : first_refusal (worn s �
   asked_is b e = ap asked_if (e ∙ ap (λ l. l && writes) alive)
 
   module _ (law : IsLawful s) where
-    -- who holds a child to write holds the node to write
-    writes_up : writes ≡ true → is_write (s.held t.slot n) ≡ true
-    writes_up h =
-        let found = any_found (λ c. is_child s.graph n c && is_write (s.held t.slot c)) (nodes s.graph) h in
-        let child = and_both (is_child s.graph n found.0) (is_write (s.held t.slot found.0)) found.2 in
-        all_at (λ p. is_at_least (s.held t.slot p) IX) (parents_of s.graph found.0) n child.0
-        (sym (ap (λ w. if w then list_all (λ p. is_at_least (s.held t.slot p) IX) (parents_of s.graph found.0) else (no_parents (parents_of s.graph found.0) || list_any (λ p. is_at_least (s.held t.slot p) IS) (parents_of s.graph found.0))) child.1)
-        ∙ law.grants_intend t.slot found.0 (write_held (s.held t.slot found.0) child.1))
-
-    -- so the raised mode meets the rule of the graph as the old one did
+    -- the raised mode meets the rule of the graph as the old one did
     no_parents_needed : need_parents s t.slot n (wanted s t.slot n m) ≡ None
-    no_parents_needed =
-        ap (λ b. if b then None else (if is_write (wanted s t.slot n m) then first_not_ix (s.held t.slot) (parents_of s.graph n) else first_of_all (parents_of s.graph n)))
-        (ap (λ w. if w then list_all (λ p. is_at_least (s.held t.slot p) IX) (parents_of s.graph n) else (no_parents (parents_of s.graph n) || list_any (λ p. is_at_least (s.held t.slot p) IS) (parents_of s.graph n))) (raised_writes (s.held t.slot n) writes writes_up)
-        ∙ law.grants_intend t.slot n node_tests.1)
+    no_parents_needed = ap (λ b. if b then None else (if is_write (wanted s t.slot n m) then first_not_ix (s.held t.slot) (parents_of s.graph n) else first_of_all (parents_of s.graph n))) (raised_intends s law t.slot n node_tests.1)
 
     -- a try of the asked mode is refused exactly as the escalation is
     tried_alike : first_refusal (try_tests s t n m) ≡ refusal_of s (command.Escalate t n)

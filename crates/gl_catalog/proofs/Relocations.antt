@@ -24,7 +24,7 @@ use Rattle.gl_catalog.specs.Manager.{counting}
 use Rattle.gl_catalog.specs.Replies.{CallSteps, Notices, done}
 use Rattle.gl_catalog.specs.Tests.{is_cycle, move_asks, refusal_of, worn}
 use Rattle.gl_catalog.proofs.Carried.{accepted_step, memory_step, refused_step}
-use Rattle.gl_catalog.proofs.FirstOf.{passed_then, refused_first}
+use Rattle.gl_graph.proofs.FirstOf.{passed_then, refused_first}
 use Rattle.gl_catalog.proofs.NotRefused.{active_is}
 
 -- who may give the node these parents, but for a path that would close

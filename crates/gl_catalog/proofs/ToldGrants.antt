@@ -17,12 +17,12 @@ use Rattle.gl_table.specs.State.{State, Txn, lives, live_by, status_of, age_of, 
 use Rattle.gl_table.specs.Lawful.{IsLawful}
 use Rattle.gl_table.specs.Tellings.{told, told_but, told_from, notice_of, addressed}
 use Rattle.gl_catalog.specs.Promises.{is_grant_to, same_txn}
-use Rattle.gl_table.proofs.Effects.{or_true}
 use Rattle.gl_table.proofs.Waiters.{one_among}
 use Rattle.gl_table.proofs.Follows.{GrantedTo}
 use Rattle.gl_graph.proofs.Look.{split, or_elim, and_both}
 use Rattle.gl_modes.proofs.NodeLemmas.{same_node-refl}
 use Rattle.gl_modes.proofs.ModeLemmas.{same_mode-refl}
+use Rattle.std.proofs.Math.Bool.{or-true}
 
 -- a notice to t of this grant
 abbrev pub tells : TxnId → NodeId → Mode → TxnId × Notice → Bool
@@ -39,11 +39,11 @@ tells_grant t n m (u, notice.Gone) h = h
 -- a weaker test passes too
 pub any_weaker : {Y : Type 0} (p q : Y → Bool) (xs : List Y) → ((y : Y) → p y ≡ true → q y ≡ true) → list_any p xs ≡ true → list_any q xs ≡ true
 any_weaker p q [] more h = h
-any_weaker p q (y ∷ ys) more h = or_elim (p y) (list_any p ys) h (λ here. ap (λ b. b || list_any q ys) (more y here)) (λ there. ap (λ b. q y || b) (any_weaker p q ys more there) ∙ or_true (q y))
+any_weaker p q (y ∷ ys) more h = or_elim (p y) (list_any p ys) h (λ here. ap (λ b. b || list_any q ys) (more y here)) (λ there. ap (λ b. q y || b) (any_weaker p q ys more there) ∙ or-true (q y))
 
 any_cons : {Y : Type 0} (p : Y → Bool) (o : Option Y) (xs : List Y) → list_any p xs ≡ true → list_any p (cons_option o xs) ≡ true
 any_cons p None xs h = h
-any_cons p (Some y) xs h = ap (λ b. p y || b) h ∙ or_true (p y)
+any_cons p (Some y) xs h = ap (λ b. p y || b) h ∙ or-true (p y)
 
 any_mapped : {Y : Type 0} (p : Y → Bool) (f : ℕ → Option Y) (x : ℕ) (y : Y) → f x ≡ Some y → p y ≡ true → (k n : ℕ) → k ≤ x → x < k + n → list_any p (filter_map f (range_with_len k n)) ≡ true
 any_mapped p f x y is passes k zero low high = absurd (omega arith)
@@ -57,7 +57,7 @@ any_filtered p q [] more h = h
 any_filtered p q (y ∷ ys) more h = by (q y) (more y) (any_filtered p q ys more)
   where
     by : (b : Bool) → (p y ≡ true → b ≡ true) → (list_any p ys ≡ true → list_any p (filter q ys) ≡ true) → list_any p (if b then y ∷ filter q ys else filter q ys) ≡ true
-    by true f rest = or_elim (p y) (list_any p ys) h (λ here. ap (λ b. b || list_any p (filter q ys)) here) (λ there. ap (λ b. p y || b) (rest there) ∙ or_true (p y))
+    by true f rest = or_elim (p y) (list_any p ys) h (λ here. ap (λ b. b || list_any p (filter q ys)) here) (λ there. ap (λ b. p y || b) (rest there) ∙ or-true (p y))
     by false f rest = or_elim (p y) (list_any p ys) h (λ here. absurd (true≢false (sym (f here)))) (λ there. rest there)
 
 pub age_is : (age : ℕ) (x : Option Txn) → live_by age x ≡ true → (age == age_in x) ≡ true

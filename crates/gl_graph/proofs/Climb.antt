@@ -1,9 +1,9 @@
--- A search upwards finds exactly the nodes to which a route leads.
-use Rattle.std.specs.Prelude.{◌≡◌, ◌⊎◌, ℕ, zero, suc, ◌+◌, ◌<◌, ◌≤◌, Bool, true, false, ◌||◌, List, [], ◌∷◌, ◌++◌, length, take, None, if◌then◌else◌, slice_index_or, slice_get}
+-- A search upwards, without climbing past some nodes, finds exactly the nodes to which a route leads.
+use Rattle.std.specs.Prelude.{◌≡◌, ◌⊎◌, ℕ, ◌+◌, ◌<◌, ◌≤◌, Bool, true, false, ◌||◌, List, [], ◌∷◌, ◌++◌, length, take, None, if◌then◌else◌, slice_get, Option, Some}
 use Rattle.std.specs.List.{list_any}
-use Rattle.std.proofs.lemmas.Option.{slice_get-get_or}
-use Rattle.std.proofs.lemmas.List.{take-append-le, length-append, take_all, take_more}
-use Rattle.std.proofs.Common.{refl, sym, ap, ◌∙◌, subst, arith, rules, inl, inr, ⊎_elim}
+use Rattle.std.proofs.lemmas.Option.{slice_get-get_or, slice_get_within, get_or_from_slice_get}
+use Rattle.std.proofs.lemmas.List.{take-append-le, length-append, take_all}
+use Rattle.std.proofs.Common.{refl, sym, ap, ◌∙◌, subst, arith, inl, inr, ⊎_elim}
 use Rattle.gl_modes.specs.declared.node.NodeId.{NodeId}
 use Rattle.gl_modes.specs.Nodes.{same_node}
 use Rattle.gl_graph.specs.Graph.{Graph, parents_of, is_live, node_count}
@@ -11,19 +11,17 @@ use Rattle.gl_graph.specs.Routes.{IsRoute, is_at_or_below}
 use Rattle.gl_graph.specs.Lawful.{IsLawfulGraph}
 use Rattle.gl_graph.specs.Seen.{with_all}
 use Rattle.gl_graph.proofs.Look.{split, no, none_some, or_elim, or_left, or_right, same_node_is, same_node_refl}
-use Rattle.gl_graph.proofs.Routes.{join}
 use Rattle.gl_graph.proofs.Moved.{below_complete, below_route}
+use Rattle.std.proofs.lemmas.List.Folds.{list_any_at, list_any_more, list_any-append}
+use Rattle.std.proofs.lemmas.Bool.{cases_lt}
+use Rattle.std.specs.Borrow.{Bor}
+use Rattle.std.specs.Option.{option_copied}
+use Rattle.std.specs.Slice.{IsItemAt}
+use Rattle.gl_graph.proofs.Beside.{item_copied}
+use Rattle.gl_graph.proofs.Unrefused.{or_no}
 
 abbrev pub among : NodeId → List NodeId → Bool
 among q xs = list_any (same_node q) xs
-
-among-append : (q : NodeId) (xs ys : List NodeId) → among q (xs ++ ys) ≡ (among q xs || among q ys)
-among-append q [] ys = refl
-among-append q (x ∷ xs) ys = ap (λ b. same_node q x || b) (among-append q xs ys) ∙ turn (same_node q x) (among q xs) (among q ys)
-  where
-    turn : (a b c : Bool) → (a || (b || c)) ≡ ((a || b) || c)
-    turn true b c = refl
-    turn false b c = refl
 
 -- one is added where it is missing
 abbrev added : List NodeId → NodeId → List NodeId
@@ -33,15 +31,15 @@ added_case : {C : Type 0} (xs : List NodeId) (y : NodeId) → (among y xs ≡ tr
 added_case xs y f g = split (among y xs) (λ e. f e (ap (λ b. if b then xs else xs ++ y ∷ []) e)) (λ e. g (ap (λ b. if b then xs else xs ++ y ∷ []) e))
 
 added_keeps : (q : NodeId) (xs : List NodeId) (y : NodeId) → among q xs ≡ true → among q (added xs y) ≡ true
-added_keeps q xs y h = added_case xs y (λ e same. ap (among q) same ∙ h) (λ same. ap (among q) same ∙ among-append q xs (y ∷ []) ∙ or_left _ _ h)
+added_keeps q xs y h = added_case xs y (λ e same. ap (among q) same ∙ h) (λ same. ap (among q) same ∙ list_any-append (same_node q) xs (y ∷ []) ∙ or_left _ _ h)
 
 added_comes : (xs : List NodeId) (y : NodeId) → among y (added xs y) ≡ true
-added_comes xs y = added_case xs y (λ e same. ap (among y) same ∙ e) (λ same. ap (among y) same ∙ among-append y xs (y ∷ []) ∙ or_right (among y xs) _ (or_left _ _ (same_node_refl y)))
+added_comes xs y = added_case xs y (λ e same. ap (among y) same ∙ e) (λ same. ap (among y) same ∙ list_any-append (same_node y) xs (y ∷ []) ∙ or_right (among y xs) _ (or_left _ _ (same_node_refl y)))
 
 added_from : (q : NodeId) (xs : List NodeId) (y : NodeId) → among q (added xs y) ≡ true → (among q xs ≡ true) ⊎ (q ≡ y)
 added_from q xs y h =
     added_case xs y (λ e same. inl (sym (ap (among q) same) ∙ h))
-    (λ same. or_elim (among q xs) (among q (y ∷ [])) (sym (ap (among q) same ∙ among-append q xs (y ∷ [])) ∙ h) (λ was. inl was)
+    (λ same. or_elim (among q xs) (among q (y ∷ [])) (sym (ap (among q) same ∙ list_any-append (same_node q) xs (y ∷ [])) ∙ h) (λ was. inl was)
     (λ is. or_elim (same_node q y) false is (λ s. inr (same_node_is q y s)) (λ none. absurd (no none))))
 
 -- what is there stays
@@ -75,61 +73,102 @@ with_all-front xs [] i h = refl
 with_all-front xs (y ∷ ys) i h =
     with_all-front (added xs y) ys i (let a = added_longer xs y in omega arith) ∙ added_case xs y (λ e same. ap (take i) same) (λ same. ap (take i) same ∙ take-append-le i xs (y ∷ []) h)
 
--- the search so far: all found are reached, and the parents of the first i are found
-pub record IsSearch (g : Graph) (from : NodeId) (found : List NodeId) (i : ℕ) : Type 0 where
-  pub starts : among from found ≡ true
-  pub reached : (q : NodeId) → among q found ≡ true → (way : List NodeId) × IsRoute g from way q
-  pub closed : (n p : NodeId) → among n (take i found) ≡ true → among p (parents_of g n) ≡ true → among p found ≡ true
-
-pub search_starts : (g : Graph) (from : NodeId) → IsSearch g from (from ∷ []) 0
-search_starts g from = record {
-  starts = or_left _ _ (same_node_refl from);
-  reached = λ q h. ([], sym (or_elim (same_node q from) false h (λ s. same_node_is q from s) (λ none. absurd (no none))));
-  closed = λ n p h k. absurd (no h);
-}
-
-at_among : (xs : List NodeId) (i : ℕ) (d : NodeId) → i < length xs → among (slice_index_or xs i d) xs ≡ true
-at_among [] i d low = absurd (omega arith)
-at_among (x ∷ xs) zero d low = or_left _ _ (same_node_refl x)
-at_among (x ∷ xs) (suc i) d low = or_right (same_node (slice_index_or xs i d) x) _ (at_among xs i d (omega arith))
-
--- the parents of the next one found are found
-pub search_more : (g : Graph) (from : NodeId) (found next : List NodeId) (i : ℕ) (n : NodeId) → i < length found → slice_index_or found i n ≡ n → IsSearch g from found i → next ≡ with_all found (parents_of g n) → IsSearch g from next (i + 1)
-search_more g from found next i n low at s e =
-    let there : among n found ≡ true = ap (λ z. among z found) (sym at) ∙ at_among found i n low in
-    subst (λ xs. IsSearch g from xs (i + 1)) (sym e) (record {
-      starts = with_all-keeps from found (parents_of g n) s.starts;
-      reached = λ q h. ⊎_elim (λ (was : among q found ≡ true). s.reached q was)
-          (λ (new : among q (parents_of g n) ≡ true). let way = s.reached n there in (way.0 ++ q ∷ [], join g from n q way.0 (q ∷ []) way.1 (new, refl))) (with_all-from q found (parents_of g n) h);
-      closed = λ m p h k.
-          let front : take (i + 1) (with_all found (parents_of g n)) ≡ take i found ++ slice_index_or found i n ∷ [] = with_all-front found (parents_of g n) (i + 1) (omega arith) ∙ take_more found i n low in
-          or_elim (among m (take i found)) (among m (slice_index_or found i n ∷ [])) (sym (ap (among m) front ∙ among-append m (take i found) (slice_index_or found i n ∷ [])) ∙ h)
-          (λ was. with_all-keeps p found (parents_of g n) (s.closed m p was k))
-          (λ is. or_elim (same_node m (slice_index_or found i n)) false is
-          (λ same. with_all-adds p found (parents_of g n) (ap (λ z. among p (parents_of g z)) (sym (same_node_is m _ same ∙ at)) ∙ k))
-          (λ none. absurd (no none)));
-    })
-
-climb : (g : Graph) (found : List NodeId) → ((n p : NodeId) → among n found ≡ true → among p (parents_of g n) ≡ true → among p found ≡ true) → (n m : NodeId) (way : List NodeId) → IsRoute g n way m → among n found ≡ true → among m found ≡ true
-climb g found closed n m [] r h = ap (λ z. among z found) (sym r) ∙ h
-climb g found closed n m (p ∷ way) r h = climb g found closed p m way r.1 (closed n p h r.0)
-
--- where nothing is left to look at, the test of the found ones is the test of routes
-pub search_ends : (g : Graph) (law : IsLawfulGraph g) (from target : NodeId) (found : List NodeId) (i : ℕ) → is_live g from ≡ true → length found ≤ i → IsSearch g from found i → among target found ≡ is_at_or_below (node_count g) g target from
-search_ends g law from target found i live done s =
-    let all : take i found ≡ found = take_all i found done in
-    split (among target found)
-    (λ e. e ∙ sym (let way = s.reached target e in below_complete g law target from way.0 live way.1))
-    (λ e. e ∙ sym (split (is_at_or_below (node_count g) g target from)
-    (λ t. absurd (let way = below_route g target (node_count g) from t in no (sym e ∙ climb g found (λ n p h k. s.closed n p (ap (among n) all ∙ h) k) from target way.0 way.1 s.starts)))
-    (λ t. t)))
-
 pub none_left : (xs : List NodeId) (i : ℕ) → slice_get xs i ≡ None → length xs ≤ i
-none_left xs i e = ⊎_elim (λ (low : i < length xs). by low xs refl) (λ (high : length xs ≤ i). high) (cases i (length xs))
+none_left xs i e = ⊎_elim (λ (low : i < length xs). by low xs refl) (λ (high : length xs ≤ i). high) (cases_lt i (length xs))
   where
-    cases : (a b : ℕ) → (a < b) ⊎ (b ≤ a)
-    cases a b = search rules
-
     by : i < length xs → (ys : List NodeId) → xs ≡ ys → length xs ≤ i
     by low [] f = let l = ap length f in absurd (omega arith)
     by low (y ∷ ys) f = absurd (none_some (sym e ∙ slice_get-get_or xs i y low))
+
+-- what is lent at a place of a slice of the nodes found
+pub lent_at : (found xs : List NodeId) (i : ℕ) (r : Option (Bor NodeId)) → xs ≡ found → IsItemAt xs i r → slice_get found i ≡ option_copied r
+lent_at found xs i r e at = sym (item_copied xs i r at ∙ ap (λ ys. slice_get ys i) e)
+
+pub item_among : (found : List NodeId) (i : ℕ) (n : NodeId) → slice_get found i ≡ Some n → among n found ≡ true
+item_among found i n item = list_any_at (same_node n) found i n (slice_get_within found i n item) (ap (same_node n) (get_or_from_slice_get found i n n item) ∙ same_node_refl n)
+
+-- among the first i + 1, whatever is added behind, are the first i and the next one
+pub first_more : {C : Type 0} (found more : List NodeId) (i : ℕ) (n q : NodeId) → slice_get found i ≡ Some n → among q (take (i + 1) (with_all found more)) ≡ true → (among q (take i found) ≡ true → C) → (q ≡ n → C) → C
+first_more found more i n q item h was is =
+    let low = slice_get_within found i n item in
+    let at = get_or_from_slice_get found i n n item in
+    or_elim (among q (take i found)) (same_node q n)
+    (sym (ap (among q) (with_all-front found more (i + 1) (omega arith)) ∙ list_any_more (same_node q) found i n low ∙ ap (λ x. among q (take i found) || same_node q x) at) ∙ h)
+    was (λ same. is (same_node_is q n same))
+
+module _ (g : Graph) (stops : NodeId → Bool) where
+  -- a route from n to a node that is sought, past no node that stops it
+  pub record Leads (sought : NodeId → Bool) (n : NodeId) : Type 0 where
+    pub end : NodeId
+    pub way : List NodeId
+    pub route : IsRoute g n way end
+    pub free : list_any stops (n ∷ way) ≡ false
+    pub meets : sought end ≡ true
+
+  -- the nodes to which the search climbs from n
+  abbrev pub next_of : NodeId → List NodeId
+  next_of n = if stops n then [] else parents_of g n
+
+  -- the search so far: whatever is sought, what leads on from a node that is found leads on from the first, and from the first i nodes found it climbed
+  pub record IsClimb (from : NodeId) (found : List NodeId) (i : ℕ) : Type 0 where
+    pub starts : among from found ≡ true
+    pub leads : (sought : NodeId → Bool) (q : NodeId) → among q found ≡ true → Leads sought q → Leads sought from
+    pub climbed : (q p : NodeId) → among q (take i found) ≡ true → among p (next_of q) ≡ true → among p found ≡ true
+
+  -- what leads on from a node to which the search climbs from n leads on from n
+  leads_up : (sought : NodeId → Bool) (n q : NodeId) → among q (next_of n) ≡ true → Leads sought q → Leads sought n
+  leads_up sought n q h l =
+      split (stops n) (λ s. absurd (no (sym (ap (λ b. among q (if b then [] else parents_of g n)) s) ∙ h)))
+      (λ s. record {
+        end = l.end;
+        way = q ∷ l.way;
+        route = (sym (ap (λ b. among q (if b then [] else parents_of g n)) s) ∙ h, l.route);
+        free = ap (λ b. b || list_any stops (q ∷ l.way)) s ∙ l.free;
+        meets = l.meets;
+      })
+
+  -- the search climbs from the next one found
+  pub climb_more : (from : NodeId) (found next : List NodeId) (i : ℕ) (n : NodeId) → slice_get found i ≡ Some n → IsClimb from found i → next ≡ with_all found (next_of n) → IsClimb from next (i + 1)
+  climb_more from found next i n item s e =
+      subst (λ xs. IsClimb from xs (i + 1)) (sym e) (record {
+        starts = with_all-keeps from found (next_of n) s.starts;
+        leads = λ sought q h l. ⊎_elim (λ (was : among q found ≡ true). s.leads sought q was l)
+            (λ (new : among q (next_of n) ≡ true). s.leads sought n (item_among found i n item) (leads_up sought n q new l)) (with_all-from q found (next_of n) h);
+        climbed = λ q p h k.
+            first_more found (next_of n) i n q item h (λ was. with_all-keeps p found (next_of n) (s.climbed q p was k))
+            (λ is. with_all-adds p found (next_of n) (ap (λ x. among p (next_of x)) (sym is) ∙ k));
+      })
+
+  -- the next one found, which does not stop the search, is met where it is sought
+  pub climb_meets : (sought : NodeId → Bool) (from : NodeId) (found : List NodeId) (i : ℕ) (n : NodeId) → among n found ≡ true → IsClimb from found i → stops n ≡ false → sought n ≡ true → Leads sought from
+  climb_meets sought from found i n there s on it = s.leads sought n there (record { end = n; way = []; route = refl; free = ap (λ b. b || false) on; meets = it })
+
+  -- where nothing is left to look at, each route that is not stopped ends at a node that is found
+  pub climb_ends : (from : NodeId) (found : List NodeId) (i : ℕ) → slice_get found i ≡ None → IsClimb from found i → (q m : NodeId) (way : List NodeId) → among q found ≡ true → IsRoute g q way m → list_any stops (q ∷ way) ≡ false
+      → (among m (take i found) ≡ true) × (stops m ≡ false)
+  climb_ends from found i none s q m [] h route free = (ap (λ z. among z (take i found)) (sym route) ∙ ap (among q) (take_all i found (none_left found i none)) ∙ h, ap stops (sym route) ∙ (or_no _ _ free).0)
+  climb_ends from found i none s q m (p ∷ way) h route free =
+      let free' = or_no _ _ free in
+      climb_ends from found i none s p m way
+      (s.climbed q p (ap (among q) (take_all i found (none_left found i none)) ∙ h) (ap (λ b. among p (if b then [] else parents_of g q)) free'.0 ∙ route.0)) route.1 free'.1
+
+-- a search that stops nowhere
+
+abbrev pub never : NodeId → Bool
+never n = false
+
+pub never_stops : (way : List NodeId) → list_any never way ≡ false
+never_stops [] = refl
+never_stops (n ∷ way) = never_stops way
+
+-- where nothing is left to look at, the test of the found ones is the test of routes
+pub finds_routes : (g : Graph) (law : IsLawfulGraph g) (from target : NodeId) (found : List NodeId) (i : ℕ) → is_live g from ≡ true → slice_get found i ≡ None → IsClimb g never from found i
+    → among target found ≡ is_at_or_below (node_count g) g target from
+finds_routes g law from target found i live none s =
+    split (among target found)
+    (λ e. e ∙ sym (let l = climb_meets g never (same_node target) from found i target e s refl (same_node_refl target) in
+    below_complete g law target from l.way live (subst (IsRoute g from l.way) (sym (same_node_is target l.end l.meets)) l.route)))
+    (λ e. e ∙ sym (split (is_at_or_below (node_count g) g target from)
+    (λ t. absurd (let way = below_route g target (node_count g) from t in
+    no (sym e ∙ ap (among target) (sym (take_all i found (none_left found i none))) ∙ (climb_ends g never from found i none s from target way.0 s.starts way.1 (never_stops (from ∷ way.0))).0)))
+    (λ t. t)))

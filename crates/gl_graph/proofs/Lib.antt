@@ -10,6 +10,7 @@ pub mod Removed
 pub mod Changed
 pub mod Moved
 pub mod Unrefused
+pub mod FirstOf
 pub mod Slots
 pub mod Beside
 pub mod KeyPlace

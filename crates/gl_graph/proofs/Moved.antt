@@ -27,18 +27,19 @@ below_found g n zero p (q ∷ way) few r = absurd (omega arith)
 below_found g n (suc k) p [] few r = or_left _ _ (is_same_node n p (sym r))
 below_found g n (suc k) p (q ∷ way) few r = or_right (same_node n p) _ (some_at (is_at_or_below k g n) (parents_of g p) q r.0 (below_found g n k q way (omega arith) r.1))
 
+-- where some pass one is found
+pub any_found : (q : NodeId → Bool) (ps : List NodeId) → list_any q ps ≡ true → (p : NodeId) × (list_any (same_node p) ps ≡ true) × (q p ≡ true)
+any_found q [] h = absurd (no h)
+any_found q (x ∷ xs) h =
+    or_elim _ _ h (λ here. (x, or_left _ _ (same_node_refl x), here)) (λ there. let f = any_found q xs there in (f.0, or_right (same_node f.0 x) _ f.1, f.2))
+
 pub below_route : (g : Graph) (n : NodeId) (k : ℕ) (p : NodeId) → is_at_or_below k g n p ≡ true → (way : List NodeId) × IsRoute g p way n
 below_route g n zero p h = ([], sym (same_node_is n p h))
 below_route g n (suc k) p h =
     or_elim _ _ h (λ here. ([], sym (same_node_is n p here))) (λ up.
-    let step = some_parent (is_at_or_below k g n) (parents_of g p) up in
+    let step = any_found (is_at_or_below k g n) (parents_of g p) up in
     let rest = below_route g n k step.0 step.2 in
     (step.0 ∷ rest.0, (step.1, rest.1)))
-  where
-    some_parent : (q : NodeId → Bool) (ps : List NodeId) → list_any q ps ≡ true → (p : NodeId) × (list_any (same_node p) ps ≡ true) × (q p ≡ true)
-    some_parent q [] h' = absurd (no h')
-    some_parent q (x ∷ xs) h' =
-        or_elim _ _ h' (λ here. (x, or_left _ _ (same_node_refl x), here)) (λ there. let f = some_parent q xs there in (f.0, or_right (same_node f.0 x) _ f.1, f.2))
 
 -- with as many steps as there are nodes nothing is missed
 pub below_complete : (g : Graph) (law : IsLawfulGraph g) (n p : NodeId) (way : List NodeId) → is_live g p ≡ true → IsRoute g p way n → is_at_or_below (node_count g) g n p ≡ true

@@ -48,7 +48,8 @@ module _ (g : Graph) (law : IsLawfulGraph g) where
       or_nothing true = refl
       or_nothing false = refl
 
-record_shape : (o : Option Shape) → is_record_shape o ≡ true → (keys : List ℕ) × (o ≡ Some (Rec keys))
+-- a record has keys
+pub record_shape : (o : Option Shape) → is_record_shape o ≡ true → (keys : List ℕ) × (o ≡ Some (Rec keys))
 record_shape None h = absurd (no h)
 record_shape (Some Inner) h = absurd (no h)
 record_shape (Some File) h = absurd (no h)

@@ -1,7 +1,7 @@
 -- What is known of an active slot that asks for a node, and of its list.
 use Rattle.std.specs.Prelude.{◌≡◌, ℕ, ◌+◌, ◌<◌, ◌≤◌, ◌^◌, Bool, true, false, not, ◌||◌, length, Some, slice_index_or}
 use Rattle.std.specs.List.{count_by}
-use Rattle.std.proofs.Common.{refl, sym, ap, ◌∙◌, subst, arith}
+use Rattle.std.proofs.Common.{sym, ap, ◌∙◌, subst, arith}
 use Rattle.std.proofs.lemmas.List.Sums.{count_by-le-length}
 use Rattle.indexmap.specs.IndexMap.{spare}
 use Rattle.gl_modes.specs.declared.mode.Mode.{Mode}
@@ -30,6 +30,7 @@ use Rattle.gl_table.proofs.Less.{waiting_is}
 use Rattle.gl_table.proofs.Limits.{enters-most}
 use Rattle.gl_table.proofs.Rooms.{keeps-agrees, keeps-counts}
 use Rattle.gl_table.proofs.Slots.{by_list-at, slice_get-at}
+use Rattle.std.proofs.Math.Bool.{or-false}
 
 -- the slot is active, and the lists say what the headers say
 pub record MayAsk (g : Graph) (l : Locks) (t : ℕ) : Type 0 where
@@ -80,9 +81,6 @@ module _ (g : Graph) (l : Locks) (t : ℕ) (may : MayAsk g l t) where
   pub slot-below : t < length l.seats.items
   slot-below = may.orderly.below t (txn_there (s.txns t) Active may.active)
 
-  pub slot-few : t < 128
-  slot-few = let below = slot-below in let few = may.sound.few in omega arith
-
   pub slot-listed : t < length l.lists.items
   slot-listed = subst (λ (k : ℕ). t < k) (sym may.sound.lists) slot-below
 
@@ -98,11 +96,7 @@ module _ (g : Graph) (l : Locks) (t : ℕ) (may : MayAsk g l t) where
     own-holds q = ap (λ m. not (same_mode m NL)) (own-mode q)
 
     pub own-listed : (q : NodeId) → is_listed x q ≡ holds (members s q) t
-    own-listed q = sym (by_list-at (λ y. is_listed y q) false l.lists.items t x slot-listed at) ∙ (may.agree t).listed q ∙ ap (λ b. holds (members s q) t || b) (active-waits_nowhere q) ∙ or_none (holds (members s q) t)
-      where
-        or_none : (b : Bool) → (b || false) ≡ b
-        or_none true = refl
-        or_none false = refl
+    own-listed q = sym (by_list-at (λ y. is_listed y q) false l.lists.items t x slot-listed at) ∙ (may.agree t).listed q ∙ ap (λ b. holds (members s q) t || b) (active-waits_nowhere q) ∙ or-false (holds (members s q) t)
 
     pub own-count : (q : NodeId) → count_of x q ≡ held_children s t q
     own-count q = sym (by_list-at (λ y. count_of y q) 0 l.lists.items t x slot-listed at) ∙ may.count t q

@@ -1,7 +1,7 @@
 -- The board of a moment, written seat by seat.
 use Rattle.std.proofs.Common.{◌≡◌, ◌≢◌, ℕ, ◌+◌, ◌<◌, ◌≤◌, Bool, true, false, not, ◌&&◌, ◌||◌, ◌==◌, cond, nat_lt, List, Option, Some, None, length, get_or, set, map, replicate, refl, sym, ap, subst, ◌∙◌, ⊎_elim, arith}
 use Rattle.std.specs.List.{range_with_len}
-use Rattle.std.proofs.lemmas.Bool.{cases_eq, cases_lt}
+use Rattle.std.proofs.lemmas.Bool.{cases_eq, cases_lt, not-true}
 use Rattle.std.proofs.lemmas.Bool.Decides.{nat_tests}
 use Rattle.std.proofs.lemmas.List.{get_or-replicate, get_or-set_other, get_or-set_same, get_or_past, length-replicate, length-set}
 use Rattle.std.proofs.lemmas.List.FromFn.{fill_by_all, get_or-map-range_with_len}
@@ -26,7 +26,7 @@ use Rattle.gl_table.specs.Headers.{AreHeaders, Entries, header_at, header_or_new
 use Rattle.gl_table.specs.Seats.{txn_in, txns_of}
 use Rattle.gl_table.specs.State.{State, age_in, age_of, empty_state, status_in}
 use Rattle.gl_table.specs.Waiting.{blocks, waits_for}
-use Rattle.gl_table.proofs.Edges.{idle_no_step, not_is, step_is}
+use Rattle.gl_table.proofs.Edges.{idle_no_step, step_is}
 use Rattle.gl_table.proofs.Queues.{ahead_is, ahead_second, clash}
 
 -- a list of numbers by slot, written below i
@@ -121,10 +121,10 @@ rows-all edge i n m xs size low idle rows =
 
 blocker-below : (o : Option HeaderState) → ((h : HeaderState) → o ≡ Some h → IsLawfulHeader h) → (w : Mode) (t u : ℕ) → (not (are_compatible w (members_of (header_or_new o) u)) || is_ahead (header_or_new o).queue t u) ≡ true → u < 128
 blocker-below None lawful w t u h =
-    or_elim _ _ h (λ k. clash (NL-compatible w) (not_is _ k)) (λ k. clash k refl)
+    or_elim _ _ h (λ k. clash (NL-compatible w) (not-true _ k)) (λ k. clash k refl)
 blocker-below (Some x) lawful w t u h =
     or_elim _ _ h
-    (λ k. ⊎_elim (λ low. low) (λ past. clash (ap (are_compatible w) (law.members_below u past) ∙ NL-compatible w) (not_is _ k)) (cases_lt u 128))
+    (λ k. ⊎_elim (λ low. low) (λ past. clash (ap (are_compatible w) (law.members_below u past) ∙ NL-compatible w) (not-true _ k)) (cases_lt u 128))
     (λ k. law.waiters_below u (ahead_second x.queue t u (sym (ahead_is x.queue t u) ∙ k)))
   where
     law : IsLawfulHeader x

@@ -20,10 +20,10 @@ use Rattle.gl_table.proofs.Departures.{StillTells}
 use Rattle.gl_table.proofs.GivenUp.{given_up_out, waits_still}
 use Rattle.gl_table.proofs.Leaving.{abort_is_release}
 use Rattle.gl_table.proofs.Less.{waiting_is}
-use Rattle.gl_table.proofs.Orderly.{orderly_given_up}
 use Rattle.gl_table.proofs.Queues.{clash}
 use Rattle.gl_table.proofs.Tells.{cancel_tells}
 use Rattle.gl_table.proofs.Ways.{way_gives_up}
+use Rattle.gl_table.proofs.OrderlyWithout.{orderly_without}
 
 -- t waits for nothing now, its release is what it was, and all others are told of the way
 pub record IsFree (s now : State) (t : ℕ) (was told : Told) : Type 0 where
@@ -75,7 +75,7 @@ module _ (s : State) (o : IsOrderly s) (t : ℕ) (n : NodeId) (waits : is_waitin
   -- so it can leave
   pub free_cancelled : ((u : ℕ) → is_wait (status_of s u) ≡ true → notices_in was u ≡ None) → IsFree s (cancelled s t) t was told
   free_cancelled untold = record {
-    orderly = orderly_given_up s o t Active (λ q m e. cc);
+    orderly = orderly_without s o t Active (is_waiting_at s t) (λ q m e. cc);
     quiet = cancelled_idle s t;
     untold = λ u h. let still = waits_still s o t n Active (λ q m e. cc) waits u h in
         wakes.notices u ∙ ap (λ k. if k then grant_notice s.txns n (front_at (without_wait s t Active) n) u else notices_in was u) still.1 ∙ untold u still.2;

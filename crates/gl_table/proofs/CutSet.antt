@@ -19,6 +19,7 @@ use Rattle.gl_graph.proofs.Look.{or_elim, and_both, all_at}
 use Rattle.gl_modes.proofs.NodeLemmas.{same_node-refl}
 use Rattle.gl_graph.proofs.Unrefused.{or_no}
 use Rattle.gl_graph.proofs.RouteLengths.{live_end, route_short}
+use Rattle.std.proofs.Math.Bool.{or-true}
 
 -- one that fails, where not all pass
 pub not_all : (q : NodeId → Bool) (ps : List NodeId) → list_all q ps ≡ false → (p : NodeId) × (list_any (same_node p) ps ≡ true) × (q p ≡ false)
@@ -26,13 +27,9 @@ not_all q [] h = absurd (true≢false h)
 not_all q (x ∷ xs) h =
     by (q x) refl h (not_all q xs)
   where
-    or_true : (b : Bool) → (b || true) ≡ true
-    or_true true = refl
-    or_true false = refl
-
     by : (b : Bool) → q x ≡ b → (b && list_all q xs) ≡ false → (list_all q xs ≡ false → (p : NodeId) × (list_any (same_node p) xs ≡ true) × (q p ≡ false)) → (p : NodeId) × (list_any (same_node p) (x ∷ xs) ≡ true) × (q p ≡ false)
     by false e h' rest = (x, ap (λ b. b || list_any (same_node x) xs) (same_node-refl x), e)
-    by true e h' rest = let f = rest h' in (f.0, ap (λ b. same_node f.0 x || b) f.1 ∙ or_true _, f.2)
+    by true e h' rest = let f = rest h' in (f.0, ap (λ b. same_node f.0 x || b) f.1 ∙ or-true _, f.2)
 
 module _ (g : Graph) (held : NodeId → Mode) where
   -- a node held in X
@@ -47,11 +44,7 @@ module _ (g : Graph) (held : NodeId → Mode) where
       absurd (true≢false (sym (and_both _ _ up).0 ∙ ap (λ ps. not (no_parents ps)) (ap (parents_of g) route ∙ root))))
   on_path (suc k) n r (p ∷ way) x route root =
       or_elim _ _ x (λ here. ap (λ b. b || list_any is_x (p ∷ way)) here) (λ up.
-      ap (λ b. is_x n || b) (on_path k p r way (all_at (eff_x k g held) (parents_of g n) p route.0 (and_both _ _ up).1) route.1 root) ∙ or_true (is_x n))
-    where
-      or_true : (b : Bool) → (b || true) ≡ true
-      or_true true = refl
-      or_true false = refl
+      ap (λ b. is_x n || b) (on_path k p r way (all_at (eff_x k g held) (parents_of g n) p route.0 (and_both _ _ up).1) route.1 root) ∙ or-true (is_x n))
 
   -- a way up without X, to a node without parents or of k steps
   abbrev pub Escapes : ℕ → NodeId → Type 0

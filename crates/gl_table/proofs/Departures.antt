@@ -51,6 +51,48 @@ StillTells s now t was told =
     (begin : State) → IsOnWay begin s → ((u : ℕ) → (u == t) ≡ false → notices_in was u ≡ told_to begin s u)
     → IsOnWay begin now × ((u : ℕ) → (u == t) ≡ false → notices_in told u ≡ told_to begin now u)
 
+-- a slot that stands in no queue released a node, and those whom the node granted were told
+module _ (now : State) (o : IsOrderly now) (t : ℕ) (out : (q : NodeId) → is_among_waiters t (now.queue q) ≡ false) (n : NodeId) (told told' : Told) (tell : WakesTold now.txns n (front_at (with_grant now t n NL) n) told told') where
+  abbrev granted : List Waiter
+  granted = front_at (with_grant now t n NL) n
+
+  -- who is granted is active
+  txn_is : (u : ℕ) → (unlocked now t n).txns u ≡ (if is_among_waiters u granted then restatus Active (now.txns u) else now.txns u)
+  txn_is u = woken_front (with_grant now t n NL) n (well_granted now o t n NL n) u
+
+  not_granted : is_among_waiters t granted ≡ false
+  not_granted = not_true _ (λ h. clash (front_stands (with_grant now t n NL) n (well_granted now o t n NL n) t h) (out n))
+
+  -- all others are as they were
+  same_txn : (u : ℕ) → is_among_waiters u granted ≡ false → (unlocked now t n).txns u ≡ now.txns u
+  same_txn u e = txn_is u ∙ ap (λ b. if b then restatus Active (now.txns u) else now.txns u) e
+
+  pub own_txn : (unlocked now t n).txns t ≡ now.txns t
+  own_txn = same_txn t not_granted
+
+  pub own_notice : notices_in told' t ≡ notices_in told t
+  own_notice = tell.notices t ∙ ap (λ b. if b then grant_notice now.txns n granted t else notices_in told t) not_granted
+
+  -- who waits still was not granted, and was told nothing
+  pub still_untold : ((u : ℕ) → is_wait (status_of now u) ≡ true → notices_in told u ≡ None) → (u : ℕ) → is_wait (status_of (unlocked now t n) u) ≡ true → notices_in told' u ≡ None
+  still_untold untold u h = split (is_among_waiters u granted)
+      (λ e. clash h (ap (λ x. is_wait (status_in x)) (txn_is u ∙ ap (λ b. if b then restatus Active (now.txns u) else now.txns u) e) ∙ active (now.txns u)))
+      (λ e. tell.notices u ∙ ap (λ b. if b then grant_notice now.txns n granted u else notices_in told u) e ∙ untold u (ap (λ x. is_wait (status_in x)) (sym (same_txn u e)) ∙ h))
+    where
+      active : (x : Option Txn) → is_wait (status_in (restatus Active x)) ≡ false
+      active None = refl
+      active (Some x) = refl
+
+  pub still_tells : (s : State) (was : Told) → StillTells s now t was told → StillTells s (unlocked now t n) t was told'
+  still_tells s was tells begin way same =
+      let so_far = tells begin way same in (
+        way_releases begin now t n so_far.0,
+        λ u e.
+            tell.notices u
+            ∙ ap₂ (λ x y. if is_among_waiters u granted then x else y) (ap (λ (a : ℕ). let name : TxnId = record { slot = u; age = a } in Some (name, notice.Granted n (mode_given granted u))) (so_far.0.ages u)) (so_far.1 u e)
+            ∙ sym (release_tells begin now t n so_far.0 u e),
+      )
+
 -- t, which waits for nothing, left some of the nodes that it held in s: its list has those that it still holds, and all others have what they hold and count
 pub record IsLeaving (s now : State) (t : ℕ) (ls : List LockList) (was told : Told) : Type 0 where
   pub orderly : IsOrderly now
@@ -136,51 +178,20 @@ module _ (s now : State) (t : ℕ) (ls : List LockList) (was told : Told) (is : 
       (agree : (u : ℕ) → (u == t) ≡ false → Agrees now mid u) (count : (u : ℕ) → (u == t) ≡ false → CountsHeld now mid u)
       (listed : (q : NodeId) → listed_by mid t q ≡ (listed_by ls t q && not (same_node q n)))
       (wakes : WakesLists mid n (parents_of now.graph n) front ls') (woken : WakesTold now.txns n front told told') where
-    -- who is granted is active
-    txn_is : (u : ℕ) → after.txns u ≡ (if is_among_waiters u front then restatus Active (now.txns u) else now.txns u)
-    txn_is u = woken_front (with_grant now t n NL) n (well_granted now is.orderly t n NL n) u
-
-    not_front : is_among_waiters t front ≡ false
-    not_front = not_true _ (λ h. clash (front_stands (with_grant now t n NL) n (well_granted now is.orderly t n NL n) t h) (out n))
-
-    -- all others are as they were
-    same_txn : (u : ℕ) → is_among_waiters u front ≡ false → after.txns u ≡ now.txns u
-    same_txn u e = txn_is u ∙ ap (λ b. if b then restatus Active (now.txns u) else now.txns u) e
-
-    -- who waits still was not granted, and was told nothing
-    still_untold : (u : ℕ) → is_wait (status_of after u) ≡ true → notices_in told' u ≡ None
-    still_untold u h = split (is_among_waiters u front)
-        (λ e. clash h (ap (λ x. is_wait (status_in x)) (txn_is u ∙ ap (λ b. if b then restatus Active (now.txns u) else now.txns u) e) ∙ active (now.txns u)))
-        (λ e. woken.notices u ∙ ap (λ b. if b then grant_notice now.txns n front u else notices_in told u) e ∙ is.untold u (ap (λ x. is_wait (status_in x)) (sym (same_txn u e)) ∙ h))
-      where
-        active : (x : Option Txn) → is_wait (status_in (restatus Active x)) ≡ false
-        active None = refl
-        active (Some x) = refl
-
-    still_tells : StillTells s after t was told'
-    still_tells begin way same =
-        let so_far = is.tells begin way same in (
-          way_releases begin now t n so_far.0,
-          λ u e.
-              woken.notices u
-              ∙ ap₂ (λ x y. if is_among_waiters u front then x else y) (ap (λ (a : ℕ). let name : TxnId = record { slot = u; age = a } in Some (name, notice.Granted n (mode_given front u))) (so_far.0.ages u)) (so_far.1 u e)
-              ∙ sym (release_tells begin now t n so_far.0 u e),
-        )
-
     pub leaving_one : IsLeaving s after t ls' was told'
     leaving_one = record {
       orderly = orderly_unlocked now is.orderly t n;
       most = is.most;
-      quiet = ap (λ x. is_wait (status_in x)) (same_txn t not_front) ∙ is.quiet;
+      quiet = ap (λ x. is_wait (status_in x)) (own_txn now is.orderly t out n told told' woken) ∙ is.quiet;
       agree = λ u e. agrees_unlocked now t n is.orderly mid ls' wakes u e (agree u e);
       count = λ u e. counts_unlocked now t n is.orderly mid ls' wakes u e (agree u e) law (is.orderly.holders_live t n holding) (count u e);
       listed = λ q. wakes.listed t q ∙ listed q ∙ ap (λ b. b && not (same_node q n)) (is.listed q) ∙ sym (held_own q);
       less = λ q h. is.less q (held_still q h);
       left = left_more;
       by_slot = woken.by_slot;
-      untold = still_untold;
-      own = woken.notices t ∙ ap (λ b. if b then grant_notice now.txns n front t else notices_in told t) not_front ∙ is.own;
-      tells = still_tells;
+      untold = still_untold now is.orderly t out n told told' woken is.untold;
+      own = own_notice now is.orderly t out n told told' woken ∙ is.own;
+      tells = still_tells now is.orderly t out n told told' woken s was is.tells;
     }
 
 -- once its list is empty, t has left all that it held, and is released but for its name

@@ -18,10 +18,7 @@ use Rattle.gl_table.proofs.Less.{IsLess}
 use Rattle.gl_table.proofs.Pumped.{woken_waits, granted_rest, grant_case}
 use Rattle.gl_graph.proofs.Look.{split, or_elim, or_left, or_right, and_both}
 use Rattle.gl_modes.proofs.ModeLemmas.{NL-compatible}
-
-pub not_is : (b : Bool) → not b ≡ true → b ≡ false
-not_is true k = clash k refl
-not_is false k = refl
+use Rattle.std.proofs.lemmas.Bool.{not-true}
 
 blocks_is : (s : State) (t u : ℕ) (o : Option Status) → blocks s t u o ≡ true → (n : NodeId) × (m : Mode) × (o ≡ Some (Waiting n m)) × ((not (are_compatible m (s.held u n)) || is_ahead (s.queue n) t u) ≡ true)
 blocks_is s t u None h = clash h refl
@@ -58,7 +55,7 @@ less_steps s held queue txns chosen less x y h =
       differ = st.2.differ;
       waits = (less.waits_same x n m st.2.waits).0;
       blocked = or_elim _ _ st.2.blocked
-          (λ b. ⊎_elim (λ e. clash (ap (are_compatible m) e ∙ NL-compatible m) (not_is _ b)) (λ e. or_left _ _ (ap (λ k. not (are_compatible m k)) (sym e) ∙ b)) (less.kept y n))
+          (λ b. ⊎_elim (λ e. clash (ap (are_compatible m) e ∙ NL-compatible m) (not-true _ b)) (λ e. or_left _ _ (ap (λ k. not (are_compatible m k)) (sym e) ∙ b)) (less.kept y n))
           (λ b. or_right _ _ (less.order n x y b));
     })
 

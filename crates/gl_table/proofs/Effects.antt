@@ -1,5 +1,5 @@
 -- Effective modes, without fuel: a route to a node held in S, SIX or X; an effective X after any number of steps.
-use Rattle.std.specs.Prelude.{◌≡◌, ℕ, zero, suc, ◌≤◌, Bool, true, false, not, ◌&&◌, ◌||◌, List, [], ◌∷◌, length}
+use Rattle.std.specs.Prelude.{◌≡◌, ℕ, zero, suc, ◌≤◌, Bool, true, not, ◌&&◌, ◌||◌, List, [], ◌∷◌, length}
 use Rattle.std.specs.List.{list_all, list_any}
 use Rattle.std.proofs.Common.{refl, sym, ap, ap₂, subst, ◌∙◌, arith, rules}
 use mathlib.Core.Bool.{true≢false}
@@ -19,25 +19,15 @@ use Rattle.gl_graph.proofs.RouteLengths.{route_short}
 use Rattle.gl_table.proofs.CutSet.{on_path, cut_set_law}
 use Rattle.gl_graph.proofs.Look.{or_elim, and_both}
 use Rattle.gl_modes.proofs.NodeLemmas.{same_node-refl}
-use Rattle.gl_graph.proofs.Moved.{some_at}
-
-pub or_true : (b : Bool) → (b || true) ≡ true
-or_true true = refl
-or_true false = refl
-
--- where some pass one is found
-pub any_found : (q : NodeId → Bool) (ps : List NodeId) → list_any q ps ≡ true → (p : NodeId) × (list_any (same_node p) ps ≡ true) × (q p ≡ true)
-any_found q [] h = absurd (true≢false (sym h))
-any_found q (x ∷ xs) h =
-    or_elim (q x) (list_any q xs) h (λ here. (x, ap (λ b. b || list_any (same_node x) xs) (same_node-refl x), here)) (λ there.
-    let f = any_found q xs there in (f.0, ap (λ b. same_node f.0 x || b) f.1 ∙ or_true _, f.2))
+use Rattle.gl_graph.proofs.Moved.{some_at, any_found}
+use Rattle.std.proofs.Math.Bool.{or-true}
 
 -- all pass where each that is listed passes
 pub all_from : (q : NodeId → Bool) (ps : List NodeId) → ((p : NodeId) → list_any (same_node p) ps ≡ true → q p ≡ true) → list_all q ps ≡ true
 all_from q [] f = refl
 all_from q (x ∷ xs) f =
     ap₂ (λ a b. a && b) (f x (ap (λ b. b || list_any (same_node x) xs) (same_node-refl x)))
-    (all_from q xs (λ p h. f p (ap (λ b. same_node p x || b) h ∙ or_true _)))
+    (all_from q xs (λ p h. f p (ap (λ b. same_node p x || b) h ∙ or-true _)))
 
 all_some : (q : NodeId → Bool) (ps : List NodeId) → not (no_parents ps) ≡ true → list_all q ps ≡ true → list_any q ps ≡ true
 all_some q [] some h = absurd (true≢false (sym some))
@@ -80,7 +70,7 @@ module _ (g : Graph) (h : NodeId → Mode) where
   route_eff_s zero n m (p ∷ way) route read le = absurd (omega arith)
   route_eff_s (suc k) n m [] route read le = ap (λ b. b || list_any (eff_s k g h) (parents_of g n)) (ap (λ x. is_read (h x)) route ∙ read)
   route_eff_s (suc k) n m (p ∷ way) route read le =
-      ap (λ b. is_read (h n) || b) (some_at (eff_s k g h) (parents_of g n) p route.0 (route_eff_s k p m way route.1 read (omega arith))) ∙ or_true _
+      ap (λ b. is_read (h n) || b) (some_at (eff_s k g h) (parents_of g n) p route.0 (route_eff_s k p m way route.1 read (omega arith))) ∙ or-true _
 
 -- in a lawful graph the number of nodes is enough fuel
 module _ (g : Graph) (law : IsLawfulGraph g) (h : NodeId → Mode) where

@@ -1,12 +1,11 @@
 -- A lock that waits keeps the law, and so does a transaction that begins.
-use Rattle.std.specs.Prelude.{◌≡◌, ◌≢◌, ℕ, ◌+◌, ◌<◌, ◌≤◌, true, false, ◌==◌, [], ◌∷◌, Option, Some, None, is_some, if◌then◌else◌}
+use Rattle.std.specs.Prelude.{◌≡◌, ◌≢◌, ℕ, ◌+◌, ◌<◌, ◌≤◌, true, false, ◌==◌, [], ◌∷◌, Option, Some, is_some, if◌then◌else◌}
 use Rattle.std.specs.List.{filter}
-use Rattle.std.proofs.Common.{refl, sym, ap, ap₂, ◌∙◌, arith, subst}
+use Rattle.std.proofs.Common.{sym, ap, ap₂, ◌∙◌, arith, subst}
 use Rattle.gl_modes.specs.declared.mode.Mode.{Mode}
 use Rattle.gl_modes.specs.declared.mode.Mode.TheVariants.{NL}
 use Rattle.gl_modes.specs.declared.node.NodeId.{NodeId}
 use Rattle.gl_modes.specs.Modes.{is_at_least}
-use Rattle.gl_table.specs.declared.txn.Status.{Status}
 use Rattle.gl_table.specs.declared.txn.Status.TheVariants.{Active, Waiting}
 use Rattle.gl_modes.specs.Nodes.{same_node}
 use Rattle.gl_graph.specs.Graph.{is_live}
@@ -22,11 +21,7 @@ use Rattle.gl_table.proofs.QueueEdits.{HoldersFirst, among_same, placed_other, p
 use Rattle.gl_table.proofs.Less.{waiting_is, age_none}
 use Rattle.gl_graph.proofs.Look.{split, same_number, other_number}
 use Rattle.gl_modes.proofs.NodeLemmas.{same_node-equal, same_node-refl}
-use Rattle.gl_table.proofs.Taken.{restatus_some, restatus_age}
-
-restatus_is : (st was : Status) (x : Option Txn) → status_in x ≡ Some was → status_in (restatus st x) ≡ Some st
-restatus_is st was None h = absurd (cc)
-restatus_is st was (Some x) h = refl
+use Rattle.gl_table.proofs.Taken.{restatus_some, restatus_age, restatus_is}
 
 same_wait : (n q : NodeId) (m w : Mode) → Some (Waiting n m) ≡ Some (Waiting q w) → (n ≡ q) × (m ≡ w)
 same_wait n q m w h = let e : n ≡ q = cc in let f : m ≡ w = cc in (e, f)

@@ -1,32 +1,31 @@
 -- Escalating keeps the law.
-use Rattle.std.specs.Prelude.{◌≡◌, ℕ, Bool, true, false, cond, not, ◌&&◌, ◌||◌, ◌==◌, List, [], ◌∷◌, Some, if◌then◌else◌}
+use Rattle.std.specs.Prelude.{◌≡◌, ℕ, true, false, cond, not, ◌&&◌, ◌||◌, ◌==◌, List, Some, if◌then◌else◌}
 use Rattle.std.specs.List.{list_any, list_all}
-use Rattle.std.proofs.Common.{refl, sym, ap, ap₂, ◌∙◌, rules}
+use Rattle.std.proofs.Common.{sym, ap, ap₂, ◌∙◌, rules}
 use Rattle.gl_modes.specs.declared.mode.Mode.{Mode}
 use Rattle.gl_modes.specs.declared.mode.Mode.TheVariants.{NL, IS, IX, S, X}
 use Rattle.gl_modes.specs.declared.node.NodeId.{NodeId}
-use Rattle.gl_modes.specs.Modes.{supremum, is_at_least, same_mode}
+use Rattle.gl_modes.specs.Modes.{supremum, is_at_least}
 use Rattle.gl_table.specs.declared.txn.Status.TheVariants.{Active}
-use Rattle.gl_modes.specs.Nodes.{same_node}
 use Rattle.gl_graph.specs.Graph.{is_live, is_child, nodes, parents_of, shape_of}
 use Rattle.gl_graph.specs.Shapes.{is_record_shape}
 use Rattle.gl_header.specs.Header.{holds, fits}
 use Rattle.gl_table.specs.State.{State, members, status_of}
-use Rattle.gl_table.specs.Intends.{is_write, no_parents, intends_over}
+use Rattle.gl_table.specs.Intends.{is_write, no_parents, intends_over, intends}
 use Rattle.gl_table.specs.Covered.{is_covered}
 use Rattle.gl_table.specs.Lawful.{IsLawful}
 use Rattle.gl_table.specs.Calls.{wanted, asked_by_escalation, raised, shed}
 use Rattle.gl_graph.proofs.RouteLengths.{listed}
-use Rattle.gl_table.proofs.GrantKeeps.{with_grant-lawful}
+use Rattle.gl_table.proofs.GrantKeeps.{with_grant-lawful, write_held}
 use Rattle.gl_table.proofs.Queues.{clash}
 use Rattle.gl_header.proofs.Ranges.{not_true}
 use Rattle.gl_table.proofs.Less.{IsLess, less-lawful}
 use Rattle.gl_table.proofs.Pumped.{pumped-lawful}
 use Rattle.gl_table.proofs.Taken.{taken-less}
 use Rattle.gl_table.proofs.TestsPass.{one_found}
-use Rattle.gl_graph.proofs.Look.{split, or_elim, and_both}
-use Rattle.gl_modes.proofs.NodeLemmas.{same_node-equal}
+use Rattle.gl_graph.proofs.Look.{split, and_both, all_at}
 use Rattle.gl_modes.proofs.ModeLemmas.{supremum-above}
+use Rattle.gl_graph.proofs.Moved.{any_found}
 
 -- where the old mode meets the rule, so does a new one that writes only if the old one did
 rule_of_old : (held : NodeId → Mode) (ps : List NodeId) (a m : Mode) → is_write m ≡ is_write a → intends_over held ps a ≡ true → intends_over held ps m ≡ true
@@ -38,40 +37,32 @@ write_above a m h = search rules
 write_s : (a : Mode) → is_write a ≡ false → is_write (supremum a S) ≡ false
 write_s a h = search rules
 
-write_is : (m : Mode) → is_write m ≡ true → not (same_mode m NL) ≡ true
-write_is m h = search rules
-
-any_of : (f : NodeId → Bool) (xs : List NodeId) → list_any f xs ≡ true → (q : NodeId) × (f q ≡ true)
-any_of f [] h = clash h refl
-any_of f (x ∷ xs) h = or_elim _ _ h (λ here. (x, here)) (λ there. any_of f xs there)
-
-all_at : (f : NodeId → Bool) (q : NodeId) (xs : List NodeId) → list_any (same_node q) xs ≡ true → list_all f xs ≡ true → f q ≡ true
-all_at f q [] h k = clash h refl
-all_at f q (x ∷ xs) h k = let both = and_both (f x) _ k in or_elim _ _ h (λ here. ap f (same_node-equal q x here) ∙ both.0) (λ there. all_at f q xs there both.1)
-
-module _ (s : State) (law : IsLawful s) (t : ℕ) (n : NodeId) (active : status_of s t ≡ Some Active) (live : is_live s.graph n ≡ true) (plain : is_record_shape (shape_of s.graph n) ≡ false)
-    (held : holds (members s n) t ≡ true) (fit : fits s.most (members s n) t (wanted s t n (asked_by_escalation s t n)) ≡ true) where
+module _ (s : State) (law : IsLawful s) (t : ℕ) (n : NodeId) where
   -- who holds a child to write holds the node to write
   writes_up : (c : NodeId) → is_child s.graph n c ≡ true → is_write (s.held t c) ≡ true → is_write (s.held t n) ≡ true
   writes_up c child writes =
-      all_at (λ p. is_at_least (s.held t p) IX) n (parents_of s.graph c) child
+      all_at (λ p. is_at_least (s.held t p) IX) (parents_of s.graph c) n child
       (sym (ap (λ w. cond w (list_all (λ p. is_at_least (s.held t p) IX) (parents_of s.graph c)) (no_parents (parents_of s.graph c) || list_any (λ p. is_at_least (s.held t p) IS) (parents_of s.graph c))) writes)
-      ∙ law.grants_intend t c (write_is (s.held t c) writes))
+      ∙ law.grants_intend t c (write_held (s.held t c) writes))
 
+  -- so the raised mode writes only where the old one did
   writes_same : is_write (wanted s t n (asked_by_escalation s t n)) ≡ is_write (s.held t n)
   writes_same =
       split (is_write (s.held t n)) (λ e. write_above (s.held t n) (asked_by_escalation s t n) e ∙ sym e)
       (λ e. ap is_write (ap (supremum (s.held t n)) (ap (λ b. if b then X else S) (none_writes e))) ∙ write_s (s.held t n) e ∙ sym e)
     where
       none_writes : is_write (s.held t n) ≡ false → list_any (λ c. is_child s.graph n c && is_write (s.held t c)) (nodes s.graph) ≡ false
-      none_writes e = not_true _ (λ h. let found = any_of (λ c. is_child s.graph n c && is_write (s.held t c)) (nodes s.graph) h in let both = and_both _ _ found.1 in clash (writes_up found.0 both.0 both.1) e)
+      none_writes e = not_true _ (λ h. let found = any_found (λ c. is_child s.graph n c && is_write (s.held t c)) (nodes s.graph) h in let both = and_both _ _ found.2 in clash (writes_up found.0 both.0 both.1) e)
 
-  -- the raised mode writes only where the old one did, so the rule of the graph is met as before
-  pub raised-lawful : IsLawful (raised s t n)
-  raised-lawful =
+  -- and meets the rule of the graph as the old one did
+  pub raised_intends : holds (members s n) t ≡ true → intends s t n (wanted s t n (asked_by_escalation s t n)) ≡ true
+  raised_intends held = rule_of_old (s.held t) (parents_of s.graph n) (s.held t n) (wanted s t n (asked_by_escalation s t n)) writes_same (law.grants_intend t n held)
+
+  pub raised-lawful : status_of s t ≡ Some Active → is_live s.graph n ≡ true → is_record_shape (shape_of s.graph n) ≡ false → holds (members s n) t ≡ true
+      → fits s.most (members s n) t (wanted s t n (asked_by_escalation s t n)) ≡ true → IsLawful (raised s t n)
+  raised-lawful active live plain held fit =
       with_grant-lawful s law t n (wanted s t n (asked_by_escalation s t n)) active live (λ is. clash is plain)
-      (rule_of_old (s.held t) (parents_of s.graph n) (s.held t n) (wanted s t n (asked_by_escalation s t n)) writes_same (law.grants_intend t n held))
-      (supremum-above (s.held t n) (asked_by_escalation s t n)) fit
+      (raised_intends held) (supremum-above (s.held t n) (asked_by_escalation s t n)) fit
 
 -- children are released whose own children are not held
 module _ (s : State) (law : IsLawful s) (t : ℕ) (n : NodeId) (active : status_of s t ≡ Some Active) where

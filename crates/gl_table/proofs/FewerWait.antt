@@ -18,7 +18,7 @@ use Rattle.gl_table.proofs.Queues.{clash}
 use Rattle.gl_table.proofs.Settles.{wait_is, waiting}
 use Rattle.gl_table.proofs.Walks.{in_range, same}
 use Rattle.gl_table.proofs.Ways.{without_wait_own}
-use Rattle.gl_table.proofs.Withdrawn.{rests}
+use Rattle.gl_table.proofs.Taken.{restatus_quiet}
 
 -- what one number adds to a count
 abbrev one_if : Bool → ℕ
@@ -58,5 +58,5 @@ fewer_wait s o v h = count_less (waiting s) (waiting (condemned s v)) still v (s
 
     gone : waiting (condemned s v) v ≡ false
     gone = not_true _ (λ k. let w = wait_is (status_of (condemned s v) v) k in
-        rests Condemned (λ q m e. cc) (s.txns v) w.0 w.1
+        restatus_quiet Condemned (λ q m e. cc) (s.txns v) w.0 w.1
         (ap status_in (sym (without_wait_own s v Condemned)) ∙ (woken_waits (granted_at (without_wait s v Condemned) (is_waiting_at s v)) v w.0 w.1 ((without_wait s v Condemned).txns v) w.2).0))

@@ -1,5 +1,5 @@
 -- The first of the nodes that pass a test, found among listed ones.
-use Rattle.std.specs.Prelude.{◌≡◌, ℕ, zero, suc, ◌+◌, ◌<◌, ◌≤◌, Bool, true, false, cond, not, ◌&&◌, ◌||◌, List, [], ◌∷◌, ◌++◌, length, take, get_or, if◌then◌else◌, Option, Some, None, is_some, nat_lt}
+use Rattle.std.specs.Prelude.{◌≡◌, ℕ, zero, suc, ◌+◌, ◌<◌, ◌≤◌, Bool, true, false, cond, not, ◌&&◌, ◌||◌, List, [], ◌∷◌, ◌++◌, if◌then◌else◌, Option, Some, None, is_some, nat_lt}
 use Rattle.std.specs.List.{filter_map, cons_option, find, list_any, range_with_len}
 use Rattle.std.specs.Option.{option_map_or}
 use Rattle.std.proofs.Common.{refl, sym, ap, ap₂, ◌∙◌, subst, arith}
@@ -16,34 +16,20 @@ use Rattle.gl_table.specs.Lists.{entry_of, mode_in, mode_of}
 use Rattle.gl_modes.proofs.NodeLemmas.{same_node-equal}
 use Rattle.gl_graph.specs.Graph.{Graph, Node, id_of, is_live, node_at, nodes}
 use Rattle.gl_graph.specs.Lawful.{IsLawfulGraph}
-use Rattle.gl_graph.proofs.Look.{found_at, or_elim, split}
+use Rattle.gl_graph.proofs.Look.{found_at, or_elim, split, live_node}
 use Rattle.gl_table.proofs.Queues.{clash}
+use Rattle.std.proofs.Math.Bool.{or-false}
+use Rattle.std.proofs.lemmas.List.Folds.{list_any-append}
 
 -- of the nodes seen so far that pass the test, the first in order of birth
 pub record IsFirst (p : NodeId → Bool) (seen : List NodeId) (first : Option NodeId) : Type 0 where
   pub none : first ≡ None → (c : NodeId) → list_any (same_node c) seen ≡ true → p c ≡ false
   pub some : (f : NodeId) → first ≡ Some f → (p f ≡ true) × ((c : NodeId) → list_any (same_node c) seen ≡ true → p c ≡ true → f.birth ≤ c.birth)
 
-pub first_none : (p : NodeId → Bool) → IsFirst p [] None
-first_none p = record { none = λ e c h. cc; some = λ f e. cc }
-
--- one more node is seen
-any_more : (c : NodeId) (ns : List NodeId) (n : NodeId) → list_any (same_node c) (ns ++ n ∷ []) ≡ (list_any (same_node c) ns || same_node c n)
-any_more c [] n = or_none (same_node c n)
-  where
-    or_none : (b : Bool) → (b || false) ≡ b
-    or_none true = refl
-    or_none false = refl
-any_more c (x ∷ ns) n = ap (λ b. same_node c x || b) (any_more c ns n) ∙ or_more (same_node c x) (list_any (same_node c) ns) (same_node c n)
-  where
-    or_more : (a b c : Bool) → (a || (b || c)) ≡ ((a || b) || c)
-    or_more true b c = refl
-    or_more false b c = refl
-
 module _ (p : NodeId → Bool) (ns : List NodeId) (n : NodeId) (first : Option NodeId) (is : IsFirst p ns first) where
   seen_or : {C : Type 0} (c : NodeId) → list_any (same_node c) (ns ++ n ∷ []) ≡ true → (list_any (same_node c) ns ≡ true → C) → (c ≡ n → C) → C
   seen_or c h before now =
-      or_elim (list_any (same_node c) ns) (same_node c n) (sym (any_more c ns n) ∙ h) before (λ e. now (same_node-equal c n e))
+      or_elim (list_any (same_node c) ns) (same_node c n) (sym (list_any-append (same_node c) ns (n ∷ []) ∙ ap (λ b. list_any (same_node c) ns || b) (or-false (same_node c n))) ∙ h) before (λ e. now (same_node-equal c n e))
 
   -- it passes, and was born before the one found so far
   pub first_new : p n ≡ true → option_map_or (λ o. nat_lt n.birth o.birth) first true ≡ true → IsFirst p (ns ++ n ∷ []) (Some n)
@@ -87,15 +73,6 @@ first_more p ns n first after is e = subst (IsFirst p (ns ++ n ∷ [])) (sym e) 
     (λ later. subst (IsFirst p (ns ++ n ∷ [])) (sym (ap₂ (λ a b. if a && b then Some n else first) passes later)) (first_later p ns n first is later)))
     (λ fails. subst (IsFirst p (ns ++ n ∷ [])) (sym (ap (λ a. if a && option_map_or (λ o. nat_lt n.birth o.birth) first true then Some n else first) fails)) (first_failed p ns n first is fails)))
 
--- the nodes before the next place are those before this one and the one here
-pub take_more : (ns : List NodeId) (i : ℕ) (d : NodeId) → i < length ns → take (i + 1) ns ≡ take i ns ++ get_or ns i d ∷ []
-take_more ns i d lt = let next : i + 1 ≡ suc i = omega arith in ap (λ k. take k ns) next ∙ by ns i lt
-  where
-    by : (ns : List NodeId) (i : ℕ) → i < length ns → take (suc i) ns ≡ take i ns ++ get_or ns i d ∷ []
-    by [] i lt = absurd (omega arith)
-    by (n ∷ ns) zero lt = refl
-    by (n ∷ ns) (suc i) lt = ap (λ xs. n ∷ xs) (by ns i (omega arith))
-
 -- in a list of nodes by birth, the one that passes and before which none passes is found
 find_born : (p : NodeId → Bool) (at : ℕ → Option NodeId) (k n : ℕ) (f : NodeId) (b : ℕ) → k ≤ b → b < k + n → at b ≡ Some f → p f ≡ true → ((j : ℕ) (c : NodeId) → j < b → at j ≡ Some c → p c ≡ false)
     → find p (filter_map at (range_with_len k n)) ≡ Some f
@@ -127,19 +104,12 @@ pub first_found : (g : Graph) → IsLawfulGraph g → (p : NodeId → Bool) (see
     → first ≡ find p (nodes g)
 first_found g law p seen None all is = sym (find_none p (λ b. id_of b (g.at b)) 1 g.births (λ j c e. split (p c) (λ h. clash h (is.none refl c (all c h).0)) (λ h. h)))
 first_found g law p seen (Some f) all is =
-    let found = live_node g f (all f (is.some f refl).0).1 in
+    let found = live_node (node_at g f) (all f (is.some f refl).0).1 in
     let at = found_at g f found.0 found.1 in
     let born = law.born f.birth (ap is_some at.0) in
     sym (find_born p (λ b. id_of b (g.at b)) 1 g.births f f.birth born.0 (let le = born.1 in omega arith)
     (ap (id_of f.birth) at.0 ∙ ap (λ k. Some (record { key = k; birth = f.birth })) at.1) (is.some f refl).0
     (λ j c lt e. split (p c) (λ h. let le = (is.some f refl).1 c (all c h).0 h in let b = id_birth j (g.at j) c e in absurd (omega arith)) (λ h. h)))
-  where
-    live_node : (g : Graph) (n : NodeId) → is_live g n ≡ true → (node : Node) × (node_at g n ≡ Some node)
-    live_node g n h = by (node_at g n) refl h
-      where
-        by : (o : Option Node) → node_at g n ≡ o → is_some o ≡ true → (node : Node) × (node_at g n ≡ Some node)
-        by None e k = absurd (cc)
-        by (Some x) e k = (x, e)
 
 -- what is held is listed
 pub held_listed : (l : LockList) (n : NodeId) → not (same_mode (mode_of l n) NL) ≡ true → list_any (same_node n) (keys l.entries) ≡ true
@@ -148,9 +118,3 @@ held_listed l n h = sym (is_some-lookup (same_node n) l.entries.entries) ∙ by 
     by : (o : Option Entry) → entry_of l n ≡ o → not (same_mode (mode_in o) NL) ≡ true → is_some (entry_of l n) ≡ true
     by None e k = absurd (cc)
     by (Some x) e k = ap is_some e
-
-pub take_all : (ns : List NodeId) (i : ℕ) → length ns ≤ i → take i ns ≡ ns
-take_all [] zero h = refl
-take_all [] (suc i) h = refl
-take_all (n ∷ ns) zero h = absurd (omega arith)
-take_all (n ∷ ns) (suc i) h = ap (λ xs. n ∷ xs) (take_all ns i (omega arith))

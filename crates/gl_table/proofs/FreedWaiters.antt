@@ -21,6 +21,7 @@ use Rattle.gl_table.specs.Tellings.{Told}
 use Rattle.gl_table.proofs.Queues.{clash}
 use Rattle.gl_table.proofs.Slots.{by_list-at, slice_get-at}
 use Rattle.gl_table.proofs.Woken.{among_more, is_among_all, none_before}
+use Rattle.std.proofs.Math.Bool.{or-false}
 
 -- what one of two tests writes, beside a third
 either : {A : Type 0} (a b k : Bool) (x y : A) → (if b && k then x else (if a && k then x else y)) ≡ (if (a || b) && k then x else y)
@@ -105,12 +106,8 @@ module _ (seats : List (Option Seat)) (ls : List LockList) (told : Told) (n : No
       now : (u : ℕ) → (u == w.0) ≡ true → is_among_waiters u (take (i + 1) ws) ≡ true
       now u e = next u ∙ or_right (is_among_waiters u (take i ws)) (u == w.0) e
 
-      or_none : (b : Bool) → (b || false) ≡ b
-      or_none true = refl
-      or_none false = refl
-
       as_before : (u : ℕ) → (u == w.0) ≡ false → is_among_waiters u (take (i + 1) ws) ≡ is_among_waiters u (take i ws)
-      as_before u e = next u ∙ ap (λ b. is_among_waiters u (take i ws) || b) e ∙ or_none (is_among_waiters u (take i ws))
+      as_before u e = next u ∙ ap (λ b. is_among_waiters u (take i ws) || b) e ∙ or-false (is_among_waiters u (take i ws))
 
       not_this : (u : ℕ) → is_among_waiters u (take (i + 1) ws) ≡ false → (u == w.0) ≡ false
       not_this u off = split (u == w.0) (λ e. clash (now u e) off) (λ e. e)

@@ -87,8 +87,7 @@ pub pumped_by_fields : (b : State) (chosen : NodeId → Bool) (held : ℕ → No
 pumped_by_fields b chosen held queue txns most held_is queue_is txns_is most_is = λ i.
     record b { held = held_is i; queue = queue_is i; txns = λ u. txns_is u i; most = most_is i }
 
--- the same waking, said of equal parents and waiters
-pub wakes-same : (seats seats' : List (Option Seat)) (ls ls' : List LockList) (told told' : Told) (n : NodeId) (ps qs : List NodeId) (ws vs : List Waiter) → ps ≡ qs → ws ≡ vs
-    → Wakes seats ls told n ps ws seats' ls' told' → Wakes seats ls told n qs vs seats' ls' told'
-wakes-same seats seats' ls ls' told told' n ps qs ws vs parents waiters h =
-    subst (λ (xs : List Waiter). Wakes seats ls told n qs xs seats' ls' told') waiters (subst (λ (xs : List NodeId). Wakes seats ls told n xs ws seats' ls' told') parents h)
+-- the same waking, said of equal waiters
+pub wakes-same : (seats seats' : List (Option Seat)) (ls ls' : List LockList) (told told' : Told) (n : NodeId) (ps : List NodeId) (ws vs : List Waiter) → ws ≡ vs
+    → Wakes seats ls told n ps ws seats' ls' told' → Wakes seats ls told n ps vs seats' ls' told'
+wakes-same seats seats' ls ls' told told' n ps ws vs waiters h = subst (λ (xs : List Waiter). Wakes seats ls told n ps xs seats' ls' told') waiters h

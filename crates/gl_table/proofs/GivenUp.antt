@@ -19,9 +19,8 @@ use Rattle.gl_table.proofs.Pumped.{woken_waits}
 use Rattle.gl_table.proofs.Queues.{clash}
 use Rattle.gl_table.proofs.QueueEdits.{out_of_without}
 use Rattle.gl_table.proofs.Settles.{wait_is}
-use Rattle.gl_table.proofs.Taken.{IsQuiet}
+use Rattle.gl_table.proofs.Taken.{IsQuiet, restatus_quiet}
 use Rattle.gl_table.proofs.Ways.{without_wait_other, without_wait_own}
-use Rattle.gl_table.proofs.Withdrawn.{rests}
 
 module _ (s : State) (o : IsOrderly s) (t : ℕ) (n : NodeId) (st : Status) (quiet : IsQuiet st) (waits : is_waiting_at s t n ≡ true) where
   abbrev b : State
@@ -48,7 +47,7 @@ module _ (s : State) (o : IsOrderly s) (t : ℕ) (n : NodeId) (st : Status) (qui
       was = woken_waits (granted_at b (is_waiting_at s t)) u wait.0 wait.1 (b.txns u) wait.2
 
       other : (u == t) ≡ false
-      other = not_true _ (λ e. rests st quiet (s.txns t) wait.0 wait.1 (ap status_in (sym (without_wait_own s t st)) ∙ ap (status_of b) (sym (same_number u t e)) ∙ was.0))
+      other = not_true _ (λ e. restatus_quiet st quiet (s.txns t) wait.0 wait.1 (ap status_in (sym (without_wait_own s t st)) ∙ ap (status_of b) (sym (same_number u t e)) ∙ was.0))
 
       asleep : (q : NodeId) (w : Mode) → (status_of b u ≡ Some (Waiting q w)) × (is_among_waiters u (granted_at b (is_waiting_at s t) q) ≡ false) → is_among_waiters u (front_at b n) ≡ true → ⊥
       asleep q w was k =

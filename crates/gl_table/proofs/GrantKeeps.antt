@@ -1,5 +1,5 @@
 -- A grant at once keeps the law.
-use Rattle.std.specs.Prelude.{◌≡◌, ℕ, Bool, true, false, cond, not, ◌&&◌, ◌||◌, ◌==◌, List, [], ◌∷◌, Option, Some, None, is_some, if◌then◌else◌}
+use Rattle.std.specs.Prelude.{◌≡◌, ℕ, Bool, true, false, cond, not, ◌&&◌, ◌||◌, ◌==◌, List, [], ◌∷◌, Option, Some, None, is_some, if◌then◌else◌, ◌<◌}
 use Rattle.std.specs.List.{list_all, list_any, range_with_len}
 use Rattle.std.proofs.Common.{refl, sym, ap, ap₂, subst, ◌∙◌, rules, arith}
 use mathlib.Core.Bool.{true≢false}
@@ -20,6 +20,7 @@ use Rattle.gl_header.proofs.Fits.{fits-all}
 use Rattle.gl_graph.proofs.Look.{split, and_both, same_number}
 use Rattle.gl_modes.proofs.NodeLemmas.{same_node-equal}
 use Rattle.gl_modes.proofs.ModeLemmas.{at_least-refl, at_least-transitive, compatible-symmetric}
+use Rattle.std.proofs.Math.Bool.{or-true}
 
 -- a greater mode blocks no less
 less_compatible : (m a b : Mode) → is_at_least b a ≡ true → are_compatible m b ≡ true → are_compatible m a ≡ true
@@ -29,9 +30,21 @@ less_compatible m a b h k = search rules
 pub more_held : (a b : Mode) → is_at_least b a ≡ true → not (same_mode a NL) ≡ true → not (same_mode b NL) ≡ true
 more_held a b h k = search rules
 
+-- who holds to write holds
+pub write_held : (m : Mode) → is_write m ≡ true → not (same_mode m NL) ≡ true
+write_held m h = search rules
+
 -- who does not hold holds NL
 pub nl_is : (a : Mode) → not (same_mode a NL) ≡ false → a ≡ NL
 nl_is a h = search rules
+
+-- where all who hold are below the limit, nobody at or above it does
+pub holders-within : (s : State) (n : NodeId) → ((u : ℕ) → holds (members s n) u ≡ true → u < s.most) → IsWithin s.most (members s n)
+holders-within s n below u le = split (holds (members s n) u) (λ h. let lt = below u h in absurd (omega arith)) (λ h. nl_is (s.held u n) h)
+
+-- and so it is in a lawful state
+pub lawful-within : (s : State) → IsLawful s → (n : NodeId) → IsWithin s.most (members s n)
+lawful-within s law n = holders-within s n (λ u h. law.slots_below u (law.grants_live u n h).0)
 
 -- the graph rule over greater modes
 all_more : (h h' : NodeId → Mode) → ((p : NodeId) → is_at_least (h' p) (h p) ≡ true) → (m : Mode) (ps : List NodeId) → list_all (λ p. is_at_least (h p) m) ps ≡ true → list_all (λ p. is_at_least (h' p) m) ps ≡ true
@@ -43,11 +56,7 @@ any_more h h' more m [] k = k
 any_more h h' more m (p ∷ ps) k =
     split (is_at_least (h p) m)
     (λ e. ap (λ b. b || list_any (λ q. is_at_least (h' q) m) ps) (at_least-transitive _ _ _ (more p) e))
-    (λ e. ap (λ b. is_at_least (h' p) m || b) (any_more h h' more m ps (sym (ap (λ b. b || list_any (λ q. is_at_least (h q) m) ps) e) ∙ k)) ∙ or_true (is_at_least (h' p) m))
-  where
-    or_true : (b : Bool) → (b || true) ≡ true
-    or_true true = refl
-    or_true false = refl
+    (λ e. ap (λ b. is_at_least (h' p) m || b) (any_more h h' more m ps (sym (ap (λ b. b || list_any (λ q. is_at_least (h q) m) ps) e) ∙ k)) ∙ or-true (is_at_least (h' p) m))
 
 -- a holder of no less meets the rule as before
 pub rule_more : (h h' : NodeId → Mode) → ((p : NodeId) → is_at_least (h' p) (h p) ≡ true) → (ps : List NodeId) (m : Mode) → intends_over h ps m ≡ true → intends_over h' ps m ≡ true
@@ -99,9 +108,6 @@ module _ (s : State) (law : IsLawful s) (t : ℕ) (n : NodeId) (m : Mode) (activ
   grew : (u : ℕ) (q : NodeId) → is_at_least ((with_grant s t n m).held u q) (s.held u q) ≡ true
   grew u q = at_case u q (λ eu eq eh. ap₂ is_at_least eh (ap₂ s.held eu eq) ∙ more) (λ eh. ap (λ a. is_at_least a (s.held u q)) eh ∙ at_least-refl (s.held u q))
 
-  within : IsWithin s.most (members s n)
-  within u le = split (holds (members s n) u) (λ h. let lt = law.slots_below u (law.grants_live u n h).0 in absurd (omega arith)) (λ h. nl_is (s.held u n) h)
-
   not_waiting : (q : NodeId) → is_waiting_at s t q ≡ true → ⊥
   not_waiting q h = true≢false (sym h ∙ ap (λ o. waits_at o q) active)
 
@@ -115,9 +121,9 @@ module _ (s : State) (law : IsLawful s) (t : ℕ) (n : NodeId) (m : Mode) (activ
     waits_live = law.waits_live;
     compatible = λ u v q ne. at_case u q
         (λ eu eq eh. at_case v q (λ ev _ _. absurd (ne (eu ∙ sym ev)))
-        (λ fh. ap₂ are_compatible eh fh ∙ ap (λ p. are_compatible m (s.held v p)) eq ∙ fits-all s.most (members s n) t m within fit v (λ ev. ne (eu ∙ sym ev))))
+        (λ fh. ap₂ are_compatible eh fh ∙ ap (λ p. are_compatible m (s.held v p)) eq ∙ fits-all s.most (members s n) t m (lawful-within s law n) fit v (λ ev. ne (eu ∙ sym ev))))
         (λ eh. at_case v q
-        (λ ev eq fh. ap₂ are_compatible eh fh ∙ compatible-symmetric (s.held u q) m ∙ ap (λ p. are_compatible m (s.held u p)) eq ∙ fits-all s.most (members s n) t m within fit u (λ eu. ne (eu ∙ sym ev)))
+        (λ ev eq fh. ap₂ are_compatible eh fh ∙ compatible-symmetric (s.held u q) m ∙ ap (λ p. are_compatible m (s.held u p)) eq ∙ fits-all s.most (members s n) t m (lawful-within s law n) fit u (λ eu. ne (eu ∙ sym ev)))
         (λ fh. ap₂ are_compatible eh fh ∙ law.compatible u v q ne));
     grants_intend = λ u q h. rule_more (s.held u) ((with_grant s t n m).held u) (grew u) (parents_of s.graph q) ((with_grant s t n m).held u q)
         (at_case u q (λ eu eq eh. ap₂ (λ v p. intends s v p ((with_grant s t n m).held u q)) eu eq ∙ ap (intends s t n) eh ∙ rule)

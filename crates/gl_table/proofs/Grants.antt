@@ -32,6 +32,7 @@ use Rattle.gl_table.proofs.Asks.{IsReady}
 use Rattle.gl_table.proofs.Children.{children_up}
 use Rattle.gl_table.proofs.Listed.{HasNode}
 use Rattle.gl_table.proofs.Queues.{clash}
+use Rattle.std.proofs.Math.Bool.{and-false}
 
 -- other members of one node, of whom one alone is changed, are one grant
 pub with_members-grant : (held : ℕ → NodeId → Mode) (t : ℕ) (n : NodeId) (m : Mode) → with_members held n (with_mode (λ u. held u n) t m) ≡ (λ u q. if (u == t) && same_node q n then m else held u q)
@@ -73,11 +74,7 @@ module _ (s : State) (t : ℕ) (n : NodeId) (m : Mode) (lock : m ≢ NL) (u : �
   holding-new e = ap₂ (λ a b. not (same_mode (if a && b then m else s.held u n) NL)) e (same_node-refl n) ∙ ap not (not_NL m lock)
 
   holding-node : (q : NodeId) → same_node q n ≡ false → holding after q ≡ holding s q
-  holding-node q e = ap (λ b. not (same_mode (if (u == t) && b then m else s.held u q) NL)) e ∙ ap (λ b. not (same_mode (if b then m else s.held u q) NL)) (and_false (u == t))
-    where
-      and_false : (b : Bool) → (b && false) ≡ false
-      and_false true = refl
-      and_false false = refl
+  holding-node q e = ap (λ b. not (same_mode (if (u == t) && b then m else s.held u q) NL)) e ∙ ap (λ b. not (same_mode (if b then m else s.held u q) NL)) (and-false (u == t))
 
   holding-slot : (u == t) ≡ false → (q : NodeId) → holding after q ≡ holding s q
   holding-slot e q = ap (λ b. not (same_mode (if b && same_node q n then m else s.held u q) NL)) e

@@ -22,16 +22,7 @@ use Rattle.gl_table.proofs.Queues.{clash, grants_other}
 use Rattle.gl_table.proofs.QueueEdits.{without_none}
 use Rattle.gl_table.specs.Steps.{stripped, LeftOne, LeftAll, AbortIsRelease}
 use Rattle.gl_table.proofs.Bare.{bare_free, out_of_own, granted_waits, stripped_after}
-
-or_none : (b : Bool) → (b || false) ≡ b
-or_none true = refl
-or_none false = refl
-
-or_turned : (a b : Bool) → (a || b) ≡ (b || a)
-or_turned true true = refl
-or_turned true false = refl
-or_turned false true = refl
-or_turned false false = refl
+use Rattle.std.proofs.Math.Bool.{or-false, or_comm}
 
 -- where no node grants, nothing changes
 woken_none : (u : ℕ) (x : Option Txn) → x ≡ woken (λ q. []) u x
@@ -71,7 +62,7 @@ stripped_pumped : (s : State) (t : ℕ) (P : NodeId → Bool) → ((n : NodeId) 
 stripped_pumped s t P out free =
     pumped_none (stripped (pumped s P) t)
     ∙ stripped_after s t P (λ q. false) out (λ n h _. free n h)
-    ∙ ap (pumped (stripped s t)) (fun_ext (λ n. or_none (P n)))
+    ∙ ap (pumped (stripped s t)) (fun_ext (λ n. or-false (P n)))
 
 pub left_one : LeftOne
 left_one s now t n left most out off was =
@@ -88,9 +79,9 @@ left_all s now t free out was = sym was ∙ stripped_free now t free out
 -- what t's node grants with t's grant there, and then once it is gone, is what it grants at once without t
 pub abort_is_release : AbortIsRelease
 abort_is_release s t =
-    ap₂ pumped (sym (stripped_wait s t Active)) (fun_ext (λ n. or_turned (holds (members s n) t) (is_waiting_at s t n)))
+    ap₂ pumped (sym (stripped_wait s t Active)) (fun_ext (λ n. or_comm (holds (members s n) t) (is_waiting_at s t n)))
     ∙ sym (stripped_after (without_wait s t Active) t (is_waiting_at s t) (λ n. holds (members s n) t) out free)
-    ∙ ap (pumped (stripped (cancelled s t) t)) (fun_ext (λ n. sym (ap₂ (λ a b. a || b) (same n) (active n) ∙ or_none (holds (members s n) t))))
+    ∙ ap (pumped (stripped (cancelled s t) t)) (fun_ext (λ n. sym (ap₂ (λ a b. a || b) (same n) (active n) ∙ or-false (holds (members s n) t))))
   where
     out : (n : NodeId) → is_among_waiters t ((without_wait s t Active).queue n) ≡ false
     out n = out_of_own t (s.queue n)

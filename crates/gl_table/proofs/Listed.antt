@@ -7,11 +7,11 @@ use Rattle.gl_modes.specs.declared.mode.Mode.TheVariants.{NL}
 use Rattle.gl_modes.specs.declared.node.NodeId.{NodeId}
 use Rattle.gl_modes.specs.Nodes.{same_node}
 use Rattle.gl_modes.proofs.NodeLemmas.{same_node-equal}
-use Rattle.gl_graph.proofs.Look.{same_number, split}
+use Rattle.gl_graph.proofs.Look.{split}
 use Rattle.gl_table.specs.declared.list.LockList.{LockList}
 use Rattle.gl_table.specs.Lists.{IsApart, count_of, is_listed, mode_of}
 use Rattle.gl_table.specs.Slots.{AreApart, by_list, counted_by, held_by, listed_by, room_by}
-use Rattle.gl_table.proofs.Slots.{apart-set, by_list-at, by_list-set}
+use Rattle.gl_table.proofs.Slots.{apart-set, by_list-set, by_list-here}
 
 -- the list of t has n, in this mode; what is said of other slots and nodes is as it was
 pub record HasNode (ls ls' : List LockList) (t : ℕ) (n : NodeId) (m : Mode) : Type 0 where
@@ -24,7 +24,7 @@ pub record HasNode (ls ls' : List LockList) (t : ℕ) (n : NodeId) (m : Mode) : 
 module _ (ls : List LockList) (t : ℕ) (l l' : LockList) (lt : t < length ls) (at : l ≡ slice_index_or ls t l) where
   by_slot : {A : Type 0} (f : LockList → A) (none : A) (u : ℕ) (want : Bool → A) → (f l ≡ by_list f none ls u → f l' ≡ want true) → by_list f none ls u ≡ want false → by_list f none (slice_set ls t l') u ≡ want (u == t)
   by_slot f none u want here there = by_list-set ls t l' lt f none u ∙ split (u == t)
-      (λ e. ap (λ b. if b then f l' else by_list f none ls u) e ∙ here (sym (ap (by_list f none ls) (same_number u t e) ∙ by_list-at f none ls t l lt at)) ∙ ap want (sym e))
+      (λ e. ap (λ b. if b then f l' else by_list f none ls u) e ∙ here (sym (by_list-here ls t l lt at u e f none)) ∙ ap want (sym e))
       (λ e. ap (λ b. if b then f l' else by_list f none ls u) e ∙ there ∙ ap want (sym e))
 
   pub has_node-set : (n : NodeId) (m : Mode) → AreApart ls → IsApart l' → ((q : NodeId) → mode_of l' q ≡ (if same_node q n then m else mode_of l q))

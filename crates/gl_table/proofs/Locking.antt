@@ -1,5 +1,5 @@
 -- The tests of an ask, and what a grant makes of a table.
-use Rattle.std.specs.Prelude.{◌≡◌, ℕ, ◌∷◌, ◌++◌, [], ◌&&◌, Bool, true, false, not, List, length, Option, Some, None, Result, Ok, Err, OnErr, OnOk, if◌then◌else◌}
+use Rattle.std.specs.Prelude.{◌≡◌, ℕ, ◌∷◌, [], ◌&&◌, Bool, true, false, not, length, Option, Some, None, Result, Ok, Err, OnErr, OnOk, if◌then◌else◌}
 use Rattle.std.proofs.Common.{refl, sym, ap, ◌∙◌, subst}
 use Rattle.std.proofs.Math.Path.{fun_ext}
 use Rattle.gl_modes.specs.declared.mode.Mode.{Mode}
@@ -32,6 +32,7 @@ use Rattle.gl_table.proofs.LockKeeps.{MayLock, granted-lawful, may_lock}
 use Rattle.gl_table.proofs.NoCycle.{granted-no_cycle}
 use Rattle.gl_table.proofs.Queries.{modes-seen}
 use Rattle.gl_table.proofs.TableCalls.{orderly, test_passed}
+use Rattle.gl_graph.proofs.FirstOf.{passed_then, refused_first}
 
 -- the tests before the last have passed
 last_test : (a b c d e r : Option Refusal) → a ≡ None → b ≡ None → c ≡ None → d ≡ None → e ≡ None → first_refusal (a ∷ b ∷ c ∷ d ∷ e ∷ r ∷ []) ≡ r
@@ -60,18 +61,6 @@ module _ (i : Inside) (sound : IsSound i) (v : TableView) (view : view_of i ≡ 
       ∙ ap (λ (w : TableView). verdict (rule_refusal ((state_of v).held t.slot) (parents_of (graph_of w.graph) n) (supremum ((state_of v).held t.slot n) m))) view
       ∙ ap verdict (sym (last_test _ _ _ _ _ (need_parents s t.slot n (wanted s t.slot n m)) first.0 second.0 third.0 (one_node s n (test_passed _ y b)) good))
 
--- tests, and then more
-
-refused-append : (xs ys : List (Option Refusal)) (r : Refusal) → first_refusal xs ≡ Some r → first_refusal (xs ++ ys) ≡ Some r
-refused-append [] ys r h = absurd (cc)
-refused-append (None ∷ xs) ys r h = refused-append xs ys r h
-refused-append (Some x ∷ xs) ys r h = h
-
-passed-append : (xs ys : List (Option Refusal)) → first_refusal xs ≡ None → first_refusal (xs ++ ys) ≡ first_refusal ys
-passed-append [] ys h = refl
-passed-append (None ∷ xs) ys h = passed-append xs ys h
-passed-append (Some x ∷ xs) ys h = absurd (cc)
-
 pub test_refused : (o : Option Refusal) (r : Refusal) → Err r ≡ verdict o → o ≡ Some r
 test_refused None r h = absurd (cc)
 test_refused (Some x) r h = let same : r ≡ x = cc in ap Some (sym same)
@@ -88,11 +77,11 @@ blocked s t n m false e = ap (λ b. first_refusal (where_true (not b) no.WouldBl
 module _ (s : State) (t : TxnId) (n : NodeId) (m : Mode) where
   -- what refuses a lock refuses a try
   pub try_refused : (r : Refusal) → Err r ≡ verdict (first_refusal (lock_tests s t n m)) → first_refusal (try_tests s t n m) ≡ Some r
-  try_refused r h = refused-append (lock_tests s t n m) (would_block s t.slot n m ∷ []) r (test_refused _ r h)
+  try_refused r h = refused_first (lock_tests s t n m) (would_block s t.slot n m ∷ []) r (test_refused _ r h)
 
   -- and so does an ask that would wait
   pub try_decides : (x : Unit {0}) → Ok x ≡ verdict (first_refusal (lock_tests s t n m)) → (b : Bool) → enters_at s t.slot n m ≡ b → first_refusal (try_tests s t n m) ≡ (if b then None else Some no.WouldBlock)
-  try_decides x h b e = passed-append (lock_tests s t n m) (would_block s t.slot n m ∷ []) (test_passed _ x h) ∙ blocked s t.slot n m b e
+  try_decides x h b e = passed_then (lock_tests s t n m) (would_block s t.slot n m ∷ []) (test_passed _ x h) ∙ blocked s t.slot n m b e
 
   pub may_lock_by : (x : Unit {0}) → Ok x ≡ verdict (first_refusal (lock_tests s t n m)) → MayLock s t n m
   may_lock_by x h = (may_lock s t n m None [] (test_passed _ x h)).0

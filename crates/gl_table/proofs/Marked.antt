@@ -1,50 +1,45 @@
 -- Marked children are released, one after the other: what holds after each.
-use Rattle.std.specs.Prelude.{◌≡◌, ℕ, zero, suc, ◌+◌, ◌≤◌, ◌<◌, Bool, true, false, cond, not, ◌&&◌, ◌||◌, ◌==◌, List, [], ◌∷◌, drop, length, map, Option, Some, None, is_some, if◌then◌else◌, slice_get}
+use Rattle.std.specs.Prelude.{◌≡◌, ℕ, suc, ◌+◌, ◌≤◌, Bool, true, false, cond, not, ◌&&◌, ◌||◌, ◌==◌, List, [], ◌∷◌, drop, length, map, Some, None, is_some, if◌then◌else◌, slice_get}
 use Rattle.std.specs.List.{count_by, list_all, list_any}
 use Rattle.std.specs.Map.{lookup}
 use Rattle.std.proofs.Common.{refl, sym, ap, ap₂, ◌∙◌, subst, arith}
 use Rattle.std.proofs.Math.Bool.{and-false, and-not_self, and-true, or-true}
 use Rattle.std.proofs.Math.Path.{fun_ext}
-use Rattle.indexmap.specs.IndexMap.{keys}
 use Rattle.gl_modes.specs.declared.mode.Mode.{Mode}
 use Rattle.gl_modes.specs.declared.mode.Mode.TheVariants.{NL, X}
 use Rattle.gl_modes.specs.declared.node.NodeId.{NodeId}
 use Rattle.gl_modes.specs.Modes.{same_mode}
 use Rattle.gl_modes.specs.Nodes.{same_node}
 use Rattle.gl_modes.proofs.NodeLemmas.{same_node-equal, same_node-refl, same_node-sym}
-use Rattle.gl_graph.specs.Graph.{Graph, is_child, nodes, parents_of}
+use Rattle.gl_graph.specs.Graph.{is_child, nodes, parents_of}
 use Rattle.gl_graph.specs.Lawful.{IsLawfulGraph}
 use Rattle.gl_graph.proofs.Counts.{count_cons}
-use Rattle.gl_graph.proofs.Look.{and_both, number_same, split}
+use Rattle.gl_graph.proofs.Look.{and_both, split}
 use Rattle.gl_graph.proofs.Unrefused.{or_no}
-use Rattle.gl_header.specs.Header.{Members, Waiter, after_grants, front, holds, is_among_waiters}
+use Rattle.gl_header.specs.Header.{Waiter, after_grants, front, holds, is_among_waiters}
 use Rattle.gl_header.proofs.Ranges.{not_true}
 use Rattle.gl_table.specs.declared.list.LockList.{LockList}
-use Rattle.gl_table.specs.declared.notice.Notice.TheVariants as notice
 use Rattle.gl_table.specs.declared.txn.Status.TheVariants.{Active}
-use Rattle.gl_table.specs.declared.txn.TxnId.{TxnId}
 use Rattle.gl_table.specs.Calls.{shed, unlocked}
 use Rattle.gl_table.specs.Covered.{held_children, holds_child, is_covered}
 use Rattle.gl_table.specs.Lists.{IsApart, count_of, is_listed, mode_of}
 use Rattle.gl_table.specs.Locks.{Agrees, CountsHeld, IsOrderly}
 use Rattle.gl_table.specs.Marks.{IsShedding, NoneMarkedFrom}
 use Rattle.gl_table.specs.Pumps.{front_at, granted_at, pumped, woken}
-use Rattle.gl_table.specs.Slots.{WakesLists, WakesTold, grant_notice, mode_given}
-use Rattle.gl_table.specs.State.{State, Txn, members, restatus, status_in, status_of, with_grant}
+use Rattle.gl_table.specs.Slots.{WakesLists, WakesTold}
+use Rattle.gl_table.specs.State.{State, members, status_in, status_of, with_grant}
 use Rattle.gl_table.specs.Telling.{IsBySlot, notices_in}
 use Rattle.gl_table.specs.Tellings.{Told}
-use Rattle.gl_table.specs.Tells.{IsOnWay, told_to}
 use Rattle.gl_table.specs.Waiting.{is_wait}
 use Rattle.gl_table.proofs.Children.{children_down}
-use Rattle.gl_table.proofs.Departures.{StillTells, left_by}
+use Rattle.gl_table.proofs.Departures.{StillTells, left_by, own_notice, own_txn, still_tells, still_untold}
 use Rattle.gl_table.proofs.GrantKeeps.{nl_is}
-use Rattle.gl_table.proofs.OneWaits.{front_stands, well_granted, woken_front}
 use Rattle.gl_table.proofs.Orderly.{in_no_queue, orderly_unlocked}
 use Rattle.gl_table.proofs.Pumps.{pumped-pumped}
 use Rattle.gl_table.proofs.Queues.{clash}
-use Rattle.gl_table.proofs.Tells.{release_tells, woken_same}
+use Rattle.gl_table.proofs.Tells.{woken_same}
 use Rattle.gl_table.proofs.Unlocked.{agrees_unlocked, counts_unlocked, unlocked_own}
-use Rattle.gl_table.proofs.Ways.{way_releases}
+use Rattle.std.proofs.lemmas.Bool.{not-true}
 
 -- the state without t's grants on these nodes
 abbrev pub taken_from : State → ℕ → (NodeId → Bool) → State
@@ -168,12 +163,8 @@ module _ (s now : State) (t : ℕ) (n : NodeId) (ls : List LockList) (l : LockLi
   marked_childless c h m =
       is.marked.counts c
       ∙ ap (λ g. count_by (λ x. is_child g c x && holds (members now x) t) (nodes g)) is.graph
-      ∙ none_passes (λ x. is_child s.graph c x && holds (members now x) t) (λ x. is_child s.graph c x && holds (members s x) t) (nodes s.graph) (childless (holds_child s t c) (and_both _ _ (and_both _ _ (marked_covered c h m)).0).1)
+      ∙ none_passes (λ x. is_child s.graph c x && holds (members now x) t) (λ x. is_child s.graph c x && holds (members s x) t) (nodes s.graph) (not-true (holds_child s t c) (and_both _ _ (and_both _ _ (marked_covered c h m)).0).1)
       (λ x k. let both = and_both _ _ k in ap₂ (λ a b. a && b) both.0 (is.less x both.1))
-    where
-      childless : (b : Bool) → not b ≡ true → b ≡ false
-      childless true e = clash e refl
-      childless false e = refl
 
   module _ (c : NodeId) (listed : is_listed l c ≡ true) where
     abbrev after : State
@@ -230,36 +221,6 @@ module _ (s now : State) (t : ℕ) (n : NodeId) (ls : List LockList) (l : LockLi
         (listed' : (q : NodeId) → is_listed l' q ≡ (is_listed l q && not (same_node q c))) (modes' : (q : NodeId) → mode_of l' q ≡ mode_of l q)
         (counts' : (q : NodeId) → count_of l' q + count_by (same_node q) (parents_of now.graph c) ≡ count_of l q)
         (wakes : WakesLists ls c (parents_of now.graph c) first ls') (tell : WakesTold now.txns c first told told') where
-      txn_is : (u : ℕ) → after.txns u ≡ (if is_among_waiters u first then restatus Active (now.txns u) else now.txns u)
-      txn_is u = woken_front (with_grant now t c NL) c (well_granted now is.orderly t c NL c) u
-
-      not_first : is_among_waiters t first ≡ false
-      not_first = not_true _ (λ h. clash (front_stands (with_grant now t c NL) c (well_granted now is.orderly t c NL c) t h) (out c))
-
-      -- all others are as they were
-      same_txn : (u : ℕ) → is_among_waiters u first ≡ false → after.txns u ≡ now.txns u
-      same_txn u e = txn_is u ∙ ap (λ b. if b then restatus Active (now.txns u) else now.txns u) e
-
-      -- who waits still was not granted, and was told nothing
-      still_untold : (u : ℕ) → is_wait (status_of after u) ≡ true → notices_in told' u ≡ None
-      still_untold u h = split (is_among_waiters u first)
-          (λ e. clash h (ap (λ x. is_wait (status_in x)) (txn_is u ∙ ap (λ b. if b then restatus Active (now.txns u) else now.txns u) e) ∙ active (now.txns u)))
-          (λ e. tell.notices u ∙ ap (λ b. if b then grant_notice now.txns c first u else notices_in told u) e ∙ is.untold u (ap (λ x. is_wait (status_in x)) (sym (same_txn u e)) ∙ h))
-        where
-          active : (x : Option Txn) → is_wait (status_in (restatus Active x)) ≡ false
-          active None = refl
-          active (Some x) = refl
-
-      still_tells : StillTells s after t was told'
-      still_tells begin way same =
-          let so_far = is.tells begin way same in (
-            way_releases begin now t c so_far.0,
-            λ u e.
-                tell.notices u
-                ∙ ap₂ (λ x y. if is_among_waiters u first then x else y) (ap (λ (a : ℕ). let name : TxnId = record { slot = u; age = a } in Some (name, notice.Granted c (mode_given first u))) (so_far.0.ages u)) (so_far.1 u e)
-                ∙ sym (release_tells begin now t c so_far.0 u e),
-          )
-
       -- the list has all that is held still, and what is marked still
       marked_after : IsShedding s after t n l'
       marked_after = record {
@@ -276,7 +237,7 @@ module _ (s now : State) (t : ℕ) (n : NodeId) (ls : List LockList) (l : LockLi
         graph = is.graph;
         orderly = orderly_unlocked now is.orderly t c;
         most = is.most;
-        active = ap status_in (same_txn t not_first) ∙ is.active;
+        active = ap status_in (own_txn now is.orderly t out c told told' tell) ∙ is.active;
         agree = λ u e. agrees_unlocked now t c is.orderly ls ls' wakes u e (is.agree u e);
         count = λ u e. counts_unlocked now t c is.orderly ls ls' wakes u e (is.agree u e) law (is.orderly.holders_live t c (marked_held c listed)) (is.count u e);
         marked = marked_after;
@@ -285,9 +246,9 @@ module _ (s now : State) (t : ℕ) (n : NodeId) (ls : List LockList) (l : LockLi
         covered = λ q h. split (same_node c q) (λ e. ap (is_covered s t n) (sym (same_node-equal c q e)) ∙ marked_covered c listed mark)
             (λ e. is.covered q (back (left_by s now t q) (same_node c q) (left_same q ∙ h) e));
         by_slot = tell.by_slot;
-        untold = still_untold;
-        own = tell.notices t ∙ ap (λ b. if b then grant_notice now.txns c first t else notices_in told t) not_first ∙ is.own;
-        tells = still_tells;
+        untold = still_untold now is.orderly t out c told told' tell is.untold;
+        own = own_notice now is.orderly t out c told told' tell ∙ is.own;
+        tells = still_tells now is.orderly t out c told told' tell s was is.tells;
       }
         where
           back : (a b : Bool) → (a || b) ≡ true → b ≡ false → a ≡ true

@@ -16,7 +16,8 @@ use Rattle.indexmap.specs.IndexMap.{keys}
 use Rattle.gl_table.specs.declared.list.LockList.{LockList}
 use Rattle.gl_table.specs.Lists.{count_of, mode_of}
 use Rattle.gl_table.specs.Marks.{covered_in}
-use Rattle.gl_table.proofs.FirstChild.{held_listed, take_all}
+use Rattle.gl_table.proofs.FirstChild.{held_listed}
+use Rattle.std.proofs.lemmas.List.{take_all}
 
 -- tests that agree on each of these nodes
 all_alike : (f h : NodeId → Bool) (ps : List NodeId) → ((p : NodeId) → list_any (same_node p) ps ≡ true → f p ≡ h p) → list_all f ps ≡ list_all h ps
@@ -131,6 +132,6 @@ module _ (g : Graph) (n : NodeId) (was : LockList) (counted : (c p : NodeId) →
   pub marks_end : (l : LockList) (at : ℕ) → length (keys was.entries) ≤ at → HasMarked g n was l (take at (keys was.entries)) → (q : NodeId) → mode_of l q ≡ (if covered_in g was n q then NL else mode_of was q)
   marks_end l at le h q = split (covered_in g was n q)
       (λ e. let seen : list_any (same_node q) (take at (keys was.entries)) ≡ true
-      = ap (list_any (same_node q)) (take_all (keys was.entries) at le) ∙ held_listed was q (held_in (is_child g n q) (not (same_mode (mode_of was q) NL)) (count_of was q == 0) (not (same_mode (mode_of was q) X) || list_all (λ p. same_mode (mode_of was p) X) (parents_of g q)) e) in
+      = ap (list_any (same_node q)) (take_all at (keys was.entries) le) ∙ held_listed was q (held_in (is_child g n q) (not (same_mode (mode_of was q) NL)) (count_of was q == 0) (not (same_mode (mode_of was q) X) || list_all (λ p. same_mode (mode_of was p) X) (parents_of g q)) e) in
       h q ∙ ap₂ (λ a b. if a && b then NL else mode_of was q) e seen ∙ sym (ap (λ b. if b then NL else mode_of was q) e))
       (λ e. stays l (take at (keys was.entries)) h q e ∙ sym (ap (λ b. if b then NL else mode_of was q) e))

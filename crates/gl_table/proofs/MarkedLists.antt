@@ -1,6 +1,6 @@
 -- The list of a slot is taken out of its place, its covered children are marked, and at the end it is put back.
-use Rattle.std.specs.Prelude.{◌≡◌, ℕ, zero, suc, ◌<◌, Bool, true, false, cond, not, ◌&&◌, ◌||◌, ◌==◌, List, length, Some, if◌then◌else◌, slice_index_or, slice_set, nat_lt}
-use Rattle.std.specs.List.{count_by, list_all, list_any}
+use Rattle.std.specs.Prelude.{◌≡◌, ℕ, zero, suc, ◌<◌, Bool, true, false, not, ◌&&◌, ◌||◌, ◌==◌, List, length, Some, if◌then◌else◌, slice_index_or, slice_set, nat_lt}
+use Rattle.std.specs.List.{list_all, list_any}
 use Rattle.std.specs.Map.{lookup}
 use Rattle.std.proofs.Common.{refl, sym, ap, ap₂, ◌∙◌, subst, arith}
 use Rattle.std.proofs.Math.Bool.{or-false}
@@ -21,7 +21,7 @@ use Rattle.gl_table.specs.declared.list.LockList.{LockList}
 use Rattle.gl_table.specs.declared.locks.Locks.{Locks}
 use Rattle.gl_table.specs.declared.txn.Status.TheVariants.{Active}
 use Rattle.gl_table.specs.Covered.{holds_child, is_covered}
-use Rattle.gl_table.specs.Lists.{IsApart, count_of, is_listed, mode_of}
+use Rattle.gl_table.specs.Lists.{count_of, is_listed, mode_of}
 use Rattle.gl_table.specs.Locks.{Agrees, AreSound, CountsHeld, IsOrderly, state_on}
 use Rattle.gl_table.specs.Marks.{IsShedding, covered_in}
 use Rattle.gl_table.specs.Slots.{AreApart}

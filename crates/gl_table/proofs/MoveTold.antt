@@ -1,8 +1,7 @@
 -- A node moves: whose wait is lost is told so, and nobody else is told anything.
-use Rattle.std.specs.Prelude.{◌≡◌, ℕ, true, false, not, List, Option, Some, None, if◌then◌else◌}
+use Rattle.std.specs.Prelude.{◌≡◌, ℕ, true, false, not, List, Some, None, if◌then◌else◌}
 use Rattle.std.specs.List.{filter}
-use Rattle.std.proofs.Common.{refl, sym, ap, ap₂, ◌∙◌}
-use Rattle.gl_modes.specs.declared.mode.Mode.{Mode}
+use Rattle.std.proofs.Common.{sym, ap, ap₂, ◌∙◌}
 use Rattle.gl_modes.specs.declared.mode.Mode.TheVariants.{NL}
 use Rattle.gl_modes.specs.declared.node.NodeId.{NodeId}
 use Rattle.gl_modes.specs.Modes.{same_mode}
@@ -14,30 +13,20 @@ use Rattle.gl_graph.proofs.Look.{split}
 use Rattle.gl_header.specs.Header.{is_among_waiters, is_waiter}
 use Rattle.gl_header.proofs.Ranges.{not_true}
 use Rattle.gl_table.specs.declared.notice.Notice.TheVariants as notice
-use Rattle.gl_table.specs.declared.txn.Status.{Status}
-use Rattle.gl_table.specs.declared.txn.Status.TheVariants.{Active, Waiting, Condemned}
+use Rattle.gl_table.specs.declared.txn.Status.TheVariants.{Active, Waiting}
 use Rattle.gl_table.specs.Calls.{freed, moved_to, stays}
 use Rattle.gl_table.specs.Locks.{IsOrderly}
 use Rattle.gl_table.specs.Pumps.{waits_at}
-use Rattle.gl_table.specs.State.{State, Txn, age_of, restatus, status_in, status_of}
+use Rattle.gl_table.specs.State.{State, age_of, status_in}
 use Rattle.gl_table.specs.Tellings.{addressed, notice_of, told_from}
 use Rattle.gl_table.specs.Tells.{told_to}
 use Rattle.gl_table.proofs.OneWaits.{stands_there}
 use Rattle.gl_table.proofs.Queues.{clash}
 use Rattle.gl_table.proofs.Strays.{among_failing}
-use Rattle.gl_table.proofs.Tells.{is_by_test}
+use Rattle.gl_table.proofs.Tells.{is_by_test, quiet_told}
 use Rattle.gl_table.proofs.TurnedAway.{freed_here, freed_other, is_lost, lost_waits, moved_notice}
 use Rattle.gl_table.proofs.Waiting.{one_stays}
-
--- who is as it was is told nothing
-same_untold : (s s' : State) (u : ℕ) → s'.txns u ≡ s.txns u → told_to s s' u ≡ None
-same_untold s s' u same = by (status_of s u) refl
-  where
-    by : (o : Option Status) → status_of s u ≡ o → addressed (record { slot = u; age = age_of s u }) (told_from s' u o) ≡ None
-    by None e = refl
-    by (Some Active) e = refl
-    by (Some Condemned) e = refl
-    by (Some (Waiting n m)) e = ap (λ o. addressed (record { slot = u; age = age_of s u }) (notice_of s' u n m o)) (ap status_in same ∙ e)
+use Rattle.gl_table.proofs.Taken.{restatus_is}
 
 module _ (s : State) (o : IsOrderly s) (n : NodeId) (ps : List NodeId) (g : Graph) (bare : (u : ℕ) → is_among_waiters u (s.queue n) ≡ true → s.held u n ≡ NL)
     (live : (u : ℕ) → is_among_waiters u (s.queue n) ≡ true → is_live g n ≡ true) where
@@ -53,18 +42,14 @@ module _ (s : State) (o : IsOrderly s) (n : NodeId) (ps : List NodeId) (g : Grap
       ap (λ st. addressed (record { slot = u; age = age_of s u }) (told_from after u st)) wait.1
       ∙ ap (λ x. addressed (record { slot = u; age = age_of s u }) (notice_of after u n wait.0 (status_in x)))
       (ap (λ b. if b then s.txns u else freed n (s.txns u)) out ∙ freed_here n wait.0 (s.txns u) wait.1)
-      ∙ ap (λ st. addressed (record { slot = u; age = age_of s u }) (notice_of after u n wait.0 st)) (active (s.txns u) wait.1)
+      ∙ ap (λ st. addressed (record { slot = u; age = age_of s u }) (notice_of after u n wait.0 st)) (restatus_is Active (Waiting n wait.0) (s.txns u) wait.1)
       ∙ ap₂ (λ a b. addressed (record { slot = u; age = age_of s u }) (if not a then Some notice.Gone else (if b then Some (notice.Granted n wait.0) else Some notice.Moved)))
       (live u stood) (ap (λ m. same_mode m wait.0) (bare u stood) ∙ not_true _ (λ k. (o.one_wait u n wait.0 wait.1).1 (sym (same_mode-equal NL wait.0 k))))
-    where
-      active : {m : Mode} (x : Option Txn) → status_in x ≡ Some (Waiting n m) → status_in (restatus Active x) ≡ Some Active
-      active None e = absurd (cc)
-      active (Some x) e = refl
 
   others_untold : (u : ℕ) → is_lost s n (stays s ps) u ≡ false → told_to s after u ≡ None
-  others_untold u h = same_untold s after u (split (is_among_waiters u (filter (stays s ps) (s.queue n)))
+  others_untold u h = quiet_told s after u (ap status_in (split (is_among_waiters u (filter (stays s ps) (s.queue n)))
       (λ e. ap (λ b. if b then s.txns u else freed n (s.txns u)) e)
-      (λ e. ap (λ b. if b then s.txns u else freed n (s.txns u)) e ∙ freed_other n (s.txns u) (not_true _ (λ k. clash (among_failing (stays s ps) u (s.queue n) (stands_there s o u n k) e) h))))
+      (λ e. ap (λ b. if b then s.txns u else freed n (s.txns u)) e ∙ freed_other n (s.txns u) (not_true _ (λ k. clash (among_failing (stays s ps) u (s.queue n) (stands_there s o u n k) e) h)))))
 
   pub moved_told : (u : ℕ) → told_to s after u ≡ (if is_lost s n (stays s ps) u then moved_notice s u else None)
   moved_told u = is_by_test (is_lost s n (stays s ps) u) (lost_told u) (others_untold u)

@@ -1,15 +1,13 @@
 -- A node that moves: what may be done to it, and what its move leaves.
-use Rattle.std.specs.Prelude.{◌≡◌, ◌≢◌, ◌⊎◌, ℕ, Bool, true, false, ◌&&◌, List, [], ◌∷◌, length, Option, Some, None}
-use Rattle.std.specs.List.{list_all}
+use Rattle.std.specs.Prelude.{◌≡◌, ◌≢◌, ◌⊎◌, ℕ, Bool, true, false, ◌&&◌, List, length, Option, Some, None}
 use Rattle.std.proofs.Common.{refl, sym, ap, ◌∙◌, subst}
 use Rattle.gl_modes.specs.declared.node.NodeId.{NodeId}
 use Rattle.gl_graph.specs.Graph.{Graph, Node, node_at, nodes, parents_in, parents_of, is_live, shape_in, shape_of, node_count}
-use Rattle.gl_graph.specs.Shapes.{Shape, Rec, Inner, File, Index, Interval, is_record_shape, is_movable_shape, least_parents}
+use Rattle.gl_graph.specs.Shapes.{Shape, Rec, is_record_shape, is_movable_shape, least_parents}
 use Rattle.gl_graph.specs.Changes.{with_node, with_parents, rekeyed, rekeyed_keys, rekeyed_parents}
-use Rattle.gl_graph.specs.Lawful.{AreInnerParents, IsLawfulGraph, are_inner}
+use Rattle.gl_graph.specs.Lawful.{AreInnerParents, IsLawfulGraph}
 use Rattle.gl_graph.specs.Refusals.{first_cycle}
-use Rattle.gl_graph.proofs.KindRules.{inner_plain, plain_live}
-use Rattle.gl_graph.proofs.Look.{and_both, both, cases_of, no, some_is, there_is}
+use Rattle.gl_graph.proofs.Look.{and_both, cases_of, no, some_is, there_is}
 use Rattle.gl_graph.proofs.Changed.{IsAlike, at_here, at_other, nodes_same, live_same, rec_same}
 use Rattle.gl_graph.proofs.Moved.{movable_alike, rec_alike, with_parents_is, rekeyed_is, move_lawful, rekey_lawful, file_of_record}
 use Rattle.gl_graph.proofs.Unrefused.{no_cycle}
@@ -21,6 +19,8 @@ use Rattle.gl_table.specs.Refusals.{need_exclusive, need_new_parents, some_given
 use Rattle.gl_table.specs.State.{State, status_of}
 use Rattle.gl_table.proofs.MoveKeeps.{moved_lawful}
 use Rattle.gl_table.proofs.Movers.{HoldsNode, HoldsParents, may_move, some_parents}
+use Rattle.gl_graph.proofs.SoundMoved.{inner_live}
+use Rattle.gl_graph.proofs.RecordParents.{record_shape}
 
 -- a move that may be made: a node with the same key, alike, and the mover may change its parents
 pub record Moves (s : State) (t : ℕ) (n : NodeId) (was is : Node) (g' : Graph) : Type 0 where
@@ -71,13 +71,6 @@ moved_node ps was = record was { parents = ps }
 shape_there : (g : Graph) (n : NodeId) (test : Option Shape → Bool) → test None ≡ false → test (shape_of g n) ≡ true → (node : Node) × (node_at g n ≡ Some node)
 shape_there g n test none h = cases_of (node_at g n) (λ e. absurd (no (sym none ∙ sym (ap (λ o. test (shape_in o)) e) ∙ h))) (λ x e. (x, e))
 
--- inner nodes live
-inner_live : (g : Graph) (ps : List NodeId) → are_inner g ps ≡ true → list_all (is_live g) ps ≡ true
-inner_live g [] h = refl
-inner_live g (p ∷ ps) h =
-    let two = and_both _ _ h in
-    both (is_live g p) _ (plain_live g p (inner_plain _ two.0)) (inner_live g ps two.1)
-
 -- a node moves under parents that are none below it
 pub may_be_moved : (s : State) → IsLawful s → (t : ℕ) (n : NodeId) (ps : List NodeId) → status_of s t ≡ Some Active → is_movable_shape (shape_of s.graph n) ≡ true
     → AreInnerParents s.graph (least_parents (shape_of s.graph n)) ps → need_exclusive s t n (some_given (parents_of s.graph n) && some_given ps) ps ≡ None → need_new_parents s t n ps ≡ None
@@ -100,14 +93,6 @@ may_be_moved s law t n ps active movable inner exclusive rule clear =
       },
     )
 
-rec_keys : (o : Option Shape) → is_record_shape o ≡ true → (keys : List ℕ) × (o ≡ Some (Rec keys))
-rec_keys None h = absurd (no h)
-rec_keys (Some Inner) h = absurd (no h)
-rec_keys (Some File) h = absurd (no h)
-rec_keys (Some (Index file bounds)) h = absurd (no h)
-rec_keys (Some (Interval place)) h = absurd (no h)
-rec_keys (Some (Rec keys)) h = (keys, refl)
-
 -- the record with its new key
 abbrev pub rekeyed_to : Graph → NodeId → NodeId → ℕ → Node → Node
 rekeyed_to g r i key was = record { key = was.key; shape = Rec (rekeyed_keys g r i key); parents = rekeyed_parents g r i key }
@@ -118,7 +103,7 @@ pub may_be_rekeyed : (s : State) → IsLawful s → (t : ℕ) (r i : NodeId) (ke
     → (was : Node) × Moves s t r was (rekeyed_to s.graph r i key was) (rekeyed s.graph r i key)
 may_be_rekeyed s law t r i key active rec exclusive rule =
     let node = shape_there s.graph r is_record_shape refl rec in
-    let keys = rec_keys (shape_of s.graph r) rec in
+    let keys = record_shape (shape_of s.graph r) rec in
     let shape : node.0.shape ≡ Rec keys.0 = some_is (sym (ap shape_in node.1) ∙ keys.1) in
     let file = file_of_record s.graph law.graph r node.0 node.1 keys.0 shape in
     let some_old : no_parents (parents_of s.graph r) ≡ false = ap no_parents (ap parents_in node.1 ∙ file.3) in

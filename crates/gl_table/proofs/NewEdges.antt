@@ -15,10 +15,11 @@ use Rattle.gl_table.specs.Waiting.{waits_for}
 use Rattle.gl_table.specs.Lawful.{IsLawful}
 use Rattle.gl_table.specs.Calls.{enqueued, begun}
 use Rattle.gl_table.proofs.Queues.{ahead, ahead_is, ahead_first, clash, among_append}
-use Rattle.gl_table.proofs.QueueEdits.{HoldersFirst, chosen_is, slots_differ, ahead_within}
+use Rattle.gl_table.proofs.QueueEdits.{HoldersFirst, chosen_is, ahead_within}
 use Rattle.gl_table.proofs.Edges.{step_is, is_step, keep_ahead, among_kept}
 use Rattle.gl_graph.proofs.Look.{split, or_elim, or_left, or_right, number_other}
 use Rattle.gl_modes.proofs.NodeLemmas.{same_node-equal}
+use Rattle.gl_header.proofs.Ranges.{differ-false}
 
 -- of two that wait, one stands ahead
 one_ahead : (x y : ℕ) (q : List Waiter) → x ≢ y → is_among_waiters x q ≡ true → is_among_waiters y q ≡ true → (ahead q x y ≡ true) ⊎ (ahead q y x ≡ true)
@@ -39,12 +40,12 @@ one_ahead x y (w ∷ q) ne h k = by (w.0 == x) (w.0 == y) refl refl h k (one_ahe
 -- one between, who is neither
 ahead_skip : (x y t : ℕ) (m : Mode) (b a : List Waiter) → x ≢ t → y ≢ t → ahead (a ++ (t, m) ∷ b) x y ≡ true → ahead (a ++ b) x y ≡ true
 ahead_skip x y t m b [] nx ny h =
-    sym (ap₂ (λ p q. not p && (if q then is_among_waiters x b else ahead b x y)) (slots_differ t x nx) (slots_differ t y ny)) ∙ h
+    sym (ap₂ (λ p q. not p && (if q then is_among_waiters x b else ahead b x y)) (differ-false t x nx) (differ-false t y ny)) ∙ h
 ahead_skip x y t m b (w ∷ a) nx ny h = by (w.0 == x) (w.0 == y) h (ahead_skip x y t m b a nx ny)
   where
     fewer : is_among_waiters x (a ++ (t, m) ∷ b) ≡ true → is_among_waiters x (a ++ b) ≡ true
     fewer k = among_append x a b ∙ or_elim (is_among_waiters x a) (is_among_waiters x ((t, m) ∷ b)) (sym (among_append x a ((t, m) ∷ b)) ∙ k) (λ e. or_left (is_among_waiters x a) (is_among_waiters x b) e)
-        (λ e. or_right (is_among_waiters x a) (is_among_waiters x b) (or_elim (t == x) (is_among_waiters x b) e (λ f. clash f (slots_differ t x nx)) (λ f. f)))
+        (λ e. or_right (is_among_waiters x a) (is_among_waiters x b) (or_elim (t == x) (is_among_waiters x b) e (λ f. clash f (differ-false t x nx)) (λ f. f)))
 
     by : (p q : Bool) → (not p && (if q then is_among_waiters x (a ++ (t, m) ∷ b) else ahead (a ++ (t, m) ∷ b) x y)) ≡ true → (ahead (a ++ (t, m) ∷ b) x y ≡ true → ahead (a ++ b) x y ≡ true)
         → (not p && (if q then is_among_waiters x (a ++ b) else ahead (a ++ b) x y)) ≡ true

@@ -1,13 +1,13 @@
 -- Where who stands in a queue waits there, once: what follows for the front that its node grants.
 use Rattle.std.specs.Prelude.{◌≡◌, ℕ, Bool, true, false, not, List, [], ◌∷◌, ◌++◌, Option, Some, None, if◌then◌else◌}
-use Rattle.std.proofs.Common.{refl, sym, ap, ◌∙◌, arith}
+use Rattle.std.proofs.Common.{refl, sym, ap, ◌∙◌}
 use Rattle.std.proofs.lemmas.List.Elements.{filter-append}
 use Rattle.gl_modes.specs.declared.mode.Mode.{Mode}
 use Rattle.gl_modes.specs.declared.node.NodeId.{NodeId}
 use Rattle.gl_modes.specs.Nodes.{same_node}
 use Rattle.gl_modes.proofs.NodeLemmas.{same_node-equal, same_node-refl}
 use Rattle.gl_graph.proofs.Look.{both, number_other, number_same, or_left, or_right, split}
-use Rattle.gl_header.specs.Header.{AreBelow, IsWithin, Waiter, holds, is_among_waiters, is_waiter, pumped_queue}
+use Rattle.gl_header.specs.Header.{AreBelow, IsWithin, Waiter, is_among_waiters, is_waiter, pumped_queue}
 use Rattle.gl_header.specs.Sound.{is_distinct}
 use Rattle.gl_header.proofs.Fronts.{front-and_rest, front-waited}
 use Rattle.gl_header.proofs.Ranges.{not_true}
@@ -17,7 +17,7 @@ use Rattle.gl_table.specs.Locks.{IsOrderly}
 use Rattle.gl_table.specs.Pumping.{WaitWell}
 use Rattle.gl_table.specs.Pumps.{awake, front_at, granted_at, is_waiting_at, waits_at, without_wait, woken}
 use Rattle.gl_table.specs.State.{State, Txn, members, restatus, status_in, status_of, with_grant}
-use Rattle.gl_table.proofs.GrantKeeps.{nl_is, txn_there}
+use Rattle.gl_table.proofs.GrantKeeps.{txn_there, holders-within}
 use Rattle.gl_table.proofs.Less.{waiting_is}
 use Rattle.gl_table.proofs.Queues.{among_by_filter, clash, none_filtered, one_in_first}
 use Rattle.gl_table.proofs.QueueEdits.{out_of_without, without_filter}
@@ -55,7 +55,7 @@ module _ (s : State) (o : IsOrderly s) where
   waiters_below q u h = o.below u (txn_there (s.txns u) _ (waits_there u q h).1)
 
   pub members_within : (q : NodeId) → IsWithin s.most (members s q)
-  members_within q u le = split (holds (members s q) u) (λ h. let lt = o.below u (o.holders u q h) in absurd (omega arith)) (λ h. nl_is (s.held u q) h)
+  members_within q = holders-within s q (λ u h. o.below u (o.holders u q h))
 
   -- a changed grant changes no queue
   pub well_granted : (t : ℕ) (p : NodeId) (m : Mode) (q : NodeId) → WaitWell (with_grant s t p m) q

@@ -1,5 +1,5 @@
 -- What is in order stays so once nodes grant from their fronts.
-use Rattle.std.specs.Prelude.{◌≡◌, ℕ, Bool, true, false, not, ◌&&◌, ◌==◌, [], is_some, if◌then◌else◌}
+use Rattle.std.specs.Prelude.{◌≡◌, ℕ, Bool, true, false, not, ◌&&◌, ◌==◌, [], if◌then◌else◌}
 use Rattle.std.proofs.Common.{refl, sym, ap, ◌∙◌}
 use Rattle.gl_modes.specs.declared.mode.Mode.TheVariants.{NL}
 use Rattle.gl_modes.specs.declared.node.NodeId.{NodeId}
@@ -8,20 +8,17 @@ use Rattle.gl_modes.specs.Nodes.{same_node}
 use Rattle.gl_graph.proofs.Look.{same_number, split}
 use Rattle.gl_header.specs.Header.{holds, is_among_waiters}
 use Rattle.gl_header.proofs.Ranges.{not_true}
-use Rattle.gl_table.specs.declared.txn.Status.{Status}
 use Rattle.gl_table.specs.Calls.{unlocked}
 use Rattle.gl_table.specs.Locks.{IsOrderly}
-use Rattle.gl_table.specs.Pumps.{granted_at, is_waiting_at, pumped, without_wait}
-use Rattle.gl_table.specs.State.{State, members, restatus, status_of, with_grant}
+use Rattle.gl_table.specs.Pumps.{granted_at, pumped}
+use Rattle.gl_table.specs.State.{State, members, status_of, with_grant}
 use Rattle.gl_table.specs.Tells.{IsOnWay}
 use Rattle.gl_table.specs.Waiting.{is_wait}
 use Rattle.gl_table.proofs.GrantKeeps.{txn_there}
 use Rattle.gl_table.proofs.OneWaits.{waits_there}
 use Rattle.gl_table.proofs.Pumped.{woken_some}
 use Rattle.gl_table.proofs.Queues.{among_by_filter, clash, grants_other}
-use Rattle.gl_table.proofs.QueueEdits.{out_of_without}
-use Rattle.gl_table.proofs.Taken.{IsQuiet, restatus_some}
-use Rattle.gl_table.proofs.Ways.{granted_stands, left_stands, way_pumped, way_without_wait, without_wait_other}
+use Rattle.gl_table.proofs.Ways.{granted_stands, left_stands, way_pumped}
 
 -- who does not wait stands in no queue
 pub in_no_queue : (s : State) → IsOrderly s → (t : ℕ) → is_wait (status_of s t) ≡ false → (q : NodeId) → is_among_waiters t (s.queue q) ≡ false
@@ -79,27 +76,5 @@ orderly_dropped s o t n = record {
         by true k = clash k refl
         by false k = k
 
--- a wait that is over
-orderly_without : (s : State) → IsOrderly s → (t : ℕ) (st : Status) → IsQuiet st → IsOrderly (without_wait s t st)
-orderly_without s o t st quiet =
-    let way = way_without_wait s s (way_here s o) t st quiet in
-    record {
-      holders = λ u q h. there u ∙ o.holders u q h;
-      holders_live = o.holders_live;
-      waiters_live = λ u q h. o.waiters_live u q (out_of_without t u (s.queue q) h).0;
-      waits_are = way.waits_are;
-      one_wait = λ u q m h. (way.one_wait u q m h, (o.one_wait u q m (way.waited u q m h)).1);
-      below = λ u h. o.below u (sym (there u) ∙ h);
-    }
-  where
-    there : (u : ℕ) → is_some ((without_wait s t st).txns u) ≡ is_some (s.txns u)
-    there u = split (u == t)
-        (λ e. ap (λ b. is_some (if b then restatus st (s.txns t) else s.txns u)) e ∙ restatus_some st (s.txns t) ∙ ap (λ v. is_some (s.txns v)) (sym (same_number u t e)))
-        (λ e. ap is_some (without_wait_other s t st u e))
-
 pub orderly_unlocked : (s : State) → IsOrderly s → (t : ℕ) (n : NodeId) → IsOrderly (unlocked s t n)
 orderly_unlocked s o t n = orderly_pumped (with_grant s t n NL) (orderly_dropped s o t n) (same_node n)
-
--- where a wait is given up, its node grants
-pub orderly_given_up : (s : State) → IsOrderly s → (t : ℕ) (st : Status) → IsQuiet st → IsOrderly (pumped (without_wait s t st) (is_waiting_at s t))
-orderly_given_up s o t st quiet = orderly_pumped (without_wait s t st) (orderly_without s o t st quiet) (is_waiting_at s t)

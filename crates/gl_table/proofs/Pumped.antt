@@ -1,7 +1,7 @@
 -- Nodes that grant from their fronts bring the whole law back.
 use Rattle.std.specs.Prelude.{length, drop, ◌≡◌, ℕ, ◌≤◌, Bool, true, false, not, List, [], ◌∷◌, ◌++◌, Option, Some, None, is_some, if◌then◌else◌}
 use Rattle.std.specs.List.{filter}
-use Rattle.std.proofs.Common.{refl, sym, ap, ◌∙◌, arith, subst}
+use Rattle.std.proofs.Common.{refl, sym, ap, ◌∙◌, subst}
 use Rattle.std.proofs.lemmas.List.Elements.{filter-append}
 use Rattle.gl_modes.specs.declared.mode.Mode.{Mode}
 use Rattle.gl_modes.specs.declared.mode.Mode.TheVariants.{NL}
@@ -10,13 +10,13 @@ use Rattle.gl_modes.specs.Modes.{is_at_least, same_mode}
 use Rattle.gl_table.specs.declared.txn.Status.{Status}
 use Rattle.gl_table.specs.declared.txn.Status.TheVariants.{Active, Waiting, Condemned}
 use Rattle.gl_graph.specs.Graph.{parents_of}
-use Rattle.gl_header.specs.Header.{Waiter, holds, front, after_grants, is_among_waiters, is_waiter, IsWithin, IsCompatible}
+use Rattle.gl_header.specs.Header.{Waiter, front, after_grants, is_among_waiters, is_waiter, IsCompatible}
 use Rattle.gl_table.specs.State.{State, Txn, members, status_in, status_of, age_in}
 use Rattle.gl_table.specs.Pumps.{waits_at, granted_at, pumped, woken, awake}
 use Rattle.gl_table.specs.Intends.{intends}
 use Rattle.gl_table.specs.Lawful.{ModeFitsKind, IsLawful}
 use Rattle.gl_header.proofs.Fronts.{front-and_rest, front-after_front, pumped-compatible}
-use Rattle.gl_table.proofs.GrantKeeps.{rule_more, more_held, nl_is, txn_there}
+use Rattle.gl_table.proofs.GrantKeeps.{rule_more, more_held, txn_there, holders-within}
 use Rattle.gl_table.proofs.Queues.{ahead, ahead_is, ahead_first, ahead_after, clash, among_append, not_among, none_filtered, one_in_first, grants_other, grants_one}
 use Rattle.gl_table.proofs.LawfulBut.{IsLawfulBut}
 use Rattle.gl_table.proofs.Less.{waiting_is}
@@ -101,14 +101,11 @@ module _ (s : State) (chosen : NodeId → Bool) (law : IsLawfulBut chosen s) whe
   pub grew : (u : ℕ) (q : NodeId) → is_at_least ((pumped s chosen).held u q) (s.held u q) ≡ true
   grew u q = grant_case u q (λ m st h e out. ap (λ a. is_at_least a (s.held u q)) e ∙ (law.waits_intend u q m st).2) (λ h e. ap (λ a. is_at_least a (s.held u q)) e ∙ at_least-refl (s.held u q))
 
-  within : (q : NodeId) → IsWithin s.most (members s q)
-  within q u le = split (holds (members s q) u) (λ h. let lt = law.slots_below u (law.grants_live u q h).0 in absurd (omega arith)) (λ h. nl_is (s.held u q) h)
-
   compatible_now : (q : NodeId) → IsCompatible (λ t. (pumped s chosen).held t q)
   compatible_now q = by (chosen q)
     where
       by : (b : Bool) → IsCompatible (after_grants (members s q) (if b then front s.most (members s q) (s.queue q) else []))
-      by true = pumped-compatible s.most (members s q) (s.queue q) (λ u h. let st = wait_of u q h in law.slots_below u (txn_there (s.txns u) _ st.1)) (within q) (λ t u ne. law.compatible t u q ne)
+      by true = pumped-compatible s.most (members s q) (s.queue q) (λ u h. let st = wait_of u q h in law.slots_below u (txn_there (s.txns u) _ st.1)) (holders-within s q (λ u h. law.slots_below u (law.grants_live u q h).0)) (λ t u ne. law.compatible t u q ne)
       by false = λ t u ne. law.compatible t u q ne
 
   front_now : (q : NodeId) → front s.most (λ t. (pumped s chosen).held t q) (left q) ≡ []

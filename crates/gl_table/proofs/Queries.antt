@@ -1,13 +1,13 @@
 -- What is asked of a table: what its lists and headers say is what its state says.
 use Rattle.std.specs.Prelude.{◌≡◌, ℕ, Bool, true, false, List, [], ◌∷◌, Option, Some, None, Ok, if◌then◌else◌, length}
-use Rattle.std.proofs.Common.{refl, sym, ap, ap₂, ◌∙◌, arith}
+use Rattle.std.proofs.Common.{refl, sym, ap, ap₂, ◌∙◌}
 use Rattle.std.proofs.Math.Path.{fun_ext}
 use Rattle.gl_modes.specs.declared.node.NodeId.{NodeId}
 use Rattle.gl_modes.specs.declared.refusal.Refusal.{Refusal}
 use Rattle.gl_graph.specs.Refusals.{first_refusal}
 use Rattle.gl_graph.specs.View.{graph_of}
-use Rattle.gl_graph.proofs.Look.{none_some, split}
-use Rattle.gl_header.specs.Header.{IsWithin, group_of, holds}
+use Rattle.gl_graph.proofs.Look.{none_some}
+use Rattle.gl_header.specs.Header.{group_of, holds}
 use Rattle.gl_header.specs.State.{slot_limit}
 use Rattle.gl_header.proofs.GroupOf.{group_of-limit}
 use Rattle.gl_table.specs.declared.seat.Seat.{Seat}
@@ -17,14 +17,13 @@ use Rattle.gl_table.specs.BoardOf.{board_of}
 use Rattle.gl_table.specs.Covered.{held_children}
 use Rattle.gl_table.specs.Effects.{effect_on, effective}
 use Rattle.gl_table.specs.Headers.{held_of, members_at, queue_of}
-use Rattle.gl_table.specs.Lawful.{IsLawful}
 use Rattle.gl_table.specs.Seats.{txns_of}
 use Rattle.gl_table.specs.Slots.{counted_by, held_by}
 use Rattle.gl_table.specs.Sound.{IsSound, view_of}
-use Rattle.gl_table.specs.State.{State, members}
+use Rattle.gl_table.specs.State.{members}
 use Rattle.gl_table.specs.Table.{TableView, state_of}
 use Rattle.gl_table.proofs.BoardWrites.{shown}
-use Rattle.gl_table.proofs.GrantKeeps.{nl_is}
+use Rattle.gl_table.proofs.GrantKeeps.{lawful-within}
 
 -- where no test refuses, a call answers the value
 pub answers : {A : Type 0} (o : Option Refusal) (x y : A) → o ≡ None → x ≡ y → Ok x ≡ answered o y
@@ -38,10 +37,6 @@ both_pass o p a b = ap₂ (λ x y. first_refusal (x ∷ y ∷ [])) a b
 pub passed : {A : Type 0} (b : Bool) (o : Option A) (x : A) → Some x ≡ (if b then o else None) → b ≡ true
 passed true o x e = refl
 passed false o x e = absurd (none_some (sym e))
-
--- in a lawful state nobody at or above the limit holds
-pub lawful-within : (s : State) → IsLawful s → (n : NodeId) → IsWithin s.most (members s n)
-lawful-within s law n u le = split (holds (members s n) u) (λ h. let lt = law.slots_below u (law.grants_live u n h).0 in absurd (omega arith)) (λ h. nl_is (s.held u n) h)
 
 module _ (i : Inside) (sound : IsSound i) (v : TableView) (view : view_of i ≡ v) where
   pub modes-seen : (t : ℕ) (n : NodeId) → held_by i.locks.lists.items t n ≡ (state_of v).held t n

@@ -9,12 +9,10 @@ use Rattle.gl_header.specs.Header.{Members, Waiter, fits, with_mode, front, is_w
 use Rattle.std.proofs.lemmas.List.{append-nil}
 use Rattle.gl_table.proofs.Queues.{ahead, ahead_first, clash, no_cons, among_append, not_among, none_filtered}
 use Rattle.gl_graph.proofs.Look.{split, or_elim, or_left, or_right, and_both, same_number}
+use Rattle.gl_header.proofs.Ranges.{differ-false}
 
 same_slot : (t : ℕ) → (t == t) ≡ true
 same_slot t = grind (arith, nat_tests)
-
-pub slots_differ : (t u : ℕ) → u ≢ t → (t == u) ≡ false
-slots_differ t u ne = grind (arith, nat_tests)
 
 -- who is left is another
 pub out_of_without : (t u : ℕ) (q : List Waiter) → is_among_waiters u (without_waiter t q) ≡ true → (is_among_waiters u q ≡ true) × (u ≢ t)
@@ -123,7 +121,7 @@ pub placed_other : (g : Members) (q : List Waiter) (t u : ℕ) (m : Mode) → u 
 placed_other g q t u m ne = by (holds g t)
   where
     skip : (l : List Waiter) → filter (is_waiter u) ((t, m) ∷ l) ≡ filter (is_waiter u) l
-    skip l = ap (λ b. if b then (t, m) ∷ filter (is_waiter u) l else filter (is_waiter u) l) (slots_differ t u ne)
+    skip l = ap (λ b. if b then (t, m) ∷ filter (is_waiter u) l else filter (is_waiter u) l) (differ-false t u ne)
 
     by : (b : Bool) → filter (is_waiter u) (if b then filter (λ w. holds g w.0) q ++ (t, m) ∷ filter (λ w. not (holds g w.0)) q else q ++ (t, m) ∷ []) ≡ filter (is_waiter u) q
     by true = filter-append (is_waiter u) (filter (λ w. holds g w.0) q) ((t, m) ∷ filter (λ w. not (holds g w.0)) q) ∙ ap (λ l. filter (is_waiter u) (filter (λ w. holds g w.0) q) ++ l) (skip (filter (λ w. not (holds g w.0)) q)) ∙ keep_parts (holds g) u q

@@ -8,6 +8,8 @@ use mathlib.Core.Bool.{true≢false}
 use Rattle.gl_modes.specs.declared.mode.Mode.{Mode}
 use Rattle.gl_header.specs.Header.{Members, Waiter, with_mode, after_grants, is_waiter, is_among_waiters, is_ahead}
 use Rattle.gl_graph.proofs.Look.{split, or_left, or_right}
+use Rattle.gl_graph.proofs.Unrefused.{or_no}
+use Rattle.gl_table.proofs.Waiters.{both_empty}
 
 -- who stands ahead, one waiter after another
 abbrev pub ahead : List Waiter → ℕ → ℕ → Bool
@@ -61,10 +63,6 @@ one_in_first [] ys w h ne = absurd (ne refl)
 one_in_first (x ∷ xs) ys w h ne =
     let e : x ≡ w = cc in let r : xs ++ ys ≡ [] = cc in
     let two = both_empty xs ys r in (ap₂ (λ a b. a ∷ b) e two.0, two.1)
-  where
-    both_empty : (xs ys : List Waiter) → xs ++ ys ≡ [] → (xs ≡ []) × (ys ≡ [])
-    both_empty [] ys h = (refl, h)
-    both_empty (x ∷ xs) ys h = no_cons h
 
 -- the part after one that t does not stand in
 pub ahead_after : (a b : List Waiter) (t u : ℕ) → is_among_waiters t a ≡ false → ahead b t u ≡ true → ahead (a ++ b) t u ≡ true
@@ -124,10 +122,6 @@ grants_other [] g t h = refl
 grants_other (w ∷ ws) g t h =
     let no = or_no (w.0 == t) _ h in grants_other ws (with_mode g w.0 w.1) t no.1 ∙ other no.0
   where
-    or_no : (a b : Bool) → (a || b) ≡ false → (a ≡ false) × (b ≡ false)
-    or_no true b k = clash refl k
-    or_no false b k = (refl, k)
-
     other : (w.0 == t) ≡ false → (if t == w.0 then w.1 else g t) ≡ g t
     other k = grind (arith, nat_tests)
 

@@ -1,38 +1,29 @@
 -- The counts of one list of many are written, and neither its nodes nor their modes.
-use Rattle.std.specs.Prelude.{◌≡◌, ℕ, ◌+◌, ◌≤◌, ◌<◌, Bool, true, false, ◌&&◌, ◌==◌, List, length, if◌then◌else◌, slice_index_or, slice_set}
+use Rattle.std.specs.Prelude.{◌≡◌, ℕ, ◌+◌, ◌≤◌, ◌<◌, Bool, false, ◌&&◌, ◌==◌, List, length, if◌then◌else◌, slice_index_or, slice_set}
 use Rattle.std.proofs.Common.{sym, ap, ap₂, ◌∙◌, subst, arith}
 use Rattle.indexmap.specs.IndexMap.{spare}
 use Rattle.gl_modes.specs.declared.mode.Mode.TheVariants.{NL}
 use Rattle.gl_modes.specs.declared.node.NodeId.{NodeId}
-use Rattle.gl_graph.proofs.Look.{same_number, split}
+use Rattle.gl_graph.proofs.Look.{split}
 use Rattle.gl_table.specs.declared.list.LockList.{LockList}
 use Rattle.gl_table.specs.Lists.{count_of, is_listed, mode_of}
 use Rattle.gl_table.specs.Locks.{Agrees}
-use Rattle.gl_table.specs.Slots.{by_list, counted_by, room_by}
+use Rattle.gl_table.specs.Slots.{counted_by, room_by}
 use Rattle.gl_table.specs.State.{State}
-use Rattle.gl_table.proofs.Slots.{by_list-at, by_list-set}
+use Rattle.gl_table.proofs.Slots.{by_list-set, by_list-here, by_list-kept}
 
 module _ (ls : List LockList) (t : ℕ) (l l' : LockList) (lt : t < length ls) (at : l ≡ slice_index_or ls t l) where
-  here : {A : Type 0} (f : LockList → A) (none : A) (u : ℕ) → (u == t) ≡ true → by_list f none ls u ≡ f l
-  here f none u e = ap (by_list f none ls) (same_number u t e) ∙ by_list-at f none ls t l lt at
-
-  -- what both lists say alike
-  same_by : {A : Type 0} (f : LockList → A) (none : A) → f l' ≡ f l → (u : ℕ) → by_list f none (slice_set ls t l') u ≡ by_list f none ls u
-  same_by f none same u = by_list-set ls t l' lt f none u ∙ split (u == t)
-      (λ e. ap (λ b. if b then f l' else by_list f none ls u) e ∙ same ∙ sym (here f none u e))
-      (λ e. ap (λ b. if b then f l' else by_list f none ls u) e)
-
   module _ (modes : (q : NodeId) → mode_of l' q ≡ mode_of l q) (listed : (q : NodeId) → is_listed l' q ≡ is_listed l q) (room : spare l.loose ≤ spare l'.loose) where
     room_kept : (u : ℕ) → room_by ls u ≤ room_by (slice_set ls t l') u
     room_kept u = split (u == t)
-        (λ e. subst (λ (k : ℕ). k ≤ room_by (slice_set ls t l') u) (sym (here (λ x. spare x.loose) 0 u e))
+        (λ e. subst (λ (k : ℕ). k ≤ room_by (slice_set ls t l') u) (sym (by_list-here ls t l lt at u e (λ x. spare x.loose) 0))
         (subst (λ (k : ℕ). spare l.loose ≤ k) (sym (by_list-set ls t l' lt (λ x. spare x.loose) 0 u ∙ ap (λ b. if b then spare l'.loose else room_by ls u) e)) room))
         (λ e. let same = by_list-set ls t l' lt (λ x. spare x.loose) 0 u ∙ ap (λ b. if b then spare l'.loose else room_by ls u) e in omega arith)
 
     pub agrees_recounted : (s : State) (u : ℕ) → Agrees s ls u → Agrees s (slice_set ls t l') u
     agrees_recounted s u agree = record {
-      modes = λ q. same_by (λ x. mode_of x q) NL (modes q) u ∙ agree.modes q;
-      listed = λ q. same_by (λ x. is_listed x q) false (listed q) u ∙ agree.listed q;
+      modes = λ q. by_list-kept ls t l lt at l' (λ x. mode_of x q) NL (modes q) u ∙ agree.modes q;
+      listed = λ q. by_list-kept ls t l lt at l' (λ x. is_listed x q) false (listed q) u ∙ agree.listed q;
       room = λ h. let old = agree.room h in let kept = room_kept u in omega arith;
     }
 
@@ -40,5 +31,5 @@ module _ (ls : List LockList) (t : ℕ) (l l' : LockList) (lt : t < length ls) (
       → (u : ℕ) (q : NodeId) → counted_by (slice_set ls t l') u q + (if (u == t) && b then less q else 0) ≡ counted_by ls u q + (if (u == t) && b then more q else 0)
   counts_recounted b less more counts u q = ap (λ (k : ℕ). k + (if (u == t) && b then less q else 0)) (by_list-set ls t l' lt (λ x. count_of x q) 0 u) ∙ split (u == t)
       (λ e. ap (λ k. (if k then count_of l' q else counted_by ls u q) + (if k && b then less q else 0)) e ∙ counts q
-      ∙ ap₂ (λ (k : ℕ) a. k + (if a && b then more q else 0)) (sym (here (λ x. count_of x q) 0 u e)) (sym e))
+      ∙ ap₂ (λ (k : ℕ) a. k + (if a && b then more q else 0)) (sym (by_list-here ls t l lt at u e (λ x. count_of x q) 0)) (sym e))
       (λ e. ap (λ k. (if k then count_of l' q else counted_by ls u q) + (if k && b then less q else 0)) e ∙ ap (λ k. counted_by ls u q + (if k && b then more q else 0)) (sym e))

@@ -1,43 +1,33 @@
 -- Lists with more room say what they said.
-use Rattle.std.specs.Prelude.{◌≡◌, ℕ, zero, suc, ◌<◌, ◌≤◌, false, ◌==◌, List, [], ◌∷◌, length, map, is_some, if◌then◌else◌, slice_set, slice_index_or}
+use Rattle.std.specs.Prelude.{◌≡◌, ℕ, ◌<◌, ◌≤◌, false, ◌==◌, List, length, is_some, if◌then◌else◌, slice_set, slice_index_or}
 use Rattle.std.specs.Map.{lookup}
 use Rattle.std.proofs.Common.{refl, sym, ap, ap₂, ◌∙◌, subst, arith, length-set}
 use Rattle.indexmap.specs.IndexMap.{spare}
 use Rattle.gl_modes.specs.declared.mode.Mode.TheVariants.{NL}
 use Rattle.gl_modes.specs.declared.node.NodeId.{NodeId}
 use Rattle.gl_modes.specs.Nodes.{same_node}
-use Rattle.gl_graph.proofs.Look.{number_same, same_number, split}
+use Rattle.gl_graph.proofs.Look.{number_same, split}
 use Rattle.gl_table.specs.declared.list.Entry.{Entry}
 use Rattle.gl_table.specs.declared.list.LockList.{LockList}
 use Rattle.gl_table.specs.Lists.{HasRoom, count_in, count_of, is_listed, mode_in, mode_of}
 use Rattle.gl_table.specs.Locks.{Agrees, CountsHeld}
 use Rattle.gl_table.specs.Slots.{HasRoomAt, KeepsLists, by_list, room_by}
 use Rattle.gl_table.specs.State.{State}
-use Rattle.gl_table.proofs.Slots.{apart-set, by_list-at, by_list-set, slice_get-at}
-
--- where a list that says the same is written, all say the same
-map-set : {A : Type 0} (f : LockList → A) (ls : List LockList) (t : ℕ) (l l' : LockList) → t < length ls → l ≡ slice_index_or ls t l → f l' ≡ f l → map f (slice_set ls t l') ≡ map f ls
-map-set f [] t l l' lt at e = absurd (omega arith)
-map-set f (x ∷ xs) zero l l' lt at e = ap (λ y. y ∷ map f xs) (e ∙ ap f at)
-map-set f (x ∷ xs) (suc t) l l' lt at e = ap (λ ys. f x ∷ ys) (map-set f xs t l l' (omega arith) at e)
+use Rattle.gl_table.proofs.Slots.{apart-set, by_list-set, slice_get-at, by_list-here, by_list-kept}
+use Rattle.std.proofs.Math.Seq.{map-set_same}
 
 module _ (ls : List LockList) (t : ℕ) (l l' : LockList) (lt : t < length ls) (at : l ≡ slice_index_or ls t l) where
-  by_list-kept : {A : Type 0} (f : LockList → A) (none : A) → f l' ≡ f l → (u : ℕ) → by_list f none (slice_set ls t l') u ≡ by_list f none ls u
-  by_list-kept f none e u = by_list-set ls t l' lt f none u ∙ split (u == t)
-      (λ k. ap (λ b. if b then f l' else by_list f none ls u) k ∙ e ∙ sym (by_list-at f none ls t l lt at) ∙ ap (by_list f none ls) (sym (same_number u t k)))
-      (λ k. ap (λ b. if b then f l' else by_list f none ls u) k)
-
   pub keeps-set : l'.entries.entries ≡ l.entries.entries → l'.loose.entries ≡ l.loose.entries → spare l.loose ≤ spare l'.loose → KeepsLists ls (slice_set ls t l')
   keeps-set entries loose more = record {
     len = length-set ls t l';
-    entries = map-set (λ x. x.entries.entries) ls t l l' lt at entries;
+    entries = map-set_same (λ x. x.entries.entries) ls t l' l (entries ∙ ap (λ x. x.entries.entries) at);
     apart = λ apart. apart-set ls t l' lt apart (λ n h. ap (λ (es : List (NodeId × ℕ)). lookup (same_node n) es) loose ∙ apart t l (slice_get-at ls t l lt at) n (sym (listed n) ∙ h));
-    modes = λ u q. by_list-kept (λ x. mode_of x q) NL (ap (λ (es : List (NodeId × Entry)). mode_in (lookup (same_node q) es)) entries) u;
-    listed = λ u q. by_list-kept (λ x. is_listed x q) false (listed q) u;
-    counts = λ u q. by_list-kept (λ x. count_of x q) 0 (ap₂ (λ (es : List (NodeId × Entry)) (ks : List (NodeId × ℕ)). count_in (lookup (same_node q) es) (lookup (same_node q) ks)) entries loose) u;
+    modes = λ u q. by_list-kept ls t l lt at l' (λ x. mode_of x q) NL (ap (λ (es : List (NodeId × Entry)). mode_in (lookup (same_node q) es)) entries) u;
+    listed = λ u q. by_list-kept ls t l lt at l' (λ x. is_listed x q) false (listed q) u;
+    counts = λ u q. by_list-kept ls t l lt at l' (λ x. count_of x q) 0 (ap₂ (λ (es : List (NodeId × Entry)) (ks : List (NodeId × ℕ)). count_in (lookup (same_node q) es) (lookup (same_node q) ks)) entries loose) u;
     rooms = λ u. subst (λ (k : ℕ). room_by ls u ≤ k) (sym (by_list-set ls t l' lt (λ x. spare x.loose) 0 u)) (split (u == t)
         (λ k. subst (λ b. room_by ls u ≤ (if b then spare l'.loose else room_by ls u)) (sym k)
-        (subst (λ (r : ℕ). r ≤ spare l'.loose) (sym (ap (room_by ls) (same_number u t k) ∙ by_list-at (λ x. spare x.loose) 0 ls t l lt at)) more))
+        (subst (λ (r : ℕ). r ≤ spare l'.loose) (sym (by_list-here ls t l lt at u k (λ x. spare x.loose) 0)) more))
         (λ k. subst (λ b. room_by ls u ≤ (if b then spare l'.loose else room_by ls u)) (sym k) (omega arith)));
   }
     where

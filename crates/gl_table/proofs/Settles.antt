@@ -14,7 +14,7 @@ use Rattle.gl_table.specs.declared.detect.Detect.{Detect}
 use Rattle.gl_table.specs.declared.detect.Detect.TheVariants.{AtBlock, ByWatcher}
 use Rattle.gl_header.specs.Header.{holds, is_ahead}
 use Rattle.gl_waits.specs.Waits.{IsWalk, IsOnCycleOf, IsYoungest}
-use Rattle.gl_table.specs.State.{State, Txn, members, slots, status_in, status_of, age_of, restatus, with_grant}
+use Rattle.gl_table.specs.State.{State, members, slots, status_in, status_of, age_of, restatus, with_grant}
 use Rattle.gl_table.specs.Pumps.{without_wait, is_waiting_at, granted_at, condemned}
 use Rattle.gl_table.specs.Waiting.{waits_for, Settled, is_wait}
 use Rattle.gl_table.specs.Lawful.{IsLawful}
@@ -23,7 +23,7 @@ use Rattle.gl_table.proofs.GrantKeeps.{nl_is, txn_there}
 use Rattle.gl_table.proofs.Queues.{ahead_is, ahead_second, clash}
 use Rattle.gl_table.proofs.Less.{waiting_is}
 use Rattle.gl_table.proofs.Pumped.{woken_waits}
-use Rattle.gl_table.proofs.Taken.{without_wait-less, condemned-lawful}
+use Rattle.gl_table.proofs.Taken.{without_wait-less, condemned-lawful, restatus_quiet}
 use Rattle.gl_table.proofs.Edges.{step_is}
 use Rattle.gl_table.proofs.LockKeeps.{MayLock, waiting-lawful}
 use Rattle.gl_table.proofs.Walks.{same, in_range, victim, IsVictim, victim_is}
@@ -81,10 +81,6 @@ wait_is (Some (Waiting n m)) h = (n, m, refl)
 no_wait : (o : Option Status) → ((n : NodeId) (m : Mode) → o ≡ Some (Waiting n m) → ⊥) → is_wait o ≡ false
 no_wait o none = split (is_wait o) (λ h. let w = wait_is o h in absurd (none w.0 w.1 w.2)) (λ h. h)
 
-restatus_waits : (x : Option Txn) (n : NodeId) (m : Mode) → status_in (restatus Condemned x) ≡ Some (Waiting n m) → ⊥
-restatus_waits None n m h = cc
-restatus_waits (Some x) n m h = cc
-
 same_slot : (v : ℕ) → (v == v) ≡ true
 same_slot v = grind (arith, nat_tests)
 
@@ -98,7 +94,7 @@ module _ (s : State) (law : IsLawful s) where
   waits_no_more : (v : ℕ) → waiting (condemned s v) v ≡ false
   waits_no_more v = no_wait (status_of (condemned s v) v) (λ n m e.
       let before = woken_waits (granted_at (without_wait s v Condemned) (is_waiting_at s v)) v n m ((without_wait s v Condemned).txns v) e in
-      restatus_waits (s.txns v) n m (ap (λ b. status_in (if b then restatus Condemned (s.txns v) else s.txns v)) (sym (same_slot v)) ∙ before.0))
+      restatus_quiet Condemned (λ q w k. cc) (s.txns v) n m (ap (λ b. status_in (if b then restatus Condemned (s.txns v) else s.txns v)) (sym (same_slot v)) ∙ before.0))
 
   -- who is waited for lives
   pub low : (x y : ℕ) → waits_for s x y ≡ true → y < s.most

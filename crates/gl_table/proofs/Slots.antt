@@ -17,6 +17,7 @@ use Rattle.gl_table.specs.Lists.{IsApart, count_of, is_listed, mode_of, unlisted
 use Rattle.gl_table.specs.Slots.{AreApart, CanHold, Holds, Strikes, by_list, counted_by, held_by, listed_by, room_by, unlisted_by}
 use Rattle.gl_graph.proofs.Look.{split, same_number}
 use Rattle.gl_modes.proofs.ModeLemmas.{same_mode-equal}
+use Rattle.std.proofs.lemmas.Option.{slice_get-get_or}
 
 slice_get-set_same : {X : Type 0} (xs : List X) (i : ℕ) (x : X) → i < length xs → slice_get (slice_set xs i x) i ≡ Some x
 slice_get-set_same [] i x h = absurd (omega arith)
@@ -31,9 +32,7 @@ slice_get-set_other (y ∷ ys) (suc i) zero x ne = refl
 slice_get-set_other (y ∷ ys) (suc i) (suc j) x ne = slice_get-set_other ys i j x (λ e. ne (ap suc e))
 
 pub slice_get-at : {X : Type 0} (xs : List X) (i : ℕ) (x : X) → i < length xs → x ≡ slice_index_or xs i x → slice_get xs i ≡ Some x
-slice_get-at [] i x h e = absurd (omega arith)
-slice_get-at (y ∷ ys) zero x h e = ap Some (sym e)
-slice_get-at (y ∷ ys) (suc i) x h e = slice_get-at ys i x (omega arith) e
+slice_get-at xs i x h e = slice_get-get_or xs i x h ∙ ap Some (sym e)
 
 module _ (ls : List LockList) (t : ℕ) (new : LockList) (lt : t < length ls) where
   set_here : (u : ℕ) → (u == t) ≡ true → slice_get (slice_set ls t new) u ≡ Some new
@@ -63,6 +62,16 @@ module _ (ls : List LockList) (t : ℕ) (new : LockList) (lt : t < length ls) wh
 pub by_list-at : {A : Type 0} (f : LockList → A) (none : A) (ls : List LockList) (t : ℕ) (l : LockList) → t < length ls → l ≡ slice_index_or ls t l → by_list f none ls t ≡ f l
 by_list-at f none ls t l lt at = ap (λ o. option_map_or f o none) (slice_get-at ls t l lt at)
 
+module _ (ls : List LockList) (t : ℕ) (l : LockList) (lt : t < length ls) (at : l ≡ slice_index_or ls t l) where
+  pub by_list-here : {A : Type 0} (u : ℕ) → (u == t) ≡ true → (f : LockList → A) (none : A) → by_list f none ls u ≡ f l
+  by_list-here u e f none = ap (by_list f none ls) (same_number u t e) ∙ by_list-at f none ls t l lt at
+
+  -- where the list that is written says what the old one said, all say what they said
+  pub by_list-kept : (l' : LockList) {A : Type 0} (f : LockList → A) (none : A) → f l' ≡ f l → (u : ℕ) → by_list f none (slice_set ls t l') u ≡ by_list f none ls u
+  by_list-kept l' f none same u = by_list-set ls t l' lt f none u ∙ split (u == t)
+      (λ e. ap (λ b. if b then f l' else by_list f none ls u) e ∙ same ∙ sym (by_list-here u e f none))
+      (λ e. ap (λ b. if b then f l' else by_list f none ls u) e)
+
 -- one list changes at one node, and in its counts
 pub record IsHeld (l l' : LockList) (n : NodeId) (m : Mode) (ps : List NodeId) : Type 0 where
   pub apart : IsApart l'
@@ -76,10 +85,10 @@ held-written ls t l l' n m ps lt at apart is = record {
   len = length-set ls t l';
   apart = apart-set ls t l' lt apart is.apart;
   modes = λ u q. by_list-set ls t l' lt (λ x. mode_of x q) NL u ∙ at_slot u (λ x. mode_of x q) NL (λ k. if k && same_node q n then m else held_by ls u q) (λ e. is.modes q ∙ own q u e) (λ e. refl);
-  listed = λ u q. by_list-set ls t l' lt (λ x. is_listed x q) false u ∙ at_slot u (λ x. is_listed x q) false (λ k. listed_by ls u q) (λ e. is.listed q ∙ sym (here u e (λ x. is_listed x q) false)) (λ e. refl);
+  listed = λ u q. by_list-set ls t l' lt (λ x. is_listed x q) false u ∙ at_slot u (λ x. is_listed x q) false (λ k. listed_by ls u q) (λ e. is.listed q ∙ sym (by_list-here ls t l lt at u e (λ x. is_listed x q) false)) (λ e. refl);
   counts = λ u q. by_list-set ls t l' lt (λ x. count_of x q) 0 u
       ∙ at_slot u (λ x. count_of x q) 0 (λ k. counted_by ls u q + (if k && same_mode (held_by ls t n) NL then count_by (same_node q) ps else 0))
-      (λ e. is.counts q ∙ ap₂ (λ a b. a + (if same_mode b NL then count_by (same_node q) ps else 0)) (sym (here u e (λ x. count_of x q) 0)) (sym (by_list-at (λ x. mode_of x n) NL ls t l lt at)))
+      (λ e. is.counts q ∙ ap₂ (λ a b. a + (if same_mode b NL then count_by (same_node q) ps else 0)) (sym (by_list-here ls t l lt at u e (λ x. count_of x q) 0)) (sym (by_list-at (λ x. mode_of x n) NL ls t l lt at)))
       (λ e. zero_more (counted_by ls u q));
   rooms = λ u e. by_list-set ls t l' lt (λ x. spare x.loose) 0 u ∙ ap (λ b. if b then spare l'.loose else room_by ls u) e;
 }
@@ -87,11 +96,8 @@ held-written ls t l l' n m ps lt at apart is = record {
     zero_more : (k : ℕ) → k ≡ k + 0
     zero_more k = omega arith
 
-    here : {A : Type 0} (u : ℕ) → (u == t) ≡ true → (f : LockList → A) (none : A) → by_list f none ls u ≡ f l
-    here u e f none = ap (by_list f none ls) (same_number u t e) ∙ by_list-at f none ls t l lt at
-
     own : (q : NodeId) (u : ℕ) → (u == t) ≡ true → (if same_node q n then m else mode_of l q) ≡ (if same_node q n then m else held_by ls u q)
-    own q u e = ap (λ x. if same_node q n then m else x) (sym (here u e (λ x. mode_of x q) NL))
+    own q u e = ap (λ x. if same_node q n then m else x) (sym (by_list-here ls t l lt at u e (λ x. mode_of x q) NL))
 
     at_slot : {A : Type 0} (u : ℕ) (f : LockList → A) (none : A) (want : Bool → A) → ((u == t) ≡ true → f l' ≡ want true) → ((u == t) ≡ false → by_list f none ls u ≡ want false)
         → (if u == t then f l' else by_list f none ls u) ≡ want (u == t)
@@ -106,9 +112,6 @@ unlisted-same l l' ps same = ap (λ (f : NodeId → Bool). count_by (λ p. not (
 -- a list whose modes alone were written
 
 module _ (ls : List LockList) (t : ℕ) (n : NodeId) (ps : List NodeId) (l l' : LockList) (at : l ≡ slice_index_or ls t l) (can : CanHold ls t n ps) where
-  pub listed_here : is_listed l n ≡ true
-  listed_here = sym (by_list-at (λ x. is_listed x n) false ls t l can.slot at) ∙ can.listed
-
   pub few-kept : ((q : NodeId) → count_of l' q ≡ count_of l q) → (q : NodeId) → list_any (same_node q) ps ≡ true → count_of l' q + count_by (same_node q) ps < 2 ^ 32
   few-kept same q among =
       subst (λ (k : ℕ). k + count_by (same_node q) ps < 2 ^ 32) (by_list-at (λ x. count_of x q) 0 ls t l can.slot at ∙ sym (same q)) (can.few q among)
@@ -154,13 +157,13 @@ struck-written ls t l l' n ps lt at apart is modes listed counts = record {
   len = length-set ls t l';
   apart = apart-set ls t l' lt apart is;
   modes = λ u q. by_list-set ls t l' lt (λ x. mode_of x q) NL u
-      ∙ at_slot u (λ x. mode_of x q) NL (λ k. if k && same_node q n then NL else held_by ls u q) (λ e. modes q ∙ ap (λ x. if same_node q n then NL else x) (sym (here u e (λ x. mode_of x q) NL))) (λ e. refl);
+      ∙ at_slot u (λ x. mode_of x q) NL (λ k. if k && same_node q n then NL else held_by ls u q) (λ e. modes q ∙ ap (λ x. if same_node q n then NL else x) (sym (by_list-here ls t l lt at u e (λ x. mode_of x q) NL))) (λ e. refl);
   listed = λ u q. by_list-set ls t l' lt (λ x. is_listed x q) false u
       ∙ at_slot u (λ x. is_listed x q) false (λ k. if k && same_node q n then false else listed_by ls u q)
-      (λ e. listed q ∙ ap (λ x. x && not (same_node q n)) (sym (here u e (λ x. is_listed x q) false)) ∙ but (listed_by ls u q) (same_node q n)) (λ e. refl);
+      (λ e. listed q ∙ ap (λ x. x && not (same_node q n)) (sym (by_list-here ls t l lt at u e (λ x. is_listed x q) false)) ∙ but (listed_by ls u q) (same_node q n)) (λ e. refl);
   counts = λ u q. ap (λ k. k + (if u == t then count_by (same_node q) ps else 0)) (by_list-set ls t l' lt (λ x. count_of x q) 0 u)
       ∙ split (u == t)
-      (λ e. ap (λ b. (if b then count_of l' q else counted_by ls u q) + (if b then count_by (same_node q) ps else 0)) e ∙ counts q ∙ sym (here u e (λ x. count_of x q) 0))
+      (λ e. ap (λ b. (if b then count_of l' q else counted_by ls u q) + (if b then count_by (same_node q) ps else 0)) e ∙ counts q ∙ sym (by_list-here ls t l lt at u e (λ x. count_of x q) 0))
       (λ e. ap (λ b. (if b then count_of l' q else counted_by ls u q) + (if b then count_by (same_node q) ps else 0)) e ∙ no_more (counted_by ls u q));
   rooms = λ u e. by_list-set ls t l' lt (λ x. spare x.loose) 0 u ∙ ap (λ b. if b then spare l'.loose else room_by ls u) e;
 }
@@ -173,9 +176,6 @@ struck-written ls t l l' n ps lt at apart is modes listed counts = record {
     but true false = refl
     but false true = refl
     but false false = refl
-
-    here : {A : Type 0} (u : ℕ) → (u == t) ≡ true → (f : LockList → A) (none : A) → by_list f none ls u ≡ f l
-    here u e f none = ap (by_list f none ls) (same_number u t e) ∙ by_list-at f none ls t l lt at
 
     at_slot : {A : Type 0} (u : ℕ) (f : LockList → A) (none : A) (want : Bool → A) → ((u == t) ≡ true → f l' ≡ want true) → ((u == t) ≡ false → by_list f none ls u ≡ want false)
         → (if u == t then f l' else by_list f none ls u) ≡ want (u == t)

@@ -25,7 +25,6 @@ use Rattle.gl_table.specs.Slots.{WakesTold, grant_notice}
 use Rattle.gl_table.specs.Sound.{IsSound, view_of}
 use Rattle.gl_table.specs.State.{State, members, status_of, with_grant}
 use Rattle.gl_table.specs.Table.{TableView, state_of}
-use Rattle.gl_table.specs.Telling.{IsBySlot, notices_in}
 use Rattle.gl_table.specs.Tellings.{Told, told}
 use Rattle.gl_table.specs.Tells.{IsOnWay, told_to}
 use Rattle.gl_table.specs.Waiting.{HasNoCycle, is_wait}
@@ -141,24 +140,3 @@ module _ (i : Inside) (sound : IsSound i) where
       counts = counts;
       no_cycle = λ at. subst HasNoCycle (sym state_released) (released-no_cycle s sound.lawful t (sound.no_cycle at));
     }
-
-    -- all others are told, and it is told nothing itself
-    pub told_released : status_of s t ≡ Some Active → (list : Told) → IsBySlot list → ((u : ℕ) → (u == t) ≡ false → notices_in list u ≡ told_to s (state_on (graph_of i.graph) locks) u) → notices_in list t ≡ None
-        → list ≡ told s (state_of (view_of ended))
-    told_released active list by_slot others own =
-        told_is s (state_of (view_of ended)) list sound.lawful sound.sound.few by_slot
-        (λ u. split (u == t)
-        (λ e. let is = same_number u t e in ap (notices_in list) is ∙ own ∙ sym (active_untold s (state_of (view_of ended)) u (ap (status_of s) is ∙ active)))
-        (λ e. others u e))
-
-    -- told from an empty list on
-    pub told_ended : status_of s t ≡ Some Active → (first list : Told) → first ≡ [] → IsBySlot list
-        → ((from : State) → IsOnWay from l → ((u : ℕ) → (u == t) ≡ false → notices_in first u ≡ told_to from l u) → (u : ℕ) → (u == t) ≡ false → notices_in list u ≡ told_to from (state_on (graph_of i.graph) locks) u)
-        → notices_in list t ≡ notices_in first t → list ≡ told s (state_of (view_of ended))
-    told_ended active first list none by_slot tells own =
-        told_released active list by_slot
-        (tells s table_way (λ u e. ap (λ xs. notices_in xs u) none ∙ sym (nobody_told s u)))
-        (own ∙ ap (λ xs. notices_in xs t) none)
-
-  pub may_commit : (v : TableView) → view_of i ≡ v → (t : TxnId) (x : Unit {0}) → Ok x ≡ verdict (first_refusal (commit_tests (state_of v) t)) → status_of s t.slot ≡ Some Active
-  may_commit v view t x a = subst (λ (w : TableView). status_of (state_of w) t.slot ≡ Some Active) (sym view) (is_active (state_of v) t (test_passed _ x a))

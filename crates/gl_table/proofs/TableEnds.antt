@@ -1,5 +1,5 @@
 -- What the ends of waits and of transactions make of a table.
-use Rattle.std.specs.Prelude.{◌≡◌, ℕ, Bool, true, false, ◌==◌, List, [], ◌||◌, Option, Some, None, if◌then◌else◌}
+use Rattle.std.specs.Prelude.{◌≡◌, ℕ, Bool, true, false, ◌==◌, List, [], ◌||◌, Option, None, if◌then◌else◌}
 use Rattle.std.proofs.Common.{refl, sym, ap, ◌∙◌, subst}
 use Rattle.gl_modes.specs.declared.node.NodeId.{NodeId}
 use Rattle.gl_graph.specs.View.{graph_of}
@@ -7,19 +7,18 @@ use Rattle.gl_graph.proofs.Look.{number_same, same_number, split}
 use Rattle.gl_header.specs.Header.{Waiter, holds}
 use Rattle.gl_table.specs.declared.locks.Locks.{Locks}
 use Rattle.gl_table.specs.declared.table.Table.TheInside.{Inside}
-use Rattle.gl_table.specs.declared.txn.Status.{Status}
-use Rattle.gl_table.specs.declared.txn.Status.TheVariants.{Active, Waiting, Condemned}
+use Rattle.gl_table.specs.declared.txn.Status.TheVariants.{Active}
 use Rattle.gl_table.specs.Calls.{cancelled, released}
 use Rattle.gl_table.specs.Lawful.{IsLawful}
 use Rattle.gl_table.specs.Locks.{Agrees, AreSound, CountsHeld, state_on}
 use Rattle.gl_table.specs.Pumps.{front_at, granted_at, is_waiting_at, without_wait, woken}
 use Rattle.gl_table.specs.Slots.{WakesTold}
 use Rattle.gl_table.specs.Sound.{IsSound, view_of}
-use Rattle.gl_table.specs.State.{State, Txn, age_of, members, status_in, status_of}
+use Rattle.gl_table.specs.State.{State, Txn, members, status_in, status_of}
 use Rattle.gl_table.specs.Steps.{stripped}
 use Rattle.gl_table.specs.Table.{state_of}
 use Rattle.gl_table.specs.Telling.{IsBySlot, notices_in}
-use Rattle.gl_table.specs.Tellings.{Told, addressed, notice_of, told, told_but, told_from}
+use Rattle.gl_table.specs.Tellings.{Told, told, told_but}
 use Rattle.gl_table.specs.Tells.{IsOnWay, told_to}
 use Rattle.gl_table.specs.Waiting.{HasNoCycle, Settled}
 use Rattle.gl_table.proofs.Cancelled.{cancelled_own, cancelled_tells}
@@ -28,18 +27,8 @@ use Rattle.gl_table.proofs.Queues.{clash}
 use Rattle.gl_table.proofs.SettledTable.{settled_also}
 use Rattle.gl_table.proofs.TableCalls.{orderly, state_released, table_way}
 use Rattle.gl_table.proofs.Taken.{settled-lawful, without_wait-lawful}
-use Rattle.gl_table.proofs.Tells.{is_by_test, nobody_told}
+use Rattle.gl_table.proofs.Tells.{is_by_test, nobody_told, gone_untold}
 use Rattle.gl_table.proofs.ToldLists.{told_but_is, told_is}
-
--- whose slot is free at the end is told nothing
-untold_gone : (s now : State) (t : ℕ) → status_of now t ≡ None → told_to s now t ≡ None
-untold_gone s now t gone = by (status_of s t)
-  where
-    by : (o : Option Status) → addressed (record { slot = t; age = age_of s t }) (told_from now t o) ≡ None
-    by None = refl
-    by (Some Active) = refl
-    by (Some Condemned) = refl
-    by (Some (Waiting n m)) = ap (λ o. addressed (record { slot = t; age = age_of s t }) (notice_of now t n m o)) gone
 
 -- who is released has no slot
 released_gone : (s : State) (t : ℕ) → status_of (released s t) t ≡ None
@@ -58,13 +47,13 @@ module _ (i : Inside) (sound : IsSound i) where
   l = state_on (graph_of i.graph) i.locks
 
   -- a transaction ended, whatever it was doing: all others are told, and it is told nothing itself
-  pub told_aborted : (t : ℕ) (locks : Locks) → state_on (graph_of i.graph) locks ≡ released l t → (first list : Told) → first ≡ [] → IsBySlot list
+  pub told_ended : (t : ℕ) (locks : Locks) → state_on (graph_of i.graph) locks ≡ released l t → (first list : Told) → first ≡ [] → IsBySlot list
       → ((from : State) → IsOnWay from l → ((u : ℕ) → (u == t) ≡ false → notices_in first u ≡ told_to from l u) → (u : ℕ) → (u == t) ≡ false → notices_in list u ≡ told_to from (state_on (graph_of i.graph) locks) u)
       → notices_in list t ≡ notices_in first t → list ≡ told s (state_of (view_of (record i { locks = locks })))
-  told_aborted t locks is first list none by_slot tells own =
+  told_ended t locks is first list none by_slot tells own =
       told_is s after list sound.lawful sound.sound.few by_slot
       (λ u. split (u == t)
-      (λ e. ap (notices_in list) (same_number u t e) ∙ own ∙ ap (λ xs. notices_in xs t) none ∙ sym (ap (told_to s after) (same_number u t e) ∙ untold_gone s after t gone))
+      (λ e. ap (notices_in list) (same_number u t e) ∙ own ∙ ap (λ xs. notices_in xs t) none ∙ sym (ap (told_to s after) (same_number u t e) ∙ gone_untold s after t gone))
       (λ e. tells s (table_way i sound) (λ v k. ap (λ xs. notices_in xs v) none ∙ sym (nobody_told s v)) u e))
     where
       after : State

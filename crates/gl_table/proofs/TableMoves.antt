@@ -49,11 +49,11 @@ use Rattle.gl_table.proofs.Movers.{HoldsNode, HoldsParents}
 use Rattle.gl_table.proofs.MoveSteps.{moved-no_cycle}
 use Rattle.gl_table.proofs.MoveTold.{moved_told}
 use Rattle.gl_table.proofs.NoConflict.{x_is}
-use Rattle.gl_table.proofs.Limits.{members-within}
 use Rattle.gl_table.proofs.Parents.{parents_few}
 use Rattle.gl_table.proofs.TableCalls.{orderly, lawful_orderly}
 use Rattle.gl_table.proofs.ToldLists.{told_is}
 use Rattle.gl_table.proofs.TurnedAway.{is_lost, moved_notice}
+use Rattle.gl_table.proofs.OneWaits.{members_within}
 
 -- all of these are listed
 none_unlisted : (ls : List LockList) (t : ℕ) (ps : List NodeId) → list_all (listed_by ls t) ps ≡ true → unlisted_by ls t ps ≡ 0
@@ -107,7 +107,7 @@ module _ (i : Inside) (sound : IsSound i) (t : ℕ) (n : NodeId) (was is : Node)
   bare_moved = waiter_bare s sound.lawful t n is.parents m.active m.right
 
   pub stuck_moved : list_all (λ w. not (fits slot_limit (members l n) w.0 w.1)) (l.queue n) ≡ true
-  stuck_moved = waiters_stuck s sound.lawful t n is.parents m.active m.right slot_limit (λ u w. fits-limit s.most (members s n) u w sound.sound.few (members-within l orderly_moved n))
+  stuck_moved = waiters_stuck s sound.lawful t n is.parents m.active m.right slot_limit (λ u w. fits-limit s.most (members s n) u w sound.sound.few (members_within l orderly_moved n))
 
   -- the mover's old parents are counted
   pub counted_moved : holds (members l n) t ≡ true → (q : NodeId) → count_by (same_node q) (parents_of s.graph n) ≤ counted_by i.locks.lists.items t q

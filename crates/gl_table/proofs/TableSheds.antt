@@ -1,7 +1,7 @@
 -- A table that sheds covered children.
 use Rattle.std.specs.Prelude.{◌≡◌, ℕ, ◌+◌, ◌-◌, ◌≤◌, Bool, true, false, cond, not, ◌&&◌, ◌||◌, ◌==◌, List, [], ◌∷◌, Option, Some, None, if◌then◌else◌, unwrap_or}
 use Rattle.std.specs.List.{count_by, list_all}
-use Rattle.std.proofs.Common.{refl, sym, ap, ap₂, ◌∙◌, subst, arith, rules}
+use Rattle.std.proofs.Common.{refl, sym, ap, ◌∙◌, subst, arith, rules}
 use Rattle.gl_modes.specs.declared.mode.Mode.{Mode}
 use Rattle.gl_modes.specs.declared.mode.Mode.TheVariants.{NL, S, X}
 use Rattle.gl_modes.specs.declared.node.NodeId.{NodeId}
@@ -24,7 +24,7 @@ use Rattle.gl_table.specs.Pumps.{granted_at}
 use Rattle.gl_table.specs.Slots.{counted_by, held_by}
 use Rattle.gl_table.specs.Sound.{IsSound, view_of}
 use Rattle.gl_table.specs.State.{State, members, status_of}
-use Rattle.gl_table.specs.Table.{TableView, state_of}
+use Rattle.gl_table.specs.Table.{state_of}
 use Rattle.gl_table.specs.Telling.{IsBySlot, notices_in}
 use Rattle.gl_table.specs.Tellings.{Told, told}
 use Rattle.gl_table.specs.Tells.{IsOnWay, told_to}

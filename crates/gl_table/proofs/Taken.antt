@@ -104,9 +104,15 @@ module _ (s : State) (law : IsLawful s) (t : ℕ) (held : ℕ → NodeId → Mod
 abbrev pub IsQuiet : Status → Type 0
 IsQuiet st = (q : NodeId) (m : Mode) → Some st ≡ Some (Waiting q m) → ⊥
 
-restatus_quiet : (st : Status) → IsQuiet st → (x : Option Txn) (q : NodeId) (m : Mode) → status_in (restatus st x) ≡ Some (Waiting q m) → ⊥
+-- who gave its wait up waits no more
+pub restatus_quiet : (st : Status) → IsQuiet st → (x : Option Txn) (q : NodeId) (m : Mode) → status_in (restatus st x) ≡ Some (Waiting q m) → ⊥
 restatus_quiet st quiet None q m h = cc
 restatus_quiet st quiet (Some x) q m h = quiet q m h
+
+-- and has its new status
+pub restatus_is : (st was : Status) (x : Option Txn) → status_in x ≡ Some was → status_in (restatus st x) ≡ Some st
+restatus_is st was None h = absurd (cc)
+restatus_is st was (Some x) h = refl
 
 pub restatus_some : (st : Status) (x : Option Txn) → is_some (restatus st x) ≡ is_some x
 restatus_some st None = refl

@@ -17,12 +17,12 @@ use Rattle.gl_table.specs.declared.txn.Status.TheVariants.{Active, Waiting, Cond
 use Rattle.gl_table.specs.declared.txn.TxnId.{TxnId}
 use Rattle.gl_table.specs.Pumps.{awake, front_at, granted_at, is_waiting_at, pumped, waits_at, without_wait, woken}
 use Rattle.gl_table.specs.Slots.{grant_notice, mode_given}
-use Rattle.gl_table.specs.State.{State, Txn, age_of, members, restatus, status_in, status_of, with_grant, with_txn}
+use Rattle.gl_table.specs.State.{State, Txn, age_of, members, status_in, status_of, with_grant, with_txn}
 use Rattle.gl_table.specs.Tellings.{addressed, notice_of, told_from}
 use Rattle.gl_table.specs.Tells.{CancelTells, GoneTells, IsOnWay, NobodyTold, ReleaseTells, ActiveUntold, VictimTells, told_to}
 use Rattle.gl_table.proofs.Follows.{SameGrants}
 use Rattle.gl_table.proofs.Queues.{grants_one, grants_other}
-use Rattle.gl_table.proofs.Taken.{IsQuiet}
+use Rattle.gl_table.proofs.Taken.{IsQuiet, restatus_is}
 use Rattle.gl_table.proofs.Waiters.{waits_of}
 use Rattle.gl_table.proofs.Ways.{granted_stands, way_granted_once, way_wait, way_with_grant, way_without_wait, without_wait_other, without_wait_own}
 
@@ -45,10 +45,6 @@ woken_same g u out (Some x) = ap (λ st. Some (record { age = x.age; status = st
     by Active = refl
     by (Waiting q m) = ap (λ b. if b then Active else Waiting q m) (out q)
     by Condemned = refl
-
-restatus_is : (st : Status) (x : Option Txn) (was : Status) → status_in x ≡ Some was → status_in (restatus st x) ≡ Some st
-restatus_is st None was h = absurd (cc)
-restatus_is st (Some x) was h = refl
 
 -- what a slot is told is read from the graph, and from its own transaction and grants
 pub told_same : (now s' : State) (u : ℕ) → s'.graph ≡ now.graph → s'.txns u ≡ now.txns u → SameGrants now s' u → (o : Option Status) → told_from s' u o ≡ told_from now u o
@@ -144,7 +140,7 @@ victim_tells s now t n m waits way u =
     own : told_to s (without_wait now t Condemned) t ≡ Some (record { slot = t; age = age_of s t }, notice.Victim)
     own = ap (λ o. addressed (record { slot = t; age = age_of s t }) (told_from (without_wait now t Condemned) t o)) (way.waited t n m waits)
         ∙ ap (λ o. addressed (record { slot = t; age = age_of s t }) (notice_of (without_wait now t Condemned) t n m o))
-        (ap status_in (without_wait_own now t Condemned) ∙ restatus_is Condemned (now.txns t) (Waiting n m) waits)
+        (ap status_in (without_wait_own now t Condemned) ∙ restatus_is Condemned (Waiting n m) (now.txns t) waits)
 
     over : told_to s (without_wait now t Condemned) u ≡ (if u == t then Some (record { slot = t; age = age_of s t }, notice.Victim) else told_to s now u)
     over = is_by_test (u == t) (λ e. ap (told_to s (without_wait now t Condemned)) (same_number u t e) ∙ own) (without_wait_told s now t Condemned u)
@@ -155,27 +151,30 @@ cancel_tells s now t n m waits way u other =
     ∙ ap (λ x. if is_among_waiters u (front_at (without_wait now t Active) n) then grant_notice s.txns n (front_at (without_wait now t Active) n) u else x)
     (without_wait_told s now t Active u other)
 
--- while the status of all is the same, nobody is told
-pub quiet_told : (s now : State) → ((u : ℕ) → status_of now u ≡ status_of s u) → (u : ℕ) → told_to s now u ≡ None
-quiet_told s now same u = by (status_of s u) refl
+-- whose status is the same is told nothing
+pub quiet_told : (s now : State) (u : ℕ) → status_of now u ≡ status_of s u → told_to s now u ≡ None
+quiet_told s now u same = by (status_of s u) refl
   where
     by : (o : Option Status) → status_of s u ≡ o → addressed (record { slot = u; age = age_of s u }) (told_from now u o) ≡ None
     by None e = refl
     by (Some Active) e = refl
     by (Some Condemned) e = refl
-    by (Some (Waiting n m)) e = ap (λ o. addressed (record { slot = u; age = age_of s u }) (notice_of now u n m o)) (same u ∙ e)
+    by (Some (Waiting n m)) e = ap (λ o. addressed (record { slot = u; age = age_of s u }) (notice_of now u n m o)) (same ∙ e)
 
 pub nobody_told : NobodyTold
-nobody_told s u = quiet_told s s (λ v. refl) u
+nobody_told s u = quiet_told s s u refl
+
+-- who is gone is told nothing
+pub gone_untold : (s now : State) (u : ℕ) → status_of now u ≡ None → told_to s now u ≡ None
+gone_untold s now u gone = by (status_of s u)
+  where
+    by : (o : Option Status) → addressed (record { slot = u; age = age_of s u }) (told_from now u o) ≡ None
+    by None = refl
+    by (Some Active) = refl
+    by (Some Condemned) = refl
+    by (Some (Waiting n m)) = ap (λ o. addressed (record { slot = u; age = age_of s u }) (notice_of now u n m o)) gone
 
 pub gone_tells : GoneTells
 gone_tells s now t u =
-    is_by_test (u == t) (λ e. nothing e (status_of s u))
+    is_by_test (u == t) (λ e. gone_untold s (with_txn now t None) u (ap (λ b. status_in (if b then None else now.txns u)) e))
     (λ e. ap (addressed (record { slot = u; age = age_of s u })) (told_same now (with_txn now t None) u refl (ap (λ b. if b then None else now.txns u) e) (λ q. refl) (status_of s u)))
-  where
-    -- who is gone is told nothing
-    nothing : (u == t) ≡ true → (o : Option Status) → addressed (record { slot = u; age = age_of s u }) (told_from (with_txn now t None) u o) ≡ None
-    nothing e None = refl
-    nothing e (Some Active) = refl
-    nothing e (Some Condemned) = refl
-    nothing e (Some (Waiting n m)) = ap (λ b. addressed (record { slot = u; age = age_of s u }) (notice_of (with_txn now t None) u n m (status_in (if b then None else now.txns u)))) e

@@ -166,4 +166,4 @@ told_but_is s now t xs law most sorted each =
 
 -- and where the status of all is the same, nothing is told
 pub told_nothing : (s now : State) (t : ℕ) → ((u : ℕ) → is_some (s.txns u) ≡ true → u < s.most) → ((u : ℕ) → status_of now u ≡ status_of s u) → [] ≡ told_but t s now
-told_nothing s now t below same = ap (filter (λ x. not (x.0.slot == t))) (told_in_order s now below [] (record { rising = refl; below = refl }) (λ u. sym (quiet_told s now same u)))
+told_nothing s now t below same = ap (filter (λ x. not (x.0.slot == t))) (told_in_order s now below [] (record { rising = refl; below = refl }) (λ u. sym (quiet_told s now u (same u))))

@@ -17,8 +17,9 @@ use Rattle.gl_table.specs.Intends.{no_parents}
 use Rattle.gl_table.specs.State.{State}
 use Rattle.gl_table.specs.Lawful.{IsLawful}
 use Rattle.gl_table.specs.Below.{SameBelow}
-use Rattle.gl_table.proofs.Effects.{or_true, all_from, ReadOn, read_on_route, eff_s_route, eff_x_route, read_on_eff, eff_x_any}
+use Rattle.gl_table.proofs.Effects.{all_from, ReadOn, read_on_route, eff_s_route, eff_x_route, read_on_eff, eff_x_any}
 use Rattle.gl_graph.proofs.Look.{split, or_elim, and_both, all_at}
+use Rattle.std.proofs.Math.Bool.{or-true}
 
 -- the graph changes at the nodes of a set; h has no effective S there, where the node stood before or is a record after
 pub record GraphStep (g g' : Graph) (h : NodeId → Mode) (changed : NodeId → Bool) : Type 0 where
@@ -63,7 +64,7 @@ module _ (g g' : Graph) (h : NodeId → Mode) (changed : NodeId → Bool) (step 
       (λ e. or_elim _ _ x (λ here. ap (λ b. b || (not (no_parents (parents_of g' n)) && list_all (eff_x k g' h) (parents_of g' n))) here)
       (λ up. let both = and_both _ _ up in
       ap (λ b. same_mode (h n) X || b) (ap₂ (λ a b. a && b) (ap (λ ps. not (no_parents ps)) (same_parents n e) ∙ both.0)
-      (ap (list_all (eff_x k g' h)) (same_parents n e) ∙ all_from (eff_x k g' h) (parents_of g n) (λ p on. x_carry k p (all_at (eff_x k g h) (parents_of g n) p on both.1)))) ∙ or_true _))
+      (ap (list_all (eff_x k g' h)) (same_parents n e) ∙ all_from (eff_x k g' h) (parents_of g n) (λ p on. x_carry k p (all_at (eff_x k g h) (parents_of g n) p on both.1)))) ∙ or-true _))
 
   -- the same, back
   pub x_back : (k : ℕ) (n : NodeId) → is_live g n ≡ true → eff_x k g' h n ≡ true → eff_x k g h n ≡ true
@@ -74,7 +75,7 @@ module _ (g g' : Graph) (h : NodeId → Mode) (changed : NodeId → Bool) (step 
       (λ up. let both = and_both _ _ up in
       let all : list_all (eff_x k g' h) (parents_of g n) ≡ true = ap (list_all (eff_x k g' h)) (sym (same_parents n e)) ∙ both.1 in
       ap (λ b. same_mode (h n) X || b) (ap₂ (λ a b. a && b) (ap (λ ps. not (no_parents ps)) (sym (same_parents n e)) ∙ both.0)
-      (all_from (eff_x k g h) (parents_of g n) (λ p on. x_back k p (parents_live n p on) (all_at (eff_x k g' h) (parents_of g n) p on all)))) ∙ or_true _))
+      (all_from (eff_x k g h) (parents_of g n) (λ p on. x_back k p (parents_live n p on) (all_at (eff_x k g' h) (parents_of g n) p on all)))) ∙ or-true _))
 
   -- what lies below a node that is read is read, so it did not change
   pub below_same : (n : NodeId) → ReadOn g h n → SameBelow g g' n

@@ -32,6 +32,7 @@ use Rattle.gl_table.proofs.Queues.{among_by_filter, clash}
 use Rattle.gl_table.proofs.Strays.{all_filtered, all_of_some, all_or_chosen, filter_all, stuck_front, without_chosen}
 use Rattle.gl_table.proofs.Waiters.{among_waits, some_wait}
 use Rattle.gl_table.proofs.Waiting.{any_left, one_left, one_stays}
+use Rattle.std.proofs.Math.Bool.{or-false, and-true, and-false}
 
 -- the waits on n that fail a test are out of its queue, and their owners are active
 abbrev pub thinned : State → NodeId → (Waiter → Bool) → State
@@ -218,18 +219,10 @@ module _ (s : State) (o : IsOrderly s) (n : NodeId) (f : Waiter → Bool) (bare 
     (now : State) (pending : ℕ → Bool) (ls mid : List LockList) (told mid_told : Told) (is : IsTurning s now n f pending ls mid told mid_told) where
   -- nobody is pending any more
   pub turning_ends : ((u : ℕ) → pending u ≡ false) → now ≡ thinned s n f
-  turning_ends none = is.state ∙ ap (thinned s n) (fun_ext (λ w. ap (λ b. f w || b) (none w.0) ∙ last (f w)))
-    where
-      last : (b : Bool) → (b || false) ≡ b
-      last true = refl
-      last false = refl
+  turning_ends none = is.state ∙ ap (thinned s n) (fun_ext (λ w. ap (λ b. f w || b) (none w.0) ∙ or-false (f w)))
 
   pub told_at_end : ((u : ℕ) → pending u ≡ false) → (u : ℕ) → notices_in mid_told u ≡ (if is_lost s n f u then moved_notice s u else notices_in told u)
-  told_at_end none u = is.notices u ∙ ap (λ b. if is_lost s n f u && not b then moved_notice s u else notices_in told u) (none u) ∙ ap (λ b. if b then moved_notice s u else notices_in told u) (last (is_lost s n f u))
-    where
-      last : (b : Bool) → (b && true) ≡ b
-      last true = refl
-      last false = refl
+  told_at_end none u = is.notices u ∙ ap (λ b. if is_lost s n f u && not b then moved_notice s u else notices_in told u) (none u) ∙ ap (λ b. if b then moved_notice s u else notices_in told u) (and-true (is_lost s n f u))
 
   -- a pending slot
   module _ (t : ℕ) (member : pending t ≡ true) where
@@ -302,14 +295,6 @@ module _ (s : State) (o : IsOrderly s) (n : NodeId) (f : Waiter → Bool) (bare 
             (λ e. let at = same_number u t e in
             ap (λ b. if b then Some (record { slot = t; age = age_in (now.txns t) }, notice.Moved) else notices_in mid_told u) e
             ∙ ap (λ x. Some (record { slot = t; age = age_in x }, notice.Moved)) same_txn ∙ ap (moved_notice s) (sym at)
-            ∙ sym (ap₂ (λ a b. if a && not b then moved_notice s u else notices_in told u) (ap (is_lost s n f) at ∙ lost) (less u ∙ ap (λ b. pending u && not b) e ∙ and_false (pending u))))
+            ∙ sym (ap₂ (λ a b. if a && not b then moved_notice s u else notices_in told u) (ap (is_lost s n f) at ∙ lost) (less u ∙ ap (λ b. pending u && not b) e ∙ and-false (pending u))))
             (λ e. ap (λ b. if b then Some (record { slot = t; age = age_in (now.txns t) }, notice.Moved) else notices_in mid_told u) e ∙ is.notices u
-            ∙ ap (λ b. if is_lost s n f u && not b then moved_notice s u else notices_in told u) (sym (less u ∙ ap (λ b. pending u && not b) e ∙ and_true (pending u))))
-          where
-            and_false : (b : Bool) → (b && false) ≡ false
-            and_false true = refl
-            and_false false = refl
-
-            and_true : (b : Bool) → (b && true) ≡ b
-            and_true true = refl
-            and_true false = refl
+            ∙ ap (λ b. if is_lost s n f u && not b then moved_notice s u else notices_in told u) (sym (less u ∙ ap (λ b. pending u && not b) e ∙ and-true (pending u))))

@@ -4,7 +4,7 @@ use Rattle.std.specs.List.{range_with_len}
 use Rattle.std.proofs.Common.{⊎_elim, sym, ap, ◌∙◌, subst, arith, get_or, [], ◌∷◌}
 use Rattle.std.proofs.Math.Path.{fun_ext}
 use Rattle.std.proofs.lemmas.List.FromFn.{get_or-map-range_with_len}
-use Rattle.std.proofs.lemmas.Bool.{cases_lt}
+use Rattle.std.proofs.lemmas.Bool.{cases_lt, not-true}
 use Rattle.gl_modes.proofs.ModeLemmas.{NL-compatible}
 use Rattle.gl_modes.specs.Modes.{are_compatible}
 use Rattle.gl_graph.proofs.Look.{or_elim, split}
@@ -18,7 +18,7 @@ use Rattle.gl_waits.proofs.SetLemmas.{has_slot-above}
 use Rattle.gl_table.specs.Locks.{IsOrderly}
 use Rattle.gl_table.specs.State.{State, age_of, members, status_of}
 use Rattle.gl_table.specs.Waiting.{is_wait, waits_for}
-use Rattle.gl_table.proofs.Edges.{not_is, step_is}
+use Rattle.gl_table.proofs.Edges.{step_is}
 use Rattle.gl_table.proofs.GrantKeeps.{nl_is, txn_there}
 use Rattle.gl_table.proofs.OneWaits.{waits_there}
 use Rattle.gl_table.proofs.Queues.{ahead_is, ahead_second, clash}
@@ -31,7 +31,7 @@ seated_steps s o x y h =
       or_elim _ _ st.2.blocked
           (λ b. split (holds (members s n) y)
           (λ k. o.below y (o.holders y n k))
-          (λ k. clash (ap (are_compatible st.1) (nl_is (s.held y n) k) ∙ NL-compatible st.1) (not_is _ b)))
+          (λ k. clash (ap (are_compatible st.1) (nl_is (s.held y n) k) ∙ NL-compatible st.1) (not-true _ b)))
           (λ b. o.below y (txn_there (s.txns y) _ (waits_there s o y n (ahead_second (s.queue n) x y (sym (ahead_is (s.queue n) x y) ∙ b))).1)),
     )
 

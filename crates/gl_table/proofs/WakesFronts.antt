@@ -54,8 +54,8 @@ pub can_wake_front : (g : Graph) (l : Locks) → IsLawfulGraph g → AreSound l 
     → ((u : ℕ) → is_among_waiters u ((state_on g l).queue n) ≡ true → Agrees (state_on g l) l.lists.items u)
     → ((u : ℕ) → is_among_waiters u ((state_on g l).queue n) ≡ true → CountsHeld (state_on g l) l.lists.items u)
     → (told : Told) → IsBySlot told → ((u : ℕ) → is_among_waiters u (b.queue n) ≡ true → notices_in told u ≡ None)
-    → (ps : List NodeId) (ws : List Waiter) → ps ≡ parents_of g n → ws ≡ front_at b n → CanWake l.seats.items l.lists.items told n ps ws
-can_wake_front g l law sound o n b well stand agree count told by_slot untold ps ws parents front =
+    → (ws : List Waiter) → ws ≡ front_at b n → CanWake l.seats.items l.lists.items told n (parents_of g n) ws
+can_wake_front g l law sound o n b well stand agree count told by_slot untold ws front =
     record {
       few = sound.few;
       len = sound.lists;
@@ -65,8 +65,7 @@ can_wake_front g l law sound o n b well stand agree count told by_slot untold ps
       below = λ u h. below u (stand u (stands u h));
       can_hold = λ u h.
           let there = stand u (stands u h) in
-          subst (λ (xs : List NodeId). CanHold l.lists.items u n xs) (sym parents)
-          (can_hold_there (state_on g l) o law n l.lists.items u there (subst (λ (k : ℕ). u < k) (sym sound.lists) (below u there)) (agree u there) (count u there));
+          can_hold_there (state_on g l) o law n l.lists.items u there (subst (λ (k : ℕ). u < k) (sym sound.lists) (below u there)) (agree u there) (count u there);
       untold = λ u h. untold u (stands u h);
     }
   where

@@ -1,5 +1,5 @@
 -- The way from one state to another by releases and withdrawn waits: each step keeps what is known of it.
-use Rattle.std.specs.Prelude.{◌≡◌, ℕ, Bool, true, false, ◌==◌, List, [], ◌∷◌, ◌++◌, length, drop, Option, Some, None, if◌then◌else◌}
+use Rattle.std.specs.Prelude.{◌≡◌, ℕ, Bool, true, false, ◌==◌, List, [], ◌∷◌, ◌++◌, length, drop, Some, if◌then◌else◌}
 use Rattle.std.proofs.Common.{refl, sym, ap, ◌∙◌}
 use Rattle.std.proofs.lemmas.List.Elements.{filter-append}
 use Rattle.gl_modes.specs.declared.mode.Mode.{Mode}
@@ -14,13 +14,13 @@ use Rattle.gl_header.proofs.Ranges.{not_true}
 use Rattle.gl_table.specs.declared.txn.Status.{Status}
 use Rattle.gl_table.specs.declared.txn.Status.TheVariants.{Waiting}
 use Rattle.gl_table.specs.Pumps.{front_at, granted_at, is_waiting_at, pumped, waits_at, without_wait}
-use Rattle.gl_table.specs.State.{State, Txn, age_in, age_of, members, restatus, status_in, status_of, with_grant}
+use Rattle.gl_table.specs.State.{State, age_in, age_of, members, restatus, status_in, status_of, with_grant}
 use Rattle.gl_table.specs.Tells.{IsOnWay, WayBegins, WayReleases, WayGivesUp}
 use Rattle.gl_table.proofs.Less.{waiting_is}
 use Rattle.gl_table.proofs.Pumped.{woken_age, woken_sleeps, woken_waits}
 use Rattle.gl_table.proofs.Queues.{among_append, among_by_filter, clash, not_among, none_filtered, one_in_first}
 use Rattle.gl_table.proofs.QueueEdits.{out_of_without, without_filter}
-use Rattle.gl_table.proofs.Taken.{IsQuiet, restatus_age}
+use Rattle.gl_table.proofs.Taken.{IsQuiet, restatus_age, restatus_quiet}
 use Rattle.gl_table.proofs.Waiters.{waits_of}
 
 -- what is left of a queue once its node granted
@@ -87,14 +87,10 @@ module _ (s now : State) (way : IsOnWay s now) where
       own : (u : ℕ) → (u == t) ≡ true → (without_wait now t st).txns u ≡ restatus st (now.txns t)
       own u e = ap (λ b. if b then restatus st (now.txns t) else now.txns u) e
 
-      rests : (x : Option Txn) (q : NodeId) (m : Mode) → status_in (restatus st x) ≡ Some (Waiting q m) → ⊥
-      rests None q m h = cc
-      rests (Some x) q m h = quiet q m h
-
       -- who waits still is another
       other_waits : (u : ℕ) (q : NodeId) (m : Mode) → status_of (without_wait now t st) u ≡ Some (Waiting q m) → ((u == t) ≡ false) × (status_of now u ≡ Some (Waiting q m))
       other_waits u q m h =
-          split (u == t) (λ e. absurd (rests (now.txns t) q m (sym (ap status_in (own u e)) ∙ h))) (λ e. (e, sym (ap status_in (without_wait_other now t st u e)) ∙ h))
+          split (u == t) (λ e. absurd (restatus_quiet st quiet (now.txns t) q m (sym (ap status_in (own u e)) ∙ h))) (λ e. (e, sym (ap status_in (without_wait_other now t st u e)) ∙ h))
 
   -- who is granted waits no more, and is gone from its queue
   pub way_pumped : (chosen : NodeId → Bool) → IsOnWay s (pumped now chosen)

@@ -4,7 +4,6 @@ use Rattle.std.specs.List.{count_by}
 use Rattle.std.proofs.Common.{refl, sym, ap, ap₂, ◌∙◌, subst, arith, length-set}
 use Rattle.std.proofs.Math.Path.{fun_ext}
 use Rattle.indexmap.specs.IndexMap.{spare}
-use Rattle.gl_modes.specs.declared.mode.Mode.{Mode}
 use Rattle.gl_modes.specs.declared.mode.Mode.TheVariants.{NL}
 use Rattle.gl_modes.specs.declared.node.NodeId.{NodeId}
 use Rattle.gl_modes.specs.Modes.{same_mode}
@@ -19,14 +18,13 @@ use Rattle.gl_header.proofs.Ranges.{not_true}
 use Rattle.gl_table.specs.declared.list.Entry.{Entry}
 use Rattle.gl_table.specs.declared.list.LockList.{LockList}
 use Rattle.gl_table.specs.declared.txn.Status.{Status}
-use Rattle.gl_table.specs.declared.txn.Status.TheVariants.{Waiting}
 use Rattle.gl_table.specs.Covered.{held_children}
 use Rattle.gl_table.specs.Lists.{IsApart, count_of, entry_of, is_listed, mode_in, mode_of}
 use Rattle.gl_table.specs.Locks.{Agrees, CountsHeld, IsOrderly}
 use Rattle.gl_table.specs.Pumping.{WaitWell}
 use Rattle.gl_table.specs.Pumps.{front_at, granted_at, is_waiting_at, pumped, without_wait}
-use Rattle.gl_table.specs.Slots.{AreApart, WakesLists, by_list, counted_by, held_by, listed_by, room_by}
-use Rattle.gl_table.specs.State.{State, Txn, members, restatus, status_in, status_of}
+use Rattle.gl_table.specs.Slots.{AreApart, WakesLists, counted_by, held_by, listed_by, room_by}
+use Rattle.gl_table.specs.State.{State, members, status_in, status_of}
 use Rattle.gl_table.specs.Steps.{children_that}
 use Rattle.gl_table.specs.Waiting.{is_wait}
 use Rattle.gl_table.proofs.Less.{waiting_is}
@@ -36,8 +34,8 @@ use Rattle.gl_table.proofs.Pumping.{agrees_pumped, counts_pumped}
 use Rattle.gl_table.proofs.Queues.{clash, grants_other}
 use Rattle.gl_table.proofs.QueueEdits.{out_of_without, without_filter}
 use Rattle.gl_table.proofs.Settles.{wait_is}
-use Rattle.gl_table.proofs.Slots.{apart-set, by_list-at, by_list-set, slice_get-at}
-use Rattle.gl_table.proofs.Taken.{IsQuiet}
+use Rattle.gl_table.proofs.Slots.{apart-set, by_list-at, by_list-set, slice_get-at, by_list-kept}
+use Rattle.gl_table.proofs.Taken.{IsQuiet, restatus_quiet}
 use Rattle.gl_table.proofs.Waiters.{among_waits, some_wait}
 use Rattle.gl_table.proofs.Ways.{granted_stands, left_stands, without_wait_other, without_wait_own}
 
@@ -80,26 +78,20 @@ unheld_modes l n h q = split (same_node q n)
 
 module _ (ls : List LockList) (t : ℕ) (n : NodeId) (l : LockList) (lt : t < length ls) (at : l ≡ slice_index_or ls t l) (apart : AreApart ls) where
   module _ (l' : LockList) where
-    -- what the new list says as the old one, all lists say as before
-    kept : {A : Type 0} (f : LockList → A) (none : A) → f l' ≡ f l → (u : ℕ) → by_list f none (slice_set ls t l') u ≡ by_list f none ls u
-    kept f none e u = by_list-set ls t l' lt f none u ∙ split (u == t)
-        (λ k. ap (λ b. if b then f l' else by_list f none ls u) k ∙ e ∙ sym (by_list-at f none ls t l lt at) ∙ ap (by_list f none ls) (sym (same_number u t k)))
-        (λ k. ap (λ b. if b then f l' else by_list f none ls u) k)
-
     -- a list is written that says the same, but has n only where it holds it
     unlists_set : IsApart l' → ((q : NodeId) → mode_of l' q ≡ mode_of l q) → ((q : NodeId) → is_listed l' q ≡ (if same_node q n then not (same_mode (mode_of l n) NL) else is_listed l q))
         → ((q : NodeId) → count_of l' q ≡ count_of l q) → Unlists ls (slice_set ls t l') t n
     unlists_set here modes listed counts = record {
       len = length-set ls t l';
       apart = apart-set ls t l' lt apart here;
-      modes = λ u q. kept (λ x. mode_of x q) NL (modes q) u;
+      modes = λ u q. by_list-kept ls t l lt at l' (λ x. mode_of x q) NL (modes q) u;
       listed = λ u q. by_list-set ls t l' lt (λ x. is_listed x q) false u ∙ split (u == t)
           (λ e. ap (λ k. if k then is_listed l' q else listed_by ls u q) e ∙ listed q
           ∙ ap₂ (λ m k. if same_node q n then not (same_mode m NL) else k) (sym (by_list-at (λ x. mode_of x n) NL ls t l lt at))
           (sym (ap (λ v. listed_by ls v q) (same_number u t e) ∙ by_list-at (λ x. is_listed x q) false ls t l lt at))
           ∙ ap (λ k. if k && same_node q n then not (same_mode (held_by ls t n) NL) else listed_by ls u q) (sym e))
           (λ e. ap (λ k. if k then is_listed l' q else listed_by ls u q) e ∙ ap (λ k. if k && same_node q n then not (same_mode (held_by ls t n) NL) else listed_by ls u q) (sym e));
-      counts = λ u q. kept (λ x. count_of x q) 0 (counts q) u;
+      counts = λ u q. by_list-kept ls t l lt at l' (λ x. count_of x q) 0 (counts q) u;
       rooms = λ u e. by_list-set ls t l' lt (λ x. spare x.loose) 0 u ∙ ap (λ k. if k then spare l'.loose else room_by ls u) e;
     }
 
@@ -109,11 +101,6 @@ module _ (ls : List LockList) (t : ℕ) (n : NodeId) (l : LockList) (lt : t < le
 
   pub unlists_held : same_mode (mode_of l n) NL ≡ false → Unlists ls (slice_set ls t l) t n
   unlists_held h = unlists_set l (apart t l (slice_get-at ls t l lt at)) (λ q. refl) (only_held l n h) (λ q. refl)
-
--- who gave its wait up waits no more
-pub rests : (st : Status) → IsQuiet st → (x : Option Txn) (q : NodeId) (m : Mode) → status_in (restatus st x) ≡ Some (Waiting q m) → ⊥
-rests st quiet None q m h = cc
-rests st quiet (Some x) q m h = quiet q m h
 
 -- all others stand in the queue where they stood
 pub others_among : (t u : ℕ) (ws : List Waiter) → (u == t) ≡ false → is_among_waiters u (without_waiter t ws) ≡ is_among_waiters u ws
@@ -184,7 +171,7 @@ module _ (s : State) (o : IsOrderly s) (law : IsLawfulGraph s.graph) (t : ℕ) (
           ∙ ap (λ k. holds (members s q) t || k) (stands_only s o t n waits q (same_node-sym n q ∙ e)))
           ∙ ap₂ (λ m k. not (same_mode m NL) || k) (sym (after_own q)) (sym (not_true _ (λ h. clash (left_stands b (same_node n) t q h) (out q))));
       room = λ h. let w = wait_is (status_of after t) h in
-          absurd (rests st quiet (s.txns t) w.0 w.1 (ap status_in (sym (without_wait_own s t st)) ∙ (woken_waits (granted_at b (same_node n)) t w.0 w.1 (b.txns t) w.2).0));
+          absurd (restatus_quiet st quiet (s.txns t) w.0 w.1 (ap status_in (sym (without_wait_own s t st)) ∙ (woken_waits (granted_at b (same_node n)) t w.0 w.1 (b.txns t) w.2).0));
     }
       where
         only : (k : Bool) → k ≡ (k || false)

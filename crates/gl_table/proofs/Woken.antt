@@ -23,23 +23,12 @@ use Rattle.gl_modes.proofs.NodeLemmas.{same_node-equal, same_node-refl}
 use Rattle.gl_table.proofs.Queues.{clash, grants_other}
 use Rattle.std.proofs.lemmas.Bool.{not-true}
 use Rattle.std.proofs.Math.Path.{fun_ext}
+use Rattle.std.proofs.Math.Bool.{or-false}
+use Rattle.std.proofs.lemmas.List.Folds.{list_any_more}
 
 -- one waiter more is taken from the front
 pub among_more : (u : ℕ) (ws : List Waiter) (i : ℕ) (d : Waiter) → i < length ws → is_among_waiters u (take (i + 1) ws) ≡ (is_among_waiters u (take i ws) || is_waiter u (slice_index_or ws i d))
-among_more u ws i d lt = let next : i + 1 ≡ suc i = omega arith in ap (λ k. is_among_waiters u (take k ws)) next ∙ by ws i lt
-  where
-    or_none : (b : Bool) → (b || false) ≡ b
-    or_none true = refl
-    or_none false = refl
-
-    or_more : (a b c : Bool) → (a || (b || c)) ≡ ((a || b) || c)
-    or_more true b c = refl
-    or_more false b c = refl
-
-    by : (ws : List Waiter) (i : ℕ) → i < length ws → is_among_waiters u (take (suc i) ws) ≡ (is_among_waiters u (take i ws) || is_waiter u (slice_index_or ws i d))
-    by [] i lt = absurd (omega arith)
-    by (w ∷ ws) zero lt = or_none (is_waiter u w)
-    by (w ∷ ws) (suc i) lt = ap (λ b. is_waiter u w || b) (by ws i (omega arith)) ∙ or_more (is_waiter u w) (is_among_waiters u (take i ws)) (is_waiter u (slice_index_or ws i d))
+among_more u ws i d lt = list_any_more (is_waiter u) ws i d lt
 
 -- and granted behind the others
 grants_more : (g : Members) (ws : List Waiter) (i : ℕ) (d : Waiter) → i < length ws
@@ -94,9 +83,6 @@ module _ (seats : List (Option Seat)) (ls : List LockList) (told : Told) (n : No
   pub slot_within : w.0 < length seats'
   slot_within = subst (λ (k : ℕ). w.0 < k) (sym woken.len) (can.below w.0 among)
 
-  pub slot_few : w.0 < 128
-  slot_few = let below = can.below w.0 among in let few = can.few in omega arith
-
   txn_same : txns_of seats' w.0 ≡ txns_of seats w.0
   txn_same = woken.txns w.0 ∙ ap (λ b. if b then restatus Active (txns_of seats w.0) else txns_of seats w.0) fresh
 
@@ -140,12 +126,8 @@ module _ (seats : List (Option Seat)) (ls : List LockList) (told : Told) (n : No
       now_among : (u : ℕ) → (u == w.0) ≡ true → is_among_waiters u (take (i + 1) ws) ≡ true
       now_among u e = among_more u ws i d lt ∙ or_right (is_among_waiters u (take i ws)) (is_waiter u w) (turned u true e)
 
-      or_none : (b : Bool) → (b || false) ≡ b
-      or_none true = refl
-      or_none false = refl
-
       as_before : (u : ℕ) → (u == w.0) ≡ false → is_among_waiters u (take (i + 1) ws) ≡ is_among_waiters u (take i ws)
-      as_before u e = among_more u ws i d lt ∙ ap (λ b. is_among_waiters u (take i ws) || b) (turned u false e) ∙ or_none (is_among_waiters u (take i ws))
+      as_before u e = among_more u ws i d lt ∙ ap (λ b. is_among_waiters u (take i ws) || b) (turned u false e) ∙ or-false (is_among_waiters u (take i ws))
 
       not_this : (u : ℕ) → is_among_waiters u (take (i + 1) ws) ≡ false → (u == w.0) ≡ false
       not_this u off = split (u == w.0) (λ e. clash (now_among u e) off) (λ e. e)

@@ -2,7 +2,7 @@
 use Rattle.std.specs.Prelude.{◌≡◌, ℕ, Bool, true, false, not, ◌&&◌, ◌||◌, List, [], ◌∷◌, None, slice_get}
 use Rattle.std.specs.List.{list_any}
 use Rattle.std.specs.Option.{option_map_or}
-use Rattle.std.proofs.Common.{sym, refl, ap, ap₂, ◌∙◌, rules}
+use Rattle.std.proofs.Common.{sym, refl, ap, ap₂, ◌∙◌}
 use Rattle.std.proofs.Math.Path.{fun_ext}
 use Rattle.gl_modes.specs.declared.mode.Mode.{Mode}
 use Rattle.gl_modes.specs.declared.mode.Mode.TheVariants.{NL}
@@ -23,21 +23,18 @@ use Rattle.gl_table.specs.Lists.{mode_of}
 use Rattle.gl_table.specs.Slots.{held_by}
 use Rattle.gl_table.specs.Sound.{IsSound, view_of}
 use Rattle.gl_table.specs.Table.{TableView, state_of}
-use Rattle.gl_table.proofs.Effects.{any_found}
 use Rattle.gl_table.proofs.FirstChild.{held_listed}
 use Rattle.gl_table.proofs.Queries.{modes-seen}
 use Rattle.gl_table.proofs.Queues.{clash}
 use Rattle.gl_table.proofs.TestsPass.{one_found}
+use Rattle.gl_graph.proofs.Moved.{any_found}
+use Rattle.gl_table.proofs.GrantKeeps.{write_held}
 
 -- where all that pass a test stand in both of two lists, some pass it in one where some do in the other
 any_alike : (p : NodeId → Bool) (xs ys : List NodeId) → ((c : NodeId) → p c ≡ true → list_any (same_node c) xs ≡ true) → ((c : NodeId) → p c ≡ true → list_any (same_node c) ys ≡ true) → list_any p xs ≡ list_any p ys
 any_alike p xs ys in_xs in_ys = split (list_any p ys)
     (λ e. let f = any_found p ys e in one_found p f.0 xs f.2 (in_xs f.0 f.2) ∙ sym e)
     (λ e. not_true _ (λ h. let f = any_found p xs h in clash (one_found p f.0 ys f.2 (in_ys f.0 f.2)) e) ∙ sym e)
-
--- a mode to write is one
-write_held : (m : Mode) → is_write m ≡ true → not (same_mode m NL) ≡ true
-write_held m h = search rules
 
 -- all that is held is listed, and lives
 pub writes_listed : (g : Graph) → IsLawfulGraph g → (l : LockList) (n : NodeId) → ((c : NodeId) → not (same_mode (mode_of l c) NL) ≡ true → is_live g c ≡ true)

@@ -1,8 +1,7 @@
 -- Covered children as the list of one transaction tells them, and the marks that are set on them while they are released: a marked node is listed with mode NL.
-use Rattle.std.specs.Prelude.{◌≡◌, ℕ, ◌≤◌, Bool, true, false, not, ◌&&◌, ◌||◌, ◌==◌, Some, if◌then◌else◌, slice_get}
+use Rattle.std.specs.Prelude.{◌≡◌, ℕ, ◌≤◌, Bool, false, not, ◌&&◌, ◌||◌, ◌==◌, Some, if◌then◌else◌, slice_get}
 use Rattle.std.specs.List.{list_all}
 use Rattle.indexmap.specs.IndexMap.{keys}
-use Rattle.gl_modes.specs.declared.mode.Mode.{Mode}
 use Rattle.gl_modes.specs.declared.mode.Mode.TheVariants.{NL, X}
 use Rattle.gl_modes.specs.declared.node.NodeId.{NodeId}
 use Rattle.gl_modes.specs.Modes.{same_mode}

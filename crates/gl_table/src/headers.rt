@@ -29,7 +29,6 @@ pub(crate) type Headers = IndexMap<NodeId, Header>;
 
 /// The group mode of a node.
 pub(crate) fn group(headers: &Headers, node: NodeId) -> Mode
-    requires { AreHeaders headers.now.entries }
     ensures { result ≡ group_of slot_limit (members_at headers.now.entries node) }
 {
     match headers.get(&node) {

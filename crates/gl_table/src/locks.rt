@@ -1,26 +1,23 @@
 //! The locks: the headers of all nodes, and by slot the transactions with their lists.
 
-ghost use Rattle.std.specs.Prelude.{◌≡◌, ◌≢◌, ◌<◌, ◌≤◌, ◌||◌, ◌==◌, ℕ, IfErr, IfOk, IsOk, OnErr, OnOk, None, Some, false, length, not, true, if◌then◌else◌};
-ghost use Rattle.gl_modes.specs.declared.mode.Mode.{Mode as AMode};
+ghost use Rattle.std.specs.Prelude.{◌≡◌, ◌<◌, ◌≤◌, ◌==◌, ℕ, IfOk, None, Some, false, length, not, true, if◌then◌else◌};
 ghost use Rattle.gl_modes.specs.declared.mode.Mode.TheVariants.{NL};
 ghost use Rattle.gl_modes.specs.declared.node.NodeId.{NodeId as Node};
 ghost use Rattle.std.specs.Prelude.{◌&&◌};
 ghost use Rattle.std.specs.List.{find, list_any};
 ghost use Rattle.gl_graph.specs.Graph.{is_child, is_live, nodes, parents_of};
-ghost use Rattle.gl_graph.specs.Lawful.{IsLawfulGraph};
 ghost use Rattle.gl_graph.specs.View.{graph_of};
 ghost use Rattle.gl_header.specs.Header.{holds, is_among_waiters};
-ghost use Rattle.gl_table.specs.Calls.{enters_at, granted, unlocked, wanted};
+ghost use Rattle.gl_table.specs.Calls.{unlocked};
 ghost use Rattle.gl_table.specs.Intends.{is_write};
 ghost use Rattle.gl_table.specs.Locks.{Agrees, AreSound, CountsHeld, IsOrderly, state_on};
 ghost use Rattle.gl_table.specs.Pumps.{front_at, is_waiting_at, pumped, without_wait};
 ghost use Rattle.gl_table.specs.Locks.{AreNew};
 ghost use Rattle.gl_table.specs.Seats.{txn_in, txns_of};
 ghost use Rattle.gl_table.specs.Effects.{effect_on};
-ghost use Rattle.gl_table.specs.Slots.{WakesLists, WakesTold, counted_by, held_by};
-ghost use Rattle.gl_table.specs.State.{members, status_of, with_grant};
+ghost use Rattle.gl_table.specs.Slots.{CanWake, Wakes, WakesLists, WakesTold, counted_by, held_by};
+ghost use Rattle.gl_table.specs.State.{members, with_grant};
 ghost use Rattle.gl_table.specs.Telling.{IsBySlot, notices_in};
-ghost use Rattle.gl_table.specs.declared.txn.Status.TheVariants.{Waiting};
 
 use crate::effect::Effect;
 use crate::effective::effective;
@@ -151,14 +148,7 @@ impl Locks {
     {
         graph.law();
         let granted = drop_grant(&mut self.headers, slot, node);
-        wake(
-            &mut self.seats,
-            &mut self.lists,
-            told,
-            node,
-            graph.parents(node),
-            granted.as_slice(),
-        );
+        self.wake_granted(graph, node, granted.as_slice(), told);
     }
 
     /// Takes the wait of a slot from the header of its node, which then grants from its front. The
@@ -174,7 +164,6 @@ impl Locks {
         requires sound { AreSound self.old }
         requires orderly { IsOrderly (state_on (graph_of graph.now) self.old) }
         requires waits { is_waiting_at (state_on (graph_of graph.now) self.old) slot node ≡ true }
-        requires quiet { (q : Node) (m : AMode) → Some status ≡ Some (Waiting q m) → ⊥ }
         requires agree { (u : ℕ) → is_among_waiters u ((state_on (graph_of graph.now) self.old).queue node) ≡ true → Agrees (state_on (graph_of graph.now) self.old) self.old.lists.items u }
         requires count { (u : ℕ) → is_among_waiters u ((state_on (graph_of graph.now) self.old).queue node) ≡ true → CountsHeld (state_on (graph_of graph.now) self.old) self.old.lists.items u }
         requires by_slot { IsBySlot told.old.items }
@@ -186,14 +175,23 @@ impl Locks {
     {
         graph.law();
         let granted = drop_wait(&mut self.headers, slot, node);
+        self.wake_granted(graph, node, granted.as_slice(), told);
+        set_status(&mut self.seats, slot, status);
+    }
+
+    /// Those whose waits on a node were granted hold it, are active, and are told.
+    fn wake_granted(&mut self, graph: &Graph, node: NodeId, granted: &[(u8, Mode)], told: &mut Told)
+        requires { CanWake self.old.seats.items self.old.lists.items told.old.items node (parents_of (graph_of graph.now) node) granted.now }
+        ensures headers { self.new.headers.entries ≡ self.old.headers.entries }
+        ensures wakes { Wakes self.old.seats.items self.old.lists.items told.old.items node (parents_of (graph_of graph.now) node) granted.now self.new.seats.items self.new.lists.items told.new.items }
+    {
         wake(
             &mut self.seats,
             &mut self.lists,
             told,
             node,
             graph.parents(node),
-            granted.as_slice(),
+            granted,
         );
-        set_status(&mut self.seats, slot, status);
     }
 }

@@ -20,7 +20,6 @@ use std::alloc::{AllocError, Global};
 use std::marker::Model;
 
 mod begin;
-mod below;
 mod checks;
 mod lock;
 mod moves;

@@ -112,6 +112,13 @@ impl Graph {
         more > MOST_NODES || self.len() > MOST_NODES - more
     }
 
+    /// Whether no node more may live.
+    pub fn is_full(&self) -> bool
+        ensures { result ≡ nat_lt 65536 (node_count (graph_of self.now) + 1) }
+    {
+        self.too_many(1)
+    }
+
     /// Whether these cannot be the parents of a node that needs so many at least: one is no inner
     /// node, or stands there twice, or there are too few or more than 8.
     pub fn are_bad_parents(&self, least: usize, parents: &[NodeId]) -> bool
@@ -133,7 +140,7 @@ impl Graph {
             Err(Refusal::NoSuchNode)
         } else if self.are_bad_parents(least, parents) {
             Err(Refusal::BadParents)
-        } else if self.too_many(1) {
+        } else if self.is_full() {
             Err(Refusal::TooManyNodes)
         } else {
             Ok(())
@@ -152,7 +159,7 @@ impl Graph {
             Err(Refusal::BadParents)
         } else if keys.len() != self.indexes(file).len() {
             Err(Refusal::BadKeys)
-        } else if self.too_many(1) {
+        } else if self.is_full() {
             Err(Refusal::TooManyNodes)
         } else {
             Ok(())

@@ -14,7 +14,7 @@ use gl_modes::Refusal;
 impl Table {
     /// Begins a transaction, in the lowest free slot. Its age is the count of begins, this one
     /// included. Refused, in this order, with `WornOut` where `u64::MAX` have begun, and
-    /// `TooManyTxns` where all slots are taken. `NoMemory` never comes: nothing is allocated.
+    /// `TooManyTxns` where all slots are taken. It takes no memory.
     pub fn begin(&mut self) -> Result<TxnId, Refusal>
         ensures begun { IfOk result (λ t. (free_slot (state_of self.old) ≡ Some t.slot)
             × (t.age ≡ (state_of self.old).begins + 1)

@@ -1,13 +1,15 @@
 //! What can be asked, and changes nothing.
 
-ghost use Rattle.std.specs.Prelude.{◌≡◌, ◌&&◌, IfErr, IfOk, None, Some, if◌then◌else◌};
-ghost use Rattle.gl_modes.specs.declared.refusal.Refusal.{Refusal as ARefusal};
+ghost use Rattle.std.specs.Prelude.{◌≡◌, ◌&&◌, IfOk, None, Some, if◌then◌else◌};
+ghost use Rattle.std.specs.List.{list_any};
+ghost use Rattle.gl_graph.specs.Graph.{is_child, nodes};
 ghost use Rattle.gl_graph.specs.Refusals.{Refuses, first_refusal};
 ghost use Rattle.gl_header.specs.Header.{group_of, holds};
 ghost use Rattle.gl_table.specs.Answers.{answered};
 ghost use Rattle.gl_table.specs.BoardOf.{board_of};
 ghost use Rattle.gl_table.specs.Covered.{held_children};
 ghost use Rattle.gl_table.specs.Effects.{effective};
+ghost use Rattle.gl_table.specs.Intends.{is_write};
 ghost use Rattle.gl_table.specs.Refusals.{group_tests, held_tests};
 ghost use Rattle.gl_table.specs.State.{lives, members};
 ghost use Rattle.gl_table.specs.Table.{state_of};
@@ -49,6 +51,17 @@ impl Table {
         match self.status(t) {
             Some(_) => self.locks.children(t.slot, n),
             None => None,
+        }
+    }
+
+    /// Whether a transaction holds some child of a node in `IX`, `SIX` or `X`; `false` where it does
+    /// not live. It takes no memory.
+    pub fn writes_below(&self, t: TxnId, n: NodeId) -> bool
+        ensures { result ≡ (lives (state_of self.now) t && list_any (λ c. is_child (state_of self.now).graph n c && is_write ((state_of self.now).held t.slot c)) (nodes (state_of self.now).graph)) }
+    {
+        match self.status(t) {
+            Some(_) => self.locks.writes_below(&self.graph, t.slot, n),
+            None => false,
         }
     }
 

@@ -19,9 +19,6 @@ use crate::notice::Told;
 use crate::txn::TxnId;
 use gl_modes::{NodeId, Refusal};
 
-/// How many nodes may live at once.
-const MOST_NODES: usize = 65_536;
-
 impl Table {
     /// Makes a record of a file, with a key for each of the file's indexes, in order of their making,
     /// and gives it in X to an active transaction that holds each of the record's parents in IX or
@@ -42,7 +39,7 @@ impl Table {
         if self.graph.worn() {
             return Err(Refusal::WornOut);
         }
-        if self.graph.len() >= MOST_NODES {
+        if self.graph.is_full() {
             return Err(Refusal::TooManyNodes);
         }
         let header = self.locks.prepare(t.slot)?;

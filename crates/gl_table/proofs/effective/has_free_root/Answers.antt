@@ -6,8 +6,9 @@ use Rattle.gl_graph.specs.Seen.{with_all}
 use Rattle.gl_table.specs.Intends.{no_parents}
 use Rattle.gl_table.specs.Lists.{mode_of}
 use Rattle.gl_table.proofs.CutSet.{is_x}
-use Rattle.gl_table.proofs.Searches.{cut_off, free_from, is_top, lent_at, no_parents_length, search_ends, search_meets, search_past, search_up}
+use Rattle.gl_table.proofs.Searches.{cut_off, free_from, is_top, no_parents_length, search_ends, search_meets, search_past, search_up}
 use Rattle.gl_table.proofs.effective.has_free_root.Goals as goal
+use Rattle.gl_graph.proofs.Climb.{lent_at}
 
 pub loop-node-preserved-then-holds_x-2 : goal.loop-node-preserved-then-holds_x-2
 loop-node-preserved-then-holds_x-2 c =

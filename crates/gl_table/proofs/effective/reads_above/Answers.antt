@@ -5,8 +5,9 @@ use Rattle.gl_graph.specs.Graph.{node_count}
 use Rattle.gl_graph.specs.Seen.{with_all}
 use Rattle.gl_table.specs.Effects.{is_read}
 use Rattle.gl_table.specs.Lists.{mode_of}
-use Rattle.gl_table.proofs.Searches.{is_read_at, lent_at, never, read_from, search_ends, search_meets, search_up, unread}
+use Rattle.gl_table.proofs.Searches.{is_read_at, read_from, search_ends, search_meets, search_up, unread}
 use Rattle.gl_table.proofs.effective.reads_above.Goals as goal
+use Rattle.gl_graph.proofs.Climb.{lent_at, never}
 
 pub loop-node-preserved : goal.loop-node-preserved
 loop-node-preserved c =

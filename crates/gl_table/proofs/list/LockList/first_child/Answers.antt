@@ -8,8 +8,9 @@ use Rattle.gl_graph.specs.View.{graph_of}
 use Rattle.gl_graph.proofs.Look.{and_both}
 use Rattle.indexmap.specs.IndexMap.{keys}
 use Rattle.gl_table.specs.Lists.{mode_of}
-use Rattle.gl_table.proofs.FirstChild.{IsFirst, first_found, first_more, held_listed, take_all, take_more}
+use Rattle.gl_table.proofs.FirstChild.{IsFirst, first_found, first_more, held_listed}
 use Rattle.gl_table.proofs.list.LockList.first_child.Goals as goal
+use Rattle.std.proofs.lemmas.List.{take_all, take_more}
 
 pub loop-child-preserved : goal.loop-child-preserved
 loop-child-preserved c =
@@ -29,4 +30,4 @@ returns c =
     let ks = keys c.args.self.now.entries in
     first_found (graph_of c.args.graph.now) c.law.ensures.lawful p ks c.loop-child.first
     (λ n h. let held = (and_both (is_child (graph_of c.args.graph.now) c.args.node n) (not (same_mode (mode_of c.args.self.now n) NL)) h).1 in (held_listed c.args.self.now n held, c.requires.live n held))
-    (subst (λ (ns : List NodeId). IsFirst p ns c.loop-child.first) (take_all ks c.loop-child.child-index (subst (λ (ns : List NodeId). length ns ≤ c.loop-child.child-index) at c.loop-child-test.false)) c.loop-child.invariant)
+    (subst (λ (ns : List NodeId). IsFirst p ns c.loop-child.first) (take_all c.loop-child.child-index ks (subst (λ (ns : List NodeId). length ns ≤ c.loop-child.child-index) at c.loop-child-test.false)) c.loop-child.invariant)

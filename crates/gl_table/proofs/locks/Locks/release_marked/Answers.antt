@@ -2,7 +2,7 @@ use Rattle.std.proofs.Common.{arith, sym, subst}
 use Rattle.gl_graph.specs.View.{graph_of}
 use Rattle.gl_table.specs.Locks.{state_on}
 use Rattle.gl_table.specs.State.{State}
-use Rattle.gl_table.proofs.Marked.{IsReleasing, marked_childless, marked_counted, releasing_begins, releasing_ends, releasing_modes, releasing_one}
+use Rattle.gl_table.proofs.Marked.{IsReleasing, marked_childless, marked_counted, releasing_ends, releasing_modes, releasing_one}
 use Rattle.gl_table.proofs.locks.Locks.release_marked.Goals as goal
 
 pub take_marked-requires-clause-childless : goal.take_marked-requires-clause-childless

@@ -1,4 +1,4 @@
-use Rattle.std.proofs.Common.{refl, sym, ap, ap₂, ◌∙◌, subst, arith, length-set}
+use Rattle.std.proofs.Common.{sym, ◌∙◌, subst, length-set}
 use Rattle.gl_graph.specs.View.{graph_of}
 use Rattle.gl_table.specs.Lists.{IsApart}
 use Rattle.gl_table.specs.Locks.{state_on}

@@ -3,8 +3,9 @@ use Rattle.gl_table.specs.Calls.{released}
 use Rattle.gl_table.specs.Sound.{view_of}
 use Rattle.gl_table.specs.Table.{TableView, state_of}
 use Rattle.gl_table.specs.Tellings.{told}
-use Rattle.gl_table.proofs.TableCalls.{may_commit, orderly, sound_released, state_released, told_ended}
+use Rattle.gl_table.proofs.TableCalls.{orderly, sound_released, state_released}
 use Rattle.gl_table.proofs.table.Table.commit.Goals as goal
+use Rattle.gl_table.proofs.TableEnds.{told_ended}
 
 pub end-requires-clause-orderly : goal.end-requires-clause-orderly
 end-requires-clause-orderly c = orderly c.self.inside c.self.invariant
@@ -18,6 +19,5 @@ returns-clause-state c =
 
 pub returns-clause-told : goal.returns-clause-told
 returns-clause-told c =
-    let active = may_commit c.self.inside c.self.invariant c.args.self.now c.self.view_is c.args.t c.in_ok-check_active.field-0 c.in_ok-check_active.ensures in
-    told_ended c.self.inside c.self.invariant c.args.t.slot c.end.new.self c.end.ensures.state active c.new-told.result.items c.end.new.told.items c.new-told.ensures c.end.ensures.by_slot c.end.ensures.tells c.end.ensures.own
+    told_ended c.self.inside c.self.invariant c.args.t.slot c.end.new.self c.end.ensures.state c.new-told.result.items c.end.new.told.items c.new-told.ensures c.end.ensures.by_slot c.end.ensures.tells c.end.ensures.own
     ∙ ap (λ (v : TableView). told (state_of v) (state_of (view_of (record c.self.inside { locks = c.end.new.self })))) c.self.view_is

@@ -1,4 +1,4 @@
-use Rattle.std.specs.Prelude.{Option}
+use Rattle.std.specs.Prelude.{◌≡◌, Option, false, true}
 use Rattle.std.proofs.Common.{ap, rules, subst, sym, ◌∙◌}
 use Rattle.gl_modes.specs.declared.refusal.Refusal.{Refusal}
 use Rattle.gl_graph.specs.Refusals.{Refuses}
@@ -13,7 +13,22 @@ use Rattle.gl_table.proofs.LockKeeps.{MayLock}
 use Rattle.gl_table.proofs.Locking.{may_lock_by, same_enters, sound_kept, sound_tried, state_granted, test_refused, unrefused}
 use Rattle.gl_table.proofs.Queues.{clash}
 use Rattle.gl_table.proofs.TableCalls.{orderly, test_passed}
+use Rattle.gl_table.proofs.table.Table.lock.Goals.{After-grant, After-wait, After-would_grant}
 use Rattle.gl_table.proofs.table.Table.lock.Goals as goal
+
+-- the tests of the ask passed
+may : (c : After-would_grant) → MayLock (state_of (view_of c.self.inside)) c.args.t c.args.n c.args.mode
+may c =
+    subst (λ (v : TableView). MayLock (state_of v) c.args.t c.args.n c.args.mode) (sym c.self.view_is)
+    (may_lock_by (state_of c.args.self.now) c.args.t c.args.n c.args.mode c.in_ok-check_lock.field-0 c.in_ok-check_lock.ensures)
+
+-- where the header grants it at once
+fits : (c : After-grant) → enters_at (state_of (view_of c.self.inside)) c.args.t.slot c.args.n c.args.mode ≡ true
+fits c = sym (same_enters c.self.inside c.self.invariant c.args.t c.args.n c.args.mode) ∙ sym c.if-would_grant.ensures
+
+-- and where it does not
+blocks : (c : After-wait) → enters_at (state_of (view_of c.self.inside)) c.args.t.slot c.args.n c.args.mode ≡ false
+blocks c = sym (same_enters c.self.inside c.self.invariant c.args.t c.args.n c.args.mode) ∙ sym c.if-would_grant.ensures
 
 pub returns-in_err-check_lock-clause-refuses : goal.returns-in_err-check_lock-clause-refuses
 returns-in_err-check_lock-clause-refuses c =
@@ -33,35 +48,32 @@ invariant_of-self c =
 
 pub invariant_of-self-then-would_grant : goal.invariant_of-self-then-would_grant
 invariant_of-self-then-would_grant c =
-    let may = subst (λ (v : TableView). MayLock (state_of v) c.args.t c.args.n c.args.mode) (sym c.self.view_is) (may_lock_by (state_of c.args.self.now) c.args.t c.args.n c.args.mode c.in_ok-check_lock.field-0 c.in_ok-check_lock.ensures) in
-    sound_tried c.self.inside c.self.invariant c.args.t c.args.n c.args.mode c.grant.result c.grant.new.self may (sym (same_enters c.self.inside c.self.invariant c.args.t c.args.n c.args.mode) ∙ sym c.if-would_grant.ensures)
+    let at = goal.at.invariant_of-self-then-would_grant c in
+    sound_tried c.self.inside c.self.invariant c.args.t c.args.n c.args.mode c.grant.result c.grant.new.self (may at.After-would_grant) (fits at.After-grant)
     c.grant.ensures.state c.grant.ensures.err_headers c.grant.ensures.err_seats c.grant.ensures.sound c.grant.ensures.agree c.grant.ensures.count
 
 pub returns-then-would_grant-clause-answer : goal.returns-then-would_grant-clause-answer
 returns-then-would_grant-clause-answer c =
-    let may = subst (λ (v : TableView). MayLock (state_of v) c.args.t c.args.n c.args.mode) (sym c.self.view_is) (may_lock_by (state_of c.args.self.now) c.args.t c.args.n c.args.mode c.in_ok-check_lock.field-0 c.in_ok-check_lock.ensures) in
-    let fits = sym (same_enters c.self.inside c.self.invariant c.args.t c.args.n c.args.mode) ∙ sym c.if-would_grant.ensures in
-    granted_answer (state_of (view_of c.self.inside)) (state_of (view_of (record c.self.inside { locks = c.grant.new.self }))) c.args.t.slot c.args.n c.args.mode c.in_ok-granted.granted may.active
-    (state_granted c.self.inside c.self.invariant c.args.t c.args.n c.args.mode may fits c.grant.new.self c.in_ok-granted.ensures.state) c.in_ok-granted.ensures.mode
+    let at = goal.at.returns-then-would_grant-clause-answer c in
+    granted_answer (state_of (view_of c.self.inside)) (state_of (view_of (record c.self.inside { locks = c.grant.new.self }))) c.args.t.slot c.args.n c.args.mode c.in_ok-granted.granted (may at.After-would_grant).active
+    (state_granted c.self.inside c.self.invariant c.args.t c.args.n c.args.mode (may at.After-would_grant) (fits at.After-grant) c.grant.new.self c.in_ok-granted.ensures.state) c.in_ok-granted.ensures.mode
 
 pub returns-then-would_grant-clause-told : goal.returns-then-would_grant-clause-told
 returns-then-would_grant-clause-told c =
-    let may = subst (λ (v : TableView). MayLock (state_of v) c.args.t c.args.n c.args.mode) (sym c.self.view_is) (may_lock_by (state_of c.args.self.now) c.args.t c.args.n c.args.mode c.in_ok-check_lock.field-0 c.in_ok-check_lock.ensures) in
-    let fits = sym (same_enters c.self.inside c.self.invariant c.args.t c.args.n c.args.mode) ∙ sym c.if-would_grant.ensures in
+    let at = goal.at.returns-then-would_grant-clause-told c in
     let after = state_of (view_of (record c.self.inside { locks = c.grant.new.self })) in
     c.new.ensures
     ∙ granted_told (state_of (view_of c.self.inside)) after c.args.t.slot c.args.n c.args.mode c.self.invariant.lawful
-    (state_granted c.self.inside c.self.invariant c.args.t c.args.n c.args.mode may fits c.grant.new.self c.in_ok-granted.ensures.state)
+    (state_granted c.self.inside c.self.invariant c.args.t c.args.n c.args.mode (may at.After-would_grant) (fits at.After-grant) c.grant.new.self c.in_ok-granted.ensures.state)
     ∙ ap (λ (v : TableView). told_but c.args.t.slot (state_of v) after) c.self.view_is
 
 pub returns-then-would_grant-clause-state : goal.returns-then-would_grant-clause-state
 returns-then-would_grant-clause-state c =
-    let may = subst (λ (v : TableView). MayLock (state_of v) c.args.t c.args.n c.args.mode) (sym c.self.view_is) (may_lock_by (state_of c.args.self.now) c.args.t c.args.n c.args.mode c.in_ok-check_lock.field-0 c.in_ok-check_lock.ensures) in
-    let fits = sym (same_enters c.self.inside c.self.invariant c.args.t c.args.n c.args.mode) ∙ sym c.if-would_grant.ensures in
+    let at = goal.at.returns-then-would_grant-clause-state c in
     let after = state_of (view_of (record c.self.inside { locks = c.grant.new.self })) in
     subst (λ (v : TableView). Locks (state_of v) c.args.t.slot c.args.n c.args.mode after) c.self.view_is
-    (granted_locks (state_of (view_of c.self.inside)) after c.args.t.slot c.args.n c.args.mode fits
-    (state_granted c.self.inside c.self.invariant c.args.t c.args.n c.args.mode may fits c.grant.new.self c.in_ok-granted.ensures.state))
+    (granted_locks (state_of (view_of c.self.inside)) after c.args.t.slot c.args.n c.args.mode (fits at.After-grant)
+    (state_granted c.self.inside c.self.invariant c.args.t c.args.n c.args.mode (may at.After-would_grant) (fits at.After-grant) c.grant.new.self c.in_ok-granted.ensures.state))
 
 pub returns-then-would_grant-clause-refuses : goal.returns-then-would_grant-clause-refuses
 returns-then-would_grant-clause-refuses c =
@@ -85,21 +97,18 @@ returns-in_err-wait-clause-refuses c =
 
 pub returns-in_err-wait-clause-held : goal.returns-in_err-wait-clause-held
 returns-in_err-wait-clause-held c =
-    let blocks = sym (same_enters c.self.inside c.self.invariant c.args.t c.args.n c.args.mode) ∙ sym c.if-would_grant.ensures in
-    λ passes enters held. clash enters (ap (λ (v : TableView). enters_at (state_of v) c.args.t.slot c.args.n c.args.mode) (sym c.self.view_is) ∙ blocks)
+    λ passes enters held. clash enters (ap (λ (v : TableView). enters_at (state_of v) c.args.t.slot c.args.n c.args.mode) (sym c.self.view_is) ∙ blocks (goal.at.returns-in_err-wait-clause-held c).After-wait)
 
 pub settle_asker-told-requires-clause-orderly : goal.settle_asker-told-requires-clause-orderly
 settle_asker-told-requires-clause-orderly c =
-    let may = subst (λ (v : TableView). MayLock (state_of v) c.args.t c.args.n c.args.mode) (sym c.self.view_is) (may_lock_by (state_of c.args.self.now) c.args.t c.args.n c.args.mode c.in_ok-check_lock.field-0 c.in_ok-check_lock.ensures) in
-    let blocks = sym (same_enters c.self.inside c.self.invariant c.args.t c.args.n c.args.mode) ∙ sym c.if-would_grant.ensures in
-    waiting_orderly c.self.inside c.self.invariant c.args.t c.args.n c.args.mode may blocks c.wait.new.self c.in_ok-wait.ensures.state
+    let at = goal.at.settle_asker-told-requires-clause-orderly c in
+    waiting_orderly c.self.inside c.self.invariant c.args.t c.args.n c.args.mode (may at.After-would_grant) (blocks at.After-wait) c.wait.new.self c.in_ok-wait.ensures.state
 
 pub invariant_of-self-2 : goal.invariant_of-self-2
 invariant_of-self-2 c =
-    let may = subst (λ (v : TableView). MayLock (state_of v) c.args.t c.args.n c.args.mode) (sym c.self.view_is) (may_lock_by (state_of c.args.self.now) c.args.t c.args.n c.args.mode c.in_ok-check_lock.field-0 c.in_ok-check_lock.ensures) in
-    let blocks = sym (same_enters c.self.inside c.self.invariant c.args.t c.args.n c.args.mode) ∙ sym c.if-would_grant.ensures in
+    let at = goal.at.invariant_of-self-2 c in
     let settled = c.settle_asker-told.ensures in
-    sound_locked c.self.inside c.self.invariant c.args.t c.args.n c.args.mode may blocks c.wait.new.self c.in_ok-wait.ensures.state c.settle_asker-told.new.self settled.state settled.sound settled.agree settled.count
+    sound_locked c.self.inside c.self.invariant c.args.t c.args.n c.args.mode (may at.After-would_grant) (blocks at.After-wait) c.wait.new.self c.in_ok-wait.ensures.state c.settle_asker-told.new.self settled.state settled.sound settled.agree settled.count
 
 pub returns-clause-answer : goal.returns-clause-answer
 returns-clause-answer c =
@@ -108,16 +117,14 @@ returns-clause-answer c =
 
 pub returns-clause-told : goal.returns-clause-told
 returns-clause-told c =
-    let may = subst (λ (v : TableView). MayLock (state_of v) c.args.t c.args.n c.args.mode) (sym c.self.view_is) (may_lock_by (state_of c.args.self.now) c.args.t c.args.n c.args.mode c.in_ok-check_lock.field-0 c.in_ok-check_lock.ensures) in
-    let blocks = sym (same_enters c.self.inside c.self.invariant c.args.t c.args.n c.args.mode) ∙ sym c.if-would_grant.ensures in
+    let at = goal.at.returns-clause-told c in
     let after = state_of (view_of (record c.self.inside { locks = c.settle_asker-told.new.self })) in
-    told_locked c.self.inside c.self.invariant c.args.t c.args.n c.args.mode may blocks c.wait.new.self c.in_ok-wait.ensures.state c.settle_asker-told.new.self c.settle_asker-told.ensures.state
+    told_locked c.self.inside c.self.invariant c.args.t c.args.n c.args.mode (may at.After-would_grant) (blocks at.After-wait) c.wait.new.self c.in_ok-wait.ensures.state c.settle_asker-told.new.self c.settle_asker-told.ensures.state
     c.settle_asker-told.result.items c.settle_asker-told.ensures.told
     ∙ ap (λ (v : TableView). told_but c.args.t.slot (state_of v) after) c.self.view_is
 
 pub returns-clause-state : goal.returns-clause-state
 returns-clause-state c =
-    let may = subst (λ (v : TableView). MayLock (state_of v) c.args.t c.args.n c.args.mode) (sym c.self.view_is) (may_lock_by (state_of c.args.self.now) c.args.t c.args.n c.args.mode c.in_ok-check_lock.field-0 c.in_ok-check_lock.ensures) in
-    let blocks = sym (same_enters c.self.inside c.self.invariant c.args.t c.args.n c.args.mode) ∙ sym c.if-would_grant.ensures in
+    let at = goal.at.returns-clause-state c in
     subst (λ (v : TableView). Locks (state_of v) c.args.t.slot c.args.n c.args.mode (state_of (view_of (record c.self.inside { locks = c.settle_asker-told.new.self })))) c.self.view_is
-    (state_locked c.self.inside c.self.invariant c.args.t c.args.n c.args.mode may blocks c.wait.new.self c.in_ok-wait.ensures.state c.settle_asker-told.new.self c.settle_asker-told.ensures.state)
+    (state_locked c.self.inside c.self.invariant c.args.t c.args.n c.args.mode (may at.After-would_grant) (blocks at.After-wait) c.wait.new.self c.in_ok-wait.ensures.state c.settle_asker-told.new.self c.settle_asker-told.ensures.state)

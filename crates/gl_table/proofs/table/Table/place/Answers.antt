@@ -1,6 +1,5 @@
-use Rattle.std.specs.Prelude.{◌≡◌, ◌+◌, ◌<◌, ◌∷◌, [], Err, None, Option, Some, ℕ, false, length, nat_lt, true}
-use Rattle.std.proofs.Common.{ap, subst, ◌∙◌, sym, arith, rules}
-use Rattle.std.proofs.lemmas.Bool.Decides.{nat_tests}
+use Rattle.std.specs.Prelude.{◌≡◌, ◌+◌, ◌∷◌, [], Err, None, Option, Some, false, length, nat_lt, true}
+use Rattle.std.proofs.Common.{ap, subst, ◌∙◌, sym, rules}
 use Rattle.gl_modes.specs.declared.mode.Mode.TheVariants.{X}
 use Rattle.gl_modes.specs.declared.node.NodeId.{NodeId}
 use Rattle.gl_modes.specs.declared.refusal.Refusal.{Refusal}
@@ -35,14 +34,11 @@ sound_then c = sound_roomy c.self.inside c.self.invariant c.prepare.new.self c.p
 same : (c : After-add_record) → state_of (view_of (roomy c)) ≡ state_of c.args.self.now
 same c = same_state c.self.inside c.self.invariant c.prepare.new.self c.prepare.ensures.headers c.prepare.ensures.seats c.prepare.ensures.lists ∙ ap (λ (v : TableView). state_of v) c.self.view_is
 
-fewer_than : (n k : ℕ) → k ≡ n → k < 65536 → nat_lt 65536 (n + 1) ≡ false
-fewer_than n k e low = grind (arith, nat_tests)
-
 not_worn : (c : After-add_record) → births_worn (graph_of c.self.inside.graph) ≡ false
 not_worn c = sym c.worn.ensures ∙ c.if-worn.false
 
 few : (c : After-add_record) → nat_lt 65536 (node_count (graph_of c.self.inside.graph) + 1) ≡ false
-few c = fewer_than (node_count (graph_of c.self.inside.graph)) c.len.result c.len.ensures.count (omega arith)
+few c = sym c.is_full.ensures ∙ c.if-is_full.false
 
 -- all tests but for memory are passed
 passes : (c : After-add_record) → record_refusal (graph_of c.self.inside.graph) c.args.file c.args.keys.now ≡ None
