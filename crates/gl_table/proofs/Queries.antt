@@ -1,18 +1,18 @@
 -- What is asked of a table: what its lists and headers say is what its state says.
-use Rattle.std.specs.Prelude.{◌≡◌, ℕ, Bool, true, false, List, [], ◌∷◌, Option, Some, None, Ok, if◌then◌else◌, length}
-use Rattle.std.proofs.Common.{refl, sym, ap, ap₂, ◌∙◌}
+use Rattle.std.specs.Prelude.{◌≡◌, ℕ, Bool, true, false, List, [], ◌∷◌, Option, Some, None, Result, Ok, Err, if◌then◌else◌, length}
+use Rattle.std.proofs.Common.{refl, sym, ap, ap₂, subst, ◌∙◌}
 use Rattle.std.proofs.Math.Path.{fun_ext}
 use Rattle.gl_modes.specs.declared.node.NodeId.{NodeId}
 use Rattle.gl_modes.specs.declared.refusal.Refusal.{Refusal}
-use Rattle.gl_graph.specs.Refusals.{first_refusal}
+use Rattle.gl_graph.specs.Refusals.{Refuses, first_refusal}
 use Rattle.gl_graph.specs.View.{graph_of}
-use Rattle.gl_graph.proofs.Look.{none_some}
+use Rattle.gl_graph.proofs.Look.{no, none_some}
 use Rattle.gl_header.specs.Header.{group_of, holds}
 use Rattle.gl_header.specs.State.{slot_limit}
 use Rattle.gl_header.proofs.GroupOf.{group_of-limit}
 use Rattle.gl_table.specs.declared.seat.Seat.{Seat}
 use Rattle.gl_table.specs.declared.table.Table.TheInside.{Inside}
-use Rattle.gl_table.specs.Answers.{answered}
+use Rattle.gl_table.specs.Answers.{RefusesOnly, answered}
 use Rattle.gl_table.specs.BoardOf.{board_of}
 use Rattle.gl_table.specs.Covered.{held_children}
 use Rattle.gl_table.specs.Effects.{effect_on, effective}
@@ -37,6 +37,22 @@ both_pass o p a b = ap₂ (λ x y. first_refusal (x ∷ y ∷ [])) a b
 pub passed : {A : Type 0} (b : Bool) (o : Option A) (x : A) → Some x ≡ (if b then o else None) → b ≡ true
 passed true o x e = refl
 passed false o x e = absurd (none_some (sym e))
+
+-- a refusal is handed on by a call that answers something else
+module _ (A : Type 0) {B : Type 0} (o : Option Refusal) (r : Refusal) (result : Result B Refusal) (is : result ≡ Err r) where
+  pub refuses_as : Refuses {T = A} o (Err r) → Refuses {T = B} o result
+  refuses_as refuses = subst (λ (x : Result B Refusal). Refuses o x) (sym is) (by o refuses)
+    where
+      by : (p : Option Refusal) → Refuses {T = A} p (Err r) → Refuses {T = B} p (Err r)
+      by None h = h
+      by (Some x) h = cc
+
+  pub refuses_only_as : RefusesOnly {A = A} o (Err r) → RefusesOnly {A = B} o result
+  refuses_only_as refuses = subst (λ (x : Result B Refusal). RefusesOnly o x) (sym is) (by o refuses)
+    where
+      by : (p : Option Refusal) → RefusesOnly {A = A} p (Err r) → RefusesOnly {A = B} p (Err r)
+      by None h = absurd (no h)
+      by (Some x) h = cc
 
 module _ (i : Inside) (sound : IsSound i) (v : TableView) (view : view_of i ≡ v) where
   pub modes-seen : (t : ℕ) (n : NodeId) → held_by i.locks.lists.items t n ≡ (state_of v).held t n

@@ -1,6 +1,6 @@
 //! Deadlocks are found, and victims chosen.
 
-ghost use Rattle.std.specs.Prelude.{◌≡◌, ◌<◌, ◌==◌, ℕ, IfNone, IfSome, None, Some, false, length, true};
+ghost use Rattle.std.specs.Prelude.{◌≡◌, ◌<◌, ◌==◌, [], ℕ, IfNone, IfSome, None, Some, false, length, true};
 ghost use Rattle.gl_graph.specs.Graph.{Graph as AGraph};
 ghost use Rattle.gl_graph.specs.View.{graph_of};
 ghost use Rattle.gl_waits.specs.Waits.{IsOnCycleOf, IsOnNoCycle, IsYoungest};
@@ -24,9 +24,10 @@ use gl_graph::Graph;
 use gl_waits::{on_cycle, youngest};
 
 impl Locks {
-    /// With detection at block, settles a slot that has begun to wait. Answers who else is told, by
-    /// rising slot.
-    pub(crate) fn settle_asker(&mut self, graph: &Graph, detect: Detect, slot: u8) -> Told
+    /// With detection at block, settles a slot that has begun to wait. Puts who else is told into an
+    /// empty list, by rising slot.
+    pub(crate) fn settle_asker(&mut self, graph: &Graph, detect: Detect, slot: u8, told: &mut Told)
+        requires empty { told.old.items ≡ [] }
         requires sound { AreSound self.old }
         requires orderly { IsOrderly (state_on (graph_of graph.now) self.old) }
         requires agree { (u : ℕ) → Agrees (state_on (graph_of graph.now) self.old) self.old.lists.items u }
@@ -36,14 +37,12 @@ impl Locks {
         ensures state { WaitSettles detect (state_on (graph_of graph.now) self.old) slot (state_on (graph_of graph.now) self.new) }
         ensures agree { (u : ℕ) → Agrees (state_on (graph_of graph.now) self.new) self.new.lists.items u }
         ensures count { (u : ℕ) → CountsHeld (state_on (graph_of graph.now) self.new) self.new.lists.items u }
-        ensures told { result.items ≡ told_but slot (state_on (graph_of graph.now) self.old) (state_on (graph_of graph.now) self.new) }
+        ensures told { told.new.items ≡ told_but slot (state_on (graph_of graph.now) self.old) (state_on (graph_of graph.now) self.new) }
     {
-        let mut told = Told::new();
         if matches!(detect, Detect::AtBlock) {
-            self.settle(graph, slot, &mut told);
+            self.settle(graph, slot, told);
             told.retain(|notice| notice.0.slot != slot);
         }
-        told
     }
 
     /// Condemns the youngest of those on a cycle with a slot, until the slot is on none. Each time

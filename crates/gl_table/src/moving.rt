@@ -92,10 +92,19 @@ fn forget(lists: &mut Vec<LockList>, slot: u8, node: NodeId)
 impl Locks {
     /// A node has moved. Where the slot that moved it holds it, one held child less is counted of each
     /// old parent, and one more of each new one. Waits on the node that do not meet the rule of the
-    /// graph over its new parents are over. Answers who is told of that, by rising slot.
+    /// graph over its new parents are over. Puts who is told of that into an empty list, by rising
+    /// slot.
     ///
     /// Linear in the parents and the waiters. It takes no memory.
-    pub(crate) fn follow(&mut self, graph: &Graph, slot: u8, node: NodeId, old: &[NodeId]) -> Told
+    pub(crate) fn follow(
+        &mut self,
+        graph: &Graph,
+        slot: u8,
+        node: NodeId,
+        told: &mut Told,
+        old: &[NodeId],
+    )
+        requires empty { told.old.items ≡ [] }
         requires sound { AreSound self.old }
         requires orderly { IsOrderly (state_on (graph_of graph.now) self.old) }
         requires agree { (u : ℕ) → Agrees (state_on (graph_of graph.now) self.old) self.old.lists.items u }
@@ -111,17 +120,15 @@ impl Locks {
         ensures counts { (u : ℕ) (q : Node) →
             counted_by self.new.lists.items u q + (if (u == slot) && holds (members (state_on (graph_of graph.now) self.old) node) slot then count_by (same_node q) old.now else 0)
             ≡ counted_by self.old.lists.items u q + (if (u == slot) && holds (members (state_on (graph_of graph.now) self.old) node) slot then count_by (same_node q) (parents_of (graph_of graph.now) node) else 0) }
-        ensures by_slot { IsBySlot result.items }
-        ensures tells { (u : ℕ) → notices_in result.items u ≡
+        ensures by_slot { IsBySlot told.new.items }
+        ensures tells { (u : ℕ) → notices_in told.new.items u ≡
             (if is_among_waiters u (filter (λ w. not (stays (state_on (graph_of graph.now) self.old) (parents_of (graph_of graph.now) node) w)) ((state_on (graph_of graph.now) self.old).queue node))
             then Some (record { slot = u; age = age_in ((state_on (graph_of graph.now) self.old).txns u) }, notice.Moved)
             else None) }
     {
         let list = &mut self.lists[slot as usize];
         recount(list, node, old, graph.parents(node));
-        let mut told = Told::new();
-        self.turn_away(graph, node, &mut told);
-        told
+        self.turn_away(graph, node, told);
     }
 
     /// Ends the waits on a node that do not meet the rule of the graph: who waited so is active, and

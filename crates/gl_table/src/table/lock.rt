@@ -1,6 +1,6 @@
 //! Locks are asked for.
 
-ghost use Rattle.std.specs.Prelude.{◌≡◌, ◌&&◌, ◌||◌, IfErr, IfOk, IsOk, None, OnErr, OnOk, not, true};
+ghost use Rattle.std.specs.Prelude.{◌≡◌, ◌&&◌, ◌||◌, [], IfErr, IfOk, IsOk, None, OnErr, OnOk, not, true};
 ghost use Rattle.gl_modes.specs.declared.mode.Mode.TheVariants.{NL, S, X};
 ghost use Rattle.gl_modes.specs.Modes.{same_mode};
 ghost use Rattle.gl_graph.specs.Graph.{shape_of};
@@ -40,14 +40,38 @@ impl Table {
             → holds (members (state_of self.old) n) t.slot ≡ true → IsOk result }
         ensures err { OnErr result (self.new ≡ self.old) }
     {
+        let mut told = Told::new();
+        let locked = self.lock_telling(t, n, mode, &mut told)?;
+        Ok((locked, told))
+    }
+
+    /// As `lock`, with the notices put into an empty list.
+    pub fn lock_telling(
+        &mut self,
+        t: TxnId,
+        n: NodeId,
+        mode: Mode,
+        notices: &mut Told,
+    ) -> Result<Locked, Refusal>
+        requires empty { notices.old.items ≡ [] }
+        ensures answer { IfOk result (λ locked. locked ≡ locked_as ((state_of self.new).held t.slot n) (status_of (state_of self.new) t.slot)) }
+        ensures told { OnOk result (notices.new.items ≡ told_but t.slot (state_of self.old) (state_of self.new)) }
+        ensures untold { OnErr result (notices.new ≡ notices.old) }
+        ensures state { OnOk result (Locks (state_of self.old) t.slot n mode (state_of self.new)) }
+        ensures refuses { Refuses (first_refusal (lock_tests (state_of self.old) t n mode)) result }
+        ensures held { first_refusal (lock_tests (state_of self.old) t n mode) ≡ None → enters_at (state_of self.old) t.slot n mode ≡ true
+            → holds (members (state_of self.old) n) t.slot ≡ true → IsOk result }
+        ensures err { OnErr result (self.new ≡ self.old) }
+    {
         self.check_lock(t, n, mode)?;
         if would_grant(&self.locks.headers, t.slot, n, mode) {
             let granted = self.locks.grant(&self.graph, t.slot, n, mode)?;
-            return Ok((Locked::Granted(granted), Told::new()));
+            return Ok(Locked::Granted(granted));
         }
         self.locks.wait(&self.graph, t.slot, n, mode)?;
-        let told = self.locks.settle_asker(&self.graph, self.detect, t.slot);
-        Ok((self.locks.outcome(t.slot, n), told))
+        self.locks
+            .settle_asker(&self.graph, self.detect, t.slot, notices);
+        Ok(self.locks.outcome(t.slot, n))
     }
 
     /// Asks for a mode on a node, and is refused where it cannot be granted at once. What is granted

@@ -1,6 +1,6 @@
 //! Nodes move.
 
-ghost use Rattle.std.specs.Prelude.{◌≡◌, ◌⊎◌, ◌&&◌, IfErr, IfOk, None, OnErr, OnOk, Some, true};
+ghost use Rattle.std.specs.Prelude.{◌≡◌, ◌⊎◌, ◌&&◌, [], IfErr, IfOk, None, OnErr, OnOk, Some, true};
 ghost use Rattle.gl_modes.specs.declared.refusal.Refusal.{Refusal as ARefusal};
 ghost use Rattle.gl_graph.specs.Changes.{rekeyed, rekeyed_parents, with_parents};
 ghost use Rattle.gl_graph.specs.Graph.{first_parent, parents_of, shape_of};
@@ -38,9 +38,33 @@ impl Table {
         ensures state { state_of self.new ≡ moved_to (state_of self.old) rec (rekeyed_parents (state_of self.old).graph rec index key) (rekeyed (state_of self.old).graph rec index key) }
         ensures told { result.items ≡ told (state_of self.old) (state_of self.new) }
     {
+        let mut told = Told::new();
+        self.reparent_telling(t, rec, index, key, &mut told);
+        told
+    }
+
+    /// As `reparent`, with the notices put into an empty list.
+    pub fn reparent_telling(
+        &mut self,
+        t: TxnId,
+        rec: NodeId,
+        index: NodeId,
+        key: u64,
+        notices: &mut Told,
+    )
+        requires empty { notices.old.items ≡ [] }
+        requires active { status_of (state_of self.old) t.slot ≡ Some Active }
+        requires record { is_record_shape (shape_of (state_of self.old).graph rec) ≡ true }
+        requires index { is_index_of_shape (first_parent (state_of self.old).graph rec) (shape_of (state_of self.old).graph index) ≡ true }
+        requires exclusive { need_exclusive (state_of self.old) t.slot rec true (rekeyed_parents (state_of self.old).graph rec index key) ≡ None }
+        requires parents { need_new_parents (state_of self.old) t.slot rec (rekeyed_parents (state_of self.old).graph rec index key) ≡ None }
+        ensures state { state_of self.new ≡ moved_to (state_of self.old) rec (rekeyed_parents (state_of self.old).graph rec index key) (rekeyed (state_of self.old).graph rec index key) }
+        ensures told { notices.new.items ≡ told (state_of self.old) (state_of self.new) }
+    {
         let old = parents_before(&self.graph, rec);
         self.graph.set_key(rec, index, key);
-        self.locks.follow(&self.graph, t.slot, rec, old.as_slice())
+        self.locks
+            .follow(&self.graph, t.slot, rec, notices, old.as_slice());
     }
 
     /// Gives an inner node, a file or an index other parents: living, different inner nodes, at most
@@ -66,8 +90,36 @@ impl Table {
         ensures refused { IfErr result (λ r. (r ≡ ARefusal.NoMemory) ⊎ (first_cycle (state_of self.old).graph n parents.now ≡ Some r)) }
         ensures err { OnErr result (self.new ≡ self.old) }
     {
+        let mut told = Told::new();
+        self.regraft_telling(t, n, parents, &mut told)?;
+        Ok(told)
+    }
+
+    /// As `regraft`, with the notices put into an empty list.
+    pub fn regraft_telling(
+        &mut self,
+        t: TxnId,
+        n: NodeId,
+        parents: &[NodeId],
+        notices: &mut Told,
+    ) -> Result<(), Refusal>
+        requires empty { notices.old.items ≡ [] }
+        requires active { status_of (state_of self.old) t.slot ≡ Some Active }
+        requires movable { is_movable_shape (shape_of (state_of self.old).graph n) ≡ true }
+        requires inner { AreInnerParents (state_of self.old).graph (least_parents (shape_of (state_of self.old).graph n)) parents.now }
+        requires exclusive { need_exclusive (state_of self.old) t.slot n (some_given (parents_of (state_of self.old).graph n) && some_given parents.now) parents.now ≡ None }
+        requires rule { need_new_parents (state_of self.old) t.slot n parents.now ≡ None }
+        ensures told { OnOk result (notices.new.items ≡ told (state_of self.old) (state_of self.new)) }
+        ensures untold { OnErr result (notices.new ≡ notices.old) }
+        ensures state { OnOk result (state_of self.new ≡ moved_to (state_of self.old) n parents.now (with_parents (state_of self.old).graph n parents.now)) }
+        ensures clear { OnOk result (first_cycle (state_of self.old).graph n parents.now ≡ None) }
+        ensures refused { IfErr result (λ r. (r ≡ ARefusal.NoMemory) ⊎ (first_cycle (state_of self.old).graph n parents.now ≡ Some r)) }
+        ensures err { OnErr result (self.new ≡ self.old) }
+    {
         let old = parents_before(&self.graph, n);
         self.graph.set_parents(n, parents)?;
-        Ok(self.locks.follow(&self.graph, t.slot, n, old.as_slice()))
+        self.locks
+            .follow(&self.graph, t.slot, n, notices, old.as_slice());
+        Ok(())
     }
 }

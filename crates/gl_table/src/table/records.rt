@@ -60,8 +60,20 @@ impl Table {
         ensures told { result.items ≡ told (state_of self.old) (state_of self.new) }
     {
         let mut told = Told::new();
-        self.locks.vacate(&self.graph, t.slot, rec, &mut told);
-        self.graph.remove_record(rec);
+        self.remove_telling(t, rec, &mut told);
         told
+    }
+
+    /// As `remove`, with the notices put into an empty list.
+    pub fn remove_telling(&mut self, t: TxnId, rec: NodeId, notices: &mut Told)
+        requires empty { notices.old.items ≡ [] }
+        requires active { status_of (state_of self.old) t.slot ≡ Some Active }
+        requires record { is_record_shape (shape_of (state_of self.old).graph rec) ≡ true }
+        requires exclusive { same_mode ((state_of self.old).held t.slot rec) X ≡ true }
+        ensures state { state_of self.new ≡ deleted (state_of self.old) rec }
+        ensures told { notices.new.items ≡ told (state_of self.old) (state_of self.new) }
+    {
+        self.locks.vacate(&self.graph, t.slot, rec, notices);
+        self.graph.remove_record(rec);
     }
 }

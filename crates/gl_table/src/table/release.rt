@@ -1,6 +1,6 @@
 //! Locks are given back.
 
-ghost use Rattle.std.specs.Prelude.{◌≡◌, IfOk, OnErr, OnOk};
+ghost use Rattle.std.specs.Prelude.{◌≡◌, [], IfOk, OnErr, OnOk};
 ghost use Rattle.gl_graph.specs.Refusals.{first_refusal};
 ghost use Rattle.gl_table.specs.Answers.{RefusesOnly};
 ghost use Rattle.gl_table.specs.Calls.{released, unlocked};
@@ -25,12 +25,25 @@ impl Table {
         ensures refuses { RefusesOnly (first_refusal (unlock_tests (state_of self.old) t n)) result }
         ensures err { OnErr result (self.new ≡ self.old) }
     {
+        let mut told = Told::new();
+        self.unlock_telling(t, n, &mut told)?;
+        Ok(told)
+    }
+
+    /// As `unlock`, with the notices put into an empty list.
+    pub fn unlock_telling(&mut self, t: TxnId, n: NodeId, notices: &mut Told) -> Result<(), Refusal>
+        requires empty { notices.old.items ≡ [] }
+        ensures told { OnOk result (notices.new.items ≡ told (state_of self.old) (state_of self.new)) }
+        ensures untold { OnErr result (notices.new ≡ notices.old) }
+        ensures state { OnOk result (state_of self.new ≡ unlocked (state_of self.old) t.slot n) }
+        ensures refuses { RefusesOnly (first_refusal (unlock_tests (state_of self.old) t n)) result }
+        ensures err { OnErr result (self.new ≡ self.old) }
+    {
         self.check_active(t)?;
         self.check_node(n)?;
         self.check_childless(t, n)?;
-        let mut told = Told::new();
-        self.locks.release(&self.graph, t.slot, n, &mut told);
-        Ok(told)
+        self.locks.release(&self.graph, t.slot, n, notices);
+        Ok(())
     }
 
     /// Ends a transaction and releases everything; each node that it held grants from its front.
@@ -43,10 +56,23 @@ impl Table {
         ensures refuses { RefusesOnly (first_refusal (commit_tests (state_of self.old) t)) result }
         ensures err { OnErr result (self.new ≡ self.old) }
     {
-        self.check_active(t)?;
         let mut told = Told::new();
-        self.locks.end(&self.graph, t.slot, &mut told);
+        self.commit_telling(t, &mut told)?;
         Ok(told)
+    }
+
+    /// As `commit`, with the notices put into an empty list.
+    pub fn commit_telling(&mut self, t: TxnId, notices: &mut Told) -> Result<(), Refusal>
+        requires empty { notices.old.items ≡ [] }
+        ensures told { OnOk result (notices.new.items ≡ told (state_of self.old) (state_of self.new)) }
+        ensures untold { OnErr result (notices.new ≡ notices.old) }
+        ensures state { OnOk result (state_of self.new ≡ released (state_of self.old) t.slot) }
+        ensures refuses { RefusesOnly (first_refusal (commit_tests (state_of self.old) t)) result }
+        ensures err { OnErr result (self.new ≡ self.old) }
+    {
+        self.check_active(t)?;
+        self.locks.end(&self.graph, t.slot, notices);
+        Ok(())
     }
 
     /// Ends a transaction whatever it is doing, takes back its wait, and releases everything; each
@@ -60,9 +86,22 @@ impl Table {
         ensures refuses { RefusesOnly (first_refusal (living_tests (state_of self.old) t)) result }
         ensures err { OnErr result (self.new ≡ self.old) }
     {
-        self.check_txn(t)?;
         let mut told = Told::new();
-        self.locks.abort(&self.graph, t.slot, &mut told);
+        self.abort_telling(t, &mut told)?;
         Ok(told)
+    }
+
+    /// As `abort`, with the notices put into an empty list.
+    pub fn abort_telling(&mut self, t: TxnId, notices: &mut Told) -> Result<(), Refusal>
+        requires empty { notices.old.items ≡ [] }
+        ensures told { OnOk result (notices.new.items ≡ told (state_of self.old) (state_of self.new)) }
+        ensures untold { OnErr result (notices.new ≡ notices.old) }
+        ensures state { OnOk result (state_of self.new ≡ released (state_of self.old) t.slot) }
+        ensures refuses { RefusesOnly (first_refusal (living_tests (state_of self.old) t)) result }
+        ensures err { OnErr result (self.new ≡ self.old) }
+    {
+        self.check_txn(t)?;
+        self.locks.abort(&self.graph, t.slot, notices);
+        Ok(())
     }
 }

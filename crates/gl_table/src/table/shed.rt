@@ -1,6 +1,6 @@
 //! Locks on children that a lock on their parent covers.
 
-ghost use Rattle.std.specs.Prelude.{◌≡◌, ◌-◌, Some, true};
+ghost use Rattle.std.specs.Prelude.{◌≡◌, ◌-◌, [], Some, true};
 ghost use Rattle.gl_modes.specs.declared.mode.Mode.TheVariants.{S};
 ghost use Rattle.gl_modes.specs.Modes.{is_at_least};
 ghost use Rattle.gl_table.specs.Calls.{shed};
@@ -31,9 +31,23 @@ impl Table {
         ensures told { result.2.items ≡ told (state_of self.old) (state_of self.new) }
     {
         let mut told = Told::new();
+        let (released, kept) = self.shed_telling(t, n, &mut told);
+        (released, kept, told)
+    }
+
+    /// As `shed`, with the notices put into an empty list.
+    pub fn shed_telling(&mut self, t: TxnId, n: NodeId, notices: &mut Told) -> (u32, u32)
+        requires empty { notices.old.items ≡ [] }
+        requires active { status_of (state_of self.old) t.slot ≡ Some Active }
+        requires reads { is_at_least ((state_of self.old).held t.slot n) S ≡ true }
+        ensures state { state_of self.new ≡ shed (state_of self.old) t.slot n }
+        ensures released { result.0 ≡ covered_children (state_of self.old) t.slot n }
+        ensures kept { result.1 ≡ held_children (state_of self.old) t.slot n - covered_children (state_of self.old) t.slot n }
+        ensures told { notices.new.items ≡ told (state_of self.old) (state_of self.new) }
+    {
         let held = self.locks.children(t.slot, n).unwrap_or(0);
-        self.locks.shed(&self.graph, t.slot, n, &mut told);
+        self.locks.shed(&self.graph, t.slot, n, notices);
         let kept = self.locks.children(t.slot, n).unwrap_or(0);
-        (held - kept, kept, told)
+        (held - kept, kept)
     }
 }

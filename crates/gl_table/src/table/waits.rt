@@ -1,6 +1,6 @@
 //! Waits are given up.
 
-ghost use Rattle.std.specs.Prelude.{◌≡◌, IfOk, OnErr, OnOk, true};
+ghost use Rattle.std.specs.Prelude.{◌≡◌, [], IfOk, OnErr, OnOk, true};
 ghost use Rattle.gl_graph.specs.Refusals.{first_refusal};
 ghost use Rattle.gl_table.specs.Answers.{RefusesOnly};
 ghost use Rattle.gl_table.specs.Calls.{cancelled};
@@ -26,11 +26,24 @@ impl Table {
         ensures refuses { RefusesOnly (first_refusal (cancel_tests (state_of self.old) t)) result }
         ensures err { OnErr result (self.new ≡ self.old) }
     {
-        let node = self.check_waiting(t)?;
         let mut told = Told::new();
-        self.locks
-            .withdraw(&self.graph, t.slot, node, Status::Active, &mut told);
+        self.cancel_telling(t, &mut told)?;
         Ok(told)
+    }
+
+    /// As `cancel`, with the notices put into an empty list.
+    pub fn cancel_telling(&mut self, t: TxnId, notices: &mut Told) -> Result<(), Refusal>
+        requires empty { notices.old.items ≡ [] }
+        ensures told { OnOk result (notices.new.items ≡ told_but t.slot (state_of self.old) (state_of self.new)) }
+        ensures untold { OnErr result (notices.new ≡ notices.old) }
+        ensures state { OnOk result (state_of self.new ≡ cancelled (state_of self.old) t.slot) }
+        ensures refuses { RefusesOnly (first_refusal (cancel_tests (state_of self.old) t)) result }
+        ensures err { OnErr result (self.new ≡ self.old) }
+    {
+        let node = self.check_waiting(t)?;
+        self.locks
+            .withdraw(&self.graph, t.slot, node, Status::Active, notices);
+        Ok(())
     }
 
     /// While the transaction waits in a circle, condemns the youngest of those on a circle with it.
@@ -44,10 +57,23 @@ impl Table {
         ensures refuses { RefusesOnly (first_refusal (living_tests (state_of self.old) t)) result }
         ensures err { OnErr result (self.new ≡ self.old) }
     {
-        self.check_txn(t)?;
         let mut told = Told::new();
-        self.locks.settle(&self.graph, t.slot, &mut told);
+        self.settle_telling(t, &mut told)?;
         Ok(told)
+    }
+
+    /// As `settle`, with the notices put into an empty list.
+    pub fn settle_telling(&mut self, t: TxnId, notices: &mut Told) -> Result<(), Refusal>
+        requires empty { notices.old.items ≡ [] }
+        ensures told { OnOk result (notices.new.items ≡ told (state_of self.old) (state_of self.new)) }
+        ensures untold { OnErr result (notices.new ≡ notices.old) }
+        ensures state { OnOk result (Settled (state_of self.old) t.slot (state_of self.new)) }
+        ensures refuses { RefusesOnly (first_refusal (living_tests (state_of self.old) t)) result }
+        ensures err { OnErr result (self.new ≡ self.old) }
+    {
+        self.check_txn(t)?;
+        self.locks.settle(&self.graph, t.slot, notices);
+        Ok(())
     }
 
     /// The node that the transaction waits for, where its wait can be taken back.

@@ -14,7 +14,7 @@ pub returns-then-matches-clause-told : goal.returns-then-matches-clause-told
 returns-then-matches-clause-told c =
     let before = state_on (graph_of c.args.graph.now) c.args.self.now in
     let after = state_on (graph_of c.args.graph.now) c.settle.new.self in
-    let none = c.new-told.ensures in
+    let none = c.requires.empty in
     let each = c.settle.ensures.tells before (way_here before c.requires.orderly) (λ u. ap (λ xs. notices_in xs u) none ∙ sym (nobody_told before u)) in
     let kept : c.retain.new.self.items ≡ filter (λ x. not (x.0.slot == c.args.slot)) c.settle.new.told.items = filter-from_retain _ (λ x. not (x.0.slot == c.args.slot)) _ (λ x b f y call. search rules) _ _ c.retain.ensures.filtered in
     kept ∙ ap (filter (λ x. not (x.0.slot == c.args.slot))) (told_in_order before after c.requires.orderly.below c.settle.new.told.items c.settle.ensures.by_slot each)
@@ -22,4 +22,4 @@ returns-then-matches-clause-told c =
 pub returns-else-matches-clause-told : goal.returns-else-matches-clause-told
 returns-else-matches-clause-told c =
     let before = state_on (graph_of c.args.graph.now) c.args.self.now in
-    c.new-told.ensures ∙ told_nothing before before c.args.slot c.requires.orderly.below (λ u. refl)
+    c.requires.empty ∙ told_nothing before before c.args.slot c.requires.orderly.below (λ u. refl)

@@ -11,7 +11,7 @@ use Rattle.gl_table.specs.Table.{TableView, state_of}
 use Rattle.gl_table.specs.Tellings.{told}
 use Rattle.gl_table.proofs.TableCalls.{orderly}
 use Rattle.gl_table.proofs.TableSheds.{no_more_kept, number_kept, number_released, sound_shed, state_shed, told_shed}
-use Rattle.gl_table.proofs.table.Table.shed.Goals as goal
+use Rattle.gl_table.proofs.table.Table.shed_telling.Goals as goal
 
 pub shed-requires-clause-orderly : goal.shed-requires-clause-orderly
 shed-requires-clause-orderly c = orderly c.self.inside c.self.invariant
@@ -49,5 +49,5 @@ returns-clause-kept c =
 pub returns-clause-told : goal.returns-clause-told
 returns-clause-told c =
     told_shed c.self.inside c.self.invariant c.args.t.slot c.args.n (subst (λ (v : TableView). status_of (state_of v) c.args.t.slot ≡ Some Active) (sym c.self.view_is) c.requires.active) c.shed.new.self c.shed.ensures.state
-    c.new-told.result.items c.shed.new.told.items c.new-told.ensures c.shed.ensures.by_slot c.shed.ensures.tells c.shed.ensures.own
+    c.args.notices.now.items c.shed.new.told.items c.requires.empty c.shed.ensures.by_slot c.shed.ensures.tells c.shed.ensures.own
     ∙ ap (λ (v : TableView). told (state_of v) (state_of (view_of (record c.self.inside { locks = c.shed.new.self })))) c.self.view_is

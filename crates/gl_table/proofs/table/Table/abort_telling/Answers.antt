@@ -5,7 +5,7 @@ use Rattle.gl_table.specs.Table.{TableView, state_of}
 use Rattle.gl_table.specs.Tellings.{told}
 use Rattle.gl_table.proofs.TableCalls.{orderly, sound_released, state_released}
 use Rattle.gl_table.proofs.TableEnds.{told_ended}
-use Rattle.gl_table.proofs.table.Table.abort.Goals as goal
+use Rattle.gl_table.proofs.table.Table.abort_telling.Goals as goal
 
 pub abort-requires-clause-orderly : goal.abort-requires-clause-orderly
 abort-requires-clause-orderly c = orderly c.self.inside c.self.invariant
@@ -19,5 +19,5 @@ returns-clause-state c =
 
 pub returns-clause-told : goal.returns-clause-told
 returns-clause-told c =
-    told_ended c.self.inside c.self.invariant c.args.t.slot c.abort.new.self c.abort.ensures.state c.new-told.result.items c.abort.new.told.items c.new-told.ensures c.abort.ensures.by_slot c.abort.ensures.tells c.abort.ensures.own
+    told_ended c.self.inside c.self.invariant c.args.t.slot c.abort.new.self c.abort.ensures.state c.args.notices.now.items c.abort.new.told.items c.requires.empty c.abort.ensures.by_slot c.abort.ensures.tells c.abort.ensures.own
     ∙ ap (λ (v : TableView). told (state_of v) (state_of (view_of (record c.self.inside { locks = c.abort.new.self })))) c.self.view_is

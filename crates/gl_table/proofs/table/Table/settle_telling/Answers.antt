@@ -5,7 +5,7 @@ use Rattle.gl_table.specs.Tellings.{told}
 use Rattle.gl_table.specs.Waiting.{Settled}
 use Rattle.gl_table.proofs.TableCalls.{orderly}
 use Rattle.gl_table.proofs.TableEnds.{sound_settled, state_settled, told_settled}
-use Rattle.gl_table.proofs.table.Table.settle.Goals as goal
+use Rattle.gl_table.proofs.table.Table.settle_telling.Goals as goal
 
 pub settle-requires-clause-orderly : goal.settle-requires-clause-orderly
 settle-requires-clause-orderly c = orderly c.self.inside c.self.invariant
@@ -20,5 +20,5 @@ returns-clause-state c =
 
 pub returns-clause-told : goal.returns-clause-told
 returns-clause-told c =
-    told_settled c.self.inside c.self.invariant c.args.t.slot c.settle.new.self c.settle.ensures.state c.new-told.result.items c.settle.new.told.items c.new-told.ensures c.settle.ensures.by_slot c.settle.ensures.tells
+    told_settled c.self.inside c.self.invariant c.args.t.slot c.settle.new.self c.settle.ensures.state c.args.notices.now.items c.settle.new.told.items c.requires.empty c.settle.ensures.by_slot c.settle.ensures.tells
     ∙ ap (λ (v : TableView). told (state_of v) (state_of (view_of (record c.self.inside { locks = c.settle.new.self })))) c.self.view_is

@@ -15,7 +15,7 @@ use Rattle.gl_table.specs.Table.{TableView, state_of}
 use Rattle.gl_table.specs.Tellings.{told}
 use Rattle.gl_table.proofs.MovedNodes.{Moves, moved_node}
 use Rattle.gl_table.proofs.TableMoves.{agree_moved, bare_moved, counted_moved, counts_moved, few_moved, listed_moved, move_call, orderly_moved, sound_moved, state_moved, stuck_moved, told_moved}
-use Rattle.gl_table.proofs.table.Table.regraft.Goals as goal
+use Rattle.gl_table.proofs.table.Table.regraft_telling.Goals as goal
 
 abbrev after : goal.After-as_slice → Node → Node
 after c was = moved_node c.args.parents.now was
@@ -72,5 +72,5 @@ returns-clause-state c = let m = made c.before in
 pub returns-clause-told : goal.returns-clause-told
 returns-clause-told c = let m = made c.before in
     told_moved c.self.inside c.self.invariant c.args.t.slot c.args.n m.0 (after c.before m.0) c.set_parents.new.self m.1 c.follow.new.self c.follow.ensures.state
-    c.follow.result.items c.follow.ensures.by_slot c.follow.ensures.tells
+    c.follow.new.told.items c.follow.ensures.by_slot c.follow.ensures.tells
     ∙ ap (λ (v : TableView). told (state_of v) (state_of (view_of (record c.self.inside { graph = c.set_parents.new.self; locks = c.follow.new.self })))) c.self.view_is

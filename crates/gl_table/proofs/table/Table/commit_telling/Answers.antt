@@ -4,7 +4,7 @@ use Rattle.gl_table.specs.Sound.{view_of}
 use Rattle.gl_table.specs.Table.{TableView, state_of}
 use Rattle.gl_table.specs.Tellings.{told}
 use Rattle.gl_table.proofs.TableCalls.{orderly, sound_released, state_released}
-use Rattle.gl_table.proofs.table.Table.commit.Goals as goal
+use Rattle.gl_table.proofs.table.Table.commit_telling.Goals as goal
 use Rattle.gl_table.proofs.TableEnds.{told_ended}
 
 pub end-requires-clause-orderly : goal.end-requires-clause-orderly
@@ -19,5 +19,5 @@ returns-clause-state c =
 
 pub returns-clause-told : goal.returns-clause-told
 returns-clause-told c =
-    told_ended c.self.inside c.self.invariant c.args.t.slot c.end.new.self c.end.ensures.state c.new-told.result.items c.end.new.told.items c.new-told.ensures c.end.ensures.by_slot c.end.ensures.tells c.end.ensures.own
+    told_ended c.self.inside c.self.invariant c.args.t.slot c.end.new.self c.end.ensures.state c.args.notices.now.items c.end.new.told.items c.requires.empty c.end.ensures.by_slot c.end.ensures.tells c.end.ensures.own
     ∙ ap (λ (v : TableView). told (state_of v) (state_of (view_of (record c.self.inside { locks = c.end.new.self })))) c.self.view_is

@@ -7,8 +7,8 @@ use Rattle.gl_table.specs.Table.{TableView, state_of}
 use Rattle.gl_table.specs.Tellings.{told_but}
 use Rattle.gl_table.proofs.TableCalls.{orderly}
 use Rattle.gl_table.proofs.TableEnds.{sound_cancelled, state_cancelled, told_cancelled}
-use Rattle.gl_table.proofs.table.Table.cancel.Goals.{After-withdraw}
-use Rattle.gl_table.proofs.table.Table.cancel.Goals as goal
+use Rattle.gl_table.proofs.table.Table.cancel_telling.Goals.{After-withdraw}
+use Rattle.gl_table.proofs.table.Table.cancel_telling.Goals as goal
 
 pub withdraw-requires-clause-orderly : goal.withdraw-requires-clause-orderly
 withdraw-requires-clause-orderly c = orderly c.self.inside c.self.invariant
@@ -27,5 +27,5 @@ returns-clause-state c =
 
 pub returns-clause-told : goal.returns-clause-told
 returns-clause-told c =
-    told_cancelled c.self.inside c.self.invariant c.args.t.slot c.in_ok-node.node (waits (goal.at.returns-clause-told c).After-withdraw) c.withdraw.new.self c.withdraw.ensures.state c.new-told.result.items c.withdraw.new.told.items c.new-told.ensures c.withdraw.ensures.tells
+    told_cancelled c.self.inside c.self.invariant c.args.t.slot c.in_ok-node.node (waits (goal.at.returns-clause-told c).After-withdraw) c.withdraw.new.self c.withdraw.ensures.state c.args.notices.now.items c.withdraw.new.told.items c.requires.empty c.withdraw.ensures.tells
     ∙ ap (λ (v : TableView). told_but c.args.t.slot (state_of v) (state_of (view_of (record c.self.inside { locks = c.withdraw.new.self })))) c.self.view_is

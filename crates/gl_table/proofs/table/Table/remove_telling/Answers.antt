@@ -12,7 +12,7 @@ use Rattle.gl_table.specs.Table.{TableView, state_of}
 use Rattle.gl_table.specs.Tellings.{Told, told}
 use Rattle.gl_table.proofs.TableCalls.{orderly}
 use Rattle.gl_table.proofs.TableRecords.{held_alone, sound_deleted, state_deleted, told_deleted}
-use Rattle.gl_table.proofs.table.Table.remove.Goals as goal
+use Rattle.gl_table.proofs.table.Table.remove_telling.Goals as goal
 
 pub vacate-requires-clause-orderly : goal.vacate-requires-clause-orderly
 vacate-requires-clause-orderly c = orderly c.self.inside c.self.invariant
@@ -37,6 +37,6 @@ returns-clause-state c =
 pub returns-clause-told : goal.returns-clause-told
 returns-clause-told c =
     let s = state_of (view_of c.self.inside) in
-    let tells = subst (λ (list : Told). FreesTold s.txns (s.queue c.args.rec) list c.vacate.new.told.items) c.new-told.ensures c.vacate.ensures.tells in
+    let tells = subst (λ (list : Told). FreesTold s.txns (s.queue c.args.rec) list c.vacate.new.told.items) c.requires.empty c.vacate.ensures.tells in
     told_deleted c.self.inside c.self.invariant c.args.rec (is_record c) c.vacate.new.self c.remove_record.new.self c.remove_record.ensures.removed c.vacate.ensures.state c.vacate.new.told.items tells
     ∙ ap (λ (v : TableView). told (state_of v) (state_of (view_of (record c.self.inside { graph = c.remove_record.new.self; locks = c.vacate.new.self })))) c.self.view_is
