@@ -31,26 +31,12 @@ use Rattle.gl_catalog.specs.Manager.{IsLawfulManager, ManagerView, counting, sta
 use Rattle.gl_catalog.specs.Replies.{CallSteps, made}
 use Rattle.gl_catalog.specs.Tests.{insert_asks, refusal_of, worn}
 use Rattle.gl_catalog.proofs.Carried.{accepted_step, refused_step}
+use Rattle.gl_catalog.proofs.Wanting.{first_wanting, others_decide}
 use Rattle.gl_graph.proofs.FirstOf.{passed_then, refused_first}
 
 -- the graph of a manager is lawful
 pub lawful_graph : (v w : ManagerView) → v ≡ w → IsLawfulManager v → IsLawfulGraph (state_of w).graph
 lawful_graph v w e law = subst (λ (x : ManagerView). IsLawfulGraph (state_of x).graph) e law.lawful.graph
-
-module _ (held : NodeId → Mode) (p : NodeId) (ps : List NodeId) where
-  -- the first is held, so the others decide
-  pub others_decide : (u : Unit {0}) → Ok u ≡ verdict (first_not_ix held (p ∷ [])) → first_not_ix held (p ∷ ps) ≡ first_not_ix held ps
-  others_decide u h =
-      let none = verdict_ok _ u h in
-      split (is_at_least (held p) IX) (λ e. ap (λ b. if b then first_not_ix held ps else Some (no.NeedParents p)) e)
-      (λ e. absurd (none_some (sym none ∙ ap (λ b. if b then None else Some (no.NeedParents p)) e)))
-
-  -- the first is wanting
-  pub first_wanting : (r : Refusal) → Err r ≡ verdict (first_not_ix held (p ∷ [])) → first_not_ix held (p ∷ ps) ≡ Some r
-  first_wanting r h =
-      let some = test_refused _ r h in
-      split (is_at_least (held p) IX) (λ e. absurd (none_some (sym (ap (λ b. if b then None else Some (no.NeedParents p)) e) ∙ some)))
-      (λ e. ap (λ b. if b then first_not_ix held ps else Some (no.NeedParents p)) e ∙ sym (ap (λ b. if b then None else Some (no.NeedParents p)) e) ∙ some)
 
 -- the pair at this place of a walk along the indexes of a file and the keys
 pub record IsPairAt (g : Graph) (f : NodeId) (keys : List ℕ) (place : ℕ) (index : NodeId) (key : ℕ) : Type 0 where

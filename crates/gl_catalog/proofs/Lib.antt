@@ -47,3 +47,4 @@ pub mod MoveChecks
 pub mod KeyedBy
 pub mod Relocations
 pub mod Rekeyings
+pub mod Wanting

@@ -53,11 +53,6 @@ module _ {A : Type 0} (says : A → Says) (c : Command) (table : TableView) (k :
   managed_ok_only x table' free refuses none acc =
       subst (λ (w : ManagerView). CallSteps (state_of w) c says (Ok x) (counting (k + 1) (table_state table'))) is (ok_step_only says c k (table_state table) tests are x (table_state table') (room free) refuses none acc)
 
--- one test alone
-pub alone : (o : Option Refusal) → first_refusal (o ∷ []) ≡ o
-alone None = refl
-alone (Some r) = refl
-
 pub not_both : (a b : Bool) → (b ≡ true → a ≡ true → ⊥) → (not a || not b) ≡ true
 not_both true true never = absurd (never refl refl)
 not_both true false never = refl

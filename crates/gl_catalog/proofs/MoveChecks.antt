@@ -26,22 +26,6 @@ use Rattle.gl_table.proofs.Rules.{first_not_ix-drop}
 use Rattle.gl_catalog.specs.Tests.{move_asks, rekey_tests, worn}
 use Rattle.gl_graph.proofs.FirstOf.{passed_then}
 
--- of these nodes the first decides, where it is not held in IX or greater
-pub first_decides : (held : NodeId → Mode) (ps : List NodeId) (i : ℕ) (d : NodeId) (r : Refusal) → i < length ps → Err r ≡ verdict (first_not_ix held (get_or ps i d ∷ [])) → Err r ≡ verdict (first_not_ix held (drop i ps))
-first_decides held ps i d r low e = by (is_at_least (held (get_or ps i d)) IX) e ∙ ap verdict (sym (first_not_ix-drop held ps i d low))
-  where
-    by : (b : Bool) → Err r ≡ verdict (if b then None else Some (no.NeedParents (get_or ps i d))) → Err r ≡ verdict (if b then first_not_ix held (drop (i + 1) ps) else Some (no.NeedParents (get_or ps i d)))
-    by true e = cc
-    by false e = e
-
--- else those behind it do
-pub others_decide : (held : NodeId → Mode) (ps : List NodeId) (i : ℕ) (d : NodeId) → i < length ps → Ok tt ≡ verdict (first_not_ix held (get_or ps i d ∷ [])) → first_not_ix held (drop i ps) ≡ first_not_ix held (drop (i + 1) ps)
-others_decide held ps i d low e = first_not_ix-drop held ps i d low ∙ by (is_at_least (held (get_or ps i d)) IX) e
-  where
-    by : (b : Bool) → Ok tt ≡ verdict (if b then None else Some (no.NeedParents (get_or ps i d))) → (if b then first_not_ix held (drop (i + 1) ps) else Some (no.NeedParents (get_or ps i d))) ≡ first_not_ix held (drop (i + 1) ps)
-    by true e = refl
-    by false e = cc
-
 -- a test that each of these nodes passes, all pass
 pub all_among : (q : NodeId → Bool) (ps : List NodeId) → ((p : NodeId) → list_any (same_node p) ps ≡ true → q p ≡ true) → list_all q ps ≡ true
 all_among q ps each = split (list_all q ps) (λ all. all) (λ fails. let out = not_all q ps fails in absurd (true≢false (sym (each out.0 out.1) ∙ out.2)))

@@ -13,6 +13,7 @@ use Rattle.gl_graph.specs.Refusals.{some_no_node, verdict, where_true}
 use Rattle.gl_graph.proofs.Look.{and_both, same_node_is}
 use Rattle.gl_graph.proofs.KindRules.{plain_live, record_parent_plain}
 use Rattle.gl_graph.proofs.RecordParents.{its_file, its_keys, its_parents}
+use Rattle.gl_graph.proofs.Rekey.{count_intervals_of}
 use Rattle.gl_graph.proofs.Unrefused.{not_false, not_refused, test_fails, verdict_ok}
 use Rattle.gl_table.specs.declared.txn.Status.TheVariants.{Active}
 use Rattle.gl_table.specs.declared.txn.TxnId.{TxnId}
@@ -42,12 +43,6 @@ keys_at (i ∷ is) (k ∷ ks) index key zero d each low = refl
 keys_at (i ∷ is) (k ∷ ks) index key (suc place) d each low = keys_at is ks index key place d (omega arith) (omega arith)
 
 module _ (g : Graph) where
-  -- an interval for each index
-  intervals_counted : (is : List NodeId) (ks : List ℕ) → length ks ≡ length is → length (intervals_of g is ks) ≡ length is
-  intervals_counted [] ks each = refl
-  intervals_counted (i ∷ is) [] each = each
-  intervals_counted (i ∷ is) (k ∷ ks) each = ap suc (intervals_counted is ks (omega arith))
-
   intervals_at : (is : List NodeId) (ks : List ℕ) (place : ℕ) (d : NodeId) → length ks ≡ length is → place < length is → get_or (intervals_of g is ks) place d ≡ interval_of g (get_or is place d) (get_or ks place 0)
   intervals_at [] ks place d each low = absurd (omega arith)
   intervals_at (i ∷ is) [] place d each low = absurd (omega arith)
@@ -63,7 +58,7 @@ module _ (g : Graph) where
 
     -- a record has its file and an interval for each index as parents, before
     pub parents_counted : length (parents_of g r) ≡ length is + 1
-    parents_counted = let count = ap length (its_parents g law r rec) in let each = intervals_counted is keys (its_keys g law r rec) in omega arith
+    parents_counted = let count = ap length (its_parents g law r rec) in let each = count_intervals_of g is keys (its_keys g law r rec) in omega arith
 
     parents_at : (place : ℕ) (d : NodeId) → place < length is → get_or (parents_of g r) (place + 1) d ≡ interval_of g (get_or is place d) (get_or keys place 0)
     parents_at place d low =
@@ -76,7 +71,7 @@ module _ (g : Graph) where
 
       -- and after
       pub rekeyed_counted : length (rekeyed_parents g r index key) ≡ length is + 1
-      rekeyed_counted = let count = intervals_counted is (rekeyed_keys g r index key) each in omega arith
+      rekeyed_counted = let count = count_intervals_of g is (rekeyed_keys g r index key) each in omega arith
 
       -- the interval of the index is another, and every other is as it was
       rekeyed_at : (place : ℕ) (d : NodeId) (b : Bool) → place < length is → same_node (get_or is place d) index ≡ b

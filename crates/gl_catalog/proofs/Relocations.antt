@@ -24,7 +24,7 @@ use Rattle.gl_catalog.specs.Manager.{counting}
 use Rattle.gl_catalog.specs.Replies.{CallSteps, Notices, done}
 use Rattle.gl_catalog.specs.Tests.{is_cycle, move_asks, refusal_of, worn}
 use Rattle.gl_catalog.proofs.Carried.{accepted_step, memory_step, refused_step}
-use Rattle.gl_graph.proofs.FirstOf.{passed_then, refused_first}
+use Rattle.gl_graph.proofs.FirstOf.{alone, passed_then, refused_first}
 use Rattle.gl_catalog.proofs.NotRefused.{active_is}
 
 -- who may give the node these parents, but for a path that would close
@@ -43,11 +43,6 @@ cycle_at_most g n (p ∷ ps) = by (is_at_or_below (node_count g) g n p) (cycle_a
     by : (b : Bool) → (is_none (first_cycle g n ps) || is_cycle (first_cycle g n ps)) ≡ true → (is_none (if b then Some (no.Cycle p) else first_cycle g n ps) || is_cycle (if b then Some (no.Cycle p) else first_cycle g n ps)) ≡ true
     by true h = refl
     by false h = h
-
--- a list of one test
-of_one : (o : Option Refusal) → first_refusal (o ∷ []) ≡ o
-of_one None = refl
-of_one (Some r) = refl
 
 module _ (s : State) (t : TxnId) (n : NodeId) (ps : Bor (List NodeId)) where
   -- a test refuses
@@ -76,7 +71,7 @@ module _ (s : State) (t : TxnId) (n : NodeId) (ps : Bor (List NodeId)) where
 
     -- only a path that would close is left to refuse
     cycle_left : refusal_of s (command.Move t n ps) ≡ first_cycle s.graph n ps.now
-    cycle_left = passed_then (worn s ∷ move_asks s t n ps.now) (first_cycle s.graph n ps.now ∷ []) (verdict_ok _ tt asks) ∙ of_one (first_cycle s.graph n ps.now)
+    cycle_left = passed_then (worn s ∷ move_asks s t n ps.now) (first_cycle s.graph n ps.now ∷ []) (verdict_ok _ tt asks) ∙ alone (first_cycle s.graph n ps.now)
 
     -- memory is wanting, or a path would close
     pub relocate_fails : (r : Refusal) → (r ≡ no.NoMemory) ⊎ (first_cycle s.graph n ps.now ≡ Some r) → CallSteps s (command.Move t n ps) done (Err r) s

@@ -1,12 +1,13 @@
 -- Each step of each command keeps the law of a state, and so does each run.
-use Rattle.std.specs.Prelude.{[], ◌∷◌}
+use Rattle.std.specs.Prelude.{◌+◌, [], ◌∷◌}
 use Rattle.std.proofs.Common.{sym, subst}
 use Rattle.gl_catalog.specs.declared.command.Command.{Command}
 use Rattle.gl_catalog.specs.declared.command.Command.TheVariants as command
 use Rattle.gl_table.specs.Lawful.{IsLawful}
 use Rattle.gl_catalog.specs.Promises.{StepsKeepLaw, RunsKeepLaw}
+use Rattle.gl_catalog.proofs.Counting.{lawful_counting}
 use Rattle.gl_catalog.proofs.EachStep.{each_step}
-use Rattle.gl_catalog.proofs.KeepsLaw.{KeepsLaw, counted-lawful}
+use Rattle.gl_catalog.proofs.KeepsLaw.{KeepsLaw}
 use Rattle.gl_catalog.proofs.LockCommands.{begin_keeps, lock_keeps, try_keeps, unlock_keeps, escalate_keeps, cancel_keeps, commit_keeps, abort_keeps, settle_keeps}
 use Rattle.gl_catalog.proofs.MakeKeeps.{inner_keeps, file_keeps, index_keeps, insert_keeps}
 use Rattle.gl_catalog.proofs.DeleteKeeps.{delete_keeps}
@@ -35,7 +36,7 @@ accepted_keeps (command.Held t n) = λ s s' a told law free acc. absurd acc
 accepted_keeps (command.Effective t n) = λ s s' a told law free acc. absurd acc
 
 pub steps_keep_law : StepsKeepLaw
-steps_keep_law s s' c a told law step = each_step IsLawful s c a told s' law counted-lawful (λ free next acc. accepted_keeps c s next a told law free acc) step
+steps_keep_law s s' c a told law step = each_step IsLawful s c a told s' law (λ next. lawful_counting (next.accepted + 1) next) (λ free next acc. accepted_keeps c s next a told law free acc) step
 
 pub runs_keep_law : RunsKeepLaw
 runs_keep_law s s' [] [] law run = subst IsLawful (sym run) law

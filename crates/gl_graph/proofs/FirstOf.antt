@@ -1,4 +1,4 @@
--- The first refusal of two lists of tests, one behind the other.
+-- The first refusal of one test, and of two lists of tests, one behind the other.
 use Rattle.std.specs.Prelude.{◌≡◌, List, [], ◌∷◌, ◌++◌, Option, Some, None}
 use Rattle.std.proofs.Common.{refl}
 use Rattle.gl_modes.specs.declared.refusal.Refusal.{Refusal}
@@ -21,3 +21,8 @@ pub passes_first : (xs ys : List (Option Refusal)) → first_refusal (xs ++ ys) 
 passes_first [] ys h = refl
 passes_first (None ∷ xs) ys h = passes_first xs ys h
 passes_first (Some r ∷ xs) ys h = absurd (cc)
+
+-- one test alone
+pub alone : (o : Option Refusal) → first_refusal (o ∷ []) ≡ o
+alone None = refl
+alone (Some r) = refl

@@ -53,7 +53,8 @@ intervals_set g (j ∷ is) [] i key place e low here = absurd (omega arith)
 intervals_set g (j ∷ is) (k ∷ ks) i key zero e low here = ap (λ n. interval_of g n key ∷ intervals_of g is ks) (here i)
 intervals_set g (j ∷ is) (k ∷ ks) i key (suc place) e low here = ap (λ xs. interval_of g j k ∷ xs) (intervals_set g is ks i key place (omega arith) (omega arith) (λ d. here d))
 
-count_intervals_of : (g : Graph) (is : List NodeId) (ks : List ℕ) → length ks ≡ length is → length (intervals_of g is ks) ≡ length is
+-- an interval for each index
+pub count_intervals_of : (g : Graph) (is : List NodeId) (ks : List ℕ) → length ks ≡ length is → length (intervals_of g is ks) ≡ length is
 count_intervals_of g [] ks e = refl
 count_intervals_of g (j ∷ is) [] e = e
 count_intervals_of g (j ∷ is) (k ∷ ks) e = ap suc (count_intervals_of g is ks (omega arith))

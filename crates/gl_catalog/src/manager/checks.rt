@@ -55,6 +55,7 @@ impl Manager {
             Err(_) => unreachable!(),
         }
     }
+
     /// Whether a living transaction holds a living node in IX or greater, as one who writes below it
     /// must.
     pub(super) fn check_writes(&self, t: TxnId, n: NodeId) -> Result<(), Refusal>

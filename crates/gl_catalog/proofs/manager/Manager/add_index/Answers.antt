@@ -7,7 +7,8 @@ use Rattle.gl_table.specs.Table.{state_of as table_state}
 use Rattle.gl_catalog.specs.declared.command.Command.TheVariants as command
 use Rattle.gl_catalog.specs.Manager.{counting, state_of}
 use Rattle.gl_catalog.specs.Replies.{CallSteps, made}
-use Rattle.gl_catalog.proofs.Managed.{managed_err_or_memory, managed_ok, alone}
+use Rattle.gl_graph.proofs.FirstOf.{alone}
+use Rattle.gl_catalog.proofs.Managed.{managed_err_or_memory, managed_ok}
 use Rattle.gl_catalog.proofs.manager.Manager.add_index.Goals as goal
 
 pub returns-in_err-node-clause-step : goal.returns-in_err-node-clause-step

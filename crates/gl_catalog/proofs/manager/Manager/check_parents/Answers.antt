@@ -10,7 +10,8 @@ use Rattle.gl_graph.specs.Shapes.{is_index_shape}
 use Rattle.gl_graph.specs.View.{View, graph_of}
 use Rattle.gl_table.specs.Refusals.{first_not_ix}
 use Rattle.gl_catalog.specs.Manager.{ManagerView, state_of}
-use Rattle.gl_catalog.proofs.Insertions.{IsPairAt, ends_here, index_listed, interval_lives, lawful_graph, none_left, others_decide, walks_on}
+use Rattle.gl_catalog.proofs.Insertions.{IsPairAt, ends_here, index_listed, interval_lives, lawful_graph, none_left, walks_on}
+use Rattle.gl_catalog.proofs.Wanting.{others_decide}
 use Rattle.gl_catalog.proofs.manager.Manager.check_parents.Goals.{After-interval_of, After-into_iter-index-iterator, In-Some}
 use Rattle.gl_catalog.proofs.manager.Manager.check_parents.Goals as goal
 
