@@ -1,6 +1,6 @@
--- What a reply says of the call that it answers.
+-- What an answer, and the list beside it, say of the call that was made.
 use Rattle.std.specs.Prelude.{◌≡◌, ◌+◌, ◌&&◌, ◌||◌, true, [], Option, Some, None, is_none, Result, Ok, Err, IfOk, OnErr, OnOk}
-use Rattle.std.proofs.Common.{ap₂, arith, inl, refl, subst, sym}
+use Rattle.std.proofs.Common.{ap, ap₂, arith, inl, refl, subst, sym, ◌∙◌}
 use Rattle.gl_modes.specs.declared.refusal.Refusal.{Refusal}
 use Rattle.gl_graph.specs.Refusals.{Refuses}
 use Rattle.gl_table.specs.Answers.{answered}
@@ -10,22 +10,26 @@ use Rattle.gl_table.specs.Tellings.{Told}
 use Rattle.gl_catalog.specs.declared.command.Answer.{Answer}
 use Rattle.gl_catalog.specs.declared.command.Command.{Command}
 use Rattle.gl_catalog.specs.declared.command.Command.TheVariants as command
-use Rattle.gl_catalog.specs.declared.command.Reply.{Reply}
 use Rattle.gl_catalog.specs.Manager.{ManagerView}
 use Rattle.gl_catalog.specs.Promises.{KeepsCaller}
-use Rattle.gl_catalog.specs.Replies.{CallSteps, RepliesTo, Says, said}
+use Rattle.gl_catalog.specs.Replies.{CallSteps, Notices, Says, said}
 use Rattle.gl_catalog.specs.Step.{Answers, Goes, Step, query_answer}
 use Rattle.gl_catalog.specs.Tests.{is_cycle, lists_memory, refusal_of}
 use Rattle.gl_catalog.proofs.Carried.{memory_step, refused_step}
 use Rattle.gl_catalog.proofs.MoverEffects.{move_keeps_mover, rekey_keeps_mover}
 use Rattle.gl_catalog.proofs.EscalateEffects.{escalate_lowers_none}
 
--- a call that is a step, and the reply that says what it answered
-pub replied : {A : Type 0} (says : A → Says) (s s' : State) (c c' : Command) (result : Result A Refusal) (reply : Reply) → CallSteps s c says result s' → RepliesTo says result reply → c' ≡ c
-    → Step s c' reply.answer reply.told.items s'
-replied says s s' c c' result reply step to is =
-    subst (λ (x : Command). Step s x reply.answer reply.told.items s') (sym is)
-    (subst (λ (a : Answer). Step s c a reply.told.items s') (sym to.answer) (subst (λ (t : Told). Step s c (said says result).0 t s') (sym to.told) step))
+-- a call that is a step and tells nobody leaves the list empty
+pub quiet : {A : Type 0} (answers : A → Answer) (s s' : State) (c c' : Command) (result : Result A Refusal) (a : Answer) (list : Notices) → CallSteps s c (λ x. (answers x, [])) result s' → a ≡ (said (λ x. (answers x, [])) result).0
+    → list.items ≡ [] → c' ≡ c → Step s c' a list.items s'
+quiet answers s s' c c' (Ok x) a list step same empty is = coe 0 1 (i. Step s (sym is i) (sym same i) (sym empty i) s') step
+quiet answers s s' c c' (Err r) a list step same empty is = coe 0 1 (i. Step s (sym is i) (sym same i) (sym empty i) s') step
+
+-- a call that is a step and tells somebody fills the list, which stays empty where the call is refused
+pub fills : {A : Type 0} (answers : A → Answer) (s s' : State) (c c' : Command) (result : Result A Refusal) (a : Answer) (list before : Notices) → CallSteps s c (λ x. (answers x, list.items)) result s' → a ≡ (said (λ x. (answers x, [])) result).0
+    → OnErr result (list ≡ before) → before.items ≡ [] → c' ≡ c → Step s c' a list.items s'
+fills answers s s' c c' (Ok x) a list before step same kept empty is = coe 0 1 (i. Step s (sym is i) (sym same i) list.items s') step
+fills answers s s' c c' (Err r) a list before step same kept empty is = coe 0 1 (i. Step s (sym is i) (sym same i) (sym (ap (λ (l : Notices). l.items) kept ∙ empty) i) s') step
 
 -- where the count stays, the call was refused
 pub uncounted : {A : Type 0} (v v' : ManagerView) (result : Result A Refusal) → OnErr result (v' ≡ v) → OnOk result (v'.accepted ≡ v.accepted + 1) → v'.accepted ≡ v.accepted → v' ≡ v

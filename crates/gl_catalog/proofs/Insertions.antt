@@ -1,14 +1,13 @@
 -- A new record: its parents, as they are tested one after the other, and the insert as a step.
-use Rattle.std.specs.Prelude.{◌≡◌, ℕ, ◌+◌, ◌<◌, ◌≤◌, ◌==◌, true, false, not, List, [], ◌∷◌, ◌++◌, length, drop, get_or, Option, Some, None, Ok, Err, if◌then◌else◌}
+use Rattle.std.specs.Prelude.{◌≡◌, ℕ, ◌+◌, ◌<◌, ◌≤◌, ◌==◌, true, false, not, List, [], ◌∷◌, ◌++◌, length, drop, get_or, Option, Some, None, Ok, Err}
 use Rattle.std.proofs.Common.{refl, sym, ap, ap₂, ◌∙◌, subst}
 use Rattle.std.proofs.lemmas.List.{drop_all, drop_more}
 use denote.Bor.{Bor}
 use Rattle.gl_modes.specs.declared.mode.Mode.{Mode}
-use Rattle.gl_modes.specs.declared.mode.Mode.TheVariants.{IX, X}
+use Rattle.gl_modes.specs.declared.mode.Mode.TheVariants.{X}
 use Rattle.gl_modes.specs.declared.node.NodeId.{NodeId}
 use Rattle.gl_modes.specs.declared.refusal.Refusal.{Refusal}
 use Rattle.gl_modes.specs.declared.refusal.Refusal.TheVariants as no
-use Rattle.gl_modes.specs.Modes.{is_at_least}
 use Rattle.gl_graph.specs.Changes.{IsBorn}
 use Rattle.gl_graph.specs.Graph.{Graph, indexes_of, interval_of, intervals_of, is_live, record_parents, shape_of}
 use Rattle.gl_graph.specs.Lawful.{IsLawfulGraph}
@@ -16,7 +15,7 @@ use Rattle.gl_graph.specs.Refusals.{Refuses, births_worn, first_refusal, some_no
 use Rattle.gl_graph.specs.Shapes.{Rec, is_file_shape, is_index_of_shape, is_index_shape}
 use Rattle.gl_graph.specs.View.{graph_of}
 use Rattle.gl_graph.proofs.KindRules.{interval_is}
-use Rattle.gl_graph.proofs.Look.{none_some, split, there_is}
+use Rattle.gl_graph.proofs.Look.{there_is}
 use Rattle.gl_graph.proofs.RecordParents.{index_of_index, listed_index}
 use Rattle.gl_graph.proofs.Unrefused.{not_refused, verdict_ok}
 use Rattle.gl_table.specs.declared.txn.TxnId.{TxnId}

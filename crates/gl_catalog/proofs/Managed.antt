@@ -1,5 +1,5 @@
 -- What a call of the table answers, as a step of the manager that made it.
-use Rattle.std.specs.Prelude.{◌≡◌, ℕ, ◌+◌, Bool, true, false, not, ◌||◌, List, [], ◌∷◌, Option, Some, None, Ok, Err}
+use Rattle.std.specs.Prelude.{◌≡◌, ℕ, ◌+◌, Bool, true, false, not, ◌||◌, List, ◌∷◌, Option, None, Ok, Err}
 use Rattle.std.proofs.Common.{refl, sym, subst}
 use Rattle.gl_modes.specs.declared.refusal.Refusal.{Refusal}
 use Rattle.gl_graph.specs.Refusals.{Refuses, first_refusal, verdict}

@@ -1,15 +1,12 @@
 -- The tests of a node that moves, one after the other.
-use Rattle.std.specs.Prelude.{◌≡◌, ℕ, ◌+◌, ◌<◌, Bool, true, false, not, ◌&&◌, ◌||◌, ◌==◌, List, [], ◌∷◌, ◌++◌, length, drop, Option, Some, None, Ok, Err, if◌then◌else◌, get_or}
+use Rattle.std.specs.Prelude.{◌≡◌, ℕ, Bool, true, false, not, ◌&&◌, ◌||◌, ◌==◌, List, [], ◌∷◌, ◌++◌, length, Option, Some, Ok, if◌then◌else◌}
 use Rattle.std.specs.List.{list_all, list_any}
 use Rattle.std.proofs.Common.{refl, sym, ap, ◌∙◌, arith}
 use Rattle.std.proofs.lemmas.Bool.Decides.{nat_tests}
 use mathlib.Core.Bool.{true≢false}
-use Rattle.gl_modes.specs.declared.mode.Mode.{Mode}
-use Rattle.gl_modes.specs.declared.mode.Mode.TheVariants.{IX}
 use Rattle.gl_modes.specs.declared.node.NodeId.{NodeId}
 use Rattle.gl_modes.specs.declared.refusal.Refusal.{Refusal}
 use Rattle.gl_modes.specs.declared.refusal.Refusal.TheVariants as no
-use Rattle.gl_modes.specs.Modes.{is_at_least}
 use Rattle.gl_modes.specs.Nodes.{same_node}
 use Rattle.gl_graph.specs.Changes.{rekeyed_parents}
 use Rattle.gl_graph.specs.Graph.{Graph, first_parent, is_live, parents_of, shape_of}
@@ -18,11 +15,10 @@ use Rattle.gl_graph.specs.Refusals.{bad_parents, first_refusal, some_no_node, ve
 use Rattle.gl_graph.specs.Shapes.{is_index_of_shape, is_movable_shape, is_record_shape, least_parents}
 use Rattle.gl_graph.proofs.Look.{both, split}
 use Rattle.gl_graph.proofs.Unrefused.{verdict_ok}
-use Rattle.gl_table.specs.Refusals.{commit_tests, first_not_ix, need_exclusive, need_new_parents, some_given}
+use Rattle.gl_table.specs.Refusals.{commit_tests, need_exclusive, need_new_parents, some_given}
 use Rattle.gl_table.specs.State.{State}
 use Rattle.gl_table.specs.declared.txn.TxnId.{TxnId}
 use Rattle.gl_table.proofs.CutSet.{not_all}
-use Rattle.gl_table.proofs.Rules.{first_not_ix-drop}
 use Rattle.gl_catalog.specs.Tests.{move_asks, rekey_tests, worn}
 use Rattle.gl_graph.proofs.FirstOf.{passed_then}
 

@@ -1,5 +1,5 @@
 -- What the calls of the manager answer, in the words of commands and replies.
-use Rattle.std.specs.Prelude.{◌≡◌, List, [], Option, Some, None, Result, Ok, Err, map}
+use Rattle.std.specs.Prelude.{List, [], Option, Some, None, Result, Ok, Err, map}
 use Rattle.arrayvec.specs.ArrayVec.{ArrayVec}
 use Rattle.gl_modes.specs.declared.mode.Mode.{Mode}
 use Rattle.gl_modes.specs.declared.node.NodeId.{NodeId}
@@ -35,21 +35,29 @@ made n = (answer.Node n, [])
 abbrev pub began : TxnId → Says
 began t = (answer.Begun t, [])
 
--- it was done
+-- it was done, and these are told
+abbrev pub doing : Told → Unit {0} → Says
+doing told u = (answer.Done, told)
+
+-- the same of a call that answers the list
 abbrev pub done : Notices → Says
-done told = (answer.Done, told.items)
+done told = doing told.items tt
 
 -- a mode was granted
 abbrev pub took : Mode → Says
 took m = (answer.Granted m, [])
 
--- a lock was asked for
-abbrev pub asked : Locked × Notices → Says
-asked x = (answer_of_lock x.0, x.1.items)
+-- a lock was asked for, and these are told
+abbrev pub asking : Told → Locked → Says
+asking told x = (answer_of_lock x, told)
 
--- an escalation was done
+-- an escalation was done, and these are told
+abbrev pub rising : Told → Escalated → Says
+rising told x = (answer.Escalated x, told)
+
+-- the same of a call that answers the list
 abbrev pub rose : Escalated × Notices → Says
-rose x = (answer.Escalated x.0, x.1.items)
+rose x = rising x.1.items x.0
 
 -- a mode was asked after
 abbrev pub read_mode : Mode → Says
@@ -67,11 +75,6 @@ said says (Err r) = (answer.Refused r, [])
 -- a call is a step of the model
 abbrev pub CallSteps : {A : Type 0} → State → Command → (A → Says) → Result A Refusal → State → Type 0
 CallSteps s c says result s' = Step s c (said says result).0 (said says result).1 s'
-
--- a reply that says what a call answered
-pub record RepliesTo {A : Type 0} (says : A → Says) (result : Result A Refusal) (reply : Reply) : Type 0 where
-  pub answer : reply.answer ≡ (said says result).0
-  pub told : reply.told.items ≡ (said says result).1
 
 -- what is waited for, and the wanted mode
 abbrev pub wait_of : Option Status → Option (NodeId × Mode)

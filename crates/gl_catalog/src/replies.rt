@@ -1,128 +1,91 @@
-//! Replies of what calls answer.
+//! The answers to commands, by what calls come to. The notices of a call go with the answer, in a list
+//! of their own.
 
 ghost use Rattle.std.specs.Prelude.{◌≡◌, []};
-ghost use Rattle.gl_catalog.specs.Step.{answer_of_lock};
-ghost use Rattle.gl_catalog.specs.Replies.{RepliesTo, asked, began, done, made, read_effect, read_mode, rose, took};
+ghost use Rattle.gl_catalog.specs.Replies.{asking, began, doing, made, read_effect, read_mode, rising, said, took};
 
-use crate::command::{Answer, Escalated, Reply};
+use crate::command::{Answer, Escalated};
 use gl_modes::{Mode, NodeId, Refusal};
-use gl_table::{Effect, Locked, Told, TxnId};
-
-/// A reply that tells nobody anything.
-fn quiet(answer: Answer) -> Reply
-    ensures answer { result.answer ≡ answer }
-    ensures told { result.told.items ≡ [] }
-{
-    Reply {
-        answer,
-        told: Told::new(),
-    }
-}
-
-/// A refusal.
-fn refused(refusal: Refusal) -> Reply
-    ensures answer { result.answer ≡ Answer.Refused refusal }
-    ensures told { result.told.items ≡ [] }
-{
-    quiet(Answer::Refused(refusal))
-}
+use gl_table::{Effect, Locked, TxnId};
 
 /// A node was asked for.
-pub(crate) fn node_reply(outcome: Result<NodeId, Refusal>) -> Reply
-    ensures { RepliesTo made outcome result }
+pub(crate) fn node_answer(outcome: Result<NodeId, Refusal>) -> Answer
+    ensures { result ≡ (said made outcome).0 }
 {
     match outcome {
-        Ok(node) => quiet(Answer::Node(node)),
-        Err(refusal) => refused(refusal),
+        Ok(node) => Answer::Node(node),
+        Err(refusal) => Answer::Refused(refusal),
     }
 }
 
 /// A transaction was asked for.
-pub(crate) fn txn_reply(outcome: Result<TxnId, Refusal>) -> Reply
-    ensures { RepliesTo began outcome result }
+pub(crate) fn begun_answer(outcome: Result<TxnId, Refusal>) -> Answer
+    ensures { result ≡ (said began outcome).0 }
 {
     match outcome {
-        Ok(txn) => quiet(Answer::Begun(txn)),
-        Err(refusal) => refused(refusal),
+        Ok(txn) => Answer::Begun(txn),
+        Err(refusal) => Answer::Refused(refusal),
     }
 }
 
 /// A lock was asked for.
-pub(crate) fn lock_reply(outcome: Result<(Locked, Told), Refusal>) -> Reply
-    ensures { RepliesTo asked outcome result }
+pub(crate) fn lock_answer(outcome: Result<Locked, Refusal>) -> Answer
+    ensures { result ≡ (said (asking []) outcome).0 }
 {
     match outcome {
-        Ok((locked, told)) => Reply {
-            answer: lock_answer(locked),
-            told,
-        },
-        Err(refusal) => refused(refusal),
-    }
-}
-
-/// What a lock came to.
-fn lock_answer(locked: Locked) -> Answer
-    ensures { result ≡ answer_of_lock locked }
-{
-    match locked {
-        Locked::Granted(mode) => Answer::Granted(mode),
-        Locked::Waiting => Answer::Waiting,
-        Locked::Victim => Answer::Victim,
+        Ok(Locked::Granted(mode)) => Answer::Granted(mode),
+        Ok(Locked::Waiting) => Answer::Waiting,
+        Ok(Locked::Victim) => Answer::Victim,
+        Err(refusal) => Answer::Refused(refusal),
     }
 }
 
 /// A lock was tried.
-pub(crate) fn try_reply(outcome: Result<Mode, Refusal>) -> Reply
-    ensures { RepliesTo took outcome result }
+pub(crate) fn try_answer(outcome: Result<Mode, Refusal>) -> Answer
+    ensures { result ≡ (said took outcome).0 }
 {
     match outcome {
-        Ok(mode) => quiet(Answer::Granted(mode)),
-        Err(refusal) => refused(refusal),
+        Ok(mode) => Answer::Granted(mode),
+        Err(refusal) => Answer::Refused(refusal),
     }
 }
 
 /// Something was to be done.
-pub(crate) fn done_reply(outcome: Result<Told, Refusal>) -> Reply
-    ensures { RepliesTo done outcome result }
+pub(crate) fn done_answer(outcome: Result<(), Refusal>) -> Answer
+    ensures { result ≡ (said (doing []) outcome).0 }
 {
     match outcome {
-        Ok(told) => Reply {
-            answer: Answer::Done,
-            told,
-        },
-        Err(refusal) => refused(refusal),
+        Ok(()) => Answer::Done,
+        Err(refusal) => Answer::Refused(refusal),
     }
 }
 
 /// An escalation was asked for.
-pub(crate) fn escalate_reply(outcome: Result<(Escalated, Told), Refusal>) -> Reply
-    ensures { RepliesTo rose outcome result }
+pub(crate) fn escalate_answer(outcome: Result<Escalated, Refusal>) -> Answer
+    ensures { result ≡ (said (rising []) outcome).0 }
 {
     match outcome {
-        Ok((escalated, told)) => Reply {
-            answer: Answer::Escalated(escalated),
-            told,
-        },
-        Err(refusal) => refused(refusal),
+        Ok(escalated) => Answer::Escalated(escalated),
+        Err(refusal) => Answer::Refused(refusal),
     }
 }
 
 /// A mode was asked after.
-pub(crate) fn mode_reply(outcome: Result<Mode, Refusal>) -> Reply
-    ensures { RepliesTo read_mode outcome result }
+pub(crate) fn mode_answer(outcome: Result<Mode, Refusal>) -> Answer
+    ensures { result ≡ (said read_mode outcome).0 }
 {
     match outcome {
-        Ok(mode) => quiet(Answer::Mode(mode)),
-        Err(refusal) => refused(refusal),
+        Ok(mode) => Answer::Mode(mode),
+        Err(refusal) => Answer::Refused(refusal),
     }
 }
 
 /// An effective mode was asked after.
-pub(crate) fn effect_reply(outcome: Result<Effect, Refusal>) -> Reply
-    ensures { RepliesTo read_effect outcome result }
+pub(crate) fn effect_answer(outcome: Result<Effect, Refusal>) -> Answer
+    ensures { result ≡ (said read_effect outcome).0 }
 {
     match outcome {
-        Ok(effect) => quiet(Answer::Effect(effect)),
-        Err(refusal) => refused(refusal),
+        Ok(effect) => Answer::Effect(effect),
+        Err(refusal) => Answer::Refused(refusal),
     }
 }

@@ -1,16 +1,17 @@
 //! The one entry for every command.
 
-ghost use Rattle.std.specs.Prelude.{◌≡◌};
+ghost use Rattle.std.specs.Prelude.{◌≡◌, []};
 ghost use Rattle.gl_catalog.specs.Manager.{state_of};
 ghost use Rattle.gl_catalog.specs.Promises.{KeepsCaller};
 ghost use Rattle.gl_catalog.specs.Step.{Step};
 
 use super::Manager;
-use crate::command::{Command, Reply};
+use crate::command::{Answer, Command, Reply};
 use crate::replies::{
-    done_reply, effect_reply, escalate_reply, lock_reply, mode_reply, node_reply, try_reply,
-    txn_reply,
+    begun_answer, done_answer, effect_answer, escalate_answer, lock_answer, mode_answer,
+    node_answer, try_answer,
 };
+use gl_table::Told;
 
 impl Manager {
     /// Carries out one command, and answers it. A command that changes something and is not refused
@@ -21,36 +22,52 @@ impl Manager {
         ensures caller { KeepsCaller command.entry (state_of self.old) (state_of self.new) }
         ensures same { self.new.accepted ≡ self.old.accepted → self.new ≡ self.old }
     {
+        let mut told = Told::new();
+        let answer = self.carry_out(command, &mut told);
+        Reply { answer, told }
+    }
+
+    /// Carries out one command, and puts the notices into an empty list.
+    fn carry_out(&mut self, command: Command<'_>, told: &mut Told) -> Answer
+        requires empty { told.old.items ≡ [] }
+        ensures step { Step (state_of self.old) command.entry result told.new.items (state_of self.new) }
+        ensures caller { KeepsCaller command.entry (state_of self.old) (state_of self.new) }
+        ensures same { self.new.accepted ≡ self.old.accepted → self.new ≡ self.old }
+    {
         self.law();
         match command {
-            Command::Inner { parents } => node_reply(self.add_inner(parents)),
-            Command::File { parents } => node_reply(self.add_file(parents)),
+            Command::Inner { parents } => node_answer(self.add_inner(parents)),
+            Command::File { parents } => node_answer(self.add_file(parents)),
             Command::Index {
                 parents,
                 file,
                 bounds,
-            } => node_reply(self.add_index(parents, file, bounds)),
-            Command::Begin => txn_reply(self.begin()),
-            Command::Lock { txn, node, mode } => lock_reply(self.lock(txn, node, mode)),
-            Command::Try { txn, node, mode } => try_reply(self.try_lock(txn, node, mode)),
-            Command::Unlock { txn, node } => done_reply(self.unlock(txn, node)),
-            Command::Escalate { txn, node } => escalate_reply(self.escalate(txn, node)),
-            Command::Cancel { txn } => done_reply(self.cancel(txn)),
-            Command::Commit { txn } => done_reply(self.commit(txn)),
-            Command::Abort { txn } => done_reply(self.abort(txn)),
-            Command::Settle { txn } => done_reply(self.settle(txn)),
-            Command::Insert { txn, file, keys } => node_reply(self.insert(txn, file, keys)),
-            Command::Delete { txn, rec } => done_reply(self.delete(txn, rec)),
+            } => node_answer(self.add_index(parents, file, bounds)),
+            Command::Begin => begun_answer(self.begin()),
+            Command::Lock { txn, node, mode } => lock_answer(self.lock(txn, node, mode, told)),
+            Command::Try { txn, node, mode } => try_answer(self.try_lock(txn, node, mode)),
+            Command::Unlock { txn, node } => done_answer(self.unlock(txn, node, told)),
+            Command::Escalate { txn, node } => {
+                escalate_answer(self.escalate_telling(txn, node, told))
+            }
+            Command::Cancel { txn } => done_answer(self.cancel(txn, told)),
+            Command::Commit { txn } => done_answer(self.commit(txn, told)),
+            Command::Abort { txn } => done_answer(self.abort(txn, told)),
+            Command::Settle { txn } => done_answer(self.settle(txn, told)),
+            Command::Insert { txn, file, keys } => node_answer(self.insert(txn, file, keys)),
+            Command::Delete { txn, rec } => done_answer(self.delete_telling(txn, rec, told)),
             Command::Rekey {
                 txn,
                 rec,
                 index,
                 key,
-            } => done_reply(self.rekey(txn, rec, index, key)),
-            Command::Move { txn, node, parents } => done_reply(self.relocate(txn, node, parents)),
-            Command::Group { node } => mode_reply(self.table.group(node)),
-            Command::Held { txn, node } => mode_reply(self.table.held(txn, node)),
-            Command::Effective { txn, node } => effect_reply(self.table.effective(txn, node)),
+            } => done_answer(self.rekey_telling(txn, rec, index, key, told)),
+            Command::Move { txn, node, parents } => {
+                done_answer(self.relocate_telling(txn, node, parents, told))
+            }
+            Command::Group { node } => mode_answer(self.table.group(node)),
+            Command::Held { txn, node } => mode_answer(self.table.held(txn, node)),
+            Command::Effective { txn, node } => effect_answer(self.table.effective(txn, node)),
         }
     }
 }

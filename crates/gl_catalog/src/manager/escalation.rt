@@ -1,10 +1,10 @@
 //! A lock on a node in place of locks on its children.
 
-ghost use Rattle.std.specs.Prelude.{◌≡◌, ◌+◌, ◌∷◌, OnErr, OnOk};
+ghost use Rattle.std.specs.Prelude.{◌≡◌, ◌+◌, ◌∷◌, [], OnErr, OnOk};
 ghost use Rattle.gl_graph.specs.Refusals.{first_refusal, verdict};
 ghost use Rattle.gl_catalog.specs.declared.command.Command.TheVariants as command;
 ghost use Rattle.gl_catalog.specs.Manager.{state_of};
-ghost use Rattle.gl_catalog.specs.Replies.{CallSteps, rose};
+ghost use Rattle.gl_catalog.specs.Replies.{CallSteps, rising, rose};
 ghost use Rattle.gl_catalog.specs.Tests.{escalate_asks, worn};
 
 use super::Manager;
@@ -28,6 +28,24 @@ impl Manager {
         ensures counted { OnOk result (self.new.accepted ≡ self.old.accepted + 1) }
         ensures err { OnErr result (self.new ≡ self.old) }
     {
+        let mut told = Told::new();
+        let escalated = self.escalate_telling(t, n, &mut told)?;
+        Ok((escalated, told))
+    }
+
+    /// As `escalate`, with the notices put into an empty list.
+    pub(super) fn escalate_telling(
+        &mut self,
+        t: TxnId,
+        n: NodeId,
+        told: &mut Told,
+    ) -> Result<Escalated, Refusal>
+        requires empty { told.old.items ≡ [] }
+        ensures step { CallSteps (state_of self.old) (command.Escalate t n) (rising told.new.items) result (state_of self.new) }
+        ensures untold { OnErr result (told.new ≡ told.old) }
+        ensures counted { OnOk result (self.new.accepted ≡ self.old.accepted + 1) }
+        ensures err { OnErr result (self.new ≡ self.old) }
+    {
         self.check_escalate(t, n)?;
         let asked = if self.table.writes_below(t, n) {
             Mode::X
@@ -35,17 +53,14 @@ impl Manager {
             Mode::S
         };
         let mode = self.table.try_lock(t, n, asked)?;
-        let (released, kept, told) = self.table.shed(t, n);
+        let (released, kept) = self.table.shed_telling(t, n, told);
         self.table.law();
         self.accepted += 1;
-        Ok((
-            Escalated {
-                mode,
-                released,
-                kept,
-            },
-            told,
-        ))
+        Ok(Escalated {
+            mode,
+            released,
+            kept,
+        })
     }
 
     /// The tests of `escalate` but for whether the raised mode is granted at once.

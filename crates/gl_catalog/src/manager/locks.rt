@@ -1,9 +1,10 @@
-//! Transactions, and the locks that they ask for and give back.
+//! Transactions, and the locks that they ask for and give back. Calls that tell somebody fill a list
+//! that is empty before.
 
-ghost use Rattle.std.specs.Prelude.{◌≡◌, ◌+◌, OnErr, OnOk};
+ghost use Rattle.std.specs.Prelude.{◌≡◌, ◌+◌, [], OnErr, OnOk};
 ghost use Rattle.gl_catalog.specs.declared.command.Command.TheVariants as command;
 ghost use Rattle.gl_catalog.specs.Manager.{state_of};
-ghost use Rattle.gl_catalog.specs.Replies.{CallSteps, asked, began, done, took};
+ghost use Rattle.gl_catalog.specs.Replies.{CallSteps, asking, began, doing, took};
 
 use super::Manager;
 use gl_modes::{Mode, NodeId, Refusal};
@@ -29,16 +30,19 @@ impl Manager {
         t: TxnId,
         n: NodeId,
         mode: Mode,
-    ) -> Result<(Locked, Told), Refusal>
-        ensures step { CallSteps (state_of self.old) (command.Lock t n mode) asked result (state_of self.new) }
+        told: &mut Told,
+    ) -> Result<Locked, Refusal>
+        requires empty { told.old.items ≡ [] }
+        ensures step { CallSteps (state_of self.old) (command.Lock t n mode) (asking told.new.items) result (state_of self.new) }
+        ensures untold { OnErr result (told.new ≡ told.old) }
         ensures counted { OnOk result (self.new.accepted ≡ self.old.accepted + 1) }
         ensures err { OnErr result (self.new ≡ self.old) }
     {
         self.check_count()?;
-        let answer = self.table.lock(t, n, mode)?;
+        let locked = self.table.lock_telling(t, n, mode, told)?;
         self.table.law();
         self.accepted += 1;
-        Ok(answer)
+        Ok(locked)
     }
 
     /// Asks for a mode on a node, and is refused where it cannot be granted at once.
@@ -55,67 +59,77 @@ impl Manager {
     }
 
     /// Releases one node.
-    pub(super) fn unlock(&mut self, t: TxnId, n: NodeId) -> Result<Told, Refusal>
-        ensures step { CallSteps (state_of self.old) (command.Unlock t n) done result (state_of self.new) }
+    pub(super) fn unlock(&mut self, t: TxnId, n: NodeId, told: &mut Told) -> Result<(), Refusal>
+        requires empty { told.old.items ≡ [] }
+        ensures step { CallSteps (state_of self.old) (command.Unlock t n) (doing told.new.items) result (state_of self.new) }
+        ensures untold { OnErr result (told.new ≡ told.old) }
         ensures counted { OnOk result (self.new.accepted ≡ self.old.accepted + 1) }
         ensures err { OnErr result (self.new ≡ self.old) }
     {
         self.check_count()?;
-        let told = self.table.unlock(t, n)?;
+        self.table.unlock_telling(t, n, told)?;
         self.table.law();
         self.accepted += 1;
-        Ok(told)
+        Ok(())
     }
 
     /// Takes back the wait of a transaction.
-    pub(super) fn cancel(&mut self, t: TxnId) -> Result<Told, Refusal>
-        ensures step { CallSteps (state_of self.old) (command.Cancel t) done result (state_of self.new) }
+    pub(super) fn cancel(&mut self, t: TxnId, told: &mut Told) -> Result<(), Refusal>
+        requires empty { told.old.items ≡ [] }
+        ensures step { CallSteps (state_of self.old) (command.Cancel t) (doing told.new.items) result (state_of self.new) }
+        ensures untold { OnErr result (told.new ≡ told.old) }
         ensures counted { OnOk result (self.new.accepted ≡ self.old.accepted + 1) }
         ensures err { OnErr result (self.new ≡ self.old) }
     {
         self.check_count()?;
-        let told = self.table.cancel(t)?;
+        self.table.cancel_telling(t, told)?;
         self.table.law();
         self.accepted += 1;
-        Ok(told)
+        Ok(())
     }
 
     /// Ends a transaction and releases everything.
-    pub(super) fn commit(&mut self, t: TxnId) -> Result<Told, Refusal>
-        ensures step { CallSteps (state_of self.old) (command.Commit t) done result (state_of self.new) }
+    pub(super) fn commit(&mut self, t: TxnId, told: &mut Told) -> Result<(), Refusal>
+        requires empty { told.old.items ≡ [] }
+        ensures step { CallSteps (state_of self.old) (command.Commit t) (doing told.new.items) result (state_of self.new) }
+        ensures untold { OnErr result (told.new ≡ told.old) }
         ensures counted { OnOk result (self.new.accepted ≡ self.old.accepted + 1) }
         ensures err { OnErr result (self.new ≡ self.old) }
     {
         self.check_count()?;
-        let told = self.table.commit(t)?;
+        self.table.commit_telling(t, told)?;
         self.table.law();
         self.accepted += 1;
-        Ok(told)
+        Ok(())
     }
 
     /// Ends a transaction whatever it is doing, and releases everything.
-    pub(super) fn abort(&mut self, t: TxnId) -> Result<Told, Refusal>
-        ensures step { CallSteps (state_of self.old) (command.Abort t) done result (state_of self.new) }
+    pub(super) fn abort(&mut self, t: TxnId, told: &mut Told) -> Result<(), Refusal>
+        requires empty { told.old.items ≡ [] }
+        ensures step { CallSteps (state_of self.old) (command.Abort t) (doing told.new.items) result (state_of self.new) }
+        ensures untold { OnErr result (told.new ≡ told.old) }
         ensures counted { OnOk result (self.new.accepted ≡ self.old.accepted + 1) }
         ensures err { OnErr result (self.new ≡ self.old) }
     {
         self.check_count()?;
-        let told = self.table.abort(t)?;
+        self.table.abort_telling(t, told)?;
         self.table.law();
         self.accepted += 1;
-        Ok(told)
+        Ok(())
     }
 
     /// Condemns the youngest on a circle with the transaction until it is on none.
-    pub(super) fn settle(&mut self, t: TxnId) -> Result<Told, Refusal>
-        ensures step { CallSteps (state_of self.old) (command.Settle t) done result (state_of self.new) }
+    pub(super) fn settle(&mut self, t: TxnId, told: &mut Told) -> Result<(), Refusal>
+        requires empty { told.old.items ≡ [] }
+        ensures step { CallSteps (state_of self.old) (command.Settle t) (doing told.new.items) result (state_of self.new) }
+        ensures untold { OnErr result (told.new ≡ told.old) }
         ensures counted { OnOk result (self.new.accepted ≡ self.old.accepted + 1) }
         ensures err { OnErr result (self.new ≡ self.old) }
     {
         self.check_count()?;
-        let told = self.table.settle(t)?;
+        self.table.settle_telling(t, told)?;
         self.table.law();
         self.accepted += 1;
-        Ok(told)
+        Ok(())
     }
 }

@@ -10,7 +10,7 @@ ghost use Rattle.gl_table.specs.Refusals.{first_not_ix, holds_x_on_all, need_exc
 ghost use Rattle.gl_table.specs.State.{lives};
 ghost use Rattle.gl_catalog.specs.declared.command.Command.TheVariants as command;
 ghost use Rattle.gl_catalog.specs.Manager.{state_of};
-ghost use Rattle.gl_catalog.specs.Replies.{CallSteps, done};
+ghost use Rattle.gl_catalog.specs.Replies.{CallSteps, doing, done};
 ghost use Rattle.gl_catalog.specs.Tests.{move_asks, refusal_of, worn};
 
 use super::Manager;
@@ -35,11 +35,31 @@ impl Manager {
         ensures counted { OnOk result (self.new.accepted ≡ self.old.accepted + 1) }
         ensures err { OnErr result (self.new ≡ self.old) }
     {
+        let mut told = Told::new();
+        self.rekey_telling(t, rec, index, key, &mut told)?;
+        Ok(told)
+    }
+
+    /// As `rekey`, with the notices put into an empty list.
+    pub(super) fn rekey_telling(
+        &mut self,
+        t: TxnId,
+        rec: NodeId,
+        index: NodeId,
+        key: u64,
+        told: &mut Told,
+    ) -> Result<(), Refusal>
+        requires empty { told.old.items ≡ [] }
+        ensures step { CallSteps (state_of self.old) (command.Rekey t rec index key) (doing told.new.items) result (state_of self.new) }
+        ensures untold { OnErr result (told.new ≡ told.old) }
+        ensures counted { OnOk result (self.new.accepted ≡ self.old.accepted + 1) }
+        ensures err { OnErr result (self.new ≡ self.old) }
+    {
         self.check_rekey(t, rec, index, key)?;
-        let told = self.table.reparent(t, rec, index, key);
+        self.table.reparent_telling(t, rec, index, key, told);
         self.table.law();
         self.accepted += 1;
-        Ok(told)
+        Ok(())
     }
 
     /// Gives an inner node, a file or an index other parents; an inner node without parents is a
@@ -57,11 +77,30 @@ impl Manager {
         ensures counted { OnOk result (self.new.accepted ≡ self.old.accepted + 1) }
         ensures err { OnErr result (self.new ≡ self.old) }
     {
+        let mut told = Told::new();
+        self.relocate_telling(t, n, parents, &mut told)?;
+        Ok(told)
+    }
+
+    /// As `relocate`, with the notices put into an empty list.
+    pub(super) fn relocate_telling(
+        &mut self,
+        t: TxnId,
+        n: NodeId,
+        parents: &[NodeId],
+        told: &mut Told,
+    ) -> Result<(), Refusal>
+        requires empty { told.old.items ≡ [] }
+        ensures step { CallSteps (state_of self.old) (command.Move t n parents.entry) (doing told.new.items) result (state_of self.new) }
+        ensures untold { OnErr result (told.new ≡ told.old) }
+        ensures counted { OnOk result (self.new.accepted ≡ self.old.accepted + 1) }
+        ensures err { OnErr result (self.new ≡ self.old) }
+    {
         self.check_relocate(t, n, parents)?;
-        let told = self.table.regraft(t, n, parents)?;
+        self.table.regraft_telling(t, n, parents, told)?;
         self.table.law();
         self.accepted += 1;
-        Ok(told)
+        Ok(())
     }
 
     /// The tests of `rekey`.

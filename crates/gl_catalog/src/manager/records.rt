@@ -1,6 +1,6 @@
 //! Records come and go.
 
-ghost use Rattle.std.specs.Prelude.{◌≡◌, ◌+◌, ◌∷◌, OnErr, OnOk, length, true};
+ghost use Rattle.std.specs.Prelude.{◌≡◌, ◌+◌, ◌∷◌, [], OnErr, OnOk, length, true};
 ghost use Rattle.gl_graph.specs.Graph.{indexes_of, record_parents, shape_of};
 ghost use Rattle.gl_graph.specs.Refusals.{first_refusal, verdict};
 ghost use Rattle.gl_graph.specs.Shapes.{is_file_shape};
@@ -8,7 +8,7 @@ ghost use Rattle.gl_table.specs.Refusals.{first_not_ix};
 ghost use Rattle.gl_table.specs.State.{lives};
 ghost use Rattle.gl_catalog.specs.declared.command.Command.TheVariants as command;
 ghost use Rattle.gl_catalog.specs.Manager.{state_of};
-ghost use Rattle.gl_catalog.specs.Replies.{CallSteps, done, made};
+ghost use Rattle.gl_catalog.specs.Replies.{CallSteps, doing, done, made};
 ghost use Rattle.gl_catalog.specs.Tests.{insert_asks, refusal_of, worn};
 
 use super::Manager;
@@ -47,11 +47,29 @@ impl Manager {
         ensures counted { OnOk result (self.new.accepted ≡ self.old.accepted + 1) }
         ensures err { OnErr result (self.new ≡ self.old) }
     {
+        let mut told = Told::new();
+        self.delete_telling(t, rec, &mut told)?;
+        Ok(told)
+    }
+
+    /// As `delete`, with the notices put into an empty list.
+    pub(super) fn delete_telling(
+        &mut self,
+        t: TxnId,
+        rec: NodeId,
+        told: &mut Told,
+    ) -> Result<(), Refusal>
+        requires empty { told.old.items ≡ [] }
+        ensures step { CallSteps (state_of self.old) (command.Delete t rec) (doing told.new.items) result (state_of self.new) }
+        ensures untold { OnErr result (told.new ≡ told.old) }
+        ensures counted { OnOk result (self.new.accepted ≡ self.old.accepted + 1) }
+        ensures err { OnErr result (self.new ≡ self.old) }
+    {
         self.check_delete(t, rec)?;
-        let told = self.table.remove(t, rec);
+        self.table.remove_telling(t, rec, told);
         self.table.law();
         self.accepted += 1;
-        Ok(told)
+        Ok(())
     }
 
     /// The tests of `insert` but for the room in the graph and in memory.

@@ -3,12 +3,12 @@ use Rattle.gl_table.specs.Refusals.{cancel_tests}
 use Rattle.gl_table.specs.Table.{state_of as table_state}
 use Rattle.gl_catalog.specs.declared.command.Command.TheVariants as command
 use Rattle.gl_catalog.specs.Manager.{counting}
-use Rattle.gl_catalog.specs.Replies.{done}
+use Rattle.gl_catalog.specs.Replies.{doing}
 use Rattle.gl_catalog.proofs.Managed.{managed_ok_only}
 use Rattle.gl_catalog.proofs.manager.Manager.cancel.Goals as goal
 
 pub returns-clause-step : goal.returns-clause-step
 returns-clause-step c =
-    managed_ok_only done (command.Cancel c.args.t) c.self.inside.table c.self.inside.accepted c.args.self.now c.self.view_is (cancel_tests (table_state c.self.inside.table) c.args.t) refl
-    c.in_ok-told.told c.cancel.new.self c.in_ok-check_count.ensures c.in_ok-told.ensures.refuses refl
-    (refl, c.in_ok-told.ensures.told, ap (counting c.self.inside.accepted) c.in_ok-told.ensures.state)
+    managed_ok_only (doing c.cancel_telling.new.notices.items) (command.Cancel c.args.t) c.self.inside.table c.self.inside.accepted c.args.self.now c.self.view_is (cancel_tests (table_state c.self.inside.table) c.args.t) refl
+    tt c.cancel_telling.new.self c.in_ok-check_count.ensures c.in_ok-cancel_telling.ensures.refuses refl
+    (refl, c.in_ok-cancel_telling.ensures.told, ap (counting c.self.inside.accepted) c.in_ok-cancel_telling.ensures.state)

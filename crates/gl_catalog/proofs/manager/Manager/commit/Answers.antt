@@ -3,12 +3,12 @@ use Rattle.gl_table.specs.Refusals.{commit_tests}
 use Rattle.gl_table.specs.Table.{state_of as table_state}
 use Rattle.gl_catalog.specs.declared.command.Command.TheVariants as command
 use Rattle.gl_catalog.specs.Manager.{counting}
-use Rattle.gl_catalog.specs.Replies.{done}
+use Rattle.gl_catalog.specs.Replies.{doing}
 use Rattle.gl_catalog.proofs.Managed.{managed_ok_only}
 use Rattle.gl_catalog.proofs.manager.Manager.commit.Goals as goal
 
 pub returns-clause-step : goal.returns-clause-step
 returns-clause-step c =
-    managed_ok_only done (command.Commit c.args.t) c.self.inside.table c.self.inside.accepted c.args.self.now c.self.view_is (commit_tests (table_state c.self.inside.table) c.args.t) refl
-    c.in_ok-told.told c.commit.new.self c.in_ok-check_count.ensures c.in_ok-told.ensures.refuses refl
-    (refl, c.in_ok-told.ensures.told, ap (counting c.self.inside.accepted) c.in_ok-told.ensures.state)
+    managed_ok_only (doing c.commit_telling.new.notices.items) (command.Commit c.args.t) c.self.inside.table c.self.inside.accepted c.args.self.now c.self.view_is (commit_tests (table_state c.self.inside.table) c.args.t) refl
+    tt c.commit_telling.new.self c.in_ok-check_count.ensures c.in_ok-commit_telling.ensures.refuses refl
+    (refl, c.in_ok-commit_telling.ensures.told, ap (counting c.self.inside.accepted) c.in_ok-commit_telling.ensures.state)

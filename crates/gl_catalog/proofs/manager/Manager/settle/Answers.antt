@@ -2,13 +2,13 @@ use Rattle.std.proofs.Common.{refl}
 use Rattle.gl_table.specs.Refusals.{living_tests}
 use Rattle.gl_table.specs.Table.{state_of as table_state}
 use Rattle.gl_catalog.specs.declared.command.Command.TheVariants as command
-use Rattle.gl_catalog.specs.Replies.{done}
+use Rattle.gl_catalog.specs.Replies.{doing}
 use Rattle.gl_catalog.proofs.Counting.{settled_counting}
 use Rattle.gl_catalog.proofs.Managed.{managed_ok_only}
 use Rattle.gl_catalog.proofs.manager.Manager.settle.Goals as goal
 
 pub returns-clause-step : goal.returns-clause-step
 returns-clause-step c =
-    managed_ok_only done (command.Settle c.args.t) c.self.inside.table c.self.inside.accepted c.args.self.now c.self.view_is (living_tests (table_state c.self.inside.table) c.args.t) refl
-    c.in_ok-told.told c.settle.new.self c.in_ok-check_count.ensures c.in_ok-told.ensures.refuses refl
-    (refl, c.in_ok-told.ensures.told, settled_counting c.self.inside.accepted (table_state c.self.inside.table) c.args.t.slot (table_state c.settle.new.self) c.in_ok-told.ensures.state)
+    managed_ok_only (doing c.settle_telling.new.notices.items) (command.Settle c.args.t) c.self.inside.table c.self.inside.accepted c.args.self.now c.self.view_is (living_tests (table_state c.self.inside.table) c.args.t) refl
+    tt c.settle_telling.new.self c.in_ok-check_count.ensures c.in_ok-settle_telling.ensures.refuses refl
+    (refl, c.in_ok-settle_telling.ensures.told, settled_counting c.self.inside.accepted (table_state c.self.inside.table) c.args.t.slot (table_state c.settle_telling.new.self) c.in_ok-settle_telling.ensures.state)

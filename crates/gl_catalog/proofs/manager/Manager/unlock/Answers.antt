@@ -5,18 +5,18 @@ use Rattle.gl_table.specs.Refusals.{unlock_tests}
 use Rattle.gl_table.specs.Table.{state_of as table_state}
 use Rattle.gl_catalog.specs.declared.command.Command.TheVariants as command
 use Rattle.gl_catalog.specs.Manager.{counting, state_of}
-use Rattle.gl_catalog.specs.Replies.{CallSteps, Notices, done}
+use Rattle.gl_catalog.specs.Replies.{CallSteps, doing}
 use Rattle.gl_catalog.proofs.Managed.{managed_err, managed_ok_only}
 use Rattle.gl_catalog.proofs.manager.Manager.unlock.Goals as goal
 
-pub returns-in_err-told-clause-step : goal.returns-in_err-told-clause-step
-returns-in_err-told-clause-step c =
-    let is : c.from_residual-in_err-told.result ≡ Err c.in_err-told.field-0.0 = search rules in
-    subst (λ (r : Result Notices Refusal). CallSteps (state_of c.args.self.now) (command.Unlock c.args.t c.args.n) done r (counting c.self.inside.accepted (table_state c.unlock.new.self))) (sym is)
-    (managed_err done (command.Unlock c.args.t c.args.n) c.self.inside.table c.self.inside.accepted c.args.self.now c.self.view_is (unlock_tests (table_state c.self.inside.table) c.args.t c.args.n) refl
-    c.in_err-told.field-0.0 c.unlock.new.self c.in_ok-check_count.ensures c.in_err-told.ensures.refuses c.in_err-told.ensures.err)
+pub returns-in_err-unlock_telling-clause-step : goal.returns-in_err-unlock_telling-clause-step
+returns-in_err-unlock_telling-clause-step c =
+    let is : c.from_residual-in_err-unlock_telling.result ≡ Err c.in_err-unlock_telling.field-0.0 = search rules in
+    subst (λ (r : Result (Unit {0}) Refusal). CallSteps (state_of c.args.self.now) (command.Unlock c.args.t c.args.n) (doing c.unlock_telling.new.notices.items) r (counting c.self.inside.accepted (table_state c.unlock_telling.new.self))) (sym is)
+    (managed_err (doing c.unlock_telling.new.notices.items) (command.Unlock c.args.t c.args.n) c.self.inside.table c.self.inside.accepted c.args.self.now c.self.view_is (unlock_tests (table_state c.self.inside.table) c.args.t c.args.n) refl
+    c.in_err-unlock_telling.field-0.0 c.unlock_telling.new.self c.in_ok-check_count.ensures c.in_err-unlock_telling.ensures.refuses c.in_err-unlock_telling.ensures.err)
 
 pub returns-clause-step : goal.returns-clause-step
 returns-clause-step c =
-    managed_ok_only done (command.Unlock c.args.t c.args.n) c.self.inside.table c.self.inside.accepted c.args.self.now c.self.view_is (unlock_tests (table_state c.self.inside.table) c.args.t c.args.n) refl
-    c.in_ok-told.told c.unlock.new.self c.in_ok-check_count.ensures c.in_ok-told.ensures.refuses refl (refl, c.in_ok-told.ensures.told, ap (counting c.self.inside.accepted) c.in_ok-told.ensures.state)
+    managed_ok_only (doing c.unlock_telling.new.notices.items) (command.Unlock c.args.t c.args.n) c.self.inside.table c.self.inside.accepted c.args.self.now c.self.view_is (unlock_tests (table_state c.self.inside.table) c.args.t c.args.n) refl
+    tt c.unlock_telling.new.self c.in_ok-check_count.ensures c.in_ok-unlock_telling.ensures.refuses refl (refl, c.in_ok-unlock_telling.ensures.told, ap (counting c.self.inside.accepted) c.in_ok-unlock_telling.ensures.state)

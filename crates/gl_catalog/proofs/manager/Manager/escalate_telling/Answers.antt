@@ -6,12 +6,12 @@ use Rattle.gl_table.specs.Table.{state_of as table_state}
 use Rattle.gl_table.proofs.TableCalls.{test_passed}
 use Rattle.gl_catalog.specs.declared.command.Command.TheVariants as command
 use Rattle.gl_catalog.specs.Manager.{ManagerView, counting, state_of}
-use Rattle.gl_catalog.specs.Replies.{CallSteps, rose}
+use Rattle.gl_catalog.specs.Replies.{CallSteps, rising}
 use Rattle.gl_catalog.specs.Sound.{view_of}
 use Rattle.gl_catalog.specs.Tests.{escalate_asks, worn}
 use Rattle.gl_catalog.proofs.Raising.{asked_is, asks_err, raised_active, reads, shed_step, tried_err}
-use Rattle.gl_catalog.proofs.manager.Manager.escalate.Goals.{After-try_lock, then-writes_below, else-writes_below}
-use Rattle.gl_catalog.proofs.manager.Manager.escalate.Goals as goal
+use Rattle.gl_catalog.proofs.manager.Manager.escalate_telling.Goals.{After-try_lock, then-writes_below, else-writes_below}
+use Rattle.gl_catalog.proofs.manager.Manager.escalate_telling.Goals as goal
 
 passed : (c : After-try_lock) → first_refusal (worn (state_of (view_of c.self.inside)) ∷ escalate_asks (state_of (view_of c.self.inside)) c.args.t c.args.n) ≡ None
 passed c =
@@ -28,30 +28,30 @@ asked c =
 pub returns-in_err-check_escalate-clause-step : goal.returns-in_err-check_escalate-clause-step
 returns-in_err-check_escalate-clause-step c =
     let is : c.from_residual.result ≡ Err c.in_err-check_escalate.field-0.0 = search rules in
-    subst (λ r. CallSteps (state_of c.args.self.now) (command.Escalate c.args.t c.args.n) rose r (state_of c.args.self.now)) (sym is)
+    subst (λ r. CallSteps (state_of c.args.self.now) (command.Escalate c.args.t c.args.n) (rising c.args.told.now.items) r (state_of c.args.self.now)) (sym is)
     (asks_err (state_of c.args.self.now) c.args.t c.args.n c.in_err-check_escalate.field-0.0 c.in_err-check_escalate.ensures)
 
 pub returns-in_err-mode-clause-step : goal.returns-in_err-mode-clause-step
 returns-in_err-mode-clause-step c =
     let p = (goal.at.returns-in_err-mode-clause-step c).After-try_lock in
     let is : c.from_residual-in_err-mode.result ≡ Err c.in_err-mode.field-0.0 = search rules in
-    coe 0 1 (i. CallSteps (state_of (c.self.view_is i)) (command.Escalate c.args.t c.args.n) rose (sym is i) (counting c.self.inside.accepted (table_state (sym c.in_err-mode.ensures.err i))))
+    coe 0 1 (i. CallSteps (state_of (c.self.view_is i)) (command.Escalate c.args.t c.args.n) (rising c.args.told.now.items) (sym is i) (counting c.self.inside.accepted (table_state (sym c.in_err-mode.ensures.err i))))
     (tried_err (state_of (view_of c.self.inside)) c.args.t c.args.n (passed p) c.self.invariant.lawful c.if-writes_below.asked (asked p) c.in_err-mode.field-0.0 c.in_err-mode.ensures.refuses c.in_err-mode.ensures.held)
 
-pub shed-released-requires-clause-active : goal.shed-released-requires-clause-active
-shed-released-requires-clause-active c =
-    let p = (goal.at.shed-released-requires-clause-active c).After-try_lock in
+pub shed_telling-released-requires-clause-active : goal.shed_telling-released-requires-clause-active
+shed_telling-released-requires-clause-active c =
+    let p = (goal.at.shed_telling-released-requires-clause-active c).After-try_lock in
     raised_active c.self.inside.accepted (table_state c.self.inside.table) c.args.t c.args.n (passed p) c.if-writes_below.asked (asked p) (table_state c.try_lock.new.self) c.in_ok-mode.ensures.state
 
-pub shed-released-requires-clause-reads : goal.shed-released-requires-clause-reads
-shed-released-requires-clause-reads c =
-    let p = (goal.at.shed-released-requires-clause-reads c).After-try_lock in
+pub shed_telling-released-requires-clause-reads : goal.shed_telling-released-requires-clause-reads
+shed_telling-released-requires-clause-reads c =
+    let p = (goal.at.shed_telling-released-requires-clause-reads c).After-try_lock in
     reads c.self.inside.accepted (table_state c.self.inside.table) c.args.t c.args.n (passed p) c.if-writes_below.asked (asked p) (table_state c.try_lock.new.self) c.in_ok-mode.ensures.state
 
 pub returns-clause-step : goal.returns-clause-step
 returns-clause-step c =
     let p = (goal.at.returns-clause-step c).After-try_lock in
-    subst (λ (v : ManagerView). CallSteps (state_of v) (command.Escalate c.args.t c.args.n) rose (Ok (record { mode = c.in_ok-mode.mode; released = c.shed-released.result.0; kept = c.shed-released.result.1 }, c.shed-released.result.2)) (counting (c.self.inside.accepted + 1) (table_state c.shed-released.new.self))) c.self.view_is
+    subst (λ (v : ManagerView). CallSteps (state_of v) (command.Escalate c.args.t c.args.n) (rising c.shed_telling-released.new.notices.items) (Ok (record { mode = c.in_ok-mode.mode; released = c.shed_telling-released.result.0; kept = c.shed_telling-released.result.1 })) (counting (c.self.inside.accepted + 1) (table_state c.shed_telling-released.new.self))) c.self.view_is
     (shed_step c.self.inside.accepted (table_state c.self.inside.table) c.args.t c.args.n (passed p) c.if-writes_below.asked (asked p) (table_state c.try_lock.new.self) c.in_ok-mode.ensures.state
-    c.self.invariant.lawful c.in_ok-mode.mode c.in_ok-mode.ensures.mode c.in_ok-mode.ensures.refuses c.shed-released.result.0 c.shed-released.result.1 c.shed-released.result.2 (table_state c.shed-released.new.self)
-    c.shed-released.ensures.state c.shed-released.ensures.released c.shed-released.ensures.kept c.shed-released.ensures.told)
+    c.self.invariant.lawful c.in_ok-mode.mode c.in_ok-mode.ensures.mode c.in_ok-mode.ensures.refuses c.shed_telling-released.result.0 c.shed_telling-released.result.1 c.shed_telling-released.new.notices (table_state c.shed_telling-released.new.self)
+    c.shed_telling-released.ensures.state c.shed_telling-released.ensures.released c.shed_telling-released.ensures.kept c.shed_telling-released.ensures.told)

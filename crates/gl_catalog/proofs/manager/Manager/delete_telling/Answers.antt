@@ -3,17 +3,17 @@ use Rattle.gl_graph.proofs.Unrefused.{verdict_ok}
 use Rattle.gl_table.proofs.Locking.{test_refused}
 use Rattle.gl_catalog.specs.declared.command.Command.TheVariants as command
 use Rattle.gl_catalog.specs.Manager.{state_of}
-use Rattle.gl_catalog.specs.Replies.{done}
+use Rattle.gl_catalog.specs.Replies.{doing}
 use Rattle.gl_catalog.proofs.Carried.{refused_step}
 use Rattle.gl_catalog.proofs.Deletions.{deleted_step}
-use Rattle.gl_catalog.proofs.manager.Manager.delete.Goals as goal
+use Rattle.gl_catalog.proofs.manager.Manager.delete_telling.Goals as goal
 
 pub returns-in_err-check_delete-clause-step : goal.returns-in_err-check_delete-clause-step
 returns-in_err-check_delete-clause-step c =
     let exit = err_from_is_err_and c.from_residual.result c.from_residual.ensures.1 in
-    rw (exit.1, exit.2) (refused_step done (command.Delete c.args.t c.args.rec) (state_of c.args.self.now) _ (test_refused _ _ c.in_err-check_delete.ensures))
+    rw (exit.1, exit.2) (refused_step (doing c.args.told.now.items) (command.Delete c.args.t c.args.rec) (state_of c.args.self.now) _ (test_refused _ _ c.in_err-check_delete.ensures))
 
 pub returns-clause-step : goal.returns-clause-step
 returns-clause-step c =
-    deleted_step c.self.inside.table c.remove-told.new.self c.self.inside.accepted c.args.self.now c.self.view_is c.args.t c.args.rec c.remove-told.result
-    (verdict_ok _ _ c.in_ok-check_delete.ensures) c.remove-told.ensures.state c.remove-told.ensures.told
+    deleted_step c.self.inside.table c.remove_telling.new.self c.self.inside.accepted c.args.self.now c.self.view_is c.args.t c.args.rec c.remove_telling.new.notices
+    (verdict_ok _ _ c.in_ok-check_delete.ensures) c.remove_telling.ensures.state c.remove_telling.ensures.told

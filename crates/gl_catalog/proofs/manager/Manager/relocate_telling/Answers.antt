@@ -1,0 +1,55 @@
+use Rattle.std.specs.Prelude.{◌≡◌, ◌∷◌, ◌+◌, Result, Ok, Err}
+use Rattle.std.proofs.Common.{subst, sym, rules}
+use Rattle.gl_modes.specs.declared.refusal.Refusal.{Refusal}
+use Rattle.gl_graph.specs.Refusals.{first_refusal, verdict}
+use Rattle.gl_table.specs.Table.{TableView}
+use Rattle.gl_table.specs.Table.{state_of as table_state}
+use Rattle.gl_catalog.specs.declared.command.Command.TheVariants as command
+use Rattle.gl_catalog.specs.Manager.{ManagerView, counting, state_of}
+use Rattle.gl_catalog.specs.Replies.{CallSteps, doing}
+use Rattle.gl_catalog.specs.Sound.{view_of}
+use Rattle.gl_catalog.specs.Tests.{move_asks, worn}
+use Rattle.gl_catalog.proofs.Relocations.{MayRegraft, may_regraft, relocate_fails, relocate_refused, relocated}
+use Rattle.gl_catalog.proofs.manager.Manager.relocate_telling.Goals.{In_ok-check_relocate}
+use Rattle.gl_catalog.proofs.manager.Manager.relocate_telling.Goals as goal
+
+pub returns-in_err-check_relocate-clause-step : goal.returns-in_err-check_relocate-clause-step
+returns-in_err-check_relocate-clause-step c =
+    let is : c.from_residual.result ≡ Err c.in_err-check_relocate.field-0.0 = search rules in
+    subst (λ (r : Result (Unit {0}) Refusal). CallSteps (state_of c.args.self.now) (command.Move c.args.t c.args.n c.args.parents) (doing c.args.told.now.items) r (state_of c.args.self.now)) (sym is)
+    (relocate_refused (state_of c.args.self.now) c.args.t c.args.n c.args.parents c.in_err-check_relocate.field-0.0 c.in_err-check_relocate.ensures)
+
+-- all tests but the last were passed
+asked : (c : In_ok-check_relocate) → Ok tt ≡ verdict (first_refusal (worn (state_of (view_of c.self.inside)) ∷ move_asks (state_of (view_of c.self.inside)) c.args.t c.args.n c.args.parents.now))
+asked c = subst (λ (v : ManagerView). Ok tt ≡ verdict (first_refusal (worn (state_of v) ∷ move_asks (state_of v) c.args.t c.args.n c.args.parents.now))) (sym c.self.view_is) c.in_ok-check_relocate.ensures
+
+may : (c : In_ok-check_relocate) → MayRegraft (state_of (view_of c.self.inside)) c.args.t c.args.n c.args.parents.now
+may c = may_regraft (state_of (view_of c.self.inside)) c.args.t c.args.n c.args.parents (asked c)
+
+pub regraft_telling-requires-clause-active : goal.regraft_telling-requires-clause-active
+regraft_telling-requires-clause-active c = (may (goal.at.regraft_telling-requires-clause-active c).In_ok-check_relocate).active
+
+pub regraft_telling-requires-clause-movable : goal.regraft_telling-requires-clause-movable
+regraft_telling-requires-clause-movable c = (may (goal.at.regraft_telling-requires-clause-movable c).In_ok-check_relocate).movable
+
+pub regraft_telling-requires-clause-inner : goal.regraft_telling-requires-clause-inner
+regraft_telling-requires-clause-inner c = (may (goal.at.regraft_telling-requires-clause-inner c).In_ok-check_relocate).inner
+
+pub regraft_telling-requires-clause-exclusive : goal.regraft_telling-requires-clause-exclusive
+regraft_telling-requires-clause-exclusive c = (may (goal.at.regraft_telling-requires-clause-exclusive c).In_ok-check_relocate).exclusive
+
+pub regraft_telling-requires-clause-rule : goal.regraft_telling-requires-clause-rule
+regraft_telling-requires-clause-rule c = (may (goal.at.regraft_telling-requires-clause-rule c).In_ok-check_relocate).rule
+
+pub returns-in_err-regraft_telling-clause-step : goal.returns-in_err-regraft_telling-clause-step
+returns-in_err-regraft_telling-clause-step c =
+    let at = (goal.at.returns-in_err-regraft_telling-clause-step c).In_ok-check_relocate in
+    let is : c.from_residual-in_err-regraft_telling.result ≡ Err c.in_err-regraft_telling.field-0.0 = search rules in
+    subst (λ (x : ManagerView × Result (Unit {0}) Refusal × TableView). CallSteps (state_of x.0) (command.Move c.args.t c.args.n c.args.parents) (doing c.regraft_telling.new.notices.items) x.1 (counting c.self.inside.accepted (table_state x.2)))
+    (λ i. (c.self.view_is i, sym is i, sym c.in_err-regraft_telling.ensures.err i))
+    (relocate_fails (state_of (view_of c.self.inside)) c.args.t c.args.n c.args.parents (asked at) c.in_err-regraft_telling.field-0.0 c.in_err-regraft_telling.ensures.refused)
+
+pub returns-clause-step : goal.returns-clause-step
+returns-clause-step c = let at = (goal.at.returns-clause-step c).In_ok-check_relocate in
+    subst (λ (v : ManagerView). CallSteps (state_of v) (command.Move c.args.t c.args.n c.args.parents) (doing c.regraft_telling.new.notices.items) (Ok tt) (counting (c.self.inside.accepted + 1) (table_state c.regraft_telling.new.self))) c.self.view_is
+    (relocated c.self.inside.accepted (table_state c.self.inside.table) (table_state c.regraft_telling.new.self) c.args.t c.args.n c.args.parents c.regraft_telling.new.notices (asked at) c.in_ok-regraft_telling.ensures.clear c.in_ok-regraft_telling.ensures.told c.in_ok-regraft_telling.ensures.state)
