@@ -1,0 +1,126 @@
+//! The calls of a round: commands through the manager, or the table's own.
+
+use crate::placing::placed;
+use gl_catalog::{Answer, Command, Manager};
+use gl_modes::{Mode, NodeId};
+use gl_table::{Locked, Table, TxnId};
+
+/// The key of the record.
+pub(crate) const KEY: u64 = 50;
+
+/// The bound between the two intervals of the index.
+const BOUND: u64 = 100;
+
+/// What a round asks for. What is refused is answered by a name that names nothing.
+pub(crate) trait Calls {
+    fn new_root(&mut self) -> NodeId;
+
+    fn new_file(&mut self, root: NodeId) -> NodeId;
+
+    fn new_index(&mut self, root: NodeId, file: NodeId) -> NodeId;
+
+    fn first_interval(&self, index: NodeId) -> NodeId;
+
+    fn new_record(&mut self, txn: TxnId, file: NodeId, index: NodeId) -> NodeId;
+
+    fn start(&mut self) -> TxnId;
+    /// 1 where the lock is granted, else 0.
+    fn ask(&mut self, txn: TxnId, node: NodeId, mode: Mode) -> u64;
+
+    fn finish(&mut self, txn: TxnId);
+}
+
+fn made(answer: Answer) -> NodeId {
+    match answer {
+        Answer::Node(node) => node,
+        _ => NodeId::NONE,
+    }
+}
+
+impl Calls for Manager {
+    fn new_root(&mut self) -> NodeId {
+        made(self.apply(Command::Inner { parents: &[] }).answer)
+    }
+
+    fn new_file(&mut self, root: NodeId) -> NodeId {
+        made(self.apply(Command::File { parents: &[root] }).answer)
+    }
+
+    fn new_index(&mut self, root: NodeId, file: NodeId) -> NodeId {
+        let index = Command::Index {
+            parents: &[root],
+            file,
+            bounds: &[BOUND],
+        };
+        made(self.apply(index).answer)
+    }
+
+    fn first_interval(&self, index: NodeId) -> NodeId {
+        self.graph().interval(index, 0).unwrap_or(NodeId::NONE)
+    }
+
+    fn new_record(&mut self, txn: TxnId, file: NodeId, _index: NodeId) -> NodeId {
+        let record = Command::Insert {
+            txn,
+            file,
+            keys: &[KEY],
+        };
+        made(self.apply(record).answer)
+    }
+
+    fn start(&mut self) -> TxnId {
+        match self.apply(Command::Begin).answer {
+            Answer::Begun(txn) => txn,
+            _ => TxnId::NONE,
+        }
+    }
+
+    fn ask(&mut self, txn: TxnId, node: NodeId, mode: Mode) -> u64 {
+        match self.apply(Command::Lock { txn, node, mode }).answer {
+            Answer::Granted(_) => 1,
+            _ => 0,
+        }
+    }
+
+    fn finish(&mut self, txn: TxnId) {
+        self.apply(Command::Commit { txn });
+    }
+}
+
+impl Calls for Table {
+    fn new_root(&mut self) -> NodeId {
+        self.add_inner(&[]).unwrap_or(NodeId::NONE)
+    }
+
+    fn new_file(&mut self, root: NodeId) -> NodeId {
+        self.add_file(&[root]).unwrap_or(NodeId::NONE)
+    }
+
+    fn new_index(&mut self, root: NodeId, file: NodeId) -> NodeId {
+        self.add_index(&[root], file, &[BOUND])
+            .unwrap_or(NodeId::NONE)
+    }
+
+    fn first_interval(&self, index: NodeId) -> NodeId {
+        self.graph().interval(index, 0).unwrap_or(NodeId::NONE)
+    }
+
+    fn new_record(&mut self, txn: TxnId, file: NodeId, index: NodeId) -> NodeId {
+        placed(self, txn, file, index, KEY)
+    }
+
+    fn start(&mut self) -> TxnId {
+        self.begin().unwrap_or(TxnId::NONE)
+    }
+
+    fn ask(&mut self, txn: TxnId, node: NodeId, mode: Mode) -> u64 {
+        match self.lock(txn, node, mode) {
+            Ok((Locked::Granted(_), _)) => 1,
+            _ => 0,
+        }
+    }
+
+    fn finish(&mut self, txn: TxnId) {
+        let _ = self.commit(txn);
+    }
+}
