@@ -20,8 +20,8 @@ pub enum Notice {
 }
 
 impl Default for Notice {
-    /// What lies in an unused place of a list. It is zero in every byte, so that a whole list of them
-    /// is made at once.
+    /// What lies in an unused place of a list. It is zero in every field, so that a list is filled by
+    /// wide stores of zero.
     fn default() -> Self
         ensures { result ≡ Notice.Granted (record { key = 0; birth = 0 }) Mode.NL }
     {
