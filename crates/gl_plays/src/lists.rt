@@ -1,6 +1,6 @@
 //! Waits by commands, and whole lists of them.
 
-use crate::scene::{Again, Scene, done, granted, refused, tells, waits};
+use crate::scene::{Again, Scene, done, granted, refused, said_in, tells, waits};
 use gl_catalog::{Answer, Command, Manager, run_commands};
 use gl_modes::{Mode, Refusal};
 use gl_table::{Detect, Notice, TxnId};
@@ -78,5 +78,37 @@ fn a_list_is_answered_in_order(rt: HostRuntime) -> Result<(), Fail> {
     assert_eq!(rt; replies[3].answer, Answer::Refused(Refusal::TooManyTxns));
     assert_eq!(rt; manager.accepted(), 3);
     assert_eq!(rt; manager.board().ages[1], 2);
+    Ok(())
+}
+
+/// No command of the list wants memory: all that can be refused its room is the list.
+#[test]
+fn a_refused_list_applies_nothing(rt: HostRuntime) -> Result<(), Fail> {
+    let mut scene = Scene::new(rt.alloc(), Again::Yes)?;
+    let db = scene.inner(&rt, &[]);
+    let a = scene.begin(&rt);
+    let b = scene.begin(&rt);
+    scene.lock_all(&rt, a, Mode::S, &[db]);
+    assert_eq!(rt; scene.lock(&rt, b, Mode::IX, db), waits());
+    let list = [
+        Command::Begin,
+        Command::Group { node: db },
+        Command::Commit { txn: b },
+        Command::Commit { txn: a },
+        Command::Held { txn: b, node: db },
+    ];
+    let replies = scene.ask_list(&rt, rt.alloc(), &list)?;
+    let wanted = [
+        (Answer::Begun(TxnId { slot: 2, age: 3 }), None),
+        (Answer::Mode(Mode::S), None),
+        refused(Refusal::TxnWaiting),
+        tells(b, Notice::Granted(db, Mode::IX)),
+        (Answer::Mode(Mode::IX), None),
+    ];
+    assert_eq!(rt; replies.len(), wanted.len());
+    for (reply, said) in replies.iter().zip(wanted) {
+        assert_eq!(rt; said_in(reply), said);
+    }
+    assert_eq!(rt; scene.manager.accepted(), 7);
     Ok(())
 }

@@ -1,7 +1,7 @@
 //! A manager with all that was made in it, and commands in few words.
 
 use arrayvec::ArrayVec;
-use gl_catalog::{Answer, Command, Manager};
+use gl_catalog::{Answer, Command, Manager, Reply, run_commands};
 use gl_modes::{Mode, NodeId, Refusal};
 use gl_table::{Detect, Notice, TxnId};
 use gl_waits::Board;
@@ -18,6 +18,7 @@ type Hold = (TxnId, NodeId, Mode, Option<u32>);
 #[derive(Drop)]
 struct View {
     board: Board,
+    accepted: u64,
     groups: ArrayVec<Mode, 16>,
     holds: ArrayVec<Hold, 64>,
 }
@@ -63,6 +64,11 @@ pub fn refused(refusal: Refusal) -> Said {
     (Answer::Refused(refusal), None)
 }
 
+/// What a reply says.
+pub fn said_in(reply: &Reply) -> Said {
+    (reply.answer, reply.told.as_slice().first().copied())
+}
+
 /// The mode that was asked after, `NL` for another answer.
 fn mode_in(answer: Answer) -> Mode {
     match answer {
@@ -98,11 +104,35 @@ impl Scene {
         if said != refused(Refusal::NoMemory) || self.again == Again::No {
             return said;
         }
+        self.assert_unchanged(rt, &before);
+        self.apply(command)
+    }
+
+    /// Runs a list of commands. Where its room was refused nothing may have changed, and it is run
+    /// again.
+    pub fn ask_list(
+        &mut self,
+        rt: &impl Abort,
+        alloc: Global,
+        commands: &[Command<'_>],
+    ) -> Result<Vec<Reply>, Refusal> {
+        let before = self.view();
+        match run_commands(alloc, &mut self.manager, commands) {
+            Err(Refusal::NoMemory) if self.again == Again::Yes => {
+                self.assert_unchanged(rt, &before);
+                run_commands(alloc, &mut self.manager, commands)
+            }
+            answer => answer,
+        }
+    }
+
+    /// All that can be asked is as it was then.
+    fn assert_unchanged(&mut self, rt: &impl Abort, before: &View) {
         let after = self.view();
         assert!(rt; after.board == before.board);
+        assert!(rt; after.accepted == before.accepted);
         assert!(rt; after.groups.as_slice() == before.groups.as_slice());
         assert!(rt; after.holds.as_slice() == before.holds.as_slice());
-        self.apply(command)
     }
 
     fn apply(&mut self, command: Command<'_>) -> Said {
@@ -114,7 +144,7 @@ impl Scene {
             }
             _ => {}
         }
-        (reply.answer, reply.told.as_slice().first().copied())
+        said_in(&reply)
     }
 
     /// Adds a node, and behind an index its intervals.
@@ -130,6 +160,7 @@ impl Scene {
     fn view(&mut self) -> View {
         let mut view = View {
             board: self.manager.board(),
+            accepted: self.manager.accepted(),
             groups: ArrayVec::new(),
             holds: ArrayVec::new(),
         };

@@ -7,4 +7,6 @@ mod calls;
 #[cfg(test)]
 mod growths;
 #[cfg(test)]
+mod story;
+#[cfg(test)]
 mod waits;
