@@ -1,3 +1,4 @@
 pub mod Splitting
 pub mod NodeTexts
 pub mod Numbers
+pub mod ListTexts

@@ -39,5 +39,8 @@ pub has_byte : (c : ℕ) (a x : List ℕ) → All (λ u. u ≢ c) (a ++ c ∷ x)
 has_byte c [] x h = All-head (λ u. u ≢ c) c x h refl
 has_byte c (d ∷ a) x h = has_byte c a x (All-tail (λ u. u ≢ c) d (a ++ c ∷ x) h)
 
+pub same_test : (n m : ℕ) (b : Bool) → b ≡ (n == m) → b ≡ true → n ≡ m
+same_test n m b e t = (Decides-eqb n m).0 (sym e ∙ t)
+
 pub other_test : (n m : ℕ) (b : Bool) → b ≡ (n == m) → b ≡ false → n ≢ m
 other_test n m b e f same = true≢false (sym ((Decides-eqb n m).1 same) ∙ sym e ∙ f)

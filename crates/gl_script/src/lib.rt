@@ -6,7 +6,9 @@
 
 mod fields;
 mod form;
+mod listing;
 mod reads;
+mod shapes;
 mod verb;
 
 pub use form::{Form, Lists, Version, one_command};

@@ -1,11 +1,12 @@
 //! Names, nodes and numbers, as a line spells them.
 
-ghost use Rattle.std.specs.Prelude.{◌≡◌, ◌≢◌, ℕ, ◌<◌, ◌^◌, ◌↔◌, decimal, IfSome, IfNone, IsTrue};
-ghost use Rattle.gl_script.specs.Grammar.{IsName, Node, IsNode, node_text};
+ghost use Rattle.std.specs.Prelude.{◌≡◌, ◌≢◌, ℕ, ◌<◌, ◌^◌, ◌↔◌, ◌∷◌, List, decimal, IfSome, IfNone, IsTrue};
+ghost use Rattle.gl_script.specs.Grammar.{Text, IsName, Node, IsNode, node_text};
+ghost use Rattle.gl_script.specs.Left.{left};
 ghost use Rattle.gl_script.specs.Views.{node_of};
 ghost use Rattle.gl_script.specs.Numbers.{IsPlain};
 
-use crate::fields::cut;
+use crate::fields::{Fields, cut};
 use arrayvec::ArrayVec;
 use std::str;
 
@@ -19,6 +20,22 @@ pub struct Used {
     pub name: Name,
     /// Which interval of the index, where it is one.
     pub interval: Option<u64>,
+}
+
+/// The name that the next field is, if it is one.
+pub(crate) fn next_name(fields: &mut Fields) -> Option<Name>
+    ensures found { IfSome result (λ name. IsName name.items × (left fields.old ≡ name.items ∷ left fields.new)) }
+    ensures none { IfNone result ((n : Text) (more : List Text) → IsName n → left fields.old ≢ n ∷ more) }
+{
+    read_name(fields.next()?)
+}
+
+/// The node that the next field names, if it names one.
+pub(crate) fn next_node(fields: &mut Fields) -> Option<Used>
+    ensures found { IfSome result (λ used. IsNode (node_of used) × (left fields.old ≡ node_text (node_of used) ∷ left fields.new)) }
+    ensures none { IfNone result ((n : Node) (more : List Text) → IsNode n → left fields.old ≢ node_text n ∷ more) }
+{
+    read_used(fields.next()?)
 }
 
 /// The node that the bytes name, if they name one.
