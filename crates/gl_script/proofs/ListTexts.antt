@@ -1,5 +1,5 @@
 -- Lists are spelt in one way: a field that spells nothing stands in no list.
-use Rattle.std.proofs.Common.{◌≡◌, ◌≢◌, ℕ, ◌<◌, List, [], ◌∷◌, ◌++◌, All, map, length, codes, decimal, sym, ap, ◌∙◌, subst, append_assoc, arith}
+use Rattle.std.proofs.Common.{◌≡◌, ◌≢◌, ℕ, ◌<◌, List, [], ◌∷◌, ◌++◌, All, map, length, codes, decimal, refl, sym, ap, ap₂, ◌∙◌, subst, append_assoc, arith}
 use Rattle.std.proofs.lemmas.List.{map_push}
 use Rattle.std.proofs.lemmas.List.Elements.{All-head, All-tail, All-cons, All-nil}
 use Rattle.gl_script.specs.Grammar.{Text, Node, Plain, Interval, IsNode, AreSomeNodes, node_text, parents}
@@ -27,6 +27,32 @@ on_no_dot = All-cons (λ b. b ≢ 46) 111 (110 ∷ []) (λ e. omega (arith, e)) 
 pub on_is_no_node : (n : Node) → IsNode n → node_text n ≢ codes "on"
 on_is_no_node (Plain m) is e = is.not_on e
 on_is_no_node (Interval m k) is e = has_byte 46 m (decimal k) (subst (All (λ b. b ≢ 46)) (sym e) on_no_dot)
+
+-- the first word `on` parts nodes from what follows
+on_parts_nodes : (ms ns : List Node) (x y : List Text) → All IsNode ms → All IsNode ns
+    → map node_text ms ++ codes "on" ∷ x ≡ map node_text ns ++ codes "on" ∷ y → (map node_text ms ≡ map node_text ns) × (x ≡ y)
+on_parts_nodes [] [] x y p q e = (refl, cc)
+on_parts_nodes [] (n ∷ ns) x y p q e = absurd (on_is_no_node n (All-head IsNode n ns q) (cc))
+on_parts_nodes (m ∷ ms) [] x y p q e = absurd (on_is_no_node m (All-head IsNode m ms p) (cc))
+on_parts_nodes (m ∷ ms) (n ∷ ns) x y p q e =
+    let head : node_text m ≡ node_text n = cc in
+    let more = on_parts_nodes ms ns x y (All-tail IsNode m ms p) (All-tail IsNode n ns q) (cc) in
+    (ap₂ (λ (f : Text) (fs : List Text). f ∷ fs) head more.0, more.1)
+
+pub on_parts : (ps qs : List Node) (x y : List Text) → AreSomeNodes ps → AreSomeNodes qs
+    → parents ps ++ codes "on" ∷ x ≡ parents qs ++ codes "on" ∷ y → (parents ps ≡ parents qs) × (x ≡ y)
+on_parts [] qs x y p q e = absurd (omega (arith, p.1))
+on_parts (p ∷ ps) [] x y h q e = absurd (omega (arith, q.1))
+on_parts (p ∷ ps) (q ∷ qs) x y h k e =
+    let more = on_parts_nodes (p ∷ ps) (q ∷ qs) x y h.0 k.0 (cc) in
+    (ap (λ fs. codes ":" ∷ fs) more.0, more.1)
+
+-- so what follows it behind a name and parents is known
+pub behind_on : (name : Text) (rest : List Text) (read : List Node) (after : List Text) (n : Text) (ps : List Node) (more : List Text)
+    → rest ≡ parents read ++ codes "on" ∷ after → AreSomeNodes read → AreSomeNodes ps → name ∷ rest ≡ n ∷ (parents ps ++ codes "on" ∷ more) → after ≡ more
+behind_on name rest read after n ps more was had some e =
+    let tail : rest ≡ parents ps ++ codes "on" ∷ more = cc in
+    (on_parts read ps after more had some (sym was ∙ tail)).1
 
 -- before the word `on` stands a field that is no node
 pub none_before_on : (done : List Node) (field : Text) (rest : List Text) (ns : List Node) (more : List Text)
