@@ -2,3 +2,4 @@ pub mod Splitting
 pub mod NodeTexts
 pub mod Numbers
 pub mod ListTexts
+pub mod Verbs

@@ -1,8 +1,27 @@
 //! The forms of a line.
 
 ghost use Rattle.std.specs.Prelude.{◌≡◌, ◌≢◌, ℕ, ◌≤◌, ◌∷◌, [], List, IfSome, IfNone, length, codes};
+ghost use Rattle.gl_script.specs.Grammar.{Command, Says, SaysFields, LineSaysOneCommand};
+ghost use Rattle.gl_script.specs.Left.{left};
+ghost use Rattle.gl_script.specs.Views.{command_of};
+ghost use Rattle.gl_script.specs.Words.{word};
 
+use crate::fields::Fields;
 use crate::reads::{Name, Used};
+use crate::shapes::{
+    name_parents,
+    name_parents_file_bounds,
+    name_some_parents,
+    only_name,
+    only_node,
+    txn_mode_node,
+    txn_node,
+    txn_node_parents,
+    txn_record,
+    txn_record_file_keys,
+    txn_record_index_key,
+};
+use crate::verb::{Verb, read_verb};
 use arrayvec::ArrayVec;
 use gl_modes::Mode;
 
@@ -79,5 +98,51 @@ impl Lists {
     }
 }
 
+/// The command that a line of at most 256 bytes says, if it says one. What it lists is then in
+/// `lists`, whatever was there before.
+pub fn parse(version: Version, line: &[u8], lists: &mut Lists) -> Option<Form>
+    requires short { length line.now ≤ 256 }
+    ensures says { IfSome result (λ form. Says version line.now (command_of form lists.new)) }
+    ensures none { IfNone result ((c : Command) → Says version line.now c → ⊥) }
+{
+    let mut fields = Fields::of(line);
+    let verb = read_verb(fields.next()?)?;
+    read_command(version, verb, &mut fields, lists)
+}
+
+/// The command that a verb and the fields behind it say, if they say one.
+fn read_command(version: Version, verb: Verb, fields: &mut Fields, lists: &mut Lists) -> Option<Form>
+    requires room { length (left fields.old) ≤ 257 }
+    ensures says { IfSome result (λ form. SaysFields version (word verb ∷ left fields.old) (command_of form lists.new)) }
+    ensures none { IfNone result ((c : Command) → SaysFields version (word verb ∷ left fields.old) c → ⊥) }
+{
+    match verb {
+        Verb::Inner => name_parents(fields, &mut lists.nodes).map(|name| Form::Inner { name }),
+        Verb::File => name_some_parents(fields, &mut lists.nodes).map(|name| Form::File { name }),
+        Verb::Index => name_parents_file_bounds(fields, lists).map(|(name, file)| Form::Index { name, file }),
+        Verb::Begin => only_name(fields).map(|txn| Form::Begin { txn }),
+        Verb::Lock => txn_mode_node(fields).map(|(txn, mode, node)| Form::Lock { txn, mode, node }),
+        Verb::Try => txn_mode_node(fields).map(|(txn, mode, node)| Form::Try { txn, mode, node }),
+        Verb::Unlock => txn_node(fields).map(|(txn, node)| Form::Unlock { txn, node }),
+        Verb::Cancel => only_name(fields).map(|txn| Form::Cancel { txn }),
+        Verb::Commit => only_name(fields).map(|txn| Form::Commit { txn }),
+        Verb::Abort => only_name(fields).map(|txn| Form::Abort { txn }),
+        Verb::Settle => only_name(fields).map(|txn| Form::Settle { txn }),
+        Verb::Insert => txn_record_file_keys(fields, &mut lists.numbers).map(|(txn, name, file)| Form::Insert { txn, name, file }),
+        Verb::Delete => txn_record(fields).map(|(txn, rec)| Form::Delete { txn, rec }),
+        Verb::Rekey => txn_record_index_key(fields).map(|(txn, rec, index, key)| Form::Rekey { txn, rec, index, key }),
+        Verb::Escalate => txn_node(fields).map(|(txn, node)| Form::Escalate { txn, node }),
+        Verb::Move => match version {
+            Version::One => None,
+            Version::Two => txn_node_parents(fields, &mut lists.nodes).map(|(txn, node)| Form::Move { txn, node }),
+        },
+        Verb::Group => only_node(fields).map(|node| Form::Group { node }),
+        Verb::Held => txn_node(fields).map(|(txn, node)| Form::Held { txn, node }),
+        Verb::Effective => txn_node(fields).map(|(txn, node)| Form::Effective { txn, node }),
+    }
+}
+
 /// A line says at most one command.
-pub fn one_command() {}
+pub fn one_command()
+    ensures { LineSaysOneCommand }
+{}

@@ -11,5 +11,5 @@ mod reads;
 mod shapes;
 mod verb;
 
-pub use form::{Form, Lists, Version, one_command};
+pub use form::{Form, Lists, Version, one_command, parse};
 pub use reads::{Name, Used};
