@@ -3,3 +3,4 @@ pub mod NodeTexts
 pub mod Numbers
 pub mod ListTexts
 pub mod Verbs
+pub mod OneCommand
