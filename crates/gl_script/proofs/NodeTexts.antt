@@ -25,4 +25,3 @@ pub none_back : (text front back : List ℕ) → text ≡ front ++ 46 ∷ back �
 none_back text front back cut here nay (Plain m) is e = has_byte 46 front back (subst (All (λ b. b ≢ 46)) (sym e ∙ cut) (name_no_dot m is))
 none_back text front back cut here nay (Interval m k) is e =
     nay k is.1 (cut_once 46 front m back (decimal k) here (name_no_dot m is.0) (sym cut ∙ e)).1
-

@@ -6,7 +6,6 @@ use Rattle.gl_script.specs.declared.verb.Verb.TheVariants as verb
 use Rattle.gl_script.specs.Grammar.{Text, Command, fields}
 use Rattle.gl_script.specs.Grammar as grammar
 
-
 pub first_verb : (f : Text) (rest : List Text) (c : Command) → f ∷ rest ≡ fields c → (v : Verb) × (f ≡ word v)
 first_verb g rest (grammar.Inner n ps) e = (verb.Inner, cc)
 first_verb g rest (grammar.File n ps) e = (verb.File, cc)

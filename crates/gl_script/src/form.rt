@@ -9,17 +9,8 @@ ghost use Rattle.gl_script.specs.Words.{word};
 use crate::fields::Fields;
 use crate::reads::{Name, Used};
 use crate::shapes::{
-    name_parents,
-    name_parents_file_bounds,
-    name_some_parents,
-    only_name,
-    only_node,
-    txn_mode_node,
-    txn_node,
-    txn_node_parents,
-    txn_record,
-    txn_record_file_keys,
-    txn_record_index_key,
+    name_parents, name_parents_file_bounds, name_some_parents, only_name, only_node, txn_mode_node,
+    txn_node, txn_node_parents, txn_record, txn_record_file_keys, txn_record_index_key,
 };
 use crate::verb::{Verb, read_verb};
 use arrayvec::ArrayVec;
@@ -38,43 +29,97 @@ pub enum Version {
 #[derive(Drop)]
 pub enum Form {
     /// A new inner node, and its parents.
-    Inner { name: Name },
+    Inner {
+        name: Name,
+    },
     /// A new file, and its parents.
-    File { name: Name },
+    File {
+        name: Name,
+    },
     /// A new index of a file, its parents, and its bounds.
-    Index { name: Name, file: Name },
+    Index {
+        name: Name,
+        file: Name,
+    },
     /// A new transaction.
-    Begin { txn: Name },
+    Begin {
+        txn: Name,
+    },
     /// Ask for a lock, and wait if need be.
-    Lock { txn: Name, mode: Mode, node: Used },
+    Lock {
+        txn: Name,
+        mode: Mode,
+        node: Used,
+    },
     /// Ask for a lock, and be refused if it would wait.
-    Try { txn: Name, mode: Mode, node: Used },
+    Try {
+        txn: Name,
+        mode: Mode,
+        node: Used,
+    },
     /// Release one node.
-    Unlock { txn: Name, node: Used },
+    Unlock {
+        txn: Name,
+        node: Used,
+    },
     /// Take a wait back.
-    Cancel { txn: Name },
+    Cancel {
+        txn: Name,
+    },
     /// End.
-    Commit { txn: Name },
+    Commit {
+        txn: Name,
+    },
     /// End, also while waiting or condemned.
-    Abort { txn: Name },
+    Abort {
+        txn: Name,
+    },
     /// Condemn until the transaction is on no cycle.
-    Settle { txn: Name },
+    Settle {
+        txn: Name,
+    },
     /// A new record of a file, and its keys.
-    Insert { txn: Name, name: Name, file: Name },
+    Insert {
+        txn: Name,
+        name: Name,
+        file: Name,
+    },
     /// Take a record away.
-    Delete { txn: Name, rec: Name },
+    Delete {
+        txn: Name,
+        rec: Name,
+    },
     /// Give a record another key for an index.
-    Rekey { txn: Name, rec: Name, index: Name, key: u64 },
+    Rekey {
+        txn: Name,
+        rec: Name,
+        index: Name,
+        key: u64,
+    },
     /// Raise the lock of a node in place of locks on its children.
-    Escalate { txn: Name, node: Used },
+    Escalate {
+        txn: Name,
+        node: Used,
+    },
     /// Give a node other parents.
-    Move { txn: Name, node: Used },
+    Move {
+        txn: Name,
+        node: Used,
+    },
     /// The group mode of a node.
-    Group { node: Used },
+    Group {
+        node: Used,
+    },
     /// The mode in which a transaction holds a node.
-    Held { txn: Name, node: Used },
+    Held {
+        txn: Name,
+        node: Used,
+    },
     /// What a transaction may do to a node by all its locks together.
-    Effective { txn: Name, node: Used },
+    Effective {
+        txn: Name,
+        node: Used,
+    },
 }
 
 /// What a line lists: the parents of a node, and the bounds of an index or the keys of a record. A
@@ -111,7 +156,12 @@ pub fn parse(version: Version, line: &[u8], lists: &mut Lists) -> Option<Form>
 }
 
 /// The command that a verb and the fields behind it say, if they say one.
-fn read_command(version: Version, verb: Verb, fields: &mut Fields, lists: &mut Lists) -> Option<Form>
+fn read_command(
+    version: Version,
+    verb: Verb,
+    fields: &mut Fields,
+    lists: &mut Lists,
+) -> Option<Form>
     requires room { length (left fields.old) ≤ 257 }
     ensures says { IfSome result (λ form. SaysFields version (word verb ∷ left fields.old) (command_of form lists.new)) }
     ensures none { IfNone result ((c : Command) → SaysFields version (word verb ∷ left fields.old) c → ⊥) }
@@ -119,7 +169,10 @@ fn read_command(version: Version, verb: Verb, fields: &mut Fields, lists: &mut L
     match verb {
         Verb::Inner => name_parents(fields, &mut lists.nodes).map(|name| Form::Inner { name }),
         Verb::File => name_some_parents(fields, &mut lists.nodes).map(|name| Form::File { name }),
-        Verb::Index => name_parents_file_bounds(fields, lists).map(|(name, file)| Form::Index { name, file }),
+        Verb::Index => name_parents_file_bounds(fields, lists).map(|(name, file)| Form::Index {
+            name,
+            file,
+        }),
         Verb::Begin => only_name(fields).map(|txn| Form::Begin { txn }),
         Verb::Lock => txn_mode_node(fields).map(|(txn, mode, node)| Form::Lock { txn, mode, node }),
         Verb::Try => txn_mode_node(fields).map(|(txn, mode, node)| Form::Try { txn, mode, node }),
@@ -128,13 +181,25 @@ fn read_command(version: Version, verb: Verb, fields: &mut Fields, lists: &mut L
         Verb::Commit => only_name(fields).map(|txn| Form::Commit { txn }),
         Verb::Abort => only_name(fields).map(|txn| Form::Abort { txn }),
         Verb::Settle => only_name(fields).map(|txn| Form::Settle { txn }),
-        Verb::Insert => txn_record_file_keys(fields, &mut lists.numbers).map(|(txn, name, file)| Form::Insert { txn, name, file }),
+        Verb::Insert => txn_record_file_keys(fields, &mut lists.numbers).map(|(
+            txn,
+            name,
+            file,
+        )| Form::Insert { txn, name, file }),
         Verb::Delete => txn_record(fields).map(|(txn, rec)| Form::Delete { txn, rec }),
-        Verb::Rekey => txn_record_index_key(fields).map(|(txn, rec, index, key)| Form::Rekey { txn, rec, index, key }),
+        Verb::Rekey => txn_record_index_key(fields).map(|(txn, rec, index, key)| Form::Rekey {
+            txn,
+            rec,
+            index,
+            key,
+        }),
         Verb::Escalate => txn_node(fields).map(|(txn, node)| Form::Escalate { txn, node }),
         Verb::Move => match version {
             Version::One => None,
-            Version::Two => txn_node_parents(fields, &mut lists.nodes).map(|(txn, node)| Form::Move { txn, node }),
+            Version::Two => txn_node_parents(fields, &mut lists.nodes).map(|(
+                txn,
+                node,
+            )| Form::Move { txn, node }),
         },
         Verb::Group => only_node(fields).map(|node| Form::Group { node }),
         Verb::Held => txn_node(fields).map(|(txn, node)| Form::Held { txn, node }),

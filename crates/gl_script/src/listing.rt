@@ -13,7 +13,10 @@ use arrayvec::ArrayVec;
 pub(crate) const MOST_LISTED: usize = 257;
 
 /// All fields that are left, each of them a number.
-pub(crate) fn read_numbers(fields: &mut Fields, numbers: &mut ArrayVec<u64, MOST_LISTED>) -> Option<()>
+pub(crate) fn read_numbers(
+    fields: &mut Fields,
+    numbers: &mut ArrayVec<u64, MOST_LISTED>,
+) -> Option<()>
     requires room { length (left fields.old) ≤ 257 }
     ensures found { IfSome result (λ _. All IsNumber numbers.new.items × (left fields.old ≡ map decimal numbers.new.items)) }
     ensures none { IfNone result ((ks : List ℕ) → All IsNumber ks → left fields.old ≢ map decimal ks) }
@@ -26,7 +29,10 @@ pub(crate) fn read_numbers(fields: &mut Fields, numbers: &mut ArrayVec<u64, MOST
 }
 
 /// Parents, if there are any, and nothing behind them.
-pub(crate) fn read_parents(fields: &mut Fields, nodes: &mut ArrayVec<Used, MOST_LISTED>) -> Option<()>
+pub(crate) fn read_parents(
+    fields: &mut Fields,
+    nodes: &mut ArrayVec<Used, MOST_LISTED>,
+) -> Option<()>
     requires room { length (left fields.old) ≤ 257 }
     ensures found { IfSome result (λ _. All IsNode (map node_of nodes.new.items) × (left fields.old ≡ parents (map node_of nodes.new.items))) }
     ensures none { IfNone result ((ps : List Node) → All IsNode ps → left fields.old ≢ parents ps) }
@@ -43,7 +49,10 @@ pub(crate) fn read_parents(fields: &mut Fields, nodes: &mut ArrayVec<Used, MOST_
 }
 
 /// Parents, and the word `on` behind them.
-pub(crate) fn read_parents_on(fields: &mut Fields, nodes: &mut ArrayVec<Used, MOST_LISTED>) -> Option<()>
+pub(crate) fn read_parents_on(
+    fields: &mut Fields,
+    nodes: &mut ArrayVec<Used, MOST_LISTED>,
+) -> Option<()>
     requires room { length (left fields.old) ≤ 257 }
     ensures found { IfSome result (λ _. AreSomeNodes (map node_of nodes.new.items) × (left fields.old ≡ parents (map node_of nodes.new.items) ++ codes "on" ∷ left fields.new)) }
     ensures none { IfNone result ((ps : List Node) (more : List Text) → AreSomeNodes ps → left fields.old ≢ parents ps ++ codes "on" ∷ more) }

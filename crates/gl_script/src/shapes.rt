@@ -79,7 +79,10 @@ pub(crate) fn txn_record_index_key(fields: &mut Fields) -> Option<(Name, Name, N
 }
 
 /// A transaction, a record, a file, and keys.
-pub(crate) fn txn_record_file_keys(fields: &mut Fields, keys: &mut ArrayVec<u64, MOST_LISTED>) -> Option<(Name, Name, Name)>
+pub(crate) fn txn_record_file_keys(
+    fields: &mut Fields,
+    keys: &mut ArrayVec<u64, MOST_LISTED>,
+) -> Option<(Name, Name, Name)>
     requires room { length (left fields.old) ≤ 257 }
     ensures found { IfSome result (λ r. IsName r.0.items × IsName r.1.items × IsName r.2.items × All IsNumber keys.new.items × (left fields.old ≡ r.0.items ∷ r.1.items ∷ r.2.items ∷ map decimal keys.new.items)) }
     ensures none { IfNone result ((t r f : Text) (ks : List ℕ) → IsName t → IsName r → IsName f → All IsNumber ks → left fields.old ≢ t ∷ r ∷ f ∷ map decimal ks) }
@@ -92,7 +95,10 @@ pub(crate) fn txn_record_file_keys(fields: &mut Fields, keys: &mut ArrayVec<u64,
 }
 
 /// A name, and parents if there are any.
-pub(crate) fn name_parents(fields: &mut Fields, nodes: &mut ArrayVec<Used, MOST_LISTED>) -> Option<Name>
+pub(crate) fn name_parents(
+    fields: &mut Fields,
+    nodes: &mut ArrayVec<Used, MOST_LISTED>,
+) -> Option<Name>
     requires room { length (left fields.old) ≤ 257 }
     ensures found { IfSome result (λ name. let ps = map node_of nodes.new.items in IsName name.items × All IsNode ps × (left fields.old ≡ name.items ∷ parents ps)) }
     ensures none { IfNone result ((n : Text) (ps : List Node) → IsName n → All IsNode ps → left fields.old ≢ n ∷ parents ps) }
@@ -103,7 +109,10 @@ pub(crate) fn name_parents(fields: &mut Fields, nodes: &mut ArrayVec<Used, MOST_
 }
 
 /// A name, and one or more parents.
-pub(crate) fn name_some_parents(fields: &mut Fields, nodes: &mut ArrayVec<Used, MOST_LISTED>) -> Option<Name>
+pub(crate) fn name_some_parents(
+    fields: &mut Fields,
+    nodes: &mut ArrayVec<Used, MOST_LISTED>,
+) -> Option<Name>
     requires room { length (left fields.old) ≤ 257 }
     ensures found { IfSome result (λ name. let ps = map node_of nodes.new.items in IsName name.items × AreSomeNodes ps × (left fields.old ≡ name.items ∷ parents ps)) }
     ensures none { IfNone result ((n : Text) (ps : List Node) → IsName n → AreSomeNodes ps → left fields.old ≢ n ∷ parents ps) }
@@ -116,7 +125,10 @@ pub(crate) fn name_some_parents(fields: &mut Fields, nodes: &mut ArrayVec<Used, 
 }
 
 /// A transaction, a node, and parents if there are any.
-pub(crate) fn txn_node_parents(fields: &mut Fields, nodes: &mut ArrayVec<Used, MOST_LISTED>) -> Option<(Name, Used)>
+pub(crate) fn txn_node_parents(
+    fields: &mut Fields,
+    nodes: &mut ArrayVec<Used, MOST_LISTED>,
+) -> Option<(Name, Used)>
     requires room { length (left fields.old) ≤ 257 }
     ensures found { IfSome result (λ r. let ps = map node_of nodes.new.items in IsName r.0.items × IsNode (node_of r.1) × All IsNode ps × (left fields.old ≡ r.0.items ∷ node_text (node_of r.1) ∷ parents ps)) }
     ensures none { IfNone result ((t : Text) (n : Node) (ps : List Node) → IsName t → IsNode n → All IsNode ps → left fields.old ≢ t ∷ node_text n ∷ parents ps) }
@@ -128,7 +140,10 @@ pub(crate) fn txn_node_parents(fields: &mut Fields, nodes: &mut ArrayVec<Used, M
 }
 
 /// A name, one or more parents, the word `on`, a file, the word `at`, and bounds.
-pub(crate) fn name_parents_file_bounds(fields: &mut Fields, lists: &mut Lists) -> Option<(Name, Name)>
+pub(crate) fn name_parents_file_bounds(
+    fields: &mut Fields,
+    lists: &mut Lists,
+) -> Option<(Name, Name)>
     requires room { length (left fields.old) ≤ 257 }
     ensures found { IfSome result (λ r. let ps = nodes_of lists.new in let bs = lists.new.numbers.items in IsName r.0.items × AreSomeNodes ps × IsName r.1.items × All IsNumber bs × (left fields.old ≡ r.0.items ∷ parents ps ++ codes "on" ∷ r.1.items ∷ codes "at" ∷ map decimal bs)) }
     ensures none { IfNone result ((n f : Text) (ps : List Node) (bs : List ℕ) → IsName n → AreSomeNodes ps → IsName f → All IsNumber bs → left fields.old ≢ n ∷ parents ps ++ codes "on" ∷ f ∷ codes "at" ∷ map decimal bs) }
