@@ -9,8 +9,8 @@ ghost use Rattle.gl_script.specs.Words.{word};
 use crate::fields::Fields;
 use crate::reads::{Name, Used};
 use crate::shapes::{
-    name_parents, name_parents_file_bounds, name_some_parents, only_name, only_node, txn_mode_node,
-    txn_node, txn_node_parents, txn_record, txn_record_file_keys, txn_record_index_key,
+    index_parts, insert_parts, name_parents, name_some_parents, only_name, only_node, rekey_parts,
+    txn_mode_node, txn_node, txn_node_parents, txn_record,
 };
 use crate::verb::{Verb, read_verb};
 use arrayvec::ArrayVec;
@@ -169,10 +169,7 @@ fn read_command(
     match verb {
         Verb::Inner => name_parents(fields, &mut lists.nodes).map(|name| Form::Inner { name }),
         Verb::File => name_some_parents(fields, &mut lists.nodes).map(|name| Form::File { name }),
-        Verb::Index => name_parents_file_bounds(fields, lists).map(|(name, file)| Form::Index {
-            name,
-            file,
-        }),
+        Verb::Index => index_parts(fields, lists).map(|(name, file)| Form::Index { name, file }),
         Verb::Begin => only_name(fields).map(|txn| Form::Begin { txn }),
         Verb::Lock => txn_mode_node(fields).map(|(txn, mode, node)| Form::Lock { txn, mode, node }),
         Verb::Try => txn_mode_node(fields).map(|(txn, mode, node)| Form::Try { txn, mode, node }),
@@ -181,29 +178,37 @@ fn read_command(
         Verb::Commit => only_name(fields).map(|txn| Form::Commit { txn }),
         Verb::Abort => only_name(fields).map(|txn| Form::Abort { txn }),
         Verb::Settle => only_name(fields).map(|txn| Form::Settle { txn }),
-        Verb::Insert => txn_record_file_keys(fields, &mut lists.numbers).map(|(
-            txn,
-            name,
-            file,
-        )| Form::Insert { txn, name, file }),
+        Verb::Insert => {
+            let (txn, name, file) = insert_parts(fields, &mut lists.numbers)?;
+            Some(Form::Insert { txn, name, file })
+        }
         Verb::Delete => txn_record(fields).map(|(txn, rec)| Form::Delete { txn, rec }),
-        Verb::Rekey => txn_record_index_key(fields).map(|(txn, rec, index, key)| Form::Rekey {
+        Verb::Rekey => rekey_parts(fields).map(|(txn, rec, index, key)| Form::Rekey {
             txn,
             rec,
             index,
             key,
         }),
         Verb::Escalate => txn_node(fields).map(|(txn, node)| Form::Escalate { txn, node }),
-        Verb::Move => match version {
-            Version::One => None,
-            Version::Two => txn_node_parents(fields, &mut lists.nodes).map(|(
-                txn,
-                node,
-            )| Form::Move { txn, node }),
-        },
+        Verb::Move => read_move(version, fields, lists),
         Verb::Group => only_node(fields).map(|node| Form::Group { node }),
         Verb::Held => txn_node(fields).map(|(txn, node)| Form::Held { txn, node }),
         Verb::Effective => txn_node(fields).map(|(txn, node)| Form::Effective { txn, node }),
+    }
+}
+
+/// What follows the word `move`, which version 1 does not have.
+fn read_move(version: Version, fields: &mut Fields, lists: &mut Lists) -> Option<Form>
+    requires room { length (left fields.old) ≤ 257 }
+    ensures says { IfSome result (λ form. SaysFields version (codes "move" ∷ left fields.old) (command_of form lists.new)) }
+    ensures none { IfNone result ((c : Command) → SaysFields version (codes "move" ∷ left fields.old) c → ⊥) }
+{
+    match version {
+        Version::One => None,
+        Version::Two => {
+            let (txn, node) = txn_node_parents(fields, &mut lists.nodes)?;
+            Some(Form::Move { txn, node })
+        }
     }
 }
 

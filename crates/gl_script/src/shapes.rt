@@ -67,7 +67,7 @@ pub(crate) fn txn_record(fields: &mut Fields) -> Option<(Name, Name)>
 }
 
 /// A transaction, a record, an index and a key.
-pub(crate) fn txn_record_index_key(fields: &mut Fields) -> Option<(Name, Name, Name, u64)>
+pub(crate) fn rekey_parts(fields: &mut Fields) -> Option<(Name, Name, Name, u64)>
     ensures found { IfSome result (λ r. IsName r.0.items × IsName r.1.items × IsName r.2.items × IsNumber r.3 × (left fields.old ≡ r.0.items ∷ r.1.items ∷ r.2.items ∷ decimal r.3 ∷ [])) }
     ensures none { IfNone result ((t r i : Text) (k : ℕ) → IsName t → IsName r → IsName i → IsNumber k → left fields.old ≢ t ∷ r ∷ i ∷ decimal k ∷ []) }
 {
@@ -79,7 +79,7 @@ pub(crate) fn txn_record_index_key(fields: &mut Fields) -> Option<(Name, Name, N
 }
 
 /// A transaction, a record, a file, and keys.
-pub(crate) fn txn_record_file_keys(
+pub(crate) fn insert_parts(
     fields: &mut Fields,
     keys: &mut ArrayVec<u64, MOST_LISTED>,
 ) -> Option<(Name, Name, Name)>
@@ -140,10 +140,7 @@ pub(crate) fn txn_node_parents(
 }
 
 /// A name, one or more parents, the word `on`, a file, the word `at`, and bounds.
-pub(crate) fn name_parents_file_bounds(
-    fields: &mut Fields,
-    lists: &mut Lists,
-) -> Option<(Name, Name)>
+pub(crate) fn index_parts(fields: &mut Fields, lists: &mut Lists) -> Option<(Name, Name)>
     requires room { length (left fields.old) ≤ 257 }
     ensures found { IfSome result (λ r. let ps = nodes_of lists.new in let bs = lists.new.numbers.items in IsName r.0.items × AreSomeNodes ps × IsName r.1.items × All IsNumber bs × (left fields.old ≡ r.0.items ∷ parents ps ++ codes "on" ∷ r.1.items ∷ codes "at" ∷ map decimal bs)) }
     ensures none { IfNone result ((n f : Text) (ps : List Node) (bs : List ℕ) → IsName n → AreSomeNodes ps → IsName f → All IsNumber bs → left fields.old ≢ n ∷ parents ps ++ codes "on" ∷ f ∷ codes "at" ∷ map decimal bs) }

@@ -1,6 +1,6 @@
 use Rattle.std.proofs.Common.{sym, ◌∙◌}
 use Rattle.gl_script.proofs.ListTexts.{behind_on}
-use Rattle.gl_script.proofs.shapes.name_parents_file_bounds.Goals as goal
+use Rattle.gl_script.proofs.shapes.index_parts.Goals as goal
 
 pub returns-in_err-file-clause-none : goal.returns-in_err-file-clause-none
 returns-in_err-file-clause-none c = rw c.from_residual-in_err-file.ensures (λ n f ps bs named some of_file are e.
