@@ -13,3 +13,6 @@ mod verb;
 
 pub use form::{Form, Lists, Version, one_command, parse};
 pub use reads::{Name, Used};
+
+#[cfg(test)]
+mod tests;
