@@ -2,7 +2,9 @@
 use Rattle.std.proofs.Common.{◌≡◌, ◌≢◌, ℕ, ◌<◌, List, [], ◌∷◌, ◌++◌, All, map, length, codes, decimal, refl, sym, ap, ap₂, ◌∙◌, subst, append_assoc, arith}
 use Rattle.std.proofs.lemmas.List.{map_push}
 use Rattle.std.proofs.lemmas.List.Elements.{All-head, All-tail, All-cons, All-nil}
+use Rattle.gl_script.specs.declared.reads.Used.{Used}
 use Rattle.gl_script.specs.Grammar.{Text, Node, Plain, Interval, IsNode, AreSomeNodes, node_text, parents}
+use Rattle.gl_script.specs.Views.{node_of}
 use Rattle.gl_script.proofs.Splitting.{has_byte}
 
 -- one more element is read
@@ -74,14 +76,15 @@ none_without_on (d ∷ done) rest (n ∷ ns) more end had e = none_without_on do
 
 -- behind the colon stand no nodes with the word `on` behind them
 pub none_behind_colon : (colon : Text) (rest : List Text) (ps : List Node) (more : List Text)
-    → ((ns : List Node) (m : List Text) → All IsNode ns → rest ≢ map node_text ns ++ codes "on" ∷ m)
+    → ((ns : List Node) (m : List Text) → AreSomeNodes ns → rest ≢ map node_text ns ++ codes "on" ∷ m)
     → AreSomeNodes ps → colon ∷ rest ≡ parents ps ++ codes "on" ∷ more → ⊥
 none_behind_colon colon rest [] more nay some e = absurd (omega (arith, some.1))
-none_behind_colon colon rest (p ∷ ps) more nay some e = nay (p ∷ ps) more some.0 (cc)
+none_behind_colon colon rest (p ∷ ps) more nay some e = nay (p ∷ ps) more some (cc)
 
--- behind the colon stands the word `on` at once
-pub none_of_no_parents : (colon : Text) (rest after : List Text) (done : List Node) (ps : List Node) (more : List Text)
-    → length done ≡ 0 → rest ≡ map node_text done ++ codes "on" ∷ after → AreSomeNodes ps → colon ∷ rest ≡ parents ps ++ codes "on" ∷ more → ⊥
-none_of_no_parents colon rest after [] [] more none read some e = absurd (omega (arith, some.1))
-none_of_no_parents colon rest after [] (p ∷ ps) more none read some e = on_is_no_node p (All-head IsNode p ps some.0) (cc)
-none_of_no_parents colon rest after (d ∷ done) ps more none read some e = absurd (omega (arith, none))
+-- the word `on` stands first, where a node should
+pub none_at_once : (read : List Used) (all rest : List Text) (field : Text) (after : List Text) (ns : List Node) (more : List Text)
+    → length read ≡ 0 → all ≡ map node_text (map node_of read) ++ rest → rest ≡ field ∷ after → field ≡ codes "on"
+    → AreSomeNodes ns → all ≡ map node_text ns ++ codes "on" ∷ more → ⊥
+none_at_once [] all rest field after [] more none before next on some e = absurd (omega (arith, some.1))
+none_at_once [] all rest field after (n ∷ ns) more none before next on some e = on_is_no_node n (All-head IsNode n ns some.0) (cc)
+none_at_once (u ∷ us) all rest field after ns more none before next on some e = absurd (omega (arith, none))

@@ -49,6 +49,7 @@ pub(crate) fn read_parents(
 }
 
 /// Parents, and the word `on` behind them.
+#[tactic(auto, using(crate::proofs::ListTexts::none_behind_colon))]
 pub(crate) fn read_parents_on(
     fields: &mut Fields,
     nodes: &mut ArrayVec<Used, MOST_LISTED>,
@@ -61,11 +62,7 @@ pub(crate) fn read_parents_on(
         return None;
     }
     nodes.clear();
-    read_nodes_on(fields, nodes)?;
-    if nodes.is_empty() {
-        return None;
-    }
-    Some(())
+    read_nodes_on(fields, nodes)
 }
 
 /// Whether the bytes are a colon.
@@ -95,15 +92,18 @@ fn read_nodes(fields: &mut Fields, nodes: &mut ArrayVec<Used, MOST_LISTED>) -> O
     Some(())
 }
 
-/// The fields before the word `on`, each of them a node, and that word.
+/// The fields before the word `on`, one or more, each of them a node, and that word.
 fn read_nodes_on(fields: &mut Fields, nodes: &mut ArrayVec<Used, MOST_LISTED>) -> Option<()>
     requires room { length (left fields.old) ≤ 257 }
     requires empty { nodes.old.items ≡ [] }
-    ensures found { IfSome result (λ _. All IsNode (map node_of nodes.new.items) × (left fields.old ≡ map node_text (map node_of nodes.new.items) ++ codes "on" ∷ left fields.new)) }
-    ensures none { IfNone result ((ns : List Node) (more : List Text) → All IsNode ns → left fields.old ≢ map node_text ns ++ codes "on" ∷ more) }
+    ensures found { IfSome result (λ _. AreSomeNodes (map node_of nodes.new.items) × (left fields.old ≡ map node_text (map node_of nodes.new.items) ++ codes "on" ∷ left fields.new)) }
+    ensures none { IfNone result ((ns : List Node) (more : List Text) → AreSomeNodes ns → left fields.old ≢ map node_text ns ++ codes "on" ∷ more) }
 {
     while let Some(field) = fields.next() {
         if is_on(field) {
+            if nodes.is_empty() {
+                return None;
+            }
             return Some(());
         }
         nodes.push(read_used(field)?);

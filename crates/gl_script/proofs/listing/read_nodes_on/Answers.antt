@@ -3,15 +3,16 @@ use Rattle.std.proofs.lemmas.List.{map_push}
 use Rattle.std.proofs.lemmas.List.Elements.{All-push}
 use Rattle.gl_script.specs.Grammar.{Text, Node, IsNode, node_text}
 use Rattle.gl_script.specs.Views.{node_of}
-use Rattle.gl_script.proofs.ListTexts.{none_before_on, none_without_on, spelt_more}
+use Rattle.gl_script.proofs.ListTexts.{none_at_once, none_before_on, none_without_on, spelt_more}
+use Rattle.gl_script.proofs.Splitting.{same_test}
 use Rattle.gl_script.proofs.listing.read_nodes_on.Goals as goal
 
 pub returns-in_err-read_used-clause-none : goal.returns-in_err-read_used-clause-none
 returns-in_err-read_used-clause-none c =
     let inv = c.loop-field.invariant in
     let done : List Node = map node_of c.loop-field.nodes.items in
-    rw c.from_residual.ensures (λ ns more are e.
-    none_before_on done c.in-Some.field.now _ ns more (λ on. true≢false (sym (c.is_on.ensures.1 on) ∙ c.if-is_on.false)) c.in_err-read_used.ensures.none inv.each are
+    rw c.from_residual.ensures (λ ns more some e.
+    none_before_on done c.in-Some.field.now _ ns more (λ on. true≢false (sym (c.is_on.ensures.1 on) ∙ c.if-is_on.false)) c.in_err-read_used.ensures.none inv.each some.0
     (sym (inv.split ∙ ap (λ fs. map node_text done ++ fs) c.in-Some.ensures.some) ∙ e))
 
 pub loop-field-preserved : goal.loop-field-preserved
@@ -27,6 +28,11 @@ loop-field-preserved c =
     }
 
 pub returns-clause-none : goal.returns-clause-none
-returns-clause-none c ns more are e =
+returns-clause-none c ns more some e =
     let inv = c.loop-field.invariant in
     none_without_on (map node_of c.loop-field.nodes.items) _ ns more c.in_default.ensures.none inv.each (sym inv.split ∙ e)
+
+pub returns-then-is_empty-clause-none : goal.returns-then-is_empty-clause-none
+returns-then-is_empty-clause-none c ns more some e =
+    none_at_once c.loop-field.nodes.items _ _ c.in-Some.field.now _ ns more (same_test _ _ _ c.is_empty.ensures c.if-is_empty.true) c.loop-field.invariant.split
+    c.in-Some.ensures.some (c.is_on.ensures.0 c.if-is_on.true) some e
