@@ -60,6 +60,7 @@ pub(crate) fn read_used(text: &[u8]) -> Option<Used>
 }
 
 /// The number that the bytes spell, if they spell one.
+#[tactic(auto, using(crate::proofs::Numbers::plain_unread))]
 pub(crate) fn read_number(text: &[u8]) -> Option<u64>
     ensures found { IfSome result (λ n. text.now ≡ decimal n) }
     ensures none { IfNone result ((n : ℕ) → n < 2 ^ 64 → text.now ≢ decimal n) }

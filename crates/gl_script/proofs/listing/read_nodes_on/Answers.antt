@@ -1,7 +1,7 @@
 use Rattle.std.proofs.Common.{◌≡◌, List, [], ◌∷◌, ◌++◌, All, length, map, ap, ◌∙◌, sym, true≢false, subst, arith}
 use Rattle.std.proofs.lemmas.List.{map_push}
 use Rattle.std.proofs.lemmas.List.Elements.{All-push}
-use Rattle.gl_script.specs.Grammar.{Text, Node, IsNode, node_text}
+use Rattle.gl_script.specs.Grammar.{Node, IsNode, node_text}
 use Rattle.gl_script.specs.Views.{node_of}
 use Rattle.gl_script.proofs.ListTexts.{none_at_once, none_before_on, none_without_on, spelt_more}
 use Rattle.gl_script.proofs.Splitting.{same_test}

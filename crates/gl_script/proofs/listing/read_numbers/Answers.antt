@@ -1,4 +1,4 @@
-use Rattle.std.proofs.Common.{ℕ, map, decimal, ap, ◌++◌, ◌∙◌, sym}
+use Rattle.std.proofs.Common.{map, decimal, ap, ◌++◌, ◌∙◌, sym}
 use Rattle.gl_script.specs.Grammar.{IsNumber}
 use Rattle.gl_script.proofs.ListTexts.{none_at}
 use Rattle.gl_script.proofs.listing.read_numbers.Goals as goal

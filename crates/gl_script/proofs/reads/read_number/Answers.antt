@@ -1,6 +1,6 @@
 use Rattle.std.proofs.Common.{subst, ◌∙◌, sym, true≢false}
 use Rattle.std.specs.Str.Parse.{ParsesUnsigned}
-use Rattle.gl_script.proofs.Numbers.{plain_read, plain_unread, not_plain, not_utf8}
+use Rattle.gl_script.proofs.Numbers.{plain_read, not_plain, not_utf8}
 use Rattle.gl_script.proofs.reads.read_number.Goals as goal
 
 pub returns-then-not-is_plain-clause-none : goal.returns-then-not-is_plain-clause-none
@@ -12,9 +12,4 @@ returns-in_default-clause-none c = not_utf8 c.args.text.now c.in_default.ensures
 pub returns-in-Ok-parse-clause-found : goal.returns-in-Ok-parse-clause-found
 returns-in-Ok-parse-clause-found c =
     plain_read c.args.text.now c.in-Ok-parse.number c.parse.result (c.is_plain.ensures.0 c.if-not-is_plain.false) c.in-Ok-parse.is
-    (subst (λ t. ParsesUnsigned 64 10 t c.parse.result) c.in-Ok.ensures.cases.0 c.parse.ensures.value.0)
-
-pub returns-in-Err-clause-none : goal.returns-in-Err-clause-none
-returns-in-Err-clause-none c =
-    plain_unread c.args.text.now c.in-Err.field-0 c.parse.result c.in-Err.is
     (subst (λ t. ParsesUnsigned 64 10 t c.parse.result) c.in-Ok.ensures.cases.0 c.parse.ensures.value.0)

@@ -1,4 +1,4 @@
-use Rattle.std.proofs.Common.{◌≡◌, ◌↔◌, ℕ, Bool, true, false, not, IsTrue, List, [], Option, None, Some, Bor, refl, rules}
+use Rattle.std.proofs.Common.{◌≡◌, ◌↔◌, ℕ, Bool, true, false, not, IsTrue, List, [], Option, None, Some, Bor, refl}
 use Rattle.std.specs.Option.{is_some}
 use Rattle.gl_script.specs.Left.{left, fields_of}
 use Rattle.gl_script.proofs.Splitting.{some_field}
