@@ -1,6 +1,6 @@
 //! The forms of a line.
 
-ghost use Rattle.std.specs.Prelude.{◌≡◌, ◌≢◌, ℕ, ◌≤◌, ◌∷◌, [], List, IfSome, IfNone, length, codes};
+ghost use Rattle.std.specs.Prelude.{◌≡◌, ◌≤◌, ◌∷◌, [], IfSome, IfNone, length, codes};
 ghost use Rattle.gl_script.specs.Grammar.{Command, Says, SaysFields, LineSaysOneCommand};
 ghost use Rattle.gl_script.specs.Left.{left};
 ghost use Rattle.gl_script.specs.Views.{command_of};

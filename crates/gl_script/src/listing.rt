@@ -1,6 +1,6 @@
 //! What a line lists: nodes and numbers.
 
-ghost use Rattle.std.specs.Prelude.{◌≡◌, ◌≢◌, ℕ, ◌<◌, ◌≤◌, ◌↔◌, [], ◌∷◌, ◌++◌, List, All, IfSome, IfNone, IsTrue, codes, decimal, length, map};
+ghost use Rattle.std.specs.Prelude.{◌≡◌, ◌≢◌, ℕ, ◌≤◌, ◌↔◌, [], ◌∷◌, ◌++◌, List, All, IfSome, IfNone, IsTrue, codes, decimal, length, map};
 ghost use Rattle.gl_script.specs.Grammar.{Text, Node, IsNode, IsNumber, AreSomeNodes, node_text, parents};
 ghost use Rattle.gl_script.specs.Left.{left};
 ghost use Rattle.gl_script.specs.Views.{node_of};

@@ -3,7 +3,7 @@
 //! Each of these calls reads all fields that are left, and answers `None` where one is missing, one
 //! is too many, or one is not what stands in its place.
 
-ghost use Rattle.std.specs.Prelude.{◌≡◌, ◌≢◌, ℕ, ◌<◌, ◌≤◌, ◌^◌, [], ◌∷◌, ◌++◌, List, All, IfSome, IfNone, codes, decimal, length, map};
+ghost use Rattle.std.specs.Prelude.{◌≡◌, ◌≢◌, ℕ, ◌≤◌, [], ◌∷◌, ◌++◌, List, All, IfSome, IfNone, codes, decimal, length, map};
 ghost use Rattle.gl_modes.specs.declared.mode.Mode.{Mode};
 ghost use Rattle.gl_modes.specs.Modes.{mode_text};
 ghost use Rattle.gl_script.specs.Grammar.{Text, Node, IsName, IsNode, IsNumber, AreSomeNodes, node_text, parents};
