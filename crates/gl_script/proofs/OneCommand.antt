@@ -1,0 +1,141 @@
+-- A line says at most one command: its first field tells the verb, and names, modes, nodes, numbers and lists of them are spelt in one way.
+use Rattle.std.proofs.Common.{◌≡◌, ◌≢◌, ℕ, ◌==◌, List, [], ◌∷◌, ◌++◌, All, map, true, false, true≢false, codes, decimal, refl, sym, ap, ap₂, ◌∙◌, subst}
+use Rattle.std.specs.List.{slice_split}
+use Rattle.std.specs.Str.{bytes_eq}
+use Rattle.std.proofs.lemmas.Cmp.{nat_list_eq_equiv}
+use Rattle.std.proofs.lemmas.Fmt.{decimal_injective}
+use Rattle.std.proofs.lemmas.List.Elements.{All-head, All-tail}
+use Rattle.gl_modes.specs.declared.mode.Mode.{Mode}
+use Rattle.gl_modes.specs.Modes.{mode_text}
+use Rattle.gl_modes.proofs.Spellings.{mode_text-injective}
+use Rattle.gl_script.specs.declared.form.Version.{Version}
+use Rattle.gl_script.specs.Grammar.{Text, Command, Inner, File, Index, Begin, Lock, Try, Unlock, Cancel, Commit, Abort, Settle, Insert, Delete, Rekey, Escalate, Move, Group, Held, Effective, Node, Plain, Interval, IsNode, IsNumber, AreSomeNodes, node_text, parents, fields, SaysFields, LineSaysOneCommand}
+use Rattle.gl_script.proofs.Splitting.{cut_once, has_byte}
+use Rattle.gl_script.proofs.NodeTexts.{name_no_dot}
+use Rattle.gl_script.proofs.ListTexts.{on_parts}
+
+-- a node is spelt in one way
+one_node : (m n : Node) → IsNode m → IsNode n → node_text m ≡ node_text n → m ≡ n
+one_node (Plain a) (Plain b) p q e = ap Plain e
+one_node (Plain a) (Interval b k) p q e = absurd (has_byte 46 b (decimal k) (subst (All (λ u. u ≢ 46)) e (name_no_dot a p)))
+one_node (Interval a j) (Plain b) p q e = absurd (has_byte 46 a (decimal j) (subst (All (λ u. u ≢ 46)) (sym e) (name_no_dot b q)))
+one_node (Interval a j) (Interval b k) p q e =
+    let cut = cut_once 46 a b (decimal j) (decimal k) (name_no_dot a p.0) (name_no_dot b q.0) e in
+    ap₂ Interval cut.0 (decimal_injective j k p.1 q.1 cut.1)
+
+-- so is a list
+one_list : {X : Type 0} (spell : X → Text) (P : X → Type 0) → ((x y : X) → P x → P y → spell x ≡ spell y → x ≡ y)
+    → (xs ys : List X) → All P xs → All P ys → map spell xs ≡ map spell ys → xs ≡ ys
+one_list spell P one [] [] p q e = refl
+one_list spell P one [] (y ∷ ys) p q e = cc
+one_list spell P one (x ∷ xs) [] p q e = cc
+one_list {X} spell P one (x ∷ xs) (y ∷ ys) p q e =
+    let head : spell x ≡ spell y = cc in
+    let tail : map spell xs ≡ map spell ys = cc in
+    ap₂ (λ (z : X) (zs : List X). z ∷ zs) (one x y (All-head P x xs p) (All-head P y ys q) head)
+    (one_list spell P one xs ys (All-tail P x xs p) (All-tail P y ys q) tail)
+
+one_parents : (ps qs : List Node) → All IsNode ps → All IsNode qs → parents ps ≡ parents qs → ps ≡ qs
+one_parents [] [] p q e = refl
+one_parents [] (n ∷ ns) p q e = cc
+one_parents (m ∷ ms) [] p q e = cc
+one_parents (m ∷ ms) (n ∷ ns) p q e = one_list node_text IsNode one_node (m ∷ ms) (n ∷ ns) p q (cc)
+
+one_numbers : (js ks : List ℕ) → All IsNumber js → All IsNumber ks → map decimal js ≡ map decimal ks → js ≡ ks
+one_numbers js ks p q e = one_list decimal IsNumber decimal_injective js ks p q e
+
+abbrev first_field : List Text → Text
+first_field [] = []
+first_field (f ∷ fs) = f
+
+-- two commands with one line have one verb
+differ : (v : Version) (all : List Text) (c d : Command) → SaysFields v all c → SaysFields v all d → bytes_eq (first_field (fields c)) (first_field (fields d)) ≡ false → ⊥
+differ v all c d p q f =
+    let same : fields c ≡ fields d = sym p.2 ∙ q.2 in
+    let first = ap first_field same in
+    true≢false (sym (subst (λ (w : Text). bytes_eq (first_field (fields c)) w ≡ true) first (nat_list_eq_equiv.refl (first_field (fields c)))) ∙ f)
+
+-- what the forms with two parts and more have in common
+same_of_txn_node : (f : Text) (s t : Text) (m n : Node) → IsNode m → IsNode n → f ∷ s ∷ node_text m ∷ [] ≡ f ∷ t ∷ node_text n ∷ [] → (s ≡ t) × (m ≡ n)
+same_of_txn_node f s t m n p q e = let spelt : node_text m ≡ node_text n = cc in (cc, one_node m n p q spelt)
+
+same_of_txn_mode_node : (f : Text) (s t : Text) (a b : Mode) (m n : Node) → IsNode m → IsNode n
+    → f ∷ s ∷ mode_text a ∷ node_text m ∷ [] ≡ f ∷ t ∷ mode_text b ∷ node_text n ∷ [] → (s ≡ t) × (a ≡ b) × (m ≡ n)
+same_of_txn_mode_node f s t a b m n p q e =
+    let mode : mode_text a ≡ mode_text b = cc in
+    let spelt : node_text m ≡ node_text n = cc in
+    (cc, mode_text-injective a b mode, one_node m n p q spelt)
+
+same_of_name : (f m n : Text) → f ∷ m ∷ [] ≡ f ∷ n ∷ [] → m ≡ n
+same_of_name f m n e = cc
+
+same_of_index : (f : Text) (m n : Text) (ps qs : List Node) (g h : Text) (ks bs : List ℕ)
+    → AreSomeNodes ps → AreSomeNodes qs → All IsNumber ks → All IsNumber bs
+    → f ∷ m ∷ (parents ps ++ codes "on" ∷ g ∷ codes "at" ∷ map decimal ks) ≡ f ∷ n ∷ (parents qs ++ codes "on" ∷ h ∷ codes "at" ∷ map decimal bs)
+    → (m ≡ n) × (ps ≡ qs) × (g ≡ h) × (ks ≡ bs)
+same_of_index f m n ps qs g h ks bs p q a b e =
+    let tail : parents ps ++ codes "on" ∷ g ∷ codes "at" ∷ map decimal ks ≡ parents qs ++ codes "on" ∷ h ∷ codes "at" ∷ map decimal bs = cc in
+    let cut = on_parts ps qs _ _ p q tail in
+    let behind : g ∷ codes "at" ∷ map decimal ks ≡ h ∷ codes "at" ∷ map decimal bs = cut.1 in
+    let numbers : map decimal ks ≡ map decimal bs = cc in
+    (cc, one_parents ps qs p.0 q.0 cut.0, cc, one_numbers ks bs a b numbers)
+
+one_of_fields : (v : Version) (all : List Text) (c d : Command) → SaysFields v all c → SaysFields v all d → c ≡ d
+one_of_fields v all (Inner m ps) (Inner n qs) p q =
+    let same : fields (Inner m ps) ≡ fields (Inner n qs) = sym p.2 ∙ q.2 in
+    let name : m ≡ n = cc in
+    let tail : parents ps ≡ parents qs = cc in
+    ap₂ Inner name (one_parents ps qs p.0.1 q.0.1 tail)
+one_of_fields v all (File m ps) (File n qs) p q =
+    let same : fields (File m ps) ≡ fields (File n qs) = sym p.2 ∙ q.2 in
+    let name : m ≡ n = cc in
+    let tail : parents ps ≡ parents qs = cc in
+    ap₂ File name (one_parents ps qs p.0.1.0 q.0.1.0 tail)
+one_of_fields v all (Index m ps g ks) (Index n qs h bs) p q =
+    let same = same_of_index _ m n ps qs g h ks bs p.0.1 q.0.1 p.0.3 q.0.3 (sym p.2 ∙ q.2) in
+    λ i. Index (same.0 i) (same.1 i) (same.2 i) (same.3 i)
+one_of_fields v all (Begin s) (Begin t) p q = ap Begin (same_of_name _ s t (sym p.2 ∙ q.2))
+one_of_fields v all (Lock s a m) (Lock t b n) p q = let same = same_of_txn_mode_node _ s t a b m n p.0.1 q.0.1 (sym p.2 ∙ q.2) in λ i. Lock (same.0 i) (same.1 i) (same.2 i)
+one_of_fields v all (Try s a m) (Try t b n) p q = let same = same_of_txn_mode_node _ s t a b m n p.0.1 q.0.1 (sym p.2 ∙ q.2) in λ i. Try (same.0 i) (same.1 i) (same.2 i)
+one_of_fields v all (Unlock s m) (Unlock t n) p q = let same = same_of_txn_node _ s t m n p.0.1 q.0.1 (sym p.2 ∙ q.2) in ap₂ Unlock same.0 same.1
+one_of_fields v all (Cancel s) (Cancel t) p q = ap Cancel (same_of_name _ s t (sym p.2 ∙ q.2))
+one_of_fields v all (Commit s) (Commit t) p q = ap Commit (same_of_name _ s t (sym p.2 ∙ q.2))
+one_of_fields v all (Abort s) (Abort t) p q = ap Abort (same_of_name _ s t (sym p.2 ∙ q.2))
+one_of_fields v all (Settle s) (Settle t) p q = ap Settle (same_of_name _ s t (sym p.2 ∙ q.2))
+one_of_fields v all (Insert s m g js) (Insert t n h ks) p q =
+    let same : fields (Insert s m g js) ≡ fields (Insert t n h ks) = sym p.2 ∙ q.2 in
+    let txn : s ≡ t = cc in
+    let name : m ≡ n = cc in
+    let file : g ≡ h = cc in
+    let tail : map decimal js ≡ map decimal ks = cc in
+    let keys : js ≡ ks = one_numbers js ks p.0.3 q.0.3 tail in
+    λ i. Insert (txn i) (name i) (file i) (keys i)
+one_of_fields v all (Delete s m) (Delete t n) p q =
+    let same : fields (Delete s m) ≡ fields (Delete t n) = sym p.2 ∙ q.2 in
+    let txn : s ≡ t = cc in
+    let name : m ≡ n = cc in
+    ap₂ Delete txn name
+one_of_fields v all (Rekey s m g j) (Rekey t n h k) p q =
+    let same : fields (Rekey s m g j) ≡ fields (Rekey t n h k) = sym p.2 ∙ q.2 in
+    let txn : s ≡ t = cc in
+    let name : m ≡ n = cc in
+    let index : g ≡ h = cc in
+    let spelt : decimal j ≡ decimal k = cc in
+    let key : j ≡ k = decimal_injective j k p.0.3 q.0.3 spelt in
+    λ i. Rekey (txn i) (name i) (index i) (key i)
+one_of_fields v all (Escalate s m) (Escalate t n) p q = let same = same_of_txn_node _ s t m n p.0.1 q.0.1 (sym p.2 ∙ q.2) in ap₂ Escalate same.0 same.1
+one_of_fields v all (Move s m ps) (Move t n qs) p q =
+    let same : fields (Move s m ps) ≡ fields (Move t n qs) = sym p.2 ∙ q.2 in
+    let txn : s ≡ t = cc in
+    let spelt : node_text m ≡ node_text n = cc in
+    let tail : parents ps ≡ parents qs = cc in
+    let node : m ≡ n = one_node m n p.0.1 q.0.1 spelt in
+    let others : ps ≡ qs = one_parents ps qs p.0.2 q.0.2 tail in
+    λ i. Move (txn i) (node i) (others i)
+one_of_fields v all (Group m) (Group n) p q = ap Group (one_node m n p.0 q.0 (same_of_name _ (node_text m) (node_text n) (sym p.2 ∙ q.2)))
+one_of_fields v all (Held s m) (Held t n) p q = let same = same_of_txn_node _ s t m n p.0.1 q.0.1 (sym p.2 ∙ q.2) in ap₂ Held same.0 same.1
+one_of_fields v all (Effective s m) (Effective t n) p q = let same = same_of_txn_node _ s t m n p.0.1 q.0.1 (sym p.2 ∙ q.2) in ap₂ Effective same.0 same.1
+one_of_fields v all c d p q = absurd (differ v all c d p q refl)
+
+pub one_command : LineSaysOneCommand
+one_command v line c d p q = one_of_fields v (slice_split (λ b. b == 32) line) c d p q

@@ -1,0 +1,139 @@
+-- The lines of a script: which bytes say which command. A command has fields, and a line says it where it falls into them.
+use Rattle.std.specs.Prelude.{◌≡◌, ◌≢◌, ◌==◌, ℕ, ◌<◌, ◌≤◌, ◌^◌, ◌⊎◌, List, [], ◌∷◌, ◌++◌, length, map, slice_index, All, codes, decimal}
+use Rattle.std.specs.List.{slice_split}
+use Rattle.gl_modes.specs.declared.mode.Mode.{Mode}
+use Rattle.gl_modes.specs.Modes.{mode_text}
+use Rattle.gl_script.specs.declared.form.Version.{Version}
+use Rattle.gl_script.specs.declared.form.Version.TheVariants as version
+
+-- bytes
+abbrev pub Text : Type 0
+Text = List ℕ
+
+-- a node by its declared name, or as an interval of a declared index
+pub data Node : Type 0 where
+  Plain : (name : Text) → Node
+  Interval : (index : Text) → (place : ℕ) → Node
+
+-- What a line can ask for. The name that a line declares, and those of a transaction, a record, a file and an index, are plain.
+pub data Command : Type 0 where
+  Inner : (name : Text) → (parents : List Node) → Command
+  File : (name : Text) → (parents : List Node) → Command
+  Index : (name : Text) → (parents : List Node) → (file : Text) → (bounds : List ℕ) → Command
+  Begin : (txn : Text) → Command
+  Lock : (txn : Text) → (mode : Mode) → (node : Node) → Command
+  Try : (txn : Text) → (mode : Mode) → (node : Node) → Command
+  Unlock : (txn : Text) → (node : Node) → Command
+  Cancel : (txn : Text) → Command
+  Commit : (txn : Text) → Command
+  Abort : (txn : Text) → Command
+  Settle : (txn : Text) → Command
+  Insert : (txn : Text) → (name : Text) → (file : Text) → (keys : List ℕ) → Command
+  Delete : (txn : Text) → (rec : Text) → Command
+  Rekey : (txn : Text) → (rec : Text) → (index : Text) → (key : ℕ) → Command
+  Escalate : (txn : Text) → (node : Node) → Command
+  Move : (txn : Text) → (node : Node) → (parents : List Node) → Command
+  Group : (node : Node) → Command
+  Held : (txn : Text) → (node : Node) → Command
+  Effective : (txn : Text) → (node : Node) → Command
+
+-- one of a to z
+abbrev pub IsLetter : ℕ → Type 0
+IsLetter b = (97 ≤ b) × (b ≤ 122)
+
+-- a letter, a digit or `_`
+abbrev pub IsNameByte : ℕ → Type 0
+IsNameByte b = IsLetter b ⊎ ((48 ≤ b) × (b ≤ 57)) ⊎ (b ≡ 95)
+
+-- 1 to 16 such bytes, the first a letter; `on` and `at` are no names
+pub record IsName (name : Text) : Type 0 where
+  pub some : 0 < length name
+  pub short : length name ≤ 16
+  pub first : IsLetter (slice_index name 0)
+  pub rest : All IsNameByte name
+  pub not_on : name ≢ codes "on"
+  pub not_at : name ≢ codes "at"
+
+-- what a `u64` can be
+abbrev pub IsNumber : ℕ → Type 0
+IsNumber n = n < 2 ^ 64
+
+-- the names and numbers of a node are such
+abbrev pub IsNode : Node → Type 0
+IsNode (Plain n) = IsName n
+IsNode (Interval n k) = IsName n × IsNumber k
+
+-- one or more nodes
+abbrev pub AreSomeNodes : List Node → Type 0
+AreSomeNodes ps = All IsNode ps × (0 < length ps)
+
+-- the names and numbers of a command are such; only an inner node, made or moved, may be without parents
+abbrev pub IsCommand : Command → Type 0
+IsCommand (Inner n ps) = IsName n × All IsNode ps
+IsCommand (File n ps) = IsName n × AreSomeNodes ps
+IsCommand (Index n ps f bs) = IsName n × AreSomeNodes ps × IsName f × All IsNumber bs
+IsCommand (Begin t) = IsName t
+IsCommand (Lock t m n) = IsName t × IsNode n
+IsCommand (Try t m n) = IsName t × IsNode n
+IsCommand (Unlock t n) = IsName t × IsNode n
+IsCommand (Cancel t) = IsName t
+IsCommand (Commit t) = IsName t
+IsCommand (Abort t) = IsName t
+IsCommand (Settle t) = IsName t
+IsCommand (Insert t r f ks) = IsName t × IsName r × IsName f × All IsNumber ks
+IsCommand (Delete t r) = IsName t × IsName r
+IsCommand (Rekey t r i k) = IsName t × IsName r × IsName i × IsNumber k
+IsCommand (Escalate t n) = IsName t × IsNode n
+IsCommand (Move t n ps) = IsName t × IsNode n × All IsNode ps
+IsCommand (Group n) = IsNode n
+IsCommand (Held t n) = IsName t × IsNode n
+IsCommand (Effective t n) = IsName t × IsNode n
+
+-- nodes move in scripts of version 2 alone
+abbrev pub IsOfVersion : Version → Command → Type 0
+IsOfVersion v (Move t n ps) = v ≡ version.Two
+IsOfVersion v c = Unit
+
+-- how a node is spelt: its name, or the index, a dot and the interval's number
+abbrev pub node_text : Node → Text
+node_text (Plain n) = n
+node_text (Interval n k) = n ++ 46 ∷ decimal k
+
+-- parents stand behind a colon, where there are any
+abbrev pub parents : List Node → List Text
+parents [] = []
+parents (p ∷ ps) = codes ":" ∷ node_text p ∷ map node_text ps
+
+-- the fields of a command's line
+abbrev pub fields : Command → List Text
+fields (Inner n ps) = codes "inner" ∷ n ∷ parents ps
+fields (File n ps) = codes "file" ∷ n ∷ parents ps
+fields (Index n ps f bs) = codes "index" ∷ n ∷ parents ps ++ codes "on" ∷ f ∷ codes "at" ∷ map decimal bs
+fields (Begin t) = codes "begin" ∷ t ∷ []
+fields (Lock t m n) = codes "lock" ∷ t ∷ mode_text m ∷ node_text n ∷ []
+fields (Try t m n) = codes "try" ∷ t ∷ mode_text m ∷ node_text n ∷ []
+fields (Unlock t n) = codes "unlock" ∷ t ∷ node_text n ∷ []
+fields (Cancel t) = codes "cancel" ∷ t ∷ []
+fields (Commit t) = codes "commit" ∷ t ∷ []
+fields (Abort t) = codes "abort" ∷ t ∷ []
+fields (Settle t) = codes "settle" ∷ t ∷ []
+fields (Insert t r f ks) = codes "insert" ∷ t ∷ r ∷ f ∷ map decimal ks
+fields (Delete t r) = codes "delete" ∷ t ∷ r ∷ []
+fields (Rekey t r i k) = codes "rekey" ∷ t ∷ r ∷ i ∷ decimal k ∷ []
+fields (Escalate t n) = codes "escalate" ∷ t ∷ node_text n ∷ []
+fields (Move t n ps) = codes "move" ∷ t ∷ node_text n ∷ parents ps
+fields (Group n) = codes "group" ∷ node_text n ∷ []
+fields (Held t n) = codes "held" ∷ t ∷ node_text n ∷ []
+fields (Effective t n) = codes "effective" ∷ t ∷ node_text n ∷ []
+
+-- the fields are those of the command
+abbrev pub SaysFields : Version → List Text → Command → Type 0
+SaysFields v all command = IsCommand command × IsOfVersion v command × (all ≡ fields command)
+
+-- the line says the command: exactly one space stands between two fields, and none at either end
+abbrev pub Says : Version → Text → Command → Type 0
+Says v line command = SaysFields v (slice_split (λ b. b == 32) line) command
+
+-- a line says at most one command
+abbrev pub LineSaysOneCommand : Type 0
+LineSaysOneCommand = (v : Version) (line : Text) (c d : Command) → Says v line c → Says v line d → c ≡ d

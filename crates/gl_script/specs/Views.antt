@@ -1,0 +1,43 @@
+-- What the values of the code say.
+use Rattle.std.specs.Prelude.{ℕ, List, map, Option, None, Some}
+use Rattle.gl_script.specs.declared.form.Form.{Form}
+use Rattle.gl_script.specs.declared.form.Form.TheVariants as form
+use Rattle.gl_script.specs.declared.form.Lists.{Lists}
+use Rattle.gl_script.specs.declared.reads.Used.{Used}
+use Rattle.gl_script.specs.Grammar.{Text, Node, Plain, Interval, Command}
+use Rattle.gl_script.specs.Grammar as grammar
+
+-- a node by its name, or an interval by its index and number
+abbrev pub node_in : Text → Option ℕ → Node
+node_in name None = Plain name
+node_in name (Some k) = Interval name k
+
+-- the node that a used name is
+abbrev pub node_of : Used → Node
+node_of used = node_in used.name.items used.interval
+
+-- the nodes of a list
+abbrev pub nodes_of : Lists → List Node
+nodes_of lists = map node_of lists.nodes.items
+
+-- the command of a form, whose lists stand beside it
+abbrev pub command_of : Form → Lists → Command
+command_of (form.Inner n) lists = grammar.Inner n.items (nodes_of lists)
+command_of (form.File n) lists = grammar.File n.items (nodes_of lists)
+command_of (form.Index n f) lists = grammar.Index n.items (nodes_of lists) f.items lists.numbers.items
+command_of (form.Begin t) lists = grammar.Begin t.items
+command_of (form.Lock t m n) lists = grammar.Lock t.items m (node_of n)
+command_of (form.Try t m n) lists = grammar.Try t.items m (node_of n)
+command_of (form.Unlock t n) lists = grammar.Unlock t.items (node_of n)
+command_of (form.Cancel t) lists = grammar.Cancel t.items
+command_of (form.Commit t) lists = grammar.Commit t.items
+command_of (form.Abort t) lists = grammar.Abort t.items
+command_of (form.Settle t) lists = grammar.Settle t.items
+command_of (form.Insert t r f) lists = grammar.Insert t.items r.items f.items lists.numbers.items
+command_of (form.Delete t r) lists = grammar.Delete t.items r.items
+command_of (form.Rekey t r i k) lists = grammar.Rekey t.items r.items i.items k
+command_of (form.Escalate t n) lists = grammar.Escalate t.items (node_of n)
+command_of (form.Move t n) lists = grammar.Move t.items (node_of n) (nodes_of lists)
+command_of (form.Group n) lists = grammar.Group (node_of n)
+command_of (form.Held t n) lists = grammar.Held t.items (node_of n)
+command_of (form.Effective t n) lists = grammar.Effective t.items (node_of n)

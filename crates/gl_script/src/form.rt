@@ -1,0 +1,218 @@
+//! The forms of a line.
+
+ghost use Rattle.std.specs.Prelude.{◌≡◌, ◌≤◌, ◌∷◌, [], IfSome, IfNone, length, codes};
+ghost use Rattle.gl_script.specs.Grammar.{Command, Says, SaysFields, LineSaysOneCommand};
+ghost use Rattle.gl_script.specs.Left.{left};
+ghost use Rattle.gl_script.specs.Views.{command_of};
+ghost use Rattle.gl_script.specs.Words.{word};
+
+use crate::fields::Fields;
+use crate::reads::{Name, Used};
+use crate::shapes::{
+    index_parts, insert_parts, name_parents, name_some_parents, only_name, only_node, rekey_parts,
+    txn_mode_node, txn_node, txn_node_parents, txn_record,
+};
+use crate::verb::{Verb, read_verb};
+use arrayvec::ArrayVec;
+use gl_modes::Mode;
+
+/// Which forms a script may have.
+#[derive(Clone, Copy, PartialEq, Eq, Debug)]
+pub enum Version {
+    /// All but `move`.
+    One,
+    /// All.
+    Two,
+}
+
+/// A command, as a line has it. The parents, bounds and keys of the line are [`Lists`] beside it.
+#[derive(Drop)]
+pub enum Form {
+    /// A new inner node, and its parents.
+    Inner {
+        name: Name,
+    },
+    /// A new file, and its parents.
+    File {
+        name: Name,
+    },
+    /// A new index of a file, its parents, and its bounds.
+    Index {
+        name: Name,
+        file: Name,
+    },
+    /// A new transaction.
+    Begin {
+        txn: Name,
+    },
+    /// Ask for a lock, and wait if need be.
+    Lock {
+        txn: Name,
+        mode: Mode,
+        node: Used,
+    },
+    /// Ask for a lock, and be refused if it would wait.
+    Try {
+        txn: Name,
+        mode: Mode,
+        node: Used,
+    },
+    /// Release one node.
+    Unlock {
+        txn: Name,
+        node: Used,
+    },
+    /// Take a wait back.
+    Cancel {
+        txn: Name,
+    },
+    /// End.
+    Commit {
+        txn: Name,
+    },
+    /// End, also while waiting or condemned.
+    Abort {
+        txn: Name,
+    },
+    /// Condemn until the transaction is on no cycle.
+    Settle {
+        txn: Name,
+    },
+    /// A new record of a file, and its keys.
+    Insert {
+        txn: Name,
+        name: Name,
+        file: Name,
+    },
+    /// Take a record away.
+    Delete {
+        txn: Name,
+        rec: Name,
+    },
+    /// Give a record another key for an index.
+    Rekey {
+        txn: Name,
+        rec: Name,
+        index: Name,
+        key: u64,
+    },
+    /// Raise the lock of a node in place of locks on its children.
+    Escalate {
+        txn: Name,
+        node: Used,
+    },
+    /// Give a node other parents.
+    Move {
+        txn: Name,
+        node: Used,
+    },
+    /// The group mode of a node.
+    Group {
+        node: Used,
+    },
+    /// The mode in which a transaction holds a node.
+    Held {
+        txn: Name,
+        node: Used,
+    },
+    /// What a transaction may do to a node by all its locks together.
+    Effective {
+        txn: Name,
+        node: Used,
+    },
+}
+
+/// What a line lists: the parents of a node, and the bounds of an index or the keys of a record. A
+/// line of 256 bytes has at most 257 fields.
+#[derive(Drop)]
+pub struct Lists {
+    pub nodes: ArrayVec<Used, 257>,
+    pub numbers: ArrayVec<u64, 257>,
+}
+
+impl Lists {
+    /// Lists without anything in them.
+    pub fn new() -> Lists
+        ensures nodes { result.nodes.items ≡ [] }
+        ensures numbers { result.numbers.items ≡ [] }
+    {
+        Lists {
+            nodes: ArrayVec::new(),
+            numbers: ArrayVec::new(),
+        }
+    }
+}
+
+/// The command that a line of at most 256 bytes says, if it says one. What it lists is then in
+/// `lists`, whatever was there before.
+pub fn parse(version: Version, line: &[u8], lists: &mut Lists) -> Option<Form>
+    requires short { length line.now ≤ 256 }
+    ensures says { IfSome result (λ form. Says version line.now (command_of form lists.new)) }
+    ensures none { IfNone result ((c : Command) → Says version line.now c → ⊥) }
+{
+    let mut fields = Fields::of(line);
+    let verb = read_verb(fields.next()?)?;
+    read_command(version, verb, &mut fields, lists)
+}
+
+/// The command that a verb and the fields behind it say, if they say one.
+fn read_command(
+    version: Version,
+    verb: Verb,
+    fields: &mut Fields,
+    lists: &mut Lists,
+) -> Option<Form>
+    requires room { length (left fields.old) ≤ 257 }
+    ensures says { IfSome result (λ form. SaysFields version (word verb ∷ left fields.old) (command_of form lists.new)) }
+    ensures none { IfNone result ((c : Command) → SaysFields version (word verb ∷ left fields.old) c → ⊥) }
+{
+    match verb {
+        Verb::Inner => name_parents(fields, &mut lists.nodes).map(|name| Form::Inner { name }),
+        Verb::File => name_some_parents(fields, &mut lists.nodes).map(|name| Form::File { name }),
+        Verb::Index => index_parts(fields, lists).map(|(name, file)| Form::Index { name, file }),
+        Verb::Begin => only_name(fields).map(|txn| Form::Begin { txn }),
+        Verb::Lock => txn_mode_node(fields).map(|(txn, mode, node)| Form::Lock { txn, mode, node }),
+        Verb::Try => txn_mode_node(fields).map(|(txn, mode, node)| Form::Try { txn, mode, node }),
+        Verb::Unlock => txn_node(fields).map(|(txn, node)| Form::Unlock { txn, node }),
+        Verb::Cancel => only_name(fields).map(|txn| Form::Cancel { txn }),
+        Verb::Commit => only_name(fields).map(|txn| Form::Commit { txn }),
+        Verb::Abort => only_name(fields).map(|txn| Form::Abort { txn }),
+        Verb::Settle => only_name(fields).map(|txn| Form::Settle { txn }),
+        Verb::Insert => {
+            let (txn, name, file) = insert_parts(fields, &mut lists.numbers)?;
+            Some(Form::Insert { txn, name, file })
+        }
+        Verb::Delete => txn_record(fields).map(|(txn, rec)| Form::Delete { txn, rec }),
+        Verb::Rekey => rekey_parts(fields).map(|(txn, rec, index, key)| Form::Rekey {
+            txn,
+            rec,
+            index,
+            key,
+        }),
+        Verb::Escalate => txn_node(fields).map(|(txn, node)| Form::Escalate { txn, node }),
+        Verb::Move => read_move(version, fields, lists),
+        Verb::Group => only_node(fields).map(|node| Form::Group { node }),
+        Verb::Held => txn_node(fields).map(|(txn, node)| Form::Held { txn, node }),
+        Verb::Effective => txn_node(fields).map(|(txn, node)| Form::Effective { txn, node }),
+    }
+}
+
+/// What follows the word `move`, which version 1 does not have.
+fn read_move(version: Version, fields: &mut Fields, lists: &mut Lists) -> Option<Form>
+    requires room { length (left fields.old) ≤ 257 }
+    ensures says { IfSome result (λ form. SaysFields version (codes "move" ∷ left fields.old) (command_of form lists.new)) }
+    ensures none { IfNone result ((c : Command) → SaysFields version (codes "move" ∷ left fields.old) c → ⊥) }
+{
+    match version {
+        Version::One => None,
+        Version::Two => {
+            let (txn, node) = txn_node_parents(fields, &mut lists.nodes)?;
+            Some(Form::Move { txn, node })
+        }
+    }
+}
+
+/// A line says at most one command.
+pub fn one_command()
+    ensures { LineSaysOneCommand }
+{}
