@@ -42,6 +42,11 @@ abbrev pub is_index_shape : Option Shape → Bool
 is_index_shape (Some (Index file bounds)) = true
 is_index_shape s = false
 
+-- the place of an interval in its index
+abbrev pub place_in : Option Shape → Option ℕ
+place_in (Some (Interval place)) = Some place
+place_in s = None
+
 -- an index of this file
 abbrev pub is_index_of_shape : NodeId → Option Shape → Bool
 is_index_of_shape f (Some (Index file bounds)) = same_node f file

@@ -1,7 +1,7 @@
 //! The nodes of a lock graph, under keys that are used again, with births that are not.
 
 ghost use Rattle.std.specs.Prelude.{◌≡◌, ◌≢◌, ℕ, true, Option, None};
-ghost use Rattle.gl_graph.specs.Shapes.{is_file_shape, is_index_shape, keys_in, kind_in};
+ghost use Rattle.gl_graph.specs.Shapes.{is_file_shape, is_index_shape, keys_in, kind_in, place_in};
 ghost use Rattle.gl_graph.specs.Graph.{
   indexes_of,
   interval_at,
@@ -153,6 +153,16 @@ impl Graph {
     {
         match find(&self.nodes, index) {
             Some(node) => node.body.intervals().get(place).copied(),
+            None => None,
+        }
+    }
+
+    /// The place of an interval in its index, counted from 0; `None` where the id names no interval.
+    pub fn place(&self, n: NodeId) -> Option<usize>
+        ensures { result ≡ place_in (shape_of (graph_of self.now) n) }
+    {
+        match find(&self.nodes, n) {
+            Some(node) => node.body.place(),
             None => None,
         }
     }

@@ -35,7 +35,7 @@ pub(crate) struct Node {
 
 impl Body {
     ghost use Rattle.std.specs.Prelude.{◌≡◌, ◌<◌, Some, length};
-    ghost use Rattle.gl_graph.specs.Shapes.{bounds_in, keys_in, kind_in};
+    ghost use Rattle.gl_graph.specs.Shapes.{bounds_in, keys_in, kind_in, place_in};
     ghost use Rattle.gl_graph.specs.Seen.{
       body_with_indexes,
       body_with_intervals,
@@ -92,6 +92,15 @@ impl Body {
         match self {
             Body::Index { intervals, .. } => intervals.as_slice(),
             _ => &[],
+        }
+    }
+
+    pub(crate) fn place(&self) -> Option<usize>
+        ensures { result ≡ place_in (Some (shape_in_body self.now)) }
+    {
+        match self {
+            Body::Interval { place } => Some(*place),
+            _ => None,
         }
     }
 

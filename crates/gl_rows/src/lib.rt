@@ -3,7 +3,21 @@
 #![tactic(auto)]
 
 #[cfg(test)]
+mod deadlocks;
+#[cfg(test)]
 mod faults;
+#[cfg(test)]
+mod grants;
+#[cfg(test)]
+mod graphs;
+#[cfg(test)]
+mod lines;
+#[cfg(test)]
+mod manual;
+#[cfg(test)]
+mod moves;
+#[cfg(test)]
+mod records;
 #[cfg(test)]
 mod rows;
 #[cfg(test)]

@@ -16,6 +16,8 @@ pub(crate) struct Source<'a> {
     /// How many reads it answers before every one fails.
     pub(crate) calls: usize,
     pub(crate) is_endless: bool,
+    /// How many bytes it has given.
+    pub(crate) given: usize,
 }
 
 impl<'a> Source<'a> {
@@ -28,6 +30,7 @@ impl<'a> Source<'a> {
             left: usize::MAX,
             calls: usize::MAX,
             is_endless: false,
+            given: 0,
         }
     }
 }
@@ -48,6 +51,7 @@ impl Read for Source<'_> {
         buf[..count].copy_from_slice(&rest[..count]);
         self.at = at + count;
         self.left -= count;
+        self.given += count;
         Ok(count)
     }
 }

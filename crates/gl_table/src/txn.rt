@@ -4,7 +4,7 @@ use gl_modes::{Mode, NodeId};
 
 /// A transaction's name: its slot, and its age, which is the count of begins at its own. No two
 /// transactions have one age, so the name of one that has ended names nothing.
-#[derive(Clone, Copy, PartialEq, Eq, Debug, Default)]
+#[derive(Clone, Copy, PartialEq, Eq, Hash, Debug, Default)]
 pub struct TxnId {
     pub slot: u8,
     pub age: u64,

@@ -1,8 +1,7 @@
 pub mod Splitting
-pub mod NodeTexts
-pub mod Numbers
-pub mod OneCommand
-pub mod NamesInUse
-pub mod DeskLemmas
 pub mod Writing
 pub mod Reading
+pub mod Registers
+pub mod Serving
+pub mod Printing
+pub mod Openings

@@ -1,11 +1,11 @@
-pub mod Grammar
-pub mod Numbers
-pub mod Desk
+pub mod Names
+pub mod Script
+pub mod Printed
 pub mod Report
 pub mod Held
 pub mod Views
+pub mod Rooms
 pub mod SoFar
 pub mod Outcome
-pub mod Declaring
 pub use Rattle.gl_modes.specs.Modes
 pub use Rattle.gl_modes.specs.Refusals

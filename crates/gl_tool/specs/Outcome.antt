@@ -1,25 +1,27 @@
 -- How the program ends.
 use Rattle.std.specs.Prelude.{◌≡◌, ◌≢◌, ℕ, List, [], Option, Result, Ok, Err}
 use Rattle.std.specs.Io.KnownBytes.{Consumes, Appends, IsAtEnd}
+use Rattle.gl_table.specs.declared.detect.Detect.{Detect}
+use Rattle.gl_table.specs.declared.detect.Detect.TheVariants.{AtBlock}
 use Rattle.gl_tool.specs.declared.script.RunFault.{RunFault}
 use Rattle.gl_tool.specs.declared.entry.ToolFault.{ToolFault}
 use Rattle.gl_tool.specs.declared.entry.ToolFault.TheVariants.{Run, Words}
 use Rattle.gl_tool.specs.Report.{Report, Left}
 
 -- all of the reader was read, and the report on it was written
-abbrev pub HasRun : Option (List ℕ) → Option (List ℕ) → Option (List ℕ) → Option (List ℕ) → Type 0
-HasRun had has held holds =
-    (read : List ℕ) × (written : List ℕ) × Consumes had has read × IsAtEnd has × Appends held holds written × Report read written
+abbrev pub HasRun : Detect → Option (List ℕ) → Option (List ℕ) → Option (List ℕ) → Option (List ℕ) → Type 0
+HasRun detect had has held holds =
+    (read : List ℕ) × (written : List ℕ) × Consumes had has read × IsAtEnd has × Appends held holds written × Report detect read written
 
 -- the run met this fault, and left what it leaves
-abbrev pub HasFaulted : RunFault → Option (List ℕ) → Option (List ℕ) → Option (List ℕ) → Option (List ℕ) → Type 0
-HasFaulted fault had has held holds =
-    (read : List ℕ) × (written : List ℕ) × Consumes had has read × Appends held holds written × Left fault read written
+abbrev pub HasFaulted : Detect → RunFault → Option (List ℕ) → Option (List ℕ) → Option (List ℕ) → Option (List ℕ) → Type 0
+HasFaulted detect fault had has held holds =
+    (read : List ℕ) × (written : List ℕ) × Consumes had has read × Appends held holds written × Left detect fault read written
 
 -- a run where there are no words; with words nothing is done
 abbrev pub Works : {A : Type 0} → List A → Option (List ℕ) → Option (List ℕ) → Option (List ℕ) → Option (List ℕ) → Result Unit ToolFault → Type 0
-Works words had has held holds (Ok _) = (words ≡ []) × HasRun had has held holds
-Works words had has held holds (Err (Run fault)) = (words ≡ []) × HasFaulted fault had has held holds
+Works words had has held holds (Ok _) = (words ≡ []) × HasRun AtBlock had has held holds
+Works words had has held holds (Err (Run fault)) = (words ≡ []) × HasFaulted AtBlock fault had has held holds
 Works words had has held holds (Err Words) = (words ≢ []) × (has ≡ had) × (holds ≡ held)
 
 -- the exit status after a fault

@@ -1,47 +1,70 @@
 -- What is printed for a script, from all bytes read to all bytes written.
-use Rattle.std.specs.Prelude.{◌≡◌, ◌≢◌, ◌<◌, ◌≤◌, ◌⊎◌, List, [], ◌∷◌, ◌++◌, length, slice_index, All, codes, decimal, flat_map, Option, Some, None, Result, MatchResult}
+use Rattle.std.specs.Prelude.{◌≡◌, ◌≢◌, ◌<◌, ◌≤◌, ◌⊎◌, Bool, true, false, List, [], ◌∷◌, ◌++◌, length, slice_index, All, codes, flat_map, Option, Result, MatchResult}
 use Rattle.std.specs.Io.KnownBytes.{Consumes, Appends}
-use Rattle.gl_modes.specs.declared.refusal.Refusal.TheVariants.{BadLine}
-use Rattle.gl_modes.specs.Modes.{mode_text}
-use Rattle.gl_modes.specs.Refusals.{refusal_name, refusal_number}
-use Rattle.gl_tool.specs.Grammar.{Text, Node, Command, Says, node_text}
-use Rattle.gl_tool.specs.Desk.{State, Answer, Silent, Done, InMode, Refused, Step, start}
+use Rattle.std.specs.Str.{bytes_eq}
+use Rattle.gl_table.specs.declared.detect.Detect.{Detect}
+use Rattle.gl_table.specs.Tellings.{Told}
+use Rattle.gl_catalog.specs.declared.command.Answer.{Answer}
+use Rattle.gl_script.specs.declared.form.Version.TheVariants as version
+use Rattle.gl_script.specs.Grammar.{Text, Command, Says}
+use Rattle.gl_tool.specs.Printed.{printed}
+use Rattle.gl_tool.specs.Script.{Script, Does, begun}
 use Rattle.gl_tool.specs.declared.script.RunFault.{RunFault}
 use Rattle.gl_tool.specs.declared.script.RunFault.TheVariants.{Read, Write, TooMuch, Memory}
-
--- a space and the name, where a refusal names somebody
-abbrev pub who_text : Option Node → Text
-who_text None = []
-who_text (Some n) = 32 ∷ node_text n
-
--- the line that is printed for an answer
-abbrev pub printed : Answer → Text
-printed Silent = []
-printed Done = codes "ok\n"
-printed (InMode m) = codes "ok " ++ mode_text m ++ 10 ∷ []
-printed (Refused r who) = codes "no " ++ decimal (refusal_number r) ++ 32 ∷ [] ++ refusal_name r ++ who_text who ++ 10 ∷ []
 
 -- an empty line, or one that begins with `#`
 abbrev pub IsSilent : Text → Type 0
 IsSilent line = (length line ≡ 0) ⊎ (slice_index line 0 ≡ 35)
 
--- A line's answer, and the state after it. A line of more than 256 bytes is a bad line, whatever it holds.
-abbrev pub Answers : State → Text → Answer → State → Type 0
-Answers s line answer t =
-    ((256 < length line) × (answer ≡ Refused BadLine None) × (t ≡ s))
-    ⊎ ((length line ≤ 256) × IsSilent line × (answer ≡ Silent) × (t ≡ s))
-    ⊎ ((length line ≤ 256) × ¬ (IsSilent line) × ((c : Command) → ¬ (Says line c)) × (answer ≡ Refused BadLine None) × (t ≡ s))
-    ⊎ ((length line ≤ 256) × ¬ (IsSilent line) × ((c : Command) × Says line c × Step s c answer t))
+-- what is printed for a line that says no command
+abbrev pub bad_line : Text
+bad_line = codes "no 20 BadLine\n"
 
--- the text that is printed for a line
-unfoldable pub Prints : State → Text → Text → State → Type 0
-Prints s line text t = (answer : Answer) × Answers s line answer t × (text ≡ printed answer)
+-- a command, and the text that is printed for what it does
+pub record Carries (s : Script) (line text : Text) (s' : Script) : Type 0 where
+  pub command : Command
+  pub says : Says s.version line command
+  pub answer : Answer
+  pub told : Told
+  pub does : Does s command answer told s'
+  pub text_is : text ≡ printed s' command answer told
+
+-- The text that is printed for a line, and the script after it. A line of more than 256 bytes is a bad line, whatever it holds.
+abbrev pub Answers : Script → Text → Text → Script → Type 0
+Answers s line text s' =
+    ((256 < length line) × (text ≡ bad_line) × (s' ≡ s))
+    ⊎ ((length line ≤ 256) × IsSilent line × (text ≡ []) × (s' ≡ s))
+    ⊎ ((length line ≤ 256) × ¬ (IsSilent line) × ((c : Command) → ¬ (Says s.version line c)) × (text ≡ bad_line) × (s' ≡ s))
+    ⊎ ((length line ≤ 256) × ¬ (IsSilent line) × Carries s line text s')
+
+-- where a script stands: before its first line, or behind a line
+pub data Stage : Type 0 where
+  Opening : (detect : Detect) → Stage
+  Going : (script : Script) → Stage
+
+-- the first line of a script of version 2, which is no command
+abbrev pub says_version : Text → Bool
+says_version line = bytes_eq line (codes "granular 2")
+
+-- the first line chooses the version; in version 1 it is a line like any other
+abbrev pub Opens : Detect → Bool → Text → Text → Stage → Type 0
+Opens d true line text stage = (text ≡ codes "ok\n") × (stage ≡ Going (begun d version.Two))
+Opens d false line text stage = (s : Script) × Answers (begun d version.One) line text s × (stage ≡ Going s)
+
+-- the text that is printed for a line, wherever it stands
+abbrev pub PrintsAt : Stage → Text → Text → Stage → Type 0
+PrintsAt (Opening d) line text stage = Opens d (says_version line) line text stage
+PrintsAt (Going s) line text stage = (s' : Script) × Answers s line text s' × (stage ≡ Going s')
+
+-- the same, closed up
+unfoldable pub Prints : Stage → Text → Text → Stage → Type 0
+Prints stage line text stage' = PrintsAt stage line text stage'
 
 -- the text that is printed for these lines, one after the other
-abbrev pub Run : State → List Text → Text → State → Type 0
+abbrev pub Run : Stage → List Text → Text → Stage → Type 0
 Run s [] text t = (text ≡ []) × (t ≡ s)
 Run s (line ∷ lines) text t =
-    (mid : State) × (first : Text) × (more : Text) × Prints s line first mid × Run mid lines more t × (text ≡ first ++ more)
+    (mid : Stage) × (first : Text) × (more : Text) × Prints s line first mid × Run mid lines more t × (text ≡ first ++ more)
 
 -- a line has no newline in it
 abbrev pub IsOpen : Text → Type 0
@@ -63,24 +86,24 @@ last_line [] = []
 last_line (b ∷ bs) = (b ∷ bs) ∷ []
 
 -- the text is printed for the lines of the bytes, the last one included
-abbrev pub Report : Text → Text → Type 0
-Report bytes text =
-    (lines : List Text) × (rest : Text) × (t : State) × Splits bytes lines rest × Run start (lines ++ last_line rest) text t
+abbrev pub Report : Detect → Text → Text → Type 0
+Report d bytes text =
+    (lines : List Text) × (rest : Text) × (t : Stage) × Splits bytes lines rest × Run (Opening d) (lines ++ last_line rest) text t
 
 -- the text is printed for the lines of the bytes that a newline ends
-abbrev pub ReportOfWhole : Text → Text → Type 0
-ReportOfWhole bytes text =
-    (lines : List Text) × (rest : Text) × (t : State) × Splits bytes lines rest × Run start lines text t
+abbrev pub ReportOfWhole : Detect → Text → Text → Type 0
+ReportOfWhole d bytes text =
+    (lines : List Text) × (rest : Text) × (t : Stage) × Splits bytes lines rest × Run (Opening d) lines text t
 
 -- what holds of the bytes read and written when a fault ends the run
-abbrev pub Left : RunFault → Text → Text → Type 0
-Left Read read written = ReportOfWhole read written
-Left TooMuch read written = (length read ≡ 16777217) × ReportOfWhole read written
-Left Write read written = (rest : Text) × Report read (written ++ rest)
-Left Memory read written = (read ≡ []) × (written ≡ [])
+abbrev pub Left : Detect → RunFault → Text → Text → Type 0
+Left d Read read written = ReportOfWhole d read written
+Left d TooMuch read written = (length read ≡ 16777217) × ReportOfWhole d read written
+Left d Write read written = (rest : Text) × Report d read (written ++ rest)
+Left d Memory read written = (read ≡ []) × (written ≡ [])
 
 -- what a run read, what it wrote, and how the two go together
-abbrev pub Ran : Option Text → Option Text → Option Text → Option Text → Result Unit RunFault → Type 0
-Ran had has held holds result =
+abbrev pub Ran : Detect → Option Text → Option Text → Option Text → Option Text → Result Unit RunFault → Type 0
+Ran d had has held holds result =
     (read : Text) × (written : Text) × Consumes had has read × Appends held holds written
-    × MatchResult result (λ _. Report read written) (λ fault. Left fault read written)
+    × MatchResult result (λ _. Report d read written) (λ fault. Left d fault read written)

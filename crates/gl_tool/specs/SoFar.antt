@@ -1,46 +1,92 @@
 -- A script on its way through the tool.
-use Rattle.std.specs.Prelude.{◌≡◌, ℕ, List, [], ◌++◌, false, take, Option, Result, MatchResult}
+use Rattle.std.specs.Prelude.{◌≡◌, ℕ, List, [], ◌++◌, false, take, Option, None, Some, Result, MatchResult}
 use Rattle.std.specs.Io.KnownBytes.{Appends}
+use Rattle.gl_table.specs.declared.detect.Detect.{Detect}
+use Rattle.gl_table.specs.State.{empty_state}
+use Rattle.gl_catalog.specs.Manager.{ManagerView, state_of}
+use Rattle.gl_script.specs.declared.form.Version.TheVariants as version
+use Rattle.gl_tool.specs.declared.interpreter.Interpreter.{Interpreter}
 use Rattle.gl_tool.specs.declared.script.Tool.{Tool}
 use Rattle.gl_tool.specs.declared.script.RunFault.{RunFault}
 use Rattle.gl_tool.specs.declared.script.RunFault.TheVariants.{Write}
-use Rattle.gl_tool.specs.Desk.{start}
-use Rattle.gl_tool.specs.Report.{Run, Splits, Report, Prints}
-use Rattle.gl_tool.specs.Held.{Holds}
-use Rattle.gl_tool.specs.Views.{state_of}
+use Rattle.gl_tool.specs.declared.sink.Sink.{Sink}
+use Rattle.gl_tool.specs.Report.{Answers, Opening, Going, Prints, Report, Run, Splits, Stage}
+use Rattle.gl_tool.specs.Held.{Hands, Holds}
+use Rattle.gl_tool.specs.Script.{Script, begun}
+use Rattle.gl_tool.specs.Views.{script_of}
+
+-- a script has not begun where the manager of version 2 is still at hand
+abbrev pub stage_with : Option ManagerView → Script → Stage
+stage_with None s = Going s
+stage_with (Some two) s = Opening (state_of two).detect
+
+-- where the script stands
+abbrev pub stage_of : Interpreter → Stage
+stage_of i = stage_with i.two (script_of i.desk)
+
+-- as long as no version is chosen, both managers are as they were made
+abbrev pub IsReadyWith : Option ManagerView → Script → Type 0
+IsReadyWith None s = Unit
+IsReadyWith (Some two) s = (state_of two ≡ empty_state (state_of two).detect 128) × (s ≡ begun (state_of two).detect version.One)
+
+abbrev pub IsReady : Interpreter → Type 0
+IsReady i = IsReadyWith i.two (script_of i.desk)
+
+-- no line was answered
+pub record IsFresh (detect : Detect) (i : Interpreter) : Type 0 where
+  pub stage : stage_of i ≡ Opening detect
+  pub ready : IsReady i
+
+-- a line of a script whose version is known was answered; its first 257 bytes were given
+unfoldable pub CarriesOut : Option (List ℕ) → Sink → Interpreter → List ℕ → Option (List ℕ) → Sink → Interpreter → Type 0
+CarriesOut w sink i line w' sink' i' = (text : List ℕ) × Answers (script_of i.desk) line text (script_of i'.desk) × (i'.two ≡ i.two) × Hands w sink w' sink' text
+
+-- a line was answered; its first 257 bytes were given
+unfoldable pub Answered : Option (List ℕ) → Sink → Interpreter → List ℕ → Option (List ℕ) → Sink → Interpreter → Type 0
+Answered w sink i line w' sink' i' = IsReady i → (text : List ℕ) × Prints (stage_of i) line text (stage_of i') × IsReady i' × Hands w sink w' sink' text
 
 -- the tool has taken nothing
-pub record IsNew (tool : Tool) : Type 0 where
-  pub desk : state_of tool.desk ≡ start
+pub record IsNew (detect : Detect) (tool : Tool) : Type 0 where
+  pub fresh : IsFresh detect tool.interpreter
   pub line : tool.line.items ≡ []
   pub held : tool.sink.held.items ≡ []
   pub whole : tool.sink.broken ≡ false
 
 -- Of the bytes read, the whole lines are answered; the answers were handed on; the tool has the front of the rest.
-pub record IsSoFar (first : Option (List ℕ)) (read : List ℕ) (w : Option (List ℕ)) (tool : Tool) (lines : List (List ℕ)) (rest text : List ℕ) : Type 0 where
+pub record IsSoFar (d : Detect) (first : Option (List ℕ)) (read : List ℕ) (w : Option (List ℕ)) (tool : Tool) (lines : List (List ℕ)) (rest text : List ℕ) : Type 0 where
   pub splits : Splits read lines rest
-  pub run : Run start lines text (state_of tool.desk)
+  pub run : Run (Opening d) lines text (stage_of tool.interpreter)
+  pub ready : IsReady tool.interpreter
   pub line : tool.line.items ≡ take 257 rest
   pub handed : Holds first w tool.sink text
 
 -- the same, for some lines, rest and text
-abbrev pub SoFar : Option (List ℕ) → List ℕ → Option (List ℕ) → Tool → Type 0
-SoFar first read w tool = (lines : List (List ℕ)) × (rest : List ℕ) × (text : List ℕ) × IsSoFar first read w tool lines rest text
+abbrev pub SoFar : Detect → Option (List ℕ) → List ℕ → Option (List ℕ) → Tool → Type 0
+SoFar d first read w tool = (lines : List (List ℕ)) × (rest : List ℕ) × (text : List ℕ) × IsSoFar d first read w tool lines rest text
 
 -- the tool has taken the bytes too
 unfoldable pub Takes : Option (List ℕ) → Tool → Option (List ℕ) → Tool → List ℕ → Type 0
-Takes w tool w' tool' bytes = (first : Option (List ℕ)) (read : List ℕ) → SoFar first read w tool → SoFar first (read ++ bytes) w' tool'
+Takes w tool w' tool' bytes = (d : Detect) (first : Option (List ℕ)) (read : List ℕ) → SoFar d first read w tool → SoFar d first (read ++ bytes) w' tool'
 
 -- the line was answered, however it goes on after 257 bytes
 unfoldable pub HasReported : Option (List ℕ) → Tool → Option (List ℕ) → Tool → Type 0
 HasReported w tool w' tool' =
-    (line : List ℕ) → tool.line.items ≡ take 257 line
-    → (text : List ℕ) × Prints (state_of tool.desk) line text (state_of tool'.desk)
+    (line : List ℕ) → tool.line.items ≡ take 257 line → IsReady tool.interpreter
+    → (text : List ℕ) × Prints (stage_of tool.interpreter) line text (stage_of tool'.interpreter) × IsReady tool'.interpreter
     × ((first : Option (List ℕ)) (before : List ℕ) → Holds first w tool.sink before → Holds first w' tool'.sink (before ++ text))
 
 -- the script has ended
 unfoldable pub Finishes : Option (List ℕ) → Tool → Option (List ℕ) → Result Unit RunFault → Type 0
 Finishes w tool w' result =
-    (first : Option (List ℕ)) (read : List ℕ) → SoFar first read w tool
+    (d : Detect) (first : Option (List ℕ)) (read : List ℕ) → SoFar d first read w tool
     → (written : List ℕ) × Appends first w' written
-    × MatchResult result (λ _. Report read written) (λ fault. (fault ≡ Write) × ((more : List ℕ) × Report read (written ++ more)))
+    × MatchResult result (λ _. Report d read written) (λ fault. (fault ≡ Write) × ((more : List ℕ) × Report d read (written ++ more)))
+
+-- the way of detection of a script
+abbrev pub detect_in : Stage → Detect
+detect_in (Opening d) = d
+detect_in (Going s) = s.locks.detect
+
+-- the way of detection of what the tool is answering
+abbrev pub detect_of : Tool → Detect
+detect_of tool = detect_in (stage_of tool.interpreter)

@@ -1,80 +1,47 @@
 -- What the code's values say.
-use Rattle.std.specs.Prelude.{ℕ, Bool, ◌==◌, ◌&&◌, List, map, codes, Option, None, Some, unwrap_or, option_map}
-use denote.Ref.{Bor}
-use Rattle.indexmap.specs.IndexMap.{IndexMap, get}
+use Rattle.std.specs.Prelude.{ℕ, ◌<◌, Bool, [], Option, None, Some}
+use Rattle.std.specs.Str.{bytes_eq}
+use Rattle.indexmap.specs.IndexMap.{get, spare}
 use Rattle.arrayvec.specs.ArrayVec.{ArrayVec}
-use Rattle.gl_modes.specs.declared.mode.Mode.{Mode}
-use Rattle.gl_modes.specs.declared.mode.Mode.TheVariants.{NL}
-use Rattle.gl_tool.specs.declared.reads.Used.{Used}
-use Rattle.gl_tool.specs.declared.form.Form.{Form}
-use Rattle.gl_tool.specs.declared.form.Form.TheVariants as form
-use Rattle.gl_tool.specs.declared.form.Verb.{Verb}
-use Rattle.gl_tool.specs.declared.form.Verb.TheVariants as verb
-use Rattle.gl_tool.specs.declared.answers.Reply.{Reply}
-use Rattle.gl_tool.specs.declared.answers.Reply.TheVariants as reply
+use Rattle.gl_modes.specs.Nodes.{same_node}
+use Rattle.gl_catalog.specs.Manager.{state_of}
+use Rattle.gl_script.specs.Grammar.{Text}
 use Rattle.gl_tool.specs.declared.desk.Desk.{Desk}
-use Rattle.gl_tool.specs.declared.desk.Place.{Place}
-use Rattle.gl_tool.specs.Grammar.{Text, Node, Plain, Interval, Command, Inner, Begin, Try, Group, Commit}
-use Rattle.gl_tool.specs.Desk.{Names, State, Answer, Silent, Done, InMode, Refused}
+use Rattle.gl_tool.specs.declared.register.Register.{Register}
+use Rattle.gl_tool.specs.Names.{Names, same_txn}
+use Rattle.gl_tool.specs.Script.{Script}
 
--- what the fields point to
-abbrev pub texts : List (Bor (List ℕ)) → List (List ℕ)
-texts fields = map (λ f. f.now) fields
+-- names are the same where their bytes are
+abbrev pub same_name : ArrayVec ℕ → ArrayVec ℕ → Bool
+same_name a b = bytes_eq a.items b.items
 
--- a node by its name, or an interval by its index and number
-abbrev pub node_in : Text → Option ℕ → Node
-node_in name None = Plain name
-node_in name (Some k) = Interval name k
+-- what a name stands for
+abbrev pub id_in : {I : Type 0} → Register I → Text → Option I
+id_in r n = get same_name r.ids (record { items = n })
 
--- the node that a used name is
-abbrev pub node_of : Used → Node
-node_of used = node_in used.name.items used.interval
+-- the bytes of a name, none where there is none
+abbrev pub text_or_none : Option (ArrayVec ℕ) → Text
+text_or_none None = []
+text_or_none (Some name) = name.items
 
--- the command of a form
-abbrev pub command_of : Form → Command
-command_of (form.Inner n) = Inner n.items
-command_of (form.Begin t) = Begin t.items
-command_of (form.Try t m n) = Try t.items m (node_of n)
-command_of (form.Group n) = Group (node_of n)
-command_of (form.Commit t) = Commit t.items
+-- the name of an id
+abbrev pub name_in : {I : Type 0} → (I → I → Bool) → Register I → I → Text
+name_in eq r x = text_or_none (get eq r.names x)
 
--- how a verb is spelt
-abbrev pub word : Verb → List ℕ
-word verb.Inner = codes "inner"
-word verb.Begin = codes "begin"
-word verb.Try = codes "try"
-word verb.Group = codes "group"
-word verb.Commit = codes "commit"
+-- there is room for one name more
+abbrev pub HasRoom : {I : Type 0} → Register I → Type 0
+HasRoom r = (0 < spare r.ids) × (0 < spare r.names)
 
--- whom a refusal names
-abbrev pub who_of : Option Used → Option Node
-who_of who = option_map node_of who
-
--- the answer that a reply is
-abbrev pub answer_of : Reply → Answer
-answer_of reply.Silent = Silent
-answer_of reply.Done = Done
-answer_of (reply.InMode m) = InMode m
-answer_of (reply.Refused r who) = Refused r (who_of who)
-
--- declared names with their births
-abbrev pub names_of : {S : Type 0} → IndexMap (ArrayVec ℕ) ℕ S → Names
-names_of names = map (λ e. (e.0.items, e.1)) names.entries
-
--- the same place of a grant
-abbrev pub same_place : Place → Place → Bool
-same_place a b = (a.txn == b.txn) && (a.node == b.node)
-
--- the mode that a transaction holds on a node
-abbrev pub held_in : {S : Type 0} → IndexMap Place Mode S → ℕ → ℕ → Mode
-held_in grants t n = unwrap_or (get same_place grants (record { txn = t; node = n })) NL
-
--- the state of the desk
-abbrev pub state_of : Desk → State
-state_of desk =
+-- the names of a desk
+abbrev pub names_of : Desk → Names
+names_of desk =
     record {
-      nodes = names_of desk.nodes;
-      txns = names_of desk.txns;
-      held = λ t n. held_in desk.grants t n;
-      accepted = desk.accepted;
+      node = id_in desk.nodes;
+      node_name = name_in same_node desk.nodes;
+      txn = id_in desk.txns;
+      txn_name = name_in same_txn desk.txns;
     }
+
+-- the script that a desk stands for
+abbrev pub script_of : Desk → Script
+script_of desk = record { version = desk.version; names = names_of desk; locks = state_of desk.manager }

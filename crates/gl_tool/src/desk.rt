@@ -1,257 +1,348 @@
-//! The names that a script has declared, the grants, and what a line does to them.
+//! A script between two lines: the names that it has declared, and the manager of its locks.
 
-ghost use Rattle.std.specs.Prelude.{◌≡◌, ◌<◌, ◌^◌, ◌-◌, ◌==◌, ◌||◌, Some, None, fold};
-ghost use Rattle.std.specs.List.{list_all};
-ghost use Rattle.indexmap.specs.IndexMap.{values};
-ghost use Rattle.gl_modes.specs.Modes.{are_compatible, supremum};
-ghost use Rattle.gl_tool.specs.Grammar.{Try, Group, Commit};
-ghost use Rattle.gl_tool.specs.Desk.{Grants, Step, birth_of, node_named, start};
-ghost use Rattle.gl_tool.specs.Declaring.{Declares};
-ghost use Rattle.gl_tool.specs.Report.{Answers};
-ghost use Rattle.gl_tool.specs.Views.{answer_of, command_of, held_in, names_of, node_of, state_of};
+ghost use Rattle.std.specs.Prelude.{◌≡◌, [], is_some};
+ghost use Rattle.gl_graph.specs.Graph.{first_parent, shape_of};
+ghost use Rattle.gl_graph.specs.Shapes.{place_in};
+ghost use Rattle.gl_script.specs.Views.{command_of, node_of, nodes_of};
+ghost use Rattle.gl_script.specs.declared.form.Lists.{Lists as TheLists};
+ghost use Rattle.gl_tool.specs.Names.{no_names};
+ghost use Rattle.gl_tool.specs.Rooms.{HasRoomFor, MakesRoom, MakesRoomIn};
+ghost use Rattle.gl_tool.specs.Script.{Asks, Does, NodeName, TxnName, declared, named_as, node_id, node_ids, node_named, plain_id, renamed, txn_id, without_deleted, without_ended};
+ghost use Rattle.gl_tool.specs.Views.{HasRoom, id_in, name_in, names_of, script_of};
 
-use crate::answers::Reply;
-use crate::form::{Form, parse};
-use crate::reads::{Name, Used};
-use gl_modes::{Mode, Refusal, compatible, sup};
-use indexmap::IndexMap;
+use crate::register::Register;
+use arrayvec::ArrayVec;
+use gl_catalog::{Answer, Command, Manager};
+use gl_modes::{NodeId, Refusal};
+use gl_script::{Form, Lists, Name, Used, Version};
+use gl_table::{Told, TxnId};
 use std::alloc::Global;
+use std::hash::Hash;
 
-/// The longest line that can say a command, in bytes.
-const LONGEST: usize = 256;
+/// The ids of the parents that a line lists.
+pub(crate) type Ids = ArrayVec<NodeId, 257>;
 
-/// How many nodes there may be.
-const MOST_NODES: usize = 65_536;
-
-/// How many transactions may live at once.
-const MOST_TXNS: usize = 64;
-
-/// Declared names, each with the birth of what it names.
-pub(crate) type Names = IndexMap<Name, u64>;
-
-/// Whose grant it is, and on which node, both by birth.
-#[derive(Clone, Copy, PartialEq, Eq, Hash)]
-pub(crate) struct Place {
-    txn: u64,
-    node: u64,
-}
-
-/// The names that are in use, and one flat list of grants.
+/// What a script has declared, and the manager of its locks.
 #[derive(Drop)]
 pub(crate) struct Desk {
-    nodes: Names,
-    txns: Names,
-    grants: IndexMap<Place, Mode>,
-    /// How many commands were accepted; also the birth of what the last of them declared.
-    accepted: u64,
+    pub(crate) version: Version,
+    pub(crate) manager: Manager,
+    nodes: Register<NodeId>,
+    txns: Register<TxnId>,
 }
 
-/// A desk at which nothing is declared.
-pub(crate) fn empty_desk(alloc: Global) -> Desk
-    ensures { state_of result ≡ start }
-{
-    Desk {
-        nodes: IndexMap::new(alloc),
-        txns: IndexMap::new(alloc),
-        grants: IndexMap::new(alloc),
-        accepted: 0,
-    }
-}
-
-/// Answers a line. Of a longer line it is enough to give 257 bytes.
-pub(crate) fn answer(desk: &mut Desk, line: &[u8]) -> Reply
-    ensures { Answers (state_of desk.old) line.now (answer_of result) (state_of desk.new) }
-{
-    if line.len() > LONGEST {
-        return refused(Refusal::BadLine);
-    }
-    if line.is_empty() || line[0] == b'#' {
-        return Reply::Silent;
-    }
-    match parse(line) {
-        None => refused(Refusal::BadLine),
-        Some(form) => serve(desk, form),
-    }
-}
-
-/// A refusal that names nobody.
-fn refused(refusal: Refusal) -> Reply
-    ensures { result ≡ Reply.Refused refusal None }
-{
-    Reply::Refused { refusal, who: None }
-}
-
-/// A refusal that names a transaction or a node by its declared name.
-fn refused_to(refusal: Refusal, name: Name) -> Reply
-    ensures { result ≡ Reply.Refused refusal (Some (record { name = name; interval = None })) }
-{
-    let interval = None;
-    Reply::Refused {
-        refusal,
-        who: Some(Used { name, interval }),
-    }
-}
-
-/// Runs one command.
-fn serve(desk: &mut Desk, form: Form) -> Reply
-    ensures { Step (state_of desk.old) (command_of form) (answer_of result) (state_of desk.new) }
-{
-    match form {
-        Form::Inner { name } => declare(
-            &mut desk.nodes,
-            &mut desk.accepted,
-            name,
-            MOST_NODES,
-            Refusal::TooManyNodes,
-        ),
-        Form::Begin { txn } => declare(
-            &mut desk.txns,
-            &mut desk.accepted,
-            txn,
-            MOST_TXNS,
-            Refusal::TooManyTxns,
-        ),
-        Form::Try { txn, mode, node } => try_lock(desk, txn, mode, node),
-        Form::Group { node } => show_group(desk, node),
-        Form::Commit { txn } => commit(desk, txn),
-    }
-}
-
-/// Declares a name for what is born now. The room for it is made before any change.
-fn declare(names: &mut Names, accepted: &mut u64, name: Name, most: usize, full: Refusal) -> Reply
-    ensures { Declares (names_of names.old) accepted.old name.items most full (answer_of result) (names_of names.new) accepted.new }
-{
-    if names.contains_key(&name) {
-        return refused_to(Refusal::NameTaken, name);
-    }
-    if *accepted == u64::MAX {
-        return refused(Refusal::WornOut);
-    }
-    if names.len() >= most {
-        return refused(full);
-    }
-    let birth = *accepted + 1;
-    match names.insert(name, birth) {
-        Err(_) => refused(Refusal::NoMemory),
-        Ok(_) => {
-            *accepted = birth;
-            Reply::Done
+impl Desk {
+    /// A script of version 1, of which no line was carried out.
+    pub(crate) fn new(alloc: Global, manager: Manager) -> Desk
+        ensures version { result.version ≡ Version.One }
+        ensures manager { result.manager ≡ manager }
+        ensures names { names_of result ≡ no_names }
+    {
+        Desk {
+            version: Version::One,
+            manager,
+            nodes: Register::new(alloc),
+            txns: Register::new(alloc),
         }
     }
-}
 
-/// What the name stands for, if it is in use.
-fn birth(names: &Names, name: &Name) -> Option<u64>
-    ensures { result ≡ birth_of (names_of names.now) name.now.items }
-{
-    names.get(name).copied()
-}
-
-/// The node that is named, if one is. No interval is declared at this desk.
-fn find_node(nodes: &Names, node: &Used) -> Option<u64>
-    ensures { result ≡ node_named (names_of nodes.now) (node_of node.now) }
-{
-    match node.interval {
-        None => birth(nodes, &node.name),
-        Some(_) => None,
+    /// Goes on as a script of version 2, of which no line was carried out.
+    pub(crate) fn begin_version_two(&mut self, manager: Manager)
+        ensures version { self.new.version ≡ Version.Two }
+        ensures manager { self.new.manager ≡ manager }
+        ensures names { names_of self.new ≡ names_of self.old }
+    {
+        self.version = Version::Two;
+        self.manager = manager;
     }
-}
 
-/// The mode that the transaction holds on the node.
-fn held(grants: &IndexMap<Place, Mode>, txn: u64, node: u64) -> Mode
-    ensures { result ≡ held_in grants.now txn node }
-{
-    grants
-        .get(&Place { txn, node })
-        .copied()
-        .unwrap_or(Mode::NL)
-}
-
-/// Asks for a lock, and is refused where it cannot be granted at once.
-fn try_lock(desk: &mut Desk, txn: Name, mode: Mode, node: Used) -> Reply
-    ensures { Step (state_of desk.old) (Try txn.items mode (node_of node)) (answer_of result) (state_of desk.new) }
-{
-    if desk.accepted == u64::MAX {
-        return refused(Refusal::WornOut);
+    /// Carries out the command of a line. A name that is in use is not declared again, and the room
+    /// for a new one is made first.
+    pub(crate) fn serve(
+        &mut self,
+        form: &Form,
+        lists: &Lists,
+        ids: &mut Ids,
+        told: &mut Told,
+    ) -> Answer
+        requires empty { told.old.items ≡ [] }
+        ensures does { Does (script_of self.old) (command_of form.now lists.now) result told.new.items (script_of self.new) }
+    {
+        if let Err(refusal) = self.make_room(form) {
+            return Answer::Refused(refusal);
+        }
+        self.resolve(lists, ids);
+        let command = self.command(form, lists, ids.as_slice());
+        let answer = self.manager.apply_telling(command, told);
+        self.rename(form, answer);
+        answer
     }
-    let Some(asker) = birth(&desk.txns, &txn) else {
-        return refused_to(Refusal::NoSuchTxn, txn);
-    };
-    let Some(place) = find_node(&desk.nodes, &node) else {
-        return Reply::Refused {
-            refusal: Refusal::NoSuchNode,
-            who: Some(node),
-        };
-    };
-    if matches!(mode, Mode::NL) {
-        return refused(Refusal::BadMode);
-    }
-    let wanted = sup(held(&desk.grants, asker, place), mode);
-    if !can_grant(&desk.txns, &desk.grants, asker, place, wanted) {
-        return refused(Refusal::WouldBlock);
-    }
-    grant(desk, asker, place, wanted)
-}
 
-/// Whether the mode is compatible with the grant on the node of every other transaction.
-fn can_grant(
-    txns: &Names,
-    grants: &IndexMap<Place, Mode>,
-    asker: u64,
-    node: u64,
-    mode: Mode,
-) -> bool
-    ensures { result ≡ list_all (λ txn. (txn == asker) || are_compatible mode (held_in grants.now txn node)) (values txns.now) }
-{
-    txns.values().all(|&txn| txn == asker || compatible(mode, held(grants, txn, node)))
-}
-
-/// Writes a grant down.
-fn grant(desk: &mut Desk, txn: u64, node: u64, mode: Mode) -> Reply
-    requires { desk.old.accepted < 2 ^ 64 - 1 }
-    ensures { Grants (state_of desk.old) txn node mode (answer_of result) (state_of desk.new) }
-{
-    match desk.grants.insert(Place { txn, node }, mode) {
-        Err(_) => refused(Refusal::NoMemory),
-        Ok(_) => {
-            desk.accepted += 1;
-            Reply::InMode(mode)
+    /// Whether the name that a line declares is free, and there is room for it.
+    fn make_room(&mut self, form: &Form) -> Result<(), Refusal>
+        ensures names { names_of self.new ≡ names_of self.old }
+        ensures version { self.new.version ≡ self.old.version }
+        ensures manager { self.new.manager ≡ self.old.manager }
+        ensures room { (lists : TheLists) → MakesRoom (names_of self.old) (declared (command_of form.now lists)) self.new result }
+    {
+        match form {
+            Form::Inner { name } => room_for(&mut self.nodes, name),
+            Form::File { name } => room_for(&mut self.nodes, name),
+            Form::Index { name, .. } => room_for(&mut self.nodes, name),
+            Form::Insert { name, .. } => room_for(&mut self.nodes, name),
+            Form::Begin { txn } => room_for(&mut self.txns, txn),
+            _ => Ok(()),
         }
     }
-}
 
-/// Answers the supremum of the grants on a node.
-fn show_group(desk: &Desk, node: Used) -> Reply
-    ensures { Step (state_of desk.now) (Group (node_of node)) (answer_of result) (state_of desk.now) }
-{
-    let Some(place) = find_node(&desk.nodes, &node) else {
-        return Reply::Refused {
-            refusal: Refusal::NoSuchNode,
-            who: Some(node),
-        };
-    };
-    Reply::InMode(group_mode(&desk.txns, &desk.grants, place))
-}
-
-/// The supremum of the grants on a node.
-fn group_mode(txns: &Names, grants: &IndexMap<Place, Mode>, node: u64) -> Mode
-    ensures { result ≡ fold (λ mode txn. supremum mode (held_in grants.now txn node)) Mode.NL (values txns.now) }
-{
-    txns.values()
-        .fold(Mode::NL, |mode, &txn| sup(mode, held(grants, txn, node)))
-}
-
-/// Ends a transaction, and releases all that it holds.
-fn commit(desk: &mut Desk, txn: Name) -> Reply
-    ensures { Step (state_of desk.old) (Commit txn.items) (answer_of result) (state_of desk.new) }
-{
-    if desk.accepted == u64::MAX {
-        return refused(Refusal::WornOut);
+    /// The ids of the nodes that a line lists.
+    fn resolve(&self, lists: &Lists, ids: &mut Ids)
+        ensures { ids.new.items ≡ node_ids (script_of self.now) (nodes_of lists.now) }
+    {
+        ids.clear();
+        for node in lists.nodes.as_slice() {
+            let _ = ids.try_push(self.node_id(node));
+        }
     }
-    let Some(ended) = desk.txns.shift_remove(&txn) else {
-        return refused_to(Refusal::NoSuchTxn, txn);
-    };
-    desk.grants.retain(|place, _| place.txn != ended);
-    desk.accepted += 1;
-    Reply::Done
+
+    /// The command of the manager that a line asks for.
+    fn command<'a>(&self, form: &Form, lists: &'a Lists, ids: &'a [NodeId]) -> Command<'a>
+        requires { ids.now ≡ node_ids (script_of self.now) (nodes_of lists.now) }
+        ensures { Asks (script_of self.now) (command_of form.now lists.now) result }
+    {
+        let numbers = lists.numbers.as_slice();
+        match form {
+            Form::Inner { .. } => Command::Inner { parents: ids },
+            Form::File { .. } => Command::File { parents: ids },
+            Form::Index { file, .. } => Command::Index {
+                parents: ids,
+                file: self.plain_id(file),
+                bounds: numbers,
+            },
+            Form::Begin { .. } => Command::Begin,
+            Form::Lock { txn, mode, node } => Command::Lock {
+                txn: self.txn_id(txn),
+                node: self.node_id(node),
+                mode: *mode,
+            },
+            Form::Try { txn, mode, node } => Command::Try {
+                txn: self.txn_id(txn),
+                node: self.node_id(node),
+                mode: *mode,
+            },
+            Form::Unlock { txn, node } => Command::Unlock {
+                txn: self.txn_id(txn),
+                node: self.node_id(node),
+            },
+            Form::Cancel { txn } => Command::Cancel {
+                txn: self.txn_id(txn),
+            },
+            Form::Commit { txn } => Command::Commit {
+                txn: self.txn_id(txn),
+            },
+            Form::Abort { txn } => Command::Abort {
+                txn: self.txn_id(txn),
+            },
+            Form::Settle { txn } => Command::Settle {
+                txn: self.txn_id(txn),
+            },
+            Form::Insert { txn, file, .. } => Command::Insert {
+                txn: self.txn_id(txn),
+                file: self.plain_id(file),
+                keys: numbers,
+            },
+            Form::Delete { txn, rec } => Command::Delete {
+                txn: self.txn_id(txn),
+                rec: self.plain_id(rec),
+            },
+            Form::Rekey {
+                txn,
+                rec,
+                index,
+                key,
+            } => Command::Rekey {
+                txn: self.txn_id(txn),
+                rec: self.plain_id(rec),
+                index: self.plain_id(index),
+                key: *key,
+            },
+            Form::Escalate { txn, node } => Command::Escalate {
+                txn: self.txn_id(txn),
+                node: self.node_id(node),
+            },
+            Form::Move { txn, node } => Command::Move {
+                txn: self.txn_id(txn),
+                node: self.node_id(node),
+                parents: ids,
+            },
+            Form::Group { node } => Command::Group {
+                node: self.node_id(node),
+            },
+            Form::Held { txn, node } => Command::Held {
+                txn: self.txn_id(txn),
+                node: self.node_id(node),
+            },
+            Form::Effective { txn, node } => Command::Effective {
+                txn: self.txn_id(txn),
+                node: self.node_id(node),
+            },
+        }
+    }
+
+    /// The names after a command: what was made has its name, and the name of what is gone is free.
+    fn rename(&mut self, form: &Form, answer: Answer)
+        requires room { (lists : TheLists) → HasRoomFor self.old (declared (command_of form.now lists)) }
+        ensures names { (lists : TheLists) → names_of self.new ≡ renamed (names_of self.old) (command_of form.now lists) answer }
+        ensures version { self.new.version ≡ self.old.version }
+        ensures manager { self.new.manager ≡ self.old.manager }
+    {
+        match form {
+            Form::Inner { name } => self.name_node(name, answer),
+            Form::File { name } => self.name_node(name, answer),
+            Form::Index { name, .. } => self.name_node(name, answer),
+            Form::Insert { name, .. } => self.name_node(name, answer),
+            Form::Begin { txn } => self.name_txn(txn, answer),
+            Form::Commit { txn } => self.free_txn(txn, answer),
+            Form::Abort { txn } => self.free_txn(txn, answer),
+            Form::Delete { rec, .. } => self.free_node(rec, answer),
+            _ => {}
+        }
+    }
+
+    /// What was made has this name.
+    fn name_node(&mut self, name: &Name, answer: Answer)
+        requires room { HasRoom self.old.nodes }
+        ensures names { names_of self.new ≡ named_as (names_of self.old) (NodeName name.now.items) answer }
+        ensures version { self.new.version ≡ self.old.version }
+        ensures manager { self.new.manager ≡ self.old.manager }
+    {
+        if let Answer::Node(id) = answer {
+            self.nodes.add(name, id);
+        }
+    }
+
+    /// The transaction that began has this name.
+    fn name_txn(&mut self, name: &Name, answer: Answer)
+        requires room { HasRoom self.old.txns }
+        ensures names { names_of self.new ≡ named_as (names_of self.old) (TxnName name.now.items) answer }
+        ensures version { self.new.version ≡ self.old.version }
+        ensures manager { self.new.manager ≡ self.old.manager }
+    {
+        if let Answer::Begun(id) = answer {
+            self.txns.add(name, id);
+        }
+    }
+
+    /// The name of a transaction that has ended is free again.
+    fn free_txn(&mut self, name: &Name, answer: Answer)
+        ensures names { names_of self.new ≡ without_ended (names_of self.old) name.now.items answer }
+        ensures version { self.new.version ≡ self.old.version }
+        ensures manager { self.new.manager ≡ self.old.manager }
+    {
+        if matches!(answer, Answer::Done) {
+            let id = self.txn_id(name);
+            self.txns.remove(name, id);
+        }
+    }
+
+    /// The name of a record that was deleted is free again.
+    fn free_node(&mut self, name: &Name, answer: Answer)
+        ensures names { names_of self.new ≡ without_deleted (names_of self.old) name.now.items answer }
+        ensures version { self.new.version ≡ self.old.version }
+        ensures manager { self.new.manager ≡ self.old.manager }
+    {
+        if matches!(answer, Answer::Done) {
+            let id = self.plain_id(name);
+            self.nodes.remove(name, id);
+        }
+    }
+
+    /// The node that is named, if one is.
+    pub(crate) fn find(&self, node: &Used) -> Option<NodeId>
+        ensures { result ≡ node_named (script_of self.now) (node_of node.now) }
+    {
+        let id = self.nodes.id(&node.name)?;
+        match node.interval {
+            None => Some(id),
+            Some(place) => self.manager.graph().interval(id, place as usize),
+        }
+    }
+
+    /// Whether the name is a node's.
+    pub(crate) fn is_node(&self, name: &Name) -> bool
+        ensures { result ≡ is_some ((script_of self.now).names.node name.now.items) }
+    {
+        self.nodes.id(name).is_some()
+    }
+
+    /// The name of a node that has one of its own, else nothing.
+    pub(crate) fn node_name(&self, node: NodeId) -> &[u8]
+        ensures { result.now ≡ (script_of self.now).names.node_name node }
+    {
+        self.nodes.name(node)
+    }
+
+    /// The name of an interval's index.
+    pub(crate) fn index_name(&self, interval: NodeId) -> &[u8]
+        ensures { result.now ≡ (script_of self.now).names.node_name (first_parent (script_of self.now).locks.graph interval) }
+    {
+        match self.manager.graph().parents(interval).first() {
+            Some(index) => self.nodes.name(*index),
+            None => self.nodes.name(NodeId::NONE),
+        }
+    }
+
+    /// The place of an interval in its index; `None` for any other node.
+    pub(crate) fn place(&self, node: NodeId) -> Option<usize>
+        ensures { result ≡ place_in (shape_of (script_of self.now).locks.graph node) }
+    {
+        self.manager.graph().place(node)
+    }
+
+    /// The name of a transaction.
+    pub(crate) fn txn_name(&self, txn: TxnId) -> &[u8]
+        ensures { result.now ≡ (script_of self.now).names.txn_name txn }
+    {
+        self.txns.name(txn)
+    }
+
+    /// The id of a node; one that names none, where the name is not in use.
+    fn node_id(&self, node: &Used) -> NodeId
+        ensures { result ≡ node_id (script_of self.now) (node_of node.now) }
+    {
+        self.find(node).unwrap_or(NodeId::NONE)
+    }
+
+    /// The id of a node with a name of its own.
+    fn plain_id(&self, name: &Name) -> NodeId
+        ensures { result ≡ plain_id (names_of self.now) name.now.items }
+    {
+        self.nodes.id(name).unwrap_or(NodeId::NONE)
+    }
+
+    /// The id of a transaction; one that names none, where the name is not in use.
+    fn txn_id(&self, name: &Name) -> TxnId
+        ensures { result ≡ txn_id (names_of self.now) name.now.items }
+    {
+        self.txns.id(name).unwrap_or(TxnId::NONE)
+    }
+}
+
+/// Whether a name is free, and there is room for it.
+fn room_for<I: Copy + Eq + Hash + Drop>(
+    register: &mut Register<I>,
+    name: &Name,
+) -> Result<(), Refusal>
+    ensures ids { id_in register.new ≡ id_in register.old }
+    ensures names { name_in I.eq register.new ≡ name_in I.eq register.old }
+    ensures room { MakesRoomIn register.old name.now.items register.new result }
+{
+    if register.id(name).is_some() {
+        return Err(Refusal::NameTaken);
+    }
+    if register.make_room() {
+        Ok(())
+    } else {
+        Err(Refusal::NoMemory)
+    }
 }

@@ -7,6 +7,7 @@ ghost use Rattle.gl_tool.specs.Outcome.{HasFaulted, HasRun, Works, status_of};
 use crate::script::{RunFault, run};
 use crate::sink::send;
 use arrayvec::ArrayString;
+use gl_table::Detect;
 use std::alloc::Global;
 use std::convert::AsStr;
 use std::fmt::Write as FormatWrite;
@@ -34,8 +35,8 @@ pub fn program<S: AsStr, R: Read, W: Write, E: Write>(
     writer: &mut W,
     faults: &mut E,
 ) -> u8
-    ensures done { result ≡ 0 → HasRun (R.remaining reader.old) (R.remaining reader.new) (W.contents writer.old) (W.contents writer.new) }
-    ensures fault { result ≡ 1 → (fault : TheRunFault) × HasFaulted fault (R.remaining reader.old) (R.remaining reader.new) (W.contents writer.old) (W.contents writer.new) }
+    ensures done { result ≡ 0 → HasRun Detect.AtBlock (R.remaining reader.old) (R.remaining reader.new) (W.contents writer.old) (W.contents writer.new) }
+    ensures fault { result ≡ 1 → (fault : TheRunFault) × HasFaulted Detect.AtBlock fault (R.remaining reader.old) (R.remaining reader.new) (W.contents writer.old) (W.contents writer.new) }
     ensures bad_words { (result ≡ 2) ↔ (words.now ≢ []) }
     ensures bound { result ≤ 2 }
 {
@@ -71,5 +72,5 @@ fn work<S: AsStr, R: Read, W: Write>(
     if !words.is_empty() {
         return Err(ToolFault::Words);
     }
-    run(alloc, reader, writer).map_err(ToolFault::Run)
+    run(alloc, reader, writer, Detect::AtBlock).map_err(ToolFault::Run)
 }

@@ -8,14 +8,12 @@
 mod answers;
 mod desk;
 mod entry;
-mod fields;
-mod form;
-mod reads;
+mod interpreter;
+mod register;
 mod script;
 mod sink;
 
 pub use entry::{ToolFault, complain, program};
-pub use form::one_command;
 pub use script::{RunFault, run};
 
 #[cfg(test)]

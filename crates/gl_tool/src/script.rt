@@ -3,12 +3,12 @@
 ghost use Rattle.std.specs.Prelude.{◌≡◌, ◌<◌, [], ◌∷◌, IfSome, OnOk, length, vec_len};
 ghost use Rattle.std.specs.Io.KnownBytes.{IsAtEnd};
 ghost use Rattle.gl_tool.specs.Report.{Ran};
-ghost use Rattle.gl_tool.specs.SoFar.{IsNew, Takes, Finishes, HasReported};
+ghost use Rattle.gl_tool.specs.SoFar.{Finishes, HasReported, IsNew, Takes, detect_of};
 
-use crate::answers::say;
-use crate::desk::{Desk, answer, empty_desk};
+use crate::interpreter::Interpreter;
 use crate::sink::{Sink, flush, new_sink};
 use arrayvec::ArrayVec;
+use gl_table::Detect;
 use std::alloc::Global;
 use std::io::{Read, Write};
 use thiserror::Error as FaultText;
@@ -39,7 +39,7 @@ const BLOCK: usize = 65_536;
 /// What a run has made of the bytes so far.
 #[derive(Drop)]
 pub(crate) struct Tool {
-    pub(crate) desk: Desk,
+    pub(crate) interpreter: Interpreter,
     /// The first 257 bytes of the line that has not ended.
     pub(crate) line: ArrayVec<u8, 257>,
     pub(crate) sink: Sink,
@@ -48,21 +48,28 @@ pub(crate) struct Tool {
 /// Answers a script, line by line as it is read.
 ///
 /// What is written is the report of what is read; with `Ok` all of the reader was read. The answers
-/// to the lines at hand are written before the next read. Memory is taken before the first read,
-/// and beyond it for the names and grants of the script alone: a line that meets its want is
-/// answered `no 1 NoMemory`.
+/// to the lines at hand are written before the next read. The managers are made before the first
+/// read. Memory is taken beyond that for the names and locks of the script alone: a line that meets
+/// its want is answered `no 1 NoMemory`.
 ///
 /// # Errors
 ///
 /// The first fault ends the run; an interrupted read or write is a fault too.
-pub fn run<R: Read, W: Write>(alloc: Global, reader: &mut R, writer: &mut W) -> Result<(), RunFault>
-    ensures report { Ran (R.remaining reader.old) (R.remaining reader.new) (W.contents writer.old) (W.contents writer.new) result }
+pub fn run<R: Read, W: Write>(
+    alloc: Global,
+    reader: &mut R,
+    writer: &mut W,
+    detect: Detect,
+) -> Result<(), RunFault>
+    ensures report { Ran detect (R.remaining reader.old) (R.remaining reader.new) (W.contents writer.old) (W.contents writer.new) result }
     ensures whole { OnOk result (IsAtEnd (R.remaining reader.new)) }
 {
     let Some(mut block) = new_block(alloc) else {
         return Err(RunFault::Memory);
     };
-    let mut tool = new_tool(alloc);
+    let Some(mut tool) = new_tool(alloc, detect) else {
+        return Err(RunFault::Memory);
+    };
     pump(&mut tool, reader, writer, &mut block)
 }
 
@@ -73,15 +80,15 @@ fn new_block(alloc: Global) -> Option<Vec<u8>>
     vec![in alloc; 0u8; BLOCK].ok()
 }
 
-/// A tool that has taken nothing.
-fn new_tool(alloc: Global) -> Tool
-    ensures { IsNew result }
+/// A tool that has taken nothing. `None` where memory is wanting.
+fn new_tool(alloc: Global, detect: Detect) -> Option<Tool>
+    ensures { IfSome result (λ tool. IsNew detect tool) }
 {
-    Tool {
-        desk: empty_desk(alloc),
+    Some(Tool {
+        interpreter: Interpreter::new(alloc, detect)?,
         line: ArrayVec::new(),
         sink: new_sink(),
-    }
+    })
 }
 
 /// Answers a script by a new tool.
@@ -91,9 +98,9 @@ fn pump<R: Read, W: Write>(
     writer: &mut W,
     block: &mut [u8],
 ) -> Result<(), RunFault>
-    requires fresh { IsNew tool.old }
+    requires fresh { IsNew (detect_of tool.old) tool.old }
     requires room { 0 < length block.old }
-    ensures report { Ran (R.remaining reader.old) (R.remaining reader.new) (W.contents writer.old) (W.contents writer.new) result }
+    ensures report { Ran (detect_of tool.old) (R.remaining reader.old) (R.remaining reader.new) (W.contents writer.old) (W.contents writer.new) result }
     ensures whole { OnOk result (IsAtEnd (R.remaining reader.new)) }
 {
     let mut total = 0;
@@ -146,8 +153,8 @@ fn answer_line<W: Write>(tool: &mut Tool, writer: &mut W)
     ensures answers { HasReported (W.contents writer.old) tool.old (W.contents writer.new) tool.new }
     ensures line { tool.new.line ≡ tool.old.line }
 {
-    let reply = answer(&mut tool.desk, tool.line.as_slice());
-    say(&mut tool.sink, writer, &reply);
+    tool.interpreter
+        .answer(&mut tool.sink, writer, tool.line.as_slice());
 }
 
 /// Answers what is left after the last newline, if anything is.

@@ -23,12 +23,13 @@ impl Manager {
         ensures same { self.new.accepted ≡ self.old.accepted → self.new ≡ self.old }
     {
         let mut told = Told::new();
-        let answer = self.carry_out(command, &mut told);
+        let answer = self.apply_telling(command, &mut told);
         Reply { answer, told }
     }
 
-    /// Carries out one command, and puts the notices into an empty list.
-    fn carry_out(&mut self, command: Command<'_>, told: &mut Told) -> Answer
+    /// As `apply`, with the notices put into an empty list, which the caller may use again: a reply is
+    /// some six kilobytes large.
+    pub fn apply_telling(&mut self, command: Command<'_>, told: &mut Told) -> Answer
         requires empty { told.old.items ≡ [] }
         ensures step { Step (state_of self.old) command.entry result told.new.items (state_of self.new) }
         ensures caller { KeepsCaller command.entry (state_of self.old) (state_of self.new) }

@@ -1,8 +1,10 @@
-use Rattle.gl_tool.proofs.Writing.{Hands-then, Hands-none}
+use Rattle.gl_script.specs.Views.{command_of}
+use Rattle.gl_tool.specs.Views.{script_of}
+use Rattle.gl_tool.proofs.Printing.{names_nobody}
+use Rattle.gl_tool.proofs.Writing.{Hands-none}
 use Rattle.gl_tool.proofs.answers.put_who.Goals as goal
 
-pub returns-in-Some : goal.returns-in-Some
-returns-in-Some g c = rw c.in-Some.is (Hands-then _ _ _ _ _ _ _ _ c.put.ensures c.put_used.ensures)
-
 pub returns-in_default : goal.returns-in_default
-returns-in_default g c = rw c.in_default.is (Hands-none _ _)
+returns-in_default g c =
+    let d = c.in_default in
+    rw (names_nobody (script_of c.args.desk.now) (command_of c.args.form.now c.args.lists.now) c.args.refusal d.not-NoSuchNode d.not-NoSuchTxn d.not-NameTaken d.not-NeedParents d.not-HeldChild d.not-Cycle) (Hands-none _ _)

@@ -1,19 +1,12 @@
-use Rattle.std.proofs.Common.{◌∙◌, subst, refl}
-use Rattle.gl_tool.specs.Report.{Prints, Answers, printed}
-use Rattle.gl_tool.specs.SoFar.{HasReported}
+use Rattle.std.proofs.Common.{◌∙◌, subst}
 use Rattle.gl_tool.specs.Held.{Hands}
-use Rattle.gl_tool.specs.Views.{answer_of, state_of}
-use Rattle.gl_tool.proofs.Reading.{Answers-front}
+use Rattle.gl_tool.specs.Report.{Prints}
+use Rattle.gl_tool.specs.SoFar.{Answered, HasReported, stage_of}
+use Rattle.gl_tool.proofs.Reading.{Prints-front}
 use Rattle.gl_tool.proofs.script.answer_line.Goals as goal
 
 pub returns-clause-answers : goal.returns-clause-answers
-unfolding HasReported Prints Hands
-returns-clause-answers g c line e = (
-  printed (answer_of c.answer-reply.result),
-  (
-    answer_of c.answer-reply.result,
-    Answers-front _ line _ _ (subst (λ l. Answers (state_of c.args.tool.now.desk) l (answer_of c.answer-reply.result) (state_of c.answer-reply.new.desk)) (c.as_slice.ensures.value ∙ e) c.answer-reply.ensures),
-    refl,
-  ),
-  c.say.ensures,
-)
+unfolding HasReported Answered Hands
+returns-clause-answers g c line e ready =
+    let done = c.answer.ensures ready in
+    (done.0, Prints-front (stage_of c.args.tool.now.interpreter) line done.0 _ (subst (λ l. Prints (stage_of c.args.tool.now.interpreter) l done.0 (stage_of c.answer.new.self)) (c.as_slice.ensures.value ∙ e) done.1), done.2, done.3)

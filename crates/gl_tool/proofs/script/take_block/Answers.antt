@@ -16,7 +16,7 @@ loop-byte-preserved g c =
 
 pub returns-clause-takes : goal.returns-clause-takes
 unfolding Takes
-returns-clause-takes g c first read so =
+returns-clause-takes g c d first read so =
     let whole = take_all c.loop-byte.byte-index c.args.block.now (omega arith) in
-    let all = subst (λ b. SoFar first (read ++ b) (g.W.Write.contents c.loop-byte.writer) c.loop-byte.tool) whole (c.loop-byte.invariant first read so) in
-    SoFar-flushed first (read ++ c.args.block.now) _ _ c.loop-byte.tool _ refl refl c.flush.ensures.text all
+    let all = subst (λ b. SoFar d first (read ++ b) (g.W.Write.contents c.loop-byte.writer) c.loop-byte.tool) whole (c.loop-byte.invariant d first read so) in
+    SoFar-flushed d first (read ++ c.args.block.now) _ _ c.loop-byte.tool _ refl refl c.flush.ensures.text all

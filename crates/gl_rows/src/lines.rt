@@ -1,0 +1,106 @@
+//! What a line may be: its length, its bytes, and how many there are.
+
+use crate::rows::{Row, answer, comes_out, try_row};
+use crate::streams::{Sheet, Source};
+use gl_table::Detect;
+use gl_tool::RunFault;
+use std::alloc::{AllocError, Global};
+use std::test::Fail;
+
+/// Nothing is read, and nothing is written.
+#[test]
+fn an_empty_script(rt: HostRuntime) -> Result<(), Fail> {
+    try_row(&rt, rt.alloc(), &Row::new(rt.alloc(), Detect::AtBlock)?)
+}
+
+/// Lines of 256 bytes and of one more, a comment as long, two spaces, and a last line without newline.
+fn long_lines(alloc: Global) -> Result<Row, AllocError> {
+    let mut row = Row::new(alloc, Detect::AtBlock)?;
+    let mut comment = [b'x'; 257];
+    comment[0] = b'#';
+    row.push(&[b'a'; 257], "no 20 BadLine")?;
+    row.push(&comment[..256], "")?;
+    row.push(b"begin  a", "no 20 BadLine")?;
+    row.push(&comment, "no 20 BadLine")?;
+    row.push(&[b'a'; 256], "no 20 BadLine")?;
+    row.push(b"begin a", "ok")?;
+    let _ = row.script.pop();
+    Ok(row)
+}
+
+#[test]
+fn long_lines_are_bad(rt: HostRuntime) -> Result<(), Fail> {
+    try_row(&rt, rt.alloc(), &long_lines(rt.alloc())?)
+}
+
+/// Bytes, names and numbers that make a line bad, and lines that have no answer.
+fn bad_bytes(alloc: Global) -> Result<Row, AllocError> {
+    let mut row = Row::new(alloc, Detect::AtBlock)?;
+    let bad: [&[u8]; 7] = [
+        b"begin a\r",
+        b"begin a\0",
+        b"begin a\x80",
+        b" begin a",
+        b"begin a ",
+        b"begin aaaaaaaaaaaaaaaaa",
+        b"begin 1a",
+    ];
+    for line in bad {
+        row.push(line, "no 20 BadLine")?;
+    }
+    row.push(b"begin a", "ok")?;
+    row.push(b"held a i1.00", "no 20 BadLine")?;
+    row.push(b"held a i1.", "no 20 BadLine")?;
+    row.push(b"#\xff\0", "")?;
+    row.push(b"", "")?;
+    Ok(row)
+}
+
+#[test]
+fn bad_bytes_are_refused(rt: HostRuntime) -> Result<(), Fail> {
+    try_row(&rt, rt.alloc(), &bad_bytes(rt.alloc())?)
+}
+
+/// As many transactions as may live begin, and one more.
+fn crowd(row: &mut Row, alloc: Global, most: u32) -> Result<(), AllocError> {
+    for txn in 0..most {
+        let line = format!(in alloc; "begin t{txn}")?;
+        row.push(line.as_bytes(), "ok")?;
+    }
+    let line = format!(in alloc; "begin t{most}")?;
+    row.push(line.as_bytes(), "no 11 TooManyTxns")
+}
+
+/// 64 transactions may live, in a script of version 2 twice as many; one that ends makes room.
+#[test]
+fn too_many_transactions(rt: HostRuntime) -> Result<(), Fail> {
+    let mut row = Row::new(rt.alloc(), Detect::AtBlock)?;
+    crowd(&mut row, rt.alloc(), 64)?;
+    row.push(b"commit t5", "ok")?;
+    row.push(b"begin t64", "ok")?;
+    try_row(&rt, rt.alloc(), &row)?;
+    let mut row = Row::new(rt.alloc(), Detect::AtBlock)?;
+    row.push(b"granular 2", "ok")?;
+    crowd(&mut row, rt.alloc(), 128)?;
+    try_row(&rt, rt.alloc(), &row)
+}
+
+/// A script of more than 16,777,216 bytes ends there.
+#[test]
+fn too_much(rt: HostRuntime) -> Result<(), Fail> {
+    let taken = "no 16 NameTaken a\n".len();
+    for (text, answered) in [("#", 0), ("\n", 0), ("begin a\n", 3 + 2_097_151 * taken)] {
+        let mut block = Vec::with_capacity(rt.alloc(), 65_536)?;
+        for _ in 0..65_536 / text.len() {
+            block.extend_from_slice(text.as_bytes())?;
+        }
+        let mut source = Source::new(block.as_slice(), 99_999);
+        source.is_endless = true;
+        let mut out = Sheet::new(rt.alloc())?;
+        let ended = answer(rt.alloc(), &mut source, &mut out, Detect::AtBlock);
+        assert_eq!(rt; ended, Err(RunFault::TooMuch));
+        assert_eq!(rt; source.given, 16_777_217, "of {text:?}");
+        assert_eq!(rt; out.text.len(), answered, "of {text:?}");
+    }
+    Ok(())
+}

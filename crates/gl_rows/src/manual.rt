@@ -1,0 +1,248 @@
+//! The examples of the manual, `docs/SCRIPT.md`: each as it stands there.
+
+use crate::rows::{Lines, try_out};
+use gl_table::Detect;
+use std::test::Fail;
+
+/// The shop, from which most examples go on.
+const SHOP: Lines = &[
+    ("inner db", "ok"),
+    ("file orders : db", "ok"),
+    ("index by_day : db on orders at 100 200", "ok"),
+];
+
+/// Lines, good and bad.
+const LINES: Lines = &[
+    (
+        "# Two spaces, a space in front, and a mode in small letters:",
+        "",
+    ),
+    ("begin a", "ok"),
+    ("lock a  S db", "no 20 BadLine"),
+    (" lock a S db", "no 20 BadLine"),
+    ("lock a s db", "no 20 BadLine"),
+    ("lock a S db", "ok S"),
+];
+
+/// Only the first line chooses the version.
+const VERSIONS: Lines = &[
+    ("granular 2", "ok"),
+    ("inner db", "ok"),
+    ("granular 2", "no 20 BadLine"),
+];
+
+/// Nodes of all kinds.
+const NODES: Lines = &[
+    ("inner db", "ok"),
+    ("inner archive : db", "ok"),
+    ("file orders : db archive", "ok"),
+    ("index by_day : db on orders at 100 200", "ok"),
+    ("index by_id : db on orders at", "ok"),
+    ("group by_day.2", "ok NL"),
+    ("group by_day.3", "no 2 NoSuchNode by_day.3"),
+    ("index by_name : db on orders at 200 100", "no 18 BadKeys"),
+];
+
+/// Transactions, and their names.
+const TRANSACTIONS: Lines = &[
+    ("begin a", "ok"),
+    ("begin b", "ok"),
+    ("begin a", "no 16 NameTaken a"),
+    ("commit a", "ok"),
+    ("abort b", "ok"),
+    ("begin a", "ok"),
+];
+
+/// A reader, and a writer that waits for it.
+const LOCKS: Lines = &[
+    ("begin r", "ok"),
+    ("begin w", "ok"),
+    ("lock r IS db", "ok IS"),
+    ("lock r S orders", "ok S"),
+    ("lock w IX db", "ok IX"),
+    ("try w IX orders", "no 10 WouldBlock"),
+    ("lock w IX orders", "wait"),
+    ("cancel w", "ok"),
+    ("lock w IX orders", "wait"),
+    ("unlock r orders", "ok\ntold w granted IX orders"),
+    ("lock w S db", "ok SIX"),
+];
+
+/// A record comes, moves and goes.
+const RECORDS: Lines = &[
+    ("begin a", "ok"),
+    ("lock a IX db", "ok IX"),
+    ("lock a IX orders", "ok IX"),
+    ("lock a IX by_day", "ok IX"),
+    ("lock a IX by_day.0", "ok IX"),
+    ("insert a o1 orders 20", "ok"),
+    ("held a o1", "ok X"),
+    ("insert a o2 orders 150", "no 7 NeedParents by_day.1"),
+    ("lock a IX by_day.1", "ok IX"),
+    ("rekey a o1 by_day 150", "ok"),
+    ("unlock a by_day.0", "ok"),
+    ("unlock a by_day.1", "no 9 HeldChild o1"),
+    ("delete a o1", "ok"),
+    ("held a o1", "no 2 NoSuchNode o1"),
+];
+
+/// A file and a root move.
+const MOVES: Lines = &[
+    ("granular 2", "ok"),
+    ("inner db", "ok"),
+    ("inner old : db", "ok"),
+    ("inner new : db", "ok"),
+    ("file orders : old", "ok"),
+    ("begin a", "ok"),
+    ("lock a IX db", "ok IX"),
+    ("lock a IX old", "ok IX"),
+    ("lock a X orders", "ok X"),
+    ("move a orders : new", "no 7 NeedParents new"),
+    ("lock a IX new", "ok IX"),
+    ("move a orders : new", "ok"),
+    ("lock a X db", "ok X"),
+    ("move a db : new", "no 21 Cycle new"),
+    ("lock a X new", "ok X"),
+    ("move a new", "ok"),
+    ("move a db : new", "ok"),
+];
+
+/// A lock on the file in place of locks on its records, for a writer and for a reader.
+const ESCALATION: Lines = &[
+    ("begin a", "ok"),
+    ("lock a IX db", "ok IX"),
+    ("lock a IX orders", "ok IX"),
+    ("lock a IX by_day", "ok IX"),
+    ("lock a X by_day.0", "ok X"),
+    ("lock a IX by_day.1", "ok IX"),
+    ("insert a o1 orders 20", "ok"),
+    ("insert a o2 orders 150", "ok"),
+    ("escalate a orders", "ok X released 1 kept 1"),
+    ("held a o1", "ok NL"),
+    ("effective a o1", "ok X"),
+    ("held a o2", "ok X"),
+    ("commit a", "ok"),
+    ("begin b", "ok"),
+    ("lock b IS db", "ok IS"),
+    ("lock b IS orders", "ok IS"),
+    ("lock b S o1", "ok S"),
+    ("lock b S o2", "ok S"),
+    ("escalate b orders", "ok S released 2 kept 0"),
+];
+
+/// Who closes the cycle is condemned.
+const DEADLOCK: Lines = &[
+    ("inner db", "ok"),
+    ("begin a", "ok"),
+    ("begin b", "ok"),
+    ("lock a S db", "ok S"),
+    ("lock b S db", "ok S"),
+    ("lock a X db", "wait"),
+    ("lock b X db", "victim"),
+    ("commit b", "no 5 TxnCondemned"),
+    ("abort b", "ok\ntold a granted X db"),
+];
+
+/// A cycle that stands until it is settled.
+const SETTLED: Lines = &[
+    ("inner db", "ok"),
+    ("begin a", "ok"),
+    ("begin b", "ok"),
+    ("lock a S db", "ok S"),
+    ("lock b S db", "ok S"),
+    ("lock a X db", "wait"),
+    ("lock b X db", "wait"),
+    ("settle a", "ok\ntold b victim"),
+    ("settle a", "ok"),
+    ("abort b", "ok\ntold a granted X db"),
+];
+
+/// What is held, and what it stands for.
+const QUERIES: Lines = &[
+    ("begin a", "ok"),
+    ("lock a IX db", "ok IX"),
+    ("lock a X orders", "ok X"),
+    ("lock a X by_day", "ok X"),
+    ("group db", "ok IX"),
+    ("held a by_day.1", "ok NL"),
+    ("effective a by_day.1", "ok X"),
+    ("effective a db", "ok none"),
+];
+
+/// A wait that ends as its record moves, and one that ends as it goes.
+const NOTICES: Lines = &[
+    ("begin a", "ok"),
+    ("begin b", "ok"),
+    ("lock a IX db", "ok IX"),
+    ("lock a IX orders", "ok IX"),
+    ("lock a IX by_day", "ok IX"),
+    ("lock a IX by_day.0", "ok IX"),
+    ("lock a IX by_day.1", "ok IX"),
+    ("insert a o1 orders 20", "ok"),
+    ("lock b IS db", "ok IS"),
+    ("lock b IS by_day", "ok IS"),
+    ("lock b IS by_day.0", "ok IS"),
+    ("lock b S o1", "wait"),
+    ("rekey a o1 by_day 150", "ok\ntold b moved"),
+    ("lock b IS by_day.1", "ok IS"),
+    ("lock b S o1", "wait"),
+    ("delete a o1", "ok\ntold b gone"),
+];
+
+/// One line for each refusal that a short script can meet.
+const REFUSALS: Lines = &[
+    ("begin a", "ok"),
+    ("begin  b", "no 20 BadLine"),
+    ("begin a", "no 16 NameTaken a"),
+    ("lock b S db", "no 3 NoSuchTxn b"),
+    ("lock a S customers", "no 2 NoSuchNode customers"),
+    ("cancel a", "no 15 NotWaiting"),
+    ("file parts : orders", "no 13 BadParents"),
+    ("lock a NL db", "no 6 BadMode"),
+    ("index by_id : db on orders at 5 5", "no 18 BadKeys"),
+    ("lock a S orders", "no 7 NeedParents db"),
+    ("lock a IX db", "ok IX"),
+    ("lock a IX orders", "ok IX"),
+    ("unlock a db", "no 9 HeldChild orders"),
+    ("unlock a by_day", "no 8 NotHeld"),
+    ("lock a IX by_day", "ok IX"),
+    ("lock a IX by_day.0", "ok IX"),
+    ("insert a o1 orders 20", "ok"),
+    ("index by_id : db on orders at", "no 17 FileInUse"),
+    ("begin b", "ok"),
+    ("lock b IX db", "ok IX"),
+    ("try b S orders", "no 10 WouldBlock"),
+    ("lock b IX orders", "ok IX"),
+    ("delete b o1", "no 14 NeedExclusive"),
+    ("lock b S orders", "wait"),
+    ("commit b", "no 4 TxnWaiting"),
+    ("lock a S orders", "wait\ntold b victim"),
+    ("commit b", "no 5 TxnCondemned"),
+    ("abort b", "ok\ntold a granted SIX orders"),
+];
+
+#[test]
+fn examples_of_the_manual(rt: HostRuntime) -> Result<(), Fail> {
+    for lines in [VERSIONS, NODES, MOVES, DEADLOCK] {
+        try_out(&rt, rt.alloc(), Detect::AtBlock, &[lines])?;
+    }
+    try_out(&rt, rt.alloc(), Detect::ByWatcher, &[SETTLED])
+}
+
+#[test]
+fn examples_of_the_shop(rt: HostRuntime) -> Result<(), Fail> {
+    let rows = [
+        LINES,
+        TRANSACTIONS,
+        LOCKS,
+        RECORDS,
+        ESCALATION,
+        QUERIES,
+        NOTICES,
+        REFUSALS,
+    ];
+    for lines in rows {
+        try_out(&rt, rt.alloc(), Detect::AtBlock, &[SHOP, lines])?;
+    }
+    Ok(())
+}

@@ -1,0 +1,47 @@
+use Rattle.std.proofs.Common.{◌≡◌, refl, ap, ◌∙◌, subst}
+use Rattle.gl_catalog.specs.Manager.{state_of}
+use Rattle.gl_catalog.specs.Step.{Step}
+use Rattle.gl_script.specs.Views.{command_of}
+use Rattle.gl_tool.specs.declared.desk.Desk.{Desk}
+use Rattle.gl_tool.specs.Rooms.{HasRoomFor}
+use Rattle.gl_tool.specs.Script.{Asks, Script, declared, is_in_use, renamed}
+use Rattle.gl_tool.specs.Views.{names_of, script_of}
+use Rattle.gl_tool.proofs.Serving.{does_handed, does_refused}
+use Rattle.gl_tool.proofs.desk.Desk.serve.Goals as goal
+
+-- the script is the same where names, version and manager are
+same_script : (x y : Desk) → names_of x ≡ names_of y → x.version ≡ y.version → x.manager ≡ y.manager → script_of x ≡ script_of y
+same_script x y names version manager = λ i. record { version = version i; names = names i; locks = state_of (manager i) }
+
+pub rename-requires : goal.rename-requires
+rename-requires c = record { room = λ lists. (rw c.in_default.is at (c.make_room.ensures.room lists)).0.1 }
+
+pub returns-in-Err : goal.returns-in-Err
+returns-in-Err c =
+    let asked = command_of c.args.form.now c.args.lists.now in
+    let room = rw c.in-Err.is at (c.make_room.ensures.room c.args.lists.now) in
+    record {
+      does = does_refused (script_of c.args.self.now) asked _ _ _ (is_in_use (names_of c.args.self.now) (declared asked)) (HasRoomFor c.make_room.new.self (declared asked)) c.in-Err.refusal room.0 room.1
+          (record {
+            answer_is = refl;
+            nobody_told = c.requires.empty;
+            same = same_script c.make_room.new.self c.args.self.now c.make_room.ensures.names c.make_room.ensures.version c.make_room.ensures.manager;
+          });
+    }
+
+pub returns : goal.returns
+returns c =
+    let asked = command_of c.args.form.now c.args.lists.now in
+    let room = rw c.in_default.is at (c.make_room.ensures.room c.args.lists.now) in
+    let same = same_script c.make_room.new.self c.args.self.now c.make_room.ensures.names c.make_room.ensures.version c.make_room.ensures.manager in
+    record {
+      does = does_handed (script_of c.args.self.now) asked _ _ _ (is_in_use (names_of c.args.self.now) (declared asked)) (HasRoomFor c.make_room.new.self (declared asked)) room.0
+          (record {
+            asked = c.command-command.result;
+            asks = subst (λ (s : Script). Asks s asked c.command-command.result) same c.command-command.ensures;
+            step = rw c.rename.ensures.manager
+                (subst (λ m. Step (state_of m) c.command-command.result c.apply_telling-answer.result c.apply_telling-answer.new.told.items (state_of c.apply_telling-answer.new.self)) c.make_room.ensures.manager c.apply_telling-answer.ensures.step);
+            names = c.rename.ensures.names c.args.lists.now ∙ ap (λ n. renamed n asked c.apply_telling-answer.result) c.make_room.ensures.names;
+            version = c.rename.ensures.version ∙ c.make_room.ensures.version;
+          });
+    }

@@ -1,0 +1,61 @@
+use Rattle.std.proofs.Common.{[], refl, inl, inr, arith}
+use Rattle.gl_script.specs.Views.{command_of}
+use Rattle.gl_tool.specs.Printed.{printed}
+use Rattle.gl_tool.specs.Report.{IsSilent, bad_line}
+use Rattle.gl_tool.specs.SoFar.{CarriesOut}
+use Rattle.gl_tool.specs.Views.{script_of}
+use Rattle.gl_tool.proofs.Splitting.{other_test, same_test}
+use Rattle.gl_tool.proofs.Writing.{Hands-none, Hands-then}
+use Rattle.gl_tool.proofs.interpreter.Interpreter.carry_out.Goals.{then-is_empty-via-then-is_empty, then-is_empty-via-else-is_empty+then-line-eq35}
+use Rattle.gl_tool.proofs.interpreter.Interpreter.carry_out.Goals as goal
+
+pub returns-then-line-gt-LONGEST : goal.returns-then-line-gt-LONGEST
+unfolding CarriesOut
+returns-then-line-gt-LONGEST g c = (bad_line, inl (c.if-line-gt-LONGEST.true, refl, refl), refl, c.put.ensures)
+
+pub returns-then-is_empty : goal.returns-then-is_empty
+unfolding CarriesOut
+returns-then-is_empty g c =
+    let silent : IsSilent c.args.line.now =
+    elim c.then-is_empty.branch [
+      | then-is_empty-via-then-is_empty w ↦ inl (same_test _ _ _ c.is_empty.ensures w.if-is_empty.true)
+      | then-is_empty-via-else-is_empty+then-line-eq35 w ↦ inr w.if-line-eq35.true
+    ] in
+    ([], inr (inl (omega (arith, c.if-line-gt-LONGEST.false), silent, refl, refl)), refl, Hands-none _ _)
+
+pub returns-in-None : goal.returns-in-None
+unfolding CarriesOut
+returns-in-None g c =
+    let speaks : ¬ (IsSilent c.args.line.now) = λ silent. elim silent [
+      | inl e ↦ other_test _ _ _ c.is_empty.ensures c.if-is_empty.false e
+      | inr e ↦ c.if-line-eq35.false e
+    ] in
+    (bad_line, inr (inr (inl (omega (arith, c.if-line-gt-LONGEST.false), speaks, rw c.in-None.is at c.parse.ensures.none, refl, refl))), refl, c.put-in-None.ensures)
+
+pub returns-in-Some : goal.returns-in-Some
+unfolding CarriesOut
+returns-in-Some g c =
+    let speaks : ¬ (IsSilent c.args.line.now) = λ silent. elim silent [
+      | inl e ↦ other_test _ _ _ c.is_empty.ensures c.if-is_empty.false e
+      | inr e ↦ c.if-line-eq35.false e
+    ] in
+    let asked = command_of c.in-Some.form c.parse.new.lists in
+    let answer = c.serve-answer.result in
+    let told = c.serve-answer.new.told.items in
+    let notices = rw c.as_slice.ensures.value at c.put_notices.ensures in (
+      printed (script_of c.serve-answer.new.self) asked answer told,
+      inr (inr (inr (
+        omega (arith, c.if-line-gt-LONGEST.false),
+        speaks,
+        record {
+          command = asked;
+          says = rw c.in-Some.is at c.parse.ensures.says;
+          answer = answer;
+          told = told;
+          does = c.serve-answer.ensures.does;
+          text_is = refl;
+        },
+      ))),
+      refl,
+      Hands-then _ _ _ _ _ _ _ _ c.put_answer.ensures notices,
+    )

@@ -1,0 +1,93 @@
+//! What answers the lines of a script, one after the other.
+
+ghost use Rattle.std.specs.Prelude.{◌≡◌, ◌≤◌, IfSome, length};
+ghost use Rattle.gl_table.specs.State.{empty_state};
+ghost use Rattle.gl_catalog.specs.Manager.{state_of};
+ghost use Rattle.gl_tool.specs.SoFar.{Answered, CarriesOut, IsFresh};
+ghost use Rattle.gl_tool.specs.Views.{script_of};
+
+use crate::answers::{put_answer, put_notices};
+use crate::desk::{Desk, Ids};
+use crate::sink::{Sink, put};
+use arrayvec::ArrayVec;
+use gl_catalog::Manager;
+use gl_script::{Lists, Version, parse};
+use gl_table::{Detect, Told};
+use std::alloc::Global;
+use std::io::Write;
+
+/// The longest line that can say a command, in bytes.
+const LONGEST: usize = 256;
+
+/// The first line of a script of version 2.
+const VERSION_TWO: &[u8] = b"granular 2";
+
+/// What is printed for a line that says no command.
+const BAD_LINE: &[u8] = b"no 20 BadLine\n";
+
+/// A script that is being answered. The lists are filled anew for each line.
+#[derive(Drop)]
+pub(crate) struct Interpreter {
+    desk: Desk,
+    /// The manager of a script of version 2, until the first line has chosen.
+    two: Option<Manager>,
+    lists: Lists,
+    ids: Ids,
+    told: Told,
+}
+
+impl Interpreter {
+    /// A script of which no line was answered. `None` where memory is wanting.
+    pub(crate) fn new(alloc: Global, detect: Detect) -> Option<Interpreter>
+        ensures { IfSome result (λ interpreter. IsFresh detect interpreter) }
+    {
+        let one = Manager::new(alloc, detect, 64).ok()?;
+        let two = Manager::new(alloc, detect, 128).ok()?;
+        Some(Interpreter {
+            desk: Desk::new(alloc, one),
+            two: Some(two),
+            lists: Lists::new(),
+            ids: ArrayVec::new(),
+            told: Told::new(),
+        })
+    }
+
+    /// Answers a line. Of a longer line it is enough to give 257 bytes.
+    pub(crate) fn answer<W: Write>(&mut self, sink: &mut Sink, writer: &mut W, line: &[u8])
+        ensures { Answered (W.contents writer.old) sink.old self.old line.now (W.contents writer.new) sink.new self.new }
+    {
+        if let Some(manager) = self.two.take() {
+            if line == VERSION_TWO {
+                self.desk.begin_version_two(manager);
+                put(sink, writer, b"ok\n");
+                return;
+            }
+        }
+        self.carry_out(sink, writer, line);
+    }
+
+    /// Answers a line of a script whose version is known.
+    fn carry_out<W: Write>(&mut self, sink: &mut Sink, writer: &mut W, line: &[u8])
+        ensures { CarriesOut (W.contents writer.old) sink.old self.old line.now (W.contents writer.new) sink.new self.new }
+    {
+        if line.len() > LONGEST {
+            put(sink, writer, BAD_LINE);
+            return;
+        }
+        if line.is_empty() || line[0] == b'#' {
+            return;
+        }
+        self.lists.nodes.clear(); // The parents of an earlier line are not looked up again.
+        match parse(self.desk.version, line, &mut self.lists) {
+            None => put(sink, writer, BAD_LINE),
+            Some(form) => {
+                self.told.clear();
+                let answer = self
+                    .desk
+                    .serve(&form, &self.lists, &mut self.ids, &mut self.told);
+                put_answer(sink, writer, &self.desk, &form, &self.lists, answer);
+                put_notices(sink, writer, &self.desk, self.told.as_slice());
+            }
+        }
+    }
+}
