@@ -22,3 +22,5 @@ mod records;
 mod rows;
 #[cfg(test)]
 mod streams;
+#[cfg(test)]
+mod words;

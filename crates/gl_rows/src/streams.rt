@@ -51,7 +51,7 @@ impl Read for Source<'_> {
         buf[..count].copy_from_slice(&rest[..count]);
         self.at = at + count;
         self.left -= count;
-        self.given += count;
+        self.given = self.given.saturating_add(count);
         Ok(count)
     }
 }

@@ -6,6 +6,7 @@ pub mod Held
 pub mod Views
 pub mod Rooms
 pub mod SoFar
+pub mod Planned
 pub mod Outcome
 pub use Rattle.gl_modes.specs.Modes
 pub use Rattle.gl_modes.specs.Refusals

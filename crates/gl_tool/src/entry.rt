@@ -1,13 +1,15 @@
 //! The whole program, over given words and streams.
 
-ghost use Rattle.std.specs.Prelude.{◌≡◌, ◌≢◌, ◌≤◌, ◌↔◌, []};
+ghost use Rattle.std.specs.Prelude.{◌≡◌, ◌≤◌, map};
 ghost use Rattle.gl_tool.specs.declared.script.RunFault.{RunFault as TheRunFault};
-ghost use Rattle.gl_tool.specs.Outcome.{HasFaulted, HasRun, Works, status_of};
+ghost use Rattle.gl_tool.specs.Outcome.{FaultsAsPlanned, RunsAsPlanned, Works, status_of};
+ghost use Rattle.gl_tool.specs.Planned.{HasNoPlan};
 
+use crate::asked::Plan;
 use crate::script::{RunFault, run};
 use crate::sink::send;
+use crate::words::plan;
 use arrayvec::ArrayString;
-use gl_table::Detect;
 use std::alloc::Global;
 use std::convert::AsStr;
 use std::fmt::Write as FormatWrite;
@@ -20,14 +22,15 @@ pub enum ToolFault {
     /// The run met a fault.
     #[error("{0}")]
     Run(RunFault),
-    /// The words ask for nothing that the program does.
+    /// No plan was read in the words.
     #[error("bad words")]
     Words,
 }
 
-/// Runs the script that `reader` gives, where there are no words. Answers the exit status: 0 at the
-/// end of the script, 1 after a fault, 2 for bad words; after anything but 0 one line that says why
-/// was given to `faults`.
+/// Does what the words after the program's name ask for: runs the script that `reader` gives, with
+/// deadlocks found as `--detect` says. Answers the exit status: 0 at the end of the script, 1 after
+/// a fault, 2 where there is no plan for the words; after anything but 0 one line that says why was
+/// given to `faults`.
 pub fn program<S: AsStr, R: Read, W: Write, E: Write>(
     alloc: Global,
     words: &[S],
@@ -35,9 +38,10 @@ pub fn program<S: AsStr, R: Read, W: Write, E: Write>(
     writer: &mut W,
     faults: &mut E,
 ) -> u8
-    ensures done { result ≡ 0 → HasRun Detect.AtBlock (R.remaining reader.old) (R.remaining reader.new) (W.contents writer.old) (W.contents writer.new) }
-    ensures fault { result ≡ 1 → (fault : TheRunFault) × HasFaulted Detect.AtBlock fault (R.remaining reader.old) (R.remaining reader.new) (W.contents writer.old) (W.contents writer.new) }
-    ensures bad_words { (result ≡ 2) ↔ (words.now ≢ []) }
+    ensures done { result ≡ 0 → RunsAsPlanned (map S.text words.now) (R.remaining reader.old) (R.remaining reader.new) (W.contents writer.old) (W.contents writer.new) }
+    ensures fault { result ≡ 1 → (fault : TheRunFault) × FaultsAsPlanned (map S.text words.now) fault (R.remaining reader.old) (R.remaining reader.new) (W.contents writer.old) (W.contents writer.new) }
+    ensures bad_words { result ≡ 2 → (R.remaining reader.new ≡ R.remaining reader.old) × (W.contents writer.new ≡ W.contents writer.old) }
+    ensures no_plan { HasNoPlan (map S.text words.now) → result ≡ 2 }
     ensures bound { result ≤ 2 }
 {
     match work(alloc, words, reader, writer) {
@@ -67,10 +71,10 @@ fn work<S: AsStr, R: Read, W: Write>(
     reader: &mut R,
     writer: &mut W,
 ) -> Result<(), ToolFault>
-    ensures { Works words.now (R.remaining reader.old) (R.remaining reader.new) (W.contents writer.old) (W.contents writer.new) result }
+    ensures { Works (map S.text words.now) (R.remaining reader.old) (R.remaining reader.new) (W.contents writer.old) (W.contents writer.new) result }
 {
-    if !words.is_empty() {
-        return Err(ToolFault::Words);
+    match plan(alloc, words) {
+        Some(Plan::Script(detect)) => run(alloc, reader, writer, detect).map_err(ToolFault::Run),
+        None => Err(ToolFault::Words),
     }
-    run(alloc, reader, writer, Detect::AtBlock).map_err(ToolFault::Run)
 }

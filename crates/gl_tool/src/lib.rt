@@ -6,15 +6,19 @@
 #![tactic(auto)]
 
 mod answers;
+mod asked;
 mod desk;
 mod entry;
 mod interpreter;
 mod register;
 mod script;
 mod sink;
+mod words;
 
+pub use asked::Plan;
 pub use entry::{ToolFault, complain, program};
 pub use script::{RunFault, run};
+pub use words::plan;
 
 #[cfg(test)]
 mod tests;

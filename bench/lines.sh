@@ -1,0 +1,44 @@
+#!/usr/bin/env bash
+# How many lines of a script are answered in a second. Run as:
+#
+#     bench/lines.sh [PROGRAM]
+#
+# The program is ./gltool where none is given. Each line of the answer has the number of lines, the
+# seconds of processor time that the best of three runs took, and the lines a second:
+#
+# - begin: `begin` of a name that is in use, refused by the names alone. Aim: 4 million a second.
+# - locks: `begin`, `lock`, `try`, `commit` of one transaction after the other. Aim: 3 million a second.
+# - bad: lines that are no commands. Aim: 20 million a second.
+# - 60 names, 60000 names: a million queries for that many declared names, the time for declaring them
+#   taken off. Aim: no more a line for many names than for few.
+set -eu
+cd "$(dirname "$0")/.."
+program=${1:-./gltool}
+input=$(mktemp)
+trap 'rm -f "$input"' EXIT
+"$program" <examples/first.script >/dev/null
+
+# seconds KIND NAMES: the best of three runs; the script is left in $input.
+seconds() {
+  awk -v kind="$1" -v names="$2" -f bench/script.awk >"$input"
+  local TIMEFORMAT='%U %S'
+  for _ in 1 2 3; do
+    { time "$program" <"$input" >/dev/null; } 2>&1
+  done | awk '{ t = $1 + $2 } NR == 1 || t < best { best = t } END { print best }'
+}
+
+# report NAME LINES SECONDS
+report() {
+  awk -v name="$1" -v lines="$2" -v s="$3" \
+    'BEGIN { printf "%s: %d lines, %.2f s, %.2f million lines a second\n", name, lines, s, lines / s / 1e6 }'
+}
+
+for kind in begin locks bad; do
+  took=$(seconds $kind 0)
+  report $kind "$(wc -l <"$input")" "$took"
+done
+for names in 60 60000; do
+  before=$(seconds none $names)
+  took=$(seconds names $names)
+  report "$names names" 1000000 "$(awk -v a="$took" -v b="$before" 'BEGIN { print a - b }')"
+done

@@ -1,0 +1,10 @@
+//! What the program can be asked for.
+
+use gl_table::Detect;
+
+/// What the words of the program ask for.
+#[derive(Clone, Copy, Debug, PartialEq, Eq)]
+pub enum Plan {
+    /// To run the script that the reader gives, with deadlocks found this way.
+    Script(Detect),
+}
