@@ -1,9 +1,12 @@
 //! The words of the program: which give a plan, what it is, and what becomes of those that give none.
 
 use gl_table::Detect;
-use gl_tool::{Plan, plan, program};
+use gl_tool::{Plan, RunFault, ToolFault, complain, plan, program};
 use std::alloc::Global;
+use std::io;
+use std::io::{ErrorKind, Read, Write};
 use std::process::Abort;
+use std::test::Fail;
 
 /// Two readers of `db` that both ask for it alone: a deadlock.
 const SCRIPT: &[u8] =
@@ -12,6 +15,8 @@ const SCRIPT: &[u8] =
 const FOUND_AT_ONCE: &[u8] = b"ok\nok\nok\nok S\nok S\nwait\nvictim\n";
 
 const LEFT_WAITING: &[u8] = b"ok\nok\nok\nok S\nok S\nwait\nwait\n";
+
+const NO_WORDS: [&str; 0] = [];
 
 const REFUSED: [&[&str]; 13] = [
     &["x"],
@@ -28,6 +33,26 @@ const REFUSED: [&[&str]; 13] = [
     &["--crew", "2", "--rounds", "3"],
     &["at-block"],
 ];
+
+/// Every read and every write is a fault.
+#[derive(Drop)]
+struct Broken;
+
+impl Read for Broken {
+    fn read(&mut self, _buf: &mut [u8]) -> io::Result<usize> {
+        Err(io::Error::from(ErrorKind::Interrupted))
+    }
+}
+
+impl Write for Broken {
+    fn write(&mut self, _buf: &[u8]) -> io::Result<usize> {
+        Err(io::Error::from(ErrorKind::Interrupted))
+    }
+
+    fn flush(&mut self) -> io::Result<()> {
+        Ok(())
+    }
+}
 
 /// The plan of the words. It promises nothing, so that what `plan` promises is no part of a test's
 /// proof.
@@ -80,4 +105,28 @@ fn the_plan_is_what_runs(rt: HostRuntime) {
         b"",
     );
     ends(&rt, alloc, &["--detect=by-watcher"], 0, LEFT_WAITING, b"");
+}
+
+/// The status of a run without words. It promises nothing, as `planned`.
+fn status<R: Read, W: Write>(
+    alloc: Global,
+    reader: &mut R,
+    writer: &mut W,
+    faults: &mut Vec<u8>,
+) -> u8 {
+    program(alloc, NO_WORDS.as_slice(), reader, writer, faults)
+}
+
+#[test]
+fn a_fault_has_a_status_and_a_line(rt: HostRuntime) -> Result<(), Fail> {
+    let alloc = rt.alloc();
+    let mut out = Vec::with_capacity(alloc, 256)?;
+    let mut faults = Vec::with_capacity(alloc, 256)?;
+    assert_eq!(rt; status(alloc, &mut Broken, &mut out, &mut faults), 1);
+    assert_eq!(rt; status(alloc, &mut SCRIPT, &mut Broken, &mut faults), 1);
+    assert_eq!(rt; complain(ToolFault::Run(RunFault::TooMuch), &mut faults), 1);
+    assert_eq!(rt; complain(ToolFault::Run(RunFault::Memory), &mut Broken), 1);
+    let said = b"gltool: read fault\ngltool: write fault\ngltool: input too long\n";
+    assert_eq!(rt; faults.as_slice(), said.as_slice());
+    Ok(())
 }

@@ -1,10 +1,9 @@
-//! Two scripts, and what becomes of them where memory or a stream fails.
+//! Two scripts, and what becomes of them where memory is wanting.
 
-use crate::{RunFault, ToolFault, complain, program, run};
+use crate::{RunFault, run};
 use gl_table::Detect;
 use std::alloc::Global;
-use std::io;
-use std::io::{ErrorKind, Read, Write};
+use std::io::{Read, Write};
 use std::process::Abort;
 use std::test::Fail;
 
@@ -78,28 +77,6 @@ const FORMS_REPORT: &[u8] = b"ok\n\
     told b granted IS x\n\
     ok\n";
 
-const NO_WORDS: [&str; 0] = [];
-
-/// Every read and every write is a fault.
-#[derive(Drop)]
-struct Broken;
-
-impl Read for Broken {
-    fn read(&mut self, _buf: &mut [u8]) -> io::Result<usize> {
-        Err(io::Error::from(ErrorKind::Interrupted))
-    }
-}
-
-impl Write for Broken {
-    fn write(&mut self, _buf: &[u8]) -> io::Result<usize> {
-        Err(io::Error::from(ErrorKind::Interrupted))
-    }
-
-    fn flush(&mut self) -> io::Result<()> {
-        Ok(())
-    }
-}
-
 /// Answers a script. It promises nothing, so that what `run` promises is no part of a test's proof.
 fn answer<R: Read, W: Write>(
     alloc: Global,
@@ -165,53 +142,4 @@ fn runs_each_form(rt: HostRuntime) -> Result<(), Fail> {
 #[test]
 fn a_refused_growth_of_each_form_is_answered(rt: HostRuntime) {
     refusal_is_answered(&rt, rt.alloc(), FORMS, FORMS_REPORT);
-}
-
-#[test]
-fn ends_with_a_status(rt: HostRuntime) -> Result<(), Fail> {
-    let alloc = rt.alloc();
-    let mut out = Vec::with_capacity(alloc, 256)?;
-    let mut faults = Vec::with_capacity(alloc, 256)?;
-    let words = ["--detect"];
-    let status = program(
-        alloc,
-        words.as_slice(),
-        &mut Broken,
-        &mut Broken,
-        &mut faults,
-    );
-    assert_eq!(rt; status, 2);
-    let status = program(
-        alloc,
-        NO_WORDS.as_slice(),
-        &mut Broken,
-        &mut out,
-        &mut faults,
-    );
-    assert_eq!(rt; status, 1);
-    let status = program(
-        alloc,
-        NO_WORDS.as_slice(),
-        &mut SCRIPT,
-        &mut Broken,
-        &mut faults,
-    );
-    assert_eq!(rt; status, 1);
-    assert_eq!(rt; complain(ToolFault::Run(RunFault::TooMuch), &mut faults), 1);
-    assert_eq!(rt; complain(ToolFault::Run(RunFault::Memory), &mut Broken), 1);
-    let said =
-        b"gltool: bad words\ngltool: read fault\ngltool: write fault\ngltool: input too long\n";
-    assert_eq!(rt; faults.as_slice(), said.as_slice());
-    assert_eq!(rt;
-        program(
-            alloc,
-            NO_WORDS.as_slice(),
-            &mut SCRIPT,
-            &mut out,
-            &mut faults
-        ),
-        0
-    );
-    assert_eq!(rt; out.as_slice(), REPORT);
-    Ok(())
 }
