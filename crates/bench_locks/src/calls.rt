@@ -24,6 +24,7 @@ pub(crate) trait Calls {
     fn new_record(&mut self, txn: TxnId, file: NodeId, index: NodeId) -> NodeId;
 
     fn start(&mut self) -> TxnId;
+
     /// 1 where the lock is granted, else 0.
     fn ask(&mut self, txn: TxnId, node: NodeId, mode: Mode) -> u64;
 

@@ -1,4 +1,3 @@
-pub mod Splitting
 pub mod Writing
 pub mod Reading
 pub mod Registers

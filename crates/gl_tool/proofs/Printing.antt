@@ -1,5 +1,5 @@
 -- The texts that are printed, piece by piece.
-use Rattle.std.proofs.Common.{◌≡◌, ℕ, Bool, ◌||◌, true, false, List, [], ◌∷◌, ◌++◌, Option, None, Some, is_none, is_some, refl, ap, ◌∙◌, append-nil, true≢false, sym, if◌then◌else◌}
+use Rattle.std.proofs.Common.{◌≡◌, ℕ, Bool, ◌||◌, true, false, List, [], ◌∷◌, ◌++◌, Option, None, Some, is_none, refl, ap, ◌∙◌, append-nil, true≢false, sym, if◌then◌else◌}
 use Rattle.gl_modes.specs.declared.node.NodeId.{NodeId}
 use Rattle.gl_modes.specs.declared.refusal.Refusal.{Refusal}
 use Rattle.gl_modes.specs.declared.refusal.Refusal.TheVariants as no
@@ -7,14 +7,6 @@ use Rattle.gl_script.specs.Grammar.{Command, Node, node_text}
 use Rattle.gl_script.specs.Views.{node_in}
 use Rattle.gl_tool.specs.Printed.{first_unused, place_text, some_unused, who_text}
 use Rattle.gl_tool.specs.Script.{Script, node_named}
-
-pub not_none : {X : Type 0} (o : Option X) → is_some o ≡ true → is_none o ≡ false
-not_none None h = absurd (true≢false (sym h))
-not_none (Some x) h = refl
-
-pub is_there_none : {X : Type 0} (o : Option X) → is_some o ≡ false → is_none o ≡ true
-is_there_none None h = refl
-is_there_none (Some x) h = absurd (true≢false h)
 
 -- a used node is spelt as its name, and behind it its place
 pub used_text : (name : List ℕ) (o : Option ℕ) → name ++ place_text o ≡ node_text (node_in name o)

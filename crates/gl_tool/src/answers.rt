@@ -2,7 +2,7 @@
 
 ghost use Rattle.std.specs.Prelude.{◌≡◌, ◌∷◌, ◌++◌, [], codes, decimal, flat_map, is_none};
 ghost use Rattle.gl_modes.specs.Modes.{mode_text};
-ghost use Rattle.gl_script.specs.Grammar.{Plain, node_text};
+ghost use Rattle.gl_script.specs.Grammar.{Plain};
 ghost use Rattle.gl_script.specs.declared.form.Lists.{Lists as TheLists};
 ghost use Rattle.gl_script.specs.Views.{command_of, node_of, nodes_of};
 ghost use Rattle.gl_tool.specs.Held.{Hands};

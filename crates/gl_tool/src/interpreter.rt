@@ -1,17 +1,14 @@
 //! What answers the lines of a script, one after the other.
 
-ghost use Rattle.std.specs.Prelude.{◌≡◌, ◌≤◌, IfSome, length};
-ghost use Rattle.gl_table.specs.State.{empty_state};
-ghost use Rattle.gl_catalog.specs.Manager.{state_of};
+ghost use Rattle.std.specs.Prelude.{IfSome};
 ghost use Rattle.gl_tool.specs.SoFar.{Answered, CarriesOut, IsFresh};
-ghost use Rattle.gl_tool.specs.Views.{script_of};
 
 use crate::answers::{put_answer, put_notices};
 use crate::desk::{Desk, Ids};
 use crate::sink::{Sink, put};
 use arrayvec::ArrayVec;
 use gl_catalog::Manager;
-use gl_script::{Lists, Version, parse};
+use gl_script::{Lists, parse};
 use gl_table::{Detect, Told};
 use std::alloc::Global;
 use std::io::Write;

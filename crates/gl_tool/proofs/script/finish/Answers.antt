@@ -1,7 +1,7 @@
 use Rattle.std.proofs.Common.{refl, arith}
 use Rattle.gl_tool.specs.SoFar.{Finishes}
 use Rattle.gl_tool.proofs.Reading.{Ended, Ended-rest, Ended-none, Ended-flushed, Ended-whole, Ended-broken}
-use Rattle.gl_tool.proofs.Splitting.{same_test, other_test}
+use Rattle.gl_script.proofs.Splitting.{same_test, other_test}
 use Rattle.gl_tool.proofs.script.finish.Goals.{then-not-is_empty, else-not-is_empty}
 use Rattle.gl_tool.proofs.script.finish.Goals as goal
 

@@ -1,7 +1,7 @@
 use Rattle.std.proofs.Common.{◌≡◌, ◌∷◌, [], ◌++◌, ◌<◌, refl, subst, sym, ◌∙◌, arith, length, ap}
 use Rattle.gl_tool.specs.SoFar.{Takes}
 use Rattle.gl_tool.proofs.Reading.{SoFar-newline, SoFar-byte, front-byte, front-full}
-use Rattle.gl_tool.proofs.Splitting.{same_test, other_test}
+use Rattle.gl_script.proofs.Splitting.{same_test, other_test}
 use Rattle.gl_tool.proofs.script.take_byte.Goals as goal
 
 pub returns-then-byte-eq10 : goal.returns-then-byte-eq10

@@ -1,13 +1,19 @@
-use Rattle.std.proofs.Common.{[], refl, inl, inr, arith}
+use Rattle.std.proofs.Common.{ℕ, List, [], ◌≢◌, length, refl, inl, inr, arith}
+use Rattle.std.specs.Prelude.{slice_index}
 use Rattle.gl_script.specs.Views.{command_of}
 use Rattle.gl_tool.specs.Printed.{printed}
 use Rattle.gl_tool.specs.Report.{IsSilent, bad_line}
 use Rattle.gl_tool.specs.SoFar.{CarriesOut}
 use Rattle.gl_tool.specs.Views.{script_of}
-use Rattle.gl_tool.proofs.Splitting.{other_test, same_test}
+use Rattle.gl_script.proofs.Splitting.{other_test, same_test}
 use Rattle.gl_tool.proofs.Writing.{Hands-none, Hands-then}
 use Rattle.gl_tool.proofs.interpreter.Interpreter.carry_out.Goals.{then-is_empty-via-then-is_empty, then-is_empty-via-else-is_empty+then-line-eq35}
 use Rattle.gl_tool.proofs.interpreter.Interpreter.carry_out.Goals as goal
+
+-- a line has an answer where it is neither empty nor a comment
+not_silent : (line : List ℕ) → length line ≢ 0 → slice_index line 0 ≢ 35 → ¬ (IsSilent line)
+not_silent line some other (inl e) = some e
+not_silent line some other (inr e) = other e
 
 pub returns-then-line-gt-LONGEST : goal.returns-then-line-gt-LONGEST
 unfolding CarriesOut
@@ -26,19 +32,13 @@ returns-then-is_empty g c =
 pub returns-in-None : goal.returns-in-None
 unfolding CarriesOut
 returns-in-None g c =
-    let speaks : ¬ (IsSilent c.args.line.now) = λ silent. elim silent [
-      | inl e ↦ other_test _ _ _ c.is_empty.ensures c.if-is_empty.false e
-      | inr e ↦ c.if-line-eq35.false e
-    ] in
+    let speaks = not_silent c.args.line.now (other_test _ _ _ c.is_empty.ensures c.if-is_empty.false) c.if-line-eq35.false in
     (bad_line, inr (inr (inl (omega (arith, c.if-line-gt-LONGEST.false), speaks, rw c.in-None.is at c.parse.ensures.none, refl, refl))), refl, c.put-in-None.ensures)
 
 pub returns-in-Some : goal.returns-in-Some
 unfolding CarriesOut
 returns-in-Some g c =
-    let speaks : ¬ (IsSilent c.args.line.now) = λ silent. elim silent [
-      | inl e ↦ other_test _ _ _ c.is_empty.ensures c.if-is_empty.false e
-      | inr e ↦ c.if-line-eq35.false e
-    ] in
+    let speaks = not_silent c.args.line.now (other_test _ _ _ c.is_empty.ensures c.if-is_empty.false) c.if-line-eq35.false in
     let asked = command_of c.in-Some.form c.parse.new.lists in
     let answer = c.serve-answer.result in
     let told = c.serve-answer.new.told.items in
