@@ -1,6 +1,6 @@
 //! Waits by commands, and whole lists of them.
 
-use crate::scene::{Again, Scene, done, granted, refused, said_in, tells, waits};
+use crate::scene::{Again, Scene, done, granted, refused, said_in, same, tells, waits};
 use gl_catalog::{Answer, Command, Manager, run_commands};
 use gl_modes::{Mode, Refusal};
 use gl_table::{Detect, Notice, TxnId};
@@ -12,29 +12,35 @@ fn a_refused_growth_grants_on_commit(rt: HostRuntime) -> Result<(), Fail> {
     let db = scene.inner(&rt, &[]);
     let a = scene.begin(&rt);
     let b = scene.begin(&rt);
-    assert_eq!(rt; scene.lock(&rt, a, Mode::S, db), granted(Mode::S));
-    assert_eq!(rt; scene.lock(&rt, b, Mode::IX, db), waits());
-    assert_eq!(rt; scene.manager.waiting(b), Some((db, Mode::IX)));
-    assert_eq!(rt; scene.manager.waiting(a), None);
-    assert_eq!(rt; scene.commit(&rt, b), refused(Refusal::TxnWaiting));
-    assert_eq!(rt;
+    same(&rt, scene.lock(&rt, a, Mode::S, db), granted(Mode::S));
+    same(&rt, scene.lock(&rt, b, Mode::IX, db), waits());
+    same(&rt, scene.manager.waiting(b), Some((db, Mode::IX)));
+    same(&rt, scene.manager.waiting(a), None);
+    same(&rt, scene.commit(&rt, b), refused(Refusal::TxnWaiting));
+    same(
+        &rt,
         scene.commit(&rt, a),
-        tells(b, Notice::Granted(db, Mode::IX))
+        tells(b, Notice::Granted(db, Mode::IX)),
     );
     let group = Answer::Mode(Mode::IX);
-    assert_eq!(rt; scene.ask(&rt, Command::Group { node: db }), (group, None));
-    assert_eq!(rt;
+    same(
+        &rt,
+        scene.ask(&rt, Command::Group { node: db }),
+        (group, None),
+    );
+    same(
+        &rt,
         scene.ask(
             &rt,
             Command::Try {
                 txn: b,
                 node: db,
-                mode: Mode::S
-            }
+                mode: Mode::S,
+            },
         ),
-        granted(Mode::SIX)
+        granted(Mode::SIX),
     );
-    assert_eq!(rt; scene.manager.accepted(), 7);
+    same(&rt, scene.manager.accepted(), 7);
     Ok(())
 }
 
@@ -46,18 +52,20 @@ fn a_refused_growth_settles(rt: HostRuntime) -> Result<(), Fail> {
     let b = scene.begin(&rt);
     scene.lock_all(&rt, a, Mode::S, &[db]);
     scene.lock_all(&rt, b, Mode::S, &[db]);
-    assert_eq!(rt; scene.lock(&rt, a, Mode::X, db), waits());
-    assert_eq!(rt; scene.lock(&rt, b, Mode::X, db), (Answer::Victim, None));
-    assert_eq!(rt; scene.ask(&rt, Command::Settle { txn: a }), done());
-    assert_eq!(rt; scene.ask(&rt, Command::Cancel { txn: a }), done());
-    assert_eq!(rt;
+    same(&rt, scene.lock(&rt, a, Mode::X, db), waits());
+    same(&rt, scene.lock(&rt, b, Mode::X, db), (Answer::Victim, None));
+    same(&rt, scene.ask(&rt, Command::Settle { txn: a }), done());
+    same(&rt, scene.ask(&rt, Command::Cancel { txn: a }), done());
+    same(
+        &rt,
         scene.ask(&rt, Command::Cancel { txn: b }),
-        refused(Refusal::TxnCondemned)
+        refused(Refusal::TxnCondemned),
     );
-    assert_eq!(rt; scene.lock(&rt, a, Mode::X, db), waits());
-    assert_eq!(rt;
+    same(&rt, scene.lock(&rt, a, Mode::X, db), waits());
+    same(
+        &rt,
         scene.ask(&rt, Command::Abort { txn: b }),
-        tells(a, Notice::Granted(db, Mode::X))
+        tells(a, Notice::Granted(db, Mode::X)),
     );
     Ok(())
 }
@@ -73,11 +81,15 @@ fn a_list_is_answered_in_order(rt: HostRuntime) -> Result<(), Fail> {
         Command::Begin,
     ];
     let replies = run_commands(rt.alloc(), &mut manager, &list)?;
-    assert_eq!(rt; replies.len(), 4);
-    assert_eq!(rt; replies[1].answer, Answer::Begun(first));
-    assert_eq!(rt; replies[3].answer, Answer::Refused(Refusal::TooManyTxns));
-    assert_eq!(rt; manager.accepted(), 3);
-    assert_eq!(rt; manager.board().ages[1], 2);
+    same(&rt, replies.len(), 4);
+    same(&rt, replies[1].answer, Answer::Begun(first));
+    same(
+        &rt,
+        replies[3].answer,
+        Answer::Refused(Refusal::TooManyTxns),
+    );
+    same(&rt, manager.accepted(), 3);
+    same(&rt, manager.board().ages[1], 2);
     Ok(())
 }
 
@@ -89,7 +101,7 @@ fn a_refused_list_applies_nothing(rt: HostRuntime) -> Result<(), Fail> {
     let a = scene.begin(&rt);
     let b = scene.begin(&rt);
     scene.lock_all(&rt, a, Mode::S, &[db]);
-    assert_eq!(rt; scene.lock(&rt, b, Mode::IX, db), waits());
+    same(&rt, scene.lock(&rt, b, Mode::IX, db), waits());
     let list = [
         Command::Begin,
         Command::Group { node: db },
@@ -105,10 +117,10 @@ fn a_refused_list_applies_nothing(rt: HostRuntime) -> Result<(), Fail> {
         tells(b, Notice::Granted(db, Mode::IX)),
         (Answer::Mode(Mode::IX), None),
     ];
-    assert_eq!(rt; replies.len(), wanted.len());
+    same(&rt, replies.len(), wanted.len());
     for (reply, said) in replies.iter().zip(wanted) {
-        assert_eq!(rt; said_in(reply), said);
+        same(&rt, said_in(reply), said);
     }
-    assert_eq!(rt; scene.manager.accepted(), 7);
+    same(&rt, scene.manager.accepted(), 7);
     Ok(())
 }

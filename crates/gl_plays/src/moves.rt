@@ -1,6 +1,6 @@
 //! Inner nodes and files move.
 
-use crate::scene::{Again, Said, Scene, done, granted, refused, tells, waits};
+use crate::scene::{Again, Said, Scene, done, granted, refused, same, tells, waits};
 use gl_catalog::Answer;
 use gl_modes::{Mode, NodeId, Refusal};
 use gl_table::{Effect, Notice};
@@ -45,18 +45,19 @@ fn a_refused_growth_moves_a_file(rt: HostRuntime) -> Result<(), Fail> {
     t.scene.lock_all(&rt, a, Mode::IX, &[t.db, t.x, t.y]);
     t.scene.lock_all(&rt, a, Mode::X, &[t.file]);
     t.scene.lock_all(&rt, b, Mode::IX, &[t.db, t.x]);
-    assert_eq!(rt; t.scene.lock(&rt, b, Mode::X, t.file), waits());
+    same(&rt, t.scene.lock(&rt, b, Mode::X, t.file), waits());
     t.scene.lock_all(&rt, c, Mode::IS, &[t.db, t.x, t.y]);
-    assert_eq!(rt; t.scene.lock(&rt, c, Mode::S, t.file), waits());
-    assert_eq!(rt;
+    same(&rt, t.scene.lock(&rt, c, Mode::S, t.file), waits());
+    same(
+        &rt,
         t.scene.relocate(&rt, a, t.file, &[t.y]),
-        tells(b, Notice::Moved)
+        tells(b, Notice::Moved),
     );
-    assert_eq!(rt; t.scene.unlock(&rt, a, t.x), done());
+    same(&rt, t.scene.unlock(&rt, a, t.x), done());
     let child = refused(Refusal::HeldChild { node: t.file });
-    assert_eq!(rt; t.scene.unlock(&rt, a, t.y), child);
+    same(&rt, t.scene.unlock(&rt, a, t.y), child);
     let told = tells(c, Notice::Granted(t.file, Mode::S));
-    assert_eq!(rt; t.scene.commit(&rt, a), told);
+    same(&rt, t.scene.commit(&rt, a), told);
     Ok(())
 }
 
@@ -68,25 +69,28 @@ fn a_refused_growth_closes_no_path(rt: HostRuntime) -> Result<(), Fail> {
     let y = scene.inner(&rt, &[x]);
     let a = scene.begin(&rt);
     scene.lock_all(&rt, a, Mode::X, &[db]);
-    assert_eq!(rt;
+    same(
+        &rt,
         scene.relocate(&rt, a, x, &[y]),
-        refused(Refusal::NeedExclusive)
+        refused(Refusal::NeedExclusive),
     );
     scene.lock_all(&rt, a, Mode::X, &[x]);
-    assert_eq!(rt; scene.relocate(&rt, a, x, &[y]), need(y));
+    same(&rt, scene.relocate(&rt, a, x, &[y]), need(y));
     scene.lock_all(&rt, a, Mode::IX, &[y]);
-    assert_eq!(rt;
+    same(
+        &rt,
         scene.relocate(&rt, a, x, &[y]),
-        refused(Refusal::Cycle { node: y })
+        refused(Refusal::Cycle { node: y }),
     );
-    assert_eq!(rt;
+    same(
+        &rt,
         scene.relocate(&rt, a, x, &[x]),
-        refused(Refusal::Cycle { node: x })
+        refused(Refusal::Cycle { node: x }),
     );
-    assert_eq!(rt; scene.relocate(&rt, a, x, &[]), done());
-    assert_eq!(rt; scene.unlock(&rt, a, db), done());
+    same(&rt, scene.relocate(&rt, a, x, &[]), done());
+    same(&rt, scene.unlock(&rt, a, db), done());
     let child = refused(Refusal::HeldChild { node: y });
-    assert_eq!(rt; scene.unlock(&rt, a, x), child);
+    same(&rt, scene.unlock(&rt, a, x), child);
     Ok(())
 }
 
@@ -97,10 +101,10 @@ fn a_refused_growth_needs_the_new_parent(rt: HostRuntime) -> Result<(), Fail> {
     let b = t.scene.begin(&rt);
     t.scene.lock_all(&rt, a, Mode::IX, &[t.db, t.x]);
     t.scene.lock_all(&rt, a, Mode::X, &[t.file]);
-    assert_eq!(rt; t.scene.lock(&rt, b, Mode::IS, t.db), granted(Mode::IS));
+    same(&rt, t.scene.lock(&rt, b, Mode::IS, t.db), granted(Mode::IS));
     t.scene.lock_all(&rt, b, Mode::S, &[t.y]);
-    assert_eq!(rt; t.scene.relocate(&rt, a, t.file, &[t.y]), need(t.y));
-    assert_eq!(rt; t.scene.lock(&rt, a, Mode::IX, t.y), waits());
+    same(&rt, t.scene.relocate(&rt, a, t.file, &[t.y]), need(t.y));
+    same(&rt, t.scene.lock(&rt, a, Mode::IX, t.y), waits());
     Ok(())
 }
 
@@ -111,18 +115,23 @@ fn a_refused_growth_moves_by_the_parents(rt: HostRuntime) -> Result<(), Fail> {
     t.scene.lock_all(&rt, a, Mode::IX, &[t.db]);
     t.scene.lock_all(&rt, a, Mode::X, &[t.x]);
     let exclusive = refused(Refusal::NeedExclusive);
-    assert_eq!(rt; t.scene.relocate(&rt, a, t.file, &[t.y]), exclusive);
+    same(&rt, t.scene.relocate(&rt, a, t.file, &[t.y]), exclusive);
     t.scene.lock_all(&rt, a, Mode::X, &[t.y]);
-    assert_eq!(rt; t.scene.relocate(&rt, a, t.file, &[t.y]), done());
+    same(&rt, t.scene.relocate(&rt, a, t.file, &[t.y]), done());
     let effect = (Answer::Effect(Effect::X), None);
-    assert_eq!(rt; t.scene.effective(&rt, a, t.file), effect);
-    assert_eq!(rt;
+    same(&rt, t.scene.effective(&rt, a, t.file), effect);
+    same(
+        &rt,
         t.scene.held(&rt, a, t.file),
-        (Answer::Mode(Mode::NL), None)
+        (Answer::Mode(Mode::NL), None),
     );
     let bad = refused(Refusal::BadParents);
-    assert_eq!(rt; t.scene.relocate(&rt, a, t.file, &[]), bad);
-    assert_eq!(rt; t.scene.relocate(&rt, a, t.y, &[]), done());
-    assert_eq!(rt; t.scene.held(&rt, a, t.y), (Answer::Mode(Mode::X), None));
+    same(&rt, t.scene.relocate(&rt, a, t.file, &[]), bad);
+    same(&rt, t.scene.relocate(&rt, a, t.y, &[]), done());
+    same(
+        &rt,
+        t.scene.held(&rt, a, t.y),
+        (Answer::Mode(Mode::X), None),
+    );
     Ok(())
 }

@@ -1,6 +1,6 @@
 //! Records come, go and move between intervals; escalation; what locks on several nodes do together.
 
-use crate::scene::{Again, Said, Scene, done, granted, refused, tells, waits};
+use crate::scene::{Again, Said, Scene, done, granted, refused, same, tells, waits};
 use gl_catalog::{Answer, Command, Escalated};
 use gl_modes::{Mode, NodeId, Refusal};
 use gl_table::{Effect, Notice, TxnId};
@@ -39,7 +39,7 @@ fn set_up(rt: &impl Abort, alloc: Global, again: Again) -> Result<Prelude, Refus
     scene.lock_all(rt, z, Mode::IX, &[db, file, index, low, high]);
     let first = scene.insert(rt, z, file, &[50]);
     let second = scene.insert(rt, z, file, &[200]);
-    assert_eq!(rt; scene.commit(rt, z), done());
+    same(rt, scene.commit(rt, z), done());
     Ok(Prelude {
         scene,
         db,
@@ -69,17 +69,26 @@ fn a_refused_growth_keeps_the_rule(rt: HostRuntime) -> Result<(), Fail> {
     let mut p = set_up(&rt, rt.alloc(), Again::Yes)?;
     let a = p.scene.begin(&rt);
     p.scene.lock_all(&rt, a, Mode::IX, &[p.db, p.file]);
-    assert_eq!(rt; p.scene.lock(&rt, a, Mode::X, p.first), need(p.low));
-    assert_eq!(rt; p.scene.lock(&rt, a, Mode::S, p.first), granted(Mode::S));
-    assert_eq!(rt;
+    same(&rt, p.scene.lock(&rt, a, Mode::X, p.first), need(p.low));
+    same(
+        &rt,
+        p.scene.lock(&rt, a, Mode::S, p.first),
+        granted(Mode::S),
+    );
+    same(
+        &rt,
         p.scene.lock(&rt, a, Mode::IX, p.first),
-        refused(Refusal::BadMode)
+        refused(Refusal::BadMode),
     );
     let child = refused(Refusal::HeldChild { node: p.first });
-    assert_eq!(rt; p.scene.unlock(&rt, a, p.file), child);
-    assert_eq!(rt; p.scene.unlock(&rt, a, p.first), done());
-    assert_eq!(rt; p.scene.unlock(&rt, a, p.file), done());
-    assert_eq!(rt; p.scene.unlock(&rt, a, p.file), refused(Refusal::NotHeld));
+    same(&rt, p.scene.unlock(&rt, a, p.file), child);
+    same(&rt, p.scene.unlock(&rt, a, p.first), done());
+    same(&rt, p.scene.unlock(&rt, a, p.file), done());
+    same(
+        &rt,
+        p.scene.unlock(&rt, a, p.file),
+        refused(Refusal::NotHeld),
+    );
     Ok(())
 }
 
@@ -91,9 +100,13 @@ fn a_refused_growth_keeps_effects(rt: HostRuntime) -> Result<(), Fail> {
     p.scene.lock_all(&rt, a, Mode::IX, &[p.db]);
     p.scene.lock_all(&rt, a, Mode::X, &[p.file]);
     p.scene.lock_all(&rt, b, Mode::IS, &[p.db, p.index, p.low]);
-    assert_eq!(rt; p.scene.lock(&rt, b, Mode::S, p.first), granted(Mode::S));
-    assert_eq!(rt; p.scene.effective(&rt, a, p.first), effect(Effect::S));
-    assert_eq!(rt; p.scene.effective(&rt, a, p.file), effect(Effect::X));
+    same(
+        &rt,
+        p.scene.lock(&rt, b, Mode::S, p.first),
+        granted(Mode::S),
+    );
+    same(&rt, p.scene.effective(&rt, a, p.first), effect(Effect::S));
+    same(&rt, p.scene.effective(&rt, a, p.file), effect(Effect::X));
     Ok(())
 }
 
@@ -107,11 +120,15 @@ fn a_refused_growth_lets_a_record_move(rt: HostRuntime) -> Result<(), Fail> {
     p.scene.lock_all(&rt, a, Mode::X, &[p.first]);
     p.scene.lock_all(&rt, b, Mode::IS, &[p.db, p.index]);
     p.scene.lock_all(&rt, b, Mode::S, &[p.high]);
-    assert_eq!(rt; p.scene.rekey(&rt, a, p.first, p.index, 150), need(p.high));
-    assert_eq!(rt; p.scene.lock(&rt, a, Mode::IX, p.high), waits());
+    same(
+        &rt,
+        p.scene.rekey(&rt, a, p.first, p.index, 150),
+        need(p.high),
+    );
+    same(&rt, p.scene.lock(&rt, a, Mode::IX, p.high), waits());
     let told = tells(a, Notice::Granted(p.high, Mode::IX));
-    assert_eq!(rt; p.scene.commit(&rt, b), told);
-    assert_eq!(rt; p.scene.rekey(&rt, a, p.first, p.index, 150), done());
+    same(&rt, p.scene.commit(&rt, b), told);
+    same(&rt, p.scene.rekey(&rt, a, p.first, p.index, 150), done());
     Ok(())
 }
 
@@ -125,19 +142,20 @@ fn move_with_waiters(rt: &impl Abort, p: &mut Prelude) {
     p.scene.lock_all(rt, a, Mode::IX, &[p.high]);
     p.scene
         .lock_all(rt, b, Mode::IX, &[p.db, p.file, p.index, p.low]);
-    assert_eq!(rt; p.scene.lock(rt, b, Mode::X, p.first), waits());
+    same(rt, p.scene.lock(rt, b, Mode::X, p.first), waits());
     p.scene.lock_all(rt, c, Mode::IS, &[p.db, p.file]);
-    assert_eq!(rt; p.scene.lock(rt, c, Mode::S, p.first), waits());
-    assert_eq!(rt;
+    same(rt, p.scene.lock(rt, c, Mode::S, p.first), waits());
+    same(
+        rt,
         p.scene.rekey(rt, a, p.first, p.index, 150),
-        tells(b, Notice::Moved)
+        tells(b, Notice::Moved),
     );
-    assert_eq!(rt; p.scene.held(rt, b, p.first), mode(Mode::NL));
-    assert_eq!(rt; p.scene.unlock(rt, a, p.low), done());
+    same(rt, p.scene.held(rt, b, p.first), mode(Mode::NL));
+    same(rt, p.scene.unlock(rt, a, p.low), done());
     let child = refused(Refusal::HeldChild { node: p.first });
-    assert_eq!(rt; p.scene.unlock(rt, a, p.high), child);
+    same(rt, p.scene.unlock(rt, a, p.high), child);
     let told = tells(c, Notice::Granted(p.first, Mode::S));
-    assert_eq!(rt; p.scene.commit(rt, a), told);
+    same(rt, p.scene.commit(rt, a), told);
 }
 
 #[test]
@@ -162,12 +180,12 @@ fn a_refused_growth_moves_under_parents(rt: HostRuntime) -> Result<(), Fail> {
     p.scene.lock_all(&rt, a, Mode::X, &[p.file]);
     p.scene.lock_all(&rt, a, Mode::IX, &[p.index]);
     p.scene.lock_all(&rt, a, Mode::X, &[p.low]);
-    assert_eq!(rt; p.scene.rekey(&rt, a, p.first, p.index, 60), done());
+    same(&rt, p.scene.rekey(&rt, a, p.first, p.index, 60), done());
     let exclusive = refused(Refusal::NeedExclusive);
-    assert_eq!(rt; p.scene.rekey(&rt, a, p.first, p.index, 150), exclusive);
+    same(&rt, p.scene.rekey(&rt, a, p.first, p.index, 150), exclusive);
     p.scene.lock_all(&rt, a, Mode::X, &[p.high]);
-    assert_eq!(rt; p.scene.rekey(&rt, a, p.first, p.index, 150), done());
-    assert_eq!(rt; p.scene.effective(&rt, a, p.first), effect(Effect::X));
+    same(&rt, p.scene.rekey(&rt, a, p.first, p.index, 150), done());
+    same(&rt, p.scene.effective(&rt, a, p.first), effect(Effect::X));
     Ok(())
 }
 
@@ -187,7 +205,7 @@ fn a_refused_growth_escalates(rt: HostRuntime) -> Result<(), Fail> {
     let a = writer(&rt, &mut p);
     let nodes = [p.db, p.file, p.index, p.low, p.high, p.first];
     for (node, count) in [2, 2, 2, 1, 1, 0].iter().enumerate() {
-        assert_eq!(rt; p.scene.manager.children(a, nodes[node]), Some(*count));
+        same(&rt, p.scene.manager.children(a, nodes[node]), Some(*count));
     }
     let rose = Answer::Escalated(Escalated {
         mode: Mode::X,
@@ -198,16 +216,16 @@ fn a_refused_growth_escalates(rt: HostRuntime) -> Result<(), Fail> {
         txn: a,
         node: p.file,
     };
-    assert_eq!(rt; p.scene.ask(&rt, escalate), (rose, None));
-    assert_eq!(rt; p.scene.held(&rt, a, p.first), mode(Mode::NL));
-    assert_eq!(rt; p.scene.effective(&rt, a, p.first), effect(Effect::X));
-    assert_eq!(rt; p.scene.held(&rt, a, p.second), mode(Mode::X));
-    assert_eq!(rt; p.scene.manager.children(a, p.file), Some(1));
-    assert_eq!(rt; p.scene.manager.children(a, p.low), Some(0));
-    assert_eq!(rt; p.scene.manager.children(a, p.first), None);
-    assert_eq!(rt; p.scene.rekey(&rt, a, p.second, p.index, 60), done());
-    assert_eq!(rt; p.scene.manager.children(a, p.low), Some(1));
-    assert_eq!(rt; p.scene.unlock(&rt, a, p.high), done());
+    same(&rt, p.scene.ask(&rt, escalate), (rose, None));
+    same(&rt, p.scene.held(&rt, a, p.first), mode(Mode::NL));
+    same(&rt, p.scene.effective(&rt, a, p.first), effect(Effect::X));
+    same(&rt, p.scene.held(&rt, a, p.second), mode(Mode::X));
+    same(&rt, p.scene.manager.children(a, p.file), Some(1));
+    same(&rt, p.scene.manager.children(a, p.low), Some(0));
+    same(&rt, p.scene.manager.children(a, p.first), None);
+    same(&rt, p.scene.rekey(&rt, a, p.second, p.index, 60), done());
+    same(&rt, p.scene.manager.children(a, p.low), Some(1));
+    same(&rt, p.scene.unlock(&rt, a, p.high), done());
     Ok(())
 }
 
@@ -216,10 +234,14 @@ fn a_refused_growth_counts_readers(rt: HostRuntime) -> Result<(), Fail> {
     let mut p = set_up(&rt, rt.alloc(), Again::Yes)?;
     let b = p.scene.begin(&rt);
     p.scene.lock_all(&rt, b, Mode::IS, &[p.db, p.file]);
-    assert_eq!(rt; p.scene.lock(&rt, b, Mode::S, p.first), granted(Mode::S));
+    same(
+        &rt,
+        p.scene.lock(&rt, b, Mode::S, p.first),
+        granted(Mode::S),
+    );
     p.scene.lock_all(&rt, b, Mode::IS, &[p.index, p.low]);
-    assert_eq!(rt; p.scene.manager.children(b, p.low), Some(1));
-    assert_eq!(rt; p.scene.manager.children(b, p.file), Some(1));
+    same(&rt, p.scene.manager.children(b, p.low), Some(1));
+    same(&rt, p.scene.manager.children(b, p.file), Some(1));
     Ok(())
 }
 
@@ -232,14 +254,18 @@ fn a_refused_growth_deletes(rt: HostRuntime) -> Result<(), Fail> {
         .lock_all(&rt, a, Mode::IX, &[p.db, p.file, p.index, p.low]);
     p.scene.lock_all(&rt, a, Mode::X, &[p.first]);
     p.scene.lock_all(&rt, b, Mode::IS, &[p.db, p.file]);
-    assert_eq!(rt; p.scene.lock(&rt, b, Mode::S, p.first), waits());
+    same(&rt, p.scene.lock(&rt, b, Mode::S, p.first), waits());
     let delete = Command::Delete {
         txn: a,
         rec: p.first,
     };
-    assert_eq!(rt; p.scene.ask(&rt, delete), tells(b, Notice::Gone));
-    assert_eq!(rt; p.scene.held(&rt, b, p.first), refused(Refusal::NoSuchNode));
-    assert_eq!(rt; p.scene.held(&rt, b, p.file), mode(Mode::IS));
+    same(&rt, p.scene.ask(&rt, delete), tells(b, Notice::Gone));
+    same(
+        &rt,
+        p.scene.held(&rt, b, p.first),
+        refused(Refusal::NoSuchNode),
+    );
+    same(&rt, p.scene.held(&rt, b, p.file), mode(Mode::IS));
     Ok(())
 }
 
@@ -251,16 +277,18 @@ fn a_refused_growth_inserts_nothing(rt: HostRuntime) -> Result<(), Fail> {
     let file = p.file;
     for (key, parent) in [(0, p.low), (99, p.low), (100, p.high), (u64::MAX, p.high)] {
         let keys = &[key];
-        assert_eq!(rt;
+        same(
+            &rt,
             p.scene.ask(&rt, Command::Insert { txn: a, file, keys }),
-            need(parent)
+            need(parent),
         );
     }
     let keys = &[];
     let bad = refused(Refusal::BadKeys);
-    assert_eq!(rt;
+    same(
+        &rt,
         p.scene.ask(&rt, Command::Insert { txn: a, file, keys }),
-        bad
+        bad,
     );
     Ok(())
 }
@@ -274,25 +302,29 @@ fn a_refused_growth_keeps_the_kinds(rt: HostRuntime) -> Result<(), Fail> {
         txn: a,
         rec: p.file,
     };
-    assert_eq!(rt; p.scene.ask(&rt, delete), bad);
+    same(&rt, p.scene.ask(&rt, delete), bad);
     let delete = Command::Delete {
         txn: a,
         rec: p.first,
     };
-    assert_eq!(rt; p.scene.ask(&rt, delete), refused(Refusal::NeedExclusive));
-    assert_eq!(rt; p.scene.rekey(&rt, a, p.first, p.file, 5), bad);
+    same(
+        &rt,
+        p.scene.ask(&rt, delete),
+        refused(Refusal::NeedExclusive),
+    );
+    same(&rt, p.scene.rekey(&rt, a, p.first, p.file, 5), bad);
     let escalate = Command::Escalate {
         txn: a,
         node: p.first,
     };
-    assert_eq!(rt; p.scene.ask(&rt, escalate), bad);
+    same(&rt, p.scene.ask(&rt, escalate), bad);
     let escalate = Command::Escalate {
         txn: a,
         node: p.file,
     };
-    assert_eq!(rt; p.scene.ask(&rt, escalate), refused(Refusal::NotHeld));
-    assert_eq!(rt; p.scene.relocate(&rt, a, p.low, &[p.db]), bad);
-    assert_eq!(rt; p.scene.relocate(&rt, a, p.first, &[p.db]), bad);
-    assert_eq!(rt; p.scene.relocate(&rt, a, p.file, &[p.file]), bad);
+    same(&rt, p.scene.ask(&rt, escalate), refused(Refusal::NotHeld));
+    same(&rt, p.scene.relocate(&rt, a, p.low, &[p.db]), bad);
+    same(&rt, p.scene.relocate(&rt, a, p.first, &[p.db]), bad);
+    same(&rt, p.scene.relocate(&rt, a, p.file, &[p.file]), bad);
     Ok(())
 }

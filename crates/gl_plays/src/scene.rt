@@ -6,6 +6,7 @@ use gl_modes::{Mode, NodeId, Refusal};
 use gl_table::{Detect, Notice, TxnId};
 use gl_waits::Board;
 use std::alloc::Global;
+use std::fmt::Debug;
 use std::process::Abort;
 
 /// An answer, and who is told what: nobody, or one transaction.
@@ -62,6 +63,12 @@ pub fn tells(txn: TxnId, notice: Notice) -> Said {
 /// It was refused.
 pub fn refused(refusal: Refusal) -> Said {
     (Answer::Refused(refusal), None)
+}
+
+/// What came must be what is wanted. One function compares, since each comparison in a test adds to
+/// the length of its proof.
+pub fn same<T: PartialEq + Debug + Drop>(rt: &impl Abort, came: T, wanted: T) {
+    assert_eq!(rt; came, wanted);
 }
 
 /// What a reply says.
@@ -233,7 +240,7 @@ impl Scene {
     /// Locks each of these in one mode, which must be granted.
     pub fn lock_all(&mut self, rt: &impl Abort, txn: TxnId, mode: Mode, nodes: &[NodeId]) {
         for node in nodes {
-            assert_eq!(rt; self.lock(rt, txn, mode, *node), granted(mode));
+            same(rt, self.lock(rt, txn, mode, *node), granted(mode));
         }
     }
 
