@@ -3,7 +3,7 @@
 use crate::placing::placed;
 use gl_catalog::{Answer, Command, Manager};
 use gl_modes::{Mode, NodeId};
-use gl_table::{Locked, Table, TxnId};
+use gl_table::{Locked, Table, Told, TxnId};
 
 /// The key of the record.
 pub(crate) const KEY: u64 = 50;
@@ -38,13 +38,33 @@ fn made(answer: Answer) -> NodeId {
     }
 }
 
-impl Calls for Manager {
+/// Commands through the manager's one entry.
+#[derive(Drop)]
+pub(crate) struct Commands {
+    pub(crate) manager: Manager,
+    /// The told list, where one is used for all commands; else each makes its own.
+    pub(crate) told: Option<Told>,
+}
+
+impl Commands {
+    fn answer(&mut self, command: Command<'_>) -> Answer {
+        match &mut self.told {
+            Some(told) => {
+                told.clear();
+                self.manager.apply_telling(command, told)
+            }
+            None => self.manager.apply(command).answer,
+        }
+    }
+}
+
+impl Calls for Commands {
     fn new_root(&mut self) -> NodeId {
-        made(self.apply(Command::Inner { parents: &[] }).answer)
+        made(self.answer(Command::Inner { parents: &[] }))
     }
 
     fn new_file(&mut self, root: NodeId) -> NodeId {
-        made(self.apply(Command::File { parents: &[root] }).answer)
+        made(self.answer(Command::File { parents: &[root] }))
     }
 
     fn new_index(&mut self, root: NodeId, file: NodeId) -> NodeId {
@@ -53,11 +73,14 @@ impl Calls for Manager {
             file,
             bounds: &[BOUND],
         };
-        made(self.apply(index).answer)
+        made(self.answer(index))
     }
 
     fn first_interval(&self, index: NodeId) -> NodeId {
-        self.graph().interval(index, 0).unwrap_or(NodeId::NONE)
+        self.manager
+            .graph()
+            .interval(index, 0)
+            .unwrap_or(NodeId::NONE)
     }
 
     fn new_record(&mut self, txn: TxnId, file: NodeId, _index: NodeId) -> NodeId {
@@ -66,25 +89,25 @@ impl Calls for Manager {
             file,
             keys: &[KEY],
         };
-        made(self.apply(record).answer)
+        made(self.answer(record))
     }
 
     fn start(&mut self) -> TxnId {
-        match self.apply(Command::Begin).answer {
+        match self.answer(Command::Begin) {
             Answer::Begun(txn) => txn,
             _ => TxnId::NONE,
         }
     }
 
     fn ask(&mut self, txn: TxnId, node: NodeId, mode: Mode) -> u64 {
-        match self.apply(Command::Lock { txn, node, mode }).answer {
+        match self.answer(Command::Lock { txn, node, mode }) {
             Answer::Granted(_) => 1,
             _ => 0,
         }
     }
 
     fn finish(&mut self, txn: TxnId) {
-        self.apply(Command::Commit { txn });
+        self.answer(Command::Commit { txn });
     }
 }
 

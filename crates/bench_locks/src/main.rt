@@ -8,10 +8,10 @@ mod calls;
 mod placing;
 mod rounds;
 
-use crate::calls::Calls;
+use crate::calls::{Calls, Commands};
 use crate::rounds::{Way, crowd, made_way, round};
 use gl_catalog::Manager;
-use gl_table::{Detect, Table};
+use gl_table::{Detect, Table, Told};
 use std::time::Instant;
 use std::{env, io};
 
@@ -30,19 +30,20 @@ fn rounds_asked(rt: &HostRuntime) -> io::Result<u64> {
 fn time<C: Calls>(
     rt: &HostRuntime,
     name: &str,
+    about: &str,
     calls: &mut C,
     way: &Way,
     rounds: u64,
 ) -> io::Result<()> {
-    let mut granted = 0;
+    let mut granted = 0u64;
     let start = Instant::now(rt)?;
-    for number in 0..rounds {
-        granted ^= round(calls, way) ^ number;
+    for _ in 0..rounds {
+        granted = round(calls, way).wrapping_add(granted);
     }
     let elapsed = start.elapsed(rt)?.as_nanos();
     if rounds > 0 {
         eprintln!(rt;
-            "{name}: {} ns a round ({granted:x})",
+            "{name}, {about}: {} ns a round, {granted} locks granted",
             elapsed / u128::from(rounds)
         )?;
     }
@@ -50,39 +51,22 @@ fn time<C: Calls>(
 }
 
 /// Prints what one round takes with nobody else about, and beside 100 others.
-fn time_both<C: Calls>(
-    rt: &HostRuntime,
-    alone: &str,
-    beside: &str,
-    calls: &mut C,
-    rounds: u64,
-) -> io::Result<()> {
+fn time_both<C: Calls>(rt: &HostRuntime, name: &str, calls: &mut C, rounds: u64) -> io::Result<()> {
     let way = made_way(calls);
-    time(rt, alone, calls, &way, rounds)?;
+    time(rt, name, "alone", calls, &way, rounds)?;
     crowd(calls);
-    time(rt, beside, calls, &way, rounds)
+    time(rt, name, "beside 100 others", calls, &way, rounds)
 }
 
 fn main(rt: HostRuntime) -> io::Result<()> {
     let rounds = rounds_asked(&rt)?;
-    let Ok(mut table) = Table::new(rt.alloc(), Detect::AtBlock, 128) else {
-        return Ok(());
-    };
-    let Ok(mut manager) = Manager::new(rt.alloc(), Detect::AtBlock, 128) else {
-        return Ok(());
-    };
-    time_both(
-        &rt,
-        "table, alone",
-        "table, beside 100 others",
-        &mut table,
-        rounds,
-    )?;
-    time_both(
-        &rt,
-        "apply, alone",
-        "apply, beside 100 others",
-        &mut manager,
-        rounds,
-    )
+    if let Ok(mut table) = Table::new(rt.alloc(), Detect::AtBlock, 128) {
+        time_both(&rt, "table", &mut table, rounds)?;
+    }
+    for (name, told) in [("apply", None), ("apply, one told list", Some(Told::new()))] {
+        if let Ok(manager) = Manager::new(rt.alloc(), Detect::AtBlock, 128) {
+            time_both(&rt, name, &mut Commands { manager, told }, rounds)?;
+        }
+    }
+    Ok(())
 }

@@ -26,14 +26,14 @@ pub(crate) fn made_way<C: Calls>(calls: &mut C) -> Way {
     Way { above, rec }
 }
 
-/// One round of seven calls. Answers whether an odd number of locks was granted.
+/// One round of seven calls. Answers how many locks were granted.
 pub(crate) fn round<C: Calls>(calls: &mut C, way: &Way) -> u64 {
     let txn = calls.start();
-    let mut granted = 0;
+    let mut granted = 0u64;
     for node in way.above {
-        granted ^= calls.ask(txn, node, Mode::IX);
+        granted = calls.ask(txn, node, Mode::IX).wrapping_add(granted);
     }
-    granted ^= calls.ask(txn, way.rec, Mode::X);
+    granted = calls.ask(txn, way.rec, Mode::X).wrapping_add(granted);
     calls.finish(txn);
     granted
 }
