@@ -1,5 +1,5 @@
 -- The first line of a script chooses its version.
-use Rattle.std.proofs.Common.{◌≡◌, ℕ, true, false, List, Option, None, Some, refl, sym, ap, ◌∙◌, subst}
+use Rattle.std.proofs.Common.{◌≡◌, ℕ, true, false, List, Option, None, Some, is_some, true≢false, refl, sym, ap, ◌∙◌, subst}
 use Rattle.std.specs.Prelude.{codes}
 use Rattle.gl_catalog.specs.Manager.{ManagerView, state_of}
 use Rattle.gl_script.specs.declared.form.Version.TheVariants as version
@@ -23,3 +23,7 @@ unfolding Prints
 goes_on None s s' line text ready other answers = (s', answers, refl)
 goes_on (Some m) s s' line text ready other answers =
     subst (λ b. Opens (state_of m).detect b line text (Going s')) (sym (other m refl)) (s', subst (λ x. Answers x line text s') ready.1 answers, refl)
+
+pub nothing : {X : Type 0} (o : Option X) → is_some o ≡ false → o ≡ None
+nothing None h = refl
+nothing (Some x) h = absurd (true≢false h)

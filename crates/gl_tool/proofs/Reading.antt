@@ -1,9 +1,12 @@
 -- A script on its way through the tool: lines grow byte by byte, are answered, and end.
-use Rattle.std.proofs.Common.{◌≡◌, ◌≢◌, ℕ, zero, suc, Bool, ◌&&◌, ◌==◌, ◌+◌, ◌<◌, ◌≤◌, List, [], ◌∷◌, ◌++◌, Option, Result, Ok, Err, OnOk, length, take, flat_map, refl, sym, ap, ◌∙◌, subst, append_assoc, append-nil, arith, inl, inr, length-take, length-append, take_all, true, false}
+use Rattle.std.proofs.Common.{◌≡◌, ◌≢◌, ℕ, zero, suc, Bool, ◌&&◌, ◌==◌, ◌+◌, ◌<◌, ◌≤◌, List, [], ◌∷◌, ◌++◌, Option, Result, Ok, Err, IsOk, OnOk, length, take, flat_map, refl, sym, ap, ◌∙◌, subst, append_assoc, append-nil, arith, inl, inr, length-take, min, take_all, true, false, true≢false}
 use Rattle.std.specs.Prelude.{codes}
 use Rattle.std.specs.Str.{bytes_eq}
-use Rattle.std.proofs.lemmas.List.{flat_map_more, take-append-le}
-use Rattle.std.proofs.lemmas.List.Elements.{All-push, All-nil}
+use Rattle.std.proofs.Math.Seq.{take-append-add}
+use Rattle.std.proofs.lemmas.List.{flat_map_more, nil_from_length, take_min}
+use Rattle.std.proofs.lemmas.List.Elements.{All-append, All-cons, All-nil, All-push}
+use Rattle.std.proofs.lemmas.Bool.Decides.{Decides-eqb}
+use Rattle.memchr.specs.Find.{Nowhere, Passes, is_byte}
 use Rattle.gl_tool.specs.declared.script.Tool.{Tool}
 use Rattle.gl_tool.specs.declared.script.RunFault.{RunFault}
 use Rattle.gl_tool.specs.declared.script.RunFault.TheVariants.{Read, Write, TooMuch}
@@ -14,7 +17,7 @@ use Rattle.std.specs.Io.KnownBytes.{Appends, Consumes}
 use Rattle.gl_tool.specs.declared.sink.Sink.{Sink}
 use Rattle.gl_tool.specs.Held.{Holds, Hands, Handed}
 use Rattle.gl_tool.proofs.Writing.{Appends-nil}
-use Rattle.gl_tool.specs.SoFar.{Finishes, HasReported, IsNew, IsReady, SoFar, Takes, stage_of}
+use Rattle.gl_tool.specs.SoFar.{Answered, Finishes, HasReported, IsNew, IsReady, SoFar, Takes, stage_of}
 
 pub Splits-none : Splits [] [] []
 Splits-none = record { whole = refl; each = All-nil IsOpen; tail = All-nil (λ b. b ≢ 10) }
@@ -26,11 +29,11 @@ Splits-newline read lines rest s = record {
   tail = All-nil (λ b. b ≢ 10);
 }
 
-pub Splits-byte : (read : List ℕ) (lines : List (List ℕ)) (rest : List ℕ) (b : ℕ) → b ≢ 10 → Splits read lines rest → Splits (read ++ b ∷ []) lines (rest ++ b ∷ [])
-Splits-byte read lines rest b ne s = record {
-  whole = ap (λ l. l ++ b ∷ []) s.whole ∙ append_assoc (flat_map ended lines) rest (b ∷ []);
+pub Splits-open : (read : List ℕ) (lines : List (List ℕ)) (rest bytes : List ℕ) → IsOpen bytes → Splits read lines rest → Splits (read ++ bytes) lines (rest ++ bytes)
+Splits-open read lines rest bytes open_ s = record {
+  whole = ap (λ l. l ++ bytes) s.whole ∙ append_assoc (flat_map ended lines) rest bytes;
   each = s.each;
-  tail = All-push (λ x. x ≢ 10) rest b s.tail ne;
+  tail = All-append (λ b. b ≢ 10) rest bytes s.tail open_;
 }
 
 pub Run-more : (s : Stage) (lines : List (List ℕ)) (text : List ℕ) (mid : Stage) (line more : List ℕ) (t : Stage)
@@ -40,14 +43,16 @@ Run-more s [] text mid line more t r p =
 Run-more s (l ∷ lines) text mid line more t r p =
     (r.0, r.1, r.2 ++ more, r.3, Run-more r.0 lines r.2 mid line more t r.4 p, ap (λ x. x ++ more) r.5 ∙ append_assoc r.1 r.2 more)
 
--- the front of a line has one more byte, or is full
-pub front-byte : (rest : List ℕ) (b n : ℕ) → length (take n rest) < n → take n (rest ++ b ∷ []) ≡ take n rest ++ b ∷ []
-front-byte rest b n short =
-    let le : length rest + 1 ≤ n = omega (arith, length-take n rest) in
-    take_all n (rest ++ b ∷ []) (omega (arith, length-append rest (b ∷ []))) ∙ ap (λ l. l ++ b ∷ []) (sym (take_all n rest (omega arith)))
+-- the front of a line that goes on is seen from its front
+pub front-more : (n : ℕ) (rest bytes : List ℕ) → take n (take n rest ++ bytes) ≡ take n (rest ++ bytes)
+front-more zero rest bytes = refl
+front-more (suc n) [] bytes = refl
+front-more (suc n) (b ∷ rest) bytes = ap (λ l. b ∷ l) (front-more n rest bytes)
 
-pub front-full : (rest : List ℕ) (b n : ℕ) → n ≤ length (take n rest) → take n (rest ++ b ∷ []) ≡ take n rest
-front-full rest b n full = take-append-le n rest (b ∷ []) (omega (arith, length-take n rest))
+-- as many bytes are kept as there is room for
+pub front-kept : (n room : ℕ) (line bytes : List ℕ) → room + length line ≡ n → line ++ take (min room (length bytes)) bytes ≡ take n (line ++ bytes)
+front-kept n room line bytes all =
+    ap (λ l. line ++ l) (take_min room bytes) ∙ sym (take-append-add line bytes room) ∙ ap (λ k. take k (line ++ bytes)) (omega (arith, all))
 
 pub front-short : (line : List ℕ) → length (take 257 line) ≤ 256 → take 257 line ≡ line
 front-short line h = take_all 257 line (omega (arith, length-take 257 line))
@@ -97,23 +102,49 @@ SoFar-newline d first read w w' tool tool' reported tool'' same sink line (lines
       },
     )
 
--- a line has one more byte
-pub SoFar-byte : (d : Detect) (first : Option (List ℕ)) (read : List ℕ) (w : Option (List ℕ)) (tool tool' : Tool) (b : ℕ)
-    → b ≢ 10 → tool'.interpreter ≡ tool.interpreter → tool'.sink ≡ tool.sink
-    → ((rest : List ℕ) → tool.line.items ≡ take 257 rest → tool'.line.items ≡ take 257 (rest ++ b ∷ []))
-    → SoFar d first read w tool → SoFar d first (read ++ b ∷ []) w tool'
-SoFar-byte d first read w tool tool' b ne same sink line (lines, rest, text, so) = (
+-- a line goes on
+pub Takes-open : (w : Option (List ℕ)) (tool tool' : Tool) (bytes : List ℕ) → IsOpen bytes → tool'.interpreter ≡ tool.interpreter → tool'.sink ≡ tool.sink
+    → tool'.line.items ≡ take 257 (tool.line.items ++ bytes) → Takes w tool w tool' bytes
+unfolding Takes
+Takes-open w tool tool' bytes open_ same sink line d first read (lines, rest, text, so) = (
   lines,
-  rest ++ b ∷ [],
+  rest ++ bytes,
   text,
   record {
-    splits = Splits-byte read lines rest b ne so.splits;
+    splits = Splits-open read lines rest bytes open_ so.splits;
     run = subst (λ i. Run (Opening d) lines text (stage_of i)) (sym same) so.run;
     ready = subst IsReady (sym same) so.ready;
-    line = line rest so.line;
+    line = line ∙ ap (λ l. take 257 (l ++ bytes)) so.line ∙ front-more 257 rest bytes;
     handed = subst (λ s. Holds first w s text) (sym sink) so.handed;
   },
 )
+
+-- a line of which nothing was taken yet is answered whole
+pub Takes-line : (w : Option (List ℕ)) (tool : Tool) (w' : Option (List ℕ)) (tool' : Tool) (line : List ℕ)
+    → tool.line.items ≡ [] → tool'.line.items ≡ [] → IsOpen line → Answered w tool.sink tool.interpreter line w' tool'.sink tool'.interpreter
+    → Takes w tool w' tool' (line ++ 10 ∷ [])
+unfolding Takes Answered Hands
+Takes-line w tool w' tool' line none none' open_ answered d first read (lines, rest, text, so) =
+    let done = answered so.ready in
+    let splits = subst (Splits read lines) (nil_from_length rest (omega (arith, length-take 257 rest, ap length (sym so.line ∙ none)))) so.splits in (
+      lines ++ line ∷ [],
+      [],
+      text ++ done.0,
+      record {
+        splits = subst (λ r. Splits r (lines ++ line ∷ []) []) (append_assoc read line (10 ∷ [])) (Splits-newline (read ++ line) lines line (Splits-open read lines [] line open_ splits));
+        run = Run-more (Opening d) lines text (stage_of tool.interpreter) line done.0 (stage_of tool'.interpreter) so.run done.1;
+        ready = done.2;
+        line = none';
+        handed = done.3 first text so.handed;
+      },
+    )
+
+-- before the first newline a line is open
+pub IsOpen-front : (bytes : List ℕ) (n : ℕ) → Nowhere (Passes (is_byte 10) bytes) 0 n → IsOpen (take n bytes)
+IsOpen-front bytes zero h = All-nil (λ b. b ≢ 10)
+IsOpen-front [] (suc n) h = All-nil (λ b. b ≢ 10)
+IsOpen-front (b ∷ bytes) (suc n) h =
+    All-cons (λ x. x ≢ 10) b (take n bytes) (λ e. h 0 (omega arith) (omega arith) ((Decides-eqb b 10).1 e)) (IsOpen-front bytes n (λ k low high. h (suc k) (omega arith) (omega (arith, high))))
 
 pub Takes-none : (w : Option (List ℕ)) (tool : Tool) → Takes w tool w tool []
 unfolding Takes
@@ -245,6 +276,10 @@ pub Ran-too_much : (d : Detect) (r r' first w : Option (List ℕ)) (tool : Tool)
     → tool.sink.broken ≡ false → tool.sink.held.items ≡ [] → length read ≡ 16777217 → Consumes r r' read → SoFar d first read w tool → Ran d r r' first w (Err TooMuch)
 Ran-too_much d r r' first w tool read whole empty long consumes so =
     let done = SoFar-whole d first read w tool whole empty so in (read, done.0, consumes, done.1, (long, done.2))
+
+pub ok-holds : {T E P : Type 0} (r : Result T E) → IsOk r → OnOk r P → P
+ok-holds (Ok x) is p = p
+ok-holds (Err e) is p = absurd (true≢false (sym is))
 
 pub OnOk-of : {T E P : Type 0} (r : Result T E) → P → OnOk r P
 OnOk-of (Ok x) p = p

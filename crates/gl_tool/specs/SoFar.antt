@@ -3,7 +3,10 @@ use Rattle.std.specs.Prelude.{◌≡◌, ℕ, List, [], ◌++◌, false, take, O
 use Rattle.std.specs.Io.KnownBytes.{Appends}
 use Rattle.gl_table.specs.declared.detect.Detect.{Detect}
 use Rattle.gl_table.specs.State.{empty_state}
+use Rattle.gl_table.specs.Tellings.{Told}
 use Rattle.gl_catalog.specs.Manager.{ManagerView, state_of}
+use Rattle.gl_catalog.specs.declared.command.Answer.{Answer}
+use Rattle.gl_script.specs.Grammar.{Command}
 use Rattle.gl_script.specs.declared.form.Version.TheVariants as version
 use Rattle.gl_tool.specs.declared.interpreter.Interpreter.{Interpreter}
 use Rattle.gl_tool.specs.declared.script.Tool.{Tool}
@@ -12,7 +15,8 @@ use Rattle.gl_tool.specs.declared.script.RunFault.TheVariants.{Write}
 use Rattle.gl_tool.specs.declared.sink.Sink.{Sink}
 use Rattle.gl_tool.specs.Report.{Answers, Opening, Going, Prints, Report, Run, Splits, Stage}
 use Rattle.gl_tool.specs.Held.{Hands, Holds}
-use Rattle.gl_tool.specs.Script.{Script, begun}
+use Rattle.gl_tool.specs.Printed.{printed}
+use Rattle.gl_tool.specs.Script.{Does, Script, begun}
 use Rattle.gl_tool.specs.Views.{script_of}
 
 -- a script has not begun where the manager of version 2 is still at hand
@@ -36,6 +40,12 @@ IsReady i = IsReadyWith i.two (script_of i.desk)
 pub record IsFresh (detect : Detect) (i : Interpreter) : Type 0 where
   pub stage : stage_of i ≡ Opening detect
   pub ready : IsReady i
+
+-- a command was carried out, and what is printed for it was handed on
+unfoldable pub Obeys : Option (List ℕ) → Sink → Interpreter → Command → Option (List ℕ) → Sink → Interpreter → Type 0
+Obeys w sink i command w' sink' i' =
+    (answer : Answer) × (told : Told) × Does (script_of i.desk) command answer told (script_of i'.desk) × (i'.two ≡ i.two)
+    × Hands w sink w' sink' (printed (script_of i'.desk) command answer told)
 
 -- a line of a script whose version is known was answered; its first 257 bytes were given
 unfoldable pub CarriesOut : Option (List ℕ) → Sink → Interpreter → List ℕ → Option (List ℕ) → Sink → Interpreter → Type 0

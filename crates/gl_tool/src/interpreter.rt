@@ -1,14 +1,15 @@
 //! What answers the lines of a script, one after the other.
 
 ghost use Rattle.std.specs.Prelude.{IfSome};
-ghost use Rattle.gl_tool.specs.SoFar.{Answered, CarriesOut, IsFresh};
+ghost use Rattle.gl_script.specs.Views.{command_of};
+ghost use Rattle.gl_tool.specs.SoFar.{Answered, CarriesOut, IsFresh, Obeys};
 
 use crate::answers::{put_answer, put_notices};
 use crate::desk::{Desk, Ids};
 use crate::sink::{Sink, put};
 use arrayvec::ArrayVec;
 use gl_catalog::Manager;
-use gl_script::{Lists, parse};
+use gl_script::{Form, Lists, parse};
 use gl_table::{Detect, Told};
 use std::alloc::Global;
 use std::io::Write;
@@ -53,6 +54,17 @@ impl Interpreter {
     pub(crate) fn answer<W: Write>(&mut self, sink: &mut Sink, writer: &mut W, line: &[u8])
         ensures { Answered (W.contents writer.old) sink.old self.old line.now (W.contents writer.new) sink.new self.new }
     {
+        if self.two.is_none() {
+            self.carry_out(sink, writer, line);
+        } else {
+            self.answer_first(sink, writer, line);
+        }
+    }
+
+    /// Answers the first line, which chooses the version.
+    fn answer_first<W: Write>(&mut self, sink: &mut Sink, writer: &mut W, line: &[u8])
+        ensures { Answered (W.contents writer.old) sink.old self.old line.now (W.contents writer.new) sink.new self.new }
+    {
         if let Some(manager) = self.two.take() {
             if line == VERSION_TWO {
                 self.desk.begin_version_two(manager);
@@ -77,14 +89,20 @@ impl Interpreter {
         self.lists.nodes.clear(); // The parents of an earlier line are not looked up again.
         match parse(self.desk.version, line, &mut self.lists) {
             None => put(sink, writer, BAD_LINE),
-            Some(form) => {
-                self.told.clear();
-                let answer = self
-                    .desk
-                    .serve(&form, &self.lists, &mut self.ids, &mut self.told);
-                put_answer(sink, writer, &self.desk, &form, &self.lists, answer);
-                put_notices(sink, writer, &self.desk, self.told.as_slice());
-            }
+            Some(form) => self.obey(sink, writer, &form),
         }
+    }
+
+    /// Carries out the command of a line. A bad line does not pay for what this takes of the stack.
+    #[inline(never)]
+    fn obey<W: Write>(&mut self, sink: &mut Sink, writer: &mut W, form: &Form)
+        ensures { Obeys (W.contents writer.old) sink.old self.old (command_of form.now self.old.lists) (W.contents writer.new) sink.new self.new }
+    {
+        self.told.clear();
+        let answer = self
+            .desk
+            .serve(form, &self.lists, &mut self.ids, &mut self.told);
+        put_answer(sink, writer, &self.desk, form, &self.lists, answer);
+        put_notices(sink, writer, &self.desk, self.told.as_slice());
     }
 }

@@ -1,14 +1,15 @@
 //! A script, from a reader to a writer.
 
-ghost use Rattle.std.specs.Prelude.{◌≡◌, ◌<◌, [], ◌∷◌, IfSome, OnOk, length, vec_len};
+ghost use Rattle.std.specs.Prelude.{◌≡◌, ℕ, ◌<◌, List, [], ◌∷◌, ◌++◌, IfSome, OnOk, Option, length, vec_len};
 ghost use Rattle.std.specs.Io.KnownBytes.{IsAtEnd};
-ghost use Rattle.gl_tool.specs.Report.{Ran};
+ghost use Rattle.gl_tool.specs.Report.{IsOpen, Ran};
 ghost use Rattle.gl_tool.specs.SoFar.{Finishes, HasReported, IsNew, Takes, detect_of};
 
 use crate::interpreter::Interpreter;
 use crate::sink::{Sink, flush, new_sink};
 use arrayvec::ArrayVec;
 use gl_table::Detect;
+use memchr::memchr;
 use std::alloc::Global;
 use std::io::{Read, Write};
 use thiserror::Error as FaultText;
@@ -130,21 +131,35 @@ fn take_block<W: Write>(tool: &mut Tool, writer: &mut W, block: &[u8])
     ensures takes { Takes (W.contents writer.old) tool.old (W.contents writer.new) tool.new block.now }
     ensures empty { tool.new.sink.held.items ≡ [] }
 {
-    for byte in block {
-        take_byte(tool, writer, *byte);
+    let mut at = 0;
+    while let Some(count) = memchr(b'\n', &block[at..]) {
+        take_line(tool, writer, &block[at..at + count]);
+        at += count + 1;
     }
+    keep(tool, &block[at..]);
     flush(&mut tool.sink, writer);
 }
 
-/// Takes the next byte of the script.
-fn take_byte<W: Write>(tool: &mut Tool, writer: &mut W, byte: u8)
-    ensures { Takes (W.contents writer.old) tool.old (W.contents writer.new) tool.new (byte ∷ []) }
+/// Takes bytes that end no line.
+fn keep(tool: &mut Tool, bytes: &[u8])
+    requires { IsOpen bytes.now }
+    ensures { (written : Option (List ℕ)) → Takes written tool.old written tool.new bytes.now }
 {
-    if byte == b'\n' {
+    let count = tool.line.remaining_capacity().min(bytes.len());
+    let _ = tool.line.try_extend_from_slice(&bytes[..count]);
+}
+
+/// Takes the last bytes of a line, and its newline. A line that is here whole is not copied.
+fn take_line<W: Write>(tool: &mut Tool, writer: &mut W, bytes: &[u8])
+    requires { IsOpen bytes.now }
+    ensures { Takes (W.contents writer.old) tool.old (W.contents writer.new) tool.new (bytes.now ++ 10 ∷ []) }
+{
+    if tool.line.is_empty() {
+        tool.interpreter.answer(&mut tool.sink, writer, bytes);
+    } else {
+        keep(tool, bytes);
         answer_line(tool, writer);
         tool.line.clear();
-    } else if !tool.line.is_full() {
-        tool.line.push(byte);
     }
 }
 

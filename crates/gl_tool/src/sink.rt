@@ -28,6 +28,16 @@ pub(crate) fn new_sink() -> Sink
 pub(crate) fn put<W: Write>(sink: &mut Sink, writer: &mut W, text: &[u8])
     ensures { Hands (W.contents writer.old) sink.old (W.contents writer.new) sink.new text.now }
 {
+    if sink.held.try_extend_from_slice(text).is_err() {
+        put_by_bytes(sink, writer, text);
+    }
+}
+
+/// Hands on text for which there is no room beside what is held.
+#[cold]
+fn put_by_bytes<W: Write>(sink: &mut Sink, writer: &mut W, text: &[u8])
+    ensures { Hands (W.contents writer.old) sink.old (W.contents writer.new) sink.new text.now }
+{
     for byte in text {
         if sink.held.is_full() {
             flush(sink, writer);

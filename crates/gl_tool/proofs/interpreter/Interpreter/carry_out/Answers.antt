@@ -3,10 +3,10 @@ use Rattle.std.specs.Prelude.{slice_index}
 use Rattle.gl_script.specs.Views.{command_of}
 use Rattle.gl_tool.specs.Printed.{printed}
 use Rattle.gl_tool.specs.Report.{IsSilent, bad_line}
-use Rattle.gl_tool.specs.SoFar.{CarriesOut}
+use Rattle.gl_tool.specs.SoFar.{CarriesOut, Obeys}
 use Rattle.gl_tool.specs.Views.{script_of}
 use Rattle.gl_script.proofs.Splitting.{other_test, same_test}
-use Rattle.gl_tool.proofs.Writing.{Hands-none, Hands-then}
+use Rattle.gl_tool.proofs.Writing.{Hands-none}
 use Rattle.gl_tool.proofs.interpreter.Interpreter.carry_out.Goals.{then-is_empty-via-then-is_empty, then-is_empty-via-else-is_empty+then-line-eq35}
 use Rattle.gl_tool.proofs.interpreter.Interpreter.carry_out.Goals as goal
 
@@ -36,26 +36,23 @@ returns-in-None g c =
     (bad_line, inr (inr (inl (omega (arith, c.if-line-gt-LONGEST.false), speaks, rw c.in-None.is at c.parse.ensures.none, refl, refl))), refl, c.put-in-None.ensures)
 
 pub returns-in-Some : goal.returns-in-Some
-unfolding CarriesOut
+unfolding CarriesOut Obeys
 returns-in-Some g c =
     let speaks = not_silent c.args.line.now (other_test _ _ _ c.is_empty.ensures c.if-is_empty.false) c.if-line-eq35.false in
-    let asked = command_of c.in-Some.form c.parse.new.lists in
-    let answer = c.serve-answer.result in
-    let told = c.serve-answer.new.told.items in
-    let notices = rw c.as_slice.ensures.value at c.put_notices.ensures in (
-      printed (script_of c.serve-answer.new.self) asked answer told,
+    let done = c.obey.ensures in (
+      printed (script_of c.obey.new.self.desk) (command_of c.in-Some.form c.parse.new.lists) done.0 done.1,
       inr (inr (inr (
         omega (arith, c.if-line-gt-LONGEST.false),
         speaks,
         record {
-          command = asked;
+          command = command_of c.in-Some.form c.parse.new.lists;
           says = rw c.in-Some.is at c.parse.ensures.says;
-          answer = answer;
-          told = told;
-          does = c.serve-answer.ensures.does;
+          answer = done.0;
+          told = done.1;
+          does = done.2;
           text_is = refl;
         },
       ))),
-      refl,
-      Hands-then _ _ _ _ _ _ _ _ c.put_answer.ensures notices,
+      done.3,
+      done.4,
     )
