@@ -10,7 +10,10 @@
 # - locks: `begin`, `lock`, `try`, `commit` of one transaction after the other. Aim: 3 million a second.
 # - bad: lines that are no commands. Aim: 20 million a second.
 # - 60 names, 60000 names: a million queries for that many declared names, the time for declaring them
-#   taken off. Aim: no more a line for many names than for few.
+#   taken off. Aim: no more a line for many names than for few. Both take the same number of
+#   instructions; the time differs as far as names and nodes no longer fit into the caches.
+#
+# On one core of an Intel Xeon at 2.5 GHz, beside other work: 10.5, 3.9, 17, 7.5 and 2.4 million.
 set -eu
 cd "$(dirname "$0")/.."
 program=${1:-./gltool}
