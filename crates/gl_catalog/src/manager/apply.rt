@@ -22,12 +22,9 @@ impl Manager {
         ensures caller { KeepsCaller command.entry (state_of self.old) (state_of self.new) }
         ensures same { self.new.accepted ≡ self.old.accepted → self.new ≡ self.old }
     {
-        let mut reply = Reply {
-            answer: Answer::Done,
-            told: Told::new(),
-        };
-        reply.answer = self.apply_telling(command, &mut reply.told);
-        reply
+        let mut told = Told::new();
+        let answer = self.apply_telling(command, &mut told);
+        Reply { answer, told }
     }
 
     /// As `apply`, with the notices put into an empty list, which the caller may use again: a reply is
