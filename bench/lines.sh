@@ -13,7 +13,7 @@
 #   taken off. Aim: no more a line for many names than for few. Both take the same number of
 #   instructions; the time differs as far as names and nodes no longer fit into the caches.
 #
-# On one core of an Intel Xeon at 2.5 GHz, beside other work: 10.5, 3.9, 17, 7.5 and 2.4 million.
+# On one core of an Intel Xeon at 2.5 GHz, beside other work: 10.4, 4.2, 17.7, 7.8 and 2.4 million.
 set -eu
 cd "$(dirname "$0")/.."
 program=${1:-./gltool}
