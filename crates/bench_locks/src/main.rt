@@ -38,7 +38,7 @@ fn time<C: Calls>(
     let mut granted = 0u64;
     let start = Instant::now(rt)?;
     for _ in 0..rounds {
-        granted = round(calls, way).wrapping_add(granted);
+        granted = granted.wrapping_add(round(calls, way));
     }
     let elapsed = start.elapsed(rt)?.as_nanos();
     if rounds > 0 {

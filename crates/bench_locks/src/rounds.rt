@@ -31,9 +31,9 @@ pub(crate) fn round<C: Calls>(calls: &mut C, way: &Way) -> u64 {
     let txn = calls.start();
     let mut granted = 0u64;
     for node in way.above {
-        granted = calls.ask(txn, node, Mode::IX).wrapping_add(granted);
+        granted = granted.wrapping_add(calls.ask(txn, node, Mode::IX));
     }
-    granted = calls.ask(txn, way.rec, Mode::X).wrapping_add(granted);
+    granted = granted.wrapping_add(calls.ask(txn, way.rec, Mode::X));
     calls.finish(txn);
     granted
 }

@@ -1,5 +1,5 @@
--- A script on its way through the tool: lines grow byte by byte, are answered, and end.
-use Rattle.std.proofs.Common.{◌≡◌, ◌≢◌, ℕ, zero, suc, Bool, ◌&&◌, ◌==◌, ◌+◌, ◌<◌, ◌≤◌, List, [], ◌∷◌, ◌++◌, Option, Result, Ok, Err, IsOk, OnOk, length, take, flat_map, refl, sym, ap, ◌∙◌, subst, append_assoc, append-nil, arith, inl, inr, length-take, min, take_all, true, false, true≢false}
+-- A script on its way through the tool: lines grow, are answered, and end.
+use Rattle.std.proofs.Common.{◌≡◌, ◌≢◌, ℕ, zero, suc, Bool, ◌&&◌, ◌==◌, ◌+◌, ◌<◌, ◌≤◌, List, [], ◌∷◌, ◌++◌, Option, Result, Ok, Err, OnOk, length, take, flat_map, refl, sym, ap, ◌∙◌, subst, append_assoc, append-nil, arith, inl, inr, length-take, min, take_all, true, false}
 use Rattle.std.specs.Prelude.{codes}
 use Rattle.std.specs.Str.{bytes_eq}
 use Rattle.std.proofs.Math.Seq.{take-append-add}
@@ -276,10 +276,6 @@ pub Ran-too_much : (d : Detect) (r r' first w : Option (List ℕ)) (tool : Tool)
     → tool.sink.broken ≡ false → tool.sink.held.items ≡ [] → length read ≡ 16777217 → Consumes r r' read → SoFar d first read w tool → Ran d r r' first w (Err TooMuch)
 Ran-too_much d r r' first w tool read whole empty long consumes so =
     let done = SoFar-whole d first read w tool whole empty so in (read, done.0, consumes, done.1, (long, done.2))
-
-pub ok-holds : {T E P : Type 0} (r : Result T E) → IsOk r → OnOk r P → P
-ok-holds (Ok x) is p = p
-ok-holds (Err e) is p = absurd (true≢false (sym is))
 
 pub OnOk-of : {T E P : Type 0} (r : Result T E) → P → OnOk r P
 OnOk-of (Ok x) p = p

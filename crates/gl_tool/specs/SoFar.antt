@@ -47,11 +47,11 @@ Obeys w sink i command w' sink' i' =
     (answer : Answer) × (told : Told) × Does (script_of i.desk) command answer told (script_of i'.desk) × (i'.two ≡ i.two)
     × Hands w sink w' sink' (printed (script_of i'.desk) command answer told)
 
--- a line of a script whose version is known was answered; its first 257 bytes were given
+-- a line of a script whose version is known was answered, as it was given
 unfoldable pub CarriesOut : Option (List ℕ) → Sink → Interpreter → List ℕ → Option (List ℕ) → Sink → Interpreter → Type 0
 CarriesOut w sink i line w' sink' i' = (text : List ℕ) × Answers (script_of i.desk) line text (script_of i'.desk) × (i'.two ≡ i.two) × Hands w sink w' sink' text
 
--- a line was answered; its first 257 bytes were given
+-- a line was answered, as it was given
 unfoldable pub Answered : Option (List ℕ) → Sink → Interpreter → List ℕ → Option (List ℕ) → Sink → Interpreter → Type 0
 Answered w sink i line w' sink' i' = IsReady i → (text : List ℕ) × Prints (stage_of i) line text (stage_of i') × IsReady i' × Hands w sink w' sink' text
 
