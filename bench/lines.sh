@@ -9,9 +9,10 @@
 # - begin: `begin` of a name that is in use, refused by the names alone. Aim: 4 million a second.
 # - locks: `begin`, `lock`, `try`, `commit` of one transaction after the other. Aim: 3 million a second.
 # - bad: lines that are no commands. Aim: 20 million a second.
-# - 60 names, 60000 names: a million queries for that many declared names, the time for declaring them
-#   taken off. Aim: no more a line for many names than for few. Both take the same number of
-#   instructions; the time differs as far as names and nodes no longer fit into the caches.
+# - 60 of 60, 60 of 60000, 60000 of 60000: a million queries for so many of so many declared names, the
+#   time for declaring them taken off. Aim: a line costs no more where many names are declared than where
+#   few are. All three take the same number of instructions a line; what the last takes longer is the
+#   time until names and nodes come, which no longer fit into the caches.
 #
 # On one core of an Intel Xeon at 2.5 GHz, beside other work: 10.4, 4.2, 17.7, 7.8 and 2.4 million.
 set -eu
@@ -21,9 +22,9 @@ input=$(mktemp)
 trap 'rm -f "$input"' EXIT
 "$program" <examples/first.script >/dev/null
 
-# seconds KIND NAMES: the best of three runs; the script is left in $input.
+# seconds KIND NAMES ASKED: the best of three runs; the script is left in $input.
 seconds() {
-  awk -v kind="$1" -v names="$2" -f bench/script.awk >"$input"
+  awk -v kind="$1" -v names="$2" -v asked="$3" -f bench/script.awk >"$input"
   local TIMEFORMAT='%U %S'
   for _ in 1 2 3; do
     { time "$program" <"$input" >/dev/null; } 2>&1
@@ -37,11 +38,14 @@ report() {
 }
 
 for kind in begin locks bad; do
-  took=$(seconds $kind 0)
+  took=$(seconds $kind 0 0)
   report $kind "$(wc -l <"$input")" "$took"
 done
 for names in 60 60000; do
-  before=$(seconds none $names)
-  took=$(seconds names $names)
-  report "$names names" 1000000 "$(awk -v a="$took" -v b="$before" 'BEGIN { print a - b }')"
+  before=$(seconds none $names 0)
+  for asked in 60 60000; do
+    [ $asked -le $names ] || continue
+    took=$(seconds names $names $asked)
+    report "$asked of $names" 1000000 "$(awk -v a="$took" -v b="$before" 'BEGIN { print a - b }')"
+  done
 done

@@ -11,7 +11,7 @@
 # transactions of which 50 hold a lock on another root each and 50 wait for it. Behind it stands how
 # many locks were granted: five a round.
 #
-# On one core of an Intel Xeon at 2.5 GHz, the best of 60: 2.55 microseconds by the table's own calls, 3.1
-# through `apply`, and 1.15 with one told list. What the first two take beyond the third goes into told
-# lists: each is some six kilobytes that are cleared and copied.
+# On one core of an Intel Xeon at 2.5 GHz, the best of 25: 3.2 microseconds by the table's own calls, 3.6
+# through `apply`, and 1.7 with one told list. What the first two take beyond the third goes into told
+# lists, six and seven a round: each is some six kilobytes that are cleared, filled and copied.
 cd "$(dirname "$0")/../crates/bench_locks" && rt run -- "${1:-1000000}" 2>&1 | grep ' ns '

@@ -1,12 +1,13 @@
 # Writes a script of 16 MiB for bench/lines.sh:
 #
-#     awk -v kind=KIND -v names=N -f bench/script.awk
+#     awk -v kind=KIND -v names=N -v asked=M -f bench/script.awk
 #
 # - begin: the same `begin` over and over; all but the first are refused, the name being in use.
 # - locks: rounds of `lock`, `try` and `commit` behind a `begin`, as a transaction that writes one file.
 # - bad: lines that are no commands, each for another reason.
 # - none: N nodes are declared, and no more.
-# - names: N nodes are declared, and then a million queries ask for them in an order that hops about.
+# - names: N nodes are declared, and then a million queries ask for M of them, spread over all, in an
+#   order that hops about.
 
 function say(line) {
   print line
@@ -40,8 +41,8 @@ BEGIN {
   if (kind == "names") {
     declare(names)
     for (i = 0; i < 1000000; i++) {
-      at = (at + 25741) % names
-      printf "group n%05d\n", at
+      at = (at + 25741) % asked
+      printf "group n%05d\n", at * int(names / asked)
     }
   }
 }

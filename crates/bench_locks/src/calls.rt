@@ -38,33 +38,55 @@ fn made(answer: Answer) -> NodeId {
     }
 }
 
-/// Commands through the manager's one entry.
-#[derive(Drop)]
-pub(crate) struct Commands {
-    pub(crate) manager: Manager,
-    /// The told list, where one is used for all commands; else each makes its own.
-    pub(crate) told: Option<Told>,
+/// Who answers commands.
+pub(crate) trait Server {
+    fn serve(&mut self, command: Command<'_>) -> Answer;
+
+    fn manager(&self) -> &Manager;
 }
 
-impl Commands {
-    fn answer(&mut self, command: Command<'_>) -> Answer {
-        match &mut self.told {
-            Some(told) => {
-                told.clear();
-                self.manager.apply_telling(command, told)
-            }
-            None => self.manager.apply(command).answer,
-        }
+/// A reply for each command, of which the answer is looked at.
+impl Server for Manager {
+    fn serve(&mut self, command: Command<'_>) -> Answer {
+        self.apply(command).answer
+    }
+
+    fn manager(&self) -> &Manager {
+        self
     }
 }
 
-impl Calls for Commands {
+/// A manager, and one told list for all commands.
+#[derive(Drop)]
+pub(crate) struct OneList {
+    pub(crate) manager: Manager,
+    pub(crate) told: Told,
+}
+
+impl Server for OneList {
+    fn serve(&mut self, command: Command<'_>) -> Answer {
+        self.told.clear();
+        self.manager.apply_telling(command, &mut self.told)
+    }
+
+    fn manager(&self) -> &Manager {
+        &self.manager
+    }
+}
+
+/// Commands, through who answers them.
+#[derive(Drop)]
+pub(crate) struct Commands<S> {
+    pub(crate) server: S,
+}
+
+impl<S: Server> Calls for Commands<S> {
     fn new_root(&mut self) -> NodeId {
-        made(self.answer(Command::Inner { parents: &[] }))
+        made(self.server.serve(Command::Inner { parents: &[] }))
     }
 
     fn new_file(&mut self, root: NodeId) -> NodeId {
-        made(self.answer(Command::File { parents: &[root] }))
+        made(self.server.serve(Command::File { parents: &[root] }))
     }
 
     fn new_index(&mut self, root: NodeId, file: NodeId) -> NodeId {
@@ -73,11 +95,12 @@ impl Calls for Commands {
             file,
             bounds: &[BOUND],
         };
-        made(self.answer(index))
+        made(self.server.serve(index))
     }
 
     fn first_interval(&self, index: NodeId) -> NodeId {
-        self.manager
+        self.server
+            .manager()
             .graph()
             .interval(index, 0)
             .unwrap_or(NodeId::NONE)
@@ -89,25 +112,25 @@ impl Calls for Commands {
             file,
             keys: &[KEY],
         };
-        made(self.answer(record))
+        made(self.server.serve(record))
     }
 
     fn start(&mut self) -> TxnId {
-        match self.answer(Command::Begin) {
+        match self.server.serve(Command::Begin) {
             Answer::Begun(txn) => txn,
             _ => TxnId::NONE,
         }
     }
 
     fn ask(&mut self, txn: TxnId, node: NodeId, mode: Mode) -> u64 {
-        match self.answer(Command::Lock { txn, node, mode }) {
+        match self.server.serve(Command::Lock { txn, node, mode }) {
             Answer::Granted(_) => 1,
             _ => 0,
         }
     }
 
     fn finish(&mut self, txn: TxnId) {
-        self.answer(Command::Commit { txn });
+        self.server.serve(Command::Commit { txn });
     }
 }
 

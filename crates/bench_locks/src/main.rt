@@ -8,7 +8,7 @@ mod calls;
 mod placing;
 mod rounds;
 
-use crate::calls::{Calls, Commands};
+use crate::calls::{Calls, Commands, OneList};
 use crate::rounds::{Way, crowd, made_way, round};
 use gl_catalog::Manager;
 use gl_table::{Detect, Table, Told};
@@ -63,10 +63,18 @@ fn main(rt: HostRuntime) -> io::Result<()> {
     if let Ok(mut table) = Table::new(rt.alloc(), Detect::AtBlock, 128) {
         time_both(&rt, "table", &mut table, rounds)?;
     }
-    for (name, told) in [("apply", None), ("apply, one told list", Some(Told::new()))] {
-        if let Ok(manager) = Manager::new(rt.alloc(), Detect::AtBlock, 128) {
-            time_both(&rt, name, &mut Commands { manager, told }, rounds)?;
-        }
+    if let Ok(server) = Manager::new(rt.alloc(), Detect::AtBlock, 128) {
+        time_both(&rt, "apply", &mut Commands { server }, rounds)?;
+    }
+    if let Ok(manager) = Manager::new(rt.alloc(), Detect::AtBlock, 128) {
+        let told = Told::new();
+        let server = OneList { manager, told };
+        time_both(
+            &rt,
+            "apply, one told list",
+            &mut Commands { server },
+            rounds,
+        )?;
     }
     Ok(())
 }

@@ -7,6 +7,7 @@ ghost use Rattle.gl_script.specs.Views.{command_of};
 ghost use Rattle.gl_script.specs.Words.{word};
 
 use crate::fields::Fields;
+use crate::listing::MOST_LISTED;
 use crate::reads::{Name, Used};
 use crate::shapes::{
     index_parts, insert_parts, name_parents, name_some_parents, only_name, only_node, rekey_parts,
@@ -126,8 +127,8 @@ pub enum Form {
 /// line of 256 bytes has at most 257 fields.
 #[derive(Drop)]
 pub struct Lists {
-    pub nodes: ArrayVec<Used, 257>,
-    pub numbers: ArrayVec<u64, 257>,
+    pub nodes: ArrayVec<Used, MOST_LISTED>,
+    pub numbers: ArrayVec<u64, MOST_LISTED>,
 }
 
 impl Lists {
@@ -167,33 +168,35 @@ fn read_command(
     ensures none { IfNone result ((c : Command) → SaysFields version (word verb ∷ left fields.old) c → ⊥) }
 {
     match verb {
-        Verb::Inner => name_parents(fields, &mut lists.nodes).map(|name| Form::Inner { name }),
-        Verb::File => name_some_parents(fields, &mut lists.nodes).map(|name| Form::File { name }),
-        Verb::Index => index_parts(fields, lists).map(|(name, file)| Form::Index { name, file }),
-        Verb::Begin => only_name(fields).map(|txn| Form::Begin { txn }),
-        Verb::Lock => txn_mode_node(fields).map(|(txn, mode, node)| Form::Lock { txn, mode, node }),
-        Verb::Try => txn_mode_node(fields).map(|(txn, mode, node)| Form::Try { txn, mode, node }),
-        Verb::Unlock => txn_node(fields).map(|(txn, node)| Form::Unlock { txn, node }),
-        Verb::Cancel => only_name(fields).map(|txn| Form::Cancel { txn }),
-        Verb::Commit => only_name(fields).map(|txn| Form::Commit { txn }),
-        Verb::Abort => only_name(fields).map(|txn| Form::Abort { txn }),
-        Verb::Settle => only_name(fields).map(|txn| Form::Settle { txn }),
-        Verb::Insert => {
-            let (txn, name, file) = insert_parts(fields, &mut lists.numbers)?;
-            Some(Form::Insert { txn, name, file })
-        }
-        Verb::Delete => txn_record(fields).map(|(txn, rec)| Form::Delete { txn, rec }),
-        Verb::Rekey => rekey_parts(fields).map(|(txn, rec, index, key)| Form::Rekey {
-            txn,
-            rec,
-            index,
-            key,
+        Verb::Inner => name_parents(fields, &mut lists.nodes, |name| Form::Inner { name }),
+        Verb::File => name_some_parents(fields, &mut lists.nodes, |name| Form::File { name }),
+        Verb::Index => index_parts(fields, lists, |name, file| Form::Index { name, file }),
+        Verb::Begin => only_name(fields, |txn| Form::Begin { txn }),
+        Verb::Lock => txn_mode_node(fields, |txn, mode, node| Form::Lock { txn, mode, node }),
+        Verb::Try => txn_mode_node(fields, |txn, mode, node| Form::Try { txn, mode, node }),
+        Verb::Unlock => txn_node(fields, |txn, node| Form::Unlock { txn, node }),
+        Verb::Cancel => only_name(fields, |txn| Form::Cancel { txn }),
+        Verb::Commit => only_name(fields, |txn| Form::Commit { txn }),
+        Verb::Abort => only_name(fields, |txn| Form::Abort { txn }),
+        Verb::Settle => only_name(fields, |txn| Form::Settle { txn }),
+        Verb::Insert => insert_parts(fields, &mut lists.numbers, |txn, name, file| {
+            Form::Insert { txn, name, file }
         }),
-        Verb::Escalate => txn_node(fields).map(|(txn, node)| Form::Escalate { txn, node }),
+        Verb::Delete => txn_record(fields, |txn, rec| Form::Delete { txn, rec }),
+        Verb::Rekey => rekey_parts(
+            fields,
+            |txn, rec, index, key| Form::Rekey {
+                txn,
+                rec,
+                index,
+                key,
+            },
+        ),
+        Verb::Escalate => txn_node(fields, |txn, node| Form::Escalate { txn, node }),
         Verb::Move => read_move(version, fields, lists),
-        Verb::Group => only_node(fields).map(|node| Form::Group { node }),
-        Verb::Held => txn_node(fields).map(|(txn, node)| Form::Held { txn, node }),
-        Verb::Effective => txn_node(fields).map(|(txn, node)| Form::Effective { txn, node }),
+        Verb::Group => only_node(fields, |node| Form::Group { node }),
+        Verb::Held => txn_node(fields, |txn, node| Form::Held { txn, node }),
+        Verb::Effective => txn_node(fields, |txn, node| Form::Effective { txn, node }),
     }
 }
 
@@ -206,8 +209,11 @@ fn read_move(version: Version, fields: &mut Fields, lists: &mut Lists) -> Option
     match version {
         Version::One => None,
         Version::Two => {
-            let (txn, node) = txn_node_parents(fields, &mut lists.nodes)?;
-            Some(Form::Move { txn, node })
+            txn_node_parents(
+                fields,
+                &mut lists.nodes,
+                |txn, node| Form::Move { txn, node },
+            )
         }
     }
 }

@@ -69,14 +69,14 @@ pub(crate) fn read_parents_on(
 fn is_colon(text: &[u8]) -> bool
     ensures { IsTrue result ↔ (text.now ≡ codes ":") }
 {
-    text == b":".as_slice()
+    matches!(text, b":")
 }
 
 /// Whether the bytes are the word `on`, which is no node.
 fn is_on(text: &[u8]) -> bool
     ensures { IsTrue result ↔ (text.now ≡ codes "on") }
 {
-    text == b"on".as_slice()
+    matches!(text, b"on")
 }
 
 /// All fields that are left, each of them a node.

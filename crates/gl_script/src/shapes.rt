@@ -1,7 +1,7 @@
 //! What follows a line's first word.
 //!
-//! Each of these calls reads all fields that are left, and answers `None` where one is missing, one
-//! is too many, or one is not what stands in its place.
+//! Each of the public calls reads all fields that are left, and answers the form that is made of them;
+//! `None` where one is missing, one is too many, or one is not what stands in its place.
 
 ghost use Rattle.std.specs.Prelude.{◌≡◌, ◌≢◌, ℕ, ◌≤◌, [], ◌∷◌, ◌++◌, List, All, IfSome, IfNone, codes, decimal, length, map};
 ghost use Rattle.gl_modes.specs.declared.mode.Mode.{Mode};
@@ -11,14 +11,178 @@ ghost use Rattle.gl_script.specs.Left.{left};
 ghost use Rattle.gl_script.specs.Views.{node_of, nodes_of};
 
 use crate::fields::Fields;
-use crate::form::Lists;
+use crate::form::{Form, Lists};
 use crate::listing::{MOST_LISTED, read_numbers, read_parents, read_parents_on};
 use crate::reads::{Name, Used, next_name, next_node, read_number};
 use arrayvec::ArrayVec;
 use gl_modes::Mode;
 
 /// A name.
-pub(crate) fn only_name(fields: &mut Fields) -> Option<Name>
+pub(crate) fn only_name<F: FnOnce(Name) -> Form>(fields: &mut Fields, form: F) -> Option<Form>
+    requires form { F.IsAlwaysCallable form }
+    ensures found { IfSome result (λ r. (name : _) × F.post form name r × IsName name.items × (left fields.old ≡ name.items ∷ [])) }
+    ensures none { IfNone result ((n : Text) → IsName n → left fields.old ≢ n ∷ []) }
+{
+    Some(form(last_name(fields)?))
+}
+
+/// A node.
+pub(crate) fn only_node<F: FnOnce(Used) -> Form>(fields: &mut Fields, form: F) -> Option<Form>
+    requires form { F.IsAlwaysCallable form }
+    ensures found { IfSome result (λ r. (node : _) × F.post form node r × IsNode (node_of node) × (left fields.old ≡ node_text (node_of node) ∷ [])) }
+    ensures none { IfNone result ((n : Node) → IsNode n → left fields.old ≢ node_text n ∷ []) }
+{
+    Some(form(last_node(fields)?))
+}
+
+/// A transaction and a node.
+pub(crate) fn txn_node<F: FnOnce(Name, Used) -> Form>(fields: &mut Fields, form: F) -> Option<Form>
+    requires form { F.IsAlwaysCallable form }
+    ensures found { IfSome result (λ r. (txn : _) × (node : _) × F.post form txn node r × IsName txn.items × IsNode (node_of node) × (left fields.old ≡ txn.items ∷ node_text (node_of node) ∷ [])) }
+    ensures none { IfNone result ((t : Text) (n : Node) → IsName t → IsNode n → left fields.old ≢ t ∷ node_text n ∷ []) }
+{
+    let txn = next_name(fields)?;
+    let node = last_node(fields)?;
+    Some(form(txn, node))
+}
+
+/// A transaction, a mode and a node.
+pub(crate) fn txn_mode_node<F: FnOnce(Name, Mode, Used) -> Form>(
+    fields: &mut Fields,
+    form: F,
+) -> Option<Form>
+    requires form { F.IsAlwaysCallable form }
+    ensures found { IfSome result (λ r. (txn : _) × (mode : _) × (node : _) × F.post form txn mode node r × IsName txn.items × IsNode (node_of node) × (left fields.old ≡ txn.items ∷ mode_text mode ∷ node_text (node_of node) ∷ [])) }
+    ensures none { IfNone result ((t : Text) (m : Mode) (n : Node) → IsName t → IsNode n → left fields.old ≢ t ∷ mode_text m ∷ node_text n ∷ []) }
+{
+    let txn = next_name(fields)?;
+    let mode = Mode::read(fields.next()?)?;
+    let node = last_node(fields)?;
+    Some(form(txn, mode, node))
+}
+
+/// A transaction and a record.
+pub(crate) fn txn_record<F: FnOnce(Name, Name) -> Form>(
+    fields: &mut Fields,
+    form: F,
+) -> Option<Form>
+    requires form { F.IsAlwaysCallable form }
+    ensures found { IfSome result (λ r. (txn : _) × (rec : _) × F.post form txn rec r × IsName txn.items × IsName rec.items × (left fields.old ≡ txn.items ∷ rec.items ∷ [])) }
+    ensures none { IfNone result ((t r : Text) → IsName t → IsName r → left fields.old ≢ t ∷ r ∷ []) }
+{
+    let txn = next_name(fields)?;
+    let rec = last_name(fields)?;
+    Some(form(txn, rec))
+}
+
+/// A transaction, a record, an index and a key.
+pub(crate) fn rekey_parts<F: FnOnce(Name, Name, Name, u64) -> Form>(
+    fields: &mut Fields,
+    form: F,
+) -> Option<Form>
+    requires form { F.IsAlwaysCallable form }
+    ensures found { IfSome result (λ r. (txn : _) × (rec : _) × (index : _) × (key : _) × F.post form txn rec index key r × IsName txn.items × IsName rec.items × IsName index.items × IsNumber key × (left fields.old ≡ txn.items ∷ rec.items ∷ index.items ∷ decimal key ∷ [])) }
+    ensures none { IfNone result ((t r i : Text) (k : ℕ) → IsName t → IsName r → IsName i → IsNumber k → left fields.old ≢ t ∷ r ∷ i ∷ decimal k ∷ []) }
+{
+    let txn = next_name(fields)?;
+    let rec = next_name(fields)?;
+    let index = next_name(fields)?;
+    let key = read_number(fields.next()?)?;
+    if !fields.is_done() {
+        return None;
+    }
+    Some(form(txn, rec, index, key))
+}
+
+/// A transaction, a record, a file, and keys.
+pub(crate) fn insert_parts<F: FnOnce(Name, Name, Name) -> Form>(
+    fields: &mut Fields,
+    keys: &mut ArrayVec<u64, MOST_LISTED>,
+    form: F,
+) -> Option<Form>
+    requires room { length (left fields.old) ≤ 257 }
+    requires form { F.IsAlwaysCallable form }
+    ensures found { IfSome result (λ r. (txn : _) × (rec : _) × (file : _) × F.post form txn rec file r × IsName txn.items × IsName rec.items × IsName file.items × All IsNumber keys.new.items × (left fields.old ≡ txn.items ∷ rec.items ∷ file.items ∷ map decimal keys.new.items)) }
+    ensures none { IfNone result ((t r f : Text) (ks : List ℕ) → IsName t → IsName r → IsName f → All IsNumber ks → left fields.old ≢ t ∷ r ∷ f ∷ map decimal ks) }
+{
+    let txn = next_name(fields)?;
+    let rec = next_name(fields)?;
+    let file = next_name(fields)?;
+    read_numbers(fields, keys)?;
+    Some(form(txn, rec, file))
+}
+
+/// A name, and parents if there are any.
+pub(crate) fn name_parents<F: FnOnce(Name) -> Form>(
+    fields: &mut Fields,
+    nodes: &mut ArrayVec<Used, MOST_LISTED>,
+    form: F,
+) -> Option<Form>
+    requires room { length (left fields.old) ≤ 257 }
+    requires form { F.IsAlwaysCallable form }
+    ensures found { IfSome result (λ r. let ps = map node_of nodes.new.items in (name : _) × F.post form name r × IsName name.items × All IsNode ps × (left fields.old ≡ name.items ∷ parents ps)) }
+    ensures none { IfNone result ((n : Text) (ps : List Node) → IsName n → All IsNode ps → left fields.old ≢ n ∷ parents ps) }
+{
+    let name = next_name(fields)?;
+    read_parents(fields, nodes)?;
+    Some(form(name))
+}
+
+/// A name, and one or more parents.
+pub(crate) fn name_some_parents<F: FnOnce(Name) -> Form>(
+    fields: &mut Fields,
+    nodes: &mut ArrayVec<Used, MOST_LISTED>,
+    form: F,
+) -> Option<Form>
+    requires room { length (left fields.old) ≤ 257 }
+    requires form { F.IsAlwaysCallable form }
+    ensures found { IfSome result (λ r. let ps = map node_of nodes.new.items in (name : _) × F.post form name r × IsName name.items × AreSomeNodes ps × (left fields.old ≡ name.items ∷ parents ps)) }
+    ensures none { IfNone result ((n : Text) (ps : List Node) → IsName n → AreSomeNodes ps → left fields.old ≢ n ∷ parents ps) }
+{
+    let name = next_name(fields)?;
+    read_parents(fields, nodes)?;
+    if nodes.is_empty() {
+        return None;
+    }
+    Some(form(name))
+}
+
+/// A transaction, a node, and parents if there are any.
+pub(crate) fn txn_node_parents<F: FnOnce(Name, Used) -> Form>(
+    fields: &mut Fields,
+    nodes: &mut ArrayVec<Used, MOST_LISTED>,
+    form: F,
+) -> Option<Form>
+    requires room { length (left fields.old) ≤ 257 }
+    requires form { F.IsAlwaysCallable form }
+    ensures found { IfSome result (λ r. let ps = map node_of nodes.new.items in (txn : _) × (node : _) × F.post form txn node r × IsName txn.items × IsNode (node_of node) × All IsNode ps × (left fields.old ≡ txn.items ∷ node_text (node_of node) ∷ parents ps)) }
+    ensures none { IfNone result ((t : Text) (n : Node) (ps : List Node) → IsName t → IsNode n → All IsNode ps → left fields.old ≢ t ∷ node_text n ∷ parents ps) }
+{
+    let txn = next_name(fields)?;
+    let node = next_node(fields)?;
+    read_parents(fields, nodes)?;
+    Some(form(txn, node))
+}
+
+/// A name, one or more parents, the word `on`, a file, the word `at`, and bounds.
+pub(crate) fn index_parts<F: FnOnce(Name, Name) -> Form>(
+    fields: &mut Fields,
+    lists: &mut Lists,
+    form: F,
+) -> Option<Form>
+    requires room { length (left fields.old) ≤ 257 }
+    requires form { F.IsAlwaysCallable form }
+    ensures found { IfSome result (λ r. let ps = nodes_of lists.new in let bs = lists.new.numbers.items in (name : _) × (file : _) × F.post form name file r × IsName name.items × AreSomeNodes ps × IsName file.items × All IsNumber bs × (left fields.old ≡ name.items ∷ parents ps ++ codes "on" ∷ file.items ∷ codes "at" ∷ map decimal bs)) }
+    ensures none { IfNone result ((n f : Text) (ps : List Node) (bs : List ℕ) → IsName n → AreSomeNodes ps → IsName f → All IsNumber bs → left fields.old ≢ n ∷ parents ps ++ codes "on" ∷ f ∷ codes "at" ∷ map decimal bs) }
+{
+    let name = next_name(fields)?;
+    read_parents_on(fields, &mut lists.nodes)?;
+    let file = file_bounds(fields, &mut lists.numbers)?;
+    Some(form(name, file))
+}
+
+/// The name that is left.
+fn last_name(fields: &mut Fields) -> Option<Name>
     ensures found { IfSome result (λ name. IsName name.items × (left fields.old ≡ name.items ∷ [])) }
     ensures none { IfNone result ((n : Text) → IsName n → left fields.old ≢ n ∷ []) }
 {
@@ -26,129 +190,13 @@ pub(crate) fn only_name(fields: &mut Fields) -> Option<Name>
     fields.is_done().then_some(name)
 }
 
-/// A node.
-pub(crate) fn only_node(fields: &mut Fields) -> Option<Used>
+/// The node that is left.
+fn last_node(fields: &mut Fields) -> Option<Used>
     ensures found { IfSome result (λ node. IsNode (node_of node) × (left fields.old ≡ node_text (node_of node) ∷ [])) }
     ensures none { IfNone result ((n : Node) → IsNode n → left fields.old ≢ node_text n ∷ []) }
 {
     let node = next_node(fields)?;
     fields.is_done().then_some(node)
-}
-
-/// A transaction and a node.
-pub(crate) fn txn_node(fields: &mut Fields) -> Option<(Name, Used)>
-    ensures found { IfSome result (λ r. IsName r.0.items × IsNode (node_of r.1) × (left fields.old ≡ r.0.items ∷ node_text (node_of r.1) ∷ [])) }
-    ensures none { IfNone result ((t : Text) (n : Node) → IsName t → IsNode n → left fields.old ≢ t ∷ node_text n ∷ []) }
-{
-    let txn = next_name(fields)?;
-    let node = only_node(fields)?;
-    Some((txn, node))
-}
-
-/// A transaction, a mode and a node.
-pub(crate) fn txn_mode_node(fields: &mut Fields) -> Option<(Name, Mode, Used)>
-    ensures found { IfSome result (λ r. IsName r.0.items × IsNode (node_of r.2) × (left fields.old ≡ r.0.items ∷ mode_text r.1 ∷ node_text (node_of r.2) ∷ [])) }
-    ensures none { IfNone result ((t : Text) (m : Mode) (n : Node) → IsName t → IsNode n → left fields.old ≢ t ∷ mode_text m ∷ node_text n ∷ []) }
-{
-    let txn = next_name(fields)?;
-    let mode = Mode::read(fields.next()?)?;
-    let node = only_node(fields)?;
-    Some((txn, mode, node))
-}
-
-/// A transaction and a record.
-pub(crate) fn txn_record(fields: &mut Fields) -> Option<(Name, Name)>
-    ensures found { IfSome result (λ r. IsName r.0.items × IsName r.1.items × (left fields.old ≡ r.0.items ∷ r.1.items ∷ [])) }
-    ensures none { IfNone result ((t r : Text) → IsName t → IsName r → left fields.old ≢ t ∷ r ∷ []) }
-{
-    let txn = next_name(fields)?;
-    let rec = only_name(fields)?;
-    Some((txn, rec))
-}
-
-/// A transaction, a record, an index and a key.
-pub(crate) fn rekey_parts(fields: &mut Fields) -> Option<(Name, Name, Name, u64)>
-    ensures found { IfSome result (λ r. IsName r.0.items × IsName r.1.items × IsName r.2.items × IsNumber r.3 × (left fields.old ≡ r.0.items ∷ r.1.items ∷ r.2.items ∷ decimal r.3 ∷ [])) }
-    ensures none { IfNone result ((t r i : Text) (k : ℕ) → IsName t → IsName r → IsName i → IsNumber k → left fields.old ≢ t ∷ r ∷ i ∷ decimal k ∷ []) }
-{
-    let txn = next_name(fields)?;
-    let rec = next_name(fields)?;
-    let index = next_name(fields)?;
-    let key = read_number(fields.next()?)?;
-    fields.is_done().then_some((txn, rec, index, key))
-}
-
-/// A transaction, a record, a file, and keys.
-pub(crate) fn insert_parts(
-    fields: &mut Fields,
-    keys: &mut ArrayVec<u64, MOST_LISTED>,
-) -> Option<(Name, Name, Name)>
-    requires room { length (left fields.old) ≤ 257 }
-    ensures found { IfSome result (λ r. IsName r.0.items × IsName r.1.items × IsName r.2.items × All IsNumber keys.new.items × (left fields.old ≡ r.0.items ∷ r.1.items ∷ r.2.items ∷ map decimal keys.new.items)) }
-    ensures none { IfNone result ((t r f : Text) (ks : List ℕ) → IsName t → IsName r → IsName f → All IsNumber ks → left fields.old ≢ t ∷ r ∷ f ∷ map decimal ks) }
-{
-    let txn = next_name(fields)?;
-    let rec = next_name(fields)?;
-    let file = next_name(fields)?;
-    read_numbers(fields, keys)?;
-    Some((txn, rec, file))
-}
-
-/// A name, and parents if there are any.
-pub(crate) fn name_parents(
-    fields: &mut Fields,
-    nodes: &mut ArrayVec<Used, MOST_LISTED>,
-) -> Option<Name>
-    requires room { length (left fields.old) ≤ 257 }
-    ensures found { IfSome result (λ name. let ps = map node_of nodes.new.items in IsName name.items × All IsNode ps × (left fields.old ≡ name.items ∷ parents ps)) }
-    ensures none { IfNone result ((n : Text) (ps : List Node) → IsName n → All IsNode ps → left fields.old ≢ n ∷ parents ps) }
-{
-    let name = next_name(fields)?;
-    read_parents(fields, nodes)?;
-    Some(name)
-}
-
-/// A name, and one or more parents.
-pub(crate) fn name_some_parents(
-    fields: &mut Fields,
-    nodes: &mut ArrayVec<Used, MOST_LISTED>,
-) -> Option<Name>
-    requires room { length (left fields.old) ≤ 257 }
-    ensures found { IfSome result (λ name. let ps = map node_of nodes.new.items in IsName name.items × AreSomeNodes ps × (left fields.old ≡ name.items ∷ parents ps)) }
-    ensures none { IfNone result ((n : Text) (ps : List Node) → IsName n → AreSomeNodes ps → left fields.old ≢ n ∷ parents ps) }
-{
-    let name = name_parents(fields, nodes)?;
-    if nodes.is_empty() {
-        return None;
-    }
-    Some(name)
-}
-
-/// A transaction, a node, and parents if there are any.
-pub(crate) fn txn_node_parents(
-    fields: &mut Fields,
-    nodes: &mut ArrayVec<Used, MOST_LISTED>,
-) -> Option<(Name, Used)>
-    requires room { length (left fields.old) ≤ 257 }
-    ensures found { IfSome result (λ r. let ps = map node_of nodes.new.items in IsName r.0.items × IsNode (node_of r.1) × All IsNode ps × (left fields.old ≡ r.0.items ∷ node_text (node_of r.1) ∷ parents ps)) }
-    ensures none { IfNone result ((t : Text) (n : Node) (ps : List Node) → IsName t → IsNode n → All IsNode ps → left fields.old ≢ t ∷ node_text n ∷ parents ps) }
-{
-    let txn = next_name(fields)?;
-    let node = next_node(fields)?;
-    read_parents(fields, nodes)?;
-    Some((txn, node))
-}
-
-/// A name, one or more parents, the word `on`, a file, the word `at`, and bounds.
-pub(crate) fn index_parts(fields: &mut Fields, lists: &mut Lists) -> Option<(Name, Name)>
-    requires room { length (left fields.old) ≤ 257 }
-    ensures found { IfSome result (λ r. let ps = nodes_of lists.new in let bs = lists.new.numbers.items in IsName r.0.items × AreSomeNodes ps × IsName r.1.items × All IsNumber bs × (left fields.old ≡ r.0.items ∷ parents ps ++ codes "on" ∷ r.1.items ∷ codes "at" ∷ map decimal bs)) }
-    ensures none { IfNone result ((n f : Text) (ps : List Node) (bs : List ℕ) → IsName n → AreSomeNodes ps → IsName f → All IsNumber bs → left fields.old ≢ n ∷ parents ps ++ codes "on" ∷ f ∷ codes "at" ∷ map decimal bs) }
-{
-    let name = next_name(fields)?;
-    read_parents_on(fields, &mut lists.nodes)?;
-    let file = file_bounds(fields, &mut lists.numbers)?;
-    Some((name, file))
 }
 
 /// A file, the word `at`, and bounds.
@@ -158,7 +206,7 @@ fn file_bounds(fields: &mut Fields, bounds: &mut ArrayVec<u64, MOST_LISTED>) -> 
     ensures none { IfNone result ((f : Text) (bs : List ℕ) → IsName f → All IsNumber bs → left fields.old ≢ f ∷ codes "at" ∷ map decimal bs) }
 {
     let file = next_name(fields)?;
-    if fields.next()? != b"at".as_slice() {
+    if !matches!(fields.next()?, b"at") {
         return None;
     }
     read_numbers(fields, bounds)?;
