@@ -14,7 +14,8 @@
 #   few are. All three take the same number of instructions a line; what the last takes longer is the
 #   time until names and nodes come, which no longer fit into the caches.
 #
-# On one core of an Intel Xeon at 2.5 GHz, beside other work: 10.4, 4.2, 17.7, 7.8 and 2.4 million.
+# On one core of an Intel Xeon at 2.5 GHz, whose speed changes by half from day to day, on a slow one:
+# 6.1, 2.9, 19.7, 5.8, 5.8 and 2.5 million.
 set -eu
 cd "$(dirname "$0")/.."
 program=${1:-./gltool}

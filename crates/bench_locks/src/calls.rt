@@ -3,7 +3,7 @@
 use crate::placing::placed;
 use gl_catalog::{Answer, Command, Manager};
 use gl_modes::{Mode, NodeId};
-use gl_table::{Locked, Table, Told, TxnId};
+use gl_table::{Locked, Notice, Table, Told, TxnId};
 
 /// The key of the record.
 pub(crate) const KEY: u64 = 50;
@@ -25,10 +25,23 @@ pub(crate) trait Calls {
 
     fn start(&mut self) -> TxnId;
 
-    /// 1 where the lock is granted, else 0.
+    /// How many locks are granted by it.
     fn ask(&mut self, txn: TxnId, node: NodeId, mode: Mode) -> u64;
 
-    fn finish(&mut self, txn: TxnId);
+    /// How many locks are granted by it.
+    fn finish(&mut self, txn: TxnId) -> u64;
+}
+
+/// Looks at each notice, as an engine does to wake whose wait is over, and answers how many are.
+#[inline(never)]
+fn woken(told: &Told) -> u64 {
+    let mut count = 0u64;
+    for (_, notice) in told.as_slice() {
+        if let Notice::Granted(_, _) = notice {
+            count = count.wrapping_add(1);
+        }
+    }
+    count
 }
 
 fn made(answer: Answer) -> NodeId {
@@ -38,17 +51,18 @@ fn made(answer: Answer) -> NodeId {
     }
 }
 
-/// Who answers commands.
+/// Who answers commands, and tells how many waits are over by each.
 pub(crate) trait Server {
-    fn serve(&mut self, command: Command<'_>) -> Answer;
+    fn serve(&mut self, command: Command<'_>) -> (Answer, u64);
 
     fn manager(&self) -> &Manager;
 }
 
-/// A reply for each command, of which the answer is looked at.
+/// A reply for each command.
 impl Server for Manager {
-    fn serve(&mut self, command: Command<'_>) -> Answer {
-        self.apply(command).answer
+    fn serve(&mut self, command: Command<'_>) -> (Answer, u64) {
+        let reply = self.apply(command);
+        (reply.answer, woken(&reply.told))
     }
 
     fn manager(&self) -> &Manager {
@@ -64,9 +78,10 @@ pub(crate) struct OneList {
 }
 
 impl Server for OneList {
-    fn serve(&mut self, command: Command<'_>) -> Answer {
+    fn serve(&mut self, command: Command<'_>) -> (Answer, u64) {
         self.told.clear();
-        self.manager.apply_telling(command, &mut self.told)
+        let answer = self.manager.apply_telling(command, &mut self.told);
+        (answer, woken(&self.told))
     }
 
     fn manager(&self) -> &Manager {
@@ -82,11 +97,11 @@ pub(crate) struct Commands<S> {
 
 impl<S: Server> Calls for Commands<S> {
     fn new_root(&mut self) -> NodeId {
-        made(self.server.serve(Command::Inner { parents: &[] }))
+        made(self.server.serve(Command::Inner { parents: &[] }).0)
     }
 
     fn new_file(&mut self, root: NodeId) -> NodeId {
-        made(self.server.serve(Command::File { parents: &[root] }))
+        made(self.server.serve(Command::File { parents: &[root] }).0)
     }
 
     fn new_index(&mut self, root: NodeId, file: NodeId) -> NodeId {
@@ -95,7 +110,7 @@ impl<S: Server> Calls for Commands<S> {
             file,
             bounds: &[BOUND],
         };
-        made(self.server.serve(index))
+        made(self.server.serve(index).0)
     }
 
     fn first_interval(&self, index: NodeId) -> NodeId {
@@ -112,11 +127,11 @@ impl<S: Server> Calls for Commands<S> {
             file,
             keys: &[KEY],
         };
-        made(self.server.serve(record))
+        made(self.server.serve(record).0)
     }
 
     fn start(&mut self) -> TxnId {
-        match self.server.serve(Command::Begin) {
+        match self.server.serve(Command::Begin).0 {
             Answer::Begun(txn) => txn,
             _ => TxnId::NONE,
         }
@@ -124,13 +139,13 @@ impl<S: Server> Calls for Commands<S> {
 
     fn ask(&mut self, txn: TxnId, node: NodeId, mode: Mode) -> u64 {
         match self.server.serve(Command::Lock { txn, node, mode }) {
-            Answer::Granted(_) => 1,
-            _ => 0,
+            (Answer::Granted(_), others) => others.wrapping_add(1),
+            (_, others) => others,
         }
     }
 
-    fn finish(&mut self, txn: TxnId) {
-        self.server.serve(Command::Commit { txn });
+    fn finish(&mut self, txn: TxnId) -> u64 {
+        self.server.serve(Command::Commit { txn }).1
     }
 }
 
@@ -161,13 +176,17 @@ impl Calls for Table {
     }
 
     fn ask(&mut self, txn: TxnId, node: NodeId, mode: Mode) -> u64 {
-        match self.lock(txn, node, mode) {
-            Ok((Locked::Granted(_), _)) => 1,
-            _ => 0,
+        match &self.lock(txn, node, mode) {
+            Ok((Locked::Granted(_), told)) => woken(told).wrapping_add(1),
+            Ok((_, told)) => woken(told),
+            Err(_) => 0,
         }
     }
 
-    fn finish(&mut self, txn: TxnId) {
-        let _ = self.commit(txn);
+    fn finish(&mut self, txn: TxnId) -> u64 {
+        match &self.commit(txn) {
+            Ok(told) => woken(told),
+            Err(_) => 0,
+        }
     }
 }

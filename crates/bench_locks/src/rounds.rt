@@ -34,8 +34,7 @@ pub(crate) fn round<C: Calls>(calls: &mut C, way: &Way) -> u64 {
         granted = granted.wrapping_add(calls.ask(txn, node, Mode::IX));
     }
     granted = granted.wrapping_add(calls.ask(txn, way.rec, Mode::X));
-    calls.finish(txn);
-    granted
+    granted.wrapping_add(calls.finish(txn))
 }
 
 /// 50 transactions hold a root each, and 50 others wait for it.
