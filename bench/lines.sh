@@ -15,7 +15,7 @@
 #   time until names and nodes come, which no longer fit into the caches.
 #
 # On one core of an Intel Xeon at 2.5 GHz, whose speed changes by half from day to day, on a slow one:
-# 6.1, 2.9, 19.7, 5.8, 5.8 and 2.5 million.
+# 7.3, 2.8, 15.4, 5.0, 5.0 and 1.7 million.
 set -eu
 cd "$(dirname "$0")/.."
 program=${1:-./gltool}
