@@ -139,12 +139,8 @@ pub(crate) fn name_some_parents<F: FnOnce(Name) -> Form>(
     ensures found { IfSome result (λ r. let ps = map node_of nodes.new.items in (name : _) × F.post form name r × IsName name.items × AreSomeNodes ps × (left fields.old ≡ name.items ∷ parents ps)) }
     ensures none { IfNone result ((n : Text) (ps : List Node) → IsName n → AreSomeNodes ps → left fields.old ≢ n ∷ parents ps) }
 {
-    let name = next_name(fields)?;
-    read_parents(fields, nodes)?;
-    if nodes.is_empty() {
-        return None;
-    }
-    Some(form(name))
+    let read = name_parents(fields, nodes, form)?;
+    (!nodes.is_empty()).then_some(read)
 }
 
 /// A transaction, a node, and parents if there are any.
