@@ -14,8 +14,8 @@
 #   few are. All three take the same number of instructions a line; what the last takes longer is the
 #   time until names and nodes come, which no longer fit into the caches.
 #
-# On one core of an Intel Xeon at 2.5 GHz, whose speed changes by half from day to day, on a slow one:
-# 7.3, 2.8, 15.4, 5.0, 5.0 and 1.7 million.
+# On one core of an Intel Xeon at 2.5 GHz that other work shares, undisturbed: 14.9, 4.7, 31, 9.8, 10.2 and
+# 2.7 million. Minutes later the same program may do half of that, so compare two programs by turns.
 set -eu
 cd "$(dirname "$0")/.."
 program=${1:-./gltool}

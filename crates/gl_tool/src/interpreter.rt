@@ -65,14 +65,13 @@ impl Interpreter {
     fn answer_first<W: Write>(&mut self, sink: &mut Sink, writer: &mut W, line: &[u8])
         ensures { Answered (W.contents writer.old) sink.old self.old line.now (W.contents writer.new) sink.new self.new }
     {
-        if let Some(manager) = self.two.take() {
-            if line == VERSION_TWO {
+        match self.two.take() {
+            Some(manager) if line == VERSION_TWO => {
                 self.desk.begin_version_two(manager);
                 put(sink, writer, b"ok\n");
-                return;
             }
+            _ => self.carry_out(sink, writer, line),
         }
-        self.carry_out(sink, writer, line);
     }
 
     /// Answers a line of a script whose version is known.
