@@ -56,62 +56,38 @@ fn turns_asked(rt: &HostRuntime) -> io::Result<u64> {
     Ok(turns)
 }
 
+/// What is timed, in the order in which it is printed.
+const TIMED: [(&str, Shape, Reading); 8] = [
+    ("suspects, nobody waits", Shape::Idle, Reading::Suspects),
+    (
+        "on_cycle, a chain of 128",
+        Shape::Chain,
+        Reading::CycleOfFirst,
+    ),
+    (
+        "on_cycle, a ring of 128",
+        Shape::Ring,
+        Reading::CycleOfFirst,
+    ),
+    (
+        "on_cycle, a closed queue of 128",
+        Shape::ClosedQueue,
+        Reading::CycleOfFirst,
+    ),
+    ("suspects, a chain of 128", Shape::Chain, Reading::Suspects),
+    ("suspects, a ring of 128", Shape::Ring, Reading::Suspects),
+    ("suspects, a queue of 128", Shape::Queue, Reading::Suspects),
+    (
+        "suspects, a closed queue of 128",
+        Shape::ClosedQueue,
+        Reading::Suspects,
+    ),
+];
+
 fn main(rt: HostRuntime) -> io::Result<()> {
     let turns = turns_asked(&rt)?;
-    time(
-        &rt,
-        "suspects, nobody waits",
-        turns,
-        Shape::Idle,
-        Reading::Suspects,
-    )?;
-    time(
-        &rt,
-        "on_cycle, a chain of 128",
-        turns,
-        Shape::Chain,
-        Reading::CycleOfFirst,
-    )?;
-    time(
-        &rt,
-        "on_cycle, a ring of 128",
-        turns,
-        Shape::Ring,
-        Reading::CycleOfFirst,
-    )?;
-    time(
-        &rt,
-        "on_cycle, a closed queue of 128",
-        turns,
-        Shape::ClosedQueue,
-        Reading::CycleOfFirst,
-    )?;
-    time(
-        &rt,
-        "suspects, a chain of 128",
-        turns,
-        Shape::Chain,
-        Reading::Suspects,
-    )?;
-    time(
-        &rt,
-        "suspects, a ring of 128",
-        turns,
-        Shape::Ring,
-        Reading::Suspects,
-    )?;
-    time(
-        &rt,
-        "suspects, a queue of 128",
-        turns,
-        Shape::Queue,
-        Reading::Suspects,
-    )?;
-    time(
-        &rt,
-        "suspects, a closed queue of 128",
-        turns,
-        Shape::ClosedQueue,
-        Reading::Suspects,
-    )
+    for (name, shape, reading) in TIMED {
+        time(&rt, name, turns, shape, reading)?;
+    }
+    Ok(())
 }
