@@ -113,51 +113,40 @@ impl Body {
         }
     }
 
-    /// A file with another number of records; another body as it is.
-    pub(crate) fn with_records(self, records: usize) -> Body
-        ensures { result ≡ body_with_records self records }
+    /// Writes how many records a file has; another body stays as it is.
+    pub(crate) fn set_records(&mut self, fresh: usize)
+        ensures { self.new ≡ body_with_records self.old fresh }
     {
-        match self {
-            Body::File { indexes, .. } => Body::File { indexes, records },
-            other => other,
+        if let Body::File { records, .. } = self {
+            *records = fresh;
         }
     }
 
-    /// A record with another key at this place; another body as it is.
-    pub(crate) fn with_key(self, place: usize, key: u64) -> Body
-        requires { place < length (keys_in (Some (shape_in_body self))) }
-        ensures { result ≡ body_with_key self place key }
+    /// Writes the key of a record at this place; another body stays as it is.
+    pub(crate) fn set_key(&mut self, place: usize, key: u64)
+        requires { place < length (keys_in (Some (shape_in_body self.old))) }
+        ensures { self.new ≡ body_with_key self.old place key }
     {
-        match self {
-            Body::Rec { mut keys } => {
-                keys.as_mut_slice()[place] = key;
-                Body::Rec { keys }
-            }
-            other => other,
+        if let Body::Rec { keys } = self {
+            keys.as_mut_slice()[place] = key;
         }
     }
 
-    /// An index with its intervals; another body as it is.
-    pub(crate) fn with_intervals(self, intervals: Vec<NodeId>) -> Body
-        ensures { result ≡ body_with_intervals self intervals }
+    /// Writes the intervals of an index; another body stays as it is.
+    pub(crate) fn set_intervals(&mut self, fresh: Vec<NodeId>)
+        ensures { self.new ≡ body_with_intervals self.old fresh }
     {
-        match self {
-            Body::Index { file, bounds, .. } => Body::Index {
-                file,
-                bounds,
-                intervals,
-            },
-            other => other,
+        if let Body::Index { intervals, .. } = self {
+            *intervals = fresh;
         }
     }
 
-    /// A file with other indexes; another body as it is.
-    pub(crate) fn with_indexes(self, indexes: SmallVec<NodeId, 1>) -> Body
-        ensures { result ≡ body_with_indexes self indexes }
+    /// Writes the indexes of a file; another body stays as it is.
+    pub(crate) fn set_indexes(&mut self, fresh: SmallVec<NodeId, 1>)
+        ensures { self.new ≡ body_with_indexes self.old fresh }
     {
-        match self {
-            Body::File { records, .. } => Body::File { indexes, records },
-            other => other,
+        if let Body::File { indexes, .. } = self {
+            *indexes = fresh;
         }
     }
 }

@@ -49,17 +49,7 @@ pub(crate) fn write_records(nodes: &mut Slab<Node>, key: usize, records: usize)
     ensures written { (x : Node) → get nodes.old key ≡ Some x → Updates nodes.old nodes.new key (Some (record x { body = body_with_records x.body records })) }
     ensures len { slab_len nodes.new ≡ slab_len nodes.old }
 {
-    let Node {
-        birth,
-        parents,
-        body,
-    } = nodes.remove(key);
-    let body = body.with_records(records);
-    nodes.insert_reserved(Node {
-        birth,
-        parents,
-        body,
-    });
+    nodes[key].body.set_records(records);
 }
 
 /// Writes the parents of a node.
@@ -68,9 +58,7 @@ pub(crate) fn write_parents(nodes: &mut Slab<Node>, key: usize, fresh: SmallVec<
     ensures written { (x : Node) → get nodes.old key ≡ Some x → Updates nodes.old nodes.new key (Some (record x { parents = fresh })) }
     ensures len { slab_len nodes.new ≡ slab_len nodes.old }
 {
-    let mut node = nodes.remove(key);
-    node.parents = fresh;
-    nodes.insert_reserved(node);
+    nodes[key].parents = fresh;
 }
 
 /// Writes one key of a record, and the interval in which it lies.
@@ -87,18 +75,9 @@ pub(crate) fn write_key(
     ensures written { (x : Node) → get nodes.old rec ≡ Some x → Updates nodes.old nodes.new rec (Some (with_key_at x place key interval)) }
     ensures len { slab_len nodes.new ≡ slab_len nodes.old }
 {
-    let Node {
-        birth,
-        mut parents,
-        body,
-    } = nodes.remove(rec);
-    parents.as_mut_slice()[place + 1] = interval;
-    let body = body.with_key(place, key);
-    nodes.insert_reserved(Node {
-        birth,
-        parents,
-        body,
-    });
+    let node = &mut nodes[rec];
+    node.parents.as_mut_slice()[place + 1] = interval;
+    node.body.set_key(place, key);
 }
 
 /// Writes the intervals of an index.
@@ -107,17 +86,7 @@ pub(crate) fn write_intervals(nodes: &mut Slab<Node>, key: usize, intervals: Vec
     ensures written { (x : Node) → get nodes.old key ≡ Some x → Updates nodes.old nodes.new key (Some (record x { body = body_with_intervals x.body intervals })) }
     ensures len { slab_len nodes.new ≡ slab_len nodes.old }
 {
-    let Node {
-        birth,
-        parents,
-        body,
-    } = nodes.remove(key);
-    let body = body.with_intervals(intervals);
-    nodes.insert_reserved(Node {
-        birth,
-        parents,
-        body,
-    });
+    nodes[key].body.set_intervals(intervals);
 }
 
 /// Writes the indexes of a file.
@@ -126,17 +95,7 @@ pub(crate) fn write_indexes(nodes: &mut Slab<Node>, key: usize, indexes: SmallVe
     ensures written { (x : Node) → get nodes.old key ≡ Some x → Updates nodes.old nodes.new key (Some (record x { body = body_with_indexes x.body indexes })) }
     ensures len { slab_len nodes.new ≡ slab_len nodes.old }
 {
-    let Node {
-        birth,
-        parents,
-        body,
-    } = nodes.remove(key);
-    let body = body.with_indexes(indexes);
-    nodes.insert_reserved(Node {
-        birth,
-        parents,
-        body,
-    });
+    nodes[key].body.set_indexes(indexes);
 }
 
 /// Stores so many intervals of an index, with the births behind the index's, and lists them.
