@@ -14,7 +14,7 @@
 #   few are. All three take the same number of instructions a line; what the last takes longer is the
 #   time until names and nodes come, which no longer fit into the caches.
 #
-# On one core of an Intel Xeon at 2.5 GHz that other work shares, undisturbed: 14.9, 4.7, 31, 9.8, 10.2 and
+# On one core of an Intel Xeon at 2.5 GHz that other work shares, at best: 14.9, 4.8, 31, 9.8, 10.2 and
 # 2.7 million. Minutes later the same program may do half of that, so compare two programs by turns.
 set -eu
 cd "$(dirname "$0")/.."
