@@ -1,5 +1,5 @@
 -- No definition of the table asks for the count of accepted commands.
-use Rattle.std.specs.Prelude.{◌≡◌, ℕ, zero, suc}
+use Rattle.std.specs.Prelude.{◌≡◌, ◌≤◌, ℕ, zero, suc}
 use Rattle.std.proofs.Common.{refl, ap}
 use Rattle.gl_modes.specs.declared.mode.Mode.{Mode}
 use Rattle.gl_modes.specs.declared.node.NodeId.{NodeId}
@@ -11,7 +11,7 @@ use Rattle.gl_table.specs.Headers.{AreHeaders}
 use Rattle.gl_table.specs.Lawful.{IsLawful}
 use Rattle.gl_table.specs.Pumps.{condemned}
 use Rattle.gl_table.specs.State.{State}
-use Rattle.gl_table.specs.Table.{ListsAgree, TableView}
+use Rattle.gl_table.specs.Table.{ListsAgree, StandOnce, TableView}
 use Rattle.gl_table.specs.Table.{state_of as table_state}
 use Rattle.gl_table.specs.Tellings.{told}
 use Rattle.gl_table.specs.Waiting.{HasNoCycle, Settled, SettledWithin}
@@ -68,12 +68,14 @@ module _ (k : ℕ) where
   }
 
   -- a lawful table with this count is a lawful manager
-  pub lawful_manager : (v : TableView) → IsLawful (table_state v) → AreHeaders v.headers → ListsAgree v → HasNoConflict (table_state v) → (v.detect ≡ AtBlock → HasNoCycle (table_state v))
+  pub lawful_manager : (v : TableView) → IsLawful (table_state v) → AreHeaders v.headers → ListsAgree v → StandOnce v → HasNoConflict (table_state v) → (v.detect ≡ AtBlock → HasNoCycle (table_state v)) → (table_state v).most ≤ 128
       → IsLawfulManager (record { table = v; accepted = k })
-  lawful_manager v law headers lists conflict cycle = record {
+  lawful_manager v law headers lists unique conflict cycle few = record {
     lawful = lawful_counting (table_state v) law;
     headers = headers;
     lists = lists;
+    unique = unique;
     no_conflict = no_conflict_counting (table_state v) conflict;
     no_cycle = λ at. no_cycle_counting (table_state v) (cycle at);
+    few = few;
   }

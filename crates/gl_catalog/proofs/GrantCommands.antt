@@ -14,12 +14,12 @@ use Rattle.gl_table.specs.State.{State, Txn, lives, live_by, status_in, slots}
 use Rattle.gl_table.specs.Lawful.{IsLawful}
 use Rattle.gl_table.specs.Tellings.{told, told_but, Told}
 use Rattle.gl_catalog.specs.Step.{Accepts}
-use Rattle.gl_table.specs.Calls.{accepted_once, enters_at, wanted, enqueued, released}
+use Rattle.gl_table.specs.Calls.{accepted_once, enters_at, free_slot, wanted, enqueued, released}
 use Rattle.gl_table.proofs.Follows.{Follows, GrantedTo, WaitsWell, lawful_waits, follows_refl, follows_same, follows_trans}
 use Rattle.gl_catalog.proofs.OtherChanges.{other, with_grant_follows, begun_follows, enqueued_follows, settled_follows, wait_settles_follows, released_follows, escalated_follows, unlocked_follows, cancelled_follows}
 use Rattle.gl_catalog.proofs.ToldGrants.{tells, told_of_grant, told_but_of_grant}
 use Rattle.gl_catalog.proofs.Keeps.{Keeps, keeps_follows}
-use Rattle.gl_graph.proofs.Look.{split}
+use Rattle.gl_graph.proofs.Look.{none_some, some_is, split}
 
 accepted_follows : (s next : State) (t : ℕ) → Follows s next t → Follows s (accepted_once next) t
 accepted_follows s next t f = follows_trans s next (accepted_once next) t f (follows_same next (accepted_once next) t f.well refl refl (λ q. refl) (λ n. refl))
@@ -32,6 +32,22 @@ not_granted s next t same g = apart (sym g.is ∙ ap status_in same ∙ g.was)
   where
     apart : {q : NodeId} {w : Mode} → Some Active ≡ Some (Waiting q w) → ⊥
     apart e = cc
+
+found_passes : (p : ℕ → Bool) (xs : List ℕ) (x : ℕ) → find p xs ≡ Some x → p x ≡ true
+found_passes p [] x h = absurd (none_some h)
+found_passes p (y ∷ ys) x h = by (p y) refl h (found_passes p ys x)
+  where
+    by : (b : Bool) → p y ≡ b → (if b then Some y else find p ys) ≡ Some x → (find p ys ≡ Some x → p x ≡ true) → p x ≡ true
+    by true e h' rest = ap p (sym (some_is h')) ∙ e
+    by false e h' rest = rest h'
+
+none_dead : (age : ℕ) (x : Option Txn) → is_none x ≡ true → live_by age x ≡ true → ⊥
+none_dead age None h k = true≢false (sym k)
+none_dead age (Some x) h k = true≢false (sym h)
+
+-- a slot that is free is not that of a transaction that lives
+pub free_differs : (s : State) (t : TxnId) → lives s t ≡ true → (u : ℕ) → free_slot s ≡ Some u → u ≢ t.slot
+free_differs s t alive u free e = none_dead t.age (s.txns t.slot) (ap (λ x. is_none (s.txns x)) (sym e) ∙ found_passes (λ v. is_none (s.txns v)) (slots s) u free) alive
 
 module _ (s : State) (law : IsLawful s) (t : TxnId) (alive : lives s t ≡ true) (next : State) where
   abbrev Kept : Told → Type 0
@@ -87,30 +103,9 @@ module _ (s : State) (law : IsLawful s) (t : TxnId) (alive : lives s t ≡ true)
 
   pub begin_keeps : (a : Answer) (told' : Told) → Accepts s command.Begin a told' next → Kept told'
   begin_keeps a told' acc =
-      let ne = free_differs acc.0 (found_passes (λ u. is_none (s.txns u)) (slots s) acc.0 acc.1) in
+      let ne = free_differs s t alive acc.0 acc.1 in
       kept_quiet told' (ap (λ x. x.txns t.slot) acc.4 ∙ ap (λ b. if b then Some (record { age = s.begins + 1; status = Active }) else s.txns t.slot) (other acc.0 t.slot ne))
       (follows_is _ acc.4 (begun_follows s acc.0 t.slot ne well))
-    where
-      found_passes : (p : ℕ → Bool) (xs : List ℕ) (x : ℕ) → find p xs ≡ Some x → p x ≡ true
-      found_passes p [] x h = absurd (none_some h)
-        where
-          none_some : {x : ℕ} → None ≡ Some x → ⊥
-          none_some e = cc
-      found_passes p (y ∷ ys) x h = by (p y) refl h (found_passes p ys x)
-        where
-          same : {x y : ℕ} → Some y ≡ Some x → y ≡ x
-          same e = cc
-
-          by : (b : Bool) → p y ≡ b → (if b then Some y else find p ys) ≡ Some x → (find p ys ≡ Some x → p x ≡ true) → p x ≡ true
-          by true e h' rest = ap p (sym (same h')) ∙ e
-          by false e h' rest = rest h'
-
-      none_dead : (x : Option Txn) → is_none x ≡ true → live_by t.age x ≡ true → ⊥
-      none_dead None h k = true≢false (sym k)
-      none_dead (Some x) h k = true≢false (sym h)
-
-      free_differs : (u : ℕ) → is_none (s.txns u) ≡ true → u ≢ t.slot
-      free_differs u free e = none_dead (s.txns t.slot) (ap (λ x. is_none (s.txns x)) (sym e) ∙ free) alive
 
   pub same_keeps : (told' : Told) → (s' : State) → s' ≡ s → Keeps s s' t told'
   same_keeps told' s' e =

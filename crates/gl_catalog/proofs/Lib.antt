@@ -26,6 +26,9 @@ pub mod MoverEffects
 pub mod EscalateEffects
 -- the model as a program, and rows that it computes
 pub mod OneOutcome
+pub mod IdleSettle
+pub mod LivesOn
+pub mod WaitsEnd
 pub mod Play
 pub mod PlayIsStep
 pub mod RowWords

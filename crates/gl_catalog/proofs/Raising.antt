@@ -122,6 +122,9 @@ module _ (k : ℕ) (s : State) (t : TxnId) (n : NodeId) (passed : first_refusal 
   held_raised = ap (λ b. if b then wanted s t.slot n (asked_by_escalation s t.slot n) else s.held t.slot n) (both _ _ (number_same t.slot t.slot refl) (same_node_refl n))
 
   -- so the children may be shed
+  pub raised_lives : lives s' t ≡ true
+  raised_lives = ap (λ x. lives x t) up ∙ alive (counting k s) t n passed
+
   pub raised_active : status_of s' t.slot ≡ Some Active
   raised_active = ap (λ x. status_of x t.slot) up ∙ is_active (counting k s) t n passed
 

@@ -19,7 +19,7 @@ use Rattle.gl_table.specs.declared.txn.Status.TheVariants.{Active}
 use Rattle.gl_table.specs.declared.txn.TxnId.{TxnId}
 use Rattle.gl_table.specs.Calls.{moved_to}
 use Rattle.gl_table.specs.Refusals.{condemned_test, need_exclusive, need_new_parents, no_txn, waiting_test}
-use Rattle.gl_table.specs.State.{State, status_of}
+use Rattle.gl_table.specs.State.{State, lives, status_of}
 use Rattle.gl_table.specs.Tellings.{told}
 use Rattle.gl_catalog.specs.declared.command.Command.TheVariants as command
 use Rattle.gl_catalog.specs.Manager.{counting}
@@ -27,7 +27,7 @@ use Rattle.gl_catalog.specs.Replies.{CallSteps, Notices, done}
 use Rattle.gl_catalog.specs.Tests.{refusal_of, worn}
 use Rattle.gl_catalog.proofs.Carried.{accepted_step}
 use Rattle.gl_catalog.proofs.MoveChecks.{all_among}
-use Rattle.gl_catalog.proofs.NotRefused.{active_is}
+use Rattle.gl_catalog.proofs.NotRefused.{active_is, txn_lives}
 
 -- a key for each index, also where one has changed
 keys_counted : (is : List NodeId) (ks : List ℕ) (index : NodeId) (key : ℕ) → length ks ≡ length is → length (keys_with is ks index key) ≡ length is
@@ -100,6 +100,7 @@ module _ (g : Graph) where
 
 -- who may give the record this key
 pub record MayReparent (s : State) (t : TxnId) (r index : NodeId) (key : ℕ) : Type 0 where
+  pub txn : lives s t ≡ true
   pub active : status_of s t.slot ≡ Some Active
   pub rec : is_record_shape (shape_of s.graph r) ≡ true
   pub keyed : is_index_of_shape (first_parent s.graph r) (shape_of s.graph index) ≡ true
@@ -118,6 +119,7 @@ may_reparent s t r index key asks =
     let t8 = not_refused (need_new_parents s t.slot r (rekeyed_parents s.graph r index key)) [] t7.1 in
     let kinds = and_both (is_record_shape (shape_of s.graph r)) (is_index_of_shape (first_parent s.graph r) (shape_of s.graph index)) (not_false _ (test_fails _ _ t6.0)) in
     record {
+      txn = txn_lives s t t2.0;
       active = active_is s t t2.0 t3.0 t4.0;
       rec = kinds.0;
       keyed = kinds.1;

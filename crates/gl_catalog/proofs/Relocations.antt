@@ -16,7 +16,7 @@ use Rattle.gl_table.specs.declared.txn.Status.TheVariants.{Active}
 use Rattle.gl_table.specs.declared.txn.TxnId.{TxnId}
 use Rattle.gl_table.specs.Calls.{moved_to}
 use Rattle.gl_table.specs.Refusals.{condemned_test, need_exclusive, need_new_parents, no_txn, some_given, waiting_test}
-use Rattle.gl_table.specs.State.{State, status_of}
+use Rattle.gl_table.specs.State.{State, lives, status_of}
 use Rattle.gl_table.specs.Tellings.{told}
 use Rattle.gl_table.proofs.Locking.{test_refused}
 use Rattle.gl_catalog.specs.declared.command.Command.TheVariants as command
@@ -25,10 +25,11 @@ use Rattle.gl_catalog.specs.Replies.{CallSteps, Notices, done}
 use Rattle.gl_catalog.specs.Tests.{is_cycle, move_asks, refusal_of, worn}
 use Rattle.gl_catalog.proofs.Carried.{accepted_step, memory_step, refused_step}
 use Rattle.gl_graph.proofs.FirstOf.{alone, passed_then, refused_first}
-use Rattle.gl_catalog.proofs.NotRefused.{active_is}
+use Rattle.gl_catalog.proofs.NotRefused.{active_is, txn_lives}
 
 -- who may give the node these parents, but for a path that would close
 pub record MayRegraft (s : State) (t : TxnId) (n : NodeId) (ps : List NodeId) : Type 0 where
+  pub txn : lives s t ≡ true
   pub active : status_of s t.slot ≡ Some Active
   pub movable : is_movable_shape (shape_of s.graph n) ≡ true
   pub inner : AreInnerParents s.graph (least_parents (shape_of s.graph n)) ps
@@ -62,6 +63,7 @@ module _ (s : State) (t : TxnId) (n : NodeId) (ps : Bor (List NodeId)) where
         let t8 = not_refused (need_new_parents s t.slot n ps.now) [] t7.1 in
         let kinds = or_no (not (is_movable_shape (shape_of s.graph n))) (bad_parents s.graph (least_parents (shape_of s.graph n)) ps.now) (test_fails _ _ t6.0) in
         record {
+          txn = txn_lives s t t2.0;
           active = active_is s t t2.0 t3.0 t4.0;
           movable = not_false _ kinds.0;
           inner = inner_parents s.graph (least_parents (shape_of s.graph n)) ps.now kinds.1;

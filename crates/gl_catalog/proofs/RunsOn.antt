@@ -8,7 +8,7 @@ use Rattle.gl_table.specs.Tellings.{Told}
 use Rattle.gl_catalog.specs.declared.command.Answer.{Answer}
 use Rattle.gl_catalog.specs.declared.command.Command.{Command}
 use Rattle.gl_catalog.specs.declared.command.Reply.{Reply}
-use Rattle.gl_catalog.specs.Promises.{LeavesOthers}
+use Rattle.gl_catalog.specs.Promises.{LeavesOthers, StepLeavesOthers}
 use Rattle.gl_catalog.specs.Replies.{said_in}
 use Rattle.gl_catalog.specs.Step.{Run, Step}
 use Rattle.gl_catalog.proofs.OthersKeep.{others_keep_below, others_keep_effects}
@@ -38,3 +38,7 @@ leaves_others s s' cs rs law run t alive unnamed = record {
   effects = others_keep_effects s s' cs rs t law run alive unnamed;
   below = λ n reads. others_keep_below s s' cs rs t n law run alive unnamed reads;
 }
+
+-- the same of one step
+pub step_leaves_others : (s s' : State) (c : Command) (r : Answer × Told) → IsLawful s → Step s c r.0 r.1 s' → StepLeavesOthers s c r s'
+step_leaves_others s s' c r law step = leaves_others s s' (c ∷ []) (r ∷ []) law (s', step, refl)

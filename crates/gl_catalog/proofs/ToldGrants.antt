@@ -45,14 +45,14 @@ any_cons : {Y : Type 0} (p : Y → Bool) (o : Option Y) (xs : List Y) → list_a
 any_cons p None xs h = h
 any_cons p (Some y) xs h = ap (λ b. p y || b) h ∙ or-true (p y)
 
-any_mapped : {Y : Type 0} (p : Y → Bool) (f : ℕ → Option Y) (x : ℕ) (y : Y) → f x ≡ Some y → p y ≡ true → (k n : ℕ) → k ≤ x → x < k + n → list_any p (filter_map f (range_with_len k n)) ≡ true
+pub any_mapped : {Y : Type 0} (p : Y → Bool) (f : ℕ → Option Y) (x : ℕ) (y : Y) → f x ≡ Some y → p y ≡ true → (k n : ℕ) → k ≤ x → x < k + n → list_any p (filter_map f (range_with_len k n)) ≡ true
 any_mapped p f x y is passes k zero low high = absurd (omega arith)
 any_mapped p f x y is passes k (suc n) low high =
     ⊎_elim
     (λ e. ap (λ o. list_any p (cons_option o (filter_map f (range_with_len (k + 1) n)))) (ap f (sym e) ∙ is) ∙ ap (λ b. b || list_any p (filter_map f (range_with_len (k + 1) n))) passes)
     (λ ne. any_cons p (f k) _ (any_mapped p f x y is passes (k + 1) n (omega arith) (omega arith))) (cases_eq x k)
 
-any_filtered : {Y : Type 0} (p q : Y → Bool) (xs : List Y) → ((y : Y) → p y ≡ true → q y ≡ true) → list_any p xs ≡ true → list_any p (filter q xs) ≡ true
+pub any_filtered : {Y : Type 0} (p q : Y → Bool) (xs : List Y) → ((y : Y) → p y ≡ true → q y ≡ true) → list_any p xs ≡ true → list_any p (filter q xs) ≡ true
 any_filtered p q [] more h = h
 any_filtered p q (y ∷ ys) more h = by (q y) (more y) (any_filtered p q ys more)
   where
@@ -64,7 +64,7 @@ pub age_is : (age : ℕ) (x : Option Txn) → live_by age x ≡ true → (age ==
 age_is age None h = absurd (true≢false (sym h))
 age_is age (Some x) h = grind (arith, nat_tests)
 
-txn_there : (age : ℕ) (x : Option Txn) → live_by age x ≡ true → is_some x ≡ true
+pub txn_there : (age : ℕ) (x : Option Txn) → live_by age x ≡ true → is_some x ≡ true
 txn_there age None h = h
 txn_there age (Some x) h = refl
 

@@ -1,11 +1,11 @@
 -- What a contract sees of a manager, the state of the model that it stands for, and what holds of every manager.
-use Rattle.std.specs.Prelude.{◌≡◌, ℕ}
+use Rattle.std.specs.Prelude.{◌≡◌, ◌≤◌, ℕ}
 use Rattle.gl_table.specs.declared.detect.Detect.TheVariants.{AtBlock}
 use Rattle.gl_table.specs.Effects.{HasNoConflict}
 use Rattle.gl_table.specs.Headers.{AreHeaders}
 use Rattle.gl_table.specs.Lawful.{IsLawful}
 use Rattle.gl_table.specs.State.{State}
-use Rattle.gl_table.specs.Table.{ListsAgree, TableView}
+use Rattle.gl_table.specs.Table.{ListsAgree, StandOnce, TableView}
 use Rattle.gl_table.specs.Table.{state_of as table_state}
 use Rattle.gl_table.specs.Waiting.{HasNoCycle}
 
@@ -22,10 +22,12 @@ counting k s = record s { accepted = k }
 abbrev pub state_of : ManagerView → State
 state_of m = counting m.accepted (table_state m.table)
 
--- what holds of every manager: the state is lawful; a header stands exactly where somebody holds or waits, its group the supremum of the grants; the lists agree; nobody conflicts; and with detection at block nobody waits in a circle
+-- what holds of every manager: the state is lawful; a header stands exactly where somebody holds or waits, its group the supremum of the grants; the lists agree; no node has two headers, or stands twice in a list; nobody conflicts; with detection at block nobody waits in a circle; and no slot is past those of a board
 pub record IsLawfulManager (m : ManagerView) : Type 0 where
   pub lawful : IsLawful (state_of m)
   pub headers : AreHeaders m.table.headers
   pub lists : ListsAgree m.table
+  pub unique : StandOnce m.table
   pub no_conflict : HasNoConflict (state_of m)
   pub no_cycle : m.table.detect ≡ AtBlock → HasNoCycle (state_of m)
+  pub few : (state_of m).most ≤ 128

@@ -1,5 +1,5 @@
 -- What is promised of commands and of whole runs.
-use Rattle.std.specs.Prelude.{◌≡◌, ℕ, Bool, true, false, ◌&&◌, ◌==◌, List}
+use Rattle.std.specs.Prelude.{◌≡◌, ℕ, Bool, true, false, ◌&&◌, ◌||◌, ◌==◌, List, [], ◌∷◌}
 use Rattle.std.specs.List.{list_any}
 use denote.Bor.{Bor}
 use Rattle.gl_table.specs.declared.txn.TxnId.{TxnId}
@@ -9,17 +9,21 @@ use Rattle.gl_catalog.specs.declared.command.Command.{Command}
 use Rattle.gl_modes.specs.declared.node.NodeId.{NodeId}
 use Rattle.gl_table.specs.declared.detect.Detect.TheVariants.{AtBlock}
 use Rattle.gl_table.specs.declared.notice.Notice.TheVariants as notice
+use Rattle.gl_catalog.specs.declared.command.Answer.TheVariants as answer
 use Rattle.gl_catalog.specs.declared.command.Command.TheVariants as command
 use Rattle.gl_catalog.specs.Tests.{refusal_of}
 use Rattle.gl_catalog.specs.Step.{Goes, Run, Step}
 use Rattle.gl_graph.specs.Graph.{is_live, shape_of}
 use Rattle.gl_graph.specs.Shapes.{is_record_shape}
+use Rattle.gl_table.specs.Calls.{accepted_once}
 use Rattle.gl_table.specs.Effects.{EffS, effective, is_at_least_effect}
 use Rattle.gl_table.specs.Below.{SameBelow}
 use Rattle.gl_table.specs.Lawful.{IsLawful}
+use Rattle.gl_table.specs.Pumps.{is_waiting_at}
 use Rattle.gl_table.specs.State.{State, lives}
 use Rattle.gl_table.specs.Tellings.{Told}
-use Rattle.gl_table.specs.Waiting.{HasNoCycle}
+use Rattle.gl_table.specs.Waiting.{HasNoCycle, waits_for}
+use Rattle.gl_waits.specs.Waits.{IsOnNoCycle}
 
 -- two names of one transaction
 abbrev pub same_txn : TxnId → TxnId → Bool
@@ -78,6 +82,10 @@ pub record Leaves (s s' : State) (rs : List (Answer × Told)) (t : TxnId) : Type
 abbrev pub LeavesOthers : State → List Command → List (Answer × Told) → State → Type 0
 LeavesOthers s cs rs s' = (t : TxnId) → lives s t ≡ true → list_any (names t) cs ≡ false → Leaves s s' rs t
 
+-- one step leaves that to every living transaction that its command does not name
+abbrev pub StepLeavesOthers : State → Command → Answer × Told → State → Type 0
+StepLeavesOthers s c r s' = LeavesOthers s (c ∷ []) (r ∷ []) s'
+
 -- each step of each command keeps the law of a state
 abbrev pub StepsKeepLaw : Type 0
 StepsKeepLaw = (s s' : State) (c : Command) (a : Answer) (told : Told) → IsLawful s → Step s c a told s' → IsLawful s'
@@ -134,3 +142,32 @@ abbrev pub OneOutcome : Type 0
 OneOutcome =
     (s s₁ s₂ : State) (c : Command) (a₁ a₂ : Answer) (told₁ told₂ : Told) → IsLawful s → makes_node c ≡ false → Goes s c (refusal_of s c) a₁ told₁ s₁ → Goes s c (refusal_of s c) a₂ told₂ s₂
     → (a₁ ≡ a₂) × (told₁ ≡ told₂) × (s₁ ≡ s₂)
+
+-- what a settle of one who is on no cycle leaves (own): nobody is told and, where it is not refused, the count of accepted commands alone changes
+abbrev pub SettlesIdle : State → Command → Answer → Told → State → Type 0
+SettlesIdle s (command.Settle t) a told s' = IsOnNoCycle (waits_for s) t.slot → (told ≡ []) × (a ≡ answer.Done → s' ≡ accepted_once s)
+SettlesIdle s c a told s' = Unit {0}
+
+-- a settle of one who is on no cycle settles nobody
+abbrev pub SettlesNobody : Type 0
+SettlesNobody = (s s' : State) (t : TxnId) (a : Answer) (told : Told) → IsLawful s → Step s (command.Settle t) a told s' → SettlesIdle s (command.Settle t) a told s'
+
+-- t lives, and waits on n
+abbrev pub waits_on : State → TxnId → NodeId → Bool
+waits_on s t n = lives s t && is_waiting_at s t.slot n
+
+-- some notice is to t
+abbrev pub is_told : TxnId → Told → Bool
+is_told t told = list_any (λ x. same_txn t x.0) told
+
+-- the command cancels or aborts t by its name
+abbrev pub ends_wait_of : TxnId → Command → Bool
+ends_wait_of t (command.Cancel u) = same_txn t u
+ends_wait_of t (command.Abort u) = same_txn t u
+ends_wait_of t c = false
+
+-- a wait that a step ends is told or named (own): who waits no more was told so, or the command cancelled or aborted it by name
+abbrev pub EndsWaits : Type 0
+EndsWaits =
+    (s s' : State) (c : Command) (a : Answer) (told : Told) (t : TxnId) (n : NodeId) → IsLawful s → Step s c a told s' → waits_on s t n ≡ true → waits_on s' t n ≡ false
+    → (is_told t told || ends_wait_of t c) ≡ true

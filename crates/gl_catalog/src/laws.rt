@@ -1,7 +1,7 @@
 //! The laws of all commands, each the contract of a call that does nothing.
 
 ghost use Rattle.gl_table.specs.Laws.{EmptyIsLawful, EmptyHasNoCycle};
-ghost use Rattle.gl_catalog.specs.Promises.{AlwaysAnswers, EscalateLowersNone, MoveKeepsMover, OneOutcome, OthersKeepBelow, OthersKeepEffects, RekeyKeepsMover, RunsKeepLaw, RunsKeepNoCycle, StepsKeepLaw};
+ghost use Rattle.gl_catalog.specs.Promises.{AlwaysAnswers, EndsWaits, EscalateLowersNone, MoveKeepsMover, OneOutcome, OthersKeepBelow, OthersKeepEffects, RekeyKeepsMover, RunsKeepLaw, RunsKeepNoCycle, SettlesNobody, StepsKeepLaw};
 
 /// Each step of each command keeps the law; so does each run, and the empty state meets it.
 pub fn steps_keep_law()
@@ -43,4 +43,16 @@ pub fn always_answers()
 /// In a lawful state a command that makes no node has one outcome, want of memory aside.
 pub fn one_outcome()
     ensures { OneOutcome }
+{}
+
+/// A settle of a transaction that is on no cycle tells nobody and, where it is not refused, changes
+/// the count of accepted commands alone.
+pub fn settles_nobody()
+    ensures { SettlesNobody }
+{}
+
+/// Who waits on a node before a step and not after it was told so, or the command cancelled or
+/// aborted it by name.
+pub fn ends_waits()
+    ensures { EndsWaits }
 {}

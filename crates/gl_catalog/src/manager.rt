@@ -79,6 +79,13 @@ impl Manager {
         self.table.board(self.accepted)
     }
 
+    /// How deadlocks are found.
+    pub fn detect(&self) -> Detect
+        ensures { result ≡ self.now.table.detect }
+    {
+        self.table.detect()
+    }
+
     /// The lock graph.
     pub fn graph(&self) -> &Graph
         ensures { result.now ≡ self.now.table.graph }
@@ -95,6 +102,14 @@ impl Manager {
             Some(Status::Waiting { node, wanted }) => Some((node, wanted)),
             _ => None,
         }
+    }
+
+    /// The mode in which a transaction holds a node, `NL` for none; `None` where it does not live. It
+    /// takes no memory.
+    pub fn mode_on(&self, t: TxnId, n: NodeId) -> Option<Mode>
+        ensures { result ≡ (if lives (state_of self.now) t then Some ((state_of self.now).held t.slot n) else None) }
+    {
+        self.table.mode(t, n)
     }
 
     /// How many children of a node a transaction holds; `None` where it does not live or does not

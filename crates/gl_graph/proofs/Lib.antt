@@ -14,6 +14,7 @@ pub mod FirstOf
 pub mod Slots
 pub mod Beside
 pub mod KeyPlace
+pub mod KeyIntervals
 pub mod Counts
 pub mod Kept
 pub mod RecordParents

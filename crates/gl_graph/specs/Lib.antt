@@ -1,6 +1,7 @@
 pub mod Shapes
 pub mod Graph
 pub mod Routes
+pub mod Intervals
 pub mod Lawful
 pub mod Changes
 pub mod Refusals

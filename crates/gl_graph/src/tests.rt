@@ -1,4 +1,4 @@
-//! Values from outside, limits, and calls that run out of memory.
+//! Values from outside, and limits.
 
 use crate::{Graph, Kind};
 use gl_modes::{NodeId, Refusal};
@@ -153,67 +153,5 @@ fn no_path_closes(rt: HostRuntime) -> Result<(), Fail> {
     move_under(&mut graph, y, db)?;
     assert_eq!(rt; graph.parents(y), [db].as_slice());
     crate::laws::root_path_laws();
-    Ok(())
-}
-
-/// What can be seen of these nodes: kind, number of parents, first parent, first key.
-#[derive(Clone, Copy, PartialEq, Debug)]
-struct Seen {
-    len: usize,
-    nodes: [Option<(Kind, usize, NodeId, u64)>; 8],
-}
-
-fn look(graph: &Graph, names: &[NodeId; 8]) -> Seen {
-    let mut nodes = [None; 8];
-    for (place, name) in nodes.iter_mut().zip(names) {
-        if let Some(kind) = graph.kind(*name) {
-            let parents = graph.parents(*name);
-            let parent = parents.first().copied().unwrap_or(NodeId::NONE);
-            let key = graph.keys(*name).first().copied().unwrap_or(0);
-            *place = Some((kind, parents.len(), parent, key));
-        }
-    }
-    Seen {
-        len: graph.len(),
-        nodes,
-    }
-}
-
-/// One growth after the other: inner nodes below one another, a file under all of them, an index,
-/// records, and an inner node that moves.
-fn grow(graph: &mut Graph, step: usize, names: &[NodeId; 8]) -> Result<NodeId, Refusal> {
-    let [db, x, y, file, ..] = *names;
-    match step {
-        0 => graph.add_inner(&[]),
-        1 => graph.add_inner(&[db]),
-        2 => graph.add_inner(&[x]),
-        3 => graph.add_file(&[db, x, y]),
-        4 => graph.add_index(&[db, x, y], file, &[10, 20, 30]),
-        5 => graph.add_record(file, &[15]),
-        6 => move_under(graph, y, db).map(|()| y),
-        _ => graph.add_record(file, &[25]),
-    }
-}
-
-/// Where a growth is refused nothing has changed, and the same call made again goes on.
-#[test]
-fn a_refused_growth_changes_nothing(rt: HostRuntime) -> Result<(), Fail> {
-    let mut graph = Graph::new(rt.alloc());
-    let mut names = [NodeId::NONE; 8];
-    for step in 0..8 {
-        let before = look(&graph, &names);
-        names[step] = match grow(&mut graph, step, &names) {
-            Err(Refusal::NoMemory) => {
-                assert_eq!(rt; look(&graph, &names), before);
-                grow(&mut graph, step, &names)?
-            }
-            answer => answer?,
-        };
-    }
-    let births = [1, 2, 3, 4, 5, 10, 3, 11];
-    for (name, birth) in names.iter().zip(births) {
-        assert_eq!(rt; name.birth, birth);
-    }
-    assert_eq!(rt; graph.parents(names[2]), [names[0]].as_slice());
     Ok(())
 }

@@ -1,4 +1,4 @@
-//! The worked rows, by slots, and what each call does where memory is refused.
+//! The worked rows, by slots.
 
 use crate::{Asked, Header, SLOTS, Try};
 use arrayvec::ArrayVec;
@@ -9,19 +9,11 @@ type Granted = ArrayVec<(u8, Mode), SLOTS>;
 
 /// Asks where the call's conditions hold.
 #[tactic(auto, using(crate::proofs::Steps::caller_steps))]
-fn ask_once(header: &mut Header, slot: u8, mode: Mode) -> Result<Option<Asked>, Refusal> {
+fn ask(header: &mut Header, slot: u8, mode: Mode) -> Result<Option<Asked>, Refusal> {
     if slot >= 128 || mode == Mode::NL || header.wanted_by(slot).is_some() {
         return Ok(None);
     }
     Ok(Some(header.ask(slot, mode)?))
-}
-
-/// Asks, and once more where memory was refused.
-fn ask(header: &mut Header, slot: u8, mode: Mode) -> Result<Option<Asked>, Refusal> {
-    match ask_once(header, slot, mode) {
-        Err(_) => ask_once(header, slot, mode),
-        answer => answer,
-    }
 }
 
 /// Tries where the call's conditions hold.
@@ -167,78 +159,5 @@ fn waits_are_taken_out(rt: HostRuntime) -> Result<(), Refusal> {
     }
     assert!(rt; header.is_empty());
     assert_eq!(rt; header.group(), Mode::NL);
-    Ok(())
-}
-
-/// All that can be asked of the first slots.
-#[derive(Clone, Copy, PartialEq, Debug)]
-struct Seen {
-    group: Mode,
-    held: [Mode; 24],
-    wanted: [Option<Mode>; 24],
-}
-
-fn look(header: &Header) -> Seen {
-    let mut seen = Seen {
-        group: header.group(),
-        held: [Mode::NL; 24],
-        wanted: [None; 24],
-    };
-    for slot in 0..24 {
-        seen.held[slot as usize] = header.mode_of(slot);
-        seen.wanted[slot as usize] = header.wanted_by(slot);
-    }
-    seen
-}
-
-/// Grows as the two tests below do, and fails where a growth is refused.
-#[test]
-fn many_wait_and_many_hold(rt: HostRuntime) -> Result<(), Refusal> {
-    let mut waited = Header::new(rt.alloc());
-    let mut held = Header::new(rt.alloc());
-    for slot in 0..24 {
-        let mode = if slot == 0 { Mode::X } else { Mode::S };
-        ask(&mut waited, slot, mode)?;
-        try_ask(&mut held, slot, Mode::IS)?;
-    }
-    assert_eq!(rt; waited.wanted_by(23), Some(Mode::S));
-    assert_eq!(rt; held.mode_of(23), Mode::IS);
-    Ok(())
-}
-
-/// Where a wait's growth is refused nothing has changed, and the call made again goes on.
-#[test]
-fn a_refused_wait_changes_nothing(rt: HostRuntime) -> Result<(), Refusal> {
-    let mut header = Header::new(rt.alloc());
-    for slot in 0..24 {
-        let mode = if slot == 0 { Mode::X } else { Mode::S };
-        let before = look(&header);
-        if ask_once(&mut header, slot, mode).is_err() {
-            assert_eq!(rt; look(&header), before);
-            ask_once(&mut header, slot, mode)?;
-        }
-        assert_eq!(rt; header.wanted_by(slot).is_some(), slot > 0);
-    }
-    let granted = drop_grant(&mut header, 0).expect(&rt, "slot 0 holds X");
-    assert_eq!(rt; granted.len(), 23);
-    Ok(())
-}
-
-/// The same of grants at once; a member's raise takes no memory.
-#[test]
-fn a_refused_grant_changes_nothing(rt: HostRuntime) -> Result<(), Refusal> {
-    let mut header = Header::new(rt.alloc());
-    for slot in 0..24 {
-        let before = look(&header);
-        if try_ask(&mut header, slot, Mode::IS).is_err() {
-            assert_eq!(rt; look(&header), before);
-            try_ask(&mut header, slot, Mode::IS)?;
-        }
-        assert_eq!(rt;
-            ask_once(&mut header, slot, Mode::IX)?,
-            Some(Asked::Granted(Mode::IX))
-        );
-    }
-    assert_eq!(rt; header.group(), Mode::IX);
     Ok(())
 }

@@ -85,6 +85,26 @@ fn too_many_transactions(rt: HostRuntime) -> Result<(), Fail> {
     try_row(&rt, rt.alloc(), &row)
 }
 
+/// A script as long as one may be is answered to its end, in small reads and in large ones, and no
+/// fault comes that neither the reader nor the writer gave.
+#[test]
+fn as_much_as_may_be(rt: HostRuntime) -> Result<(), Fail> {
+    let taken = "no 16 NameTaken a\n".len();
+    let mut script = Vec::with_capacity(rt.alloc(), 16_777_216)?;
+    for _ in 0..16_777_216 / "begin a\n".len() {
+        script.extend_from_slice(b"begin a\n")?;
+    }
+    for piece in [4_096, 99_999] {
+        let mut source = Source::new(script.as_slice(), piece);
+        let mut out = Sheet::new(rt.alloc())?;
+        let ended = answer(rt.alloc(), &mut source, &mut out, Detect::AtBlock);
+        assert_eq!(rt; ended, Ok(()));
+        assert_eq!(rt; source.given, 16_777_216);
+        assert_eq!(rt; out.text.len(), 3 + 2_097_151 * taken);
+    }
+    Ok(())
+}
+
 /// A script of more than 16,777,216 bytes ends there.
 #[test]
 fn too_much(rt: HostRuntime) -> Result<(), Fail> {

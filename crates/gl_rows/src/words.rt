@@ -1,12 +1,15 @@
 //! The words of the program: which give a plan, what it is, and what becomes of those that give none.
 
+use gl_modes::Refusal;
 use gl_table::Detect;
-use gl_tool::{Plan, RunFault, ToolFault, complain, plan, program};
+use gl_tool::{CrewFault, Plan, RunFault, ToolFault, complain, plan, program};
 use std::alloc::Global;
 use std::io;
 use std::io::{ErrorKind, Read, Write};
 use std::process::Abort;
+use std::sync::Wait;
 use std::test::Fail;
+use std::thread::Threads;
 
 /// Two readers of `db` that both ask for it alone: a deadlock.
 const SCRIPT: &[u8] =
@@ -18,7 +21,7 @@ const LEFT_WAITING: &[u8] = b"ok\nok\nok\nok S\nok S\nwait\nwait\n";
 
 const NO_WORDS: [&str; 0] = [];
 
-const REFUSED: [&[&str]; 13] = [
+const REFUSED: [&[&str]; 22] = [
     &["x"],
     &[""],
     &["-h"],
@@ -30,9 +33,27 @@ const REFUSED: [&[&str]; 13] = [
     &["--detect="],
     &["--detect", "at-block", "x"],
     &["--detect", "at-block", "--detect", "at-block"],
-    &["--crew", "2", "--rounds", "3"],
+    &["--crew", "0", "--rounds", "1"],
+    &["--crew", "129", "--rounds", "1"],
+    &["--crew", "2"],
+    &["--rounds", "2"],
+    &["--crew", "1", "--rounds", "0"],
+    &["--crew", "1", "--rounds", "100001"],
+    &["--crew", "-1", "--rounds", "1"],
+    &["--crew", "4294967297", "--rounds", "1"],
+    &["--crew", "two", "--rounds", "1"],
+    &["--crew", "1", "--crew", "1", "--rounds", "1"],
     &["at-block"],
 ];
+
+/// The line of each fault.
+const SAID: &[u8] = b"gltool: read fault\n\
+    gltool: write fault\n\
+    gltool: input too long\n\
+    gltool: no memory\n\
+    gltool: crew stopped\n\
+    gltool: crew stopped\n\
+    gltool: bad words\n";
 
 /// Every read and every write is a fault.
 #[derive(Drop)]
@@ -61,10 +82,17 @@ fn planned(alloc: Global, words: &[&str]) -> Option<Plan> {
 }
 
 /// Ends with this status, and has written the report, and the line on standard error.
-fn ends(rt: &impl Abort, alloc: Global, words: &[&str], status: u8, report: &[u8], line: &[u8]) {
+fn ends<H: Threads + Wait + Sync + Abort>(
+    rt: &H,
+    alloc: Global,
+    words: &[&str],
+    status: u8,
+    report: &[u8],
+    line: &[u8],
+) {
     let (mut reader, mut out) = (SCRIPT, Vec::new(alloc));
     let mut faults = Vec::new(alloc);
-    let ended = program(alloc, words, &mut reader, &mut out, &mut faults);
+    let ended = program(rt, alloc, words, &mut reader, &mut out, &mut faults);
     assert_eq!(rt; ended, status);
     assert_eq!(rt; reader.is_empty(), status == 0);
     assert_eq!(rt; out.as_slice(), report);
@@ -107,14 +135,74 @@ fn the_plan_is_what_runs(rt: HostRuntime) {
     ends(&rt, alloc, &["--detect=by-watcher"], 0, LEFT_WAITING, b"");
 }
 
+/// Ends with status 0, and has read nothing and written this line.
+fn counts<H: Threads + Wait + Sync + Abort>(rt: &H, alloc: Global, words: &[&str], line: &[u8]) {
+    let (mut reader, mut out) = (SCRIPT, Vec::new(alloc));
+    let mut faults = Vec::new(alloc);
+    let ended = program(rt, alloc, words, &mut reader, &mut out, &mut faults);
+    assert_eq!(rt; ended, 0);
+    assert_eq!(rt; reader.len(), SCRIPT.len());
+    assert_eq!(rt; out.as_slice(), line);
+    assert!(rt; faults.is_empty());
+}
+
+#[test]
+fn both_numbers_are_a_crew(rt: HostRuntime) {
+    let alloc = rt.alloc();
+    let crew = Some(Plan::Crew {
+        sessions: 128,
+        rounds: 100_000,
+        detect: Detect::AtBlock,
+    });
+    assert_eq!(rt;
+        planned(alloc, &["--crew", "128", "--rounds", "100000"]),
+        crew
+    );
+    let crew = Some(Plan::Crew {
+        sessions: 1,
+        rounds: 2,
+        detect: Detect::ByWatcher,
+    });
+    let words = ["--rounds=2", "--crew=1", "--detect=by-watcher"];
+    assert_eq!(rt; planned(alloc, &words), crew);
+}
+
+#[test]
+fn a_crew_prints_its_count(rt: HostRuntime) {
+    let alloc = rt.alloc();
+    counts(
+        &rt,
+        alloc,
+        &["--crew", "1", "--rounds", "1"],
+        b"accepted 7\n",
+    );
+    counts(
+        &rt,
+        alloc,
+        &["--crew", "65", "--rounds", "1"],
+        b"accepted 455\n",
+    );
+    counts(
+        &rt,
+        alloc,
+        &["--crew", "128", "--rounds", "10"],
+        b"accepted 8960\n",
+    );
+    for way in ["at-block", "by-watcher"] {
+        let words = ["--detect", way, "--crew", "4", "--rounds", "100"];
+        counts(&rt, alloc, &words, b"accepted 2800\n");
+    }
+}
+
 /// The status of a run without words. It promises nothing, as `planned`.
-fn status<R: Read, W: Write>(
+fn status<H: Threads + Wait + Sync, R: Read, W: Write>(
+    rt: &H,
     alloc: Global,
     reader: &mut R,
     writer: &mut W,
     faults: &mut Vec<u8>,
 ) -> u8 {
-    program(alloc, NO_WORDS.as_slice(), reader, writer, faults)
+    program(rt, alloc, NO_WORDS.as_slice(), reader, writer, faults)
 }
 
 #[test]
@@ -122,11 +210,42 @@ fn a_fault_has_a_status_and_a_line(rt: HostRuntime) -> Result<(), Fail> {
     let alloc = rt.alloc();
     let mut out = Vec::with_capacity(alloc, 256)?;
     let mut faults = Vec::with_capacity(alloc, 256)?;
-    assert_eq!(rt; status(alloc, &mut Broken, &mut out, &mut faults), 1);
-    assert_eq!(rt; status(alloc, &mut SCRIPT, &mut Broken, &mut faults), 1);
+    assert_eq!(rt; status(&rt, alloc, &mut Broken, &mut out, &mut faults), 1);
+    assert_eq!(rt;
+        status(&rt, alloc, &mut SCRIPT, &mut Broken, &mut faults),
+        1
+    );
     assert_eq!(rt; complain(ToolFault::Run(RunFault::TooMuch), &mut faults), 1);
+    assert_eq!(rt; complain(ToolFault::Run(RunFault::Memory), &mut faults), 1);
+    assert_eq!(rt; complain(ToolFault::Crew(CrewFault::Gate), &mut faults), 1);
+    assert_eq!(rt;
+        complain(
+            ToolFault::Crew(CrewFault::Refused(Refusal::NoMemory)),
+            &mut faults
+        ),
+        1
+    );
+    assert_eq!(rt; complain(ToolFault::Words, &mut faults), 2);
     assert_eq!(rt; complain(ToolFault::Run(RunFault::Memory), &mut Broken), 1);
-    let said = b"gltool: read fault\ngltool: write fault\ngltool: input too long\n";
-    assert_eq!(rt; faults.as_slice(), said.as_slice());
+    assert_eq!(rt; faults.as_slice(), SAID);
+    Ok(())
+}
+
+/// The count of a crew that cannot be written is a fault like any other.
+#[test]
+fn a_crew_meets_a_write_fault(rt: HostRuntime) -> Result<(), Fail> {
+    let alloc = rt.alloc();
+    let mut faults = Vec::with_capacity(alloc, 256)?;
+    let words = ["--crew", "1", "--rounds", "1"];
+    let ended = program(
+        &rt,
+        alloc,
+        words.as_slice(),
+        &mut Broken,
+        &mut Broken,
+        &mut faults,
+    );
+    assert_eq!(rt; ended, 1);
+    assert_eq!(rt; faults.as_slice(), b"gltool: write fault\n".as_slice());
     Ok(())
 }

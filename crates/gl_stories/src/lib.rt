@@ -1,11 +1,11 @@
-//! Stories of a few transactions over one table, told through its public calls: every answer that is
-//! wanted, and what is left where a growth is refused.
+//! Stories of a few transactions over one table, told through its public calls, with every answer that
+//! is wanted.
 #![tactic(auto)]
 
 #[cfg(test)]
 mod calls;
 #[cfg(test)]
-mod growths;
+mod limits;
 #[cfg(test)]
 mod story;
 #[cfg(test)]

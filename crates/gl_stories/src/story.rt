@@ -4,7 +4,6 @@
 
 ghost use Rattle.std.specs.Prelude.{◌≤◌};
 
-use gl_graph::Graph;
 use gl_modes::{Mode, NodeId, Refusal};
 use gl_table::{Detect, Effect, Locked, Notice, Status, Table, Told, TxnId};
 use gl_waits::Board;
@@ -106,10 +105,6 @@ impl Story {
         Ok(Story { table })
     }
 
-    pub fn graph(&self) -> &Graph {
-        self.table.graph()
-    }
-
     pub fn status(&self, t: TxnId) -> Option<Status> {
         self.table.status(t)
     }
@@ -120,15 +115,6 @@ impl Story {
 
     pub fn add_file(&mut self, parents: &[NodeId]) -> Result<NodeId, Refusal> {
         self.table.add_file(parents)
-    }
-
-    pub fn add_index(
-        &mut self,
-        parents: &[NodeId],
-        file: NodeId,
-        bounds: &[u64],
-    ) -> Result<NodeId, Refusal> {
-        self.table.add_index(parents, file, bounds)
     }
 
     pub fn begin(&mut self) -> Result<TxnId, Refusal> {

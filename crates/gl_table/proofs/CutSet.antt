@@ -6,14 +6,12 @@ use mathlib.Core.Bool.{true≢false}
 use Rattle.gl_modes.specs.declared.mode.Mode.{Mode}
 use Rattle.gl_modes.specs.declared.mode.Mode.TheVariants.{X}
 use Rattle.gl_modes.specs.declared.node.NodeId.{NodeId}
-use Rattle.gl_graph.specs.Graph.{Graph, node_count, parents_of, is_live}
+use Rattle.gl_graph.specs.Graph.{Graph, node_count, parents_of}
 use Rattle.gl_modes.specs.Nodes.{same_node}
 use Rattle.gl_graph.specs.Routes.{IsRoute}
-use Rattle.gl_graph.specs.Lawful.{IsLawfulGraph}
 use Rattle.gl_modes.specs.Modes.{same_mode}
-use Rattle.gl_table.specs.State.{State}
-use Rattle.gl_table.specs.Effects.{EffX, eff_x, IsCut}
-use Rattle.gl_table.specs.Laws.{CutSetLaw}
+use Rattle.gl_table.specs.Effects.{eff_x, IsCut}
+use Rattle.gl_table.specs.Laws.{CutSetLaw, LawfulCutSet}
 use Rattle.gl_table.specs.Intends.{no_parents}
 use Rattle.gl_graph.proofs.Look.{or_elim, and_both, all_at}
 use Rattle.gl_modes.proofs.NodeLemmas.{same_node-refl}
@@ -63,8 +61,7 @@ module _ (g : Graph) (held : NodeId → Mode) where
           let up = rest found.0 found.2 in
           (up.0, found.0 ∷ up.1, (ap (list_any (same_node found.0)) e ∙ found.1, up.2), ap (λ b. b || list_any is_x (found.0 ∷ up.1)) here ∙ up.3, ⊎_elim inl (λ l. inr (ap suc l)) up.4)
 
--- the law needs the graph's law alone
-pub cut_set_on : (s : State) → IsLawfulGraph s.graph → (t : ℕ) (n : NodeId) → is_live s.graph n ≡ true → (EffX s t n → IsCut s t n) × (IsCut s t n → EffX s t n)
+pub cut_set_on : CutSetLaw
 cut_set_on s law t n live = (
   λ x way path. on_path s.graph (s.held t) (node_count s.graph) n path.0 way x path.1 path.2.1,
   λ cut. by (eff_x (node_count s.graph) s.graph (s.held t) n) refl cut,
@@ -77,5 +74,5 @@ cut_set_on s law t n live = (
         absurd (⊎_elim (λ root. true≢false (sym (cut out.1 (out.0, out.2, (live_end s.graph law n out.0 out.1 live out.2, root))) ∙ out.3))
         (λ (long : length out.1 ≡ node_count s.graph). let few = route_short s.graph law n out.0 out.1 live out.2 in absurd (omega arith)) out.4)
 
-pub cut_set_law : CutSetLaw
+pub cut_set_law : LawfulCutSet
 cut_set_law s law t n live = cut_set_on s law.graph t n live

@@ -87,6 +87,7 @@ pub mod Condemned
 pub mod Victims
 pub mod FewerWait
 pub mod Settling
+pub mod Idle
 -- the ends of waits and transactions, of a table
 pub mod Cancelled
 pub mod TableEnds

@@ -1,7 +1,6 @@
 -- The list of a slot is taken out of its place, its covered children are marked, and at the end it is put back.
 use Rattle.std.specs.Prelude.{◌≡◌, ℕ, zero, suc, ◌<◌, Bool, true, false, not, ◌&&◌, ◌||◌, ◌==◌, List, length, Some, if◌then◌else◌, slice_index_or, slice_set, nat_lt}
 use Rattle.std.specs.List.{list_all, list_any}
-use Rattle.std.specs.Map.{lookup}
 use Rattle.std.proofs.Common.{refl, sym, ap, ap₂, ◌∙◌, subst, arith}
 use Rattle.std.proofs.Math.Bool.{or-false}
 use Rattle.std.proofs.Math.Path.{fun_ext}
@@ -31,7 +30,8 @@ use Rattle.gl_table.proofs.GrantKeeps.{txn_there}
 use Rattle.gl_table.proofs.Orderly.{in_no_queue}
 use Rattle.gl_table.proofs.OtherLists.{agrees-set, counts-set, own_list}
 use Rattle.gl_table.proofs.Queues.{clash}
-use Rattle.gl_table.proofs.Slots.{by_list-at, slice_get-at}
+use Rattle.gl_table.proofs.Slots.{by_list-at, kept-apart}
+use Rattle.indexmap.specs.IndexMap.{keys}
 use Rattle.gl_table.proofs.TestsPass.{one_found}
 
 -- who is active has a list
@@ -71,9 +71,9 @@ module _ (s : State) (o : IsOrderly s) (t : ℕ) (active : status_of s t ≡ Som
         (fun_ext own_mode) (none_is (count_of l c) ∙ ap not (own_count c))
 
     pub shedding_begins : (n : NodeId) → AreApart ls → (l' : LockList) → ((q : NodeId) → is_listed l' q ≡ is_listed l q) → ((q : NodeId) → mode_of l' q ≡ (if covered_in s.graph l n q then NL else mode_of l q))
-        → ((q : NodeId) → count_of l' q ≡ count_of l q) → l'.loose ≡ l.loose → IsShedding s s t n l'
-    shedding_begins n apart l' listed' modes' counts' loose' = record {
-      apart = λ q h. ap (λ x. lookup (same_node q) x.entries) loose' ∙ apart t l (slice_get-at ls t l lt at) q (sym (listed' q) ∙ h);
+        → ((q : NodeId) → count_of l' q ≡ count_of l q) → l'.loose ≡ l.loose → keys l'.entries ≡ keys l.entries → IsShedding s s t n l'
+    shedding_begins n apart l' listed' modes' counts' loose' keys' = record {
+      apart = kept-apart ls t l l' lt at apart listed' loose' keys';
       listed = λ q. listed' q ∙ sym (by_list-at (λ x. is_listed x q) false ls t l lt at) ∙ agree.listed q ∙ ap (λ b. holds (members s q) t || b) (in_no_queue s o t (ap is_wait active) q) ∙ out q;
       modes = λ q. modes' q ∙ ap₂ (λ b m. if b then NL else m) (same_covered n q) (own_mode q);
       counts = λ p. counts' p ∙ sym (by_list-at (λ x. count_of x p) 0 ls t l lt at) ∙ count p;

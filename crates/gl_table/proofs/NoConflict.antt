@@ -1,4 +1,4 @@
--- No two transactions hold conflicting effective modes, in a lawful state.
+-- No two transactions hold conflicting effective modes.
 use Rattle.std.specs.Prelude.{cond, ◌≡◌, ℕ, zero, suc, Bool, true, false, not, ◌||◌, List, [], ◌∷◌}
 use Rattle.std.specs.List.{list_any, list_all}
 use Rattle.std.proofs.Common.{sym, ap, ◌∙◌, rules}
@@ -9,7 +9,7 @@ use Rattle.gl_modes.specs.declared.node.NodeId.{NodeId}
 use Rattle.gl_modes.specs.Modes.{are_compatible, is_at_least, same_mode}
 use Rattle.gl_graph.specs.Graph.{Graph, node_count, parents_of}
 use Rattle.gl_table.specs.Effects.{eff_s, eff_x, is_read}
-use Rattle.gl_table.specs.Laws.{NoConflictLaw}
+use Rattle.gl_table.specs.Laws.{LawfulNoConflict, NoConflictLaw}
 use Rattle.gl_table.specs.Intends.{is_write, no_parents, intends_over}
 use Rattle.gl_graph.proofs.Look.{or_elim, and_both}
 
@@ -82,8 +82,9 @@ pub held_is : (m : Mode) → is_at_least m IS ≡ true → not (same_mode m NL) 
 held_is m h = search rules
 
 -- for every pair of slots
-pub no_conflict_law : NoConflictLaw
-no_conflict_law s law t u r c =
-    no_conflict s.graph (s.held t) (s.held u) (λ n. law.compatible t u n c.differ)
-    (λ n h. law.grants_intend t n (held_is _ h)) (λ n h. law.grants_intend u n (held_is _ h))
-    (node_count s.graph) (node_count s.graph) r c.writes c.reads
+pub no_conflict_on : NoConflictLaw
+no_conflict_on s together rule t u r c =
+    no_conflict s.graph (s.held t) (s.held u) (λ n. together t u n c.differ) (λ n h. rule t n (held_is _ h)) (λ n h. rule u n (held_is _ h)) (node_count s.graph) (node_count s.graph) r c.writes c.reads
+
+pub no_conflict_law : LawfulNoConflict
+no_conflict_law s law = no_conflict_on s law.compatible law.grants_intend

@@ -1,6 +1,7 @@
 -- Lists with more room say what they said.
 use Rattle.std.specs.Prelude.{◌≡◌, ℕ, ◌<◌, ◌≤◌, false, ◌==◌, List, length, is_some, if◌then◌else◌, slice_set, slice_index_or}
-use Rattle.std.specs.Map.{lookup}
+use Rattle.std.specs.List.{IsDistinct}
+use Rattle.std.specs.Map.{keys_of, lookup}
 use Rattle.std.proofs.Common.{refl, sym, ap, ap₂, ◌∙◌, subst, arith, length-set}
 use Rattle.indexmap.specs.IndexMap.{spare}
 use Rattle.gl_modes.specs.declared.mode.Mode.TheVariants.{NL}
@@ -9,7 +10,7 @@ use Rattle.gl_modes.specs.Nodes.{same_node}
 use Rattle.gl_graph.proofs.Look.{number_same, split}
 use Rattle.gl_table.specs.declared.list.Entry.{Entry}
 use Rattle.gl_table.specs.declared.list.LockList.{LockList}
-use Rattle.gl_table.specs.Lists.{HasRoom, count_in, count_of, is_listed, mode_in, mode_of}
+use Rattle.gl_table.specs.Lists.{HasRoom, IsApart, count_in, count_of, is_listed, mode_in, mode_of}
 use Rattle.gl_table.specs.Locks.{Agrees, CountsHeld}
 use Rattle.gl_table.specs.Slots.{HasRoomAt, KeepsLists, by_list, room_by}
 use Rattle.gl_table.specs.State.{State}
@@ -18,10 +19,16 @@ use Rattle.std.proofs.Math.Seq.{map-set_same}
 
 module _ (ls : List LockList) (t : ℕ) (l l' : LockList) (lt : t < length ls) (at : l ≡ slice_index_or ls t l) where
   pub keeps-set : l'.entries.entries ≡ l.entries.entries → l'.loose.entries ≡ l.loose.entries → spare l.loose ≤ spare l'.loose → KeepsLists ls (slice_set ls t l')
+  unfolding IsApart
   keeps-set entries loose more = record {
     len = length-set ls t l';
     entries = map-set_same (λ x. x.entries.entries) ls t l' l (entries ∙ ap (λ x. x.entries.entries) at);
-    apart = λ apart. apart-set ls t l' lt apart (λ n h. ap (λ (es : List (NodeId × ℕ)). lookup (same_node n) es) loose ∙ apart t l (slice_get-at ls t l lt at) n (sym (listed n) ∙ h));
+    apart = λ apart.
+        let old = apart t l (slice_get-at ls t l lt at) in
+        apart-set ls t l' lt apart (
+          subst (λ (es : List (NodeId × Entry)). IsDistinct same_node (keys_of es)) (sym entries) old.0,
+          λ n h. ap (λ (es : List (NodeId × ℕ)). lookup (same_node n) es) loose ∙ old.1 n (sym (listed n) ∙ h),
+        );
     modes = λ u q. by_list-kept ls t l lt at l' (λ x. mode_of x q) NL (ap (λ (es : List (NodeId × Entry)). mode_in (lookup (same_node q) es)) entries) u;
     listed = λ u q. by_list-kept ls t l lt at l' (λ x. is_listed x q) false (listed q) u;
     counts = λ u q. by_list-kept ls t l lt at l' (λ x. count_of x q) 0 (ap₂ (λ (es : List (NodeId × Entry)) (ks : List (NodeId × ℕ)). count_in (lookup (same_node q) es) (lookup (same_node q) ks)) entries loose) u;

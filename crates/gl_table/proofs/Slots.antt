@@ -1,12 +1,12 @@
 -- One list of many is written.
 use Rattle.std.specs.Prelude.{◌≡◌, ◌≢◌, ℕ, zero, suc, ◌+◌, ◌<◌, ◌≤◌, ◌^◌, Bool, true, false, not, ◌&&◌, ◌==◌, List, [], ◌∷◌, length, Some, if◌then◌else◌, slice_get, slice_set, slice_index_or}
-use Rattle.std.specs.List.{count_by, list_any}
+use Rattle.std.specs.List.{IsDistinct, count_by, list_any}
 use Rattle.std.specs.Option.{option_map_or}
 use Rattle.std.proofs.Common.{refl, sym, ap, ap₂, ◌∙◌, subst, arith, length-set}
 use Rattle.std.proofs.Math.Path.{fun_ext}
 use Rattle.std.proofs.lemmas.Bool.Decides.{nat_tests}
 use Rattle.std.specs.Map.{lookup}
-use Rattle.indexmap.specs.IndexMap.{IndexMap, spare}
+use Rattle.indexmap.specs.IndexMap.{IndexMap, keys, spare}
 use Rattle.gl_modes.specs.declared.mode.Mode.{Mode}
 use Rattle.gl_modes.specs.declared.mode.Mode.TheVariants.{NL}
 use Rattle.gl_modes.specs.declared.node.NodeId.{NodeId}
@@ -121,9 +121,11 @@ module _ (ls : List LockList) (t : ℕ) (n : NodeId) (ps : List NodeId) (l l' : 
       subst (λ (k : ℕ). k ≤ spare l'.loose) (by_list-at (λ x. unlisted x ps) 0 ls t l can.slot at ∙ sym (unlisted-same l l' ps listed))
       (subst (λ (k : ℕ). unlisted_by ls t ps ≤ k) (by_list-at (λ x. spare x.loose) 0 ls t l can.slot at ∙ ap spare (sym same)) (can.room (by_list-at (λ x. mode_of x n) NL ls t l can.slot at ∙ same_mode-equal (mode_of l n) NL new)))
 
-pub kept-apart : (ls : List LockList) (t : ℕ) (l l' : LockList) → t < length ls → l ≡ slice_index_or ls t l → AreApart ls → ((q : NodeId) → is_listed l' q ≡ is_listed l q) → l'.loose ≡ l.loose → IsApart l'
-kept-apart ls t l l' lt at apart listed same n h =
-    ap (λ (m : IndexMap NodeId ℕ _). lookup (same_node n) m.entries) same ∙ apart t l (slice_get-at ls t l lt at) n (sym (listed n) ∙ h)
+pub kept-apart : (ls : List LockList) (t : ℕ) (l l' : LockList) → t < length ls → l ≡ slice_index_or ls t l → AreApart ls → ((q : NodeId) → is_listed l' q ≡ is_listed l q) → l'.loose ≡ l.loose → keys l'.entries ≡ keys l.entries → IsApart l'
+unfolding IsApart
+kept-apart ls t l l' lt at apart listed same nodes =
+    let old = apart t l (slice_get-at ls t l lt at) in
+    (subst (IsDistinct same_node) (sym nodes) old.0, λ n h. ap (λ (m : IndexMap NodeId ℕ _). lookup (same_node n) m.entries) same ∙ old.1 n (sym (listed n) ∙ h))
 
 -- the modes are written, and the counts where the node was not held before
 pub held-new : (l mid l' : LockList) (n : NodeId) (m : Mode) (ps : List NodeId) → same_mode (mode_of l n) NL ≡ true

@@ -1,8 +1,10 @@
 -- What holds of a table's fields, in the words of what a contract sees.
 use Rattle.std.specs.Prelude.{◌≡◌, ℕ, zero, suc, ◌||◌, map, List, [], ◌∷◌, Option, Some, None, is_some, slice_get}
-use Rattle.std.specs.Map.{lookup}
+use Rattle.std.specs.List.{IsDistinct}
+use Rattle.std.specs.Map.{keys_of, lookup}
 use Rattle.std.specs.Option.{option_map_or}
-use Rattle.std.proofs.Common.{refl, sym, ap, ◌∙◌}
+use Rattle.std.proofs.Common.{refl, sym, ap, subst, ◌∙◌}
+use Rattle.indexmap.specs.IndexMap.{IsUnique}
 use Rattle.gl_modes.specs.declared.node.NodeId.{NodeId}
 use Rattle.gl_modes.specs.Nodes.{same_node}
 use Rattle.gl_header.specs.Header.{holds, is_among_waiters}
@@ -10,12 +12,12 @@ use Rattle.gl_table.specs.declared.list.Entry.{Entry}
 use Rattle.gl_table.specs.declared.list.LockList.{LockList}
 use Rattle.gl_table.specs.declared.table.Table.TheInside.{Inside}
 use Rattle.gl_table.specs.Lawful.{IsLawful}
-use Rattle.gl_table.specs.Lists.{count_in, entry_of, loose_of, mode_in}
+use Rattle.gl_table.specs.Lists.{IsApart, count_in, entry_of, loose_of, mode_in}
 use Rattle.gl_table.specs.Pumps.{is_waiting_at}
-use Rattle.gl_table.specs.Slots.{by_list, counted_by}
+use Rattle.gl_table.specs.Slots.{AreApart, by_list, counted_by}
 use Rattle.gl_table.specs.Sound.{IsSound, view_of}
 use Rattle.gl_table.specs.State.{State, members, status_of}
-use Rattle.gl_table.specs.Table.{ListsAgree, state_of}
+use Rattle.gl_table.specs.Table.{ListsAgree, StandOnce, state_of}
 use Rattle.gl_table.proofs.Less.{waiting_is}
 use Rattle.gl_table.proofs.Queues.{among_by_filter}
 use Rattle.gl_table.proofs.Transfer.{same_bool}
@@ -54,3 +56,17 @@ lists_agree i sound = record {
   where
     ls : List LockList
     ls = i.locks.lists.items
+
+unique_in : (l : LockList) → IsApart l → IsUnique same_node l.entries
+unfolding IsApart
+unique_in l apart = apart.0
+
+-- no list has a node twice
+lists_once : (ls : List LockList) → AreApart ls → (t : ℕ) (es : List (NodeId × Entry)) → slice_get (map (λ l. l.entries.entries) ls) t ≡ Some es → IsDistinct same_node (keys_of es)
+lists_once [] apart t es e = absurd (cc)
+lists_once (l ∷ ls) apart zero es e = let is : l.entries.entries ≡ es = cc in subst (λ (xs : List (NodeId × Entry)). IsDistinct same_node (keys_of xs)) is (unique_in l (apart 0 l refl))
+lists_once (l ∷ ls) apart (suc t) es e = lists_once ls (λ u x h. apart (suc u) x h) t es e
+
+-- and no node has two headers, by the map's own word
+pub stand_once : (i : Inside) → IsSound i → IsUnique same_node i.locks.headers → StandOnce (view_of i)
+stand_once i sound unique = record { headers = unique; lists = lists_once i.locks.lists.items sound.sound.apart }

@@ -18,6 +18,14 @@ use Rattle.gl_table.specs.State.{State, age_of, members, status_of}
 abbrev pub ModeFitsKind : State → NodeId → Mode → Type 0
 ModeFitsKind s n m = is_record_shape (shape_of s.graph n) ≡ true → (same_mode m S || same_mode m X) ≡ true
 
+-- grants of different transactions on one node are compatible (1976)
+abbrev pub GrantsGoTogether : State → Type 0
+GrantsGoTogether s = (t u : ℕ) (n : NodeId) → t ≢ u → are_compatible (s.held t n) (s.held u n) ≡ true
+
+-- every grant meets the rule of the graph (1976)
+abbrev pub GrantsIntend : State → Type 0
+GrantsIntend s = (t : ℕ) (n : NodeId) → holds (members s n) t ≡ true → intends s t n (s.held t n) ≡ true
+
 -- the law, a sentence a line:
 -- the graph is lawful; grants and waits are of living transactions on living nodes, in a mode that fits the kind
 -- grants of different transactions on one node are compatible (1976)
@@ -30,8 +38,8 @@ pub record IsLawful (s : State) : Type 0 where
   pub graph : IsLawfulGraph s.graph
   pub grants_live : (t : ℕ) (n : NodeId) → holds (members s n) t ≡ true → (is_some (s.txns t) ≡ true) × (is_live s.graph n ≡ true) × ModeFitsKind s n (s.held t n)
   pub waits_live : (t : ℕ) (n : NodeId) → is_among_waiters t (s.queue n) ≡ true → is_live s.graph n ≡ true
-  pub compatible : (t u : ℕ) (n : NodeId) → t ≢ u → are_compatible (s.held t n) (s.held u n) ≡ true
-  pub grants_intend : (t : ℕ) (n : NodeId) → holds (members s n) t ≡ true → intends s t n (s.held t n) ≡ true
+  pub compatible : GrantsGoTogether s
+  pub grants_intend : GrantsIntend s
   pub waits_intend : (t : ℕ) (n : NodeId) (m : Mode) → status_of s t ≡ Some (Waiting n m) → (intends s t n m ≡ true) × (m ≢ NL) × (is_at_least m (s.held t n) ≡ true) × ModeFitsKind s n m
   pub one_wait : (t : ℕ) (n : NodeId) (m : Mode) → status_of s t ≡ Some (Waiting n m) → filter (is_waiter t) (s.queue n) ≡ (t, m) ∷ []
   pub waits_are : (t : ℕ) (n : NodeId) → is_among_waiters t (s.queue n) ≡ true → is_waiting_at s t n ≡ true

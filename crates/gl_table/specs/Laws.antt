@@ -6,16 +6,29 @@ use Rattle.gl_waits.specs.Waits.{Reaches}
 use Rattle.gl_table.specs.declared.detect.Detect.{Detect}
 use Rattle.gl_table.specs.State.{State, empty_state, status_of}
 use Rattle.gl_table.specs.Effects.{EffX, HasNoConflict, IsCut}
-use Rattle.gl_table.specs.Lawful.{IsLawful}
+use Rattle.gl_graph.specs.Lawful.{IsLawfulGraph}
+use Rattle.gl_table.specs.Lawful.{GrantsGoTogether, GrantsIntend, IsLawful}
 use Rattle.gl_table.specs.Waiting.{HasNoCycle, Settled, is_wait, waits_for}
 
--- in a lawful state no two transactions conflict
+-- where grants of different transactions are compatible and every grant meets the rule of the graph, no two transactions conflict
 abbrev pub NoConflictLaw : Type 0
-NoConflictLaw = (s : State) → IsLawful s → HasNoConflict s
+NoConflictLaw = (s : State) → GrantsGoTogether s → GrantsIntend s → HasNoConflict s
 
--- an effective X is an X on every root path, and an X on every root path is an effective X
+-- so it is in a lawful state
+abbrev pub LawfulNoConflict : Type 0
+LawfulNoConflict = (s : State) → IsLawful s → HasNoConflict s
+
+-- an effective X is an X on every root path, and the other way round
+abbrev pub CutsOff : State → ℕ → NodeId → Type 0
+CutsOff s t n = (EffX s t n → IsCut s t n) × (IsCut s t n → EffX s t n)
+
+-- so it is over a lawful graph, whatever is granted
 abbrev pub CutSetLaw : Type 0
-CutSetLaw = (s : State) → IsLawful s → (t : ℕ) (n : NodeId) → is_live s.graph n ≡ true → (EffX s t n → IsCut s t n) × (IsCut s t n → EffX s t n)
+CutSetLaw = (s : State) → IsLawfulGraph s.graph → (t : ℕ) (n : NodeId) → is_live s.graph n ≡ true → CutsOff s t n
+
+-- and in a lawful state
+abbrev pub LawfulCutSet : Type 0
+LawfulCutSet = (s : State) → IsLawful s → (t : ℕ) (n : NodeId) → is_live s.graph n ≡ true → CutsOff s t n
 
 -- where nobody waits in a circle, whoever waits waits, over some steps, for one who does not wait
 abbrev pub ChainsEnd : Type 0

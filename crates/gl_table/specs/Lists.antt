@@ -2,7 +2,7 @@
 use Rattle.std.specs.Prelude.{◌≡◌, ℕ, ◌≤◌, ◌<◌, Bool, true, not, List, Option, Some, None, is_some}
 use Rattle.std.specs.List.{count_by}
 use Rattle.std.specs.Map.{lookup}
-use Rattle.indexmap.specs.IndexMap.{spare}
+use Rattle.indexmap.specs.IndexMap.{IsUnique, spare}
 use Rattle.gl_modes.specs.declared.mode.Mode.{Mode}
 use Rattle.gl_modes.specs.declared.mode.Mode.TheVariants.{NL}
 use Rattle.gl_modes.specs.declared.node.NodeId.{NodeId}
@@ -41,9 +41,9 @@ count_in None None = 0
 abbrev pub count_of : LockList → NodeId → ℕ
 count_of l n = count_in (entry_of l n) (loose_of l n)
 
--- no node is both listed and counted apart
-abbrev pub IsApart : LockList → Type 0
-IsApart l = (n : NodeId) → is_listed l n ≡ true → loose_of l n ≡ None
+-- each node stands once: none is listed twice, and none that is listed is also counted apart
+unfoldable pub IsApart : LockList → Type 0
+IsApart l = IsUnique same_node l.entries × ((n : NodeId) → is_listed l n ≡ true → loose_of l n ≡ None)
 
 -- how many of these are not listed
 abbrev pub unlisted : LockList → List NodeId → ℕ

@@ -46,7 +46,7 @@ room_by ls t = by_list (λ l. spare l.loose) 0 ls t
 abbrev pub unlisted_by : List LockList → ℕ → List NodeId → ℕ
 unlisted_by ls t ps = by_list (λ l. unlisted l ps) 0 ls t
 
--- in each list, no node is both listed and counted apart
+-- in each list each node stands once
 abbrev pub AreApart : List LockList → Type 0
 AreApart ls = (t : ℕ) (l : LockList) → slice_get ls t ≡ Some l → IsApart l
 

@@ -1,6 +1,7 @@
 -- What a contract sees of a table, the state of the model that it stands for, and what holds of every table.
 use Rattle.std.specs.Prelude.{◌≡◌, ℕ, ◌||◌, List, length, Option, Some, None, is_some, slice_get}
-use Rattle.std.specs.Map.{lookup}
+use Rattle.std.specs.List.{IsDistinct}
+use Rattle.std.specs.Map.{keys_of, lookup}
 use Rattle.std.specs.Option.{option_map_or}
 use Rattle.gl_modes.specs.declared.node.NodeId.{NodeId}
 use Rattle.gl_modes.specs.Nodes.{same_node}
@@ -48,3 +49,8 @@ pub record ListsAgree (v : TableView) : Type 0 where
   pub listed : (t : ℕ) (n : NodeId) → is_some (entry_at v t n) ≡ (holds (members (state_of v) n) t || is_waiting_at (state_of v) t n)
   pub modes : (t : ℕ) (n : NodeId) → mode_in (entry_at v t n) ≡ (state_of v).held t n
   pub counts : (t : ℕ) (n : NodeId) (e : Entry) → entry_at v t n ≡ Some e → e.children ≡ held_children (state_of v) t n
+
+-- each once: no node has two headers, and none stands twice in a list
+pub record StandOnce (v : TableView) : Type 0 where
+  pub headers : IsDistinct same_node (keys_of v.headers)
+  pub lists : (t : ℕ) (es : List (NodeId × Entry)) → slice_get v.lists t ≡ Some es → IsDistinct same_node (keys_of es)

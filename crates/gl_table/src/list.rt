@@ -220,6 +220,7 @@ impl LockList {
         ensures listed { IfSome result (λ n. (q : Node) → is_listed self.new q ≡ (is_listed self.old q && not (same_node q n))) }
         ensures modes { IfSome result (λ n. (q : Node) → mode_of self.new q ≡ (if same_node q n then NL else mode_of self.old q)) }
         ensures loose { self.new.loose ≡ self.old.loose }
+        ensures apart { IsApart self.old → IsApart self.new }
         ensures shorter { IfSome result (λ n. length self.new.entries.entries + 1 ≡ length self.old.entries.entries) }
     {
         if self.entries.is_empty() {
@@ -307,6 +308,7 @@ impl LockList {
         ensures modes { (q : Node) → mode_of self.new q ≡ (if covered_in (graph_of graph.now) self.old node q then NL else mode_of self.old q) }
         ensures counts { (q : Node) → count_of self.new q ≡ count_of self.old q }
         ensures loose { self.new.loose ≡ self.old.loose }
+        ensures keys { keys self.new.entries ≡ keys self.old.entries }
     {
         for at in 0..self.entries.len() {
             self.mark_one(graph, node, at);

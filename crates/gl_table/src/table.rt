@@ -7,7 +7,7 @@ ghost use Rattle.gl_table.specs.Effects.{HasNoConflict};
 ghost use Rattle.gl_table.specs.Headers.{AreHeaders};
 ghost use Rattle.gl_table.specs.Lawful.{IsLawful};
 ghost use Rattle.gl_table.specs.State.{empty_state, lives, status_of};
-ghost use Rattle.gl_table.specs.Table.{ListsAgree, state_of};
+ghost use Rattle.gl_table.specs.Table.{ListsAgree, StandOnce, state_of};
 ghost use Rattle.gl_table.specs.Waiting.{HasNoCycle};
 ghost use Rattle.gl_table.specs.declared.detect.Detect.TheVariants.{AtBlock};
 
@@ -72,16 +72,26 @@ impl Table {
     }
 
     /// The law of every table: its state is lawful; a header stands exactly where somebody holds or
-    /// waits, with the supremum of the grants as its group mode; the lists agree; no two
-    /// transactions conflict; and with detection at block nobody waits in a circle.
+    /// waits, with the supremum of the grants as its group mode; the lists agree; no node has two
+    /// headers, or stands twice in a list; no two transactions conflict; and with detection at block
+    /// nobody waits in a circle.
     pub fn law(&self)
         ensures lawful { IsLawful (state_of self.now) }
         ensures headers { AreHeaders self.now.headers }
         ensures lists { ListsAgree self.now }
+        ensures unique { StandOnce self.now }
         ensures no_conflict { HasNoConflict (state_of self.now) }
         ensures no_cycle { self.now.detect ≡ AtBlock → HasNoCycle (state_of self.now) }
+        ensures few { (state_of self.now).most ≤ 128 }
     {
-        let _ = &self.detect;
+        let _ = self.locks.headers.len();
+    }
+
+    /// How deadlocks are found.
+    pub fn detect(&self) -> Detect
+        ensures { result ≡ self.now.detect }
+    {
+        self.detect
     }
 
     /// The lock graph.

@@ -7,6 +7,7 @@ pub mod Views
 pub mod Rooms
 pub mod SoFar
 pub mod Planned
+pub mod Crews
 pub mod Outcome
 pub use Rattle.gl_modes.specs.Modes
 pub use Rattle.gl_modes.specs.Refusals

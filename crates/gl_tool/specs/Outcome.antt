@@ -1,12 +1,14 @@
 -- How the program ends.
-use Rattle.std.specs.Prelude.{◌≡◌, ℕ, List, Option, Result, Ok, Err}
+use Rattle.std.specs.Prelude.{◌≡◌, ◌⊎◌, ℕ, List, [], ◌∷◌, ◌++◌, codes, decimal, Option, Result, Ok, Err}
 use Rattle.std.specs.Io.KnownBytes.{Consumes, Appends, IsAtEnd}
 use Rattle.clap.specs.Words.{Text}
 use Rattle.gl_table.specs.declared.detect.Detect.{Detect}
-use Rattle.gl_tool.specs.declared.asked.Plan.TheVariants.{Script}
+use Rattle.gl_tool.specs.declared.asked.Plan.TheVariants as plan
 use Rattle.gl_tool.specs.declared.script.RunFault.{RunFault}
+use Rattle.gl_tool.specs.declared.script.RunFault.TheVariants.{Write}
 use Rattle.gl_tool.specs.declared.entry.ToolFault.{ToolFault}
-use Rattle.gl_tool.specs.declared.entry.ToolFault.TheVariants.{Run, Words}
+use Rattle.gl_tool.specs.declared.entry.ToolFault.TheVariants.{Run, Crew, Words}
+use Rattle.gl_tool.specs.Crews.{IsCount}
 use Rattle.gl_tool.specs.Planned.{IsPlanFor}
 use Rattle.gl_tool.specs.Report.{Report, Left}
 
@@ -23,20 +25,64 @@ HasFaulted detect fault had has held holds =
 -- the words plan a script, and it ran to its end with the detection that they ask for
 abbrev pub RunsAsPlanned : List Text → Option (List ℕ) → Option (List ℕ) → Option (List ℕ) → Option (List ℕ) → Type 0
 RunsAsPlanned words had has held holds =
-    (detect : Detect) × IsPlanFor words (Script detect) × HasRun detect had has held holds
+    (detect : Detect) × IsPlanFor words (plan.Script detect) × HasRun detect had has held holds
 
 -- the words plan a script, and its run met this fault
 abbrev pub FaultsAsPlanned : List Text → RunFault → Option (List ℕ) → Option (List ℕ) → Option (List ℕ) → Option (List ℕ) → Type 0
 FaultsAsPlanned words fault had has held holds =
-    (detect : Detect) × IsPlanFor words (Script detect) × HasFaulted detect fault had has held holds
+    (detect : Detect) × IsPlanFor words (plan.Script detect) × HasFaulted detect fault had has held holds
+
+-- the line that says how many commands a crew had accepted
+abbrev pub count_line : ℕ → Text
+count_line count = codes "accepted " ++ decimal count ++ 10 ∷ []
+
+-- a crew counted so much, and its line was written
+abbrev pub HasCounted : ℕ → Option (List ℕ) → Option (List ℕ) → Type 0
+HasCounted count held holds = Appends held holds (count_line count)
+
+-- a crew counted so much, and of its line a beginning was written
+abbrev pub HasBegunCount : ℕ → Option (List ℕ) → Option (List ℕ) → Type 0
+HasBegunCount count held holds = (front : List ℕ) × (rest : List ℕ) × Appends held holds front × (count_line count ≡ front ++ rest)
+
+-- the line was written, or a write failed
+abbrev pub PutsCount : ℕ → Option (List ℕ) → Option (List ℕ) → Result Unit ToolFault → Type 0
+PutsCount count held holds (Ok _) = HasCounted count held holds
+PutsCount count held holds (Err fault) = (fault ≡ Run Write) × HasBegunCount count held holds
+
+-- the words plan a crew; it did all its rounds, and what it counted was written so far; nothing was read
+abbrev pub CountsAsPlanned : (ℕ → Option (List ℕ) → Option (List ℕ) → Type 0) → List Text → Option (List ℕ) → Option (List ℕ) → Option (List ℕ) → Option (List ℕ) → Type 0
+CountsAsPlanned Puts words had has held holds =
+    (sessions : ℕ) × (rounds : ℕ) × (detect : Detect) × IsPlanFor words (plan.Crew sessions rounds detect) × (has ≡ had)
+    × ((count : ℕ) × IsCount detect sessions rounds count × Puts count held holds)
+
+-- the words plan a crew, and it stopped; nothing was read or written
+abbrev pub CrewStops : List Text → Option (List ℕ) → Option (List ℕ) → Option (List ℕ) → Option (List ℕ) → Type 0
+CrewStops words had has held holds =
+    (sessions : ℕ) × (rounds : ℕ) × (detect : Detect) × IsPlanFor words (plan.Crew sessions rounds detect) × (has ≡ had) × (holds ≡ held)
+
+-- what was planned was done
+abbrev pub Ends : List Text → Option (List ℕ) → Option (List ℕ) → Option (List ℕ) → Option (List ℕ) → Type 0
+Ends words had has held holds = RunsAsPlanned words had has held holds ⊎ CountsAsPlanned HasCounted words had has held holds
+
+-- what was planned met this fault
+abbrev pub StopsBy : ToolFault → List Text → Option (List ℕ) → Option (List ℕ) → Option (List ℕ) → Option (List ℕ) → Type 0
+StopsBy (Run fault) words had has held holds =
+    FaultsAsPlanned words fault had has held holds ⊎ ((fault ≡ Write) × CountsAsPlanned HasBegunCount words had has held holds)
+StopsBy (Crew fault) words had has held holds = CrewStops words had has held holds
+StopsBy Words words had has held holds = ⊥
+
+-- what was planned met some fault
+abbrev pub Stops : List Text → Option (List ℕ) → Option (List ℕ) → Option (List ℕ) → Option (List ℕ) → Type 0
+Stops words had has held holds = (fault : ToolFault) × StopsBy fault words had has held holds
 
 -- what the words plan; where no plan was read nothing is done
 abbrev pub Works : List Text → Option (List ℕ) → Option (List ℕ) → Option (List ℕ) → Option (List ℕ) → Result Unit ToolFault → Type 0
-Works words had has held holds (Ok _) = RunsAsPlanned words had has held holds
-Works words had has held holds (Err (Run fault)) = FaultsAsPlanned words fault had has held holds
+Works words had has held holds (Ok _) = Ends words had has held holds
 Works words had has held holds (Err Words) = (has ≡ had) × (holds ≡ held)
+Works words had has held holds (Err fault) = StopsBy fault words had has held holds
 
 -- the exit status after a fault
 abbrev pub status_of : ToolFault → ℕ
 status_of (Run fault) = 1
+status_of (Crew fault) = 1
 status_of Words = 2

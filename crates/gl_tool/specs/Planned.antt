@@ -1,11 +1,12 @@
 -- What the words of the program ask for.
-use Rattle.std.specs.Prelude.{◌≡◌, true, List, [], Option, None, Some, option_map, Result, Ok, Err, codes}
+use Rattle.std.specs.Prelude.{◌≡◌, ◌≤◌, ℕ, true, List, [], Option, None, Some, option_map, Result, Ok, Err, codes}
+use Rattle.std.specs.Str.Parse.{IsNumeral, digits_value, without_leading_plus}
 use denote.Ref.{Bor}
 use Rattle.clap.specs.Words.{App, Row, Rule, Text, first_of, matches_of, new_app, new_rule, with_rule}
 use Rattle.clap.specs.Kinds.{Kinds}
 use Rattle.clap.specs.Faults.{fault_of}
 use Rattle.gl_tool.specs.declared.asked.Plan.{Plan}
-use Rattle.gl_tool.specs.declared.asked.Plan.TheVariants.{Script}
+use Rattle.gl_tool.specs.declared.asked.Plan.TheVariants.{Script, Crew}
 use Rattle.gl_tool.specs.declared.words.Unread.{Unread}
 use Rattle.gl_tool.specs.declared.words.Unread.TheVariants.{Memory, Words}
 use Rattle.gl_table.specs.declared.detect.Detect.{Detect}
@@ -21,7 +22,7 @@ bare_app = let app = new_app (codes "gltool") in record app { top = record app.t
 
 -- the command line
 abbrev pub tool_app : App
-tool_app = with_rule bare_app (option_rule (codes "detect"))
+tool_app = with_rule (with_rule (with_rule bare_app (option_rule (codes "detect"))) (option_rule (codes "crew"))) (option_rule (codes "rounds"))
 
 -- the values that clap finds in the words
 unfoldable pub rows_in : List Text → List Row
@@ -38,9 +39,19 @@ IsWay None ByWatcher = ⊥
 IsWay (Some word) AtBlock = word ≡ codes "at-block"
 IsWay (Some word) ByWatcher = word ≡ codes "by-watcher"
 
--- the plan is what the value of `--detect` asks for
+-- the word is the number in decimal, as Rust reads numbers, and that is one from 1 to most
+abbrev pub IsNumberTo : ℕ → Text → ℕ → Type 0
+IsNumberTo most word n = IsNumeral 10 (without_leading_plus word) × (digits_value 10 (without_leading_plus word) ≡ n) × (1 ≤ n) × (n ≤ most)
+
+-- what the values of the three options ask for: both numbers, or neither
+abbrev pub IsAsked : Option Text → Option Text → Option Text → Plan → Type 0
+IsAsked way None None (Script detect) = IsWay way detect
+IsAsked way (Some crew) (Some rounds) (Crew s r detect) = IsNumberTo 128 crew s × IsNumberTo 100000 rounds r × IsWay way detect
+IsAsked way crew rounds plan = ⊥
+
+-- the plan is what the values that clap found ask for
 abbrev pub IsPlanOf : List Row → Plan → Type 0
-IsPlanOf rows (Script detect) = IsWay (first_of (codes "detect") rows) detect
+IsPlanOf rows plan = IsAsked (first_of (codes "detect") rows) (first_of (codes "crew") rows) (first_of (codes "rounds") rows) plan
 
 -- clap takes the words, and the plan is what it finds in them
 abbrev pub IsPlanFor : List Text → Plan → Type 0

@@ -1,5 +1,5 @@
 -- What is printed for a script, from all bytes read to all bytes written.
-use Rattle.std.specs.Prelude.{◌≡◌, ◌≢◌, ◌<◌, ◌≤◌, ◌⊎◌, Bool, true, false, List, [], ◌∷◌, ◌++◌, length, slice_index, All, codes, flat_map, Option, Result, MatchResult}
+use Rattle.std.specs.Prelude.{◌≡◌, ◌≢◌, ◌<◌, ◌≤◌, ◌⊎◌, Bool, true, false, List, [], ◌∷◌, ◌++◌, length, slice_index, All, codes, flat_map, Option, Result, MatchResult, OnOk}
 use Rattle.std.specs.Io.KnownBytes.{Consumes, Appends}
 use Rattle.std.specs.Str.{bytes_eq}
 use Rattle.gl_table.specs.declared.detect.Detect.{Detect}
@@ -107,3 +107,7 @@ abbrev pub Ran : Detect → Option Text → Option Text → Option Text → Opti
 Ran d had has held holds result =
     (read : Text) × (written : Text) × Consumes had has read × Appends held holds written
     × MatchResult result (λ _. Report d read written) (λ fault. Left d fault read written)
+
+-- how much was read: at most a byte past the limit, and with Ok no more than the limit
+abbrev pub ReadsWithin : Option Text → Option Text → Result Unit RunFault → Type 0
+ReadsWithin had has result = (read : Text) × Consumes had has read × (length read ≤ 16777217) × OnOk result (length read ≤ 16777216)

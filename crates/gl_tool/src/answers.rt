@@ -316,7 +316,7 @@ fn put_notice<W: Write>(sink: &mut Sink, writer: &mut W, desk: &Desk, notice: No
 }
 
 /// Prints a number, in decimal and without leading zeros.
-fn put_number<W: Write>(sink: &mut Sink, writer: &mut W, number: u64)
+pub(crate) fn put_number<W: Write>(sink: &mut Sink, writer: &mut W, number: u64)
     ensures { Hands (W.contents writer.old) sink.old (W.contents writer.new) sink.new (decimal number) }
 {
     let mut buffer = Buffer::new();

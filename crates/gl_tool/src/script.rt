@@ -2,7 +2,7 @@
 
 ghost use Rattle.std.specs.Prelude.{◌≡◌, ℕ, ◌<◌, List, [], ◌∷◌, ◌++◌, IfSome, OnOk, Option, length, vec_len};
 ghost use Rattle.std.specs.Io.KnownBytes.{IsAtEnd};
-ghost use Rattle.gl_tool.specs.Report.{IsOpen, Ran};
+ghost use Rattle.gl_tool.specs.Report.{IsOpen, Ran, ReadsWithin};
 ghost use Rattle.gl_tool.specs.SoFar.{Finishes, HasReported, IsNew, Takes, detect_of};
 
 use crate::interpreter::Interpreter;
@@ -48,7 +48,8 @@ pub(crate) struct Tool {
 
 /// Answers a script, line by line as it is read.
 ///
-/// What is written is the report of what is read; with `Ok` all of the reader was read. The answers
+/// What is written is the report of what is read; with `Ok` all of the reader was read. Whatever the
+/// outcome, at most 16,777,217 bytes were read, and with `Ok` at most 16,777,216. The answers
 /// to the lines at hand are written before the next read. The managers are made before the first
 /// read. Memory is taken beyond that for the names and locks of the script alone: a line that meets
 /// its want is answered `no 1 NoMemory`.
@@ -64,6 +65,7 @@ pub fn run<R: Read, W: Write>(
 ) -> Result<(), RunFault>
     ensures report { Ran detect (R.remaining reader.old) (R.remaining reader.new) (W.contents writer.old) (W.contents writer.new) result }
     ensures whole { OnOk result (IsAtEnd (R.remaining reader.new)) }
+    ensures limit { ReadsWithin (R.remaining reader.old) (R.remaining reader.new) result }
 {
     let Some(mut block) = new_block(alloc) else {
         return Err(RunFault::Memory);
@@ -103,6 +105,7 @@ fn pump<R: Read, W: Write>(
     requires room { 0 < length block.old }
     ensures report { Ran (detect_of tool.old) (R.remaining reader.old) (R.remaining reader.new) (W.contents writer.old) (W.contents writer.new) result }
     ensures whole { OnOk result (IsAtEnd (R.remaining reader.new)) }
+    ensures limit { ReadsWithin (R.remaining reader.old) (R.remaining reader.new) result }
 {
     let mut total = 0;
     while total <= LIMIT {

@@ -1,4 +1,4 @@
-//! Two scripts, and what becomes of them where memory is wanting.
+//! Two scripts.
 
 use crate::{RunFault, run};
 use gl_table::Detect;
@@ -96,50 +96,12 @@ fn reports(rt: &impl Abort, alloc: Global, script: &[u8], report: &[u8]) -> Resu
     Ok(())
 }
 
-/// Where a growth is refused, nothing was read or written, or the first line that is answered
-/// otherwise is answered with want of memory.
-fn refusal_is_answered(rt: &impl Abort, alloc: Global, script: &[u8], report: &[u8]) {
-    let Ok(mut out) = Vec::with_capacity(alloc, 512) else {
-        return;
-    };
-    let mut reader = script;
-    match answer(alloc, &mut reader, &mut out) {
-        Ok(()) => {
-            let mut answers = out.split(|byte| *byte == b'\n');
-            for want in report.split(|byte| *byte == b'\n') {
-                let answer = answers.next().unwrap_or(b"");
-                if answer != want {
-                    assert_eq!(rt; answer, b"no 1 NoMemory".as_slice());
-                    break;
-                }
-            }
-        }
-        Err(fault) => {
-            assert_eq!(rt; fault, RunFault::Memory);
-            assert_eq!(rt; reader.len(), script.len());
-            assert!(rt; out.is_empty());
-        }
-    }
-}
-
-/// Grows as the next test does, and fails where a growth is refused.
 #[test]
 fn runs_the_first_script(rt: HostRuntime) -> Result<(), Fail> {
     reports(&rt, rt.alloc(), SCRIPT, REPORT)
 }
 
 #[test]
-fn a_refused_growth_is_answered(rt: HostRuntime) {
-    refusal_is_answered(&rt, rt.alloc(), SCRIPT, REPORT);
-}
-
-/// Grows as the next test does, and fails where a growth is refused.
-#[test]
 fn runs_each_form(rt: HostRuntime) -> Result<(), Fail> {
     reports(&rt, rt.alloc(), FORMS, FORMS_REPORT)
-}
-
-#[test]
-fn a_refused_growth_of_each_form_is_answered(rt: HostRuntime) {
-    refusal_is_answered(&rt, rt.alloc(), FORMS, FORMS_REPORT);
 }

@@ -1,8 +1,9 @@
 //! The words of the program.
 
-ghost use Rattle.std.specs.Prelude.{◌≡◌, ◌↔◌, IfNone, IfOk, IfSome, map};
+ghost use Rattle.std.specs.Prelude.{◌≡◌, ◌↔◌, ℕ, IfNone, IfOk, IfSome, map};
 ghost use Rattle.clap.specs.Words.{app_of};
-ghost use Rattle.gl_tool.specs.Planned.{IsPlanFor, IsWay, Reads, text, tool_app};
+ghost use Rattle.gl_tool.specs.Planned.{IsAsked, IsNumberTo, IsPlanFor, IsWay, Reads, text, tool_app};
+ghost use Rattle.gl_tool.specs.declared.asked.Plan.{Plan as APlan};
 
 use crate::asked::Plan;
 use clap::error::ErrorKind;
@@ -10,6 +11,12 @@ use clap::{Arg, Command};
 use gl_table::Detect;
 use std::alloc::{AllocError, Global};
 use std::convert::AsStr;
+
+/// The most sessions of a crew.
+const MOST_SESSIONS: u32 = 128;
+
+/// The most rounds of a crew.
+const MOST_ROUNDS: u32 = 100_000;
 
 /// Why the words give no plan.
 #[derive(Clone, Copy, Debug, PartialEq, Eq)]
@@ -39,8 +46,9 @@ fn read_words<S: AsStr>(alloc: Global, words: &[S]) -> Result<Plan, Unread>
         Ok(matches) => matches,
         Err(error) => return Err(cause(error.kind())),
     };
-    match way(matches.get_str("detect")) {
-        Some(detect) => Ok(Plan::Script(detect)),
+    let detect = matches.get_str("detect");
+    match plan_of(detect, matches.get_str("crew"), matches.get_str("rounds")) {
+        Some(plan) => Ok(plan),
         None => Err(Unread::Words),
     }
 }
@@ -50,9 +58,13 @@ fn command<'a>(alloc: Global) -> Result<Command<'a>, AllocError>
     ensures { IfOk result (λ command. app_of command ≡ tool_app) }
 {
     let detect = Arg::new(alloc, "detect").long("detect");
+    let crew = Arg::new(alloc, "crew").long("crew");
+    let rounds = Arg::new(alloc, "rounds").long("rounds");
     Command::new(alloc, "gltool")
         .no_binary_name(true)
-        .arg(detect)
+        .arg(detect)?
+        .arg(crew)?
+        .arg(rounds)
 }
 
 /// Why there is no plan where `clap` has refused the words.
@@ -62,6 +74,39 @@ fn cause(kind: ErrorKind) -> Unread
     match kind {
         ErrorKind::OutOfMemory => Unread::Memory,
         _ => Unread::Words,
+    }
+}
+
+/// The plan that these values ask for: a script where there is neither number, a crew where there are
+/// both.
+fn plan_of(detect: Option<&str>, crew: Option<&str>, rounds: Option<&str>) -> Option<Plan>
+    ensures some { IfSome result (λ plan. IsAsked (text detect.entry) (text crew.entry) (text rounds.entry) plan) }
+    ensures none { IfNone result ((plan : APlan) → ¬ (IsAsked (text detect.entry) (text crew.entry) (text rounds.entry) plan)) }
+{
+    let detect = way(detect)?;
+    match (crew, rounds) {
+        (None, None) => Some(Plan::Script(detect)),
+        (Some(crew), Some(rounds)) => Some(Plan::Crew {
+            sessions: number_to(MOST_SESSIONS, crew)?,
+            rounds: number_to(MOST_ROUNDS, rounds)?,
+            detect,
+        }),
+        (Some(_), None) | (None, Some(_)) => None,
+    }
+}
+
+/// The number that the word spells, in decimal, where it is one from 1 to `most`.
+fn number_to(most: u32, word: &str) -> Option<u32>
+    ensures some { IfSome result (λ number. IsNumberTo most word.now number) }
+    ensures none { IfNone result ((number : ℕ) → ¬ (IsNumberTo most word.now number)) }
+{
+    let Ok(number) = word.parse::<u32>() else {
+        return None;
+    };
+    if 1 <= number && number <= most {
+        Some(number)
+    } else {
+        None
     }
 }
 

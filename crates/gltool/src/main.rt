@@ -1,4 +1,5 @@
-//! `gltool`: runs a script of lock commands from standard input to standard output.
+//! `gltool`: runs a script of lock commands from standard input to standard output, or a crew of
+//! sessions in threads.
 #![tactic(auto)]
 
 use gl_tool::{RunFault, ToolFault, complain, program};
@@ -15,6 +16,7 @@ fn main(rt: HostRuntime) -> ExitCode {
     };
     let (mut reader, mut writer) = (rt.stdin(), rt.stdout());
     ExitCode::from(program(
+        &rt,
         rt.alloc(),
         words.as_slice(),
         &mut reader,

@@ -2,7 +2,7 @@
 
 ghost use Rattle.std.specs.Prelude.{◌≡◌, []};
 ghost use Rattle.gl_catalog.specs.Manager.{state_of};
-ghost use Rattle.gl_catalog.specs.Promises.{KeepsCaller};
+ghost use Rattle.gl_catalog.specs.Promises.{KeepsCaller, SettlesIdle, StepLeavesOthers};
 ghost use Rattle.gl_catalog.specs.Step.{Step};
 
 use super::Manager;
@@ -17,9 +17,17 @@ impl Manager {
     /// Carries out one command, and answers it. A command that changes something and is not refused
     /// is counted; one that waits, or whose asker is condemned, counts too. A refused command and a
     /// query change nothing.
+    ///
+    /// To a living transaction that the command does not name, its effective mode on each record that
+    /// stands before and after is left, or raised where the reply tells it of a grant; and where it
+    /// reads a node, the records below that node are left, with their keys. A rekey and a move leave
+    /// the effective modes of their caller, and an escalation lowers none. A settle of a transaction
+    /// that is on no circle tells nobody.
     pub fn apply(&mut self, command: Command<'_>) -> Reply
         ensures step { Step (state_of self.old) command.entry result.answer result.told.items (state_of self.new) }
         ensures caller { KeepsCaller command.entry (state_of self.old) (state_of self.new) }
+        ensures others { StepLeavesOthers (state_of self.old) command.entry (result.answer, result.told.items) (state_of self.new) }
+        ensures settles { SettlesIdle (state_of self.old) command.entry result.answer result.told.items (state_of self.new) }
         ensures same { self.new.accepted ≡ self.old.accepted → self.new ≡ self.old }
     {
         let mut told = Told::new();
@@ -33,9 +41,20 @@ impl Manager {
         requires empty { told.old.items ≡ [] }
         ensures step { Step (state_of self.old) command.entry result told.new.items (state_of self.new) }
         ensures caller { KeepsCaller command.entry (state_of self.old) (state_of self.new) }
+        ensures others { StepLeavesOthers (state_of self.old) command.entry (result, told.new.items) (state_of self.new) }
+        ensures settles { SettlesIdle (state_of self.old) command.entry result told.new.items (state_of self.new) }
         ensures same { self.new.accepted ≡ self.old.accepted → self.new ≡ self.old }
     {
         self.law();
+        self.carry_out(command, told)
+    }
+
+    /// Carries out one command by the call that does it.
+    fn carry_out(&mut self, command: Command<'_>, told: &mut Told) -> Answer
+        requires empty { told.old.items ≡ [] }
+        ensures step { Step (state_of self.old) command.entry result told.new.items (state_of self.new) }
+        ensures same { self.new.accepted ≡ self.old.accepted → self.new ≡ self.old }
+    {
         match command {
             Command::Inner { parents } => node_answer(self.add_inner(parents)),
             Command::File { parents } => node_answer(self.add_file(parents)),

@@ -4,7 +4,8 @@ ghost use Rattle.std.specs.Prelude.{◌≡◌, ◌+◌, ◌∷◌, [], OnErr, On
 ghost use Rattle.gl_graph.specs.Refusals.{first_refusal, verdict};
 ghost use Rattle.gl_catalog.specs.declared.command.Command.TheVariants as command;
 ghost use Rattle.gl_catalog.specs.Manager.{state_of};
-ghost use Rattle.gl_catalog.specs.Replies.{CallSteps, rising, rose};
+ghost use Rattle.gl_catalog.specs.Promises.{KeepsCaller, StepLeavesOthers};
+ghost use Rattle.gl_catalog.specs.Replies.{CallSteps, rising, rose, said};
 ghost use Rattle.gl_catalog.specs.Tests.{escalate_asks, worn};
 
 use super::Manager;
@@ -18,16 +19,20 @@ impl Manager {
     /// else to S, and releases the children whose locks the raised one implies: a held child of which
     /// no child is held, not held in X, or held in X with X on each of its parents. Each child that
     /// was released grants from its front. Answers what was done, and who is told of a grant, by
-    /// rising slot.
+    /// rising slot. The transaction's effective mode is lowered on no node, and others are left what
+    /// `apply` leaves them.
     ///
     /// Refused, in this order, with `WornOut`, `NoSuchTxn`, `TxnWaiting`, `TxnCondemned`,
     /// `NoSuchNode`, `BadParents` (a record), `NotHeld` and `WouldBlock`, where the raised mode is not
     /// granted at once. It takes no memory, and goes over what the transaction holds.
     pub fn escalate(&mut self, t: TxnId, n: NodeId) -> Result<(Escalated, Told), Refusal>
         ensures step { CallSteps (state_of self.old) (command.Escalate t n) rose result (state_of self.new) }
+        ensures caller { KeepsCaller (command.Escalate t n) (state_of self.old) (state_of self.new) }
+        ensures others { StepLeavesOthers (state_of self.old) (command.Escalate t n) (said rose result) (state_of self.new) }
         ensures counted { OnOk result (self.new.accepted ≡ self.old.accepted + 1) }
         ensures err { OnErr result (self.new ≡ self.old) }
     {
+        self.law();
         let mut told = Told::new();
         let escalated = self.escalate_telling(t, n, &mut told)?;
         Ok((escalated, told))

@@ -10,7 +10,8 @@ ghost use Rattle.gl_table.specs.Refusals.{first_not_ix, holds_x_on_all, need_exc
 ghost use Rattle.gl_table.specs.State.{lives};
 ghost use Rattle.gl_catalog.specs.declared.command.Command.TheVariants as command;
 ghost use Rattle.gl_catalog.specs.Manager.{state_of};
-ghost use Rattle.gl_catalog.specs.Replies.{CallSteps, doing, done};
+ghost use Rattle.gl_catalog.specs.Promises.{KeepsCaller, StepLeavesOthers};
+ghost use Rattle.gl_catalog.specs.Replies.{CallSteps, doing, done, said};
 ghost use Rattle.gl_catalog.specs.Tests.{move_asks, refusal_of, worn};
 
 use super::Manager;
@@ -22,7 +23,8 @@ use gl_table::{Told, TxnId};
 impl Manager {
     /// Gives a record another key for one index of its file, and the interval in which that key lies
     /// in place of the old one. What is held stays. Waits on the record that do not meet the rule of
-    /// the graph over its new parents are over. Answers who is told of that, by rising slot.
+    /// the graph over its new parents are over. Answers who is told of that, by rising slot. The
+    /// effective modes of the transaction stay, and others are left what `apply` leaves them.
     ///
     /// Lawful where the transaction holds X on the record and IX or greater on each new parent, or X
     /// on each old and each new parent. Refused, in this order, with `WornOut`, `NoSuchTxn`,
@@ -32,9 +34,12 @@ impl Manager {
     /// no memory.
     pub fn rekey(&mut self, t: TxnId, rec: NodeId, index: NodeId, key: u64) -> Result<Told, Refusal>
         ensures step { CallSteps (state_of self.old) (command.Rekey t rec index key) done result (state_of self.new) }
+        ensures caller { KeepsCaller (command.Rekey t rec index key) (state_of self.old) (state_of self.new) }
+        ensures others { StepLeavesOthers (state_of self.old) (command.Rekey t rec index key) (said done result) (state_of self.new) }
         ensures counted { OnOk result (self.new.accepted ≡ self.old.accepted + 1) }
         ensures err { OnErr result (self.new ≡ self.old) }
     {
+        self.law();
         let mut told = Told::new();
         self.rekey_telling(t, rec, index, key, &mut told)?;
         Ok(told)
@@ -64,7 +69,8 @@ impl Manager {
 
     /// Gives an inner node, a file or an index other parents; an inner node without parents is a
     /// root. What is held stays. Waits on the node that do not meet the rule of the graph over its new
-    /// parents are over. Answers who is told of that, by rising slot.
+    /// parents are over. Answers who is told of that, by rising slot. The effective modes of the
+    /// transaction stay, and others are left what `apply` leaves them.
     ///
     /// Lawful where the transaction holds X on the node and IX or greater on each new parent, or, where
     /// there are both old and new parents, X on each of them. Refused, in this order, with `WornOut`,
@@ -74,9 +80,12 @@ impl Manager {
     /// or has a path to it) and `NoMemory`, which may come in place of `Cycle` too.
     pub fn relocate(&mut self, t: TxnId, n: NodeId, parents: &[NodeId]) -> Result<Told, Refusal>
         ensures step { CallSteps (state_of self.old) (command.Move t n parents.entry) done result (state_of self.new) }
+        ensures caller { KeepsCaller (command.Move t n parents.entry) (state_of self.old) (state_of self.new) }
+        ensures others { StepLeavesOthers (state_of self.old) (command.Move t n parents.entry) (said done result) (state_of self.new) }
         ensures counted { OnOk result (self.new.accepted ≡ self.old.accepted + 1) }
         ensures err { OnErr result (self.new ≡ self.old) }
     {
+        self.law();
         let mut told = Told::new();
         self.relocate_telling(t, n, parents, &mut told)?;
         Ok(told)

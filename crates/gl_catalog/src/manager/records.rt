@@ -8,7 +8,8 @@ ghost use Rattle.gl_table.specs.Refusals.{first_not_ix};
 ghost use Rattle.gl_table.specs.State.{lives};
 ghost use Rattle.gl_catalog.specs.declared.command.Command.TheVariants as command;
 ghost use Rattle.gl_catalog.specs.Manager.{state_of};
-ghost use Rattle.gl_catalog.specs.Replies.{CallSteps, doing, done, made};
+ghost use Rattle.gl_catalog.specs.Promises.{StepLeavesOthers};
+ghost use Rattle.gl_catalog.specs.Replies.{CallSteps, doing, done, made, said};
 ghost use Rattle.gl_catalog.specs.Tests.{insert_asks, refusal_of, worn};
 
 use super::Manager;
@@ -19,7 +20,7 @@ use gl_table::{Told, TxnId};
 impl Manager {
     /// Makes a record of a file, with a key for each of the file's indexes, in order of their making,
     /// and gives it to the transaction in X. The record lies under the file and, for each index, under
-    /// the interval that holds its key.
+    /// the interval that holds its key. Others are left what `apply` leaves them.
     ///
     /// Refused, in this order, with `WornOut`, `NoSuchTxn`, `TxnWaiting`, `TxnCondemned`,
     /// `NoSuchNode`, `BadParents` (the node is no file), `BadKeys` (not one for each index),
@@ -27,9 +28,11 @@ impl Manager {
     /// `NoMemory`.
     pub fn insert(&mut self, t: TxnId, file: NodeId, keys: &[u64]) -> Result<NodeId, Refusal>
         ensures step { CallSteps (state_of self.old) (command.Insert t file keys.entry) made result (state_of self.new) }
+        ensures others { StepLeavesOthers (state_of self.old) (command.Insert t file keys.entry) (said made result) (state_of self.new) }
         ensures counted { OnOk result (self.new.accepted ≡ self.old.accepted + 1) }
         ensures err { OnErr result (self.new ≡ self.old) }
     {
+        self.law();
         self.check_insert(t, file, keys)?;
         let rec = self.table.place(t, file, keys)?;
         self.table.law();
@@ -38,15 +41,17 @@ impl Manager {
     }
 
     /// Takes a record away that the transaction holds in X. Who waits for it is active again. Answers
-    /// who is told that it is gone, by rising slot.
+    /// who is told that it is gone, by rising slot. Others are left what `apply` leaves them.
     ///
     /// Refused, in this order, with `WornOut`, `NoSuchTxn`, `TxnWaiting`, `TxnCondemned`,
     /// `NoSuchNode`, `BadParents` (the node is no record) and `NeedExclusive`. It takes no memory.
     pub fn delete(&mut self, t: TxnId, rec: NodeId) -> Result<Told, Refusal>
         ensures step { CallSteps (state_of self.old) (command.Delete t rec) done result (state_of self.new) }
+        ensures others { StepLeavesOthers (state_of self.old) (command.Delete t rec) (said done result) (state_of self.new) }
         ensures counted { OnOk result (self.new.accepted ≡ self.old.accepted + 1) }
         ensures err { OnErr result (self.new ≡ self.old) }
     {
+        self.law();
         let mut told = Told::new();
         self.delete_telling(t, rec, &mut told)?;
         Ok(told)

@@ -9,7 +9,7 @@ ghost use Rattle.gl_graph.specs.Refusals.{first_cycle};
 ghost use Rattle.gl_graph.specs.Shapes.{is_index_of_shape, is_movable_shape, is_record_shape, least_parents};
 ghost use Rattle.gl_table.specs.Calls.{moved_to};
 ghost use Rattle.gl_table.specs.Refusals.{need_exclusive, need_new_parents, some_given};
-ghost use Rattle.gl_table.specs.State.{status_of};
+ghost use Rattle.gl_table.specs.State.{lives, status_of};
 ghost use Rattle.gl_table.specs.Table.{state_of};
 ghost use Rattle.gl_table.specs.Tellings.{told};
 ghost use Rattle.gl_table.specs.declared.txn.Status.TheVariants.{Active};
@@ -30,6 +30,7 @@ impl Table {
     /// X on each old and each new parent. Linear in the parents and the waiters of the record. It
     /// takes no memory, and refuses nothing.
     pub fn reparent(&mut self, t: TxnId, rec: NodeId, index: NodeId, key: u64) -> Told
+        requires txn { lives (state_of self.old) t ≡ true }
         requires active { status_of (state_of self.old) t.slot ≡ Some Active }
         requires record { is_record_shape (shape_of (state_of self.old).graph rec) ≡ true }
         requires index { is_index_of_shape (first_parent (state_of self.old).graph rec) (shape_of (state_of self.old).graph index) ≡ true }
@@ -53,6 +54,7 @@ impl Table {
         notices: &mut Told,
     )
         requires empty { notices.old.items ≡ [] }
+        requires txn { lives (state_of self.old) t ≡ true }
         requires active { status_of (state_of self.old) t.slot ≡ Some Active }
         requires record { is_record_shape (shape_of (state_of self.old).graph rec) ≡ true }
         requires index { is_index_of_shape (first_parent (state_of self.old).graph rec) (shape_of (state_of self.old).graph index) ≡ true }
@@ -79,6 +81,7 @@ impl Table {
     /// Refused with `Cycle`, naming the first new parent that is the node or has a path to it, and
     /// with `NoMemory`, also where the search for such a path had too little.
     pub fn regraft(&mut self, t: TxnId, n: NodeId, parents: &[NodeId]) -> Result<Told, Refusal>
+        requires txn { lives (state_of self.old) t ≡ true }
         requires active { status_of (state_of self.old) t.slot ≡ Some Active }
         requires movable { is_movable_shape (shape_of (state_of self.old).graph n) ≡ true }
         requires inner { AreInnerParents (state_of self.old).graph (least_parents (shape_of (state_of self.old).graph n)) parents.now }
@@ -104,6 +107,7 @@ impl Table {
         notices: &mut Told,
     ) -> Result<(), Refusal>
         requires empty { notices.old.items ≡ [] }
+        requires txn { lives (state_of self.old) t ≡ true }
         requires active { status_of (state_of self.old) t.slot ≡ Some Active }
         requires movable { is_movable_shape (shape_of (state_of self.old).graph n) ≡ true }
         requires inner { AreInnerParents (state_of self.old).graph (least_parents (shape_of (state_of self.old).graph n)) parents.now }

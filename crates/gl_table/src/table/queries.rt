@@ -43,6 +43,16 @@ impl Table {
         Ok(group(&self.locks.headers, n))
     }
 
+    /// The mode in which a transaction holds a node, `NL` for none; `None` where it does not live.
+    pub fn mode(&self, t: TxnId, n: NodeId) -> Option<Mode>
+        ensures { result ≡ (if lives (state_of self.now) t then Some ((state_of self.now).held t.slot n) else None) }
+    {
+        match self.status(t) {
+            Some(_) => Some(self.locks.mode(t.slot, n)),
+            None => None,
+        }
+    }
+
     /// How many children of a node a transaction holds; `None` where it does not live or does not
     /// hold the node.
     pub fn children(&self, t: TxnId, n: NodeId) -> Option<u32>

@@ -9,7 +9,7 @@ ghost use Rattle.gl_graph.specs.Refusals.{Refuses, first_refusal, too_many_nodes
 ghost use Rattle.gl_graph.specs.Shapes.{Rec, is_file_shape, is_record_shape};
 ghost use Rattle.gl_table.specs.Calls.{deleted};
 ghost use Rattle.gl_table.specs.Refusals.{first_not_ix};
-ghost use Rattle.gl_table.specs.State.{status_of, with_grant, with_graph};
+ghost use Rattle.gl_table.specs.State.{lives, status_of, with_grant, with_graph};
 ghost use Rattle.gl_table.specs.Table.{state_of};
 ghost use Rattle.gl_table.specs.Tellings.{told};
 ghost use Rattle.gl_table.specs.declared.txn.Status.TheVariants.{Active};
@@ -27,6 +27,7 @@ impl Table {
     /// Refused, in this order, with `WornOut`, `TooManyNodes` and `NoMemory`. All room is made before
     /// anything changes.
     pub fn place(&mut self, t: TxnId, file: NodeId, keys: &[u64]) -> Result<NodeId, Refusal>
+        requires txn { lives (state_of self.old) t ≡ true }
         requires active { status_of (state_of self.old) t.slot ≡ Some Active }
         requires file { is_file_shape (shape_of (state_of self.old).graph file) ≡ true }
         requires keys { length keys.now ≡ length (indexes_of (state_of self.old).graph file) }
@@ -53,6 +54,7 @@ impl Table {
     ///
     /// It takes no memory, and looks at the record's parents and waiters alone.
     pub fn remove(&mut self, t: TxnId, rec: NodeId) -> Told
+        requires txn { lives (state_of self.old) t ≡ true }
         requires active { status_of (state_of self.old) t.slot ≡ Some Active }
         requires record { is_record_shape (shape_of (state_of self.old).graph rec) ≡ true }
         requires exclusive { same_mode ((state_of self.old).held t.slot rec) X ≡ true }
@@ -67,6 +69,7 @@ impl Table {
     /// As `remove`, with the notices put into an empty list.
     pub fn remove_telling(&mut self, t: TxnId, rec: NodeId, notices: &mut Told)
         requires empty { notices.old.items ≡ [] }
+        requires txn { lives (state_of self.old) t ≡ true }
         requires active { status_of (state_of self.old) t.slot ≡ Some Active }
         requires record { is_record_shape (shape_of (state_of self.old).graph rec) ≡ true }
         requires exclusive { same_mode ((state_of self.old).held t.slot rec) X ≡ true }

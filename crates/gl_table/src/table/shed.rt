@@ -5,7 +5,7 @@ ghost use Rattle.gl_modes.specs.declared.mode.Mode.TheVariants.{S};
 ghost use Rattle.gl_modes.specs.Modes.{is_at_least};
 ghost use Rattle.gl_table.specs.Calls.{shed};
 ghost use Rattle.gl_table.specs.Covered.{covered_children, held_children};
-ghost use Rattle.gl_table.specs.State.{status_of};
+ghost use Rattle.gl_table.specs.State.{lives, status_of};
 ghost use Rattle.gl_table.specs.Table.{state_of};
 ghost use Rattle.gl_table.specs.Tellings.{told};
 ghost use Rattle.gl_table.specs.declared.txn.Status.TheVariants.{Active};
@@ -23,6 +23,7 @@ impl Table {
     ///
     /// It takes no memory, and goes over what the transaction holds.
     pub fn shed(&mut self, t: TxnId, n: NodeId) -> (u32, u32, Told)
+        requires txn { lives (state_of self.old) t ≡ true }
         requires active { status_of (state_of self.old) t.slot ≡ Some Active }
         requires reads { is_at_least ((state_of self.old).held t.slot n) S ≡ true }
         ensures state { state_of self.new ≡ shed (state_of self.old) t.slot n }
@@ -38,6 +39,7 @@ impl Table {
     /// As `shed`, with the notices put into an empty list.
     pub fn shed_telling(&mut self, t: TxnId, n: NodeId, notices: &mut Told) -> (u32, u32)
         requires empty { notices.old.items ≡ [] }
+        requires txn { lives (state_of self.old) t ≡ true }
         requires active { status_of (state_of self.old) t.slot ≡ Some Active }
         requires reads { is_at_least ((state_of self.old).held t.slot n) S ≡ true }
         ensures state { state_of self.new ≡ shed (state_of self.old) t.slot n }

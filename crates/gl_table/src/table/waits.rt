@@ -8,7 +8,8 @@ ghost use Rattle.gl_table.specs.Pumps.{is_waiting_at};
 ghost use Rattle.gl_table.specs.Refusals.{cancel_tests, living_tests};
 ghost use Rattle.gl_table.specs.Table.{state_of};
 ghost use Rattle.gl_table.specs.Tellings.{told, told_but};
-ghost use Rattle.gl_table.specs.Waiting.{Settled};
+ghost use Rattle.gl_table.specs.Waiting.{Settled, waits_for};
+ghost use Rattle.gl_waits.specs.Waits.{IsOnNoCycle};
 
 use super::Table;
 use crate::notice::Told;
@@ -48,12 +49,14 @@ impl Table {
 
     /// While the transaction waits in a circle, condemns the youngest of those on a circle with it.
     /// Each victim's wait is given up, and its node grants from its front. Answers who is told of a
-    /// grant or of being a victim, by rising slot.
+    /// grant or of being a victim, by rising slot: nobody where it is on no circle, and then nothing
+    /// changes.
     ///
     /// Refused with `NoSuchTxn`. It takes no memory.
     pub fn settle(&mut self, t: TxnId) -> Result<Told, Refusal>
         ensures told { IfOk result (λ list. list.items ≡ told (state_of self.old) (state_of self.new)) }
         ensures state { OnOk result (Settled (state_of self.old) t.slot (state_of self.new)) }
+        ensures idle { IsOnNoCycle (waits_for (state_of self.old)) t.slot → IfOk result (λ list. (list.items ≡ []) × (state_of self.new ≡ state_of self.old)) }
         ensures refuses { RefusesOnly (first_refusal (living_tests (state_of self.old) t)) result }
         ensures err { OnErr result (self.new ≡ self.old) }
     {
@@ -68,6 +71,7 @@ impl Table {
         ensures told { OnOk result (notices.new.items ≡ told (state_of self.old) (state_of self.new)) }
         ensures untold { OnErr result (notices.new ≡ notices.old) }
         ensures state { OnOk result (Settled (state_of self.old) t.slot (state_of self.new)) }
+        ensures idle { IsOnNoCycle (waits_for (state_of self.old)) t.slot → OnOk result ((notices.new.items ≡ []) × (state_of self.new ≡ state_of self.old)) }
         ensures refuses { RefusesOnly (first_refusal (living_tests (state_of self.old) t)) result }
         ensures err { OnErr result (self.new ≡ self.old) }
     {

@@ -5,7 +5,7 @@ use Rattle.gl_table.proofs.waking.hold.Goals as goal
 
 pub count_up-requires-clause-apart : goal.count_up-requires-clause-apart
 count_up-requires-clause-apart c =
-    kept-apart c.args.lists.now.items c.args.slot c.index_mut-list.result.now c.set_mode.new.self c.requires.can.slot c.index_mut-list.ensures.value c.requires.apart c.set_mode.ensures.listed c.set_mode.ensures.loose
+    kept-apart c.args.lists.now.items c.args.slot c.index_mut-list.result.now c.set_mode.new.self c.requires.can.slot c.index_mut-list.ensures.value c.requires.apart c.set_mode.ensures.listed c.set_mode.ensures.loose c.set_mode.ensures.keys
 
 pub count_up-requires-clause-room : goal.count_up-requires-clause-room
 count_up-requires-clause-room c =
@@ -25,5 +25,5 @@ pub returns-else-is_new : goal.returns-else-is_new
 returns-else-is_new c =
     held-written c.args.lists.now.items c.args.slot c.index_mut-list.result.now c.set_mode.new.self c.args.node c.args.mode c.args.parents.now c.requires.can.slot c.index_mut-list.ensures.value c.requires.apart
     (held-raised c.index_mut-list.result.now c.set_mode.new.self c.args.node c.args.mode c.args.parents.now (not-true _ (sym c.if-is_new.ensures))
-    (kept-apart c.args.lists.now.items c.args.slot c.index_mut-list.result.now c.set_mode.new.self c.requires.can.slot c.index_mut-list.ensures.value c.requires.apart c.set_mode.ensures.listed c.set_mode.ensures.loose)
+    (kept-apart c.args.lists.now.items c.args.slot c.index_mut-list.result.now c.set_mode.new.self c.requires.can.slot c.index_mut-list.ensures.value c.requires.apart c.set_mode.ensures.listed c.set_mode.ensures.loose c.set_mode.ensures.keys)
     c.set_mode.ensures.modes c.set_mode.ensures.listed c.set_mode.ensures.counts)

@@ -60,3 +60,32 @@ pub returns-clause-report : goal.returns-clause-report
 returns-clause-report g c =
     let inv = c.loop-total.invariant in
     Ran-too_much (detect_of c.args.tool.now) _ _ _ _ _ inv.taken.0 inv.whole inv.held (omega (arith, inv.taken.1)) inv.taken.2 inv.taken.3
+
+pub returns-in_default-clause-limit : goal.returns-in_default-clause-limit
+returns-in_default-clause-limit g c =
+    let inv = c.loop-total.invariant in
+    (inv.taken.0, Consumes-kept _ _ _ _ inv.taken.2 c.in_default.ensures.bytes, omega (arith, inv.taken.1, inv.bound), tt)
+
+pub returns-then-count-eq0-clause-limit : goal.returns-then-count-eq0-clause-limit
+returns-then-count-eq0-clause-limit g c =
+    let inv = c.loop-total.invariant in
+    let read = inv.taken.0 in
+    let consumes = subst (Consumes (g.R.Read.remaining c.args.reader.now) (g.R.Read.remaining c.read.new.self)) (append-nil read)
+    (Consumes-then _ _ _ read [] inv.taken.2 (rw c.if-count-eq0.true at c.in-Ok.ensures.bytes.0)) in
+    (read, consumes, omega (arith, inv.taken.1, inv.bound), OnOk-of c.finish.result (omega (arith, inv.taken.1, c.loop-total-test.true)))
+
+pub returns-then-tool-clause-limit : goal.returns-then-tool-clause-limit
+returns-then-tool-clause-limit g c =
+    let inv = c.loop-total.invariant in
+    let read = inv.taken.0 in
+    let piece = take c.in-Ok.count c.read.new.buf in (
+      read ++ piece,
+      Consumes-then _ _ _ read piece inv.taken.2 c.in-Ok.ensures.bytes.0,
+      omega (arith, length-append read piece, length-take c.in-Ok.count c.read.new.buf, inv.taken.1, c.in-Ok.ensures.bound.0, length-take c.min-most.result c.loop-total.block),
+      tt,
+    )
+
+pub returns-clause-limit : goal.returns-clause-limit
+returns-clause-limit g c =
+    let inv = c.loop-total.invariant in
+    (inv.taken.0, inv.taken.2, omega (arith, inv.taken.1, inv.bound), tt)

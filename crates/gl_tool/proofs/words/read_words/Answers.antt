@@ -1,5 +1,5 @@
 use Rattle.std.proofs.Common.{rules, refl, ap, sym, subst, codes, true, inl, inr, ◌≡◌, ◌∙◌, ◌↔◌, List, [], ◌∷◌, map, Option, Err}
-use Rattle.clap.specs.Words.{App, Text, first_of, found_of, is_simple, matches_of, rows_of}
+use Rattle.clap.specs.Words.{App, Text, first_of, first_value, found_of, is_simple, matches_of, rows_of}
 use Rattle.clap.specs.Simple.{HasMatchesOf}
 use Rattle.clap.specs.Kinds.{HasKind, Kinds}
 use Rattle.clap.specs.Faults.{fault_of, is_simple_and_free}
@@ -9,11 +9,10 @@ use Rattle.clap.specs.declared.error.kind.ErrorKind.TheVariants.{OutOfMemory}
 use Rattle.clap.specs.declared.parser.matches.ArgMatches.{ArgMatches}
 use Rattle.clap.proofs.OnLiterals.{clap_on_literals}
 use Rattle.clap.proofs.WalkLemmas.{first_value-rows}
-use Rattle.gl_tool.specs.declared.asked.Plan.TheVariants.{Script}
-use Rattle.gl_table.specs.declared.detect.Detect.{Detect}
+use Rattle.gl_tool.specs.declared.asked.Plan.{Plan}
 use Rattle.gl_tool.specs.declared.words.Unread.{Unread}
 use Rattle.gl_tool.specs.declared.words.Unread.TheVariants.{Memory, Words}
-use Rattle.gl_tool.specs.Planned.{HasNoPlan, IsWay, Reads, faults_in, rows_in, tool_app}
+use Rattle.gl_tool.specs.Planned.{HasNoPlan, IsAsked, IsPlanOf, Reads, faults_in, rows_in, tool_app}
 use Rattle.gl_tool.proofs.words.read_words.Goals as goal
 
 is_simple_tool : is_simple tool_app ≡ true
@@ -40,29 +39,46 @@ refused kinds words e Words why are (inl wanting) = let bad : Words ≡ Memory =
 refused [] words e Words why are (inr among) = absurd among
 refused (k ∷ ks) words e Words why are (inr among) = λ plan p. let bad : k ∷ ks ≡ [] = are ∙ p.0 in absurd (cc)
 
--- where the value names no way, there is no plan
-no_way : (word : Option Text) (words : List Text) → word ≡ first_of (codes "detect") (rows_in words) → ((d : Detect) → ¬ (IsWay word d)) → HasNoPlan words
-no_way word words is none (Script d) p = none d (subst (λ w. IsWay w d) (sym is) p.1)
-
 pub returns-in-Err : goal.returns-in-Err
 returns-in-Err g c =
     let app_is = c.in-Ok.ensures in
     let words = map g.S.AsStr.text c.args.words.now in
     refused _ words c.in-Err.error c.cause.result (search rules) (faults_are _ words app_is) (c.in-Err.ensures.kinds (ap is_simple_and_free app_is ∙ is_free_tool))
 
+-- where the values ask for nothing, there is no plan
+no_plan : (a b c : Option Text) (words : List Text) → a ≡ first_of (codes "detect") (rows_in words) → b ≡ first_of (codes "crew") (rows_in words) → c ≡ first_of (codes "rounds") (rows_in words)
+    → ((plan : Plan) → ¬ (IsAsked a b c plan)) → HasNoPlan words
+no_plan a b c words ea eb ec none plan p = none plan (subst (λ z. IsAsked a b z plan) (sym ec) (subst (λ z. IsAsked a z (first_of (codes "rounds") (rows_in words)) plan) (sym eb) (subst (λ z. IsAsked z (first_of (codes "crew") (rows_in words)) (first_of (codes "rounds") (rows_in words)) plan) (sym ea) p.1)))
+
+-- what the values ask for is the plan
+is_plan : (a b c : Option Text) (words : List Text) (plan : Plan) → a ≡ first_of (codes "detect") (rows_in words) → b ≡ first_of (codes "crew") (rows_in words) → c ≡ first_of (codes "rounds") (rows_in words)
+    → IsAsked a b c plan → IsPlanOf (rows_in words) plan
+is_plan a b c words plan ea eb ec p = subst (λ z. IsAsked (first_of (codes "detect") (rows_in words)) (first_of (codes "crew") (rows_in words)) z plan) ec (subst (λ z. IsAsked (first_of (codes "detect") (rows_in words)) z c plan) eb (subst (λ z. IsAsked z b c plan) ea p))
+
+-- what clap gives for an option
+value : (app : App) (words : List Text) (m : ArgMatches) (id : Text) (o : Option Text) → app ≡ tool_app → HasMatchesOf app words m → o ≡ first_value (found_of m) id → o ≡ first_of id (rows_in words)
+value app words m id o is h e = e ∙ first_value-rows (found_of m) id ∙ ap (first_of id) (rows_are app words m is h)
+
 pub returns-in-Some : goal.returns-in-Some
 returns-in-Some g c =
     let app_is = c.in-Ok.ensures in
     let words = map g.S.AsStr.text c.args.words.now in
-    let taken = c.in-Ok-try_get_matches_from in
-    let rows = rows_are _ words taken.matches app_is taken.ensures.matches in (
+    let taken = c.in-Ok-try_get_matches_from in (
       sym (faults_are _ words app_is) ∙ taken.ensures.kinds (ap is_simple_and_free app_is ∙ is_free_tool),
-      subst (λ w. IsWay w c.in-Some.detect) (c.get_str.ensures ∙ first_value-rows (found_of taken.matches) (codes "detect") ∙ ap (first_of (codes "detect")) rows) c.in-Some.ensures.some,
+      is_plan _ _ _ words c.in-Some.plan
+          (value _ words taken.matches _ _ app_is taken.ensures.matches c.get_str-detect.ensures)
+          (value _ words taken.matches _ _ app_is taken.ensures.matches c.get_str.ensures)
+          (value _ words taken.matches _ _ app_is taken.ensures.matches c.get_str-2.ensures)
+          c.in-Some.ensures.some,
     )
 
 pub returns : goal.returns
 returns g c =
+    let app_is = c.in-Ok.ensures in
     let words = map g.S.AsStr.text c.args.words.now in
     let taken = c.in-Ok-try_get_matches_from in
-    let rows = rows_are _ words taken.matches c.in-Ok.ensures taken.ensures.matches in
-    no_way _ words (c.get_str.ensures ∙ first_value-rows (found_of taken.matches) (codes "detect") ∙ ap (first_of (codes "detect")) rows) c.in-None.ensures.none
+    no_plan _ _ _ words
+    (value _ words taken.matches _ _ app_is taken.ensures.matches c.get_str-detect.ensures)
+    (value _ words taken.matches _ _ app_is taken.ensures.matches c.get_str.ensures)
+    (value _ words taken.matches _ _ app_is taken.ensures.matches c.get_str-2.ensures)
+    c.in-None.ensures.none

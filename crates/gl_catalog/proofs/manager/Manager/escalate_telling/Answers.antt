@@ -9,7 +9,7 @@ use Rattle.gl_catalog.specs.Manager.{ManagerView, counting, state_of}
 use Rattle.gl_catalog.specs.Replies.{CallSteps, rising}
 use Rattle.gl_catalog.specs.Sound.{view_of}
 use Rattle.gl_catalog.specs.Tests.{escalate_asks, worn}
-use Rattle.gl_catalog.proofs.Raising.{asked_is, asks_err, raised_active, reads, shed_step, tried_err}
+use Rattle.gl_catalog.proofs.Raising.{asked_is, asks_err, raised_active, raised_lives, reads, shed_step, tried_err}
 use Rattle.gl_catalog.proofs.manager.Manager.escalate_telling.Goals.{After-try_lock, then-writes_below, else-writes_below}
 use Rattle.gl_catalog.proofs.manager.Manager.escalate_telling.Goals as goal
 
@@ -37,6 +37,11 @@ returns-in_err-mode-clause-step c =
     let is : c.from_residual-in_err-mode.result ≡ Err c.in_err-mode.field-0.0 = search rules in
     coe 0 1 (i. CallSteps (state_of (c.self.view_is i)) (command.Escalate c.args.t c.args.n) (rising c.args.told.now.items) (sym is i) (counting c.self.inside.accepted (table_state (sym c.in_err-mode.ensures.err i))))
     (tried_err (state_of (view_of c.self.inside)) c.args.t c.args.n (passed p) c.self.invariant.lawful c.if-writes_below.asked (asked p) c.in_err-mode.field-0.0 c.in_err-mode.ensures.refuses c.in_err-mode.ensures.held)
+
+pub shed_telling-released-requires-clause-txn : goal.shed_telling-released-requires-clause-txn
+shed_telling-released-requires-clause-txn c =
+    let p = (goal.at.shed_telling-released-requires-clause-txn c).After-try_lock in
+    raised_lives c.self.inside.accepted (table_state c.self.inside.table) c.args.t c.args.n (passed p) c.if-writes_below.asked (asked p) (table_state c.try_lock.new.self) c.in_ok-mode.ensures.state
 
 pub shed_telling-released-requires-clause-active : goal.shed_telling-released-requires-clause-active
 shed_telling-released-requires-clause-active c =

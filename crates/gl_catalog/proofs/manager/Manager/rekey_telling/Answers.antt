@@ -27,6 +27,9 @@ asked c = subst (λ (v : ManagerView). Ok tt ≡ verdict (refusal_of (state_of v
 may : (c : In_ok-check_rekey) → MayReparent (state_of (view_of c.self.inside)) c.args.t c.args.rec c.args.index c.args.key
 may c = may_reparent (state_of (view_of c.self.inside)) c.args.t c.args.rec c.args.index c.args.key (asked c)
 
+pub reparent_telling-requires-clause-txn : goal.reparent_telling-requires-clause-txn
+reparent_telling-requires-clause-txn c = (may (goal.at.reparent_telling-requires-clause-txn c).In_ok-check_rekey).txn
+
 pub reparent_telling-requires-clause-active : goal.reparent_telling-requires-clause-active
 reparent_telling-requires-clause-active c = (may (goal.at.reparent_telling-requires-clause-active c).In_ok-check_rekey).active
 

@@ -26,6 +26,9 @@ asked c = subst (λ (v : ManagerView). Ok tt ≡ verdict (first_refusal (worn (s
 may : (c : In_ok-check_relocate) → MayRegraft (state_of (view_of c.self.inside)) c.args.t c.args.n c.args.parents.now
 may c = may_regraft (state_of (view_of c.self.inside)) c.args.t c.args.n c.args.parents (asked c)
 
+pub regraft_telling-requires-clause-txn : goal.regraft_telling-requires-clause-txn
+regraft_telling-requires-clause-txn c = (may (goal.at.regraft_telling-requires-clause-txn c).In_ok-check_relocate).txn
+
 pub regraft_telling-requires-clause-active : goal.regraft_telling-requires-clause-active
 regraft_telling-requires-clause-active c = (may (goal.at.regraft_telling-requires-clause-active c).In_ok-check_relocate).active
 

@@ -1,7 +1,7 @@
 use Rattle.std.proofs.Common.{◌-◌, rules, arith, refl, ap, sym, ◌∙◌}
 use Rattle.std.proofs.lemmas.Bool.{false≢true}
 use Rattle.std.specs.Prelude.{is_some}
-use Rattle.gl_table.specs.Lists.{mode_in}
+use Rattle.gl_table.specs.Lists.{IsApart, mode_in}
 use Rattle.gl_table.proofs.ListWrites.{at_each, IsWritten-same, SameListed, SameMode, StaysApart, CountsDown, CountsDown-last, IsWritten-twice}
 use Rattle.gl_table.proofs.list.LockList.count_one_down.Goals as goal
 
@@ -16,9 +16,13 @@ returns-in-Some-clause-modes c =
     (IsWritten-same c.args.n c.args.self.now.loose.entries) (ap mode_in c.in-Some.ensures.value) (λ x y. refl)
 
 pub returns-in-Some-clause-apart : goal.returns-in-Some-clause-apart
-returns-in-Some-clause-apart c = λ q.
-    at_each StaysApart c.args.n _ _ _ _ _ _ ((c.get_mut.follows.holds _).3 (search rules)).0
-    (IsWritten-same c.args.n c.args.self.now.loose.entries) (λ f _. f (ap is_some (sym c.in-Some.ensures.value))) (λ x y f. f) q (c.requires.apart q)
+unfolding IsApart
+returns-in-Some-clause-apart c = (
+  (c.get_mut.follows.holds _).4,
+  λ q.
+      at_each StaysApart c.args.n _ _ _ _ _ _ ((c.get_mut.follows.holds _).3 (search rules)).0
+      (IsWritten-same c.args.n c.args.self.now.loose.entries) (λ f _. f (ap is_some (sym c.in-Some.ensures.value))) (λ x y f. f) q (c.requires.apart.1 q),
+)
 
 pub returns-then-children-eq0-clause-counts : goal.returns-then-children-eq0-clause-counts
 returns-then-children-eq0-clause-counts c =
@@ -29,17 +33,27 @@ returns-then-children-eq0-clause-counts c =
     (CountsDown-last _ _ _ c.in_default.ensures.value c.in-Some-get_mut.ensures.value c.requires.some c.if-children-eq0.true) (λ x y. omega arith))
 
 pub returns-then-children-eq0-clause-apart : goal.returns-then-children-eq0-clause-apart
+unfolding IsApart
 returns-then-children-eq0-clause-apart c =
     let counted = (c.get_mut-in_default.follows.holds (c.in-Some-get_mut.children.now - 1)).3 (search rules) in
     rw c.get_mut.follows.holds-at-none
-    (λ q. at_each StaysApart c.args.n _ _ _ _ _ _ (IsWritten-same c.args.n c.args.self.now.entries.entries)
-    (IsWritten-twice c.args.n _ _ _ _ _ counted.0 c.swap_remove.ensures.updates.0)
-    (λ _ _. refl) (λ x y f. f) q (c.requires.apart q))
+    ((
+      c.requires.apart.0,
+      λ q.
+          at_each StaysApart c.args.n _ _ _ _ _ _ (IsWritten-same c.args.n c.args.self.now.entries.entries)
+          (IsWritten-twice c.args.n _ _ _ _ _ counted.0 c.swap_remove.ensures.updates.0)
+          (λ _ _. refl) (λ x y f. f) q (c.requires.apart.1 q),
+    ))
 
 pub returns-else-children-eq0-clause-apart : goal.returns-else-children-eq0-clause-apart
+unfolding IsApart
 returns-else-children-eq0-clause-apart c =
     let counted = (c.get_mut-in_default.follows.holds (c.in-Some-get_mut.children.now - 1)).3 (search rules) in
     rw c.get_mut.follows.holds-at-none
-    (λ q. at_each StaysApart c.args.n _ _ _ _ _ _ (IsWritten-same c.args.n c.args.self.now.entries.entries)
-    counted.0
-    (λ _ h. absurd (false≢true (ap is_some c.in_default.ensures.value ∙ h))) (λ x y f. f) q (c.requires.apart q))
+    ((
+      c.requires.apart.0,
+      λ q.
+          at_each StaysApart c.args.n _ _ _ _ _ _ (IsWritten-same c.args.n c.args.self.now.entries.entries)
+          counted.0
+          (λ _ h. absurd (false≢true (ap is_some c.in_default.ensures.value ∙ h))) (λ x y f. f) q (c.requires.apart.1 q),
+    ))

@@ -1,6 +1,7 @@
 use Rattle.std.proofs.Common.{refl, ap, sym, ◌∙◌}
 use Rattle.std.specs.Prelude.{unwrap_or}
 use Rattle.std.proofs.lemmas.Result.{IfOk-at_ok}
+use Rattle.gl_table.specs.Lists.{IsApart}
 use Rattle.gl_table.proofs.ListWrites.{at_each, count_in-unlisted, SameCount, StaysApart}
 use Rattle.gl_table.proofs.list.LockList.enter.Goals as goal
 
@@ -10,6 +11,10 @@ returns-clause-counts c =
     (c.unwrap_or-children.ensures ∙ ap (λ o. unwrap_or o 0) c.swap_remove.ensures.value ∙ sym (count_in-unlisted _ _ c.requires.new)) (λ x y. refl)
 
 pub returns-clause-apart : goal.returns-clause-apart
-returns-clause-apart c = λ q.
-    at_each StaysApart c.args.n _ _ _ _ _ _ (IfOk-at_ok _ c.unwrap.ensures c.insert.ensures.updates).0 c.swap_remove.ensures.updates.0
-    (λ _ _. refl) (λ x y f. f) q (c.requires.apart q)
+unfolding IsApart
+returns-clause-apart c = (
+  c.insert.ensures.unique,
+  λ q.
+      at_each StaysApart c.args.n _ _ _ _ _ _ (IfOk-at_ok _ c.unwrap.ensures c.insert.ensures.updates).0 c.swap_remove.ensures.updates.0
+      (λ _ _. refl) (λ x y f. f) q (c.requires.apart.1 q),
+)

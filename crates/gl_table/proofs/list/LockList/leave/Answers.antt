@@ -1,7 +1,7 @@
-use Rattle.std.proofs.Common.{refl, ap, sym, ◌∙◌, arith}
+use Rattle.std.proofs.Common.{rules, refl, ap, sym, ◌∙◌, arith}
 use Rattle.std.specs.Prelude.{is_some, None}
 use Rattle.std.proofs.lemmas.Result.{IfOk-at_ok}
-use Rattle.gl_table.specs.Lists.{count_in, loose_of}
+use Rattle.gl_table.specs.Lists.{IsApart, count_in, loose_of}
 use Rattle.gl_table.proofs.ListWrites.{at_each, IsWritten-same, IsTakenOut, SameCount, StaysApart, IsTakenOut-here, IsTakenOut-apart}
 use Rattle.gl_table.proofs.list.LockList.leave.Goals as goal
 
@@ -15,22 +15,35 @@ returns-then-entry-gt0-clause-counts c =
     (ap (λ x. count_in x (loose_of c.args.self.now c.args.n)) c.in-Some.ensures.value) (λ x y. refl)
 
 pub returns-then-entry-gt0-clause-apart : goal.returns-then-entry-gt0-clause-apart
-returns-then-entry-gt0-clause-apart c = λ q.
-    at_each StaysApart c.args.n _ _ _ _ _ _ c.swap_remove.ensures.updates.0 (IfOk-at_ok _ c.unwrap.ensures c.insert.ensures.updates).0
-    (λ f e. cc) (λ x y f. f) q (c.requires.apart q)
+unfolding IsApart
+returns-then-entry-gt0-clause-apart c = (
+  c.swap_remove.ensures.unique,
+  λ q.
+      at_each StaysApart c.args.n _ _ _ _ _ _ c.swap_remove.ensures.updates.0 (IfOk-at_ok _ c.unwrap.ensures c.insert.ensures.updates).0
+      (λ f e. cc) (λ x y f. f) q (c.requires.apart.1 q),
+)
 
 pub returns-else-entry-gt0-clause-listed : goal.returns-else-entry-gt0-clause-listed
 returns-else-entry-gt0-clause-listed c =
     at_each IsTakenOut c.args.n _ _ _ _ _ _ c.swap_remove.ensures.updates.0 (IsWritten-same c.args.n c.args.self.now.loose.entries) (IsTakenOut-here _) IsTakenOut-apart
 
 pub returns-else-entry-gt0-clause-counts : goal.returns-else-entry-gt0-clause-counts
+unfolding IsApart
 returns-else-entry-gt0-clause-counts c =
     at_each SameCount c.args.n _ _ _ _ _ _ c.swap_remove.ensures.updates.0 (IsWritten-same c.args.n c.args.self.now.loose.entries)
-    (ap (count_in None) (c.requires.apart c.args.n (ap is_some (sym c.in-Some.ensures.value)))
+    (ap (count_in None) (c.requires.apart.1 c.args.n (ap is_some (sym c.in-Some.ensures.value)))
     ∙ omega arith ∙ ap (λ x. count_in x (loose_of c.args.self.now c.args.n)) c.in-Some.ensures.value)
     (λ x y. refl)
 
 pub returns-else-entry-gt0-clause-apart : goal.returns-else-entry-gt0-clause-apart
-returns-else-entry-gt0-clause-apart c = λ q.
-    at_each StaysApart c.args.n _ _ _ _ _ _ c.swap_remove.ensures.updates.0 (IsWritten-same c.args.n c.args.self.now.loose.entries)
-    (λ f e. cc) (λ x y f. f) q (c.requires.apart q)
+unfolding IsApart
+returns-else-entry-gt0-clause-apart c = (
+  c.swap_remove.ensures.unique,
+  λ q.
+      at_each StaysApart c.args.n _ _ _ _ _ _ c.swap_remove.ensures.updates.0 (IsWritten-same c.args.n c.args.self.now.loose.entries)
+      (λ f e. cc) (λ x y f. f) q (c.requires.apart.1 q),
+)
+
+pub returns-in_default-clause-apart : goal.returns-in_default-clause-apart
+unfolding IsApart
+returns-in_default-clause-apart c = search rules

@@ -111,7 +111,7 @@ put_raised c r = let g = graph_of c.args.graph.now in let l = c.if-is_new.self i
     is_granted g c.args.self.now l _ t n c.args.mode c.holds-is_new.result r c.in_ok-wanted.field-0 c.in-Granted.wanted c.law.ensures.lawful c.requires.live c.requires.lock c.ask.ensures.headers c.in_ok-wanted.ensures.answer c.in-Granted.is c.in_ok-wanted.ensures.granted
     refl
     (has_node-set l.lists.items t x x' listed c.index_mut-list.ensures.value n c.in-Granted.wanted r.may.sound.apart
-    (kept-apart l.lists.items t x x' listed c.index_mut-list.ensures.value r.may.sound.apart c.set_mode.ensures.listed c.set_mode.ensures.loose)
+    (kept-apart l.lists.items t x x' listed c.index_mut-list.ensures.value r.may.sound.apart c.set_mode.ensures.listed c.set_mode.ensures.loose c.set_mode.ensures.keys)
     c.set_mode.ensures.modes
     (λ q. c.set_mode.ensures.listed q ∙ also_listed x n (own-listed g l t r.may x c.index_mut-list.ensures.value n ∙ r.is_held ∙ c.if-is_new-2.false) q))
     (counts-set l.lists.items t x x' listed c.index_mut-list.ensures.value (λ q. if same_mode (held_of l.headers.entries t n) NL then count_by (same_node q) (parents_of g n) else 0)

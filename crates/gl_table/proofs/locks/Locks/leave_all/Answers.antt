@@ -1,6 +1,6 @@
 use Rattle.std.specs.Prelude.{◌≡◌, ◌<◌, ℕ, true, false, length, slice_set}
 use Rattle.std.specs.List.{count_by}
-use Rattle.std.proofs.Common.{◌∙◌, subst, sym}
+use Rattle.std.proofs.Common.{◌∙◌, length-set, subst, sym}
 use Rattle.gl_modes.specs.declared.node.NodeId.{NodeId}
 use Rattle.gl_graph.specs.Graph.{nodes}
 use Rattle.gl_graph.specs.View.{graph_of}
@@ -12,7 +12,7 @@ use Rattle.gl_table.specs.State.{State, members}
 use Rattle.gl_table.proofs.Departures.{IsLeaving, left_free, left_released, leaving_begins, leaving_fewer, leaving_one}
 use Rattle.gl_table.proofs.Orderly.{stands_other}
 use Rattle.gl_table.proofs.OtherLists.{agrees-set, counts-set, popped-listed}
-use Rattle.gl_table.proofs.Slots.{by_list-at}
+use Rattle.gl_table.proofs.Slots.{apart-set, by_list-at, slice_get-at}
 use Rattle.gl_table.proofs.locks.Locks.leave_all.Goals as goal
 
 pub loop-node-init : goal.loop-node-init
@@ -20,6 +20,25 @@ loop-node-init c = record {
   sound = c.requires.sound;
   leaving = leaving_begins (state_on (graph_of c.args.graph.now) c.args.self.now) c.args.slot c.args.self.now.lists.items c.args.told.now.items c.requires.orderly c.requires.quiet c.requires.agree c.requires.count c.requires.by_slot c.requires.untold;
 }
+
+pub drop_and_wake-requires-clause-sound : goal.drop_and_wake-requires-clause-sound
+drop_and_wake-requires-clause-sound c =
+    let is = c.loop-node.invariant.sound in
+    let ls = c.loop-node.self.lists.items in
+    let seated : c.args.slot < length ls = subst (λ (k : ℕ). c.args.slot < k) (sym (is.lists ∙ c.loop-node.invariant.leaving.most)) c.requires.seated in
+    record {
+      headers = is.headers;
+      few = is.few;
+      lists = length-set ls c.args.slot c.pop.new.self ∙ is.lists;
+      apart = apart-set ls c.args.slot c.pop.new.self seated is.apart
+          (c.in-Some.ensures.apart (is.apart c.args.slot c.index_mut.result.now (slice_get-at ls c.args.slot c.index_mut.result.now seated c.index_mut.ensures.value)));
+    }
+
+pub drop_and_wake-requires-clause-holds : goal.drop_and_wake-requires-clause-holds
+drop_and_wake-requires-clause-holds c =
+    let seated : c.args.slot < length c.loop-node.self.lists.items = subst (λ (k : ℕ). c.args.slot < k) (sym (c.loop-node.invariant.sound.lists ∙ c.loop-node.invariant.leaving.most)) c.requires.seated in
+    sym (c.loop-node.invariant.leaving.listed c.in-Some.node)
+    ∙ by_list-at (λ l. is_listed l c.in-Some.node) false c.loop-node.self.lists.items c.args.slot c.index_mut.result.now seated c.index_mut.ensures.value ∙ c.in-Some.ensures.was
 
 pub drop_and_wake-requires-clause-agree : goal.drop_and_wake-requires-clause-agree
 drop_and_wake-requires-clause-agree c =

@@ -32,7 +32,7 @@ release_marked-requires-clause-count c = λ u e.
 pub release_marked-requires-clause-marked : goal.release_marked-requires-clause-marked
 release_marked-requires-clause-marked c =
     shedding_begins (state_on (graph_of c.args.graph.now) c.args.self.now) c.requires.orderly c.args.slot c.requires.active c.law.ensures.lawful c.args.self.now.lists.items c.replace-list.result (list_there c.args.self.now (graph_of c.args.graph.now) c.requires.sound c.requires.orderly c.args.slot c.requires.active) (taken_out c.args.self.now.lists.items c.args.slot c.index_mut.result.now c.replace-list.result c.replace-list.ensures.value c.index_mut.ensures.value)
-    (c.requires.agree c.args.slot) (c.requires.count c.args.slot) c.args.node c.requires.sound.apart c.mark_covered.new.self c.mark_covered.ensures.listed c.mark_covered.ensures.modes c.mark_covered.ensures.counts c.mark_covered.ensures.loose
+    (c.requires.agree c.args.slot) (c.requires.count c.args.slot) c.args.node c.requires.sound.apart c.mark_covered.new.self c.mark_covered.ensures.listed c.mark_covered.ensures.modes c.mark_covered.ensures.counts c.mark_covered.ensures.loose c.mark_covered.ensures.keys
 
 pub returns-clause-sound : goal.returns-clause-sound
 returns-clause-sound c = record {

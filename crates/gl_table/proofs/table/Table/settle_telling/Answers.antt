@@ -1,8 +1,10 @@
 use Rattle.std.proofs.Common.{ap, subst, ◌∙◌}
+use Rattle.gl_table.specs.Lawful.{IsLawful}
 use Rattle.gl_table.specs.Sound.{view_of}
 use Rattle.gl_table.specs.Table.{TableView, state_of}
 use Rattle.gl_table.specs.Tellings.{told}
 use Rattle.gl_table.specs.Waiting.{Settled}
+use Rattle.gl_table.proofs.Idle.{settled_same, told_settled_same}
 use Rattle.gl_table.proofs.TableCalls.{orderly}
 use Rattle.gl_table.proofs.TableEnds.{sound_settled, state_settled, told_settled}
 use Rattle.gl_table.proofs.table.Table.settle_telling.Goals as goal
@@ -22,3 +24,11 @@ pub returns-clause-told : goal.returns-clause-told
 returns-clause-told c =
     told_settled c.self.inside c.self.invariant c.args.t.slot c.settle.new.self c.settle.ensures.state c.args.notices.now.items c.settle.new.told.items c.requires.empty c.settle.ensures.by_slot c.settle.ensures.tells
     ∙ ap (λ (v : TableView). told (state_of v) (state_of (view_of (record c.self.inside { locks = c.settle.new.self })))) c.self.view_is
+
+pub returns-clause-idle : goal.returns-clause-idle
+returns-clause-idle c = λ none. (
+  returns-clause-told c
+      ∙ told_settled_same (state_of c.args.self.now) (state_of (view_of (record c.self.inside { locks = c.settle.new.self }))) c.args.t.slot
+      (subst (λ (v : TableView). IsLawful (state_of v)) c.self.view_is c.self.invariant.lawful) none (returns-clause-state c),
+  settled_same (state_of c.args.self.now) (state_of (view_of (record c.self.inside { locks = c.settle.new.self }))) c.args.t.slot none (returns-clause-state c),
+)

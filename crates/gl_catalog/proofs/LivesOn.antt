@@ -1,0 +1,102 @@
+-- A transaction that lives on over a step: its age stays, and it begins no wait.
+use Rattle.std.specs.Prelude.{◌≡◌, ℕ, zero, suc, Bool, true, false, ◌==◌, List, Option, Some, None, if◌then◌else◌}
+use Rattle.std.proofs.Common.{refl, sym, ap, subst, ◌∙◌}
+use Rattle.gl_modes.specs.declared.mode.Mode.{Mode}
+use Rattle.gl_modes.specs.declared.node.NodeId.{NodeId}
+use Rattle.gl_modes.specs.Nodes.{same_node}
+use Rattle.gl_header.specs.Header.{Waiter}
+use Rattle.gl_table.specs.declared.detect.Detect.{Detect}
+use Rattle.gl_table.specs.declared.detect.Detect.TheVariants.{AtBlock, ByWatcher}
+use Rattle.gl_table.specs.declared.txn.Status.{Status}
+use Rattle.gl_table.specs.declared.txn.Status.TheVariants.{Active, Waiting, Condemned}
+use Rattle.gl_table.specs.Calls.{WaitSettles, freed, freed_unless, none_but}
+use Rattle.gl_table.specs.Pumps.{condemned, granted_at, is_waiting_at, pumped, without_wait, woken}
+use Rattle.gl_table.specs.State.{State, Txn, live_by, restatus, status_in}
+use Rattle.gl_table.specs.Waiting.{Settled, SettledWithin}
+use Rattle.gl_table.proofs.Pumped.{woken_waits}
+use Rattle.gl_table.proofs.Taken.{IsQuiet, restatus_quiet}
+use Rattle.gl_graph.proofs.Look.{same_number, split}
+
+-- the same transaction lives in the slot, and if it waits, it waited there before
+pub record LivesOn (x y : Option Txn) : Type 0 where
+  pub lives : (age : ℕ) → live_by age x ≡ true → live_by age y ≡ true
+  pub waits : (n : NodeId) (m : Mode) → status_in y ≡ Some (Waiting n m) → status_in x ≡ Some (Waiting n m)
+
+pub lives_on_same : (x y : Option Txn) → y ≡ x → LivesOn x y
+lives_on_same x y e = subst (LivesOn x) (sym e) (record { lives = λ age h. h; waits = λ n m h. h })
+
+pub lives_on_trans : (x y z : Option Txn) → LivesOn x y → LivesOn y z → LivesOn x z
+lives_on_trans x y z a b = record { lives = λ age h. b.lives age (a.lives age h); waits = λ n m h. a.waits n m (b.waits n m h) }
+
+restatus_on : (st : Status) → IsQuiet st → (x : Option Txn) → LivesOn x (restatus st x)
+restatus_on st quiet x = record { lives = λ age h. by age x h; waits = λ n m h. absurd (restatus_quiet st quiet x n m h) }
+  where
+    by : (age : ℕ) (o : Option Txn) → live_by age o ≡ true → live_by age (restatus st o) ≡ true
+    by age None h = h
+    by age (Some y) h = h
+
+pub woken_on : (g : NodeId → List Waiter) (u : ℕ) (x : Option Txn) → LivesOn x (woken g u x)
+woken_on g u x = record { lives = λ age h. by age x h; waits = λ n m h. (woken_waits g u n m x h).0 }
+  where
+    by : (age : ℕ) (o : Option Txn) → live_by age o ≡ true → live_by age (woken g u o) ≡ true
+    by age None h = h
+    by age (Some y) h = h
+
+pub freed_on : (n : NodeId) (x : Option Txn) → LivesOn x (freed n x)
+freed_on n x = record { lives = λ age h. by age x h; waits = λ q m h. still q m x h }
+  where
+    by : (age : ℕ) (o : Option Txn) → live_by age o ≡ true → live_by age (freed n o) ≡ true
+    by age None h = h
+    by age (Some y) h = h
+
+    kept : (q : NodeId) (m : Mode) (st : Status) → Some (none_but st n) ≡ Some (Waiting q m) → Some st ≡ Some (Waiting q m)
+    kept q m Active h = absurd (cc h)
+    kept q m Condemned h = absurd (cc h)
+    kept q m (Waiting p w) h = split (same_node p n)
+        (λ e. absurd (cc (sym (ap (λ b. Some (if b then Active else Waiting p w)) e) ∙ h)))
+        (λ e. sym (ap (λ b. Some (if b then Active else Waiting p w)) e) ∙ h)
+
+    still : (q : NodeId) (m : Mode) (o : Option Txn) → status_in (freed n o) ≡ Some (Waiting q m) → status_in o ≡ Some (Waiting q m)
+    still q m None h = absurd (cc h)
+    still q m (Some y) h = kept q m y.status h
+
+pub unless_on : (keeps : ℕ → Bool) (n : NodeId) (u : ℕ) (x : Option Txn) → LivesOn x (freed_unless keeps n u x)
+unless_on keeps n u x = by (keeps u)
+  where
+    by : (b : Bool) → LivesOn x (if b then x else freed n x)
+    by true = lives_on_same x x refl
+    by false = freed_on n x
+
+-- the same of a slot in two states
+abbrev pub GoesOn : State → State → ℕ → Type 0
+GoesOn s s' u = LivesOn (s.txns u) (s'.txns u)
+
+-- each grant from a queue
+pub pumped_goes_on : (s : State) (chosen : NodeId → Bool) (u : ℕ) → GoesOn s (pumped s chosen) u
+pumped_goes_on s chosen u = woken_on (granted_at s chosen) u (s.txns u)
+
+-- a wait that is over
+pub without_wait_goes_on : (s : State) (v : ℕ) (st : Status) → IsQuiet st → (u : ℕ) → GoesOn s (without_wait s v st) u
+without_wait_goes_on s v st quiet u = by (u == v) refl
+  where
+    by : (b : Bool) → (u == v) ≡ b → LivesOn (s.txns u) (if b then restatus st (s.txns v) else s.txns u)
+    by true e = subst (λ w. LivesOn (s.txns u) (restatus st (s.txns w))) (same_number u v e) (restatus_on st quiet (s.txns u))
+    by false e = lives_on_same (s.txns u) (s.txns u) refl
+
+-- and its node grants
+pub over_goes_on : (s : State) (v : ℕ) (st : Status) → IsQuiet st → (u : ℕ) → GoesOn s (pumped (without_wait s v st) (is_waiting_at s v)) u
+over_goes_on s v st quiet u =
+    lives_on_trans (s.txns u) ((without_wait s v st).txns u) ((pumped (without_wait s v st) (is_waiting_at s v)).txns u) (without_wait_goes_on s v st quiet u) (pumped_goes_on (without_wait s v st) (is_waiting_at s v) u)
+
+settled_within_goes_on : (k : ℕ) (s s' : State) (t u : ℕ) → SettledWithin k s t s' → GoesOn s s' u
+settled_within_goes_on zero s s' t u h = lives_on_same (s.txns u) (s'.txns u) (ap (λ (x : State). x.txns u) h.1)
+settled_within_goes_on (suc k) s s' t u h =
+    lives_on_trans (s.txns u) ((condemned s h.0).txns u) (s'.txns u) (over_goes_on s h.0 Condemned (λ n m e. cc) u) (settled_within_goes_on k (condemned s h.0) s' t u h.2)
+
+-- each victim
+pub settled_goes_on : (s s' : State) (t u : ℕ) → Settled s t s' → GoesOn s s' u
+settled_goes_on s s' t u h = settled_within_goes_on h.0 s s' t u h.1
+
+pub wait_settles_goes_on : (d : Detect) (s s' : State) (t u : ℕ) → WaitSettles d s t s' → GoesOn s s' u
+wait_settles_goes_on AtBlock s s' t u h = settled_goes_on s s' t u h
+wait_settles_goes_on ByWatcher s s' t u h = lives_on_same (s.txns u) (s'.txns u) (ap (λ (x : State). x.txns u) h)

@@ -1,0 +1,121 @@
+use Rattle.std.proofs.Common.{refl, subst}
+use Rattle.gl_catalog.specs.declared.command.Answer.TheVariants as answer
+use Rattle.gl_catalog.specs.declared.command.Command.TheVariants as command
+use Rattle.gl_catalog.specs.Manager.{ManagerView, state_of}
+use Rattle.gl_catalog.specs.Replies.{CallSteps, read_effect, read_mode}
+use Rattle.gl_catalog.specs.Step.{answer_of_lock}
+use Rattle.gl_catalog.proofs.Applied.{answered_step, asked_step, fills, quiet, uncounted}
+use Rattle.gl_catalog.proofs.manager.Manager.carry_out.Goals as goal
+
+pub returns-in-Inner-clause-step : goal.returns-in-Inner-clause-step
+returns-in-Inner-clause-step c = quiet answer.Node (state_of c.args.self.now) (state_of c.add_inner.new.self) _ c.args.command c.add_inner.result c.node_answer.result c.args.told.now c.add_inner.ensures.step c.node_answer.ensures c.requires.empty c.in-Inner.is
+
+pub returns-in-Inner-clause-same : goal.returns-in-Inner-clause-same
+returns-in-Inner-clause-same c = uncounted c.args.self.now c.add_inner.new.self c.add_inner.result c.add_inner.ensures.err c.add_inner.ensures.counted
+
+pub returns-in-File-clause-step : goal.returns-in-File-clause-step
+returns-in-File-clause-step c = quiet answer.Node (state_of c.args.self.now) (state_of c.add_file.new.self) _ c.args.command c.add_file.result c.node_answer-in-File.result c.args.told.now c.add_file.ensures.step c.node_answer-in-File.ensures c.requires.empty c.in-File.is
+
+pub returns-in-File-clause-same : goal.returns-in-File-clause-same
+returns-in-File-clause-same c = uncounted c.args.self.now c.add_file.new.self c.add_file.result c.add_file.ensures.err c.add_file.ensures.counted
+
+pub returns-in-Index-clause-step : goal.returns-in-Index-clause-step
+returns-in-Index-clause-step c = quiet answer.Node (state_of c.args.self.now) (state_of c.add_index.new.self) _ c.args.command c.add_index.result c.node_answer-in-Index.result c.args.told.now c.add_index.ensures.step c.node_answer-in-Index.ensures c.requires.empty c.in-Index.is
+
+pub returns-in-Index-clause-same : goal.returns-in-Index-clause-same
+returns-in-Index-clause-same c = uncounted c.args.self.now c.add_index.new.self c.add_index.result c.add_index.ensures.err c.add_index.ensures.counted
+
+pub returns-in-Begin-clause-step : goal.returns-in-Begin-clause-step
+returns-in-Begin-clause-step c = quiet answer.Begun (state_of c.args.self.now) (state_of c.begin.new.self) _ c.args.command c.begin.result c.begun_answer.result c.args.told.now c.begin.ensures.step c.begun_answer.ensures c.requires.empty c.in-Begin.is
+
+pub returns-in-Begin-clause-same : goal.returns-in-Begin-clause-same
+returns-in-Begin-clause-same c = uncounted c.args.self.now c.begin.new.self c.begin.result c.begin.ensures.err c.begin.ensures.counted
+
+pub returns-in-Lock-clause-step : goal.returns-in-Lock-clause-step
+returns-in-Lock-clause-step c = fills answer_of_lock (state_of c.args.self.now) (state_of c.lock.new.self) _ c.args.command c.lock.result c.lock_answer.result c.lock.new.told c.args.told.now c.lock.ensures.step c.lock_answer.ensures c.lock.ensures.untold c.requires.empty c.in-Lock.is
+
+pub returns-in-Lock-clause-same : goal.returns-in-Lock-clause-same
+returns-in-Lock-clause-same c = uncounted c.args.self.now c.lock.new.self c.lock.result c.lock.ensures.err c.lock.ensures.counted
+
+pub returns-in-Try-clause-step : goal.returns-in-Try-clause-step
+returns-in-Try-clause-step c = quiet answer.Granted (state_of c.args.self.now) (state_of c.try_lock.new.self) _ c.args.command c.try_lock.result c.try_answer.result c.args.told.now c.try_lock.ensures.step c.try_answer.ensures c.requires.empty c.in-Try.is
+
+pub returns-in-Try-clause-same : goal.returns-in-Try-clause-same
+returns-in-Try-clause-same c = uncounted c.args.self.now c.try_lock.new.self c.try_lock.result c.try_lock.ensures.err c.try_lock.ensures.counted
+
+pub returns-in-Unlock-clause-step : goal.returns-in-Unlock-clause-step
+returns-in-Unlock-clause-step c = fills (λ u. answer.Done) (state_of c.args.self.now) (state_of c.unlock.new.self) _ c.args.command c.unlock.result c.done_answer.result c.unlock.new.told c.args.told.now c.unlock.ensures.step c.done_answer.ensures c.unlock.ensures.untold c.requires.empty c.in-Unlock.is
+
+pub returns-in-Unlock-clause-same : goal.returns-in-Unlock-clause-same
+returns-in-Unlock-clause-same c = uncounted c.args.self.now c.unlock.new.self c.unlock.result c.unlock.ensures.err c.unlock.ensures.counted
+
+pub returns-in-Escalate-clause-step : goal.returns-in-Escalate-clause-step
+returns-in-Escalate-clause-step c = fills answer.Escalated (state_of c.args.self.now) (state_of c.escalate_telling.new.self) _ c.args.command c.escalate_telling.result c.escalate_answer.result c.escalate_telling.new.told c.args.told.now c.escalate_telling.ensures.step c.escalate_answer.ensures c.escalate_telling.ensures.untold c.requires.empty c.in-Escalate.is
+
+pub returns-in-Escalate-clause-same : goal.returns-in-Escalate-clause-same
+returns-in-Escalate-clause-same c = uncounted c.args.self.now c.escalate_telling.new.self c.escalate_telling.result c.escalate_telling.ensures.err c.escalate_telling.ensures.counted
+
+pub returns-in-Cancel-clause-step : goal.returns-in-Cancel-clause-step
+returns-in-Cancel-clause-step c = fills (λ u. answer.Done) (state_of c.args.self.now) (state_of c.cancel.new.self) _ c.args.command c.cancel.result c.done_answer-in-Cancel.result c.cancel.new.told c.args.told.now c.cancel.ensures.step c.done_answer-in-Cancel.ensures c.cancel.ensures.untold c.requires.empty c.in-Cancel.is
+
+pub returns-in-Cancel-clause-same : goal.returns-in-Cancel-clause-same
+returns-in-Cancel-clause-same c = uncounted c.args.self.now c.cancel.new.self c.cancel.result c.cancel.ensures.err c.cancel.ensures.counted
+
+pub returns-in-Commit-clause-step : goal.returns-in-Commit-clause-step
+returns-in-Commit-clause-step c = fills (λ u. answer.Done) (state_of c.args.self.now) (state_of c.commit.new.self) _ c.args.command c.commit.result c.done_answer-in-Commit.result c.commit.new.told c.args.told.now c.commit.ensures.step c.done_answer-in-Commit.ensures c.commit.ensures.untold c.requires.empty c.in-Commit.is
+
+pub returns-in-Commit-clause-same : goal.returns-in-Commit-clause-same
+returns-in-Commit-clause-same c = uncounted c.args.self.now c.commit.new.self c.commit.result c.commit.ensures.err c.commit.ensures.counted
+
+pub returns-in-Abort-clause-step : goal.returns-in-Abort-clause-step
+returns-in-Abort-clause-step c = fills (λ u. answer.Done) (state_of c.args.self.now) (state_of c.abort.new.self) _ c.args.command c.abort.result c.done_answer-in-Abort.result c.abort.new.told c.args.told.now c.abort.ensures.step c.done_answer-in-Abort.ensures c.abort.ensures.untold c.requires.empty c.in-Abort.is
+
+pub returns-in-Abort-clause-same : goal.returns-in-Abort-clause-same
+returns-in-Abort-clause-same c = uncounted c.args.self.now c.abort.new.self c.abort.result c.abort.ensures.err c.abort.ensures.counted
+
+pub returns-in-Settle-clause-step : goal.returns-in-Settle-clause-step
+returns-in-Settle-clause-step c = fills (λ u. answer.Done) (state_of c.args.self.now) (state_of c.settle.new.self) _ c.args.command c.settle.result c.done_answer-in-Settle.result c.settle.new.told c.args.told.now c.settle.ensures.step c.done_answer-in-Settle.ensures c.settle.ensures.untold c.requires.empty c.in-Settle.is
+
+pub returns-in-Settle-clause-same : goal.returns-in-Settle-clause-same
+returns-in-Settle-clause-same c = uncounted c.args.self.now c.settle.new.self c.settle.result c.settle.ensures.err c.settle.ensures.counted
+
+pub returns-in-Insert-clause-step : goal.returns-in-Insert-clause-step
+returns-in-Insert-clause-step c = quiet answer.Node (state_of c.args.self.now) (state_of c.insert.new.self) _ c.args.command c.insert.result c.node_answer-in-Insert.result c.args.told.now c.insert.ensures.step c.node_answer-in-Insert.ensures c.requires.empty c.in-Insert.is
+
+pub returns-in-Insert-clause-same : goal.returns-in-Insert-clause-same
+returns-in-Insert-clause-same c = uncounted c.args.self.now c.insert.new.self c.insert.result c.insert.ensures.err c.insert.ensures.counted
+
+pub returns-in-Delete-clause-step : goal.returns-in-Delete-clause-step
+returns-in-Delete-clause-step c = fills (λ u. answer.Done) (state_of c.args.self.now) (state_of c.delete_telling.new.self) _ c.args.command c.delete_telling.result c.done_answer-in-Delete.result c.delete_telling.new.told c.args.told.now c.delete_telling.ensures.step c.done_answer-in-Delete.ensures c.delete_telling.ensures.untold c.requires.empty c.in-Delete.is
+
+pub returns-in-Delete-clause-same : goal.returns-in-Delete-clause-same
+returns-in-Delete-clause-same c = uncounted c.args.self.now c.delete_telling.new.self c.delete_telling.result c.delete_telling.ensures.err c.delete_telling.ensures.counted
+
+pub returns-in-Rekey-clause-step : goal.returns-in-Rekey-clause-step
+returns-in-Rekey-clause-step c = fills (λ u. answer.Done) (state_of c.args.self.now) (state_of c.rekey_telling.new.self) _ c.args.command c.rekey_telling.result c.done_answer-in-Rekey.result c.rekey_telling.new.told c.args.told.now c.rekey_telling.ensures.step c.done_answer-in-Rekey.ensures c.rekey_telling.ensures.untold c.requires.empty c.in-Rekey.is
+
+pub returns-in-Rekey-clause-same : goal.returns-in-Rekey-clause-same
+returns-in-Rekey-clause-same c = uncounted c.args.self.now c.rekey_telling.new.self c.rekey_telling.result c.rekey_telling.ensures.err c.rekey_telling.ensures.counted
+
+pub returns-in-Move-clause-step : goal.returns-in-Move-clause-step
+returns-in-Move-clause-step c = fills (λ u. answer.Done) (state_of c.args.self.now) (state_of c.relocate_telling.new.self) _ c.args.command c.relocate_telling.result c.done_answer-in-Move.result c.relocate_telling.new.told c.args.told.now c.relocate_telling.ensures.step c.done_answer-in-Move.ensures c.relocate_telling.ensures.untold c.requires.empty c.in-Move.is
+
+pub returns-in-Move-clause-same : goal.returns-in-Move-clause-same
+returns-in-Move-clause-same c = uncounted c.args.self.now c.relocate_telling.new.self c.relocate_telling.result c.relocate_telling.ensures.err c.relocate_telling.ensures.counted
+
+-- queries
+
+pub returns-in-Group-clause-step : goal.returns-in-Group-clause-step
+returns-in-Group-clause-step c =
+    quiet answer.Mode (state_of c.args.self.now) (state_of c.args.self.now) (command.Group c.in-Group.node) c.args.command c.group.result c.mode_answer.result c.args.told.now
+    (subst (λ (v : ManagerView). CallSteps (state_of v) (command.Group c.in-Group.node) read_mode c.group.result (state_of v)) c.self.view_is (answered_step read_mode (command.Group c.in-Group.node) (state_of (record { table = c.self.inside.table; accepted = c.self.inside.accepted })) _ c.group.result c.group.ensures refl refl)) c.mode_answer.ensures c.requires.empty c.in-Group.is
+
+pub returns-in-Held-clause-step : goal.returns-in-Held-clause-step
+returns-in-Held-clause-step c =
+    quiet answer.Mode (state_of c.args.self.now) (state_of c.args.self.now) (command.Held c.in-Held.txn c.in-Held.node) c.args.command c.held.result c.mode_answer-in-Held.result c.args.told.now
+    (subst (λ (v : ManagerView). CallSteps (state_of v) (command.Held c.in-Held.txn c.in-Held.node) read_mode c.held.result (state_of v)) c.self-in-Held.view_is (answered_step read_mode (command.Held c.in-Held.txn c.in-Held.node) (state_of (record { table = c.self-in-Held.inside.table; accepted = c.self-in-Held.inside.accepted })) _ c.held.result c.held.ensures refl refl)) c.mode_answer-in-Held.ensures c.requires.empty c.in-Held.is
+
+pub returns-in-Effective-clause-step : goal.returns-in-Effective-clause-step
+returns-in-Effective-clause-step c =
+    quiet answer.Effect (state_of c.args.self.now) (state_of c.args.self.now) (command.Effective c.in-Effective.txn c.in-Effective.node) c.args.command c.effective.result c.effect_answer.result c.args.told.now
+    (subst (λ (v : ManagerView). CallSteps (state_of v) (command.Effective c.in-Effective.txn c.in-Effective.node) read_effect c.effective.result (state_of v)) c.self-in-Effective.view_is (asked_step read_effect (command.Effective c.in-Effective.txn c.in-Effective.node) (state_of (record { table = c.self-in-Effective.inside.table; accepted = c.self-in-Effective.inside.accepted })) _ c.effective.result c.effective.ensures.refuses c.effective.ensures.effect refl refl refl)) c.effect_answer.ensures c.requires.empty c.in-Effective.is

@@ -1,0 +1,12 @@
+use Rattle.gl_catalog.specs.declared.command.Command.TheVariants as command
+use Rattle.gl_catalog.specs.Manager.{state_of}
+use Rattle.gl_catalog.specs.Replies.{done}
+use Rattle.gl_catalog.proofs.Applied.{keeps_caller}
+use Rattle.gl_catalog.proofs.RunsOn.{step_leaves_others}
+use Rattle.gl_catalog.proofs.manager.Manager.rekey.Goals as goal
+
+pub returns-clause-caller : goal.returns-clause-caller
+returns-clause-caller c = keeps_caller (command.Rekey c.args.t c.args.rec c.args.index c.args.key) (state_of c.args.self.now) (state_of c.rekey_telling.new.self) (done c.rekey_telling.new.told).0 (done c.rekey_telling.new.told).1 c.law.ensures.lawful c.in_ok-rekey_telling.ensures.step
+
+pub returns-clause-others : goal.returns-clause-others
+returns-clause-others c = step_leaves_others (state_of c.args.self.now) (state_of c.rekey_telling.new.self) (command.Rekey c.args.t c.args.rec c.args.index c.args.key) (done c.rekey_telling.new.told) c.law.ensures.lawful c.in_ok-rekey_telling.ensures.step

@@ -1,0 +1,135 @@
+-- The interval of a key is the one that holds it.
+use Rattle.std.specs.Prelude.{◌≡◌, ℕ, zero, suc, ◌+◌, ◌<◌, ◌≤◌, ◌⊎◌, true, nat_le, List, [], ◌∷◌, ◌&&◌, length, Option, Some, None, slice_index_or, if◌then◌else◌}
+use Rattle.std.proofs.Common.{refl, sym, ap, subst, arith, rules, add-one, ⊎_elim, ◌∙◌}
+use Rattle.std.proofs.lemmas.Bool.Decides.{nat_tests}
+use Rattle.gl_modes.specs.declared.node.NodeId.{NodeId}
+use Rattle.gl_graph.specs.Graph.{Graph, interval, interval_at, interval_of, interval_place, shape_of}
+use Rattle.gl_graph.specs.Intervals.{HoldsKey, beginning}
+use Rattle.gl_graph.specs.Laws.{IntervalsHoldKeys, KeysHaveIntervals}
+use Rattle.gl_graph.specs.Lawful.{IsLawfulGraph, IsRising}
+use Rattle.gl_graph.specs.Shapes.{Shape, Inner, File, Index, Interval, Rec, bounds_in, is_index_shape}
+use Rattle.gl_graph.proofs.KeyPlace.{place_counted, rising_at}
+use Rattle.gl_graph.proofs.KindRules.{index_node}
+use Rattle.gl_graph.proofs.Look.{and_both, both, no, none_some, some_is, split}
+
+-- the bounds before the place of the key are not above it, and the others are
+record IsPlace (bs : List ℕ) (key k : ℕ) : Type 0 where
+  pub within : k ≤ length bs
+  pub before : (j : ℕ) → j < k → slice_index_or bs j 0 ≤ key
+  pub after : (j : ℕ) → k ≤ j → j < length bs → key < slice_index_or bs j 0
+
+before_more : (b : ℕ) (bs : List ℕ) (key k : ℕ) → b ≤ key → IsPlace bs key k → (j : ℕ) → j < suc k → slice_index_or (b ∷ bs) j 0 ≤ key
+before_more b bs key k low p zero h = low
+before_more b bs key k low p (suc j) h = p.before j (omega arith)
+
+after_more : (b : ℕ) (bs : List ℕ) (key k : ℕ) → IsPlace bs key k → (j : ℕ) → suc k ≤ j → j < length (b ∷ bs) → key < slice_index_or (b ∷ bs) j 0
+after_more b bs key k p zero h l = absurd (omega arith)
+after_more b bs key k p (suc j) h l = p.after j (omega arith) (omega arith)
+
+all_above : (b : ℕ) (bs : List ℕ) (key : ℕ) → IsRising (b ∷ bs) → key < b → (j : ℕ) → 0 ≤ j → j < length (b ∷ bs) → key < slice_index_or (b ∷ bs) j 0
+all_above b bs key rising high zero h l = high
+all_above b bs key rising high (suc j) h l = let r = rising_at (b ∷ bs) 0 (suc j) rising (omega arith) l in omega arith
+
+-- each key has a place
+some_place : (bs : List ℕ) (key : ℕ) → IsRising bs → (k : ℕ) × IsPlace bs key k
+some_place [] key rising = (0, record { within = omega arith; before = λ j h. absurd (omega arith); after = λ j h l. absurd (omega arith) })
+some_place (b ∷ bs) key rising =
+    split (nat_le b key)
+    (λ e.
+    let low : b ≤ key = grind (arith, nat_tests) in
+    let rest = some_place bs key rising.1 in
+    (suc rest.0, record { within = let w = rest.1.within in omega arith; before = before_more b bs key rest.0 low rest.1; after = after_more b bs key rest.0 rest.1 }))
+    (λ e.
+    let high : key < b = grind (arith, nat_tests) in
+    (0, record { within = omega arith; before = λ j h. absurd (omega arith); after = all_above b bs key rising high }))
+
+counted : (bs : List ℕ) (key k : ℕ) → IsPlace bs key k → k ≡ interval_place bs key
+counted bs key k p = place_counted bs key k p.within p.before p.after
+
+place_is : (bs : List ℕ) (key : ℕ) → IsRising bs → IsPlace bs key (interval_place bs key)
+place_is bs key rising = let p = some_place bs key rising in subst (IsPlace bs key) (counted bs key p.0 p.1) p.1
+
+begins_by : (bs : List ℕ) (key k : ℕ) → IsPlace bs key k → beginning bs k ≤ key
+begins_by bs key zero p = omega arith
+begins_by bs key (suc k) p = p.before k (omega arith)
+
+-- that place is where the key is held
+place_holds : (bs : List ℕ) (key k : ℕ) → IsPlace bs key k → HoldsKey bs k key
+place_holds bs key k p = record {
+  begun = begins_by bs key k p;
+  next = λ h. subst (λ i. key < slice_index_or (0 ∷ bs) i 0) (sym (add-one k)) (p.after k (omega arith) h);
+}
+
+same_or_less : (i j : ℕ) → i ≤ j → (i < j) ⊎ (i ≡ j)
+same_or_less i j h = search rules
+
+-- rising numbers, one not before another
+not_below : (xs : List ℕ) (i j : ℕ) → IsRising xs → i ≤ j → j < length xs → slice_index_or xs i 0 ≤ slice_index_or xs j 0
+not_below xs i j rising le low = ⊎_elim (λ h. let r = rising_at xs i j rising h low in omega arith) (λ e. let same = ap (λ k. slice_index_or xs k 0) e in omega arith) (same_or_less i j le)
+
+-- and there alone
+held_there : (bs : List ℕ) (key k : ℕ) → IsRising (0 ∷ bs) → k ≤ length bs → HoldsKey bs k key → IsPlace bs key k
+held_there bs key k rising low holds = record {
+  within = low;
+  before = λ j h. let b = holds.begun in let r = not_below (0 ∷ bs) (suc j) k rising (omega arith) (omega arith) in omega arith;
+  after = λ j h l.
+      let n = holds.next (omega arith) in
+      let r = not_below (0 ∷ bs) (k + 1) (suc j) rising (omega arith) (omega arith) in
+      omega arith;
+}
+
+-- the shape of an index
+index_shape : (o : Option Shape) → is_index_shape o ≡ true → (file : NodeId) × (bounds : List ℕ) × (o ≡ Some (Index file bounds))
+index_shape None h = absurd (no h)
+index_shape (Some Inner) h = absurd (no h)
+index_shape (Some File) h = absurd (no h)
+index_shape (Some (Index file bounds)) h = (file, bounds, refl)
+index_shape (Some (Interval place)) h = absurd (no h)
+index_shape (Some (Rec keys)) h = absurd (no h)
+
+module _ (g : Graph) (law : IsLawfulGraph g) (index : NodeId) (shape : is_index_shape (shape_of g index) ≡ true) where
+  abbrev bs : List ℕ
+  bs = bounds_in (shape_of g index)
+
+  rising : IsRising (0 ∷ bs)
+  rising = let i = index_shape (shape_of g index) shape in subst (λ o. IsRising (0 ∷ bounds_in o)) (sym i.2) (index_node g law index i.0 i.1 i.2).rising
+
+  its_place : (key : ℕ) → IsPlace bs key (interval_place bs key)
+  its_place key = place_is bs key rising.1
+
+  pub has_interval : (key : ℕ) → interval_at g index (interval_place bs key) ≡ Some (interval_of g index key)
+  has_interval key =
+      let low : nat_le (interval_place bs key) (length bs) ≡ true = let w = (its_place key).within in grind (arith, nat_tests) in
+      ap (λ b. if b then Some (interval_of g index key) else None) (both _ _ shape low)
+
+  pub place_of_held : (place key : ℕ) → place ≤ length bs → HoldsKey bs place key → interval g index place ≡ interval_of g index key
+  place_of_held place key low holds = ap (interval g index) (counted bs key place (held_there bs key place rising low holds))
+
+  pub held_in_place : (place key : ℕ) → interval g index place ≡ interval_of g index key → HoldsKey bs place key
+  held_in_place place key e =
+      let births = ap (λ (n : NodeId). n.birth) e in
+      let same : interval_place bs key ≡ place = omega (arith, births) in
+      subst (λ k. HoldsKey bs k key) same (place_holds bs key (interval_place bs key) (its_place key))
+
+pub keys_have_intervals : KeysHaveIntervals
+keys_have_intervals g law index key shape = (interval_place (bounds_in (shape_of g index)) key, has_interval g law index shape key)
+
+-- where an index has an interval of this place
+record HasInterval (g : Graph) (index n : NodeId) (place : ℕ) : Type 0 where
+  pub shape : is_index_shape (shape_of g index) ≡ true
+  pub low : place ≤ length (bounds_in (shape_of g index))
+  pub is : n ≡ interval g index place
+
+interval_there : (g : Graph) (index n : NodeId) (place : ℕ) → interval_at g index place ≡ Some n → HasInterval g index n place
+interval_there g index n place at =
+    split (is_index_shape (shape_of g index) && nat_le place (length (bounds_in (shape_of g index))))
+    (λ e.
+    let t = and_both _ _ e in
+    let le = t.1 in
+    record { shape = t.0; low = grind (arith, nat_tests); is = some_is (sym at ∙ ap (λ b. if b then Some (interval g index place) else None) e) })
+    (λ e. absurd (none_some (sym (ap (λ b. if b then Some (interval g index place) else None) e) ∙ at)))
+
+pub intervals_hold_keys : IntervalsHoldKeys
+intervals_hold_keys g law index n place key at =
+    let i = interval_there g index n place at in
+    (λ e. held_in_place g law index i.shape place key (sym i.is ∙ e), λ holds. i.is ∙ place_of_held g law index i.shape place key i.low holds)

@@ -1,0 +1,13 @@
+pub mod Adding
+pub mod EachTold
+pub mod Fronts
+pub mod Lists
+pub mod LockCovers
+pub mod Locking
+pub mod Notices
+pub mod RealBoards
+pub mod Rising
+pub mod Serving
+pub mod Steps
+pub mod Tellings
+pub mod Waking

@@ -1,0 +1,34 @@
+-- What a lock does to a session's share.
+use Rattle.std.proofs.Common.{◌≡◌, ℕ, ◌+◌, ◌≤◌, Bool, true, false, Result, Ok, Err, MatchResult, MatchBool, arith, refl}
+use Rattle.gl_modes.specs.declared.refusal.Refusal.{Refusal}
+use Rattle.gl_catalog.specs.declared.command.Answer.{Answer}
+use Rattle.gl_catalog.specs.declared.command.Answer.TheVariants as answer
+use Rattle.gl_shared.specs.declared.grant.Grant.{Grant}
+use Rattle.gl_shared.specs.declared.grant.Stop.{Stop}
+use Rattle.gl_shared.specs.Served.{is_refused}
+use Rattle.gl_shared.specs.State.{is_refusal}
+
+-- an answer that is no refusal
+pub is_not_refused : (a : Answer) → ((r : Refusal) → a ≡ answer.Refused r → ⊥) → is_refused a ≡ false
+is_not_refused answer.Done h = refl
+is_not_refused (answer.Node n) h = refl
+is_not_refused (answer.Begun t) h = refl
+is_not_refused (answer.Granted m) h = refl
+is_not_refused answer.Waiting h = refl
+is_not_refused answer.Victim h = refl
+is_not_refused (answer.Escalated e) h = refl
+is_not_refused (answer.Mode m) h = refl
+is_not_refused (answer.Effect e) h = refl
+is_not_refused (answer.Refused r) h = absurd (h r refl)
+
+abbrev pub SharesLock : Result Grant Stop → ℕ → ℕ → Type 0
+SharesLock result old new = MatchResult result (λ _. new ≡ old + 1) (λ s. MatchBool (is_refusal s) ((old ≤ new) × (new ≤ old + 1)) (new ≡ old + 1))
+
+stops : (b : Bool) (old new : ℕ) → new ≡ old + 1 → MatchBool b ((old ≤ new) × (new ≤ old + 1)) (new ≡ old + 1)
+stops true old new is = (omega (arith, is), omega (arith, is))
+stops false old new is = is
+
+-- an accepted lock raises the share by one, whatever comes of it
+pub shares_lock : (result : Result Grant Stop) (old new : ℕ) → new ≡ old + 1 → SharesLock result old new
+shares_lock (Ok g) old new is = is
+shares_lock (Err s) old new is = stops (is_refusal s) old new is

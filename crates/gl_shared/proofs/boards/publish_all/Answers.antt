@@ -1,0 +1,6 @@
+use Rattle.std.proofs.Common.{◌∙◌, sym}
+use Rattle.gl_shared.proofs.Steps.{publishes}
+use Rattle.gl_shared.proofs.boards.publish_all.Goals as goal
+
+pub publish_as-after-requires : goal.publish_as-after-requires
+publish_as-after-requires g c next is = publishes _ _ c.loop.writer.desk.shown.value next (is ∙ (c.loop.invariant.1 ∙ sym c.loop.invariant.0))

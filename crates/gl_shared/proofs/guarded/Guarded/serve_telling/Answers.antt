@@ -1,0 +1,67 @@
+use Rattle.std.proofs.Common.{rules, arith, ◌≡◌, ◌<◌, ◌^◌, ◌∙◌, true, false, ap, refl, subst, sym, List}
+use Rattle.gl_table.specs.declared.notice.Notice.{Notice}
+use Rattle.gl_table.specs.declared.txn.TxnId.{TxnId}
+use Rattle.gl_shared.specs.Served.{RisingTo, accepts}
+use Rattle.gl_table.specs.State.{State}
+use Rattle.gl_catalog.proofs.Detection.{steps_keep_detect}
+use Rattle.gl_shared.specs.State.{Delivers, GuardedView, Slot}
+use Rattle.gl_shared.proofs.Notices.{delivers_none}
+use Rattle.gl_shared.proofs.Rising.{step_rises}
+use Rattle.gl_shared.proofs.Serving.{step_counts}
+use Rattle.gl_shared.proofs.guarded.Guarded.serve_telling.Goals as goal
+
+pub overflow_add-self : goal.overflow_add-self
+overflow_add-self g c =
+    let counts = step_counts _ _ _ _ _ c.apply_telling-answer.ensures.step in
+    let yes : accepts c.args.command c.apply_telling-answer.result ≡ true = search rules in
+    let more = counts.accepted yes in
+    let top : c.accepted-counted.result < 2 ^ 64 = search rules in
+    let is = c.accepted-counted.ensures in
+    let a = c.self.invariant.0 in
+    let b = c.self.invariant.1 in
+    omega (arith, more, top, is, a, b)
+
+pub deliver-requires : goal.deliver-requires
+deliver-requires g c =
+    subst (λ (l : List (TxnId × Notice)). RisingTo 0 l 128) (sym c.as_slice.ensures.value)
+    (step_rises _ _ _ _ _ c.law.ensures.few c.apply_telling-answer.ensures.step)
+
+pub invariant_of-self : goal.invariant_of-self
+invariant_of-self g c =
+    let no : accepts c.args.command c.apply_telling-answer.result ≡ false = search rules in
+    let same = c.apply_telling-answer.ensures.same (ap (λ (s : State). s.accepted) ((step_counts _ _ _ _ _ c.apply_telling-answer.ensures.step).not_accepted no).0) in
+    rw same c.self.invariant
+
+pub returns-then-not-is_accepted-clause-refused : goal.returns-then-not-is_accepted-clause-refused
+returns-then-not-is_accepted-clause-refused g c =
+    let no : accepts c.args.command c.apply_telling-answer.result ≡ false = search rules in
+    let still = (step_counts _ _ _ _ _ c.apply_telling-answer.ensures.step).not_accepted no in
+    let same = c.apply_telling-answer.ensures.same (ap (λ (s : State). s.accepted) still.0) in
+    λ _. (rw same c.self.view_is, refl, still.1)
+
+pub returns-then-not-is_accepted-clause-boxes : goal.returns-then-not-is_accepted-clause-boxes
+returns-then-not-is_accepted-clause-boxes g c =
+    let no : accepts c.args.command c.apply_telling-answer.result ≡ false = search rules in
+    let still = (step_counts _ _ _ _ _ c.apply_telling-answer.ensures.step).not_accepted no in
+    subst (λ (b : List Slot). Delivers b c.apply_telling-answer.new.told.items c.self.inside.boxes) (ap (λ (v : GuardedView). v.boxes) c.self.view_is)
+    (delivers_none c.apply_telling-answer.new.told.items c.self.inside.boxes still.1)
+
+pub invariant_of-self-2 : goal.invariant_of-self-2
+invariant_of-self-2 g c =
+    let yes : accepts c.args.command c.apply_telling-answer.result ≡ true = search rules in
+    let more = (step_counts _ _ _ _ _ c.apply_telling-answer.ensures.step).accepted yes in
+    let total = c.add.ensures.total in
+    let a = c.self.invariant.0 in
+    let b = c.self.invariant.1 in
+    let low = c.self.invariant.3 in (
+      omega (arith, total, a),
+      omega (arith, total, b, more),
+      steps_keep_detect _ _ _ _ _ c.apply_telling-answer.ensures.step ∙ c.self.invariant.2,
+      omega (arith, low, more),
+    )
+
+pub returns-then-not-is_accepted-clause-rising : goal.returns-then-not-is_accepted-clause-rising
+returns-then-not-is_accepted-clause-rising g c = step_rises _ _ _ _ _ c.law.ensures.few c.apply_telling-answer.ensures.step
+
+pub returns-clause-rising : goal.returns-clause-rising
+returns-clause-rising g c = step_rises _ _ _ _ _ c.law.ensures.few c.apply_telling-answer.ensures.step

@@ -1,0 +1,47 @@
+use Rattle.std.proofs.Common.{rules, ◌≡◌, ◌∙◌, true, false, ap, subst}
+use Rattle.gl_table.specs.declared.detect.Detect.{Detect}
+use Rattle.gl_table.specs.BoardOf.{board_of}
+use Rattle.gl_catalog.specs.Manager.{state_of}
+use Rattle.gl_shared.specs.Boards.{Fine}
+use Rattle.gl_shared.specs.State.{GuardedView}
+use Rattle.gl_shared.proofs.Lists.{told_epoch}
+use Rattle.gl_shared.proofs.Tellings.{published, unpublished}
+use Rattle.gl_shared.proofs.guarded.Guarded.tell.Goals as goal
+
+pub publish-requires-clause-fine : goal.publish-requires-clause-fine
+publish-requires-clause-fine g c = subst (λ (d : Detect). Fine d c.board_now-board.result) c.self.invariant.2 c.board_now-board.ensures.fine
+
+pub invariant_of-self : goal.invariant_of-self
+invariant_of-self g c = (
+  c.self.invariant.0,
+  c.self.invariant.1,
+  c.self.invariant.2,
+  told_epoch c.publish.result c.self.inside.publisher c.publish.new.self c.board_now-board.result c.self.inside.manager.accepted c.publish.ensures c.self.invariant.3 c.board_now-board.ensures.epoch,
+)
+
+pub returns-clause-kept : goal.returns-clause-kept
+returns-clause-kept g c = (ap (λ (v : GuardedView). v.manager) c.self.view_is, ap (λ (v : GuardedView). v.book) c.self.view_is, ap (λ (v : GuardedView). v.boxes) c.self.view_is)
+
+pub returns-then-not-publish-clause-kept : goal.returns-then-not-publish-clause-kept
+returns-then-not-publish-clause-kept g c = (ap (λ (v : GuardedView). v.manager) c.self.view_is, ap (λ (v : GuardedView). v.book) c.self.view_is, ap (λ (v : GuardedView). v.boxes) c.self.view_is)
+
+pub returns-then-not-publish-clause-told : goal.returns-then-not-publish-clause-told
+returns-then-not-publish-clause-told g c =
+    let no : c.publish.result ≡ false = search rules in
+    unpublished c.publish.result c.self.inside.publisher c.publish.new.self c.args.self.now.list c.board_now-board.result no c.publish.ensures (ap (λ (v : GuardedView). v.list) c.self.view_is)
+
+pub invariant_of-self-2 : goal.invariant_of-self-2
+invariant_of-self-2 g c = (
+  c.self.invariant.0,
+  c.self.invariant.1,
+  c.self.invariant.2,
+  told_epoch c.publish.result c.self.inside.publisher c.publish.new.self c.board_now-board.result c.self.inside.manager.accepted c.publish.ensures c.self.invariant.3 c.board_now-board.ensures.epoch,
+)
+
+pub returns-clause-told : goal.returns-clause-told
+returns-clause-told g c =
+    let yes : c.publish.result ≡ true = search rules in (
+      published c.publish.result c.self.inside.publisher c.publish.new.self c.args.self.now.list c.board_now-board.result (board_of (state_of c.args.self.now.manager)) yes c.publish.ensures (ap (λ (v : GuardedView). v.list) c.self.view_is)
+          (c.board_now-board.ensures.board ∙ ap (λ (v : GuardedView). board_of (state_of v.manager)) c.self.view_is),
+      c.board_now-board.ensures.epoch ∙ ap (λ (v : GuardedView). v.manager.accepted) c.self.view_is,
+    )

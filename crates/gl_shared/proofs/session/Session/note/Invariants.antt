@@ -1,0 +1,5 @@
+use Rattle.std.specs.Prelude.{◌≡◌}
+use Rattle.gl_shared.proofs.session.Session.note.Given as goal
+
+abbrev pub invariant-loop : goal.invariant-loop
+invariant-loop g l = (l.self.told ≡ l.initial.self.told) × (l.self.share ≡ l.initial.self.share)

@@ -1,0 +1,38 @@
+-- Lists of published boards.
+use Rattle.std.specs.Prelude.{◌≡◌, ℕ, ◌≤◌, ◌<◌, true, false, List, [], ◌∷◌, ◌++◌}
+use mathlib.Core.List.{IsPrefix}
+use Rattle.gl_waits.specs.declared.board.Board.{Board}
+use Rattle.gl_waits.specs.Boards.{age_in, board_edge}
+use Rattle.gl_waits.specs.Waits.{IsOnNoCycle}
+use Rattle.gl_table.specs.declared.detect.Detect.{Detect}
+use Rattle.gl_table.specs.declared.detect.Detect.TheVariants.{AtBlock}
+
+-- the epoch of the last board of the list, or e
+abbrev pub last_epoch : ℕ → List Board → ℕ
+last_epoch e [] = e
+last_epoch e (b ∷ bs) = last_epoch b.epoch bs
+
+-- epochs never fall, from e on
+abbrev pub Rising : ℕ → List Board → Type 0
+Rising e [] = Unit {0}
+Rising e (b ∷ bs) = (e ≤ b.epoch) × Rising b.epoch bs
+
+-- no slot waits for itself or for a free slot, and no free slot waits; with detection at block no slot is on a cycle, so there is no suspect
+pub record Fine (detect : Detect) (b : Board) : Type 0 where
+  pub self : (s : ℕ) → board_edge b s s ≡ false
+  pub free : (s u : ℕ) → board_edge b s u ≡ true → (0 < age_in b s) × (0 < age_in b u)
+  pub calm : detect ≡ AtBlock → (s : ℕ) → IsOnNoCycle (board_edge b) s
+
+abbrev pub AllFine : Detect → List Board → Type 0
+AllFine detect [] = Unit {0}
+AllFine detect (b ∷ bs) = Fine detect b × AllFine detect bs
+
+-- the list ends with this board
+abbrev pub Ends : List Board → Board → Type 0
+Ends list board = (front : List Board) × (list ≡ front ++ board ∷ [])
+
+-- what holds of each list of boards of a table: it begins with the board at making, its epochs never fall, and each board is fine
+pub record IsLawful (detect : Detect) (first : Board) (list : List Board) : Type 0 where
+  pub begins : IsPrefix (first ∷ []) list
+  pub rising : Rising 0 list
+  pub fine : AllFine detect list

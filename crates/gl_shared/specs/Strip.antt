@@ -1,0 +1,11 @@
+-- A beginning of a published list.
+use Rattle.std.specs.Prelude.{List}
+use Rattle.gl_table.specs.declared.detect.Detect.{Detect}
+use Rattle.logbook.specs.Pages.{Book}
+use Rattle.gl_waits.specs.declared.board.Board.{Board}
+
+-- the list, its book and the way of detection
+pub record Strip : Type 0 where
+  pub list : List Board
+  pub book : Book
+  pub detect : Detect

@@ -1,0 +1,34 @@
+-- The rule of what is published.
+use Rattle.std.specs.Prelude.{◌≡◌, ◌⊎◌, ℕ, List, Option, Some, None}
+use mathlib.Core.Option.{some}
+use lib.ListN.{get_elem?}
+use Rattle.gl_shared.specs.Strip.{Strip}
+use Rattle.gl_shared.specs.declared.shown.Shown.{Shown}
+use Rattle.gl_shared.specs.declared.shown.Tie.{Tie}
+use Rattle.gl_shared.specs.Rules.{head_of}
+use Rattle.gl_shared.specs.Boards.{IsLawful}
+use Rattle.gl_waits.specs.declared.board.Board.{Board}
+use Rattle.gl_table.specs.declared.detect.Detect.{Detect}
+use Rattle.logbook.specs.Pages.{Book}
+
+-- the book and the way of detection of a list
+abbrev pub tie_of : Strip → Tie
+tie_of l = record { head = head_of l.book; detect = l.detect }
+
+abbrev pub Fits : Shown → Option Tie → Type 0
+Fits x v = (v ≡ None) ⊎ (v ≡ Some (tie_of x.line))
+
+-- what is published is of the book to which each view is tied
+abbrev pub Kept : Shown → List (Option Tie) → Type 0
+Kept x views = (by : ℕ) (v : Option Tie) → get_elem? views by ≡ some v → Fits x v
+
+abbrev pub Publishes : Option Tie → Shown → Shown → Option Tie → Type 0
+Publishes v x y w = w ≡ Some (tie_of y.line)
+
+-- what is found is of the book to which the reader is tied, and ties it
+abbrev pub Looks : Option Tie → Shown → Shown → Option Tie → Type 0
+Looks v x y w = (w ≡ Some (tie_of x.line)) × Fits x v
+
+-- the list is of this book and way of detection, and lawful
+abbrev pub IsOf : Book → Detect → Board → Strip → Type 0
+IsOf book detect first l = (l.book ≡ book) × (l.detect ≡ detect) × IsLawful detect first l.list

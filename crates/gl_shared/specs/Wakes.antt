@@ -1,0 +1,17 @@
+-- Who has to be woken after a step.
+use Rattle.std.specs.Prelude.{◌≡◌, ℕ, ◌<◌, true, false}
+use Rattle.gl_modes.specs.declared.node.NodeId.{NodeId}
+use Rattle.gl_waits.specs.Sets.{has_slot}
+use Rattle.gl_table.specs.declared.txn.TxnId.{TxnId}
+use Rattle.gl_table.specs.Lawful.{IsLawful}
+use Rattle.gl_table.specs.State.{State}
+use Rattle.gl_table.specs.Tellings.{Told}
+use Rattle.gl_catalog.specs.declared.command.Answer.{Answer}
+use Rattle.gl_catalog.specs.declared.command.Command.{Command}
+use Rattle.gl_catalog.specs.Promises.{waits_on}
+use Rattle.gl_catalog.specs.Step.{Step}
+
+-- whoever waits before a step that tells these, and not after it, has its slot in the set (own): so no sleeper is left whose wait is over
+abbrev pub WakesEnded : Command → Told → ℕ → Type 0
+WakesEnded c told slots =
+    (s s' : State) (a : Answer) (t : TxnId) (n : NodeId) → IsLawful s → t.slot < 128 → Step s c a told s' → waits_on s t n ≡ true → waits_on s' t n ≡ false → has_slot slots t.slot ≡ true

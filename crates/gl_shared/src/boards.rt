@@ -1,0 +1,107 @@
+//! The ends of `left_right`, under the rule.
+ghost use Rattle.std.specs.Prelude.{◌≡◌, [], ◌∷◌, ◌++◌, ◌≤◌, ◌^◌, ◌<◌, drop, fold, IfOk, MatchBool, Some};
+ghost use Rattle.std.specs.Arc.{arc_value};
+ghost use Rattle.left_right.specs.Sides.{view};
+ghost use Rattle.gl_shared.specs.Boards.{Fine, last_epoch};
+ghost use Rattle.gl_shared.specs.Rules.{head_of};
+ghost use Rattle.gl_shared.specs.Ties.{tie_of};
+
+use crate::history::{Head, Line};
+use crate::rule::{Publish, Published, Ties};
+use crate::shown::{Next, Shown, Tie};
+use gl_waits::Board;
+use left_right::reader::Reader;
+use left_right::writer::Writer;
+use std::alloc::{AllocError, Global};
+use std::sync::{Arc, Wait};
+
+pub type BoardWriter = Writer<Shown, Next, Option<Tie>, Published>;
+
+pub type BoardReader = Reader<Shown, Option<Tie>, Published>;
+
+// Publishes what is pending, as often as it has to.
+fn publish_all<R: Wait>(rt: &R, writer: BoardWriter) -> BoardWriter
+    requires same { fold (λ tie next. tie_of next.line) (tie_of writer.desk.shown.value.line) (drop writer.behind writer.log.items) ≡ tie_of writer.desk.shown.value.line }
+    ensures rest { drop result.behind result.log.items ≡ [] }
+    ensures tie { tie_of result.desk.shown.value.line ≡ tie_of writer.desk.shown.value.line }
+    ensures view { view result.desk.place ≡ Some (tie_of writer.desk.shown.value.line) }
+{
+    let mut writer = writer;
+    for _ in rt.forever() {
+        let (after, done) = writer.publish_as::<Publish, R>(rt);
+        if done.is_ok() {
+            return after;
+        }
+        writer = after;
+    }
+    unreachable!()
+}
+
+/// Publishes a board behind the list, and says whether there was memory for it.
+pub fn publish<R: Wait>(
+    rt: &R,
+    mut writer: BoardWriter,
+    head: &Arc<Head>,
+    board: Arc<Board>,
+) -> (BoardWriter, bool)
+    requires rest { drop writer.behind writer.log.items ≡ [] }
+    requires head { arc_value head.now ≡ head_of writer.desk.shown.value.line.book }
+    requires rises { last_epoch 0 writer.desk.shown.value.line.list ≤ (arc_value board).epoch }
+    requires fine { Fine writer.desk.shown.value.line.detect (arc_value board) }
+    ensures rest { drop result.0.behind result.0.log.items ≡ [] }
+    ensures tie { tie_of result.0.desk.shown.value.line ≡ tie_of writer.desk.shown.value.line }
+    ensures list { MatchBool result.1
+        (result.0.desk.shown.value.line.list ≡ writer.desk.shown.value.line.list ++ arc_value board ∷ [])
+        (result.0.desk.shown.value.line.list ≡ writer.desk.shown.value.line.list) }
+{
+    let Ok(before) = writer.published().line.again() else {
+        return (writer, false);
+    };
+    let (Ok(line), Ok(copy), Ok(head)) = (
+        before.again(),
+        Arc::try_clone(&board),
+        Arc::try_clone(head),
+    ) else {
+        return (writer, false);
+    };
+    let next = Next {
+        line,
+        board: copy,
+        head,
+    };
+    match writer.append(next) {
+        Ok(()) => {}
+        Err(_) => return (writer, false),
+    }
+    let writer = publish_all(rt, writer);
+    if before.is_followed(&board, &writer.published().line) {
+        return (writer, true);
+    }
+    for _ in rt.forever() {}
+    unreachable!()
+}
+
+/// A writer that shows this list, and is tied to its book.
+pub fn open<R: Wait>(
+    rt: &R,
+    alloc: Global,
+    line: &Line,
+    readers: usize,
+) -> Result<BoardWriter, AllocError>
+    requires { (0 < readers) × (readers < 2 ^ 32) }
+    ensures { IfOk result (λ w. (drop w.behind w.log.items ≡ []) × (w.desk.shown.value.line.list ≡ line.now.list) × (tie_of w.desk.shown.value.line ≡ tie_of line.now) × (view w.desk.place ≡ Some (tie_of line.now))) }
+{
+    let first = Shown {
+        line: line.again()?,
+    };
+    let second = Shown {
+        line: line.again()?,
+    };
+    let writer: BoardWriter = Writer::new(alloc, first, second, readers)?;
+    let writer = publish_all(rt, writer);
+    if line.is_same(&writer.published().line) {
+        return Ok(writer);
+    }
+    writer.take(rt);
+    Err(AllocError)
+}

@@ -1,0 +1,20 @@
+//! The board of now, which every watcher may see.
+
+ghost use Rattle.std.specs.Prelude.{◌≡◌};
+ghost use Rattle.gl_table.specs.BoardOf.{board_of};
+ghost use Rattle.gl_catalog.specs.Manager.{state_of};
+ghost use Rattle.gl_shared.specs.Boards.{Fine};
+
+use gl_catalog::Manager;
+use gl_waits::Board;
+
+/// The board of a manager. No slot in it waits for itself or for a free slot, and with detection at
+/// block nobody waits in a circle.
+pub fn board_now(manager: &Manager) -> Board
+    ensures board { result ≡ board_of (state_of manager.now) }
+    ensures fine { Fine manager.now.table.detect result }
+    ensures epoch { result.epoch ≡ manager.now.accepted }
+{
+    manager.law();
+    manager.board()
+}

@@ -1,0 +1,80 @@
+//! The rule of what is published: a reader that is tied to a book finds lists of that book.
+ghost use Rattle.gl_shared.specs.Ties.{Kept, Publishes, Looks, tie_of};
+
+use crate::shown::{Next, Shown, Tie};
+use atomic_table::{Join, Split};
+use crossbeam_utils::rule::{Outcome, Protocol};
+use left_right::Absorb;
+use std::alloc::AllocError;
+use std::sync::Arc;
+
+/// One operation is one board. The first copy adds it to the book, and the second, which no reader takes, goes to the list before it.
+impl Absorb<Next> for Shown {
+    type State = Tie;
+
+    ghost state = { λ s. tie_of s.line };
+
+    ghost applied = { λ tie next. tie_of next.line };
+
+    fn absorb_first(&mut self, operation: &Next, _other: &Shown) -> Result<(), AllocError> {
+        let board = Arc::try_clone(&operation.board)?;
+        match operation.line.add(&operation.head, board) {
+            Some(line) => {
+                self.line = line;
+                Ok(())
+            }
+            None => Err(AllocError),
+        }
+    }
+
+    fn absorb_second(&mut self, operation: Next, _other: &Shown) -> Result<(), Next> {
+        let Next {
+            line,
+            board: _,
+            head: _,
+        } = operation;
+        self.line = line;
+        Ok(())
+    }
+}
+
+pub struct Published;
+
+impl Protocol<Shown, Option<Tie>> for Published {
+    ghost use Rattle.std.specs.Prelude.{None};
+
+    ghost holds = { Kept };
+
+    ghost first = { None };
+}
+
+/// The step of the writer.
+pub struct Publish;
+
+impl Outcome<Shown, Option<Tie>> for Publish {
+    ghost then = { Publishes };
+}
+
+/// The step of a watcher.
+pub struct Enter;
+
+impl Outcome<Shown, Option<Tie>> for Enter {
+    ghost then = { Looks };
+}
+
+/// The writer tells a new watcher which book it is.
+pub struct Ties;
+
+impl Split<Option<Tie>> for Ties {
+    ghost left = { λ v. v };
+
+    ghost right = { λ v. v };
+}
+
+impl Join<Option<Tie>> for Ties {
+    ghost use Rattle.std.specs.Prelude.{None};
+
+    ghost both = { λ v w. w };
+
+    ghost spent = { None };
+}

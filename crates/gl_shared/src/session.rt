@@ -1,0 +1,169 @@
+//! A session serves commands under the lock, and waits there for its notices.
+
+ghost use Rattle.std.specs.Prelude.{◌≡◌, ◌+◌, ◌≤◌, ◌<◌, ◌⊎◌, [], true, false, IfSome, IfOk, MatchResult, MatchBool};
+ghost use Rattle.gl_modes.specs.Modes.{is_at_least};
+ghost use Rattle.gl_catalog.specs.Manager.{IsLawfulManager, ManagerView, state_of};
+ghost use Rattle.gl_catalog.specs.Step.{Step};
+ghost use Rattle.gl_shared.specs.Boards.{last_epoch};
+ghost use Rattle.gl_shared.specs.Served.{accepts, is_refused};
+ghost use Rattle.gl_shared.specs.State.{is_refusal};
+
+use crate::accepted::is_accepted;
+use crate::grant::{Grant, Stop};
+use crate::guarded::Guarded;
+use crate::naming::Naming;
+use crate::note::Note;
+use crate::share::Share;
+use crate::shared::Shared;
+use crate::wakes::ended_by;
+use gl_catalog::{Answer, Command, Reply};
+use gl_modes::{Mode, NodeId};
+use gl_table::{Told, TxnId};
+use std::sync::{MutexGuard, Wait};
+
+/// Whoever asks the table. It keeps its share, the epoch of its last note, and a list for notices.
+pub struct Session<'a, N: Naming> {
+    pub(crate) shared: &'a Shared<N>,
+    pub(crate) share: Share<N>,
+    pub(crate) told: u64,
+    notices: Told,
+}
+
+impl<'a, N: Naming> Session<'a, N> {
+    pub fn new(shared: &'a Shared<N>, share: Share<N>) -> Session<'a, N>
+        ensures { (result.share ≡ share) × (result.told ≡ 0) }
+    {
+        Session {
+            shared,
+            share,
+            told: 0,
+            notices: Told::new(),
+        }
+    }
+
+    pub fn end(self) -> Share<N>
+        ensures { result ≡ self.entry.share }
+    {
+        let Session {
+            shared: _,
+            share,
+            told: _,
+            notices: _,
+        } = self;
+        share
+    }
+
+    /// Serves a command, and where it is accepted tells watchers, and wakes the sessions whose wait it
+    /// may have ended.
+    pub fn ask<R: Wait>(&mut self, rt: &R, command: Command<'_>) -> Reply
+        ensures accepted { accepts command.entry result.answer ≡ true → self.new.share ≡ self.old.share + 1 }
+        ensures refused { accepts command.entry result.answer ≡ false → self.new.share ≡ self.old.share }
+        ensures told { self.new.told ≡ self.old.told }
+        ensures step { (s : ManagerView) × (t : ManagerView) × IsLawfulManager s × Step (state_of s) command.entry result.answer result.told.items (state_of t) }
+    {
+        let mut told = Told::new();
+        let answer = self.ask_telling(rt, command, &mut told);
+        Reply { answer, told }
+    }
+
+    /// As `ask`, with the notices put into an empty list, which the caller may use again.
+    pub fn ask_telling<R: Wait>(&mut self, rt: &R, command: Command<'_>, told: &mut Told) -> Answer
+        requires empty { told.old.items ≡ [] }
+        ensures accepted { accepts command.entry result ≡ true → self.new.share ≡ self.old.share + 1 }
+        ensures refused { accepts command.entry result ≡ false → self.new.share ≡ self.old.share }
+        ensures told { self.new.told ≡ self.old.told }
+        ensures step { (s : ManagerView) × (t : ManagerView) × IsLawfulManager s × Step (state_of s) command.entry result told.new.items (state_of t) }
+    {
+        let mut guard = self.shared.latch.lock(rt);
+        guard.law();
+        let answer = guard.serve_telling(&mut self.share, command, told);
+        if is_accepted(&command, &answer) {
+            let _ = guard.tell(rt);
+            self.shared.wakes.wake(ended_by(&command, told.as_slice()));
+        }
+        MutexGuard::unlock(guard);
+        answer
+    }
+
+    /// What is published now. It is never of an epoch before that of an earlier note.
+    pub fn note<R: Wait>(&mut self, rt: &R) -> Note<N>
+        ensures later { self.old.told ≤ last_epoch 0 result }
+        ensures told { self.new.told ≡ last_epoch 0 result }
+        ensures share { self.new.share ≡ self.old.share }
+    {
+        for _ in rt.forever() {
+            let mut guard = self.shared.latch.lock(rt);
+            let note = guard.note(rt);
+            MutexGuard::unlock(guard);
+            if self.told <= note.epoch() {
+                self.told = note.epoch();
+                return note;
+            }
+        }
+        unreachable!()
+    }
+
+    /// Locks a node, and waits for its grant.
+    pub fn lock<R: Wait>(
+        &mut self,
+        rt: &R,
+        txn: TxnId,
+        node: NodeId,
+        mode: Mode,
+    ) -> Result<Grant, Stop>
+        ensures told { self.new.told ≡ self.old.told }
+        ensures share { MatchResult result (λ _. self.new.share ≡ self.old.share + 1) (λ s. MatchBool (is_refusal s) ((self.old.share ≤ self.new.share) × (self.new.share ≤ self.old.share + 1)) (self.new.share ≡ self.old.share + 1)) }
+        ensures grant { IfOk result (λ g. (g.txn ≡ txn) × (g.node ≡ node) × (is_at_least g.mode mode ≡ true)) }
+    {
+        self.notices.clear();
+        let mut guard = self.shared.latch.lock(rt);
+        let answer = guard.serve_lock(&mut self.share, txn, node, mode, &mut self.notices);
+        if let Answer::Refused(refusal) = answer {
+            MutexGuard::unlock(guard);
+            return Err(Stop::Refused(refusal));
+        }
+        let _ = guard.tell(rt);
+        let asked = Command::Lock { txn, node, mode };
+        self.shared
+            .wakes
+            .wake(ended_by(&asked, self.notices.as_slice()));
+        match answer {
+            Answer::Granted(held) => {
+                MutexGuard::unlock(guard);
+                return Ok(Grant {
+                    txn,
+                    node,
+                    mode: held,
+                });
+            }
+            Answer::Victim => {
+                MutexGuard::unlock(guard);
+                return Err(Stop::Victim);
+            }
+            _ => {}
+        }
+        await_verdict(rt, self.shared, guard, txn, node, mode)
+    }
+}
+
+// Waits until the transaction has its answer on this node.
+fn await_verdict<'a, N: Naming, R: Wait>(
+    rt: &R,
+    shared: &'a Shared<N>,
+    guard: MutexGuard<'a, Guarded<N>>,
+    txn: TxnId,
+    node: NodeId,
+    mode: Mode,
+) -> Result<Grant, Stop>
+    ensures { IfOk result (λ g. (g.txn ≡ txn) × (g.node ≡ node) × (is_at_least g.mode mode ≡ true)) }
+{
+    let mut guard = guard;
+    for _ in rt.forever() {
+        if let Some(end) = guard.verdict(txn, node, mode) {
+            MutexGuard::unlock(guard);
+            return end;
+        }
+        guard = shared.wakes.of(txn.slot).wait(rt, guard);
+    }
+    unreachable!()
+}

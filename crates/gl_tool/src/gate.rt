@@ -1,0 +1,28 @@
+//! What the sessions of a crew pass in each round.
+
+use std::sync::Wait;
+
+/// Where a session of a crew stands in a round.
+#[derive(Clone, Copy, Debug, PartialEq, Eq)]
+pub enum Point {
+    /// The record is locked.
+    Locked,
+    /// The commit is answered.
+    Committed,
+}
+
+/// What each session of a crew passes twice in a round: behind the lock on the record, and behind the
+/// commit. Several threads ask it at once.
+pub trait Gate {
+    /// Whether the session goes on. Sessions and rounds are counted from 1.
+    fn pass<R: Wait>(&self, rt: &R, session: u32, round: u32, at: Point) -> bool;
+}
+
+/// A gate that everybody passes.
+pub(crate) struct Open;
+
+impl Gate for Open {
+    fn pass<R: Wait>(&self, _rt: &R, _session: u32, _round: u32, _at: Point) -> bool {
+        true
+    }
+}

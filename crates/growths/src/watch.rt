@@ -1,0 +1,39 @@
+//! What is wanted of a play, step by step.
+
+/// The steps that a play has taken, and the first of them that was not as wanted.
+#[derive(Clone, Copy)]
+pub(crate) struct Watch {
+    steps: u32,
+    differs: Option<u32>,
+}
+
+impl Watch {
+    pub(crate) fn new() -> Self {
+        Watch {
+            steps: 0,
+            differs: None,
+        }
+    }
+
+    /// The next step begins.
+    pub(crate) fn step(&mut self) {
+        self.steps = self.steps.saturating_add(1);
+    }
+
+    /// This must hold at the step.
+    pub(crate) fn holds(&mut self, is_so: bool) {
+        if !is_so && self.differs.is_none() {
+            self.differs = Some(self.steps);
+        }
+    }
+
+    /// What came at the step must be what is wanted.
+    pub(crate) fn same<T: PartialEq + Drop>(&mut self, came: T, wanted: T) {
+        self.holds(came == wanted);
+    }
+
+    /// The first step that was not as wanted.
+    pub(crate) fn differs(&self) -> Option<u32> {
+        self.differs
+    }
+}

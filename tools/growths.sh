@@ -1,0 +1,103 @@
+#!/usr/bin/env bash
+# growths.sh plays|script LIBRARY: runs a program with each of its growths refused in turn, by the library
+# that tools/refuse_growth.c makes. Says at which growth something is not as it must be, and ends with
+# status 1 there.
+#
+# plays: the program `growths` prints the same as with no growth refused.
+# script: `gltool` answers tools/every_form.script. Either it finds no memory, or bad words where its
+#   words were not read, before it has read anything; or one line is answered with want of memory, and all
+#   others as in the script without that line.
+#
+# Both programs must be built.
+set -uo pipefail
+top=$(cd "$(dirname "$0")/.." && pwd) || exit 2
+[ $# -eq 2 ] || { sed -n '2,4s/^# //p' "$0" >&2; exit 2; }
+library=$2
+work=$(mktemp -d) || exit 2
+trap 'rm -rf "$work"' EXIT
+
+# with_growth N PROGRAM: runs the program with its Nth growth refused, none for 0.
+with_growth() {
+  LD_PRELOAD=$library GROWTH_REFUSED=$1 GROWTH_COUNT=$work/count "$2"
+}
+
+# fail WHY: names the growth, with what is wrong about it.
+fail() {
+  echo "growths: growth $n of $growths: $1"
+  exit 1
+}
+
+# growths_of WHAT: how many growths the last run had, which must be some.
+growths_of() {
+  growths=$(cat "$work/count")
+  [ "${growths:-0}" -gt 0 ] || { echo "growths: no growth was counted in $1" >&2; exit 2; }
+}
+
+# same WANTED CAME: fails with the first lines that differ.
+same() {
+  cmp -s "$1" "$2" && return
+  diff "$1" "$2" >"$work/differences"
+  fail "wanted '$(sed -n 's/^< //p' "$work/differences" | head -n 1)', came '$(sed -n 's/^> //p' "$work/differences" | head -n 1)'"
+}
+
+refuse_in_plays() {
+  local program=$top/crates/growths/out/growths status
+  with_growth 0 "$program" >"$work/wanted" || { cat "$work/wanted"; exit 1; }
+  growths_of "the plays"
+  for ((n = 1; n <= growths; n++)); do
+    with_growth "$n" "$program" >"$work/came" 2>&1
+    status=$?
+    same "$work/wanted" "$work/came"
+    [ "$status" -eq 0 ] || fail "status $status"
+  done
+}
+
+# without N: the script without the Nth of the lines that have an answer.
+without() {
+  awk -v n="$1" '/^#/ || /^$/ || ++line != n' "$script"
+}
+
+# refused_line REPORT: which answer is the one of want of memory; nothing where there is not one.
+refused_line() {
+  awk '/^told / { next } { ++line } /^no 1 NoMemory$/ { found = line; ++count } END { if (count == 1) print found }' "$1"
+}
+
+# Nothing may have been read or written but the fault.
+ended_early() {
+  echo "gltool: $1" | cmp -s - "$work/fault" || fail "on standard error: $(cat "$work/fault")"
+  [ ! -s "$work/came" ] || fail "something was written before: $(head -n 1 "$work/came")"
+  cmp -s "$script" "$work/left" || fail "something was read before"
+}
+
+# One line is answered with want of memory, and the others as in the script without it.
+one_line_refused() {
+  local line
+  line=$(refused_line "$work/came")
+  [ -n "$line" ] || fail "not one line is answered with want of memory"
+  without "$line" | "$program" >"$work/wanted" || fail "status $? without the line"
+  grep -v '^no 1 NoMemory$' "$work/came" >"$work/others"
+  same "$work/wanted" "$work/others"
+}
+
+refuse_in_script() {
+  local program=$top/crates/gltool/out/gltool status
+  script=$top/tools/every_form.script
+  with_growth 0 "$program" <"$script" >/dev/null || exit 1
+  growths_of "the script"
+  for ((n = 1; n <= growths; n++)); do
+    status=$({ with_growth "$n" "$program" >"$work/came" 2>"$work/fault"; echo $?; cat >"$work/left"; } <"$script")
+    case $status in
+      0) one_line_refused ;;
+      1) ended_early "no memory" ;;
+      2) ended_early "bad words" ;;
+      *) fail "status $status" ;;
+    esac
+  done
+}
+
+case $1 in
+  plays) refuse_in_plays ;;
+  script) refuse_in_script ;;
+  *) exit 2 ;;
+esac
+echo "growths: $growths growths refused in turn"

@@ -1,0 +1,99 @@
+/*
+ * Refuses one growth of a program: loaded before the C library, by LD_PRELOAD, it answers one call for
+ * memory with want of memory, and every other one as the C library does.
+ *
+ *   GROWTH_REFUSED  which growth is refused, counted from 1; 0 or unset: none
+ *   GROWTH_COUNT    a file, to which the number of growths is written when the program ends; unset: none
+ *
+ * A growth is a call of malloc, calloc, posix_memalign or aligned_alloc, and one of realloc that asks for
+ * memory: realloc to size 0 only frees. What is asked for before main is counted too, but for what the
+ * start of the process itself takes before this file is ready.
+ *
+ * The calls go on to glibc's own names. A search for them by dlsym could itself ask for memory.
+ */
+#include <errno.h>
+#include <fcntl.h>
+#include <stdatomic.h>
+#include <stddef.h>
+#include <stdint.h>
+#include <stdio.h>
+#include <stdlib.h>
+#include <unistd.h>
+
+extern void *__libc_malloc(size_t size);
+extern void *__libc_calloc(size_t count, size_t size);
+extern void *__libc_realloc(void *old, size_t size);
+extern void *__libc_memalign(size_t alignment, size_t size);
+
+static atomic_ulong growths;
+static unsigned long refused; /* Written once, before main. */
+
+__attribute__((constructor)) static void begin(void)
+{
+    const char *which = getenv("GROWTH_REFUSED");
+    if (which)
+        refused = strtoul(which, NULL, 10);
+    atomic_store(&growths, 0);
+}
+
+__attribute__((destructor)) static void end(void)
+{
+    unsigned long count = atomic_load(&growths);
+    const char *name = getenv("GROWTH_COUNT");
+    char line[32];
+    if (!name)
+        return;
+    int length = snprintf(line, sizeof line, "%lu\n", count);
+    int file = open(name, O_WRONLY | O_CREAT | O_TRUNC, 0644);
+    if (file < 0 || write(file, line, (size_t)length) != length)
+        return; /* Who reads the file finds no number in it. */
+    close(file);
+}
+
+/* Counts a growth, and says whether it is the one that is refused. */
+static int is_refused(void)
+{
+    return atomic_fetch_add(&growths, 1) + 1 == refused;
+}
+
+static void *no_memory(void)
+{
+    errno = ENOMEM;
+    return NULL;
+}
+
+void *malloc(size_t size)
+{
+    return is_refused() ? no_memory() : __libc_malloc(size);
+}
+
+void *calloc(size_t count, size_t size)
+{
+    return is_refused() ? no_memory() : __libc_calloc(count, size);
+}
+
+void *realloc(void *old, size_t size)
+{
+    if (old && size == 0)
+        return __libc_realloc(old, size);
+    return is_refused() ? no_memory() : __libc_realloc(old, size);
+}
+
+void *aligned_alloc(size_t alignment, size_t size)
+{
+    return is_refused() ? no_memory() : __libc_memalign(alignment, size);
+}
+
+int posix_memalign(void **place, size_t alignment, size_t size)
+{
+    void *memory;
+    if (alignment % sizeof(void *) != 0 || alignment == 0 || (alignment & (alignment - 1)) != 0)
+        return EINVAL;
+    if (is_refused())
+        return ENOMEM;
+    memory = __libc_memalign(alignment, size);
+    if (!memory)
+        return ENOMEM;
+    *place = memory;
+    return 0;
+}
