@@ -29,7 +29,7 @@ fail() {
 
 # growths_of WHAT: how many growths the last run had, which must be some.
 growths_of() {
-  growths=$(cat "$work/count")
+  growths=$(od -An -t u8 "$work/count" | tr -d ' ')
   [ "${growths:-0}" -gt 0 ] || { echo "growths: no growth was counted in $1" >&2; exit 2; }
 }
 

@@ -3,7 +3,10 @@
  * memory with want of memory, and every other one as the C library does.
  *
  *   GROWTH_REFUSED  which growth is refused, counted from 1; 0 or unset: none
- *   GROWTH_COUNT    a file, to which the number of growths is written when the program ends; unset: none
+ *   GROWTH_COUNT    a file, which always has the number of growths so far, as one 8-byte number of this
+ *                   machine; unset: none
+ *
+ * The number is written as it changes: a program of threads may end by _exit, which runs nothing behind it.
  *
  * A growth is a call of malloc, calloc, posix_memalign or aligned_alloc, and one of realloc that asks for
  * memory: realloc to size 0 only frees. What is asked for before main is counted too, but for what the
@@ -16,8 +19,8 @@
 #include <stdatomic.h>
 #include <stddef.h>
 #include <stdint.h>
-#include <stdio.h>
 #include <stdlib.h>
+#include <sys/mman.h>
 #include <unistd.h>
 
 extern void *__libc_malloc(size_t size);
@@ -25,35 +28,40 @@ extern void *__libc_calloc(size_t count, size_t size);
 extern void *__libc_realloc(void *old, size_t size);
 extern void *__libc_memalign(size_t alignment, size_t size);
 
-static atomic_ulong growths;
-static unsigned long refused; /* Written once, before main. */
+typedef _Atomic uint64_t counter;
+
+static counter own; /* Where no file is named. */
+static counter *growths = &own; /* Written once, before main, as is the next one. */
+static uint64_t refused;
+
+/* The number in a file, which stays the program's own where that cannot be: its reader then finds none. */
+static counter *number_in(const char *name)
+{
+    int file = open(name, O_RDWR | O_CREAT | O_TRUNC, 0644);
+    void *place = MAP_FAILED;
+    if (file < 0)
+        return &own;
+    if (ftruncate(file, sizeof(counter)) == 0)
+        place = mmap(NULL, sizeof(counter), PROT_READ | PROT_WRITE, MAP_SHARED, file, 0);
+    close(file);
+    return place == MAP_FAILED ? &own : place;
+}
 
 __attribute__((constructor)) static void begin(void)
 {
     const char *which = getenv("GROWTH_REFUSED");
-    if (which)
-        refused = strtoul(which, NULL, 10);
-    atomic_store(&growths, 0);
-}
-
-__attribute__((destructor)) static void end(void)
-{
-    unsigned long count = atomic_load(&growths);
     const char *name = getenv("GROWTH_COUNT");
-    char line[32];
-    if (!name)
-        return;
-    int length = snprintf(line, sizeof line, "%lu\n", count);
-    int file = open(name, O_WRONLY | O_CREAT | O_TRUNC, 0644);
-    if (file < 0 || write(file, line, (size_t)length) != length)
-        return; /* Who reads the file finds no number in it. */
-    close(file);
+    if (which)
+        refused = strtoull(which, NULL, 10);
+    if (name)
+        growths = number_in(name);
+    atomic_store(growths, 0);
 }
 
 /* Counts a growth, and says whether it is the one that is refused. */
 static int is_refused(void)
 {
-    return atomic_fetch_add(&growths, 1) + 1 == refused;
+    return atomic_fetch_add(growths, 1) + 1 == refused;
 }
 
 static void *no_memory(void)
