@@ -1,5 +1,5 @@
 -- The board of a moment, written seat by seat.
-use Rattle.std.proofs.Common.{◌≡◌, ◌≢◌, ℕ, ◌+◌, ◌<◌, ◌≤◌, Bool, true, false, not, ◌&&◌, ◌||◌, ◌==◌, cond, nat_lt, List, Option, Some, None, length, get_or, set, map, replicate, refl, sym, ap, subst, ◌∙◌, ⊎_elim, arith}
+use Rattle.std.proofs.Common.{◌≡◌, ◌≢◌, ℕ, ◌+◌, ◌<◌, ◌≤◌, ◌⊎◌, Bool, true, false, not, ◌&&◌, ◌||◌, ◌==◌, cond, nat_lt, List, Option, Some, None, length, get_or, set, take, map, replicate, refl, sym, ap, subst, ◌∙◌, ⊎_elim, inl, inr, arith}
 use Rattle.std.specs.List.{range_with_len}
 use Rattle.std.proofs.lemmas.Bool.{cases_eq, cases_lt, not-true}
 use Rattle.std.proofs.lemmas.Bool.Decides.{nat_tests}
@@ -10,23 +10,23 @@ use Rattle.gl_modes.specs.declared.mode.Mode.{Mode}
 use Rattle.gl_modes.specs.declared.node.NodeId.{NodeId}
 use Rattle.gl_modes.specs.Modes.{are_compatible}
 use Rattle.gl_modes.proofs.ModeLemmas.{NL-compatible}
-use Rattle.gl_header.specs.Header.{is_ahead}
+use Rattle.gl_header.specs.Header.{Waiter, is_ahead, is_among_waiters}
 use Rattle.gl_header.specs.State.{HeaderState, IsLawfulHeader, members_of}
 use Rattle.gl_waits.specs.declared.board.Board.{Board}
 use Rattle.gl_waits.specs.Sets.{bits_of, has_slot}
 use Rattle.gl_waits.specs.Boards.{row_edge}
 use Rattle.gl_waits.proofs.BoardLemmas.{row_edge-bits_of, row_edge-replicate}
-use Rattle.gl_waits.proofs.SetLemmas.{same_slots}
+use Rattle.gl_waits.proofs.SetLemmas.{no_slot-zero, same_slots}
 use Rattle.gl_graph.proofs.Look.{none_some, or_elim, some_is}
-use Rattle.gl_table.specs.declared.detect.Detect.TheVariants.{ByWatcher}
 use Rattle.gl_table.specs.declared.seat.Seat.{Seat}
 use Rattle.gl_table.specs.declared.txn.Status.TheVariants.{Waiting}
-use Rattle.gl_table.specs.BoardOf.{board_of}
+use Rattle.gl_table.specs.BoardOf.{board_of, shown}
 use Rattle.gl_table.specs.Headers.{AreHeaders, Entries, header_at, header_or_new, held_of, queue_of}
 use Rattle.gl_table.specs.Seats.{txn_in, txns_of}
-use Rattle.gl_table.specs.State.{State, age_in, age_of, empty_state, status_in}
+use Rattle.gl_table.specs.State.{State, age_in, age_of, status_in}
 use Rattle.gl_table.specs.Waiting.{blocks, waits_for}
 use Rattle.gl_table.proofs.Edges.{idle_no_step, step_is}
+use Rattle.gl_table.proofs.Rows.{ahead-first}
 use Rattle.gl_table.proofs.Queues.{ahead_is, ahead_second, clash}
 
 -- a list of numbers by slot, written below i
@@ -35,9 +35,17 @@ use Rattle.gl_table.proofs.Queues.{ahead_is, ahead_second, clash}
 abbrev pub AreAgesBelow : (ℕ → ℕ) → ℕ → List ℕ → Type 0
 AreAgesBelow age i xs = (t : ℕ) → get_or xs t 0 ≡ cond (nat_lt t i) (age t) 0
 
--- below i the rows have the relation's steps, from i on none
+-- a row has the relation's steps
+abbrev pub IsRow : (ℕ → ℕ → Bool) → List ℕ → ℕ → Type 0
+IsRow edge xs t = (u : ℕ) → row_edge xs t u ≡ edge t u
+
+-- each row is right, or it is from i on and empty
 abbrev pub AreRowsBelow : (ℕ → ℕ → Bool) → ℕ → List ℕ → Type 0
-AreRowsBelow edge i xs = (t u : ℕ) → row_edge xs t u ≡ (nat_lt t i && edge t u)
+AreRowsBelow edge i xs = (t : ℕ) → IsRow edge xs t ⊎ ((i ≤ t) × ((u : ℕ) → row_edge xs t u ≡ false))
+
+-- each row is as it was, or right
+abbrev pub AreRowsShown : (ℕ → ℕ → Bool) → List ℕ → List ℕ → Type 0
+AreRowsShown edge old xs = (t : ℕ) → (get_or xs t 0 ≡ get_or old t 0) ⊎ IsRow edge xs t
 
 -- nothing is written yet
 ages-none : (age : ℕ → ℕ) (n : ℕ) → AreAgesBelow age 0 (replicate n 0)
@@ -47,10 +55,7 @@ ages-none age n t = ⊎_elim (λ low. get_or-replicate n t 0 0 low) (λ past. ge
     by x = grind (arith, nat_tests)
 
 rows-none : (edge : ℕ → ℕ → Bool) (n : ℕ) → AreRowsBelow edge 0 (replicate n 0)
-rows-none edge n t u = row_edge-replicate n t u ∙ by (edge t u)
-  where
-    by : (x : Bool) → false ≡ (nat_lt t 0 && x)
-    by x = grind (arith, nat_tests)
+rows-none edge n t = inr (omega arith, λ u. row_edge-replicate n t u)
 
 -- slot i is written
 ages-written : (age : ℕ → ℕ) (i a : ℕ) (xs : List ℕ) → i < length xs → a ≡ age i → AreAgesBelow age i xs → AreAgesBelow age (i + 1) (set xs i a)
@@ -76,29 +81,34 @@ ages-passed age i xs free ages t = ages t ∙ ⊎_elim (λ e. here e (age t) (ap
     other : (x : ℕ) → t ≢ i → cond (nat_lt t i) x 0 ≡ cond (nat_lt t (i + 1)) x 0
     other x ne = grind (arith, nat_tests)
 
--- the same of a row
-rows-written : (edge : ℕ → ℕ → Bool) (i r : ℕ) (xs : List ℕ) → i < length xs → ((u : ℕ) → has_slot r u ≡ edge i u) → AreRowsBelow edge i xs → AreRowsBelow edge (i + 1) (set xs i r)
-rows-written edge i r xs low is rows t u =
+-- a row that is right is written
+pub rows-shown : (edge : ℕ → ℕ → Bool) (i r : ℕ) (old xs : List ℕ) → i < length xs → ((u : ℕ) → has_slot r u ≡ edge i u) → AreRowsShown edge old xs → AreRowsShown edge old (set xs i r)
+rows-shown edge i r old xs low is rows t =
     ⊎_elim
-    (λ e. subst (λ x. row_edge (set xs i r) x u ≡ (nat_lt x (i + 1) && edge x u)) (sym e) (ap (λ n. has_slot n u) (get_or-set_same xs i r 0 low) ∙ is u ∙ here (edge i u)))
-    (λ ne. ap (λ n. has_slot n u) (get_or-set_other xs i t r 0 ne) ∙ rows t u ∙ other (edge t u) ne)
+    (λ e. inr (subst (IsRow edge (set xs i r)) (sym e) (λ u. ap (λ n. has_slot n u) (get_or-set_same xs i r 0 low) ∙ is u)))
+    (λ ne. let other = get_or-set_other xs i t r 0 ne in ⊎_elim (λ same. inl (other ∙ same)) (λ right. inr (λ u. ap (λ n. has_slot n u) other ∙ right u)) (rows t))
     (cases_eq t i)
-  where
-    here : (x : Bool) → x ≡ (nat_lt i (i + 1) && x)
-    here x = grind (arith, nat_tests)
 
-    other : (x : Bool) → t ≢ i → (nat_lt t i && x) ≡ (nat_lt t (i + 1) && x)
-    other x ne = grind (arith, nat_tests)
+-- rows that are as they were or right are right as far as those were
+rows-kept : (edge : ℕ → ℕ → Bool) (i : ℕ) (old xs : List ℕ) → AreRowsShown edge old xs → AreRowsBelow edge i old → AreRowsBelow edge i xs
+rows-kept edge i old xs kept rows t =
+    ⊎_elim
+    (λ same. ⊎_elim (λ right. inl (λ u. ap (λ n. has_slot n u) same ∙ right u)) (λ none. inr (none.0, λ u. ap (λ n. has_slot n u) same ∙ none.1 u)) (rows t))
+    inl
+    (kept t)
 
--- and of one that stays empty
+-- row i is right too
+rows-next : (edge : ℕ → ℕ → Bool) (i : ℕ) (xs : List ℕ) → IsRow edge xs i → AreRowsBelow edge i xs → AreRowsBelow edge (i + 1) xs
+rows-next edge i xs is rows t =
+    ⊎_elim (λ e. inl (subst (IsRow edge xs) (sym e) is)) (λ ne. ⊎_elim inl (λ none. let far = none.0 in inr (omega arith, none.1)) (rows t)) (cases_eq t i)
+
+-- a row that is not empty was right
+rows-there : (edge : ℕ → ℕ → Bool) (i : ℕ) (xs : List ℕ) → (get_or xs i 0 ≡ 0 → ⊥) → AreRowsBelow edge i xs → IsRow edge xs i
+rows-there edge i xs some rows = ⊎_elim (λ right. right) (λ none. absurd (some (no_slot-zero (get_or xs i 0) none.1))) (rows i)
+
+-- the row of a slot without steps is right as it is
 rows-passed : (edge : ℕ → ℕ → Bool) (i : ℕ) (xs : List ℕ) → ((u : ℕ) → edge i u ≡ false) → AreRowsBelow edge i xs → AreRowsBelow edge (i + 1) xs
-rows-passed edge i xs idle rows t u = rows t u ∙ ⊎_elim (λ e. here e (edge t u) (ap (λ x. edge x u) e ∙ idle u)) (λ ne. other (edge t u) ne) (cases_eq t i)
-  where
-    here : t ≡ i → (x : Bool) → x ≡ false → (nat_lt t i && x) ≡ (nat_lt t (i + 1) && x)
-    here e x z = grind (arith, nat_tests)
-
-    other : (x : Bool) → t ≢ i → (nat_lt t i && x) ≡ (nat_lt t (i + 1) && x)
-    other x ne = grind (arith, nat_tests)
+rows-passed edge i xs idle rows = rows-next edge i xs (⊎_elim (λ right. right) (λ none. λ u. none.1 u ∙ sym (idle u)) (rows i)) rows
 
 -- once no slot from i on has an age or a step, the lists are those of the relation
 
@@ -112,10 +122,10 @@ rows-all : (edge : ℕ → ℕ → Bool) (i n m : ℕ) (xs : List ℕ) → lengt
     → xs ≡ map (λ t. bits_of m (edge t)) (range_with_len 0 n)
 rows-all edge i n m xs size low idle rows =
     fill_by_all (λ t. bits_of m (edge t)) xs n 0 size
-    (λ k inside. same_slots _ _ (λ u. rows k u ∙ by k (edge k u) (idle k u) ∙ sym (row_edge-bits_of n m edge low k u)) ∙ get_or-map-range_with_len (λ t. bits_of m (edge t)) 0 n k k 0 inside (omega arith))
+    (λ k inside. same_slots _ _ (λ u. right k u ∙ sym (row_edge-bits_of n m edge low k u)) ∙ get_or-map-range_with_len (λ t. bits_of m (edge t)) 0 n k k 0 inside (omega arith))
   where
-    by : (k : ℕ) (x : Bool) → (i ≤ k → x ≡ false) → (nat_lt k i && x) ≡ x
-    by k x z = grind (arith, nat_tests)
+    right : (k : ℕ) → IsRow edge xs k
+    right k = ⊎_elim (λ is. is) (λ none. λ u. none.1 u ∙ sym (idle k u none.0)) (rows k)
 
 -- whom somebody waits for is below 128
 
@@ -129,11 +139,6 @@ blocker-below (Some x) lawful w t u h =
   where
     law : IsLawfulHeader x
     law = lawful x refl
-
--- the state that a board shows
-abbrev pub shown : Entries → List (Option Seat) → ℕ → State
-shown hs seats epoch =
-    record (empty_state ByWatcher (length seats)) { txns = txns_of seats; held = held_of hs; queue = queue_of hs; accepted = epoch }
 
 awaited-below : (hs : Entries) (seats : List (Option Seat)) (epoch : ℕ) → AreHeaders hs → (t u : ℕ) → waits_for (shown hs seats epoch) t u ≡ true → u < 128
 awaited-below hs seats epoch law t u h =
@@ -194,20 +199,48 @@ module _ (hs : Entries) (seats : List (Option Seat)) (epoch i : ℕ) (b after : 
         rows = rows-passed (waits_for s) i b.rows (idle_no_step s i (λ n m e. idle n m (some_is (sym (ap status_in (seat-at (Some x) is)) ∙ e)))) sofar.rows;
       })
 
-  -- its transaction waits
-  pub waits-next : (x : Seat) (a row : ℕ) (n : NodeId) (m : Mode) → get_or seats i None ≡ Some x → x.status ≡ Waiting n m → a ≡ x.age
-      → ((u : ℕ) → has_slot row u ≡ (not (i == u) && (not (are_compatible m (held_of hs u n)) || is_ahead (queue_of hs n) i u)))
-      → after ≡ record { epoch = b.epoch; ages = set b.ages i a; rows = set b.rows i row } → IsBoardBelow (shown hs seats epoch) (i + 1) after
-  waits-next x a row n m is waits age r same =
-      let st = ap status_in (seat-at (Some x) is) ∙ ap Some waits in
-      let size = sofar.rows_len in
+  -- its transaction waits, and its row is there
+  pub shown-next : (x : Seat) (a : ℕ) → get_or seats i None ≡ Some x → (get_or b.rows i 0 ≡ 0 → ⊥) → a ≡ x.age
+      → after ≡ record { epoch = b.epoch; ages = set b.ages i a; rows = b.rows } → IsBoardBelow (shown hs seats epoch) (i + 1) after
+  shown-next x a is there age same =
       subst (IsBoardBelow s (i + 1)) (sym same) (record {
         epoch = sofar.epoch;
         ages_len = length-set b.ages i a ∙ sofar.ages_len;
-        rows_len = length-set b.rows i row ∙ sofar.rows_len;
+        rows_len = sofar.rows_len;
         ages = age-written x a is age;
-        rows = rows-written (waits_for s) i row b.rows (omega arith) (λ u. r u ∙ sym (ap (λ o. not (i == u) && blocks s i u o) st)) sofar.rows;
+        rows = rows-next (waits_for s) i b.rows (rows-there (waits_for s) i b.rows there sofar.rows) sofar.rows;
       })
+
+  -- its transaction waits, and its row is written; then those of others may be
+  pub waits-next : (x : Seat) (a row : ℕ) (rows : List ℕ) (n : NodeId) (m : Mode) → get_or seats i None ≡ Some x → x.status ≡ Waiting n m → a ≡ x.age
+      → ((u : ℕ) → has_slot row u ≡ (not (i == u) && (not (are_compatible m (held_of hs u n)) || is_ahead (queue_of hs n) i u)))
+      → length rows ≡ length (set b.rows i row) → AreRowsShown (waits_for s) (set b.rows i row) rows
+      → after ≡ record { epoch = b.epoch; ages = set b.ages i a; rows = rows } → IsBoardBelow (shown hs seats epoch) (i + 1) after
+  waits-next x a row rows n m is waits age r size kept same =
+      let st = ap status_in (seat-at (Some x) is) ∙ ap Some waits in
+      let places = sofar.rows_len in
+      let right : (u : ℕ) → has_slot row u ≡ waits_for s i u = λ u. r u ∙ sym (ap (λ o. not (i == u) && blocks s i u o) st) in
+      let own = rows-shown (waits_for s) i row b.rows b.rows (omega arith) right (λ t. inl refl) in
+      let there : IsRow (waits_for s) (set b.rows i row) i = λ u. ap (λ k. has_slot k u) (get_or-set_same b.rows i row 0 (omega arith)) ∙ right u in
+      subst (IsBoardBelow s (i + 1)) (sym same) (record {
+        epoch = sofar.epoch;
+        ages_len = length-set b.ages i a ∙ sofar.ages_len;
+        rows_len = size ∙ length-set b.rows i row ∙ sofar.rows_len;
+        ages = age-written x a is age;
+        rows = rows-kept (waits_for s) (i + 1) (set b.rows i row) rows kept (rows-next (waits_for s) i (set b.rows i row) there (rows-kept (waits_for s) i b.rows (set b.rows i row) own sofar.rows));
+      })
+
+-- the row of a slot whose place in a queue is reached, where those passed are known
+pub reached-row : (hs : Entries) (seats : List (Option Seat)) (node : NodeId) (h : HeaderState) (q : List Waiter) (t i : ℕ) (w : Mode) (passed r : ℕ) (d : Waiter) → h ≡ header_or_new (header_at hs node) → q ≡ h.queue
+    → status_in (txns_of seats t) ≡ Some (Waiting node w) → i < length q → (get_or q i d).0 ≡ t
+    → ((u : ℕ) → has_slot passed u ≡ is_among_waiters u (take i q)) → has_slot passed t ≡ false
+    → ((u : ℕ) → has_slot r u ≡ (not (t == u) && (not (are_compatible w (members_of h u)) || has_slot passed u)))
+    → (u : ℕ) → has_slot r u ≡ waits_for (shown hs seats 0) t u
+reached-row hs seats node h q t i w passed r d is same st low at front out row u =
+    row u
+    ∙ ap (λ b. not (t == u) && (not (are_compatible w (members_of h u)) || b)) (front u ∙ sym (ahead-first q t u i d low at (sym (front t) ∙ out)) ∙ ap (λ x. is_ahead x t u) same)
+    ∙ ap (λ (x : HeaderState). not (t == u) && (not (are_compatible w (members_of x u)) || is_ahead x.queue t u)) is
+    ∙ sym (ap (λ o. not (t == u) && blocks (shown hs seats 0) t u o) st)
 
 board-is : (b : Board) (epoch : ℕ) (ages rows : List ℕ) → b.epoch ≡ epoch → b.ages ≡ ages → b.rows ≡ rows → b ≡ record { epoch = epoch; ages = ages; rows = rows }
 board-is b epoch ages rows e a r = λ j. record { epoch = e j; ages = a j; rows = r j }

@@ -13,7 +13,7 @@ use Rattle.gl_header.proofs.GroupOf.{group_of-limit}
 use Rattle.gl_table.specs.declared.seat.Seat.{Seat}
 use Rattle.gl_table.specs.declared.table.Table.TheInside.{Inside}
 use Rattle.gl_table.specs.Answers.{RefusesOnly, answered}
-use Rattle.gl_table.specs.BoardOf.{board_of}
+use Rattle.gl_table.specs.BoardOf.{board_of, shown}
 use Rattle.gl_table.specs.Covered.{held_children}
 use Rattle.gl_table.specs.Effects.{effect_on, effective}
 use Rattle.gl_table.specs.Headers.{held_of, members_at, queue_of}
@@ -22,7 +22,6 @@ use Rattle.gl_table.specs.Slots.{counted_by, held_by}
 use Rattle.gl_table.specs.Sound.{IsSound, view_of}
 use Rattle.gl_table.specs.State.{members}
 use Rattle.gl_table.specs.Table.{TableView, state_of}
-use Rattle.gl_table.proofs.BoardWrites.{shown}
 use Rattle.gl_table.proofs.GrantKeeps.{lawful-within}
 
 -- where no test refuses, a call answers the value

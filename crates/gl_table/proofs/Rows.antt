@@ -1,9 +1,10 @@
 -- The row of a slot that waits: who holds a mode that does not go with the wanted one, and who stands ahead.
-use Rattle.std.proofs.Common.{◌≡◌, ℕ, zero, suc, ◌+◌, ◌-◌, ◌<◌, Bool, true, false, not, cond, ◌&&◌, ◌||◌, ◌==◌, List, [], ◌∷◌, All, Option, length, get_or, take, drop, reverse, bit_or, refl, sym, ap, ap₂, ◌∙◌, ⊎_elim, drop-cons, arith}
+use Rattle.std.proofs.Common.{◌≡◌, ℕ, zero, suc, ◌+◌, ◌-◌, ◌<◌, Bool, true, false, not, cond, ◌&&◌, ◌||◌, ◌==◌, List, [], ◌∷◌, All, length, get_or, take, drop, reverse, bit_or, refl, sym, ap, ◌∙◌, ⊎_elim, drop-cons, arith}
 use Rattle.std.specs.Prelude.{if◌then◌else◌}
 use Rattle.std.proofs.lemmas.Bool.{cases_lt}
 use Rattle.std.proofs.lemmas.Bool.Decides.{nat_tests}
-use Rattle.std.proofs.lemmas.List.{get_or-reverse, length-reverse}
+use Rattle.std.proofs.lemmas.List.{get_or-reverse, length-reverse, take_more}
+use Rattle.std.proofs.lemmas.List.Elements.{All-same}
 use Rattle.std.proofs.lemmas.List.Folds.{list_any_at}
 use Rattle.gl_modes.specs.declared.mode.Mode.{Mode}
 use Rattle.gl_modes.specs.declared.mode.Mode.TheVariants.{NL}
@@ -14,8 +15,7 @@ use Rattle.gl_header.specs.State.{HeaderState, IsLawfulHeader, members_of}
 use Rattle.gl_waits.specs.Sets.{has_slot}
 use Rattle.gl_waits.proofs.SetLemmas.{has_slot-or}
 use Rattle.gl_graph.proofs.Look.{number_same}
-use Rattle.gl_table.specs.Headers.{header_or_new}
-use Rattle.gl_table.proofs.Queues.{ahead, ahead_is, clash}
+use Rattle.gl_table.proofs.Queues.{ahead, ahead_is, among_append, clash}
 
 -- who stands ahead of t is who stands before its first wait
 pub ahead-first : (q : List Waiter) (t u i : ℕ) (d : Waiter) → i < length q → (get_or q i d).0 ≡ t → is_among_waiters t (take i q) ≡ false → is_ahead q t u ≡ is_among_waiters u (take i q)
@@ -68,17 +68,27 @@ module _ (ms : List Waiter) (w : Mode) (k l : ℕ) (e : Waiter) (set after : ℕ
 pub all-below : (es : List Waiter) → ((t : ℕ) → is_among_waiters t es ≡ true → t < 128) → All (λ e. e.0 < 128) es
 all-below es low = λ k d h. low (get_or es k d).0 (list_any_at (is_waiter (get_or es k d).0) es k d h (number_same _ _ refl))
 
+pub queue-below : (h : HeaderState) (q : List Waiter) (k : ℕ) (d : Waiter) → IsLawfulHeader h → q ≡ h.queue → k < length q → (get_or q k d).0 < 128
+queue-below h q k d law is low = All-same (λ (e : Waiter). e.0 < 128) q h.queue is (all-below h.queue law.waiters_below) k d low
+
+-- one more of a queue
+pub among-next : (q : List Waiter) (i u : ℕ) (d : Waiter) → i < length q → is_among_waiters u (take (i + 1) q) ≡ (is_among_waiters u (take i q) || (u == (get_or q i d).0))
+among-next q i u d low =
+    ap (is_among_waiters u) (take_more q i d low) ∙ among_append u (take i q) (get_or q i d ∷ []) ∙ ap (λ b. is_among_waiters u (take i q) || b) (last (get_or q i d).0)
+  where
+    last : (s : ℕ) → ((s == u) || false) ≡ (u == s)
+    last s = grind (arith, nat_tests)
+
 pub members-below : (h : HeaderState) → IsLawfulHeader h → (t : ℕ) → is_among_waiters t h.members ≡ true → t < 128
 members-below h law t among =
     ⊎_elim (λ low. low) (λ past. clash (sym (law.listed t) ∙ among) (ap (λ m. not (same_mode m NL)) (law.members_below t past))) (cases_lt t 128)
 
 -- the union of those that hold against t and those ahead of it, without t
-pub joined : (h : HeaderState) (o : Option HeaderState) (w : Mode) (t against before row : ℕ) → h ≡ header_or_new o → ((u : ℕ) → has_slot against u ≡ not (are_compatible w (mode_at h.members u)))
-    → ((u : ℕ) → has_slot before u ≡ is_ahead h.queue t u) → ((u : ℕ) → has_slot row u ≡ (has_slot (bit_or against before) u && not (u == t)))
-    → (u : ℕ) → has_slot row u ≡ (not (t == u) && (not (are_compatible w (members_of (header_or_new o) u)) || is_ahead (header_or_new o).queue t u))
-joined h o w t against before row is a b r u =
-    by _ _ _ _ _ (r u) (has_slot-or against before u ∙ ap₂ (λ x y. x || y) (a u) (b u))
-    ∙ ap (λ (x : HeaderState). not (t == u) && (not (are_compatible w (members_of x u)) || is_ahead x.queue t u)) is
+pub joined : (h : HeaderState) (w : Mode) (t against before row : ℕ) → ((u : ℕ) → has_slot against u ≡ not (are_compatible w (mode_at h.members u)))
+    → ((u : ℕ) → has_slot row u ≡ (has_slot (bit_or against before) u && not (u == t)))
+    → (u : ℕ) → has_slot row u ≡ (not (t == u) && (not (are_compatible w (members_of h u)) || has_slot before u))
+joined h w t against before row a r u =
+    by _ _ _ _ _ (r u) (has_slot-or against before u ∙ ap (λ x. x || has_slot before u) (a u))
   where
     by : (x y z : Bool) (s v : ℕ) → x ≡ (y && not (v == s)) → y ≡ z → x ≡ (not (s == v) && z)
     by x y z s v e f = grind (arith, nat_tests)

@@ -1,34 +1,32 @@
 //! The board of a moment.
 
-ghost use Rattle.std.specs.Prelude.{◌≡◌, ◌≤◌, ◌==◌, ◌&&◌, ◌||◌, ℕ, ◌<◌, All, length, not};
+ghost use Rattle.std.specs.Prelude.{◌≡◌, ◌≤◌, ◌==◌, ◌&&◌, ◌||◌, ◌⊎◌, ℕ, ◌<◌, All, IfSome, Some, get_or, length, not};
 ghost use Rattle.gl_modes.specs.Modes.{are_compatible};
 ghost use Rattle.gl_header.specs.Header.{is_ahead};
 ghost use Rattle.gl_header.specs.Entries.{mode_at};
+ghost use Rattle.gl_header.specs.State.{members_of};
 ghost use Rattle.gl_waits.specs.Sets.{has_slot};
-ghost use Rattle.gl_table.specs.BoardOf.{board_of};
+ghost use Rattle.gl_table.specs.BoardOf.{board_of, shown};
+ghost use Rattle.gl_table.specs.declared.txn.Status.TheVariants.{Waiting};
 ghost use Rattle.gl_table.specs.Headers.{AreHeaders, held_of, queue_of};
 ghost use Rattle.gl_table.specs.Seats.{txns_of};
-ghost use Rattle.gl_table.specs.State.{empty_state};
-ghost use Rattle.gl_table.specs.declared.detect.Detect.TheVariants.{ByWatcher};
+ghost use Rattle.gl_table.specs.State.{status_in};
+ghost use Rattle.gl_table.specs.Waiting.{waits_for};
 
 use crate::headers::Headers;
 use crate::seat::Seat;
 use crate::txn::Status;
+use gl_header::Header;
 use gl_modes::{Mode, NodeId, compatible};
-use gl_waits::set::{with, without};
+use gl_waits::set::{has, with, without};
 use gl_waits::{Board, SLOTS};
 
-/// The board of this moment. The row of a transaction that waits costs the members and waiters of
-/// its node; of one that does not, nothing.
+/// The board of this moment. Each queue in which somebody waits is read twice, however many wait in it:
+/// once for the first of them that is met, and once for the rows of all.
 pub(crate) fn board(headers: &Headers, seats: &[Option<Seat>], epoch: u64) -> Board
     requires few { length seats.now ≤ 128 }
     requires headers { AreHeaders headers.now.entries }
-    ensures { result ≡ board_of (record (empty_state ByWatcher (length seats.now)) {
-      txns = txns_of seats.now;
-      held = held_of headers.now.entries;
-      queue = queue_of headers.now.entries;
-      accepted = epoch;
-    }) }
+    ensures { result ≡ board_of (shown headers.now.entries seats.now epoch) }
 {
     let mut board = Board {
         epoch,
@@ -39,11 +37,53 @@ pub(crate) fn board(headers: &Headers, seats: &[Option<Seat>], epoch: u64) -> Bo
         if let Some(Seat { age, status }) = *seat {
             board.ages[slot] = age;
             if let Status::Waiting { node, wanted } = status {
-                board.rows[slot] = row(headers, slot as u8, node, wanted);
+                if board.rows[slot] == 0 {
+                    board.rows[slot] = row(headers, slot as u8, node, wanted);
+                    show_queue(headers, seats, node, &mut board.rows);
+                }
             }
         }
     }
     board
+}
+
+/// Writes the rows of those who wait for a node, in one pass over its queue: ahead of each are those
+/// who were passed. A slot's first place counts.
+fn show_queue(headers: &Headers, seats: &[Option<Seat>], node: NodeId, rows: &mut [u128; SLOTS])
+    requires headers { AreHeaders headers.now.entries }
+    ensures len { length rows.new ≡ length rows.old }
+    ensures rows { (t : ℕ) → (get_or rows.new t 0 ≡ get_or rows.old t 0) ⊎ ((u : ℕ) → has_slot (get_or rows.new t 0) u ≡ waits_for (shown headers.now.entries seats.now 0) t u) }
+{
+    let Some(header) = headers.get(&node) else {
+        return;
+    };
+    header.law();
+    let mut passed = 0;
+    for &(slot, _) in header.queue() {
+        if let Some(wanted) = wanted_on(seats, slot, node) {
+            if !has(passed, slot as usize) {
+                rows[slot as usize] = row_behind(header, passed, slot, wanted);
+            }
+        }
+        passed = with(passed, slot as usize);
+    }
+}
+
+/// The mode in which a slot waits for a node.
+fn wanted_on(seats: &[Option<Seat>], slot: u8, node: NodeId) -> Option<Mode>
+    ensures { IfSome result (λ m. status_in (txns_of seats.now slot) ≡ Some (Waiting node m)) }
+{
+    match seats.get(slot as usize) {
+        Some(
+            Some(
+                Seat {
+                    status: Status::Waiting { node: at, wanted },
+                    ..
+                },
+            ),
+        ) if *at == node => Some(*wanted),
+        _ => None,
+    }
 }
 
 /// Whom a slot waits for that waits on this node for this mode: who holds the node in a mode that
@@ -56,11 +96,19 @@ fn row(headers: &Headers, slot: u8, node: NodeId, wanted: Mode) -> u128
     match headers.get(&node) {
         Some(header) => {
             header.law();
-            let blocking = opposed(header.members(), wanted) | ahead(header.queue(), slot);
-            without(blocking, slot as usize)
+            row_behind(header, ahead(header.queue(), slot), slot, wanted)
         }
         None => 0,
     }
+}
+
+/// Whom a slot waits for with these ahead of it.
+fn row_behind(header: &Header, ahead: u128, slot: u8, wanted: Mode) -> u128
+    requires below { slot < 128 }
+    ensures { (u : ℕ) → has_slot result u ≡ (not (slot == u) && (not (are_compatible wanted (members_of header.now u)) || has_slot ahead u)) }
+{
+    header.law();
+    without(opposed(header.members(), wanted) | ahead, slot as usize)
 }
 
 /// The slots that hold a mode that does not go with the wanted one. Where a slot stands twice, its

@@ -4,11 +4,10 @@ use Rattle.gl_graph.specs.Graph.{Graph}
 use Rattle.gl_waits.specs.Boards.{age_in}
 use Rattle.gl_waits.specs.Sets.{has_slot}
 use Rattle.gl_waits.specs.Waits.{IsLowestYoungest, IsOnCycleOf, IsOnNoCycle, IsYoungest}
-use Rattle.gl_table.specs.BoardOf.{board_of}
+use Rattle.gl_table.specs.BoardOf.{board_of, shown}
 use Rattle.gl_table.specs.Locks.{IsOrderly, state_on}
 use Rattle.gl_table.specs.State.{age_of}
 use Rattle.gl_table.specs.Waiting.{waits_for}
-use Rattle.gl_table.proofs.BoardWrites.{shown}
 use Rattle.gl_table.proofs.Victims.{cycle_waits, member_below, victim_none, victim_youngest}
 use Rattle.gl_table.proofs.locks.Locks.victim.Goals.{After-on_cycle}
 use Rattle.gl_table.proofs.locks.Locks.victim.Goals as goal

@@ -1,0 +1,15 @@
+use Rattle.std.proofs.Common.{◌≡◌, ℕ, length, take}
+use Rattle.gl_header.specs.Header.{is_among_waiters}
+use Rattle.gl_waits.specs.Sets.{has_slot}
+use Rattle.gl_table.specs.BoardOf.{shown}
+use Rattle.gl_table.specs.Waiting.{waits_for}
+use Rattle.gl_table.proofs.BoardWrites.{AreRowsShown}
+use Rattle.gl_table.proofs.boards.show_queue.Given as goal
+
+-- the set has the slots so far, and each row is as it was or right
+abbrev pub invariant-loop-slot : goal.invariant-loop-slot
+invariant-loop-slot l = record {
+  len : length l.rows ≡ length l.fn.rows;
+  passed : (u : ℕ) → has_slot l.passed u ≡ is_among_waiters u (take l.slot-index l.slot-items);
+  rows : AreRowsShown (waits_for (shown l.headers.entries l.seats 0)) l.fn.rows l.rows;
+}
