@@ -73,15 +73,9 @@ fn show_queue(headers: &Headers, seats: &[Option<Seat>], node: NodeId, rows: &mu
 fn wanted_on(seats: &[Option<Seat>], slot: u8, node: NodeId) -> Option<Mode>
     ensures { IfSome result (λ m. status_in (txns_of seats.now slot) ≡ Some (Waiting node m)) }
 {
-    match seats.get(slot as usize) {
-        Some(
-            Some(
-                Seat {
-                    status: Status::Waiting { node: at, wanted },
-                    ..
-                },
-            ),
-        ) if *at == node => Some(*wanted),
+    let Seat { status, .. } = (*seats.get(slot as usize)?)?;
+    match status {
+        Status::Waiting { node: at, wanted } if at == node => Some(wanted),
         _ => None,
     }
 }
