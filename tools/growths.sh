@@ -1,12 +1,14 @@
 #!/usr/bin/env bash
-# growths.sh plays|script LIBRARY: runs a program with each of its growths refused in turn, by the library
-# that tools/refuse_growth.c makes. Says at which growth something is not as it must be, and ends with
-# status 1 there.
+# growths.sh plays|script|crews LIBRARY: runs a program with each of its growths refused in turn, by the
+# library that tools/refuse_growth.c makes. Says at which growth something is not as it must be, and ends
+# with status 1 there.
 #
 # plays: the program `growths` prints the same as with no growth refused.
 # script: `gltool` answers tools/every_form.script. Either it finds no memory, or bad words where its
 #   words were not read, before it has read anything; or one line is answered with want of memory, and all
 #   others as in the script without that line.
+# crews: `gltool` runs a small crew by each way of detection. It ends in time, and counts every command of
+#   its sessions (threads that could not be started among them), or says in one line that it did not.
 #
 # Both programs must be built.
 set -uo pipefail
@@ -16,9 +18,10 @@ library=$2
 work=$(mktemp -d) || exit 2
 trap 'rm -rf "$work"' EXIT
 
-# with_growth N PROGRAM: runs the program with its Nth growth refused, none for 0.
+# with_growth N PROGRAM WORD..: runs the program, for a minute at most, with its Nth growth refused, none
+# for 0.
 with_growth() {
-  LD_PRELOAD=$library GROWTH_REFUSED=$1 GROWTH_COUNT=$work/count "$2"
+  timeout 60 env LD_PRELOAD="$library" GROWTH_REFUSED="$1" GROWTH_COUNT="$work/count" "${@:2}"
 }
 
 # fail WHY: names the growth, with what is wrong about it.
@@ -95,8 +98,49 @@ refuse_in_script() {
   done
 }
 
+# Every command of the crew was counted, with a settle of the watcher each where it asked for some.
+counted() {
+  local count
+  count=$(sed -n 's/^accepted \([0-9]*\)$/\1/p' "$work/came")
+  [ "$(wc -l <"$work/came")" -eq 1 ] && [ -n "$count" ] || fail "written: $(head -n 1 "$work/came")"
+  [ "$count" -eq 84 ] || { [ "$1" = by-watcher ] && [ "$count" -gt 84 ]; } || fail "accepted $count, of 84"
+  [ ! -s "$work/fault" ] || fail "on standard error: $(cat "$work/fault")"
+}
+
+# Nothing was written but why the crew did not do its rounds.
+stopped() {
+  echo "gltool: $1" | cmp -s - "$work/fault" || fail "on standard error: $(cat "$work/fault")"
+  [ ! -s "$work/came" ] || fail "written all the same: $(head -n 1 "$work/came")"
+}
+
+# crew N DETECT: a crew of 4 sessions and 3 rounds.
+crew() {
+  with_growth "$1" "$program" --crew 4 --rounds 3 --detect "$2" >"$work/came" 2>"$work/fault" </dev/null
+}
+
+refuse_in_crews() {
+  local program=$top/crates/gltool/out/gltool status detect all=0
+  for detect in at-block by-watcher; do
+    crew 0 "$detect" || exit 1
+    growths_of "the crew"
+    all=$((all + growths))
+    for ((n = 1; n <= growths; n++)); do
+      crew "$n" "$detect"
+      status=$?
+      case $status in
+        0) counted "$detect" ;;
+        1) stopped "crew stopped" ;;
+        2) stopped "bad words" ;;
+        *) fail "status $status" ;;
+      esac
+    done
+  done
+  growths=$all
+}
+
 case $1 in
   plays) refuse_in_plays ;;
+  crews) refuse_in_crews ;;
   script) refuse_in_script ;;
   *) exit 2 ;;
 esac
