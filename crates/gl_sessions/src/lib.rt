@@ -8,3 +8,5 @@ mod rows;
 mod steps;
 #[cfg(test)]
 mod table;
+#[cfg(test)]
+mod waits;

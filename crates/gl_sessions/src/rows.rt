@@ -9,7 +9,7 @@ use std::test::Fail;
 
 /// A root 0, a file 1 under it, an index 2 with the intervals 3 and 4, and a record in each of these, 5
 /// and 6. They were made by transaction 0, which has ended.
-const PRELUDE: [Step; 13] = [
+pub const PRELUDE: [Step; 13] = [
     Step::Root,
     Step::File(0),
     Step::Index {

@@ -78,12 +78,14 @@ impl Made {
         }
     }
 
-    fn node(&self, place: usize) -> NodeId {
+    /// The node in a place.
+    pub fn node(&self, place: usize) -> NodeId {
         let nodes = self.nodes.as_slice();
         nodes.get(place).copied().unwrap_or(NodeId::NONE)
     }
 
-    fn txn(&self, place: usize) -> TxnId {
+    /// The transaction in a place.
+    pub fn txn(&self, place: usize) -> TxnId {
         let txns = self.txns.as_slice();
         txns.get(place).copied().unwrap_or(TxnId::NONE)
     }

@@ -41,7 +41,7 @@ fn play<N: Naming, R: Wait + Abort>(
 }
 
 /// Keeps the first two intervals behind an index.
-fn keep_intervals(made: &mut Made, manager: &Manager, answer: Answer) {
+pub fn keep_intervals(made: &mut Made, manager: &Manager, answer: Answer) {
     if let Answer::Node(node) = answer {
         for place in 0..2usize {
             if let Some(interval) = manager.graph().interval(node, place) {

@@ -1,0 +1,348 @@
+//! What ends the wait of a session that sleeps in `lock` in a thread of its own: what it comes to is
+//! told to it, whoever ended it and however.
+
+ghost use Rattle.std.specs.Prelude.{◌≡◌};
+ghost use Rattle.gl_table.specs.BoardOf.{board_of};
+ghost use Rattle.gl_catalog.specs.Manager.{state_of};
+
+use crate::rows::PRELUDE;
+use crate::steps::{Alone, Made, Step, Through, take};
+use crate::table::keep_intervals;
+use gl_catalog::{Answer, Command, Manager};
+use gl_modes::Mode::{IS, IX, S, X};
+use gl_modes::{Mode, NodeId, Refusal};
+use gl_shared::{Grant, Naming, NotAll, Parts, Session, Share, Shared, Stop, Watcher, gather};
+use gl_table::{Detect, TxnId};
+use std::alloc::Global;
+use std::marker::Brand;
+use std::process::Abort;
+use std::sync::Wait;
+use std::test::Fail;
+use std::thread::{Threads, join, yield_now};
+
+/// A wait and its end. Transactions and nodes stand in it by their places.
+#[derive(Clone, Copy)]
+struct Tale {
+    /// What was done before there were sessions.
+    before: &'static [&'static [Step]],
+    /// Which transaction waits for which mode on which node.
+    wait: (usize, Mode, usize),
+    /// How many transactions begin and commit elsewhere once a board shows the wait.
+    elsewhere: u32,
+    /// What is refused then.
+    refused: &'static [Step],
+    /// What is done then.
+    done: &'static [Step],
+    /// What the wait comes to; a grant of the mode for `None`.
+    came: Option<Stop>,
+}
+
+/// The lock that a session waits for.
+#[derive(Clone, Copy)]
+struct Asked {
+    txn: TxnId,
+    mode: Mode,
+    node: NodeId,
+}
+
+/// Transaction 0 holds a root, for which 1 is to wait.
+const HELD: &[Step] = &[Step::Root, Step::Begin, Step::Begin, Step::Lock(0, X, 0)];
+
+/// A wait for X on that root.
+const PLAIN: Tale = Tale {
+    before: &[HELD],
+    wait: (1, X, 0),
+    elsewhere: 0,
+    refused: &[],
+    done: &[],
+    came: None,
+};
+
+/// Whether a board was seen on which the slot waits, in at most a million turns.
+fn sees_wait<N: Naming>(watcher: &mut Watcher<N>, slot: usize) -> bool {
+    for _ in 0..1000000u32 {
+        if let Some(board) = watcher.look() {
+            if slot < 128 && board.rows[slot] != 0 {
+                return true;
+            }
+        }
+        yield_now();
+    }
+    false
+}
+
+/// Sleeps until the lock has its answer, which is the one that is wanted.
+fn sleeps<N: Naming, R: Wait + Abort>(
+    rt: &R,
+    table: &Shared<N>,
+    share: Share<N>,
+    asked: Asked,
+    wanted: Option<Stop>,
+) -> Share<N> {
+    let Asked { txn, mode, node } = asked;
+    let mut session = Session::new(table, share);
+    let came = session.lock(rt, txn, node, mode);
+    match wanted {
+        Some(stop) => assert_eq!(rt; came, Err(stop)),
+        None => {
+            assert_eq!(rt; came, Ok(Grant { txn, node, mode }));
+            let held = session.ask(rt, Command::Held { txn, node }).answer;
+            assert_eq!(rt; held, Answer::Mode(mode));
+        }
+    }
+    session.end()
+}
+
+/// Once a board shows the wait of a slot, does what the tale has.
+fn ends<N: Naming, R: Wait + Abort>(
+    rt: &R,
+    table: &Shared<N>,
+    share: Share<N>,
+    watcher: &mut Watcher<N>,
+    slot: u8,
+    tale: Tale,
+    made: Made,
+) -> Share<N> {
+    let mut made = made;
+    let mut session = Session::new(table, share);
+    assert!(rt; sees_wait(watcher, slot as usize));
+    for _ in 0..tale.elsewhere {
+        if let Answer::Begun(txn) = session.ask(rt, Command::Begin).answer {
+            session.ask(rt, Command::Commit { txn });
+        }
+    }
+    let mut through = Through { rt, session };
+    for (place, step) in tale.refused.iter().enumerate() {
+        let answer = take(&mut through, &made, *step).answer;
+        assert!(rt; matches!(answer, Answer::Refused(_)), "step {place}");
+    }
+    for (place, step) in tale.done.iter().enumerate() {
+        let answer = take(&mut through, &made, *step).answer;
+        assert!(rt; !matches!(answer, Answer::Refused(_)), "step {place}");
+        made.keep(answer);
+    }
+    let Through { rt: _, session } = through;
+    session.end()
+}
+
+/// The tale over a table with its name.
+fn tell_under_name<N: Naming + Send + Sync, R: Threads + Wait + Abort + Sync>(
+    rt: &R,
+    alloc: Global,
+    parts: Parts,
+    made: Made,
+    tale: Tale,
+) -> Result<(), Fail>
+    requires whole { N.shares ≡ N.parts }
+    requires name { parts.blank.name ≡ N.name }
+    requires parts { parts.blank.parts ≡ N.parts }
+    requires shares { parts.shares ≡ N.shares }
+    requires opening { (parts.manager.accepted ≡ N.opening) × (parts.manager.table.detect ≡ N.detect) }
+    requires book { (parts.line.book ≡ N.book) × (board_of (state_of parts.manager) ≡ N.first) }
+{
+    let Ok((shared, mut shares, mut watchers)) = Shared::<N>::new(rt, alloc, parts) else {
+        return Err(Fail::from("no memory"));
+    };
+    if let (Some(first), Some(second), Some(mut watcher)) = (
+        shares.pop(),
+        shares.pop(),
+        watchers.pop(),
+    ) {
+        let (txn, mode, node) = tale.wait;
+        let asked = Asked {
+            txn: made.txn(txn),
+            mode,
+            node: made.node(node),
+        };
+        let (table, looking) = (&shared, &mut watcher);
+        let (first, second) = join(
+            rt,
+            move || sleeps(rt, table, first, asked, tale.came),
+            move || ends(rt, table, second, looking, asked.txn.slot, tale, made),
+        );
+        let _ = shares.push(first);
+        let _ = shares.push(second);
+    }
+    match gather(rt, shared, shares) {
+        Ok(_) => Ok(()),
+        Err(NotAll { shared, shares: _ }) => {
+            shared.abandon(rt);
+            Err(Fail::from("a share is missing"))
+        }
+    }
+}
+
+/// Does steps before there are sessions.
+fn prepare(manager: &mut Manager, made: &mut Made, steps: &[Step]) {
+    for step in steps {
+        let answer = take(&mut Alone(manager), made, *step).answer;
+        made.keep(answer);
+        keep_intervals(made, manager, answer);
+    }
+}
+
+/// The tale with deadlocks found one way.
+fn tell_by<R: Threads + Wait + Abort + Sync>(
+    rt: &R,
+    alloc: Global,
+    detect: Detect,
+    tale: Tale,
+) -> Result<(), Fail> {
+    let Ok(mut manager) = Manager::new(alloc, detect, 128) else {
+        return Err(Fail::from("no memory"));
+    };
+    let mut made = Made::new();
+    for steps in tale.before {
+        prepare(&mut manager, &mut made, steps);
+    }
+    match Parts::new(rt, alloc, manager, 2, 1) {
+        Ok(parts) => tell_under_name::<Brand, R>(rt, alloc, parts, made, tale),
+        Err(_) => Err(Fail::from("no memory")),
+    }
+}
+
+/// The tale with deadlocks found either way.
+fn tell<R: Threads + Wait + Abort + Sync>(rt: &R, alloc: Global, tale: Tale) -> Result<(), Fail> {
+    tell_by(rt, alloc, Detect::AtBlock, tale)?;
+    tell_by(rt, alloc, Detect::ByWatcher, tale)
+}
+
+#[test]
+fn a_record_moves(rt: HostRuntime) -> Result<(), Fail> {
+    let tale = Tale {
+        before: &[
+            &PRELUDE,
+            &[
+                Step::Begin,
+                Step::Begin,
+                Step::Lock(1, IX, 0),
+                Step::Lock(1, IX, 1),
+                Step::Lock(1, IX, 2),
+                Step::Lock(1, IX, 3),
+                Step::Lock(1, X, 5),
+                Step::Lock(1, IX, 4),
+                Step::Lock(2, IX, 0),
+                Step::Lock(2, IX, 1),
+                Step::Lock(2, IX, 2),
+                Step::Lock(2, IX, 3),
+            ],
+        ],
+        wait: (2, X, 5),
+        done: &[Step::Rekey(1, 5, 2, 150)],
+        came: Some(Stop::Moved),
+        ..PLAIN
+    };
+    tell(&rt, rt.alloc(), tale)
+}
+
+#[test]
+fn a_record_goes(rt: HostRuntime) -> Result<(), Fail> {
+    let tale = Tale {
+        before: &[
+            &PRELUDE,
+            &[
+                Step::Begin,
+                Step::Begin,
+                Step::Lock(1, IX, 0),
+                Step::Lock(1, IX, 1),
+                Step::Lock(1, IX, 2),
+                Step::Lock(1, IX, 3),
+                Step::Lock(1, X, 5),
+                Step::Lock(2, IS, 0),
+                Step::Lock(2, IS, 1),
+            ],
+        ],
+        wait: (2, S, 5),
+        done: &[Step::Delete(1, 5)],
+        came: Some(Stop::Gone),
+        ..PLAIN
+    };
+    tell(&rt, rt.alloc(), tale)
+}
+
+#[test]
+fn a_file_moves(rt: HostRuntime) -> Result<(), Fail> {
+    let tale = Tale {
+        before: &[&[
+            Step::Root,
+            Step::Inner(0),
+            Step::Inner(0),
+            Step::File(1),
+            Step::Begin,
+            Step::Begin,
+            Step::Lock(0, IX, 0),
+            Step::Lock(0, IX, 1),
+            Step::Lock(0, IX, 2),
+            Step::Lock(0, X, 3),
+            Step::Lock(1, IS, 0),
+            Step::Lock(1, IS, 1),
+        ]],
+        wait: (1, S, 3),
+        done: &[Step::Move(0, 3, 2)],
+        came: Some(Stop::Moved),
+        ..PLAIN
+    };
+    tell(&rt, rt.alloc(), tale)
+}
+
+#[test]
+fn it_is_aborted(rt: HostRuntime) -> Result<(), Fail> {
+    let came = Some(Stop::Refused(Refusal::NoSuchTxn));
+    let ends: [&'static [Step]; 3] = [
+        &[Step::Abort(1)],
+        &[Step::Abort(1), Step::Begin],
+        &[
+            Step::Abort(1),
+            Step::Begin,
+            Step::Lock(2, X, 0),
+            Step::Commit(0),
+        ],
+    ];
+    for done in ends {
+        tell(
+            &rt,
+            rt.alloc(),
+            Tale {
+                done,
+                came,
+                ..PLAIN
+            },
+        )?;
+    }
+    Ok(())
+}
+
+#[test]
+fn it_is_cancelled(rt: HostRuntime) -> Result<(), Fail> {
+    let tale = Tale {
+        done: &[Step::Cancel(1)],
+        came: Some(Stop::Refused(Refusal::NotWaiting)),
+        ..PLAIN
+    };
+    tell(&rt, rt.alloc(), tale)
+}
+
+#[test]
+fn others_end_nothing_in_its_name(rt: HostRuntime) -> Result<(), Fail> {
+    let tale = Tale {
+        refused: &[
+            Step::Commit(1),
+            Step::Lock(1, S, 0),
+            Step::Try(1, S, 0),
+            Step::Unlock(1, 0),
+        ],
+        done: &[Step::Commit(0)],
+        ..PLAIN
+    };
+    tell(&rt, rt.alloc(), tale)
+}
+
+#[test]
+fn it_is_granted_after_much_else(rt: HostRuntime) -> Result<(), Fail> {
+    let tale = Tale {
+        elsewhere: 1000,
+        done: &[Step::Commit(0)],
+        ..PLAIN
+    };
+    tell(&rt, rt.alloc(), tale)
+}
