@@ -6,7 +6,7 @@ ghost use Rattle.gl_table.specs.BoardOf.{board_of};
 ghost use Rattle.gl_catalog.specs.Manager.{state_of};
 
 use crate::rows::PRELUDE;
-use crate::steps::{Alone, Made, Step, Through, take};
+use crate::steps::{Alone, Answers, Made, Step, Through, take};
 use crate::table::keep_intervals;
 use gl_catalog::{Answer, Command, Manager};
 use gl_modes::Mode::{IS, IX, S, X};
@@ -93,6 +93,34 @@ fn sleeps<N: Naming, R: Wait + Abort>(
     session.end()
 }
 
+/// Begins and commits so many transactions that lock nothing.
+fn work_elsewhere<N: Naming, R: Wait>(rt: &R, session: &mut Session<'_, N>, times: u32) {
+    for _ in 0..times {
+        if let Answer::Begun(txn) = session.ask(rt, Command::Begin).answer {
+            session.ask(rt, Command::Commit { txn });
+        }
+    }
+}
+
+/// Takes steps, each of which is refused, or none.
+fn take_each<R: Abort>(
+    rt: &R,
+    to: &mut impl Answers,
+    made: &mut Made,
+    steps: &[Step],
+    is_refused: bool,
+) {
+    for (place, step) in steps.iter().enumerate() {
+        let answer = take(to, made, *step).answer;
+        assert_eq!(rt;
+            matches!(answer, Answer::Refused(_)),
+            is_refused,
+            "step {place}"
+        );
+        made.keep(answer);
+    }
+}
+
 /// Once a board shows the wait of a slot, does what the tale has.
 fn ends<N: Naming, R: Wait + Abort>(
     rt: &R,
@@ -106,21 +134,10 @@ fn ends<N: Naming, R: Wait + Abort>(
     let mut made = made;
     let mut session = Session::new(table, share);
     assert!(rt; sees_wait(watcher, slot as usize));
-    for _ in 0..tale.elsewhere {
-        if let Answer::Begun(txn) = session.ask(rt, Command::Begin).answer {
-            session.ask(rt, Command::Commit { txn });
-        }
-    }
+    work_elsewhere(rt, &mut session, tale.elsewhere);
     let mut through = Through { rt, session };
-    for (place, step) in tale.refused.iter().enumerate() {
-        let answer = take(&mut through, &made, *step).answer;
-        assert!(rt; matches!(answer, Answer::Refused(_)), "step {place}");
-    }
-    for (place, step) in tale.done.iter().enumerate() {
-        let answer = take(&mut through, &made, *step).answer;
-        assert!(rt; !matches!(answer, Answer::Refused(_)), "step {place}");
-        made.keep(answer);
-    }
+    take_each(rt, &mut through, &mut made, tale.refused, true);
+    take_each(rt, &mut through, &mut made, tale.done, false);
     let Through { rt: _, session } = through;
     session.end()
 }
