@@ -29,6 +29,7 @@ pub mod OneOutcome
 pub mod IdleSettle
 pub mod LivesOn
 pub mod WaitsEnd
+pub mod WaitsBegin
 pub mod Play
 pub mod PlayIsStep
 pub mod RowWords

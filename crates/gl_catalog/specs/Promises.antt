@@ -1,11 +1,13 @@
 -- What is promised of commands and of whole runs.
-use Rattle.std.specs.Prelude.{◌≡◌, ℕ, Bool, true, false, ◌&&◌, ◌||◌, ◌==◌, List, [], ◌∷◌}
+use Rattle.std.specs.Prelude.{◌≡◌, ◌⊎◌, ℕ, Bool, true, false, ◌&&◌, ◌||◌, ◌==◌, List, [], ◌∷◌, Some}
 use Rattle.std.specs.List.{list_any}
 use denote.Bor.{Bor}
+use Rattle.gl_table.specs.declared.txn.Status.TheVariants.{Waiting}
 use Rattle.gl_table.specs.declared.txn.TxnId.{TxnId}
 use Rattle.gl_table.specs.declared.notice.Notice.{Notice}
 use Rattle.gl_catalog.specs.declared.command.Answer.{Answer}
 use Rattle.gl_catalog.specs.declared.command.Command.{Command}
+use Rattle.gl_modes.specs.declared.mode.Mode.{Mode}
 use Rattle.gl_modes.specs.declared.node.NodeId.{NodeId}
 use Rattle.gl_table.specs.declared.detect.Detect.TheVariants.{AtBlock}
 use Rattle.gl_table.specs.declared.notice.Notice.TheVariants as notice
@@ -20,9 +22,9 @@ use Rattle.gl_table.specs.Effects.{EffS, effective, is_at_least_effect}
 use Rattle.gl_table.specs.Below.{SameBelow}
 use Rattle.gl_table.specs.Lawful.{IsLawful}
 use Rattle.gl_table.specs.Pumps.{is_waiting_at}
-use Rattle.gl_table.specs.State.{State, lives}
+use Rattle.gl_table.specs.State.{State, lives, status_of}
 use Rattle.gl_table.specs.Tellings.{Told}
-use Rattle.gl_table.specs.Waiting.{HasNoCycle, waits_for}
+use Rattle.gl_table.specs.Waiting.{HasNoCycle, is_wait, waits_for}
 use Rattle.gl_waits.specs.Waits.{IsOnNoCycle}
 
 -- two names of one transaction
@@ -165,6 +167,16 @@ abbrev pub ends_wait_of : TxnId → Command → Bool
 ends_wait_of t (command.Cancel u) = same_txn t u
 ends_wait_of t (command.Abort u) = same_txn t u
 ends_wait_of t c = false
+
+-- nobody waits
+abbrev pub NobodyWaits : State → Type 0
+NobodyWaits s = (t : ℕ) → is_wait (status_of s t) ≡ false
+
+-- a wait begins by a lock alone (own): who waits after a step waited so before, or the step is answered with that wait
+abbrev pub BeginsWaits : Type 0
+BeginsWaits =
+    (s s' : State) (c : Command) (a : Answer) (told : Told) (t : ℕ) (n : NodeId) (m : Mode) → Step s c a told s' → status_of s' t ≡ Some (Waiting n m)
+    → (status_of s t ≡ Some (Waiting n m)) ⊎ (a ≡ answer.Waiting)
 
 -- a wait that a step ends is told or named (own): who waits no more was told so, or the command cancelled or aborted it by name
 abbrev pub EndsWaits : Type 0

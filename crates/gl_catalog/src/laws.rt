@@ -1,7 +1,7 @@
 //! The laws of all commands, each the contract of a call that does nothing.
 
 ghost use Rattle.gl_table.specs.Laws.{EmptyIsLawful, EmptyHasNoCycle};
-ghost use Rattle.gl_catalog.specs.Promises.{AlwaysAnswers, EndsWaits, EscalateLowersNone, MoveKeepsMover, OneOutcome, OthersKeepBelow, OthersKeepEffects, RekeyKeepsMover, RunsKeepLaw, RunsKeepNoCycle, SettlesNobody, StepsKeepLaw};
+ghost use Rattle.gl_catalog.specs.Promises.{AlwaysAnswers, BeginsWaits, EndsWaits, EscalateLowersNone, MoveKeepsMover, OneOutcome, OthersKeepBelow, OthersKeepEffects, RekeyKeepsMover, RunsKeepLaw, RunsKeepNoCycle, SettlesNobody, StepsKeepLaw};
 
 /// Each step of each command keeps the law; so does each run, and the empty state meets it.
 pub fn steps_keep_law()
@@ -55,4 +55,9 @@ pub fn settles_nobody()
 /// aborted it by name.
 pub fn ends_waits()
     ensures { EndsWaits }
+{}
+
+/// Who waits after a step waited so before, or the command was a lock that is answered with that wait.
+pub fn begins_waits()
+    ensures { BeginsWaits }
 {}
