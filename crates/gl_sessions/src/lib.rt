@@ -3,10 +3,28 @@
 #![tactic(auto)]
 
 #[cfg(test)]
+mod actor;
+#[cfg(test)]
+mod crowd;
+#[cfg(test)]
+mod forest;
+#[cfg(test)]
+mod lists;
+#[cfg(test)]
+mod looks;
+#[cfg(test)]
+mod races;
+#[cfg(test)]
+mod ring;
+#[cfg(test)]
 mod rows;
+#[cfg(test)]
+mod stage;
 #[cfg(test)]
 mod steps;
 #[cfg(test)]
 mod table;
+#[cfg(test)]
+mod tellings;
 #[cfg(test)]
 mod waits;

@@ -11,7 +11,9 @@ use crate::table::keep_intervals;
 use gl_catalog::{Answer, Command, Manager};
 use gl_modes::Mode::{IS, IX, S, X};
 use gl_modes::{Mode, NodeId, Refusal};
-use gl_shared::{Grant, Naming, NotAll, Parts, Session, Share, Shared, Stop, Watcher, gather};
+use gl_shared::{
+    Grant, Naming, NotAll, Parts, Session, Share, Shared, Stop, Telling, Watcher, gather,
+};
 use gl_table::{Detect, TxnId};
 use std::alloc::Global;
 use std::marker::Brand;
@@ -198,11 +200,12 @@ fn prepare(manager: &mut Manager, made: &mut Made, steps: &[Step]) {
     }
 }
 
-/// The tale with deadlocks found one way.
+/// The tale with deadlocks found one way, and watchers told one way.
 fn tell_by<R: Threads + Wait + Abort + Sync>(
     rt: &R,
     alloc: Global,
     detect: Detect,
+    telling: Telling,
     tale: Tale,
 ) -> Result<(), Fail> {
     let Ok(mut manager) = Manager::new(alloc, detect, 128) else {
@@ -213,15 +216,21 @@ fn tell_by<R: Threads + Wait + Abort + Sync>(
         prepare(&mut manager, &mut made, steps);
     }
     match Parts::new(rt, alloc, manager, 2, 1) {
-        Ok(parts) => tell_under_name::<Brand, R>(rt, alloc, parts, made, tale),
+        Ok(parts) => {
+            let parts = parts.with_telling(telling);
+            tell_under_name::<Brand, R>(rt, alloc, parts, made, tale)
+        }
         Err(_) => Err(Fail::from("no memory")),
     }
 }
 
-/// The tale with deadlocks found either way.
+/// The tale with deadlocks found and watchers told either way.
 fn tell<R: Threads + Wait + Abort + Sync>(rt: &R, alloc: Global, tale: Tale) -> Result<(), Fail> {
-    tell_by(rt, alloc, Detect::AtBlock, tale)?;
-    tell_by(rt, alloc, Detect::ByWatcher, tale)
+    for telling in [Telling::Always, Telling::WhileWaiting] {
+        tell_by(rt, alloc, Detect::AtBlock, telling, tale)?;
+        tell_by(rt, alloc, Detect::ByWatcher, telling, tale)?;
+    }
+    Ok(())
 }
 
 #[test]

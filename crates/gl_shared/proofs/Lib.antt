@@ -1,6 +1,8 @@
 pub mod Adding
+pub mod Batches
 pub mod EachTold
 pub mod Fronts
+pub mod Idle
 pub mod Lists
 pub mod LockCovers
 pub mod Locking

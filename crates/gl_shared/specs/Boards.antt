@@ -31,6 +31,14 @@ AllFine detect (b ∷ bs) = Fine detect b × AllFine detect bs
 abbrev pub Ends : List Board → Board → Type 0
 Ends list board = (front : List Board) × (list ≡ front ++ board ∷ [])
 
+-- nobody waits on this board
+abbrev pub ShowsNobody : Board → Type 0
+ShowsNobody b = (s u : ℕ) → board_edge b s u ≡ false
+
+-- nobody waits on the last board of the list
+abbrev pub EndsIdle : List Board → Type 0
+EndsIdle list = (board : Board) × Ends list board × ShowsNobody board
+
 -- what holds of each list of boards of a table: it begins with the board at making, its epochs never fall, and each board is fine
 pub record IsLawful (detect : Detect) (first : Board) (list : List Board) : Type 0 where
   pub begins : IsPrefix (first ∷ []) list

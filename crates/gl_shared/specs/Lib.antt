@@ -1,3 +1,4 @@
+pub mod Batches
 pub mod Boards
 pub mod Lists
 pub mod Rules

@@ -21,6 +21,11 @@ abbrev pub is_refused : Answer → Bool
 is_refused (answer.Refused r) = true
 is_refused a = false
 
+-- an answer that leaves its asker waiting
+abbrev pub leaves_waiting : Answer → Bool
+leaves_waiting answer.Waiting = true
+leaves_waiting a = false
+
 -- a command that changes something, and is not refused
 abbrev pub accepts : Command → Answer → Bool
 accepts c a = not (is_query c) && not (is_refused a)

@@ -13,22 +13,27 @@ use Rattle.gl_table.specs.declared.notice.Notice.TheVariants.{Granted, Victim, M
 use Rattle.gl_table.specs.Pumps.{is_waiting_at}
 use Rattle.gl_table.specs.State.{State, lives}
 use Rattle.gl_catalog.specs.Manager.{ManagerView}
+use Rattle.gl_catalog.specs.Promises.{NobodyWaits}
+use Rattle.gl_shared.specs.Boards.{EndsIdle}
 use Rattle.gl_shared.specs.declared.grant.Grant.{Grant}
 use Rattle.gl_shared.specs.declared.grant.Stop.{Stop}
 use Rattle.gl_shared.specs.declared.grant.Stop.TheVariants as stop
 use Rattle.gl_shared.specs.declared.guarded.Tell.{Tell}
 use Rattle.gl_shared.specs.declared.guarded.Tell.TheVariants.{Published, NoMemory}
+use Rattle.gl_shared.specs.declared.telling.Telling.{Telling}
+use Rattle.gl_shared.specs.declared.telling.Telling.TheVariants.{WhileWaiting}
 
 -- the notice of a transaction, or nothing
 abbrev pub Slot : Type 0
 Slot = Option (TxnId × Notice)
 
--- the manager, the count of accepted commands that were served, one box a slot, and the boards that were published
+-- the manager, the count of accepted commands that were served, one box a slot, the boards that were published, and when they are told
 pub record GuardedView : Type 0 where
   pub manager : ManagerView
   pub book : ℕ
   pub boxes : List Slot
   pub list : List Board
+  pub telling : Telling
 
 abbrev pub box_at : List Slot → ℕ → Slot
 box_at boxes slot = slice_index_or boxes slot None
@@ -69,3 +74,10 @@ verdict_of s boxes t n k = if lives s t then (if is_waiting_at s t.slot n then N
 abbrev pub Told : List Board → Board → Tell → List Board → Type 0
 Told list board (Published e) after = (after ≡ list ++ board ∷ []) × (e ≡ board.epoch)
 Told list board NoMemory after = after ≡ list
+
+-- nothing was told: telling waits for waiters, nobody waits, and nobody waited when watchers were last told
+pub record StaysUntold (telling : Telling) (s : State) (list after : List Board) : Type 0 where
+  pub by_choice : telling ≡ WhileWaiting
+  pub nobody_waits : NobodyWaits s
+  pub nobody_waited : EndsIdle list
+  pub same : after ≡ list

@@ -1,7 +1,7 @@
 //! Which commands are accepted.
 
 ghost use Rattle.std.specs.Prelude.{◌≡◌};
-ghost use Rattle.gl_shared.specs.Served.{accepts, is_refused};
+ghost use Rattle.gl_shared.specs.Served.{accepts, is_refused, leaves_waiting};
 
 use gl_catalog::{Answer, Command};
 
@@ -21,4 +21,11 @@ pub fn is_refused(answer: &Answer) -> bool
     ensures { result ≡ is_refused answer.now }
 {
     matches!(answer, Answer::Refused(_))
+}
+
+/// Whether the answer leaves its asker waiting.
+pub(crate) fn leaves_waiting(answer: &Answer) -> bool
+    ensures { result ≡ leaves_waiting answer.now }
+{
+    matches!(answer, Answer::Waiting)
 }

@@ -1,6 +1,6 @@
 //! What stands behind the lock.
 
-ghost use Rattle.std.specs.Prelude.{◌≡◌, ◌+◌, ◌++◌, ◌∷◌, ◌≤◌, ◌<◌, ◌⊎◌, [], true, false, None, Some, Ok, List, slice_set, replicate};
+ghost use Rattle.std.specs.Prelude.{◌≡◌, ◌+◌, ◌++◌, ◌∷◌, ◌≤◌, ◌<◌, ◌⊎◌, [], true, false, None, Some, Ok, List, slice_set, replicate, IfSome};
 ghost use Rattle.gl_modes.specs.declared.mode.Mode.{Mode as AMode};
 ghost use Rattle.gl_modes.specs.Modes.{is_at_least};
 ghost use Rattle.gl_table.specs.BoardOf.{board_of};
@@ -16,18 +16,20 @@ ghost use Rattle.gl_catalog.specs.declared.command.Command.TheVariants.{Lock};
 ghost use Rattle.gl_catalog.specs.Manager.{IsLawfulManager, state_of};
 ghost use Rattle.gl_catalog.specs.Promises.{KeepsCaller};
 ghost use Rattle.gl_catalog.specs.Step.{Step};
+ghost use Rattle.gl_shared.specs.Batches.{one_if};
 ghost use Rattle.gl_shared.specs.Boards.{last_epoch, IsLawful};
 ghost use Rattle.gl_shared.specs.Served.{RisingTo, accepts, is_refused};
-ghost use Rattle.gl_shared.specs.State.{Delivers, Slot, Told, box_at, named, verdict_of};
+ghost use Rattle.gl_shared.specs.State.{Delivers, Slot, StaysUntold, Told, box_at, named, verdict_of};
 ghost use Rattle.gl_shared.specs.declared.grant.Grant.{Grant};
 
-use crate::accepted::is_accepted;
+use crate::accepted::{is_accepted, leaves_waiting};
 use crate::grant::{Grant, Stop};
 use crate::naming::Naming;
 use crate::note::Note;
 use crate::now::board_now;
 use crate::publisher::Publisher;
 use crate::share::Share;
+use crate::telling::{Telling, shows_waits};
 use gl_catalog::{Answer, Command, Manager, Reply};
 use gl_modes::{Mode, NodeId, Refusal, covers};
 use gl_table::{Notice, Told, TxnId};
@@ -56,22 +58,29 @@ pub struct Guarded<N: Naming> {
     pub(crate) book: Book<N>,
     pub(crate) boxes: [Slot; SLOTS],
     pub(crate) publisher: Publisher<N>,
+    pub(crate) telling: Telling,
+    /// Whether somebody waited when watchers were last told, or a lock was left waiting since.
+    pub(crate) waited: bool,
 }
 
 impl<N: Naming> Model for Guarded<N> {
     ghost use Rattle.std.specs.Prelude.{◌≡◌, ◌+◌, ◌≤◌};
-    ghost use Rattle.gl_shared.specs.Boards.{last_epoch};
+    ghost use Rattle.std.specs.Prelude.{false};
+    ghost use Rattle.gl_catalog.specs.Manager.{state_of};
+    ghost use Rattle.gl_catalog.specs.Promises.{NobodyWaits};
+    ghost use Rattle.gl_shared.specs.Boards.{EndsIdle, last_epoch};
     ghost use Rattle.gl_shared.specs.State.{GuardedView};
 
     ghost Value = { GuardedView };
 
-    ghost view = { λ g. record { manager = g.manager; book = g.book.total; boxes = g.boxes; list = g.publisher } };
+    ghost view = { λ g. record { manager = g.manager; book = g.book.total; boxes = g.boxes; list = g.publisher; telling = g.telling } };
 
     ghost invariant = { λ g.
         (g.served ≡ g.book.total)
         × (g.manager.accepted ≡ N.opening + g.book.total)
         × (g.manager.table.detect ≡ N.detect)
-        × (last_epoch 0 g.publisher ≤ g.manager.accepted) };
+        × (last_epoch 0 g.publisher ≤ g.manager.accepted)
+        × (g.waited ≡ false → NobodyWaits (state_of g.manager) × EndsIdle g.publisher) };
 }
 
 /// Puts each notice into its slot's box.
@@ -126,12 +135,18 @@ impl<N: Naming> Guarded<N> {
     }
 
     /// A table behind its lock, before its first command.
-    pub(crate) fn new(manager: Manager, book: Book<N>, publisher: Publisher<N>) -> Guarded<N>
+    pub(crate) fn new(
+        manager: Manager,
+        book: Book<N>,
+        publisher: Publisher<N>,
+        telling: Telling,
+    ) -> Guarded<N>
         requires book { book.total ≡ 0 }
         requires opening { (manager.accepted ≡ N.opening) × (manager.table.detect ≡ N.detect) }
         requires told { publisher ≡ board_of (state_of manager) ∷ [] }
         ensures start { (result.manager ≡ manager) × (result.book ≡ 0) × (result.list ≡ board_of (state_of manager) ∷ []) }
         ensures boxes { result.boxes ≡ replicate 128 None }
+        ensures telling { result.telling ≡ telling }
     {
         Guarded {
             manager,
@@ -139,6 +154,8 @@ impl<N: Naming> Guarded<N> {
             book,
             boxes: [None; SLOTS],
             publisher,
+            telling,
+            waited: true,
         }
     }
 
@@ -146,7 +163,7 @@ impl<N: Naming> Guarded<N> {
     pub fn note<R: Wait>(&mut self, rt: &R) -> Note<N>
         ensures list { result ≡ self.new.list }
         ensures told { (self.new.list ≡ self.old.list) ⊎ (self.new.list ≡ self.old.list ++ board_of (state_of self.old.manager) ∷ []) }
-        ensures kept { (self.new.manager ≡ self.old.manager) × (self.new.book ≡ self.old.book) × (self.new.boxes ≡ self.old.boxes) }
+        ensures kept { (self.new.manager ≡ self.old.manager) × (self.new.book ≡ self.old.book) × (self.new.boxes ≡ self.old.boxes) × (self.new.telling ≡ self.old.telling) }
     {
         let _ = self.tell(rt);
         self.publisher.note(rt)
@@ -188,14 +205,28 @@ impl<N: Naming> Guarded<N> {
 
     /// Publishes the board of now.
     pub fn tell<R: Wait>(&mut self, rt: &R) -> Tell
-        ensures kept { (self.new.manager ≡ self.old.manager) × (self.new.book ≡ self.old.book) × (self.new.boxes ≡ self.old.boxes) }
+        ensures kept { (self.new.manager ≡ self.old.manager) × (self.new.book ≡ self.old.book) × (self.new.boxes ≡ self.old.boxes) × (self.new.telling ≡ self.old.telling) }
         ensures told { Told self.old.list (board_of (state_of self.old.manager)) result self.new.list }
     {
         let board = board_now(&self.manager);
         if !self.publisher.publish(rt, board) {
             return Tell::NoMemory;
         }
+        self.waited = shows_waits(&board);
         Tell::Published(board.epoch)
+    }
+
+    /// Publishes the board of now, where it is to be told: always, or only where somebody waits or
+    /// waited when watchers were last told.
+    pub fn tell_if_due<R: Wait>(&mut self, rt: &R) -> Option<Tell>
+        ensures kept { (self.new.manager ≡ self.old.manager) × (self.new.book ≡ self.old.book) × (self.new.boxes ≡ self.old.boxes) × (self.new.telling ≡ self.old.telling) }
+        ensures told { IfSome result (λ t. Told self.old.list (board_of (state_of self.old.manager)) t self.new.list) }
+        ensures untold { result ≡ None → StaysUntold self.old.telling (state_of self.old.manager) self.old.list self.new.list }
+    {
+        if !self.waited && self.telling == Telling::WhileWaiting {
+            return None;
+        }
+        Some(self.tell(rt))
     }
 
     /// One command, its reply and its notices.
@@ -205,7 +236,7 @@ impl<N: Naming> Guarded<N> {
         ensures refused { accepts command.entry result.answer ≡ false → (self.new ≡ self.old) × (share.new ≡ share.old) }
         ensures accepted { accepts command.entry result.answer ≡ true → (self.new.book ≡ self.old.book + 1) × (share.new ≡ share.old + 1) }
         ensures boxes { Delivers self.old.boxes result.told.items self.new.boxes }
-        ensures list { self.new.list ≡ self.old.list }
+        ensures list { (self.new.list ≡ self.old.list) × (self.new.telling ≡ self.old.telling) }
         ensures calm { N.detect ≡ AtBlock → HasNoCycle (state_of self.new.manager) }
     {
         let mut told = Told::new();
@@ -228,7 +259,7 @@ impl<N: Naming> Guarded<N> {
         ensures accepted { accepts command.entry result ≡ true → (self.new.book ≡ self.old.book + 1) × (share.new ≡ share.old + 1) }
         ensures boxes { Delivers self.old.boxes told.new.items self.new.boxes }
         ensures rising { RisingTo 0 told.new.items 128 }
-        ensures list { self.new.list ≡ self.old.list }
+        ensures list { (self.new.list ≡ self.old.list) × (self.new.telling ≡ self.old.telling) }
     {
         self.manager.law();
         let answer = self.manager.apply_telling(command, told);
@@ -238,6 +269,7 @@ impl<N: Naming> Guarded<N> {
         }
         self.book.add(&mut share.token, 1);
         self.served += 1;
+        self.waited |= leaves_waiting(&answer);
         deliver(&mut self.boxes, told.as_slice());
         answer
     }
@@ -258,7 +290,7 @@ impl<N: Naming> Guarded<N> {
         ensures rising { RisingTo 0 told.new.items 128 }
         ensures covers { (held : AMode) → result ≡ Granted held → is_at_least held mode ≡ true }
         ensures boxes { (mid : List Slot) × Delivers self.old.boxes told.new.items mid × ((self.new.boxes ≡ mid) ⊎ (self.new.boxes ≡ slice_set mid txn.slot None)) }
-        ensures list { self.new.list ≡ self.old.list }
+        ensures list { (self.new.list ≡ self.old.list) × (self.new.telling ≡ self.old.telling) }
     {
         self.law();
         let answer = self.serve_telling(share, Command::Lock { txn, node, mode }, told);
@@ -266,5 +298,24 @@ impl<N: Naming> Guarded<N> {
             self.boxes[txn.slot as usize] = None;
         }
         answer
+    }
+
+    /// One command of a list. A lock's verdict is then its own, as after `serve_lock`.
+    pub(crate) fn serve_next(
+        &mut self,
+        share: &mut Share<N>,
+        command: Command<'_>,
+        told: &mut Told,
+    ) -> Answer
+        requires empty { told.old.items ≡ [] }
+        ensures step { Step (state_of self.old.manager) command.entry result told.new.items (state_of self.new.manager) }
+        ensures counted { (self.new.book ≡ self.old.book + one_if (accepts command.entry result)) × (share.new ≡ share.old + one_if (accepts command.entry result)) }
+        ensures rising { RisingTo 0 told.new.items 128 }
+        ensures list { (self.new.list ≡ self.old.list) × (self.new.telling ≡ self.old.telling) }
+    {
+        match command {
+            Command::Lock { txn, node, mode } => self.serve_lock(share, txn, node, mode, told),
+            other => self.serve_telling(share, other, told),
+        }
     }
 }

@@ -2,6 +2,7 @@
 #![tactic(auto)]
 
 mod accepted;
+mod batch;
 mod boards;
 mod grant;
 mod guarded;
@@ -16,6 +17,7 @@ mod session;
 mod share;
 mod shared;
 mod shown;
+mod telling;
 mod wakes;
 mod watcher;
 
@@ -33,6 +35,7 @@ pub use session::Session;
 pub use share::Share;
 pub use shared::{Closed, NotAll, Shared, gather};
 pub use shown::{Next, Shown, Tie};
+pub use telling::Telling;
 pub use watcher::Watcher;
 
 #[cfg(test)]

@@ -2,7 +2,7 @@
 
 ghost use Rattle.std.specs.Prelude.{◌≡◌};
 ghost use Rattle.gl_table.specs.BoardOf.{board_of};
-ghost use Rattle.gl_catalog.specs.Manager.{state_of};
+ghost use Rattle.gl_catalog.specs.Manager.{IsLawfulManager, state_of};
 ghost use Rattle.gl_shared.specs.Boards.{Fine};
 
 use gl_catalog::Manager;
@@ -14,6 +14,7 @@ pub fn board_now(manager: &Manager) -> Board
     ensures board { result ≡ board_of (state_of manager.now) }
     ensures fine { Fine manager.now.table.detect result }
     ensures epoch { result.epoch ≡ manager.now.accepted }
+    ensures law { IsLawfulManager manager.now }
 {
     manager.law();
     manager.board()

@@ -8,10 +8,12 @@ ghost use Rattle.gl_catalog.specs.Manager.{state_of};
 ghost use Rattle.gl_shared.specs.Boards.{Fine};
 ghost use Rattle.gl_shared.specs.Rules.{head_of};
 ghost use Rattle.gl_shared.specs.Ties.{tie_of};
+ghost use Rattle.gl_shared.specs.declared.telling.Telling.TheVariants.{Always};
 
 use crate::boards::{BoardWriter, open};
 use crate::history::{Head, Line};
 use crate::now::board_now;
+use crate::telling::Telling;
 use gl_catalog::Manager;
 use gl_modes::Refusal;
 use std::alloc::Global;
@@ -27,6 +29,7 @@ pub struct Parts {
     pub(crate) head: Arc<Head>,
     pub(crate) line: Line,
     pub(crate) writer: BoardWriter,
+    pub(crate) telling: Telling,
     pub ghost cut: { (blank.parts ≡ shares) × (0 < shares) × (shares < 130) },
     pub ghost head_is: { arc_value head ≡ head_of line.book },
     pub ghost one: { (line.list ≡ board_of (state_of manager) ∷ []) × (line.detect ≡ manager.table.detect) × Fine manager.table.detect (board_of (state_of manager)) },
@@ -46,7 +49,7 @@ impl Parts {
         watchers: usize,
     ) -> Result<Parts, Refusal>
         requires { (0 < shares) × (shares < 130) × (0 < watchers) × (watchers < 9) }
-        ensures made { IfOk result (λ p. (p.manager ≡ manager) × (p.shares ≡ shares) × (p.watchers ≡ watchers)) }
+        ensures made { IfOk result (λ p. (p.manager ≡ manager) × (p.shares ≡ shares) × (p.watchers ≡ watchers) × (p.telling ≡ Always)) }
         ensures refused { IfErr result (λ refusal. refusal ≡ ARefusal.NoMemory) }
     {
         let board = board_now(&manager);
@@ -67,6 +70,18 @@ impl Parts {
             head,
             line,
             writer,
+            telling: Telling::Always,
         })
+    }
+
+    /// The same parts, with another choice of when sessions tell; `Always` where none is made.
+    pub fn with_telling(self, telling: Telling) -> Parts
+        ensures choice { result.telling ≡ telling }
+        ensures manager { (result.manager ≡ self.manager) × (result.blank ≡ self.blank) × (result.shares ≡ self.shares) × (result.watchers ≡ self.watchers) }
+        ensures list { result.line ≡ self.line }
+    {
+        let mut parts = self;
+        parts.telling = telling;
+        parts
     }
 }

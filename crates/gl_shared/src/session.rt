@@ -26,7 +26,7 @@ pub struct Session<'a, N: Naming> {
     pub(crate) shared: &'a Shared<N>,
     pub(crate) share: Share<N>,
     pub(crate) told: u64,
-    notices: Told,
+    pub(crate) notices: Told,
 }
 
 impl<'a, N: Naming> Session<'a, N> {
@@ -53,7 +53,7 @@ impl<'a, N: Naming> Session<'a, N> {
         share
     }
 
-    /// Serves a command, and where it is accepted tells watchers, and wakes the sessions whose wait it
+    /// Serves a command, and where it is accepted tells watchers as the table was made to, and wakes the sessions whose wait it
     /// may have ended.
     pub fn ask<R: Wait>(&mut self, rt: &R, command: Command<'_>) -> Reply
         ensures accepted { accepts command.entry result.answer ≡ true → self.new.share ≡ self.old.share + 1 }
@@ -78,7 +78,7 @@ impl<'a, N: Naming> Session<'a, N> {
         guard.law();
         let answer = guard.serve_telling(&mut self.share, command, told);
         if is_accepted(&command, &answer) {
-            let _ = guard.tell(rt);
+            let _ = guard.tell_if_due(rt);
             self.shared.wakes.wake(ended_by(&command, told.as_slice()));
         }
         MutexGuard::unlock(guard);
@@ -122,7 +122,7 @@ impl<'a, N: Naming> Session<'a, N> {
             MutexGuard::unlock(guard);
             return Err(Stop::Refused(refusal));
         }
-        let _ = guard.tell(rt);
+        let _ = guard.tell_if_due(rt);
         let asked = Command::Lock { txn, node, mode };
         self.shared
             .wakes
@@ -147,7 +147,7 @@ impl<'a, N: Naming> Session<'a, N> {
 }
 
 // Waits until the transaction has its answer on this node.
-fn await_verdict<'a, N: Naming, R: Wait>(
+pub(crate) fn await_verdict<'a, N: Naming, R: Wait>(
     rt: &R,
     shared: &'a Shared<N>,
     guard: MutexGuard<'a, Guarded<N>>,

@@ -110,6 +110,7 @@ impl<N: Naming> Shared<N> {
             head,
             line,
             mut writer,
+            telling,
         } = parts;
         let (book, rest) = blank.open::<N>();
         let Ok(shares) = cut_shares(alloc, rest, count) else {
@@ -122,7 +123,7 @@ impl<N: Naming> Shared<N> {
         };
         let publisher = Publisher::new(alloc, head, writer);
         let shared = Shared {
-            latch: Mutex::new(Guarded::new(manager, book, publisher)),
+            latch: Mutex::new(Guarded::new(manager, book, publisher, telling)),
             wakes: Wakes::new(),
             shares: count,
         };
@@ -142,6 +143,8 @@ impl<N: Naming> Shared<N> {
             book: _,
             boxes: _,
             publisher,
+            telling: _,
+            waited: _,
         } = latch.into_inner();
         publisher.end(rt);
     }
@@ -202,6 +205,8 @@ pub fn gather<N: Naming, R: Wait>(
         mut book,
         boxes: _,
         publisher,
+        telling: _,
+        waited: _,
     } = latch.into_inner();
     book.audit(&mut all);
     publisher.end(rt);

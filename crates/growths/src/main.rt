@@ -12,6 +12,7 @@ mod moves;
 mod records;
 mod scene;
 mod scripts;
+mod shares;
 mod tables;
 mod view;
 mod watch;
@@ -28,5 +29,6 @@ fn main(rt: HostRuntime) -> ExitCode {
     moves::play(&mut bill);
     records::play(&mut bill);
     scripts::play(&mut bill);
+    shares::play(&mut bill);
     ExitCode::from(bill.status())
 }

@@ -10,4 +10,5 @@ invariant_of-result g c =
       (let none = c.requires.book in let is = c.requires.opening.0 in omega (arith, none, is)),
       c.requires.opening.1,
       subst (λ (l : List Board). last_epoch 0 l ≤ n) (sym c.requires.told) (le_refl n),
+      (λ e. absurd (cc e)),
     )

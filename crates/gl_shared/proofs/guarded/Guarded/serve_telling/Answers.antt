@@ -5,6 +5,7 @@ use Rattle.gl_shared.specs.Served.{RisingTo, accepts}
 use Rattle.gl_table.specs.State.{State}
 use Rattle.gl_catalog.proofs.Detection.{steps_keep_detect}
 use Rattle.gl_shared.specs.State.{Delivers, GuardedView, Slot}
+use Rattle.gl_shared.proofs.Idle.{quiet_on}
 use Rattle.gl_shared.proofs.Notices.{delivers_none}
 use Rattle.gl_shared.proofs.Rising.{step_rises}
 use Rattle.gl_shared.proofs.Serving.{step_counts}
@@ -58,6 +59,7 @@ invariant_of-self-2 g c =
       omega (arith, total, b, more),
       steps_keep_detect _ _ _ _ _ c.apply_telling-answer.ensures.step ∙ c.self.invariant.2,
       omega (arith, low, more),
+      quiet_on _ _ _ _ c.leaves_waiting.result _ _ _ c.leaves_waiting.ensures c.self.invariant.4 c.apply_telling-answer.ensures.step,
     )
 
 pub returns-then-not-is_accepted-clause-rising : goal.returns-then-not-is_accepted-clause-rising

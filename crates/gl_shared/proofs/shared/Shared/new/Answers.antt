@@ -38,3 +38,6 @@ new-requires-clause-told g c = c.new-publisher.ensures ∙ (ap (λ s. s.value.li
 
 pub returns-clause-watchers : goal.returns-clause-watchers
 returns-clause-watchers g c = (c.in-Ok-watch_all.ensures.watchers.0, λ k d less. c.in-Ok-watch_all.ensures.watchers.1 k d less ∙ c.args.parts.one.0)
+
+pub invariant_of-parts : goal.invariant_of-parts
+invariant_of-parts g c = let p = c.args.parts in record { cut = p.cut; head_is = p.head_is; one = p.one; rest = p.rest; tie = p.tie; looking = p.looking }

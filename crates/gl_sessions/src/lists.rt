@@ -1,0 +1,157 @@
+//! Lists of commands in one hold of the latch, one session's beside another's: what was answered, and
+//! what was not served.
+
+ghost use Rattle.std.specs.Prelude.{◌≡◌};
+ghost use Rattle.gl_table.specs.BoardOf.{board_of};
+ghost use Rattle.gl_catalog.specs.Manager.{state_of};
+
+use gl_catalog::{Answer, Command, Manager};
+use gl_modes::Mode::{IX, X};
+use gl_modes::{NodeId, Refusal};
+use gl_shared::{Grant, Naming, NotAll, Parts, Session, Share, Shared, gather};
+use gl_table::{Detect, TxnId};
+use std::alloc::Global;
+use std::marker::Brand;
+use std::process::Abort;
+use std::sync::Wait;
+use std::test::Fail;
+
+/// A root with a file, and two transactions.
+#[derive(Clone, Copy)]
+struct Scene {
+    root: NodeId,
+    file: NodeId,
+    first: TxnId,
+    second: TxnId,
+}
+
+/// Makes a node under at most one parent, or none.
+fn make(manager: &mut Manager, command: Command<'_>) -> NodeId {
+    match manager.apply(command).answer {
+        Answer::Node(node) => node,
+        _ => NodeId::NONE,
+    }
+}
+
+/// Begins a transaction.
+fn begin(manager: &mut Manager) -> TxnId {
+    match manager.apply(Command::Begin).answer {
+        Answer::Begun(txn) => txn,
+        _ => TxnId::NONE,
+    }
+}
+
+fn set(manager: &mut Manager) -> Scene {
+    let root = make(manager, Command::Inner { parents: &[] });
+    Scene {
+        root,
+        file: make(manager, Command::File { parents: &[root] }),
+        first: begin(manager),
+        second: begin(manager),
+    }
+}
+
+/// A path from the root down: IX on the root and X on the file, and a command behind them.
+fn path(scene: Scene, txn: TxnId, last: Command<'static>) -> [Command<'static>; 3] {
+    let Scene { root, file, .. } = scene;
+    [
+        Command::Lock { txn, node: root, mode: IX },
+        Command::Lock { txn, node: file, mode: X },
+        last,
+    ]
+}
+
+/// A path is locked whole, another's waits at its second lock, and gets it at the commit.
+fn lock_paths<N: Naming, R: Wait + Abort>(
+    rt: &R,
+    alloc: Global,
+    session: &mut Session<'_, N>,
+    scene: Scene,
+) -> Result<(), Refusal> {
+    let Scene { file, first, second, .. } = scene;
+    let held = Command::Held { txn: first, node: file };
+    let whole = session.ask_all(rt, alloc, &path(scene, first, held))?;
+    assert!(rt; whole.as_slice() == [Answer::Granted(IX), Answer::Granted(X), Answer::Mode(X)]);
+    let behind = session.ask_all(rt, alloc, &path(scene, second, Command::Commit { txn: second }))?;
+    assert!(rt; behind.as_slice() == [Answer::Granted(IX), Answer::Waiting]);
+    let ends = [Command::Commit { txn: first }];
+    let ended = session.ask_all(rt, alloc, &ends)?;
+    assert!(rt; ended.as_slice() == [Answer::Done]);
+    let grant = session.await_grant(rt, second, file, X);
+    assert_eq!(rt; grant, Ok(Grant { txn: second, node: file, mode: X }));
+    Ok(())
+}
+
+/// A refusal ends a list, and what stands behind it is not served.
+fn refuse_second<N: Naming, R: Wait + Abort>(
+    rt: &R,
+    alloc: Global,
+    session: &mut Session<'_, N>,
+    scene: Scene,
+) -> Result<(), Refusal> {
+    let Scene { root, first, second, .. } = scene;
+    let list = [
+        Command::Held { txn: second, node: root },
+        Command::Unlock { txn: first, node: root },
+        Command::Commit { txn: second },
+    ];
+    let answers = session.ask_all(rt, alloc, &list)?;
+    assert!(rt; answers.as_slice() == [Answer::Mode(IX), Answer::Refused(Refusal::NoSuchTxn)]);
+    let none = session.ask_all(rt, alloc, &[])?;
+    assert!(rt; none.as_slice() == []);
+    Ok(())
+}
+
+/// Both over a table with its name: the share has what was accepted.
+fn serve_lists<N: Naming, R: Wait + Abort>(
+    rt: &R,
+    alloc: Global,
+    parts: Parts,
+    scene: Scene,
+) -> Result<(), Fail>
+    requires whole { N.shares ≡ N.parts }
+    requires name { parts.blank.name ≡ N.name }
+    requires parts { parts.blank.parts ≡ N.parts }
+    requires shares { parts.shares ≡ N.shares }
+    requires opening { (parts.manager.accepted ≡ N.opening) × (parts.manager.table.detect ≡ N.detect) }
+    requires book { (parts.line.book ≡ N.book) × (board_of (state_of parts.manager) ≡ N.first) }
+{
+    let Ok((shared, mut shares, watchers)) = Shared::<N>::new(rt, alloc, parts) else {
+        return Err(Fail::from("no memory"));
+    };
+    drop(watchers);
+    if let Some(share) = shares.pop() {
+        let mut session = Session::new(&shared, share);
+        let locked = lock_paths(rt, alloc, &mut session, scene);
+        let refused = refuse_second(rt, alloc, &mut session, scene);
+        assert!(rt; locked.is_ok() && refused.is_ok());
+        let _ = shares.push(session.end());
+    }
+    match gather(rt, shared, shares) {
+        Ok(closed) => {
+            assert_eq!(rt; closed.book, 5);
+            Ok(())
+        }
+        Err(NotAll { shared, shares: _ }) => {
+            shared.abandon(rt);
+            Err(Fail::from("a share is missing"))
+        }
+    }
+}
+
+/// The same for whoever has a runtime.
+fn serve<R: Wait + Abort>(rt: &R, alloc: Global) -> Result<(), Fail> {
+    let Ok(mut manager) = Manager::new(alloc, Detect::AtBlock, 128) else {
+        return Err(Fail::from("no memory"));
+    };
+    let scene = set(&mut manager);
+    match Parts::new(rt, alloc, manager, 1, 1) {
+        Ok(parts) => serve_lists::<Brand, R>(rt, alloc, parts, scene),
+        Err(_) => Err(Fail::from("no memory")),
+    }
+}
+
+#[test]
+fn a_list_is_served_up_to_the_first_that_stops(rt: HostRuntime) -> Result<(), Fail> {
+    serve(&rt, rt.alloc())
+}

@@ -1,0 +1,192 @@
+//! Watchers look and learn notes while sessions work.
+
+use crate::stage::{Play, add_root, enact, new_manager};
+use gl_catalog::{Answer, Command};
+use gl_modes::Mode::X;
+use gl_modes::NodeId;
+use gl_shared::{Grant, Naming, Session, Share, Shared, Watcher};
+use gl_table::{Detect, TxnId};
+use gl_waits::set::{has, with};
+use gl_waits::{Board, SLOTS};
+use std::alloc::Global;
+use std::process::Abort;
+use std::rt::Clock;
+use std::sync::Wait;
+use std::test::Fail;
+use std::thread::{Threads, map_vec};
+
+/// How often each session commits.
+const COMMITS: u32 = 100;
+
+/// Sessions lock one root in turn, and watchers look on until the last board.
+#[derive(Clone, Copy)]
+struct Watched {
+    root: NodeId,
+    last: u64,
+}
+
+/// Whoever plays: it has a share, and a watcher where it looks.
+#[derive(Drop)]
+struct Player<N: Naming> {
+    share: Share<N>,
+    watcher: Option<Watcher<N>>,
+}
+
+/// The slots in which nobody lives.
+fn free_slots(board: &Board) -> u128 {
+    let mut free = 0;
+    for slot in 0..SLOTS {
+        if board.ages[slot] == 0 {
+            free = with(free, slot);
+        }
+    }
+    free
+}
+
+/// No slot waits for itself or for a free slot, and no free slot waits.
+fn checks<R: Abort>(rt: &R, board: &Board) {
+    let free = free_slots(board);
+    for slot in 0..SLOTS {
+        let row = board.rows[slot];
+        assert!(rt; !has(row, slot), "slot {slot}");
+        assert!(rt; row & free == 0, "slot {slot}");
+        assert!(rt; row == 0 || !has(free, slot), "slot {slot}");
+    }
+}
+
+/// The epoch of a look, which is none before the least; the least where there was no memory.
+fn looks<N: Naming, R: Abort>(rt: &R, watcher: &mut Watcher<N>, least: u64) -> u64 {
+    match watcher.look() {
+        Some(board) => {
+            assert!(rt; least <= board.epoch);
+            checks(rt, &board);
+            board.epoch
+        }
+        None => least,
+    }
+}
+
+/// Looks, learns a note and looks, and then learns an older note and looks.
+fn learns<N: Naming, R: Wait + Abort>(
+    rt: &R,
+    session: &mut Session<'_, N>,
+    watcher: &mut Watcher<N>,
+    least: u64,
+) -> u64 {
+    let older = session.note(rt);
+    let seen = looks(rt, watcher, least);
+    let newer = session.note(rt);
+    assert!(rt; older.epoch() <= newer.epoch());
+    let least = seen.max(newer.epoch());
+    watcher.learn(newer);
+    let seen = looks(rt, watcher, least);
+    watcher.learn(older);
+    looks(rt, watcher, seen)
+}
+
+/// Looks on until the last board, in at most a million turns.
+fn looks_on<N: Naming, R: Wait + Abort>(
+    rt: &R,
+    table: &Shared<N>,
+    share: Share<N>,
+    watcher: Watcher<N>,
+    last: u64,
+) -> Share<N> {
+    let mut watcher = watcher;
+    let mut session = Session::new(table, share);
+    let mut seen = 0;
+    for _ in 0..1000000u32 {
+        seen = learns(rt, &mut session, &mut watcher, seen);
+        if seen >= last {
+            break;
+        }
+    }
+    assert_eq!(rt; seen, last);
+    session.end()
+}
+
+/// Begins.
+fn begins<N: Naming, R: Wait + Abort>(rt: &R, session: &mut Session<'_, N>) -> TxnId {
+    let mut begun = TxnId::NONE;
+    match session.ask(rt, Command::Begin).answer {
+        Answer::Begun(txn) => begun = txn,
+        _ => assert!(rt; false, "no transaction"),
+    }
+    begun
+}
+
+/// Begins, waits for X on the root and commits, again and again.
+fn works<N: Naming, R: Wait + Abort>(
+    rt: &R,
+    table: &Shared<N>,
+    share: Share<N>,
+    root: NodeId,
+) -> Share<N> {
+    let mut session = Session::new(table, share);
+    for _ in 0..COMMITS {
+        let txn = begins(rt, &mut session);
+        let granted = Grant {
+            txn,
+            node: root,
+            mode: X,
+        };
+        assert_eq!(rt; session.lock(rt, txn, root, X), Ok(granted));
+        assert_eq!(rt; session.ask(rt, Command::Commit { txn }).answer, Answer::Done);
+    }
+    session.end()
+}
+
+/// Looks on where there is a watcher, and works where there is none.
+fn takes_part<N: Naming, R: Wait + Abort>(
+    rt: &R,
+    table: &Shared<N>,
+    player: Player<N>,
+    story: Watched,
+) -> Share<N> {
+    let Player { share, watcher } = player;
+    match watcher {
+        Some(watcher) => looks_on(rt, table, share, watcher, story.last),
+        None => works(rt, table, share, story.root),
+    }
+}
+
+impl Play for Watched {
+    fn play<N: Naming + Send + Sync, R: Threads + Wait + Abort + Clock + Sync>(
+        &self,
+        rt: &R,
+        alloc: Global,
+        table: &Shared<N>,
+        shares: Vec<Share<N>>,
+        mut watchers: Vec<Watcher<N>>,
+    ) -> Vec<Share<N>> {
+        let story = *self;
+        let mut players = Vec::new(alloc);
+        for share in shares {
+            let player = Player {
+                share,
+                watcher: watchers.pop(),
+            };
+            let _ = players.push(player);
+        }
+        let played = map_vec(
+            rt,
+            players,
+            &|player: Player<N>| -> Share<N> { takes_part(rt, table, player, story) },
+        );
+        played.unwrap_or(Vec::new(alloc))
+    }
+}
+
+#[test]
+fn watchers_look_on_while_sessions_work(rt: HostRuntime) -> Result<(), Fail> {
+    for detect in [Detect::AtBlock, Detect::ByWatcher] {
+        let mut manager = new_manager(rt.alloc(), detect)?;
+        let root = add_root(&rt, &mut manager);
+        // The root, and of each of four sessions the begins, locks and commits.
+        let story = Watched { root, last: 1201 };
+        let closed = enact(&rt, rt.alloc(), manager, 6, 2, &story)?;
+        assert_eq!(rt; closed.book, 1200);
+        assert_eq!(rt; closed.manager.accepted(), story.last);
+    }
+    Ok(())
+}

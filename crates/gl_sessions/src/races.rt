@@ -1,0 +1,221 @@
+//! Two transactions hold S on one root, and their sessions wait for X on it in threads of their own.
+
+use crate::stage::{Play, add_root, begin_with, enact, new_manager, settles, youngest_suspect};
+use gl_catalog::{Answer, Command, Manager};
+use gl_modes::Mode::{S, X};
+use gl_modes::{NodeId, Refusal};
+use gl_shared::{Grant, Naming, Session, Share, Shared, Stop, Watcher};
+use gl_table::{Detect, Notice, TxnId};
+use std::alloc::Global;
+use std::process::Abort;
+use std::rt::Clock;
+use std::sync::Wait;
+use std::test::Fail;
+use std::thread::{Threads, join};
+
+/// The younger gives way, and the older is granted.
+#[derive(Clone, Copy)]
+struct Upgrade {
+    root: NodeId,
+    older: TxnId,
+    younger: TxnId,
+    detect: Detect,
+}
+
+/// Both are suspects on a board. One wait is cancelled before the suspect is settled, and the other
+/// goes on.
+#[derive(Clone, Copy)]
+struct SettledLate {
+    root: NodeId,
+    suspect: TxnId,
+    cancelled: TxnId,
+    left: TxnId,
+}
+
+/// Waits for X on the root, until it comes to what is wanted. Then a grant is committed, and a victim
+/// aborts.
+fn asks_for_x<N: Naming, R: Wait + Abort>(
+    rt: &R,
+    table: &Shared<N>,
+    share: Share<N>,
+    txn: TxnId,
+    root: NodeId,
+    wanted: Result<Grant, Stop>,
+) -> Share<N> {
+    let mut session = Session::new(table, share);
+    let came = session.lock(rt, txn, root, X);
+    assert_eq!(rt; came, wanted);
+    match came {
+        Ok(_) => assert_eq!(rt; session.ask(rt, Command::Commit { txn }).answer, Answer::Done),
+        Err(Stop::Victim) => {
+            assert_eq!(rt; session.ask(rt, Command::Abort { txn }).answer, Answer::Done)
+        }
+        Err(_) => {}
+    }
+    session.end()
+}
+
+/// A grant of X.
+fn granted(txn: TxnId, node: NodeId) -> Result<Grant, Stop> {
+    Ok(Grant { txn, node, mode: X })
+}
+
+impl Play for Upgrade {
+    fn play<N: Naming + Send + Sync, R: Threads + Wait + Abort + Clock + Sync>(
+        &self,
+        rt: &R,
+        _alloc: Global,
+        table: &Shared<N>,
+        mut shares: Vec<Share<N>>,
+        mut watchers: Vec<Watcher<N>>,
+    ) -> Vec<Share<N>> {
+        if let (Some(first), Some(second), Some(third), Some(mut watcher)) = (
+            shares.pop(),
+            shares.pop(),
+            shares.pop(),
+            watchers.pop(),
+        ) {
+            let Upgrade {
+                root,
+                older,
+                younger,
+                detect,
+            } = *self;
+            let looking = &mut watcher;
+            let (first, (second, third)) = join(
+                rt,
+                move || asks_for_x(rt, table, first, older, root, granted(older, root)),
+                move || {
+                    join(
+                        rt,
+                        move || asks_for_x(rt, table, second, younger, root, Err(Stop::Victim)),
+                        move || settles(rt, table, third, looking, detect, younger),
+                    )
+                },
+            );
+            let _ = shares.push(first);
+            let _ = shares.push(second);
+            let _ = shares.push(third);
+        }
+        shares
+    }
+}
+
+/// Once a board shows the suspect, cancels one wait and then settles the suspect, which does nothing
+/// but count. At last ends the transaction whose wait was cancelled.
+fn settles_late<N: Naming, R: Wait + Abort>(
+    rt: &R,
+    table: &Shared<N>,
+    share: Share<N>,
+    watcher: &mut Watcher<N>,
+    story: SettledLate,
+) -> Share<N> {
+    let SettledLate {
+        root,
+        suspect: txn,
+        cancelled,
+        left,
+    } = story;
+    let mut session = Session::new(table, share);
+    assert_eq!(rt; youngest_suspect(watcher), Some(txn));
+    let cancel = session.ask(rt, Command::Cancel { txn: cancelled });
+    assert_eq!(rt; cancel.answer, Answer::Done);
+    let before = session.note(rt).epoch();
+    let settle = session.ask(rt, Command::Settle { txn });
+    let after = session.note(rt).epoch();
+    assert_eq!(rt; settle.answer, Answer::Done);
+    assert!(rt; settle.told.is_empty());
+    assert_eq!(rt; before.checked_add(1), Some(after));
+    let commit = session.ask(rt, Command::Commit { txn: cancelled });
+    assert_eq!(rt; commit.answer, Answer::Done);
+    assert!(rt; commit.told.as_slice() == [(left, Notice::Granted(root, X))].as_slice());
+    session.end()
+}
+
+impl Play for SettledLate {
+    fn play<N: Naming + Send + Sync, R: Threads + Wait + Abort + Clock + Sync>(
+        &self,
+        rt: &R,
+        _alloc: Global,
+        table: &Shared<N>,
+        mut shares: Vec<Share<N>>,
+        mut watchers: Vec<Watcher<N>>,
+    ) -> Vec<Share<N>> {
+        if let (Some(first), Some(second), Some(third), Some(mut watcher)) = (
+            shares.pop(),
+            shares.pop(),
+            shares.pop(),
+            watchers.pop(),
+        ) {
+            let story = *self;
+            let looking = &mut watcher;
+            let (root, left, cancelled) = (story.root, story.left, story.cancelled);
+            let taken_back = Err(Stop::Refused(Refusal::NotWaiting));
+            let (first, (second, third)) = join(
+                rt,
+                move || asks_for_x(rt, table, first, left, root, granted(left, root)),
+                move || {
+                    join(
+                        rt,
+                        move || asks_for_x(rt, table, second, cancelled, root, taken_back),
+                        move || settles_late(rt, table, third, looking, story),
+                    )
+                },
+            );
+            let _ = shares.push(first);
+            let _ = shares.push(second);
+            let _ = shares.push(third);
+        }
+        shares
+    }
+}
+
+/// A root, and two transactions that hold S on it, the older first.
+fn add_pair<R: Abort>(rt: &R, manager: &mut Manager) -> (NodeId, TxnId, TxnId) {
+    let root = add_root(rt, manager);
+    let older = begin_with(rt, manager, root, S);
+    let younger = begin_with(rt, manager, root, S);
+    (root, older, younger)
+}
+
+#[test]
+fn the_younger_of_two_upgrades_gives_way(rt: HostRuntime) -> Result<(), Fail> {
+    // Two locks, an abort and a commit, and what a watcher settles.
+    for (detect, book) in [(Detect::AtBlock, 4u64), (Detect::ByWatcher, 5)] {
+        for _ in 0..100u32 {
+            let mut manager = new_manager(rt.alloc(), detect)?;
+            let (root, older, younger) = add_pair(&rt, &mut manager);
+            let story = Upgrade {
+                root,
+                older,
+                younger,
+                detect,
+            };
+            let closed = enact(&rt, rt.alloc(), manager, 3, 1, &story)?;
+            assert_eq!(rt; closed.book, book);
+        }
+    }
+    Ok(())
+}
+
+#[test]
+fn a_suspect_of_an_old_board_is_settled(rt: HostRuntime) -> Result<(), Fail> {
+    for older_is_cancelled in [true, false] {
+        let mut manager = new_manager(rt.alloc(), Detect::ByWatcher)?;
+        let (root, older, younger) = add_pair(&rt, &mut manager);
+        let (cancelled, left) = if older_is_cancelled {
+            (older, younger)
+        } else {
+            (younger, older)
+        };
+        let story = SettledLate {
+            root,
+            suspect: younger,
+            cancelled,
+            left,
+        };
+        let closed = enact(&rt, rt.alloc(), manager, 3, 1, &story)?;
+        assert_eq!(rt; closed.book, 6);
+    }
+    Ok(())
+}

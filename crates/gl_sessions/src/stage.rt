@@ -1,0 +1,184 @@
+//! A table over a manager that was prepared, with which sessions play in threads of their own.
+
+ghost use Rattle.std.specs.Prelude.{◌≡◌, ◌<◌};
+ghost use Rattle.gl_table.specs.BoardOf.{board_of};
+ghost use Rattle.gl_catalog.specs.Manager.{state_of};
+
+use gl_catalog::{Answer, Command, Manager};
+use gl_modes::{Mode, NodeId};
+use gl_shared::{Closed, Naming, NotAll, Parts, Session, Share, Shared, Watcher, gather};
+use gl_table::{Detect, Notice, TxnId};
+use gl_waits::{Board, SLOTS, suspects, youngest};
+use std::alloc::Global;
+use std::marker::Brand;
+use std::process::Abort;
+use std::rt::Clock;
+use std::sync::Wait;
+use std::sync::atomic::{AtomicU64, Ordering};
+use std::test::Fail;
+use std::thread::{Threads, sleep, yield_now};
+use std::time::Duration;
+
+/// What sessions do with a table.
+pub trait Play {
+    /// Plays with the shares and the watchers of a table, and gives the shares back.
+    fn play<N: Naming + Send + Sync, R: Threads + Wait + Abort + Clock + Sync>(
+        &self,
+        rt: &R,
+        alloc: Global,
+        table: &Shared<N>,
+        shares: Vec<Share<N>>,
+        watchers: Vec<Watcher<N>>,
+    ) -> Vec<Share<N>>;
+}
+
+/// The play on a table with its name.
+fn enact_under_name<
+    N: Naming + Send + Sync,
+    P: Play,
+    R: Threads + Wait + Abort + Clock + Sync,
+>(rt: &R, alloc: Global, parts: Parts, play: &P) -> Result<Closed, Fail>
+    requires whole { N.shares ≡ N.parts }
+    requires name { parts.blank.name ≡ N.name }
+    requires parts { parts.blank.parts ≡ N.parts }
+    requires shares { parts.shares ≡ N.shares }
+    requires opening { (parts.manager.accepted ≡ N.opening) × (parts.manager.table.detect ≡ N.detect) }
+    requires book { (parts.line.book ≡ N.book) × (board_of (state_of parts.manager) ≡ N.first) }
+{
+    let Ok((shared, shares, watchers)) = Shared::<N>::new(rt, alloc, parts) else {
+        return Err(Fail::from("no memory"));
+    };
+    let shares = play.play(rt, alloc, &shared, shares, watchers);
+    match gather(rt, shared, shares) {
+        Ok(closed) => Ok(closed),
+        Err(NotAll { shared, shares: _ }) => {
+            shared.abandon(rt);
+            Err(Fail::from("a share is missing"))
+        }
+    }
+}
+
+/// Plays on a table over this manager, and closes it. Nobody lives then.
+pub fn enact<P: Play, R: Threads + Wait + Abort + Clock + Sync>(
+    rt: &R,
+    alloc: Global,
+    manager: Manager,
+    shares: u64,
+    watchers: usize,
+    play: &P,
+) -> Result<Closed, Fail>
+    requires counts { (0 < shares) × (shares < 130) × (0 < watchers) × (watchers < 9) }
+{
+    let Ok(parts) = Parts::new(rt, alloc, manager, shares, watchers) else {
+        return Err(Fail::from("no memory"));
+    };
+    let closed = enact_under_name::<Brand, P, R>(rt, alloc, parts, play)?;
+    let board = closed.manager.board();
+    assert!(rt; board.ages == [0; SLOTS] && board.rows == [0; SLOTS]);
+    Ok(closed)
+}
+
+/// A manager for 128 transactions at once.
+pub fn new_manager(alloc: Global, detect: Detect) -> Result<Manager, Fail> {
+    match Manager::new(alloc, detect, 128) {
+        Ok(manager) => Ok(manager),
+        Err(_) => Err(Fail::from("no memory")),
+    }
+}
+
+/// A new root.
+pub fn add_root<R: Abort>(rt: &R, manager: &mut Manager) -> NodeId {
+    let mut node = NodeId::NONE;
+    let answer = manager.apply(Command::Inner { parents: &[] }).answer;
+    match answer {
+        Answer::Node(made) => node = made,
+        _ => assert!(rt; false, "no root"),
+    }
+    node
+}
+
+/// A new transaction that holds a node in this mode.
+pub fn begin_with<R: Abort>(rt: &R, manager: &mut Manager, node: NodeId, mode: Mode) -> TxnId {
+    let mut begun = TxnId::NONE;
+    let answer = manager.apply(Command::Begin).answer;
+    match answer {
+        Answer::Begun(txn) => begun = txn,
+        _ => assert!(rt; false, "no transaction"),
+    }
+    let lock = Command::Lock {
+        txn: begun,
+        node,
+        mode,
+    };
+    let answer = manager.apply(lock).answer;
+    assert_eq!(rt; answer, Answer::Granted(mode));
+    begun
+}
+
+/// The youngest suspect of a board.
+fn suspect_on(board: &Board) -> Option<TxnId> {
+    match youngest(board, suspects(board)) {
+        Some(slot) if slot < SLOTS => Some(TxnId {
+            slot: slot as u8,
+            age: board.ages[slot],
+        }),
+        _ => None,
+    }
+}
+
+/// The youngest suspect of the first board that has one, of at most a million looks.
+pub fn youngest_suspect<N: Naming>(watcher: &mut Watcher<N>) -> Option<TxnId> {
+    for _ in 0..1000000u32 {
+        let suspect = watcher.look().and_then(|board| suspect_on(&board));
+        if suspect.is_some() {
+            return suspect;
+        }
+        yield_now();
+    }
+    None
+}
+
+/// Where a watcher is to find deadlocks, settles the youngest suspect, which alone is told.
+pub fn settles<N: Naming, R: Wait + Abort>(
+    rt: &R,
+    table: &Shared<N>,
+    share: Share<N>,
+    watcher: &mut Watcher<N>,
+    detect: Detect,
+    wanted: TxnId,
+) -> Share<N> {
+    let mut session = Session::new(table, share);
+    if detect == Detect::ByWatcher {
+        assert_eq!(rt; youngest_suspect(watcher), Some(wanted));
+        let reply = session.ask(rt, Command::Settle { txn: wanted });
+        assert_eq!(rt; reply.answer, Answer::Done);
+        assert!(rt; reply.told.as_slice() == [(wanted, Notice::Victim)].as_slice());
+    }
+    session.end()
+}
+
+/// Settles the youngest suspect of each look until so many have ended, in at most a million turns.
+/// Says how often it was accepted.
+pub fn settles_all<N: Naming, R: Wait + Clock>(
+    rt: &R,
+    table: &Shared<N>,
+    share: Share<N>,
+    watcher: &mut Watcher<N>,
+    ended: &AtomicU64,
+    all: u64,
+) -> (Share<N>, u64) {
+    let mut session = Session::new(table, share);
+    let mut accepted = 0u64;
+    for _ in 0..1000000u32 {
+        if ended.load(Ordering::SeqCst) >= all {
+            break;
+        }
+        if let Some(txn) = watcher.look().and_then(|board| suspect_on(&board)) {
+            if session.ask(rt, Command::Settle { txn }).answer == Answer::Done {
+                accepted = accepted.saturating_add(1);
+            }
+        }
+        sleep(rt, Duration::from_micros(50));
+    }
+    (session.end(), accepted)
+}

@@ -1,0 +1,113 @@
+//! Lists of commands in one hold of the latch: what an engine locks a path with, from the root down.
+
+ghost use Rattle.std.specs.Prelude.{◌≡◌, ◌+◌, ◌≤◌, [], true, IfErr, IfOk, OnErr, length, vec_capacity};
+ghost use Rattle.gl_modes.specs.Modes.{is_at_least};
+ghost use Rattle.gl_catalog.specs.Manager.{IsLawfulManager, ManagerView, state_of};
+ghost use Rattle.gl_shared.specs.Batches.{Serves, Stops, accepted_in, goes_on};
+
+use crate::grant::{Grant, Stop};
+use crate::guarded::Guarded;
+use crate::naming::Naming;
+use crate::session::{Session, await_verdict};
+use crate::share::Share;
+use crate::wakes::ended_by;
+use gl_catalog::{Answer, Command};
+use gl_modes::{Mode, NodeId, Refusal};
+use gl_table::{Told, TxnId};
+use std::alloc::Global;
+use std::sync::{MutexGuard, Wait};
+
+/// Whether the next command of a list is served behind one that was answered so.
+fn goes_on(answer: &Answer) -> bool
+    ensures { result ≡ goes_on answer.now }
+{
+    !matches!(
+        answer,
+        Answer::Refused(_) | Answer::Waiting | Answer::Victim
+    )
+}
+
+/// Serves commands up to the first that does not go on, puts their answers into the list, and says
+/// whose wait they may have ended.
+fn serve_all<N: Naming>(
+    guarded: &mut Guarded<N>,
+    share: &mut Share<N>,
+    commands: &[Command<'_>],
+    told: &mut Told,
+    answers: &mut Vec<Answer>,
+) -> u128
+    requires none { answers.old.items ≡ [] }
+    requires room { vec_capacity answers.old ≡ length commands.now }
+    ensures run { Serves (state_of guarded.old.manager) commands.now answers.new.items (state_of guarded.new.manager) }
+    ensures stops { Stops commands.now answers.new.items }
+    ensures share { share.new ≡ share.old + accepted_in commands.now answers.new.items }
+    ensures book { guarded.new.book ≡ guarded.old.book + accepted_in commands.now answers.new.items }
+    ensures list { guarded.new.list ≡ guarded.old.list }
+{
+    let mut ended = 0;
+    for command in commands {
+        told.clear();
+        let answer = guarded.serve_next(share, *command, told);
+        ended |= ended_by(command, told.as_slice());
+        let last = !goes_on(&answer);
+        answers.push_reserved(answer);
+        if last {
+            return ended;
+        }
+    }
+    ended
+}
+
+impl<'a, N: Naming> Session<'a, N> {
+    /// Serves commands one after the other with nobody's between them, up to the first that is
+    /// refused, is left waiting, or fells its transaction, and answers each that was served. Watchers
+    /// are told once. Room for all answers is made first, so that with `NoMemory`, the only refusal,
+    /// nothing was served. For a lock that was left waiting see `await_grant`.
+    pub fn ask_all<R: Wait>(
+        &mut self,
+        rt: &R,
+        alloc: Global,
+        commands: &[Command<'_>],
+    ) -> Result<Vec<Answer>, Refusal>
+        ensures run { IfOk result (λ answers. (s : ManagerView) × (t : ManagerView) × IsLawfulManager s × Serves (state_of s) commands.now answers.items (state_of t)) }
+        ensures stops { IfOk result (λ answers. Stops commands.now answers.items) }
+        ensures share { IfOk result (λ answers. self.new.share ≡ self.old.share + accepted_in commands.now answers.items) }
+        ensures refused { IfErr result (λ refusal. refusal ≡ Refusal.NoMemory) }
+        ensures err { OnErr result (self.new.share ≡ self.old.share) }
+        ensures told { self.new.told ≡ self.old.told }
+    {
+        let Ok(mut answers) = Vec::with_capacity(alloc, commands.len()) else {
+            return Err(Refusal::NoMemory);
+        };
+        let mut guard = self.shared.latch.lock(rt);
+        guard.law();
+        let before = guard.served;
+        let ended = serve_all(
+            &mut guard,
+            &mut self.share,
+            commands,
+            &mut self.notices,
+            &mut answers,
+        );
+        if guard.served != before {
+            let _ = guard.tell_if_due(rt);
+            self.shared.wakes.wake(ended);
+        }
+        MutexGuard::unlock(guard);
+        Ok(answers)
+    }
+
+    /// Waits for what becomes of a lock that `ask_all` left waiting: its grant, or why there is none.
+    pub fn await_grant<R: Wait>(
+        &self,
+        rt: &R,
+        txn: TxnId,
+        node: NodeId,
+        mode: Mode,
+    ) -> Result<Grant, Stop>
+        ensures grant { IfOk result (λ g. (g.txn ≡ txn) × (g.node ≡ node) × (is_at_least g.mode mode ≡ true)) }
+    {
+        let guard = self.shared.latch.lock(rt);
+        await_verdict(rt, self.shared, guard, txn, node, mode)
+    }
+}
