@@ -3,12 +3,6 @@
 #![tactic(auto)]
 
 #[cfg(test)]
-mod actor;
-#[cfg(test)]
-mod crowd;
-#[cfg(test)]
-mod forest;
-#[cfg(test)]
 mod lists;
 #[cfg(test)]
 mod looks;

@@ -55,8 +55,16 @@ fn set(manager: &mut Manager) -> Scene {
 fn path(scene: Scene, txn: TxnId, last: Command<'static>) -> [Command<'static>; 3] {
     let Scene { root, file, .. } = scene;
     [
-        Command::Lock { txn, node: root, mode: IX },
-        Command::Lock { txn, node: file, mode: X },
+        Command::Lock {
+            txn,
+            node: root,
+            mode: IX,
+        },
+        Command::Lock {
+            txn,
+            node: file,
+            mode: X,
+        },
         last,
     ]
 }
@@ -68,17 +76,38 @@ fn lock_paths<N: Naming, R: Wait + Abort>(
     session: &mut Session<'_, N>,
     scene: Scene,
 ) -> Result<(), Refusal> {
-    let Scene { file, first, second, .. } = scene;
-    let held = Command::Held { txn: first, node: file };
+    let Scene {
+        file,
+        first,
+        second,
+        ..
+    } = scene;
+    let held = Command::Held {
+        txn: first,
+        node: file,
+    };
     let whole = session.ask_all(rt, alloc, &path(scene, first, held))?;
-    assert!(rt; whole.as_slice() == [Answer::Granted(IX), Answer::Granted(X), Answer::Mode(X)]);
-    let behind = session.ask_all(rt, alloc, &path(scene, second, Command::Commit { txn: second }))?;
-    assert!(rt; behind.as_slice() == [Answer::Granted(IX), Answer::Waiting]);
+    assert!(rt;
+        whole.as_slice() == [Answer::Granted(IX), Answer::Granted(X), Answer::Mode(X)].as_slice()
+    );
+    let behind = session.ask_all(
+        rt,
+        alloc,
+        &path(scene, second, Command::Commit { txn: second }),
+    )?;
+    assert!(rt; behind.as_slice() == [Answer::Granted(IX), Answer::Waiting].as_slice());
     let ends = [Command::Commit { txn: first }];
     let ended = session.ask_all(rt, alloc, &ends)?;
-    assert!(rt; ended.as_slice() == [Answer::Done]);
+    assert!(rt; ended.as_slice() == [Answer::Done].as_slice());
     let grant = session.await_grant(rt, second, file, X);
-    assert_eq!(rt; grant, Ok(Grant { txn: second, node: file, mode: X }));
+    assert_eq!(rt;
+        grant,
+        Ok(Grant {
+            txn: second,
+            node: file,
+            mode: X
+        })
+    );
     Ok(())
 }
 
@@ -89,16 +118,29 @@ fn refuse_second<N: Naming, R: Wait + Abort>(
     session: &mut Session<'_, N>,
     scene: Scene,
 ) -> Result<(), Refusal> {
-    let Scene { root, first, second, .. } = scene;
+    let Scene {
+        root,
+        first,
+        second,
+        ..
+    } = scene;
     let list = [
-        Command::Held { txn: second, node: root },
-        Command::Unlock { txn: first, node: root },
+        Command::Held {
+            txn: second,
+            node: root,
+        },
+        Command::Unlock {
+            txn: first,
+            node: root,
+        },
         Command::Commit { txn: second },
     ];
     let answers = session.ask_all(rt, alloc, &list)?;
-    assert!(rt; answers.as_slice() == [Answer::Mode(IX), Answer::Refused(Refusal::NoSuchTxn)]);
+    assert!(rt;
+        answers.as_slice() == [Answer::Mode(IX), Answer::Refused(Refusal::NoSuchTxn)].as_slice()
+    );
     let none = session.ask_all(rt, alloc, &[])?;
-    assert!(rt; none.as_slice() == []);
+    assert!(rt; none.is_empty());
     Ok(())
 }
 

@@ -131,7 +131,10 @@ fn works<N: Naming, R: Wait + Abort>(
             mode: X,
         };
         assert_eq!(rt; session.lock(rt, txn, root, X), Ok(granted));
-        assert_eq!(rt; session.ask(rt, Command::Commit { txn }).answer, Answer::Done);
+        assert_eq!(rt;
+            session.ask(rt, Command::Commit { txn }).answer,
+            Answer::Done
+        );
     }
     session.end()
 }

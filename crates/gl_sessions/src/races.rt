@@ -46,9 +46,15 @@ fn asks_for_x<N: Naming, R: Wait + Abort>(
     let came = session.lock(rt, txn, root, X);
     assert_eq!(rt; came, wanted);
     match came {
-        Ok(_) => assert_eq!(rt; session.ask(rt, Command::Commit { txn }).answer, Answer::Done),
+        Ok(_) => assert_eq!(rt;
+            session.ask(rt, Command::Commit { txn }).answer,
+            Answer::Done
+        ),
         Err(Stop::Victim) => {
-            assert_eq!(rt; session.ask(rt, Command::Abort { txn }).answer, Answer::Done)
+            assert_eq!(rt;
+                session.ask(rt, Command::Abort { txn }).answer,
+                Answer::Done
+            )
         }
         Err(_) => {}
     }

@@ -14,10 +14,8 @@ use std::marker::Brand;
 use std::process::Abort;
 use std::rt::Clock;
 use std::sync::Wait;
-use std::sync::atomic::{AtomicU64, Ordering};
 use std::test::Fail;
-use std::thread::{Threads, sleep, yield_now};
-use std::time::Duration;
+use std::thread::{Threads, yield_now};
 
 /// What sessions do with a table.
 pub trait Play {
@@ -33,11 +31,12 @@ pub trait Play {
 }
 
 /// The play on a table with its name.
-fn enact_under_name<
-    N: Naming + Send + Sync,
-    P: Play,
-    R: Threads + Wait + Abort + Clock + Sync,
->(rt: &R, alloc: Global, parts: Parts, play: &P) -> Result<Closed, Fail>
+fn enact_under_name<N: Naming + Send + Sync, P: Play, R: Threads + Wait + Abort + Clock + Sync>(
+    rt: &R,
+    alloc: Global,
+    parts: Parts,
+    play: &P,
+) -> Result<Closed, Fail>
     requires whole { N.shares ≡ N.parts }
     requires name { parts.blank.name ≡ N.name }
     requires parts { parts.blank.parts ≡ N.parts }
@@ -155,30 +154,4 @@ pub fn settles<N: Naming, R: Wait + Abort>(
         assert!(rt; reply.told.as_slice() == [(wanted, Notice::Victim)].as_slice());
     }
     session.end()
-}
-
-/// Settles the youngest suspect of each look until so many have ended, in at most a million turns.
-/// Says how often it was accepted.
-pub fn settles_all<N: Naming, R: Wait + Clock>(
-    rt: &R,
-    table: &Shared<N>,
-    share: Share<N>,
-    watcher: &mut Watcher<N>,
-    ended: &AtomicU64,
-    all: u64,
-) -> (Share<N>, u64) {
-    let mut session = Session::new(table, share);
-    let mut accepted = 0u64;
-    for _ in 0..1000000u32 {
-        if ended.load(Ordering::SeqCst) >= all {
-            break;
-        }
-        if let Some(txn) = watcher.look().and_then(|board| suspect_on(&board)) {
-            if session.ask(rt, Command::Settle { txn }).answer == Answer::Done {
-                accepted = accepted.saturating_add(1);
-            }
-        }
-        sleep(rt, Duration::from_micros(50));
-    }
-    (session.end(), accepted)
 }
