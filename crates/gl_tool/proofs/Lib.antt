@@ -3,5 +3,4 @@ pub mod Reading
 pub mod Registers
 pub mod Serving
 pub mod Printing
-pub mod Counts
 pub mod Openings

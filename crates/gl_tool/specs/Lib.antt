@@ -6,8 +6,8 @@ pub mod Held
 pub mod Views
 pub mod Rooms
 pub mod SoFar
-pub mod Planned
-pub mod Crews
 pub mod Outcome
 pub use Rattle.gl_modes.specs.Modes
 pub use Rattle.gl_modes.specs.Refusals
+pub use Rattle.gl_words.specs.Planned
+pub use Rattle.gl_crew.specs.Crews

@@ -1,15 +1,15 @@
 -- How the program ends.
 use Rattle.std.specs.Prelude.{◌≡◌, ◌⊎◌, ℕ, List, [], ◌∷◌, ◌++◌, codes, decimal, Option, Result, Ok, Err}
 use Rattle.std.specs.Io.KnownBytes.{Consumes, Appends, IsAtEnd}
-use Rattle.clap.specs.Words.{Text}
+use Rattle.gl_script.specs.Grammar.{Text}
 use Rattle.gl_table.specs.declared.detect.Detect.{Detect}
-use Rattle.gl_tool.specs.declared.asked.Plan.TheVariants as plan
+use Rattle.gl_words.specs.declared.asked.Plan.TheVariants as plan
+use Rattle.gl_words.specs.Planned.{IsPlanFor}
+use Rattle.gl_crew.specs.Crews.{IsCount}
 use Rattle.gl_tool.specs.declared.script.RunFault.{RunFault}
 use Rattle.gl_tool.specs.declared.script.RunFault.TheVariants.{Write}
 use Rattle.gl_tool.specs.declared.entry.ToolFault.{ToolFault}
 use Rattle.gl_tool.specs.declared.entry.ToolFault.TheVariants.{Run, Crew, Words}
-use Rattle.gl_tool.specs.Crews.{IsCount}
-use Rattle.gl_tool.specs.Planned.{IsPlanFor}
 use Rattle.gl_tool.specs.Report.{Report, Left}
 
 -- all of the reader was read, and the report on it was written

@@ -1,16 +1,15 @@
 //! The whole program, over given words and streams.
 
 ghost use Rattle.std.specs.Prelude.{◌≡◌, ◌≤◌, map};
+ghost use Rattle.gl_words.specs.Planned.{HasNoPlan};
 ghost use Rattle.gl_tool.specs.Outcome.{Ends, PutsCount, Stops, Works, status_of};
-ghost use Rattle.gl_tool.specs.Planned.{HasNoPlan};
 
 use crate::answers::put_number;
-use crate::asked::Plan;
-use crate::crews::{CrewFault, crew};
 use crate::script::{RunFault, run};
 use crate::sink::{flush, new_sink, put, send};
-use crate::words::plan;
 use arrayvec::ArrayString;
+use gl_crew::{CrewFault, crew};
+use gl_words::{Plan, plan};
 use std::alloc::Global;
 use std::convert::AsStr;
 use std::fmt::Write as FormatWrite;

@@ -1,10 +1,10 @@
 use Rattle.std.proofs.Common.{refl, sym, arith, inl, inr, ◌≡◌, ◌∙◌, ℕ, List, Option, Err}
-use Rattle.clap.specs.Words.{Text}
-use Rattle.gl_tool.specs.declared.asked.Plan.TheVariants as plan
+use Rattle.gl_script.specs.Grammar.{Text}
+use Rattle.gl_words.specs.declared.asked.Plan.TheVariants as plan
+use Rattle.gl_words.specs.Planned.{HasNoPlan}
 use Rattle.gl_tool.specs.declared.entry.ToolFault.{ToolFault}
 use Rattle.gl_tool.specs.declared.entry.ToolFault.TheVariants.{Run, Crew, Words}
 use Rattle.gl_tool.specs.Outcome.{Stops, Works, status_of}
-use Rattle.gl_tool.specs.Planned.{HasNoPlan}
 use Rattle.gl_tool.proofs.entry.program.Goals as goal
 
 -- a fault behind a plan stands for a plan that the words have

@@ -1,0 +1,84 @@
+use Rattle.std.proofs.Common.{rules, refl, ap, sym, subst, codes, true, inl, inr, ◌≡◌, ◌∙◌, ◌↔◌, List, [], ◌∷◌, map, Option, Err}
+use Rattle.clap.specs.Words.{App, Text, first_of, first_value, found_of, is_simple, matches_of, rows_of}
+use Rattle.clap.specs.Simple.{HasMatchesOf}
+use Rattle.clap.specs.Kinds.{HasKind, Kinds}
+use Rattle.clap.specs.Faults.{fault_of, is_simple_and_free}
+use Rattle.clap.specs.Values.{kind_of}
+use Rattle.clap.specs.declared.error.Error.{Error}
+use Rattle.clap.specs.declared.error.kind.ErrorKind.TheVariants.{OutOfMemory}
+use Rattle.clap.specs.declared.parser.matches.ArgMatches.{ArgMatches}
+use Rattle.clap.proofs.OnLiterals.{clap_on_literals}
+use Rattle.clap.proofs.WalkLemmas.{first_value-rows}
+use Rattle.gl_words.specs.declared.asked.Plan.{Plan}
+use Rattle.gl_words.specs.declared.words.Unread.{Unread}
+use Rattle.gl_words.specs.declared.words.Unread.TheVariants.{Memory, Words}
+use Rattle.gl_words.specs.Planned.{HasNoPlan, IsAsked, IsPlanOf, Reads, faults_in, rows_in, tool_app}
+use Rattle.gl_words.proofs.words.read_words.Goals as goal
+
+is_simple_tool : is_simple tool_app ≡ true
+unfolding clap_on_literals
+is_simple_tool = refl
+
+is_free_tool : is_simple_and_free tool_app ≡ true
+unfolding clap_on_literals
+is_free_tool = refl
+
+-- what clap found is what the words hold
+rows_are : (app : App) (words : List Text) (m : ArgMatches) → app ≡ tool_app → HasMatchesOf app words m → rows_of (found_of m) ≡ rows_in words
+unfolding rows_in
+rows_are app words m is h = (h (ap is_simple is ∙ is_simple_tool)).0 ∙ ap (λ a. matches_of a words) is
+
+faults_are : (app : App) (words : List Text) → app ≡ tool_app → fault_of app words ≡ faults_in words
+unfolding faults_in
+faults_are app words is = ap (λ a. fault_of a words) is
+
+-- where clap refuses the words, and not for memory, there is no plan
+refused : (kinds : Kinds) (words : List Text) (e : Error) (u : Unread) → (u ≡ Memory) ↔ (kind_of e ≡ OutOfMemory) → kinds ≡ faults_in words → HasKind kinds e → Reads words (Err u)
+refused kinds words e Memory why are h = tt
+refused kinds words e Words why are (inl wanting) = let bad : Words ≡ Memory = why.1 wanting in absurd (cc)
+refused [] words e Words why are (inr among) = absurd among
+refused (k ∷ ks) words e Words why are (inr among) = λ plan p. let bad : k ∷ ks ≡ [] = are ∙ p.0 in absurd (cc)
+
+pub returns-in-Err : goal.returns-in-Err
+returns-in-Err g c =
+    let app_is = c.in-Ok.ensures in
+    let words = map g.S.AsStr.text c.args.words.now in
+    refused _ words c.in-Err.error c.cause.result (search rules) (faults_are _ words app_is) (c.in-Err.ensures.kinds (ap is_simple_and_free app_is ∙ is_free_tool))
+
+-- where the values ask for nothing, there is no plan
+no_plan : (a b c : Option Text) (words : List Text) → a ≡ first_of (codes "detect") (rows_in words) → b ≡ first_of (codes "crew") (rows_in words) → c ≡ first_of (codes "rounds") (rows_in words)
+    → ((plan : Plan) → ¬ (IsAsked a b c plan)) → HasNoPlan words
+no_plan a b c words ea eb ec none plan p = none plan (subst (λ z. IsAsked a b z plan) (sym ec) (subst (λ z. IsAsked a z (first_of (codes "rounds") (rows_in words)) plan) (sym eb) (subst (λ z. IsAsked z (first_of (codes "crew") (rows_in words)) (first_of (codes "rounds") (rows_in words)) plan) (sym ea) p.1)))
+
+-- what the values ask for is the plan
+is_plan : (a b c : Option Text) (words : List Text) (plan : Plan) → a ≡ first_of (codes "detect") (rows_in words) → b ≡ first_of (codes "crew") (rows_in words) → c ≡ first_of (codes "rounds") (rows_in words)
+    → IsAsked a b c plan → IsPlanOf (rows_in words) plan
+is_plan a b c words plan ea eb ec p = subst (λ z. IsAsked (first_of (codes "detect") (rows_in words)) (first_of (codes "crew") (rows_in words)) z plan) ec (subst (λ z. IsAsked (first_of (codes "detect") (rows_in words)) z c plan) eb (subst (λ z. IsAsked z b c plan) ea p))
+
+-- what clap gives for an option
+value : (app : App) (words : List Text) (m : ArgMatches) (id : Text) (o : Option Text) → app ≡ tool_app → HasMatchesOf app words m → o ≡ first_value (found_of m) id → o ≡ first_of id (rows_in words)
+value app words m id o is h e = e ∙ first_value-rows (found_of m) id ∙ ap (first_of id) (rows_are app words m is h)
+
+pub returns-in-Some : goal.returns-in-Some
+returns-in-Some g c =
+    let app_is = c.in-Ok.ensures in
+    let words = map g.S.AsStr.text c.args.words.now in
+    let taken = c.in-Ok-try_get_matches_from in (
+      sym (faults_are _ words app_is) ∙ taken.ensures.kinds (ap is_simple_and_free app_is ∙ is_free_tool),
+      is_plan _ _ _ words c.in-Some.plan
+          (value _ words taken.matches _ _ app_is taken.ensures.matches c.get_str-detect.ensures)
+          (value _ words taken.matches _ _ app_is taken.ensures.matches c.get_str.ensures)
+          (value _ words taken.matches _ _ app_is taken.ensures.matches c.get_str-2.ensures)
+          c.in-Some.ensures.some,
+    )
+
+pub returns : goal.returns
+returns g c =
+    let app_is = c.in-Ok.ensures in
+    let words = map g.S.AsStr.text c.args.words.now in
+    let taken = c.in-Ok-try_get_matches_from in
+    no_plan _ _ _ words
+    (value _ words taken.matches _ _ app_is taken.ensures.matches c.get_str-detect.ensures)
+    (value _ words taken.matches _ _ app_is taken.ensures.matches c.get_str.ensures)
+    (value _ words taken.matches _ _ app_is taken.ensures.matches c.get_str-2.ensures)
+    c.in-None.ensures.none
