@@ -17,6 +17,8 @@ mod stage;
 #[cfg(test)]
 mod steps;
 #[cfg(test)]
+mod story;
+#[cfg(test)]
 mod table;
 #[cfg(test)]
 mod tellings;

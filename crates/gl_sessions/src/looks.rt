@@ -1,6 +1,7 @@
 //! Watchers look and learn notes while sessions work.
 
-use crate::stage::{Play, add_root, enact, new_manager};
+use crate::stage::{add_root, enact, new_manager};
+use crate::story::Story;
 use gl_catalog::{Answer, Command};
 use gl_modes::Mode::X;
 use gl_modes::NodeId;
@@ -8,7 +9,7 @@ use gl_shared::{Grant, Naming, Session, Share, Shared, Watcher};
 use gl_table::{Detect, TxnId};
 use gl_waits::set::{has, with};
 use gl_waits::{Board, SLOTS};
-use std::alloc::Global;
+use std::alloc::{AllocError, Global};
 use std::process::Abort;
 use std::rt::Clock;
 use std::sync::Wait;
@@ -20,7 +21,7 @@ const COMMITS: u32 = 100;
 
 /// Sessions lock one root in turn, and watchers look on until the last board.
 #[derive(Clone, Copy)]
-struct Watched {
+pub struct Watched {
     root: NodeId,
     last: u64,
 }
@@ -153,8 +154,23 @@ fn takes_part<N: Naming, R: Wait + Abort>(
     }
 }
 
-impl Play for Watched {
-    fn play<N: Naming + Send + Sync, R: Threads + Wait + Abort + Clock + Sync>(
+/// All at once, each in a thread.
+fn take_part_all<N: Naming + Send + Sync, R: Threads + Wait + Abort + Sync>(
+    rt: &R,
+    table: &Shared<N>,
+    players: Vec<Player<N>>,
+    story: Watched,
+) -> Result<Vec<Share<N>>, AllocError> {
+    map_vec(
+        rt,
+        players,
+        &|player: Player<N>| -> Share<N> { takes_part(rt, table, player, story) },
+    )
+}
+
+impl Watched {
+    /// Plays with the shares and the watchers of a table, and gives the shares back.
+    pub fn play<N: Naming + Send + Sync, R: Threads + Wait + Abort + Clock + Sync>(
         &self,
         rt: &R,
         alloc: Global,
@@ -171,11 +187,7 @@ impl Play for Watched {
             };
             let _ = players.push(player);
         }
-        let played = map_vec(
-            rt,
-            players,
-            &|player: Player<N>| -> Share<N> { takes_part(rt, table, player, story) },
-        );
+        let played = take_part_all(rt, table, players, story);
         played.unwrap_or(Vec::new(alloc))
     }
 }
@@ -187,7 +199,7 @@ fn watchers_look_on_while_sessions_work(rt: HostRuntime) -> Result<(), Fail> {
         let root = add_root(&rt, &mut manager);
         // The root, and of each of four sessions the begins, locks and commits.
         let story = Watched { root, last: 1201 };
-        let closed = enact(&rt, rt.alloc(), manager, 6, 2, &story)?;
+        let closed = enact(&rt, rt.alloc(), manager, 6, 2, &Story::Watched(story))?;
         assert_eq!(rt; closed.book, 1200);
         assert_eq!(rt; closed.manager.accepted(), story.last);
     }

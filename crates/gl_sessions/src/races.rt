@@ -1,12 +1,12 @@
 //! Two transactions hold S on one root, and their sessions wait for X on it in threads of their own.
 
-use crate::stage::{Play, add_root, begin_with, enact, new_manager, settles, youngest_suspect};
+use crate::stage::{add_root, begin_with, enact, new_manager, settles, youngest_suspect};
+use crate::story::Story;
 use gl_catalog::{Answer, Command, Manager};
 use gl_modes::Mode::{S, X};
 use gl_modes::{NodeId, Refusal};
 use gl_shared::{Grant, Naming, Session, Share, Shared, Stop, Watcher};
 use gl_table::{Detect, Notice, TxnId};
-use std::alloc::Global;
 use std::process::Abort;
 use std::rt::Clock;
 use std::sync::Wait;
@@ -15,7 +15,7 @@ use std::thread::{Threads, join};
 
 /// The younger gives way, and the older is granted.
 #[derive(Clone, Copy)]
-struct Upgrade {
+pub struct Upgrade {
     root: NodeId,
     older: TxnId,
     younger: TxnId,
@@ -25,7 +25,7 @@ struct Upgrade {
 /// Both are suspects on a board. One wait is cancelled before the suspect is settled, and the other
 /// goes on.
 #[derive(Clone, Copy)]
-struct SettledLate {
+pub struct SettledLate {
     root: NodeId,
     suspect: TxnId,
     cancelled: TxnId,
@@ -66,11 +66,33 @@ fn granted(txn: TxnId, node: NodeId) -> Result<Grant, Stop> {
     Ok(Grant { txn, node, mode: X })
 }
 
-impl Play for Upgrade {
-    fn play<N: Naming + Send + Sync, R: Threads + Wait + Abort + Clock + Sync>(
+/// The younger asks, and where a watcher is to find deadlocks, a third session settles it.
+fn gives_way<N: Naming + Send + Sync, R: Threads + Wait + Abort + Sync>(
+    rt: &R,
+    table: &Shared<N>,
+    shares: (Share<N>, Share<N>),
+    watcher: &mut Watcher<N>,
+    story: Upgrade,
+) -> (Share<N>, Share<N>) {
+    let Upgrade {
+        root,
+        younger,
+        detect,
+        ..
+    } = story;
+    let (second, third) = shares;
+    join(
+        rt,
+        move || asks_for_x(rt, table, second, younger, root, Err(Stop::Victim)),
+        move || settles(rt, table, third, watcher, detect, younger),
+    )
+}
+
+impl Upgrade {
+    /// Plays with the shares and the watchers of a table, and gives the shares back.
+    pub fn play<N: Naming + Send + Sync, R: Threads + Wait + Abort + Clock + Sync>(
         &self,
         rt: &R,
-        _alloc: Global,
         table: &Shared<N>,
         mut shares: Vec<Share<N>>,
         mut watchers: Vec<Watcher<N>>,
@@ -81,23 +103,13 @@ impl Play for Upgrade {
             shares.pop(),
             watchers.pop(),
         ) {
-            let Upgrade {
-                root,
-                older,
-                younger,
-                detect,
-            } = *self;
+            let story = *self;
+            let (root, older) = (story.root, story.older);
             let looking = &mut watcher;
             let (first, (second, third)) = join(
                 rt,
                 move || asks_for_x(rt, table, first, older, root, granted(older, root)),
-                move || {
-                    join(
-                        rt,
-                        move || asks_for_x(rt, table, second, younger, root, Err(Stop::Victim)),
-                        move || settles(rt, table, third, looking, detect, younger),
-                    )
-                },
+                move || gives_way(rt, table, (second, third), looking, story),
             );
             let _ = shares.push(first);
             let _ = shares.push(second);
@@ -138,11 +150,29 @@ fn settles_late<N: Naming, R: Wait + Abort>(
     session.end()
 }
 
-impl Play for SettledLate {
-    fn play<N: Naming + Send + Sync, R: Threads + Wait + Abort + Clock + Sync>(
+/// One asks, and a third session takes its wait back before it settles the suspect.
+fn takes_back<N: Naming + Send + Sync, R: Threads + Wait + Abort + Sync>(
+    rt: &R,
+    table: &Shared<N>,
+    shares: (Share<N>, Share<N>),
+    watcher: &mut Watcher<N>,
+    story: SettledLate,
+) -> (Share<N>, Share<N>) {
+    let (second, third) = shares;
+    let (root, cancelled) = (story.root, story.cancelled);
+    let taken_back = Err(Stop::Refused(Refusal::NotWaiting));
+    join(
+        rt,
+        move || asks_for_x(rt, table, second, cancelled, root, taken_back),
+        move || settles_late(rt, table, third, watcher, story),
+    )
+}
+
+impl SettledLate {
+    /// Plays with the shares and the watchers of a table, and gives the shares back.
+    pub fn play<N: Naming + Send + Sync, R: Threads + Wait + Abort + Clock + Sync>(
         &self,
         rt: &R,
-        _alloc: Global,
         table: &Shared<N>,
         mut shares: Vec<Share<N>>,
         mut watchers: Vec<Watcher<N>>,
@@ -155,18 +185,11 @@ impl Play for SettledLate {
         ) {
             let story = *self;
             let looking = &mut watcher;
-            let (root, left, cancelled) = (story.root, story.left, story.cancelled);
-            let taken_back = Err(Stop::Refused(Refusal::NotWaiting));
+            let (root, left) = (story.root, story.left);
             let (first, (second, third)) = join(
                 rt,
                 move || asks_for_x(rt, table, first, left, root, granted(left, root)),
-                move || {
-                    join(
-                        rt,
-                        move || asks_for_x(rt, table, second, cancelled, root, taken_back),
-                        move || settles_late(rt, table, third, looking, story),
-                    )
-                },
+                move || takes_back(rt, table, (second, third), looking, story),
             );
             let _ = shares.push(first);
             let _ = shares.push(second);
@@ -197,7 +220,7 @@ fn the_younger_of_two_upgrades_gives_way(rt: HostRuntime) -> Result<(), Fail> {
                 younger,
                 detect,
             };
-            let closed = enact(&rt, rt.alloc(), manager, 3, 1, &story)?;
+            let closed = enact(&rt, rt.alloc(), manager, 3, 1, &Story::Upgrade(story))?;
             assert_eq!(rt; closed.book, book);
         }
     }
@@ -220,7 +243,7 @@ fn a_suspect_of_an_old_board_is_settled(rt: HostRuntime) -> Result<(), Fail> {
             cancelled,
             left,
         };
-        let closed = enact(&rt, rt.alloc(), manager, 3, 1, &story)?;
+        let closed = enact(&rt, rt.alloc(), manager, 3, 1, &Story::SettledLate(story))?;
         assert_eq!(rt; closed.book, 6);
     }
     Ok(())

@@ -1,14 +1,15 @@
 //! A ring of waits: each session's transaction holds a root of its own in X, and waits for the root
 //! of the next.
 
-use crate::stage::{Play, add_root, begin_with, enact, new_manager, settles};
+use crate::stage::{add_root, begin_with, enact, new_manager, settles};
+use crate::story::Story;
 use gl_catalog::{Answer, Command, Manager};
 use gl_modes::Mode::X;
 use gl_modes::NodeId;
 use gl_shared::{Naming, Session, Share, Shared, Stop, Watcher};
 use gl_table::{Detect, TxnId};
 use gl_waits::SLOTS;
-use std::alloc::Global;
+use std::alloc::{AllocError, Global};
 use std::process::Abort;
 use std::rt::Clock;
 use std::sync::Wait;
@@ -24,7 +25,7 @@ struct Member {
 
 /// The ring, the youngest last.
 #[derive(Drop)]
-struct Ring {
+pub struct Ring {
     members: [Member; SLOTS],
     detect: Detect,
 }
@@ -94,8 +95,22 @@ fn one_gave_way<N: Naming, R: Abort>(rt: &R, alloc: Global, ended: Vec<Ended<N>>
     shares
 }
 
-impl Play for Ring {
-    fn play<N: Naming + Send + Sync, R: Threads + Wait + Abort + Clock + Sync>(
+/// All at once, each in a thread.
+fn wait_all<N: Naming + Send + Sync, R: Threads + Wait + Abort + Sync>(
+    rt: &R,
+    table: &Shared<N>,
+    waiters: Vec<Waiter<N>>,
+) -> Result<Vec<Ended<N>>, AllocError> {
+    map_vec(
+        rt,
+        waiters,
+        &|waiter: Waiter<N>| -> Ended<N> { waits_for_next(rt, table, waiter) },
+    )
+}
+
+impl Ring {
+    /// Plays with the shares and the watchers of a table, and gives the shares back.
+    pub fn play<N: Naming + Send + Sync, R: Threads + Wait + Abort + Clock + Sync>(
         &self,
         rt: &R,
         alloc: Global,
@@ -111,13 +126,7 @@ impl Play for Ring {
         let youngest = self.members[SLOTS - 1].txn;
         let (ended, share) = join(
             rt,
-            move || {
-                map_vec(
-                    rt,
-                    waiters,
-                    &|waiter: Waiter<N>| -> Ended<N> { waits_for_next(rt, table, waiter) },
-                )
-            },
+            move || wait_all(rt, table, waiters),
             move || settles(rt, table, share, looking, detect, youngest),
         );
         let mut shares = one_gave_way(rt, alloc, ended.unwrap_or(Vec::new(alloc)));
@@ -145,7 +154,7 @@ fn one_gives_way_in_a_ring(rt: HostRuntime) -> Result<(), Fail> {
     for (detect, book) in [(Detect::AtBlock, 256u64), (Detect::ByWatcher, 257)] {
         let mut manager = new_manager(rt.alloc(), detect)?;
         let ring = add_ring(&rt, &mut manager, detect);
-        let closed = enact(&rt, rt.alloc(), manager, 129, 1, &ring)?;
+        let closed = enact(&rt, rt.alloc(), manager, 129, 1, &Story::Ring(ring))?;
         assert_eq!(rt; closed.book, book);
     }
     Ok(())

@@ -4,6 +4,7 @@ ghost use Rattle.std.specs.Prelude.{◌≡◌, ◌<◌};
 ghost use Rattle.gl_table.specs.BoardOf.{board_of};
 ghost use Rattle.gl_catalog.specs.Manager.{state_of};
 
+use crate::story::Story;
 use gl_catalog::{Answer, Command, Manager};
 use gl_modes::{Mode, NodeId};
 use gl_shared::{Closed, Naming, NotAll, Parts, Session, Share, Shared, Watcher, gather};
@@ -17,25 +18,12 @@ use std::sync::Wait;
 use std::test::Fail;
 use std::thread::{Threads, yield_now};
 
-/// What sessions do with a table.
-pub trait Play {
-    /// Plays with the shares and the watchers of a table, and gives the shares back.
-    fn play<N: Naming + Send + Sync, R: Threads + Wait + Abort + Clock + Sync>(
-        &self,
-        rt: &R,
-        alloc: Global,
-        table: &Shared<N>,
-        shares: Vec<Share<N>>,
-        watchers: Vec<Watcher<N>>,
-    ) -> Vec<Share<N>>;
-}
-
-/// The play on a table with its name.
+/// The story on a table with its name.
 fn enact_under_name<N: Naming + Send + Sync, P: Play, R: Threads + Wait + Abort + Clock + Sync>(
     rt: &R,
     alloc: Global,
     parts: Parts,
-    play: &P,
+    story: &Story,
 ) -> Result<Closed, Fail>
     requires whole { N.shares ≡ N.parts }
     requires name { parts.blank.name ≡ N.name }
@@ -47,7 +35,7 @@ fn enact_under_name<N: Naming + Send + Sync, P: Play, R: Threads + Wait + Abort 
     let Ok((shared, shares, watchers)) = Shared::<N>::new(rt, alloc, parts) else {
         return Err(Fail::from("no memory"));
     };
-    let shares = play.play(rt, alloc, &shared, shares, watchers);
+    let shares = story.play(rt, alloc, &shared, shares, watchers);
     match gather(rt, shared, shares) {
         Ok(closed) => Ok(closed),
         Err(NotAll { shared, shares: _ }) => {
@@ -57,21 +45,21 @@ fn enact_under_name<N: Naming + Send + Sync, P: Play, R: Threads + Wait + Abort 
     }
 }
 
-/// Plays on a table over this manager, and closes it. Nobody lives then.
-pub fn enact<P: Play, R: Threads + Wait + Abort + Clock + Sync>(
+/// Plays a story on a table over this manager, and closes it. Nobody lives then.
+pub fn enact<R: Threads + Wait + Abort + Clock + Sync>(
     rt: &R,
     alloc: Global,
     manager: Manager,
     shares: u64,
     watchers: usize,
-    play: &P,
+    story: &Story,
 ) -> Result<Closed, Fail>
     requires counts { (0 < shares) × (shares < 130) × (0 < watchers) × (watchers < 9) }
 {
     let Ok(parts) = Parts::new(rt, alloc, manager, shares, watchers) else {
         return Err(Fail::from("no memory"));
     };
-    let closed = enact_under_name::<Brand, P, R>(rt, alloc, parts, play)?;
+    let closed = enact_under_name::<Brand, R>(rt, alloc, parts, story)?;
     let board = closed.manager.board();
     assert!(rt; board.ages == [0; SLOTS] && board.rows == [0; SLOTS]);
     Ok(closed)
