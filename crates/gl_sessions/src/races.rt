@@ -6,7 +6,7 @@ use gl_catalog::{Answer, Command, Manager};
 use gl_modes::Mode::{S, X};
 use gl_modes::{NodeId, Refusal};
 use gl_shared::{Grant, Naming, Session, Share, Shared, Stop, Watcher};
-use gl_table::{Detect, Notice, TxnId};
+use gl_table::{Detect, TxnId};
 use std::process::Abort;
 use std::rt::Clock;
 use std::sync::Wait;
@@ -32,8 +32,8 @@ pub struct SettledLate {
     left: TxnId,
 }
 
-/// Waits for X on the root, until it comes to what is wanted. Then a grant is committed, and a victim
-/// aborts.
+/// Waits for X on the root, until it comes to what is wanted. Then it commits, or
+/// aborts as a victim.
 fn asks_for_x<N: Naming, R: Wait + Abort>(
     rt: &R,
     table: &Shared<N>,
@@ -45,19 +45,11 @@ fn asks_for_x<N: Naming, R: Wait + Abort>(
     let mut session = Session::new(table, share);
     let came = session.lock(rt, txn, root, X);
     assert_eq!(rt; came, wanted);
-    match came {
-        Ok(_) => assert_eq!(rt;
-            session.ask(rt, Command::Commit { txn }).answer,
-            Answer::Done
-        ),
-        Err(Stop::Victim) => {
-            assert_eq!(rt;
-                session.ask(rt, Command::Abort { txn }).answer,
-                Answer::Done
-            )
-        }
-        Err(_) => {}
-    }
+    let end = match came {
+        Err(Stop::Victim) => Command::Abort { txn },
+        _ => Command::Commit { txn },
+    };
+    assert_eq!(rt; session.ask(rt, end).answer, Answer::Done);
     session.end()
 }
 
@@ -120,7 +112,7 @@ impl Upgrade {
 }
 
 /// Once a board shows the suspect, cancels one wait and then settles the suspect, which does nothing
-/// but count. At last ends the transaction whose wait was cancelled.
+/// but count.
 fn settles_late<N: Naming, R: Wait + Abort>(
     rt: &R,
     table: &Shared<N>,
@@ -129,10 +121,9 @@ fn settles_late<N: Naming, R: Wait + Abort>(
     story: SettledLate,
 ) -> Share<N> {
     let SettledLate {
-        root,
         suspect: txn,
         cancelled,
-        left,
+        ..
     } = story;
     let mut session = Session::new(table, share);
     assert_eq!(rt; youngest_suspect(watcher), Some(txn));
@@ -144,9 +135,6 @@ fn settles_late<N: Naming, R: Wait + Abort>(
     assert_eq!(rt; settle.answer, Answer::Done);
     assert!(rt; settle.told.is_empty());
     assert_eq!(rt; before.checked_add(1), Some(after));
-    let commit = session.ask(rt, Command::Commit { txn: cancelled });
-    assert_eq!(rt; commit.answer, Answer::Done);
-    assert!(rt; commit.told.as_slice() == [(left, Notice::Granted(root, X))].as_slice());
     session.end()
 }
 

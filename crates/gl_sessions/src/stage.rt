@@ -19,7 +19,7 @@ use std::test::Fail;
 use std::thread::{Threads, yield_now};
 
 /// The story on a table with its name.
-fn enact_under_name<N: Naming + Send + Sync, P: Play, R: Threads + Wait + Abort + Clock + Sync>(
+fn enact_under_name<N: Naming + Send + Sync, R: Threads + Wait + Abort + Clock + Sync>(
     rt: &R,
     alloc: Global,
     parts: Parts,
