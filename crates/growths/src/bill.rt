@@ -22,10 +22,6 @@ impl<'a> Bill<'a> {
         self.rt.alloc()
     }
 
-    pub(crate) fn runtime(&self) -> &'a HostRuntime {
-        self.rt
-    }
-
     /// Tells how a play went: as wanted, or where it was first not.
     pub(crate) fn tell(&mut self, play: &str, differs: Option<u32>) {
         let rt = self.rt;

@@ -29,6 +29,6 @@ fn main(rt: HostRuntime) -> ExitCode {
     moves::play(&mut bill);
     records::play(&mut bill);
     scripts::play(&mut bill);
-    shares::play(&mut bill);
+    shares::play(&rt, &mut bill);
     ExitCode::from(bill.status())
 }

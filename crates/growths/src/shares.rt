@@ -16,11 +16,10 @@ use std::alloc::Global;
 use std::marker::Brand;
 use std::sync::Wait;
 
-pub(crate) fn play(bill: &mut Bill<'_>) {
-    let rt = bill.runtime();
+pub(crate) fn play<R: Wait>(rt: &R, bill: &mut Bill<'_>) {
     let mut watch = Watch::new();
     for _ in 0..2 {
-        match share_table(rt, rt.alloc(), &mut watch) {
+        match share_table(rt, bill.alloc(), &mut watch) {
             Err(Refusal::NoMemory) => watch.step(),
             ended => {
                 watch.holds(ended.is_ok());
@@ -142,7 +141,10 @@ fn lock(txn: TxnId, node: NodeId, mode: Mode) -> Command<'static> {
 
 /// How many answers refuse nothing.
 fn accepted_of(answers: &[Answer]) -> usize {
-    answers.iter().filter(|answer| !matches!(answer, Answer::Refused(_))).count()
+    answers
+        .iter()
+        .filter(|answer| !matches!(answer, Answer::Refused(_)))
+        .count()
 }
 
 /// The same under its name.
@@ -160,6 +162,7 @@ fn share_under_name<N: Naming, R: Wait>(
     requires book { (parts.line.book ≡ N.book) × (board_of (state_of parts.manager) ≡ N.first) }
 {
     let (shared, mut shares, mut watchers) = Shared::<N>::new(rt, alloc, parts)?;
+    let mut counted = None;
     if let (Some(share), Some(watcher)) = (shares.pop(), watchers.pop()) {
         let mut turns = Turns {
             rt,
@@ -169,12 +172,18 @@ fn share_under_name<N: Naming, R: Wait>(
             untold: 0,
         };
         turns.play(alloc, watch);
-        let accepted = turns.accepted;
-        let Turns { session, .. } = turns;
+        let Turns {
+            rt: _,
+            session,
+            watcher: _,
+            accepted,
+            untold: _,
+        } = turns;
         let _ = shares.push(session.end());
-        watch.step();
-        watch.same(book_of(rt, shared, shares), Some(accepted));
+        counted = Some(accepted);
     }
+    watch.step();
+    watch.same(book_of(rt, shared, shares), counted);
     Ok(())
 }
 
