@@ -1,5 +1,5 @@
 -- A wait begins by a lock that is answered so, and by nothing else.
-use Rattle.std.specs.Prelude.{◌≡◌, ◌⊎◌, ℕ, ◌+◌, Bool, true, false, ◌&&◌, ◌||◌, ◌==◌, Option, Some, None, if◌then◌else◌}
+use Rattle.std.specs.Prelude.{◌≡◌, ◌⊎◌, ℕ, ◌+◌, false, ◌&&◌, ◌||◌, ◌==◌, Option, Some, None, if◌then◌else◌}
 use Rattle.std.specs.List.{filter}
 use Rattle.std.proofs.Common.{refl, sym, ap, subst, ◌∙◌, inl, inr, ⊎_elim}
 use mathlib.Core.Bool.{true≢false}
@@ -27,7 +27,7 @@ use Rattle.gl_catalog.specs.declared.command.Command.TheVariants as command
 use Rattle.gl_catalog.specs.Promises.{BeginsWaits, NobodyWaits}
 use Rattle.gl_catalog.specs.Step.{Accepts, Step, lock_answer}
 use Rattle.gl_catalog.proofs.EachStep.{each_step}
-use Rattle.gl_catalog.proofs.LivesOn.{GoesOn, LivesOn, freed_on, lives_on_same, lives_on_trans, over_goes_on, pumped_goes_on, settled_goes_on, unless_on, wait_settles_goes_on, woken_on}
+use Rattle.gl_catalog.proofs.LivesOn.{GoesOn, freed_on, over_goes_on, pumped_goes_on, settled_goes_on, unless_on, wait_settles_goes_on, woken_on}
 
 -- after the step, t waits on n for m
 module _ (s : State) (t : ℕ) (n : NodeId) (m : Mode) (a : Answer) where

@@ -1,16 +1,14 @@
 -- A table where nobody waits, and its board.
-use Rattle.std.specs.Prelude.{◌≡◌, ◌||◌, ℕ, Bool, true, false, List, ◌∷◌, [], ◌++◌, Option, Some, None, ◌<◌, length, not, ◌==◌}
-use Rattle.std.specs.List.{list_any}
+use Rattle.std.specs.Prelude.{◌≡◌, ◌||◌, ℕ, Bool, true, false, List, ◌∷◌, [], ◌++◌, Option, Some, None}
 use Rattle.std.proofs.Common.{refl, sym, ap, subst, ◌∙◌}
 use mathlib.Core.Bool.{true≢false}
 use Rattle.gl_waits.specs.declared.board.Board.{Board}
-use Rattle.gl_waits.specs.Boards.{board_edge}
 use Rattle.gl_table.specs.declared.txn.Status.{Status}
 use Rattle.gl_table.specs.declared.txn.Status.TheVariants.{Active, Waiting, Condemned}
 use Rattle.gl_table.specs.BoardOf.{board_of}
 use Rattle.gl_table.specs.State.{State, status_of}
 use Rattle.gl_table.specs.Tellings.{Told}
-use Rattle.gl_table.specs.Waiting.{is_wait, waits_for}
+use Rattle.gl_table.specs.Waiting.{is_wait}
 use Rattle.gl_table.proofs.Chains.{waits_for_one}
 use Rattle.gl_catalog.specs.declared.command.Answer.{Answer}
 use Rattle.gl_catalog.specs.declared.command.Command.{Command}

@@ -1,4 +1,4 @@
-use Rattle.std.proofs.Common.{arith, ◌≡◌, ◌+◌, ◌<◌, ◌≤◌, ◌∙◌, true, false, ap, length, refl, subst, sym, List}
+use Rattle.std.proofs.Common.{arith, ◌≡◌, ◌∙◌, true, ap, length, refl, subst, sym, List}
 use Rattle.std.specs.List.{list_all}
 use Rattle.gl_catalog.specs.declared.command.Answer.{Answer}
 use Rattle.gl_catalog.specs.Manager.{state_of}
