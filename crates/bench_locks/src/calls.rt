@@ -2,8 +2,9 @@
 
 use crate::placing::placed;
 use gl_catalog::{Answer, Command, Manager};
-use gl_modes::{Mode, NodeId};
-use gl_table::{Locked, Notice, Table, Told, TxnId};
+use gl_modes::{Mode, NodeId, Refusal};
+use gl_table::{Detect, Locked, Notice, Table, Told, TxnId};
+use std::alloc::Global;
 
 /// The key of the record.
 pub(crate) const KEY: u64 = 50;
@@ -11,7 +12,7 @@ pub(crate) const KEY: u64 = 50;
 /// The bound between the two intervals of the index.
 const BOUND: u64 = 100;
 
-/// What a round asks for. What is refused is answered by a name that names nothing.
+/// What is asked for. What is refused is answered by a name that names nothing.
 pub(crate) trait Calls {
     fn new_root(&mut self) -> NodeId;
 
@@ -25,10 +26,10 @@ pub(crate) trait Calls {
 
     fn start(&mut self) -> TxnId;
 
-    /// How many locks are granted by it.
+    /// How many locks are granted by it, to the asker or to another.
     fn ask(&mut self, txn: TxnId, node: NodeId, mode: Mode) -> u64;
 
-    /// How many locks are granted by it.
+    /// How many locks are granted by it, each to another.
     fn finish(&mut self, txn: TxnId) -> u64;
 }
 
@@ -73,8 +74,8 @@ impl Server for Manager {
 /// A manager, and one told list for all commands.
 #[derive(Drop)]
 pub(crate) struct OneList {
-    pub(crate) manager: Manager,
-    pub(crate) told: Told,
+    manager: Manager,
+    told: Told,
 }
 
 impl Server for OneList {
@@ -92,7 +93,26 @@ impl Server for OneList {
 /// Commands, through who answers them.
 #[derive(Drop)]
 pub(crate) struct Commands<S> {
-    pub(crate) server: S,
+    server: S,
+}
+
+/// A table of the largest size, on which deadlocks are found at block.
+pub(crate) fn made_table(alloc: Global) -> Result<Table, Refusal> {
+    Table::new(alloc, Detect::AtBlock, 128)
+}
+
+/// A manager of such a table, with a reply for each command.
+pub(crate) fn with_replies(alloc: Global) -> Result<Commands<Manager>, Refusal> {
+    let server = Manager::new(alloc, Detect::AtBlock, 128)?;
+    Ok(Commands { server })
+}
+
+/// A manager of such a table, with one told list for all commands.
+pub(crate) fn with_one_list(alloc: Global) -> Result<Commands<OneList>, Refusal> {
+    let manager = Manager::new(alloc, Detect::AtBlock, 128)?;
+    let told = Told::new();
+    let server = OneList { manager, told };
+    Ok(Commands { server })
 }
 
 impl<S: Server> Calls for Commands<S> {

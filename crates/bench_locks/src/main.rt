@@ -1,80 +1,126 @@
-//! How long a short transaction takes: begin, IX on a root, a file, an index and an interval, X on a
-//! record of the interval, commit. Run with a number of rounds, it prints on standard error what one
-//! round takes by the table's own calls and by commands through the manager, alone and beside 100
-//! others; run without, it prints nothing.
+//! What locks cost. Run with a number of rounds, one of the words below and a number, it prints on
+//! standard error what one round of that part takes; run without, it prints nothing.
 #![tactic(auto)]
 
 mod calls;
+mod clock;
+mod conversions;
 mod placing;
 mod rounds;
+mod waits;
 
-use crate::calls::{Calls, Commands, OneList};
-use crate::rounds::{Way, crowd, made_way, round};
-use gl_catalog::Manager;
-use gl_table::{Detect, Table, Told};
-use std::time::Instant;
+use crate::calls::{made_table, with_one_list, with_replies};
+use crate::conversions::{Committer, time_releases};
+use crate::rounds::{Crowd, time_rounds};
+use crate::waits::time_waits;
 use std::{env, io};
 
-/// The first word after the program's name, as a number; 0 where it is none.
-fn rounds_asked(rt: &HostRuntime) -> io::Result<u64> {
-    let mut rounds = 0;
+/// Whose calls a round makes.
+#[derive(Clone, Copy)]
+enum Entry {
+    /// The table's own, each with a told list.
+    Table,
+    /// Commands, with a reply for each.
+    Replies,
+    /// Commands, with one told list for all.
+    OneList,
+}
+
+/// What is to be measured.
+#[derive(Clone, Copy)]
+enum Part {
+    /// Rounds of seven calls.
+    Rounds(Entry),
+    /// Locks that wait, each with the commit that grants it.
+    Waits,
+    /// A release where conversions wait.
+    Releases(Committer),
+}
+
+/// The part that a word names.
+fn part_named(word: &str) -> Option<Part> {
+    Some(match word {
+        "table" => Part::Rounds(Entry::Table),
+        "replies" => Part::Rounds(Entry::Replies),
+        "one-list" => Part::Rounds(Entry::OneList),
+        "waits" => Part::Waits,
+        "conversions" => Part::Releases(Committer::Nobody),
+        "release" => Part::Releases(Committer::Holder),
+        "release-after" => Part::Releases(Committer::Writer),
+        _ => return None,
+    })
+}
+
+/// What the program's words ask for: rounds, of which part, and of how many others or conversions;
+/// and whether the others are elsewhere.
+#[derive(Clone, Copy)]
+struct Asked {
+    rounds: u64,
+    part: Option<Part>,
+    number: u8,
+    elsewhere: bool,
+}
+
+fn read_words(rt: &HostRuntime) -> io::Result<Asked> {
+    let mut asked = Asked {
+        rounds: 0,
+        part: None,
+        number: 0,
+        elsewhere: false,
+    };
     for (place, word) in env::args(rt)?.enumerate() {
-        if place == 1 {
-            rounds = word.as_str().parse().unwrap_or(0);
+        match place {
+            1 => asked.rounds = word.as_str().parse().unwrap_or(0),
+            2 => asked.part = part_named(word.as_str()),
+            3 => {
+                asked.number = word.as_str().parse().unwrap_or(0);
+                asked.elsewhere = word.as_str() == "elsewhere";
+            }
+            _ => {}
         }
     }
-    Ok(rounds)
+    Ok(asked)
 }
 
-/// Prints what one round takes.
-fn time<C: Calls>(
-    rt: &HostRuntime,
-    name: &str,
-    about: &str,
-    calls: &mut C,
-    way: &Way,
-    rounds: u64,
-) -> io::Result<()> {
-    let mut granted = 0u64;
-    let start = Instant::now(rt)?;
-    for _ in 0..rounds {
-        granted = granted.wrapping_add(round(calls, way));
+/// Rounds on a table of their own, by the calls of this entry.
+fn measure_rounds(rt: &HostRuntime, entry: Entry, crowd: Crowd, rounds: u64) -> io::Result<()> {
+    match entry {
+        Entry::Table => match made_table(rt.alloc()) {
+            Ok(mut table) => time_rounds(rt, &mut table, crowd, rounds),
+            Err(_) => Ok(()),
+        },
+        Entry::Replies => match with_replies(rt.alloc()) {
+            Ok(mut commands) => time_rounds(rt, &mut commands, crowd, rounds),
+            Err(_) => Ok(()),
+        },
+        Entry::OneList => match with_one_list(rt.alloc()) {
+            Ok(mut commands) => time_rounds(rt, &mut commands, crowd, rounds),
+            Err(_) => Ok(()),
+        },
     }
-    let elapsed = start.elapsed(rt)?.as_nanos();
-    if rounds > 0 {
-        eprintln!(rt;
-            "{name}, {about}: {} ns a round, {granted} locks granted",
-            elapsed / u128::from(rounds)
-        )?;
-    }
-    Ok(())
 }
 
-/// Prints what one round takes with nobody else about, and beside 100 others.
-fn time_both<C: Calls>(rt: &HostRuntime, name: &str, calls: &mut C, rounds: u64) -> io::Result<()> {
-    let way = made_way(calls);
-    time(rt, name, "alone", calls, &way, rounds)?;
-    crowd(calls);
-    time(rt, name, "beside 100 others", calls, &way, rounds)
+/// Locks that wait, on a table of their own.
+fn measure_waits(rt: &HostRuntime, rounds: u64) -> io::Result<()> {
+    match with_one_list(rt.alloc()) {
+        Ok(mut commands) => time_waits(rt, &mut commands, rounds),
+        Err(_) => Ok(()),
+    }
 }
 
 fn main(rt: HostRuntime) -> io::Result<()> {
-    let rounds = rounds_asked(&rt)?;
-    if let Ok(mut table) = Table::new(rt.alloc(), Detect::AtBlock, 128) {
-        time_both(&rt, "table", &mut table, rounds)?;
+    let asked = read_words(&rt)?;
+    let crowd = if asked.elsewhere {
+        Crowd::Elsewhere
+    } else {
+        Crowd::OnTheWay(asked.number)
+    };
+    match asked.part {
+        Some(Part::Rounds(entry)) => measure_rounds(&rt, entry, crowd, asked.rounds),
+        Some(Part::Waits) => measure_waits(&rt, asked.rounds),
+        Some(Part::Releases(committer)) => {
+            time_releases(&rt, asked.number, committer, asked.rounds)
+        }
+        None => Ok(()),
     }
-    if let Ok(server) = Manager::new(rt.alloc(), Detect::AtBlock, 128) {
-        time_both(&rt, "apply", &mut Commands { server }, rounds)?;
-    }
-    if let Ok(manager) = Manager::new(rt.alloc(), Detect::AtBlock, 128) {
-        let told = Told::new();
-        let server = OneList { manager, told };
-        time_both(
-            &rt,
-            "apply, one told list",
-            &mut Commands { server },
-            rounds,
-        )?;
-    }
-    Ok(())
 }

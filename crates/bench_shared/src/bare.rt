@@ -3,10 +3,6 @@
 use gl_catalog::{Answer, Command, Manager};
 use gl_modes::{Mode, NodeId};
 use gl_table::{Told, TxnId};
-use std::io;
-use std::io::Eprint;
-use std::rt::Clock;
-use std::time::Instant;
 
 /// The nodes that a round locks, from the root down to the record.
 #[derive(Clone, Copy)]
@@ -121,43 +117,21 @@ fn round(manager: &mut Manager, told: &mut Told, way: &Way) -> u64 {
     count
 }
 
-/// Prints the mean since then.
-pub(crate) fn each<R: Clock + Eprint>(
-    rt: &R,
-    name: &str,
-    start: Instant,
-    times: u64,
-) -> io::Result<()> {
-    let elapsed = start.elapsed(rt)?.as_nanos();
-    if times > 0 {
-        eprintln!(rt; "{name}: {} ns", elapsed / u128::from(times))?;
-    }
-    Ok(())
-}
-
-/// What a command and a board take through the manager alone.
-pub(crate) fn time_bare<R: Clock + Eprint>(
-    rt: &R,
-    manager: &mut Manager,
-    told: &mut Told,
-    way: &Way,
-    rounds: u64,
-) -> io::Result<()> {
+/// Rounds through the manager alone. Answers how many locks were granted.
+pub(crate) fn rounds_alone(manager: &mut Manager, told: &mut Told, way: &Way, rounds: u64) -> u64 {
     let mut count = 0u64;
-    let start = Instant::now(rt)?;
     for _ in 0..rounds {
         count = count.wrapping_add(round(manager, told, way));
     }
-    each(rt, "seven commands, apply_telling", start, rounds)?;
-    let mut waits = 0u128;
-    let start = Instant::now(rt)?;
+    count
+}
+
+/// Boards of the manager, none of them published.
+pub(crate) fn boards(manager: &Manager, rounds: u64) -> u64 {
+    let mut count = 0u64;
     for _ in 0..rounds {
         let board = manager.board();
-        waits |= board.rows[5] | u128::from(board.ages[7]);
+        count = count.wrapping_add(board.ages[7]).wrapping_add(board.epoch);
     }
-    each(rt, "board", start, rounds)?;
-    if rounds > 0 {
-        eprintln!(rt; "granted {count}, seen {waits}")?;
-    }
-    Ok(())
+    count
 }

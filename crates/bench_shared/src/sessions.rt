@@ -1,40 +1,34 @@
-//! The round through a session.
+//! The round through a session, and what else sessions and watchers do.
 
 ghost use Rattle.std.specs.Prelude.{◌≡◌};
 ghost use Rattle.gl_table.specs.BoardOf.{board_of};
 ghost use Rattle.gl_catalog.specs.Manager.{state_of};
 
-use crate::bare::{Way, each, granted, txn_of};
+use crate::bare::{Way, granted, txn_of};
+use crate::clock::print_since;
 use gl_catalog::{Answer, Command};
-use gl_modes::Mode;
+use gl_modes::{Mode, NodeId};
 use gl_shared::{Naming, NotAll, Parts, Session, Share, Shared, Watcher, gather};
-use gl_table::Told;
+use gl_table::{Told, TxnId};
 use std::alloc::Global;
-use std::io;
 use std::io::Eprint;
 use std::rt::Clock;
 use std::sync::Wait;
 use std::time::Instant;
 
-fn round<N: Naming, R: Wait>(rt: &R, session: &mut Session<'_, N>, way: &Way) -> u64 {
-    let txn = txn_of(session.ask(rt, Command::Begin).answer);
-    let mut count = 0u64;
-    for node in way.above {
-        let ask = Command::Lock {
-            txn,
-            node,
-            mode: Mode::IX,
-        };
-        count = count.wrapping_add(granted(session.ask(rt, ask).answer));
-    }
-    let ask = Command::Lock {
-        txn,
-        node: way.rec,
-        mode: Mode::X,
-    };
-    count = count.wrapping_add(granted(session.ask(rt, ask).answer));
-    session.ask(rt, Command::Commit { txn });
-    count
+/// What is done so many times.
+#[derive(Clone, Copy)]
+pub(crate) enum Work {
+    /// Rounds, each command by `ask_telling`.
+    Rounds,
+    /// Rounds, each command by `ask`.
+    Replies,
+    /// Rounds of a begin and a list of the six others, by `ask_all`.
+    Lists,
+    /// Queries: the latch, and what the manager answers without a change.
+    Queries,
+    Notes,
+    Looks,
 }
 
 fn serve<N: Naming, R: Wait>(
@@ -47,7 +41,25 @@ fn serve<N: Naming, R: Wait>(
     session.ask_telling(rt, command, told)
 }
 
-fn round_telling<N: Naming, R: Wait>(
+/// The five locks of a round and its commit.
+fn steps(txn: TxnId, way: &Way) -> [Command<'static>; 6] {
+    let [root, file, index, interval] = way.above;
+    [
+        lock(txn, root, Mode::IX),
+        lock(txn, file, Mode::IX),
+        lock(txn, index, Mode::IX),
+        lock(txn, interval, Mode::IX),
+        lock(txn, way.rec, Mode::X),
+        Command::Commit { txn },
+    ]
+}
+
+fn lock(txn: TxnId, node: NodeId, mode: Mode) -> Command<'static> {
+    Command::Lock { txn, node, mode }
+}
+
+/// One round with one told list. Answers how many locks were granted.
+pub(crate) fn round<N: Naming, R: Wait>(
     rt: &R,
     session: &mut Session<'_, N>,
     told: &mut Told,
@@ -55,119 +67,98 @@ fn round_telling<N: Naming, R: Wait>(
 ) -> u64 {
     let txn = txn_of(serve(rt, session, told, Command::Begin));
     let mut count = 0u64;
-    for node in way.above {
-        let ask = Command::Lock {
-            txn,
-            node,
-            mode: Mode::IX,
-        };
-        count = count.wrapping_add(granted(serve(rt, session, told, ask)));
+    for command in steps(txn, way) {
+        count = count.wrapping_add(granted(serve(rt, session, told, command)));
     }
-    let ask = Command::Lock {
-        txn,
-        node: way.rec,
-        mode: Mode::X,
-    };
-    count = count.wrapping_add(granted(serve(rt, session, told, ask)));
-    serve(rt, session, told, Command::Commit { txn });
     count
 }
 
-pub(crate) fn time_telling<N: Naming, R: Wait + Clock + Eprint>(
+fn round_replies<N: Naming, R: Wait>(rt: &R, session: &mut Session<'_, N>, way: &Way) -> u64 {
+    let txn = txn_of(session.ask(rt, Command::Begin).answer);
+    let mut count = 0u64;
+    for command in steps(txn, way) {
+        count = count.wrapping_add(granted(session.ask(rt, command).answer));
+    }
+    count
+}
+
+fn round_list<N: Naming, R: Wait>(
     rt: &R,
+    alloc: Global,
     session: &mut Session<'_, N>,
+    told: &mut Told,
     way: &Way,
+) -> u64 {
+    let txn = txn_of(serve(rt, session, told, Command::Begin));
+    match session.ask_all(rt, alloc, &steps(txn, way)) {
+        Ok(answers) => answers.len() as u64,
+        Err(_) => 0,
+    }
+}
+
+fn look<N: Naming>(watcher: &mut Watcher<N>) -> u64 {
+    match watcher.look() {
+        Some(board) => board.epoch,
+        None => 0,
+    }
+}
+
+/// Does the work, and answers a number that depends on all of it.
+fn work_on<N: Naming, R: Wait>(
+    rt: &R,
+    alloc: Global,
+    session: &mut Session<'_, N>,
+    watcher: &mut Watcher<N>,
+    way: &Way,
+    work: Work,
     rounds: u64,
-) -> io::Result<()> {
+) -> u64 {
     let mut told = Told::new();
     let mut count = 0u64;
-    let start = Instant::now(rt)?;
     for _ in 0..rounds {
-        count = count.wrapping_add(round_telling(rt, session, &mut told, way));
+        let more = match work {
+            Work::Rounds => round(rt, session, &mut told, way),
+            Work::Replies => round_replies(rt, session, way),
+            Work::Lists => round_list(rt, alloc, session, &mut told, way),
+            Work::Queries => {
+                serve(rt, session, &mut told, Command::Group { node: way.rec });
+                1
+            }
+            Work::Notes => session.note(rt).epoch(),
+            Work::Looks => look(watcher),
+        };
+        count = count.wrapping_add(more);
     }
-    each(rt, "seven commands, ask_telling", start, rounds)?;
-    let start = Instant::now(rt)?;
-    for _ in 0..rounds {
-        serve(rt, session, &mut told, Command::Group { node: way.rec });
-    }
-    each(rt, "a query, ask_telling", start, rounds)?;
-    if rounds > 0 {
-        eprintln!(rt; "granted {count}")?;
-    }
-    Ok(())
+    count
 }
 
-fn time_asked<N: Naming, R: Wait + Clock + Eprint>(
+/// Prints what one piece of work takes in a session.
+pub(crate) fn time_work<N: Naming, R: Wait + Clock + Eprint>(
     rt: &R,
-    session: &mut Session<'_, N>,
-    way: &Way,
-    rounds: u64,
-) -> io::Result<()> {
-    let mut count = 0u64;
-    let start = Instant::now(rt)?;
-    for _ in 0..rounds {
-        count = count.wrapping_add(round(rt, session, way));
-    }
-    each(rt, "seven commands, ask", start, rounds)?;
-    let start = Instant::now(rt)?;
-    for _ in 0..rounds {
-        session.ask(rt, Command::Group { node: way.rec });
-    }
-    each(rt, "a query, ask", start, rounds)?;
-    let start = Instant::now(rt)?;
-    for _ in 0..rounds {
-        let note = session.note(rt);
-        count = count.wrapping_add(note.epoch());
-    }
-    each(rt, "note", start, rounds)?;
-    if rounds > 0 {
-        eprintln!(rt; "counted {count}")?;
-    }
-    Ok(())
-}
-
-fn time_looks<N: Naming, R: Clock + Eprint>(
-    rt: &R,
-    watcher: &mut Watcher<N>,
-    rounds: u64,
-) -> io::Result<()> {
-    let mut epochs = 0u64;
-    let start = Instant::now(rt)?;
-    for _ in 0..rounds {
-        if let Some(board) = watcher.look() {
-            epochs = epochs.wrapping_add(board.epoch);
-        }
-    }
-    each(rt, "look", start, rounds)?;
-    if rounds > 0 {
-        eprintln!(rt; "epochs {epochs}")?;
-    }
-    Ok(())
-}
-
-fn times<N: Naming, R: Wait + Clock + Eprint>(
-    rt: &R,
+    alloc: Global,
     table: &Shared<N>,
     share: Share<N>,
     watcher: &mut Watcher<N>,
     way: &Way,
+    work: Work,
     rounds: u64,
 ) -> Share<N> {
     let mut session = Session::new(table, share);
-    let _ = time_asked(rt, &mut session, way, rounds);
-    let _ = time_telling(rt, &mut session, way, rounds);
-    let _ = time_looks(rt, watcher, rounds);
+    let start = Instant::now(rt);
+    let count = work_on(rt, alloc, &mut session, watcher, way, work, rounds);
+    print_since(rt, start, rounds, count);
     session.end()
 }
 
-/// Prints what is measured with these parts.
-pub(crate) fn run_times<N: Naming, R: Wait + Clock + Eprint>(
+/// The same over these parts.
+pub(crate) fn run_work<N: Naming, R: Wait + Clock + Eprint>(
     rt: &R,
     alloc: Global,
     parts: Parts,
     way: &Way,
+    work: Work,
     rounds: u64,
-) -> io::Result<()>
+)
     requires whole { N.shares ≡ N.parts }
     requires name { parts.blank.name ≡ N.name }
     requires parts { parts.blank.parts ≡ N.parts }
@@ -176,15 +167,14 @@ pub(crate) fn run_times<N: Naming, R: Wait + Clock + Eprint>(
     requires book { (parts.line.book ≡ N.book) × (board_of (state_of parts.manager) ≡ N.first) }
 {
     let Ok((shared, mut shares, mut watchers)) = Shared::<N>::new(rt, alloc, parts) else {
-        return Ok(());
+        return;
     };
     if let (Some(mut watcher), Some(share)) = (watchers.pop(), shares.pop()) {
-        let share = times(rt, &shared, share, &mut watcher, way, rounds);
+        let share = time_work(rt, alloc, &shared, share, &mut watcher, way, work, rounds);
         let _ = shares.push(share);
     }
     match gather(rt, shared, shares) {
         Ok(_closed) => {}
         Err(NotAll { shared, shares: _ }) => shared.abandon(rt),
     }
-    Ok(())
 }

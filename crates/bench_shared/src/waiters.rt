@@ -5,7 +5,7 @@ ghost use Rattle.gl_table.specs.BoardOf.{board_of};
 ghost use Rattle.gl_catalog.specs.Manager.{state_of};
 
 use crate::bare::{Way, txn_of};
-use crate::sessions::time_telling;
+use crate::sessions::{Work, time_work};
 use gl_catalog::Command;
 use gl_modes::{Mode, NodeId};
 use gl_shared::{Naming, NotAll, Parts, Session, Share, Shared, Watcher, gather};
@@ -17,6 +17,9 @@ use std::rt::Clock;
 use std::sync::Wait;
 use std::thread;
 use std::thread::{Threads, join};
+
+/// How many wait: all who may live, but for who holds the root and who goes on elsewhere.
+pub(crate) const WAITERS: u64 = 126;
 
 /// Waits for the root, and gives it up.
 fn wait_once<N: Naming, R: Wait>(
@@ -45,6 +48,7 @@ fn waiting(board: &Board) -> u64 {
 /// Once so many wait, its rounds, and then the end of what they wait for.
 fn drive<N: Naming, R: Wait + Clock + Eprint>(
     rt: &R,
+    alloc: Global,
     table: &Shared<N>,
     share: Share<N>,
     watcher: &mut Watcher<N>,
@@ -54,17 +58,17 @@ fn drive<N: Naming, R: Wait + Clock + Eprint>(
 ) -> Share<N> {
     for _ in 0..100000000u64 {
         match watcher.look() {
-            Some(board) if waiting(&board) >= 64 => break,
+            Some(board) if waiting(&board) >= WAITERS => break,
             _ => {}
         }
     }
+    let share = time_work(rt, alloc, table, share, watcher, way, Work::Rounds, rounds);
     let mut session = Session::new(table, share);
-    let _ = time_telling(rt, &mut session, way, rounds);
     session.ask(rt, Command::Commit { txn: holder });
     session.end()
 }
 
-/// Prints what is measured while 64 sessions wait.
+/// Prints what is measured while the sessions wait.
 pub(crate) fn run_waiters<N: Naming + Send + Sync, R: Threads + Wait + Clock + Eprint + Sync>(
     rt: &R,
     alloc: Global,
@@ -96,7 +100,7 @@ pub(crate) fn run_waiters<N: Naming + Send + Sync, R: Threads + Wait + Clock + E
                     &|share: Share<N>| -> Share<N> { wait_once(rt, table, share, held.0) },
                 )
             },
-            move || drive(rt, table, driver, looking, way, held.1, rounds),
+            move || drive(rt, alloc, table, driver, looking, way, held.1, rounds),
         );
         if let Ok(waited) = waited {
             back = waited;

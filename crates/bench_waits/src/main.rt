@@ -4,8 +4,8 @@
 
 mod boards;
 
-use boards::{Shape, board_of};
-use gl_waits::{Board, on_cycle, suspects};
+use boards::{OneWaiter, Shape, board_of};
+use gl_waits::{Board, freeing_victim, on_cycle, on_cycle_in, suspects, youngest};
 use std::time::Instant;
 use std::{env, io};
 
@@ -14,13 +14,31 @@ use std::{env, io};
 enum Reading {
     Suspects,
     CycleOfFirst,
+    VictimOfFirst,
+    OnDemand,
+    FreeingFirst,
 }
 
+/// What is read of a board. `OnDemand` reads none: slot 0 waits alone, for another slot at each turn.
 fn read(board: &Board, reading: Reading) -> u128 {
     match reading {
         Reading::Suspects => suspects(board),
         Reading::CycleOfFirst => on_cycle(board, 0),
+        Reading::VictimOfFirst => number_of(youngest(board, on_cycle(board, 0))),
+        Reading::OnDemand => {
+            let waits = OneWaiter {
+                slot: 0,
+                row: 2 << (board.epoch % 64),
+            };
+            on_cycle_in(&waits, 0)
+        }
+        Reading::FreeingFirst => number_of(freeing_victim(board, &board.ages, 0)),
     }
+}
+
+/// The slot that was chosen, and 128 where none was.
+fn number_of(victim: Option<usize>) -> u128 {
+    victim.map_or(128, |slot| slot as u128)
 }
 
 /// Prints what one turn takes, and what the turns read, so that none can be left out.
@@ -57,7 +75,7 @@ fn turns_asked(rt: &HostRuntime) -> io::Result<u64> {
 }
 
 /// What is timed, in the order in which it is printed.
-const TIMED: [(&str, Shape, Reading); 8] = [
+const TIMED: [(&str, Shape, Reading); 14] = [
     ("suspects, nobody waits", Shape::Idle, Reading::Suspects),
     (
         "on_cycle, a chain of 128",
@@ -73,6 +91,32 @@ const TIMED: [(&str, Shape, Reading); 8] = [
         "on_cycle, a closed queue of 128",
         Shape::ClosedQueue,
         Reading::CycleOfFirst,
+    ),
+    (
+        "on_cycle and youngest, a ring of 128",
+        Shape::Ring,
+        Reading::VictimOfFirst,
+    ),
+    (
+        "on_cycle and youngest, a closed queue of 128",
+        Shape::ClosedQueue,
+        Reading::VictimOfFirst,
+    ),
+    ("on_cycle_in, one waiter", Shape::Idle, Reading::OnDemand),
+    (
+        "freeing_victim, a ring of 128",
+        Shape::Ring,
+        Reading::FreeingFirst,
+    ),
+    (
+        "freeing_victim, a closed queue of 128",
+        Shape::ClosedQueue,
+        Reading::FreeingFirst,
+    ),
+    (
+        "freeing_victim, two rings of 64 and 65",
+        Shape::TwoRings,
+        Reading::FreeingFirst,
     ),
     ("suspects, a chain of 128", Shape::Chain, Reading::Suspects),
     ("suspects, a ring of 128", Shape::Ring, Reading::Suspects),

@@ -1,83 +1,233 @@
--- The supremum of a list's modes, and how long a list can be.
-use Rattle.std.proofs.Common.{◌≡◌, ℕ, ◌+◌, ◌<◌, ◌≤◌, true, false, cond, ◌||◌, List, [], ◌∷◌, length, refl, sym, ap, ◌∙◌, arith, map, ltb}
+-- A granted group, in the words of members: its parts, what fits beside it, its supremum, and what a grant leaves.
+use Rattle.std.proofs.Common.{◌≡◌, ◌≢◌, ℕ, ◌<◌, ◌≤◌, Bool, true, false, cond, ◌&&◌, ◌||◌, not, refl, sym, ap, ap₂, ◌∙◌, arith}
 use Rattle.std.specs.Prelude.{◌==◌}
-use Rattle.std.specs.List.{list_any, list_all, IsDistinct, AllByRecursion}
-use Rattle.std.proofs.lemmas.Map.Steps.{length-le_from_distinct_below}
+use Rattle.std.proofs.Common.{inl, inr}
+use Rattle.std.proofs.Math.Path.{fun_ext}
 use Rattle.std.proofs.lemmas.Bool.Decides.{nat_tests}
 use Rattle.gl_modes.specs.declared.mode.Mode.{Mode}
-use Rattle.gl_modes.specs.declared.mode.Mode.TheVariants.{NL}
-use Rattle.gl_modes.specs.Modes.{are_compatible, supremum, is_at_least}
-use Rattle.gl_modes.proofs.ModeLemmas.{
-  supremum-tested,
-  supremum-associative,
-  supremum-NL,
-  supremum-raised,
-  NL-compatible,
-  not_NL,
-}
-use Rattle.gl_header.specs.Header.{Waiter, is_among_waiters, is_empty}
-use Rattle.gl_header.specs.Entries.{mode_at, fits_beside, supremum_of, with_grant}
-use Rattle.gl_header.specs.Sound.{is_distinct, is_entry}
-use Rattle.gl_header.proofs.Lists.{length-with_grant}
+use Rattle.gl_modes.specs.declared.mode.Mode.TheVariants.{NL, IS}
+use Rattle.gl_modes.specs.Modes.{are_compatible, supremum, is_at_least, same_mode}
+use Rattle.gl_modes.proofs.Each.{every-true, every2-true, implies, implied}
+use Rattle.gl_modes.proofs.ModeLemmas.{NL-compatible, not_NL, same_mode-equal, supremum-above, supremum-above_right, supremum-least}
+use Rattle.gl_slots.specs.declared.slots.Slots.{Slots}
+use Rattle.gl_slots.specs.Slots.{HasNoSlot, has_none, has_slot}
+use Rattle.gl_slots.proofs.SlotLemmas.{none-test, test-none}
+use Rattle.gl_header.specs.declared.group.Group.{Group}
+use Rattle.gl_header.specs.Groups.{GoesBeside, HoldsTwoModes, IsGroup, group_mode, held_by}
+use Rattle.gl_header.specs.Header.{Members, IsWithin, fits, group_of, holds, with_mode}
+use Rattle.gl_header.specs.State.{slot_limit, nobody_holds}
+use Rattle.gl_header.proofs.Ranges.{by_test, not_true, range-from_each}
+use Rattle.gl_header.proofs.Fits.{fits-all, fits-from_all, within-more, slot_limit-is}
+use Rattle.gl_header.proofs.GroupOf.{at_least-NL, group_of-unique}
+use Rattle.gl_header.proofs.Unused.{nobody_holds-all}
 
--- a raised mode raises the supremum
-pub supremum_of-with_grant : (es : List Waiter) (s : ℕ) (m : Mode) → is_at_least m (mode_at es s) ≡ true → supremum_of (with_grant es s m) ≡ supremum (supremum_of es) m
-supremum_of-with_grant [] s m h = supremum-NL m
-supremum_of-with_grant (e ∷ es) s m h =
-    elim (e.0 == s) as (λ b. is_at_least m (cond b e.1 (mode_at es s)) ≡ true → supremum_of (cond b ((s, m) ∷ es) (e ∷ with_grant es s m)) ≡ supremum (supremum e.1 (supremum_of es)) m) [
-      | true ↦ λ k. supremum-raised m e.1 (supremum_of es) k
-      | false ↦ λ k. ap (supremum e.1) (supremum_of-with_grant es s m k) ∙ sym (supremum-associative e.1 (supremum_of es) m)
-    ] h
+clash : (b : Bool) → b ≡ true → b ≡ false → ⊥
+clash true h k = cc
+clash false h k = cc
 
--- for a newcomer one test against the group is a test against each member
-pub fits_beside-group : (es : List Waiter) (s : ℕ) (m : Mode) → is_among_waiters s es ≡ false → fits_beside es s m ≡ are_compatible m (supremum_of es)
-fits_beside-group [] s m h = sym (NL-compatible m)
-fits_beside-group (e ∷ es) s m h = grind (arith, fits_beside-group es s m, supremum-tested m e.1 (supremum_of es))
+-- what a slot of each part holds
 
--- slots below 128, no two the same, are at most 128
+pub holder-mode : (g : Group) (u : ℕ) → has_slot g.holders u ≡ true → held_by g u ≡ g.mode
+holder-mode g u h = ap (λ b. cond b g.mode (cond (has_slot g.intents u) IS NL)) h
 
-slots : List Waiter → List ℕ
-slots es = map (λ e. e.0) es
+pub intent-mode : (g : Group) (u : ℕ) → has_slot g.holders u ≡ false → has_slot g.intents u ≡ true → held_by g u ≡ IS
+intent-mode g u h k =
+    ap₂ (λ a b. cond a g.mode (cond b IS NL)) h k
 
-absent : (es : List Waiter) (s : ℕ) → is_among_waiters s es ≡ false → AllByRecursion (λ y. (s == y) ≡ false) (slots es)
-unfolding slots
-absent [] s h = tt
-absent (e ∷ es) s h = (grind (arith, nat_tests), absent es s (grind arith))
+pub other-mode : (g : Group) (u : ℕ) → has_slot g.holders u ≡ false → has_slot g.intents u ≡ false → held_by g u ≡ NL
+other-mode g u h k =
+    ap₂ (λ a b. cond a g.mode (cond b IS NL)) h k
 
-distinct-slots : (es : List Waiter) → is_distinct es ≡ true → IsDistinct ◌==◌ (slots es)
-unfolding slots IsDistinct
-distinct-slots [] d = tt
-distinct-slots (e ∷ es) d = (absent es e.0 (grind arith), distinct-slots es (grind arith))
+-- who holds IS is no holder of the group's mode
+pub apart-other : (g : Group) (u : ℕ) → IsGroup g → has_slot g.intents u ≡ true → has_slot g.holders u ≡ false
+apart-other g u k h = not_true (has_slot g.holders u) (λ e. clash (has_slot g.intents u) h (k.apart u e))
 
-slot-below : (es : List Waiter) (s : ℕ) → list_all is_entry es ≡ true → list_any (λ y. s == y) (slots es) ≡ true → s < 128
-unfolding slots
-slot-below [] s v h = grind arith
-slot-below (e ∷ es) s v h = grind (arith, nat_tests, slot-below es s)
+-- a slot in one of three ways
+pub by_part : {C : Type 0} (g : Group) (u : ℕ) → (has_slot g.holders u ≡ true → held_by g u ≡ g.mode → C) → (has_slot g.intents u ≡ true → held_by g u ≡ IS → C) → (held_by g u ≡ NL → C) → C
+by_part g u a b c =
+    by_test (has_slot g.holders u)
+    (λ h. a h (holder-mode g u h))
+    (λ h. by_test (has_slot g.intents u) (λ k. b k (intent-mode g u h k)) (λ k. c (other-mode g u h k)))
 
-length-slots : (es : List Waiter) → length (slots es) ≡ length es
-unfolding slots
-length-slots [] = refl
-length-slots (e ∷ es) = grind (arith, length-slots es)
+-- who holds nothing stands in neither set
+pub no-holder : (g : Group) (u : ℕ) → IsGroup g → held_by g u ≡ NL → has_slot g.holders u ≡ false
+no-holder g u k n =
+    not_true (has_slot g.holders u) (λ h. clash (has_slot g.holders u) h (k.free (sym (holder-mode g u h) ∙ n) u))
 
-pub length-le_128 : (es : List Waiter) → is_distinct es ≡ true → list_all is_entry es ≡ true → length es ≤ 128
-length-le_128 es d v =
-    rw (← length-slots es) (length-le_from_distinct_below (slots es) 128 (distinct-slots es d) (λ q h. slot-below es q v h))
+pub no-intent : (g : Group) (u : ℕ) → IsGroup g → held_by g u ≡ NL → has_slot g.intents u ≡ false
+no-intent g u k n =
+    not_true (has_slot g.intents u) (λ h. differ (sym (intent-mode g u (apart-other g u k h) h) ∙ n))
+  where
+    differ : IS ≡ NL → ⊥
+    differ e = cc
 
--- a lock of a slot below 128
-pub is_entry-from : (s : ℕ) (m : Mode) → s < 128 → (m ≡ NL → ⊥) → is_entry (s, m) ≡ true
-is_entry-from s m b n = let k = not_NL m n in let t : ltb s 128 ≡ true = grind (arith, nat_tests) in grind arith
+pub within-group : (g : Group) → IsGroup g → IsWithin slot_limit (held_by g)
+within-group g k = within-more 128 slot_limit (held_by g) (rw slot_limit-is (omega arith)) (λ u le. other-mode g u (k.holders_below u le) (k.intents_below u le))
 
-pub empty-length : (q : List Waiter) → is_empty q ≡ (length q == 0)
-empty-length [] = refl
-empty-length (w ∷ ws) = grind arith
+-- beside IS one mode at most is held
+pub two-modes : (g : Group) → HoldsTwoModes (held_by g)
+two-modes g = (g.mode, λ t. by_part g t (λ h e. inr (inr e)) (λ h e. inr (inl e)) (λ e. inl e))
 
--- room for the later grants of all who wait is kept by a grant at once
-pub room-with_grant : (ms q : List Waiter) (s : ℕ) (m : Mode) (ms' : List Waiter) (room room' : ℕ) → ms' ≡ with_grant ms s m → (is_among_waiters s ms || is_empty q) ≡ true → length ms + length q ≤ room → room ≤ room' → length ms' ≤ room' → length ms' + length q ≤ room'
-room-with_grant ms q s m ms' room room' e h r more fit =
-    let e1 = ap (length {A = Waiter}) e in
-    let e2 = length-with_grant ms s m in
-    let e3 = empty-length q in
-    elim (is_among_waiters s ms) as (λ b. length (with_grant ms s m) ≡ cond b (length ms) (length ms + 1) → (b || is_empty q) ≡ true → length ms' + length q ≤ room') [
-      | true ↦ λ k j. omega arith
-      | false ↦ λ k j. grind (arith, nat_tests)
-    ] e2 h
+-- the two sets have each member and nobody else
+pub listed : (g : Group) → IsGroup g → (t : ℕ) → (has_slot g.holders t || has_slot g.intents t) ≡ holds (held_by g) t
+listed g k t =
+    by_test (has_slot g.holders t)
+    (λ h. ap (λ b. b || has_slot g.intents t) h ∙ sym (ap (λ m. not (same_mode m NL)) (holder-mode g t h) ∙ ap not (not_NL g.mode (λ n. clash (has_slot g.holders t) h (k.free n t)))))
+    (λ h. by_test (has_slot g.intents t)
+    (λ i. ap₂ (λ a b. a || b) h i ∙ sym (ap (λ m. not (same_mode m NL)) (intent-mode g t h i)))
+    (λ i. ap₂ (λ a b. a || b) h i ∙ sym (ap (λ m. not (same_mode m NL)) (other-mode g t h i))))
+
+-- what fits beside all others
+
+pub fits-holders : (g : Group) (s : ℕ) (m : Mode) → IsGroup g → fits slot_limit (held_by g) s m ≡ true → GoesBeside g.holders g.mode s m
+fits-holders g s m k f =
+    λ u ne h. ap (are_compatible m) (sym (holder-mode g u h)) ∙ fits-all slot_limit (held_by g) s m (within-group g k) f u ne
+
+pub fits-intents : (g : Group) (s : ℕ) (m : Mode) → IsGroup g → fits slot_limit (held_by g) s m ≡ true → GoesBeside g.intents IS s m
+fits-intents g s m k f =
+    λ u ne h. ap (are_compatible m) (sym (intent-mode g u (apart-other g u k h) h)) ∙ fits-all slot_limit (held_by g) s m (within-group g k) f u ne
+
+pub fits-both : (g : Group) (s : ℕ) (m : Mode) → GoesBeside g.holders g.mode s m → GoesBeside g.intents IS s m → fits slot_limit (held_by g) s m ≡ true
+fits-both g s m a b =
+    fits-from_all slot_limit (held_by g) s m (λ u ne. by_part g u (λ h e. ap (are_compatible m) e ∙ a u ne h) (λ h e. ap (are_compatible m) e ∙ b u ne h) (λ e. ap (are_compatible m) e ∙ NL-compatible m))
+
+-- nobody holds
+
+pub nobody-both : (g : Group) → IsGroup g → nobody_holds slot_limit (held_by g) ≡ true → (u : ℕ) → (has_slot g.holders u || has_slot g.intents u) ≡ false
+nobody-both g k n u =
+    let e : held_by g u ≡ NL = nobody_holds-all slot_limit (held_by g) (within-group g k) n u in
+    ap₂ (λ a b. a || b) (no-holder g u k e) (no-intent g u k e)
+
+pub nobody-from_both : (g : Group) → ((u : ℕ) → (has_slot g.holders u || has_slot g.intents u) ≡ false) → nobody_holds slot_limit (held_by g) ≡ true
+nobody-from_both g n =
+    range-from_each (λ t. not (holds (held_by g) t)) 0 slot_limit (λ u l m. ap (λ x. not (not (same_mode x NL))) (other-mode g u (first _ _ (n u)) (second _ _ (n u))))
+  where
+    first : (a b : Bool) → (a || b) ≡ false → a ≡ false
+    first a b h = grind arith
+
+    second : (a b : Bool) → (a || b) ≡ false → b ≡ false
+    second a b h = grind arith
+
+-- the supremum of what is held
+
+at_least-IS : (m : Mode) → same_mode m NL ≡ false → is_at_least m IS ≡ true
+at_least-IS m h = by_test (same_mode m NL) (λ e. absurd (clash (same_mode m NL) e h)) (λ e. implied _ _ (every-true (λ x. implies (not (same_mode x NL)) (is_at_least x IS)) refl m) (ap not e))
+
+-- a mode that is the group's mode or greater, if anybody holds it
+least-main : (g : Group) (x : Mode) → IsGroup g → ((u : ℕ) → is_at_least x (held_by g u) ≡ true) → is_at_least x g.mode ≡ true
+least-main g x k h =
+    by_test (is_at_least x g.mode) (λ e. e)
+    (λ e.
+    let none : HasNoSlot g.holders = (λ u. not_true (has_slot g.holders u) (λ i. clash (is_at_least x g.mode) (ap (is_at_least x) (sym (holder-mode g u i)) ∙ h u) e)) in
+    ap (is_at_least x) (k.idle none) ∙ at_least-NL x)
+
+least-IS : (g : Group) (x : Mode) → IsGroup g → (HasNoSlot g.intents → ⊥) → ((u : ℕ) → is_at_least x (held_by g u) ≡ true) → is_at_least x IS ≡ true
+least-IS g x k some h =
+    by_test (is_at_least x IS) (λ e. e)
+    (λ e. absurd (some (λ u. not_true (has_slot g.intents u) (λ i. clash (is_at_least x IS) (ap (is_at_least x) (sym (intent-mode g u (apart-other g u k i) i)) ∙ h u) e))))
+
+refl-at_least : (m : Mode) → is_at_least m m ≡ true
+refl-at_least m = every-true (λ x. is_at_least x x) refl m
+
+pub supremum-main : (g : Group) → IsGroup g → HasNoSlot g.intents → g.mode ≡ group_of slot_limit (held_by g)
+supremum-main g k none =
+    group_of-unique slot_limit (held_by g) g.mode (within-group g k)
+    (λ u. by_part g u (λ h e. ap (is_at_least g.mode) e ∙ refl-at_least g.mode) (λ h e. absurd (clash (has_slot g.intents u) h (none u))) (λ e. ap (is_at_least g.mode) e ∙ at_least-NL g.mode))
+    (λ x h. least-main g x k h)
+
+pub supremum-both : (g : Group) → IsGroup g → (HasNoSlot g.intents → ⊥) → supremum g.mode IS ≡ group_of slot_limit (held_by g)
+supremum-both g k some =
+    group_of-unique slot_limit (held_by g) (supremum g.mode IS) (within-group g k)
+    (λ u. by_part g u (λ h e. ap (is_at_least (supremum g.mode IS)) e ∙ supremum-above g.mode IS) (λ h e. ap (is_at_least (supremum g.mode IS)) e ∙ supremum-above_right g.mode IS) (λ e. ap (is_at_least (supremum g.mode IS)) e ∙ at_least-NL (supremum g.mode IS)))
+    (λ x h. supremum-least x g.mode IS ∙ ap₂ (λ a b. a && b) (least-main g x k h) (least-IS g x k some h))
+
+-- the group mode is the supremum
+pub group_mode-is : (g : Group) → IsGroup g → group_mode g ≡ group_of slot_limit (held_by g)
+group_mode-is g k =
+    by_test (has_none g.intents)
+    (λ e. ap (λ b. cond b g.mode (supremum g.mode IS)) e ∙ supremum-main g k (test-none g.intents e))
+    (λ e. ap (λ b. cond b g.mode (supremum g.mode IS)) e ∙ supremum-both g k (λ none. clash (has_none g.intents) (none-test g.intents none) e))
+
+-- a grant to one who holds nothing: r is the group before it, old what was held before that slot's release
+
+-- j is the set i with s
+abbrev pub IsWithSlot : Slots → ℕ → Slots → Type 0
+IsWithSlot i s j = (u : ℕ) → has_slot j u ≡ (has_slot i u || (u == s))
+
+at-slot : (a b : Bool) (u s : ℕ) → b ≡ (a || (u == s)) → u ≡ s → b ≡ true
+at-slot a b u s h e = grind (arith, nat_tests)
+
+at-other : (a b : Bool) (u s : ℕ) → b ≡ (a || (u == s)) → (u == s) ≡ false → b ≡ a
+at-other a b u s h e = grind (arith, nat_tests)
+
+same-slot : (u s : ℕ) → (u == s) ≡ true → u ≡ s
+same-slot u s e = grind (arith, nat_tests)
+
+above-slot : (u s : ℕ) → 128 ≤ u → s < 128 → (u == s) ≡ false
+above-slot u s h b = grind (arith, nat_tests)
+
+here : (g : Members) (s : ℕ) (m : Mode) (u : ℕ) → (u == s) ≡ true → with_mode g s m u ≡ m
+here g s m u e = grind arith
+
+there : (g : Members) (s : ℕ) (m : Mode) (u : ℕ) → (u == s) ≡ false → with_mode g s m u ≡ g u
+there g s m u e = grind arith
+
+module _ (old : Members) (r : Group) (s : ℕ) (k : IsGroup r) (e : held_by r ≡ with_mode old s NL) (below : s < 128) where
+  free-slot : held_by r s ≡ NL
+  free-slot = ap (λ (g : Members). g s) e ∙ here old s NL s (grind (arith, nat_tests))
+
+  -- IS is granted
+  pub intent-group : (i : Slots) → IsWithSlot r.intents s i → IsGroup (record { mode = r.mode; holders = r.holders; intents = i })
+  intent-group i w = record {
+    apart = λ u h. by_test (u == s)
+        (λ t. absurd (clash (has_slot r.holders u) h (ap (has_slot r.holders) (same-slot u s t) ∙ no-holder r s k free-slot)))
+        (λ t. at-other _ _ u s (w u) t ∙ k.apart u h);
+    not_IS = k.not_IS;
+    idle = k.idle;
+    free = k.free;
+    holders_below = k.holders_below;
+    intents_below = λ u le. at-other _ _ u s (w u) (above-slot u s le below) ∙ k.intents_below u le;
+  }
+
+  pub intent-held : (i : Slots) → IsWithSlot r.intents s i → held_by (record { mode = r.mode; holders = r.holders; intents = i }) ≡ with_mode old s IS
+  intent-held i w = fun_ext (λ u.
+      by_test (u == s)
+      (λ t. intent-mode (record { mode = r.mode; holders = r.holders; intents = i }) u (ap (has_slot r.holders) (same-slot u s t) ∙ no-holder r s k free-slot) (at-slot _ _ u s (w u) (same-slot u s t)) ∙ sym (here old s IS u t))
+      (λ t. ap (λ b. cond (has_slot r.holders u) r.mode (cond b IS NL)) (at-other _ _ u s (w u) t) ∙ (ap (λ (g : Members). g u) e ∙ (there old s NL u t ∙ sym (there old s IS u t)))))
+
+  -- another mode is granted, which all that is held but IS is
+
+  pub main-group : (m : Mode) (j : Slots) → same_mode m IS ≡ false → m ≢ NL → IsWithSlot r.holders s j → IsGroup (record { mode = m; holders = j; intents = r.intents })
+  main-group m j other lock w = record {
+    apart = λ u h. by_test (u == s)
+        (λ t. ap (has_slot r.intents) (same-slot u s t) ∙ no-intent r s k free-slot)
+        (λ t. k.apart u (sym (at-other _ _ u s (w u) t) ∙ h));
+    not_IS = other;
+    idle = λ none. absurd (clash (has_slot j s) (at-slot _ _ s s (w s) refl) (none s));
+    free = λ n. absurd (lock n);
+    holders_below = λ u le. at-other _ _ u s (w u) (above-slot u s le below) ∙ k.holders_below u le;
+    intents_below = k.intents_below;
+  }
+
+  one-mode : (m : Mode) → same_mode m IS ≡ false → m ≢ NL → fits slot_limit old s m ≡ true → IsWithin slot_limit old → (u : ℕ) → has_slot r.holders u ≡ true → r.mode ≡ m
+  one-mode m other lock f w u h =
+      let ne : u ≢ s = (λ t. clash (has_slot r.holders u) h (ap (has_slot r.holders) t ∙ no-holder r s k free-slot)) in
+      let is : old u ≡ r.mode = sym (there old s NL u (off u s ne)) ∙ (sym (ap (λ (g : Members). g u) e) ∙ holder-mode r u h) in
+      let c : are_compatible m r.mode ≡ true = ap (are_compatible m) (sym is) ∙ fits-all slot_limit old s m w f u ne in
+      let lock' : same_mode r.mode NL ≡ false = not_NL r.mode (λ n. clash (has_slot r.holders u) h (k.free n u)) in
+      sym (same_mode-equal m r.mode (alike m r.mode other (not_NL m lock) k.not_IS lock' c))
+    where
+      off : (u s : ℕ) → u ≢ s → (u == s) ≡ false
+      off u s ne = grind (arith, nat_tests)
+
+      alike : (a b : Mode) → same_mode a IS ≡ false → same_mode a NL ≡ false → same_mode b IS ≡ false → same_mode b NL ≡ false → are_compatible a b ≡ true → same_mode a b ≡ true
+      alike a b p q s t c =
+          implied _ _ (implied _ _ (implied _ _ (implied _ _ (implied _ _ (every2-true (λ x y. implies (not (same_mode x IS)) (implies (not (same_mode x NL)) (implies (not (same_mode y IS)) (implies (not (same_mode y NL)) (implies (are_compatible x y) (same_mode x y)))))) refl a b) (ap not p)) (ap not q)) (ap not s)) (ap not t)) c
+
+  pub main-held : (m : Mode) (j : Slots) → same_mode m IS ≡ false → m ≢ NL → fits slot_limit old s m ≡ true → IsWithin slot_limit old → IsWithSlot r.holders s j → held_by (record { mode = m; holders = j; intents = r.intents }) ≡ with_mode old s m
+  main-held m j other lock f in_range w = fun_ext (λ u.
+      by_test (u == s)
+      (λ t. holder-mode (record { mode = m; holders = j; intents = r.intents }) u (at-slot _ _ u s (w u) (same-slot u s t)) ∙ sym (here old s m u t))
+      (λ t. by_test (has_slot r.holders u)
+      (λ h. holder-mode (record { mode = m; holders = j; intents = r.intents }) u (at-other _ _ u s (w u) t ∙ h) ∙ (sym (one-mode m other lock f in_range u h) ∙ (sym (holder-mode r u h) ∙ (ap (λ (g : Members). g u) e ∙ (there old s NL u t ∙ sym (there old s m u t))))))
+      (λ h. ap (λ b. cond b m (cond (has_slot r.intents u) IS NL)) (at-other _ _ u s (w u) t ∙ h) ∙ (sym (ap (λ b. cond b r.mode (cond (has_slot r.intents u) IS NL)) h) ∙ (ap (λ (g : Members). g u) e ∙ (there old s NL u t ∙ sym (there old s m u t)))))))

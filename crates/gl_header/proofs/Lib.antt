@@ -4,13 +4,12 @@ pub mod GroupOf
 pub mod Fronts
 pub mod Waiters
 pub mod Unused
-mod Lists
-mod Places
-mod Orderly
 mod Groups
+mod Queues
+mod Placing
+mod Ahead
+mod Orderly
 mod Pumped
-mod Bridge
 mod Lawful
 mod Asks
-mod Drops
 mod Steps

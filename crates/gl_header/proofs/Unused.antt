@@ -1,13 +1,15 @@
 -- A header that nobody uses, both ways.
-use Rattle.std.proofs.Common.{◌≡◌, ℕ, Bool, true, false, ◌&&◌, not, List, [], ◌∷◌, refl, arith}
+use Rattle.std.proofs.Common.{◌≡◌, ℕ, Bool, true, false, ◌&&◌, not, cond, List, [], ◌∷◌, refl, ap₂, arith}
+use Rattle.std.proofs.Math.Path.{fun_ext}
+use Rattle.gl_slots.proofs.BitLemmas.{in_bits-zero}
 use Rattle.std.specs.Prelude.{◌⊎◌}
 use Rattle.std.proofs.Common.{inl, inr, ⊎_elim}
 use Rattle.gl_modes.specs.declared.mode.Mode.{Mode}
-use Rattle.gl_modes.specs.declared.mode.Mode.TheVariants.{NL}
+use Rattle.gl_modes.specs.declared.mode.Mode.TheVariants.{NL, IS}
 use Rattle.gl_modes.specs.Modes.{same_mode}
 use Rattle.gl_modes.proofs.ModeLemmas.{same_mode-equal}
 use Rattle.gl_header.specs.Header.{Members, Waiter, IsWithin, holds, is_empty}
-use Rattle.gl_header.specs.State.{HeaderState, IsLawfulHeader, members_of, nobody_holds, is_unused, slot_limit}
+use Rattle.gl_header.specs.State.{HeaderState, IsLawfulHeader, members_of, nobody_holds, is_unused, slot_limit, unused_header}
 use Rattle.gl_header.proofs.Ranges.{both_true, by_test, below_or_not, range-each, range-fails}
 use Rattle.gl_header.proofs.Fits.{within-limit}
 
@@ -54,3 +56,7 @@ unused-false h u =
         clash true h k = cc
         clash false h k = cc
     first false b h k = refl
+
+-- nobody holds an unused header
+pub unused-nobody : members_of unused_header ≡ (λ _. NL)
+unused-nobody = fun_ext (λ t. ap₂ (λ a b. cond a NL (cond b IS NL)) (in_bits-zero t) (in_bits-zero t))

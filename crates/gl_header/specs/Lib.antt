@@ -1,4 +1,5 @@
 pub mod Header
+pub mod Groups
 pub mod Entries
 pub mod State
 pub mod Answers

@@ -1,5 +1,5 @@
 -- What a contract sees of a header, and the law of every header.
-use Rattle.std.specs.Prelude.{◌≡◌, ◌≢◌, ℕ, Bool, true, not, ◌&&◌, List, [], ◌∷◌, Some}
+use Rattle.std.specs.Prelude.{◌≡◌, ◌≢◌, ℕ, Bool, true, not, ◌&&◌, ◌||◌, List, [], ◌∷◌, Some}
 use Rattle.std.specs.List.{filter, list_all, range_with_len}
 use Rattle.gl_modes.specs.declared.mode.Mode.{Mode}
 use Rattle.gl_modes.specs.declared.mode.Mode.TheVariants.{NL}
@@ -13,28 +13,29 @@ use Rattle.gl_header.specs.Header.{
   holds,
   group_of,
   is_waiter,
-  is_among_waiters,
   wanted_by,
   is_ahead,
   is_empty,
   enters,
   front,
 }
-use Rattle.gl_header.specs.Entries.{mode_at}
+use Rattle.gl_header.specs.declared.group.Group.{Group}
+use Rattle.gl_header.specs.Groups.{group_mode, held_by, no_group, HoldsTwoModes}
+use Rattle.gl_slots.specs.Slots.{has_slot}
+unfoldable pub use Rattle.gl_slots.specs.Slots.{slot_limit}
 
--- slots are below this: 128, kept from unfolding so that no proof walks over every slot
-unfoldable pub slot_limit : ℕ
-slot_limit = 128
-
--- the members' slots with their modes, the waiters from the front on, and the group mode that is kept
+-- the granted group, and the waiters from the front on
 pub record HeaderState : Type 0 where
-  pub members : List Waiter
+  pub granted : Group
   pub queue : List Waiter
-  pub group : Mode
+
+-- nobody holds, and nobody waits
+abbrev pub unused_header : HeaderState
+unused_header = record { granted = no_group; queue = [] }
 
 -- who holds what
 abbrev pub members_of : HeaderState → Members
-members_of h = λ t. mode_at h.members t
+members_of h = held_by h.granted
 
 -- the wanted mode: the held one raised by the asked one
 abbrev pub wanted : HeaderState → ℕ → Mode → Mode
@@ -56,8 +57,10 @@ is_unused h = nobody_holds slot_limit (members_of h) && is_empty h.queue
 pub record IsLawfulHeader (h : HeaderState) : Type 0 where
   -- what different slots hold is compatible
   pub compatible : IsCompatible (members_of h)
-  -- the list of members has each member and nobody else
-  pub listed : (t : ℕ) → is_among_waiters t h.members ≡ holds (members_of h) t
+  -- so beside IS one mode at most is held
+  pub two_modes : HoldsTwoModes (members_of h)
+  -- the two sets have each member and nobody else
+  pub listed : (t : ℕ) → (has_slot h.granted.holders t || has_slot h.granted.intents t) ≡ holds (members_of h) t
   -- slots are below 128
   pub members_below : IsWithin 128 (members_of h)
   pub waiters_below : AreBelow 128 h.queue
@@ -70,4 +73,4 @@ pub record IsLawfulHeader (h : HeaderState) : Type 0 where
   -- the first waiter does not fit
   pub front_waits : front slot_limit (members_of h) h.queue ≡ []
   -- the group mode is the supremum of the members' modes
-  pub group_is : h.group ≡ group_of slot_limit (members_of h)
+  pub group_is : group_mode h.granted ≡ group_of slot_limit (members_of h)

@@ -1,17 +1,22 @@
-//! Reading a list of slots with their modes.
+//! Reading a queue: slots with the modes that they wait for.
 
-ghost use Rattle.std.specs.Prelude.{◌≡◌, MatchOption, false, not, position, true};
-ghost use Rattle.std.specs.List.{prefix_len};
-ghost use Rattle.gl_header.specs.Entries.{IsPlaceOf, fits_beside, mode_at, supremum_of};
-ghost use Rattle.gl_header.specs.Header.{is_among_waiters, is_waiter, wanted_by};
+ghost use Rattle.std.specs.Prelude.{◌≡◌, ℕ, MatchOption, false, position, true};
+ghost use Rattle.std.specs.List.{list_all, prefix_len};
+ghost use Rattle.gl_slots.specs.Slots.{has_slot};
+ghost use Rattle.gl_header.specs.Entries.{IsPlaceOf};
+ghost use Rattle.gl_header.specs.Groups.{IsGroup, held_by};
+ghost use Rattle.gl_header.specs.Sound.{is_entry};
+ghost use Rattle.gl_header.specs.Header.{holds, is_ahead, is_among_waiters, is_waiter, wanted_by};
 
-use gl_modes::{Mode, compatible, sup};
+use crate::group::Group;
+use gl_modes::Mode;
+use gl_slots::Slots;
 
-/// A slot with the mode that it holds or waits for.
+/// A slot with the mode that it waits for.
 pub(crate) type Entry = (u8, Mode);
 
 /// Whether `slot` has an entry.
-pub(crate) fn has_slot(entries: &[Entry], slot: u8) -> bool
+pub(crate) fn has_entry(entries: &[Entry], slot: u8) -> bool
     ensures { result ≡ is_among_waiters slot entries.now }
 {
     entries.iter().any(|entry| entry.0 == slot)
@@ -36,68 +41,35 @@ fn first_of(entries: &[Entry], slot: u8) -> Option<usize>
     entries.iter().position(|entry| entry.0 == slot)
 }
 
-/// Where the first entry of `slot` stands, and what a write or a removal there makes of the list.
+/// Where the first entry of `slot` stands, and what a removal there makes of the list.
 pub(crate) fn place_of(entries: &[Entry], slot: u8) -> Option<usize>
     ensures { MatchOption result (is_among_waiters slot entries.now ≡ false) (IsPlaceOf entries.now slot) }
 {
     first_of(entries, slot)
 }
 
-/// Whether `mode` is compatible with the mode of every member but `slot`.
-pub(crate) fn fits_others(members: &[Entry], slot: u8, mode: Mode) -> bool
-    ensures { result ≡ fits_beside members.now slot mode }
-{
-    members
-        .iter()
-        .all(|entry| entry.0 == slot || compatible(mode, entry.1))
-}
-
-/// Whether `slot` is no member. Behind a newcomer nobody is, so there is nothing to look for.
-pub(crate) fn is_newcomer(members: &[Entry], behind_newcomer: bool, slot: u8) -> bool
-    requires { behind_newcomer ≡ true → is_among_waiters slot members.now ≡ false }
-    ensures { result ≡ not (is_among_waiters slot members.now) }
-{
-    behind_newcomer || !has_slot(members, slot)
-}
-
-/// Whether a waiter's mode is compatible with the mode of every other member. A newcomer is none of
-/// the members, so one test against the group says it.
-#[tactic(auto, using(crate::proofs::Steps::group_steps))]
-pub(crate) fn fits_waiting(
-    members: &[Entry],
-    group: Mode,
-    newcomer: bool,
-    slot: u8,
-    mode: Mode,
-) -> bool
-    requires group_is { group ≡ supremum_of members.now }
-    requires newcomer_is { newcomer ≡ not (is_among_waiters slot members.now) }
-    ensures { result ≡ fits_beside members.now slot mode }
-{
-    if newcomer {
-        compatible(mode, group)
-    } else {
-        fits_others(members, slot, mode)
-    }
-}
-
-/// The supremum of the members' modes.
-pub(crate) fn group_mode(members: &[Entry]) -> Mode
-    ensures { result ≡ supremum_of members.now }
-{
-    let mut group = Mode::NL;
-    for entry in members {
-        group = sup(group, entry.1);
-    }
-    group
-}
-
 /// How many members wait at the front of the queue.
-pub(crate) fn waiting_members(members: &[Entry], queue: &[Entry]) -> usize
-    ensures { result ≡ prefix_len (λ w. is_among_waiters w.0 members.now) queue.now }
+pub(crate) fn waiting_members(group: &Group, queue: &[Entry]) -> usize
+    requires { IsGroup group.now }
+    ensures { result ≡ prefix_len (λ w. holds (held_by group.now) w.0) queue.now }
 {
     queue
         .iter()
-        .take_while(|waiter| has_slot(members, waiter.0))
+        .take_while(|waiter| group.has(waiter.0))
         .count()
+}
+
+/// The slots that stand ahead of this one in a queue; none where it does not stand there.
+pub(crate) fn ahead_of(queue: &[Entry], slot: u8) -> Slots
+    requires { list_all is_entry queue.now ≡ true }
+    ensures { (u : ℕ) → has_slot result u ≡ is_ahead queue.now slot u }
+{
+    let mut slots = Slots::empty();
+    for &(other, _) in queue {
+        if other == slot {
+            return slots;
+        }
+        slots.insert(other);
+    }
+    Slots::empty()
 }

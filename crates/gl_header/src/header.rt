@@ -1,10 +1,14 @@
 //! The header of one node.
 
-ghost use Rattle.std.specs.Prelude.{◌≡◌, ◌≢◌, ◌<◌, [], IfErr, IfOk, IsOk, Ok, OnErr, OnOk, false, true};
+ghost use Rattle.std.specs.Prelude.{◌≡◌, ◌≢◌, ◌<◌, ◌==◌, ◌&&◌, ◌||◌, ℕ, [], IfErr, IfOk, IsOk, OnErr, OnOk, false, not, true};
 ghost use Rattle.gl_modes.specs.declared.mode.Mode.TheVariants.{NL};
+ghost use Rattle.gl_modes.specs.Modes.{are_compatible};
+ghost use Rattle.gl_slots.specs.Slots.{has_slot};
 ghost use Rattle.gl_header.specs.Answers.{asked, asked_members, asked_queue, tried};
+ghost use Rattle.gl_header.specs.Groups.{group_mode};
 ghost use Rattle.gl_header.specs.Header.{
   front,
+  group_of,
   holds,
   is_ahead,
   is_among_waiters,
@@ -21,12 +25,14 @@ ghost use Rattle.gl_header.specs.State.{
   is_unused,
   members_of,
   slot_limit,
+  unused_header,
 };
 
-use crate::changes::{Entries, SLOTS, admit, enqueue, pump, take_out};
-use crate::entries::{fits_others, group_mode, has_slot, mode_in, place_of};
-use arrayvec::ArrayVec;
-use gl_modes::{Mode, Refusal, compatible, sup};
+use crate::changes::{GrantList, Queue, enqueue, pump, take_out};
+use crate::entries::{ahead_of, has_entry, mode_in, place_of};
+use crate::group::Group;
+use gl_modes::{Mode, Refusal, sup};
+use gl_slots::Slots;
 use smallvec::SmallVec;
 use std::alloc::Global;
 use std::marker::Model;
@@ -51,15 +57,16 @@ pub enum Try {
 
 /// Who holds one node, in which modes, and who waits for it. Transactions are slots from 0 to 127.
 ///
-/// The group mode is the supremum of what the members hold. A member's request is a conversion: it
-/// passes everybody who waits where its mode fits beside the other members, and else waits ahead of
-/// all newcomers. After each change the front of the queue is granted, up to the first waiter that
-/// does not fit.
+/// A member's request is a conversion: it passes everybody who waits where its mode fits beside the
+/// other members, and else waits ahead of all newcomers. After each change the front of the queue is
+/// granted, up to the first waiter that does not fit.
+///
+/// A grant takes no memory, and costs the same however many hold the node; memory is taken by waits
+/// alone.
 #[derive(Drop)]
 pub struct Header {
-    members: Entries,
-    queue: Entries,
-    group: Mode,
+    granted: Group,
+    queue: Queue,
 }
 
 impl Model for Header {
@@ -77,36 +84,29 @@ impl Model for Header {
 impl Header {
     /// A header without members and waiters. It takes no memory.
     pub fn new(alloc: Global) -> Self
-        ensures { result ≡ record { members = []; queue = []; group = NL } }
+        ensures { result ≡ unused_header }
     {
         Header {
-            members: SmallVec::new(alloc),
+            granted: Group::new(),
             queue: SmallVec::new(alloc),
-            group: Mode::NL,
         }
     }
 
-    /// The law of every header: what different slots hold is compatible, each waiter wants more than
-    /// it holds and stands in its place, the first waiter does not fit, and the group mode is the
-    /// supremum of what is held.
+    /// The law of every header: what different slots hold is compatible, so that at most two modes
+    /// are held; each waiter wants more than it holds and stands in its place; the first waiter does
+    /// not fit; and the group mode is the supremum of what is held.
     pub fn law(&self)
         ensures lawful { IsLawfulHeader self.now }
     {
-        let _ = &self.members;
+        let _ = &self.granted;
     }
 
     /// The group mode: the supremum of the members' modes, `NL` where nobody holds the node.
     pub fn group(&self) -> Mode
-        ensures { result ≡ self.now.group }
+        ensures kept { result ≡ group_mode self.now.granted }
+        ensures supremum { result ≡ group_of slot_limit (members_of self.now) }
     {
-        self.group
-    }
-
-    /// The members, each with the mode that it holds.
-    pub fn members(&self) -> &[(u8, Mode)]
-        ensures { result.now ≡ self.now.members }
-    {
-        self.members.as_slice()
+        self.granted.supremum()
     }
 
     /// The waiters from the front on, each with the mode that it waits for.
@@ -120,7 +120,14 @@ impl Header {
     pub fn mode_of(&self, slot: u8) -> Mode
         ensures { result ≡ members_of self.now slot }
     {
-        mode_in(&self.members, slot).unwrap_or(Mode::NL)
+        self.granted.mode_of(slot)
+    }
+
+    /// The slots that hold a mode with which `mode` does not go.
+    pub fn opposed(&self, mode: Mode) -> Slots
+        ensures { (u : ℕ) → has_slot result u ≡ not (are_compatible mode (members_of self.now u)) }
+    {
+        self.granted.opposed(mode)
     }
 
     /// The mode that a slot waits for, `None` where it does not wait.
@@ -134,7 +141,7 @@ impl Header {
     pub fn is_empty(&self) -> bool
         ensures { result ≡ is_unused self.now }
     {
-        self.members.is_empty() && self.queue.is_empty()
+        self.granted.is_empty() && self.queue.is_empty()
     }
 
     /// Whether both slots wait, and `other` stands ahead of `slot`.
@@ -142,27 +149,35 @@ impl Header {
         ensures { result ≡ is_ahead self.now.queue slot other }
     {
         match place_of(&self.queue, slot) {
-            Some(place) => has_slot(&self.queue[..place], other),
+            Some(place) => has_entry(&self.queue[..place], other),
             None => false,
         }
     }
 
-    /// Whether `ask` would grant at once: a member's raise that fits beside the other members, or a
-    /// newcomer's mode that fits the group while nobody waits.
+    /// The slots for which a slot waits that waits here for `wanted`: those that hold a mode with which
+    /// it does not go, and those that stand ahead of the slot.
+    pub fn waits_for(&self, slot: u8, wanted: Mode) -> Slots
+        ensures { (u : ℕ) → has_slot result u ≡
+            (not (slot == u) && (not (are_compatible wanted (members_of self.now u)) || is_ahead self.now.queue slot u)) }
+    {
+        let opposed = self.granted.opposed(wanted);
+        opposed.union(ahead_of(&self.queue, slot)).without(slot)
+    }
+
+    /// Whether `ask` would grant at once: a mode that fits beside the other members, where the slot
+    /// is a member or nobody waits.
     pub fn would_grant(&self, slot: u8, mode: Mode) -> bool
         ensures { result ≡ is_granted self.now slot mode }
     {
-        match mode_in(&self.members, slot) {
-            Some(held) => fits_others(&self.members, slot, sup(held, mode)),
-            None => self.queue.is_empty() && compatible(mode, self.group),
-        }
+        let held = self.granted.mode_of(slot);
+        (held != Mode::NL || self.queue.is_empty())
+            && self.granted.fits_others(slot, sup(held, mode))
     }
 
     /// Asks for a mode: it is granted at once, or the slot waits in its place. What is granted, now
     /// or later, is the supremum of the held and the asked mode.
     ///
-    /// The room for a later grant is made here, before anything is changed. The only refusal is
-    /// `NoMemory`; a member that is granted at once never meets it.
+    /// The only refusal is `NoMemory`; who is granted at once never meets it.
     pub fn ask(&mut self, slot: u8, mode: Mode) -> Result<Asked, Refusal>
         requires below { slot < 128 }
         requires not_waiting { is_among_waiters slot self.old.queue ≡ false }
@@ -172,83 +187,67 @@ impl Header {
         ensures queue { OnOk result (self.new.queue ≡ asked_queue self.old slot mode) }
         ensures err { OnErr result (self.new ≡ self.old) }
         ensures no_memory { IfErr result (λ refusal. refusal ≡ Refusal.NoMemory) }
-        ensures held { holds (members_of self.old) slot ≡ true → is_granted self.old slot mode ≡ true → IsOk result }
+        ensures at_once { is_granted self.old slot mode ≡ true → IsOk result }
         ensures lawful { IsLawfulHeader self.new }
     {
         let wanted = sup(self.mode_of(slot), mode);
         if self.would_grant(slot, mode) {
-            let Ok(()) = admit(&mut self.members, slot, wanted) else {
-                return Err(Refusal::NoMemory);
-            };
-            self.group = sup(self.group, wanted);
+            self.granted.hold(slot, wanted);
             Ok(Asked::Granted(wanted))
         } else {
-            let Ok(()) = enqueue(&mut self.members, &mut self.queue, slot, wanted) else {
+            let Ok(()) = enqueue(&self.granted, &mut self.queue, slot, wanted) else {
                 return Err(Refusal::NoMemory);
             };
             Ok(Asked::Waiting)
         }
     }
 
-    /// Asks for a mode that is granted at once, or not at all.
-    ///
-    /// The only refusal is `NoMemory`; neither a member nor one who would have to wait meets it.
-    pub fn try_ask(&mut self, slot: u8, mode: Mode) -> Result<Try, Refusal>
+    /// Asks for a mode that is granted at once, or not at all. It takes no memory.
+    pub fn try_ask(&mut self, slot: u8, mode: Mode) -> Try
         requires below { slot < 128 }
         requires not_waiting { is_among_waiters slot self.old.queue ≡ false }
         requires lock { mode ≢ Mode.NL }
-        ensures answer { IfOk result (λ answer. answer ≡ tried self.old slot mode) }
-        ensures members { OnOk result (members_of self.new ≡ asked_members self.old slot mode) }
+        ensures answer { result ≡ tried self.old slot mode }
+        ensures members { members_of self.new ≡ asked_members self.old slot mode }
         ensures queue { self.new.queue ≡ self.old.queue }
-        ensures blocked { is_granted self.old slot mode ≡ false → result ≡ Ok Try.WouldBlock }
         ensures unchanged { is_granted self.old slot mode ≡ false → self.new ≡ self.old }
-        ensures err { OnErr result (self.new ≡ self.old) }
-        ensures no_memory { IfErr result (λ refusal. refusal ≡ Refusal.NoMemory) }
-        ensures held { holds (members_of self.old) slot ≡ true → IsOk result }
         ensures lawful { IsLawfulHeader self.new }
     {
-        self.law();
+        let wanted = sup(self.mode_of(slot), mode);
         if !self.would_grant(slot, mode) {
-            return Ok(Try::WouldBlock);
+            return Try::WouldBlock;
         }
-        match self.ask(slot, mode)? {
-            Asked::Granted(wanted) => Ok(Try::Granted(wanted)),
-            Asked::Waiting => unreachable!(),
-        }
+        self.granted.hold(slot, wanted);
+        Try::Granted(wanted)
     }
 
-    /// Takes a slot's grant away, and grants from the front of the queue. Answers whom it granted,
-    /// in the queue's order.
+    /// Takes a slot's grant away, and grants from the front of the queue. The list is filled anew
+    /// with those whom it granted, in the queue's order.
     ///
-    /// Linear in the members and the waiters; each waiting member that is let convert costs one pass
-    /// over the members more.
-    pub fn drop_grant(&mut self, slot: u8) -> ArrayVec<(u8, Mode), SLOTS>
+    /// The cost is that of the waiters who are granted, and of moving up the others where any is.
+    pub fn drop_grant(&mut self, slot: u8, granted: &mut GrantList)
         requires holds { holds (members_of self.old) slot ≡ true }
         requires not_waiting { is_among_waiters slot self.old.queue ≡ false }
-        ensures granted { result.items ≡ front slot_limit (with_mode (members_of self.old) slot NL) self.old.queue }
+        ensures granted { granted.new.items ≡ front slot_limit (with_mode (members_of self.old) slot NL) self.old.queue }
         ensures members { members_of self.new ≡ pumped_members slot_limit (with_mode (members_of self.old) slot NL) self.old.queue }
         ensures queue { self.new.queue ≡ pumped_queue slot_limit (with_mode (members_of self.old) slot NL) self.old.queue }
         ensures lawful { IsLawfulHeader self.new }
     {
-        take_out(&mut self.members, slot);
-        self.group = group_mode(&self.members);
-        pump(&mut self.members, &mut self.queue, &mut self.group)
+        self.granted.release(slot);
+        pump(&mut self.granted, &mut self.queue, granted);
     }
 
-    /// Takes a slot's wait away, and grants from the front of the queue. Answers whom it granted, in
-    /// the queue's order.
-    ///
-    /// Linear in the members and the waiters; each waiting member that is let convert costs one pass
-    /// over the members more.
-    pub fn drop_wait(&mut self, slot: u8) -> ArrayVec<(u8, Mode), SLOTS>
+    /// Takes a slot's wait away, and grants from the front of the queue. The list is filled anew with
+    /// those whom it granted, in the queue's order.
+    pub fn drop_wait(&mut self, slot: u8, granted: &mut GrantList)
         requires { is_among_waiters slot self.old.queue ≡ true }
-        ensures granted { result.items ≡ front slot_limit (members_of self.old) (without_waiter slot self.old.queue) }
+        ensures granted { granted.new.items ≡ front slot_limit (members_of self.old) (without_waiter slot self.old.queue) }
         ensures members { members_of self.new ≡ pumped_members slot_limit (members_of self.old) (without_waiter slot self.old.queue) }
         ensures queue { self.new.queue ≡ pumped_queue slot_limit (members_of self.old) (without_waiter slot self.old.queue) }
         ensures lawful { IsLawfulHeader self.new }
     {
         take_out(&mut self.queue, slot);
-        pump(&mut self.members, &mut self.queue, &mut self.group)
+        pump(&mut self.granted, &mut self.queue, granted);
     }
 
     /// Takes a slot's wait away where the front of the queue that is left cannot be granted, and

@@ -1,11 +1,8 @@
 //! The worked rows, by slots.
 
-use crate::{Asked, Header, SLOTS, Try};
+use crate::{Asked, GrantList, Header, Try};
 use arrayvec::ArrayVec;
 use gl_modes::{Mode, Refusal};
-
-/// What a drop granted.
-type Granted = ArrayVec<(u8, Mode), SLOTS>;
 
 /// Asks where the call's conditions hold.
 #[tactic(auto, using(crate::proofs::Steps::caller_steps))]
@@ -18,29 +15,33 @@ fn ask(header: &mut Header, slot: u8, mode: Mode) -> Result<Option<Asked>, Refus
 
 /// Tries where the call's conditions hold.
 #[tactic(auto, using(crate::proofs::Steps::caller_steps))]
-fn try_ask(header: &mut Header, slot: u8, mode: Mode) -> Result<Option<Try>, Refusal> {
+fn try_ask(header: &mut Header, slot: u8, mode: Mode) -> Option<Try> {
     if slot >= 128 || mode == Mode::NL || header.wanted_by(slot).is_some() {
-        return Ok(None);
+        return None;
     }
-    Ok(Some(header.try_ask(slot, mode)?))
+    Some(header.try_ask(slot, mode))
 }
 
 /// Drops a grant where there is one and the slot does not wait.
 #[tactic(auto, using(crate::proofs::Steps::caller_steps))]
-fn drop_grant(header: &mut Header, slot: u8) -> Option<Granted> {
+fn drop_grant(header: &mut Header, slot: u8) -> Option<GrantList> {
     if header.mode_of(slot) == Mode::NL || header.wanted_by(slot).is_some() {
         return None;
     }
-    Some(header.drop_grant(slot))
+    let mut granted = ArrayVec::new();
+    header.drop_grant(slot, &mut granted);
+    Some(granted)
 }
 
 /// Drops a wait where there is one.
 #[tactic(auto, using(crate::proofs::Steps::caller_steps))]
-fn drop_wait(header: &mut Header, slot: u8) -> Option<Granted> {
+fn drop_wait(header: &mut Header, slot: u8) -> Option<GrantList> {
     if header.wanted_by(slot).is_none() {
         return None;
     }
-    Some(header.drop_wait(slot))
+    let mut granted = ArrayVec::new();
+    header.drop_wait(slot, &mut granted);
+    Some(granted)
 }
 
 /// Dismisses a wait behind another one, which cannot let anybody in.
@@ -122,9 +123,9 @@ fn the_group_falls(rt: HostRuntime) -> Result<(), Refusal> {
         ask(&mut header, 0, Mode::S)?,
         Some(Asked::Granted(Mode::SIX))
     );
-    assert_eq!(rt; try_ask(&mut header, 1, Mode::IX)?, Some(Try::WouldBlock));
+    assert_eq!(rt; try_ask(&mut header, 1, Mode::IX), Some(Try::WouldBlock));
     assert_eq!(rt;
-        try_ask(&mut header, 1, Mode::IS)?,
+        try_ask(&mut header, 1, Mode::IS),
         Some(Try::Granted(Mode::IS))
     );
     let granted = drop_grant(&mut header, 0).expect(&rt, "slot 0 holds SIX");

@@ -3,6 +3,12 @@
 #![tactic(auto)]
 
 #[cfg(test)]
+mod actor;
+#[cfg(test)]
+mod crowd;
+#[cfg(test)]
+mod forest;
+#[cfg(test)]
 mod lists;
 #[cfg(test)]
 mod looks;
@@ -20,6 +26,8 @@ mod steps;
 mod story;
 #[cfg(test)]
 mod table;
+#[cfg(test)]
+mod tally;
 #[cfg(test)]
 mod tellings;
 #[cfg(test)]

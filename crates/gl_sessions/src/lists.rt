@@ -5,6 +5,7 @@ ghost use Rattle.std.specs.Prelude.{◌≡◌};
 ghost use Rattle.gl_table.specs.BoardOf.{board_of};
 ghost use Rattle.gl_catalog.specs.Manager.{state_of};
 
+use crate::stage::{add_node, add_root, begin};
 use gl_catalog::{Answer, Command, Manager};
 use gl_modes::Mode::{IX, X};
 use gl_modes::{NodeId, Refusal};
@@ -25,29 +26,13 @@ struct Scene {
     second: TxnId,
 }
 
-/// Makes a node under at most one parent, or none.
-fn make(manager: &mut Manager, command: Command<'_>) -> NodeId {
-    match manager.apply(command).answer {
-        Answer::Node(node) => node,
-        _ => NodeId::NONE,
-    }
-}
-
-/// Begins a transaction.
-fn begin(manager: &mut Manager) -> TxnId {
-    match manager.apply(Command::Begin).answer {
-        Answer::Begun(txn) => txn,
-        _ => TxnId::NONE,
-    }
-}
-
-fn set(manager: &mut Manager) -> Scene {
-    let root = make(manager, Command::Inner { parents: &[] });
+fn set<R: Abort>(rt: &R, manager: &mut Manager) -> Scene {
+    let root = add_root(rt, manager);
     Scene {
         root,
-        file: make(manager, Command::File { parents: &[root] }),
-        first: begin(manager),
-        second: begin(manager),
+        file: add_node(rt, manager, Command::File { parents: &[root] }),
+        first: begin(rt, manager),
+        second: begin(rt, manager),
     }
 }
 
@@ -186,7 +171,7 @@ fn serve<R: Wait + Abort>(rt: &R, alloc: Global) -> Result<(), Fail> {
     let Ok(mut manager) = Manager::new(alloc, Detect::AtBlock, 128) else {
         return Err(Fail::from("no memory"));
     };
-    let scene = set(&mut manager);
+    let scene = set(rt, &mut manager);
     match Parts::new(rt, alloc, manager, 1, 1) {
         Ok(parts) => serve_lists::<Brand, R>(rt, alloc, parts, scene),
         Err(_) => Err(Fail::from("no memory")),

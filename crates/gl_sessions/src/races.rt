@@ -10,8 +10,9 @@ use gl_table::{Detect, TxnId};
 use std::process::Abort;
 use std::rt::Clock;
 use std::sync::Wait;
+use std::sync::atomic::{AtomicBool, Ordering};
 use std::test::Fail;
-use std::thread::{Threads, join};
+use std::thread::{Threads, join, yield_now};
 
 /// The younger gives way, and the older is granted.
 #[derive(Clone, Copy)]
@@ -111,6 +112,35 @@ impl Upgrade {
     }
 }
 
+/// Waits for X on the root in vain. It commits only behind the settle, which is to find the other
+/// waiting.
+fn asks_in_vain<N: Naming, R: Wait + Abort>(
+    rt: &R,
+    table: &Shared<N>,
+    share: Share<N>,
+    story: SettledLate,
+    settled: &AtomicBool,
+) -> Share<N> {
+    let SettledLate {
+        root,
+        cancelled: txn,
+        ..
+    } = story;
+    let mut session = Session::new(table, share);
+    let came = session.lock(rt, txn, root, X);
+    assert_eq!(rt; came, Err(Stop::Refused(Refusal::NotWaiting)));
+    for _ in 0..1000000u32 {
+        if settled.load(Ordering::SeqCst) {
+            break;
+        }
+        yield_now();
+    }
+    assert!(rt; settled.load(Ordering::SeqCst));
+    let end = session.ask(rt, Command::Commit { txn });
+    assert_eq!(rt; end.answer, Answer::Done);
+    session.end()
+}
+
 /// Once a board shows the suspect, cancels one wait and then settles the suspect, which does nothing
 /// but count.
 fn settles_late<N: Naming, R: Wait + Abort>(
@@ -119,6 +149,7 @@ fn settles_late<N: Naming, R: Wait + Abort>(
     share: Share<N>,
     watcher: &mut Watcher<N>,
     story: SettledLate,
+    settled: &AtomicBool,
 ) -> Share<N> {
     let SettledLate {
         suspect: txn,
@@ -135,6 +166,7 @@ fn settles_late<N: Naming, R: Wait + Abort>(
     assert_eq!(rt; settle.answer, Answer::Done);
     assert!(rt; settle.told.is_empty());
     assert_eq!(rt; before.checked_add(1), Some(after));
+    settled.store(true, Ordering::SeqCst);
     session.end()
 }
 
@@ -147,12 +179,12 @@ fn takes_back<N: Naming + Send + Sync, R: Threads + Wait + Abort + Sync>(
     story: SettledLate,
 ) -> (Share<N>, Share<N>) {
     let (second, third) = shares;
-    let (root, cancelled) = (story.root, story.cancelled);
-    let taken_back = Err(Stop::Refused(Refusal::NotWaiting));
+    let settled = AtomicBool::new(false);
+    let flag = &settled;
     join(
         rt,
-        move || asks_for_x(rt, table, second, cancelled, root, taken_back),
-        move || settles_late(rt, table, third, watcher, story),
+        move || asks_in_vain(rt, table, second, story, flag),
+        move || settles_late(rt, table, third, watcher, story, flag),
     )
 }
 

@@ -73,37 +73,48 @@ pub fn new_manager(alloc: Global, detect: Detect) -> Result<Manager, Fail> {
     }
 }
 
-/// A new root.
-pub fn add_root<R: Abort>(rt: &R, manager: &mut Manager) -> NodeId {
+/// The node that a command makes.
+pub fn add_node<R: Abort>(rt: &R, manager: &mut Manager, command: Command<'_>) -> NodeId {
     let mut node = NodeId::NONE;
-    let answer = manager.apply(Command::Inner { parents: &[] }).answer;
+    let answer = manager.apply(command).answer;
     match answer {
         Answer::Node(made) => node = made,
-        _ => assert!(rt; false, "no root"),
+        _ => assert!(rt; false, "no node"),
     }
     node
 }
 
-/// A new transaction that holds a node in this mode.
-pub fn begin_with<R: Abort>(rt: &R, manager: &mut Manager, node: NodeId, mode: Mode) -> TxnId {
+/// A new root.
+pub fn add_root<R: Abort>(rt: &R, manager: &mut Manager) -> NodeId {
+    add_node(rt, manager, Command::Inner { parents: &[] })
+}
+
+/// A new transaction.
+pub fn begin<R: Abort>(rt: &R, manager: &mut Manager) -> TxnId {
     let mut begun = TxnId::NONE;
     let answer = manager.apply(Command::Begin).answer;
     match answer {
         Answer::Begun(txn) => begun = txn,
         _ => assert!(rt; false, "no transaction"),
     }
-    let lock = Command::Lock {
-        txn: begun,
-        node,
-        mode,
-    };
-    let answer = manager.apply(lock).answer;
-    assert_eq!(rt; answer, Answer::Granted(mode));
     begun
 }
 
+/// Locks a node, at once.
+pub fn locks<R: Abort>(rt: &R, manager: &mut Manager, txn: TxnId, node: NodeId, mode: Mode) {
+    let answer = manager.apply(Command::Lock { txn, node, mode }).answer;
+    assert_eq!(rt; answer, Answer::Granted(mode));
+}
+
+/// A new transaction that holds a node in this mode.
+pub fn begin_with<R: Abort>(rt: &R, manager: &mut Manager, node: NodeId, mode: Mode) -> TxnId {
+    let txn = begin(rt, manager);
+    locks(rt, manager, txn, node, mode);
+    txn
+}
+
 /// The youngest suspect of a board.
-fn suspect_on(board: &Board) -> Option<TxnId> {
+pub fn suspect_on(board: &Board) -> Option<TxnId> {
     match youngest(board, suspects(board)) {
         Some(slot) if slot < SLOTS => Some(TxnId {
             slot: slot as u8,

@@ -1,5 +1,6 @@
 //! The stories that are told on a stage.
 
+use crate::crowd::Crowd;
 use crate::looks::Watched;
 use crate::races::{SettledLate, Upgrade};
 use crate::ring::Ring;
@@ -17,6 +18,7 @@ pub enum Story {
     SettledLate(SettledLate),
     Watched(Watched),
     Ring(Ring),
+    Crowd(Crowd),
 }
 
 impl Story {
@@ -34,6 +36,7 @@ impl Story {
             Story::SettledLate(story) => story.play(rt, table, shares, watchers),
             Story::Watched(story) => story.play(rt, alloc, table, shares, watchers),
             Story::Ring(story) => story.play(rt, alloc, table, shares, watchers),
+            Story::Crowd(story) => story.play(rt, alloc, table, shares, watchers),
         }
     }
 }

@@ -21,21 +21,10 @@ use Rattle.gl_table.proofs.GrantKeeps.{nl_is, txn_there}
 use Rattle.gl_table.proofs.OneWaits.{waits_there}
 use Rattle.gl_table.proofs.Queues.{ahead_is, ahead_second, clash}
 use Rattle.gl_table.proofs.TableCalls.{lawful_orderly}
-use Rattle.gl_table.proofs.Victims.{seated_steps}
 use Rattle.gl_catalog.specs.Manager.{IsLawfulManager, ManagerView, state_of}
 use Rattle.gl_shared.specs.Boards.{Fine}
 
 module _ (s : State) (law : IsLawful s) (few : s.most ≤ 128) where
-  low : (x y : ℕ) → waits_for s x y ≡ true → (x < 128) × (y < 128)
-  low x y h = let seats = seated_steps s (lawful_orderly s law) x y h in (omega (arith, seats.0, few), omega (arith, seats.1, few))
-
-  -- the steps of the board are the waits
-  edges : (x y : ℕ) → board_edge (board_of s) x y ≡ waits_for s x y
-  edges x y = row_edge-bits_of 128 128 (waits_for s) low x y
-
-  pub edges_are : board_edge (board_of s) ≡ waits_for s
-  edges_are = fun_ext (λ x. fun_ext (λ y. edges x y))
-
   -- who waits lives, and so does who is waited for
   waiter_lives : (x y : ℕ) → waits_for s x y ≡ true → is_some (s.txns x) ≡ true
   waiter_lives x y h = txn_there (s.txns x) _ (step_is s x y h).2.waits
@@ -49,6 +38,19 @@ module _ (s : State) (law : IsLawful s) (few : s.most ≤ 128) where
       (λ k. o.holders y n k)
       (λ k. clash (ap (are_compatible st.1) (nl_is (s.held y n) k) ∙ NL-compatible st.1) (not-true _ b)))
       (λ b. txn_there (s.txns y) _ (waits_there s o y n (ahead_second (s.queue n) x y (sym (ahead_is (s.queue n) x y) ∙ b))).1)
+
+  -- so both are seated
+  low : (x y : ℕ) → waits_for s x y ≡ true → (x < 128) × (y < 128)
+  low x y h =
+      let o = lawful_orderly s law in
+      let a = o.below x (waiter_lives x y h) in let b = o.below y (awaited_lives x y h) in (omega (arith, a, few), omega (arith, b, few))
+
+  -- the steps of the board are the waits
+  edges : (x y : ℕ) → board_edge (board_of s) x y ≡ waits_for s x y
+  edges x y = row_edge-bits_of 128 128 (waits_for s) low x y
+
+  pub edges_are : board_edge (board_of s) ≡ waits_for s
+  edges_are = fun_ext (λ x. fun_ext (λ y. edges x y))
 
   -- the board shows the age of each slot that it has
   age_shown : (x : ℕ) → x < 128 → age_in (board_of s) x ≡ age_of s x

@@ -69,11 +69,11 @@ impl<'a, N: Naming> Session<'a, N> {
         alloc: Global,
         commands: &[Command<'_>],
     ) -> Result<Vec<Answer>, Refusal>
-        ensures run { IfOk result (λ answers. (s : ManagerView) × (t : ManagerView) × IsLawfulManager s × Serves (state_of s) commands.now answers.items (state_of t)) }
+        ensures run { IfOk result (λ answers. (s : ManagerView) × (t : ManagerView) × IsLawfulManager s × Serves (state_of s) commands.now answers.items (state_of t) × (self.new.served_at ≡ t.accepted)) }
         ensures stops { IfOk result (λ answers. Stops commands.now answers.items) }
         ensures share { IfOk result (λ answers. self.new.share ≡ self.old.share + accepted_in commands.now answers.items) }
         ensures refused { IfErr result (λ refusal. refusal ≡ Refusal.NoMemory) }
-        ensures err { OnErr result (self.new.share ≡ self.old.share) }
+        ensures err { OnErr result ((self.new.share ≡ self.old.share) × (self.new.served_at ≡ self.old.served_at)) }
         ensures told { self.new.told ≡ self.old.told }
     {
         let Ok(mut answers) = Vec::with_capacity(alloc, commands.len()) else {
@@ -89,6 +89,7 @@ impl<'a, N: Naming> Session<'a, N> {
             &mut self.notices,
             &mut answers,
         );
+        self.served_at = guard.manager.accepted();
         if guard.served != before {
             let _ = guard.tell_if_due(rt);
             self.shared.wakes.wake(ended);

@@ -29,7 +29,7 @@ use crate::note::Note;
 use crate::now::board_now;
 use crate::publisher::Publisher;
 use crate::share::Share;
-use crate::telling::{Telling, shows_waits};
+use crate::telling::{Telling, may_show_waits};
 use gl_catalog::{Answer, Command, Manager, Reply};
 use gl_modes::{Mode, NodeId, Refusal, covers};
 use gl_table::{Notice, Told, TxnId};
@@ -212,7 +212,7 @@ impl<N: Naming> Guarded<N> {
         if !self.publisher.publish(rt, board) {
             return Tell::NoMemory;
         }
-        self.waited = shows_waits(&board);
+        self.waited = may_show_waits(self.telling, &board);
         Tell::Published(board.epoch)
     }
 

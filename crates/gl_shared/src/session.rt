@@ -21,22 +21,25 @@ use gl_modes::{Mode, NodeId};
 use gl_table::{Told, TxnId};
 use std::sync::{MutexGuard, Wait};
 
-/// Whoever asks the table. It keeps its share, the epoch of its last note, and a list for notices.
+/// Whoever asks the table. It keeps its share, the epoch of its last note, the count of accepted
+/// commands behind its last command, and a list for notices.
 pub struct Session<'a, N: Naming> {
     pub(crate) shared: &'a Shared<N>,
     pub(crate) share: Share<N>,
     pub(crate) told: u64,
+    pub(crate) served_at: u64,
     pub(crate) notices: Told,
 }
 
 impl<'a, N: Naming> Session<'a, N> {
     pub fn new(shared: &'a Shared<N>, share: Share<N>) -> Session<'a, N>
-        ensures { (result.share ≡ share) × (result.told ≡ 0) }
+        ensures { (result.share ≡ share) × (result.told ≡ 0) × (result.served_at ≡ 0) }
     {
         Session {
             shared,
             share,
             told: 0,
+            served_at: 0,
             notices: Told::new(),
         }
     }
@@ -48,9 +51,20 @@ impl<'a, N: Naming> Session<'a, N> {
             shared: _,
             share,
             told: _,
+            served_at: _,
             notices: _,
         } = self;
         share
+    }
+
+    /// How many commands the table had accepted when the last one of this session had been served, or
+    /// the last of its last list; 0 before. It orders what sessions asked: an accepted command has a
+    /// count of its own, and one that was refused or only asked stands anywhere behind the accepted
+    /// one of its count.
+    pub fn served_at(&self) -> u64
+        ensures { result ≡ self.now.served_at }
+    {
+        self.served_at
     }
 
     /// Serves a command, and where it is accepted tells watchers as the table was made to, and wakes the sessions whose wait it
@@ -59,7 +73,7 @@ impl<'a, N: Naming> Session<'a, N> {
         ensures accepted { accepts command.entry result.answer ≡ true → self.new.share ≡ self.old.share + 1 }
         ensures refused { accepts command.entry result.answer ≡ false → self.new.share ≡ self.old.share }
         ensures told { self.new.told ≡ self.old.told }
-        ensures step { (s : ManagerView) × (t : ManagerView) × IsLawfulManager s × Step (state_of s) command.entry result.answer result.told.items (state_of t) }
+        ensures step { (s : ManagerView) × (t : ManagerView) × IsLawfulManager s × Step (state_of s) command.entry result.answer result.told.items (state_of t) × (self.new.served_at ≡ t.accepted) }
     {
         let mut told = Told::new();
         let answer = self.ask_telling(rt, command, &mut told);
@@ -72,11 +86,12 @@ impl<'a, N: Naming> Session<'a, N> {
         ensures accepted { accepts command.entry result ≡ true → self.new.share ≡ self.old.share + 1 }
         ensures refused { accepts command.entry result ≡ false → self.new.share ≡ self.old.share }
         ensures told { self.new.told ≡ self.old.told }
-        ensures step { (s : ManagerView) × (t : ManagerView) × IsLawfulManager s × Step (state_of s) command.entry result told.new.items (state_of t) }
+        ensures step { (s : ManagerView) × (t : ManagerView) × IsLawfulManager s × Step (state_of s) command.entry result told.new.items (state_of t) × (self.new.served_at ≡ t.accepted) }
     {
         let mut guard = self.shared.latch.lock(rt);
         guard.law();
         let answer = guard.serve_telling(&mut self.share, command, told);
+        self.served_at = guard.manager.accepted();
         if is_accepted(&command, &answer) {
             let _ = guard.tell_if_due(rt);
             self.shared.wakes.wake(ended_by(&command, told.as_slice()));
@@ -89,7 +104,7 @@ impl<'a, N: Naming> Session<'a, N> {
     pub fn note<R: Wait>(&mut self, rt: &R) -> Note<N>
         ensures later { self.old.told ≤ last_epoch 0 result }
         ensures told { self.new.told ≡ last_epoch 0 result }
-        ensures share { self.new.share ≡ self.old.share }
+        ensures share { (self.new.share ≡ self.old.share) × (self.new.served_at ≡ self.old.served_at) }
     {
         for _ in rt.forever() {
             let mut guard = self.shared.latch.lock(rt);
@@ -118,6 +133,7 @@ impl<'a, N: Naming> Session<'a, N> {
         self.notices.clear();
         let mut guard = self.shared.latch.lock(rt);
         let answer = guard.serve_lock(&mut self.share, txn, node, mode, &mut self.notices);
+        self.served_at = guard.manager.accepted();
         if let Answer::Refused(refusal) = answer {
             MutexGuard::unlock(guard);
             return Err(Stop::Refused(refusal));

@@ -15,8 +15,16 @@ pub enum Telling {
     WhileWaiting,
 }
 
+/// Whether somebody may wait on a board that is told. Where every command is told nobody wants to know,
+/// so the board is not read.
+pub(crate) fn may_show_waits(telling: Telling, board: &Board) -> bool
+    ensures { result ≡ false → ShowsNobody board.now }
+{
+    telling == Telling::Always || shows_waits(board)
+}
+
 /// Whether somebody waits on the board.
-pub(crate) fn shows_waits(board: &Board) -> bool
+fn shows_waits(board: &Board) -> bool
     ensures { result ≡ false → ShowsNobody board.now }
 {
     board.rows.iter().any(|row| *row != 0)

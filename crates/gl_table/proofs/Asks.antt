@@ -1,13 +1,14 @@
 -- What is known of an active slot that asks for a node, and of its list.
-use Rattle.std.specs.Prelude.{◌≡◌, ℕ, ◌+◌, ◌<◌, ◌≤◌, ◌^◌, Bool, true, false, not, ◌||◌, length, Some, slice_index_or}
+use Rattle.std.specs.Prelude.{◌≡◌, ℕ, ◌+◌, ◌<◌, ◌≤◌, ◌^◌, Bool, true, false, not, ◌&&◌, ◌||◌, length, Some, slice_index_or}
 use Rattle.std.specs.List.{count_by}
 use Rattle.std.proofs.Common.{sym, ap, ◌∙◌, subst, arith}
+use Rattle.std.proofs.lemmas.Bool.{not-true}
 use Rattle.std.proofs.lemmas.List.Sums.{count_by-le-length}
 use Rattle.indexmap.specs.IndexMap.{spare}
 use Rattle.gl_modes.specs.declared.mode.Mode.{Mode}
 use Rattle.gl_modes.specs.declared.mode.Mode.TheVariants.{NL}
 use Rattle.gl_modes.specs.declared.node.NodeId.{NodeId}
-use Rattle.gl_modes.specs.Modes.{same_mode}
+use Rattle.gl_modes.specs.Modes.{same_mode, supremum}
 use Rattle.gl_modes.specs.Nodes.{same_node}
 use Rattle.gl_graph.specs.Graph.{Graph, parents_of}
 use Rattle.gl_graph.specs.Lawful.{IsLawfulGraph}
@@ -126,15 +127,15 @@ parents-room g law n x room =
     let few = few_parents g law n in
     omega arith
 
--- room was made for an ask; the flags say whether the slot holds the node, and whether the ask is granted at once
+-- room was made for an ask, which a conversion that is granted at once does not need; the flags say whether the slot holds the node, and whether the ask is granted at once
 pub record IsReady (g : Graph) (l l' : Locks) (t : ℕ) (n : NodeId) (m : Mode) (held now : Bool) : Type 0 where
   pub may : MayAsk g l' t
   pub same : state_on g l' ≡ state_on g l
-  pub room : held ≡ false → HasRoomAt l'.lists.items t
+  pub room : (held && now) ≡ false → HasRoomAt l'.lists.items t
   pub enters : enters slot_limit (members_at l'.headers.entries n) (queue_of l'.headers.entries n) t (wanted (state_on g l') t n m) ≡ now
   pub is_held : holds (members (state_on g l') n) t ≡ held
 
-pub is_ready : (g : Graph) (l l' : Locks) (t : ℕ) (n : NodeId) (m : Mode) (held now : Bool) → MayAsk g l t → enters_at (state_on g l) t n m ≡ now → held ≡ holds (members (state_on g l) n) t → HasMadeRoom l l' t (not held)
+pub is_ready : (g : Graph) (l l' : Locks) (t : ℕ) (n : NodeId) (m : Mode) (held now : Bool) → MayAsk g l t → enters_at (state_on g l) t n m ≡ now → held ≡ holds (members (state_on g l) n) t → HasMadeRoom l l' t (not (held && now))
     → IsReady g l l' t n m held now
 is_ready g l l' t n m held now may enters held_is made = record {
   may = may_now;
@@ -145,7 +146,36 @@ is_ready g l l' t n m held now may enters held_is made = record {
 }
   where
     same : state_on g l' ≡ state_on g l
-    same = room-state g l l' t (not held) made
+    same = room-state g l l' t (not (held && now)) made
 
     may_now : MayAsk g l' t
-    may_now = room-may_ask g l l' t (not held) made may
+    may_now = room-may_ask g l l' t (not (held && now)) made may
+
+-- what the header of a node says of an ask: whether it is granted at once
+abbrev pub says_at : Locks → ℕ → NodeId → Mode → Bool
+says_at l t n m = enters slot_limit (members_at l.headers.entries n) (queue_of l.headers.entries n) t (supremum (held_of l.headers.entries t n) m)
+
+pub says_is : (g : Graph) (l : Locks) (t : ℕ) (n : NodeId) (m : Mode) → MayAsk g l t → says_at l t n m ≡ enters_at (state_on g l) t n m
+says_is g l t n m may = sym (enters-most (state_on g l) may.orderly may.sound.few t n (wanted (state_on g l) t n m))
+
+-- room was made in the lists alone
+module _ (g : Graph) (l l' : Locks) (t : ℕ) (may : MayAsk g l t) (rest : l' ≡ record l { lists = l'.lists }) (lists : KeepsLists l.lists.items l'.lists.items) where
+  only_room : (wanted : Bool) → (wanted ≡ true → HasRoomAt l'.lists.items t) → HasMadeRoom l l' t wanted
+  only_room wanted room = record { headers = ap (λ x. x.headers) rest; seats = ap (λ x. x.seats) rest; lists = lists; room = room }
+
+  none_wanted : HasMadeRoom l l' t false
+  none_wanted = only_room false (λ e. absurd (cc))
+
+  pub roomy_may : MayAsk g l' t
+  roomy_may = room-may_ask g l l' t false none_wanted may
+
+  pub roomy_same : state_on g l' ≡ state_on g l
+  roomy_same = room-state g l l' t false none_wanted
+
+  pub roomy_says : (n : NodeId) (m : Mode) → says_at l' t n m ≡ enters_at (state_on g l) t n m
+  roomy_says n m = says_is g l' t n m roomy_may ∙ ap (λ s. enters_at s t n m) roomy_same
+
+  -- so the ask can be carried out, whatever it comes to
+  pub roomy_ready : (n : NodeId) (m : Mode) (held now : Bool) → held ≡ holds (members (state_on g l) n) t → enters_at (state_on g l) t n m ≡ now → ((held && says_at l t n m) ≡ false → HasRoomAt l'.lists.items t) → IsReady g l l' t n m held now
+  roomy_ready n m held now is at room =
+      is_ready g l l' t n m held now may at is (only_room (not (held && now)) (λ e. room (ap (λ b. held && b) (says_is g l t n m may ∙ at) ∙ not-true (held && now) e)))

@@ -12,6 +12,7 @@ use Rattle.gl_modes.specs.Modes.{are_compatible}
 use Rattle.gl_modes.proofs.ModeLemmas.{NL-compatible}
 use Rattle.gl_header.specs.Header.{Waiter, is_ahead, is_among_waiters}
 use Rattle.gl_header.specs.State.{HeaderState, IsLawfulHeader, members_of}
+use Rattle.gl_header.proofs.Unused.{unused-nobody}
 use Rattle.gl_waits.specs.declared.board.Board.{Board}
 use Rattle.gl_waits.specs.Sets.{bits_of, has_slot}
 use Rattle.gl_waits.specs.Boards.{row_edge}
@@ -81,6 +82,32 @@ ages-passed age i xs free ages t = ages t ∙ ⊎_elim (λ e. here e (age t) (ap
     other : (x : ℕ) → t ≢ i → cond (nat_lt t i) x 0 ≡ cond (nat_lt t (i + 1)) x 0
     other x ne = grind (arith, nat_tests)
 
+-- the ages in the seats
+
+abbrev pub age_at : List (Option Seat) → ℕ → ℕ
+age_at seats t = age_in (txns_of seats t)
+
+-- the seat, as the code reads it, is what the state has of the slot
+seat_at : (seats : List (Option Seat)) (i : ℕ) (o : Option Seat) → i < length seats → get_or seats i None ≡ o → txns_of seats i ≡ txn_in (Some o)
+seat_at seats i o low is = ap txn_in (slice_get-get_or seats i None low ∙ ap Some is)
+
+pub ages-begin : (seats : List (Option Seat)) → AreAgesBelow (age_at seats) 0 (replicate 128 0)
+ages-begin seats = ages-none (age_at seats) 128
+
+pub ages-taken : (seats : List (Option Seat)) (i a : ℕ) (xs : List ℕ) (x : Seat) → i < length seats → i < length xs → get_or seats i None ≡ Some x → a ≡ x.age → AreAgesBelow (age_at seats) i xs
+    → AreAgesBelow (age_at seats) (i + 1) (set xs i a)
+ages-taken seats i a xs x low inside is age = ages-written (age_at seats) i a xs inside (age ∙ sym (ap age_in (seat_at seats i (Some x) low is)))
+
+pub ages-free : (seats : List (Option Seat)) (i : ℕ) (xs : List ℕ) → i < length seats → get_or seats i None ≡ None → AreAgesBelow (age_at seats) i xs → AreAgesBelow (age_at seats) (i + 1) xs
+ages-free seats i xs low free = ages-passed (age_at seats) i xs (ap age_in (seat_at seats i None low free))
+
+-- once all seats are read
+pub ages-read : (seats : List (Option Seat)) (i : ℕ) (xs : List ℕ) → i ≡ length seats → AreAgesBelow (age_at seats) i xs → (u : ℕ) → get_or xs u 0 ≡ age_at seats u
+ages-read seats i xs end ages u = ages u ∙ by (age_at seats u) (λ k. ap (λ o. age_in (txn_in o)) (slice_get_past seats u (omega arith)))
+  where
+    by : (x : ℕ) → (i ≤ u → x ≡ 0) → cond (nat_lt u i) x 0 ≡ x
+    by x z = grind (arith, nat_tests)
+
 -- a row that is right is written
 pub rows-shown : (edge : ℕ → ℕ → Bool) (i r : ℕ) (old xs : List ℕ) → i < length xs → ((u : ℕ) → has_slot r u ≡ edge i u) → AreRowsShown edge old xs → AreRowsShown edge old (set xs i r)
 rows-shown edge i r old xs low is rows t =
@@ -131,7 +158,7 @@ rows-all edge i n m xs size low idle rows =
 
 blocker-below : (o : Option HeaderState) → ((h : HeaderState) → o ≡ Some h → IsLawfulHeader h) → (w : Mode) (t u : ℕ) → (not (are_compatible w (members_of (header_or_new o) u)) || is_ahead (header_or_new o).queue t u) ≡ true → u < 128
 blocker-below None lawful w t u h =
-    or_elim _ _ h (λ k. clash (NL-compatible w) (not-true _ k)) (λ k. clash k refl)
+    or_elim _ _ h (λ k. clash (ap (λ g. are_compatible w (g u)) unused-nobody ∙ NL-compatible w) (not-true _ k)) (λ k. clash k refl)
 blocker-below (Some x) lawful w t u h =
     or_elim _ _ h
     (λ k. ⊎_elim (λ low. low) (λ past. clash (ap (are_compatible w) (law.members_below u past) ∙ NL-compatible w) (not-true _ k)) (cases_lt u 128))
@@ -167,9 +194,8 @@ module _ (hs : Entries) (seats : List (Option Seat)) (epoch i : ℕ) (b after : 
   abbrev s : State
   s = shown hs seats epoch
 
-  -- the seat, as the code reads it, is what the state has of the slot
   seat-at : (o : Option Seat) → get_or seats i None ≡ o → txns_of seats i ≡ txn_in (Some o)
-  seat-at o is = ap txn_in (slice_get-get_or seats i None low ∙ ap Some is)
+  seat-at o = seat_at seats i o low
 
   age-written : (x : Seat) (a : ℕ) → get_or seats i None ≡ Some x → a ≡ x.age → AreAgesBelow (age_of s) (i + 1) (set b.ages i a)
   age-written x a is age =

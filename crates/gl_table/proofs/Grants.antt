@@ -107,11 +107,17 @@ grant-counts s ls ls' t n m law live lock more u counts p =
     more u p ∙ ap (λ (k : ℕ). k + (if u == t then (if same_mode (s.held t n) NL then count_by (same_node p) (parents_of s.graph n) else 0) else 0)) (counts p) ∙ children-new s t n m lock u law live p
 
 -- the answer to an ask that enters
-answer-granted : (enters : Bool) (a : Asked) (m w : Mode) → enters ≡ true → a ≡ (if enters then asked.Granted m else asked.Waiting) → a ≡ asked.Granted w → w ≡ m
+pub answer-granted : (enters : Bool) (a : Asked) (m w : Mode) → enters ≡ true → a ≡ (if enters then asked.Granted m else asked.Waiting) → a ≡ asked.Granted w → w ≡ m
 answer-granted enters a m w now answer is = let e : asked.Granted w ≡ asked.Granted m = sym is ∙ answer ∙ ap (λ k. if k then asked.Granted m else asked.Waiting) now in cc
 
-pub answer-not_waiting : (enters : Bool) (a : Asked) (m : Mode) → enters ≡ true → a ≡ (if enters then asked.Granted m else asked.Waiting) → a ≡ asked.Waiting → ⊥
-answer-not_waiting enters a m now answer is = let e : asked.Waiting ≡ asked.Granted m = sym is ∙ answer ∙ ap (λ k. if k then asked.Granted m else asked.Waiting) now in cc
+-- an ask that was granted enters, and one that waits does not
+pub answer-enters : (enters : Bool) (a : Asked) (m w : Mode) → a ≡ (if enters then asked.Granted m else asked.Waiting) → a ≡ asked.Granted w → enters ≡ true
+answer-enters true a m w answer is = refl
+answer-enters false a m w answer is = absurd (cc)
+
+pub answer-waits : (enters : Bool) (a : Asked) (m : Mode) → a ≡ (if enters then asked.Granted m else asked.Waiting) → a ≡ asked.Waiting → enters ≡ false
+answer-waits true a m answer is = absurd (cc)
+answer-waits false a m answer is = refl
 
 -- what an ask for m leaves, granted as w
 pub record IsGranted (g : Graph) (l l' : Locks) (t : ℕ) (n : NodeId) (m w : Mode) : Type 0 where

@@ -3,7 +3,7 @@ use Rattle.std.proofs.Common.{◌≡◌, ℕ, None, Some, [], true, refl, sym, a
 use Rattle.gl_modes.specs.declared.mode.Mode.TheVariants.{NL}
 use Rattle.gl_modes.specs.declared.node.NodeId.{NodeId}
 use Rattle.gl_header.specs.State.{HeaderState, is_unused, members_of}
-use Rattle.gl_header.proofs.Unused.{unused-true}
+use Rattle.gl_header.proofs.Unused.{unused-nobody, unused-true}
 use Rattle.gl_table.specs.Headers.{Entries, header_at, header_or_new, held_of, queue_of, AreHeadersBut}
 use Rattle.gl_table.proofs.HeaderWrites.{IsChanged, held-changed, queue-changed, with_members-same, with_waiters-same}
 
@@ -14,7 +14,7 @@ module _ (hs hs' : Entries) (n : NodeId) (h : HeaderState) (a : AreHeadersBut n 
 
   pub swept-held : held_of hs' ≡ held_of hs
   swept-held =
-      held-changed hs hs' n None (λ _. NL) c refl
+      held-changed hs hs' n None (λ _. NL) c unused-nobody
       ∙ with_members-same (held_of hs) n (λ _. NL) (λ t. sym (ap (λ o. members_of (header_or_new o) t) at ∙ nobody.0 t))
 
   pub swept-queue : queue_of hs' ≡ queue_of hs

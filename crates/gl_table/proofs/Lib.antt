@@ -32,6 +32,7 @@ pub mod Chains
 pub mod Telling
 pub mod ListWrites
 pub mod HeaderWrites
+pub mod HeaderPlaces
 pub mod HeaderSweeps
 pub mod HeaderAsks
 pub mod NoHeader

@@ -11,9 +11,9 @@ use Rattle.gl_graph.proofs.Look.{number_same}
 use Rattle.gl_header.specs.declared.header.Asked.TheVariants as asked
 use Rattle.gl_header.specs.Answers.{asked_members, asked_queue}
 use Rattle.gl_header.specs.Header.{enters, placed, with_mode}
-use Rattle.gl_header.specs.State.{HeaderState, IsLawfulHeader, is_unused, members_of, slot_limit}
+use Rattle.gl_header.specs.State.{HeaderState, IsLawfulHeader, is_unused, members_of, slot_limit, unused_header}
 use Rattle.gl_header.proofs.Ranges.{not_true}
-use Rattle.gl_header.proofs.Unused.{unused-true}
+use Rattle.gl_header.proofs.Unused.{unused-nobody, unused-true}
 use Rattle.gl_table.specs.declared.locks.Locks.{Locks}
 use Rattle.gl_table.specs.Headers.{held_of, queue_of}
 use Rattle.gl_table.specs.Locks.{state_on}
@@ -26,11 +26,11 @@ use Rattle.gl_table.proofs.Listed.{HasNode}
 use Rattle.gl_table.proofs.NoHeader.{nobody-enters}
 
 -- what an ask leaves of a new header
-pub one_holder : (h w : HeaderState) (t : ℕ) (m : Mode) → h ≡ record { members = []; queue = []; group = NL } → IsLawfulHeader w → members_of w ≡ asked_members h t m → w.queue ≡ asked_queue h t m → IsOneHolder w t m
+pub one_holder : (h w : HeaderState) (t : ℕ) (m : Mode) → h ≡ unused_header → IsLawfulHeader w → members_of w ≡ asked_members h t m → w.queue ≡ asked_queue h t m → IsOneHolder w t m
 one_holder h w t m new lawful members queue = record {
   lawful = lawful;
-  members = members ∙ ap (λ x. asked_members x t m) new ∙ ap (λ b. if b then with_mode (λ _. NL) t m else (λ _. NL)) (nobody-enters slot_limit t m);
-  queue = queue ∙ ap (λ x. asked_queue x t m) new ∙ ap (λ b. if b then [] else placed (λ _. NL) [] t m) (nobody-enters slot_limit t m);
+  members = members ∙ ap (λ x. asked_members x t m) new ∙ ap (λ g. if enters slot_limit g [] t (supremum (g t) m) then with_mode g t (supremum (g t) m) else g) unused-nobody ∙ ap (λ b. if b then with_mode (λ _. NL) t m else (λ _. NL)) (nobody-enters slot_limit t m);
+  queue = queue ∙ ap (λ x. asked_queue x t m) new ∙ ap (λ g. if enters slot_limit g [] t (supremum (g t) m) then [] else placed g [] t (supremum (g t) m)) unused-nobody ∙ ap (λ b. if b then [] else placed (λ _. NL) [] t m) (nobody-enters slot_limit t m);
 }
 
 -- the header is needed

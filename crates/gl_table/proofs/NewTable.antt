@@ -5,7 +5,8 @@ use Rattle.gl_graph.specs.View.{graph_of}
 use Rattle.gl_table.specs.declared.seat.Seat.{Seat}
 use Rattle.gl_table.specs.declared.table.Table.TheInside.{Inside}
 use Rattle.gl_table.specs.Headers.{AreHeaders, held_of, queue_of}
-use Rattle.gl_header.specs.Header.{holds, is_among_waiters}
+use Rattle.gl_header.proofs.Unused.{unused-nobody}
+use Rattle.gl_header.specs.Header.{Members, holds, is_among_waiters}
 use Rattle.gl_table.specs.Covered.{held_children}
 use Rattle.gl_table.specs.Lawful.{IsLawful}
 use Rattle.gl_table.specs.Locks.{AreNew}
@@ -38,7 +39,7 @@ module _ (i : Inside) (most : ℕ) (few : most ≤ 128) (none : (birth : ℕ) �
   new_state = λ z. record (empty_state i.detect most) {
     graph = record { at = λ b. none b z; births = births z };
     txns = λ t. (ap (λ xs. txns_of xs t) new.seats ∙ free_seats most t) z;
-    held = λ t n. held_of (new.headers z) t n;
+    held = λ t n. (ap (λ hs. held_of hs t n) new.headers ∙ ap (λ (g : Members). g t) unused-nobody) z;
     queue = λ n. queue_of (new.headers z) n;
     most = (ap length new.seats ∙ length-replicate most) z;
     begins = begins z;

@@ -50,17 +50,6 @@ module _ (ls : List LockList) (t : ℕ) (l l' : LockList) (lt : t < length ls) (
       here : (f : LockList → ℕ) → by_list f 0 (slice_set ls t l') t ≡ f l'
       here f = by_list-set ls t l' lt f 0 t ∙ ap (λ b. if b then f l' else by_list f 0 ls t) (number_same t t refl)
 
-pub keeps-none : (ls : List LockList) → KeepsLists ls ls
-keeps-none ls = record {
-  len = refl;
-  entries = refl;
-  apart = λ apart. apart;
-  modes = λ u q. refl;
-  listed = λ u q. refl;
-  counts = λ u q. refl;
-  rooms = λ u. omega arith;
-}
-
 pub keeps-agrees : (s : State) (ls ls' : List LockList) (u : ℕ) → KeepsLists ls ls' → Agrees s ls u → Agrees s ls' u
 keeps-agrees s ls ls' u keeps agrees = record {
   modes = λ q. keeps.modes u q ∙ agrees.modes q;

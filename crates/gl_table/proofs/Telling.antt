@@ -1,13 +1,19 @@
 -- A notice put in its place among notices by rising slot.
 use Rattle.std.specs.Prelude.{◌≡◌, ℕ, zero, suc, ◌+◌, ◌<◌, ◌≤◌, Bool, true, false, cond, ◌&&◌, ◌==◌, nat_lt, nat_le, [], ◌∷◌, length, Some, None, if◌then◌else◌}
 use Rattle.std.specs.List.{insert, list_all, prefix_len}
-use Rattle.std.proofs.Common.{refl, sym, ap, ap₂, ◌∙◌, arith}
+use Rattle.std.specs.List.Sorted.{IsNonDecreasingBy, IsPartitionPoint, IsPartitionedBy}
+use Rattle.std.proofs.Common.{refl, sym, ap, ap₂, ◌∙◌, arith, get_or}
 use Rattle.std.proofs.lemmas.Bool.Decides.{nat_tests}
+use Rattle.std.proofs.lemmas.List.Folds.{list_all_at}
+use Rattle.std.proofs.lemmas.List.Sorted.{IsPartitionedBy-ltb}
+use Rattle.std.proofs.lemmas.List.Sums.{prefix_len_is}
 use Rattle.gl_table.specs.declared.txn.TxnId.{TxnId}
 use Rattle.gl_table.specs.declared.notice.Notice.{Notice}
+use Rattle.gl_table.specs.declared.notice.Notice.TheVariants.{Victim}
 use Rattle.gl_table.specs.Tellings.{Told}
 use Rattle.gl_table.specs.Telling.{IsBySlot, is_rising, notices_in}
 use Rattle.gl_graph.proofs.Look.{split, and_both}
+use Rattle.gl_table.proofs.Queues.{clash}
 
 abbrev Named : Type 0
 Named = TxnId × Notice
@@ -33,6 +39,30 @@ place_within (x ∷ xs) s = by (nat_lt x.0.slot s) (place_within xs s)
     by : (b : Bool) → place xs s ≤ length xs → cond b (1 + place xs s) 0 ≤ suc (length xs)
     by true h = omega arith
     by false h = omega arith
+
+-- slots rise along the notices
+rising_order : (xs : Told) → is_rising xs ≡ true → IsNonDecreasingBy (λ (x : Named). x.0.slot) xs
+rising_order [] h i j d le lt = absurd (omega (arith, lt))
+rising_order (x ∷ xs) h zero zero d le lt = omega arith
+rising_order (x ∷ xs) h zero (suc j) d le lt =
+    let both = and_both _ _ h in
+    split (nat_lt x.0.slot (get_or xs j d).0.slot)
+    (λ e. below _ _ e)
+    (λ e. clash both.0 (list_all_at (λ (y : Named). nat_lt x.0.slot y.0.slot) xs j d (omega (arith, lt)) e))
+  where
+    below : (a b : ℕ) → nat_lt a b ≡ true → a ≤ b
+    below a b e = grind (arith, nat_tests)
+rising_order (x ∷ xs) h (suc i) zero d le lt = absurd (omega (arith, le))
+rising_order (x ∷ xs) h (suc i) (suc j) d le lt = rising_order xs (and_both _ _ h).1 i j d (omega (arith, le)) (omega (arith, lt))
+
+-- so the place of a notice is where a binary search parts them
+pub place_parts : (xs : Told) (s : ℕ) → is_rising xs ≡ true → IsPartitionedBy (λ (x : Named). nat_lt x.0.slot s) xs
+place_parts xs s h = IsPartitionedBy-ltb (λ (x : Named). x.0.slot) xs s (rising_order xs h)
+
+pub place_found : (xs : Told) (s i : ℕ) → i ≤ length xs → IsPartitionPoint (λ (x : Named). nat_lt x.0.slot s ≡ true) (λ (x : Named). nat_lt x.0.slot s ≡ false) xs i → i ≡ place xs s
+place_found xs s i within parts =
+    let d : Named = (record { slot = 0; age = 0 }, Victim) in
+    sym (prefix_len_is (λ (x : Named). nat_lt x.0.slot s) xs i d within (λ k h. parts.0 k d (omega arith) h) (λ h. parts.1 i d (omega arith) h))
 
 module _ (x : Named) where
   abbrev inserted : Told → Told

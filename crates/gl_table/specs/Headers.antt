@@ -1,12 +1,11 @@
 -- The headers of all nodes, seen as who holds what and who waits where.
-use Rattle.std.specs.Prelude.{◌≡◌, ℕ, false, List, [], Option, Some, None, if◌then◌else◌}
+use Rattle.std.specs.Prelude.{◌≡◌, ℕ, false, List, Option, Some, None, if◌then◌else◌}
 use Rattle.std.specs.Map.{lookup}
 use Rattle.gl_modes.specs.declared.mode.Mode.{Mode}
-use Rattle.gl_modes.specs.declared.mode.Mode.TheVariants.{NL}
 use Rattle.gl_modes.specs.declared.node.NodeId.{NodeId}
 use Rattle.gl_modes.specs.Nodes.{same_node}
 use Rattle.gl_header.specs.Header.{Members, Waiter}
-use Rattle.gl_header.specs.State.{HeaderState, IsLawfulHeader, is_unused, members_of}
+use Rattle.gl_header.specs.State.{HeaderState, IsLawfulHeader, is_unused, members_of, unused_header}
 
 -- nodes with their headers
 abbrev pub Entries : Type 0
@@ -18,7 +17,7 @@ header_at hs n = lookup (same_node n) hs
 
 -- a node without header has no members and no waiters
 abbrev pub header_or_new : Option HeaderState → HeaderState
-header_or_new None = record { members = []; queue = []; group = NL }
+header_or_new None = unused_header
 header_or_new (Some h) = h
 
 -- who holds the node in which mode

@@ -1,6 +1,6 @@
 //! Asking for a node: granted at once, or queued.
 
-ghost use Rattle.std.specs.Prelude.{◌≡◌, ◌≢◌, ◌<◌, ℕ, IfErr, IfOk, IsOk, OnErr, OnOk, Some, false, length, true};
+ghost use Rattle.std.specs.Prelude.{◌≡◌, ◌≢◌, ◌<◌, ◌&&◌, ℕ, IfErr, IfOk, IsOk, OnErr, OnOk, Some, false, length, true};
 ghost use Rattle.gl_modes.specs.declared.mode.Mode.TheVariants.{NL};
 ghost use Rattle.gl_modes.specs.declared.refusal.Refusal.{Refusal as ARefusal};
 ghost use Rattle.gl_modes.specs.Modes.{supremum};
@@ -8,8 +8,10 @@ ghost use Rattle.gl_graph.specs.Graph.{is_live, parents_of};
 ghost use Rattle.gl_graph.specs.Refusals.{verdict};
 ghost use Rattle.gl_table.specs.Refusals.{rule_refusal};
 ghost use Rattle.gl_graph.specs.View.{graph_of};
-ghost use Rattle.gl_header.specs.Header.{holds};
-ghost use Rattle.gl_table.specs.Answers.{locked_as};
+ghost use Rattle.gl_header.specs.Header.{enters, holds};
+ghost use Rattle.gl_header.specs.State.{slot_limit};
+ghost use Rattle.gl_table.specs.Answers.{asked_at, locked_as};
+ghost use Rattle.gl_table.specs.Headers.{held_of, members_at, queue_of};
 ghost use Rattle.gl_table.specs.Calls.{enqueued, enters_at, granted, wanted};
 ghost use Rattle.gl_table.specs.Locks.{Agrees, AreSound, CountsHeld, IsOrderly, state_on};
 ghost use Rattle.gl_table.specs.Slots.{HasRoomAt, KeepsLists, held_by};
@@ -17,7 +19,7 @@ ghost use Rattle.gl_table.specs.Seats.{txns_of};
 ghost use Rattle.gl_table.specs.State.{members, status_in, status_of};
 ghost use Rattle.gl_table.specs.declared.txn.Status.TheVariants.{Active};
 
-use crate::headers::ask;
+use crate::headers::{ask, would_grant};
 use crate::list::LockList;
 use crate::locks::Locks;
 use crate::outcome::Locked;
@@ -42,6 +44,35 @@ pub(crate) fn make_room(lists: &mut Vec<LockList>, slot: u8) -> Result<(), Refus
 }
 
 impl Locks {
+    /// Makes room in the list of a slot for what an ask comes to. A conversion that is granted at once
+    /// needs none, so that want of memory does not refuse it.
+    fn make_room_to_ask(
+        &mut self,
+        slot: u8,
+        node: NodeId,
+        mode: Mode,
+        is_member: bool,
+    ) -> Result<(), Refusal>
+        requires { slot < length self.old.lists.items }
+        ensures rest { self.new ≡ record self.old { lists = self.new.lists } }
+        ensures kept { KeepsLists self.old.lists.items self.new.lists.items }
+        ensures room { OnOk result ((is_member && enters slot_limit (members_at self.old.headers.entries node) (queue_of self.old.headers.entries node) slot (supremum (held_of self.old.headers.entries slot node) mode)) ≡ false
+            → HasRoomAt self.new.lists.items slot) }
+        ensures at_once { (is_member && enters slot_limit (members_at self.old.headers.entries node) (queue_of self.old.headers.entries node) slot (supremum (held_of self.old.headers.entries slot node) mode)) ≡ true → IsOk result }
+        ensures no_memory { IfErr result (λ refusal. refusal ≡ ARefusal.NoMemory) }
+    {
+        match make_room(&mut self.lists, slot) {
+            Ok(()) => Ok(()),
+            Err(refusal) => {
+                if is_member && would_grant(&self.headers, slot, node, mode) {
+                    Ok(())
+                } else {
+                    Err(refusal)
+                }
+            }
+        }
+    }
+
     /// Whether the rule of the graph lets a slot have the supremum of what it holds on a node and
     /// this mode.
     pub(crate) fn check_rule(
@@ -56,6 +87,60 @@ impl Locks {
     {
         let list = &self.lists[slot as usize];
         check_rule(list, graph.parents(node), sup(list.mode(node), mode))
+    }
+
+    /// Asks for a mode on a node: the supremum of the held and the asked mode is granted at once, or
+    /// the slot waits for it in its place. The room for a later grant is made here. The only refusal
+    /// is `NoMemory`, which a member that is granted at once never meets.
+    pub(crate) fn ask(
+        &mut self,
+        graph: &Graph,
+        slot: u8,
+        node: NodeId,
+        mode: Mode,
+    ) -> Result<Asked, Refusal>
+        requires sound { AreSound self.old }
+        requires orderly { IsOrderly (state_on (graph_of graph.now) self.old) }
+        requires agree { (u : ℕ) → Agrees (state_on (graph_of graph.now) self.old) self.old.lists.items u }
+        requires count { (u : ℕ) → CountsHeld (state_on (graph_of graph.now) self.old) self.old.lists.items u }
+        requires active { status_of (state_on (graph_of graph.now) self.old) slot ≡ Some Active }
+        requires live { is_live (graph_of graph.now) node ≡ true }
+        requires lock { mode ≢ NL }
+        ensures sound { AreSound self.new }
+        ensures answer { IfOk result (λ asked. asked ≡ asked_at (state_on (graph_of graph.now) self.old) slot node mode) }
+        ensures granted { OnOk result (enters_at (state_on (graph_of graph.now) self.old) slot node mode ≡ true
+            → state_on (graph_of graph.now) self.new ≡ granted (state_on (graph_of graph.now) self.old) slot node mode) }
+        ensures waits { OnOk result (enters_at (state_on (graph_of graph.now) self.old) slot node mode ≡ false
+            → state_on (graph_of graph.now) self.new ≡ enqueued (state_on (graph_of graph.now) self.old) slot node (wanted (state_on (graph_of graph.now) self.old) slot node mode)) }
+        ensures agree { (u : ℕ) → Agrees (state_on (graph_of graph.now) self.new) self.new.lists.items u }
+        ensures count { (u : ℕ) → CountsHeld (state_on (graph_of graph.now) self.new) self.new.lists.items u }
+        ensures err_headers { OnErr result (self.new.headers.entries ≡ self.old.headers.entries) }
+        ensures err_seats { OnErr result (self.new.seats ≡ self.old.seats) }
+        ensures err_lists { OnErr result (KeepsLists self.old.lists.items self.new.lists.items) }
+        ensures no_memory { IfErr result (λ refusal. refusal ≡ ARefusal.NoMemory) }
+        ensures held { holds (members (state_on (graph_of graph.now) self.old) node) slot ≡ true
+            → enters_at (state_on (graph_of graph.now) self.old) slot node mode ≡ true → IsOk result }
+    {
+        graph.law();
+        let is_member = self.lists[slot as usize].holds(node);
+        self.make_room_to_ask(slot, node, mode, is_member)?;
+        let asked = ask(self.alloc, &mut self.headers, slot, node, mode)?;
+        let list = &mut self.lists[slot as usize];
+        match asked {
+            Asked::Granted(wanted) if is_member => list.set_mode(node, wanted),
+            Asked::Granted(wanted) => {
+                list.enter(node, wanted);
+                list.count_up(graph.parents(node));
+            }
+            Asked::Waiting => {
+                let wanted = sup(list.mode(node), mode);
+                if !is_member {
+                    list.enter(node, Mode::NL);
+                }
+                set_status(&mut self.seats, slot, Status::Waiting { node, wanted });
+            }
+        }
+        Ok(asked)
     }
 
     /// Grants a mode that can be granted at once: the supremum of the held and the asked mode. The
@@ -86,59 +171,10 @@ impl Locks {
         ensures no_memory { IfErr result (λ refusal. refusal ≡ ARefusal.NoMemory) }
         ensures held { holds (members (state_on (graph_of graph.now) self.old) node) slot ≡ true → IsOk result }
     {
-        graph.law();
-        let is_new = !self.lists[slot as usize].holds(node);
-        if is_new {
-            make_room(&mut self.lists, slot)?;
-        }
-        let wanted = match ask(self.alloc, &mut self.headers, slot, node, mode)? {
-            Asked::Granted(wanted) => wanted,
+        match self.ask(graph, slot, node, mode)? {
+            Asked::Granted(wanted) => Ok(wanted),
             Asked::Waiting => unreachable!(),
-        };
-        let list = &mut self.lists[slot as usize];
-        if is_new {
-            list.enter(node, wanted);
-            list.count_up(graph.parents(node));
-        } else {
-            list.set_mode(node, wanted);
         }
-        Ok(wanted)
-    }
-
-    /// Puts an ask that cannot be granted at once into its place in the queue. The room for the
-    /// later grant is made here. The only refusal is `NoMemory`.
-    pub(crate) fn wait(
-        &mut self,
-        graph: &Graph,
-        slot: u8,
-        node: NodeId,
-        mode: Mode,
-    ) -> Result<(), Refusal>
-        requires sound { AreSound self.old }
-        requires orderly { IsOrderly (state_on (graph_of graph.now) self.old) }
-        requires agree { (u : ℕ) → Agrees (state_on (graph_of graph.now) self.old) self.old.lists.items u }
-        requires count { (u : ℕ) → CountsHeld (state_on (graph_of graph.now) self.old) self.old.lists.items u }
-        requires active { status_of (state_on (graph_of graph.now) self.old) slot ≡ Some Active }
-        requires lock { mode ≢ NL }
-        requires blocks { enters_at (state_on (graph_of graph.now) self.old) slot node mode ≡ false }
-        ensures sound { AreSound self.new }
-        ensures state { OnOk result (state_on (graph_of graph.now) self.new ≡ enqueued (state_on (graph_of graph.now) self.old) slot node (wanted (state_on (graph_of graph.now) self.old) slot node mode)) }
-        ensures agree { (u : ℕ) → Agrees (state_on (graph_of graph.now) self.new) self.new.lists.items u }
-        ensures count { (u : ℕ) → CountsHeld (state_on (graph_of graph.now) self.new) self.new.lists.items u }
-        ensures err_headers { OnErr result (self.new.headers.entries ≡ self.old.headers.entries) }
-        ensures err_seats { OnErr result (self.new.seats ≡ self.old.seats) }
-        ensures err_lists { OnErr result (KeepsLists self.old.lists.items self.new.lists.items) }
-        ensures no_memory { IfErr result (λ refusal. refusal ≡ ARefusal.NoMemory) }
-    {
-        make_room(&mut self.lists, slot)?;
-        ask(self.alloc, &mut self.headers, slot, node, mode)?;
-        let list = &mut self.lists[slot as usize];
-        let wanted = sup(list.mode(node), mode);
-        if !list.holds(node) {
-            list.enter(node, Mode::NL);
-        }
-        set_status(&mut self.seats, slot, Status::Waiting { node, wanted });
-        Ok(())
     }
 
     /// What an ask of a slot for a node came to.

@@ -1,25 +1,25 @@
 //! The board of a moment.
 
-ghost use Rattle.std.specs.Prelude.{◌≡◌, ◌≤◌, ◌==◌, ◌&&◌, ◌||◌, ◌⊎◌, ℕ, ◌<◌, All, IfSome, Some, get_or, length, not};
+ghost use Rattle.std.specs.Prelude.{◌≡◌, ◌≤◌, ◌==◌, ◌&&◌, ◌||◌, ◌⊎◌, ℕ, ◌<◌, IfSome, Some, get_or, length, not};
 ghost use Rattle.gl_modes.specs.Modes.{are_compatible};
 ghost use Rattle.gl_header.specs.Header.{is_ahead};
-ghost use Rattle.gl_header.specs.Entries.{mode_at};
 ghost use Rattle.gl_header.specs.State.{members_of};
+ghost use Rattle.gl_slots.specs.Slots.{has_slot as is_in};
 ghost use Rattle.gl_waits.specs.Sets.{has_slot};
 ghost use Rattle.gl_table.specs.BoardOf.{board_of, shown};
 ghost use Rattle.gl_table.specs.declared.txn.Status.TheVariants.{Waiting};
 ghost use Rattle.gl_table.specs.Headers.{AreHeaders, held_of, queue_of};
 ghost use Rattle.gl_table.specs.Seats.{txns_of};
-ghost use Rattle.gl_table.specs.State.{status_in};
+ghost use Rattle.gl_table.specs.State.{age_in, status_in};
 ghost use Rattle.gl_table.specs.Waiting.{waits_for};
 
 use crate::headers::Headers;
 use crate::seat::Seat;
 use crate::txn::Status;
 use gl_header::Header;
-use gl_modes::{Mode, NodeId, compatible};
-use gl_waits::set::{has, with, without};
-use gl_waits::{Board, SLOTS};
+use gl_modes::{Mode, NodeId};
+use gl_slots::Slots;
+use gl_waits::{Board, SLOTS, WaitsFor};
 
 /// The board of this moment. Each queue in which somebody waits is read twice, however many wait in it:
 /// once for the first of them that is met, and once for the rows of all.
@@ -47,6 +47,20 @@ pub(crate) fn board(headers: &Headers, seats: &[Option<Seat>], epoch: u64) -> Bo
     board
 }
 
+/// The age in each seat, 0 in a free one.
+pub(crate) fn ages(seats: &[Option<Seat>]) -> [u64; SLOTS]
+    requires few { length seats.now ≤ 128 }
+    ensures { (u : ℕ) → get_or result u 0 ≡ age_in (txns_of seats.now u) }
+{
+    let mut ages = [0; SLOTS];
+    for (slot, seat) in seats.iter().enumerate() {
+        if let Some(Seat { age, .. }) = *seat {
+            ages[slot] = age;
+        }
+    }
+    ages
+}
+
 /// Writes the rows of those who wait for a node, in one pass over its queue: ahead of each are those
 /// who were passed. A slot's first place counts.
 fn show_queue(headers: &Headers, seats: &[Option<Seat>], node: NodeId, rows: &mut [u128; SLOTS])
@@ -58,14 +72,14 @@ fn show_queue(headers: &Headers, seats: &[Option<Seat>], node: NodeId, rows: &mu
         return;
     };
     header.law();
-    let mut passed = 0;
+    let mut passed = Slots::empty();
     for &(slot, _) in header.queue() {
         if let Some(wanted) = wanted_on(seats, slot, node) {
-            if !has(passed, slot as usize) {
+            if !passed.contains(slot) {
                 rows[slot as usize] = row_behind(header, passed, slot, wanted);
             }
         }
-        passed = with(passed, slot as usize);
+        passed.insert(slot);
     }
 }
 
@@ -80,59 +94,49 @@ fn wanted_on(seats: &[Option<Seat>], slot: u8, node: NodeId) -> Option<Mode>
     }
 }
 
+/// Who waits for whom at this moment, read row by row.
+#[derive(Clone, Copy)]
+pub(crate) struct Waits<'a> {
+    pub(crate) headers: &'a Headers,
+    pub(crate) seats: &'a [Option<Seat>],
+}
+
+impl WaitsFor for Waits<'_> {
+    ghost use Rattle.gl_table.specs.BoardOf.{shown};
+    ghost use Rattle.gl_table.specs.Waiting.{waits_for};
+
+    ghost edge = { λ it. waits_for (shown it.headers.now.entries it.seats.now 0) };
+
+    fn row(&self, slot: usize) -> u128 {
+        match self.seats.get(slot) {
+            Some(
+                Some(
+                    Seat {
+                        status: Status::Waiting { node, wanted },
+                        ..
+                    },
+                ),
+            ) => row(self.headers, slot as u8, *node, *wanted),
+            _ => 0,
+        }
+    }
+}
+
 /// Whom a slot waits for that waits on this node for this mode: who holds the node in a mode that
 /// does not go with it, and who stands ahead in the queue.
 fn row(headers: &Headers, slot: u8, node: NodeId, wanted: Mode) -> u128
-    requires headers { AreHeaders headers.now.entries }
     requires below { slot < 128 }
     ensures { (u : ℕ) → has_slot result u ≡ (not (slot == u) && (not (are_compatible wanted (held_of headers.now.entries u node)) || is_ahead (queue_of headers.now.entries node) slot u)) }
 {
     match headers.get(&node) {
-        Some(header) => {
-            header.law();
-            row_behind(header, ahead(header.queue(), slot), slot, wanted)
-        }
+        Some(header) => header.waits_for(slot, wanted).bits(),
         None => 0,
     }
 }
 
 /// Whom a slot waits for with these ahead of it.
-fn row_behind(header: &Header, ahead: u128, slot: u8, wanted: Mode) -> u128
-    requires below { slot < 128 }
-    ensures { (u : ℕ) → has_slot result u ≡ (not (slot == u) && (not (are_compatible wanted (members_of header.now u)) || has_slot ahead u)) }
+fn row_behind(header: &Header, ahead: Slots, slot: u8, wanted: Mode) -> u128
+    ensures { (u : ℕ) → has_slot result u ≡ (not (slot == u) && (not (are_compatible wanted (members_of header.now u)) || is_in ahead u)) }
 {
-    header.law();
-    without(opposed(header.members(), wanted) | ahead, slot as usize)
-}
-
-/// The slots that hold a mode that does not go with the wanted one. Where a slot stands twice, its
-/// first entry counts.
-fn opposed(members: &[(u8, Mode)], wanted: Mode) -> u128
-    requires { All (λ entry. entry.0 < 128) members.now }
-    ensures { (u : ℕ) → has_slot result u ≡ not (are_compatible wanted (mode_at members.now u)) }
-{
-    let mut slots = 0;
-    for &(slot, held) in members.iter().rev() {
-        slots = if compatible(wanted, held) {
-            without(slots, slot as usize)
-        } else {
-            with(slots, slot as usize)
-        };
-    }
-    slots
-}
-
-/// The slots that stand ahead of this one in a queue; none where it does not stand there.
-fn ahead(queue: &[(u8, Mode)], slot: u8) -> u128
-    requires { All (λ entry. entry.0 < 128) queue.now }
-    ensures { (u : ℕ) → has_slot result u ≡ is_ahead queue.now slot u }
-{
-    let mut slots = 0;
-    for &(other, _) in queue {
-        if other == slot {
-            return slots;
-        }
-        slots = with(slots, other as usize);
-    }
-    0
+    header.opposed(wanted).union(ahead).without(slot).bits()
 }

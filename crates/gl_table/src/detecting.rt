@@ -13,7 +13,7 @@ ghost use Rattle.gl_table.specs.Tellings.{told_but};
 ghost use Rattle.gl_table.specs.Tells.{IsOnWay, told_to};
 ghost use Rattle.gl_table.specs.Waiting.{Settled, is_wait, waits_for};
 
-use crate::boards::board;
+use crate::boards::{Waits, ages};
 use crate::detect::Detect;
 use crate::locks::Locks;
 use crate::notice::{Notice, Told};
@@ -21,7 +21,7 @@ use crate::seat::Seat;
 use crate::told::tell;
 use crate::txn::{Status, TxnId};
 use gl_graph::Graph;
-use gl_waits::{on_cycle, youngest};
+use gl_waits::{on_cycle_in, youngest_of};
 
 impl Locks {
     /// With detection at block, settles a slot that has begun to wait. Puts who else is told into an
@@ -77,8 +77,16 @@ impl Locks {
         ensures some { IfSome result (λ v. (g : AGraph) → IsOrderly (state_on g self.now) → IsYoungest (IsOnCycleOf (waits_for (state_on g self.now)) slot) (age_of (state_on g self.now)) v) }
         ensures waits { IfSome result (λ v. (g : AGraph) → IsOrderly (state_on g self.now) → is_wait (status_of (state_on g self.now) v) ≡ true) }
     {
-        let board = board(&self.headers, self.seats.as_slice(), 0);
-        let victim = youngest(&board, on_cycle(&board, slot as usize))?;
+        let seats = self.seats.as_slice();
+        let waits = Waits {
+            headers: &self.headers,
+            seats,
+        };
+        let cycle = on_cycle_in(&waits, slot as usize);
+        if cycle == 0 {
+            return None;
+        }
+        let victim = youngest_of(&ages(seats), cycle)?;
         Some(victim as u8)
     }
 

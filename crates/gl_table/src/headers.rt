@@ -1,6 +1,7 @@
 //! The headers of all nodes: one for each node that somebody holds or waits for, and no other.
 
-ghost use Rattle.std.specs.Prelude.{◌≡◌, ◌≢◌, ◌<◌, [], IfErr, IfOk, IsOk, OnErr, OnOk, false, true, if◌then◌else◌};
+ghost use Rattle.std.specs.Prelude.{◌≡◌, ◌≢◌, ◌<◌, [], IfErr, IfOk, IsOk, OnErr, OnOk, Some, false, slice_get, true, if◌then◌else◌};
+ghost use Rattle.indexmap.specs.IndexMap.{keys};
 ghost use Rattle.gl_modes.specs.declared.mode.Mode.TheVariants.{NL};
 ghost use Rattle.gl_modes.specs.Modes.{supremum};
 ghost use Rattle.gl_header.specs.State.{slot_limit};
@@ -18,8 +19,7 @@ ghost use Rattle.gl_header.specs.Header.{
 };
 ghost use Rattle.gl_table.specs.Headers.{AreHeaders, AreHeadersBut, held_of, members_at, queue_of, with_members, with_waiters};
 
-use arrayvec::ArrayVec;
-use gl_header::{Asked, Header, SLOTS};
+use gl_header::{Asked, GrantList, Header};
 use gl_modes::{Mode, NodeId, Refusal};
 use indexmap::IndexMap;
 use std::alloc::Global;
@@ -32,10 +32,7 @@ pub(crate) fn group(headers: &Headers, node: NodeId) -> Mode
     ensures { result ≡ group_of slot_limit (members_at headers.now.entries node) }
 {
     match headers.get(&node) {
-        Some(header) => {
-            header.law();
-            header.group()
-        }
+        Some(header) => header.group(),
         None => Mode::NL,
     }
 }
@@ -95,49 +92,43 @@ pub(crate) fn ask(
     }
 }
 
-/// Takes a grant away, and grants from the front of the node's queue. Answers whom it granted, in
-/// the queue's order. A header that nobody needs any more goes.
-pub(crate) fn drop_grant(
-    headers: &mut Headers,
-    slot: u8,
-    node: NodeId,
-) -> ArrayVec<(u8, Mode), SLOTS>
+/// Takes a grant away, and grants from the front of the node's queue. The list is filled anew with
+/// those whom it granted, in the queue's order. A header that nobody needs any more goes.
+pub(crate) fn drop_grant(headers: &mut Headers, slot: u8, node: NodeId, granted: &mut GrantList)
     requires headers { AreHeaders headers.old.entries }
     requires holds { holds (members_at headers.old.entries node) slot ≡ true }
     requires not_waiting { is_among_waiters slot (queue_of headers.old.entries node) ≡ false }
     ensures headers { AreHeaders headers.new.entries }
-    ensures granted { result.items ≡ front slot_limit (with_mode (members_at headers.old.entries node) slot NL) (queue_of headers.old.entries node) }
+    ensures granted { granted.new.items ≡ front slot_limit (with_mode (members_at headers.old.entries node) slot NL) (queue_of headers.old.entries node) }
     ensures held { held_of headers.new.entries ≡ with_members (held_of headers.old.entries) node (pumped_members slot_limit (with_mode (members_at headers.old.entries node) slot NL) (queue_of headers.old.entries node)) }
     ensures queue { queue_of headers.new.entries ≡ with_waiters (queue_of headers.old.entries) node (pumped_queue slot_limit (with_mode (members_at headers.old.entries node) slot NL) (queue_of headers.old.entries node)) }
 {
-    let granted = match headers.get_mut(&node) {
-        Some(header) => header.drop_grant(slot),
-        None => unreachable!(),
-    };
-    sweep(headers, node);
-    granted
+    if let Some(at) = headers.get_index_of(&node) {
+        let (_, header) = headers.pair_mut(at);
+        header.drop_grant(slot, granted);
+        sweep(headers, node, at);
+    } else {
+        unreachable!();
+    }
 }
 
-/// Takes a wait away, and grants from the front of the node's queue. Answers whom it granted, in the
-/// queue's order. A header that nobody needs any more goes.
-pub(crate) fn drop_wait(
-    headers: &mut Headers,
-    slot: u8,
-    node: NodeId,
-) -> ArrayVec<(u8, Mode), SLOTS>
+/// Takes a wait away, and grants from the front of the node's queue. The list is filled anew with
+/// those whom it granted, in the queue's order. A header that nobody needs any more goes.
+pub(crate) fn drop_wait(headers: &mut Headers, slot: u8, node: NodeId, granted: &mut GrantList)
     requires headers { AreHeaders headers.old.entries }
     requires waits { is_among_waiters slot (queue_of headers.old.entries node) ≡ true }
     ensures headers { AreHeaders headers.new.entries }
-    ensures granted { result.items ≡ front slot_limit (members_at headers.old.entries node) (without_waiter slot (queue_of headers.old.entries node)) }
+    ensures granted { granted.new.items ≡ front slot_limit (members_at headers.old.entries node) (without_waiter slot (queue_of headers.old.entries node)) }
     ensures held { held_of headers.new.entries ≡ with_members (held_of headers.old.entries) node (pumped_members slot_limit (members_at headers.old.entries node) (without_waiter slot (queue_of headers.old.entries node))) }
     ensures queue { queue_of headers.new.entries ≡ with_waiters (queue_of headers.old.entries) node (pumped_queue slot_limit (members_at headers.old.entries node) (without_waiter slot (queue_of headers.old.entries node))) }
 {
-    let granted = match headers.get_mut(&node) {
-        Some(header) => header.drop_wait(slot),
-        None => unreachable!(),
-    };
-    sweep(headers, node);
-    granted
+    if let Some(at) = headers.get_index_of(&node) {
+        let (_, header) = headers.pair_mut(at);
+        header.drop_wait(slot, granted);
+        sweep(headers, node, at);
+    } else {
+        unreachable!();
+    }
 }
 
 /// Takes a wait away and grants nobody, where nobody at the front of what is left can be granted. A
@@ -150,23 +141,26 @@ pub(crate) fn dismiss(headers: &mut Headers, slot: u8, node: NodeId)
     ensures held { held_of headers.new.entries ≡ held_of headers.old.entries }
     ensures queue { queue_of headers.new.entries ≡ with_waiters (queue_of headers.old.entries) node (without_waiter slot (queue_of headers.old.entries node)) }
 {
-    match headers.get_mut(&node) {
-        Some(header) => header.dismiss(slot),
-        None => unreachable!(),
+    if let Some(at) = headers.get_index_of(&node) {
+        let (_, header) = headers.pair_mut(at);
+        header.dismiss(slot);
+        sweep(headers, node, at);
+    } else {
+        unreachable!();
     }
-    sweep(headers, node);
 }
 
-/// Takes a header without members and waiters out.
-fn sweep(headers: &mut Headers, node: NodeId)
-    requires { AreHeadersBut node headers.old.entries }
+/// Takes the header of a node, which stands at this place, out where it has no members and waiters.
+fn sweep(headers: &mut Headers, node: NodeId, at: usize)
+    requires headers { AreHeadersBut node headers.old.entries }
+    requires place { slice_get (keys headers.old) at ≡ Some node }
     ensures headers { AreHeaders headers.new.entries }
     ensures held { held_of headers.new.entries ≡ held_of headers.old.entries }
     ensures queue { queue_of headers.new.entries ≡ queue_of headers.old.entries }
 {
-    if let Some(header) = headers.get(&node) {
+    if let Some((_, header)) = headers.get_index(at) {
         if header.is_empty() {
-            headers.swap_remove(&node);
+            headers.swap_remove_index(at);
         }
     }
 }

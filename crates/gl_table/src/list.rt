@@ -3,7 +3,7 @@
 ghost use Rattle.std.specs.Prelude.{◌≡◌, ℕ, ◌+◌, ◌<◌, ◌≤◌, ◌^◌, ◌&&◌, ◌||◌, not, true, false, length, OnOk, IfSome, IfNone, if◌then◌else◌};
 ghost use Rattle.std.specs.List.{count_by, list_all, list_any};
 ghost use Rattle.indexmap.specs.IndexMap.{spare};
-ghost use Rattle.std.specs.Prelude.{Some, nat_lt, slice_get};
+ghost use Rattle.std.specs.Prelude.{None, Some, cond, nat_lt, slice_get, unwrap_or};
 ghost use Rattle.std.specs.List.{find};
 ghost use Rattle.std.specs.Option.{option_map_or};
 ghost use Rattle.gl_modes.specs.declared.mode.Mode.TheVariants.{NL, X};
@@ -12,7 +12,7 @@ ghost use Rattle.gl_graph.specs.View.{graph_of};
 ghost use Rattle.gl_modes.specs.declared.node.NodeId.{NodeId as Node};
 ghost use Rattle.gl_table.specs.Marks.{NoneMarkedFrom, covered_in};
 ghost use Rattle.indexmap.specs.IndexMap.{keys, swap_remove_entry};
-ghost use Rattle.std.specs.Map.{keys_of};
+ghost use Rattle.std.specs.Map.{keys_of, lookup};
 ghost use Rattle.gl_modes.specs.Modes.{same_mode};
 ghost use Rattle.gl_modes.specs.Nodes.{same_node};
 ghost use Rattle.gl_table.specs.Intends.{is_write};
@@ -44,6 +44,18 @@ pub(crate) struct Entry {
 pub(crate) struct LockList {
     entries: IndexMap<NodeId, Entry>,
     loose: IndexMap<NodeId, u32>,
+}
+
+/// Takes out what is counted apart of a node. Most lists count nothing apart, and are not looked into.
+fn take_loose(loose: &mut IndexMap<NodeId, u32>, n: NodeId) -> u32
+    ensures value { result ≡ unwrap_or (lookup (same_node n) loose.old.entries) 0 }
+    ensures taken { (q : Node) → lookup (same_node q) loose.new.entries ≡ cond (same_node n q) None (lookup (same_node q) loose.old.entries) }
+    ensures room { spare loose.old ≤ spare loose.new }
+{
+    if loose.is_empty() {
+        return 0;
+    }
+    loose.swap_remove(&n).unwrap_or(0)
 }
 
 impl LockList {
@@ -105,7 +117,7 @@ impl LockList {
         ensures apart { IsApart self.new }
         ensures room { spare self.old.loose ≤ spare self.new.loose }
     {
-        let children = self.loose.swap_remove(&n).unwrap_or(0);
+        let children = take_loose(&mut self.loose, n);
         self.entries.insert(n, Entry { mode, children }).unwrap();
     }
 

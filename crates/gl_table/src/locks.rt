@@ -28,6 +28,7 @@ use crate::seat::{Seat, set_status};
 use crate::txn::Status;
 use crate::waking::wake;
 use gl_graph::Graph;
+use gl_header::GrantList;
 use gl_modes::{Mode, NodeId};
 use indexmap::IndexMap;
 use std::alloc::{AllocError, Global};
@@ -147,7 +148,8 @@ impl Locks {
         ensures tells { WakesTold (state_on (graph_of graph.now) self.old).txns node (front_at (with_grant (state_on (graph_of graph.now) self.old) slot node NL) node) told.old.items told.new.items }
     {
         graph.law();
-        let granted = drop_grant(&mut self.headers, slot, node);
+        let mut granted = GrantList::new();
+        drop_grant(&mut self.headers, slot, node, &mut granted);
         self.wake_granted(graph, node, granted.as_slice(), told);
     }
 
@@ -174,7 +176,8 @@ impl Locks {
         ensures tells { WakesTold (state_on (graph_of graph.now) self.old).txns node (front_at (without_wait (state_on (graph_of graph.now) self.old) slot status) node) told.old.items told.new.items }
     {
         graph.law();
-        let granted = drop_wait(&mut self.headers, slot, node);
+        let mut granted = GrantList::new();
+        drop_wait(&mut self.headers, slot, node, &mut granted);
         self.wake_granted(graph, node, granted.as_slice(), told);
         set_status(&mut self.seats, slot, status);
     }

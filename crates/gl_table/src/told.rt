@@ -1,8 +1,8 @@
 //! Telling: notices by rising slot.
 
-ghost use Rattle.std.specs.Prelude.{◌≡◌, ◌<◌, ◌==◌, ℕ, None, Some, if◌then◌else◌, nat_lt};
+ghost use Rattle.std.specs.Prelude.{◌≡◌, ◌<◌, ◌==◌, ℕ, None, Some, if◌then◌else◌, nat_lt, true};
 ghost use Rattle.std.specs.List.{prefix_len};
-ghost use Rattle.gl_table.specs.Telling.{IsBySlot, notices_in};
+ghost use Rattle.gl_table.specs.Telling.{IsBySlot, is_rising, notices_in};
 
 use crate::notice::{Notice, Told};
 use crate::txn::TxnId;
@@ -21,7 +21,8 @@ pub(crate) fn tell(told: &mut Told, t: TxnId, notice: Notice)
 
 /// How many notices are to slots below this one.
 fn place_of(told: &[(TxnId, Notice)], slot: u8) -> usize
+    requires { is_rising told.now ≡ true }
     ensures { result ≡ prefix_len (λ x. nat_lt x.0.slot slot) told.now }
 {
-    told.iter().take_while(|x| x.0.slot < slot).count()
+    told.partition_point(|x| x.0.slot < slot)
 }

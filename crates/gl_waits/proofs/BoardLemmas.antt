@@ -1,14 +1,12 @@
--- Rows of a board, and cycles found by its rows and its columns.
-use Rattle.std.proofs.Common.{◌≡◌, ℕ, ◌<◌, ◌↔◌, ⊎_elim, Bool, true, false, ◌&&◌, List, [], length, get_or, map, replicate, IsTrue, refl, sym, ap, ◌∙◌, arith}
+-- Rows of a board.
+use Rattle.std.proofs.Common.{◌≡◌, ℕ, ◌<◌, ⊎_elim, Bool, true, false, List, length, get_or, map, replicate, sym, ap, ◌∙◌, arith}
 use Rattle.std.specs.List.{range_with_len}
-use Rattle.std.proofs.lemmas.Bool.{and_from, and_parts, cases_lt, false_from_ne_true}
+use Rattle.std.proofs.lemmas.Bool.{cases_lt, false_from_ne_true}
 use Rattle.std.proofs.lemmas.List.FromFn.{get_or-map-range_with_len, length-map-range_with_len}
 use Rattle.std.proofs.lemmas.List.{get_or_past, get_or-replicate, length-replicate}
-use Rattle.gl_waits.specs.Waits.{Reaches, IsOnCycleOf}
 use Rattle.gl_waits.specs.Sets.{has_slot, bits_of}
 use Rattle.gl_waits.specs.Boards.{row_edge}
 use Rattle.gl_waits.proofs.SetLemmas.{has_slot-zero, has_slot-above, has_slot-bits_of, bits_of-lt}
-use Rattle.gl_waits.proofs.WalkLemmas.{reaches_join, reaches_back}
 
 empty_row : (rows : List ℕ) (s u : ℕ) → get_or rows s 0 ≡ 0 → row_edge rows s u ≡ false
 empty_row rows s u e = ap (λ set. has_slot set u) e ∙ has_slot-zero u
@@ -23,20 +21,6 @@ empty_rows rows empty s u = false_from_ne_true (row_edge rows s u) (λ h. cc (em
 
 pub row_edge-replicate : (n s u : ℕ) → row_edge (replicate n 0) s u ≡ false
 row_edge-replicate n = empty_rows (replicate n 0) (λ s low. let e = length-replicate {A = ℕ} n 0 in let inside : s < n = omega arith in get_or-replicate n s 0 0 inside)
-
--- where the members are what a slot reaches, the slot one of them, and `back` turns their steps round, what it reaches forwards and backwards is on a cycle with it
-module _ (edge back : ℕ → ℕ → Bool) (member : ℕ → Bool) (slot : ℕ)
-    (reached : (v : ℕ) → IsTrue (member v) ↔ Reaches edge slot v) (turned : (s u : ℕ) → back u s ≡ (member s && edge s u)) where
-  pub meets-cycle : (u : ℕ) → member u ≡ true → Reaches back slot u → IsOnCycleOf edge slot u
-  meets-cycle u h r = record {
-    there = (reached u).0 h;
-    back = reaches_back back edge (λ _. true) (λ x y m e. refl) (λ x y m e. (and_parts (member y) (edge y x) (sym (turned y x) ∙ e)).1) slot u refl r;
-  }
-
-  pub cycle-meets : (u : ℕ) → IsOnCycleOf edge slot u → (member u ≡ true) × Reaches back slot u
-  cycle-meets u on =
-      let inside = (reached u).1 on.there in
-      (inside, reaches_back edge back member (λ x y m e. (reached y).1 (reaches_join edge slot x y ((reached x).0 m) ([], e))) (λ x y m e. turned x y ∙ and_from (member x) (edge x y) m e) u slot inside on.back)
 
 -- the rows that a relation of slots makes, for each slot below n the set of those below m, have its steps
 module _ (n m : ℕ) (edge : ℕ → ℕ → Bool) (low : (s u : ℕ) → edge s u ≡ true → (s < n) × (u < m)) where

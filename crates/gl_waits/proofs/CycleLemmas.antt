@@ -1,10 +1,10 @@
 -- Cycles: what a set of slots that was read from a board says of them, and cycles of a relation that changed.
 use Rattle.std.proofs.Common.{◌≡◌, ◌≢◌, ◌⊎◌, ℕ, ◌↔◌, Bool, true, List, [], ◌∷◌, IsTrue, ap, subst, ⊎_elim, inl, inr}
-use Rattle.std.proofs.lemmas.Bool.{cases_eq, false_from_ne_true}
-use Rattle.gl_waits.specs.Waits.{IsWalk, Reaches, IsOnCycleOf, IsOnCycle, IsOnNoCycle, IsYoungest, IsLowestYoungest}
+use Rattle.std.proofs.lemmas.Bool.{and_from, cases_eq, false_from_ne_true}
+use Rattle.gl_waits.specs.Waits.{IsWalk, Reaches, IsOnCycleOf, IsOnCycle, IsOnNoCycle, IsYoungest, IsLowestYoungest, waits_of}
 use Rattle.gl_waits.specs.Sets.{has_slot}
 use Rattle.gl_waits.proofs.SetLemmas.{has_slot-zero, no_slot-zero}
-use Rattle.gl_waits.proofs.WalkLemmas.{reaches_join, reaches_more}
+use Rattle.gl_waits.proofs.WalkLemmas.{reaches_join, reaches_among, reaches_more, reaches_of}
 
 -- a set with exactly the slots on a cycle with t, as `on_cycle` answers
 module _ (edge : ℕ → ℕ → Bool) (t set : ℕ) (exact : (u : ℕ) → IsTrue (has_slot set u) ↔ IsOnCycleOf edge t u) where
@@ -33,8 +33,26 @@ module _ (edge : ℕ → ℕ → Bool) (set : ℕ) (exact : (s : ℕ) → IsTrue
 pub cycle-more : (edge more : ℕ → ℕ → Bool) → ((x y : ℕ) → edge x y ≡ true → more x y ≡ true) → (t v : ℕ) → IsOnCycleOf edge t v → IsOnCycleOf more t v
 cycle-more edge more sub t v on = record { there = reaches_more edge more sub t v on.there; back = reaches_more edge more sub v t on.back }
 
+pub fewer-no_cycle : (edge fewer : ℕ → ℕ → Bool) → ((x y : ℕ) → fewer x y ≡ true → edge x y ≡ true) → (t : ℕ) → IsOnNoCycle edge t → IsOnNoCycle fewer t
+fewer-no_cycle edge fewer sub t none v on = none v (cycle-more fewer edge sub t v on)
+
 pub less-no_cycle : (edge less : ℕ → ℕ → Bool) → ((x y : ℕ) → less x y ≡ true → edge x y ≡ true) → ((t : ℕ) → IsOnNoCycle edge t) → (t : ℕ) → IsOnNoCycle less t
-less-no_cycle edge less sub none t v on = none t v (cycle-more less edge sub t v on)
+less-no_cycle edge less sub none t = fewer-no_cycle edge less sub t (none t)
+
+-- the members are what a slot reaches
+module _ (edge : ℕ → ℕ → Bool) (member : ℕ → Bool) (slot : ℕ) (reached : (v : ℕ) → IsTrue (member v) ↔ Reaches edge slot v) where
+  -- no step leaves them
+  pub reached-closed : (x y : ℕ) → member x ≡ true → edge x y ≡ true → member y ≡ true
+  reached-closed x y m e = (reached y).1 (reaches_join edge slot x y ((reached x).0 m) ([], e))
+
+  -- a slot is on a cycle with it where it is a member that reaches it by the members' steps
+  pub meets-cycle : (u : ℕ) → member u ≡ true → Reaches (waits_of member edge) u slot → IsOnCycleOf edge slot u
+  meets-cycle u h r = record { there = (reached u).0 h; back = reaches_of member edge u slot r }
+
+  pub cycle-meets : (u : ℕ) → IsOnCycleOf edge slot u → (member u ≡ true) × Reaches (waits_of member edge) u slot
+  cycle-meets u on =
+      let inside = (reached u).1 on.there in
+      (inside, reaches_among edge (waits_of member edge) member reached-closed (λ x y m e. and_from (member x) (edge x y) m e) u slot inside on.back)
 
 -- a relation that has new steps from t or to t alone
 module _ (edge new : ℕ → ℕ → Bool) (t : ℕ) (others : (x y : ℕ) → new x y ≡ true → x ≢ t → y ≢ t → edge x y ≡ true) where

@@ -1,10 +1,10 @@
 -- Sets of slots as numbers: union, intersection, one slot more or less, and the number of a test.
-use Rattle.std.proofs.Common.{◌≡◌, ◌≢◌, ℕ, zero, suc, ◌+◌, ◌-◌, ◌*◌, ◌/◌, ◌%◌, ◌^◌, ◌<◌, ◌≤◌, Bool, true, false, cond, not, min, ◌&&◌, ◌||◌, ◌==◌, bit_and, bit_or, ◌⊎◌, ⊎_elim, inl, inr, sym, ap, ◌∙◌, pow-suc, mod-lt, arith}
+use Rattle.std.proofs.Common.{◌≡◌, ◌≢◌, ℕ, zero, suc, ◌+◌, ◌-◌, ◌*◌, ◌/◌, ◌%◌, ◌^◌, ◌<◌, ◌≤◌, Bool, true, false, cond, not, min, ◌&&◌, ◌||◌, ◌==◌, nat_lt, if◌then◌else◌, bit_and, bit_or, ◌⊎◌, ⊎_elim, inl, inr, sym, ap, ◌∙◌, pow-suc, mod-lt, arith}
 use Rattle.std.specs.Int.{bit_at, bit_not, w128}
 use Rattle.std.proofs.Math.Pow.{pow-lt}
 use Rattle.std.proofs.lemmas.Nat.{and_le_l, div-add-mod', one_shl, pow_pos}
-use Rattle.std.proofs.lemmas.Nat.Bits.{bit_at-suc, bit_at_lowest, bit_at-zero, bit_at-lt, bit_at_and, bit_at_or, bit_at_above, bit_at_set_same, bit_at_set_other, bit_at_clear_same, bit_at_clear_other, bit_at_ones, bit_at_ones_above, bit_at-pow_same, bit_at-pow_other, bit_at_cat_low, bit_at_cat_high, and_pow, same_from_bits, same_from_bits_below}
-use Rattle.std.proofs.lemmas.Bool.{cases_lt, cases_order}
+use Rattle.std.proofs.lemmas.Nat.Bits.{bit_at-suc, bit_at_lowest, bit_at-zero, bit_at-lt, bit_at_and, bit_at_or, bit_at_above, bit_at_set_same, bit_at_set_other, bit_at_clear_same, bit_at_clear_other, bit_at_ones, bit_at_ones_above, bit_at_not, bit_at-pow_same, bit_at-pow_other, bit_at_cat_low, bit_at_cat_high, and_pow, same_from_bits, same_from_bits_below}
+use Rattle.std.proofs.lemmas.Bool.{and_parts, cases_lt, cases_order}
 use Rattle.std.proofs.lemmas.Bool.Decides.{nat_tests}
 use Rattle.gl_waits.specs.Sets.{has_slot, bits_of}
 
@@ -121,6 +121,33 @@ clear-lt set k low has = by _ (and_le_l set _) (bit_at_clear_same w128 set k low
 -- `u128::MAX` has every slot
 pub has_slot-ones : (k u : ℕ) → u < k → has_slot (2 ^ k - 1) u ≡ true
 has_slot-ones k u low = ap (λ x. x == 1) (bit_at_ones k u low)
+
+-- what `!set` computes
+pub has_slot-not : (set u : ℕ) → set < 2 ^ 128 → has_slot (bit_not w128 set) u ≡ (nat_lt u 128 && not (has_slot set u))
+has_slot-not set u small = ⊎_elim inside outside (cases_lt u 128)
+  where
+    inside : u < 128 → has_slot (bit_not w128 set) u ≡ (nat_lt u 128 && not (has_slot set u))
+    inside low =
+        let e = bit_at_not w128 set u small low in
+        let x = bit_at-lt set u in
+        grind (arith, nat_tests)
+
+    outside : 128 ≤ u → has_slot (bit_not w128 set) u ≡ (nat_lt u 128 && not (has_slot set u))
+    outside above =
+        let e = has_slot-above (bit_not w128 set) 128 u (omega arith) above in
+        grind (arith, nat_tests)
+
+-- a set of slots below n has slots below n alone
+pub has_slot-low : (set n u : ℕ) → set < 2 ^ n → has_slot set u ≡ true → u < n
+has_slot-low set n u small has = ⊎_elim (λ low. low) (λ above. cc (has_slot-above set n u small above)) (cases_lt u n)
+
+-- what of a set is wanted, or else the whole set, is in the set
+pub prefer-member : (set wanted some : ℕ) → some ≡ (if bit_and set wanted == 0 then set else bit_and set wanted) → (u : ℕ) → has_slot some u ≡ true → has_slot set u ≡ true
+prefer-member set wanted some is u h = by (bit_and set wanted == 0) (ap (λ n. has_slot n u) (sym is) ∙ h)
+  where
+    by : (b : Bool) → has_slot (if b then set else bit_and set wanted) u ≡ true → has_slot set u ≡ true
+    by true k = k
+    by false k = (and_parts (has_slot set u) (has_slot wanted u) (sym (has_slot-and set wanted u) ∙ k)).0
 
 -- what `set & (1 << k) != 0` tests
 pub has_slot-test : (set k : ℕ) → k < 128 → not (bit_and set (1 * 2 ^ k % 2 ^ 128) == 0) ≡ has_slot set k

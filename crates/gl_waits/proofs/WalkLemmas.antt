@@ -1,6 +1,7 @@
 -- Walks: joined, read backwards, and in a relation with more steps.
-use Rattle.std.proofs.Common.{◌≡◌, ℕ, Bool, true, false, List, [], ◌∷◌, ◌++◌}
-use Rattle.gl_waits.specs.Waits.{IsWalk, Reaches, IsOnCycle, IsOnNoCycle}
+use Rattle.std.proofs.Common.{◌≡◌, ℕ, Bool, true, false, List, [], ◌∷◌, ◌++◌, refl}
+use Rattle.std.proofs.lemmas.Bool.{and_from, and_parts}
+use Rattle.gl_waits.specs.Waits.{IsWalk, Reaches, IsOnCycle, IsOnNoCycle, waits_of}
 
 walk_join : (edge : ℕ → ℕ → Bool) (a b c : ℕ) (way more : List ℕ) → IsWalk edge a way b → IsWalk edge b more c → IsWalk edge a (way ++ b ∷ more) c
 walk_join edge a b c [] more h k = (h, k)
@@ -18,13 +19,31 @@ walk_inside edge member closed a u (v ∷ way) first h = walk_inside edge member
 pub reaches_inside : (edge : ℕ → ℕ → Bool) (member : ℕ → Bool) → ((x y : ℕ) → member x ≡ true → edge x y ≡ true → member y ≡ true) → (a u : ℕ) → ((y : ℕ) → edge a y ≡ true → member y ≡ true) → Reaches edge a u → member u ≡ true
 reaches_inside edge member closed a u first r = walk_inside edge member closed a u r.0 first r.1
 
--- where each step is one of another relation, read forwards, so is each walk
-less_walk : (edge more : ℕ → ℕ → Bool) → ((x y : ℕ) → edge x y ≡ true → more x y ≡ true) → (a u : ℕ) (way : List ℕ) → IsWalk edge a way u → IsWalk more a way u
-less_walk edge more sub a u [] h = sub a u h
-less_walk edge more sub a u (v ∷ way) h = (sub a v h.0, less_walk edge more sub v u way h.1)
+-- where each step from a member is one of another relation, and no step leaves the members, so is each walk from a member
+pub reaches_among : (edge more : ℕ → ℕ → Bool) (member : ℕ → Bool) → ((x y : ℕ) → member x ≡ true → edge x y ≡ true → member y ≡ true) → ((x y : ℕ) → member x ≡ true → edge x y ≡ true → more x y ≡ true) → (a u : ℕ) → member a ≡ true → Reaches edge a u → Reaches more a u
+reaches_among edge more member closed sub a u inside r = (r.0, by a r.0 inside r.1)
+  where
+    by : (x : ℕ) (way : List ℕ) → member x ≡ true → IsWalk edge x way u → IsWalk more x way u
+    by x [] m h = sub x u m h
+    by x (v ∷ way) m h = (sub x v m h.0, by v way (closed x v m h.0) h.1)
 
 pub reaches_more : (edge more : ℕ → ℕ → Bool) → ((x y : ℕ) → edge x y ≡ true → more x y ≡ true) → (a u : ℕ) → Reaches edge a u → Reaches more a u
-reaches_more edge more sub a u r = (r.0, less_walk edge more sub a u r.0 r.1)
+reaches_more edge more sub a u r = reaches_among edge more (λ _. true) (λ x y m e. refl) (λ x y m e. sub x y e) a u refl r
+
+-- the waits of some are waits
+pub waits_of-less : (member : ℕ → Bool) (edge : ℕ → ℕ → Bool) (x y : ℕ) → waits_of member edge x y ≡ true → edge x y ≡ true
+waits_of-less member edge x y h = (and_parts (member x) (edge x y) h).1
+
+pub reaches_of : (member : ℕ → Bool) (edge : ℕ → ℕ → Bool) (a u : ℕ) → Reaches (waits_of member edge) a u → Reaches edge a u
+reaches_of member edge = reaches_more (waits_of member edge) edge (waits_of-less member edge)
+
+-- of more members, and more waits
+pub reaches_of_more : (member member' : ℕ → Bool) (edge edge' : ℕ → ℕ → Bool) → ((x : ℕ) → member x ≡ true → member' x ≡ true) → ((x y : ℕ) → edge x y ≡ true → edge' x y ≡ true)
+    → (a u : ℕ) → Reaches (waits_of member edge) a u → Reaches (waits_of member' edge') a u
+reaches_of_more member member' edge edge' members steps = reaches_more (waits_of member edge) (waits_of member' edge') each
+  where
+    each : (x y : ℕ) → waits_of member edge x y ≡ true → waits_of member' edge' x y ≡ true
+    each x y h = let both = and_parts (member x) (edge x y) h in and_from (member' x) (edge' x y) (members x both.0) (steps x y both.1)
 
 -- where each step from a member is one of another relation, read backwards, and no step leaves the members, a walk is one backwards
 pub reaches_back : (edge back : ℕ → ℕ → Bool) (member : ℕ → Bool) → ((x y : ℕ) → member x ≡ true → edge x y ≡ true → member y ≡ true) → ((x y : ℕ) → member x ≡ true → edge x y ≡ true → back y x ≡ true) → (a u : ℕ) → member a ≡ true → Reaches edge a u → Reaches back u a
@@ -40,6 +59,9 @@ on_cycle-reaches edge t on = reaches_join edge t on.0 t on.1.there on.1.back
 
 pub reaches-on_cycle : (edge : ℕ → ℕ → Bool) (t : ℕ) → Reaches edge t t → IsOnCycle edge t
 reaches-on_cycle edge t r = (t, record { there = r; back = r })
+
+pub no_cycle-reaches : (edge : ℕ → ℕ → Bool) (t : ℕ) → IsOnNoCycle edge t → Reaches edge t t → ⊥
+no_cycle-reaches edge t none r = none t (record { there = r; back = r })
 
 -- a slot from which no step leads is on no cycle
 pub no_step-no_cycle : (edge : ℕ → ℕ → Bool) (t : ℕ) → ((u : ℕ) → edge t u ≡ false) → IsOnNoCycle edge t

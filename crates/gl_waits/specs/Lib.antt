@@ -1,3 +1,4 @@
 pub mod Waits
 pub mod Sets
 pub mod Boards
+pub mod Laws

@@ -1,18 +1,24 @@
 //! Boards: who waits for whom at one moment, in one value that can be read without a lock. A board
-//! shows who is deadlocked, and whose wait has to be given up.
+//! shows who is deadlocked, and whose wait has to be given up. So does whoever can say slot by slot who
+//! waits for whom, without a board.
 #![tactic(auto)]
 
 mod board;
 mod cycle;
+mod freeing;
+pub mod laws;
 mod reach;
 pub mod set;
 mod suspect;
 mod victim;
+mod waits_for;
 
 pub use board::{Board, SLOTS};
-pub use cycle::on_cycle;
+pub use cycle::{on_cycle, on_cycle_in};
+pub use freeing::freeing_victim;
 pub use suspect::suspects;
-pub use victim::youngest;
+pub use victim::{youngest, youngest_of};
+pub use waits_for::WaitsFor;
 
 #[cfg(test)]
 mod tests;

@@ -1,6 +1,6 @@
 //! Sets of slots, as the bits of one number.
 
-ghost use Rattle.std.specs.Prelude.{◌≡◌, ℕ, ◌<◌, ◌==◌, ◌&&◌, ◌||◌, not, true, false};
+ghost use Rattle.std.specs.Prelude.{◌≡◌, ℕ, ◌<◌, ◌==◌, ◌&&◌, ◌||◌, not, nat_lt, true, false};
 ghost use Rattle.gl_waits.specs.Sets.{has_slot};
 
 /// Whether `slot` is in the set.
@@ -26,6 +26,13 @@ pub fn without(set: u128, slot: usize) -> u128
     ensures fewer { has_slot set slot ≡ true → result < set }
 {
     set & !(1 << slot)
+}
+
+/// The slots below 128 that are not in the set.
+pub fn others(set: u128) -> u128
+    ensures { (u : ℕ) → has_slot result u ≡ (nat_lt u 128 && not (has_slot set u)) }
+{
+    !set
 }
 
 /// The lowest slot of a set that has one.

@@ -1,6 +1,6 @@
 //! Whose wait is given up.
 
-ghost use Rattle.std.specs.Prelude.{◌≡◌, ℕ, ◌<◌, ◌↔◌, IsNone, IfSome, IsTrue, nat_lt, true};
+ghost use Rattle.std.specs.Prelude.{◌≡◌, ℕ, ◌<◌, ◌↔◌, IsNone, IfSome, IsTrue, nat_lt, slice_index, true};
 ghost use Rattle.std.specs.Option.{ForSome, option_map_or};
 ghost use Rattle.gl_waits.specs.Sets.{has_slot};
 ghost use Rattle.gl_waits.specs.Boards.{age_in};
@@ -15,9 +15,18 @@ pub fn youngest(board: &Board, set: u128) -> Option<usize>
     ensures none { IsNone result ↔ (set ≡ 0) }
     ensures some { IfSome result (IsLowestYoungest (λ u. IsTrue (has_slot set u)) (age_in board.now)) }
 {
+    youngest_of(&board.ages, set)
+}
+
+/// The youngest of a set of slots, as `youngest` answers it, by their ages.
+pub fn youngest_of(ages: &[u64; SLOTS], set: u128) -> Option<usize>
+    ensures none { IsNone result ↔ (set ≡ 0) }
+    ensures some { IfSome result (IsLowestYoungest (λ u. IsTrue (has_slot set u)) (slice_index ages.now)) }
+    ensures low { IfSome result (λ v. v < SLOTS) }
+{
     let mut chosen: Option<usize> = None;
     for slot in 0..SLOTS {
-        if has(set, slot) && is_younger(board, slot, chosen) {
+        if has(set, slot) && is_younger(ages, slot, chosen) {
             chosen = Some(slot);
         }
     }
@@ -25,14 +34,14 @@ pub fn youngest(board: &Board, set: u128) -> Option<usize>
 }
 
 /// Whether `slot` is younger than the one chosen so far, if there is one.
-fn is_younger(board: &Board, slot: usize, chosen: Option<usize>) -> bool
+fn is_younger(ages: &[u64; SLOTS], slot: usize, chosen: Option<usize>) -> bool
     requires low { slot < SLOTS }
     requires chosen_low { ForSome chosen (λ other. other < SLOTS) }
     ensures { result ≡
-        option_map_or (λ other. nat_lt (age_in board.now other) (age_in board.now slot)) chosen true }
+        option_map_or (λ other. nat_lt (slice_index ages.now other) (slice_index ages.now slot)) chosen true }
 {
     match chosen {
-        Some(other) => board.ages[other] < board.ages[slot],
+        Some(other) => ages[other] < ages[slot],
         None => true,
     }
 }

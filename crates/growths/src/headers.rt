@@ -1,7 +1,8 @@
-//! The lists of one header grow.
+//! The queue of one header grows, and a grant takes no memory.
 
 use crate::bill::Bill;
 use crate::watch::Watch;
+use arrayvec::ArrayVec;
 use gl_header::{Asked, Header, Try};
 use gl_modes::{Mode, Refusal};
 use std::alloc::Global;
@@ -48,11 +49,11 @@ fn ask(header: &mut Header, slot: u8, mode: Mode) -> Result<Option<Asked>, Refus
 
 /// Tries where the call's conditions hold; else `None`.
 #[tactic(auto, using(crate::proofs::Steps::caller_steps))]
-fn try_ask(header: &mut Header, slot: u8, mode: Mode) -> Result<Option<Try>, Refusal> {
+fn try_ask(header: &mut Header, slot: u8, mode: Mode) -> Option<Try> {
     if slot >= 128 || mode == Mode::NL || header.wanted_by(slot).is_some() {
-        return Ok(None);
+        return None;
     }
-    Ok(Some(header.try_ask(slot, mode)?))
+    Some(header.try_ask(slot, mode))
 }
 
 /// Drops a grant where there is one and the slot does not wait. Answers how many it granted.
@@ -61,7 +62,9 @@ fn drop_grant(header: &mut Header, slot: u8) -> Option<usize> {
     if header.mode_of(slot) == Mode::NL || header.wanted_by(slot).is_some() {
         return None;
     }
-    Some(header.drop_grant(slot).len())
+    let mut granted = ArrayVec::new();
+    header.drop_grant(slot, &mut granted);
+    Some(granted.len())
 }
 
 /// Asks. Where a growth was refused nothing may have changed, and it is asked again.
@@ -81,28 +84,12 @@ fn ask_growing(
     ask(header, slot, mode)
 }
 
-/// The same of a try.
-fn try_growing(
-    header: &mut Header,
-    slot: u8,
-    mode: Mode,
-    watch: &mut Watch,
-) -> Result<Option<Try>, Refusal> {
-    watch.step();
-    let before = look(header);
-    let answer = try_ask(header, slot, mode);
-    if answer != Err(Refusal::NoMemory) {
-        return answer;
-    }
-    watch.same(look(header), before);
-    try_ask(header, slot, mode)
-}
-
-/// One holds, and all others wait for it.
+/// One holds, which takes no memory, and all others wait for it.
 fn waits(alloc: Global) -> Option<u32> {
     let mut header = Header::new(alloc);
     let mut watch = Watch::new();
-    let first = ask_growing(&mut header, 0, Mode::X, &mut watch);
+    watch.step();
+    let first = ask(&mut header, 0, Mode::X);
     watch.same(first, Ok(Some(Asked::Granted(Mode::X))));
     for slot in 1..SLOTS {
         let answer = ask_growing(&mut header, slot, Mode::S, &mut watch);
@@ -113,18 +100,18 @@ fn waits(alloc: Global) -> Option<u32> {
     watch.differs()
 }
 
-/// All hold, and each is raised as soon as it does, which takes no memory.
+/// All hold, and each is raised as soon as it does. Neither takes memory.
 fn grants(alloc: Global) -> Option<u32> {
     let mut header = Header::new(alloc);
     let mut watch = Watch::new();
     for slot in 0..SLOTS {
-        let answer = try_growing(&mut header, slot, Mode::IS, &mut watch);
-        watch.same(answer, Ok(Some(Try::Granted(Mode::IS))));
         watch.step();
+        let answer = try_ask(&mut header, slot, Mode::IS);
+        watch.same(answer, Some(Try::Granted(Mode::IS)));
         let raised = ask(&mut header, slot, Mode::IX);
         watch.same(raised, Ok(Some(Asked::Granted(Mode::IX))));
         let again = try_ask(&mut header, slot, Mode::IX);
-        watch.same(again, Ok(Some(Try::Granted(Mode::IX))));
+        watch.same(again, Some(Try::Granted(Mode::IX)));
     }
     watch.same(header.group(), Mode::IX);
     watch.differs()

@@ -2,8 +2,8 @@ use Rattle.gl_table.specs.BoardOf.{board_of}
 use Rattle.gl_catalog.specs.Manager.{state_of}
 use Rattle.bench_shared.proofs.measure.Given as goal
 
-abbrev pub ghosts-run_times-N-Naming : goal.ghosts-run_times-N-Naming
-ghosts-run_times-N-Naming g a = record {
+abbrev pub ghosts-run_work-N-Naming : goal.ghosts-run_work-N-Naming
+ghosts-run_work-N-Naming g a = record {
   opening = a.parts.manager.accepted;
   shares = a.parts.shares;
   detect = a.parts.manager.table.detect;
@@ -11,5 +11,5 @@ ghosts-run_times-N-Naming g a = record {
   book = a.parts.line.book;
 }
 
-abbrev pub ghosts-run_times-N-Ledger : goal.ghosts-run_times-N-Ledger
-ghosts-run_times-N-Ledger g a = record { name = a.parts.blank.name; parts = a.parts.blank.parts }
+abbrev pub ghosts-run_work-N-Ledger : goal.ghosts-run_work-N-Ledger
+ghosts-run_work-N-Ledger g a = record { name = a.parts.blank.name; parts = a.parts.blank.parts }

@@ -20,6 +20,7 @@ use crate::notice::Told;
 use crate::outcome::Locked;
 use crate::txn::TxnId;
 use gl_graph::Kind;
+use gl_header::Asked;
 use gl_modes::{Mode, NodeId, Refusal};
 
 impl Table {
@@ -64,14 +65,14 @@ impl Table {
         ensures err { OnErr result (self.new ≡ self.old) }
     {
         self.check_lock(t, n, mode)?;
-        if would_grant(&self.locks.headers, t.slot, n, mode) {
-            let granted = self.locks.grant(&self.graph, t.slot, n, mode)?;
-            return Ok(Locked::Granted(granted));
+        match self.locks.ask(&self.graph, t.slot, n, mode)? {
+            Asked::Granted(granted) => Ok(Locked::Granted(granted)),
+            Asked::Waiting => {
+                self.locks
+                    .settle_asker(&self.graph, self.detect, t.slot, notices);
+                Ok(self.locks.outcome(t.slot, n))
+            }
         }
-        self.locks.wait(&self.graph, t.slot, n, mode)?;
-        self.locks
-            .settle_asker(&self.graph, self.detect, t.slot, notices);
-        Ok(self.locks.outcome(t.slot, n))
     }
 
     /// Asks for a mode on a node, and is refused where it cannot be granted at once. What is granted

@@ -1,4 +1,4 @@
-use Rattle.gl_header.proofs.Places.{place-cases}
+use Rattle.gl_header.proofs.Queues.{place-cases}
 use Rattle.gl_header.proofs.entries.place_of.Goals as goal
 
 pub returns : goal.returns

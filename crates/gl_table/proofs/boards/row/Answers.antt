@@ -1,18 +1,33 @@
-use Rattle.std.proofs.Common.{◌<◌, ◌==◌, ◌&&◌, ◌||◌, not, ap, ◌∙◌}
-use Rattle.std.proofs.lemmas.List.Elements.{All-same}
+use Rattle.std.proofs.Common.{◌≡◌, ℕ, Bool, true, false, not, ◌&&◌, ◌||◌, ◌==◌, refl, sym, ap, ◌∙◌}
+use Rattle.gl_modes.specs.declared.mode.Mode.{Mode}
 use Rattle.gl_modes.specs.Modes.{are_compatible}
-use Rattle.gl_header.specs.Header.{Waiter, is_ahead}
-use Rattle.gl_header.specs.State.{HeaderState, members_of}
+use Rattle.gl_modes.proofs.ModeLemmas.{NL-compatible}
+use Rattle.gl_header.specs.Header.{Members, is_ahead}
+use Rattle.gl_header.specs.State.{HeaderState, members_of, unused_header}
+use Rattle.gl_header.proofs.Unused.{unused-nobody}
+use Rattle.gl_waits.specs.Sets.{has_slot}
+use Rattle.gl_waits.proofs.SetLemmas.{has_slot-zero}
 use Rattle.gl_table.specs.Headers.{header_or_new}
-use Rattle.gl_table.proofs.Rows.{all-below}
 use Rattle.gl_table.proofs.boards.row.Goals as goal
 
-pub ahead-requires : goal.ahead-requires
-ahead-requires c =
-    All-same (λ (e : Waiter). e.0 < 128) _ _ c.queue.ensures (all-below c.in-Some.header.now.queue c.law.ensures.lawful.waiters_below)
+-- whether s waits for u, where it waits for the mode in this header
+abbrev blocked : ℕ → ℕ → Mode → HeaderState → Bool
+blocked s u w h = not (s == u) && (not (are_compatible w (members_of h u)) || is_ahead h.queue s u)
+
+nobody-blocks : (s u : ℕ) (w : Mode) → blocked s u w unused_header ≡ false
+nobody-blocks s u w =
+    ap (λ (g : Members). not (s == u) && (not (are_compatible w (g u)) || false)) unused-nobody
+    ∙ (ap (λ b. not (s == u) && (not b || false)) (NL-compatible w) ∙ last (not (s == u)))
+  where
+    last : (b : Bool) → (b && false) ≡ false
+    last true = refl
+    last false = refl
 
 pub returns-in-Some : goal.returns-in-Some
 returns-in-Some c = λ u.
-    c.row_behind.ensures u
-    ∙ ap (λ b. not (c.args.slot == u) && (not (are_compatible c.args.wanted (members_of c.in-Some.header.now u)) || b)) (c.ahead.ensures u ∙ ap (λ q. is_ahead q c.args.slot u) c.queue.ensures)
-    ∙ ap (λ (x : HeaderState). not (c.args.slot == u) && (not (are_compatible c.args.wanted (members_of x u)) || is_ahead x.queue c.args.slot u)) (ap header_or_new c.in-Some.ensures.value)
+    ap (λ n. has_slot n u) c.bits.ensures
+    ∙ (c.waits_for.ensures u ∙ ap (blocked c.args.slot u c.args.wanted) (ap header_or_new c.in-Some.ensures.value))
+
+pub returns-in-None : goal.returns-in-None
+returns-in-None c = λ u.
+    has_slot-zero u ∙ (sym (nobody-blocks c.args.slot u c.args.wanted) ∙ ap (λ o. blocked c.args.slot u c.args.wanted (header_or_new o)) c.in-None.ensures.value)

@@ -7,19 +7,13 @@ use Rattle.gl_table.specs.Waiting.{waits_for}
 use Rattle.gl_table.proofs.BoardWrites.{AreRowsShown, reached-row, rows-shown}
 use Rattle.gl_table.proofs.Rows.{among-next, queue-below}
 use Rattle.gl_table.proofs.boards.show_queue.Goals as goal
-use Rattle.gl_table.proofs.boards.show_queue.Goals.{in-Some-wanted_on+then-not-has, in-Some-wanted_on+else-not-has, in_default-wanted_on}
-
-pub has-requires : goal.has-requires
-has-requires c = queue-below c.in-Some.header.now c.queue-slot-items.result.now c.loop-slot.slot-index (0, NL) c.law.ensures.lawful c.queue-slot-items.ensures c.loop-slot-test.true
-
-pub row_behind-requires : goal.row_behind-requires
-row_behind-requires c = record { below = queue-below c.in-Some.header.now c.queue-slot-items.result.now c.loop-slot.slot-index (0, NL) c.law.ensures.lawful c.queue-slot-items.ensures c.loop-slot-test.true }
+use Rattle.gl_table.proofs.boards.show_queue.Goals.{in-Some-wanted_on+then-not-contains, in-Some-wanted_on+else-not-contains, in_default-wanted_on}
 
 pub bounds-rows-slot : goal.bounds-rows-slot
 bounds-rows-slot c = queue-below c.in-Some.header.now c.queue-slot-items.result.now c.loop-slot.slot-index (0, NL) c.law.ensures.lawful c.queue-slot-items.ensures c.loop-slot-test.true
 
-pub with-passed-requires : goal.with-passed-requires
-with-passed-requires c = queue-below c.in-Some.header.now c.queue-slot-items.result.now c.loop-slot.slot-index (0, NL) c.law.ensures.lawful c.queue-slot-items.ensures c.loop-slot-test.true
+pub insert-requires : goal.insert-requires
+insert-requires c = queue-below c.in-Some.header.now c.queue-slot-items.result.now c.loop-slot.slot-index (0, NL) c.law.ensures.lawful c.queue-slot-items.ensures c.loop-slot-test.true
 
 pub loop-slot-preserved : goal.loop-slot-preserved
 loop-slot-preserved c =
@@ -31,19 +25,19 @@ loop-slot-preserved c =
     let low : t < 128 = queue-below h q i (0, NL) c.law.ensures.lawful c.queue-slot-items.ensures c.loop-slot-test.true in
     let edge : ℕ → ℕ → Bool = waits_for (shown c.args.headers.now.entries c.args.seats.now 0) in
     let both : (length c.match-wanted_on.rows ≡ length c.args.rows.now) × AreRowsShown edge c.args.rows.now c.match-wanted_on.rows = elim c.match-wanted_on.branch [
-      | in-Some-wanted_on+then-not-has w ↦ (
+      | in-Some-wanted_on+then-not-contains w ↦ (
         ap length w.rows-is ∙ length-set c.loop-slot.rows t w.row_behind.result ∙ so.len,
         subst (AreRowsShown edge c.args.rows.now) (sym w.rows-is) (rows-shown edge t w.row_behind.result c.args.rows.now c.loop-slot.rows
             (omega (arith, low, so.len, c.told-rows))
-            (reached-row c.args.headers.now.entries c.args.seats.now c.args.node h q t i w.in-Some-wanted_on.wanted c.loop-slot.passed w.row_behind.result (0, NL)
-            (ap header_or_new c.in-Some.ensures.value) c.queue-slot-items.ensures w.in-Some-wanted_on.ensures c.loop-slot-test.true refl so.passed (sym w.has.ensures ∙ w.if-not-has.true) w.row_behind.ensures)
+            (reached-row c.args.headers.now.entries c.args.seats.now c.args.node h q t i w.in-Some-wanted_on.wanted c.loop-slot.passed.bits w.row_behind.result (0, NL)
+            (ap header_or_new c.in-Some.ensures.value) c.queue-slot-items.ensures w.in-Some-wanted_on.ensures c.loop-slot-test.true refl so.passed (sym w.contains.ensures ∙ w.if-not-contains.true) w.row_behind.ensures)
             so.rows),
       )
-      | in-Some-wanted_on+else-not-has w ↦ (ap length w.rows-is ∙ so.len, subst (AreRowsShown edge c.args.rows.now) (sym w.rows-is) so.rows)
+      | in-Some-wanted_on+else-not-contains w ↦ (ap length w.rows-is ∙ so.len, subst (AreRowsShown edge c.args.rows.now) (sym w.rows-is) so.rows)
       | in_default-wanted_on w ↦ (ap length w.rows-is ∙ so.len, subst (AreRowsShown edge c.args.rows.now) (sym w.rows-is) so.rows)
     ] in
     record {
       len = both.0;
-      passed = λ u. c.with-passed.ensures u ∙ ap (λ b. b || (u == t)) (so.passed u) ∙ sym (among-next q i u (0, NL) c.loop-slot-test.true);
+      passed = λ u. c.insert.ensures u ∙ ap (λ b. b || (u == t)) (so.passed u) ∙ sym (among-next q i u (0, NL) c.loop-slot-test.true);
       rows = both.1;
     }

@@ -1,6 +1,6 @@
 use Rattle.std.proofs.Common.{◌≡◌, ℕ, length, take}
 use Rattle.gl_header.specs.Header.{is_among_waiters}
-use Rattle.gl_waits.specs.Sets.{has_slot}
+use Rattle.gl_slots.specs.Slots.{has_slot}
 use Rattle.gl_table.specs.BoardOf.{shown}
 use Rattle.gl_table.specs.Waiting.{waits_for}
 use Rattle.gl_table.proofs.BoardWrites.{AreRowsShown}

@@ -1,4 +1,5 @@
 use Rattle.std.proofs.Common.{None, refl}
+use Rattle.gl_header.proofs.Unused.{unused-nobody}
 use Rattle.gl_table.proofs.HeaderWrites.{IsChanged, all-removed, but-from_all, held-changed, queue-changed}
 use Rattle.gl_table.proofs.headers.take.Goals as goal
 
@@ -9,7 +10,7 @@ pub returns-clause-headers : goal.returns-clause-headers
 returns-clause-headers c = all-removed _ _ c.args.node (but-from_all c.args.node _ c.requires.headers) (gone c)
 
 pub returns-clause-held : goal.returns-clause-held
-returns-clause-held c = held-changed _ _ c.args.node None _ (gone c) refl
+returns-clause-held c = held-changed _ _ c.args.node None _ (gone c) unused-nobody
 
 pub returns-clause-queue : goal.returns-clause-queue
 returns-clause-queue c = queue-changed _ _ c.args.node None _ (gone c) refl

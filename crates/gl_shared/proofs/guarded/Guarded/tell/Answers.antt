@@ -41,8 +41,8 @@ invariant_of-self-2 g c =
       c.self.invariant.1,
       c.self.invariant.2,
       told_epoch c.publish.result c.self.inside.publisher c.publish.new.self c.board_now-board.result c.self.inside.manager.accepted c.publish.ensures c.self.invariant.3 c.board_now-board.ensures.epoch,
-      quiet_told c.self.inside.manager c.self.inside.publisher c.publish.new.self c.board_now-board.result c.shows_waits-self-inside.result c.board_now-board.ensures.law c.board_now-board.ensures.board
-          (published c.publish.result c.self.inside.publisher c.publish.new.self c.self.inside.publisher c.board_now-board.result c.board_now-board.result yes c.publish.ensures refl refl) c.shows_waits-self-inside.ensures,
+      quiet_told c.self.inside.manager c.self.inside.publisher c.publish.new.self c.board_now-board.result c.may_show_waits-self-inside.result c.board_now-board.ensures.law c.board_now-board.ensures.board
+          (published c.publish.result c.self.inside.publisher c.publish.new.self c.self.inside.publisher c.board_now-board.result c.board_now-board.result yes c.publish.ensures refl refl) c.may_show_waits-self-inside.ensures,
     )
 
 pub returns-clause-told : goal.returns-clause-told

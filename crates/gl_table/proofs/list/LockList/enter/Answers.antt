@@ -1,5 +1,4 @@
-use Rattle.std.proofs.Common.{refl, ap, sym, ◌∙◌}
-use Rattle.std.specs.Prelude.{unwrap_or}
+use Rattle.std.proofs.Common.{refl, sym, ◌∙◌}
 use Rattle.std.proofs.lemmas.Result.{IfOk-at_ok}
 use Rattle.gl_table.specs.Lists.{IsApart}
 use Rattle.gl_table.proofs.ListWrites.{at_each, count_in-unlisted, SameCount, StaysApart}
@@ -7,14 +6,14 @@ use Rattle.gl_table.proofs.list.LockList.enter.Goals as goal
 
 pub returns-clause-counts : goal.returns-clause-counts
 returns-clause-counts c =
-    at_each SameCount c.args.n _ _ _ _ _ _ (IfOk-at_ok _ c.unwrap.ensures c.insert.ensures.updates).0 c.swap_remove.ensures.updates.0
-    (c.unwrap_or-children.ensures ∙ ap (λ o. unwrap_or o 0) c.swap_remove.ensures.value ∙ sym (count_in-unlisted _ _ c.requires.new)) (λ x y. refl)
+    at_each SameCount c.args.n _ _ _ _ _ _ (IfOk-at_ok _ c.unwrap.ensures c.insert.ensures.updates).0 c.take_loose-children.ensures.taken
+    (c.take_loose-children.ensures.value ∙ sym (count_in-unlisted _ _ c.requires.new)) (λ x y. refl)
 
 pub returns-clause-apart : goal.returns-clause-apart
 unfolding IsApart
 returns-clause-apart c = (
   c.insert.ensures.unique,
   λ q.
-      at_each StaysApart c.args.n _ _ _ _ _ _ (IfOk-at_ok _ c.unwrap.ensures c.insert.ensures.updates).0 c.swap_remove.ensures.updates.0
+      at_each StaysApart c.args.n _ _ _ _ _ _ (IfOk-at_ok _ c.unwrap.ensures c.insert.ensures.updates).0 c.take_loose-children.ensures.taken
       (λ _ _. refl) (λ x y f. f) q (c.requires.apart.1 q),
 )

@@ -23,7 +23,7 @@ wake_granted-requires c =
     let s = state_on (graph_of c.args.graph.now) c.args.self.now in
     can_wake_front (graph_of c.args.graph.now) c.args.self.now c.law.ensures.lawful c.requires.sound c.requires.orderly c.args.node (with_grant s c.args.slot c.args.node NL)
     (well_granted s c.requires.orderly c.args.slot c.args.node NL c.args.node) (λ u h. h) c.requires.agree c.requires.count c.args.told.now.items c.requires.by_slot c.requires.untold _
-    (c.as_slice.ensures.value ∙ c.drop_grant-granted.ensures.granted ∙ released_front s c.requires.orderly c.requires.sound.few c.args.slot c.args.node)
+    (c.as_slice.ensures.value ∙ c.drop_grant.ensures.granted ∙ released_front s c.requires.orderly c.requires.sound.few c.args.slot c.args.node)
 
 abbrev before : goal.After-wake_granted → State
 before c = state_on (graph_of c.args.graph.now) c.args.self.now
@@ -37,14 +37,14 @@ front_is c = released_front (before c) c.requires.orderly c.requires.sound.few c
 
 woken : (c : goal.After-wake_granted) → Wakes c.args.self.now.seats.items c.args.self.now.lists.items c.args.told.now.items c.args.node (parents_of (before c).graph c.args.node) (front_at (dropped c) c.args.node)
     c.wake_granted.new.self.seats.items c.wake_granted.new.self.lists.items c.wake_granted.new.told.items
-woken c = wakes-same _ _ _ _ _ _ c.args.node _ _ _ (c.as_slice.ensures.value ∙ c.drop_grant-granted.ensures.granted ∙ front_is c) c.wake_granted.ensures.wakes
+woken c = wakes-same _ _ _ _ _ _ c.args.node _ _ _ (c.as_slice.ensures.value ∙ c.drop_grant.ensures.granted ∙ front_is c) c.wake_granted.ensures.wakes
 
 pub returns-clause-state : goal.returns-clause-state
 returns-clause-state c =
     let b = dropped c in
     pumped_by_fields b (same_node c.args.node) (held_of c.wake_granted.new.self.headers.entries) (queue_of c.wake_granted.new.self.headers.entries) (txns_of c.wake_granted.new.self.seats.items) _
-    (ap held_of c.wake_granted.ensures.headers ∙ c.drop_grant-granted.ensures.held ∙ held-pumped b c.args.node (before c).held _ _ (members-with_grant (before c) c.args.slot c.args.node NL) (front_is c) apart)
-    (ap queue_of c.wake_granted.ensures.headers ∙ c.drop_grant-granted.ensures.queue ∙ queue-pumped b c.args.node (before c).queue _ (front_is c) (λ q e. refl))
+    (ap held_of c.wake_granted.ensures.headers ∙ c.drop_grant.ensures.held ∙ held-pumped b c.args.node (before c).held _ _ (members-with_grant (before c) c.args.slot c.args.node NL) (front_is c) apart)
+    (ap queue_of c.wake_granted.ensures.headers ∙ c.drop_grant.ensures.queue ∙ queue-pumped b c.args.node (before c).queue _ (front_is c) (λ q e. refl))
     (λ u. (woken c).txns u ∙ sym (woken_front b c.args.node (well_granted (before c) c.requires.orderly c.args.slot c.args.node NL c.args.node) u))
     (woken c).len
   where

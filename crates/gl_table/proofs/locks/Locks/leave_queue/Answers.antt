@@ -21,8 +21,8 @@ use Rattle.gl_table.proofs.QueueEdits.{out_of_without, without_none}
 use Rattle.gl_table.proofs.WakesFronts.{can_wake_front}
 use Rattle.gl_table.proofs.locks.Locks.leave_queue.Goals as goal
 
-pub drop_wait-granted-requires-clause-waits : goal.drop_wait-granted-requires-clause-waits
-drop_wait-granted-requires-clause-waits c = stands_there (state_on (graph_of c.args.graph.now) c.args.self.now) c.requires.orderly c.args.slot c.args.node c.requires.waits
+pub drop_wait-requires-clause-waits : goal.drop_wait-requires-clause-waits
+drop_wait-requires-clause-waits c = stands_there (state_on (graph_of c.args.graph.now) c.args.self.now) c.requires.orderly c.args.slot c.args.node c.requires.waits
 
 pub wake_granted-requires : goal.wake_granted-requires
 wake_granted-requires c =
@@ -30,7 +30,7 @@ wake_granted-requires c =
     can_wake_front (graph_of c.args.graph.now) c.args.self.now c.law.ensures.lawful c.requires.sound c.requires.orderly c.args.node (without_wait s c.args.slot c.args.status)
     (well_without s c.requires.orderly c.args.slot c.args.status c.args.node) (λ u h. (out_of_without c.args.slot u (s.queue c.args.node) h).0) c.requires.agree c.requires.count c.args.told.now.items c.requires.by_slot
     (λ u h. let was = out_of_without c.args.slot u (s.queue c.args.node) h in c.requires.untold u was.0 (number_other u c.args.slot was.1)) _
-    (c.as_slice.ensures.value ∙ c.drop_wait-granted.ensures.granted ∙ withdrawn_front s c.requires.orderly c.requires.sound.few c.args.slot c.args.node c.args.status)
+    (c.as_slice.ensures.value ∙ c.drop_wait.ensures.granted ∙ withdrawn_front s c.requires.orderly c.requires.sound.few c.args.slot c.args.node c.args.status)
 
 abbrev before : goal.After-set_status → State
 before c = state_on (graph_of c.args.graph.now) c.args.self.now
@@ -44,7 +44,7 @@ front_is c = withdrawn_front (before c) c.requires.orderly c.requires.sound.few 
 
 woken : (c : goal.After-set_status) → Wakes c.args.self.now.seats.items c.args.self.now.lists.items c.args.told.now.items c.args.node (parents_of (before c).graph c.args.node) (front_at (left c) c.args.node)
     c.wake_granted.new.self.seats.items c.wake_granted.new.self.lists.items c.wake_granted.new.told.items
-woken c = wakes-same _ _ _ _ _ _ c.args.node _ _ _ (c.as_slice.ensures.value ∙ c.drop_wait-granted.ensures.granted ∙ front_is c) c.wake_granted.ensures.wakes
+woken c = wakes-same _ _ _ _ _ _ c.args.node _ _ _ (c.as_slice.ensures.value ∙ c.drop_wait.ensures.granted ∙ front_is c) c.wake_granted.ensures.wakes
 
 well : (c : goal.After-set_status) → WaitWell (left c) c.args.node
 well c = well_without (before c) c.requires.orderly c.args.slot c.args.status c.args.node
@@ -59,8 +59,8 @@ returns-clause-state c =
     let s = before c in
     let b = left c in
     pumped_by_fields b (same_node n) (held_of c.wake_granted.new.self.headers.entries) (queue_of c.wake_granted.new.self.headers.entries) (txns_of c.set_status.new.seats.items) _
-    (ap held_of c.wake_granted.ensures.headers ∙ c.drop_wait-granted.ensures.held ∙ held-pumped b n s.held _ _ refl (front_is c) (λ u q e. refl))
-    (ap queue_of c.wake_granted.ensures.headers ∙ c.drop_wait-granted.ensures.queue ∙ queue-pumped b n s.queue _ (front_is c) (λ q e. sym (without_none c.args.slot (s.queue q) (stands_only s c.requires.orderly c.args.slot n c.requires.waits q (same_node-sym n q ∙ e)))))
+    (ap held_of c.wake_granted.ensures.headers ∙ c.drop_wait.ensures.held ∙ held-pumped b n s.held _ _ refl (front_is c) (λ u q e. refl))
+    (ap queue_of c.wake_granted.ensures.headers ∙ c.drop_wait.ensures.queue ∙ queue-pumped b n s.queue _ (front_is c) (λ q e. sym (without_none c.args.slot (s.queue q) (stands_only s c.requires.orderly c.args.slot n c.requires.waits q (same_node-sym n q ∙ e)))))
     (λ u. status_last s c.args.slot c.args.status (front_at b n) _ _ (out c) (woken c).txns c.set_status.ensures.txns u ∙ sym (woken_front b n (well c) u))
     (c.set_status.ensures.len ∙ (woken c).len)
     ∙ ap (pumped b) (sym (waits_only s c.args.slot n c.requires.waits))

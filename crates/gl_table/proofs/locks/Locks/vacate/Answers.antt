@@ -13,7 +13,7 @@ use Rattle.gl_table.specs.Slots.{CanStrike, Strikes}
 use Rattle.gl_table.specs.State.{State}
 use Rattle.gl_table.proofs.GrantKeeps.{txn_there}
 use Rattle.gl_table.proofs.Vacated.{MayVacate, agrees_vacated, can_free, can_strike, counts_vacated, txns_freed}
-use Rattle.gl_table.proofs.locks.Locks.vacate.Goals.{After-parents, After-queue, After-strike, Joined-header-2}
+use Rattle.gl_table.proofs.locks.Locks.vacate.Goals.{After-parents, After-queue, After-strike, Joined-header}
 use Rattle.gl_table.proofs.locks.Locks.vacate.Goals as goal
 
 may : (c : After-parents) → MayVacate (state_on (graph_of c.args.graph.now) c.args.self.now) c.args.slot c.args.rec c.args.self.now.lists.items
@@ -51,7 +51,7 @@ free-requires c =
     (can_free (state_on (graph_of c.args.graph.now) c.args.self.now) c.args.slot c.args.rec c.args.self.now.lists.items (may at.After-parents) c.strike.new.lists.items (struck at.After-strike)
     c.args.self.now.seats.items c.args.told.now.items refl c.requires.sound.few c.requires.sound.lists c.requires.by_slot c.requires.untold)
 
-freed : (c : Joined-header-2) → c.queue.result.now ≡ queue_of c.args.self.now.headers.entries c.args.rec
+freed : (c : Joined-header) → c.queue.result.now ≡ queue_of c.args.self.now.headers.entries c.args.rec
     → Frees c.args.self.now.seats.items c.strike.new.lists.items c.args.told.now.items c.args.rec (queue_of c.args.self.now.headers.entries c.args.rec) c.free.new.seats.items c.free.new.lists.items c.free.new.told.items
 freed c is =
     subst (λ (ws : List Waiter). Frees c.args.self.now.seats.items c.strike.new.lists.items c.args.told.now.items c.args.rec ws c.free.new.seats.items c.free.new.lists.items c.free.new.told.items) is

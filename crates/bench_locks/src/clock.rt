@@ -1,0 +1,23 @@
+//! What is printed of a part.
+
+use std::io;
+use std::time::Instant;
+
+/// Prints the mean of so many times in nanoseconds, and the number to which the work came.
+pub(crate) fn print_mean(rt: &HostRuntime, nanos: u128, times: u64, count: u64) -> io::Result<()> {
+    if times > 0 {
+        eprintln!(rt; "{} ns, in all {count}", nanos / u128::from(times))?;
+    }
+    Ok(())
+}
+
+/// Prints the mean of so many times since then, and the number to which the work came.
+pub(crate) fn print_since(
+    rt: &HostRuntime,
+    start: Instant,
+    times: u64,
+    count: u64,
+) -> io::Result<()> {
+    let nanos = start.elapsed(rt)?.as_nanos();
+    print_mean(rt, nanos, times, count)
+}

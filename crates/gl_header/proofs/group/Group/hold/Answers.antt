@@ -1,0 +1,43 @@
+use Rattle.std.proofs.Common.{◌≡◌, ◌∙◌, true, false, refl, sym, ap}
+use denote.Enum.Bare.{sameb}
+use Rattle.gl_modes.specs.contracts.mode.Mode.{the_type}
+use Rattle.gl_modes.specs.declared.mode.Mode.{Mode}
+use Rattle.gl_modes.specs.declared.mode.Mode.TheVariants.{NL, IS, IX, S, SIX, X}
+use Rattle.gl_modes.specs.Modes.{same_mode}
+use Rattle.gl_header.specs.Header.{with_mode}
+use Rattle.gl_header.specs.Groups.{held_by}
+use Rattle.gl_header.proofs.Groups.{within-group, intent-group, intent-held, main-group, main-held}
+use Rattle.gl_header.proofs.group.Group.hold.Goals as goal
+
+is-IS : (m : Mode) → sameb the_type m IS ≡ true → IS ≡ m
+is-IS IS h = refl
+is-IS NL h = cc
+is-IS IX h = cc
+is-IS S h = cc
+is-IS SIX h = cc
+is-IS X h = cc
+
+not-IS : (m : Mode) → sameb the_type m IS ≡ false → same_mode m IS ≡ false
+not-IS IS h = h
+not-IS NL h = refl
+not-IS IX h = refl
+not-IS S h = refl
+not-IS SIX h = refl
+not-IS X h = refl
+
+pub returns-then-eq-clause-group : goal.returns-then-eq-clause-group
+returns-then-eq-clause-group c =
+    intent-group (held_by c.args.self.now) c.release.new.self c.args.slot c.release.ensures.group c.release.ensures.held c.requires.below c.insert.new.self c.insert.ensures
+
+pub returns-then-eq-clause-held : goal.returns-then-eq-clause-held
+returns-then-eq-clause-held c =
+    intent-held (held_by c.args.self.now) c.release.new.self c.args.slot c.release.ensures.group c.release.ensures.held c.requires.below c.insert.new.self c.insert.ensures
+    ∙ ap (with_mode (held_by c.args.self.now) c.args.slot) (is-IS c.args.mode (sym c.eq.ensures ∙ c.if-eq.true))
+
+pub returns-else-eq-clause-group : goal.returns-else-eq-clause-group
+returns-else-eq-clause-group c =
+    main-group (held_by c.args.self.now) c.release.new.self c.args.slot c.release.ensures.group c.release.ensures.held c.requires.below c.args.mode c.insert-else-eq.new.self (not-IS c.args.mode (sym c.eq.ensures ∙ c.if-eq.false)) c.requires.lock c.insert-else-eq.ensures
+
+pub returns-else-eq-clause-held : goal.returns-else-eq-clause-held
+returns-else-eq-clause-held c =
+    main-held (held_by c.args.self.now) c.release.new.self c.args.slot c.release.ensures.group c.release.ensures.held c.requires.below c.args.mode c.insert-else-eq.new.self (not-IS c.args.mode (sym c.eq.ensures ∙ c.if-eq.false)) c.requires.lock c.requires.fits (within-group c.args.self.now c.requires.group) c.insert-else-eq.ensures

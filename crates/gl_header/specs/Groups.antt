@@ -1,0 +1,46 @@
+-- The granted group: by two sets of slots, who holds which mode.
+use Rattle.std.specs.Prelude.{◌≡◌, ◌≢◌, ℕ, ◌≤◌, true, false, cond, ◌⊎◌}
+use Rattle.gl_modes.specs.declared.mode.Mode.{Mode}
+use Rattle.gl_modes.specs.declared.mode.Mode.TheVariants.{NL, IS}
+use Rattle.gl_modes.specs.Modes.{are_compatible, same_mode, supremum}
+use Rattle.gl_slots.specs.declared.slots.Slots.{Slots}
+use Rattle.gl_slots.specs.Slots.{HasNoSlot, has_none, has_slot, no_slots}
+use Rattle.gl_header.specs.declared.group.Group.{Group}
+use Rattle.gl_header.specs.Header.{Members}
+
+-- who holds what: the holders hold the group's mode, the others with an intent hold IS
+abbrev pub held_by : Group → Members
+held_by g = λ t. cond (has_slot g.holders t) g.mode (cond (has_slot g.intents t) IS NL)
+
+-- the group mode: the mode, and where somebody holds IS the supremum of both
+abbrev pub group_mode : Group → Mode
+group_mode g = cond (has_none g.intents) g.mode (supremum g.mode IS)
+
+-- nobody holds
+abbrev pub nobody : Members
+nobody = λ _. NL
+
+-- the group without members
+abbrev pub no_group : Group
+no_group = record { mode = NL; holders = no_slots; intents = no_slots }
+
+-- nobody but s is in the set, or the mode goes with what they hold
+abbrev pub GoesBeside : Slots → Mode → ℕ → Mode → Type 0
+GoesBeside set held s m = (u : ℕ) → u ≢ s → has_slot set u ≡ true → are_compatible m held ≡ true
+
+-- what holds of every granted group
+pub record IsGroup (g : Group) : Type 0 where
+  -- nobody stands in both sets
+  pub apart : (u : ℕ) → has_slot g.holders u ≡ true → has_slot g.intents u ≡ false
+  -- who holds IS stands with the intents
+  pub not_IS : same_mode g.mode IS ≡ false
+  -- the mode is a lock exactly where somebody holds it
+  pub idle : HasNoSlot g.holders → g.mode ≡ NL
+  pub free : g.mode ≡ NL → HasNoSlot g.holders
+  -- slots are below 128
+  pub holders_below : (u : ℕ) → 128 ≤ u → has_slot g.holders u ≡ false
+  pub intents_below : (u : ℕ) → 128 ≤ u → has_slot g.intents u ≡ false
+
+-- beside IS one mode at most is held
+abbrev pub HoldsTwoModes : Members → Type 0
+HoldsTwoModes g = (m : Mode) × ((t : ℕ) → (g t ≡ NL) ⊎ ((g t ≡ IS) ⊎ (g t ≡ m)))

@@ -1,0 +1,144 @@
+//! The granted group of one node: who holds it, by modes.
+
+ghost use Rattle.std.specs.Prelude.{◌≡◌, ◌≢◌, ℕ, ◌<◌, ◌↔◌, ◌&&◌, IsTrue, not, true};
+ghost use Rattle.gl_modes.specs.Modes.{are_compatible};
+ghost use Rattle.gl_modes.specs.declared.mode.Mode.TheVariants.{NL};
+ghost use Rattle.gl_slots.specs.Slots.{has_slot};
+ghost use Rattle.gl_header.specs.Groups.{GoesBeside, IsGroup, group_mode, held_by, no_group};
+ghost use Rattle.gl_header.specs.Header.{fits, holds, with_mode};
+ghost use Rattle.gl_header.specs.State.{nobody_holds, slot_limit};
+
+use gl_modes::{Mode, compatible, sup};
+use gl_slots::Slots;
+
+/// Who holds one node. What different slots hold is compatible, so beside `IS` at most one mode is
+/// held, and two sets of slots say it all.
+#[derive(Clone, Copy, PartialEq, Eq, Debug)]
+pub struct Group {
+    /// The mode beside `IS` that is held, `NL` where there is none.
+    mode: Mode,
+    /// Who holds it.
+    holders: Slots,
+    /// Who holds `IS`.
+    intents: Slots,
+}
+
+impl Group {
+    /// Nobody holds.
+    pub(crate) fn new() -> Self
+        ensures group { IsGroup result }
+        ensures nobody { result ≡ no_group }
+    {
+        Group {
+            mode: Mode::NL,
+            holders: Slots::empty(),
+            intents: Slots::empty(),
+        }
+    }
+
+    /// The mode that a slot holds, `NL` where it holds none.
+    pub(crate) fn mode_of(&self, slot: u8) -> Mode
+        ensures { result ≡ held_by self.now slot }
+    {
+        if self.holders.contains(slot) {
+            self.mode
+        } else if self.intents.contains(slot) {
+            Mode::IS
+        } else {
+            Mode::NL
+        }
+    }
+
+    /// Whether a slot holds a lock.
+    pub(crate) fn has(&self, slot: u8) -> bool
+        requires { IsGroup self.now }
+        ensures { result ≡ holds (held_by self.now) slot }
+    {
+        self.mode_of(slot) != Mode::NL
+    }
+
+    /// Whether nobody holds.
+    pub(crate) fn is_empty(&self) -> bool
+        requires { IsGroup self.now }
+        ensures { result ≡ nobody_holds slot_limit (held_by self.now) }
+    {
+        self.holders.union(self.intents).is_empty()
+    }
+
+    /// The supremum of what is held.
+    pub(crate) fn supremum(&self) -> Mode
+        ensures { result ≡ group_mode self.now }
+    {
+        if self.intents.is_empty() {
+            self.mode
+        } else {
+            sup(self.mode, Mode::IS)
+        }
+    }
+
+    /// Whether `mode` is compatible with what every slot but this one holds.
+    pub(crate) fn fits_others(&self, slot: u8, mode: Mode) -> bool
+        requires { IsGroup self.now }
+        ensures { result ≡ fits slot_limit (held_by self.now) slot mode }
+    {
+        goes_beside(self.holders, self.mode, slot, mode)
+            && goes_beside(self.intents, Mode::IS, slot, mode)
+    }
+
+    /// The slots that hold a mode with which `mode` does not go.
+    pub(crate) fn opposed(&self, mode: Mode) -> Slots
+        requires { IsGroup self.now }
+        ensures { (u : ℕ) → has_slot result u ≡ not (are_compatible mode (held_by self.now u)) }
+    {
+        opposed_in(self.holders, self.mode, mode).union(opposed_in(self.intents, Mode::IS, mode))
+    }
+
+    /// Gives `slot` the mode in place of what it held. It takes no memory.
+    pub(crate) fn hold(&mut self, slot: u8, mode: Mode)
+        requires group { IsGroup self.old }
+        requires below { slot < 128 }
+        requires lock { mode ≢ NL }
+        requires fits { fits slot_limit (held_by self.old) slot mode ≡ true }
+        ensures group { IsGroup self.new }
+        ensures held { held_by self.new ≡ with_mode (held_by self.old) slot mode }
+    {
+        self.release(slot);
+        if mode == Mode::IS {
+            self.intents.insert(slot);
+        } else {
+            self.mode = mode;
+            self.holders.insert(slot);
+        }
+    }
+
+    /// Takes away what `slot` holds.
+    pub(crate) fn release(&mut self, slot: u8)
+        requires { IsGroup self.old }
+        ensures group { IsGroup self.new }
+        ensures held { held_by self.new ≡ with_mode (held_by self.old) slot NL }
+    {
+        self.intents.remove(slot);
+        self.holders.remove(slot);
+        if self.holders.is_empty() {
+            self.mode = Mode::NL;
+        }
+    }
+}
+
+/// Whether `mode` goes with `held`, or nobody but `slot` is in the set of those that hold it.
+fn goes_beside(set: Slots, held: Mode, slot: u8, mode: Mode) -> bool
+    ensures { IsTrue result ↔ GoesBeside set held slot mode }
+{
+    compatible(mode, held) || set.without(slot).is_empty()
+}
+
+/// The set where `mode` does not go with `held`, else no slot.
+fn opposed_in(set: Slots, held: Mode, mode: Mode) -> Slots
+    ensures { (u : ℕ) → has_slot result u ≡ (has_slot set u && not (are_compatible mode held)) }
+{
+    if compatible(mode, held) {
+        Slots::empty()
+    } else {
+        set
+    }
+}

@@ -1,0 +1,203 @@
+//! 128 sessions ask what they draw, and what they did was one run.
+
+use crate::actor::{Act, Entry, acts};
+use crate::forest::{Forest, add_forest};
+use crate::stage::{enact, new_manager, suspect_on};
+use crate::story::Story;
+use crate::tally::replays;
+use gl_catalog::{Answer, Command, Manager};
+use gl_modes::{Mode, Refusal};
+use gl_shared::{Naming, Session, Share, Shared, Watcher};
+use gl_table::Detect;
+use std::alloc::{AllocError, Global};
+use std::process::Abort;
+use std::rt::Clock;
+use std::sync::Wait;
+use std::sync::atomic::{AtomicBool, Ordering};
+use std::test::Fail;
+use std::thread::{Threads, join, map_vec, yield_now};
+
+/// Sessions over a forest.
+#[derive(Drop)]
+pub struct Crowd {
+    forest: Forest,
+    detect: Detect,
+}
+
+/// A session before it acts: its share, and its number.
+#[derive(Drop)]
+struct Seat<N: Naming> {
+    share: Share<N>,
+    number: u64,
+}
+
+/// What a session gives back: its share, and all that it asked.
+#[derive(Drop)]
+struct Left<N: Naming> {
+    share: Share<N>,
+    diary: Vec<Entry>,
+}
+
+fn act_from<N: Naming, R: Wait + Abort>(
+    rt: &R,
+    alloc: Global,
+    table: &Shared<N>,
+    forest: &Forest,
+    seat: Seat<N>,
+) -> Left<N> {
+    let Seat { share, number } = seat;
+    let (share, diary) = acts(rt, alloc, table, forest, share, number);
+    Left { share, diary }
+}
+
+/// All at once, each in a thread; and then the flag is set.
+fn act_all<N: Naming + Send + Sync, R: Threads + Wait + Abort + Sync>(
+    rt: &R,
+    alloc: Global,
+    table: &Shared<N>,
+    forest: &Forest,
+    seats: Vec<Seat<N>>,
+    ended: &AtomicBool,
+) -> Result<Vec<Left<N>>, AllocError> {
+    let left = map_vec(
+        rt,
+        seats,
+        &|seat: Seat<N>| -> Left<N> { act_from(rt, alloc, table, forest, seat) },
+    );
+    ended.store(true, Ordering::SeqCst);
+    left
+}
+
+/// Settles the youngest suspect of each look until the others have ended, and writes down what it asked.
+fn settles_all<N: Naming, R: Wait + Abort>(
+    rt: &R,
+    alloc: Global,
+    table: &Shared<N>,
+    share: Share<N>,
+    watcher: &mut Watcher<N>,
+    ended: &AtomicBool,
+) -> Left<N> {
+    let mut session = Session::new(table, share);
+    let mut diary = Vec::new(alloc);
+    for _ in rt.forever() {
+        if ended.load(Ordering::SeqCst) {
+            break;
+        }
+        if let Some(txn) = watcher.look().and_then(|board| suspect_on(&board)) {
+            let act = Act::Settle(txn);
+            let answer = session.ask(rt, act.command()).answer;
+            let at = session.served_at();
+            let _ = diary.push(Entry { at, act, answer });
+        }
+        yield_now();
+    }
+    Left {
+        share: session.end(),
+        diary,
+    }
+}
+
+/// A seat for each share.
+fn seat_all<N: Naming>(alloc: Global, shares: Vec<Share<N>>) -> Vec<Seat<N>> {
+    let mut seats = Vec::new(alloc);
+    for (place, share) in shares.into_iter().enumerate() {
+        let number = place as u64;
+        let _ = seats.push(Seat { share, number });
+    }
+    seats
+}
+
+/// Parts the shares from what was asked.
+fn part_all<N: Naming>(alloc: Global, left: Vec<Left<N>>) -> (Vec<Share<N>>, Vec<Vec<Entry>>) {
+    let mut shares = Vec::new(alloc);
+    let mut diaries = Vec::new(alloc);
+    for Left { share, diary } in left {
+        let _ = shares.push(share);
+        let _ = diaries.push(diary);
+    }
+    (shares, diaries)
+}
+
+/// All that was asked, in one list.
+fn join_all(alloc: Global, diaries: &[Vec<Entry>]) -> Vec<Entry> {
+    let mut all = Vec::new(alloc);
+    for diary in diaries {
+        let _ = all.extend_from_slice(diary.as_slice());
+    }
+    all
+}
+
+impl Crowd {
+    /// Puts what was asked to a manager alone.
+    fn replay<R: Abort>(&self, rt: &R, alloc: Global, diary: Vec<Entry>) {
+        let Ok(mut alone) = Manager::new(alloc, self.detect, 128) else {
+            assert!(rt; false, "no memory");
+            return;
+        };
+        add_forest(rt, &mut alone);
+        replays(rt, &mut alone, diary);
+    }
+
+    /// Plays with the shares and the watchers of a table, and gives the shares back. A manager alone
+    /// answers all that was asked alike.
+    pub fn play<N: Naming + Send + Sync, R: Threads + Wait + Abort + Clock + Sync>(
+        &self,
+        rt: &R,
+        alloc: Global,
+        table: &Shared<N>,
+        mut shares: Vec<Share<N>>,
+        mut watchers: Vec<Watcher<N>>,
+    ) -> Vec<Share<N>> {
+        let (Some(share), Some(mut watcher)) = (shares.pop(), watchers.pop()) else {
+            return shares;
+        };
+        let seats = seat_all(alloc, shares);
+        let ended = AtomicBool::new(false);
+        let (flag, looking, forest) = (&ended, &mut watcher, &self.forest);
+        let (left, settler) = join(
+            rt,
+            move || act_all(rt, alloc, table, forest, seats, flag),
+            move || settles_all(rt, alloc, table, share, looking, flag),
+        );
+        let mut left = left.unwrap_or(Vec::new(alloc));
+        let _ = left.push(settler);
+        let (shares, diaries) = part_all(alloc, left);
+        let diary = join_all(alloc, diaries.as_slice());
+        self.replay(rt, alloc, diary);
+        shares
+    }
+}
+
+/// Plays with 128 sessions. In the end nobody holds anything, and the book has all that was accepted.
+fn play_crowd<R: Threads + Wait + Abort + Clock + Sync>(
+    rt: &R,
+    alloc: Global,
+    detect: Detect,
+) -> Result<(), Fail> {
+    let mut manager = new_manager(alloc, detect)?;
+    let forest = add_forest(rt, &mut manager);
+    let (nodes, opening) = (forest.nodes, manager.accepted());
+    let story = Story::Crowd(Crowd { forest, detect });
+    let mut closed = enact(rt, alloc, manager, 129, 1, &story)?;
+    assert_eq!(rt;
+        opening.checked_add(closed.book),
+        Some(closed.manager.accepted())
+    );
+    assert!(rt; closed.book > 128 * 1000);
+    for node in nodes {
+        let group = closed.manager.apply(Command::Group { node }).answer;
+        let is_free = group == Answer::Mode(Mode::NL);
+        assert!(rt; is_free || group == Answer::Refused(Refusal::NoSuchNode));
+    }
+    Ok(())
+}
+
+#[test]
+fn what_a_crowd_does_is_one_run_at_block(rt: HostRuntime) -> Result<(), Fail> {
+    play_crowd(&rt, rt.alloc(), Detect::AtBlock)
+}
+
+#[test]
+fn what_a_crowd_does_is_one_run_by_watcher(rt: HostRuntime) -> Result<(), Fail> {
+    play_crowd(&rt, rt.alloc(), Detect::ByWatcher)
+}

@@ -1,8 +1,0 @@
-use Rattle.std.proofs.Common.{sym, ◌∙◌}
-use Rattle.gl_modes.specs.declared.mode.Mode.TheVariants.{NL}
-use Rattle.gl_table.proofs.Rows.{ahead-first}
-use Rattle.gl_table.proofs.boards.ahead.Goals as goal
-
-pub returns-then-other-slot : goal.returns-then-other-slot
-returns-then-other-slot c = λ u.
-    c.loop-other.invariant.1 u ∙ sym (ahead-first c.args.queue.now c.args.slot u c.loop-other.other-index (0, NL) c.loop-other-test.true c.if-other-slot.true c.loop-other.invariant.0)

@@ -1,0 +1,39 @@
+//! Whoever can say who waits for whom.
+
+use crate::board::{Board, SLOTS};
+
+/// Who waits for whom, told slot by slot. By the contract of `row`, whom a slot waits for is below
+/// `SLOTS` too.
+pub trait WaitsFor {
+    ghost use Rattle.std.specs.Prelude.{◌≡◌, ℕ, ◌<◌, Bool};
+    ghost use Rattle.gl_waits.specs.Sets.{has_slot};
+
+    /// Whether the first slot waits for the second.
+    ghost edge: { Self → ℕ → ℕ → Bool };
+
+    /// The slots that `slot` waits for.
+    fn row(&self, slot: usize) -> u128
+        requires { slot < SLOTS }
+        ensures { (u : ℕ) → has_slot result u ≡ edge self.now slot u };
+}
+
+/// Rows by slot.
+impl WaitsFor for [u128; SLOTS] {
+    ghost use Rattle.gl_waits.specs.Boards.{row_edge};
+
+    ghost edge = { row_edge };
+
+    fn row(&self, slot: usize) -> u128 {
+        self[slot]
+    }
+}
+
+impl WaitsFor for Board {
+    ghost use Rattle.gl_waits.specs.Boards.{board_edge};
+
+    ghost edge = { board_edge };
+
+    fn row(&self, slot: usize) -> u128 {
+        self.rows[slot]
+    }
+}
