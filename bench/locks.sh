@@ -20,15 +20,18 @@
 #   detection at block, and the commit of who holds it. They go from one to the next of 128 transactions that
 #   were begun beforehand, each in a slot that has had a lock before, so that there is nothing else in a
 #   turn; a run has at most 127 turns.
+# - An insert and its delete are two commands, with one told list: a record of a file with three indexes is
+#   made by one who holds its parents in IX, and taken away.
 # - A release is a commit. One transaction holds a root in SIX and 127 hold it in IS; all of these convert,
 #   the first K to IX and the others to S, and wait. The commit of the one grants the first K. `none` is the
 #   commit of one of 64 to whom IX was granted, while 63 still wait. Each is measured on a table of its own,
 #   and what led to it is measured alone and subtracted.
 #
-# The aims, in instructions, and what was counted: with one list, a round alone at most 5000 (7390) and beside
-# 127 others at most 6000 (7530); with replies, at most twice that (21760 alone); a wait and its grant at most
-# 4000 (1990); a release linear in those granted (870, 10100, 20000 and 39600 for 1, 32, 64 and 127). In time,
-# on a core of an Intel Xeon that other work shares: a round some 1 microsecond with one list and 4 otherwise.
+# The aims, in instructions, and what was counted: with one list, a round alone at most 5000 (6370) and beside
+# 127 others at most 6000 (5940, as beside 8); with replies, at most twice that (20730 alone); a wait and its
+# grant at most 4000 (1880); a release linear in those granted (910, 10100, 19900 and 39500 for 1, 32, 64 and
+# 127). An insert and its delete, for which there is no aim, take 2970. In time, on a core of an Intel Xeon
+# that other work shares: a round some 0.7 microseconds with one list and 4 otherwise.
 rounds=${1:-100000}
 cd "$(dirname "$0")/../crates/bench_locks" || exit 2
 rt run >/dev/null 2>&1 || { echo "locks.sh: the program does not build; see rt run in crates/bench_locks" >&2; exit 1; }
@@ -92,6 +95,7 @@ round "round, table, beside 127" table 127
 round "round, one list, 100 elsewhere" one-list elsewhere
 round "round, replies, 100 elsewhere" replies elsewhere
 round "round, table, 100 elsewhere" table elsewhere
+round "insert and its delete" inserts
 line "wait and its grant" "${counts:+$(each 27 127 waits)}" "$(best 127 waits)"
 release "release that grants none of 63" release-after release 64
 for granted in 1 2 8 32 64 127; do

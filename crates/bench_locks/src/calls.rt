@@ -115,6 +115,21 @@ pub(crate) fn with_one_list(alloc: Global) -> Result<Commands<OneList>, Refusal>
     Ok(Commands { server })
 }
 
+impl<S: Server> Commands<S> {
+    /// The record, or a name that names nothing.
+    pub(crate) fn insert(&mut self, txn: TxnId, file: NodeId, keys: &[u64]) -> NodeId {
+        made(self.server.serve(Command::Insert { txn, file, keys }).0)
+    }
+
+    /// How many records are deleted by it.
+    pub(crate) fn delete(&mut self, txn: TxnId, rec: NodeId) -> u64 {
+        match self.server.serve(Command::Delete { txn, rec }).0 {
+            Answer::Done => 1,
+            _ => 0,
+        }
+    }
+}
+
 impl<S: Server> Calls for Commands<S> {
     fn new_root(&mut self) -> NodeId {
         made(self.server.serve(Command::Inner { parents: &[] }).0)

@@ -5,12 +5,14 @@
 mod calls;
 mod clock;
 mod conversions;
+mod inserts;
 mod placing;
 mod rounds;
 mod waits;
 
 use crate::calls::{made_table, with_one_list, with_replies};
 use crate::conversions::{Committer, time_releases};
+use crate::inserts::time_inserts;
 use crate::rounds::{Crowd, time_rounds};
 use crate::waits::time_waits;
 use std::{env, io};
@@ -33,6 +35,8 @@ enum Part {
     Rounds(Entry),
     /// Locks that wait, each with the commit that grants it.
     Waits,
+    /// Inserts into a file with three indexes, each with the delete of its record.
+    Inserts,
     /// A release where conversions wait.
     Releases(Committer),
 }
@@ -44,6 +48,7 @@ fn part_named(word: &str) -> Option<Part> {
         "replies" => Part::Rounds(Entry::Replies),
         "one-list" => Part::Rounds(Entry::OneList),
         "waits" => Part::Waits,
+        "inserts" => Part::Inserts,
         "conversions" => Part::Releases(Committer::Nobody),
         "release" => Part::Releases(Committer::Holder),
         "release-after" => Part::Releases(Committer::Writer),
@@ -108,6 +113,14 @@ fn measure_waits(rt: &HostRuntime, rounds: u64) -> io::Result<()> {
     }
 }
 
+/// Inserts and deletes, on a table of their own.
+fn measure_inserts(rt: &HostRuntime, rounds: u64) -> io::Result<()> {
+    match with_one_list(rt.alloc()) {
+        Ok(mut commands) => time_inserts(rt, &mut commands, rounds),
+        Err(_) => Ok(()),
+    }
+}
+
 fn main(rt: HostRuntime) -> io::Result<()> {
     let asked = read_words(&rt)?;
     let crowd = if asked.elsewhere {
@@ -118,6 +131,7 @@ fn main(rt: HostRuntime) -> io::Result<()> {
     match asked.part {
         Some(Part::Rounds(entry)) => measure_rounds(&rt, entry, crowd, asked.rounds),
         Some(Part::Waits) => measure_waits(&rt, asked.rounds),
+        Some(Part::Inserts) => measure_inserts(&rt, asked.rounds),
         Some(Part::Releases(committer)) => {
             time_releases(&rt, asked.number, committer, asked.rounds)
         }

@@ -1,34 +1,22 @@
 -- The tests of a node that moves, one after the other.
 use Rattle.std.specs.Prelude.{◌≡◌, ℕ, Bool, true, false, not, ◌&&◌, ◌||◌, ◌==◌, List, [], ◌∷◌, ◌++◌, length, Option, Some, Ok, if◌then◌else◌}
-use Rattle.std.specs.List.{list_all, list_any}
-use Rattle.std.proofs.Common.{refl, sym, ap, ◌∙◌, arith}
+use Rattle.std.specs.List.{list_all}
+use Rattle.std.proofs.Common.{refl, ap, ◌∙◌, arith}
 use Rattle.std.proofs.lemmas.Bool.Decides.{nat_tests}
-use mathlib.Core.Bool.{true≢false}
 use Rattle.gl_modes.specs.declared.node.NodeId.{NodeId}
 use Rattle.gl_modes.specs.declared.refusal.Refusal.{Refusal}
 use Rattle.gl_modes.specs.declared.refusal.Refusal.TheVariants as no
-use Rattle.gl_modes.specs.Nodes.{same_node}
 use Rattle.gl_graph.specs.Changes.{rekeyed_parents}
-use Rattle.gl_graph.specs.Graph.{Graph, first_parent, is_live, parents_of, shape_of}
-use Rattle.gl_graph.specs.Lawful.{IsLawfulGraph}
+use Rattle.gl_graph.specs.Graph.{first_parent, is_live, parents_of, shape_of}
 use Rattle.gl_graph.specs.Refusals.{bad_parents, first_refusal, some_no_node, verdict, where_true}
 use Rattle.gl_graph.specs.Shapes.{is_index_of_shape, is_movable_shape, is_record_shape, least_parents}
-use Rattle.gl_graph.proofs.Look.{both, split}
+use Rattle.gl_graph.proofs.Look.{both}
 use Rattle.gl_graph.proofs.Unrefused.{verdict_ok}
 use Rattle.gl_table.specs.Refusals.{commit_tests, need_exclusive, need_new_parents, some_given}
 use Rattle.gl_table.specs.State.{State}
 use Rattle.gl_table.specs.declared.txn.TxnId.{TxnId}
-use Rattle.gl_table.proofs.CutSet.{not_all}
 use Rattle.gl_catalog.specs.Tests.{move_asks, rekey_tests, worn}
 use Rattle.gl_graph.proofs.FirstOf.{passed_then}
-
--- a test that each of these nodes passes, all pass
-pub all_among : (q : NodeId → Bool) (ps : List NodeId) → ((p : NodeId) → list_any (same_node p) ps ≡ true → q p ≡ true) → list_all q ps ≡ true
-all_among q ps each = split (list_all q ps) (λ all. all) (λ fails. let out = not_all q ps fails in absurd (true≢false (sym (each out.0 out.1) ∙ out.2)))
-
--- in a lawful graph the parents of a node live
-pub parents_all_live : (g : Graph) → IsLawfulGraph g → (n : NodeId) → list_all (is_live g) (parents_of g n) ≡ true
-parents_all_live g law n = all_among (is_live g) (parents_of g n) (law.parents_live n)
 
 -- where the count and the one who asks pass, and these nodes live, the kinds decide, and then what follows
 then_kinds : (s : State) (t : TxnId) (ns : List NodeId) (bad : Bool) (rest : List (Option Refusal)) → Ok tt ≡ verdict (worn s) → Ok tt ≡ verdict (first_refusal (commit_tests s t)) → list_all (is_live s.graph) ns ≡ true

@@ -1,18 +1,16 @@
 -- A record is given another key for one index: the parents that it then has, place by place, what its tests say, and what comes of it.
 use Rattle.std.specs.Prelude.{◌≡◌, ℕ, zero, suc, ◌+◌, ◌<◌, Bool, true, false, not, ◌&&◌, List, [], ◌∷◌, ◌++◌, length, Some, None, Ok, if◌then◌else◌, get_or, take}
-use Rattle.std.specs.List.{list_all}
 use Rattle.std.proofs.Common.{refl, sym, ap, ap₂, ◌∙◌, arith}
 use Rattle.std.proofs.lemmas.List.{take_more}
 use Rattle.gl_modes.specs.declared.node.NodeId.{NodeId}
 use Rattle.gl_modes.specs.Nodes.{same_node}
 use Rattle.gl_graph.specs.Changes.{keys_with, rekeyed, rekeyed_keys, rekeyed_parents}
 use Rattle.gl_graph.specs.Shapes.{is_index_of_shape, is_record_shape, keys_in}
-use Rattle.gl_graph.specs.Graph.{Graph, first_parent, indexes_of, interval_of, intervals_of, is_live, parents_of, shape_of}
+use Rattle.gl_graph.specs.Graph.{Graph, first_parent, indexes_of, interval_of, intervals_of, parents_of, shape_of}
 use Rattle.gl_graph.specs.Lawful.{IsLawfulGraph}
 use Rattle.gl_graph.specs.Refusals.{some_no_node, verdict, where_true}
 use Rattle.gl_graph.proofs.Look.{and_both, same_node_is}
-use Rattle.gl_graph.proofs.KindRules.{plain_live, record_parent_plain}
-use Rattle.gl_graph.proofs.RecordParents.{its_file, its_keys, its_parents}
+use Rattle.gl_graph.proofs.RecordParents.{its_keys, its_parents}
 use Rattle.gl_graph.proofs.Rekey.{count_intervals_of}
 use Rattle.gl_graph.proofs.Unrefused.{not_false, not_refused, test_fails, verdict_ok}
 use Rattle.gl_table.specs.declared.txn.Status.TheVariants.{Active}
@@ -26,7 +24,6 @@ use Rattle.gl_catalog.specs.Manager.{counting}
 use Rattle.gl_catalog.specs.Replies.{CallSteps, Notices, done}
 use Rattle.gl_catalog.specs.Tests.{refusal_of, worn}
 use Rattle.gl_catalog.proofs.Carried.{accepted_step}
-use Rattle.gl_catalog.proofs.MoveChecks.{all_among}
 use Rattle.gl_catalog.proofs.NotRefused.{active_is, txn_lives}
 
 -- a key for each index, also where one has changed
@@ -92,11 +89,6 @@ module _ (g : Graph) where
       rekeyed_more place d b low test =
           let count = rekeyed_counted in
           take_more (rekeyed_parents g r index key) (place + 1) d (omega arith) ∙ ap (λ n. take (place + 1) (rekeyed_parents g r index key) ++ n ∷ []) (rekeyed_at place d b low test)
-
-      -- the new parents live
-      pub rekeyed_live : list_all (is_live g) (rekeyed_parents g r index key) ≡ true
-      rekeyed_live =
-          all_among (is_live g) (rekeyed_parents g r index key) (λ p among. plain_live g p (record_parent_plain g law (first_parent g r) p (rekeyed_keys g r index key) (its_file g law r rec) among))
 
 -- who may give the record this key
 pub record MayReparent (s : State) (t : TxnId) (r index : NodeId) (key : ℕ) : Type 0 where

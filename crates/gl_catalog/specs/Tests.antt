@@ -19,17 +19,16 @@ use Rattle.gl_table.specs.State.{State, members}
 abbrev pub worn : State → Option Refusal
 worn s = where_true (s.accepted == max_count) no.WornOut
 
--- insert asks IX or greater on each parent that the new record will have
-abbrev pub insert_asks : State → TxnId → NodeId → List ℕ → List (Option Refusal)
-insert_asks s t f keys =
+-- insert takes a file, and a key for each of its indexes
+abbrev pub record_asks : State → TxnId → NodeId → List ℕ → List (Option Refusal)
+record_asks s t f keys =
     worn_births s.graph ∷ active_on s t (f ∷ [])
     ++ where_true (not (is_file_shape (shape_of s.graph f))) no.BadParents
-    ∷ where_true (not (length keys == length (indexes_of s.graph f))) no.BadKeys
-    ∷ first_not_ix (s.held t.slot) (record_parents s.graph f keys) ∷ []
+    ∷ where_true (not (length keys == length (indexes_of s.graph f))) no.BadKeys ∷ []
 
--- and there must be room for the record
+-- it asks IX or greater on each parent that the new record will have, and there must be room for the record
 abbrev pub insert_tests : State → TxnId → NodeId → List ℕ → List (Option Refusal)
-insert_tests s t f keys = insert_asks s t f keys ++ too_many_nodes s.graph 1 ∷ []
+insert_tests s t f keys = record_asks s t f keys ++ first_not_ix (s.held t.slot) (record_parents s.graph f keys) ∷ too_many_nodes s.graph 1 ∷ []
 
 -- delete takes a record alone, and asks X on it
 abbrev pub delete_tests : State → TxnId → NodeId → List (Option Refusal)

@@ -7,6 +7,7 @@ ghost use Rattle.gl_slots.specs.Slots.{has_slot};
 ghost use Rattle.gl_header.specs.Answers.{asked, asked_members, asked_queue, tried};
 ghost use Rattle.gl_header.specs.Groups.{group_mode};
 ghost use Rattle.gl_header.specs.Header.{
+  enters,
   front,
   group_of,
   holds,
@@ -169,9 +170,16 @@ impl Header {
     pub fn would_grant(&self, slot: u8, mode: Mode) -> bool
         ensures { result ≡ is_granted self.now slot mode }
     {
-        let held = self.granted.mode_of(slot);
-        (held != Mode::NL || self.queue.is_empty())
-            && self.granted.fits_others(slot, sup(held, mode))
+        let held = self.mode_of(slot);
+        self.enters(slot, held, sup(held, mode))
+    }
+
+    /// Whether a slot that holds the mode `held` is granted `wanted` at once.
+    fn enters(&self, slot: u8, held: Mode, wanted: Mode) -> bool
+        requires held { held ≡ members_of self.now slot }
+        ensures { result ≡ enters slot_limit (members_of self.now) self.now.queue slot wanted }
+    {
+        (held != Mode::NL || self.queue.is_empty()) && self.granted.fits_others(slot, wanted)
     }
 
     /// Asks for a mode: it is granted at once, or the slot waits in its place. What is granted, now
@@ -190,8 +198,9 @@ impl Header {
         ensures at_once { is_granted self.old slot mode ≡ true → IsOk result }
         ensures lawful { IsLawfulHeader self.new }
     {
-        let wanted = sup(self.mode_of(slot), mode);
-        if self.would_grant(slot, mode) {
+        let held = self.mode_of(slot);
+        let wanted = sup(held, mode);
+        if self.enters(slot, held, wanted) {
             self.granted.hold(slot, wanted);
             Ok(Asked::Granted(wanted))
         } else {
@@ -213,8 +222,9 @@ impl Header {
         ensures unchanged { is_granted self.old slot mode ≡ false → self.new ≡ self.old }
         ensures lawful { IsLawfulHeader self.new }
     {
-        let wanted = sup(self.mode_of(slot), mode);
-        if !self.would_grant(slot, mode) {
+        let held = self.mode_of(slot);
+        let wanted = sup(held, mode);
+        if !self.enters(slot, held, wanted) {
             return Try::WouldBlock;
         }
         self.granted.hold(slot, wanted);

@@ -8,7 +8,6 @@ use Rattle.indexmap.specs.IndexMap.{spare}
 use Rattle.gl_modes.specs.declared.mode.Mode.{Mode}
 use Rattle.gl_modes.specs.declared.mode.Mode.TheVariants.{NL}
 use Rattle.gl_modes.specs.declared.node.NodeId.{NodeId}
-use Rattle.gl_modes.specs.Modes.{same_mode, supremum}
 use Rattle.gl_modes.specs.Nodes.{same_node}
 use Rattle.gl_graph.specs.Graph.{Graph, parents_of}
 use Rattle.gl_graph.specs.Lawful.{IsLawfulGraph}
@@ -20,7 +19,7 @@ use Rattle.gl_table.specs.declared.locks.Locks.{Locks}
 use Rattle.gl_table.specs.declared.txn.Status.TheVariants.{Active}
 use Rattle.gl_table.specs.Calls.{enters_at, wanted}
 use Rattle.gl_table.specs.Covered.{held_children}
-use Rattle.gl_table.specs.Headers.{AreHeaders, held_of, members_at, queue_of}
+use Rattle.gl_table.specs.Headers.{AreHeaders, held_of, is_granted_at, members_at, queue_of}
 use Rattle.gl_table.specs.Lists.{HasRoom, IsApart, count_of, is_listed, mode_of, unlisted}
 use Rattle.gl_table.specs.Locks.{Agrees, AreSound, CountsHeld, IsOrderly, state_on}
 use Rattle.gl_table.specs.Slots.{HasRoomAt, KeepsLists}
@@ -93,9 +92,6 @@ module _ (g : Graph) (l : Locks) (t : ℕ) (may : MayAsk g l t) where
     pub own-mode : (q : NodeId) → mode_of x q ≡ s.held t q
     own-mode q = sym (by_list-at (λ y. mode_of y q) NL l.lists.items t x slot-listed at) ∙ (may.agree t).modes q
 
-    pub own-holds : (q : NodeId) → not (same_mode (mode_of x q) NL) ≡ holds (members s q) t
-    own-holds q = ap (λ m. not (same_mode m NL)) (own-mode q)
-
     pub own-listed : (q : NodeId) → is_listed x q ≡ holds (members s q) t
     own-listed q = sym (by_list-at (λ y. is_listed y q) false l.lists.items t x slot-listed at) ∙ (may.agree t).listed q ∙ ap (λ b. holds (members s q) t || b) (active-waits_nowhere q) ∙ or-false (holds (members s q) t)
 
@@ -153,7 +149,7 @@ is_ready g l l' t n m held now may enters held_is made = record {
 
 -- what the header of a node says of an ask: whether it is granted at once
 abbrev pub says_at : Locks → ℕ → NodeId → Mode → Bool
-says_at l t n m = enters slot_limit (members_at l.headers.entries n) (queue_of l.headers.entries n) t (supremum (held_of l.headers.entries t n) m)
+says_at l t n m = is_granted_at l.headers.entries t n m
 
 pub says_is : (g : Graph) (l : Locks) (t : ℕ) (n : NodeId) (m : Mode) → MayAsk g l t → says_at l t n m ≡ enters_at (state_on g l) t n m
 says_is g l t n m may = sym (enters-most (state_on g l) may.orderly may.sound.few t n (wanted (state_on g l) t n m))

@@ -1,7 +1,6 @@
 -- A transaction takes the lowest free seat.
 use Rattle.std.specs.Prelude.{◌≡◌, ℕ, suc, ◌+◌, ◌<◌, ◌≤◌, ◌==◌, Bool, true, false, cond, not, ◌&&◌, List, [], ◌∷◌, length, Option, Some, None, if◌then◌else◌, is_none, is_some, nat_lt, slice_get, slice_set}
 use Rattle.std.specs.List.{find, list_all, position, position_or_len, range_with_len}
-use Rattle.std.specs.Vec.{with_item}
 use Rattle.std.proofs.Common.{get_or, length-set, refl, sym, ap, ◌∙◌, subst, arith}
 use Rattle.std.proofs.lemmas.Bool.Decides.{nat_tests}
 use Rattle.std.proofs.lemmas.List.Quantifiers.{position-Some}
@@ -15,7 +14,7 @@ use Rattle.gl_table.specs.declared.txn.Status.TheVariants.{Active}
 use Rattle.gl_table.specs.Calls.{begun, free_slot}
 use Rattle.gl_table.specs.Lawful.{IsLawful}
 use Rattle.gl_table.specs.Refusals.{begin_tests, too_many_txns}
-use Rattle.gl_table.specs.Seats.{is_free, txn_in, txns_of}
+use Rattle.gl_table.specs.Seats.{SeatList, is_free, txn_in, txns_of}
 use Rattle.gl_table.specs.Sound.{IsSound, view_of}
 use Rattle.gl_table.specs.State.{State, status_in}
 use Rattle.gl_table.specs.Table.{TableView, state_of}
@@ -89,11 +88,12 @@ begin-refusal s o left is =
 txns_of-set : (xs : List (Option Seat)) (i : ℕ) (x : Option Seat) → i < length xs → (t : ℕ) → txns_of (slice_set xs i x) t ≡ (if t == i then txn_in (Some x) else txns_of xs t)
 txns_of-set xs i x h t = grind (arith, nat_tests, gets, elements)
 
-module _ (i : Inside) (sound : IsSound i) (t : ℕ) (at : Some t ≡ position is_free i.locks.seats.items) where
+module _ (i : Inside) (sound : IsSound i) (t : ℕ) (at : Some t ≡ position is_free i.locks.seats.items)
+    (seats : SeatList) (seated : seats.items ≡ slice_set i.locks.seats.items t (Some (record { age = i.begins + 1; status = Active }))) where
   abbrev after : Inside
   after = record {
     graph = i.graph;
-    locks = record i.locks { seats = with_item i.locks.seats t (Some (record { age = i.begins + 1; status = Active })) };
+    locks = record i.locks { seats = seats };
     detect = i.detect;
     begins = i.begins + 1;
   }
@@ -108,11 +108,11 @@ module _ (i : Inside) (sound : IsSound i) (t : ℕ) (at : Some t ≡ position is
   free = ap (λ o. is_some (txn_in o)) (slice_get-get_or i.locks.seats.items t None place.0) ∙ none-free _ place.1
 
   seats-same : length (view_of after).seats ≡ length i.locks.seats.items
-  seats-same = length-set i.locks.seats.items t (Some (record { age = i.begins + 1; status = Active }))
+  seats-same = ap length seated ∙ length-set i.locks.seats.items t (Some (record { age = i.begins + 1; status = Active }))
 
   pub begun-state : state_of (view_of after) ≡ begun s t
   begun-state = λ z. record (begun s t) {
-    txns = λ u. txns_of-set i.locks.seats.items t (Some (record { age = i.begins + 1; status = Active })) place.0 u z;
+    txns = λ u. (ap (λ xs. txns_of xs u) seated ∙ txns_of-set i.locks.seats.items t (Some (record { age = i.begins + 1; status = Active })) place.0 u) z;
     most = seats-same z;
   }
 

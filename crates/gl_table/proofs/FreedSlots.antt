@@ -27,9 +27,11 @@ txns-freed : (seats : List (Option Seat)) (t u : ℕ) → t < length seats → t
 txns-freed seats t u lt = grind (arith, common_steps, gets, nat_tests)
 
 -- the state with the slot's seat free
-pub state-freed : (s : State) (seats : List (Option Seat)) (t : ℕ) → t < length seats
-    → record s { txns = txns_of (slice_set seats t None); most = length (slice_set seats t None) } ≡ with_txn (record s { txns = txns_of seats; most = length seats }) t None
-state-freed s seats t lt = λ i. record s { txns = λ u. txns-freed seats t u lt i; most = length-set seats t None i }
+pub state-freed : (s : State) (seats seats' : List (Option Seat)) (t : ℕ) → t < length seats → seats' ≡ slice_set seats t None
+    → record s { txns = txns_of seats'; most = length seats' } ≡ with_txn (record s { txns = txns_of seats; most = length seats }) t None
+state-freed s seats seats' t lt freed =
+    ap {B = State} (λ (xs : List (Option Seat)). record s { txns = txns_of xs; most = length xs }) freed
+    ∙ (λ i. record s { txns = λ u. txns-freed seats t u lt i; most = length-set seats t None i })
 
 module _ (s : State) (t : ℕ) (free : (q : NodeId) → s.held t q ≡ NL) (out : (q : NodeId) → is_among_waiters t (s.queue q) ≡ false) (ls : List LockList) (new : LockList) (lt : t < length ls) (bare : IsBare new) where
   abbrev gone : State

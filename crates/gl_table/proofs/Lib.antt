@@ -35,6 +35,8 @@ pub mod HeaderWrites
 pub mod HeaderPlaces
 pub mod HeaderSweeps
 pub mod HeaderAsks
+pub mod HeaderEntries
+pub mod Seating
 pub mod NoHeader
 pub mod Parents
 pub mod Children

@@ -11,15 +11,14 @@ use Rattle.gl_graph.specs.Graph.{parents_of}
 use Rattle.gl_graph.specs.Refusals.{Refuses, first_refusal, some_no_node, verdict, where_true}
 use Rattle.gl_graph.specs.View.{graph_of}
 use Rattle.gl_graph.proofs.Unrefused.{not_refused, test_fails, not_false}
-use Rattle.gl_header.specs.Header.{enters}
-use Rattle.gl_header.specs.State.{slot_limit}
 use Rattle.gl_table.specs.declared.locks.Locks.{Locks}
 use Rattle.gl_table.specs.declared.table.Table.TheInside.{Inside}
 use Rattle.gl_table.specs.declared.txn.TxnId.{TxnId}
 use Rattle.gl_table.specs.Calls.{enters_at, granted, wanted}
-use Rattle.gl_table.specs.Headers.{held_of, members_at, queue_of}
+use Rattle.gl_table.specs.Headers.{held_of, is_granted_at, queue_of}
 use Rattle.gl_table.specs.Lawful.{IsLawful}
 use Rattle.gl_table.specs.Locks.{Agrees, AreSound, CountsHeld, state_on}
+use Rattle.gl_table.specs.Answers.{answered}
 use Rattle.gl_table.specs.Refusals.{bad_mode, commit_tests, condemned_test, lock_tests, need_parents, no_node, no_txn, rule_refusal, try_tests, waiting_test, would_block}
 use Rattle.gl_table.specs.Seats.{txns_of}
 use Rattle.gl_table.specs.Slots.{held_by}
@@ -51,19 +50,29 @@ one_node s n h = ap (λ b. where_true (not (b && true)) no.NoSuchNode) (not_fals
 module _ (i : Inside) (sound : IsSound i) (v : TableView) (view : view_of i ≡ v) (t : TxnId) (n : NodeId) (m : Mode) where
   -- only the rule of the graph is left to be tested
   pub rule_decides : (x y : Unit {0}) → Ok x ≡ verdict (first_refusal (commit_tests (state_of v) t)) → Ok y ≡ verdict (no_node (state_of v) n) → bad_mode (state_of v) n m ≡ None
-      → verdict (rule_refusal (held_by i.locks.lists.items t.slot) (parents_of (graph_of i.graph) n) (supremum (held_by i.locks.lists.items t.slot n) m)) ≡ verdict (first_refusal (lock_tests (state_of v) t n m))
+      → rule_refusal (held_by i.locks.lists.items t.slot) (parents_of (graph_of i.graph) n) (supremum (held_by i.locks.lists.items t.slot n) m) ≡ first_refusal (lock_tests (state_of v) t n m)
   rule_decides x y a b good =
       let s = state_of v in
       let first = not_refused (no_txn s t) _ (test_passed _ x a) in
       let second = not_refused (waiting_test (status_of s t.slot)) _ first.1 in
       let third = not_refused (condemned_test (status_of s t.slot)) [] second.1 in
-      ap (λ (h : NodeId → Mode). verdict (rule_refusal h (parents_of (graph_of i.graph) n) (supremum (h n) m))) (fun_ext (modes-seen i sound v view t.slot))
-      ∙ ap (λ (w : TableView). verdict (rule_refusal ((state_of v).held t.slot) (parents_of (graph_of w.graph) n) (supremum ((state_of v).held t.slot n) m))) view
-      ∙ ap verdict (sym (last_test _ _ _ _ _ (need_parents s t.slot n (wanted s t.slot n m)) first.0 second.0 third.0 (one_node s n (test_passed _ y b)) good))
+      ap (λ (h : NodeId → Mode). rule_refusal h (parents_of (graph_of i.graph) n) (supremum (h n) m)) (fun_ext (modes-seen i sound v view t.slot))
+      ∙ ap (λ (w : TableView). rule_refusal ((state_of v).held t.slot) (parents_of (graph_of w.graph) n) (supremum ((state_of v).held t.slot n) m)) view
+      ∙ sym (last_test _ _ _ _ _ (need_parents s t.slot n (wanted s t.slot n m)) first.0 second.0 third.0 (one_node s n (test_passed _ y b)) good)
 
 pub test_refused : (o : Option Refusal) (r : Refusal) → Err r ≡ verdict o → o ≡ Some r
 test_refused None r h = absurd (cc)
 test_refused (Some x) r h = let same : r ≡ x = cc in ap Some (sym same)
+
+-- an answer that no test refused is the value, and else the refusal
+
+pub answered-ok : {A : Type 0} (o : Option Refusal) (x y : A) → Ok x ≡ answered o y → (o ≡ None) × (x ≡ y)
+answered-ok None x y h = (refl, cc)
+answered-ok (Some r) x y h = absurd (cc)
+
+pub answered-err : {A : Type 0} (o : Option Refusal) (r : Refusal) (y : A) → Err r ≡ answered o y → o ≡ Some r
+answered-err None r y h = absurd (cc)
+answered-err (Some x) r y h = let same : r ≡ x = cc in ap Some (sym same)
 
 -- where no test refuses, a value is no refusal
 pub unrefused : {T : Type 0} (o : Option Refusal) (x : T) → o ≡ None → Refuses o (Ok x)
@@ -76,15 +85,15 @@ blocked s t n m false e = ap (λ b. first_refusal (where_true (not b) no.WouldBl
 
 module _ (s : State) (t : TxnId) (n : NodeId) (m : Mode) where
   -- what refuses a lock refuses a try
-  pub try_refused : (r : Refusal) → Err r ≡ verdict (first_refusal (lock_tests s t n m)) → first_refusal (try_tests s t n m) ≡ Some r
-  try_refused r h = refused_first (lock_tests s t n m) (would_block s t.slot n m ∷ []) r (test_refused _ r h)
+  pub try_refused : (r : Refusal) → first_refusal (lock_tests s t n m) ≡ Some r → first_refusal (try_tests s t n m) ≡ Some r
+  try_refused r h = refused_first (lock_tests s t n m) (would_block s t.slot n m ∷ []) r h
 
   -- and so does an ask that would wait
-  pub try_decides : (x : Unit {0}) → Ok x ≡ verdict (first_refusal (lock_tests s t n m)) → (b : Bool) → enters_at s t.slot n m ≡ b → first_refusal (try_tests s t n m) ≡ (if b then None else Some no.WouldBlock)
-  try_decides x h b e = passed_then (lock_tests s t n m) (would_block s t.slot n m ∷ []) (test_passed _ x h) ∙ blocked s t.slot n m b e
+  pub try_decides : first_refusal (lock_tests s t n m) ≡ None → (b : Bool) → enters_at s t.slot n m ≡ b → first_refusal (try_tests s t n m) ≡ (if b then None else Some no.WouldBlock)
+  try_decides h b e = passed_then (lock_tests s t n m) (would_block s t.slot n m ∷ []) h ∙ blocked s t.slot n m b e
 
-  pub may_lock_by : (x : Unit {0}) → Ok x ≡ verdict (first_refusal (lock_tests s t n m)) → MayLock s t n m
-  may_lock_by x h = (may_lock s t n m None [] (test_passed _ x h)).0
+  pub may_lock_by : first_refusal (lock_tests s t n m) ≡ None → MayLock s t n m
+  may_lock_by h = (may_lock s t n m None [] h).0
 
 module _ (i : Inside) (sound : IsSound i) (t : TxnId) (n : NodeId) (m : Mode) where
   abbrev s : State
@@ -94,7 +103,7 @@ module _ (i : Inside) (sound : IsSound i) (t : TxnId) (n : NodeId) (m : Mode) wh
   l = state_on (graph_of i.graph) i.locks
 
   -- the header says what the state says
-  pub same_enters : enters slot_limit (members_at i.locks.headers.entries n) (queue_of i.locks.headers.entries n) t.slot (supremum (held_of i.locks.headers.entries t.slot n) m) ≡ enters_at s t.slot n m
+  pub same_enters : is_granted_at i.locks.headers.entries t.slot n m ≡ enters_at s t.slot n m
   same_enters = sym (enters-most l (orderly i sound) sound.sound.few t.slot n (wanted l t.slot n m))
 
   -- the grant was made
@@ -145,8 +154,8 @@ module _ (i : Inside) (sound : IsSound i) (t : TxnId) (n : NodeId) (m : Mode) wh
   state_tried (Err x) locks ok = ok
 
 -- what a try answers once the tests of a lock passed, by what the header says
-pub decided : (i : Inside) (sound : IsSound i) (v : TableView) → view_of i ≡ v → (t : TxnId) (n : NodeId) (m : Mode) (x : Unit {0}) → Ok x ≡ verdict (first_refusal (lock_tests (state_of v) t n m)) → (b : Bool)
-    → b ≡ enters slot_limit (members_at i.locks.headers.entries n) (queue_of i.locks.headers.entries n) t.slot (supremum (held_of i.locks.headers.entries t.slot n) m)
+pub decided : (i : Inside) (sound : IsSound i) (v : TableView) → view_of i ≡ v → (t : TxnId) (n : NodeId) (m : Mode) → first_refusal (lock_tests (state_of v) t n m) ≡ None → (b : Bool)
+    → b ≡ is_granted_at i.locks.headers.entries t.slot n m
     → first_refusal (try_tests (state_of v) t n m) ≡ (if b then None else Some no.WouldBlock)
-decided i sound v view t n m x h b e =
-    try_decides (state_of v) t n m x h b (ap (λ (w : TableView). enters_at (state_of w) t.slot n m) (sym view) ∙ sym (same_enters i sound t n m) ∙ sym e)
+decided i sound v view t n m h b e =
+    try_decides (state_of v) t n m h b (ap (λ (w : TableView). enters_at (state_of w) t.slot n m) (sym view) ∙ sym (same_enters i sound t n m) ∙ sym e)

@@ -1,17 +1,14 @@
 -- A record is made in a table, and one transaction holds it in X: what holds of the fields still does.
-use Rattle.std.specs.Prelude.{◌≡◌, ℕ, ◌+◌, ◌≤◌, false, true, not, ◌&&◌, nat_lt, [], ◌∷◌, List, length, IfOk, None, OnErr, Result, Some}
+use Rattle.std.specs.Prelude.{◌≡◌, ℕ, ◌≤◌, true, [], List, length, IfOk, None, OnErr, Result, Some}
 use Rattle.std.proofs.Common.{sym, ap, ◌∙◌, subst}
 use Rattle.gl_modes.specs.declared.mode.Mode.TheVariants.{NL, X}
 use Rattle.gl_modes.specs.declared.node.NodeId.{NodeId}
 use Rattle.gl_modes.specs.declared.refusal.Refusal.{Refusal}
-use Rattle.gl_modes.specs.declared.refusal.Refusal.TheVariants as no
 use Rattle.gl_graph.specs.Changes.{IsBorn}
-use Rattle.gl_graph.specs.Graph.{Graph, indexes_of, is_live, node_count, record_parents, shape_of}
-use Rattle.gl_graph.specs.Refusals.{Refuses, births_worn, first_refusal, record_refusal, where_true}
-use Rattle.gl_graph.specs.Shapes.{Rec, is_file_shape}
+use Rattle.gl_graph.specs.Graph.{Graph, is_live, record_parents}
+use Rattle.gl_graph.specs.Refusals.{Refuses, record_refusal}
+use Rattle.gl_graph.specs.Shapes.{Rec}
 use Rattle.gl_graph.specs.View.{View, graph_of}
-use Rattle.gl_graph.proofs.KindRules.{file_plain, plain_live}
-use Rattle.gl_graph.proofs.Look.{number_same}
 use Rattle.gl_graph.proofs.Unrefused.{IsRoomyRecord, record_unrefused}
 use Rattle.gl_table.specs.declared.locks.Locks.{Locks}
 use Rattle.gl_table.specs.declared.table.Table.TheInside.{Inside}
@@ -30,18 +27,6 @@ use Rattle.gl_table.proofs.NoCycle.{granted-no_cycle}
 use Rattle.gl_table.proofs.Placed.{born-live, born-unawaited, born-unheld, placed-lawful, record-grows}
 use Rattle.gl_table.proofs.Rooms.{keeps-agrees, keeps-counts}
 use Rattle.gl_table.proofs.TableBirths.{called-sound}
-
--- a record that meets the conditions is refused for want of memory alone
-pub record-passes : (g : Graph) (f : NodeId) (keys : List ℕ) → births_worn g ≡ false → is_file_shape (shape_of g f) ≡ true → length keys ≡ length (indexes_of g f) → nat_lt 65536 (node_count g + 1) ≡ false → record_refusal g f keys ≡ None
-record-passes g f keys worn file each room =
-    let live : is_live g f ≡ true = plain_live g f (file_plain (shape_of g f) file) in
-    λ i. first_refusal (
-    where_true (worn i) no.WornOut
-    ∷ where_true (not (live i && true)) no.NoSuchNode
-    ∷ where_true (not (file i)) no.BadParents
-    ∷ where_true (not (number_same (length keys) (length (indexes_of g f)) each i)) no.BadKeys
-    ∷ where_true (room i) no.TooManyNodes ∷ []
-    )
 
 -- room was made, and all says what it said
 module _ (i : Inside) (sound : IsSound i) (locks : Locks) (headers : locks.headers.entries ≡ i.locks.headers.entries) (seats : locks.seats ≡ i.locks.seats) (lists : KeepsLists i.locks.lists.items locks.lists.items) where

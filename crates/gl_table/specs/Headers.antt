@@ -1,11 +1,12 @@
 -- The headers of all nodes, seen as who holds what and who waits where.
-use Rattle.std.specs.Prelude.{◌≡◌, ℕ, false, List, Option, Some, None, if◌then◌else◌}
+use Rattle.std.specs.Prelude.{◌≡◌, ℕ, Bool, false, List, Option, Some, None, if◌then◌else◌}
 use Rattle.std.specs.Map.{lookup}
 use Rattle.gl_modes.specs.declared.mode.Mode.{Mode}
 use Rattle.gl_modes.specs.declared.node.NodeId.{NodeId}
+use Rattle.gl_modes.specs.Modes.{supremum}
 use Rattle.gl_modes.specs.Nodes.{same_node}
 use Rattle.gl_header.specs.Header.{Members, Waiter}
-use Rattle.gl_header.specs.State.{HeaderState, IsLawfulHeader, is_unused, members_of, unused_header}
+use Rattle.gl_header.specs.State.{HeaderState, IsLawfulHeader, is_granted, is_unused, members_of, unused_header}
 
 -- nodes with their headers
 abbrev pub Entries : Type 0
@@ -31,6 +32,14 @@ held_of hs t n = members_at hs n t
 -- who waits for the node
 abbrev pub queue_of : Entries → NodeId → List Waiter
 queue_of hs n = (header_or_new (header_at hs n)).queue
+
+-- an ask of a slot for a mode on the node is granted at once
+abbrev pub is_granted_at : Entries → ℕ → NodeId → Mode → Bool
+is_granted_at hs t n m = is_granted (header_or_new (header_at hs n)) t m
+
+-- the supremum of the mode that a slot holds on the node and another
+abbrev pub wanted_at : Entries → ℕ → NodeId → Mode → Mode
+wanted_at hs t n m = supremum (held_of hs t n) m
 
 -- each header is lawful, and each is needed: somebody holds or waits
 pub record AreHeaders (hs : Entries) : Type 0 where

@@ -11,6 +11,7 @@ pub mod Calls
 pub mod Refusals
 pub mod Tellings
 pub mod BoardOf
+pub mod Seating
 pub mod Seats
 pub mod Telling
 pub mod Lists

@@ -3,15 +3,13 @@
 ghost use Rattle.std.specs.Prelude.{◌≡◌, ◌≢◌, ◌<◌, ◌&&◌, ℕ, IfErr, IfOk, IsOk, OnErr, OnOk, Some, false, length, true};
 ghost use Rattle.gl_modes.specs.declared.mode.Mode.TheVariants.{NL};
 ghost use Rattle.gl_modes.specs.declared.refusal.Refusal.{Refusal as ARefusal};
-ghost use Rattle.gl_modes.specs.Modes.{supremum};
 ghost use Rattle.gl_graph.specs.Graph.{is_live, parents_of};
 ghost use Rattle.gl_graph.specs.Refusals.{verdict};
 ghost use Rattle.gl_table.specs.Refusals.{rule_refusal};
 ghost use Rattle.gl_graph.specs.View.{graph_of};
-ghost use Rattle.gl_header.specs.Header.{enters, holds};
-ghost use Rattle.gl_header.specs.State.{slot_limit};
+ghost use Rattle.gl_header.specs.Header.{holds};
 ghost use Rattle.gl_table.specs.Answers.{asked_at, locked_as};
-ghost use Rattle.gl_table.specs.Headers.{held_of, members_at, queue_of};
+ghost use Rattle.gl_table.specs.Headers.{is_granted_at};
 ghost use Rattle.gl_table.specs.Calls.{enqueued, enters_at, granted, wanted};
 ghost use Rattle.gl_table.specs.Locks.{Agrees, AreSound, CountsHeld, IsOrderly, state_on};
 ghost use Rattle.gl_table.specs.Slots.{HasRoomAt, KeepsLists, held_by};
@@ -24,7 +22,7 @@ use crate::list::LockList;
 use crate::locks::Locks;
 use crate::outcome::Locked;
 use crate::rule::check_rule;
-use crate::seat::{Seat, set_status};
+use crate::seat::Seat;
 use crate::txn::Status;
 use gl_graph::Graph;
 use gl_header::Asked;
@@ -56,9 +54,9 @@ impl Locks {
         requires { slot < length self.old.lists.items }
         ensures rest { self.new ≡ record self.old { lists = self.new.lists } }
         ensures kept { KeepsLists self.old.lists.items self.new.lists.items }
-        ensures room { OnOk result ((is_member && enters slot_limit (members_at self.old.headers.entries node) (queue_of self.old.headers.entries node) slot (supremum (held_of self.old.headers.entries slot node) mode)) ≡ false
+        ensures room { OnOk result ((is_member && is_granted_at self.old.headers.entries slot node mode) ≡ false
             → HasRoomAt self.new.lists.items slot) }
-        ensures at_once { (is_member && enters slot_limit (members_at self.old.headers.entries node) (queue_of self.old.headers.entries node) slot (supremum (held_of self.old.headers.entries slot node) mode)) ≡ true → IsOk result }
+        ensures at_once { (is_member && is_granted_at self.old.headers.entries slot node mode) ≡ true → IsOk result }
         ensures no_memory { IfErr result (λ refusal. refusal ≡ ARefusal.NoMemory) }
     {
         match make_room(&mut self.lists, slot) {
@@ -73,8 +71,7 @@ impl Locks {
         }
     }
 
-    /// Whether the rule of the graph lets a slot have the supremum of what it holds on a node and
-    /// this mode.
+    /// Whether the rule of the graph lets a slot have this mode on a node.
     pub(crate) fn check_rule(
         &self,
         graph: &Graph,
@@ -83,21 +80,22 @@ impl Locks {
         mode: Mode,
     ) -> Result<(), Refusal>
         requires { slot < length self.now.lists.items }
-        ensures { result ≡ verdict (rule_refusal (held_by self.now.lists.items slot) (parents_of (graph_of graph.now) node) (supremum (held_by self.now.lists.items slot node) mode)) }
+        ensures { result ≡ verdict (rule_refusal (held_by self.now.lists.items slot) (parents_of (graph_of graph.now) node) mode) }
     {
-        let list = &self.lists[slot as usize];
-        check_rule(list, graph.parents(node), sup(list.mode(node), mode))
+        check_rule(&self.lists[slot as usize], graph.parents(node), mode)
     }
 
-    /// Asks for a mode on a node: the supremum of the held and the asked mode is granted at once, or
-    /// the slot waits for it in its place. The room for a later grant is made here. The only refusal
-    /// is `NoMemory`, which a member that is granted at once never meets.
+    /// Asks for a mode on a node that the slot holds in the mode `held`: the supremum of the held and
+    /// the asked mode is granted at once, or the slot waits for it in its place. The room for a later
+    /// grant is made here. The only refusal is `NoMemory`, which a member that is granted at once
+    /// never meets.
     pub(crate) fn ask(
         &mut self,
         graph: &Graph,
         slot: u8,
         node: NodeId,
         mode: Mode,
+        held: Mode,
     ) -> Result<Asked, Refusal>
         requires sound { AreSound self.old }
         requires orderly { IsOrderly (state_on (graph_of graph.now) self.old) }
@@ -106,6 +104,7 @@ impl Locks {
         requires active { status_of (state_on (graph_of graph.now) self.old) slot ≡ Some Active }
         requires live { is_live (graph_of graph.now) node ≡ true }
         requires lock { mode ≢ NL }
+        requires held { held ≡ held_by self.old.lists.items slot node }
         ensures sound { AreSound self.new }
         ensures answer { IfOk result (λ asked. asked ≡ asked_at (state_on (graph_of graph.now) self.old) slot node mode) }
         ensures granted { OnOk result (enters_at (state_on (graph_of graph.now) self.old) slot node mode ≡ true
@@ -122,7 +121,7 @@ impl Locks {
             → enters_at (state_on (graph_of graph.now) self.old) slot node mode ≡ true → IsOk result }
     {
         graph.law();
-        let is_member = self.lists[slot as usize].holds(node);
+        let is_member = held != Mode::NL;
         self.make_room_to_ask(slot, node, mode, is_member)?;
         let asked = ask(self.alloc, &mut self.headers, slot, node, mode)?;
         let list = &mut self.lists[slot as usize];
@@ -133,24 +132,26 @@ impl Locks {
                 list.count_up(graph.parents(node));
             }
             Asked::Waiting => {
-                let wanted = sup(list.mode(node), mode);
+                let wanted = sup(held, mode);
                 if !is_member {
                     list.enter(node, Mode::NL);
                 }
-                set_status(&mut self.seats, slot, Status::Waiting { node, wanted });
+                self.seats
+                    .set_status(slot, Status::Waiting { node, wanted });
             }
         }
         Ok(asked)
     }
 
-    /// Grants a mode that can be granted at once: the supremum of the held and the asked mode. The
-    /// only refusal is `NoMemory`, which a member never meets.
+    /// Grants a mode that can be granted at once, where the slot holds the mode `held`: the supremum
+    /// of the held and the asked mode. The only refusal is `NoMemory`, which a member never meets.
     pub(crate) fn grant(
         &mut self,
         graph: &Graph,
         slot: u8,
         node: NodeId,
         mode: Mode,
+        held: Mode,
     ) -> Result<Mode, Refusal>
         requires sound { AreSound self.old }
         requires orderly { IsOrderly (state_on (graph_of graph.now) self.old) }
@@ -159,6 +160,7 @@ impl Locks {
         requires active { status_of (state_on (graph_of graph.now) self.old) slot ≡ Some Active }
         requires live { is_live (graph_of graph.now) node ≡ true }
         requires lock { mode ≢ NL }
+        requires held { held ≡ held_by self.old.lists.items slot node }
         requires enters { enters_at (state_on (graph_of graph.now) self.old) slot node mode ≡ true }
         ensures sound { AreSound self.new }
         ensures mode { IfOk result (λ m. m ≡ wanted (state_on (graph_of graph.now) self.old) slot node mode) }
@@ -171,7 +173,7 @@ impl Locks {
         ensures no_memory { IfErr result (λ refusal. refusal ≡ ARefusal.NoMemory) }
         ensures held { holds (members (state_on (graph_of graph.now) self.old) node) slot ≡ true → IsOk result }
     {
-        match self.ask(graph, slot, node, mode)? {
+        match self.ask(graph, slot, node, mode, held)? {
             Asked::Granted(wanted) => Ok(wanted),
             Asked::Waiting => unreachable!(),
         }

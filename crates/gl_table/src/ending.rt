@@ -17,6 +17,7 @@ use crate::notice::Told;
 use crate::seat::Seat;
 use crate::txn::Status;
 use gl_graph::Graph;
+use gl_header::GrantList;
 
 impl Locks {
     /// Takes back the wait of a slot, if it has one, releases all that it holds, and frees it. Each
@@ -74,7 +75,7 @@ impl Locks {
     {
         self.leave_all(graph, slot, told);
         self.lists[slot as usize].clear();
-        self.seats[slot as usize] = None;
+        self.seats.leave(slot);
     }
 
     /// Releases one node after the other, until the slot's list is empty.
@@ -101,8 +102,9 @@ impl Locks {
         ensures own { notices_in told.new.items slot ≡ notices_in told.old.items slot }
     {
         graph.law();
+        let mut granted = GrantList::new();
         while let Some(node) = self.lists[slot as usize].pop() {
-            self.drop_and_wake(graph, slot, node, told);
+            self.drop_and_wake(graph, slot, node, &mut granted, told);
         }
     }
 }

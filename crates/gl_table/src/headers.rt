@@ -1,12 +1,11 @@
 //! The headers of all nodes: one for each node that somebody holds or waits for, and no other.
 
-ghost use Rattle.std.specs.Prelude.{◌≡◌, ◌≢◌, ◌<◌, [], IfErr, IfOk, IsOk, OnErr, OnOk, Some, false, slice_get, true, if◌then◌else◌};
+ghost use Rattle.std.specs.Prelude.{◌≡◌, ◌≢◌, ◌<◌, [], IfErr, IfOk, IsOk, OnErr, OnOk, Some, false, slice_get, true};
 ghost use Rattle.indexmap.specs.IndexMap.{keys};
 ghost use Rattle.gl_modes.specs.declared.mode.Mode.TheVariants.{NL};
-ghost use Rattle.gl_modes.specs.Modes.{supremum};
+ghost use Rattle.gl_header.specs.Answers.{asked};
 ghost use Rattle.gl_header.specs.State.{slot_limit};
 ghost use Rattle.gl_header.specs.Header.{
-  enters,
   front,
   group_of,
   holds,
@@ -17,7 +16,19 @@ ghost use Rattle.gl_header.specs.Header.{
   with_mode,
   without_waiter,
 };
-ghost use Rattle.gl_table.specs.Headers.{AreHeaders, AreHeadersBut, held_of, members_at, queue_of, with_members, with_waiters};
+ghost use Rattle.gl_table.specs.Headers.{
+  AreHeaders,
+  AreHeadersBut,
+  header_at,
+  header_or_new,
+  held_of,
+  is_granted_at,
+  members_at,
+  queue_of,
+  wanted_at,
+  with_members,
+  with_waiters,
+};
 
 use gl_header::{Asked, GrantList, Header};
 use gl_modes::{Mode, NodeId, Refusal};
@@ -39,7 +50,7 @@ pub(crate) fn group(headers: &Headers, node: NodeId) -> Mode
 
 /// Whether `ask` would grant at once.
 pub(crate) fn would_grant(headers: &Headers, slot: u8, node: NodeId, mode: Mode) -> bool
-    ensures { result ≡ enters slot_limit (members_at headers.now.entries node) (queue_of headers.now.entries node) slot (supremum (held_of headers.now.entries slot node) mode) }
+    ensures { result ≡ is_granted_at headers.now.entries slot node mode }
 {
     match headers.get(&node) {
         Some(header) => header.would_grant(slot, mode),
@@ -61,35 +72,26 @@ pub(crate) fn ask(
     requires not_waiting { is_among_waiters slot (queue_of headers.old.entries node) ≡ false }
     requires lock { mode ≢ Mode.NL }
     ensures headers { AreHeaders headers.new.entries }
-    ensures answer { IfOk result (λ answer. answer ≡
-        (if enters slot_limit (members_at headers.old.entries node) (queue_of headers.old.entries node) slot (supremum (held_of headers.old.entries slot node) mode)
-        then Asked.Granted (supremum (held_of headers.old.entries slot node) mode)
-        else Asked.Waiting)) }
+    ensures answer { IfOk result (λ answer. answer ≡ asked (header_or_new (header_at headers.old.entries node)) slot mode) }
     ensures granted { OnOk result
-        (enters slot_limit (members_at headers.old.entries node) (queue_of headers.old.entries node) slot (supremum (held_of headers.old.entries slot node) mode) ≡ true
-        → (held_of headers.new.entries ≡ with_members (held_of headers.old.entries) node (with_mode (members_at headers.old.entries node) slot (supremum (held_of headers.old.entries slot node) mode)))
+        (is_granted_at headers.old.entries slot node mode ≡ true
+        → (held_of headers.new.entries ≡ with_members (held_of headers.old.entries) node (with_mode (members_at headers.old.entries node) slot (wanted_at headers.old.entries slot node mode)))
         × (queue_of headers.new.entries ≡ queue_of headers.old.entries)) }
     ensures waits { OnOk result
-        (enters slot_limit (members_at headers.old.entries node) (queue_of headers.old.entries node) slot (supremum (held_of headers.old.entries slot node) mode) ≡ false
+        (is_granted_at headers.old.entries slot node mode ≡ false
         → (held_of headers.new.entries ≡ held_of headers.old.entries)
-        × (queue_of headers.new.entries ≡ with_waiters (queue_of headers.old.entries) node (placed (members_at headers.old.entries node) (queue_of headers.old.entries node) slot (supremum (held_of headers.old.entries slot node) mode)))) }
+        × (queue_of headers.new.entries ≡ with_waiters (queue_of headers.old.entries) node (placed (members_at headers.old.entries node) (queue_of headers.old.entries node) slot (wanted_at headers.old.entries slot node mode)))) }
     ensures err { OnErr result (headers.new.entries ≡ headers.old.entries) }
     ensures no_memory { IfErr result (λ refusal. refusal ≡ Refusal.NoMemory) }
     ensures member { holds (members_at headers.old.entries node) slot ≡ true
-        → enters slot_limit (members_at headers.old.entries node) (queue_of headers.old.entries node) slot (supremum (held_of headers.old.entries slot node) mode) ≡ true
+        → is_granted_at headers.old.entries slot node mode ≡ true
         → IsOk result }
 {
-    match headers.get_mut(&node) {
-        Some(header) => header.ask(slot, mode),
-        None => {
-            let mut header = Header::new(alloc);
-            let asked = header.ask(slot, mode)?;
-            let Ok(_) = headers.insert(node, header) else {
-                return Err(Refusal::NoMemory);
-            };
-            Ok(asked)
-        }
-    }
+    let Ok(entry) = headers.entry(node) else {
+        return Err(Refusal::NoMemory);
+    };
+    let header = entry.or_insert(Header::new(alloc));
+    header.ask(slot, mode)
 }
 
 /// Takes a grant away, and grants from the front of the node's queue. The list is filled anew with
@@ -171,7 +173,7 @@ pub(crate) fn take(headers: &mut Headers, node: NodeId) -> Option<Header>
     ensures headers { AreHeaders headers.new.entries }
     ensures held { held_of headers.new.entries ≡ with_members (held_of headers.old.entries) node (λ _. NL) }
     ensures queue { queue_of headers.new.entries ≡ with_waiters (queue_of headers.old.entries) node [] }
-    ensures taken { result ≡ Rattle.gl_table.specs.Headers.header_at headers.old.entries node }
+    ensures taken { result ≡ header_at headers.old.entries node }
 {
     headers.swap_remove(&node)
 }

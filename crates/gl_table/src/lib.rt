@@ -20,6 +20,7 @@ mod placing;
 mod releasing;
 mod rule;
 mod seat;
+mod seats;
 mod shedding;
 mod table;
 mod told;

@@ -24,7 +24,8 @@ use crate::effective::effective;
 use crate::headers::{Headers, drop_grant, drop_wait};
 use crate::list::LockList;
 use crate::notice::Told;
-use crate::seat::{Seat, set_status};
+use crate::seat::Seat;
+use crate::seats::Seats;
 use crate::txn::Status;
 use crate::waking::wake;
 use gl_graph::Graph;
@@ -39,7 +40,7 @@ use std::alloc::{AllocError, Global};
 pub(crate) struct Locks {
     pub(crate) alloc: Global,
     pub(crate) headers: Headers,
-    pub(crate) seats: Vec<Option<Seat>>,
+    pub(crate) seats: Seats,
     pub(crate) lists: Vec<LockList>,
 }
 
@@ -49,10 +50,9 @@ impl Locks {
         requires { most ≤ 128 }
         ensures { IfOk result (λ locks. AreNew locks most) }
     {
-        let mut seats = Vec::new(alloc);
+        let seats = Seats::new(alloc, most)?;
         let mut lists = Vec::new(alloc);
-        for slot in 0..most {
-            seats.push(None)?;
+        for _ in 0..most {
             lists.push(LockList::new(alloc))?;
         }
         Ok(Locks {
@@ -67,10 +67,7 @@ impl Locks {
     pub(crate) fn seat(&self, slot: u8) -> Option<Seat>
         ensures { txn_in (Some result) ≡ txns_of self.now.seats.items slot }
     {
-        match self.seats.get(slot as usize) {
-            Some(seat) => *seat,
-            None => None,
-        }
+        self.seats.get(slot)
     }
 
     /// The mode in which a slot holds a node, `NL` for none.
@@ -132,8 +129,16 @@ impl Locks {
     }
 
     /// Takes the grant of a slot from the header of a node, which then grants from its front. The
-    /// slot's own list is left as it is.
-    pub(crate) fn drop_and_wake(&mut self, graph: &Graph, slot: u8, node: NodeId, told: &mut Told)
+    /// slot's own list is left as it is. The list `granted` is filled anew; whoever drops several
+    /// grants has one for all.
+    pub(crate) fn drop_and_wake(
+        &mut self,
+        graph: &Graph,
+        slot: u8,
+        node: NodeId,
+        granted: &mut GrantList,
+        told: &mut Told,
+    )
         requires sound { AreSound self.old }
         requires orderly { IsOrderly (state_on (graph_of graph.now) self.old) }
         requires holds { holds (members (state_on (graph_of graph.now) self.old) node) slot ≡ true }
@@ -148,8 +153,7 @@ impl Locks {
         ensures tells { WakesTold (state_on (graph_of graph.now) self.old).txns node (front_at (with_grant (state_on (graph_of graph.now) self.old) slot node NL) node) told.old.items told.new.items }
     {
         graph.law();
-        let mut granted = GrantList::new();
-        drop_grant(&mut self.headers, slot, node, &mut granted);
+        drop_grant(&mut self.headers, slot, node, granted);
         self.wake_granted(graph, node, granted.as_slice(), told);
     }
 
@@ -179,15 +183,19 @@ impl Locks {
         let mut granted = GrantList::new();
         drop_wait(&mut self.headers, slot, node, &mut granted);
         self.wake_granted(graph, node, granted.as_slice(), told);
-        set_status(&mut self.seats, slot, status);
+        self.seats.set_status(slot, status);
     }
 
     /// Those whose waits on a node were granted hold it, are active, and are told.
+    #[inline]
     fn wake_granted(&mut self, graph: &Graph, node: NodeId, granted: &[(u8, Mode)], told: &mut Told)
         requires { CanWake self.old.seats.items self.old.lists.items told.old.items node (parents_of (graph_of graph.now) node) granted.now }
         ensures headers { self.new.headers.entries ≡ self.old.headers.entries }
         ensures wakes { Wakes self.old.seats.items self.old.lists.items told.old.items node (parents_of (graph_of graph.now) node) granted.now self.new.seats.items self.new.lists.items told.new.items }
     {
+        if granted.is_empty() {
+            return; // As mostly: the parents are looked up only where somebody is granted.
+        }
         wake(
             &mut self.seats,
             &mut self.lists,

@@ -29,7 +29,6 @@ use crate::list::LockList;
 use crate::locks::Locks;
 use crate::notice::{Notice, Told};
 use crate::rule::check_rule;
-use crate::seat::set_status;
 use crate::told::tell;
 use crate::txn::{Status, TxnId};
 use arrayvec::ArrayVec;
@@ -199,7 +198,7 @@ impl Locks {
         ensures tells { (u : ℕ) → notices_in told.new.items u ≡ (if u == slot then Some (record { slot = slot; age = age_in (txns_of self.old.seats.items slot) }, notice.Moved) else notices_in told.old.items u) }
     {
         dismiss(&mut self.headers, slot, node);
-        let age = set_status(&mut self.seats, slot, Status::Active);
+        let age = self.seats.set_status(slot, Status::Active);
         forget(&mut self.lists, slot, node);
         tell(told, TxnId { slot, age }, Notice::Moved);
     }

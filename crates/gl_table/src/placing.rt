@@ -24,7 +24,7 @@ use crate::list::LockList;
 use crate::locks::Locks;
 use crate::notice::{Notice, Told};
 use crate::releasing::strike;
-use crate::seat::{Seat, set_status};
+use crate::seats::Seats;
 use crate::told::tell;
 use crate::txn::{Status, TxnId};
 use gl_graph::Graph;
@@ -34,7 +34,7 @@ use gl_modes::{Mode, NodeId, Refusal};
 /// Those who wait for a node that goes wait no more: they are active, their lists have it no more,
 /// and they are told.
 fn free(
-    seats: &mut Vec<Option<Seat>>,
+    seats: &mut Seats,
     lists: &mut Vec<LockList>,
     told: &mut Told,
     node: NodeId,
@@ -45,7 +45,7 @@ fn free(
 {
     for waiter in waiters {
         let (slot, _) = *waiter;
-        let age = set_status(seats, slot, Status::Active);
+        let age = seats.set_status(slot, Status::Active);
         lists[slot as usize].leave(node);
         tell(told, TxnId { slot, age }, Notice::Gone);
     }

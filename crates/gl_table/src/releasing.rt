@@ -17,6 +17,7 @@ use crate::list::LockList;
 use crate::locks::Locks;
 use crate::notice::Told;
 use gl_graph::Graph;
+use gl_header::GrantList;
 use gl_modes::NodeId;
 
 /// Takes a node, of which no child is held, out of the list of a slot; each parent has one held
@@ -50,7 +51,7 @@ impl Locks {
         ensures tells { WakesTold (state_on (graph_of graph.now) self.old).txns node (front_at (with_grant (state_on (graph_of graph.now) self.old) slot node NL) node) told.old.items told.new.items }
     {
         graph.law();
-        self.drop_and_wake(graph, slot, node, told);
+        self.drop_and_wake(graph, slot, node, &mut GrantList::new(), told);
         strike(&mut self.lists, slot, node, graph.parents(node));
     }
 }

@@ -17,6 +17,7 @@ use crate::list::LockList;
 use crate::locks::Locks;
 use crate::notice::Told;
 use gl_graph::Graph;
+use gl_header::GrantList;
 use gl_modes::NodeId;
 
 impl Locks {
@@ -83,11 +84,12 @@ impl Locks {
         ensures own { notices_in told.new.items slot ≡ notices_in told.old.items slot }
     {
         graph.law();
+        let mut granted = GrantList::new();
         let mut at = list.len();
         while at > 0 {
             at -= 1;
             if let Some(child) = list.take_marked(graph, at) {
-                self.drop_and_wake(graph, slot, child, told);
+                self.drop_and_wake(graph, slot, child, &mut granted, told);
             }
         }
     }

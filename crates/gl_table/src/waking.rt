@@ -6,7 +6,7 @@ ghost use Rattle.gl_table.specs.Slots.{AreApart, CanHold, CanWake, Holds, Wakes}
 
 use crate::list::LockList;
 use crate::notice::{Notice, Told};
-use crate::seat::{Seat, set_status};
+use crate::seats::Seats;
 use crate::told::tell;
 use crate::txn::{Status, TxnId};
 use gl_modes::{Mode, NodeId};
@@ -34,7 +34,7 @@ pub(crate) fn hold(
 
 /// Those whose waits on a node were granted hold it, are active, and are told.
 pub(crate) fn wake(
-    seats: &mut Vec<Option<Seat>>,
+    seats: &mut Seats,
     lists: &mut Vec<LockList>,
     told: &mut Told,
     node: NodeId,
@@ -46,7 +46,7 @@ pub(crate) fn wake(
 {
     for waiter in granted {
         let (slot, mode) = *waiter;
-        let age = set_status(seats, slot, Status::Active);
+        let age = seats.set_status(slot, Status::Active);
         hold(lists, slot, node, mode, parents);
         tell(told, TxnId { slot, age }, Notice::Granted(node, mode));
     }

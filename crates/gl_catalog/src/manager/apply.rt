@@ -64,16 +64,18 @@ impl Manager {
                 bounds,
             } => node_answer(self.add_index(parents, file, bounds)),
             Command::Begin => begun_answer(self.begin()),
-            Command::Lock { txn, node, mode } => lock_answer(self.lock(txn, node, mode, told)),
+            Command::Lock { txn, node, mode } => lock_answer(self.lock_telling(
+                txn, node, mode, told,
+            )),
             Command::Try { txn, node, mode } => try_answer(self.try_lock(txn, node, mode)),
-            Command::Unlock { txn, node } => done_answer(self.unlock(txn, node, told)),
+            Command::Unlock { txn, node } => done_answer(self.unlock_telling(txn, node, told)),
             Command::Escalate { txn, node } => {
                 escalate_answer(self.escalate_telling(txn, node, told))
             }
-            Command::Cancel { txn } => done_answer(self.cancel(txn, told)),
-            Command::Commit { txn } => done_answer(self.commit(txn, told)),
-            Command::Abort { txn } => done_answer(self.abort(txn, told)),
-            Command::Settle { txn } => done_answer(self.settle(txn, told)),
+            Command::Cancel { txn } => done_answer(self.cancel_telling(txn, told)),
+            Command::Commit { txn } => done_answer(self.commit_telling(txn, told)),
+            Command::Abort { txn } => done_answer(self.abort_telling(txn, told)),
+            Command::Settle { txn } => done_answer(self.settle_telling(txn, told)),
             Command::Insert { txn, file, keys } => node_answer(self.insert(txn, file, keys)),
             Command::Delete { txn, rec } => done_answer(self.delete_telling(txn, rec, told)),
             Command::Rekey {

@@ -44,23 +44,20 @@ impl Manager {
         self.table.graph().kind(n).is_some()
     }
 
-    /// The mode in which a living transaction holds a living node.
+    /// The mode in which a living transaction holds a node.
     pub(super) fn mode(&self, t: TxnId, n: NodeId) -> Mode
         requires txn { lives (state_of self.now) t ≡ true }
-        requires node { is_live (state_of self.now).graph n ≡ true }
         ensures { result ≡ (state_of self.now).held t.slot n }
     {
-        match self.table.held(t, n) {
-            Ok(mode) => mode,
-            Err(_) => unreachable!(),
+        match self.table.mode(t, n) {
+            Some(mode) => mode,
+            None => unreachable!(),
         }
     }
 
-    /// Whether a living transaction holds a living node in IX or greater, as one who writes below it
-    /// must.
+    /// Whether a living transaction holds a node in IX or greater, as one who writes below it must.
     pub(super) fn check_writes(&self, t: TxnId, n: NodeId) -> Result<(), Refusal>
         requires txn { lives (state_of self.now) t ≡ true }
-        requires node { is_live (state_of self.now).graph n ≡ true }
         ensures { result ≡ verdict (first_not_ix ((state_of self.now).held t.slot) (n ∷ [])) }
     {
         if covers(self.mode(t, n), Mode::IX) {
@@ -68,5 +65,17 @@ impl Manager {
         } else {
             Err(Refusal::NeedParents { node: n })
         }
+    }
+
+    /// Whether a living transaction holds each of these in IX or greater; refused with the first that
+    /// it does not.
+    pub(super) fn check_writable(&self, t: TxnId, nodes: &[NodeId]) -> Result<(), Refusal>
+        requires txn { lives (state_of self.now) t ≡ true }
+        ensures { result ≡ verdict (first_not_ix ((state_of self.now).held t.slot) nodes.now) }
+    {
+        for node in nodes {
+            self.check_writes(t, *node)?;
+        }
+        Ok(())
     }
 }

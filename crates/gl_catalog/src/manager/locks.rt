@@ -25,7 +25,7 @@ impl Manager {
     }
 
     /// Asks for a mode on a node, and waits where it cannot be granted at once.
-    pub(super) fn lock(
+    pub(super) fn lock_telling(
         &mut self,
         t: TxnId,
         n: NodeId,
@@ -59,7 +59,12 @@ impl Manager {
     }
 
     /// Releases one node.
-    pub(super) fn unlock(&mut self, t: TxnId, n: NodeId, told: &mut Told) -> Result<(), Refusal>
+    pub(super) fn unlock_telling(
+        &mut self,
+        t: TxnId,
+        n: NodeId,
+        told: &mut Told,
+    ) -> Result<(), Refusal>
         requires empty { told.old.items ≡ [] }
         ensures step { CallSteps (state_of self.old) (command.Unlock t n) (doing told.new.items) result (state_of self.new) }
         ensures untold { OnErr result (told.new ≡ told.old) }
@@ -74,7 +79,7 @@ impl Manager {
     }
 
     /// Takes back the wait of a transaction.
-    pub(super) fn cancel(&mut self, t: TxnId, told: &mut Told) -> Result<(), Refusal>
+    pub(super) fn cancel_telling(&mut self, t: TxnId, told: &mut Told) -> Result<(), Refusal>
         requires empty { told.old.items ≡ [] }
         ensures step { CallSteps (state_of self.old) (command.Cancel t) (doing told.new.items) result (state_of self.new) }
         ensures untold { OnErr result (told.new ≡ told.old) }
@@ -89,7 +94,7 @@ impl Manager {
     }
 
     /// Ends a transaction and releases everything.
-    pub(super) fn commit(&mut self, t: TxnId, told: &mut Told) -> Result<(), Refusal>
+    pub(super) fn commit_telling(&mut self, t: TxnId, told: &mut Told) -> Result<(), Refusal>
         requires empty { told.old.items ≡ [] }
         ensures step { CallSteps (state_of self.old) (command.Commit t) (doing told.new.items) result (state_of self.new) }
         ensures untold { OnErr result (told.new ≡ told.old) }
@@ -104,7 +109,7 @@ impl Manager {
     }
 
     /// Ends a transaction whatever it is doing, and releases everything.
-    pub(super) fn abort(&mut self, t: TxnId, told: &mut Told) -> Result<(), Refusal>
+    pub(super) fn abort_telling(&mut self, t: TxnId, told: &mut Told) -> Result<(), Refusal>
         requires empty { told.old.items ≡ [] }
         ensures step { CallSteps (state_of self.old) (command.Abort t) (doing told.new.items) result (state_of self.new) }
         ensures untold { OnErr result (told.new ≡ told.old) }
@@ -119,7 +124,7 @@ impl Manager {
     }
 
     /// Condemns the youngest on a circle with the transaction until it is on none.
-    pub(super) fn settle(&mut self, t: TxnId, told: &mut Told) -> Result<(), Refusal>
+    pub(super) fn settle_telling(&mut self, t: TxnId, told: &mut Told) -> Result<(), Refusal>
         requires empty { told.old.items ≡ [] }
         ensures step { CallSteps (state_of self.old) (command.Settle t) (doing told.new.items) result (state_of self.new) }
         ensures untold { OnErr result (told.new ≡ told.old) }

@@ -1,12 +1,11 @@
 //! Nodes move.
 
 ghost use Rattle.std.specs.Prelude.{◌≡◌, ◌+◌, ◌∷◌, ◌&&◌, [], OnErr, OnOk, not, true};
-ghost use Rattle.std.specs.List.{list_all};
 ghost use Rattle.gl_graph.specs.Changes.{rekeyed_parents};
-ghost use Rattle.gl_graph.specs.Graph.{first_parent, is_live, shape_of};
+ghost use Rattle.gl_graph.specs.Graph.{first_parent, shape_of};
 ghost use Rattle.gl_graph.specs.Refusals.{bad_parents, first_refusal, verdict};
 ghost use Rattle.gl_graph.specs.Shapes.{is_index_of_shape, is_movable_shape, is_record_shape, least_parents};
-ghost use Rattle.gl_table.specs.Refusals.{first_not_ix, holds_x_on_all, need_exclusive, need_new_parents};
+ghost use Rattle.gl_table.specs.Refusals.{holds_x_on_all, need_exclusive, need_new_parents};
 ghost use Rattle.gl_table.specs.State.{lives};
 ghost use Rattle.gl_catalog.specs.declared.command.Command.TheVariants as command;
 ghost use Rattle.gl_catalog.specs.Manager.{state_of};
@@ -125,7 +124,6 @@ impl Manager {
             return Err(Refusal::BadParents);
         }
         let parents = self.parents_with(rec, index, key);
-        self.law();
         self.check_move(t, rec, true, parents.as_slice())
     }
 
@@ -201,8 +199,6 @@ impl Manager {
         parents: &[NodeId],
     ) -> Result<(), Refusal>
         requires txn { lives (state_of self.now) t ≡ true }
-        requires node { is_live (state_of self.now).graph n ≡ true }
-        requires parents { list_all (is_live (state_of self.now).graph) parents.now ≡ true }
         ensures { result ≡ verdict (first_refusal (need_exclusive (state_of self.now) t.slot n both_given parents.now ∷ need_new_parents (state_of self.now) t.slot n parents.now ∷ [])) }
     {
         if self.mode(t, n) == Mode::X {
@@ -216,22 +212,9 @@ impl Manager {
         }
     }
 
-    /// Whether each of these is held in IX or greater; refused with the first that is not.
-    fn check_writable(&self, t: TxnId, nodes: &[NodeId]) -> Result<(), Refusal>
-        requires txn { lives (state_of self.now) t ≡ true }
-        requires nodes { list_all (is_live (state_of self.now).graph) nodes.now ≡ true }
-        ensures { result ≡ verdict (first_not_ix ((state_of self.now).held t.slot) nodes.now) }
-    {
-        for node in nodes {
-            self.check_writes(t, *node)?;
-        }
-        Ok(())
-    }
-
     /// Whether each of these is held in X.
     fn holds_all_in_x(&self, t: TxnId, nodes: &[NodeId]) -> bool
         requires txn { lives (state_of self.now) t ≡ true }
-        requires nodes { list_all (is_live (state_of self.now).graph) nodes.now ≡ true }
         ensures { result ≡ holds_x_on_all (state_of self.now) t.slot nodes.now }
     {
         nodes.iter().all(|node| self.mode(t, *node) == Mode::X)

@@ -1,18 +1,17 @@
 //! Records come and go.
 
-ghost use Rattle.std.specs.Prelude.{◌≡◌, ◌+◌, ◌∷◌, [], OnErr, OnOk, length, true};
-ghost use Rattle.gl_graph.specs.Graph.{indexes_of, record_parents, shape_of};
+ghost use Rattle.std.specs.Prelude.{◌≡◌, ◌+◌, [], IfOk, OnErr, OnOk};
+ghost use Rattle.gl_graph.specs.Graph.{record_parents};
 ghost use Rattle.gl_graph.specs.Refusals.{first_refusal, verdict};
-ghost use Rattle.gl_graph.specs.Shapes.{is_file_shape};
-ghost use Rattle.gl_table.specs.Refusals.{first_not_ix};
-ghost use Rattle.gl_table.specs.State.{lives};
+ghost use Rattle.gl_table.specs.Answers.{RefusesOnly};
 ghost use Rattle.gl_catalog.specs.declared.command.Command.TheVariants as command;
 ghost use Rattle.gl_catalog.specs.Manager.{state_of};
 ghost use Rattle.gl_catalog.specs.Promises.{StepLeavesOthers};
 ghost use Rattle.gl_catalog.specs.Replies.{CallSteps, doing, done, made, said};
-ghost use Rattle.gl_catalog.specs.Tests.{insert_asks, refusal_of, worn};
+ghost use Rattle.gl_catalog.specs.Tests.{insert_tests, record_asks, refusal_of};
 
 use super::Manager;
+use arrayvec::ArrayVec;
 use gl_graph::Kind;
 use gl_modes::{Mode, NodeId, Refusal};
 use gl_table::{Told, TxnId};
@@ -33,8 +32,9 @@ impl Manager {
         ensures err { OnErr result (self.new ≡ self.old) }
     {
         self.law();
-        self.check_insert(t, file, keys)?;
-        let rec = self.table.place(t, file, keys)?;
+        self.check_count()?;
+        let parents = self.check_insert(t, file, keys)?;
+        let rec = self.table.place_under(t, file, keys, parents.as_slice())?;
         self.table.law();
         self.accepted += 1;
         Ok(rec)
@@ -77,11 +77,30 @@ impl Manager {
         Ok(())
     }
 
-    /// The tests of `insert` but for the room in the graph and in memory.
-    fn check_insert(&self, t: TxnId, file: NodeId, keys: &[u64]) -> Result<(), Refusal>
-        ensures { result ≡ verdict (first_refusal (worn (state_of self.now) ∷ insert_asks (state_of self.now) t file keys.now)) }
+    /// The tests of `insert` but for the count and memory. Where all are passed it answers the
+    /// record's parents.
+    fn check_insert(
+        &self,
+        t: TxnId,
+        file: NodeId,
+        keys: &[u64],
+    ) -> Result<ArrayVec<NodeId, 8>, Refusal>
+        ensures parents { IfOk result (λ parents. parents.items ≡ record_parents (state_of self.now).graph file keys.now) }
+        ensures refuses { RefusesOnly (first_refusal (insert_tests (state_of self.now) t file keys.now)) result }
     {
-        self.check_count()?;
+        self.check_record(t, file, keys)?;
+        let parents = self.table.graph().record_parents(file, keys);
+        self.check_writable(t, parents.as_slice())?;
+        if self.table.graph().is_full() {
+            return Err(Refusal::TooManyNodes);
+        }
+        Ok(parents)
+    }
+
+    /// Those tests of `insert` that go before those of the parents.
+    fn check_record(&self, t: TxnId, file: NodeId, keys: &[u64]) -> Result<(), Refusal>
+        ensures { result ≡ verdict (first_refusal (record_asks (state_of self.now) t file keys.now)) }
+    {
         if self.table.graph().worn() {
             return Err(Refusal::WornOut);
         }
@@ -91,25 +110,11 @@ impl Manager {
             Some(_) => return Err(Refusal::BadParents),
             None => return Err(Refusal::NoSuchNode),
         }
-        if keys.len() != self.table.graph().indexes(file).len() {
-            return Err(Refusal::BadKeys);
+        if keys.len() == self.table.graph().indexes(file).len() {
+            Ok(())
+        } else {
+            Err(Refusal::BadKeys)
         }
-        self.check_parents(t, file, keys)
-    }
-
-    /// Whether each parent of a new record would be held in IX or greater.
-    fn check_parents(&self, t: TxnId, file: NodeId, keys: &[u64]) -> Result<(), Refusal>
-        requires txn { lives (state_of self.now) t ≡ true }
-        requires file { is_file_shape (shape_of (state_of self.now).graph file) ≡ true }
-        requires keys { length keys.now ≡ length (indexes_of (state_of self.now).graph file) }
-        ensures { result ≡ verdict (first_not_ix ((state_of self.now).held t.slot) (record_parents (state_of self.now).graph file keys.now)) }
-    {
-        self.check_writes(t, file)?;
-        let graph = self.table.graph();
-        for (index, key) in graph.indexes(file).iter().zip(keys) {
-            self.check_writes(t, graph.interval_of(*index, *key))?;
-        }
-        Ok(())
     }
 
     /// The tests of `delete`.

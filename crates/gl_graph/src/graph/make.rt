@@ -1,6 +1,6 @@
 //! New nodes.
 
-ghost use Rattle.std.specs.Prelude.{◌≡◌, ◌+◌, ◌<◌, ◌^◌, ℕ, true, length, IfOk, OnErr, IfErr};
+ghost use Rattle.std.specs.Prelude.{◌≡◌, ◌+◌, ◌<◌, ◌^◌, ℕ, None, true, length, IfOk, OnErr, IfErr};
 ghost use Rattle.gl_modes.specs.declared.refusal.Refusal.{Refusal};
 ghost use Rattle.gl_graph.specs.Shapes.{File, Inner, Rec, is_file_shape};
 ghost use Rattle.gl_graph.specs.Graph.{IsFreeKey, indexes_of, record_parents, shape_of};
@@ -13,6 +13,7 @@ ghost use Rattle.gl_graph.specs.Seen.{shape_in_body, IsPlainBody};
 use super::Graph;
 use crate::node::{Body, Node};
 use crate::store::{insert_intervals, write_indexes, write_intervals, write_records};
+use arrayvec::ArrayVec;
 use gl_modes::{NodeId, Refusal};
 use smallvec::SmallVec;
 use std::alloc::{AllocError, Global};
@@ -147,7 +148,25 @@ impl Graph {
         ensures err { OnErr result (self.new ≡ self.old) }
     {
         self.check_record(file, keys)?;
-        let Ok(parents) = self.record_parents(file, keys) else {
+        let parents = self.record_parents(file, keys);
+        self.add_record_under(file, keys, parents.as_slice())
+    }
+
+    /// As `add_record`, where nothing stands against the record but memory, and its parents are
+    /// known. The only refusal is `NoMemory`.
+    pub fn add_record_under(
+        &mut self,
+        file: NodeId,
+        keys: &[u64],
+        parents: &[NodeId],
+    ) -> Result<NodeId, Refusal>
+        requires free { record_refusal (graph_of self.old) file keys.now ≡ None }
+        requires parents { parents.now ≡ record_parents (graph_of self.old) file keys.now }
+        ensures made { IfOk result (λ n. IsBorn (graph_of self.old) (graph_of self.new) n (Rec keys.now) (record_parents (graph_of self.old) file keys.now)) }
+        ensures memory { IfErr result (λ r. r ≡ Refusal.NoMemory) }
+        ensures err { OnErr result (self.new ≡ self.old) }
+    {
+        let Ok(parents) = SmallVec::from_slice(self.alloc, parents) else {
             return Err(Refusal::NoMemory);
         };
         let Ok(keys) = SmallVec::from_slice(self.alloc, keys) else {
@@ -168,17 +187,20 @@ impl Graph {
         Ok(NodeId { key, birth })
     }
 
-    /// The parents of a record of this file with these keys.
-    fn record_parents(&self, file: NodeId, keys: &[u64]) -> Result<SmallVec<NodeId, 2>, AllocError>
+    /// The parents of a record of this file with these keys: the file and then, for each index, the
+    /// interval that holds the key. It takes no memory.
+    pub fn record_parents(&self, file: NodeId, keys: &[u64]) -> ArrayVec<NodeId, 8>
         requires file { is_file_shape (shape_of (graph_of self.now) file) ≡ true }
         requires keys { length keys.now ≡ length (indexes_of (graph_of self.now) file) }
-        ensures ok { IfOk result (λ parents. parents.items ≡ record_parents (graph_of self.now) file keys.now) }
+        ensures { result.items ≡ record_parents (graph_of self.now) file keys.now }
     {
-        let mut parents = SmallVec::from_slice(self.alloc, &[file])?;
+        self.law();
+        let mut parents = ArrayVec::new();
+        parents.push(file);
         for (place, index) in self.indexes(file).iter().enumerate() {
-            parents.push(self.interval_of(*index, keys[place]))?;
+            parents.push(self.interval_of(*index, keys[place]));
         }
-        Ok(parents)
+        parents
     }
 
     /// Stores a node with the next birth.

@@ -7,7 +7,7 @@ ghost use Rattle.gl_table.specs.Refusals.{begin_tests};
 ghost use Rattle.gl_table.specs.Table.{state_of};
 
 use super::Table;
-use crate::seat::{Seat, first_free};
+use crate::seat::Seat;
 use crate::txn::{Status, TxnId};
 use gl_modes::Refusal;
 
@@ -26,17 +26,18 @@ impl Table {
         if self.begins == u64::MAX {
             return Err(Refusal::WornOut);
         }
-        let Some(slot) = first_free(self.locks.seats.as_slice()) else {
+        let Some(slot) = self.locks.seats.first_free() else {
             return Err(Refusal::TooManyTxns);
         };
         self.begins += 1;
-        self.locks.seats[slot] = Some(Seat {
-            age: self.begins,
-            status: Status::Active,
-        });
-        Ok(TxnId {
-            slot: slot as u8,
-            age: self.begins,
-        })
+        let age = self.begins;
+        self.locks.seats.take(
+            slot,
+            Seat {
+                age,
+                status: Status::Active,
+            },
+        );
+        Ok(TxnId { slot, age })
     }
 }

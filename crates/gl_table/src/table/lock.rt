@@ -4,10 +4,10 @@ ghost use Rattle.std.specs.Prelude.{◌≡◌, ◌&&◌, ◌||◌, [], IfErr, If
 ghost use Rattle.gl_modes.specs.declared.mode.Mode.TheVariants.{NL, S, X};
 ghost use Rattle.gl_modes.specs.Modes.{same_mode};
 ghost use Rattle.gl_graph.specs.Graph.{shape_of};
-ghost use Rattle.gl_graph.specs.Refusals.{Refuses, first_refusal, verdict};
+ghost use Rattle.gl_graph.specs.Refusals.{Refuses, first_refusal};
 ghost use Rattle.gl_graph.specs.Shapes.{is_record_shape};
 ghost use Rattle.gl_header.specs.Header.{holds};
-ghost use Rattle.gl_table.specs.Answers.{locked_as};
+ghost use Rattle.gl_table.specs.Answers.{answered, locked_as};
 ghost use Rattle.gl_table.specs.Calls.{Locks, enters_at, granted, wanted};
 ghost use Rattle.gl_table.specs.Refusals.{lock_tests, try_tests};
 ghost use Rattle.gl_table.specs.State.{members, status_of};
@@ -21,7 +21,7 @@ use crate::outcome::Locked;
 use crate::txn::TxnId;
 use gl_graph::Kind;
 use gl_header::Asked;
-use gl_modes::{Mode, NodeId, Refusal};
+use gl_modes::{Mode, NodeId, Refusal, sup};
 
 impl Table {
     /// Asks for a mode on a node, and waits where it cannot be granted at once. What is granted is
@@ -64,8 +64,8 @@ impl Table {
             → holds (members (state_of self.old) n) t.slot ≡ true → IsOk result }
         ensures err { OnErr result (self.new ≡ self.old) }
     {
-        self.check_lock(t, n, mode)?;
-        match self.locks.ask(&self.graph, t.slot, n, mode)? {
+        let held = self.check_lock(t, n, mode)?;
+        match self.locks.ask(&self.graph, t.slot, n, mode, held)? {
             Asked::Granted(granted) => Ok(Locked::Granted(granted)),
             Asked::Waiting => {
                 self.locks
@@ -88,23 +88,26 @@ impl Table {
         ensures held { first_refusal (try_tests (state_of self.old) t n mode) ≡ None → holds (members (state_of self.old) n) t.slot ≡ true → IsOk result }
         ensures err { OnErr result (self.new ≡ self.old) }
     {
-        self.check_lock(t, n, mode)?;
+        let held = self.check_lock(t, n, mode)?;
         if !would_grant(&self.locks.headers, t.slot, n, mode) {
             return Err(Refusal::WouldBlock);
         }
-        self.locks.grant(&self.graph, t.slot, n, mode)
+        self.locks.grant(&self.graph, t.slot, n, mode, held)
     }
 
-    /// The tests of an ask, whether it waits or not.
-    fn check_lock(&self, t: TxnId, n: NodeId, mode: Mode) -> Result<(), Refusal>
-        ensures { result ≡ verdict (first_refusal (lock_tests (state_of self.now) t n mode)) }
+    /// The tests of an ask, whether it waits or not. Answers the mode in which the node is held.
+    fn check_lock(&self, t: TxnId, n: NodeId, mode: Mode) -> Result<Mode, Refusal>
+        ensures { result ≡ answered (first_refusal (lock_tests (state_of self.now) t n mode)) ((state_of self.now).held t.slot n) }
     {
         self.check_active(t)?;
         self.check_node(n)?;
         if self.is_bad_mode(n, mode) {
             return Err(Refusal::BadMode);
         }
-        self.locks.check_rule(&self.graph, t.slot, n, mode)
+        let held = self.locks.mode(t.slot, n);
+        self.locks
+            .check_rule(&self.graph, t.slot, n, sup(held, mode))?;
+        Ok(held)
     }
 
     /// Whether the mode is none, or one that a record does not take.

@@ -1,11 +1,12 @@
 //! Records come and go.
 
-ghost use Rattle.std.specs.Prelude.{◌≡◌, ◌∷◌, [], IfOk, None, OnErr, Some, length, true};
+ghost use Rattle.std.specs.Prelude.{◌≡◌, ◌∷◌, [], IfErr, IfOk, None, OnErr, Some, length, true};
 ghost use Rattle.gl_modes.specs.declared.mode.Mode.TheVariants.{X};
+ghost use Rattle.gl_modes.specs.declared.refusal.Refusal.{Refusal as ARefusal};
 ghost use Rattle.gl_modes.specs.Modes.{same_mode};
 ghost use Rattle.gl_graph.specs.Changes.{IsBorn};
 ghost use Rattle.gl_graph.specs.Graph.{indexes_of, record_parents, shape_of};
-ghost use Rattle.gl_graph.specs.Refusals.{Refuses, first_refusal, too_many_nodes, worn_births};
+ghost use Rattle.gl_graph.specs.Refusals.{Refuses, first_refusal, record_refusal, too_many_nodes, worn_births};
 ghost use Rattle.gl_graph.specs.Shapes.{Rec, is_file_shape, is_record_shape};
 ghost use Rattle.gl_table.specs.Calls.{deleted};
 ghost use Rattle.gl_table.specs.Refusals.{first_not_ix};
@@ -43,8 +44,31 @@ impl Table {
         if self.graph.is_full() {
             return Err(Refusal::TooManyNodes);
         }
+        let parents = self.graph.record_parents(file, keys);
+        self.place_under(t, file, keys, parents.as_slice())
+    }
+
+    /// As `place`, where nothing stands against the record but memory, and its parents are known. The
+    /// only refusal is `NoMemory`.
+    pub fn place_under(
+        &mut self,
+        t: TxnId,
+        file: NodeId,
+        keys: &[u64],
+        parents: &[NodeId],
+    ) -> Result<NodeId, Refusal>
+        requires txn { lives (state_of self.old) t ≡ true }
+        requires active { status_of (state_of self.old) t.slot ≡ Some Active }
+        requires free { record_refusal (state_of self.old).graph file keys.now ≡ None }
+        requires parents { parents.now ≡ record_parents (state_of self.old).graph file keys.now }
+        requires writable { first_not_ix ((state_of self.old).held t.slot) parents.now ≡ None }
+        ensures made { IfOk result (λ n. IsBorn (state_of self.old).graph (state_of self.new).graph n (Rec keys.now) (record_parents (state_of self.old).graph file keys.now)) }
+        ensures state { IfOk result (λ n. state_of self.new ≡ with_grant (with_graph (state_of self.old) (state_of self.new).graph) t.slot n X) }
+        ensures memory { IfErr result (λ r. r ≡ ARefusal.NoMemory) }
+        ensures err { OnErr result (self.new ≡ self.old) }
+    {
         let header = self.locks.prepare(t.slot)?;
-        let rec = self.graph.add_record(file, keys)?;
+        let rec = self.graph.add_record_under(file, keys, parents)?;
         self.locks.place(&self.graph, t.slot, rec, header);
         Ok(rec)
     }

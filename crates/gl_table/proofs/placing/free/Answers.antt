@@ -29,7 +29,7 @@ tell-requires-clause-absent c =
 pub loop-waiter-preserved : goal.loop-waiter-preserved
 loop-waiter-preserved c =
     freed_more c.args.seats.now.items c.args.lists.now.items c.args.told.now.items c.args.node c.args.waiters.now c.requires c.loop-waiter.waiter-index (0, NL) c.loop-waiter-test.true
-    c.loop-waiter.seats.items c.loop-waiter.lists.items c.loop-waiter.told.items c.loop-waiter.invariant c.set_status-age.new.seats.items _ c.tell.new.told.items c.set_status-age.result
+    c.loop-waiter.seats.items c.loop-waiter.lists.items c.loop-waiter.told.items c.loop-waiter.invariant c.set_status-age.new.self.items _ c.tell.new.told.items c.set_status-age.result
     c.set_status-age.ensures.age c.set_status-age.ensures.len c.set_status-age.ensures.txns
     (struck-written c.loop-waiter.lists.items _ c.index_mut.result.now c.leave.new.self c.args.node []
     (slot_listed c.args.seats.now.items c.args.lists.now.items c.args.told.now.items c.args.node c.args.waiters.now c.requires c.loop-waiter.waiter-index (0, NL) c.loop-waiter-test.true

@@ -23,5 +23,5 @@ tell-requires-clause-absent c =
 pub loop-waiter-preserved : goal.loop-waiter-preserved
 loop-waiter-preserved c =
     woken_more c.args.seats.now.items c.args.lists.now.items c.args.told.now.items c.args.node c.args.parents.now c.args.granted.now c.requires c.loop-waiter.waiter-index (0, NL) c.loop-waiter-test.true
-    c.loop-waiter.seats.items c.loop-waiter.lists.items c.loop-waiter.told.items c.loop-waiter.invariant c.set_status-age.new.seats.items c.hold.new.lists.items c.tell.new.told.items c.set_status-age.result
+    c.loop-waiter.seats.items c.loop-waiter.lists.items c.loop-waiter.told.items c.loop-waiter.invariant c.set_status-age.new.self.items c.hold.new.lists.items c.tell.new.told.items c.set_status-age.result
     c.set_status-age.ensures.age c.set_status-age.ensures.len c.set_status-age.ensures.txns c.hold.ensures c.tell.ensures.by_slot c.tell.ensures.notices

@@ -32,10 +32,10 @@ pub returns-in-Begin-clause-same : goal.returns-in-Begin-clause-same
 returns-in-Begin-clause-same c = uncounted c.args.self.now c.begin.new.self c.begin.result c.begin.ensures.err c.begin.ensures.counted
 
 pub returns-in-Lock-clause-step : goal.returns-in-Lock-clause-step
-returns-in-Lock-clause-step c = fills answer_of_lock (state_of c.args.self.now) (state_of c.lock.new.self) _ c.args.command c.lock.result c.lock_answer.result c.lock.new.told c.args.told.now c.lock.ensures.step c.lock_answer.ensures c.lock.ensures.untold c.requires.empty c.in-Lock.is
+returns-in-Lock-clause-step c = fills answer_of_lock (state_of c.args.self.now) (state_of c.lock_telling.new.self) _ c.args.command c.lock_telling.result c.lock_answer.result c.lock_telling.new.told c.args.told.now c.lock_telling.ensures.step c.lock_answer.ensures c.lock_telling.ensures.untold c.requires.empty c.in-Lock.is
 
 pub returns-in-Lock-clause-same : goal.returns-in-Lock-clause-same
-returns-in-Lock-clause-same c = uncounted c.args.self.now c.lock.new.self c.lock.result c.lock.ensures.err c.lock.ensures.counted
+returns-in-Lock-clause-same c = uncounted c.args.self.now c.lock_telling.new.self c.lock_telling.result c.lock_telling.ensures.err c.lock_telling.ensures.counted
 
 pub returns-in-Try-clause-step : goal.returns-in-Try-clause-step
 returns-in-Try-clause-step c = quiet answer.Granted (state_of c.args.self.now) (state_of c.try_lock.new.self) _ c.args.command c.try_lock.result c.try_answer.result c.args.told.now c.try_lock.ensures.step c.try_answer.ensures c.requires.empty c.in-Try.is
@@ -44,10 +44,10 @@ pub returns-in-Try-clause-same : goal.returns-in-Try-clause-same
 returns-in-Try-clause-same c = uncounted c.args.self.now c.try_lock.new.self c.try_lock.result c.try_lock.ensures.err c.try_lock.ensures.counted
 
 pub returns-in-Unlock-clause-step : goal.returns-in-Unlock-clause-step
-returns-in-Unlock-clause-step c = fills (λ u. answer.Done) (state_of c.args.self.now) (state_of c.unlock.new.self) _ c.args.command c.unlock.result c.done_answer.result c.unlock.new.told c.args.told.now c.unlock.ensures.step c.done_answer.ensures c.unlock.ensures.untold c.requires.empty c.in-Unlock.is
+returns-in-Unlock-clause-step c = fills (λ u. answer.Done) (state_of c.args.self.now) (state_of c.unlock_telling.new.self) _ c.args.command c.unlock_telling.result c.done_answer.result c.unlock_telling.new.told c.args.told.now c.unlock_telling.ensures.step c.done_answer.ensures c.unlock_telling.ensures.untold c.requires.empty c.in-Unlock.is
 
 pub returns-in-Unlock-clause-same : goal.returns-in-Unlock-clause-same
-returns-in-Unlock-clause-same c = uncounted c.args.self.now c.unlock.new.self c.unlock.result c.unlock.ensures.err c.unlock.ensures.counted
+returns-in-Unlock-clause-same c = uncounted c.args.self.now c.unlock_telling.new.self c.unlock_telling.result c.unlock_telling.ensures.err c.unlock_telling.ensures.counted
 
 pub returns-in-Escalate-clause-step : goal.returns-in-Escalate-clause-step
 returns-in-Escalate-clause-step c = fills answer.Escalated (state_of c.args.self.now) (state_of c.escalate_telling.new.self) _ c.args.command c.escalate_telling.result c.escalate_answer.result c.escalate_telling.new.told c.args.told.now c.escalate_telling.ensures.step c.escalate_answer.ensures c.escalate_telling.ensures.untold c.requires.empty c.in-Escalate.is
@@ -56,28 +56,28 @@ pub returns-in-Escalate-clause-same : goal.returns-in-Escalate-clause-same
 returns-in-Escalate-clause-same c = uncounted c.args.self.now c.escalate_telling.new.self c.escalate_telling.result c.escalate_telling.ensures.err c.escalate_telling.ensures.counted
 
 pub returns-in-Cancel-clause-step : goal.returns-in-Cancel-clause-step
-returns-in-Cancel-clause-step c = fills (λ u. answer.Done) (state_of c.args.self.now) (state_of c.cancel.new.self) _ c.args.command c.cancel.result c.done_answer-in-Cancel.result c.cancel.new.told c.args.told.now c.cancel.ensures.step c.done_answer-in-Cancel.ensures c.cancel.ensures.untold c.requires.empty c.in-Cancel.is
+returns-in-Cancel-clause-step c = fills (λ u. answer.Done) (state_of c.args.self.now) (state_of c.cancel_telling.new.self) _ c.args.command c.cancel_telling.result c.done_answer-in-Cancel.result c.cancel_telling.new.told c.args.told.now c.cancel_telling.ensures.step c.done_answer-in-Cancel.ensures c.cancel_telling.ensures.untold c.requires.empty c.in-Cancel.is
 
 pub returns-in-Cancel-clause-same : goal.returns-in-Cancel-clause-same
-returns-in-Cancel-clause-same c = uncounted c.args.self.now c.cancel.new.self c.cancel.result c.cancel.ensures.err c.cancel.ensures.counted
+returns-in-Cancel-clause-same c = uncounted c.args.self.now c.cancel_telling.new.self c.cancel_telling.result c.cancel_telling.ensures.err c.cancel_telling.ensures.counted
 
 pub returns-in-Commit-clause-step : goal.returns-in-Commit-clause-step
-returns-in-Commit-clause-step c = fills (λ u. answer.Done) (state_of c.args.self.now) (state_of c.commit.new.self) _ c.args.command c.commit.result c.done_answer-in-Commit.result c.commit.new.told c.args.told.now c.commit.ensures.step c.done_answer-in-Commit.ensures c.commit.ensures.untold c.requires.empty c.in-Commit.is
+returns-in-Commit-clause-step c = fills (λ u. answer.Done) (state_of c.args.self.now) (state_of c.commit_telling.new.self) _ c.args.command c.commit_telling.result c.done_answer-in-Commit.result c.commit_telling.new.told c.args.told.now c.commit_telling.ensures.step c.done_answer-in-Commit.ensures c.commit_telling.ensures.untold c.requires.empty c.in-Commit.is
 
 pub returns-in-Commit-clause-same : goal.returns-in-Commit-clause-same
-returns-in-Commit-clause-same c = uncounted c.args.self.now c.commit.new.self c.commit.result c.commit.ensures.err c.commit.ensures.counted
+returns-in-Commit-clause-same c = uncounted c.args.self.now c.commit_telling.new.self c.commit_telling.result c.commit_telling.ensures.err c.commit_telling.ensures.counted
 
 pub returns-in-Abort-clause-step : goal.returns-in-Abort-clause-step
-returns-in-Abort-clause-step c = fills (λ u. answer.Done) (state_of c.args.self.now) (state_of c.abort.new.self) _ c.args.command c.abort.result c.done_answer-in-Abort.result c.abort.new.told c.args.told.now c.abort.ensures.step c.done_answer-in-Abort.ensures c.abort.ensures.untold c.requires.empty c.in-Abort.is
+returns-in-Abort-clause-step c = fills (λ u. answer.Done) (state_of c.args.self.now) (state_of c.abort_telling.new.self) _ c.args.command c.abort_telling.result c.done_answer-in-Abort.result c.abort_telling.new.told c.args.told.now c.abort_telling.ensures.step c.done_answer-in-Abort.ensures c.abort_telling.ensures.untold c.requires.empty c.in-Abort.is
 
 pub returns-in-Abort-clause-same : goal.returns-in-Abort-clause-same
-returns-in-Abort-clause-same c = uncounted c.args.self.now c.abort.new.self c.abort.result c.abort.ensures.err c.abort.ensures.counted
+returns-in-Abort-clause-same c = uncounted c.args.self.now c.abort_telling.new.self c.abort_telling.result c.abort_telling.ensures.err c.abort_telling.ensures.counted
 
 pub returns-in-Settle-clause-step : goal.returns-in-Settle-clause-step
-returns-in-Settle-clause-step c = fills (λ u. answer.Done) (state_of c.args.self.now) (state_of c.settle.new.self) _ c.args.command c.settle.result c.done_answer-in-Settle.result c.settle.new.told c.args.told.now c.settle.ensures.step c.done_answer-in-Settle.ensures c.settle.ensures.untold c.requires.empty c.in-Settle.is
+returns-in-Settle-clause-step c = fills (λ u. answer.Done) (state_of c.args.self.now) (state_of c.settle_telling.new.self) _ c.args.command c.settle_telling.result c.done_answer-in-Settle.result c.settle_telling.new.told c.args.told.now c.settle_telling.ensures.step c.done_answer-in-Settle.ensures c.settle_telling.ensures.untold c.requires.empty c.in-Settle.is
 
 pub returns-in-Settle-clause-same : goal.returns-in-Settle-clause-same
-returns-in-Settle-clause-same c = uncounted c.args.self.now c.settle.new.self c.settle.result c.settle.ensures.err c.settle.ensures.counted
+returns-in-Settle-clause-same c = uncounted c.args.self.now c.settle_telling.new.self c.settle_telling.result c.settle_telling.ensures.err c.settle_telling.ensures.counted
 
 pub returns-in-Insert-clause-step : goal.returns-in-Insert-clause-step
 returns-in-Insert-clause-step c = quiet answer.Node (state_of c.args.self.now) (state_of c.insert.new.self) _ c.args.command c.insert.result c.node_answer-in-Insert.result c.args.told.now c.insert.ensures.step c.node_answer-in-Insert.ensures c.requires.empty c.in-Insert.is

@@ -1,14 +1,10 @@
-use Rattle.std.proofs.Common.{Err, sym, ap, ◌∙◌}
-use Rattle.std.proofs.lemmas.Result.{err_from_is_err_and}
-use Rattle.gl_graph.specs.Refusals.{births_worn}
-use Rattle.gl_graph.specs.View.{View, graph_of}
-use Rattle.gl_catalog.specs.Manager.{ManagerView, state_of}
-use Rattle.gl_catalog.proofs.Insertions.{inactive_refused}
+use Rattle.std.proofs.Common.{Option, subst, sym, rules}
+use Rattle.gl_modes.specs.declared.refusal.Refusal.{Refusal}
+use Rattle.gl_table.specs.Answers.{RefusesOnly}
+use Rattle.gl_catalog.specs.Manager.{state_of}
+use Rattle.gl_catalog.proofs.Insertions.{record_refused}
 use Rattle.gl_catalog.proofs.manager.Manager.check_insert.Goals as goal
 
-pub returns-in_err-check_active : goal.returns-in_err-check_active
-returns-in_err-check_active c =
-    let exit = err_from_is_err_and c.from_residual-in_err-check_active.result c.from_residual-in_err-check_active.ensures.1 in
-    let graph = c.graph.ensures ∙ ap (λ (v : ManagerView). v.table.graph) c.self.view_is in
-    let births = ap (λ (v : View). births_worn (graph_of v)) (sym graph) ∙ sym c.worn.ensures ∙ c.if-worn.false in
-    exit.1 ∙ ap Err exit.2 ∙ inactive_refused (state_of c.args.self.now) c.args.t c.args.file c.args.keys _ c.in_ok-check_count.ensures births _ c.in_err-check_active.ensures
+pub returns-in_err-check_record-clause-refuses : goal.returns-in_err-check_record-clause-refuses
+returns-in_err-check_record-clause-refuses c =
+    subst (λ (o : Option Refusal). RefusesOnly o c.from_residual.result) (sym (record_refused (state_of c.args.self.now) c.args.t c.args.file c.args.keys.now c.in_err-check_record.field-0.0 c.in_err-check_record.ensures)) (search rules)

@@ -1,25 +1,15 @@
 use Rattle.std.specs.Prelude.{◌∷◌, [], List, Option, Some, true, if◌then◌else◌}
-use Rattle.std.specs.List.{list_all}
 use Rattle.std.proofs.Common.{ap, ◌∙◌, sym}
 use Rattle.gl_modes.specs.declared.node.NodeId.{NodeId}
 use Rattle.gl_modes.specs.declared.refusal.Refusal.{Refusal}
 use Rattle.gl_modes.specs.declared.refusal.Refusal.TheVariants as no
 use Rattle.gl_graph.specs.Changes.{rekeyed_parents}
-use Rattle.gl_graph.specs.Graph.{Graph, is_live}
 use Rattle.gl_graph.specs.Refusals.{first_refusal, verdict}
-use Rattle.gl_graph.proofs.Look.{and_both}
 use Rattle.gl_table.specs.Refusals.{need_exclusive, need_new_parents}
 use Rattle.gl_table.specs.State.{State}
 use Rattle.gl_catalog.specs.Manager.{state_of}
 use Rattle.gl_catalog.proofs.MoveChecks.{rekey_kinds}
-use Rattle.gl_catalog.proofs.Rekeyings.{rekeyed_live}
 use Rattle.gl_catalog.proofs.manager.Manager.check_rekey.Goals as goal
-
-pub check_move-requires-clause-parents : goal.check_move-requires-clause-parents
-check_move-requires-clause-parents c =
-    let graph : Graph = (state_of c.args.self.now).graph in
-    let rec = (and_both _ _ (sym c.is_keyed_by.ensures ∙ c.if-not-is_keyed_by.false)).0 in
-    ap (list_all (is_live graph)) (c.as_slice.ensures.value ∙ c.parents_with-parents.ensures) ∙ rekeyed_live graph c.law.ensures.lawful.graph c.args.rec rec c.args.index c.args.key
 
 pub returns : goal.returns
 returns c =

@@ -41,9 +41,6 @@ kinds_left c lies is =
 pub returns-then-not-can_lie_under : goal.returns-then-not-can_lie_under
 returns-then-not-can_lie_under c = ap verdict (sym (kinds_left (goal.at.returns-then-not-can_lie_under c).After-can_lie_under false c.if-not-can_lie_under.true))
 
-pub check_move-requires-clause-parents : goal.check_move-requires-clause-parents
-check_move-requires-clause-parents c = all_live (goal.at.check_move-requires-clause-parents c).After-can_lie_under
-
 -- that is what was asked
 given : (c : After-check_move) → c.if-not-is_empty.both_given ≡ are_given (goal.at.returns c).After-can_lie_under
 given c =

@@ -8,8 +8,17 @@ use Rattle.gl_graph.proofs.RecordParents.{listed_index, index_of_index}
 use Rattle.gl_graph.proofs.graph.Graph.record_parents.Goals as goal
 
 pub loop-place-init : goal.loop-place-init
-loop-place-init c =
-    ap₂ (λ ps is. ps ++ intervals_of (graph_of c.args.self.now) is c.args.keys.now) c.in_ok-parents.ensures.ok c.indexes-index-items.ensures
+loop-place-init c = record {
+  so_far = ap₂ (λ ps is. ps ++ intervals_of (graph_of c.args.self.now) is c.args.keys.now) (c.push.ensures.items ∙ ap (λ ps. ps ++ c.args.file ∷ []) c.new-parents.ensures) c.indexes-index-items.ensures;
+  many = ap length (c.push.ensures.items ∙ ap (λ ps. ps ++ c.args.file ∷ []) c.new-parents.ensures);
+}
+
+pub push-requires-in-loop-place : goal.push-requires-in-loop-place
+push-requires-in-loop-place c =
+    let low : c.loop-place.place < length c.indexes-index-items.result.now = c.loop-place-test.true in
+    let many = ap length c.indexes-index-items.ensures in
+    let seven = c.law.ensures.lawful.seven_indexes c.args.file in
+    omega arith
 
 pub interval_of-requires : goal.interval_of-requires
 interval_of-requires c =
@@ -30,11 +39,15 @@ loop-place-preserved c =
     let low : c.loop-place.place < length c.indexes-index-items.result.now = c.loop-place-test.true in
     let many = ap length c.indexes-index-items.ensures in
     let each = c.requires.keys in
-    ap (λ ps. ps ++ intervals_of (graph_of c.args.self.now) (drop (c.loop-place.place + 1) c.indexes-index-items.result.now) (drop (c.loop-place.place + 1) c.args.keys.now))
-    (c.in_ok-push.ensures.ok ∙ ap (λ n. c.loop-place.parents.items ++ n ∷ []) c.interval_of.ensures)
-    ∙ step (graph_of c.args.self.now) c.loop-place.parents.items c.indexes-index-items.result.now c.args.keys.now c.loop-place.place _ low (omega arith) c.loop-place.invariant
+    record {
+      so_far =
+          ap (λ ps. ps ++ intervals_of (graph_of c.args.self.now) (drop (c.loop-place.place + 1) c.indexes-index-items.result.now) (drop (c.loop-place.place + 1) c.args.keys.now))
+          (c.push-in-loop-place.ensures.items ∙ ap (λ n. c.loop-place.parents.items ++ n ∷ []) c.interval_of.ensures)
+          ∙ step (graph_of c.args.self.now) c.loop-place.parents.items c.indexes-index-items.result.now c.args.keys.now c.loop-place.place _ low (omega arith) c.loop-place.invariant.so_far;
+      many = omega arith;
+    }
 
 pub returns : goal.returns
 returns c =
     let none : drop c.loop-place.place c.indexes-index-items.result.now ≡ [] = drop_all c.loop-place.place c.indexes-index-items.result.now (omega arith) in
-    record { ok = sym (append-nil c.loop-place.parents.items) ∙ sym (ap (λ is. c.loop-place.parents.items ++ intervals_of (graph_of c.args.self.now) is (drop c.loop-place.place c.args.keys.now)) none) ∙ c.loop-place.invariant }
+    sym (append-nil c.loop-place.parents.items) ∙ sym (ap (λ is. c.loop-place.parents.items ++ intervals_of (graph_of c.args.self.now) is (drop c.loop-place.place c.args.keys.now)) none) ∙ c.loop-place.invariant.so_far

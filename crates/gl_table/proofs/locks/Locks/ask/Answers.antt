@@ -1,7 +1,7 @@
-use Rattle.std.specs.Prelude.{◌≡◌, ◌+◌, ◌≤◌, ◌<◌, ◌^◌, ℕ, true, false, ◌&&◌, if◌then◌else◌}
+use Rattle.std.specs.Prelude.{◌≡◌, ◌+◌, ◌≤◌, ◌<◌, ◌^◌, ℕ, true, false, not, ◌&&◌, if◌then◌else◌}
 use Rattle.std.specs.List.{count_by}
 use Rattle.std.specs.Vec.{with_item}
-use Rattle.std.proofs.Common.{refl, sym, ap, ap₂, ◌∙◌, subst, arith}
+use Rattle.std.proofs.Common.{refl, rules, sym, ap, ap₂, ◌∙◌, subst, arith}
 use Rattle.std.proofs.Math.Bool.{and-false}
 use Rattle.std.proofs.lemmas.Bool.{not-false, not-true}
 use Rattle.indexmap.specs.IndexMap.{spare}
@@ -19,7 +19,7 @@ use Rattle.gl_table.specs.Headers.{held_of}
 use Rattle.gl_table.specs.Lists.{count_of, mode_of, unlisted}
 use Rattle.gl_table.specs.Locks.{Agrees, state_on}
 use Rattle.gl_table.specs.State.{members}
-use Rattle.gl_table.proofs.Asks.{MayAsk, own-apart, own-few, own-holds, own-listed, own-mode, own-room, parents-room, roomy_may, roomy_ready, roomy_same, roomy_says, says_at, says_is, slot-listed, state-same}
+use Rattle.gl_table.proofs.Asks.{MayAsk, own-apart, own-few, own-listed, own-mode, own-room, parents-room, roomy_may, roomy_ready, roomy_same, roomy_says, says_at, says_is, slot-listed, state-same}
 use Rattle.gl_table.proofs.Enqueues.{HasWait, IsEnqueued, has_wait-set, is_enqueued}
 use Rattle.gl_table.proofs.Grants.{IsGranted, answer-enters, answer-waits, is_granted}
 use Rattle.gl_table.proofs.GrantKeeps.{nl_is}
@@ -33,8 +33,10 @@ may : (c : After-make_room_to_ask) → MayAsk (graph_of c.args.graph.now) c.args
 may c = record { sound = c.requires.sound; orderly = c.requires.orderly; agree = c.requires.agree; count = c.requires.count; active = c.requires.active }
 
 -- whether the slot holds the node, as its list says
-member_is : (c : After-make_room_to_ask) → c.holds-is_member.result ≡ holds (members (state_on (graph_of c.args.graph.now) c.args.self.now) c.args.node) c.args.slot
-member_is c = c.holds-is_member.ensures ∙ own-holds (graph_of c.args.graph.now) c.args.self.now c.args.slot (may c) c.index.result.now c.index.ensures c.args.node
+member_is : (c : After-make_room_to_ask) → c.ne-is_member.result ≡ holds (members (state_on (graph_of c.args.graph.now) c.args.self.now) c.args.node) c.args.slot
+member_is c =
+    let is : c.ne-is_member.result ≡ not (same_mode c.args.held NL) = search rules in
+    is ∙ ap (λ m. not (same_mode m NL)) (c.requires.held ∙ (c.requires.agree c.args.slot).modes c.args.node)
 
 -- with the room that was made, all is as it was
 
@@ -47,7 +49,7 @@ same c = roomy_same (graph_of c.args.graph.now) c.args.self.now c.make_room_to_a
 says : (c : After-make_room_to_ask) → says_at c.make_room_to_ask.new.self c.args.slot c.args.node c.args.mode ≡ enters_at (state_on (graph_of c.args.graph.now) c.args.self.now) c.args.slot c.args.node c.args.mode
 says c = roomy_says (graph_of c.args.graph.now) c.args.self.now c.make_room_to_ask.new.self c.args.slot (may c) c.make_room_to_ask.ensures.rest c.make_room_to_ask.ensures.kept c.args.node c.args.mode
 
-member_now : (c : After-make_room_to_ask) → holds (members (state_on (graph_of c.args.graph.now) c.make_room_to_ask.new.self) c.args.node) c.args.slot ≡ c.holds-is_member.result
+member_now : (c : After-make_room_to_ask) → holds (members (state_on (graph_of c.args.graph.now) c.make_room_to_ask.new.self) c.args.node) c.args.slot ≡ c.ne-is_member.result
 member_now c = ap (λ s. holds (members s c.args.node) c.args.slot) (same c) ∙ sym (member_is c)
 
 -- the answer of the header is that of the state
@@ -126,13 +128,13 @@ enter-requires-then-not-is_member-clause-room c =
     (c.in_ok-make_room_to_ask.ensures.room (ap (λ b. b && says_at c.args.self.now c.args.slot c.args.node c.args.mode) c.if-not-is_member.true))).0
 
 -- a conversion is granted: its list has the mode
-put_raised : (c : After-set_mode) → MayAsk (graph_of c.args.graph.now) c.args.self.now c.args.slot → c.holds-is_member.result ≡ holds (members (state_on (graph_of c.args.graph.now) c.args.self.now) c.args.node) c.args.slot
+put_raised : (c : After-set_mode) → MayAsk (graph_of c.args.graph.now) c.args.self.now c.args.slot → c.ne-is_member.result ≡ holds (members (state_on (graph_of c.args.graph.now) c.args.self.now) c.args.node) c.args.slot
     → IsGranted (graph_of c.args.graph.now) c.args.self.now (record c.make_room_to_ask.new.self { headers = c.ask.new.headers; lists = with_item c.make_room_to_ask.new.self.lists c.args.slot c.set_mode.new.self }) c.args.slot c.args.node c.args.mode c.in-Granted.wanted
 put_raised c m held = let g = graph_of c.args.graph.now in let l = c.make_room_to_ask.new.self in let t = c.args.slot in let n = c.args.node in let x = c.index_mut-list.result.now in let x' = c.set_mode.new.self in
     let now = sym (roomy_says g c.args.self.now l t m c.make_room_to_ask.ensures.rest c.make_room_to_ask.ensures.kept n c.args.mode) ∙ answer-enters _ _ _ _ c.in_ok-asked.ensures.answer c.in-Granted.is in
-    let r = roomy_ready g c.args.self.now l t m c.make_room_to_ask.ensures.rest c.make_room_to_ask.ensures.kept n c.args.mode c.holds-is_member.result true held now c.in_ok-make_room_to_ask.ensures.room in
+    let r = roomy_ready g c.args.self.now l t m c.make_room_to_ask.ensures.rest c.make_room_to_ask.ensures.kept n c.args.mode c.ne-is_member.result true held now c.in_ok-make_room_to_ask.ensures.room in
     let listed = slot-listed g l t r.may in
-    is_granted g c.args.self.now l _ t n c.args.mode c.holds-is_member.result r c.in_ok-asked.asked c.in-Granted.wanted c.law.ensures.lawful c.requires.live c.requires.lock c.ask.ensures.headers c.in_ok-asked.ensures.answer c.in-Granted.is c.in_ok-asked.ensures.granted
+    is_granted g c.args.self.now l _ t n c.args.mode c.ne-is_member.result r c.in_ok-asked.asked c.in-Granted.wanted c.law.ensures.lawful c.requires.live c.requires.lock c.ask.ensures.headers c.in_ok-asked.ensures.answer c.in-Granted.is c.in_ok-asked.ensures.granted
     refl
     (has_node-set l.lists.items t x x' listed c.index_mut-list.ensures.value n c.in-Granted.wanted r.may.sound.apart
     (kept-apart l.lists.items t x x' listed c.index_mut-list.ensures.value r.may.sound.apart c.set_mode.ensures.listed c.set_mode.ensures.loose c.set_mode.ensures.keys)
@@ -142,13 +144,13 @@ put_raised c m held = let g = graph_of c.args.graph.now in let l = c.make_room_t
     (λ q. c.set_mode.ensures.counts q ∙ none_more (count_of x q) ∙ ap (λ b. count_of x q + (if b then count_by (same_node q) (parents_of g n) else 0)) (sym (not-true _ (r.is_held ∙ c.if-is_member.true)))))
 
 -- a newcomer is granted: its list has the node
-put_new : (c : After-count_up) → MayAsk (graph_of c.args.graph.now) c.args.self.now c.args.slot → c.holds-is_member.result ≡ holds (members (state_on (graph_of c.args.graph.now) c.args.self.now) c.args.node) c.args.slot
+put_new : (c : After-count_up) → MayAsk (graph_of c.args.graph.now) c.args.self.now c.args.slot → c.ne-is_member.result ≡ holds (members (state_on (graph_of c.args.graph.now) c.args.self.now) c.args.node) c.args.slot
     → IsGranted (graph_of c.args.graph.now) c.args.self.now (record c.make_room_to_ask.new.self { headers = c.ask.new.headers; lists = with_item c.make_room_to_ask.new.self.lists c.args.slot c.count_up.new.self }) c.args.slot c.args.node c.args.mode c.in-Granted-2.wanted
 put_new c m held = let g = graph_of c.args.graph.now in let l = c.make_room_to_ask.new.self in let t = c.args.slot in let n = c.args.node in let x = c.index_mut-list.result.now in let x' = c.count_up.new.self in
     let now = sym (roomy_says g c.args.self.now l t m c.make_room_to_ask.ensures.rest c.make_room_to_ask.ensures.kept n c.args.mode) ∙ answer-enters _ _ _ _ c.in_ok-asked.ensures.answer c.in-Granted-2.is in
-    let r = roomy_ready g c.args.self.now l t m c.make_room_to_ask.ensures.rest c.make_room_to_ask.ensures.kept n c.args.mode c.holds-is_member.result true held now c.in_ok-make_room_to_ask.ensures.room in
+    let r = roomy_ready g c.args.self.now l t m c.make_room_to_ask.ensures.rest c.make_room_to_ask.ensures.kept n c.args.mode c.ne-is_member.result true held now c.in_ok-make_room_to_ask.ensures.room in
     let listed = slot-listed g l t r.may in
-    is_granted g c.args.self.now l _ t n c.args.mode c.holds-is_member.result r c.in_ok-asked.asked c.in-Granted-2.wanted c.law.ensures.lawful c.requires.live c.requires.lock c.ask.ensures.headers c.in_ok-asked.ensures.answer c.in-Granted-2.is c.in_ok-asked.ensures.granted
+    is_granted g c.args.self.now l _ t n c.args.mode c.ne-is_member.result r c.in_ok-asked.asked c.in-Granted-2.wanted c.law.ensures.lawful c.requires.live c.requires.lock c.ask.ensures.headers c.in_ok-asked.ensures.answer c.in-Granted-2.is c.in_ok-asked.ensures.granted
     refl
     (has_node-set l.lists.items t x x' listed c.index_mut-list.ensures.value n c.in-Granted-2.wanted r.may.sound.apart c.count_up.ensures.apart
     (λ q. c.count_up.ensures.modes q ∙ c.enter.ensures.modes q) (λ q. c.count_up.ensures.listed q ∙ c.enter.ensures.listed q))
@@ -158,13 +160,13 @@ put_new c m held = let g = graph_of c.args.graph.now in let l = c.make_room_to_a
 
 -- the list of one who waits has the node
 listed : (c : After-set_status) → MayAsk (graph_of c.args.graph.now) c.make_room_to_ask.new.self c.args.slot
-    → holds (members (state_on (graph_of c.args.graph.now) c.make_room_to_ask.new.self) c.args.node) c.args.slot ≡ c.holds-is_member.result → says_at c.args.self.now c.args.slot c.args.node c.args.mode ≡ false
+    → holds (members (state_on (graph_of c.args.graph.now) c.make_room_to_ask.new.self) c.args.node) c.args.slot ≡ c.ne-is_member.result → says_at c.args.self.now c.args.slot c.args.node c.args.mode ≡ false
     → HasWait c.make_room_to_ask.new.self.lists.items c.if-not-is_member.self.lists.items c.args.slot c.args.node (held_of c.make_room_to_ask.new.self.headers.entries c.args.slot c.args.node)
 listed c m is blocked = let g = graph_of c.args.graph.now in let l = c.make_room_to_ask.new.self in let t = c.args.slot in let n = c.args.node in
     let x = c.index_mut-list.result.now in let at = c.index_mut-list.ensures.value in
     let held = held_of l.headers.entries t n in
     let there = slot-listed g l t m in
-    let room = (own-room g l t m x at (c.in_ok-make_room_to_ask.ensures.room (ap (λ b. c.holds-is_member.result && b) blocked ∙ and-false c.holds-is_member.result))).1 in
+    let room = (own-room g l t m x at (c.in_ok-make_room_to_ask.ensures.room (ap (λ b. c.ne-is_member.result && b) blocked ∙ and-false c.ne-is_member.result))).1 in
     elim c.if-not-is_member.branch [
       | then-not-is_member w ↦ subst (λ ls. HasWait l.lists.items ls.items t n held) (sym (ap (λ y. y.lists) w.self-is))
           (has_wait-set l.lists.items t x w.enter-then-not-is_member.new.self there at n held m.sound.apart w.enter-then-not-is_member.ensures.apart
@@ -188,13 +190,13 @@ blocks c m =
     ∙ answer-waits _ _ _ c.in_ok-asked.ensures.answer c.in-Waiting.is
 
 -- it waits
-put : (c : After-set_status) → MayAsk (graph_of c.args.graph.now) c.args.self.now c.args.slot → c.holds-is_member.result ≡ holds (members (state_on (graph_of c.args.graph.now) c.args.self.now) c.args.node) c.args.slot
-    → IsEnqueued (graph_of c.args.graph.now) c.args.self.now (record c.if-not-is_member.self { seats = c.set_status.new.seats }) c.args.slot c.args.node c.args.mode
+put : (c : After-set_status) → MayAsk (graph_of c.args.graph.now) c.args.self.now c.args.slot → c.ne-is_member.result ≡ holds (members (state_on (graph_of c.args.graph.now) c.args.self.now) c.args.node) c.args.slot
+    → IsEnqueued (graph_of c.args.graph.now) c.args.self.now (record c.if-not-is_member.self { seats = c.set_status.new.self }) c.args.slot c.args.node c.args.mode
 put c m held = let g = graph_of c.args.graph.now in let l = c.make_room_to_ask.new.self in let t = c.args.slot in let n = c.args.node in
-    let r = roomy_ready g c.args.self.now l t m c.make_room_to_ask.ensures.rest c.make_room_to_ask.ensures.kept n c.args.mode c.holds-is_member.result false held (blocks c m) c.in_ok-make_room_to_ask.ensures.room in
-    is_enqueued g c.args.self.now l (record c.if-not-is_member.self { seats = c.set_status.new.seats }) t n c.args.mode c.sup-wanted.result _ r c.ask.new.headers.entries c.if-not-is_member.self.seats.items
+    let r = roomy_ready g c.args.self.now l t m c.make_room_to_ask.ensures.rest c.make_room_to_ask.ensures.kept n c.args.mode c.ne-is_member.result false held (blocks c m) c.in_ok-make_room_to_ask.ensures.room in
+    is_enqueued g c.args.self.now l (record c.if-not-is_member.self { seats = c.set_status.new.self }) t n c.args.mode c.sup-wanted.result _ r c.ask.new.headers.entries c.if-not-is_member.self.seats.items
     (ap (λ h. h.entries) (same_headers c)) c.ask.ensures.headers c.in_ok-asked.ensures.waits (ap (λ x. x.items) (same_seats c)) c.set_status.ensures.len c.set_status.ensures.txns
-    (c.sup-wanted.ensures ∙ ap (λ k. supremum k c.args.mode) (c.mode.ensures ∙ own-mode g l t r.may c.index_mut-list.result.now c.index_mut-list.ensures.value n))
+    (c.sup-wanted.ensures ∙ ap (λ k. supremum k c.args.mode) (c.requires.held ∙ (m.agree t).modes n ∙ ap (λ s. s.held t n) (sym (roomy_same g c.args.self.now l t m c.make_room_to_ask.ensures.rest c.make_room_to_ask.ensures.kept))))
     (listed c r.may r.is_held (says_is g c.args.self.now t n c.args.mode m ∙ blocks c m))
 
 pub returns-in-Granted-clause-sound : goal.returns-in-Granted-clause-sound

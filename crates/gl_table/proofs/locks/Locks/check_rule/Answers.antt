@@ -16,8 +16,7 @@ use Rattle.gl_table.proofs.locks.Locks.check_rule.Goals as goal
 
 pub returns : goal.returns
 returns c =
-    let list = c.index-list.result.now in
-    let held : held_by c.args.self.now.lists.items c.args.slot ≡ mode_of list = fun_ext (λ q. by_list-at (λ l. mode_of l q) NL c.args.self.now.lists.items c.args.slot list c.requires c.index-list.ensures) in
+    let list = c.index.result.now in
+    let held : held_by c.args.self.now.lists.items c.args.slot ≡ mode_of list = fun_ext (λ q. by_list-at (λ l. mode_of l q) NL c.args.self.now.lists.items c.args.slot list c.requires c.index.ensures) in
     c.check_rule.ensures
-    ∙ ap₂ (λ ps m. verdict (rule_refusal (mode_of list) ps m)) c.parents.ensures (c.sup.ensures ∙ ap (λ x. supremum x c.args.mode) c.mode.ensures)
-    ∙ ap (λ (f : NodeId → Mode). verdict (rule_refusal f (parents_of (graph_of c.args.graph.now) c.args.node) (supremum (f c.args.node) c.args.mode))) (sym held)
+    ∙ ap₂ (λ (f : NodeId → Mode) ps. verdict (rule_refusal f ps c.args.mode)) (sym held) c.parents.ensures

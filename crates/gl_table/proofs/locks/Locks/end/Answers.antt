@@ -13,7 +13,7 @@ returns-clause-agree c =
     let left = c.leave_all.new.self in
     let now : State = state_on (graph_of c.args.graph.now) left in
     let seated : c.args.slot < length left.seats.items = subst (λ (k : ℕ). c.args.slot < k) (sym c.leave_all.ensures.len) c.requires.seated in
-    λ u. subst (λ (x : State). Agrees x (slice_set left.lists.items c.args.slot c.clear.new.self) u) (sym (state-freed now left.seats.items c.args.slot seated))
+    λ u. subst (λ (x : State). Agrees x (slice_set left.lists.items c.args.slot c.clear.new.self) u) (sym (state-freed now left.seats.items c.leave.new.self.items c.args.slot seated c.leave.ensures))
     (agrees-gone now c.args.slot c.leave_all.ensures.free c.leave_all.ensures.out left.lists.items c.clear.new.self (subst (λ (k : ℕ). c.args.slot < k) (sym c.leave_all.ensures.sound.lists) seated)
     (record { listed = c.clear.ensures.listed; counts = c.clear.ensures.counts; apart = c.clear.ensures.apart }) c.leave_all.ensures.agree u)
 
@@ -31,4 +31,4 @@ returns-clause-tells c =
     let now : State = state_on (graph_of c.args.graph.now) left in
     let seated : c.args.slot < length left.seats.items = subst (λ (k : ℕ). c.args.slot < k) (sym c.leave_all.ensures.len) c.requires.seated in
     λ s way same u e. c.leave_all.ensures.tells s way same u e
-    ∙ sym (ap (λ x. told_to s x u) (state-freed now left.seats.items c.args.slot seated) ∙ gone_tells s now c.args.slot u ∙ ap (λ b. if b then None else told_to s now u) e)
+    ∙ sym (ap (λ x. told_to s x u) (state-freed now left.seats.items c.leave.new.self.items c.args.slot seated c.leave.ensures) ∙ gone_tells s now c.args.slot u ∙ ap (λ b. if b then None else told_to s now u) e)

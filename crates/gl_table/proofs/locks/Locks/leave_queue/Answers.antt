@@ -58,7 +58,7 @@ returns-clause-state c =
     let n = c.args.node in
     let s = before c in
     let b = left c in
-    pumped_by_fields b (same_node n) (held_of c.wake_granted.new.self.headers.entries) (queue_of c.wake_granted.new.self.headers.entries) (txns_of c.set_status.new.seats.items) _
+    pumped_by_fields b (same_node n) (held_of c.wake_granted.new.self.headers.entries) (queue_of c.wake_granted.new.self.headers.entries) (txns_of c.set_status.new.self.items) _
     (ap held_of c.wake_granted.ensures.headers ∙ c.drop_wait.ensures.held ∙ held-pumped b n s.held _ _ refl (front_is c) (λ u q e. refl))
     (ap queue_of c.wake_granted.ensures.headers ∙ c.drop_wait.ensures.queue ∙ queue-pumped b n s.queue _ (front_is c) (λ q e. sym (without_none c.args.slot (s.queue q) (stands_only s c.requires.orderly c.args.slot n c.requires.waits q (same_node-sym n q ∙ e)))))
     (λ u. status_last s c.args.slot c.args.status (front_at b n) _ _ (out c) (woken c).txns c.set_status.ensures.txns u ∙ sym (woken_front b n (well c) u))

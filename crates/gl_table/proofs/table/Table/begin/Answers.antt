@@ -15,7 +15,7 @@ use Rattle.gl_table.proofs.table.Table.begin.Goals as goal
 
 full : (c : goal.In_default) → first_refusal (begin_tests (state_of c.args.self.now)) ≡ Some no.TooManyTxns
 full c =
-    let none = sym c.in_default.is ∙ c.first_free.ensures ∙ ap (position is_free) (c.as_slice.ensures.value ∙ ap (λ (v : TableView). v.seats) c.self.view_is) in
+    let none = sym c.in_default.is ∙ c.first_free.ensures ∙ ap (λ (v : TableView). position is_free v.seats) c.self.view_is in
     begin-refusal (state_of c.args.self.now) None (λ e. c.if-self.false (ap (λ (v : TableView). v.begins) c.self.view_is ∙ e)) (found-slot c.args.self.now None none)
 
 pub returns-in_default-clause-goes : goal.returns-in_default-clause-goes
@@ -26,20 +26,20 @@ returns-in_default-clause-refuses c = subst (λ r. Refuses {T = TxnId} r (Err no
 
 -- a slot is free
 
-seat : (c : goal.After-self-2-1) → Some c.in-Some.slot ≡ position is_free c.self.inside.locks.seats.items
-seat c = sym c.in-Some.is ∙ c.first_free.ensures ∙ ap (position is_free) c.as_slice.ensures.value
+seat : (c : goal.After-take) → Some c.in-Some.slot ≡ position is_free c.self.inside.locks.seats.items
+seat c = sym c.in-Some.is ∙ c.first_free.ensures
 
-slot : (c : goal.After-self-2-1) → free_slot (state_of c.args.self.now) ≡ Some c.in-Some.slot
+slot : (c : goal.After-take) → free_slot (state_of c.args.self.now) ≡ Some c.in-Some.slot
 slot c = found-slot c.args.self.now (Some c.in-Some.slot) (seat c ∙ ap (λ (v : TableView). position is_free v.seats) c.self.view_is)
 
 pub invariant_of-self : goal.invariant_of-self
-invariant_of-self c = begun-sound c.self.inside c.self.invariant c.in-Some.slot (seat c)
+invariant_of-self c = begun-sound c.self.inside c.self.invariant c.in-Some.slot (seat c) c.take.new.self c.take.ensures
 
 pub returns-clause-begun : goal.returns-clause-begun
 returns-clause-begun c = (
   slot c,
   ap (λ (v : TableView). v.begins + 1) c.self.view_is,
-  begun-state c.self.inside c.self.invariant c.in-Some.slot (seat c) ∙ ap (λ (v : TableView). begun (state_of v) c.in-Some.slot) c.self.view_is,
+  begun-state c.self.inside c.self.invariant c.in-Some.slot (seat c) c.take.new.self c.take.ensures ∙ ap (λ (v : TableView). begun (state_of v) c.in-Some.slot) c.self.view_is,
 )
 
 pub returns-clause-refuses : goal.returns-clause-refuses

@@ -1,9 +1,10 @@
-use Rattle.std.specs.Prelude.{◌≡◌, ◌<◌, ℕ, Option, false, true}
+use Rattle.std.specs.Prelude.{◌≡◌, ◌<◌, ℕ, None, Option, false, true}
 use Rattle.std.proofs.Common.{ap, rules, subst, sym, ◌∙◌}
 use Rattle.gl_modes.specs.declared.refusal.Refusal.{Refusal}
-use Rattle.gl_graph.specs.Refusals.{Refuses}
+use Rattle.gl_graph.specs.Refusals.{Refuses, first_refusal}
 use Rattle.gl_table.specs.Answers.{locked_as}
 use Rattle.gl_table.specs.Calls.{Locks, enters_at}
+use Rattle.gl_table.specs.Refusals.{lock_tests}
 use Rattle.gl_table.specs.Sound.{view_of}
 use Rattle.gl_table.specs.State.{status_of}
 use Rattle.gl_table.specs.Table.{TableView, state_of}
@@ -13,16 +14,20 @@ use Rattle.gl_table.proofs.Blocking.{granted_answer, granted_locks, granted_told
 use Rattle.gl_table.proofs.GrantKeeps.{txn_there}
 use Rattle.gl_table.proofs.Grants.{answer-enters, answer-granted, answer-waits}
 use Rattle.gl_table.proofs.LockKeeps.{MayLock}
-use Rattle.gl_table.proofs.Locking.{may_lock_by, sound_granted, sound_kept, state_granted, test_refused, unrefused}
-use Rattle.gl_table.proofs.TableCalls.{orderly, test_passed}
+use Rattle.gl_table.proofs.Locking.{answered-err, answered-ok, may_lock_by, sound_granted, sound_kept, state_granted, unrefused}
+use Rattle.gl_table.proofs.Queries.{modes-seen}
+use Rattle.gl_table.proofs.TableCalls.{orderly}
 use Rattle.gl_table.proofs.table.Table.lock_telling.Goals.{After-ask, In-Granted, In-Waiting}
 use Rattle.gl_table.proofs.table.Table.lock_telling.Goals as goal
 
--- the tests of the ask passed
+-- the tests of the ask passed, and this is the mode held
+checked : (c : After-ask) → (first_refusal (lock_tests (state_of c.args.self.now) c.args.t c.args.n c.args.mode) ≡ None) × (c.in_ok-held.held ≡ (state_of c.args.self.now).held c.args.t.slot c.args.n)
+checked c = answered-ok _ _ _ c.in_ok-held.ensures
+
 may : (c : After-ask) → MayLock (state_of (view_of c.self.inside)) c.args.t c.args.n c.args.mode
 may c =
     subst (λ (v : TableView). MayLock (state_of v) c.args.t c.args.n c.args.mode) (sym c.self.view_is)
-    (may_lock_by (state_of c.args.self.now) c.args.t c.args.n c.args.mode c.in_ok-check_lock.field-0 c.in_ok-check_lock.ensures)
+    (may_lock_by (state_of c.args.self.now) c.args.t c.args.n c.args.mode (checked c).0)
 
 -- where it was granted at once
 fits : (c : In-Granted) → enters_at (state_of (view_of c.self.inside)) c.args.t.slot c.args.n c.args.mode ≡ true
@@ -32,13 +37,16 @@ fits c = answer-enters _ _ _ _ c.in_ok-granted.ensures.answer c.in-Granted.is
 blocks : (c : In-Waiting) → enters_at (state_of (view_of c.self.inside)) c.args.t.slot c.args.n c.args.mode ≡ false
 blocks c = answer-waits _ _ _ c.in_ok-granted.ensures.answer c.in-Waiting.is
 
-pub returns-in_err-check_lock-clause-refuses : goal.returns-in_err-check_lock-clause-refuses
-returns-in_err-check_lock-clause-refuses c =
-    let is = test_refused _ c.in_err-check_lock.field-0.0 c.in_err-check_lock.ensures in
+pub returns-in_err-held-clause-refuses : goal.returns-in_err-held-clause-refuses
+returns-in_err-held-clause-refuses c =
+    let is = answered-err _ c.in_err-held.field-0.0 _ c.in_err-held.ensures in
     subst (λ (o : Option Refusal). Refuses o c.from_residual.result) (sym is) (search rules)
 
 pub ask-requires-clause-orderly : goal.ask-requires-clause-orderly
 ask-requires-clause-orderly c = orderly c.self.inside c.self.invariant
+
+pub ask-requires-clause-held : goal.ask-requires-clause-held
+ask-requires-clause-held c = (answered-ok _ _ _ c.in_ok-held.ensures).1 ∙ sym (modes-seen c.self.inside c.self.invariant c.args.self.now c.self.view_is c.args.t.slot c.args.n)
 
 pub invariant_of-self : goal.invariant_of-self
 invariant_of-self c =
@@ -47,7 +55,7 @@ invariant_of-self c =
 
 pub returns-in_err-granted-clause-refuses : goal.returns-in_err-granted-clause-refuses
 returns-in_err-granted-clause-refuses c =
-    let is = test_passed _ c.in_ok-check_lock.field-0 c.in_ok-check_lock.ensures in
+    let is = (answered-ok _ _ _ c.in_ok-held.ensures).0 in
     subst (λ (o : Option Refusal). Refuses o c.from_residual-in_err-granted.result) (sym is) (search rules)
 
 pub invariant_of-self-in-Granted : goal.invariant_of-self-in-Granted
@@ -82,7 +90,7 @@ returns-in-Granted-clause-state c =
 
 pub returns-in-Granted-clause-refuses : goal.returns-in-Granted-clause-refuses
 returns-in-Granted-clause-refuses c =
-    unrefused _ _ (test_passed _ c.in_ok-check_lock.field-0 c.in_ok-check_lock.ensures)
+    unrefused _ _ (answered-ok _ _ _ c.in_ok-held.ensures).0
 
 pub settle_asker-requires-clause-orderly : goal.settle_asker-requires-clause-orderly
 settle_asker-requires-clause-orderly c =
@@ -122,4 +130,4 @@ returns-in-Waiting-clause-state c =
 
 pub returns-in-Waiting-clause-refuses : goal.returns-in-Waiting-clause-refuses
 returns-in-Waiting-clause-refuses c =
-    unrefused _ _ (test_passed _ c.in_ok-check_lock.field-0 c.in_ok-check_lock.ensures)
+    unrefused _ _ (answered-ok _ _ _ c.in_ok-held.ensures).0

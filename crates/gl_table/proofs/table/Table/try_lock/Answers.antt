@@ -9,34 +9,38 @@ use Rattle.gl_table.specs.Calls.{granted}
 use Rattle.gl_table.specs.Sound.{view_of}
 use Rattle.gl_table.specs.Table.{TableView, state_of}
 use Rattle.gl_table.proofs.LockKeeps.{MayLock}
-use Rattle.gl_table.proofs.Locking.{decided, may_lock_by, same_enters, sound_tried, state_tried, try_refused}
+use Rattle.gl_table.proofs.Locking.{answered-err, answered-ok, decided, may_lock_by, same_enters, sound_tried, state_tried, try_refused}
+use Rattle.gl_table.proofs.Queries.{modes-seen}
 use Rattle.gl_table.proofs.TableCalls.{orderly}
 use Rattle.gl_table.proofs.table.Table.try_lock.Goals as goal
 
-pub returns-in_err-check_lock-clause-refuses : goal.returns-in_err-check_lock-clause-refuses
-returns-in_err-check_lock-clause-refuses c =
-    let is = try_refused (state_of c.args.self.now) c.args.t c.args.n c.args.mode c.in_err-check_lock.field-0.0 c.in_err-check_lock.ensures in
+pub returns-in_err-held-clause-refuses : goal.returns-in_err-held-clause-refuses
+returns-in_err-held-clause-refuses c =
+    let is = try_refused (state_of c.args.self.now) c.args.t c.args.n c.args.mode c.in_err-held.field-0.0 (answered-err _ c.in_err-held.field-0.0 _ c.in_err-held.ensures) in
     subst (λ (o : Option Refusal). Refuses o c.from_residual.result) (sym is) (search rules)
 
 pub returns-then-not-would_grant-clause-refuses : goal.returns-then-not-would_grant-clause-refuses
 returns-then-not-would_grant-clause-refuses c =
-    let is = decided c.self.inside c.self.invariant c.args.self.now c.self.view_is c.args.t c.args.n c.args.mode c.in_ok-check_lock.field-0 c.in_ok-check_lock.ensures false c.if-not-would_grant.ensures in
+    let is = decided c.self.inside c.self.invariant c.args.self.now c.self.view_is c.args.t c.args.n c.args.mode (answered-ok _ _ _ c.in_ok-held.ensures).0 false c.if-not-would_grant.ensures in
     subst (λ (o : Option Refusal). Refuses {T = Mode} o (Err no.WouldBlock)) (sym is) refl
 
 pub returns-then-not-would_grant-clause-held : goal.returns-then-not-would_grant-clause-held
 returns-then-not-would_grant-clause-held c =
-    let is = decided c.self.inside c.self.invariant c.args.self.now c.self.view_is c.args.t c.args.n c.args.mode c.in_ok-check_lock.field-0 c.in_ok-check_lock.ensures false c.if-not-would_grant.ensures in
+    let is = decided c.self.inside c.self.invariant c.args.self.now c.self.view_is c.args.t c.args.n c.args.mode (answered-ok _ _ _ c.in_ok-held.ensures).0 false c.if-not-would_grant.ensures in
     λ passes. absurd (none_some (sym passes ∙ is))
 
 pub grant-requires-clause-orderly : goal.grant-requires-clause-orderly
 grant-requires-clause-orderly c = orderly c.self.inside c.self.invariant
+
+pub grant-requires-clause-held : goal.grant-requires-clause-held
+grant-requires-clause-held c = (answered-ok _ _ _ c.in_ok-held.ensures).1 ∙ sym (modes-seen c.self.inside c.self.invariant c.args.self.now c.self.view_is c.args.t.slot c.args.n)
 
 pub grant-requires-clause-enters : goal.grant-requires-clause-enters
 grant-requires-clause-enters c = sym (same_enters c.self.inside c.self.invariant c.args.t c.args.n c.args.mode) ∙ sym c.if-not-would_grant.ensures
 
 pub invariant_of-self : goal.invariant_of-self
 invariant_of-self c =
-    let may = subst (λ (v : TableView). MayLock (state_of v) c.args.t c.args.n c.args.mode) (sym c.self.view_is) (may_lock_by (state_of c.args.self.now) c.args.t c.args.n c.args.mode c.in_ok-check_lock.field-0 c.in_ok-check_lock.ensures) in
+    let may = subst (λ (v : TableView). MayLock (state_of v) c.args.t c.args.n c.args.mode) (sym c.self.view_is) (may_lock_by (state_of c.args.self.now) c.args.t c.args.n c.args.mode (answered-ok _ _ _ c.in_ok-held.ensures).0) in
     sound_tried c.self.inside c.self.invariant c.args.t c.args.n c.args.mode c.grant.result c.grant.new.self may (sym (same_enters c.self.inside c.self.invariant c.args.t c.args.n c.args.mode) ∙ sym c.if-not-would_grant.ensures)
     c.grant.ensures.state c.grant.ensures.err_headers c.grant.ensures.err_seats c.grant.ensures.sound c.grant.ensures.agree c.grant.ensures.count
 
@@ -47,5 +51,5 @@ returns-clause-state c =
 
 pub returns-clause-refuses : goal.returns-clause-refuses
 returns-clause-refuses c =
-    let is = decided c.self.inside c.self.invariant c.args.self.now c.self.view_is c.args.t c.args.n c.args.mode c.in_ok-check_lock.field-0 c.in_ok-check_lock.ensures true c.if-not-would_grant.ensures in
+    let is = decided c.self.inside c.self.invariant c.args.self.now c.self.view_is c.args.t c.args.n c.args.mode (answered-ok _ _ _ c.in_ok-held.ensures).0 true c.if-not-would_grant.ensures in
     subst (λ (o : Option Refusal). Refuses {T = Mode} o c.grant.result) (sym is) c.grant.ensures.no_memory

@@ -7,7 +7,7 @@ use Rattle.gl_catalog.specs.declared.command.Command.TheVariants as command
 use Rattle.gl_catalog.specs.Manager.{counting, state_of}
 use Rattle.gl_catalog.specs.Replies.{CallSteps, doing}
 use Rattle.gl_catalog.proofs.Managed.{managed_err, managed_ok_only}
-use Rattle.gl_catalog.proofs.manager.Manager.unlock.Goals as goal
+use Rattle.gl_catalog.proofs.manager.Manager.unlock_telling.Goals as goal
 
 pub returns-in_err-unlock_telling-clause-step : goal.returns-in_err-unlock_telling-clause-step
 returns-in_err-unlock_telling-clause-step c =

@@ -5,7 +5,7 @@ use Rattle.gl_catalog.specs.declared.command.Command.TheVariants as command
 use Rattle.gl_catalog.specs.Manager.{counting}
 use Rattle.gl_catalog.specs.Replies.{doing}
 use Rattle.gl_catalog.proofs.Managed.{managed_ok_only}
-use Rattle.gl_catalog.proofs.manager.Manager.cancel.Goals as goal
+use Rattle.gl_catalog.proofs.manager.Manager.cancel_telling.Goals as goal
 
 pub returns-clause-step : goal.returns-clause-step
 returns-clause-step c =

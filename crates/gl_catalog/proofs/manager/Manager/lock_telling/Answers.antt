@@ -11,7 +11,7 @@ use Rattle.gl_catalog.specs.Replies.{CallSteps, asking}
 use Rattle.gl_catalog.specs.Step.{answer_of_lock}
 use Rattle.gl_catalog.proofs.Counting.{locks_counting}
 use Rattle.gl_catalog.proofs.Managed.{managed_err_or_memory, managed_ok, not_both}
-use Rattle.gl_catalog.proofs.manager.Manager.lock.Goals as goal
+use Rattle.gl_catalog.proofs.manager.Manager.lock_telling.Goals as goal
 
 pub returns-in_err-locked-clause-step : goal.returns-in_err-locked-clause-step
 returns-in_err-locked-clause-step c =

@@ -1,0 +1,7 @@
+use Rattle.std.specs.Prelude.{◌≡◌, ℕ, None, nat_lt, replicate}
+use Rattle.gl_slots.specs.Slots.{has_slot}
+use Rattle.gl_table.proofs.seats.Seats.new.Given as goal
+
+-- so many free seats, whose slots are in the set
+abbrev pub invariant-loop-slot : goal.invariant-loop-slot
+invariant-loop-slot l = (l.list.items ≡ replicate l.slot None) × ((u : ℕ) → has_slot l.free u ≡ nat_lt u l.slot)

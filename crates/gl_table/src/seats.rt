@@ -1,0 +1,107 @@
+//! The seats of all transactions, by slot.
+
+ghost use Rattle.std.specs.Prelude.{◌≡◌, ◌<◌, ◌≤◌, ◌==◌, ℕ, IfOk, None, Some, if◌then◌else◌, length, position, replicate, slice_set};
+ghost use Rattle.gl_table.specs.State.{age_in, restatus};
+ghost use Rattle.gl_table.specs.Seats.{is_free, txn_in, txns_of};
+
+use crate::seat::Seat;
+use crate::txn::Status;
+use gl_slots::Slots;
+use std::alloc::{AllocError, Global};
+use std::marker::Model;
+
+/// The transaction in each slot, and the set of the free slots: so the lowest free one is found by no
+/// search, however many transactions live.
+#[derive(Drop)]
+pub(crate) struct Seats {
+    list: Vec<Option<Seat>>,
+    free: Slots,
+}
+
+impl Model for Seats {
+    ghost use Rattle.gl_table.specs.Seats.{SeatList};
+
+    ghost Value = { SeatList };
+
+    ghost use Rattle.gl_table.specs.Seating.{IsSeating, seats_of};
+
+    ghost view = { seats_of };
+
+    ghost invariant = { IsSeating };
+}
+
+impl Seats {
+    /// So many free seats.
+    pub(crate) fn new(alloc: Global, most: usize) -> Result<Self, AllocError>
+        requires { most ≤ 128 }
+        ensures { IfOk result (λ seats. seats.items ≡ replicate most None) }
+    {
+        let mut list = Vec::new(alloc);
+        let mut free = Slots::empty();
+        for slot in 0..most {
+            list.push(None)?;
+            free.insert(slot as u8);
+        }
+        Ok(Seats { list, free })
+    }
+
+    /// The transaction in a slot.
+    pub(crate) fn get(&self, slot: u8) -> Option<Seat>
+        ensures { txn_in (Some result) ≡ txns_of self.now.items slot }
+    {
+        match self.list.get(slot as usize) {
+            Some(seat) => *seat,
+            None => None,
+        }
+    }
+
+    /// All seats, from slot 0 on.
+    pub(crate) fn as_slice(&self) -> &[Option<Seat>]
+        ensures { result.now ≡ self.now.items }
+    {
+        self.list.as_slice()
+    }
+
+    /// The lowest free slot.
+    pub(crate) fn first_free(&self) -> Option<u8>
+        ensures { result ≡ position is_free self.now.items }
+    {
+        self.free.lowest()
+    }
+
+    /// Seats a transaction.
+    pub(crate) fn take(&mut self, slot: u8, seat: Seat)
+        requires { slot < length self.old.items }
+        ensures { self.new.items ≡ slice_set self.old.items slot (Some seat) }
+    {
+        self.list[slot as usize] = Some(seat);
+        self.free.remove(slot);
+    }
+
+    /// Frees a slot.
+    pub(crate) fn leave(&mut self, slot: u8)
+        requires { slot < length self.old.items }
+        ensures { self.new.items ≡ slice_set self.old.items slot None }
+    {
+        self.list[slot as usize] = None;
+        self.free.insert(slot);
+    }
+
+    /// Writes what the transaction in a slot is doing. Answers its age, 0 for a free slot.
+    pub(crate) fn set_status(&mut self, slot: u8, status: Status) -> u64
+        requires { slot < length self.old.items }
+        ensures age { result ≡ age_in (txns_of self.old.items slot) }
+        ensures len { length self.new.items ≡ length self.old.items }
+        ensures txns { (u : ℕ) → txns_of self.new.items u ≡
+            (if u == slot then restatus status (txns_of self.old.items slot) else txns_of self.old.items u) }
+    {
+        let seat = &mut self.list[slot as usize];
+        match seat {
+            Some(seat) => {
+                seat.status = status;
+                seat.age
+            }
+            None => 0,
+        }
+    }
+}
