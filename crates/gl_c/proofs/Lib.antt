@@ -1,0 +1,4 @@
+pub mod Halves
+mod PlaceCalls
+mod PlaceSteps
+mod PlaceWords

@@ -1,0 +1,12 @@
+use Rattle.std.specs.Prelude.{Option}
+use Rattle.std.proofs.Common.{ap, subst, ◌∙◌}
+use Rattle.gl_catalog.specs.Manager.{ManagerView, state_of}
+use Rattle.gl_table.specs.BoardOf.{board_of}
+use Rattle.gl_c.specs.Boards.{Shows}
+use Rattle.gl_c.specs.Handle.{manager_in}
+use Rattle.gl_c.proofs.handle.Handle.show.Goals as goal
+
+pub returns : goal.returns
+returns c =
+    subst (λ (s : Option ManagerView). Shows s c.with_status-2.result c.args.board.now c.put.new.self (manager_in c.of.result)) c.in-Some.ensures.taken
+    (c.with_status-2.ensures, c.put.ensures ∙ c.board.ensures ∙ ap (λ (m : ManagerView). board_of (state_of m)) c.deref.ensures, c.of.ensures)

@@ -1,0 +1,7 @@
+use Rattle.std.proofs.Common.{ap, ◌∙◌}
+use Rattle.gl_catalog.specs.Manager.{ManagerView, state_of}
+use Rattle.gl_table.specs.BoardOf.{board_of}
+use Rattle.gl_c.proofs.session.Session.board.Goals as goal
+
+pub returns : goal.returns
+returns c = c.board.ensures ∙ ap (λ (m : ManagerView). board_of (state_of m)) c.self.view_is

@@ -1,0 +1,57 @@
+-- Boards in C's memory, and what is found on them.
+use Rattle.std.specs.Prelude.{◌≡◌, ℕ, ◌+◌, ◌*◌, ◌/◌, ◌%◌, ◌^◌, ◌<◌, ◌≤◌, ◌↔◌, IsTrue, Option, Some, None, map}
+use Rattle.gl_waits.specs.declared.board.Board.{Board as TheBoard}
+use Rattle.gl_waits.specs.Boards.{age_in, board_edge}
+use Rattle.gl_waits.specs.Sets.{has_slot}
+use Rattle.gl_waits.specs.Waits.{IsLowestYoungest, IsOnCycle, IsOnCycleOf}
+use Rattle.gl_table.specs.BoardOf.{board_of}
+use Rattle.gl_catalog.specs.Manager.{ManagerView, state_of}
+use Rattle.gl_c.specs.declared.board.Board.{Board}
+use Rattle.gl_c.specs.declared.board.Slots.{Slots}
+use Rattle.gl_c.specs.declared.boards.Found.{Found}
+use Rattle.gl_c.specs.declared.reply.Reply.{Reply}
+use Rattle.gl_c.specs.Carries.{Declines}
+use Rattle.gl_c.specs.Numbers.{bad_number, done, no_manager, no_place}
+use Rattle.gl_c.specs.Replies.{count_reply, status_reply}
+
+-- a set of slots as one number, and back
+abbrev pub set_of : Slots → ℕ
+set_of s = 2 ^ 64 * s.high + s.low
+
+abbrev pub slots_of : ℕ → Slots
+slots_of n = record { low = n % 2 ^ 64; high = n / 2 ^ 64 }
+
+-- what a board in C's memory says
+abbrev pub board_in : Board → TheBoard
+board_in b = record { epoch = b.epoch; ages = b.ages; rows = map set_of b.rows }
+
+-- a call that asks for the board of this moment
+abbrev pub Shows : Option ManagerView → Reply → Board → Board → Option ManagerView → Type 0
+Shows None r board board' s' = Declines None no_manager r s' × (board' ≡ board)
+Shows (Some m) r board board' s' = (r ≡ status_reply done) × (board_in board' ≡ board_of (state_of m)) × (s' ≡ Some m)
+
+-- the slots on a cycle with a slot of the board; a greater number is refused
+pub record FindsCycle (b : Board) (slot : ℕ) (f : Found) : Type 0 where
+  pub known : slot < 128 → (f.status ≡ done) × ((u : ℕ) → IsTrue (has_slot (set_of f.slots) u) ↔ IsOnCycleOf (board_edge (board_in b)) slot u)
+  pub other : 128 ≤ slot → (f.status ≡ bad_number) × (set_of f.slots ≡ 0)
+
+-- the slots that are on some cycle
+pub record FindsSuspects (b : Board) (f : Found) : Type 0 where
+  pub status : f.status ≡ done
+  pub slots : (s : ℕ) → IsTrue (has_slot (set_of f.slots) s) ↔ IsOnCycle (board_edge (board_in b)) s
+
+-- the youngest of a set, if the set has any slot
+abbrev pub Picks : Board → Slots → Option ℕ → Type 0
+Picks b set None = set_of set ≡ 0
+Picks b set (Some slot) = IsLowestYoungest (λ u. IsTrue (has_slot (set_of set) u)) (age_in (board_in b)) slot
+
+-- what C is answered then
+abbrev pub picked_reply : Option ℕ → Reply
+picked_reply None = status_reply no_place
+picked_reply (Some slot) = count_reply slot
+
+-- the same, as C is answered
+pub record PicksFor (b : Board) (set : Slots) (r : Reply) : Type 0 where
+  pub slot : Option ℕ
+  pub picks : Picks b set slot
+  pub replied : r ≡ picked_reply slot

@@ -1,0 +1,11 @@
+pub mod Boards
+pub mod Carries
+pub mod Handle
+pub mod Held
+pub mod Looks
+pub mod Managing
+pub mod Names
+pub mod Notes
+pub mod Numbers
+pub mod Replies
+pub mod Session

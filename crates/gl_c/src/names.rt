@@ -1,0 +1,64 @@
+//! The names of nodes and transactions.
+
+ghost use Rattle.std.specs.Prelude.{◌≡◌};
+ghost use Rattle.gl_c.specs.Names.{node_id, node_of, txn_id, txn_of};
+
+use gl_modes::NodeId;
+use gl_table::TxnId;
+
+/// A node's name. The name of a node that is gone names nothing, whatever was made since; zero in
+/// both fields names no node.
+#[repr(C)]
+#[derive(Clone, Copy)]
+pub struct Node {
+    pub key: usize,
+    pub birth: u64,
+}
+
+impl Node {
+    pub(crate) fn id(self) -> NodeId
+        ensures { result ≡ node_id self }
+    {
+        NodeId {
+            key: self.key,
+            birth: self.birth,
+        }
+    }
+
+    pub(crate) fn of(id: NodeId) -> Node
+        ensures { result ≡ node_of id }
+    {
+        Node {
+            key: id.key,
+            birth: id.birth,
+        }
+    }
+}
+
+/// A transaction's name. The name of one that has ended names nothing; age zero names none.
+#[repr(C)]
+#[derive(Clone, Copy)]
+pub struct Txn {
+    pub slot: u8,
+    pub age: u64,
+}
+
+impl Txn {
+    pub(crate) fn id(self) -> TxnId
+        ensures { result ≡ txn_id self }
+    {
+        TxnId {
+            slot: self.slot,
+            age: self.age,
+        }
+    }
+
+    pub(crate) fn of(id: TxnId) -> Txn
+        ensures { result ≡ txn_of id }
+    {
+        Txn {
+            slot: id.slot,
+            age: id.age,
+        }
+    }
+}

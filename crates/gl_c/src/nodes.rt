@@ -1,0 +1,70 @@
+//! New nodes of the graph.
+
+ghost use Rattle.gl_catalog.specs.declared.command.Command.TheVariants as command;
+ghost use Rattle.gl_c.specs.Carries.{Asks, Declines, Under};
+ghost use Rattle.gl_c.specs.Handle.{manager_in};
+ghost use Rattle.gl_c.specs.Names.{node_id};
+ghost use Rattle.gl_c.specs.Numbers.{bad_number};
+
+use crate::handle::Handle;
+use crate::names::Node;
+use crate::numbers::BAD_NUMBER;
+use crate::parents::parent_ids;
+use crate::reply::Reply;
+use gl_catalog::Command;
+
+/// A new inner node, under 0 to 8 inner nodes; without parents it is a root.
+///
+/// What C keeps: `manager` was zero before its first call and is used by this one alone; `parents`
+/// has as many as the count behind it says.
+#[unsafe(no_mangle)]
+pub extern "C" fn bs_call_add_inner(manager: &mut Handle, parents: &[Node]) -> Reply
+    ensures { Under parents.now (λ ids. Asks (manager_in manager.old) (command.Inner ids) result (manager_in manager.new)) (Declines (manager_in manager.old) bad_number result (manager_in manager.new)) }
+{
+    match parent_ids(parents) {
+        Some(ids) => manager.ask(Command::Inner {
+            parents: ids.as_slice(),
+        }),
+        None => Reply::with_status(BAD_NUMBER),
+    }
+}
+
+/// A new file, under 1 to 8 inner nodes.
+///
+/// What C keeps: `manager` was zero before its first call and is used by this one alone; `parents`
+/// has as many as the count behind it says.
+#[unsafe(no_mangle)]
+pub extern "C" fn bs_call_add_file(manager: &mut Handle, parents: &[Node]) -> Reply
+    ensures { Under parents.now (λ ids. Asks (manager_in manager.old) (command.File ids) result (manager_in manager.new)) (Declines (manager_in manager.old) bad_number result (manager_in manager.new)) }
+{
+    match parent_ids(parents) {
+        Some(ids) => manager.ask(Command::File {
+            parents: ids.as_slice(),
+        }),
+        None => Reply::with_status(BAD_NUMBER),
+    }
+}
+
+/// A new index of a file without records, under 1 to 8 inner nodes, with at most 256 rising bounds
+/// above 0 that part its intervals.
+///
+/// What C keeps: `manager` was zero before its first call and is used by this one alone; `parents`
+/// and `bounds` have as many as the count behind each says.
+#[unsafe(no_mangle)]
+pub extern "C" fn bs_call_add_index(
+    manager: &mut Handle,
+    parents: &[Node],
+    file: Node,
+    bounds: &[u64],
+) -> Reply
+    ensures { Under parents.now (λ ids. Asks (manager_in manager.old) (command.Index ids (node_id file) bounds.entry) result (manager_in manager.new)) (Declines (manager_in manager.old) bad_number result (manager_in manager.new)) }
+{
+    match parent_ids(parents) {
+        Some(ids) => manager.ask(Command::Index {
+            parents: ids.as_slice(),
+            file: file.id(),
+            bounds,
+        }),
+        None => Reply::with_status(BAD_NUMBER),
+    }
+}

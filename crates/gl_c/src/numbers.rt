@@ -1,0 +1,79 @@
+//! The numbers by which C names modes, ways of detection and statuses.
+
+ghost use Rattle.std.specs.Prelude.{◌≡◌};
+ghost use Rattle.gl_c.specs.Numbers.{detect_at, effect_number, mode_at, mode_number};
+
+use gl_modes::Mode;
+use gl_table::{Detect, Effect};
+
+/// It was done, or answered.
+pub(crate) const DONE: u32 = 0;
+
+/// The lock is waited for.
+pub(crate) const WAITING: u32 = 32;
+
+/// The asker was condemned to end a deadlock.
+pub(crate) const VICTIM: u32 = 33;
+
+/// There is no manager at this place: none was made, or it was ended.
+pub(crate) const NO_MANAGER: u32 = 65;
+
+/// A number names no mode, no way of detection or no lawful count.
+pub(crate) const BAD_NUMBER: u32 = 66;
+
+/// There is a manager at this place already.
+pub(crate) const IN_USE: u32 = 67;
+
+/// There are fewer than that.
+pub(crate) const NO_PLACE: u32 = 68;
+
+/// A mode's number.
+pub(crate) fn mode_number(mode: Mode) -> u32
+    ensures { result ≡ mode_number mode }
+{
+    match mode {
+        Mode::NL => 0,
+        Mode::IS => 1,
+        Mode::IX => 2,
+        Mode::S => 3,
+        Mode::SIX => 4,
+        Mode::X => 5,
+    }
+}
+
+/// The mode of a number; `None` where it is no mode's.
+pub(crate) fn mode_at(number: u32) -> Option<Mode>
+    ensures { result ≡ mode_at number }
+{
+    match number {
+        0 => Some(Mode::NL),
+        1 => Some(Mode::IS),
+        2 => Some(Mode::IX),
+        3 => Some(Mode::S),
+        4 => Some(Mode::SIX),
+        5 => Some(Mode::X),
+        _ => None,
+    }
+}
+
+/// An effective mode's number, which is that of the mode with its name.
+pub(crate) fn effect_number(effect: Effect) -> u32
+    ensures { result ≡ effect_number effect }
+{
+    match effect {
+        Effect::None => 0,
+        Effect::S => 3,
+        Effect::X => 5,
+    }
+}
+
+/// The way of detection of a number; `None` where it is no way's.
+pub(crate) fn detect_at(number: u32) -> Option<Detect>
+    ensures { result ≡ detect_at number }
+{
+    match number {
+        0 => Some(Detect::AtBlock),
+        1 => Some(Detect::ByWatcher),
+        _ => None,
+    }
+}

@@ -1,0 +1,27 @@
+//! Parents that C gives.
+
+ghost use Rattle.std.specs.Prelude.{◌≡◌, ◌<◌, ◌≤◌, IfNone, IfSome, length, map};
+ghost use Rattle.gl_c.specs.Names.{node_id};
+
+use crate::names::Node;
+use arrayvec::ArrayVec;
+use gl_modes::NodeId;
+
+/// How many parents a node may have.
+pub(crate) const MOST_PARENTS: usize = 8;
+
+/// The names of these parents; `None` where there are more than a node may have.
+pub(crate) fn parent_ids(parents: &[Node]) -> Option<ArrayVec<NodeId, MOST_PARENTS>>
+    ensures names { IfSome result (λ ids. ids.items ≡ map node_id parents.now) }
+    ensures few { IfSome result (λ ids. length parents.now ≤ 8) }
+    ensures many { IfNone result (8 < length parents.now) }
+{
+    if parents.len() > MOST_PARENTS {
+        return None;
+    }
+    let mut ids = ArrayVec::new();
+    for parent in parents {
+        ids.push(parent.id());
+    }
+    Some(ids)
+}

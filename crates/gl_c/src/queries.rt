@@ -1,0 +1,200 @@
+//! Questions, which change nothing. They take no memory, but for the effective mode.
+
+ghost use Rattle.gl_catalog.specs.declared.command.Command.TheVariants as command;
+ghost use Rattle.gl_c.specs.declared.query.Query.TheVariants as query;
+ghost use Rattle.gl_c.specs.Carries.{Asks};
+ghost use Rattle.gl_c.specs.Handle.{manager_in};
+ghost use Rattle.gl_c.specs.Looks.{Looks};
+ghost use Rattle.gl_c.specs.Names.{node_id, txn_id};
+
+use crate::handle::Handle;
+use crate::names::{Node, Txn};
+use crate::query::Query;
+use crate::reply::Reply;
+use gl_catalog::Command;
+
+/// The group mode of a node, which is the supremum of the modes in which it is held.
+///
+/// What C keeps: `manager` was zero before its first call and is used by this one alone.
+#[unsafe(no_mangle)]
+pub extern "C" fn bs_call_group(manager: &mut Handle, node: Node) -> Reply
+    ensures { Asks (manager_in manager.old) (command.Group (node_id node)) result (manager_in manager.new) }
+{
+    manager.ask(Command::Group { node: node.id() })
+}
+
+/// The mode in which a transaction holds a node.
+///
+/// What C keeps: `manager` was zero before its first call and is used by this one alone.
+#[unsafe(no_mangle)]
+pub extern "C" fn bs_call_held(manager: &mut Handle, txn: Txn, node: Node) -> Reply
+    ensures { Asks (manager_in manager.old) (command.Held (txn_id txn) (node_id node)) result (manager_in manager.new) }
+{
+    manager.ask(Command::Held {
+        txn: txn.id(),
+        node: node.id(),
+    })
+}
+
+/// What a transaction may do to a node by all its locks together. It takes memory.
+///
+/// What C keeps: `manager` was zero before its first call and is used by this one alone.
+#[unsafe(no_mangle)]
+pub extern "C" fn bs_call_effective(manager: &mut Handle, txn: Txn, node: Node) -> Reply
+    ensures { Asks (manager_in manager.old) (command.Effective (txn_id txn) (node_id node)) result (manager_in manager.new) }
+{
+    manager.ask(Command::Effective {
+        txn: txn.id(),
+        node: node.id(),
+    })
+}
+
+/// The node for which a transaction waits, and the wanted mode.
+///
+/// What C keeps: `manager` was zero before its first call and is used by this one alone.
+#[unsafe(no_mangle)]
+pub extern "C" fn bs_call_waiting(manager: &mut Handle, txn: Txn) -> Reply
+    ensures { Looks (manager_in manager.old) (query.Waiting (txn_id txn)) result (manager_in manager.new) }
+{
+    manager.look(Query::Waiting { txn: txn.id() })
+}
+
+/// How many children of a node a transaction holds.
+///
+/// What C keeps: `manager` was zero before its first call and is used by this one alone.
+#[unsafe(no_mangle)]
+pub extern "C" fn bs_call_children(manager: &mut Handle, txn: Txn, node: Node) -> Reply
+    ensures { Looks (manager_in manager.old) (query.Children (txn_id txn) (node_id node)) result (manager_in manager.new) }
+{
+    manager.look(Query::Children {
+        txn: txn.id(),
+        node: node.id(),
+    })
+}
+
+/// What a node is.
+///
+/// What C keeps: `manager` was zero before its first call and is used by this one alone.
+#[unsafe(no_mangle)]
+pub extern "C" fn bs_call_kind(manager: &mut Handle, node: Node) -> Reply
+    ensures { Looks (manager_in manager.old) (query.Kind (node_id node)) result (manager_in manager.new) }
+{
+    manager.look(Query::Kind { node: node.id() })
+}
+
+/// A parent of a node, by its place.
+///
+/// What C keeps: `manager` was zero before its first call and is used by this one alone.
+#[unsafe(no_mangle)]
+pub extern "C" fn bs_call_parent(manager: &mut Handle, node: Node, place: usize) -> Reply
+    ensures { Looks (manager_in manager.old) (query.Parent (node_id node) place) result (manager_in manager.new) }
+{
+    manager.look(Query::Parent {
+        node: node.id(),
+        place,
+    })
+}
+
+/// A key of a record, by the place of the index.
+///
+/// What C keeps: `manager` was zero before its first call and is used by this one alone.
+#[unsafe(no_mangle)]
+pub extern "C" fn bs_call_key(manager: &mut Handle, rec: Node, place: usize) -> Reply
+    ensures { Looks (manager_in manager.old) (query.Key (node_id rec) place) result (manager_in manager.new) }
+{
+    manager.look(Query::Key {
+        rec: rec.id(),
+        place,
+    })
+}
+
+/// An index of a file, by its place in the order of making.
+///
+/// What C keeps: `manager` was zero before its first call and is used by this one alone.
+#[unsafe(no_mangle)]
+pub extern "C" fn bs_call_index(manager: &mut Handle, file: Node, place: usize) -> Reply
+    ensures { Looks (manager_in manager.old) (query.Index (node_id file) place) result (manager_in manager.new) }
+{
+    manager.look(Query::Index {
+        file: file.id(),
+        place,
+    })
+}
+
+/// An interval of an index, by its place.
+///
+/// What C keeps: `manager` was zero before its first call and is used by this one alone.
+#[unsafe(no_mangle)]
+pub extern "C" fn bs_call_interval(manager: &mut Handle, index: Node, place: usize) -> Reply
+    ensures { Looks (manager_in manager.old) (query.Interval (node_id index) place) result (manager_in manager.new) }
+{
+    manager.look(Query::Interval {
+        index: index.id(),
+        place,
+    })
+}
+
+/// The interval of an index in which a key lies.
+///
+/// What C keeps: `manager` was zero before its first call and is used by this one alone.
+#[unsafe(no_mangle)]
+pub extern "C" fn bs_call_interval_of(manager: &mut Handle, index: Node, key: u64) -> Reply
+    ensures { Looks (manager_in manager.old) (query.IntervalOf (node_id index) key) result (manager_in manager.new) }
+{
+    manager.look(Query::IntervalOf {
+        index: index.id(),
+        key,
+    })
+}
+
+/// The place of an interval in its index.
+///
+/// What C keeps: `manager` was zero before its first call and is used by this one alone.
+#[unsafe(no_mangle)]
+pub extern "C" fn bs_call_place(manager: &mut Handle, interval: Node) -> Reply
+    ensures { Looks (manager_in manager.old) (query.Place (node_id interval)) result (manager_in manager.new) }
+{
+    manager.look(Query::Place {
+        node: interval.id(),
+    })
+}
+
+/// Whether a file has records.
+///
+/// What C keeps: `manager` was zero before its first call and is used by this one alone.
+#[unsafe(no_mangle)]
+pub extern "C" fn bs_call_has_records(manager: &mut Handle, file: Node) -> Reply
+    ensures { Looks (manager_in manager.old) (query.HasRecords (node_id file)) result (manager_in manager.new) }
+{
+    manager.look(Query::HasRecords { file: file.id() })
+}
+
+/// How many nodes live.
+///
+/// What C keeps: `manager` was zero before its first call and is used by this one alone.
+#[unsafe(no_mangle)]
+pub extern "C" fn bs_call_len(manager: &mut Handle) -> Reply
+    ensures { Looks (manager_in manager.old) query.Len result (manager_in manager.new) }
+{
+    manager.look(Query::Len)
+}
+
+/// How many commands were accepted.
+///
+/// What C keeps: `manager` was zero before its first call and is used by this one alone.
+#[unsafe(no_mangle)]
+pub extern "C" fn bs_call_accepted(manager: &mut Handle) -> Reply
+    ensures { Looks (manager_in manager.old) query.Accepted result (manager_in manager.new) }
+{
+    manager.look(Query::Accepted)
+}
+
+/// How deadlocks are found.
+///
+/// What C keeps: `manager` was zero before its first call and is used by this one alone.
+#[unsafe(no_mangle)]
+pub extern "C" fn bs_call_detect(manager: &mut Handle) -> Reply
+    ensures { Looks (manager_in manager.old) query.Detect result (manager_in manager.new) }
+{
+    manager.look(Query::Detect)
+}

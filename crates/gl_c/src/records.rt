@@ -1,0 +1,102 @@
+//! Records, and nodes that move. Each call that tells somebody fills `told`, whatever it had before.
+
+ghost use Rattle.std.specs.Prelude.{[]};
+ghost use Rattle.gl_catalog.specs.declared.command.Command.TheVariants as command;
+ghost use Rattle.gl_c.specs.Carries.{Asks, Carries, Declines, Under};
+ghost use Rattle.gl_c.specs.Handle.{manager_in};
+ghost use Rattle.gl_c.specs.Names.{node_id, txn_id};
+ghost use Rattle.gl_c.specs.Notes.{Tells};
+ghost use Rattle.gl_c.specs.Numbers.{bad_number};
+
+use crate::handle::Handle;
+use crate::names::{Node, Txn};
+use crate::notes::Notes;
+use crate::numbers::BAD_NUMBER;
+use crate::parents::parent_ids;
+use crate::reply::Reply;
+use gl_catalog::Command;
+
+/// A new record of a file, with a key for each of its indexes, held in X.
+///
+/// What C keeps: `manager` was zero before its first call and is used by this one alone; `keys` has
+/// as many as the count behind it says.
+#[unsafe(no_mangle)]
+pub extern "C" fn bs_call_insert(manager: &mut Handle, txn: Txn, file: Node, keys: &[u64]) -> Reply
+    ensures { Asks (manager_in manager.old) (command.Insert (txn_id txn) (node_id file) keys.entry) result (manager_in manager.new) }
+{
+    manager.ask(Command::Insert {
+        txn: txn.id(),
+        file: file.id(),
+        keys,
+    })
+}
+
+/// Takes a record away.
+///
+/// What C keeps: `manager` was zero before its first call and is used by this one alone; `told` has
+/// room for notices, apart from all else.
+#[unsafe(no_mangle)]
+pub extern "C" fn bs_call_delete(
+    manager: &mut Handle,
+    txn: Txn,
+    rec: Node,
+    told: &mut Notes,
+) -> Reply
+    ensures { Carries (manager_in manager.old) (command.Delete (txn_id txn) (node_id rec)) result told.new (manager_in manager.new) }
+{
+    let command = Command::Delete {
+        txn: txn.id(),
+        rec: rec.id(),
+    };
+    manager.carry_out(command, told)
+}
+
+/// Gives a record another key for one index.
+///
+/// What C keeps: `manager` was zero before its first call and is used by this one alone; `told` has
+/// room for notices, apart from all else.
+#[unsafe(no_mangle)]
+pub extern "C" fn bs_call_rekey(
+    manager: &mut Handle,
+    txn: Txn,
+    rec: Node,
+    index: Node,
+    key: u64,
+    told: &mut Notes,
+) -> Reply
+    ensures { Carries (manager_in manager.old) (command.Rekey (txn_id txn) (node_id rec) (node_id index) key) result told.new (manager_in manager.new) }
+{
+    let command = Command::Rekey {
+        txn: txn.id(),
+        rec: rec.id(),
+        index: index.id(),
+        key,
+    };
+    manager.carry_out(command, told)
+}
+
+/// Gives an inner node, a file or an index other parents.
+///
+/// What C keeps: `manager` was zero before its first call and is used by this one alone; `told` has
+/// room for notices, apart from all else; `parents` has as many as the count behind it says.
+#[unsafe(no_mangle)]
+pub extern "C" fn bs_call_move(
+    manager: &mut Handle,
+    txn: Txn,
+    node: Node,
+    parents: &[Node],
+    told: &mut Notes,
+) -> Reply
+    ensures { Under parents.now (λ ids. Carries (manager_in manager.old) (command.Move (txn_id txn) (node_id node) ids) result told.new (manager_in manager.new)) (Declines (manager_in manager.old) bad_number result (manager_in manager.new) × Tells told.new []) }
+{
+    let Some(ids) = parent_ids(parents) else {
+        told.clear();
+        return Reply::with_status(BAD_NUMBER);
+    };
+    let command = Command::Move {
+        txn: txn.id(),
+        node: node.id(),
+        parents: ids.as_slice(),
+    };
+    manager.carry_out(command, told)
+}

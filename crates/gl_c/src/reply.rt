@@ -1,0 +1,127 @@
+//! What is answered to C.
+
+ghost use Rattle.std.specs.Prelude.{◌≡◌};
+ghost use Rattle.gl_catalog.specs.declared.command.Answer.TheVariants as answer;
+ghost use Rattle.gl_c.specs.Replies.{count_reply, refused_at, refused_reply, reply_of, status_reply};
+
+use crate::names::{Node, Txn};
+use crate::numbers::{DONE, VICTIM, WAITING, effect_number, mode_number};
+use gl_catalog::Answer;
+use gl_modes::{Mode, NodeId, Refusal};
+use gl_table::TxnId;
+
+/// An answer. Beside the status it has what the call answers, and zero in all other fields.
+#[repr(C)]
+#[derive(Clone, Copy)]
+pub struct Reply {
+    /// Zero where it was done, a refusal's number from 1 to 21, or one of the numbers above.
+    pub status: u32,
+    /// A mode's number.
+    pub mode: u32,
+    /// The node that was made or asked after, or that the refusal names.
+    pub node: Node,
+    /// The transaction that began.
+    pub txn: Txn,
+    /// How many children an escalation released.
+    pub released: u32,
+    /// How many held children an escalation kept.
+    pub kept: u32,
+    /// The number that was asked after.
+    pub count: u64,
+}
+
+impl Reply {
+    /// A status alone.
+    pub(crate) fn with_status(status: u32) -> Reply
+        ensures { result ≡ status_reply status }
+    {
+        Reply {
+            status,
+            mode: 0,
+            node: Node::of(NodeId::NONE),
+            txn: Txn::of(TxnId::NONE),
+            released: 0,
+            kept: 0,
+            count: 0,
+        }
+    }
+
+    /// What C is answered for an answer.
+    pub(crate) fn of(answer: Answer) -> Reply
+        ensures { result ≡ reply_of answer }
+    {
+        match answer {
+            Answer::Done => Reply::with_status(DONE),
+            Answer::Node(node) => Reply::with_node(node),
+            Answer::Begun(txn) => Reply {
+                txn: Txn::of(txn),
+                ..Reply::with_status(DONE)
+            },
+            Answer::Granted(mode) | Answer::Mode(mode) => Reply::with_mode(mode),
+            Answer::Waiting => Reply::with_status(WAITING),
+            Answer::Victim => Reply::with_status(VICTIM),
+            Answer::Escalated(escalated) => Reply {
+                mode: mode_number(escalated.mode),
+                released: escalated.released,
+                kept: escalated.kept,
+                ..Reply::with_status(DONE)
+            },
+            Answer::Effect(effect) => Reply {
+                mode: effect_number(effect),
+                ..Reply::with_status(DONE)
+            },
+            Answer::Refused(refusal) => Reply::refused(refusal),
+        }
+    }
+
+    /// A number that was asked after.
+    pub(crate) fn with_count(count: u64) -> Reply
+        ensures { result ≡ count_reply count }
+    {
+        Reply {
+            count,
+            ..Reply::with_status(DONE)
+        }
+    }
+
+    /// A node that was made or asked after.
+    pub(crate) fn with_node(node: NodeId) -> Reply
+        ensures { result ≡ reply_of (answer.Node node) }
+    {
+        Reply {
+            node: Node::of(node),
+            ..Reply::with_status(DONE)
+        }
+    }
+
+    fn with_mode(mode: Mode) -> Reply
+        ensures { result ≡ reply_of (answer.Mode mode) }
+    {
+        Reply {
+            mode: mode_number(mode),
+            ..Reply::with_status(DONE)
+        }
+    }
+
+    /// A refusal's own number, and the node that it names.
+    pub(crate) fn refused(refusal: Refusal) -> Reply
+        ensures { result ≡ refused_reply refusal }
+    {
+        Reply {
+            node: refused_at(refusal),
+            ..Reply::with_status(u32::from(refusal.number()))
+        }
+    }
+}
+
+/// The node that a refusal names, if it names one.
+fn refused_at(refusal: Refusal) -> Node
+    ensures { result ≡ refused_at refusal }
+{
+    match refusal {
+        Refusal::NeedParents { node } | Refusal::HeldChild { node } | Refusal::Cycle { node } => {
+            Node::of(node)
+        }
+        _ => Node::of(NodeId::NONE),
+    }
+}

@@ -1,0 +1,576 @@
+/*
+ * burlapslate.h: a lock manager of granular locks, for C and C++.
+ *
+ * Transactions lock the nodes of a graph: inner nodes (a data base, an area), files, indexes of files,
+ * intervals of indexes, and records. Whoever locks a node holds intentions above it, so that a lock on
+ * a node stands for locks on all that lies below.
+ *
+ * WHO MAY CALL WHEN. A manager is used by one thread at a time, now one and now another: hold a mutex of
+ * your own round each call with it. No call waits: a lock that is not granted at once is answered with
+ * BS_WAITING, and a later call of another transaction tells its end by a notice. Two managers share
+ * nothing, and a board is a value of its own, which any thread may read. No call may be made from a signal
+ * handler, or from the forked child of a process with threads.
+ *
+ * WHAT YOU KEEP. Beside what a call says:
+ *   - a bs_manager is BS_NO_MANAGER_HERE, which is all zero, before the first call with it; from then on
+ *     it is neither copied, moved, read nor written by you, until bs_end;
+ *   - a pointer is null or points to what its type says, which was given some value before, and a list to
+ *     as many as its count says; what a call writes (its manager, notices or board) overlaps with nothing
+ *     else that it is given, and nobody else uses it during the call;
+ *   - malloc, realloc and free are one allocator's, and align as the C standard asks.
+ * Null pointers are refused with BS_NULL_POINTER and never read; a list of count 0 may be null. Names may be
+ * any values at all: the name of a node that is gone, of a transaction that has ended, or one made up,
+ * names nothing and is refused.
+ *
+ * WHAT A CALL ANSWERS. A bs_reply: its status is BS_DONE, BS_WAITING, BS_VICTIM, or says why the call was
+ * refused; a refused call changed nothing. All fields that a call does not speak of are zero. Where several
+ * refusals hold, the first in the order of the call's list is answered. Before all others come
+ * BS_NULL_POINTER and then, but where a call says that BS_BAD_NUMBER does, BS_NO_MANAGER; then BS_WORN_OUT,
+ * of every call but the questions; and BS_NO_MEMORY, of each call that takes memory, comes last.
+ *
+ * NOTICES. A call with `told` fills it anew: whom it told what, at most one notice for each transaction, by
+ * rising slot. It is empty where the call was refused. The caller of a lock and of a cancel is left out: it
+ * has its answer.
+ *
+ * MEMORY. Calls that end something or give something back take no memory and cannot fail for want of it:
+ * unlock, cancel, commit, abort, settle, delete, rekey, escalate. Others say so.
+ */
+#ifndef BURLAPSLATE_H
+#define BURLAPSLATE_H
+
+#include <stdbool.h>
+#include <stddef.h>
+#include <stdint.h>
+
+#ifdef __cplusplus
+extern "C" {
+#endif
+
+/* How many transactions can live at once, and so how many notices a call can have. */
+#define BS_SLOTS 128
+
+/* How many parents a node can have. */
+#define BS_MOST_PARENTS 8
+
+/* What a call comes to. Refusals are 1 to 21. */
+typedef uint32_t bs_status;
+enum bs_statuses {
+  BS_DONE = 0,
+  BS_NO_MEMORY = 1,       /* the allocator refused */
+  BS_NO_SUCH_NODE = 2,    /* a name names no node */
+  BS_NO_SUCH_TXN = 3,     /* the name names no transaction that lives */
+  BS_TXN_WAITING = 4,     /* the transaction waits for a lock */
+  BS_TXN_CONDEMNED = 5,   /* the transaction was chosen as a victim, and can only abort */
+  BS_BAD_MODE = 6,        /* no lock was asked, or other than S or X on a record */
+  BS_NEED_PARENTS = 7,    /* the rule of the graph fails at the parent `node` */
+  BS_NOT_HELD = 8,        /* the transaction does not hold the node */
+  BS_HELD_CHILD = 9,      /* the transaction holds the child `node` */
+  BS_WOULD_BLOCK = 10,    /* the lock cannot be granted at once */
+  BS_TOO_MANY_TXNS = 11,  /* as many transactions live as may */
+  BS_TOO_MANY_NODES = 12, /* as many nodes live as may: 65,536 */
+  BS_BAD_PARENTS = 13,    /* a node of the wrong kind for its place, one parent twice, or too few */
+  BS_NEED_EXCLUSIVE = 14, /* without the exclusive locks that a delete or a move needs */
+  BS_NOT_WAITING = 15,    /* the transaction waits for nothing */
+  BS_NAME_TAKEN = 16,     /* not answered here: names are the manager's own */
+  BS_FILE_IN_USE = 17,    /* an index cannot be added to a file that has records */
+  BS_BAD_KEYS = 18,       /* bounds that do not rise from above 0, too many, or not a key for each index */
+  BS_WORN_OUT = 19,       /* a counter has come to its end */
+  BS_BAD_LINE = 20,       /* not answered here */
+  BS_CYCLE = 21,          /* the new parent `node` is the node itself or lies below it */
+  BS_WAITING = 32,        /* the lock is waited for */
+  BS_VICTIM = 33,         /* the asker was condemned to end a deadlock, and can only abort */
+  BS_NULL_POINTER = 64,   /* a pointer is null */
+  BS_NO_MANAGER = 65,     /* no manager was made at this place, or it was ended */
+  BS_BAD_NUMBER = 66,     /* a number names no mode or way of detection, or a count is out of range */
+  BS_IN_USE = 67,         /* there is a manager at this place already */
+  BS_NO_PLACE = 68        /* there are fewer than that */
+};
+
+/* Lock modes, from none to exclusive. */
+typedef uint32_t bs_mode;
+enum bs_modes { BS_NL = 0, BS_IS = 1, BS_IX = 2, BS_S = 3, BS_SIX = 4, BS_X = 5 };
+
+/* How deadlocks are found: when a transaction begins to wait, or by a watcher that reads boards. */
+enum bs_detects { BS_AT_BLOCK = 0, BS_BY_WATCHER = 1 };
+
+/* What a node is. */
+enum bs_kinds { BS_INNER = 1, BS_FILE = 2, BS_INDEX = 3, BS_INTERVAL = 4, BS_RECORD = 5 };
+
+/* What a transaction is told. */
+enum bs_notice_kinds {
+  BS_TOLD_GRANTED = 1, /* its wait is over: it holds `node` in `mode` */
+  BS_TOLD_VICTIM = 2,  /* it was condemned to end a deadlock, and can only abort */
+  BS_TOLD_MOVED = 3,   /* the node moved, and its wait no longer meets the rule of the graph: it is over */
+  BS_TOLD_GONE = 4     /* the node is gone, and its wait is over */
+};
+
+/* The name of a node. It is the same as long as the node lives, and never another's. */
+typedef struct bs_node {
+  size_t key;
+  uint64_t birth;
+} bs_node;
+
+/* The name of a transaction. It is the same as long as it lives, and never another's. */
+typedef struct bs_txn {
+  uint8_t slot; /* 0 to 127 */
+  uint64_t age; /* its number in the order of begins: the youngest has the greatest */
+} bs_txn;
+
+/* The place of a manager. Its fields are the library's own. */
+typedef struct bs_manager {
+  bool is_open;
+  void *at;
+} bs_manager;
+
+#define BS_NO_MANAGER_HERE { false, NULL }
+
+/* What a call answers. */
+typedef struct bs_reply {
+  bs_status status;
+  bs_mode mode;      /* the mode that is held, wanted or asked after */
+  bs_node node;      /* the node that was made or asked after, or that the refusal names */
+  bs_txn txn;        /* the transaction that began */
+  uint32_t released; /* of an escalation: how many children were released */
+  uint32_t kept;     /* of an escalation: how many held children were kept */
+  uint64_t count;    /* the number that was asked after */
+} bs_reply;
+
+/* One notice. */
+typedef struct bs_notice {
+  bs_txn txn;
+  bs_node node;  /* what was granted; zero of the other kinds */
+  uint32_t kind; /* of enum bs_notice_kinds */
+  bs_mode mode;  /* what was granted; zero of the other kinds */
+} bs_notice;
+
+/* The notices of one call: the first `count` places. */
+typedef struct bs_notices {
+  size_t count;
+  bs_notice at[BS_SLOTS];
+} bs_notices;
+
+/* A set of slots: bit s of `low` stands for slot s, that of `high` for slot 64 + s. */
+typedef struct bs_slots {
+  uint64_t low;
+  uint64_t high;
+} bs_slots;
+
+/* Who waits for whom at one moment. */
+typedef struct bs_board {
+  uint64_t epoch;          /* how many commands had been accepted by then */
+  uint64_t ages[BS_SLOTS]; /* by slot, the age of its transaction; 0: the slot is free */
+  bs_slots rows[BS_SLOTS]; /* by slot, for whom it waits */
+} bs_board;
+
+/* Slots that were asked after; none where it was refused. */
+typedef struct bs_found {
+  bs_status status;
+  bs_slots slots;
+} bs_found;
+
+/* ------------------------------------------------------------------------------------------------
+ * The calls of the library. Use the functions below them: each of those tests its pointers for null,
+ * and then makes the call of its name.
+ */
+bs_reply bs_call_make(bs_manager *manager, uint32_t detect, uint32_t most);
+bs_reply bs_call_end(bs_manager *manager);
+bs_reply bs_call_add_inner(bs_manager *manager, const bs_node *parents, size_t count);
+bs_reply bs_call_add_file(bs_manager *manager, const bs_node *parents, size_t count);
+bs_reply bs_call_add_index(bs_manager *manager, const bs_node *parents, size_t count, bs_node file,
+                           const uint64_t *bounds, size_t bound_count);
+bs_reply bs_call_begin(bs_manager *manager);
+bs_reply bs_call_lock(bs_manager *manager, bs_txn txn, bs_node node, bs_mode mode, bs_notices *told);
+bs_reply bs_call_try(bs_manager *manager, bs_txn txn, bs_node node, bs_mode mode);
+bs_reply bs_call_unlock(bs_manager *manager, bs_txn txn, bs_node node, bs_notices *told);
+bs_reply bs_call_escalate(bs_manager *manager, bs_txn txn, bs_node node, bs_notices *told);
+bs_reply bs_call_cancel(bs_manager *manager, bs_txn txn, bs_notices *told);
+bs_reply bs_call_commit(bs_manager *manager, bs_txn txn, bs_notices *told);
+bs_reply bs_call_abort(bs_manager *manager, bs_txn txn, bs_notices *told);
+bs_reply bs_call_settle(bs_manager *manager, bs_txn txn, bs_notices *told);
+bs_reply bs_call_insert(bs_manager *manager, bs_txn txn, bs_node file, const uint64_t *keys, size_t count);
+bs_reply bs_call_delete(bs_manager *manager, bs_txn txn, bs_node record, bs_notices *told);
+bs_reply bs_call_rekey(bs_manager *manager, bs_txn txn, bs_node record, bs_node index, uint64_t key, bs_notices *told);
+bs_reply bs_call_move(bs_manager *manager, bs_txn txn, bs_node node, const bs_node *parents, size_t count,
+                      bs_notices *told);
+bs_reply bs_call_group(bs_manager *manager, bs_node node);
+bs_reply bs_call_held(bs_manager *manager, bs_txn txn, bs_node node);
+bs_reply bs_call_effective(bs_manager *manager, bs_txn txn, bs_node node);
+bs_reply bs_call_waiting(bs_manager *manager, bs_txn txn);
+bs_reply bs_call_children(bs_manager *manager, bs_txn txn, bs_node node);
+bs_reply bs_call_kind(bs_manager *manager, bs_node node);
+bs_reply bs_call_parent(bs_manager *manager, bs_node node, size_t place);
+bs_reply bs_call_key(bs_manager *manager, bs_node record, size_t place);
+bs_reply bs_call_index(bs_manager *manager, bs_node file, size_t place);
+bs_reply bs_call_interval(bs_manager *manager, bs_node index, size_t place);
+bs_reply bs_call_interval_of(bs_manager *manager, bs_node index, uint64_t key);
+bs_reply bs_call_place(bs_manager *manager, bs_node interval);
+bs_reply bs_call_has_records(bs_manager *manager, bs_node file);
+bs_reply bs_call_len(bs_manager *manager);
+bs_reply bs_call_accepted(bs_manager *manager);
+bs_reply bs_call_detect(bs_manager *manager);
+bs_reply bs_call_board(bs_manager *manager, bs_board *board);
+bs_found bs_call_on_cycle(const bs_board *board, uint32_t slot);
+bs_found bs_call_suspects(const bs_board *board);
+bs_reply bs_call_youngest(const bs_board *board, bs_slots slots);
+
+/* The reply of a call with a null pointer. */
+static inline bs_reply bs_null(void) {
+  bs_reply reply = { BS_NULL_POINTER, BS_NL, { 0, 0 }, { 0, 0 }, 0, 0, 0 };
+  return reply;
+}
+
+/* Whether one of these is null; where the notices are not, they are emptied then. */
+static inline bool bs_lacks(const bs_manager *manager, bs_notices *told) {
+  if (told != NULL && manager == NULL) told->count = 0;
+  return told == NULL || manager == NULL;
+}
+
+/* A list that is not null, for a list that may be null where its count is 0. */
+static inline const bs_node *bs_nodes(const bs_node *list) {
+  static const bs_node none = { 0, 0 };
+  return list == NULL ? &none : list;
+}
+
+static inline const uint64_t *bs_numbers(const uint64_t *list) {
+  static const uint64_t none = 0;
+  return list == NULL ? &none : list;
+}
+
+/* ------------------------------------------------------------------------------------------------
+ * Managers.
+ */
+
+/* Makes a manager at a place that has none, for `most` transactions at once, 1 to 128, with a way of
+ * detection of enum bs_detects. Refused with BS_IN_USE, BS_BAD_NUMBER, BS_NO_MEMORY. Takes memory, more
+ * for more transactions. */
+static inline bs_reply bs_make(bs_manager *manager, uint32_t detect, uint32_t most) {
+  return manager == NULL ? bs_null() : bs_call_make(manager, detect, most);
+}
+
+/* Ends a manager, whatever its transactions do, and gives back all memory that it took. Its place has
+ * no manager then, and may be used for another. Costs a walk over all that it has. */
+static inline bs_reply bs_end(bs_manager *manager) {
+  return manager == NULL ? bs_null() : bs_call_end(manager);
+}
+
+/* ------------------------------------------------------------------------------------------------
+ * The graph. No path closes, whatever is made, moved or removed. These take memory; each answers the
+ * new node in `node`. They tell nobody.
+ */
+
+/* A new inner node under 0 to 8 different inner nodes; without parents it is a root. Refused with
+ * BS_NO_SUCH_NODE, BS_BAD_PARENTS, BS_TOO_MANY_NODES; with BS_BAD_NUMBER, first of all, where there are
+ * more than 8 parents. Costs a look-up for each parent. */
+static inline bs_reply bs_add_inner(bs_manager *manager, const bs_node *parents, size_t count) {
+  if (manager == NULL || (parents == NULL && count != 0)) return bs_null();
+  return bs_call_add_inner(manager, bs_nodes(parents), count);
+}
+
+/* A new file under 1 to 8 different inner nodes. Refused as bs_add_inner. */
+static inline bs_reply bs_add_file(bs_manager *manager, const bs_node *parents, size_t count) {
+  if (manager == NULL || (parents == NULL && count != 0)) return bs_null();
+  return bs_call_add_file(manager, bs_nodes(parents), count);
+}
+
+/* A new index of a file that has no records, under 1 to 8 different inner nodes, with up to 256 bounds,
+ * rising from above 0: interval 0 has the keys below the first bound, interval i those from bound i - 1
+ * on. Refused with BS_NO_SUCH_NODE, BS_BAD_PARENTS (also where the file has 7 indexes), BS_FILE_IN_USE,
+ * BS_BAD_KEYS, BS_TOO_MANY_NODES; with BS_BAD_NUMBER, first of all, where there are more than 8
+ * parents. Costs a step for each bound. */
+static inline bs_reply bs_add_index(bs_manager *manager, const bs_node *parents, size_t count, bs_node file,
+                                    const uint64_t *bounds, size_t bound_count) {
+  if (manager == NULL || (parents == NULL && count != 0) || (bounds == NULL && bound_count != 0)) return bs_null();
+  return bs_call_add_index(manager, bs_nodes(parents), count, file, bs_numbers(bounds), bound_count);
+}
+
+/* ------------------------------------------------------------------------------------------------
+ * Transactions and locks.
+ */
+
+/* A new transaction, in `txn`. Refused with BS_TOO_MANY_TXNS. Takes memory. Costs a search for a free slot. */
+static inline bs_reply bs_begin(bs_manager *manager) {
+  return manager == NULL ? bs_null() : bs_call_begin(manager);
+}
+
+/* Asks for a mode on a node: to read (BS_IS, BS_S) intentions to read or more are needed on one parent,
+ * to write (BS_IX, BS_SIX, BS_X) intentions to write or more on all parents. What is held and what is
+ * asked join: `mode` is the mode then held. BS_WAITING: the transaction waits, and does nothing else
+ * until a notice tells it the end, or it cancels or aborts. BS_VICTIM: its wait closed a circle of
+ * waits, and it is the one to give way: abort it.
+ * Refused with BS_NO_SUCH_TXN, BS_TXN_WAITING, BS_TXN_CONDEMNED, BS_NO_SUCH_NODE, BS_BAD_MODE,
+ * BS_NEED_PARENTS, and with BS_BAD_NUMBER, first of all, where the mode is none. Takes memory, but for
+ * a node that the transaction holds already, granted at once. Costs one look-up of the node and one for
+ * each parent; where it waits with detection at block a search along the waits too. */
+static inline bs_reply bs_lock(bs_manager *manager, bs_txn txn, bs_node node, bs_mode mode, bs_notices *told) {
+  return bs_lacks(manager, told) ? bs_null() : bs_call_lock(manager, txn, node, mode, told);
+}
+
+/* As bs_lock, but where the lock cannot be granted at once it is refused with BS_WOULD_BLOCK, after the
+ * other refusals. It never waits and tells nobody. */
+static inline bs_reply bs_try(bs_manager *manager, bs_txn txn, bs_node node, bs_mode mode) {
+  return manager == NULL ? bs_null() : bs_call_try(manager, txn, node, mode);
+}
+
+/* Releases one node of which the transaction holds no child. Refused with BS_NO_SUCH_TXN,
+ * BS_TXN_WAITING, BS_TXN_CONDEMNED, BS_NO_SUCH_NODE, BS_NOT_HELD, BS_HELD_CHILD. Costs a look-up, and a
+ * step for each waiter that is granted. */
+static inline bs_reply bs_unlock(bs_manager *manager, bs_txn txn, bs_node node, bs_notices *told) {
+  return bs_lacks(manager, told) ? bs_null() : bs_call_unlock(manager, txn, node, told);
+}
+
+/* Takes the wait of a transaction back. Refused with BS_NO_SUCH_TXN, BS_TXN_CONDEMNED, BS_NOT_WAITING. */
+static inline bs_reply bs_cancel(bs_manager *manager, bs_txn txn, bs_notices *told) {
+  return bs_lacks(manager, told) ? bs_null() : bs_call_cancel(manager, txn, told);
+}
+
+/* Ends a transaction and releases everything. Refused with BS_NO_SUCH_TXN, BS_TXN_WAITING,
+ * BS_TXN_CONDEMNED. Costs a step for each lock and each waiter that is granted. */
+static inline bs_reply bs_commit(bs_manager *manager, bs_txn txn, bs_notices *told) {
+  return bs_lacks(manager, told) ? bs_null() : bs_call_commit(manager, txn, told);
+}
+
+/* Ends a transaction whatever it is doing, and releases everything. Refused with BS_NO_SUCH_TXN. */
+static inline bs_reply bs_abort(bs_manager *manager, bs_txn txn, bs_notices *told) {
+  return bs_lacks(manager, told) ? bs_null() : bs_call_abort(manager, txn, told);
+}
+
+/* Condemns the youngest on a circle of waits with the transaction, again and again until it is on none;
+ * whoever is condemned is told BS_TOLD_VICTIM. It is how a watcher ends deadlocks. Refused with
+ * BS_NO_SUCH_TXN. */
+static inline bs_reply bs_settle(bs_manager *manager, bs_txn txn, bs_notices *told) {
+  return bs_lacks(manager, told) ? bs_null() : bs_call_settle(manager, txn, told);
+}
+
+/* Raises the lock of a node to BS_X where the transaction writes below it, else to BS_S, and releases
+ * the children whose locks that implies: `mode`, `released` and `kept` say how it went. Refused with
+ * BS_NO_SUCH_TXN, BS_TXN_WAITING, BS_TXN_CONDEMNED, BS_NO_SUCH_NODE, BS_BAD_PARENTS (a record),
+ * BS_NOT_HELD, BS_WOULD_BLOCK. Costs a step for each lock of the transaction. */
+static inline bs_reply bs_escalate(bs_manager *manager, bs_txn txn, bs_node node, bs_notices *told) {
+  return bs_lacks(manager, told) ? bs_null() : bs_call_escalate(manager, txn, node, told);
+}
+
+/* ------------------------------------------------------------------------------------------------
+ * Records, and nodes that move. Nodes that move tell waiters whose wait is over.
+ */
+
+/* A new record of a file, in `node`, with a key for each of the file's indexes, in order of their
+ * making. It lies under the file and, for each index, the interval of its key, and is held in X.
+ * Refused with BS_NO_SUCH_TXN, BS_TXN_WAITING, BS_TXN_CONDEMNED, BS_NO_SUCH_NODE, BS_BAD_PARENTS (no
+ * file), BS_BAD_KEYS, BS_NEED_PARENTS (a parent not held in IX or more), BS_TOO_MANY_NODES. Takes
+ * memory. */
+static inline bs_reply bs_insert(bs_manager *manager, bs_txn txn, bs_node file, const uint64_t *keys, size_t count) {
+  if (manager == NULL || (keys == NULL && count != 0)) return bs_null();
+  return bs_call_insert(manager, txn, file, bs_numbers(keys), count);
+}
+
+/* Takes a record away that the transaction holds in X. Who waits for it is told BS_TOLD_GONE. Refused
+ * with BS_NO_SUCH_TXN, BS_TXN_WAITING, BS_TXN_CONDEMNED, BS_NO_SUCH_NODE, BS_BAD_PARENTS (no record),
+ * BS_NEED_EXCLUSIVE. */
+static inline bs_reply bs_delete(bs_manager *manager, bs_txn txn, bs_node record, bs_notices *told) {
+  return bs_lacks(manager, told) ? bs_null() : bs_call_delete(manager, txn, record, told);
+}
+
+/* Gives a record another key for one index, and so another interval. Lawful with X on the record and IX
+ * or more on the new parents, or with X on all old and new parents. Refused with BS_NO_SUCH_TXN,
+ * BS_TXN_WAITING, BS_TXN_CONDEMNED, BS_NO_SUCH_NODE, BS_BAD_PARENTS (no record, or no index of its
+ * file), BS_NEED_EXCLUSIVE, BS_NEED_PARENTS. */
+static inline bs_reply bs_rekey(bs_manager *manager, bs_txn txn, bs_node record, bs_node index, uint64_t key,
+                                bs_notices *told) {
+  return bs_lacks(manager, told) ? bs_null() : bs_call_rekey(manager, txn, record, index, key, told);
+}
+
+/* Gives an inner node, a file or an index other parents. Lawful with X on the node and IX or more on
+ * the new parents, or, where there are both, with X on all old and new parents. Refused with
+ * BS_NO_SUCH_TXN, BS_TXN_WAITING, BS_TXN_CONDEMNED, BS_NO_SUCH_NODE, BS_BAD_PARENTS, BS_NEED_EXCLUSIVE,
+ * BS_NEED_PARENTS, BS_CYCLE; with BS_BAD_NUMBER, first of all, where there are more than 8 parents.
+ * Takes memory, and BS_NO_MEMORY may come in place of BS_CYCLE. Costs a search up from the parents. */
+static inline bs_reply bs_move(bs_manager *manager, bs_txn txn, bs_node node, const bs_node *parents, size_t count,
+                               bs_notices *told) {
+  if (bs_lacks(manager, told)) return bs_null();
+  if (parents == NULL && count != 0) {
+    told->count = 0;
+    return bs_null();
+  }
+  return bs_call_move(manager, txn, node, bs_nodes(parents), count, told);
+}
+
+/* ------------------------------------------------------------------------------------------------
+ * Questions. They change nothing and, but for bs_effective, take no memory. Each costs a look-up or two;
+ * what costs more says so.
+ */
+
+/* The group mode of a node in `mode`: the least that covers all that is held on it. Refused with
+ * BS_NO_SUCH_NODE. */
+static inline bs_reply bs_group(bs_manager *manager, bs_node node) {
+  return manager == NULL ? bs_null() : bs_call_group(manager, node);
+}
+
+/* The mode in which a transaction holds a node in `mode`, BS_NL for none. Refused with BS_NO_SUCH_TXN,
+ * BS_NO_SUCH_NODE. */
+static inline bs_reply bs_held(bs_manager *manager, bs_txn txn, bs_node node) {
+  return manager == NULL ? bs_null() : bs_call_held(manager, txn, node);
+}
+
+/* What a transaction may do to a node by all its locks together, in `mode`: BS_NL, BS_S or BS_X.
+ * Refused with BS_NO_SUCH_TXN, BS_NO_SUCH_NODE. Takes memory, and looks at each ancestor. */
+static inline bs_reply bs_effective(bs_manager *manager, bs_txn txn, bs_node node) {
+  return manager == NULL ? bs_null() : bs_call_effective(manager, txn, node);
+}
+
+/* BS_WAITING with the node for which a transaction waits in `node` and the wanted mode in `mode`; else
+ * BS_NOT_WAITING, also where it does not live. */
+static inline bs_reply bs_waiting(bs_manager *manager, bs_txn txn) {
+  return manager == NULL ? bs_null() : bs_call_waiting(manager, txn);
+}
+
+/* How many children of a node a transaction holds, in `count`. Refused with BS_NOT_HELD where it does
+ * not live or does not hold the node. */
+static inline bs_reply bs_children(bs_manager *manager, bs_txn txn, bs_node node) {
+  return manager == NULL ? bs_null() : bs_call_children(manager, txn, node);
+}
+
+/* What a node is, in `count`, of enum bs_kinds. Refused with BS_NO_SUCH_NODE. */
+static inline bs_reply bs_kind(bs_manager *manager, bs_node node) {
+  return manager == NULL ? bs_null() : bs_call_kind(manager, node);
+}
+
+/* A parent of a node in `node`, by its place from 0 on; of a record first its file and then, for each
+ * index, an interval. Refused with BS_NO_PLACE where there are fewer, or the node does not live. */
+static inline bs_reply bs_parent(bs_manager *manager, bs_node node, size_t place) {
+  return manager == NULL ? bs_null() : bs_call_parent(manager, node, place);
+}
+
+/* A key of a record in `count`, by the place of its index. Refused with BS_NO_PLACE where there are
+ * fewer, or the name names no record. */
+static inline bs_reply bs_key(bs_manager *manager, bs_node record, size_t place) {
+  return manager == NULL ? bs_null() : bs_call_key(manager, record, place);
+}
+
+/* An index of a file in `node`, by its place in the order of making. Refused with BS_NO_SUCH_NODE where
+ * the name names no file, and BS_NO_PLACE. */
+static inline bs_reply bs_index(bs_manager *manager, bs_node file, size_t place) {
+  return manager == NULL ? bs_null() : bs_call_index(manager, file, place);
+}
+
+/* An interval of an index in `node`, by its place. Refused with BS_NO_PLACE where there are fewer, or
+ * the name names no index. */
+static inline bs_reply bs_interval(bs_manager *manager, bs_node index, size_t place) {
+  return manager == NULL ? bs_null() : bs_call_interval(manager, index, place);
+}
+
+/* The interval of an index in which a key lies, in `node`. Refused with BS_NO_SUCH_NODE where the name
+ * names no index. Costs a binary search. */
+static inline bs_reply bs_interval_of(bs_manager *manager, bs_node index, uint64_t key) {
+  return manager == NULL ? bs_null() : bs_call_interval_of(manager, index, key);
+}
+
+/* The place of an interval in its index, in `count`. Refused with BS_NO_SUCH_NODE where the name names
+ * no interval. */
+static inline bs_reply bs_place(bs_manager *manager, bs_node interval) {
+  return manager == NULL ? bs_null() : bs_call_place(manager, interval);
+}
+
+/* Whether a file has records: 1 or 0 in `count`. Refused with BS_NO_SUCH_NODE where the name names no
+ * file. */
+static inline bs_reply bs_has_records(bs_manager *manager, bs_node file) {
+  return manager == NULL ? bs_null() : bs_call_has_records(manager, file);
+}
+
+/* How many nodes live, in `count`. */
+static inline bs_reply bs_len(bs_manager *manager) {
+  return manager == NULL ? bs_null() : bs_call_len(manager);
+}
+
+/* How many commands were accepted, in `count`: all that were neither refused nor questions. */
+static inline bs_reply bs_accepted(bs_manager *manager) {
+  return manager == NULL ? bs_null() : bs_call_accepted(manager);
+}
+
+/* How deadlocks are found, in `count`, of enum bs_detects. */
+static inline bs_reply bs_detect(bs_manager *manager) {
+  return manager == NULL ? bs_null() : bs_call_detect(manager);
+}
+
+/* ------------------------------------------------------------------------------------------------
+ * Boards: who waits for whom at one moment, as a value that any thread may read without the manager and
+ * its mutex. A board may be older than what is; to settle a suspect of an old board does no harm.
+ */
+
+/* The board of this moment, written into `board`; where it is refused nothing is written. Costs a step
+ * for each transaction, and two passes over each queue. */
+static inline bs_reply bs_read_board(bs_manager *manager, bs_board *board) {
+  return manager == NULL || board == NULL ? bs_null() : bs_call_board(manager, board);
+}
+
+/* The slots on a circle of waits with this slot; none where it is on none. Refused with BS_NULL_POINTER,
+ * and BS_BAD_NUMBER where the slot is over 127. Costs at most a step for each slot that it reaches,
+ * twice. */
+static inline bs_found bs_on_cycle(const bs_board *board, uint32_t slot) {
+  bs_found null = { BS_NULL_POINTER, { 0, 0 } };
+  return board == NULL ? null : bs_call_on_cycle(board, slot);
+}
+
+/* The slots that are on any circle of waits. Refused with BS_NULL_POINTER. Costs a pass over the rows
+ * where nobody waits, else a step for each slot and each that waits. */
+static inline bs_found bs_suspects(const bs_board *board) {
+  bs_found null = { BS_NULL_POINTER, { 0, 0 } };
+  return board == NULL ? null : bs_call_suspects(board);
+}
+
+/* The youngest of these slots in `count`, of equal ages the lowest. Refused with BS_NULL_POINTER, and
+ * with BS_NO_PLACE where there is none. */
+static inline bs_reply bs_youngest(const bs_board *board, bs_slots slots) {
+  return board == NULL ? bs_null() : bs_call_youngest(board, slots);
+}
+
+/* Whether a set has a slot, of any number. */
+static inline bool bs_has(bs_slots slots, uint32_t slot) {
+  if (slot < 64) return (slots.low >> slot & 1) != 0;
+  return slot < BS_SLOTS && (slots.high >> (slot - 64) & 1) != 0;
+}
+
+/* ------------------------------------------------------------------------------------------------
+ * Texts.
+ */
+
+/* The name of a status, for a log; of a number that is none, "?". */
+static inline const char *bs_text(bs_status status) {
+  switch (status) {
+    case BS_DONE: return "Done";
+    case BS_NO_MEMORY: return "NoMemory";
+    case BS_NO_SUCH_NODE: return "NoSuchNode";
+    case BS_NO_SUCH_TXN: return "NoSuchTxn";
+    case BS_TXN_WAITING: return "TxnWaiting";
+    case BS_TXN_CONDEMNED: return "TxnCondemned";
+    case BS_BAD_MODE: return "BadMode";
+    case BS_NEED_PARENTS: return "NeedParents";
+    case BS_NOT_HELD: return "NotHeld";
+    case BS_HELD_CHILD: return "HeldChild";
+    case BS_WOULD_BLOCK: return "WouldBlock";
+    case BS_TOO_MANY_TXNS: return "TooManyTxns";
+    case BS_TOO_MANY_NODES: return "TooManyNodes";
+    case BS_BAD_PARENTS: return "BadParents";
+    case BS_NEED_EXCLUSIVE: return "NeedExclusive";
+    case BS_NOT_WAITING: return "NotWaiting";
+    case BS_NAME_TAKEN: return "NameTaken";
+    case BS_FILE_IN_USE: return "FileInUse";
+    case BS_BAD_KEYS: return "BadKeys";
+    case BS_WORN_OUT: return "WornOut";
+    case BS_BAD_LINE: return "BadLine";
+    case BS_CYCLE: return "Cycle";
+    case BS_WAITING: return "Waiting";
+    case BS_VICTIM: return "Victim";
+    case BS_NULL_POINTER: return "NullPointer";
+    case BS_NO_MANAGER: return "NoManager";
+    case BS_BAD_NUMBER: return "BadNumber";
+    case BS_IN_USE: return "InUse";
+    case BS_NO_PLACE: return "NoPlace";
+    default: return "?";
+  }
+}
+
+#ifdef __cplusplus
+}
+#endif
+
+#endif

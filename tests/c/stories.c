@@ -1,0 +1,584 @@
+/*
+ * Stories over the library, from the header alone: each is a function that ends the program with status 1
+ * at the first answer that is not as wanted, and else prints its name.
+ *
+ * It is linked with calls for memory that a story can have refused (run.sh), to see that a refused growth
+ * leaves everything as it was, and that each manager gives back what it took.
+ */
+#include "burlapslate.h"
+
+#include <stdio.h>
+#include <stdlib.h>
+
+static const char *story;
+static bs_notices told;
+
+static void wanted(bool holds, const char *what, int line) {
+  if (holds) return;
+  fprintf(stderr, "stories.c:%d: %s: not so: %s\n", line, story, what);
+  exit(1);
+}
+
+#define WANT(condition) wanted((condition), #condition, __LINE__)
+
+/* Which growth is refused, counted from now on; 0: none. And how many blocks are out. */
+static long refused_growth;
+static long blocks;
+
+void *__real_malloc(size_t size);
+void *__real_realloc(void *old, size_t size);
+void __real_free(void *block);
+void *__wrap_malloc(size_t size);
+void *__wrap_realloc(void *old, size_t size);
+void __wrap_free(void *block);
+
+static bool is_refused(void) {
+  return refused_growth > 0 && --refused_growth == 0;
+}
+
+void *__wrap_malloc(size_t size) {
+  void *block = is_refused() ? NULL : __real_malloc(size);
+  if (block != NULL) blocks++;
+  return block;
+}
+
+void *__wrap_realloc(void *old, size_t size) {
+  return is_refused() ? NULL : __real_realloc(old, size);
+}
+
+void __wrap_free(void *block) {
+  if (block != NULL) blocks--;
+  __real_free(block);
+}
+
+static bool same_node(bs_node a, bs_node b) {
+  return a.key == b.key && a.birth == b.birth;
+}
+
+static bool same_txn(bs_txn a, bs_txn b) {
+  return a.slot == b.slot && a.age == b.age;
+}
+
+/* A call must be done. */
+static bs_reply done(bs_reply reply, int line) {
+  if (reply.status != BS_DONE) fprintf(stderr, "answered: %s\n", bs_text(reply.status));
+  wanted(reply.status == BS_DONE, "Done", line);
+  return reply;
+}
+
+#define DONE(call) done((call), __LINE__)
+
+static bool is_told(size_t place, bs_txn txn, uint32_t kind) {
+  return place < told.count && same_txn(told.at[place].txn, txn) && told.at[place].kind == kind;
+}
+
+/* A manager with a root, and transactions over it. */
+static bs_manager begin_manager(uint32_t detect, bs_node *root) {
+  bs_manager m = BS_NO_MANAGER_HERE;
+  DONE(bs_make(&m, detect, BS_SLOTS));
+  *root = DONE(bs_add_inner(&m, NULL, 0)).node;
+  return m;
+}
+
+static bs_txn begin(bs_manager *m) {
+  return DONE(bs_begin(m)).txn;
+}
+
+/* A file under a root with one index of two intervals, parted at 100, and a record in each. */
+struct file {
+  bs_node root, file, index, below, above, low, high;
+};
+
+static struct file make_file(bs_manager *m, bs_node root) {
+  static const uint64_t bound = 100;
+  const uint64_t low = 50, high = 200;
+  struct file f;
+  bs_txn t = begin(m);
+  f.root = root;
+  f.file = DONE(bs_add_file(m, &root, 1)).node;
+  f.index = DONE(bs_add_index(m, &root, 1, f.file, &bound, 1)).node;
+  f.below = DONE(bs_interval(m, f.index, 0)).node;
+  f.above = DONE(bs_interval(m, f.index, 1)).node;
+  DONE(bs_lock(m, t, root, BS_IX, &told));
+  DONE(bs_lock(m, t, f.file, BS_IX, &told));
+  DONE(bs_lock(m, t, f.index, BS_IX, &told));
+  DONE(bs_lock(m, t, f.below, BS_IX, &told));
+  DONE(bs_lock(m, t, f.above, BS_IX, &told));
+  f.low = DONE(bs_insert(m, t, f.file, &low, 1)).node;
+  f.high = DONE(bs_insert(m, t, f.file, &high, 1)).node;
+  DONE(bs_commit(m, t, &told));
+  return f;
+}
+
+static void lock_path(bs_manager *m, bs_txn t, struct file f, bs_node interval) {
+  DONE(bs_lock(m, t, f.root, BS_IX, &told));
+  DONE(bs_lock(m, t, f.file, BS_IX, &told));
+  DONE(bs_lock(m, t, f.index, BS_IX, &told));
+  DONE(bs_lock(m, t, interval, BS_IX, &told));
+}
+
+static void modes_join(void) {
+  bs_node root;
+  bs_manager m = begin_manager(BS_AT_BLOCK, &root);
+  bs_txn a = begin(&m);
+  WANT(bs_try(&m, a, root, BS_IX).mode == BS_IX);
+  WANT(bs_try(&m, a, root, BS_S).mode == BS_SIX);
+  WANT(bs_group(&m, root).mode == BS_SIX);
+  DONE(bs_commit(&m, a, &told));
+  WANT(told.count == 0);
+  WANT(bs_group(&m, root).mode == BS_NL);
+  WANT(bs_accepted(&m).count == 5);
+  DONE(bs_end(&m));
+}
+
+static void a_commit_grants(void) {
+  bs_node root;
+  bs_manager m = begin_manager(BS_AT_BLOCK, &root);
+  bs_txn a = begin(&m), b = begin(&m), c = begin(&m);
+  bs_reply wait;
+  DONE(bs_lock(&m, a, root, BS_X, &told));
+  WANT(bs_lock(&m, b, root, BS_S, &told).status == BS_WAITING);
+  WANT(bs_lock(&m, c, root, BS_S, &told).status == BS_WAITING);
+  wait = bs_waiting(&m, b);
+  WANT(wait.status == BS_WAITING && wait.mode == BS_S && same_node(wait.node, root));
+  WANT(bs_lock(&m, b, root, BS_S, &told).status == BS_TXN_WAITING);
+  WANT(bs_try(&m, a, root, BS_X).status == BS_DONE);
+  DONE(bs_commit(&m, a, &told));
+  WANT(told.count == 2 && is_told(0, b, BS_TOLD_GRANTED) && is_told(1, c, BS_TOLD_GRANTED));
+  WANT(told.at[0].mode == BS_S && same_node(told.at[0].node, root));
+  WANT(bs_held(&m, b, root).mode == BS_S && bs_held(&m, c, root).mode == BS_S);
+  WANT(bs_waiting(&m, b).status == BS_NOT_WAITING);
+  DONE(bs_end(&m));
+}
+
+static void a_conversion_goes_ahead(void) {
+  bs_node root;
+  bs_manager m = begin_manager(BS_AT_BLOCK, &root);
+  bs_txn a = begin(&m), b = begin(&m), c = begin(&m);
+  DONE(bs_lock(&m, a, root, BS_S, &told));
+  DONE(bs_lock(&m, b, root, BS_S, &told));
+  WANT(bs_lock(&m, c, root, BS_X, &told).status == BS_WAITING);
+  WANT(bs_lock(&m, a, root, BS_X, &told).status == BS_WAITING);
+  DONE(bs_commit(&m, b, &told));
+  WANT(told.count == 1 && is_told(0, a, BS_TOLD_GRANTED) && told.at[0].mode == BS_X);
+  WANT(bs_held(&m, c, root).mode == BS_NL);
+  DONE(bs_cancel(&m, c, &told));
+  WANT(bs_cancel(&m, c, &told).status == BS_NOT_WAITING);
+  DONE(bs_end(&m));
+}
+
+static void a_deadlock_has_a_victim(void) {
+  bs_node root, left, right;
+  bs_manager m = begin_manager(BS_AT_BLOCK, &root);
+  bs_txn a = begin(&m), b = begin(&m);
+  left = DONE(bs_add_inner(&m, &root, 1)).node;
+  right = DONE(bs_add_inner(&m, &root, 1)).node;
+  DONE(bs_lock(&m, a, root, BS_IX, &told));
+  DONE(bs_lock(&m, b, root, BS_IX, &told));
+  DONE(bs_lock(&m, a, left, BS_X, &told));
+  DONE(bs_lock(&m, b, right, BS_X, &told));
+  WANT(bs_lock(&m, a, right, BS_X, &told).status == BS_WAITING);
+  WANT(bs_lock(&m, b, left, BS_X, &told).status == BS_VICTIM);
+  WANT(told.count == 0);
+  WANT(bs_commit(&m, b, &told).status == BS_TXN_CONDEMNED);
+  WANT(bs_held(&m, b, right).mode == BS_X);
+  DONE(bs_abort(&m, b, &told));
+  WANT(told.count == 1 && is_told(0, a, BS_TOLD_GRANTED));
+  DONE(bs_commit(&m, a, &told));
+  DONE(bs_end(&m));
+}
+
+static void an_older_asker_condemns_the_younger(void) {
+  bs_node root;
+  bs_manager m = begin_manager(BS_AT_BLOCK, &root);
+  bs_txn a = begin(&m), b = begin(&m);
+  DONE(bs_lock(&m, a, root, BS_S, &told));
+  DONE(bs_lock(&m, b, root, BS_S, &told));
+  WANT(bs_lock(&m, b, root, BS_X, &told).status == BS_WAITING);
+  WANT(bs_lock(&m, a, root, BS_X, &told).status == BS_WAITING);
+  WANT(told.count == 1 && is_told(0, b, BS_TOLD_VICTIM));
+  DONE(bs_abort(&m, b, &told));
+  WANT(told.count == 1 && is_told(0, a, BS_TOLD_GRANTED) && told.at[0].mode == BS_X);
+  DONE(bs_end(&m));
+}
+
+static void a_watcher_settles(void) {
+  bs_node root;
+  bs_manager m = begin_manager(BS_BY_WATCHER, &root);
+  bs_txn a = begin(&m), b = begin(&m);
+  WANT(bs_detect(&m).count == BS_BY_WATCHER);
+  DONE(bs_lock(&m, a, root, BS_S, &told));
+  DONE(bs_lock(&m, b, root, BS_S, &told));
+  WANT(bs_lock(&m, a, root, BS_X, &told).status == BS_WAITING);
+  WANT(bs_lock(&m, b, root, BS_X, &told).status == BS_WAITING);
+  WANT(told.count == 0);
+  DONE(bs_settle(&m, a, &told));
+  WANT(told.count == 1 && is_told(0, b, BS_TOLD_VICTIM));
+  DONE(bs_settle(&m, a, &told));
+  WANT(told.count == 0);
+  DONE(bs_end(&m));
+}
+
+static void the_rule_of_the_graph(void) {
+  bs_node root;
+  bs_manager m = begin_manager(BS_AT_BLOCK, &root);
+  struct file f = make_file(&m, root);
+  bs_txn a = begin(&m);
+  bs_reply reply = bs_lock(&m, a, f.file, BS_IS, &told);
+  WANT(reply.status == BS_NEED_PARENTS && same_node(reply.node, root));
+  DONE(bs_lock(&m, a, root, BS_IX, &told));
+  DONE(bs_lock(&m, a, f.file, BS_IX, &told));
+  WANT(bs_children(&m, a, root).count == 1);
+  reply = bs_unlock(&m, a, root, &told);
+  WANT(reply.status == BS_HELD_CHILD && same_node(reply.node, f.file));
+  WANT(bs_lock(&m, a, f.low, BS_IX, &told).status == BS_BAD_MODE);
+  reply = bs_lock(&m, a, f.low, BS_X, &told);
+  WANT(reply.status == BS_NEED_PARENTS && same_node(reply.node, f.below));
+  DONE(bs_unlock(&m, a, f.file, &told));
+  WANT(bs_unlock(&m, a, f.file, &told).status == BS_NOT_HELD);
+  DONE(bs_end(&m));
+}
+
+static void a_record_moves(void) {
+  bs_node root;
+  bs_manager m = begin_manager(BS_AT_BLOCK, &root);
+  struct file f = make_file(&m, root);
+  bs_txn a = begin(&m), b = begin(&m), c = begin(&m);
+  lock_path(&m, a, f, f.below);
+  DONE(bs_lock(&m, a, f.low, BS_X, &told));
+  WANT(bs_rekey(&m, a, f.low, f.index, 150, &told).status == BS_NEED_PARENTS);
+  DONE(bs_lock(&m, a, f.above, BS_IX, &told));
+  lock_path(&m, b, f, f.below);
+  WANT(bs_lock(&m, b, f.low, BS_X, &told).status == BS_WAITING);
+  DONE(bs_lock(&m, c, root, BS_IS, &told));
+  DONE(bs_lock(&m, c, f.file, BS_IS, &told));
+  WANT(bs_lock(&m, c, f.low, BS_S, &told).status == BS_WAITING);
+  DONE(bs_rekey(&m, a, f.low, f.index, 150, &told));
+  WANT(told.count == 1 && is_told(0, b, BS_TOLD_MOVED));
+  WANT(bs_key(&m, f.low, 0).count == 150);
+  WANT(same_node(bs_parent(&m, f.low, 0).node, f.file) && same_node(bs_parent(&m, f.low, 1).node, f.above));
+  DONE(bs_commit(&m, a, &told));
+  WANT(told.count == 1 && is_told(0, c, BS_TOLD_GRANTED) && told.at[0].mode == BS_S);
+  DONE(bs_end(&m));
+}
+
+static void a_record_goes(void) {
+  bs_node root;
+  bs_manager m = begin_manager(BS_AT_BLOCK, &root);
+  struct file f = make_file(&m, root);
+  bs_txn a = begin(&m), b = begin(&m);
+  lock_path(&m, a, f, f.below);
+  WANT(bs_delete(&m, a, f.low, &told).status == BS_NEED_EXCLUSIVE);
+  DONE(bs_lock(&m, a, f.low, BS_X, &told));
+  DONE(bs_lock(&m, b, root, BS_IS, &told));
+  DONE(bs_lock(&m, b, f.file, BS_IS, &told));
+  WANT(bs_lock(&m, b, f.low, BS_S, &told).status == BS_WAITING);
+  DONE(bs_delete(&m, a, f.low, &told));
+  WANT(told.count == 1 && is_told(0, b, BS_TOLD_GONE));
+  WANT(bs_held(&m, b, f.low).status == BS_NO_SUCH_NODE);
+  WANT(bs_kind(&m, f.low).status == BS_NO_SUCH_NODE);
+  WANT(bs_has_records(&m, f.file).count == 1);
+  DONE(bs_end(&m));
+}
+
+static void an_escalation(void) {
+  bs_node root;
+  bs_manager m = begin_manager(BS_AT_BLOCK, &root);
+  struct file f = make_file(&m, root);
+  bs_txn a = begin(&m);
+  bs_reply reply;
+  DONE(bs_lock(&m, a, root, BS_IX, &told));
+  DONE(bs_lock(&m, a, f.file, BS_IX, &told));
+  DONE(bs_lock(&m, a, f.index, BS_IX, &told));
+  DONE(bs_lock(&m, a, f.below, BS_X, &told));
+  DONE(bs_lock(&m, a, f.above, BS_IX, &told));
+  DONE(bs_lock(&m, a, f.low, BS_X, &told));
+  DONE(bs_lock(&m, a, f.high, BS_X, &told));
+  reply = DONE(bs_escalate(&m, a, f.file, &told));
+  WANT(reply.mode == BS_X && reply.released == 1 && reply.kept == 1);
+  WANT(bs_held(&m, a, f.low).mode == BS_NL && bs_effective(&m, a, f.low).mode == BS_X);
+  WANT(bs_held(&m, a, f.high).mode == BS_X);
+  DONE(bs_end(&m));
+}
+
+static void a_file_moves(void) {
+  bs_node root, other;
+  bs_manager m = begin_manager(BS_AT_BLOCK, &root);
+  struct file f = make_file(&m, root);
+  bs_txn a = begin(&m);
+  other = DONE(bs_add_inner(&m, &root, 1)).node;
+  DONE(bs_lock(&m, a, root, BS_IX, &told));
+  DONE(bs_lock(&m, a, f.file, BS_X, &told));
+  WANT(bs_move(&m, a, f.file, &other, 1, &told).status == BS_NEED_PARENTS);
+  DONE(bs_lock(&m, a, other, BS_X, &told));
+  DONE(bs_move(&m, a, f.file, &other, 1, &told));
+  WANT(same_node(bs_parent(&m, f.file, 0).node, other));
+  WANT(bs_parent(&m, f.file, 1).status == BS_NO_PLACE);
+  WANT(bs_move(&m, a, other, &other, 1, &told).status == BS_CYCLE);
+  WANT(bs_move(&m, a, f.file, NULL, 0, &told).status == BS_BAD_PARENTS);
+  DONE(bs_end(&m));
+}
+
+static void questions(void) {
+  bs_node root;
+  bs_manager m = begin_manager(BS_AT_BLOCK, &root);
+  struct file f = make_file(&m, root);
+  WANT(bs_kind(&m, root).count == BS_INNER && bs_kind(&m, f.file).count == BS_FILE);
+  WANT(bs_kind(&m, f.index).count == BS_INDEX && bs_kind(&m, f.below).count == BS_INTERVAL);
+  WANT(bs_kind(&m, f.low).count == BS_RECORD);
+  WANT(same_node(bs_index(&m, f.file, 0).node, f.index) && bs_index(&m, f.file, 1).status == BS_NO_PLACE);
+  WANT(bs_index(&m, root, 0).status == BS_NO_SUCH_NODE);
+  WANT(same_node(bs_interval_of(&m, f.index, 99).node, f.below));
+  WANT(same_node(bs_interval_of(&m, f.index, 100).node, f.above));
+  WANT(bs_interval_of(&m, f.file, 0).status == BS_NO_SUCH_NODE);
+  WANT(bs_place(&m, f.above).count == 1 && bs_place(&m, f.index).status == BS_NO_SUCH_NODE);
+  WANT(bs_interval(&m, f.index, 2).status == BS_NO_PLACE);
+  WANT(bs_key(&m, f.high, 0).count == 200 && bs_key(&m, f.high, 1).status == BS_NO_PLACE);
+  WANT(bs_has_records(&m, f.file).count == 1 && bs_has_records(&m, f.index).status == BS_NO_SUCH_NODE);
+  WANT(bs_len(&m).count == 7);
+  DONE(bs_end(&m));
+}
+
+static void stale_names(void) {
+  bs_node root, nothing = { 0, 0 }, made_up = { (size_t)-1, UINT64_MAX };
+  bs_txn nobody = { 0, 0 }, beyond = { 255, 1 };
+  bs_manager m = begin_manager(BS_AT_BLOCK, &root);
+  bs_txn a = begin(&m), b;
+  DONE(bs_lock(&m, a, root, BS_X, &told));
+  DONE(bs_commit(&m, a, &told));
+  b = begin(&m);
+  WANT(b.slot == a.slot && b.age != a.age);
+  WANT(bs_lock(&m, a, root, BS_S, &told).status == BS_NO_SUCH_TXN);
+  WANT(bs_abort(&m, a, &told).status == BS_NO_SUCH_TXN);
+  WANT(bs_lock(&m, nobody, root, BS_S, &told).status == BS_NO_SUCH_TXN);
+  WANT(bs_lock(&m, beyond, root, BS_S, &told).status == BS_NO_SUCH_TXN);
+  WANT(bs_lock(&m, b, nothing, BS_S, &told).status == BS_NO_SUCH_NODE);
+  WANT(bs_lock(&m, b, made_up, BS_S, &told).status == BS_NO_SUCH_NODE);
+  WANT(bs_add_inner(&m, &made_up, 1).status == BS_NO_SUCH_NODE);
+  WANT(bs_accepted(&m).count == 5);
+  DONE(bs_end(&m));
+}
+
+static void numbers_out_of_range(void) {
+  bs_node root, many[9] = { { 0, 0 }, { 0, 0 }, { 0, 0 }, { 0, 0 }, { 0, 0 }, { 0, 0 }, { 0, 0 }, { 0, 0 }, { 0, 0 } };
+  bs_manager none = BS_NO_MANAGER_HERE;
+  bs_manager m = begin_manager(BS_AT_BLOCK, &root);
+  bs_txn a = begin(&m);
+  WANT(bs_make(&none, 2, 1).status == BS_BAD_NUMBER);
+  WANT(bs_make(&none, BS_AT_BLOCK, 0).status == BS_BAD_NUMBER);
+  WANT(bs_make(&none, BS_AT_BLOCK, 129).status == BS_BAD_NUMBER);
+  WANT(bs_lock(&m, a, root, 6, &told).status == BS_BAD_NUMBER);
+  WANT(bs_try(&m, a, root, UINT32_MAX).status == BS_BAD_NUMBER);
+  WANT(bs_lock(&m, a, root, BS_NL, &told).status == BS_BAD_MODE);
+  WANT(bs_add_inner(&m, many, 9).status == BS_BAD_NUMBER);
+  WANT(bs_move(&m, a, root, many, 9, &told).status == BS_BAD_NUMBER);
+  DONE(bs_end(&m));
+}
+
+static void places_without_a_manager(void) {
+  bs_node root;
+  bs_manager never = BS_NO_MANAGER_HERE, m = begin_manager(BS_AT_BLOCK, &root);
+  bs_txn a = begin(&m);
+  WANT(bs_begin(&never).status == BS_NO_MANAGER && bs_len(&never).status == BS_NO_MANAGER);
+  WANT(bs_end(&never).status == BS_NO_MANAGER);
+  WANT(bs_make(&m, BS_AT_BLOCK, 1).status == BS_IN_USE);
+  DONE(bs_lock(&m, a, root, BS_X, &told));
+  DONE(bs_end(&m));
+  WANT(bs_end(&m).status == BS_NO_MANAGER);
+  told.count = 1;
+  WANT(bs_commit(&m, a, &told).status == BS_NO_MANAGER && told.count == 0);
+  WANT(bs_held(&m, a, root).status == BS_NO_MANAGER);
+  DONE(bs_make(&m, BS_AT_BLOCK, 1));
+  WANT(bs_lock(&m, a, root, BS_X, &told).status == BS_NO_SUCH_TXN);
+  begin(&m);
+  WANT(bs_begin(&m).status == BS_TOO_MANY_TXNS);
+  DONE(bs_end(&m));
+}
+
+static void null_pointers(void) {
+  bs_node root;
+  bs_manager m = begin_manager(BS_AT_BLOCK, &root);
+  bs_txn a = begin(&m);
+  WANT(bs_make(NULL, BS_AT_BLOCK, 1).status == BS_NULL_POINTER && bs_end(NULL).status == BS_NULL_POINTER);
+  WANT(bs_begin(NULL).status == BS_NULL_POINTER && bs_len(NULL).status == BS_NULL_POINTER);
+  WANT(bs_lock(&m, a, root, BS_X, NULL).status == BS_NULL_POINTER);
+  WANT(bs_held(&m, a, root).mode == BS_NL);
+  told.count = 1;
+  WANT(bs_commit(NULL, a, &told).status == BS_NULL_POINTER && told.count == 0);
+  WANT(bs_commit(&m, a, NULL).status == BS_NULL_POINTER);
+  WANT(bs_add_file(&m, NULL, 1).status == BS_NULL_POINTER && bs_add_file(&m, NULL, 0).status == BS_BAD_PARENTS);
+  WANT(bs_add_index(&m, &root, 1, root, NULL, 1).status == BS_NULL_POINTER);
+  WANT(bs_insert(&m, a, root, NULL, 1).status == BS_NULL_POINTER);
+  WANT(bs_move(&m, a, root, NULL, 1, &told).status == BS_NULL_POINTER);
+  DONE(bs_end(&m));
+}
+
+static void everybody_is_told(void) {
+  bs_node root;
+  bs_manager m = begin_manager(BS_AT_BLOCK, &root);
+  bs_txn all[BS_SLOTS];
+  size_t i;
+  for (i = 0; i < BS_SLOTS; i++) all[i] = begin(&m);
+  WANT(bs_begin(&m).status == BS_TOO_MANY_TXNS);
+  DONE(bs_lock(&m, all[0], root, BS_X, &told));
+  for (i = 1; i < BS_SLOTS; i++) WANT(bs_lock(&m, all[i], root, BS_IS, &told).status == BS_WAITING);
+  DONE(bs_commit(&m, all[0], &told));
+  WANT(told.count == BS_SLOTS - 1);
+  for (i = 1; i < BS_SLOTS; i++) WANT(is_told(i - 1, all[i], BS_TOLD_GRANTED) && told.at[i - 1].mode == BS_IS);
+  DONE(bs_end(&m));
+}
+
+/* A call whose growth is refused changes nothing, and is done when it is asked again. */
+static bs_node made_in_spite(bs_manager *m, bs_node root) {
+  uint64_t before = bs_accepted(m).count, nodes = bs_len(m).count;
+  bs_reply made = bs_add_inner(m, &root, 1);
+  if (made.status == BS_NO_MEMORY) {
+    WANT(bs_accepted(m).count == before && bs_len(m).count == nodes);
+    made = bs_add_inner(m, &root, 1);
+  }
+  return DONE(made).node;
+}
+
+static void locked_in_spite(bs_manager *m, bs_txn t, bs_node node) {
+  uint64_t before = bs_accepted(m).count;
+  bs_reply locked = bs_lock(m, t, node, BS_X, &told);
+  if (locked.status == BS_NO_MEMORY) {
+    WANT(bs_accepted(m).count == before && bs_held(m, t, node).mode == BS_NL && told.count == 0);
+    locked = bs_lock(m, t, node, BS_X, &told);
+  }
+  DONE(locked);
+}
+
+/* Whether there is an nth growth, which is refused. */
+static bool refuses(long n) {
+  bs_node root;
+  bs_manager m = begin_manager(BS_AT_BLOCK, &root);
+  bs_txn a = begin(&m);
+  bool refused;
+  int i;
+  DONE(bs_lock(&m, a, root, BS_IX, &told));
+  refused_growth = n;
+  for (i = 0; i < 40; i++) locked_in_spite(&m, a, made_in_spite(&m, root));
+  refused = refused_growth == 0;
+  refused_growth = 0;
+  DONE(bs_commit(&m, a, &told));
+  DONE(bs_end(&m));
+  return refused;
+}
+
+static void refused_growths(void) {
+  long n = 1;
+  while (refuses(n)) n++;
+  WANT(n > 4);
+}
+
+static void refused_managers(void) {
+  long n;
+  bs_reply made = { BS_NO_MEMORY, BS_NL, { 0, 0 }, { 0, 0 }, 0, 0, 0 };
+  for (n = 1; made.status == BS_NO_MEMORY; n++) {
+    bs_manager m = BS_NO_MANAGER_HERE;
+    refused_growth = n;
+    made = bs_make(&m, BS_AT_BLOCK, 128);
+    refused_growth = 0;
+    WANT(bs_begin(&m).status == (made.status == BS_DONE ? BS_DONE : BS_NO_MANAGER));
+    WANT(bs_end(&m).status == made.status || made.status == BS_NO_MEMORY);
+  }
+  WANT(made.status == BS_DONE && n > 2);
+}
+
+static void a_board_shows_a_circle(void) {
+  static bs_board board;
+  bs_node root;
+  bs_manager m = begin_manager(BS_BY_WATCHER, &root);
+  bs_txn a = begin(&m), b = begin(&m), c = begin(&m), victim;
+  bs_found found;
+  bs_reply youngest;
+  uint32_t slot;
+  DONE(bs_read_board(&m, &board));
+  WANT(board.epoch == 4 && board.ages[a.slot] == a.age && board.ages[127] == 0);
+  found = bs_suspects(&board);
+  WANT(found.status == BS_DONE && found.slots.low == 0 && found.slots.high == 0);
+  WANT(bs_youngest(&board, found.slots).status == BS_NO_PLACE);
+  DONE(bs_lock(&m, a, root, BS_S, &told));
+  DONE(bs_lock(&m, b, root, BS_S, &told));
+  WANT(bs_lock(&m, c, root, BS_X, &told).status == BS_WAITING);
+  WANT(bs_lock(&m, a, root, BS_X, &told).status == BS_WAITING);
+  WANT(bs_lock(&m, b, root, BS_X, &told).status == BS_WAITING);
+  WANT(bs_has(board.rows[a.slot], b.slot) == false);
+  DONE(bs_read_board(&m, &board));
+  WANT(bs_has(board.rows[a.slot], b.slot) && bs_has(board.rows[c.slot], a.slot));
+  found = bs_on_cycle(&board, a.slot);
+  for (slot = 0; slot < 200; slot++) WANT(bs_has(found.slots, slot) == (slot == a.slot || slot == b.slot));
+  WANT(bs_on_cycle(&board, c.slot).slots.low == 0);
+  WANT(bs_suspects(&board).slots.low == found.slots.low && bs_suspects(&board).slots.high == 0);
+  youngest = DONE(bs_youngest(&board, found.slots));
+  WANT(youngest.count == b.slot);
+  victim.slot = (uint8_t)youngest.count;
+  victim.age = board.ages[youngest.count];
+  DONE(bs_settle(&m, victim, &told));
+  WANT(told.count == 1 && is_told(0, b, BS_TOLD_VICTIM));
+  WANT(bs_on_cycle(&board, 128).status == BS_BAD_NUMBER);
+  WANT(bs_on_cycle(NULL, 0).status == BS_NULL_POINTER && bs_suspects(NULL).status == BS_NULL_POINTER);
+  WANT(bs_youngest(NULL, found.slots).status == BS_NULL_POINTER);
+  WANT(bs_read_board(&m, NULL).status == BS_NULL_POINTER);
+  DONE(bs_end(&m));
+  WANT(bs_read_board(&m, &board).status == BS_NO_MANAGER);
+}
+
+/* A board is read whole: in a ring of 128 each waits for the next, beyond the first 64 too. */
+static void a_ring_of_all(void) {
+  static bs_board board;
+  bs_node root, nodes[BS_SLOTS];
+  bs_manager m = begin_manager(BS_BY_WATCHER, &root);
+  bs_txn all[BS_SLOTS];
+  bs_found found;
+  size_t i;
+  for (i = 0; i < BS_SLOTS; i++) {
+    all[i] = begin(&m);
+    nodes[i] = DONE(bs_add_inner(&m, NULL, 0)).node;
+    DONE(bs_lock(&m, all[i], nodes[i], BS_X, &told));
+  }
+  for (i = 0; i < BS_SLOTS; i++) WANT(bs_lock(&m, all[i], nodes[(i + 1) % BS_SLOTS], BS_X, &told).status == BS_WAITING);
+  DONE(bs_read_board(&m, &board));
+  found = bs_suspects(&board);
+  WANT(found.slots.low == UINT64_MAX && found.slots.high == UINT64_MAX);
+  WANT(bs_has(board.rows[100], 101) && !bs_has(board.rows[100], 37) && bs_has(board.rows[127], 0));
+  WANT(bs_youngest(&board, found.slots).count == all[127].slot);
+  DONE(bs_end(&m));
+}
+
+static void tell(const char *name, void (*play)(void)) {
+  long before = blocks;
+  story = name;
+  play();
+  WANT(blocks == before);
+  printf("%s\n", name);
+}
+
+#define TELL(name) tell(#name, name)
+
+int main(void) {
+  setvbuf(stdout, NULL, _IONBF, 0);
+  TELL(modes_join);
+  TELL(a_commit_grants);
+  TELL(a_conversion_goes_ahead);
+  TELL(a_deadlock_has_a_victim);
+  TELL(an_older_asker_condemns_the_younger);
+  TELL(a_watcher_settles);
+  TELL(a_board_shows_a_circle);
+  TELL(a_ring_of_all);
+  TELL(the_rule_of_the_graph);
+  TELL(a_record_moves);
+  TELL(a_record_goes);
+  TELL(an_escalation);
+  TELL(a_file_moves);
+  TELL(questions);
+  TELL(stale_names);
+  TELL(numbers_out_of_range);
+  TELL(places_without_a_manager);
+  TELL(null_pointers);
+  TELL(everybody_is_told);
+  TELL(refused_growths);
+  TELL(refused_managers);
+  return 0;
+}
