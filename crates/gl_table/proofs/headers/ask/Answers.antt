@@ -1,11 +1,11 @@
-use Rattle.std.specs.Prelude.{◌≡◌, true, false, IsOk, None, OnErr, OnOk, Option, if◌then◌else◌, unwrap_or}
-use Rattle.std.proofs.Common.{Some, [], ap, ap₂, refl, rules, subst, sym, ◌∙◌}
+use Rattle.std.specs.Prelude.{◌≡◌, IsOk, None, OnErr, OnOk, unwrap_or}
+use Rattle.std.proofs.Common.{Some, [], ap, ap₂, rules, ◌∙◌}
 use Rattle.std.proofs.lemmas.Result.{on_err_weaker, on_ok_weaker}
 use Rattle.indexmap.specs.Entry.{map_with_value}
 use Rattle.gl_modes.specs.Modes.{supremum}
 use Rattle.gl_modes.specs.Nodes.{same_node}
 use Rattle.gl_header.specs.Header.{enters}
-use Rattle.gl_header.specs.State.{HeaderState, is_granted, is_unused, slot_limit}
+use Rattle.gl_header.specs.State.{is_granted, slot_limit}
 use Rattle.gl_header.proofs.Unused.{unused-nobody}
 use Rattle.gl_table.specs.Headers.{header_at, header_or_new}
 use Rattle.gl_table.proofs.HeaderAsks.{IsAsked, asked-granted, asked-on_ok, asked-used, asked-waits, by_answer}

@@ -1,13 +1,10 @@
 use Rattle.std.specs.Prelude.{◌≡◌}
-use Rattle.std.proofs.Common.{ap, ap₂, sym, ◌∙◌}
+use Rattle.std.proofs.Common.{ap₂, sym, ◌∙◌}
 use Rattle.std.proofs.Math.Path.{fun_ext}
 use Rattle.gl_modes.specs.declared.mode.Mode.{Mode}
 use Rattle.gl_modes.specs.declared.mode.Mode.TheVariants.{NL}
 use Rattle.gl_modes.specs.declared.node.NodeId.{NodeId}
-use Rattle.gl_modes.specs.Modes.{supremum}
-use Rattle.gl_graph.specs.Graph.{parents_of}
 use Rattle.gl_graph.specs.Refusals.{verdict}
-use Rattle.gl_graph.specs.View.{graph_of}
 use Rattle.gl_table.specs.Lists.{mode_of}
 use Rattle.gl_table.specs.Refusals.{rule_refusal}
 use Rattle.gl_table.specs.Slots.{held_by}

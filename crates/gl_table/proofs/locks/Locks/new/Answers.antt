@@ -1,4 +1,4 @@
-use Rattle.std.specs.Prelude.{◌≡◌, None, [], ◌∷◌, ◌++◌, ◌+◌, length, replicate, ℕ}
+use Rattle.std.specs.Prelude.{◌≡◌, ◌+◌, length, ℕ}
 use Rattle.std.proofs.Common.{ap, arith, sym, subst, ◌∙◌}
 use Rattle.gl_table.proofs.NewLists.{AreBare, bare-apart, bare-counts, bare-listed, bare-modes, bare-more, length-more}
 use Rattle.gl_table.proofs.locks.Locks.new.Goals as goal

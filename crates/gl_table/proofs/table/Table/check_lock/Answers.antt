@@ -1,11 +1,9 @@
-use Rattle.std.specs.Prelude.{◌≡◌, Err, None, Ok, Option}
+use Rattle.std.specs.Prelude.{◌≡◌}
 use Rattle.std.proofs.Common.{ap, ap₂, rules, sym, ◌∙◌}
-use Rattle.gl_modes.specs.declared.mode.Mode.{Mode}
-use Rattle.gl_modes.specs.declared.refusal.Refusal.{Refusal}
 use Rattle.gl_modes.specs.declared.refusal.Refusal.TheVariants as no
 use Rattle.gl_modes.specs.Modes.{supremum}
 use Rattle.gl_graph.specs.Graph.{parents_of}
-use Rattle.gl_graph.specs.Refusals.{first_refusal, verdict, where_true}
+use Rattle.gl_graph.specs.Refusals.{first_refusal, where_true}
 use Rattle.gl_graph.specs.View.{graph_of}
 use Rattle.gl_table.specs.Answers.{answered}
 use Rattle.gl_table.specs.Refusals.{lock_tests, rule_refusal}
