@@ -147,11 +147,8 @@ is_ready g l l' t n m held now may enters held_is made = record {
     may_now : MayAsk g l' t
     may_now = room-may_ask g l l' t (not (held && now)) made may
 
--- what the header of a node says of an ask: whether it is granted at once
-abbrev pub says_at : Locks → ℕ → NodeId → Mode → Bool
-says_at l t n m = is_granted_at l.headers.entries t n m
-
-pub says_is : (g : Graph) (l : Locks) (t : ℕ) (n : NodeId) (m : Mode) → MayAsk g l t → says_at l t n m ≡ enters_at (state_on g l) t n m
+-- what the header of a node says of an ask is what the state says
+pub says_is : (g : Graph) (l : Locks) (t : ℕ) (n : NodeId) (m : Mode) → MayAsk g l t → is_granted_at l.headers.entries t n m ≡ enters_at (state_on g l) t n m
 says_is g l t n m may = sym (enters-most (state_on g l) may.orderly may.sound.few t n (wanted (state_on g l) t n m))
 
 -- room was made in the lists alone
@@ -168,10 +165,10 @@ module _ (g : Graph) (l l' : Locks) (t : ℕ) (may : MayAsk g l t) (rest : l' �
   pub roomy_same : state_on g l' ≡ state_on g l
   roomy_same = room-state g l l' t false none_wanted
 
-  pub roomy_says : (n : NodeId) (m : Mode) → says_at l' t n m ≡ enters_at (state_on g l) t n m
+  pub roomy_says : (n : NodeId) (m : Mode) → is_granted_at l'.headers.entries t n m ≡ enters_at (state_on g l) t n m
   roomy_says n m = says_is g l' t n m roomy_may ∙ ap (λ s. enters_at s t n m) roomy_same
 
   -- so the ask can be carried out, whatever it comes to
-  pub roomy_ready : (n : NodeId) (m : Mode) (held now : Bool) → held ≡ holds (members (state_on g l) n) t → enters_at (state_on g l) t n m ≡ now → ((held && says_at l t n m) ≡ false → HasRoomAt l'.lists.items t) → IsReady g l l' t n m held now
+  pub roomy_ready : (n : NodeId) (m : Mode) (held now : Bool) → held ≡ holds (members (state_on g l) n) t → enters_at (state_on g l) t n m ≡ now → ((held && is_granted_at l.headers.entries t n m) ≡ false → HasRoomAt l'.lists.items t) → IsReady g l l' t n m held now
   roomy_ready n m held now is at room =
       is_ready g l l' t n m held now may at is (only_room (not (held && now)) (λ e. room (ap (λ b. held && b) (says_is g l t n m may ∙ at) ∙ not-true (held && now) e)))

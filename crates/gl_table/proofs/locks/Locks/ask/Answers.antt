@@ -15,11 +15,11 @@ use Rattle.gl_header.specs.declared.header.Asked.TheVariants as asked
 use Rattle.gl_header.specs.Header.{holds}
 use Rattle.gl_table.specs.Answers.{asked_at}
 use Rattle.gl_table.specs.Calls.{enters_at, wanted}
-use Rattle.gl_table.specs.Headers.{held_of}
+use Rattle.gl_table.specs.Headers.{held_of, is_granted_at}
 use Rattle.gl_table.specs.Lists.{count_of, mode_of, unlisted}
 use Rattle.gl_table.specs.Locks.{Agrees, state_on}
 use Rattle.gl_table.specs.State.{members}
-use Rattle.gl_table.proofs.Asks.{MayAsk, own-apart, own-few, own-listed, own-mode, own-room, parents-room, roomy_may, roomy_ready, roomy_same, roomy_says, says_at, says_is, slot-listed, state-same}
+use Rattle.gl_table.proofs.Asks.{MayAsk, own-apart, own-few, own-listed, own-mode, own-room, parents-room, roomy_may, roomy_ready, roomy_same, roomy_says, says_is, slot-listed, state-same}
 use Rattle.gl_table.proofs.Enqueues.{HasWait, IsEnqueued, has_wait-set, is_enqueued}
 use Rattle.gl_table.proofs.Grants.{IsGranted, answer-enters, answer-waits, is_granted}
 use Rattle.gl_table.proofs.GrantKeeps.{nl_is}
@@ -46,14 +46,14 @@ may_now c = roomy_may (graph_of c.args.graph.now) c.args.self.now c.make_room_to
 same : (c : After-make_room_to_ask) → state_on (graph_of c.args.graph.now) c.make_room_to_ask.new.self ≡ state_on (graph_of c.args.graph.now) c.args.self.now
 same c = roomy_same (graph_of c.args.graph.now) c.args.self.now c.make_room_to_ask.new.self c.args.slot (may c) c.make_room_to_ask.ensures.rest c.make_room_to_ask.ensures.kept
 
-says : (c : After-make_room_to_ask) → says_at c.make_room_to_ask.new.self c.args.slot c.args.node c.args.mode ≡ enters_at (state_on (graph_of c.args.graph.now) c.args.self.now) c.args.slot c.args.node c.args.mode
+says : (c : After-make_room_to_ask) → is_granted_at c.make_room_to_ask.new.self.headers.entries c.args.slot c.args.node c.args.mode ≡ enters_at (state_on (graph_of c.args.graph.now) c.args.self.now) c.args.slot c.args.node c.args.mode
 says c = roomy_says (graph_of c.args.graph.now) c.args.self.now c.make_room_to_ask.new.self c.args.slot (may c) c.make_room_to_ask.ensures.rest c.make_room_to_ask.ensures.kept c.args.node c.args.mode
 
 member_now : (c : After-make_room_to_ask) → holds (members (state_on (graph_of c.args.graph.now) c.make_room_to_ask.new.self) c.args.node) c.args.slot ≡ c.ne-is_member.result
 member_now c = ap (λ s. holds (members s c.args.node) c.args.slot) (same c) ∙ sym (member_is c)
 
 -- the answer of the header is that of the state
-answer_is : (c : After-make_room_to_ask) (a : Asked) → a ≡ (if says_at c.make_room_to_ask.new.self c.args.slot c.args.node c.args.mode then asked.Granted (supremum (held_of c.make_room_to_ask.new.self.headers.entries c.args.slot c.args.node) c.args.mode) else asked.Waiting)
+answer_is : (c : After-make_room_to_ask) (a : Asked) → a ≡ (if is_granted_at c.make_room_to_ask.new.self.headers.entries c.args.slot c.args.node c.args.mode then asked.Granted (supremum (held_of c.make_room_to_ask.new.self.headers.entries c.args.slot c.args.node) c.args.mode) else asked.Waiting)
     → a ≡ asked_at (state_on (graph_of c.args.graph.now) c.args.self.now) c.args.slot c.args.node c.args.mode
 answer_is c a e = e ∙ ap₂ (λ b w. if b then asked.Granted w else asked.Waiting) (says c) (ap (λ s. wanted s c.args.slot c.args.node c.args.mode) (same c))
 
@@ -96,13 +96,13 @@ enter-requires-clause-new c =
 pub enter-requires-clause-room : goal.enter-requires-clause-room
 enter-requires-clause-room c =
     (own-room (graph_of c.args.graph.now) c.make_room_to_ask.new.self c.args.slot (may_now (goal.at.enter-requires-clause-room c).After-make_room_to_ask) c.index_mut-list.result.now c.index_mut-list.ensures.value
-    (c.in_ok-make_room_to_ask.ensures.room (ap (λ b. b && says_at c.args.self.now c.args.slot c.args.node c.args.mode) c.if-is_member.false))).0
+    (c.in_ok-make_room_to_ask.ensures.room (ap (λ b. b && is_granted_at c.args.self.now.headers.entries c.args.slot c.args.node c.args.mode) c.if-is_member.false))).0
 
 pub count_up-requires-clause-room : goal.count_up-requires-clause-room
 count_up-requires-clause-room c =
     let x = c.index_mut-list.result.now in
     let room = (own-room (graph_of c.args.graph.now) c.make_room_to_ask.new.self c.args.slot (may_now (goal.at.count_up-requires-clause-room c).After-make_room_to_ask) x c.index_mut-list.ensures.value
-    (c.in_ok-make_room_to_ask.ensures.room (ap (λ b. b && says_at c.args.self.now c.args.slot c.args.node c.args.mode) c.if-is_member.false))).1 in
+    (c.in_ok-make_room_to_ask.ensures.room (ap (λ b. b && is_granted_at c.args.self.now.headers.entries c.args.slot c.args.node c.args.mode) c.if-is_member.false))).1 in
     let kept = c.enter.ensures.room in
     subst (λ ps. unlisted c.enter.new.self ps ≤ spare c.enter.new.self.loose) (sym c.parents.ensures) (parents-room (graph_of c.args.graph.now) c.law.ensures.lawful c.args.node c.enter.new.self (omega arith))
 
@@ -125,7 +125,7 @@ enter-requires-then-not-is_member-clause-new c =
 pub enter-requires-then-not-is_member-clause-room : goal.enter-requires-then-not-is_member-clause-room
 enter-requires-then-not-is_member-clause-room c =
     (own-room (graph_of c.args.graph.now) c.make_room_to_ask.new.self c.args.slot (may_now (goal.at.enter-requires-then-not-is_member-clause-room c).After-make_room_to_ask) c.index_mut-list.result.now c.index_mut-list.ensures.value
-    (c.in_ok-make_room_to_ask.ensures.room (ap (λ b. b && says_at c.args.self.now c.args.slot c.args.node c.args.mode) c.if-not-is_member.true))).0
+    (c.in_ok-make_room_to_ask.ensures.room (ap (λ b. b && is_granted_at c.args.self.now.headers.entries c.args.slot c.args.node c.args.mode) c.if-not-is_member.true))).0
 
 -- a conversion is granted: its list has the mode
 put_raised : (c : After-set_mode) → MayAsk (graph_of c.args.graph.now) c.args.self.now c.args.slot → c.ne-is_member.result ≡ holds (members (state_on (graph_of c.args.graph.now) c.args.self.now) c.args.node) c.args.slot
@@ -160,7 +160,7 @@ put_new c m held = let g = graph_of c.args.graph.now in let l = c.make_room_to_a
 
 -- the list of one who waits has the node
 listed : (c : After-set_status) → MayAsk (graph_of c.args.graph.now) c.make_room_to_ask.new.self c.args.slot
-    → holds (members (state_on (graph_of c.args.graph.now) c.make_room_to_ask.new.self) c.args.node) c.args.slot ≡ c.ne-is_member.result → says_at c.args.self.now c.args.slot c.args.node c.args.mode ≡ false
+    → holds (members (state_on (graph_of c.args.graph.now) c.make_room_to_ask.new.self) c.args.node) c.args.slot ≡ c.ne-is_member.result → is_granted_at c.args.self.now.headers.entries c.args.slot c.args.node c.args.mode ≡ false
     → HasWait c.make_room_to_ask.new.self.lists.items c.if-not-is_member.self.lists.items c.args.slot c.args.node (held_of c.make_room_to_ask.new.self.headers.entries c.args.slot c.args.node)
 listed c m is blocked = let g = graph_of c.args.graph.now in let l = c.make_room_to_ask.new.self in let t = c.args.slot in let n = c.args.node in
     let x = c.index_mut-list.result.now in let at = c.index_mut-list.ensures.value in
