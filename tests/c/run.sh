@@ -2,8 +2,6 @@
 # run.sh: compiles the stories over the C library, runs them, and compiles the header as C++. Prints a line
 # for each story. Ends with status 1 where something is not as wanted; where there is no C compiler it
 # says so, and ends with status 0. CC and CXX name other compilers than cc and c++.
-#
-# The library is built first where it is not there; `rt` is to be found by PATH.
 set -uo pipefail
 top=$(cd "$(dirname "$0")/../.." && pwd) || exit 2
 compiler=${CC:-cc}
@@ -14,19 +12,12 @@ fi
 work=$(mktemp -d) || exit 2
 trap 'rm -rf "$work"' EXIT
 
-library=$top/crates/gl_c/out/libgl_c.a
-newer=$(find "$top/crates" -name out -prune -o -name '*.rt' -newer "$library" -print -quit 2>/dev/null)
-if [ ! -e "$library" ] || [ -n "$newer" ]; then
-  (cd "$top/crates/gl_c" && rt lib) >"$work/log" 2>&1 || { cat "$work/log" >&2; exit 1; }
-fi
-
-# What the library calls for memory lies beside the toolchain's own command.
-rt=$(command -v rt) || { echo "tests/c: rt is not found" >&2; exit 2; }
-heap=$(dirname "$(readlink -f "$rt")")/../c/liblibc_c.a
+mapfile -t libraries < <("$top/tools/c_library.sh" 2>"$work/log")
+[ "${#libraries[@]}" -eq 2 ] || { cat "$work/log" >&2; exit 1; }
 
 # shellcheck disable=SC2086 # CC may have words behind the name.
 $compiler -std=c99 -Wall -Wextra -Werror -O1 -I"$top/include" -o "$work/stories" "$top/tests/c/stories.c" \
-  "$library" "$heap" -Wl,--wrap=malloc,--wrap=realloc,--wrap=free || exit 1
+  "${libraries[@]}" -Wl,--wrap=malloc,--wrap=realloc,--wrap=free || exit 1
 timeout 60 "$work/stories" || exit 1
 
 plus=${CXX:-c++}
@@ -42,6 +33,6 @@ int main() {
 }
 END
 # shellcheck disable=SC2086 # The same of CXX.
-$plus -Wall -Wextra -Werror -I"$top/include" -o "$work/plus" "$work/plus.cc" "$library" "$heap" || exit 1
+$plus -Wall -Wextra -Werror -I"$top/include" -o "$work/plus" "$work/plus.cc" "${libraries[@]}" || exit 1
 timeout 60 "$work/plus" || exit 1
 echo "the_header_in_cpp"
