@@ -1,0 +1,131 @@
+#!/usr/bin/env bash
+# race.sh: what the same work costs through the library for C and through the lock subsystem of Berkeley DB.
+#
+#     bench/race.sh [ROUNDS]
+#
+# It prints a line for each piece of work: nanoseconds by ours, by theirs and their ratio, and where
+# valgrind's callgrind is at hand the same of instructions. A ratio is ours by theirs. Where Berkeley DB is
+# not at hand a line says so, and ours stands alone. CC names another compiler than cc. It ends with status 1
+# where an answer of either side is not as it should be: each is looked at, also in what is measured.
+#
+# Nanoseconds are of a round, of nine turns of ROUNDS rounds (50000 where none is given; fewer of what is
+# long) the best, and where there are threads the median; the sides play by turns. Instructions are of a
+# round too, the difference between two runs that differ in their rounds alone; of the commit, of that call
+# alone. Those of all threads are counted. Callgrind counts an instruction that repeats itself once for each
+# time, so the C library is told to clear and copy without them.
+#
+# Theirs is an environment with DB_INIT_LOCK, DB_PRIVATE and DB_CREATE, one partition, and names in the form
+# of its own page locks, which is the fastest that was found; it looks for deadlocks when a lock waits, as
+# ours does. It has DB_THREAD only where that is said, and where its callers wait, which takes two threads.
+# Where there is a choice it is measured with a locker that is kept for all transactions and with one for
+# each, and its lesser number is printed, of nanoseconds and of instructions each.
+#
+# - A short transaction is begin, intentions on a data base, an area and a file, a lock on a record, and
+#   commit: IX and X where it writes, IS and S where it reads. Each lock is a call; in one line theirs takes
+#   its four in one lock_vec, for which ours has no call. The others hold IX on all but the record. 128
+#   transactions can live with ours, so 127 others are the most.
+# - A wait and its grant: one holds a node in X, another asks for it and waits, and the first's commit grants
+#   it. A call of theirs that waits blocks its thread, so its round takes two: the lock goes to and fro, and
+#   a release and the next ask are one lock_vec. No call of ours blocks, so its round is three calls in one
+#   thread, begin, lock and commit; the time of that line compares it with a switch of threads. In another
+#   line ours has two threads as well, with a mutex, and a condition variable each, which is the same work;
+#   its time is mostly the switch.
+# - A deadlock of two: both hold a node in X and ask for the other's. The younger falls and aborts, and the
+#   older is granted and commits. Ours is in one thread, and in another line in two as theirs; both then meet
+#   at a barrier twice a round, on either side.
+# - The commit is that of 1,000 records in X and three nodes in IX. Taking them is not measured.
+# - The four threads do short transactions on records of their own; a round is one transaction of any of
+#   them. Ours has one mutex, held round each call. Theirs is measured likewise, without DB_THREAD, and with
+#   DB_THREAD and no mutex, with one partition and with as many as it takes by itself.
+set -uo pipefail
+top=$(cd "$(dirname "$0")/.." && pwd) || exit 2
+rounds=${1:-50000}
+compiler=${CC:-cc}
+if ! command -v "${compiler%% *}" >/dev/null; then
+  echo "race.sh: no C compiler: $compiler is not found" >&2
+  exit 2
+fi
+work=$(mktemp -d) || exit 2
+trap 'rm -rf "$work"' EXIT
+unrepeated=glibc.cpu.x86_rep_stosb_threshold=1000000:glibc.cpu.x86_rep_movsb_threshold=1000000
+
+# build: the program, with the side of Berkeley DB where a program over it can be linked.
+build() {
+  local sources=("$top"/bench/race/{main,ours,together}.c) with=()
+  mapfile -t libraries < <("$top/tools/c_library.sh" 2>"$work/log")
+  [ "${#libraries[@]}" -eq 2 ] || { cat "$work/log" >&2; return 1; }
+  printf '#include <db.h>\nint main(void) { return db_env_create(0, 0); }\n' >"$work/db.c"
+  # shellcheck disable=SC2086 # CC may have words behind the name.
+  if $compiler -o "$work/db" "$work/db.c" -ldb 2>/dev/null; then
+    sources+=("$top/bench/race/theirs.c")
+    with=(-DHAVE_DB -ldb)
+  else
+    echo "Berkeley DB is not at hand (db.h and -ldb): ours alone"
+  fi
+  # shellcheck disable=SC2086 # The same.
+  $compiler -std=c99 -Wall -Wextra -Werror -O2 -I"$top/include" -o "$work/race" "${sources[@]}" \
+    "${libraries[@]}" "${with[@]}" -pthread
+}
+
+# instructions WORD WAY ROUNDS: of one whole run; of the commit, of what is measured in it.
+instructions() {
+  local measured=()
+  [ "$1" != commit ] || measured=(--toggle-collect='measured*')
+  GLIBC_TUNABLES=$unrepeated timeout 300 valgrind --tool=callgrind --callgrind-out-file=/dev/null \
+    "${measured[@]}" "$work/race" play "$@" >"$work/log" 2>&1 || { cat "$work/log" >&2; return 1; }
+  sed -n 's/.*Collected : //p' "$work/log"
+}
+
+# each WORD WAY: the instructions of a round.
+each() {
+  local few=1000 many=3000 less more
+  [ "$1" != commit ] || { few=2 many=6; }
+  less=$(instructions "$1" "$2" "$few") && more=$(instructions "$1" "$2" "$many") || return 1
+  echo $(((more - less) / (many - few)))
+}
+
+# least WORD WAYS: the instructions of a round by theirs, in the way that takes fewest; "-" for no ways.
+least() {
+  local way count best=-
+  for ((way = 0; way < $2; way++)); do
+    count=$(each "$1" "$way") || return 1
+    [ "$best" != - ] && [ "$best" -le "$count" ] || best=$count
+  done
+  echo "$best"
+}
+
+# ratio OURS THEIRS: with two decimals; "-" where there is none.
+ratio() {
+  case "$1$2" in
+    *-*) echo - ;;
+    *) awk -v ours="$1" -v theirs="$2" 'BEGIN { printf "%.2f\n", theirs == 0 ? 0 : ours / theirs }' ;;
+  esac
+}
+
+# row TITLE OURS THEIRS RATIO [OURS THEIRS RATIO]
+row() {
+  local title=$1
+  shift
+  printf '%-42s' "$title"
+  printf '%9s' "$@"
+  echo
+}
+
+build || exit 1
+timeout 600 "$work/race" times "$rounds" >"$work/times" || exit 1
+"$work/race" lines >"$work/lines" || exit 1
+if command -v valgrind >/dev/null; then
+  row "" "" ns "" "" instr. ""
+  row "" ours theirs ratio ours theirs ratio
+else
+  echo "callgrind is not at hand: times alone"
+  row "nanoseconds" ours theirs ratio
+fi
+while IFS=$'\t' read -r word ways title <&3 && IFS=$'\t' read -r _ ours theirs <&4; do
+  columns=("$ours" "$theirs" "$(ratio "$ours" "$theirs")")
+  if command -v valgrind >/dev/null; then
+    ours=$(each "$word" ours) && theirs=$(least "$word" "$ways") || exit 1
+    columns+=("$ours" "$theirs" "$(ratio "$ours" "$theirs")")
+  fi
+  row "$title" "${columns[@]}"
+done 3<"$work/lines" 4<"$work/times"

@@ -1,0 +1,169 @@
+/*
+ * A race of the lock manager of this repository and the lock subsystem of Berkeley DB: the same work through
+ * both. It is run by bench/race.sh.
+ *
+ *   race lines                 for each line of the table its word, in how many ways Berkeley DB plays it,
+ *                              and its title, parted by tabs
+ *   race times ROUNDS          for each line its word, and the nanoseconds of a round by ours and by theirs;
+ *                              "-" for a side that does not play
+ *   race play WORD WAY ROUNDS  plays so many rounds, for a count of instructions: by `ours`, or by theirs in
+ *                              the way of this number, from 0 on
+ */
+#include "race.h"
+
+#include <inttypes.h>
+#include <stdio.h>
+#include <stdlib.h>
+#include <string.h>
+
+#ifdef HAVE_DB
+#define THEIRS(play) play
+#else
+#define THEIRS(play) NULL
+#endif
+
+enum { MOST_WAYS = 4, TURNS = 9 };
+
+/* Which of the turns counts, from the shortest on. What else the machine does only adds to the time of one
+ * thread, so that its best turn counts; several have lucky turns, in which they come one after the other. */
+enum turns { BEST = 0, MEDIAN = TURNS / 2 };
+
+/* A line of the table. */
+struct line {
+  const char *word;
+  const char *title;
+  size_t others;
+  size_t records;
+  long share; /* of the rounds that are asked for, one in so many is played */
+  enum turns turn;
+  play *ours;
+  play *theirs;
+  size_t way_count;
+  unsigned ways[MOST_WAYS];
+};
+
+static const struct line lines[] = {
+  { "write", "short transaction, writes, alone", 0, 1, 1, BEST,
+    ours_write, THEIRS(theirs_write), 2, { KEPT, FRESH } },
+  { "read", "short transaction, reads, alone", 0, 1, 1, BEST,
+    ours_read, THEIRS(theirs_read), 2, { KEPT, FRESH } },
+  { "write-8", "short transaction, writes, beside 8", 8, 1, 1, BEST,
+    ours_write, THEIRS(theirs_write), 2, { KEPT, FRESH } },
+  { "write-32", "short transaction, writes, beside 32", 32, 1, 1, BEST,
+    ours_write, THEIRS(theirs_write), 2, { KEPT, FRESH } },
+  { "write-127", "short transaction, writes, beside 127", 127, 1, 1, BEST,
+    ours_write, THEIRS(theirs_write), 2, { KEPT, FRESH } },
+  { "at-once", "writes, alone, their four in one lock_vec", 0, 1, 1, BEST,
+    ours_write, THEIRS(theirs_write), 2, { KEPT | AT_ONCE, FRESH | AT_ONCE } },
+  { "wait", "wait and grant, ours in one thread", 0, 1, 4, MEDIAN,
+    ours_wait, THEIRS(theirs_wait_paired), 1, { THREADED } },
+  { "wait-paired", "wait and grant, both in two threads", 0, 1, 4, MEDIAN,
+    ours_wait_paired, THEIRS(theirs_wait_paired), 1, { THREADED } },
+  { "deadlock", "deadlock of two, ours in one thread", 0, 1, 10, MEDIAN,
+    ours_deadlock, THEIRS(theirs_deadlock_paired), 1, { THREADED } },
+  { "deadlock-paired", "deadlock of two, both in two threads", 0, 1, 10, MEDIAN,
+    ours_deadlock_paired, THEIRS(theirs_deadlock_paired), 1, { THREADED } },
+  { "commit", "commit of 1,000 records and their path", 0, MOST_RECORDS, 200, BEST,
+    ours_commit, THEIRS(theirs_commit), 2, { KEPT, FRESH } },
+  { "crew", "four threads, one mutex on either side", 0, CREW, 1, MEDIAN,
+    ours_crew, THEIRS(theirs_crew), 2, { KEPT, FRESH } },
+  { "crew-own", "four threads, theirs with DB_THREAD", 0, CREW, 1, MEDIAN,
+    ours_crew, THEIRS(theirs_crew), 3,
+    { KEPT | THREADED, FRESH | THREADED, KEPT | THREADED | PARTITIONED } },
+};
+
+enum { LINES = sizeof lines / sizeof lines[0] };
+
+/* The time of so many rounds. */
+static uint64_t played(const struct line *line, const struct side *side, play *play, unsigned way,
+                       long rounds) {
+  struct scene scene;
+  uint64_t taken;
+  scene.others = line->others;
+  scene.records = line->records;
+  scene.way = way;
+  side->set_up(&scene);
+  taken = play(rounds);
+  side->tear_down();
+  return taken;
+}
+
+static uint64_t ours_played(const struct line *line, long rounds) {
+  return played(line, &ours, line->ours, KEPT, rounds);
+}
+
+static uint64_t theirs_played(const struct line *line, size_t way, long rounds) {
+#ifdef HAVE_DB
+  return played(line, &theirs, line->theirs, line->ways[way], rounds);
+#else
+  (void)line, (void)way, (void)rounds;
+  fail("Berkeley DB is there", __FILE__, __LINE__);
+  return 0;
+#endif
+}
+
+static int by_size(const void *a, const void *b) {
+  const uint64_t *first = a, *second = b;
+  return (*first > *second) - (*first < *second);
+}
+
+/* The time of a round in the turn that counts. */
+static double of_round(uint64_t *times, enum turns turn, long rounds) {
+  qsort(times, TURNS, sizeof times[0], by_size);
+  return (double)times[turn] / (double)rounds;
+}
+
+/* The sides play by turns, so that what else the machine does meets both. */
+static void time_line(const struct line *line, long asked) {
+  long rounds = asked / line->share < 2 * CREW ? 2 * CREW : asked / line->share;
+  size_t turn, way, ways = line->theirs == NULL ? 0 : line->way_count;
+  uint64_t times[TURNS], their_times[MOST_WAYS][TURNS];
+  double best = 0;
+  for (turn = 0; turn < TURNS; turn++) {
+    times[turn] = ours_played(line, rounds);
+    for (way = 0; way < ways; way++) their_times[way][turn] = theirs_played(line, way, rounds);
+  }
+  for (way = 0; way < ways; way++) {
+    double time = of_round(their_times[way], line->turn, rounds);
+    if (way == 0 || time < best) best = time;
+  }
+  printf("%s\t%.0f\t", line->word, of_round(times, line->turn, rounds));
+  if (ways == 0) printf("-\n");
+  else printf("%.0f\n", best);
+}
+
+static const struct line *named(const char *word) {
+  size_t i;
+  for (i = 0; i < LINES; i++)
+    if (strcmp(lines[i].word, word) == 0) return &lines[i];
+  fail(word, __FILE__, __LINE__);
+  return NULL;
+}
+
+static void print_line(const struct line *line) {
+  printf("%s\t%d\t%s\n", line->word, line->theirs == NULL ? 0 : (int)line->way_count, line->title);
+}
+
+static int misused(void) {
+  fprintf(stderr, "usage: race lines | race times ROUNDS | race play WORD ours|WAY ROUNDS\n");
+  return 2;
+}
+
+int main(int count, char **words) {
+  long rounds = count > 2 ? atol(words[count - 1]) : 0;
+  size_t i;
+  setvbuf(stdout, NULL, _IOLBF, 0);
+  if (count == 2 && strcmp(words[1], "lines") == 0) {
+    for (i = 0; i < LINES; i++) print_line(&lines[i]);
+    return 0;
+  }
+  if (rounds <= 0) return misused();
+  if (count == 3 && strcmp(words[1], "times") == 0) {
+    for (i = 0; i < LINES; i++) time_line(&lines[i], rounds);
+    return 0;
+  }
+  if (count != 5 || strcmp(words[1], "play") != 0) return misused();
+  if (strcmp(words[3], "ours") == 0) ours_played(named(words[2]), rounds);
+  else theirs_played(named(words[2]), (size_t)atol(words[3]), rounds);
+  return 0;
+}

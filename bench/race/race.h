@@ -1,0 +1,79 @@
+/*
+ * What the two sides of the race share: the plays, the clock, threads, and how an answer that is not as it
+ * should be ends the program.
+ */
+#ifndef RACE_H
+#define RACE_H
+
+#define _DEFAULT_SOURCE
+
+#include <stdbool.h>
+#include <stddef.h>
+#include <stdint.h>
+
+enum {
+  INNER_NODES = 3,     /* a data base, an area, a file: the path to the records */
+  MOST_RECORDS = 1000, /* how many records a play can have */
+  CREW = 4             /* how many threads the crew has */
+};
+
+/* How Berkeley DB is used. Where a line has several ways, its fastest is taken. */
+enum ways {
+  KEPT = 0,       /* one locker for all transactions of a thread */
+  FRESH = 1,      /* a locker for each transaction */
+  AT_ONCE = 2,    /* the four locks in one lock_vec */
+  THREADED = 4,   /* DB_THREAD, which gives it latches of its own */
+  PARTITIONED = 8 /* as many partitions as it takes when it is not told: ten for each processor; else one */
+};
+
+/* What there is before a play begins. */
+struct scene {
+  size_t others;  /* transactions that hold intentions to write on all inner nodes */
+  size_t records; /* records below the inner nodes */
+  unsigned way;   /* of enum ways; ours has one */
+};
+
+/* A side: makes a scene, plays in it, and ends it. A play answers the nanoseconds of so many rounds. */
+typedef uint64_t play(long rounds);
+struct side {
+  void (*set_up)(const struct scene *scene);
+  void (*tear_down)(void);
+};
+
+extern const struct side ours, theirs;
+
+/* A short transaction: begin, intentions on the inner nodes, a lock on a record, commit. */
+play ours_write, theirs_write;
+play ours_read, theirs_read;
+
+/* The commit of all records and the path to them. What leads to it is not timed; a count takes what
+ * is in functions whose names begin with `measured`. */
+play ours_commit, theirs_commit;
+
+#define MEASURED __attribute__((noinline)) /* a function that callgrind sees */
+
+/* A lock that waits, and the commit that grants it. */
+play ours_wait, ours_wait_paired, theirs_wait_paired;
+
+/* Two that wait for each other: the younger aborts, the older goes on. */
+play ours_deadlock, ours_deadlock_paired, theirs_deadlock_paired;
+
+/* Short transactions by CREW threads, each on a record of its own. */
+play ours_crew, theirs_crew;
+
+/* Ends the program with status 1. */
+void fail(const char *what, const char *file, int line);
+
+#define WANT(condition) ((condition) ? (void)0 : fail(#condition, __FILE__, __LINE__))
+
+/* The time, in nanoseconds from some moment on. */
+uint64_t now(void);
+
+/* Runs a body in so many threads, each with its number, and answers the time from when all have come to the
+ * start until all have ended. */
+uint64_t together(size_t count, void (*body)(size_t number));
+
+/* Waits until two threads have come here. */
+void meet(void);
+
+#endif
