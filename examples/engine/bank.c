@@ -1,0 +1,141 @@
+#include "bank.h"
+
+#include "check.h"
+
+#include <inttypes.h>
+
+/* Where a record has its interval among its parents: behind the table. */
+enum { PLACE_OF_INTERVAL = 1 };
+
+/* The data base, the table, the index and its intervals. */
+enum { NODES_ABOVE = 3 + INTERVALS };
+
+static const uint64_t bounds[INTERVALS - 1] = { 50, 150, 300 };
+
+bool same_node(bs_node a, bs_node b) {
+  return a.key == b.key && a.birth == b.birth;
+}
+
+void bank_open(struct bank *b, enum bs_detects detect) {
+  bs_manager *m = &b->store.manager;
+  store_open(&b->store, detect);
+  b->root = MUST(bs_add_inner(m, NULL, 0)).node;
+  b->table = MUST(bs_add_file(m, &b->root, 1)).node;
+  b->by_balance = MUST(bs_add_index(m, &b->root, 1, b->table, bounds, INTERVALS - 1)).node;
+}
+
+void bank_close(struct bank *b) {
+  store_close(&b->store);
+}
+
+struct row *bank_row(struct bank *b, bs_node account) {
+  size_t i;
+  for (i = 0; i < MOST_ACCOUNTS; i++) {
+    if (b->rows[i].is_open && same_node(b->rows[i].account, account)) return &b->rows[i];
+  }
+  return NULL;
+}
+
+struct row *bank_locked_row(struct bank *b, bs_node account) {
+  struct row *row = bank_row(b, account);
+  if (row == NULL) fail("an account that is locked has no row");
+  return row;
+}
+
+struct row *bank_free_row(struct bank *b) {
+  size_t i = 0;
+  while (i < MOST_ACCOUNTS && b->rows[i].is_open) i++;
+  if (i == MOST_ACCOUNTS) fail("no room for another account");
+  return &b->rows[i];
+}
+
+bs_node bank_interval_at(struct bank *b, size_t place) {
+  return MUST(bs_interval(&b->store.manager, b->by_balance, place)).node;
+}
+
+bs_node bank_interval_for(struct bank *b, uint64_t balance) {
+  return MUST(bs_interval_of(&b->store.manager, b->by_balance, balance)).node;
+}
+
+bs_node bank_interval_of(struct bank *b, bs_node account) {
+  return MUST(bs_parent(&b->store.manager, account, PLACE_OF_INTERVAL)).node;
+}
+
+bs_node bank_account_from(struct bank *b, size_t place) {
+  bs_node account;
+  store_latch(&b->store);
+  while (!b->rows[place].is_open) place = (place + 1) % MOST_ACCOUNTS;
+  account = b->rows[place].account;
+  store_unlatch(&b->store);
+  return account;
+}
+
+bool bank_next_account(struct bank *b, uint64_t *number, bs_node *account) {
+  const struct row *next = NULL;
+  size_t i;
+  store_latch(&b->store);
+  for (i = 0; i < MOST_ACCOUNTS; i++) {
+    const struct row *row = &b->rows[i];
+    if (!row->is_open || row->number <= *number) continue;
+    if (next == NULL || row->number < next->number) next = row;
+  }
+  if (next != NULL) {
+    *number = next->number;
+    *account = next->account;
+  }
+  store_unlatch(&b->store);
+  return next != NULL;
+}
+
+static void add_up(struct totals *totals, const struct row *row) {
+  totals->count++;
+  totals->sum += row->balance;
+}
+
+struct totals bank_total(struct bank *b) {
+  struct totals totals = { 0, 0 };
+  size_t i;
+  store_latch(&b->store);
+  for (i = 0; i < MOST_ACCOUNTS; i++) {
+    if (b->rows[i].is_open) add_up(&totals, &b->rows[i]);
+  }
+  store_unlatch(&b->store);
+  return totals;
+}
+
+struct totals bank_total_of_interval(struct bank *b, size_t place) {
+  struct totals totals = { 0, 0 };
+  bs_node interval;
+  size_t i;
+  store_latch(&b->store);
+  interval = bank_interval_at(b, place);
+  for (i = 0; i < MOST_ACCOUNTS; i++) {
+    const struct row *row = &b->rows[i];
+    if (row->is_open && same_node(bank_interval_of(b, row->account), interval)) add_up(&totals, row);
+  }
+  store_unlatch(&b->store);
+  return totals;
+}
+
+void bank_count(struct bank *b, uint64_t *counter) {
+  store_latch(&b->store);
+  ++*counter;
+  store_unlatch(&b->store);
+}
+
+void bank_check(struct bank *b, uint64_t sum) {
+  bs_manager *m = &b->store.manager;
+  struct totals totals = bank_total(b);
+  size_t i;
+  if (totals.sum != sum) fail("wrong sum: at the end %" PRIu64 " in place of %" PRIu64, totals.sum, sum);
+  store_latch(&b->store);
+  for (i = 0; i < MOST_ACCOUNTS; i++) {
+    const struct row *row = &b->rows[i];
+    if (!row->is_open) continue;
+    if (same_node(bank_interval_for(b, row->balance), bank_interval_of(b, row->account))) continue;
+    fail("an account with %" PRIu64 " is in another interval", row->balance);
+  }
+  if (MUST(bs_len(m)).count != NODES_ABOVE + totals.count) fail("there are records without rows");
+  if (MUST(bs_group(m, b->root)).mode != BS_NL) fail("somebody still holds a lock");
+  store_unlatch(&b->store);
+}

@@ -1,0 +1,80 @@
+/*
+ * bank.h: a table of accounts over a store. The lock graph has a data base, the table as its file, an index
+ * by balance with its intervals, and a record for each account; the rows are kept here, beside it.
+ *
+ *   data base --+-- table ------------------------+
+ *               |                                 +-- record: an account
+ *               +-- index by balance -- interval -+
+ *
+ * An account is named by the node of its record, a name that no other account ever has.
+ */
+#ifndef BANK_H
+#define BANK_H
+
+#include "store.h"
+
+enum { MOST_ACCOUNTS = 32, INTERVALS = 4 };
+
+struct row {
+  bool is_open;
+  bs_node account;
+  uint64_t number; /* they rise, and none is given twice */
+  uint64_t balance;
+};
+
+/* What was done, for the summary. */
+struct counts {
+  uint64_t transfers, no_account, opened, closed, rekeyed, audits, lists, escalations, released, victims;
+};
+
+/* All but the names of nodes is read and written under the latch, and a row by who has the lock that it
+ * takes: the latch keeps a single step whole, and the locks a transaction. */
+struct bank {
+  struct store store;
+  bs_node root, table, by_balance;
+  struct row rows[MOST_ACCOUNTS];
+  uint64_t numbers; /* how many were given */
+  struct counts counts;
+};
+
+struct totals {
+  uint64_t count, sum;
+};
+
+void bank_open(struct bank *b, enum bs_detects detect);
+void bank_close(struct bank *b);
+
+/* Fails where the accounts have another sum, a record is not where its balance belongs, or somebody holds a
+ * lock. */
+void bank_check(struct bank *b, uint64_t sum);
+
+/* The account of the first row in use from this place on, and round. */
+bs_node bank_account_from(struct bank *b, size_t place);
+
+/* The account with the least number above this one, which becomes that number. False: there is none. */
+bool bank_next_account(struct bank *b, uint64_t *number, bs_node *account);
+
+/* Of the whole table, and of the interval at a place: the caller has a lock on it. */
+struct totals bank_total(struct bank *b);
+struct totals bank_total_of_interval(struct bank *b, size_t place);
+
+void bank_count(struct bank *b, uint64_t *counter);
+
+/* These are called with the latch held. */
+
+/* The row of an account, or NULL. */
+struct row *bank_row(struct bank *b, bs_node account);
+
+/* The row of an account that the caller has locked, and so cannot be gone. */
+struct row *bank_locked_row(struct bank *b, bs_node account);
+
+struct row *bank_free_row(struct bank *b);
+
+/* The interval at a place, that of a balance, and that in which the record of an account lies now. */
+bs_node bank_interval_at(struct bank *b, size_t place);
+bs_node bank_interval_for(struct bank *b, uint64_t balance);
+bs_node bank_interval_of(struct bank *b, bs_node account);
+
+bool same_node(bs_node a, bs_node b);
+
+#endif

@@ -1,0 +1,199 @@
+/*
+ * A small storage engine over the lock manager: threads that move money between accounts, open and close
+ * accounts, and read many at once, all under granular locks. README.md says what is where.
+ *
+ *   engine [--watch] [--skip-lock]
+ *
+ * --watch      deadlocks are ended by a thread that watches, and not when a transaction begins to wait.
+ * --skip-lock  a planted fault: two payments skip their lock. The program must find the lost update.
+ *
+ * Status 0: all was as it must be; 1: something was not, and standard error says what; 2: wrong words.
+ */
+#include "check.h"
+#include "led.h"
+#include "watcher.h"
+#include "work.h"
+
+#include <inttypes.h>
+#include <stdio.h>
+#include <string.h>
+
+enum { FOUNDERS = 24, FIRST_BALANCE = 100, MOST_MOVED = 80 };
+enum { TELLERS = 6, TRANSFERS = 500, CHANGES = 300, AUDITS = 150, LISTS = 300 };
+
+/* How many milliseconds the branch waits for a lock before it lets others go first. */
+enum { PATIENCE = 2 };
+
+struct words {
+  bool watch, skip_lock;
+};
+
+static bool read_words(int count, char **word, struct words *words) {
+  int i;
+  for (i = 1; i < count; i++) {
+    if (strcmp(word[i], "--watch") == 0) words->watch = true;
+    else if (strcmp(word[i], "--skip-lock") == 0) words->skip_lock = true;
+    else return false;
+  }
+  return true;
+}
+
+/* ------------------------------------------------------------------------------------------------
+ * Workers: threads, each with small random numbers of its own.
+ */
+
+struct worker {
+  struct bank *bank;
+  void *(*run)(void *);
+  uint64_t dice;
+  pthread_t thread;
+};
+
+/* From 0 to below `sides`. */
+static uint64_t roll(struct worker *w, uint64_t sides) {
+  w->dice ^= w->dice << 13;
+  w->dice ^= w->dice >> 7;
+  w->dice ^= w->dice << 17;
+  return (w->dice >> 16) % sides;
+}
+
+static bs_node any_account(struct worker *w) {
+  return bank_account_from(w->bank, roll(w, MOST_ACCOUNTS));
+}
+
+/* Whether a transaction that was rolled back is to begin again. */
+static bool is_to_repeat(enum ending ending) {
+  return ending == VICTIM || ending == GAVE_UP;
+}
+
+static struct order any_order(struct worker *w) {
+  struct order o = { .between = let_others_run };
+  o.from = any_account(w);
+  o.to = any_account(w);
+  o.amount = 1 + roll(w, MOST_MOVED);
+  return o;
+}
+
+/* Where one of the two accounts has been closed meanwhile, no money is moved. */
+static void *run_teller(void *arg) {
+  struct worker *w = arg;
+  size_t i;
+  for (i = 0; i < TRANSFERS; i++) {
+    struct order o = any_order(w);
+    while (is_to_repeat(transfer(w->bank, &o))) continue;
+  }
+  return NULL;
+}
+
+/* Opens some accounts, closes some, and so on. Each first try has little patience. */
+static void *run_branch(void *arg) {
+  struct worker *w = arg;
+  size_t i;
+  for (i = 0; i < CHANGES; i++) {
+    struct order o = any_order(w);
+    unsigned patience = PATIENCE;
+    enum ending ending = GAVE_UP;
+    while (same_node(o.from, o.to)) o.to = any_account(w);
+    for (; is_to_repeat(ending); patience = FOR_EVER) {
+      if (i % 8 < 4) ending = open_account(w->bank, o.from, o.amount, patience);
+      else ending = close_account(w->bank, o.from, o.to, patience);
+    }
+  }
+  return NULL;
+}
+
+static void *run_auditor(void *arg) {
+  struct worker *w = arg;
+  size_t i;
+  for (i = 0; i < AUDITS; i++) {
+    while (is_to_repeat(audit(w->bank, FOUNDERS * FIRST_BALANCE))) continue;
+  }
+  return NULL;
+}
+
+static void *run_lister(void *arg) {
+  struct worker *w = arg;
+  size_t i;
+  for (i = 0; i < LISTS; i++) {
+    size_t place = (size_t)roll(w, INTERVALS);
+    while (is_to_repeat(list_interval(w->bank, place))) continue;
+  }
+  return NULL;
+}
+
+static void run_crowd(struct bank *b) {
+  static void *(*const others[])(void *) = { run_branch, run_auditor, run_lister };
+  enum { OTHERS = sizeof others / sizeof others[0], ALL = TELLERS + OTHERS };
+  struct worker workers[ALL];
+  size_t i;
+  for (i = 0; i < ALL; i++) {
+    struct worker *w = &workers[i];
+    w->bank = b;
+    w->dice = 0x9e3779b97f4a7c15u * (i + 1);
+    w->run = i < TELLERS ? run_teller : others[i - TELLERS];
+    if (pthread_create(&w->thread, NULL, w->run, w) != 0) fail("no thread for a worker");
+  }
+  for (i = 0; i < ALL; i++) pthread_join(workers[i].thread, NULL);
+}
+
+/* ------------------------------------------------------------------------------------------------
+ * The whole program.
+ */
+
+static void found_accounts(struct bank *b) {
+  size_t i;
+  for (i = 0; i < FOUNDERS; i++) found_account(b, FIRST_BALANCE);
+}
+
+struct item {
+  const char *name;
+  uint64_t count;
+};
+
+static void print_line(const struct item *items, size_t count) {
+  size_t i;
+  for (i = 0; i < count; i++) printf("%s%s %" PRIu64, i == 0 ? "" : ", ", items[i].name, items[i].count);
+  putchar('\n');
+}
+
+static void print_summary(const struct bank *b) {
+  const struct counts *c = &b->counts;
+  const uint64_t *ended = b->store.ended;
+  const struct item writes[] = {
+    { "transfers", c->transfers }, { "of a closed account", c->no_account }, { "opened", c->opened },
+    { "closed", c->closed }, { "rekeyed", c->rekeyed }
+  };
+  const struct item reads[] = {
+    { "reads of the table", c->audits }, { "escalations", c->escalations },
+    { "locks released by them", c->released }, { "reads of an interval", c->lists }
+  };
+  const struct item waits[] = {
+    { "waits", b->store.waits }, { "granted", ended[GRANTED] }, { "victims", ended[VICTIM] },
+    { "moved", ended[MOVED] }, { "gone", ended[GONE] }, { "given up", ended[GAVE_UP] },
+    { "victims with those told at once", c->victims }
+  };
+  print_line(writes, sizeof writes / sizeof writes[0]);
+  print_line(reads, sizeof reads / sizeof reads[0]);
+  print_line(waits, sizeof waits / sizeof waits[0]);
+}
+
+int main(int count, char **word) {
+  static struct bank bank;
+  struct words words = { false, false };
+  struct watcher watcher;
+  if (!read_words(count, word, &words)) {
+    fputs("usage: engine [--watch] [--skip-lock]\n", stderr);
+    return 2;
+  }
+  bank_open(&bank, words.watch ? BS_BY_WATCHER : BS_AT_BLOCK);
+  if (words.watch) watcher_start(&watcher, &bank.store);
+  found_accounts(&bank);
+  led_waits(&bank);
+  led_payments(&bank, words.skip_lock);
+  run_crowd(&bank);
+  if (words.watch) watcher_stop(&watcher);
+  bank_check(&bank, FOUNDERS * FIRST_BALANCE);
+  print_summary(&bank);
+  bank_close(&bank);
+  return 0;
+}
