@@ -4,13 +4,41 @@
 # `rt` is to be found by PATH.
 set -uo pipefail
 top=$(cd "$(dirname "$0")/.." && pwd) || exit 2
-
-rt=$(command -v rt) || { echo "c_library.sh: rt is not found" >&2; exit 2; }
-heap=$(dirname "$(readlink -f "$rt")")/../c/liblibc_c.a
-
 library=$top/crates/gl_c/out/libgl_c.a
-newer=$(find "$top/crates" -name out -prune -o -name '*.rt' -newer "$library" -print -quit 2>/dev/null)
-if [ ! -e "$library" ] || [ -n "$newer" ]; then
-  (cd "$top/crates/gl_c" && rt lib) >&2 || exit 1
+rt=$(command -v rt) || { echo "c_library.sh: rt is not found" >&2; exit 2; }
+kit=$(dirname "$(dirname "$(readlink -f "$rt")")")
+
+# sources: the files of all crates.
+sources() {
+  find "$top/crates" -name out -prune -o \( -name '*.rt' -o -name '*.antt' \) "$@" -print
+}
+
+# below NAME: a crate with those that it stands on, of this repository.
+below() {
+  local crate
+  echo "$1"
+  for crate in $(sed -n "s/^$1\( staticlib\)*: *//p" "$top/crates.txt"); do
+    if [ -d "$top/crates/$crate" ]; then below "$crate"; fi
+  done
+}
+
+# build_over_kept: as `rt lib`, over the proved libraries that `rt ci` has left, which `rt lib` proves again.
+build_over_kept() {
+  local crate rlib with=()
+  for crate in $(below gl_c | sort -u); do
+    [ "$crate" != gl_c ] || continue
+    rlib=$top/crates/$crate/out/rlib/$crate.rlib
+    if [ ! -e "$rlib" ] || [ -n "$(sources -newer "$rlib" | grep "/crates/$crate/")" ]; then return 1; fi
+    with+=(--extern "$crate=$rlib" -L "dependency=${rlib%/*}")
+  done
+  mkdir -p "${library%/*}"
+  "$kit/bin/rattle" build --crate-name gl_c "$top/crates/gl_c/src/lib.rt" --crate-type staticlib \
+    --extern "std=$kit/rlibs/std.rlib" --extern "arrayvec=$kit/rlibs/arrayvec.rlib" -L "dependency=$kit/rlibs" \
+    "${with[@]}" --antt-project "$kit/rattle/logic/antt-project.json" --logic-built "$kit/logic_built" \
+    --links gl_c= --toolchain "$kit/toolchain" --backend llvm --jobs 2 -o "$library"
+}
+
+if [ ! -e "$library" ] || [ -n "$(sources -newer "$library" -quit)" ]; then
+  build_over_kept >&2 || (cd "$top/crates/gl_c" && rt lib) >&2 || exit 1
 fi
-printf '%s\n%s\n' "$library" "$heap"
+printf '%s\n%s\n' "$library" "$kit/c/liblibc_c.a"
