@@ -1,0 +1,592 @@
+//! The manager: its commands and questions.
+
+use crate::board::Board;
+use crate::mode::{Detect, Kind, Mode};
+use crate::names::{Node, Txn};
+use crate::notices::Notices;
+use crate::refusal::{accepted, Refusal};
+use crate::sys::{self, Pinned, Reply};
+use crate::SLOTS;
+use std::fmt;
+
+/// What an ask for a lock comes to.
+#[must_use = "a lock that is waited for is not granted"]
+#[derive(Clone, Copy, PartialEq, Eq, Hash, Debug)]
+pub enum Asked {
+    /// It was granted: the transaction holds the node in this mode, in which what it held and what
+    /// it asked for are joined.
+    Granted(Mode),
+    /// The transaction waits, and does nothing else until a notice of another's command tells it
+    /// the end, or it cancels or aborts. [`Manager::waiting`] says for what.
+    Waiting,
+    /// Its wait closed a circle of waits, and it is the one to give way: it is condemned, keeps its
+    /// locks, and can only abort.
+    Victim,
+}
+
+/// What a transaction waits for.
+#[derive(Clone, Copy, PartialEq, Eq, Hash, Debug)]
+pub struct Wait {
+    /// The node.
+    pub node: Node,
+    /// The mode in which it is to hold the node.
+    pub mode: Mode,
+}
+
+/// How an escalation went.
+#[derive(Clone, Copy, PartialEq, Eq, Hash, Debug)]
+pub struct Escalated {
+    /// The mode in which the node is held now.
+    pub mode: Mode,
+    /// How many children were released.
+    pub released: u32,
+    /// How many held children were kept.
+    pub kept: u32,
+}
+
+/// A lock manager.
+///
+/// It is used by one thread at a time, now one and now another: it is `Send`, and not `Sync`.
+/// Threads share one in a `Mutex`. No call waits, so none holds the mutex for long.
+///
+/// Commands take it by `&mut`. Questions change nothing and take it by `&`. A dropped manager ends,
+/// whatever its transactions do, and gives back all memory that it took; that costs a walk over all
+/// that it has.
+///
+/// ```compile_fail,E0277
+/// # use burlapslate::{Detect, Manager};
+/// # let manager = Manager::new(Detect::AtBlock, 1).unwrap();
+/// std::thread::scope(|scope| {
+///     scope.spawn(|| manager.len()); // A second thread has no part in it.
+/// });
+/// ```
+///
+/// The notices of a command lie in the manager, and are read before its next call:
+///
+/// ```compile_fail,E0502
+/// # use burlapslate::{Detect, Manager};
+/// # let mut manager = Manager::new(Detect::AtBlock, 1)?;
+/// # let txn = manager.begin()?;
+/// let told = manager.commit(txn)?;
+/// manager.len();
+/// for notice in told {}
+/// # Ok::<(), burlapslate::Refusal>(())
+/// ```
+pub struct Manager {
+    pinned: Box<Pinned>,
+}
+
+impl Manager {
+    /// Makes a manager for `most` transactions at once, 1 to [`SLOTS`], with a way of detection.
+    ///
+    /// Refused with [`BadNumber`](Refusal::BadNumber), [`NoMemory`](Refusal::NoMemory). Takes
+    /// memory, more for more transactions.
+    pub fn new(detect: Detect, most: usize) -> Result<Manager, Refusal> {
+        if !(1..=SLOTS).contains(&most) {
+            return Err(Refusal::BadNumber);
+        }
+        let mut pinned = Pinned::new().ok_or(Refusal::NoMemory)?;
+        accepted(sys::bs_call_make(
+            &mut pinned.place,
+            detect as u32,
+            most as u32,
+        ))?;
+        Ok(Manager { pinned })
+    }
+}
+
+/// # The graph
+///
+/// No path closes, whatever is made, moved or removed. These take memory; each answers the new
+/// node. They tell nobody.
+impl Manager {
+    /// A new inner node under 0 to 8 different inner nodes; without parents it is a root.
+    ///
+    /// Refused with [`BadNumber`](Refusal::BadNumber), [`WornOut`](Refusal::WornOut),
+    /// [`NoSuchNode`](Refusal::NoSuchNode), [`BadParents`](Refusal::BadParents),
+    /// [`TooManyNodes`](Refusal::TooManyNodes), [`NoMemory`](Refusal::NoMemory). Costs a look-up
+    /// for each parent.
+    pub fn add_inner(&mut self, parents: &[Node]) -> Result<Node, Refusal> {
+        accepted(sys::add_inner(&mut self.pinned.place, parents)).map(|reply| reply.node)
+    }
+
+    /// A new file under 1 to 8 different inner nodes.
+    ///
+    /// Refused as [`add_inner`](Manager::add_inner).
+    pub fn add_file(&mut self, parents: &[Node]) -> Result<Node, Refusal> {
+        accepted(sys::add_file(&mut self.pinned.place, parents)).map(|reply| reply.node)
+    }
+
+    /// A new index of a file that has no records, under 1 to 8 different inner nodes, with up to
+    /// 256 bounds, rising from above 0: interval 0 has the keys below the first bound, interval i
+    /// those from bound i - 1 on.
+    ///
+    /// Refused with [`BadNumber`](Refusal::BadNumber), [`WornOut`](Refusal::WornOut),
+    /// [`NoSuchNode`](Refusal::NoSuchNode), [`BadParents`](Refusal::BadParents) (also where the
+    /// file has 7 indexes), [`FileInUse`](Refusal::FileInUse), [`BadKeys`](Refusal::BadKeys),
+    /// [`TooManyNodes`](Refusal::TooManyNodes), [`NoMemory`](Refusal::NoMemory). Costs a step for
+    /// each bound.
+    ///
+    /// ```
+    /// # use burlapslate::{Detect, Kind, Manager, SLOTS};
+    /// let mut m = Manager::new(Detect::AtBlock, SLOTS)?;
+    /// let shop = m.add_inner(&[])?;
+    /// let orders = m.add_file(&[shop])?;
+    /// let by_day = m.add_index(&[shop], orders, &[100, 200])?;
+    /// let days = m.interval_of(by_day, 150)?;
+    /// assert_eq!(m.interval(by_day, 1), Some(days));
+    /// assert_eq!(m.kind(days)?, Kind::Interval);
+    /// # Ok::<(), burlapslate::Refusal>(())
+    /// ```
+    pub fn add_index(
+        &mut self,
+        parents: &[Node],
+        file: Node,
+        bounds: &[u64],
+    ) -> Result<Node, Refusal> {
+        let reply = sys::add_index(&mut self.pinned.place, parents, file, bounds);
+        accepted(reply).map(|reply| reply.node)
+    }
+}
+
+/// # Transactions and locks
+///
+/// A call that tells somebody answers the [`Notices`] too. The caller of a lock and of a cancel is
+/// not told: it has its answer. What ends something or gives something back takes no memory and
+/// cannot fail for want of it; the notices take none either.
+impl Manager {
+    /// A new transaction.
+    ///
+    /// Refused with [`WornOut`](Refusal::WornOut), [`TooManyTxns`](Refusal::TooManyTxns),
+    /// [`NoMemory`](Refusal::NoMemory). Takes memory. Costs a search for a free slot.
+    pub fn begin(&mut self) -> Result<Txn, Refusal> {
+        accepted(sys::bs_call_begin(&mut self.pinned.place)).map(|reply| reply.txn)
+    }
+
+    /// Asks for a mode on a node: to read ([`IS`](Mode::IS), [`S`](Mode::S)) intentions to read or
+    /// more are needed on one parent, to write ([`IX`](Mode::IX), [`SIX`](Mode::SIX),
+    /// [`X`](Mode::X)) intentions to write or more on all parents. What is held and what is asked
+    /// join.
+    ///
+    /// Where it is not granted at once the transaction waits, and with detection at block the
+    /// youngest of those on a circle of waits with it are condemned until it is on none: others are
+    /// told [`Notice::Victim`](crate::Notice::Victim), it itself is answered [`Asked::Victim`]. As
+    /// those who are condemned leave their queues, others may be granted, and it itself.
+    ///
+    /// Refused with [`WornOut`](Refusal::WornOut), [`NoSuchTxn`](Refusal::NoSuchTxn),
+    /// [`TxnWaiting`](Refusal::TxnWaiting), [`TxnCondemned`](Refusal::TxnCondemned),
+    /// [`NoSuchNode`](Refusal::NoSuchNode), [`BadMode`](Refusal::BadMode),
+    /// [`NeedParents`](Refusal::NeedParents), [`NoMemory`](Refusal::NoMemory). Takes memory, but
+    /// for a node that the transaction holds already, granted at once. Costs one look-up of the
+    /// node and one for each parent; where it waits with detection at block a search along the
+    /// waits too.
+    ///
+    /// ```
+    /// # use burlapslate::{Asked, Detect, Manager, Mode, Refusal, SLOTS};
+    /// let mut m = Manager::new(Detect::AtBlock, SLOTS)?;
+    /// let db = m.add_inner(&[])?;
+    /// let file = m.add_file(&[db])?;
+    /// let txn = m.begin()?;
+    /// assert_eq!(m.lock(txn, file, Mode::X).unwrap_err(), Refusal::NeedParents(db));
+    /// let (asked, told) = m.lock(txn, db, Mode::IX)?;
+    /// assert!(asked == Asked::Granted(Mode::IX) && told.is_empty());
+    /// let (asked, _) = m.lock(txn, file, Mode::X)?;
+    /// assert_eq!(asked, Asked::Granted(Mode::X));
+    /// # Ok::<(), burlapslate::Refusal>(())
+    /// ```
+    pub fn lock(
+        &mut self,
+        txn: Txn,
+        node: Node,
+        mode: Mode,
+    ) -> Result<(Asked, Notices<'_>), Refusal> {
+        let Pinned { place, told } = &mut *self.pinned;
+        let reply = sys::bs_call_lock(place, txn, node, mode as u32, told);
+        let asked = match reply.status {
+            sys::DONE => Asked::Granted(Mode::of(reply.mode)),
+            sys::WAITING => Asked::Waiting,
+            sys::VICTIM => Asked::Victim,
+            _ => return Err(Refusal::of(&reply)),
+        };
+        Ok((asked, Notices::of(told)))
+    }
+
+    /// As [`lock`](Manager::lock), but where the lock cannot be granted at once it is refused with
+    /// [`WouldBlock`](Refusal::WouldBlock), after the other refusals but
+    /// [`NoMemory`](Refusal::NoMemory). It never waits and tells nobody; it answers the mode that
+    /// is held now.
+    pub fn try_lock(&mut self, txn: Txn, node: Node, mode: Mode) -> Result<Mode, Refusal> {
+        let reply = sys::bs_call_try(&mut self.pinned.place, txn, node, mode as u32);
+        accepted(reply).map(|reply| Mode::of(reply.mode))
+    }
+
+    /// Releases one node of which the transaction holds no child.
+    ///
+    /// Refused with [`WornOut`](Refusal::WornOut), [`NoSuchTxn`](Refusal::NoSuchTxn),
+    /// [`TxnWaiting`](Refusal::TxnWaiting), [`TxnCondemned`](Refusal::TxnCondemned),
+    /// [`NoSuchNode`](Refusal::NoSuchNode), [`NotHeld`](Refusal::NotHeld),
+    /// [`HeldChild`](Refusal::HeldChild). Takes no memory. Costs a look-up, and a step for each
+    /// waiter that is granted.
+    pub fn unlock(&mut self, txn: Txn, node: Node) -> Result<Notices<'_>, Refusal> {
+        let Pinned { place, told } = &mut *self.pinned;
+        accepted(sys::bs_call_unlock(place, txn, node, told))?;
+        Ok(Notices::of(told))
+    }
+
+    /// Takes the wait of a transaction back.
+    ///
+    /// Refused with [`WornOut`](Refusal::WornOut), [`NoSuchTxn`](Refusal::NoSuchTxn),
+    /// [`TxnCondemned`](Refusal::TxnCondemned), [`NotWaiting`](Refusal::NotWaiting). Takes no
+    /// memory.
+    pub fn cancel(&mut self, txn: Txn) -> Result<Notices<'_>, Refusal> {
+        let Pinned { place, told } = &mut *self.pinned;
+        accepted(sys::bs_call_cancel(place, txn, told))?;
+        Ok(Notices::of(told))
+    }
+
+    /// Ends a transaction and releases everything.
+    ///
+    /// Refused with [`WornOut`](Refusal::WornOut), [`NoSuchTxn`](Refusal::NoSuchTxn),
+    /// [`TxnWaiting`](Refusal::TxnWaiting), [`TxnCondemned`](Refusal::TxnCondemned). Takes no
+    /// memory. Costs a step for each lock and each waiter that is granted.
+    ///
+    /// ```
+    /// # use burlapslate::{Detect, Manager, Mode, Notice, SLOTS};
+    /// # let mut m = Manager::new(Detect::AtBlock, SLOTS)?;
+    /// # let db = m.add_inner(&[])?;
+    /// # let (a, b) = (m.begin()?, m.begin()?);
+    /// # let _ = m.lock(a, db, Mode::X)?;
+    /// # let _ = m.lock(b, db, Mode::S)?;
+    /// for notice in m.commit(a)? {
+    ///     match notice {
+    ///         Notice::Granted { txn, node, mode } => assert_eq!((txn, node, mode), (b, db, Mode::S)),
+    ///         other => panic!("nobody is told this: {other:?}"),
+    ///     }
+    /// }
+    /// # Ok::<(), burlapslate::Refusal>(())
+    /// ```
+    pub fn commit(&mut self, txn: Txn) -> Result<Notices<'_>, Refusal> {
+        let Pinned { place, told } = &mut *self.pinned;
+        accepted(sys::bs_call_commit(place, txn, told))?;
+        Ok(Notices::of(told))
+    }
+
+    /// Ends a transaction whatever it is doing, and releases everything. What it did stays done:
+    /// undo it first.
+    ///
+    /// Refused with [`WornOut`](Refusal::WornOut), [`NoSuchTxn`](Refusal::NoSuchTxn). Takes no
+    /// memory. Costs as [`commit`](Manager::commit).
+    pub fn abort(&mut self, txn: Txn) -> Result<Notices<'_>, Refusal> {
+        let Pinned { place, told } = &mut *self.pinned;
+        accepted(sys::bs_call_abort(place, txn, told))?;
+        Ok(Notices::of(told))
+    }
+
+    /// Condemns the youngest on a circle of waits with the transaction, again and again until it is
+    /// on none; whoever is condemned is told [`Notice::Victim`](crate::Notice::Victim), the
+    /// transaction itself among them. It is how a watcher ends deadlocks.
+    ///
+    /// Refused with [`WornOut`](Refusal::WornOut), [`NoSuchTxn`](Refusal::NoSuchTxn). Takes no
+    /// memory.
+    pub fn settle(&mut self, txn: Txn) -> Result<Notices<'_>, Refusal> {
+        let Pinned { place, told } = &mut *self.pinned;
+        accepted(sys::bs_call_settle(place, txn, told))?;
+        Ok(Notices::of(told))
+    }
+
+    /// Raises the lock of a node to [`X`](Mode::X) where the transaction writes below it, else to
+    /// [`S`](Mode::S), and releases the children whose locks that implies. It never waits.
+    ///
+    /// Refused with [`WornOut`](Refusal::WornOut), [`NoSuchTxn`](Refusal::NoSuchTxn),
+    /// [`TxnWaiting`](Refusal::TxnWaiting), [`TxnCondemned`](Refusal::TxnCondemned),
+    /// [`NoSuchNode`](Refusal::NoSuchNode), [`BadParents`](Refusal::BadParents) (a record),
+    /// [`NotHeld`](Refusal::NotHeld), [`WouldBlock`](Refusal::WouldBlock). Takes no memory. Costs a
+    /// step for each lock of the transaction.
+    pub fn escalate(&mut self, txn: Txn, node: Node) -> Result<(Escalated, Notices<'_>), Refusal> {
+        let Pinned { place, told } = &mut *self.pinned;
+        let reply = accepted(sys::bs_call_escalate(place, txn, node, told))?;
+        let escalated = Escalated {
+            mode: Mode::of(reply.mode),
+            released: reply.released,
+            kept: reply.kept,
+        };
+        Ok((escalated, Notices::of(told)))
+    }
+}
+
+/// # Records, and nodes that move
+///
+/// Nodes that move tell waiters whose wait is over.
+impl Manager {
+    /// A new record of a file, with a key for each of the file's indexes, in order of their making.
+    /// It lies under the file and, for each index, the interval of its key, and is held in
+    /// [`X`](Mode::X).
+    ///
+    /// Refused with [`WornOut`](Refusal::WornOut), [`NoSuchTxn`](Refusal::NoSuchTxn),
+    /// [`TxnWaiting`](Refusal::TxnWaiting), [`TxnCondemned`](Refusal::TxnCondemned),
+    /// [`NoSuchNode`](Refusal::NoSuchNode), [`BadParents`](Refusal::BadParents) (no file),
+    /// [`BadKeys`](Refusal::BadKeys), [`NeedParents`](Refusal::NeedParents) (a parent not held in
+    /// [`IX`](Mode::IX) or more), [`TooManyNodes`](Refusal::TooManyNodes),
+    /// [`NoMemory`](Refusal::NoMemory). Takes memory. It tells nobody.
+    pub fn insert(&mut self, txn: Txn, file: Node, keys: &[u64]) -> Result<Node, Refusal> {
+        accepted(sys::insert(&mut self.pinned.place, txn, file, keys)).map(|reply| reply.node)
+    }
+
+    /// Takes a record away that the transaction holds in [`X`](Mode::X). Who waits for it is told
+    /// [`Notice::Gone`](crate::Notice::Gone).
+    ///
+    /// Refused with [`WornOut`](Refusal::WornOut), [`NoSuchTxn`](Refusal::NoSuchTxn),
+    /// [`TxnWaiting`](Refusal::TxnWaiting), [`TxnCondemned`](Refusal::TxnCondemned),
+    /// [`NoSuchNode`](Refusal::NoSuchNode), [`BadParents`](Refusal::BadParents) (no record),
+    /// [`NeedExclusive`](Refusal::NeedExclusive). Takes no memory.
+    pub fn delete(&mut self, txn: Txn, record: Node) -> Result<Notices<'_>, Refusal> {
+        let Pinned { place, told } = &mut *self.pinned;
+        accepted(sys::bs_call_delete(place, txn, record, told))?;
+        Ok(Notices::of(told))
+    }
+
+    /// Gives a record another key for one index, and so another interval. Lawful with
+    /// [`X`](Mode::X) on the record and [`IX`](Mode::IX) or more on the new parents, or with `X` on
+    /// all old and new parents. Who waits for it and no longer meets the rule of the graph is told
+    /// [`Notice::Moved`](crate::Notice::Moved).
+    ///
+    /// Refused with [`WornOut`](Refusal::WornOut), [`NoSuchTxn`](Refusal::NoSuchTxn),
+    /// [`TxnWaiting`](Refusal::TxnWaiting), [`TxnCondemned`](Refusal::TxnCondemned),
+    /// [`NoSuchNode`](Refusal::NoSuchNode), [`BadParents`](Refusal::BadParents) (no record, or no
+    /// index of its file), [`NeedExclusive`](Refusal::NeedExclusive),
+    /// [`NeedParents`](Refusal::NeedParents). Takes no memory.
+    pub fn rekey(
+        &mut self,
+        txn: Txn,
+        record: Node,
+        index: Node,
+        key: u64,
+    ) -> Result<Notices<'_>, Refusal> {
+        let Pinned { place, told } = &mut *self.pinned;
+        accepted(sys::bs_call_rekey(place, txn, record, index, key, told))?;
+        Ok(Notices::of(told))
+    }
+
+    /// Gives an inner node, a file or an index other parents; an inner node without parents becomes
+    /// a root. Lawful with [`X`](Mode::X) on the node and [`IX`](Mode::IX) or more on the new
+    /// parents, or, where there are both, with `X` on all old and new parents. Who waits for it and
+    /// no longer meets the rule of the graph is told [`Notice::Moved`](crate::Notice::Moved).
+    ///
+    /// Refused with [`BadNumber`](Refusal::BadNumber), [`WornOut`](Refusal::WornOut),
+    /// [`NoSuchTxn`](Refusal::NoSuchTxn), [`TxnWaiting`](Refusal::TxnWaiting),
+    /// [`TxnCondemned`](Refusal::TxnCondemned), [`NoSuchNode`](Refusal::NoSuchNode),
+    /// [`BadParents`](Refusal::BadParents), [`NeedExclusive`](Refusal::NeedExclusive),
+    /// [`NeedParents`](Refusal::NeedParents), [`Cycle`](Refusal::Cycle),
+    /// [`NoMemory`](Refusal::NoMemory). Takes memory, and `NoMemory` may come in place of `Cycle`.
+    /// Costs a search up from the parents.
+    pub fn move_node(
+        &mut self,
+        txn: Txn,
+        node: Node,
+        parents: &[Node],
+    ) -> Result<Notices<'_>, Refusal> {
+        let Pinned { place, told } = &mut *self.pinned;
+        accepted(sys::move_node(place, txn, node, parents, told))?;
+        Ok(Notices::of(told))
+    }
+}
+
+/// # Questions
+///
+/// They change nothing and, but for [`effective`](Manager::effective), take no memory. Each costs a
+/// look-up or two; what costs more says so. They may be asked about a transaction that waits or is
+/// condemned.
+impl Manager {
+    /// The group mode of a node: the least that covers all that is held on it, [`NL`](Mode::NL)
+    /// where nobody holds it.
+    ///
+    /// Refused with [`NoSuchNode`](Refusal::NoSuchNode).
+    pub fn group(&self, node: Node) -> Result<Mode, Refusal> {
+        mode_in(sys::bs_call_group(&self.pinned.place, node))
+    }
+
+    /// The mode in which a transaction holds a node, [`NL`](Mode::NL) for none.
+    ///
+    /// Refused with [`NoSuchTxn`](Refusal::NoSuchTxn), [`NoSuchNode`](Refusal::NoSuchNode).
+    pub fn held(&self, txn: Txn, node: Node) -> Result<Mode, Refusal> {
+        mode_in(sys::bs_call_held(&self.pinned.place, txn, node))
+    }
+
+    /// What a transaction may do to a node by all its locks together: [`NL`](Mode::NL),
+    /// [`S`](Mode::S) or [`X`](Mode::X).
+    ///
+    /// Refused with [`NoSuchTxn`](Refusal::NoSuchTxn), [`NoSuchNode`](Refusal::NoSuchNode),
+    /// [`NoMemory`](Refusal::NoMemory). Takes memory, and looks at each ancestor.
+    pub fn effective(&self, txn: Txn, node: Node) -> Result<Mode, Refusal> {
+        mode_in(sys::bs_call_effective(&self.pinned.place, txn, node))
+    }
+
+    /// What a transaction waits for; `None` where it does not wait, or does not live.
+    pub fn waiting(&self, txn: Txn) -> Option<Wait> {
+        let reply = sys::bs_call_waiting(&self.pinned.place, txn);
+        match reply.status {
+            sys::WAITING => Some(Wait {
+                node: reply.node,
+                mode: Mode::of(reply.mode),
+            }),
+            sys::NOT_WAITING => None,
+            _ => unreachable!("whether one waits was refused: {}", Refusal::of(&reply)),
+        }
+    }
+
+    /// How many children of a node a transaction holds.
+    ///
+    /// Refused with [`NotHeld`](Refusal::NotHeld) where it does not live or does not hold the node.
+    pub fn children(&self, txn: Txn, node: Node) -> Result<u64, Refusal> {
+        accepted(sys::bs_call_children(&self.pinned.place, txn, node)).map(|reply| reply.count)
+    }
+
+    /// What a node is.
+    ///
+    /// Refused with [`NoSuchNode`](Refusal::NoSuchNode).
+    pub fn kind(&self, node: Node) -> Result<Kind, Refusal> {
+        accepted(sys::bs_call_kind(&self.pinned.place, node)).map(|reply| Kind::of(reply.count))
+    }
+
+    /// A parent of a node, by its place from 0 on; of a record first its file and then, for each
+    /// index, an interval. `None` where there are fewer, or the node does not live.
+    ///
+    /// ```
+    /// # use burlapslate::{Detect, Manager, SLOTS};
+    /// # let mut m = Manager::new(Detect::AtBlock, SLOTS)?;
+    /// # let (left, right) = (m.add_inner(&[])?, m.add_inner(&[])?);
+    /// let file = m.add_file(&[left, right])?;
+    /// let parents = (0..).map_while(|place| m.parent(file, place));
+    /// assert!(parents.eq([left, right]));
+    /// # Ok::<(), burlapslate::Refusal>(())
+    /// ```
+    pub fn parent(&self, node: Node, place: usize) -> Option<Node> {
+        placed(sys::bs_call_parent(&self.pinned.place, node, place)).map(|reply| reply.node)
+    }
+
+    /// A key of a record, by the place of its index. `None` where there are fewer, or the name
+    /// names no record.
+    pub fn key(&self, record: Node, place: usize) -> Option<u64> {
+        placed(sys::bs_call_key(&self.pinned.place, record, place)).map(|reply| reply.count)
+    }
+
+    /// An index of a file, by its place in the order of making; `None` where there are fewer.
+    ///
+    /// Refused with [`NoSuchNode`](Refusal::NoSuchNode) where the name names no file.
+    pub fn index(&self, file: Node, place: usize) -> Result<Option<Node>, Refusal> {
+        let reply = sys::bs_call_index(&self.pinned.place, file, place);
+        if reply.status == sys::NO_PLACE {
+            return Ok(None);
+        }
+        accepted(reply).map(|reply| Some(reply.node))
+    }
+
+    /// An interval of an index, by its place. `None` where there are fewer, or the name names no
+    /// index.
+    pub fn interval(&self, index: Node, place: usize) -> Option<Node> {
+        placed(sys::bs_call_interval(&self.pinned.place, index, place)).map(|reply| reply.node)
+    }
+
+    /// The interval of an index in which a key lies.
+    ///
+    /// Refused with [`NoSuchNode`](Refusal::NoSuchNode) where the name names no index. Costs a
+    /// binary search.
+    pub fn interval_of(&self, index: Node, key: u64) -> Result<Node, Refusal> {
+        accepted(sys::bs_call_interval_of(&self.pinned.place, index, key)).map(|reply| reply.node)
+    }
+
+    /// The place of an interval in its index.
+    ///
+    /// Refused with [`NoSuchNode`](Refusal::NoSuchNode) where the name names no interval.
+    pub fn place(&self, interval: Node) -> Result<usize, Refusal> {
+        let reply = sys::bs_call_place(&self.pinned.place, interval);
+        accepted(reply).map(|reply| reply.count as usize)
+    }
+
+    /// Whether a file has records.
+    ///
+    /// Refused with [`NoSuchNode`](Refusal::NoSuchNode) where the name names no file.
+    pub fn has_records(&self, file: Node) -> Result<bool, Refusal> {
+        accepted(sys::bs_call_has_records(&self.pinned.place, file)).map(|reply| reply.count != 0)
+    }
+
+    /// How many nodes live.
+    pub fn len(&self) -> usize {
+        answered(sys::bs_call_len(&self.pinned.place)) as usize
+    }
+
+    /// Whether no node lives.
+    pub fn is_empty(&self) -> bool {
+        self.len() == 0
+    }
+
+    /// How many commands were accepted: all that were neither refused nor questions.
+    pub fn accepted(&self) -> u64 {
+        answered(sys::bs_call_accepted(&self.pinned.place))
+    }
+
+    /// How deadlocks are found.
+    pub fn detect(&self) -> Detect {
+        Detect::of(answered(sys::bs_call_detect(&self.pinned.place)))
+    }
+
+    /// The board of this moment: who waits for whom.
+    ///
+    /// Costs a step for each transaction, and two passes over each queue.
+    pub fn board(&self) -> Board {
+        let mut board = Board::new();
+        self.read_board(&mut board);
+        board
+    }
+
+    /// Reads the board of this moment over another one, for a watcher that reads many and keeps
+    /// one.
+    ///
+    /// Costs as [`board`](Manager::board), without the making of one.
+    pub fn read_board(&self, board: &mut Board) {
+        answered(sys::bs_call_board(&self.pinned.place, board.as_sys()));
+    }
+}
+
+impl Drop for Manager {
+    fn drop(&mut self) {
+        sys::bs_call_end(&mut self.pinned.place);
+    }
+}
+
+/// How deadlocks are found, and how much there is.
+impl fmt::Debug for Manager {
+    fn fmt(&self, f: &mut fmt::Formatter<'_>) -> fmt::Result {
+        f.debug_struct("Manager")
+            .field("detect", &self.detect())
+            .field("len", &self.len())
+            .field("accepted", &self.accepted())
+            .finish_non_exhaustive()
+    }
+}
+
+/// The mode in a reply.
+fn mode_in(reply: Reply) -> Result<Mode, Refusal> {
+    accepted(reply).map(|reply| Mode::of(reply.mode))
+}
+
+/// The reply of a question that asks for a place; `None` where there are fewer.
+fn placed(reply: Reply) -> Option<Reply> {
+    if reply.status == sys::NO_PLACE {
+        return None;
+    }
+    Some(answered_in_full(reply))
+}
+
+/// The number in the reply of a question that is never refused.
+fn answered(reply: Reply) -> u64 {
+    answered_in_full(reply).count
+}
+
+/// The reply of a question that is never refused.
+fn answered_in_full(reply: Reply) -> Reply {
+    match accepted(reply) {
+        Ok(reply) => reply,
+        Err(refusal) => unreachable!("a question was refused: {refusal}"),
+    }
+}

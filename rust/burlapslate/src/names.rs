@@ -1,0 +1,54 @@
+//! The names of nodes and transactions.
+
+/// The name of a node. It is the same as long as the node lives, and never another's: once the node
+/// is gone it names nothing, and each call refuses it. So names are safe to keep, wherever and as
+/// long as you like.
+///
+/// A name is good with the manager that gave it. With another manager it names nothing, or whatever
+/// node has that name there.
+#[repr(C)]
+#[derive(Clone, Copy, PartialEq, Eq, Hash, Debug)]
+pub struct Node {
+    pub(crate) key: usize,
+    pub(crate) birth: u64,
+}
+
+impl Node {
+    /// A name that no node has, in any manager: each call refuses it.
+    pub const NONE: Node = Node { key: 0, birth: 0 };
+}
+
+/// The name of a transaction. It is the same as long as the transaction lives, and never another's:
+/// once it has ended it names nothing, and each call refuses it, also when its slot is another
+/// transaction's.
+///
+/// As with [`Node`], a name is good with the manager that gave it.
+#[repr(C)]
+#[derive(Clone, Copy, PartialEq, Eq, Hash, Debug)]
+pub struct Txn {
+    pub(crate) slot: u8,
+    pub(crate) age: u64,
+}
+
+impl Txn {
+    /// A name that no transaction has, in any manager: each call refuses it.
+    pub const NONE: Txn = Txn { slot: 0, age: 0 };
+
+    /// The transaction that a board shows in a slot.
+    pub(crate) fn at(slot: usize, age: u64) -> Txn {
+        let slot = u8::try_from(slot).expect("a slot is below 128");
+        Txn { slot, age }
+    }
+
+    /// Its slot, 0 to 127. No other living transaction has it, so it is good as an index of what you
+    /// keep for each.
+    pub fn slot(self) -> usize {
+        usize::from(self.slot)
+    }
+
+    /// Its number in the order of begins, from 1 on: of several transactions the youngest has the
+    /// greatest.
+    pub fn age(self) -> u64 {
+        self.age
+    }
+}

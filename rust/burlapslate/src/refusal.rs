@@ -1,0 +1,178 @@
+//! Why a call is refused.
+
+use crate::names::Node;
+use crate::sys::{self, Reply};
+use std::error::Error;
+use std::fmt;
+
+/// Why a call was refused. A refused call changed nothing and told nobody. Where several refusals
+/// hold, the first in the order of the call's list is answered.
+#[derive(Clone, Copy, PartialEq, Eq, Hash, Debug)]
+pub enum Refusal {
+    /// The allocator refused. It comes last of all, and only to calls that take memory.
+    NoMemory,
+    /// A name names no node.
+    NoSuchNode,
+    /// The name names no transaction that lives.
+    NoSuchTxn,
+    /// The transaction waits for a lock.
+    TxnWaiting,
+    /// The transaction was chosen as a victim, and can only abort.
+    TxnCondemned,
+    /// No lock was asked, or other than `S` or `X` on a record.
+    BadMode,
+    /// The rule of the graph fails at this parent: it is not held as the call needs it.
+    NeedParents(Node),
+    /// The transaction does not hold the node.
+    NotHeld,
+    /// The transaction holds this child of the node.
+    HeldChild(Node),
+    /// The lock cannot be granted at once.
+    WouldBlock,
+    /// As many transactions live as may.
+    TooManyTxns,
+    /// As many nodes live as may: 65,536, intervals and records among them.
+    TooManyNodes,
+    /// A node of the wrong kind for its place, one parent twice, or too few parents.
+    BadParents,
+    /// Without the exclusive locks that a delete, a rekey or a move needs.
+    NeedExclusive,
+    /// The transaction waits for nothing.
+    NotWaiting,
+    /// An index cannot be added to a file that has records.
+    FileInUse,
+    /// Bounds that do not rise from above 0, too many of them, or not a key for each index.
+    BadKeys,
+    /// A counter has come to its end, near 2^64. It comes first of all but [`Refusal::BadNumber`],
+    /// and to all calls but questions.
+    WornOut,
+    /// The new parent is the node itself or lies below it; this is that parent.
+    Cycle(Node),
+    /// More than 8 parents, or a manager for none or more than 128 transactions. It comes first of
+    /// all.
+    BadNumber,
+}
+
+impl Refusal {
+    /// The refusal of a reply that is one.
+    pub(crate) fn of(reply: &Reply) -> Refusal {
+        match reply.status {
+            sys::NO_MEMORY => Refusal::NoMemory,
+            sys::NO_SUCH_NODE => Refusal::NoSuchNode,
+            sys::NO_SUCH_TXN => Refusal::NoSuchTxn,
+            sys::TXN_WAITING => Refusal::TxnWaiting,
+            sys::TXN_CONDEMNED => Refusal::TxnCondemned,
+            sys::BAD_MODE => Refusal::BadMode,
+            sys::NEED_PARENTS => Refusal::NeedParents(reply.node),
+            sys::NOT_HELD => Refusal::NotHeld,
+            sys::HELD_CHILD => Refusal::HeldChild(reply.node),
+            sys::WOULD_BLOCK => Refusal::WouldBlock,
+            sys::TOO_MANY_TXNS => Refusal::TooManyTxns,
+            sys::TOO_MANY_NODES => Refusal::TooManyNodes,
+            sys::BAD_PARENTS => Refusal::BadParents,
+            sys::NEED_EXCLUSIVE => Refusal::NeedExclusive,
+            sys::NOT_WAITING => Refusal::NotWaiting,
+            sys::FILE_IN_USE => Refusal::FileInUse,
+            sys::BAD_KEYS => Refusal::BadKeys,
+            sys::WORN_OUT => Refusal::WornOut,
+            sys::CYCLE => Refusal::Cycle(reply.node),
+            sys::BAD_NUMBER => Refusal::BadNumber,
+            // Null pointers, places without a manager and the like cannot come from these types.
+            status => unreachable!("the library answered with status {status}"),
+        }
+    }
+
+    /// Its name, as the header's `bs_text` has it.
+    fn text(self) -> &'static str {
+        match self {
+            Refusal::NoMemory => "NoMemory",
+            Refusal::NoSuchNode => "NoSuchNode",
+            Refusal::NoSuchTxn => "NoSuchTxn",
+            Refusal::TxnWaiting => "TxnWaiting",
+            Refusal::TxnCondemned => "TxnCondemned",
+            Refusal::BadMode => "BadMode",
+            Refusal::NeedParents(_) => "NeedParents",
+            Refusal::NotHeld => "NotHeld",
+            Refusal::HeldChild(_) => "HeldChild",
+            Refusal::WouldBlock => "WouldBlock",
+            Refusal::TooManyTxns => "TooManyTxns",
+            Refusal::TooManyNodes => "TooManyNodes",
+            Refusal::BadParents => "BadParents",
+            Refusal::NeedExclusive => "NeedExclusive",
+            Refusal::NotWaiting => "NotWaiting",
+            Refusal::FileInUse => "FileInUse",
+            Refusal::BadKeys => "BadKeys",
+            Refusal::WornOut => "WornOut",
+            Refusal::Cycle(_) => "Cycle",
+            Refusal::BadNumber => "BadNumber",
+        }
+    }
+}
+
+/// Its name, for a log, without the node that it may carry.
+impl fmt::Display for Refusal {
+    fn fmt(&self, f: &mut fmt::Formatter<'_>) -> fmt::Result {
+        f.pad(self.text())
+    }
+}
+
+impl Error for Refusal {}
+
+/// A reply that is no refusal.
+pub(crate) fn accepted(reply: Reply) -> Result<Reply, Refusal> {
+    if reply.status == sys::DONE {
+        Ok(reply)
+    } else {
+        Err(Refusal::of(&reply))
+    }
+}
+
+#[cfg(test)]
+mod tests {
+    use super::*;
+
+    fn reply(status: u32) -> Reply {
+        Reply {
+            status,
+            ..Reply::default()
+        }
+    }
+
+    /// The names of the statuses by number, those that the safe calls never answer left out.
+    const TEXTS: [(u32, &str); 20] = [
+        (1, "NoMemory"),
+        (2, "NoSuchNode"),
+        (3, "NoSuchTxn"),
+        (4, "TxnWaiting"),
+        (5, "TxnCondemned"),
+        (6, "BadMode"),
+        (7, "NeedParents"),
+        (8, "NotHeld"),
+        (9, "HeldChild"),
+        (10, "WouldBlock"),
+        (11, "TooManyTxns"),
+        (12, "TooManyNodes"),
+        (13, "BadParents"),
+        (14, "NeedExclusive"),
+        (15, "NotWaiting"),
+        (17, "FileInUse"),
+        (18, "BadKeys"),
+        (19, "WornOut"),
+        (21, "Cycle"),
+        (66, "BadNumber"),
+    ];
+
+    #[test]
+    fn each_status_has_its_refusal() {
+        for (status, text) in TEXTS {
+            assert_eq!(accepted(reply(status)).unwrap_err().to_string(), text);
+        }
+        assert!(accepted(reply(0)).is_ok());
+    }
+
+    #[test]
+    #[should_panic(expected = "status 65")]
+    fn a_place_without_manager_is_no_refusal() {
+        let _ = accepted(reply(65));
+    }
+}

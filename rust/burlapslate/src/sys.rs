@@ -1,0 +1,371 @@
+//! The library's calls, as `include/burlapslate.h` declares them. All that is unsafe stands here.
+//!
+//! A reference stands for a pointer that is not null, and says for the call what the header asks of
+//! it: what a call writes is behind a `&mut`, so it overlaps with nothing else and nobody else uses
+//! it; what it reads has a value, since a reference is to a value. So these calls are safe, but for
+//! those with a list, whose count is a word beside it: each of them has a safe one that takes a
+//! slice.
+//!
+//! A [`Place`] is made by [`Pinned::new`] alone, as zero, and stays where it is. It is changed by
+//! questions too, which take what it has out and put it back: so they take it by `&`, and what they
+//! change is in an `UnsafeCell`. It is not `Sync`, so no two threads are in questions of one
+//! manager at once; and no call calls back, so a question never meets another one half done.
+
+use crate::board::Slots;
+use crate::names::{Node, Txn};
+use crate::SLOTS;
+use std::alloc::{alloc_zeroed, Layout};
+use std::cell::UnsafeCell;
+use std::ffi::c_void;
+
+pub(crate) const DONE: u32 = 0;
+pub(crate) const NO_MEMORY: u32 = 1;
+pub(crate) const NO_SUCH_NODE: u32 = 2;
+pub(crate) const NO_SUCH_TXN: u32 = 3;
+pub(crate) const TXN_WAITING: u32 = 4;
+pub(crate) const TXN_CONDEMNED: u32 = 5;
+pub(crate) const BAD_MODE: u32 = 6;
+pub(crate) const NEED_PARENTS: u32 = 7;
+pub(crate) const NOT_HELD: u32 = 8;
+pub(crate) const HELD_CHILD: u32 = 9;
+pub(crate) const WOULD_BLOCK: u32 = 10;
+pub(crate) const TOO_MANY_TXNS: u32 = 11;
+pub(crate) const TOO_MANY_NODES: u32 = 12;
+pub(crate) const BAD_PARENTS: u32 = 13;
+pub(crate) const NEED_EXCLUSIVE: u32 = 14;
+pub(crate) const NOT_WAITING: u32 = 15;
+pub(crate) const FILE_IN_USE: u32 = 17;
+pub(crate) const BAD_KEYS: u32 = 18;
+pub(crate) const WORN_OUT: u32 = 19;
+pub(crate) const CYCLE: u32 = 21;
+pub(crate) const WAITING: u32 = 32;
+pub(crate) const VICTIM: u32 = 33;
+pub(crate) const BAD_NUMBER: u32 = 66;
+pub(crate) const NO_PLACE: u32 = 68;
+
+pub(crate) const TOLD_GRANTED: u32 = 1;
+pub(crate) const TOLD_VICTIM: u32 = 2;
+pub(crate) const TOLD_MOVED: u32 = 3;
+pub(crate) const TOLD_GONE: u32 = 4;
+
+/// `bs_manager`, whose fields are the library's own.
+#[repr(C)]
+struct Manager {
+    _is_open: bool,
+    _at: *mut c_void,
+}
+
+/// The place of a manager.
+#[repr(transparent)]
+pub(crate) struct Place(UnsafeCell<Manager>);
+
+// SAFETY: a manager is used by one thread at a time, now one and now another, as the header says:
+// nothing of it belongs to a thread.
+unsafe impl Send for Place {}
+
+/// `bs_reply`.
+#[repr(C)]
+#[derive(Clone, Copy, Debug)]
+pub(crate) struct Reply {
+    pub(crate) status: u32,
+    pub(crate) mode: u32,
+    pub(crate) node: Node,
+    pub(crate) txn: Txn,
+    pub(crate) released: u32,
+    pub(crate) kept: u32,
+    pub(crate) count: u64,
+}
+
+/// `bs_notice`.
+#[repr(C)]
+#[derive(Clone, Copy, Debug)]
+pub(crate) struct Notice {
+    pub(crate) txn: Txn,
+    pub(crate) node: Node,
+    pub(crate) kind: u32,
+    pub(crate) mode: u32,
+}
+
+/// `bs_notices`.
+#[repr(C)]
+pub(crate) struct Notices {
+    count: usize,
+    at: [Notice; SLOTS],
+}
+
+impl Notices {
+    /// The notices of the last call that filled it.
+    pub(crate) fn as_slice(&self) -> &[Notice] {
+        &self.at[..self.count]
+    }
+}
+
+/// `bs_board`. It may have any bits.
+#[repr(C)]
+#[derive(Clone, PartialEq, Eq)]
+pub(crate) struct Board {
+    pub(crate) epoch: u64,
+    pub(crate) ages: [u64; SLOTS],
+    pub(crate) rows: [Slots; SLOTS],
+}
+
+/// `bs_found`.
+#[repr(C)]
+pub(crate) struct Found {
+    pub(crate) status: u32,
+    pub(crate) slots: Slots,
+}
+
+/// What stays where it is on the heap: the place of a manager, and the notices of its last command.
+pub(crate) struct Pinned {
+    pub(crate) place: Place,
+    pub(crate) told: Notices,
+}
+
+impl Pinned {
+    /// A place without a manager, and no notices; `None` where memory is refused.
+    pub(crate) fn new() -> Option<Box<Pinned>> {
+        // SAFETY: the layout is that of `Pinned`, which is not empty.
+        let memory = unsafe { alloc_zeroed(Layout::new::<Pinned>()) };
+        if memory.is_null() {
+            return None;
+        }
+        // SAFETY: a box of a `Pinned` has this layout and this allocator, and zero in all bytes is
+        // a value of it: numbers, `false`, and a null pointer.
+        Some(unsafe { Box::from_raw(memory.cast()) })
+    }
+}
+
+// SAFETY: these are the calls of the header, and their types have the layout of its types. Those
+// that are safe have no conditions but what their types say, as the text above says.
+unsafe extern "C" {
+    pub(crate) safe fn bs_call_make(manager: &mut Place, detect: u32, most: u32) -> Reply;
+    pub(crate) safe fn bs_call_end(manager: &mut Place) -> Reply;
+
+    fn bs_call_add_inner(manager: &mut Place, parents: *const Node, count: usize) -> Reply;
+    fn bs_call_add_file(manager: &mut Place, parents: *const Node, count: usize) -> Reply;
+    fn bs_call_add_index(
+        manager: &mut Place,
+        parents: *const Node,
+        count: usize,
+        file: Node,
+        bounds: *const u64,
+        bound_count: usize,
+    ) -> Reply;
+
+    pub(crate) safe fn bs_call_begin(manager: &mut Place) -> Reply;
+    pub(crate) safe fn bs_call_lock(
+        manager: &mut Place,
+        txn: Txn,
+        node: Node,
+        mode: u32,
+        told: &mut Notices,
+    ) -> Reply;
+    pub(crate) safe fn bs_call_try(manager: &mut Place, txn: Txn, node: Node, mode: u32) -> Reply;
+    pub(crate) safe fn bs_call_unlock(
+        manager: &mut Place,
+        txn: Txn,
+        node: Node,
+        told: &mut Notices,
+    ) -> Reply;
+    pub(crate) safe fn bs_call_escalate(
+        manager: &mut Place,
+        txn: Txn,
+        node: Node,
+        told: &mut Notices,
+    ) -> Reply;
+    pub(crate) safe fn bs_call_cancel(manager: &mut Place, txn: Txn, told: &mut Notices) -> Reply;
+    pub(crate) safe fn bs_call_commit(manager: &mut Place, txn: Txn, told: &mut Notices) -> Reply;
+    pub(crate) safe fn bs_call_abort(manager: &mut Place, txn: Txn, told: &mut Notices) -> Reply;
+    pub(crate) safe fn bs_call_settle(manager: &mut Place, txn: Txn, told: &mut Notices) -> Reply;
+
+    fn bs_call_insert(
+        manager: &mut Place,
+        txn: Txn,
+        file: Node,
+        keys: *const u64,
+        count: usize,
+    ) -> Reply;
+    pub(crate) safe fn bs_call_delete(
+        manager: &mut Place,
+        txn: Txn,
+        record: Node,
+        told: &mut Notices,
+    ) -> Reply;
+    pub(crate) safe fn bs_call_rekey(
+        manager: &mut Place,
+        txn: Txn,
+        record: Node,
+        index: Node,
+        key: u64,
+        told: &mut Notices,
+    ) -> Reply;
+    fn bs_call_move(
+        manager: &mut Place,
+        txn: Txn,
+        node: Node,
+        parents: *const Node,
+        count: usize,
+        told: &mut Notices,
+    ) -> Reply;
+
+    pub(crate) safe fn bs_call_group(manager: &Place, node: Node) -> Reply;
+    pub(crate) safe fn bs_call_held(manager: &Place, txn: Txn, node: Node) -> Reply;
+    pub(crate) safe fn bs_call_effective(manager: &Place, txn: Txn, node: Node) -> Reply;
+    pub(crate) safe fn bs_call_waiting(manager: &Place, txn: Txn) -> Reply;
+    pub(crate) safe fn bs_call_children(manager: &Place, txn: Txn, node: Node) -> Reply;
+    pub(crate) safe fn bs_call_kind(manager: &Place, node: Node) -> Reply;
+    pub(crate) safe fn bs_call_parent(manager: &Place, node: Node, place: usize) -> Reply;
+    pub(crate) safe fn bs_call_key(manager: &Place, record: Node, place: usize) -> Reply;
+    pub(crate) safe fn bs_call_index(manager: &Place, file: Node, place: usize) -> Reply;
+    pub(crate) safe fn bs_call_interval(manager: &Place, index: Node, place: usize) -> Reply;
+    pub(crate) safe fn bs_call_interval_of(manager: &Place, index: Node, key: u64) -> Reply;
+    pub(crate) safe fn bs_call_place(manager: &Place, interval: Node) -> Reply;
+    pub(crate) safe fn bs_call_has_records(manager: &Place, file: Node) -> Reply;
+    pub(crate) safe fn bs_call_len(manager: &Place) -> Reply;
+    pub(crate) safe fn bs_call_accepted(manager: &Place) -> Reply;
+    pub(crate) safe fn bs_call_detect(manager: &Place) -> Reply;
+
+    pub(crate) safe fn bs_call_board(manager: &Place, board: &mut Board) -> Reply;
+    pub(crate) safe fn bs_call_on_cycle(board: &Board, slot: u32) -> Found;
+    pub(crate) safe fn bs_call_suspects(board: &Board) -> Found;
+    pub(crate) safe fn bs_call_youngest(board: &Board, slots: Slots) -> Reply;
+}
+
+/// Where a list begins; of an empty one, some value of its type, since a pointer is to what it
+/// says.
+fn start<T>(list: &[T], other: &'static T) -> *const T {
+    if list.is_empty() {
+        other
+    } else {
+        list.as_ptr()
+    }
+}
+
+fn nodes(list: &[Node]) -> *const Node {
+    start(list, &Node::NONE)
+}
+
+fn numbers(list: &[u64]) -> *const u64 {
+    start(list, &0)
+}
+
+pub(crate) fn add_inner(manager: &mut Place, parents: &[Node]) -> Reply {
+    // SAFETY: the count is the list's own.
+    unsafe { bs_call_add_inner(manager, nodes(parents), parents.len()) }
+}
+
+pub(crate) fn add_file(manager: &mut Place, parents: &[Node]) -> Reply {
+    // SAFETY: the count is the list's own.
+    unsafe { bs_call_add_file(manager, nodes(parents), parents.len()) }
+}
+
+pub(crate) fn add_index(
+    manager: &mut Place,
+    parents: &[Node],
+    file: Node,
+    bounds: &[u64],
+) -> Reply {
+    let (above, count) = (nodes(parents), parents.len());
+    // SAFETY: the counts are the lists' own.
+    unsafe { bs_call_add_index(manager, above, count, file, numbers(bounds), bounds.len()) }
+}
+
+pub(crate) fn insert(manager: &mut Place, txn: Txn, file: Node, keys: &[u64]) -> Reply {
+    // SAFETY: the count is the list's own.
+    unsafe { bs_call_insert(manager, txn, file, numbers(keys), keys.len()) }
+}
+
+pub(crate) fn move_node(
+    manager: &mut Place,
+    txn: Txn,
+    node: Node,
+    parents: &[Node],
+    told: &mut Notices,
+) -> Reply {
+    // SAFETY: the count is the list's own.
+    unsafe { bs_call_move(manager, txn, node, nodes(parents), parents.len(), told) }
+}
+
+#[cfg(test)]
+impl Default for Reply {
+    /// Zero in all fields.
+    fn default() -> Reply {
+        Reply {
+            status: DONE,
+            mode: 0,
+            node: Node::NONE,
+            txn: Txn::NONE,
+            released: 0,
+            kept: 0,
+            count: 0,
+        }
+    }
+}
+
+/// The layouts of the header's types, by a C compiler for machines of 64 bits.
+#[cfg(all(test, target_pointer_width = "64"))]
+mod layouts {
+    use super::*;
+    use std::mem::{align_of, offset_of, size_of};
+
+    /// The size and the alignment.
+    fn room<T>() -> (usize, usize) {
+        (size_of::<T>(), align_of::<T>())
+    }
+
+    #[test]
+    fn names() {
+        assert_eq!(room::<Node>(), (16, 8));
+        assert_eq!((offset_of!(Node, key), offset_of!(Node, birth)), (0, 8));
+        assert_eq!(room::<Txn>(), (16, 8));
+        assert_eq!((offset_of!(Txn, slot), offset_of!(Txn, age)), (0, 8));
+    }
+
+    #[test]
+    fn places() {
+        assert_eq!(room::<Place>(), (16, 8));
+        assert_eq!(room::<Manager>(), (16, 8));
+        assert_eq!(offset_of!(Manager, _is_open), 0);
+        assert_eq!(offset_of!(Manager, _at), 8);
+    }
+
+    #[test]
+    fn replies() {
+        assert_eq!(room::<Reply>(), (56, 8));
+        assert_eq!(offset_of!(Reply, status), 0);
+        assert_eq!(offset_of!(Reply, mode), 4);
+        assert_eq!(offset_of!(Reply, node), 8);
+        assert_eq!(offset_of!(Reply, txn), 24);
+        assert_eq!(offset_of!(Reply, released), 40);
+        assert_eq!(offset_of!(Reply, kept), 44);
+        assert_eq!(offset_of!(Reply, count), 48);
+    }
+
+    #[test]
+    fn notices() {
+        assert_eq!(room::<Notice>(), (40, 8));
+        assert_eq!(offset_of!(Notice, txn), 0);
+        assert_eq!(offset_of!(Notice, node), 16);
+        assert_eq!(offset_of!(Notice, kind), 32);
+        assert_eq!(offset_of!(Notice, mode), 36);
+        assert_eq!(room::<Notices>(), (5128, 8));
+        assert_eq!(offset_of!(Notices, count), 0);
+        assert_eq!(offset_of!(Notices, at), 8);
+    }
+
+    #[test]
+    fn boards() {
+        assert_eq!(room::<Slots>(), (16, 8));
+        assert_eq!((offset_of!(Slots, low), offset_of!(Slots, high)), (0, 8));
+        assert_eq!(room::<Board>(), (3080, 8));
+        assert_eq!(offset_of!(Board, epoch), 0);
+        assert_eq!(offset_of!(Board, ages), 8);
+        assert_eq!(offset_of!(Board, rows), 1032);
+        assert_eq!(room::<Found>(), (24, 8));
+        assert_eq!(
+            (offset_of!(Found, status), offset_of!(Found, slots)),
+            (0, 8)
+        );
+    }
+}

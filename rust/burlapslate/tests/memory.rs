@@ -1,0 +1,266 @@
+//! Want of memory: calls for memory are refused in turn, and a call of the manager that finds none
+//! changes nothing; what gives something back takes no memory at all, in the library or here; and a
+//! manager that ends gives back all that it took.
+//!
+//! `malloc` and its like are this program's own, and go on to those of glibc: so it is no good
+//! under a checker that has its own, too.
+#![cfg(all(target_os = "linux", target_env = "gnu"))]
+
+mod common;
+
+use burlapslate::{Detect, Manager, Mode, Node, Notice, Refusal, Txn, SLOTS};
+use common::{at_block, begin, grant, manager, store, wait};
+use std::cell::Cell;
+use std::ffi::c_void;
+use std::ptr::null_mut;
+
+/// Which growths of a thread are refused.
+#[derive(Clone, Copy, PartialEq, Debug)]
+enum Refused {
+    None,
+    /// One, counted from 1 on.
+    Nth(usize),
+    All,
+}
+
+thread_local! {
+    static REFUSED: Cell<Refused> = const { Cell::new(Refused::None) };
+    /// How many blocks of memory it has.
+    static BLOCKS: Cell<isize> = const { Cell::new(0) };
+}
+
+fn is_refused() -> bool {
+    match REFUSED.get() {
+        Refused::None => false,
+        Refused::Nth(1) => {
+            REFUSED.set(Refused::None);
+            true
+        }
+        Refused::Nth(n) => {
+            REFUSED.set(Refused::Nth(n - 1));
+            false
+        }
+        Refused::All => true,
+    }
+}
+
+/// What a call comes to with these growths refused, and those that were left to be refused.
+fn refusing<T>(refused: Refused, call: impl FnOnce() -> T) -> (T, Refused) {
+    REFUSED.set(refused);
+    let answer = call();
+    (answer, REFUSED.replace(Refused::None))
+}
+
+/// What a call comes to without any memory. It compares nothing itself, since to say what differs
+/// takes memory.
+fn without_memory<T>(call: impl FnOnce() -> T) -> T {
+    refusing(Refused::All, call).0
+}
+
+/// Counts a block that was given.
+fn given(block: *mut c_void) -> *mut c_void {
+    if !block.is_null() {
+        BLOCKS.set(BLOCKS.get() + 1);
+    }
+    block
+}
+
+/// The calls of the program for memory. Of each the caller keeps what the call of glibc asks for.
+mod heap {
+    use super::{c_void, given, is_refused, null_mut, BLOCKS};
+
+    extern "C" {
+        fn __libc_malloc(size: usize) -> *mut c_void;
+        fn __libc_calloc(count: usize, size: usize) -> *mut c_void;
+        fn __libc_realloc(old: *mut c_void, size: usize) -> *mut c_void;
+        fn __libc_free(block: *mut c_void);
+    }
+
+    #[no_mangle]
+    unsafe extern "C" fn malloc(size: usize) -> *mut c_void {
+        if is_refused() {
+            return null_mut();
+        }
+        given(unsafe { __libc_malloc(size) })
+    }
+
+    #[no_mangle]
+    unsafe extern "C" fn calloc(count: usize, size: usize) -> *mut c_void {
+        if is_refused() {
+            return null_mut();
+        }
+        given(unsafe { __libc_calloc(count, size) })
+    }
+
+    #[no_mangle]
+    unsafe extern "C" fn realloc(old: *mut c_void, size: usize) -> *mut c_void {
+        if old.is_null() {
+            return unsafe { malloc(size) };
+        }
+        if is_refused() {
+            return null_mut();
+        }
+        unsafe { __libc_realloc(old, size) }
+    }
+
+    #[no_mangle]
+    unsafe extern "C" fn free(block: *mut c_void) {
+        if !block.is_null() {
+            BLOCKS.set(BLOCKS.get() - 1);
+        }
+        unsafe { __libc_free(block) }
+    }
+}
+
+/// A manager that was made or not leaves nothing behind, nor does one that ends as it is.
+#[test]
+fn all_memory_comes_back() {
+    let before = BLOCKS.get();
+    let (made, _) = refusing(Refused::Nth(3), || Manager::new(Detect::AtBlock, SLOTS));
+    assert!(made.is_err());
+    assert_eq!(BLOCKS.get(), before);
+    let (mut m, root) = at_block();
+    let s = store(&mut m, root);
+    let [a, b] = begin(&mut m);
+    grant(&mut m, a, &s.path_below(), Mode::IX);
+    wait(&mut m, b, root, Mode::X);
+    assert!(BLOCKS.get() > before);
+    drop(m);
+    assert_eq!(BLOCKS.get(), before);
+}
+
+#[test]
+fn managers_that_are_not_made() {
+    let mut n = 1;
+    loop {
+        let (made, left) = refusing(Refused::Nth(n), || Manager::new(Detect::AtBlock, SLOTS));
+        if left != Refused::None {
+            assert!(made.is_ok());
+            break;
+        }
+        assert_eq!(made.unwrap_err(), Refusal::NoMemory);
+        n += 1;
+    }
+    assert!(n > 3);
+    let refused = without_memory(|| Manager::new(Detect::AtBlock, 0).map(drop));
+    assert_eq!(refused, Err(Refusal::BadNumber));
+}
+
+/// Calls until the answer is no want of memory, and changes nothing before. What is left to be
+/// refused goes over to the next call.
+fn in_spite<T>(
+    m: &mut Manager,
+    left: &mut Refused,
+    mut call: impl FnMut(&mut Manager) -> Result<T, Refusal>,
+) -> T {
+    loop {
+        let before = (m.accepted(), m.len());
+        let (answer, after) = refusing(*left, || call(m));
+        *left = after;
+        match answer {
+            Ok(value) => return value,
+            Err(refusal) => assert_eq!(refusal, Refusal::NoMemory),
+        }
+        assert_eq!((m.accepted(), m.len()), before);
+    }
+}
+
+/// A play with a growth refused; whether there was one.
+fn play(n: usize) -> bool {
+    let (mut m, root) = at_block();
+    let left = &mut Refused::Nth(n);
+    let file = in_spite(&mut m, left, |m| m.add_file(&[root]));
+    let index = in_spite(&mut m, left, |m| m.add_index(&[root], file, &[10, 20]));
+    let txn = in_spite(&mut m, left, |m| m.begin());
+    let interval = m.interval(index, 0).unwrap();
+    for node in [root, file, index, interval] {
+        in_spite(&mut m, left, |m| m.try_lock(txn, node, Mode::IX));
+    }
+    for key in 0..10 {
+        let record = in_spite(&mut m, left, |m| m.insert(txn, file, &[key]));
+        let mode = in_spite(&mut m, left, |m| m.effective(txn, record));
+        assert_eq!(mode, Mode::X);
+        let inner = in_spite(&mut m, left, |m| m.add_inner(&[root]));
+        in_spite(&mut m, left, |m| m.lock(txn, inner, Mode::X).map(|_| ()));
+        in_spite(&mut m, left, |m| {
+            m.move_node(txn, inner, &[root]).map(|_| ())
+        });
+    }
+    *left == Refused::None
+}
+
+#[test]
+fn growths_that_are_refused() {
+    let growths = (1..).take_while(|&n| play(n)).count();
+    assert!(growths > 20, "{growths}");
+}
+
+/// What is told, in place of a list that takes memory.
+type Told = [Option<Notice>; 3];
+
+fn told(notices: burlapslate::Notices) -> Told {
+    let mut told = [None; 3];
+    for (place, notice) in notices.enumerate() {
+        told[place] = Some(notice);
+    }
+    told
+}
+
+fn granted(txn: Txn, node: Node, mode: Mode) -> Told {
+    [Some(Notice::Granted { txn, node, mode }), None, None]
+}
+
+#[test]
+fn releases_take_none() {
+    let (mut m, root) = at_block();
+    let [a, b, c] = begin(&mut m);
+    grant(&mut m, a, &[root], Mode::X);
+    wait(&mut m, b, root, Mode::IX);
+    wait(&mut m, c, root, Mode::S);
+    let unlocked = without_memory(|| m.unlock(a, root).map(told));
+    assert_eq!(unlocked, Ok(granted(b, root, Mode::IX)));
+    wait(&mut m, a, root, Mode::X);
+    let cancelled = without_memory(|| m.cancel(c).map(told));
+    assert_eq!(cancelled, Ok([None; 3]));
+    let committed = without_memory(|| m.commit(b).map(told));
+    assert_eq!(committed, Ok(granted(a, root, Mode::X)));
+    wait(&mut m, c, root, Mode::S);
+    let aborted = without_memory(|| m.abort(a).map(told));
+    assert_eq!(aborted, Ok(granted(c, root, Mode::S)));
+}
+
+#[test]
+fn a_settle_takes_none() {
+    let (mut m, root) = manager(Detect::ByWatcher);
+    let [a, b] = begin(&mut m);
+    grant(&mut m, a, &[root], Mode::S);
+    grant(&mut m, b, &[root], Mode::S);
+    wait(&mut m, a, root, Mode::X);
+    wait(&mut m, b, root, Mode::X);
+    let board = without_memory(|| m.board());
+    assert_eq!(
+        without_memory(|| board.youngest(board.suspects())),
+        Some(b.slot())
+    );
+    let settled = without_memory(|| m.settle(a).map(told));
+    assert_eq!(settled, Ok([Some(Notice::Victim { txn: b }), None, None]));
+}
+
+#[test]
+fn records_take_none_but_to_be_made() {
+    let (mut m, root) = at_block();
+    let s = store(&mut m, root);
+    let [a, b] = begin(&mut m);
+    grant(&mut m, a, &[s.root, s.file, s.index], Mode::IX);
+    grant(&mut m, a, &[s.below, s.above, s.low], Mode::X);
+    let raised = without_memory(|| m.try_lock(a, s.root, Mode::S));
+    assert_eq!(raised, Ok(Mode::SIX));
+    grant(&mut m, b, &[s.root, s.file], Mode::IS);
+    wait(&mut m, b, s.low, Mode::S);
+    let rekeyed = without_memory(|| m.rekey(a, s.low, s.index, 300).map(told));
+    assert_eq!(rekeyed, Ok([None; 3]));
+    let deleted = without_memory(|| m.delete(a, s.low).map(told));
+    assert_eq!(deleted, Ok([Some(Notice::Gone { txn: b }), None, None]));
+    let escalated = without_memory(|| m.escalate(a, s.index).map(|(escalated, _)| escalated.mode));
+    assert_eq!(escalated, Ok(Mode::X));
+}

@@ -1,0 +1,247 @@
+//! Each refusal, of each command that has it. Want of memory is in `memory.rs`; a counter that has
+//! come to its end is met by no test.
+
+mod common;
+
+use burlapslate::{Asked, Detect, Manager, Mode, Node, Refusal, Txn, SLOTS};
+use common::{ask, at_block, begin, grant, refused_lock, store, wait, Store};
+
+/// What each command of a transaction on a node is refused with.
+fn of_each(m: &mut Manager, txn: Txn, s: &Store) -> [Option<Refusal>; 9] {
+    [
+        m.lock(txn, s.root, Mode::IS).err(),
+        m.try_lock(txn, s.root, Mode::IS).err(),
+        m.unlock(txn, s.root).err(),
+        m.escalate(txn, s.root).err(),
+        m.commit(txn).err(),
+        m.insert(txn, s.file, &[1]).err(),
+        m.delete(txn, s.low).err(),
+        m.rekey(txn, s.low, s.index, 1).err(),
+        m.move_node(txn, s.file, &[s.root]).err(),
+    ]
+}
+
+#[test]
+fn a_transaction_that_waits_or_is_condemned() {
+    let (mut m, root) = at_block();
+    let s = store(&mut m, root);
+    let [a, b] = begin(&mut m);
+    grant(&mut m, a, &[root], Mode::S);
+    grant(&mut m, b, &[root], Mode::S);
+    wait(&mut m, a, root, Mode::X);
+    assert_eq!(of_each(&mut m, a, &s), [Some(Refusal::TxnWaiting); 9]);
+    assert_eq!(ask(&mut m, b, root, Mode::X), Asked::Victim);
+    assert_eq!(of_each(&mut m, b, &s), [Some(Refusal::TxnCondemned); 9]);
+    assert_eq!(m.cancel(b).unwrap_err(), Refusal::TxnCondemned);
+}
+
+#[test]
+fn a_transaction_that_has_ended() {
+    let (mut m, root) = at_block();
+    let s = store(&mut m, root);
+    let [a] = begin(&mut m);
+    assert!(m.abort(a).unwrap().is_empty());
+    assert_eq!(of_each(&mut m, a, &s), [Some(Refusal::NoSuchTxn); 9]);
+    assert_eq!(m.cancel(a).unwrap_err(), Refusal::NoSuchTxn);
+    assert_eq!(m.abort(a).unwrap_err(), Refusal::NoSuchTxn);
+    assert_eq!(m.settle(a).unwrap_err(), Refusal::NoSuchTxn);
+    assert_eq!(m.held(a, root), Err(Refusal::NoSuchTxn));
+    assert_eq!(m.effective(a, root), Err(Refusal::NoSuchTxn));
+    assert_eq!(m.children(a, root), Err(Refusal::NotHeld));
+}
+
+#[test]
+fn a_node_that_is_not() {
+    let (mut m, root) = at_block();
+    let s = store(&mut m, root);
+    let [a] = begin(&mut m);
+    let none = Node::NONE;
+    assert_eq!(m.add_inner(&[none]), Err(Refusal::NoSuchNode));
+    assert_eq!(m.add_file(&[root, none]), Err(Refusal::NoSuchNode));
+    assert_eq!(m.add_index(&[root], none, &[]), Err(Refusal::NoSuchNode));
+    assert_eq!(refused_lock(&mut m, a, none, Mode::S), Refusal::NoSuchNode);
+    assert_eq!(m.try_lock(a, none, Mode::S), Err(Refusal::NoSuchNode));
+    assert_eq!(m.unlock(a, none).unwrap_err(), Refusal::NoSuchNode);
+    assert_eq!(m.escalate(a, none).unwrap_err(), Refusal::NoSuchNode);
+    assert_eq!(m.insert(a, none, &[]), Err(Refusal::NoSuchNode));
+    assert_eq!(m.delete(a, none).unwrap_err(), Refusal::NoSuchNode);
+    assert_eq!(m.rekey(a, s.low, none, 1).unwrap_err(), Refusal::NoSuchNode);
+    assert_eq!(
+        m.move_node(a, s.file, &[none]).unwrap_err(),
+        Refusal::NoSuchNode
+    );
+    assert_eq!(m.group(none), Err(Refusal::NoSuchNode));
+    assert_eq!(m.held(a, none), Err(Refusal::NoSuchNode));
+    assert_eq!(m.effective(a, none), Err(Refusal::NoSuchNode));
+    assert_eq!(m.children(a, none), Err(Refusal::NotHeld));
+}
+
+/// Questions about nodes of another kind.
+#[test]
+fn a_node_of_the_wrong_kind() {
+    let (mut m, root) = at_block();
+    let s = store(&mut m, root);
+    assert_eq!(m.kind(Node::NONE), Err(Refusal::NoSuchNode));
+    assert_eq!(m.index(root, 0), Err(Refusal::NoSuchNode));
+    assert_eq!(m.interval_of(s.file, 0), Err(Refusal::NoSuchNode));
+    assert_eq!(m.place(s.index), Err(Refusal::NoSuchNode));
+    assert_eq!(m.has_records(s.index), Err(Refusal::NoSuchNode));
+    assert_eq!((m.interval(s.file, 0), m.key(s.file, 0)), (None, None));
+}
+
+#[test]
+fn parents() {
+    let (mut m, root) = at_block();
+    let s = store(&mut m, root);
+    let [a] = begin(&mut m);
+    grant(&mut m, a, &[root], Mode::IX);
+    grant(&mut m, a, &[s.file], Mode::X);
+    assert_eq!(m.add_inner(&[root, root]), Err(Refusal::BadParents));
+    assert_eq!(m.add_inner(&[s.file]), Err(Refusal::BadParents));
+    assert_eq!(m.add_file(&[]), Err(Refusal::BadParents));
+    assert_eq!(m.add_index(&[], s.file, &[]), Err(Refusal::BadParents));
+    assert_eq!(m.insert(a, s.index, &[]), Err(Refusal::BadParents));
+    assert_eq!(m.delete(a, s.file).unwrap_err(), Refusal::BadParents);
+    assert_eq!(
+        m.rekey(a, s.low, s.file, 1).unwrap_err(),
+        Refusal::BadParents
+    );
+    assert_eq!(m.escalate(a, s.low).unwrap_err(), Refusal::BadParents);
+    assert_eq!(
+        m.move_node(a, s.file, &[]).unwrap_err(),
+        Refusal::BadParents
+    );
+}
+
+#[test]
+fn numbers_out_of_range() {
+    let beyond_32_bits = usize::try_from(1_u64 << 32 | 1).unwrap_or(usize::MAX);
+    for most in [0, SLOTS + 1, beyond_32_bits, usize::MAX] {
+        assert_eq!(
+            Manager::new(Detect::AtBlock, most).unwrap_err(),
+            Refusal::BadNumber
+        );
+    }
+    let (mut m, root) = at_block();
+    let [a] = begin(&mut m);
+    let many = [Node::NONE; burlapslate::MOST_PARENTS + 1];
+    assert_eq!(m.add_inner(&many), Err(Refusal::BadNumber));
+    assert_eq!(m.add_file(&many), Err(Refusal::BadNumber));
+    assert_eq!(m.add_index(&many, root, &[]), Err(Refusal::BadNumber));
+    assert_eq!(m.move_node(a, root, &many).unwrap_err(), Refusal::BadNumber);
+    let roots = [(); burlapslate::MOST_PARENTS].map(|()| m.add_inner(&[]).unwrap());
+    assert!(m.add_inner(&roots).is_ok());
+}
+
+#[test]
+fn the_rule_of_the_graph() {
+    let (mut m, root) = at_block();
+    let s = store(&mut m, root);
+    let [a] = begin(&mut m);
+    assert_eq!(
+        refused_lock(&mut m, a, s.file, Mode::IS),
+        Refusal::NeedParents(root)
+    );
+    grant(&mut m, a, &[root, s.file], Mode::IX);
+    assert_eq!(m.unlock(a, root).unwrap_err(), Refusal::HeldChild(s.file));
+    assert_eq!(refused_lock(&mut m, a, s.low, Mode::IX), Refusal::BadMode);
+    assert_eq!(refused_lock(&mut m, a, s.file, Mode::NL), Refusal::BadMode);
+    assert_eq!(
+        refused_lock(&mut m, a, s.low, Mode::X),
+        Refusal::NeedParents(s.below)
+    );
+    assert_eq!(
+        m.insert(a, s.file, &[150]),
+        Err(Refusal::NeedParents(s.above))
+    );
+    assert!(m.unlock(a, s.file).unwrap().is_empty());
+    assert_eq!(m.unlock(a, s.file).unwrap_err(), Refusal::NotHeld);
+    assert_eq!(m.escalate(a, s.file).unwrap_err(), Refusal::NotHeld);
+}
+
+#[test]
+fn locks_in_the_way() {
+    let (mut m, root) = at_block();
+    let [a, b] = begin(&mut m);
+    grant(&mut m, a, &[root], Mode::IX);
+    grant(&mut m, b, &[root], Mode::IS);
+    assert_eq!(m.try_lock(b, root, Mode::S), Err(Refusal::WouldBlock));
+    grant(&mut m, b, &[root], Mode::IX);
+    assert_eq!(m.escalate(a, root).unwrap_err(), Refusal::WouldBlock);
+    assert_eq!(m.cancel(a).unwrap_err(), Refusal::NotWaiting);
+}
+
+#[test]
+fn records_and_moves() {
+    let (mut m, root) = at_block();
+    let s = store(&mut m, root);
+    let [a] = begin(&mut m);
+    grant(&mut m, a, &s.path_below(), Mode::IX);
+    assert_eq!(m.delete(a, s.low).unwrap_err(), Refusal::NeedExclusive);
+    assert_eq!(
+        m.rekey(a, s.low, s.index, 150).unwrap_err(),
+        Refusal::NeedExclusive
+    );
+    assert_eq!(
+        m.move_node(a, s.file, &[root]).unwrap_err(),
+        Refusal::NeedExclusive
+    );
+    grant(&mut m, a, &[s.low], Mode::X);
+    assert_eq!(
+        m.rekey(a, s.low, s.index, 150).unwrap_err(),
+        Refusal::NeedParents(s.above)
+    );
+    let other = m.add_inner(&[root]).unwrap();
+    grant(&mut m, a, &[root, other], Mode::X);
+    assert_eq!(
+        m.move_node(a, other, &[other]).unwrap_err(),
+        Refusal::Cycle(other)
+    );
+    assert_eq!(
+        m.move_node(a, root, &[other]).unwrap_err(),
+        Refusal::Cycle(other)
+    );
+}
+
+#[test]
+fn keys() {
+    let (mut m, root) = at_block();
+    let s = store(&mut m, root);
+    let empty = m.add_file(&[root]).unwrap();
+    let [a] = begin(&mut m);
+    assert_eq!(m.add_index(&[root], s.file, &[]), Err(Refusal::FileInUse));
+    let rising: Vec<u64> = (1..=257).collect();
+    for bounds in [&[5, 5][..], &[2, 1], &[0], &rising] {
+        assert_eq!(m.add_index(&[root], empty, bounds), Err(Refusal::BadKeys));
+    }
+    assert!(m.add_index(&[root], empty, &rising[..256]).is_ok());
+    assert_eq!(m.insert(a, s.file, &[]), Err(Refusal::BadKeys));
+    assert_eq!(m.insert(a, s.file, &[1, 2]), Err(Refusal::BadKeys));
+}
+
+#[test]
+fn too_many() {
+    let mut m = Manager::new(Detect::AtBlock, 1).unwrap();
+    assert!(m.is_empty());
+    let root = m.add_inner(&[]).unwrap();
+    let [a] = begin(&mut m);
+    assert_eq!(m.begin(), Err(Refusal::TooManyTxns));
+    while m.len() < 65_536 {
+        m.add_inner(&[]).unwrap();
+    }
+    assert_eq!(m.add_inner(&[]), Err(Refusal::TooManyNodes));
+    assert_eq!(m.add_file(&[root]), Err(Refusal::TooManyNodes));
+    assert!(m.commit(a).unwrap().is_empty());
+    assert!(m.begin().is_ok());
+}
+
+/// A refusal is an error, and carries the node that it speaks of.
+#[test]
+fn texts() {
+    let (mut m, root) = at_block();
+    let file = m.add_file(&[root]).unwrap();
+    let [a] = begin(&mut m);
+    let refusal: Box<dyn std::error::Error> = m.try_lock(a, file, Mode::S).unwrap_err().into();
+    assert_eq!(refusal.to_string(), "NeedParents");
+    assert_eq!(refusal.downcast_ref(), Some(&Refusal::NeedParents(root)));
+}
