@@ -93,6 +93,11 @@ enum bs_modes { BS_NL = 0, BS_IS = 1, BS_IX = 2, BS_S = 3, BS_SIX = 4, BS_X = 5 
 /* How deadlocks are found: when a transaction begins to wait, or by a watcher that reads boards. */
 enum bs_detects { BS_AT_BLOCK = 0, BS_BY_WATCHER = 1 };
 
+/* Whom a deadlock takes: the youngest of those on a circle of waits with the transaction that closed it,
+ * again and again until it is on none; or the youngest of those that alone take it off all its circles,
+ * so that one is always enough. */
+enum bs_choices { BS_YOUNGEST = 0, BS_FEWEST = 1 };
+
 /* What a node is. */
 enum bs_kinds { BS_INNER = 1, BS_FILE = 2, BS_INDEX = 3, BS_INTERVAL = 4, BS_RECORD = 5 };
 
@@ -173,6 +178,7 @@ typedef struct bs_found {
  * and then makes the call of its name.
  */
 bs_reply bs_call_make(bs_manager *manager, uint32_t detect, uint32_t most);
+bs_reply bs_call_make_choosing(bs_manager *manager, uint32_t detect, uint32_t victims, uint32_t most);
 bs_reply bs_call_end(bs_manager *manager);
 bs_reply bs_call_add_inner(bs_manager *manager, const bs_node *parents, size_t count);
 bs_reply bs_call_add_file(bs_manager *manager, const bs_node *parents, size_t count);
@@ -208,6 +214,7 @@ bs_reply bs_call_has_records(bs_manager *manager, bs_node file);
 bs_reply bs_call_len(bs_manager *manager);
 bs_reply bs_call_accepted(bs_manager *manager);
 bs_reply bs_call_detect(bs_manager *manager);
+bs_reply bs_call_victims(bs_manager *manager);
 bs_reply bs_call_board(bs_manager *manager, bs_board *board);
 bs_found bs_call_on_cycle(const bs_board *board, uint32_t slot);
 bs_found bs_call_suspects(const bs_board *board);
@@ -241,10 +248,15 @@ static inline const uint64_t *bs_numbers(const uint64_t *list) {
  */
 
 /* Makes a manager at a place that has none, for `most` transactions at once, 1 to 128, with a way of
- * detection of enum bs_detects. Refused with BS_IN_USE, BS_BAD_NUMBER, BS_NO_MEMORY. Takes memory, more
- * for more transactions. */
+ * detection of enum bs_detects; of those in a deadlock the youngest falls. Refused with BS_IN_USE,
+ * BS_BAD_NUMBER, BS_NO_MEMORY. Takes memory, more for more transactions. */
 static inline bs_reply bs_make(bs_manager *manager, uint32_t detect, uint32_t most) {
   return manager == NULL ? bs_null() : bs_call_make(manager, detect, most);
+}
+
+/* As bs_make, with a choice of victims of enum bs_choices. */
+static inline bs_reply bs_make_choosing(bs_manager *manager, uint32_t detect, uint32_t victims, uint32_t most) {
+  return manager == NULL ? bs_null() : bs_call_make_choosing(manager, detect, victims, most);
 }
 
 /* Ends a manager, whatever its transactions do, and gives back all memory that it took. Its place has
@@ -334,7 +346,7 @@ static inline bs_reply bs_abort(bs_manager *manager, bs_txn txn, bs_notices *tol
   return bs_lacks(manager, told) ? bs_null() : bs_call_abort(manager, txn, told);
 }
 
-/* Condemns the youngest on a circle of waits with the transaction, again and again until it is on none;
+/* Condemns who is to fall for the transaction, by the choice of victims, until it is on no circle of waits;
  * whoever is condemned is told BS_TOLD_VICTIM. It is how a watcher ends deadlocks. Refused with
  * BS_NO_SUCH_TXN. */
 static inline bs_reply bs_settle(bs_manager *manager, bs_txn txn, bs_notices *told) {
@@ -489,6 +501,11 @@ static inline bs_reply bs_accepted(bs_manager *manager) {
 /* How deadlocks are found, in `count`, of enum bs_detects. */
 static inline bs_reply bs_detect(bs_manager *manager) {
   return manager == NULL ? bs_null() : bs_call_detect(manager);
+}
+
+/* Whom a deadlock takes, in `count`, of enum bs_choices. */
+static inline bs_reply bs_victims(bs_manager *manager) {
+  return manager == NULL ? bs_null() : bs_call_victims(manager);
 }
 
 /* ------------------------------------------------------------------------------------------------

@@ -188,6 +188,40 @@ static void a_deadlock_has_a_victim(void) {
   DONE(bs_end(&m));
 }
 
+/* Two young readers hold what an old writer asks for, and wait for what it holds: who falls by a choice. */
+static bs_status asks_in_their_way(uint32_t choice) {
+  bs_manager m = BS_NO_MANAGER_HERE;
+  bs_node wanted_node, held;
+  bs_txn a, b, c;
+  bs_status status;
+  DONE(bs_make_choosing(&m, BS_AT_BLOCK, choice, BS_SLOTS));
+  WANT(bs_victims(&m).count == choice);
+  wanted_node = DONE(bs_add_inner(&m, NULL, 0)).node;
+  held = DONE(bs_add_inner(&m, NULL, 0)).node;
+  a = begin(&m);
+  b = begin(&m);
+  c = begin(&m);
+  DONE(bs_lock(&m, a, held, BS_X, &told));
+  DONE(bs_lock(&m, b, wanted_node, BS_S, &told));
+  DONE(bs_lock(&m, c, wanted_node, BS_S, &told));
+  WANT(bs_lock(&m, b, held, BS_S, &told).status == BS_WAITING);
+  WANT(bs_lock(&m, c, held, BS_S, &told).status == BS_WAITING);
+  status = bs_lock(&m, a, wanted_node, BS_X, &told).status;
+  if (status == BS_WAITING) WANT(told.count == 2 && is_told(0, b, BS_TOLD_VICTIM) && is_told(1, c, BS_TOLD_VICTIM));
+  if (status == BS_VICTIM) WANT(told.count == 0);
+  DONE(bs_end(&m));
+  return status;
+}
+
+static void a_choice_of_victims(void) {
+  bs_manager m = BS_NO_MANAGER_HERE;
+  WANT(asks_in_their_way(BS_YOUNGEST) == BS_WAITING);
+  WANT(asks_in_their_way(BS_FEWEST) == BS_VICTIM);
+  WANT(bs_make_choosing(&m, BS_AT_BLOCK, 2, 1).status == BS_BAD_NUMBER);
+  WANT(bs_make_choosing(NULL, BS_AT_BLOCK, 0, 1).status == BS_NULL_POINTER);
+  WANT(bs_victims(&m).status == BS_NO_MANAGER && bs_victims(NULL).status == BS_NULL_POINTER);
+}
+
 static void an_older_asker_condemns_the_younger(void) {
   bs_node root;
   bs_manager m = begin_manager(BS_AT_BLOCK, &root);
@@ -563,6 +597,7 @@ int main(void) {
   TELL(a_commit_grants);
   TELL(a_conversion_goes_ahead);
   TELL(a_deadlock_has_a_victim);
+  TELL(a_choice_of_victims);
   TELL(an_older_asker_condemns_the_younger);
   TELL(a_watcher_settles);
   TELL(a_board_shows_a_circle);

@@ -13,6 +13,8 @@ use Rattle.gl_graph.specs.Shapes.{is_file_shape, is_index_shape, keys_in, kind_i
 use Rattle.gl_header.specs.Header.{holds}
 use Rattle.gl_table.specs.declared.detect.Detect.{Detect}
 use Rattle.gl_table.specs.declared.detect.Detect.TheVariants.{AtBlock, ByWatcher}
+use Rattle.gl_waits.specs.declared.victims.Victims.{Victims}
+use Rattle.gl_waits.specs.declared.victims.Victims.TheVariants.{Youngest, Fewest}
 use Rattle.gl_table.specs.Covered.{held_children}
 use Rattle.gl_table.specs.State.{lives, members, status_of}
 use Rattle.gl_catalog.specs.declared.command.Answer.TheVariants as answer
@@ -33,6 +35,11 @@ kind_number kind.File = 2
 kind_number kind.Index = 3
 kind_number kind.Interval = 4
 kind_number kind.Rec = 5
+
+-- the number of a choice of victims
+abbrev pub victims_number : Victims → ℕ
+victims_number Youngest = 0
+victims_number Fewest = 1
 
 -- the number of a way of detection
 abbrev pub detect_number : Detect → ℕ
@@ -81,6 +88,7 @@ looked m (query.HasRecords file) = records_of (state_of m).graph file
 looked m query.Len = count_reply (node_count (state_of m).graph)
 looked m query.Accepted = count_reply m.accepted
 looked m query.Detect = count_reply (detect_number m.table.detect)
+looked m query.Victims = count_reply (victims_number m.table.victims)
 
 -- a call that asks a question: it is answered where there is a manager, and nothing changes
 abbrev pub Looks : Option ManagerView → Query → Reply → Option ManagerView → Type 0

@@ -2,11 +2,12 @@
 use Rattle.std.specs.Prelude.{◌≡◌, ◌⊎◌, ℕ, Bool, ◌&&◌, Option, Some, None, if◌then◌else◌, nat_lt}
 use Rattle.gl_modes.specs.declared.refusal.Refusal.TheVariants as no
 use Rattle.gl_table.specs.declared.detect.Detect.{Detect}
-use Rattle.gl_table.specs.State.{empty_state}
+use Rattle.gl_waits.specs.declared.victims.Victims.{Victims}
+use Rattle.gl_table.specs.State.{choosing, empty_state}
 use Rattle.gl_catalog.specs.Manager.{ManagerView, state_of}
 use Rattle.gl_c.specs.declared.reply.Reply.{Reply}
 use Rattle.gl_c.specs.Carries.{Declines, Where}
-use Rattle.gl_c.specs.Numbers.{bad_number, detect_at, done, in_use, no_manager}
+use Rattle.gl_c.specs.Numbers.{bad_number, detect_at, done, in_use, no_manager, victims_at}
 use Rattle.gl_c.specs.Replies.{refused_reply, status_reply}
 
 -- so many transactions can be had at once
@@ -14,19 +15,20 @@ abbrev pub can_have : ℕ → Bool
 can_have most = nat_lt 0 most && nat_lt most 129
 
 -- there is a manager without nodes and transactions from now on, or memory was wanting, and there is none
-abbrev pub Begins : Detect → ℕ → Reply → Option ManagerView → Type 0
-Begins detect most r s' =
-    ((r ≡ status_reply done) × (m : ManagerView) × (s' ≡ Some m) × (state_of m ≡ empty_state detect most))
+abbrev pub Begins : Detect → Victims → ℕ → Reply → Option ManagerView → Type 0
+Begins detect victims most r s' =
+    ((r ≡ status_reply done) × (m : ManagerView) × (s' ≡ Some m) × (state_of m ≡ choosing victims (empty_state detect most)))
     ⊎ ((r ≡ refused_reply no.NoMemory) × (s' ≡ None))
 
--- the way of detection, where both numbers say what is wanted
+-- the way of detection, where its number names one and so many transactions can be had
 abbrev pub wanted : ℕ → ℕ → Option Detect
 wanted detect most = if can_have most then detect_at detect else None
 
 -- what comes of asking for a manager
-abbrev pub Makes : Option ManagerView → ℕ → ℕ → Reply → Option ManagerView → Type 0
-Makes (Some m) detect most r s' = Declines (Some m) in_use r s'
-Makes None detect most r s' = Where (wanted detect most) (λ way. Begins way most r s') (Declines None bad_number r s')
+abbrev pub Makes : Option ManagerView → ℕ → ℕ → ℕ → Reply → Option ManagerView → Type 0
+Makes (Some m) detect victims most r s' = Declines (Some m) in_use r s'
+Makes None detect victims most r s' =
+    Where (wanted detect most) (λ way. Where (victims_at victims) (λ choice. Begins way choice most r s') (Declines None bad_number r s')) (Declines None bad_number r s')
 
 -- what the end of a manager is answered
 abbrev pub ended : Option ManagerView → Reply

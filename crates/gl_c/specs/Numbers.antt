@@ -1,9 +1,11 @@
--- The numbers by which C names modes, ways of detection and kinds of notices, and the statuses that are no refusals.
+-- The numbers by which C names modes, ways of detection, choices of victims and kinds of notices, and the statuses that are no refusals.
 use Rattle.std.specs.Prelude.{ℕ, Option, Some, None, ◌==◌, if◌then◌else◌}
 use Rattle.gl_modes.specs.declared.mode.Mode.{Mode}
 use Rattle.gl_modes.specs.declared.mode.Mode.TheVariants.{NL, IS, IX, S, SIX, X}
 use Rattle.gl_table.specs.declared.detect.Detect.{Detect}
 use Rattle.gl_table.specs.declared.detect.Detect.TheVariants.{AtBlock, ByWatcher}
+use Rattle.gl_waits.specs.declared.victims.Victims.{Victims}
+use Rattle.gl_waits.specs.declared.victims.Victims.TheVariants.{Youngest, Fewest}
 use Rattle.gl_table.specs.declared.effect.Effect.{Effect}
 use Rattle.gl_table.specs.declared.effect.Effect.TheVariants as effect
 
@@ -35,6 +37,10 @@ effect_number effect.X = 5
 -- the way of detection of a number, if it is one's
 abbrev pub detect_at : ℕ → Option Detect
 detect_at n = if n == 0 then Some AtBlock else if n == 1 then Some ByWatcher else None
+
+-- the choice of victims of a number, if it is one's
+abbrev pub victims_at : ℕ → Option Victims
+victims_at n = if n == 0 then Some Youngest else if n == 1 then Some Fewest else None
 
 -- it was done; refusals have their own numbers, 1 to 21
 abbrev pub done : ℕ

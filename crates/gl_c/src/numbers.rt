@@ -1,10 +1,11 @@
 //! The numbers by which C names modes, ways of detection and statuses.
 
 ghost use Rattle.std.specs.Prelude.{◌≡◌};
-ghost use Rattle.gl_c.specs.Numbers.{detect_at, effect_number, mode_at, mode_number};
+ghost use Rattle.gl_c.specs.Numbers.{detect_at, effect_number, mode_at, mode_number, victims_at};
 
 use gl_modes::Mode;
 use gl_table::{Detect, Effect};
+use gl_waits::Victims;
 
 /// It was done, or answered.
 pub(crate) const DONE: u32 = 0;
@@ -64,6 +65,17 @@ pub(crate) fn effect_number(effect: Effect) -> u32
         Effect::None => 0,
         Effect::S => 3,
         Effect::X => 5,
+    }
+}
+
+/// The choice of victims of a number; `None` where it is no choice's.
+pub(crate) fn victims_at(number: u32) -> Option<Victims>
+    ensures { result ≡ victims_at number }
+{
+    match number {
+        0 => Some(Victims::Youngest),
+        1 => Some(Victims::Fewest),
+        _ => None,
     }
 }
 

@@ -198,3 +198,13 @@ pub extern "C" fn bs_call_detect(manager: &mut Handle) -> Reply
 {
     manager.look(Query::Detect)
 }
+
+/// Whom a deadlock takes.
+///
+/// What C keeps: `manager` was zero before its first call and is used by this one alone.
+#[unsafe(no_mangle)]
+pub extern "C" fn bs_call_victims(manager: &mut Handle) -> Reply
+    ensures { Looks (manager_in manager.old) query.Victims result (manager_in manager.new) }
+{
+    manager.look(Query::Victims)
+}

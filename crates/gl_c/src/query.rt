@@ -4,7 +4,7 @@ ghost use Rattle.std.specs.Prelude.{◌≡◌};
 ghost use Rattle.std.specs.Option.{option_map};
 ghost use Rattle.gl_modes.specs.declared.refusal.Refusal.TheVariants as no;
 ghost use Rattle.gl_graph.specs.View.{graph_of};
-ghost use Rattle.gl_c.specs.Looks.{counted, detect_number, found, index_at, interval_with, kind_number, looked, records_of, waited};
+ghost use Rattle.gl_c.specs.Looks.{counted, detect_number, found, index_at, interval_with, kind_number, looked, records_of, victims_number, waited};
 ghost use Rattle.gl_c.specs.Numbers.{no_place};
 ghost use Rattle.gl_c.specs.Replies.{refused_reply, status_reply};
 
@@ -15,6 +15,7 @@ use gl_catalog::Manager;
 use gl_graph::{Graph, Kind};
 use gl_modes::{Mode, NodeId, Refusal};
 use gl_table::{Detect, TxnId};
+use gl_waits::Victims;
 
 /// A question.
 #[derive(Clone, Copy)]
@@ -45,6 +46,7 @@ pub(crate) enum Query {
     Accepted,
     /// How deadlocks are found.
     Detect,
+    Victims,
 }
 
 /// Answers a question.
@@ -58,6 +60,7 @@ pub(crate) fn look(manager: &Manager, query: Query) -> Reply
         Query::Len => Reply::with_count(graph.len() as u64),
         Query::Accepted => Reply::with_count(manager.accepted()),
         Query::Detect => Reply::with_count(detect_number(manager.detect())),
+        Query::Victims => Reply::with_count(victims_number(manager.victims())),
         Query::Kind { node } => kind_reply(graph.kind(node)),
         Query::Parent { node, place } => node_reply(graph.parents(node).get(place).copied()),
         Query::Key { rec, place } => key_reply(graph.keys(rec).get(place).copied()),
@@ -164,6 +167,16 @@ fn kind_number(kind: Kind) -> u64
         Kind::Index => 3,
         Kind::Interval => 4,
         Kind::Rec => 5,
+    }
+}
+
+/// The number of a choice of victims.
+fn victims_number(victims: Victims) -> u64
+    ensures { result ≡ victims_number victims }
+{
+    match victims {
+        Victims::Youngest => 0,
+        Victims::Fewest => 1,
     }
 }
 

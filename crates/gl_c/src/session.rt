@@ -3,7 +3,7 @@
 ghost use Rattle.std.specs.Prelude.{◌≡◌, ◌≤◌, IfErr, IfOk};
 ghost use Rattle.gl_modes.specs.declared.refusal.Refusal.{Refusal as ARefusal};
 ghost use Rattle.gl_table.specs.BoardOf.{board_of};
-ghost use Rattle.gl_table.specs.State.{empty_state};
+ghost use Rattle.gl_table.specs.State.{choosing, empty_state};
 ghost use Rattle.gl_catalog.specs.Manager.{state_of};
 ghost use Rattle.gl_c.specs.Carries.{Answers, Replies};
 ghost use Rattle.gl_c.specs.Looks.{looked};
@@ -14,6 +14,7 @@ use crate::reply::Reply;
 use gl_catalog::{Command, Manager};
 use gl_modes::Refusal;
 use gl_table::{Detect, Told};
+use gl_waits::Victims;
 use std::alloc::Global;
 use std::marker::Model;
 
@@ -40,13 +41,13 @@ impl Model for Session {
 impl Session {
     /// A session of a new manager, for at most so many transactions at once. The only refusal is
     /// `NoMemory`.
-    pub(crate) fn new(alloc: Global, detect: Detect, most: usize) -> Result<Self, Refusal>
+    pub(crate) fn new(alloc: Global, detect: Detect, victims: Victims, most: usize) -> Result<Self, Refusal>
         requires some { 1 ≤ most }
         requires few { most ≤ 128 }
-        ensures made { IfOk result (λ session. state_of session ≡ empty_state detect most) }
+        ensures made { IfOk result (λ session. state_of session ≡ choosing victims (empty_state detect most)) }
         ensures refused { IfErr result (λ refusal. refusal ≡ ARefusal.NoMemory) }
     {
-        let manager = Manager::new(alloc, detect, most)?;
+        let manager = Manager::choosing(alloc, detect, victims, most)?;
         Ok(Session {
             manager,
             told: Told::new(),

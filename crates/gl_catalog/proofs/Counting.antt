@@ -1,4 +1,5 @@
 -- No definition of the table asks for the count of accepted commands.
+use Rattle.gl_waits.specs.declared.victims.Victims.{Victims}
 use Rattle.std.specs.Prelude.{◌≡◌, ◌≤◌, ℕ, zero, suc}
 use Rattle.std.proofs.Common.{refl, ap}
 use Rattle.gl_modes.specs.declared.mode.Mode.{Mode}
@@ -14,7 +15,7 @@ use Rattle.gl_table.specs.State.{State}
 use Rattle.gl_table.specs.Table.{ListsAgree, StandOnce, TableView}
 use Rattle.gl_table.specs.Table.{state_of as table_state}
 use Rattle.gl_table.specs.Tellings.{told}
-use Rattle.gl_table.specs.Waiting.{HasNoCycle, Settled, SettledWithin}
+use Rattle.gl_table.specs.Waiting.{HasNoCycle, IsVictim, Settled, SettledWithin}
 use Rattle.gl_catalog.specs.Manager.{IsLawfulManager, counting}
 
 module _ (k : ℕ) where
@@ -49,22 +50,25 @@ module _ (k : ℕ) where
   told_counting s s' = refl
 
   -- nor settling
-  within_counting : (turns : ℕ) (s : State) (t : ℕ) (s' : State) → SettledWithin turns s t s' → SettledWithin turns (counting k s) t (counting k s')
-  within_counting zero s t s' h = (h.0, ap (counting k) h.1)
-  within_counting (suc turns) s t s' h = (h.0, h.1, within_counting turns (condemned s h.0) t s' h.2)
+  victim_counting : (c : Victims) (s : State) (t v : ℕ) → IsVictim c s t v → IsVictim c (counting k s) t v
+  victim_counting c s t v h = h
 
-  pub settled_counting : (s : State) (t : ℕ) (s' : State) → Settled s t s' → Settled (counting k s) t (counting k s')
-  settled_counting s t s' h = (h.0, within_counting h.0 s t s' h.1)
+  within_counting : (c : Victims) (turns : ℕ) (s : State) (t : ℕ) (s' : State) → SettledWithin c turns s t s' → SettledWithin c turns (counting k s) t (counting k s')
+  within_counting c zero s t s' h = (h.0, ap (counting k) h.1)
+  within_counting c (suc turns) s t s' h = (h.0, victim_counting c s t h.0 h.1, within_counting c turns (condemned s h.0) t s' h.2)
+
+  pub settled_counting : (c : Victims) (s : State) (t : ℕ) (s' : State) → Settled c s t s' → Settled c (counting k s) t (counting k s')
+  settled_counting c s t s' h = (h.0, within_counting c h.0 s t s' h.1)
 
   -- nor what a lock leaves
-  waits_counting : (d : Detect) (s : State) (t : ℕ) (s' : State) → WaitSettles d s t s' → WaitSettles d (counting k s) t (counting k s')
-  waits_counting AtBlock s t s' h = settled_counting s t s' h
-  waits_counting ByWatcher s t s' h = ap (counting k) h
+  waits_counting : (d : Detect) (c : Victims) (s : State) (t : ℕ) (s' : State) → WaitSettles d c s t s' → WaitSettles d c (counting k s) t (counting k s')
+  waits_counting AtBlock c s t s' h = settled_counting c s t s' h
+  waits_counting ByWatcher c s t s' h = ap (counting k) h
 
   pub locks_counting : (s : State) (t : ℕ) (n : NodeId) (m : Mode) (s' : State) → Locks s t n m s' → Locks (counting k s) t n m (counting k s')
   locks_counting s t n m s' h = record {
     at_once = λ e. ap (counting k) (h.at_once e);
-    waits = λ e. waits_counting s.detect (enqueued s t n (wanted s t n m)) t s' (h.waits e);
+    waits = λ e. waits_counting s.detect s.victims (enqueued s t n (wanted s t n m)) t s' (h.waits e);
   }
 
   -- a lawful table with this count is a lawful manager

@@ -1,4 +1,5 @@
 -- No command changes the way of detection.
+use Rattle.gl_waits.specs.declared.victims.Victims.{Victims}
 use Rattle.std.specs.Prelude.{◌≡◌, ℕ, zero, suc}
 use Rattle.std.proofs.Common.{ap, refl}
 use Rattle.gl_table.specs.declared.detect.Detect.{Detect}
@@ -16,13 +17,13 @@ use Rattle.gl_catalog.proofs.EachStep.{each_step}
 use Rattle.gl_graph.proofs.Look.{split}
 
 -- the way of detection stays
-settled_detect : (k : ℕ) (s s' : State) (t : ℕ) → SettledWithin k s t s' → s'.detect ≡ s.detect
-settled_detect zero s s' t h = ap (λ z. z.detect) h.1
-settled_detect (suc k) s s' t h = settled_detect k (condemned s h.0) s' t h.2
+settled_detect : (c : Victims) (k : ℕ) (s s' : State) (t : ℕ) → SettledWithin c k s t s' → s'.detect ≡ s.detect
+settled_detect c zero s s' t h = ap (λ z. z.detect) h.1
+settled_detect c (suc k) s s' t h = settled_detect c k (condemned s h.0) s' t h.2
 
-wait_detect : (d : Detect) (s s' : State) (t : ℕ) → WaitSettles d s t s' → s'.detect ≡ s.detect
-wait_detect AtBlock s s' t h = settled_detect h.0 s s' t h.1
-wait_detect ByWatcher s s' t h = ap (λ z. z.detect) h
+wait_detect : (d : Detect) (c : Victims) (s s' : State) (t : ℕ) → WaitSettles d c s t s' → s'.detect ≡ s.detect
+wait_detect AtBlock c s s' t h = settled_detect c h.0 s s' t h.1
+wait_detect ByWatcher c s s' t h = ap (λ z. z.detect) h
 
 accepts_detect : (s : State) (c : Command) (a : Answer) (told' : Told) (s' : State) → Accepts s c a told' s' → s'.detect ≡ s.detect
 accepts_detect s (command.Inner ps) a told' s' acc = ap (λ z. z.detect) acc.4
@@ -34,14 +35,14 @@ accepts_detect s (command.Rekey t r i key) a told' s' acc = ap (λ z. z.detect) 
 accepts_detect s (command.Move t n ps) a told' s' acc = ap (λ z. z.detect) acc.2
 accepts_detect s command.Begin a told' s' acc = ap (λ z. z.detect) acc.4
 accepts_detect s (command.Lock t n m) a told' s' acc =
-    split (enters_at s t.slot n m) (λ e. ap (λ z. z.detect) (acc.0.at_once e)) (λ e. wait_detect s.detect (enqueued s t.slot n (wanted s t.slot n m)) s' t.slot (acc.0.waits e))
+    split (enters_at s t.slot n m) (λ e. ap (λ z. z.detect) (acc.0.at_once e)) (λ e. wait_detect s.detect s.victims (enqueued s t.slot n (wanted s t.slot n m)) s' t.slot (acc.0.waits e))
 accepts_detect s (command.Try t n m) a told' s' acc = ap (λ z. z.detect) acc.2
 accepts_detect s (command.Unlock t n) a told' s' acc = ap (λ z. z.detect) acc.2
 accepts_detect s (command.Escalate t n) a told' s' acc = ap (λ z. z.detect) acc.2
 accepts_detect s (command.Cancel t) a told' s' acc = ap (λ z. z.detect) acc.2
 accepts_detect s (command.Commit t) a told' s' acc = ap (λ z. z.detect) acc.2
 accepts_detect s (command.Abort t) a told' s' acc = ap (λ z. z.detect) acc.2
-accepts_detect s (command.Settle t) a told' s' acc = settled_detect acc.2.0 s s' t.slot acc.2.1
+accepts_detect s (command.Settle t) a told' s' acc = settled_detect s.victims acc.2.0 s s' t.slot acc.2.1
 accepts_detect s (command.Group n) a told' s' acc = absurd acc
 accepts_detect s (command.Held t n) a told' s' acc = absurd acc
 accepts_detect s (command.Effective t n) a told' s' acc = absurd acc

@@ -81,7 +81,7 @@ module _ (s : State) (law : IsLawful s) (t : TxnId) (alive : lives s t ≡ true)
       kept_told_but u.slot ne told' acc.2
       (split (enters_at s u.slot n m) (λ e. follows_is _ (acc.0.at_once e) (with_grant_follows s u.slot t.slot n _ ne well))
       (λ e. let f = enqueued_follows s u.slot t.slot n (wanted s u.slot n m) ne well in
-      follows_trans s (enqueued s u.slot n (wanted s u.slot n m)) next t.slot f (wait_settles_follows s.detect (enqueued s u.slot n (wanted s u.slot n m)) u.slot next t.slot (acc.0.waits e) f.well)))
+      follows_trans s (enqueued s u.slot n (wanted s u.slot n m)) next t.slot f (wait_settles_follows s.detect s.victims (enqueued s u.slot n (wanted s u.slot n m)) u.slot next t.slot (acc.0.waits e) f.well)))
 
   pub try_keeps : (u : TxnId) (n : NodeId) (m : Mode) (a : Answer) (told' : Told) → u.slot ≢ t.slot → Accepts s (command.Try u n m) a told' next → Kept told'
   try_keeps u n m a told' ne acc = kept_quiet told' (ap (λ x. x.txns t.slot) acc.2) (follows_is _ acc.2 (with_grant_follows s u.slot t.slot n _ ne well))
@@ -99,7 +99,7 @@ module _ (s : State) (law : IsLawful s) (t : TxnId) (alive : lives s t ≡ true)
   release_keeps u told' ne e is = kept_told told' e (follows_is _ is (released_follows s u.slot t.slot ne well))
 
   pub settle_keeps : (u : TxnId) (a : Answer) (told' : Told) → Accepts s (command.Settle u) a told' next → Kept told'
-  settle_keeps u a told' acc = kept_told told' acc.1 (settled_follows s u.slot next t.slot acc.2 well)
+  settle_keeps u a told' acc = kept_told told' acc.1 (settled_follows s.victims s u.slot next t.slot acc.2 well)
 
   pub begin_keeps : (a : Answer) (told' : Told) → Accepts s command.Begin a told' next → Kept told'
   begin_keeps a told' acc =

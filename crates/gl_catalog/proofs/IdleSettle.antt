@@ -30,7 +30,7 @@ module _ (s s' : State) (t : TxnId) (a : Answer) (told : Told) (law : IsLawful s
   goes (Some r) same = unchanged r same
   goes None ends =
       let settled = ends.1.2 in
-      (ends.1.1 ∙ told_settled_same s ends.0 t.slot law none settled, λ _. ends.2 ∙ ap accepted_once (settled_same s ends.0 t.slot none settled))
+      (ends.1.1 ∙ told_settled_same s.victims s ends.0 t.slot law none settled, λ _. ends.2 ∙ ap accepted_once (settled_same s.victims s ends.0 t.slot none settled))
 
   pub quiet_step : Step s (command.Settle t) a told s' → Quiet
   quiet_step step =

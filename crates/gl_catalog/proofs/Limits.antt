@@ -1,4 +1,5 @@
 -- The two refusals that are far from the empty state: by induction there is a run to a full graph, and one to a count that is worn out.
+use Rattle.gl_waits.specs.declared.victims.Victims.TheVariants.{Youngest}
 use Rattle.std.specs.Prelude.{◌≡◌, ℕ, zero, suc, ◌+◌, ◌<◌, Bool, true, false, ◌==◌, nat_lt, ◌-◌, List, [], ◌∷◌, ◌++◌, Some, None, replicate}
 use Rattle.std.proofs.Common.{refl, ap, ap₂, ◌∙◌, arith, subst}
 use Rattle.std.proofs.lemmas.Bool.Decides.{nat_tests}
@@ -109,11 +110,11 @@ record HasFullGraph : Type 0 where
 row_too_many_nodes : (n : ℕ) → n ≡ 65536 → HasFullGraph
 row_too_many_nodes n e =
     let start : State = empty_state AtBlock 1 in
-    let full = many_roots n 0 start (omega arith) (record { law = empty-lawful AtBlock 1; accepted = refl; births = refl; count = refl }) in
+    let full = many_roots n 0 start (omega arith) (record { law = empty-lawful AtBlock Youngest 1; accepted = refl; births = refl; count = refl }) in
     record {
       state = after start (replicate n root);
       before = replicate n root;
       said = replies start (replicate n root);
-      run = play_runs (replicate n root) start (empty-lawful AtBlock 1);
+      run = play_runs (replicate n root) start (empty-lawful AtBlock Youngest 1);
       refused = root_tested (after start (replicate n root)) 65536 (omega arith) full;
     }

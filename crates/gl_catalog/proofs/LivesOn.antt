@@ -1,4 +1,5 @@
 -- A transaction that lives on over a step: its age stays, and it begins no wait.
+use Rattle.gl_waits.specs.declared.victims.Victims.{Victims}
 use Rattle.std.specs.Prelude.{◌≡◌, ℕ, zero, suc, Bool, true, false, ◌==◌, List, Option, Some, None, if◌then◌else◌}
 use Rattle.std.proofs.Common.{refl, sym, ap, subst, ◌∙◌}
 use Rattle.gl_modes.specs.declared.mode.Mode.{Mode}
@@ -88,15 +89,15 @@ pub over_goes_on : (s : State) (v : ℕ) (st : Status) → IsQuiet st → (u : �
 over_goes_on s v st quiet u =
     lives_on_trans (s.txns u) ((without_wait s v st).txns u) ((pumped (without_wait s v st) (is_waiting_at s v)).txns u) (without_wait_goes_on s v st quiet u) (pumped_goes_on (without_wait s v st) (is_waiting_at s v) u)
 
-settled_within_goes_on : (k : ℕ) (s s' : State) (t u : ℕ) → SettledWithin k s t s' → GoesOn s s' u
-settled_within_goes_on zero s s' t u h = lives_on_same (s.txns u) (s'.txns u) (ap (λ (x : State). x.txns u) h.1)
-settled_within_goes_on (suc k) s s' t u h =
-    lives_on_trans (s.txns u) ((condemned s h.0).txns u) (s'.txns u) (over_goes_on s h.0 Condemned (λ n m e. cc) u) (settled_within_goes_on k (condemned s h.0) s' t u h.2)
+settled_within_goes_on : (c : Victims) (k : ℕ) (s s' : State) (t u : ℕ) → SettledWithin c k s t s' → GoesOn s s' u
+settled_within_goes_on c zero s s' t u h = lives_on_same (s.txns u) (s'.txns u) (ap (λ (x : State). x.txns u) h.1)
+settled_within_goes_on c (suc k) s s' t u h =
+    lives_on_trans (s.txns u) ((condemned s h.0).txns u) (s'.txns u) (over_goes_on s h.0 Condemned (λ n m e. cc) u) (settled_within_goes_on c k (condemned s h.0) s' t u h.2)
 
 -- each victim
-pub settled_goes_on : (s s' : State) (t u : ℕ) → Settled s t s' → GoesOn s s' u
-settled_goes_on s s' t u h = settled_within_goes_on h.0 s s' t u h.1
+pub settled_goes_on : (c : Victims) (s s' : State) (t u : ℕ) → Settled c s t s' → GoesOn s s' u
+settled_goes_on c s s' t u h = settled_within_goes_on c h.0 s s' t u h.1
 
-pub wait_settles_goes_on : (d : Detect) (s s' : State) (t u : ℕ) → WaitSettles d s t s' → GoesOn s s' u
-wait_settles_goes_on AtBlock s s' t u h = settled_goes_on s s' t u h
-wait_settles_goes_on ByWatcher s s' t u h = lives_on_same (s.txns u) (s'.txns u) (ap (λ (x : State). x.txns u) h)
+pub wait_settles_goes_on : (d : Detect) (c : Victims) (s s' : State) (t u : ℕ) → WaitSettles d c s t s' → GoesOn s s' u
+wait_settles_goes_on AtBlock c s s' t u h = settled_goes_on c s s' t u h
+wait_settles_goes_on ByWatcher c s s' t u h = lives_on_same (s.txns u) (s'.txns u) (ap (λ (x : State). x.txns u) h)

@@ -65,4 +65,4 @@ pub abort_keeps : (t : TxnId) → KeepsLaw (command.Abort t)
 abort_keeps t s s' a told law h acc = subst IsLawful (sym acc.2) (released-lawful s law t.slot)
 
 pub settle_keeps : (t : TxnId) → KeepsLaw (command.Settle t)
-settle_keeps t s s' a told law h acc = settled-lawful s s' t.slot law acc.2
+settle_keeps t s s' a told law h acc = settled-lawful s.victims s s' t.slot law acc.2

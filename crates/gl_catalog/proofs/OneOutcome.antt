@@ -1,4 +1,5 @@
 -- In a lawful state a command that makes no node has one outcome, since settling ends in one state and all else is an equation.
+use Rattle.gl_waits.specs.declared.victims.Victims.{Victims}
 use Rattle.std.specs.Prelude.{◌≡◌, ◌+◌, ℕ, [], false, Option, Some, None}
 use Rattle.std.proofs.Common.{refl, sym, ap, ◌∙◌}
 use mathlib.Core.Bool.{true≢false}
@@ -21,9 +22,9 @@ use Rattle.gl_graph.proofs.Look.{some_is, split}
 use Rattle.gl_table.proofs.LockKeeps.{MayLock, may_lock, waiting-lawful}
 use Rattle.gl_table.proofs.OneEnd.{settled_one}
 
-wait_one : (d : Detect) (s s₁ s₂ : State) (t : ℕ) → IsLawful s → WaitSettles d s t s₁ → WaitSettles d s t s₂ → s₁ ≡ s₂
-wait_one AtBlock s s₁ s₂ t law h k = settled_one s s₁ s₂ t law h k
-wait_one ByWatcher s s₁ s₂ t law h k = h ∙ sym k
+wait_one : (d : Detect) (c : Victims) (s s₁ s₂ : State) (t : ℕ) → IsLawful s → WaitSettles d c s t s₁ → WaitSettles d c s t s₂ → s₁ ≡ s₂
+wait_one AtBlock c s s₁ s₂ t law h k = settled_one c s s₁ s₂ t law h k
+wait_one ByWatcher c s s₁ s₂ t law h k = h ∙ sym k
 
 -- two ways in which one command goes
 module _ (s s₁ s₂ : State) (a₁ a₂ : Answer) (told₁ told₂ : Told) where
@@ -43,7 +44,7 @@ same_accepted s law (command.Lock t n m) s₁ s₂ a₁ a₂ told₁ told₂ non
     let may : MayLock s t n m = (may_lock s t n m (worn s) [] free).0 in
     let e : s₁ ≡ s₂ =
     split (enters_at s t.slot n m) (λ e. x.0.at_once e ∙ sym (y.0.at_once e))
-    (λ e. wait_one s.detect (enqueued s t.slot n (wanted s t.slot n m)) s₁ s₂ t.slot (waiting-lawful s law t n m may e) (x.0.waits e) (y.0.waits e)) in
+    (λ e. wait_one s.detect s.victims (enqueued s t.slot n (wanted s t.slot n m)) s₁ s₂ t.slot (waiting-lawful s law t n m may e) (x.0.waits e) (y.0.waits e)) in
     (x.1 ∙ ap (λ z. lock_answer (z.held t.slot n) (status_of z t.slot)) e ∙ sym y.1, x.2 ∙ ap (told_but t.slot s) e ∙ sym y.2, e)
 same_accepted s law (command.Try t n m) s₁ s₂ a₁ a₂ told₁ told₂ none free x y = (x.0 ∙ sym y.0, x.1 ∙ sym y.1, x.2 ∙ sym y.2)
 same_accepted s law (command.Unlock t n) s₁ s₂ a₁ a₂ told₁ told₂ none free x y = by_told s s₁ s₂ a₁ a₂ told₁ told₂ (told s) x.0 y.0 x.1 y.1 (x.2 ∙ sym y.2)
@@ -51,7 +52,7 @@ same_accepted s law (command.Escalate t n) s₁ s₂ a₁ a₂ told₁ told₂ n
 same_accepted s law (command.Cancel t) s₁ s₂ a₁ a₂ told₁ told₂ none free x y = by_told s s₁ s₂ a₁ a₂ told₁ told₂ (told_but t.slot s) x.0 y.0 x.1 y.1 (x.2 ∙ sym y.2)
 same_accepted s law (command.Commit t) s₁ s₂ a₁ a₂ told₁ told₂ none free x y = by_told s s₁ s₂ a₁ a₂ told₁ told₂ (told s) x.0 y.0 x.1 y.1 (x.2 ∙ sym y.2)
 same_accepted s law (command.Abort t) s₁ s₂ a₁ a₂ told₁ told₂ none free x y = by_told s s₁ s₂ a₁ a₂ told₁ told₂ (told s) x.0 y.0 x.1 y.1 (x.2 ∙ sym y.2)
-same_accepted s law (command.Settle t) s₁ s₂ a₁ a₂ told₁ told₂ none free x y = by_told s s₁ s₂ a₁ a₂ told₁ told₂ (told s) x.0 y.0 x.1 y.1 (settled_one s s₁ s₂ t.slot law x.2 y.2)
+same_accepted s law (command.Settle t) s₁ s₂ a₁ a₂ told₁ told₂ none free x y = by_told s s₁ s₂ a₁ a₂ told₁ told₂ (told s) x.0 y.0 x.1 y.1 (settled_one s.victims s s₁ s₂ t.slot law x.2 y.2)
 same_accepted s law (command.Delete t r) s₁ s₂ a₁ a₂ told₁ told₂ none free x y = by_told s s₁ s₂ a₁ a₂ told₁ told₂ (told s) x.0 y.0 x.1 y.1 (x.2 ∙ sym y.2)
 same_accepted s law (command.Rekey t r i key) s₁ s₂ a₁ a₂ told₁ told₂ none free x y = by_told s s₁ s₂ a₁ a₂ told₁ told₂ (told s) x.0 y.0 x.1 y.1 (x.2 ∙ sym y.2)
 same_accepted s law (command.Move t n ps) s₁ s₂ a₁ a₂ told₁ told₂ none free x y = by_told s s₁ s₂ a₁ a₂ told₁ told₂ (told s) x.0 y.0 x.1 y.1 (x.2 ∙ sym y.2)

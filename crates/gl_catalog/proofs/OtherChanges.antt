@@ -1,4 +1,6 @@
 -- Each way in which another transaction's command changes grants, queues and slots, and what it leaves to a slot t that it does not name.
+use Rattle.gl_waits.specs.declared.victims.Victims.{Victims}
+use Rattle.gl_waits.proofs.VictimLemmas.{candidate-on_cycle}
 use Rattle.std.specs.Prelude.{◌≡◌, ◌≢◌, ℕ, zero, suc, ◌+◌, Bool, true, false, ◌&&◌, ◌||◌, ◌==◌, List, [], ◌∷◌, Option, Some, None, if◌then◌else◌}
 use Rattle.std.proofs.Common.{refl, sym, ap, subst, ◌∙◌, arith, inl}
 use Rattle.std.proofs.lemmas.Bool.Decides.{nat_tests}
@@ -118,19 +120,20 @@ walk_waits : (s : State) (v u : ℕ) (way : List ℕ) → IsWalk (waits_for s) v
 walk_waits s v u [] walk = edge_waits s v u walk
 walk_waits s v u (x ∷ way) walk = edge_waits s v x walk.0
 
-pub settled_within_follows : (k : ℕ) (s : State) (u : ℕ) (s' : State) (t : ℕ) → SettledWithin k s u s' → WaitsWell s t → Follows s s' t
-settled_within_follows zero s u s' t done well = subst (λ x. Follows s x t) (sym done.1) (follows_same s s t well refl refl (λ q. refl) (λ q. refl))
-settled_within_follows (suc k) s u s' t more well =
-    let f = condemned_follows s more.0 t (walk_waits s more.0 u more.1.is_member.back.0 more.1.is_member.back.1) well in
-    follows_trans s (condemned s more.0) s' t f (settled_within_follows k (condemned s more.0) u s' t more.2 f.well)
+pub settled_within_follows : (c : Victims) (k : ℕ) (s : State) (u : ℕ) (s' : State) (t : ℕ) → SettledWithin c k s u s' → WaitsWell s t → Follows s s' t
+settled_within_follows c zero s u s' t done well = subst (λ x. Follows s x t) (sym done.1) (follows_same s s t well refl refl (λ q. refl) (λ q. refl))
+settled_within_follows c (suc k) s u s' t more well =
+    let back = (candidate-on_cycle c (waits_for s) u more.0 more.1.is_member).back in
+    let f = condemned_follows s more.0 t (walk_waits s more.0 u back.0 back.1) well in
+    follows_trans s (condemned s more.0) s' t f (settled_within_follows c k (condemned s more.0) u s' t more.2 f.well)
 
 -- someone is settled
-pub settled_follows : (s : State) (u : ℕ) (s' : State) (t : ℕ) → Settled s u s' → WaitsWell s t → Follows s s' t
-settled_follows s u s' t settled well = settled_within_follows settled.0 s u s' t settled.1 well
+pub settled_follows : (c : Victims) (s : State) (u : ℕ) (s' : State) (t : ℕ) → Settled c s u s' → WaitsWell s t → Follows s s' t
+settled_follows c s u s' t settled well = settled_within_follows c settled.0 s u s' t settled.1 well
 
-pub wait_settles_follows : (d : Detect) (s : State) (u : ℕ) (s' : State) (t : ℕ) → WaitSettles d s u s' → WaitsWell s t → Follows s s' t
-wait_settles_follows AtBlock s u s' t settles well = settled_follows s u s' t settles well
-wait_settles_follows ByWatcher s u s' t settles well = subst (λ x. Follows s x t) (sym settles) (follows_same s s t well refl refl (λ q. refl) (λ q. refl))
+pub wait_settles_follows : (d : Detect) (c : Victims) (s : State) (u : ℕ) (s' : State) (t : ℕ) → WaitSettles d c s u s' → WaitsWell s t → Follows s s' t
+wait_settles_follows AtBlock c s u s' t settles well = settled_follows c s u s' t settles well
+wait_settles_follows ByWatcher c s u s' t settles well = subst (λ x. Follows s x t) (sym settles) (follows_same s s t well refl refl (λ q. refl) (λ q. refl))
 
 -- everything of another taken out, or some of its grants, and then the pump
 abbrev cleared : State → ℕ → State

@@ -82,7 +82,7 @@ go s (command.Escalate t n) =
 go s (command.Cancel t) = let s' = cancelled s t.slot in (answer.Done, told_but t.slot s s', s')
 go s (command.Commit t) = done s (released s t.slot)
 go s (command.Abort t) = done s (released s t.slot)
-go s (command.Settle t) = done s (settled s t.slot)
+go s (command.Settle t) = done s (settled s.victims s t.slot)
 go s (command.Insert t f keys) =
     (answer.Node (next_id s (free_key s)), [], with_grant (made s (new_node s (Rec keys.now) (record_parents s.graph f keys.now))) t.slot (next_id s (free_key s)) X)
 go s (command.Delete t r) = done s (deleted s r)

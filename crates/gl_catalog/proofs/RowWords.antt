@@ -1,4 +1,5 @@
 -- Words for worked rows: commands with what is answered to them, as runs from the empty state.
+use Rattle.gl_waits.specs.declared.victims.Victims.TheVariants.{Youngest}
 use Rattle.std.specs.Prelude.{◌≡◌, ℕ, ◌-◌, List, [], ◌∷◌, ◌++◌, map}
 use Rattle.std.proofs.Common.{subst}
 use denote.Bor.{Bor}
@@ -43,7 +44,7 @@ computed {detect = detect} {most = most} {lines = lines} same =
     let start : State = empty_state detect most in
     record {
       state = after start (commands lines);
-      run = subst (λ rs. Run start (commands lines) rs (after start (commands lines))) same (play_runs (commands lines) start (empty-lawful detect most));
+      run = subst (λ rs. Run start (commands lines) rs (after start (commands lines))) same (play_runs (commands lines) start (empty-lawful detect Youngest most));
     }
 
 -- a borrowed list, as a command has it

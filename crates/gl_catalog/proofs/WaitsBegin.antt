@@ -63,7 +63,7 @@ module _ (s : State) (t : ℕ) (n : NodeId) (m : Mode) (a : Answer) where
         (λ queued.
         let x : State = enqueued s u.slot q (wanted s u.slot q w) in
         let before : x.txns t ≡ s.txns t = ap (λ b. if b then restatus (Waiting q (wanted s u.slot q w)) (s.txns u.slot) else s.txns t) e in
-        inl (ap status_in (sym before) ∙ (wait_settles_goes_on s.detect x next u.slot t (locks.waits queued)).waits n m waits)))
+        inl (ap status_in (sym before) ∙ (wait_settles_goes_on s.detect s.victims x next u.slot t (locks.waits queued)).waits n m waits)))
 
     accepted : (c : Command) → Accepts s c a list next → Began next
     accepted (command.Inner ps) acc = same _ acc.4 refl
@@ -84,7 +84,7 @@ module _ (s : State) (t : ℕ) (n : NodeId) (m : Mode) (a : Answer) where
     accepted (command.Cancel u) acc = on _ acc.2 (over_goes_on s u.slot Active (λ q w h. cc) t)
     accepted (command.Commit u) acc = released_case u.slot (ap (λ (x : State). status_of x t) acc.2)
     accepted (command.Abort u) acc = released_case u.slot (ap (λ (x : State). status_of x t) acc.2)
-    accepted (command.Settle u) acc = λ w. inl ((settled_goes_on s next u.slot t acc.2).waits n m w)
+    accepted (command.Settle u) acc = λ w. inl ((settled_goes_on s.victims s next u.slot t acc.2).waits n m w)
     accepted (command.Delete u r) acc = on _ acc.2 (freed_on r (s.txns t))
     accepted (command.Rekey u r i k) acc =
         let ps = rekeyed_parents s.graph r i k in on _ acc.2 (unless_on (λ v. is_among_waiters v (filter (stays s ps) (s.queue r))) r t (s.txns t))

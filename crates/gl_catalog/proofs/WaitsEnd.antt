@@ -136,7 +136,7 @@ module _ (s : State) (law : IsLawful s) (t : TxnId) (alive : lives s t ≡ true)
         (λ e. let x : State = enqueued s u.slot q (wanted s u.slot q w) in
         lives_on_trans (s.txns t.slot) (x.txns t.slot) (next.txns t.slot)
         (lives_on_same (s.txns t.slot) (x.txns t.slot) (ap (λ b. if b then restatus (Waiting q (wanted s u.slot q w)) (s.txns u.slot) else s.txns t.slot) (other u.slot t.slot ne)))
-        (wait_settles_goes_on s.detect x next u.slot t.slot (locks.waits e)))
+        (wait_settles_goes_on s.detect s.victims x next u.slot t.slot (locks.waits e)))
 
     accepted : (c : Command) → AllNone (tests_of s c) → Accepts s c a list next → Ended c
     accepted (command.Inner ps) passed acc = unmoved _ acc.4 refl (command.Inner ps)
@@ -159,7 +159,7 @@ module _ (s : State) (law : IsLawful s) (t : TxnId) (alive : lives s t ≡ true)
     accepted (command.Commit u) passed acc = all_told (command.Commit u) acc.1 (on_is _ acc.2 (released_on u.slot (other_active u passed.1.1.0)))
     accepted (command.Abort u) passed acc =
         split (same_txn t u) (λ e. named (command.Abort u) e) (λ e. all_told (command.Abort u) acc.1 (on_is _ acc.2 (released_on u.slot (other_slot u e passed.1.0))))
-    accepted (command.Settle u) passed acc = all_told (command.Settle u) acc.1 (settled_goes_on s next u.slot t.slot acc.2)
+    accepted (command.Settle u) passed acc = all_told (command.Settle u) acc.1 (settled_goes_on s.victims s next u.slot t.slot acc.2)
     accepted (command.Delete u r) passed acc = all_told (command.Delete u r) acc.1 (on_is _ acc.2 (freed_on r (s.txns t.slot)))
     accepted (command.Rekey u r i k) passed acc =
         let ps = rekeyed_parents s.graph r i k in

@@ -52,7 +52,7 @@ Accepts s (command.Escalate t n) a told' s' =
 Accepts s (command.Cancel t) a told' s' = (a ≡ answer.Done) × (told' ≡ told_but t.slot s s') × (s' ≡ cancelled s t.slot)
 Accepts s (command.Commit t) a told' s' = (a ≡ answer.Done) × (told' ≡ told s s') × (s' ≡ released s t.slot)
 Accepts s (command.Abort t) a told' s' = (a ≡ answer.Done) × (told' ≡ told s s') × (s' ≡ released s t.slot)
-Accepts s (command.Settle t) a told' s' = (a ≡ answer.Done) × (told' ≡ told s s') × Settled s t.slot s'
+Accepts s (command.Settle t) a told' s' = (a ≡ answer.Done) × (told' ≡ told s s') × Settled s.victims s t.slot s'
 Accepts s (command.Insert t f keys) a told' s' =
     (n : NodeId) × IsBorn s.graph s'.graph n (Rec keys.now) (record_parents s.graph f keys.now) × (a ≡ answer.Node n) × (told' ≡ []) × (s' ≡ with_grant (with_graph s s'.graph) t.slot n X)
 Accepts s (command.Delete t r) a told' s' = (a ≡ answer.Done) × (told' ≡ told s s') × (s' ≡ deleted s r)

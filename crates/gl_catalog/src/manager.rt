@@ -5,14 +5,14 @@ ghost use Rattle.gl_modes.specs.declared.refusal.Refusal.{Refusal as ARefusal};
 ghost use Rattle.gl_header.specs.Header.{holds};
 ghost use Rattle.gl_table.specs.BoardOf.{board_of};
 ghost use Rattle.gl_table.specs.Covered.{held_children};
-ghost use Rattle.gl_table.specs.State.{empty_state, lives, members, status_of};
+ghost use Rattle.gl_table.specs.State.{choosing, empty_state, lives, members, status_of};
 ghost use Rattle.gl_catalog.specs.Manager.{IsLawfulManager, state_of};
 ghost use Rattle.gl_catalog.specs.Replies.{wait_of};
 
 use gl_graph::Graph;
 use gl_modes::{Mode, NodeId, Refusal};
 use gl_table::{Detect, Status, Table, TxnId};
-use gl_waits::Board;
+use gl_waits::{Board, Victims};
 use std::alloc::Global;
 use std::marker::Model;
 
@@ -44,15 +44,25 @@ impl Model for Manager {
 }
 
 impl Manager {
-    /// A manager without nodes and transactions, for at most so many transactions at once. The only
-    /// refusal is `NoMemory`.
+    /// A manager without nodes and transactions, for at most so many transactions at once. Of those in
+    /// a deadlock the youngest falls. The only refusal is `NoMemory`.
     pub fn new(alloc: Global, detect: Detect, most: usize) -> Result<Self, Refusal>
         requires some { 1 ≤ most }
         requires few { most ≤ 128 }
         ensures made { IfOk result (λ manager. state_of manager ≡ empty_state detect most) }
         ensures refused { IfErr result (λ refusal. refusal ≡ ARefusal.NoMemory) }
     {
-        let table = Table::new(alloc, detect, most)?;
+        Manager::choosing(alloc, detect, Victims::Youngest, most)
+    }
+
+    /// As `new`, with a choice of whom a deadlock takes.
+    pub fn choosing(alloc: Global, detect: Detect, victims: Victims, most: usize) -> Result<Self, Refusal>
+        requires some { 1 ≤ most }
+        requires few { most ≤ 128 }
+        ensures made { IfOk result (λ manager. state_of manager ≡ choosing victims (empty_state detect most)) }
+        ensures refused { IfErr result (λ refusal. refusal ≡ ARefusal.NoMemory) }
+    {
+        let table = Table::choosing(alloc, detect, victims, most)?;
         table.law();
         Ok(Manager { table, accepted: 0 })
     }
@@ -84,6 +94,13 @@ impl Manager {
         ensures { result ≡ self.now.table.detect }
     {
         self.table.detect()
+    }
+
+    /// Whom a deadlock takes.
+    pub fn victims(&self) -> Victims
+        ensures { result ≡ self.now.table.victims }
+    {
+        self.table.victims()
     }
 
     /// The lock graph.

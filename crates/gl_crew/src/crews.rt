@@ -13,6 +13,7 @@ use crate::seats::{Room, serve_all};
 use gl_modes::Refusal;
 use gl_shared::{Naming, NotAll, Parts, Share, Shared, Watcher, gather};
 use gl_table::Detect;
+use gl_waits::Victims;
 use std::alloc::Global;
 use std::marker::Brand;
 use std::sync::Wait;
@@ -41,16 +42,17 @@ pub fn crew<R: Threads + Wait + Sync>(
     sessions: u32,
     rounds: u32,
     detect: Detect,
+    victims: Victims,
 ) -> Result<u64, CrewFault>
     requires { (0 < sessions) × (sessions ≤ 128) }
     ensures { IfOk result (λ count. IsCount detect sessions rounds count) }
 {
-    crew_with(rt, alloc, &Open, sessions, rounds, detect)
+    crew_with(rt, alloc, &Open, sessions, rounds, detect, victims)
 }
 
 /// Has so many sessions, 1 to 128, do so many rounds each over one new table, each in a thread of its
 /// own, and answers how many commands were accepted: seven a round, and with detection by a watcher
-/// those by which it settled deadlocks.
+/// those by which it settled deadlocks, with this choice of victims.
 ///
 /// In each round a session begins a transaction, locks a data base, a file, an index and its first
 /// interval in IX and a record in X, in odd rounds its own record and in even ones that of all, and
@@ -72,11 +74,12 @@ pub fn crew_with<G: Gate + Sync, R: Threads + Wait + Sync>(
     sessions: u32,
     rounds: u32,
     detect: Detect,
+    victims: Victims,
 ) -> Result<u64, CrewFault>
     requires { (0 < sessions) × (sessions ≤ 128) }
     ensures { IfOk result (λ count. IsCount detect sessions rounds count) }
 {
-    let (manager, field) = match lay_out(alloc, sessions, detect) {
+    let (manager, field) = match lay_out(alloc, sessions, detect, victims) {
         Ok(made) => made,
         Err(refusal) => return Err(CrewFault::Refused(refusal)),
     };

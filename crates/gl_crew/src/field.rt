@@ -5,6 +5,7 @@ ghost use Rattle.std.specs.Prelude.{◌≡◌, ◌+◌, ◌<◌, ◌^◌, IfOk};
 use gl_catalog::{Answer, Command, Manager};
 use gl_modes::{Mode, NodeId, Refusal};
 use gl_table::{Detect, TxnId};
+use gl_waits::Victims;
 use std::alloc::Global;
 
 /// How many transactions the table of a crew takes at once.
@@ -38,11 +39,12 @@ pub(crate) fn lay_out(
     alloc: Global,
     sessions: u32,
     detect: Detect,
+    victims: Victims,
 ) -> Result<(Manager, Field), Refusal>
     requires { sessions < 2 ^ 31 }
     ensures { IfOk result (λ made. made.0.table.detect ≡ detect) }
 {
-    let mut manager = Manager::new(alloc, detect, MOST)?;
+    let mut manager = Manager::choosing(alloc, detect, victims, MOST)?;
     let Ok(mut records) = Vec::with_capacity(alloc, sessions as usize + 1) else {
         return Err(Refusal::NoMemory);
     };

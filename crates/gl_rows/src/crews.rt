@@ -2,6 +2,7 @@
 
 use gl_table::Detect;
 use gl_tool::{CrewFault, Gate, Point, crew, crew_with};
+use gl_waits::Victims;
 use std::alloc::Global;
 use std::process::Abort;
 use std::sync::{Mutex, MutexGuard, Wait};
@@ -89,7 +90,7 @@ fn counted<R: Threads + Wait + Sync>(
     rounds: u32,
     detect: Detect,
 ) -> Result<u64, CrewFault> {
-    crew(rt, alloc, 4, rounds, detect)
+    crew(rt, alloc, 4, rounds, detect, Victims::Youngest)
 }
 
 /// The same of two sessions behind a gate.
@@ -99,7 +100,7 @@ fn counted_behind<G: Gate + Sync, R: Threads + Wait + Sync>(
     gate: &G,
     detect: Detect,
 ) -> Result<u64, CrewFault> {
-    crew_with(rt, alloc, gate, 2, 1, detect)
+    crew_with(rt, alloc, gate, 2, 1, detect, Victims::Youngest)
 }
 
 /// Four sessions that do a hundred rounds.

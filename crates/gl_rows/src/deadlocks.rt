@@ -1,7 +1,6 @@
 //! Deadlocks, and who is condemned to end them.
 
-use crate::rows::{Lines, try_out};
-use gl_table::Detect;
+use crate::rows::{AT_BLOCK, BY_WATCHER, FEWEST, Lines, try_out};
 use std::test::Fail;
 
 /// Two readers want to write. The second closes the cycle, and is the youngest on it.
@@ -45,7 +44,7 @@ const CYCLE_THROUGH_A_QUEUE: Lines = &[
 ];
 
 /// With detection by a watcher the cycle stands until it is settled.
-const BY_WATCHER: Lines = &[
+const LEFT_TO_A_WATCHER: Lines = &[
     ("inner db", "ok"),
     ("begin a", "ok"),
     ("begin b", "ok"),
@@ -58,10 +57,75 @@ const BY_WATCHER: Lines = &[
     ("abort b", "ok\ntold a granted X db"),
 ];
 
+/// Two young readers hold what an old writer asks for, and wait for what it holds.
+const IN_THE_WRITERS_WAY: Lines = &[
+    ("inner g", "ok"),
+    ("inner h", "ok"),
+    ("begin a", "ok"),
+    ("begin b", "ok"),
+    ("begin c", "ok"),
+    ("lock b S g", "ok S"),
+    ("lock c S g", "ok S"),
+    ("lock a X h", "ok X"),
+    ("lock b S h", "wait"),
+    ("lock c S h", "wait"),
+];
+
+/// The youngest falls, and then the other.
+const BOTH_READERS_FALL: Lines = &[
+    ("lock a X g", "wait\ntold b victim\ntold c victim"),
+    ("abort b", "ok"),
+    ("abort c", "ok\ntold a granted X g"),
+];
+
+/// Neither reader's fall is enough; the writer's is.
+const THE_WRITER_FALLS: Lines = &[
+    ("lock a X g", "victim"),
+    ("abort a", "ok\ntold b granted S h\ntold c granted S h"),
+];
+
+/// The writer waits for two readers, who both wait for a younger one, who waits for the writer.
+const ONE_ON_ALL_CYCLES: Lines = &[
+    ("inner g", "ok"),
+    ("inner h", "ok"),
+    ("inner i", "ok"),
+    ("begin a", "ok"),
+    ("begin b", "ok"),
+    ("begin c", "ok"),
+    ("begin d", "ok"),
+    ("lock b S g", "ok S"),
+    ("lock c S g", "ok S"),
+    ("lock d X h", "ok X"),
+    ("lock a X i", "ok X"),
+    ("lock b S h", "wait"),
+    ("lock c S h", "wait"),
+    ("lock d S i", "wait"),
+    ("lock a X g", "wait\ntold d victim"),
+    ("abort d", "ok\ntold b granted S h\ntold c granted S h"),
+];
+
+#[test]
+fn fewest_victims(rt: HostRuntime) -> Result<(), Fail> {
+    let alloc = rt.alloc();
+    try_out(
+        &rt,
+        alloc,
+        AT_BLOCK,
+        &[IN_THE_WRITERS_WAY, BOTH_READERS_FALL],
+    )?;
+    try_out(&rt, alloc, FEWEST, &[IN_THE_WRITERS_WAY, THE_WRITER_FALLS])?;
+    for policy in [AT_BLOCK, FEWEST] {
+        try_out(&rt, alloc, policy, &[ASKER_IS_VICTIM])?;
+        try_out(&rt, alloc, policy, &[CYCLE_THROUGH_A_QUEUE])?;
+        try_out(&rt, alloc, policy, &[ONE_ON_ALL_CYCLES])?;
+    }
+    Ok(())
+}
+
 #[test]
 fn deadlocks(rt: HostRuntime) -> Result<(), Fail> {
     for lines in [ASKER_IS_VICTIM, OTHER_IS_VICTIM, CYCLE_THROUGH_A_QUEUE] {
-        try_out(&rt, rt.alloc(), Detect::AtBlock, &[lines])?;
+        try_out(&rt, rt.alloc(), AT_BLOCK, &[lines])?;
     }
-    try_out(&rt, rt.alloc(), Detect::ByWatcher, &[BY_WATCHER])
+    try_out(&rt, rt.alloc(), BY_WATCHER, &[LEFT_TO_A_WATCHER])
 }

@@ -1,9 +1,8 @@
 //! What is left of a script where a read or a write fails; with every other script too, each fails in
 //! turn.
 
-use crate::rows::answer;
+use crate::rows::{AT_BLOCK, answer};
 use crate::streams::{Sheet, Source};
-use gl_table::Detect;
 use gl_tool::RunFault;
 use std::test::Fail;
 
@@ -16,7 +15,7 @@ fn a_read_fails(rt: HostRuntime) -> Result<(), Fail> {
         let mut source = Source::new(SCRIPT, 99_999);
         source.left = left;
         let mut out = Sheet::new(rt.alloc())?;
-        let ended = answer(rt.alloc(), &mut source, &mut out, Detect::AtBlock);
+        let ended = answer(rt.alloc(), &mut source, &mut out, AT_BLOCK);
         assert_eq!(rt; ended, Err(RunFault::Read));
         assert_eq!(rt; out.text.as_slice(), report.as_bytes(), "after {left}");
     }
@@ -30,7 +29,7 @@ fn a_write_fails(rt: HostRuntime) -> Result<(), Fail> {
     let mut out = Sheet::new(rt.alloc())?;
     out.piece = 1;
     out.calls = 2;
-    let ended = answer(rt.alloc(), &mut source, &mut out, Detect::AtBlock);
+    let ended = answer(rt.alloc(), &mut source, &mut out, AT_BLOCK);
     assert_eq!(rt; ended, Err(RunFault::Write));
     assert_eq!(rt; out.text.as_slice(), b"ok".as_slice());
     Ok(())
@@ -44,7 +43,7 @@ fn a_failed_write_ends_the_run(rt: HostRuntime) -> Result<(), Fail> {
     let mut out = Sheet::new(rt.alloc())?;
     out.piece = 2;
     out.calls = 1;
-    let ended = answer(rt.alloc(), &mut source, &mut out, Detect::AtBlock);
+    let ended = answer(rt.alloc(), &mut source, &mut out, AT_BLOCK);
     assert_eq!(rt; ended, Err(RunFault::Write));
     assert_eq!(rt; source.given, 8);
     assert_eq!(rt; out.text.as_slice(), b"ok".as_slice());
@@ -57,7 +56,7 @@ fn a_write_takes_nothing(rt: HostRuntime) -> Result<(), Fail> {
     let mut source = Source::new(SCRIPT, 99_999);
     let mut out = Sheet::new(rt.alloc())?;
     out.piece = 0;
-    let ended = answer(rt.alloc(), &mut source, &mut out, Detect::AtBlock);
+    let ended = answer(rt.alloc(), &mut source, &mut out, AT_BLOCK);
     assert_eq!(rt; ended, Err(RunFault::Write));
     assert!(rt; out.text.is_empty());
     Ok(())

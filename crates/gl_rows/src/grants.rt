@@ -1,7 +1,6 @@
 //! One node: grants, conversions, queues, and what is refused there.
 
-use crate::rows::{Lines, try_out};
-use gl_table::Detect;
+use crate::rows::{AT_BLOCK, Lines, try_out};
 use std::test::Fail;
 
 /// A transaction raises its own lock; the group mode is the supremum of what is held.
@@ -100,7 +99,7 @@ fn grants(rt: HostRuntime) -> Result<(), Fail> {
         REPEATED_DECLARATION,
     ];
     for lines in rows {
-        try_out(&rt, rt.alloc(), Detect::AtBlock, &[lines])?;
+        try_out(&rt, rt.alloc(), AT_BLOCK, &[lines])?;
     }
     Ok(())
 }

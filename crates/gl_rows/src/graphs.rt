@@ -1,8 +1,7 @@
 //! Lock graphs: what may stand in them, and which locks a lock needs above it.
 
 use crate::records::STORE;
-use crate::rows::{Lines, try_out};
-use gl_table::Detect;
+use crate::rows::{AT_BLOCK, Lines, try_out};
 use std::test::Fail;
 
 /// Graphs that are refused, and locks without locks above.
@@ -86,10 +85,10 @@ const EFFECTIVE_OVER_ONE_PARENT: Lines = &[
 #[test]
 fn graphs(rt: HostRuntime) -> Result<(), Fail> {
     for lines in [GRAPH_REFUSALS, UNLOCK_FROM_BELOW, TWO_ROOTS] {
-        try_out(&rt, rt.alloc(), Detect::AtBlock, &[lines])?;
+        try_out(&rt, rt.alloc(), AT_BLOCK, &[lines])?;
     }
     for lines in [GRAPH_RULE, EFFECTIVE_OVER_ONE_PARENT] {
-        try_out(&rt, rt.alloc(), Detect::AtBlock, &[STORE, lines])?;
+        try_out(&rt, rt.alloc(), AT_BLOCK, &[STORE, lines])?;
     }
     Ok(())
 }

@@ -1,8 +1,7 @@
 //! What a line may be: its length, its bytes, and how many there are.
 
-use crate::rows::{Row, answer, comes_out, try_row};
+use crate::rows::{AT_BLOCK, Row, answer, comes_out, try_row};
 use crate::streams::{Sheet, Source};
-use gl_table::Detect;
 use gl_tool::RunFault;
 use std::alloc::{AllocError, Global};
 use std::test::Fail;
@@ -10,12 +9,12 @@ use std::test::Fail;
 /// Nothing is read, and nothing is written.
 #[test]
 fn an_empty_script(rt: HostRuntime) -> Result<(), Fail> {
-    try_row(&rt, rt.alloc(), &Row::new(rt.alloc(), Detect::AtBlock)?)
+    try_row(&rt, rt.alloc(), &Row::new(rt.alloc(), AT_BLOCK)?)
 }
 
 /// Lines of 256 bytes and of one more, a comment as long, two spaces, and a last line without newline.
 fn long_lines(alloc: Global) -> Result<Row, AllocError> {
-    let mut row = Row::new(alloc, Detect::AtBlock)?;
+    let mut row = Row::new(alloc, AT_BLOCK)?;
     let mut comment = [b'x'; 257];
     comment[0] = b'#';
     row.push(&[b'a'; 257], "no 20 BadLine")?;
@@ -35,7 +34,7 @@ fn long_lines_are_bad(rt: HostRuntime) -> Result<(), Fail> {
 
 /// Bytes, names and numbers that make a line bad, and lines that have no answer.
 fn bad_bytes(alloc: Global) -> Result<Row, AllocError> {
-    let mut row = Row::new(alloc, Detect::AtBlock)?;
+    let mut row = Row::new(alloc, AT_BLOCK)?;
     let bad: [&[u8]; 7] = [
         b"begin a\r",
         b"begin a\0",
@@ -74,12 +73,12 @@ fn crowd(row: &mut Row, alloc: Global, most: u32) -> Result<(), AllocError> {
 /// 64 transactions may live, in a script of version 2 twice as many; one that ends makes room.
 #[test]
 fn too_many_transactions(rt: HostRuntime) -> Result<(), Fail> {
-    let mut row = Row::new(rt.alloc(), Detect::AtBlock)?;
+    let mut row = Row::new(rt.alloc(), AT_BLOCK)?;
     crowd(&mut row, rt.alloc(), 64)?;
     row.push(b"commit t5", "ok")?;
     row.push(b"begin t64", "ok")?;
     try_row(&rt, rt.alloc(), &row)?;
-    let mut row = Row::new(rt.alloc(), Detect::AtBlock)?;
+    let mut row = Row::new(rt.alloc(), AT_BLOCK)?;
     row.push(b"granular 2", "ok")?;
     crowd(&mut row, rt.alloc(), 128)?;
     try_row(&rt, rt.alloc(), &row)
@@ -97,7 +96,7 @@ fn as_much_as_may_be(rt: HostRuntime) -> Result<(), Fail> {
     for piece in [4_096, 99_999] {
         let mut source = Source::new(script.as_slice(), piece);
         let mut out = Sheet::new(rt.alloc())?;
-        let ended = answer(rt.alloc(), &mut source, &mut out, Detect::AtBlock);
+        let ended = answer(rt.alloc(), &mut source, &mut out, AT_BLOCK);
         assert_eq!(rt; ended, Ok(()));
         assert_eq!(rt; source.given, 16_777_216);
         assert_eq!(rt; out.text.len(), 3 + 2_097_151 * taken);
@@ -117,7 +116,7 @@ fn too_much(rt: HostRuntime) -> Result<(), Fail> {
         let mut source = Source::new(block.as_slice(), 99_999);
         source.is_endless = true;
         let mut out = Sheet::new(rt.alloc())?;
-        let ended = answer(rt.alloc(), &mut source, &mut out, Detect::AtBlock);
+        let ended = answer(rt.alloc(), &mut source, &mut out, AT_BLOCK);
         assert_eq!(rt; ended, Err(RunFault::TooMuch));
         assert_eq!(rt; source.given, 16_777_217, "of {text:?}");
         assert_eq!(rt; out.text.len(), answered, "of {text:?}");

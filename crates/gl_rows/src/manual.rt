@@ -1,7 +1,6 @@
 //! The examples of the manual, `docs/SCRIPT.md`: each as it stands there.
 
-use crate::rows::{Lines, try_out};
-use gl_table::Detect;
+use crate::rows::{AT_BLOCK, BY_WATCHER, Lines, try_out};
 use std::test::Fail;
 
 /// The shop, from which most examples go on.
@@ -224,9 +223,9 @@ const REFUSALS: Lines = &[
 #[test]
 fn examples_of_the_manual(rt: HostRuntime) -> Result<(), Fail> {
     for lines in [VERSIONS, NODES, MOVES, DEADLOCK] {
-        try_out(&rt, rt.alloc(), Detect::AtBlock, &[lines])?;
+        try_out(&rt, rt.alloc(), AT_BLOCK, &[lines])?;
     }
-    try_out(&rt, rt.alloc(), Detect::ByWatcher, &[SETTLED])
+    try_out(&rt, rt.alloc(), BY_WATCHER, &[SETTLED])
 }
 
 #[test]
@@ -242,7 +241,7 @@ fn examples_of_the_shop(rt: HostRuntime) -> Result<(), Fail> {
         REFUSALS,
     ];
     for lines in rows {
-        try_out(&rt, rt.alloc(), Detect::AtBlock, &[SHOP, lines])?;
+        try_out(&rt, rt.alloc(), AT_BLOCK, &[SHOP, lines])?;
     }
     Ok(())
 }

@@ -1,8 +1,7 @@
 //! Inner nodes and files move, in scripts of version 2.
 
 use crate::records::STORE;
-use crate::rows::{Lines, try_out};
-use gl_table::Detect;
+use crate::rows::{AT_BLOCK, Lines, try_out};
 use std::test::Fail;
 
 /// A file moves; the writer that waits for it has no intention at the new place, the reader has.
@@ -118,8 +117,8 @@ fn moves(rt: HostRuntime) -> Result<(), Fail> {
         VERSION_TWO_TOO_LATE,
     ];
     for lines in rows {
-        try_out(&rt, rt.alloc(), Detect::AtBlock, &[lines])?;
+        try_out(&rt, rt.alloc(), AT_BLOCK, &[lines])?;
     }
     let rows = [VERSION_TWO, STORE, MOVE_WRONG_KINDS];
-    try_out(&rt, rt.alloc(), Detect::AtBlock, &rows)
+    try_out(&rt, rt.alloc(), AT_BLOCK, &rows)
 }

@@ -1,7 +1,6 @@
 //! Records come, go and change their keys, and locks on them are escalated.
 
-use crate::rows::{Lines, try_out};
-use gl_table::Detect;
+use crate::rows::{AT_BLOCK, Lines, try_out};
 use std::test::Fail;
 
 /// A file with one index of two intervals, and a record in each.
@@ -166,7 +165,7 @@ fn records(rt: HostRuntime) -> Result<(), Fail> {
         RECORD_REFUSALS,
     ];
     for lines in rows {
-        try_out(&rt, rt.alloc(), Detect::AtBlock, &[STORE, lines])?;
+        try_out(&rt, rt.alloc(), AT_BLOCK, &[STORE, lines])?;
     }
     Ok(())
 }

@@ -2,7 +2,8 @@
 
 use crate::streams::{Sheet, Source};
 use gl_table::Detect;
-use gl_tool::{RunFault, run};
+use gl_tool::{Policy, RunFault, run};
+use gl_waits::Victims;
 use std::alloc::{AllocError, Global};
 use std::io::{Read, Write};
 use std::process::Abort;
@@ -11,10 +12,28 @@ use std::test::Fail;
 /// Lines of a script, each with its answer: nothing, or one line or more.
 pub(crate) type Lines = &'static [(&'static str, &'static str)];
 
+/// How deadlocks are found where nothing else is said.
+pub(crate) const AT_BLOCK: Policy = Policy {
+    detect: Detect::AtBlock,
+    victims: Victims::Youngest,
+};
+
+/// Where one victim is to be enough.
+pub(crate) const FEWEST: Policy = Policy {
+    detect: Detect::AtBlock,
+    victims: Victims::Fewest,
+};
+
+/// Where deadlocks stand until they are settled.
+pub(crate) const BY_WATCHER: Policy = Policy {
+    detect: Detect::ByWatcher,
+    victims: Victims::Youngest,
+};
+
 /// A script, and the report that it must have.
 #[derive(Drop)]
 pub(crate) struct Row {
-    pub(crate) detect: Detect,
+    pub(crate) policy: Policy,
     pub(crate) script: Vec<u8>,
     pub(crate) report: Vec<u8>,
     /// How long the script and the report are behind each line.
@@ -23,9 +42,9 @@ pub(crate) struct Row {
 
 impl Row {
     /// A script without lines.
-    pub(crate) fn new(alloc: Global, detect: Detect) -> Result<Self, AllocError> {
+    pub(crate) fn new(alloc: Global, policy: Policy) -> Result<Self, AllocError> {
         Ok(Row {
-            detect,
+            policy,
             script: Vec::with_capacity(alloc, 1024)?,
             report: Vec::with_capacity(alloc, 1024)?,
             ends: Vec::with_capacity(alloc, 64)?,
@@ -69,19 +88,19 @@ pub(crate) fn answer<R: Read, W: Write>(
     alloc: Global,
     reader: &mut R,
     writer: &mut W,
-    detect: Detect,
+    policy: Policy,
 ) -> Result<(), RunFault> {
-    run(alloc, reader, writer, detect)
+    run(alloc, reader, writer, policy)
 }
 
 /// Runs a script of these parts whole and byte by byte, and with each read and each write failing.
 pub(crate) fn try_out(
     rt: &impl Abort,
     alloc: Global,
-    detect: Detect,
+    policy: Policy,
     parts: &[Lines],
 ) -> Result<(), Fail> {
-    let mut row = Row::new(alloc, detect)?;
+    let mut row = Row::new(alloc, policy)?;
     for lines in parts {
         row.push_all(lines)?;
     }
@@ -100,7 +119,7 @@ pub(crate) fn comes_out(rt: &impl Abort, alloc: Global, row: &Row) -> Result<(),
     for piece in [1, 7, 255, 256, 257, 99_999] {
         let mut source = Source::new(row.script.as_slice(), piece);
         let mut out = Sheet::new(alloc)?;
-        let ended = answer(alloc, &mut source, &mut out, row.detect);
+        let ended = answer(alloc, &mut source, &mut out, row.policy);
         assert_eq!(rt; ended, Ok(()));
         assert_eq!(rt; out.text.as_slice(), row.report.as_slice(), "by {piece}");
     }
@@ -113,7 +132,7 @@ fn reads_fail(rt: &impl Abort, alloc: Global, row: &Row) -> Result<(), Fail> {
         let mut source = Source::new(row.script.as_slice(), 1);
         source.calls = calls;
         let mut out = Sheet::new(alloc)?;
-        let ended = answer(alloc, &mut source, &mut out, row.detect);
+        let ended = answer(alloc, &mut source, &mut out, row.policy);
         assert_eq!(rt; ended, Err(RunFault::Read));
         assert_eq!(rt; out.text.as_slice(), row.answered(calls), "after {calls}");
     }
@@ -127,7 +146,7 @@ fn writes_fail(rt: &impl Abort, alloc: Global, row: &Row) -> Result<(), Fail> {
         let mut out = Sheet::new(alloc)?;
         out.piece = 1;
         out.calls = calls;
-        let ended = answer(alloc, &mut source, &mut out, row.detect);
+        let ended = answer(alloc, &mut source, &mut out, row.policy);
         assert_eq!(rt; ended, Err(RunFault::Write));
         assert_eq!(rt; out.text.as_slice(), &row.report.as_slice()[..calls]);
     }

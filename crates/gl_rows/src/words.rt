@@ -1,8 +1,10 @@
 //! The words of the program: which give a plan, what it is, and what becomes of those that give none.
 
+use crate::rows::{AT_BLOCK, BY_WATCHER, FEWEST};
 use gl_modes::Refusal;
 use gl_table::Detect;
-use gl_tool::{CrewFault, Plan, RunFault, ToolFault, complain, plan, program};
+use gl_tool::{CrewFault, Plan, Policy, RunFault, ToolFault, complain, plan, program};
+use gl_waits::Victims;
 use std::alloc::Global;
 use std::io;
 use std::io::{ErrorKind, Read, Write};
@@ -21,13 +23,17 @@ const LEFT_WAITING: &[u8] = b"ok\nok\nok\nok S\nok S\nwait\nwait\n";
 
 const NO_WORDS: [&str; 0] = [];
 
-const REFUSED: [&[&str]; 22] = [
+const REFUSED: [&[&str]; 26] = [
     &["x"],
     &[""],
     &["-h"],
     &["--help"],
     &["--version"],
     &["--detect"],
+    &["--victims"],
+    &["--victims", "oldest"],
+    &["--victims", "at-block"],
+    &["--victims=fewest", "--victims=fewest"],
     &["--detect", "never"],
     &["--detect", "AT-BLOCK"],
     &["--detect="],
@@ -101,14 +107,42 @@ fn ends<H: Threads + Wait + Sync + Abort>(
 
 #[test]
 fn a_way_of_detection_is_a_plan(rt: HostRuntime) {
-    let at_block = Some(Plan::Script(Detect::AtBlock));
-    let by_watcher = Some(Plan::Script(Detect::ByWatcher));
+    let at_block = Some(Plan::Script(AT_BLOCK));
+    let by_watcher = Some(Plan::Script(BY_WATCHER));
     let alloc = rt.alloc();
     assert_eq!(rt; planned(alloc, &[]), at_block);
     assert_eq!(rt; planned(alloc, &["--detect", "at-block"]), at_block);
     assert_eq!(rt; planned(alloc, &["--detect=at-block"]), at_block);
     assert_eq!(rt; planned(alloc, &["--detect", "by-watcher"]), by_watcher);
     assert_eq!(rt; planned(alloc, &["--detect=by-watcher"]), by_watcher);
+}
+
+#[test]
+fn a_choice_of_victims_is_a_plan(rt: HostRuntime) {
+    let fewest = Some(Plan::Script(FEWEST));
+    let alloc = rt.alloc();
+    assert_eq!(rt; planned(alloc, &["--victims", "fewest"]), fewest);
+    assert_eq!(rt; planned(alloc, &["--victims=fewest"]), fewest);
+    assert_eq!(rt;
+        planned(alloc, &["--victims", "youngest"]),
+        Some(Plan::Script(AT_BLOCK))
+    );
+    let words = [
+        "--victims=fewest",
+        "--crew=1",
+        "--detect=by-watcher",
+        "--rounds=2",
+    ];
+    let policy = Policy {
+        detect: Detect::ByWatcher,
+        victims: Victims::Fewest,
+    };
+    let crew = Some(Plan::Crew {
+        sessions: 1,
+        rounds: 2,
+        policy,
+    });
+    assert_eq!(rt; planned(alloc, &words), crew);
 }
 
 #[test]
@@ -152,7 +186,7 @@ fn both_numbers_are_a_crew(rt: HostRuntime) {
     let crew = Some(Plan::Crew {
         sessions: 128,
         rounds: 100_000,
-        detect: Detect::AtBlock,
+        policy: AT_BLOCK,
     });
     assert_eq!(rt;
         planned(alloc, &["--crew", "128", "--rounds", "100000"]),
@@ -161,7 +195,7 @@ fn both_numbers_are_a_crew(rt: HostRuntime) {
     let crew = Some(Plan::Crew {
         sessions: 1,
         rounds: 2,
-        detect: Detect::ByWatcher,
+        policy: BY_WATCHER,
     });
     let words = ["--rounds=2", "--crew=1", "--detect=by-watcher"];
     assert_eq!(rt; planned(alloc, &words), crew);

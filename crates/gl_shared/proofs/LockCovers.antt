@@ -1,4 +1,6 @@
 -- A lock that is answered with a mode holds one that covers what was asked, also where it had to wait and a victim's removal let it in.
+use Rattle.gl_waits.specs.declared.victims.Victims.{Victims}
+use Rattle.gl_waits.proofs.VictimLemmas.{candidate-on_cycle}
 use Rattle.std.specs.Prelude.{◌≡◌, ◌⊎◌, ℕ, zero, suc, Bool, true, false, ◌&&◌, ◌==◌, List, [], Option, Some, None, if◌then◌else◌}
 use Rattle.std.proofs.Common.{refl, sym, ap, subst, ◌∙◌, inl, inr, ⊎_elim}
 use mathlib.Core.Bool.{true≢false}
@@ -39,10 +41,11 @@ use Rattle.gl_catalog.specs.Step.{Goes, Step, Unchanged, lock_answer}
 use Rattle.gl_catalog.specs.Tests.{may_want_memory, refusal_of, worn}
 
 -- who does not wait is on no cycle, so it is settled as it stands
-idle_done : (k : ℕ) (s s' : State) (t : ℕ) → is_wait (status_of s t) ≡ false → SettledWithin k s t s' → s' ≡ s
-idle_done zero s s' t idle h = h.1
-idle_done (suc k) s s' t idle h =
-    let on : IsOnCycleOf (waits_for s) h.0 t = record { there = h.1.is_member.back; back = h.1.is_member.there } in
+idle_done : (c : Victims) (k : ℕ) (s s' : State) (t : ℕ) → is_wait (status_of s t) ≡ false → SettledWithin c k s t s' → s' ≡ s
+idle_done c zero s s' t idle h = h.1
+idle_done c (suc k) s s' t idle h =
+    let chosen = candidate-on_cycle c (waits_for s) t h.0 h.1.is_member in
+    let on : IsOnCycleOf (waits_for s) h.0 t = record { there = chosen.back; back = chosen.there } in
     absurd (true≢false (sym (cycle_waits s h.0 t on) ∙ idle))
 
 -- what becomes of one who waited on n for w
@@ -86,22 +89,22 @@ self_condemned s t n w waits =
     stays_condemned (granted_at (without_wait s t Condemned) (is_waiting_at s t)) t ((without_wait s t Condemned).txns t)
     (ap (λ c. status_in (if c then restatus Condemned (s.txns t) else s.txns t)) (number_same t t refl) ∙ restatus_is Condemned (Waiting n w) (s.txns t) waits)
 
-settled_comes : (k : ℕ) (s s' : State) (t : ℕ) (n : NodeId) (w : Mode) → IsLawful s → status_of s t ≡ Some (Waiting n w) → SettledWithin k s t s' → Comes s' t n w
-settled_comes zero s s' t n w law waits h = inl (ap (λ (x : State). is_wait (status_of x t)) h.1 ∙ ap is_wait waits)
-settled_comes (suc k) s s' t n w law waits h =
+settled_comes : (c : Victims) (k : ℕ) (s s' : State) (t : ℕ) (n : NodeId) (w : Mode) → IsLawful s → status_of s t ≡ Some (Waiting n w) → SettledWithin c k s t s' → Comes s' t n w
+settled_comes c zero s s' t n w law waits h = inl (ap (λ (x : State). is_wait (status_of x t)) h.1 ∙ ap is_wait waits)
+settled_comes c (suc k) s s' t n w law waits h =
     let v = h.0 in
     split (t == v)
     (λ e.
     let same = same_number t v e in
     let out : status_of (condemned s v) t ≡ Some Condemned = victim v same in
-    let done = idle_done k (condemned s v) s' t (ap is_wait out) h.2 in
+    let done = idle_done c k (condemned s v) s' t (ap is_wait out) h.2 in
     inr (inl (ap (λ (x : State). status_of x t) done ∙ out)))
     (λ apart. split (is_among_waiters t (granted_at (without_wait s v Condemned) (is_waiting_at s v) n))
     (λ among.
     let woke = wakes s law v t apart n w waits among in
-    let done = idle_done k (condemned s v) s' t (ap is_wait woke.0) h.2 in
+    let done = idle_done c k (condemned s v) s' t (ap is_wait woke.0) h.2 in
     inr (inr (ap (λ (x : State). x.held t n) done ∙ woke.1)))
-    (λ out. settled_comes k (condemned s v) s' t n w (condemned-lawful s law v) (sleeps s law v t apart n w waits out) h.2))
+    (λ out. settled_comes c k (condemned s v) s' t n w (condemned-lawful s law v) (sleeps s law v t apart n w waits out) h.2))
   where
     -- the victim is condemned, and whoever is granted then is another
     victim : (v : ℕ) → t ≡ v → status_of (condemned s v) t ≡ Some Condemned
@@ -133,12 +136,12 @@ module _ (s : State) (law : IsLawful s) (t : TxnId) (n : NodeId) (m k : Mode) wh
       ∙ restatus_is (Waiting n (wanted s t.slot n m)) Active (s.txns t.slot) active
 
   -- or after a wait that others ended
-  after_wait : (d : Detect) (next : State) → IsLawful (enqueued s t.slot n (wanted s t.slot n m)) → status_of s t.slot ≡ Some Active → WaitSettles d (enqueued s t.slot n (wanted s t.slot n m)) t.slot next
+  after_wait : (d : Detect) (next : State) → IsLawful (enqueued s t.slot n (wanted s t.slot n m)) → status_of s t.slot ≡ Some Active → WaitSettles d s.victims (enqueued s t.slot n (wanted s t.slot n m)) t.slot next
       → is_wait (status_of next t.slot) ≡ false → (status_of next t.slot ≡ Some Condemned → ⊥) → next.held t.slot n ≡ wanted s t.slot n m
   after_wait AtBlock next queued active settles quiet free =
       ⊎_elim (λ h. absurd (true≢false (sym h ∙ quiet)))
       (λ h. ⊎_elim (λ e. absurd (free e)) (λ e. e) h)
-      (settled_comes settles.0 (enqueued s t.slot n (wanted s t.slot n m)) next t.slot n (wanted s t.slot n m) queued (enqueued_waits active) settles.1)
+      (settled_comes s.victims settles.0 (enqueued s t.slot n (wanted s t.slot n m)) next t.slot n (wanted s t.slot n m) queued (enqueued_waits active) settles.1)
   after_wait ByWatcher next queued active settles quiet free =
       absurd (true≢false (sym (ap (λ (x : State). is_wait (status_of x t.slot)) settles ∙ ap is_wait (enqueued_waits active)) ∙ quiet))
 

@@ -1,4 +1,5 @@
 -- A step counts a command exactly where it accepts it.
+use Rattle.gl_waits.specs.declared.victims.Victims.{Victims}
 use Rattle.std.specs.Prelude.{◌≡◌, ℕ, zero, suc, ◌+◌, Bool, true, false, not, ◌&&◌, Option, Some, None}
 use Rattle.std.proofs.Common.{refl, ap, ⊎_elim, ◌∙◌}
 use Rattle.gl_graph.proofs.Look.{split}
@@ -22,13 +23,13 @@ use Rattle.gl_catalog.specs.Step.{Accepts, Answers, Goes, Step, Unchanged, lock_
 use Rattle.gl_catalog.specs.Tests.{may_want_memory, refusal_of}
 use Rattle.gl_shared.specs.Served.{Counts, accepts, is_query, is_refused}
 
-settled_count : (k : ℕ) (s s' : State) (t : ℕ) → SettledWithin k s t s' → s'.accepted ≡ s.accepted
-settled_count zero s s' t h = ap (λ z. z.accepted) h.1
-settled_count (suc k) s s' t h = settled_count k (condemned s h.0) s' t h.2
+settled_count : (c : Victims) (k : ℕ) (s s' : State) (t : ℕ) → SettledWithin c k s t s' → s'.accepted ≡ s.accepted
+settled_count c zero s s' t h = ap (λ z. z.accepted) h.1
+settled_count c (suc k) s s' t h = settled_count c k (condemned s h.0) s' t h.2
 
-wait_count : (d : Detect) (s s' : State) (t : ℕ) → WaitSettles d s t s' → s'.accepted ≡ s.accepted
-wait_count AtBlock s s' t h = settled_count h.0 s s' t h.1
-wait_count ByWatcher s s' t h = ap (λ z. z.accepted) h
+wait_count : (d : Detect) (c : Victims) (s s' : State) (t : ℕ) → WaitSettles d c s t s' → s'.accepted ≡ s.accepted
+wait_count AtBlock c s s' t h = settled_count c h.0 s s' t h.1
+wait_count ByWatcher c s s' t h = ap (λ z. z.accepted) h
 
 -- what an accepted command does not touch, and does not answer
 abbrev Passes : State → Answer → State → Type 0
@@ -50,7 +51,7 @@ passes s (command.Rekey t r i key) a told s' acc = (ap (λ z. z.accepted) acc.2,
 passes s (command.Move t n ps) a told s' acc = (ap (λ z. z.accepted) acc.2, ap is_refused acc.0)
 passes s command.Begin a told s' acc = (ap (λ z. z.accepted) acc.4, ap is_refused acc.2)
 passes s (command.Lock t n m) a told s' acc = (
-  split (enters_at s t.slot n m) (λ e. ap (λ z. z.accepted) (acc.0.at_once e)) (λ e. wait_count s.detect (enqueued s t.slot n (wanted s t.slot n m)) s' t.slot (acc.0.waits e)),
+  split (enters_at s t.slot n m) (λ e. ap (λ z. z.accepted) (acc.0.at_once e)) (λ e. wait_count s.detect s.victims (enqueued s t.slot n (wanted s t.slot n m)) s' t.slot (acc.0.waits e)),
   ap is_refused acc.1 ∙ lock_passes (s'.held t.slot n) (status_of s' t.slot),
 )
 passes s (command.Try t n m) a told s' acc = (ap (λ z. z.accepted) acc.2, ap is_refused acc.0)
@@ -59,7 +60,7 @@ passes s (command.Escalate t n) a told s' acc = (ap (λ z. z.accepted) acc.2, ap
 passes s (command.Cancel t) a told s' acc = (ap (λ z. z.accepted) acc.2, ap is_refused acc.0)
 passes s (command.Commit t) a told s' acc = (ap (λ z. z.accepted) acc.2, ap is_refused acc.0)
 passes s (command.Abort t) a told s' acc = (ap (λ z. z.accepted) acc.2, ap is_refused acc.0)
-passes s (command.Settle t) a told s' acc = (settled_count acc.2.0 s s' t.slot acc.2.1, ap is_refused acc.0)
+passes s (command.Settle t) a told s' acc = (settled_count s.victims acc.2.0 s s' t.slot acc.2.1, ap is_refused acc.0)
 passes s (command.Group n) a told s' acc = absurd acc
 passes s (command.Held t n) a told s' acc = absurd acc
 passes s (command.Effective t n) a told s' acc = absurd acc

@@ -95,6 +95,7 @@ module _ (i : Inside) (sound : IsSound i) (t : ℕ) (at : Some t ≡ position is
     graph = i.graph;
     locks = record i.locks { seats = seats };
     detect = i.detect;
+    victims = i.victims;
     begins = i.begins + 1;
   }
 

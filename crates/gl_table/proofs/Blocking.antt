@@ -1,4 +1,5 @@
 -- A lock that is granted at once, and one that waits: what each makes of a table.
+use Rattle.gl_waits.specs.declared.victims.Victims.{Victims}
 use Rattle.std.specs.Prelude.{◌≡◌, ℕ, ◌==◌, ◌&&◌, Bool, true, false, [], Some, if◌then◌else◌}
 use Rattle.std.proofs.Common.{refl, sym, ap, ap₂, ◌∙◌, subst}
 use Rattle.gl_modes.specs.declared.mode.Mode.{Mode}
@@ -24,14 +25,14 @@ use Rattle.gl_table.specs.Tellings.{Told, told_but}
 use Rattle.gl_table.proofs.LockKeeps.{MayLock, locks-lawful, waiting-lawful}
 use Rattle.gl_table.proofs.NoCycle.{locks-no_cycle}
 use Rattle.gl_table.proofs.Queues.{clash}
-use Rattle.gl_table.proofs.SettledTable.{settled_also}
+use Rattle.gl_table.proofs.SettledTable.{over, settled_also}
 use Rattle.gl_table.proofs.TableCalls.{lawful_orderly}
 use Rattle.gl_table.proofs.ToldLists.{told_but_same, told_nothing}
 
--- to settle a wait, or not, looks neither at the way of detection that the state names nor at how many began
-settles_on : (by : Detect) (x x' : State) (t : ℕ) (d : Detect) (b : ℕ) → WaitSettles by x t x' → WaitSettles by (record x { detect = d; begins = b }) t (record x' { detect = d; begins = b })
-settles_on AtBlock x x' t d b h = settled_also x x' t d b h
-settles_on ByWatcher x x' t d b h = ap (λ (y : State). record y { detect = d; begins = b }) h
+-- so does settling a wait, or not
+settles_on : (by : Detect) (c : Victims) (x x' : State) (t : ℕ) (d : Detect) (v : Victims) (b : ℕ) → WaitSettles by c x t x' → WaitSettles by c (over c t d v b x) t (over c t d v b x')
+settles_on AtBlock c x x' t d v b h = settled_also c t d v b x x' h
+settles_on ByWatcher c x x' t d v b h = ap (over c t d v b) h
 
 -- a lock was granted at once
 pub granted_locks : (s s' : State) (t : ℕ) (n : NodeId) (m : Mode) → enters_at s t n m ≡ true → s' ≡ granted s t n m → Locks s t n m s'
@@ -66,15 +67,15 @@ module _ (i : Inside) (sound : IsSound i) (t : TxnId) (n : NodeId) (m : Mode) (m
         subst IsOrderly (sym is) (record { holders = o.holders; holders_live = o.holders_live; waiters_live = o.waiters_live; waits_are = o.waits_are; one_wait = o.one_wait; below = o.below })
 
     -- and was settled, where that is the way of detection
-    module _ (left : code.Locks) (settles : WaitSettles i.detect (state_on (graph_of i.graph) locks) t.slot (state_on (graph_of i.graph) left)) where
+    module _ (left : code.Locks) (settles : WaitSettles i.detect i.victims (state_on (graph_of i.graph) locks) t.slot (state_on (graph_of i.graph) left)) where
       abbrev after : Inside
       after = record i { locks = left }
 
       pub state_locked : Locks s t.slot n m (state_of (view_of after))
       state_locked = record {
         at_once = λ h. clash h blocks;
-        waits = λ h. settles_on i.detect (enqueued l t.slot n (wanted l t.slot n m)) (state_on (graph_of i.graph) left) t.slot i.detect i.begins
-            (subst (λ (x : State). WaitSettles i.detect x t.slot (state_on (graph_of i.graph) left)) is settles);
+        waits = λ h. settles_on i.detect i.victims (enqueued l t.slot n (wanted l t.slot n m)) (state_on (graph_of i.graph) left) t.slot i.detect i.victims i.begins
+            (subst (λ (x : State). WaitSettles i.detect i.victims x t.slot (state_on (graph_of i.graph) left)) is settles);
       }
 
       pub sound_locked : AreSound left → ((u : ℕ) → Agrees (state_on (graph_of i.graph) left) left.lists.items u) → ((u : ℕ) → CountsHeld (state_on (graph_of i.graph) left) left.lists.items u) → IsSound after

@@ -2,12 +2,13 @@
 use Rattle.std.specs.Prelude.{ℕ}
 use Rattle.std.proofs.Common.{refl, arith}
 use Rattle.gl_table.specs.declared.detect.Detect.{Detect}
+use Rattle.gl_waits.specs.declared.victims.Victims.{Victims}
 use Rattle.gl_table.specs.Lawful.{IsLawful}
-use Rattle.gl_table.specs.State.{empty_state}
+use Rattle.gl_table.specs.State.{choosing, empty_state}
 use Rattle.gl_graph.proofs.Look.{none_some, no}
 
-pub empty-lawful : (d : Detect) (most : ℕ) → IsLawful (empty_state d most)
-empty-lawful d most = record {
+pub empty-lawful : (d : Detect) (c : Victims) (most : ℕ) → IsLawful (choosing c (empty_state d most))
+empty-lawful d c most = record {
   graph = record {
     well_formed = λ n node e. absurd (none_some e);
     parents_live = λ n p h. absurd (no h);

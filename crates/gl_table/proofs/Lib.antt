@@ -123,3 +123,4 @@ pub mod MarkedLists
 pub mod TableSheds
 pub mod MarkedPlaces
 pub mod MarkedCovered
+pub mod OneFalls

@@ -1,4 +1,5 @@
 -- A lock that passed its tests, and an unlock: what they leave keeps the law.
+use Rattle.gl_waits.specs.declared.victims.Victims.{Victims}
 use Rattle.std.specs.Prelude.{◌≡◌, ℕ, zero, suc, ◌+◌, ◌++◌, ◌<◌, if◌then◌else◌, Bool, true, false, cond, ◌&&◌, ◌==◌, List, [], ◌∷◌, Option, Some, None, is_some, is_none}
 use Rattle.std.specs.List.{find, range_with_len}
 use Rattle.std.proofs.Common.{refl, sym, ap, ◌∙◌, arith, subst}
@@ -64,16 +65,16 @@ waiting-lawful s law t n m may h =
     enqueued-lawful s law t.slot n (wanted s t.slot n m) may.active may.live mode.1 may.rule (wanted_not_nl (s.held t.slot n) m mode.0) (supremum-above (s.held t.slot n) m) h
 
 -- and settled, at block
-pub wait_settles-lawful : (d : Detect) (s : State) (t : ℕ) (s' : State) → IsLawful s → WaitSettles d s t s' → IsLawful s'
-wait_settles-lawful AtBlock s t s' law h = settled-lawful s s' t law h
-wait_settles-lawful ByWatcher s t s' law h = subst IsLawful (sym h) law
+pub wait_settles-lawful : (d : Detect) (c : Victims) (s : State) (t : ℕ) (s' : State) → IsLawful s → WaitSettles d c s t s' → IsLawful s'
+wait_settles-lawful AtBlock c s t s' law h = settled-lawful c s s' t law h
+wait_settles-lawful ByWatcher c s t s' law h = subst IsLawful (sym h) law
 
 -- either way
 pub locks-lawful : (s s' : State) → IsLawful s → (t : TxnId) (n : NodeId) (m : Mode) → MayLock s t n m → Locks s t.slot n m s' → IsLawful s'
 locks-lawful s s' law t n m may h =
     split (enters_at s t.slot n m)
     (λ e. subst IsLawful (sym (h.at_once e)) (granted-lawful s law t n m may e))
-    (λ e. wait_settles-lawful s.detect (enqueued s t.slot n (wanted s t.slot n m)) t.slot s' (waiting-lawful s law t n m may e) (h.waits e))
+    (λ e. wait_settles-lawful s.detect s.victims (enqueued s t.slot n (wanted s t.slot n m)) t.slot s' (waiting-lawful s law t n m may e) (h.waits e))
 
 -- no child is held, so no lock that stays loses a parent
 pub unlocked-less : (s : State) → IsLawful s → (t : ℕ) (n : NodeId) → status_of s t ≡ Some Active → held_child s t n ≡ None

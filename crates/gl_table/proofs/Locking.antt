@@ -112,7 +112,7 @@ module _ (i : Inside) (sound : IsSound i) (t : TxnId) (n : NodeId) (m : Mode) wh
     after = record i { locks = locks }
 
     pub state_granted : state_of (view_of after) ≡ granted s t.slot n m
-    state_granted = ap {A = State} (λ x. record x { detect = i.detect; begins = i.begins }) is
+    state_granted = ap {A = State} (λ x. record x { detect = i.detect; victims = i.victims; begins = i.begins }) is
 
     pub sound_granted : AreSound locks → ((u : ℕ) → Agrees (state_on (graph_of i.graph) locks) locks.lists.items u) → ((u : ℕ) → CountsHeld (state_on (graph_of i.graph) locks) locks.lists.items u) → IsSound after
     sound_granted are agrees counts = record {
@@ -150,7 +150,7 @@ module _ (i : Inside) (sound : IsSound i) (t : TxnId) (n : NodeId) (m : Mode) wh
   sound_tried (Err x) locks may fits ok headers seats are agrees counts = sound_kept locks headers seats are agrees counts
 
   pub state_tried : (r : Result Mode Refusal) (locks : Locks) → OnOk r (state_on (graph_of i.graph) locks ≡ granted l t.slot n m) → OnOk r (state_of (view_of (record i { locks = locks })) ≡ granted s t.slot n m)
-  state_tried (Ok x) locks ok = ap {A = State} (λ x. record x { detect = i.detect; begins = i.begins }) ok
+  state_tried (Ok x) locks ok = ap {A = State} (λ x. record x { detect = i.detect; victims = i.victims; begins = i.begins }) ok
   state_tried (Err x) locks ok = ok
 
 -- what a try answers once the tests of a lock passed, by what the header says

@@ -12,7 +12,7 @@ use Rattle.gl_table.specs.Lawful.{IsLawful}
 use Rattle.gl_table.specs.Locks.{AreNew}
 use Rattle.gl_table.specs.Seats.{txns_of}
 use Rattle.gl_table.specs.Sound.{IsSound, view_of}
-use Rattle.gl_table.specs.State.{State, empty_state, members, status_of}
+use Rattle.gl_table.specs.State.{State, choosing, empty_state, members, status_of}
 use Rattle.gl_table.specs.Table.{state_of}
 use Rattle.gl_table.specs.Waiting.{HasNoCycle, is_wait}
 use Rattle.gl_table.proofs.NoCycle.{empty-no_cycle}
@@ -35,8 +35,8 @@ module _ (i : Inside) (most : ℕ) (few : most ≤ 128) (none : (birth : ℕ) �
   abbrev s : State
   s = state_of (view_of i)
 
-  pub new_state : s ≡ empty_state i.detect most
-  new_state = λ z. record (empty_state i.detect most) {
+  pub new_state : s ≡ choosing i.victims (empty_state i.detect most)
+  new_state = λ z. record (choosing i.victims (empty_state i.detect most)) {
     graph = record { at = λ b. none b z; births = births z };
     txns = λ t. (ap (λ xs. txns_of xs t) new.seats ∙ free_seats most t) z;
     held = λ t n. (ap (λ hs. held_of hs t n) new.headers ∙ ap (λ (g : Members). g t) unused-nobody) z;
@@ -47,7 +47,7 @@ module _ (i : Inside) (most : ℕ) (few : most ≤ 128) (none : (birth : ℕ) �
 
   pub new_sound : IsSound i
   new_sound = record {
-    lawful = subst IsLawful (sym new_state) (empty-lawful i.detect most);
+    lawful = subst IsLawful (sym new_state) (empty-lawful i.detect i.victims most);
     sound = record {
       headers = subst AreHeaders (sym new.headers) no_headers;
       few = subst (λ (k : ℕ). k ≤ 128) (sym (ap length new.seats ∙ length-replicate most)) few;
@@ -60,5 +60,5 @@ module _ (i : Inside) (most : ℕ) (few : most ≤ 128) (none : (birth : ℕ) �
       room = λ h. clash (ap (λ x. is_wait (status_of x u)) (sym new_state) ∙ h) refl;
     };
     counts = λ u p. new.counts u p ∙ sym (ap (λ x. held_children x u p) new_state);
-    no_cycle = λ _. subst HasNoCycle (sym new_state) (empty-no_cycle i.detect most);
+    no_cycle = λ _. subst HasNoCycle (sym new_state) (empty-no_cycle i.detect i.victims most);
   }

@@ -1,4 +1,5 @@
 -- With detection at each block, no command on locks leaves a cycle.
+use Rattle.gl_waits.specs.declared.victims.Victims.{Victims}
 use Rattle.std.specs.Prelude.{◌≡◌, ℕ, ◌+◌, zero, suc, Bool, true, false, ◌&&◌, ◌==◌, List, Option, Some, None, if◌then◌else◌}
 use Rattle.std.proofs.Common.{sym, ap, ◌∙◌, arith, subst}
 use Rattle.std.proofs.lemmas.Bool.Decides.{nat_tests}
@@ -12,8 +13,8 @@ use Rattle.gl_table.specs.declared.detect.Detect.TheVariants.{AtBlock}
 use Rattle.gl_modes.specs.Nodes.{same_node}
 use Rattle.gl_header.specs.Header.{Waiter, without_waiter}
 use Rattle.gl_waits.specs.Waits.{IsOnNoCycle}
-use Rattle.gl_table.specs.Laws.{EmptyHasNoCycle}
-use Rattle.gl_table.specs.State.{State, empty_state, Txn, status_in, status_of, restatus, with_grant}
+use Rattle.gl_table.specs.Laws.{EmptyHasNoCycle, SettlingFrees}
+use Rattle.gl_table.specs.State.{State, choosing, empty_state, Txn, status_in, status_of, restatus, with_grant}
 use Rattle.gl_table.specs.Pumps.{without_wait, is_waiting_at, pumped, condemned}
 use Rattle.gl_table.specs.Covered.{is_covered}
 use Rattle.gl_table.specs.Waiting.{waits_for, SettledWithin, Settled, HasNoCycle}
@@ -52,18 +53,22 @@ condemned_steps s law t x y h =
     taken_steps s law s.held (λ n. without_waiter t (s.queue n)) (λ u. if u == t then restatus Condemned (s.txns t) else s.txns u) (is_waiting_at s t) (without_wait-less s law t Condemned (λ q m e. cc)) x y h
 
 -- settling: t is on no cycle, and no step was added
-pub settled_steps : (k : ℕ) (s s' : State) (t : ℕ) → IsLawful s → SettledWithin k s t s' → (x y : ℕ) → waits_for s' x y ≡ true → waits_for s x y ≡ true
-settled_steps zero s s' t law h x y e = ap (λ z. waits_for z x y) (sym h.1) ∙ e
-settled_steps (suc k) s s' t law h x y e = condemned_steps s law h.0 x y (settled_steps k (condemned s h.0) s' t (condemned-lawful s law h.0) h.2 x y e)
+pub settled_steps : (c : Victims) (k : ℕ) (s s' : State) (t : ℕ) → IsLawful s → SettledWithin c k s t s' → (x y : ℕ) → waits_for s' x y ≡ true → waits_for s x y ≡ true
+settled_steps c zero s s' t law h x y e = ap (λ z. waits_for z x y) (sym h.1) ∙ e
+settled_steps c (suc k) s s' t law h x y e = condemned_steps s law h.0 x y (settled_steps c k (condemned s h.0) s' t (condemned-lawful s law h.0) h.2 x y e)
 
 -- at the end t is on no cycle
-pub settled_free : (k : ℕ) (s s' : State) (t : ℕ) → SettledWithin k s t s' → IsOnNoCycle (waits_for s') t
-settled_free zero s s' t h = subst (λ z. IsOnNoCycle (waits_for z) t) (sym h.1) h.0
-settled_free (suc k) s s' t h = settled_free k (condemned s h.0) s' t h.2
+pub settled_free : (c : Victims) (k : ℕ) (s s' : State) (t : ℕ) → SettledWithin c k s t s' → IsOnNoCycle (waits_for s') t
+settled_free c zero s s' t h = subst (λ z. IsOnNoCycle (waits_for z) t) (sym h.1) h.0
+settled_free c (suc k) s s' t h = settled_free c k (condemned s h.0) s' t h.2
+
+-- both, as a law
+pub settling_frees : SettlingFrees
+settling_frees c s s' law t h = (settled_free c h.0 s s' t h.1, settled_steps c h.0 s s' t law h.1)
 
 -- and fewer steps make no cycle
-pub settled-no_cycle : (s s' : State) (t : ℕ) → IsLawful s → Settled s t s' → HasNoCycle s → HasNoCycle s'
-settled-no_cycle s s' t law h none = less-no_cycle (waits_for s) (waits_for s') (settled_steps h.0 s s' t law h.1) none
+pub settled-no_cycle : (c : Victims) (s s' : State) (t : ℕ) → IsLawful s → Settled c s t s' → HasNoCycle s → HasNoCycle s'
+settled-no_cycle c s s' t law h none = less-no_cycle (waits_for s) (waits_for s') (settled_steps c h.0 s s' t law h.1) none
 
 active_idle : (s : State) (t : ℕ) → status_of s t ≡ Some Active → (u : ℕ) → waits_for s t u ≡ false
 active_idle s t active = idle_no_step s t (λ n m st. apart (sym active ∙ st))
@@ -84,18 +89,18 @@ begun-no_cycle s t none = at_one-no_cycle (waits_for s) (waits_for (begun s t)) 
     now = ap (λ b. status_in (if b then Some (record { age = s.begins + 1; status = Active }) else s.txns t)) (same t)
 
 -- a lock that waits, once it is settled
-pub waiting-no_cycle : (s s' : State) → IsLawful s → (t : TxnId) (n : NodeId) (m : Mode) → MayLock s t n m → enters_at s t.slot n m ≡ false → Settled (enqueued s t.slot n (wanted s t.slot n m)) t.slot s' → HasNoCycle s → HasNoCycle s'
-waiting-no_cycle s s' law t n m may e settled none =
+pub waiting-no_cycle : (c : Victims) (s s' : State) → IsLawful s → (t : TxnId) (n : NodeId) (m : Mode) → MayLock s t n m → enters_at s t.slot n m ≡ false → Settled c (enqueued s t.slot n (wanted s t.slot n m)) t.slot s' → HasNoCycle s → HasNoCycle s'
+waiting-no_cycle c s s' law t n m may e settled none =
     at_one-no_cycle (waits_for s) (waits_for s') t.slot
-    (λ x y h nx ny. enqueued_steps s law t.slot n (wanted s t.slot n m) x y (settled_steps settled.0 (enqueued s t.slot n (wanted s t.slot n m)) s' t.slot (waiting-lawful s law t n m may e) settled.1 x y h) nx ny)
-    none (settled_free settled.0 (enqueued s t.slot n (wanted s t.slot n m)) s' t.slot settled.1)
+    (λ x y h nx ny. enqueued_steps s law t.slot n (wanted s t.slot n m) x y (settled_steps c settled.0 (enqueued s t.slot n (wanted s t.slot n m)) s' t.slot (waiting-lawful s law t n m may e) settled.1 x y h) nx ny)
+    none (settled_free c settled.0 (enqueued s t.slot n (wanted s t.slot n m)) s' t.slot settled.1)
 
 -- a lock adds steps at the asker alone, who is settled
 pub locks-no_cycle : (s s' : State) → s.detect ≡ AtBlock → IsLawful s → (t : TxnId) (n : NodeId) (m : Mode) → MayLock s t n m → Locks s t.slot n m s' → HasNoCycle s → HasNoCycle s'
 locks-no_cycle s s' at law t n m may h none =
     split (enters_at s t.slot n m)
     (λ e. subst HasNoCycle (sym (h.at_once e)) (granted-no_cycle s t.slot n (wanted s t.slot n m) may.active none))
-    (λ e. waiting-no_cycle s s' law t n m may e (subst (λ d. WaitSettles d (enqueued s t.slot n (wanted s t.slot n m)) t.slot s') at (h.waits e)) none)
+    (λ e. waiting-no_cycle s.victims s s' law t n m may e (subst (λ d. WaitSettles d s.victims (enqueued s t.slot n (wanted s t.slot n m)) t.slot s') at (h.waits e)) none)
 
 pub unlocked-no_cycle : (s : State) → IsLawful s → (t : ℕ) (n : NodeId) → status_of s t ≡ Some Active → held_child s t n ≡ None → HasNoCycle s → HasNoCycle (pumped (with_grant s t n NL) (same_node n))
 unlocked-no_cycle s law t n active childless none = taken-no_cycle s law (λ u q. if (u == t) && same_node q n then NL else s.held u q) s.queue s.txns (same_node n) (unlocked-less s law t n active childless) none
@@ -109,4 +114,4 @@ shed-no_cycle s law t n active none = taken-no_cycle s law (λ u c. if (u == t) 
 
 -- nobody waits in the empty state
 pub empty-no_cycle : EmptyHasNoCycle
-empty-no_cycle d most t = no_step-no_cycle (waits_for (empty_state d most)) t (idle_no_step (empty_state d most) t (λ n m st. cc))
+empty-no_cycle d c most t = no_step-no_cycle (waits_for (choosing c (empty_state d most))) t (idle_no_step (choosing c (empty_state d most)) t (λ n m st. cc))

@@ -13,10 +13,12 @@ use Rattle.gl_table.specs.declared.txn.Status.TheVariants.{Active, Waiting, Cond
 use Rattle.gl_table.specs.declared.detect.Detect.{Detect}
 use Rattle.gl_table.specs.declared.detect.Detect.TheVariants.{AtBlock, ByWatcher}
 use Rattle.gl_header.specs.Header.{holds, is_ahead}
-use Rattle.gl_waits.specs.Waits.{IsWalk, IsOnCycleOf, IsYoungest}
+use Rattle.gl_waits.specs.declared.victims.Victims.{Victims}
+use Rattle.gl_waits.specs.Waits.{IsWalk}
+use Rattle.gl_waits.proofs.VictimLemmas.{candidate-on_cycle}
 use Rattle.gl_table.specs.State.{State, members, slots, status_in, status_of, age_of, restatus, with_grant}
 use Rattle.gl_table.specs.Pumps.{without_wait, is_waiting_at, granted_at, condemned}
-use Rattle.gl_table.specs.Waiting.{waits_for, Settled, is_wait}
+use Rattle.gl_table.specs.Waiting.{waits_for, IsVictim, Settled, is_wait}
 use Rattle.gl_table.specs.Lawful.{IsLawful}
 use Rattle.gl_table.specs.Calls.{Locks, WaitSettles, wanted, enters_at, enqueued}
 use Rattle.gl_table.proofs.GrantKeeps.{nl_is, txn_there}
@@ -26,7 +28,7 @@ use Rattle.gl_table.proofs.Pumped.{woken_waits}
 use Rattle.gl_table.proofs.Taken.{without_wait-less, condemned-lawful, restatus_quiet}
 use Rattle.gl_table.proofs.Edges.{step_is}
 use Rattle.gl_table.proofs.LockKeeps.{MayLock, waiting-lawful}
-use Rattle.gl_table.proofs.Walks.{same, in_range, victim, IsVictim, victim_is}
+use Rattle.gl_table.proofs.Walks.{same, in_range, victim, IsAnswer, victim_is}
 use Rattle.gl_graph.proofs.Look.{split, or_elim}
 
 -- how many pass
@@ -91,7 +93,7 @@ module _ (s : State) (law : IsLawful s) where
       let before = woken_waits (granted_at (without_wait s v Condemned) (is_waiting_at s v)) u w.0 w.1 ((without_wait s v Condemned).txns u) w.2 in
       ap is_wait ((without_wait-less s law v Condemned (λ q m e. cc)).waits_same u w.0 w.1 before.0).0
 
-  waits_no_more : (v : ℕ) → waiting (condemned s v) v ≡ false
+  pub waits_no_more : (v : ℕ) → waiting (condemned s v) v ≡ false
   waits_no_more v = no_wait (status_of (condemned s v) v) (λ n m e.
       let before = woken_waits (granted_at (without_wait s v Condemned) (is_waiting_at s v)) v n m ((without_wait s v Condemned).txns v) e in
       restatus_quiet Condemned (λ q w k. cc) (s.txns v) n m (ap (λ b. status_in (if b then restatus Condemned (s.txns v) else s.txns v)) (sym (same_slot v)) ∙ before.0))
@@ -126,50 +128,54 @@ by_victim turn s None = s
 by_victim turn s (Some v) = turn v
 
 -- so many turns of settling
-abbrev pub settled_by : ℕ → State → ℕ → State
-settled_by zero s t = s
-settled_by (suc k) s t = by_victim (λ v. settled_by k (condemned s v) t) s (victim (waits_for s) s.most (age_of s) t)
+abbrev pub settled_by : Victims → ℕ → State → ℕ → State
+settled_by c zero s t = s
+settled_by c (suc k) s t = by_victim (λ v. settled_by c k (condemned s v) t) s (victim c (waits_for s) s.most (age_of s) t)
 
-settles_within : (k : ℕ) (s : State) → IsLawful s → (t : ℕ) → tally (waiting s) (slots s) ≤ k → Settled s t (settled_by k s t)
-settles_within zero s law t le = by (victim (waits_for s) s.most (age_of s) t) (victim_is (waits_for s) s.most (low s law) (age_of s) t)
-  where
-    by : (o : Option ℕ) → IsVictim (waits_for s) (age_of s) t o → Settled s t s
-    by None none = (zero, (none, refl))
-    by (Some v) one = let w = cycle_waits s law v t one.is_member.back.0 one.is_member.back.1 in let lt = fewer s law v w in absurd (omega arith)
-settles_within (suc k) s law t le =
-    by (victim (waits_for s) s.most (age_of s) t) (victim_is (waits_for s) s.most (low s law) (age_of s) t)
-    (λ v one. let w = cycle_waits s law v t one.is_member.back.0 one.is_member.back.1 in let lt = fewer s law v w in settles_within k (condemned s v) (condemned-lawful s law v) t (omega arith))
-  where
-    by : (o : Option ℕ) → IsVictim (waits_for s) (age_of s) t o → ((v : ℕ) → IsYoungest (IsOnCycleOf (waits_for s) t) (age_of s) v → Settled (condemned s v) t (settled_by k (condemned s v) t))
-        → Settled s t (by_victim (λ v. settled_by k (condemned s v) t) s o)
-    by None none rest = (zero, (none, refl))
-    by (Some v) one rest = let r = rest v one in (suc r.0, (v, one, r.1))
+module _ (c : Victims) where
+  victim_waits : (s : State) → IsLawful s → (t v : ℕ) → IsVictim c s t v → waiting s v ≡ true
+  victim_waits s law t v one = let back = (candidate-on_cycle c (waits_for s) t v one.is_member).back in cycle_waits s law v t back.0 back.1
+
+  settles_within : (k : ℕ) (s : State) → IsLawful s → (t : ℕ) → tally (waiting s) (slots s) ≤ k → Settled c s t (settled_by c k s t)
+  settles_within zero s law t le = by (victim c (waits_for s) s.most (age_of s) t) (victim_is (waits_for s) s.most (low s law) c (age_of s) t)
+    where
+      by : (o : Option ℕ) → IsAnswer c (waits_for s) (age_of s) t o → Settled c s t s
+      by None none = (zero, (none, refl))
+      by (Some v) one = let w = victim_waits s law t v one in let lt = fewer s law v w in absurd (omega arith)
+  settles_within (suc k) s law t le =
+      by (victim c (waits_for s) s.most (age_of s) t) (victim_is (waits_for s) s.most (low s law) c (age_of s) t)
+      (λ v one. let w = victim_waits s law t v one in let lt = fewer s law v w in settles_within k (condemned s v) (condemned-lawful s law v) t (omega arith))
+    where
+      by : (o : Option ℕ) → IsAnswer c (waits_for s) (age_of s) t o → ((v : ℕ) → IsVictim c s t v → Settled c (condemned s v) t (settled_by c k (condemned s v) t))
+          → Settled c s t (by_victim (λ v. settled_by c k (condemned s v) t) s o)
+      by None none rest = (zero, (none, refl))
+      by (Some v) one rest = let r = rest v one in (suc r.0, (v, one, r.1))
 
 -- what settling leaves, by as many turns as there are that wait
-abbrev pub settled : State → ℕ → State
-settled s t = settled_by (tally (waiting s) (slots s)) s t
+abbrev pub settled : Victims → State → ℕ → State
+settled c s t = settled_by c (tally (waiting s) (slots s)) s t
 
 -- so many turns are enough
-pub settles : (s : State) → IsLawful s → (t : ℕ) → Settled s t (settled s t)
-settles s law t = settles_within (tally (waiting s) (slots s)) s law t (omega arith)
+pub settles : (c : Victims) (s : State) → IsLawful s → (t : ℕ) → Settled c s t (settled c s t)
+settles c s law t = settles_within c (tally (waiting s) (slots s)) s law t (omega arith)
 
 -- what a lock leaves, granted at once or waiting
-abbrev pub waited : Detect → State → ℕ → State
-waited AtBlock s t = settled s t
-waited ByWatcher s t = s
+abbrev pub waited : Detect → Victims → State → ℕ → State
+waited AtBlock c s t = settled c s t
+waited ByWatcher c s t = s
 
 -- what a lock leaves
 abbrev pub locked : State → ℕ → NodeId → Mode → State
-locked s t n m = if enters_at s t n m then with_grant s t n (wanted s t n m) else waited s.detect (enqueued s t n (wanted s t n m)) t
+locked s t n m = if enters_at s t n m then with_grant s t n (wanted s t n m) else waited s.detect s.victims (enqueued s t n (wanted s t n m)) t
 
 -- so a lock that passed its tests has an outcome under both ways of detection
 pub locks_some : (s : State) → IsLawful s → (t : TxnId) (n : NodeId) (m : Mode) → MayLock s t n m → Locks s t.slot n m (locked s t.slot n m)
 locks_some s law t n m may = by (enters_at s t.slot n m) refl
   where
-    wait_some : (d : Detect) (z : State) (u : ℕ) → IsLawful z → WaitSettles d z u (waited d z u)
-    wait_some AtBlock z u lawful = settles z lawful u
-    wait_some ByWatcher z u lawful = refl
+    wait_some : (d : Detect) (c : Victims) (z : State) (u : ℕ) → IsLawful z → WaitSettles d c z u (waited d c z u)
+    wait_some AtBlock c z u lawful = settles c z lawful u
+    wait_some ByWatcher c z u lawful = refl
 
-    by : (b : Bool) → enters_at s t.slot n m ≡ b → Locks s t.slot n m (if b then with_grant s t.slot n (wanted s t.slot n m) else waited s.detect (enqueued s t.slot n (wanted s t.slot n m)) t.slot)
+    by : (b : Bool) → enters_at s t.slot n m ≡ b → Locks s t.slot n m (if b then with_grant s t.slot n (wanted s t.slot n m) else waited s.detect s.victims (enqueued s t.slot n (wanted s t.slot n m)) t.slot)
     by true e = record { at_once = λ _. refl; waits = λ f. clash e f }
-    by false e = record { at_once = λ f. clash f e; waits = λ _. wait_some s.detect (enqueued s t.slot n (wanted s t.slot n m)) t.slot (waiting-lawful s law t n m may e) }
+    by false e = record { at_once = λ f. clash f e; waits = λ _. wait_some s.detect s.victims (enqueued s t.slot n (wanted s t.slot n m)) t.slot (waiting-lawful s law t n m may e) }

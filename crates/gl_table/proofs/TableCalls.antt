@@ -91,7 +91,7 @@ module _ (i : Inside) (sound : IsSound i) where
     after = record i { locks = locks }
 
     pub state_unlocked : state_of (view_of after) ≡ unlocked s t n
-    state_unlocked = ap {A = State} (λ x. record x { detect = i.detect; begins = i.begins }) is
+    state_unlocked = ap {A = State} (λ x. record x { detect = i.detect; victims = i.victims; begins = i.begins }) is
 
     pub sound_unlocked : AreSound locks → ((u : ℕ) → Agrees (state_on (graph_of i.graph) locks) locks.lists.items u) → ((u : ℕ) → CountsHeld (state_on (graph_of i.graph) locks) locks.lists.items u) → IsSound after
     sound_unlocked are agrees counts = record {
@@ -130,7 +130,7 @@ module _ (i : Inside) (sound : IsSound i) where
     ended = record i { locks = locks }
 
     pub state_released : state_of (view_of ended) ≡ released s t
-    state_released = ap {A = State} (λ x. record x { detect = i.detect; begins = i.begins }) is
+    state_released = ap {A = State} (λ x. record x { detect = i.detect; victims = i.victims; begins = i.begins }) is
 
     pub sound_released : AreSound locks → ((u : ℕ) → Agrees (state_on (graph_of i.graph) locks) locks.lists.items u) → ((u : ℕ) → CountsHeld (state_on (graph_of i.graph) locks) locks.lists.items u) → IsSound ended
     sound_released are agrees counts = record {

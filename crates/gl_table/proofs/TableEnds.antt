@@ -68,7 +68,7 @@ module _ (i : Inside) (sound : IsSound i) where
     after = record i { locks = locks }
 
     pub state_cancelled : state_of (view_of after) ≡ cancelled s t
-    state_cancelled = ap {A = State} (λ x. record x { detect = i.detect; begins = i.begins }) is
+    state_cancelled = ap {A = State} (λ x. record x { detect = i.detect; victims = i.victims; begins = i.begins }) is
 
     pub sound_cancelled : AreSound locks → ((u : ℕ) → Agrees (state_on (graph_of i.graph) locks) locks.lists.items u) → ((u : ℕ) → CountsHeld (state_on (graph_of i.graph) locks) locks.lists.items u) → IsSound after
     sound_cancelled are agrees counts = record {
@@ -88,20 +88,20 @@ module _ (i : Inside) (sound : IsSound i) where
         (λ e. (cancelled_tells l (orderly i sound) t n waits first list tells s (table_way i sound) (λ v k. ap (λ xs. notices_in xs v) none ∙ sym (nobody_told s v))).1 u e ∙ ap (λ x. told_to s x u) (sym is)))
 
   -- a transaction was settled
-  module _ (t : ℕ) (locks : Locks) (is : Settled l t (state_on (graph_of i.graph) locks)) where
+  module _ (t : ℕ) (locks : Locks) (is : Settled i.victims l t (state_on (graph_of i.graph) locks)) where
     abbrev now : Inside
     now = record i { locks = locks }
 
-    pub state_settled : Settled s t (state_of (view_of now))
-    state_settled = settled_also l (state_on (graph_of i.graph) locks) t i.detect i.begins is
+    pub state_settled : Settled s.victims s t (state_of (view_of now))
+    state_settled = settled_also i.victims t i.detect i.victims i.begins l (state_on (graph_of i.graph) locks) is
 
     pub sound_settled : AreSound locks → ((u : ℕ) → Agrees (state_on (graph_of i.graph) locks) locks.lists.items u) → ((u : ℕ) → CountsHeld (state_on (graph_of i.graph) locks) locks.lists.items u) → IsSound now
     sound_settled are agrees counts = record {
-      lawful = settled-lawful s (state_of (view_of now)) t sound.lawful state_settled;
+      lawful = settled-lawful s.victims s (state_of (view_of now)) t sound.lawful state_settled;
       sound = are;
       agrees = agrees;
       counts = counts;
-      no_cycle = λ at. settled-no_cycle s (state_of (view_of now)) t sound.lawful state_settled (sound.no_cycle at);
+      no_cycle = λ at. settled-no_cycle s.victims s (state_of (view_of now)) t sound.lawful state_settled (sound.no_cycle at);
     }
 
     -- who is granted is told, and who is a victim

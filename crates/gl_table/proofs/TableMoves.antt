@@ -138,7 +138,7 @@ module _ (i : Inside) (sound : IsSound i) (t : ℕ) (n : NodeId) (was is : Node)
     after = record i { graph = v; locks = locks }
 
     pub state_moved : state_of (view_of after) ≡ moved_to s n is.parents g'
-    state_moved = ap {A = State} (λ x. record x { detect = i.detect; begins = i.begins }) state ∙ ap (λ ps. moved_to s n ps g') here
+    state_moved = ap {A = State} (λ x. record x { detect = i.detect; victims = i.victims; begins = i.begins }) state ∙ ap (λ ps. moved_to s n ps g') here
 
     abbrev holding : ℕ → NodeId → Bool
     holding u c = holds (members s c) u

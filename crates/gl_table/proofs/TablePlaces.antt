@@ -37,7 +37,7 @@ module _ (i : Inside) (sound : IsSound i) (locks : Locks) (headers : locks.heade
   same_on g = state-same g i.locks locks headers seats
 
   pub same_state : state_of (view_of roomy) ≡ state_of (view_of i)
-  same_state = ap {A = State} (λ x. record x { detect = i.detect; begins = i.begins }) (same_on (graph_of i.graph))
+  same_state = ap {A = State} (λ x. record x { detect = i.detect; victims = i.victims; begins = i.begins }) (same_on (graph_of i.graph))
 
   pub sound_roomy : IsSound roomy
   sound_roomy = record {
@@ -89,7 +89,7 @@ module _ (i : Inside) (sound : IsSound i) (f : NodeId) (keys : List ℕ) (free :
       after = record grown { locks = locks }
 
       pub state_placed : state_of (view_of after) ≡ with_grant (with_graph s (graph_of v)) t n X
-      state_placed = ap {A = State} (λ x. record x { detect = i.detect; begins = i.begins }) is
+      state_placed = ap {A = State} (λ x. record x { detect = i.detect; victims = i.victims; begins = i.begins }) is
 
       pub sound_placed : status_of s t ≡ Some Active → first_not_ix (s.held t) (record_parents (graph_of i.graph) f keys) ≡ None
           → AreSound locks → ((u : ℕ) → Agrees (state_on (graph_of v) locks) locks.lists.items u) → ((u : ℕ) → CountsHeld (state_on (graph_of v) locks) locks.lists.items u) → IsSound after

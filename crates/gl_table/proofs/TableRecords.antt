@@ -90,7 +90,7 @@ module _ (i : Inside) (sound : IsSound i) (r : NodeId) (rec : is_record_shape (s
   on_locks = ap (λ g. state_on g locks) removed ∙ is
 
   pub state_deleted : state_of (view_of after) ≡ deleted s r
-  state_deleted = ap {A = State} (λ x. record x { detect = i.detect; begins = i.begins }) on_locks
+  state_deleted = ap {A = State} (λ x. record x { detect = i.detect; victims = i.victims; begins = i.begins }) on_locks
 
   pub sound_deleted : AreSound locks → ((u : ℕ) → Agrees (deleted l r) locks.lists.items u) → ((u : ℕ) → CountsHeld (deleted l r) locks.lists.items u) → IsSound after
   sound_deleted are agrees counts = record {

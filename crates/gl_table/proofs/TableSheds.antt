@@ -102,7 +102,7 @@ module _ (i : Inside) (sound : IsSound i) (t : ℕ) (n : NodeId) where
       ended = record i { locks = locks }
 
       pub state_shed : state_of (view_of ended) ≡ shed s t n
-      state_shed = ap {A = State} (λ x. record x { detect = i.detect; begins = i.begins }) is
+      state_shed = ap {A = State} (λ x. record x { detect = i.detect; victims = i.victims; begins = i.begins }) is
 
       pub sound_shed : AreSound locks → ((u : ℕ) → Agrees (state_on (graph_of i.graph) locks) locks.lists.items u) → ((u : ℕ) → CountsHeld (state_on (graph_of i.graph) locks) locks.lists.items u) → IsSound ended
       sound_shed are agrees counts = record {

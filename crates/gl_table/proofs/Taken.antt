@@ -1,4 +1,5 @@
 -- What is taken away: some grants of an active transaction, a wait, a whole transaction.
+use Rattle.gl_waits.specs.declared.victims.Victims.{Victims}
 use Rattle.std.specs.Prelude.{◌≡◌, ◌≢◌, ◌⊎◌, ℕ, zero, suc, Bool, true, false, not, ◌&&◌, ◌||◌, ◌==◌, Option, Some, None, is_some, if◌then◌else◌}
 use Rattle.std.proofs.Common.{refl, sym, ap, ap₂, ◌∙◌, arith, subst, ⊎_elim, inl, inr}
 use Rattle.std.proofs.lemmas.Bool.Decides.{nat_tests}
@@ -139,12 +140,12 @@ pub condemned-lawful : (s : State) → IsLawful s → (t : ℕ) → IsLawful (co
 condemned-lawful s law t = without_wait-lawful s law t Condemned (λ q m h. cc)
 
 -- turn by turn
-pub settled_within-lawful : (k : ℕ) (s s' : State) (t : ℕ) → IsLawful s → SettledWithin k s t s' → IsLawful s'
-settled_within-lawful zero s s' t law h = subst IsLawful (sym h.1) law
-settled_within-lawful (suc k) s s' t law h = settled_within-lawful k (condemned s h.0) s' t (condemned-lawful s law h.0) h.2
+pub settled_within-lawful : (c : Victims) (k : ℕ) (s s' : State) (t : ℕ) → IsLawful s → SettledWithin c k s t s' → IsLawful s'
+settled_within-lawful c zero s s' t law h = subst IsLawful (sym h.1) law
+settled_within-lawful c (suc k) s s' t law h = settled_within-lawful c k (condemned s h.0) s' t (condemned-lawful s law h.0) h.2
 
-pub settled-lawful : (s s' : State) (t : ℕ) → IsLawful s → Settled s t s' → IsLawful s'
-settled-lawful s s' t law h = settled_within-lawful h.0 s s' t law h.1
+pub settled-lawful : (c : Victims) (s s' : State) (t : ℕ) → IsLawful s → Settled c s t s' → IsLawful s'
+settled-lawful c s s' t law h = settled_within-lawful c h.0 s s' t law h.1
 
 -- where t holds or waits
 abbrev pub at_all : State → ℕ → NodeId → Bool

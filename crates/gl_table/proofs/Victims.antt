@@ -1,12 +1,13 @@
--- The victim: what the board of the locks says of cycles and ages is what their state says.
-use Rattle.std.specs.Prelude.{◌≡◌, ◌↔◌, ℕ, Bool, true, List, IsTrue}
+-- The victim: what is read from the locks is what their state says.
+use Rattle.std.specs.Prelude.{◌≡◌, ℕ, Bool, true, List}
 use Rattle.std.proofs.Common.{ap, subst, [], ◌∷◌}
 use Rattle.std.proofs.Math.Path.{fun_ext}
-use Rattle.gl_waits.specs.Sets.{has_slot}
-use Rattle.gl_waits.specs.Waits.{IsLowestYoungest, IsOnCycleOf, IsOnNoCycle, IsWalk, IsYoungest, Reaches}
-use Rattle.gl_waits.proofs.CycleLemmas.{empty-no_cycle, youngest-on_cycle}
+use Rattle.gl_waits.specs.declared.victims.Victims.{Victims}
+use Rattle.gl_waits.specs.Victims.{IsCandidate}
+use Rattle.gl_waits.specs.Waits.{IsLowestYoungest, IsOnCycleOf, IsWalk, IsYoungest, Reaches}
+use Rattle.gl_waits.proofs.VictimLemmas.{candidate-on_cycle}
 use Rattle.gl_table.specs.State.{State, age_of, status_of}
-use Rattle.gl_table.specs.Waiting.{is_wait, waits_for}
+use Rattle.gl_table.specs.Waiting.{IsVictim, is_wait, waits_for}
 use Rattle.gl_table.proofs.Edges.{step_is}
 
 -- who reaches a slot has a step
@@ -21,10 +22,10 @@ first_step edge a b r = by r.0 r.1
 pub cycle_waits : (s : State) (t v : ℕ) → IsOnCycleOf (waits_for s) t v → is_wait (status_of s v) ≡ true
 cycle_waits s t v on = let step = first_step (waits_for s) v t on.back in ap is_wait (step_is s v step.0 step.1).2.waits
 
--- a set that has exactly who is on a cycle with t, and the one of them that is youngest by ages that are those of the state
-module _ (s : State) (t set : ℕ) (on_cycle : (u : ℕ) → IsTrue (has_slot set u) ↔ IsOnCycleOf (waits_for s) t u) where
-  pub victim_none : set ≡ 0 → IsOnNoCycle (waits_for s) t
-  victim_none = empty-no_cycle (waits_for s) t set on_cycle
+-- a victim by ages that are those of the state
+pub victim_by_ages : (c : Victims) (s : State) (t v : ℕ) (age : ℕ → ℕ) → ((u : ℕ) → age u ≡ age_of s u) → IsLowestYoungest (IsCandidate c (waits_for s) t) age v → IsVictim c s t v
+victim_by_ages c s t v age ages best = subst (λ (f : ℕ → ℕ). IsYoungest (IsCandidate c (waits_for s) t) f v) (fun_ext ages) best.youngest
 
-  pub victim_youngest : (age : ℕ → ℕ) → ((u : ℕ) → age u ≡ age_of s u) → (v : ℕ) → IsLowestYoungest (λ u. IsTrue (has_slot set u)) age v → IsYoungest (IsOnCycleOf (waits_for s) t) (age_of s) v
-  victim_youngest age ages v best = subst (λ (f : ℕ → ℕ). IsYoungest (IsOnCycleOf (waits_for s) t) f v) (fun_ext ages) (youngest-on_cycle (waits_for s) t set on_cycle age v best)
+-- and it waits
+pub victim_waits : (c : Victims) (s : State) (t v : ℕ) → IsVictim c s t v → is_wait (status_of s v) ≡ true
+victim_waits c s t v one = cycle_waits s t v (candidate-on_cycle c (waits_for s) t v one.is_member)

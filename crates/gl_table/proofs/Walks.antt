@@ -1,12 +1,17 @@
--- Walks of a relation between finitely many numbers: whether there is one, and the youngest on a cycle.
-use Rattle.std.specs.Prelude.{◌≡◌, ◌≢◌, ℕ, zero, suc, ◌+◌, ◌<◌, ◌≤◌, Bool, true, false, ◌&&◌, ◌||◌, ◌==◌, nat_le, List, [], ◌∷◌, length, ⊤, Option, Some, None, if◌then◌else◌}
+-- Walks of a relation between finitely many numbers: whether there is one, and who is a victim.
+use Rattle.std.specs.Prelude.{◌≡◌, ◌≢◌, ℕ, zero, suc, ◌+◌, ◌<◌, ◌≤◌, Bool, true, false, not, ◌&&◌, ◌||◌, ◌==◌, nat_le, List, [], ◌∷◌, length, ⊤, Option, Some, None, if◌then◌else◌}
 use Rattle.std.specs.List.{list_any, range_with_len, AllByRecursion, IsDistinct}
 use Rattle.std.specs.Cmp.{IsEquivalence}
 use Rattle.std.proofs.Common.{refl, sym, ap, ap₂, ◌∙◌, arith, subst}
 use Rattle.std.proofs.lemmas.Bool.Decides.{nat_tests}
 use Rattle.std.proofs.lemmas.Map.Made.{length-le_from_is_member}
 use Rattle.std.proofs.lemmas.List.FromFn.{length-range_with_len}
-use Rattle.gl_waits.specs.Waits.{IsWalk, Reaches, IsOnCycleOf, IsOnNoCycle, IsYoungest}
+use Rattle.gl_waits.specs.declared.victims.Victims.{Victims}
+use Rattle.gl_waits.specs.declared.victims.Victims.TheVariants.{Youngest, Fewest}
+use Rattle.gl_waits.specs.Victims.{IsCandidate}
+use Rattle.gl_waits.specs.Waits.{IsWalk, Reaches, IsOnCycleOf, IsOnNoCycle, IsYoungest, without}
+use Rattle.gl_waits.proofs.WalkLemmas.{no_cycle-reaches, on_cycle-reaches, waits_of-less}
+use Rattle.gl_waits.proofs.VictimLemmas.{candidate-on_cycle, freeing-itself}
 use Rattle.gl_table.proofs.Queues.{clash}
 use Rattle.gl_graph.proofs.Look.{split, or_elim, or_left, or_right, and_both}
 
@@ -95,13 +100,18 @@ hops edge most (suc k) x y = edge x y || list_any (λ v. edge x v && hops edge m
 abbrev pub circles : (ℕ → ℕ → Bool) → ℕ → ℕ → ℕ → Bool
 circles edge most t v = hops edge most most t v && hops edge most most v t
 
--- the youngest on a cycle with t
-abbrev pub victim : (ℕ → ℕ → Bool) → ℕ → (ℕ → ℕ) → ℕ → Option ℕ
-victim edge most age t = youngest_below age (circles edge most t) most
+-- v passes for a candidate by this choice
+abbrev pub passes : Victims → (ℕ → ℕ → Bool) → ℕ → ℕ → ℕ → Bool
+passes Youngest edge most t v = circles edge most t v
+passes Fewest edge most t v = circles edge most t v && not (hops (without edge v) most most t t)
 
-abbrev pub IsVictim : (ℕ → ℕ → Bool) → (ℕ → ℕ) → ℕ → Option ℕ → Type 0
-IsVictim edge age t None = IsOnNoCycle edge t
-IsVictim edge age t (Some v) = IsYoungest (IsOnCycleOf edge t) age v
+-- the youngest candidate
+abbrev pub victim : Victims → (ℕ → ℕ → Bool) → ℕ → (ℕ → ℕ) → ℕ → Option ℕ
+victim c edge most age t = youngest_below age (passes c edge most t) most
+
+abbrev pub IsAnswer : Victims → (ℕ → ℕ → Bool) → (ℕ → ℕ) → ℕ → Option ℕ → Type 0
+IsAnswer c edge age t None = IsOnNoCycle edge t
+IsAnswer c edge age t (Some v) = IsYoungest (IsCandidate c edge t) age v
 
 module _ (edge : ℕ → ℕ → Bool) (most : ℕ) (low : (x y : ℕ) → edge x y ≡ true → y < most) where
   -- a walk that meets v goes on from v
@@ -154,14 +164,48 @@ module _ (edge : ℕ → ℕ → Bool) (most : ℕ) (low : (x y : ℕ) → edge 
   end_low [] x y h = low x y h
   end_low (v ∷ way) x y h = end_low way v y h.1
 
-  pub victim_is : (age : ℕ → ℕ) (t : ℕ) → IsVictim edge age t (victim edge most age t)
-  victim_is age t = by (victim edge most age t) (youngest_is age (circles edge most t) most)
-    where
-      turns : (v : ℕ) → IsOnCycleOf edge t v → circles edge most t v ≡ true
-      turns v on = ap₂ (λ a b. a && b) (reached_is t v on.there) (reached_is v t on.back)
+  pub turns : (t v : ℕ) → IsOnCycleOf edge t v → circles edge most t v ≡ true
+  turns t v on = ap₂ (λ a b. a && b) (reached_is t v on.there) (reached_is v t on.back)
 
-      by : (o : Option ℕ) → Greatest age (circles edge most t) most o → IsVictim edge age t o
-      by None none = λ v on. clash (turns v on) (none v (end_low on.there.0 t v on.there.1))
-      by (Some v) one =
-          let both = and_both (hops edge most most t v) (hops edge most most v t) one.0 in
-          record { is_member = record { there = sound most t v both.0; back = sound most v t both.1 }; greatest = λ u on. one.1 u (end_low on.there.0 t u on.there.1) (turns u on) }
+  pub turned : (t v : ℕ) → circles edge most t v ≡ true → IsOnCycleOf edge t v
+  turned t v h = let both = and_both (hops edge most most t v) (hops edge most most v t) h in record { there = sound most t v both.0; back = sound most v t both.1 }
+
+  -- who is on no cycle does not come round
+  pub round_none : (t : ℕ) → IsOnNoCycle edge t → hops edge most most t t ≡ false
+  round_none t none = split (hops edge most most t t) (λ h. absurd (no_cycle-reaches edge t none (sound most t t h))) (λ h. h)
+
+  pub none_round : (t : ℕ) → hops edge most most t t ≡ false → IsOnNoCycle edge t
+  none_round t away v on = clash (reached_is t t (on_cycle-reaches edge t (v, on))) away
+
+module _ (edge : ℕ → ℕ → Bool) (most : ℕ) (low : (x y : ℕ) → edge x y ≡ true → y < most) where
+  low_without : (v x y : ℕ) → without edge v x y ≡ true → y < most
+  low_without v x y h = low x y (waits_of-less (λ s. not (s == v)) edge x y h)
+
+  passes_is : (c : Victims) (t v : ℕ) → passes c edge most t v ≡ true → IsCandidate c edge t v
+  passes_is Youngest t v h = turned edge most low t v h
+  passes_is Fewest t v h =
+      let both = and_both (circles edge most t v) (not (hops (without edge v) most most t t)) h in
+      record { on_cycle = turned edge most low t v both.0; freed = none_round (without edge v) most (low_without v) t (not_true (hops (without edge v) most most t t) both.1) }
+    where
+      not_true : (b : Bool) → not b ≡ true → b ≡ false
+      not_true true e = clash e refl
+      not_true false e = refl
+
+  is_passing : (c : Victims) (t v : ℕ) → IsCandidate c edge t v → passes c edge most t v ≡ true
+  is_passing Youngest t v h = turns edge most low t v h
+  is_passing Fewest t v h = ap₂ (λ a b. a && not b) (turns edge most low t v h.on_cycle) (round_none (without edge v) most (low_without v) t h.freed)
+
+  -- who is on a cycle is a candidate itself
+  itself : (c : Victims) (t v : ℕ) → IsOnCycleOf edge t v → (u : ℕ) × IsCandidate c edge t u
+  itself Youngest t v on = (v, on)
+  itself Fewest t v on = (t, freeing-itself edge t (v, on))
+
+  pub victim_is : (c : Victims) (age : ℕ → ℕ) (t : ℕ) → IsAnswer c edge age t (victim c edge most age t)
+  victim_is c age t = by (victim c edge most age t) (youngest_is age (passes c edge most t) most)
+    where
+      below : (u : ℕ) → IsCandidate c edge t u → u < most
+      below u h = let on = candidate-on_cycle c edge t u h in end_low edge most low on.there.0 t u on.there.1
+
+      by : (o : Option ℕ) → Greatest age (passes c edge most t) most o → IsAnswer c edge age t o
+      by None none = λ v on. let one = itself c t v on in clash (is_passing c t one.0 one.1) (none one.0 (below one.0 one.1))
+      by (Some v) one = record { is_member = passes_is c t v one.0; greatest = λ u h. one.1 u (below u h) (is_passing c t u h) }

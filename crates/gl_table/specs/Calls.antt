@@ -8,6 +8,7 @@ use Rattle.gl_modes.specs.declared.node.NodeId.{NodeId}
 use Rattle.gl_modes.specs.declared.mode.Mode.TheVariants.{NL, S, X}
 use Rattle.gl_table.specs.declared.txn.Status.TheVariants.{Active, Waiting, Condemned}
 use Rattle.gl_table.specs.declared.detect.Detect.TheVariants.{AtBlock, ByWatcher}
+use Rattle.gl_waits.specs.declared.victims.Victims.{Victims}
 use Rattle.gl_graph.specs.Changes.{without_node}
 use Rattle.gl_graph.specs.Graph.{Graph, is_child, nodes}
 use Rattle.gl_header.specs.Header.{Waiter, enters, holds, is_among_waiters, placed, without_waiter}
@@ -117,11 +118,11 @@ abbrev pub shed : State → ℕ → NodeId → State
 shed s t n = pumped (record s { held = λ u c. if (u == t) && is_covered s t n c then NL else s.held u c }) (is_covered s t n)
 
 -- what a lock that waits leaves: at block, the asker is settled; by watcher, it waits
-abbrev pub WaitSettles : Detect → State → ℕ → State → Type 0
-WaitSettles AtBlock s t s' = Settled s t s'
-WaitSettles ByWatcher s t s' = s' ≡ s
+abbrev pub WaitSettles : Detect → Victims → State → ℕ → State → Type 0
+WaitSettles AtBlock c s t s' = Settled c s t s'
+WaitSettles ByWatcher c s t s' = s' ≡ s
 
 -- what a lock leaves: it is granted at once, or it waits
 pub record Locks (s : State) (t : ℕ) (n : NodeId) (m : Mode) (s' : State) : Type 0 where
   pub at_once : enters_at s t n m ≡ true → s' ≡ granted s t n m
-  pub waits : enters_at s t n m ≡ false → WaitSettles s.detect (enqueued s t n (wanted s t n m)) t s'
+  pub waits : enters_at s t n m ≡ false → WaitSettles s.detect s.victims (enqueued s t n (wanted s t n m)) t s'

@@ -7,6 +7,7 @@ use Rattle.gl_modes.specs.declared.node.NodeId.{NodeId}
 use Rattle.gl_graph.specs.Graph.{Graph, is_live}
 use Rattle.gl_header.specs.Header.{holds, is_among_waiters, is_waiter}
 use Rattle.gl_table.specs.declared.detect.Detect.TheVariants.{ByWatcher}
+use Rattle.gl_waits.specs.declared.victims.Victims.TheVariants.{Youngest}
 use Rattle.gl_table.specs.declared.list.LockList.{LockList}
 use Rattle.gl_table.specs.declared.locks.Locks.{Locks}
 use Rattle.gl_table.specs.declared.txn.Status.TheVariants.{Waiting}
@@ -27,6 +28,7 @@ state_on g l =
       held = held_of l.headers.entries;
       queue = queue_of l.headers.entries;
       detect = ByWatcher;
+      victims = Youngest;
       most = length l.seats.items;
       begins = 0;
       accepted = 0;

@@ -17,6 +17,7 @@ view_of t =
       seats = t.locks.seats.items;
       lists = map (λ l. l.entries.entries) t.locks.lists.items;
       detect = t.detect;
+      victims = t.victims;
       begins = t.begins;
     }
 

@@ -4,6 +4,8 @@ use Rattle.std.specs.List.{range_with_len}
 use Rattle.gl_table.specs.declared.txn.TxnId.{TxnId}
 use Rattle.gl_table.specs.declared.txn.Status.{Status}
 use Rattle.gl_table.specs.declared.detect.Detect.{Detect}
+use Rattle.gl_waits.specs.declared.victims.Victims.{Victims}
+use Rattle.gl_waits.specs.declared.victims.Victims.TheVariants.{Youngest}
 use Rattle.gl_modes.specs.declared.mode.Mode.{Mode}
 use Rattle.gl_modes.specs.declared.node.NodeId.{NodeId}
 use Rattle.gl_modes.specs.declared.mode.Mode.TheVariants.{NL}
@@ -23,6 +25,7 @@ pub record State : Type 0 where
   pub held : ℕ → NodeId → Mode  -- by slot and node, NL for no grant
   pub queue : NodeId → List Waiter  -- slots with wanted modes
   pub detect : Detect
+  pub victims : Victims  -- whom a deadlock takes
   pub most : ℕ  -- how many transactions may live at once
   pub begins : ℕ
   pub accepted : ℕ
@@ -87,7 +90,11 @@ with_queue s n ws = record s { queue = λ q. if same_node q n then ws else s.que
 abbrev pub with_graph : State → Graph → State
 with_graph s g = record s { graph = g }
 
--- no node, no transaction, nothing counted
+-- the state with another choice of victims
+abbrev pub choosing : Victims → State → State
+choosing c s = record s { victims = c }
+
+-- no node, no transaction, nothing counted; of a deadlock the youngest falls
 abbrev pub empty_state : Detect → ℕ → State
 empty_state detect most =
     record {
@@ -96,6 +103,7 @@ empty_state detect most =
       held = λ _ _. NL;
       queue = λ _. [];
       detect = detect;
+      victims = Youngest;
       most = most;
       begins = 0;
       accepted = 0;

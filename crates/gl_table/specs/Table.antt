@@ -8,6 +8,7 @@ use Rattle.gl_modes.specs.Nodes.{same_node}
 use Rattle.gl_graph.specs.View.{View, graph_of}
 use Rattle.gl_header.specs.Header.{holds}
 use Rattle.gl_table.specs.declared.detect.Detect.{Detect}
+use Rattle.gl_waits.specs.declared.victims.Victims.{Victims}
 use Rattle.gl_table.specs.declared.list.Entry.{Entry}
 use Rattle.gl_table.specs.declared.seat.Seat.{Seat}
 use Rattle.gl_table.specs.Covered.{held_children}
@@ -17,13 +18,14 @@ use Rattle.gl_table.specs.Pumps.{is_waiting_at}
 use Rattle.gl_table.specs.Seats.{txns_of}
 use Rattle.gl_table.specs.State.{State, members}
 
--- a table: the graph, the headers by node, the transactions by slot with their lists, the way of detection, and how many began
+-- a table: the graph, the headers by node, the transactions by slot with their lists, the way of detection, whom a deadlock takes, and how many began
 pub record TableView : Type 0 where
   pub graph : View
   pub headers : Entries
   pub seats : List (Option Seat)
   pub lists : List (List (NodeId × Entry))
   pub detect : Detect
+  pub victims : Victims
   pub begins : ℕ
 
 -- the state that it stands for: headers and lists are forgotten
@@ -35,6 +37,7 @@ state_of v =
       held = held_of v.headers;
       queue = queue_of v.headers;
       detect = v.detect;
+      victims = v.victims;
       most = length v.seats;
       begins = v.begins;
       accepted = 0;

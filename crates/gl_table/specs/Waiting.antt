@@ -6,7 +6,9 @@ use Rattle.gl_header.specs.Header.{is_ahead}
 use Rattle.gl_modes.specs.Modes.{are_compatible}
 use Rattle.gl_table.specs.Pumps.{condemned}
 use Rattle.gl_table.specs.State.{State, age_of, status_of}
-use Rattle.gl_waits.specs.Waits.{IsOnCycleOf, IsOnNoCycle, IsYoungest}
+use Rattle.gl_waits.specs.declared.victims.Victims.{Victims}
+use Rattle.gl_waits.specs.Victims.{IsCandidate}
+use Rattle.gl_waits.specs.Waits.{IsOnNoCycle, IsYoungest}
 
 -- what a wait is for: u holds the node in a mode that does not go with the wanted one, or stands ahead in its queue (Gray and Reuter; that all ahead count is own)
 abbrev pub blocks : State → ℕ → ℕ → Option Status → Bool
@@ -17,14 +19,18 @@ blocks s t u o = false
 abbrev pub waits_for : State → ℕ → ℕ → Bool
 waits_for s t u = not (t == u) && blocks s t u (status_of s t)
 
--- settling t in this many turns (own): while some are on a cycle with t, the youngest of them is condemned
-abbrev pub SettledWithin : ℕ → State → ℕ → State → Type 0
-SettledWithin zero s t s' = IsOnNoCycle (waits_for s) t × (s' ≡ s)
-SettledWithin (suc k) s t s' = (v : ℕ) × IsYoungest (IsOnCycleOf (waits_for s) t) (age_of s) v × SettledWithin k (condemned s v) t s'
+-- by the choice c of victims, v is condemned for t: of the candidates it is the youngest
+abbrev pub IsVictim : Victims → State → ℕ → ℕ → Type 0
+IsVictim c s t v = IsYoungest (IsCandidate c (waits_for s) t) (age_of s) v
+
+-- settling t in this many turns (own): while t is on a cycle, a victim is condemned
+abbrev pub SettledWithin : Victims → ℕ → State → ℕ → State → Type 0
+SettledWithin c zero s t s' = IsOnNoCycle (waits_for s) t × (s' ≡ s)
+SettledWithin c (suc k) s t s' = (v : ℕ) × IsVictim c s t v × SettledWithin c k (condemned s v) t s'
 
 -- settling t, in as many turns as it takes
-abbrev pub Settled : State → ℕ → State → Type 0
-Settled s t s' = (k : ℕ) × SettledWithin k s t s'
+abbrev pub Settled : Victims → State → ℕ → State → Type 0
+Settled c s t s' = (k : ℕ) × SettledWithin c k s t s'
 
 -- nobody waits, over some steps, for itself
 abbrev pub HasNoCycle : State → Type 0

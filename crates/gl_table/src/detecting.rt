@@ -3,15 +3,15 @@
 ghost use Rattle.std.specs.Prelude.{◌≡◌, ◌<◌, ◌==◌, [], ℕ, IfNone, IfSome, None, Some, false, length, true};
 ghost use Rattle.gl_graph.specs.Graph.{Graph as AGraph};
 ghost use Rattle.gl_graph.specs.View.{graph_of};
-ghost use Rattle.gl_waits.specs.Waits.{IsOnCycleOf, IsOnNoCycle, IsYoungest};
+ghost use Rattle.gl_waits.specs.Waits.{IsOnNoCycle};
 ghost use Rattle.gl_table.specs.Locks.{Agrees, AreSound, CountsHeld, IsOrderly, state_on};
 ghost use Rattle.gl_table.specs.Calls.{WaitSettles};
 ghost use Rattle.gl_table.specs.Pumps.{condemned};
-ghost use Rattle.gl_table.specs.State.{State, age_of, status_of};
+ghost use Rattle.gl_table.specs.State.{State, status_of};
 ghost use Rattle.gl_table.specs.Telling.{IsBySlot, notices_in};
 ghost use Rattle.gl_table.specs.Tellings.{told_but};
 ghost use Rattle.gl_table.specs.Tells.{IsOnWay, told_to};
-ghost use Rattle.gl_table.specs.Waiting.{Settled, is_wait, waits_for};
+ghost use Rattle.gl_table.specs.Waiting.{IsVictim, Settled, is_wait, waits_for};
 
 use crate::boards::{Waits, ages};
 use crate::detect::Detect;
@@ -21,12 +21,12 @@ use crate::seat::Seat;
 use crate::told::tell;
 use crate::txn::{Status, TxnId};
 use gl_graph::Graph;
-use gl_waits::{on_cycle_in, youngest_of};
+use gl_waits::{Victims, victim_for};
 
 impl Locks {
     /// With detection at block, settles a slot that has begun to wait. Puts who else is told into an
     /// empty list, by rising slot.
-    pub(crate) fn settle_asker(&mut self, graph: &Graph, detect: Detect, slot: u8, told: &mut Told)
+    pub(crate) fn settle_asker(&mut self, graph: &Graph, detect: Detect, victims: Victims, slot: u8, told: &mut Told)
         requires empty { told.old.items ≡ [] }
         requires sound { AreSound self.old }
         requires orderly { IsOrderly (state_on (graph_of graph.now) self.old) }
@@ -34,20 +34,20 @@ impl Locks {
         requires count { (u : ℕ) → CountsHeld (state_on (graph_of graph.now) self.old) self.old.lists.items u }
         requires seated { slot < length self.old.seats.items }
         ensures sound { AreSound self.new }
-        ensures state { WaitSettles detect (state_on (graph_of graph.now) self.old) slot (state_on (graph_of graph.now) self.new) }
+        ensures state { WaitSettles detect victims (state_on (graph_of graph.now) self.old) slot (state_on (graph_of graph.now) self.new) }
         ensures agree { (u : ℕ) → Agrees (state_on (graph_of graph.now) self.new) self.new.lists.items u }
         ensures count { (u : ℕ) → CountsHeld (state_on (graph_of graph.now) self.new) self.new.lists.items u }
         ensures told { told.new.items ≡ told_but slot (state_on (graph_of graph.now) self.old) (state_on (graph_of graph.now) self.new) }
     {
         if matches!(detect, Detect::AtBlock) {
-            self.settle(graph, slot, told);
+            self.settle(graph, victims, slot, told);
             told.retain(|notice| notice.0.slot != slot);
         }
     }
 
-    /// Condemns the youngest of those on a cycle with a slot, until the slot is on none. Each time
-    /// the victim's wait is given up, and its node grants from its front.
-    pub(crate) fn settle(&mut self, graph: &Graph, slot: u8, told: &mut Told)
+    /// Condemns a victim, by the choice of victims, until a slot is on no cycle. Each time the victim's
+    /// wait is given up, and its node grants from its front.
+    pub(crate) fn settle(&mut self, graph: &Graph, victims: Victims, slot: u8, told: &mut Told)
         requires sound { AreSound self.old }
         requires orderly { IsOrderly (state_on (graph_of graph.now) self.old) }
         requires agree { (u : ℕ) → Agrees (state_on (graph_of graph.now) self.old) self.old.lists.items u }
@@ -56,7 +56,7 @@ impl Locks {
         requires by_slot { IsBySlot told.old.items }
         requires untold { (u : ℕ) → is_wait (status_of (state_on (graph_of graph.now) self.old) u) ≡ true → notices_in told.old.items u ≡ None }
         ensures sound { AreSound self.new }
-        ensures state { Settled (state_on (graph_of graph.now) self.old) slot (state_on (graph_of graph.now) self.new) }
+        ensures state { Settled victims (state_on (graph_of graph.now) self.old) slot (state_on (graph_of graph.now) self.new) }
         ensures agree { (u : ℕ) → Agrees (state_on (graph_of graph.now) self.new) self.new.lists.items u }
         ensures count { (u : ℕ) → CountsHeld (state_on (graph_of graph.now) self.new) self.new.lists.items u }
         ensures by_slot { IsBySlot told.new.items }
@@ -64,17 +64,17 @@ impl Locks {
             → ((u : ℕ) → notices_in told.old.items u ≡ told_to s (state_on (graph_of graph.now) self.old) u)
             → (u : ℕ) → notices_in told.new.items u ≡ told_to s (state_on (graph_of graph.now) self.new) u }
     {
-        while let Some(victim) = self.victim(slot) {
+        while let Some(victim) = self.victim(victims, slot) {
             self.condemn(graph, victim, told);
         }
     }
 
-    /// The youngest of those on a cycle with a slot; `None` where it is on none.
-    fn victim(&self, slot: u8) -> Option<u8>
+    /// Who is to be condemned next for a slot; `None` where it is on no cycle.
+    fn victim(&self, victims: Victims, slot: u8) -> Option<u8>
         requires sound { AreSound self.now }
         requires seated { slot < length self.now.seats.items }
         ensures none { IfNone result ((g : AGraph) → IsOrderly (state_on g self.now) → IsOnNoCycle (waits_for (state_on g self.now)) slot) }
-        ensures some { IfSome result (λ v. (g : AGraph) → IsOrderly (state_on g self.now) → IsYoungest (IsOnCycleOf (waits_for (state_on g self.now)) slot) (age_of (state_on g self.now)) v) }
+        ensures some { IfSome result (λ v. (g : AGraph) → IsOrderly (state_on g self.now) → IsVictim victims (state_on g self.now) slot v) }
         ensures waits { IfSome result (λ v. (g : AGraph) → IsOrderly (state_on g self.now) → is_wait (status_of (state_on g self.now) v) ≡ true) }
     {
         let seats = self.seats.as_slice();
@@ -82,11 +82,7 @@ impl Locks {
             headers: &self.headers,
             seats,
         };
-        let cycle = on_cycle_in(&waits, slot as usize);
-        if cycle == 0 {
-            return None;
-        }
-        let victim = youngest_of(&ages(seats), cycle)?;
+        let victim = victim_for(&waits, &ages(seats), slot as usize, victims)?;
         Some(victim as u8)
     }
 

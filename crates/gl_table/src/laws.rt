@@ -1,6 +1,6 @@
 //! The laws of the model, each the contract of a call that does nothing.
 
-ghost use Rattle.gl_table.specs.Laws.{ChainsEnd, CutSetLaw, LawfulCutSet, LawfulNoConflict, NoConflictLaw, SettlingEnds};
+ghost use Rattle.gl_table.specs.Laws.{ChainsEnd, CondemningFrees, CutSetLaw, LawfulCutSet, LawfulNoConflict, NoConflictLaw, OneFalls, SettlingEnds, SettlingFrees};
 
 /// Where the grants of different transactions on each node are compatible, and every grant meets the
 /// rule of the graph, no two transactions hold conflicting effective modes on any node. In a lawful
@@ -22,7 +22,16 @@ pub fn chains_end()
     ensures { ChainsEnd }
 {}
 
-/// Settling ends, and in one state.
+/// By both choices of victims settling ends, and in one state; then the settled transaction is on no
+/// cycle, and nobody waits for whom it did not wait for before.
 pub fn settling_ends()
-    ensures { SettlingEnds }
+    ensures ends { SettlingEnds }
+    ensures frees { SettlingFrees }
+{}
+
+/// To condemn a transaction takes its waits away and adds none. So where the fewest fall, at most one
+/// falls each time that a transaction is settled.
+pub fn one_falls()
+    ensures condemning { CondemningFrees }
+    ensures one { OneFalls }
 {}

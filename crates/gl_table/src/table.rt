@@ -6,7 +6,7 @@ ghost use Rattle.gl_graph.specs.View.{graph_of};
 ghost use Rattle.gl_table.specs.Effects.{HasNoConflict};
 ghost use Rattle.gl_table.specs.Headers.{AreHeaders};
 ghost use Rattle.gl_table.specs.Lawful.{IsLawful};
-ghost use Rattle.gl_table.specs.State.{empty_state, lives, status_of};
+ghost use Rattle.gl_table.specs.State.{choosing, empty_state, lives, status_of};
 ghost use Rattle.gl_table.specs.Table.{ListsAgree, StandOnce, state_of};
 ghost use Rattle.gl_table.specs.Waiting.{HasNoCycle};
 ghost use Rattle.gl_table.specs.declared.detect.Detect.TheVariants.{AtBlock};
@@ -16,6 +16,7 @@ use crate::locks::Locks;
 use crate::txn::{Status, TxnId};
 use gl_graph::Graph;
 use gl_modes::Refusal;
+use gl_waits::Victims;
 use std::alloc::{AllocError, Global};
 use std::marker::Model;
 
@@ -36,6 +37,7 @@ pub struct Table {
     graph: Graph,
     locks: Locks,
     detect: Detect,
+    victims: Victims,
     begins: u64,
 }
 
@@ -52,12 +54,22 @@ impl Model for Table {
 }
 
 impl Table {
-    /// A table without nodes and transactions, for at most so many transactions at once. The only
-    /// refusal is `NoMemory`.
+    /// A table without nodes and transactions, for at most so many transactions at once. Of those in a
+    /// deadlock the youngest falls. The only refusal is `NoMemory`.
     pub fn new(alloc: Global, detect: Detect, most: usize) -> Result<Self, Refusal>
         requires some { 1 ≤ most }
         requires few { most ≤ 128 }
         ensures made { IfOk result (λ table. state_of table ≡ empty_state detect most) }
+        ensures refused { IfErr result (λ refusal. refusal ≡ ARefusal.NoMemory) }
+    {
+        Table::choosing(alloc, detect, Victims::Youngest, most)
+    }
+
+    /// As `new`, with a choice of whom a deadlock takes.
+    pub fn choosing(alloc: Global, detect: Detect, victims: Victims, most: usize) -> Result<Self, Refusal>
+        requires some { 1 ≤ most }
+        requires few { most ≤ 128 }
+        ensures made { IfOk result (λ table. state_of table ≡ choosing victims (empty_state detect most)) }
         ensures refused { IfErr result (λ refusal. refusal ≡ ARefusal.NoMemory) }
     {
         match Locks::new(alloc, most) {
@@ -65,6 +77,7 @@ impl Table {
                 graph: Graph::new(alloc),
                 locks,
                 detect,
+                victims,
                 begins: 0,
             }),
             Err(AllocError) => Err(Refusal::NoMemory),
@@ -92,6 +105,13 @@ impl Table {
         ensures { result ≡ self.now.detect }
     {
         self.detect
+    }
+
+    /// Whom a deadlock takes.
+    pub fn victims(&self) -> Victims
+        ensures { result ≡ self.now.victims }
+    {
+        self.victims
     }
 
     /// The lock graph.

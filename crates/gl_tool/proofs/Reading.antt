@@ -10,7 +10,7 @@ use Rattle.memchr.specs.Find.{Nowhere, Passes, is_byte}
 use Rattle.gl_tool.specs.declared.script.Tool.{Tool}
 use Rattle.gl_tool.specs.declared.script.RunFault.{RunFault}
 use Rattle.gl_tool.specs.declared.script.RunFault.TheVariants.{Read, Write, TooMuch}
-use Rattle.gl_table.specs.declared.detect.Detect.{Detect}
+use Rattle.gl_words.specs.declared.asked.Policy.{Policy}
 use Rattle.gl_tool.specs.Report.{Answers, Going, IsOpen, Left, Opening, Opens, Prints, Ran, Report, ReportOfWhole, Run, Splits, Stage, ended, last_line, says_version}
 use Rattle.gl_tool.specs.Script.{Script}
 use Rattle.std.specs.Io.KnownBytes.{Appends, Consumes}
@@ -71,7 +71,7 @@ Answers-front s line text t (inr (inl h)) = subst (λ l. Answers s l text t) (fr
 Answers-front s line text t (inr (inr (inl h))) = subst (λ l. Answers s l text t) (front-short line h.0) (inr (inr (inl h)))
 Answers-front s line text t (inr (inr (inr h))) = subst (λ l. Answers s l text t) (front-short line h.0) (inr (inr (inr h)))
 
-Opens-front : (d : Detect) (b : Bool) (line text : List ℕ) (t : Stage) → Opens d b (take 257 line) text t → Opens d b line text t
+Opens-front : (d : Policy) (b : Bool) (line text : List ℕ) (t : Stage) → Opens d b (take 257 line) text t → Opens d b line text t
 Opens-front d true line text t h = h
 Opens-front d false line text t h = (h.0, Answers-front _ line text h.0 h.1, h.2)
 
@@ -84,7 +84,7 @@ Prints-front (Opening d) line text t h =
 Prints-front (Going s) line text t h = (h.0, Answers-front s line text h.0 h.1, h.2)
 
 -- a whole line is answered
-pub SoFar-newline : (d : Detect) (first : Option (List ℕ)) (read : List ℕ) (w w' : Option (List ℕ)) (tool tool' : Tool)
+pub SoFar-newline : (d : Policy) (first : Option (List ℕ)) (read : List ℕ) (w w' : Option (List ℕ)) (tool tool' : Tool)
     → HasReported w tool w' tool' → (tool'' : Tool) → tool''.interpreter ≡ tool'.interpreter → tool''.sink ≡ tool'.sink → tool''.line.items ≡ []
     → SoFar d first read w tool → SoFar d first (read ++ 10 ∷ []) w' tool''
 unfolding HasReported
@@ -157,7 +157,7 @@ Takes-then w t w' t' w'' t'' xs ys p q d first read h =
     subst (λ r. SoFar d first r w'' t'') (append_assoc read xs ys) (q d first (read ++ xs) (p d first read h))
 
 -- the sink alone has moved
-pub SoFar-flushed : (d : Detect) (first : Option (List ℕ)) (read : List ℕ) (w w' : Option (List ℕ)) (tool tool' : Tool)
+pub SoFar-flushed : (d : Policy) (first : Option (List ℕ)) (read : List ℕ) (w w' : Option (List ℕ)) (tool tool' : Tool)
     → tool'.interpreter ≡ tool.interpreter → tool'.line ≡ tool.line → Hands w tool.sink w' tool'.sink []
     → SoFar d first read w tool → SoFar d first read w' tool'
 unfolding Hands
@@ -175,7 +175,7 @@ SoFar-flushed d first read w w' tool tool' same line hands (lines, rest, text, s
 )
 
 -- all lines are answered, the last one too
-abbrev pub Ended : Detect → Option (List ℕ) → List ℕ → Option (List ℕ) → Sink → Type 0
+abbrev pub Ended : Policy → Option (List ℕ) → List ℕ → Option (List ℕ) → Sink → Type 0
 Ended d first read w sink = (text : List ℕ) × Report d read text × Holds first w sink text
 
 last_line-some : (rest : List ℕ) → 0 < length rest → last_line rest ≡ rest ∷ []
@@ -186,7 +186,7 @@ last_line-none : (rest : List ℕ) → length rest ≡ 0 → last_line rest ≡ 
 last_line-none [] h = refl
 last_line-none (b ∷ bs) h = absurd (omega arith)
 
-pub Ended-rest : (d : Detect) (first : Option (List ℕ)) (read : List ℕ) (w w' : Option (List ℕ)) (tool tool' : Tool)
+pub Ended-rest : (d : Policy) (first : Option (List ℕ)) (read : List ℕ) (w w' : Option (List ℕ)) (tool tool' : Tool)
     → 0 < length tool.line.items → HasReported w tool w' tool' → SoFar d first read w tool → Ended d first read w' tool'.sink
 unfolding HasReported
 Ended-rest d first read w w' tool tool' some reported (lines, rest, text, so) =
@@ -198,7 +198,7 @@ Ended-rest d first read w w' tool tool' some reported (lines, rest, text, so) =
       done.3 first text so.handed,
     )
 
-pub Ended-none : (d : Detect) (first : Option (List ℕ)) (read : List ℕ) (w : Option (List ℕ)) (tool : Tool)
+pub Ended-none : (d : Policy) (first : Option (List ℕ)) (read : List ℕ) (w : Option (List ℕ)) (tool : Tool)
     → length tool.line.items ≡ 0 → SoFar d first read w tool → Ended d first read w tool.sink
 Ended-none d first read w tool none (lines, rest, text, so) =
     let short : length rest ≡ 0 = omega (arith, length-take 257 rest, ap length so.line) in (
@@ -213,31 +213,31 @@ Ended-none d first read w tool none (lines, rest, text, so) =
       so.handed,
     )
 
-pub Ended-flushed : (d : Detect) (first : Option (List ℕ)) (read : List ℕ) (w : Option (List ℕ)) (sink : Sink) (w' : Option (List ℕ)) (sink' : Sink)
+pub Ended-flushed : (d : Policy) (first : Option (List ℕ)) (read : List ℕ) (w : Option (List ℕ)) (sink : Sink) (w' : Option (List ℕ)) (sink' : Sink)
     → Hands w sink w' sink' [] → Ended d first read w sink → Ended d first read w' sink'
 unfolding Hands
 Ended-flushed d first read w sink w' sink' hands (text, report, holds) =
     (text, report, subst (Holds first w' sink') (append-nil text) (hands first text holds))
 
-pub Ended-whole : (d : Detect) (first : Option (List ℕ)) (read : List ℕ) (w : Option (List ℕ)) (sink : Sink)
+pub Ended-whole : (d : Policy) (first : Option (List ℕ)) (read : List ℕ) (w : Option (List ℕ)) (sink : Sink)
     → sink.broken ≡ false → sink.held.items ≡ [] → Ended d first read w sink → (written : List ℕ) × Appends first w written × Report d read written
 Ended-whole d first read w sink whole empty (text, report, holds) =
     let h = subst (λ b. Handed first w sink.held.items b text) whole holds in
     (h.0, h.1, subst (Report d read) (h.2 ∙ ap (λ l. h.0 ++ l) empty ∙ append-nil h.0) report)
 
-pub Ended-broken : (d : Detect) (first : Option (List ℕ)) (read : List ℕ) (w : Option (List ℕ)) (sink : Sink)
+pub Ended-broken : (d : Policy) (first : Option (List ℕ)) (read : List ℕ) (w : Option (List ℕ)) (sink : Sink)
     → sink.broken ≡ true → Ended d first read w sink → (written : List ℕ) × Appends first w written × ((more : List ℕ) × Report d read (written ++ more))
 Ended-broken d first read w sink broken (text, report, holds) =
     let h = subst (λ b. Handed first w sink.held.items b text) broken holds in
     (h.0, h.1, (h.2.0, subst (Report d read) h.2.1 report))
 
-pub SoFar-whole : (d : Detect) (first : Option (List ℕ)) (read : List ℕ) (w : Option (List ℕ)) (tool : Tool)
+pub SoFar-whole : (d : Policy) (first : Option (List ℕ)) (read : List ℕ) (w : Option (List ℕ)) (tool : Tool)
     → tool.sink.broken ≡ false → tool.sink.held.items ≡ [] → SoFar d first read w tool → (written : List ℕ) × Appends first w written × ReportOfWhole d read written
 SoFar-whole d first read w tool whole empty (lines, rest, text, so) =
     let h = subst (λ b. Handed first w tool.sink.held.items b text) whole so.handed in
     (h.0, h.1, (lines, rest, stage_of tool.interpreter, so.splits, subst (λ t. Run (Opening d) lines t (stage_of tool.interpreter)) (h.2 ∙ ap (λ l. h.0 ++ l) empty ∙ append-nil h.0) so.run))
 
-pub SoFar-new : (d : Detect) (first : Option (List ℕ)) (tool : Tool) → IsNew d tool → SoFar d first [] first tool
+pub SoFar-new : (d : Policy) (first : Option (List ℕ)) (tool : Tool) → IsNew d tool → SoFar d first [] first tool
 SoFar-new d first tool new = (
   [],
   [],
@@ -251,7 +251,7 @@ SoFar-new d first tool new = (
   },
 )
 
-pub Ran-finished : (d : Detect) (r r' first w w' : Option (List ℕ)) (tool : Tool) (result : Result Unit RunFault) (read : List ℕ)
+pub Ran-finished : (d : Policy) (r r' first w w' : Option (List ℕ)) (tool : Tool) (result : Result Unit RunFault) (read : List ℕ)
     → Consumes r r' read → SoFar d first read w tool → Finishes w tool w' result → Ran d r r' first w' result
 unfolding Finishes
 Ran-finished d r r' first w w' tool (Ok u) read consumes so ends =
@@ -259,7 +259,7 @@ Ran-finished d r r' first w w' tool (Ok u) read consumes so ends =
 Ran-finished d r r' first w w' tool (Err e) read consumes so ends =
     let done = ends d first read so in (read, done.0, consumes, done.1, subst (λ f. Left d f read done.0) (sym done.2.0) done.2.1)
 
-pub Ran-broken : (d : Detect) (r r' first w w' : Option (List ℕ)) (tool : Tool) (result : Result Unit RunFault) (read : List ℕ)
+pub Ran-broken : (d : Policy) (r r' first w w' : Option (List ℕ)) (tool : Tool) (result : Result Unit RunFault) (read : List ℕ)
     → Consumes r r' read → SoFar d first read w tool → Finishes w tool w' result → Ran d r r' first w' (Err Write)
 unfolding Finishes
 Ran-broken d r r' first w w' tool (Ok u) read consumes so ends =
@@ -267,12 +267,12 @@ Ran-broken d r r' first w w' tool (Ok u) read consumes so ends =
 Ran-broken d r r' first w w' tool (Err e) read consumes so ends =
     let done = ends d first read so in (read, done.0, consumes, done.1, done.2.1)
 
-pub Ran-at_fault : (d : Detect) (r r' first w : Option (List ℕ)) (tool : Tool) (read : List ℕ)
+pub Ran-at_fault : (d : Policy) (r r' first w : Option (List ℕ)) (tool : Tool) (read : List ℕ)
     → tool.sink.broken ≡ false → tool.sink.held.items ≡ [] → Consumes r r' read → SoFar d first read w tool → Ran d r r' first w (Err Read)
 Ran-at_fault d r r' first w tool read whole empty consumes so =
     let done = SoFar-whole d first read w tool whole empty so in (read, done.0, consumes, done.1, done.2)
 
-pub Ran-too_much : (d : Detect) (r r' first w : Option (List ℕ)) (tool : Tool) (read : List ℕ)
+pub Ran-too_much : (d : Policy) (r r' first w : Option (List ℕ)) (tool : Tool) (read : List ℕ)
     → tool.sink.broken ≡ false → tool.sink.held.items ≡ [] → length read ≡ 16777217 → Consumes r r' read → SoFar d first read w tool → Ran d r r' first w (Err TooMuch)
 Ran-too_much d r r' first w tool read whole empty long consumes so =
     let done = SoFar-whole d first read w tool whole empty so in (read, done.0, consumes, done.1, (long, done.2))

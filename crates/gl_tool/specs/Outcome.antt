@@ -2,7 +2,7 @@
 use Rattle.std.specs.Prelude.{◌≡◌, ◌⊎◌, ℕ, List, [], ◌∷◌, ◌++◌, codes, decimal, Option, Result, Ok, Err}
 use Rattle.std.specs.Io.KnownBytes.{Consumes, Appends, IsAtEnd}
 use Rattle.gl_script.specs.Grammar.{Text}
-use Rattle.gl_table.specs.declared.detect.Detect.{Detect}
+use Rattle.gl_words.specs.declared.asked.Policy.{Policy}
 use Rattle.gl_words.specs.declared.asked.Plan.TheVariants as plan
 use Rattle.gl_words.specs.Planned.{IsPlanFor}
 use Rattle.gl_crew.specs.Crews.{IsCount}
@@ -13,24 +13,24 @@ use Rattle.gl_tool.specs.declared.entry.ToolFault.TheVariants.{Run, Crew, Words}
 use Rattle.gl_tool.specs.Report.{Report, Left}
 
 -- all of the reader was read, and the report on it was written
-abbrev pub HasRun : Detect → Option (List ℕ) → Option (List ℕ) → Option (List ℕ) → Option (List ℕ) → Type 0
-HasRun detect had has held holds =
-    (read : List ℕ) × (written : List ℕ) × Consumes had has read × IsAtEnd has × Appends held holds written × Report detect read written
+abbrev pub HasRun : Policy → Option (List ℕ) → Option (List ℕ) → Option (List ℕ) → Option (List ℕ) → Type 0
+HasRun policy had has held holds =
+    (read : List ℕ) × (written : List ℕ) × Consumes had has read × IsAtEnd has × Appends held holds written × Report policy read written
 
 -- the run met this fault, and left what it leaves
-abbrev pub HasFaulted : Detect → RunFault → Option (List ℕ) → Option (List ℕ) → Option (List ℕ) → Option (List ℕ) → Type 0
-HasFaulted detect fault had has held holds =
-    (read : List ℕ) × (written : List ℕ) × Consumes had has read × Appends held holds written × Left detect fault read written
+abbrev pub HasFaulted : Policy → RunFault → Option (List ℕ) → Option (List ℕ) → Option (List ℕ) → Option (List ℕ) → Type 0
+HasFaulted policy fault had has held holds =
+    (read : List ℕ) × (written : List ℕ) × Consumes had has read × Appends held holds written × Left policy fault read written
 
--- the words plan a script, and it ran to its end with the detection that they ask for
+-- the words plan a script, and it ran to its end with the policy that they ask for
 abbrev pub RunsAsPlanned : List Text → Option (List ℕ) → Option (List ℕ) → Option (List ℕ) → Option (List ℕ) → Type 0
 RunsAsPlanned words had has held holds =
-    (detect : Detect) × IsPlanFor words (plan.Script detect) × HasRun detect had has held holds
+    (policy : Policy) × IsPlanFor words (plan.Script policy) × HasRun policy had has held holds
 
 -- the words plan a script, and its run met this fault
 abbrev pub FaultsAsPlanned : List Text → RunFault → Option (List ℕ) → Option (List ℕ) → Option (List ℕ) → Option (List ℕ) → Type 0
 FaultsAsPlanned words fault had has held holds =
-    (detect : Detect) × IsPlanFor words (plan.Script detect) × HasFaulted detect fault had has held holds
+    (policy : Policy) × IsPlanFor words (plan.Script policy) × HasFaulted policy fault had has held holds
 
 -- the line that says how many commands a crew had accepted
 abbrev pub count_line : ℕ → Text
@@ -52,13 +52,13 @@ PutsCount count held holds (Err fault) = (fault ≡ Run Write) × HasBegunCount 
 -- the words plan a crew; it did all its rounds, and what it counted was written so far; nothing was read
 abbrev pub CountsAsPlanned : (ℕ → Option (List ℕ) → Option (List ℕ) → Type 0) → List Text → Option (List ℕ) → Option (List ℕ) → Option (List ℕ) → Option (List ℕ) → Type 0
 CountsAsPlanned Puts words had has held holds =
-    (sessions : ℕ) × (rounds : ℕ) × (detect : Detect) × IsPlanFor words (plan.Crew sessions rounds detect) × (has ≡ had)
-    × ((count : ℕ) × IsCount detect sessions rounds count × Puts count held holds)
+    (sessions : ℕ) × (rounds : ℕ) × (policy : Policy) × IsPlanFor words (plan.Crew sessions rounds policy) × (has ≡ had)
+    × ((count : ℕ) × IsCount policy.detect sessions rounds count × Puts count held holds)
 
 -- the words plan a crew, and it stopped; nothing was read or written
 abbrev pub CrewStops : List Text → Option (List ℕ) → Option (List ℕ) → Option (List ℕ) → Option (List ℕ) → Type 0
 CrewStops words had has held holds =
-    (sessions : ℕ) × (rounds : ℕ) × (detect : Detect) × IsPlanFor words (plan.Crew sessions rounds detect) × (has ≡ had) × (holds ≡ held)
+    (sessions : ℕ) × (rounds : ℕ) × (policy : Policy) × IsPlanFor words (plan.Crew sessions rounds policy) × (has ≡ had) × (holds ≡ held)
 
 -- what was planned was done
 abbrev pub Ends : List Text → Option (List ℕ) → Option (List ℕ) → Option (List ℕ) → Option (List ℕ) → Type 0

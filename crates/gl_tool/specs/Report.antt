@@ -2,7 +2,7 @@
 use Rattle.std.specs.Prelude.{◌≡◌, ◌≢◌, ◌<◌, ◌≤◌, ◌⊎◌, Bool, true, false, List, [], ◌∷◌, ◌++◌, length, slice_index, All, codes, flat_map, Option, Result, MatchResult, OnOk}
 use Rattle.std.specs.Io.KnownBytes.{Consumes, Appends}
 use Rattle.std.specs.Str.{bytes_eq}
-use Rattle.gl_table.specs.declared.detect.Detect.{Detect}
+use Rattle.gl_words.specs.declared.asked.Policy.{Policy}
 use Rattle.gl_table.specs.Tellings.{Told}
 use Rattle.gl_catalog.specs.declared.command.Answer.{Answer}
 use Rattle.gl_script.specs.declared.form.Version.TheVariants as version
@@ -39,7 +39,7 @@ Answers s line text s' =
 
 -- where a script stands: before its first line, or behind a line
 pub data Stage : Type 0 where
-  Opening : (detect : Detect) → Stage
+  Opening : (policy : Policy) → Stage
   Going : (script : Script) → Stage
 
 -- the first line of a script of version 2, which is no command
@@ -47,7 +47,7 @@ abbrev pub says_version : Text → Bool
 says_version line = bytes_eq line (codes "granular 2")
 
 -- the first line chooses the version; in version 1 it is a line like any other
-abbrev pub Opens : Detect → Bool → Text → Text → Stage → Type 0
+abbrev pub Opens : Policy → Bool → Text → Text → Stage → Type 0
 Opens d true line text stage = (text ≡ codes "ok\n") × (stage ≡ Going (begun d version.Two))
 Opens d false line text stage = (s : Script) × Answers (begun d version.One) line text s × (stage ≡ Going s)
 
@@ -86,24 +86,24 @@ last_line [] = []
 last_line (b ∷ bs) = (b ∷ bs) ∷ []
 
 -- the text is printed for the lines of the bytes, the last one included
-abbrev pub Report : Detect → Text → Text → Type 0
+abbrev pub Report : Policy → Text → Text → Type 0
 Report d bytes text =
     (lines : List Text) × (rest : Text) × (t : Stage) × Splits bytes lines rest × Run (Opening d) (lines ++ last_line rest) text t
 
 -- the text is printed for the lines of the bytes that a newline ends
-abbrev pub ReportOfWhole : Detect → Text → Text → Type 0
+abbrev pub ReportOfWhole : Policy → Text → Text → Type 0
 ReportOfWhole d bytes text =
     (lines : List Text) × (rest : Text) × (t : Stage) × Splits bytes lines rest × Run (Opening d) lines text t
 
 -- what holds of the bytes read and written when a fault ends the run
-abbrev pub Left : Detect → RunFault → Text → Text → Type 0
+abbrev pub Left : Policy → RunFault → Text → Text → Type 0
 Left d Read read written = ReportOfWhole d read written
 Left d TooMuch read written = (length read ≡ 16777217) × ReportOfWhole d read written
 Left d Write read written = (rest : Text) × Report d read (written ++ rest)
 Left d Memory read written = (read ≡ []) × (written ≡ [])
 
 -- what a run read, what it wrote, and how the two go together
-abbrev pub Ran : Detect → Option Text → Option Text → Option Text → Option Text → Result Unit RunFault → Type 0
+abbrev pub Ran : Policy → Option Text → Option Text → Option Text → Option Text → Result Unit RunFault → Type 0
 Ran d had has held holds result =
     (read : Text) × (written : Text) × Consumes had has read × Appends held holds written
     × MatchResult result (λ _. Report d read written) (λ fault. Left d fault read written)

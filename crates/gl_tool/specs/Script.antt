@@ -5,9 +5,9 @@ use Rattle.gl_modes.specs.declared.node.NodeId.{NodeId}
 use Rattle.gl_modes.specs.declared.refusal.Refusal.{Refusal}
 use Rattle.gl_modes.specs.declared.refusal.Refusal.TheVariants as no
 use Rattle.gl_graph.specs.Graph.{Graph, interval_at}
-use Rattle.gl_table.specs.declared.detect.Detect.{Detect}
+use Rattle.gl_words.specs.declared.asked.Policy.{Policy}
 use Rattle.gl_table.specs.declared.txn.TxnId.{TxnId}
-use Rattle.gl_table.specs.State.{State, empty_state}
+use Rattle.gl_table.specs.State.{State, choosing, empty_state}
 use Rattle.gl_table.specs.Tellings.{Told}
 use Rattle.gl_catalog.specs.declared.command.Answer.{Answer}
 use Rattle.gl_catalog.specs.declared.command.Answer.TheVariants as answer
@@ -31,8 +31,8 @@ most_of version.One = 64
 most_of version.Two = 128
 
 -- a script of which no line was carried out
-abbrev pub begun : Detect → Version → Script
-begun d v = record { version = v; names = no_names; locks = empty_state d (most_of v) }
+abbrev pub begun : Policy → Version → Script
+begun p v = record { version = v; names = no_names; locks = choosing p.victims (empty_state p.detect (most_of v)) }
 
 -- the interval of an index that stands for itself
 abbrev pub interval_named : Graph → Option NodeId → ℕ → Option NodeId

@@ -1,8 +1,8 @@
 -- A script on its way through the tool.
 use Rattle.std.specs.Prelude.{◌≡◌, ℕ, List, [], ◌++◌, false, take, Option, None, Some, Result, MatchResult}
 use Rattle.std.specs.Io.KnownBytes.{Appends}
-use Rattle.gl_table.specs.declared.detect.Detect.{Detect}
-use Rattle.gl_table.specs.State.{empty_state}
+use Rattle.gl_words.specs.declared.asked.Policy.{Policy}
+use Rattle.gl_table.specs.State.{State, choosing, empty_state}
 use Rattle.gl_table.specs.Tellings.{Told}
 use Rattle.gl_catalog.specs.Manager.{ManagerView, state_of}
 use Rattle.gl_catalog.specs.declared.command.Answer.{Answer}
@@ -19,10 +19,14 @@ use Rattle.gl_tool.specs.Printed.{printed}
 use Rattle.gl_tool.specs.Script.{Does, Script, begun}
 use Rattle.gl_tool.specs.Views.{script_of}
 
+-- how deadlocks are found, and whom they take
+abbrev pub policy_of : State → Policy
+policy_of s = record { detect = s.detect; victims = s.victims }
+
 -- a script has not begun where the manager of version 2 is still at hand
 abbrev pub stage_with : Option ManagerView → Script → Stage
 stage_with None s = Going s
-stage_with (Some two) s = Opening (state_of two).detect
+stage_with (Some two) s = Opening (policy_of (state_of two))
 
 -- where the script stands
 abbrev pub stage_of : Interpreter → Stage
@@ -31,14 +35,14 @@ stage_of i = stage_with i.two (script_of i.desk)
 -- as long as no version is chosen, both managers are as they were made
 abbrev pub IsReadyWith : Option ManagerView → Script → Type 0
 IsReadyWith None s = Unit
-IsReadyWith (Some two) s = (state_of two ≡ empty_state (state_of two).detect 128) × (s ≡ begun (state_of two).detect version.One)
+IsReadyWith (Some two) s = let p = policy_of (state_of two) in (state_of two ≡ choosing p.victims (empty_state p.detect 128)) × (s ≡ begun p version.One)
 
 abbrev pub IsReady : Interpreter → Type 0
 IsReady i = IsReadyWith i.two (script_of i.desk)
 
 -- no line was answered
-pub record IsFresh (detect : Detect) (i : Interpreter) : Type 0 where
-  pub stage : stage_of i ≡ Opening detect
+pub record IsFresh (policy : Policy) (i : Interpreter) : Type 0 where
+  pub stage : stage_of i ≡ Opening policy
   pub ready : IsReady i
 
 -- a command was carried out, and what is printed for it was handed on
@@ -56,14 +60,14 @@ unfoldable pub Answered : Option (List ℕ) → Sink → Interpreter → List �
 Answered w sink i line w' sink' i' = IsReady i → (text : List ℕ) × Prints (stage_of i) line text (stage_of i') × IsReady i' × Hands w sink w' sink' text
 
 -- the tool has taken nothing
-pub record IsNew (detect : Detect) (tool : Tool) : Type 0 where
-  pub fresh : IsFresh detect tool.interpreter
+pub record IsNew (policy : Policy) (tool : Tool) : Type 0 where
+  pub fresh : IsFresh policy tool.interpreter
   pub line : tool.line.items ≡ []
   pub held : tool.sink.held.items ≡ []
   pub whole : tool.sink.broken ≡ false
 
 -- Of the bytes read, the whole lines are answered; the answers were handed on; the tool has the front of the rest.
-pub record IsSoFar (d : Detect) (first : Option (List ℕ)) (read : List ℕ) (w : Option (List ℕ)) (tool : Tool) (lines : List (List ℕ)) (rest text : List ℕ) : Type 0 where
+pub record IsSoFar (d : Policy) (first : Option (List ℕ)) (read : List ℕ) (w : Option (List ℕ)) (tool : Tool) (lines : List (List ℕ)) (rest text : List ℕ) : Type 0 where
   pub splits : Splits read lines rest
   pub run : Run (Opening d) lines text (stage_of tool.interpreter)
   pub ready : IsReady tool.interpreter
@@ -71,12 +75,12 @@ pub record IsSoFar (d : Detect) (first : Option (List ℕ)) (read : List ℕ) (w
   pub handed : Holds first w tool.sink text
 
 -- the same, for some lines, rest and text
-abbrev pub SoFar : Detect → Option (List ℕ) → List ℕ → Option (List ℕ) → Tool → Type 0
+abbrev pub SoFar : Policy → Option (List ℕ) → List ℕ → Option (List ℕ) → Tool → Type 0
 SoFar d first read w tool = (lines : List (List ℕ)) × (rest : List ℕ) × (text : List ℕ) × IsSoFar d first read w tool lines rest text
 
 -- the tool has taken the bytes too
 unfoldable pub Takes : Option (List ℕ) → Tool → Option (List ℕ) → Tool → List ℕ → Type 0
-Takes w tool w' tool' bytes = (d : Detect) (first : Option (List ℕ)) (read : List ℕ) → SoFar d first read w tool → SoFar d first (read ++ bytes) w' tool'
+Takes w tool w' tool' bytes = (d : Policy) (first : Option (List ℕ)) (read : List ℕ) → SoFar d first read w tool → SoFar d first (read ++ bytes) w' tool'
 
 -- the line was answered, however it goes on after 257 bytes
 unfoldable pub HasReported : Option (List ℕ) → Tool → Option (List ℕ) → Tool → Type 0
@@ -88,15 +92,15 @@ HasReported w tool w' tool' =
 -- the script has ended
 unfoldable pub Finishes : Option (List ℕ) → Tool → Option (List ℕ) → Result Unit RunFault → Type 0
 Finishes w tool w' result =
-    (d : Detect) (first : Option (List ℕ)) (read : List ℕ) → SoFar d first read w tool
+    (d : Policy) (first : Option (List ℕ)) (read : List ℕ) → SoFar d first read w tool
     → (written : List ℕ) × Appends first w' written
     × MatchResult result (λ _. Report d read written) (λ fault. (fault ≡ Write) × ((more : List ℕ) × Report d read (written ++ more)))
 
--- the way of detection of a script
-abbrev pub detect_in : Stage → Detect
-detect_in (Opening d) = d
-detect_in (Going s) = s.locks.detect
+-- the policy of a script
+abbrev pub policy_in : Stage → Policy
+policy_in (Opening p) = p
+policy_in (Going s) = policy_of s.locks
 
--- the way of detection of what the tool is answering
-abbrev pub detect_of : Tool → Detect
-detect_of tool = detect_in (stage_of tool.interpreter)
+-- the policy of what the tool is answering
+abbrev pub policy_now : Tool → Policy
+policy_now tool = policy_in (stage_of tool.interpreter)

@@ -9,7 +9,7 @@ use crate::script::{RunFault, run};
 use crate::sink::{flush, new_sink, put, send};
 use arrayvec::ArrayString;
 use gl_crew::{CrewFault, crew};
-use gl_words::{Plan, plan};
+use gl_words::{Plan, Policy, plan};
 use std::alloc::Global;
 use std::convert::AsStr;
 use std::fmt::Write as FormatWrite;
@@ -32,8 +32,8 @@ pub enum ToolFault {
     Words,
 }
 
-/// Does what the words after the program's name ask for, with deadlocks found as `--detect` says: runs
-/// the script that `reader` gives; or has a crew of sessions do its rounds, and writes how many commands
+/// Does what the words after the program's name ask for, with deadlocks found as `--detect` says,
+/// which take whom `--victims` says: runs the script that `reader` gives; or has a crew of sessions do its rounds, and writes how many commands
 /// they had accepted. Answers the exit status: 0 at the end, 1 after a fault, 2 where there is no plan
 /// for the words; after anything but 0 one line that says why was given to `faults`.
 pub fn program<H: Threads + Wait + Sync, S: AsStr, R: Read, W: Write, E: Write>(
@@ -81,14 +81,14 @@ fn work<H: Threads + Wait + Sync, S: AsStr, R: Read, W: Write>(
     ensures { Works (map S.text words.now) (R.remaining reader.old) (R.remaining reader.new) (W.contents writer.old) (W.contents writer.new) result }
 {
     match plan(alloc, words) {
-        Some(Plan::Script(detect)) => run(alloc, reader, writer, detect).map_err(ToolFault::Run),
+        Some(Plan::Script(policy)) => run(alloc, reader, writer, policy).map_err(ToolFault::Run),
         Some(
             Plan::Crew {
                 sessions,
                 rounds,
-                detect,
+                policy: Policy { detect, victims },
             },
-        ) => match crew(rt, alloc, sessions, rounds, detect) {
+        ) => match crew(rt, alloc, sessions, rounds, detect, victims) {
             Ok(count) => put_count(writer, count),
             Err(fault) => Err(ToolFault::Crew(fault)),
         },

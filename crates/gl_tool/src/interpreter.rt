@@ -10,7 +10,8 @@ use crate::sink::{Sink, put};
 use arrayvec::ArrayVec;
 use gl_catalog::Manager;
 use gl_script::{Form, Lists, parse};
-use gl_table::{Detect, Told};
+use gl_table::Told;
+use gl_words::Policy;
 use std::alloc::Global;
 use std::io::Write;
 
@@ -36,11 +37,12 @@ pub(crate) struct Interpreter {
 
 impl Interpreter {
     /// A script of which no line was answered. `None` where memory is wanting.
-    pub(crate) fn new(alloc: Global, detect: Detect) -> Option<Interpreter>
-        ensures { IfSome result (λ interpreter. IsFresh detect interpreter) }
+    pub(crate) fn new(alloc: Global, policy: Policy) -> Option<Interpreter>
+        ensures { IfSome result (λ interpreter. IsFresh policy interpreter) }
     {
-        let one = Manager::new(alloc, detect, 64).ok()?;
-        let two = Manager::new(alloc, detect, 128).ok()?;
+        let Policy { detect, victims } = policy;
+        let one = Manager::choosing(alloc, detect, victims, 64).ok()?;
+        let two = Manager::choosing(alloc, detect, victims, 128).ok()?;
         Some(Interpreter {
             desk: Desk::new(alloc, one),
             two: Some(two),

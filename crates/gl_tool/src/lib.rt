@@ -16,7 +16,7 @@ mod sink;
 
 pub use entry::{ToolFault, complain, program};
 pub use gl_crew::{CrewFault, Gate, Point, crew, crew_with};
-pub use gl_words::{Plan, plan};
+pub use gl_words::{Plan, Policy, plan};
 pub use script::{RunFault, run};
 
 #[cfg(test)]

@@ -3,12 +3,12 @@
 ghost use Rattle.std.specs.Prelude.{◌≡◌, ℕ, ◌<◌, List, [], ◌∷◌, ◌++◌, IfSome, OnOk, Option, length, vec_len};
 ghost use Rattle.std.specs.Io.KnownBytes.{IsAtEnd};
 ghost use Rattle.gl_tool.specs.Report.{IsOpen, Ran, ReadsWithin};
-ghost use Rattle.gl_tool.specs.SoFar.{Finishes, HasReported, IsNew, Takes, detect_of};
+ghost use Rattle.gl_tool.specs.SoFar.{Finishes, HasReported, IsNew, Takes, policy_now};
 
 use crate::interpreter::Interpreter;
 use crate::sink::{Sink, flush, new_sink};
 use arrayvec::ArrayVec;
-use gl_table::Detect;
+use gl_words::Policy;
 use memchr::memchr;
 use std::alloc::Global;
 use std::io::{Read, Write};
@@ -61,16 +61,16 @@ pub fn run<R: Read, W: Write>(
     alloc: Global,
     reader: &mut R,
     writer: &mut W,
-    detect: Detect,
+    policy: Policy,
 ) -> Result<(), RunFault>
-    ensures report { Ran detect (R.remaining reader.old) (R.remaining reader.new) (W.contents writer.old) (W.contents writer.new) result }
+    ensures report { Ran policy (R.remaining reader.old) (R.remaining reader.new) (W.contents writer.old) (W.contents writer.new) result }
     ensures whole { OnOk result (IsAtEnd (R.remaining reader.new)) }
     ensures limit { ReadsWithin (R.remaining reader.old) (R.remaining reader.new) result }
 {
     let Some(mut block) = new_block(alloc) else {
         return Err(RunFault::Memory);
     };
-    let Some(mut tool) = new_tool(alloc, detect) else {
+    let Some(mut tool) = new_tool(alloc, policy) else {
         return Err(RunFault::Memory);
     };
     pump(&mut tool, reader, writer, &mut block)
@@ -84,11 +84,11 @@ fn new_block(alloc: Global) -> Option<Vec<u8>>
 }
 
 /// A tool that has taken nothing. `None` where memory is wanting.
-fn new_tool(alloc: Global, detect: Detect) -> Option<Tool>
-    ensures { IfSome result (λ tool. IsNew detect tool) }
+fn new_tool(alloc: Global, policy: Policy) -> Option<Tool>
+    ensures { IfSome result (λ tool. IsNew policy tool) }
 {
     Some(Tool {
-        interpreter: Interpreter::new(alloc, detect)?,
+        interpreter: Interpreter::new(alloc, policy)?,
         line: ArrayVec::new(),
         sink: new_sink(),
     })
@@ -101,9 +101,9 @@ fn pump<R: Read, W: Write>(
     writer: &mut W,
     block: &mut [u8],
 ) -> Result<(), RunFault>
-    requires fresh { IsNew (detect_of tool.old) tool.old }
+    requires fresh { IsNew (policy_now tool.old) tool.old }
     requires room { 0 < length block.old }
-    ensures report { Ran (detect_of tool.old) (R.remaining reader.old) (R.remaining reader.new) (W.contents writer.old) (W.contents writer.new) result }
+    ensures report { Ran (policy_now tool.old) (R.remaining reader.old) (R.remaining reader.new) (W.contents writer.old) (W.contents writer.new) result }
     ensures whole { OnOk result (IsAtEnd (R.remaining reader.new)) }
     ensures limit { ReadsWithin (R.remaining reader.old) (R.remaining reader.new) result }
 {

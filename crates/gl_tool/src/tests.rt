@@ -2,6 +2,8 @@
 
 use crate::{RunFault, run};
 use gl_table::Detect;
+use gl_waits::Victims;
+use gl_words::Policy;
 use std::alloc::Global;
 use std::io::{Read, Write};
 use std::process::Abort;
@@ -83,7 +85,11 @@ fn answer<R: Read, W: Write>(
     reader: &mut R,
     writer: &mut W,
 ) -> Result<(), RunFault> {
-    run(alloc, reader, writer, Detect::AtBlock)
+    let policy = Policy {
+        detect: Detect::AtBlock,
+        victims: Victims::Youngest,
+    };
+    run(alloc, reader, writer, policy)
 }
 
 /// The script's report is the one that is wanted.

@@ -2,3 +2,4 @@ pub mod Waits
 pub mod Sets
 pub mod Boards
 pub mod Laws
+pub mod Victims

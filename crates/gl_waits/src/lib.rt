@@ -11,6 +11,7 @@ mod reach;
 pub mod set;
 mod suspect;
 mod victim;
+mod victims;
 mod waits_for;
 
 pub use board::{Board, SLOTS};
@@ -18,6 +19,7 @@ pub use cycle::{on_cycle, on_cycle_in};
 pub use freeing::freeing_victim;
 pub use suspect::suspects;
 pub use victim::{youngest, youngest_of};
+pub use victims::{Victims, victim_for};
 pub use waits_for::WaitsFor;
 
 #[cfg(test)]

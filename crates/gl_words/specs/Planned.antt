@@ -6,11 +6,14 @@ use Rattle.clap.specs.Words.{App, Row, Rule, Text, first_of, matches_of, new_app
 use Rattle.clap.specs.Kinds.{Kinds}
 use Rattle.clap.specs.Faults.{fault_of}
 use Rattle.gl_words.specs.declared.asked.Plan.{Plan}
+use Rattle.gl_words.specs.declared.asked.Policy.{Policy}
 use Rattle.gl_words.specs.declared.asked.Plan.TheVariants.{Script, Crew}
 use Rattle.gl_words.specs.declared.words.Unread.{Unread}
 use Rattle.gl_words.specs.declared.words.Unread.TheVariants.{Memory, Words}
 use Rattle.gl_table.specs.declared.detect.Detect.{Detect}
 use Rattle.gl_table.specs.declared.detect.Detect.TheVariants.{AtBlock, ByWatcher}
+use Rattle.gl_waits.specs.declared.victims.Victims.{Victims}
+use Rattle.gl_waits.specs.declared.victims.Victims.TheVariants.{Youngest, Fewest}
 
 -- an option with a value
 abbrev pub option_rule : Text → Rule
@@ -22,7 +25,7 @@ bare_app = let app = new_app (codes "gltool") in record app { top = record app.t
 
 -- the command line
 abbrev pub tool_app : App
-tool_app = with_rule (with_rule (with_rule bare_app (option_rule (codes "detect"))) (option_rule (codes "crew"))) (option_rule (codes "rounds"))
+tool_app = with_rule (with_rule (with_rule (with_rule bare_app (option_rule (codes "detect"))) (option_rule (codes "victims"))) (option_rule (codes "crew"))) (option_rule (codes "rounds"))
 
 -- the values that clap finds in the words
 unfoldable pub rows_in : List Text → List Row
@@ -39,19 +42,30 @@ IsWay None ByWatcher = ⊥
 IsWay (Some word) AtBlock = word ≡ codes "at-block"
 IsWay (Some word) ByWatcher = word ≡ codes "by-watcher"
 
+-- the choice of victims that the value of `--victims` names
+abbrev pub IsChoice : Option Text → Victims → Type 0
+IsChoice None Youngest = Unit {0}
+IsChoice None Fewest = ⊥
+IsChoice (Some word) Youngest = word ≡ codes "youngest"
+IsChoice (Some word) Fewest = word ≡ codes "fewest"
+
+-- both
+abbrev pub IsPolicy : Option Text → Option Text → Policy → Type 0
+IsPolicy way choice policy = IsWay way policy.detect × IsChoice choice policy.victims
+
 -- the word is the number in decimal, as Rust reads numbers, and that is one from 1 to most
 abbrev pub IsNumberTo : ℕ → Text → ℕ → Type 0
 IsNumberTo most word n = IsNumeral 10 (without_leading_plus word) × (digits_value 10 (without_leading_plus word) ≡ n) × (1 ≤ n) × (n ≤ most)
 
--- what the values of the three options ask for: both numbers, or neither
-abbrev pub IsAsked : Option Text → Option Text → Option Text → Plan → Type 0
-IsAsked way None None (Script detect) = IsWay way detect
-IsAsked way (Some crew) (Some rounds) (Crew s r detect) = IsNumberTo 128 crew s × IsNumberTo 100000 rounds r × IsWay way detect
-IsAsked way crew rounds plan = ⊥
+-- what the values of the four options ask for: both numbers, or neither
+abbrev pub IsAsked : Option Text → Option Text → Option Text → Option Text → Plan → Type 0
+IsAsked way choice None None (Script policy) = IsPolicy way choice policy
+IsAsked way choice (Some crew) (Some rounds) (Crew s r policy) = IsNumberTo 128 crew s × IsNumberTo 100000 rounds r × IsPolicy way choice policy
+IsAsked way choice crew rounds plan = ⊥
 
 -- the plan is what the values that clap found ask for
 abbrev pub IsPlanOf : List Row → Plan → Type 0
-IsPlanOf rows plan = IsAsked (first_of (codes "detect") rows) (first_of (codes "crew") rows) (first_of (codes "rounds") rows) plan
+IsPlanOf rows plan = IsAsked (first_of (codes "detect") rows) (first_of (codes "victims") rows) (first_of (codes "crew") rows) (first_of (codes "rounds") rows) plan
 
 -- clap takes the words, and the plan is what it finds in them
 abbrev pub IsPlanFor : List Text → Plan → Type 0

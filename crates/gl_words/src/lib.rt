@@ -7,5 +7,5 @@
 mod asked;
 mod words;
 
-pub use asked::Plan;
+pub use asked::{Plan, Policy};
 pub use words::plan;

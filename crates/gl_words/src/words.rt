@@ -2,13 +2,15 @@
 
 ghost use Rattle.std.specs.Prelude.{◌≡◌, ◌↔◌, ℕ, IfNone, IfOk, IfSome, map};
 ghost use Rattle.clap.specs.Words.{app_of};
-ghost use Rattle.gl_words.specs.Planned.{IsAsked, IsNumberTo, IsPlanFor, IsWay, Reads, text, tool_app};
+ghost use Rattle.gl_words.specs.Planned.{IsAsked, IsChoice, IsNumberTo, IsPlanFor, IsPolicy, IsWay, Reads, text, tool_app};
 ghost use Rattle.gl_words.specs.declared.asked.Plan.{Plan as APlan};
+ghost use Rattle.gl_words.specs.declared.asked.Policy.{Policy as APolicy};
 
-use crate::asked::Plan;
+use crate::asked::{Plan, Policy};
 use clap::error::ErrorKind;
 use clap::{Arg, Command};
 use gl_table::Detect;
+use gl_waits::Victims;
 use std::alloc::{AllocError, Global};
 use std::convert::AsStr;
 
@@ -47,7 +49,13 @@ fn read_words<S: AsStr>(alloc: Global, words: &[S]) -> Result<Plan, Unread>
         Err(error) => return Err(cause(error.kind())),
     };
     let detect = matches.get_str("detect");
-    match plan_of(detect, matches.get_str("crew"), matches.get_str("rounds")) {
+    let victims = matches.get_str("victims");
+    match plan_of(
+        detect,
+        victims,
+        matches.get_str("crew"),
+        matches.get_str("rounds"),
+    ) {
         Some(plan) => Ok(plan),
         None => Err(Unread::Words),
     }
@@ -58,11 +66,13 @@ fn command<'a>(alloc: Global) -> Result<Command<'a>, AllocError>
     ensures { IfOk result (λ command. app_of command ≡ tool_app) }
 {
     let detect = Arg::new(alloc, "detect").long("detect");
+    let victims = Arg::new(alloc, "victims").long("victims");
     let crew = Arg::new(alloc, "crew").long("crew");
     let rounds = Arg::new(alloc, "rounds").long("rounds");
     Command::new(alloc, "gltool")
         .no_binary_name(true)
         .arg(detect)?
+        .arg(victims)?
         .arg(crew)?
         .arg(rounds)
 }
@@ -79,17 +89,22 @@ fn cause(kind: ErrorKind) -> Unread
 
 /// The plan that these values ask for: a script where there is neither number, a crew where there are
 /// both.
-fn plan_of(detect: Option<&str>, crew: Option<&str>, rounds: Option<&str>) -> Option<Plan>
-    ensures some { IfSome result (λ plan. IsAsked (text detect.entry) (text crew.entry) (text rounds.entry) plan) }
-    ensures none { IfNone result ((plan : APlan) → ¬ (IsAsked (text detect.entry) (text crew.entry) (text rounds.entry) plan)) }
+fn plan_of(
+    detect: Option<&str>,
+    victims: Option<&str>,
+    crew: Option<&str>,
+    rounds: Option<&str>,
+) -> Option<Plan>
+    ensures some { IfSome result (λ plan. IsAsked (text detect.entry) (text victims.entry) (text crew.entry) (text rounds.entry) plan) }
+    ensures none { IfNone result ((plan : APlan) → ¬ (IsAsked (text detect.entry) (text victims.entry) (text crew.entry) (text rounds.entry) plan)) }
 {
-    let detect = way(detect)?;
+    let policy = policy(detect, victims)?;
     match (crew, rounds) {
-        (None, None) => Some(Plan::Script(detect)),
+        (None, None) => Some(Plan::Script(policy)),
         (Some(crew), Some(rounds)) => Some(Plan::Crew {
             sessions: number_to(MOST_SESSIONS, crew)?,
             rounds: number_to(MOST_ROUNDS, rounds)?,
-            detect,
+            policy,
         }),
         (Some(_), None) | (None, Some(_)) => None,
     }
@@ -107,6 +122,29 @@ fn number_to(most: u32, word: &str) -> Option<u32>
         Some(number)
     } else {
         None
+    }
+}
+
+/// The policy that these values ask for.
+fn policy(detect: Option<&str>, victims: Option<&str>) -> Option<Policy>
+    ensures some { IfSome result (λ policy. IsPolicy (text detect.entry) (text victims.entry) policy) }
+    ensures none { IfNone result ((policy : APolicy) → ¬ (IsPolicy (text detect.entry) (text victims.entry) policy)) }
+{
+    Some(Policy {
+        detect: way(detect)?,
+        victims: choice(victims)?,
+    })
+}
+
+/// The choice of victims that the word names; the youngest where there is none.
+fn choice(word: Option<&str>) -> Option<Victims>
+    ensures some { IfSome result (λ victims. IsChoice (text word.entry) victims) }
+    ensures none { IfNone result ((victims : Victims) → ¬ (IsChoice (text word.entry) victims)) }
+{
+    match word {
+        None | Some("youngest") => Some(Victims::Youngest),
+        Some("fewest") => Some(Victims::Fewest),
+        _ => None,
     }
 }
 

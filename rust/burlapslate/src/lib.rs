@@ -111,7 +111,7 @@ mod sys;
 
 pub use board::{Board, SlotIter, Slots};
 pub use manager::{Asked, Escalated, Manager, Wait};
-pub use mode::{Detect, Kind, Mode};
+pub use mode::{Detect, Kind, Mode, Victims};
 pub use names::{Node, Txn};
 pub use notices::{Notice, Notices};
 pub use refusal::Refusal;

@@ -1,7 +1,7 @@
 //! The manager: its commands and questions.
 
 use crate::board::Board;
-use crate::mode::{Detect, Kind, Mode};
+use crate::mode::{Detect, Kind, Mode, Victims};
 use crate::names::{Node, Txn};
 use crate::notices::Notices;
 use crate::refusal::{accepted, Refusal};
@@ -77,18 +77,25 @@ pub struct Manager {
 }
 
 impl Manager {
-    /// Makes a manager for `most` transactions at once, 1 to [`SLOTS`], with a way of detection.
+    /// Makes a manager for `most` transactions at once, 1 to [`SLOTS`], with a way of detection. Of
+    /// those in a deadlock the youngest falls.
     ///
     /// Refused with [`BadNumber`](Refusal::BadNumber), [`NoMemory`](Refusal::NoMemory). Takes
     /// memory, more for more transactions.
     pub fn new(detect: Detect, most: usize) -> Result<Manager, Refusal> {
+        Manager::choosing(detect, Victims::Youngest, most)
+    }
+
+    /// As [`new`](Manager::new), with a choice of victims.
+    pub fn choosing(detect: Detect, victims: Victims, most: usize) -> Result<Manager, Refusal> {
         if !(1..=SLOTS).contains(&most) {
             return Err(Refusal::BadNumber);
         }
         let mut pinned = Pinned::new().ok_or(Refusal::NoMemory)?;
-        accepted(sys::bs_call_make(
+        accepted(sys::bs_call_make_choosing(
             &mut pinned.place,
             detect as u32,
+            victims as u32,
             most as u32,
         ))?;
         Ok(Manager { pinned })
@@ -528,6 +535,11 @@ impl Manager {
     /// How deadlocks are found.
     pub fn detect(&self) -> Detect {
         Detect::of(answered(sys::bs_call_detect(&self.pinned.place)))
+    }
+
+    /// Whom a deadlock takes.
+    pub fn victims(&self) -> Victims {
+        Victims::of(answered(sys::bs_call_victims(&self.pinned.place)))
     }
 
     /// The board of this moment: who waits for whom.

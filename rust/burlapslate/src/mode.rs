@@ -1,4 +1,4 @@
-//! Modes, kinds of nodes, and ways of detection.
+//! Modes, kinds of nodes, ways of detection and choices of victims.
 
 use std::fmt;
 
@@ -101,6 +101,29 @@ impl Detect {
             0 => Detect::AtBlock,
             1 => Detect::ByWatcher,
             _ => unreachable!("the library answered {number} for a way of detection"),
+        }
+    }
+}
+
+/// Whom a deadlock takes.
+#[repr(u32)]
+#[derive(Clone, Copy, PartialEq, Eq, Hash, Debug)]
+pub enum Victims {
+    /// The youngest of those on a circle with the transaction that closed it, again and again until
+    /// it is on none.
+    Youngest = 0,
+    /// The youngest of those that alone take that transaction off all its circles, so that one is
+    /// always enough.
+    Fewest = 1,
+}
+
+impl Victims {
+    /// The choice of a number that the library answered.
+    pub(crate) fn of(number: u64) -> Victims {
+        match number {
+            0 => Victims::Youngest,
+            1 => Victims::Fewest,
+            _ => unreachable!("the library answered {number} for a choice of victims"),
         }
     }
 }

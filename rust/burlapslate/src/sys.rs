@@ -139,7 +139,12 @@ impl Pinned {
 // SAFETY: these are the calls of the header, and their types have the layout of its types. Those
 // that are safe have no conditions but what their types say, as the text above says.
 unsafe extern "C" {
-    pub(crate) safe fn bs_call_make(manager: &mut Place, detect: u32, most: u32) -> Reply;
+    pub(crate) safe fn bs_call_make_choosing(
+        manager: &mut Place,
+        detect: u32,
+        victims: u32,
+        most: u32,
+    ) -> Reply;
     pub(crate) safe fn bs_call_end(manager: &mut Place) -> Reply;
 
     fn bs_call_add_inner(manager: &mut Place, parents: *const Node, count: usize) -> Reply;
@@ -225,6 +230,7 @@ unsafe extern "C" {
     pub(crate) safe fn bs_call_len(manager: &Place) -> Reply;
     pub(crate) safe fn bs_call_accepted(manager: &Place) -> Reply;
     pub(crate) safe fn bs_call_detect(manager: &Place) -> Reply;
+    pub(crate) safe fn bs_call_victims(manager: &Place) -> Reply;
 
     pub(crate) safe fn bs_call_board(manager: &Place, board: &mut Board) -> Reply;
     pub(crate) safe fn bs_call_on_cycle(board: &Board, slot: u32) -> Found;

@@ -3,7 +3,8 @@
 mod common;
 
 use burlapslate::{
-    Asked, Board, Detect, Kind, Manager, Mode, Node, Notice, Refusal, Slots, Txn, Wait, SLOTS,
+    Asked, Board, Detect, Kind, Manager, Mode, Node, Notice, Refusal, Slots, Txn, Victims, Wait,
+    SLOTS,
 };
 use common::{ask, at_block, begin, grant, manager, nobody, refused_lock, store, tells, wait};
 
@@ -117,6 +118,35 @@ fn a_deadlock_has_a_victim() {
             mode: Mode::X,
         }],
     );
+}
+
+/// Two young readers hold what an old writer asks for, and wait for what it holds.
+fn asks_in_their_way(victims: Victims) -> (Manager, [Txn; 3], Node) {
+    let mut m = Manager::choosing(Detect::AtBlock, victims, SLOTS).unwrap();
+    let wanted = m.add_inner(&[]).unwrap();
+    let held = m.add_inner(&[]).unwrap();
+    let [a, b, c] = begin(&mut m);
+    grant(&mut m, a, &[held], Mode::X);
+    grant(&mut m, b, &[wanted], Mode::S);
+    grant(&mut m, c, &[wanted], Mode::S);
+    wait(&mut m, b, held, Mode::S);
+    wait(&mut m, c, held, Mode::S);
+    (m, [a, b, c], wanted)
+}
+
+#[test]
+fn a_choice_of_victims() {
+    let (mut m, [a, b, c], wanted) = asks_in_their_way(Victims::Youngest);
+    assert_eq!(m.victims(), Victims::Youngest);
+    let (asked, told) = m.lock(a, wanted, Mode::X).unwrap();
+    assert_eq!(asked, Asked::Waiting);
+    tells(told, &[b, c].map(|txn| Notice::Victim { txn }));
+
+    let (mut m, [a, _, _], wanted) = asks_in_their_way(Victims::Fewest);
+    assert_eq!(m.victims(), Victims::Fewest);
+    let (asked, told) = m.lock(a, wanted, Mode::X).unwrap();
+    assert_eq!(asked, Asked::Victim);
+    nobody(told);
 }
 
 #[test]

@@ -25,8 +25,8 @@ use gl_modes::{Mode, NodeId, Refusal, sup};
 
 impl Table {
     /// Asks for a mode on a node, and waits where it cannot be granted at once. What is granted is
-    /// the supremum of the held and the asked mode. With detection at block, the youngest of those on
-    /// a circle with the asker are condemned until it is on none. Answers what the ask came to, and
+    /// the supremum of the held and the asked mode. With detection at block, the asker is settled then:
+    /// victims are condemned until it is on no circle. Answers what the ask came to, and
     /// who else is told of a grant or of being a victim, by rising slot.
     ///
     /// Refused, in this order, with `NoSuchTxn`, `TxnWaiting`, `TxnCondemned`, `NoSuchNode`,
@@ -69,7 +69,7 @@ impl Table {
             Asked::Granted(granted) => Ok(Locked::Granted(granted)),
             Asked::Waiting => {
                 self.locks
-                    .settle_asker(&self.graph, self.detect, t.slot, notices);
+                    .settle_asker(&self.graph, self.detect, self.victims, t.slot, notices);
                 Ok(self.locks.outcome(t.slot, n))
             }
         }

@@ -47,15 +47,15 @@ impl Table {
         Ok(())
     }
 
-    /// While the transaction waits in a circle, condemns the youngest of those on a circle with it.
-    /// Each victim's wait is given up, and its node grants from its front. Answers who is told of a
+    /// While the transaction waits in a circle, condemns the youngest of those on a circle with it, or,
+    /// where the fewest fall, the youngest of those that alone take it off all circles. Each victim's wait is given up, and its node grants from its front. Answers who is told of a
     /// grant or of being a victim, by rising slot: nobody where it is on no circle, and then nothing
     /// changes.
     ///
     /// Refused with `NoSuchTxn`. It takes no memory.
     pub fn settle(&mut self, t: TxnId) -> Result<Told, Refusal>
         ensures told { IfOk result (λ list. list.items ≡ told (state_of self.old) (state_of self.new)) }
-        ensures state { OnOk result (Settled (state_of self.old) t.slot (state_of self.new)) }
+        ensures state { OnOk result (Settled (state_of self.old).victims (state_of self.old) t.slot (state_of self.new)) }
         ensures idle { IsOnNoCycle (waits_for (state_of self.old)) t.slot → IfOk result (λ list. (list.items ≡ []) × (state_of self.new ≡ state_of self.old)) }
         ensures refuses { RefusesOnly (first_refusal (living_tests (state_of self.old) t)) result }
         ensures err { OnErr result (self.new ≡ self.old) }
@@ -70,13 +70,14 @@ impl Table {
         requires empty { notices.old.items ≡ [] }
         ensures told { OnOk result (notices.new.items ≡ told (state_of self.old) (state_of self.new)) }
         ensures untold { OnErr result (notices.new ≡ notices.old) }
-        ensures state { OnOk result (Settled (state_of self.old) t.slot (state_of self.new)) }
+        ensures state { OnOk result (Settled (state_of self.old).victims (state_of self.old) t.slot (state_of self.new)) }
         ensures idle { IsOnNoCycle (waits_for (state_of self.old)) t.slot → OnOk result ((notices.new.items ≡ []) × (state_of self.new ≡ state_of self.old)) }
         ensures refuses { RefusesOnly (first_refusal (living_tests (state_of self.old) t)) result }
         ensures err { OnErr result (self.new ≡ self.old) }
     {
         self.check_txn(t)?;
-        self.locks.settle(&self.graph, t.slot, notices);
+        self.locks
+            .settle(&self.graph, self.victims, t.slot, notices);
         Ok(())
     }
 

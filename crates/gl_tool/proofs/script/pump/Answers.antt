@@ -1,6 +1,6 @@
 use Rattle.std.proofs.Common.{◌++◌, [], refl, arith, take, length-append, length-take, subst, append-nil}
 use Rattle.std.specs.Io.KnownBytes.{Consumes}
-use Rattle.gl_tool.specs.SoFar.{Takes, detect_of}
+use Rattle.gl_tool.specs.SoFar.{Takes, policy_now}
 use Rattle.gl_tool.proofs.Writing.{Consumes-nil, Consumes-then, Consumes-kept}
 use Rattle.gl_tool.proofs.Reading.{SoFar-new, Ran-finished, Ran-broken, Ran-at_fault, Ran-too_much, OnOk-of}
 use Rattle.gl_tool.proofs.script.pump.Goals as goal
@@ -34,7 +34,7 @@ loop-total-preserved g c =
 pub returns-in_default-clause-report : goal.returns-in_default-clause-report
 returns-in_default-clause-report g c =
     let inv = c.loop-total.invariant in
-    Ran-at_fault (detect_of c.args.tool.now) _ _ _ _ _ inv.taken.0 inv.whole inv.held (Consumes-kept _ _ _ _ inv.taken.2 c.in_default.ensures.bytes) inv.taken.3
+    Ran-at_fault (policy_now c.args.tool.now) _ _ _ _ _ inv.taken.0 inv.whole inv.held (Consumes-kept _ _ _ _ inv.taken.2 c.in_default.ensures.bytes) inv.taken.3
 
 pub returns-then-count-eq0-clause-report : goal.returns-then-count-eq0-clause-report
 returns-then-count-eq0-clause-report g c =
@@ -42,7 +42,7 @@ returns-then-count-eq0-clause-report g c =
     let read = inv.taken.0 in
     let consumes = subst (Consumes (g.R.Read.remaining c.args.reader.now) (g.R.Read.remaining c.read.new.self)) (append-nil read)
     (Consumes-then _ _ _ read [] inv.taken.2 (rw c.if-count-eq0.true at c.in-Ok.ensures.bytes.0)) in
-    Ran-finished (detect_of c.args.tool.now) _ _ _ _ _ _ c.finish.result read consumes inv.taken.3 c.finish.ensures
+    Ran-finished (policy_now c.args.tool.now) _ _ _ _ _ _ c.finish.result read consumes inv.taken.3 c.finish.ensures
 
 pub returns-then-count-eq0-clause-whole : goal.returns-then-count-eq0-clause-whole
 returns-then-count-eq0-clause-whole g c =
@@ -54,12 +54,12 @@ returns-then-tool-clause-report g c =
     let inv = c.loop-total.invariant in
     let read = inv.taken.0 in
     let piece = take c.in-Ok.count c.read.new.buf in
-    Ran-broken (detect_of c.args.tool.now) _ _ _ _ _ _ c.finish-then-tool.result (read ++ piece) (Consumes-then _ _ _ read piece inv.taken.2 c.in-Ok.ensures.bytes.0) (c.take_block.ensures.takes _ _ read inv.taken.3) c.finish-then-tool.ensures
+    Ran-broken (policy_now c.args.tool.now) _ _ _ _ _ _ c.finish-then-tool.result (read ++ piece) (Consumes-then _ _ _ read piece inv.taken.2 c.in-Ok.ensures.bytes.0) (c.take_block.ensures.takes _ _ read inv.taken.3) c.finish-then-tool.ensures
 
 pub returns-clause-report : goal.returns-clause-report
 returns-clause-report g c =
     let inv = c.loop-total.invariant in
-    Ran-too_much (detect_of c.args.tool.now) _ _ _ _ _ inv.taken.0 inv.whole inv.held (omega (arith, inv.taken.1)) inv.taken.2 inv.taken.3
+    Ran-too_much (policy_now c.args.tool.now) _ _ _ _ _ inv.taken.0 inv.whole inv.held (omega (arith, inv.taken.1)) inv.taken.2 inv.taken.3
 
 pub returns-in_default-clause-limit : goal.returns-in_default-clause-limit
 returns-in_default-clause-limit g c =

@@ -1,6 +1,6 @@
 use Rattle.std.proofs.Common.{◌≡◌, ℕ, List, [], ◌-◌, ◌≤◌, length, false}
 use Rattle.std.specs.Io.KnownBytes.{Consumes}
-use Rattle.gl_tool.specs.SoFar.{SoFar, detect_of}
+use Rattle.gl_tool.specs.SoFar.{SoFar, policy_now}
 use Rattle.gl_tool.proofs.script.pump.Given as goal
 
 abbrev pub invariant-loop-total : goal.invariant-loop-total
@@ -10,7 +10,7 @@ invariant-loop-total g l = record {
   bound : l.total ≤ 16777217;
   taken : (read : List ℕ) × (length read ≡ l.total)
       × Consumes (g.R.Read.remaining l.fn.reader) (g.R.Read.remaining l.reader) read
-      × SoFar (detect_of l.fn.tool) (g.W.Write.contents l.fn.writer) read (g.W.Write.contents l.writer) l.tool;
+      × SoFar (policy_now l.fn.tool) (g.W.Write.contents l.fn.writer) read (g.W.Write.contents l.writer) l.tool;
 }
 
 abbrev pub decreases-loop-total : goal.decreases-loop-total

@@ -1,4 +1,5 @@
-use Rattle.std.proofs.Common.{rules, refl, ap, sym, subst, codes, true, inl, inr, ◌≡◌, ◌∙◌, ◌↔◌, List, [], ◌∷◌, map, Option, Err}
+use Rattle.std.proofs.Common.{rules, refl, ap, sym, codes, true, inl, inr, ◌≡◌, ◌∙◌, ◌↔◌, List, [], ◌∷◌, map, Option, Err}
+use Rattle.std.proofs.Math.Path.{transport}
 use Rattle.clap.specs.Words.{App, Text, first_of, first_value, found_of, is_simple, matches_of, rows_of}
 use Rattle.clap.specs.Simple.{HasMatchesOf}
 use Rattle.clap.specs.Kinds.{HasKind, Kinds}
@@ -45,15 +46,19 @@ returns-in-Err g c =
     let words = map g.S.AsStr.text c.args.words.now in
     refused _ words c.in-Err.error c.cause.result (search rules) (faults_are _ words app_is) (c.in-Err.ensures.kinds (ap is_simple_and_free app_is ∙ is_free_tool))
 
--- where the values ask for nothing, there is no plan
-no_plan : (a b c : Option Text) (words : List Text) → a ≡ first_of (codes "detect") (rows_in words) → b ≡ first_of (codes "crew") (rows_in words) → c ≡ first_of (codes "rounds") (rows_in words)
-    → ((plan : Plan) → ¬ (IsAsked a b c plan)) → HasNoPlan words
-no_plan a b c words ea eb ec none plan p = none plan (subst (λ z. IsAsked a b z plan) (sym ec) (subst (λ z. IsAsked a z (first_of (codes "rounds") (rows_in words)) plan) (sym eb) (subst (λ z. IsAsked z (first_of (codes "crew") (rows_in words)) (first_of (codes "rounds") (rows_in words)) plan) (sym ea) p.1)))
+-- the values of the options, as the words hold them
+module _ (words : List Text) (way choice crew rounds : Option Text) (way_is : way ≡ first_of (codes "detect") (rows_in words)) (choice_is : choice ≡ first_of (codes "victims") (rows_in words))
+    (crew_is : crew ≡ first_of (codes "crew") (rows_in words)) (rounds_is : rounds ≡ first_of (codes "rounds") (rows_in words)) where
+  asked_is : (plan : Plan) → IsAsked way choice crew rounds plan ≡ IsPlanOf (rows_in words) plan
+  asked_is plan = λ z. IsAsked (way_is z) (choice_is z) (crew_is z) (rounds_is z) plan
 
--- what the values ask for is the plan
-is_plan : (a b c : Option Text) (words : List Text) (plan : Plan) → a ≡ first_of (codes "detect") (rows_in words) → b ≡ first_of (codes "crew") (rows_in words) → c ≡ first_of (codes "rounds") (rows_in words)
-    → IsAsked a b c plan → IsPlanOf (rows_in words) plan
-is_plan a b c words plan ea eb ec p = subst (λ z. IsAsked (first_of (codes "detect") (rows_in words)) (first_of (codes "crew") (rows_in words)) z plan) ec (subst (λ z. IsAsked (first_of (codes "detect") (rows_in words)) z c plan) eb (subst (λ z. IsAsked z b c plan) ea p))
+  -- where they ask for nothing, there is no plan
+  no_plan : ((plan : Plan) → ¬ (IsAsked way choice crew rounds plan)) → HasNoPlan words
+  no_plan none plan p = none plan (transport (sym (asked_is plan)) p.1)
+
+  -- what they ask for is the plan
+  is_plan : (plan : Plan) → IsAsked way choice crew rounds plan → IsPlanOf (rows_in words) plan
+  is_plan plan p = transport (asked_is plan) p
 
 -- what clap gives for an option
 value : (app : App) (words : List Text) (m : ArgMatches) (id : Text) (o : Option Text) → app ≡ tool_app → HasMatchesOf app words m → o ≡ first_value (found_of m) id → o ≡ first_of id (rows_in words)
@@ -65,11 +70,12 @@ returns-in-Some g c =
     let words = map g.S.AsStr.text c.args.words.now in
     let taken = c.in-Ok-try_get_matches_from in (
       sym (faults_are _ words app_is) ∙ taken.ensures.kinds (ap is_simple_and_free app_is ∙ is_free_tool),
-      is_plan _ _ _ words c.in-Some.plan
+      is_plan words _ _ _ _
           (value _ words taken.matches _ _ app_is taken.ensures.matches c.get_str-detect.ensures)
+          (value _ words taken.matches _ _ app_is taken.ensures.matches c.get_str-victims.ensures)
           (value _ words taken.matches _ _ app_is taken.ensures.matches c.get_str.ensures)
           (value _ words taken.matches _ _ app_is taken.ensures.matches c.get_str-2.ensures)
-          c.in-Some.ensures.some,
+          c.in-Some.plan c.in-Some.ensures.some,
     )
 
 pub returns : goal.returns
@@ -77,8 +83,9 @@ returns g c =
     let app_is = c.in-Ok.ensures in
     let words = map g.S.AsStr.text c.args.words.now in
     let taken = c.in-Ok-try_get_matches_from in
-    no_plan _ _ _ words
+    no_plan words _ _ _ _
     (value _ words taken.matches _ _ app_is taken.ensures.matches c.get_str-detect.ensures)
+    (value _ words taken.matches _ _ app_is taken.ensures.matches c.get_str-victims.ensures)
     (value _ words taken.matches _ _ app_is taken.ensures.matches c.get_str.ensures)
     (value _ words taken.matches _ _ app_is taken.ensures.matches c.get_str-2.ensures)
     c.in-None.ensures.none

@@ -11,4 +11,4 @@ pub returns-clause-step : goal.returns-clause-step
 returns-clause-step c =
     managed_ok_only (doing c.settle_telling.new.notices.items) (command.Settle c.args.t) c.self.inside.table c.self.inside.accepted c.args.self.now c.self.view_is (living_tests (table_state c.self.inside.table) c.args.t) refl
     tt c.settle_telling.new.self c.in_ok-check_count.ensures c.in_ok-settle_telling.ensures.refuses refl
-    (refl, c.in_ok-settle_telling.ensures.told, settled_counting c.self.inside.accepted (table_state c.self.inside.table) c.args.t.slot (table_state c.settle_telling.new.self) c.in_ok-settle_telling.ensures.state)
+    (refl, c.in_ok-settle_telling.ensures.told, settled_counting c.self.inside.accepted (table_state c.self.inside.table).victims (table_state c.self.inside.table) c.args.t.slot (table_state c.settle_telling.new.self) c.in_ok-settle_telling.ensures.state)

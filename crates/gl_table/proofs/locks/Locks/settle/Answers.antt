@@ -26,7 +26,7 @@ loop-victim-preserved c =
       seated = subst (λ (k : ℕ). c.args.slot < k) (sym (ap (λ x. x.most) now.state)) before.seated;
       by_slot = now.by_slot;
       untold = now.untold;
-      settled = λ s' rest. before.settled s' (settled_turn (state_on g c.loop-victim.self) (state_on g c.condemn.new.self) s' c.args.slot c.in-Some.victim (c.in-Some.ensures.some g before.orderly) now.state rest);
+      settled = λ s' rest. before.settled s' (settled_turn c.args.victims (state_on g c.loop-victim.self) (state_on g c.condemn.new.self) s' c.args.slot c.in-Some.victim (c.in-Some.ensures.some g before.orderly) now.state rest);
       ways = λ s way. now.ways s (before.ways s way);
       tells = λ s way same. now.tells s (before.ways s way) (before.tells s way same);
     }

@@ -1,33 +1,33 @@
-use Rattle.std.specs.Prelude.{◌↔◌, ℕ, IsTrue, List, Option}
-use Rattle.std.proofs.Common.{subst, get_or, ap, ◌∙◌}
+use Rattle.std.specs.Prelude.{ℕ, List, Option, IfNone}
+use Rattle.std.proofs.Common.{ap, get_or, refl, subst, sym, ◌∙◌}
 use Rattle.gl_graph.specs.Graph.{Graph}
-use Rattle.gl_waits.specs.Sets.{has_slot}
-use Rattle.gl_waits.specs.Waits.{IsLowestYoungest, IsOnCycleOf, IsYoungest}
+use Rattle.gl_waits.specs.Victims.{IsCandidate}
+use Rattle.gl_waits.specs.Waits.{IsLowestYoungest, IsOnNoCycle}
 use Rattle.gl_table.specs.BoardOf.{shown}
 use Rattle.gl_table.specs.declared.seat.Seat.{Seat}
-use Rattle.gl_table.specs.Locks.{state_on}
+use Rattle.gl_table.specs.Locks.{IsOrderly, state_on}
 use Rattle.gl_table.specs.Seats.{txns_of}
-use Rattle.gl_table.specs.State.{age_in, age_of}
-use Rattle.gl_table.specs.Waiting.{waits_for}
-use Rattle.gl_table.proofs.Victims.{cycle_waits, victim_none, victim_youngest}
-use Rattle.gl_table.proofs.locks.Locks.victim.Goals.{After-on_cycle_in-cycle, After-youngest_of}
+use Rattle.gl_table.specs.State.{age_in}
+use Rattle.gl_table.specs.Waiting.{IsVictim, waits_for}
+use Rattle.gl_table.proofs.Victims.{victim_by_ages, victim_waits}
+use Rattle.gl_table.proofs.locks.Locks.victim.Goals.{In_ok-victim}
 use Rattle.gl_table.proofs.locks.Locks.victim.Goals as goal
 
--- the set has who is on a cycle by the state of the locks over any graph
-exact : (c : After-on_cycle_in-cycle) (g : Graph) (u : ℕ) → IsTrue (has_slot c.on_cycle_in-cycle.result u) ↔ IsOnCycleOf (waits_for (state_on g c.args.self.now)) c.args.slot u
-exact c g = subst (λ (seats : List (Option Seat)). (u : ℕ) → IsTrue (has_slot c.on_cycle_in-cycle.result u) ↔ IsOnCycleOf (waits_for (shown c.args.self.now.headers.entries seats 0)) c.args.slot u) c.as_slice-seats.ensures c.on_cycle_in-cycle.ensures
+-- what is read from the locks is what their state says over any graph
+chosen : (c : In_ok-victim) (g : Graph) → IsVictim c.args.victims (state_on g c.args.self.now) c.args.slot c.in_ok-victim.victim
+chosen c g =
+    victim_by_ages c.args.victims (state_on g c.args.self.now) c.args.slot c.in_ok-victim.victim (λ u. get_or c.ages.result u 0)
+    (λ u. c.ages.ensures u ∙ ap (λ (seats : List (Option Seat)). age_in (txns_of seats u)) c.as_slice-seats.ensures)
+    (subst (λ (seats : List (Option Seat)). IsLowestYoungest (IsCandidate c.args.victims (waits_for (shown c.args.self.now.headers.entries seats 0)) c.args.slot) (λ u. get_or c.ages.result u 0) c.in_ok-victim.victim)
+    c.as_slice-seats.ensures c.in_ok-victim.ensures.some)
 
-youngest : (c : After-youngest_of) → ((g : Graph) (u : ℕ) → IsTrue (has_slot c.on_cycle_in-cycle.result u) ↔ IsOnCycleOf (waits_for (state_on g c.args.self.now)) c.args.slot u) → (v : ℕ) → IsLowestYoungest (λ u. IsTrue (has_slot c.on_cycle_in-cycle.result u)) (λ u. get_or c.ages.result u 0) v → (g : Graph)
-    → IsYoungest (IsOnCycleOf (waits_for (state_on g c.args.self.now)) c.args.slot) (age_of (state_on g c.args.self.now)) v
-youngest c on v best g =
-    victim_youngest (state_on g c.args.self.now) c.args.slot c.on_cycle_in-cycle.result (on g) (λ u. get_or c.ages.result u 0)
-    (λ u. c.ages.ensures u ∙ ap (λ (seats : List (Option Seat)). age_in (txns_of seats u)) c.as_slice-seats.ensures) v best
-
-pub returns-then-cycle-eq0-clause-none : goal.returns-then-cycle-eq0-clause-none
-returns-then-cycle-eq0-clause-none c = λ g o. victim_none (state_on g c.args.self.now) c.args.slot c.on_cycle_in-cycle.result (exact (goal.at.returns-then-cycle-eq0-clause-none c).After-on_cycle_in-cycle g) c.if-cycle-eq0.true
+pub returns-in_err-victim-clause-none : goal.returns-in_err-victim-clause-none
+returns-in_err-victim-clause-none c =
+    subst (λ (answer : Option ℕ). IfNone answer ((g : Graph) → IsOrderly (state_on g c.args.self.now) → IsOnNoCycle (waits_for (state_on g c.args.self.now)) c.args.slot)) (sym c.from_residual.ensures)
+    (λ g o. subst (λ (seats : List (Option Seat)). IsOnNoCycle (waits_for (shown c.args.self.now.headers.entries seats 0)) c.args.slot) c.as_slice-seats.ensures (c.in_err-victim.ensures.none.0 refl))
 
 pub returns-clause-some : goal.returns-clause-some
-returns-clause-some c = λ g o. youngest (goal.at.returns-clause-some c).After-youngest_of (exact (goal.at.returns-clause-some c).After-on_cycle_in-cycle) c.in_ok-victim.victim c.in_ok-victim.ensures.some g
+returns-clause-some c = λ g o. chosen c g
 
 pub returns-clause-waits : goal.returns-clause-waits
-returns-clause-waits c = λ g o. cycle_waits (state_on g c.args.self.now) c.args.slot c.in_ok-victim.victim (youngest (goal.at.returns-clause-waits c).After-youngest_of (exact (goal.at.returns-clause-waits c).After-on_cycle_in-cycle) c.in_ok-victim.victim c.in_ok-victim.ensures.some g).is_member
+returns-clause-waits c = λ g o. victim_waits c.args.victims (state_on g c.args.self.now) c.args.slot c.in_ok-victim.victim (chosen c g)

@@ -17,7 +17,7 @@ invariant_of-self c = sound_settled c.self.inside c.self.invariant c.args.t.slot
 
 pub returns-clause-state : goal.returns-clause-state
 returns-clause-state c =
-    subst (λ (v : TableView). Settled (state_of v) c.args.t.slot (state_of (view_of (record c.self.inside { locks = c.settle.new.self })))) c.self.view_is
+    subst (λ (v : TableView). Settled (state_of v).victims (state_of v) c.args.t.slot (state_of (view_of (record c.self.inside { locks = c.settle.new.self })))) c.self.view_is
     (state_settled c.self.inside c.self.invariant c.args.t.slot c.settle.new.self c.settle.ensures.state)
 
 pub returns-clause-told : goal.returns-clause-told
@@ -28,7 +28,7 @@ returns-clause-told c =
 pub returns-clause-idle : goal.returns-clause-idle
 returns-clause-idle c = λ none. (
   returns-clause-told c
-      ∙ told_settled_same (state_of c.args.self.now) (state_of (view_of (record c.self.inside { locks = c.settle.new.self }))) c.args.t.slot
+      ∙ told_settled_same (state_of c.args.self.now).victims (state_of c.args.self.now) (state_of (view_of (record c.self.inside { locks = c.settle.new.self }))) c.args.t.slot
       (subst (λ (v : TableView). IsLawful (state_of v)) c.self.view_is c.self.invariant.lawful) none (returns-clause-state c),
-  settled_same (state_of c.args.self.now) (state_of (view_of (record c.self.inside { locks = c.settle.new.self }))) c.args.t.slot none (returns-clause-state c),
+  settled_same (state_of c.args.self.now).victims (state_of c.args.self.now) (state_of (view_of (record c.self.inside { locks = c.settle.new.self }))) c.args.t.slot none (returns-clause-state c),
 )

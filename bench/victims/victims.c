@@ -1,0 +1,266 @@
+/*
+ * What the choice of victims does in a random mix, and what the block costs that closes a large circle.
+ * Every answer is looked at, as a caller has to.
+ */
+#define _POSIX_C_SOURCE 199309L
+#include "burlapslate.h"
+
+#include <stdio.h>
+#include <stdlib.h>
+#include <string.h>
+#include <time.h>
+
+enum { NODES = 48, COMMIT_ONE_OF = 4 };
+
+static bs_notices told;
+
+static void done(bs_reply reply, int line) {
+  if (reply.status == BS_DONE) return;
+  fprintf(stderr, "victims.c:%d: %s\n", line, bs_text(reply.status));
+  exit(1);
+}
+
+#define DONE(call) done((call), __LINE__)
+
+static void wanted(bool holds, const char *what, int line) {
+  if (holds) return;
+  fprintf(stderr, "victims.c:%d: not so: %s\n", line, what);
+  exit(1);
+}
+
+#define WANT(condition) wanted((condition), #condition, __LINE__)
+
+static const char *name_of(uint32_t choice) {
+  return choice == BS_YOUNGEST ? "youngest" : "fewest";
+}
+
+static bs_node made_root(bs_manager *m) {
+  bs_reply reply = bs_add_inner(m, NULL, 0);
+  done(reply, __LINE__);
+  return reply.node;
+}
+
+static bs_txn begun(bs_manager *m) {
+  bs_reply reply = bs_begin(m);
+  done(reply, __LINE__);
+  return reply.txn;
+}
+
+/* ------------------------------------------------------------------------------------------------
+ * The mix.
+ */
+
+struct locker {
+  bs_txn txn;
+  bool waits;
+};
+
+struct mix {
+  bs_manager manager;
+  bs_node nodes[NODES];
+  struct locker lockers[BS_SLOTS]; /* by slot */
+  uint64_t state;
+  long deadlocks, victims, worst, aborts, commits;
+};
+
+/* The next of a row of numbers that looks like chance (Marsaglia's xorshift). */
+static uint32_t chance(struct mix *x, uint32_t below) {
+  x->state ^= x->state << 13;
+  x->state ^= x->state >> 7;
+  x->state ^= x->state << 17;
+  return (uint32_t)((x->state >> 16) % below);
+}
+
+/* Ends waits as told, and answers how many fell. Who fell is still to be aborted. */
+static long take_notices(struct mix *x, bool fell[BS_SLOTS]) {
+  long victims = 0;
+  size_t i;
+  for (i = 0; i < told.count; i++) {
+    uint8_t slot = told.at[i].txn.slot;
+    x->lockers[slot].waits = false;
+    if (told.at[i].kind != BS_TOLD_VICTIM) continue;
+    fell[slot] = true;
+    victims++;
+  }
+  return victims;
+}
+
+static void abort_and_begin(struct mix *x, size_t slot) {
+  bool none[BS_SLOTS] = { false };
+  DONE(bs_abort(&x->manager, x->lockers[slot].txn, &told));
+  WANT(take_notices(x, none) == 0);
+  x->aborts++;
+  x->lockers[slot].txn = begun(&x->manager);
+  WANT(x->lockers[slot].txn.slot == slot);
+}
+
+static void ask(struct mix *x, size_t slot) {
+  static const bs_mode modes[] = { BS_IS, BS_IX, BS_S, BS_SIX, BS_X };
+  bool fell[BS_SLOTS] = { false };
+  bs_node node = x->nodes[chance(x, NODES)];
+  bs_status status = bs_lock(&x->manager, x->lockers[slot].txn, node, modes[chance(x, 5)], &told).status;
+  long victims = take_notices(x, fell);
+  size_t i;
+  WANT(status == BS_DONE || status == BS_WAITING || status == BS_VICTIM);
+  x->lockers[slot].waits = status == BS_WAITING;
+  if (status == BS_VICTIM) {
+    fell[slot] = true;
+    victims++;
+  }
+  x->deadlocks += victims > 0;
+  x->victims += victims;
+  if (victims > x->worst) x->worst = victims;
+  for (i = 0; i < BS_SLOTS; i++) {
+    if (fell[i]) abort_and_begin(x, i);
+  }
+}
+
+static void commit_and_begin(struct mix *x, size_t slot) {
+  bool none[BS_SLOTS] = { false };
+  DONE(bs_commit(&x->manager, x->lockers[slot].txn, &told));
+  WANT(take_notices(x, none) == 0);
+  x->commits++;
+  x->lockers[slot].txn = begun(&x->manager);
+  WANT(x->lockers[slot].txn.slot == slot);
+}
+
+/* A locker that does not wait: there always is one, as nobody waits in a circle. */
+static size_t active(struct mix *x, uint32_t lockers) {
+  size_t slot = chance(x, lockers);
+  while (x->lockers[slot].waits) slot = chance(x, lockers);
+  return slot;
+}
+
+static void play(uint32_t choice, size_t lockers, long steps) {
+  static const bs_manager none = BS_NO_MANAGER_HERE;
+  static struct mix x;
+  size_t i;
+  memset(&x, 0, sizeof x);
+  x.manager = none;
+  x.state = 88172645463325252u;
+  DONE(bs_make_choosing(&x.manager, BS_AT_BLOCK, choice, BS_SLOTS));
+  for (i = 0; i < NODES; i++) x.nodes[i] = made_root(&x.manager);
+  for (i = 0; i < lockers; i++) x.lockers[i].txn = begun(&x.manager);
+  while (steps-- > 0) {
+    size_t slot = active(&x, (uint32_t)lockers);
+    if (chance(&x, COMMIT_ONE_OF) == 0) {
+      commit_and_begin(&x, slot);
+    } else {
+      ask(&x, slot);
+    }
+  }
+  printf("%3zu lockers, %-8s: %5ld deadlocks, %5ld victims, %3ld at worst, %.2f aborts a commit, %5ld commits\n",
+         lockers, name_of(choice), x.deadlocks, x.victims, x.worst,
+         x.commits == 0 ? 0.0 : (double)x.aborts / (double)x.commits, x.commits);
+  DONE(bs_end(&x.manager));
+}
+
+static void play_all(long steps) {
+  static const size_t crowds[] = { 16, 32, 64, 128 };
+  size_t i;
+  for (i = 0; i < sizeof crowds / sizeof crowds[0]; i++) {
+    play(BS_YOUNGEST, crowds[i], steps);
+    play(BS_FEWEST, crowds[i], steps);
+  }
+}
+
+/* ------------------------------------------------------------------------------------------------
+ * The block that closes a circle of 128.
+ */
+
+enum shape { RING, QUEUE };
+
+struct circle {
+  bs_manager manager;
+  bs_txn asker;
+  bs_node node;
+};
+
+static void waits(struct circle *c, bs_txn txn, bs_node node) {
+  WANT(bs_lock(&c->manager, txn, node, BS_X, &told).status == BS_WAITING);
+  WANT(told.count == 0);
+}
+
+/* Each holds a node, and waits for that of the next; the last is to ask for that of the first. */
+static void lay_ring(struct circle *c) {
+  bs_txn txns[BS_SLOTS];
+  bs_node nodes[BS_SLOTS];
+  size_t i;
+  for (i = 0; i < BS_SLOTS; i++) {
+    txns[i] = begun(&c->manager);
+    nodes[i] = made_root(&c->manager);
+    DONE(bs_lock(&c->manager, txns[i], nodes[i], BS_X, &told));
+  }
+  for (i = 0; i + 1 < BS_SLOTS; i++) waits(c, txns[i], nodes[i + 1]);
+  c->asker = txns[BS_SLOTS - 1];
+  c->node = nodes[0];
+}
+
+/* The first holds a node for which all others queue; it is to ask for what the last of them holds. */
+static void lay_queue(struct circle *c) {
+  bs_node queued = made_root(&c->manager);
+  bs_txn txn;
+  size_t i;
+  c->asker = begun(&c->manager);
+  c->node = made_root(&c->manager);
+  DONE(bs_lock(&c->manager, c->asker, queued, BS_X, &told));
+  for (i = 1; i < BS_SLOTS; i++) {
+    txn = begun(&c->manager);
+    if (i + 1 == BS_SLOTS) DONE(bs_lock(&c->manager, txn, c->node, BS_X, &told));
+    waits(c, txn, queued);
+  }
+}
+
+/* What is measured. */
+static bs_status __attribute__((noinline)) closing_lock(struct circle *c) {
+  return bs_lock(&c->manager, c->asker, c->node, BS_X, &told).status;
+}
+
+/* The nanoseconds of one closing block. */
+static double close_circle(enum shape shape, uint32_t choice) {
+  struct circle c = { BS_NO_MANAGER_HERE, { 0, 0 }, { 0, 0 } };
+  struct timespec from, to;
+  bs_status status;
+  DONE(bs_make_choosing(&c.manager, BS_AT_BLOCK, choice, BS_SLOTS));
+  if (shape == RING) {
+    lay_ring(&c);
+  } else {
+    lay_queue(&c);
+  }
+  clock_gettime(CLOCK_MONOTONIC, &from);
+  status = closing_lock(&c);
+  clock_gettime(CLOCK_MONOTONIC, &to);
+  WANT(status == BS_VICTIM || (status == BS_WAITING && told.count > 0));
+  DONE(bs_end(&c.manager));
+  return (double)(to.tv_sec - from.tv_sec) * 1e9 + (double)(to.tv_nsec - from.tv_nsec);
+}
+
+/* The best of nine turns. */
+static void time_all(void) {
+  enum shape shape;
+  uint32_t choice;
+  int turn;
+  for (shape = RING; shape <= QUEUE; shape++) {
+    double best[2] = { 1e18, 1e18 };
+    for (turn = 0; turn < 9; turn++) {
+      for (choice = BS_YOUNGEST; choice <= BS_FEWEST; choice++) {
+        double now = close_circle(shape, choice);
+        if (now < best[choice]) best[choice] = now;
+      }
+    }
+    printf("%s: youngest %.0f ns, fewest %.0f ns\n", shape == RING ? "ring" : "queue", best[0], best[1]);
+  }
+}
+
+int main(int count, char **words) {
+  if (count == 3 && strcmp(words[1], "mix") == 0) {
+    play_all(atol(words[2]));
+  } else if (count == 2 && strcmp(words[1], "times") == 0) {
+    time_all();
+  } else if (count == 4 && strcmp(words[1], "once") == 0) {
+    close_circle(strcmp(words[2], "ring") == 0 ? RING : QUEUE, strcmp(words[3], "youngest") == 0 ? BS_YOUNGEST : BS_FEWEST);
+  } else {
+    return 2;
+  }
+  return 0;
+}

@@ -1,0 +1,35 @@
+//! Whom a deadlock takes.
+
+ghost use Rattle.std.specs.Prelude.{ℕ, ◌<◌, ◌↔◌, IsNone, IfSome, slice_index};
+ghost use Rattle.gl_waits.specs.Waits.{IsLowestYoungest, IsOnNoCycle};
+ghost use Rattle.gl_waits.specs.Victims.{IsCandidate};
+
+use crate::board::SLOTS;
+use crate::cycle::on_cycle_in;
+use crate::freeing::freeing_victim;
+use crate::victim::youngest_of;
+use crate::waits_for::WaitsFor;
+
+/// Among whom the youngest is chosen, so that a slot gets off its cycles: all that are on a cycle with
+/// it, where more than one choice may be needed; or those alone whose choice is enough, so that one
+/// always is. The slot itself is one of both.
+#[derive(Clone, Copy, PartialEq, Eq, Debug)]
+pub enum Victims {
+    Youngest,
+    Fewest,
+}
+
+/// Whose waits are to be given up next for `slot`, by a choice of victims: the youngest candidate, of
+/// several of that age the lowest; `None` where `slot` is on no cycle.
+pub fn victim_for<T: WaitsFor>(waits: &T, ages: &[u64; SLOTS], slot: usize, victims: Victims) -> Option<usize>
+    requires { slot < SLOTS }
+    ensures none { IsNone result ↔ IsOnNoCycle (T.edge waits.now) slot }
+    ensures some { IfSome result
+        (IsLowestYoungest (IsCandidate victims (T.edge waits.now) slot) (slice_index ages.now)) }
+    ensures low { IfSome result (λ v. v < SLOTS) }
+{
+    match victims {
+        Victims::Youngest => youngest_of(ages, on_cycle_in(waits, slot)),
+        Victims::Fewest => freeing_victim(waits, ages, slot),
+    }
+}
