@@ -28,14 +28,26 @@ pub extern "C" fn bs_call_make(manager: &mut Handle, alloc: Global, detect: u32,
 ///
 /// What C keeps: `manager` was zero before its first call and is used by this one alone.
 #[unsafe(no_mangle)]
-pub extern "C" fn bs_call_make_choosing(manager: &mut Handle, alloc: Global, detect: u32, victims: u32, most: u32) -> Reply
+pub extern "C" fn bs_call_make_choosing(
+    manager: &mut Handle,
+    alloc: Global,
+    detect: u32,
+    victims: u32,
+    most: u32,
+) -> Reply
     ensures { Makes (manager_in manager.old) detect victims most result (manager_in manager.new) }
 {
     make_by_numbers(manager, alloc, detect, victims, most)
 }
 
 /// Makes a manager by what the numbers name.
-fn make_by_numbers(manager: &mut Handle, alloc: Global, detect: u32, victims: u32, most: u32) -> Reply
+fn make_by_numbers(
+    manager: &mut Handle,
+    alloc: Global,
+    detect: u32,
+    victims: u32,
+    most: u32,
+) -> Reply
     ensures { Makes (manager_in manager.old) detect victims most result (manager_in manager.new) }
 {
     if manager.has_session() {

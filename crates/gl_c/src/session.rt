@@ -41,7 +41,12 @@ impl Model for Session {
 impl Session {
     /// A session of a new manager, for at most so many transactions at once. The only refusal is
     /// `NoMemory`.
-    pub(crate) fn new(alloc: Global, detect: Detect, victims: Victims, most: usize) -> Result<Self, Refusal>
+    pub(crate) fn new(
+        alloc: Global,
+        detect: Detect,
+        victims: Victims,
+        most: usize,
+    ) -> Result<Self, Refusal>
         requires some { 1 ≤ most }
         requires few { most ≤ 128 }
         ensures made { IfOk result (λ session. state_of session ≡ choosing victims (empty_state detect most)) }

@@ -56,7 +56,12 @@ impl Manager {
     }
 
     /// As `new`, with a choice of whom a deadlock takes.
-    pub fn choosing(alloc: Global, detect: Detect, victims: Victims, most: usize) -> Result<Self, Refusal>
+    pub fn choosing(
+        alloc: Global,
+        detect: Detect,
+        victims: Victims,
+        most: usize,
+    ) -> Result<Self, Refusal>
         requires some { 1 ≤ most }
         requires few { most ≤ 128 }
         ensures made { IfOk result (λ manager. state_of manager ≡ choosing victims (empty_state detect most)) }

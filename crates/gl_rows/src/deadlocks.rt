@@ -1,6 +1,6 @@
 //! Deadlocks, and who is condemned to end them.
 
-use crate::rows::{AT_BLOCK, BY_WATCHER, FEWEST, Lines, try_out};
+use crate::rows::{AT_BLOCK, BY_WATCHER, FEWEST, FEWEST_BY_WATCHER, Lines, try_out};
 use std::test::Fail;
 
 /// Two readers want to write. The second closes the cycle, and is the youngest on it.
@@ -84,6 +84,19 @@ const THE_WRITER_FALLS: Lines = &[
     ("abort a", "ok\ntold b granted S h\ntold c granted S h"),
 ];
 
+/// With detection by a watcher it matters who is settled: a reader falls for itself.
+const SETTLED_FROM_THE_WRITER: Lines = &[
+    ("lock a X g", "wait"),
+    ("settle a", "ok\ntold a victim"),
+    ("settle b", "ok"),
+];
+
+const SETTLED_FROM_A_READER: Lines = &[
+    ("lock a X g", "wait"),
+    ("settle b", "ok\ntold b victim"),
+    ("settle a", "ok\ntold c victim"),
+];
+
 /// The writer waits for two readers, who both wait for a younger one, who waits for the writer.
 const ONE_ON_ALL_CYCLES: Lines = &[
     ("inner g", "ok"),
@@ -114,6 +127,9 @@ fn fewest_victims(rt: HostRuntime) -> Result<(), Fail> {
         &[IN_THE_WRITERS_WAY, BOTH_READERS_FALL],
     )?;
     try_out(&rt, alloc, FEWEST, &[IN_THE_WRITERS_WAY, THE_WRITER_FALLS])?;
+    for lines in [SETTLED_FROM_THE_WRITER, SETTLED_FROM_A_READER] {
+        try_out(&rt, alloc, FEWEST_BY_WATCHER, &[IN_THE_WRITERS_WAY, lines])?;
+    }
     for policy in [AT_BLOCK, FEWEST] {
         try_out(&rt, alloc, policy, &[ASKER_IS_VICTIM])?;
         try_out(&rt, alloc, policy, &[CYCLE_THROUGH_A_QUEUE])?;

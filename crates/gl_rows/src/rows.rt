@@ -24,6 +24,12 @@ pub(crate) const FEWEST: Policy = Policy {
     victims: Victims::Fewest,
 };
 
+/// The same, where deadlocks stand until they are settled.
+pub(crate) const FEWEST_BY_WATCHER: Policy = Policy {
+    detect: Detect::ByWatcher,
+    victims: Victims::Fewest,
+};
+
 /// Where deadlocks stand until they are settled.
 pub(crate) const BY_WATCHER: Policy = Policy {
     detect: Detect::ByWatcher,

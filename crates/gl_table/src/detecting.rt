@@ -26,7 +26,14 @@ use gl_waits::{Victims, victim_for};
 impl Locks {
     /// With detection at block, settles a slot that has begun to wait. Puts who else is told into an
     /// empty list, by rising slot.
-    pub(crate) fn settle_asker(&mut self, graph: &Graph, detect: Detect, victims: Victims, slot: u8, told: &mut Told)
+    pub(crate) fn settle_asker(
+        &mut self,
+        graph: &Graph,
+        detect: Detect,
+        victims: Victims,
+        slot: u8,
+        told: &mut Told,
+    )
         requires empty { told.old.items ≡ [] }
         requires sound { AreSound self.old }
         requires orderly { IsOrderly (state_on (graph_of graph.now) self.old) }

@@ -66,7 +66,12 @@ impl Table {
     }
 
     /// As `new`, with a choice of whom a deadlock takes.
-    pub fn choosing(alloc: Global, detect: Detect, victims: Victims, most: usize) -> Result<Self, Refusal>
+    pub fn choosing(
+        alloc: Global,
+        detect: Detect,
+        victims: Victims,
+        most: usize,
+    ) -> Result<Self, Refusal>
         requires some { 1 ≤ most }
         requires few { most ≤ 128 }
         ensures made { IfOk result (λ table. state_of table ≡ choosing victims (empty_state detect most)) }

@@ -21,7 +21,12 @@ pub enum Victims {
 
 /// Whose waits are to be given up next for `slot`, by a choice of victims: the youngest candidate, of
 /// several of that age the lowest; `None` where `slot` is on no cycle.
-pub fn victim_for<T: WaitsFor>(waits: &T, ages: &[u64; SLOTS], slot: usize, victims: Victims) -> Option<usize>
+pub fn victim_for<T: WaitsFor>(
+    waits: &T,
+    ages: &[u64; SLOTS],
+    slot: usize,
+    victims: Victims,
+) -> Option<usize>
     requires { slot < SLOTS }
     ensures none { IsNone result ↔ IsOnNoCycle (T.edge waits.now) slot }
     ensures some { IfSome result
