@@ -90,7 +90,7 @@ static bool meet(bs_manager *m, const struct hashed *h, uint64_t *dice) {
 void false_conflicts(void) {
   static struct hashed h;
   bs_manager m;
-  uint64_t dice = 88172645463325252u;
+  uint64_t dice = 0x9e3779b97f4a7c15u;
   unsigned met = 0, by_arithmetic = PAIRS * KEYS_EACH * KEYS_EACH / BUCKETS;
   size_t i;
   open_manager(&m, BS_AT_BLOCK, BS_YOUNGEST);
