@@ -63,3 +63,25 @@ void a_writer_escalates(void) {
   WANT(reply.mode == BS_X && reply.released == MANY_ROWS && reply.kept == 0);
   DONE(bs_end(&m));
 }
+
+/* Locks on the table and on its index stand for all rows, and are held on no row and no interval. */
+void implied_is_not_held(void) {
+  bs_manager m;
+  struct shop s;
+  bs_txn t;
+  bs_node order;
+  const uint64_t day = 170;
+  open_manager(&m, BS_AT_BLOCK, BS_YOUNGEST);
+  s = make_shop(&m);
+  order = add_order(&m, &s, 150);
+  t = begin(&m);
+  DONE(lock_with_intentions(&m, t, s.orders, BS_X, &told));
+  DONE(lock_with_intentions(&m, t, s.by_day, BS_X, &told));
+  WANT(bs_effective(&m, t, order).mode == BS_X);
+  WANT(bs_insert(&m, t, s.orders, &day, 1).status == BS_NEED_PARENTS);
+  WANT(bs_delete(&m, t, order, &told).status == BS_NEED_EXCLUSIVE);
+  DONE(lock_with_intentions(&m, t, order, BS_X, &told));
+  DONE(bs_insert(&m, t, s.orders, &day, 1));
+  DONE(bs_delete(&m, t, order, &told));
+  DONE(bs_end(&m));
+}

@@ -99,6 +99,7 @@ int main(void) {
   TELL(a_row_moves);
   TELL(a_reader_escalates);
   TELL(a_writer_escalates);
+  TELL(implied_is_not_held);
   TELL(what_each_answer_asks);
   TELL(deadlocks_at_block);
   TELL(whom_a_deadlock_takes);

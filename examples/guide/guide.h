@@ -60,6 +60,7 @@ void a_row_moves(void);
 /* escalation.c */
 void a_reader_escalates(void);
 void a_writer_escalates(void);
+void implied_is_not_held(void);
 
 /* answers.c */
 void what_each_answer_asks(void);

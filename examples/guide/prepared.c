@@ -27,7 +27,7 @@ static struct prepared prepare(bs_manager *m, bs_txn txn, uint64_t number) {
 /* Whoever has the name carries the word out, whatever thread it is. */
 static void decide(bs_manager *m, const struct prepared *p, bool commits) {
   if (commits) DONE(bs_commit(m, p->txn, &told));
-  else DONE(bs_abort(m, p->txn, &told));
+  else DONE(bs_abort(m, p->txn, &told)); /* Its rows are undone by then. */
 }
 
 /* Two others close a circle, and one of them waits for the prepared one too. */
