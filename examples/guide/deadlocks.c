@@ -53,7 +53,8 @@ static bs_status ask_among_readers(uint32_t victims) {
     WANT(lock_with_intentions(&m, readers[i], has, BS_S, &told).status == BS_WAITING);
   }
   status = lock_with_intentions(&m, writer, wants, BS_X, &told).status;
-  for (i = 0; i < 2; i++) WANT(is_told(i, readers[i], BS_TOLD_VICTIM) == (status == BS_WAITING));
+  if (status == BS_WAITING) WANT(is_told(0, readers[0], BS_TOLD_VICTIM) && is_told(1, readers[1], BS_TOLD_VICTIM));
+  if (status == BS_VICTIM) WANT(told.count == 0);
   DONE(bs_end(&m));
   return status;
 }

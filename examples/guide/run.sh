@@ -4,9 +4,8 @@
 # is not as wanted; where there is no C compiler it says so, and ends with status 0. CC names another compiler
 # than cc.
 set -uo pipefail
-here=$(cd "$(dirname "$0")" && pwd) || exit 2
-top=$here/../..
-"$top/tools/pieces.sh" "$top/docs/ENGINES.md" "$here"/*.[ch] "$here"/../engine/*.[ch] || exit 1
+cd "$(dirname "$0")/../.." || exit 2
+tools/pieces.sh docs/ENGINES.md examples/guide/*.[ch] examples/engine/*.[ch] || exit 1
 
 compiler=${CC:-cc}
 if ! command -v "${compiler%% *}" >/dev/null; then
@@ -16,10 +15,10 @@ fi
 work=$(mktemp -d) || exit 2
 trap 'rm -rf "$work"' EXIT
 
-mapfile -t libraries < <("$top/tools/c_library.sh" 2>"$work/log")
+mapfile -t libraries < <(tools/c_library.sh 2>"$work/log")
 [ "${#libraries[@]}" -eq 2 ] || { cat "$work/log" >&2; exit 1; }
 
 # shellcheck disable=SC2086 # CC may have words behind the name.
-$compiler -std=c99 -D_POSIX_C_SOURCE=200809L -pthread -Wall -Wextra -Werror -O1 -I"$top/include" -I"$here/../engine" \
-  -o "$work/guide" "$here"/*.c "$here"/../engine/store.c "$here"/../engine/check.c "${libraries[@]}" || exit 1
+$compiler -std=c99 -D_POSIX_C_SOURCE=200809L -pthread -Wall -Wextra -Werror -O1 -Iinclude -Iexamples/engine \
+  -o "$work/guide" examples/guide/*.c examples/engine/store.c examples/engine/check.c "${libraries[@]}" || exit 1
 timeout 60 "$work/guide" || exit 1
