@@ -11,7 +11,7 @@ struct hashed {
   bs_node buckets[BUCKETS];
 };
 
-/* Spreads keys that lie close together (multiplicative hashing, after Knuth). */
+/* Spreads keys that lie close together (multiplicative hashing). */
 static uint64_t mixed(uint64_t key) {
   return key * 0x9e3779b97f4a7c15u >> 32;
 }
