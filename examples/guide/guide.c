@@ -1,0 +1,114 @@
+/*
+ * The topics of docs/ENGINES.md, one after the other: a line for each that went as it should.
+ */
+#include "guide.h"
+
+#include <stdio.h>
+#include <stdlib.h>
+
+bs_notices told;
+
+/* Other threads may run still: no end of the program but at once. */
+void wanted(bool holds, const char *what, const char *file, int line) {
+  if (holds) return;
+  fprintf(stderr, "%s:%d: not so: %s\n", file, line, what);
+  _Exit(1);
+}
+
+bs_reply done(bs_reply reply, const char *call, const char *file, int line) {
+  if (reply.status != BS_DONE) fprintf(stderr, "answered: %s\n", bs_text(reply.status));
+  wanted(reply.status == BS_DONE, call, file, line);
+  return reply;
+}
+
+void open_manager(bs_manager *m, uint32_t detect, uint32_t victims) {
+  static const bs_manager none = BS_NO_MANAGER_HERE;
+  *m = none;
+  DONE(bs_make_choosing(m, detect, victims, BS_SLOTS));
+}
+
+bs_txn begin(bs_manager *m) {
+  return DONE(bs_begin(m)).txn;
+}
+
+bs_node interval_of(bs_manager *m, const struct shop *s, uint64_t day) {
+  return DONE(bs_interval_of(m, s->by_day, day)).node;
+}
+
+bs_node add_order(bs_manager *m, const struct shop *s, uint64_t day) {
+  bs_txn t = begin(m);
+  bs_node order;
+  DONE(lock_with_intentions(m, t, s->orders, BS_IX, &told));
+  DONE(lock_with_intentions(m, t, interval_of(m, s, day), BS_IX, &told));
+  order = DONE(bs_insert(m, t, s->orders, &day, 1)).node;
+  DONE(bs_commit(m, t, &told));
+  return order;
+}
+
+bs_reply lock_with_intentions(bs_manager *m, bs_txn txn, bs_node node, bs_mode mode, bs_notices *notices) {
+  bs_mode intention = mode == BS_IS || mode == BS_S ? BS_IS : BS_IX;
+  bs_reply reply = bs_lock(m, txn, node, mode, notices);
+  while (reply.status == BS_NEED_PARENTS) {
+    bs_reply above = lock_with_intentions(m, txn, reply.node, intention, notices);
+    if (above.status != BS_DONE) return above;
+    reply = bs_lock(m, txn, node, mode, notices);
+  }
+  return reply;
+}
+
+bool is_told(size_t place, bs_txn txn, uint32_t kind) {
+  const bs_notice *notice = &told.at[place];
+  if (place >= told.count || notice->kind != kind) return false;
+  return notice->txn.slot == txn.slot && notice->txn.age == txn.age;
+}
+
+bool same_node(bs_node a, bs_node b) {
+  return a.key == b.key && a.birth == b.birth;
+}
+
+bool is_empty(bs_slots slots) {
+  return slots.low == 0 && slots.high == 0;
+}
+
+/* Marsaglia's xorshift. */
+uint64_t roll(uint64_t *dice) {
+  *dice ^= *dice << 13;
+  *dice ^= *dice >> 7;
+  *dice ^= *dice << 17;
+  return *dice >> 16;
+}
+
+static void tell(const char *name, void (*topic)(void)) {
+  topic();
+  printf("%s\n", name);
+}
+
+#define TELL(name) tell(#name, name)
+
+int main(void) {
+  setvbuf(stdout, NULL, _IONBF, 0);
+  TELL(which_node_for_what);
+  TELL(pages_as_records);
+  TELL(more_rows_than_nodes);
+  TELL(false_conflicts);
+  TELL(buckets_under_intervals);
+  TELL(intentions_first);
+  TELL(one_order_for_all);
+  TELL(no_upgrades);
+  TELL(no_phantoms);
+  TELL(a_row_moves);
+  TELL(a_reader_escalates);
+  TELL(a_writer_escalates);
+  TELL(implied_is_not_held);
+  TELL(what_each_answer_asks);
+  TELL(deadlocks_at_block);
+  TELL(whom_a_deadlock_takes);
+  TELL(old_boards_do_no_harm);
+  TELL(another_choice_of_victims);
+  TELL(waits_that_are_too_old);
+  TELL(a_thread_that_died);
+  TELL(a_thread_that_died_in_a_call);
+  TELL(prepared_transactions);
+  TELL(after_a_restart);
+  return 0;
+}

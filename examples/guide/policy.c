@@ -1,0 +1,141 @@
+/*
+ * A watcher with a choice of victims of its own: whoever holds the fewest rows gives way. The store of
+ * examples/engine has the latch and the seats.
+ */
+#include "guide.h"
+
+#include "store.h"
+
+enum { PATIENCE = 1500 }; /* Milliseconds, so that nothing hangs; it is never used up. */
+
+struct policy {
+  struct store store;
+  struct shop shop;
+};
+
+static uint64_t rows_held(struct policy *p, bs_txn txn) {
+  bs_reply rows = bs_children(&p->store.manager, txn, p->shop.orders);
+  return rows.status == BS_DONE ? rows.count : 0;
+}
+
+/* Of those on a circle the one that gives way. */
+static bs_txn with_fewest_rows(struct policy *p, const bs_board *board, bs_slots circle) {
+  bs_txn fewest = { 0, 0 };
+  uint32_t slot;
+  for (slot = 0; slot < BS_SLOTS; slot++) {
+    bs_txn txn = { (uint8_t)slot, board->ages[slot] };
+    if (!bs_has(circle, slot)) continue;
+    if (fewest.age == 0 || rows_held(p, txn) < rows_held(p, fewest)) fewest = txn;
+  }
+  return fewest;
+}
+
+/* Its wait alone is taken away: its owner is told, undoes what it wrote, and aborts. */
+static void give_way(struct store *s, bs_txn txn) {
+  struct seat *seat = &s->seats[txn.slot];
+  DONE(bs_cancel(&s->manager, txn, &s->told));
+  store_deliver(s);
+  seat->ending = VICTIM;
+  pthread_cond_signal(&seat->wake);
+}
+
+/* The slots on a circle with the lowest that is on one. */
+static bs_slots some_circle(const bs_board *board) {
+  bs_slots suspects = bs_suspects(board).slots;
+  uint32_t slot = 0;
+  while (slot < BS_SLOTS && !bs_has(suspects, slot)) slot++;
+  return slot < BS_SLOTS ? bs_on_cycle(board, slot).slots : suspects;
+}
+
+/* The latch is held all the time, so each board is of now, and whom it shows waiting can be cancelled. */
+static void break_circles(struct policy *p) {
+  bs_board board;
+  bs_slots circle;
+  do {
+    DONE(bs_read_board(&p->store.manager, &board));
+    circle = some_circle(&board);
+    if (!is_empty(circle)) give_way(&p->store, with_fewest_rows(p, &board, circle));
+  } while (!is_empty(circle));
+}
+
+/* Looks whenever somebody has begun to wait. */
+static void *watch(void *arg) {
+  struct policy *p = arg;
+  struct store *s = &p->store;
+  uint64_t seen = 0;
+  store_latch(s);
+  while (!s->is_closing) {
+    if (s->waits == seen) {
+      store_await_news(s);
+    } else {
+      seen = s->waits;
+      break_circles(p);
+    }
+  }
+  store_unlatch(s);
+  return NULL;
+}
+
+/* A transaction that asks for one more row. */
+struct asker {
+  struct policy *policy;
+  bs_txn txn;
+  bs_node wanted;
+  enum ending ending;
+  pthread_t thread;
+};
+
+static void *ask(void *arg) {
+  struct asker *a = arg;
+  struct store *s = &a->policy->store;
+  store_latch(s);
+  a->ending = store_lock(s, a->txn, a->wanted, BS_X, PATIENCE);
+  if (a->ending == GRANTED) DONE(bs_commit(&s->manager, a->txn, &s->told));
+  else DONE(bs_abort(&s->manager, a->txn, &s->told));
+  store_deliver(s);
+  store_unlatch(s);
+  return NULL;
+}
+
+static void start(pthread_t *thread, void *(*run)(void *), void *arg) {
+  WANT(pthread_create(thread, NULL, run, arg) == 0);
+}
+
+static void stop(struct store *s, pthread_t thread) {
+  store_latch(s);
+  s->is_closing = true;
+  store_tell_news(s);
+  store_unlatch(s);
+  WANT(pthread_join(thread, NULL) == 0);
+}
+
+static struct asker begin_asker(struct policy *p, bs_node has, bs_node wants) {
+  struct asker a = { .policy = p, .wanted = wants };
+  bs_manager *m = &p->store.manager;
+  a.txn = begin(m);
+  DONE(lock_with_intentions(m, a.txn, has, BS_X, &told));
+  return a;
+}
+
+/* The older transaction holds one row, the younger two: here the older gives way. */
+void another_choice_of_victims(void) {
+  static struct policy p;
+  bs_manager *m = &p.store.manager;
+  struct asker light, heavy;
+  pthread_t watcher;
+  bs_node left, right;
+  store_open(&p.store, BS_BY_WATCHER);
+  p.shop = make_shop(m);
+  left = add_order(m, &p.shop, 20);
+  right = add_order(m, &p.shop, 21);
+  light = begin_asker(&p, left, right);
+  heavy = begin_asker(&p, right, left);
+  DONE(lock_with_intentions(m, heavy.txn, add_order(m, &p.shop, 22), BS_X, &told));
+  start(&watcher, watch, &p);
+  start(&light.thread, ask, &light);
+  start(&heavy.thread, ask, &heavy);
+  WANT(pthread_join(light.thread, NULL) == 0 && pthread_join(heavy.thread, NULL) == 0);
+  stop(&p.store, watcher);
+  WANT(light.ending == VICTIM && heavy.ending == GRANTED);
+  store_close(&p.store);
+}
