@@ -72,12 +72,10 @@ static bool is_told(size_t place, bs_txn txn, uint32_t kind) {
   return place < told.count && same_txn(told.at[place].txn, txn) && told.at[place].kind == kind;
 }
 
-/* A manager with a root, and transactions over it. */
-static bs_manager begin_manager(uint32_t detect, bs_node *root) {
-  bs_manager m = BS_NO_MANAGER_HERE;
-  DONE(bs_make(&m, detect, BS_SLOTS));
-  *root = DONE(bs_add_inner(&m, NULL, 0)).node;
-  return m;
+/* Makes a manager at a place, with a root, which it answers. */
+static bs_node begin_manager(bs_manager *m, uint32_t detect) {
+  DONE(bs_make(m, detect, BS_SLOTS));
+  return DONE(bs_add_inner(m, NULL, 0)).node;
 }
 
 static bs_txn begin(bs_manager *m) {
@@ -118,8 +116,8 @@ static void lock_path(bs_manager *m, bs_txn t, struct file f, bs_node interval) 
 }
 
 static void modes_join(void) {
-  bs_node root;
-  bs_manager m = begin_manager(BS_AT_BLOCK, &root);
+  bs_manager m = BS_NO_MANAGER_HERE;
+  bs_node root = begin_manager(&m, BS_AT_BLOCK);
   bs_txn a = begin(&m);
   WANT(bs_try(&m, a, root, BS_IX).mode == BS_IX);
   WANT(bs_try(&m, a, root, BS_S).mode == BS_SIX);
@@ -132,8 +130,8 @@ static void modes_join(void) {
 }
 
 static void a_commit_grants(void) {
-  bs_node root;
-  bs_manager m = begin_manager(BS_AT_BLOCK, &root);
+  bs_manager m = BS_NO_MANAGER_HERE;
+  bs_node root = begin_manager(&m, BS_AT_BLOCK);
   bs_txn a = begin(&m), b = begin(&m), c = begin(&m);
   bs_reply wait;
   DONE(bs_lock(&m, a, root, BS_X, &told));
@@ -152,8 +150,8 @@ static void a_commit_grants(void) {
 }
 
 static void a_conversion_goes_ahead(void) {
-  bs_node root;
-  bs_manager m = begin_manager(BS_AT_BLOCK, &root);
+  bs_manager m = BS_NO_MANAGER_HERE;
+  bs_node root = begin_manager(&m, BS_AT_BLOCK);
   bs_txn a = begin(&m), b = begin(&m), c = begin(&m);
   DONE(bs_lock(&m, a, root, BS_S, &told));
   DONE(bs_lock(&m, b, root, BS_S, &told));
@@ -168,8 +166,9 @@ static void a_conversion_goes_ahead(void) {
 }
 
 static void a_deadlock_has_a_victim(void) {
-  bs_node root, left, right;
-  bs_manager m = begin_manager(BS_AT_BLOCK, &root);
+  bs_node left, right;
+  bs_manager m = BS_NO_MANAGER_HERE;
+  bs_node root = begin_manager(&m, BS_AT_BLOCK);
   bs_txn a = begin(&m), b = begin(&m);
   left = DONE(bs_add_inner(&m, &root, 1)).node;
   right = DONE(bs_add_inner(&m, &root, 1)).node;
@@ -223,8 +222,8 @@ static void a_choice_of_victims(void) {
 }
 
 static void an_older_asker_condemns_the_younger(void) {
-  bs_node root;
-  bs_manager m = begin_manager(BS_AT_BLOCK, &root);
+  bs_manager m = BS_NO_MANAGER_HERE;
+  bs_node root = begin_manager(&m, BS_AT_BLOCK);
   bs_txn a = begin(&m), b = begin(&m);
   DONE(bs_lock(&m, a, root, BS_S, &told));
   DONE(bs_lock(&m, b, root, BS_S, &told));
@@ -237,8 +236,8 @@ static void an_older_asker_condemns_the_younger(void) {
 }
 
 static void a_watcher_settles(void) {
-  bs_node root;
-  bs_manager m = begin_manager(BS_BY_WATCHER, &root);
+  bs_manager m = BS_NO_MANAGER_HERE;
+  bs_node root = begin_manager(&m, BS_BY_WATCHER);
   bs_txn a = begin(&m), b = begin(&m);
   WANT(bs_detect(&m).count == BS_BY_WATCHER);
   DONE(bs_lock(&m, a, root, BS_S, &told));
@@ -254,8 +253,8 @@ static void a_watcher_settles(void) {
 }
 
 static void the_rule_of_the_graph(void) {
-  bs_node root;
-  bs_manager m = begin_manager(BS_AT_BLOCK, &root);
+  bs_manager m = BS_NO_MANAGER_HERE;
+  bs_node root = begin_manager(&m, BS_AT_BLOCK);
   struct file f = make_file(&m, root);
   bs_txn a = begin(&m);
   bs_reply reply = bs_lock(&m, a, f.file, BS_IS, &told);
@@ -274,8 +273,8 @@ static void the_rule_of_the_graph(void) {
 }
 
 static void a_record_moves(void) {
-  bs_node root;
-  bs_manager m = begin_manager(BS_AT_BLOCK, &root);
+  bs_manager m = BS_NO_MANAGER_HERE;
+  bs_node root = begin_manager(&m, BS_AT_BLOCK);
   struct file f = make_file(&m, root);
   bs_txn a = begin(&m), b = begin(&m), c = begin(&m);
   lock_path(&m, a, f, f.below);
@@ -297,8 +296,8 @@ static void a_record_moves(void) {
 }
 
 static void a_record_goes(void) {
-  bs_node root;
-  bs_manager m = begin_manager(BS_AT_BLOCK, &root);
+  bs_manager m = BS_NO_MANAGER_HERE;
+  bs_node root = begin_manager(&m, BS_AT_BLOCK);
   struct file f = make_file(&m, root);
   bs_txn a = begin(&m), b = begin(&m);
   lock_path(&m, a, f, f.below);
@@ -316,8 +315,8 @@ static void a_record_goes(void) {
 }
 
 static void an_escalation(void) {
-  bs_node root;
-  bs_manager m = begin_manager(BS_AT_BLOCK, &root);
+  bs_manager m = BS_NO_MANAGER_HERE;
+  bs_node root = begin_manager(&m, BS_AT_BLOCK);
   struct file f = make_file(&m, root);
   bs_txn a = begin(&m);
   bs_reply reply;
@@ -336,8 +335,9 @@ static void an_escalation(void) {
 }
 
 static void a_file_moves(void) {
-  bs_node root, other;
-  bs_manager m = begin_manager(BS_AT_BLOCK, &root);
+  bs_node other;
+  bs_manager m = BS_NO_MANAGER_HERE;
+  bs_node root = begin_manager(&m, BS_AT_BLOCK);
   struct file f = make_file(&m, root);
   bs_txn a = begin(&m);
   other = DONE(bs_add_inner(&m, &root, 1)).node;
@@ -354,8 +354,8 @@ static void a_file_moves(void) {
 }
 
 static void questions(void) {
-  bs_node root;
-  bs_manager m = begin_manager(BS_AT_BLOCK, &root);
+  bs_manager m = BS_NO_MANAGER_HERE;
+  bs_node root = begin_manager(&m, BS_AT_BLOCK);
   struct file f = make_file(&m, root);
   WANT(bs_kind(&m, root).count == BS_INNER && bs_kind(&m, f.file).count == BS_FILE);
   WANT(bs_kind(&m, f.index).count == BS_INDEX && bs_kind(&m, f.below).count == BS_INTERVAL);
@@ -374,9 +374,10 @@ static void questions(void) {
 }
 
 static void stale_names(void) {
-  bs_node root, nothing = { 0, 0 }, made_up = { (size_t)-1, UINT64_MAX };
+  bs_node nothing = { 0, 0 }, made_up = { (size_t)-1, UINT64_MAX };
   bs_txn nobody = { 0, 0 }, beyond = { 255, 1 };
-  bs_manager m = begin_manager(BS_AT_BLOCK, &root);
+  bs_manager m = BS_NO_MANAGER_HERE;
+  bs_node root = begin_manager(&m, BS_AT_BLOCK);
   bs_txn a = begin(&m), b;
   DONE(bs_lock(&m, a, root, BS_X, &told));
   DONE(bs_commit(&m, a, &told));
@@ -394,9 +395,10 @@ static void stale_names(void) {
 }
 
 static void numbers_out_of_range(void) {
-  bs_node root, many[9] = { { 0, 0 }, { 0, 0 }, { 0, 0 }, { 0, 0 }, { 0, 0 }, { 0, 0 }, { 0, 0 }, { 0, 0 }, { 0, 0 } };
+  bs_node many[9] = { { 0, 0 }, { 0, 0 }, { 0, 0 }, { 0, 0 }, { 0, 0 }, { 0, 0 }, { 0, 0 }, { 0, 0 }, { 0, 0 } };
   bs_manager none = BS_NO_MANAGER_HERE;
-  bs_manager m = begin_manager(BS_AT_BLOCK, &root);
+  bs_manager m = BS_NO_MANAGER_HERE;
+  bs_node root = begin_manager(&m, BS_AT_BLOCK);
   bs_txn a = begin(&m);
   WANT(bs_make(&none, 2, 1).status == BS_BAD_NUMBER);
   WANT(bs_make(&none, BS_AT_BLOCK, 0).status == BS_BAD_NUMBER);
@@ -410,8 +412,8 @@ static void numbers_out_of_range(void) {
 }
 
 static void places_without_a_manager(void) {
-  bs_node root;
-  bs_manager never = BS_NO_MANAGER_HERE, m = begin_manager(BS_AT_BLOCK, &root);
+  bs_manager never = BS_NO_MANAGER_HERE, m = BS_NO_MANAGER_HERE;
+  bs_node root = begin_manager(&m, BS_AT_BLOCK);
   bs_txn a = begin(&m);
   WANT(bs_begin(&never).status == BS_NO_MANAGER && bs_len(&never).status == BS_NO_MANAGER);
   WANT(bs_end(&never).status == BS_NO_MANAGER);
@@ -430,8 +432,8 @@ static void places_without_a_manager(void) {
 }
 
 static void null_pointers(void) {
-  bs_node root;
-  bs_manager m = begin_manager(BS_AT_BLOCK, &root);
+  bs_manager m = BS_NO_MANAGER_HERE;
+  bs_node root = begin_manager(&m, BS_AT_BLOCK);
   bs_txn a = begin(&m);
   WANT(bs_make(NULL, BS_AT_BLOCK, 1).status == BS_NULL_POINTER && bs_end(NULL).status == BS_NULL_POINTER);
   WANT(bs_begin(NULL).status == BS_NULL_POINTER && bs_len(NULL).status == BS_NULL_POINTER);
@@ -448,8 +450,8 @@ static void null_pointers(void) {
 }
 
 static void everybody_is_told(void) {
-  bs_node root;
-  bs_manager m = begin_manager(BS_AT_BLOCK, &root);
+  bs_manager m = BS_NO_MANAGER_HERE;
+  bs_node root = begin_manager(&m, BS_AT_BLOCK);
   bs_txn all[BS_SLOTS];
   size_t i;
   for (i = 0; i < BS_SLOTS; i++) all[i] = begin(&m);
@@ -485,8 +487,8 @@ static void locked_in_spite(bs_manager *m, bs_txn t, bs_node node) {
 
 /* Whether there is an nth growth, which is refused. */
 static bool refuses(long n) {
-  bs_node root;
-  bs_manager m = begin_manager(BS_AT_BLOCK, &root);
+  bs_manager m = BS_NO_MANAGER_HERE;
+  bs_node root = begin_manager(&m, BS_AT_BLOCK);
   bs_txn a = begin(&m);
   bool refused;
   int i;
@@ -522,8 +524,8 @@ static void refused_managers(void) {
 
 static void a_board_shows_a_circle(void) {
   static bs_board board;
-  bs_node root;
-  bs_manager m = begin_manager(BS_BY_WATCHER, &root);
+  bs_manager m = BS_NO_MANAGER_HERE;
+  bs_node root = begin_manager(&m, BS_BY_WATCHER);
   bs_txn a = begin(&m), b = begin(&m), c = begin(&m), victim;
   bs_found found;
   bs_reply youngest;
@@ -562,11 +564,12 @@ static void a_board_shows_a_circle(void) {
 /* A board is read whole: in a ring of 128 each waits for the next, beyond the first 64 too. */
 static void a_ring_of_all(void) {
   static bs_board board;
-  bs_node root, nodes[BS_SLOTS];
-  bs_manager m = begin_manager(BS_BY_WATCHER, &root);
+  bs_node nodes[BS_SLOTS];
+  bs_manager m = BS_NO_MANAGER_HERE;
   bs_txn all[BS_SLOTS];
   bs_found found;
   size_t i;
+  begin_manager(&m, BS_BY_WATCHER);
   for (i = 0; i < BS_SLOTS; i++) {
     all[i] = begin(&m);
     nodes[i] = DONE(bs_add_inner(&m, NULL, 0)).node;
