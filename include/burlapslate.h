@@ -29,8 +29,8 @@
  * of every call but the questions; and BS_NO_MEMORY, of each call that takes memory, comes last.
  *
  * NOTICES. A call with `told` fills it anew: whom it told what, at most one notice for each transaction, by
- * rising slot. It is empty where the call was refused. The caller of a lock and of a cancel is left out: it
- * has its answer.
+ * rising slot. It is empty where the call was refused. The transaction that a lock, a cancel or an abort
+ * names is left out: whoever makes the call has its answer.
  *
  * MEMORY. Calls that end something or give something back take no memory and cannot fail for want of it:
  * unlock, cancel, commit, abort, settle, delete, rekey, escalate. Others say so.
@@ -330,7 +330,8 @@ static inline bs_reply bs_unlock(bs_manager *manager, bs_txn txn, bs_node node, 
   return bs_lacks(manager, told) ? bs_null() : bs_call_unlock(manager, txn, node, told);
 }
 
-/* Takes the wait of a transaction back. Refused with BS_NO_SUCH_TXN, BS_TXN_CONDEMNED, BS_NOT_WAITING. */
+/* Takes the wait of a transaction back. The transaction itself is told nothing: where another thread
+ * sleeps for it, tell that one. Refused with BS_NO_SUCH_TXN, BS_TXN_CONDEMNED, BS_NOT_WAITING. */
 static inline bs_reply bs_cancel(bs_manager *manager, bs_txn txn, bs_notices *told) {
   return bs_lacks(manager, told) ? bs_null() : bs_call_cancel(manager, txn, told);
 }
@@ -341,7 +342,9 @@ static inline bs_reply bs_commit(bs_manager *manager, bs_txn txn, bs_notices *to
   return bs_lacks(manager, told) ? bs_null() : bs_call_commit(manager, txn, told);
 }
 
-/* Ends a transaction whatever it is doing, and releases everything. Refused with BS_NO_SUCH_TXN. */
+/* Ends a transaction whatever it is doing, and releases everything. It undoes nothing: a record that was
+ * inserted stays, and one that was deleted or moved stays so. The transaction itself is told nothing: where
+ * another thread sleeps for it, tell that one. Refused with BS_NO_SUCH_TXN. */
 static inline bs_reply bs_abort(bs_manager *manager, bs_txn txn, bs_notices *told) {
   return bs_lacks(manager, told) ? bs_null() : bs_call_abort(manager, txn, told);
 }
@@ -436,7 +439,7 @@ static inline bs_reply bs_waiting(bs_manager *manager, bs_txn txn) {
 }
 
 /* How many children of a node a transaction holds, in `count`. Refused with BS_NOT_HELD where it does
- * not live or does not hold the node. */
+ * not live or does not hold the node itself, also where it holds children of it by another parent. */
 static inline bs_reply bs_children(bs_manager *manager, bs_txn txn, bs_node node) {
   return manager == NULL ? bs_null() : bs_call_children(manager, txn, node);
 }
