@@ -3,6 +3,8 @@ use Rattle.std.specs.Prelude.{◌≡◌, ◌+◌, ◌&&◌, ◌||◌, true, [], 
 use Rattle.std.proofs.Common.{ap, ap₂, arith, inl, refl, subst, sym, ◌∙◌}
 use Rattle.gl_modes.specs.declared.refusal.Refusal.{Refusal}
 use Rattle.gl_graph.specs.Refusals.{Refuses}
+use Rattle.gl_table.specs.declared.outcome.Locked.{Locked}
+use Rattle.gl_table.specs.declared.outcome.Locked.TheVariants as locked
 use Rattle.gl_table.specs.Answers.{answered}
 use Rattle.gl_table.specs.Lawful.{IsLawful}
 use Rattle.gl_table.specs.State.{State}
@@ -10,10 +12,11 @@ use Rattle.gl_table.specs.Tellings.{Told}
 use Rattle.gl_catalog.specs.declared.command.Answer.{Answer}
 use Rattle.gl_catalog.specs.declared.command.Command.{Command}
 use Rattle.gl_catalog.specs.declared.command.Command.TheVariants as command
+use Rattle.gl_catalog.specs.Deadlocks.{KeepsAccepted, KeepsDeadlock}
 use Rattle.gl_catalog.specs.Manager.{ManagerView}
 use Rattle.gl_catalog.specs.Promises.{KeepsCaller}
 use Rattle.gl_catalog.specs.Replies.{CallSteps, Notices, Says, said}
-use Rattle.gl_catalog.specs.Step.{Answers, Goes, Step, query_answer}
+use Rattle.gl_catalog.specs.Step.{Answers, Goes, Step, answer_of_lock, query_answer}
 use Rattle.gl_catalog.specs.Tests.{is_cycle, lists_memory, refusal_of}
 use Rattle.gl_catalog.proofs.Carried.{memory_step, refused_step}
 use Rattle.gl_catalog.proofs.MoverEffects.{move_keeps_mover, rekey_keeps_mover}
@@ -35,6 +38,23 @@ fills answers s s' c c' (Err r) a list before step same kept empty is = coe 0 1 
 pub uncounted : {A : Type 0} (v v' : ManagerView) (result : Result A Refusal) → OnErr result (v' ≡ v) → OnOk result (v'.accepted ≡ v.accepted + 1) → v'.accepted ≡ v.accepted → v' ≡ v
 uncounted v v' (Ok x) err ok e = let counted = ok in absurd (grind arith)
 uncounted v v' (Err r) err ok e = err
+
+-- what a call keeps of deadlocks, with its answer
+pub keeps_answered : {A : Type 0} (answers : A → Answer) (v v' : ManagerView) (c c' : Command) (result : Result A Refusal) (a : Answer) → ((x : A) → KeepsAccepted c v v' → KeepsDeadlock c v (answers x) v')
+    → OnOk result (KeepsAccepted c v v') → OnErr result (v' ≡ v) → a ≡ (said (λ x. (answers x, [])) result).0 → c' ≡ c → KeepsDeadlock c' v a v'
+keeps_answered answers v v' c c' (Ok x) a goes ok err same is = coe 0 1 (i. KeepsDeadlock (sym is i) v (sym same i) v') (goes x ok)
+keeps_answered answers v v' c c' (Err r) a goes ok err same is = coe 0 1 (i. KeepsDeadlock (sym is i) v (sym same i) v') (ap (λ w. w.table.deadlock) err)
+
+-- a query keeps what was kept
+pub keeps_asked : {A : Type 0} (answers : A → Answer) (v : ManagerView) (c c' : Command) (result : Result A Refusal) (a : Answer) → ((x : A) → KeepsDeadlock c v (answers x) v) → a ≡ (said (λ x. (answers x, [])) result).0 → c' ≡ c → KeepsDeadlock c' v a v
+keeps_asked answers v c c' (Ok x) a goes same is = coe 0 1 (i. KeepsDeadlock (sym is i) v (sym same i) v) (goes x)
+keeps_asked answers v c c' (Err r) a goes same is = coe 0 1 (i. KeepsDeadlock (sym is i) v (sym same i) v) refl
+
+-- what a lock comes to is no refusal
+pub keeps_locked : (c : Command) (v v' : ManagerView) (x : Locked) → KeepsAccepted c v v' → KeepsDeadlock c v (answer_of_lock x) v'
+keeps_locked c v v' (locked.Granted m) h = h
+keeps_locked c v v' locked.Waiting h = h
+keeps_locked c v v' locked.Victim h = h
 
 -- what a step leaves its caller
 pub keeps_caller : (c : Command) (s s' : State) (a : Answer) (told : Told) → IsLawful s → Step s c a told s' → KeepsCaller c s s'

@@ -8,13 +8,14 @@ use Rattle.gl_table.specs.Table.{TableView}
 use Rattle.gl_table.specs.Table.{state_of as table_state}
 use Rattle.gl_table.specs.Tellings.{told}
 use Rattle.gl_catalog.specs.declared.command.Command.TheVariants as command
+use Rattle.gl_catalog.specs.declared.counters.Counters.{Counters}
 use Rattle.gl_catalog.specs.Manager.{ManagerView, counting, state_of}
 use Rattle.gl_catalog.specs.Replies.{CallSteps, Notices, done}
 use Rattle.gl_catalog.specs.Tests.{refusal_of}
 use Rattle.gl_catalog.proofs.Carried.{accepted_step}
 
 -- no test refused, and the table took the record away
-pub deleted_step : (table new : TableView) (k : ℕ) (v : ManagerView) → record { table = table; accepted = k } ≡ v → (t : TxnId) (r : NodeId) (told' : Notices) → refusal_of (state_of v) (command.Delete t r) ≡ None
+pub deleted_step : {counts : Counters} (table new : TableView) (k : ℕ) (v : ManagerView) → record { table = table; accepted = k; counters = counts } ≡ v → (t : TxnId) (r : NodeId) (told' : Notices) → refusal_of (state_of v) (command.Delete t r) ≡ None
     → table_state new ≡ deleted (table_state table) r → told'.items ≡ told (table_state table) (table_state new) → CallSteps (state_of v) (command.Delete t r) done (Ok told') (counting (k + 1) (table_state new))
 deleted_step table new k v is t r told' free state tells =
     subst (λ (x : ManagerView). CallSteps (state_of x) (command.Delete t r) done (Ok told') (counting (k + 1) (table_state new))) is

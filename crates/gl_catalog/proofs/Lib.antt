@@ -40,6 +40,9 @@ mod RefusalRows
 mod Limits
 -- the manager over the table
 pub mod Counting
+pub mod Counts
+pub mod Accepting
+pub mod Uncounted
 pub mod Carried
 pub mod Managed
 pub mod Applied

@@ -7,13 +7,14 @@ use Rattle.gl_table.specs.Answers.{RefusesOnly}
 use Rattle.gl_table.specs.Table.{TableView}
 use Rattle.gl_table.specs.Table.{state_of as table_state}
 use Rattle.gl_catalog.specs.declared.command.Command.{Command}
+use Rattle.gl_catalog.specs.declared.counters.Counters.{Counters}
 use Rattle.gl_catalog.specs.Manager.{ManagerView, counting, state_of}
 use Rattle.gl_catalog.specs.Replies.{CallSteps, Says}
 use Rattle.gl_catalog.specs.Step.{Accepts, query_answer}
 use Rattle.gl_catalog.specs.Tests.{lists_memory, tests_of, worn}
 use Rattle.gl_catalog.proofs.Carried.{err_or_memory_step, err_step, ok_step, ok_step_only, worn_step}
 
-module _ {A : Type 0} (says : A → Says) (c : Command) (table : TableView) (k : ℕ) (v : ManagerView) (is : record { table = table; accepted = k } ≡ v) (tests : List (Option Refusal))
+module _ {A : Type 0} (says : A → Says) (c : Command) {counts : Counters} (table : TableView) (k : ℕ) (v : ManagerView) (is : record { table = table; accepted = k; counters = counts } ≡ v) (tests : List (Option Refusal))
     (are : tests_of (counting k (table_state table)) c ≡ worn (counting k (table_state table)) ∷ tests) where
   abbrev pub Room : Type 0
   Room = Ok tt ≡ verdict (worn (state_of v))
@@ -22,7 +23,7 @@ module _ {A : Type 0} (says : A → Says) (c : Command) (table : TableView) (k :
   pub managed_worn : (r : Refusal) → Err r ≡ verdict (worn (state_of v)) → CallSteps (state_of v) c says (Err r) (state_of v)
   managed_worn r full = by v is full
     where
-      by : (w : ManagerView) → record { table = table; accepted = k } ≡ w → Err r ≡ verdict (worn (state_of w)) → CallSteps (state_of w) c says (Err r) (state_of w)
+      by : (w : ManagerView) → record { table = table; accepted = k; counters = counts } ≡ w → Err r ≡ verdict (worn (state_of w)) → CallSteps (state_of w) c says (Err r) (state_of w)
       by w e full' = subst (λ (x : ManagerView). CallSteps (state_of x) c says (Err r) (state_of x)) e (worn_step says c k (table_state table) tests are r (subst (λ (x : ManagerView). Err r ≡ verdict (worn (state_of x))) (sym e) full'))
 
   room : Room → Ok tt ≡ verdict (worn (counting k (table_state table)))

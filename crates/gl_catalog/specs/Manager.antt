@@ -8,11 +8,13 @@ use Rattle.gl_table.specs.State.{State}
 use Rattle.gl_table.specs.Table.{ListsAgree, StandOnce, TableView}
 use Rattle.gl_table.specs.Table.{state_of as table_state}
 use Rattle.gl_table.specs.Waiting.{HasNoCycle}
+use Rattle.gl_catalog.specs.declared.counters.Counters.{Counters}
 
--- a manager: its table, and how many commands were accepted
+-- a manager: its table, how many commands were accepted, and what else is counted
 pub record ManagerView : Type 0 where
   pub table : TableView
   pub accepted : ℕ
+  pub counters : Counters
 
 -- the state with this count of accepted commands
 abbrev pub counting : ℕ → State → State

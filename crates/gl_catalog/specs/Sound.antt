@@ -4,7 +4,7 @@ use Rattle.gl_catalog.specs.Manager.{IsLawfulManager, ManagerView}
 
 -- what a contract sees
 abbrev pub view_of : Inside → ManagerView
-view_of m = record { table = m.table; accepted = m.accepted }
+view_of m = record { table = m.table; accepted = m.accepted; counters = m.counters }
 
 -- what holds of the fields
 abbrev pub IsSound : Inside → Type 0

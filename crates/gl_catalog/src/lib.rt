@@ -3,11 +3,13 @@
 #![tactic(auto)]
 
 mod command;
+mod counters;
 pub mod laws;
 mod manager;
 mod replies;
 mod run;
 
 pub use command::{Answer, Command, Escalated, Reply};
+pub use counters::Counters;
 pub use manager::Manager;
 pub use run::run_commands;

@@ -1,34 +1,41 @@
-//! The manager of locks: a table, and the count of accepted commands.
+//! The manager of locks: a table, the count of accepted commands, and what else is counted.
 
-ghost use Rattle.std.specs.Prelude.{◌≡◌, ◌≤◌, ◌&&◌, IfErr, IfOk, None, Some, if◌then◌else◌};
+ghost use Rattle.std.specs.Prelude.{◌≡◌, ◌≤◌, ◌&&◌, ◌↔◌, [], IfErr, IfOk, IfSome, IsNone, None, Some, if◌then◌else◌};
 ghost use Rattle.gl_modes.specs.declared.refusal.Refusal.{Refusal as ARefusal};
 ghost use Rattle.gl_header.specs.Header.{holds};
 ghost use Rattle.gl_table.specs.BoardOf.{board_of};
 ghost use Rattle.gl_table.specs.Covered.{held_children};
+ghost use Rattle.gl_table.specs.Deadlocks.{no_deadlock};
 ghost use Rattle.gl_table.specs.State.{choosing, empty_state, lives, members, status_of};
+ghost use Rattle.gl_catalog.specs.Counters.{no_counts};
 ghost use Rattle.gl_catalog.specs.Manager.{IsLawfulManager, state_of};
 ghost use Rattle.gl_catalog.specs.Replies.{wait_of};
 
+use crate::counters::Counters;
 use gl_graph::Graph;
 use gl_modes::{Mode, NodeId, Refusal};
-use gl_table::{Detect, Status, Table, TxnId};
+use gl_table::{Deadlock, Detect, Status, Table, TxnId};
 use gl_waits::{Board, Victims};
 use std::alloc::Global;
 use std::marker::Model;
 
 mod apply;
 mod checks;
+mod counting;
 mod escalation;
+mod listing;
 mod locks;
 mod moves;
 mod nodes;
 mod records;
 
-/// The lock manager of one thread: the table of locks, and how many commands it has accepted.
+/// The lock manager of one thread: the table of locks, how many commands it has accepted, and what it
+/// has been doing.
 #[derive(Drop)]
 pub struct Manager {
     table: Table,
     accepted: u64,
+    counters: Counters,
 }
 
 impl Model for Manager {
@@ -50,6 +57,8 @@ impl Manager {
         requires some { 1 ≤ most }
         requires few { most ≤ 128 }
         ensures made { IfOk result (λ manager. state_of manager ≡ empty_state detect most) }
+        ensures deadlock { IfOk result (λ manager. manager.table.deadlock ≡ no_deadlock) }
+        ensures uncounted { IfOk result (λ manager. manager.counters ≡ no_counts) }
         ensures refused { IfErr result (λ refusal. refusal ≡ ARefusal.NoMemory) }
     {
         Manager::choosing(alloc, detect, Victims::Youngest, most)
@@ -65,11 +74,17 @@ impl Manager {
         requires some { 1 ≤ most }
         requires few { most ≤ 128 }
         ensures made { IfOk result (λ manager. state_of manager ≡ choosing victims (empty_state detect most)) }
+        ensures deadlock { IfOk result (λ manager. manager.table.deadlock ≡ no_deadlock) }
+        ensures uncounted { IfOk result (λ manager. manager.counters ≡ no_counts) }
         ensures refused { IfErr result (λ refusal. refusal ≡ ARefusal.NoMemory) }
     {
         let table = Table::choosing(alloc, detect, victims, most)?;
         table.law();
-        Ok(Manager { table, accepted: 0 })
+        Ok(Manager {
+            table,
+            accepted: 0,
+            counters: Counters::default(),
+        })
     }
 
     /// The law of every manager, whatever commands it has carried out.
@@ -106,6 +121,15 @@ impl Manager {
         ensures { result ≡ self.now.table.victims }
     {
         self.table.victims()
+    }
+
+    /// The deadlock of which the last victim fell, as it was when that was condemned; `None` where
+    /// none ever was. It takes no memory.
+    pub fn last_deadlock(&self) -> Option<&Deadlock>
+        ensures some { IfSome result (λ deadlock. deadlock.now ≡ self.now.table.deadlock) }
+        ensures none { IsNone result ↔ (self.now.table.deadlock.cycle.items ≡ []) }
+    {
+        self.table.last_deadlock()
     }
 
     /// The lock graph.

@@ -12,6 +12,9 @@ use Rattle.gl_table.specs.declared.notice.Notice.{Notice}
 use Rattle.gl_table.specs.declared.notice.Notice.TheVariants.{Granted, Victim, Moved, Gone}
 use Rattle.gl_table.specs.Pumps.{is_waiting_at}
 use Rattle.gl_table.specs.State.{State, lives}
+use Rattle.gl_catalog.specs.declared.command.Answer.{Answer}
+use Rattle.gl_catalog.specs.declared.command.Command.{Command}
+use Rattle.gl_catalog.specs.Counters.{refusing}
 use Rattle.gl_catalog.specs.Manager.{ManagerView}
 use Rattle.gl_catalog.specs.Promises.{NobodyWaits}
 use Rattle.gl_shared.specs.Boards.{EndsIdle}
@@ -34,6 +37,10 @@ pub record GuardedView : Type 0 where
   pub boxes : List Slot
   pub list : List Board
   pub telling : Telling
+
+-- the same behind a command that was refused or only asked: as before, but that the manager counts a try or an escalation that would have had to wait
+abbrev pub unaccepted : Command → Answer → GuardedView → GuardedView
+unaccepted c a g = record g { manager = refusing c a g.manager }
 
 abbrev pub box_at : List Slot → ℕ → Slot
 box_at boxes slot = slice_index_or boxes slot None

@@ -19,7 +19,7 @@ ghost use Rattle.gl_catalog.specs.Step.{Step};
 ghost use Rattle.gl_shared.specs.Batches.{one_if};
 ghost use Rattle.gl_shared.specs.Boards.{last_epoch, IsLawful};
 ghost use Rattle.gl_shared.specs.Served.{RisingTo, accepts, is_refused};
-ghost use Rattle.gl_shared.specs.State.{Delivers, Slot, StaysUntold, Told, box_at, named, verdict_of};
+ghost use Rattle.gl_shared.specs.State.{Delivers, Slot, StaysUntold, Told, box_at, named, unaccepted, verdict_of};
 ghost use Rattle.gl_shared.specs.declared.grant.Grant.{Grant};
 
 use crate::accepted::{is_accepted, leaves_waiting};
@@ -30,7 +30,7 @@ use crate::now::board_now;
 use crate::publisher::Publisher;
 use crate::share::Share;
 use crate::telling::{Telling, may_show_waits};
-use gl_catalog::{Answer, Command, Manager, Reply};
+use gl_catalog::{Answer, Command, Counters, Manager, Reply};
 use gl_modes::{Mode, NodeId, Refusal, covers};
 use gl_table::{Notice, Told, TxnId};
 use gl_waits::SLOTS;
@@ -134,6 +134,13 @@ impl<N: Naming> Guarded<N> {
         self.publisher.law();
     }
 
+    /// What the table's manager has been doing since it was made.
+    pub fn counters(&self) -> Counters
+        ensures { result ≡ self.now.manager.counters }
+    {
+        self.manager.counters()
+    }
+
     /// A table behind its lock, before its first command.
     pub(crate) fn new(
         manager: Manager,
@@ -233,7 +240,7 @@ impl<N: Naming> Guarded<N> {
     pub fn serve(&mut self, share: &mut Share<N>, command: Command<'_>) -> Reply
         ensures step { Step (state_of self.old.manager) command.entry result.answer result.told.items (state_of self.new.manager) }
         ensures caller { KeepsCaller command.entry (state_of self.old.manager) (state_of self.new.manager) }
-        ensures refused { accepts command.entry result.answer ≡ false → (self.new ≡ self.old) × (share.new ≡ share.old) }
+        ensures refused { accepts command.entry result.answer ≡ false → (self.new ≡ unaccepted command.entry result.answer self.old) × (share.new ≡ share.old) }
         ensures accepted { accepts command.entry result.answer ≡ true → (self.new.book ≡ self.old.book + 1) × (share.new ≡ share.old + 1) }
         ensures boxes { Delivers self.old.boxes result.told.items self.new.boxes }
         ensures list { (self.new.list ≡ self.old.list) × (self.new.telling ≡ self.old.telling) }
@@ -255,7 +262,7 @@ impl<N: Naming> Guarded<N> {
         requires empty { told.old.items ≡ [] }
         ensures step { Step (state_of self.old.manager) command.entry result told.new.items (state_of self.new.manager) }
         ensures caller { KeepsCaller command.entry (state_of self.old.manager) (state_of self.new.manager) }
-        ensures refused { accepts command.entry result ≡ false → (self.new ≡ self.old) × (share.new ≡ share.old) × (told.new.items ≡ []) }
+        ensures refused { accepts command.entry result ≡ false → (self.new ≡ unaccepted command.entry result self.old) × (share.new ≡ share.old) × (told.new.items ≡ []) }
         ensures accepted { accepts command.entry result ≡ true → (self.new.book ≡ self.old.book + 1) × (share.new ≡ share.old + 1) }
         ensures boxes { Delivers self.old.boxes told.new.items self.new.boxes }
         ensures rising { RisingTo 0 told.new.items 128 }

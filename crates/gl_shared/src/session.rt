@@ -6,7 +6,7 @@ ghost use Rattle.gl_catalog.specs.Manager.{IsLawfulManager, ManagerView, state_o
 ghost use Rattle.gl_catalog.specs.Step.{Step};
 ghost use Rattle.gl_shared.specs.Boards.{last_epoch};
 ghost use Rattle.gl_shared.specs.Served.{accepts, is_refused};
-ghost use Rattle.gl_shared.specs.State.{is_refusal};
+ghost use Rattle.gl_shared.specs.State.{GuardedView, is_refusal};
 
 use crate::accepted::is_accepted;
 use crate::grant::{Grant, Stop};
@@ -16,7 +16,7 @@ use crate::note::Note;
 use crate::share::Share;
 use crate::shared::Shared;
 use crate::wakes::ended_by;
-use gl_catalog::{Answer, Command, Reply};
+use gl_catalog::{Answer, Command, Counters, Reply};
 use gl_modes::{Mode, NodeId};
 use gl_table::{Told, TxnId};
 use std::sync::{MutexGuard, Wait};
@@ -116,6 +116,14 @@ impl<'a, N: Naming> Session<'a, N> {
             }
         }
         unreachable!()
+    }
+
+    /// What the table's manager has been doing since it was made: as `Shared::counters`. The session
+    /// stays as it is.
+    pub fn counters<R: Wait>(&self, rt: &R) -> Counters
+        ensures { (g : GuardedView) × IsLawfulManager g.manager × (g.manager.accepted ≡ N.opening + g.book) × (result ≡ g.manager.counters) }
+    {
+        self.shared.counters(rt)
     }
 
     /// Locks a node, and waits for its grant.

@@ -3,8 +3,9 @@
 ghost use Rattle.std.specs.Prelude.{◌≡◌, ◌+◌, ◌≤◌, ◌<◌, ◌∷◌, [], IfErr, IfOk, All, MatchResult, vec_len, sum, true, false, Some, ◌≢◌};
 ghost use Rattle.gl_modes.specs.declared.refusal.Refusal.{Refusal as ARefusal};
 ghost use Rattle.gl_table.specs.BoardOf.{board_of};
-ghost use Rattle.gl_catalog.specs.Manager.{state_of};
+ghost use Rattle.gl_catalog.specs.Manager.{IsLawfulManager, state_of};
 ghost use Rattle.gl_shared.specs.Rules.{head_of};
+ghost use Rattle.gl_shared.specs.State.{GuardedView};
 ghost use Rattle.gl_shared.specs.Ties.{IsOf, tie_of};
 
 use crate::boards::BoardWriter;
@@ -17,11 +18,11 @@ use crate::rule::Ties;
 use crate::share::Share;
 use crate::wakes::Wakes;
 use crate::watcher::Watcher;
-use gl_catalog::Manager;
+use gl_catalog::{Counters, Manager};
 use gl_modes::Refusal;
 use std::alloc::{AllocError, Global};
 use std::marker::PhantomData;
-use std::sync::{Mutex, Wait, ledger};
+use std::sync::{Mutex, MutexGuard, Wait, ledger};
 
 /// A table that sessions share. The latch is its one mutex: whoever has it has the manager, the boxes
 /// and the side that publishes, for as long as one command takes.
@@ -128,6 +129,18 @@ impl<N: Naming> Shared<N> {
             shares: count,
         };
         Ok((shared, shares, watchers))
+    }
+
+    /// What the table's manager has been doing since it was made, all of one moment. It takes the latch
+    /// for as long as a copy takes, and no memory.
+    pub fn counters<R: Wait>(&self, rt: &R) -> Counters
+        ensures { (g : GuardedView) × IsLawfulManager g.manager × (g.manager.accepted ≡ N.opening + g.book) × (result ≡ g.manager.counters) }
+    {
+        let guard = self.latch.lock(rt);
+        guard.law();
+        let counters = guard.counters();
+        MutexGuard::unlock(guard);
+        counters
     }
 
     /// Ends a table whose shares do not come back.

@@ -95,6 +95,11 @@ fn notes<N: Naming, R: Wait + Abort>(
     let commit = session.ask(rt, Command::Commit { txn: a });
     assert_eq!(rt; commit.answer, Answer::Done);
     assert_eq!(rt; commit.told.len(), 1);
+    let counters = session.counters(rt);
+    assert_eq!(rt;
+        (counters.granted, counters.waited, counters.granted_later),
+        (1, 1, 1)
+    );
     let note = session.note(rt);
     assert_eq!(rt; note.epoch(), 6);
     watcher.learn(note);

@@ -114,6 +114,13 @@ impl Slots {
         }
     }
 
+    /// The set that a number stands for, as `bits` answers it.
+    pub fn from_bits(bits: u128) -> Self
+        ensures { number_of result ≡ bits }
+    {
+        Slots { bits }
+    }
+
     /// The set as a number: bit `u` stands for slot `u`.
     pub fn bits(self) -> u128
         ensures { result ≡ number_of self }

@@ -28,6 +28,7 @@ fn slots_come_from_the_lowest_on(rt: HostRuntime) {
     for slot in [127, 64, 0, 5] {
         set.insert(slot);
     }
+    assert_eq!(rt; Slots::from_bits(1 << 127 | 1 << 64 | 0b10_0001), set);
     let mut seen = [0; 4];
     let mut count = 0;
     for slot in set.iter() {

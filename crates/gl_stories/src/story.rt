@@ -171,4 +171,16 @@ impl Story {
     pub fn board(&self, epoch: u64) -> Board {
         self.table.board(epoch)
     }
+
+    /// Who was condemned last.
+    pub fn last_victim(&self) -> Option<TxnId> {
+        Some(self.table.last_deadlock()?.victim)
+    }
+
+    /// A row of the last deadlock: who waits, for which node and mode, and for whom, as bits.
+    pub fn stuck(&self, place: usize) -> Option<(TxnId, NodeId, Mode, u128)> {
+        let deadlock = self.table.last_deadlock()?;
+        let row = deadlock.cycle.as_slice().get(place)?;
+        Some((row.txn, row.node, row.wanted, row.waits_for.bits()))
+    }
 }

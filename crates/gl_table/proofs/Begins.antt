@@ -97,6 +97,7 @@ module _ (i : Inside) (sound : IsSound i) (t : ℕ) (at : Some t ≡ position is
     detect = i.detect;
     victims = i.victims;
     begins = i.begins + 1;
+    deadlock = i.deadlock;
   }
 
   abbrev s : State

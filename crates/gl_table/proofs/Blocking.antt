@@ -7,6 +7,7 @@ use Rattle.gl_modes.specs.declared.node.NodeId.{NodeId}
 use Rattle.gl_modes.proofs.NodeLemmas.{same_node-refl}
 use Rattle.gl_graph.specs.View.{graph_of}
 use Rattle.gl_graph.proofs.Look.{number_same}
+use Rattle.gl_table.specs.declared.deadlock.Deadlock.{Deadlock}
 use Rattle.gl_table.specs.declared.detect.Detect.{Detect}
 use Rattle.gl_table.specs.declared.detect.Detect.TheVariants.{AtBlock, ByWatcher}
 use Rattle.gl_table.specs.declared.locks.Locks as code
@@ -16,6 +17,7 @@ use Rattle.gl_table.specs.declared.txn.Status.TheVariants.{Active}
 use Rattle.gl_table.specs.declared.txn.TxnId.{TxnId}
 use Rattle.gl_table.specs.Answers.{locked_as}
 use Rattle.gl_table.specs.Calls.{Locks, WaitSettles, enqueued, enters_at, granted, wanted}
+use Rattle.gl_table.specs.Deadlocks.{LocksKeeping, WaitSettlesKeeping}
 use Rattle.gl_table.specs.Lawful.{IsLawful}
 use Rattle.gl_table.specs.Locks.{Agrees, AreSound, CountsHeld, IsOrderly, state_on}
 use Rattle.gl_table.specs.Sound.{IsSound, view_of}
@@ -25,7 +27,7 @@ use Rattle.gl_table.specs.Tellings.{Told, told_but}
 use Rattle.gl_table.proofs.LockKeeps.{MayLock, locks-lawful, waiting-lawful}
 use Rattle.gl_table.proofs.NoCycle.{locks-no_cycle}
 use Rattle.gl_table.proofs.Queues.{clash}
-use Rattle.gl_table.proofs.SettledTable.{over, settled_also}
+use Rattle.gl_table.proofs.SettledTable.{keeping_also, over, settled_also}
 use Rattle.gl_table.proofs.TableCalls.{lawful_orderly}
 use Rattle.gl_table.proofs.ToldLists.{told_but_same, told_nothing}
 
@@ -34,12 +36,21 @@ settles_on : (by : Detect) (c : Victims) (x x' : State) (t : ℕ) (d : Detect) (
 settles_on AtBlock c x x' t d v b h = settled_also c t d v b x x' h
 settles_on ByWatcher c x x' t d v b h = ap (over c t d v b) h
 
+-- and what is kept of it
+keeps_on : (by : Detect) (c : Victims) (x x' : State) (t : ℕ) (e e' : Deadlock) (d : Detect) (v : Victims) (b : ℕ) → WaitSettlesKeeping by c x t e x' e' → WaitSettlesKeeping by c (over c t d v b x) t e (over c t d v b x') e'
+keeps_on AtBlock c x x' t e e' d v b h = keeping_also c t d v b x x' e e' h
+keeps_on ByWatcher c x x' t e e' d v b h = h
+
 -- a lock was granted at once
 pub granted_locks : (s s' : State) (t : ℕ) (n : NodeId) (m : Mode) → enters_at s t n m ≡ true → s' ≡ granted s t n m → Locks s t n m s'
 granted_locks s s' t n m enters is = record { at_once = λ h. is; waits = λ h. absurd (apart (sym h ∙ enters)) }
   where
     apart : false ≡ true → ⊥
     apart h = cc
+
+-- and keeps what was kept of deadlocks
+pub granted_keeps : (s s' : State) (t : ℕ) (n : NodeId) (m : Mode) (d : Deadlock) → enters_at s t n m ≡ true → LocksKeeping s t n m d s' d
+granted_keeps s s' t n m d enters = record { at_once = λ h. refl; waits = λ h. clash enters h }
 
 -- and its answer is the granted mode
 pub granted_answer : (s s' : State) (t : ℕ) (n : NodeId) (m x : Mode) → status_of s t ≡ Some Active → s' ≡ granted s t n m → x ≡ wanted s t n m → locked.Granted x ≡ locked_as (s'.held t n) (status_of s' t)
@@ -67,15 +78,23 @@ module _ (i : Inside) (sound : IsSound i) (t : TxnId) (n : NodeId) (m : Mode) (m
         subst IsOrderly (sym is) (record { holders = o.holders; holders_live = o.holders_live; waiters_live = o.waiters_live; waits_are = o.waits_are; one_wait = o.one_wait; below = o.below })
 
     -- and was settled, where that is the way of detection
-    module _ (left : code.Locks) (settles : WaitSettles i.detect i.victims (state_on (graph_of i.graph) locks) t.slot (state_on (graph_of i.graph) left)) where
+    module _ (left : code.Locks) (kept : Deadlock) (settles : WaitSettles i.detect i.victims (state_on (graph_of i.graph) locks) t.slot (state_on (graph_of i.graph) left)) where
       abbrev after : Inside
-      after = record i { locks = left }
+      after = record i { locks = left; deadlock = kept }
 
       pub state_locked : Locks s t.slot n m (state_of (view_of after))
       state_locked = record {
         at_once = λ h. clash h blocks;
         waits = λ h. settles_on i.detect i.victims (enqueued l t.slot n (wanted l t.slot n m)) (state_on (graph_of i.graph) left) t.slot i.detect i.victims i.begins
             (subst (λ (x : State). WaitSettles i.detect i.victims x t.slot (state_on (graph_of i.graph) left)) is settles);
+      }
+
+      -- with what is kept of deadlocks
+      pub kept_locked : WaitSettlesKeeping i.detect i.victims (state_on (graph_of i.graph) locks) t.slot i.deadlock (state_on (graph_of i.graph) left) kept → LocksKeeping s t.slot n m i.deadlock (state_of (view_of after)) kept
+      kept_locked keeps = record {
+        at_once = λ h. clash h blocks;
+        waits = λ h. keeps_on i.detect i.victims (enqueued l t.slot n (wanted l t.slot n m)) (state_on (graph_of i.graph) left) t.slot i.deadlock kept i.detect i.victims i.begins
+            (subst (λ (x : State). WaitSettlesKeeping i.detect i.victims x t.slot i.deadlock (state_on (graph_of i.graph) left) kept) is keeps);
       }
 
       pub sound_locked : AreSound left → ((u : ℕ) → Agrees (state_on (graph_of i.graph) left) left.lists.items u) → ((u : ℕ) → CountsHeld (state_on (graph_of i.graph) left) left.lists.items u) → IsSound after

@@ -53,6 +53,7 @@ pub mod NoCycle
 pub mod Searches
 pub mod NewLists
 pub mod Rows
+pub mod ListedRows
 pub mod BoardWrites
 pub mod TableLaw
 pub mod NewTable
@@ -90,6 +91,7 @@ pub mod Condemned
 pub mod Victims
 pub mod FewerWait
 pub mod Settling
+pub mod KeptRows
 pub mod Idle
 -- the ends of waits and transactions, of a table
 pub mod Cancelled

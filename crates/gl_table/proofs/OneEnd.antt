@@ -2,7 +2,6 @@
 use Rattle.std.specs.Prelude.{◌≡◌, ℕ, zero, suc, true, List, [], ◌∷◌, is_some}
 use Rattle.std.proofs.Common.{sym, ◌∙◌, arith, subst}
 use Rattle.gl_waits.specs.declared.victims.Victims.{Victims}
-use Rattle.gl_waits.specs.Victims.{IsCandidate}
 use Rattle.gl_waits.specs.Waits.{IsWalk}
 use Rattle.gl_waits.proofs.VictimLemmas.{candidate-on_cycle}
 use Rattle.gl_table.specs.State.{State}

@@ -2,7 +2,7 @@
 use Rattle.std.specs.Prelude.{ℕ, zero, suc, not, ◌&&◌, ◌==◌}
 use Rattle.std.proofs.Common.{ap, ap₂, ◌∙◌, arith, sym}
 use Rattle.gl_waits.specs.declared.victims.Victims.TheVariants.{Fewest}
-use Rattle.gl_waits.specs.Waits.{IsOnNoCycle, without}
+use Rattle.gl_waits.specs.Waits.{IsOnNoCycle}
 use Rattle.gl_waits.proofs.VictimLemmas.{freed-fewer}
 use Rattle.gl_table.specs.Laws.{CondemningFrees, OneFalls}
 use Rattle.gl_table.specs.Lawful.{IsLawful}

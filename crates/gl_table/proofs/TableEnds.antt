@@ -5,10 +5,12 @@ use Rattle.gl_modes.specs.declared.node.NodeId.{NodeId}
 use Rattle.gl_graph.specs.View.{graph_of}
 use Rattle.gl_graph.proofs.Look.{number_same, same_number, split}
 use Rattle.gl_header.specs.Header.{Waiter, holds}
+use Rattle.gl_table.specs.declared.deadlock.Deadlock.{Deadlock}
 use Rattle.gl_table.specs.declared.locks.Locks.{Locks}
 use Rattle.gl_table.specs.declared.table.Table.TheInside.{Inside}
 use Rattle.gl_table.specs.declared.txn.Status.TheVariants.{Active}
 use Rattle.gl_table.specs.Calls.{cancelled, released}
+use Rattle.gl_table.specs.Deadlocks.{SettlesKeeping}
 use Rattle.gl_table.specs.Lawful.{IsLawful}
 use Rattle.gl_table.specs.Locks.{Agrees, AreSound, CountsHeld, state_on}
 use Rattle.gl_table.specs.Pumps.{front_at, granted_at, is_waiting_at, without_wait, woken}
@@ -24,7 +26,7 @@ use Rattle.gl_table.specs.Waiting.{HasNoCycle, Settled}
 use Rattle.gl_table.proofs.Cancelled.{cancelled_own, cancelled_tells}
 use Rattle.gl_table.proofs.NoCycle.{given_up-no_cycle, settled-no_cycle}
 use Rattle.gl_table.proofs.Queues.{clash}
-use Rattle.gl_table.proofs.SettledTable.{settled_also}
+use Rattle.gl_table.proofs.SettledTable.{keeping_also, settled_also}
 use Rattle.gl_table.proofs.TableCalls.{orderly, state_released, table_way}
 use Rattle.gl_table.proofs.Taken.{settled-lawful, without_wait-lawful}
 use Rattle.gl_table.proofs.Tells.{is_by_test, nobody_told, gone_untold}
@@ -88,12 +90,16 @@ module _ (i : Inside) (sound : IsSound i) where
         (λ e. (cancelled_tells l (orderly i sound) t n waits first list tells s (table_way i sound) (λ v k. ap (λ xs. notices_in xs v) none ∙ sym (nobody_told s v))).1 u e ∙ ap (λ x. told_to s x u) (sym is)))
 
   -- a transaction was settled
-  module _ (t : ℕ) (locks : Locks) (is : Settled i.victims l t (state_on (graph_of i.graph) locks)) where
+  module _ (t : ℕ) (locks : Locks) (kept : Deadlock) (is : Settled i.victims l t (state_on (graph_of i.graph) locks)) where
     abbrev now : Inside
-    now = record i { locks = locks }
+    now = record i { locks = locks; deadlock = kept }
 
     pub state_settled : Settled s.victims s t (state_of (view_of now))
     state_settled = settled_also i.victims t i.detect i.victims i.begins l (state_on (graph_of i.graph) locks) is
+
+    -- with what is kept of it
+    pub kept_settled : SettlesKeeping i.victims l t i.deadlock (state_on (graph_of i.graph) locks) kept → SettlesKeeping s.victims s t i.deadlock (state_of (view_of now)) kept
+    kept_settled keeps = keeping_also i.victims t i.detect i.victims i.begins l (state_on (graph_of i.graph) locks) i.deadlock kept keeps
 
     pub sound_settled : AreSound locks → ((u : ℕ) → Agrees (state_on (graph_of i.graph) locks) locks.lists.items u) → ((u : ℕ) → CountsHeld (state_on (graph_of i.graph) locks) locks.lists.items u) → IsSound now
     sound_settled are agrees counts = record {

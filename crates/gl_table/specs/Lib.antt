@@ -22,6 +22,8 @@ pub mod Tells
 pub mod Locks
 pub mod Pumping
 pub mod Table
+pub mod Listing
+pub mod Deadlocks
 pub mod Sound
 pub mod Answers
 pub mod Frees

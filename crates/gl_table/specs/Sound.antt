@@ -19,6 +19,7 @@ view_of t =
       detect = t.detect;
       victims = t.victims;
       begins = t.begins;
+      deadlock = t.deadlock;
     }
 
 -- what holds of the fields

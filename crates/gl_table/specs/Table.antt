@@ -7,6 +7,7 @@ use Rattle.gl_modes.specs.declared.node.NodeId.{NodeId}
 use Rattle.gl_modes.specs.Nodes.{same_node}
 use Rattle.gl_graph.specs.View.{View, graph_of}
 use Rattle.gl_header.specs.Header.{holds}
+use Rattle.gl_table.specs.declared.deadlock.Deadlock.{Deadlock}
 use Rattle.gl_table.specs.declared.detect.Detect.{Detect}
 use Rattle.gl_waits.specs.declared.victims.Victims.{Victims}
 use Rattle.gl_table.specs.declared.list.Entry.{Entry}
@@ -18,7 +19,7 @@ use Rattle.gl_table.specs.Pumps.{is_waiting_at}
 use Rattle.gl_table.specs.Seats.{txns_of}
 use Rattle.gl_table.specs.State.{State, members}
 
--- a table: the graph, the headers by node, the transactions by slot with their lists, the way of detection, whom a deadlock takes, and how many began
+-- a table: the graph, the headers by node, the transactions by slot with their lists, the way of detection, whom a deadlock takes, how many began, and the last deadlock of which a victim fell
 pub record TableView : Type 0 where
   pub graph : View
   pub headers : Entries
@@ -27,8 +28,9 @@ pub record TableView : Type 0 where
   pub detect : Detect
   pub victims : Victims
   pub begins : ℕ
+  pub deadlock : Deadlock
 
--- the state that it stands for: headers and lists are forgotten
+-- the state that it stands for: headers, lists and the last deadlock are forgotten
 abbrev pub state_of : TableView → State
 state_of v =
     record {

@@ -13,7 +13,7 @@ ghost use Rattle.gl_table.specs.Seats.{txns_of};
 ghost use Rattle.gl_table.specs.State.{age_in, status_in};
 ghost use Rattle.gl_table.specs.Waiting.{waits_for};
 
-use crate::headers::Headers;
+use crate::headers::{Headers, waits_for};
 use crate::seat::Seat;
 use crate::txn::Status;
 use gl_header::Header;
@@ -122,16 +122,12 @@ impl WaitsFor for Waits<'_> {
     }
 }
 
-/// Whom a slot waits for that waits on this node for this mode: who holds the node in a mode that
-/// does not go with it, and who stands ahead in the queue.
+/// Whom a slot waits for that waits on this node for this mode, as a row of a board.
 fn row(headers: &Headers, slot: u8, node: NodeId, wanted: Mode) -> u128
     requires below { slot < 128 }
     ensures { (u : ℕ) → has_slot result u ≡ (not (slot == u) && (not (are_compatible wanted (held_of headers.now.entries u node)) || is_ahead (queue_of headers.now.entries node) slot u)) }
 {
-    match headers.get(&node) {
-        Some(header) => header.waits_for(slot, wanted).bits(),
-        None => 0,
-    }
+    waits_for(headers, slot, node, wanted).bits()
 }
 
 /// Whom a slot waits for with these ahead of it.

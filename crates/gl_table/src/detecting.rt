@@ -6,6 +6,7 @@ ghost use Rattle.gl_graph.specs.View.{graph_of};
 ghost use Rattle.gl_waits.specs.Waits.{IsOnNoCycle};
 ghost use Rattle.gl_table.specs.Locks.{Agrees, AreSound, CountsHeld, IsOrderly, state_on};
 ghost use Rattle.gl_table.specs.Calls.{WaitSettles};
+ghost use Rattle.gl_table.specs.Deadlocks.{SettlesKeeping, WaitSettlesKeeping};
 ghost use Rattle.gl_table.specs.Pumps.{condemned};
 ghost use Rattle.gl_table.specs.State.{State, status_of};
 ghost use Rattle.gl_table.specs.Telling.{IsBySlot, notices_in};
@@ -14,6 +15,7 @@ ghost use Rattle.gl_table.specs.Tells.{IsOnWay, told_to};
 ghost use Rattle.gl_table.specs.Waiting.{IsVictim, Settled, is_wait, waits_for};
 
 use crate::boards::{Waits, ages};
+use crate::deadlock::Deadlock;
 use crate::detect::Detect;
 use crate::locks::Locks;
 use crate::notice::{Notice, Told};
@@ -24,14 +26,15 @@ use gl_graph::Graph;
 use gl_waits::{Victims, victim_for};
 
 impl Locks {
-    /// With detection at block, settles a slot that has begun to wait. Puts who else is told into an
-    /// empty list, by rising slot.
+    /// With detection at block, settles a slot that has begun to wait, and keeps the last deadlock that
+    /// this ends. Puts who else is told into an empty list, by rising slot.
     pub(crate) fn settle_asker(
         &mut self,
         graph: &Graph,
         detect: Detect,
         victims: Victims,
         slot: u8,
+        deadlock: &mut Deadlock,
         told: &mut Told,
     )
         requires empty { told.old.items ≡ [] }
@@ -42,19 +45,27 @@ impl Locks {
         requires seated { slot < length self.old.seats.items }
         ensures sound { AreSound self.new }
         ensures state { WaitSettles detect victims (state_on (graph_of graph.now) self.old) slot (state_on (graph_of graph.now) self.new) }
+        ensures deadlock { WaitSettlesKeeping detect victims (state_on (graph_of graph.now) self.old) slot deadlock.old (state_on (graph_of graph.now) self.new) deadlock.new }
         ensures agree { (u : ℕ) → Agrees (state_on (graph_of graph.now) self.new) self.new.lists.items u }
         ensures count { (u : ℕ) → CountsHeld (state_on (graph_of graph.now) self.new) self.new.lists.items u }
         ensures told { told.new.items ≡ told_but slot (state_on (graph_of graph.now) self.old) (state_on (graph_of graph.now) self.new) }
     {
         if matches!(detect, Detect::AtBlock) {
-            self.settle(graph, victims, slot, told);
+            self.settle(graph, victims, slot, deadlock, told);
             told.retain(|notice| notice.0.slot != slot);
         }
     }
 
-    /// Condemns a victim, by the choice of victims, until a slot is on no cycle. Each time the victim's
-    /// wait is given up, and its node grants from its front.
-    pub(crate) fn settle(&mut self, graph: &Graph, victims: Victims, slot: u8, told: &mut Told)
+    /// Condemns a victim, by the choice of victims, until a slot is on no cycle. Each time the deadlock
+    /// is kept in place of the last, the victim's wait is given up, and its node grants from its front.
+    pub(crate) fn settle(
+        &mut self,
+        graph: &Graph,
+        victims: Victims,
+        slot: u8,
+        deadlock: &mut Deadlock,
+        told: &mut Told,
+    )
         requires sound { AreSound self.old }
         requires orderly { IsOrderly (state_on (graph_of graph.now) self.old) }
         requires agree { (u : ℕ) → Agrees (state_on (graph_of graph.now) self.old) self.old.lists.items u }
@@ -64,6 +75,7 @@ impl Locks {
         requires untold { (u : ℕ) → is_wait (status_of (state_on (graph_of graph.now) self.old) u) ≡ true → notices_in told.old.items u ≡ None }
         ensures sound { AreSound self.new }
         ensures state { Settled victims (state_on (graph_of graph.now) self.old) slot (state_on (graph_of graph.now) self.new) }
+        ensures deadlock { SettlesKeeping victims (state_on (graph_of graph.now) self.old) slot deadlock.old (state_on (graph_of graph.now) self.new) deadlock.new }
         ensures agree { (u : ℕ) → Agrees (state_on (graph_of graph.now) self.new) self.new.lists.items u }
         ensures count { (u : ℕ) → CountsHeld (state_on (graph_of graph.now) self.new) self.new.lists.items u }
         ensures by_slot { IsBySlot told.new.items }
@@ -72,6 +84,8 @@ impl Locks {
             → (u : ℕ) → notices_in told.new.items u ≡ told_to s (state_on (graph_of graph.now) self.new) u }
     {
         while let Some(victim) = self.victim(victims, slot) {
+            // Kept first: once the victim's wait is given up, the cycle is gone.
+            self.keep_deadlock(slot, victim, deadlock);
             self.condemn(graph, victim, told);
         }
     }

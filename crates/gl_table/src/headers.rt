@@ -1,14 +1,17 @@
 //! The headers of all nodes: one for each node that somebody holds or waits for, and no other.
 
-ghost use Rattle.std.specs.Prelude.{◌≡◌, ◌≢◌, ◌<◌, [], IfErr, IfOk, IsOk, OnErr, OnOk, Some, false, slice_get, true};
+ghost use Rattle.std.specs.Prelude.{◌≡◌, ◌≢◌, ◌<◌, ◌==◌, ◌&&◌, ◌||◌, ℕ, [], IfErr, IfOk, IsOk, OnErr, OnOk, Some, false, not, slice_get, true};
 ghost use Rattle.indexmap.specs.IndexMap.{keys};
 ghost use Rattle.gl_modes.specs.declared.mode.Mode.TheVariants.{NL};
+ghost use Rattle.gl_modes.specs.Modes.{are_compatible};
+ghost use Rattle.gl_slots.specs.Slots.{has_slot};
 ghost use Rattle.gl_header.specs.Answers.{asked};
 ghost use Rattle.gl_header.specs.State.{slot_limit};
 ghost use Rattle.gl_header.specs.Header.{
   front,
   group_of,
   holds,
+  is_ahead,
   is_among_waiters,
   placed,
   pumped_members,
@@ -32,6 +35,7 @@ ghost use Rattle.gl_table.specs.Headers.{
 
 use gl_header::{Asked, GrantList, Header};
 use gl_modes::{Mode, NodeId, Refusal};
+use gl_slots::Slots;
 use indexmap::IndexMap;
 use std::alloc::Global;
 
@@ -45,6 +49,38 @@ pub(crate) fn group(headers: &Headers, node: NodeId) -> Mode
     match headers.get(&node) {
         Some(header) => header.group(),
         None => Mode::NL,
+    }
+}
+
+/// The slots that hold a node.
+pub(crate) fn holders(headers: &Headers, node: NodeId) -> Slots
+    ensures { (u : ℕ) → has_slot result u ≡ holds (members_at headers.now.entries node) u }
+{
+    match headers.get(&node) {
+        Some(header) => header.opposed(Mode::X), // With X nothing goes.
+        None => Slots::empty(),
+    }
+}
+
+/// Who waits for a node, in the queue's order, with the wanted modes.
+pub(crate) fn queue(headers: &Headers, node: NodeId) -> &[(u8, Mode)]
+    ensures { result.now ≡ queue_of headers.now.entries node }
+{
+    match headers.get(&node) {
+        Some(header) => header.queue(),
+        None => &[],
+    }
+}
+
+/// Whom a slot waits for that waits on this node for this mode: who holds the node in a mode that
+/// does not go with it, and who stands ahead in the queue.
+pub(crate) fn waits_for(headers: &Headers, slot: u8, node: NodeId, wanted: Mode) -> Slots
+    requires below { slot < 128 }
+    ensures { (u : ℕ) → has_slot result u ≡ (not (slot == u) && (not (are_compatible wanted (held_of headers.now.entries u node)) || is_ahead (queue_of headers.now.entries node) slot u)) }
+{
+    match headers.get(&node) {
+        Some(header) => header.waits_for(slot, wanted),
+        None => Slots::empty(),
     }
 }
 

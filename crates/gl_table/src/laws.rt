@@ -1,5 +1,6 @@
 //! The laws of the model, each the contract of a call that does nothing.
 
+ghost use Rattle.gl_table.specs.Deadlocks.{KeepingSettles, RowsLeadOn, VictimHasRow};
 ghost use Rattle.gl_table.specs.Laws.{ChainsEnd, CondemningFrees, CutSetLaw, LawfulCutSet, LawfulNoConflict, NoConflictLaw, OneFalls, SettlingEnds, SettlingFrees};
 
 /// Where the grants of different transactions on each node are compatible, and every grant meets the
@@ -34,4 +35,12 @@ pub fn settling_ends()
 pub fn one_falls()
     ensures condemning { CondemningFrees }
     ensures one { OneFalls }
+{}
+
+/// To settle and keep the last deadlock is to settle. A kept deadlock has a row of its victim, so it is
+/// not empty, and each of its rows is of one who waits for another row's: they lead round.
+pub fn last_deadlock()
+    ensures settles { KeepingSettles }
+    ensures victim { VictimHasRow }
+    ensures onward { RowsLeadOn }
 {}

@@ -4,14 +4,17 @@
 
 mod asking;
 mod boards;
+mod deadlock;
 mod detect;
 mod detecting;
 mod effect;
 mod effective;
 mod ending;
 mod headers;
+mod keeping;
 pub mod laws;
 mod list;
+mod lock_row;
 mod locks;
 mod moving;
 mod notice;
@@ -28,8 +31,10 @@ mod txn;
 mod waking;
 mod withdrawing;
 
+pub use deadlock::{Deadlock, Stuck};
 pub use detect::Detect;
 pub use effect::Effect;
+pub use lock_row::LockRow;
 pub use notice::{Notice, Told};
 pub use outcome::Locked;
 pub use table::Table;

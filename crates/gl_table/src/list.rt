@@ -5,7 +5,7 @@ ghost use Rattle.std.specs.List.{count_by, list_all, list_any};
 ghost use Rattle.indexmap.specs.IndexMap.{spare};
 ghost use Rattle.std.specs.Prelude.{None, Some, cond, nat_lt, slice_get, unwrap_or};
 ghost use Rattle.std.specs.List.{find};
-ghost use Rattle.std.specs.Option.{option_map_or};
+ghost use Rattle.std.specs.Option.{option_map, option_map_or};
 ghost use Rattle.gl_modes.specs.declared.mode.Mode.TheVariants.{NL, X};
 ghost use Rattle.gl_graph.specs.Graph.{is_child, is_live, nodes, parents_of};
 ghost use Rattle.gl_graph.specs.View.{graph_of};
@@ -16,8 +16,10 @@ ghost use Rattle.std.specs.Map.{keys_of, lookup};
 ghost use Rattle.gl_modes.specs.Modes.{same_mode};
 ghost use Rattle.gl_modes.specs.Nodes.{same_node};
 ghost use Rattle.gl_table.specs.Intends.{is_write};
+ghost use Rattle.gl_table.specs.Listing.{row_of};
 ghost use Rattle.gl_table.specs.Lists.{HasRoom, IsApart, count_of, entry_of, is_listed, mode_of, unlisted};
 
+use crate::lock_row::LockRow;
 use gl_graph::Graph;
 use gl_modes::{Mode, NodeId, covers};
 use indexmap::IndexMap;
@@ -76,6 +78,18 @@ impl LockList {
         ensures { result ≡ entry_of self.now n }
     {
         self.entries.get(&n).copied()
+    }
+
+    /// The node at a place, with what is said of it.
+    pub(crate) fn row(&self, place: usize) -> Option<LockRow>
+        ensures { result ≡ option_map row_of (slice_get self.now.entries.entries place) }
+    {
+        let (node, Entry { mode, children }) = self.entries.get_index(place)?;
+        Some(LockRow {
+            node: *node,
+            mode: *mode,
+            children: *children,
+        })
     }
 
     /// The mode in which the node is held, `NL` for none.

@@ -1,6 +1,8 @@
 //! The locks: the headers of all nodes, and by slot the transactions with their lists.
 
-ghost use Rattle.std.specs.Prelude.{◌≡◌, ◌<◌, ◌≤◌, ◌==◌, ℕ, IfOk, None, Some, false, length, not, true, if◌then◌else◌};
+ghost use Rattle.std.specs.Prelude.{◌≡◌, ◌<◌, ◌≤◌, ◌==◌, ℕ, IfOk, None, Some, false, length, not, slice_get, true, if◌then◌else◌};
+ghost use Rattle.std.specs.Option.{option_map};
+ghost use Rattle.indexmap.specs.IndexMap.{keys};
 ghost use Rattle.gl_modes.specs.declared.mode.Mode.TheVariants.{NL};
 ghost use Rattle.gl_modes.specs.declared.node.NodeId.{NodeId as Node};
 ghost use Rattle.std.specs.Prelude.{◌&&◌};
@@ -15,7 +17,8 @@ ghost use Rattle.gl_table.specs.Pumps.{front_at, is_waiting_at, pumped, without_
 ghost use Rattle.gl_table.specs.Locks.{AreNew};
 ghost use Rattle.gl_table.specs.Seats.{txn_in, txns_of};
 ghost use Rattle.gl_table.specs.Effects.{effect_on};
-ghost use Rattle.gl_table.specs.Slots.{CanWake, Wakes, WakesLists, WakesTold, counted_by, held_by};
+ghost use Rattle.gl_table.specs.Listing.{row_of};
+ghost use Rattle.gl_table.specs.Slots.{CanWake, Wakes, WakesLists, WakesTold, by_list, counted_by, held_by};
 ghost use Rattle.gl_table.specs.State.{members, with_grant};
 ghost use Rattle.gl_table.specs.Telling.{IsBySlot, notices_in};
 
@@ -23,6 +26,7 @@ use crate::effect::Effect;
 use crate::effective::effective;
 use crate::headers::{Headers, drop_grant, drop_wait};
 use crate::list::LockList;
+use crate::lock_row::LockRow;
 use crate::notice::Told;
 use crate::seat::Seat;
 use crate::seats::Seats;
@@ -90,6 +94,23 @@ impl Locks {
         } else {
             Some(entry.children)
         }
+    }
+
+    /// How many nodes a slot holds or waits for.
+    pub(crate) fn rows(&self, slot: u8) -> usize
+        ensures { result ≡ by_list (λ l. length (keys l.entries)) 0 self.now.lists.items slot }
+    {
+        match self.lists.get(slot as usize) {
+            Some(list) => list.len(),
+            None => 0,
+        }
+    }
+
+    /// The row at a place in the list of a slot.
+    pub(crate) fn row(&self, slot: u8, place: usize) -> Option<LockRow>
+        ensures { result ≡ by_list (λ l. option_map row_of (slice_get l.entries.entries place)) None self.now.lists.items slot }
+    {
+        self.lists.get(slot as usize)?.row(place)
     }
 
     /// The held child of a node that was born first.

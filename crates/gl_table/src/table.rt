@@ -1,8 +1,9 @@
 //! The table of locks.
 
-ghost use Rattle.std.specs.Prelude.{◌≡◌, ◌≤◌, ◌<◌, ◌+◌, ◌&&◌, ℕ, IfErr, IfOk, None, OnErr, OnOk, Some, if◌then◌else◌};
+ghost use Rattle.std.specs.Prelude.{◌≡◌, ◌≤◌, ◌<◌, ◌+◌, ◌&&◌, ◌↔◌, ℕ, [], IfErr, IfOk, IfSome, IsNone, None, OnErr, OnOk, Some, if◌then◌else◌};
 ghost use Rattle.gl_modes.specs.declared.refusal.Refusal.{Refusal as ARefusal};
 ghost use Rattle.gl_graph.specs.View.{graph_of};
+ghost use Rattle.gl_table.specs.Deadlocks.{no_deadlock};
 ghost use Rattle.gl_table.specs.Effects.{HasNoConflict};
 ghost use Rattle.gl_table.specs.Headers.{AreHeaders};
 ghost use Rattle.gl_table.specs.Lawful.{IsLawful};
@@ -11,6 +12,7 @@ ghost use Rattle.gl_table.specs.Table.{ListsAgree, StandOnce, state_of};
 ghost use Rattle.gl_table.specs.Waiting.{HasNoCycle};
 ghost use Rattle.gl_table.specs.declared.detect.Detect.TheVariants.{AtBlock};
 
+use crate::deadlock::Deadlock;
 use crate::detect::Detect;
 use crate::locks::Locks;
 use crate::txn::{Status, TxnId};
@@ -22,6 +24,7 @@ use std::marker::Model;
 
 mod begin;
 mod checks;
+mod listing;
 mod lock;
 mod moves;
 mod nodes;
@@ -39,6 +42,7 @@ pub struct Table {
     detect: Detect,
     victims: Victims,
     begins: u64,
+    deadlock: Deadlock,
 }
 
 impl Model for Table {
@@ -60,6 +64,7 @@ impl Table {
         requires some { 1 ≤ most }
         requires few { most ≤ 128 }
         ensures made { IfOk result (λ table. state_of table ≡ empty_state detect most) }
+        ensures deadlock { IfOk result (λ table. table.deadlock ≡ no_deadlock) }
         ensures refused { IfErr result (λ refusal. refusal ≡ ARefusal.NoMemory) }
     {
         Table::choosing(alloc, detect, Victims::Youngest, most)
@@ -75,6 +80,7 @@ impl Table {
         requires some { 1 ≤ most }
         requires few { most ≤ 128 }
         ensures made { IfOk result (λ table. state_of table ≡ choosing victims (empty_state detect most)) }
+        ensures deadlock { IfOk result (λ table. table.deadlock ≡ no_deadlock) }
         ensures refused { IfErr result (λ refusal. refusal ≡ ARefusal.NoMemory) }
     {
         match Locks::new(alloc, most) {
@@ -84,6 +90,7 @@ impl Table {
                 detect,
                 victims,
                 begins: 0,
+                deadlock: Deadlock::none(),
             }),
             Err(AllocError) => Err(Refusal::NoMemory),
         }
@@ -117,6 +124,19 @@ impl Table {
         ensures { result ≡ self.now.victims }
     {
         self.victims
+    }
+
+    /// The deadlock of which the last victim fell, as it was when that was condemned; `None` where
+    /// none ever was. It takes no memory.
+    pub fn last_deadlock(&self) -> Option<&Deadlock>
+        ensures some { IfSome result (λ deadlock. deadlock.now ≡ self.now.deadlock) }
+        ensures none { IsNone result ↔ (self.now.deadlock.cycle.items ≡ []) }
+    {
+        if self.deadlock.cycle.is_empty() {
+            None
+        } else {
+            Some(&self.deadlock)
+        }
     }
 
     /// The lock graph.

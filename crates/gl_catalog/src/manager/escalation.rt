@@ -3,13 +3,16 @@
 ghost use Rattle.std.specs.Prelude.{◌≡◌, ◌+◌, ◌∷◌, [], OnErr, OnOk};
 ghost use Rattle.gl_graph.specs.Refusals.{first_refusal, verdict};
 ghost use Rattle.gl_catalog.specs.declared.command.Command.TheVariants as command;
+ghost use Rattle.gl_catalog.specs.Deadlocks.{KeepsAccepted};
+ghost use Rattle.gl_catalog.specs.Counters.{counted, refusing};
 ghost use Rattle.gl_catalog.specs.Manager.{state_of};
 ghost use Rattle.gl_catalog.specs.Promises.{KeepsCaller, StepLeavesOthers};
 ghost use Rattle.gl_catalog.specs.Replies.{CallSteps, rising, rose, said};
 ghost use Rattle.gl_catalog.specs.Tests.{escalate_asks, worn};
 
 use super::Manager;
-use crate::command::Escalated;
+use crate::command::{Command, Escalated};
+use crate::replies::escalate_answer;
 use gl_graph::Kind;
 use gl_modes::{Mode, NodeId, Refusal};
 use gl_table::{Told, TxnId};
@@ -27,15 +30,22 @@ impl Manager {
     /// granted at once. It takes no memory, and goes over what the transaction holds.
     pub fn escalate(&mut self, t: TxnId, n: NodeId) -> Result<(Escalated, Told), Refusal>
         ensures step { CallSteps (state_of self.old) (command.Escalate t n) rose result (state_of self.new) }
+        ensures deadlock { OnOk result (KeepsAccepted (command.Escalate t n) self.old self.new) }
         ensures caller { KeepsCaller (command.Escalate t n) (state_of self.old) (state_of self.new) }
         ensures others { StepLeavesOthers (state_of self.old) (command.Escalate t n) (said rose result) (state_of self.new) }
         ensures counted { OnOk result (self.new.accepted ≡ self.old.accepted + 1) }
-        ensures err { OnErr result (self.new ≡ self.old) }
+        ensures counters { self.new.counters ≡ counted (state_of self.old) (command.Escalate t n) (said rose result).0 (said rose result).1 (state_of self.new) self.old.counters }
+        ensures err { OnErr result (self.new ≡ refusing (command.Escalate t n) (said rose result).0 self.old) }
     {
         self.law();
         let mut told = Told::new();
-        let escalated = self.escalate_telling(t, n, &mut told)?;
-        Ok((escalated, told))
+        let outcome = self.escalate_telling(t, n, &mut told);
+        let command = Command::Escalate { txn: t, node: n };
+        self.count(&command, false, &escalate_answer(outcome), &told);
+        match outcome {
+            Ok(escalated) => Ok((escalated, told)),
+            Err(refusal) => Err(refusal),
+        }
     }
 
     /// As `escalate`, with the notices put into an empty list.
@@ -47,8 +57,10 @@ impl Manager {
     ) -> Result<Escalated, Refusal>
         requires empty { told.old.items ≡ [] }
         ensures step { CallSteps (state_of self.old) (command.Escalate t n) (rising told.new.items) result (state_of self.new) }
+        ensures deadlock { OnOk result (KeepsAccepted (command.Escalate t n) self.old self.new) }
         ensures untold { OnErr result (told.new ≡ told.old) }
         ensures counted { OnOk result (self.new.accepted ≡ self.old.accepted + 1) }
+        ensures counters { self.new.counters ≡ self.old.counters }
         ensures err { OnErr result (self.new ≡ self.old) }
     {
         self.check_escalate(t, n)?;

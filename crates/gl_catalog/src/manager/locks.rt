@@ -3,6 +3,7 @@
 
 ghost use Rattle.std.specs.Prelude.{◌≡◌, ◌+◌, [], OnErr, OnOk};
 ghost use Rattle.gl_catalog.specs.declared.command.Command.TheVariants as command;
+ghost use Rattle.gl_catalog.specs.Deadlocks.{KeepsAccepted};
 ghost use Rattle.gl_catalog.specs.Manager.{state_of};
 ghost use Rattle.gl_catalog.specs.Replies.{CallSteps, asking, began, doing, took};
 
@@ -14,7 +15,9 @@ impl Manager {
     /// Begins a transaction.
     pub(super) fn begin(&mut self) -> Result<TxnId, Refusal>
         ensures step { CallSteps (state_of self.old) command.Begin began result (state_of self.new) }
+        ensures deadlock { OnOk result (KeepsAccepted command.Begin self.old self.new) }
         ensures counted { OnOk result (self.new.accepted ≡ self.old.accepted + 1) }
+        ensures counters { self.new.counters ≡ self.old.counters }
         ensures err { OnErr result (self.new ≡ self.old) }
     {
         self.check_count()?;
@@ -34,8 +37,10 @@ impl Manager {
     ) -> Result<Locked, Refusal>
         requires empty { told.old.items ≡ [] }
         ensures step { CallSteps (state_of self.old) (command.Lock t n mode) (asking told.new.items) result (state_of self.new) }
+        ensures deadlock { OnOk result (KeepsAccepted (command.Lock t n mode) self.old self.new) }
         ensures untold { OnErr result (told.new ≡ told.old) }
         ensures counted { OnOk result (self.new.accepted ≡ self.old.accepted + 1) }
+        ensures counters { self.new.counters ≡ self.old.counters }
         ensures err { OnErr result (self.new ≡ self.old) }
     {
         self.check_count()?;
@@ -48,7 +53,9 @@ impl Manager {
     /// Asks for a mode on a node, and is refused where it cannot be granted at once.
     pub(super) fn try_lock(&mut self, t: TxnId, n: NodeId, mode: Mode) -> Result<Mode, Refusal>
         ensures step { CallSteps (state_of self.old) (command.Try t n mode) took result (state_of self.new) }
+        ensures deadlock { OnOk result (KeepsAccepted (command.Try t n mode) self.old self.new) }
         ensures counted { OnOk result (self.new.accepted ≡ self.old.accepted + 1) }
+        ensures counters { self.new.counters ≡ self.old.counters }
         ensures err { OnErr result (self.new ≡ self.old) }
     {
         self.check_count()?;
@@ -67,8 +74,10 @@ impl Manager {
     ) -> Result<(), Refusal>
         requires empty { told.old.items ≡ [] }
         ensures step { CallSteps (state_of self.old) (command.Unlock t n) (doing told.new.items) result (state_of self.new) }
+        ensures deadlock { OnOk result (KeepsAccepted (command.Unlock t n) self.old self.new) }
         ensures untold { OnErr result (told.new ≡ told.old) }
         ensures counted { OnOk result (self.new.accepted ≡ self.old.accepted + 1) }
+        ensures counters { self.new.counters ≡ self.old.counters }
         ensures err { OnErr result (self.new ≡ self.old) }
     {
         self.check_count()?;
@@ -82,8 +91,10 @@ impl Manager {
     pub(super) fn cancel_telling(&mut self, t: TxnId, told: &mut Told) -> Result<(), Refusal>
         requires empty { told.old.items ≡ [] }
         ensures step { CallSteps (state_of self.old) (command.Cancel t) (doing told.new.items) result (state_of self.new) }
+        ensures deadlock { OnOk result (KeepsAccepted (command.Cancel t) self.old self.new) }
         ensures untold { OnErr result (told.new ≡ told.old) }
         ensures counted { OnOk result (self.new.accepted ≡ self.old.accepted + 1) }
+        ensures counters { self.new.counters ≡ self.old.counters }
         ensures err { OnErr result (self.new ≡ self.old) }
     {
         self.check_count()?;
@@ -97,8 +108,10 @@ impl Manager {
     pub(super) fn commit_telling(&mut self, t: TxnId, told: &mut Told) -> Result<(), Refusal>
         requires empty { told.old.items ≡ [] }
         ensures step { CallSteps (state_of self.old) (command.Commit t) (doing told.new.items) result (state_of self.new) }
+        ensures deadlock { OnOk result (KeepsAccepted (command.Commit t) self.old self.new) }
         ensures untold { OnErr result (told.new ≡ told.old) }
         ensures counted { OnOk result (self.new.accepted ≡ self.old.accepted + 1) }
+        ensures counters { self.new.counters ≡ self.old.counters }
         ensures err { OnErr result (self.new ≡ self.old) }
     {
         self.check_count()?;
@@ -112,8 +125,10 @@ impl Manager {
     pub(super) fn abort_telling(&mut self, t: TxnId, told: &mut Told) -> Result<(), Refusal>
         requires empty { told.old.items ≡ [] }
         ensures step { CallSteps (state_of self.old) (command.Abort t) (doing told.new.items) result (state_of self.new) }
+        ensures deadlock { OnOk result (KeepsAccepted (command.Abort t) self.old self.new) }
         ensures untold { OnErr result (told.new ≡ told.old) }
         ensures counted { OnOk result (self.new.accepted ≡ self.old.accepted + 1) }
+        ensures counters { self.new.counters ≡ self.old.counters }
         ensures err { OnErr result (self.new ≡ self.old) }
     {
         self.check_count()?;
@@ -127,8 +142,10 @@ impl Manager {
     pub(super) fn settle_telling(&mut self, t: TxnId, told: &mut Told) -> Result<(), Refusal>
         requires empty { told.old.items ≡ [] }
         ensures step { CallSteps (state_of self.old) (command.Settle t) (doing told.new.items) result (state_of self.new) }
+        ensures deadlock { OnOk result (KeepsAccepted (command.Settle t) self.old self.new) }
         ensures untold { OnErr result (told.new ≡ told.old) }
         ensures counted { OnOk result (self.new.accepted ≡ self.old.accepted + 1) }
+        ensures counters { self.new.counters ≡ self.old.counters }
         ensures err { OnErr result (self.new ≡ self.old) }
     {
         self.check_count()?;

@@ -8,12 +8,15 @@ ghost use Rattle.gl_graph.specs.Shapes.{is_index_of_shape, is_movable_shape, is_
 ghost use Rattle.gl_table.specs.Refusals.{holds_x_on_all, need_exclusive, need_new_parents};
 ghost use Rattle.gl_table.specs.State.{lives};
 ghost use Rattle.gl_catalog.specs.declared.command.Command.TheVariants as command;
+ghost use Rattle.gl_catalog.specs.Deadlocks.{KeepsAccepted};
+ghost use Rattle.gl_catalog.specs.Counters.{counted};
 ghost use Rattle.gl_catalog.specs.Manager.{state_of};
 ghost use Rattle.gl_catalog.specs.Promises.{KeepsCaller, StepLeavesOthers};
 ghost use Rattle.gl_catalog.specs.Replies.{CallSteps, doing, done, said};
 ghost use Rattle.gl_catalog.specs.Tests.{move_asks, refusal_of, worn};
 
 use super::Manager;
+use crate::command::{Answer, Command};
 use arrayvec::ArrayVec;
 use gl_graph::Kind;
 use gl_modes::{Mode, NodeId, Refusal};
@@ -33,14 +36,23 @@ impl Manager {
     /// no memory.
     pub fn rekey(&mut self, t: TxnId, rec: NodeId, index: NodeId, key: u64) -> Result<Told, Refusal>
         ensures step { CallSteps (state_of self.old) (command.Rekey t rec index key) done result (state_of self.new) }
+        ensures deadlock { OnOk result (KeepsAccepted (command.Rekey t rec index key) self.old self.new) }
         ensures caller { KeepsCaller (command.Rekey t rec index key) (state_of self.old) (state_of self.new) }
         ensures others { StepLeavesOthers (state_of self.old) (command.Rekey t rec index key) (said done result) (state_of self.new) }
         ensures counted { OnOk result (self.new.accepted ≡ self.old.accepted + 1) }
+        ensures counters { self.new.counters ≡ counted (state_of self.old) (command.Rekey t rec index key) (said done result).0 (said done result).1 (state_of self.new) self.old.counters }
         ensures err { OnErr result (self.new ≡ self.old) }
     {
         self.law();
         let mut told = Told::new();
         self.rekey_telling(t, rec, index, key, &mut told)?;
+        let command = Command::Rekey {
+            txn: t,
+            rec,
+            index,
+            key,
+        };
+        self.count(&command, false, &Answer::Done, &told);
         Ok(told)
     }
 
@@ -55,8 +67,10 @@ impl Manager {
     ) -> Result<(), Refusal>
         requires empty { told.old.items ≡ [] }
         ensures step { CallSteps (state_of self.old) (command.Rekey t rec index key) (doing told.new.items) result (state_of self.new) }
+        ensures deadlock { OnOk result (KeepsAccepted (command.Rekey t rec index key) self.old self.new) }
         ensures untold { OnErr result (told.new ≡ told.old) }
         ensures counted { OnOk result (self.new.accepted ≡ self.old.accepted + 1) }
+        ensures counters { self.new.counters ≡ self.old.counters }
         ensures err { OnErr result (self.new ≡ self.old) }
     {
         self.check_rekey(t, rec, index, key)?;
@@ -79,14 +93,22 @@ impl Manager {
     /// or has a path to it) and `NoMemory`, which may come in place of `Cycle` too.
     pub fn relocate(&mut self, t: TxnId, n: NodeId, parents: &[NodeId]) -> Result<Told, Refusal>
         ensures step { CallSteps (state_of self.old) (command.Move t n parents.entry) done result (state_of self.new) }
+        ensures deadlock { OnOk result (KeepsAccepted (command.Move t n parents.entry) self.old self.new) }
         ensures caller { KeepsCaller (command.Move t n parents.entry) (state_of self.old) (state_of self.new) }
         ensures others { StepLeavesOthers (state_of self.old) (command.Move t n parents.entry) (said done result) (state_of self.new) }
         ensures counted { OnOk result (self.new.accepted ≡ self.old.accepted + 1) }
+        ensures counters { self.new.counters ≡ counted (state_of self.old) (command.Move t n parents.entry) (said done result).0 (said done result).1 (state_of self.new) self.old.counters }
         ensures err { OnErr result (self.new ≡ self.old) }
     {
         self.law();
         let mut told = Told::new();
         self.relocate_telling(t, n, parents, &mut told)?;
+        let command = Command::Move {
+            txn: t,
+            node: n,
+            parents,
+        };
+        self.count(&command, false, &Answer::Done, &told);
         Ok(told)
     }
 
@@ -100,8 +122,10 @@ impl Manager {
     ) -> Result<(), Refusal>
         requires empty { told.old.items ≡ [] }
         ensures step { CallSteps (state_of self.old) (command.Move t n parents.entry) (doing told.new.items) result (state_of self.new) }
+        ensures deadlock { OnOk result (KeepsAccepted (command.Move t n parents.entry) self.old self.new) }
         ensures untold { OnErr result (told.new ≡ told.old) }
         ensures counted { OnOk result (self.new.accepted ≡ self.old.accepted + 1) }
+        ensures counters { self.new.counters ≡ self.old.counters }
         ensures err { OnErr result (self.new ≡ self.old) }
     {
         self.check_relocate(t, n, parents)?;

@@ -2,6 +2,7 @@
 
 ghost use Rattle.std.specs.Prelude.{◌≡◌, ◌+◌, OnErr, OnOk};
 ghost use Rattle.gl_catalog.specs.declared.command.Command.TheVariants as command;
+ghost use Rattle.gl_catalog.specs.Deadlocks.{KeepsAccepted};
 ghost use Rattle.gl_catalog.specs.Manager.{state_of};
 ghost use Rattle.gl_catalog.specs.Replies.{CallSteps, made};
 
@@ -12,7 +13,9 @@ impl Manager {
     /// A new inner node.
     pub(super) fn add_inner(&mut self, parents: &[NodeId]) -> Result<NodeId, Refusal>
         ensures step { CallSteps (state_of self.old) (command.Inner parents.entry) made result (state_of self.new) }
+        ensures deadlock { OnOk result (KeepsAccepted (command.Inner parents.entry) self.old self.new) }
         ensures counted { OnOk result (self.new.accepted ≡ self.old.accepted + 1) }
+        ensures counters { self.new.counters ≡ self.old.counters }
         ensures err { OnErr result (self.new ≡ self.old) }
     {
         self.check_count()?;
@@ -25,7 +28,9 @@ impl Manager {
     /// A new file.
     pub(super) fn add_file(&mut self, parents: &[NodeId]) -> Result<NodeId, Refusal>
         ensures step { CallSteps (state_of self.old) (command.File parents.entry) made result (state_of self.new) }
+        ensures deadlock { OnOk result (KeepsAccepted (command.File parents.entry) self.old self.new) }
         ensures counted { OnOk result (self.new.accepted ≡ self.old.accepted + 1) }
+        ensures counters { self.new.counters ≡ self.old.counters }
         ensures err { OnErr result (self.new ≡ self.old) }
     {
         self.check_count()?;
@@ -43,7 +48,9 @@ impl Manager {
         bounds: &[u64],
     ) -> Result<NodeId, Refusal>
         ensures step { CallSteps (state_of self.old) (command.Index parents.entry file bounds.entry) made result (state_of self.new) }
+        ensures deadlock { OnOk result (KeepsAccepted (command.Index parents.entry file bounds.entry) self.old self.new) }
         ensures counted { OnOk result (self.new.accepted ≡ self.old.accepted + 1) }
+        ensures counters { self.new.counters ≡ self.old.counters }
         ensures err { OnErr result (self.new ≡ self.old) }
     {
         self.check_count()?;

@@ -5,12 +5,15 @@ ghost use Rattle.gl_graph.specs.Graph.{record_parents};
 ghost use Rattle.gl_graph.specs.Refusals.{first_refusal, verdict};
 ghost use Rattle.gl_table.specs.Answers.{RefusesOnly};
 ghost use Rattle.gl_catalog.specs.declared.command.Command.TheVariants as command;
+ghost use Rattle.gl_catalog.specs.Deadlocks.{KeepsAccepted};
+ghost use Rattle.gl_catalog.specs.Counters.{counted};
 ghost use Rattle.gl_catalog.specs.Manager.{state_of};
 ghost use Rattle.gl_catalog.specs.Promises.{StepLeavesOthers};
 ghost use Rattle.gl_catalog.specs.Replies.{CallSteps, doing, done, made, said};
 ghost use Rattle.gl_catalog.specs.Tests.{insert_tests, record_asks, refusal_of};
 
 use super::Manager;
+use crate::command::{Answer, Command};
 use arrayvec::ArrayVec;
 use gl_graph::Kind;
 use gl_modes::{Mode, NodeId, Refusal};
@@ -27,8 +30,11 @@ impl Manager {
     /// `NoMemory`.
     pub fn insert(&mut self, t: TxnId, file: NodeId, keys: &[u64]) -> Result<NodeId, Refusal>
         ensures step { CallSteps (state_of self.old) (command.Insert t file keys.entry) made result (state_of self.new) }
+        ensures deadlock { OnOk result (KeepsAccepted (command.Insert t file keys.entry) self.old self.new) }
         ensures others { StepLeavesOthers (state_of self.old) (command.Insert t file keys.entry) (said made result) (state_of self.new) }
         ensures counted { OnOk result (self.new.accepted ≡ self.old.accepted + 1) }
+        ensures counters { self.new.counters ≡ counted (state_of self.old) (command.Insert t file keys.entry) (said made result).0 (said made result).1 (state_of self.new) self.old.counters }
+        ensures uncounted { self.new.counters ≡ self.old.counters }
         ensures err { OnErr result (self.new ≡ self.old) }
     {
         self.law();
@@ -47,13 +53,17 @@ impl Manager {
     /// `NoSuchNode`, `BadParents` (the node is no record) and `NeedExclusive`. It takes no memory.
     pub fn delete(&mut self, t: TxnId, rec: NodeId) -> Result<Told, Refusal>
         ensures step { CallSteps (state_of self.old) (command.Delete t rec) done result (state_of self.new) }
+        ensures deadlock { OnOk result (KeepsAccepted (command.Delete t rec) self.old self.new) }
         ensures others { StepLeavesOthers (state_of self.old) (command.Delete t rec) (said done result) (state_of self.new) }
         ensures counted { OnOk result (self.new.accepted ≡ self.old.accepted + 1) }
+        ensures counters { self.new.counters ≡ counted (state_of self.old) (command.Delete t rec) (said done result).0 (said done result).1 (state_of self.new) self.old.counters }
         ensures err { OnErr result (self.new ≡ self.old) }
     {
         self.law();
         let mut told = Told::new();
         self.delete_telling(t, rec, &mut told)?;
+        let command = Command::Delete { txn: t, rec };
+        self.count(&command, false, &Answer::Done, &told);
         Ok(told)
     }
 
@@ -66,8 +76,10 @@ impl Manager {
     ) -> Result<(), Refusal>
         requires empty { told.old.items ≡ [] }
         ensures step { CallSteps (state_of self.old) (command.Delete t rec) (doing told.new.items) result (state_of self.new) }
+        ensures deadlock { OnOk result (KeepsAccepted (command.Delete t rec) self.old self.new) }
         ensures untold { OnErr result (told.new ≡ told.old) }
         ensures counted { OnOk result (self.new.accepted ≡ self.old.accepted + 1) }
+        ensures counters { self.new.counters ≡ self.old.counters }
         ensures err { OnErr result (self.new ≡ self.old) }
     {
         self.check_delete(t, rec)?;

@@ -19,6 +19,7 @@ impl Table {
         ensures begun { IfOk result (λ t. (free_slot (state_of self.old) ≡ Some t.slot)
             × (t.age ≡ (state_of self.old).begins + 1)
             × (state_of self.new ≡ begun (state_of self.old) t.slot)) }
+        ensures deadlock { self.new.deadlock ≡ self.old.deadlock }
         ensures goes { first_refusal (begin_tests (state_of self.old)) ≡ None → IsOk result }
         ensures refuses { Refuses (first_refusal (begin_tests (state_of self.old))) result }
         ensures err { OnErr result (self.new ≡ self.old) }

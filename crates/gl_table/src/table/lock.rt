@@ -9,6 +9,7 @@ ghost use Rattle.gl_graph.specs.Shapes.{is_record_shape};
 ghost use Rattle.gl_header.specs.Header.{holds};
 ghost use Rattle.gl_table.specs.Answers.{answered, locked_as};
 ghost use Rattle.gl_table.specs.Calls.{Locks, enters_at, granted, wanted};
+ghost use Rattle.gl_table.specs.Deadlocks.{LocksKeeping};
 ghost use Rattle.gl_table.specs.Refusals.{lock_tests, try_tests};
 ghost use Rattle.gl_table.specs.State.{members, status_of};
 ghost use Rattle.gl_table.specs.Table.{state_of};
@@ -26,8 +27,9 @@ use gl_modes::{Mode, NodeId, Refusal, sup};
 impl Table {
     /// Asks for a mode on a node, and waits where it cannot be granted at once. What is granted is
     /// the supremum of the held and the asked mode. With detection at block, the asker is settled then:
-    /// victims are condemned until it is on no circle. Answers what the ask came to, and
-    /// who else is told of a grant or of being a victim, by rising slot.
+    /// victims are condemned until it is on no circle, and the last deadlock that this ends is kept.
+    /// Answers what the ask came to, and who else is told of a grant or of being a victim, by rising
+    /// slot.
     ///
     /// Refused, in this order, with `NoSuchTxn`, `TxnWaiting`, `TxnCondemned`, `NoSuchNode`,
     /// `BadMode` (`NL`, or other than `S` and `X` on a record), `NeedParents` and `NoMemory`, which
@@ -36,6 +38,7 @@ impl Table {
         ensures answer { IfOk result (λ answer. answer.0 ≡ locked_as ((state_of self.new).held t.slot n) (status_of (state_of self.new) t.slot)) }
         ensures told { IfOk result (λ answer. answer.1.items ≡ told_but t.slot (state_of self.old) (state_of self.new)) }
         ensures state { OnOk result (Locks (state_of self.old) t.slot n mode (state_of self.new)) }
+        ensures deadlock { OnOk result (LocksKeeping (state_of self.old) t.slot n mode self.old.deadlock (state_of self.new) self.new.deadlock) }
         ensures refuses { Refuses (first_refusal (lock_tests (state_of self.old) t n mode)) result }
         ensures held { first_refusal (lock_tests (state_of self.old) t n mode) ≡ None → enters_at (state_of self.old) t.slot n mode ≡ true
             → holds (members (state_of self.old) n) t.slot ≡ true → IsOk result }
@@ -59,6 +62,7 @@ impl Table {
         ensures told { OnOk result (notices.new.items ≡ told_but t.slot (state_of self.old) (state_of self.new)) }
         ensures untold { OnErr result (notices.new ≡ notices.old) }
         ensures state { OnOk result (Locks (state_of self.old) t.slot n mode (state_of self.new)) }
+        ensures deadlock { OnOk result (LocksKeeping (state_of self.old) t.slot n mode self.old.deadlock (state_of self.new) self.new.deadlock) }
         ensures refuses { Refuses (first_refusal (lock_tests (state_of self.old) t n mode)) result }
         ensures held { first_refusal (lock_tests (state_of self.old) t n mode) ≡ None → enters_at (state_of self.old) t.slot n mode ≡ true
             → holds (members (state_of self.old) n) t.slot ≡ true → IsOk result }
@@ -68,8 +72,14 @@ impl Table {
         match self.locks.ask(&self.graph, t.slot, n, mode, held)? {
             Asked::Granted(granted) => Ok(Locked::Granted(granted)),
             Asked::Waiting => {
-                self.locks
-                    .settle_asker(&self.graph, self.detect, self.victims, t.slot, notices);
+                self.locks.settle_asker(
+                    &self.graph,
+                    self.detect,
+                    self.victims,
+                    t.slot,
+                    &mut self.deadlock,
+                    notices,
+                );
                 Ok(self.locks.outcome(t.slot, n))
             }
         }
@@ -84,6 +94,7 @@ impl Table {
     pub fn try_lock(&mut self, t: TxnId, n: NodeId, mode: Mode) -> Result<Mode, Refusal>
         ensures mode { IfOk result (λ m. m ≡ wanted (state_of self.old) t.slot n mode) }
         ensures state { OnOk result (state_of self.new ≡ granted (state_of self.old) t.slot n mode) }
+        ensures deadlock { self.new.deadlock ≡ self.old.deadlock }
         ensures refuses { Refuses (first_refusal (try_tests (state_of self.old) t n mode)) result }
         ensures held { first_refusal (try_tests (state_of self.old) t n mode) ≡ None → holds (members (state_of self.old) n) t.slot ≡ true → IsOk result }
         ensures err { OnErr result (self.new ≡ self.old) }

@@ -37,6 +37,7 @@ impl Table {
         requires exclusive { need_exclusive (state_of self.old) t.slot rec true (rekeyed_parents (state_of self.old).graph rec index key) ≡ None }
         requires parents { need_new_parents (state_of self.old) t.slot rec (rekeyed_parents (state_of self.old).graph rec index key) ≡ None }
         ensures state { state_of self.new ≡ moved_to (state_of self.old) rec (rekeyed_parents (state_of self.old).graph rec index key) (rekeyed (state_of self.old).graph rec index key) }
+        ensures deadlock { self.new.deadlock ≡ self.old.deadlock }
         ensures told { result.items ≡ told (state_of self.old) (state_of self.new) }
     {
         let mut told = Told::new();
@@ -61,6 +62,7 @@ impl Table {
         requires exclusive { need_exclusive (state_of self.old) t.slot rec true (rekeyed_parents (state_of self.old).graph rec index key) ≡ None }
         requires parents { need_new_parents (state_of self.old) t.slot rec (rekeyed_parents (state_of self.old).graph rec index key) ≡ None }
         ensures state { state_of self.new ≡ moved_to (state_of self.old) rec (rekeyed_parents (state_of self.old).graph rec index key) (rekeyed (state_of self.old).graph rec index key) }
+        ensures deadlock { self.new.deadlock ≡ self.old.deadlock }
         ensures told { notices.new.items ≡ told (state_of self.old) (state_of self.new) }
     {
         let old = parents_before(&self.graph, rec);
@@ -89,6 +91,7 @@ impl Table {
         requires rule { need_new_parents (state_of self.old) t.slot n parents.now ≡ None }
         ensures told { IfOk result (λ list. list.items ≡ told (state_of self.old) (state_of self.new)) }
         ensures state { OnOk result (state_of self.new ≡ moved_to (state_of self.old) n parents.now (with_parents (state_of self.old).graph n parents.now)) }
+        ensures deadlock { self.new.deadlock ≡ self.old.deadlock }
         ensures clear { OnOk result (first_cycle (state_of self.old).graph n parents.now ≡ None) }
         ensures refused { IfErr result (λ r. (r ≡ ARefusal.NoMemory) ⊎ (first_cycle (state_of self.old).graph n parents.now ≡ Some r)) }
         ensures err { OnErr result (self.new ≡ self.old) }
@@ -116,6 +119,7 @@ impl Table {
         ensures told { OnOk result (notices.new.items ≡ told (state_of self.old) (state_of self.new)) }
         ensures untold { OnErr result (notices.new ≡ notices.old) }
         ensures state { OnOk result (state_of self.new ≡ moved_to (state_of self.old) n parents.now (with_parents (state_of self.old).graph n parents.now)) }
+        ensures deadlock { self.new.deadlock ≡ self.old.deadlock }
         ensures clear { OnOk result (first_cycle (state_of self.old).graph n parents.now ≡ None) }
         ensures refused { IfErr result (λ r. (r ≡ ARefusal.NoMemory) ⊎ (first_cycle (state_of self.old).graph n parents.now ≡ Some r)) }
         ensures err { OnErr result (self.new ≡ self.old) }

@@ -19,6 +19,7 @@ impl Table {
     pub fn add_inner(&mut self, parents: &[NodeId]) -> Result<NodeId, Refusal>
         ensures made { IfOk result (λ n. IsBorn (state_of self.old).graph (state_of self.new).graph n Inner parents.now) }
         ensures state { OnOk result (state_of self.new ≡ with_graph (state_of self.old) (state_of self.new).graph) }
+        ensures deadlock { self.new.deadlock ≡ self.old.deadlock }
         ensures refuses { Refuses (inner_refusal (state_of self.old).graph parents.now) result }
         ensures err { OnErr result (self.new ≡ self.old) }
     {
@@ -33,6 +34,7 @@ impl Table {
     pub fn add_file(&mut self, parents: &[NodeId]) -> Result<NodeId, Refusal>
         ensures made { IfOk result (λ n. IsBorn (state_of self.old).graph (state_of self.new).graph n File parents.now) }
         ensures state { OnOk result (state_of self.new ≡ with_graph (state_of self.old) (state_of self.new).graph) }
+        ensures deadlock { self.new.deadlock ≡ self.old.deadlock }
         ensures refuses { Refuses (file_refusal (state_of self.old).graph parents.now) result }
         ensures err { OnErr result (self.new ≡ self.old) }
     {
@@ -55,6 +57,7 @@ impl Table {
     ) -> Result<NodeId, Refusal>
         ensures made { IfOk result (λ n. IsIndexBorn (state_of self.old).graph (state_of self.new).graph n parents.now file bounds.now) }
         ensures state { OnOk result (state_of self.new ≡ with_graph (state_of self.old) (state_of self.new).graph) }
+        ensures deadlock { self.new.deadlock ≡ self.old.deadlock }
         ensures refuses { Refuses (index_refusal (state_of self.old).graph parents.now file bounds.now) result }
         ensures err { OnErr result (self.new ≡ self.old) }
     {

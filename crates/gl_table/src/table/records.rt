@@ -35,6 +35,7 @@ impl Table {
         requires parents { first_not_ix ((state_of self.old).held t.slot) (record_parents (state_of self.old).graph file keys.now) ≡ None }
         ensures made { IfOk result (λ n. IsBorn (state_of self.old).graph (state_of self.new).graph n (Rec keys.now) (record_parents (state_of self.old).graph file keys.now)) }
         ensures state { IfOk result (λ n. state_of self.new ≡ with_grant (with_graph (state_of self.old) (state_of self.new).graph) t.slot n X) }
+        ensures deadlock { self.new.deadlock ≡ self.old.deadlock }
         ensures refuses { Refuses (first_refusal (worn_births (state_of self.old).graph ∷ too_many_nodes (state_of self.old).graph 1 ∷ [])) result }
         ensures err { OnErr result (self.new ≡ self.old) }
     {
@@ -64,6 +65,7 @@ impl Table {
         requires writable { first_not_ix ((state_of self.old).held t.slot) parents.now ≡ None }
         ensures made { IfOk result (λ n. IsBorn (state_of self.old).graph (state_of self.new).graph n (Rec keys.now) (record_parents (state_of self.old).graph file keys.now)) }
         ensures state { IfOk result (λ n. state_of self.new ≡ with_grant (with_graph (state_of self.old) (state_of self.new).graph) t.slot n X) }
+        ensures deadlock { self.new.deadlock ≡ self.old.deadlock }
         ensures memory { IfErr result (λ r. r ≡ ARefusal.NoMemory) }
         ensures err { OnErr result (self.new ≡ self.old) }
     {
@@ -83,6 +85,7 @@ impl Table {
         requires record { is_record_shape (shape_of (state_of self.old).graph rec) ≡ true }
         requires exclusive { same_mode ((state_of self.old).held t.slot rec) X ≡ true }
         ensures state { state_of self.new ≡ deleted (state_of self.old) rec }
+        ensures deadlock { self.new.deadlock ≡ self.old.deadlock }
         ensures told { result.items ≡ told (state_of self.old) (state_of self.new) }
     {
         let mut told = Told::new();
@@ -98,6 +101,7 @@ impl Table {
         requires record { is_record_shape (shape_of (state_of self.old).graph rec) ≡ true }
         requires exclusive { same_mode ((state_of self.old).held t.slot rec) X ≡ true }
         ensures state { state_of self.new ≡ deleted (state_of self.old) rec }
+        ensures deadlock { self.new.deadlock ≡ self.old.deadlock }
         ensures told { notices.new.items ≡ told (state_of self.old) (state_of self.new) }
     {
         self.locks.vacate(&self.graph, t.slot, rec, notices);

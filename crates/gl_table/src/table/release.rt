@@ -22,6 +22,7 @@ impl Table {
     pub fn unlock(&mut self, t: TxnId, n: NodeId) -> Result<Told, Refusal>
         ensures told { IfOk result (λ list. list.items ≡ told (state_of self.old) (state_of self.new)) }
         ensures state { OnOk result (state_of self.new ≡ unlocked (state_of self.old) t.slot n) }
+        ensures deadlock { self.new.deadlock ≡ self.old.deadlock }
         ensures refuses { RefusesOnly (first_refusal (unlock_tests (state_of self.old) t n)) result }
         ensures err { OnErr result (self.new ≡ self.old) }
     {
@@ -36,6 +37,7 @@ impl Table {
         ensures told { OnOk result (notices.new.items ≡ told (state_of self.old) (state_of self.new)) }
         ensures untold { OnErr result (notices.new ≡ notices.old) }
         ensures state { OnOk result (state_of self.new ≡ unlocked (state_of self.old) t.slot n) }
+        ensures deadlock { self.new.deadlock ≡ self.old.deadlock }
         ensures refuses { RefusesOnly (first_refusal (unlock_tests (state_of self.old) t n)) result }
         ensures err { OnErr result (self.new ≡ self.old) }
     {
@@ -53,6 +55,7 @@ impl Table {
     pub fn commit(&mut self, t: TxnId) -> Result<Told, Refusal>
         ensures told { IfOk result (λ list. list.items ≡ told (state_of self.old) (state_of self.new)) }
         ensures state { OnOk result (state_of self.new ≡ released (state_of self.old) t.slot) }
+        ensures deadlock { self.new.deadlock ≡ self.old.deadlock }
         ensures refuses { RefusesOnly (first_refusal (commit_tests (state_of self.old) t)) result }
         ensures err { OnErr result (self.new ≡ self.old) }
     {
@@ -67,6 +70,7 @@ impl Table {
         ensures told { OnOk result (notices.new.items ≡ told (state_of self.old) (state_of self.new)) }
         ensures untold { OnErr result (notices.new ≡ notices.old) }
         ensures state { OnOk result (state_of self.new ≡ released (state_of self.old) t.slot) }
+        ensures deadlock { self.new.deadlock ≡ self.old.deadlock }
         ensures refuses { RefusesOnly (first_refusal (commit_tests (state_of self.old) t)) result }
         ensures err { OnErr result (self.new ≡ self.old) }
     {
@@ -83,6 +87,7 @@ impl Table {
     pub fn abort(&mut self, t: TxnId) -> Result<Told, Refusal>
         ensures told { IfOk result (λ list. list.items ≡ told (state_of self.old) (state_of self.new)) }
         ensures state { OnOk result (state_of self.new ≡ released (state_of self.old) t.slot) }
+        ensures deadlock { self.new.deadlock ≡ self.old.deadlock }
         ensures refuses { RefusesOnly (first_refusal (living_tests (state_of self.old) t)) result }
         ensures err { OnErr result (self.new ≡ self.old) }
     {
@@ -97,6 +102,7 @@ impl Table {
         ensures told { OnOk result (notices.new.items ≡ told (state_of self.old) (state_of self.new)) }
         ensures untold { OnErr result (notices.new ≡ notices.old) }
         ensures state { OnOk result (state_of self.new ≡ released (state_of self.old) t.slot) }
+        ensures deadlock { self.new.deadlock ≡ self.old.deadlock }
         ensures refuses { RefusesOnly (first_refusal (living_tests (state_of self.old) t)) result }
         ensures err { OnErr result (self.new ≡ self.old) }
     {

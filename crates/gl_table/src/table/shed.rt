@@ -27,6 +27,7 @@ impl Table {
         requires active { status_of (state_of self.old) t.slot ≡ Some Active }
         requires reads { is_at_least ((state_of self.old).held t.slot n) S ≡ true }
         ensures state { state_of self.new ≡ shed (state_of self.old) t.slot n }
+        ensures deadlock { self.new.deadlock ≡ self.old.deadlock }
         ensures released { result.0 ≡ covered_children (state_of self.old) t.slot n }
         ensures kept { result.1 ≡ held_children (state_of self.old) t.slot n - covered_children (state_of self.old) t.slot n }
         ensures told { result.2.items ≡ told (state_of self.old) (state_of self.new) }
@@ -43,6 +44,7 @@ impl Table {
         requires active { status_of (state_of self.old) t.slot ≡ Some Active }
         requires reads { is_at_least ((state_of self.old).held t.slot n) S ≡ true }
         ensures state { state_of self.new ≡ shed (state_of self.old) t.slot n }
+        ensures deadlock { self.new.deadlock ≡ self.old.deadlock }
         ensures released { result.0 ≡ covered_children (state_of self.old) t.slot n }
         ensures kept { result.1 ≡ held_children (state_of self.old) t.slot n - covered_children (state_of self.old) t.slot n }
         ensures told { notices.new.items ≡ told (state_of self.old) (state_of self.new) }

@@ -4,6 +4,7 @@ ghost use Rattle.std.specs.Prelude.{◌≡◌, [], IfOk, OnErr, OnOk, true};
 ghost use Rattle.gl_graph.specs.Refusals.{first_refusal};
 ghost use Rattle.gl_table.specs.Answers.{RefusesOnly};
 ghost use Rattle.gl_table.specs.Calls.{cancelled};
+ghost use Rattle.gl_table.specs.Deadlocks.{SettlesKeeping};
 ghost use Rattle.gl_table.specs.Pumps.{is_waiting_at};
 ghost use Rattle.gl_table.specs.Refusals.{cancel_tests, living_tests};
 ghost use Rattle.gl_table.specs.Table.{state_of};
@@ -24,6 +25,7 @@ impl Table {
     pub fn cancel(&mut self, t: TxnId) -> Result<Told, Refusal>
         ensures told { IfOk result (λ list. list.items ≡ told_but t.slot (state_of self.old) (state_of self.new)) }
         ensures state { OnOk result (state_of self.new ≡ cancelled (state_of self.old) t.slot) }
+        ensures deadlock { self.new.deadlock ≡ self.old.deadlock }
         ensures refuses { RefusesOnly (first_refusal (cancel_tests (state_of self.old) t)) result }
         ensures err { OnErr result (self.new ≡ self.old) }
     {
@@ -38,6 +40,7 @@ impl Table {
         ensures told { OnOk result (notices.new.items ≡ told_but t.slot (state_of self.old) (state_of self.new)) }
         ensures untold { OnErr result (notices.new ≡ notices.old) }
         ensures state { OnOk result (state_of self.new ≡ cancelled (state_of self.old) t.slot) }
+        ensures deadlock { self.new.deadlock ≡ self.old.deadlock }
         ensures refuses { RefusesOnly (first_refusal (cancel_tests (state_of self.old) t)) result }
         ensures err { OnErr result (self.new ≡ self.old) }
     {
@@ -48,14 +51,16 @@ impl Table {
     }
 
     /// While the transaction waits in a circle, condemns the youngest of those on a circle with it, or,
-    /// where the fewest fall, the youngest of those that alone take it off all circles. Each victim's wait is given up, and its node grants from its front. Answers who is told of a
-    /// grant or of being a victim, by rising slot: nobody where it is on no circle, and then nothing
-    /// changes.
+    /// where the fewest fall, the youngest of those that alone take it off all circles. Each victim's
+    /// wait is given up, and its node grants from its front; the last deadlock that this ends is kept.
+    /// Answers who is told of a grant or of being a victim, by rising slot: nobody where it is on no
+    /// circle, and then nothing changes.
     ///
     /// Refused with `NoSuchTxn`. It takes no memory.
     pub fn settle(&mut self, t: TxnId) -> Result<Told, Refusal>
         ensures told { IfOk result (λ list. list.items ≡ told (state_of self.old) (state_of self.new)) }
         ensures state { OnOk result (Settled (state_of self.old).victims (state_of self.old) t.slot (state_of self.new)) }
+        ensures deadlock { OnOk result (SettlesKeeping (state_of self.old).victims (state_of self.old) t.slot self.old.deadlock (state_of self.new) self.new.deadlock) }
         ensures idle { IsOnNoCycle (waits_for (state_of self.old)) t.slot → IfOk result (λ list. (list.items ≡ []) × (state_of self.new ≡ state_of self.old)) }
         ensures refuses { RefusesOnly (first_refusal (living_tests (state_of self.old) t)) result }
         ensures err { OnErr result (self.new ≡ self.old) }
@@ -71,13 +76,19 @@ impl Table {
         ensures told { OnOk result (notices.new.items ≡ told (state_of self.old) (state_of self.new)) }
         ensures untold { OnErr result (notices.new ≡ notices.old) }
         ensures state { OnOk result (Settled (state_of self.old).victims (state_of self.old) t.slot (state_of self.new)) }
+        ensures deadlock { OnOk result (SettlesKeeping (state_of self.old).victims (state_of self.old) t.slot self.old.deadlock (state_of self.new) self.new.deadlock) }
         ensures idle { IsOnNoCycle (waits_for (state_of self.old)) t.slot → OnOk result ((notices.new.items ≡ []) × (state_of self.new ≡ state_of self.old)) }
         ensures refuses { RefusesOnly (first_refusal (living_tests (state_of self.old) t)) result }
         ensures err { OnErr result (self.new ≡ self.old) }
     {
         self.check_txn(t)?;
-        self.locks
-            .settle(&self.graph, self.victims, t.slot, notices);
+        self.locks.settle(
+            &self.graph,
+            self.victims,
+            t.slot,
+            &mut self.deadlock,
+            notices,
+        );
         Ok(())
     }
 

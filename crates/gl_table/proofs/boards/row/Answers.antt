@@ -1,33 +1,6 @@
-use Rattle.std.proofs.Common.{◌≡◌, ℕ, Bool, true, false, not, ◌&&◌, ◌||◌, ◌==◌, refl, sym, ap, ◌∙◌}
-use Rattle.gl_modes.specs.declared.mode.Mode.{Mode}
-use Rattle.gl_modes.specs.Modes.{are_compatible}
-use Rattle.gl_modes.proofs.ModeLemmas.{NL-compatible}
-use Rattle.gl_header.specs.Header.{Members, is_ahead}
-use Rattle.gl_header.specs.State.{HeaderState, members_of, unused_header}
-use Rattle.gl_header.proofs.Unused.{unused-nobody}
+use Rattle.std.proofs.Common.{ap, ◌∙◌}
 use Rattle.gl_waits.specs.Sets.{has_slot}
-use Rattle.gl_waits.proofs.SetLemmas.{has_slot-zero}
-use Rattle.gl_table.specs.Headers.{header_or_new}
 use Rattle.gl_table.proofs.boards.row.Goals as goal
 
--- whether s waits for u, where it waits for the mode in this header
-abbrev blocked : ℕ → ℕ → Mode → HeaderState → Bool
-blocked s u w h = not (s == u) && (not (are_compatible w (members_of h u)) || is_ahead h.queue s u)
-
-nobody-blocks : (s u : ℕ) (w : Mode) → blocked s u w unused_header ≡ false
-nobody-blocks s u w =
-    ap (λ (g : Members). not (s == u) && (not (are_compatible w (g u)) || false)) unused-nobody
-    ∙ (ap (λ b. not (s == u) && (not b || false)) (NL-compatible w) ∙ last (not (s == u)))
-  where
-    last : (b : Bool) → (b && false) ≡ false
-    last true = refl
-    last false = refl
-
-pub returns-in-Some : goal.returns-in-Some
-returns-in-Some c = λ u.
-    ap (λ n. has_slot n u) c.bits.ensures
-    ∙ (c.waits_for.ensures u ∙ ap (blocked c.args.slot u c.args.wanted) (ap header_or_new c.in-Some.ensures.value))
-
-pub returns-in-None : goal.returns-in-None
-returns-in-None c = λ u.
-    has_slot-zero u ∙ (sym (nobody-blocks c.args.slot u c.args.wanted) ∙ ap (λ o. blocked c.args.slot u c.args.wanted (header_or_new o)) c.in-None.ensures.value)
+pub returns : goal.returns
+returns c = λ u. ap (λ n. has_slot n u) c.bits.ensures ∙ c.waits_for.ensures u

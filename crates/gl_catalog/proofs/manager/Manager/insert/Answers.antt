@@ -73,4 +73,4 @@ returns-clause-step c =
 
 pub returns-clause-others : goal.returns-clause-others
 returns-clause-others c =
-    step_leaves_others (state_of c.args.self.now) (state_of (record { table = c.place_under.new.self; accepted = c.self.inside.accepted + 1 })) (command.Insert c.args.t c.args.file c.args.keys) (made c.in_ok-rec.rec) c.law.ensures.lawful (returns-clause-step c)
+    step_leaves_others (state_of c.args.self.now) (state_of (record { table = c.place_under.new.self; accepted = c.self.inside.accepted + 1; counters = c.self.inside.counters })) (command.Insert c.args.t c.args.file c.args.keys) (made c.in_ok-rec.rec) c.law.ensures.lawful (returns-clause-step c)

@@ -4,7 +4,7 @@ use Rattle.gl_table.specs.declared.txn.TxnId.{TxnId}
 use Rattle.gl_shared.specs.Served.{RisingTo, accepts}
 use Rattle.gl_table.specs.State.{State}
 use Rattle.gl_catalog.proofs.Detection.{steps_keep_detect}
-use Rattle.gl_shared.specs.State.{Delivers, GuardedView, Slot}
+use Rattle.gl_shared.specs.State.{Delivers, GuardedView, Slot, unaccepted}
 use Rattle.gl_shared.proofs.Idle.{quiet_on}
 use Rattle.gl_shared.proofs.Notices.{delivers_none}
 use Rattle.gl_shared.proofs.Rising.{step_rises}
@@ -38,7 +38,7 @@ returns-then-not-is_accepted-clause-refused g c =
     let no : accepts c.args.command c.apply_telling-answer.result ≡ false = search rules in
     let still = (step_counts _ _ _ _ _ c.apply_telling-answer.ensures.step).not_accepted no in
     let same = c.apply_telling-answer.ensures.same (ap (λ (s : State). s.accepted) still.0) in
-    λ _. (rw same c.self.view_is, refl, still.1)
+    λ _. (rw same (ap (unaccepted c.args.command c.apply_telling-answer.result) c.self.view_is), refl, still.1)
 
 pub returns-then-not-is_accepted-clause-boxes : goal.returns-then-not-is_accepted-clause-boxes
 returns-then-not-is_accepted-clause-boxes g c =

@@ -4,7 +4,7 @@ use Rattle.gl_graph.specs.View.{graph_of}
 use Rattle.gl_table.specs.Locks.{state_on}
 use Rattle.gl_table.specs.State.{State}
 use Rattle.gl_table.proofs.FewerWait.{fewer_wait, how_many_wait}
-use Rattle.gl_table.proofs.Settling.{settled_turn}
+use Rattle.gl_table.proofs.Settling.{keeping_turn, settles-keeping}
 use Rattle.gl_table.proofs.locks.Locks.settle.Goals as goal
 
 pub loop-victim-smaller : goal.loop-victim-smaller
@@ -26,11 +26,15 @@ loop-victim-preserved c =
       seated = subst (λ (k : ℕ). c.args.slot < k) (sym (ap (λ x. x.most) now.state)) before.seated;
       by_slot = now.by_slot;
       untold = now.untold;
-      settled = λ s' rest. before.settled s' (settled_turn c.args.victims (state_on g c.loop-victim.self) (state_on g c.condemn.new.self) s' c.args.slot c.in-Some.victim (c.in-Some.ensures.some g before.orderly) now.state rest);
+      settled = λ s' d' rest. before.settled s' d' (keeping_turn c.args.victims (state_on g c.loop-victim.self) (state_on g c.condemn.new.self) s' c.args.slot c.in-Some.victim c.loop-victim.deadlock c.keep_deadlock.new.deadlock d' (c.in-Some.ensures.some g before.orderly) (c.keep_deadlock.ensures g) now.state rest);
       ways = λ s way. now.ways s (before.ways s way);
       tells = λ s way same. now.tells s (before.ways s way) (before.tells s way same);
     }
 
+pub returns-clause-deadlock : goal.returns-clause-deadlock
+returns-clause-deadlock c = let now = c.loop-victim.invariant in
+    now.settled (state_on (graph_of c.args.graph.now) c.loop-victim.self) c.loop-victim.deadlock (0, (c.in_default.ensures.none (graph_of c.args.graph.now) now.orderly, refl, refl))
+
 pub returns-clause-state : goal.returns-clause-state
-returns-clause-state c = let now = c.loop-victim.invariant in
-    now.settled (state_on (graph_of c.args.graph.now) c.loop-victim.self) (0, (c.in_default.ensures.none (graph_of c.args.graph.now) now.orderly, refl))
+returns-clause-state c = let g = graph_of c.args.graph.now in
+    settles-keeping c.args.victims (state_on g c.args.self.now) c.args.slot c.args.deadlock.now (state_on g c.loop-victim.self) c.loop-victim.deadlock (returns-clause-deadlock c)

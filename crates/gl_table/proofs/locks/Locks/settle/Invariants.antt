@@ -5,7 +5,7 @@ use Rattle.gl_table.proofs.Settling.{IsSettling}
 use Rattle.gl_table.proofs.locks.Locks.settle.Given as goal
 
 abbrev pub invariant-loop-victim : goal.invariant-loop-victim
-invariant-loop-victim l = IsSettling (graph_of l.fn.graph) l.victims l.initial.self l.initial.told.items l.slot l.self l.told.items
+invariant-loop-victim l = IsSettling (graph_of l.fn.graph) l.victims l.initial.self l.initial.deadlock l.initial.told.items l.slot l.self l.deadlock l.told.items
 
 -- each victim leaves fewer that wait
 abbrev pub decreases-loop-victim : goal.decreases-loop-victim

@@ -4,13 +4,14 @@ use Rattle.gl_modes.specs.declared.refusal.Refusal.{Refusal}
 use Rattle.gl_graph.specs.Refusals.{Refuses, first_refusal}
 use Rattle.gl_table.specs.Answers.{locked_as}
 use Rattle.gl_table.specs.Calls.{Locks, enters_at}
+use Rattle.gl_table.specs.Deadlocks.{LocksKeeping}
 use Rattle.gl_table.specs.Refusals.{lock_tests}
 use Rattle.gl_table.specs.Sound.{view_of}
 use Rattle.gl_table.specs.State.{status_of}
 use Rattle.gl_table.specs.Table.{TableView, state_of}
 use Rattle.gl_table.specs.declared.txn.Status.TheVariants.{Active}
 use Rattle.gl_table.specs.Tellings.{told_but}
-use Rattle.gl_table.proofs.Blocking.{granted_answer, granted_locks, granted_told, sound_locked, state_locked, told_locked, waiting_orderly}
+use Rattle.gl_table.proofs.Blocking.{granted_answer, granted_keeps, granted_locks, granted_told, kept_locked, sound_locked, state_locked, told_locked, waiting_orderly}
 use Rattle.gl_table.proofs.GrantKeeps.{txn_there}
 use Rattle.gl_table.proofs.Grants.{answer-enters, answer-granted, answer-waits}
 use Rattle.gl_table.proofs.LockKeeps.{MayLock}
@@ -88,6 +89,13 @@ returns-in-Granted-clause-state c =
     (granted_locks (state_of (view_of c.self.inside)) after c.args.t.slot c.args.n c.args.mode f
     (state_granted c.self.inside c.self.invariant c.args.t c.args.n c.args.mode (may at.After-ask) f c.ask.new.self (c.in_ok-granted.ensures.granted f)))
 
+pub returns-in-Granted-clause-deadlock : goal.returns-in-Granted-clause-deadlock
+returns-in-Granted-clause-deadlock c =
+    let at = goal.at.returns-in-Granted-clause-deadlock c in let f = fits at.In-Granted in
+    let after = state_of (view_of (record c.self.inside { locks = c.ask.new.self })) in
+    subst (λ (v : TableView). LocksKeeping (state_of v) c.args.t.slot c.args.n c.args.mode v.deadlock after c.self.inside.deadlock) c.self.view_is
+    (granted_keeps (state_of (view_of c.self.inside)) after c.args.t.slot c.args.n c.args.mode c.self.inside.deadlock f)
+
 pub returns-in-Granted-clause-refuses : goal.returns-in-Granted-clause-refuses
 returns-in-Granted-clause-refuses c =
     unrefused _ _ (answered-ok _ _ _ c.in_ok-held.ensures).0
@@ -107,26 +115,33 @@ pub invariant_of-self-in-Waiting : goal.invariant_of-self-in-Waiting
 invariant_of-self-in-Waiting c =
     let at = goal.at.invariant_of-self-in-Waiting c in let b = blocks at.In-Waiting in
     let settled = c.settle_asker.ensures in
-    sound_locked c.self.inside c.self.invariant c.args.t c.args.n c.args.mode (may at.After-ask) b c.ask.new.self (c.in_ok-granted.ensures.waits b) c.settle_asker.new.self settled.state settled.sound settled.agree settled.count
+    sound_locked c.self.inside c.self.invariant c.args.t c.args.n c.args.mode (may at.After-ask) b c.ask.new.self (c.in_ok-granted.ensures.waits b) c.settle_asker.new.self c.settle_asker.new.deadlock settled.state settled.sound settled.agree settled.count
 
 pub returns-in-Waiting-clause-answer : goal.returns-in-Waiting-clause-answer
 returns-in-Waiting-clause-answer c =
     c.outcome.ensures
-    ∙ ap (λ m. locked_as m (status_of (state_of (view_of (record c.self.inside { locks = c.settle_asker.new.self }))) c.args.t.slot)) ((c.settle_asker.ensures.agree c.args.t.slot).modes c.args.n)
+    ∙ ap (λ m. locked_as m (status_of (state_of (view_of (record c.self.inside { locks = c.settle_asker.new.self; deadlock = c.settle_asker.new.deadlock }))) c.args.t.slot)) ((c.settle_asker.ensures.agree c.args.t.slot).modes c.args.n)
 
 pub returns-in-Waiting-clause-told : goal.returns-in-Waiting-clause-told
 returns-in-Waiting-clause-told c =
     let at = goal.at.returns-in-Waiting-clause-told c in let b = blocks at.In-Waiting in
-    let after = state_of (view_of (record c.self.inside { locks = c.settle_asker.new.self })) in
-    told_locked c.self.inside c.self.invariant c.args.t c.args.n c.args.mode (may at.After-ask) b c.ask.new.self (c.in_ok-granted.ensures.waits b) c.settle_asker.new.self c.settle_asker.ensures.state
+    let after = state_of (view_of (record c.self.inside { locks = c.settle_asker.new.self; deadlock = c.settle_asker.new.deadlock })) in
+    told_locked c.self.inside c.self.invariant c.args.t c.args.n c.args.mode (may at.After-ask) b c.ask.new.self (c.in_ok-granted.ensures.waits b) c.settle_asker.new.self c.settle_asker.new.deadlock c.settle_asker.ensures.state
     c.settle_asker.new.told.items c.settle_asker.ensures.told
     ∙ ap (λ (v : TableView). told_but c.args.t.slot (state_of v) after) c.self.view_is
 
 pub returns-in-Waiting-clause-state : goal.returns-in-Waiting-clause-state
 returns-in-Waiting-clause-state c =
     let at = goal.at.returns-in-Waiting-clause-state c in let b = blocks at.In-Waiting in
-    subst (λ (v : TableView). Locks (state_of v) c.args.t.slot c.args.n c.args.mode (state_of (view_of (record c.self.inside { locks = c.settle_asker.new.self })))) c.self.view_is
-    (state_locked c.self.inside c.self.invariant c.args.t c.args.n c.args.mode (may at.After-ask) b c.ask.new.self (c.in_ok-granted.ensures.waits b) c.settle_asker.new.self c.settle_asker.ensures.state)
+    subst (λ (v : TableView). Locks (state_of v) c.args.t.slot c.args.n c.args.mode (state_of (view_of (record c.self.inside { locks = c.settle_asker.new.self; deadlock = c.settle_asker.new.deadlock })))) c.self.view_is
+    (state_locked c.self.inside c.self.invariant c.args.t c.args.n c.args.mode (may at.After-ask) b c.ask.new.self (c.in_ok-granted.ensures.waits b) c.settle_asker.new.self c.settle_asker.new.deadlock c.settle_asker.ensures.state)
+
+pub returns-in-Waiting-clause-deadlock : goal.returns-in-Waiting-clause-deadlock
+returns-in-Waiting-clause-deadlock c =
+    let at = goal.at.returns-in-Waiting-clause-deadlock c in let b = blocks at.In-Waiting in
+    let after = state_of (view_of (record c.self.inside { locks = c.settle_asker.new.self; deadlock = c.settle_asker.new.deadlock })) in
+    subst (λ (v : TableView). LocksKeeping (state_of v) c.args.t.slot c.args.n c.args.mode v.deadlock after c.settle_asker.new.deadlock) c.self.view_is
+    (kept_locked c.self.inside c.self.invariant c.args.t c.args.n c.args.mode (may at.After-ask) b c.ask.new.self (c.in_ok-granted.ensures.waits b) c.settle_asker.new.self c.settle_asker.new.deadlock c.settle_asker.ensures.state c.settle_asker.ensures.deadlock)
 
 pub returns-in-Waiting-clause-refuses : goal.returns-in-Waiting-clause-refuses
 returns-in-Waiting-clause-refuses c =

@@ -1,0 +1,170 @@
+-- What a manager counts: what each command adds to its counters (own).
+use Rattle.std.specs.Prelude.{ℕ, ◌+◌, ◌-◌, Bool, true, false, not, ◌&&◌, length, max, min, if◌then◌else◌}
+use Rattle.std.specs.List.{count_by}
+use Rattle.gl_modes.specs.declared.node.NodeId.{NodeId}
+use Rattle.gl_modes.specs.declared.refusal.Refusal.TheVariants as no
+use Rattle.gl_graph.specs.Refusals.{max_count}
+use Rattle.gl_header.specs.Header.{holds}
+use Rattle.gl_table.specs.declared.notice.Notice.{Notice}
+use Rattle.gl_table.specs.declared.notice.Notice.TheVariants as notice
+use Rattle.gl_table.specs.declared.txn.TxnId.{TxnId}
+use Rattle.gl_table.specs.State.{State, lives, members, slots, status_of}
+use Rattle.gl_table.specs.Tellings.{Told}
+use Rattle.gl_table.specs.Waiting.{is_wait}
+use Rattle.gl_catalog.specs.declared.command.Answer.{Answer}
+use Rattle.gl_catalog.specs.declared.command.Answer.TheVariants as answer
+use Rattle.gl_catalog.specs.declared.command.Command.{Command}
+use Rattle.gl_catalog.specs.declared.command.Command.TheVariants as command
+use Rattle.gl_catalog.specs.declared.counters.Counters.{Counters}
+use Rattle.gl_catalog.specs.Manager.{ManagerView}
+
+-- a manager that was just made has counted nothing
+abbrev pub no_counts : Counters
+no_counts =
+    record {
+      granted = 0;
+      waited = 0;
+      would_block = 0;
+      conversions = 0;
+      granted_later = 0;
+      victims = 0;
+      moved = 0;
+      gone = 0;
+      escalations = 0;
+      released_children = 0;
+      most_waiting = 0;
+      longest_queue = 0;
+    }
+
+-- a count that rises by so many, or by as many as there is room for: it stops at the greatest count
+abbrev pub rises : ℕ → ℕ → ℕ
+rises k n = k + min n (max_count - k)
+
+-- one, or none
+abbrev pub one_if : Bool → ℕ
+one_if true = 1
+one_if false = 0
+
+-- the answer grants a mode
+abbrev pub grants : Answer → Bool
+grants (answer.Granted m) = true
+grants a = false
+
+-- the answer leaves its asker waiting
+abbrev pub waits : Answer → Bool
+waits answer.Waiting = true
+waits a = false
+
+-- the answer condemns its asker
+abbrev pub condemns : Answer → Bool
+condemns answer.Victim = true
+condemns a = false
+
+-- the answer refuses
+abbrev pub refuses : Answer → Bool
+refuses (answer.Refused r) = true
+refuses a = false
+
+-- the answer refuses what could only have been granted after a wait
+abbrev pub refuses_wait : Answer → Bool
+refuses_wait (answer.Refused no.WouldBlock) = true
+refuses_wait a = false
+
+-- a try or an escalation that would have had to wait: no other command is refused for that
+abbrev pub would_block : Command → Answer → Bool
+would_block (command.Try t n m) a = refuses_wait a
+would_block (command.Escalate t n) a = refuses_wait a
+would_block c a = false
+
+-- t lives, and holds n
+abbrev pub holds_already : State → TxnId → NodeId → Bool
+holds_already s t n = lives s t && holds (members s n) t.slot
+
+-- a lock or a try of a node that its transaction holds already, which asks for another mode there
+abbrev pub converts : State → Command → Bool
+converts s (command.Lock t n m) = holds_already s t n
+converts s (command.Try t n m) = holds_already s t n
+converts s c = false
+
+-- an escalation was done
+abbrev pub escalates : Answer → Bool
+escalates (answer.Escalated x) = true
+escalates a = false
+
+-- how many children it released
+abbrev pub released_by : Answer → ℕ
+released_by (answer.Escalated x) = x.released
+released_by a = 0
+
+-- the notice tells of a grant
+abbrev pub is_grant : TxnId × Notice → Bool
+is_grant (t, notice.Granted n m) = true
+is_grant (t, x) = false
+
+-- it tells of being condemned
+abbrev pub is_victim : TxnId × Notice → Bool
+is_victim (t, notice.Victim) = true
+is_victim (t, x) = false
+
+-- it tells that the node moved
+abbrev pub is_moved : TxnId × Notice → Bool
+is_moved (t, notice.Moved) = true
+is_moved (t, x) = false
+
+-- it tells that the node is gone
+abbrev pub is_gone : TxnId × Notice → Bool
+is_gone (t, notice.Gone) = true
+is_gone (t, x) = false
+
+-- how many transactions wait
+abbrev pub waiting_in : State → ℕ
+waiting_in s = count_by (λ t. is_wait (status_of s t)) (slots s)
+
+-- how long the queue is of the node that a lock asks for
+abbrev pub queue_asked : Command → State → ℕ
+queue_asked (command.Lock t n m) s = length (s.queue n)
+queue_asked c s = 0
+
+-- the law of a step: the counters after a command in state s that was answered a, told these and left s', where they were k before. Notices of grants are of asks that waited, so granted does not count them; a victim is one who was told so or one whose own lock was answered so.
+abbrev pub counted : State → Command → Answer → Told → State → Counters → Counters
+counted s c a told' s' k =
+    record {
+      granted = rises k.granted (one_if (grants a));
+      waited = rises k.waited (one_if (waits a));
+      would_block = rises k.would_block (one_if (would_block c a));
+      conversions = rises k.conversions (one_if (not (refuses a) && converts s c));
+      granted_later = rises k.granted_later (count_by is_grant told');
+      victims = rises k.victims (count_by is_victim told' + one_if (condemns a));
+      moved = rises k.moved (count_by is_moved told');
+      gone = rises k.gone (count_by is_gone told');
+      escalations = rises k.escalations (one_if (escalates a));
+      released_children = rises k.released_children (released_by a);
+      most_waiting = max k.most_waiting (if waits a then waiting_in s' else 0);
+      longest_queue = max k.longest_queue (if waits a then queue_asked c s' else 0);
+    }
+
+-- the counters with one notice
+abbrev pub with_notice : Notice → Counters → Counters
+with_notice (notice.Granted n m) k = record k { granted_later = rises k.granted_later 1 }
+with_notice notice.Victim k = record k { victims = rises k.victims 1 }
+with_notice notice.Moved k = record k { moved = rises k.moved 1 }
+with_notice notice.Gone k = record k { gone = rises k.gone 1 }
+
+-- the counters with the notices of one command
+abbrev pub with_notices : Told → Counters → Counters
+with_notices told' k =
+    record k {
+      granted_later = rises k.granted_later (count_by is_grant told');
+      victims = rises k.victims (count_by is_victim told');
+      moved = rises k.moved (count_by is_moved told');
+      gone = rises k.gone (count_by is_gone told');
+    }
+
+-- the counters, with one that would have had to wait, or without
+abbrev pub with_block : Bool → Counters → Counters
+with_block true k = record k { would_block = rises k.would_block 1 }
+with_block false k = k
+
+-- a manager behind a command that it refused or that only asked: all is as before, but that a try or an escalation that would have had to wait is counted
+abbrev pub refusing : Command → Answer → ManagerView → ManagerView
+refusing c a m = record m { counters = with_block (would_block c a) m.counters }

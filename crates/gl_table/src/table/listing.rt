@@ -1,0 +1,111 @@
+//! Listings: who holds what and who waits where, one after the other. None of these takes memory, and
+//! all that is asked between two commands is of one moment.
+
+ghost use Rattle.std.specs.Prelude.{◌≡◌, ◌||◌, ℕ, IfOk, None, Some, get_or, if◌then◌else◌, length, map, slice_get};
+ghost use Rattle.gl_graph.specs.Refusals.{first_refusal};
+ghost use Rattle.gl_header.specs.Header.{holds};
+ghost use Rattle.gl_slots.specs.Slots.{has_slot};
+ghost use Rattle.gl_table.specs.Answers.{RefusesOnly};
+ghost use Rattle.gl_table.specs.Listing.{AreRowsOf, living_in, rows_of};
+ghost use Rattle.gl_table.specs.Refusals.{group_tests, living_tests};
+ghost use Rattle.gl_table.specs.State.{lives, members};
+ghost use Rattle.gl_table.specs.Table.{state_of};
+ghost use Rattle.gl_table.specs.Waiting.{waits_for};
+
+use super::Table;
+use crate::headers::{holders, queue, waits_for};
+use crate::lock_row::LockRow;
+use crate::txn::{Status, TxnId};
+use gl_modes::{Mode, NodeId, Refusal};
+use gl_slots::Slots;
+
+impl Table {
+    /// How many transactions may live at once: their slots are those below.
+    pub fn most(&self) -> usize
+        ensures { result ≡ (state_of self.now).most }
+    {
+        self.locks.seats.as_slice().len()
+    }
+
+    /// The transaction in a slot, and what it is doing; `None` for a free slot.
+    pub fn living(&self, slot: u8) -> Option<(TxnId, Status)>
+        ensures { result ≡ living_in (state_of self.now) slot }
+    {
+        let seat = self.locks.seat(slot)?;
+        Some((
+            TxnId {
+                slot,
+                age: seat.age,
+            },
+            seat.status,
+        ))
+    }
+
+    /// How many nodes a transaction holds or waits for; `None` where it does not live.
+    pub fn lock_count(&self, t: TxnId) -> Option<usize>
+        ensures { result ≡ (if lives (state_of self.now) t then Some (length (rows_of self.now t.slot)) else None) }
+    {
+        match self.status(t) {
+            Some(_) => Some(self.locks.rows(t.slot)),
+            None => None,
+        }
+    }
+
+    /// The row at a place among the nodes that a transaction holds or waits for; `None` where it does
+    /// not live or has no more. A command may change the places.
+    pub fn lock_at(&self, t: TxnId, place: usize) -> Option<LockRow>
+        ensures row { result ≡ (if lives (state_of self.now) t then slice_get (rows_of self.now t.slot) place else None) }
+        ensures rows { AreRowsOf (state_of self.now) t.slot (rows_of self.now t.slot) }
+    {
+        self.law();
+        match self.status(t) {
+            Some(_) => self.locks.row(t.slot, place),
+            None => None,
+        }
+    }
+
+    /// The slots of those who hold a node. Refused with `NoSuchNode`.
+    pub fn holders(&self, n: NodeId) -> Result<Slots, Refusal>
+        ensures holders { IfOk result (λ slots. (u : ℕ) → has_slot slots u ≡ holds (members (state_of self.now) n) u) }
+        ensures refused { RefusesOnly (first_refusal (group_tests (state_of self.now) n)) result }
+    {
+        self.check_node(n)?;
+        Ok(holders(&self.locks.headers, n))
+    }
+
+    /// The mode in which the transaction of a slot holds a node, `NL` for none.
+    pub fn mode_at(&self, slot: u8, n: NodeId) -> Mode
+        ensures { result ≡ (state_of self.now).held slot n }
+    {
+        self.locks.mode(slot, n)
+    }
+
+    /// Who waits for a node, by slot, with the wanted modes, in the queue's order. Refused with
+    /// `NoSuchNode`.
+    pub fn queue(&self, n: NodeId) -> Result<&[(u8, Mode)], Refusal>
+        ensures queue { IfOk result (λ waiters. waiters.now ≡ (state_of self.now).queue n) }
+        ensures refused { RefusesOnly (first_refusal (group_tests (state_of self.now) n)) result }
+    {
+        self.check_node(n)?;
+        Ok(queue(&self.locks.headers, n))
+    }
+
+    /// The slots of those for whom a transaction waits: who holds the node in a mode that does not go
+    /// with the wanted one, and who stands ahead in its queue. Nobody where it does not wait. Refused
+    /// with `NoSuchTxn`.
+    pub fn waits_for(&self, t: TxnId) -> Result<Slots, Refusal>
+        ensures waits { IfOk result (λ slots. (u : ℕ) → has_slot slots u ≡ waits_for (state_of self.now) t.slot u) }
+        ensures refused { RefusesOnly (first_refusal (living_tests (state_of self.now) t)) result }
+    {
+        match self.status(t) {
+            Some(Status::Waiting { node, wanted }) => Ok(waits_for(
+                &self.locks.headers,
+                t.slot,
+                node,
+                wanted,
+            )),
+            Some(_) => Ok(Slots::empty()),
+            None => Err(Refusal::NoSuchTxn),
+        }
+    }
+}
