@@ -52,7 +52,7 @@ extern "C" {
 /* How many parents a node can have. */
 #define BS_MOST_PARENTS 8
 
-/* What a call comes to. Refusals are 1 to 21. */
+/* What a call comes to. Refusals are 1 to 21, of the manager, and 64 to 68, of this library. */
 typedef uint32_t bs_status;
 enum bs_statuses {
   BS_DONE = 0,
@@ -61,7 +61,7 @@ enum bs_statuses {
   BS_NO_SUCH_TXN = 3,     /* the name names no transaction that lives */
   BS_TXN_WAITING = 4,     /* the transaction waits for a lock */
   BS_TXN_CONDEMNED = 5,   /* the transaction was chosen as a victim, and can only abort */
-  BS_BAD_MODE = 6,        /* no lock was asked, or other than S or X on a record */
+  BS_BAD_MODE = 6,        /* BS_NL was asked, or other than S or X on a record */
   BS_NEED_PARENTS = 7,    /* the rule of the graph fails at the parent `node` */
   BS_NOT_HELD = 8,        /* the transaction does not hold the node */
   BS_HELD_CHILD = 9,      /* the transaction holds the child `node` */
@@ -86,7 +86,8 @@ enum bs_statuses {
   BS_NO_PLACE = 68        /* there are fewer than that */
 };
 
-/* Lock modes, from none to exclusive. */
+/* Lock modes, from none to exclusive. Of what different transactions hold on one node, BS_IS goes with all
+ * but BS_X, BS_IX with BS_IS and BS_IX, BS_S with BS_IS and BS_S, BS_SIX with BS_IS alone, BS_X with none. */
 typedef uint32_t bs_mode;
 enum bs_modes { BS_NL = 0, BS_IS = 1, BS_IX = 2, BS_S = 3, BS_SIX = 4, BS_X = 5 };
 
@@ -109,13 +110,14 @@ enum bs_notice_kinds {
   BS_TOLD_GONE = 4     /* the node is gone, and its wait is over */
 };
 
-/* The name of a node. It is the same as long as the node lives, and never another's. */
+/* The name of a node. It is the same as long as the node lives, and never another's in its manager; in
+ * another manager, or one made later at the same place, it may name anything. */
 typedef struct bs_node {
   size_t key;
   uint64_t birth;
 } bs_node;
 
-/* The name of a transaction. It is the same as long as it lives, and never another's. */
+/* The name of a transaction. It is the same as long as it lives, and never another's in its manager. */
 typedef struct bs_txn {
   uint8_t slot; /* 0 to 127 */
   uint64_t age; /* its number in the order of begins: the youngest has the greatest */
@@ -132,7 +134,7 @@ typedef struct bs_manager {
 /* What a call answers. */
 typedef struct bs_reply {
   bs_status status;
-  bs_mode mode;      /* the mode that is held, wanted or asked after */
+  bs_mode mode;      /* the mode that was granted, or that was asked after */
   bs_node node;      /* the node that was made or asked after, or that the refusal names */
   bs_txn txn;        /* the transaction that began */
   uint32_t released; /* of an escalation: how many children were released */
@@ -299,20 +301,25 @@ static inline bs_reply bs_add_index(bs_manager *manager, const bs_node *parents,
  * Transactions and locks.
  */
 
-/* A new transaction, in `txn`. Refused with BS_TOO_MANY_TXNS. Takes memory. Costs a search for a free slot. */
+/* A new transaction, in `txn`. Refused with BS_TOO_MANY_TXNS. Takes memory. */
 static inline bs_reply bs_begin(bs_manager *manager) {
   return manager == NULL ? bs_null() : bs_call_begin(manager);
 }
 
-/* Asks for a mode on a node: to read (BS_IS, BS_S) intentions to read or more are needed on one parent,
- * to write (BS_IX, BS_SIX, BS_X) intentions to write or more on all parents. What is held and what is
- * asked join: `mode` is the mode then held. BS_WAITING: the transaction waits, and does nothing else
- * until a notice tells it the end, or it cancels or aborts. BS_VICTIM: its wait closed a circle of
- * waits, and it is the one to give way: abort it.
+/* Asks for a mode on a node: to read (BS_IS, BS_S) intentions to read or more are needed on one parent, to
+ * write (BS_IX, BS_SIX, BS_X) intentions to write or more on all parents. What is held and what is asked
+ * join to what is wanted. It is granted at once where it goes with what others hold, and where the
+ * transaction holds the node already or nobody waits for it: a newcomer passes no queue, and one that holds
+ * the node waits ahead of all newcomers. BS_DONE: `mode` is the mode now held. BS_WAITING: the transaction
+ * waits, what it held stays held, and it does nothing else until a notice tells it the end, or it cancels or
+ * aborts. BS_VICTIM: its wait closed a circle of waits, and it is one to give way: its wait is over, its
+ * locks stay, and all that it can do is abort.
+ * Where a circle was closed others may fall too, also beside BS_VICTIM, and are told BS_TOLD_VICTIM; who
+ * stood behind a victim may be told BS_TOLD_GRANTED.
  * Refused with BS_NO_SUCH_TXN, BS_TXN_WAITING, BS_TXN_CONDEMNED, BS_NO_SUCH_NODE, BS_BAD_MODE,
- * BS_NEED_PARENTS, and with BS_BAD_NUMBER, first of all, where the mode is none. Takes memory, but for
- * a node that the transaction holds already, granted at once. Costs one look-up of the node and one for
- * each parent; where it waits with detection at block a search along the waits too. */
+ * BS_NEED_PARENTS, and with BS_BAD_NUMBER, first of all, where the mode is no number of enum bs_modes. Takes
+ * memory, but for a node that the transaction holds already, granted at once. Costs one look-up of the node
+ * and one for each parent; where it waits with detection at block a search along the waits too. */
 static inline bs_reply bs_lock(bs_manager *manager, bs_txn txn, bs_node node, bs_mode mode, bs_notices *told) {
   return bs_lacks(manager, told) ? bs_null() : bs_call_lock(manager, txn, node, mode, told);
 }
@@ -323,9 +330,9 @@ static inline bs_reply bs_try(bs_manager *manager, bs_txn txn, bs_node node, bs_
   return manager == NULL ? bs_null() : bs_call_try(manager, txn, node, mode);
 }
 
-/* Releases one node of which the transaction holds no child. Refused with BS_NO_SUCH_TXN,
- * BS_TXN_WAITING, BS_TXN_CONDEMNED, BS_NO_SUCH_NODE, BS_NOT_HELD, BS_HELD_CHILD. Costs a look-up, and a
- * step for each waiter that is granted. */
+/* Releases one node of which the transaction holds no child, also none that it may read by another parent.
+ * Refused with BS_NO_SUCH_TXN, BS_TXN_WAITING, BS_TXN_CONDEMNED, BS_NO_SUCH_NODE, BS_NOT_HELD,
+ * BS_HELD_CHILD. Costs a look-up, and a step for each waiter that is granted. */
 static inline bs_reply bs_unlock(bs_manager *manager, bs_txn txn, bs_node node, bs_notices *told) {
   return bs_lacks(manager, told) ? bs_null() : bs_call_unlock(manager, txn, node, told);
 }
@@ -350,16 +357,19 @@ static inline bs_reply bs_abort(bs_manager *manager, bs_txn txn, bs_notices *tol
 }
 
 /* Condemns who is to fall for the transaction, by the choice of victims, until it is on no circle of waits;
- * whoever is condemned is told BS_TOLD_VICTIM. It is how a watcher ends deadlocks. Refused with
+ * whoever is condemned is told BS_TOLD_VICTIM, its wait is over and its locks stay until it aborts; who
+ * stood behind it may be told BS_TOLD_GRANTED. It is how a watcher ends deadlocks. Refused with
  * BS_NO_SUCH_TXN. */
 static inline bs_reply bs_settle(bs_manager *manager, bs_txn txn, bs_notices *told) {
   return bs_lacks(manager, told) ? bs_null() : bs_call_settle(manager, txn, told);
 }
 
-/* Raises the lock of a node to BS_X where the transaction writes below it, else to BS_S, and releases
- * the children whose locks that implies: `mode`, `released` and `kept` say how it went. Refused with
- * BS_NO_SUCH_TXN, BS_TXN_WAITING, BS_TXN_CONDEMNED, BS_NO_SUCH_NODE, BS_BAD_PARENTS (a record),
- * BS_NOT_HELD, BS_WOULD_BLOCK. Costs a step for each lock of the transaction. */
+/* Raises the lock of a node, joining it with BS_X where the transaction holds a child to write (BS_IX,
+ * BS_SIX, BS_X), else with BS_S, so that BS_IX becomes BS_SIX; and releases the children whose locks that
+ * implies and of which it holds no children: `mode` is what is now held, `released` and `kept` how many held
+ * children went and stayed. Whoever has locks further down escalates there first. It never waits, and passes
+ * whoever does. Refused with BS_NO_SUCH_TXN, BS_TXN_WAITING, BS_TXN_CONDEMNED, BS_NO_SUCH_NODE,
+ * BS_BAD_PARENTS (a record), BS_NOT_HELD, BS_WOULD_BLOCK. Costs a step for each lock of the transaction. */
 static inline bs_reply bs_escalate(bs_manager *manager, bs_txn txn, bs_node node, bs_notices *told) {
   return bs_lacks(manager, told) ? bs_null() : bs_call_escalate(manager, txn, node, told);
 }
@@ -368,37 +378,38 @@ static inline bs_reply bs_escalate(bs_manager *manager, bs_txn txn, bs_node node
  * Records, and nodes that move. Nodes that move tell waiters whose wait is over.
  */
 
-/* A new record of a file, in `node`, with a key for each of the file's indexes, in order of their
- * making. It lies under the file and, for each index, the interval of its key, and is held in X.
- * Refused with BS_NO_SUCH_TXN, BS_TXN_WAITING, BS_TXN_CONDEMNED, BS_NO_SUCH_NODE, BS_BAD_PARENTS (no
- * file), BS_BAD_KEYS, BS_NEED_PARENTS (a parent not held in IX or more), BS_TOO_MANY_NODES. Takes
- * memory. */
+/* A new record of a file, in `node`, with a key for each of the file's indexes, in order of their making. It
+ * lies under the file and, for each index, the interval of its key, and is held in X. Refused with
+ * BS_NO_SUCH_TXN, BS_TXN_WAITING, BS_TXN_CONDEMNED, BS_NO_SUCH_NODE, BS_BAD_PARENTS (no file), BS_BAD_KEYS,
+ * BS_NEED_PARENTS (a parent not itself held in IX or more), BS_TOO_MANY_NODES. Takes memory. */
 static inline bs_reply bs_insert(bs_manager *manager, bs_txn txn, bs_node file, const uint64_t *keys, size_t count) {
   if (manager == NULL || (keys == NULL && count != 0)) return bs_null();
   return bs_call_insert(manager, txn, file, bs_numbers(keys), count);
 }
 
-/* Takes a record away that the transaction holds in X. Who waits for it is told BS_TOLD_GONE. Refused
- * with BS_NO_SUCH_TXN, BS_TXN_WAITING, BS_TXN_CONDEMNED, BS_NO_SUCH_NODE, BS_BAD_PARENTS (no record),
- * BS_NEED_EXCLUSIVE. */
+/* Takes a record away that the transaction holds in X by a lock on the record itself, as an insert leaves
+ * one; X above it is not enough. Who waits for it is told BS_TOLD_GONE. Refused with BS_NO_SUCH_TXN,
+ * BS_TXN_WAITING, BS_TXN_CONDEMNED, BS_NO_SUCH_NODE, BS_BAD_PARENTS (no record), BS_NEED_EXCLUSIVE. */
 static inline bs_reply bs_delete(bs_manager *manager, bs_txn txn, bs_node record, bs_notices *told) {
   return bs_lacks(manager, told) ? bs_null() : bs_call_delete(manager, txn, record, told);
 }
 
-/* Gives a record another key for one index, and so another interval. Lawful with X on the record and IX
- * or more on the new parents, or with X on all old and new parents. Refused with BS_NO_SUCH_TXN,
- * BS_TXN_WAITING, BS_TXN_CONDEMNED, BS_NO_SUCH_NODE, BS_BAD_PARENTS (no record, or no index of its
- * file), BS_NEED_EXCLUSIVE, BS_NEED_PARENTS. */
+/* Gives a record another key for one index, and so another interval. Lawful with X on the record and IX or
+ * more on the new parents, or with X on all old and new parents, which are the file and an interval of each
+ * of its indexes; each by a lock on that node itself. Refused with BS_NO_SUCH_TXN, BS_TXN_WAITING,
+ * BS_TXN_CONDEMNED, BS_NO_SUCH_NODE, BS_BAD_PARENTS (no record, or no index of its file), BS_NEED_EXCLUSIVE,
+ * BS_NEED_PARENTS. */
 static inline bs_reply bs_rekey(bs_manager *manager, bs_txn txn, bs_node record, bs_node index, uint64_t key,
                                 bs_notices *told) {
   return bs_lacks(manager, told) ? bs_null() : bs_call_rekey(manager, txn, record, index, key, told);
 }
 
-/* Gives an inner node, a file or an index other parents. Lawful with X on the node and IX or more on
- * the new parents, or, where there are both, with X on all old and new parents. Refused with
- * BS_NO_SUCH_TXN, BS_TXN_WAITING, BS_TXN_CONDEMNED, BS_NO_SUCH_NODE, BS_BAD_PARENTS, BS_NEED_EXCLUSIVE,
- * BS_NEED_PARENTS, BS_CYCLE; with BS_BAD_NUMBER, first of all, where there are more than 8 parents.
- * Takes memory, and BS_NO_MEMORY may come in place of BS_CYCLE. Costs a search up from the parents. */
+/* Gives an inner node, a file or an index other parents. Lawful with X on the node and IX or more on the new
+ * parents, or, where there are both, with X on all old and new parents; each by a lock on that node itself.
+ * Refused with BS_NO_SUCH_TXN, BS_TXN_WAITING, BS_TXN_CONDEMNED, BS_NO_SUCH_NODE, BS_BAD_PARENTS,
+ * BS_NEED_EXCLUSIVE, BS_NEED_PARENTS, BS_CYCLE; with BS_BAD_NUMBER, first of all, where there are more than
+ * 8 parents. Takes memory, and BS_NO_MEMORY may come in place of BS_CYCLE. Costs a search up from the
+ * parents. */
 static inline bs_reply bs_move(bs_manager *manager, bs_txn txn, bs_node node, const bs_node *parents, size_t count,
                                bs_notices *told) {
   if (bs_lacks(manager, told)) return bs_null();
@@ -432,8 +443,8 @@ static inline bs_reply bs_effective(bs_manager *manager, bs_txn txn, bs_node nod
   return manager == NULL ? bs_null() : bs_call_effective(manager, txn, node);
 }
 
-/* BS_WAITING with the node for which a transaction waits in `node` and the wanted mode in `mode`; else
- * BS_NOT_WAITING, also where it does not live. */
+/* BS_WAITING with the node for which a transaction waits in `node` and the wanted mode in `mode`, what is
+ * held and what was asked joined; else BS_NOT_WAITING, also where it does not live. */
 static inline bs_reply bs_waiting(bs_manager *manager, bs_txn txn) {
   return manager == NULL ? bs_null() : bs_call_waiting(manager, txn);
 }
@@ -522,9 +533,9 @@ static inline bs_reply bs_read_board(bs_manager *manager, bs_board *board) {
   return manager == NULL || board == NULL ? bs_null() : bs_call_board(manager, board);
 }
 
-/* The slots on a circle of waits with this slot; none where it is on none. Refused with BS_NULL_POINTER,
- * and BS_BAD_NUMBER where the slot is over 127. Costs at most a step for each slot that it reaches,
- * twice. */
+/* The slots on a circle of waits with this slot, which are those that it reaches by waits and that reach it;
+ * none where it is on none. Refused with BS_NULL_POINTER, and BS_BAD_NUMBER where the slot is over 127.
+ * Costs at most a step for each slot that it reaches, twice. */
 static inline bs_found bs_on_cycle(const bs_board *board, uint32_t slot) {
   bs_found null = { BS_NULL_POINTER, { 0, 0 } };
   return board == NULL ? null : bs_call_on_cycle(board, slot);

@@ -60,9 +60,10 @@ without() {
   awk -v n="$1" '/^#/ || /^$/ || ++line != n' "$script"
 }
 
-# refused_line REPORT: which answer is the one of want of memory; nothing where there is not one.
+# refused_line REPORT: which answer is the one of want of memory; nothing where there is not one. Lines of
+# those who are told, and rows of listings, stand below an answer.
 refused_line() {
-  awk '/^told / { next } { ++line } /^no 1 NoMemory$/ { found = line; ++count } END { if (count == 1) print found }' "$1"
+  awk '/^(told|holder|waiter|lock|blocker|txn) / { next } { ++line } /^no 1 NoMemory$/ { found = line; ++count } END { if (count == 1) print found }' "$1"
 }
 
 # Nothing may have been read or written but the fault.

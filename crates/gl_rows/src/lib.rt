@@ -15,9 +15,13 @@ mod graphs;
 #[cfg(test)]
 mod lines;
 #[cfg(test)]
+mod listings;
+#[cfg(test)]
 mod manual;
 #[cfg(test)]
 mod moves;
+#[cfg(test)]
+mod pictures;
 #[cfg(test)]
 mod records;
 #[cfg(test)]

@@ -168,6 +168,56 @@ const QUERIES: Lines = &[
     ("effective a db", "ok none"),
 ];
 
+/// What the manager is doing, in rows.
+const LISTINGS: Lines = &[
+    ("granular 3", "ok"),
+    ("inner db", "ok"),
+    ("inner t : db", "ok"),
+    ("begin a", "ok"),
+    ("begin b", "ok"),
+    ("begin c", "ok"),
+    ("lock a IS db", "ok IS"),
+    ("lock a S t", "ok S"),
+    ("lock b IX db", "ok IX"),
+    ("lock b IX t", "wait"),
+    ("lock c IS db", "ok IS"),
+    ("lock c S t", "wait"),
+    ("holders t", "ok\nholder a S"),
+    ("queue t", "ok\nwaiter b IX\nwaiter c S"),
+    (
+        "locks b",
+        "ok\nlock IX db children 0\nlock NL t children 0 waits IX",
+    ),
+    ("waits c", "ok\nblocker b"),
+    (
+        "txns",
+        "ok\ntxn a 1 active\ntxn b 2 waits IX t\ntxn c 3 waits S t",
+    ),
+    ("holders x", "no 2 NoSuchNode x"),
+    ("waits d", "no 3 NoSuchTxn d"),
+];
+
+/// The cycle of which the last victim fell.
+const CYCLE: Lines = &[
+    ("granular 3", "ok"),
+    ("inner db", "ok"),
+    ("begin a", "ok"),
+    ("begin b", "ok"),
+    ("lock a S db", "ok S"),
+    ("lock b S db", "ok S"),
+    ("lock a X db", "wait"),
+    ("lock b X db", "victim"),
+    (
+        "cycle",
+        "ok\nvictim b 2\nstuck a 1 waits X db for b 2\nstuck b 2 waits X db for a 1",
+    ),
+    ("abort b", "ok\ntold a granted X db"),
+    (
+        "cycle",
+        "ok\nvictim - 2\nstuck a 1 waits X db for - 2\nstuck - 2 waits X db for a 1",
+    ),
+];
+
 /// A wait that ends as its record moves, and one that ends as it goes.
 const NOTICES: Lines = &[
     ("begin a", "ok"),
@@ -222,7 +272,7 @@ const REFUSALS: Lines = &[
 
 #[test]
 fn examples_of_the_manual(rt: HostRuntime) -> Result<(), Fail> {
-    for lines in [VERSIONS, NODES, MOVES, DEADLOCK] {
+    for lines in [VERSIONS, NODES, MOVES, DEADLOCK, LISTINGS, CYCLE] {
         try_out(&rt, rt.alloc(), AT_BLOCK, &[lines])?;
     }
     try_out(&rt, rt.alloc(), BY_WATCHER, &[SETTLED])

@@ -1,4 +1,4 @@
--- The lines of a script: which bytes say which command. A command has fields, and a line says it where it falls into them.
+-- The lines of a script: which bytes say which command or listing. Each has fields, and a line says it where it falls into them.
 use Rattle.std.specs.Prelude.{◌≡◌, ◌≢◌, ◌==◌, ℕ, ◌<◌, ◌≤◌, ◌^◌, ◌⊎◌, List, [], ◌∷◌, ◌++◌, length, map, slice_index, All, codes, decimal}
 use Rattle.std.specs.List.{slice_split}
 use Rattle.gl_modes.specs.declared.mode.Mode.{Mode}
@@ -36,6 +36,20 @@ pub data Command : Type 0 where
   Group : (node : Node) → Command
   Held : (txn : Text) → (node : Node) → Command
   Effective : (txn : Text) → (node : Node) → Command
+
+-- What a line can want listed.
+pub data Listing : Type 0 where
+  Holders : (node : Node) → Listing
+  Queue : (node : Node) → Listing
+  Locks : (txn : Text) → Listing
+  Waits : (txn : Text) → Listing
+  Txns : Listing
+  Cycle : Listing
+
+-- What a line can say.
+pub data Line : Type 0 where
+  Orders : (command : Command) → Line
+  Lists : (listing : Listing) → Line
 
 -- one of a to z
 abbrev pub IsLetter : ℕ → Type 0
@@ -89,9 +103,18 @@ IsCommand (Group n) = IsNode n
 IsCommand (Held t n) = IsName t × IsNode n
 IsCommand (Effective t n) = IsName t × IsNode n
 
--- nodes move in scripts of version 2 alone
+-- the names and numbers of a listing are such
+abbrev pub IsListing : Listing → Type 0
+IsListing (Holders n) = IsNode n
+IsListing (Queue n) = IsNode n
+IsListing (Locks t) = IsName t
+IsListing (Waits t) = IsName t
+IsListing Txns = Unit
+IsListing Cycle = Unit
+
+-- no node moves in a script of version 1
 abbrev pub IsOfVersion : Version → Command → Type 0
-IsOfVersion v (Move t n ps) = v ≡ version.Two
+IsOfVersion v (Move t n ps) = v ≢ version.One
 IsOfVersion v c = Unit
 
 -- how a node is spelt: its name, or the index, a dot and the interval's number
@@ -126,14 +149,32 @@ fields (Group n) = codes "group" ∷ node_text n ∷ []
 fields (Held t n) = codes "held" ∷ t ∷ node_text n ∷ []
 fields (Effective t n) = codes "effective" ∷ t ∷ node_text n ∷ []
 
+-- the fields of a listing's line
+abbrev pub listing_fields : Listing → List Text
+listing_fields (Holders n) = codes "holders" ∷ node_text n ∷ []
+listing_fields (Queue n) = codes "queue" ∷ node_text n ∷ []
+listing_fields (Locks t) = codes "locks" ∷ t ∷ []
+listing_fields (Waits t) = codes "waits" ∷ t ∷ []
+listing_fields Txns = codes "txns" ∷ []
+listing_fields Cycle = codes "cycle" ∷ []
+
 -- the fields are those of the command
 abbrev pub SaysFields : Version → List Text → Command → Type 0
 SaysFields v all command = IsCommand command × IsOfVersion v command × (all ≡ fields command)
 
--- the line says the command: exactly one space stands between two fields, and none at either end
-abbrev pub Says : Version → Text → Command → Type 0
-Says v line command = SaysFields v (slice_split (λ b. b == 32) line) command
+-- the fields are those of the listing, which is of version 3 alone
+abbrev pub ListsFields : Version → List Text → Listing → Type 0
+ListsFields v all listing = IsListing listing × (v ≡ version.Three) × (all ≡ listing_fields listing)
 
--- a line says at most one command
+-- the fields are those of the line
+abbrev pub LineFields : Version → List Text → Line → Type 0
+LineFields v all (Orders command) = SaysFields v all command
+LineFields v all (Lists listing) = ListsFields v all listing
+
+-- the bytes say the line: exactly one space stands between two fields, and none at either end
+abbrev pub Says : Version → Text → Line → Type 0
+Says v text line = LineFields v (slice_split (λ b. b == 32) text) line
+
+-- the bytes say at most one line
 abbrev pub LineSaysOneCommand : Type 0
-LineSaysOneCommand = (v : Version) (line : Text) (c d : Command) → Says v line c → Says v line d → c ≡ d
+LineSaysOneCommand = (v : Version) (text : Text) (c d : Line) → Says v text c → Says v text d → c ≡ d

@@ -3,6 +3,10 @@ use Rattle.std.specs.Prelude.{ℕ, List, map, Option, None, Some}
 use Rattle.gl_script.specs.declared.form.Form.{Form}
 use Rattle.gl_script.specs.declared.form.Form.TheVariants as form
 use Rattle.gl_script.specs.declared.form.Lists.{Lists}
+use Rattle.gl_script.specs.declared.line.Line.{Line}
+use Rattle.gl_script.specs.declared.line.Line.TheVariants as line
+use Rattle.gl_script.specs.declared.listing.Listing.{Listing}
+use Rattle.gl_script.specs.declared.listing.Listing.TheVariants as listing
 use Rattle.gl_script.specs.declared.reads.Used.{Used}
 use Rattle.gl_script.specs.Grammar.{Text, Node, Plain, Interval, Command}
 use Rattle.gl_script.specs.Grammar as grammar
@@ -41,3 +45,17 @@ command_of (form.Move t n) lists = grammar.Move t.items (node_of n) (nodes_of li
 command_of (form.Group n) lists = grammar.Group (node_of n)
 command_of (form.Held t n) lists = grammar.Held t.items (node_of n)
 command_of (form.Effective t n) lists = grammar.Effective t.items (node_of n)
+
+-- the listing of a value
+abbrev pub listing_of : Listing → grammar.Listing
+listing_of (listing.Holders n) = grammar.Holders (node_of n)
+listing_of (listing.Queue n) = grammar.Queue (node_of n)
+listing_of (listing.Locks t) = grammar.Locks t.items
+listing_of (listing.Waits t) = grammar.Waits t.items
+listing_of listing.Txns = grammar.Txns
+listing_of listing.Cycle = grammar.Cycle
+
+-- the line of a value, whose lists stand beside it
+abbrev pub line_of : Line → Lists → grammar.Line
+line_of (line.Order f) lists = grammar.Orders (command_of f lists)
+line_of (line.List l) lists = grammar.Lists (listing_of l)

@@ -1,5 +1,7 @@
--- How the verbs are spelt.
+-- How the verbs and topics are spelt.
 use Rattle.std.specs.Prelude.{codes}
+use Rattle.gl_script.specs.declared.topic.Topic.{Topic}
+use Rattle.gl_script.specs.declared.topic.Topic.TheVariants as topic
 use Rattle.gl_script.specs.declared.verb.Verb.{Verb}
 use Rattle.gl_script.specs.declared.verb.Verb.TheVariants as verb
 use Rattle.gl_script.specs.Grammar.{Text}
@@ -25,3 +27,12 @@ word verb.Move = codes "move"
 word verb.Group = codes "group"
 word verb.Held = codes "held"
 word verb.Effective = codes "effective"
+
+-- the first field of a topic's lines
+abbrev pub topic_word : Topic → Text
+topic_word topic.Holders = codes "holders"
+topic_word topic.Queue = codes "queue"
+topic_word topic.Locks = codes "locks"
+topic_word topic.Waits = codes "waits"
+topic_word topic.Txns = codes "txns"
+topic_word topic.Cycle = codes "cycle"

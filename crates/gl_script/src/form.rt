@@ -1,29 +1,31 @@
 //! The forms of a line.
 
 ghost use Rattle.std.specs.Prelude.{◌≡◌, ◌≤◌, ◌∷◌, [], IfSome, IfNone, length, codes};
-ghost use Rattle.gl_script.specs.Grammar.{Command, Says, SaysFields, LineSaysOneCommand};
+ghost use Rattle.gl_script.specs.Grammar.{Command, SaysFields};
 ghost use Rattle.gl_script.specs.Left.{left};
 ghost use Rattle.gl_script.specs.Views.{command_of};
 ghost use Rattle.gl_script.specs.Words.{word};
 
 use crate::fields::Fields;
-use crate::listing::MOST_LISTED;
 use crate::reads::{Name, Used};
+use crate::series::MOST_LISTED;
 use crate::shapes::{
     index_parts, insert_parts, name_parents, name_some_parents, only_name, only_node, rekey_parts,
     txn_mode_node, txn_node, txn_node_parents, txn_record,
 };
-use crate::verb::{Verb, read_verb};
+use crate::verb::Verb;
 use arrayvec::ArrayVec;
 use gl_modes::Mode;
 
 /// Which forms a script may have.
 #[derive(Clone, Copy, PartialEq, Eq, Debug)]
 pub enum Version {
-    /// All but `move`.
+    /// All but `move` and the listings.
     One,
-    /// All.
+    /// All but the listings.
     Two,
+    /// All.
+    Three,
 }
 
 /// A command, as a line has it. The parents, bounds and keys of the line are [`Lists`] beside it.
@@ -144,20 +146,8 @@ impl Lists {
     }
 }
 
-/// The command that a line of at most 256 bytes says, if it says one. What it lists is then in
-/// `lists`, whatever was there before.
-pub fn parse(version: Version, line: &[u8], lists: &mut Lists) -> Option<Form>
-    requires short { length line.now ≤ 256 }
-    ensures says { IfSome result (λ form. Says version line.now (command_of form lists.new)) }
-    ensures none { IfNone result ((c : Command) → Says version line.now c → ⊥) }
-{
-    let mut fields = Fields::of(line);
-    let verb = read_verb(fields.next()?)?;
-    read_command(version, verb, &mut fields, lists)
-}
-
 /// The command that a verb and the fields behind it say, if they say one.
-fn read_command(
+pub(crate) fn read_command(
     version: Version,
     verb: Verb,
     fields: &mut Fields,
@@ -208,7 +198,7 @@ fn read_move(version: Version, fields: &mut Fields, lists: &mut Lists) -> Option
 {
     match version {
         Version::One => None,
-        Version::Two => {
+        Version::Two | Version::Three => {
             txn_node_parents(
                 fields,
                 &mut lists.nodes,
@@ -217,8 +207,3 @@ fn read_move(version: Version, fields: &mut Fields, lists: &mut Lists) -> Option
         }
     }
 }
-
-/// A line says at most one command.
-pub fn one_command()
-    ensures { LineSaysOneCommand }
-{}

@@ -1,17 +1,22 @@
 //! The script language, as bytes: names, numbers, and the forms of a line.
 //!
-//! A line is its fields, parted by exactly one space; [`parse`] reads the command that they say.
-//! Which line says which command is defined in `specs/`.
+//! A line is its fields, parted by exactly one space; [`parse`] reads the command or the
+//! listing that they say. Which line says which is defined in `specs/`.
 #![tactic(auto)]
 
 mod fields;
 mod form;
+mod line;
 mod listing;
 mod reads;
+mod series;
 mod shapes;
+mod topic;
 mod verb;
 
-pub use form::{Form, Lists, Version, one_command, parse};
+pub use form::{Form, Lists, Version};
+pub use line::{Line, one_command, parse};
+pub use listing::Listing;
 pub use reads::{Name, Used};
 
 #[cfg(test)]

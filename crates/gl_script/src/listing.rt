@@ -1,112 +1,56 @@
-//! What a line lists: nodes and numbers.
+//! The listings of a line.
 
-ghost use Rattle.std.specs.Prelude.{◌≡◌, ◌≢◌, ℕ, ◌≤◌, ◌↔◌, [], ◌∷◌, ◌++◌, List, All, IfSome, IfNone, IsTrue, codes, decimal, length, map};
-ghost use Rattle.gl_script.specs.Grammar.{Text, Node, IsNode, IsNumber, AreSomeNodes, node_text, parents};
+ghost use Rattle.std.specs.Prelude.{◌∷◌, IfSome, IfNone};
+ghost use Rattle.gl_script.specs.Grammar.{ListsFields, Listing as TheListing};
 ghost use Rattle.gl_script.specs.Left.{left};
-ghost use Rattle.gl_script.specs.Views.{node_of};
+ghost use Rattle.gl_script.specs.Views.{listing_of};
+ghost use Rattle.gl_script.specs.Words.{topic_word};
 
 use crate::fields::Fields;
-use crate::reads::{Used, read_number, read_used};
-use arrayvec::ArrayVec;
+use crate::form::Version;
+use crate::reads::{Name, Used};
+use crate::shapes::{only_name, only_node};
+use crate::topic::Topic;
 
-/// The most that a line of 256 bytes can list.
-pub(crate) const MOST_LISTED: usize = 257;
+/// What a line wants listed.
+#[derive(Drop)]
+pub enum Listing {
+    /// The holders of a node.
+    Holders { node: Used },
+    /// Who waits for a node.
+    Queue { node: Used },
+    /// The locks of a transaction.
+    Locks { txn: Name },
+    /// The waits of a transaction.
+    Waits { txn: Name },
+    /// The transactions.
+    Txns,
+    /// The cycle of which the last victim fell.
+    Cycle,
+}
 
-/// All fields that are left, each of them a number.
-pub(crate) fn read_numbers(
-    fields: &mut Fields,
-    numbers: &mut ArrayVec<u64, MOST_LISTED>,
-) -> Option<()>
-    requires room { length (left fields.old) ≤ 257 }
-    ensures found { IfSome result (λ _. All IsNumber numbers.new.items × (left fields.old ≡ map decimal numbers.new.items)) }
-    ensures none { IfNone result ((ks : List ℕ) → All IsNumber ks → left fields.old ≢ map decimal ks) }
+/// The listing that a topic and the fields behind it say, if they say one.
+pub(crate) fn read_listing(version: Version, topic: Topic, fields: &mut Fields) -> Option<Listing>
+    ensures says { IfSome result (λ listing. ListsFields version (topic_word topic ∷ left fields.old) (listing_of listing)) }
+    ensures none { IfNone result ((l : TheListing) → ListsFields version (topic_word topic ∷ left fields.old) l → ⊥) }
 {
-    numbers.clear();
-    while let Some(field) = fields.next() {
-        numbers.push(read_number(field)?);
+    match version {
+        Version::One | Version::Two => None,
+        Version::Three => read_topic_parts(topic, fields),
     }
-    Some(())
 }
 
-/// Parents, if there are any, and nothing behind them.
-pub(crate) fn read_parents(
-    fields: &mut Fields,
-    nodes: &mut ArrayVec<Used, MOST_LISTED>,
-) -> Option<()>
-    requires room { length (left fields.old) ≤ 257 }
-    ensures found { IfSome result (λ _. All IsNode (map node_of nodes.new.items) × (left fields.old ≡ parents (map node_of nodes.new.items))) }
-    ensures none { IfNone result ((ps : List Node) → All IsNode ps → left fields.old ≢ parents ps) }
+/// What follows a topic, in version 3.
+fn read_topic_parts(topic: Topic, fields: &mut Fields) -> Option<Listing>
+    ensures says { IfSome result (λ listing. ListsFields Version.Three (topic_word topic ∷ left fields.old) (listing_of listing)) }
+    ensures none { IfNone result ((l : TheListing) → ListsFields Version.Three (topic_word topic ∷ left fields.old) l → ⊥) }
 {
-    nodes.clear();
-    let Some(colon) = fields.next() else {
-        return Some(());
-    };
-    if !is_colon(colon) {
-        return None;
+    match topic {
+        Topic::Holders => only_node(fields, |node| Listing::Holders { node }),
+        Topic::Queue => only_node(fields, |node| Listing::Queue { node }),
+        Topic::Locks => only_name(fields, |txn| Listing::Locks { txn }),
+        Topic::Waits => only_name(fields, |txn| Listing::Waits { txn }),
+        Topic::Txns => fields.is_done().then_some(Listing::Txns),
+        Topic::Cycle => fields.is_done().then_some(Listing::Cycle),
     }
-    read_nodes(fields, nodes)?;
-    (!nodes.is_empty()).then_some(())
-}
-
-/// Parents, and the word `on` behind them.
-#[tactic(auto, using(crate::proofs::ListTexts::none_behind_colon))]
-pub(crate) fn read_parents_on(
-    fields: &mut Fields,
-    nodes: &mut ArrayVec<Used, MOST_LISTED>,
-) -> Option<()>
-    requires room { length (left fields.old) ≤ 257 }
-    ensures found { IfSome result (λ _. AreSomeNodes (map node_of nodes.new.items) × (left fields.old ≡ parents (map node_of nodes.new.items) ++ codes "on" ∷ left fields.new)) }
-    ensures none { IfNone result ((ps : List Node) (more : List Text) → AreSomeNodes ps → left fields.old ≢ parents ps ++ codes "on" ∷ more) }
-{
-    if !is_colon(fields.next()?) {
-        return None;
-    }
-    nodes.clear();
-    read_nodes_on(fields, nodes)
-}
-
-/// Whether the bytes are a colon.
-fn is_colon(text: &[u8]) -> bool
-    ensures { IsTrue result ↔ (text.now ≡ codes ":") }
-{
-    matches!(text, b":")
-}
-
-/// Whether the bytes are the word `on`, which is no node.
-fn is_on(text: &[u8]) -> bool
-    ensures { IsTrue result ↔ (text.now ≡ codes "on") }
-{
-    matches!(text, b"on")
-}
-
-/// All fields that are left, each of them a node.
-fn read_nodes(fields: &mut Fields, nodes: &mut ArrayVec<Used, MOST_LISTED>) -> Option<()>
-    requires room { length (left fields.old) ≤ 257 }
-    requires empty { nodes.old.items ≡ [] }
-    ensures found { IfSome result (λ _. All IsNode (map node_of nodes.new.items) × (left fields.old ≡ map node_text (map node_of nodes.new.items))) }
-    ensures none { IfNone result ((ns : List Node) → All IsNode ns → left fields.old ≢ map node_text ns) }
-{
-    while let Some(field) = fields.next() {
-        nodes.push(read_used(field)?);
-    }
-    Some(())
-}
-
-/// The fields before the word `on`, one or more, each of them a node, and that word.
-fn read_nodes_on(fields: &mut Fields, nodes: &mut ArrayVec<Used, MOST_LISTED>) -> Option<()>
-    requires room { length (left fields.old) ≤ 257 }
-    requires empty { nodes.old.items ≡ [] }
-    ensures found { IfSome result (λ _. AreSomeNodes (map node_of nodes.new.items) × (left fields.old ≡ map node_text (map node_of nodes.new.items) ++ codes "on" ∷ left fields.new)) }
-    ensures none { IfNone result ((ns : List Node) (more : List Text) → AreSomeNodes ns → left fields.old ≢ map node_text ns ++ codes "on" ∷ more) }
-{
-    while let Some(field) = fields.next() {
-        if is_on(field) {
-            if nodes.is_empty() {
-                return None;
-            }
-            return Some(());
-        }
-        nodes.push(read_used(field)?);
-    }
-    None
 }

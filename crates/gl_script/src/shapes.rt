@@ -1,6 +1,6 @@
 //! What follows a line's first word.
 //!
-//! Each of the public calls reads all fields that are left, and answers the form that is made of them;
+//! Each of the public calls reads all fields that are left, and answers what is made of them;
 //! `None` where one is missing, one is too many, or one is not what stands in its place.
 
 ghost use Rattle.std.specs.Prelude.{◌≡◌, ◌≢◌, ℕ, ◌≤◌, [], ◌∷◌, ◌++◌, List, All, IfSome, IfNone, codes, decimal, length, map};
@@ -12,13 +12,13 @@ ghost use Rattle.gl_script.specs.Views.{node_of, nodes_of};
 
 use crate::fields::Fields;
 use crate::form::{Form, Lists};
-use crate::listing::{MOST_LISTED, read_numbers, read_parents, read_parents_on};
 use crate::reads::{Name, Used, next_name, next_node, read_number};
+use crate::series::{MOST_LISTED, read_numbers, read_parents, read_parents_on};
 use arrayvec::ArrayVec;
 use gl_modes::Mode;
 
 /// A name.
-pub(crate) fn only_name<F: FnOnce(Name) -> Form>(fields: &mut Fields, form: F) -> Option<Form>
+pub(crate) fn only_name<T, F: FnOnce(Name) -> T>(fields: &mut Fields, form: F) -> Option<T>
     requires form { F.IsAlwaysCallable form }
     ensures found { IfSome result (λ r. (name : _) × F.post form name r × IsName name.items × (left fields.old ≡ name.items ∷ [])) }
     ensures none { IfNone result ((n : Text) → IsName n → left fields.old ≢ n ∷ []) }
@@ -27,7 +27,7 @@ pub(crate) fn only_name<F: FnOnce(Name) -> Form>(fields: &mut Fields, form: F) -
 }
 
 /// A node.
-pub(crate) fn only_node<F: FnOnce(Used) -> Form>(fields: &mut Fields, form: F) -> Option<Form>
+pub(crate) fn only_node<T, F: FnOnce(Used) -> T>(fields: &mut Fields, form: F) -> Option<T>
     requires form { F.IsAlwaysCallable form }
     ensures found { IfSome result (λ r. (node : _) × F.post form node r × IsNode (node_of node) × (left fields.old ≡ node_text (node_of node) ∷ [])) }
     ensures none { IfNone result ((n : Node) → IsNode n → left fields.old ≢ node_text n ∷ []) }

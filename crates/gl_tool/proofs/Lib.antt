@@ -1,4 +1,5 @@
 pub mod Writing
+pub mod RowByRow
 pub mod Reading
 pub mod Registers
 pub mod Serving

@@ -1,5 +1,5 @@
 -- A script on its way through the tool: lines grow, are answered, and end.
-use Rattle.std.proofs.Common.{◌≡◌, ◌≢◌, ℕ, zero, suc, Bool, ◌&&◌, ◌==◌, ◌+◌, ◌<◌, ◌≤◌, List, [], ◌∷◌, ◌++◌, Option, Result, Ok, Err, OnOk, length, take, flat_map, refl, sym, ap, ◌∙◌, subst, append_assoc, append-nil, arith, inl, inr, length-take, min, take_all, true, false}
+use Rattle.std.proofs.Common.{◌≡◌, ◌≢◌, ℕ, zero, suc, Bool, ◌&&◌, ◌==◌, ◌+◌, ◌<◌, ◌≤◌, List, [], ◌∷◌, ◌++◌, Option, Some, None, if◌then◌else◌, Result, Ok, Err, OnOk, length, take, flat_map, refl, sym, ap, ap₂, ◌∙◌, subst, append_assoc, append-nil, arith, inl, inr, length-take, min, take_all, true, false}
 use Rattle.std.specs.Prelude.{codes}
 use Rattle.std.specs.Str.{bytes_eq}
 use Rattle.std.proofs.Math.Seq.{take-append-add}
@@ -10,8 +10,10 @@ use Rattle.memchr.specs.Find.{Nowhere, Passes, is_byte}
 use Rattle.gl_tool.specs.declared.script.Tool.{Tool}
 use Rattle.gl_tool.specs.declared.script.RunFault.{RunFault}
 use Rattle.gl_tool.specs.declared.script.RunFault.TheVariants.{Read, Write, TooMuch}
+use Rattle.gl_script.specs.declared.form.Version.{Version}
+use Rattle.gl_script.specs.declared.form.Version.TheVariants as version
 use Rattle.gl_words.specs.declared.asked.Policy.{Policy}
-use Rattle.gl_tool.specs.Report.{Answers, Going, IsOpen, Left, Opening, Opens, Prints, Ran, Report, ReportOfWhole, Run, Splits, Stage, ended, last_line, says_version}
+use Rattle.gl_tool.specs.Report.{Answers, Going, IsOpen, Left, Opening, Opens, Prints, Ran, Report, ReportOfWhole, Run, Splits, Stage, ended, last_line, version_of}
 use Rattle.gl_tool.specs.Script.{Script}
 use Rattle.std.specs.Io.KnownBytes.{Appends, Consumes}
 use Rattle.gl_tool.specs.declared.sink.Sink.{Sink}
@@ -69,18 +71,21 @@ Answers-front : (s : Script) (line text : List ℕ) (t : Script) → Answers s (
 Answers-front s line text t (inl h) = inl (omega (arith, length-take 257 line, h.0), h.1, h.2)
 Answers-front s line text t (inr (inl h)) = subst (λ l. Answers s l text t) (front-short line h.0) (inr (inl h))
 Answers-front s line text t (inr (inr (inl h))) = subst (λ l. Answers s l text t) (front-short line h.0) (inr (inr (inl h)))
-Answers-front s line text t (inr (inr (inr h))) = subst (λ l. Answers s l text t) (front-short line h.0) (inr (inr (inr h)))
+Answers-front s line text t (inr (inr (inr (inl h)))) = subst (λ l. Answers s l text t) (front-short line h.0) (inr (inr (inr (inl h))))
+Answers-front s line text t (inr (inr (inr (inr h)))) = subst (λ l. Answers s l text t) (front-short line h.0) (inr (inr (inr (inr h))))
 
-Opens-front : (d : Policy) (b : Bool) (line text : List ℕ) (t : Stage) → Opens d b (take 257 line) text t → Opens d b line text t
-Opens-front d true line text t h = h
-Opens-front d false line text t h = (h.0, Answers-front _ line text h.0 h.1, h.2)
+Opens-front : (d : Policy) (o : Option Version) (line text : List ℕ) (t : Stage) → Opens d o (take 257 line) text t → Opens d o line text t
+Opens-front d (Some v) line text t h = h
+Opens-front d None line text t h = (h.0, Answers-front _ line text h.0 h.1, h.2)
 
 -- and so is the first one
 pub Prints-front : (s : Stage) (line text : List ℕ) (t : Stage) → Prints s (take 257 line) text t → Prints s line text t
 unfolding Prints
 Prints-front (Opening d) line text t h =
-    let same : says_version (take 257 line) ≡ says_version line = same-front 257 line (codes "granular 2") (omega arith) in
-    Opens-front d (says_version line) line text t (subst (λ b. Opens d b (take 257 line) text t) same h)
+    let two = same-front 257 line (codes "granular 2") (omega arith) in
+    let three = same-front 257 line (codes "granular 3") (omega arith) in
+    let same : version_of (take 257 line) ≡ version_of line = ap₂ (λ a b. if a then Some version.Two else (if b then Some version.Three else None)) two three in
+    Opens-front d (version_of line) line text t (subst (λ o. Opens d o (take 257 line) text t) same h)
 Prints-front (Going s) line text t h = (h.0, Answers-front s line text h.0 h.1, h.2)
 
 -- a whole line is answered

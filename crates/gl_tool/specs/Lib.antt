@@ -1,6 +1,7 @@
 pub mod Names
 pub mod Script
 pub mod Printed
+pub mod Rows
 pub mod Report
 pub mod Held
 pub mod Views

@@ -1,13 +1,15 @@
 -- What is printed for a script, from all bytes read to all bytes written.
-use Rattle.std.specs.Prelude.{◌≡◌, ◌≢◌, ◌<◌, ◌≤◌, ◌⊎◌, Bool, true, false, List, [], ◌∷◌, ◌++◌, length, slice_index, All, codes, flat_map, Option, Result, MatchResult, OnOk}
+use Rattle.std.specs.Prelude.{◌≡◌, ◌≢◌, ◌<◌, ◌≤◌, ◌⊎◌, Bool, true, false, List, [], ◌∷◌, ◌++◌, length, slice_index, All, codes, flat_map, Option, Some, None, if◌then◌else◌, Result, MatchResult, OnOk}
 use Rattle.std.specs.Io.KnownBytes.{Consumes, Appends}
 use Rattle.std.specs.Str.{bytes_eq}
 use Rattle.gl_words.specs.declared.asked.Policy.{Policy}
 use Rattle.gl_table.specs.Tellings.{Told}
 use Rattle.gl_catalog.specs.declared.command.Answer.{Answer}
+use Rattle.gl_script.specs.declared.form.Version.{Version}
 use Rattle.gl_script.specs.declared.form.Version.TheVariants as version
-use Rattle.gl_script.specs.Grammar.{Text, Command, Says}
+use Rattle.gl_script.specs.Grammar.{Text, Command, Line, Lists, Listing, Orders, Says}
 use Rattle.gl_tool.specs.Printed.{printed}
+use Rattle.gl_tool.specs.Rows.{Shows}
 use Rattle.gl_tool.specs.Script.{Script, Does, begun}
 use Rattle.gl_tool.specs.declared.script.RunFault.{RunFault}
 use Rattle.gl_tool.specs.declared.script.RunFault.TheVariants.{Read, Write, TooMuch, Memory}
@@ -23,18 +25,26 @@ bad_line = codes "no 20 BadLine\n"
 -- a command, and the text that is printed for what it does
 pub record Carries (s : Script) (line text : Text) (s' : Script) : Type 0 where
   pub command : Command
-  pub says : Says s.version line command
+  pub says : Says s.version line (Orders command)
   pub answer : Answer
   pub told : Told
   pub does : Does s command answer told s'
   pub text_is : text ≡ printed s' command answer told
+
+-- a listing, and the text that it shows; the script is as before
+pub record Tells (s : Script) (line text : Text) (s' : Script) : Type 0 where
+  pub listing : Listing
+  pub says : Says s.version line (Lists listing)
+  pub shows : Shows s listing text
+  pub same : s' ≡ s
 
 -- The text that is printed for a line, and the script after it. A line of more than 256 bytes is a bad line, whatever it holds.
 abbrev pub Answers : Script → Text → Text → Script → Type 0
 Answers s line text s' =
     ((256 < length line) × (text ≡ bad_line) × (s' ≡ s))
     ⊎ ((length line ≤ 256) × IsSilent line × (text ≡ []) × (s' ≡ s))
-    ⊎ ((length line ≤ 256) × ¬ (IsSilent line) × ((c : Command) → ¬ (Says s.version line c)) × (text ≡ bad_line) × (s' ≡ s))
+    ⊎ ((length line ≤ 256) × ¬ (IsSilent line) × ((l : Line) → ¬ (Says s.version line l)) × (text ≡ bad_line) × (s' ≡ s))
+    ⊎ ((length line ≤ 256) × ¬ (IsSilent line) × Tells s line text s')
     ⊎ ((length line ≤ 256) × ¬ (IsSilent line) × Carries s line text s')
 
 -- where a script stands: before its first line, or behind a line
@@ -42,18 +52,18 @@ pub data Stage : Type 0 where
   Opening : (policy : Policy) → Stage
   Going : (script : Script) → Stage
 
--- the first line of a script of version 2, which is no command
-abbrev pub says_version : Text → Bool
-says_version line = bytes_eq line (codes "granular 2")
+-- the version that a first line chooses, which is no command; one that chooses none is of version 1
+abbrev pub version_of : Text → Option Version
+version_of line = if bytes_eq line (codes "granular 2") then Some version.Two else (if bytes_eq line (codes "granular 3") then Some version.Three else None)
 
 -- the first line chooses the version; in version 1 it is a line like any other
-abbrev pub Opens : Policy → Bool → Text → Text → Stage → Type 0
-Opens d true line text stage = (text ≡ codes "ok\n") × (stage ≡ Going (begun d version.Two))
-Opens d false line text stage = (s : Script) × Answers (begun d version.One) line text s × (stage ≡ Going s)
+abbrev pub Opens : Policy → Option Version → Text → Text → Stage → Type 0
+Opens d (Some v) line text stage = (text ≡ codes "ok\n") × (stage ≡ Going (begun d v))
+Opens d None line text stage = (s : Script) × Answers (begun d version.One) line text s × (stage ≡ Going s)
 
 -- the text that is printed for a line, wherever it stands
 abbrev pub PrintsAt : Stage → Text → Text → Stage → Type 0
-PrintsAt (Opening d) line text stage = Opens d (says_version line) line text stage
+PrintsAt (Opening d) line text stage = Opens d (version_of line) line text stage
 PrintsAt (Going s) line text stage = (s' : Script) × Answers s line text s' × (stage ≡ Going s')
 
 -- the same, closed up

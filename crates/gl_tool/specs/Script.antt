@@ -7,32 +7,37 @@ use Rattle.gl_modes.specs.declared.refusal.Refusal.TheVariants as no
 use Rattle.gl_graph.specs.Graph.{Graph, interval_at}
 use Rattle.gl_words.specs.declared.asked.Policy.{Policy}
 use Rattle.gl_table.specs.declared.txn.TxnId.{TxnId}
+use Rattle.gl_table.specs.declared.deadlock.Deadlock.{Deadlock}
+use Rattle.gl_table.specs.Deadlocks.{no_deadlock}
 use Rattle.gl_table.specs.State.{State, choosing, empty_state}
 use Rattle.gl_table.specs.Tellings.{Told}
 use Rattle.gl_catalog.specs.declared.command.Answer.{Answer}
 use Rattle.gl_catalog.specs.declared.command.Answer.TheVariants as answer
 use Rattle.gl_catalog.specs.declared.command.Command.{Command as Asked}
 use Rattle.gl_catalog.specs.declared.command.Command.TheVariants as command
+use Rattle.gl_catalog.specs.Deadlocks.{KeptBy}
 use Rattle.gl_catalog.specs.Step.{Step}
 use Rattle.gl_script.specs.declared.form.Version.{Version}
 use Rattle.gl_script.specs.declared.form.Version.TheVariants as version
 use Rattle.gl_script.specs.Grammar.{Text, Node, Plain, Interval, Command, Inner, File, Index, Begin, Lock, Try, Unlock, Cancel, Commit, Abort, Settle, Insert, Delete, Rekey, Escalate, Move, Group, Held, Effective}
 use Rattle.gl_tool.specs.Names.{Names, no_names, with_node, with_txn, without_node, without_txn}
 
--- its version, the names that it has declared, and the locks
+-- its version, the names that it has declared, the locks, and the deadlock of which the last victim fell
 pub record Script : Type 0 where
   pub version : Version
   pub names : Names
   pub locks : State
+  pub deadlock : Deadlock
 
 -- how many transactions may live at once
 abbrev pub most_of : Version → ℕ
 most_of version.One = 64
 most_of version.Two = 128
+most_of version.Three = 128
 
 -- a script of which no line was carried out
 abbrev pub begun : Policy → Version → Script
-begun p v = record { version = v; names = no_names; locks = choosing p.victims (empty_state p.detect (most_of v)) }
+begun p v = record { version = v; names = no_names; locks = choosing p.victims (empty_state p.detect (most_of v)); deadlock = no_deadlock }
 
 -- the interval of an index that stands for itself
 abbrev pub interval_named : Graph → Option NodeId → ℕ → Option NodeId
@@ -137,6 +142,7 @@ pub record HandedOn (s : Script) (c : Command) (a : Answer) (told : Told) (s' : 
   pub asked : Asked
   pub asks : Asks s c asked
   pub step : Step s.locks asked a told s'.locks
+  pub deadlock : KeptBy asked s.locks s.deadlock a s'.locks s'.deadlock
   pub names : s'.names ≡ renamed s.names c a
   pub version : s'.version ≡ s.version
 

@@ -2,11 +2,12 @@
 use Rattle.std.specs.Prelude.{◌≡◌, ℕ, List, [], ◌++◌, false, take, Option, None, Some, Result, MatchResult}
 use Rattle.std.specs.Io.KnownBytes.{Appends}
 use Rattle.gl_words.specs.declared.asked.Policy.{Policy}
+use Rattle.gl_table.specs.Deadlocks.{no_deadlock}
 use Rattle.gl_table.specs.State.{State, choosing, empty_state}
 use Rattle.gl_table.specs.Tellings.{Told}
 use Rattle.gl_catalog.specs.Manager.{ManagerView, state_of}
 use Rattle.gl_catalog.specs.declared.command.Answer.{Answer}
-use Rattle.gl_script.specs.Grammar.{Command}
+use Rattle.gl_script.specs.Grammar.{Command, Listing}
 use Rattle.gl_script.specs.declared.form.Version.TheVariants as version
 use Rattle.gl_tool.specs.declared.interpreter.Interpreter.{Interpreter}
 use Rattle.gl_tool.specs.declared.script.Tool.{Tool}
@@ -16,6 +17,7 @@ use Rattle.gl_tool.specs.declared.sink.Sink.{Sink}
 use Rattle.gl_tool.specs.Report.{Answers, Opening, Going, Prints, Report, Run, Splits, Stage}
 use Rattle.gl_tool.specs.Held.{Hands, Holds}
 use Rattle.gl_tool.specs.Printed.{printed}
+use Rattle.gl_tool.specs.Rows.{Shows}
 use Rattle.gl_tool.specs.Script.{Does, Script, begun}
 use Rattle.gl_tool.specs.Views.{script_of}
 
@@ -23,7 +25,7 @@ use Rattle.gl_tool.specs.Views.{script_of}
 abbrev pub policy_of : State → Policy
 policy_of s = record { detect = s.detect; victims = s.victims }
 
--- a script has not begun where the manager of version 2 is still at hand
+-- a script has not begun where the manager of the later versions is still at hand
 abbrev pub stage_with : Option ManagerView → Script → Stage
 stage_with None s = Going s
 stage_with (Some two) s = Opening (policy_of (state_of two))
@@ -35,7 +37,7 @@ stage_of i = stage_with i.two (script_of i.desk)
 -- as long as no version is chosen, both managers are as they were made
 abbrev pub IsReadyWith : Option ManagerView → Script → Type 0
 IsReadyWith None s = Unit
-IsReadyWith (Some two) s = let p = policy_of (state_of two) in (state_of two ≡ choosing p.victims (empty_state p.detect 128)) × (s ≡ begun p version.One)
+IsReadyWith (Some two) s = let p = policy_of (state_of two) in (state_of two ≡ choosing p.victims (empty_state p.detect 128)) × (two.table.deadlock ≡ no_deadlock) × (s ≡ begun p version.One)
 
 abbrev pub IsReady : Interpreter → Type 0
 IsReady i = IsReadyWith i.two (script_of i.desk)
@@ -50,6 +52,10 @@ unfoldable pub Obeys : Option (List ℕ) → Sink → Interpreter → Command �
 Obeys w sink i command w' sink' i' =
     (answer : Answer) × (told : Told) × Does (script_of i.desk) command answer told (script_of i'.desk) × (i'.two ≡ i.two)
     × Hands w sink w' sink' (printed (script_of i'.desk) command answer told)
+
+-- what a listing shows was handed on
+unfoldable pub IsShown : Option (List ℕ) → Sink → Script → Listing → Option (List ℕ) → Sink → Type 0
+IsShown w sink s listing w' sink' = (text : List ℕ) × Shows s listing text × Hands w sink w' sink' text
 
 -- a line of a script whose version is known was answered, as it was given
 unfoldable pub CarriesOut : Option (List ℕ) → Sink → Interpreter → List ℕ → Option (List ℕ) → Sink → Interpreter → Type 0

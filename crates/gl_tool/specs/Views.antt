@@ -44,4 +44,4 @@ names_of desk =
 
 -- the script that a desk stands for
 abbrev pub script_of : Desk → Script
-script_of desk = record { version = desk.version; names = names_of desk; locks = state_of desk.manager }
+script_of desk = record { version = desk.version; names = names_of desk; locks = state_of desk.manager; deadlock = desk.manager.table.deadlock }

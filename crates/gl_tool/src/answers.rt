@@ -2,6 +2,7 @@
 
 ghost use Rattle.std.specs.Prelude.{◌≡◌, ◌∷◌, ◌++◌, [], codes, decimal, flat_map, is_none};
 ghost use Rattle.gl_modes.specs.Modes.{mode_text};
+ghost use Rattle.gl_modes.specs.Refusals.{refusal_name, refusal_number};
 ghost use Rattle.gl_script.specs.Grammar.{Plain};
 ghost use Rattle.gl_script.specs.declared.form.Lists.{Lists as TheLists};
 ghost use Rattle.gl_script.specs.Views.{command_of, node_of, nodes_of};
@@ -101,12 +102,43 @@ fn put_refusal<W: Write>(
 )
     ensures { Hands (W.contents writer.old) sink.old (W.contents writer.new) sink.new (refusal_line refusal (who_text (script_of desk.now) (command_of form.now lists.now) refusal)) }
 {
+    put_no(sink, writer, refusal);
+    put_who(sink, writer, desk, form, lists, refusal);
+    put(sink, writer, b"\n");
+}
+
+/// Prints the line of a listing of a node that is refused: with the node, where its name is not in use.
+pub(crate) fn put_no_node<W: Write>(
+    sink: &mut Sink,
+    writer: &mut W,
+    desk: &Desk,
+    node: &Used,
+    refusal: Refusal,
+)
+    ensures { Hands (W.contents writer.old) sink.old (W.contents writer.new) sink.new (refusal_line refusal (first_unused (script_of desk.now) (node_of node.now ∷ []))) }
+{
+    put_no(sink, writer, refusal);
+    put_unused(sink, writer, desk, node);
+    put(sink, writer, b"\n");
+}
+
+/// Prints the line of a listing of a transaction that is refused.
+pub(crate) fn put_no_txn<W: Write>(sink: &mut Sink, writer: &mut W, name: &Name, refusal: Refusal)
+    ensures { Hands (W.contents writer.old) sink.old (W.contents writer.new) sink.new (refusal_line refusal (32 ∷ name.now.items)) }
+{
+    put_no(sink, writer, refusal);
+    put_name(sink, writer, name.as_slice());
+    put(sink, writer, b"\n");
+}
+
+/// Prints `no`, with the number and the name of a refusal.
+fn put_no<W: Write>(sink: &mut Sink, writer: &mut W, refusal: Refusal)
+    ensures { Hands (W.contents writer.old) sink.old (W.contents writer.new) sink.new (codes "no " ++ decimal (refusal_number refusal) ++ 32 ∷ [] ++ refusal_name refusal) }
+{
     put(sink, writer, b"no ");
     put_number(sink, writer, refusal.number() as u64);
     put(sink, writer, b" ");
     put(sink, writer, refusal.name().as_bytes());
-    put_who(sink, writer, desk, form, lists, refusal);
-    put(sink, writer, b"\n");
 }
 
 /// Prints a space and whom a refusal names, if anybody.
@@ -267,7 +299,7 @@ fn put_name<W: Write>(sink: &mut Sink, writer: &mut W, name: &[u8])
 }
 
 /// Prints a dot and the place of an interval, if it is one.
-fn put_place<W: Write>(sink: &mut Sink, writer: &mut W, place: Option<u64>)
+pub(crate) fn put_place<W: Write>(sink: &mut Sink, writer: &mut W, place: Option<u64>)
     ensures { Hands (W.contents writer.old) sink.old (W.contents writer.new) sink.new (place_text place) }
 {
     if let Some(place) = place {
@@ -277,7 +309,7 @@ fn put_place<W: Write>(sink: &mut Sink, writer: &mut W, place: Option<u64>)
 }
 
 /// Prints a space and a node: by its name, or as an interval of its index.
-fn put_called<W: Write>(sink: &mut Sink, writer: &mut W, desk: &Desk, node: NodeId)
+pub(crate) fn put_called<W: Write>(sink: &mut Sink, writer: &mut W, desk: &Desk, node: NodeId)
     ensures { Hands (W.contents writer.old) sink.old (W.contents writer.new) sink.new (32 ∷ called (script_of desk.now) node) }
 {
     match desk.place(node) {

@@ -6,6 +6,7 @@ ghost use Rattle.gl_graph.specs.Shapes.{place_in};
 ghost use Rattle.gl_script.specs.Views.{command_of, node_of, nodes_of};
 ghost use Rattle.gl_script.specs.declared.form.Lists.{Lists as TheLists};
 ghost use Rattle.gl_tool.specs.Names.{no_names};
+ghost use Rattle.gl_tool.specs.Rows.{name_at};
 ghost use Rattle.gl_tool.specs.Rooms.{HasRoomFor, MakesRoom, MakesRoomIn};
 ghost use Rattle.gl_tool.specs.Script.{Asks, Does, NodeName, TxnName, declared, named_as, node_id, node_ids, node_named, plain_id, renamed, txn_id, without_deleted, without_ended};
 ghost use Rattle.gl_tool.specs.Views.{HasRoom, id_in, name_in, names_of, script_of};
@@ -46,13 +47,13 @@ impl Desk {
         }
     }
 
-    /// Goes on as a script of version 2, of which no line was carried out.
-    pub(crate) fn begin_version_two(&mut self, manager: Manager)
-        ensures version { self.new.version ≡ Version.Two }
+    /// Goes on as a script of this version, of which no line was carried out.
+    pub(crate) fn begin_version(&mut self, version: Version, manager: Manager)
+        ensures version { self.new.version ≡ version }
         ensures manager { self.new.manager ≡ manager }
         ensures names { names_of self.new ≡ names_of self.old }
     {
-        self.version = Version::Two;
+        self.version = version;
         self.manager = manager;
     }
 
@@ -306,8 +307,28 @@ impl Desk {
         self.txns.name(txn)
     }
 
+    /// How many nodes have a name of their own.
+    pub(crate) fn node_count(&self) -> usize {
+        self.nodes.len()
+    }
+
+    /// The node at a place among those with a name of their own.
+    pub(crate) fn node_at(&self, place: usize) -> Option<NodeId> {
+        self.nodes.id_at(place)
+    }
+
+    /// The name of the transaction in a slot, empty for a free one.
+    pub(crate) fn name_at(&self, slot: u8) -> &[u8]
+        ensures { result.now ≡ name_at (script_of self.now) slot }
+    {
+        match self.manager.living(slot) {
+            Some((txn, _)) => self.txns.name(txn),
+            None => &[],
+        }
+    }
+
     /// The id of a node; one that names none, where the name is not in use.
-    fn node_id(&self, node: &Used) -> NodeId
+    pub(crate) fn node_id(&self, node: &Used) -> NodeId
         ensures { result ≡ node_id (script_of self.now) (node_of node.now) }
     {
         self.find(node).unwrap_or(NodeId::NONE)
@@ -321,7 +342,7 @@ impl Desk {
     }
 
     /// The id of a transaction; one that names none, where the name is not in use.
-    fn txn_id(&self, name: &Name) -> TxnId
+    pub(crate) fn txn_id(&self, name: &Name) -> TxnId
         ensures { result ≡ txn_id (names_of self.now) name.now.items }
     {
         self.txns.id(name).unwrap_or(TxnId::NONE)

@@ -1,15 +1,17 @@
 //! What answers the lines of a script, one after the other.
 
-ghost use Rattle.std.specs.Prelude.{IfSome};
+ghost use Rattle.std.specs.Prelude.{◌≡◌, IfSome};
 ghost use Rattle.gl_script.specs.Views.{command_of};
+ghost use Rattle.gl_tool.specs.Report.{version_of};
 ghost use Rattle.gl_tool.specs.SoFar.{Answered, CarriesOut, IsFresh, Obeys};
 
 use crate::answers::{put_answer, put_notices};
 use crate::desk::{Desk, Ids};
+use crate::listings::put_listing;
 use crate::sink::{Sink, put};
 use arrayvec::ArrayVec;
 use gl_catalog::Manager;
-use gl_script::{Form, Lists, parse};
+use gl_script::{Form, Line, Lists, Version, parse};
 use gl_table::Told;
 use gl_words::Policy;
 use std::alloc::Global;
@@ -21,14 +23,17 @@ const LONGEST: usize = 256;
 /// The first line of a script of version 2.
 const VERSION_TWO: &[u8] = b"granular 2";
 
+/// The first line of a script of version 3.
+const VERSION_THREE: &[u8] = b"granular 3";
+
 /// What is printed for a line that says no command.
 const BAD_LINE: &[u8] = b"no 20 BadLine\n";
 
 /// A script that is being answered. The lists are filled anew for each line.
 #[derive(Drop)]
 pub(crate) struct Interpreter {
-    desk: Desk,
-    /// The manager of a script of version 2, until the first line has chosen.
+    pub(crate) desk: Desk,
+    /// The manager of a script of version 2 or 3, until the first line has chosen.
     two: Option<Manager>,
     lists: Lists,
     ids: Ids,
@@ -41,8 +46,12 @@ impl Interpreter {
         ensures { IfSome result (λ interpreter. IsFresh policy interpreter) }
     {
         let Policy { detect, victims } = policy;
-        let one = Manager::choosing(alloc, detect, victims, 64).ok()?;
-        let two = Manager::choosing(alloc, detect, victims, 128).ok()?;
+        let Ok(one) = Manager::choosing(alloc, detect, victims, 64) else {
+            return None;
+        };
+        let Ok(two) = Manager::choosing(alloc, detect, victims, 128) else {
+            return None;
+        };
         Some(Interpreter {
             desk: Desk::new(alloc, one),
             two: Some(two),
@@ -67,9 +76,9 @@ impl Interpreter {
     fn answer_first<W: Write>(&mut self, sink: &mut Sink, writer: &mut W, line: &[u8])
         ensures { Answered (W.contents writer.old) sink.old self.old line.now (W.contents writer.new) sink.new self.new }
     {
-        match self.two.take() {
-            Some(manager) if line == VERSION_TWO => {
-                self.desk.begin_version_two(manager);
+        match (self.two.take(), chosen_version(line)) {
+            (Some(manager), Some(version)) => {
+                self.desk.begin_version(version, manager);
                 put(sink, writer, b"ok\n");
             }
             _ => self.carry_out(sink, writer, line),
@@ -90,7 +99,10 @@ impl Interpreter {
         self.lists.nodes.clear(); // The parents of an earlier line are not looked up again.
         match parse(self.desk.version, line, &mut self.lists) {
             None => put(sink, writer, BAD_LINE),
-            Some(form) => self.obey(sink, writer, &form),
+            Some(line) => match line {
+                Line::Order(form) => self.obey(sink, writer, &form),
+                Line::List(listing) => put_listing(sink, writer, &self.desk, &listing),
+            },
         }
     }
 
@@ -105,5 +117,18 @@ impl Interpreter {
             .serve(form, &self.lists, &mut self.ids, &mut self.told);
         put_answer(sink, writer, &self.desk, form, &self.lists, answer);
         put_notices(sink, writer, &self.desk, self.told.as_slice());
+    }
+}
+
+/// The version that a first line chooses, if it chooses one.
+fn chosen_version(line: &[u8]) -> Option<Version>
+    ensures { result ≡ version_of line.now }
+{
+    if line == VERSION_TWO {
+        Some(Version::Two)
+    } else if line == VERSION_THREE {
+        Some(Version::Three)
+    } else {
+        None
     }
 }

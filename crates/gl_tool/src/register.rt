@@ -45,6 +45,17 @@ impl<I: Copy + Eq + Hash + Drop> Register<I> {
         }
     }
 
+    /// How many names are in use.
+    pub(crate) fn len(&self) -> usize {
+        self.names.len()
+    }
+
+    /// The id whose name stands at a place among those in use.
+    pub(crate) fn id_at(&self, place: usize) -> Option<I> {
+        let (id, _) = self.names.get_index(place)?;
+        Some(*id)
+    }
+
     /// Makes room for one name more, and says whether there is.
     pub(crate) fn make_room(&mut self) -> bool
         ensures ids { id_in self.new ≡ id_in self.old }

@@ -77,14 +77,14 @@ pub fn run<R: Read, W: Write>(
 }
 
 /// Room for what one read gives.
-fn new_block(alloc: Global) -> Option<Vec<u8>>
+pub(crate) fn new_block(alloc: Global) -> Option<Vec<u8>>
     ensures { IfSome result (λ block. 0 < vec_len block) }
 {
     vec![in alloc; 0u8; BLOCK].ok()
 }
 
 /// A tool that has taken nothing. `None` where memory is wanting.
-fn new_tool(alloc: Global, policy: Policy) -> Option<Tool>
+pub(crate) fn new_tool(alloc: Global, policy: Policy) -> Option<Tool>
     ensures { IfSome result (λ tool. IsNew policy tool) }
 {
     Some(Tool {
@@ -95,7 +95,7 @@ fn new_tool(alloc: Global, policy: Policy) -> Option<Tool>
 }
 
 /// Answers a script by a new tool.
-fn pump<R: Read, W: Write>(
+pub(crate) fn pump<R: Read, W: Write>(
     tool: &mut Tool,
     reader: &mut R,
     writer: &mut W,

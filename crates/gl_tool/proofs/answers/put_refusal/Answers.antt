@@ -3,8 +3,5 @@ use Rattle.gl_tool.proofs.answers.put_refusal.Goals as goal
 
 pub returns : goal.returns
 returns g c =
-    let number = Hands-then _ _ _ _ _ _ _ _ c.put.ensures (rw c.number.ensures at c.put_number.ensures) in
-    let space = Hands-then _ _ _ _ _ _ _ _ number c.put-2.ensures in
-    let name = Hands-then _ _ _ _ _ _ _ _ space (rw (c.as_bytes.ensures.value, c.name.ensures) at c.put-3.ensures) in
-    let who = Hands-then _ _ _ _ _ _ _ _ name c.put_who.ensures in
-    Hands-then _ _ _ _ _ _ _ _ who c.put-4.ensures
+    let who = Hands-then _ _ _ _ _ _ _ _ c.put_no.ensures c.put_who.ensures in
+    Hands-then _ _ _ _ _ _ _ _ who c.put.ensures

@@ -1,5 +1,6 @@
 use Rattle.std.proofs.Common.{◌≡◌, refl, ap, ◌∙◌, subst}
-use Rattle.gl_catalog.specs.Manager.{state_of}
+use Rattle.gl_catalog.specs.Deadlocks.{KeepsDeadlock}
+use Rattle.gl_catalog.specs.Manager.{ManagerView, state_of}
 use Rattle.gl_catalog.specs.Step.{Step}
 use Rattle.gl_script.specs.Views.{command_of}
 use Rattle.gl_tool.specs.declared.desk.Desk.{Desk}
@@ -11,7 +12,7 @@ use Rattle.gl_tool.proofs.desk.Desk.serve.Goals as goal
 
 -- the script is the same where names, version and manager are
 same_script : (x y : Desk) → names_of x ≡ names_of y → x.version ≡ y.version → x.manager ≡ y.manager → script_of x ≡ script_of y
-same_script x y names version manager = λ i. record { version = version i; names = names i; locks = state_of (manager i) }
+same_script x y names version manager = λ i. record { version = version i; names = names i; locks = state_of (manager i); deadlock = (manager i).table.deadlock }
 
 pub rename-requires : goal.rename-requires
 rename-requires c = record { room = λ lists. (rw c.in_default.is at (c.make_room.ensures.room lists)).0.1 }
@@ -41,6 +42,8 @@ returns c =
             asks = subst (λ (s : Script). Asks s asked c.command-command.result) same c.command-command.ensures;
             step = rw c.rename.ensures.manager
                 (subst (λ m. Step (state_of m) c.command-command.result c.apply_telling-answer.result c.apply_telling-answer.new.told.items (state_of c.apply_telling-answer.new.self)) c.make_room.ensures.manager c.apply_telling-answer.ensures.step);
+            deadlock = rw c.rename.ensures.manager
+                (subst (λ (m : ManagerView). KeepsDeadlock c.command-command.result m c.apply_telling-answer.result c.apply_telling-answer.new.self) c.make_room.ensures.manager c.apply_telling-answer.ensures.deadlock);
             names = c.rename.ensures.names c.args.lists.now ∙ ap (λ n. renamed n asked c.apply_telling-answer.result) c.make_room.ensures.names;
             version = c.rename.ensures.version ∙ c.make_room.ensures.version;
           });

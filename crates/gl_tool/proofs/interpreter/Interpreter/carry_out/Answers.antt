@@ -1,9 +1,9 @@
 use Rattle.std.proofs.Common.{ℕ, List, [], ◌≢◌, length, refl, inl, inr, arith}
 use Rattle.std.specs.Prelude.{slice_index}
-use Rattle.gl_script.specs.Views.{command_of}
+use Rattle.gl_script.specs.Views.{command_of, listing_of}
 use Rattle.gl_tool.specs.Printed.{printed}
 use Rattle.gl_tool.specs.Report.{IsSilent, bad_line}
-use Rattle.gl_tool.specs.SoFar.{CarriesOut, Obeys}
+use Rattle.gl_tool.specs.SoFar.{CarriesOut, IsShown, Obeys}
 use Rattle.gl_tool.specs.Views.{script_of}
 use Rattle.gl_script.proofs.Splitting.{other_test, same_test}
 use Rattle.gl_tool.proofs.Writing.{Hands-none}
@@ -35,24 +35,44 @@ returns-in-None g c =
     let speaks = not_silent c.args.line.now (other_test _ _ _ c.is_empty.ensures c.if-is_empty.false) c.if-line-eq35.false in
     (bad_line, inr (inr (inl (omega (arith, c.if-line-gt-LONGEST.false), speaks, rw c.in-None.is at c.parse.ensures.none, refl, refl))), refl, c.put-in-None.ensures)
 
-pub returns-in-Some : goal.returns-in-Some
+pub returns-in-Order : goal.returns-in-Order
 unfolding CarriesOut Obeys
-returns-in-Some g c =
+returns-in-Order g c =
     let speaks = not_silent c.args.line.now (other_test _ _ _ c.is_empty.ensures c.if-is_empty.false) c.if-line-eq35.false in
     let done = c.obey.ensures in (
-      printed (script_of c.obey.new.self.desk) (command_of c.in-Some.form c.parse.new.lists) done.0 done.1,
-      inr (inr (inr (
+      printed (script_of c.obey.new.self.desk) (command_of c.in-Order.form c.parse.new.lists) done.0 done.1,
+      inr (inr (inr (inr (
         omega (arith, c.if-line-gt-LONGEST.false),
         speaks,
         record {
-          command = command_of c.in-Some.form c.parse.new.lists;
-          says = rw c.in-Some.is at c.parse.ensures.says;
+          command = command_of c.in-Order.form c.parse.new.lists;
+          says = rw (c.in-Some.is, c.in-Order.is) at c.parse.ensures.says;
           answer = done.0;
           told = done.1;
           does = done.2;
           text_is = refl;
         },
-      ))),
+      )))),
       done.3,
       done.4,
+    )
+
+pub returns-in-List : goal.returns-in-List
+unfolding CarriesOut IsShown
+returns-in-List g c =
+    let speaks = not_silent c.args.line.now (other_test _ _ _ c.is_empty.ensures c.if-is_empty.false) c.if-line-eq35.false in
+    let done = c.put_listing.ensures in (
+      done.0,
+      inr (inr (inr (inl (
+        omega (arith, c.if-line-gt-LONGEST.false),
+        speaks,
+        record {
+          listing = listing_of c.in-List.listing;
+          says = rw (c.in-Some.is, c.in-List.is) at c.parse.ensures.says;
+          shows = done.1;
+          same = refl;
+        },
+      )))),
+      refl,
+      done.2,
     )

@@ -1,5 +1,0 @@
-use Rattle.gl_script.proofs.OneCommand.{one_command}
-use Rattle.gl_script.proofs.form.one_command.Goals as goal
-
-pub returns : goal.returns
-returns c = one_command

@@ -1,0 +1,43 @@
+//! A line.
+
+ghost use Rattle.std.specs.Prelude.{◌≤◌, IfSome, IfNone, length};
+ghost use Rattle.gl_script.specs.Grammar.{Says, LineSaysOneCommand, Line as TheLine};
+ghost use Rattle.gl_script.specs.Views.{line_of};
+
+use crate::fields::Fields;
+use crate::form::{Form, Lists, Version, read_command};
+use crate::listing::{Listing, read_listing};
+use crate::topic::read_topic;
+use crate::verb::read_verb;
+
+/// What a line says.
+#[derive(Drop)]
+pub enum Line {
+    /// To do something, or to answer what is the case.
+    Order(Form),
+    /// To list.
+    List(Listing),
+}
+
+/// What a line of at most 256 bytes says, if it says anything. The parents, bounds and keys of its
+/// command are then in `lists`, whatever was there before.
+pub fn parse(version: Version, line: &[u8], lists: &mut Lists) -> Option<Line>
+    requires short { length line.now ≤ 256 }
+    ensures says { IfSome result (λ said. Says version line.now (line_of said lists.new)) }
+    ensures none { IfNone result ((l : TheLine) → Says version line.now l → ⊥) }
+{
+    let mut fields = Fields::of(line);
+    let first = fields.next()?;
+    match read_verb(first) {
+        Some(verb) => Some(Line::Order(read_command(version, verb, &mut fields, lists)?)),
+        None => {
+            let topic = read_topic(first)?;
+            Some(Line::List(read_listing(version, topic, &mut fields)?))
+        }
+    }
+}
+
+/// A line says at most one command, or one listing.
+pub fn one_command()
+    ensures { LineSaysOneCommand }
+{}

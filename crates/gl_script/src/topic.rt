@@ -1,0 +1,32 @@
+//! The first word of a listing.
+
+ghost use Rattle.std.specs.Prelude.{◌≡◌, ◌≢◌, IfSome, IfNone};
+ghost use Rattle.gl_script.specs.Words.{topic_word};
+ghost use Rattle.gl_script.specs.declared.topic.Topic.{Topic as TheTopic};
+
+/// What a listing is of, by its first word.
+#[derive(Clone, Copy)]
+pub(crate) enum Topic {
+    Holders,
+    Queue,
+    Locks,
+    Waits,
+    Txns,
+    Cycle,
+}
+
+/// The topic that the bytes are, if they are one.
+pub(crate) fn read_topic(text: &[u8]) -> Option<Topic>
+    ensures says { IfSome result (λ topic. text.now ≡ topic_word topic) }
+    ensures none { IfNone result ((topic : TheTopic) → text.now ≢ topic_word topic) }
+{
+    match text {
+        b"holders" => Some(Topic::Holders),
+        b"queue" => Some(Topic::Queue),
+        b"locks" => Some(Topic::Locks),
+        b"waits" => Some(Topic::Waits),
+        b"txns" => Some(Topic::Txns),
+        b"cycle" => Some(Topic::Cycle),
+        _ => None,
+    }
+}

@@ -1,0 +1,26 @@
+//! `glpicture`: draws the state in which a script of lock commands ends, from standard input to standard
+//! output.
+#![tactic(auto)]
+
+use gl_tool::{RunFault, ToolFault, complain_of_picture, draw_script};
+use std::env;
+use std::process::ExitCode;
+
+fn main(rt: HostRuntime) -> ExitCode {
+    let mut faults = rt.stderr();
+    let Ok(args) = env::args(&rt) else {
+        return ExitCode::from(complain_of_picture(ToolFault::Words, &mut faults));
+    };
+    let Ok(words) = args.skip(1).collect::<Vec<String>>(rt.alloc()) else {
+        let fault = ToolFault::Run(RunFault::Memory);
+        return ExitCode::from(complain_of_picture(fault, &mut faults));
+    };
+    let (mut reader, mut writer) = (rt.stdin(), rt.stdout());
+    ExitCode::from(draw_script(
+        rt.alloc(),
+        words.as_slice(),
+        &mut reader,
+        &mut writer,
+        &mut faults,
+    ))
+}
