@@ -49,6 +49,12 @@ const GRAPH_DRAWN: &[u8] = b"digraph locks {\n\
     \x20 n5 -> n6;\n\
     }\n";
 
+/// What is said of bad words.
+const BAD_WORDS: &[u8] = b"glpicture: bad words\n";
+
+/// What is said where a picture cannot be written.
+const NOT_WRITTEN: &[u8] = b"glpicture: write fault\n";
+
 /// Draws a script, by these words, and wants this picture.
 fn draws<A: Abort>(
     rt: &A,
@@ -76,7 +82,7 @@ fn is_refused<A: Abort>(rt: &A, alloc: Global, words: &[&str]) -> Result<(), Fai
     assert_eq!(rt; status, 2);
     assert_eq!(rt; reader.given, 0);
     assert!(rt; writer.text.is_empty());
-    assert!(rt; faults.text.as_slice() == b"glpicture: bad words\n");
+    assert!(rt; faults.text.as_slice() == BAD_WORDS);
     Ok(())
 }
 
@@ -106,6 +112,6 @@ fn a_picture_that_cannot_be_written(rt: HostRuntime) -> Result<(), Fail> {
     let words: [&str; 0] = [];
     let status = draw_script(rt.alloc(), &words, &mut reader, &mut writer, &mut faults);
     assert_eq!(rt; status, 1);
-    assert!(rt; faults.text.as_slice() == b"glpicture: write fault\n");
+    assert!(rt; faults.text.as_slice() == NOT_WRITTEN);
     Ok(())
 }
