@@ -5,6 +5,7 @@ use Rattle.gl_modes.specs.declared.node.NodeId.{NodeId}
 use Rattle.gl_table.specs.Tellings.{Told}
 use Rattle.gl_catalog.specs.declared.command.Answer.{Answer}
 use Rattle.gl_catalog.specs.declared.command.Command.{Command}
+use Rattle.gl_catalog.specs.Counters.{counted, refusing}
 use Rattle.gl_catalog.specs.Manager.{ManagerView, state_of}
 use Rattle.gl_catalog.specs.Promises.{KeepsCaller, SettlesIdle, StepLeavesOthers}
 use Rattle.gl_catalog.specs.Step.{Step}
@@ -16,13 +17,14 @@ use Rattle.gl_c.specs.Notes.{Tells}
 use Rattle.gl_c.specs.Numbers.{no_manager}
 use Rattle.gl_c.specs.Replies.{reply_of, status_reply}
 
--- a command is one step of the model, and leaves its caller and the others what the manager promises
+-- a command is one step of the model, leaves its caller and the others what the manager promises, and is counted by the law of the counters; where it is refused or only asks, all is as before, but that a try or an escalation that would have had to wait is counted
 pub record Applies (m : ManagerView) (c : Command) (a : Answer) (told : Told) (m' : ManagerView) : Type 0 where
   pub step : Step (state_of m) c a told (state_of m')
   pub caller : KeepsCaller c (state_of m) (state_of m')
   pub others : StepLeavesOthers (state_of m) c (a, told) (state_of m')
   pub settles : SettlesIdle (state_of m) c a told (state_of m')
-  pub same : m'.accepted ≡ m.accepted → m' ≡ m
+  pub counters : m'.counters ≡ counted (state_of m) c a told (state_of m') m.counters
+  pub same : m'.accepted ≡ m.accepted → m' ≡ refusing c a m
 
 -- a command is carried out, and C is answered its answer, and told whom it tells
 pub record Replies (m : ManagerView) (c : Command) (r : Reply) (notes : Notes) (m' : ManagerView) : Type 0 where

@@ -1,5 +1,5 @@
 -- A step counts a command exactly where it accepts it.
-use Rattle.std.specs.Prelude.{◌≡◌, ℕ, zero, suc, ◌+◌, Bool, true, false, not, ◌&&◌, Option, Some, None}
+use Rattle.std.specs.Prelude.{◌≡◌, ◌+◌, Bool, true, false, not, ◌&&◌, Option, Some, None}
 use Rattle.std.proofs.Common.{refl, ap, ⊎_elim, ◌∙◌}
 use Rattle.gl_modes.specs.declared.mode.Mode.{Mode}
 use Rattle.gl_modes.specs.declared.refusal.Refusal.{Refusal}
