@@ -33,16 +33,16 @@
 # 127). An insert and its delete, for which there is no aim, take 2970. In time, on a core of an Intel Xeon
 # that other work shares: a round some 0.7 microseconds with one list and 4 otherwise.
 rounds=${1:-100000}
-cd "$(dirname "$0")/../crates/bench_locks" || exit 2
-rt run >/dev/null 2>&1 || { echo "locks.sh: the program does not build; see rt run in crates/bench_locks" >&2; exit 1; }
-program=out/bench_locks
+cd "$(dirname "$0")/../crates/benches" || exit 2
+rt run -- locks >/dev/null 2>&1 || { echo "locks.sh: the program does not build; see rt run in crates/benches" >&2; exit 1; }
+program=out/benches
 [ -x "$program" ] || { echo "locks.sh: no program $program" >&2; exit 1; }
 command -v valgrind >/dev/null && counts=yes
 unrepeated=glibc.cpu.x86_rep_stosb_threshold=1000000:glibc.cpu.x86_rep_movsb_threshold=1000000
 
 # instructions ROUNDS WORD..: of one whole run.
 instructions() {
-  GLIBC_TUNABLES=$unrepeated valgrind --tool=callgrind --callgrind-out-file=/dev/null "$program" "$@" 2>&1 |
+  GLIBC_TUNABLES=$unrepeated valgrind --tool=callgrind --callgrind-out-file=/dev/null "$program" locks "$@" 2>&1 |
     sed -n 's/.*Collected : //p'
 }
 
@@ -57,7 +57,7 @@ each() {
 # best ROUNDS WORD..: the nanoseconds of one round, the best of five.
 best() {
   for _ in 1 2 3 4 5; do
-    "$program" "$@" 2>&1 | sed -n 's/ ns.*//p'
+    "$program" locks "$@" 2>&1 | sed -n 's/ ns.*//p'
   done | sort -n | head -1
 }
 

@@ -19,14 +19,14 @@
 rounds=${1:-100000}
 parts="manager boards while-waiting always lists-while-waiting lists replies queries notes looks"
 threads="1-thread 4-threads 16-threads waiters"
-cd "$(dirname "$0")/../crates/bench_shared" || exit 2
-rt run -- 0 >/dev/null 2>&1 || { echo "sessions.sh: the program does not build; see rt run in crates/bench_shared" >&2; exit 1; }
-program=out/bench_shared
+cd "$(dirname "$0")/../crates/benches" || exit 2
+rt run -- shared >/dev/null 2>&1 || { echo "sessions.sh: the program does not build; see rt run in crates/benches" >&2; exit 1; }
+program=out/benches
 [ -x "$program" ] || { echo "sessions.sh: no program $program" >&2; exit 1; }
 
 # instructions ROUNDS WORD..: of one whole run.
 instructions() {
-  valgrind --tool=callgrind --callgrind-out-file=/dev/null "$program" "$@" 2>&1 |
+  valgrind --tool=callgrind --callgrind-out-file=/dev/null "$program" shared "$@" 2>&1 |
     sed -n 's/.*Collected : //p'
 }
 
@@ -46,10 +46,10 @@ times=$(mktemp -d) || exit 2
 trap 'rm -rf "$times"' EXIT
 for _ in 1 2 3 4 5; do
   for part in $parts $threads; do
-    "$program" "$rounds" "$part" 2>&1 | sed -n 's/ ns.*//p' >>"$times/$part"
+    "$program" shared "$rounds" "$part" 2>&1 | sed -n 's/ ns.*//p' >>"$times/$part"
   done
   for part in $parts; do
-    "$program" "$rounds" "$part" crowd 2>&1 | sed -n 's/ ns.*//p' >>"$times/$part.crowd"
+    "$program" shared "$rounds" "$part" crowd 2>&1 | sed -n 's/ ns.*//p' >>"$times/$part.crowd"
   done
 done
 echo "nanoseconds a round"

@@ -6,10 +6,10 @@
 # First a mix: lockers ask for one of 48 nodes, in a mode, both at random, three times of four, and else
 # commit; who falls aborts and begins again. STEPS such calls are played (12000 where none is given), once by
 # each choice with the same numbers at random. A line says how many lockers there are, which choice it is,
-# how many blocks closed a circle, how many fell for them, how many at most for one, how many aborts there
+# how many blocks closed a cycle, how many fell for them, how many at most for one, how many aborts there
 # were for a commit, and how many commits.
 #
-# Then the cost of the block that closes a circle when 127 wait, in nanoseconds, the best of nine turns, and
+# Then the cost of the block that closes a cycle when 127 wait, in nanoseconds, the best of nine turns, and
 # where valgrind's callgrind is at hand in instructions: of a ring, where each waits for the next; and of a
 # queue, where each waits for all ahead of it and for the asker. CC names another compiler than cc.
 set -uo pipefail

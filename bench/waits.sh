@@ -22,4 +22,4 @@
 # lines: 70 ns, then 0.7, 2.2, 23, 3.1 and 24 microseconds, 6 ns, and 3.6, 1.5, 3.0, 22, 24, 19 and 20
 # microseconds. In instructions a turn: the chain 3,500, the ring with `youngest` 16,000, one waiter 50,
 # freeing_victim 20,000, 8,000 and 16,000.
-cd "$(dirname "$0")/../crates/bench_waits" && rt run -- "${1:-100000}" 2>&1 | grep ' ns ('
+cd "$(dirname "$0")/../crates/benches" && rt run -- waits "${1:-100000}" 2>&1 | grep ' ns ('

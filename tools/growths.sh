@@ -4,7 +4,7 @@
 # with status 1 there.
 #
 # plays: the program `growths` prints the same as with no growth refused.
-# script: `gltool` answers tools/every_form.script. Either it finds no memory, or bad words where its
+# script: `gltool --listings` answers tools/every_form.script. Either it finds no memory, or bad words where its
 #   words were not read, before it has read anything; or one line is answered with want of memory, and all
 #   others as in the script without that line.
 # crews: `gltool` runs a small crew by each way of detection. It ends in time, and counts every command of
@@ -63,7 +63,7 @@ without() {
 # refused_line REPORT: which answer is the one of want of memory; nothing where there is not one. Lines of
 # those who are told, and rows of listings, stand below an answer.
 refused_line() {
-  awk '/^(told|holder|waiter|lock|blocker|txn) / { next } { ++line } /^no 1 NoMemory$/ { found = line; ++count } END { if (count == 1) print found }' "$1"
+  awk '/^(told|holder|waiter|lock|blocker|txn|victim|stuck) / { next } { ++line } /^no 1 NoMemory$/ { found = line; ++count } END { if (count == 1) print found }' "$1"
 }
 
 # Nothing may have been read or written but the fault.
@@ -78,7 +78,7 @@ one_line_refused() {
   local line
   line=$(refused_line "$work/came")
   [ -n "$line" ] || fail "not one line is answered with want of memory"
-  without "$line" | "$program" >"$work/wanted" || fail "status $? without the line"
+  without "$line" | "$program" --listings >"$work/wanted" || fail "status $? without the line"
   grep -v '^no 1 NoMemory$' "$work/came" >"$work/others"
   same "$work/wanted" "$work/others"
 }
@@ -86,10 +86,10 @@ one_line_refused() {
 refuse_in_script() {
   local program=$top/crates/gltool/out/gltool status
   script=$top/tools/every_form.script
-  with_growth 0 "$program" <"$script" >/dev/null || exit 1
+  with_growth 0 "$program" --listings <"$script" >/dev/null || exit 1
   growths_of "the script"
   for ((n = 1; n <= growths; n++)); do
-    status=$({ with_growth "$n" "$program" >"$work/came" 2>"$work/fault"; echo $?; cat >"$work/left"; } <"$script")
+    status=$({ with_growth "$n" "$program" --listings >"$work/came" 2>"$work/fault"; echo $?; cat >"$work/left"; } <"$script")
     case $status in
       0) one_line_refused ;;
       1) ended_early "no memory" ;;

@@ -1,70 +1,49 @@
 #!/usr/bin/env bash
-# launch.sh PROGRAM WORD..: runs a program of this repository with the words and the standard input that
-# it is given, and ends with its exit status. Builds it first where a source is newer than the last build,
-# and tells on standard error how far that is.
-set -u
-[ $# -ge 1 ] || { sed -n '2,4s/^# //p' "$0" >&2; exit 2; }
+# launch.sh PROGRAM [--proved] WORD..: runs a program of this repository with the words and the standard input
+# that it is given, and ends with its exit status. Where the proved program is not there, or a source is newer,
+# it begins to build it behind itself, and meanwhile answers by the program as it is before any proof, which is
+# slower to start; standard output and status are the same. With --proved it waits for the proof.
+set -uo pipefail
+[ $# -ge 1 ] || { sed -n '2,5s/^# //p' "$0" >&2; exit 2; }
 name=$1
 shift
 here=$(cd "$(dirname "$0")/.." && pwd) || exit 1
-program=$here/crates/$name/out/$name
-built=$here/crates/$name/out/built
+out=$here/crates/$name/out
 
-is_old() {
-  [ ! -x "$program" ] || [ ! -e "$built" ] ||
-    [ -n "$(find "$here/crates.txt" "$here/crates" -name out -prune -o -type f -newer "$built" -print -quit)" ]
+# build_behind: has the program built behind this answer.
+build_behind() {
+  mkdir -p "$out" || return
+  setsid -f nice "$here/tools/build.sh" "$name" </dev/null >/dev/null 2>"$out/building.log"
 }
 
-# Adds to `libraries` those of this repository that a crate stands on, in the order in which they are
-# built: each after those that it uses.
-libraries=()
-add_below() {
-  local crate uses
-  read -ra uses < <(sed -n "s/^$1\( [^:]*\)\{0,1\}://p" "$here/crates.txt")
-  for crate in "${uses[@]}"; do
-    [ -d "$here/crates/$crate" ] || continue
-    case " ${libraries[*]-} " in
-      *" $crate "*) ;;
-      *)
-        add_below "$crate"
-        libraries+=("$crate")
-        ;;
-    esac
-  done
+# answer_unproved WORD..: what the program before any proof answers is in $work/answer, what it says of faults in
+# $work/faults. Fails where it came to no end.
+answer_unproved() {
+  cat >"$work/input"
+  (cd "$here/crates/$name" && rt try -- "$@" <"$work/input" >"$work/answer" 2>"$work/said")
+  status=$?
+  grep -q '^run=ended .* proved=no$' "$work/said" &&
+    sed '/^checked: ended status=/d; /^races: not looked for/d; /^run=ended .* proved=no$/d; /^rt: /d' "$work/said" >"$work/faults"
 }
 
-# Reads what rt prints, and tells of each library as it is proved.
-tell() {
-  local line place crate=''
-  while IFS= read -r line; do
-    case $line in
-      "crate "*": modules loaded"*) crate=${line#crate } crate=${crate%%:*} ;;
-      logic=proved*)
-        for place in "${!libraries[@]}"; do
-          [ "${libraries[place]}" != "$crate" ] ||
-            echo "$name: $((place + 1)) of ${#libraries[@]}: $crate proved" >&2
-        done
-        ;;
-    esac
-  done
-}
-
-build() {
-  add_below "$name"
-  echo "$name: building; a first build proves ${#libraries[@]} libraries and the program, and takes some twenty to thirty minutes on four cores" >&2
-  (cd "$here/crates/$name" && rt run </dev/null 2>&1) | tee "$1" | tell
-  return "${PIPESTATUS[0]}"
-}
-
-if is_old; then
-  mark=$(mktemp) || exit 1
-  log=$(mktemp) || exit 1
-  if ! build "$log"; then
-    cat "$log" >&2
-    rm -f "$mark" "$log"
-    exit 1
-  fi
-  rm -f "$log"
-  mv "$mark" "$built"
+is_waiting=
+if [ "${1:-}" = --proved ]; then
+  is_waiting=yes
+  shift
 fi
-exec "$program" "$@"
+if [ -z "$is_waiting" ] && ! "$here/tools/build.sh" --look "$name"; then
+  work=$(mktemp -d) || exit 1
+  trap 'rm -rf "$work"' EXIT
+  echo "$name: nothing is proved yet: this answer is the unproved program's, and the proof is being built behind it (crates/$name/out/building.log)" >&2
+  build_behind
+  if answer_unproved "$@"; then
+    cat "$work/answer"
+    cat "$work/faults" >&2
+    exit "$status"
+  fi
+  echo "$name: the unproved program gave no answer, so the proof is awaited" >&2
+  exec <"$work/input"
+  rm -rf "$work"
+fi
+"$here/tools/build.sh" "$name" || exit 1
+exec "$out/$name" "$@"

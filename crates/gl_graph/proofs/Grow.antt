@@ -117,9 +117,6 @@ pub count_interval_nodes : (index : NodeId) (from : ℕ) (keys : List ℕ) → l
 count_interval_nodes index from [] = refl
 count_interval_nodes index from (k ∷ keys) = ap suc (count_interval_nodes index (from + 1) keys)
 
-pub intervals_none : (s : Slab Stored) (index : NodeId) (ids : List NodeId) → AreBornApart s → AreBornWithin s index.birth → ids ≡ [] → AreIntervalsBorn s s index 0 ids
-intervals_none s index ids apart within none = record { keys = []; many = refl; grown = grown_none s index.birth apart within; ids_are = none }
-
 pub intervals_born : (old now next : Slab Stored) (index : NodeId) (place : ℕ) (ids next_ids : List NodeId) (born : AreIntervalsBorn old now index place ids) (key : ℕ) (x : Stored) → get now key ≡ None → Updates now next key (Some x) → x.birth ≡ index.birth + 1 + place
     → slab_len next ≡ slab_len now + 1 → shape_in_body x.body ≡ Interval place → x.parents.items ≡ index ∷ [] → next_ids ≡ ids ++ record { key = key; birth = index.birth + 1 + place } ∷ [] → AreIntervalsBorn old next index (place + 1) next_ids
 intervals_born old now next index place ids next_ids born key x free u birth len shape parents listed =

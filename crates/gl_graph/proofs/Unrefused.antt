@@ -133,6 +133,3 @@ passes (Err r) = false
 pub refused_by : {T : Type 0} (o : Option Refusal) (r : Refusal) (x : Result T Refusal) → Err r ≡ verdict o → x ≡ Err r → Refuses o x
 refused_by None r x e f = absurd (no (ap passes e))
 refused_by (Some s) r x e f = cc
-
-pub memory_only : {T : Type 0} (o : Option Refusal) (x : Result T Refusal) → o ≡ None → x ≡ Err refusal.NoMemory → Refuses o x
-memory_only o x e f = subst (λ p. Refuses p x) (sym e) (subst (λ y. Refuses None y) (sym f) refl)

@@ -19,10 +19,6 @@ pub record View : Type 0 where
   pub slots : List (Option Vertex)
   pub births : ℕ
 
--- what is kept under a key
-abbrev pub vertex_at : View → ℕ → Option Vertex
-vertex_at v key = slice_index_or v.slots key None
-
 -- the node that it is
 abbrev pub node_of : ℕ → Vertex → Node
 node_of key x = record { key = key; shape = x.shape; parents = x.parents }

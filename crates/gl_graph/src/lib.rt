@@ -11,6 +11,3 @@ mod store;
 
 pub use graph::Graph;
 pub use kind::Kind;
-
-#[cfg(test)]
-mod tests;

@@ -21,10 +21,6 @@ ahead-first q t u i d low at none =
     before (w ∷ q) (suc i) low at none =
         let r = before q i (omega arith) at in grind (arith, nat_tests)
 
--- nobody stands ahead of one who does not wait
-pub ahead-none : (q : List Waiter) (t u : ℕ) → is_among_waiters t q ≡ false → is_ahead q t u ≡ false
-ahead-none q t u h = ap (λ b. b && is_among_waiters u (before_first (is_waiter t) q)) h
-
 -- a waiter's slot is below 128
 pub entry-below : (q : List Waiter) (i : ℕ) (d : Waiter) → list_all is_entry q ≡ true → i < length q → (get_or q i d).0 < 128
 entry-below [] i d v low = absurd (omega arith)

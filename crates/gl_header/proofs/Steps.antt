@@ -1,11 +1,7 @@
 -- The lemmas that the proofs of functions share.
 use Rattle.gl_header.proofs.Queues.{without-absent}
-use Rattle.gl_header.proofs.Waiters.{wanted-none, wanted-some, dismissed-behind}
 use Rattle.gl_header.proofs.Placing.{placed_in-member, placed_in-new, prefix-le}
 
 pub ruleset list_steps = (without-absent)
 
 pub ruleset placed_steps = (placed_in-member, placed_in-new, prefix-le)
-
--- for callers that look before they call
-pub ruleset caller_steps = (wanted-none, wanted-some, dismissed-behind)

@@ -14,6 +14,3 @@ mod header;
 pub use changes::GrantList;
 pub use group::Group;
 pub use header::{Asked, Header, Try};
-
-#[cfg(test)]
-mod tests;

@@ -11,8 +11,5 @@ mod refusal;
 
 pub use laws::mode_laws;
 pub use mode::{Mode, compatible, covers, sup};
-pub use node::NodeId;
+pub use node::{MOST_PARENTS, NodeId};
 pub use refusal::Refusal;
-
-#[cfg(test)]
-mod tests;

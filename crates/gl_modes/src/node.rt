@@ -8,6 +8,9 @@ pub struct NodeId {
     pub birth: u64,
 }
 
+/// How many parents a node may have.
+pub const MOST_PARENTS: usize = 8;
+
 impl NodeId {
     /// Names no node: births begin at 1.
     pub const NONE: NodeId = NodeId { key: 0, birth: 0 };

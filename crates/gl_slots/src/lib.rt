@@ -5,6 +5,3 @@ mod bits;
 mod slots;
 
 pub use slots::{Iter, SLOTS, Slots};
-
-#[cfg(test)]
-mod tests;

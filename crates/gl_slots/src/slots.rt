@@ -21,7 +21,7 @@ ghost use Rattle.gl_slots.specs.Slots.{HasNoSlot, IsLowest, has_slot, no_slots, 
 
 use crate::bits::{has, lowest, without};
 
-/// How many slots there are; a slot is a number below this.
+/// How many slots there are, so how many transactions live at once. A slot is a number below this.
 pub const SLOTS: usize = 128;
 
 /// A set of slots.

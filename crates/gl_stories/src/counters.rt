@@ -100,7 +100,6 @@ fn asks_and_waits_are_counted(rt: HostRuntime) {
     let mut wanted = Counters {
         granted: 5,
         waited: 2,
-        would_block: 1,
         conversions: 1,
         most_waiting: 2,
         longest_queue: 2,
@@ -270,7 +269,6 @@ fn escalations_are_counted(rt: HostRuntime) {
     same(&rt, escalate(&mut desk, a, file), Ok(escalated));
     let wanted = Counters {
         granted: 4,
-        would_block: 2,
         escalations: 1,
         released_children: 2,
         ..Counters::default()

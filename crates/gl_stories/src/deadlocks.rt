@@ -48,7 +48,7 @@ fn a_ring_of_three_is_kept(rt: HostRuntime) {
     same(&rt, table.last_victim(), None);
     same(&rt, table.lock(c, f, Mode::IX), condemned());
     same(&rt, table.last_victim(), Some(c));
-    // The first waits for the last too, which waits for nobody and so is on no circle.
+    // The first waits for the last too, which waits for nobody and so is on no cycle.
     same(&rt, table.stuck(0), Some((a, g, Mode::X, 0b0010)));
     same(&rt, table.stuck(1), Some((b, h, Mode::S, 0b0100)));
     same(&rt, table.stuck(2), Some((c, f, Mode::IX, 0b0001)));

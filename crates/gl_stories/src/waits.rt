@@ -84,7 +84,7 @@ fn another_is_the_victim(rt: HostRuntime) {
 }
 
 #[test]
-fn a_circle_goes_through_a_waiter_ahead(rt: HostRuntime) {
+fn a_cycle_goes_through_a_waiter_ahead(rt: HostRuntime) {
     let mut table = allowed(&rt, Story::new(rt.alloc(), Detect::AtBlock, 3));
     let g = allowed(&rt, table.add_inner(&[]));
     let h = allowed(&rt, table.add_inner(&[]));

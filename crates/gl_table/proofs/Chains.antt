@@ -1,4 +1,4 @@
--- Where nobody waits in a circle, each chain of waits ends at one who does not wait.
+-- Where nobody is on a cycle of waits, each chain of waits ends at one who does not wait.
 use Rattle.std.specs.Prelude.{◌≡◌, ◌⊎◌, ℕ, zero, suc, Bool, true, false, not, ◌&&◌, ◌||◌, ◌==◌, List, [], ◌∷◌, length, Some, if◌then◌else◌}
 use Rattle.std.specs.List.{filter, list_any, list_all, range_with_len}
 use Rattle.std.proofs.Common.{refl, sym, ap, ap₂, ◌∙◌, arith, ⊎_elim, inl, inr}
@@ -83,7 +83,7 @@ module _ (edge : ℕ → ℕ → Bool) where
       here : q ≡ v → edge x q ≡ true
       here e = ap (edge x) e ∙ h.0
 
-  -- a walk without a circle meets each number once
+  -- a walk without a cycle meets each number once
   once : ((v : ℕ) → Reaches edge v v → ⊥) → (x y : ℕ) (way : List ℕ) → IsWalk edge x way y → Distinct way
   once none x y [] h = tt
   once none x y (v ∷ way) h = (split (list_any (same v) way) (λ k. absurd (none v (prefix v y v way h.1 k))) (λ k. k), once none v y way h.1)

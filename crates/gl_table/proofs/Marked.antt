@@ -119,26 +119,6 @@ pub record IsReleasing (s now : State) (t : ℕ) (n : NodeId) (ls : List LockLis
   pub own : notices_in told t ≡ notices_in was t
   pub tells : StillTells s now t was told
 
--- at the beginning none is released
-pub releasing_begins : (s : State) (t : ℕ) (n : NodeId) (ls : List LockList) (l : LockList) (told : Told) → IsOrderly s → status_of s t ≡ Some Active → ((u : ℕ) → (u == t) ≡ false → Agrees s ls u)
-    → ((u : ℕ) → (u == t) ≡ false → CountsHeld s ls u) → IsShedding s s t n l → IsBySlot told → ((u : ℕ) → is_wait (status_of s u) ≡ true → notices_in told u ≡ None) → IsReleasing s s t n ls l told told
-releasing_begins s t n ls l told o active agree count marked by_slot untold = record {
-  graph = refl;
-  orderly = o;
-  most = refl;
-  active = active;
-  agree = agree;
-  count = count;
-  marked = marked;
-  less = λ q h. h;
-  left = taken_none s t ∙ ap (λ f. pumped (taken_from s t f) f) (fun_ext (λ q. sym (and-not_self (holds (members s q) t))));
-  covered = λ q h. clash h (and-not_self (holds (members s q) t));
-  by_slot = by_slot;
-  untold = untold;
-  own = refl;
-  tells = λ begin way same. (way, same);
-}
-
 -- nothing is counted where whatever passes passes a test that nothing passes
 none_passes : (f g : NodeId → Bool) (xs : List NodeId) → list_any g xs ≡ false → ((x : NodeId) → f x ≡ true → g x ≡ true) → count_by f xs ≡ 0
 none_passes f g [] h less = refl

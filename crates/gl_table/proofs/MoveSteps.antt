@@ -1,4 +1,4 @@
--- A node moves: no step from one who waits to another is new, and so no circle.
+-- A node moves: no step from one who waits to another is new, and so no cycle.
 use Rattle.std.specs.Prelude.{◌≡◌, ℕ, Bool, true, false, not, ◌&&◌, ◌||◌, ◌==◌, List, [], ◌∷◌, Some, if◌then◌else◌}
 use Rattle.std.specs.List.{filter}
 use Rattle.std.proofs.Common.{refl, sym, ◌∙◌}

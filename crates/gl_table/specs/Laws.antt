@@ -33,7 +33,7 @@ CutSetLaw = (s : State) → IsLawfulGraph s.graph → (t : ℕ) (n : NodeId) →
 abbrev pub LawfulCutSet : Type 0
 LawfulCutSet = (s : State) → IsLawful s → (t : ℕ) (n : NodeId) → is_live s.graph n ≡ true → CutsOff s t n
 
--- where nobody waits in a circle, whoever waits waits, over some steps, for one who does not wait
+-- where nobody is on a cycle of waits, whoever waits waits, over some steps, for one who does not wait
 abbrev pub ChainsEnd : Type 0
 ChainsEnd = (s : State) → IsLawful s → HasNoCycle s → (t : ℕ) → is_wait (status_of s t) ≡ true → (u : ℕ) × Reaches (waits_for s) t u × (is_wait (status_of s u) ≡ false)
 

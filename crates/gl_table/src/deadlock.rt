@@ -7,7 +7,7 @@ ghost use Rattle.gl_table.specs.Deadlocks.{no_deadlock};
 use crate::txn::TxnId;
 use arrayvec::ArrayVec;
 use gl_modes::{Mode, NodeId};
-use gl_slots::Slots;
+use gl_slots::{SLOTS, Slots};
 
 /// One who waits on a cycle.
 #[derive(Clone, Copy, PartialEq, Eq, Debug)]
@@ -43,7 +43,7 @@ pub struct Deadlock {
     pub victim: TxnId,
     /// Each transaction on a cycle with the one that was settled, the victim among them, by rising
     /// slot.
-    pub cycle: ArrayVec<Stuck, 128>,
+    pub cycle: ArrayVec<Stuck, SLOTS>,
 }
 
 impl Deadlock {

@@ -18,7 +18,7 @@ pub fn cut_sets()
     ensures lawful { LawfulCutSet }
 {}
 
-/// Where nobody waits in a circle, each chain of waits ends at a transaction that does not wait.
+/// Where nobody is on a cycle of waits, each chain of waits ends at a transaction that does not wait.
 pub fn chains_end()
     ensures { ChainsEnd }
 {}

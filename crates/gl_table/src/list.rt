@@ -21,12 +21,9 @@ ghost use Rattle.gl_table.specs.Lists.{HasRoom, IsApart, count_of, entry_of, is_
 
 use crate::lock_row::LockRow;
 use gl_graph::Graph;
-use gl_modes::{Mode, NodeId, covers};
+use gl_modes::{MOST_PARENTS, Mode, NodeId, covers};
 use indexmap::IndexMap;
 use std::alloc::{AllocError, Global};
-
-/// How many parents a node may have.
-const MOST_PARENTS: usize = 8;
 
 /// What a list says of a node that its transaction holds or waits for.
 #[derive(Clone, Copy)]

@@ -5,6 +5,7 @@ ghost use Rattle.std.specs.Prelude.{◌≡◌};
 use crate::txn::TxnId;
 use arrayvec::ArrayVec;
 use gl_modes::{Mode, NodeId};
+use gl_slots::SLOTS;
 
 /// What a transaction is told of another's command.
 #[derive(Clone, Copy, PartialEq, Eq, Debug)]
@@ -30,4 +31,4 @@ impl Default for Notice {
 }
 
 /// Who is told what, by rising slot.
-pub type Told = ArrayVec<(TxnId, Notice), 128>;
+pub type Told = ArrayVec<(TxnId, Notice), SLOTS>;

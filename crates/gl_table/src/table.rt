@@ -99,7 +99,7 @@ impl Table {
     /// The law of every table: its state is lawful; a header stands exactly where somebody holds or
     /// waits, with the supremum of the grants as its group mode; the lists agree; no node has two
     /// headers, or stands twice in a list; no two transactions conflict; and with detection at block
-    /// nobody waits in a circle.
+    /// nobody is on a cycle of waits.
     pub fn law(&self)
         ensures lawful { IsLawful (state_of self.now) }
         ensures headers { AreHeaders self.now.headers }

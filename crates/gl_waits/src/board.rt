@@ -1,7 +1,6 @@
 //! The board.
 
-/// How many slots a board has, so how many transactions live at once.
-pub const SLOTS: usize = 128;
+use gl_slots::SLOTS;
 
 /// Who waits for whom at one moment.
 #[derive(Clone, Copy, PartialEq, Eq, Debug)]

@@ -5,10 +5,11 @@ ghost use Rattle.gl_waits.specs.Sets.{has_slot};
 ghost use Rattle.gl_waits.specs.Boards.{board_edge};
 ghost use Rattle.gl_waits.specs.Waits.{IsOnCycleOf, Reaches, waits_of};
 
-use crate::board::{Board, SLOTS};
+use crate::board::Board;
 use crate::reach::{columns, reached_from};
 use crate::set::has;
 use crate::waits_for::WaitsFor;
+use gl_slots::SLOTS;
 
 /// The slots on a cycle with `slot`: those that it reaches by one or more steps and that reach it.
 /// A slot that waits for itself is on a cycle with itself.

@@ -14,13 +14,11 @@ mod victim;
 mod victims;
 mod waits_for;
 
-pub use board::{Board, SLOTS};
+pub use board::Board;
 pub use cycle::{on_cycle, on_cycle_in};
 pub use freeing::freeing_victim;
+pub use gl_slots::SLOTS;
 pub use suspect::suspects;
 pub use victim::{youngest, youngest_of};
 pub use victims::{Victims, victim_for};
 pub use waits_for::WaitsFor;
-
-#[cfg(test)]
-mod tests;

@@ -5,8 +5,9 @@ ghost use Rattle.gl_waits.specs.Sets.{has_slot};
 ghost use Rattle.gl_waits.specs.Boards.{board_edge, row_edge};
 ghost use Rattle.gl_waits.specs.Waits.{IsOnCycle, Reaches};
 
-use crate::board::{Board, SLOTS};
+use crate::board::Board;
 use crate::set::{has, with};
+use gl_slots::SLOTS;
 
 /// The slots that are on a cycle with some slot, so those whose `on_cycle` is not empty.
 ///

@@ -6,8 +6,9 @@ ghost use Rattle.gl_waits.specs.Sets.{has_slot};
 ghost use Rattle.gl_waits.specs.Boards.{age_in};
 ghost use Rattle.gl_waits.specs.Waits.{IsLowestYoungest};
 
-use crate::board::{Board, SLOTS};
+use crate::board::Board;
 use crate::set::has;
+use gl_slots::SLOTS;
 
 /// The youngest of a set of slots: the one with the greatest age, of equal ages the lowest. `None`
 /// for the empty set.

@@ -4,11 +4,11 @@ ghost use Rattle.std.specs.Prelude.{ℕ, ◌<◌, ◌↔◌, IsNone, IfSome, sli
 ghost use Rattle.gl_waits.specs.Waits.{IsLowestYoungest, IsOnNoCycle};
 ghost use Rattle.gl_waits.specs.Victims.{IsCandidate};
 
-use crate::board::SLOTS;
 use crate::cycle::on_cycle_in;
 use crate::freeing::freeing_victim;
 use crate::victim::youngest_of;
 use crate::waits_for::WaitsFor;
+use gl_slots::SLOTS;
 
 /// Among whom the youngest is chosen, so that a slot gets off its cycles: all that are on a cycle with
 /// it, where more than one choice may be needed; or those alone whose choice is enough, so that one

@@ -1,6 +1,7 @@
 //! Whoever can say who waits for whom.
 
-use crate::board::{Board, SLOTS};
+use crate::board::Board;
+use gl_slots::SLOTS;
 
 /// Who waits for whom, told slot by slot. By the contract of `row`, whom a slot waits for is below
 /// `SLOTS` too.

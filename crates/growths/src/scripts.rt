@@ -3,9 +3,8 @@
 use crate::bill::Bill;
 use crate::watch::Watch;
 use arrayvec::ArrayVec;
+use gl_interpreter::{RunFault, run};
 use gl_table::Detect;
-use gl_tool::{Policy, RunFault, run};
-use gl_waits::Victims;
 use std::alloc::Global;
 
 pub(crate) fn play(bill: &mut Bill<'_>) {
@@ -112,11 +111,7 @@ fn report(alloc: Global, script: &Page, watch: &mut Watch) -> Page {
 
 /// Answers a script. It promises nothing, so that what `run` promises is no part of a play's proof.
 fn answer(alloc: Global, reader: &mut &[u8], out: &mut Page) -> Result<(), RunFault> {
-    let policy = Policy {
-        detect: Detect::AtBlock,
-        victims: Victims::Youngest,
-    };
-    run(alloc, reader, out, policy)
+    run(alloc, reader, out, Detect::AtBlock)
 }
 
 /// The first line that is answered with want of memory, where all before it are answered as wanted.

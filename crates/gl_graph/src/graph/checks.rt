@@ -20,13 +20,10 @@ ghost use Rattle.gl_graph.specs.View.{graph_of};
 
 use super::Graph;
 use crate::kind::Kind;
-use gl_modes::{NodeId, Refusal};
+use gl_modes::{MOST_PARENTS, NodeId, Refusal};
 
 /// How many nodes may live at once.
 const MOST_NODES: usize = 65_536;
-
-/// How many parents a node may have.
-const MOST_PARENTS: usize = 8;
 
 /// How many indexes a file may have.
 const MOST_INDEXES: usize = 7;

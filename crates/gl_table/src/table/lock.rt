@@ -27,7 +27,7 @@ use gl_modes::{Mode, NodeId, Refusal, sup};
 impl Table {
     /// Asks for a mode on a node, and waits where it cannot be granted at once. What is granted is
     /// the supremum of the held and the asked mode. With detection at block, the asker is settled then:
-    /// victims are condemned until it is on no circle, and the last deadlock that this ends is kept.
+    /// victims are condemned until it is on no cycle, and the last deadlock that this ends is kept.
     /// Answers what the ask came to, and who else is told of a grant or of being a victim, by rising
     /// slot.
     ///

@@ -78,7 +78,7 @@ impl Table {
     ///
     /// The transaction is active, and holds X on the node and IX or greater on each new parent, or X
     /// on each old and each new parent, where there are some on both sides. Linear in the parents and
-    /// the waiters of the node, but for the search for a circle.
+    /// the waiters of the node, but for the search for a cycle.
     ///
     /// Refused with `Cycle`, naming the first new parent that is the node or has a path to it, and
     /// with `NoMemory`, also where the search for such a path had too little.

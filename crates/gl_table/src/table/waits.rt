@@ -50,11 +50,11 @@ impl Table {
         Ok(())
     }
 
-    /// While the transaction waits in a circle, condemns the youngest of those on a circle with it, or,
-    /// where the fewest fall, the youngest of those that alone take it off all circles. Each victim's
+    /// While the transaction is on a cycle of waits, condemns the youngest of those on a cycle with it, or,
+    /// where the fewest fall, the youngest of those that alone take it off all cycles. Each victim's
     /// wait is given up, and its node grants from its front; the last deadlock that this ends is kept.
     /// Answers who is told of a grant or of being a victim, by rising slot: nobody where it is on no
-    /// circle, and then nothing changes.
+    /// cycle, and then nothing changes.
     ///
     /// Refused with `NoSuchTxn`. It takes no memory.
     pub fn settle(&mut self, t: TxnId) -> Result<Told, Refusal>

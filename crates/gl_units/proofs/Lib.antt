@@ -1,0 +1,2 @@
+mod Dismissed
+mod Steps

@@ -1,0 +1,197 @@
+//! Headers: the worked rows, by slots.
+
+ghost use Rattle.std.specs.Prelude.{◌≡◌, ◌≢◌, ◌<◌, false, true};
+ghost use Rattle.gl_modes.specs.declared.mode.Mode.TheVariants.{NL};
+ghost use Rattle.gl_header.specs.Header.{is_among_waiters};
+
+use arrayvec::ArrayVec;
+use gl_header::{Asked, GrantList, Header, Try};
+use gl_modes::{Mode, Refusal};
+use std::alloc::Global;
+use std::process::Abort;
+
+/// Whether a slot may ask for a mode: it does not wait, and the mode is one to hold.
+#[tactic(auto, using(crate::proofs::Steps::caller_steps))]
+fn may_ask(header: &Header, slot: u8, mode: Mode) -> bool
+    ensures below { result ≡ true → slot < 128 }
+    ensures not_waiting { result ≡ true → is_among_waiters slot header.now.queue ≡ false }
+    ensures lock { result ≡ true → mode ≢ NL }
+{
+    slot < 128 && mode != Mode::NL && header.wanted_by(slot).is_none()
+}
+
+/// Asks where the call's conditions hold.
+fn ask(header: &mut Header, slot: u8, mode: Mode) -> Result<Option<Asked>, Refusal> {
+    if !may_ask(header, slot, mode) {
+        return Ok(None);
+    }
+    Ok(Some(header.ask(slot, mode)?))
+}
+
+/// Tries where the call's conditions hold.
+fn try_ask(header: &mut Header, slot: u8, mode: Mode) -> Option<Try> {
+    if !may_ask(header, slot, mode) {
+        return None;
+    }
+    Some(header.try_ask(slot, mode))
+}
+
+/// Drops a grant where there is one and the slot does not wait.
+#[tactic(auto, using(crate::proofs::Steps::caller_steps))]
+fn drop_grant(header: &mut Header, slot: u8) -> Option<GrantList> {
+    if header.mode_of(slot) == Mode::NL || header.wanted_by(slot).is_some() {
+        return None;
+    }
+    let mut granted = ArrayVec::new();
+    header.drop_grant(slot, &mut granted);
+    Some(granted)
+}
+
+/// Drops a wait where there is one.
+#[tactic(auto, using(crate::proofs::Steps::caller_steps))]
+fn drop_wait(header: &mut Header, slot: u8) -> Option<GrantList> {
+    if header.wanted_by(slot).is_none() {
+        return None;
+    }
+    let mut granted = ArrayVec::new();
+    header.drop_wait(slot, &mut granted);
+    Some(granted)
+}
+
+/// Dismisses a wait behind another one, which cannot let anybody in.
+#[tactic(auto, using(crate::proofs::Steps::caller_steps))]
+fn dismiss_behind(header: &mut Header, slot: u8, other: u8) -> bool {
+    if !header.ahead(slot, other) {
+        return false;
+    }
+    header.law();
+    header.dismiss(slot);
+    true
+}
+
+#[test]
+fn a_conversion_goes_first(rt: HostRuntime) -> Result<(), Refusal> {
+    let mut header = Header::new(rt.alloc());
+    assert_eq!(rt;
+        ask(&mut header, 0, Mode::S)?,
+        Some(Asked::Granted(Mode::S))
+    );
+    assert_eq!(rt;
+        ask(&mut header, 1, Mode::S)?,
+        Some(Asked::Granted(Mode::S))
+    );
+    assert_eq!(rt; ask(&mut header, 2, Mode::X)?, Some(Asked::Waiting));
+    assert_eq!(rt; ask(&mut header, 0, Mode::X)?, Some(Asked::Waiting));
+    let granted = drop_grant(&mut header, 1).expect(&rt, "slot 1 holds S");
+    assert_eq!(rt; granted.as_slice(), [(0, Mode::X)].as_slice());
+    assert_eq!(rt; header.group(), Mode::X);
+    let granted = drop_grant(&mut header, 0).expect(&rt, "slot 0 holds X");
+    assert_eq!(rt; granted.as_slice(), [(2, Mode::X)].as_slice());
+    Ok(())
+}
+
+#[test]
+fn a_conversion_passes_the_queue(rt: HostRuntime) -> Result<(), Refusal> {
+    let mut header = Header::new(rt.alloc());
+    assert_eq!(rt;
+        ask(&mut header, 0, Mode::IS)?,
+        Some(Asked::Granted(Mode::IS))
+    );
+    assert_eq!(rt; ask(&mut header, 1, Mode::X)?, Some(Asked::Waiting));
+    assert_eq!(rt;
+        ask(&mut header, 0, Mode::S)?,
+        Some(Asked::Granted(Mode::S))
+    );
+    Ok(())
+}
+
+/// The slots from 1 on ask for S one after the other, and wait.
+fn readers_wait(rt: &impl Abort, header: &mut Header, last: u8) -> Result<(), Refusal> {
+    for slot in 1..=last {
+        assert_eq!(rt; ask(header, slot, Mode::S)?, Some(Asked::Waiting));
+    }
+    Ok(())
+}
+
+/// The slots from 1 on were granted S, in this order, and nobody else.
+fn readers_are_granted(rt: &impl Abort, granted: &GrantList, last: u8) {
+    assert_eq!(rt; granted.len(), usize::from(last));
+    for (slot, grant) in (1..=last).zip(granted.as_slice()) {
+        assert_eq!(rt; *grant, (slot, Mode::S));
+    }
+}
+
+/// A writer holds the node, and releases it when so many readers wait.
+fn let_readers_in(rt: &impl Abort, alloc: Global, last: u8) -> Result<(), Refusal> {
+    let mut header = Header::new(alloc);
+    assert_eq!(rt;
+        ask(&mut header, 0, Mode::X)?,
+        Some(Asked::Granted(Mode::X))
+    );
+    readers_wait(rt, &mut header, last)?;
+    let granted = drop_grant(&mut header, 0).expect(rt, "slot 0 holds X");
+    readers_are_granted(rt, &granted, last);
+    assert_eq!(rt; header.group(), Mode::S);
+    Ok(())
+}
+
+#[test]
+fn one_release_lets_63_readers_in(rt: HostRuntime) -> Result<(), Refusal> {
+    let_readers_in(&rt, rt.alloc(), 63)
+}
+
+#[test]
+fn one_release_lets_all_127_readers_in(rt: HostRuntime) -> Result<(), Refusal> {
+    let_readers_in(&rt, rt.alloc(), 127)
+}
+
+#[test]
+fn the_group_falls(rt: HostRuntime) -> Result<(), Refusal> {
+    let mut header = Header::new(rt.alloc());
+    assert_eq!(rt;
+        ask(&mut header, 0, Mode::IX)?,
+        Some(Asked::Granted(Mode::IX))
+    );
+    assert_eq!(rt;
+        ask(&mut header, 0, Mode::S)?,
+        Some(Asked::Granted(Mode::SIX))
+    );
+    assert_eq!(rt; try_ask(&mut header, 1, Mode::IX), Some(Try::WouldBlock));
+    assert_eq!(rt;
+        try_ask(&mut header, 1, Mode::IS),
+        Some(Try::Granted(Mode::IS))
+    );
+    let granted = drop_grant(&mut header, 0).expect(&rt, "slot 0 holds SIX");
+    assert!(rt; granted.is_empty());
+    assert_eq!(rt; header.group(), Mode::IS);
+    Ok(())
+}
+
+#[test]
+fn waits_are_taken_out(rt: HostRuntime) -> Result<(), Refusal> {
+    let mut header = Header::new(rt.alloc());
+    assert!(rt; header.is_empty());
+    assert_eq!(rt;
+        ask(&mut header, 0, Mode::S)?,
+        Some(Asked::Granted(Mode::S))
+    );
+    for (slot, mode) in [(1, Mode::X), (2, Mode::IX), (3, Mode::IS)] {
+        assert!(rt; !header.would_grant(slot, mode));
+        assert_eq!(rt; ask(&mut header, slot, mode)?, Some(Asked::Waiting));
+    }
+    assert!(rt; header.ahead(3, 1) && header.ahead(3, 2) && !header.ahead(2, 3));
+    assert_eq!(rt; header.wanted_by(2), Some(Mode::IX));
+    assert_eq!(rt; header.mode_of(2), Mode::NL);
+    assert!(rt; dismiss_behind(&mut header, 2, 1));
+    assert_eq!(rt; header.wanted_by(2), None);
+    let granted = drop_wait(&mut header, 1).expect(&rt, "slot 1 waits");
+    assert_eq!(rt; granted.as_slice(), [(3, Mode::IS)].as_slice());
+    assert!(rt; !header.is_empty());
+    for slot in [0, 3] {
+        let granted = drop_grant(&mut header, slot).expect(&rt, "both hold");
+        assert!(rt; granted.is_empty());
+    }
+    assert!(rt; header.is_empty());
+    assert_eq!(rt; header.group(), Mode::NL);
+    Ok(())
+}

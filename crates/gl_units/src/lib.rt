@@ -1,0 +1,22 @@
+//! The calls of the lower crates: modes, sets of slots, boards, the lock graph, headers, and the lines of
+//! a script. Each on its happy path, and at its limits.
+#![tactic(auto)]
+
+#[cfg(test)]
+mod bad_lines;
+#[cfg(test)]
+mod closures;
+#[cfg(test)]
+mod graphs;
+#[cfg(test)]
+mod headers;
+#[cfg(test)]
+mod listings;
+#[cfg(test)]
+mod modes;
+#[cfg(test)]
+mod script;
+#[cfg(test)]
+mod slots;
+#[cfg(test)]
+mod waits;

@@ -1,0 +1,39 @@
+#!/usr/bin/env bash
+# wrong_bodies.sh [CRATE..]: tries the wrong bodies of these crates, or of all, those in must-fail/ and those
+# in wrong/. Each is an edit of code that the crate's contracts must refuse. Prints a line for each: `refused`,
+# `not refused`, `bad` where it cannot be applied or read, `not tried` where its check came to no end. The last
+# line is 'N refused, M not refused', where M counts all that were not refused; the status is 1 unless M is 0.
+#
+# `./check` tries those of must-fail/ alone. Run this for each crate whose code or contracts changed. It works
+# on a copy, and begins with what `rt check` has kept: some 20 to 60 seconds for each.
+set -uo pipefail
+top=$(cd "$(dirname "$0")/.." && pwd) || exit 2
+copy=$(mktemp -d) || exit 2
+trap 'rm -rf "$copy"' EXIT
+
+for crate in "$@"; do
+  [ -d "$top/crates/$crate" ] || { echo "wrong_bodies.sh: no crate $crate" >&2; exit 2; }
+done
+tar -C "$top" --exclude='crates/*/out' -cf - crates crates.txt HANDLES | tar -C "$copy" -xf - || exit 2
+for edit in "$copy"/crates/*/wrong/*.edit; do
+  [ -e "$edit" ] || continue
+  beside=${edit%/wrong/*}/must-fail
+  [ ! -e "$beside/${edit##*/}" ] || { echo "wrong_bodies.sh: two edits have the name ${edit#"$copy"/}" >&2; exit 2; }
+  mkdir -p "$beside" && mv "$edit" "$beside/" || exit 2
+done
+
+(cd "$copy" && rt must-fail "$@" 2>&1) | awk '
+  function told(word) { sub(/^rt: /, ""); sub(/^must-fail /, ""); print word " " $0; fflush() }
+  /must-fail [^ ]*\.edit: refused, as it must be/ { refused++; told("refused"); next }
+  /must-fail [^ ]*\.edit: NOT REFUSED/ { missed++; told("not refused"); next }
+  /BAD EDIT/ { missed++; told("bad"); next }
+  /NOT TRIED/ { missed++; told("not tried"); next }
+  # (what the proof of a crate below says)
+  /: proved$/ || /^(logic|statements|crate)[ =]/ { next }
+  { print; fflush() }
+  END {
+    if (refused + missed == 0) print "nothing was tried"
+    printf "%d refused, %d not refused\n", refused, missed
+    exit missed > 0 || refused == 0
+  }
+'
