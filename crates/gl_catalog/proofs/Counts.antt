@@ -74,9 +74,6 @@ notices_snoc xs t notice.Gone k = λ i. record k {
 pub notices_more : (xs : Told) (i : ℕ) (d : TxnId × Notice) (k : Counters) → i < length xs → with_notices (take (i + 1) xs) k ≡ with_notice (get_or xs i d).1 (with_notices (take i xs) k)
 notices_more xs i d k less = ap (λ ys. with_notices ys k) (take_more xs i d less) ∙ notices_snoc (take i xs) (get_or xs i d).0 (get_or xs i d).1 k
 
-pub notices_none : (k : Counters) → with_notices [] k ≡ k
-notices_none k = λ i. record k { granted_later = rises_none k.granted_later i; victims = rises_none k.victims i; moved = rises_none k.moved i; gone = rises_none k.gone i }
-
 -- how many wait in the slots below k
 abbrev pub waiting_below : State → ℕ → ℕ
 waiting_below s k = count_by (λ t. is_wait (status_of s t)) (range_with_len 0 k)

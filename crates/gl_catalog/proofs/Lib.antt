@@ -9,7 +9,7 @@ pub mod MakeKeeps
 pub mod DeleteKeeps
 pub mod MoveCommands
 pub mod StepsKeepLaw
--- no command makes a circle of waits
+-- no command makes a cycle of waits
 pub mod Detection
 pub mod StepNoCycle
 -- what others cannot do to a holder

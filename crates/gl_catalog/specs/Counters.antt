@@ -2,7 +2,6 @@
 use Rattle.std.specs.Prelude.{ℕ, ◌+◌, ◌-◌, Bool, true, false, not, ◌&&◌, length, max, min, if◌then◌else◌}
 use Rattle.std.specs.List.{count_by}
 use Rattle.gl_modes.specs.declared.node.NodeId.{NodeId}
-use Rattle.gl_modes.specs.declared.refusal.Refusal.TheVariants as no
 use Rattle.gl_graph.specs.Refusals.{max_count}
 use Rattle.gl_header.specs.Header.{holds}
 use Rattle.gl_table.specs.declared.notice.Notice.{Notice}
@@ -16,7 +15,6 @@ use Rattle.gl_catalog.specs.declared.command.Answer.TheVariants as answer
 use Rattle.gl_catalog.specs.declared.command.Command.{Command}
 use Rattle.gl_catalog.specs.declared.command.Command.TheVariants as command
 use Rattle.gl_catalog.specs.declared.counters.Counters.{Counters}
-use Rattle.gl_catalog.specs.Manager.{ManagerView}
 
 -- a manager that was just made has counted nothing
 abbrev pub no_counts : Counters
@@ -24,7 +22,6 @@ no_counts =
     record {
       granted = 0;
       waited = 0;
-      would_block = 0;
       conversions = 0;
       granted_later = 0;
       victims = 0;
@@ -64,17 +61,6 @@ condemns a = false
 abbrev pub refuses : Answer → Bool
 refuses (answer.Refused r) = true
 refuses a = false
-
--- the answer refuses what could only have been granted after a wait
-abbrev pub refuses_wait : Answer → Bool
-refuses_wait (answer.Refused no.WouldBlock) = true
-refuses_wait a = false
-
--- a try or an escalation that would have had to wait: no other command is refused for that
-abbrev pub would_block : Command → Answer → Bool
-would_block (command.Try t n m) a = refuses_wait a
-would_block (command.Escalate t n) a = refuses_wait a
-would_block c a = false
 
 -- t lives, and holds n
 abbrev pub holds_already : State → TxnId → NodeId → Bool
@@ -125,13 +111,12 @@ abbrev pub queue_asked : Command → State → ℕ
 queue_asked (command.Lock t n m) s = length (s.queue n)
 queue_asked c s = 0
 
--- the law of a step: the counters after a command in state s that was answered a, told these and left s', where they were k before. Notices of grants are of asks that waited, so granted does not count them; a victim is one who was told so or one whose own lock was answered so.
+-- the law of a step: the counters after a command in state s that was answered a, told these and left s', where they were k before. A refusal adds nothing. Notices of grants are of asks that waited, so granted does not count them; a victim is one who was told so or one whose own lock was answered so.
 abbrev pub counted : State → Command → Answer → Told → State → Counters → Counters
 counted s c a told' s' k =
     record {
       granted = rises k.granted (one_if (grants a));
       waited = rises k.waited (one_if (waits a));
-      would_block = rises k.would_block (one_if (would_block c a));
       conversions = rises k.conversions (one_if (not (refuses a) && converts s c));
       granted_later = rises k.granted_later (count_by is_grant told');
       victims = rises k.victims (count_by is_victim told' + one_if (condemns a));
@@ -159,12 +144,3 @@ with_notices told' k =
       moved = rises k.moved (count_by is_moved told');
       gone = rises k.gone (count_by is_gone told');
     }
-
--- the counters, with one that would have had to wait, or without
-abbrev pub with_block : Bool → Counters → Counters
-with_block true k = record k { would_block = rises k.would_block 1 }
-with_block false k = k
-
--- a manager behind a command that it refused or that only asked: all is as before, but that a try or an escalation that would have had to wait is counted
-abbrev pub refusing : Command → Answer → ManagerView → ManagerView
-refusing c a m = record m { counters = with_block (would_block c a) m.counters }

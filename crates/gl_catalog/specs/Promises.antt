@@ -96,7 +96,7 @@ StepsKeepLaw = (s s' : State) (c : Command) (a : Answer) (told : Told) → IsLaw
 abbrev pub RunsKeepLaw : Type 0
 RunsKeepLaw = (s s' : State) (cs : List Command) (rs : List (Answer × Told)) → IsLawful s → Run s cs rs s' → IsLawful s'
 
--- with detection at block no run makes a circle of waits
+-- with detection at block no run makes a cycle of waits
 abbrev pub RunsKeepNoCycle : Type 0
 RunsKeepNoCycle = (s s' : State) (cs : List Command) (rs : List (Answer × Told)) → s.detect ≡ AtBlock → IsLawful s → HasNoCycle s → Run s cs rs s' → HasNoCycle s'
 

@@ -104,7 +104,7 @@ pub enum Command<'a> {
     Abort {
         txn: TxnId,
     },
-    /// Condemn the youngest on a cycle with this transaction until it is on none.
+    /// Condemn those who lie on a cycle with this transaction, by the choice of victims, until it is on none.
     Settle {
         txn: TxnId,
     },

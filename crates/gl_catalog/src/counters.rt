@@ -1,21 +1,19 @@
 //! What a manager has been doing, in numbers.
 
 ghost use Rattle.std.specs.Prelude.{◌≡◌, ◌&&◌, max, not};
-ghost use Rattle.gl_catalog.specs.Counters.{condemns, escalates, grants, one_if, refuses, released_by, rises, waits, with_notice, with_notices, would_block};
+ghost use Rattle.gl_catalog.specs.Counters.{condemns, escalates, grants, one_if, refuses, released_by, rises, waits, with_notice, with_notices};
 
-use crate::command::{Answer, Command};
-use gl_modes::Refusal;
+use crate::command::Answer;
 use gl_table::{Notice, TxnId};
 
-/// What a manager has been doing since it was made. Each is a count that stops at the greatest `u64`.
+/// What a manager has been doing since it was made, in commands that it accepted. Each is a count that
+/// stops at the greatest `u64`.
 #[derive(Clone, Copy, PartialEq, Eq, Debug, Default)]
 pub struct Counters {
     /// Asks, by lock or by try, that were answered with a mode.
     pub granted: u64,
     /// Locks that were answered with a wait.
     pub waited: u64,
-    /// Tries and escalations that were refused with `WouldBlock`.
-    pub would_block: u64,
     /// Asks, by lock or by try, of a node that the transaction held already, where they were not
     /// refused.
     pub conversions: u64,
@@ -43,16 +41,10 @@ pub struct Counters {
 impl Counters {
     /// With one command that was answered so. `held_before` says whether it asked for a node that its
     /// transaction held already.
-    pub(crate) fn with_answer(
-        self,
-        command: &Command<'_>,
-        held_before: bool,
-        answer: &Answer,
-    ) -> Counters
+    pub(crate) fn with_answer(self, held_before: bool, answer: &Answer) -> Counters
         ensures { result ≡ record self {
           granted = rises self.granted (one_if (grants answer.now));
           waited = rises self.waited (one_if (waits answer.now));
-          would_block = rises self.would_block (one_if (would_block command.now answer.now));
           conversions = rises self.conversions (one_if (not (refuses answer.now) && held_before));
           victims = rises self.victims (one_if (condemns answer.now));
           escalations = rises self.escalations (one_if (escalates answer.now));
@@ -62,7 +54,6 @@ impl Counters {
         Counters {
             granted: raised_if(self.granted, matches!(answer, Answer::Granted(_))),
             waited: raised_if(self.waited, matches!(answer, Answer::Waiting)),
-            would_block: raised_if(self.would_block, would_block(command, answer)),
             conversions: raised_if(
                 self.conversions,
                 !matches!(answer, Answer::Refused(_)) && held_before,
@@ -133,18 +124,6 @@ fn raised_if(count: u64, happened: bool) -> u64
     ensures { result ≡ rises count (one_if happened) }
 {
     raised(count, u64::from(happened))
-}
-
-/// Whether a try or an escalation was refused since it would have had to wait.
-fn would_block(command: &Command<'_>, answer: &Answer) -> bool
-    ensures { result ≡ would_block command.now answer.now }
-{
-    match command {
-        Command::Try { .. } | Command::Escalate { .. } => {
-            matches!(answer, Answer::Refused(Refusal::WouldBlock))
-        }
-        _ => false,
-    }
 }
 
 /// How many children an escalation released; none where the answer is that of another command.

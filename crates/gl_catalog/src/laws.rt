@@ -21,7 +21,7 @@ pub fn others_keep_below()
     ensures { OthersKeepBelow }
 {}
 
-/// With detection at block no run makes a circle of waits, and the empty state has none.
+/// With detection at block no run makes a cycle of waits, and the empty state has none.
 pub fn no_cycle()
     ensures law { RunsKeepNoCycle }
     ensures start { EmptyHasNoCycle }

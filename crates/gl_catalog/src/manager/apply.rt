@@ -2,7 +2,7 @@
 
 ghost use Rattle.std.specs.Prelude.{◌≡◌, []};
 ghost use Rattle.gl_catalog.specs.Deadlocks.{KeepsDeadlock};
-ghost use Rattle.gl_catalog.specs.Counters.{counted, refusing};
+ghost use Rattle.gl_catalog.specs.Counters.{counted};
 ghost use Rattle.gl_catalog.specs.Manager.{state_of};
 ghost use Rattle.gl_catalog.specs.Promises.{KeepsCaller, SettlesIdle, StepLeavesOthers};
 ghost use Rattle.gl_catalog.specs.Step.{Step};
@@ -18,14 +18,13 @@ use gl_table::Told;
 impl Manager {
     /// Carries out one command, and answers it. A command that changes something and is not refused
     /// is counted; one that waits, or whose asker is condemned, counts too. A refused command and a
-    /// query change nothing, but that the counters say how many tries and escalations would have had
-    /// to wait.
+    /// query change nothing.
     ///
     /// To a living transaction that the command does not name, its effective mode on each record that
     /// stands before and after is left, or raised where the reply tells it of a grant; and where it
     /// reads a node, the records below that node are left, with their keys. A rekey and a move leave
     /// the effective modes of their caller, and an escalation lowers none. A settle of a transaction
-    /// that is on no circle tells nobody. A lock and a settle keep the last deadlock of which they
+    /// that is on no cycle tells nobody. A lock and a settle keep the last deadlock of which they
     /// condemn the victim, and every other command leaves the one that was kept.
     pub fn apply(&mut self, command: Command<'_>) -> Reply
         ensures step { Step (state_of self.old) command.entry result.answer result.told.items (state_of self.new) }
@@ -34,7 +33,7 @@ impl Manager {
         ensures others { StepLeavesOthers (state_of self.old) command.entry (result.answer, result.told.items) (state_of self.new) }
         ensures settles { SettlesIdle (state_of self.old) command.entry result.answer result.told.items (state_of self.new) }
         ensures counters { self.new.counters ≡ counted (state_of self.old) command.entry result.answer result.told.items (state_of self.new) self.old.counters }
-        ensures same { self.new.accepted ≡ self.old.accepted → self.new ≡ refusing command.entry result.answer self.old }
+        ensures same { self.new.accepted ≡ self.old.accepted → self.new ≡ self.old }
     {
         let mut told = Told::new();
         let answer = self.apply_telling(command, &mut told);
@@ -51,7 +50,7 @@ impl Manager {
         ensures others { StepLeavesOthers (state_of self.old) command.entry (result, told.new.items) (state_of self.new) }
         ensures settles { SettlesIdle (state_of self.old) command.entry result told.new.items (state_of self.new) }
         ensures counters { self.new.counters ≡ counted (state_of self.old) command.entry result told.new.items (state_of self.new) self.old.counters }
-        ensures same { self.new.accepted ≡ self.old.accepted → self.new ≡ refusing command.entry result self.old }
+        ensures same { self.new.accepted ≡ self.old.accepted → self.new ≡ self.old }
     {
         self.law();
         let held_before = self.converts(&command);

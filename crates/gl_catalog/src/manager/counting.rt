@@ -36,7 +36,7 @@ impl Manager {
         let queued = self.queue_seen(command, answer);
         self.counters = self
             .counters
-            .with_answer(command, held_before, answer)
+            .with_answer(held_before, answer)
             .with_waits(waiting, queued)
             .with_notices(told.as_slice());
     }

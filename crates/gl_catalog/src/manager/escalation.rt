@@ -4,15 +4,14 @@ ghost use Rattle.std.specs.Prelude.{◌≡◌, ◌+◌, ◌∷◌, [], OnErr, On
 ghost use Rattle.gl_graph.specs.Refusals.{first_refusal, verdict};
 ghost use Rattle.gl_catalog.specs.declared.command.Command.TheVariants as command;
 ghost use Rattle.gl_catalog.specs.Deadlocks.{KeepsAccepted};
-ghost use Rattle.gl_catalog.specs.Counters.{counted, refusing};
+ghost use Rattle.gl_catalog.specs.Counters.{counted};
 ghost use Rattle.gl_catalog.specs.Manager.{state_of};
 ghost use Rattle.gl_catalog.specs.Promises.{KeepsCaller, StepLeavesOthers};
 ghost use Rattle.gl_catalog.specs.Replies.{CallSteps, rising, rose, said};
 ghost use Rattle.gl_catalog.specs.Tests.{escalate_asks, worn};
 
 use super::Manager;
-use crate::command::{Command, Escalated};
-use crate::replies::escalate_answer;
+use crate::command::{Answer, Command, Escalated};
 use gl_graph::Kind;
 use gl_modes::{Mode, NodeId, Refusal};
 use gl_table::{Told, TxnId};
@@ -35,17 +34,14 @@ impl Manager {
         ensures others { StepLeavesOthers (state_of self.old) (command.Escalate t n) (said rose result) (state_of self.new) }
         ensures counted { OnOk result (self.new.accepted ≡ self.old.accepted + 1) }
         ensures counters { self.new.counters ≡ counted (state_of self.old) (command.Escalate t n) (said rose result).0 (said rose result).1 (state_of self.new) self.old.counters }
-        ensures err { OnErr result (self.new ≡ refusing (command.Escalate t n) (said rose result).0 self.old) }
+        ensures err { OnErr result (self.new ≡ self.old) }
     {
         self.law();
         let mut told = Told::new();
-        let outcome = self.escalate_telling(t, n, &mut told);
+        let escalated = self.escalate_telling(t, n, &mut told)?;
         let command = Command::Escalate { txn: t, node: n };
-        self.count(&command, false, &escalate_answer(outcome), &told);
-        match outcome {
-            Ok(escalated) => Ok((escalated, told)),
-            Err(refusal) => Err(refusal),
-        }
+        self.count(&command, false, &Answer::Escalated(escalated), &told);
+        Ok((escalated, told))
     }
 
     /// As `escalate`, with the notices put into an empty list.

@@ -138,7 +138,7 @@ impl Manager {
         Ok(())
     }
 
-    /// Condemns the youngest on a circle with the transaction until it is on none.
+    /// Condemns victims, by the choice of victims, until the transaction is on no cycle.
     pub(super) fn settle_telling(&mut self, t: TxnId, told: &mut Told) -> Result<(), Refusal>
         requires empty { told.old.items ≡ [] }
         ensures step { CallSteps (state_of self.old) (command.Settle t) (doing told.new.items) result (state_of self.new) }

@@ -185,7 +185,7 @@ impl Manager {
         parents
     }
 
-    /// The tests of `relocate` but for the search for a circle and for memory.
+    /// The tests of `relocate` but for the search for a cycle and for memory.
     fn check_relocate(&self, t: TxnId, n: NodeId, parents: &[NodeId]) -> Result<(), Refusal>
         ensures { result ≡ verdict (first_refusal (worn (state_of self.now) ∷ move_asks (state_of self.now) t n parents.now)) }
     {
