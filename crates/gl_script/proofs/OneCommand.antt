@@ -1,5 +1,5 @@
 -- A line says at most one command or listing: its first field tells the verb or the topic, and names, modes, nodes, numbers and lists of them are spelt in one way.
-use Rattle.std.proofs.Common.{◌≡◌, ◌≢◌, ℕ, ◌==◌, List, [], ◌∷◌, ◌++◌, All, map, false, codes, decimal, refl, sym, ap, ap₂, ◌∙◌, subst}
+use Rattle.std.proofs.Common.{◌≡◌, ◌≢◌, ℕ, ◌==◌, List, [], ◌∷◌, ◌++◌, All, Bool, map, false, codes, decimal, refl, sym, ap, ap₂, ◌∙◌, subst}
 use Rattle.std.specs.List.{slice_split}
 use Rattle.std.specs.Str.{bytes_eq}
 use Rattle.std.proofs.lemmas.Fmt.{decimal_injective}
@@ -7,6 +7,7 @@ use Rattle.std.proofs.lemmas.List.Elements.{All-head, All-tail}
 use Rattle.gl_modes.specs.declared.mode.Mode.{Mode}
 use Rattle.gl_modes.specs.Modes.{mode_text}
 use Rattle.gl_modes.proofs.Spellings.{mode_text-injective}
+use Rattle.gl_script.specs.declared.form.Language.{Language}
 use Rattle.gl_script.specs.declared.form.Version.{Version}
 use Rattle.gl_script.specs.Grammar.{Text, Command, Inner, File, Index, Begin, Lock, Try, Unlock, Cancel, Commit, Abort, Settle, Insert, Delete, Rekey, Escalate, Move, Group, Held, Effective, Listing, Holders, Queue, Locks, Waits, Txns, Cycle, Line, Orders, Lists, Node, Plain, Interval, IsNode, IsNumber, AreSomeNodes, node_text, parents, fields, listing_fields, SaysFields, ListsFields, LineFields, LineSaysOneCommand}
 use Rattle.gl_script.proofs.Splitting.{cut_once, has_byte}
@@ -139,18 +140,18 @@ one_of_fields v all (Effective s m) (Effective t n) p q = let same = same_of_txn
 one_of_fields v all c d p q = absurd (differ v all c d p q refl)
 
 -- two listings with one line have one topic
-lists_differ : (v : Version) (all : List Text) (c d : Listing) → ListsFields v all c → ListsFields v all d
+lists_differ : (had : Bool) (all : List Text) (c d : Listing) → ListsFields had all c → ListsFields had all d
     → bytes_eq (first_field (listing_fields c)) (first_field (listing_fields d)) ≡ false → ⊥
-lists_differ v all c d p q f = apart (listing_fields c) (listing_fields d) (sym p.2 ∙ q.2) f
+lists_differ had all c d p q f = apart (listing_fields c) (listing_fields d) (sym p.2 ∙ q.2) f
 
-one_of_listed : (v : Version) (all : List Text) (c d : Listing) → ListsFields v all c → ListsFields v all d → c ≡ d
-one_of_listed v all (Holders m) (Holders n) p q = ap Holders (one_node m n p.0 q.0 (same_of_name _ (node_text m) (node_text n) (sym p.2 ∙ q.2)))
-one_of_listed v all (Queue m) (Queue n) p q = ap Queue (one_node m n p.0 q.0 (same_of_name _ (node_text m) (node_text n) (sym p.2 ∙ q.2)))
-one_of_listed v all (Locks s) (Locks t) p q = ap Locks (same_of_name _ s t (sym p.2 ∙ q.2))
-one_of_listed v all (Waits s) (Waits t) p q = ap Waits (same_of_name _ s t (sym p.2 ∙ q.2))
-one_of_listed v all Txns Txns p q = refl
-one_of_listed v all Cycle Cycle p q = refl
-one_of_listed v all c d p q = absurd (lists_differ v all c d p q refl)
+one_of_listed : (had : Bool) (all : List Text) (c d : Listing) → ListsFields had all c → ListsFields had all d → c ≡ d
+one_of_listed had all (Holders m) (Holders n) p q = ap Holders (one_node m n p.0 q.0 (same_of_name _ (node_text m) (node_text n) (sym p.2 ∙ q.2)))
+one_of_listed had all (Queue m) (Queue n) p q = ap Queue (one_node m n p.0 q.0 (same_of_name _ (node_text m) (node_text n) (sym p.2 ∙ q.2)))
+one_of_listed had all (Locks s) (Locks t) p q = ap Locks (same_of_name _ s t (sym p.2 ∙ q.2))
+one_of_listed had all (Waits s) (Waits t) p q = ap Waits (same_of_name _ s t (sym p.2 ∙ q.2))
+one_of_listed had all Txns Txns p q = refl
+one_of_listed had all Cycle Cycle p q = refl
+one_of_listed had all c d p q = absurd (lists_differ had all c d p q refl)
 
 -- a listing's line has a field
 some_topic : (l : Listing) → [] ≡ listing_fields l → ⊥
@@ -162,18 +163,18 @@ some_topic Txns e = cc
 some_topic Cycle e = cc
 
 -- no fields are those of a command and those of a listing: verbs are no topics
-not_both : (v : Version) (all : List Text) (c : Command) (l : Listing) → SaysFields v all c → ListsFields v all l → ⊥
-not_both v [] c l p q = some_topic l q.2
-not_both v (f ∷ rest) c l p q =
+not_both : (v : Version) (had : Bool) (all : List Text) (c : Command) (l : Listing) → SaysFields v all c → ListsFields had all l → ⊥
+not_both v had [] c l p q = some_topic l q.2
+not_both v had (f ∷ rest) c l p q =
     let verb = first_verb f rest c p.2 in
     let topic = first_topic f rest l q.2 in
     verb_no_topic verb.0 topic.0 (sym verb.1 ∙ topic.1)
 
-one_of_line : (v : Version) (all : List Text) (c d : Line) → LineFields v all c → LineFields v all d → c ≡ d
-one_of_line v all (Orders c) (Orders d) p q = ap Orders (one_of_fields v all c d p q)
-one_of_line v all (Orders c) (Lists l) p q = absurd (not_both v all c l p q)
-one_of_line v all (Lists l) (Orders d) p q = absurd (not_both v all d l q p)
-one_of_line v all (Lists l) (Lists m) p q = ap Lists (one_of_listed v all l m p q)
+one_of_line : (g : Language) (all : List Text) (c d : Line) → LineFields g all c → LineFields g all d → c ≡ d
+one_of_line g all (Orders c) (Orders d) p q = ap Orders (one_of_fields g.version all c d p q)
+one_of_line g all (Orders c) (Lists l) p q = absurd (not_both g.version g.listings all c l p q)
+one_of_line g all (Lists l) (Orders d) p q = absurd (not_both g.version g.listings all d l q p)
+one_of_line g all (Lists l) (Lists m) p q = ap Lists (one_of_listed g.listings all l m p q)
 
 pub one_command : LineSaysOneCommand
-one_command v text c d p q = one_of_line v (slice_split (λ b. b == 32) text) c d p q
+one_command g text c d p q = one_of_line g (slice_split (λ b. b == 32) text) c d p q

@@ -9,7 +9,7 @@ use Rattle.gl_script.specs.declared.verb.Verb.{Verb}
 use Rattle.gl_script.specs.declared.verb.Verb.TheVariants as verb
 use Rattle.gl_script.specs.Grammar.{Text, Command, Listing, Line, LineFields, fields, listing_fields}
 use Rattle.gl_script.specs.Grammar as grammar
-use Rattle.gl_script.specs.declared.form.Version.{Version}
+use Rattle.gl_script.specs.declared.form.Language.{Language}
 
 -- the verb that a command's line begins with
 pub first_verb : (f : Text) (rest : List Text) (c : Command) → f ∷ rest ≡ fields c → (v : Verb) × (f ≡ word v)
@@ -80,7 +80,7 @@ verb_no_topic v topic.Txns e = told_apart _ _ (not_txns v) e
 verb_no_topic v topic.Cycle e = told_apart _ _ (not_cycle v) e
 
 -- a first field that is neither a verb nor a topic begins no line
-pub no_line : (v : Version) (all : List Text) (f : Text) (rest : List Text) → all ≡ f ∷ rest
-    → ((w : Verb) → f ≢ word w) → ((t : Topic) → f ≢ topic_word t) → (l : Line) → LineFields v all l → ⊥
-no_line v all f rest e no_verb no_topic (grammar.Orders c) says = let named = first_verb f rest c (sym e ∙ says.2) in no_verb named.0 named.1
-no_line v all f rest e no_verb no_topic (grammar.Lists l) says = let named = first_topic f rest l (sym e ∙ says.2) in no_topic named.0 named.1
+pub no_line : (g : Language) (all : List Text) (f : Text) (rest : List Text) → all ≡ f ∷ rest
+    → ((w : Verb) → f ≢ word w) → ((t : Topic) → f ≢ topic_word t) → (l : Line) → LineFields g all l → ⊥
+no_line g all f rest e no_verb no_topic (grammar.Orders c) says = let named = first_verb f rest c (sym e ∙ says.2) in no_verb named.0 named.1
+no_line g all f rest e no_verb no_topic (grammar.Lists l) says = let named = first_topic f rest l (sym e ∙ says.2) in no_topic named.0 named.1

@@ -1,8 +1,9 @@
 -- The lines of a script: which bytes say which command or listing. Each has fields, and a line says it where it falls into them.
-use Rattle.std.specs.Prelude.{◌≡◌, ◌≢◌, ◌==◌, ℕ, ◌<◌, ◌≤◌, ◌^◌, ◌⊎◌, List, [], ◌∷◌, ◌++◌, length, map, slice_index, All, codes, decimal}
+use Rattle.std.specs.Prelude.{◌≡◌, ◌≢◌, ◌==◌, ℕ, ◌<◌, ◌≤◌, ◌^◌, ◌⊎◌, Bool, true, List, [], ◌∷◌, ◌++◌, length, map, slice_index, All, codes, decimal}
 use Rattle.std.specs.List.{slice_split}
 use Rattle.gl_modes.specs.declared.mode.Mode.{Mode}
 use Rattle.gl_modes.specs.Modes.{mode_text}
+use Rattle.gl_script.specs.declared.form.Language.{Language}
 use Rattle.gl_script.specs.declared.form.Version.{Version}
 use Rattle.gl_script.specs.declared.form.Version.TheVariants as version
 
@@ -162,19 +163,19 @@ listing_fields Cycle = codes "cycle" ∷ []
 abbrev pub SaysFields : Version → List Text → Command → Type 0
 SaysFields v all command = IsCommand command × IsOfVersion v command × (all ≡ fields command)
 
--- the fields are those of the listing, which is of version 3 alone
-abbrev pub ListsFields : Version → List Text → Listing → Type 0
-ListsFields v all listing = IsListing listing × (v ≡ version.Three) × (all ≡ listing_fields listing)
+-- the fields are those of the listing, where there are listings
+abbrev pub ListsFields : Bool → List Text → Listing → Type 0
+ListsFields listings all listing = IsListing listing × (listings ≡ true) × (all ≡ listing_fields listing)
 
 -- the fields are those of the line
-abbrev pub LineFields : Version → List Text → Line → Type 0
-LineFields v all (Orders command) = SaysFields v all command
-LineFields v all (Lists listing) = ListsFields v all listing
+abbrev pub LineFields : Language → List Text → Line → Type 0
+LineFields l all (Orders command) = SaysFields l.version all command
+LineFields l all (Lists listing) = ListsFields l.listings all listing
 
 -- the bytes say the line: exactly one space stands between two fields, and none at either end
-abbrev pub Says : Version → Text → Line → Type 0
-Says v text line = LineFields v (slice_split (λ b. b == 32) text) line
+abbrev pub Says : Language → Text → Line → Type 0
+Says l text line = LineFields l (slice_split (λ b. b == 32) text) line
 
 -- the bytes say at most one line
 abbrev pub LineSaysOneCommand : Type 0
-LineSaysOneCommand = (v : Version) (text : Text) (c d : Line) → Says v text c → Says v text d → c ≡ d
+LineSaysOneCommand = (l : Language) (text : Text) (c d : Line) → Says l text c → Says l text d → c ≡ d

@@ -17,15 +17,21 @@ use crate::verb::Verb;
 use arrayvec::ArrayVec;
 use gl_modes::Mode;
 
-/// Which forms a script may have.
+/// Which commands a script may have.
 #[derive(Clone, Copy, PartialEq, Eq, Debug)]
 pub enum Version {
-    /// All but `move` and the listings.
+    /// All but `move`.
     One,
-    /// All but the listings.
-    Two,
     /// All.
-    Three,
+    Two,
+}
+
+/// Which forms a script may have.
+#[derive(Clone, Copy, PartialEq, Eq, Debug)]
+pub struct Language {
+    pub version: Version,
+    /// Whether the listings are among them.
+    pub listings: bool,
 }
 
 /// A command, as a line has it. The parents, bounds and keys of the line are [`Lists`] beside it.
@@ -198,7 +204,7 @@ fn read_move(version: Version, fields: &mut Fields, lists: &mut Lists) -> Option
 {
     match version {
         Version::One => None,
-        Version::Two | Version::Three => {
+        Version::Two => {
             txn_node_parents(
                 fields,
                 &mut lists.nodes,

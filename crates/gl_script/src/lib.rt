@@ -14,10 +14,7 @@ mod shapes;
 mod topic;
 mod verb;
 
-pub use form::{Form, Lists, Version};
+pub use form::{Form, Language, Lists, Version};
 pub use line::{Line, one_command, parse};
 pub use listing::Listing;
 pub use reads::{Name, Used};
-
-#[cfg(test)]
-mod tests;

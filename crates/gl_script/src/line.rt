@@ -5,7 +5,7 @@ ghost use Rattle.gl_script.specs.Grammar.{Says, LineSaysOneCommand, Line as TheL
 ghost use Rattle.gl_script.specs.Views.{line_of};
 
 use crate::fields::Fields;
-use crate::form::{Form, Lists, Version, read_command};
+use crate::form::{Form, Language, Lists, read_command};
 use crate::listing::{Listing, read_listing};
 use crate::topic::read_topic;
 use crate::verb::read_verb;
@@ -19,20 +19,22 @@ pub enum Line {
     List(Listing),
 }
 
-/// What a line of at most 256 bytes says, if it says anything. The parents, bounds and keys of its
-/// command are then in `lists`, whatever was there before.
-pub fn parse(version: Version, line: &[u8], lists: &mut Lists) -> Option<Line>
+/// What a line of at most 256 bytes says in the language, if it says anything. The parents, bounds and
+/// keys of its command are then in `lists`, whatever was there before.
+pub fn parse(language: Language, line: &[u8], lists: &mut Lists) -> Option<Line>
     requires short { length line.now ≤ 256 }
-    ensures says { IfSome result (λ said. Says version line.now (line_of said lists.new)) }
-    ensures none { IfNone result ((l : TheLine) → Says version line.now l → ⊥) }
+    ensures says { IfSome result (λ said. Says language line.now (line_of said lists.new)) }
+    ensures none { IfNone result ((l : TheLine) → Says language line.now l → ⊥) }
 {
     let mut fields = Fields::of(line);
     let first = fields.next()?;
     match read_verb(first) {
-        Some(verb) => Some(Line::Order(read_command(version, verb, &mut fields, lists)?)),
+        Some(verb) => {
+            Some(Line::Order(read_command(language.version, verb, &mut fields, lists)?))
+        }
         None => {
             let topic = read_topic(first)?;
-            Some(Line::List(read_listing(version, topic, &mut fields)?))
+            Some(Line::List(read_listing(language.listings, topic, &mut fields)?))
         }
     }
 }

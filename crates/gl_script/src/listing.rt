@@ -1,13 +1,12 @@
 //! The listings of a line.
 
-ghost use Rattle.std.specs.Prelude.{◌∷◌, IfSome, IfNone};
+ghost use Rattle.std.specs.Prelude.{◌∷◌, true, IfSome, IfNone};
 ghost use Rattle.gl_script.specs.Grammar.{ListsFields, Listing as TheListing};
 ghost use Rattle.gl_script.specs.Left.{left};
 ghost use Rattle.gl_script.specs.Views.{listing_of};
 ghost use Rattle.gl_script.specs.Words.{topic_word};
 
 use crate::fields::Fields;
-use crate::form::Version;
 use crate::reads::{Name, Used};
 use crate::shapes::{only_name, only_node};
 use crate::topic::Topic;
@@ -29,21 +28,22 @@ pub enum Listing {
     Cycle,
 }
 
-/// The listing that a topic and the fields behind it say, if they say one.
-pub(crate) fn read_listing(version: Version, topic: Topic, fields: &mut Fields) -> Option<Listing>
-    ensures says { IfSome result (λ listing. ListsFields version (topic_word topic ∷ left fields.old) (listing_of listing)) }
-    ensures none { IfNone result ((l : TheListing) → ListsFields version (topic_word topic ∷ left fields.old) l → ⊥) }
+/// The listing that a topic and the fields behind it say, if there are listings and they say one.
+pub(crate) fn read_listing(listings: bool, topic: Topic, fields: &mut Fields) -> Option<Listing>
+    ensures says { IfSome result (λ listing. ListsFields listings (topic_word topic ∷ left fields.old) (listing_of listing)) }
+    ensures none { IfNone result ((l : TheListing) → ListsFields listings (topic_word topic ∷ left fields.old) l → ⊥) }
 {
-    match version {
-        Version::One | Version::Two => None,
-        Version::Three => read_topic_parts(topic, fields),
+    if listings {
+        read_topic_parts(topic, fields)
+    } else {
+        None
     }
 }
 
-/// What follows a topic, in version 3.
+/// What follows a topic, where there are listings.
 fn read_topic_parts(topic: Topic, fields: &mut Fields) -> Option<Listing>
-    ensures says { IfSome result (λ listing. ListsFields Version.Three (topic_word topic ∷ left fields.old) (listing_of listing)) }
-    ensures none { IfNone result ((l : TheListing) → ListsFields Version.Three (topic_word topic ∷ left fields.old) l → ⊥) }
+    ensures says { IfSome result (λ listing. ListsFields true (topic_word topic ∷ left fields.old) (listing_of listing)) }
+    ensures none { IfNone result ((l : TheListing) → ListsFields true (topic_word topic ∷ left fields.old) l → ⊥) }
 {
     match topic {
         Topic::Holders => only_node(fields, |node| Listing::Holders { node }),

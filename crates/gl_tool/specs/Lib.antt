@@ -1,13 +1,8 @@
-pub mod Names
-pub mod Script
-pub mod Printed
-pub mod Rows
-pub mod Report
-pub mod Held
-pub mod Views
-pub mod Rooms
-pub mod SoFar
 pub mod Outcome
+pub use Rattle.gl_interpreter.specs.Script
+pub use Rattle.gl_interpreter.specs.Printed
+pub use Rattle.gl_interpreter.specs.Rows
+pub use Rattle.gl_interpreter.specs.Report
 pub use Rattle.gl_modes.specs.Modes
 pub use Rattle.gl_modes.specs.Refusals
 pub use Rattle.gl_words.specs.Planned

@@ -4,12 +4,10 @@ ghost use Rattle.std.specs.Prelude.{◌≡◌, ◌≤◌, map};
 ghost use Rattle.gl_words.specs.Planned.{HasNoPlan};
 ghost use Rattle.gl_tool.specs.Outcome.{Ends, PutsCount, Stops, Works, status_of};
 
-use crate::answers::put_number;
-use crate::script::{RunFault, run};
-use crate::sink::{flush, new_sink, put, send};
 use arrayvec::ArrayString;
-use gl_crew::{CrewFault, crew};
-use gl_words::{Plan, Policy, plan};
+use gl_crew::{CrewFault, crew_choosing};
+use gl_interpreter::{RunFault, flush, new_sink, put, put_number, run_choosing, send};
+use gl_words::{Asked, asked};
 use std::alloc::Global;
 use std::convert::AsStr;
 use std::fmt::Write as FormatWrite;
@@ -27,15 +25,16 @@ pub enum ToolFault {
     /// The crew did not do all its rounds.
     #[error("crew stopped")]
     Crew(CrewFault),
-    /// No plan was read in the words.
+    /// Nothing that the program does was read in the words.
     #[error("bad words")]
     Words,
 }
 
-/// Does what the words after the program's name ask for, with deadlocks found as `--detect` says,
-/// which take whom `--victims` says: runs the script that `reader` gives; or has a crew of sessions do its rounds, and writes how many commands
-/// they had accepted. Answers the exit status: 0 at the end, 1 after a fault, 2 where there is no plan
-/// for the words; after anything but 0 one line that says why was given to `faults`.
+/// Does what the words after the program's name ask for, with deadlocks found as `--detect` says, which
+/// take whom `--victims` says: runs the script that `reader` gives, with listings where `--listings` is
+/// among the words; or has a crew of sessions do its rounds, and writes how many commands they had
+/// accepted. Answers the exit status: 0 at the end, 1 after a fault, 2 for words that ask for nothing
+/// that the program does; after anything but 0 one line that says why was given to `faults`.
 pub fn program<H: Threads + Wait + Sync, S: AsStr, R: Read, W: Write, E: Write>(
     rt: &H,
     alloc: Global,
@@ -80,15 +79,18 @@ fn work<H: Threads + Wait + Sync, S: AsStr, R: Read, W: Write>(
 ) -> Result<(), ToolFault>
     ensures { Works (map S.text words.now) (R.remaining reader.old) (R.remaining reader.new) (W.contents writer.old) (W.contents writer.new) result }
 {
-    match plan(alloc, words) {
-        Some(Plan::Script(policy)) => run(alloc, reader, writer, policy).map_err(ToolFault::Run),
+    match asked(alloc, words) {
+        Some(Asked::Script(choices)) => {
+            run_choosing(alloc, reader, writer, choices).map_err(ToolFault::Run)
+        }
         Some(
-            Plan::Crew {
+            Asked::Crew {
                 sessions,
                 rounds,
-                policy: Policy { detect, victims },
+                detect,
+                victims,
             },
-        ) => match crew(rt, alloc, sessions, rounds, detect, victims) {
+        ) => match crew_choosing(rt, alloc, sessions, rounds, detect, victims) {
             Ok(count) => put_count(writer, count),
             Err(fault) => Err(ToolFault::Crew(fault)),
         },

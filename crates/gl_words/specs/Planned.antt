@@ -1,13 +1,17 @@
 -- What the words of the program ask for.
-use Rattle.std.specs.Prelude.{◌≡◌, ◌≤◌, ℕ, true, List, [], Option, None, Some, option_map, Result, Ok, Err, codes}
+use Rattle.std.specs.Prelude.{◌≡◌, ◌≤◌, ℕ, Bool, true, false, List, [], Option, None, Some, option_map, Result, Ok, Err, codes}
+use Rattle.std.specs.Str.{bytes_eq}
 use Rattle.std.specs.Str.Parse.{IsNumeral, digits_value, without_leading_plus}
 use denote.Ref.{Bor}
 use Rattle.clap.specs.Words.{App, Row, Rule, Text, first_of, matches_of, new_app, new_rule, with_rule}
 use Rattle.clap.specs.Kinds.{Kinds}
 use Rattle.clap.specs.Faults.{fault_of}
-use Rattle.gl_words.specs.declared.asked.Plan.{Plan}
-use Rattle.gl_words.specs.declared.asked.Policy.{Policy}
-use Rattle.gl_words.specs.declared.asked.Plan.TheVariants.{Script, Crew}
+use Rattle.clap.specs.declared.builder.action.ArgAction.TheVariants.{SetTrue}
+use Rattle.gl_words.specs.declared.requests.Asked.{Asked}
+use Rattle.gl_words.specs.declared.requests.Asked.TheVariants.{Script, Crew}
+use Rattle.gl_words.specs.declared.requests.Choices.{Choices}
+use Rattle.gl_words.specs.declared.requests.Plan.{Plan}
+use Rattle.gl_words.specs.declared.requests.Plan.TheVariants as plan
 use Rattle.gl_words.specs.declared.words.Unread.{Unread}
 use Rattle.gl_words.specs.declared.words.Unread.TheVariants.{Memory, Words}
 use Rattle.gl_table.specs.declared.detect.Detect.{Detect}
@@ -19,13 +23,19 @@ use Rattle.gl_waits.specs.declared.victims.Victims.TheVariants.{Youngest, Fewest
 abbrev pub option_rule : Text → Rule
 option_rule name = record (new_rule name) { long = Some name }
 
+-- a flag
+abbrev pub flag_rule : Text → Rule
+flag_rule name = record (option_rule name) { action = Some SetTrue }
+
 -- the words begin behind the program's name
 abbrev pub bare_app : App
 bare_app = let app = new_app (codes "gltool") in record app { top = record app.top { no_binary_name = true } }
 
 -- the command line
 abbrev pub tool_app : App
-tool_app = with_rule (with_rule (with_rule (with_rule bare_app (option_rule (codes "detect"))) (option_rule (codes "victims"))) (option_rule (codes "crew"))) (option_rule (codes "rounds"))
+tool_app =
+    with_rule (with_rule (with_rule (with_rule (with_rule bare_app
+    (option_rule (codes "detect"))) (option_rule (codes "victims"))) (flag_rule (codes "listings"))) (option_rule (codes "crew"))) (option_rule (codes "rounds"))
 
 -- the values that clap finds in the words
 unfoldable pub rows_in : List Text → List Row
@@ -49,35 +59,50 @@ IsChoice None Fewest = ⊥
 IsChoice (Some word) Youngest = word ≡ codes "youngest"
 IsChoice (Some word) Fewest = word ≡ codes "fewest"
 
--- both
-abbrev pub IsPolicy : Option Text → Option Text → Policy → Type 0
-IsPolicy way choice policy = IsWay way policy.detect × IsChoice choice policy.victims
+-- whether a flag is among the words, by the value that clap gives it
+abbrev pub is_set : Option Text → Bool
+is_set None = false
+is_set (Some word) = bytes_eq word (codes "true")
 
 -- the word is the number in decimal, as Rust reads numbers, and that is one from 1 to most
 abbrev pub IsNumberTo : ℕ → Text → ℕ → Type 0
 IsNumberTo most word n = IsNumeral 10 (without_leading_plus word) × (digits_value 10 (without_leading_plus word) ≡ n) × (1 ≤ n) × (n ≤ most)
 
--- what the values of the four options ask for: both numbers, or neither
-abbrev pub IsAsked : Option Text → Option Text → Option Text → Option Text → Plan → Type 0
-IsAsked way choice None None (Script policy) = IsPolicy way choice policy
-IsAsked way choice (Some crew) (Some rounds) (Crew s r policy) = IsNumberTo 128 crew s × IsNumberTo 100000 rounds r × IsPolicy way choice policy
-IsAsked way choice crew rounds plan = ⊥
+-- what the values of the options ask for: both numbers, and no listings, or neither number
+abbrev pub IsAsked : Option Text → Option Text → Bool → Option Text → Option Text → Asked → Type 0
+IsAsked way choice listings None None (Script choices) = IsWay way choices.detect × IsChoice choice choices.victims × (choices.listings ≡ listings)
+IsAsked way choice false (Some crew) (Some rounds) (Crew s r detect victims) = IsNumberTo 128 crew s × IsNumberTo 100000 rounds r × IsWay way detect × IsChoice choice victims
+IsAsked way choice listings crew rounds asked = ⊥
 
--- the plan is what the values that clap found ask for
-abbrev pub IsPlanOf : List Row → Plan → Type 0
-IsPlanOf rows plan = IsAsked (first_of (codes "detect") rows) (first_of (codes "victims") rows) (first_of (codes "crew") rows) (first_of (codes "rounds") rows) plan
+-- what the values that clap found ask for
+abbrev pub IsAskedIn : List Row → Asked → Type 0
+IsAskedIn rows asked =
+    IsAsked (first_of (codes "detect") rows) (first_of (codes "victims") rows) (is_set (first_of (codes "listings") rows)) (first_of (codes "crew") rows) (first_of (codes "rounds") rows) asked
 
--- clap takes the words, and the plan is what it finds in them
+-- clap takes the words, and they ask for this by what it finds in them
+abbrev pub AsksFor : List Text → Asked → Type 0
+AsksFor words asked = (faults_in words ≡ []) × IsAskedIn (rows_in words) asked
+
+-- the choices where no more than the way of detection is named: the youngest falls, and there are no listings
+abbrev pub plain : Detect → Choices
+plain detect = record { detect = detect; victims = Youngest; listings = false }
+
+-- the plan of what is asked
+abbrev pub plan_of : Asked → Plan
+plan_of (Script choices) = plan.Script choices.detect
+plan_of (Crew s r detect victims) = plan.Crew s r detect
+
+-- the plan is that of what the words ask for
 abbrev pub IsPlanFor : List Text → Plan → Type 0
-IsPlanFor words plan = (faults_in words ≡ []) × IsPlanOf (rows_in words) plan
+IsPlanFor words p = (asked : Asked) × AsksFor words asked × (p ≡ plan_of asked)
 
 -- the words ask for nothing that the program does
 abbrev pub HasNoPlan : List Text → Type 0
-HasNoPlan words = (plan : Plan) → ¬ (IsPlanFor words plan)
+HasNoPlan words = (asked : Asked) → ¬ (AsksFor words asked)
 
--- the plan of the words; a fault of theirs only where they have none
-abbrev pub Reads : List Text → Result Plan Unread → Type 0
-Reads words (Ok plan) = IsPlanFor words plan
+-- what the words ask for; a fault of theirs only where that is nothing
+abbrev pub Reads : List Text → Result Asked Unread → Type 0
+Reads words (Ok asked) = AsksFor words asked
 Reads words (Err Memory) = Unit {0}
 Reads words (Err Words) = HasNoPlan words
 

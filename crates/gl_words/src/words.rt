@@ -1,14 +1,13 @@
 //! The words of the program.
 
-ghost use Rattle.std.specs.Prelude.{◌≡◌, ◌↔◌, ℕ, IfNone, IfOk, IfSome, map};
-ghost use Rattle.clap.specs.Words.{app_of};
-ghost use Rattle.gl_words.specs.Planned.{IsAsked, IsChoice, IsNumberTo, IsPlanFor, IsPolicy, IsWay, Reads, text, tool_app};
-ghost use Rattle.gl_words.specs.declared.asked.Plan.{Plan as APlan};
-ghost use Rattle.gl_words.specs.declared.asked.Policy.{Policy as APolicy};
+ghost use Rattle.std.specs.Prelude.{◌≡◌, ◌↔◌, ℕ, false, IfNone, IfOk, IfSome, map};
+ghost use Rattle.clap.specs.Words.{app_of, rule_of};
+ghost use Rattle.gl_words.specs.Planned.{AsksFor, IsAsked, IsChoice, IsNumberTo, IsPlanFor, IsWay, Reads, flag_rule, is_set, option_rule, text, tool_app};
+ghost use Rattle.gl_words.specs.declared.requests.Asked.{Asked as WhatIsAsked};
 
-use crate::asked::{Plan, Policy};
+use crate::requests::{Asked, Choices, Plan};
 use clap::error::ErrorKind;
-use clap::{Arg, Command};
+use clap::{Arg, ArgAction, Command};
 use gl_table::Detect;
 use gl_waits::Victims;
 use std::alloc::{AllocError, Global};
@@ -20,7 +19,7 @@ const MOST_SESSIONS: u32 = 128;
 /// The most rounds of a crew.
 const MOST_ROUNDS: u32 = 100_000;
 
-/// Why the words give no plan.
+/// Why it is not known what the words ask for.
 #[derive(Clone, Copy, Debug, PartialEq, Eq)]
 enum Unread {
     /// There was no memory to read them in.
@@ -30,15 +29,22 @@ enum Unread {
 }
 
 /// Reads the words after the program's name. `None` where they ask for nothing that the program
-/// does; so does a want of memory.
-pub fn plan<S: AsStr>(alloc: Global, words: &[S]) -> Option<Plan>
-    ensures { IfSome result (λ plan. IsPlanFor (map S.text words.now) plan) }
+/// does, or memory is wanting.
+pub fn asked<S: AsStr>(alloc: Global, words: &[S]) -> Option<Asked>
+    ensures { IfSome result (λ asked. AsksFor (map S.text words.now) asked) }
 {
     read_words(alloc, words).ok()
 }
 
-/// The plan that the words ask for, or why there is none.
-fn read_words<S: AsStr>(alloc: Global, words: &[S]) -> Result<Plan, Unread>
+/// The plan of what the words after the program's name ask for. `None` as for [`asked`].
+pub fn plan<S: AsStr>(alloc: Global, words: &[S]) -> Option<Plan>
+    ensures { IfSome result (λ plan. IsPlanFor (map S.text words.now) plan) }
+{
+    Some(asked(alloc, words)?.plan())
+}
+
+/// What the words ask for, or why that is not known.
+fn read_words<S: AsStr>(alloc: Global, words: &[S]) -> Result<Asked, Unread>
     ensures { Reads (map S.text words.now) result }
 {
     let Ok(command) = command(alloc) else {
@@ -50,13 +56,15 @@ fn read_words<S: AsStr>(alloc: Global, words: &[S]) -> Result<Plan, Unread>
     };
     let detect = matches.get_str("detect");
     let victims = matches.get_str("victims");
-    match plan_of(
+    let listings = is_set(matches.get_str("listings"));
+    match asked_of(
         detect,
         victims,
+        listings,
         matches.get_str("crew"),
         matches.get_str("rounds"),
     ) {
-        Some(plan) => Ok(plan),
+        Some(asked) => Ok(asked),
         None => Err(Unread::Words),
     }
 }
@@ -65,19 +73,37 @@ fn read_words<S: AsStr>(alloc: Global, words: &[S]) -> Result<Plan, Unread>
 fn command<'a>(alloc: Global) -> Result<Command<'a>, AllocError>
     ensures { IfOk result (λ command. app_of command ≡ tool_app) }
 {
-    let detect = Arg::new(alloc, "detect").long("detect");
-    let victims = Arg::new(alloc, "victims").long("victims");
-    let crew = Arg::new(alloc, "crew").long("crew");
-    let rounds = Arg::new(alloc, "rounds").long("rounds");
+    let detect = option(alloc, "detect");
+    let victims = option(alloc, "victims");
+    let listings = flag(alloc, "listings");
+    let crew = option(alloc, "crew");
+    let rounds = option(alloc, "rounds");
     Command::new(alloc, "gltool")
         .no_binary_name(true)
         .arg(detect)?
         .arg(victims)?
+        .arg(listings)?
         .arg(crew)?
         .arg(rounds)
 }
 
-/// Why there is no plan where `clap` has refused the words.
+/// An option with a value.
+fn option<'a>(alloc: Global, name: &'a str) -> Arg<'a>
+    ensures rule { rule_of result ≡ option_rule name.entry.now }
+    ensures local { result.global ≡ false }
+{
+    Arg::new(alloc, name).long(name)
+}
+
+/// A flag.
+fn flag<'a>(alloc: Global, name: &'a str) -> Arg<'a>
+    ensures rule { rule_of result ≡ flag_rule name.entry.now }
+    ensures local { result.global ≡ false }
+{
+    option(alloc, name).action(ArgAction::SetTrue)
+}
+
+/// Why `clap` has refused the words.
 fn cause(kind: ErrorKind) -> Unread
     ensures { (result ≡ Unread.Memory) ↔ (kind ≡ ErrorKind.OutOfMemory) }
 {
@@ -87,26 +113,43 @@ fn cause(kind: ErrorKind) -> Unread
     }
 }
 
-/// The plan that these values ask for: a script where there is neither number, a crew where there are
-/// both.
-fn plan_of(
+/// What these values ask for: a script where there is neither number, a crew where there are both, which
+/// has no listings.
+fn asked_of(
     detect: Option<&str>,
     victims: Option<&str>,
+    listings: bool,
     crew: Option<&str>,
     rounds: Option<&str>,
-) -> Option<Plan>
-    ensures some { IfSome result (λ plan. IsAsked (text detect.entry) (text victims.entry) (text crew.entry) (text rounds.entry) plan) }
-    ensures none { IfNone result ((plan : APlan) → ¬ (IsAsked (text detect.entry) (text victims.entry) (text crew.entry) (text rounds.entry) plan)) }
+) -> Option<Asked>
+    ensures some { IfSome result (λ asked. IsAsked (text detect.entry) (text victims.entry) listings (text crew.entry) (text rounds.entry) asked) }
+    ensures none { IfNone result ((asked : WhatIsAsked) → ¬ (IsAsked (text detect.entry) (text victims.entry) listings (text crew.entry) (text rounds.entry) asked)) }
 {
-    let policy = policy(detect, victims)?;
-    match (crew, rounds) {
-        (None, None) => Some(Plan::Script(policy)),
-        (Some(crew), Some(rounds)) => Some(Plan::Crew {
+    let detect = way(detect)?;
+    let victims = choice(victims)?;
+    match (crew, rounds, listings) {
+        (None, None, _) => Some(Asked::Script(Choices {
+            detect,
+            victims,
+            listings,
+        })),
+        (Some(crew), Some(rounds), false) => Some(Asked::Crew {
             sessions: number_to(MOST_SESSIONS, crew)?,
             rounds: number_to(MOST_ROUNDS, rounds)?,
-            policy,
+            detect,
+            victims,
         }),
-        (Some(_), None) | (None, Some(_)) => None,
+        (Some(_), _, _) | (_, Some(_), _) => None,
+    }
+}
+
+/// Whether a flag is among the words, by the value that `clap` gives it.
+fn is_set(value: Option<&str>) -> bool
+    ensures { result ≡ is_set (text value.entry) }
+{
+    match value {
+        Some("true") => true,
+        _ => false,
     }
 }
 
@@ -123,17 +166,6 @@ fn number_to(most: u32, word: &str) -> Option<u32>
     } else {
         None
     }
-}
-
-/// The policy that these values ask for.
-fn policy(detect: Option<&str>, victims: Option<&str>) -> Option<Policy>
-    ensures some { IfSome result (λ policy. IsPolicy (text detect.entry) (text victims.entry) policy) }
-    ensures none { IfNone result ((policy : APolicy) → ¬ (IsPolicy (text detect.entry) (text victims.entry) policy)) }
-{
-    Some(Policy {
-        detect: way(detect)?,
-        victims: choice(victims)?,
-    })
 }
 
 /// The choice of victims that the word names; the youngest where there is none.

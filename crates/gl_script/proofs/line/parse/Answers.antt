@@ -6,7 +6,7 @@ use Rattle.gl_script.proofs.line.parse.Goals as goal
 
 pub returns-in_err-topic-in-None-clause-none : goal.returns-in_err-topic-in-None-clause-none
 returns-in_err-topic-in-None-clause-none c = rw c.from_residual-in_err-topic-in-None.ensures
-    (no_line c.args.version _ _ _ (sym c.of-fields.ensures ∙ c.in_ok-first.ensures.some) c.in-None.ensures.none c.in_err-topic-in-None.ensures.none)
+    (no_line c.args.language _ _ _ (sym c.of-fields.ensures ∙ c.in_ok-first.ensures.some) c.in-None.ensures.none c.in_err-topic-in-None.ensures.none)
 
 pub read_command-requires : goal.read_command-requires
 read_command-requires c = record {

@@ -1,8 +1,8 @@
 use Rattle.std.proofs.Common.{refl, sym, ap, subst, ◌≡◌, ◌∙◌, ℕ, List, [], ◌++◌, append-nil, true, false, Option}
 use Rattle.std.specs.Io.KnownBytes.{Appends}
-use Rattle.gl_tool.specs.declared.sink.Sink.{Sink}
-use Rattle.gl_tool.specs.Held.{Hands, Handed, Holds}
-use Rattle.gl_tool.proofs.Writing.{Appends-nil, Hands-then}
+use Rattle.gl_interpreter.specs.declared.sink.Sink.{Sink}
+use Rattle.gl_interpreter.specs.Held.{Hands, Handed, Holds}
+use Rattle.gl_interpreter.proofs.Writing.{Appends-nil, Hands-then}
 use Rattle.gl_tool.proofs.entry.put_count.Goals as goal
 
 -- what an empty sink has handed on

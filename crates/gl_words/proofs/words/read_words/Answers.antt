@@ -1,4 +1,4 @@
-use Rattle.std.proofs.Common.{rules, refl, ap, sym, codes, true, inl, inr, ◌≡◌, ◌∙◌, ◌↔◌, List, [], ◌∷◌, map, Option, Err}
+use Rattle.std.proofs.Common.{rules, refl, ap, sym, codes, true, inl, inr, ◌≡◌, ◌∙◌, ◌↔◌, Bool, List, [], ◌∷◌, map, Option, Err}
 use Rattle.std.proofs.Math.Path.{transport}
 use Rattle.clap.specs.Words.{App, Text, first_of, first_value, found_of, is_simple, matches_of, rows_of}
 use Rattle.clap.specs.Simple.{HasMatchesOf}
@@ -10,10 +10,10 @@ use Rattle.clap.specs.declared.error.kind.ErrorKind.TheVariants.{OutOfMemory}
 use Rattle.clap.specs.declared.parser.matches.ArgMatches.{ArgMatches}
 use Rattle.clap.proofs.OnLiterals.{clap_on_literals}
 use Rattle.clap.proofs.WalkLemmas.{first_value-rows}
-use Rattle.gl_words.specs.declared.asked.Plan.{Plan}
+use Rattle.gl_words.specs.declared.requests.Asked.{Asked}
 use Rattle.gl_words.specs.declared.words.Unread.{Unread}
 use Rattle.gl_words.specs.declared.words.Unread.TheVariants.{Memory, Words}
-use Rattle.gl_words.specs.Planned.{HasNoPlan, IsAsked, IsPlanOf, Reads, faults_in, rows_in, tool_app}
+use Rattle.gl_words.specs.Planned.{HasNoPlan, IsAsked, IsAskedIn, Reads, faults_in, is_set, rows_in, tool_app}
 use Rattle.gl_words.proofs.words.read_words.Goals as goal
 
 is_simple_tool : is_simple tool_app ≡ true
@@ -33,12 +33,12 @@ faults_are : (app : App) (words : List Text) → app ≡ tool_app → fault_of a
 unfolding faults_in
 faults_are app words is = ap (λ a. fault_of a words) is
 
--- where clap refuses the words, and not for memory, there is no plan
+-- where clap refuses the words, and not for memory, they ask for nothing
 refused : (kinds : Kinds) (words : List Text) (e : Error) (u : Unread) → (u ≡ Memory) ↔ (kind_of e ≡ OutOfMemory) → kinds ≡ faults_in words → HasKind kinds e → Reads words (Err u)
 refused kinds words e Memory why are h = tt
 refused kinds words e Words why are (inl wanting) = let bad : Words ≡ Memory = why.1 wanting in absurd (cc)
 refused [] words e Words why are (inr among) = absurd among
-refused (k ∷ ks) words e Words why are (inr among) = λ plan p. let bad : k ∷ ks ≡ [] = are ∙ p.0 in absurd (cc)
+refused (k ∷ ks) words e Words why are (inr among) = λ asked p. let bad : k ∷ ks ≡ [] = are ∙ p.0 in absurd (cc)
 
 pub returns-in-Err : goal.returns-in-Err
 returns-in-Err g c =
@@ -47,18 +47,19 @@ returns-in-Err g c =
     refused _ words c.in-Err.error c.cause.result (search rules) (faults_are _ words app_is) (c.in-Err.ensures.kinds (ap is_simple_and_free app_is ∙ is_free_tool))
 
 -- the values of the options, as the words hold them
-module _ (words : List Text) (way choice crew rounds : Option Text) (way_is : way ≡ first_of (codes "detect") (rows_in words)) (choice_is : choice ≡ first_of (codes "victims") (rows_in words))
+module _ (words : List Text) (way choice : Option Text) (listings : Bool) (crew rounds : Option Text) (way_is : way ≡ first_of (codes "detect") (rows_in words))
+    (choice_is : choice ≡ first_of (codes "victims") (rows_in words)) (listings_is : listings ≡ is_set (first_of (codes "listings") (rows_in words)))
     (crew_is : crew ≡ first_of (codes "crew") (rows_in words)) (rounds_is : rounds ≡ first_of (codes "rounds") (rows_in words)) where
-  asked_is : (plan : Plan) → IsAsked way choice crew rounds plan ≡ IsPlanOf (rows_in words) plan
-  asked_is plan = λ z. IsAsked (way_is z) (choice_is z) (crew_is z) (rounds_is z) plan
+  asked_is : (asked : Asked) → IsAsked way choice listings crew rounds asked ≡ IsAskedIn (rows_in words) asked
+  asked_is asked = λ z. IsAsked (way_is z) (choice_is z) (listings_is z) (crew_is z) (rounds_is z) asked
 
-  -- where they ask for nothing, there is no plan
-  no_plan : ((plan : Plan) → ¬ (IsAsked way choice crew rounds plan)) → HasNoPlan words
-  no_plan none plan p = none plan (transport (sym (asked_is plan)) p.1)
+  -- where they ask for nothing, so do the words
+  nothing : ((asked : Asked) → ¬ (IsAsked way choice listings crew rounds asked)) → HasNoPlan words
+  nothing none asked p = none asked (transport (sym (asked_is asked)) p.1)
 
-  -- what they ask for is the plan
-  is_plan : (plan : Plan) → IsAsked way choice crew rounds plan → IsPlanOf (rows_in words) plan
-  is_plan plan p = transport (asked_is plan) p
+  -- what they ask for is what the words ask for
+  something : (asked : Asked) → IsAsked way choice listings crew rounds asked → IsAskedIn (rows_in words) asked
+  something asked p = transport (asked_is asked) p
 
 -- what clap gives for an option
 value : (app : App) (words : List Text) (m : ArgMatches) (id : Text) (o : Option Text) → app ≡ tool_app → HasMatchesOf app words m → o ≡ first_value (found_of m) id → o ≡ first_of id (rows_in words)
@@ -70,12 +71,13 @@ returns-in-Some g c =
     let words = map g.S.AsStr.text c.args.words.now in
     let taken = c.in-Ok-try_get_matches_from in (
       sym (faults_are _ words app_is) ∙ taken.ensures.kinds (ap is_simple_and_free app_is ∙ is_free_tool),
-      is_plan words _ _ _ _
+      something words _ _ _ _ _
           (value _ words taken.matches _ _ app_is taken.ensures.matches c.get_str-detect.ensures)
           (value _ words taken.matches _ _ app_is taken.ensures.matches c.get_str-victims.ensures)
-          (value _ words taken.matches _ _ app_is taken.ensures.matches c.get_str.ensures)
+          (c.is_set-listings.ensures ∙ ap is_set (value _ words taken.matches _ _ app_is taken.ensures.matches c.get_str.ensures))
           (value _ words taken.matches _ _ app_is taken.ensures.matches c.get_str-2.ensures)
-          c.in-Some.plan c.in-Some.ensures.some,
+          (value _ words taken.matches _ _ app_is taken.ensures.matches c.get_str-3.ensures)
+          c.in-Some.asked c.in-Some.ensures.some,
     )
 
 pub returns : goal.returns
@@ -83,9 +85,10 @@ returns g c =
     let app_is = c.in-Ok.ensures in
     let words = map g.S.AsStr.text c.args.words.now in
     let taken = c.in-Ok-try_get_matches_from in
-    no_plan words _ _ _ _
+    nothing words _ _ _ _ _
     (value _ words taken.matches _ _ app_is taken.ensures.matches c.get_str-detect.ensures)
     (value _ words taken.matches _ _ app_is taken.ensures.matches c.get_str-victims.ensures)
-    (value _ words taken.matches _ _ app_is taken.ensures.matches c.get_str.ensures)
+    (c.is_set-listings.ensures ∙ ap is_set (value _ words taken.matches _ _ app_is taken.ensures.matches c.get_str.ensures))
     (value _ words taken.matches _ _ app_is taken.ensures.matches c.get_str-2.ensures)
+    (value _ words taken.matches _ _ app_is taken.ensures.matches c.get_str-3.ensures)
     c.in-None.ensures.none

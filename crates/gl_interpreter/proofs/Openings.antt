@@ -1,0 +1,41 @@
+-- The first line of a script chooses its version.
+use Rattle.std.proofs.Common.{◌≡◌, ℕ, Bool, true, false, List, Option, None, Some, if◌then◌else◌, is_some, true≢false, refl, sym, ap, ◌∙◌, subst}
+use Rattle.std.specs.Prelude.{codes}
+use Rattle.gl_catalog.specs.Manager.{ManagerView, state_of}
+use Rattle.std.specs.Str.{bytes_eq}
+use Rattle.gl_graph.proofs.Look.{none_some}
+use Rattle.gl_table.specs.State.{choosing, empty_state}
+use Rattle.gl_script.specs.declared.form.Version.{Version}
+use Rattle.gl_script.specs.declared.form.Version.TheVariants as version
+use Rattle.gl_interpreter.specs.Report.{Answers, Going, Opens, Prints, version_of}
+use Rattle.gl_interpreter.specs.Script.{Script, most_of}
+use Rattle.gl_interpreter.specs.SoFar.{IsReadyWith, choices_of, stage_with}
+
+-- the version that a first line chooses has 128 slots
+wide : (a : Bool) (v : Version) → (if a then Some version.Two else None) ≡ Some v → most_of v ≡ 128
+wide true v h = let e : version.Two ≡ v = cc in ap most_of (sym e)
+wide false v h = absurd (none_some h)
+
+-- a version was chosen
+pub chooses : (v : Version) (two : ManagerView) (s s' : Script) (line : List ℕ) → IsReadyWith (Some two) s → version_of line ≡ Some v → s'.language ≡ record { version = v; listings = s.language.listings } → s'.names ≡ s.names → s'.locks ≡ state_of two → s'.deadlock ≡ two.table.deadlock
+    → Prints (stage_with (Some two) s) line (codes "ok\n") (stage_with None s')
+unfolding Prints
+chooses v two s s' line ready says is names locks deadlock =
+    let c = choices_of s in
+    let most = wide (bytes_eq line (codes "granular 2")) v says in
+    let all = locks ∙ ready.0 ∙ ap (λ m. choosing c.victims (empty_state c.detect m)) (sym most) in
+    let none = names ∙ ap (λ (x : Script). x.names) ready.2 in
+    let no_victim = deadlock ∙ ready.1 in
+    subst (λ o. Opens c o line (codes "ok\n") (Going s')) (sym says) (refl, λ i. Going (record { language = is i; names = none i; locks = all i; deadlock = no_victim i }))
+
+-- any other line is one of the script
+pub goes_on : (two : Option ManagerView) (s s' : Script) (line text : List ℕ) → IsReadyWith two s → ((m : ManagerView) → two ≡ Some m → version_of line ≡ None) → Answers s line text s'
+    → Prints (stage_with two s) line text (stage_with None s')
+unfolding Prints
+goes_on None s s' line text ready other answers = (s', answers, refl)
+goes_on (Some m) s s' line text ready other answers =
+    subst (λ o. Opens (choices_of s) o line text (Going s')) (sym (other m refl)) (s', subst (λ x. Answers x line text s') ready.2 answers, refl)
+
+pub nothing : {X : Type 0} (o : Option X) → is_some o ≡ false → o ≡ None
+nothing None h = refl
+nothing (Some x) h = absurd (true≢false h)

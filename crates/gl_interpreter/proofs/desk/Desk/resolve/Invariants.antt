@@ -1,0 +1,8 @@
+use Rattle.std.proofs.Common.{◌≡◌, take}
+use Rattle.gl_script.specs.Views.{nodes_of}
+use Rattle.gl_interpreter.specs.Script.{node_ids}
+use Rattle.gl_interpreter.specs.Views.{script_of}
+use Rattle.gl_interpreter.proofs.desk.Desk.resolve.Given as goal
+
+abbrev pub invariant-loop-node : goal.invariant-loop-node
+invariant-loop-node l = l.ids.items ≡ take l.node-index (node_ids (script_of l.self) (nodes_of l.lists))

@@ -1,0 +1,12 @@
+use Rattle.std.proofs.Common.{◌≡◌, ◌++◌, flat_map}
+use Rattle.gl_slots.specs.Slots.{slots_of}
+use Rattle.gl_interpreter.specs.Held.{Hands}
+use Rattle.gl_interpreter.specs.Rows.{blocker_row}
+use Rattle.gl_interpreter.specs.Views.{script_of}
+use Rattle.gl_interpreter.proofs.listings.put_each_blocker.Given as goal
+
+-- the rows of the slots so far; these and those that are left are all
+abbrev pub invariant-loop-slot : goal.invariant-loop-slot
+invariant-loop-slot g l =
+    Hands (g.W.Write.contents l.fn.writer) l.fn.sink (g.W.Write.contents l.writer) l.sink (flat_map (blocker_row (script_of l.desk)) l.yielded)
+    × (l.yielded ++ slots_of l.slot-iterator.left ≡ slots_of l.fn.slots)

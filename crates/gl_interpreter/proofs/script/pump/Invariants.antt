@@ -1,0 +1,17 @@
+use Rattle.std.proofs.Common.{◌≡◌, ℕ, List, [], ◌-◌, ◌≤◌, length, false}
+use Rattle.std.specs.Io.KnownBytes.{Consumes}
+use Rattle.gl_interpreter.specs.SoFar.{SoFar, choices_now}
+use Rattle.gl_interpreter.proofs.script.pump.Given as goal
+
+abbrev pub invariant-loop-total : goal.invariant-loop-total
+invariant-loop-total g l = record {
+  held : l.tool.sink.held.items ≡ [];
+  whole : l.tool.sink.broken ≡ false;
+  bound : l.total ≤ 16777217;
+  taken : (read : List ℕ) × (length read ≡ l.total)
+      × Consumes (g.R.Read.remaining l.fn.reader) (g.R.Read.remaining l.reader) read
+      × SoFar (choices_now l.fn.tool) (g.W.Write.contents l.fn.writer) read (g.W.Write.contents l.writer) l.tool;
+}
+
+abbrev pub decreases-loop-total : goal.decreases-loop-total
+decreases-loop-total g l = 16777217 - l.total

@@ -1,0 +1,12 @@
+pub mod Names
+pub mod Script
+pub mod Printed
+pub mod Rows
+pub mod Report
+pub mod Held
+pub mod Views
+pub mod Rooms
+pub mod SoFar
+pub mod Picture
+pub use Rattle.gl_modes.specs.Modes
+pub use Rattle.gl_modes.specs.Refusals

@@ -1,0 +1,133 @@
+-- What is printed for an answer: its line, and one line for each transaction that is told.
+use Rattle.std.specs.Prelude.{ℕ, Bool, List, [], ◌∷◌, ◌++◌, codes, decimal, flat_map, Option, Some, None, is_none, if◌then◌else◌}
+use Rattle.std.specs.List.{list_any}
+use Rattle.gl_modes.specs.declared.node.NodeId.{NodeId}
+use Rattle.gl_modes.specs.declared.refusal.Refusal.{Refusal}
+use Rattle.gl_modes.specs.declared.refusal.Refusal.TheVariants as no
+use Rattle.gl_modes.specs.Modes.{mode_text}
+use Rattle.gl_modes.specs.Refusals.{refusal_name, refusal_number}
+use Rattle.gl_graph.specs.Graph.{first_parent, shape_of}
+use Rattle.gl_graph.specs.Shapes.{place_in}
+use Rattle.gl_table.specs.declared.effect.Effect.{Effect}
+use Rattle.gl_table.specs.declared.effect.Effect.TheVariants as effect
+use Rattle.gl_table.specs.declared.notice.Notice.{Notice}
+use Rattle.gl_table.specs.declared.notice.Notice.TheVariants as notice
+use Rattle.gl_table.specs.declared.txn.TxnId.{TxnId}
+use Rattle.gl_table.specs.Tellings.{Told}
+use Rattle.gl_catalog.specs.declared.command.Answer.{Answer}
+use Rattle.gl_catalog.specs.declared.command.Answer.TheVariants as answer
+use Rattle.gl_script.specs.Grammar.{Text, Node, Plain, Interval, Command, Inner, File, Index, Lock, Try, Unlock, Cancel, Commit, Abort, Settle, Insert, Delete, Rekey, Escalate, Move, Group, Held, Effective, node_text}
+use Rattle.gl_interpreter.specs.Script.{Script, Declared, NodeName, TxnName, Nothing, declared, node_named}
+
+-- a dot, and the place of an interval
+abbrev pub place_text : Option ℕ → Text
+place_text None = []
+place_text (Some k) = 46 ∷ decimal k
+
+-- the name of a node, or for an interval that of its index, a dot and its place
+abbrev pub called_at : Script → NodeId → Option ℕ → Text
+called_at s n None = s.names.node_name n
+called_at s n (Some place) = node_text (Interval (s.names.node_name (first_parent s.locks.graph n)) place)
+
+-- how a node is printed
+abbrev pub called : Script → NodeId → Text
+called s n = called_at s n (place_in (shape_of s.locks.graph n))
+
+-- the nodes that a line uses, in order, the one that it declares left aside
+abbrev pub used_nodes : Command → List Node
+used_nodes (Inner n ps) = ps
+used_nodes (File n ps) = ps
+used_nodes (Index n ps f bs) = ps ++ Plain f ∷ []
+used_nodes (Lock t m n) = n ∷ []
+used_nodes (Try t m n) = n ∷ []
+used_nodes (Unlock t n) = n ∷ []
+used_nodes (Insert t r f ks) = Plain f ∷ []
+used_nodes (Delete t r) = Plain r ∷ []
+used_nodes (Rekey t r i k) = Plain r ∷ Plain i ∷ []
+used_nodes (Escalate t n) = n ∷ []
+used_nodes (Move t n ps) = n ∷ ps
+used_nodes (Group n) = n ∷ []
+used_nodes (Held t n) = n ∷ []
+used_nodes (Effective t n) = n ∷ []
+used_nodes c = []
+
+-- the transaction that a line uses
+abbrev pub used_txn : Command → Text
+used_txn (Lock t m n) = t
+used_txn (Try t m n) = t
+used_txn (Unlock t n) = t
+used_txn (Cancel t) = t
+used_txn (Commit t) = t
+used_txn (Abort t) = t
+used_txn (Settle t) = t
+used_txn (Insert t r f ks) = t
+used_txn (Delete t r) = t
+used_txn (Rekey t r i k) = t
+used_txn (Escalate t n) = t
+used_txn (Move t n ps) = t
+used_txn (Held t n) = t
+used_txn (Effective t n) = t
+used_txn c = []
+
+-- a space, and the first of these nodes whose name is not in use
+abbrev pub first_unused : Script → List Node → Text
+first_unused s [] = []
+first_unused s (n ∷ ns) = if is_none (node_named s n) then 32 ∷ node_text n else first_unused s ns
+
+-- one of these nodes has a name that is not in use
+abbrev pub some_unused : Script → List Node → Bool
+some_unused s ns = list_any (λ n. is_none (node_named s n)) ns
+
+-- the name that a line declares
+abbrev pub declared_text : Declared → Text
+declared_text (NodeName n) = n
+declared_text (TxnName t) = t
+declared_text Nothing = []
+
+-- a space, and whom a refusal names, if anybody
+abbrev pub who_text : Script → Command → Refusal → Text
+who_text s c no.NoSuchNode = first_unused s (used_nodes c)
+who_text s c no.NoSuchTxn = 32 ∷ used_txn c
+who_text s c no.NameTaken = 32 ∷ declared_text (declared c)
+who_text s c (no.NeedParents n) = 32 ∷ called s n
+who_text s c (no.HeldChild n) = 32 ∷ called s n
+who_text s c (no.Cycle n) = 32 ∷ called s n
+who_text s c r = []
+
+-- the line of a refusal
+abbrev pub refusal_line : Refusal → Text → Text
+refusal_line r who = codes "no " ++ decimal (refusal_number r) ++ 32 ∷ [] ++ refusal_name r ++ who ++ 10 ∷ []
+
+-- how an effective mode is spelt
+abbrev pub effect_text : Effect → Text
+effect_text effect.None = codes "none"
+effect_text effect.S = codes "S"
+effect_text effect.X = codes "X"
+
+-- the line of an answer
+abbrev pub answer_line : Script → Command → Answer → Text
+answer_line s c answer.Done = codes "ok\n"
+answer_line s c (answer.Node n) = codes "ok\n"
+answer_line s c (answer.Begun t) = codes "ok\n"
+answer_line s c (answer.Granted m) = codes "ok " ++ mode_text m ++ 10 ∷ []
+answer_line s c (answer.Mode m) = codes "ok " ++ mode_text m ++ 10 ∷ []
+answer_line s c answer.Waiting = codes "wait\n"
+answer_line s c answer.Victim = codes "victim\n"
+answer_line s c (answer.Escalated e) = codes "ok " ++ mode_text e.mode ++ codes " released " ++ decimal e.released ++ codes " kept " ++ decimal e.kept ++ 10 ∷ []
+answer_line s c (answer.Effect e) = codes "ok " ++ effect_text e ++ 10 ∷ []
+answer_line s c (answer.Refused r) = refusal_line r (who_text s c r)
+
+-- what a transaction is told
+abbrev pub notice_text : Script → Notice → Text
+notice_text s (notice.Granted n m) = codes " granted " ++ mode_text m ++ 32 ∷ called s n
+notice_text s notice.Victim = codes " victim"
+notice_text s notice.Moved = codes " moved"
+notice_text s notice.Gone = codes " gone"
+
+-- the line for a transaction that is told
+abbrev pub told_line : Script → TxnId × Notice → Text
+told_line s x = codes "told " ++ s.names.txn_name x.0 ++ notice_text s x.1 ++ 10 ∷ []
+
+-- all that is printed for a command, in the state after it
+abbrev pub printed : Script → Command → Answer → Told → Text
+printed s c a told = answer_line s c a ++ flat_map (told_line s) told

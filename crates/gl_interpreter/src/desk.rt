@@ -1,0 +1,372 @@
+//! A script between two lines: the names that it has declared, and the manager of its locks.
+
+ghost use Rattle.std.specs.Prelude.{◌≡◌, [], is_some};
+ghost use Rattle.gl_graph.specs.Graph.{first_parent, shape_of};
+ghost use Rattle.gl_graph.specs.Shapes.{place_in};
+ghost use Rattle.gl_script.specs.Views.{command_of, node_of, nodes_of};
+ghost use Rattle.gl_script.specs.declared.form.Lists.{Lists as TheLists};
+ghost use Rattle.gl_interpreter.specs.Names.{no_names};
+ghost use Rattle.gl_interpreter.specs.Rows.{name_at};
+ghost use Rattle.gl_interpreter.specs.Rooms.{HasRoomFor, MakesRoom, MakesRoomIn};
+ghost use Rattle.gl_interpreter.specs.Script.{Asks, Does, NodeName, TxnName, declared, named_as, node_id, node_ids, node_named, plain_id, renamed, txn_id, without_deleted, without_ended};
+ghost use Rattle.gl_interpreter.specs.Views.{HasRoom, id_in, name_in, names_of, script_of};
+
+use crate::register::Register;
+use arrayvec::ArrayVec;
+use gl_catalog::{Answer, Command, Manager};
+use gl_modes::{NodeId, Refusal};
+use gl_script::{Form, Language, Lists, Name, Used, Version};
+use gl_table::{Told, TxnId};
+use std::alloc::Global;
+use std::hash::Hash;
+
+/// The ids of the parents that a line lists.
+pub(crate) type Ids = ArrayVec<NodeId, 257>;
+
+/// What a script has declared, and the manager of its locks.
+#[derive(Drop)]
+pub(crate) struct Desk {
+    pub(crate) language: Language,
+    pub(crate) manager: Manager,
+    nodes: Register<NodeId>,
+    txns: Register<TxnId>,
+}
+
+impl Desk {
+    /// A script of version 1, with or without listings, of which no line was carried out.
+    pub(crate) fn new(alloc: Global, listings: bool, manager: Manager) -> Desk
+        ensures language { result.language ≡ record { version = Version.One; listings = listings } }
+        ensures manager { result.manager ≡ manager }
+        ensures names { names_of result ≡ no_names }
+    {
+        Desk {
+            language: Language {
+                version: Version::One,
+                listings,
+            },
+            manager,
+            nodes: Register::new(alloc),
+            txns: Register::new(alloc),
+        }
+    }
+
+    /// Goes on as a script of this version, of which no line was carried out.
+    pub(crate) fn begin_version(&mut self, version: Version, manager: Manager)
+        ensures language { self.new.language ≡ record { version = version; listings = self.old.language.listings } }
+        ensures manager { self.new.manager ≡ manager }
+        ensures names { names_of self.new ≡ names_of self.old }
+    {
+        self.language.version = version;
+        self.manager = manager;
+    }
+
+    /// Carries out the command of a line. A name that is in use is not declared again, and the room
+    /// for a new one is made first.
+    pub(crate) fn serve(
+        &mut self,
+        form: &Form,
+        lists: &Lists,
+        ids: &mut Ids,
+        told: &mut Told,
+    ) -> Answer
+        requires empty { told.old.items ≡ [] }
+        ensures does { Does (script_of self.old) (command_of form.now lists.now) result told.new.items (script_of self.new) }
+    {
+        if let Err(refusal) = self.make_room(form) {
+            return Answer::Refused(refusal);
+        }
+        self.resolve(lists, ids);
+        let command = self.command(form, lists, ids.as_slice());
+        let answer = self.manager.apply_telling(command, told);
+        self.rename(form, answer);
+        answer
+    }
+
+    /// Whether the name that a line declares is free, and there is room for it.
+    fn make_room(&mut self, form: &Form) -> Result<(), Refusal>
+        ensures names { names_of self.new ≡ names_of self.old }
+        ensures language { self.new.language ≡ self.old.language }
+        ensures manager { self.new.manager ≡ self.old.manager }
+        ensures room { (lists : TheLists) → MakesRoom (names_of self.old) (declared (command_of form.now lists)) self.new result }
+    {
+        match form {
+            Form::Inner { name } => room_for(&mut self.nodes, name),
+            Form::File { name } => room_for(&mut self.nodes, name),
+            Form::Index { name, .. } => room_for(&mut self.nodes, name),
+            Form::Insert { name, .. } => room_for(&mut self.nodes, name),
+            Form::Begin { txn } => room_for(&mut self.txns, txn),
+            _ => Ok(()),
+        }
+    }
+
+    /// The ids of the nodes that a line lists.
+    fn resolve(&self, lists: &Lists, ids: &mut Ids)
+        ensures { ids.new.items ≡ node_ids (script_of self.now) (nodes_of lists.now) }
+    {
+        ids.clear();
+        for node in lists.nodes.as_slice() {
+            let _ = ids.try_push(self.node_id(node));
+        }
+    }
+
+    /// The command of the manager that a line asks for.
+    fn command<'a>(&self, form: &Form, lists: &'a Lists, ids: &'a [NodeId]) -> Command<'a>
+        requires { ids.now ≡ node_ids (script_of self.now) (nodes_of lists.now) }
+        ensures { Asks (script_of self.now) (command_of form.now lists.now) result }
+    {
+        let numbers = lists.numbers.as_slice();
+        match form {
+            Form::Inner { .. } => Command::Inner { parents: ids },
+            Form::File { .. } => Command::File { parents: ids },
+            Form::Index { file, .. } => Command::Index {
+                parents: ids,
+                file: self.plain_id(file),
+                bounds: numbers,
+            },
+            Form::Begin { .. } => Command::Begin,
+            Form::Lock { txn, mode, node } => Command::Lock {
+                txn: self.txn_id(txn),
+                node: self.node_id(node),
+                mode: *mode,
+            },
+            Form::Try { txn, mode, node } => Command::Try {
+                txn: self.txn_id(txn),
+                node: self.node_id(node),
+                mode: *mode,
+            },
+            Form::Unlock { txn, node } => Command::Unlock {
+                txn: self.txn_id(txn),
+                node: self.node_id(node),
+            },
+            Form::Cancel { txn } => Command::Cancel {
+                txn: self.txn_id(txn),
+            },
+            Form::Commit { txn } => Command::Commit {
+                txn: self.txn_id(txn),
+            },
+            Form::Abort { txn } => Command::Abort {
+                txn: self.txn_id(txn),
+            },
+            Form::Settle { txn } => Command::Settle {
+                txn: self.txn_id(txn),
+            },
+            Form::Insert { txn, file, .. } => Command::Insert {
+                txn: self.txn_id(txn),
+                file: self.plain_id(file),
+                keys: numbers,
+            },
+            Form::Delete { txn, rec } => Command::Delete {
+                txn: self.txn_id(txn),
+                rec: self.plain_id(rec),
+            },
+            Form::Rekey {
+                txn,
+                rec,
+                index,
+                key,
+            } => Command::Rekey {
+                txn: self.txn_id(txn),
+                rec: self.plain_id(rec),
+                index: self.plain_id(index),
+                key: *key,
+            },
+            Form::Escalate { txn, node } => Command::Escalate {
+                txn: self.txn_id(txn),
+                node: self.node_id(node),
+            },
+            Form::Move { txn, node } => Command::Move {
+                txn: self.txn_id(txn),
+                node: self.node_id(node),
+                parents: ids,
+            },
+            Form::Group { node } => Command::Group {
+                node: self.node_id(node),
+            },
+            Form::Held { txn, node } => Command::Held {
+                txn: self.txn_id(txn),
+                node: self.node_id(node),
+            },
+            Form::Effective { txn, node } => Command::Effective {
+                txn: self.txn_id(txn),
+                node: self.node_id(node),
+            },
+        }
+    }
+
+    /// The names after a command: what was made has its name, and the name of what is gone is free.
+    fn rename(&mut self, form: &Form, answer: Answer)
+        requires room { (lists : TheLists) → HasRoomFor self.old (declared (command_of form.now lists)) }
+        ensures names { (lists : TheLists) → names_of self.new ≡ renamed (names_of self.old) (command_of form.now lists) answer }
+        ensures language { self.new.language ≡ self.old.language }
+        ensures manager { self.new.manager ≡ self.old.manager }
+    {
+        match form {
+            Form::Inner { name } => self.name_node(name, answer),
+            Form::File { name } => self.name_node(name, answer),
+            Form::Index { name, .. } => self.name_node(name, answer),
+            Form::Insert { name, .. } => self.name_node(name, answer),
+            Form::Begin { txn } => self.name_txn(txn, answer),
+            Form::Commit { txn } => self.free_txn(txn, answer),
+            Form::Abort { txn } => self.free_txn(txn, answer),
+            Form::Delete { rec, .. } => self.free_node(rec, answer),
+            _ => {}
+        }
+    }
+
+    /// What was made has this name.
+    fn name_node(&mut self, name: &Name, answer: Answer)
+        requires room { HasRoom self.old.nodes }
+        ensures names { names_of self.new ≡ named_as (names_of self.old) (NodeName name.now.items) answer }
+        ensures language { self.new.language ≡ self.old.language }
+        ensures manager { self.new.manager ≡ self.old.manager }
+    {
+        if let Answer::Node(id) = answer {
+            self.nodes.add(name, id);
+        }
+    }
+
+    /// The transaction that began has this name.
+    fn name_txn(&mut self, name: &Name, answer: Answer)
+        requires room { HasRoom self.old.txns }
+        ensures names { names_of self.new ≡ named_as (names_of self.old) (TxnName name.now.items) answer }
+        ensures language { self.new.language ≡ self.old.language }
+        ensures manager { self.new.manager ≡ self.old.manager }
+    {
+        if let Answer::Begun(id) = answer {
+            self.txns.add(name, id);
+        }
+    }
+
+    /// The name of a transaction that has ended is free again.
+    fn free_txn(&mut self, name: &Name, answer: Answer)
+        ensures names { names_of self.new ≡ without_ended (names_of self.old) name.now.items answer }
+        ensures language { self.new.language ≡ self.old.language }
+        ensures manager { self.new.manager ≡ self.old.manager }
+    {
+        if matches!(answer, Answer::Done) {
+            let id = self.txn_id(name);
+            self.txns.remove(name, id);
+        }
+    }
+
+    /// The name of a record that was deleted is free again.
+    fn free_node(&mut self, name: &Name, answer: Answer)
+        ensures names { names_of self.new ≡ without_deleted (names_of self.old) name.now.items answer }
+        ensures language { self.new.language ≡ self.old.language }
+        ensures manager { self.new.manager ≡ self.old.manager }
+    {
+        if matches!(answer, Answer::Done) {
+            let id = self.plain_id(name);
+            self.nodes.remove(name, id);
+        }
+    }
+
+    /// The node that is named, if one is.
+    pub(crate) fn find(&self, node: &Used) -> Option<NodeId>
+        ensures { result ≡ node_named (script_of self.now) (node_of node.now) }
+    {
+        let id = self.nodes.id(&node.name)?;
+        match node.interval {
+            None => Some(id),
+            Some(place) => self.manager.graph().interval(id, place as usize),
+        }
+    }
+
+    /// Whether the name is a node's.
+    pub(crate) fn is_node(&self, name: &Name) -> bool
+        ensures { result ≡ is_some ((script_of self.now).names.node name.now.items) }
+    {
+        self.nodes.id(name).is_some()
+    }
+
+    /// The name of a node that has one of its own, else nothing.
+    pub(crate) fn node_name(&self, node: NodeId) -> &[u8]
+        ensures { result.now ≡ (script_of self.now).names.node_name node }
+    {
+        self.nodes.name(node)
+    }
+
+    /// The name of an interval's index.
+    pub(crate) fn index_name(&self, interval: NodeId) -> &[u8]
+        ensures { result.now ≡ (script_of self.now).names.node_name (first_parent (script_of self.now).locks.graph interval) }
+    {
+        match self.manager.graph().parents(interval).first() {
+            Some(index) => self.nodes.name(*index),
+            None => self.nodes.name(NodeId::NONE),
+        }
+    }
+
+    /// The place of an interval in its index; `None` for any other node.
+    pub(crate) fn place(&self, node: NodeId) -> Option<usize>
+        ensures { result ≡ place_in (shape_of (script_of self.now).locks.graph node) }
+    {
+        self.manager.graph().place(node)
+    }
+
+    /// The name of a transaction.
+    pub(crate) fn txn_name(&self, txn: TxnId) -> &[u8]
+        ensures { result.now ≡ (script_of self.now).names.txn_name txn }
+    {
+        self.txns.name(txn)
+    }
+
+    /// How many nodes have a name of their own.
+    pub(crate) fn node_count(&self) -> usize {
+        self.nodes.len()
+    }
+
+    /// The node at a place among those with a name of their own.
+    pub(crate) fn node_at(&self, place: usize) -> Option<NodeId> {
+        self.nodes.id_at(place)
+    }
+
+    /// The name of the transaction in a slot, empty for a free one.
+    pub(crate) fn name_at(&self, slot: u8) -> &[u8]
+        ensures { result.now ≡ name_at (script_of self.now) slot }
+    {
+        match self.manager.living(slot) {
+            Some((txn, _)) => self.txns.name(txn),
+            None => &[],
+        }
+    }
+
+    /// The id of a node; one that names none, where the name is not in use.
+    pub(crate) fn node_id(&self, node: &Used) -> NodeId
+        ensures { result ≡ node_id (script_of self.now) (node_of node.now) }
+    {
+        self.find(node).unwrap_or(NodeId::NONE)
+    }
+
+    /// The id of a node with a name of its own.
+    fn plain_id(&self, name: &Name) -> NodeId
+        ensures { result ≡ plain_id (names_of self.now) name.now.items }
+    {
+        self.nodes.id(name).unwrap_or(NodeId::NONE)
+    }
+
+    /// The id of a transaction; one that names none, where the name is not in use.
+    pub(crate) fn txn_id(&self, name: &Name) -> TxnId
+        ensures { result ≡ txn_id (names_of self.now) name.now.items }
+    {
+        self.txns.id(name).unwrap_or(TxnId::NONE)
+    }
+}
+
+/// Whether a name is free, and there is room for it.
+fn room_for<I: Copy + Eq + Hash + Drop>(
+    register: &mut Register<I>,
+    name: &Name,
+) -> Result<(), Refusal>
+    ensures ids { id_in register.new ≡ id_in register.old }
+    ensures names { name_in I.eq register.new ≡ name_in I.eq register.old }
+    ensures room { MakesRoomIn register.old name.now.items register.new result }
+{
+    if register.id(name).is_some() {
+        return Err(Refusal::NameTaken);
+    }
+    if register.make_room() {
+        Ok(())
+    } else {
+        Err(Refusal::NoMemory)
+    }
+}

@@ -1,0 +1,308 @@
+//! A picture of the state in which a script ends, as text for Graphviz.
+
+ghost use Rattle.std.specs.Prelude.{◌≡◌, ◌≢◌, ◌≤◌, IfErr, OnOk, map};
+ghost use Rattle.std.specs.Io.KnownBytes.{IsAtEnd};
+ghost use Rattle.gl_interpreter.specs.Picture.{AsksForPicture, DrawsWithin, behind_part, status_of};
+ghost use Rattle.gl_interpreter.specs.Report.{ReadsWithin};
+
+use crate::answers::{put_number, put_place};
+use crate::desk::Desk;
+use crate::script::{RunFault, new_block, new_tool, pump};
+use crate::sink::{Sink, flush, new_sink, put, send};
+use arrayvec::ArrayString;
+use gl_modes::{Mode, NodeId};
+use gl_slots::Slots;
+use gl_table::{Status, TxnId};
+use gl_waits::{SLOTS, on_cycle};
+use gl_words::{Asked, Choices, asked};
+use std::alloc::Global;
+use std::convert::AsStr;
+use std::fmt::Write as FormatWrite;
+use std::io;
+use std::io::{Read, Write};
+use thiserror::Error as FaultText;
+
+/// The most intervals that an index has: one more than bounds.
+const MOST_INTERVALS: usize = 257;
+
+/// What a picture shows.
+#[derive(Clone, Copy, Debug, PartialEq, Eq)]
+pub enum Shown {
+    /// The lock graph and the transactions.
+    All,
+    /// The lock graph alone: each node with its holders and its queue.
+    Graph,
+    /// The transactions alone, and who waits for whom.
+    Waits,
+}
+
+/// What keeps a picture from being drawn.
+#[derive(Clone, Copy, Debug, PartialEq, Eq, FaultText)]
+pub enum PictureFault {
+    /// The script's run met a fault, or the picture could not be written.
+    #[error("{0}")]
+    Run(RunFault),
+    /// The words ask for nothing that is drawn.
+    #[error("bad words")]
+    Words,
+}
+
+/// Draws the state in which the script that `reader` gives ends. The words are those of a script, and in
+/// front of them may stand `--graph` or `--waits`. `--listings` may be among them, and changes no
+/// picture: neither a listing nor a bad line changes the state. Answers the exit status: 0 at the end, 1
+/// after a fault, 2 for words that ask for nothing that is drawn; after anything but 0 one line that says
+/// why was given to `faults`.
+pub fn draw_script<S: AsStr, R: Read, W: Write, E: Write>(
+    alloc: Global,
+    words: &[S],
+    reader: &mut R,
+    writer: &mut W,
+    faults: &mut E,
+) -> u8
+    ensures drawn { result ≡ 0 → AsksForPicture (map S.text words.now) × IsAtEnd (R.remaining reader.new) }
+    ensures fault { result ≡ 1 → AsksForPicture (map S.text words.now) }
+    ensures bad_words { result ≡ 2 → (R.remaining reader.new ≡ R.remaining reader.old) × (W.contents writer.new ≡ W.contents writer.old) }
+    ensures limit { DrawsWithin (R.remaining reader.old) (R.remaining reader.new) result }
+    ensures bound { result ≤ 2 }
+{
+    let (shown, rest) = shown_by(words);
+    let Some(Asked::Script(choices)) = asked(alloc, rest) else {
+        return complain_of_picture(PictureFault::Words, faults);
+    };
+    match picture(alloc, reader, writer, choices, shown) {
+        Ok(()) => 0,
+        Err(fault) => complain_of_picture(PictureFault::Run(fault), faults),
+    }
+}
+
+/// Says on the given stream what kept a picture from being drawn, and answers the status. A fault in
+/// saying it changes nothing.
+pub fn complain_of_picture<E: Write>(fault: PictureFault, faults: &mut E) -> u8
+    ensures { result ≡ status_of fault }
+{
+    let mut line = ArrayString::<64>::new();
+    let _ = writeln!(line, "glpicture: {fault}");
+    send(faults, line.as_bytes());
+    match fault {
+        PictureFault::Words => 2,
+        PictureFault::Run(_) => 1,
+    }
+}
+
+/// What the first word asks to be shown, and the words behind it.
+fn shown_by<S: AsStr>(words: &[S]) -> (Shown, &[S])
+    ensures { map S.text result.1.now ≡ behind_part (map S.text words.now) }
+{
+    match words.first() {
+        Some(word) if word.as_str() == "--graph" => (Shown::Graph, &words[1..]),
+        Some(word) if word.as_str() == "--waits" => (Shown::Waits, &words[1..]),
+        _ => (Shown::All, words),
+    }
+}
+
+/// Runs a script without writing its answers, and then draws the state in which it ends, as a graph in
+/// the language of Graphviz: the lock graph, each node with its holders and its queue, and the
+/// transactions, each with an arrow to whomever it waits for; arrows on a cycle are red.
+///
+/// # Errors
+///
+/// As `run`: nothing is drawn where the script does not end, and after any fault but one of a write
+/// nothing was written.
+pub fn picture<R: Read, W: Write>(
+    alloc: Global,
+    reader: &mut R,
+    writer: &mut W,
+    choices: Choices,
+    shown: Shown,
+) -> Result<(), RunFault>
+    ensures whole { OnOk result (IsAtEnd (R.remaining reader.new)) }
+    ensures limit { ReadsWithin (R.remaining reader.old) (R.remaining reader.new) result }
+    ensures undrawn { IfErr result (λ fault. fault ≢ RunFault.Write → W.contents writer.new ≡ W.contents writer.old) }
+{
+    let Some(mut block) = new_block(alloc) else {
+        return Err(RunFault::Memory);
+    };
+    let Some(mut tool) = new_tool(alloc, choices) else {
+        return Err(RunFault::Memory);
+    };
+    match pump(&mut tool, reader, &mut io::sink(), &mut block) {
+        Ok(()) => {}
+        Err(fault) => return Err(fault),
+    }
+    let mut sink = new_sink();
+    draw(&mut sink, writer, &tool.interpreter.desk, shown);
+    flush(&mut sink, writer);
+    if sink.broken {
+        Err(RunFault::Write)
+    } else {
+        Ok(())
+    }
+}
+
+/// Draws a state.
+fn draw<W: Write>(sink: &mut Sink, writer: &mut W, desk: &Desk, shown: Shown) {
+    put(sink, writer, b"digraph locks {\n");
+    if shown != Shown::Waits {
+        draw_nodes(sink, writer, desk);
+    }
+    if shown != Shown::Graph {
+        draw_txns(sink, writer, desk);
+    }
+    put(sink, writer, b"}\n");
+}
+
+/// Draws the lock graph.
+fn draw_nodes<W: Write>(sink: &mut Sink, writer: &mut W, desk: &Desk) {
+    put(sink, writer, b"  node [shape=box];\n");
+    for place in 0..desk.node_count() {
+        if let Some(node) = desk.node_at(place) {
+            draw_node(sink, writer, desk, node);
+            draw_intervals(sink, writer, desk, node);
+        }
+    }
+}
+
+/// Draws the intervals of a node, if it is an index.
+fn draw_intervals<W: Write>(sink: &mut Sink, writer: &mut W, desk: &Desk, index: NodeId) {
+    for place in 0..MOST_INTERVALS {
+        match desk.manager.graph().interval(index, place) {
+            Some(interval) => draw_node(sink, writer, desk, interval),
+            None => return,
+        }
+    }
+}
+
+/// Draws a node, and the arrows to it from its parents.
+fn draw_node<W: Write>(sink: &mut Sink, writer: &mut W, desk: &Desk, node: NodeId) {
+    put(sink, writer, b"  ");
+    put_node(sink, writer, node);
+    put(sink, writer, b" [label=\"");
+    put_node_name(sink, writer, desk, node);
+    put_holders(sink, writer, desk, node);
+    put_waiters(sink, writer, desk, node);
+    put(sink, writer, b"\"];\n");
+    draw_parents(sink, writer, desk, node);
+}
+
+/// Draws the arrows to a node from its parents.
+fn draw_parents<W: Write>(sink: &mut Sink, writer: &mut W, desk: &Desk, node: NodeId) {
+    for parent in desk.manager.graph().parents(node) {
+        put(sink, writer, b"  ");
+        put_node(sink, writer, *parent);
+        put(sink, writer, b" -> ");
+        put_node(sink, writer, node);
+        put(sink, writer, b";\n");
+    }
+}
+
+/// Prints by what the picture knows a node.
+fn put_node<W: Write>(sink: &mut Sink, writer: &mut W, node: NodeId) {
+    put(sink, writer, b"n");
+    put_number(sink, writer, node.birth);
+}
+
+/// Prints the name of a node, or for an interval that of its index, a dot and its place.
+fn put_node_name<W: Write>(sink: &mut Sink, writer: &mut W, desk: &Desk, node: NodeId) {
+    match desk.place(node) {
+        None => put(sink, writer, desk.node_name(node)),
+        Some(place) => {
+            put(sink, writer, desk.index_name(node));
+            put_place(sink, writer, Some(place as u64));
+        }
+    }
+}
+
+/// Prints a line of a label for each holder of a node.
+fn put_holders<W: Write>(sink: &mut Sink, writer: &mut W, desk: &Desk, node: NodeId) {
+    let Ok(slots) = desk.manager.holders(node) else {
+        return;
+    };
+    for slot in slots.iter() {
+        put(sink, writer, b"\\n");
+        put_claim(sink, writer, desk, slot, desk.manager.mode_at(slot, node));
+    }
+}
+
+/// Prints a line of a label for each who waits for a node, the first first.
+fn put_waiters<W: Write>(sink: &mut Sink, writer: &mut W, desk: &Desk, node: NodeId) {
+    let Ok(queue) = desk.manager.queue(node) else {
+        return;
+    };
+    for (slot, wanted) in queue {
+        put(sink, writer, b"\\nwaits: ");
+        put_claim(sink, writer, desk, *slot, *wanted);
+    }
+}
+
+/// Prints who holds or wants a node, and in what mode.
+fn put_claim<W: Write>(sink: &mut Sink, writer: &mut W, desk: &Desk, slot: u8, mode: Mode) {
+    put(sink, writer, desk.name_at(slot));
+    put(sink, writer, b" ");
+    put(sink, writer, mode.text().as_bytes());
+}
+
+/// Draws the transactions, and who waits for whom.
+fn draw_txns<W: Write>(sink: &mut Sink, writer: &mut W, desk: &Desk) {
+    put(sink, writer, b"  node [shape=ellipse];\n");
+    desk.manager.law(); // No slot is past 127.
+    for slot in 0..desk.manager.most() {
+        if let Some((txn, status)) = desk.manager.living(slot as u8) {
+            draw_txn(sink, writer, desk, txn, status);
+            draw_waits(sink, writer, desk, txn, status);
+        }
+    }
+}
+
+/// Draws a transaction; one that is condemned is grey.
+fn draw_txn<W: Write>(sink: &mut Sink, writer: &mut W, desk: &Desk, txn: TxnId, status: Status) {
+    put(sink, writer, b"  ");
+    put_slot(sink, writer, txn.slot);
+    put(sink, writer, b" [label=\"");
+    put(sink, writer, desk.txn_name(txn));
+    put(sink, writer, b"\\nage ");
+    put_number(sink, writer, txn.age);
+    if status == Status::Condemned {
+        put(
+            sink,
+            writer,
+            b"\\ncondemned\", style=filled, fillcolor=lightgrey];\n",
+        );
+    } else {
+        put(sink, writer, b"\"];\n");
+    }
+}
+
+/// Draws an arrow from a transaction to each for whom it waits.
+fn draw_waits<W: Write>(sink: &mut Sink, writer: &mut W, desk: &Desk, txn: TxnId, status: Status) {
+    let (Status::Waiting { node, wanted }, Ok(slots)) = (status, desk.manager.waits_for(txn)) else {
+        return;
+    };
+    let at = (txn.slot as usize).min(SLOTS - 1); // A living transaction is in a slot below.
+    let cycle = Slots::from_bits(on_cycle(&desk.manager.board(), at));
+    for slot in slots.iter() {
+        put(sink, writer, b"  ");
+        put_slot(sink, writer, txn.slot);
+        put(sink, writer, b" -> ");
+        put_slot(sink, writer, slot);
+        put(sink, writer, b" [label=\"");
+        put(sink, writer, wanted.text().as_bytes());
+        put(sink, writer, b" ");
+        put_node_name(sink, writer, desk, node);
+        put_end(sink, writer, cycle.contains(slot));
+    }
+}
+
+/// Prints the end of an arrow's line.
+fn put_end<W: Write>(sink: &mut Sink, writer: &mut W, is_on_cycle: bool) {
+    if is_on_cycle {
+        put(sink, writer, b"\", color=red, fontcolor=red];\n");
+    } else {
+        put(sink, writer, b"\"];\n");
+    }
+}
+
+/// Prints by what the picture knows the transaction in a slot.
+fn put_slot<W: Write>(sink: &mut Sink, writer: &mut W, slot: u8) {
+    put(sink, writer, b"t");
+    put_number(sink, writer, slot as u64);
+}

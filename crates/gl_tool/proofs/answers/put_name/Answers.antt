@@ -1,5 +1,0 @@
-use Rattle.gl_tool.proofs.Writing.{Hands-then}
-use Rattle.gl_tool.proofs.answers.put_name.Goals as goal
-
-pub returns : goal.returns
-returns g c = Hands-then _ _ _ _ _ _ _ _ c.put.ensures c.put-2.ensures

@@ -1,8 +1,0 @@
-use Rattle.std.proofs.Common.{flat_map, take}
-use Rattle.gl_tool.specs.Held.{Hands}
-use Rattle.gl_tool.specs.Printed.{told_line}
-use Rattle.gl_tool.specs.Views.{script_of}
-use Rattle.gl_tool.proofs.answers.put_notices.Given as goal
-
-abbrev pub invariant-loop-txn : goal.invariant-loop-txn
-invariant-loop-txn g l = Hands (g.W.Write.contents l.fn.writer) l.fn.sink (g.W.Write.contents l.writer) l.sink (flat_map (told_line (script_of l.desk)) (take l.txn-index l.told))

@@ -1,9 +1,0 @@
-use Rattle.std.proofs.Common.{sym, ◌∙◌, ap, not}
-use Rattle.gl_tool.proofs.Writing.{Hands-none}
-use Rattle.gl_tool.proofs.answers.put_unused_name.Goals as goal
-
-pub returns-then-is_node-clause-text : goal.returns-then-is_node-clause-text
-returns-then-is_node-clause-text g c = rw (ap not (sym c.is_node.ensures ∙ c.if-is_node.true)) (Hands-none _ _)
-
-pub returns-clause-text : goal.returns-clause-text
-returns-clause-text g c = rw (ap not (sym c.is_node.ensures ∙ c.if-is_node.false)) (rw c.as_slice.ensures.value at c.put_name.ensures)

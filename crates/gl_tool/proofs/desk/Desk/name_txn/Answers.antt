@@ -1,5 +1,0 @@
-use Rattle.gl_tool.specs.Views.{names_of}
-use Rattle.gl_tool.proofs.desk.Desk.name_txn.Goals as goal
-
-pub returns-in-Begun-clause-names : goal.returns-in-Begun-clause-names
-returns-in-Begun-clause-names c = rw c.in-Begun.is (λ i. record (names_of c.args.self.now) { txn = c.add.ensures.ids i; txn_name = c.add.ensures.names i })

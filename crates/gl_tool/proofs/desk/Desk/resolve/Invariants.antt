@@ -1,8 +1,0 @@
-use Rattle.std.proofs.Common.{◌≡◌, take}
-use Rattle.gl_script.specs.Views.{nodes_of}
-use Rattle.gl_tool.specs.Script.{node_ids}
-use Rattle.gl_tool.specs.Views.{script_of}
-use Rattle.gl_tool.proofs.desk.Desk.resolve.Given as goal
-
-abbrev pub invariant-loop-node : goal.invariant-loop-node
-invariant-loop-node l = l.ids.items ≡ take l.node-index (node_ids (script_of l.self) (nodes_of l.lists))

@@ -1,8 +1,0 @@
-use Rattle.std.proofs.Common.{flat_map, take}
-use Rattle.gl_tool.specs.Held.{Hands}
-use Rattle.gl_tool.specs.Rows.{waiter_row}
-use Rattle.gl_tool.specs.Views.{script_of}
-use Rattle.gl_tool.proofs.listings.put_each_waiter.Given as goal
-
-abbrev pub invariant-loop-slot : goal.invariant-loop-slot
-invariant-loop-slot g l = Hands (g.W.Write.contents l.fn.writer) l.fn.sink (g.W.Write.contents l.writer) l.sink (flat_map (waiter_row (script_of l.desk)) (take l.slot-index l.queue))

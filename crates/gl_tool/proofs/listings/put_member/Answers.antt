@@ -1,8 +1,0 @@
-use Rattle.gl_tool.proofs.Writing.{Hands-then}
-use Rattle.gl_tool.proofs.listings.put_member.Goals as goal
-
-pub returns : goal.returns
-returns g c =
-    let name = Hands-then _ _ _ _ _ _ _ _ c.put.ensures (rw (c.or_dash.ensures, c.txn_name.ensures) at c.put-2.ensures) in
-    let space = Hands-then _ _ _ _ _ _ _ _ name c.put-3.ensures in
-    Hands-then _ _ _ _ _ _ _ _ space c.put_number.ensures

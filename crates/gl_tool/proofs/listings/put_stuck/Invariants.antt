@@ -1,8 +1,0 @@
-use Rattle.std.proofs.Common.{flat_map, take}
-use Rattle.gl_tool.specs.Held.{Hands}
-use Rattle.gl_tool.specs.Rows.{wait_row}
-use Rattle.gl_tool.specs.Views.{script_of}
-use Rattle.gl_tool.proofs.listings.put_stuck.Given as goal
-
-abbrev pub invariant-loop-other : goal.invariant-loop-other
-invariant-loop-other g l = Hands (g.W.Write.contents l.fn.writer) l.fn.sink (g.W.Write.contents l.writer) l.sink (flat_map (wait_row (script_of l.desk) l.stuck) (take l.other-index l.all))
