@@ -16,9 +16,6 @@ use std::alloc::Global;
 use std::process::Abort;
 use std::sync::Wait;
 
-/// How many commands each session asks at least.
-pub const COMMANDS: usize = 2000;
-
 /// A command, with what it names in lists of its own.
 #[derive(Clone, Copy)]
 pub enum Act {
@@ -325,8 +322,7 @@ impl<N: Naming, R: Wait + Abort> Actor<'_, '_, N, R> {
     }
 }
 
-/// Has a session ask at least so many commands as all are to, and commit. Gives back its share and
-/// what it asked.
+/// Has a session ask at least so many commands, and commit. Gives back its share and what it asked.
 pub fn acts<N: Naming, R: Wait + Abort>(
     rt: &R,
     alloc: Global,
@@ -334,6 +330,7 @@ pub fn acts<N: Naming, R: Wait + Abort>(
     forest: &Forest,
     share: Share<N>,
     number: u64,
+    commands: u32,
 ) -> (Share<N>, Vec<Entry>) {
     let mut actor = Actor {
         rt,
@@ -348,8 +345,8 @@ pub fn acts<N: Naming, R: Wait + Abort>(
         told: Told::new(),
     };
     actor.begins();
-    for _ in 0..COMMANDS {
-        if actor.diary.len() >= COMMANDS {
+    for _ in 0..commands {
+        if actor.diary.len() >= commands as usize {
             break;
         }
         actor.goes_on();

@@ -10,25 +10,32 @@ use gl_modes::{Mode, Refusal};
 use gl_shared::{Naming, Session, Share, Shared, Watcher};
 use gl_table::Detect;
 use std::alloc::{AllocError, Global};
+use std::env;
+use std::env::VarError;
 use std::process::Abort;
-use std::rt::Clock;
+use std::rt::{Clock, Env};
 use std::sync::Wait;
 use std::sync::atomic::{AtomicBool, Ordering};
 use std::test::Fail;
 use std::thread::{Threads, join, map_vec, yield_now};
 
-/// Sessions over a forest.
+/// How many commands each session asks at least, where the environment has no other number.
+const COMMANDS: u32 = 200;
+
+/// Sessions over a forest, each of which asks at least so many commands.
 #[derive(Drop)]
 pub struct Crowd {
     forest: Forest,
     detect: Detect,
+    commands: u32,
 }
 
-/// A session before it acts: its share, and its number.
+/// A session before it acts: its share, its number, and how many commands it asks at least.
 #[derive(Drop)]
 struct Seat<N: Naming> {
     share: Share<N>,
     number: u64,
+    commands: u32,
 }
 
 /// What a session gives back: its share, and all that it asked.
@@ -45,8 +52,12 @@ fn act_from<N: Naming, R: Wait + Abort>(
     forest: &Forest,
     seat: Seat<N>,
 ) -> Left<N> {
-    let Seat { share, number } = seat;
-    let (share, diary) = acts(rt, alloc, table, forest, share, number);
+    let Seat {
+        share,
+        number,
+        commands,
+    } = seat;
+    let (share, diary) = acts(rt, alloc, table, forest, share, number, commands);
     Left { share, diary }
 }
 
@@ -98,11 +109,15 @@ fn settles_all<N: Naming, R: Wait + Abort>(
 }
 
 /// A seat for each share.
-fn seat_all<N: Naming>(alloc: Global, shares: Vec<Share<N>>) -> Vec<Seat<N>> {
+fn seat_all<N: Naming>(alloc: Global, shares: Vec<Share<N>>, commands: u32) -> Vec<Seat<N>> {
     let mut seats = Vec::new(alloc);
     for (place, share) in shares.into_iter().enumerate() {
-        let number = place as u64;
-        let _ = seats.push(Seat { share, number });
+        let seat = Seat {
+            share,
+            number: place as u64,
+            commands,
+        };
+        let _ = seats.push(seat);
     }
     seats
 }
@@ -151,7 +166,7 @@ impl Crowd {
         let (Some(share), Some(mut watcher)) = (shares.pop(), watchers.pop()) else {
             return shares;
         };
-        let seats = seat_all(alloc, shares);
+        let seats = seat_all(alloc, shares, self.commands);
         let ended = AtomicBool::new(false);
         let (flag, looking, forest) = (&ended, &mut watcher, &self.forest);
         let (left, settler) = join(
@@ -168,22 +183,36 @@ impl Crowd {
     }
 }
 
+/// How many commands each session is to ask at least: the environment's CROWD_COMMANDS, if it is there.
+fn commands_wanted<R: Env + Alloc>(rt: &R) -> Result<u32, Fail> {
+    match env::var(rt, "CROWD_COMMANDS") {
+        Ok(number) => Ok(number.as_str().parse::<u32>()?),
+        Err(VarError::NotPresent) => Ok(COMMANDS),
+        Err(why) => Err(Fail::from(why)),
+    }
+}
+
 /// Plays with 128 sessions. In the end nobody holds anything, and the book has all that was accepted.
 fn play_crowd<R: Threads + Wait + Abort + Clock + Sync>(
     rt: &R,
     alloc: Global,
     detect: Detect,
+    commands: u32,
 ) -> Result<(), Fail> {
     let mut manager = new_manager(alloc, detect)?;
     let forest = add_forest(rt, &mut manager);
     let (nodes, opening) = (forest.nodes, manager.accepted());
-    let story = Story::Crowd(Crowd { forest, detect });
+    let story = Story::Crowd(Crowd {
+        forest,
+        detect,
+        commands,
+    });
     let mut closed = enact(rt, alloc, manager, 129, 1, &story)?;
     assert_eq!(rt;
         opening.checked_add(closed.book),
         Some(closed.manager.accepted())
     );
-    assert!(rt; closed.book > 128 * 1000);
+    assert!(rt; closed.book > 64 * u64::from(commands));
     for node in nodes {
         let group = closed.manager.apply(Command::Group { node }).answer;
         let is_free = group == Answer::Mode(Mode::NL);
@@ -194,10 +223,12 @@ fn play_crowd<R: Threads + Wait + Abort + Clock + Sync>(
 
 #[test]
 fn what_a_crowd_does_is_one_run_at_block(rt: HostRuntime) -> Result<(), Fail> {
-    play_crowd(&rt, rt.alloc(), Detect::AtBlock)
+    let commands = commands_wanted(&rt)?;
+    play_crowd(&rt, rt.alloc(), Detect::AtBlock, commands)
 }
 
 #[test]
 fn what_a_crowd_does_is_one_run_by_watcher(rt: HostRuntime) -> Result<(), Fail> {
-    play_crowd(&rt, rt.alloc(), Detect::ByWatcher)
+    let commands = commands_wanted(&rt)?;
+    play_crowd(&rt, rt.alloc(), Detect::ByWatcher, commands)
 }

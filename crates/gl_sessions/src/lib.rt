@@ -9,6 +9,8 @@ mod crowd;
 #[cfg(test)]
 mod forest;
 #[cfg(test)]
+mod gathers;
+#[cfg(test)]
 mod lists;
 #[cfg(test)]
 mod looks;
@@ -18,6 +20,8 @@ mod races;
 mod ring;
 #[cfg(test)]
 mod rows;
+#[cfg(test)]
+mod sleepers;
 #[cfg(test)]
 mod stage;
 #[cfg(test)]
@@ -32,3 +36,5 @@ mod tally;
 mod tellings;
 #[cfg(test)]
 mod waits;
+#[cfg(test)]
+mod wakings;

@@ -136,7 +136,6 @@ fn serve_lists<N: Naming, R: Wait + Abort>(
     parts: Parts,
     scene: Scene,
 ) -> Result<(), Fail>
-    requires whole { N.shares ≡ N.parts }
     requires name { parts.blank.name ≡ N.name }
     requires parts { parts.blank.parts ≡ N.parts }
     requires shares { parts.shares ≡ N.shares }

@@ -25,7 +25,6 @@ fn enact_under_name<N: Naming + Send + Sync, R: Threads + Wait + Abort + Clock +
     parts: Parts,
     story: &Story,
 ) -> Result<Closed, Fail>
-    requires whole { N.shares ≡ N.parts }
     requires name { parts.blank.name ≡ N.name }
     requires parts { parts.blank.parts ≡ N.parts }
     requires shares { parts.shares ≡ N.shares }

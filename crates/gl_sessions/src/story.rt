@@ -4,6 +4,7 @@ use crate::crowd::Crowd;
 use crate::looks::Watched;
 use crate::races::{SettledLate, Upgrade};
 use crate::ring::Ring;
+use crate::wakings::Waking;
 use gl_shared::{Naming, Share, Shared, Watcher};
 use std::alloc::Global;
 use std::process::Abort;
@@ -19,6 +20,7 @@ pub enum Story {
     Watched(Watched),
     Ring(Ring),
     Crowd(Crowd),
+    Waking(Waking),
 }
 
 impl Story {
@@ -37,6 +39,7 @@ impl Story {
             Story::Watched(story) => story.play(rt, alloc, table, shares, watchers),
             Story::Ring(story) => story.play(rt, alloc, table, shares, watchers),
             Story::Crowd(story) => story.play(rt, alloc, table, shares, watchers),
+            Story::Waking(story) => story.play(rt, alloc, table, shares),
         }
     }
 }

@@ -14,7 +14,8 @@ use std::process::Abort;
 use std::sync::Wait;
 use std::test::Fail;
 
-/// Puts each step to a session and to the manager: the replies must be the same.
+/// Puts each step to a session and to the manager: the replies must be the same, and so must the counts of
+/// accepted commands and the counters behind each.
 fn play<N: Naming, R: Wait + Abort>(
     rt: &R,
     table: &Shared<N>,
@@ -33,6 +34,17 @@ fn play<N: Naming, R: Wait + Abort>(
             reply.told.as_slice() == alone.told.as_slice(),
             "step {place}"
         );
+        assert_eq!(rt;
+            through.session.served_at(),
+            manager.accepted(),
+            "step {place}"
+        );
+        assert_eq!(rt;
+            through.session.counters(rt),
+            manager.counters(),
+            "step {place}"
+        );
+        assert_eq!(rt; table.counters(rt), manager.counters(), "step {place}");
         made.keep(reply.answer);
         keep_intervals(&mut made, manager, reply.answer);
     }
@@ -60,7 +72,6 @@ fn play_under_name<N: Naming, R: Wait + Abort>(
     manager: &mut Manager,
     steps: &[Step],
 ) -> Result<(), Fail>
-    requires whole { N.shares ≡ N.parts }
     requires name { parts.blank.name ≡ N.name }
     requires parts { parts.blank.parts ≡ N.parts }
     requires shares { parts.shares ≡ N.shares }

@@ -62,7 +62,6 @@ fn look_under_name<N: Naming, R: Wait + Abort>(
     alloc: Global,
     parts: Parts,
 ) -> Result<(), Fail>
-    requires whole { N.shares ≡ N.parts }
     requires name { parts.blank.name ≡ N.name }
     requires parts { parts.blank.parts ≡ N.parts }
     requires shares { parts.shares ≡ N.shares }

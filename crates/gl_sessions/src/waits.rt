@@ -152,7 +152,6 @@ fn tell_under_name<N: Naming + Send + Sync, R: Threads + Wait + Abort + Sync>(
     made: Made,
     tale: Tale,
 ) -> Result<(), Fail>
-    requires whole { N.shares ≡ N.parts }
     requires name { parts.blank.name ≡ N.name }
     requires parts { parts.blank.parts ≡ N.parts }
     requires shares { parts.shares ≡ N.shares }

@@ -1,30 +1,40 @@
 -- Lists of commands that are served together, one more at a time.
-use Rattle.std.specs.Prelude.{◌≡◌, ℕ, ◌+◌, ◌<◌, Bool, true, false, ◌&&◌, List, [], ◌∷◌, ◌++◌, length, take, slice_index_or, MatchBool}
+use Rattle.std.specs.Prelude.{◌≡◌, ℕ, ◌+◌, ◌<◌, Bool, true, false, not, ◌&&◌, ◌||◌, List, [], ◌∷◌, ◌++◌, length, take, slice_index_or, MatchBool}
 use Rattle.std.specs.List.{list_all}
 use Rattle.std.proofs.Common.{refl, sym, ap, subst, ◌∙◌, arith}
 use Rattle.std.proofs.lemmas.List.{length-append, map-append, take_more}
 use Rattle.gl_graph.proofs.Look.{and_both}
-use Rattle.gl_table.specs.State.{State}
+use Rattle.gl_modes.specs.declared.mode.Mode.{Mode}
+use Rattle.gl_modes.specs.declared.node.NodeId.{NodeId}
+use Rattle.gl_table.specs.declared.txn.TxnId.{TxnId}
 use Rattle.gl_table.specs.Tellings.{Told}
 use Rattle.gl_catalog.specs.declared.command.Answer.{Answer}
 use Rattle.gl_catalog.specs.declared.command.Command.{Command}
-use Rattle.gl_catalog.specs.Step.{Run, Step}
-use Rattle.gl_catalog.proofs.RunsOn.{run_snoc}
-use Rattle.gl_shared.specs.Batches.{Serves, Stops, accepted_in, goes_on, one_if}
-use Rattle.gl_shared.specs.Served.{accepts}
+use Rattle.gl_catalog.specs.declared.command.Command.TheVariants as command
+use Rattle.gl_catalog.specs.Manager.{state_of}
+use Rattle.gl_catalog.specs.Step.{Step}
+use Rattle.gl_shared.specs.Batches.{Serves, ServesEach, ServesOne, Stops, accepted_in, goes_on, one_if}
+use Rattle.gl_shared.specs.Served.{accepts, is_refused, leaves_waiting}
+use Rattle.gl_shared.specs.State.{Delivers, GuardedView, Slot, cleared}
 
 -- one answer more
 pub one_longer : (xs : List Answer) (a : Answer) (k : ℕ) → length xs ≡ k → length (xs ++ a ∷ []) ≡ k + 1
 one_longer xs a k is = let e = length-append xs (a ∷ []) in omega (arith, e, is)
 
+each_snoc : (s mid t : GuardedView) (cs : List Command) (rs : List (Answer × Told)) (c : Command) (a : Answer) (told : Told) → ServesEach s cs rs mid → ServesOne mid c a told t → ServesEach s (cs ++ c ∷ []) (rs ++ (a, told) ∷ []) t
+each_snoc s mid t [] [] c a told same one = (t, subst (λ (g : GuardedView). ServesOne g c a told t) same one, refl)
+each_snoc s mid t [] (r ∷ rs) c a told run one = absurd run
+each_snoc s mid t (d ∷ cs) [] c a told run one = absurd run
+each_snoc s mid t (d ∷ cs) (r ∷ rs) c a told run one = (run.0, run.1, each_snoc run.0 mid t cs rs c a told run.2 one)
+
 -- the next command of a list is a step more
-pub serves_next : (s mid t : State) (cs : List Command) (xs : List Answer) (k : ℕ) (d : Command) (a : Answer) (told : Told) → length xs ≡ k → k < length cs → Serves s cs xs mid → Step mid (slice_index_or cs k d) a told t
+pub serves_next : (s mid t : GuardedView) (cs : List Command) (xs : List Answer) (k : ℕ) (d : Command) (a : Answer) (told : Told) → length xs ≡ k → k < length cs → Serves s cs xs mid → ServesOne mid (slice_index_or cs k d) a told t
     → Serves s cs (xs ++ a ∷ []) t
 serves_next s mid t cs xs k d a told is less run step = (
   run.0 ++ (a, told) ∷ [],
   map-append (λ (r : Answer × Told). r.0) run.0 ((a, told) ∷ []) ∙ ap (λ (x : List Answer). x ++ a ∷ []) run.1,
-  subst (λ (x : List Command). Run s x (run.0 ++ (a, told) ∷ []) t) (sym (ap (λ n. take n cs) (one_longer xs a k is) ∙ take_more cs k d less))
-      (run_snoc s mid t (take k cs) run.0 (slice_index_or cs k d) a told (subst (λ (n : ℕ). Run s (take n cs) run.0 mid) is run.2) step),
+  subst (λ (x : List Command). ServesEach s x (run.0 ++ (a, told) ∷ []) t) (sym (ap (λ n. take n cs) (one_longer xs a k is) ∙ take_more cs k d less))
+      (each_snoc s mid t (take k cs) run.0 (slice_index_or cs k d) a told (subst (λ (n : ℕ). ServesEach s (take n cs) run.0 mid) is run.2) step),
 )
 
 -- and is counted where it is accepted
@@ -68,6 +78,49 @@ pub counted_if : (yes : Bool) (after before : ℕ) → (yes ≡ false → after 
 counted_if true after before stays rises = rises refl
 counted_if false after before stays rises = let same = stays refl in omega (arith, same)
 
+-- no other command than a lock empties a box of its own
+pub cleared_other : (c : Command) (a : Answer) (boxes : List Slot) → ((t : TxnId) (n : NodeId) (m : Mode) → c ≡ command.Lock t n m → ⊥) → cleared c a boxes ≡ boxes
+cleared_other (command.Lock t n m) a boxes none = absurd (none t n m refl)
+cleared_other (command.Inner ps) a boxes none = refl
+cleared_other (command.File ps) a boxes none = refl
+cleared_other (command.Index ps f bs) a boxes none = refl
+cleared_other (command.Insert t f keys) a boxes none = refl
+cleared_other (command.Delete t r) a boxes none = refl
+cleared_other (command.Rekey t r i key) a boxes none = refl
+cleared_other (command.Move t n ps) a boxes none = refl
+cleared_other command.Begin a boxes none = refl
+cleared_other (command.Try t n m) a boxes none = refl
+cleared_other (command.Unlock t n) a boxes none = refl
+cleared_other (command.Escalate t n) a boxes none = refl
+cleared_other (command.Cancel t) a boxes none = refl
+cleared_other (command.Commit t) a boxes none = refl
+cleared_other (command.Abort t) a boxes none = refl
+cleared_other (command.Settle t) a boxes none = refl
+cleared_other (command.Group n) a boxes none = refl
+cleared_other (command.Held t n) a boxes none = refl
+cleared_other (command.Effective t n) a boxes none = refl
+
+refused_if : (b : Bool) → not b ≡ false → b ≡ true
+refused_if true e = refl
+refused_if false e = absurd (cc e)
+
+served_if : (b : Bool) → not b ≡ true → b ≡ false
+served_if false e = refl
+served_if true e = absurd (cc e)
+
+-- a lock is one command of a list
+pub serves_lock : (g g' : GuardedView) (t : TxnId) (n : NodeId) (m : Mode) (a : Answer) (told : Told) → Step (state_of g.manager) (command.Lock t n m) a told (state_of g'.manager) → (is_refused a ≡ true → (g' ≡ g) × (told ≡ []))
+    → (is_refused a ≡ false → g'.book ≡ g.book + 1) → ((mid : List Slot) × Delivers g.boxes told mid × (g'.boxes ≡ cleared (command.Lock t n m) a mid)) → (is_refused a ≡ false → g'.waited ≡ (g.waited || leaves_waiting a))
+    → (g'.list ≡ g.list) × (g'.telling ≡ g.telling) → ServesOne g (command.Lock t n m) a told g'
+serves_lock g g' t n m a told step refused accepted boxes waited list = record {
+  step = step;
+  boxes = boxes;
+  not_accepted = λ no. refused (refused_if (is_refused a) no);
+  book = counted_if (accepts (command.Lock t n m) a) g'.book g.book (λ no. ap (λ (v : GuardedView). v.book) (refused (refused_if (is_refused a) no)).0) (λ yes. accepted (served_if (is_refused a) yes));
+  waited = λ yes. waited (served_if (is_refused a) yes);
+  list = list;
+}
+
 pub share_more : (cs : List Command) (xs ys : List Answer) (k : ℕ) (d : Command) (a : Answer) (after before start : ℕ) → length xs ≡ k → k < length cs → ys ≡ xs ++ a ∷ [] → after ≡ before + one_if (accepts (slice_index_or cs k d) a)
     → before ≡ start + accepted_in cs xs → after ≡ start + accepted_in cs ys
 share_more cs xs ys k d a after before start is less ends rises so_far =
@@ -75,7 +128,7 @@ share_more cs xs ys k d a after before start is less ends rises so_far =
     subst (λ (l : List Answer). after ≡ start + accepted_in cs l) (sym ends) (omega (arith, more, rises, so_far))
 
 -- before the first command
-pub serves_none : (s : State) (cs : List Command) (xs : List Answer) → xs ≡ [] → Serves s cs xs s
+pub serves_none : (s : GuardedView) (cs : List Command) (xs : List Answer) → xs ≡ [] → Serves s cs xs s
 serves_none s cs xs none = subst (λ (l : List Answer). Serves s cs l s) (sym none) (by cs)
   where
     by : (rest : List Command) → Serves s rest [] s

@@ -1,8 +1,11 @@
 -- A table where nobody waits, and its board.
-use Rattle.std.specs.Prelude.{◌≡◌, ◌||◌, ℕ, Bool, true, false, List, ◌∷◌, [], ◌++◌, Option, Some, None}
+use Rattle.std.specs.Prelude.{◌≡◌, ◌||◌, ◌==◌, not, ℕ, suc, Bool, true, false, List, ◌∷◌, [], ◌++◌, Option, Some, None}
 use Rattle.std.proofs.Common.{refl, sym, ap, subst, ◌∙◌}
 use mathlib.Core.Bool.{true≢false}
+use Rattle.std.specs.List.{list_any}
 use Rattle.gl_waits.specs.declared.board.Board.{Board}
+use Rattle.gl_waits.specs.Boards.{row_edge}
+use Rattle.gl_waits.proofs.SetLemmas.{no_slot-zero}
 use Rattle.gl_table.specs.declared.txn.Status.{Status}
 use Rattle.gl_table.specs.declared.txn.Status.TheVariants.{Active, Waiting, Condemned}
 use Rattle.gl_table.specs.BoardOf.{board_of}
@@ -18,6 +21,9 @@ use Rattle.gl_catalog.specs.Step.{Step}
 use Rattle.gl_catalog.proofs.WaitsBegin.{nobody_waits_on}
 use Rattle.gl_shared.specs.Boards.{EndsIdle, ShowsNobody}
 use Rattle.gl_shared.specs.Served.{leaves_waiting}
+use Rattle.gl_shared.specs.State.{is_due}
+use Rattle.gl_shared.specs.declared.telling.Telling.{Telling}
+use Rattle.gl_shared.specs.declared.telling.Telling.TheVariants.{Always, WhileWaiting}
 use Rattle.gl_shared.proofs.RealBoards.{edges_are}
 
 -- whoever waits waits for somebody, so a board without steps is one of a table where nobody waits
@@ -38,6 +44,16 @@ nobody_shown m law none t = by (status_of s t) refl
 -- what is known where nobody waited when watchers were last told, or a lock was left waiting since
 abbrev pub IsQuiet : State → List Board → Bool → Type 0
 IsQuiet s list waited = waited ≡ false → NobodyWaits s × EndsIdle list
+
+-- where watchers are not told
+pub not_due : (t : Telling) (waited : Bool) → is_due t waited ≡ false → (t ≡ WhileWaiting) × (waited ≡ false)
+not_due Always waited e = absurd (cc e)
+not_due WhileWaiting waited e = (refl, e)
+
+-- a board without steps has no row that is not empty
+pub no_row : (rows : List ℕ) → ((s u : ℕ) → row_edge rows s u ≡ false) → list_any (λ row. not (row == 0)) rows ≡ false
+no_row [] none = refl
+no_row (row ∷ rows) none = ap (λ (r : ℕ). not (r == 0) || list_any (λ x. not (x == 0)) rows) (no_slot-zero row (λ u. none 0 u)) ∙ no_row rows (λ s u. none (suc s) u)
 
 neither : (a b : Bool) → (a || b) ≡ false → (a ≡ false) × (b ≡ false)
 neither false b e = (refl, e)

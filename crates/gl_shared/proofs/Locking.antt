@@ -1,11 +1,15 @@
--- What a lock does to a session's share.
+-- What a lock does to a session's share, and what it gives.
 use Rattle.std.proofs.Common.{◌≡◌, ℕ, ◌+◌, ◌≤◌, Bool, true, false, Result, Ok, Err, MatchResult, MatchBool, arith, refl}
 use Rattle.gl_modes.specs.declared.refusal.Refusal.{Refusal}
 use Rattle.gl_catalog.specs.declared.command.Answer.{Answer}
 use Rattle.gl_catalog.specs.declared.command.Answer.TheVariants as answer
 use Rattle.gl_shared.specs.declared.grant.Grant.{Grant}
 use Rattle.gl_shared.specs.declared.grant.Stop.{Stop}
+use Rattle.gl_modes.specs.declared.mode.Mode.{Mode}
+use Rattle.gl_modes.specs.declared.node.NodeId.{NodeId}
+use Rattle.gl_table.specs.declared.txn.TxnId.{TxnId}
 use Rattle.gl_shared.specs.Served.{is_refused}
+use Rattle.gl_shared.specs.Sessions.{Gives, IsVerdict}
 use Rattle.gl_shared.specs.State.{is_refusal}
 
 -- an answer that is no refusal
@@ -32,3 +36,16 @@ stops false old new is = is
 pub shares_lock : (result : Result Grant Stop) (old new : ℕ) → new ≡ old + 1 → SharesLock result old new
 shares_lock (Ok g) old new is = is
 shares_lock (Err s) old new is = stops (is_refusal s) old new is
+
+-- whoever is neither granted nor ended at once waits for a verdict
+pub gives_verdict : (t : TxnId) (n : NodeId) (k : Mode) (a : Answer) (x : Result Grant Stop) → ((m : Mode) → a ≡ answer.Granted m → ⊥) → (a ≡ answer.Victim → ⊥) → ((r : Refusal) → a ≡ answer.Refused r → ⊥) → IsVerdict t n k x → Gives t n k a x
+gives_verdict t n k (answer.Granted m) x granted victim refused later = absurd (granted m refl)
+gives_verdict t n k answer.Victim x granted victim refused later = absurd (victim refl)
+gives_verdict t n k (answer.Refused r) x granted victim refused later = absurd (refused r refl)
+gives_verdict t n k answer.Done x granted victim refused later = later
+gives_verdict t n k (answer.Node m) x granted victim refused later = later
+gives_verdict t n k (answer.Begun u) x granted victim refused later = later
+gives_verdict t n k answer.Waiting x granted victim refused later = later
+gives_verdict t n k (answer.Escalated e) x granted victim refused later = later
+gives_verdict t n k (answer.Mode m) x granted victim refused later = later
+gives_verdict t n k (answer.Effect e) x granted victim refused later = later

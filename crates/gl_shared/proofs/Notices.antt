@@ -32,6 +32,13 @@ set_apart (b ∷ boxes) zero (suc k) x apart = refl
 set_apart (b ∷ boxes) (suc i) zero x apart = refl
 set_apart (b ∷ boxes) (suc i) (suc k) x apart = set_apart boxes i k x (λ is. apart (ap suc is))
 
+-- past the end nothing is set
+pub set_past : (boxes : List Slot) (i : ℕ) (x : Slot) → length boxes ≤ i → slice_set boxes i x ≡ boxes
+set_past [] zero x past = refl
+set_past [] (suc i) x past = refl
+set_past (b ∷ boxes) zero x past = absurd (omega (arith, past))
+set_past (b ∷ boxes) (suc i) x past = ap (λ (l : List Slot). b ∷ l) (set_past boxes i x (omega (arith, past)))
+
 pub rising_on : (k j i : ℕ) (told : List (TxnId × Notice)) → RisingTo k told j → j ≤ i → RisingTo k told i
 rising_on k j i [] r le = le_trans r le
 rising_on k j i (x ∷ xs) r le = (r.0, rising_on (x.0.slot + 1) j i xs r.1 le)

@@ -1,12 +1,13 @@
 -- Lists of commands that are served together.
-use Rattle.std.specs.Prelude.{◌≡◌, ℕ, ◌+◌, Bool, true, false, List, [], ◌∷◌, length, map, take, MatchBool}
-use Rattle.gl_table.specs.State.{State}
+use Rattle.std.specs.Prelude.{◌≡◌, ℕ, ◌+◌, Bool, true, false, ◌||◌, List, [], ◌∷◌, length, map, take, MatchBool}
 use Rattle.gl_table.specs.Tellings.{Told}
 use Rattle.gl_catalog.specs.declared.command.Answer.{Answer}
 use Rattle.gl_catalog.specs.declared.command.Answer.TheVariants as answer
 use Rattle.gl_catalog.specs.declared.command.Command.{Command}
-use Rattle.gl_catalog.specs.Step.{Run}
-use Rattle.gl_shared.specs.Served.{accepts}
+use Rattle.gl_catalog.specs.Manager.{state_of}
+use Rattle.gl_catalog.specs.Step.{Step}
+use Rattle.gl_shared.specs.Served.{accepts, leaves_waiting}
+use Rattle.gl_shared.specs.State.{Delivers, GuardedView, Slot, cleared}
 
 -- behind this answer the next command is served: none that refuses, leaves its asker waiting, or fells it
 abbrev pub goes_on : Answer → Bool
@@ -15,9 +16,30 @@ goes_on answer.Waiting = false
 goes_on answer.Victim = false
 goes_on a = true
 
--- steps along the commands that were answered, from one state to another, whoever was told what
-abbrev pub Serves : State → List Command → List Answer → State → Type 0
-Serves s cs xs t = (rs : List (Answer × Told)) × (map (λ r. r.0) rs ≡ xs) × Run s (take (length xs) cs) rs t
+-- one, or none
+abbrev pub one_if : Bool → ℕ
+one_if true = 1
+one_if false = 0
+
+-- one command of a list behind the latch: a step of the manager that is counted where it is accepted; its notices stand in their boxes, but that an accepted lock empties its own slot's; a command that is not accepted changes nothing
+pub record ServesOne (g : GuardedView) (c : Command) (a : Answer) (told : Told) (g' : GuardedView) : Type 0 where
+  pub step : Step (state_of g.manager) c a told (state_of g'.manager)
+  pub boxes : (mid : List Slot) × Delivers g.boxes told mid × (g'.boxes ≡ cleared c a mid)
+  pub not_accepted : accepts c a ≡ false → (g' ≡ g) × (told ≡ [])
+  pub book : g'.book ≡ g.book + one_if (accepts c a)
+  pub waited : accepts c a ≡ true → g'.waited ≡ (g.waited || leaves_waiting a)
+  pub list : (g'.list ≡ g.list) × (g'.telling ≡ g.telling)
+
+-- one after the other along a list of commands, a reply to each
+abbrev pub ServesEach : GuardedView → List Command → List (Answer × Told) → GuardedView → Type 0
+ServesEach g [] [] g' = g' ≡ g
+ServesEach g (c ∷ cs) (r ∷ rs) g' = (mid : GuardedView) × ServesOne g c r.0 r.1 mid × ServesEach mid cs rs g'
+ServesEach g [] (r ∷ rs) g' = ⊥
+ServesEach g (c ∷ cs) [] g' = ⊥
+
+-- along the commands that were answered, from one state behind the latch to another, whoever was told what
+abbrev pub Serves : GuardedView → List Command → List Answer → GuardedView → Type 0
+Serves g cs xs g' = (rs : List (Answer × Told)) × (map (λ r. r.0) rs ≡ xs) × ServesEach g (take (length xs) cs) rs g'
 
 -- each command is answered, up to the first whose answer does not go on
 abbrev pub Stops : List Command → List Answer → Type 0
@@ -25,11 +47,6 @@ Stops [] [] = Unit {0}
 Stops [] (a ∷ xs) = ⊥
 Stops (c ∷ cs) [] = ⊥
 Stops (c ∷ cs) (a ∷ xs) = MatchBool (goes_on a) (Stops cs xs) (xs ≡ [])
-
--- one, or none
-abbrev pub one_if : Bool → ℕ
-one_if true = 1
-one_if false = 0
 
 -- how many of the commands that were answered were accepted
 abbrev pub accepted_in : List Command → List Answer → ℕ

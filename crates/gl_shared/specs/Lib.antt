@@ -3,6 +3,8 @@ pub mod Boards
 pub mod Lists
 pub mod Rules
 pub mod Served
+pub mod Sessions
+pub mod Sides
 pub mod State
 pub mod Strip
 pub mod Ties

@@ -1,4 +1,4 @@
--- What stands behind the lock.
+-- What stands behind the latch.
 use Rattle.std.specs.Prelude.{◌≡◌, ◌≢◌, ℕ, Bool, true, false, ◌&&◌, nat_eq, if◌then◌else◌, List, [], ◌∷◌, ◌++◌, All, slice_set, slice_index_or, Option, Some, None, Result, Ok, Err}
 use Rattle.gl_modes.specs.declared.mode.Mode.{Mode}
 use Rattle.gl_modes.specs.declared.node.NodeId.{NodeId}
@@ -14,33 +14,31 @@ use Rattle.gl_table.specs.Pumps.{is_waiting_at}
 use Rattle.gl_table.specs.State.{State, lives}
 use Rattle.gl_catalog.specs.declared.command.Answer.{Answer}
 use Rattle.gl_catalog.specs.declared.command.Command.{Command}
-use Rattle.gl_catalog.specs.Counters.{refusing}
+use Rattle.gl_catalog.specs.declared.command.Command.TheVariants as command
 use Rattle.gl_catalog.specs.Manager.{ManagerView}
 use Rattle.gl_catalog.specs.Promises.{NobodyWaits}
-use Rattle.gl_shared.specs.Boards.{EndsIdle}
+use Rattle.gl_shared.specs.Boards.{EndsIdle, ShowsNobody}
+use Rattle.gl_shared.specs.Served.{is_refused}
 use Rattle.gl_shared.specs.declared.grant.Grant.{Grant}
 use Rattle.gl_shared.specs.declared.grant.Stop.{Stop}
 use Rattle.gl_shared.specs.declared.grant.Stop.TheVariants as stop
 use Rattle.gl_shared.specs.declared.guarded.Tell.{Tell}
 use Rattle.gl_shared.specs.declared.guarded.Tell.TheVariants.{Published, NoMemory}
 use Rattle.gl_shared.specs.declared.telling.Telling.{Telling}
-use Rattle.gl_shared.specs.declared.telling.Telling.TheVariants.{WhileWaiting}
+use Rattle.gl_shared.specs.declared.telling.Telling.TheVariants.{Always, WhileWaiting}
 
 -- the notice of a transaction, or nothing
 abbrev pub Slot : Type 0
 Slot = Option (TxnId × Notice)
 
--- the manager, the count of accepted commands that were served, one box a slot, the boards that were published, and when they are told
+-- the manager, the count of accepted commands that were served, one box a slot, the boards that were published, when they are told, and whether somebody waited when they last were or a lock was left waiting since
 pub record GuardedView : Type 0 where
   pub manager : ManagerView
   pub book : ℕ
   pub boxes : List Slot
   pub list : List Board
   pub telling : Telling
-
--- the same behind a command that was refused or only asked: as before, but that the manager counts a try or an escalation that would have had to wait
-abbrev pub unaccepted : Command → Answer → GuardedView → GuardedView
-unaccepted c a g = record g { manager = refusing c a g.manager }
+  pub waited : Bool
 
 abbrev pub box_at : List Slot → ℕ → Slot
 box_at boxes slot = slice_index_or boxes slot None
@@ -52,6 +50,11 @@ put_in boxes x = slice_set boxes x.0.slot (Some x)
 pub record Delivers (before : List Slot) (told : List (TxnId × Notice)) (after : List Slot) : Type 0 where
   pub stands : All (λ x. box_at after x.0.slot ≡ Some x) told
   pub others : (slot : ℕ) → All (λ x. x.0.slot ≢ slot) told → box_at after slot ≡ box_at before slot
+
+-- the boxes behind a command of a session that may wait: a lock that is not refused empties its slot's, so that what stands there later is its own verdict
+abbrev pub cleared : Command → Answer → List Slot → List Slot
+cleared (command.Lock t n m) a boxes = if is_refused a then boxes else slice_set boxes t.slot None
+cleared c a boxes = boxes
 
 -- the notice in the box of t's slot, where it names t and its age
 abbrev pub named : TxnId → Slot → Option Notice
@@ -81,6 +84,16 @@ verdict_of s boxes t n k = if lives s t then (if is_waiting_at s t.slot n then N
 abbrev pub Told : List Board → Board → Tell → List Board → Type 0
 Told list board (Published e) after = (after ≡ list ++ board ∷ []) × (e ≡ board.epoch)
 Told list board NoMemory after = after ≡ list
+
+-- whether watchers are told of an accepted command
+abbrev pub is_due : Telling → Bool → Bool
+is_due Always waited = true
+is_due WhileWaiting waited = waited
+
+-- what is kept of who waited when watchers were told of a board: that nobody did is kept only of a board that shows nobody, and of each such where telling waits for waiters
+abbrev pub Remembers : Telling → Board → Tell → Bool → Bool → Type 0
+Remembers telling board (Published e) before after = (after ≡ false → ShowsNobody board) × (telling ≡ WhileWaiting → ShowsNobody board → after ≡ false)
+Remembers telling board NoMemory before after = after ≡ before
 
 -- nothing was told: telling waits for waiters, nobody waits, and nobody waited when watchers were last told
 pub record StaysUntold (telling : Telling) (s : State) (list after : List Board) : Type 0 where

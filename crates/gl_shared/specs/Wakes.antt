@@ -11,7 +11,10 @@ use Rattle.gl_catalog.specs.declared.command.Command.{Command}
 use Rattle.gl_catalog.specs.Promises.{waits_on}
 use Rattle.gl_catalog.specs.Step.{Step}
 
--- whoever waits before a step that tells these, and not after it, has its slot in the set (own): so no sleeper is left whose wait is over
+-- whoever waits in the one state and no more in the other has its slot in the set
+abbrev pub HasEnded : State → State → ℕ → Type 0
+HasEnded s s' slots = IsLawful s → (t : TxnId) (n : NodeId) → t.slot < 128 → waits_on s t n ≡ true → waits_on s' t n ≡ false → has_slot slots t.slot ≡ true
+
+-- each step of the command that tells these has in the set whoever waits no more behind it (own): so no sleeper is left whose wait is over
 abbrev pub WakesEnded : Command → Told → ℕ → Type 0
-WakesEnded c told slots =
-    (s s' : State) (a : Answer) (t : TxnId) (n : NodeId) → IsLawful s → t.slot < 128 → Step s c a told s' → waits_on s t n ≡ true → waits_on s' t n ≡ false → has_slot slots t.slot ≡ true
+WakesEnded c told slots = (s s' : State) (a : Answer) → Step s c a told s' → HasEnded s s' slots

@@ -2,8 +2,11 @@
 
 ghost use Rattle.std.specs.Prelude.{◌≡◌, ◌+◌, ◌≤◌, [], true, IfErr, IfOk, OnErr, length, vec_capacity};
 ghost use Rattle.gl_modes.specs.Modes.{is_at_least};
-ghost use Rattle.gl_catalog.specs.Manager.{IsLawfulManager, ManagerView, state_of};
+ghost use Rattle.gl_catalog.specs.Manager.{IsLawfulManager, state_of};
 ghost use Rattle.gl_shared.specs.Batches.{Serves, Stops, accepted_in, goes_on};
+ghost use Rattle.gl_shared.specs.Sessions.{IsVerdict};
+ghost use Rattle.gl_shared.specs.State.{GuardedView};
+ghost use Rattle.gl_shared.specs.Wakes.{HasEnded};
 
 use crate::grant::{Grant, Stop};
 use crate::guarded::Guarded;
@@ -38,11 +41,12 @@ fn serve_all<N: Naming>(
 ) -> u128
     requires none { answers.old.items ≡ [] }
     requires room { vec_capacity answers.old ≡ length commands.now }
-    ensures run { Serves (state_of guarded.old.manager) commands.now answers.new.items (state_of guarded.new.manager) }
+    ensures run { Serves guarded.old commands.now answers.new.items guarded.new }
     ensures stops { Stops commands.now answers.new.items }
     ensures share { share.new ≡ share.old + accepted_in commands.now answers.new.items }
     ensures book { guarded.new.book ≡ guarded.old.book + accepted_in commands.now answers.new.items }
     ensures list { guarded.new.list ≡ guarded.old.list }
+    ensures ended { HasEnded (state_of guarded.old.manager) (state_of guarded.new.manager) result }
 {
     let mut ended = 0;
     for command in commands {
@@ -69,7 +73,8 @@ impl<'a, N: Naming> Session<'a, N> {
         alloc: Global,
         commands: &[Command<'_>],
     ) -> Result<Vec<Answer>, Refusal>
-        ensures run { IfOk result (λ answers. (s : ManagerView) × (t : ManagerView) × IsLawfulManager s × Serves (state_of s) commands.now answers.items (state_of t) × (self.new.served_at ≡ t.accepted)) }
+        ensures run { IfOk result (λ answers. (g : GuardedView) × (h : GuardedView) × IsLawfulManager g.manager × Serves g commands.now answers.items h × (self.new.served_at ≡ h.manager.accepted)) }
+        ensures count { IfOk result (λ _. N.opening + self.new.share ≤ self.new.served_at) }
         ensures stops { IfOk result (λ answers. Stops commands.now answers.items) }
         ensures share { IfOk result (λ answers. self.new.share ≡ self.old.share + accepted_in commands.now answers.items) }
         ensures refused { IfErr result (λ refusal. refusal ≡ Refusal.NoMemory) }
@@ -89,7 +94,7 @@ impl<'a, N: Naming> Session<'a, N> {
             &mut self.notices,
             &mut answers,
         );
-        self.served_at = guard.manager.accepted();
+        self.served_at = guard.accepted_beside(&mut self.share);
         if guard.served != before {
             let _ = guard.tell_if_due(rt);
             self.shared.wakes.wake(ended);
@@ -107,6 +112,7 @@ impl<'a, N: Naming> Session<'a, N> {
         mode: Mode,
     ) -> Result<Grant, Stop>
         ensures grant { IfOk result (λ g. (g.txn ≡ txn) × (g.node ≡ node) × (is_at_least g.mode mode ≡ true)) }
+        ensures verdict { IsVerdict txn node mode result }
     {
         let guard = self.shared.latch.lock(rt);
         await_verdict(rt, self.shared, guard, txn, node, mode)

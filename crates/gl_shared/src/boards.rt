@@ -4,6 +4,7 @@ ghost use Rattle.std.specs.Arc.{arc_value};
 ghost use Rattle.left_right.specs.Sides.{view};
 ghost use Rattle.gl_shared.specs.Boards.{Fine, last_epoch};
 ghost use Rattle.gl_shared.specs.Rules.{head_of};
+ghost use Rattle.gl_shared.specs.Sides.{IsIdle, shown_by};
 ghost use Rattle.gl_shared.specs.Ties.{tie_of};
 
 use crate::history::{Head, Line};
@@ -18,6 +19,23 @@ use std::sync::{Arc, Wait};
 pub type BoardWriter = Writer<Shown, Next, Option<Tie>, Published>;
 
 pub type BoardReader = Reader<Shown, Option<Tie>, Published>;
+
+/// The side that publishes.
+pub enum Side {
+    Open(BoardWriter),
+    /// It publishes no more, and stays at this list.
+    Closed(Line),
+}
+
+impl Side {
+    /// Publishes no more.
+    pub(crate) fn end<R: Wait>(self, rt: &R) {
+        match self {
+            Side::Open(writer) => drop(writer.take(rt)),
+            Side::Closed(line) => drop(line),
+        }
+    }
+}
 
 // Publishes what is pending, as often as it has to.
 fn publish_all<R: Wait>(rt: &R, writer: BoardWriter) -> BoardWriter
@@ -37,32 +55,33 @@ fn publish_all<R: Wait>(rt: &R, writer: BoardWriter) -> BoardWriter
     unreachable!()
 }
 
-/// Publishes a board behind the list, and says whether there was memory for it.
+/// Publishes a board behind the list, and says whether it stands there. Where something else is shown
+/// than that list, which cannot be while `left_right` keeps its word, the side is closed.
 pub fn publish<R: Wait>(
     rt: &R,
     mut writer: BoardWriter,
     head: &Arc<Head>,
     board: Arc<Board>,
-) -> (BoardWriter, bool)
+) -> (Side, bool)
     requires rest { drop writer.behind writer.log.items ≡ [] }
     requires head { arc_value head.now ≡ head_of writer.desk.shown.value.line.book }
     requires rises { last_epoch 0 writer.desk.shown.value.line.list ≤ (arc_value board).epoch }
     requires fine { Fine writer.desk.shown.value.line.detect (arc_value board) }
-    ensures rest { drop result.0.behind result.0.log.items ≡ [] }
-    ensures tie { tie_of result.0.desk.shown.value.line ≡ tie_of writer.desk.shown.value.line }
+    ensures rest { IsIdle result.0 }
+    ensures tie { tie_of (shown_by result.0) ≡ tie_of writer.desk.shown.value.line }
     ensures list { MatchBool result.1
-        (result.0.desk.shown.value.line.list ≡ writer.desk.shown.value.line.list ++ arc_value board ∷ [])
-        (result.0.desk.shown.value.line.list ≡ writer.desk.shown.value.line.list) }
+        ((shown_by result.0).list ≡ writer.desk.shown.value.line.list ++ arc_value board ∷ [])
+        ((shown_by result.0).list ≡ writer.desk.shown.value.line.list) }
 {
     let Ok(before) = writer.published().line.again() else {
-        return (writer, false);
+        return (Side::Open(writer), false);
     };
     let (Ok(line), Ok(copy), Ok(head)) = (
         before.again(),
         Arc::try_clone(&board),
         Arc::try_clone(head),
     ) else {
-        return (writer, false);
+        return (Side::Open(writer), false);
     };
     let next = Next {
         line,
@@ -71,14 +90,14 @@ pub fn publish<R: Wait>(
     };
     match writer.append(next) {
         Ok(()) => {}
-        Err(_) => return (writer, false),
+        Err(_) => return (Side::Open(writer), false),
     }
     let writer = publish_all(rt, writer);
     if before.is_followed(&board, &writer.published().line) {
-        return (writer, true);
+        return (Side::Open(writer), true);
     }
-    for _ in rt.forever() {}
-    unreachable!()
+    writer.take(rt);
+    (Side::Closed(before), false)
 }
 
 /// A writer that shows this list, and is tied to its book.

@@ -1,6 +1,6 @@
-//! What stands behind the lock.
+//! What stands behind the latch.
 
-ghost use Rattle.std.specs.Prelude.{◌≡◌, ◌+◌, ◌++◌, ◌∷◌, ◌≤◌, ◌<◌, ◌⊎◌, [], true, false, None, Some, Ok, List, slice_set, replicate, IfSome};
+ghost use Rattle.std.specs.Prelude.{◌≡◌, ◌+◌, ◌++◌, ◌∷◌, ◌≤◌, ◌<◌, ◌⊎◌, ◌||◌, [], true, false, None, Some, Ok, List, slice_set, replicate, IfSome, is_some};
 ghost use Rattle.gl_modes.specs.declared.mode.Mode.{Mode as AMode};
 ghost use Rattle.gl_modes.specs.Modes.{is_at_least};
 ghost use Rattle.gl_table.specs.BoardOf.{board_of};
@@ -16,20 +16,20 @@ ghost use Rattle.gl_catalog.specs.declared.command.Command.TheVariants.{Lock};
 ghost use Rattle.gl_catalog.specs.Manager.{IsLawfulManager, state_of};
 ghost use Rattle.gl_catalog.specs.Promises.{KeepsCaller};
 ghost use Rattle.gl_catalog.specs.Step.{Step};
-ghost use Rattle.gl_shared.specs.Batches.{one_if};
+ghost use Rattle.gl_shared.specs.Batches.{ServesOne, one_if};
 ghost use Rattle.gl_shared.specs.Boards.{last_epoch, IsLawful};
-ghost use Rattle.gl_shared.specs.Served.{RisingTo, accepts, is_refused};
-ghost use Rattle.gl_shared.specs.State.{Delivers, Slot, StaysUntold, Told, box_at, named, unaccepted, verdict_of};
+ghost use Rattle.gl_shared.specs.Served.{RisingTo, accepts, is_refused, leaves_waiting};
+ghost use Rattle.gl_shared.specs.State.{Delivers, Remembers, Slot, StaysUntold, Told, box_at, cleared, is_due, named, verdict_of};
 ghost use Rattle.gl_shared.specs.declared.grant.Grant.{Grant};
 
-use crate::accepted::{is_accepted, leaves_waiting};
+use crate::accepted::{is_accepted, is_refused, leaves_waiting};
 use crate::grant::{Grant, Stop};
 use crate::naming::Naming;
 use crate::note::Note;
 use crate::now::board_now;
 use crate::publisher::Publisher;
 use crate::share::Share;
-use crate::telling::{Telling, may_show_waits};
+use crate::telling::{Telling, is_due, may_show_waits};
 use gl_catalog::{Answer, Command, Counters, Manager, Reply};
 use gl_modes::{Mode, NodeId, Refusal, covers};
 use gl_table::{Notice, Told, TxnId};
@@ -50,7 +50,7 @@ pub enum Tell {
 /// A slot's last notice.
 pub type Slot = Option<(TxnId, Notice)>;
 
-/// What stands behind the lock: the manager, the count of accepted commands that were served, a
+/// What stands behind the latch: the manager, the count of accepted commands that were served, a
 /// notice box for each slot, and the writer of the published boards.
 pub struct Guarded<N: Naming> {
     pub(crate) manager: Manager,
@@ -73,10 +73,11 @@ impl<N: Naming> Model for Guarded<N> {
 
     ghost Value = { GuardedView };
 
-    ghost view = { λ g. record { manager = g.manager; book = g.book.total; boxes = g.boxes; list = g.publisher; telling = g.telling } };
+    ghost view = { λ g. record { manager = g.manager; book = g.book.total; boxes = g.boxes; list = g.publisher; telling = g.telling; waited = g.waited } };
 
     ghost invariant = { λ g.
-        (g.served ≡ g.book.total)
+        (N.shares ≡ N.parts)
+        × (g.served ≡ g.book.total)
         × (g.manager.accepted ≡ N.opening + g.book.total)
         × (g.manager.table.detect ≡ N.detect)
         × (last_epoch 0 g.publisher ≤ g.manager.accepted)
@@ -91,6 +92,15 @@ pub(crate) fn deliver(boxes: &mut [Slot; SLOTS], told: &[(TxnId, Notice)])
 {
     for (txn, notice) in told {
         boxes[txn.slot as usize] = Some((*txn, *notice));
+    }
+}
+
+/// Empties the box of a slot, where there is one.
+fn empty_box(boxes: &mut [Slot; SLOTS], slot: u8)
+    ensures { boxes.new ≡ slice_set boxes.old slot None }
+{
+    if (slot as usize) < SLOTS {
+        boxes[slot as usize] = None;
     }
 }
 
@@ -122,7 +132,7 @@ fn waits_on(manager: &Manager, txn: TxnId, node: NodeId) -> bool
 }
 
 impl<N: Naming> Guarded<N> {
-    /// What holds whenever the lock is free.
+    /// What holds whenever the latch is free.
     pub fn law(&self)
         ensures manager { IsLawfulManager self.now.manager }
         ensures counted { self.now.manager.accepted ≡ N.opening + self.now.book }
@@ -141,6 +151,17 @@ impl<N: Naming> Guarded<N> {
         self.manager.counters()
     }
 
+    /// How many commands the table has accepted: no fewer than when it was made, and what was served
+    /// for this share.
+    pub(crate) fn accepted_beside(&mut self, share: &mut Share<N>) -> u64
+        ensures count { result ≡ self.old.manager.accepted }
+        ensures bound { N.opening + share.old ≤ result }
+        ensures kept { (self.new ≡ self.old) × (share.new ≡ share.old) }
+    {
+        self.book.audit(&mut share.token);
+        self.manager.accepted()
+    }
+
     /// A table behind its lock, before its first command.
     pub(crate) fn new(
         manager: Manager,
@@ -148,12 +169,13 @@ impl<N: Naming> Guarded<N> {
         publisher: Publisher<N>,
         telling: Telling,
     ) -> Guarded<N>
+        requires whole { N.shares ≡ N.parts }
         requires book { book.total ≡ 0 }
         requires opening { (manager.accepted ≡ N.opening) × (manager.table.detect ≡ N.detect) }
         requires told { publisher ≡ board_of (state_of manager) ∷ [] }
         ensures start { (result.manager ≡ manager) × (result.book ≡ 0) × (result.list ≡ board_of (state_of manager) ∷ []) }
         ensures boxes { result.boxes ≡ replicate 128 None }
-        ensures telling { result.telling ≡ telling }
+        ensures telling { (result.telling ≡ telling) × (result.waited ≡ true) }
     {
         Guarded {
             manager,
@@ -214,6 +236,7 @@ impl<N: Naming> Guarded<N> {
     pub fn tell<R: Wait>(&mut self, rt: &R) -> Tell
         ensures kept { (self.new.manager ≡ self.old.manager) × (self.new.book ≡ self.old.book) × (self.new.boxes ≡ self.old.boxes) × (self.new.telling ≡ self.old.telling) }
         ensures told { Told self.old.list (board_of (state_of self.old.manager)) result self.new.list }
+        ensures waited { Remembers self.old.telling (board_of (state_of self.old.manager)) result self.old.waited self.new.waited }
     {
         let board = board_now(&self.manager);
         if !self.publisher.publish(rt, board) {
@@ -228,9 +251,12 @@ impl<N: Naming> Guarded<N> {
     pub fn tell_if_due<R: Wait>(&mut self, rt: &R) -> Option<Tell>
         ensures kept { (self.new.manager ≡ self.old.manager) × (self.new.book ≡ self.old.book) × (self.new.boxes ≡ self.old.boxes) × (self.new.telling ≡ self.old.telling) }
         ensures told { IfSome result (λ t. Told self.old.list (board_of (state_of self.old.manager)) t self.new.list) }
+        ensures due { is_some result ≡ is_due self.old.telling self.old.waited }
+        ensures waited { IfSome result (λ t. Remembers self.old.telling (board_of (state_of self.old.manager)) t self.old.waited self.new.waited) }
+        ensures still { result ≡ None → self.new ≡ self.old }
         ensures untold { result ≡ None → StaysUntold self.old.telling (state_of self.old.manager) self.old.list self.new.list }
     {
-        if !self.waited && self.telling == Telling::WhileWaiting {
+        if !is_due(self.telling, self.waited) {
             return None;
         }
         Some(self.tell(rt))
@@ -240,9 +266,10 @@ impl<N: Naming> Guarded<N> {
     pub fn serve(&mut self, share: &mut Share<N>, command: Command<'_>) -> Reply
         ensures step { Step (state_of self.old.manager) command.entry result.answer result.told.items (state_of self.new.manager) }
         ensures caller { KeepsCaller command.entry (state_of self.old.manager) (state_of self.new.manager) }
-        ensures refused { accepts command.entry result.answer ≡ false → (self.new ≡ unaccepted command.entry result.answer self.old) × (share.new ≡ share.old) }
+        ensures refused { accepts command.entry result.answer ≡ false → (self.new ≡ self.old) × (share.new ≡ share.old) }
         ensures accepted { accepts command.entry result.answer ≡ true → (self.new.book ≡ self.old.book + 1) × (share.new ≡ share.old + 1) }
         ensures boxes { Delivers self.old.boxes result.told.items self.new.boxes }
+        ensures waited { accepts command.entry result.answer ≡ true → self.new.waited ≡ (self.old.waited || leaves_waiting result.answer) }
         ensures list { (self.new.list ≡ self.old.list) × (self.new.telling ≡ self.old.telling) }
         ensures calm { N.detect ≡ AtBlock → HasNoCycle (state_of self.new.manager) }
     {
@@ -262,10 +289,11 @@ impl<N: Naming> Guarded<N> {
         requires empty { told.old.items ≡ [] }
         ensures step { Step (state_of self.old.manager) command.entry result told.new.items (state_of self.new.manager) }
         ensures caller { KeepsCaller command.entry (state_of self.old.manager) (state_of self.new.manager) }
-        ensures refused { accepts command.entry result ≡ false → (self.new ≡ unaccepted command.entry result self.old) × (share.new ≡ share.old) × (told.new.items ≡ []) }
+        ensures refused { accepts command.entry result ≡ false → (self.new ≡ self.old) × (share.new ≡ share.old) × (told.new.items ≡ []) }
         ensures accepted { accepts command.entry result ≡ true → (self.new.book ≡ self.old.book + 1) × (share.new ≡ share.old + 1) }
         ensures boxes { Delivers self.old.boxes told.new.items self.new.boxes }
         ensures rising { RisingTo 0 told.new.items 128 }
+        ensures waited { accepts command.entry result ≡ true → self.new.waited ≡ (self.old.waited || leaves_waiting result) }
         ensures list { (self.new.list ≡ self.old.list) × (self.new.telling ≡ self.old.telling) }
     {
         self.manager.law();
@@ -292,17 +320,18 @@ impl<N: Naming> Guarded<N> {
     ) -> Answer
         requires empty { told.old.items ≡ [] }
         ensures step { Step (state_of self.old.manager) (Lock txn node mode) result told.new.items (state_of self.new.manager) }
-        ensures refused { is_refused result ≡ true → (self.new ≡ self.old) × (share.new ≡ share.old) }
-        ensures accepted { is_refused result ≡ false → (self.new.book ≡ self.old.book + 1) × (share.new ≡ share.old + 1) × (txn.slot < 128 → box_at self.new.boxes txn.slot ≡ None) }
+        ensures refused { is_refused result ≡ true → (self.new ≡ self.old) × (share.new ≡ share.old) × (told.new.items ≡ []) }
+        ensures accepted { is_refused result ≡ false → (self.new.book ≡ self.old.book + 1) × (share.new ≡ share.old + 1) }
         ensures rising { RisingTo 0 told.new.items 128 }
         ensures covers { (held : AMode) → result ≡ Granted held → is_at_least held mode ≡ true }
-        ensures boxes { (mid : List Slot) × Delivers self.old.boxes told.new.items mid × ((self.new.boxes ≡ mid) ⊎ (self.new.boxes ≡ slice_set mid txn.slot None)) }
+        ensures boxes { (mid : List Slot) × Delivers self.old.boxes told.new.items mid × (self.new.boxes ≡ cleared (Lock txn node mode) result mid) }
+        ensures waited { is_refused result ≡ false → self.new.waited ≡ (self.old.waited || leaves_waiting result) }
         ensures list { (self.new.list ≡ self.old.list) × (self.new.telling ≡ self.old.telling) }
     {
         self.law();
         let answer = self.serve_telling(share, Command::Lock { txn, node, mode }, told);
-        if !matches!(answer, Answer::Refused(_)) && (txn.slot as usize) < SLOTS {
-            self.boxes[txn.slot as usize] = None;
+        if !is_refused(&answer) {
+            empty_box(&mut self.boxes, txn.slot);
         }
         answer
     }
@@ -315,10 +344,9 @@ impl<N: Naming> Guarded<N> {
         told: &mut Told,
     ) -> Answer
         requires empty { told.old.items ≡ [] }
-        ensures step { Step (state_of self.old.manager) command.entry result told.new.items (state_of self.new.manager) }
-        ensures counted { (self.new.book ≡ self.old.book + one_if (accepts command.entry result)) × (share.new ≡ share.old + one_if (accepts command.entry result)) }
+        ensures served { ServesOne self.old command.entry result told.new.items self.new }
+        ensures share { share.new ≡ share.old + one_if (accepts command.entry result) }
         ensures rising { RisingTo 0 told.new.items 128 }
-        ensures list { (self.new.list ≡ self.old.list) × (self.new.telling ≡ self.old.telling) }
     {
         match command {
             Command::Lock { txn, node, mode } => self.serve_lock(share, txn, node, mode, told),

@@ -1,4 +1,4 @@
-//! What stands behind the lock of a table, with sessions and watchers, over `left_right` and one history of boards.
+//! What stands behind the latch of a table, with sessions and watchers, over `left_right` and one history of boards.
 #![tactic(auto)]
 
 mod accepted;
@@ -37,6 +37,3 @@ pub use shared::{Closed, NotAll, Shared, gather};
 pub use shown::{Next, Shown, Tie};
 pub use telling::Telling;
 pub use watcher::Watcher;
-
-#[cfg(test)]
-mod tests;

@@ -9,7 +9,7 @@ use gl_catalog::Manager;
 use gl_waits::Board;
 
 /// The board of a manager. No slot in it waits for itself or for a free slot, and with detection at
-/// block nobody waits in a circle.
+/// block nobody is on a cycle of waits.
 pub fn board_now(manager: &Manager) -> Board
     ensures board { result ≡ board_of (state_of manager.now) }
     ensures fine { Fine manager.now.table.detect result }

@@ -6,8 +6,8 @@ ghost use Rattle.gl_shared.specs.Boards.{Fine, IsLawful, last_epoch};
 ghost use Rattle.gl_shared.specs.Rules.{head_of};
 ghost use Rattle.gl_shared.specs.Ties.{IsOf};
 
-use crate::boards::{BoardWriter, publish};
-use crate::history::Head;
+use crate::boards::{BoardWriter, Side, publish};
+use crate::history::{Head, Line};
 use crate::naming::Naming;
 use crate::note::Note;
 use gl_waits::Board;
@@ -20,23 +20,24 @@ use std::sync::{Arc, Wait};
 pub struct Publisher<N: Naming> {
     pub(crate) alloc: Global,
     pub(crate) head: Arc<Head>,
-    pub(crate) writer: Option<BoardWriter>,
+    pub(crate) side: Option<Side>,
     pub(crate) of: PhantomData<N>,
 }
 
 impl<N: Naming> Model for Publisher<N> {
-    ghost use Rattle.std.specs.Prelude.{◌≡◌, List, [], drop, IsSomeAnd};
+    ghost use Rattle.std.specs.Prelude.{◌≡◌, List, IsSomeAnd};
     ghost use Rattle.std.specs.Arc.{arc_value};
     ghost use Rattle.gl_waits.specs.declared.board.Board.{Board};
     ghost use Rattle.gl_shared.specs.Rules.{head_of};
+    ghost use Rattle.gl_shared.specs.Sides.{IsIdle, shown_by};
     ghost use Rattle.gl_shared.specs.Ties.{IsOf};
     ghost use Rattle.gl_shared.specs.Lists.{list_in};
 
     ghost Value = { List Board };
 
-    ghost view = { λ p. list_in (λ w. w.desk.shown.value.line.list) p.writer };
+    ghost view = { λ p. list_in (λ s. (shown_by s).list) p.side };
 
-    ghost invariant = { λ p. (arc_value p.head ≡ head_of N.book) × IsSomeAnd p.writer (λ w. (drop w.behind w.log.items ≡ []) × IsOf N.book N.detect N.first w.desk.shown.value.line) };
+    ghost invariant = { λ p. (arc_value p.head ≡ head_of N.book) × IsSomeAnd p.side (λ s. IsIdle s × IsOf N.book N.detect N.first (shown_by s)) };
 }
 
 impl<N: Naming> Publisher<N> {
@@ -49,12 +50,13 @@ impl<N: Naming> Publisher<N> {
         Publisher {
             alloc,
             head,
-            writer: Some(writer),
+            side: Some(Side::Open(writer)),
             of: PhantomData,
         }
     }
 
-    /// Publishes a board behind the list, whole, and says whether there was memory for it.
+    /// Publishes a board behind the list, whole, and says whether there was memory for it. A side that
+    /// is closed has none.
     pub(crate) fn publish<R: Wait>(&mut self, rt: &R, board: Board) -> bool
         requires rises { last_epoch 0 self.old ≤ board.epoch }
         requires fine { Fine N.detect board }
@@ -63,12 +65,13 @@ impl<N: Naming> Publisher<N> {
         let Ok(board) = Arc::new(self.alloc, board) else {
             return false;
         };
-        let Some(writer) = self.writer.take() else {
-            unreachable!()
+        let (side, told) = match self.side.take() {
+            Some(Side::Open(writer)) => publish(rt, writer, &self.head, board),
+            Some(closed) => (closed, false),
+            None => unreachable!(),
         };
-        let (writer, told) = publish(rt, writer, &self.head, board);
-        if let Some(old) = mem::replace(&mut self.writer, Some(writer)) {
-            old.take(rt);
+        if let Some(old) = mem::replace(&mut self.side, Some(side)) {
+            old.end(rt);
         }
         told
     }
@@ -79,11 +82,8 @@ impl<N: Naming> Publisher<N> {
         ensures same { result ≡ self.now }
         ensures lawful { IsLawful N.detect N.first self.now }
     {
-        let Some(writer) = &self.writer else {
-            unreachable!()
-        };
         for _ in rt.forever() {
-            if let Ok(line) = writer.published().line.again() {
+            if let Ok(line) = self.line().again() {
                 return Note {
                     line,
                     of: PhantomData,
@@ -93,14 +93,23 @@ impl<N: Naming> Publisher<N> {
         unreachable!()
     }
 
+    /// The list that is shown, with its book.
+    fn line(&self) -> &Line
+        ensures list { result.now.list ≡ self.now }
+        ensures of { IsOf N.book N.detect N.first result.now }
+    {
+        match &self.side {
+            Some(Side::Open(writer)) => &writer.published().line,
+            Some(Side::Closed(line)) => line,
+            None => unreachable!(),
+        }
+    }
+
     /// What holds of the list.
     pub(crate) fn law(&self)
         ensures { IsLawful N.detect N.first self.now }
     {
-        let Some(writer) = &self.writer else {
-            unreachable!()
-        };
-        let _ = writer.published();
+        let _ = self.line();
     }
 
     /// Publishes no more.
@@ -108,11 +117,11 @@ impl<N: Naming> Publisher<N> {
         let Publisher {
             alloc: _,
             head: _,
-            writer,
+            side,
             of: _,
         } = self;
-        if let Some(writer) = writer {
-            writer.take(rt);
+        if let Some(side) = side {
+            side.end(rt);
         }
     }
 }

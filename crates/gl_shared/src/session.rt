@@ -1,11 +1,14 @@
-//! A session serves commands under the lock, and waits there for its notices.
+//! A session serves commands under the latch, and waits there for its notices.
 
 ghost use Rattle.std.specs.Prelude.{◌≡◌, ◌+◌, ◌≤◌, ◌<◌, ◌⊎◌, [], true, false, IfSome, IfOk, MatchResult, MatchBool};
 ghost use Rattle.gl_modes.specs.Modes.{is_at_least};
-ghost use Rattle.gl_catalog.specs.Manager.{IsLawfulManager, ManagerView, state_of};
-ghost use Rattle.gl_catalog.specs.Step.{Step};
+ghost use Rattle.gl_table.specs.Tellings.{Told as Notices};
+ghost use Rattle.gl_catalog.specs.declared.command.Answer.{Answer as AnAnswer};
+ghost use Rattle.gl_catalog.specs.declared.command.Command.TheVariants.{Lock};
+ghost use Rattle.gl_catalog.specs.Manager.{IsLawfulManager};
 ghost use Rattle.gl_shared.specs.Boards.{last_epoch};
 ghost use Rattle.gl_shared.specs.Served.{accepts, is_refused};
+ghost use Rattle.gl_shared.specs.Sessions.{Gives, IsServed, IsVerdict};
 ghost use Rattle.gl_shared.specs.State.{GuardedView, is_refusal};
 
 use crate::accepted::is_accepted;
@@ -73,7 +76,8 @@ impl<'a, N: Naming> Session<'a, N> {
         ensures accepted { accepts command.entry result.answer ≡ true → self.new.share ≡ self.old.share + 1 }
         ensures refused { accepts command.entry result.answer ≡ false → self.new.share ≡ self.old.share }
         ensures told { self.new.told ≡ self.old.told }
-        ensures step { (s : ManagerView) × (t : ManagerView) × IsLawfulManager s × Step (state_of s) command.entry result.answer result.told.items (state_of t) × (self.new.served_at ≡ t.accepted) }
+        ensures step { IsServed command.entry result.answer result.told.items self.new.served_at }
+        ensures count { N.opening + self.new.share ≤ self.new.served_at }
     {
         let mut told = Told::new();
         let answer = self.ask_telling(rt, command, &mut told);
@@ -86,12 +90,13 @@ impl<'a, N: Naming> Session<'a, N> {
         ensures accepted { accepts command.entry result ≡ true → self.new.share ≡ self.old.share + 1 }
         ensures refused { accepts command.entry result ≡ false → self.new.share ≡ self.old.share }
         ensures told { self.new.told ≡ self.old.told }
-        ensures step { (s : ManagerView) × (t : ManagerView) × IsLawfulManager s × Step (state_of s) command.entry result told.new.items (state_of t) × (self.new.served_at ≡ t.accepted) }
+        ensures step { IsServed command.entry result told.new.items self.new.served_at }
+        ensures count { N.opening + self.new.share ≤ self.new.served_at }
     {
         let mut guard = self.shared.latch.lock(rt);
         guard.law();
         let answer = guard.serve_telling(&mut self.share, command, told);
-        self.served_at = guard.manager.accepted();
+        self.served_at = guard.accepted_beside(&mut self.share);
         if is_accepted(&command, &answer) {
             let _ = guard.tell_if_due(rt);
             self.shared.wakes.wake(ended_by(&command, told.as_slice()));
@@ -126,7 +131,7 @@ impl<'a, N: Naming> Session<'a, N> {
         self.shared.counters(rt)
     }
 
-    /// Locks a node, and waits for its grant.
+    /// Locks a node, and where it is left waiting, waits for its grant, or for why there is none.
     pub fn lock<R: Wait>(
         &mut self,
         rt: &R,
@@ -137,11 +142,14 @@ impl<'a, N: Naming> Session<'a, N> {
         ensures told { self.new.told ≡ self.old.told }
         ensures share { MatchResult result (λ _. self.new.share ≡ self.old.share + 1) (λ s. MatchBool (is_refusal s) ((self.old.share ≤ self.new.share) × (self.new.share ≤ self.old.share + 1)) (self.new.share ≡ self.old.share + 1)) }
         ensures grant { IfOk result (λ g. (g.txn ≡ txn) × (g.node ≡ node) × (is_at_least g.mode mode ≡ true)) }
+        ensures step { (answer : AnAnswer) × (told : Notices) × IsServed (Lock txn node mode) answer told self.new.served_at × Gives txn node mode answer result }
+        ensures count { N.opening + self.new.share ≤ self.new.served_at }
     {
         self.notices.clear();
         let mut guard = self.shared.latch.lock(rt);
+        guard.law();
         let answer = guard.serve_lock(&mut self.share, txn, node, mode, &mut self.notices);
-        self.served_at = guard.manager.accepted();
+        self.served_at = guard.accepted_beside(&mut self.share);
         if let Answer::Refused(refusal) = answer {
             MutexGuard::unlock(guard);
             return Err(Stop::Refused(refusal));
@@ -179,11 +187,13 @@ pub(crate) fn await_verdict<'a, N: Naming, R: Wait>(
     node: NodeId,
     mode: Mode,
 ) -> Result<Grant, Stop>
-    ensures { IfOk result (λ g. (g.txn ≡ txn) × (g.node ≡ node) × (is_at_least g.mode mode ≡ true)) }
+    ensures grant { IfOk result (λ g. (g.txn ≡ txn) × (g.node ≡ node) × (is_at_least g.mode mode ≡ true)) }
+    ensures verdict { IsVerdict txn node mode result }
 {
     let mut guard = guard;
     for _ in rt.forever() {
         if let Some(end) = guard.verdict(txn, node, mode) {
+            guard.law();
             MutexGuard::unlock(guard);
             return end;
         }

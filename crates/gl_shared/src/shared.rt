@@ -1,4 +1,4 @@
-//! The lock, and what sessions do under it.
+//! The table that sessions share behind one latch: how it is made, and how it ends.
 
 ghost use Rattle.std.specs.Prelude.{◌≡◌, ◌+◌, ◌≤◌, ◌<◌, ◌∷◌, [], IfErr, IfOk, All, MatchResult, vec_len, sum, true, false, Some, ◌≢◌};
 ghost use Rattle.gl_modes.specs.declared.refusal.Refusal.{Refusal as ARefusal};
@@ -194,7 +194,6 @@ pub fn gather<N: Naming, R: Wait>(
     shared: Shared<N>,
     mut shares: Vec<Share<N>>,
 ) -> Result<Closed, NotAll<N>>
-    requires { N.shares ≡ N.parts }
     ensures { MatchResult result
         (λ c. (vec_len shares ≡ N.shares) × (c.book ≡ sum shares.items) × (c.manager.accepted ≡ N.opening + c.book))
         (λ n. (vec_len shares ≢ N.shares) × (n.shares ≡ shares)) }

@@ -2,6 +2,8 @@
 
 ghost use Rattle.std.specs.Prelude.{◌≡◌, false};
 ghost use Rattle.gl_shared.specs.Boards.{ShowsNobody};
+ghost use Rattle.gl_shared.specs.State.{is_due};
+ghost use Rattle.gl_shared.specs.declared.telling.Telling.TheVariants.{WhileWaiting};
 
 use gl_waits::Board;
 
@@ -15,17 +17,29 @@ pub enum Telling {
     WhileWaiting,
 }
 
+/// Whether watchers are told of an accepted command.
+pub(crate) fn is_due(telling: Telling, waited: bool) -> bool
+    ensures { result ≡ is_due telling waited }
+{
+    match telling {
+        Telling::Always => true,
+        Telling::WhileWaiting => waited,
+    }
+}
+
 /// Whether somebody may wait on a board that is told. Where every command is told nobody wants to know,
 /// so the board is not read.
 pub(crate) fn may_show_waits(telling: Telling, board: &Board) -> bool
-    ensures { result ≡ false → ShowsNobody board.now }
+    ensures none { result ≡ false → ShowsNobody board.now }
+    ensures some { telling ≡ WhileWaiting → ShowsNobody board.now → result ≡ false }
 {
     telling == Telling::Always || shows_waits(board)
 }
 
 /// Whether somebody waits on the board.
 fn shows_waits(board: &Board) -> bool
-    ensures { result ≡ false → ShowsNobody board.now }
+    ensures none { result ≡ false → ShowsNobody board.now }
+    ensures some { ShowsNobody board.now → result ≡ false }
 {
     board.rows.iter().any(|row| *row != 0)
 }

@@ -1,9 +1,10 @@
 use Rattle.std.proofs.Common.{arith, ◌≡◌, ◌∙◌, true, ap, length, refl, subst, sym, List}
 use Rattle.std.specs.List.{list_all}
 use Rattle.gl_catalog.specs.declared.command.Answer.{Answer}
-use Rattle.gl_catalog.specs.Manager.{state_of}
 use Rattle.gl_shared.specs.Batches.{Serves, Stops, goes_on}
 use Rattle.gl_shared.proofs.Batches.{accepted_none, all_more, one_longer, serves_next, serves_none, share_more, stops_here, stops_whole}
+use Rattle.gl_catalog.proofs.StepsKeepLaw.{steps_keep_law}
+use Rattle.gl_shared.proofs.Waking.{ended_more, ended_none, wakes_told}
 use Rattle.gl_shared.proofs.batch.serve_all.Goals as goal
 
 pub loop-command-init : goal.loop-command-init
@@ -12,13 +13,15 @@ loop-command-init g c =
     let none = c.requires.none in
     let zero_so_far = accepted_none cs c.args.answers.now.items none in
     record {
-      ran = serves_none (state_of c.args.guarded.now.manager) cs c.args.answers.now.items none;
+      ran = serves_none c.args.guarded.now cs c.args.answers.now.items none;
       answered = ap length none;
       room = c.requires.room;
       on = ap (list_all goes_on) none;
       share = (omega (arith, zero_so_far));
       book = (omega (arith, zero_so_far));
       list = refl;
+      lawful = λ law. law;
+      ended = ended_none _ _;
     }
 
 pub push_reserved-requires : goal.push_reserved-requires
@@ -37,21 +40,23 @@ loop-command-preserved g c =
     let items = c.push_reserved.ensures.items in
     let room = c.push_reserved.ensures.capacity in
     record {
-      ran = subst (λ (l : List Answer). Serves (state_of c.args.guarded.now.manager) cs l (state_of c.serve_next-answer.new.self.manager)) (sym items)
-          (serves_next _ _ _ cs so_far c.loop-command.command-index _ c.serve_next-answer.result _ inv.answered c.loop-command-test.true inv.ran c.serve_next-answer.ensures.step);
+      ran = subst (λ (l : List Answer). Serves c.args.guarded.now cs l c.serve_next-answer.new.self) (sym items)
+          (serves_next _ _ _ cs so_far c.loop-command.command-index _ c.serve_next-answer.result _ inv.answered c.loop-command-test.true inv.ran c.serve_next-answer.ensures.served);
       answered = ap length items ∙ one_longer so_far c.serve_next-answer.result c.loop-command.command-index inv.answered;
       room = room ∙ inv.room;
       on = subst (λ (l : List Answer). list_all goes_on l ≡ true) (sym items) (all_more so_far c.serve_next-answer.result inv.on (sym c.goes_on-last.ensures ∙ c.if-last.false));
-      share = share_more cs so_far _ c.loop-command.command-index _ c.serve_next-answer.result _ _ _ inv.answered c.loop-command-test.true items c.serve_next-answer.ensures.counted.1 inv.share;
-      book = share_more cs so_far _ c.loop-command.command-index _ c.serve_next-answer.result _ _ _ inv.answered c.loop-command-test.true items c.serve_next-answer.ensures.counted.0 inv.book;
-      list = c.serve_next-answer.ensures.list.0 ∙ inv.list;
+      share = share_more cs so_far _ c.loop-command.command-index _ c.serve_next-answer.result _ _ _ inv.answered c.loop-command-test.true items c.serve_next-answer.ensures.share inv.share;
+      book = share_more cs so_far _ c.loop-command.command-index _ c.serve_next-answer.result _ _ _ inv.answered c.loop-command-test.true items c.serve_next-answer.ensures.served.book inv.book;
+      list = c.serve_next-answer.ensures.served.list.0 ∙ inv.list;
+      lawful = λ law. steps_keep_law _ _ _ _ _ (inv.lawful law) c.serve_next-answer.ensures.served.step;
+      ended = ended_more _ _ _ _ _ _ _ _ inv.lawful inv.ended (wakes_told _ _ _ _ c.as_slice.ensures.value c.ended_by-ended.ensures.all) c.serve_next-answer.ensures.served.step;
     }
 
 pub returns-then-last-clause-run : goal.returns-then-last-clause-run
 returns-then-last-clause-run g c =
     let inv = c.loop-command.invariant in
-    subst (λ (l : List Answer). Serves (state_of c.args.guarded.now.manager) c.args.commands.now l (state_of c.serve_next-answer.new.self.manager)) (sym c.push_reserved.ensures.items)
-    (serves_next _ _ _ c.args.commands.now c.loop-command.answers.items c.loop-command.command-index _ c.serve_next-answer.result _ inv.answered c.loop-command-test.true inv.ran c.serve_next-answer.ensures.step)
+    subst (λ (l : List Answer). Serves c.args.guarded.now c.args.commands.now l c.serve_next-answer.new.self) (sym c.push_reserved.ensures.items)
+    (serves_next _ _ _ c.args.commands.now c.loop-command.answers.items c.loop-command.command-index _ c.serve_next-answer.result _ inv.answered c.loop-command-test.true inv.ran c.serve_next-answer.ensures.served)
 
 pub returns-then-last-clause-stops : goal.returns-then-last-clause-stops
 returns-then-last-clause-stops g c =
@@ -64,15 +69,20 @@ returns-then-last-clause-stops g c =
 pub returns-then-last-clause-share : goal.returns-then-last-clause-share
 returns-then-last-clause-share g c =
     let inv = c.loop-command.invariant in
-    share_more c.args.commands.now c.loop-command.answers.items _ c.loop-command.command-index _ c.serve_next-answer.result _ _ _ inv.answered c.loop-command-test.true c.push_reserved.ensures.items c.serve_next-answer.ensures.counted.1 inv.share
+    share_more c.args.commands.now c.loop-command.answers.items _ c.loop-command.command-index _ c.serve_next-answer.result _ _ _ inv.answered c.loop-command-test.true c.push_reserved.ensures.items c.serve_next-answer.ensures.share inv.share
 
 pub returns-then-last-clause-book : goal.returns-then-last-clause-book
 returns-then-last-clause-book g c =
     let inv = c.loop-command.invariant in
-    share_more c.args.commands.now c.loop-command.answers.items _ c.loop-command.command-index _ c.serve_next-answer.result _ _ _ inv.answered c.loop-command-test.true c.push_reserved.ensures.items c.serve_next-answer.ensures.counted.0 inv.book
+    share_more c.args.commands.now c.loop-command.answers.items _ c.loop-command.command-index _ c.serve_next-answer.result _ _ _ inv.answered c.loop-command-test.true c.push_reserved.ensures.items c.serve_next-answer.ensures.served.book inv.book
+
+pub returns-then-last-clause-ended : goal.returns-then-last-clause-ended
+returns-then-last-clause-ended g c =
+    let inv = c.loop-command.invariant in
+    ended_more _ _ _ _ _ _ _ _ inv.lawful inv.ended (wakes_told _ _ _ _ c.as_slice.ensures.value c.ended_by-ended.ensures.all) c.serve_next-answer.ensures.served.step
 
 pub returns-then-last-clause-list : goal.returns-then-last-clause-list
-returns-then-last-clause-list g c = c.serve_next-answer.ensures.list.0 ∙ c.loop-command.invariant.list
+returns-then-last-clause-list g c = c.serve_next-answer.ensures.served.list.0 ∙ c.loop-command.invariant.list
 
 pub returns-clause-run : goal.returns-clause-run
 returns-clause-run g c = c.loop-command.invariant.ran

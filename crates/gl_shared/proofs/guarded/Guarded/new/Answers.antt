@@ -6,6 +6,7 @@ use Rattle.gl_shared.proofs.guarded.Guarded.new.Goals as goal
 pub invariant_of-result : goal.invariant_of-result
 invariant_of-result g c =
     let n = c.args.manager.accepted in (
+      c.requires.whole,
       sym c.requires.book,
       (let none = c.requires.book in let is = c.requires.opening.0 in omega (arith, none, is)),
       c.requires.opening.1,

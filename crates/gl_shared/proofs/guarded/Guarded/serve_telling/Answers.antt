@@ -4,7 +4,7 @@ use Rattle.gl_table.specs.declared.txn.TxnId.{TxnId}
 use Rattle.gl_shared.specs.Served.{RisingTo, accepts}
 use Rattle.gl_table.specs.State.{State}
 use Rattle.gl_catalog.proofs.Detection.{steps_keep_detect}
-use Rattle.gl_shared.specs.State.{Delivers, GuardedView, Slot, unaccepted}
+use Rattle.gl_shared.specs.State.{Delivers, GuardedView, Slot}
 use Rattle.gl_shared.proofs.Idle.{quiet_on}
 use Rattle.gl_shared.proofs.Notices.{delivers_none}
 use Rattle.gl_shared.proofs.Rising.{step_rises}
@@ -18,8 +18,8 @@ overflow_add-self g c =
     let more = counts.accepted yes in
     let top : c.accepted-counted.result < 2 ^ 64 = search rules in
     let is = c.accepted-counted.ensures in
-    let a = c.self.invariant.0 in
-    let b = c.self.invariant.1 in
+    let a = c.self.invariant.1 in
+    let b = c.self.invariant.2 in
     omega (arith, more, top, is, a, b)
 
 pub deliver-requires : goal.deliver-requires
@@ -38,7 +38,7 @@ returns-then-not-is_accepted-clause-refused g c =
     let no : accepts c.args.command c.apply_telling-answer.result ≡ false = search rules in
     let still = (step_counts _ _ _ _ _ c.apply_telling-answer.ensures.step).not_accepted no in
     let same = c.apply_telling-answer.ensures.same (ap (λ (s : State). s.accepted) still.0) in
-    λ _. (rw same (ap (unaccepted c.args.command c.apply_telling-answer.result) c.self.view_is), refl, still.1)
+    λ _. (rw same c.self.view_is, refl, still.1)
 
 pub returns-then-not-is_accepted-clause-boxes : goal.returns-then-not-is_accepted-clause-boxes
 returns-then-not-is_accepted-clause-boxes g c =
@@ -52,14 +52,15 @@ invariant_of-self-2 g c =
     let yes : accepts c.args.command c.apply_telling-answer.result ≡ true = search rules in
     let more = (step_counts _ _ _ _ _ c.apply_telling-answer.ensures.step).accepted yes in
     let total = c.add.ensures.total in
-    let a = c.self.invariant.0 in
-    let b = c.self.invariant.1 in
-    let low = c.self.invariant.3 in (
+    let a = c.self.invariant.1 in
+    let b = c.self.invariant.2 in
+    let low = c.self.invariant.4 in (
+      c.self.invariant.0,
       omega (arith, total, a),
       omega (arith, total, b, more),
-      steps_keep_detect _ _ _ _ _ c.apply_telling-answer.ensures.step ∙ c.self.invariant.2,
+      steps_keep_detect _ _ _ _ _ c.apply_telling-answer.ensures.step ∙ c.self.invariant.3,
       omega (arith, low, more),
-      quiet_on _ _ _ _ c.leaves_waiting.result _ _ _ c.leaves_waiting.ensures c.self.invariant.4 c.apply_telling-answer.ensures.step,
+      quiet_on _ _ _ _ c.leaves_waiting.result _ _ _ c.leaves_waiting.ensures c.self.invariant.5 c.apply_telling-answer.ensures.step,
     )
 
 pub returns-then-not-is_accepted-clause-rising : goal.returns-then-not-is_accepted-clause-rising

@@ -1,16 +1,32 @@
-use Rattle.std.proofs.Common.{refl, subst, sym, List}
+use Rattle.std.proofs.Common.{arith, ◌∙◌, ap, refl, subst, sym, List}
 use Rattle.gl_table.specs.declared.notice.Notice.{Notice}
 use Rattle.gl_table.specs.declared.txn.TxnId.{TxnId}
+use Rattle.gl_catalog.specs.Manager.{IsLawfulManager}
 use Rattle.gl_shared.specs.Served.{RisingTo}
-use Rattle.gl_shared.proofs.Locking.{is_not_refused, shares_lock}
+use Rattle.gl_shared.specs.State.{GuardedView}
+use Rattle.gl_shared.proofs.Locking.{gives_verdict, is_not_refused, shares_lock}
 use Rattle.gl_shared.proofs.session.Session.lock.Goals as goal
 
 pub returns : goal.returns
-returns g c = record {
-  told = refl;
-  share = shares_lock _ _ _ (c.serve_lock-answer.ensures.accepted (is_not_refused c.serve_lock-answer.result c.in_default.not-Refused)).1;
-  grant = c.await_verdict.ensures;
-}
+returns g c =
+    let served = c.serve_lock-answer in
+    let count = c.accepted_beside-self.ensures in
+    let bound = count.bound in
+    let kept = count.kept.1 in
+    let law = subst (λ (g : GuardedView). IsLawfulManager g.manager) (c.deref.ensures ∙ sym c.deref_mut.ensures.value) c.law.ensures.manager in
+    let same = (served.ensures.accepted (is_not_refused served.result c.in_default.not-Refused)).1 in
+    record {
+      told = refl;
+      share = shares_lock _ _ _ (omega (arith, kept, same));
+      grant = c.await_verdict.ensures.grant;
+      step = (
+        served.result,
+        served.new.told.items,
+        (c.deref_mut.result.now.manager, served.new.self.manager, law, served.ensures.step, count.count ∙ ap (λ (g : GuardedView). g.manager.accepted) c.deref_mut-2.ensures.value),
+        gives_verdict c.args.txn c.args.node c.args.mode served.result c.await_verdict.result c.in_default-answer.not-Granted c.in_default-answer.not-Victim c.in_default.not-Refused c.await_verdict.ensures.verdict,
+      );
+      count = (omega (arith, bound, kept));
+    }
 
 pub ended_by-requires : goal.ended_by-requires
 ended_by-requires g c = subst (λ (l : List (TxnId × Notice)). RisingTo 0 l 128) (sym c.as_slice.ensures.value) c.serve_lock-answer.ensures.rising

@@ -1,14 +1,14 @@
-//! Stories of sessions over one table.
+//! What a sleeping session is woken with, and what notes and looks show.
 
 ghost use Rattle.std.specs.Prelude.{◌≡◌};
 ghost use Rattle.gl_table.specs.BoardOf.{board_of};
 ghost use Rattle.gl_catalog.specs.Manager.{state_of};
 
-use crate::*;
 use gl_catalog::{Answer, Command, Manager};
 use gl_modes::{Mode, NodeId, Refusal};
+use gl_shared::*;
 use gl_table::{Detect, TxnId};
-use gl_waits::suspects;
+use gl_waits::{Board, SLOTS, suspects};
 use std::alloc::Global;
 use std::marker::Brand;
 use std::process::Abort;
@@ -55,6 +55,20 @@ fn sees_wait<N: Naming>(watcher: &mut Watcher<N>, slot: usize) -> bool {
     false
 }
 
+/// A board of this epoch, with the ages of the first two slots and for whom the second waits; all else is 0.
+fn board_of_two(epoch: u64, first: u64, second: u64, waits_for: u128) -> Board {
+    let mut board = Board {
+        epoch,
+        ages: [0; SLOTS],
+        rows: [0; SLOTS],
+    };
+    board.ages[0] = first;
+    board.ages[1] = second;
+    board.rows[1] = waits_for;
+    board
+}
+
+/// What two watchers see of notes that a session hands them.
 fn notes<N: Naming, R: Wait + Abort>(
     rt: &R,
     table: &Shared<N>,
@@ -83,15 +97,7 @@ fn notes<N: Naming, R: Wait + Abort>(
     let note = session.note(rt);
     assert_eq!(rt; note.epoch(), 5);
     other.learn(note);
-    if let Some(board) = other.look() {
-        assert_eq!(rt; board.epoch, 5);
-        assert_eq!(rt; board.ages[0], 1);
-        assert_eq!(rt; board.ages[1], 2);
-        assert_eq!(rt; board.rows[1], 1);
-        assert_eq!(rt; board.rows[0], 0);
-        assert_eq!(rt; board.ages[2], 0);
-    }
-    assert_eq!(rt; other.look().map(|board| board.epoch), Some(5));
+    assert!(rt; other.look() == Some(board_of_two(5, 1, 2, 1)));
     let commit = session.ask(rt, Command::Commit { txn: a });
     assert_eq!(rt; commit.answer, Answer::Done);
     assert_eq!(rt; commit.told.len(), 1);
@@ -104,9 +110,7 @@ fn notes<N: Naming, R: Wait + Abort>(
     assert_eq!(rt; note.epoch(), 6);
     watcher.learn(note);
     watcher.learn(early);
-    assert_eq!(rt; watcher.look().map(|board| board.rows[1]), Some(0));
-    assert_eq!(rt; watcher.look().map(|board| board.ages[0]), Some(0));
-    assert_eq!(rt; watcher.look().map(|board| board.epoch), Some(6));
+    assert!(rt; watcher.look() == Some(board_of_two(6, 0, 2, 0)));
     assert!(rt;
         matches!(
             session.ask(rt, Command::Commit { txn: a }).answer,
@@ -246,7 +250,6 @@ fn run_story<N: Naming + Send + Sync, R: Threads + Wait + Abort + Sync>(
     parts: Parts,
     story: Story,
 ) -> Result<(), Fail>
-    requires whole { N.shares ≡ N.parts }
     requires name { parts.blank.name ≡ N.name }
     requires parts { parts.blank.parts ≡ N.parts }
     requires shares { parts.shares ≡ N.shares }

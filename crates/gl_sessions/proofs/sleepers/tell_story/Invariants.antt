@@ -1,6 +1,6 @@
 use Rattle.gl_table.specs.BoardOf.{board_of}
 use Rattle.gl_catalog.specs.Manager.{state_of}
-use Rattle.gl_shared.proofs.tests.tell_story.Given as goal
+use Rattle.gl_sessions.proofs.sleepers.tell_story.Given as goal
 
 abbrev pub ghosts-run_story-N-Naming : goal.ghosts-run_story-N-Naming
 ghosts-run_story-N-Naming g a = record {

@@ -1,0 +1,30 @@
+-- What sessions are answered.
+use Rattle.std.specs.Prelude.{◌≡◌, ℕ, Some, Result, Ok, Err}
+use Rattle.gl_modes.specs.declared.mode.Mode.{Mode}
+use Rattle.gl_modes.specs.declared.node.NodeId.{NodeId}
+use Rattle.gl_table.specs.declared.txn.TxnId.{TxnId}
+use Rattle.gl_table.specs.Tellings.{Told}
+use Rattle.gl_catalog.specs.declared.command.Answer.{Answer}
+use Rattle.gl_catalog.specs.declared.command.Answer.TheVariants as answer
+use Rattle.gl_catalog.specs.declared.command.Command.{Command}
+use Rattle.gl_catalog.specs.Manager.{IsLawfulManager, ManagerView, state_of}
+use Rattle.gl_catalog.specs.Step.{Step}
+use Rattle.gl_shared.specs.declared.grant.Grant.{Grant}
+use Rattle.gl_shared.specs.declared.grant.Stop.{Stop}
+use Rattle.gl_shared.specs.declared.grant.Stop.TheVariants as stop
+use Rattle.gl_shared.specs.State.{GuardedView, verdict_of}
+
+-- the command was served: by a step from a lawful state, so answered and so told, behind which so many commands had been accepted
+abbrev pub IsServed : Command → Answer → Told → ℕ → Type 0
+IsServed c a told count = (s : ManagerView) × (t : ManagerView) × IsLawfulManager s × Step (state_of s) c a told (state_of t) × (count ≡ t.accepted)
+
+-- some lawful state behind the latch gives this verdict
+abbrev pub IsVerdict : TxnId → NodeId → Mode → Result Grant Stop → Type 0
+IsVerdict t n k x = (g : GuardedView) × IsLawfulManager g.manager × (verdict_of (state_of g.manager) g.boxes t n k ≡ Some x)
+
+-- what a lock gives that is answered so: the grant of the mode then held, or why there is none; and where it is left waiting, which is all that is left, a verdict
+abbrev pub Gives : TxnId → NodeId → Mode → Answer → Result Grant Stop → Type 0
+Gives t n k (answer.Granted m) x = x ≡ Ok (record { txn = t; node = n; mode = m })
+Gives t n k answer.Victim x = x ≡ Err stop.Victim
+Gives t n k (answer.Refused r) x = x ≡ Err (stop.Refused r)
+Gives t n k a x = IsVerdict t n k x
