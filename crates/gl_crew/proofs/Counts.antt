@@ -1,9 +1,10 @@
--- What shares count together.
-use Rattle.std.proofs.Common.{◌≡◌, ap, sym, subst, Option, Some, ℕ, suc, ◌+◌, ◌-◌, ◌*◌, ◌≤◌, List, [], ◌∷◌, ◌++◌, All, sum, fold, length, arith}
-use Rattle.std.proofs.lemmas.List.Elements.{All-push}
+-- What shares count together, and what faults say of it.
+use Rattle.std.proofs.Common.{◌≡◌, ap, sym, subst, ℕ, suc, ◌+◌, ◌-◌, ◌*◌, ◌≤◌, List, [], ◌∷◌, ◌++◌, Option, Some, None, Result, Ok, Err, All, IfOk, MatchOption, sum, fold, length, arith, refl}
+use Rattle.std.proofs.lemmas.List.Elements.{All-cons, All-nil}
 use Rattle.gl_table.specs.declared.detect.Detect.{Detect}
 use Rattle.gl_table.specs.declared.detect.Detect.TheVariants.{AtBlock, ByWatcher}
-use Rattle.gl_crew.specs.Crews.{IsCount, IsCountOf, shares_of}
+use Rattle.gl_crew.specs.Crews.{IsCountOf, IsFaultless, IsSumOf, first_fault, shares_of}
+use Rattle.gl_crew.specs.declared.fault.CrewFault.{CrewFault}
 
 more : (a n m k x : ℕ) → m ≡ (a + x) + n * k → x ≡ k → m ≡ a + suc n * k
 more a n m k x is one = grind (arith, is, one)
@@ -35,16 +36,28 @@ sum_watched k n y xs is h =
     omega (arith, all, same)
 
 -- from shares to sessions
-pub sessions_count : (d : Detect) (sessions rounds count : ℕ) → IsCountOf d (shares_of sessions d) rounds count → IsCount d sessions rounds count
-sessions_count AtBlock s r c h = grind (arith, h)
-sessions_count ByWatcher s r c h =
+pub sessions_count : (d : Detect) (sessions rounds commands count : ℕ) → IsSumOf d (shares_of sessions d) (rounds * commands) count → IsCountOf d commands sessions rounds count
+sessions_count AtBlock s r k c h = grind (arith, h)
+sessions_count ByWatcher s r k c h =
     let front : (s + 1) - 1 ≡ s = omega arith in
-    let same : ((s + 1) - 1) * (r * 7) ≡ s * (r * 7) = ap (λ m. m * (r * 7)) front in
-    grind (arith, h, same)
+    let same : ((s + 1) - 1) * (r * k) ≡ s * (r * k) = ap (λ m. m * (r * k)) front in
+    let turned : k * (s * r) ≡ s * (r * k) = grind arith in
+    omega (arith, h, same, turned)
 
--- one more share that is the same
-pub pushed_equal : (k : ℕ) (xs ys : List ℕ) (x : ℕ) → ys ≡ xs ++ x ∷ [] → All (λ n. n ≡ k) xs → x ≡ k → All (λ n. n ≡ k) ys
-pushed_equal k xs ys x is h one = subst (All (λ n. n ≡ k)) (sym is) (All-push (λ n. n ≡ k) xs x h one)
+pub same_sessions : (d : Detect) (n m : ℕ) → shares_of n d ≡ shares_of m d → n ≡ m
+same_sessions AtBlock n m h = h
+same_sessions ByWatcher n m h = omega (arith, h)
 
-pub same_share : (o : Option ℕ) (x k : ℕ) → o ≡ Some x → o ≡ Some k → x ≡ k
-same_share o x k e f = cc
+not_none : (f : CrewFault) → Some f ≡ None → ⊥
+not_none f e = cc
+
+-- where there is no first fault there is none
+pub faultless : (faults : List (Option CrewFault)) → first_fault faults ≡ None → IsFaultless faults
+faultless [] h = All-nil (λ f. f ≡ None)
+faultless (None ∷ faults) h = All-cons (λ f. f ≡ None) None faults refl (faultless faults h)
+faultless (Some f ∷ faults) h = absurd (not_none f h)
+
+-- an answer is a count only where there is no first fault
+pub answer_count : (first : Option CrewFault) (answer : Result ℕ CrewFault) (count : ℕ) (P : ℕ → Type 0) → MatchOption first (answer ≡ Ok count) (λ fault. answer ≡ Err fault) → (first ≡ None → P count) → IfOk answer P
+answer_count None answer count P is holds = subst (λ a. IfOk a P) (sym is) (holds refl)
+answer_count (Some f) answer count P is holds = subst (λ a. IfOk a P) (sym is) tt

@@ -1,6 +1,7 @@
 //! The table that a crew works on.
 
 ghost use Rattle.std.specs.Prelude.{◌≡◌, ◌+◌, ◌<◌, ◌^◌, IfOk};
+ghost use Rattle.gl_crew.specs.Locked.{record_of};
 
 use gl_catalog::{Answer, Command, Manager};
 use gl_modes::{Mode, NodeId, Refusal};
@@ -16,16 +17,19 @@ const BOUND: u64 = 1000;
 
 /// The nodes that the sessions of a crew lock.
 #[derive(Drop)]
-pub(crate) struct Field {
+pub struct Field {
     /// The data base, the file, the index and its first interval: what is locked above a record.
-    pub(crate) path: [NodeId; 4],
-    /// The records, by their keys.
-    records: Vec<NodeId>,
+    pub path: [NodeId; 4],
+    /// The records, by their keys: that of all has key 0, that of each session its number.
+    pub records: Vec<NodeId>,
 }
 
 impl Field {
-    /// The record that a session locks in a round: in odd rounds its own, in even ones that of all.
-    pub(crate) fn record(&self, session: u32, round: u32) -> NodeId {
+    /// The record that a session locks in a round: in odd rounds its own, in even ones that of all. A
+    /// name that names nothing where there is no such record.
+    pub(crate) fn record(&self, session: u32, round: u32) -> NodeId
+        ensures { result ≡ record_of self.now.records.items session round }
+    {
         let key = if round % 2 == 1 { session } else { 0 };
         match self.records.get(key as usize) {
             Some(record) => *record,

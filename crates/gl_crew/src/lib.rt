@@ -1,15 +1,24 @@
 //! Crews: sessions that share a table, each in a thread of its own.
 //!
 //! Each session does so many rounds of seven commands, and [`crew_with`] answers how many commands
-//! were accepted. What a crew counts is defined in `specs/`.
+//! were accepted. [`crew_over`] has them do other work, over a table of the caller's, and gives that
+//! back. What a crew counts and what it locks is defined in `specs/`.
 #![tactic(auto)]
 
 mod crews;
+mod fault;
 mod field;
 mod gate;
 mod lookout;
+mod over;
 mod rounds;
 mod seats;
+mod work;
 
-pub use crews::{CrewFault, crew, crew_with};
+pub use crews::{crew, crew_choosing, crew_with};
+pub use fault::CrewFault;
+pub use field::Field;
 pub use gate::{Gate, Point};
+pub use over::{Ended, crew_over};
+pub use rounds::RecordRounds;
+pub use work::Work;

@@ -1,9 +1,13 @@
 //! Whoever looks for deadlocks while the sessions of a crew work.
 
+ghost use Rattle.std.specs.Prelude.{◌≡◌, ◌↔◌, ℕ, IsNone, IfSome};
+ghost use Rattle.gl_waits.specs.Boards.{age_in, board_edge};
+ghost use Rattle.gl_waits.specs.Waits.{IsLowestYoungest, IsOnCycle, IsOnNoCycle};
+
 use gl_catalog::Command;
 use gl_shared::{Naming, Session, Share, Shared, Watcher};
 use gl_table::TxnId;
-use gl_waits::{Board, suspects, youngest};
+use gl_waits::{Board, suspects, youngest_of};
 use std::sync::Wait;
 use std::sync::atomic::{AtomicBool, Ordering};
 use std::thread::yield_now;
@@ -32,10 +36,15 @@ pub(crate) fn look_out<N: Naming, R: Wait>(
     session.end()
 }
 
-/// The youngest of those who are on a cycle of waits.
-fn youngest_suspect(board: &Board) -> Option<TxnId> {
-    let at = youngest(board, suspects(board))?;
-    let slot = u8::try_from(at).ok()?;
-    let age = *board.ages.get(at)?;
-    Some(TxnId { slot, age })
+/// The youngest of those who are on a cycle of waits, by slot and age; `None` exactly where nobody is.
+fn youngest_suspect(board: &Board) -> Option<TxnId>
+    ensures none { IsNone result ↔ ((s : ℕ) → IsOnNoCycle (board_edge board.now) s) }
+    ensures some { IfSome result (λ txn. IsLowestYoungest (IsOnCycle (board_edge board.now)) (age_in board.now) txn.slot) }
+    ensures age { IfSome result (λ txn. txn.age ≡ age_in board.now txn.slot) }
+{
+    let at = youngest_of(&board.ages, suspects(board))?;
+    Some(TxnId {
+        slot: at as u8,
+        age: board.ages[at],
+    })
 }

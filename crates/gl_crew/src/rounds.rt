@@ -1,34 +1,44 @@
-//! What each session of a crew does.
+//! The rounds of a crew: each locks a record, and what lies above it.
 
 ghost use Rattle.std.specs.Prelude.{◌≡◌, ◌+◌, ◌*◌, [], IfOk};
+ghost use Rattle.gl_table.specs.declared.txn.TxnId.{TxnId as ATxnId};
+ghost use Rattle.gl_crew.specs.Locked.{IsLocked, record_of};
 
-use crate::crews::CrewFault;
+use crate::fault::CrewFault;
 use crate::field::Field;
 use crate::gate::{Gate, Point};
+use crate::work::Work;
 use gl_catalog::{Answer, Command};
 use gl_modes::{Mode, NodeId, Refusal};
-use gl_shared::{Naming, Session, Stop};
-use gl_table::{Told, TxnId};
+use gl_shared::{Grant, Naming, Session, Stop};
+use gl_table::TxnId;
 use std::sync::Wait;
 
-/// Does so many rounds of seven commands. The first fault ends them; no transaction is left.
-pub(crate) fn do_rounds<N: Naming, G: Gate, R: Wait>(
-    rt: &R,
-    gate: &G,
-    field: &Field,
-    session: &mut Session<'_, N>,
-    number: u32,
-    rounds: u32,
-) -> Result<(), CrewFault>
-    ensures { IfOk result (λ _. session.new.share ≡ session.old.share + rounds * 7) }
-{
-    for round in 0..rounds {
-        do_round(rt, gate, field, session, number, round + 1)?;
-    }
-    Ok(())
+/// Rounds of seven commands, which `crew_with` describes, over these nodes and behind this gate.
+#[derive(Drop)]
+pub struct RecordRounds<'a, G: Gate> {
+    /// The nodes that are locked.
+    pub field: Field,
+    /// What a session passes behind the lock on the record and behind the commit.
+    pub gate: &'a G,
 }
 
-/// One round: a transaction that locks a record and commits.
+impl<G: Gate> Work for RecordRounds<'_, G> {
+    ghost commands = { 7 };
+
+    fn round<N: Naming, R: Wait>(
+        &self,
+        rt: &R,
+        session: &mut Session<'_, N>,
+        number: u32,
+        round: u32,
+    ) -> Result<(), CrewFault> {
+        do_round(rt, self.gate, &self.field, session, number, round)?;
+        Ok(())
+    }
+}
+
+/// One round: a transaction that locks a record and commits. Answers what it had locked.
 fn do_round<N: Naming, G: Gate, R: Wait>(
     rt: &R,
     gate: &G,
@@ -36,19 +46,23 @@ fn do_round<N: Naming, G: Gate, R: Wait>(
     session: &mut Session<'_, N>,
     number: u32,
     round: u32,
-) -> Result<(), CrewFault>
-    ensures { IfOk result (λ _. session.new.share ≡ session.old.share + 7) }
+) -> Result<[Grant; 5], CrewFault>
+    ensures share { IfOk result (λ _. session.new.share ≡ session.old.share + 7) }
+    ensures locked { IfOk result (λ grants. (t : ATxnId) × IsLocked t field.now.path (record_of field.now.records.items number round) grants) }
 {
     let txn = begin(rt, session)?;
     let record = field.record(number, round);
-    if let Err(stop) = lock_all(rt, field, session, txn, record) {
-        session.ask(rt, Command::Abort { txn });
-        return Err(fault_of(stop));
-    }
+    let grants = match lock_all(rt, &field.path, session, txn, record) {
+        Ok(grants) => grants,
+        Err(stop) => {
+            session.ask(rt, Command::Abort { txn });
+            return Err(fault_of(stop));
+        }
+    };
     let goes_on = gate.pass(rt, number, round, Point::Locked);
     commit(rt, session, txn)?;
     if goes_on && gate.pass(rt, number, round, Point::Committed) {
-        Ok(())
+        Ok(grants)
     } else {
         Err(CrewFault::Gate)
     }
@@ -64,21 +78,24 @@ fn begin<N: Naming, R: Wait>(rt: &R, session: &mut Session<'_, N>) -> Result<Txn
     }
 }
 
-/// Locks a record, and before it what lies above.
+/// Locks a record in X, and before it what lies above in IX.
 fn lock_all<N: Naming, R: Wait>(
     rt: &R,
-    field: &Field,
+    path: &[NodeId; 4],
     session: &mut Session<'_, N>,
     txn: TxnId,
     record: NodeId,
-) -> Result<(), Stop>
-    ensures { IfOk result (λ _. session.new.share ≡ session.old.share + 5) }
+) -> Result<[Grant; 5], Stop>
+    ensures share { IfOk result (λ _. session.new.share ≡ session.old.share + 5) }
+    ensures locked { IfOk result (λ grants. IsLocked txn path.now «record» grants) }
 {
-    for node in &field.path {
-        session.lock(rt, txn, *node, Mode::IX)?;
-    }
-    session.lock(rt, txn, record, Mode::X)?;
-    Ok(())
+    Ok([
+        session.lock(rt, txn, path[0], Mode::IX)?,
+        session.lock(rt, txn, path[1], Mode::IX)?,
+        session.lock(rt, txn, path[2], Mode::IX)?,
+        session.lock(rt, txn, path[3], Mode::IX)?,
+        session.lock(rt, txn, record, Mode::X)?,
+    ])
 }
 
 /// Ends a transaction.

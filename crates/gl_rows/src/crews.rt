@@ -1,8 +1,13 @@
-//! Crews: how much they count, and what they do at a gate.
+//! Crews: how much they count, what they do at a gate, and how they end where sessions are stopped.
 
-use gl_table::Detect;
+ghost use Rattle.std.specs.Prelude.{◌≡◌, ◌+◌, ◌<◌, ◌≤◌, IfOk};
+
+use gl_catalog::{Answer, Command, Manager};
+use gl_crew::{Ended, Field, RecordRounds, Work, crew_over};
+use gl_modes::{Mode, NodeId, Refusal};
+use gl_shared::{Naming, Session, Stop};
+use gl_table::{Detect, TxnId};
 use gl_tool::{CrewFault, Gate, Point, crew, crew_with};
-use gl_waits::Victims;
 use std::alloc::Global;
 use std::process::Abort;
 use std::sync::{Mutex, MutexGuard, Wait};
@@ -16,6 +21,7 @@ struct Seen {
 }
 
 /// A gate that holds each of two sessions behind its lock until the other has come there too.
+#[derive(Drop)]
 struct Meeting {
     seen: Mutex<Seen>,
 }
@@ -90,7 +96,7 @@ fn counted<R: Threads + Wait + Sync>(
     rounds: u32,
     detect: Detect,
 ) -> Result<u64, CrewFault> {
-    crew(rt, alloc, 4, rounds, detect, Victims::Youngest)
+    crew(rt, alloc, 4, rounds, detect)
 }
 
 /// The same of two sessions behind a gate.
@@ -100,7 +106,7 @@ fn counted_behind<G: Gate + Sync, R: Threads + Wait + Sync>(
     gate: &G,
     detect: Detect,
 ) -> Result<u64, CrewFault> {
-    crew_with(rt, alloc, gate, 2, 1, detect, Victims::Youngest)
+    crew_with(rt, alloc, gate, 2, 1, detect)
 }
 
 /// Four sessions that do a hundred rounds.
@@ -142,4 +148,200 @@ fn a_shut_gate_stops_a_crew(rt: HostRuntime) {
         let ended = counted_behind(&rt, rt.alloc(), &gate, Detect::ByWatcher);
         assert_eq!(rt; ended, Err(CrewFault::Gate));
     }
+}
+
+/// A new manager for so many transactions at once.
+fn new_manager<R: Abort>(rt: &R, alloc: Global, detect: Detect) -> Manager {
+    match Manager::new(alloc, detect, 8) {
+        Ok(manager) => manager,
+        Err(_) => panic!(rt; "no memory"),
+    }
+}
+
+/// A new node without parents.
+fn add_root<R: Abort>(rt: &R, manager: &mut Manager) -> NodeId {
+    match manager.apply(Command::Inner { parents: &[] }).answer {
+        Answer::Node(node) => node,
+        _ => panic!(rt; "no node"),
+    }
+}
+
+/// How a crew of so many sessions ends that do one round of this work.
+fn ended_after<W: Work + Sync, R: Threads + Wait + Sync + Abort>(
+    rt: &R,
+    alloc: Global,
+    manager: Manager,
+    work: &W,
+    sessions: u32,
+) -> Ended
+    requires { (0 < sessions) × (sessions ≤ 128) }
+{
+    match crew_over(rt, alloc, manager, work, sessions, 1) {
+        Ok(ended) => ended,
+        Err(_) => panic!(rt; "no memory"),
+    }
+}
+
+/// Whether no transaction lives.
+fn nobody_lives(manager: &Manager) -> bool {
+    for slot in 0..128u8 {
+        if manager.living(slot).is_some() {
+            return false;
+        }
+    }
+    true
+}
+
+/// Two sessions whose record is not there: each begins, locks what lies above, is refused and aborts.
+fn stops<R: Threads + Wait + Sync + Abort>(rt: &R, alloc: Global, detect: Detect) {
+    let mut manager = new_manager(rt, alloc, detect);
+    let root = add_root(rt, &mut manager);
+    let field = Field {
+        path: [root; 4],
+        records: Vec::new(alloc),
+    };
+    let gate = Shut { at: Point::Locked };
+    let work = RecordRounds { field, gate: &gate };
+    let ended = ended_after(rt, alloc, manager, &work, 2);
+    let refused = CrewFault::Refused(Refusal::NoSuchNode);
+    assert_eq!(rt; ended.faults.as_slice(), [Some(refused); 2].as_slice());
+    assert_eq!(rt; ended.count, 12);
+    assert!(rt; nobody_lives(&ended.manager), "a transaction is left");
+}
+
+#[test]
+fn a_session_that_is_stopped_aborts(rt: HostRuntime) {
+    stops(&rt, rt.alloc(), Detect::AtBlock);
+    stops(&rt, rt.alloc(), Detect::ByWatcher);
+}
+
+/// Work in which all but the first session fail, each in its own way.
+struct Failing;
+
+impl Work for Failing {
+    ghost commands = { 0 };
+
+    fn round<N: Naming, R: Wait>(
+        &self,
+        _rt: &R,
+        _session: &mut Session<'_, N>,
+        number: u32,
+        _round: u32,
+    ) -> Result<(), CrewFault> {
+        match number {
+            1 => Ok(()),
+            2 => Err(CrewFault::Refused(Refusal::NoSuchTxn)),
+            _ => Err(CrewFault::Gate),
+        }
+    }
+}
+
+/// Of several faults that of the session with the least number is answered.
+#[test]
+fn the_first_fault_is_answered(rt: HostRuntime) {
+    let manager = new_manager(&rt, rt.alloc(), Detect::AtBlock);
+    let ended = ended_after(&rt, rt.alloc(), manager, &Failing, 3);
+    let refused = CrewFault::Refused(Refusal::NoSuchTxn);
+    let wanted = [None, Some(refused), Some(CrewFault::Gate)];
+    assert_eq!(rt; ended.faults.as_slice(), wanted.as_slice());
+    assert_eq!(rt; ended.answer(), Err(refused));
+}
+
+/// Two sessions that lock the same two nodes in X, each the other's last first, and meet between.
+#[derive(Drop)]
+struct Crossing {
+    nodes: [NodeId; 2],
+    meeting: Meeting,
+}
+
+impl Work for Crossing {
+    ghost commands = { 4 };
+
+    fn round<N: Naming, R: Wait>(
+        &self,
+        rt: &R,
+        session: &mut Session<'_, N>,
+        number: u32,
+        round: u32,
+    ) -> Result<(), CrewFault> {
+        let txn = begins(rt, session)?;
+        match crosses(rt, self, session, number, round, txn) {
+            Ok(()) => commits(rt, session, txn),
+            Err(_) => {
+                session.ask(rt, Command::Abort { txn });
+                Err(CrewFault::Refused(Refusal::TxnCondemned))
+            }
+        }
+    }
+}
+
+/// A new transaction.
+fn begins<N: Naming, R: Wait>(rt: &R, session: &mut Session<'_, N>) -> Result<TxnId, CrewFault>
+    ensures { IfOk result (λ _. session.new.share ≡ session.old.share + 1) }
+{
+    match session.ask(rt, Command::Begin).answer {
+        Answer::Begun(txn) => Ok(txn),
+        _ => Err(CrewFault::Gate),
+    }
+}
+
+/// Locks the two nodes, the second of them once both sessions have locked their first.
+fn crosses<N: Naming, R: Wait>(
+    rt: &R,
+    work: &Crossing,
+    session: &mut Session<'_, N>,
+    number: u32,
+    round: u32,
+    txn: TxnId,
+) -> Result<(), Stop>
+    ensures { IfOk result (λ _. session.new.share ≡ session.old.share + 2) }
+{
+    let [left, right] = work.nodes;
+    let (first, last) = if number == 1 {
+        (left, right)
+    } else {
+        (right, left)
+    };
+    session.lock(rt, txn, first, Mode::X)?;
+    work.meeting.pass(rt, number, round, Point::Locked);
+    session.lock(rt, txn, last, Mode::X)?;
+    Ok(())
+}
+
+/// Ends a transaction.
+fn commits<N: Naming, R: Wait>(
+    rt: &R,
+    session: &mut Session<'_, N>,
+    txn: TxnId,
+) -> Result<(), CrewFault>
+    ensures { IfOk result (λ _. session.new.share ≡ session.old.share + 1) }
+{
+    match session.ask(rt, Command::Commit { txn }).answer {
+        Answer::Done => Ok(()),
+        _ => Err(CrewFault::Gate),
+    }
+}
+
+/// A deadlock of two sessions ends: one of them falls and aborts, and the other commits.
+fn frees<R: Threads + Wait + Sync + Abort>(rt: &R, alloc: Global, detect: Detect) -> u64 {
+    let mut manager = new_manager(rt, alloc, detect);
+    let work = Crossing {
+        nodes: [add_root(rt, &mut manager), add_root(rt, &mut manager)],
+        meeting: Meeting::new(),
+    };
+    let ended = ended_after(rt, alloc, manager, &work, 2);
+    let fallen = CrewFault::Refused(Refusal::TxnCondemned);
+    assert_eq!(rt; ended.answer(), Err(fallen));
+    assert_eq!(rt; ended.faults.iter().flatten().count(), 1);
+    assert_eq!(rt; ended.manager.counters().victims, 1);
+    assert!(rt; nobody_lives(&ended.manager), "a transaction is left");
+    ended.count
+}
+
+/// With detection by a watcher nobody but the lookout ends a deadlock, by a settle that counts.
+#[test]
+fn the_lookout_settles_a_deadlock(rt: HostRuntime) {
+    assert_eq!(rt; frees(&rt, rt.alloc(), Detect::AtBlock), 8);
+    let count = frees(&rt, rt.alloc(), Detect::ByWatcher);
+    assert!(rt; count >= 9, "nobody asked for a settle");
 }

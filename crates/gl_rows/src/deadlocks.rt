@@ -130,10 +130,10 @@ fn fewest_victims(rt: HostRuntime) -> Result<(), Fail> {
     for lines in [SETTLED_FROM_THE_WRITER, SETTLED_FROM_A_READER] {
         try_out(&rt, alloc, FEWEST_BY_WATCHER, &[IN_THE_WRITERS_WAY, lines])?;
     }
-    for policy in [AT_BLOCK, FEWEST] {
-        try_out(&rt, alloc, policy, &[ASKER_IS_VICTIM])?;
-        try_out(&rt, alloc, policy, &[CYCLE_THROUGH_A_QUEUE])?;
-        try_out(&rt, alloc, policy, &[ONE_ON_ALL_CYCLES])?;
+    for choices in [AT_BLOCK, FEWEST] {
+        try_out(&rt, alloc, choices, &[ASKER_IS_VICTIM])?;
+        try_out(&rt, alloc, choices, &[CYCLE_THROUGH_A_QUEUE])?;
+        try_out(&rt, alloc, choices, &[ONE_ON_ALL_CYCLES])?;
     }
     Ok(())
 }

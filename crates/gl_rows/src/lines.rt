@@ -1,6 +1,6 @@
 //! What a line may be: its length, its bytes, and how many there are.
 
-use crate::rows::{AT_BLOCK, Row, answer, comes_out, try_row};
+use crate::rows::{AT_BLOCK, FEWEST, LISTED, Row, answer, comes_out, try_row};
 use crate::streams::{Sheet, Source};
 use gl_tool::RunFault;
 use std::alloc::{AllocError, Global};
@@ -82,6 +82,34 @@ fn too_many_transactions(rt: HostRuntime) -> Result<(), Fail> {
     row.push(b"granular 2", "ok")?;
     crowd(&mut row, rt.alloc(), 128)?;
     try_row(&rt, rt.alloc(), &row)
+}
+
+/// Only `granular 2`, exactly, is a first line that chooses a version; what is like it is a bad line, and
+/// so the script is of version 1.
+#[test]
+fn first_lines_that_choose_nothing(rt: HostRuntime) -> Result<(), Fail> {
+    let firsts: [&[u8]; 8] = [
+        b"granular 1",
+        b"granular 3",
+        b"granular 2 ",
+        b" granular 2",
+        b"GRANULAR 2",
+        b"granular",
+        b"granular 02",
+        b"granular 2\r",
+    ];
+    for choices in [AT_BLOCK, FEWEST, LISTED] {
+        for first in firsts {
+            let mut row = Row::new(rt.alloc(), choices)?;
+            row.push(first, "no 20 BadLine")?;
+            row.push(b"inner db", "ok")?;
+            row.push(b"begin a", "ok")?;
+            row.push(b"move a db", "no 20 BadLine")?;
+            row.push(b"granular 2", "no 20 BadLine")?;
+            comes_out(&rt, rt.alloc(), &row)?;
+        }
+    }
+    Ok(())
 }
 
 /// A script as long as one may be is answered to its end, in small reads and in large ones, and no

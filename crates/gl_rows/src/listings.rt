@@ -1,11 +1,10 @@
 //! Listings: who holds what, who waits where, and for whom.
 
-use crate::rows::{AT_BLOCK, BY_WATCHER, Lines, try_out};
+use crate::rows::{AT_BLOCK, FEWEST, LISTED, LISTED_BY_WATCHER, Lines, try_out};
 use std::test::Fail;
 
 /// Holders by slot, a queue in its order, and what each transaction has and waits for.
 const GRANTS: Lines = &[
-    ("granular 3", "ok"),
     ("inner db", "ok"),
     ("inner t : db", "ok"),
     ("txns", "ok"),
@@ -53,7 +52,6 @@ const GRANTS: Lines = &[
 
 /// Who waits for a conversion holds the node, and stands ahead of newcomers.
 const CONVERSIONS: Lines = &[
-    ("granular 3", "ok"),
     ("inner db", "ok"),
     ("begin a", "ok"),
     ("begin b", "ok"),
@@ -73,7 +71,6 @@ const CONVERSIONS: Lines = &[
 
 /// Records and intervals have their names in the rows too; a record that goes leaves no row.
 const RECORDS: Lines = &[
-    ("granular 3", "ok"),
     ("inner db", "ok"),
     ("file f : db", "ok"),
     ("index i : db on f at 100", "ok"),
@@ -100,7 +97,6 @@ const RECORDS: Lines = &[
 
 /// Names that are not in use, in both kinds of listing.
 const REFUSED: Lines = &[
-    ("granular 3", "ok"),
     ("inner db", "ok"),
     ("file f : db", "ok"),
     ("index i : db on f at 100", "ok"),
@@ -118,17 +114,46 @@ const REFUSED: Lines = &[
     ("queue i.1 db", "no 20 BadLine"),
 ];
 
-/// No listing is of an earlier version, and a move is of the third one too.
-const EARLIER: Lines = &[
-    ("granular 2", "ok"),
+/// Without the word each listing is a bad line, in both versions.
+const UNLISTED: Lines = &[
     ("inner db", "ok"),
+    ("begin a", "ok"),
     ("holders db", "no 20 BadLine"),
+    ("queue db", "no 20 BadLine"),
+    ("locks a", "no 20 BadLine"),
+    ("waits a", "no 20 BadLine"),
     ("txns", "no 20 BadLine"),
-    ("granular 3", "no 20 BadLine"),
+    ("cycle", "no 20 BadLine"),
+    ("group db", "ok NL"),
 ];
 
+/// With it each is one in both versions.
+const EACH_LISTED: Lines = &[
+    ("inner db", "ok"),
+    ("begin a", "ok"),
+    ("holders db", "ok"),
+    ("queue db", "ok"),
+    ("locks a", "ok"),
+    ("waits a", "ok"),
+    ("txns", "ok\ntxn a 1 active"),
+    ("cycle", "ok"),
+];
+
+/// The first line of a script of version 2.
+const VERSION_TWO: Lines = &[("granular 2", "ok")];
+
+/// The word brings no move into version 1.
+const NO_MOVES: Lines = &[
+    ("inner db", "ok"),
+    ("begin a", "ok"),
+    ("lock a X db", "ok X"),
+    ("move a db", "no 20 BadLine"),
+    ("txns", "ok\ntxn a 1 active"),
+];
+
+/// Listings and moves in version 2.
 const MOVES_TOO: Lines = &[
-    ("granular 3", "ok"),
+    ("granular 2", "ok"),
     ("inner db", "ok"),
     ("inner x : db", "ok"),
     ("inner y : db", "ok"),
@@ -146,7 +171,6 @@ const MOVES_TOO: Lines = &[
 
 /// A victim is condemned and holds what it held; it waits for nobody any more.
 const DEADLOCK: Lines = &[
-    ("granular 3", "ok"),
     ("inner db", "ok"),
     ("begin a", "ok"),
     ("begin b", "ok"),
@@ -165,7 +189,6 @@ const DEADLOCK: Lines = &[
 /// Who is on no cycle with the asker is not shown, and a later deadlock takes the place of an earlier
 /// one.
 const TWO_DEADLOCKS: Lines = &[
-    ("granular 3", "ok"),
     ("inner g", "ok"),
     ("inner h", "ok"),
     ("cycle", "ok"),
@@ -194,9 +217,8 @@ const TWO_DEADLOCKS: Lines = &[
     ),
 ];
 
-/// With detection by a watcher a circle can be seen.
+/// With detection by a watcher a cycle can be seen.
 const CIRCLE: Lines = &[
-    ("granular 3", "ok"),
     ("inner db", "ok"),
     ("begin a", "ok"),
     ("begin b", "ok"),
@@ -224,22 +246,33 @@ const CIRCLE: Lines = &[
 #[test]
 fn listings_of_locks(rt: HostRuntime) -> Result<(), Fail> {
     for lines in [GRANTS, CONVERSIONS, RECORDS, MOVES_TOO] {
-        try_out(&rt, rt.alloc(), AT_BLOCK, &[lines])?;
+        try_out(&rt, rt.alloc(), LISTED, &[lines])?;
     }
-    Ok(())
+    try_out(&rt, rt.alloc(), LISTED, &[VERSION_TWO, GRANTS])
 }
 
 #[test]
 fn listings_that_are_refused(rt: HostRuntime) -> Result<(), Fail> {
-    for lines in [REFUSED, EARLIER] {
-        try_out(&rt, rt.alloc(), AT_BLOCK, &[lines])?;
+    for lines in [REFUSED, NO_MOVES] {
+        try_out(&rt, rt.alloc(), LISTED, &[lines])?;
     }
     Ok(())
 }
 
 #[test]
+fn listings_by_the_word_alone(rt: HostRuntime) -> Result<(), Fail> {
+    let alloc = rt.alloc();
+    for choices in [AT_BLOCK, FEWEST] {
+        try_out(&rt, alloc, choices, &[UNLISTED])?;
+        try_out(&rt, alloc, choices, &[VERSION_TWO, UNLISTED])?;
+    }
+    try_out(&rt, alloc, LISTED, &[EACH_LISTED])?;
+    try_out(&rt, alloc, LISTED, &[VERSION_TWO, EACH_LISTED])
+}
+
+#[test]
 fn listings_of_deadlocks(rt: HostRuntime) -> Result<(), Fail> {
-    try_out(&rt, rt.alloc(), AT_BLOCK, &[DEADLOCK])?;
-    try_out(&rt, rt.alloc(), AT_BLOCK, &[TWO_DEADLOCKS])?;
-    try_out(&rt, rt.alloc(), BY_WATCHER, &[CIRCLE])
+    try_out(&rt, rt.alloc(), LISTED, &[DEADLOCK])?;
+    try_out(&rt, rt.alloc(), LISTED, &[TWO_DEADLOCKS])?;
+    try_out(&rt, rt.alloc(), LISTED_BY_WATCHER, &[CIRCLE])
 }

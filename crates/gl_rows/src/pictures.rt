@@ -94,12 +94,24 @@ fn pictures(rt: HostRuntime) -> Result<(), Fail> {
     draws(&rt, alloc, &["--graph"], GRAPH, GRAPH_DRAWN)
 }
 
+/// A listing changes no state, and neither does a bad line: the picture is the same.
+const LISTS: &[u8] = b"inner db\ntxns\nbegin a\nholders db\nbegin b\nlock a S db\nlock b S db\n\
+    lock a X db\nlock b X db\ncycle\n";
+
+#[test]
+fn pictures_of_listings(rt: HostRuntime) -> Result<(), Fail> {
+    let alloc = rt.alloc();
+    draws(&rt, alloc, &["--waits", "--listings"], LISTS, VICTIM)?;
+    draws(&rt, alloc, &["--waits"], LISTS, VICTIM)
+}
+
 #[test]
 fn words_that_draw_nothing(rt: HostRuntime) -> Result<(), Fail> {
     let alloc = rt.alloc();
     is_refused(&rt, alloc, &["x"])?;
     is_refused(&rt, alloc, &["--graph", "--waits"])?;
     is_refused(&rt, alloc, &["--detect", "at-block", "--graph"])?;
+    is_refused(&rt, alloc, &["--listings", "--graph"])?;
     is_refused(&rt, alloc, &["--crew", "1", "--rounds", "1"])
 }
 

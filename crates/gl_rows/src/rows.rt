@@ -2,7 +2,7 @@
 
 use crate::streams::{Sheet, Source};
 use gl_table::Detect;
-use gl_tool::{Policy, RunFault, run};
+use gl_tool::{Choices, RunFault, run, run_choosing};
 use gl_waits::Victims;
 use std::alloc::{AllocError, Global};
 use std::io::{Read, Write};
@@ -12,34 +12,47 @@ use std::test::Fail;
 /// Lines of a script, each with its answer: nothing, or one line or more.
 pub(crate) type Lines = &'static [(&'static str, &'static str)];
 
-/// How deadlocks are found where nothing else is said.
-pub(crate) const AT_BLOCK: Policy = Policy {
+/// How scripts are answered where nothing else is said.
+pub(crate) const AT_BLOCK: Choices = Choices {
     detect: Detect::AtBlock,
     victims: Victims::Youngest,
+    listings: false,
 };
 
 /// Where one victim is to be enough.
-pub(crate) const FEWEST: Policy = Policy {
-    detect: Detect::AtBlock,
+pub(crate) const FEWEST: Choices = Choices {
     victims: Victims::Fewest,
-};
-
-/// The same, where deadlocks stand until they are settled.
-pub(crate) const FEWEST_BY_WATCHER: Policy = Policy {
-    detect: Detect::ByWatcher,
-    victims: Victims::Fewest,
+    ..AT_BLOCK
 };
 
 /// Where deadlocks stand until they are settled.
-pub(crate) const BY_WATCHER: Policy = Policy {
+pub(crate) const BY_WATCHER: Choices = Choices {
     detect: Detect::ByWatcher,
-    victims: Victims::Youngest,
+    ..AT_BLOCK
+};
+
+/// The same, where one victim is to be enough.
+pub(crate) const FEWEST_BY_WATCHER: Choices = Choices {
+    detect: Detect::ByWatcher,
+    ..FEWEST
+};
+
+/// With listings.
+pub(crate) const LISTED: Choices = Choices {
+    listings: true,
+    ..AT_BLOCK
+};
+
+/// With listings, where deadlocks stand until they are settled.
+pub(crate) const LISTED_BY_WATCHER: Choices = Choices {
+    listings: true,
+    ..BY_WATCHER
 };
 
 /// A script, and the report that it must have.
 #[derive(Drop)]
 pub(crate) struct Row {
-    pub(crate) policy: Policy,
+    pub(crate) choices: Choices,
     pub(crate) script: Vec<u8>,
     pub(crate) report: Vec<u8>,
     /// How long the script and the report are behind each line.
@@ -48,9 +61,9 @@ pub(crate) struct Row {
 
 impl Row {
     /// A script without lines.
-    pub(crate) fn new(alloc: Global, policy: Policy) -> Result<Self, AllocError> {
+    pub(crate) fn new(alloc: Global, choices: Choices) -> Result<Self, AllocError> {
         Ok(Row {
-            policy,
+            choices,
             script: Vec::with_capacity(alloc, 1024)?,
             report: Vec::with_capacity(alloc, 1024)?,
             ends: Vec::with_capacity(alloc, 64)?,
@@ -89,24 +102,29 @@ impl Row {
     }
 }
 
-/// Answers a script. It promises nothing, so that what `run` promises is no part of a test's proof.
+/// Answers a script, by `run` where that has the choices. It promises nothing, so that what they promise is
+/// no part of a test's proof.
 pub(crate) fn answer<R: Read, W: Write>(
     alloc: Global,
     reader: &mut R,
     writer: &mut W,
-    policy: Policy,
+    choices: Choices,
 ) -> Result<(), RunFault> {
-    run(alloc, reader, writer, policy)
+    if choices == Choices::plain(choices.detect) {
+        run(alloc, reader, writer, choices.detect)
+    } else {
+        run_choosing(alloc, reader, writer, choices)
+    }
 }
 
 /// Runs a script of these parts whole and byte by byte, and with each read and each write failing.
 pub(crate) fn try_out(
     rt: &impl Abort,
     alloc: Global,
-    policy: Policy,
+    choices: Choices,
     parts: &[Lines],
 ) -> Result<(), Fail> {
-    let mut row = Row::new(alloc, policy)?;
+    let mut row = Row::new(alloc, choices)?;
     for lines in parts {
         row.push_all(lines)?;
     }
@@ -125,7 +143,7 @@ pub(crate) fn comes_out(rt: &impl Abort, alloc: Global, row: &Row) -> Result<(),
     for piece in [1, 7, 255, 256, 257, 99_999] {
         let mut source = Source::new(row.script.as_slice(), piece);
         let mut out = Sheet::new(alloc)?;
-        let ended = answer(alloc, &mut source, &mut out, row.policy);
+        let ended = answer(alloc, &mut source, &mut out, row.choices);
         assert_eq!(rt; ended, Ok(()));
         assert_eq!(rt; out.text.as_slice(), row.report.as_slice(), "by {piece}");
     }
@@ -138,7 +156,7 @@ fn reads_fail(rt: &impl Abort, alloc: Global, row: &Row) -> Result<(), Fail> {
         let mut source = Source::new(row.script.as_slice(), 1);
         source.calls = calls;
         let mut out = Sheet::new(alloc)?;
-        let ended = answer(alloc, &mut source, &mut out, row.policy);
+        let ended = answer(alloc, &mut source, &mut out, row.choices);
         assert_eq!(rt; ended, Err(RunFault::Read));
         assert_eq!(rt; out.text.as_slice(), row.answered(calls), "after {calls}");
     }
@@ -152,7 +170,7 @@ fn writes_fail(rt: &impl Abort, alloc: Global, row: &Row) -> Result<(), Fail> {
         let mut out = Sheet::new(alloc)?;
         out.piece = 1;
         out.calls = calls;
-        let ended = answer(alloc, &mut source, &mut out, row.policy);
+        let ended = answer(alloc, &mut source, &mut out, row.choices);
         assert_eq!(rt; ended, Err(RunFault::Write));
         assert_eq!(rt; out.text.as_slice(), &row.report.as_slice()[..calls]);
     }

@@ -1,9 +1,12 @@
-//! The words of the program: which give a plan, what it is, and what becomes of those that give none.
+//! The words of the program: what they ask for, the plan of it, and what becomes of those that ask for
+//! nothing.
 
-use crate::rows::{AT_BLOCK, BY_WATCHER, FEWEST};
+use crate::rows::{AT_BLOCK, BY_WATCHER, FEWEST, FEWEST_BY_WATCHER, LISTED};
 use gl_modes::Refusal;
 use gl_table::Detect;
-use gl_tool::{CrewFault, Plan, Policy, RunFault, ToolFault, complain, plan, program};
+use gl_tool::{
+    Asked, Choices, CrewFault, Plan, RunFault, ToolFault, asked, complain, plan, program,
+};
 use gl_waits::Victims;
 use std::alloc::Global;
 use std::io;
@@ -23,7 +26,7 @@ const LEFT_WAITING: &[u8] = b"ok\nok\nok\nok S\nok S\nwait\nwait\n";
 
 const NO_WORDS: [&str; 0] = [];
 
-const REFUSED: [&[&str]; 26] = [
+const REFUSED: [&[&str]; 32] = [
     &["x"],
     &[""],
     &["-h"],
@@ -50,7 +53,20 @@ const REFUSED: [&[&str]; 26] = [
     &["--crew", "two", "--rounds", "1"],
     &["--crew", "1", "--crew", "1", "--rounds", "1"],
     &["at-block"],
+    &["--listings", "--crew", "4", "--rounds", "1"],
+    &["--crew=4", "--rounds=1", "--listings"],
+    &["--listings", "--listings"],
+    &["--listings=true"],
+    &["--listings", "x"],
+    &["--listing"],
 ];
+
+/// A script that lists, with the word and without.
+const LISTS: &[u8] = b"inner db\ntxns\nholders db\n";
+
+const LISTS_LISTED: &[u8] = b"ok\nok\nok\n";
+
+const LISTS_UNLISTED: &[u8] = b"ok\nno 20 BadLine\nno 20 BadLine\n";
 
 /// The line of each fault.
 const SAID: &[u8] = b"gltool: read fault\n\
@@ -87,6 +103,17 @@ fn planned(alloc: Global, words: &[&str]) -> Option<Plan> {
     plan(alloc, words)
 }
 
+/// What the words ask for. It promises nothing, as `planned`.
+fn wanted(alloc: Global, words: &[&str]) -> Option<Asked> {
+    asked(alloc, words)
+}
+
+/// The words ask for a script with these choices, and their plan is one with this way of detection.
+fn choose<A: Abort>(rt: &A, alloc: Global, words: &[&str], choices: Choices) {
+    assert_eq!(rt; wanted(alloc, words), Some(Asked::Script(choices)));
+    assert_eq!(rt; planned(alloc, words), Some(Plan::Script(choices.detect)));
+}
+
 /// Ends with this status, and has written the report, and the line on standard error.
 fn ends<H: Threads + Wait + Sync + Abort>(
     rt: &H,
@@ -107,47 +134,41 @@ fn ends<H: Threads + Wait + Sync + Abort>(
 
 #[test]
 fn a_way_of_detection_is_a_plan(rt: HostRuntime) {
-    let at_block = Some(Plan::Script(AT_BLOCK));
-    let by_watcher = Some(Plan::Script(BY_WATCHER));
     let alloc = rt.alloc();
-    assert_eq!(rt; planned(alloc, &[]), at_block);
-    assert_eq!(rt; planned(alloc, &["--detect", "at-block"]), at_block);
-    assert_eq!(rt; planned(alloc, &["--detect=at-block"]), at_block);
-    assert_eq!(rt; planned(alloc, &["--detect", "by-watcher"]), by_watcher);
-    assert_eq!(rt; planned(alloc, &["--detect=by-watcher"]), by_watcher);
+    choose(&rt, alloc, &[], AT_BLOCK);
+    choose(&rt, alloc, &["--detect", "at-block"], AT_BLOCK);
+    choose(&rt, alloc, &["--detect=at-block"], AT_BLOCK);
+    choose(&rt, alloc, &["--detect", "by-watcher"], BY_WATCHER);
+    choose(&rt, alloc, &["--detect=by-watcher"], BY_WATCHER);
 }
 
 #[test]
-fn a_choice_of_victims_is_a_plan(rt: HostRuntime) {
-    let fewest = Some(Plan::Script(FEWEST));
+fn a_choice_of_victims_stands_beside_the_plan(rt: HostRuntime) {
     let alloc = rt.alloc();
-    assert_eq!(rt; planned(alloc, &["--victims", "fewest"]), fewest);
-    assert_eq!(rt; planned(alloc, &["--victims=fewest"]), fewest);
-    assert_eq!(rt;
-        planned(alloc, &["--victims", "youngest"]),
-        Some(Plan::Script(AT_BLOCK))
-    );
-    let words = [
-        "--victims=fewest",
-        "--crew=1",
-        "--detect=by-watcher",
-        "--rounds=2",
-    ];
-    let policy = Policy {
-        detect: Detect::ByWatcher,
-        victims: Victims::Fewest,
+    choose(&rt, alloc, &["--victims", "fewest"], FEWEST);
+    choose(&rt, alloc, &["--victims=fewest"], FEWEST);
+    choose(&rt, alloc, &["--victims", "youngest"], AT_BLOCK);
+    let words = ["--victims=fewest", "--detect=by-watcher"];
+    choose(&rt, alloc, &words, FEWEST_BY_WATCHER);
+}
+
+#[test]
+fn listings_stand_beside_the_plan(rt: HostRuntime) {
+    let alloc = rt.alloc();
+    choose(&rt, alloc, &["--listings"], LISTED);
+    choose(&rt, alloc, &["--detect", "at-block", "--listings"], LISTED);
+    let all = Choices {
+        listings: true,
+        ..FEWEST_BY_WATCHER
     };
-    let crew = Some(Plan::Crew {
-        sessions: 1,
-        rounds: 2,
-        policy,
-    });
-    assert_eq!(rt; planned(alloc, &words), crew);
+    let words = ["--listings", "--victims=fewest", "--detect=by-watcher"];
+    choose(&rt, alloc, &words, all);
 }
 
 #[test]
 fn all_else_is_refused(rt: HostRuntime) {
     for words in REFUSED {
+        assert_eq!(rt; wanted(rt.alloc(), words), None);
         assert_eq!(rt; planned(rt.alloc(), words), None);
         ends(&rt, rt.alloc(), words, 2, b"", b"gltool: bad words\n");
     }
@@ -169,6 +190,26 @@ fn the_plan_is_what_runs(rt: HostRuntime) {
     ends(&rt, alloc, &["--detect=by-watcher"], 0, LEFT_WAITING, b"");
 }
 
+/// The listings of a script are answered with the word alone.
+#[test]
+fn listings_run_by_their_word(rt: HostRuntime) -> Result<(), Fail> {
+    let alloc = rt.alloc();
+    let rows: [(&[&str], &[u8]); 3] = [
+        (&[], LISTS_UNLISTED),
+        (&["--victims=fewest"], LISTS_UNLISTED),
+        (&["--listings"], LISTS_LISTED),
+    ];
+    for (words, report) in rows {
+        let (mut reader, mut out) = (LISTS, Vec::with_capacity(alloc, 256)?);
+        let mut faults = Vec::with_capacity(alloc, 256)?;
+        let ended = program(&rt, alloc, words, &mut reader, &mut out, &mut faults);
+        assert_eq!(rt; ended, 0);
+        assert_eq!(rt; out.as_slice(), report);
+        assert!(rt; faults.is_empty());
+    }
+    Ok(())
+}
+
 /// Ends with status 0, and has read nothing and written this line.
 fn counts<H: Threads + Wait + Sync + Abort>(rt: &H, alloc: Global, words: &[&str], line: &[u8]) {
     let (mut reader, mut out) = (SCRIPT, Vec::new(alloc));
@@ -180,25 +221,58 @@ fn counts<H: Threads + Wait + Sync + Abort>(rt: &H, alloc: Global, words: &[&str
     assert!(rt; faults.is_empty());
 }
 
+/// The words ask for this crew, and their plan is it without the choice of victims.
+fn crews<A: Abort>(rt: &A, alloc: Global, words: &[&str], crew: Asked) {
+    assert_eq!(rt; wanted(alloc, words), Some(crew));
+    assert_eq!(rt; planned(alloc, words), Some(crew.plan()));
+}
+
 #[test]
 fn both_numbers_are_a_crew(rt: HostRuntime) {
     let alloc = rt.alloc();
-    let crew = Some(Plan::Crew {
+    let crew = Plan::Crew {
         sessions: 128,
         rounds: 100_000,
-        policy: AT_BLOCK,
-    });
-    assert_eq!(rt;
-        planned(alloc, &["--crew", "128", "--rounds", "100000"]),
-        crew
-    );
-    let crew = Some(Plan::Crew {
+        detect: Detect::AtBlock,
+    };
+    let words = ["--crew", "128", "--rounds", "100000"];
+    assert_eq!(rt; planned(alloc, &words), Some(crew));
+    let crew = Plan::Crew {
         sessions: 1,
         rounds: 2,
-        policy: BY_WATCHER,
-    });
+        detect: Detect::ByWatcher,
+    };
     let words = ["--rounds=2", "--crew=1", "--detect=by-watcher"];
-    assert_eq!(rt; planned(alloc, &words), crew);
+    assert_eq!(rt; planned(alloc, &words), Some(crew));
+}
+
+#[test]
+fn a_crew_may_choose_its_victims(rt: HostRuntime) {
+    let alloc = rt.alloc();
+    let eight = [
+        "--detect",
+        "by-watcher",
+        "--victims",
+        "fewest",
+        "--crew",
+        "4",
+        "--rounds",
+        "100",
+    ];
+    let crew = Asked::Crew {
+        sessions: 4,
+        rounds: 100,
+        detect: Detect::ByWatcher,
+        victims: Victims::Fewest,
+    };
+    crews(&rt, alloc, &eight, crew);
+    let crew = Asked::Crew {
+        sessions: 1,
+        rounds: 2,
+        detect: Detect::AtBlock,
+        victims: Victims::Youngest,
+    };
+    crews(&rt, alloc, &["--crew=1", "--rounds=2"], crew);
 }
 
 #[test]

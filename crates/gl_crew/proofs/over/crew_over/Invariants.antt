@@ -1,6 +1,6 @@
 use Rattle.gl_table.specs.BoardOf.{board_of}
 use Rattle.gl_catalog.specs.Manager.{state_of}
-use Rattle.gl_crew.proofs.crews.crew_with.Given as goal
+use Rattle.gl_crew.proofs.over.crew_over.Given as goal
 
 abbrev pub ghosts-run_crew-N-Naming : goal.ghosts-run_crew-N-Naming
 ghosts-run_crew-N-Naming g a = record {
