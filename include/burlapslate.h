@@ -46,6 +46,12 @@
 extern "C" {
 #endif
 
+/* The version of what is declared here. The first number rises where a program has to be changed for it, the
+ * second where something is added, the third where neither. */
+#define BS_VERSION_MAJOR 0
+#define BS_VERSION_MINOR 4
+#define BS_VERSION_PATCH 0
+
 /* How many transactions can live at once, and so how many notices a call can have. */
 #define BS_SLOTS 128
 
@@ -94,8 +100,8 @@ enum bs_modes { BS_NL = 0, BS_IS = 1, BS_IX = 2, BS_S = 3, BS_SIX = 4, BS_X = 5 
 /* How deadlocks are found: when a transaction begins to wait, or by a watcher that reads boards. */
 enum bs_detects { BS_AT_BLOCK = 0, BS_BY_WATCHER = 1 };
 
-/* Whom a deadlock takes: the youngest of those on a circle of waits with the transaction that closed it,
- * again and again until it is on none; or the youngest of those that alone take it off all its circles,
+/* Whom a deadlock takes: the youngest of those on a cycle of waits with the transaction that closed it,
+ * again and again until it is on none; or the youngest of those that alone take it off all its cycles,
  * so that one is always enough. */
 enum bs_choices { BS_YOUNGEST = 0, BS_FEWEST = 1 };
 
@@ -312,9 +318,9 @@ static inline bs_reply bs_begin(bs_manager *manager) {
  * transaction holds the node already or nobody waits for it: a newcomer passes no queue, and one that holds
  * the node waits ahead of all newcomers. BS_DONE: `mode` is the mode now held. BS_WAITING: the transaction
  * waits, what it held stays held, and it does nothing else until a notice tells it the end, or it cancels or
- * aborts. BS_VICTIM: its wait closed a circle of waits, and it is one to give way: its wait is over, its
+ * aborts. BS_VICTIM: its wait closed a cycle of waits, and it is one to give way: its wait is over, its
  * locks stay, and all that it can do is abort.
- * Where a circle was closed others may fall too, also beside BS_VICTIM, and are told BS_TOLD_VICTIM; who
+ * Where a cycle was closed others may fall too, also beside BS_VICTIM, and are told BS_TOLD_VICTIM; who
  * stood behind a victim may be told BS_TOLD_GRANTED.
  * Refused with BS_NO_SUCH_TXN, BS_TXN_WAITING, BS_TXN_CONDEMNED, BS_NO_SUCH_NODE, BS_BAD_MODE,
  * BS_NEED_PARENTS, and with BS_BAD_NUMBER, first of all, where the mode is no number of enum bs_modes. Takes
@@ -356,7 +362,7 @@ static inline bs_reply bs_abort(bs_manager *manager, bs_txn txn, bs_notices *tol
   return bs_lacks(manager, told) ? bs_null() : bs_call_abort(manager, txn, told);
 }
 
-/* Condemns who is to fall for the transaction, by the choice of victims, until it is on no circle of waits;
+/* Condemns who is to fall for the transaction, by the choice of victims, until it is on no cycle of waits;
  * whoever is condemned is told BS_TOLD_VICTIM, its wait is over and its locks stay until it aborts; who
  * stood behind it may be told BS_TOLD_GRANTED. It is how a watcher ends deadlocks. Refused with
  * BS_NO_SUCH_TXN. */
@@ -533,7 +539,7 @@ static inline bs_reply bs_read_board(bs_manager *manager, bs_board *board) {
   return manager == NULL || board == NULL ? bs_null() : bs_call_board(manager, board);
 }
 
-/* The slots on a circle of waits with this slot, which are those that it reaches by waits and that reach it;
+/* The slots on a cycle of waits with this slot, which are those that it reaches by waits and that reach it;
  * none where it is on none. Refused with BS_NULL_POINTER, and BS_BAD_NUMBER where the slot is over 127.
  * Costs at most a step for each slot that it reaches, twice. */
 static inline bs_found bs_on_cycle(const bs_board *board, uint32_t slot) {
@@ -541,7 +547,7 @@ static inline bs_found bs_on_cycle(const bs_board *board, uint32_t slot) {
   return board == NULL ? null : bs_call_on_cycle(board, slot);
 }
 
-/* The slots that are on any circle of waits. Refused with BS_NULL_POINTER. Costs a pass over the rows
+/* The slots that are on any cycle of waits. Refused with BS_NULL_POINTER. Costs a pass over the rows
  * where nobody waits, else a step for each slot and each that waits. */
 static inline bs_found bs_suspects(const bs_board *board) {
   bs_found null = { BS_NULL_POINTER, { 0, 0 } };

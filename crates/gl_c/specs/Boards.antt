@@ -8,7 +8,7 @@ use Rattle.gl_table.specs.BoardOf.{board_of}
 use Rattle.gl_catalog.specs.Manager.{ManagerView, state_of}
 use Rattle.gl_c.specs.declared.board.Board.{Board}
 use Rattle.gl_c.specs.declared.board.Slots.{Slots}
-use Rattle.gl_c.specs.declared.boards.Found.{Found}
+use Rattle.gl_c.specs.declared.searches.Found.{Found}
 use Rattle.gl_c.specs.declared.reply.Reply.{Reply}
 use Rattle.gl_c.specs.Carries.{Declines}
 use Rattle.gl_c.specs.Numbers.{bad_number, done, no_manager, no_place}

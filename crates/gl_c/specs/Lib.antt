@@ -5,7 +5,7 @@ pub mod Held
 pub mod Looks
 pub mod Managing
 pub mod Names
-pub mod Notes
+pub mod Notices
 pub mod Numbers
 pub mod Replies
 pub mod Session

@@ -20,8 +20,8 @@ use Rattle.gl_table.specs.State.{lives, members, status_of}
 use Rattle.gl_catalog.specs.declared.command.Answer.TheVariants as answer
 use Rattle.gl_catalog.specs.Manager.{ManagerView, state_of}
 use Rattle.gl_catalog.specs.Replies.{wait_of}
-use Rattle.gl_c.specs.declared.query.Query.{Query}
-use Rattle.gl_c.specs.declared.query.Query.TheVariants as query
+use Rattle.gl_c.specs.declared.look.Query.{Query}
+use Rattle.gl_c.specs.declared.look.Query.TheVariants as query
 use Rattle.gl_c.specs.declared.reply.Reply.{Reply}
 use Rattle.gl_c.specs.Carries.{Declines}
 use Rattle.gl_c.specs.Names.{node_of}

@@ -15,8 +15,6 @@ use std::alloc::Global;
 
 /// Makes a manager at a place that has none, for `most` transactions at once, 1 to 128, with the way
 /// of detection of this number. Of those in a deadlock the youngest falls. It takes memory.
-///
-/// What C keeps: `manager` was zero before its first call and is used by this one alone.
 #[unsafe(no_mangle)]
 pub extern "C" fn bs_call_make(manager: &mut Handle, alloc: Global, detect: u32, most: u32) -> Reply
     ensures { Makes (manager_in manager.old) detect 0 most result (manager_in manager.new) }
@@ -25,8 +23,6 @@ pub extern "C" fn bs_call_make(manager: &mut Handle, alloc: Global, detect: u32,
 }
 
 /// As `bs_call_make`, with the choice of victims of this number.
-///
-/// What C keeps: `manager` was zero before its first call and is used by this one alone.
 #[unsafe(no_mangle)]
 pub extern "C" fn bs_call_make_choosing(
     manager: &mut Handle,
@@ -79,8 +75,6 @@ fn make(manager: &mut Handle, alloc: Global, detect: Detect, victims: Victims, m
 }
 
 /// Ends a manager, and gives back all the memory that it took; its place has none from then on.
-///
-/// What C keeps: `manager` was zero before its first call and is used by this one alone.
 #[unsafe(no_mangle)]
 pub extern "C" fn bs_call_end(manager: &mut Handle) -> Reply
     ensures replied { result ≡ ended (manager_in manager.old) }

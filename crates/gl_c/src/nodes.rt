@@ -14,9 +14,6 @@ use crate::reply::Reply;
 use gl_catalog::Command;
 
 /// A new inner node, under 0 to 8 inner nodes; without parents it is a root.
-///
-/// What C keeps: `manager` was zero before its first call and is used by this one alone; `parents`
-/// has as many as the count behind it says.
 #[unsafe(no_mangle)]
 pub extern "C" fn bs_call_add_inner(manager: &mut Handle, parents: &[Node]) -> Reply
     ensures { Under parents.now (λ ids. Asks (manager_in manager.old) (command.Inner ids) result (manager_in manager.new)) (Declines (manager_in manager.old) bad_number result (manager_in manager.new)) }
@@ -30,9 +27,6 @@ pub extern "C" fn bs_call_add_inner(manager: &mut Handle, parents: &[Node]) -> R
 }
 
 /// A new file, under 1 to 8 inner nodes.
-///
-/// What C keeps: `manager` was zero before its first call and is used by this one alone; `parents`
-/// has as many as the count behind it says.
 #[unsafe(no_mangle)]
 pub extern "C" fn bs_call_add_file(manager: &mut Handle, parents: &[Node]) -> Reply
     ensures { Under parents.now (λ ids. Asks (manager_in manager.old) (command.File ids) result (manager_in manager.new)) (Declines (manager_in manager.old) bad_number result (manager_in manager.new)) }
@@ -47,9 +41,6 @@ pub extern "C" fn bs_call_add_file(manager: &mut Handle, parents: &[Node]) -> Re
 
 /// A new index of a file without records, under 1 to 8 inner nodes, with at most 256 rising bounds
 /// above 0 that part its intervals.
-///
-/// What C keeps: `manager` was zero before its first call and is used by this one alone; `parents`
-/// and `bounds` have as many as the count behind each says.
 #[unsafe(no_mangle)]
 pub extern "C" fn bs_call_add_index(
     manager: &mut Handle,

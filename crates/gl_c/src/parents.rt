@@ -5,10 +5,7 @@ ghost use Rattle.gl_c.specs.Names.{node_id};
 
 use crate::names::Node;
 use arrayvec::ArrayVec;
-use gl_modes::NodeId;
-
-/// How many parents a node may have.
-pub(crate) const MOST_PARENTS: usize = 8;
+use gl_modes::{MOST_PARENTS, NodeId};
 
 /// The names of these parents; `None` where there are more than a node may have.
 pub(crate) fn parent_ids(parents: &[Node]) -> Option<ArrayVec<NodeId, MOST_PARENTS>>

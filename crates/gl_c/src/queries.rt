@@ -1,21 +1,19 @@
 //! Questions, which change nothing. They take no memory, but for the effective mode.
 
 ghost use Rattle.gl_catalog.specs.declared.command.Command.TheVariants as command;
-ghost use Rattle.gl_c.specs.declared.query.Query.TheVariants as query;
+ghost use Rattle.gl_c.specs.declared.look.Query.TheVariants as query;
 ghost use Rattle.gl_c.specs.Carries.{Asks};
 ghost use Rattle.gl_c.specs.Handle.{manager_in};
 ghost use Rattle.gl_c.specs.Looks.{Looks};
 ghost use Rattle.gl_c.specs.Names.{node_id, txn_id};
 
 use crate::handle::Handle;
+use crate::look::Query;
 use crate::names::{Node, Txn};
-use crate::query::Query;
 use crate::reply::Reply;
 use gl_catalog::Command;
 
 /// The group mode of a node, which is the supremum of the modes in which it is held.
-///
-/// What C keeps: `manager` was zero before its first call and is used by this one alone.
 #[unsafe(no_mangle)]
 pub extern "C" fn bs_call_group(manager: &mut Handle, node: Node) -> Reply
     ensures { Asks (manager_in manager.old) (command.Group (node_id node)) result (manager_in manager.new) }
@@ -24,8 +22,6 @@ pub extern "C" fn bs_call_group(manager: &mut Handle, node: Node) -> Reply
 }
 
 /// The mode in which a transaction holds a node.
-///
-/// What C keeps: `manager` was zero before its first call and is used by this one alone.
 #[unsafe(no_mangle)]
 pub extern "C" fn bs_call_held(manager: &mut Handle, txn: Txn, node: Node) -> Reply
     ensures { Asks (manager_in manager.old) (command.Held (txn_id txn) (node_id node)) result (manager_in manager.new) }
@@ -37,8 +33,6 @@ pub extern "C" fn bs_call_held(manager: &mut Handle, txn: Txn, node: Node) -> Re
 }
 
 /// What a transaction may do to a node by all its locks together. It takes memory.
-///
-/// What C keeps: `manager` was zero before its first call and is used by this one alone.
 #[unsafe(no_mangle)]
 pub extern "C" fn bs_call_effective(manager: &mut Handle, txn: Txn, node: Node) -> Reply
     ensures { Asks (manager_in manager.old) (command.Effective (txn_id txn) (node_id node)) result (manager_in manager.new) }
@@ -50,8 +44,6 @@ pub extern "C" fn bs_call_effective(manager: &mut Handle, txn: Txn, node: Node) 
 }
 
 /// The node for which a transaction waits, and the wanted mode.
-///
-/// What C keeps: `manager` was zero before its first call and is used by this one alone.
 #[unsafe(no_mangle)]
 pub extern "C" fn bs_call_waiting(manager: &mut Handle, txn: Txn) -> Reply
     ensures { Looks (manager_in manager.old) (query.Waiting (txn_id txn)) result (manager_in manager.new) }
@@ -60,8 +52,6 @@ pub extern "C" fn bs_call_waiting(manager: &mut Handle, txn: Txn) -> Reply
 }
 
 /// How many children of a node a transaction holds.
-///
-/// What C keeps: `manager` was zero before its first call and is used by this one alone.
 #[unsafe(no_mangle)]
 pub extern "C" fn bs_call_children(manager: &mut Handle, txn: Txn, node: Node) -> Reply
     ensures { Looks (manager_in manager.old) (query.Children (txn_id txn) (node_id node)) result (manager_in manager.new) }
@@ -73,8 +63,6 @@ pub extern "C" fn bs_call_children(manager: &mut Handle, txn: Txn, node: Node) -
 }
 
 /// What a node is.
-///
-/// What C keeps: `manager` was zero before its first call and is used by this one alone.
 #[unsafe(no_mangle)]
 pub extern "C" fn bs_call_kind(manager: &mut Handle, node: Node) -> Reply
     ensures { Looks (manager_in manager.old) (query.Kind (node_id node)) result (manager_in manager.new) }
@@ -83,8 +71,6 @@ pub extern "C" fn bs_call_kind(manager: &mut Handle, node: Node) -> Reply
 }
 
 /// A parent of a node, by its place.
-///
-/// What C keeps: `manager` was zero before its first call and is used by this one alone.
 #[unsafe(no_mangle)]
 pub extern "C" fn bs_call_parent(manager: &mut Handle, node: Node, place: usize) -> Reply
     ensures { Looks (manager_in manager.old) (query.Parent (node_id node) place) result (manager_in manager.new) }
@@ -96,8 +82,6 @@ pub extern "C" fn bs_call_parent(manager: &mut Handle, node: Node, place: usize)
 }
 
 /// A key of a record, by the place of the index.
-///
-/// What C keeps: `manager` was zero before its first call and is used by this one alone.
 #[unsafe(no_mangle)]
 pub extern "C" fn bs_call_key(manager: &mut Handle, rec: Node, place: usize) -> Reply
     ensures { Looks (manager_in manager.old) (query.Key (node_id rec) place) result (manager_in manager.new) }
@@ -109,8 +93,6 @@ pub extern "C" fn bs_call_key(manager: &mut Handle, rec: Node, place: usize) -> 
 }
 
 /// An index of a file, by its place in the order of making.
-///
-/// What C keeps: `manager` was zero before its first call and is used by this one alone.
 #[unsafe(no_mangle)]
 pub extern "C" fn bs_call_index(manager: &mut Handle, file: Node, place: usize) -> Reply
     ensures { Looks (manager_in manager.old) (query.Index (node_id file) place) result (manager_in manager.new) }
@@ -122,8 +104,6 @@ pub extern "C" fn bs_call_index(manager: &mut Handle, file: Node, place: usize) 
 }
 
 /// An interval of an index, by its place.
-///
-/// What C keeps: `manager` was zero before its first call and is used by this one alone.
 #[unsafe(no_mangle)]
 pub extern "C" fn bs_call_interval(manager: &mut Handle, index: Node, place: usize) -> Reply
     ensures { Looks (manager_in manager.old) (query.Interval (node_id index) place) result (manager_in manager.new) }
@@ -135,8 +115,6 @@ pub extern "C" fn bs_call_interval(manager: &mut Handle, index: Node, place: usi
 }
 
 /// The interval of an index in which a key lies.
-///
-/// What C keeps: `manager` was zero before its first call and is used by this one alone.
 #[unsafe(no_mangle)]
 pub extern "C" fn bs_call_interval_of(manager: &mut Handle, index: Node, key: u64) -> Reply
     ensures { Looks (manager_in manager.old) (query.IntervalOf (node_id index) key) result (manager_in manager.new) }
@@ -148,8 +126,6 @@ pub extern "C" fn bs_call_interval_of(manager: &mut Handle, index: Node, key: u6
 }
 
 /// The place of an interval in its index.
-///
-/// What C keeps: `manager` was zero before its first call and is used by this one alone.
 #[unsafe(no_mangle)]
 pub extern "C" fn bs_call_place(manager: &mut Handle, interval: Node) -> Reply
     ensures { Looks (manager_in manager.old) (query.Place (node_id interval)) result (manager_in manager.new) }
@@ -160,8 +136,6 @@ pub extern "C" fn bs_call_place(manager: &mut Handle, interval: Node) -> Reply
 }
 
 /// Whether a file has records.
-///
-/// What C keeps: `manager` was zero before its first call and is used by this one alone.
 #[unsafe(no_mangle)]
 pub extern "C" fn bs_call_has_records(manager: &mut Handle, file: Node) -> Reply
     ensures { Looks (manager_in manager.old) (query.HasRecords (node_id file)) result (manager_in manager.new) }
@@ -170,8 +144,6 @@ pub extern "C" fn bs_call_has_records(manager: &mut Handle, file: Node) -> Reply
 }
 
 /// How many nodes live.
-///
-/// What C keeps: `manager` was zero before its first call and is used by this one alone.
 #[unsafe(no_mangle)]
 pub extern "C" fn bs_call_len(manager: &mut Handle) -> Reply
     ensures { Looks (manager_in manager.old) query.Len result (manager_in manager.new) }
@@ -180,8 +152,6 @@ pub extern "C" fn bs_call_len(manager: &mut Handle) -> Reply
 }
 
 /// How many commands were accepted.
-///
-/// What C keeps: `manager` was zero before its first call and is used by this one alone.
 #[unsafe(no_mangle)]
 pub extern "C" fn bs_call_accepted(manager: &mut Handle) -> Reply
     ensures { Looks (manager_in manager.old) query.Accepted result (manager_in manager.new) }
@@ -190,8 +160,6 @@ pub extern "C" fn bs_call_accepted(manager: &mut Handle) -> Reply
 }
 
 /// How deadlocks are found.
-///
-/// What C keeps: `manager` was zero before its first call and is used by this one alone.
 #[unsafe(no_mangle)]
 pub extern "C" fn bs_call_detect(manager: &mut Handle) -> Reply
     ensures { Looks (manager_in manager.old) query.Detect result (manager_in manager.new) }
@@ -200,8 +168,6 @@ pub extern "C" fn bs_call_detect(manager: &mut Handle) -> Reply
 }
 
 /// Whom a deadlock takes.
-///
-/// What C keeps: `manager` was zero before its first call and is used by this one alone.
 #[unsafe(no_mangle)]
 pub extern "C" fn bs_call_victims(manager: &mut Handle) -> Reply
     ensures { Looks (manager_in manager.old) query.Victims result (manager_in manager.new) }

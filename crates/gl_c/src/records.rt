@@ -5,21 +5,18 @@ ghost use Rattle.gl_catalog.specs.declared.command.Command.TheVariants as comman
 ghost use Rattle.gl_c.specs.Carries.{Asks, Carries, Declines, Under};
 ghost use Rattle.gl_c.specs.Handle.{manager_in};
 ghost use Rattle.gl_c.specs.Names.{node_id, txn_id};
-ghost use Rattle.gl_c.specs.Notes.{Tells};
+ghost use Rattle.gl_c.specs.Notices.{Tells};
 ghost use Rattle.gl_c.specs.Numbers.{bad_number};
 
 use crate::handle::Handle;
 use crate::names::{Node, Txn};
-use crate::notes::Notes;
+use crate::notices::Notices;
 use crate::numbers::BAD_NUMBER;
 use crate::parents::parent_ids;
 use crate::reply::Reply;
 use gl_catalog::Command;
 
 /// A new record of a file, with a key for each of its indexes, held in X.
-///
-/// What C keeps: `manager` was zero before its first call and is used by this one alone; `keys` has
-/// as many as the count behind it says.
 #[unsafe(no_mangle)]
 pub extern "C" fn bs_call_insert(manager: &mut Handle, txn: Txn, file: Node, keys: &[u64]) -> Reply
     ensures { Asks (manager_in manager.old) (command.Insert (txn_id txn) (node_id file) keys.entry) result (manager_in manager.new) }
@@ -32,15 +29,12 @@ pub extern "C" fn bs_call_insert(manager: &mut Handle, txn: Txn, file: Node, key
 }
 
 /// Takes a record away.
-///
-/// What C keeps: `manager` was zero before its first call and is used by this one alone; `told` has
-/// room for notices, apart from all else.
 #[unsafe(no_mangle)]
 pub extern "C" fn bs_call_delete(
     manager: &mut Handle,
     txn: Txn,
     rec: Node,
-    told: &mut Notes,
+    told: &mut Notices,
 ) -> Reply
     ensures { Carries (manager_in manager.old) (command.Delete (txn_id txn) (node_id rec)) result told.new (manager_in manager.new) }
 {
@@ -52,9 +46,6 @@ pub extern "C" fn bs_call_delete(
 }
 
 /// Gives a record another key for one index.
-///
-/// What C keeps: `manager` was zero before its first call and is used by this one alone; `told` has
-/// room for notices, apart from all else.
 #[unsafe(no_mangle)]
 pub extern "C" fn bs_call_rekey(
     manager: &mut Handle,
@@ -62,7 +53,7 @@ pub extern "C" fn bs_call_rekey(
     rec: Node,
     index: Node,
     key: u64,
-    told: &mut Notes,
+    told: &mut Notices,
 ) -> Reply
     ensures { Carries (manager_in manager.old) (command.Rekey (txn_id txn) (node_id rec) (node_id index) key) result told.new (manager_in manager.new) }
 {
@@ -76,16 +67,13 @@ pub extern "C" fn bs_call_rekey(
 }
 
 /// Gives an inner node, a file or an index other parents.
-///
-/// What C keeps: `manager` was zero before its first call and is used by this one alone; `told` has
-/// room for notices, apart from all else; `parents` has as many as the count behind it says.
 #[unsafe(no_mangle)]
 pub extern "C" fn bs_call_move(
     manager: &mut Handle,
     txn: Txn,
     node: Node,
     parents: &[Node],
-    told: &mut Notes,
+    told: &mut Notices,
 ) -> Reply
     ensures { Under parents.now (λ ids. Carries (manager_in manager.old) (command.Move (txn_id txn) (node_id node) ids) result told.new (manager_in manager.new)) (Declines (manager_in manager.old) bad_number result (manager_in manager.new) × Tells told.new []) }
 {

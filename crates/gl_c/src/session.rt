@@ -8,8 +8,8 @@ ghost use Rattle.gl_catalog.specs.Manager.{state_of};
 ghost use Rattle.gl_c.specs.Carries.{Answers, Replies};
 ghost use Rattle.gl_c.specs.Looks.{looked};
 
-use crate::notes::Notes;
-use crate::query::{Query, look};
+use crate::look::{Query, look};
+use crate::notices::Notices;
 use crate::reply::Reply;
 use gl_catalog::{Command, Manager};
 use gl_modes::Refusal;
@@ -60,11 +60,11 @@ impl Session {
     }
 
     /// Carries out a command, and writes down whom it tells.
-    pub(crate) fn carry_out(&mut self, command: Command<'_>, notes: &mut Notes) -> Reply
-        ensures { Replies self.old command.entry result notes.new self.new }
+    pub(crate) fn carry_out(&mut self, command: Command<'_>, notices: &mut Notices) -> Reply
+        ensures { Replies self.old command.entry result notices.new self.new }
     {
         let answer = self.manager.apply_telling(command, &mut self.told);
-        notes.put(self.told.as_slice());
+        notices.put(self.told.as_slice());
         self.told.clear();
         Reply::of(answer)
     }

@@ -5,19 +5,17 @@ ghost use Rattle.gl_catalog.specs.declared.command.Command.TheVariants as comman
 ghost use Rattle.gl_c.specs.Carries.{Asks, Carries, Declines, Where};
 ghost use Rattle.gl_c.specs.Handle.{manager_in};
 ghost use Rattle.gl_c.specs.Names.{node_id, txn_id};
-ghost use Rattle.gl_c.specs.Notes.{Tells};
+ghost use Rattle.gl_c.specs.Notices.{Tells};
 ghost use Rattle.gl_c.specs.Numbers.{bad_number, mode_at};
 
 use crate::handle::Handle;
 use crate::names::{Node, Txn};
-use crate::notes::Notes;
+use crate::notices::Notices;
 use crate::numbers::{BAD_NUMBER, mode_at};
 use crate::reply::Reply;
 use gl_catalog::Command;
 
 /// A new transaction.
-///
-/// What C keeps: `manager` was zero before its first call and is used by this one alone.
 #[unsafe(no_mangle)]
 pub extern "C" fn bs_call_begin(manager: &mut Handle) -> Reply
     ensures { Asks (manager_in manager.old) command.Begin result (manager_in manager.new) }
@@ -26,16 +24,13 @@ pub extern "C" fn bs_call_begin(manager: &mut Handle) -> Reply
 }
 
 /// Asks for a lock, and waits where it cannot be granted at once.
-///
-/// What C keeps: `manager` was zero before its first call and is used by this one alone; `told` has
-/// room for notices, apart from all else.
 #[unsafe(no_mangle)]
 pub extern "C" fn bs_call_lock(
     manager: &mut Handle,
     txn: Txn,
     node: Node,
     mode: u32,
-    told: &mut Notes,
+    told: &mut Notices,
 ) -> Reply
     ensures { Where (mode_at mode) (λ wanted. Carries (manager_in manager.old) (command.Lock (txn_id txn) (node_id node) wanted) result told.new (manager_in manager.new)) (Declines (manager_in manager.old) bad_number result (manager_in manager.new) × Tells told.new []) }
 {
@@ -52,8 +47,6 @@ pub extern "C" fn bs_call_lock(
 }
 
 /// Asks for a lock, and is refused where it cannot be granted at once.
-///
-/// What C keeps: `manager` was zero before its first call and is used by this one alone.
 #[unsafe(no_mangle)]
 pub extern "C" fn bs_call_try(manager: &mut Handle, txn: Txn, node: Node, mode: u32) -> Reply
     ensures { Where (mode_at mode) (λ wanted. Asks (manager_in manager.old) (command.Try (txn_id txn) (node_id node) wanted) result (manager_in manager.new)) (Declines (manager_in manager.old) bad_number result (manager_in manager.new)) }
@@ -69,15 +62,12 @@ pub extern "C" fn bs_call_try(manager: &mut Handle, txn: Txn, node: Node, mode: 
 }
 
 /// Releases one node, of which no child is held.
-///
-/// What C keeps: `manager` was zero before its first call and is used by this one alone; `told` has
-/// room for notices, apart from all else.
 #[unsafe(no_mangle)]
 pub extern "C" fn bs_call_unlock(
     manager: &mut Handle,
     txn: Txn,
     node: Node,
-    told: &mut Notes,
+    told: &mut Notices,
 ) -> Reply
     ensures { Carries (manager_in manager.old) (command.Unlock (txn_id txn) (node_id node)) result told.new (manager_in manager.new) }
 {
@@ -89,15 +79,12 @@ pub extern "C" fn bs_call_unlock(
 }
 
 /// Raises the lock of a node, and releases the children whose locks it then implies.
-///
-/// What C keeps: `manager` was zero before its first call and is used by this one alone; `told` has
-/// room for notices, apart from all else.
 #[unsafe(no_mangle)]
 pub extern "C" fn bs_call_escalate(
     manager: &mut Handle,
     txn: Txn,
     node: Node,
-    told: &mut Notes,
+    told: &mut Notices,
 ) -> Reply
     ensures { Carries (manager_in manager.old) (command.Escalate (txn_id txn) (node_id node)) result told.new (manager_in manager.new) }
 {
@@ -109,44 +96,32 @@ pub extern "C" fn bs_call_escalate(
 }
 
 /// Takes a wait back.
-///
-/// What C keeps: `manager` was zero before its first call and is used by this one alone; `told` has
-/// room for notices, apart from all else.
 #[unsafe(no_mangle)]
-pub extern "C" fn bs_call_cancel(manager: &mut Handle, txn: Txn, told: &mut Notes) -> Reply
+pub extern "C" fn bs_call_cancel(manager: &mut Handle, txn: Txn, told: &mut Notices) -> Reply
     ensures { Carries (manager_in manager.old) (command.Cancel (txn_id txn)) result told.new (manager_in manager.new) }
 {
     manager.carry_out(Command::Cancel { txn: txn.id() }, told)
 }
 
 /// Ends a transaction, and releases everything.
-///
-/// What C keeps: `manager` was zero before its first call and is used by this one alone; `told` has
-/// room for notices, apart from all else.
 #[unsafe(no_mangle)]
-pub extern "C" fn bs_call_commit(manager: &mut Handle, txn: Txn, told: &mut Notes) -> Reply
+pub extern "C" fn bs_call_commit(manager: &mut Handle, txn: Txn, told: &mut Notices) -> Reply
     ensures { Carries (manager_in manager.old) (command.Commit (txn_id txn)) result told.new (manager_in manager.new) }
 {
     manager.carry_out(Command::Commit { txn: txn.id() }, told)
 }
 
 /// Ends a transaction and releases everything, also while it waits or is condemned.
-///
-/// What C keeps: `manager` was zero before its first call and is used by this one alone; `told` has
-/// room for notices, apart from all else.
 #[unsafe(no_mangle)]
-pub extern "C" fn bs_call_abort(manager: &mut Handle, txn: Txn, told: &mut Notes) -> Reply
+pub extern "C" fn bs_call_abort(manager: &mut Handle, txn: Txn, told: &mut Notices) -> Reply
     ensures { Carries (manager_in manager.old) (command.Abort (txn_id txn)) result told.new (manager_in manager.new) }
 {
     manager.carry_out(Command::Abort { txn: txn.id() }, told)
 }
 
-/// Condemns the youngest on a cycle with a transaction until it is on none.
-///
-/// What C keeps: `manager` was zero before its first call and is used by this one alone; `told` has
-/// room for notices, apart from all else.
+/// Condemns those who lie on a cycle with a transaction, by the manager's choice of victims, until it is on none.
 #[unsafe(no_mangle)]
-pub extern "C" fn bs_call_settle(manager: &mut Handle, txn: Txn, told: &mut Notes) -> Reply
+pub extern "C" fn bs_call_settle(manager: &mut Handle, txn: Txn, told: &mut Notices) -> Reply
     ensures { Carries (manager_in manager.old) (command.Settle (txn_id txn)) result told.new (manager_in manager.new) }
 {
     manager.carry_out(Command::Settle { txn: txn.id() }, told)

@@ -167,7 +167,7 @@ impl Board {
         }
     }
 
-    /// The slots on a circle of waits with this slot; none where it is on none, or there is no such
+    /// The slots on a cycle of waits with this slot; none where it is on none, or there is no such
     /// slot.
     ///
     /// Costs at most a step for each slot that it reaches, twice.
@@ -179,7 +179,7 @@ impl Board {
         }
     }
 
-    /// The slots that are on any circle of waits.
+    /// The slots that are on any cycle of waits.
     ///
     /// Costs a pass over the rows where nobody waits, else a step for each slot and each that
     /// waits.
@@ -188,7 +188,7 @@ impl Board {
     }
 
     /// The youngest of these slots, which has the greatest age, of equal ages the lowest; `None`
-    /// where there is no slot. It is whom a settle condemns first, of those on a circle.
+    /// where there is no slot. It is whom a settle condemns first, of those on a cycle.
     pub fn youngest(&self, slots: Slots) -> Option<usize> {
         let reply = sys::bs_call_youngest(&self.0, slots);
         match reply.status {

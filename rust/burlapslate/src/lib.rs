@@ -119,5 +119,8 @@ pub use refusal::Refusal;
 /// How many transactions can live at once in a manager, and so how many notices a command can have.
 pub const SLOTS: usize = 128;
 
+/// The version of this crate, which is that of `include/burlapslate.h`.
+pub const VERSION: &str = env!("CARGO_PKG_VERSION");
+
 /// How many parents a node can have.
 pub const MOST_PARENTS: usize = 8;

@@ -19,7 +19,7 @@ pub enum Asked {
     /// The transaction waits, and does nothing else until a notice of another's command tells it
     /// the end, or it cancels or aborts. [`Manager::waiting`] says for what.
     Waiting,
-    /// Its wait closed a circle of waits, and it is the one to give way: it is condemned, keeps its
+    /// Its wait closed a cycle of waits, and it is the one to give way: it is condemned, keeps its
     /// locks, and can only abort.
     Victim,
 }
@@ -175,8 +175,8 @@ impl Manager {
     /// [`X`](Mode::X)) intentions to write or more on all parents. What is held and what is asked
     /// join.
     ///
-    /// Where it is not granted at once the transaction waits, and with detection at block the
-    /// youngest of those on a circle of waits with it are condemned until it is on none: others are
+    /// Where it is not granted at once the transaction waits, and with detection at block victims are
+    /// condemned, by the choice of [`Victims`](crate::Victims), until it is on no cycle: others are
     /// told [`Notice::Victim`](crate::Notice::Victim), it itself is answered [`Asked::Victim`]. As
     /// those who are condemned leave their queues, others may be granted, and it itself.
     ///
@@ -289,8 +289,8 @@ impl Manager {
         Ok(Notices::of(told))
     }
 
-    /// Condemns the youngest on a circle of waits with the transaction, again and again until it is
-    /// on none; whoever is condemned is told [`Notice::Victim`](crate::Notice::Victim), the
+    /// Condemns victims, by the choice of [`Victims`](crate::Victims), until the transaction is on no
+    /// cycle of waits; whoever is condemned is told [`Notice::Victim`](crate::Notice::Victim), the
     /// transaction itself among them. It is how a watcher ends deadlocks.
     ///
     /// Refused with [`WornOut`](Refusal::WornOut), [`NoSuchTxn`](Refusal::NoSuchTxn). Takes no

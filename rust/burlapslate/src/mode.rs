@@ -85,11 +85,11 @@ impl Kind {
 #[repr(u32)]
 #[derive(Clone, Copy, PartialEq, Eq, Hash, Debug)]
 pub enum Detect {
-    /// When a transaction begins to wait: a lock that closes a circle of waits has a victim at
+    /// When a transaction begins to wait: a lock that closes a cycle of waits has a victim at
     /// once.
     AtBlock = 0,
     /// By a watcher of yours, which reads boards ([`Manager::board`](crate::Manager::board)) and
-    /// asks [`Manager::settle`](crate::Manager::settle) for victims. Until then a circle of waits
+    /// asks [`Manager::settle`](crate::Manager::settle) for victims. Until then a cycle of waits
     /// stands.
     ByWatcher = 1,
 }
@@ -109,10 +109,10 @@ impl Detect {
 #[repr(u32)]
 #[derive(Clone, Copy, PartialEq, Eq, Hash, Debug)]
 pub enum Victims {
-    /// The youngest of those on a circle with the transaction that closed it, again and again until
+    /// The youngest of those on a cycle with the transaction that closed it, again and again until
     /// it is on none.
     Youngest = 0,
-    /// The youngest of those that alone take that transaction off all its circles, so that one is
+    /// The youngest of those that alone take that transaction off all its cycles, so that one is
     /// always enough.
     Fewest = 1,
 }

@@ -166,7 +166,7 @@ impl Bank {
         self.changed.notify_one();
     }
 
-    /// Looks for circles of waits whenever a wait began, until all sessions have ended.
+    /// Looks for cycles of waits whenever a wait began, until all sessions have ended.
     fn watch(&self) {
         let mut board = Board::new();
         let mut seen = 0;

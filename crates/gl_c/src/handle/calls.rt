@@ -10,9 +10,9 @@ ghost use Rattle.gl_c.specs.Looks.{Looks};
 use super::Handle;
 use crate::board::Board;
 use crate::held::Held;
-use crate::notes::Notes;
+use crate::look::Query;
+use crate::notices::Notices;
 use crate::numbers::{DONE, NO_MANAGER};
-use crate::query::Query;
 use crate::reply::Reply;
 use crate::session::Session;
 use gl_catalog::Command;
@@ -71,7 +71,7 @@ impl Handle {
     }
 
     /// Carries out a command, and writes down whom it tells.
-    pub(crate) fn carry_out(&mut self, command: Command<'_>, told: &mut Notes) -> Reply
+    pub(crate) fn carry_out(&mut self, command: Command<'_>, told: &mut Notices) -> Reply
         ensures { Carries (manager_in self.old) command.entry result told.new (manager_in self.new) }
     {
         let alloc = self.alloc;

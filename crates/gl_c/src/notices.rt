@@ -1,18 +1,18 @@
 //! What is told to C.
 
 ghost use Rattle.std.specs.Prelude.{◌≡◌, ◌≤◌, [], length};
-ghost use Rattle.gl_c.specs.Notes.{Tells, bare_note, note_of};
+ghost use Rattle.gl_c.specs.Notices.{Tells, bare_notice, notice_of};
 
 use crate::names::{Node, Txn};
 use crate::numbers::mode_number;
 use gl_modes::NodeId;
-use gl_table::{Notice, TxnId};
+use gl_table::{Notice as TableNotice, TxnId};
 use gl_waits::SLOTS;
 
 /// What a transaction is told of another's command.
 #[repr(C)]
 #[derive(Clone, Copy)]
-pub struct Note {
+pub struct Notice {
     /// Who is told.
     pub txn: Txn,
     /// The node that was granted; zero of the other kinds.
@@ -23,27 +23,27 @@ pub struct Note {
     pub mode: u32,
 }
 
-impl Note {
-    fn of(txn: TxnId, notice: Notice) -> Note
-        ensures { result ≡ note_of (txn, notice) }
+impl Notice {
+    fn of(txn: TxnId, notice: TableNotice) -> Notice
+        ensures { result ≡ notice_of (txn, notice) }
     {
         match notice {
-            Notice::Granted(node, mode) => Note {
+            TableNotice::Granted(node, mode) => Notice {
                 txn: Txn::of(txn),
                 node: Node::of(node),
                 kind: 1,
                 mode: mode_number(mode),
             },
-            Notice::Victim => Note::bare(txn, 2),
-            Notice::Moved => Note::bare(txn, 3),
-            Notice::Gone => Note::bare(txn, 4),
+            TableNotice::Victim => Notice::bare(txn, 2),
+            TableNotice::Moved => Notice::bare(txn, 3),
+            TableNotice::Gone => Notice::bare(txn, 4),
         }
     }
 
-    fn bare(txn: TxnId, kind: u32) -> Note
-        ensures { result ≡ bare_note txn kind }
+    fn bare(txn: TxnId, kind: u32) -> Notice
+        ensures { result ≡ bare_notice txn kind }
     {
-        Note {
+        Notice {
             txn: Txn::of(txn),
             node: Node::of(NodeId::NONE),
             kind,
@@ -55,13 +55,13 @@ impl Note {
 /// The notices of one command, at most one for each slot, by rising slot, in the caller's memory.
 #[repr(C)]
 #[derive(Clone, Copy)]
-pub struct Notes {
+pub struct Notices {
     /// How many places are used, from the first on.
     pub count: usize,
-    pub at: [Note; SLOTS],
+    pub at: [Notice; SLOTS],
 }
 
-impl Notes {
+impl Notices {
     /// Forgets what it has.
     pub(crate) fn clear(&mut self)
         ensures { Tells self.new [] }
@@ -70,12 +70,12 @@ impl Notes {
     }
 
     /// Has these, and nothing that it had before.
-    pub(crate) fn put(&mut self, told: &[(TxnId, Notice)])
+    pub(crate) fn put(&mut self, told: &[(TxnId, TableNotice)])
         requires { length told.now ≤ 128 }
         ensures { Tells self.new told.now }
     {
         for (place, (txn, notice)) in told.iter().enumerate() {
-            self.at[place] = Note::of(*txn, *notice);
+            self.at[place] = Notice::of(*txn, *notice);
         }
         self.count = told.len();
     }

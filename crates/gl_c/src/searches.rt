@@ -19,9 +19,6 @@ pub struct Found {
 }
 
 /// Writes down who waits for whom at this moment; the epoch is the count of accepted commands.
-///
-/// What C keeps: `manager` was zero before its first call and is used by this one alone; `board`
-/// has room for a board, apart from it.
 #[unsafe(no_mangle)]
 pub extern "C" fn bs_call_board(manager: &mut Handle, board: &mut Board) -> Reply
     ensures { Shows (manager_in manager.old) result board.old board.new (manager_in manager.new) }
@@ -30,8 +27,6 @@ pub extern "C" fn bs_call_board(manager: &mut Handle, board: &mut Board) -> Repl
 }
 
 /// The slots on a cycle of waits with a slot.
-///
-/// What C keeps: `board` is a board that nobody writes meanwhile.
 #[unsafe(no_mangle)]
 pub extern "C" fn bs_call_on_cycle(board: &Board, slot: u32) -> Found
     ensures { FindsCycle board.now slot result }
@@ -52,8 +47,6 @@ pub extern "C" fn bs_call_on_cycle(board: &Board, slot: u32) -> Found
 }
 
 /// The slots that are on a cycle of waits with any slot.
-///
-/// What C keeps: `board` is a board that nobody writes meanwhile.
 #[unsafe(no_mangle)]
 pub extern "C" fn bs_call_suspects(board: &Board) -> Found
     ensures { FindsSuspects board.now result }
@@ -66,8 +59,6 @@ pub extern "C" fn bs_call_suspects(board: &Board) -> Found
 }
 
 /// The youngest of these slots, of equal ages the lowest.
-///
-/// What C keeps: `board` is a board that nobody writes meanwhile.
 #[unsafe(no_mangle)]
 pub extern "C" fn bs_call_youngest(board: &Board, slots: Slots) -> Reply
     ensures { PicksFor board.now slots result }
