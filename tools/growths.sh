@@ -6,7 +6,7 @@
 # plays: the program `growths` prints the same as with no growth refused.
 # script: `gltool --listings` answers tools/every_form.script. Either it finds no memory, or bad words where its
 #   words were not read, before it has read anything; or one line is answered with want of memory, and all
-#   others as in the script without that line.
+#   others as in the script without that line. A growth that reading the words can do without changes nothing.
 # crews: `gltool` runs a small crew by each way of detection. It ends in time, and counts every command of
 #   its sessions (threads that could not be started among them), or says in one line that it did not.
 #
@@ -86,13 +86,14 @@ one_line_refused() {
 refuse_in_script() {
   local program=$top/crates/gltool/out/gltool status
   script=$top/tools/every_form.script
-  with_growth 0 "$program" --listings <"$script" >/dev/null || exit 1
+  local reads_words=yes
+  with_growth 0 "$program" --listings <"$script" >"$work/whole" || exit 1
   growths_of "the script"
   for ((n = 1; n <= growths; n++)); do
     status=$({ with_growth "$n" "$program" --listings >"$work/came" 2>"$work/fault"; echo $?; cat >"$work/left"; } <"$script")
     case $status in
-      0) one_line_refused ;;
-      1) ended_early "no memory" ;;
+      0) { [ "$reads_words" ] && cmp -s "$work/whole" "$work/came"; } || one_line_refused ;;
+      1) reads_words= && ended_early "no memory" ;;
       2) ended_early "bad words" ;;
       *) fail "status $status" ;;
     esac
