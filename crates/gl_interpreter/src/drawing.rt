@@ -7,7 +7,7 @@ ghost use Rattle.gl_interpreter.specs.Report.{ReadsWithin};
 
 use crate::answers::{put_number, put_place};
 use crate::desk::Desk;
-use crate::script::{RunFault, new_block, new_tool, pump};
+use crate::script::{RunFault, answer_script, new_block, new_tool};
 use crate::sink::{Sink, flush, new_sink, put, send};
 use arrayvec::ArrayString;
 use gl_modes::{Mode, NodeId};
@@ -125,7 +125,7 @@ pub fn picture<R: Read, W: Write>(
     let Some(mut tool) = new_tool(alloc, choices) else {
         return Err(RunFault::Memory);
     };
-    match pump(&mut tool, reader, &mut io::sink(), &mut block) {
+    match answer_script(&mut tool, reader, &mut io::sink(), &mut block) {
         Ok(()) => {}
         Err(fault) => return Err(fault),
     }

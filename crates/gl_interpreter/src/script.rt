@@ -95,7 +95,7 @@ pub fn run_choosing<R: Read, W: Write>(
     let Some(mut tool) = new_tool(alloc, choices) else {
         return Err(RunFault::Memory);
     };
-    pump(&mut tool, reader, writer, &mut block)
+    answer_script(&mut tool, reader, writer, &mut block)
 }
 
 /// Room for what one read gives.
@@ -117,7 +117,7 @@ pub(crate) fn new_tool(alloc: Global, choices: Choices) -> Option<Tool>
 }
 
 /// Answers a script by a new tool.
-pub(crate) fn pump<R: Read, W: Write>(
+pub(crate) fn answer_script<R: Read, W: Write>(
     tool: &mut Tool,
     reader: &mut R,
     writer: &mut W,

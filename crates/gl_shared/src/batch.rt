@@ -79,7 +79,7 @@ impl<'a, N: Naming> Session<'a, N> {
         ensures share { IfOk result (λ answers. self.new.share ≡ self.old.share + accepted_in commands.now answers.items) }
         ensures refused { IfErr result (λ refusal. refusal ≡ Refusal.NoMemory) }
         ensures err { OnErr result ((self.new.share ≡ self.old.share) × (self.new.served_at ≡ self.old.served_at)) }
-        ensures told { self.new.told ≡ self.old.told }
+        ensures noted { self.new.last_epoch ≡ self.old.last_epoch }
     {
         let Ok(mut answers) = Vec::with_capacity(alloc, commands.len()) else {
             return Err(Refusal::NoMemory);

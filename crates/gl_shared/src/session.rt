@@ -29,19 +29,19 @@ use std::sync::{MutexGuard, Wait};
 pub struct Session<'a, N: Naming> {
     pub(crate) shared: &'a Shared<N>,
     pub(crate) share: Share<N>,
-    pub(crate) told: u64,
+    pub(crate) last_epoch: u64,
     pub(crate) served_at: u64,
     pub(crate) notices: Told,
 }
 
 impl<'a, N: Naming> Session<'a, N> {
     pub fn new(shared: &'a Shared<N>, share: Share<N>) -> Session<'a, N>
-        ensures { (result.share ≡ share) × (result.told ≡ 0) × (result.served_at ≡ 0) }
+        ensures { (result.share ≡ share) × (result.last_epoch ≡ 0) × (result.served_at ≡ 0) }
     {
         Session {
             shared,
             share,
-            told: 0,
+            last_epoch: 0,
             served_at: 0,
             notices: Told::new(),
         }
@@ -53,7 +53,7 @@ impl<'a, N: Naming> Session<'a, N> {
         let Session {
             shared: _,
             share,
-            told: _,
+            last_epoch: _,
             served_at: _,
             notices: _,
         } = self;
@@ -75,7 +75,7 @@ impl<'a, N: Naming> Session<'a, N> {
     pub fn ask<R: Wait>(&mut self, rt: &R, command: Command<'_>) -> Reply
         ensures accepted { accepts command.entry result.answer ≡ true → self.new.share ≡ self.old.share + 1 }
         ensures refused { accepts command.entry result.answer ≡ false → self.new.share ≡ self.old.share }
-        ensures told { self.new.told ≡ self.old.told }
+        ensures noted { self.new.last_epoch ≡ self.old.last_epoch }
         ensures step { IsServed command.entry result.answer result.told.items self.new.served_at }
         ensures count { N.opening + self.new.share ≤ self.new.served_at }
     {
@@ -89,7 +89,7 @@ impl<'a, N: Naming> Session<'a, N> {
         requires empty { told.old.items ≡ [] }
         ensures accepted { accepts command.entry result ≡ true → self.new.share ≡ self.old.share + 1 }
         ensures refused { accepts command.entry result ≡ false → self.new.share ≡ self.old.share }
-        ensures told { self.new.told ≡ self.old.told }
+        ensures noted { self.new.last_epoch ≡ self.old.last_epoch }
         ensures step { IsServed command.entry result told.new.items self.new.served_at }
         ensures count { N.opening + self.new.share ≤ self.new.served_at }
     {
@@ -107,16 +107,16 @@ impl<'a, N: Naming> Session<'a, N> {
 
     /// What is published now. It is never of an epoch before that of an earlier note.
     pub fn note<R: Wait>(&mut self, rt: &R) -> Note<N>
-        ensures later { self.old.told ≤ last_epoch 0 result }
-        ensures told { self.new.told ≡ last_epoch 0 result }
+        ensures later { self.old.last_epoch ≤ last_epoch 0 result }
+        ensures noted { self.new.last_epoch ≡ last_epoch 0 result }
         ensures share { (self.new.share ≡ self.old.share) × (self.new.served_at ≡ self.old.served_at) }
     {
         for _ in rt.forever() {
             let mut guard = self.shared.latch.lock(rt);
             let note = guard.note(rt);
             MutexGuard::unlock(guard);
-            if self.told <= note.epoch() {
-                self.told = note.epoch();
+            if self.last_epoch <= note.epoch() {
+                self.last_epoch = note.epoch();
                 return note;
             }
         }
@@ -139,7 +139,7 @@ impl<'a, N: Naming> Session<'a, N> {
         node: NodeId,
         mode: Mode,
     ) -> Result<Grant, Stop>
-        ensures told { self.new.told ≡ self.old.told }
+        ensures noted { self.new.last_epoch ≡ self.old.last_epoch }
         ensures share { MatchResult result (λ _. self.new.share ≡ self.old.share + 1) (λ s. MatchBool (is_refusal s) ((self.old.share ≤ self.new.share) × (self.new.share ≤ self.old.share + 1)) (self.new.share ≡ self.old.share + 1)) }
         ensures grant { IfOk result (λ g. (g.txn ≡ txn) × (g.node ≡ node) × (is_at_least g.mode mode ≡ true)) }
         ensures step { (answer : AnAnswer) × (told : Notices) × IsServed (Lock txn node mode) answer told self.new.served_at × Gives txn node mode answer result }

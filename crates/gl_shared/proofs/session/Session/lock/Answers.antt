@@ -16,7 +16,7 @@ returns g c =
     let law = subst (λ (g : GuardedView). IsLawfulManager g.manager) (c.deref.ensures ∙ sym c.deref_mut.ensures.value) c.law.ensures.manager in
     let same = (served.ensures.accepted (is_not_refused served.result c.in_default.not-Refused)).1 in
     record {
-      told = refl;
+      noted = refl;
       share = shares_lock _ _ _ (omega (arith, kept, same));
       grant = c.await_verdict.ensures.grant;
       step = (

@@ -1,7 +1,7 @@
 use Rattle.std.proofs.Common.{◌≡◌, ℕ, List, [], ◌-◌, ◌≤◌, length, false}
 use Rattle.std.specs.Io.KnownBytes.{Consumes}
 use Rattle.gl_interpreter.specs.SoFar.{SoFar, choices_now}
-use Rattle.gl_interpreter.proofs.script.pump.Given as goal
+use Rattle.gl_interpreter.proofs.script.answer_script.Given as goal
 
 abbrev pub invariant-loop-total : goal.invariant-loop-total
 invariant-loop-total g l = record {

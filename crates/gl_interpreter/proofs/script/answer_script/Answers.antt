@@ -3,7 +3,7 @@ use Rattle.std.specs.Io.KnownBytes.{Consumes}
 use Rattle.gl_interpreter.specs.SoFar.{Takes, choices_now}
 use Rattle.gl_interpreter.proofs.Writing.{Consumes-nil, Consumes-then, Consumes-kept}
 use Rattle.gl_interpreter.proofs.Reading.{SoFar-new, Ran-finished, Ran-broken, Ran-at_fault, Ran-too_much, OnOk-of}
-use Rattle.gl_interpreter.proofs.script.pump.Goals as goal
+use Rattle.gl_interpreter.proofs.script.answer_script.Goals as goal
 
 pub loop-total-init : goal.loop-total-init
 loop-total-init g c = record {
