@@ -154,7 +154,6 @@ fn share_under_name<N: Naming, R: Wait>(
     parts: Parts,
     watch: &mut Watch,
 ) -> Result<(), Refusal>
-    requires whole { N.shares ≡ N.parts }
     requires name { parts.blank.name ≡ N.name }
     requires parts { parts.blank.parts ≡ N.parts }
     requires shares { parts.shares ≡ N.shares }
@@ -188,9 +187,7 @@ fn share_under_name<N: Naming, R: Wait>(
 }
 
 /// The book, where all shares are back.
-fn book_of<N: Naming, R: Wait>(rt: &R, shared: Shared<N>, shares: Vec<Share<N>>) -> Option<u64>
-    requires { N.shares ≡ N.parts }
-{
+fn book_of<N: Naming, R: Wait>(rt: &R, shared: Shared<N>, shares: Vec<Share<N>>) -> Option<u64> {
     match gather(rt, shared, shares) {
         Ok(closed) => Some(closed.book),
         Err(NotAll { shared, shares: _ }) => {

@@ -160,7 +160,6 @@ pub(crate) fn run_work<N: Naming, R: Wait + Clock + Eprint>(
     work: Work,
     rounds: u64,
 )
-    requires whole { N.shares ≡ N.parts }
     requires name { parts.blank.name ≡ N.name }
     requires parts { parts.blank.parts ≡ N.parts }
     requires shares { parts.shares ≡ N.shares }

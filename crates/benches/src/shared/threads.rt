@@ -66,7 +66,6 @@ pub(crate) fn run_threads<N: Naming + Send + Sync, R: Threads + Wait + Clock + E
     ways: &[Way],
     rounds: u64,
 )
-    requires whole { N.shares ≡ N.parts }
     requires name { parts.blank.name ≡ N.name }
     requires parts { parts.blank.parts ≡ N.parts }
     requires shares { parts.shares ≡ N.shares }

@@ -78,7 +78,6 @@ pub(crate) fn run_waiters<N: Naming + Send + Sync, R: Threads + Wait + Clock + E
     held: (NodeId, TxnId),
     rounds: u64,
 )
-    requires whole { N.shares ≡ N.parts }
     requires name { parts.blank.name ≡ N.name }
     requires parts { parts.blank.parts ≡ N.parts }
     requires shares { parts.shares ≡ N.shares }
