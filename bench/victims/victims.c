@@ -1,5 +1,5 @@
 /*
- * What the choice of victims does in a random mix, and what the block costs that closes a large circle.
+ * What the choice of victims does in a random mix, and what the block costs that closes a large cycle.
  * Every answer is looked at, as a caller has to.
  */
 #define _POSIX_C_SOURCE 199309L
@@ -124,7 +124,7 @@ static void commit_and_begin(struct mix *x, size_t slot) {
   WANT(x->lockers[slot].txn.slot == slot);
 }
 
-/* A locker that does not wait: there always is one, as nobody waits in a circle. */
+/* A locker that does not wait: there always is one, as nobody waits in a cycle. */
 static size_t active(struct mix *x, uint32_t lockers) {
   size_t slot = chance(x, lockers);
   while (x->lockers[slot].waits) slot = chance(x, lockers);
@@ -165,24 +165,24 @@ static void play_all(long steps) {
 }
 
 /* ------------------------------------------------------------------------------------------------
- * The block that closes a circle of 128.
+ * The block that closes a cycle of 128.
  */
 
 enum shape { RING, QUEUE };
 
-struct circle {
+struct cycle {
   bs_manager manager;
   bs_txn asker;
   bs_node node;
 };
 
-static void waits(struct circle *c, bs_txn txn, bs_node node) {
+static void waits(struct cycle *c, bs_txn txn, bs_node node) {
   WANT(bs_lock(&c->manager, txn, node, BS_X, &told).status == BS_WAITING);
   WANT(told.count == 0);
 }
 
 /* Each holds a node, and waits for that of the next; the last is to ask for that of the first. */
-static void lay_ring(struct circle *c) {
+static void lay_ring(struct cycle *c) {
   bs_txn txns[BS_SLOTS];
   bs_node nodes[BS_SLOTS];
   size_t i;
@@ -197,7 +197,7 @@ static void lay_ring(struct circle *c) {
 }
 
 /* The first holds a node for which all others queue; it is to ask for what the last of them holds. */
-static void lay_queue(struct circle *c) {
+static void lay_queue(struct cycle *c) {
   bs_node queued = made_root(&c->manager);
   bs_txn txn;
   size_t i;
@@ -212,13 +212,13 @@ static void lay_queue(struct circle *c) {
 }
 
 /* What is measured. */
-static bs_status __attribute__((noinline)) closing_lock(struct circle *c) {
+static bs_status __attribute__((noinline)) closing_lock(struct cycle *c) {
   return bs_lock(&c->manager, c->asker, c->node, BS_X, &told).status;
 }
 
 /* The nanoseconds of one closing block. */
-static double close_circle(enum shape shape, uint32_t choice) {
-  struct circle c = { BS_NO_MANAGER_HERE, { 0, 0 }, { 0, 0 } };
+static double close_cycle(enum shape shape, uint32_t choice) {
+  struct cycle c = { BS_NO_MANAGER_HERE, { 0, 0 }, { 0, 0 } };
   struct timespec from, to;
   bs_status status;
   DONE(bs_make_choosing(&c.manager, BS_AT_BLOCK, choice, BS_SLOTS));
@@ -244,7 +244,7 @@ static void time_all(void) {
     double best[2] = { 1e18, 1e18 };
     for (turn = 0; turn < 9; turn++) {
       for (choice = BS_YOUNGEST; choice <= BS_FEWEST; choice++) {
-        double now = close_circle(shape, choice);
+        double now = close_cycle(shape, choice);
         if (now < best[choice]) best[choice] = now;
       }
     }
@@ -258,7 +258,7 @@ int main(int count, char **words) {
   } else if (count == 2 && strcmp(words[1], "times") == 0) {
     time_all();
   } else if (count == 4 && strcmp(words[1], "once") == 0) {
-    close_circle(strcmp(words[2], "ring") == 0 ? RING : QUEUE, strcmp(words[3], "youngest") == 0 ? BS_YOUNGEST : BS_FEWEST);
+    close_cycle(strcmp(words[2], "ring") == 0 ? RING : QUEUE, strcmp(words[3], "youngest") == 0 ? BS_YOUNGEST : BS_FEWEST);
   } else {
     return 2;
   }

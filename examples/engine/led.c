@@ -91,7 +91,7 @@ static void a_wait_is_granted(struct bank *b) {
   join(&f, GRANTED, GRANTED);
 }
 
-/* The leader closes a circle of waits, and the follower is the younger. */
+/* The leader closes a cycle of waits, and the follower is the younger. */
 static void a_wait_ends_as_a_victims(struct bank *b) {
   struct follower f = { .story = "victim", .bank = b, .first = numbered(b, 1), .wanted = numbered(b, 2) };
   struct txn leader;

@@ -2,7 +2,7 @@
 
 #include "check.h"
 
-/* Sleeps until somebody has begun to wait since the last look, since no circle of waits closes but by a
+/* Sleeps until somebody has begun to wait since the last look, since no cycle of waits closes but by a
  * wait that begins. False: the store closes. */
 static bool next_board(struct store *s, uint64_t *seen, bs_board *board) {
   bool goes_on;
@@ -15,7 +15,7 @@ static bool next_board(struct store *s, uint64_t *seen, bs_board *board) {
   return goes_on;
 }
 
-/* The board is looked through without the latch, so it may be old: whoever is on no circle any more is
+/* The board is looked through without the latch, so it may be old: whoever is on no cycle any more is
  * left alone by bs_settle, and whoever has ended is not found. */
 static void settle_suspects(struct store *s, const bs_board *board) {
   bs_slots suspects = bs_suspects(board).slots;

@@ -4,7 +4,7 @@
 #include "guide.h"
 
 /* The first waits for the last, and the last, which asks then, for the first. */
-static bs_status close_circle(bs_manager *m, const struct shop *s, bs_txn first, bs_txn last) {
+static bs_status close_cycle(bs_manager *m, const struct shop *s, bs_txn first, bs_txn last) {
   bs_node one = add_order(m, s, 20), other = add_order(m, s, 150);
   DONE(lock_with_intentions(m, first, one, BS_X, &told));
   DONE(lock_with_intentions(m, last, other, BS_X, &told));
@@ -21,11 +21,11 @@ void deadlocks_at_block(void) {
   s = make_shop(&m);
   old = begin(&m);
   young = begin(&m);
-  WANT(close_circle(&m, &s, old, young) == BS_VICTIM && told.count == 0);
+  WANT(close_cycle(&m, &s, old, young) == BS_VICTIM && told.count == 0);
   DONE(bs_abort(&m, young, &told));
   WANT(is_told(0, old, BS_TOLD_GRANTED));
   young = begin(&m);
-  WANT(close_circle(&m, &s, young, old) == BS_WAITING);
+  WANT(close_cycle(&m, &s, young, old) == BS_WAITING);
   WANT(told.count == 1 && is_told(0, young, BS_TOLD_VICTIM));
   WANT(bs_commit(&m, young, &told).status == BS_TXN_CONDEMNED);
   DONE(bs_abort(&m, young, &told));
@@ -91,7 +91,7 @@ void old_boards_do_no_harm(void) {
   s = make_shop(&m);
   old = begin(&m);
   young = begin(&m);
-  WANT(close_circle(&m, &s, old, young) == BS_WAITING && told.count == 0);
+  WANT(close_cycle(&m, &s, old, young) == BS_WAITING && told.count == 0);
   DONE(bs_read_board(&m, &board));
   WANT(settle_all(&m, &board) == 1);
   WANT(settle_all(&m, &board) == 0);

@@ -18,13 +18,13 @@ static uint64_t rows_held(struct policy *p, bs_txn txn) {
   return rows.status == BS_DONE ? rows.count : 0;
 }
 
-/* Of those on a circle the one that gives way. */
-static bs_txn with_fewest_rows(struct policy *p, const bs_board *board, bs_slots circle) {
+/* Of those on a cycle the one that gives way. */
+static bs_txn with_fewest_rows(struct policy *p, const bs_board *board, bs_slots cycle) {
   bs_txn fewest = { 0, 0 };
   uint32_t slot;
   for (slot = 0; slot < BS_SLOTS; slot++) {
     bs_txn txn = { (uint8_t)slot, board->ages[slot] };
-    if (!bs_has(circle, slot)) continue;
+    if (!bs_has(cycle, slot)) continue;
     if (fewest.age == 0 || rows_held(p, txn) < rows_held(p, fewest)) fewest = txn;
   }
   return fewest;
@@ -39,8 +39,8 @@ static void give_way(struct store *s, bs_txn txn) {
   pthread_cond_signal(&seat->wake);
 }
 
-/* The slots on a circle with the lowest that is on one. */
-static bs_slots some_circle(const bs_board *board) {
+/* The slots on a cycle with the lowest that is on one. */
+static bs_slots some_cycle(const bs_board *board) {
   bs_slots suspects = bs_suspects(board).slots;
   uint32_t slot = 0;
   while (slot < BS_SLOTS && !bs_has(suspects, slot)) slot++;
@@ -48,14 +48,14 @@ static bs_slots some_circle(const bs_board *board) {
 }
 
 /* The latch is held all the time, so each board is of now, and whom it shows waiting can be cancelled. */
-static void break_circles(struct policy *p) {
+static void break_cycles(struct policy *p) {
   bs_board board;
-  bs_slots circle;
+  bs_slots cycle;
   do {
     DONE(bs_read_board(&p->store.manager, &board));
-    circle = some_circle(&board);
-    if (!is_empty(circle)) give_way(&p->store, with_fewest_rows(p, &board, circle));
-  } while (!is_empty(circle));
+    cycle = some_cycle(&board);
+    if (!is_empty(cycle)) give_way(&p->store, with_fewest_rows(p, &board, cycle));
+  } while (!is_empty(cycle));
 }
 
 /* Looks whenever somebody has begun to wait. */
@@ -69,7 +69,7 @@ static void *watch(void *arg) {
       store_await_news(s);
     } else {
       seen = s->waits;
-      break_circles(p);
+      break_cycles(p);
     }
   }
   store_unlatch(s);

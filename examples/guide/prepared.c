@@ -30,7 +30,7 @@ static void decide(bs_manager *m, const struct prepared *p, bool commits) {
   else DONE(bs_abort(m, p->txn, &told)); /* Its rows are undone by then. */
 }
 
-/* Two others close a circle, and one of them waits for the prepared one too. */
+/* Two others close a cycle, and one of them waits for the prepared one too. */
 void prepared_transactions(void) {
   static bs_board board;
   bs_manager m;

@@ -522,7 +522,7 @@ static void refused_managers(void) {
   WANT(made.status == BS_DONE && n > 2);
 }
 
-static void a_board_shows_a_circle(void) {
+static void a_board_shows_a_cycle(void) {
   static bs_board board;
   bs_manager m = BS_NO_MANAGER_HERE;
   bs_node root = begin_manager(&m, BS_BY_WATCHER);
@@ -603,7 +603,7 @@ int main(void) {
   TELL(a_choice_of_victims);
   TELL(an_older_asker_condemns_the_younger);
   TELL(a_watcher_settles);
-  TELL(a_board_shows_a_circle);
+  TELL(a_board_shows_a_cycle);
   TELL(a_ring_of_all);
   TELL(the_rule_of_the_graph);
   TELL(a_record_moves);

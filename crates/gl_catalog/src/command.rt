@@ -36,7 +36,7 @@ pub enum Answer {
     Mode(Mode),
     /// An effective mode that was asked after.
     Effect(Effect),
-    /// The command was refused, and nothing has changed but, maybe, a counter of the manager.
+    /// The command was refused, and nothing has changed.
     Refused(Refusal),
 }
 

@@ -218,7 +218,7 @@ const TWO_DEADLOCKS: Lines = &[
 ];
 
 /// With detection by a watcher a cycle can be seen.
-const CIRCLE: Lines = &[
+const CYCLE: Lines = &[
     ("inner db", "ok"),
     ("begin a", "ok"),
     ("begin b", "ok"),
@@ -274,5 +274,5 @@ fn listings_by_the_word_alone(rt: HostRuntime) -> Result<(), Fail> {
 fn listings_of_deadlocks(rt: HostRuntime) -> Result<(), Fail> {
     try_out(&rt, rt.alloc(), LISTED, &[DEADLOCK])?;
     try_out(&rt, rt.alloc(), LISTED, &[TWO_DEADLOCKS])?;
-    try_out(&rt, rt.alloc(), LISTED_BY_WATCHER, &[CIRCLE])
+    try_out(&rt, rt.alloc(), LISTED_BY_WATCHER, &[CYCLE])
 }

@@ -62,16 +62,16 @@ impl<'a, N: Naming> Session<'a, N> {
 
     /// How many commands the table had accepted when the last one of this session had been served, or
     /// the last of its last list; 0 before. It orders what sessions asked: an accepted command has a
-    /// count of its own, and one that was refused or only asked stands anywhere behind the accepted
-    /// one of its count.
+    /// count of its own. One that was refused or only asked has the count of the accepted command
+    /// before it.
     pub fn served_at(&self) -> u64
         ensures { result ≡ self.now.served_at }
     {
         self.served_at
     }
 
-    /// Serves a command, and where it is accepted tells watchers as the table was made to, and wakes the sessions whose wait it
-    /// may have ended.
+    /// Serves a command. Where it is accepted it tells watchers as the table was made to, and wakes the
+    /// sessions whose wait it may have ended.
     pub fn ask<R: Wait>(&mut self, rt: &R, command: Command<'_>) -> Reply
         ensures accepted { accepts command.entry result.answer ≡ true → self.new.share ≡ self.old.share + 1 }
         ensures refused { accepts command.entry result.answer ≡ false → self.new.share ≡ self.old.share }
