@@ -14,8 +14,10 @@ use Rattle.gl_catalog.specs.declared.command.Command.TheVariants as command
 use Rattle.gl_catalog.specs.Manager.{state_of}
 use Rattle.gl_catalog.specs.Step.{Step}
 use Rattle.gl_shared.specs.Batches.{Serves, ServesEach, ServesOne, Stops, accepted_in, goes_on, one_if}
-use Rattle.gl_shared.specs.Served.{accepts, is_refused, leaves_waiting}
-use Rattle.gl_shared.specs.State.{Delivers, GuardedView, Slot, cleared}
+use Rattle.gl_boxes.specs.Served.{accepts, is_refused, leaves_waiting}
+use Rattle.gl_boxes.specs.Boxes.{Delivers, Slot, cleared}
+use Rattle.gl_boxes.proofs.Clearing.{refused_if, served_if}
+use Rattle.gl_shared.specs.State.{GuardedView}
 
 -- one answer more
 pub one_longer : (xs : List Answer) (a : Answer) (k : ℕ) → length xs ≡ k → length (xs ++ a ∷ []) ≡ k + 1
@@ -77,36 +79,6 @@ stops_here (c ∷ cs) (x ∷ xs) a all less off =
 pub counted_if : (yes : Bool) (after before : ℕ) → (yes ≡ false → after ≡ before) → (yes ≡ true → after ≡ before + 1) → after ≡ before + one_if yes
 counted_if true after before stays rises = rises refl
 counted_if false after before stays rises = let same = stays refl in omega (arith, same)
-
--- no other command than a lock empties a box of its own
-pub cleared_other : (c : Command) (a : Answer) (boxes : List Slot) → ((t : TxnId) (n : NodeId) (m : Mode) → c ≡ command.Lock t n m → ⊥) → cleared c a boxes ≡ boxes
-cleared_other (command.Lock t n m) a boxes none = absurd (none t n m refl)
-cleared_other (command.Inner ps) a boxes none = refl
-cleared_other (command.File ps) a boxes none = refl
-cleared_other (command.Index ps f bs) a boxes none = refl
-cleared_other (command.Insert t f keys) a boxes none = refl
-cleared_other (command.Delete t r) a boxes none = refl
-cleared_other (command.Rekey t r i key) a boxes none = refl
-cleared_other (command.Move t n ps) a boxes none = refl
-cleared_other command.Begin a boxes none = refl
-cleared_other (command.Try t n m) a boxes none = refl
-cleared_other (command.Unlock t n) a boxes none = refl
-cleared_other (command.Escalate t n) a boxes none = refl
-cleared_other (command.Cancel t) a boxes none = refl
-cleared_other (command.Commit t) a boxes none = refl
-cleared_other (command.Abort t) a boxes none = refl
-cleared_other (command.Settle t) a boxes none = refl
-cleared_other (command.Group n) a boxes none = refl
-cleared_other (command.Held t n) a boxes none = refl
-cleared_other (command.Effective t n) a boxes none = refl
-
-refused_if : (b : Bool) → not b ≡ false → b ≡ true
-refused_if true e = refl
-refused_if false e = absurd (cc e)
-
-served_if : (b : Bool) → not b ≡ true → b ≡ false
-served_if false e = refl
-served_if true e = absurd (cc e)
 
 -- a lock is one command of a list
 pub serves_lock : (g g' : GuardedView) (t : TxnId) (n : NodeId) (m : Mode) (a : Answer) (told : Told) → Step (state_of g.manager) (command.Lock t n m) a told (state_of g'.manager) → (is_refused a ≡ true → (g' ≡ g) × (told ≡ []))

@@ -1,15 +1,6 @@
-pub mod Adding
 pub mod Batches
-pub mod EachTold
-pub mod Fronts
 pub mod Idle
-pub mod Lists
 pub mod LockCovers
 pub mod Locking
-pub mod Notices
-pub mod RealBoards
-pub mod Rising
-pub mod Serving
 pub mod Steps
 pub mod Tellings
-pub mod Waking

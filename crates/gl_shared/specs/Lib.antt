@@ -1,11 +1,6 @@
 pub mod Batches
-pub mod Boards
 pub mod Lists
-pub mod Rules
-pub mod Served
 pub mod Sessions
 pub mod Sides
 pub mod State
-pub mod Strip
 pub mod Ties
-pub mod Wakes

@@ -2,11 +2,11 @@
 use Rattle.std.specs.Prelude.{◌≡◌, ◌⊎◌, ℕ, List, Option, Some, None}
 use mathlib.Core.Option.{some}
 use lib.ListN.{get_elem?}
-use Rattle.gl_shared.specs.Strip.{Strip}
+use Rattle.gl_boxes.specs.Strip.{Strip}
 use Rattle.gl_shared.specs.declared.shown.Shown.{Shown}
 use Rattle.gl_shared.specs.declared.shown.Tie.{Tie}
-use Rattle.gl_shared.specs.Rules.{head_of}
-use Rattle.gl_shared.specs.Boards.{IsLawful}
+use Rattle.gl_boxes.specs.Rules.{head_of}
+use Rattle.gl_boxes.specs.Boards.{IsLawful}
 use Rattle.gl_waits.specs.declared.board.Board.{Board}
 use Rattle.gl_table.specs.declared.detect.Detect.{Detect}
 use Rattle.logbook.specs.Pages.{Book}

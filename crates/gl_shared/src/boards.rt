@@ -2,12 +2,12 @@
 ghost use Rattle.std.specs.Prelude.{◌≡◌, [], ◌∷◌, ◌++◌, ◌≤◌, ◌^◌, ◌<◌, drop, fold, IfOk, MatchBool, Some};
 ghost use Rattle.std.specs.Arc.{arc_value};
 ghost use Rattle.left_right.specs.Sides.{view};
-ghost use Rattle.gl_shared.specs.Boards.{Fine, last_epoch};
-ghost use Rattle.gl_shared.specs.Rules.{head_of};
+ghost use Rattle.gl_boxes.specs.Boards.{Fine, last_epoch};
+ghost use Rattle.gl_boxes.specs.Rules.{head_of};
 ghost use Rattle.gl_shared.specs.Sides.{IsIdle, shown_by};
 ghost use Rattle.gl_shared.specs.Ties.{tie_of};
 
-use crate::history::{Head, Line};
+use gl_boxes::{Head, Line};
 use crate::rule::{Publish, Published, Ties};
 use crate::shown::{Next, Shown, Tie};
 use gl_waits::Board;

@@ -1,39 +1,37 @@
 //! What stands behind the latch.
 
-ghost use Rattle.std.specs.Prelude.{◌≡◌, ◌+◌, ◌++◌, ◌∷◌, ◌≤◌, ◌<◌, ◌⊎◌, ◌||◌, [], true, false, None, Some, Ok, List, slice_set, replicate, IfSome, is_some};
+ghost use Rattle.std.specs.Prelude.{◌≡◌, ◌+◌, ◌++◌, ◌∷◌, ◌≤◌, ◌<◌, ◌⊎◌, ◌||◌, [], true, false, None, Some, Ok, List, replicate, IfSome, is_some};
 ghost use Rattle.gl_modes.specs.declared.mode.Mode.{Mode as AMode};
 ghost use Rattle.gl_modes.specs.Modes.{is_at_least};
 ghost use Rattle.gl_table.specs.BoardOf.{board_of};
 ghost use Rattle.gl_table.specs.declared.detect.Detect.TheVariants.{AtBlock};
-ghost use Rattle.gl_table.specs.declared.notice.Notice.{Notice};
-ghost use Rattle.gl_table.specs.declared.txn.TxnId.{TxnId};
 ghost use Rattle.gl_table.specs.Pumps.{is_waiting_at};
 ghost use Rattle.gl_table.specs.State.{lives};
-ghost use Rattle.gl_table.specs.Tellings.{Told as Notices};
 ghost use Rattle.gl_table.specs.Waiting.{HasNoCycle};
 ghost use Rattle.gl_catalog.specs.declared.command.Answer.TheVariants.{Granted};
 ghost use Rattle.gl_catalog.specs.declared.command.Command.TheVariants.{Lock};
 ghost use Rattle.gl_catalog.specs.Manager.{IsLawfulManager, state_of};
 ghost use Rattle.gl_catalog.specs.Promises.{KeepsCaller};
 ghost use Rattle.gl_catalog.specs.Step.{Step};
+ghost use Rattle.gl_boxes.specs.Boxes.{Delivers, Slot, cleared, verdict_of};
+ghost use Rattle.gl_boxes.specs.Served.{RisingTo, accepts, is_refused, leaves_waiting};
+ghost use Rattle.gl_boxes.specs.Tellings.{is_due};
+ghost use Rattle.gl_boxes.specs.declared.grant.Grant.{Grant};
 ghost use Rattle.gl_shared.specs.Batches.{ServesOne, one_if};
-ghost use Rattle.gl_shared.specs.Boards.{last_epoch, IsLawful};
-ghost use Rattle.gl_shared.specs.Served.{RisingTo, accepts, is_refused, leaves_waiting};
-ghost use Rattle.gl_shared.specs.State.{Delivers, Remembers, Slot, StaysUntold, Told, box_at, cleared, is_due, named, verdict_of};
-ghost use Rattle.gl_shared.specs.declared.grant.Grant.{Grant};
+ghost use Rattle.gl_boxes.specs.Boards.{last_epoch, IsLawful};
+ghost use Rattle.gl_shared.specs.State.{Remembers, StaysUntold, Told};
 
-use crate::accepted::{is_accepted, is_refused, leaves_waiting};
-use crate::grant::{Grant, Stop};
 use crate::naming::Naming;
 use crate::note::Note;
-use crate::now::board_now;
 use crate::publisher::Publisher;
 use crate::share::Share;
-use crate::telling::{Telling, is_due, may_show_waits};
+use gl_boxes::{
+    Boxes, Grant, Stop, Telling, board_now, is_accepted, is_due, is_refused, leaves_waiting,
+    may_show_waits,
+};
 use gl_catalog::{Answer, Command, Counters, Manager, Reply};
-use gl_modes::{Mode, NodeId, Refusal, covers};
-use gl_table::{Notice, Told, TxnId};
-use gl_waits::SLOTS;
+use gl_modes::{Mode, NodeId};
+use gl_table::{Told, TxnId};
 use std::marker::Model;
 use std::sync::Wait;
 use std::sync::ledger::Book;
@@ -47,16 +45,13 @@ pub enum Tell {
     NoMemory,
 }
 
-/// A slot's last notice.
-pub type Slot = Option<(TxnId, Notice)>;
-
 /// What stands behind the latch: the manager, the count of accepted commands that were served, a
 /// notice box for each slot, and the writer of the published boards.
 pub struct Guarded<N: Naming> {
     pub(crate) manager: Manager,
     pub(crate) served: u64,
     pub(crate) book: Book<N>,
-    pub(crate) boxes: [Slot; SLOTS],
+    pub(crate) boxes: Boxes,
     pub(crate) publisher: Publisher<N>,
     pub(crate) telling: Telling,
     /// Whether somebody waited when watchers were last told, or a lock was left waiting since.
@@ -68,7 +63,7 @@ impl<N: Naming> Model for Guarded<N> {
     ghost use Rattle.std.specs.Prelude.{false};
     ghost use Rattle.gl_catalog.specs.Manager.{state_of};
     ghost use Rattle.gl_catalog.specs.Promises.{NobodyWaits};
-    ghost use Rattle.gl_shared.specs.Boards.{EndsIdle, last_epoch};
+    ghost use Rattle.gl_boxes.specs.Boards.{EndsIdle, last_epoch};
     ghost use Rattle.gl_shared.specs.State.{GuardedView};
 
     ghost Value = { GuardedView };
@@ -82,53 +77,6 @@ impl<N: Naming> Model for Guarded<N> {
         × (g.manager.table.detect ≡ N.detect)
         × (last_epoch 0 g.publisher ≤ g.manager.accepted)
         × (g.waited ≡ false → NobodyWaits (state_of g.manager) × EndsIdle g.publisher) };
-}
-
-/// Puts each notice into its slot's box.
-pub(crate) fn deliver(boxes: &mut [Slot; SLOTS], told: &[(TxnId, Notice)])
-    requires { RisingTo 0 told.now 128 }
-    ensures told { Delivers boxes.old told.now boxes.new }
-    ensures none { told.now ≡ [] → boxes.new ≡ boxes.old }
-{
-    for (txn, notice) in told {
-        boxes[txn.slot as usize] = Some((*txn, *notice));
-    }
-}
-
-/// Empties the box of a slot, where there is one.
-fn empty_box(boxes: &mut [Slot; SLOTS], slot: u8)
-    ensures { boxes.new ≡ slice_set boxes.old slot None }
-{
-    if (slot as usize) < SLOTS {
-        boxes[slot as usize] = None;
-    }
-}
-
-/// What the box of a transaction's slot has for it.
-fn notice_for(boxes: &[Slot; SLOTS], txn: TxnId) -> Option<Notice>
-    ensures { result ≡ named txn (box_at boxes.now txn.slot) }
-{
-    match boxes.get(txn.slot as usize) {
-        Some(Some((to, notice))) => {
-            if to.slot == txn.slot && to.age == txn.age {
-                Some(*notice)
-            } else {
-                None
-            }
-        }
-        _ => None,
-    }
-}
-
-/// Whether a living transaction waits on the node.
-fn waits_on(manager: &Manager, txn: TxnId, node: NodeId) -> bool
-    requires { lives (state_of manager.now) txn ≡ true }
-    ensures { result ≡ is_waiting_at (state_of manager.now) txn.slot node }
-{
-    match manager.waiting(txn) {
-        Some((at, _)) => at.key == node.key && at.birth == node.birth,
-        None => false,
-    }
 }
 
 impl<N: Naming> Guarded<N> {
@@ -181,7 +129,7 @@ impl<N: Naming> Guarded<N> {
             manager,
             served: 0,
             book,
-            boxes: [None; SLOTS],
+            boxes: Boxes::new(),
             publisher,
             telling,
             waited: true,
@@ -207,29 +155,7 @@ impl<N: Naming> Guarded<N> {
         ensures waits { lives (state_of self.now.manager) txn ≡ true → is_waiting_at (state_of self.now.manager) txn.slot node ≡ true → result ≡ None }
         ensures grant { (x : Grant) → result ≡ Some (Ok x) → (x.txn ≡ txn) × (x.node ≡ node) × (x.mode ≡ (state_of self.now.manager).held txn.slot node) × (is_at_least x.mode mode ≡ true) × (is_waiting_at (state_of self.now.manager) txn.slot node ≡ false) }
     {
-        let Some(held) = self.manager.mode_on(txn, node) else {
-            return Some(Err(Stop::Refused(Refusal::NoSuchTxn)));
-        };
-        if waits_on(&self.manager, txn, node) {
-            return None;
-        }
-        Some(match notice_for(&self.boxes, txn) {
-            Some(Notice::Victim) => Err(Stop::Victim),
-            Some(Notice::Moved) => Err(Stop::Moved),
-            Some(Notice::Gone) => Err(Stop::Gone),
-            Some(Notice::Granted(at, _)) => {
-                if at.key == node.key && at.birth == node.birth && covers(held, mode) {
-                    Ok(Grant {
-                        txn,
-                        node,
-                        mode: held,
-                    })
-                } else {
-                    Err(Stop::Refused(Refusal::NotWaiting))
-                }
-            }
-            None => Err(Stop::Refused(Refusal::NotWaiting)),
-        })
+        self.boxes.verdict(&self.manager, txn, node, mode)
     }
 
     /// Publishes the board of now.
@@ -305,7 +231,7 @@ impl<N: Naming> Guarded<N> {
         self.book.add(&mut share.token, 1);
         self.served += 1;
         self.waited |= leaves_waiting(&answer);
-        deliver(&mut self.boxes, told.as_slice());
+        self.boxes.deliver(told.as_slice());
         answer
     }
 
@@ -331,7 +257,7 @@ impl<N: Naming> Guarded<N> {
         self.law();
         let answer = self.serve_telling(share, Command::Lock { txn, node, mode }, told);
         if !is_refused(&answer) {
-            empty_box(&mut self.boxes, txn.slot);
+            self.boxes.empty(txn.slot);
         }
         answer
     }

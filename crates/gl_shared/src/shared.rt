@@ -4,13 +4,13 @@ ghost use Rattle.std.specs.Prelude.{◌≡◌, ◌+◌, ◌≤◌, ◌<◌, ◌�
 ghost use Rattle.gl_modes.specs.declared.refusal.Refusal.{Refusal as ARefusal};
 ghost use Rattle.gl_table.specs.BoardOf.{board_of};
 ghost use Rattle.gl_catalog.specs.Manager.{IsLawfulManager, state_of};
-ghost use Rattle.gl_shared.specs.Rules.{head_of};
+ghost use Rattle.gl_boxes.specs.Rules.{head_of};
 ghost use Rattle.gl_shared.specs.State.{GuardedView};
 ghost use Rattle.gl_shared.specs.Ties.{IsOf, tie_of};
 
 use crate::boards::BoardWriter;
 use crate::guarded::Guarded;
-use crate::history::Line;
+use gl_boxes::Line;
 use crate::naming::Naming;
 use crate::parts::Parts;
 use crate::publisher::Publisher;

@@ -1,10 +1,10 @@
 //! What `left_right` publishes, and its operations.
 ghost use Rattle.std.specs.Prelude.{◌≡◌, ◌≤◌};
 ghost use Rattle.std.specs.Arc.{arc_value};
-ghost use Rattle.gl_shared.specs.Boards.{Fine, last_epoch};
-ghost use Rattle.gl_shared.specs.Rules.{head_of};
+ghost use Rattle.gl_boxes.specs.Boards.{Fine, last_epoch};
+ghost use Rattle.gl_boxes.specs.Rules.{head_of};
 
-use crate::history::{Head, Line};
+use gl_boxes::{Head, Line};
 use gl_table::Detect;
 use gl_waits::Board;
 use std::sync::Arc;

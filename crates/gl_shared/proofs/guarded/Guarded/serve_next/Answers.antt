@@ -1,7 +1,8 @@
 use Rattle.std.proofs.Common.{ap, sym}
-use Rattle.gl_shared.specs.Served.{accepts}
+use Rattle.gl_boxes.specs.Served.{accepts}
 use Rattle.gl_shared.specs.State.{GuardedView}
-use Rattle.gl_shared.proofs.Batches.{cleared_other, counted_if}
+use Rattle.gl_boxes.proofs.Clearing.{cleared_other}
+use Rattle.gl_shared.proofs.Batches.{counted_if}
 use Rattle.gl_shared.proofs.guarded.Guarded.serve_next.Goals as goal
 
 pub returns-in_default : goal.returns-in_default

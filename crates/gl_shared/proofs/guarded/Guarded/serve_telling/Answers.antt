@@ -1,14 +1,15 @@
 use Rattle.std.proofs.Common.{rules, arith, ◌≡◌, ◌<◌, ◌^◌, ◌∙◌, true, false, ap, refl, subst, sym, List}
 use Rattle.gl_table.specs.declared.notice.Notice.{Notice}
 use Rattle.gl_table.specs.declared.txn.TxnId.{TxnId}
-use Rattle.gl_shared.specs.Served.{RisingTo, accepts}
+use Rattle.gl_boxes.specs.Served.{RisingTo, accepts}
 use Rattle.gl_table.specs.State.{State}
 use Rattle.gl_catalog.proofs.Detection.{steps_keep_detect}
-use Rattle.gl_shared.specs.State.{Delivers, GuardedView, Slot}
+use Rattle.gl_boxes.specs.Boxes.{Delivers, Slot}
+use Rattle.gl_shared.specs.State.{GuardedView}
 use Rattle.gl_shared.proofs.Idle.{quiet_on}
-use Rattle.gl_shared.proofs.Notices.{delivers_none}
-use Rattle.gl_shared.proofs.Rising.{step_rises}
-use Rattle.gl_shared.proofs.Serving.{step_counts}
+use Rattle.gl_boxes.proofs.Notices.{delivers_none}
+use Rattle.gl_boxes.proofs.Rising.{step_rises}
+use Rattle.gl_boxes.proofs.Serving.{step_counts}
 use Rattle.gl_shared.proofs.guarded.Guarded.serve_telling.Goals as goal
 
 pub overflow_add-self : goal.overflow_add-self

@@ -3,10 +3,10 @@ use Rattle.gl_waits.specs.declared.board.Board.{Board}
 use Rattle.gl_table.specs.declared.detect.Detect.{Detect}
 use Rattle.gl_table.specs.BoardOf.{board_of}
 use Rattle.gl_catalog.specs.Manager.{state_of}
-use Rattle.gl_shared.specs.Boards.{Fine, ShowsNobody}
+use Rattle.gl_boxes.specs.Boards.{Fine, ShowsNobody}
 use Rattle.gl_shared.specs.State.{GuardedView}
 use Rattle.gl_shared.proofs.Idle.{IsQuiet, quiet_told}
-use Rattle.gl_shared.proofs.Lists.{told_epoch}
+use Rattle.gl_boxes.proofs.Lists.{told_epoch}
 use Rattle.gl_shared.proofs.Tellings.{published, unpublished}
 use Rattle.gl_shared.proofs.guarded.Guarded.tell.Goals as goal
 

@@ -2,7 +2,7 @@ use Rattle.std.proofs.Common.{arith, ◌∙◌, ap, refl, subst, sym, List}
 use Rattle.gl_table.specs.declared.notice.Notice.{Notice}
 use Rattle.gl_table.specs.declared.txn.TxnId.{TxnId}
 use Rattle.gl_catalog.specs.Manager.{IsLawfulManager}
-use Rattle.gl_shared.specs.Served.{RisingTo}
+use Rattle.gl_boxes.specs.Served.{RisingTo}
 use Rattle.gl_shared.specs.State.{GuardedView}
 use Rattle.gl_shared.proofs.Locking.{gives_verdict, is_not_refused, shares_lock}
 use Rattle.gl_shared.proofs.session.Session.lock.Goals as goal

@@ -1,0 +1,11 @@
+pub mod Adding
+pub mod Clearing
+pub mod EachTold
+pub mod Fronts
+pub mod Idle
+pub mod Lists
+pub mod Notices
+pub mod RealBoards
+pub mod Rising
+pub mod Serving
+pub mod Waking

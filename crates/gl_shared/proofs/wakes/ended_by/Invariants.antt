@@ -1,8 +1,0 @@
-use Rattle.std.specs.Prelude.{◌≡◌, ◌<◌, ◌||◌, ◌==◌, ℕ, take}
-use Rattle.std.specs.List.{list_any}
-use Rattle.gl_waits.specs.Sets.{has_slot}
-use Rattle.gl_shared.specs.Served.{names_slot}
-use Rattle.gl_shared.proofs.wakes.ended_by.Given as goal
-
-abbrev pub invariant-loop-txn : goal.invariant-loop-txn
-invariant-loop-txn l = (u : ℕ) → u < 128 → has_slot l.slots u ≡ (names_slot l.command u || list_any (λ x. x.0.slot == u) (take l.txn-index l.told))

@@ -1,0 +1,109 @@
+//! The side that shows boards.
+
+ghost use Rattle.std.specs.Prelude.{◌≡◌, ◌≤◌, ◌⊎◌, ◌++◌, ◌∷◌, [], true, IfOk};
+ghost use Rattle.gl_boxes.specs.Boards.{Fine, last_epoch};
+
+use crate::watcher::Watcher;
+use crate::window::Window;
+use gl_boxes::{Head, Line};
+use gl_table::Detect;
+use gl_waits::Board;
+use std::alloc::{AllocError, Global};
+use std::marker::Model;
+use std::sync::Arc;
+
+/// Why there is no watcher.
+#[derive(Clone, Copy, PartialEq, Eq, Debug)]
+pub enum WatchFault {
+    /// Eight watch already.
+    TooMany,
+    NoMemory,
+}
+
+/// The one who shows boards. To a contract it is the list of all that it showed, with its book and the
+/// way of detection.
+#[derive(Drop)]
+pub struct Publisher {
+    alloc: Global,
+    window: Arc<Window>,
+    head: Head,
+    line: Line,
+}
+
+impl Model for Publisher {
+    ghost use Rattle.std.specs.Prelude.{◌≡◌};
+    ghost use Rattle.std.specs.Arc.{arc_value};
+    ghost use Rattle.gl_boxes.specs.Rules.{head_of};
+    ghost use Rattle.gl_boxes.specs.Strip.{Strip};
+    ghost use Rattle.gl_window.specs.Window.{GoesOn};
+
+    ghost Value = { Strip };
+
+    ghost view = { λ p. p.line };
+
+    ghost invariant = { λ p. (p.head ≡ head_of p.line.book) × GoesOn (arc_value p.window) p.line };
+}
+
+impl Publisher {
+    /// A publisher that shows this board.
+    pub fn new(alloc: Global, board: Board, detect: Detect) -> Result<Publisher, AllocError>
+        requires { Fine detect board }
+        ensures { IfOk result (λ p. (p.list ≡ board ∷ []) × (p.detect ≡ detect)) }
+    {
+        let (head, line) = Line::open(alloc, board, detect)?;
+        let window = Window::new(alloc, line.again()?)?;
+        let _ = window.show(&line);
+        let window = Arc::new(alloc, window)?;
+        Ok(Publisher {
+            alloc,
+            window,
+            head,
+            line,
+        })
+    }
+
+    /// Whether there is a watcher.
+    pub fn is_watched(&self) -> bool {
+        self.window.is_watched()
+    }
+
+    /// Shows a board behind those before, whole, and says whether it did: always, where there was memory
+    /// for it. One that was not shown is in the list from the next on.
+    pub fn publish(&mut self, board: Board) -> bool
+        requires rises { last_epoch 0 self.old.list ≤ board.epoch }
+        requires fine { Fine self.old.detect board }
+        ensures shown { result ≡ true → self.new.list ≡ self.old.list ++ board ∷ [] }
+        ensures list { (self.new.list ≡ self.old.list) ⊎ (self.new.list ≡ self.old.list ++ board ∷ []) }
+        ensures of { (self.new.book ≡ self.old.book) × (self.new.detect ≡ self.old.detect) }
+    {
+        let Ok(board) = Arc::new(self.alloc, board) else {
+            return false;
+        };
+        let Some(line) = self.line.add(&self.head, board) else {
+            return false;
+        };
+        self.line = line;
+        self.window.show(&self.line)
+    }
+
+    /// A watcher that knows all that was shown, and this board as the last of it. At most eight watch at
+    /// once.
+    pub fn watch(&mut self, board: Board) -> Result<Watcher, WatchFault>
+        requires rises { last_epoch 0 self.old.list ≤ board.epoch }
+        requires fine { Fine self.old.detect board }
+        ensures watcher { IfOk result (λ watcher. (watcher ≡ self.new) × (self.new.list ≡ self.old.list ++ board ∷ [])) }
+        ensures list { (self.new.list ≡ self.old.list) ⊎ (self.new.list ≡ self.old.list ++ board ∷ []) }
+        ensures of { (self.new.book ≡ self.old.book) × (self.new.detect ≡ self.old.detect) }
+    {
+        let Some(seat) = self.window.take_seat() else {
+            return Err(WatchFault::TooMany);
+        };
+        if self.publish(board) {
+            if let (Ok(window), Ok(last)) = (Arc::try_clone(&self.window), self.line.again()) {
+                return Ok(Watcher { window, last, seat });
+            }
+        }
+        self.window.leave_seat(seat);
+        Err(WatchFault::NoMemory)
+    }
+}

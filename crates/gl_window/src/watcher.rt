@@ -1,0 +1,61 @@
+//! Watchers look at boards with no lock.
+
+ghost use Rattle.std.specs.Prelude.{◌≡◌, ◌≤◌};
+ghost use mathlib.Core.List.{IsPrefix};
+ghost use Rattle.gl_boxes.specs.Boards.{Ends, Fine, last_epoch};
+
+use crate::window::Window;
+use gl_boxes::Line;
+use gl_waits::Board;
+use std::marker::Model;
+use std::sync::Arc;
+
+/// A reader of boards, with a seat of its own. To a contract it is the longest list that it saw, with
+/// its book and the way of detection.
+pub struct Watcher {
+    pub(crate) window: Arc<Window>,
+    pub(crate) last: Line,
+    pub(crate) seat: u32,
+}
+
+impl Model for Watcher {
+    ghost use Rattle.std.specs.Prelude.{◌<◌};
+    ghost use Rattle.std.specs.Arc.{arc_value};
+    ghost use Rattle.gl_boxes.specs.Strip.{Strip};
+    ghost use Rattle.gl_window.specs.Window.{GoesOn};
+
+    ghost Value = { Strip };
+
+    ghost view = { λ w. w.last };
+
+    ghost invariant = { λ w. GoesOn (arc_value w.window) w.last × (w.seat < 8) };
+}
+
+impl Watcher {
+    /// The last board of a list that begins with the list behind the last look: a board that was shown,
+    /// and never an older one than before. No slot in it waits for itself or for a free slot, and with
+    /// detection at block nobody is on a cycle of waits. It takes no lock and no memory.
+    pub fn look(&mut self) -> Board
+        ensures board { Ends self.new.list result }
+        ensures later { IsPrefix self.old.list self.new.list }
+        ensures epoch { last_epoch 0 self.old.list ≤ result.epoch }
+        ensures fine { Fine self.new.detect result }
+        ensures of { (self.new.book ≡ self.old.book) × (self.new.detect ≡ self.old.detect) }
+    {
+        if let Some(found) = self.window.look() {
+            self.last.learn(found);
+        }
+        *self.last.board()
+    }
+}
+
+impl Drop for Watcher {
+    fn drop(self) {
+        let Watcher {
+            window,
+            last: _,
+            seat,
+        } = self;
+        window.leave_seat(seat);
+    }
+}

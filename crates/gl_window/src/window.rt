@@ -1,0 +1,177 @@
+//! Counted places for lists of boards, one of which has the last that was shown.
+
+ghost use Rattle.std.specs.Prelude.{◌≡◌, ◌<◌, IfOk, IfSome};
+ghost use Rattle.std.specs.List.{All};
+ghost use Rattle.gl_window.specs.Window.{GoesOn};
+
+use counted_slot::{Counted, Fits, MOST_READERS, ONE_READER, PRESENT, TAKEN};
+use gl_boxes::Line;
+use std::alloc::{AllocError, Global};
+use std::marker::Model;
+use std::sync::atomic::{AtomicU64, Ordering};
+
+/// How many watchers there can be at once.
+const MOST_WATCHERS: u32 = 8;
+
+/// How many lists there is room for: one for each watcher that looks, the one shown last, and one more.
+const PLACES: usize = 10;
+
+/// How often a look tries, each time behind another list that was shown meanwhile.
+const TRIES: u32 = 1000;
+
+/// A list in a place of the window: it goes on from the first, by which the place is known.
+#[derive(Drop)]
+struct Shot {
+    line: Line,
+}
+
+impl Fits for Shot {
+    ghost use Rattle.gl_window.specs.Window.{GoesOn};
+
+    type Tag = Line;
+
+    ghost fits = { λ first shot. GoesOn first shot.line };
+}
+
+/// The places, and the seats of the watchers. To a contract it is the first list.
+#[derive(Drop)]
+pub(crate) struct Window {
+    first: Line,
+    places: Vec<Counted<Shot>>,
+    /// The place of the list that was shown last.
+    last: AtomicU64,
+    /// Bit s is set while a watcher has seat s.
+    seats: AtomicU64,
+}
+
+impl Model for Window {
+    ghost use Rattle.std.specs.Prelude.{◌≡◌};
+    ghost use Rattle.std.specs.List.{All};
+    ghost use Rattle.gl_boxes.specs.Strip.{Strip};
+
+    ghost Value = { Strip };
+
+    ghost view = { λ w. w.first };
+
+    ghost invariant = { λ w. All (λ tag. tag ≡ w.first) w.places.items };
+}
+
+impl Window {
+    /// A window of lists that go on from this one, which shows none yet.
+    pub(crate) fn new(alloc: Global, first: Line) -> Result<Window, AllocError>
+        ensures { IfOk result (λ w. w ≡ first) }
+    {
+        let places = places_of(alloc, &first)?;
+        Ok(Window {
+            first,
+            places,
+            last: AtomicU64::new(0),
+            seats: AtomicU64::new(0),
+        })
+    }
+
+    /// Shows a list, and says whether there was a place for it: always, where nobody else shows one.
+    pub(crate) fn show(&self, line: &Line) -> bool
+        requires { GoesOn self.now line.now }
+    {
+        let last = self.last.load(Ordering::SeqCst);
+        for at in 0..self.places.len() {
+            if at as u64 != last && put(&self.places[at], line) {
+                self.last.store(at as u64, Ordering::SeqCst);
+                return true;
+            }
+        }
+        false
+    }
+
+    /// The list that was shown last; none, where each try came behind a newer one.
+    pub(crate) fn look(&self) -> Option<Line>
+        ensures { IfSome result (λ line. GoesOn self.now line) }
+    {
+        for _try in 0..TRIES {
+            let last = self.last.load(Ordering::SeqCst) as usize;
+            if last < self.places.len() {
+                if let Some(line) = take(&self.places[last]) {
+                    return Some(line);
+                }
+            }
+        }
+        None
+    }
+
+    /// A seat that no watcher has, which is taken from now on; none, where eight are taken.
+    pub(crate) fn take_seat(&self) -> Option<u32>
+        ensures { IfSome result (λ seat. seat < 8) }
+    {
+        for seat in 0..MOST_WATCHERS {
+            let bit = 1u64 << seat;
+            if self.seats.fetch_or(bit, Ordering::SeqCst) & bit == 0 {
+                return Some(seat);
+            }
+        }
+        None
+    }
+
+    /// Gives a seat back.
+    pub(crate) fn leave_seat(&self, seat: u32)
+        requires { seat < 8 }
+    {
+        let bit = 1u64 << seat;
+        let _ = self.seats.fetch_and(!bit, Ordering::SeqCst);
+    }
+
+    /// Whether there is a watcher.
+    pub(crate) fn is_watched(&self) -> bool {
+        self.seats.load(Ordering::SeqCst) != 0
+    }
+}
+
+/// Places for lists that go on from this one.
+fn places_of(alloc: Global, first: &Line) -> Result<Vec<Counted<Shot>>, AllocError>
+    ensures { IfOk result (λ places. All (λ tag. tag ≡ first.now) places.items) }
+{
+    let mut places = Vec::with_capacity(alloc, PLACES)?;
+    for _place in 0..PLACES {
+        let line = first.again()?;
+        places.push(Counted::new(Shot { line }, first))?;
+    }
+    Ok(places)
+}
+
+/// Puts a list into a place that nobody reads or writes, and says whether it is there.
+fn put(place: &Counted<Shot>, line: &Line) -> bool
+    requires { GoesOn place.now line.now }
+{
+    let Ok(line) = line.again() else {
+        return false;
+    };
+    let seen = place.load();
+    if seen > PRESENT {
+        return false;
+    }
+    let (found, claim) = place.turn(seen, TAKEN);
+    if found != seen {
+        claim.done();
+        return false;
+    }
+    drop(claim.put(Shot { line }, PRESENT));
+    true
+}
+
+/// Reads the list in a place, where it has one.
+fn take(place: &Counted<Shot>) -> Option<Line>
+    ensures { IfSome result (λ line. GoesOn place.now line) }
+{
+    let seen = place.load();
+    if seen % 4 != PRESENT || seen >= MOST_READERS * ONE_READER {
+        return None;
+    }
+    let (found, claim) = place.turn(seen, seen + ONE_READER);
+    if found != seen {
+        claim.done();
+        return None;
+    }
+    let line = claim.get().line.again();
+    claim.leave();
+    line.ok()
+}
