@@ -2,8 +2,7 @@
 
 ghost use Rattle.std.specs.Prelude.{◌≡◌, [], true, false, None, Some, Ok, slice_set, replicate};
 ghost use Rattle.gl_modes.specs.Modes.{is_at_least};
-ghost use Rattle.gl_table.specs.Pumps.{is_waiting_at};
-ghost use Rattle.gl_table.specs.State.{lives};
+ghost use Rattle.gl_table.specs.model.State.{is_waiting_at, lives};
 ghost use Rattle.gl_catalog.specs.Manager.{state_of};
 ghost use Rattle.gl_boxes.specs.Boxes.{Delivers, box_at, named, verdict_of};
 ghost use Rattle.gl_boxes.specs.Served.{RisingTo};

@@ -1,7 +1,7 @@
 -- What stands behind the latch.
 use Rattle.std.specs.Prelude.{◌≡◌, ℕ, Bool, true, false, List, [], ◌∷◌, ◌++◌}
 use Rattle.gl_waits.specs.declared.board.Board.{Board}
-use Rattle.gl_table.specs.State.{State}
+use Rattle.gl_table.specs.model.State.{State}
 use Rattle.gl_catalog.specs.Manager.{ManagerView}
 use Rattle.gl_catalog.specs.Promises.{NobodyWaits}
 use Rattle.gl_boxes.specs.Boards.{ShowsNobody, EndsIdle}
