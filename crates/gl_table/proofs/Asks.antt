@@ -1,36 +1,16 @@
 -- What is known of an active slot that asks for a node, and of its list.
-use Rattle.std.specs.Prelude.{◌≡◌, ℕ, ◌+◌, ◌<◌, ◌≤◌, ◌^◌, Bool, true, false, not, ◌&&◌, ◌||◌, length, Some, slice_index_or}
-use Rattle.std.specs.List.{count_by}
-use Rattle.std.proofs.Common.{sym, ap, ◌∙◌, subst, arith}
-use Rattle.std.proofs.lemmas.Bool.{not-true}
-use Rattle.std.proofs.lemmas.List.Sums.{count_by-le-length}
-use Rattle.indexmap.specs.IndexMap.{spare}
-use Rattle.gl_modes.specs.declared.mode.Mode.{Mode}
-use Rattle.gl_modes.specs.declared.mode.Mode.TheVariants.{NL}
-use Rattle.gl_modes.specs.declared.node.NodeId.{NodeId}
-use Rattle.gl_modes.specs.Nodes.{same_node}
-use Rattle.gl_graph.specs.Graph.{Graph, parents_of}
-use Rattle.gl_graph.specs.Lawful.{IsLawfulGraph}
-use Rattle.gl_graph.proofs.Look.{split}
-use Rattle.gl_header.specs.Header.{enters, holds, is_among_waiters}
-use Rattle.gl_header.specs.State.{slot_limit}
-use Rattle.gl_table.specs.declared.list.LockList.{LockList}
+use Rattle.gl_table.proofs.Words.{◌&&◌, ◌+◌, ◌<◌, ◌^◌, ◌||◌, ◌∙◌, ◌≡◌, ◌≤◌, Active, Agrees, ap, AreHeaders, AreSound, arith, Bool, count_by, count_by-le-length}
+use Rattle.gl_table.proofs.Words.{count_of, CountsHeld, enters, enters_at, false, Graph, HasRoom, HasRoomAt, held_children, held_of, holds, is_among_waiters}
+use Rattle.gl_table.proofs.Words.{is_granted_at, is_listed, IsApart, IsLawfulGraph, IsOrderly, KeepsLists, length, LockList, members, members_at, Mode, mode_of}
+use Rattle.gl_table.proofs.Words.{NL, NodeId, not, not-true, or-false, parents_of, queue_of, same_node, slice_index_or, slot_limit, Some, spare, split, State}
+use Rattle.gl_table.proofs.Words.{state_on, status_of, subst, sym, true, unlisted, wanted, ℕ}
 use Rattle.gl_table.specs.declared.locks.Locks.{Locks}
-use Rattle.gl_table.specs.declared.txn.Status.TheVariants.{Active}
-use Rattle.gl_table.specs.Calls.{enters_at, wanted}
-use Rattle.gl_table.specs.Covered.{held_children}
-use Rattle.gl_table.specs.Headers.{AreHeaders, held_of, is_granted_at, members_at, queue_of}
-use Rattle.gl_table.specs.Lists.{HasRoom, IsApart, count_of, is_listed, mode_of, unlisted}
-use Rattle.gl_table.specs.Locks.{Agrees, AreSound, CountsHeld, IsOrderly, state_on}
-use Rattle.gl_table.specs.Slots.{HasRoomAt, KeepsLists}
-use Rattle.gl_table.specs.State.{State, members, status_of}
 use Rattle.gl_table.proofs.Children.{children_few, few_parents}
 use Rattle.gl_table.proofs.GrantKeeps.{apart, txn_there}
 use Rattle.gl_table.proofs.Less.{waiting_is}
 use Rattle.gl_table.proofs.Limits.{enters-most}
 use Rattle.gl_table.proofs.Rooms.{keeps-agrees, keeps-counts}
 use Rattle.gl_table.proofs.Slots.{by_list-at, slice_get-at}
-use Rattle.std.proofs.Math.Bool.{or-false}
 
 -- the slot is active, and the lists say what the headers say
 pub record MayAsk (g : Graph) (l : Locks) (t : ℕ) : Type 0 where
@@ -85,7 +65,8 @@ module _ (g : Graph) (l : Locks) (t : ℕ) (may : MayAsk g l t) where
   slot-listed = subst (λ (k : ℕ). t < k) (sym may.sound.lists) slot-below
 
   pub active-waits_nowhere : (q : NodeId) → is_among_waiters t (s.queue q) ≡ false
-  active-waits_nowhere q = split (is_among_waiters t (s.queue q)) (λ h. let w = waiting_is (status_of s t) q (may.orderly.waits_are t q h) in absurd (apart (sym may.active ∙ w.1))) (λ h. h)
+  active-waits_nowhere q = split (is_among_waiters t (s.queue q)) (λ h. let w = waiting_is (status_of s t) q (may.orderly.waits_are t q h) in
+      absurd (apart (sym may.active ∙ w.1))) (λ h. h)
 
   -- its list has what it holds
   module _ (x : LockList) (at : x ≡ slice_index_or l.lists.items t x) where
@@ -93,7 +74,8 @@ module _ (g : Graph) (l : Locks) (t : ℕ) (may : MayAsk g l t) where
     own-mode q = sym (by_list-at (λ y. mode_of y q) NL l.lists.items t x slot-listed at) ∙ (may.agree t).modes q
 
     pub own-listed : (q : NodeId) → is_listed x q ≡ holds (members s q) t
-    own-listed q = sym (by_list-at (λ y. is_listed y q) false l.lists.items t x slot-listed at) ∙ (may.agree t).listed q ∙ ap (λ b. holds (members s q) t || b) (active-waits_nowhere q) ∙ or-false (holds (members s q) t)
+    own-listed q = sym (by_list-at (λ y. is_listed y q) false l.lists.items t x slot-listed at) ∙ (may.agree t).listed q
+        ∙ ap (λ b. holds (members s q) t || b) (active-waits_nowhere q) ∙ or-false (holds (members s q) t)
 
     pub own-count : (q : NodeId) → count_of x q ≡ held_children s t q
     own-count q = sym (by_list-at (λ y. count_of y q) 0 l.lists.items t x slot-listed at) ∙ may.count t q
@@ -123,7 +105,8 @@ parents-room g law n x room =
     let few = few_parents g law n in
     omega arith
 
--- room was made for an ask, which a conversion that is granted at once does not need; the flags say whether the slot holds the node, and whether the ask is granted at once
+-- room was made for an ask, which a conversion that is granted at once does not need; the flags say whether the slot holds the node, and whether the ask is
+-- granted at once
 pub record IsReady (g : Graph) (l l' : Locks) (t : ℕ) (n : NodeId) (m : Mode) (held now : Bool) : Type 0 where
   pub may : MayAsk g l' t
   pub same : state_on g l' ≡ state_on g l
@@ -131,7 +114,8 @@ pub record IsReady (g : Graph) (l l' : Locks) (t : ℕ) (n : NodeId) (m : Mode) 
   pub enters : enters slot_limit (members_at l'.headers.entries n) (queue_of l'.headers.entries n) t (wanted (state_on g l') t n m) ≡ now
   pub is_held : holds (members (state_on g l') n) t ≡ held
 
-pub is_ready : (g : Graph) (l l' : Locks) (t : ℕ) (n : NodeId) (m : Mode) (held now : Bool) → MayAsk g l t → enters_at (state_on g l) t n m ≡ now → held ≡ holds (members (state_on g l) n) t → HasMadeRoom l l' t (not (held && now))
+pub is_ready : (g : Graph) (l l' : Locks) (t : ℕ) (n : NodeId) (m : Mode) (held now : Bool) → MayAsk g l t → enters_at (state_on g l) t n m ≡ now
+    → held ≡ holds (members (state_on g l) n) t → HasMadeRoom l l' t (not (held && now))
     → IsReady g l l' t n m held now
 is_ready g l l' t n m held now may enters held_is made = record {
   may = may_now;
@@ -152,7 +136,8 @@ pub says_is : (g : Graph) (l : Locks) (t : ℕ) (n : NodeId) (m : Mode) → MayA
 says_is g l t n m may = sym (enters-most (state_on g l) may.orderly may.sound.few t n (wanted (state_on g l) t n m))
 
 -- room was made in the lists alone
-module _ (g : Graph) (l l' : Locks) (t : ℕ) (may : MayAsk g l t) (rest : l' ≡ record l { lists = l'.lists }) (lists : KeepsLists l.lists.items l'.lists.items) where
+module _ (g : Graph) (l l' : Locks) (t : ℕ) (may : MayAsk g l t) (rest : l' ≡ record l { lists = l'.lists })
+    (lists : KeepsLists l.lists.items l'.lists.items) where
   only_room : (wanted : Bool) → (wanted ≡ true → HasRoomAt l'.lists.items t) → HasMadeRoom l l' t wanted
   only_room wanted room = record { headers = ap (λ x. x.headers) rest; seats = ap (λ x. x.seats) rest; lists = lists; room = room }
 
@@ -169,6 +154,8 @@ module _ (g : Graph) (l l' : Locks) (t : ℕ) (may : MayAsk g l t) (rest : l' �
   roomy_says n m = says_is g l' t n m roomy_may ∙ ap (λ s. enters_at s t n m) roomy_same
 
   -- so the ask can be carried out, whatever it comes to
-  pub roomy_ready : (n : NodeId) (m : Mode) (held now : Bool) → held ≡ holds (members (state_on g l) n) t → enters_at (state_on g l) t n m ≡ now → ((held && is_granted_at l.headers.entries t n m) ≡ false → HasRoomAt l'.lists.items t) → IsReady g l l' t n m held now
+  pub roomy_ready : (n : NodeId) (m : Mode) (held now : Bool) → held ≡ holds (members (state_on g l) n) t → enters_at (state_on g l) t n m ≡ now
+      → ((held && is_granted_at l.headers.entries t n m) ≡ false → HasRoomAt l'.lists.items t) → IsReady g l l' t n m held now
   roomy_ready n m held now is at room =
-      is_ready g l l' t n m held now may at is (only_room (not (held && now)) (λ e. room (ap (λ b. held && b) (says_is g l t n m may ∙ at) ∙ not-true (held && now) e)))
+      is_ready g l l' t n m held now may at is (only_room (not (held && now))
+      (λ e. room (ap (λ b. held && b) (says_is g l t n m may ∙ at) ∙ not-true (held && now) e)))

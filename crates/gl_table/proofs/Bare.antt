@@ -1,28 +1,11 @@
 -- A state without one transaction: what its nodes grant from their fronts.
-use Rattle.std.specs.Prelude.{◌≡◌, ℕ, Bool, true, false, ◌&&◌, ◌||◌, ◌==◌, List, [], ◌∷◌, ◌++◌, length, drop, Option, Some, None, if◌then◌else◌}
-use Rattle.std.specs.List.{list_all, range_with_len}
-use Rattle.std.proofs.Common.{refl, sym, ap, ap₂, ◌∙◌, arith}
-use Rattle.std.proofs.Math.Path.{fun_ext}
-use Rattle.std.proofs.Math.Seq.{drop-nil}
-use Rattle.std.proofs.lemmas.List.{append-nil}
-use Rattle.std.proofs.lemmas.Bool.Decides.{nat_tests}
-use Rattle.gl_modes.specs.declared.mode.Mode.{Mode}
-use Rattle.gl_modes.specs.declared.mode.Mode.TheVariants.{NL}
-use Rattle.gl_modes.specs.declared.node.NodeId.{NodeId}
-use Rattle.gl_modes.specs.Modes.{are_compatible}
-use Rattle.gl_modes.proofs.ModeLemmas.{NL-compatible}
-use Rattle.gl_graph.proofs.Look.{split, and_both, same_number}
-use Rattle.gl_graph.proofs.Unrefused.{or_no}
-use Rattle.gl_header.specs.Header.{Members, Waiter, fits, with_mode, front, after_grants, is_among_waiters, without_waiter}
-use Rattle.gl_header.proofs.Fronts.{front-waited}
-use Rattle.gl_header.proofs.Ranges.{not_true}
-use Rattle.gl_table.specs.declared.txn.Status.{Status}
-use Rattle.gl_table.specs.declared.txn.Status.TheVariants.{Active, Waiting, Condemned}
-use Rattle.gl_table.specs.State.{State, Txn, members}
-use Rattle.gl_table.specs.Pumps.{awake, granted_at, pumped, woken}
+use Rattle.gl_table.proofs.Words.{[], ◌&&◌, ◌++◌, ◌==◌, ◌||◌, ◌∙◌, ◌∷◌, ◌≡◌, Active, after_grants, and_both, ap, append-nil, ap₂, are_compatible, arith, awake}
+use Rattle.gl_table.proofs.Words.{Bool, Condemned, drop, drop-nil, false, fits, front, front-waited, fun_ext, granted_at, if◌then◌else◌, is_among_waiters}
+use Rattle.gl_table.proofs.Words.{length, List, list_all, Members, members, Mode, nat_tests, NL, NL-compatible, NodeId, None, not_true, Option, or_no, pumped}
+use Rattle.gl_table.proofs.Words.{range_with_len, refl, same_number, Some, split, State, Status, stripped, sym, true, Txn, Waiter, Waiting, with_mode}
+use Rattle.gl_table.proofs.Words.{without_waiter, woken, ℕ}
 use Rattle.gl_table.proofs.Queues.{among_append, clash}
 use Rattle.gl_table.proofs.QueueEdits.{out_of_without, without_none}
-use Rattle.gl_table.specs.Steps.{stripped}
 
 -- the members without t
 abbrev pub bare : ℕ → Members → Members
@@ -56,7 +39,8 @@ bare_granted t (w ∷ ws) g out =
     bare_granted t ws (with_mode g w.0 w.1) both.1 ∙ ap (λ h. after_grants h ws) (bare_with_mode t g w.0 w.1 both.0)
 
 -- what fits fits without t
-bare_fits : (t : ℕ) (g : Members) (u : ℕ) (m : Mode) (us : List ℕ) → list_all (λ v. (v == u) || are_compatible m (g v)) us ≡ true → list_all (λ v. (v == u) || are_compatible m (bare t g v)) us ≡ true
+bare_fits : (t : ℕ) (g : Members) (u : ℕ) (m : Mode) (us : List ℕ) → list_all (λ v. (v == u) || are_compatible m (g v)) us ≡ true
+    → list_all (λ v. (v == u) || are_compatible m (bare t g v)) us ≡ true
 bare_fits t g u m [] h = refl
 bare_fits t g u m (v ∷ us) h =
     let both = and_both _ _ h in ap₂ (λ a b. a && b) (by (v == t) (v == u) both.0) (bare_fits t g u m us both.1)
@@ -81,7 +65,8 @@ bare_front most t (w ∷ q) g out = by (fits most g w.0 w.1) refl (bare_front mo
         ++ front most (bare t (after_grants (with_mode g w.0 w.1) (front most (with_mode g w.0 w.1) q))) (drop (length (front most (with_mode g w.0 w.1) q)) q)
         → front most (bare t g) (w ∷ q)
         ≡ (if b then w ∷ front most (with_mode g w.0 w.1) q else [])
-        ++ front most (bare t (after_grants g (if b then w ∷ front most (with_mode g w.0 w.1) q else []))) (drop (length (if b then w ∷ front most (with_mode g w.0 w.1) q else [])) (w ∷ q))
+        ++ front most (bare t (after_grants g (if b then w ∷ front most (with_mode g w.0 w.1) q else [])))
+        (drop (length (if b then w ∷ front most (with_mode g w.0 w.1) q else [])) (w ∷ q))
     by true e r =
         ap (λ b. if b then w ∷ front most (with_mode (bare t g) w.0 w.1) q else []) (bare_fits t g w.0 w.1 (range_with_len 0 most) e)
         ∙ ap (λ h. w ∷ front most h q) (sym (bare_with_mode t g w.0 w.1 both.0))
@@ -107,10 +92,12 @@ dropped_waits t (x ∷ xs) (w ∷ q) out = dropped_waits t xs q (or_no (w.0 == t
 two_parts : (most t : ℕ) (g : Members) (q : List Waiter) → is_among_waiters t q ≡ false → (a b : Bool) → (a ≡ true → b ≡ false → g t ≡ NL)
     → (if a || b then front most (bare t g) (without_waiter t q) else [])
     ≡ (if a then front most g q else [])
-    ++ (if b then front most (bare t (after_grants g (if a then front most g q else []))) (without_waiter t (drop (length (if a then front most g q else [])) q)) else [])
+    ++ (if b then front most (bare t (after_grants g (if a then front most g q else [])))
+    (without_waiter t (drop (length (if a then front most g q else [])) q)) else [])
 two_parts most t g q out true true free =
     ap (front most (bare t g)) (without_none t q out) ∙ bare_front most t q g out
-    ∙ ap (λ r. front most g q ++ front most (bare t (after_grants g (front most g q))) r) (sym (without_none t (drop (length (front most g q)) q) (dropped_waits t (front most g q) q out)))
+    ∙ ap (λ r. front most g q ++ front most (bare t (after_grants g (front most g q))) r)
+    (sym (without_none t (drop (length (front most g q)) q) (dropped_waits t (front most g q) q out)))
 two_parts most t g q out true false free = ap₂ (front most) (bare_free t g (free refl refl)) (without_none t q out) ∙ sym (append-nil (front most g q))
 two_parts most t g q out false true free = refl
 two_parts most t g q out false false free = refl
@@ -132,7 +119,8 @@ woken_append f g h u is None = refl
 woken_append f g h u is (Some x) = ap (λ st. Some (record { age = x.age; status = st })) (awake_append f g h u is x.status)
 
 -- who does not wait is not granted
-pub granted_waits : (s : State) (t : ℕ) (P : NodeId → Bool) (n : NodeId) → is_among_waiters t (s.queue n) ≡ false → is_among_waiters t (granted_at s P n) ≡ false
+pub granted_waits : (s : State) (t : ℕ) (P : NodeId → Bool) (n : NodeId) → is_among_waiters t (s.queue n) ≡ false
+    → is_among_waiters t (granted_at s P n) ≡ false
 granted_waits s t P n out = by (P n)
   where
     by : (a : Bool) → is_among_waiters t (if a then front s.most (members s n) (s.queue n) else []) ≡ false
@@ -140,7 +128,8 @@ granted_waits s t P n out = by (P n)
     by false = refl
 
 -- the nodes of P grant, then t goes, then those of Q grant: as if t had gone before, where it holds no node that is in P alone
-module _ (s : State) (t : ℕ) (P Q : NodeId → Bool) (out : (n : NodeId) → is_among_waiters t (s.queue n) ≡ false) (free : (n : NodeId) → P n ≡ true → Q n ≡ false → s.held t n ≡ NL) where
+module _ (s : State) (t : ℕ) (P Q : NodeId → Bool) (out : (n : NodeId) → is_among_waiters t (s.queue n) ≡ false) (free : (n : NodeId) → P n ≡ true → Q n ≡ false
+    → s.held t n ≡ NL) where
   abbrev first : NodeId → List Waiter
   first n = granted_at s P n
 
@@ -166,10 +155,12 @@ module _ (s : State) (t : ℕ) (P Q : NodeId → Bool) (out : (n : NodeId) → i
           ap (λ g. after_grants g (then_more n)) (bare_granted t (first n) (members s n) (granted_waits s t P n (out n)))
           ∙ sym (granted_append (first n) (then_more n) (bare t (members s n))) ∙ ap (after_grants (bare t (members s n))) (sym (in_two_parts n))
 
-      queue_is : (n : NodeId) → drop (length (then_more n)) (without_waiter t (drop (length (first n)) (s.queue n))) ≡ drop (length (at_once n)) (without_waiter t (s.queue n))
+      queue_is : (n : NodeId) → drop (length (then_more n)) (without_waiter t (drop (length (first n)) (s.queue n)))
+          ≡ drop (length (at_once n)) (without_waiter t (s.queue n))
       queue_is n =
           ap (drop (length (then_more n))) (without_none t (drop (length (first n)) (s.queue n)) (dropped_waits t (first n) (s.queue n) (out n)))
-          ∙ dropped_append (first n) (then_more n) (s.queue n) ∙ ap₂ (λ ws q. drop (length ws) q) (sym (in_two_parts n)) (sym (without_none t (s.queue n) (out n)))
+          ∙ dropped_append (first n) (then_more n) (s.queue n)
+          ∙ ap₂ (λ ws q. drop (length ws) q) (sym (in_two_parts n)) (sym (without_none t (s.queue n) (out n)))
 
       txn_is : (u : ℕ) → woken then_more u (if u == t then None else woken first u (s.txns u)) ≡ woken at_once u (if u == t then None else s.txns u)
       txn_is u = by (u == t)

@@ -1,24 +1,11 @@
 -- A transaction takes the lowest free seat.
-use Rattle.std.specs.Prelude.{◌≡◌, ℕ, suc, ◌+◌, ◌<◌, ◌≤◌, ◌==◌, Bool, true, false, cond, not, ◌&&◌, List, [], ◌∷◌, length, Option, Some, None, if◌then◌else◌, is_none, is_some, nat_lt, slice_get, slice_set}
-use Rattle.std.specs.List.{find, list_all, position, position_or_len, range_with_len}
-use Rattle.std.proofs.Common.{get_or, length-set, refl, sym, ap, ◌∙◌, subst, arith}
-use Rattle.std.proofs.lemmas.Bool.Decides.{nat_tests}
-use Rattle.std.proofs.lemmas.List.Quantifiers.{position-Some}
-use Rattle.std.proofs.lemmas.Option.{gets, slice_get-get_or}
-use Rattle.std.proofs.lemmas.Grind.{elements}
-use Rattle.gl_modes.specs.declared.refusal.Refusal.TheVariants as no
-use Rattle.gl_graph.specs.Refusals.{first_refusal, max_count, where_true}
-use Rattle.gl_table.specs.declared.seat.Seat.{Seat}
+use Rattle.gl_table.proofs.Words.{[], ◌&&◌, ◌+◌, ◌<◌, ◌==◌, ◌∙◌, ◌∷◌, ◌≡◌, ◌≤◌, Active, ap, arith, begin_tests, begun, Bool, cond, elements, false, find}
+use Rattle.gl_table.proofs.Words.{first_refusal, free_slot, get_or, gets, HasNoCycle, if◌then◌else◌, is_free, is_none, is_some, is_wait, IsLawful, IsSound}
+use Rattle.gl_table.proofs.Words.{length, length-set, List, list_all, max_count, nat_lt, nat_tests, None, not, Option, position, position-Some, position_or_len}
+use Rattle.gl_table.proofs.Words.{range_with_len, refl, Seat, SeatList, slice_get, slice_get-get_or, slice_set, Some, State, state_of, status_in, subst, suc}
+use Rattle.gl_table.proofs.Words.{sym, TableView, too_many_txns, true, txn_in, txns_of, view_of, where_true, ℕ}
 use Rattle.gl_table.specs.declared.table.Table.TheInside.{Inside}
-use Rattle.gl_table.specs.declared.txn.Status.TheVariants.{Active}
-use Rattle.gl_table.specs.Calls.{begun, free_slot}
-use Rattle.gl_table.specs.Lawful.{IsLawful}
-use Rattle.gl_table.specs.Refusals.{begin_tests, too_many_txns}
-use Rattle.gl_table.specs.Seats.{SeatList, is_free, txn_in, txns_of}
-use Rattle.gl_table.specs.Sound.{IsSound, view_of}
-use Rattle.gl_table.specs.State.{State, status_in}
-use Rattle.gl_table.specs.Table.{TableView, state_of}
-use Rattle.gl_table.specs.Waiting.{HasNoCycle, is_wait}
+use Rattle.gl_modes.specs.declared.refusal.Refusal.TheVariants as no
 use Rattle.gl_table.proofs.Enqueued.{begun-lawful}
 use Rattle.gl_table.proofs.NoCycle.{begun-no_cycle}
 use Rattle.gl_table.proofs.Queues.{clash}
@@ -38,7 +25,8 @@ find-places f p (x ∷ xs) k h =
     next k i = omega arith
 
     by : (b : Bool) (q : ℕ) → find p (range_with_len (k + 1) (length xs)) ≡ cond (nat_lt q (length xs)) (Some (k + 1 + q)) None
-        → cond b (Some k) (find p (range_with_len (k + 1) (length xs))) ≡ cond (nat_lt (cond (not b) (1 + q) 0) (suc (length xs))) (Some (k + cond (not b) (1 + q) 0)) None
+        → cond b (Some k) (find p (range_with_len (k + 1) (length xs)))
+        ≡ cond (nat_lt (cond (not b) (1 + q) 0) (suc (length xs))) (Some (k + cond (not b) (1 + q) 0)) None
     by true q e = grind (arith, nat_tests)
     by false q e = e ∙ grind (arith, nat_tests)
 
@@ -72,7 +60,8 @@ found-slot v o is =
     free_at i x e = ap (λ k. is_none (txns_of v.seats k)) (from_0 i) ∙ ap (λ o. is_none (txn_in o)) e ∙ free-none x
 
 -- a transaction may begin where a slot is free and an age is left
-pub begin-refusal : (s : State) (o : Option ℕ) → (s.begins ≡ max_count → ⊥) → free_slot s ≡ o → first_refusal (begin_tests s) ≡ where_true (is_none o) no.TooManyTxns
+pub begin-refusal : (s : State) (o : Option ℕ) → (s.begins ≡ max_count → ⊥) → free_slot s ≡ o
+    → first_refusal (begin_tests s) ≡ where_true (is_none o) no.TooManyTxns
 begin-refusal s o left is =
     ap (λ r. first_refusal (r ∷ too_many_txns s ∷ [])) (not_worn s.begins left) ∙ last (list_all (λ t. is_some (s.txns t)) (range_with_len 0 s.most))
     ∙ ap (λ b. where_true b no.TooManyTxns) (all-by_find (λ t. is_some (s.txns t)) (range_with_len 0 s.most) ∙ ap is_none is)
@@ -85,7 +74,8 @@ begin-refusal s o left is =
     last false = refl
 
 -- one seat is written
-txns_of-set : (xs : List (Option Seat)) (i : ℕ) (x : Option Seat) → i < length xs → (t : ℕ) → txns_of (slice_set xs i x) t ≡ (if t == i then txn_in (Some x) else txns_of xs t)
+txns_of-set : (xs : List (Option Seat)) (i : ℕ) (x : Option Seat) → i < length xs → (t : ℕ)
+    → txns_of (slice_set xs i x) t ≡ (if t == i then txn_in (Some x) else txns_of xs t)
 txns_of-set xs i x h t = grind (arith, nat_tests, gets, elements)
 
 module _ (i : Inside) (sound : IsSound i) (t : ℕ) (at : Some t ≡ position is_free i.locks.seats.items)
@@ -103,7 +93,8 @@ module _ (i : Inside) (sound : IsSound i) (t : ℕ) (at : Some t ≡ position is
   abbrev s : State
   s = state_of (view_of i)
 
-  place : (t < length i.locks.seats.items) × (is_free (get_or i.locks.seats.items t None) ≡ true) × ((k : ℕ) → k < t → is_free (get_or i.locks.seats.items k None) ≡ false)
+  place : (t < length i.locks.seats.items) × (is_free (get_or i.locks.seats.items t None) ≡ true)
+      × ((k : ℕ) → k < t → is_free (get_or i.locks.seats.items k None) ≡ false)
   place = position-Some is_free i.locks.seats.items t None (sym at)
 
   free : is_some (s.txns t) ≡ false
@@ -122,7 +113,8 @@ module _ (i : Inside) (sound : IsSound i) (t : ℕ) (at : Some t ≡ position is
   waited : (u : ℕ) → is_wait (status_in ((begun s t).txns u)) ≡ true → is_wait (status_in (s.txns u)) ≡ true
   waited u = by (u == t)
     where
-      by : (b : Bool) → is_wait (status_in (if b then Some (record { age = s.begins + 1; status = Active }) else s.txns u)) ≡ true → is_wait (status_in (s.txns u)) ≡ true
+      by : (b : Bool) → is_wait (status_in (if b then Some (record { age = s.begins + 1; status = Active }) else s.txns u)) ≡ true
+          → is_wait (status_in (s.txns u)) ≡ true
       by true h = clash h refl
       by false h = h
 

@@ -1,27 +1,10 @@
 -- Nodes are born: nobody holds them, no old node changes, and the law of a state is kept.
-use Rattle.std.specs.Prelude.{◌≡◌, ℕ, ◌+◌, ◌<◌, Bool, true, cond, not, ◌&&◌, List, [], ◌∷◌, None, is_some}
-use Rattle.std.specs.List.{count_by, list_all, list_any}
-use Rattle.std.proofs.Common.{refl, sym, ap, ap₂, ◌∙◌, subst, arith}
-use Rattle.std.proofs.lemmas.List.Sums.{sum_by-append}
-use Rattle.gl_modes.specs.declared.mode.Mode.{Mode}
-use Rattle.gl_modes.specs.declared.node.NodeId.{NodeId}
-use Rattle.gl_modes.specs.Nodes.{same_node}
-use Rattle.gl_graph.specs.Changes.{IsBorn, IsIndexBorn, born_nodes, interval_nodes}
-use Rattle.gl_graph.specs.Graph.{Graph, Node, with_key, node_at, is_live, is_child, nodes, parents_in, shape_in}
-use Rattle.gl_graph.specs.Lawful.{IsLawfulGraph}
-use Rattle.gl_graph.specs.Refusals.{file_refusal, index_refusal, inner_refusal}
-use Rattle.gl_graph.specs.Shapes.{File, Index, Inner, is_record_shape}
-use Rattle.gl_graph.proofs.Born.{none_above, old_same}
-use Rattle.gl_graph.proofs.Counts.{count_none, count_same, new_ids, nodes_grown, nodes_live}
-use Rattle.gl_graph.proofs.Look.{and_both, both}
-use Rattle.gl_graph.proofs.NewIndex.{index_lawful}
-use Rattle.gl_graph.proofs.NewNodes.{file_lawful, inner_lawful}
-use Rattle.gl_graph.proofs.Unrefused.{index_unrefused, parents_unrefused}
-use Rattle.gl_header.proofs.Ranges.{not_true}
-use Rattle.gl_table.specs.Intends.{intends, intends_over}
-use Rattle.gl_table.specs.Lawful.{IsLawful, ModeFitsKind}
-use Rattle.gl_table.specs.State.{State, with_graph}
-use Rattle.gl_table.specs.Steps.{children_that}
+use Rattle.gl_table.proofs.Words.{[], ◌&&◌, ◌+◌, ◌<◌, ◌∙◌, ◌∷◌, ◌≡◌, and_both, ap, ap₂, arith, Bool, born_nodes, both, children_that, cond, count_by}
+use Rattle.gl_table.proofs.Words.{count_none, count_same, File, file_lawful, file_refusal, Graph, Index, index_lawful, index_refusal, index_unrefused, Inner}
+use Rattle.gl_table.proofs.Words.{inner_lawful, inner_refusal, intends, intends_over, interval_nodes, is_child, is_live, is_record_shape, is_some, IsBorn}
+use Rattle.gl_table.proofs.Words.{IsIndexBorn, IsLawful, IsLawfulGraph, List, list_all, list_any, Mode, ModeFitsKind, new_ids, Node, node_at, NodeId, nodes}
+use Rattle.gl_table.proofs.Words.{nodes_grown, nodes_live, None, none_above, not, not_true, old_same, parents_in, parents_unrefused, refl, same_node, shape_in}
+use Rattle.gl_table.proofs.Words.{State, subst, sum_by-append, sym, true, with_graph, with_key, ℕ}
 use Rattle.gl_table.proofs.Queues.{among_by_filter, clash}
 
 module _ (s : State) (law : IsLawful s) (ns : List Node) (lawful : IsLawfulGraph (born_nodes s.graph ns)) where
@@ -68,7 +51,8 @@ module _ (g : Graph) (law : IsLawfulGraph g) (ns : List Node) where
   unborn (m ∷ ms) birth low = both _ _ (ap (λ o. not (is_some (with_key m.key o))) (none_above g law ns birth low)) (unborn ms (birth + 1) (omega arith))
 
   -- where no new node passes the test, as many children of a node pass it as did
-  pub born-children : (f : NodeId → Bool) → ((c : NodeId) → f c ≡ true → is_live g c ≡ true) → (p : NodeId) → children_that (born_nodes g ns) f p ≡ children_that g f p
+  pub born-children : (f : NodeId → Bool) → ((c : NodeId) → f c ≡ true → is_live g c ≡ true) → (p : NodeId)
+      → children_that (born_nodes g ns) f p ≡ children_that g f p
   born-children f live p =
       ap (count_by (λ c. is_child (born_nodes g ns) p c && f c)) (nodes_grown g law ns)
       ∙ sum_by-append (λ c. cond (is_child (born_nodes g ns) p c && f c) 1 0) (nodes g) (new_ids (g.births + 1) ns)
@@ -79,7 +63,8 @@ module _ (g : Graph) (law : IsLawfulGraph g) (ns : List Node) where
           (λ c there. ap (λ o. list_any (same_node p) (parents_in o) && f c) (old_same g law ns c there))
 
       new : count_by (λ c. is_child (born_nodes g ns) p c && f c) (new_ids (g.births + 1) ns) ≡ 0
-      new = count_none (λ c. not (is_live g c)) (λ c. is_child (born_nodes g ns) p c && f c) (new_ids (g.births + 1) ns) (unborn ns (g.births + 1) (omega arith))
+      new = count_none (λ c. not (is_live g c)) (λ c. is_child (born_nodes g ns) p c && f c) (new_ids (g.births + 1) ns)
+          (unborn ns (g.births + 1) (omega arith))
           (λ c dead. not_true _ (λ h. clash dead (ap not (live c (and_both (is_child (born_nodes g ns) p c) (f c) h).1))))
 
       no_more : (k : ℕ) → k + 0 ≡ k
@@ -119,6 +104,7 @@ module _ (g g' : Graph) (law : IsLawfulGraph g) (ps : List NodeId) (n : NodeId) 
       let room = index_unrefused g ps f bs free in
       record {
         ns = record { key = n.key; shape = Index f bs; parents = ps } ∷ interval_nodes (record { key = n.key; birth = g.births + 1 }) 0 born.interval_keys;
-        lawful = index_lawful g law n.key ps f bs born.interval_keys room.inner room.file room.few room.rise room.unused room.indexes born.intervals born.keys_apart born.keys_free room.room;
+        lawful = index_lawful g law n.key ps f bs born.interval_keys room.inner room.file room.few room.rise room.unused room.indexes born.intervals
+            born.keys_apart born.keys_free room.room;
         after = born.after;
       }

@@ -1,29 +1,12 @@
 -- A lock that is granted at once, and one that waits: what each makes of a table.
-use Rattle.gl_waits.specs.declared.victims.Victims.{Victims}
-use Rattle.std.specs.Prelude.{◌≡◌, ℕ, ◌==◌, ◌&&◌, Bool, true, false, [], Some, if◌then◌else◌}
-use Rattle.std.proofs.Common.{refl, sym, ap, ap₂, ◌∙◌, subst}
-use Rattle.gl_modes.specs.declared.mode.Mode.{Mode}
-use Rattle.gl_modes.specs.declared.node.NodeId.{NodeId}
-use Rattle.gl_modes.proofs.NodeLemmas.{same_node-refl}
-use Rattle.gl_graph.specs.View.{graph_of}
-use Rattle.gl_graph.proofs.Look.{number_same}
-use Rattle.gl_table.specs.declared.deadlock.Deadlock.{Deadlock}
-use Rattle.gl_table.specs.declared.detect.Detect.{Detect}
-use Rattle.gl_table.specs.declared.detect.Detect.TheVariants.{AtBlock, ByWatcher}
+use Rattle.gl_table.proofs.Words.{[], ◌&&◌, ◌==◌, ◌∙◌, ◌≡◌, Active, Agrees, ap, ap₂, AreSound, AtBlock, Bool, ByWatcher, CountsHeld, Deadlock, Detect, enqueued}
+use Rattle.gl_table.proofs.Words.{enters_at, false, granted, graph_of, if◌then◌else◌, IsLawful, IsOrderly, IsSound, locked_as, LocksKeeping, Mode, NodeId}
+use Rattle.gl_table.proofs.Words.{number_same, refl, same_node-refl, Some, State, state_of, state_on, status_of, subst, sym, Told, told_but, true, TxnId}
+use Rattle.gl_table.proofs.Words.{Victims, view_of, WaitSettles, WaitSettlesKeeping, wanted, ℕ}
+use Rattle.gl_table.specs.declared.table.Table.TheInside.{Inside}
+use Rattle.gl_table.specs.Calls.{Locks}
 use Rattle.gl_table.specs.declared.locks.Locks as code
 use Rattle.gl_table.specs.declared.outcome.Locked.TheVariants as locked
-use Rattle.gl_table.specs.declared.table.Table.TheInside.{Inside}
-use Rattle.gl_table.specs.declared.txn.Status.TheVariants.{Active}
-use Rattle.gl_table.specs.declared.txn.TxnId.{TxnId}
-use Rattle.gl_table.specs.Answers.{locked_as}
-use Rattle.gl_table.specs.Calls.{Locks, WaitSettles, enqueued, enters_at, granted, wanted}
-use Rattle.gl_table.specs.Deadlocks.{LocksKeeping, WaitSettlesKeeping}
-use Rattle.gl_table.specs.Lawful.{IsLawful}
-use Rattle.gl_table.specs.Locks.{Agrees, AreSound, CountsHeld, IsOrderly, state_on}
-use Rattle.gl_table.specs.Sound.{IsSound, view_of}
-use Rattle.gl_table.specs.State.{State, status_of}
-use Rattle.gl_table.specs.Table.{state_of}
-use Rattle.gl_table.specs.Tellings.{Told, told_but}
 use Rattle.gl_table.proofs.LockKeeps.{MayLock, locks-lawful, waiting-lawful}
 use Rattle.gl_table.proofs.NoCycle.{locks-no_cycle}
 use Rattle.gl_table.proofs.Queues.{clash}
@@ -32,12 +15,14 @@ use Rattle.gl_table.proofs.TableCalls.{lawful_orderly}
 use Rattle.gl_table.proofs.ToldLists.{told_but_same, told_nothing}
 
 -- so does settling a wait, or not
-settles_on : (by : Detect) (c : Victims) (x x' : State) (t : ℕ) (d : Detect) (v : Victims) (b : ℕ) → WaitSettles by c x t x' → WaitSettles by c (over c t d v b x) t (over c t d v b x')
+settles_on : (by : Detect) (c : Victims) (x x' : State) (t : ℕ) (d : Detect) (v : Victims) (b : ℕ) → WaitSettles by c x t x'
+    → WaitSettles by c (over c t d v b x) t (over c t d v b x')
 settles_on AtBlock c x x' t d v b h = settled_also c t d v b x x' h
 settles_on ByWatcher c x x' t d v b h = ap (over c t d v b) h
 
 -- and what is kept of it
-keeps_on : (by : Detect) (c : Victims) (x x' : State) (t : ℕ) (e e' : Deadlock) (d : Detect) (v : Victims) (b : ℕ) → WaitSettlesKeeping by c x t e x' e' → WaitSettlesKeeping by c (over c t d v b x) t e (over c t d v b x') e'
+keeps_on : (by : Detect) (c : Victims) (x x' : State) (t : ℕ) (e e' : Deadlock) (d : Detect) (v : Victims) (b : ℕ) → WaitSettlesKeeping by c x t e x' e'
+    → WaitSettlesKeeping by c (over c t d v b x) t e (over c t d v b x') e'
 keeps_on AtBlock c x x' t e e' d v b h = keeping_also c t d v b x x' e e' h
 keeps_on ByWatcher c x x' t e e' d v b h = h
 
@@ -53,7 +38,8 @@ pub granted_keeps : (s s' : State) (t : ℕ) (n : NodeId) (m : Mode) (d : Deadlo
 granted_keeps s s' t n m d enters = record { at_once = λ h. refl; waits = λ h. clash enters h }
 
 -- and its answer is the granted mode
-pub granted_answer : (s s' : State) (t : ℕ) (n : NodeId) (m x : Mode) → status_of s t ≡ Some Active → s' ≡ granted s t n m → x ≡ wanted s t n m → locked.Granted x ≡ locked_as (s'.held t n) (status_of s' t)
+pub granted_answer : (s s' : State) (t : ℕ) (n : NodeId) (m x : Mode) → status_of s t ≡ Some Active → s' ≡ granted s t n m → x ≡ wanted s t n m
+    → locked.Granted x ≡ locked_as (s'.held t n) (status_of s' t)
 granted_answer s s' t n m x active is mode =
     ap locked.Granted mode
     ∙ sym (ap₂ locked_as (ap₂ (λ a b. if a && b then wanted s t n m else s.held t n) (number_same t t refl) (same_node-refl n)) active)
@@ -63,7 +49,8 @@ granted_answer s s' t n m x active is mode =
 pub granted_told : (s s' : State) (t : ℕ) (n : NodeId) (m : Mode) → IsLawful s → s' ≡ granted s t n m → [] ≡ told_but t s s'
 granted_told s s' t n m law is = told_nothing s (granted s t n m) t law.slots_below (λ u. refl) ∙ ap (told_but t s) (sym is)
 
-module _ (i : Inside) (sound : IsSound i) (t : TxnId) (n : NodeId) (m : Mode) (may : MayLock (state_of (view_of i)) t n m) (blocks : enters_at (state_of (view_of i)) t.slot n m ≡ false) where
+module _ (i : Inside) (sound : IsSound i) (t : TxnId) (n : NodeId) (m : Mode) (may : MayLock (state_of (view_of i)) t n m)
+    (blocks : enters_at (state_of (view_of i)) t.slot n m ≡ false) where
   abbrev s : State
   s = state_of (view_of i)
 
@@ -75,29 +62,35 @@ module _ (i : Inside) (sound : IsSound i) (t : TxnId) (n : NodeId) (m : Mode) (m
     pub waiting_orderly : IsOrderly (state_on (graph_of i.graph) locks)
     waiting_orderly =
         let o = lawful_orderly _ (waiting-lawful s sound.lawful t n m may blocks) in
-        subst IsOrderly (sym is) (record { holders = o.holders; holders_live = o.holders_live; waiters_live = o.waiters_live; waits_are = o.waits_are; one_wait = o.one_wait; below = o.below })
+        subst IsOrderly (sym is) (record { holders = o.holders; holders_live = o.holders_live; waiters_live = o.waiters_live; waits_are = o.waits_are;
+        one_wait = o.one_wait; below = o.below })
 
     -- and was settled, where that is the way of detection
-    module _ (left : code.Locks) (kept : Deadlock) (settles : WaitSettles i.detect i.victims (state_on (graph_of i.graph) locks) t.slot (state_on (graph_of i.graph) left)) where
+    module _ (left : code.Locks) (kept : Deadlock) (settles : WaitSettles i.detect i.victims (state_on (graph_of i.graph) locks) t.slot
+        (state_on (graph_of i.graph) left)) where
       abbrev after : Inside
       after = record i { locks = left; deadlock = kept }
 
       pub state_locked : Locks s t.slot n m (state_of (view_of after))
       state_locked = record {
         at_once = λ h. clash h blocks;
-        waits = λ h. settles_on i.detect i.victims (enqueued l t.slot n (wanted l t.slot n m)) (state_on (graph_of i.graph) left) t.slot i.detect i.victims i.begins
+        waits = λ h. settles_on i.detect i.victims (enqueued l t.slot n (wanted l t.slot n m)) (state_on (graph_of i.graph) left) t.slot i.detect i.victims
+            i.begins
             (subst (λ (x : State). WaitSettles i.detect i.victims x t.slot (state_on (graph_of i.graph) left)) is settles);
       }
 
       -- with what is kept of deadlocks
-      pub kept_locked : WaitSettlesKeeping i.detect i.victims (state_on (graph_of i.graph) locks) t.slot i.deadlock (state_on (graph_of i.graph) left) kept → LocksKeeping s t.slot n m i.deadlock (state_of (view_of after)) kept
+      pub kept_locked : WaitSettlesKeeping i.detect i.victims (state_on (graph_of i.graph) locks) t.slot i.deadlock (state_on (graph_of i.graph) left) kept
+          → LocksKeeping s t.slot n m i.deadlock (state_of (view_of after)) kept
       kept_locked keeps = record {
         at_once = λ h. clash h blocks;
-        waits = λ h. keeps_on i.detect i.victims (enqueued l t.slot n (wanted l t.slot n m)) (state_on (graph_of i.graph) left) t.slot i.deadlock kept i.detect i.victims i.begins
+        waits = λ h. keeps_on i.detect i.victims (enqueued l t.slot n (wanted l t.slot n m)) (state_on (graph_of i.graph) left) t.slot i.deadlock kept i.detect
+            i.victims i.begins
             (subst (λ (x : State). WaitSettlesKeeping i.detect i.victims x t.slot i.deadlock (state_on (graph_of i.graph) left) kept) is keeps);
       }
 
-      pub sound_locked : AreSound left → ((u : ℕ) → Agrees (state_on (graph_of i.graph) left) left.lists.items u) → ((u : ℕ) → CountsHeld (state_on (graph_of i.graph) left) left.lists.items u) → IsSound after
+      pub sound_locked : AreSound left → ((u : ℕ) → Agrees (state_on (graph_of i.graph) left) left.lists.items u)
+          → ((u : ℕ) → CountsHeld (state_on (graph_of i.graph) left) left.lists.items u) → IsSound after
       sound_locked are agrees counts = record {
         lawful = locks-lawful s (state_of (view_of after)) sound.lawful t n m may state_locked;
         sound = are;
@@ -107,7 +100,8 @@ module _ (i : Inside) (sound : IsSound i) (t : TxnId) (n : NodeId) (m : Mode) (m
       }
 
       -- the asker's own wait is told to nobody
-      pub told_locked : (list : Told) → list ≡ told_but t.slot (state_on (graph_of i.graph) locks) (state_on (graph_of i.graph) left) → list ≡ told_but t.slot s (state_of (view_of after))
+      pub told_locked : (list : Told) → list ≡ told_but t.slot (state_on (graph_of i.graph) locks) (state_on (graph_of i.graph) left)
+          → list ≡ told_but t.slot s (state_of (view_of after))
       told_locked list told =
           told
           ∙ ap (λ (x : State). told_but t.slot x (state_of (view_of after))) is

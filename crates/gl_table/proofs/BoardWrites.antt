@@ -1,31 +1,14 @@
 -- The board of a moment, written seat by seat.
-use Rattle.std.proofs.Common.{◌≡◌, ◌≢◌, ℕ, ◌+◌, ◌<◌, ◌≤◌, ◌⊎◌, Bool, true, false, not, ◌&&◌, ◌||◌, ◌==◌, cond, nat_lt, List, Option, Some, None, length, get_or, set, take, map, replicate, refl, sym, ap, subst, ◌∙◌, ⊎_elim, inl, inr, arith}
-use Rattle.std.specs.List.{range_with_len}
-use Rattle.std.proofs.lemmas.Bool.{cases_eq, cases_lt, not-true}
-use Rattle.std.proofs.lemmas.Bool.Decides.{nat_tests}
-use Rattle.std.proofs.lemmas.List.{get_or-replicate, get_or-set_other, get_or-set_same, get_or_past, length-replicate, length-set}
-use Rattle.std.proofs.lemmas.List.FromFn.{fill_by_all, get_or-map-range_with_len}
-use Rattle.std.proofs.lemmas.Option.{slice_get-get_or, slice_get_past}
-use Rattle.gl_modes.specs.declared.mode.Mode.{Mode}
-use Rattle.gl_modes.specs.declared.node.NodeId.{NodeId}
-use Rattle.gl_modes.specs.Modes.{are_compatible}
-use Rattle.gl_modes.proofs.ModeLemmas.{NL-compatible}
-use Rattle.gl_header.specs.Header.{Waiter, is_ahead, is_among_waiters}
-use Rattle.gl_header.specs.State.{HeaderState, IsLawfulHeader, members_of}
-use Rattle.gl_header.proofs.Unused.{unused-nobody}
-use Rattle.gl_waits.specs.declared.board.Board.{Board}
-use Rattle.gl_waits.specs.Sets.{bits_of, has_slot}
-use Rattle.gl_waits.specs.Boards.{row_edge}
-use Rattle.gl_waits.proofs.BoardLemmas.{row_edge-bits_of, row_edge-replicate}
-use Rattle.gl_waits.proofs.SetLemmas.{no_slot-zero, same_slots}
-use Rattle.gl_graph.proofs.Look.{none_some, or_elim, some_is}
-use Rattle.gl_table.specs.declared.seat.Seat.{Seat}
-use Rattle.gl_table.specs.declared.txn.Status.TheVariants.{Waiting}
-use Rattle.gl_table.specs.BoardOf.{board_of, shown}
-use Rattle.gl_table.specs.Headers.{AreHeaders, Entries, header_at, header_or_new, held_of, queue_of}
-use Rattle.gl_table.specs.Seats.{txn_in, txns_of}
-use Rattle.gl_table.specs.State.{State, age_in, age_of, status_in}
-use Rattle.gl_table.specs.Waiting.{blocks, waits_for}
+use Rattle.gl_table.proofs.Words.{◌&&◌, ◌+◌, ◌<◌, ◌==◌, ◌||◌, ◌∙◌, ◌≡◌, ◌≢◌, ◌≤◌, ◌⊎◌, age_in, age_of, ap, are_compatible, AreHeaders, arith, bits_of, blocks}
+use Rattle.gl_table.proofs.Words.{Board, board_of, Bool, cases_eq, cases_lt, cond, Entries, false, fill_by_all, get_or, get_or-map-range_with_len}
+use Rattle.gl_table.proofs.Words.{get_or-replicate, get_or-set_other, get_or-set_same, get_or_past, header_at, header_or_new, HeaderState, held_of, inl, inr}
+use Rattle.gl_table.proofs.Words.{is_ahead, is_among_waiters, IsLawfulHeader, length, length-replicate, List, map, members_of, Mode, nat_lt, nat_tests}
+use Rattle.gl_table.proofs.Words.{NL-compatible, no_slot-zero, NodeId, None, none_some, not, not-true, Option, or_elim, queue_of, range_with_len, refl}
+use Rattle.gl_table.proofs.Words.{replicate, row_edge, row_edge-bits_of, row_edge-replicate, same_slots, Seat, set, shown, slice_get-get_or, slice_get_past}
+use Rattle.gl_table.proofs.Words.{Some, some_is, State, status_in, subst, sym, take, true, txn_in, txns_of, unused-nobody, Waiter, Waiting, waits_for, ℕ}
+use Rattle.gl_table.proofs.Words.{⊎_elim}
+use Rattle.std.proofs.lemmas.List.{length-set}
+use Rattle.gl_waits.specs.Sets.{has_slot}
 use Rattle.gl_table.proofs.Edges.{idle_no_step, step_is}
 use Rattle.gl_table.proofs.Rows.{ahead-first}
 use Rattle.gl_table.proofs.Queues.{ahead_is, ahead_second, clash}
@@ -50,7 +33,8 @@ AreRowsShown edge old xs = (t : ℕ) → (get_or xs t 0 ≡ get_or old t 0) ⊎ 
 
 -- nothing is written yet
 ages-none : (age : ℕ → ℕ) (n : ℕ) → AreAgesBelow age 0 (replicate n 0)
-ages-none age n t = ⊎_elim (λ low. get_or-replicate n t 0 0 low) (λ past. get_or_past (replicate n 0) t 0 (let e = length-replicate {A = ℕ} n 0 in omega arith)) (cases_lt t n) ∙ by (age t)
+ages-none age n t = ⊎_elim (λ low. get_or-replicate n t 0 0 low) (λ past. get_or_past (replicate n 0) t 0 (let e = length-replicate {A = ℕ} n 0 in omega arith))
+    (cases_lt t n) ∙ by (age t)
   where
     by : (x : ℕ) → 0 ≡ cond (nat_lt t 0) x 0
     by x = grind (arith, nat_tests)
@@ -94,26 +78,31 @@ seat_at seats i o low is = ap txn_in (slice_get-get_or seats i None low ∙ ap S
 pub ages-begin : (seats : List (Option Seat)) → AreAgesBelow (age_at seats) 0 (replicate 128 0)
 ages-begin seats = ages-none (age_at seats) 128
 
-pub ages-taken : (seats : List (Option Seat)) (i a : ℕ) (xs : List ℕ) (x : Seat) → i < length seats → i < length xs → get_or seats i None ≡ Some x → a ≡ x.age → AreAgesBelow (age_at seats) i xs
+pub ages-taken : (seats : List (Option Seat)) (i a : ℕ) (xs : List ℕ) (x : Seat) → i < length seats → i < length xs → get_or seats i None ≡ Some x → a ≡ x.age
+    → AreAgesBelow (age_at seats) i xs
     → AreAgesBelow (age_at seats) (i + 1) (set xs i a)
 ages-taken seats i a xs x low inside is age = ages-written (age_at seats) i a xs inside (age ∙ sym (ap age_in (seat_at seats i (Some x) low is)))
 
-pub ages-free : (seats : List (Option Seat)) (i : ℕ) (xs : List ℕ) → i < length seats → get_or seats i None ≡ None → AreAgesBelow (age_at seats) i xs → AreAgesBelow (age_at seats) (i + 1) xs
+pub ages-free : (seats : List (Option Seat)) (i : ℕ) (xs : List ℕ) → i < length seats → get_or seats i None ≡ None → AreAgesBelow (age_at seats) i xs
+    → AreAgesBelow (age_at seats) (i + 1) xs
 ages-free seats i xs low free = ages-passed (age_at seats) i xs (ap age_in (seat_at seats i None low free))
 
 -- once all seats are read
-pub ages-read : (seats : List (Option Seat)) (i : ℕ) (xs : List ℕ) → i ≡ length seats → AreAgesBelow (age_at seats) i xs → (u : ℕ) → get_or xs u 0 ≡ age_at seats u
+pub ages-read : (seats : List (Option Seat)) (i : ℕ) (xs : List ℕ) → i ≡ length seats → AreAgesBelow (age_at seats) i xs → (u : ℕ)
+    → get_or xs u 0 ≡ age_at seats u
 ages-read seats i xs end ages u = ages u ∙ by (age_at seats u) (λ k. ap (λ o. age_in (txn_in o)) (slice_get_past seats u (omega arith)))
   where
     by : (x : ℕ) → (i ≤ u → x ≡ 0) → cond (nat_lt u i) x 0 ≡ x
     by x z = grind (arith, nat_tests)
 
 -- a row that is right is written
-pub rows-shown : (edge : ℕ → ℕ → Bool) (i r : ℕ) (old xs : List ℕ) → i < length xs → ((u : ℕ) → has_slot r u ≡ edge i u) → AreRowsShown edge old xs → AreRowsShown edge old (set xs i r)
+pub rows-shown : (edge : ℕ → ℕ → Bool) (i r : ℕ) (old xs : List ℕ) → i < length xs → ((u : ℕ) → has_slot r u ≡ edge i u) → AreRowsShown edge old xs
+    → AreRowsShown edge old (set xs i r)
 rows-shown edge i r old xs low is rows t =
     ⊎_elim
     (λ e. inr (subst (IsRow edge (set xs i r)) (sym e) (λ u. ap (λ n. has_slot n u) (get_or-set_same xs i r 0 low) ∙ is u)))
-    (λ ne. let other = get_or-set_other xs i t r 0 ne in ⊎_elim (λ same. inl (other ∙ same)) (λ right. inr (λ u. ap (λ n. has_slot n u) other ∙ right u)) (rows t))
+    (λ ne. let other = get_or-set_other xs i t r 0 ne in
+    ⊎_elim (λ same. inl (other ∙ same)) (λ right. inr (λ u. ap (λ n. has_slot n u) other ∙ right u)) (rows t))
     (cases_eq t i)
 
 -- rows that are as they were or right are right as far as those were
@@ -145,18 +134,21 @@ ages-all age i n xs size free ages = fill_by_all age xs n 0 size (λ k low. ages
     by : (k x : ℕ) → (i ≤ k → x ≡ 0) → cond (nat_lt k i) x 0 ≡ x
     by k x z = grind (arith, nat_tests)
 
-rows-all : (edge : ℕ → ℕ → Bool) (i n m : ℕ) (xs : List ℕ) → length xs ≡ n → ((t u : ℕ) → edge t u ≡ true → (t < n) × (u < m)) → ((t u : ℕ) → i ≤ t → edge t u ≡ false) → AreRowsBelow edge i xs
+rows-all : (edge : ℕ → ℕ → Bool) (i n m : ℕ) (xs : List ℕ) → length xs ≡ n → ((t u : ℕ) → edge t u ≡ true → (t < n) × (u < m))
+    → ((t u : ℕ) → i ≤ t → edge t u ≡ false) → AreRowsBelow edge i xs
     → xs ≡ map (λ t. bits_of m (edge t)) (range_with_len 0 n)
 rows-all edge i n m xs size low idle rows =
     fill_by_all (λ t. bits_of m (edge t)) xs n 0 size
-    (λ k inside. same_slots _ _ (λ u. right k u ∙ sym (row_edge-bits_of n m edge low k u)) ∙ get_or-map-range_with_len (λ t. bits_of m (edge t)) 0 n k k 0 inside (omega arith))
+    (λ k inside. same_slots _ _ (λ u. right k u ∙ sym (row_edge-bits_of n m edge low k u))
+    ∙ get_or-map-range_with_len (λ t. bits_of m (edge t)) 0 n k k 0 inside (omega arith))
   where
     right : (k : ℕ) → IsRow edge xs k
     right k = ⊎_elim (λ is. is) (λ none. λ u. none.1 u ∙ sym (idle k u none.0)) (rows k)
 
 -- whom somebody waits for is below 128
 
-blocker-below : (o : Option HeaderState) → ((h : HeaderState) → o ≡ Some h → IsLawfulHeader h) → (w : Mode) (t u : ℕ) → (not (are_compatible w (members_of (header_or_new o) u)) || is_ahead (header_or_new o).queue t u) ≡ true → u < 128
+blocker-below : (o : Option HeaderState) → ((h : HeaderState) → o ≡ Some h → IsLawfulHeader h) → (w : Mode) (t u : ℕ)
+    → (not (are_compatible w (members_of (header_or_new o) u)) || is_ahead (header_or_new o).queue t u) ≡ true → u < 128
 blocker-below None lawful w t u h =
     or_elim _ _ h (λ k. clash (ap (λ g. are_compatible w (g u)) unused-nobody ∙ NL-compatible w) (not-true _ k)) (λ k. clash k refl)
 blocker-below (Some x) lawful w t u h =
@@ -253,26 +245,31 @@ module _ (hs : Entries) (seats : List (Option Seat)) (epoch i : ℕ) (b after : 
         ages_len = length-set b.ages i a ∙ sofar.ages_len;
         rows_len = size ∙ length-set b.rows i row ∙ sofar.rows_len;
         ages = age-written x a is age;
-        rows = rows-kept (waits_for s) (i + 1) (set b.rows i row) rows kept (rows-next (waits_for s) i (set b.rows i row) there (rows-kept (waits_for s) i b.rows (set b.rows i row) own sofar.rows));
+        rows = rows-kept (waits_for s) (i + 1) (set b.rows i row) rows kept
+            (rows-next (waits_for s) i (set b.rows i row) there (rows-kept (waits_for s) i b.rows (set b.rows i row) own sofar.rows));
       })
 
 -- the row of a slot whose place in a queue is reached, where those passed are known
-pub reached-row : (hs : Entries) (seats : List (Option Seat)) (node : NodeId) (h : HeaderState) (q : List Waiter) (t i : ℕ) (w : Mode) (passed r : ℕ) (d : Waiter) → h ≡ header_or_new (header_at hs node) → q ≡ h.queue
+pub reached-row : (hs : Entries) (seats : List (Option Seat)) (node : NodeId) (h : HeaderState) (q : List Waiter) (t i : ℕ) (w : Mode) (passed r : ℕ)
+    (d : Waiter) → h ≡ header_or_new (header_at hs node) → q ≡ h.queue
     → status_in (txns_of seats t) ≡ Some (Waiting node w) → i < length q → (get_or q i d).0 ≡ t
     → ((u : ℕ) → has_slot passed u ≡ is_among_waiters u (take i q)) → has_slot passed t ≡ false
     → ((u : ℕ) → has_slot r u ≡ (not (t == u) && (not (are_compatible w (members_of h u)) || has_slot passed u)))
     → (u : ℕ) → has_slot r u ≡ waits_for (shown hs seats 0) t u
 reached-row hs seats node h q t i w passed r d is same st low at front out row u =
     row u
-    ∙ ap (λ b. not (t == u) && (not (are_compatible w (members_of h u)) || b)) (front u ∙ sym (ahead-first q t u i d low at (sym (front t) ∙ out)) ∙ ap (λ x. is_ahead x t u) same)
+    ∙ ap (λ b. not (t == u) && (not (are_compatible w (members_of h u)) || b)) (front u ∙ sym (ahead-first q t u i d low at (sym (front t) ∙ out))
+    ∙ ap (λ x. is_ahead x t u) same)
     ∙ ap (λ (x : HeaderState). not (t == u) && (not (are_compatible w (members_of x u)) || is_ahead x.queue t u)) is
     ∙ sym (ap (λ o. not (t == u) && blocks (shown hs seats 0) t u o) st)
 
-board-is : (b : Board) (epoch : ℕ) (ages rows : List ℕ) → b.epoch ≡ epoch → b.ages ≡ ages → b.rows ≡ rows → b ≡ record { epoch = epoch; ages = ages; rows = rows }
+board-is : (b : Board) (epoch : ℕ) (ages rows : List ℕ) → b.epoch ≡ epoch → b.ages ≡ ages → b.rows ≡ rows
+    → b ≡ record { epoch = epoch; ages = ages; rows = rows }
 board-is b epoch ages rows e a r = λ j. record { epoch = e j; ages = a j; rows = r j }
 
 -- when all seats are read, it is the board
-pub board-all : (hs : Entries) (seats : List (Option Seat)) (epoch i : ℕ) (b : Board) → AreHeaders hs → length seats ≤ 128 → i ≡ length seats → IsBoardBelow (shown hs seats epoch) i b → b ≡ board_of (shown hs seats epoch)
+pub board-all : (hs : Entries) (seats : List (Option Seat)) (epoch i : ℕ) (b : Board) → AreHeaders hs → length seats ≤ 128 → i ≡ length seats
+    → IsBoardBelow (shown hs seats epoch) i b → b ≡ board_of (shown hs seats epoch)
 board-all hs seats epoch i b law few end h =
     board-is b _ _ _ h.epoch
     (ages-all (age_of s) i 128 b.ages h.ages_len (λ t k. ap age_in (free t k)) h.ages)

@@ -1,21 +1,8 @@
 -- A wait is taken back by its own transaction, or by its end: what all others are told.
-use Rattle.std.specs.Prelude.{◌≡◌, ℕ, Bool, true, false, ◌==◌, Option, Some, None, if◌then◌else◌}
-use Rattle.std.proofs.Common.{refl, sym, ap, ap₂, ◌∙◌, subst}
-use Rattle.gl_modes.specs.declared.mode.Mode.{Mode}
-use Rattle.gl_modes.specs.declared.node.NodeId.{NodeId}
-use Rattle.gl_graph.proofs.Look.{number_same}
-use Rattle.gl_header.specs.Header.{is_among_waiters}
+use Rattle.gl_table.proofs.Words.{◌==◌, ◌∙◌, ◌≡◌, Active, ap, ap₂, Bool, cancelled, false, front_at, grant_notice, granted_at, if◌then◌else◌, is_among_waiters}
+use Rattle.gl_table.proofs.Words.{is_wait, is_waiting_at, IsOrderly, Mode, mode_given, NodeId, None, notices_in, number_same, Option, refl, released, restatus}
+use Rattle.gl_table.proofs.Words.{Some, State, status_in, status_of, subst, sym, Told, true, Txn, TxnId, Waiting, WakesTold, without_wait, woken, ℕ}
 use Rattle.gl_table.specs.declared.notice.Notice.TheVariants as notice
-use Rattle.gl_table.specs.declared.txn.Status.TheVariants.{Active, Waiting}
-use Rattle.gl_table.specs.declared.txn.TxnId.{TxnId}
-use Rattle.gl_table.specs.Calls.{cancelled, released}
-use Rattle.gl_table.specs.Locks.{IsOrderly}
-use Rattle.gl_table.specs.Pumps.{front_at, granted_at, is_waiting_at, without_wait, woken}
-use Rattle.gl_table.specs.Slots.{WakesTold, grant_notice, mode_given}
-use Rattle.gl_table.specs.State.{State, Txn, restatus, status_in, status_of}
-use Rattle.gl_table.specs.Telling.{notices_in}
-use Rattle.gl_table.specs.Tellings.{Told}
-use Rattle.gl_table.specs.Waiting.{is_wait}
 use Rattle.gl_table.proofs.Departures.{StillTells}
 use Rattle.gl_table.proofs.GivenUp.{given_up_out, waits_still}
 use Rattle.gl_table.proofs.Leaving.{abort_is_release}
@@ -39,19 +26,22 @@ pub free_same : (s now now' : State) (t : ℕ) (was told told' : Told) → now' 
 free_same s now now' t was told told' e k is = subst (λ (x : State). IsFree s x t was told') (sym e) (subst (λ (xs : Told). IsFree s now t was xs) (sym k) is)
 
 -- where it waits for nothing, nothing is taken back
-pub free_idle : (s : State) (t : ℕ) (told : Told) → IsOrderly s → is_wait (status_of s t) ≡ false → ((u : ℕ) → is_wait (status_of s u) ≡ true → notices_in told u ≡ None) → IsFree s s t told told
+pub free_idle : (s : State) (t : ℕ) (told : Told) → IsOrderly s → is_wait (status_of s t) ≡ false
+    → ((u : ℕ) → is_wait (status_of s u) ≡ true → notices_in told u ≡ None) → IsFree s s t told told
 free_idle s t told o quiet untold = record { orderly = o; quiet = quiet; untold = untold; released = refl; own = refl; tells = λ begin way same. (way, same) }
 
 -- who took its wait back waits for nothing
 pub cancelled_idle : (s : State) (t : ℕ) → is_wait (status_of (cancelled s t) t) ≡ false
 cancelled_idle s t = by (t == t) (number_same t t refl) (s.txns t)
   where
-    by : (b : Bool) → b ≡ true → (x : Option Txn) → is_wait (status_in (woken (granted_at (without_wait s t Active) (is_waiting_at s t)) t (if b then restatus Active x else x))) ≡ false
+    by : (b : Bool) → b ≡ true → (x : Option Txn) → is_wait
+        (status_in (woken (granted_at (without_wait s t Active) (is_waiting_at s t)) t (if b then restatus Active x else x))) ≡ false
     by true e None = refl
     by true e (Some x) = refl
     by false e x = clash e refl
 
-module _ (s : State) (o : IsOrderly s) (t : ℕ) (n : NodeId) (waits : is_waiting_at s t n ≡ true) (was told : Told) (wakes : WakesTold s.txns n (front_at (without_wait s t Active) n) was told) where
+module _ (s : State) (o : IsOrderly s) (t : ℕ) (n : NodeId) (waits : is_waiting_at s t n ≡ true) (was told : Told)
+    (wakes : WakesTold s.txns n (front_at (without_wait s t Active) n) was told) where
   abbrev in_front : ℕ → Bool
   in_front u = is_among_waiters u (front_at (without_wait s t Active) n)
 
@@ -60,7 +50,8 @@ module _ (s : State) (o : IsOrderly s) (t : ℕ) (n : NodeId) (waits : is_waitin
 
   -- it is told nothing of it
   pub cancelled_own : notices_in told t ≡ notices_in was t
-  cancelled_own = wakes.notices t ∙ ap (λ k. if k then grant_notice s.txns n (front_at (without_wait s t Active) n) t else notices_in was t) (given_up_out s o t n Active (λ q m e. cc) waits)
+  cancelled_own = wakes.notices t ∙ ap (λ k. if k then grant_notice s.txns n (front_at (without_wait s t Active) n) t else notices_in was t)
+      (given_up_out s o t n Active (λ q m e. cc) waits)
 
   -- all others are told who are granted
   pub cancelled_tells : StillTells s (cancelled s t) t was told
@@ -68,7 +59,8 @@ module _ (s : State) (o : IsOrderly s) (t : ℕ) (n : NodeId) (waits : is_waitin
     way_gives_up begin s t n wait.0 Active (λ q m e. cc) wait.1 way,
     λ u e.
         wakes.notices u
-        ∙ ap₂ (λ x y. if in_front u then x else y) (ap (λ (a : ℕ). let name : TxnId = record { slot = u; age = a } in Some (name, notice.Granted n (mode_given (front_at (without_wait s t Active) n) u))) (way.ages u)) (same u e)
+        ∙ ap₂ (λ x y. if in_front u then x else y) (ap (λ (a : ℕ). let name : TxnId = record { slot = u; age = a } in
+        Some (name, notice.Granted n (mode_given (front_at (without_wait s t Active) n) u))) (way.ages u)) (same u e)
         ∙ sym (cancel_tells begin s t n wait.0 wait.1 way u e),
   )
 

@@ -1,23 +1,12 @@
 -- Where nobody is on a cycle of waits, each chain of waits ends at one who does not wait.
-use Rattle.std.specs.Prelude.{◌≡◌, ◌⊎◌, ℕ, zero, suc, Bool, true, false, not, ◌&&◌, ◌||◌, ◌==◌, List, [], ◌∷◌, length, Some, if◌then◌else◌}
-use Rattle.std.specs.List.{filter, list_any, list_all, range_with_len}
-use Rattle.std.proofs.Common.{refl, sym, ap, ap₂, ◌∙◌, arith, ⊎_elim, inl, inr}
-use Rattle.std.proofs.lemmas.Bool.Decides.{nat_tests}
-use Rattle.gl_modes.specs.declared.mode.Mode.{Mode}
-use Rattle.gl_modes.specs.declared.node.NodeId.{NodeId}
-use Rattle.gl_modes.specs.Modes.{are_compatible}
-use Rattle.gl_table.specs.declared.txn.Status.TheVariants.{Waiting}
-use Rattle.gl_header.specs.Header.{Waiter, fits, front, with_mode, is_ahead, is_among_waiters, is_waiter}
-use Rattle.gl_waits.specs.Waits.{IsWalk, Reaches}
-use Rattle.gl_table.specs.State.{State, members, status_of}
-use Rattle.gl_table.specs.Waiting.{waits_for, HasNoCycle, is_wait}
-use Rattle.gl_table.specs.Lawful.{IsLawful}
+use Rattle.gl_table.proofs.Words.{[], ◌&&◌, ◌==◌, ◌||◌, ◌∙◌, ◌∷◌, ◌≡◌, ◌⊎◌, ap, ap₂, are_compatible, arith, Bool, false, filter, fits, front, HasNoCycle}
+use Rattle.gl_table.proofs.Words.{if◌then◌else◌, inl, inr, is_ahead, is_among_waiters, is_wait, is_waiter, IsLawful, IsWalk, length, List, list_all, list_any}
+use Rattle.gl_table.proofs.Words.{members, Mode, nat_tests, NodeId, not, or_elim, or_left, or_no, or_right, range_with_len, Reaches, refl, Some, split, State}
+use Rattle.gl_table.proofs.Words.{status_of, suc, sym, true, Waiter, Waiting, waits_for, with_mode, zero, ℕ, ⊎_elim}
 use Rattle.gl_table.proofs.Queues.{ahead, ahead_is, clash, no_cons, among_by_filter}
 use Rattle.gl_table.proofs.Edges.{is_step}
 use Rattle.gl_table.proofs.Settles.{wait_is, low}
 use Rattle.gl_table.proofs.Walks.{same, Distinct, short}
-use Rattle.gl_graph.proofs.Look.{split, or_elim, or_left, or_right}
-use Rattle.gl_graph.proofs.Unrefused.{or_no}
 
 one_fails : (f : ℕ → Bool) (xs : List ℕ) → list_all f xs ≡ false → (u : ℕ) × (f u ≡ false)
 one_fails f [] h = clash refl h
@@ -32,7 +21,8 @@ module _ (s : State) (law : IsLawful s) (t : ℕ) (n : NodeId) (m : Mode) (st : 
   for_holder h =
       let found = one_fails (λ u. (u == t) || are_compatible m (s.held u n)) (range_with_len 0 s.most) h in
       let both = or_no (found.0 == t) (are_compatible m (s.held found.0 n)) found.1 in
-      (found.0, is_step s t found.0 n m (record { differ = differs found.0 both.0; waits = st; blocked = or_left (not (are_compatible m (s.held found.0 n))) (is_ahead (s.queue n) t found.0) (ap not both.1) }))
+      (found.0, is_step s t found.0 n m (record { differ = differs found.0 both.0; waits = st;
+      blocked = or_left (not (are_compatible m (s.held found.0 n))) (is_ahead (s.queue n) t found.0) (ap not both.1) }))
 
   by_queue : (q : List Waiter) → s.queue n ≡ q → front s.most (members s n) q ≡ [] → filter (is_waiter t) q ≡ (t, m) ∷ [] → (u : ℕ) × (waits_for s t u ≡ true)
   by_queue [] e free one = no_cons (sym one)
@@ -57,12 +47,14 @@ module _ (s : State) (law : IsLawful s) (t : ℕ) (n : NodeId) (m : Mode) (st : 
       behind : (w.0 == t) ≡ false → (u : ℕ) × (waits_for s t u ≡ true)
       behind k =
           let later : filter (is_waiter t) q ≡ (t, m) ∷ [] = sym (ap (λ b. if b then w ∷ filter (is_waiter t) q else filter (is_waiter t) q) k) ∙ one in
-          let order : ahead (w ∷ q) t w.0 ≡ true = ap₂ (λ a b. not a && (if b then is_among_waiters t q else ahead q t w.0)) k (self w.0) ∙ among_by_filter t (t, m) [] q later in (
+          let order : ahead (w ∷ q) t w.0 ≡ true = ap₂ (λ a b. not a && (if b then is_among_waiters t q else ahead q t w.0)) k (self w.0)
+          ∙ among_by_filter t (t, m) [] q later in (
             w.0,
             is_step s t w.0 n m (record {
               differ = turned w.0 k;
               waits = st;
-              blocked = or_right (not (are_compatible m (s.held w.0 n))) (is_ahead (s.queue n) t w.0) (ap (λ l. is_ahead l t w.0) e ∙ ahead_is (w ∷ q) t w.0 ∙ order);
+              blocked = or_right (not (are_compatible m (s.held w.0 n))) (is_ahead (s.queue n) t w.0) (ap (λ l. is_ahead l t w.0) e ∙ ahead_is (w ∷ q) t w.0
+                  ∙ order);
             }),
           )
 
@@ -92,19 +84,23 @@ module _ (edge : ℕ → ℕ → Bool) where
   Ends busy x = (u : ℕ) × Reaches edge x u × (busy u ≡ false)
 
   -- a chain ends, or goes on for k numbers
-  goes_on : (busy : ℕ → Bool) → ((x : ℕ) → busy x ≡ true → (u : ℕ) × (edge x u ≡ true)) → (k x : ℕ) → busy x ≡ true → Ends busy x ⊎ ((y : ℕ) × (way : List ℕ) × IsWalk edge x way y × (length way ≡ k))
+  goes_on : (busy : ℕ → Bool) → ((x : ℕ) → busy x ≡ true → (u : ℕ) × (edge x u ≡ true)) → (k x : ℕ) → busy x ≡ true
+      → Ends busy x ⊎ ((y : ℕ) × (way : List ℕ) × IsWalk edge x way y × (length way ≡ k))
   goes_on busy next zero x b = let u = next x b in inr (u.0, [], u.1, refl)
   goes_on busy next (suc k) x b =
       let u = next x b in
       split (busy u.0)
-      (λ bu. ⊎_elim (λ end. inl (end.0, (u.0 ∷ end.1.0, (u.1, end.1.1)), end.2)) (λ on. inr (on.0, u.0 ∷ on.1, (u.1, on.2), ap suc on.3)) (goes_on busy next k u.0 bu))
+      (λ bu. ⊎_elim (λ end. inl (end.0, (u.0 ∷ end.1.0, (u.1, end.1.1)), end.2)) (λ on. inr (on.0, u.0 ∷ on.1, (u.1, on.2), ap suc on.3))
+      (goes_on busy next k u.0 bu))
       (λ bu. inl (u.0, ([], u.1), bu))
 
 -- each chain of waits ends
-pub chain_ends : (s : State) → IsLawful s → HasNoCycle s → (t : ℕ) → is_wait (status_of s t) ≡ true → (u : ℕ) × Reaches (waits_for s) t u × (is_wait (status_of s u) ≡ false)
+pub chain_ends : (s : State) → IsLawful s → HasNoCycle s → (t : ℕ) → is_wait (status_of s t) ≡ true → (u : ℕ) × Reaches (waits_for s) t u
+    × (is_wait (status_of s u) ≡ false)
 chain_ends s law none t b =
     ⊎_elim (λ end. end)
-    (λ on. let few = short (waits_for s) s.most (low s law) on.1 t on.0 on.2 (once (waits_for s) circle t on.0 on.1 on.2) in let long = on.3 in absurd (omega arith))
+    (λ on. let few = short (waits_for s) s.most (low s law) on.1 t on.0 on.2 (once (waits_for s) circle t on.0 on.1 on.2) in let long = on.3 in
+    absurd (omega arith))
     (goes_on (waits_for s) (λ x. is_wait (status_of s x)) (λ x h. let w = wait_is (status_of s x) h in waits_for_one s law x w.0 w.1 w.2) (suc s.most) t b)
   where
     circle : (v : ℕ) → Reaches (waits_for s) v v → ⊥

@@ -1,27 +1,10 @@
 -- What the lists say of held children, as the tests of an unlock.
-use Rattle.std.specs.Prelude.{◌≡◌, ◌≤◌, ℕ, zero, suc, ◌+◌, length, Bool, true, false, cond, not, ◌&&◌, List, [], ◌∷◌, Option, Some, None, Ok, Err, if◌then◌else◌, slice_get}
-use Rattle.std.specs.List.{count_by, find}
-use Rattle.std.proofs.Common.{refl, sym, ap, ap₂, ◌∙◌, arith}
-use Rattle.std.proofs.Math.Path.{fun_ext}
-use Rattle.std.proofs.lemmas.List.Sums.{sum_by-cons}
-use Rattle.gl_modes.specs.declared.mode.Mode.TheVariants.{NL}
-use Rattle.gl_modes.specs.declared.node.NodeId.{NodeId}
-use Rattle.gl_modes.specs.declared.refusal.Refusal.TheVariants as no
-use Rattle.gl_modes.specs.Modes.{same_mode}
-use Rattle.gl_graph.specs.Graph.{Graph, is_child, is_live, nodes}
-use Rattle.gl_graph.specs.Refusals.{first_refusal, verdict, where_true}
-use Rattle.gl_graph.specs.View.{graph_of}
-use Rattle.gl_header.specs.Header.{holds}
-use Rattle.gl_table.specs.declared.list.LockList.{LockList}
+use Rattle.gl_table.proofs.Words.{[], ◌&&◌, ◌+◌, ◌∙◌, ◌∷◌, ◌≡◌, ◌≤◌, ap, ap₂, arith, Bool, child_held, cond, count_by, counted_by, Err, false, find}
+use Rattle.gl_table.proofs.Words.{first_refusal, fun_ext, Graph, graph_of, held_by, held_child, held_children, holds, if◌then◌else◌, is_child, is_live, IsSound}
+use Rattle.gl_table.proofs.Words.{length, List, LockList, members, mode_of, NL, NodeId, nodes, None, not, not_held, Ok, Option, option_map_or, refl, same_mode}
+use Rattle.gl_table.proofs.Words.{slice_get, Some, State, state_of, suc, sum_by-cons, sym, true, verdict, view_of, where_true, zero, ℕ}
 use Rattle.gl_table.specs.declared.table.Table.TheInside.{Inside}
-use Rattle.gl_table.specs.Covered.{held_children}
-use Rattle.gl_table.specs.Refusals.{child_held, held_child, not_held}
-use Rattle.std.specs.Option.{option_map_or}
-use Rattle.gl_table.specs.Lists.{mode_of}
-use Rattle.gl_table.specs.Slots.{counted_by, held_by}
-use Rattle.gl_table.specs.Sound.{IsSound, view_of}
-use Rattle.gl_table.specs.State.{State, members}
-use Rattle.gl_table.specs.Table.{state_of}
+use Rattle.gl_modes.specs.declared.refusal.Refusal.TheVariants as no
 
 -- nothing is found where nothing is counted, and the other way round
 pub none_counted : (f : NodeId → Bool) (ns : List NodeId) → count_by f ns ≡ 0 → find f ns ≡ None
@@ -58,36 +41,46 @@ module _ (i : Inside) (sound : IsSound i) (t : ℕ) (n : NodeId) where
       → verdict (first_refusal (not_held s t n ∷ held_child s t n ∷ [])) ≡ verdict (first_refusal (where_true (not h) no.NotHeld ∷ child_held o ∷ []))
   answer h o e f = ap₂ (λ a b. verdict (first_refusal (where_true (not a) no.NotHeld ∷ child_held b ∷ []))) e f
 
-  holding : (k : ℕ) → Some k ≡ (if holds (λ u. held_by ls u n) t then Some (counted_by ls t n) else None) → (holds (members s n) t ≡ true) × (k ≡ held_children s t n)
+  holding : (k : ℕ) → Some k ≡ (if holds (λ u. held_by ls u n) t then Some (counted_by ls t n) else None) → (holds (members s n) t ≡ true)
+      × (k ≡ held_children s t n)
   holding k e = by (holds (λ u. held_by ls u n) t) refl e
     where
-      by : (b : Bool) → holds (λ u. held_by ls u n) t ≡ b → Some k ≡ (if b then Some (counted_by ls t n) else None) → (holds (members s n) t ≡ true) × (k ≡ held_children s t n)
+      by : (b : Bool) → holds (λ u. held_by ls u n) t ≡ b → Some k ≡ (if b then Some (counted_by ls t n) else None) → (holds (members s n) t ≡ true)
+          × (k ≡ held_children s t n)
       by true h q = let same : k ≡ counted_by ls t n = cc in (sym (same_holder n) ∙ h, same ∙ sound.counts t n)
       by false h q = absurd (cc)
 
-  pub says_not_held : None ≡ (if holds (λ u. held_by ls u n) t then Some (counted_by ls t n) else None) → Err no.NotHeld ≡ verdict (first_refusal (not_held s t n ∷ held_child s t n ∷ []))
+  pub says_not_held : None ≡ (if holds (λ u. held_by ls u n) t then Some (counted_by ls t n) else None)
+      → Err no.NotHeld ≡ verdict (first_refusal (not_held s t n ∷ held_child s t n ∷ []))
   says_not_held e = by (holds (λ u. held_by ls u n) t) refl e
     where
-      by : (b : Bool) → holds (λ u. held_by ls u n) t ≡ b → None ≡ (if b then Some (counted_by ls t n) else None) → Err no.NotHeld ≡ verdict (first_refusal (not_held s t n ∷ held_child s t n ∷ []))
+      by : (b : Bool) → holds (λ u. held_by ls u n) t ≡ b → None ≡ (if b then Some (counted_by ls t n) else None)
+          → Err no.NotHeld ≡ verdict (first_refusal (not_held s t n ∷ held_child s t n ∷ []))
       by true h q = absurd (cc)
       by false h q = sym (answer false (find (λ c. is_child s.graph n c && holds (members s c) t) (nodes s.graph)) (sym (same_holder n) ∙ h) refl)
 
-  pub says_none : (k : ℕ) → k ≡ 0 → Some k ≡ (if holds (λ u. held_by ls u n) t then Some (counted_by ls t n) else None) → Ok tt ≡ verdict (first_refusal (not_held s t n ∷ held_child s t n ∷ []))
-  says_none k zero_is e = let h = holding k e in sym (answer true None h.0 (none_counted (λ c. is_child s.graph n c && holds (members s c) t) (nodes s.graph) (sym h.1 ∙ zero_is)))
+  pub says_none : (k : ℕ) → k ≡ 0 → Some k ≡ (if holds (λ u. held_by ls u n) t then Some (counted_by ls t n) else None)
+      → Ok tt ≡ verdict (first_refusal (not_held s t n ∷ held_child s t n ∷ []))
+  says_none k zero_is e = let h = holding k e in sym
+      (answer true None h.0 (none_counted (λ c. is_child s.graph n c && holds (members s c) t) (nodes s.graph) (sym h.1 ∙ zero_is)))
 
-  same_found : find (λ c. is_child (graph_of i.graph) n c && holds (λ u. held_by ls u c) t) (nodes (graph_of i.graph)) ≡ find (λ c. is_child s.graph n c && holds (members s c) t) (nodes s.graph)
+  same_found : find (λ c. is_child (graph_of i.graph) n c && holds (λ u. held_by ls u c) t) (nodes (graph_of i.graph))
+      ≡ find (λ c. is_child s.graph n c && holds (members s c) t) (nodes s.graph)
   same_found = ap (λ (f : NodeId → Bool). find (λ c. is_child s.graph n c && f c) (nodes s.graph)) (fun_ext same_holder)
 
   pub says_child : (k : ℕ) → Some k ≡ (if holds (λ u. held_by ls u n) t then Some (counted_by ls t n) else None) → (c : NodeId)
-      → Some c ≡ find (λ q. is_child (graph_of i.graph) n q && holds (λ u. held_by ls u q) t) (nodes (graph_of i.graph)) → Err (no.HeldChild c) ≡ verdict (first_refusal (not_held s t n ∷ held_child s t n ∷ []))
+      → Some c ≡ find (λ q. is_child (graph_of i.graph) n q && holds (λ u. held_by ls u q) t) (nodes (graph_of i.graph))
+      → Err (no.HeldChild c) ≡ verdict (first_refusal (not_held s t n ∷ held_child s t n ∷ []))
   says_child k e c f = sym (answer true (Some c) (holding k e).0 (sym (f ∙ same_found)))
 
   pub says_no_child : (k : ℕ) → Some k ≡ (if holds (λ u. held_by ls u n) t then Some (counted_by ls t n) else None)
-      → None ≡ find (λ q. is_child (graph_of i.graph) n q && holds (λ u. held_by ls u q) t) (nodes (graph_of i.graph)) → Ok tt ≡ verdict (first_refusal (not_held s t n ∷ held_child s t n ∷ []))
+      → None ≡ find (λ q. is_child (graph_of i.graph) n q && holds (λ u. held_by ls u q) t) (nodes (graph_of i.graph))
+      → Ok tt ≡ verdict (first_refusal (not_held s t n ∷ held_child s t n ∷ []))
   says_no_child k e f = sym (answer true None (holding k e).0 (sym (f ∙ same_found)))
 
 -- a slot without list holds nothing
-pub no_list : (ls : List LockList) (g : Graph) (t : ℕ) (n : NodeId) → slice_get ls t ≡ None → None ≡ find (λ c. is_child g n c && holds (λ u. held_by ls u c) t) (nodes g)
+pub no_list : (ls : List LockList) (g : Graph) (t : ℕ) (n : NodeId) → slice_get ls t ≡ None
+    → None ≡ find (λ c. is_child g n c && holds (λ u. held_by ls u c) t) (nodes g)
 no_list ls g t n e = sym (none_passes (nodes g))
   where
     and_off : (a b : Bool) → b ≡ false → (a && b) ≡ false

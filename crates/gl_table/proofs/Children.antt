@@ -1,19 +1,8 @@
 -- How many children of a node pass a test, once one child more or less passes it.
-use Rattle.std.specs.Prelude.{◌≡◌, ℕ, ◌+◌, Bool, true, false, cond, not, ◌&&◌, ◌||◌, List, [], ◌∷◌}
-use Rattle.std.specs.List.{list_any, count_by}
-use Rattle.std.proofs.Common.{refl, sym, ap, ap₂, ◌∙◌, arith}
-use Rattle.std.proofs.lemmas.List.Sums.{count_by-le-length}
-use Rattle.gl_modes.specs.declared.node.NodeId.{NodeId}
-use Rattle.gl_modes.specs.Nodes.{same_node}
-use Rattle.gl_modes.proofs.NodeLemmas.{same_node-sym}
-use Rattle.gl_graph.specs.Graph.{is_child, nodes, parents_of}
-use Rattle.gl_graph.specs.Lawful.{are_distinct}
-use Rattle.gl_graph.proofs.Look.{split, or_left, or_right, or_elim, and_both, no, same_node_is, same_node_refl}
-use Rattle.gl_graph.proofs.Counts.{count_cons}
-use Rattle.gl_graph.proofs.Distinct.{nodes_distinct}
-use Rattle.gl_graph.proofs.RouteLengths.{listed}
-use Rattle.gl_header.proofs.Ranges.{not_true}
-use Rattle.gl_table.specs.Steps.{children_that, ChildrenUp, ChildrenDown, ChildrenFew, FewParents}
+use Rattle.gl_table.proofs.Words.{[], ◌&&◌, ◌+◌, ◌||◌, ◌∙◌, ◌∷◌, ◌≡◌, and_both, ap, ap₂, are_distinct, arith, Bool, children_that, ChildrenDown, ChildrenFew}
+use Rattle.gl_table.proofs.Words.{ChildrenUp, cond, count_by, count_by-le-length, count_cons, false, FewParents, is_child, List, list_any, listed, no, NodeId}
+use Rattle.gl_table.proofs.Words.{nodes, nodes_distinct, not, not_true, or_elim, or_left, or_right, parents_of, refl, same_node, same_node-sym, same_node_is}
+use Rattle.gl_table.proofs.Words.{same_node_refl, split, sym, true, ℕ}
 use Rattle.gl_table.proofs.Parents.{parents_distinct, parents_few}
 
 -- tests that agree on the list count the same
@@ -35,10 +24,12 @@ count_one p q n b (x ∷ xs) d h absent there same =
     let is = same_node_is n x e in
     let was : p x ≡ false = ap p (sym is) ∙ absent in
     let now : q x ≡ b = ap q (sym is) ∙ there in
-    ap₂ (λ a k. cond a 1 0 + k) now (count_alike p q xs (λ c m. same c (not_true _ (λ k. no (sym (ap not (ap (λ y. list_any (same_node y) xs) (sym (same_node_is c n k ∙ is)) ∙ m)) ∙ t.0)))))
+    ap₂ (λ a k. cond a 1 0 + k) now (count_alike p q xs
+    (λ c m. same c (not_true _ (λ k. no (sym (ap not (ap (λ y. list_any (same_node y) xs) (sym (same_node_is c n k ∙ is)) ∙ m)) ∙ t.0)))))
     ∙ here (cond b 1 0) (count_by p xs) ∙ sym (ap (λ a. cond a 1 0 + count_by p xs + cond b 1 0) was))
     (λ e.
-    ap₂ (λ a k. cond a 1 0 + k) (same x (same_node-sym x n ∙ e)) (count_one p q n b xs t.1 (or_elim _ _ h (λ k. absurd (no (sym e ∙ k))) (λ k. k)) absent there same)
+    ap₂ (λ a k. cond a 1 0 + k) (same x (same_node-sym x n ∙ e))
+    (count_one p q n b xs t.1 (or_elim _ _ h (λ k. absurd (no (sym e ∙ k))) (λ k. k)) absent there same)
     ∙ further (cond (p x) 1 0) (count_by p xs) (cond b 1 0))
     ∙ sym (ap (λ k. k + cond b 1 0) (count_cons p x xs))
   where
@@ -60,7 +51,8 @@ count_self p (x ∷ xs) d =
     count_cons (same_node p) x xs
     ∙ split (same_node p x)
     (λ e.
-    let out : list_any (same_node p) xs ≡ false = not_true _ (λ k. no (sym (ap not (ap (λ y. list_any (same_node y) xs) (sym (same_node_is p x e)) ∙ k)) ∙ t.0)) in
+    let out : list_any (same_node p) xs ≡ false = not_true _
+    (λ k. no (sym (ap not (ap (λ y. list_any (same_node y) xs) (sym (same_node_is p x e)) ∙ k)) ∙ t.0)) in
     ap₂ (λ a k. cond a 1 0 + k) e (rest ∙ ap (λ b. cond b 1 0) out) ∙ sym (ap (λ a. cond (a || list_any (same_node p) xs) 1 0) e))
     (λ e. ap₂ (λ a k. cond a 1 0 + k) e rest ∙ nothing (cond (list_any (same_node p) xs) 1 0) ∙ sym (ap (λ a. cond (a || list_any (same_node p) xs) 1 0) e))
   where
@@ -70,7 +62,8 @@ count_self p (x ∷ xs) d =
 pub children_up : ChildrenUp
 children_up g law f f' n live was now same p =
     count_one (λ c. is_child g p c && f c) (λ c. is_child g p c && f' c) n (is_child g p n) (nodes g) (nodes_distinct g) (listed g law n live)
-    (ap (λ b. is_child g p n && b) was ∙ and_no (is_child g p n)) (ap (λ b. is_child g p n && b) now ∙ and_yes (is_child g p n)) (λ c e. ap (λ b. is_child g p c && b) (same c e))
+    (ap (λ b. is_child g p n && b) was ∙ and_no (is_child g p n)) (ap (λ b. is_child g p n && b) now ∙ and_yes (is_child g p n))
+    (λ c e. ap (λ b. is_child g p c && b) (same c e))
     ∙ ap (λ k. children_that g f p + k) (sym (count_self p (parents_of g n) (parents_distinct g law n)))
   where
     and_no : (b : Bool) → (b && false) ≡ false

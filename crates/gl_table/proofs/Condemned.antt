@@ -1,23 +1,8 @@
 -- A victim's wait is given up: what is told agrees with the way, and who waits still is told nothing.
-use Rattle.std.specs.Prelude.{◌≡◌, ℕ, Bool, true, false, ◌==◌, Option, Some, None, if◌then◌else◌}
-use Rattle.std.proofs.Common.{refl, sym, ap, ap₂, ◌∙◌}
-use Rattle.gl_modes.specs.declared.mode.Mode.{Mode}
-use Rattle.gl_modes.specs.declared.node.NodeId.{NodeId}
-use Rattle.gl_modes.proofs.NodeLemmas.{same_node-refl}
-use Rattle.gl_graph.proofs.Look.{same_number}
-use Rattle.gl_header.specs.Header.{is_among_waiters}
-use Rattle.gl_table.specs.declared.notice.Notice.{Notice}
+use Rattle.gl_table.proofs.Words.{◌==◌, ◌∙◌, ◌≡◌, age_of, ap, ap₂, Bool, Condemned, condemned, false, front_at, grant_notice, if◌then◌else◌, is_among_waiters}
+use Rattle.gl_table.proofs.Words.{is_wait, is_waiting_at, IsOnWay, IsOrderly, Mode, mode_given, NodeId, None, Notice, notices_in, Option, refl, same_node-refl}
+use Rattle.gl_table.proofs.Words.{same_number, Some, State, status_of, sym, Told, told_to, true, TxnId, Waiting, waits_at, WakesTold, without_wait, ℕ}
 use Rattle.gl_table.specs.declared.notice.Notice.TheVariants as notice
-use Rattle.gl_table.specs.declared.txn.Status.TheVariants.{Condemned, Waiting}
-use Rattle.gl_table.specs.declared.txn.TxnId.{TxnId}
-use Rattle.gl_table.specs.Locks.{IsOrderly}
-use Rattle.gl_table.specs.Pumps.{condemned, front_at, is_waiting_at, waits_at, without_wait}
-use Rattle.gl_table.specs.Slots.{WakesTold, grant_notice, mode_given}
-use Rattle.gl_table.specs.State.{State, age_of, status_of}
-use Rattle.gl_table.specs.Telling.{notices_in}
-use Rattle.gl_table.specs.Tellings.{Told}
-use Rattle.gl_table.specs.Tells.{IsOnWay, told_to}
-use Rattle.gl_table.specs.Waiting.{is_wait}
 use Rattle.gl_table.proofs.GivenUp.{given_up_out, waits_still}
 use Rattle.gl_table.proofs.Queues.{clash}
 use Rattle.gl_table.proofs.Tells.{victim_tells}
@@ -28,7 +13,8 @@ TellsVictim s t n told told' =
     (u : ℕ) → notices_in told' u
     ≡ (if u == t
     then Some (record { slot = t; age = age_of s t }, notice.Victim)
-    else (if is_among_waiters u (front_at (without_wait s t Condemned) n) then grant_notice s.txns n (front_at (without_wait s t Condemned) n) u else notices_in told u))
+    else (if is_among_waiters u (front_at (without_wait s t Condemned) n) then grant_notice s.txns n (front_at (without_wait s t Condemned) n) u
+    else notices_in told u))
 
 -- two tests that do not both pass, in either order
 swapped : {A : Type 0} (j k : Bool) (x y z : A) → (j ≡ true → k ≡ false) → (if j then x else (if k then y else z)) ≡ (if k then y else (if j then x else z))
@@ -60,14 +46,18 @@ module _ (s : State) (o : IsOrderly s) (t : ℕ) (n : NodeId) (m : Mode) (waits 
   victim_absent told mid wakes none = wakes.notices t ∙ ap (λ k. if k then grant_notice s.txns n (front_at b n) t else notices_in told t) victim_out ∙ none
 
   module _ (told told' : Told) (tells : TellsVictim s t n told told') where
-    pub victim_told : (start : State) → IsOnWay start s → ((u : ℕ) → notices_in told u ≡ told_to start s u) → (u : ℕ) → notices_in told' u ≡ told_to start (condemned s t) u
+    pub victim_told : (start : State) → IsOnWay start s → ((u : ℕ) → notices_in told u ≡ told_to start s u) → (u : ℕ)
+        → notices_in told' u ≡ told_to start (condemned s t) u
     victim_told start way same u = tells u
         ∙ swapped (u == t) (in_front u) _ _ _ (λ e. ap in_front (same_number u t e) ∙ victim_out)
-        ∙ ap (λ (a : ℕ). if in_front u then Some (record { slot = u; age = a }, notice.Granted n (mode_given (front_at b n) u)) else (if u == t then victim (age_of s t) else notices_in told u)) (way.ages u)
+        ∙ ap (λ (a : ℕ). if in_front u then Some (record { slot = u; age = a }, notice.Granted n (mode_given (front_at b n) u))
+        else (if u == t then victim (age_of s t) else notices_in told u)) (way.ages u)
         ∙ ap₂ (λ (a : ℕ) x. if in_front u then grant_notice start.txns n (front_at b n) u else (if u == t then victim a else x)) (way.ages t) (same u)
         ∙ sym (victim_tells start s t n m waits way u)
 
-    pub victim_untold : ((u : ℕ) → is_wait (status_of s u) ≡ true → notices_in told u ≡ None) → (u : ℕ) → is_wait (status_of (condemned s t) u) ≡ true → notices_in told' u ≡ None
+    pub victim_untold : ((u : ℕ) → is_wait (status_of s u) ≡ true → notices_in told u ≡ None) → (u : ℕ) → is_wait (status_of (condemned s t) u) ≡ true
+        → notices_in told' u ≡ None
     victim_untold untold u h =
         let still = waits_still s o t n Condemned (λ q w k. cc) here u h in
-        tells u ∙ ap₂ (λ j k. if j then victim (age_of s t) else (if k then grant_notice s.txns n (front_at b n) u else notices_in told u)) still.0 still.1 ∙ untold u still.2
+        tells u ∙ ap₂ (λ j k. if j then victim (age_of s t) else (if k then grant_notice s.txns n (front_at b n) u else notices_in told u)) still.0 still.1
+        ∙ untold u still.2

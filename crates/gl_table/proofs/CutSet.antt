@@ -1,23 +1,8 @@
 -- An effective X is an X on every root path.
-use Rattle.std.specs.Prelude.{◌≡◌, ◌⊎◌, ℕ, zero, suc, Bool, true, false, not, ◌&&◌, ◌||◌, List, [], ◌∷◌, length}
-use Rattle.std.specs.List.{list_all, list_any}
-use Rattle.std.proofs.Common.{refl, sym, ap, ◌∙◌, arith, ⊎_elim, inl, inr}
-use mathlib.Core.Bool.{true≢false}
-use Rattle.gl_modes.specs.declared.mode.Mode.{Mode}
-use Rattle.gl_modes.specs.declared.mode.Mode.TheVariants.{X}
-use Rattle.gl_modes.specs.declared.node.NodeId.{NodeId}
-use Rattle.gl_graph.specs.Graph.{Graph, node_count, parents_of}
-use Rattle.gl_modes.specs.Nodes.{same_node}
-use Rattle.gl_graph.specs.Routes.{IsRoute}
-use Rattle.gl_modes.specs.Modes.{same_mode}
-use Rattle.gl_table.specs.Effects.{eff_x, IsCut}
-use Rattle.gl_table.specs.Laws.{CutSetLaw, LawfulCutSet}
-use Rattle.gl_table.specs.Intends.{no_parents}
-use Rattle.gl_graph.proofs.Look.{or_elim, and_both, all_at}
-use Rattle.gl_modes.proofs.NodeLemmas.{same_node-refl}
-use Rattle.gl_graph.proofs.Unrefused.{or_no}
-use Rattle.gl_graph.proofs.RouteLengths.{live_end, route_short}
-use Rattle.std.proofs.Math.Bool.{or-true}
+use Rattle.gl_table.proofs.Words.{[], ◌&&◌, ◌||◌, ◌∙◌, ◌∷◌, ◌≡◌, ◌⊎◌, all_at, and_both, ap, arith, Bool, CutSetLaw, eff_x, false, Graph, inl, inr, IsCut}
+use Rattle.gl_table.proofs.Words.{IsRoute, LawfulCutSet, length, List, list_all, list_any, live_end, Mode, no_parents, node_count, NodeId, not, or-true}
+use Rattle.gl_table.proofs.Words.{or_elim, or_no, parents_of, refl, route_short, same_mode, same_node, same_node-refl, suc, sym, true, true≢false, X, zero, ℕ}
+use Rattle.gl_table.proofs.Words.{⊎_elim}
 
 -- one that fails, where not all pass
 pub not_all : (q : NodeId → Bool) (ps : List NodeId) → list_all q ps ≡ false → (p : NodeId) × (list_any (same_node p) ps ≡ true) × (q p ≡ false)
@@ -25,7 +10,8 @@ not_all q [] h = absurd (true≢false h)
 not_all q (x ∷ xs) h =
     by (q x) refl h (not_all q xs)
   where
-    by : (b : Bool) → q x ≡ b → (b && list_all q xs) ≡ false → (list_all q xs ≡ false → (p : NodeId) × (list_any (same_node p) xs ≡ true) × (q p ≡ false)) → (p : NodeId) × (list_any (same_node p) (x ∷ xs) ≡ true) × (q p ≡ false)
+    by : (b : Bool) → q x ≡ b → (b && list_all q xs) ≡ false → (list_all q xs ≡ false → (p : NodeId) × (list_any (same_node p) xs ≡ true) × (q p ≡ false))
+        → (p : NodeId) × (list_any (same_node p) (x ∷ xs) ≡ true) × (q p ≡ false)
     by false e h' rest = (x, ap (λ b. b || list_any (same_node x) xs) (same_node-refl x), e)
     by true e h' rest = let f = rest h' in (f.0, ap (λ b. same_node f.0 x || b) f.1 ∙ or-true _, f.2)
 
@@ -54,12 +40,14 @@ module _ (g : Graph) (held : NodeId → Mode) where
   escape (suc k) n h =
       let no = or_no _ _ h in by (parents_of g n) refl no.1 (escape k) no.0
     where
-      by : (ps : List NodeId) → parents_of g n ≡ ps → (not (no_parents ps) && list_all (eff_x k g held) ps) ≡ false → ((p : NodeId) → eff_x k g held p ≡ false → Escapes k p) → is_x n ≡ false → Escapes (suc k) n
+      by : (ps : List NodeId) → parents_of g n ≡ ps → (not (no_parents ps) && list_all (eff_x k g held) ps) ≡ false
+          → ((p : NodeId) → eff_x k g held p ≡ false → Escapes k p) → is_x n ≡ false → Escapes (suc k) n
       by [] e f rest here = (n, [], refl, ap (λ b. b || false) here, inl e)
       by (q ∷ qs) e f rest here =
           let found = not_all (eff_x k g held) (q ∷ qs) f in
           let up = rest found.0 found.2 in
-          (up.0, found.0 ∷ up.1, (ap (list_any (same_node found.0)) e ∙ found.1, up.2), ap (λ b. b || list_any is_x (found.0 ∷ up.1)) here ∙ up.3, ⊎_elim inl (λ l. inr (ap suc l)) up.4)
+          (up.0, found.0 ∷ up.1, (ap (list_any (same_node found.0)) e ∙ found.1, up.2), ap (λ b. b || list_any is_x (found.0 ∷ up.1)) here
+          ∙ up.3, ⊎_elim inl (λ l. inr (ap suc l)) up.4)
 
 pub cut_set_on : CutSetLaw
 cut_set_on s law t n live = (

@@ -1,25 +1,9 @@
 -- A record goes with its grants and waits: the law of a state is kept, and no step of a wait is added.
-use Rattle.std.specs.Prelude.{◌≡◌, ℕ, ◌≤◌, Bool, true, false, not, ◌||◌, List, [], Some, is_some, if◌then◌else◌}
-use Rattle.std.specs.List.{filter}
-use Rattle.std.proofs.Common.{sym, ap, ap₂, ◌∙◌, subst}
-use Rattle.gl_modes.specs.declared.mode.Mode.{Mode}
-use Rattle.gl_modes.specs.declared.mode.Mode.TheVariants.{NL}
-use Rattle.gl_modes.specs.declared.node.NodeId.{NodeId}
-use Rattle.gl_modes.specs.Modes.{are_compatible, is_at_least, same_mode}
-use Rattle.gl_modes.specs.Nodes.{same_node}
-use Rattle.gl_graph.specs.Graph.{parents_in, parents_of, is_live, shape_in, shape_of}
-use Rattle.gl_graph.specs.Shapes.{is_record_shape}
-use Rattle.gl_graph.proofs.KindRules.{is_plain, parent_plain, rec_not_plain}
-use Rattle.gl_graph.proofs.Look.{split, no, other_node, node_other}
-use Rattle.gl_graph.proofs.Removed.{stays_there, removed_lawful}
-use Rattle.gl_header.specs.Header.{Waiter, holds, front, is_waiter, is_among_waiters, is_ahead}
-use Rattle.gl_waits.proofs.CycleLemmas.{less-no_cycle}
-use Rattle.gl_table.specs.declared.txn.Status.TheVariants.{Waiting}
-use Rattle.gl_table.specs.Calls.{deleted}
-use Rattle.gl_table.specs.Intends.{intends, intends_over}
-use Rattle.gl_table.specs.Lawful.{ModeFitsKind, IsLawful}
-use Rattle.gl_table.specs.State.{State, members, status_of}
-use Rattle.gl_table.specs.Waiting.{HasNoCycle, waits_for}
+use Rattle.gl_table.proofs.Words.{[], ◌||◌, ◌∙◌, ◌≡◌, ◌≤◌, ap, ap₂, are_compatible, Bool, deleted, false, filter, front, HasNoCycle, holds, if◌then◌else◌}
+use Rattle.gl_table.proofs.Words.{intends, intends_over, is_ahead, is_among_waiters, is_at_least, is_live, is_plain, is_record_shape, is_some, is_waiter}
+use Rattle.gl_table.proofs.Words.{IsLawful, less-no_cycle, List, members, Mode, ModeFitsKind, NL, no, node_other, NodeId, not, other_node, parent_plain}
+use Rattle.gl_table.proofs.Words.{parents_in, parents_of, rec_not_plain, removed_lawful, same_mode, same_node, shape_in, shape_of, Some, split, State}
+use Rattle.gl_table.proofs.Words.{status_of, stays_there, subst, sym, true, Waiter, Waiting, waits_for, ℕ}
 use Rattle.gl_table.proofs.Edges.{step_is, is_step}
 use Rattle.gl_table.proofs.Less.{rule_same}
 use Rattle.gl_table.proofs.Queues.{among_by_filter}
@@ -48,7 +32,8 @@ module _ (s : State) (law : IsLawful s) (r : NodeId) (rec : is_record_shape (sha
 
   was_among : (u : ℕ) (q : NodeId) → is_among_waiters u (after.queue q) ≡ true → (same_node q r ≡ false) × (is_among_waiters u (s.queue q) ≡ true)
   was_among u q h =
-      split (same_node q r) (λ e. absurd (no (sym (ap (is_among_waiters u) (queue_here q e)) ∙ h))) (λ e. (e, sym (ap (is_among_waiters u) (queue_there q e)) ∙ h))
+      split (same_node q r) (λ e. absurd (no (sym (ap (is_among_waiters u) (queue_here q e)) ∙ h)))
+      (λ e. (e, sym (ap (is_among_waiters u) (queue_there q e)) ∙ h))
 
   stands : (q : NodeId) → is_live s.graph q ≡ true → same_node q r ≡ false → is_live after.graph q ≡ true
   stands q live e = ap is_some (stays_there s.graph law.graph r rec q live (other_node q r e)) ∙ live
@@ -59,7 +44,9 @@ module _ (s : State) (law : IsLawful s) (r : NodeId) (rec : is_record_shape (sha
   rule_later : (u : ℕ) (q : NodeId) (m : Mode) → is_live s.graph q ≡ true → same_node q r ≡ false → intends s u q m ≡ true → intends after u q m ≡ true
   rule_later u q m live e h =
       ap (λ o. intends_over (after.held u) (parents_in o) m) (stays_there s.graph law.graph r rec q live (other_node q r e))
-      ∙ rule_same (s.held u) (after.held u) m (parents_of s.graph q) (λ p c. held_there u p (node_other p r (λ is. rec_not_plain (shape_of s.graph r) rec (ap (λ x. is_plain (shape_of s.graph x)) (sym is) ∙ parent_plain s.graph law.graph q p c))))
+      ∙ rule_same (s.held u) (after.held u) m (parents_of s.graph q)
+      (λ p c. held_there u p (node_other p r (λ is. rec_not_plain (shape_of s.graph r) rec (ap (λ x. is_plain (shape_of s.graph x)) (sym is)
+      ∙ parent_plain s.graph law.graph q p c))))
       ∙ h
 
   waited : (u : ℕ) (q : NodeId) (m : Mode) → status_of after u ≡ Some (Waiting q m) → (status_of s u ≡ Some (Waiting q m)) × (same_node q r ≡ false)
@@ -71,9 +58,11 @@ module _ (s : State) (law : IsLawful s) (r : NodeId) (rec : is_record_shape (sha
     grants_live = λ u q h.
         let w = was_held u q h in
         let old = law.grants_live u q w.1 in
-        (some_freed r (s.txns u) ∙ old.0, stands q old.1 w.0, subst (ModeFitsKind after q) (sym (held_there u q w.0)) (kind_later q (s.held u q) old.1 w.0 old.2));
+        (some_freed r (s.txns u) ∙ old.0, stands q old.1 w.0,
+        subst (ModeFitsKind after q) (sym (held_there u q w.0)) (kind_later q (s.held u q) old.1 w.0 old.2));
     waits_live = λ u q h. let w = was_among u q h in stands q (law.waits_live u q w.1) w.0;
-    compatible = λ u v q ne. split (same_node q r) (λ e. ap₂ are_compatible (held_here u q e) (held_here v q e)) (λ e. ap₂ are_compatible (held_there u q e) (held_there v q e) ∙ law.compatible u v q ne);
+    compatible = λ u v q ne. split (same_node q r) (λ e. ap₂ are_compatible (held_here u q e) (held_here v q e))
+        (λ e. ap₂ are_compatible (held_there u q e) (held_there v q e) ∙ law.compatible u v q ne);
     grants_intend = λ u q h.
         let w = was_held u q h in
         ap (intends after u q) (held_there u q w.0) ∙ rule_later u q (s.held u q) (law.grants_live u q w.1).1 w.0 (law.grants_intend u q w.1);
@@ -101,7 +90,8 @@ deleted_steps s r x y h =
     is_step s x y n m (record {
       differ = st.2.differ;
       waits = was.0;
-      blocked = ap₂ (λ a b. not (are_compatible m (if a then NL else s.held y n)) || is_ahead (if b then [] else s.queue n) x y) (sym was.1) (sym was.1) ∙ st.2.blocked;
+      blocked = ap₂ (λ a b. not (are_compatible m (if a then NL else s.held y n)) || is_ahead (if b then [] else s.queue n) x y) (sym was.1) (sym was.1)
+          ∙ st.2.blocked;
     })
 
 pub deleted-no_cycle : (s : State) (r : NodeId) → HasNoCycle s → HasNoCycle (deleted s r)

@@ -1,35 +1,11 @@
 -- A slot that waits for nothing leaves its nodes, one after the other: what holds after each.
-use Rattle.std.specs.Prelude.{◌≡◌, ℕ, ◌<◌, Bool, true, false, not, ◌&&◌, ◌||◌, ◌==◌, List, [], Option, Some, None, if◌then◌else◌}
-use Rattle.std.specs.List.{count_by}
-use Rattle.std.proofs.Common.{refl, sym, ap, ap₂, ◌∙◌}
-use Rattle.std.proofs.Math.Bool.{and-false, and-not_self, and-true, or-false, or-true}
-use Rattle.std.proofs.Math.Path.{fun_ext}
-use Rattle.gl_modes.specs.declared.mode.Mode.{Mode}
-use Rattle.gl_modes.specs.declared.mode.Mode.TheVariants.{NL}
-use Rattle.gl_modes.specs.declared.node.NodeId.{NodeId}
-use Rattle.gl_modes.specs.Modes.{same_mode}
-use Rattle.gl_modes.specs.Nodes.{same_node}
-use Rattle.gl_modes.proofs.NodeLemmas.{same_node-equal, same_node-refl, same_node-sym}
-use Rattle.gl_graph.specs.Graph.{nodes, parents_of}
-use Rattle.gl_graph.specs.Lawful.{IsLawfulGraph}
-use Rattle.gl_graph.proofs.Look.{and_both, split}
-use Rattle.gl_graph.proofs.RouteLengths.{listed}
-use Rattle.gl_header.specs.Header.{Waiter, holds, is_among_waiters}
-use Rattle.gl_header.proofs.Ranges.{not_true}
-use Rattle.gl_table.specs.declared.list.LockList.{LockList}
+use Rattle.gl_table.proofs.Words.{[], ◌&&◌, ◌<◌, ◌==◌, ◌||◌, ◌∙◌, ◌≡◌, Active, Agrees, and-false, and-not_self, and-true, and_both, ap, ap₂, Bool, count_by}
+use Rattle.gl_table.proofs.Words.{CountsHeld, false, front_at, fun_ext, grant_notice, HasLeft, holds, if◌then◌else◌, is_among_waiters, is_wait, is_waiting_at}
+use Rattle.gl_table.proofs.Words.{IsBySlot, IsLawfulGraph, IsOnWay, IsOrderly, List, listed, listed_by, LockList, members, Mode, mode_given, NL, NodeId, nodes}
+use Rattle.gl_table.proofs.Words.{None, not, not_true, notices_in, Option, or-false, or-true, parents_of, pumped, refl, released, restatus, same_mode}
+use Rattle.gl_table.proofs.Words.{same_node, same_node-equal, same_node-refl, same_node-sym, Some, split, State, status_in, status_of, stripped, sym, Told}
+use Rattle.gl_table.proofs.Words.{told_to, true, Txn, TxnId, unlocked, Waiter, WakesLists, WakesTold, with_grant, with_txn, ℕ}
 use Rattle.gl_table.specs.declared.notice.Notice.TheVariants as notice
-use Rattle.gl_table.specs.declared.txn.Status.TheVariants.{Active}
-use Rattle.gl_table.specs.declared.txn.TxnId.{TxnId}
-use Rattle.gl_table.specs.Calls.{released, unlocked}
-use Rattle.gl_table.specs.Locks.{Agrees, CountsHeld, IsOrderly}
-use Rattle.gl_table.specs.Pumps.{front_at, is_waiting_at, pumped}
-use Rattle.gl_table.specs.Slots.{WakesLists, WakesTold, grant_notice, listed_by, mode_given}
-use Rattle.gl_table.specs.State.{State, Txn, members, restatus, status_in, status_of, with_grant, with_txn}
-use Rattle.gl_table.specs.Steps.{HasLeft, stripped}
-use Rattle.gl_table.specs.Telling.{IsBySlot, notices_in}
-use Rattle.gl_table.specs.Tellings.{Told}
-use Rattle.gl_table.specs.Tells.{IsOnWay, told_to}
-use Rattle.gl_table.specs.Waiting.{is_wait}
 use Rattle.gl_table.proofs.Fewer.{fewer}
 use Rattle.gl_table.proofs.GrantKeeps.{nl_is}
 use Rattle.gl_table.proofs.Leaving.{left_all, left_one}
@@ -52,7 +28,8 @@ StillTells s now t was told =
     → IsOnWay begin now × ((u : ℕ) → (u == t) ≡ false → notices_in told u ≡ told_to begin now u)
 
 -- a slot that stands in no queue released a node, and those whom the node granted were told
-module _ (now : State) (o : IsOrderly now) (t : ℕ) (out : (q : NodeId) → is_among_waiters t (now.queue q) ≡ false) (n : NodeId) (told told' : Told) (tell : WakesTold now.txns n (front_at (with_grant now t n NL) n) told told') where
+module _ (now : State) (o : IsOrderly now) (t : ℕ) (out : (q : NodeId) → is_among_waiters t (now.queue q) ≡ false) (n : NodeId) (told told' : Told)
+    (tell : WakesTold now.txns n (front_at (with_grant now t n NL) n) told told') where
   abbrev granted : List Waiter
   granted = front_at (with_grant now t n NL) n
 
@@ -74,10 +51,12 @@ module _ (now : State) (o : IsOrderly now) (t : ℕ) (out : (q : NodeId) → is_
   own_notice = tell.notices t ∙ ap (λ b. if b then grant_notice now.txns n granted t else notices_in told t) not_granted
 
   -- who waits still was not granted, and was told nothing
-  pub still_untold : ((u : ℕ) → is_wait (status_of now u) ≡ true → notices_in told u ≡ None) → (u : ℕ) → is_wait (status_of (unlocked now t n) u) ≡ true → notices_in told' u ≡ None
+  pub still_untold : ((u : ℕ) → is_wait (status_of now u) ≡ true → notices_in told u ≡ None) → (u : ℕ) → is_wait (status_of (unlocked now t n) u) ≡ true
+      → notices_in told' u ≡ None
   still_untold untold u h = split (is_among_waiters u granted)
       (λ e. clash h (ap (λ x. is_wait (status_in x)) (txn_is u ∙ ap (λ b. if b then restatus Active (now.txns u) else now.txns u) e) ∙ active (now.txns u)))
-      (λ e. tell.notices u ∙ ap (λ b. if b then grant_notice now.txns n granted u else notices_in told u) e ∙ untold u (ap (λ x. is_wait (status_in x)) (sym (same_txn u e)) ∙ h))
+      (λ e. tell.notices u ∙ ap (λ b. if b then grant_notice now.txns n granted u else notices_in told u) e
+      ∙ untold u (ap (λ x. is_wait (status_in x)) (sym (same_txn u e)) ∙ h))
     where
       active : (x : Option Txn) → is_wait (status_in (restatus Active x)) ≡ false
       active None = refl
@@ -89,7 +68,9 @@ module _ (now : State) (o : IsOrderly now) (t : ℕ) (out : (q : NodeId) → is_
         way_releases begin now t n so_far.0,
         λ u e.
             tell.notices u
-            ∙ ap₂ (λ x y. if is_among_waiters u granted then x else y) (ap (λ (a : ℕ). let name : TxnId = record { slot = u; age = a } in Some (name, notice.Granted n (mode_given granted u))) (so_far.0.ages u)) (so_far.1 u e)
+            ∙ ap₂ (λ x y. if is_among_waiters u granted then x else y)
+            (ap (λ (a : ℕ). let name : TxnId = record { slot = u; age = a } in Some (name, notice.Granted n (mode_given granted u))) (so_far.0.ages u))
+            (so_far.1 u e)
             ∙ sym (release_tells begin now t n so_far.0 u e),
       )
 
@@ -109,7 +90,8 @@ pub record IsLeaving (s now : State) (t : ℕ) (ls : List LockList) (was told : 
   pub tells : StillTells s now t was told
 
 -- at the beginning nothing is left
-pub leaving_begins : (s : State) (t : ℕ) (ls : List LockList) (told : Told) → IsOrderly s → is_wait (status_of s t) ≡ false → ((u : ℕ) → Agrees s ls u) → ((u : ℕ) → CountsHeld s ls u) → IsBySlot told
+pub leaving_begins : (s : State) (t : ℕ) (ls : List LockList) (told : Told) → IsOrderly s → is_wait (status_of s t) ≡ false → ((u : ℕ) → Agrees s ls u)
+    → ((u : ℕ) → CountsHeld s ls u) → IsBySlot told
     → ((u : ℕ) → is_wait (status_of s u) ≡ true → notices_in told u ≡ None) → IsLeaving s s t ls told told
 leaving_begins s t ls told o quiet agree count by_slot untold = record {
   orderly = o;
@@ -130,7 +112,8 @@ leaving_begins s t ls told o quiet agree count by_slot untold = record {
     nothing : stripped s t ≡ pumped (stripped s t) (λ q. false)
     nothing = λ i. record (stripped s t) { txns = λ u. sym (woken_same (λ q. []) u (λ q. refl) ((stripped s t).txns u)) i }
 
-module _ (s now : State) (t : ℕ) (ls : List LockList) (was told : Told) (is : IsLeaving s now t ls was told) (n : NodeId) (holding : holds (members now n) t ≡ true) where
+module _ (s now : State) (t : ℕ) (ls : List LockList) (was told : Told) (is : IsLeaving s now t ls was told) (n : NodeId)
+    (holding : holds (members now n) t ≡ true) where
   abbrev after : State
   after = unlocked now t n
 
@@ -195,7 +178,8 @@ module _ (s now : State) (t : ℕ) (ls : List LockList) (was told : Told) (is : 
     }
 
 -- once its list is empty, t has left all that it held, and is released but for its name
-module _ (s now : State) (t : ℕ) (ls : List LockList) (was told : Told) (is : IsLeaving s now t ls was told) (none : (q : NodeId) → listed_by ls t q ≡ false) where
+module _ (s now : State) (t : ℕ) (ls : List LockList) (was told : Told) (is : IsLeaving s now t ls was told) (none : (q : NodeId)
+    → listed_by ls t q ≡ false) where
   pub left_free : (q : NodeId) → now.held t q ≡ NL
   left_free q = nl_is (now.held t q) (sym (is.listed q) ∙ none q)
 
@@ -204,14 +188,17 @@ module _ (s now : State) (t : ℕ) (ls : List LockList) (was told : Told) (is : 
 
   pub left_released : is_wait (status_of s t) ≡ false → released s t ≡ with_txn now t None
   left_released quiet = left_all s now t left_free left_out (is.left ∙ ap (pumped (stripped s t)) (fun_ext (λ q.
-      ap (λ b. holds (members s q) t && not b) (sym (is.listed q) ∙ none q) ∙ and-true (holds (members s q) t) ∙ sym (or-false (holds (members s q) t)) ∙ ap (λ b. holds (members s q) t || b) (sym (nowhere q)))))
+      ap (λ b. holds (members s q) t && not b) (sym (is.listed q) ∙ none q) ∙ and-true (holds (members s q) t) ∙ sym (or-false (holds (members s q) t))
+      ∙ ap (λ b. holds (members s q) t || b) (sym (nowhere q)))))
     where
       nowhere : (q : NodeId) → is_waiting_at s t q ≡ false
       nowhere q = not_true _ (λ h. clash (ap is_wait (waiting_is (status_of s t) q h).1) quiet)
 
 -- the nodes that t holds grow fewer
-pub leaving_fewer : (s now : State) (t : ℕ) (ls : List LockList) (was told : Told) → IsLeaving s now t ls was told → IsLawfulGraph now.graph → (n : NodeId) → holds (members now n) t ≡ true
+pub leaving_fewer : (s now : State) (t : ℕ) (ls : List LockList) (was told : Told) → IsLeaving s now t ls was told → IsLawfulGraph now.graph → (n : NodeId)
+    → holds (members now n) t ≡ true
     → count_by (λ q. holds (members (unlocked now t n) q) t) (nodes now.graph) < count_by (λ q. holds (members now q) t) (nodes now.graph)
 leaving_fewer s now t ls was told is law n holding =
     fewer (λ q. holds (members now q) t) (λ q. holds (members (unlocked now t n) q) t) n (nodes now.graph)
-    (λ q h. held_still s now t ls was told is n holding q h) (listed now.graph law n (is.orderly.holders_live t n holding)) holding (held_no_more s now t ls was told is n holding)
+    (λ q h. held_still s now t ls was told is n holding q h) (listed now.graph law n (is.orderly.holders_live t n holding)) holding
+    (held_no_more s now t ls was told is n holding)

@@ -1,26 +1,15 @@
 -- Who waits for whom after each change.
-use Rattle.std.specs.Prelude.{length, drop, ◌≡◌, ℕ, Bool, true, false, not, ◌&&◌, ◌||◌, ◌==◌, List, [], ◌∷◌, Option, Some, None, if◌then◌else◌}
-use Rattle.std.specs.List.{filter}
-use Rattle.std.proofs.Common.{refl, sym, ap, ap₂, ◌∙◌, arith, ⊎_elim}
-use Rattle.std.proofs.lemmas.Bool.Decides.{nat_tests}
-use Rattle.gl_modes.specs.declared.mode.Mode.{Mode}
-use Rattle.gl_modes.specs.declared.node.NodeId.{NodeId}
-use Rattle.gl_modes.specs.Modes.{are_compatible}
-use Rattle.gl_table.specs.declared.txn.Status.{Status}
-use Rattle.gl_table.specs.declared.txn.Status.TheVariants.{Active, Waiting, Condemned}
-use Rattle.gl_header.specs.Header.{Waiter, is_ahead, is_among_waiters}
-use Rattle.gl_table.specs.State.{State, Txn, status_of}
-use Rattle.gl_table.specs.Waiting.{blocks, waits_for}
-use Rattle.gl_table.specs.Pumps.{pumped, granted_at}
+use Rattle.gl_table.proofs.Words.{[], ◌&&◌, ◌==◌, ◌||◌, ◌∙◌, ◌∷◌, ◌≡◌, Active, and_both, ap, ap₂, are_compatible, arith, blocks, Bool, Condemned, drop, false}
+use Rattle.gl_table.proofs.Words.{filter, granted_at, if◌then◌else◌, is_ahead, is_among_waiters, length, List, Mode, nat_tests, NL-compatible, NodeId, None}
+use Rattle.gl_table.proofs.Words.{not, not-true, Option, or_elim, or_left, or_right, pumped, refl, Some, split, State, Status, status_of, sym, true, Txn}
+use Rattle.gl_table.proofs.Words.{Waiter, Waiting, waits_for, ℕ, ⊎_elim}
 use Rattle.gl_table.proofs.Queues.{ahead, ahead_is, ahead_first, ahead_after, ahead_across, clash, among_append, among_by_filter}
 use Rattle.gl_table.proofs.LawfulBut.{IsLawfulBut}
 use Rattle.gl_table.proofs.Less.{IsLess}
 use Rattle.gl_table.proofs.Pumped.{woken_waits, granted_rest, grant_case}
-use Rattle.gl_graph.proofs.Look.{split, or_elim, or_left, or_right, and_both}
-use Rattle.gl_modes.proofs.ModeLemmas.{NL-compatible}
-use Rattle.std.proofs.lemmas.Bool.{not-true}
 
-blocks_is : (s : State) (t u : ℕ) (o : Option Status) → blocks s t u o ≡ true → (n : NodeId) × (m : Mode) × (o ≡ Some (Waiting n m)) × ((not (are_compatible m (s.held u n)) || is_ahead (s.queue n) t u) ≡ true)
+blocks_is : (s : State) (t u : ℕ) (o : Option Status) → blocks s t u o ≡ true → (n : NodeId) × (m : Mode) × (o ≡ Some (Waiting n m))
+    × ((not (are_compatible m (s.held u n)) || is_ahead (s.queue n) t u) ≡ true)
 blocks_is s t u None h = clash h refl
 blocks_is s t u (Some Active) h = clash h refl
 blocks_is s t u (Some Condemned) h = clash h refl
@@ -46,7 +35,8 @@ pub idle_no_step : (s : State) (t : ℕ) → ((n : NodeId) (m : Mode) → status
 idle_no_step s t idle u = split (waits_for s t u) (λ h. let st = step_is s t u h in absurd (idle st.0 st.1 st.2.waits)) (λ h. h)
 
 -- the steps of a state with less
-pub less_steps : (s : State) (held : ℕ → NodeId → Mode) (queue : NodeId → List Waiter) (txns : ℕ → Option Txn) (chosen : NodeId → Bool) → IsLess s held queue txns chosen
+pub less_steps : (s : State) (held : ℕ → NodeId → Mode) (queue : NodeId → List Waiter) (txns : ℕ → Option Txn) (chosen : NodeId → Bool)
+    → IsLess s held queue txns chosen
     → (x y : ℕ) → waits_for (record s { held = held; queue = queue; txns = txns }) x y ≡ true → waits_for s x y ≡ true
 less_steps s held queue txns chosen less x y h =
     let now : State = record s { held = held; queue = queue; txns = txns } in
@@ -55,7 +45,8 @@ less_steps s held queue txns chosen less x y h =
       differ = st.2.differ;
       waits = (less.waits_same x n m st.2.waits).0;
       blocked = or_elim _ _ st.2.blocked
-          (λ b. ⊎_elim (λ e. clash (ap (are_compatible m) e ∙ NL-compatible m) (not-true _ b)) (λ e. or_left _ _ (ap (λ k. not (are_compatible m k)) (sym e) ∙ b)) (less.kept y n))
+          (λ b. ⊎_elim (λ e. clash (ap (are_compatible m) e ∙ NL-compatible m) (not-true _ b))
+          (λ e. or_left _ _ (ap (λ k. not (are_compatible m k)) (sym e) ∙ b)) (less.kept y n))
           (λ b. or_right _ _ (less.order n x y b));
     })
 
@@ -73,12 +64,15 @@ pumped_steps s chosen law x y h =
           ∙ ahead_across (granted_at s chosen n) (drop (length (granted_at s chosen n)) (s.queue n)) x y was.1 (behind n m was.0 was.1) g))
           (λ g e. or_left _ _ (ap (λ k. not (are_compatible m k)) (sym e) ∙ b)))
           (λ b. or_right _ _ (ahead_is (s.queue n) x y ∙ ap (λ l. ahead l x y) (sym (granted_rest s chosen law n))
-          ∙ ahead_after (granted_at s chosen n) (drop (length (granted_at s chosen n)) (s.queue n)) x y was.1 (sym (ahead_is (drop (length (granted_at s chosen n)) (s.queue n)) x y) ∙ b)));
+          ∙ ahead_after (granted_at s chosen n) (drop (length (granted_at s chosen n)) (s.queue n)) x y was.1
+          (sym (ahead_is (drop (length (granted_at s chosen n)) (s.queue n)) x y) ∙ b)));
     })
   where
-    behind : (n : NodeId) (m : Mode) → status_of s x ≡ Some (Waiting n m) → is_among_waiters x (granted_at s chosen n) ≡ false → is_among_waiters x (drop (length (granted_at s chosen n)) (s.queue n)) ≡ true
+    behind : (n : NodeId) (m : Mode) → status_of s x ≡ Some (Waiting n m) → is_among_waiters x (granted_at s chosen n) ≡ false
+        → is_among_waiters x (drop (length (granted_at s chosen n)) (s.queue n)) ≡ true
     behind n m st out =
-        or_elim _ _ (sym (among_append x (granted_at s chosen n) (drop (length (granted_at s chosen n)) (s.queue n))) ∙ ap (is_among_waiters x) (granted_rest s chosen law n) ∙ among_by_filter x (x, m) [] (s.queue n) (law.one_wait x n m st))
+        or_elim _ _ (sym (among_append x (granted_at s chosen n) (drop (length (granted_at s chosen n)) (s.queue n)))
+        ∙ ap (is_among_waiters x) (granted_rest s chosen law n) ∙ among_by_filter x (x, m) [] (s.queue n) (law.one_wait x n m st))
         (λ k. clash k out) (λ k. k)
 
 -- what is filtered out of a queue was in it
@@ -86,7 +80,8 @@ pub among_kept : (p : ℕ → Bool) (a : ℕ) (q : List Waiter) → is_among_wai
 among_kept p a [] h = h
 among_kept p a (w ∷ q) h = by (p w.0) h (among_kept p a q)
   where
-    by : (x : Bool) → is_among_waiters a (if x then w ∷ filter (λ v. p v.0) q else filter (λ v. p v.0) q) ≡ true → (is_among_waiters a (filter (λ v. p v.0) q) ≡ true → is_among_waiters a q ≡ true) → ((w.0 == a) || is_among_waiters a q) ≡ true
+    by : (x : Bool) → is_among_waiters a (if x then w ∷ filter (λ v. p v.0) q else filter (λ v. p v.0) q) ≡ true
+        → (is_among_waiters a (filter (λ v. p v.0) q) ≡ true → is_among_waiters a q ≡ true) → ((w.0 == a) || is_among_waiters a q) ≡ true
     by true k r = or_elim _ _ k (λ e. or_left _ _ e) (λ e. or_right (w.0 == a) _ (r e))
     by false k r = or_right (w.0 == a) _ (r k)
 
@@ -96,14 +91,17 @@ keep_ahead p a b [] pa h = h
 keep_ahead p a b (w ∷ q) pa h = by (p w.0) (w.0 == a) (w.0 == b) refl refl (sym (pushed (p w.0)) ∙ h) (keep_ahead p a b q pa) (λ k. among_kept p a q k)
   where
     pushed : (x : Bool) → ahead (if x then w ∷ filter (λ v. p v.0) q else filter (λ v. p v.0) q) a b
-        ≡ (if x then not (w.0 == a) && (if w.0 == b then is_among_waiters a (filter (λ v. p v.0) q) else ahead (filter (λ v. p v.0) q) a b) else ahead (filter (λ v. p v.0) q) a b)
+        ≡ (if x then not (w.0 == a) && (if w.0 == b then is_among_waiters a (filter (λ v. p v.0) q) else ahead (filter (λ v. p v.0) q) a b)
+        else ahead (filter (λ v. p v.0) q) a b)
     pushed true = refl
     pushed false = refl
 
     slot_is : (t u : ℕ) → (t == u) ≡ true → t ≡ u
     slot_is t u k = grind (arith, nat_tests)
 
-    by : (x y z : Bool) → p w.0 ≡ x → (w.0 == a) ≡ y → (if x then not y && (if z then is_among_waiters a (filter (λ v. p v.0) q) else ahead (filter (λ v. p v.0) q) a b) else ahead (filter (λ v. p v.0) q) a b) ≡ true
+    by : (x y z : Bool) → p w.0 ≡ x → (w.0 == a) ≡ y →
+        (if x then not y && (if z then is_among_waiters a (filter (λ v. p v.0) q) else ahead (filter (λ v. p v.0) q) a b)
+        else ahead (filter (λ v. p v.0) q) a b) ≡ true
         → (ahead (filter (λ v. p v.0) q) a b ≡ true → ahead q a b ≡ true) → (is_among_waiters a (filter (λ v. p v.0) q) ≡ true → is_among_waiters a q ≡ true)
         → (not y && (if z then is_among_waiters a q else ahead q a b)) ≡ true
     by true true z ex ey k r s = clash k refl

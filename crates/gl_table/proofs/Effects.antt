@@ -1,26 +1,9 @@
 -- Effective modes, without fuel: a route to a node held in S, SIX or X; an effective X after any number of steps.
-use Rattle.std.specs.Prelude.{◌≡◌, ℕ, zero, suc, ◌≤◌, Bool, true, not, ◌&&◌, ◌||◌, List, [], ◌∷◌, length}
-use Rattle.std.specs.List.{list_all, list_any}
-use Rattle.std.proofs.Common.{refl, sym, ap, ap₂, subst, ◌∙◌, arith, rules}
-use mathlib.Core.Bool.{true≢false}
-use Rattle.gl_modes.specs.declared.mode.Mode.{Mode}
-use Rattle.gl_modes.specs.declared.mode.Mode.TheVariants.{X}
-use Rattle.gl_modes.specs.declared.node.NodeId.{NodeId}
-use Rattle.gl_graph.specs.Graph.{Graph, node_count, parents_of, is_live}
-use Rattle.gl_modes.specs.Nodes.{same_node}
-use Rattle.gl_graph.specs.Routes.{IsRoute}
-use Rattle.gl_graph.specs.Lawful.{IsLawfulGraph}
-use Rattle.gl_modes.specs.Modes.{same_mode}
-use Rattle.gl_table.specs.Effects.{eff_s, eff_x, is_read, EffX}
-use Rattle.gl_table.specs.Intends.{no_parents}
-use Rattle.gl_table.specs.State.{State}
-use Rattle.gl_table.specs.Lawful.{IsLawful}
-use Rattle.gl_graph.proofs.RouteLengths.{route_short}
+use Rattle.gl_table.proofs.Words.{[], ◌&&◌, ◌||◌, ◌∙◌, ◌∷◌, ◌≡◌, ◌≤◌, and_both, any_found, ap, ap₂, arith, Bool, eff_s, eff_x, EffX, Graph, is_live, is_read}
+use Rattle.gl_table.proofs.Words.{IsLawful, IsLawfulGraph, IsRoute, length, List, list_all, list_any, Mode, no_parents, node_count, NodeId, not, or-true}
+use Rattle.gl_table.proofs.Words.{or_elim, parents_of, refl, route_short, rules, same_mode, same_node, same_node-refl, some_at, State, subst, suc, sym, true}
+use Rattle.gl_table.proofs.Words.{true≢false, X, zero, ℕ}
 use Rattle.gl_table.proofs.CutSet.{on_path, cut_set_law}
-use Rattle.gl_graph.proofs.Look.{or_elim, and_both}
-use Rattle.gl_modes.proofs.NodeLemmas.{same_node-refl}
-use Rattle.gl_graph.proofs.Moved.{some_at, any_found}
-use Rattle.std.proofs.Math.Bool.{or-true}
 
 -- all pass where each that is listed passes
 pub all_from : (q : NodeId → Bool) (ps : List NodeId) → ((p : NodeId) → list_any (same_node p) ps ≡ true → q p ≡ true) → list_all q ps ≡ true

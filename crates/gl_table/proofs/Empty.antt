@@ -1,11 +1,5 @@
 -- The empty state meets the law, and nobody waits in it.
-use Rattle.std.specs.Prelude.{ℕ}
-use Rattle.std.proofs.Common.{refl, arith}
-use Rattle.gl_table.specs.declared.detect.Detect.{Detect}
-use Rattle.gl_waits.specs.declared.victims.Victims.{Victims}
-use Rattle.gl_table.specs.Lawful.{IsLawful}
-use Rattle.gl_table.specs.State.{choosing, empty_state}
-use Rattle.gl_graph.proofs.Look.{none_some, no}
+use Rattle.gl_table.proofs.Words.{arith, choosing, Detect, empty_state, IsLawful, no, none_some, refl, Victims, ℕ}
 
 pub empty-lawful : (d : Detect) (c : Victims) (most : ℕ) → IsLawful (choosing c (empty_state d most))
 empty-lawful d c most = record {

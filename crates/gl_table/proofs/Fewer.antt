@@ -1,11 +1,6 @@
 -- How many nodes pass a test, where all that pass it pass another test.
-use Rattle.std.specs.Prelude.{◌≡◌, ◌+◌, ◌<◌, ◌≤◌, Bool, true, false, cond, List, [], ◌∷◌}
-use Rattle.std.specs.List.{count_by, list_any}
-use Rattle.std.proofs.Common.{refl, sym, ap, ◌∙◌, arith}
-use Rattle.gl_modes.specs.declared.node.NodeId.{NodeId}
-use Rattle.gl_modes.specs.Nodes.{same_node}
-use Rattle.gl_graph.proofs.Counts.{count_cons}
-use Rattle.gl_graph.proofs.Look.{or_elim, same_node_is}
+use Rattle.gl_table.proofs.Words.{[], ◌+◌, ◌<◌, ◌∙◌, ◌∷◌, ◌≡◌, ◌≤◌, ap, arith, Bool, cond, count_by, count_cons, false, List, list_any, NodeId, or_elim, refl}
+use Rattle.gl_table.proofs.Words.{same_node, same_node_is, sym, true}
 use Rattle.gl_table.proofs.Queues.{clash}
 
 fewer_or_same : (p q : NodeId → Bool) (xs : List NodeId) → ((c : NodeId) → q c ≡ true → p c ≡ true) → count_by q xs ≤ count_by p xs
@@ -16,14 +11,16 @@ fewer_or_same p q (x ∷ xs) less =
     let cp = count_cons p x xs in
     by (q x) (p x) (less x) rest cq cp
   where
-    by : (a b : Bool) → (a ≡ true → b ≡ true) → count_by q xs ≤ count_by p xs → count_by q (x ∷ xs) ≡ cond a 1 0 + count_by q xs → count_by p (x ∷ xs) ≡ cond b 1 0 + count_by p xs → count_by q (x ∷ xs) ≤ count_by p (x ∷ xs)
+    by : (a b : Bool) → (a ≡ true → b ≡ true) → count_by q xs ≤ count_by p xs → count_by q (x ∷ xs) ≡ cond a 1 0 + count_by q xs
+        → count_by p (x ∷ xs) ≡ cond b 1 0 + count_by p xs → count_by q (x ∷ xs) ≤ count_by p (x ∷ xs)
     by true true f rest cq cp = omega arith
     by true false f rest cq cp = clash (f refl) refl
     by false true f rest cq cp = omega arith
     by false false f rest cq cp = omega arith
 
 -- where one node passes the other alone, they are fewer
-pub fewer : (p q : NodeId → Bool) (n : NodeId) (xs : List NodeId) → ((c : NodeId) → q c ≡ true → p c ≡ true) → list_any (same_node n) xs ≡ true → p n ≡ true → q n ≡ false → count_by q xs < count_by p xs
+pub fewer : (p q : NodeId → Bool) (n : NodeId) (xs : List NodeId) → ((c : NodeId) → q c ≡ true → p c ≡ true) → list_any (same_node n) xs ≡ true → p n ≡ true
+    → q n ≡ false → count_by q xs < count_by p xs
 fewer p q n [] less among was gone = clash among refl
 fewer p q n (x ∷ xs) less among was gone =
     let cq = count_cons q x xs in
@@ -32,12 +29,14 @@ fewer p q n (x ∷ xs) less among was gone =
     (λ e. let is = same_node_is n x e in here (q x) (p x) (ap q (sym is) ∙ gone) (ap p (sym is) ∙ was) (fewer_or_same p q xs less) cq cp)
     (λ k. there (q x) (p x) (less x) (fewer p q n xs less k was gone) cq cp)
   where
-    here : (a b : Bool) → a ≡ false → b ≡ true → count_by q xs ≤ count_by p xs → count_by q (x ∷ xs) ≡ cond a 1 0 + count_by q xs → count_by p (x ∷ xs) ≡ cond b 1 0 + count_by p xs → count_by q (x ∷ xs) < count_by p (x ∷ xs)
+    here : (a b : Bool) → a ≡ false → b ≡ true → count_by q xs ≤ count_by p xs → count_by q (x ∷ xs) ≡ cond a 1 0 + count_by q xs
+        → count_by p (x ∷ xs) ≡ cond b 1 0 + count_by p xs → count_by q (x ∷ xs) < count_by p (x ∷ xs)
     here true b ea eb le cq cp = clash refl ea
     here false true ea eb le cq cp = omega arith
     here false false ea eb le cq cp = clash eb refl
 
-    there : (a b : Bool) → (a ≡ true → b ≡ true) → count_by q xs < count_by p xs → count_by q (x ∷ xs) ≡ cond a 1 0 + count_by q xs → count_by p (x ∷ xs) ≡ cond b 1 0 + count_by p xs → count_by q (x ∷ xs) < count_by p (x ∷ xs)
+    there : (a b : Bool) → (a ≡ true → b ≡ true) → count_by q xs < count_by p xs → count_by q (x ∷ xs) ≡ cond a 1 0 + count_by q xs
+        → count_by p (x ∷ xs) ≡ cond b 1 0 + count_by p xs → count_by q (x ∷ xs) < count_by p (x ∷ xs)
     there true true f lt cq cp = omega arith
     there true false f lt cq cp = clash (f refl) refl
     there false true f lt cq cp = omega arith

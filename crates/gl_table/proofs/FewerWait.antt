@@ -1,15 +1,7 @@
 -- Each victim leaves fewer that wait.
-use Rattle.std.specs.Prelude.{◌≡◌, ℕ, ◌<◌, ◌≤◌, Bool, true, false, cond, List, [], ◌∷◌}
-use Rattle.std.specs.List.{count_by, list_any}
-use Rattle.std.proofs.Common.{refl, sym, ap, ◌∙◌, arith}
-use Rattle.gl_graph.proofs.Counts.{count_cons}
-use Rattle.gl_graph.proofs.Look.{or_elim, same_number}
-use Rattle.gl_header.proofs.Ranges.{not_true}
-use Rattle.gl_table.specs.declared.txn.Status.TheVariants.{Condemned}
-use Rattle.gl_table.specs.Locks.{IsOrderly}
-use Rattle.gl_table.specs.Pumps.{condemned, granted_at, is_waiting_at, without_wait}
-use Rattle.gl_table.specs.State.{State, slots, status_in, status_of}
-use Rattle.gl_table.specs.Waiting.{is_wait}
+use Rattle.gl_table.proofs.Words.{[], ◌<◌, ◌∙◌, ◌∷◌, ◌≡◌, ◌≤◌, ap, arith, Bool, cond, Condemned, condemned, count_by, count_cons, false, granted_at, is_wait}
+use Rattle.gl_table.proofs.Words.{is_waiting_at, IsOrderly, List, list_any, not_true, or_elim, refl, same_number, slots, State, status_in, status_of, sym, true}
+use Rattle.gl_table.proofs.Words.{without_wait, ℕ}
 use Rattle.gl_table.proofs.GrantKeeps.{txn_there}
 use Rattle.gl_table.proofs.Orderly.{way_here}
 use Rattle.gl_table.proofs.OrderlyWithout.{way_withdrawn}
@@ -39,7 +31,8 @@ module _ (p q : ℕ → Bool) (sub : (u : ℕ) → q u ≡ true → p u ≡ true
   count_less : (v : ℕ) (xs : List ℕ) → list_any (same v) xs ≡ true → p v ≡ true → q v ≡ false → count_by q xs < count_by p xs
   count_less v [] h pv qv = clash h refl
   count_less v (x ∷ xs) h pv qv = or_elim (same v x) (list_any (same v) xs) h
-      (λ e. let none = ap one_if (ap q (sym (same_number v x e)) ∙ qv) in let one = ap one_if (ap p (sym (same_number v x e)) ∙ pv) in let le = count_le xs in omega (arith, count_cons q x xs, count_cons p x xs))
+      (λ e. let none = ap one_if (ap q (sym (same_number v x e)) ∙ qv) in let one = ap one_if (ap p (sym (same_number v x e)) ∙ pv) in let le = count_le xs in
+      omega (arith, count_cons q x xs, count_cons p x xs))
       (λ k. let here = one_if_more (p x) (q x) (sub x) in let lt = count_less v xs k pv qv in omega (arith, count_cons q x xs, count_cons p x xs))
 
 -- how many wait
@@ -54,9 +47,11 @@ fewer_wait s o v h = count_less (waiting s) (waiting (condemned s v)) still v (s
 
     -- who waits still waited before
     still : (u : ℕ) → waiting (condemned s v) u ≡ true → waiting s u ≡ true
-    still u k = let w = wait_is (status_of (condemned s v) u) k in ap is_wait ((way_withdrawn s s v Condemned (is_waiting_at s v) (λ q m e. cc) (way_here s o)).waited u w.0 w.1 w.2)
+    still u k = let w = wait_is (status_of (condemned s v) u) k in
+        ap is_wait ((way_withdrawn s s v Condemned (is_waiting_at s v) (λ q m e. cc) (way_here s o)).waited u w.0 w.1 w.2)
 
     gone : waiting (condemned s v) v ≡ false
     gone = not_true _ (λ k. let w = wait_is (status_of (condemned s v) v) k in
         restatus_quiet Condemned (λ q m e. cc) (s.txns v) w.0 w.1
-        (ap status_in (sym (without_wait_own s v Condemned)) ∙ (woken_waits (granted_at (without_wait s v Condemned) (is_waiting_at s v)) v w.0 w.1 ((without_wait s v Condemned).txns v) w.2).0))
+        (ap status_in (sym (without_wait_own s v Condemned))
+        ∙ (woken_waits (granted_at (without_wait s v Condemned) (is_waiting_at s v)) v w.0 w.1 ((without_wait s v Condemned).txns v) w.2).0))

@@ -1,25 +1,10 @@
 -- The first of the nodes that pass a test, found among listed ones.
-use Rattle.std.specs.Prelude.{◌≡◌, ℕ, zero, suc, ◌+◌, ◌<◌, ◌≤◌, Bool, true, false, cond, not, ◌&&◌, ◌||◌, List, [], ◌∷◌, ◌++◌, if◌then◌else◌, Option, Some, None, is_some, nat_lt}
-use Rattle.std.specs.List.{filter_map, cons_option, find, list_any, range_with_len}
-use Rattle.std.specs.Option.{option_map_or}
-use Rattle.std.proofs.Common.{refl, sym, ap, ap₂, ◌∙◌, subst, arith}
-use Rattle.std.proofs.lemmas.Bool.Decides.{nat_tests}
-use Rattle.gl_modes.specs.declared.node.NodeId.{NodeId}
-use Rattle.gl_modes.specs.declared.mode.Mode.TheVariants.{NL}
-use Rattle.gl_modes.specs.Modes.{same_mode}
-use Rattle.gl_modes.specs.Nodes.{same_node}
-use Rattle.indexmap.specs.IndexMap.{keys}
-use Rattle.std.proofs.lemmas.Map.Made.{is_some-lookup}
-use Rattle.gl_table.specs.declared.list.Entry.{Entry}
-use Rattle.gl_table.specs.declared.list.LockList.{LockList}
-use Rattle.gl_table.specs.Lists.{entry_of, mode_in, mode_of}
-use Rattle.gl_modes.proofs.NodeLemmas.{same_node-equal}
-use Rattle.gl_graph.specs.Graph.{Graph, Node, id_of, is_live, node_at, nodes}
-use Rattle.gl_graph.specs.Lawful.{IsLawfulGraph}
-use Rattle.gl_graph.proofs.Look.{found_at, or_elim, split, live_node}
+use Rattle.gl_table.proofs.Words.{[], ◌&&◌, ◌++◌, ◌+◌, ◌<◌, ◌||◌, ◌∙◌, ◌∷◌, ◌≡◌, ◌≤◌, ap, ap₂, arith, Bool, cond, cons_option, Entry, entry_of, false}
+use Rattle.gl_table.proofs.Words.{filter_map, find, found_at, Graph, id_of, if◌then◌else◌, is_live, is_some, is_some-lookup, IsLawfulGraph, keys, List}
+use Rattle.gl_table.proofs.Words.{list_any, list_any-append, live_node, LockList, mode_in, mode_of, nat_lt, nat_tests, NL, Node, node_at, NodeId, nodes, None}
+use Rattle.gl_table.proofs.Words.{not, Option, option_map_or, or-false, or_elim, range_with_len, refl, same_mode, same_node, same_node-equal, Some, split}
+use Rattle.gl_table.proofs.Words.{subst, suc, sym, true, zero, ℕ}
 use Rattle.gl_table.proofs.Queues.{clash}
-use Rattle.std.proofs.Math.Bool.{or-false}
-use Rattle.std.proofs.lemmas.List.Folds.{list_any-append}
 
 -- of the nodes seen so far that pass the test, the first in order of birth
 pub record IsFirst (p : NodeId → Bool) (seen : List NodeId) (first : Option NodeId) : Type 0 where
@@ -29,13 +14,17 @@ pub record IsFirst (p : NodeId → Bool) (seen : List NodeId) (first : Option No
 module _ (p : NodeId → Bool) (ns : List NodeId) (n : NodeId) (first : Option NodeId) (is : IsFirst p ns first) where
   seen_or : {C : Type 0} (c : NodeId) → list_any (same_node c) (ns ++ n ∷ []) ≡ true → (list_any (same_node c) ns ≡ true → C) → (c ≡ n → C) → C
   seen_or c h before now =
-      or_elim (list_any (same_node c) ns) (same_node c n) (sym (list_any-append (same_node c) ns (n ∷ []) ∙ ap (λ b. list_any (same_node c) ns || b) (or-false (same_node c n))) ∙ h) before (λ e. now (same_node-equal c n e))
+      or_elim (list_any (same_node c) ns) (same_node c n)
+      (sym (list_any-append (same_node c) ns (n ∷ []) ∙ ap (λ b. list_any (same_node c) ns || b) (or-false (same_node c n))) ∙ h) before
+      (λ e. now (same_node-equal c n e))
 
   -- it passes, and was born before the one found so far
   pub first_new : p n ≡ true → option_map_or (λ o. nat_lt n.birth o.birth) first true ≡ true → IsFirst p (ns ++ n ∷ []) (Some n)
-  first_new passes before = record { none = λ e c h. cc; some = λ f e. let at : n ≡ f = cc in subst (λ (x : NodeId). (p x ≡ true) × ((c : NodeId) → list_any (same_node c) (ns ++ n ∷ []) ≡ true → p c ≡ true → x.birth ≤ c.birth)) at (passes, least) }
+  first_new passes before = record { none = λ e c h. cc; some = λ f e. let at : n ≡ f = cc in
+      subst (λ (x : NodeId). (p x ≡ true) × ((c : NodeId) → list_any (same_node c) (ns ++ n ∷ []) ≡ true → p c ≡ true → x.birth ≤ c.birth)) at (passes, least) }
     where
-      least_of : (o : Option NodeId) → IsFirst p ns o → option_map_or (λ x. nat_lt n.birth x.birth) o true ≡ true → (c : NodeId) → list_any (same_node c) ns ≡ true → p c ≡ true → n.birth ≤ c.birth
+      least_of : (o : Option NodeId) → IsFirst p ns o → option_map_or (λ x. nat_lt n.birth x.birth) o true ≡ true → (c : NodeId)
+          → list_any (same_node c) ns ≡ true → p c ≡ true → n.birth ≤ c.birth
       least_of None f b c h k = clash k (f.none refl c h)
       least_of (Some x) f b c h k = let le = (f.some x refl).1 c h k in let below : n.birth < x.birth = grind (arith, nat_tests) in omega arith
 
@@ -60,7 +49,8 @@ module _ (p : NodeId → Bool) (ns : List NodeId) (n : NodeId) (first : Option N
         some = λ y e. let at : x ≡ y = cc in (
           (f.some y e).0,
           λ c k q. seen_or c k (λ b. (f.some y e).1 c b q)
-              (λ same. let up : x.birth ≤ n.birth = grind (arith, nat_tests) in let to = ap (λ z. z.birth) same in let xy = ap (λ z. z.birth) at in omega arith),
+              (λ same. let up : x.birth ≤ n.birth = grind (arith, nat_tests) in let to = ap (λ z. z.birth) same in let xy = ap (λ z. z.birth) at in
+              omega arith),
         );
       }
 
@@ -71,38 +61,48 @@ first_more p ns n first after is e = subst (IsFirst p (ns ++ n ∷ [])) (sym e) 
     (λ passes. split (option_map_or (λ o. nat_lt n.birth o.birth) first true)
     (λ before. subst (IsFirst p (ns ++ n ∷ [])) (sym (ap₂ (λ a b. if a && b then Some n else first) passes before)) (first_new p ns n first is passes before))
     (λ later. subst (IsFirst p (ns ++ n ∷ [])) (sym (ap₂ (λ a b. if a && b then Some n else first) passes later)) (first_later p ns n first is later)))
-    (λ fails. subst (IsFirst p (ns ++ n ∷ [])) (sym (ap (λ a. if a && option_map_or (λ o. nat_lt n.birth o.birth) first true then Some n else first) fails)) (first_failed p ns n first is fails)))
+    (λ fails. subst (IsFirst p (ns ++ n ∷ [])) (sym (ap (λ a. if a && option_map_or (λ o. nat_lt n.birth o.birth) first true then Some n else first) fails))
+    (first_failed p ns n first is fails)))
 
 -- in a list of nodes by birth, the one that passes and before which none passes is found
-find_born : (p : NodeId → Bool) (at : ℕ → Option NodeId) (k n : ℕ) (f : NodeId) (b : ℕ) → k ≤ b → b < k + n → at b ≡ Some f → p f ≡ true → ((j : ℕ) (c : NodeId) → j < b → at j ≡ Some c → p c ≡ false)
+find_born : (p : NodeId → Bool) (at : ℕ → Option NodeId) (k n : ℕ) (f : NodeId) (b : ℕ) → k ≤ b → b < k + n → at b ≡ Some f → p f ≡ true
+    → ((j : ℕ) (c : NodeId) → j < b → at j ≡ Some c → p c ≡ false)
     → find p (filter_map at (range_with_len k n)) ≡ Some f
 find_born p at k zero f b lo hi here passes before = absurd (omega arith)
 find_born p at k (suc n) f b lo hi here passes before =
     split (nat_lt k b)
-    (λ e. let lt : k < b = grind (arith, nat_tests) in skip (at k) refl (λ c h. before k c lt h) (find_born p at (k + 1) n f b (omega arith) (omega arith) here passes before))
-    (λ e. let is : k ≡ b = grind (arith, nat_tests) in ap (λ o. find p (cons_option o (filter_map at (range_with_len (k + 1) n)))) (ap at is ∙ here) ∙ ap (λ x. cond x (Some f) (find p (filter_map at (range_with_len (k + 1) n)))) passes)
+    (λ e. let lt : k < b = grind (arith, nat_tests) in
+    skip (at k) refl (λ c h. before k c lt h) (find_born p at (k + 1) n f b (omega arith) (omega arith) here passes before))
+    (λ e. let is : k ≡ b = grind (arith, nat_tests) in ap (λ o. find p (cons_option o (filter_map at (range_with_len (k + 1) n)))) (ap at is ∙ here)
+    ∙ ap (λ x. cond x (Some f) (find p (filter_map at (range_with_len (k + 1) n)))) passes)
   where
-    skip : (o : Option NodeId) → at k ≡ o → ((c : NodeId) → at k ≡ Some c → p c ≡ false) → find p (filter_map at (range_with_len (k + 1) n)) ≡ Some f → find p (filter_map at (range_with_len k (suc n))) ≡ Some f
+    skip : (o : Option NodeId) → at k ≡ o → ((c : NodeId) → at k ≡ Some c → p c ≡ false) → find p (filter_map at (range_with_len (k + 1) n)) ≡ Some f
+        → find p (filter_map at (range_with_len k (suc n))) ≡ Some f
     skip None e h rest = ap (λ o. find p (cons_option o (filter_map at (range_with_len (k + 1) n)))) e ∙ rest
-    skip (Some c) e h rest = ap (λ o. find p (cons_option o (filter_map at (range_with_len (k + 1) n)))) e ∙ ap (λ x. cond x (Some c) (find p (filter_map at (range_with_len (k + 1) n)))) (h c e) ∙ rest
+    skip (Some c) e h rest = ap (λ o. find p (cons_option o (filter_map at (range_with_len (k + 1) n)))) e
+        ∙ ap (λ x. cond x (Some c) (find p (filter_map at (range_with_len (k + 1) n)))) (h c e) ∙ rest
 
 -- and where none passes none is found
-find_none : (p : NodeId → Bool) (at : ℕ → Option NodeId) (k n : ℕ) → ((j : ℕ) (c : NodeId) → at j ≡ Some c → p c ≡ false) → find p (filter_map at (range_with_len k n)) ≡ None
+find_none : (p : NodeId → Bool) (at : ℕ → Option NodeId) (k n : ℕ) → ((j : ℕ) (c : NodeId) → at j ≡ Some c → p c ≡ false)
+    → find p (filter_map at (range_with_len k n)) ≡ None
 find_none p at k zero h = refl
 find_none p at k (suc n) h = by (at k) refl (find_none p at (k + 1) n h)
   where
     by : (o : Option NodeId) → at k ≡ o → find p (filter_map at (range_with_len (k + 1) n)) ≡ None → find p (filter_map at (range_with_len k (suc n))) ≡ None
     by None e rest = ap (λ o. find p (cons_option o (filter_map at (range_with_len (k + 1) n)))) e ∙ rest
-    by (Some c) e rest = ap (λ o. find p (cons_option o (filter_map at (range_with_len (k + 1) n)))) e ∙ ap (λ x. cond x (Some c) (find p (filter_map at (range_with_len (k + 1) n)))) (h k c e) ∙ rest
+    by (Some c) e rest = ap (λ o. find p (cons_option o (filter_map at (range_with_len (k + 1) n)))) e
+        ∙ ap (λ x. cond x (Some c) (find p (filter_map at (range_with_len (k + 1) n)))) (h k c e) ∙ rest
 
 id_birth : (b : ℕ) (o : Option Node) (c : NodeId) → id_of b o ≡ Some c → c.birth ≡ b
 id_birth b None c e = absurd (cc)
 id_birth b (Some x) c e = let is : record { key = x.key; birth = b } ≡ c = cc in sym (ap (λ z. z.birth) is)
 
 -- where the nodes seen are all that pass, the first of them is the first in the graph
-pub first_found : (g : Graph) → IsLawfulGraph g → (p : NodeId → Bool) (seen : List NodeId) (first : Option NodeId) → ((c : NodeId) → p c ≡ true → (list_any (same_node c) seen ≡ true) × (is_live g c ≡ true)) → IsFirst p seen first
+pub first_found : (g : Graph) → IsLawfulGraph g → (p : NodeId → Bool) (seen : List NodeId) (first : Option NodeId)
+    → ((c : NodeId) → p c ≡ true → (list_any (same_node c) seen ≡ true) × (is_live g c ≡ true)) → IsFirst p seen first
     → first ≡ find p (nodes g)
-first_found g law p seen None all is = sym (find_none p (λ b. id_of b (g.at b)) 1 g.births (λ j c e. split (p c) (λ h. clash h (is.none refl c (all c h).0)) (λ h. h)))
+first_found g law p seen None all is = sym (find_none p (λ b. id_of b (g.at b)) 1 g.births
+    (λ j c e. split (p c) (λ h. clash h (is.none refl c (all c h).0)) (λ h. h)))
 first_found g law p seen (Some f) all is =
     let found = live_node (node_at g f) (all f (is.some f refl).0).1 in
     let at = found_at g f found.0 found.1 in

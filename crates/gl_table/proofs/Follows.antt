@@ -1,22 +1,9 @@
 -- What a change of the state by others leaves to one slot: its grants, or one node raised with the mode for which it waited.
-use Rattle.std.specs.Prelude.{◌≡◌, ◌⊎◌, ℕ, Bool, true, false, List, [], ◌∷◌, ◌++◌, length, drop, Option, Some, None, if◌then◌else◌}
-use Rattle.std.proofs.Common.{refl, sym, ap, subst, ◌∙◌, inl, inr, ⊎_elim}
-use Rattle.std.proofs.lemmas.List.Elements.{filter-append}
-use mathlib.Core.Bool.{true≢false}
-use Rattle.gl_modes.specs.declared.mode.Mode.{Mode}
-use Rattle.gl_modes.specs.declared.node.NodeId.{NodeId}
-use Rattle.gl_modes.specs.Modes.{is_at_least}
-use Rattle.gl_table.specs.declared.txn.Status.{Status}
-use Rattle.gl_table.specs.declared.txn.Status.TheVariants.{Active, Waiting, Condemned}
-use Rattle.gl_modes.specs.Nodes.{same_node}
-use Rattle.gl_header.specs.Header.{Waiter, is_waiter, is_among_waiters}
-use Rattle.gl_table.specs.State.{State, Txn, members, live_by, status_of, status_in}
-use Rattle.gl_table.specs.Lawful.{IsLawful}
-use Rattle.gl_table.specs.Pumps.{waits_at, is_waiting_at, front_at, granted_at, pumped, awake, woken}
+use Rattle.gl_table.proofs.Words.{[], ◌++◌, ◌∙◌, ◌∷◌, ◌≡◌, ◌⊎◌, Active, ap, awake, Bool, Condemned, drop, false, filter-append, front-and_rest, front_at}
+use Rattle.gl_table.proofs.Words.{granted_at, if◌then◌else◌, inl, inr, is_among_waiters, is_at_least, is_waiter, is_waiting_at, IsLawful, length, List, live_by}
+use Rattle.gl_table.proofs.Words.{members, Mode, NodeId, None, Option, pumped, refl, same_node, same_node-equal, Some, split, State, Status, status_in}
+use Rattle.gl_table.proofs.Words.{status_of, subst, sym, true, true≢false, Txn, Waiter, Waiting, waits_at, woken, ℕ, ⊎_elim}
 use Rattle.gl_table.proofs.Waiters.{waits_of, last_mode, none_of_absent, nobody_among, one_among, among_waits, some_wait, granted_mode, split_one, both_empty}
-use Rattle.gl_graph.proofs.Look.{split}
-use Rattle.gl_modes.proofs.NodeLemmas.{same_node-equal}
-use Rattle.gl_header.proofs.Fronts.{front-and_rest}
 
 -- t, which waited for it, was granted a mode on a node; nothing else that it holds changed
 pub record GrantedTo (s s' : State) (t : ℕ) : Type 0 where
@@ -88,7 +75,8 @@ follows_trans s mid s' t f g = record {
     both (inr a) (inr b) = absurd (apart (sym a.is ∙ b.was))
 
 -- nothing of t is touched
-pub follows_same : (s s' : State) (t : ℕ) → WaitsWell s t → s'.graph ≡ s.graph → s'.txns t ≡ s.txns t → SameGrants s s' t → ((n : NodeId) → waits_of t (s'.queue n) ≡ waits_of t (s.queue n)) → Follows s s' t
+pub follows_same : (s s' : State) (t : ℕ) → WaitsWell s t → s'.graph ≡ s.graph → s'.txns t ≡ s.txns t → SameGrants s s' t
+    → ((n : NodeId) → waits_of t (s'.queue n) ≡ waits_of t (s.queue n)) → Follows s s' t
 follows_same s s' t well graph txn grants waits = record {
   graph = graph;
   lives = λ age h. ap (live_by age) txn ∙ h;
@@ -98,7 +86,8 @@ follows_same s s' t well graph txn grants waits = record {
   well = record {
     one = λ n m h. waits n ∙ well.one n m (sym (ap status_in txn) ∙ h);
     more = λ n m h. ap (is_at_least m) (grants n) ∙ well.more n m (sym (ap status_in txn) ∙ h);
-    are = λ n h. ap (λ x. waits_at (status_in x) n) txn ∙ well.are n (among_waits t (s.queue n) ∙ ap some_wait (sym (waits n)) ∙ sym (among_waits t (s'.queue n)) ∙ h);
+    are = λ n h. ap (λ x. waits_at (status_in x) n) txn
+        ∙ well.are n (among_waits t (s.queue n) ∙ ap some_wait (sym (waits n)) ∙ sym (among_waits t (s'.queue n)) ∙ h);
   };
 }
 
@@ -107,7 +96,8 @@ pub follows_refl : (s : State) (t : ℕ) → WaitsWell s t → Follows s s t
 follows_refl s t well = follows_same s s t well refl refl (λ q. refl) (λ n. refl)
 
 -- t waits nowhere
-pub absent_well : (s : State) (t : ℕ) → ((n : NodeId) → waits_of t (s.queue n) ≡ []) → ((n : NodeId) (m : Mode) → status_of s t ≡ Some (Waiting n m) → ⊥) → WaitsWell s t
+pub absent_well : (s : State) (t : ℕ) → ((n : NodeId) → waits_of t (s.queue n) ≡ []) → ((n : NodeId) (m : Mode) → status_of s t ≡ Some (Waiting n m) → ⊥)
+    → WaitsWell s t
 absent_well s t absent idle = record {
   one = λ n m h. absurd (idle n m h);
   more = λ n m h. absurd (idle n m h);
@@ -156,7 +146,8 @@ module _ (s : State) (chosen : NodeId → Bool) (t : ℕ) (well : WaitsWell s t)
   held_same n e = held_is n ∙ ap (last_mode (s.held t n)) e
 
   -- t waits nowhere
-  idle_follows : ((n : NodeId) → waits_of t (s.queue n) ≡ []) → status_of (pumped s chosen) t ≡ status_of s t → ((n : NodeId) (m : Mode) → status_of s t ≡ Some (Waiting n m) → ⊥) → Follows s (pumped s chosen) t
+  idle_follows : ((n : NodeId) → waits_of t (s.queue n) ≡ []) → status_of (pumped s chosen) t ≡ status_of s t
+      → ((n : NodeId) (m : Mode) → status_of s t ≡ Some (Waiting n m) → ⊥) → Follows s (pumped s chosen) t
   idle_follows absent status idle = record {
     graph = refl;
     lives = λ age h. woken_lives granted t age (s.txns t) ∙ h;
@@ -175,7 +166,8 @@ module _ (s : State) (chosen : NodeId → Bool) (t : ℕ) (well : WaitsWell s t)
   waiting_follows : (n : NodeId) (m : Mode) → status_of s t ≡ Some (Waiting n m) → Follows s (pumped s chosen) t
   waiting_follows n m e =
       ⊎_elim
-      (λ stays. let status : status_of (pumped s chosen) t ≡ Some (Waiting n m) = status_is _ e ∙ ap (λ b. Some (if b then Active else Waiting n m)) (nobody_among t (granted n) stays.0) in
+      (λ stays. let status : status_of (pumped s chosen) t ≡ Some (Waiting n m) = status_is _ e
+      ∙ ap (λ b. Some (if b then Active else Waiting n m)) (nobody_among t (granted n) stays.0) in
       record {
         graph = refl;
         lives = λ age h. woken_lives granted t age (s.txns t) ∙ h;
@@ -185,10 +177,12 @@ module _ (s : State) (chosen : NodeId → Bool) (t : ℕ) (well : WaitsWell s t)
         well = record {
           one = λ q w h. waits_left stays.0 q ∙ well.one q w (e ∙ sym status ∙ h);
           more = λ q w h. ap (is_at_least w) (held_same q (none_granted stays.0 q)) ∙ well.more q w (e ∙ sym status ∙ h);
-          are = λ q h. ap (λ o. waits_at o q) (status ∙ sym e) ∙ well.are q (among_waits t (s.queue q) ∙ ap some_wait (sym (waits_left stays.0 q)) ∙ sym (among_waits t (rest q)) ∙ h);
+          are = λ q h. ap (λ o. waits_at o q) (status ∙ sym e)
+              ∙ well.are q (among_waits t (s.queue q) ∙ ap some_wait (sym (waits_left stays.0 q)) ∙ sym (among_waits t (rest q)) ∙ h);
         };
       })
-      (λ goes. let status : status_of (pumped s chosen) t ≡ Some Active = status_is _ e ∙ ap (λ b. Some (if b then Active else Waiting n m)) (one_among t (granted n) (t, m) goes.0) in
+      (λ goes. let status : status_of (pumped s chosen) t ≡ Some Active = status_is _ e
+      ∙ ap (λ b. Some (if b then Active else Waiting n m)) (one_among t (granted n) (t, m) goes.0) in
       record {
         graph = refl;
         lives = λ age h. woken_lives granted t age (s.txns t) ∙ h;
@@ -204,7 +198,8 @@ module _ (s : State) (chosen : NodeId → Bool) (t : ℕ) (well : WaitsWell s t)
           more = well.more n m e;
         });
         well = absent_well (pumped s chosen) t
-            (λ q. split (same_node n q) (λ h. subst (λ x. waits_of t (rest x) ≡ []) (same_node-equal n q h) goes.1) (λ h. (both_empty _ _ (waits_parts q ∙ elsewhere q h)).1))
+            (λ q. split (same_node n q) (λ h. subst (λ x. waits_of t (rest x) ≡ []) (same_node-equal n q h) goes.1)
+            (λ h. (both_empty _ _ (waits_parts q ∙ elsewhere q h)).1))
             (λ q w h. apart (sym status ∙ h));
       })
       (split_one _ _ (t, m) (waits_parts n ∙ well.one n m e))
@@ -213,7 +208,8 @@ module _ (s : State) (chosen : NodeId → Bool) (t : ℕ) (well : WaitsWell s t)
       elsewhere q ne = none_of_absent t (s.queue q) (λ h. true≢false (sym (well.are q h) ∙ ap (λ x. waits_at x q) e ∙ ne))
 
       none_granted : waits_of t (granted n) ≡ [] → (q : NodeId) → waits_of t (granted q) ≡ []
-      none_granted here q = split (same_node n q) (λ h. subst (λ x. waits_of t (granted x) ≡ []) (same_node-equal n q h) here) (λ h. (both_empty _ _ (waits_parts q ∙ elsewhere q h)).0)
+      none_granted here q = split (same_node n q) (λ h. subst (λ x. waits_of t (granted x) ≡ []) (same_node-equal n q h) here)
+          (λ h. (both_empty _ _ (waits_parts q ∙ elsewhere q h)).0)
 
       waits_left : waits_of t (granted n) ≡ [] → (q : NodeId) → waits_of t (rest q) ≡ waits_of t (s.queue q)
       waits_left here q = ap (λ ws. ws ++ waits_of t (rest q)) (sym (none_granted here q)) ∙ waits_parts q
@@ -225,5 +221,6 @@ module _ (s : State) (chosen : NodeId → Bool) (t : ℕ) (well : WaitsWell s t)
       by : (o : Option Status) → status_of s t ≡ o → Follows s (pumped s chosen) t
       by None e = idle_follows (nowhere None e (λ n. refl)) (status_is None e ∙ sym e) (λ n m h. apart_none (sym e ∙ h))
       by (Some Active) e = idle_follows (nowhere (Some Active) e (λ n. refl)) (status_is (Some Active) e ∙ sym e) (λ n m h. apart (sym e ∙ h))
-      by (Some Condemned) e = idle_follows (nowhere (Some Condemned) e (λ n. refl)) (status_is (Some Condemned) e ∙ sym e) (λ n m h. apart_condemned (sym e ∙ h))
+      by (Some Condemned) e = idle_follows (nowhere (Some Condemned) e (λ n. refl)) (status_is (Some Condemned) e ∙ sym e)
+          (λ n m h. apart_condemned (sym e ∙ h))
       by (Some (Waiting n m)) e = waiting_follows n m e

@@ -1,24 +1,8 @@
 -- A slot that holds nothing and stands in no queue is freed, and its list is emptied: the lists agree.
-use Rattle.std.specs.Prelude.{◌≡◌, ℕ, ◌<◌, false, not, ◌&&◌, ◌||◌, ◌==◌, List, [], ◌∷◌, length, Option, None, if◌then◌else◌, slice_set}
-use Rattle.std.proofs.Common.{refl, sym, ap, ap₂, ◌∙◌, subst, arith, length-set}
-use Rattle.std.proofs.Math.Bool.{and-false}
-use Rattle.std.proofs.lemmas.Bool.Decides.{nat_tests}
-use Rattle.std.proofs.lemmas.Grind.{common_steps}
-use Rattle.std.proofs.lemmas.Option.{gets}
-use Rattle.gl_modes.specs.declared.mode.Mode.TheVariants.{NL}
-use Rattle.gl_modes.specs.declared.node.NodeId.{NodeId}
-use Rattle.gl_modes.specs.Modes.{same_mode}
-use Rattle.gl_graph.specs.Graph.{is_child, is_live, nodes}
-use Rattle.gl_graph.proofs.Counts.{count_none, nodes_live}
-use Rattle.gl_graph.proofs.Look.{number_same, same_number, split}
-use Rattle.gl_header.specs.Header.{is_among_waiters}
-use Rattle.gl_table.specs.declared.list.LockList.{LockList}
-use Rattle.gl_table.specs.declared.seat.Seat.{Seat}
-use Rattle.gl_table.specs.Lists.{count_of, is_listed, mode_of}
-use Rattle.gl_table.specs.Locks.{Agrees, CountsHeld}
-use Rattle.gl_table.specs.Seats.{txns_of}
-use Rattle.gl_table.specs.State.{State, status_in, with_txn}
-use Rattle.gl_table.specs.Waiting.{is_wait}
+use Rattle.gl_table.proofs.Words.{[], ◌&&◌, ◌<◌, ◌==◌, ◌||◌, ◌∙◌, ◌∷◌, ◌≡◌, Agrees, and-false, ap, ap₂, arith, common_steps, count_none, count_of, CountsHeld}
+use Rattle.gl_table.proofs.Words.{false, gets, if◌then◌else◌, is_among_waiters, is_child, is_listed, is_live, is_wait, length, length-set, List, LockList}
+use Rattle.gl_table.proofs.Words.{mode_of, nat_tests, NL, NodeId, nodes, nodes_live, None, not, number_same, Option, refl, same_mode, same_number, Seat}
+use Rattle.gl_table.proofs.Words.{slice_set, split, State, status_in, subst, sym, txns_of, with_txn, ℕ}
 use Rattle.gl_table.proofs.NewLists.{IsBare, bare-modes}
 use Rattle.gl_table.proofs.OtherLists.{agrees-set, counts-set, own_list}
 use Rattle.gl_table.proofs.Queues.{clash}
@@ -33,7 +17,8 @@ state-freed s seats seats' t lt freed =
     ap {B = State} (λ (xs : List (Option Seat)). record s { txns = txns_of xs; most = length xs }) freed
     ∙ (λ i. record s { txns = λ u. txns-freed seats t u lt i; most = length-set seats t None i })
 
-module _ (s : State) (t : ℕ) (free : (q : NodeId) → s.held t q ≡ NL) (out : (q : NodeId) → is_among_waiters t (s.queue q) ≡ false) (ls : List LockList) (new : LockList) (lt : t < length ls) (bare : IsBare new) where
+module _ (s : State) (t : ℕ) (free : (q : NodeId) → s.held t q ≡ NL) (out : (q : NodeId) → is_among_waiters t (s.queue q) ≡ false) (ls : List LockList)
+    (new : LockList) (lt : t < length ls) (bare : IsBare new) where
   abbrev gone : State
   gone = with_txn s t None
 
@@ -60,4 +45,5 @@ module _ (s : State) (t : ℕ) (free : (q : NodeId) → s.held t q ≡ NL) (out 
       (λ c h. ap (λ m. is_child s.graph p c && not (same_mode m NL)) (free c) ∙ and-false (is_child s.graph p c)))
 
   pub counts-gone : ((u : ℕ) → (u == t) ≡ false → CountsHeld s ls u) → (u : ℕ) → CountsHeld gone (slice_set ls t new) u
-  counts-gone count u = split (u == t) (λ e. subst (CountsHeld gone (slice_set ls t new)) (sym (same_number u t e)) own_counts) (λ e. counts-set ls t new lt u e gone (count u e))
+  counts-gone count u = split (u == t) (λ e. subst (CountsHeld gone (slice_set ls t new)) (sym (same_number u t e)) own_counts)
+      (λ e. counts-set ls t new lt u e gone (count u e))

@@ -1,27 +1,12 @@
 -- Waiters freed one after the other.
-use Rattle.std.specs.Prelude.{◌≡◌, ℕ, ◌+◌, ◌<◌, Bool, true, false, ◌&&◌, ◌||◌, ◌==◌, List, [], length, take, Option, Some, None, if◌then◌else◌, slice_index_or}
-use Rattle.std.proofs.Common.{refl, sym, ap, ap₂, ◌∙◌, subst, arith}
-use Rattle.std.proofs.lemmas.Bool.Decides.{nat_tests}
-use Rattle.gl_modes.specs.declared.mode.Mode.TheVariants.{NL}
-use Rattle.gl_modes.specs.declared.node.NodeId.{NodeId}
-use Rattle.gl_modes.specs.Nodes.{same_node}
-use Rattle.gl_graph.proofs.Look.{or_right, same_number, split}
-use Rattle.gl_header.specs.Header.{Waiter, is_among_waiters, is_waiter}
-use Rattle.gl_table.specs.declared.list.LockList.{LockList}
+use Rattle.gl_table.proofs.Words.{[], ◌&&◌, ◌+◌, ◌<◌, ◌==◌, ◌||◌, ◌∙◌, ◌≡◌, Active, age_in, ap, ap₂, arith, Bool, CanFree, count_of, counted_by, false, Frees}
+use Rattle.gl_table.proofs.Words.{held_by, if◌then◌else◌, is_among_waiters, is_waiter, IsApart, IsBySlot, length, List, listed_by, LockList, nat_tests, NL}
+use Rattle.gl_table.proofs.Words.{NodeId, None, notices_in, Option, or-false, or_right, refl, restatus, same_node, same_number, Seat, slice_index_or, Some}
+use Rattle.gl_table.proofs.Words.{split, Strikes, subst, sym, take, Told, true, txns_of, Waiter, ℕ}
 use Rattle.gl_table.specs.declared.notice.Notice.TheVariants as notice
-use Rattle.gl_table.specs.declared.seat.Seat.{Seat}
-use Rattle.gl_table.specs.declared.txn.Status.TheVariants.{Active}
-use Rattle.gl_table.specs.Frees.{CanFree, Frees}
-use Rattle.gl_table.specs.Lists.{IsApart, count_of}
-use Rattle.gl_table.specs.Seats.{txns_of}
-use Rattle.gl_table.specs.Slots.{Strikes, counted_by, held_by, listed_by}
-use Rattle.gl_table.specs.State.{age_in, restatus}
-use Rattle.gl_table.specs.Telling.{IsBySlot, notices_in}
-use Rattle.gl_table.specs.Tellings.{Told}
 use Rattle.gl_table.proofs.Queues.{clash}
 use Rattle.gl_table.proofs.Slots.{by_list-at, slice_get-at}
 use Rattle.gl_table.proofs.Woken.{among_more, is_among_all, none_before}
-use Rattle.std.proofs.Math.Bool.{or-false}
 
 -- what one of two tests writes, beside a third
 either : {A : Type 0} (a b k : Bool) (x y : A) → (if b && k then x else (if a && k then x else y)) ≡ (if (a || b) && k then x else y)
@@ -32,7 +17,8 @@ either false true k x y = refl
 either false false k x y = refl
 
 module _ (seats : List (Option Seat)) (ls : List LockList) (told : Told) (n : NodeId) (ws : List Waiter) (can : CanFree seats ls told n ws)
-    (i : ℕ) (d : Waiter) (lt : i < length ws) (seats' : List (Option Seat)) (ls' : List LockList) (told' : Told) (freed : Frees seats ls told n (take i ws) seats' ls' told') where
+    (i : ℕ) (d : Waiter) (lt : i < length ws) (seats' : List (Option Seat)) (ls' : List LockList) (told' : Told)
+    (freed : Frees seats ls told n (take i ws) seats' ls' told') where
   abbrev w : Waiter
   w = slice_index_or ws i d
 
@@ -49,7 +35,8 @@ module _ (seats : List (Option Seat)) (ls : List LockList) (told : Told) (n : No
   slot_listed = subst (λ (k : ℕ). w.0 < k) (sym (freed.lists.len ∙ can.len)) (can.below w.0 among)
 
   pub may_tell : notices_in told' w.0 ≡ None
-  may_tell = freed.tells.notices w.0 ∙ ap (λ b. if b then Some (record { slot = w.0; age = age_in (txns_of seats w.0) }, notice.Gone) else notices_in told w.0) fresh ∙ can.untold w.0 among
+  may_tell = freed.tells.notices w.0 ∙ ap (λ b. if b then Some (record { slot = w.0; age = age_in (txns_of seats w.0) }, notice.Gone) else notices_in told w.0)
+      fresh ∙ can.untold w.0 among
 
   module _ (l : LockList) (at : l ≡ slice_index_or ls' w.0 l) where
     pub may_leave : IsApart l
@@ -61,7 +48,8 @@ module _ (seats : List (Option Seat)) (ls : List LockList) (told : Told) (n : No
   txn_same : txns_of seats' w.0 ≡ txns_of seats w.0
   txn_same = freed.txns w.0 ∙ ap (λ b. if b then restatus Active (txns_of seats w.0) else txns_of seats w.0) fresh
 
-  pub freed_more : (seats'' : List (Option Seat)) (ls'' : List LockList) (told'' : Told) (age : ℕ) → age ≡ age_in (txns_of seats' w.0) → length seats'' ≡ length seats'
+  pub freed_more : (seats'' : List (Option Seat)) (ls'' : List LockList) (told'' : Told) (age : ℕ) → age ≡ age_in (txns_of seats' w.0)
+      → length seats'' ≡ length seats'
       → ((u : ℕ) → txns_of seats'' u ≡ (if u == w.0 then restatus Active (txns_of seats' w.0) else txns_of seats' u))
       → Strikes ls' ls'' w.0 n [] → IsBySlot told''
       → ((u : ℕ) → notices_in told'' u ≡ (if u == w.0 then Some (record { slot = w.0; age = age }, notice.Gone) else notices_in told' u))
@@ -70,7 +58,8 @@ module _ (seats : List (Option Seat)) (ls : List LockList) (told : Told) (n : No
     len = len ∙ freed.len;
     txns = λ u. split (u == w.0)
         (λ e. let is = same_number u w.0 e in
-        txns u ∙ ap (λ b. if b then restatus Active (txns_of seats' w.0) else txns_of seats' u) e ∙ ap (restatus Active) (txn_same ∙ ap (txns_of seats) (sym is))
+        txns u ∙ ap (λ b. if b then restatus Active (txns_of seats' w.0) else txns_of seats' u) e
+        ∙ ap (restatus Active) (txn_same ∙ ap (txns_of seats) (sym is))
         ∙ sym (ap (λ b. if b then restatus Active (txns_of seats u) else txns_of seats u) (now u e)))
         (λ e. txns u ∙ ap (λ b. if b then restatus Active (txns_of seats' w.0) else txns_of seats' u) e ∙ freed.txns u
         ∙ sym (ap (λ b. if b then restatus Active (txns_of seats u) else txns_of seats u) (as_before u e)));
@@ -78,9 +67,11 @@ module _ (seats : List (Option Seat)) (ls : List LockList) (told : Told) (n : No
       len = struck.len ∙ freed.lists.len;
       apart = struck.apart;
       modes = λ u q. struck.modes u q ∙ ap (λ m. if (u == w.0) && same_node q n then NL else m) (freed.lists.modes u q)
-          ∙ either (is_among_waiters u (take i ws)) (u == w.0) (same_node q n) NL (held_by ls u q) ∙ ap (λ b. if b && same_node q n then NL else held_by ls u q) (sym (next u));
+          ∙ either (is_among_waiters u (take i ws)) (u == w.0) (same_node q n) NL (held_by ls u q)
+          ∙ ap (λ b. if b && same_node q n then NL else held_by ls u q) (sym (next u));
       listed = λ u q. struck.listed u q ∙ ap (λ m. if (u == w.0) && same_node q n then false else m) (freed.lists.listed u q)
-          ∙ either (is_among_waiters u (take i ws)) (u == w.0) (same_node q n) false (listed_by ls u q) ∙ ap (λ b. if b && same_node q n then false else listed_by ls u q) (sym (next u));
+          ∙ either (is_among_waiters u (take i ws)) (u == w.0) (same_node q n) false (listed_by ls u q)
+          ∙ ap (λ b. if b && same_node q n then false else listed_by ls u q) (sym (next u));
       counts = λ u q. none_less u (counted_by ls'' u q) ∙ struck.counts u q ∙ freed.lists.counts u q;
       rooms = λ u off. let e = not_this u off in struck.rooms u e ∙ freed.lists.rooms u (sym (as_before u e) ∙ off);
     };

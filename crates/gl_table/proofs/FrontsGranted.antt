@@ -1,26 +1,9 @@
 -- What the headers, the seats and the lists are once a node granted from its front is the state of the model.
-use Rattle.std.specs.Prelude.{◌≡◌, ℕ, ◌≤◌, Bool, true, false, ◌&&◌, ◌==◌, List, length, drop, Option, if◌then◌else◌}
-use Rattle.std.proofs.Common.{refl, sym, ap, ap₂, ◌∙◌, subst}
-use Rattle.std.proofs.Math.Path.{fun_ext}
-use Rattle.gl_modes.specs.declared.mode.Mode.{Mode}
-use Rattle.gl_modes.specs.declared.mode.Mode.TheVariants.{NL}
-use Rattle.gl_modes.specs.declared.node.NodeId.{NodeId}
-use Rattle.gl_modes.specs.Nodes.{same_node}
-use Rattle.gl_modes.proofs.NodeLemmas.{same_node-equal, same_node-refl, same_node-sym}
-use Rattle.gl_graph.proofs.Look.{same_number, split}
-use Rattle.gl_header.specs.Header.{IsWithin, Members, Waiter, after_grants, front, is_among_waiters, with_mode, without_waiter}
-use Rattle.gl_header.specs.State.{slot_limit}
-use Rattle.gl_header.proofs.Fronts.{front-limit}
-use Rattle.gl_table.specs.declared.list.LockList.{LockList}
-use Rattle.gl_table.specs.declared.seat.Seat.{Seat}
-use Rattle.gl_table.specs.declared.txn.Status.{Status}
-use Rattle.gl_table.specs.declared.txn.Status.TheVariants.{Active}
-use Rattle.gl_table.specs.Headers.{with_members, with_waiters}
-use Rattle.gl_table.specs.Locks.{IsOrderly}
-use Rattle.gl_table.specs.Pumps.{front_at, granted_at, pumped, without_wait}
-use Rattle.gl_table.specs.Slots.{Wakes}
-use Rattle.gl_table.specs.State.{State, Txn, members, restatus, with_grant}
-use Rattle.gl_table.specs.Tellings.{Told}
+use Rattle.gl_table.proofs.Words.{◌&&◌, ◌==◌, ◌∙◌, ◌≡◌, ◌≤◌, Active, after_grants, ap, ap₂, Bool, drop, false, front, front-limit, front_at, fun_ext}
+use Rattle.gl_table.proofs.Words.{granted_at, if◌then◌else◌, is_among_waiters, IsOrderly, IsWithin, length, List, LockList, Members, members, Mode, NL, NodeId}
+use Rattle.gl_table.proofs.Words.{Option, pumped, refl, restatus, same_node, same_node-equal, same_node-refl, same_node-sym, same_number, Seat, slot_limit}
+use Rattle.gl_table.proofs.Words.{split, State, Status, subst, sym, Told, true, Txn, Waiter, Wakes, with_grant, with_members, with_mode, with_waiters}
+use Rattle.gl_table.proofs.Words.{without_wait, without_waiter, ℕ}
 use Rattle.gl_table.proofs.OneWaits.{below_without, granted_apart, granted_here, members_within, waiters_below}
 use Rattle.gl_table.proofs.Ways.{without_wait_other}
 
@@ -36,7 +19,8 @@ module _ (s : State) (o : IsOrderly s) (few : s.most ≤ 128) (t : ℕ) (n : Nod
   -- the front by the limit of slots, once a grant is gone, is that by the number of seats
   pub released_front : front slot_limit (with_mode (members s n) t NL) (s.queue n) ≡ front_at (with_grant s t n NL) n
   released_front =
-      sym (front-limit s.most (with_mode (members s n) t NL) (s.queue n) few within (waiters_below s o n)) ∙ ap (λ g. front s.most g (s.queue n)) (members-with_grant s t n NL)
+      sym (front-limit s.most (with_mode (members s n) t NL) (s.queue n) few within (waiters_below s o n))
+      ∙ ap (λ g. front s.most g (s.queue n)) (members-with_grant s t n NL)
     where
       within : IsWithin s.most (with_mode (members s n) t NL)
       within u le = by (u == t)
@@ -55,7 +39,8 @@ module _ (b : State) (n : NodeId) where
       → ((u : ℕ) (q : NodeId) → same_node q n ≡ false → held u q ≡ b.held u q) → with_members held n (after_grants ms ws) ≡ (pumped b (same_node n)).held
   held-pumped held ms ws is granted apart = fun_ext (λ u. fun_ext (λ q. split (same_node q n)
       (λ e. ap (λ c. if c then after_grants ms ws u else held u q) e
-      ∙ ap₂ (λ g xs. after_grants g xs u) is (granted ∙ sym (granted_here b n)) ∙ ap (λ p. after_grants (members b p) (granted_at b (same_node n) p) u) (sym (same_node-equal q n e)))
+      ∙ ap₂ (λ g xs. after_grants g xs u) is (granted ∙ sym (granted_here b n))
+      ∙ ap (λ p. after_grants (members b p) (granted_at b (same_node n) p) u) (sym (same_node-equal q n e)))
       (λ e. ap (λ c. if c then after_grants ms ws u else held u q) e
       ∙ apart u q e ∙ sym (ap (λ xs. after_grants (members b q) xs u) (granted_apart b n q (same_node-sym n q ∙ e))))))
 
@@ -63,7 +48,8 @@ module _ (b : State) (n : NodeId) where
       → ((q : NodeId) → same_node q n ≡ false → queue q ≡ b.queue q) → with_waiters queue n (drop (length ws) (b.queue n)) ≡ (pumped b (same_node n)).queue
   queue-pumped queue ws granted apart = fun_ext (λ q. split (same_node q n)
       (λ e. ap (λ c. if c then drop (length ws) (b.queue n) else queue q) e
-      ∙ ap (λ xs. drop (length xs) (b.queue n)) (granted ∙ sym (granted_here b n)) ∙ ap (λ p. drop (length (granted_at b (same_node n) p)) (b.queue p)) (sym (same_node-equal q n e)))
+      ∙ ap (λ xs. drop (length xs) (b.queue n)) (granted ∙ sym (granted_here b n))
+      ∙ ap (λ p. drop (length (granted_at b (same_node n) p)) (b.queue p)) (sym (same_node-equal q n e)))
       (λ e. ap (λ c. if c then drop (length ws) (b.queue n) else queue q) e
       ∙ apart q e ∙ sym (ap (λ xs. drop (length xs) (b.queue q)) (granted_apart b n q (same_node-sym n q ∙ e)))))
 
@@ -74,7 +60,8 @@ pub status_last : (s : State) (t : ℕ) (st : Status) (ws : List Waiter) (txns t
     → (u : ℕ) → txns' u ≡ (if is_among_waiters u ws then restatus Active ((without_wait s t st).txns u) else (without_wait s t st).txns u)
 status_last s t st ws txns txns' out woken written u = split (u == t)
     (λ e. let is = same_number u t e in
-    written u ∙ ap (λ c. if c then restatus st (txns t) else txns u) e ∙ ap (restatus st) (woken t ∙ ap (λ c. if c then restatus Active (s.txns t) else s.txns t) out)
+    written u ∙ ap (λ c. if c then restatus st (txns t) else txns u) e
+    ∙ ap (restatus st) (woken t ∙ ap (λ c. if c then restatus Active (s.txns t) else s.txns t) out)
     ∙ sym (ap (λ c. if c then restatus st (s.txns t) else s.txns u) e)
     ∙ sym (ap (λ c. if c then restatus Active ((without_wait s t st).txns u) else (without_wait s t st).txns u) (ap (λ v. is_among_waiters v ws) is ∙ out)))
     (λ e. written u ∙ ap (λ c. if c then restatus st (txns t) else txns u) e ∙ woken u
@@ -88,6 +75,7 @@ pumped_by_fields b chosen held queue txns most held_is queue_is txns_is most_is 
     record b { held = held_is i; queue = queue_is i; txns = λ u. txns_is u i; most = most_is i }
 
 -- the same waking, said of equal waiters
-pub wakes-same : (seats seats' : List (Option Seat)) (ls ls' : List LockList) (told told' : Told) (n : NodeId) (ps : List NodeId) (ws vs : List Waiter) → ws ≡ vs
+pub wakes-same : (seats seats' : List (Option Seat)) (ls ls' : List LockList) (told told' : Told) (n : NodeId) (ps : List NodeId) (ws vs : List Waiter)
+    → ws ≡ vs
     → Wakes seats ls told n ps ws seats' ls' told' → Wakes seats ls told n ps vs seats' ls' told'
 wakes-same seats seats' ls ls' told told' n ps ws vs waiters h = subst (λ (xs : List Waiter). Wakes seats ls told n ps xs seats' ls' told') waiters h

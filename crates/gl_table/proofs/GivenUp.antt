@@ -1,19 +1,7 @@
 -- A wait is given up, and its node grants from its front: who is granted, and who waits still.
-use Rattle.std.specs.Prelude.{◌≡◌, ℕ, true, false, ◌==◌, Some}
-use Rattle.std.proofs.Common.{refl, sym, ap, ap₂, ◌∙◌}
-use Rattle.gl_modes.specs.declared.mode.Mode.{Mode}
-use Rattle.gl_modes.specs.declared.node.NodeId.{NodeId}
-use Rattle.gl_modes.proofs.NodeLemmas.{same_node-equal}
-use Rattle.gl_graph.proofs.Look.{same_number}
-use Rattle.gl_header.specs.Header.{is_among_waiters}
-use Rattle.gl_header.proofs.Ranges.{not_true}
-use Rattle.gl_table.specs.declared.txn.Status.{Status}
-use Rattle.gl_table.specs.declared.txn.Status.TheVariants.{Waiting}
-use Rattle.gl_table.specs.Locks.{IsOrderly}
-use Rattle.gl_table.specs.Pumping.{WaitWell}
-use Rattle.gl_table.specs.Pumps.{front_at, granted_at, is_waiting_at, pumped, waits_at, without_wait}
-use Rattle.gl_table.specs.State.{State, status_in, status_of}
-use Rattle.gl_table.specs.Waiting.{is_wait}
+use Rattle.gl_table.proofs.Words.{◌==◌, ◌∙◌, ◌≡◌, ap, ap₂, false, front_at, granted_at, is_among_waiters, is_wait, is_waiting_at, IsOrderly, Mode, NodeId}
+use Rattle.gl_table.proofs.Words.{not_true, pumped, refl, same_node-equal, same_number, Some, State, Status, status_in, status_of, sym, true, Waiting, waits_at}
+use Rattle.gl_table.proofs.Words.{WaitWell, without_wait, ℕ}
 use Rattle.gl_table.proofs.OneWaits.{front_stands, granted_here, waits_only, well_without}
 use Rattle.gl_table.proofs.Pumped.{woken_waits}
 use Rattle.gl_table.proofs.Queues.{clash}
@@ -37,7 +25,8 @@ module _ (s : State) (o : IsOrderly s) (t : ℕ) (n : NodeId) (st : Status) (qui
   given_up_out = not_true _ (λ h. (out_of_without t t (s.queue n) (front_stands b n well t h)).1 refl)
 
   -- who waits still is another, who was not granted and waited before
-  pub waits_still : (u : ℕ) → is_wait (status_of after u) ≡ true → ((u == t) ≡ false) × (is_among_waiters u (front_at b n) ≡ false) × (is_wait (status_of s u) ≡ true)
+  pub waits_still : (u : ℕ) → is_wait (status_of after u) ≡ true → ((u == t) ≡ false) × (is_among_waiters u (front_at b n) ≡ false)
+      × (is_wait (status_of s u) ≡ true)
   waits_still u h = (other, not_true _ (asleep wait.0 wait.1 was), ap (λ x. is_wait (status_in x)) (sym (without_wait_other s t st u other)) ∙ ap is_wait was.0)
     where
       wait : (q : NodeId) × (w : Mode) × (status_of after u ≡ Some (Waiting q w))
@@ -47,9 +36,12 @@ module _ (s : State) (o : IsOrderly s) (t : ℕ) (n : NodeId) (st : Status) (qui
       was = woken_waits (granted_at b (is_waiting_at s t)) u wait.0 wait.1 (b.txns u) wait.2
 
       other : (u == t) ≡ false
-      other = not_true _ (λ e. restatus_quiet st quiet (s.txns t) wait.0 wait.1 (ap status_in (sym (without_wait_own s t st)) ∙ ap (status_of b) (sym (same_number u t e)) ∙ was.0))
+      other = not_true _ (λ e. restatus_quiet st quiet (s.txns t) wait.0 wait.1 (ap status_in (sym (without_wait_own s t st))
+          ∙ ap (status_of b) (sym (same_number u t e)) ∙ was.0))
 
-      asleep : (q : NodeId) (w : Mode) → (status_of b u ≡ Some (Waiting q w)) × (is_among_waiters u (granted_at b (is_waiting_at s t) q) ≡ false) → is_among_waiters u (front_at b n) ≡ true → ⊥
+      asleep : (q : NodeId) (w : Mode) → (status_of b u ≡ Some (Waiting q w)) × (is_among_waiters u (granted_at b (is_waiting_at s t) q) ≡ false)
+          → is_among_waiters u (front_at b n) ≡ true → ⊥
       asleep q w was k =
           let here = same_node-equal q n (ap (λ x. waits_at x n) (sym was.0) ∙ well.waits_are u (front_stands b n well u k)) in
-          clash (ap (is_among_waiters u) (granted_here b n) ∙ k) (ap₂ (λ f x. is_among_waiters u (granted_at b f x)) (sym (waits_only s t n waits)) (sym here) ∙ was.1)
+          clash (ap (is_among_waiters u) (granted_here b n) ∙ k) (ap₂ (λ f x. is_among_waiters u (granted_at b f x)) (sym (waits_only s t n waits)) (sym here)
+          ∙ was.1)

@@ -1,26 +1,10 @@
 -- A grant at once keeps the law.
-use Rattle.std.specs.Prelude.{◌≡◌, ℕ, Bool, true, false, cond, not, ◌&&◌, ◌||◌, ◌==◌, List, [], ◌∷◌, Option, Some, None, is_some, if◌then◌else◌, ◌<◌}
-use Rattle.std.specs.List.{list_all, list_any, range_with_len}
-use Rattle.std.proofs.Common.{refl, sym, ap, ap₂, subst, ◌∙◌, rules, arith}
-use mathlib.Core.Bool.{true≢false}
-use Rattle.gl_modes.specs.declared.mode.Mode.{Mode}
-use Rattle.gl_modes.specs.declared.mode.Mode.TheVariants.{NL, IS, IX}
-use Rattle.gl_modes.specs.declared.node.NodeId.{NodeId}
-use Rattle.gl_modes.specs.Modes.{are_compatible, is_at_least, same_mode}
-use Rattle.gl_table.specs.declared.txn.Status.{Status}
-use Rattle.gl_table.specs.declared.txn.Status.TheVariants.{Active, Waiting}
-use Rattle.gl_modes.specs.Nodes.{same_node}
-use Rattle.gl_graph.specs.Graph.{parents_of, is_live}
-use Rattle.gl_header.specs.Header.{Members, Waiter, fits, holds, with_mode, front, IsWithin}
-use Rattle.gl_table.specs.State.{Txn, status_in, State, members, status_of, with_grant}
-use Rattle.gl_table.specs.Pumps.{waits_at, is_waiting_at}
-use Rattle.gl_table.specs.Intends.{intends, intends_over, is_write, no_parents}
-use Rattle.gl_table.specs.Lawful.{ModeFitsKind, IsLawful}
-use Rattle.gl_header.proofs.Fits.{fits-all}
-use Rattle.gl_graph.proofs.Look.{split, and_both, same_number}
-use Rattle.gl_modes.proofs.NodeLemmas.{same_node-equal}
-use Rattle.gl_modes.proofs.ModeLemmas.{at_least-refl, at_least-transitive, compatible-symmetric}
-use Rattle.std.proofs.Math.Bool.{or-true}
+use Rattle.gl_table.proofs.Words.{[], ◌&&◌, ◌<◌, ◌==◌, ◌||◌, ◌∙◌, ◌∷◌, ◌≡◌, Active, and_both, ap, ap₂, are_compatible, arith, at_least-refl}
+use Rattle.gl_table.proofs.Words.{at_least-transitive, Bool, compatible-symmetric, cond, false, fits, fits-all, front, holds, if◌then◌else◌, intends}
+use Rattle.gl_table.proofs.Words.{intends_over, IS, is_at_least, is_live, is_some, is_waiting_at, is_write, IsLawful, IsWithin, IX, List, list_all, list_any}
+use Rattle.gl_table.proofs.Words.{Members, members, Mode, ModeFitsKind, NL, no_parents, NodeId, None, not, Option, or-true, parents_of, range_with_len, refl}
+use Rattle.gl_table.proofs.Words.{rules, same_mode, same_node, same_node-equal, same_number, Some, split, State, Status, status_in, status_of, subst, sym, true}
+use Rattle.gl_table.proofs.Words.{true≢false, Txn, Waiter, Waiting, waits_at, with_grant, with_mode, ℕ}
 
 -- a greater mode blocks no less
 less_compatible : (m a b : Mode) → is_at_least b a ≡ true → are_compatible m b ≡ true → are_compatible m a ≡ true
@@ -47,19 +31,23 @@ pub lawful-within : (s : State) → IsLawful s → (n : NodeId) → IsWithin s.m
 lawful-within s law n = holders-within s n (λ u h. law.slots_below u (law.grants_live u n h).0)
 
 -- the graph rule over greater modes
-all_more : (h h' : NodeId → Mode) → ((p : NodeId) → is_at_least (h' p) (h p) ≡ true) → (m : Mode) (ps : List NodeId) → list_all (λ p. is_at_least (h p) m) ps ≡ true → list_all (λ p. is_at_least (h' p) m) ps ≡ true
+all_more : (h h' : NodeId → Mode) → ((p : NodeId) → is_at_least (h' p) (h p) ≡ true) → (m : Mode) (ps : List NodeId)
+    → list_all (λ p. is_at_least (h p) m) ps ≡ true → list_all (λ p. is_at_least (h' p) m) ps ≡ true
 all_more h h' more m [] k = refl
 all_more h h' more m (p ∷ ps) k = let both = and_both _ _ k in ap₂ (λ a b. a && b) (at_least-transitive _ _ _ (more p) both.0) (all_more h h' more m ps both.1)
 
-any_more : (h h' : NodeId → Mode) → ((p : NodeId) → is_at_least (h' p) (h p) ≡ true) → (m : Mode) (ps : List NodeId) → list_any (λ p. is_at_least (h p) m) ps ≡ true → list_any (λ p. is_at_least (h' p) m) ps ≡ true
+any_more : (h h' : NodeId → Mode) → ((p : NodeId) → is_at_least (h' p) (h p) ≡ true) → (m : Mode) (ps : List NodeId)
+    → list_any (λ p. is_at_least (h p) m) ps ≡ true → list_any (λ p. is_at_least (h' p) m) ps ≡ true
 any_more h h' more m [] k = k
 any_more h h' more m (p ∷ ps) k =
     split (is_at_least (h p) m)
     (λ e. ap (λ b. b || list_any (λ q. is_at_least (h' q) m) ps) (at_least-transitive _ _ _ (more p) e))
-    (λ e. ap (λ b. is_at_least (h' p) m || b) (any_more h h' more m ps (sym (ap (λ b. b || list_any (λ q. is_at_least (h q) m) ps) e) ∙ k)) ∙ or-true (is_at_least (h' p) m))
+    (λ e. ap (λ b. is_at_least (h' p) m || b) (any_more h h' more m ps (sym (ap (λ b. b || list_any (λ q. is_at_least (h q) m) ps) e) ∙ k))
+    ∙ or-true (is_at_least (h' p) m))
 
 -- a holder of no less meets the rule as before
-pub rule_more : (h h' : NodeId → Mode) → ((p : NodeId) → is_at_least (h' p) (h p) ≡ true) → (ps : List NodeId) (m : Mode) → intends_over h ps m ≡ true → intends_over h' ps m ≡ true
+pub rule_more : (h h' : NodeId → Mode) → ((p : NodeId) → is_at_least (h' p) (h p) ≡ true) → (ps : List NodeId) (m : Mode) → intends_over h ps m ≡ true
+    → intends_over h' ps m ≡ true
 rule_more h h' more ps m k = by (is_write m) k
   where
     or_more : (a b b' : Bool) → (b ≡ true → b' ≡ true) → (a || b) ≡ true → (a || b') ≡ true
@@ -72,7 +60,8 @@ rule_more h h' more ps m k = by (is_write m) k
     by false k' = or_more (no_parents ps) _ _ (any_more h h' more IS ps) k'
 
 -- fewer fit where a mode is greater
-pub fits_less : (g g' : Members) → ((u : ℕ) → is_at_least (g' u) (g u) ≡ true) → (t : ℕ) (m : Mode) (us : List ℕ) → list_all (λ u. (u == t) || are_compatible m (g' u)) us ≡ true → list_all (λ u. (u == t) || are_compatible m (g u)) us ≡ true
+pub fits_less : (g g' : Members) → ((u : ℕ) → is_at_least (g' u) (g u) ≡ true) → (t : ℕ) (m : Mode) (us : List ℕ)
+    → list_all (λ u. (u == t) || are_compatible m (g' u)) us ≡ true → list_all (λ u. (u == t) || are_compatible m (g u)) us ≡ true
 fits_less g g' more t m [] k = refl
 fits_less g g' more t m (u ∷ us) k =
     let both = and_both _ _ k in ap₂ (λ a b. a && b) (or_less (u == t) both.0) (fits_less g g' more t m us both.1)
@@ -84,7 +73,9 @@ fits_less g g' more t m (u ∷ us) k =
 -- with no less held, a front that was empty stays empty
 pub front_less : (most : ℕ) (g g' : Members) → ((u : ℕ) → is_at_least (g' u) (g u) ≡ true) → (q : List Waiter) → front most g q ≡ [] → front most g' q ≡ []
 front_less most g g' more [] h = refl
-front_less most g g' more (w ∷ q) h = split (fits most g' w.0 w.1) (λ e. absurd (no_cons (sym (ap (λ b. if b then w ∷ front most (with_mode g w.0 w.1) q else []) (fits_less g g' more w.0 w.1 (range_with_len 0 most) e)) ∙ h))) (λ e. ap (λ b. if b then w ∷ front most (with_mode g' w.0 w.1) q else []) e)
+front_less most g g' more (w ∷ q) h = split (fits most g' w.0 w.1)
+    (λ e. absurd (no_cons (sym (ap (λ b. if b then w ∷ front most (with_mode g w.0 w.1) q else []) (fits_less g g' more w.0 w.1 (range_with_len 0 most) e))
+    ∙ h))) (λ e. ap (λ b. if b then w ∷ front most (with_mode g' w.0 w.1) q else []) e)
   where
     no_cons : {x : Waiter} {xs : List Waiter} → x ∷ xs ≡ [] → ⊥
     no_cons e = cc
@@ -96,7 +87,8 @@ txn_there (Some x) st h = refl
 pub apart : {q : NodeId} {w : Mode} → Some Active ≡ Some (Waiting q w) → ⊥
 apart e = cc
 
-module _ (s : State) (law : IsLawful s) (t : ℕ) (n : NodeId) (m : Mode) (active : status_of s t ≡ Some Active) (live : is_live s.graph n ≡ true) (kind : ModeFitsKind s n m)
+module _ (s : State) (law : IsLawful s) (t : ℕ) (n : NodeId) (m : Mode) (active : status_of s t ≡ Some Active) (live : is_live s.graph n ≡ true)
+    (kind : ModeFitsKind s n m)
     (rule : intends s t n m ≡ true) (more : is_at_least m (s.held t n) ≡ true) (fit : fits s.most (members s n) t m ≡ true) where
   -- what a slot holds afterwards: the new mode, or what it held
   at_case : {C : Type 0} (u : ℕ) (q : NodeId) → (u ≡ t → q ≡ n → (with_grant s t n m).held u q ≡ m → C) → ((with_grant s t n m).held u q ≡ s.held u q → C) → C
@@ -116,14 +108,17 @@ module _ (s : State) (law : IsLawful s) (t : ℕ) (n : NodeId) (m : Mode) (activ
   with_grant-lawful = record {
     graph = law.graph;
     grants_live = λ u q h. at_case u q
-        (λ eu eq eh. (ap (λ v. is_some (s.txns v)) eu ∙ txn_there (s.txns t) Active active, ap (is_live s.graph) eq ∙ live, subst (λ p. ModeFitsKind s p ((with_grant s t n m).held u q)) (sym eq) (subst (ModeFitsKind s n) (sym eh) kind)))
+        (λ eu eq eh. (ap (λ v. is_some (s.txns v)) eu ∙ txn_there (s.txns t) Active active, ap (is_live s.graph) eq
+        ∙ live, subst (λ p. ModeFitsKind s p ((with_grant s t n m).held u q)) (sym eq) (subst (ModeFitsKind s n) (sym eh) kind)))
         (λ eh. let old = law.grants_live u q (sym (ap (λ a. not (same_mode a NL)) eh) ∙ h) in (old.0, old.1, subst (ModeFitsKind s q) (sym eh) old.2));
     waits_live = law.waits_live;
     compatible = λ u v q ne. at_case u q
         (λ eu eq eh. at_case v q (λ ev _ _. absurd (ne (eu ∙ sym ev)))
-        (λ fh. ap₂ are_compatible eh fh ∙ ap (λ p. are_compatible m (s.held v p)) eq ∙ fits-all s.most (members s n) t m (lawful-within s law n) fit v (λ ev. ne (eu ∙ sym ev))))
+        (λ fh. ap₂ are_compatible eh fh ∙ ap (λ p. are_compatible m (s.held v p)) eq
+        ∙ fits-all s.most (members s n) t m (lawful-within s law n) fit v (λ ev. ne (eu ∙ sym ev))))
         (λ eh. at_case v q
-        (λ ev eq fh. ap₂ are_compatible eh fh ∙ compatible-symmetric (s.held u q) m ∙ ap (λ p. are_compatible m (s.held u p)) eq ∙ fits-all s.most (members s n) t m (lawful-within s law n) fit u (λ eu. ne (eu ∙ sym ev)))
+        (λ ev eq fh. ap₂ are_compatible eh fh ∙ compatible-symmetric (s.held u q) m ∙ ap (λ p. are_compatible m (s.held u p)) eq
+        ∙ fits-all s.most (members s n) t m (lawful-within s law n) fit u (λ eu. ne (eu ∙ sym ev)))
         (λ fh. ap₂ are_compatible eh fh ∙ law.compatible u v q ne));
     grants_intend = λ u q h. rule_more (s.held u) ((with_grant s t n m).held u) (grew u) (parents_of s.graph q) ((with_grant s t n m).held u q)
         (at_case u q (λ eu eq eh. ap₂ (λ v p. intends s v p ((with_grant s t n m).held u q)) eu eq ∙ ap (intends s t n) eh ∙ rule)

@@ -1,28 +1,9 @@
 -- What an ask leaves.
-use Rattle.std.proofs.Common.{◌≡◌, ℕ, Bool, true, false, List, [], ◌∷◌, ◌++◌, Some, not, refl, sym, ap, ◌∙◌, arith}
-use Rattle.std.specs.Prelude.{◌≢◌, if◌then◌else◌, Result, Ok, Err, OnOk, OnErr}
-use Rattle.std.specs.List.{filter}
-use Rattle.std.proofs.lemmas.Bool.Decides.{nat_tests}
-use Rattle.gl_modes.specs.declared.mode.Mode.{Mode}
-use Rattle.gl_modes.specs.declared.mode.Mode.TheVariants.{NL}
-use Rattle.gl_modes.specs.declared.node.NodeId.{NodeId}
-use Rattle.gl_modes.specs.Modes.{same_mode}
-use Rattle.gl_modes.proofs.ModeLemmas.{not_NL, supremum-not_NL}
-use Rattle.gl_header.specs.Answers.{asked_members, asked_queue}
-use Rattle.gl_header.specs.Header.{Members, Waiter, holds, is_empty, placed, with_mode}
-use Rattle.gl_header.specs.State.{HeaderState, IsLawfulHeader, is_granted, is_unused, members_of, wanted}
-use Rattle.gl_header.proofs.Ranges.{by_test, not_true}
-use Rattle.gl_header.proofs.Unused.{unused-true}
-use Rattle.gl_table.specs.Headers.{
-  Entries,
-  header_at,
-  header_or_new,
-  held_of,
-  members_at,
-  queue_of,
-  with_members,
-  with_waiters,
-}
+use Rattle.gl_table.proofs.Words.{[], ◌++◌, ◌∙◌, ◌∷◌, ◌≡◌, ◌≢◌, ap, arith, asked_members, asked_queue, Bool, by_test, Entries, Err, false, filter, header_at}
+use Rattle.gl_table.proofs.Words.{header_or_new, HeaderState, held_of, holds, if◌then◌else◌, is_empty, is_granted, is_unused, IsLawfulHeader, List, Members}
+use Rattle.gl_table.proofs.Words.{members_at, members_of, Mode, nat_tests, NL, NodeId, not, not_NL, not_true, Ok, OnErr, OnOk, placed, queue_of, refl, Result}
+use Rattle.gl_table.proofs.Words.{same_mode, Some, supremum-not_NL, sym, true, unused-true, Waiter, with_members, with_mode, with_waiters, ℕ}
+use Rattle.gl_header.specs.State.{wanted}
 use Rattle.gl_table.proofs.HeaderWrites.{IsChanged, held-changed, queue-changed, with_members-same, with_waiters-same}
 
 -- w is what an ask of t for m leaves of the header h
@@ -31,14 +12,16 @@ pub record IsAsked (h : HeaderState) (t : ℕ) (m : Mode) (w : HeaderState) : Ty
   pub queue : w.queue ≡ asked_queue h t m
 
 -- what is said of a header is said of its equal
-pub asked-is : (h k : HeaderState) (t : ℕ) (m : Mode) (w : HeaderState) → h ≡ k → members_of w ≡ asked_members h t m → w.queue ≡ asked_queue h t m → IsAsked k t m w
+pub asked-is : (h k : HeaderState) (t : ℕ) (m : Mode) (w : HeaderState) → h ≡ k → members_of w ≡ asked_members h t m → w.queue ≡ asked_queue h t m
+    → IsAsked k t m w
 asked-is h k t m w same e f = record {
   members = e ∙ ap (λ x. asked_members x t m) same;
   queue = f ∙ ap (λ x. asked_queue x t m) same;
 }
 
 -- the same, where the ask succeeds
-pub asked-on_ok : {A E : Type 0} (r : Result A E) (h k : HeaderState) (t : ℕ) (m : Mode) (w : HeaderState) → h ≡ k → OnOk r (members_of w ≡ asked_members h t m) → OnOk r (w.queue ≡ asked_queue h t m) → OnOk r (IsAsked k t m w)
+pub asked-on_ok : {A E : Type 0} (r : Result A E) (h k : HeaderState) (t : ℕ) (m : Mode) (w : HeaderState) → h ≡ k → OnOk r (members_of w ≡ asked_members h t m)
+    → OnOk r (w.queue ≡ asked_queue h t m) → OnOk r (IsAsked k t m w)
 asked-on_ok (Ok x) h k t m w same e f = asked-is h k t m w same e f
 asked-on_ok (Err x) h k t m w same e f = tt
 
@@ -71,7 +54,8 @@ asked-used h t m w ne l a =
     granted : is_granted h t m ≡ true → members_of w t ≡ NL → ⊥
     granted g e =
         let now : members_of w t ≡ wanted h t m
-        = ap (λ ms. ms t) a.members ∙ (ap (λ b. (if b then with_mode (members_of h) t (wanted h t m) else members_of h) t) g ∙ with_mode-here (members_of h) t (wanted h t m)) in
+        = ap (λ ms. ms t) a.members ∙ (ap (λ b. (if b then with_mode (members_of h) t (wanted h t m) else members_of h) t) g
+        ∙ with_mode-here (members_of h) t (wanted h t m)) in
         let lock : same_mode (wanted h t m) NL ≡ false = supremum-not_NL (members_of h t) m (not_NL m ne) in
         let is_NL : same_mode (wanted h t m) NL ≡ true = ap (λ x. same_mode x NL) (sym now ∙ e) in
         cc
@@ -85,18 +69,21 @@ asked-used h t m w ne l a =
         cc
 
 -- what is held and who waits, where the header of n is as an ask leaves it
-module _ (hs hs' : Entries) (n : NodeId) (t : ℕ) (m : Mode) (w : HeaderState) (c : IsChanged hs hs' n (Some w)) (a : IsAsked (header_or_new (header_at hs n)) t m w) where
+module _ (hs hs' : Entries) (n : NodeId) (t : ℕ) (m : Mode) (w : HeaderState) (c : IsChanged hs hs' n (Some w))
+    (a : IsAsked (header_or_new (header_at hs n)) t m w) where
   abbrev h : HeaderState
   h = header_or_new (header_at hs n)
 
-  pub asked-granted : is_granted h t m ≡ true → (held_of hs' ≡ with_members (held_of hs) n (with_mode (members_at hs n) t (wanted h t m))) × (queue_of hs' ≡ queue_of hs)
+  pub asked-granted : is_granted h t m ≡ true → (held_of hs' ≡ with_members (held_of hs) n (with_mode (members_at hs n) t (wanted h t m)))
+      × (queue_of hs' ≡ queue_of hs)
   asked-granted g = (
     held-changed hs hs' n (Some w) _ c (a.members ∙ ap (λ b. if b then with_mode (members_of h) t (wanted h t m) else members_of h) g),
     queue-changed hs hs' n (Some w) h.queue c (a.queue ∙ ap (λ b. if b then h.queue else placed (members_of h) h.queue t (wanted h t m)) g)
         ∙ with_waiters-same (queue_of hs) n h.queue refl,
   )
 
-  pub asked-waits : is_granted h t m ≡ false → (held_of hs' ≡ held_of hs) × (queue_of hs' ≡ with_waiters (queue_of hs) n (placed (members_at hs n) (queue_of hs n) t (wanted h t m)))
+  pub asked-waits : is_granted h t m ≡ false → (held_of hs' ≡ held_of hs)
+      × (queue_of hs' ≡ with_waiters (queue_of hs) n (placed (members_at hs n) (queue_of hs n) t (wanted h t m)))
   asked-waits g = (
     held-changed hs hs' n (Some w) (members_of h) c (a.members ∙ ap (λ b. if b then with_mode (members_of h) t (wanted h t m) else members_of h) g)
         ∙ with_members-same (held_of hs) n (members_of h) (λ u. refl),

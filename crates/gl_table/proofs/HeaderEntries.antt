@@ -1,10 +1,6 @@
 -- A node's entry among the headers: the header that it has, or an unused one put in.
-use Rattle.std.specs.Prelude.{◌≡◌, Err, IsOk, List, Ok, OnErr, Result, None, Option, Some, false, true, unwrap_or, if◌then◌else◌}
-use Rattle.std.specs.Map.{lookup}
-use Rattle.std.proofs.Common.{Bool, ap, refl, sym, ◌∙◌, [], ◌∷◌}
-use Rattle.indexmap.specs.IndexMap.{insert_entry}
-use Rattle.gl_header.specs.State.{HeaderState, unused_header}
-use Rattle.gl_table.specs.Headers.{header_or_new}
+use Rattle.gl_table.proofs.Words.{[], ◌∙◌, ◌∷◌, ◌≡◌, ap, Bool, Err, false, header_or_new, HeaderState, if◌then◌else◌, insert_entry, IsOk, List, lookup, None}
+use Rattle.gl_table.proofs.Words.{Ok, OnErr, Option, refl, Result, Some, sym, true, unused_header, unwrap_or}
 use Rattle.gl_table.proofs.Queues.{clash}
 
 -- the entry has the header of the node, or the unused one
@@ -21,11 +17,14 @@ entered-same eq k v (e ∷ es) h = by (eq k e.0) refl (λ later. entered-same eq
     here s = cc
 
     by : (b : Bool) → eq k e.0 ≡ b → (lookup (eq k) es ≡ Some v → insert_entry eq es k v ≡ es) → insert_entry eq (e ∷ es) k v ≡ e ∷ es
-    by true is after = ap (λ b. if b then (e.0, v) ∷ es else e ∷ insert_entry eq es k v) is ∙ ap (λ w. (e.0, w) ∷ es) (here (sym (ap (λ b. if b then Some e.1 else lookup (eq k) es) is) ∙ h))
-    by false is after = ap (λ b. if b then (e.0, v) ∷ es else e ∷ insert_entry eq es k v) is ∙ ap (λ fs. e ∷ fs) (after (sym (ap (λ b. if b then Some e.1 else lookup (eq k) es) is) ∙ h))
+    by true is after = ap (λ b. if b then (e.0, v) ∷ es else e ∷ insert_entry eq es k v) is
+        ∙ ap (λ w. (e.0, w) ∷ es) (here (sym (ap (λ b. if b then Some e.1 else lookup (eq k) es) is) ∙ h))
+    by false is after = ap (λ b. if b then (e.0, v) ∷ es else e ∷ insert_entry eq es k v) is
+        ∙ ap (λ fs. e ∷ fs) (after (sym (ap (λ b. if b then Some e.1 else lookup (eq k) es) is) ∙ h))
 
 -- an ask that a node without header always grants is refused only where there is a header, which stays as it was
-pub refused-there : {A E : Type 0} (r : Result A E) (o : Option HeaderState) (h h' : HeaderState) → h ≡ header_or_new o → OnErr r (h' ≡ h) → (o ≡ None → IsOk r) → OnErr r (o ≡ Some h')
+pub refused-there : {A E : Type 0} (r : Result A E) (o : Option HeaderState) (h h' : HeaderState) → h ≡ header_or_new o → OnErr r (h' ≡ h) → (o ≡ None → IsOk r)
+    → OnErr r (o ≡ Some h')
 refused-there (Ok x) o h h' is same fresh = tt
 refused-there (Err x) None h h' is same fresh = clash (fresh refl) refl
 refused-there (Err x) (Some g) h h' is same fresh = ap (λ (k : HeaderState). Some k) (sym (same ∙ is))

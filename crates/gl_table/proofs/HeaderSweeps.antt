@@ -1,14 +1,11 @@
 -- Taking a header out that nobody needs.
-use Rattle.std.proofs.Common.{◌≡◌, ℕ, None, Some, [], true, refl, sym, ap, ◌∙◌}
-use Rattle.gl_modes.specs.declared.mode.Mode.TheVariants.{NL}
-use Rattle.gl_modes.specs.declared.node.NodeId.{NodeId}
-use Rattle.gl_header.specs.State.{HeaderState, is_unused, members_of}
-use Rattle.gl_header.proofs.Unused.{unused-nobody, unused-true}
-use Rattle.gl_table.specs.Headers.{Entries, header_at, header_or_new, held_of, queue_of, AreHeadersBut}
+use Rattle.gl_table.proofs.Words.{[], ◌∙◌, ◌≡◌, ap, AreHeadersBut, Entries, header_at, header_or_new, HeaderState, held_of, is_unused, members_of, NL, NodeId}
+use Rattle.gl_table.proofs.Words.{None, queue_of, refl, Some, sym, true, unused-nobody, unused-true, ℕ}
 use Rattle.gl_table.proofs.HeaderWrites.{IsChanged, held-changed, queue-changed, with_members-same, with_waiters-same}
 
 -- what is held and who waits is as it was
-module _ (hs hs' : Entries) (n : NodeId) (h : HeaderState) (a : AreHeadersBut n hs) (c : IsChanged hs hs' n None) (at : header_at hs n ≡ Some h) (u : is_unused h ≡ true) where
+module _ (hs hs' : Entries) (n : NodeId) (h : HeaderState) (a : AreHeadersBut n hs) (c : IsChanged hs hs' n None) (at : header_at hs n ≡ Some h)
+    (u : is_unused h ≡ true) where
   nobody : ((t : ℕ) → members_of h t ≡ NL) × (h.queue ≡ [])
   nobody = unused-true h (a.lawful n h at) u
 

@@ -1,24 +1,7 @@
 -- What a change of one node's header does to all of them.
-use Rattle.std.proofs.Common.{◌≡◌, ℕ, Bool, true, false, cond, List, Some, None, refl, sym, ap, subst, ◌∙◌}
-use Rattle.std.specs.Prelude.{Option, if◌then◌else◌}
-use Rattle.std.proofs.Math.Path.{fun_ext}
-use Rattle.gl_modes.specs.declared.mode.Mode.{Mode}
-use Rattle.gl_modes.specs.declared.node.NodeId.{NodeId}
-use Rattle.gl_modes.specs.Nodes.{same_node}
-use Rattle.gl_modes.proofs.NodeLemmas.{same_node-equal, same_node-refl, same_node-sym}
-use Rattle.gl_header.specs.Header.{Members, Waiter}
-use Rattle.gl_header.specs.State.{HeaderState, IsLawfulHeader, is_unused, members_of}
-use Rattle.gl_table.specs.Headers.{
-  Entries,
-  header_at,
-  header_or_new,
-  held_of,
-  queue_of,
-  AreHeaders,
-  AreHeadersBut,
-  with_members,
-  with_waiters,
-}
+use Rattle.gl_table.proofs.Words.{◌∙◌, ◌≡◌, ap, AreHeaders, AreHeadersBut, Bool, cond, Entries, false, fun_ext, header_at, header_or_new, HeaderState, held_of}
+use Rattle.gl_table.proofs.Words.{if◌then◌else◌, is_unused, IsLawfulHeader, List, Members, members_of, Mode, NodeId, None, Option, queue_of, refl, same_node}
+use Rattle.gl_table.proofs.Words.{same_node-equal, same_node-refl, same_node-sym, Some, subst, sym, true, Waiter, with_members, with_waiters, ℕ}
 
 -- n has the header o now, and each other node has what it had
 pub record IsChanged (hs hs' : Entries) (n : NodeId) (o : Option HeaderState) : Type 0 where
@@ -29,15 +12,18 @@ changed-here hs hs' n o c = c.at n ∙ ap (λ b. cond b o (header_at hs n)) (sam
 
 -- what is held after a change, and who waits
 
-pub held-changed : (hs hs' : Entries) (n : NodeId) (o : Option HeaderState) (ms : Members) → IsChanged hs hs' n o → members_of (header_or_new o) ≡ ms → held_of hs' ≡ with_members (held_of hs) n ms
+pub held-changed : (hs hs' : Entries) (n : NodeId) (o : Option HeaderState) (ms : Members) → IsChanged hs hs' n o → members_of (header_or_new o) ≡ ms
+    → held_of hs' ≡ with_members (held_of hs) n ms
 held-changed hs hs' n o ms c e =
-    fun_ext (λ u. fun_ext (λ q. ap (λ x. members_of (header_or_new x) u) (c.at q) ∙ (by u q (same_node n q) ∙ ap (λ b. if b then ms u else held_of hs u q) (same_node-sym n q))))
+    fun_ext (λ u. fun_ext (λ q. ap (λ x. members_of (header_or_new x) u) (c.at q)
+    ∙ (by u q (same_node n q) ∙ ap (λ b. if b then ms u else held_of hs u q) (same_node-sym n q))))
   where
     by : (u : ℕ) (q : NodeId) (b : Bool) → members_of (header_or_new (cond b o (header_at hs q))) u ≡ (if b then ms u else held_of hs u q)
     by u q true = ap (λ g. g u) e
     by u q false = refl
 
-pub queue-changed : (hs hs' : Entries) (n : NodeId) (o : Option HeaderState) (ws : List Waiter) → IsChanged hs hs' n o → (header_or_new o).queue ≡ ws → queue_of hs' ≡ with_waiters (queue_of hs) n ws
+pub queue-changed : (hs hs' : Entries) (n : NodeId) (o : Option HeaderState) (ws : List Waiter) → IsChanged hs hs' n o → (header_or_new o).queue ≡ ws
+    → queue_of hs' ≡ with_waiters (queue_of hs) n ws
 queue-changed hs hs' n o ws c e =
     fun_ext (λ q. ap (λ x. (header_or_new x).queue) (c.at q) ∙ (by q (same_node n q) ∙ ap (λ b. if b then ws else queue_of hs q) (same_node-sym n q)))
   where
@@ -66,7 +52,8 @@ with_waiters-same queue n ws e = fun_ext (λ q. by q (same_node q n) refl)
 pub but-from_all : (n : NodeId) (hs : Entries) → AreHeaders hs → AreHeadersBut n hs
 but-from_all n hs a = record { lawful = a.lawful; used = λ q h ne e. a.used q h e }
 
-pub but-changed : (hs hs' : Entries) (n : NodeId) (o : Option HeaderState) → AreHeadersBut n hs → IsChanged hs hs' n o → ((h : HeaderState) → o ≡ Some h → IsLawfulHeader h) → AreHeadersBut n hs'
+pub but-changed : (hs hs' : Entries) (n : NodeId) (o : Option HeaderState) → AreHeadersBut n hs → IsChanged hs hs' n o
+    → ((h : HeaderState) → o ≡ Some h → IsLawfulHeader h) → AreHeadersBut n hs'
 but-changed hs hs' n o a c l =
     record {
       lawful = λ q h e. by q h (same_node n q) (sym (c.at q) ∙ e);
@@ -91,7 +78,8 @@ but-written hs hs' n w a c l = but-changed hs hs' n (Some w) (but-from_all n hs 
     only : (w h : HeaderState) → Some w ≡ Some h → IsLawfulHeader w → IsLawfulHeader h
     only w h e l = subst (λ (o : Option HeaderState). IsLawfulHeader (header_or_new o)) e l
 
-pub all-written : (hs hs' : Entries) (n : NodeId) (w : HeaderState) → AreHeaders hs → IsChanged hs hs' n (Some w) → IsLawfulHeader w → is_unused w ≡ false → AreHeaders hs'
+pub all-written : (hs hs' : Entries) (n : NodeId) (w : HeaderState) → AreHeaders hs → IsChanged hs hs' n (Some w) → IsLawfulHeader w → is_unused w ≡ false
+    → AreHeaders hs'
 all-written hs hs' n w a c l u = all-from_but n hs' (but-written hs hs' n w a c l) (λ h e. only h (sym (changed-here hs hs' n (Some w) c) ∙ e))
   where
     only : (h : HeaderState) → Some w ≡ Some h → is_unused h ≡ false

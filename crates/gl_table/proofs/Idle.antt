@@ -1,13 +1,6 @@
 -- A settle of one who is on no cycle.
-use Rattle.gl_waits.specs.declared.victims.Victims.{Victims}
-use Rattle.gl_waits.proofs.VictimLemmas.{candidate-on_cycle}
-use Rattle.std.specs.Prelude.{◌≡◌, ℕ, zero, suc, []}
-use Rattle.std.proofs.Common.{refl, sym, ap, ◌∙◌}
-use Rattle.gl_waits.specs.Waits.{IsOnNoCycle}
-use Rattle.gl_table.specs.Lawful.{IsLawful}
-use Rattle.gl_table.specs.State.{State}
-use Rattle.gl_table.specs.Tellings.{told}
-use Rattle.gl_table.specs.Waiting.{Settled, SettledWithin, waits_for}
+use Rattle.gl_table.proofs.Words.{[], ◌∙◌, ◌≡◌, ap, candidate-on_cycle, IsLawful, IsOnNoCycle, refl, Settled, SettledWithin, State, suc, sym, told, Victims}
+use Rattle.gl_table.proofs.Words.{waits_for, zero, ℕ}
 use Rattle.gl_table.proofs.Tells.{quiet_told}
 use Rattle.gl_table.proofs.ToldLists.{told_in_order}
 

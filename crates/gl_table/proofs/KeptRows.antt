@@ -1,23 +1,10 @@
 -- The last deadlock, while its rows are written.
-use Rattle.std.specs.Prelude.{◌≡◌, ◌<◌, ◌≤◌, ◌==◌, ◌&&◌, ◌||◌, ◌↔◌, ℕ, Bool, IsTrue, true, false, not, List, [], ◌∷◌, ◌++◌, length, Some}
-use Rattle.std.specs.List.{All, AllPairs, list_any}
-use Rattle.std.proofs.Common.{◌∙◌, ap, ap₂, arith, get_or, length-append, refl, subst, sym}
-use Rattle.std.proofs.lemmas.Bool.Decides.{nat_tests}
-use Rattle.std.proofs.lemmas.List.Elements.{All-nil, All-push, All-same}
-use Rattle.std.proofs.lemmas.List.Folds.{list_any-append}
-use Rattle.std.proofs.lemmas.List.Quantifiers.{all_pairs_push}
-use Rattle.gl_graph.proofs.Look.{and_both, or_elim, or_right, same_number}
-use Rattle.gl_slots.specs.declared.slots.Slots.{Slots}
-use Rattle.gl_slots.specs.Slots.{HasNoSlot, IsLowest, has_slot}
-use Rattle.gl_waits.specs.Waits.{IsOnCycleOf, IsWalk}
-use Rattle.gl_waits.proofs.VictimLemmas.{candidate-on_cycle}
-use Rattle.gl_waits.proofs.WalkLemmas.{reaches_join}
-use Rattle.gl_table.specs.declared.deadlock.Deadlock.{Deadlock}
-use Rattle.gl_table.specs.declared.deadlock.Stuck.{Stuck}
-use Rattle.gl_table.specs.declared.txn.Status.TheVariants.{Waiting}
-use Rattle.gl_table.specs.Deadlocks.{IsDeadlock, IsStuck, RowsLeadOn, VictimHasRow, has_row, name_at}
-use Rattle.gl_table.specs.State.{State, status_of}
-use Rattle.gl_table.specs.Waiting.{waits_for}
+use Rattle.gl_table.proofs.Words.{[], ◌&&◌, ◌++◌, ◌<◌, ◌==◌, ◌||◌, ◌↔◌, ◌∙◌, ◌∷◌, ◌≡◌, ◌≤◌, All-nil, All-push, All-same, all_pairs_push, AllPairs, and_both, ap}
+use Rattle.gl_table.proofs.Words.{ap₂, arith, Bool, candidate-on_cycle, Deadlock, false, get_or, has_row, has_slot, HasNoSlot, IsDeadlock, IsLowest}
+use Rattle.gl_table.proofs.Words.{IsOnCycleOf, IsStuck, IsTrue, IsWalk, length, length-append, List, list_any, list_any-append, name_at, nat_tests, not}
+use Rattle.gl_table.proofs.Words.{or_elim, or_right, reaches_join, refl, RowsLeadOn, same_number, Slots, Some, State, status_of, Stuck, subst, sym, true}
+use Rattle.gl_table.proofs.Words.{VictimHasRow, Waiting, waits_for, ℕ}
+use Rattle.std.specs.List.{All}
 use Rattle.gl_table.proofs.Queues.{clash}
 
 -- the row is of this slot
@@ -50,7 +37,8 @@ module _ (s : State) (t v : ℕ) (cycle : Slots) (of : (u : ℕ) → IsTrue (has
   left-on_cycle left k d here so = (of k).0 (so.parts k ∙ or_right (has_row d k) (has_slot left k) here)
 
   -- one row more
-  module _ (left rest : Slots) (k : ℕ) (lowest : IsLowest left k) (taken : (u : ℕ) → has_slot rest u ≡ (has_slot left u && not (u == k))) (d d' : Deadlock) (r : Stuck) (so : IsKeptBut s t v cycle left d) where
+  module _ (left rest : Slots) (k : ℕ) (lowest : IsLowest left k) (taken : (u : ℕ) → has_slot rest u ≡ (has_slot left u && not (u == k))) (d d' : Deadlock)
+      (r : Stuck) (so : IsKeptBut s t v cycle left d) where
     -- who is left now was left before, and has a slot above the row's
     still : (u : ℕ) → has_slot rest u ≡ true → (has_slot left u ≡ true) × (k < u)
     still u h =
@@ -65,17 +53,21 @@ module _ (s : State) (t v : ℕ) (cycle : Slots) (of : (u : ℕ) → IsTrue (has
         above : (u < k → ⊥) → (u == k) ≡ false → k < u
         above low e = grind (arith, nat_tests)
 
-    pub kept-more : r.txn ≡ name_at s k → status_of s k ≡ Some (Waiting r.node r.wanted) → ((u : ℕ) → has_slot r.waits_for u ≡ (waits_for s k u && has_slot cycle u))
+    pub kept-more : r.txn ≡ name_at s k → status_of s k ≡ Some (Waiting r.node r.wanted)
+        → ((u : ℕ) → has_slot r.waits_for u ≡ (waits_for s k u && has_slot cycle u))
         → d'.victim ≡ d.victim → d'.cycle.items ≡ d.cycle.items ++ r ∷ [] → IsKeptBut s t v cycle rest d'
     kept-more name waits row as_was more = record {
       victim = as_was ∙ so.victim;
       rows = All-same (IsStuck s t) d'.cycle.items _ more (All-push (IsStuck s t) d.cycle.items r so.rows stuck);
-      parts = λ u. so.parts u ∙ moved u ∙ sym (ap (λ rs. list_any (is_of u) rs || has_slot rest u) more ∙ ap (λ b. b || has_slot rest u) (list_any-append (is_of u) d.cycle.items (r ∷ [])));
+      parts = λ u. so.parts u ∙ moved u ∙ sym (ap (λ rs. list_any (is_of u) rs || has_slot rest u) more
+          ∙ ap (λ b. b || has_slot rest u) (list_any-append (is_of u) d.cycle.items (r ∷ [])));
       rising = subst (AllPairs (λ (q p : Stuck). q.txn.slot < p.txn.slot)) (sym more)
-          (all_pairs_push (λ (q p : Stuck). q.txn.slot < p.txn.slot) d.cycle.items r so.rising (λ i e low. subst (λ (n : ℕ). (get_or d.cycle.items i e).txn.slot < n) (sym slot) (so.below k lowest.member i e low)));
+          (all_pairs_push (λ (q p : Stuck). q.txn.slot < p.txn.slot) d.cycle.items r so.rising
+          (λ i e low. subst (λ (n : ℕ). (get_or d.cycle.items i e).txn.slot < n) (sym slot) (so.below k lowest.member i e low)));
       below = λ u h. All-same (λ (q : Stuck). q.txn.slot < u) d'.cycle.items _ more
           (All-push (λ (q : Stuck). q.txn.slot < u) d.cycle.items r (so.below u (still u h).0) (subst (λ (n : ℕ). n < u) (sym slot) (still u h).1));
-      few = λ u h. let above = (still u h).1 in let size = so.few k lowest.member in let long = ap length more ∙ length-append d.cycle.items (r ∷ []) in omega arith;
+      few = λ u h. let above = (still u h).1 in let size = so.few k lowest.member in let long = ap length more ∙ length-append d.cycle.items (r ∷ []) in
+          omega arith;
     }
       where
         slot : r.txn.slot ≡ k
@@ -108,7 +100,8 @@ module _ (s : State) (t v : ℕ) (cycle : Slots) (of : (u : ℕ) → IsTrue (has
             ∙ sym (ap₂ (λ a b. (has_row d u || (a || false)) || b) (same u) (taken u))
 
 -- when nobody is left, it is the deadlock
-pub kept-all : (s : State) (t v : ℕ) (cycle left : Slots) (d : Deadlock) → ((u : ℕ) → IsTrue (has_slot cycle u) ↔ IsOnCycleOf (waits_for s) t u) → HasNoSlot left → IsKeptBut s t v cycle left d → IsDeadlock s t v d
+pub kept-all : (s : State) (t v : ℕ) (cycle left : Slots) (d : Deadlock) → ((u : ℕ) → IsTrue (has_slot cycle u) ↔ IsOnCycleOf (waits_for s) t u)
+    → HasNoSlot left → IsKeptBut s t v cycle left d → IsDeadlock s t v d
 kept-all s t v cycle left d of none so = record {
   victim = so.victim;
   rows = so.rows;

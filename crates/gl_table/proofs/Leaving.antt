@@ -1,28 +1,14 @@
 -- To release all of a transaction is to leave one node after the other.
-use Rattle.std.specs.Prelude.{◌≡◌, ℕ, Bool, true, false, not, ◌&&◌, ◌||◌, ◌==◌, [], Option, Some, None, if◌then◌else◌}
-use Rattle.std.proofs.Common.{refl, sym, ap, ap₂, ◌∙◌}
-use Rattle.std.proofs.Math.Path.{fun_ext}
-use Rattle.gl_modes.specs.declared.mode.Mode.{Mode}
-use Rattle.gl_modes.specs.declared.mode.Mode.TheVariants.{NL}
-use Rattle.gl_modes.specs.declared.node.NodeId.{NodeId}
-use Rattle.gl_modes.specs.Modes.{same_mode}
-use Rattle.gl_modes.specs.Nodes.{same_node}
-use Rattle.gl_modes.proofs.NodeLemmas.{same_node-equal, same_node-sym}
-use Rattle.gl_graph.proofs.Look.{and_both, number_same}
-use Rattle.gl_header.specs.Header.{holds, is_among_waiters, without_waiter}
-use Rattle.gl_header.proofs.Ranges.{not_true}
-use Rattle.gl_table.specs.declared.txn.Status.{Status}
-use Rattle.gl_table.specs.declared.txn.Status.TheVariants.{Active, Waiting, Condemned}
-use Rattle.gl_table.specs.State.{State, Txn, members, restatus, status_in, with_grant, with_txn}
-use Rattle.gl_table.specs.Pumps.{granted_at, is_waiting_at, pumped, waits_at, without_wait, woken}
-use Rattle.gl_table.specs.Calls.{cancelled}
+use Rattle.gl_table.proofs.Words.{[], ◌&&◌, ◌==◌, ◌||◌, ◌∙◌, ◌≡◌, AbortIsRelease, Active, and_both, ap, ap₂, Bool, cancelled, Condemned, false, fun_ext}
+use Rattle.gl_table.proofs.Words.{granted_at, holds, if◌then◌else◌, is_among_waiters, is_waiting_at, LeftAll, LeftOne, members, Mode, NL, NodeId, None, not}
+use Rattle.gl_table.proofs.Words.{not_true, number_same, Option, or-false, or_comm, pumped, refl, restatus, same_mode, same_node, same_node-equal}
+use Rattle.gl_table.proofs.Words.{same_node-sym, Some, State, Status, status_in, stripped, sym, true, Txn, Waiting, waits_at, with_grant, with_txn}
+use Rattle.gl_table.proofs.Words.{without_wait, without_waiter, woken, ℕ}
 use Rattle.gl_table.proofs.GrantKeeps.{nl_is}
 use Rattle.gl_table.proofs.Pumps.{pumped-pumped}
 use Rattle.gl_table.proofs.Queues.{clash, grants_other}
 use Rattle.gl_table.proofs.QueueEdits.{without_none}
-use Rattle.gl_table.specs.Steps.{stripped, LeftOne, LeftAll, AbortIsRelease}
 use Rattle.gl_table.proofs.Bare.{bare_free, out_of_own, granted_waits, stripped_after}
-use Rattle.std.proofs.Math.Bool.{or-false, or_comm}
 
 -- where no node grants, nothing changes
 woken_none : (u : ℕ) (x : Option Txn) → x ≡ woken (λ q. []) u x
@@ -47,18 +33,22 @@ stripped_grant s t n m = λ i. record (stripped s t) { held = λ u q. by u q (u 
 
 -- t's wait is gone, and its status, whatever it was
 stripped_wait : (s : State) (t : ℕ) (st : Status) → stripped (without_wait s t st) t ≡ stripped s t
-stripped_wait s t st = λ i. record (stripped s t) { queue = λ n. without_none t (without_waiter t (s.queue n)) (out_of_own t (s.queue n)) i; txns = λ u. by u (u == t) i }
+stripped_wait s t st = λ i. record (stripped s t) { queue = λ n. without_none t (without_waiter t (s.queue n)) (out_of_own t (s.queue n)) i;
+    txns = λ u. by u (u == t) i }
   where
     by : (u : ℕ) (b : Bool) → (if b then None else (if b then restatus st (s.txns t) else s.txns u)) ≡ (if b then None else s.txns u)
     by u true = refl
     by u false = refl
 
 -- where t holds nothing and waits nowhere, only its name is there to take out
-stripped_free : (s : State) (t : ℕ) → ((n : NodeId) → s.held t n ≡ NL) → ((n : NodeId) → is_among_waiters t (s.queue n) ≡ false) → stripped s t ≡ with_txn s t None
-stripped_free s t free out = λ i. record (with_txn s t None) { held = λ u n. bare_free t (members s n) (free n) i u; queue = λ n. without_none t (s.queue n) (out n) i }
+stripped_free : (s : State) (t : ℕ) → ((n : NodeId) → s.held t n ≡ NL) → ((n : NodeId) → is_among_waiters t (s.queue n) ≡ false)
+    → stripped s t ≡ with_txn s t None
+stripped_free s t free out = λ i. record (with_txn s t None)
+    { held = λ u n. bare_free t (members s n) (free n) i u; queue = λ n. without_none t (s.queue n) (out n) i }
 
 -- nodes that t does not hold grant the same without t
-stripped_pumped : (s : State) (t : ℕ) (P : NodeId → Bool) → ((n : NodeId) → is_among_waiters t (s.queue n) ≡ false) → ((n : NodeId) → P n ≡ true → s.held t n ≡ NL) → stripped (pumped s P) t ≡ pumped (stripped s t) P
+stripped_pumped : (s : State) (t : ℕ) (P : NodeId → Bool) → ((n : NodeId) → is_among_waiters t (s.queue n) ≡ false)
+    → ((n : NodeId) → P n ≡ true → s.held t n ≡ NL) → stripped (pumped s P) t ≡ pumped (stripped s t) P
 stripped_pumped s t P out free =
     pumped_none (stripped (pumped s P) t)
     ∙ stripped_after s t P (λ q. false) out (λ n h _. free n h)
@@ -68,7 +58,8 @@ pub left_one : LeftOne
 left_one s now t n left most out off was =
     stripped_pumped (with_grant now t n NL) t (same_node n) out freed
     ∙ ap (λ x. pumped x (same_node n)) (stripped_grant now t n NL ∙ was)
-    ∙ pumped-pumped (stripped s t) left (same_node n) (λ q. not_true _ (λ h. let both = and_both (left q) (same_node n q) h in clash (ap left (same_node-equal n q both.1) ∙ both.0) off))
+    ∙ pumped-pumped (stripped s t) left (same_node n) (λ q. not_true _ (λ h. let both = and_both (left q) (same_node n q) h in
+    clash (ap left (same_node-equal n q both.1) ∙ both.0) off))
   where
     freed : (q : NodeId) → same_node n q ≡ true → (with_grant now t n NL).held t q ≡ NL
     freed q h = ap₂ (λ a b. if a && b then NL else now.held t q) (number_same t t refl) (same_node-sym q n ∙ h)
@@ -91,12 +82,14 @@ abort_is_release s t =
 
     -- t holds what it held, and waits no more
     same : (n : NodeId) → holds (members (cancelled s t) n) t ≡ holds (members s n) t
-    same n = ap (λ m. not (same_mode m NL)) (grants_other (granted_at (without_wait s t Active) (is_waiting_at s t) n) (members s n) t (granted_waits (without_wait s t Active) t (is_waiting_at s t) n (out n)))
+    same n = ap (λ m. not (same_mode m NL)) (grants_other (granted_at (without_wait s t Active) (is_waiting_at s t) n) (members s n) t
+        (granted_waits (without_wait s t Active) t (is_waiting_at s t) n (out n)))
 
     active : (n : NodeId) → is_waiting_at (cancelled s t) t n ≡ false
     active n = by (t == t) (number_same t t refl) (s.txns t)
       where
-        by : (b : Bool) → b ≡ true → (x : Option Txn) → waits_at (status_in (woken (granted_at (without_wait s t Active) (is_waiting_at s t)) t (if b then restatus Active x else x))) n ≡ false
+        by : (b : Bool) → b ≡ true → (x : Option Txn) → waits_at
+            (status_in (woken (granted_at (without_wait s t Active) (is_waiting_at s t)) t (if b then restatus Active x else x))) n ≡ false
         by true e None = refl
         by true e (Some x) = refl
         by false e x = clash e refl

@@ -1,26 +1,12 @@
 -- A state with fewer grants, waits and transactions keeps the law, but for the fronts where something was taken.
-use Rattle.std.specs.Prelude.{◌≡◌, ◌⊎◌, ℕ, ◌≤◌, Bool, true, false, cond, not, ◌&&◌, ◌||◌, List, [], ◌∷◌, Option, Some, None, is_some}
-use Rattle.std.specs.List.{filter, list_any, list_all}
-use Rattle.std.proofs.Common.{refl, sym, ap, ap₂, ◌∙◌, arith, subst, ⊎_elim}
-use Rattle.gl_modes.specs.declared.mode.Mode.{Mode}
-use Rattle.gl_modes.specs.declared.mode.Mode.TheVariants.{NL, IS, IX}
-use Rattle.gl_modes.specs.declared.node.NodeId.{NodeId}
-use Rattle.gl_modes.specs.Modes.{are_compatible, is_at_least, same_mode}
-use Rattle.gl_table.specs.declared.txn.Status.{Status}
-use Rattle.gl_table.specs.declared.txn.Status.TheVariants.{Active, Waiting, Condemned}
-use Rattle.gl_modes.specs.Nodes.{same_node}
-use Rattle.gl_graph.specs.Graph.{parents_of, is_child, is_live}
-use Rattle.gl_header.specs.Header.{Waiter, front, is_ahead, is_among_waiters, is_waiter}
-use Rattle.gl_table.specs.State.{State, Txn, members, status_in, status_of, age_in, age_of}
-use Rattle.gl_table.specs.Pumps.{waits_at}
-use Rattle.gl_table.specs.Intends.{is_write, no_parents, intends, intends_over}
-use Rattle.gl_table.specs.Lawful.{ModeFitsKind, IsLawful}
+use Rattle.gl_table.proofs.Words.{[], ◌&&◌, ◌||◌, ◌∙◌, ◌∷◌, ◌≡◌, ◌≤◌, ◌⊎◌, Active, age_in, age_of, ap, ap₂, are_compatible, arith, at_least-refl, Bool, cond}
+use Rattle.gl_table.proofs.Words.{Condemned, false, filter, front, intends, intends_over, IS, is_ahead, is_among_waiters, is_at_least, is_child, is_live}
+use Rattle.gl_table.proofs.Words.{is_some, is_waiter, is_write, IsLawful, IX, List, list_all, list_any, members, Mode, ModeFitsKind, NL, NL-compatible}
+use Rattle.gl_table.proofs.Words.{no_parents, NodeId, None, not, Option, or_left, or_right, parents_of, refl, same_mode, same_node, same_node-equal}
+use Rattle.gl_table.proofs.Words.{same_node-refl, Some, split, State, Status, status_in, status_of, subst, sym, true, Txn, Waiter, Waiting, waits_at, ℕ, ⊎_elim}
 use Rattle.gl_table.proofs.Queues.{ahead_is, ahead_second, clash}
 use Rattle.gl_table.proofs.GrantKeeps.{front_less}
 use Rattle.gl_table.proofs.LawfulBut.{IsLawfulBut}
-use Rattle.gl_graph.proofs.Look.{split, or_left, or_right}
-use Rattle.gl_modes.proofs.NodeLemmas.{same_node-equal, same_node-refl}
-use Rattle.gl_modes.proofs.ModeLemmas.{at_least-refl, NL-compatible}
 
 -- a wait on n, with its mode
 pub waiting_is : (o : Option Status) (n : NodeId) → waits_at o n ≡ true → (m : Mode) × (o ≡ Some (Waiting n m))
@@ -37,16 +23,21 @@ age_none None h = refl
 age_none (Some x) h = clash refl h
 
 -- the graph rule looks at the parents alone
-pub rule_same : (h h' : NodeId → Mode) (m : Mode) (ps : List NodeId) → ((p : NodeId) → list_any (same_node p) ps ≡ true → h' p ≡ h p) → intends_over h' ps m ≡ intends_over h ps m
+pub rule_same : (h h' : NodeId → Mode) (m : Mode) (ps : List NodeId) → ((p : NodeId) → list_any (same_node p) ps ≡ true → h' p ≡ h p)
+    → intends_over h' ps m ≡ intends_over h ps m
 rule_same h h' m ps same = ap₂ (λ a b. cond (is_write m) a (no_parents ps || b)) (all_same ps same) (any_same ps same)
   where
-    all_same : (ps : List NodeId) → ((p : NodeId) → list_any (same_node p) ps ≡ true → h' p ≡ h p) → list_all (λ p. is_at_least (h' p) IX) ps ≡ list_all (λ p. is_at_least (h p) IX) ps
+    all_same : (ps : List NodeId) → ((p : NodeId) → list_any (same_node p) ps ≡ true → h' p ≡ h p)
+        → list_all (λ p. is_at_least (h' p) IX) ps ≡ list_all (λ p. is_at_least (h p) IX) ps
     all_same [] same = refl
-    all_same (p ∷ ps) same = ap₂ (λ a b. a && b) (ap (λ x. is_at_least x IX) (same p (or_left _ _ (same_node-refl p)))) (all_same ps (λ q k. same q (or_right (same_node q p) _ k)))
+    all_same (p ∷ ps) same = ap₂ (λ a b. a && b) (ap (λ x. is_at_least x IX) (same p (or_left _ _ (same_node-refl p))))
+        (all_same ps (λ q k. same q (or_right (same_node q p) _ k)))
 
-    any_same : (ps : List NodeId) → ((p : NodeId) → list_any (same_node p) ps ≡ true → h' p ≡ h p) → list_any (λ p. is_at_least (h' p) IS) ps ≡ list_any (λ p. is_at_least (h p) IS) ps
+    any_same : (ps : List NodeId) → ((p : NodeId) → list_any (same_node p) ps ≡ true → h' p ≡ h p)
+        → list_any (λ p. is_at_least (h' p) IS) ps ≡ list_any (λ p. is_at_least (h p) IS) ps
     any_same [] same = refl
-    any_same (p ∷ ps) same = ap₂ (λ a b. a || b) (ap (λ x. is_at_least x IS) (same p (or_left _ _ (same_node-refl p)))) (any_same ps (λ q k. same q (or_right (same_node q p) _ k)))
+    any_same (p ∷ ps) same = ap₂ (λ a b. a || b) (ap (λ x. is_at_least x IS) (same p (or_left _ _ (same_node-refl p))))
+        (any_same ps (λ q k. same q (or_right (same_node q p) _ k)))
 
 -- these grants, queues and transactions are some of the state's: no grant without those that it needs, each wait whole
 pub record IsLess (s : State) (held : ℕ → NodeId → Mode) (queue : NodeId → List Waiter) (txns : ℕ → Option Txn) (chosen : NodeId → Bool) : Type 0 where
@@ -60,7 +51,8 @@ pub record IsLess (s : State) (held : ℕ → NodeId → Mode) (queue : NodeId �
   pub txns_same : (u : ℕ) → is_some (txns u) ≡ true → (is_some (s.txns u) ≡ true) × (age_in (txns u) ≡ age_of s u)
   pub fronts : (n : NodeId) → chosen n ≡ false → (queue n ≡ s.queue n) × ((u : ℕ) → held u n ≡ s.held u n)
 
-module _ (s : State) (law : IsLawful s) (held : ℕ → NodeId → Mode) (queue : NodeId → List Waiter) (txns : ℕ → Option Txn) (chosen : NodeId → Bool) (less : IsLess s held queue txns chosen) where
+module _ (s : State) (law : IsLawful s) (held : ℕ → NodeId → Mode) (queue : NodeId → List Waiter) (txns : ℕ → Option Txn) (chosen : NodeId → Bool)
+    (less : IsLess s held queue txns chosen) where
   abbrev less_state : State
   less_state = record s { held = held; queue = queue; txns = txns }
 
@@ -78,9 +70,12 @@ module _ (s : State) (law : IsLawful s) (held : ℕ → NodeId → Mode) (queue 
         (less.holders_live u q h old.0, old.1, subst (ModeFitsKind s q) (sym (held_same u q h)) old.2);
     waits_live = λ u q h. law.waits_live u q (less.waiters_same u q h).0;
     compatible = λ u v q ne.
-        ⊎_elim (λ e. ap (λ m. are_compatible m (held v q)) e) (λ e. ⊎_elim (λ f. ap₂ are_compatible refl f ∙ NL-compatible (held u q)) (λ f. ap₂ are_compatible e f ∙ law.compatible u v q ne) (less.kept v q)) (less.kept u q);
+        ⊎_elim (λ e. ap (λ m. are_compatible m (held v q)) e)
+        (λ e. ⊎_elim (λ f. ap₂ are_compatible refl f ∙ NL-compatible (held u q)) (λ f. ap₂ are_compatible e f ∙ law.compatible u v q ne) (less.kept v q))
+        (less.kept u q);
     grants_intend = λ u q h. let old = law.grants_intend u q (holds_old u q h) in let live = (law.grants_live u q (holds_old u q h)).1 in
-        rule_same (s.held u) (held u) (held u q) (parents_of s.graph q) (λ p k. less.above u q p h live (is_child_from p q k)) ∙ ap (intends s u q) (held_same u q h) ∙ old;
+        rule_same (s.held u) (held u) (held u q) (parents_of s.graph q) (λ p k. less.above u q p h live (is_child_from p q k))
+        ∙ ap (intends s u q) (held_same u q h) ∙ old;
     waits_intend = λ u q m st. let was = less.waits_same u q m st in let old = law.waits_intend u q m was.0 in (
       rule_same (s.held u) (held u) m (parents_of s.graph q) (λ p k. was.1 p) ∙ old.0,
       old.1,
@@ -97,12 +92,15 @@ module _ (s : State) (law : IsLawful s) (held : ℕ → NodeId → Mode) (queue 
         ap (λ m. not (same_mode m NL)) (same.1 q) ∙ old;
     front_waits = λ q no. let same = less.fronts q no in
         ap (front s.most (λ u. held u q)) same.0
-        ∙ front_less s.most (members s q) (λ u. held u q) (λ u. ap (λ m. is_at_least m (s.held u q)) (same.1 u) ∙ at_least-refl (s.held u q)) (s.queue q) (law.front_waits q);
+        ∙ front_less s.most (members s q) (λ u. held u q) (λ u. ap (λ m. is_at_least m (s.held u q)) (same.1 u) ∙ at_least-refl (s.held u q)) (s.queue q)
+        (law.front_waits q);
     slots_below = λ u h. law.slots_below u (less.txns_same u h).0;
-    ages = λ u h. let was = less.txns_same u h in let old = law.ages u was.0 in (subst (λ a. 1 ≤ a) (sym was.1) old.0, subst (λ a. a ≤ s.begins) (sym was.1) old.1);
+    ages = λ u h. let was = less.txns_same u h in let old = law.ages u was.0 in
+        (subst (λ a. 1 ≤ a) (sym was.1) old.0, subst (λ a. a ≤ s.begins) (sym was.1) old.1);
     ages_differ = λ u v h e. let was = less.txns_same u h in
         split (is_some (txns v)) (λ k. law.ages_differ u v was.0 (sym was.1 ∙ e ∙ (less.txns_same v k).1))
-        (λ k. let old = law.ages u was.0 in let none : age_in (txns v) ≡ 0 = age_none (txns v) k in let zero_age : age_of s u ≡ 0 = sym was.1 ∙ e ∙ none in absurd (omega arith));
+        (λ k. let old = law.ages u was.0 in let none : age_in (txns v) ≡ 0 = age_none (txns v) k in let zero_age : age_of s u ≡ 0 = sym was.1 ∙ e ∙ none in
+        absurd (omega arith));
   }
     where
       is_child_from : (p q : NodeId) → list_any (same_node p) (parents_of s.graph q) ≡ true → is_child s.graph p q ≡ true

@@ -1,3 +1,5 @@
+-- the words that proofs use
+pub mod Words
 -- lists of waiters, and who waits for whom
 pub mod Queues
 pub mod QueueEdits

@@ -1,13 +1,7 @@
 -- What a write at one node does at every node.
-use Rattle.std.specs.Prelude.{◌≡◌, ℕ, Bool, true, false, not, ◌&&◌, List, [], ◌∷◌, ◌++◌, Option, Some, None, is_some, unwrap_or, cond, if◌then◌else◌, ◌+◌, ◌-◌, ◌<◌}
-use Rattle.std.specs.Map.{lookup}
-use Rattle.std.proofs.Common.{refl, sym, ap, subst, ◌∙◌, arith}
-use Rattle.std.proofs.Math.Bool.{and-false}
-use Rattle.gl_modes.specs.declared.node.NodeId.{NodeId}
-use Rattle.gl_modes.specs.Nodes.{same_node}
-use Rattle.gl_modes.proofs.NodeLemmas.{same_node-equal, same_node-refl, same_node-sym}
-use Rattle.gl_table.specs.Lists.{count_in, mode_in}
-use Rattle.gl_table.specs.declared.list.Entry.{Entry}
+use Rattle.gl_table.proofs.Words.{[], ◌&&◌, ◌++◌, ◌+◌, ◌-◌, ◌<◌, ◌∙◌, ◌∷◌, ◌≡◌, and-false, ap, arith, Bool, cond, count_in, Entry, false, if◌then◌else◌}
+use Rattle.gl_table.proofs.Words.{is_some, List, lookup, mode_in, NodeId, None, not, Option, refl, same_node, same_node-equal, same_node-refl, same_node-sym}
+use Rattle.gl_table.proofs.Words.{Some, subst, sym, true, unwrap_or, ℕ}
 
 -- fs has o at n, and has at each other node what es has
 abbrev pub IsWritten : {X : Type 0} → NodeId → List (NodeId × X) → List (NodeId × X) → Option X → Type 0
@@ -22,7 +16,8 @@ IsWritten-same n es = λ q. by q (same_node n q) refl
     by q false h = refl
 
 -- two writes at one node leave the second
-pub IsWritten-twice : {X : Type 0} (n : NodeId) (es fs gs : List (NodeId × X)) (o w : Option X) → IsWritten n es fs o → IsWritten n fs gs w → IsWritten n es gs w
+pub IsWritten-twice : {X : Type 0} (n : NodeId) (es fs gs : List (NodeId × X)) (o w : Option X) → IsWritten n es fs o → IsWritten n fs gs w
+    → IsWritten n es gs w
 IsWritten-twice {X = X} n es fs gs o w a b = λ q. b q ∙ ap (cond (same_node n q) w) (a q) ∙ by (same_node n q) (lookup (same_node q) es)
   where
     by : (b : Bool) (x : Option X) → cond b w (cond b o x) ≡ cond b w x
@@ -38,14 +33,17 @@ module _ {X : Type 0} (n : NodeId) (es fs : List (NodeId × X)) (o : Option X) (
 
 -- What holds at n after a write there to each of two lists, and holds of what stays, holds at each node.
 -- C is given whether the node is n, what the two lists had there, and what they have now.
-pub at_each : {X Y : Type 0} (C : Bool → Option X → Option Y → Option X → Option Y → Type 0) (n : NodeId) (es fs : List (NodeId × X)) (ls ms : List (NodeId × Y)) (o : Option X) (k : Option Y)
-    → IsWritten n es fs o → IsWritten n ls ms k → C true (lookup (same_node n) es) (lookup (same_node n) ls) o k → ((x : Option X) (y : Option Y) → C false x y x y)
+pub at_each : {X Y : Type 0} (C : Bool → Option X → Option Y → Option X → Option Y → Type 0) (n : NodeId) (es fs : List (NodeId × X))
+    (ls ms : List (NodeId × Y)) (o : Option X) (k : Option Y)
+    → IsWritten n es fs o → IsWritten n ls ms k → C true (lookup (same_node n) es) (lookup (same_node n) ls) o k
+    → ((x : Option X) (y : Option Y) → C false x y x y)
     → (q : NodeId) → C (same_node q n) (lookup (same_node q) es) (lookup (same_node q) ls) (lookup (same_node q) fs) (lookup (same_node q) ms)
 at_each C n es fs ls ms o k w v here stays q = by (same_node q n) refl
   where
     by : (b : Bool) → same_node q n ≡ b → C b (lookup (same_node q) es) (lookup (same_node q) ls) (lookup (same_node q) fs) (lookup (same_node q) ms)
     by true h =
-        subst (λ (q : NodeId). C true (lookup (same_node q) es) (lookup (same_node q) ls) (lookup (same_node q) fs) (lookup (same_node q) ms)) (sym (same_node-equal q n h))
+        subst (λ (q : NodeId). C true (lookup (same_node q) es) (lookup (same_node q) ls) (lookup (same_node q) fs) (lookup (same_node q) ms))
+        (sym (same_node-equal q n h))
         (rw (written_here n es fs o w, written_here n ls ms k v) here)
     by false h =
         rw (written_apart n es fs o w q h, written_apart n ls ms k v q h) (stays (lookup (same_node q) es) (lookup (same_node q) ls))

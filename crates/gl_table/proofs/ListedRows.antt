@@ -1,32 +1,19 @@
 -- The rows of a list are the locks of its transaction in the model.
-use Rattle.std.specs.Prelude.{◌≡◌, ℕ, zero, suc, ◌||◌, true, false, List, [], ◌∷◌, length, map, get_or, Option, Some, None, if◌then◌else◌, is_some, slice_get}
-use Rattle.std.specs.List.{All, IsDistinct, list_any}
-use Rattle.std.specs.Map.{keys_of, lookup}
-use Rattle.std.specs.Option.{option_map, option_map_or}
-use Rattle.std.proofs.Common.{refl, sym, ap, subst, ◌∙◌}
-use Rattle.std.proofs.lemmas.List.{length-map}
-use Rattle.std.proofs.lemmas.Map.Entries.{lookup_from_place}
-use Rattle.std.proofs.lemmas.Option.{slice_get-get_or, slice_get-map}
-use Rattle.indexmap.specs.IndexMap.{keys}
-use Rattle.gl_modes.specs.declared.node.NodeId.{NodeId}
-use Rattle.gl_modes.specs.Nodes.{same_node}
-use Rattle.gl_graph.proofs.Look.{none_some, split}
-use Rattle.gl_graph.proofs.RouteLengths.{node_equivalence}
-use Rattle.gl_table.specs.declared.list.Entry.{Entry}
-use Rattle.gl_table.specs.declared.lock_row.LockRow.{LockRow}
-use Rattle.gl_table.specs.Covered.{held_children}
-use Rattle.gl_table.specs.Listing.{AreRowsOf, is_row_of, row_of, rows_of}
-use Rattle.gl_table.specs.declared.list.LockList.{LockList}
-use Rattle.gl_table.specs.Lists.{mode_in}
-use Rattle.gl_table.specs.Slots.{by_list}
-use Rattle.gl_table.specs.Table.{ListsAgree, StandOnce, TableView, entry_at, state_of}
+use Rattle.gl_table.proofs.Words.{[], ◌||◌, ◌∙◌, ◌∷◌, ◌≡◌, ap, AreRowsOf, by_list, Entry, entry_at, false, get_or, held_children, if◌then◌else◌, is_row_of}
+use Rattle.gl_table.proofs.Words.{is_some, IsDistinct, keys, keys_of, length, length-map, List, list_any, ListsAgree, LockList, LockRow, lookup}
+use Rattle.gl_table.proofs.Words.{lookup_from_place, map, mode_in, node_equivalence, NodeId, None, none_some, Option, option_map, option_map_or, refl, row_of}
+use Rattle.gl_table.proofs.Words.{rows_of, same_node, slice_get, slice_get-get_or, slice_get-map, Some, split, StandOnce, state_of, subst, suc, sym, TableView}
+use Rattle.gl_table.proofs.Words.{true, zero, ℕ}
+use Rattle.std.specs.List.{All}
 
-looked_in : (ls : List (List (NodeId × Entry))) (t : ℕ) (n : NodeId) → option_map_or (λ es. lookup (same_node n) es) (slice_get ls t) None ≡ lookup (same_node n) (get_or ls t [])
+looked_in : (ls : List (List (NodeId × Entry))) (t : ℕ) (n : NodeId)
+    → option_map_or (λ es. lookup (same_node n) es) (slice_get ls t) None ≡ lookup (same_node n) (get_or ls t [])
 looked_in [] t n = refl
 looked_in (es ∷ ls) zero n = refl
 looked_in (es ∷ ls) (suc t) n = looked_in ls t n
 
-distinct_in : (ls : List (List (NodeId × Entry))) (t : ℕ) → ((es : List (NodeId × Entry)) → slice_get ls t ≡ Some es → IsDistinct same_node (keys_of es)) → IsDistinct same_node (keys_of (get_or ls t []))
+distinct_in : (ls : List (List (NodeId × Entry))) (t : ℕ) → ((es : List (NodeId × Entry)) → slice_get ls t ≡ Some es → IsDistinct same_node (keys_of es))
+    → IsDistinct same_node (keys_of (get_or ls t []))
 unfolding IsDistinct
 distinct_in [] t once = tt
 distinct_in (es ∷ ls) zero once = once es refl
@@ -47,12 +34,14 @@ row-listed n (x ∷ es) = split (same_node n x.0)
 
 -- what the code reads of a slot's list are the rows that its view shows
 pub row-at : (ls : List LockList) (t place : ℕ)
-    → by_list (λ l. option_map row_of (slice_get l.entries.entries place)) None ls t ≡ slice_get (map row_of (get_or (map (λ l. l.entries.entries) ls) t [])) place
+    → by_list (λ l. option_map row_of (slice_get l.entries.entries place)) None ls t
+    ≡ slice_get (map row_of (get_or (map (λ l. l.entries.entries) ls) t [])) place
 row-at [] t place = refl
 row-at (l ∷ ls) zero place = sym (slice_get-map row_of l.entries.entries place)
 row-at (l ∷ ls) (suc t) place = row-at ls t place
 
-pub row-count : (ls : List LockList) (t : ℕ) → by_list (λ l. length (keys l.entries)) 0 ls t ≡ length (map row_of (get_or (map (λ l. l.entries.entries) ls) t []))
+pub row-count : (ls : List LockList) (t : ℕ) → by_list (λ l. length (keys l.entries)) 0 ls t
+    ≡ length (map row_of (get_or (map (λ l. l.entries.entries) ls) t []))
 row-count [] t = refl
 row-count (l ∷ ls) zero = length-map l.entries.entries (λ e. e.0) ∙ sym (length-map l.entries.entries row_of)
 row-count (l ∷ ls) (suc t) = row-count ls t

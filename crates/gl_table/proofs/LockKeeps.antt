@@ -1,38 +1,17 @@
 -- A lock that passed its tests, and an unlock: what they leave keeps the law.
-use Rattle.gl_waits.specs.declared.victims.Victims.{Victims}
-use Rattle.std.specs.Prelude.{◌≡◌, ℕ, zero, suc, ◌+◌, ◌++◌, ◌<◌, if◌then◌else◌, Bool, true, false, cond, ◌&&◌, ◌==◌, List, [], ◌∷◌, Option, Some, None, is_some, is_none}
-use Rattle.std.specs.List.{find, range_with_len}
-use Rattle.std.proofs.Common.{refl, sym, ap, ◌∙◌, arith, subst}
-use Rattle.gl_modes.specs.declared.mode.Mode.{Mode}
-use Rattle.gl_modes.specs.declared.mode.Mode.TheVariants.{NL}
-use Rattle.gl_modes.specs.declared.node.NodeId.{NodeId}
-use Rattle.gl_modes.specs.declared.refusal.Refusal.{Refusal}
-use Rattle.gl_modes.specs.Nodes.{same_node}
-use Rattle.gl_table.specs.declared.txn.TxnId.{TxnId}
-use Rattle.gl_table.specs.declared.txn.Status.TheVariants.{Active}
-use Rattle.gl_table.specs.declared.detect.Detect.{Detect}
-use Rattle.gl_table.specs.declared.detect.Detect.TheVariants.{AtBlock, ByWatcher}
-use Rattle.gl_graph.specs.Graph.{is_child, is_live, parents_of}
-use Rattle.gl_graph.specs.Refusals.{first_refusal}
-use Rattle.gl_header.specs.Header.{fits}
-use Rattle.gl_table.specs.State.{State, members, status_of, with_grant, Txn}
-use Rattle.gl_table.specs.Pumps.{pumped}
-use Rattle.gl_table.specs.Intends.{intends}
-use Rattle.gl_table.specs.Lawful.{IsLawful}
-use Rattle.gl_table.specs.Calls.{Locks, WaitSettles, wanted, enters_at, enqueued}
-use Rattle.gl_table.specs.Refusals.{active_on, bad_mode, need_parents, held_child}
+use Rattle.gl_table.proofs.Words.{[], ◌&&◌, ◌++◌, ◌+◌, ◌<◌, ◌==◌, ◌∙◌, ◌∷◌, ◌≡◌, Active, active_on, and_both, ap, arith, AtBlock, bad_mode, Bool, ByWatcher}
+use Rattle.gl_table.proofs.Words.{cond, Detect, enqueued, enters_at, false, find, first_refusal, fits, held_child, if◌then◌else◌, intends, is_child, is_live}
+use Rattle.gl_table.proofs.Words.{is_none, is_some, IsLawful, List, members, Mode, need_parents, NL, NodeId, None, not_refused, not_true, Option, parents_of}
+use Rattle.gl_table.proofs.Words.{pumped, range_with_len, refl, Refusal, same_node, same_node-equal, same_node-sym, Some, split, State, status_of, subst, suc}
+use Rattle.gl_table.proofs.Words.{supremum-above, sym, true, Txn, TxnId, Victims, WaitSettles, wanted, with_grant, zero, ℕ}
+use Rattle.gl_table.specs.Calls.{Locks}
 use Rattle.gl_table.proofs.GrantKeeps.{with_grant-lawful}
 use Rattle.gl_table.proofs.Queues.{clash}
-use Rattle.gl_header.proofs.Ranges.{not_true}
 use Rattle.gl_table.proofs.Less.{IsLess, less-lawful}
 use Rattle.gl_table.proofs.Pumped.{pumped-lawful}
 use Rattle.gl_table.proofs.Taken.{taken-less, settled-lawful}
 use Rattle.gl_table.proofs.Enqueued.{enqueued-lawful}
 use Rattle.gl_table.proofs.TestsPass.{active_after, mode_fits, rule_met, wanted_not_nl, no_child}
-use Rattle.gl_graph.proofs.Look.{split, and_both}
-use Rattle.gl_modes.proofs.NodeLemmas.{same_node-equal, same_node-sym}
-use Rattle.gl_modes.proofs.ModeLemmas.{supremum-above}
-use Rattle.gl_graph.proofs.Unrefused.{not_refused}
 
 -- a lock that passed its tests
 pub record MayLock (s : State) (t : TxnId) (n : NodeId) (m : Mode) : Type 0 where
@@ -43,7 +22,8 @@ pub record MayLock (s : State) (t : TxnId) (n : NodeId) (m : Mode) : Type 0 wher
 
 -- whatever was tested first
 pub may_lock : (s : State) (t : TxnId) (n : NodeId) (m : Mode) (first : Option Refusal) (rest : List (Option Refusal))
-    → first_refusal (first ∷ active_on s t (n ∷ []) ++ bad_mode s n m ∷ need_parents s t.slot n (wanted s t.slot n m) ∷ rest) ≡ None → MayLock s t n m × (first_refusal rest ≡ None)
+    → first_refusal (first ∷ active_on s t (n ∷ []) ++ bad_mode s n m ∷ need_parents s t.slot n (wanted s t.slot n m) ∷ rest) ≡ None → MayLock s t n m
+    × (first_refusal rest ≡ None)
 may_lock s t n m first rest h =
     let a = active_after s t n first _ h in
     let b = not_refused (bad_mode s n m) _ a.2 in
@@ -54,15 +34,19 @@ enters_fits : (s : State) (t : ℕ) (n : NodeId) (m : Mode) → enters_at s t n 
 enters_fits s t n m h = (and_both _ _ h).0
 
 -- granted at once
-pub granted-lawful : (s : State) → IsLawful s → (t : TxnId) (n : NodeId) (m : Mode) → MayLock s t n m → enters_at s t.slot n m ≡ true → IsLawful (with_grant s t.slot n (wanted s t.slot n m))
+pub granted-lawful : (s : State) → IsLawful s → (t : TxnId) (n : NodeId) (m : Mode) → MayLock s t n m → enters_at s t.slot n m ≡ true
+    → IsLawful (with_grant s t.slot n (wanted s t.slot n m))
 granted-lawful s law t n m may h =
-    with_grant-lawful s law t.slot n (wanted s t.slot n m) may.active may.live (mode_fits s law t.slot n m may.not_bad).1 may.rule (supremum-above (s.held t.slot n) m) (enters_fits s t.slot n m h)
+    with_grant-lawful s law t.slot n (wanted s t.slot n m) may.active may.live (mode_fits s law t.slot n m may.not_bad).1 may.rule
+    (supremum-above (s.held t.slot n) m) (enters_fits s t.slot n m h)
 
 -- placed in the queue
-pub waiting-lawful : (s : State) → IsLawful s → (t : TxnId) (n : NodeId) (m : Mode) → MayLock s t n m → enters_at s t.slot n m ≡ false → IsLawful (enqueued s t.slot n (wanted s t.slot n m))
+pub waiting-lawful : (s : State) → IsLawful s → (t : TxnId) (n : NodeId) (m : Mode) → MayLock s t n m → enters_at s t.slot n m ≡ false
+    → IsLawful (enqueued s t.slot n (wanted s t.slot n m))
 waiting-lawful s law t n m may h =
     let mode = mode_fits s law t.slot n m may.not_bad in
-    enqueued-lawful s law t.slot n (wanted s t.slot n m) may.active may.live mode.1 may.rule (wanted_not_nl (s.held t.slot n) m mode.0) (supremum-above (s.held t.slot n) m) h
+    enqueued-lawful s law t.slot n (wanted s t.slot n m) may.active may.live mode.1 may.rule (wanted_not_nl (s.held t.slot n) m mode.0)
+    (supremum-above (s.held t.slot n) m) h
 
 -- and settled, at block
 pub wait_settles-lawful : (d : Detect) (c : Victims) (s : State) (t : ℕ) (s' : State) → IsLawful s → WaitSettles d c s t s' → IsLawful s'
@@ -85,7 +69,8 @@ unlocked-less s law t n active childless =
     (λ q off. same_node-sym q n ∙ off)
 
 -- and then the node grants from its front
-pub unlocked-lawful : (s : State) → IsLawful s → (t : ℕ) (n : NodeId) → status_of s t ≡ Some Active → held_child s t n ≡ None → IsLawful (pumped (with_grant s t n NL) (same_node n))
+pub unlocked-lawful : (s : State) → IsLawful s → (t : ℕ) (n : NodeId) → status_of s t ≡ Some Active → held_child s t n ≡ None
+    → IsLawful (pumped (with_grant s t n NL) (same_node n))
 unlocked-lawful s law t n active childless =
     pumped-lawful (with_grant s t n NL) (same_node n)
     (less-lawful s law (λ u q. if (u == t) && same_node q n then NL else s.held u q) s.queue s.txns (same_node n) (unlocked-less s law t n active childless))
@@ -100,6 +85,7 @@ free_slot s t k (suc len) h = by (is_none (s.txns k)) refl h (free_slot s t (k +
     is_free (Some x) e = clash e refl
 
     by : (b : Bool) → is_none (s.txns k) ≡ b → cond b (Some k) (find (λ u. is_none (s.txns u)) (range_with_len (k + 1) len)) ≡ Some t
-        → (find (λ u. is_none (s.txns u)) (range_with_len (k + 1) len) ≡ Some t → (is_some (s.txns t) ≡ false) × (t < k + 1 + len)) → (is_some (s.txns t) ≡ false) × (t < k + suc len)
+        → (find (λ u. is_none (s.txns u)) (range_with_len (k + 1) len) ≡ Some t → (is_some (s.txns t) ≡ false) × (t < k + 1 + len))
+        → (is_some (s.txns t) ≡ false) × (t < k + suc len)
     by true e l r = let is : k ≡ t = cc in (ap (λ u. is_some (s.txns u)) (sym is) ∙ is_free (s.txns k) e, omega arith)
     by false e l r = let f = r l in let lt = f.1 in (f.0, omega arith)

@@ -1,37 +1,18 @@
 -- The tests of an ask, and what a grant makes of a table.
-use Rattle.std.specs.Prelude.{◌≡◌, ℕ, ◌∷◌, [], ◌&&◌, Bool, true, false, not, length, Option, Some, None, Result, Ok, Err, OnErr, OnOk, if◌then◌else◌}
-use Rattle.std.proofs.Common.{refl, sym, ap, ◌∙◌, subst}
-use Rattle.std.proofs.Math.Path.{fun_ext}
-use Rattle.gl_modes.specs.declared.mode.Mode.{Mode}
-use Rattle.gl_modes.specs.declared.node.NodeId.{NodeId}
-use Rattle.gl_modes.specs.declared.refusal.Refusal.{Refusal}
-use Rattle.gl_modes.specs.declared.refusal.Refusal.TheVariants as no
-use Rattle.gl_modes.specs.Modes.{supremum}
-use Rattle.gl_graph.specs.Graph.{parents_of}
-use Rattle.gl_graph.specs.Refusals.{Refuses, first_refusal, some_no_node, verdict, where_true}
-use Rattle.gl_graph.specs.View.{graph_of}
-use Rattle.gl_graph.proofs.Unrefused.{not_refused, test_fails, not_false}
+use Rattle.gl_table.proofs.Words.{[], ◌&&◌, ◌∙◌, ◌∷◌, ◌≡◌, Agrees, answered, ap, AreSound, bad_mode, Bool, commit_tests, condemned_test, CountsHeld, enters_at}
+use Rattle.gl_table.proofs.Words.{Err, false, first_refusal, fun_ext, granted, graph_of, HasNoCycle, held_by, held_of, if◌then◌else◌, is_granted_at, IsLawful}
+use Rattle.gl_table.proofs.Words.{IsSound, length, lock_tests, Mode, need_parents, no_node, no_txn, NodeId, None, not, not_false, not_refused, Ok, OnErr, OnOk}
+use Rattle.gl_table.proofs.Words.{Option, parents_of, passed_then, queue_of, refl, Refusal, refused_first, Refuses, Result, rule_refusal, Some, some_no_node}
+use Rattle.gl_table.proofs.Words.{State, state_of, state_on, status_of, subst, supremum, sym, TableView, test_fails, true, try_tests, TxnId, txns_of, verdict}
+use Rattle.gl_table.proofs.Words.{view_of, waiting_test, wanted, where_true, would_block, ℕ}
 use Rattle.gl_table.specs.declared.locks.Locks.{Locks}
 use Rattle.gl_table.specs.declared.table.Table.TheInside.{Inside}
-use Rattle.gl_table.specs.declared.txn.TxnId.{TxnId}
-use Rattle.gl_table.specs.Calls.{enters_at, granted, wanted}
-use Rattle.gl_table.specs.Headers.{held_of, is_granted_at, queue_of}
-use Rattle.gl_table.specs.Lawful.{IsLawful}
-use Rattle.gl_table.specs.Locks.{Agrees, AreSound, CountsHeld, state_on}
-use Rattle.gl_table.specs.Answers.{answered}
-use Rattle.gl_table.specs.Refusals.{bad_mode, commit_tests, condemned_test, lock_tests, need_parents, no_node, no_txn, rule_refusal, try_tests, waiting_test, would_block}
-use Rattle.gl_table.specs.Seats.{txns_of}
-use Rattle.gl_table.specs.Slots.{held_by}
-use Rattle.gl_table.specs.Sound.{IsSound, view_of}
-use Rattle.gl_table.specs.State.{State, status_of}
-use Rattle.gl_table.specs.Table.{TableView, state_of}
-use Rattle.gl_table.specs.Waiting.{HasNoCycle}
+use Rattle.gl_modes.specs.declared.refusal.Refusal.TheVariants as no
 use Rattle.gl_table.proofs.Limits.{enters-most}
 use Rattle.gl_table.proofs.LockKeeps.{MayLock, granted-lawful, may_lock}
 use Rattle.gl_table.proofs.NoCycle.{granted-no_cycle}
 use Rattle.gl_table.proofs.Queries.{modes-seen}
 use Rattle.gl_table.proofs.TableCalls.{orderly, test_passed}
-use Rattle.gl_graph.proofs.FirstOf.{passed_then, refused_first}
 
 -- the tests before the last have passed
 last_test : (a b c d e r : Option Refusal) → a ≡ None → b ≡ None → c ≡ None → d ≡ None → e ≡ None → first_refusal (a ∷ b ∷ c ∷ d ∷ e ∷ r ∷ []) ≡ r
@@ -49,8 +30,10 @@ one_node s n h = ap (λ b. where_true (not (b && true)) no.NoSuchNode) (not_fals
 
 module _ (i : Inside) (sound : IsSound i) (v : TableView) (view : view_of i ≡ v) (t : TxnId) (n : NodeId) (m : Mode) where
   -- only the rule of the graph is left to be tested
-  pub rule_decides : (x y : Unit {0}) → Ok x ≡ verdict (first_refusal (commit_tests (state_of v) t)) → Ok y ≡ verdict (no_node (state_of v) n) → bad_mode (state_of v) n m ≡ None
-      → rule_refusal (held_by i.locks.lists.items t.slot) (parents_of (graph_of i.graph) n) (supremum (held_by i.locks.lists.items t.slot n) m) ≡ first_refusal (lock_tests (state_of v) t n m)
+  pub rule_decides : (x y : Unit {0}) → Ok x ≡ verdict (first_refusal (commit_tests (state_of v) t)) → Ok y ≡ verdict (no_node (state_of v) n)
+      → bad_mode (state_of v) n m ≡ None
+      → rule_refusal (held_by i.locks.lists.items t.slot) (parents_of (graph_of i.graph) n) (supremum (held_by i.locks.lists.items t.slot n) m)
+      ≡ first_refusal (lock_tests (state_of v) t n m)
   rule_decides x y a b good =
       let s = state_of v in
       let first = not_refused (no_txn s t) _ (test_passed _ x a) in
@@ -79,7 +62,8 @@ pub unrefused : {T : Type 0} (o : Option Refusal) (x : T) → o ≡ None → Ref
 unrefused None x h = tt
 unrefused (Some r) x h = absurd (cc)
 
-blocked : (s : State) (t : ℕ) (n : NodeId) (m : Mode) (b : Bool) → enters_at s t n m ≡ b → first_refusal (would_block s t n m ∷ []) ≡ (if b then None else Some no.WouldBlock)
+blocked : (s : State) (t : ℕ) (n : NodeId) (m : Mode) (b : Bool) → enters_at s t n m ≡ b
+    → first_refusal (would_block s t n m ∷ []) ≡ (if b then None else Some no.WouldBlock)
 blocked s t n m true e = ap (λ b. first_refusal (where_true (not b) no.WouldBlock ∷ [])) e
 blocked s t n m false e = ap (λ b. first_refusal (where_true (not b) no.WouldBlock ∷ [])) e
 
@@ -89,7 +73,8 @@ module _ (s : State) (t : TxnId) (n : NodeId) (m : Mode) where
   try_refused r h = refused_first (lock_tests s t n m) (would_block s t.slot n m ∷ []) r h
 
   -- and so does an ask that would wait
-  pub try_decides : first_refusal (lock_tests s t n m) ≡ None → (b : Bool) → enters_at s t.slot n m ≡ b → first_refusal (try_tests s t n m) ≡ (if b then None else Some no.WouldBlock)
+  pub try_decides : first_refusal (lock_tests s t n m) ≡ None → (b : Bool) → enters_at s t.slot n m ≡ b
+      → first_refusal (try_tests s t n m) ≡ (if b then None else Some no.WouldBlock)
   try_decides h b e = passed_then (lock_tests s t n m) (would_block s t.slot n m ∷ []) h ∙ blocked s t.slot n m b e
 
   pub may_lock_by : first_refusal (lock_tests s t n m) ≡ None → MayLock s t n m
@@ -114,7 +99,8 @@ module _ (i : Inside) (sound : IsSound i) (t : TxnId) (n : NodeId) (m : Mode) wh
     pub state_granted : state_of (view_of after) ≡ granted s t.slot n m
     state_granted = ap {A = State} (λ x. record x { detect = i.detect; victims = i.victims; begins = i.begins }) is
 
-    pub sound_granted : AreSound locks → ((u : ℕ) → Agrees (state_on (graph_of i.graph) locks) locks.lists.items u) → ((u : ℕ) → CountsHeld (state_on (graph_of i.graph) locks) locks.lists.items u) → IsSound after
+    pub sound_granted : AreSound locks → ((u : ℕ) → Agrees (state_on (graph_of i.graph) locks) locks.lists.items u)
+        → ((u : ℕ) → CountsHeld (state_on (graph_of i.graph) locks) locks.lists.items u) → IsSound after
     sound_granted are agrees counts = record {
       lawful = subst IsLawful (sym state_granted) (granted-lawful s sound.lawful t n m may fits);
       sound = are;
@@ -125,7 +111,8 @@ module _ (i : Inside) (sound : IsSound i) (t : TxnId) (n : NodeId) (m : Mode) wh
 
   -- nothing but room was made
   pub sound_kept : (locks : Locks) → locks.headers.entries ≡ i.locks.headers.entries → locks.seats ≡ i.locks.seats
-      → AreSound locks → ((u : ℕ) → Agrees (state_on (graph_of i.graph) locks) locks.lists.items u) → ((u : ℕ) → CountsHeld (state_on (graph_of i.graph) locks) locks.lists.items u) → IsSound (record i { locks = locks })
+      → AreSound locks → ((u : ℕ) → Agrees (state_on (graph_of i.graph) locks) locks.lists.items u)
+      → ((u : ℕ) → CountsHeld (state_on (graph_of i.graph) locks) locks.lists.items u) → IsSound (record i { locks = locks })
   sound_kept locks headers seats are agrees counts = record {
     lawful = subst IsLawful same sound.lawful;
     sound = are;
@@ -143,18 +130,22 @@ module _ (i : Inside) (sound : IsSound i) (t : TxnId) (n : NodeId) (m : Mode) wh
       }
 
   -- it was granted, or nothing but room was made
-  pub sound_tried : (r : Result Mode Refusal) (locks : Locks) → MayLock s t n m → enters_at s t.slot n m ≡ true → OnOk r (state_on (graph_of i.graph) locks ≡ granted l t.slot n m)
+  pub sound_tried : (r : Result Mode Refusal) (locks : Locks) → MayLock s t n m → enters_at s t.slot n m ≡ true
+      → OnOk r (state_on (graph_of i.graph) locks ≡ granted l t.slot n m)
       → OnErr r (locks.headers.entries ≡ i.locks.headers.entries) → OnErr r (locks.seats ≡ i.locks.seats)
-      → AreSound locks → ((u : ℕ) → Agrees (state_on (graph_of i.graph) locks) locks.lists.items u) → ((u : ℕ) → CountsHeld (state_on (graph_of i.graph) locks) locks.lists.items u) → IsSound (record i { locks = locks })
+      → AreSound locks → ((u : ℕ) → Agrees (state_on (graph_of i.graph) locks) locks.lists.items u)
+      → ((u : ℕ) → CountsHeld (state_on (graph_of i.graph) locks) locks.lists.items u) → IsSound (record i { locks = locks })
   sound_tried (Ok x) locks may fits ok headers seats are agrees counts = sound_granted may fits locks ok are agrees counts
   sound_tried (Err x) locks may fits ok headers seats are agrees counts = sound_kept locks headers seats are agrees counts
 
-  pub state_tried : (r : Result Mode Refusal) (locks : Locks) → OnOk r (state_on (graph_of i.graph) locks ≡ granted l t.slot n m) → OnOk r (state_of (view_of (record i { locks = locks })) ≡ granted s t.slot n m)
+  pub state_tried : (r : Result Mode Refusal) (locks : Locks) → OnOk r (state_on (graph_of i.graph) locks ≡ granted l t.slot n m)
+      → OnOk r (state_of (view_of (record i { locks = locks })) ≡ granted s t.slot n m)
   state_tried (Ok x) locks ok = ap {A = State} (λ x. record x { detect = i.detect; victims = i.victims; begins = i.begins }) ok
   state_tried (Err x) locks ok = ok
 
 -- what a try answers once the tests of a lock passed, by what the header says
-pub decided : (i : Inside) (sound : IsSound i) (v : TableView) → view_of i ≡ v → (t : TxnId) (n : NodeId) (m : Mode) → first_refusal (lock_tests (state_of v) t n m) ≡ None → (b : Bool)
+pub decided : (i : Inside) (sound : IsSound i) (v : TableView) → view_of i ≡ v → (t : TxnId) (n : NodeId) (m : Mode)
+    → first_refusal (lock_tests (state_of v) t n m) ≡ None → (b : Bool)
     → b ≡ is_granted_at i.locks.headers.entries t.slot n m
     → first_refusal (try_tests (state_of v) t n m) ≡ (if b then None else Some no.WouldBlock)
 decided i sound v view t n m h b e =

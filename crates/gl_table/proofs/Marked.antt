@@ -1,57 +1,22 @@
 -- Marked children are released, one after the other: what holds after each.
-use Rattle.std.specs.Prelude.{◌≡◌, ℕ, suc, ◌+◌, ◌≤◌, Bool, true, false, cond, not, ◌&&◌, ◌||◌, ◌==◌, List, [], ◌∷◌, drop, length, map, Some, None, is_some, if◌then◌else◌, slice_get}
-use Rattle.std.specs.List.{count_by, list_all, list_any}
-use Rattle.std.specs.Map.{lookup}
-use Rattle.std.proofs.Common.{refl, sym, ap, ap₂, ◌∙◌, subst, arith}
-use Rattle.std.proofs.Math.Bool.{and-false, and-not_self, and-true, or-true}
-use Rattle.std.proofs.Math.Path.{fun_ext}
-use Rattle.gl_modes.specs.declared.mode.Mode.{Mode}
-use Rattle.gl_modes.specs.declared.mode.Mode.TheVariants.{NL, X}
-use Rattle.gl_modes.specs.declared.node.NodeId.{NodeId}
-use Rattle.gl_modes.specs.Modes.{same_mode}
-use Rattle.gl_modes.specs.Nodes.{same_node}
-use Rattle.gl_modes.proofs.NodeLemmas.{same_node-equal, same_node-refl, same_node-sym}
-use Rattle.gl_graph.specs.Graph.{is_child, nodes, parents_of}
-use Rattle.gl_graph.specs.Lawful.{IsLawfulGraph}
-use Rattle.gl_graph.proofs.Counts.{count_cons}
-use Rattle.gl_graph.proofs.Look.{and_both, split}
-use Rattle.gl_graph.proofs.Unrefused.{or_no}
-use Rattle.gl_header.specs.Header.{Waiter, after_grants, front, holds, is_among_waiters}
-use Rattle.gl_header.proofs.Ranges.{not_true}
-use Rattle.gl_table.specs.declared.list.LockList.{LockList}
-use Rattle.gl_table.specs.declared.txn.Status.TheVariants.{Active}
-use Rattle.gl_table.specs.Calls.{shed, unlocked}
-use Rattle.gl_table.specs.Covered.{held_children, holds_child, is_covered}
-use Rattle.gl_table.specs.Lists.{IsApart, count_of, is_listed, mode_of}
-use Rattle.gl_table.specs.Locks.{Agrees, CountsHeld, IsOrderly}
-use Rattle.gl_table.specs.Marks.{IsShedding, NoneMarkedFrom}
-use Rattle.gl_table.specs.Pumps.{front_at, granted_at, pumped, woken}
-use Rattle.gl_table.specs.Slots.{WakesLists, WakesTold}
-use Rattle.gl_table.specs.State.{State, members, status_in, status_of, with_grant}
-use Rattle.gl_table.specs.Telling.{IsBySlot, notices_in}
-use Rattle.gl_table.specs.Tellings.{Told}
-use Rattle.gl_table.specs.Waiting.{is_wait}
+use Rattle.gl_table.proofs.Words.{[], ◌&&◌, ◌+◌, ◌==◌, ◌||◌, ◌∙◌, ◌∷◌, ◌≡◌, ◌≤◌, Active, after_grants, Agrees, and-false, and-true, and_both, ap, ap₂, arith}
+use Rattle.gl_table.proofs.Words.{Bool, cond, count_by, count_cons, count_of, CountsHeld, drop, false, front, front_at, fun_ext, granted_at, held_children}
+use Rattle.gl_table.proofs.Words.{holds, holds_child, if◌then◌else◌, is_among_waiters, is_child, is_covered, is_listed, is_some, is_wait, IsApart, IsBySlot}
+use Rattle.gl_table.proofs.Words.{IsLawfulGraph, IsOrderly, IsShedding, length, List, list_all, list_any, LockList, lookup, map, members, Mode, mode_of, NL}
+use Rattle.gl_table.proofs.Words.{NodeId, nodes, None, NoneMarkedFrom, not, not-true, not_true, notices_in, or-true, or_no, parents_of, pumped, refl, same_mode}
+use Rattle.gl_table.proofs.Words.{same_node, same_node-equal, same_node-refl, same_node-sym, shed, slice_get, Some, split, State, status_in, status_of, subst}
+use Rattle.gl_table.proofs.Words.{suc, sym, Told, true, unlocked, Waiter, WakesLists, WakesTold, with_grant, woken, X, ℕ}
 use Rattle.gl_table.proofs.Children.{children_down}
 use Rattle.gl_table.proofs.Departures.{StillTells, left_by, own_notice, own_txn, still_tells, still_untold}
 use Rattle.gl_table.proofs.GrantKeeps.{nl_is}
 use Rattle.gl_table.proofs.Orderly.{in_no_queue, orderly_unlocked}
 use Rattle.gl_table.proofs.Pumps.{pumped-pumped}
 use Rattle.gl_table.proofs.Queues.{clash}
-use Rattle.gl_table.proofs.Tells.{woken_same}
 use Rattle.gl_table.proofs.Unlocked.{agrees_unlocked, counts_unlocked, unlocked_own}
-use Rattle.std.proofs.lemmas.Bool.{not-true}
 
 -- the state without t's grants on these nodes
 abbrev pub taken_from : State → ℕ → (NodeId → Bool) → State
 taken_from s t left = record s { held = λ u q. if (u == t) && left q then NL else s.held u q }
-
--- where nothing is taken nothing grants
-pub taken_none : (s : State) (t : ℕ) → s ≡ pumped (taken_from s t (λ q. false)) (λ q. false)
-taken_none s t = λ i. record s { held = λ u q. by (u == t) (s.held u q) i; txns = λ u. sym (woken_same (λ q. []) u (λ q. refl) (s.txns u)) i }
-  where
-    by : (a : Bool) (m : Mode) → m ≡ (if a && false then NL else m)
-    by true m = refl
-    by false m = refl
 
 -- one node more is taken from t, and grants from its front
 module _ (s : State) (t : ℕ) (c : NodeId) (left : NodeId → Bool) (off : left c ≡ false) where
@@ -83,8 +48,10 @@ module _ (s : State) (t : ℕ) (c : NodeId) (left : NodeId → Bool) (off : left
       kept false m = refl
 
       by : (b x y : Bool) → y ≡ x → (b ≡ true → x ≡ false)
-          → (if (u == t) && y then NL else after_grants (λ v. if (v == t) && b then NL else s.held v q) (if b then front s.most (λ v. if (v == t) && b then NL else s.held v q) (s.queue q) else []) u)
-          ≡ after_grants (λ v. if (v == t) && (b || x) then NL else s.held v q) (if b then front s.most (λ v. if (v == t) && (b || x) then NL else s.held v q) (s.queue q) else []) u
+          → (if (u == t) && y then NL else after_grants (λ v. if (v == t) && b then NL else s.held v q)
+          (if b then front s.most (λ v. if (v == t) && b then NL else s.held v q) (s.queue q) else []) u)
+          ≡ after_grants (λ v. if (v == t) && (b || x) then NL else s.held v q)
+          (if b then front s.most (λ v. if (v == t) && (b || x) then NL else s.held v q) (s.queue q) else []) u
       by true x true e f = clash (sym e) (f refl)
       by true x false e f = kept (u == t) _
       by false x y e f = ap (λ z. if (u == t) && z then NL else (if (u == t) && false then NL else s.held u q)) e ∙ none (u == t) x (s.held u q)
@@ -100,7 +67,8 @@ module _ (s : State) (t : ℕ) (c : NodeId) (left : NodeId → Bool) (off : left
   taken_one now is =
       ap (λ x. unlocked x t c) is
       ∙ ap (λ x. pumped x (same_node c)) same_taken
-      ∙ pumped-pumped (taken_from s t more) left (same_node c) (λ q. not_true _ (λ h. let both = and_both (left q) (same_node c q) h in clash both.1 (apart q both.0)))
+      ∙ pumped-pumped (taken_from s t more) left (same_node c)
+      (λ q. not_true _ (λ h. let both = and_both (left q) (same_node c q) h in clash both.1 (apart q both.0)))
 
 -- t released some of the children of n that were covered in s
 pub record IsReleasing (s now : State) (t : ℕ) (n : NodeId) (ls : List LockList) (l : LockList) (was told : Told) : Type 0 where
@@ -143,7 +111,8 @@ module _ (s now : State) (t : ℕ) (n : NodeId) (ls : List LockList) (l : LockLi
   marked_childless c h m =
       is.marked.counts c
       ∙ ap (λ g. count_by (λ x. is_child g c x && holds (members now x) t) (nodes g)) is.graph
-      ∙ none_passes (λ x. is_child s.graph c x && holds (members now x) t) (λ x. is_child s.graph c x && holds (members s x) t) (nodes s.graph) (not-true (holds_child s t c) (and_both _ _ (and_both _ _ (marked_covered c h m)).0).1)
+      ∙ none_passes (λ x. is_child s.graph c x && holds (members now x) t) (λ x. is_child s.graph c x && holds (members s x) t) (nodes s.graph)
+      (not-true (holds_child s t c) (and_both _ _ (and_both _ _ (marked_covered c h m)).0).1)
       (λ x k. let both = and_both _ _ k in ap₂ (λ a b. a && b) both.0 (is.less x both.1))
 
   module _ (c : NodeId) (listed : is_listed l c ≡ true) where
@@ -168,12 +137,14 @@ module _ (s now : State) (t : ℕ) (n : NodeId) (ls : List LockList) (l : LockLi
 
     -- each parent has one held child less
     fewer_held : IsLawfulGraph now.graph → (p : NodeId) → held_children after t p + count_by (same_node p) (parents_of now.graph c) ≡ held_children now t p
-    fewer_held law p = children_down now.graph law (λ x. holds (members now x) t) (λ x. holds (members after x) t) c (is.orderly.holders_live t c (marked_held c listed)) (marked_held c listed)
+    fewer_held law p = children_down now.graph law (λ x. holds (members now x) t) (λ x. holds (members after x) t) c
+        (is.orderly.holders_live t c (marked_held c listed)) (marked_held c listed)
         (ap (λ m. not (same_mode m NL)) (own_after c ∙ ap (λ k. if k then NL else now.held t c) (same_node-refl c)))
         (λ q e. ap (λ m. not (same_mode m NL)) (own_after q ∙ ap (λ k. if k then NL else now.held t q) e)) p
 
     pub marked_counted : IsLawfulGraph now.graph → (q : NodeId) → count_by (same_node q) (parents_of now.graph c) ≤ count_of l q
-    marked_counted law q = subst (λ (k : ℕ). count_by (same_node q) (parents_of now.graph c) ≤ k) (sym (is.marked.counts q)) (let e = fewer_held law q in omega arith)
+    marked_counted law q = subst (λ (k : ℕ). count_by (same_node q) (parents_of now.graph c) ≤ k) (sym (is.marked.counts q)) (let e = fewer_held law q in
+        omega arith)
 
     left_same : (q : NodeId) → (left_by s now t q || same_node c q) ≡ left_by s after t q
     left_same q = by (same_node c q) refl
@@ -207,7 +178,8 @@ module _ (s now : State) (t : ℕ) (n : NodeId) (ls : List LockList) (l : LockLi
         apart = apart';
         listed = λ q. listed' q ∙ ap (λ b. b && not (same_node q c)) (is.marked.listed q) ∙ sym (held_own q);
         modes = λ q. modes' q ∙ is.marked.modes q ∙ split (same_node q c)
-            (λ e. let yes = ap (is_covered s t n) (same_node-equal q c e) ∙ marked_covered c listed mark in ap (λ b. if b then NL else now.held t q) yes ∙ sym (ap (λ b. if b then NL else after.held t q) yes))
+            (λ e. let yes = ap (is_covered s t n) (same_node-equal q c e) ∙ marked_covered c listed mark in ap (λ b. if b then NL else now.held t q) yes
+            ∙ sym (ap (λ b. if b then NL else after.held t q) yes))
             (λ e. ap (λ m. if is_covered s t n q then NL else m) (sym (own_after q ∙ ap (λ k. if k then NL else now.held t q) e)));
         counts = λ p. let a = counts' p in let b = is.marked.counts p in let d = fewer_held law p in omega arith;
       }
@@ -219,7 +191,8 @@ module _ (s now : State) (t : ℕ) (n : NodeId) (ls : List LockList) (l : LockLi
         most = is.most;
         active = ap status_in (own_txn now is.orderly t out c told told' tell) ∙ is.active;
         agree = λ u e. agrees_unlocked now t c is.orderly ls ls' wakes u e (is.agree u e);
-        count = λ u e. counts_unlocked now t c is.orderly ls ls' wakes u e (is.agree u e) law (is.orderly.holders_live t c (marked_held c listed)) (is.count u e);
+        count = λ u e. counts_unlocked now t c is.orderly ls ls' wakes u e (is.agree u e) law (is.orderly.holders_live t c (marked_held c listed))
+            (is.count u e);
         marked = marked_after;
         less = λ q h. is.less q (held_still q h);
         left = left_more;
@@ -236,23 +209,27 @@ module _ (s now : State) (t : ℕ) (n : NodeId) (ls : List LockList) (l : LockLi
           back false b h e = clash h e
 
 -- what is listed stands at some place
-place_of_listed : {A : Type 0} (q : NodeId) (es : List (NodeId × A)) → is_some (lookup (same_node q) es) ≡ true → (i : ℕ) × (slice_get (map (λ e. e.0) es) i ≡ Some q)
+place_of_listed : {A : Type 0} (q : NodeId) (es : List (NodeId × A)) → is_some (lookup (same_node q) es) ≡ true → (i : ℕ)
+    × (slice_get (map (λ e. e.0) es) i ≡ Some q)
 place_of_listed q [] h = clash h refl
 place_of_listed {A} q (e ∷ es) h = by (same_node q e.0) refl h (place_of_listed q es)
   where
     by : (b : Bool) → same_node q e.0 ≡ b → is_some (cond b (Some e.1) (lookup (same_node q) es)) ≡ true
-        → (is_some (lookup (same_node q) es) ≡ true → (i : ℕ) × (slice_get (map (λ x. x.0) es) i ≡ Some q)) → (i : ℕ) × (slice_get (map (λ x. x.0) (e ∷ es)) i ≡ Some q)
+        → (is_some (lookup (same_node q) es) ≡ true → (i : ℕ) × (slice_get (map (λ x. x.0) es) i ≡ Some q)) → (i : ℕ)
+        × (slice_get (map (λ x. x.0) (e ∷ es)) i ≡ Some q)
     by true k h r = (0, ap (λ x. Some x) (sym (same_node-equal q e.0 k)))
     by false k h r = let rest = r h in (suc rest.0, rest.1)
 
 -- what is covered is held
 covered_held : (s : State) (t : ℕ) (n q : NodeId) → is_covered s t n q ≡ true → holds (members s q) t ≡ true
 covered_held s t n q e =
-    let a = and_both (is_child s.graph n q && holds (members s q) t && not (holds_child s t q)) (not (same_mode (s.held t q) X) || list_all (λ p. same_mode (s.held t p) X) (parents_of s.graph q)) e in
+    let a = and_both (is_child s.graph n q && holds (members s q) t && not (holds_child s t q))
+    (not (same_mode (s.held t q) X) || list_all (λ p. same_mode (s.held t p) X) (parents_of s.graph q)) e in
     let b = and_both (is_child s.graph n q && holds (members s q) t) (not (holds_child s t q)) a.0 in
     (and_both (is_child s.graph n q) (holds (members s q) t) b.0).1
 
-module _ (s now : State) (t : ℕ) (n : NodeId) (ls : List LockList) (l : LockList) (was told : Told) (is : IsReleasing s now t n ls l was told) (none : NoneMarkedFrom l 0) where
+module _ (s now : State) (t : ℕ) (n : NodeId) (ls : List LockList) (l : LockList) (was told : Told) (is : IsReleasing s now t n ls l was told)
+    (none : NoneMarkedFrom l 0) where
   gone : (q : NodeId) → is_covered s t n q ≡ true → holds (members now q) t ≡ false
   gone q e = not_true _ (λ h.
       let at = place_of_listed q l.entries.entries (is.marked.listed q ∙ h) in

@@ -1,23 +1,9 @@
 -- The covered children of a node are marked, one place of the list after another.
-use Rattle.std.specs.Prelude.{◌≡◌, ℕ, ◌+◌, ◌<◌, ◌≤◌, ◌==◌, Bool, true, false, not, ◌&&◌, ◌||◌, List, [], ◌∷◌, length, take, get_or, Some, if◌then◌else◌, slice_get}
-use Rattle.std.specs.List.{list_all, list_any}
-use Rattle.std.proofs.Common.{refl, sym, ap, ap₂, ◌∙◌, arith}
-use Rattle.std.proofs.Math.Bool.{or-false}
-use Rattle.std.proofs.lemmas.List.Folds.{list_any_more}
-use Rattle.std.proofs.lemmas.Option.{slice_get-get_or}
-use Rattle.gl_modes.specs.declared.mode.Mode.{Mode}
-use Rattle.gl_modes.specs.declared.mode.Mode.TheVariants.{NL, X}
-use Rattle.gl_modes.specs.declared.node.NodeId.{NodeId}
-use Rattle.gl_modes.specs.Modes.{same_mode}
-use Rattle.gl_modes.specs.Nodes.{same_node}
-use Rattle.gl_graph.specs.Graph.{Graph, is_child, parents_of}
-use Rattle.gl_graph.proofs.Look.{is_same_node, number_other, or_left, or_right, same_node_is, split}
-use Rattle.indexmap.specs.IndexMap.{keys}
-use Rattle.gl_table.specs.declared.list.LockList.{LockList}
-use Rattle.gl_table.specs.Lists.{count_of, mode_of}
-use Rattle.gl_table.specs.Marks.{covered_in}
+use Rattle.gl_table.proofs.Words.{[], ◌&&◌, ◌+◌, ◌<◌, ◌==◌, ◌||◌, ◌∙◌, ◌∷◌, ◌≡◌, ◌≤◌, ap, ap₂, arith, Bool, count_of, covered_in, false, get_or, Graph}
+use Rattle.gl_table.proofs.Words.{if◌then◌else◌, is_child, is_same_node, keys, length, List, list_all, list_any, list_any_more, LockList, Mode, mode_of, NL}
+use Rattle.gl_table.proofs.Words.{NodeId, not, number_other, or-false, or_left, or_right, parents_of, refl, same_mode, same_node, same_node_is, slice_get}
+use Rattle.gl_table.proofs.Words.{slice_get-get_or, Some, split, sym, take, take_all, true, X, ℕ}
 use Rattle.gl_table.proofs.FirstChild.{held_listed}
-use Rattle.std.proofs.lemmas.List.{take_all}
 
 -- tests that agree on each of these nodes
 all_alike : (f h : NodeId → Bool) (ps : List NodeId) → ((p : NodeId) → list_any (same_node p) ps ≡ true → f p ≡ h p) → list_all f ps ≡ list_all h ps
@@ -48,12 +34,14 @@ held_in false false c d h = h
 abbrev pub HasMarked : Graph → NodeId → LockList → LockList → List NodeId → Type 0
 HasMarked g n was l ks = (q : NodeId) → mode_of l q ≡ (if covered_in g was n q && list_any (same_node q) ks then NL else mode_of was q)
 
-module _ (g : Graph) (n : NodeId) (was : LockList) (counted : (c p : NodeId) → not (same_mode (mode_of was c) NL) ≡ true → list_any (same_node p) (parents_of g c) ≡ true → 0 < count_of was p) where
+module _ (g : Graph) (n : NodeId) (was : LockList) (counted : (c p : NodeId) → not (same_mode (mode_of was c) NL) ≡ true
+    → list_any (same_node p) (parents_of g c) ≡ true → 0 < count_of was p) where
   stays : (l : LockList) (ks : List NodeId) → HasMarked g n was l ks → (q : NodeId) → covered_in g was n q ≡ false → mode_of l q ≡ mode_of was q
   stays l ks h q out = h q ∙ ap (λ b. if b && list_any (same_node q) ks then NL else mode_of was q) out
 
   -- whether a node that is not marked is covered, the marks do not change
-  still_covered : (l : LockList) (ks : List NodeId) → HasMarked g n was l ks → ((q : NodeId) → count_of l q ≡ count_of was q) → (c : NodeId) → mode_of l c ≡ mode_of was c → covered_in g l n c ≡ covered_in g was n c
+  still_covered : (l : LockList) (ks : List NodeId) → HasMarked g n was l ks → ((q : NodeId) → count_of l q ≡ count_of was q) → (c : NodeId)
+      → mode_of l c ≡ mode_of was c → covered_in g l n c ≡ covered_in g was n c
   still_covered l ks h counts c same = split (not (same_mode (mode_of was c) NL)) held free
     where
       rest : LockList → Bool
@@ -63,7 +51,8 @@ module _ (g : Graph) (n : NodeId) (was : LockList) (counted : (c p : NodeId) →
       held e =
           let parents : list_all (λ p. same_mode (mode_of l p) X) (parents_of g c) ≡ list_all (λ p. same_mode (mode_of was p) X) (parents_of g c)
           = all_alike (λ p. same_mode (mode_of l p) X) (λ p. same_mode (mode_of was p) X) (parents_of g c)
-          (λ p is. ap (λ m. same_mode m X) (stays l ks h p (counted_out (is_child g n p) (not (same_mode (mode_of was p) NL)) (not (same_mode (mode_of was p) X) || list_all (λ x. same_mode (mode_of was x) X) (parents_of g p)) (count_of was p) (counted c p e is)))) in
+          (λ p is. ap (λ m. same_mode m X) (stays l ks h p (counted_out (is_child g n p) (not (same_mode (mode_of was p) NL))
+          (not (same_mode (mode_of was p) X) || list_all (λ x. same_mode (mode_of was x) X) (parents_of g p)) (count_of was p) (counted c p e is)))) in
           ap₂ (λ (m : Mode) (b : Bool). is_child g n c && not (same_mode m NL) && (count_of l c == 0) && (not (same_mode m X) || b)) same parents
           ∙ ap (λ k. is_child g n c && not (same_mode (mode_of was c) NL) && (k == 0) && rest was) (counts c)
 
@@ -81,8 +70,10 @@ module _ (g : Graph) (n : NodeId) (was : LockList) (counted : (c p : NodeId) →
       by false = refl
 
   -- the node at the next place is marked too
-  module _ (l next : LockList) (at : ℕ) (lt : at < length (keys was.entries)) (same_keys : keys l.entries ≡ keys was.entries) (h : HasMarked g n was l (take at (keys was.entries))) (counts : (q : NodeId) → count_of l q ≡ count_of was q)
-      (marks : (c : NodeId) → slice_get (keys l.entries) at ≡ Some c → (q : NodeId) → mode_of next q ≡ (if same_node q c && covered_in g l n c then NL else mode_of l q)) where
+  module _ (l next : LockList) (at : ℕ) (lt : at < length (keys was.entries)) (same_keys : keys l.entries ≡ keys was.entries)
+      (h : HasMarked g n was l (take at (keys was.entries))) (counts : (q : NodeId) → count_of l q ≡ count_of was q)
+      (marks : (c : NodeId) → slice_get (keys l.entries) at ≡ Some c → (q : NodeId)
+      → mode_of next q ≡ (if same_node q c && covered_in g l n c then NL else mode_of l q)) where
     abbrev none : NodeId
     none = record { key = 0; birth = 0 }
 
@@ -101,7 +92,8 @@ module _ (g : Graph) (n : NodeId) (was : LockList) (counted : (c p : NodeId) →
     at_here : mode_of next here ≡ (if covered_in g was n here then NL else mode_of was here)
     at_here = split (covered_in g was n here && before here)
         (λ e. let marked : mode_of l here ≡ NL = h here ∙ ap (λ b. if b then NL else mode_of was here) e in
-        out ∙ ap (λ m. if covered_in g l n here then NL else m) marked ∙ either (covered_in g l n here) ∙ sym (ap (λ b. if b then NL else mode_of was here) (first (covered_in g was n here) (before here) e)))
+        out ∙ ap (λ m. if covered_in g l n here then NL else m) marked ∙ either (covered_in g l n here)
+        ∙ sym (ap (λ b. if b then NL else mode_of was here) (first (covered_in g was n here) (before here) e)))
         (λ e. let same : mode_of l here ≡ mode_of was here = h here ∙ ap (λ b. if b then NL else mode_of was here) e in
         out ∙ ap₂ (λ b m. if b then NL else m) (still_covered l (take at (keys was.entries)) h counts here same) same)
       where
@@ -117,7 +109,8 @@ module _ (g : Graph) (n : NodeId) (was : LockList) (counted : (c p : NodeId) →
     marks_more q =
         split (same_node q here)
         (λ e. ap (mode_of next) (same_node_is q here e) ∙ at_here ∙ ap (λ x. if covered_in g was n x then NL else mode_of was x) (sym (same_node_is q here e))
-        ∙ all (covered_in g was n q) ∙ ap (λ b. if covered_in g was n q && b then NL else mode_of was q) (sym (grown ∙ or_right (before q) (same_node q here) e)))
+        ∙ all (covered_in g was n q) ∙ ap (λ b. if covered_in g was n q && b then NL else mode_of was q)
+        (sym (grown ∙ or_right (before q) (same_node q here) e)))
         (λ e. step q ∙ ap (λ b. if b && covered_in g l n here then NL else mode_of l q) e ∙ h q
         ∙ ap (λ b. if covered_in g was n q && b then NL else mode_of was q) (sym (grown ∙ ap (λ b. before q || b) e ∙ or-false (before q))))
       where
@@ -129,9 +122,12 @@ module _ (g : Graph) (n : NodeId) (was : LockList) (counted : (c p : NodeId) →
         all false = refl
 
   -- each covered child is listed
-  pub marks_end : (l : LockList) (at : ℕ) → length (keys was.entries) ≤ at → HasMarked g n was l (take at (keys was.entries)) → (q : NodeId) → mode_of l q ≡ (if covered_in g was n q then NL else mode_of was q)
+  pub marks_end : (l : LockList) (at : ℕ) → length (keys was.entries) ≤ at → HasMarked g n was l (take at (keys was.entries)) → (q : NodeId)
+      → mode_of l q ≡ (if covered_in g was n q then NL else mode_of was q)
   marks_end l at le h q = split (covered_in g was n q)
       (λ e. let seen : list_any (same_node q) (take at (keys was.entries)) ≡ true
-      = ap (list_any (same_node q)) (take_all at (keys was.entries) le) ∙ held_listed was q (held_in (is_child g n q) (not (same_mode (mode_of was q) NL)) (count_of was q == 0) (not (same_mode (mode_of was q) X) || list_all (λ p. same_mode (mode_of was p) X) (parents_of g q)) e) in
+      = ap (list_any (same_node q)) (take_all at (keys was.entries) le)
+      ∙ held_listed was q (held_in (is_child g n q) (not (same_mode (mode_of was q) NL)) (count_of was q == 0)
+      (not (same_mode (mode_of was q) X) || list_all (λ p. same_mode (mode_of was p) X) (parents_of g q)) e) in
       h q ∙ ap₂ (λ a b. if a && b then NL else mode_of was q) e seen ∙ sym (ap (λ b. if b then NL else mode_of was q) e))
       (λ e. stays l (take at (keys was.entries)) h q e ∙ sym (ap (λ b. if b then NL else mode_of was q) e))

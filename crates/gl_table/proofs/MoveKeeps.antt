@@ -1,26 +1,11 @@
 -- A node gets other parents: the law of a state is kept, since the mover's X keeps all others from the node.
-use Rattle.std.specs.Prelude.{cond, ◌≡◌, ◌≢◌, ◌⊎◌, ℕ, ◌<◌, ◌≤◌, Bool, true, false, not, ◌&&◌, ◌||◌, ◌==◌, List, [], ◌∷◌, Some, is_some, if◌then◌else◌}
-use Rattle.std.specs.List.{list_all, list_any, filter}
-use Rattle.std.proofs.Common.{refl, sym, ap, ap₂, ◌∙◌, subst, arith, rules, ⊎_elim}
-use mathlib.Core.Bool.{true≢false}
-use Rattle.gl_modes.specs.declared.mode.Mode.{Mode}
-use Rattle.gl_modes.specs.declared.mode.Mode.TheVariants.{NL, IS, IX, X}
-use Rattle.gl_modes.specs.declared.node.NodeId.{NodeId}
-use Rattle.gl_modes.specs.Modes.{are_compatible, is_at_least, same_mode}
-use Rattle.gl_table.specs.declared.txn.Status.TheVariants.{Active, Waiting}
-use Rattle.gl_graph.specs.Graph.{Graph, parents_of, is_live, shape_of}
-use Rattle.gl_modes.specs.Nodes.{same_node}
-use Rattle.gl_graph.specs.Shapes.{is_record_shape}
-use Rattle.gl_graph.specs.Lawful.{IsLawfulGraph}
-use Rattle.gl_header.specs.Header.{fits, holds, front, is_waiter, is_among_waiters, is_ahead}
-use Rattle.gl_table.specs.State.{State, members, status_of, age_of}
-use Rattle.gl_table.specs.Pumps.{waits_at, is_waiting_at}
-use Rattle.gl_table.specs.Intends.{intends, intends_over, is_write, no_parents}
-use Rattle.gl_table.specs.Lawful.{ModeFitsKind, IsLawful}
-use Rattle.gl_table.specs.Calls.{stays, moved_to}
-use Rattle.gl_graph.proofs.Look.{split, no, and_both, or_elim, same_number, other_number, same_node_is, other_node}
+use Rattle.gl_table.proofs.Words.{[], ◌&&◌, ◌<◌, ◌==◌, ◌||◌, ◌∙◌, ◌∷◌, ◌≡◌, ◌≢◌, ◌≤◌, ◌⊎◌, Active, age_of, and_both, ap, ap₂, are_compatible, arith, Bool, cond}
+use Rattle.gl_table.proofs.Words.{false, filter, fits, front, Graph, holds, if◌then◌else◌, intends, intends_over, IS, is_ahead, is_among_waiters, is_at_least}
+use Rattle.gl_table.proofs.Words.{is_live, is_record_shape, is_some, is_waiter, is_waiting_at, is_write, IsLawful, IsLawfulGraph, IX, List, list_all, list_any}
+use Rattle.gl_table.proofs.Words.{members, Mode, ModeFitsKind, moved_to, NL, no, no_parents, NodeId, not, or_elim, other_node, other_number, parents_of}
+use Rattle.gl_table.proofs.Words.{range-each, refl, rules, same_mode, same_node, same_node_is, same_number, shape_of, Some, split, State, status_of, stays}
+use Rattle.gl_table.proofs.Words.{subst, sym, true, true≢false, Waiting, waits_at, X, ℕ, ⊎_elim}
 use Rattle.gl_table.proofs.NoConflict.{x_blocks, any_all, holds_one, x_is}
-use Rattle.gl_header.proofs.Ranges.{range-each}
 use Rattle.gl_table.proofs.GrantKeeps.{nl_is, txn_there, apart}
 use Rattle.gl_table.proofs.Movers.{HoldsNode, HoldsParents}
 use Rattle.gl_table.proofs.Waiting.{any_left, one_stays, one_left, unless_some, unless_age, unless_waits, waits_unless}
@@ -41,23 +26,28 @@ all_x_ix held [] h = refl
 all_x_ix held (p ∷ ps) h = let t = and_both _ _ h in ap₂ (λ a b. a && b) (x_is (held p) t.0) (all_x_ix held ps t.1)
 
 -- who writes over IX on all parents meets the rule; so does everyone over X on all of some
-write_intends : (held : NodeId → Mode) (ps : List NodeId) (m : Mode) → is_write m ≡ true → list_all (λ p. is_at_least (held p) IX) ps ≡ true → intends_over held ps m ≡ true
+write_intends : (held : NodeId → Mode) (ps : List NodeId) (m : Mode) → is_write m ≡ true → list_all (λ p. is_at_least (held p) IX) ps ≡ true
+    → intends_over held ps m ≡ true
 write_intends held ps m w h = ap (λ b. cond b (list_all (λ p. is_at_least (held p) IX) ps) (no_parents ps || list_any (λ p. is_at_least (held p) IS) ps)) w ∙ h
 
-x_intends : (held : NodeId → Mode) (ps : List NodeId) (m : Mode) → no_parents ps ≡ false → list_all (λ p. same_mode (held p) X) ps ≡ true → intends_over held ps m ≡ true
+x_intends : (held : NodeId → Mode) (ps : List NodeId) (m : Mode) → no_parents ps ≡ false → list_all (λ p. same_mode (held p) X) ps ≡ true
+    → intends_over held ps m ≡ true
 x_intends held [] m some h = absurd (true≢false some)
 x_intends held (p ∷ ps) m some h =
     let t = and_both _ _ h in
     split (is_write m) (λ w. write_intends held (p ∷ ps) m w (all_x_ix held (p ∷ ps) h))
-    (λ r. ap (λ b. cond b (list_all (λ q. is_at_least (held q) IX) (p ∷ ps)) (list_any (λ q. is_at_least (held q) IS) (p ∷ ps))) r ∙ ap (λ b. b || list_any (λ q. is_at_least (held q) IS) ps) (x_at_least_is (held p) t.0))
+    (λ r. ap (λ b. cond b (list_all (λ q. is_at_least (held q) IX) (p ∷ ps)) (list_any (λ q. is_at_least (held q) IS) (p ∷ ps))) r
+    ∙ ap (λ b. b || list_any (λ q. is_at_least (held q) IS) ps) (x_at_least_is (held p) t.0))
 
 -- under X of t on all of some parents, nobody else meets the rule
-x_excludes : (ht hu : NodeId → Mode) (ps : List NodeId) (m : Mode) → ((p : NodeId) → are_compatible (ht p) (hu p) ≡ true) → no_parents ps ≡ false → list_all (λ p. same_mode (ht p) X) ps ≡ true → intends_over hu ps m ≡ true → ⊥
+x_excludes : (ht hu : NodeId → Mode) (ps : List NodeId) (m : Mode) → ((p : NodeId) → are_compatible (ht p) (hu p) ≡ true) → no_parents ps ≡ false
+    → list_all (λ p. same_mode (ht p) X) ps ≡ true → intends_over hu ps m ≡ true → ⊥
 x_excludes ht hu ps m fit some x rule =
     let found = any_all _ _ ps (holds_one hu ps m (ap not some) rule) x in
     x_blocks (ht found.0) (hu found.0) found.2 found.1 (fit found.0)
 
-module _ (s : State) (law : IsLawful s) (t : ℕ) (n : NodeId) (ps : List NodeId) (active : status_of s t ≡ Some Active) (right : HoldsNode s t n ps ⊎ HoldsParents s t n ps) where
+module _ (s : State) (law : IsLawful s) (t : ℕ) (n : NodeId) (ps : List NodeId) (active : status_of s t ≡ Some Active)
+    (right : HoldsNode s t n ps ⊎ HoldsParents s t n ps) where
   mover_waits_not : (q : NodeId) (m : Mode) → status_of s t ≡ Some (Waiting q m) → ⊥
   mover_waits_not q m e = apart (sym active ∙ e)
 
@@ -68,8 +58,10 @@ module _ (s : State) (law : IsLawful s) (t : ℕ) (n : NodeId) (ps : List NodeId
       (λ e.
       let ne : t ≢ u = λ same. other_number u t e (sym same) in
       absurd (⊎_elim
-      (λ (a : HoldsNode s t n ps). true≢false (sym h ∙ ap (λ m. not (same_mode m NL)) (x_above (s.held u n) (s.held t n) a.x (law.compatible u t n (λ same. ne (sym same))))))
-      (λ (b : HoldsParents s t n ps). x_excludes (s.held t) (s.held u) (parents_of s.graph n) (s.held u n) (λ p. law.compatible t u p ne) b.some_old b.old (law.grants_intend u n h))
+      (λ (a : HoldsNode s t n ps). true≢false (sym h ∙ ap (λ m. not (same_mode m NL))
+      (x_above (s.held u n) (s.held t n) a.x (law.compatible u t n (λ same. ne (sym same))))))
+      (λ (b : HoldsParents s t n ps). x_excludes (s.held t) (s.held u) (parents_of s.graph n) (s.held u n) (λ p. law.compatible t u p ne) b.some_old b.old
+      (law.grants_intend u n h))
       right))
 
   mover_below : HoldsNode s t n ps → t < s.most
@@ -89,19 +81,23 @@ module _ (s : State) (law : IsLawful s) (t : ℕ) (n : NodeId) (ps : List NodeId
       split (fits s.most (members s n) u m)
       (λ fit. absurd (⊎_elim
       (λ (a : HoldsNode s t n ps).
-      let at : ((t == u) || are_compatible m (s.held t n)) ≡ true = range-each (λ v. (v == u) || are_compatible m (s.held v n)) 0 s.most fit t (omega arith) (let low = mover_below a in omega arith) in
+      let at : ((t == u) || are_compatible m (s.held t n))
+      ≡ true = range-each (λ v. (v == u) || are_compatible m (s.held v n)) 0 s.most fit t (omega arith) (let low = mover_below a in omega arith) in
       or_elim (t == u) (are_compatible m (s.held t n)) at (λ is. ne (same_number t u is)) (λ c. was.1 (x_above m (s.held t n) a.x c)))
       (λ (b : HoldsParents s t n ps). x_excludes (s.held t) (s.held u) (parents_of s.graph n) m (λ p. law.compatible t u p ne) b.some_old b.old was.0)
       right))
       (λ f. f)
 
   -- by any limit that serves
-  pub waiters_stuck : (limit : ℕ) → ((u : ℕ) (m : Mode) → fits s.most (members s n) u m ≡ fits limit (members s n) u m) → list_all (λ w. not (fits limit (members s n) w.0 w.1)) (s.queue n) ≡ true
+  pub waiters_stuck : (limit : ℕ) → ((u : ℕ) (m : Mode) → fits s.most (members s n) u m ≡ fits limit (members s n) u m)
+      → list_all (λ w. not (fits limit (members s n) w.0 w.1)) (s.queue n) ≡ true
   waiters_stuck limit same = all_waits (λ w. not (fits limit (members s n) w.0 w.1)) (s.queue n) (λ u h.
       let st = waiting_is (status_of s u) n (law.waits_are u n h) in
-      ap (list_all (λ w. not (fits limit (members s n) w.0 w.1))) (law.one_wait u n st.0 st.1) ∙ ap (λ b. not b && true) (sym (same u st.0) ∙ waiter_stuck u st.0 st.1))
+      ap (list_all (λ w. not (fits limit (members s n) w.0 w.1))) (law.one_wait u n st.0 st.1)
+      ∙ ap (λ b. not b && true) (sym (same u st.0) ∙ waiter_stuck u st.0 st.1))
 
-  module _ (g' : Graph) (lawful : IsLawfulGraph g') (live : (q : NodeId) → is_live g' q ≡ is_live s.graph q) (rec : (q : NodeId) → is_record_shape (shape_of g' q) ≡ is_record_shape (shape_of s.graph q))
+  module _ (g' : Graph) (lawful : IsLawfulGraph g') (live : (q : NodeId) → is_live g' q ≡ is_live s.graph q) (rec : (q : NodeId)
+      → is_record_shape (shape_of g' q) ≡ is_record_shape (shape_of s.graph q))
       (others : (q : NodeId) → q ≢ n → parents_of g' q ≡ parents_of s.graph q) (here : parents_of g' n ≡ ps) where
     abbrev after : State
     after = moved_to s n ps g'
@@ -129,19 +125,22 @@ module _ (s : State) (law : IsLawful s) (t : ℕ) (n : NodeId) (ps : List NodeId
     queue_there : (q : NodeId) → same_node q n ≡ false → after.queue q ≡ s.queue q
     queue_there q e = ap (λ b. if b then filter (stays s ps) (s.queue q) else s.queue q) e
 
-    waited : (u : ℕ) (q : NodeId) (m : Mode) → status_of after u ≡ Some (Waiting q m) → (status_of s u ≡ Some (Waiting q m)) × (same_node q n ≡ true → keeps u ≡ true)
+    waited : (u : ℕ) (q : NodeId) (m : Mode) → status_of after u ≡ Some (Waiting q m) → (status_of s u ≡ Some (Waiting q m))
+        × (same_node q n ≡ true → keeps u ≡ true)
     waited u q m st = unless_waits keeps n q m u (s.txns u) st
 
     -- a wait that is left on the node meets the rule over the new parents
     stayed : (u : ℕ) (q : NodeId) (m : Mode) → status_of after u ≡ Some (Waiting q m) → same_node q n ≡ true → intends_over (s.held u) ps m ≡ true
     stayed u q m st e =
         let old = waited u q m st in
-        one_stays (is_waiter u) (stays s ps) (s.queue n) (u, m) (ap (λ x. filter (is_waiter u) (s.queue x)) (sym (same_node_is q n e)) ∙ law.one_wait u q m old.0) (old.1 e)
+        one_stays (is_waiter u) (stays s ps) (s.queue n) (u, m) (ap (λ x. filter (is_waiter u) (s.queue x)) (sym (same_node_is q n e))
+        ∙ law.one_wait u q m old.0) (old.1 e)
 
     among_was : (u : ℕ) (q : NodeId) → is_among_waiters u (after.queue q) ≡ true → is_among_waiters u (s.queue q) ≡ true
     among_was u q h =
         split (same_node q n)
-        (λ e. ap (λ x. is_among_waiters u (s.queue x)) (same_node_is q n e) ∙ any_left (is_waiter u) (stays s ps) (s.queue n) (sym (ap (is_among_waiters u) (queue_here q e)) ∙ h))
+        (λ e. ap (λ x. is_among_waiters u (s.queue x)) (same_node_is q n e)
+        ∙ any_left (is_waiter u) (stays s ps) (s.queue n) (sym (ap (is_among_waiters u) (queue_here q e)) ∙ h))
         (λ e. sym (ap (is_among_waiters u) (queue_there q e)) ∙ h)
 
     one_wait_after : (u : ℕ) (q : NodeId) (m : Mode) → status_of after u ≡ Some (Waiting q m) → filter (is_waiter u) (after.queue q) ≡ (u, m) ∷ []
@@ -149,7 +148,8 @@ module _ (s : State) (law : IsLawful s) (t : ℕ) (n : NodeId) (ps : List NodeId
         let old = waited u q m st in
         split (same_node q n)
         (λ e. ap (filter (is_waiter u)) (queue_here q e)
-        ∙ one_left (is_waiter u) (stays s ps) (s.queue n) (u, m) (ap (λ x. filter (is_waiter u) (s.queue x)) (sym (same_node_is q n e)) ∙ law.one_wait u q m old.0) (stayed u q m st e))
+        ∙ one_left (is_waiter u) (stays s ps) (s.queue n) (u, m) (ap (λ x. filter (is_waiter u) (s.queue x)) (sym (same_node_is q n e))
+        ∙ law.one_wait u q m old.0) (stayed u q m st e))
         (λ e. ap (filter (is_waiter u)) (queue_there q e) ∙ law.one_wait u q m old.0)
 
     waits_are_after : (u : ℕ) (q : NodeId) → is_among_waiters u (after.queue q) ≡ true → is_waiting_at after u q ≡ true
@@ -159,7 +159,8 @@ module _ (s : State) (law : IsLawful s) (t : ℕ) (n : NodeId) (ps : List NodeId
     front_after q =
         split (same_node q n)
         (λ e. ap (front s.most (members s q)) (queue_here q e) ∙ ap (λ x. front s.most (members s x) (filter (stays s ps) (s.queue n))) (same_node_is q n e)
-        ∙ stuck_front s.most (members s n) (filter (stays s ps) (s.queue n)) (all_filtered (λ w. not (fits s.most (members s n) w.0 w.1)) (stays s ps) (s.queue n) (waiters_stuck s.most (λ u m. refl))))
+        ∙ stuck_front s.most (members s n) (filter (stays s ps) (s.queue n))
+        (all_filtered (λ w. not (fits s.most (members s n) w.0 w.1)) (stays s ps) (s.queue n) (waiters_stuck s.most (λ u m. refl))))
         (λ e. ap (front s.most (members s q)) (queue_there q e) ∙ law.front_waits q)
 
     some_txn : (u : ℕ) → is_some (after.txns u) ≡ is_some (s.txns u)
@@ -179,7 +180,8 @@ module _ (s : State) (law : IsLawful s) (t : ℕ) (n : NodeId) (ps : List NodeId
           (λ e.
           let held_here : holds (members s n) u ≡ true = ap (λ x. holds (members s x) u) (sym (same_node_is q n e)) ∙ h in
           let mover = only_mover u held_here in
-          rule_here u q (s.held u q) e (subst (λ v. intends_over (s.held v) ps (s.held v q) ≡ true) (sym mover) (mover_intends (s.held t q) (ap (s.held t) (same_node_is q n e)))))
+          rule_here u q (s.held u q) e (subst (λ v. intends_over (s.held v) ps (s.held v q) ≡ true) (sym mover)
+          (mover_intends (s.held t q) (ap (s.held t) (same_node_is q n e)))))
           (λ e. rule_elsewhere u q (s.held u q) e (law.grants_intend u q h));
       waits_intend = λ u q m st.
           let old = waited u q m st in

@@ -1,20 +1,7 @@
 -- A node moves: no step from one who waits to another is new, and so no cycle.
-use Rattle.std.specs.Prelude.{◌≡◌, ℕ, Bool, true, false, not, ◌&&◌, ◌||◌, ◌==◌, List, [], ◌∷◌, Some, if◌then◌else◌}
-use Rattle.std.specs.List.{filter}
-use Rattle.std.proofs.Common.{refl, sym, ◌∙◌}
-use Rattle.gl_modes.specs.declared.mode.Mode.{Mode}
-use Rattle.gl_modes.specs.declared.node.NodeId.{NodeId}
-use Rattle.gl_modes.specs.Modes.{are_compatible}
-use Rattle.gl_modes.specs.Nodes.{same_node}
-use Rattle.gl_graph.specs.Graph.{Graph}
-use Rattle.gl_graph.proofs.Look.{or_elim, or_left, or_right}
-use Rattle.gl_header.specs.Header.{Waiter, is_ahead, is_among_waiters, is_waiter}
-use Rattle.gl_waits.proofs.CycleLemmas.{less-no_cycle}
-use Rattle.gl_table.specs.declared.txn.Status.TheVariants.{Waiting}
-use Rattle.gl_table.specs.Calls.{moved_to, stays}
-use Rattle.gl_table.specs.Lawful.{IsLawful}
-use Rattle.gl_table.specs.State.{State, status_of}
-use Rattle.gl_table.specs.Waiting.{HasNoCycle, waits_for}
+use Rattle.gl_table.proofs.Words.{[], ◌&&◌, ◌==◌, ◌||◌, ◌∙◌, ◌∷◌, ◌≡◌, are_compatible, Bool, false, filter, Graph, HasNoCycle, if◌then◌else◌, is_ahead}
+use Rattle.gl_table.proofs.Words.{is_among_waiters, is_waiter, IsLawful, less-no_cycle, List, Mode, moved_to, NodeId, not, or_elim, or_left, or_right, refl}
+use Rattle.gl_table.proofs.Words.{same_node, Some, State, status_of, stays, sym, true, Waiter, Waiting, waits_for, ℕ}
 use Rattle.gl_table.proofs.Edges.{is_step, step_is}
 use Rattle.gl_table.proofs.Queues.{ahead, ahead_first, ahead_is, clash, none_filtered}
 use Rattle.gl_table.proofs.Waiting.{unless_waits}
@@ -24,7 +11,8 @@ kept_ahead : (f : Waiter → Bool) (a b : ℕ) (v : Waiter) (q : List Waiter) �
 kept_ahead f a b v [] one h = h
 kept_ahead f a b v (w ∷ q) one h = by (f w) (w.0 == a) (w.0 == b) refl one (sym (pushed (f w)) ∙ h) (kept_ahead f a b v q) none_left (among_kept q)
   where
-    pushed : (x : Bool) → ahead (if x then w ∷ filter f q else filter f q) a b ≡ (if x then not (w.0 == a) && (if w.0 == b then is_among_waiters a (filter f q) else ahead (filter f q) a b) else ahead (filter f q) a b)
+    pushed : (x : Bool) → ahead (if x then w ∷ filter f q else filter f q) a b
+        ≡ (if x then not (w.0 == a) && (if w.0 == b then is_among_waiters a (filter f q) else ahead (filter f q) a b) else ahead (filter f q) a b)
     pushed true = refl
     pushed false = refl
 
@@ -32,8 +20,10 @@ kept_ahead f a b v (w ∷ q) one h = by (f w) (w.0 == a) (w.0 == b) refl one (sy
     among_kept [] k = k
     among_kept (u ∷ l) k = at (f u) k (among_kept l)
       where
-        at : (x : Bool) → is_among_waiters a (if x then u ∷ filter f l else filter f l) ≡ true → (is_among_waiters a (filter f l) ≡ true → is_among_waiters a l ≡ true) → ((u.0 == a) || is_among_waiters a l) ≡ true
-        at true e r = or_elim (u.0 == a) (is_among_waiters a (filter f l)) e (λ g. or_left (u.0 == a) (is_among_waiters a l) g) (λ g. or_right (u.0 == a) (is_among_waiters a l) (r g))
+        at : (x : Bool) → is_among_waiters a (if x then u ∷ filter f l else filter f l) ≡ true
+            → (is_among_waiters a (filter f l) ≡ true → is_among_waiters a l ≡ true) → ((u.0 == a) || is_among_waiters a l) ≡ true
+        at true e r = or_elim (u.0 == a) (is_among_waiters a (filter f l)) e (λ g. or_left (u.0 == a) (is_among_waiters a l) g)
+            (λ g. or_right (u.0 == a) (is_among_waiters a l) (r g))
         at false e r = or_right (u.0 == a) (is_among_waiters a l) (r e)
 
     none_left : w ∷ filter (is_waiter a) q ≡ v ∷ [] → is_among_waiters a q ≡ false
@@ -52,7 +42,8 @@ kept_ahead f a b v (w ∷ q) one h = by (f w) (w.0 == a) (w.0 == b) refl one (sy
     by false false true ex o k r n g = g (ahead_first (filter f q) a b k)
     by false false false ex o k r n g = r o k
 
-pub moved_steps : (s : State) → IsLawful s → (r : NodeId) (ps : List NodeId) (g : Graph) (x y : ℕ) → waits_for (moved_to s r ps g) x y ≡ true → waits_for s x y ≡ true
+pub moved_steps : (s : State) → IsLawful s → (r : NodeId) (ps : List NodeId) (g : Graph) (x y : ℕ) → waits_for (moved_to s r ps g) x y ≡ true
+    → waits_for s x y ≡ true
 moved_steps s law r ps g x y h =
     let st = step_is (moved_to s r ps g) x y h in let n = st.0 in let m = st.1 in
     let was = (unless_waits (λ v. is_among_waiters v (filter (stays s ps) (s.queue r))) r n m x (s.txns x) st.2.waits).0 in
@@ -64,8 +55,10 @@ moved_steps s law r ps g x y h =
           (λ b. or_right (not (are_compatible m (s.held y n))) (is_ahead (s.queue n) x y) (order n m was (same_node n r) b));
     })
   where
-    order : (n : NodeId) (m : Mode) → status_of s x ≡ Some (Waiting n m) → (b : Bool) → is_ahead (if b then filter (stays s ps) (s.queue n) else s.queue n) x y ≡ true → is_ahead (s.queue n) x y ≡ true
-    order n m st true k = ahead_is (s.queue n) x y ∙ kept_ahead (stays s ps) x y (x, m) (s.queue n) (law.one_wait x n m st) (sym (ahead_is (filter (stays s ps) (s.queue n)) x y) ∙ k)
+    order : (n : NodeId) (m : Mode) → status_of s x ≡ Some (Waiting n m) → (b : Bool)
+        → is_ahead (if b then filter (stays s ps) (s.queue n) else s.queue n) x y ≡ true → is_ahead (s.queue n) x y ≡ true
+    order n m st true k = ahead_is (s.queue n) x y ∙ kept_ahead (stays s ps) x y (x, m) (s.queue n) (law.one_wait x n m st)
+        (sym (ahead_is (filter (stays s ps) (s.queue n)) x y) ∙ k)
     order n m st false k = k
 
 pub moved-no_cycle : (s : State) → IsLawful s → (r : NodeId) (ps : List NodeId) (g : Graph) → HasNoCycle s → HasNoCycle (moved_to s r ps g)

@@ -1,25 +1,8 @@
 -- A node moves: whose wait is lost is told so, and nobody else is told anything.
-use Rattle.std.specs.Prelude.{◌≡◌, ℕ, true, false, not, List, Some, None, if◌then◌else◌}
-use Rattle.std.specs.List.{filter}
-use Rattle.std.proofs.Common.{sym, ap, ap₂, ◌∙◌}
-use Rattle.gl_modes.specs.declared.mode.Mode.TheVariants.{NL}
-use Rattle.gl_modes.specs.declared.node.NodeId.{NodeId}
-use Rattle.gl_modes.specs.Modes.{same_mode}
-use Rattle.std.proofs.lemmas.Bool.{not-true}
-use Rattle.gl_modes.proofs.ModeLemmas.{same_mode-equal}
-use Rattle.gl_modes.proofs.NodeLemmas.{same_node-refl}
-use Rattle.gl_graph.specs.Graph.{Graph, is_live}
-use Rattle.gl_graph.proofs.Look.{split}
-use Rattle.gl_header.specs.Header.{is_among_waiters, is_waiter}
-use Rattle.gl_header.proofs.Ranges.{not_true}
+use Rattle.gl_table.proofs.Words.{◌∙◌, ◌≡◌, Active, addressed, age_of, ap, ap₂, false, filter, freed, Graph, if◌then◌else◌, is_among_waiters, is_live}
+use Rattle.gl_table.proofs.Words.{is_waiter, IsOrderly, List, moved_to, NL, NodeId, None, not, not-true, not_true, notice_of, same_mode, same_mode-equal}
+use Rattle.gl_table.proofs.Words.{same_node-refl, Some, split, State, status_in, stays, sym, told_from, told_to, true, Waiting, waits_at, ℕ}
 use Rattle.gl_table.specs.declared.notice.Notice.TheVariants as notice
-use Rattle.gl_table.specs.declared.txn.Status.TheVariants.{Active, Waiting}
-use Rattle.gl_table.specs.Calls.{freed, moved_to, stays}
-use Rattle.gl_table.specs.Locks.{IsOrderly}
-use Rattle.gl_table.specs.Pumps.{waits_at}
-use Rattle.gl_table.specs.State.{State, age_of, status_in}
-use Rattle.gl_table.specs.Tellings.{addressed, notice_of, told_from}
-use Rattle.gl_table.specs.Tells.{told_to}
 use Rattle.gl_table.proofs.OneWaits.{stands_there}
 use Rattle.gl_table.proofs.Queues.{clash}
 use Rattle.gl_table.proofs.Strays.{among_failing}
@@ -43,13 +26,15 @@ module _ (s : State) (o : IsOrderly s) (n : NodeId) (ps : List NodeId) (g : Grap
       ∙ ap (λ x. addressed (record { slot = u; age = age_of s u }) (notice_of after u n wait.0 (status_in x)))
       (ap (λ b. if b then s.txns u else freed n (s.txns u)) out ∙ freed_here n wait.0 (s.txns u) wait.1)
       ∙ ap (λ st. addressed (record { slot = u; age = age_of s u }) (notice_of after u n wait.0 st)) (restatus_is Active (Waiting n wait.0) (s.txns u) wait.1)
-      ∙ ap₂ (λ a b. addressed (record { slot = u; age = age_of s u }) (if not a then Some notice.Gone else (if b then Some (notice.Granted n wait.0) else Some notice.Moved)))
+      ∙ ap₂ (λ a b. addressed (record { slot = u; age = age_of s u })
+      (if not a then Some notice.Gone else (if b then Some (notice.Granted n wait.0) else Some notice.Moved)))
       (live u stood) (ap (λ m. same_mode m wait.0) (bare u stood) ∙ not_true _ (λ k. (o.one_wait u n wait.0 wait.1).1 (sym (same_mode-equal NL wait.0 k))))
 
   others_untold : (u : ℕ) → is_lost s n (stays s ps) u ≡ false → told_to s after u ≡ None
   others_untold u h = quiet_told s after u (ap status_in (split (is_among_waiters u (filter (stays s ps) (s.queue n)))
       (λ e. ap (λ b. if b then s.txns u else freed n (s.txns u)) e)
-      (λ e. ap (λ b. if b then s.txns u else freed n (s.txns u)) e ∙ freed_other n (s.txns u) (not_true _ (λ k. clash (among_failing (stays s ps) u (s.queue n) (stands_there s o u n k) e) h)))))
+      (λ e. ap (λ b. if b then s.txns u else freed n (s.txns u)) e
+      ∙ freed_other n (s.txns u) (not_true _ (λ k. clash (among_failing (stays s ps) u (s.queue n) (stands_there s o u n k) e) h)))))
 
   pub moved_told : (u : ℕ) → told_to s after u ≡ (if is_lost s n (stays s ps) u then moved_notice s u else None)
   moved_told u = is_by_test (is_lost s n (stays s ps) u) (lost_told u) (others_untold u)

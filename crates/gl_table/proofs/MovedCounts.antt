@@ -1,15 +1,7 @@
 -- A node has other parents: how many children of each node pass a test.
-use Rattle.std.specs.Prelude.{◌≡◌, ◌≢◌, ℕ, ◌+◌, ◌≤◌, Bool, true, false, not, ◌&&◌, if◌then◌else◌}
-use Rattle.std.specs.List.{count_by, list_any}
-use Rattle.std.proofs.Common.{refl, sym, ap, ap₂, ◌∙◌, arith}
-use Rattle.std.proofs.Math.Path.{fun_ext}
-use Rattle.gl_modes.specs.declared.node.NodeId.{NodeId}
-use Rattle.gl_modes.specs.Nodes.{same_node}
-use Rattle.gl_modes.proofs.NodeLemmas.{same_node-equal, same_node-refl}
-use Rattle.gl_graph.specs.Graph.{Graph, is_child, is_live, nodes, parents_of}
-use Rattle.gl_graph.specs.Lawful.{IsLawfulGraph}
-use Rattle.gl_graph.proofs.Look.{other_node, split}
-use Rattle.gl_table.specs.Steps.{children_that}
+use Rattle.gl_table.proofs.Words.{◌&&◌, ◌+◌, ◌∙◌, ◌≡◌, ◌≢◌, ◌≤◌, ap, ap₂, arith, Bool, children_that, count_by, false, fun_ext, Graph, if◌then◌else◌, is_child}
+use Rattle.gl_table.proofs.Words.{is_live, IsLawfulGraph, list_any, NodeId, nodes, not, other_node, parents_of, refl, same_node, same_node-equal}
+use Rattle.gl_table.proofs.Words.{same_node-refl, split, sym, true, ℕ}
 use Rattle.gl_table.proofs.Children.{children_down}
 
 -- a test that fails one node more
@@ -32,10 +24,12 @@ module _ (n : NodeId) (f : NodeId → Bool) where
       by false = refl
 
   -- where the node passes, each of its parents has it as a child that does
-  pub parents_counted : (g : Graph) → IsLawfulGraph g → is_live g n ≡ true → f n ≡ true → (p : NodeId) → count_by (same_node p) (parents_of g n) ≤ children_that g f p
+  pub parents_counted : (g : Graph) → IsLawfulGraph g → is_live g n ≡ true → f n ≡ true → (p : NodeId)
+      → count_by (same_node p) (parents_of g n) ≤ children_that g f p
   parents_counted g law live passes p = let less = children_down g law f rest n live passes rest_here rest_there p in omega arith
 
-module _ (g g' : Graph) (law : IsLawfulGraph g) (law' : IsLawfulGraph g') (n : NodeId) (same : nodes g' ≡ nodes g) (others : (q : NodeId) → q ≢ n → parents_of g' q ≡ parents_of g q)
+module _ (g g' : Graph) (law : IsLawfulGraph g) (law' : IsLawfulGraph g') (n : NodeId) (same : nodes g' ≡ nodes g) (others : (q : NodeId) → q ≢ n
+    → parents_of g' q ≡ parents_of g q)
     (live : is_live g n ≡ true) (live' : is_live g' n ≡ true) (f : NodeId → Bool) where
   rest_same : (p : NodeId) → children_that g' (rest n f) p ≡ children_that g (rest n f) p
   rest_same p = ap₂ (λ (t : NodeId → Bool) xs. count_by t xs) (fun_ext each) same
@@ -46,19 +40,24 @@ module _ (g g' : Graph) (law : IsLawfulGraph g) (law' : IsLawfulGraph g') (n : N
 
       each : (c : NodeId) → (is_child g' p c && rest n f c) ≡ (is_child g p c && rest n f c)
       each c = split (same_node c n)
-          (λ e. let gone = ap (rest n f) (same_node-equal c n e) ∙ rest_here n f in out (is_child g' p c) (rest n f c) gone ∙ sym (out (is_child g p c) (rest n f c) gone))
+          (λ e. let gone = ap (rest n f) (same_node-equal c n e) ∙ rest_here n f in out (is_child g' p c) (rest n f c) gone
+          ∙ sym (out (is_child g p c) (rest n f c) gone))
           (λ e. ap (λ ps. list_any (same_node p) ps && rest n f c) (others c (other_node c n e)))
 
   -- where the node passes, each old parent has one child less, and each new one more
-  pub children_moved : (p : NodeId) → children_that g' f p + (if f n then count_by (same_node p) (parents_of g n) else 0) ≡ children_that g f p + (if f n then count_by (same_node p) (parents_of g' n) else 0)
+  pub children_moved : (p : NodeId) → children_that g' f p + (if f n then count_by (same_node p) (parents_of g n) else 0)
+      ≡ children_that g f p + (if f n then count_by (same_node p) (parents_of g' n) else 0)
   children_moved p = split (f n)
       (λ e.
       let old = children_down g law f (rest n f) n live e (rest_here n f) (rest_there n f) p in
       let new = children_down g' law' f (rest n f) n live' e (rest_here n f) (rest_there n f) p in
       let both = rest_same p in
       let all : children_that g' f p + count_by (same_node p) (parents_of g n) ≡ children_that g f p + count_by (same_node p) (parents_of g' n) = omega arith in
-      ap (λ b. children_that g' f p + (if b then count_by (same_node p) (parents_of g n) else 0)) e ∙ all ∙ sym (ap (λ b. children_that g f p + (if b then count_by (same_node p) (parents_of g' n) else 0)) e))
+      ap (λ b. children_that g' f p + (if b then count_by (same_node p) (parents_of g n) else 0)) e ∙ all
+      ∙ sym (ap (λ b. children_that g f p + (if b then count_by (same_node p) (parents_of g' n) else 0)) e))
       (λ e.
-      let alike : rest n f ≡ f = fun_ext (λ c. split (same_node c n) (λ k. let at = same_node-equal c n k in ap (rest n f) at ∙ rest_here n f ∙ sym (ap f at ∙ e)) (rest_there n f c)) in
+      let alike : rest n f ≡ f = fun_ext (λ c. split (same_node c n) (λ k. let at = same_node-equal c n k in ap (rest n f) at ∙ rest_here n f
+      ∙ sym (ap f at ∙ e)) (rest_there n f c)) in
       let all : children_that g' f p ≡ children_that g f p = ap (λ t. children_that g' t p) (sym alike) ∙ rest_same p ∙ ap (λ t. children_that g t p) alike in
-      ap₂ (λ (k : ℕ) b. k + (if b then count_by (same_node p) (parents_of g n) else 0)) all e ∙ sym (ap (λ b. children_that g f p + (if b then count_by (same_node p) (parents_of g' n) else 0)) e))
+      ap₂ (λ (k : ℕ) b. k + (if b then count_by (same_node p) (parents_of g n) else 0)) all e
+      ∙ sym (ap (λ b. children_that g f p + (if b then count_by (same_node p) (parents_of g' n) else 0)) e))

@@ -1,26 +1,12 @@
 -- A node that moves: what may be done to it, and what its move leaves.
-use Rattle.std.specs.Prelude.{◌≡◌, ◌≢◌, ◌⊎◌, ℕ, Bool, true, false, ◌&&◌, List, length, Option, Some, None}
-use Rattle.std.proofs.Common.{refl, sym, ap, ◌∙◌, subst}
-use Rattle.gl_modes.specs.declared.node.NodeId.{NodeId}
-use Rattle.gl_graph.specs.Graph.{Graph, Node, node_at, nodes, parents_in, parents_of, is_live, shape_in, shape_of, node_count}
-use Rattle.gl_graph.specs.Shapes.{Shape, Rec, is_record_shape, is_movable_shape, least_parents}
-use Rattle.gl_graph.specs.Changes.{with_node, with_parents, rekeyed, rekeyed_keys, rekeyed_parents}
-use Rattle.gl_graph.specs.Lawful.{AreInnerParents, IsLawfulGraph}
-use Rattle.gl_graph.specs.Refusals.{first_cycle}
-use Rattle.gl_graph.proofs.Look.{and_both, cases_of, no, some_is, there_is}
-use Rattle.gl_graph.proofs.Changed.{IsAlike, at_here, at_other, nodes_same, live_same, rec_same}
-use Rattle.gl_graph.proofs.Moved.{movable_alike, rec_alike, with_parents_is, rekeyed_is, move_lawful, rekey_lawful, file_of_record}
-use Rattle.gl_graph.proofs.Unrefused.{no_cycle}
-use Rattle.gl_table.specs.declared.txn.Status.TheVariants.{Active}
-use Rattle.gl_table.specs.Calls.{moved_to}
-use Rattle.gl_table.specs.Intends.{no_parents}
-use Rattle.gl_table.specs.Lawful.{IsLawful}
-use Rattle.gl_table.specs.Refusals.{need_exclusive, need_new_parents, some_given}
-use Rattle.gl_table.specs.State.{State, status_of}
+use Rattle.gl_table.proofs.Words.{◌&&◌, ◌∙◌, ◌≡◌, ◌≢◌, ◌⊎◌, Active, and_both, ap, AreInnerParents, at_here, at_other, Bool, cases_of, false, file_of_record}
+use Rattle.gl_table.proofs.Words.{first_cycle, Graph, inner_live, is_live, is_movable_shape, is_record_shape, IsAlike, IsLawful, IsLawfulGraph, least_parents}
+use Rattle.gl_table.proofs.Words.{length, List, live_same, movable_alike, move_lawful, moved_to, need_exclusive, need_new_parents, no, no_cycle, no_parents}
+use Rattle.gl_table.proofs.Words.{Node, node_at, node_count, NodeId, nodes, nodes_same, None, Option, parents_in, parents_of, Rec, rec_alike, rec_same}
+use Rattle.gl_table.proofs.Words.{record_shape, refl, rekey_lawful, rekeyed, rekeyed_is, rekeyed_keys, rekeyed_parents, Shape, shape_in, shape_of, Some}
+use Rattle.gl_table.proofs.Words.{some_given, some_is, State, status_of, subst, sym, there_is, true, with_node, with_parents, with_parents_is, ℕ}
 use Rattle.gl_table.proofs.MoveKeeps.{moved_lawful}
 use Rattle.gl_table.proofs.Movers.{HoldsNode, HoldsParents, may_move, some_parents}
-use Rattle.gl_graph.proofs.SoundMoved.{inner_live}
-use Rattle.gl_graph.proofs.RecordParents.{record_shape}
 
 -- a move that may be made: a node with the same key, alike, and the mover may change its parents
 pub record Moves (s : State) (t : ℕ) (n : NodeId) (was is : Node) (g' : Graph) : Type 0 where
@@ -72,8 +58,10 @@ shape_there : (g : Graph) (n : NodeId) (test : Option Shape → Bool) → test N
 shape_there g n test none h = cases_of (node_at g n) (λ e. absurd (no (sym none ∙ sym (ap (λ o. test (shape_in o)) e) ∙ h))) (λ x e. (x, e))
 
 -- a node moves under parents that are none below it
-pub may_be_moved : (s : State) → IsLawful s → (t : ℕ) (n : NodeId) (ps : List NodeId) → status_of s t ≡ Some Active → is_movable_shape (shape_of s.graph n) ≡ true
-    → AreInnerParents s.graph (least_parents (shape_of s.graph n)) ps → need_exclusive s t n (some_given (parents_of s.graph n) && some_given ps) ps ≡ None → need_new_parents s t n ps ≡ None
+pub may_be_moved : (s : State) → IsLawful s → (t : ℕ) (n : NodeId) (ps : List NodeId) → status_of s t ≡ Some Active
+    → is_movable_shape (shape_of s.graph n) ≡ true
+    → AreInnerParents s.graph (least_parents (shape_of s.graph n)) ps → need_exclusive s t n (some_given (parents_of s.graph n) && some_given ps) ps ≡ None
+    → need_new_parents s t n ps ≡ None
     → first_cycle s.graph n ps ≡ None → (was : Node) × Moves s t n was (moved_node ps was) (with_parents s.graph n ps)
 may_be_moved s law t n ps active movable inner exclusive rule clear =
     let node = shape_there s.graph n is_movable_shape refl movable in
@@ -88,7 +76,8 @@ may_be_moved s law t n ps active movable inner exclusive rule clear =
         active = active;
         right = right;
         graph = with_parents_is s.graph n ps node.0 node.1;
-        lawful = move_lawful s.graph law.graph n node.0 node.1 ps is (subst (λ o. AreInnerParents s.graph (least_parents (shape_in o)) ps) node.1 inner) (inner_live s.graph ps inner.inner)
+        lawful = move_lawful s.graph law.graph n node.0 node.1 ps is (subst (λ o. AreInnerParents s.graph (least_parents (shape_in o)) ps) node.1 inner)
+            (inner_live s.graph ps inner.inner)
             (no_cycle s.graph n ps clear);
       },
     )

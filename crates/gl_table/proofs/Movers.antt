@@ -1,16 +1,7 @@
 -- What a transaction holds that may give a node other parents.
-use Rattle.std.specs.Prelude.{◌≡◌, ◌⊎◌, ℕ, Bool, true, false, not, ◌&&◌, List, [], ◌∷◌, None, if◌then◌else◌}
-use Rattle.std.specs.List.{list_all}
-use Rattle.std.proofs.Common.{refl, sym, ap, ◌∙◌, inl, inr}
-use Rattle.gl_modes.specs.declared.mode.Mode.TheVariants.{IX, X}
-use Rattle.gl_modes.specs.declared.node.NodeId.{NodeId}
-use Rattle.gl_modes.specs.Modes.{is_at_least, same_mode}
-use Rattle.gl_graph.specs.Graph.{parents_of}
-use Rattle.gl_graph.proofs.Look.{split, no, and_both}
-use Rattle.gl_graph.proofs.Unrefused.{test_fails, not_false}
-use Rattle.gl_table.specs.Intends.{no_parents}
-use Rattle.gl_table.specs.Refusals.{first_not_ix, holds_x, holds_x_on_all, need_exclusive, need_new_parents, some_given}
-use Rattle.gl_table.specs.State.{State}
+use Rattle.gl_table.proofs.Words.{[], ◌&&◌, ◌∙◌, ◌∷◌, ◌≡◌, ◌⊎◌, and_both, ap, Bool, false, first_not_ix, holds_x, holds_x_on_all, if◌then◌else◌, inl, inr}
+use Rattle.gl_table.proofs.Words.{is_at_least, IX, List, list_all, need_exclusive, need_new_parents, no, no_parents, NodeId, None, not, not_false, parents_of}
+use Rattle.gl_table.proofs.Words.{refl, same_mode, some_given, split, State, sym, test_fails, true, X, ℕ}
 use Rattle.gl_table.proofs.TestsPass.{all_ix}
 
 pub some_parents : (ps : List NodeId) → some_given ps ≡ true → no_parents ps ≡ false
@@ -36,7 +27,8 @@ may_move s t n given ps h k some =
     split (holds_x s t n)
     (λ e. inl (record { x = e; new = all_ix (s.held t) ps (sym (ap (λ b. if b then first_not_ix (s.held t) ps else None) e) ∙ k) }))
     (λ e.
-    let rest = not_false _ (ap (λ b. not b && not (given && holds_x_on_all s t (parents_of s.graph n) && holds_x_on_all s t ps)) (sym e) ∙ test_fails (not (holds_x s t n) && not (given && holds_x_on_all s t (parents_of s.graph n) && holds_x_on_all s t ps)) _ h) in
+    let rest = not_false _ (ap (λ b. not b && not (given && holds_x_on_all s t (parents_of s.graph n) && holds_x_on_all s t ps)) (sym e)
+    ∙ test_fails (not (holds_x s t n) && not (given && holds_x_on_all s t (parents_of s.graph n) && holds_x_on_all s t ps)) _ h) in
     let a = and_both (given && holds_x_on_all s t (parents_of s.graph n)) (holds_x_on_all s t ps) rest in
     let b = and_both given (holds_x_on_all s t (parents_of s.graph n)) a.0 in
     inr (record { some_old = (some b.0).0; some_new = (some b.0).1; old = b.1; new = a.1 }))

@@ -1,24 +1,10 @@
 -- A node that nobody holds and nobody waits for comes to be held by one slot.
-use Rattle.std.specs.Prelude.{◌≡◌, ◌≢◌, ℕ, true, false, [], Some, not, if◌then◌else◌}
-use Rattle.std.proofs.Common.{refl, sym, ap, ◌∙◌}
-use Rattle.gl_modes.specs.declared.mode.Mode.{Mode}
-use Rattle.gl_modes.specs.declared.mode.Mode.TheVariants.{NL}
-use Rattle.gl_modes.specs.declared.node.NodeId.{NodeId}
-use Rattle.gl_modes.specs.Modes.{same_mode, supremum}
-use Rattle.gl_graph.specs.Graph.{Graph, is_live}
-use Rattle.gl_graph.specs.Lawful.{IsLawfulGraph}
-use Rattle.gl_graph.proofs.Look.{number_same}
-use Rattle.gl_header.specs.declared.header.Asked.TheVariants as asked
-use Rattle.gl_header.specs.Answers.{asked_members, asked_queue}
-use Rattle.gl_header.specs.Header.{enters, placed, with_mode}
-use Rattle.gl_header.specs.State.{HeaderState, IsLawfulHeader, is_unused, members_of, slot_limit, unused_header}
-use Rattle.gl_header.proofs.Ranges.{not_true}
-use Rattle.gl_header.proofs.Unused.{unused-nobody, unused-true}
+use Rattle.gl_table.proofs.Words.{[], ◌∙◌, ◌≡◌, ◌≢◌, ap, asked_members, asked_queue, enters, false, Graph, HasRoomAt, HeaderState, held_of, if◌then◌else◌}
+use Rattle.gl_table.proofs.Words.{is_live, is_unused, IsLawfulGraph, IsLawfulHeader, IsOneHolder, members_of, Mode, NL, NodeId, not, not_true, number_same}
+use Rattle.gl_table.proofs.Words.{placed, queue_of, refl, same_mode, slot_limit, Some, state_on, supremum, sym, true, unused-nobody, unused-true, unused_header}
+use Rattle.gl_table.proofs.Words.{with_mode, ℕ}
 use Rattle.gl_table.specs.declared.locks.Locks.{Locks}
-use Rattle.gl_table.specs.Headers.{held_of, queue_of}
-use Rattle.gl_table.specs.Locks.{state_on}
-use Rattle.gl_table.specs.OneHolder.{IsOneHolder}
-use Rattle.gl_table.specs.Slots.{HasRoomAt}
+use Rattle.gl_header.specs.declared.header.Asked.TheVariants as asked
 use Rattle.gl_table.proofs.Asks.{IsReady, MayAsk}
 use Rattle.gl_table.proofs.Grants.{CountsGrant, IsGranted, is_granted}
 use Rattle.gl_table.proofs.HeaderWrites.{IsChanged, all-written, held-changed, queue-changed, with_waiters-same}
@@ -26,11 +12,15 @@ use Rattle.gl_table.proofs.Listed.{HasNode}
 use Rattle.gl_table.proofs.NoHeader.{nobody-enters}
 
 -- what an ask leaves of a new header
-pub one_holder : (h w : HeaderState) (t : ℕ) (m : Mode) → h ≡ unused_header → IsLawfulHeader w → members_of w ≡ asked_members h t m → w.queue ≡ asked_queue h t m → IsOneHolder w t m
+pub one_holder : (h w : HeaderState) (t : ℕ) (m : Mode) → h ≡ unused_header → IsLawfulHeader w → members_of w ≡ asked_members h t m
+    → w.queue ≡ asked_queue h t m → IsOneHolder w t m
 one_holder h w t m new lawful members queue = record {
   lawful = lawful;
-  members = members ∙ ap (λ x. asked_members x t m) new ∙ ap (λ g. if enters slot_limit g [] t (supremum (g t) m) then with_mode g t (supremum (g t) m) else g) unused-nobody ∙ ap (λ b. if b then with_mode (λ _. NL) t m else (λ _. NL)) (nobody-enters slot_limit t m);
-  queue = queue ∙ ap (λ x. asked_queue x t m) new ∙ ap (λ g. if enters slot_limit g [] t (supremum (g t) m) then [] else placed g [] t (supremum (g t) m)) unused-nobody ∙ ap (λ b. if b then [] else placed (λ _. NL) [] t m) (nobody-enters slot_limit t m);
+  members = members ∙ ap (λ x. asked_members x t m) new
+      ∙ ap (λ g. if enters slot_limit g [] t (supremum (g t) m) then with_mode g t (supremum (g t) m) else g) unused-nobody
+      ∙ ap (λ b. if b then with_mode (λ _. NL) t m else (λ _. NL)) (nobody-enters slot_limit t m);
+  queue = queue ∙ ap (λ x. asked_queue x t m) new ∙ ap (λ g. if enters slot_limit g [] t (supremum (g t) m) then [] else placed g [] t (supremum (g t) m))
+      unused-nobody ∙ ap (λ b. if b then [] else placed (λ _. NL) [] t m) (nobody-enters slot_limit t m);
 }
 
 -- the header is needed
@@ -38,7 +28,8 @@ holder-used : (h : HeaderState) (t : ℕ) (m : Mode) → m ≢ NL → IsOneHolde
 holder-used h t m lock one = not_true (is_unused h)
     (λ u. lock (sym (ap (λ b. if b then m else NL) (number_same t t refl)) ∙ ap (λ ms. ms t) (sym one.members) ∙ (unused-true h one.lawful u).0 t))
 
-module _ (g : Graph) (l : Locks) (t : ℕ) (n : NodeId) (m : Mode) (may : MayAsk g l t) (unheld : (u : ℕ) → (state_on g l).held u n ≡ NL) (unawaited : (state_on g l).queue n ≡ []) (room : HasRoomAt l.lists.items t) where
+module _ (g : Graph) (l : Locks) (t : ℕ) (n : NodeId) (m : Mode) (may : MayAsk g l t) (unheld : (u : ℕ) → (state_on g l).held u n ≡ NL)
+    (unawaited : (state_on g l).queue n ≡ []) (room : HasRoomAt l.lists.items t) where
   abbrev want : Mode
   want = supremum (held_of l.headers.entries t n) m
 
@@ -53,7 +44,8 @@ module _ (g : Graph) (l : Locks) (t : ℕ) (n : NodeId) (m : Mode) (may : MayAsk
   }
 
   -- its header was put in, and the slot's list was written
-  pub is_placed : IsLawfulGraph g → is_live g n ≡ true → m ≢ NL → (h : HeaderState) → IsOneHolder h t m → want ≡ m → (l' : Locks) → IsChanged l.headers.entries l'.headers.entries n (Some h) → l'.seats ≡ l.seats
+  pub is_placed : IsLawfulGraph g → is_live g n ≡ true → m ≢ NL → (h : HeaderState) → IsOneHolder h t m → want ≡ m → (l' : Locks)
+      → IsChanged l.headers.entries l'.headers.entries n (Some h) → l'.seats ≡ l.seats
       → HasNode l.lists.items l'.lists.items t n m → CountsGrant (state_on g l) l.lists.items l'.lists.items t n → IsGranted g l l' t n m m
   is_placed law live lock h one want_is l' changed seats has counts =
       is_granted g l l l' t n m false ready (asked.Granted m) m law live lock
@@ -61,6 +53,7 @@ module _ (g : Graph) (l : Locks) (t : ℕ) (n : NodeId) (m : Mode) (may : MayAsk
       (ap asked.Granted (sym want_is) ∙ sym (ap (λ b. if b then asked.Granted want else asked.Waiting) ready.enters)) refl
       (λ enters. (
         held-changed l.headers.entries l'.headers.entries n (Some h) _ changed (one.members ∙ (λ i. with_mode (λ u. sym (unheld u) i) t (sym want_is i))),
-        queue-changed l.headers.entries l'.headers.entries n (Some h) [] changed one.queue ∙ with_waiters-same (queue_of l.headers.entries) n [] (sym unawaited),
+        queue-changed l.headers.entries l'.headers.entries n (Some h) [] changed one.queue
+        ∙ with_waiters-same (queue_of l.headers.entries) n [] (sym unawaited),
       ))
       seats has counts

@@ -1,12 +1,6 @@
 -- Lists in which nothing stands.
-use Rattle.std.specs.Prelude.{◌≡◌, ℕ, zero, suc, ◌+◌, false, List, [], ◌∷◌, ◌++◌, length, Option, Some, None, is_some, replicate, ⊤}
-use Rattle.std.proofs.Common.{refl, ap, ◌∙◌, subst, arith}
-use Rattle.gl_modes.specs.declared.mode.Mode.TheVariants.{NL}
-use Rattle.gl_modes.specs.declared.node.NodeId.{NodeId}
-use Rattle.gl_table.specs.declared.list.Entry.{Entry}
-use Rattle.gl_table.specs.declared.list.LockList.{LockList}
-use Rattle.gl_table.specs.Lists.{IsApart, count_of, entry_of, is_listed, mode_in, mode_of}
-use Rattle.gl_table.specs.Slots.{AreApart, by_list, counted_by, held_by, listed_by}
+use Rattle.gl_table.proofs.Words.{[], ◌++◌, ◌+◌, ◌∷◌, ◌≡◌, AreApart, arith, by_list, count_of, counted_by, Entry, entry_of, false, held_by, is_listed, is_some}
+use Rattle.gl_table.proofs.Words.{IsApart, length, List, listed_by, LockList, mode_in, mode_of, NL, NodeId, None, Option, refl, Some, subst, suc, zero, ℕ, ⊤}
 
 -- nothing is listed and nothing is counted
 pub record IsBare (l : LockList) : Type 0 where
@@ -23,7 +17,8 @@ bare-more [] l h k = (k, tt)
 bare-more (x ∷ ls) l h k = (h.0, bare-more ls l h.1 k)
 
 -- what such lists say by slot
-bare_by : {A : Type 0} (f : LockList → A) (none : A) → ((l : LockList) → IsBare l → f l ≡ none) → (ls : List LockList) → AreBare ls → (t : ℕ) → by_list f none ls t ≡ none
+bare_by : {A : Type 0} (f : LockList → A) (none : A) → ((l : LockList) → IsBare l → f l ≡ none) → (ls : List LockList) → AreBare ls → (t : ℕ)
+    → by_list f none ls t ≡ none
 bare_by f none is [] h t = refl
 bare_by f none is (l ∷ ls) h zero = is l h.0
 bare_by f none is (l ∷ ls) h (suc t) = bare_by f none is ls h.1 t
@@ -45,13 +40,6 @@ pub bare-apart : (ls : List LockList) → AreBare ls → AreApart ls
 bare-apart [] h t l e = absurd (cc)
 bare-apart (x ∷ ls) h zero l e = let is : x ≡ l = cc in subst IsApart is h.0.apart
 bare-apart (x ∷ ls) h (suc t) l e = bare-apart ls h.1 t l e
-
-pub replicate-more : {A : Type 0} (x : A) (k : ℕ) → replicate k x ++ x ∷ [] ≡ replicate (k + 1) x
-replicate-more x k = let next : suc k ≡ k + 1 = omega arith in by k ∙ ap (λ n. replicate n x) next
-  where
-    by : (k : ℕ) → replicate k x ++ x ∷ [] ≡ replicate (suc k) x
-    by zero = refl
-    by (suc k) = ap (λ xs. x ∷ xs) (by k)
 
 pub length-more : {A : Type 0} (xs : List A) (x : A) → length (xs ++ x ∷ []) ≡ length xs + 1
 length-more [] x = refl

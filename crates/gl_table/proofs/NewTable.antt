@@ -1,20 +1,8 @@
 -- A table in which nothing stands.
-use Rattle.std.specs.Prelude.{◌≡◌, ℕ, zero, suc, ◌≤◌, ◌||◌, [], length, Option, None, replicate}
-use Rattle.std.proofs.Common.{refl, sym, ap, ◌∙◌, subst}
-use Rattle.gl_graph.specs.View.{graph_of}
-use Rattle.gl_table.specs.declared.seat.Seat.{Seat}
+use Rattle.gl_table.proofs.Words.{[], ◌||◌, ◌∙◌, ◌≡◌, ◌≤◌, ap, AreHeaders, AreNew, choosing, empty_state, graph_of, HasNoCycle, held_children, held_of, holds}
+use Rattle.gl_table.proofs.Words.{is_among_waiters, is_wait, IsLawful, IsSound, length, Members, members, None, Option, queue_of, refl, replicate, Seat, State}
+use Rattle.gl_table.proofs.Words.{state_of, status_of, subst, suc, sym, txns_of, unused-nobody, view_of, zero, ℕ}
 use Rattle.gl_table.specs.declared.table.Table.TheInside.{Inside}
-use Rattle.gl_table.specs.Headers.{AreHeaders, held_of, queue_of}
-use Rattle.gl_header.proofs.Unused.{unused-nobody}
-use Rattle.gl_header.specs.Header.{Members, holds, is_among_waiters}
-use Rattle.gl_table.specs.Covered.{held_children}
-use Rattle.gl_table.specs.Lawful.{IsLawful}
-use Rattle.gl_table.specs.Locks.{AreNew}
-use Rattle.gl_table.specs.Seats.{txns_of}
-use Rattle.gl_table.specs.Sound.{IsSound, view_of}
-use Rattle.gl_table.specs.State.{State, choosing, empty_state, members, status_of}
-use Rattle.gl_table.specs.Table.{state_of}
-use Rattle.gl_table.specs.Waiting.{HasNoCycle, is_wait}
 use Rattle.gl_table.proofs.NoCycle.{empty-no_cycle}
 use Rattle.gl_table.proofs.Queues.{clash}
 use Rattle.gl_table.proofs.Empty.{empty-lawful}
@@ -31,7 +19,8 @@ free_seats (suc k) (suc t) = free_seats k t
 no_headers : AreHeaders []
 no_headers = record { lawful = λ n h e. absurd (cc); used = λ n h e. absurd (cc) }
 
-module _ (i : Inside) (most : ℕ) (few : most ≤ 128) (none : (birth : ℕ) → (graph_of i.graph).at birth ≡ None) (births : i.graph.births ≡ 0) (begins : i.begins ≡ 0) (new : AreNew i.locks most) where
+module _ (i : Inside) (most : ℕ) (few : most ≤ 128) (none : (birth : ℕ) → (graph_of i.graph).at birth ≡ None) (births : i.graph.births ≡ 0)
+    (begins : i.begins ≡ 0) (new : AreNew i.locks most) where
   abbrev s : State
   s = state_of (view_of i)
 

@@ -1,17 +1,7 @@
 -- No two transactions hold conflicting effective modes.
-use Rattle.std.specs.Prelude.{cond, ◌≡◌, ℕ, zero, suc, Bool, true, false, not, ◌||◌, List, [], ◌∷◌}
-use Rattle.std.specs.List.{list_any, list_all}
-use Rattle.std.proofs.Common.{sym, ap, ◌∙◌, rules}
-use mathlib.Core.Bool.{true≢false}
-use Rattle.gl_modes.specs.declared.mode.Mode.{Mode}
-use Rattle.gl_modes.specs.declared.mode.Mode.TheVariants.{NL, IS, IX, X}
-use Rattle.gl_modes.specs.declared.node.NodeId.{NodeId}
-use Rattle.gl_modes.specs.Modes.{are_compatible, is_at_least, same_mode}
-use Rattle.gl_graph.specs.Graph.{Graph, node_count, parents_of}
-use Rattle.gl_table.specs.Effects.{eff_s, eff_x, is_read}
-use Rattle.gl_table.specs.Laws.{LawfulNoConflict, NoConflictLaw}
-use Rattle.gl_table.specs.Intends.{is_write, no_parents, intends_over}
-use Rattle.gl_graph.proofs.Look.{or_elim, and_both}
+use Rattle.gl_table.proofs.Words.{[], ◌||◌, ◌∙◌, ◌∷◌, ◌≡◌, and_both, ap, are_compatible, Bool, cond, eff_s, eff_x, false, Graph, intends_over, IS, is_at_least}
+use Rattle.gl_table.proofs.Words.{is_read, is_write, IX, LawfulNoConflict, List, list_all, list_any, Mode, NL, no_parents, NoConflictLaw, node_count, NodeId}
+use Rattle.gl_table.proofs.Words.{not, or_elim, parents_of, rules, same_mode, suc, sym, true, true≢false, X, zero, ℕ}
 
 -- what a mode of one rules out of another's
 pub x_blocks : (m w : Mode) → same_mode m X ≡ true → is_at_least w IS ≡ true → are_compatible m w ≡ true → ⊥
@@ -37,16 +27,20 @@ any_all p q (x ∷ xs) h k =
     or_elim (p x) (list_any p xs) h (λ here. (x, here, both.0)) (λ there. any_all p q xs there both.1)
 
 -- who meets the graph rule on a node with parents holds one of them
-pub holds_one : (held : NodeId → Mode) (ps : List NodeId) (m : Mode) → not (no_parents ps) ≡ true → intends_over held ps m ≡ true → list_any (λ p. is_at_least (held p) IS) ps ≡ true
+pub holds_one : (held : NodeId → Mode) (ps : List NodeId) (m : Mode) → not (no_parents ps) ≡ true → intends_over held ps m ≡ true
+    → list_any (λ p. is_at_least (held p) IS) ps ≡ true
 holds_one held [] m some h = absurd (true≢false (sym some))
 holds_one held (p ∷ ps) m some h =
-    elim (is_write m) as (λ w. cond w (list_all (λ q. is_at_least (held q) IX) (p ∷ ps)) (no_parents (p ∷ ps) || list_any (λ q. is_at_least (held q) IS) (p ∷ ps)) ≡ true → list_any (λ q. is_at_least (held q) IS) (p ∷ ps) ≡ true) [
+    elim (is_write m) as (λ w. cond w (list_all (λ q. is_at_least (held q) IX) (p ∷ ps))
+    (no_parents (p ∷ ps) || list_any (λ q. is_at_least (held q) IS) (p ∷ ps)) ≡ true → list_any (λ q. is_at_least (held q) IS) (p ∷ ps) ≡ true) [
       | true ↦ λ k. ap (λ b. b || list_any (λ q. is_at_least (held q) IS) ps) (ix_is _ (and_both _ _ k).0)
       | false ↦ λ k. k
     ] h
 
-holds_all : (held : NodeId → Mode) (ps : List NodeId) (m : Mode) → is_at_least m IX ≡ true → intends_over held ps m ≡ true → list_all (λ p. is_at_least (held p) IX) ps ≡ true
-holds_all held ps m w h = sym (ap (λ b. cond b (list_all (λ p. is_at_least (held p) IX) ps) (no_parents ps || list_any (λ p. is_at_least (held p) IS) ps)) w) ∙ h
+holds_all : (held : NodeId → Mode) (ps : List NodeId) (m : Mode) → is_at_least m IX ≡ true → intends_over held ps m ≡ true
+    → list_all (λ p. is_at_least (held p) IX) ps ≡ true
+holds_all held ps m w h = sym (ap (λ b. cond b (list_all (λ p. is_at_least (held p) IX) ps) (no_parents ps || list_any (λ p. is_at_least (held p) IS) ps)) w)
+    ∙ h
 
 module _ (g : Graph) (ht hu : NodeId → Mode) (fit : (n : NodeId) → are_compatible (ht n) (hu n) ≡ true)
     (rule_t : (n : NodeId) → is_at_least (ht n) IS ≡ true → intends_over ht (parents_of g n) (ht n) ≡ true)
@@ -84,7 +78,8 @@ held_is m h = search rules
 -- for every pair of slots
 pub no_conflict_on : NoConflictLaw
 no_conflict_on s together rule t u r c =
-    no_conflict s.graph (s.held t) (s.held u) (λ n. together t u n c.differ) (λ n h. rule t n (held_is _ h)) (λ n h. rule u n (held_is _ h)) (node_count s.graph) (node_count s.graph) r c.writes c.reads
+    no_conflict s.graph (s.held t) (s.held u) (λ n. together t u n c.differ) (λ n h. rule t n (held_is _ h)) (λ n h. rule u n (held_is _ h))
+    (node_count s.graph) (node_count s.graph) r c.writes c.reads
 
 pub no_conflict_law : LawfulNoConflict
 no_conflict_law s law = no_conflict_on s law.compatible law.grants_intend

@@ -1,11 +1,5 @@
 -- A node that nobody holds and nobody waits for.
-use Rattle.std.proofs.Common.{◌≡◌, ℕ, true, ◌&&◌, [], refl, ap}
-use Rattle.gl_modes.specs.declared.mode.Mode.{Mode}
-use Rattle.gl_modes.specs.declared.mode.Mode.TheVariants.{NL}
-use Rattle.gl_modes.proofs.ModeLemmas.{NL-compatible}
-use Rattle.gl_header.specs.Header.{enters, group_of}
-use Rattle.gl_header.proofs.Fits.{fits-from_all}
-use Rattle.gl_header.proofs.GroupOf.{group_of-unique}
+use Rattle.gl_table.proofs.Words.{[], ◌&&◌, ◌≡◌, ap, enters, fits-from_all, group_of, group_of-unique, Mode, NL, NL-compatible, refl, true, ℕ}
 
 -- the group mode is NL
 pub nobody-group : (most : ℕ) → NL ≡ group_of most (λ _. NL)

@@ -1,14 +1,6 @@
 -- Settling ends in one state.
-use Rattle.std.specs.Prelude.{◌≡◌, ℕ, zero, suc, true, List, [], ◌∷◌, is_some}
-use Rattle.std.proofs.Common.{sym, ◌∙◌, arith, subst}
-use Rattle.gl_waits.specs.declared.victims.Victims.{Victims}
-use Rattle.gl_waits.specs.Waits.{IsWalk}
-use Rattle.gl_waits.proofs.VictimLemmas.{candidate-on_cycle}
-use Rattle.gl_table.specs.State.{State}
-use Rattle.gl_table.specs.Waiting.{waits_for, IsVictim, SettledWithin, Settled}
-use Rattle.gl_table.specs.Laws.{SettlingEnds}
-use Rattle.gl_table.specs.Pumps.{condemned}
-use Rattle.gl_table.specs.Lawful.{IsLawful}
+use Rattle.gl_table.proofs.Words.{[], ◌∙◌, ◌∷◌, ◌≡◌, arith, candidate-on_cycle, condemned, is_some, IsLawful, IsVictim, IsWalk, List, Settled, SettledWithin}
+use Rattle.gl_table.proofs.Words.{SettlingEnds, State, subst, suc, sym, true, Victims, waits_for, zero, ℕ}
 use Rattle.gl_table.proofs.GrantKeeps.{txn_there}
 use Rattle.gl_table.proofs.Taken.{condemned-lawful}
 use Rattle.gl_table.proofs.Edges.{step_is}
@@ -31,7 +23,8 @@ settled_within_one c zero zero s a b t law h l = h.1 ∙ sym l.1
 settled_within_one c zero (suc k) s a b t law h l = absurd (h.0 l.0 (candidate-on_cycle c (waits_for s) t l.0 l.1.is_member))
 settled_within_one c (suc j) zero s a b t law h l = absurd (l.0 h.0 (candidate-on_cycle c (waits_for s) t h.0 h.1.is_member))
 settled_within_one c (suc j) (suc k) s a b t law h l =
-    settled_within_one c j k (condemned s h.0) a b t (condemned-lawful s law h.0) h.2 (subst (λ v. SettledWithin c k (condemned s v) t b) (victim_one c s law t l.0 h.0 l.1 h.1) l.2)
+    settled_within_one c j k (condemned s h.0) a b t (condemned-lawful s law h.0) h.2
+    (subst (λ v. SettledWithin c k (condemned s v) t b) (victim_one c s law t l.0 h.0 l.1 h.1) l.2)
 
 -- ages differ, so the victim is one, turn by turn
 pub settled_one : (c : Victims) (s a b : State) (t : ℕ) → IsLawful s → Settled c s t a → Settled c s t b → a ≡ b

@@ -1,19 +1,10 @@
 -- Where the fewest fall, one is enough: who is condemned waits for nobody any more, and nobody waits for whom it did not wait for.
-use Rattle.std.specs.Prelude.{ℕ, zero, suc, not, ◌&&◌, ◌==◌}
-use Rattle.std.proofs.Common.{ap, ap₂, ◌∙◌, arith, sym}
-use Rattle.gl_waits.specs.declared.victims.Victims.TheVariants.{Fewest}
-use Rattle.gl_waits.specs.Waits.{IsOnNoCycle}
-use Rattle.gl_waits.proofs.VictimLemmas.{freed-fewer}
-use Rattle.gl_table.specs.Laws.{CondemningFrees, OneFalls}
-use Rattle.gl_table.specs.Lawful.{IsLawful}
-use Rattle.gl_table.specs.Pumps.{condemned}
-use Rattle.gl_table.specs.State.{State}
-use Rattle.gl_table.specs.Waiting.{IsVictim, is_wait, waits_for}
+use Rattle.gl_table.proofs.Words.{◌&&◌, ◌==◌, ◌∙◌, ap, ap₂, arith, condemned, CondemningFrees, Fewest, freed-fewer, is_wait, IsLawful, IsOnNoCycle, IsVictim}
+use Rattle.gl_table.proofs.Words.{not, OneFalls, same_number, split, State, suc, sym, waits_for, zero, ℕ}
 use Rattle.gl_table.proofs.Edges.{step_is}
 use Rattle.gl_table.proofs.NoCycle.{condemned_steps}
 use Rattle.gl_table.proofs.Queues.{clash}
 use Rattle.gl_table.proofs.Settles.{waiting, waits_no_more}
-use Rattle.gl_graph.proofs.Look.{split, same_number}
 
 -- who waits for somebody waits
 pub condemning_frees : CondemningFrees

@@ -1,22 +1,9 @@
 -- Where who stands in a queue waits there, once: what follows for the front that its node grants.
-use Rattle.std.specs.Prelude.{◌≡◌, ℕ, Bool, true, false, not, List, [], ◌∷◌, ◌++◌, Option, Some, None, if◌then◌else◌}
-use Rattle.std.proofs.Common.{refl, sym, ap, ◌∙◌}
-use Rattle.std.proofs.lemmas.List.Elements.{filter-append}
-use Rattle.gl_modes.specs.declared.mode.Mode.{Mode}
-use Rattle.gl_modes.specs.declared.node.NodeId.{NodeId}
-use Rattle.gl_modes.specs.Nodes.{same_node}
-use Rattle.gl_modes.proofs.NodeLemmas.{same_node-equal, same_node-refl}
-use Rattle.gl_graph.proofs.Look.{both, number_other, number_same, or_left, or_right, split}
-use Rattle.gl_header.specs.Header.{AreBelow, IsWithin, Waiter, is_among_waiters, is_waiter, pumped_queue}
-use Rattle.gl_header.specs.Sound.{is_distinct}
-use Rattle.gl_header.proofs.Fronts.{front-and_rest, front-waited}
-use Rattle.gl_header.proofs.Ranges.{not_true}
-use Rattle.gl_table.specs.declared.txn.Status.{Status}
-use Rattle.gl_table.specs.declared.txn.Status.TheVariants.{Active, Waiting}
-use Rattle.gl_table.specs.Locks.{IsOrderly}
-use Rattle.gl_table.specs.Pumping.{WaitWell}
-use Rattle.gl_table.specs.Pumps.{awake, front_at, granted_at, is_waiting_at, waits_at, without_wait, woken}
-use Rattle.gl_table.specs.State.{State, Txn, members, restatus, status_in, status_of, with_grant}
+use Rattle.gl_table.proofs.Words.{[], ◌++◌, ◌∙◌, ◌∷◌, ◌≡◌, Active, ap, AreBelow, awake, Bool, both, false, filter-append, front-and_rest, front-waited}
+use Rattle.gl_table.proofs.Words.{front_at, granted_at, if◌then◌else◌, is_among_waiters, is_distinct, is_waiter, is_waiting_at, IsOrderly, IsWithin, List}
+use Rattle.gl_table.proofs.Words.{members, Mode, NodeId, None, not, not_true, number_other, number_same, Option, or_left, or_right, pumped_queue, refl}
+use Rattle.gl_table.proofs.Words.{restatus, same_node, same_node-equal, same_node-refl, Some, split, State, Status, status_in, status_of, sym, true, Txn}
+use Rattle.gl_table.proofs.Words.{Waiter, Waiting, waits_at, WaitWell, with_grant, without_wait, woken, ℕ}
 use Rattle.gl_table.proofs.GrantKeeps.{txn_there, holders-within}
 use Rattle.gl_table.proofs.Less.{waiting_is}
 use Rattle.gl_table.proofs.Queues.{among_by_filter, clash, none_filtered, one_in_first}
@@ -67,8 +54,10 @@ module _ (s : State) (o : IsOrderly s) where
   -- with one wait taken out, all others stand as they did
   pub well_without : (t : ℕ) (st : Status) (q : NodeId) → WaitWell (without_wait s t st) q
   well_without t st q = record {
-    waits_are = λ u h. let was = out_of_without t u (s.queue q) h in ap (λ x. waits_at (status_in x) q) (without_wait_other s t st u (number_other u t was.1)) ∙ o.waits_are u q was.0;
-    one_wait = λ u h. let was = out_of_without t u (s.queue q) h in let w = waits_there u q was.0 in let one = o.one_wait u q w.0 w.1 in (w.0, without_filter t u (s.queue q) was.1 ∙ one.0, one.1);
+    waits_are = λ u h. let was = out_of_without t u (s.queue q) h in ap (λ x. waits_at (status_in x) q) (without_wait_other s t st u (number_other u t was.1))
+        ∙ o.waits_are u q was.0;
+    one_wait = λ u h. let was = out_of_without t u (s.queue q) h in let w = waits_there u q was.0 in let one = o.one_wait u q w.0 w.1 in
+        (w.0, without_filter t u (s.queue q) was.1 ∙ one.0, one.1);
   }
 
   pub below_without : (t : ℕ) (st : Status) (q : NodeId) → AreBelow s.most ((without_wait s t st).queue q)
@@ -83,7 +72,8 @@ waits_only s t n h = ap waits_at (waiting_is (status_of s t) n h).1
 pub stands_there : (s : State) → IsOrderly s → (t : ℕ) (n : NodeId) → is_waiting_at s t n ≡ true → is_among_waiters t (s.queue n) ≡ true
 stands_there s o t n h = let wait = waiting_is (status_of s t) n h in among_by_filter t (t, wait.0) [] (s.queue n) (o.one_wait t n wait.0 wait.1).0
 
-pub stands_only : (s : State) → IsOrderly s → (t : ℕ) (n : NodeId) → is_waiting_at s t n ≡ true → (q : NodeId) → same_node n q ≡ false → is_among_waiters t (s.queue q) ≡ false
+pub stands_only : (s : State) → IsOrderly s → (t : ℕ) (n : NodeId) → is_waiting_at s t n ≡ true → (q : NodeId) → same_node n q ≡ false
+    → is_among_waiters t (s.queue q) ≡ false
 stands_only s o t n h q e = not_true _ (λ k. clash (o.waits_are t q k) (ap (λ f. f q) (waits_only s t n h) ∙ e))
 
 -- what is granted on each node, where only n grants
@@ -104,20 +94,25 @@ module _ (b : State) (n : NodeId) (well : WaitWell b n) where
 
   pub front_distinct : is_distinct (front_at b n) ≡ true
   front_distinct = distinct_once (front_at b n) (λ u h. let one = well.one_wait u (front_stands u h) in
-      ((u, one.0), (one_in_first (waits_of u (front_at b n)) (waits_of u rest) (u, one.0) (parts u ∙ one.1) (λ e. clash h (none_filtered u (front_at b n) e))).0))
+      ((u, one.0), (one_in_first (waits_of u (front_at b n)) (waits_of u rest) (u, one.0) (parts u ∙ one.1)
+      (λ e. clash h (none_filtered u (front_at b n) e))).0))
     where
       parts : (u : ℕ) → waits_of u (front_at b n) ++ waits_of u rest ≡ waits_of u (b.queue n)
       parts u = sym (filter-append (is_waiter u) (front_at b n) rest) ∙ ap (waits_of u) (front-and_rest b.most (members b n) (b.queue n))
 
   -- who is in the front waited there and is active, and all others are as they were
-  pub woken_front : (u : ℕ) → woken (granted_at b (same_node n)) u (b.txns u) ≡ (if is_among_waiters u (front_at b n) then restatus Active (b.txns u) else b.txns u)
+  pub woken_front : (u : ℕ) → woken (granted_at b (same_node n)) u (b.txns u)
+      ≡ (if is_among_waiters u (front_at b n) then restatus Active (b.txns u) else b.txns u)
   woken_front u = is_by_test (is_among_waiters u (front_at b n))
-      (λ h. let wait = waiting_is (status_of b u) n (well.waits_are u (front_stands u h)) in active wait.0 (b.txns u) wait.1 (ap (is_among_waiters u) (granted_here b n) ∙ h))
+      (λ h. let wait = waiting_is (status_of b u) n (well.waits_are u (front_stands u h)) in
+      active wait.0 (b.txns u) wait.1 (ap (is_among_waiters u) (granted_here b n) ∙ h))
       (λ h. woken_same (granted_at b (same_node n)) u (λ q. split (same_node n q)
       (λ e. ap (λ p. is_among_waiters u (granted_at b (same_node n) p)) (sym (same_node-equal n q e)) ∙ ap (is_among_waiters u) (granted_here b n) ∙ h)
       (λ e. ap (is_among_waiters u) (granted_apart b n q e))) (b.txns u))
     where
-      active : (m : Mode) (x : Option Txn) → status_in x ≡ Some (Waiting n m) → is_among_waiters u (granted_at b (same_node n) n) ≡ true → woken (granted_at b (same_node n)) u x ≡ restatus Active x
+      active : (m : Mode) (x : Option Txn) → status_in x ≡ Some (Waiting n m) → is_among_waiters u (granted_at b (same_node n) n) ≡ true
+          → woken (granted_at b (same_node n)) u x ≡ restatus Active x
       active m None st k = refl
       active m (Some x) st k = let is : x.status ≡ Waiting n m = cc in
-          ap (λ y. Some (record { age = x.age; status = awake (granted_at b (same_node n)) u y })) is ∙ ap (λ c. Some (record { age = x.age; status = if c then Active else Waiting n m })) k
+          ap (λ y. Some (record { age = x.age; status = awake (granted_at b (same_node n)) u y })) is
+          ∙ ap (λ c. Some (record { age = x.age; status = if c then Active else Waiting n m })) k

@@ -1,19 +1,7 @@
 -- What is in order stays so once nodes grant from their fronts.
-use Rattle.std.specs.Prelude.{◌≡◌, ℕ, Bool, true, false, not, ◌&&◌, ◌==◌, [], if◌then◌else◌}
-use Rattle.std.proofs.Common.{refl, sym, ap, ◌∙◌}
-use Rattle.gl_modes.specs.declared.mode.Mode.TheVariants.{NL}
-use Rattle.gl_modes.specs.declared.node.NodeId.{NodeId}
-use Rattle.gl_modes.specs.Modes.{same_mode}
-use Rattle.gl_modes.specs.Nodes.{same_node}
-use Rattle.gl_graph.proofs.Look.{same_number, split}
-use Rattle.gl_header.specs.Header.{holds, is_among_waiters}
-use Rattle.gl_header.proofs.Ranges.{not_true}
-use Rattle.gl_table.specs.Calls.{unlocked}
-use Rattle.gl_table.specs.Locks.{IsOrderly}
-use Rattle.gl_table.specs.Pumps.{granted_at, pumped}
-use Rattle.gl_table.specs.State.{State, members, status_of, with_grant}
-use Rattle.gl_table.specs.Tells.{IsOnWay}
-use Rattle.gl_table.specs.Waiting.{is_wait}
+use Rattle.gl_table.proofs.Words.{[], ◌&&◌, ◌==◌, ◌∙◌, ◌≡◌, ap, Bool, false, granted_at, holds, if◌then◌else◌, is_among_waiters, is_wait, IsOnWay, IsOrderly}
+use Rattle.gl_table.proofs.Words.{members, NL, NodeId, not, not_true, pumped, refl, same_mode, same_node, same_number, split, State, status_of, sym, true}
+use Rattle.gl_table.proofs.Words.{unlocked, with_grant, ℕ}
 use Rattle.gl_table.proofs.GrantKeeps.{txn_there}
 use Rattle.gl_table.proofs.OneWaits.{waits_there}
 use Rattle.gl_table.proofs.Pumped.{woken_some}
@@ -25,7 +13,8 @@ pub in_no_queue : (s : State) → IsOrderly s → (t : ℕ) → is_wait (status_
 in_no_queue s o t quiet q = not_true _ (λ h. clash (ap is_wait (waits_there s o t q h).1) quiet)
 
 -- who stands in a queue is another
-pub stands_other : (s : State) → IsOrderly s → (t : ℕ) → is_wait (status_of s t) ≡ false → (u : ℕ) (q : NodeId) → is_among_waiters u (s.queue q) ≡ true → (u == t) ≡ false
+pub stands_other : (s : State) → IsOrderly s → (t : ℕ) → is_wait (status_of s t) ≡ false → (u : ℕ) (q : NodeId) → is_among_waiters u (s.queue q) ≡ true
+    → (u == t) ≡ false
 stands_other s o t quiet u q h = not_true _ (λ e. clash (ap (λ v. is_among_waiters v (s.queue q)) (sym (same_number u t e)) ∙ h) (in_no_queue s o t quiet q))
 
 -- a way from the state itself begins
@@ -54,9 +43,11 @@ orderly_pumped s o chosen =
     }
   where
     -- who holds a node was granted it, or held it before
-    granted_or_held : {C : Type 0} (u : ℕ) (q : NodeId) → holds (members (pumped s chosen) q) u ≡ true → (is_among_waiters u (granted_at s chosen q) ≡ true → C) → (holds (members s q) u ≡ true → C) → C
+    granted_or_held : {C : Type 0} (u : ℕ) (q : NodeId) → holds (members (pumped s chosen) q) u ≡ true → (is_among_waiters u (granted_at s chosen q) ≡ true → C)
+        → (holds (members s q) u ≡ true → C) → C
     granted_or_held u q h granted held =
-        split (is_among_waiters u (granted_at s chosen q)) granted (λ e. held (sym (ap (λ m. not (same_mode m NL)) (grants_other (granted_at s chosen q) (members s q) u e)) ∙ h))
+        split (is_among_waiters u (granted_at s chosen q)) granted
+        (λ e. held (sym (ap (λ m. not (same_mode m NL)) (grants_other (granted_at s chosen q) (members s q) u e)) ∙ h))
 
 -- a grant that is gone
 orderly_dropped : (s : State) → IsOrderly s → (t : ℕ) (n : NodeId) → IsOrderly (with_grant s t n NL)

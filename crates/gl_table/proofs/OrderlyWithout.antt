@@ -1,17 +1,7 @@
 -- Once a wait is given up, and its node granted from its front, the state is as orderly as it was.
-use Rattle.std.specs.Prelude.{◌≡◌, ◌⊎◌, ℕ, ◌<◌, Bool, true, not, ◌==◌, is_some, if◌then◌else◌}
-use Rattle.std.proofs.Common.{refl, sym, ap, ◌∙◌, subst, ⊎_elim, inl, inr}
-use Rattle.gl_modes.specs.declared.mode.Mode.TheVariants.{NL}
-use Rattle.gl_modes.specs.declared.node.NodeId.{NodeId}
-use Rattle.gl_modes.specs.Modes.{same_mode}
-use Rattle.gl_graph.specs.Graph.{is_live}
-use Rattle.gl_graph.proofs.Look.{same_number, split}
-use Rattle.gl_header.specs.Header.{holds, is_among_waiters}
-use Rattle.gl_table.specs.declared.txn.Status.{Status}
-use Rattle.gl_table.specs.Locks.{IsOrderly}
-use Rattle.gl_table.specs.Pumps.{granted_at, pumped, without_wait}
-use Rattle.gl_table.specs.State.{State, members, restatus, status_of}
-use Rattle.gl_table.specs.Tells.{IsOnWay}
+use Rattle.gl_table.proofs.Words.{◌<◌, ◌==◌, ◌∙◌, ◌≡◌, ◌⊎◌, ap, Bool, granted_at, holds, if◌then◌else◌, inl, inr, is_among_waiters, is_live, is_some, IsOnWay}
+use Rattle.gl_table.proofs.Words.{IsOrderly, members, NL, NodeId, not, pumped, refl, restatus, same_mode, same_number, split, State, Status, status_of, subst}
+use Rattle.gl_table.proofs.Words.{sym, true, without_wait, ℕ, ⊎_elim}
 use Rattle.gl_table.proofs.GrantKeeps.{txn_there}
 use Rattle.gl_table.proofs.Less.{waiting_is}
 use Rattle.gl_table.proofs.OneWaits.{waits_there}
@@ -28,13 +18,15 @@ pub orderly_on_way : (s now : State) → IsOrderly s → IsOnWay s now → now.m
 orderly_on_way s now o way most same held = record {
   holders = λ u q h. same u ∙ ⊎_elim (λ k. o.holders u q k) (λ k. txn_there (s.txns u) _ (waits_there s o u q k).1) (held u q h);
   holders_live = λ u q h. ap (λ g. is_live g q) way.graph ∙ ⊎_elim (λ k. o.holders_live u q k) (λ k. o.waiters_live u q k) (held u q h);
-  waiters_live = λ u q h. let w = waiting_is (status_of now u) q (way.waits_are u q h) in ap (λ g. is_live g q) way.graph ∙ way.live u q w.0 (way.waited u q w.0 w.1);
+  waiters_live = λ u q h. let w = waiting_is (status_of now u) q (way.waits_are u q h) in ap (λ g. is_live g q) way.graph
+      ∙ way.live u q w.0 (way.waited u q w.0 w.1);
   waits_are = way.waits_are;
   one_wait = λ u q m h. (way.one_wait u q m h, (o.one_wait u q m (way.waited u q m h)).1);
   below = λ u h. subst (λ (k : ℕ). u < k) (sym most) (o.below u (sym (same u) ∙ h));
 }
 
-pub way_withdrawn : (s now : State) (t : ℕ) (st : Status) (chosen : NodeId → Bool) → IsQuiet st → IsOnWay s now → IsOnWay s (pumped (without_wait now t st) chosen)
+pub way_withdrawn : (s now : State) (t : ℕ) (st : Status) (chosen : NodeId → Bool) → IsQuiet st → IsOnWay s now
+    → IsOnWay s (pumped (without_wait now t st) chosen)
 way_withdrawn s now t st chosen quiet way = way_pumped s (without_wait now t st) (way_without_wait s now way t st quiet) chosen
 
 module _ (s : State) (o : IsOrderly s) (t : ℕ) (st : Status) (chosen : NodeId → Bool) (quiet : IsQuiet st) where
@@ -43,11 +35,13 @@ module _ (s : State) (o : IsOrderly s) (t : ℕ) (st : Status) (chosen : NodeId 
 
   same_taken : (u : ℕ) → is_some (b.txns u) ≡ is_some (s.txns u)
   same_taken u = split (u == t)
-      (λ e. ap (λ k. is_some (if k then restatus st (s.txns t) else s.txns u)) e ∙ restatus_some st (s.txns t) ∙ ap (λ v. is_some (s.txns v)) (sym (same_number u t e)))
+      (λ e. ap (λ k. is_some (if k then restatus st (s.txns t) else s.txns u)) e ∙ restatus_some st (s.txns t)
+      ∙ ap (λ v. is_some (s.txns v)) (sym (same_number u t e)))
       (λ e. ap is_some (without_wait_other s t st u e))
 
   pub orderly_without : IsOrderly (pumped (without_wait s t st) chosen)
-  orderly_without = orderly_on_way s (pumped b chosen) o (way_withdrawn s s t st chosen quiet (way_here s o)) refl (λ u. woken_some (granted_at b chosen) u (b.txns u) ∙ same_taken u)
+  orderly_without = orderly_on_way s (pumped b chosen) o (way_withdrawn s s t st chosen quiet (way_here s o)) refl
+      (λ u. woken_some (granted_at b chosen) u (b.txns u) ∙ same_taken u)
       (λ u q h. split (is_among_waiters u (granted_at b chosen q))
       (λ g. inr (out_of_without t u (s.queue q) (granted_stands b chosen u q g)).0)
       (λ g. inl (ap (λ m. not (same_mode m NL)) (sym (grants_other (granted_at b chosen q) (members b q) u g)) ∙ h)))

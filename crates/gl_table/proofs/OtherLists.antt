@@ -1,16 +1,7 @@
 -- One list is written: all others agree as they did.
-use Rattle.std.specs.Prelude.{◌≡◌, ℕ, ◌≤◌, ◌<◌, false, not, ◌&&◌, ◌==◌, List, length, if◌then◌else◌, slice_index_or, slice_set}
-use Rattle.std.proofs.Common.{refl, sym, ap, ◌∙◌, subst}
-use Rattle.indexmap.specs.IndexMap.{spare}
-use Rattle.gl_modes.specs.declared.mode.Mode.TheVariants.{NL}
-use Rattle.gl_modes.specs.declared.node.NodeId.{NodeId}
-use Rattle.gl_modes.specs.Nodes.{same_node}
-use Rattle.gl_graph.proofs.Look.{number_same}
-use Rattle.gl_table.specs.declared.list.LockList.{LockList}
-use Rattle.gl_table.specs.Lists.{count_of, is_listed, mode_of}
-use Rattle.gl_table.specs.Locks.{Agrees, CountsHeld}
-use Rattle.gl_table.specs.Slots.{by_list, listed_by}
-use Rattle.gl_table.specs.State.{State}
+use Rattle.gl_table.proofs.Words.{◌&&◌, ◌<◌, ◌==◌, ◌∙◌, ◌≡◌, ◌≤◌, Agrees, ap, by_list, count_of, CountsHeld, false, if◌then◌else◌, is_listed, length, List}
+use Rattle.gl_table.proofs.Words.{listed_by, LockList, mode_of, NL, NodeId, not, number_same, refl, same_node, slice_index_or, slice_set, spare, State, subst}
+use Rattle.gl_table.proofs.Words.{sym, ℕ}
 use Rattle.gl_table.proofs.Slots.{by_list-at, by_list-set}
 
 module _ (ls : List LockList) (t : ℕ) (new : LockList) (lt : t < length ls) where
@@ -32,6 +23,8 @@ module _ (ls : List LockList) (t : ℕ) (new : LockList) (lt : t < length ls) wh
     counts-set s count p = other_list (λ l. count_of l p) 0 ∙ count p
 
 -- a node is taken out of one list
-pub popped-listed : (ls : List LockList) (t : ℕ) (l l' : LockList) → t < length ls → l ≡ slice_index_or ls t l → (n : NodeId) → ((q : NodeId) → is_listed l' q ≡ (is_listed l q && not (same_node q n)))
+pub popped-listed : (ls : List LockList) (t : ℕ) (l l' : LockList) → t < length ls → l ≡ slice_index_or ls t l → (n : NodeId)
+    → ((q : NodeId) → is_listed l' q ≡ (is_listed l q && not (same_node q n)))
     → (q : NodeId) → listed_by (slice_set ls t l') t q ≡ (listed_by ls t q && not (same_node q n))
-popped-listed ls t l l' lt at n listed q = own_list ls t l' lt (λ x. is_listed x q) false ∙ listed q ∙ ap (λ b. b && not (same_node q n)) (sym (by_list-at (λ x. is_listed x q) false ls t l lt at))
+popped-listed ls t l l' lt at n listed q = own_list ls t l' lt (λ x. is_listed x q) false ∙ listed q
+    ∙ ap (λ b. b && not (same_node q n)) (sym (by_list-at (λ x. is_listed x q) false ls t l lt at))

@@ -1,16 +1,9 @@
 -- The parents of a node in a lawful graph: no two alike, and at most eight.
-use Rattle.std.specs.Prelude.{◌≡◌, ℕ, ◌≤◌, Bool, true, false, not, List, [], ◌∷◌, length}
-use Rattle.std.specs.List.{list_all, list_any}
-use Rattle.std.proofs.Common.{refl, sym, ap, ◌∙◌, subst, arith}
-use Rattle.gl_modes.specs.declared.node.NodeId.{NodeId}
-use Rattle.gl_modes.specs.Nodes.{same_node}
-use Rattle.gl_graph.specs.Shapes.{Shape, Inner, File, Index, Interval, Rec, is_file_shape, is_index_of_shape}
-use Rattle.gl_graph.specs.Graph.{Graph, node_at, shape_in, shape_of, parents_in, parents_of, first_in, first_parent, nodes, indexes_of, interval_of, intervals_of}
-use Rattle.gl_graph.specs.Lawful.{IsLawfulGraph, HasShape, are_distinct}
-use Rattle.gl_graph.proofs.Look.{cases_of, or_elim, or_left, or_right, and_both, both, no, same_node_is, is_same_node, all_filter}
-use Rattle.gl_graph.proofs.KindRules.{interval_is}
-use Rattle.gl_graph.proofs.Distinct.{indexes_distinct}
-use Rattle.gl_header.proofs.Ranges.{not_true}
+use Rattle.gl_table.proofs.Words.{[], ◌∙◌, ◌∷◌, ◌≡◌, ◌≤◌, all_filter, and_both, ap, are_distinct, arith, Bool, both, cases_of, false, File, first_in}
+use Rattle.gl_table.proofs.Words.{first_parent, Graph, HasShape, Index, indexes_distinct, indexes_of, Inner, Interval, interval_is, interval_of, intervals_of}
+use Rattle.gl_table.proofs.Words.{is_file_shape, is_index_of_shape, is_same_node, IsLawfulGraph, length, List, list_all, list_any, no, node_at, NodeId, nodes}
+use Rattle.gl_table.proofs.Words.{not, not_true, or_elim, or_left, or_right, parents_in, parents_of, Rec, refl, same_node, same_node_is, Shape, shape_in}
+use Rattle.gl_table.proofs.Words.{shape_of, subst, sym, true, ℕ}
 
 short_intervals : (g : Graph) (is : List NodeId) (keys : List ℕ) → length (intervals_of g is keys) ≤ length is
 short_intervals g [] keys = omega arith
@@ -35,7 +28,8 @@ module _ (g : Graph) (law : IsLawfulGraph g) where
       (ap (λ o. is_file_shape (shape_in o)) there, or_left _ _ (is_same_node (first_parent g p) i (ap (λ o. first_in (parents_in o)) there))))
       (λ rest. let r = interval_among f p is keys t.1 rest in (r.0, or_right (same_node (first_parent g p) i) _ r.1))
 
-  intervals_distinct : (f : NodeId) (is : List NodeId) (keys : List ℕ) → are_of f is ≡ true → are_distinct is ≡ true → are_distinct (intervals_of g is keys) ≡ true
+  intervals_distinct : (f : NodeId) (is : List NodeId) (keys : List ℕ) → are_of f is ≡ true → are_distinct is ≡ true
+      → are_distinct (intervals_of g is keys) ≡ true
   intervals_distinct f [] keys h d = refl
   intervals_distinct f (i ∷ is) [] h d = refl
   intervals_distinct f (i ∷ is) (key ∷ keys) h d =
@@ -43,7 +37,8 @@ module _ (g : Graph) (law : IsLawfulGraph g) where
       let u = and_both (not (list_any (same_node i) is)) (are_distinct is) d in
       let own : first_parent g (interval_of g i key) ≡ i = ap (λ o. first_in (parents_in o)) (interval_is g law f i key t.0) in
       both _ _
-      (ap not (not_true _ (λ k. no (sym (ap not (ap (λ q. list_any (same_node q) is) (sym own) ∙ (interval_among f (interval_of g i key) is keys t.1 k).1)) ∙ u.0))))
+      (ap not (not_true _ (λ k. no (sym (ap not (ap (λ q. list_any (same_node q) is) (sym own) ∙ (interval_among f (interval_of g i key) is keys t.1 k).1))
+      ∙ u.0))))
       (intervals_distinct f is keys t.1 u.1)
 
   distinct_of : (sh : Shape) (ps : List NodeId) (n : NodeId) → HasShape g n sh ps → are_distinct ps ≡ true

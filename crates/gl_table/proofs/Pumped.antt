@@ -1,28 +1,14 @@
 -- Nodes that grant from their fronts bring the whole law back.
-use Rattle.std.specs.Prelude.{length, drop, ◌≡◌, ℕ, ◌≤◌, Bool, true, false, not, List, [], ◌∷◌, ◌++◌, Option, Some, None, is_some, if◌then◌else◌}
-use Rattle.std.specs.List.{filter}
-use Rattle.std.proofs.Common.{refl, sym, ap, ◌∙◌, subst}
-use Rattle.std.proofs.lemmas.List.Elements.{filter-append}
-use Rattle.gl_modes.specs.declared.mode.Mode.{Mode}
-use Rattle.gl_modes.specs.declared.mode.Mode.TheVariants.{NL}
-use Rattle.gl_modes.specs.declared.node.NodeId.{NodeId}
-use Rattle.gl_modes.specs.Modes.{is_at_least, same_mode}
-use Rattle.gl_table.specs.declared.txn.Status.{Status}
-use Rattle.gl_table.specs.declared.txn.Status.TheVariants.{Active, Waiting, Condemned}
-use Rattle.gl_graph.specs.Graph.{parents_of}
-use Rattle.gl_header.specs.Header.{Waiter, front, after_grants, is_among_waiters, is_waiter, IsCompatible}
-use Rattle.gl_table.specs.State.{State, Txn, members, status_in, status_of, age_in}
-use Rattle.gl_table.specs.Pumps.{waits_at, granted_at, pumped, woken, awake}
-use Rattle.gl_table.specs.Intends.{intends}
-use Rattle.gl_table.specs.Lawful.{ModeFitsKind, IsLawful}
-use Rattle.gl_header.proofs.Fronts.{front-and_rest, front-after_front, pumped-compatible}
+use Rattle.gl_table.proofs.Words.{[], ◌++◌, ◌∙◌, ◌∷◌, ◌≡◌, ◌≤◌, Active, after_grants, age_in, ap, at_least-refl, awake, Bool, Condemned, drop, false, filter}
+use Rattle.gl_table.proofs.Words.{filter-append, front, front-after_front, front-and_rest, granted_at, if◌then◌else◌, intends, is_among_waiters, is_at_least}
+use Rattle.gl_table.proofs.Words.{is_some, is_waiter, IsCompatible, IsLawful, length, List, members, Mode, ModeFitsKind, NL, NodeId, None, not, Option, or_left}
+use Rattle.gl_table.proofs.Words.{or_right, parents_of, pumped, pumped-compatible, refl, same_mode, same_node-refl, Some, split, State, Status, status_in}
+use Rattle.gl_table.proofs.Words.{status_of, subst, sym, true, Txn, Waiter, Waiting, waits_at, woken, ℕ}
 use Rattle.gl_table.proofs.GrantKeeps.{rule_more, more_held, txn_there, holders-within}
-use Rattle.gl_table.proofs.Queues.{ahead, ahead_is, ahead_first, ahead_after, clash, among_append, not_among, none_filtered, one_in_first, grants_other, grants_one}
+use Rattle.gl_table.proofs.Queues.{ahead, ahead_is, ahead_first, ahead_after, clash, among_append, not_among, none_filtered, one_in_first, grants_other}
+use Rattle.gl_table.proofs.Queues.{grants_one}
 use Rattle.gl_table.proofs.LawfulBut.{IsLawfulBut}
 use Rattle.gl_table.proofs.Less.{waiting_is}
-use Rattle.gl_graph.proofs.Look.{split, or_left, or_right}
-use Rattle.gl_modes.proofs.NodeLemmas.{same_node-refl}
-use Rattle.gl_modes.proofs.ModeLemmas.{at_least-refl}
 
 -- what the granted lists do to a transaction
 module _ (g : NodeId → List Waiter) (u : ℕ) where
@@ -39,12 +25,14 @@ module _ (g : NodeId → List Waiter) (u : ℕ) where
   still q m Condemned h = absurd (cc)
   still q m (Waiting n w) h = by (is_among_waiters u (g n)) refl h
     where
-      by : (b : Bool) → is_among_waiters u (g n) ≡ b → Some (if b then Active else Waiting n w) ≡ Some (Waiting q m) → (Some (Waiting n w) ≡ Some (Waiting q m)) × (is_among_waiters u (g q) ≡ false)
+      by : (b : Bool) → is_among_waiters u (g n) ≡ b → Some (if b then Active else Waiting n w) ≡ Some (Waiting q m) → (Some (Waiting n w) ≡ Some (Waiting q m))
+          × (is_among_waiters u (g q) ≡ false)
       by true e k = absurd (cc)
       by false e k = let is : n ≡ q = cc in (k, ap (λ p. is_among_waiters u (g p)) (sym is) ∙ e)
 
   -- who still waits was not granted
-  pub woken_waits : (q : NodeId) (m : Mode) (x : Option Txn) → status_in (woken g u x) ≡ Some (Waiting q m) → (status_in x ≡ Some (Waiting q m)) × (is_among_waiters u (g q) ≡ false)
+  pub woken_waits : (q : NodeId) (m : Mode) (x : Option Txn) → status_in (woken g u x) ≡ Some (Waiting q m) → (status_in x ≡ Some (Waiting q m))
+      × (is_among_waiters u (g q) ≡ false)
   woken_waits q m None h = absurd (cc)
   woken_waits q m (Some x) h = still q m x.status h
 
@@ -52,7 +40,8 @@ module _ (g : NodeId → List Waiter) (u : ℕ) where
   sleeps q m st h k = let is : st ≡ Waiting q m = cc in ap (λ x. Some (awake g u x)) is ∙ ap (λ b. Some (if b then Active else Waiting q m)) k
 
   -- and who was not granted still waits
-  pub woken_sleeps : (q : NodeId) (m : Mode) (x : Option Txn) → status_in x ≡ Some (Waiting q m) → is_among_waiters u (g q) ≡ false → status_in (woken g u x) ≡ Some (Waiting q m)
+  pub woken_sleeps : (q : NodeId) (m : Mode) (x : Option Txn) → status_in x ≡ Some (Waiting q m) → is_among_waiters u (g q) ≡ false
+      → status_in (woken g u x) ≡ Some (Waiting q m)
   woken_sleeps q m None h k = absurd (cc)
   woken_sleeps q m (Some x) h k = sleeps q m x.status h k
 
@@ -67,7 +56,8 @@ module _ (s : State) (chosen : NodeId → Bool) (law : IsLawfulBut chosen s) whe
   pub granted_rest : (q : NodeId) → got q ++ left q ≡ s.queue q
   granted_rest q = by (chosen q)
     where
-      by : (b : Bool) → (if b then front s.most (members s q) (s.queue q) else []) ++ drop (length (if b then front s.most (members s q) (s.queue q) else [])) (s.queue q) ≡ s.queue q
+      by : (b : Bool) → (if b then front s.most (members s q) (s.queue q) else []) ++ drop (length (if b then front s.most (members s q) (s.queue q) else []))
+          (s.queue q) ≡ s.queue q
       by true = front-and_rest s.most (members s q) (s.queue q)
       by false = refl
 
@@ -81,7 +71,8 @@ module _ (s : State) (chosen : NodeId → Bool) (law : IsLawfulBut chosen s) whe
   wait_of u q h = waiting_is (status_of s u) q (law.waits_are u q h)
 
   -- who is granted stood once in the queue, so it is gone from what is left
-  pub one_of : (u : ℕ) (q : NodeId) (m : Mode) → status_of s u ≡ Some (Waiting q m) → is_among_waiters u (got q) ≡ true → (filter (is_waiter u) (got q) ≡ (u, m) ∷ []) × (filter (is_waiter u) (left q) ≡ [])
+  pub one_of : (u : ℕ) (q : NodeId) (m : Mode) → status_of s u ≡ Some (Waiting q m) → is_among_waiters u (got q) ≡ true
+      → (filter (is_waiter u) (got q) ≡ (u, m) ∷ []) × (filter (is_waiter u) (left q) ≡ [])
   one_of u q m st h =
       one_in_first (filter (is_waiter u) (got q)) (filter (is_waiter u) (left q)) (u, m)
       (sym (filter-append (is_waiter u) (got q) (left q)) ∙ ap (filter (is_waiter u)) (granted_rest q) ∙ law.one_wait u q m st)
@@ -89,7 +80,8 @@ module _ (s : State) (chosen : NodeId → Bool) (law : IsLawfulBut chosen s) whe
 
   -- granted here, or holding what it held
   pub grant_case : {C : Type 0} (u : ℕ) (q : NodeId)
-      → ((m : Mode) → status_of s u ≡ Some (Waiting q m) → is_among_waiters u (got q) ≡ true → (pumped s chosen).held u q ≡ m → is_among_waiters u (left q) ≡ false → C)
+      → ((m : Mode) → status_of s u ≡ Some (Waiting q m) → is_among_waiters u (got q) ≡ true → (pumped s chosen).held u q ≡ m
+      → is_among_waiters u (left q) ≡ false → C)
       → (is_among_waiters u (got q) ≡ false → (pumped s chosen).held u q ≡ s.held u q → C) → C
   grant_case u q here there =
       split (is_among_waiters u (got q))
@@ -99,19 +91,22 @@ module _ (s : State) (chosen : NodeId → Bool) (law : IsLawfulBut chosen s) whe
 
   -- nobody loses by it
   pub grew : (u : ℕ) (q : NodeId) → is_at_least ((pumped s chosen).held u q) (s.held u q) ≡ true
-  grew u q = grant_case u q (λ m st h e out. ap (λ a. is_at_least a (s.held u q)) e ∙ (law.waits_intend u q m st).2) (λ h e. ap (λ a. is_at_least a (s.held u q)) e ∙ at_least-refl (s.held u q))
+  grew u q = grant_case u q (λ m st h e out. ap (λ a. is_at_least a (s.held u q)) e ∙ (law.waits_intend u q m st).2)
+      (λ h e. ap (λ a. is_at_least a (s.held u q)) e ∙ at_least-refl (s.held u q))
 
   compatible_now : (q : NodeId) → IsCompatible (λ t. (pumped s chosen).held t q)
   compatible_now q = by (chosen q)
     where
       by : (b : Bool) → IsCompatible (after_grants (members s q) (if b then front s.most (members s q) (s.queue q) else []))
-      by true = pumped-compatible s.most (members s q) (s.queue q) (λ u h. let st = wait_of u q h in law.slots_below u (txn_there (s.txns u) _ st.1)) (holders-within s q (λ u h. law.slots_below u (law.grants_live u q h).0)) (λ t u ne. law.compatible t u q ne)
+      by true = pumped-compatible s.most (members s q) (s.queue q) (λ u h. let st = wait_of u q h in law.slots_below u (txn_there (s.txns u) _ st.1))
+          (holders-within s q (λ u h. law.slots_below u (law.grants_live u q h).0)) (λ t u ne. law.compatible t u q ne)
       by false = λ t u ne. law.compatible t u q ne
 
   front_now : (q : NodeId) → front s.most (λ t. (pumped s chosen).held t q) (left q) ≡ []
   front_now q = by (chosen q) refl
     where
-      by : (b : Bool) → chosen q ≡ b → front s.most (after_grants (members s q) (if b then front s.most (members s q) (s.queue q) else [])) (drop (length (if b then front s.most (members s q) (s.queue q) else [])) (s.queue q)) ≡ []
+      by : (b : Bool) → chosen q ≡ b → front s.most (after_grants (members s q) (if b then front s.most (members s q) (s.queue q) else []))
+          (drop (length (if b then front s.most (members s q) (s.queue q) else [])) (s.queue q)) ≡ []
       by true e = front-after_front s.most (members s q) (s.queue q)
       by false e = law.front_waits q e
 
@@ -120,8 +115,10 @@ module _ (s : State) (chosen : NodeId → Bool) (law : IsLawfulBut chosen s) whe
   pumped-lawful = record {
     graph = law.graph;
     grants_live = λ u q h. grant_case u q
-        (λ m st g e out. (woken_some got u (s.txns u) ∙ txn_there (s.txns u) _ st, law.waits_live u q (got_waits u q g), subst (ModeFitsKind s q) (sym e) (law.waits_intend u q m st).3))
-        (λ g e. let old = law.grants_live u q (sym (ap (λ a. not (same_mode a NL)) e) ∙ h) in (woken_some got u (s.txns u) ∙ old.0, old.1, subst (ModeFitsKind s q) (sym e) old.2));
+        (λ m st g e out. (woken_some got u (s.txns u) ∙ txn_there (s.txns u) _ st, law.waits_live u q (got_waits u q g),
+        subst (ModeFitsKind s q) (sym e) (law.waits_intend u q m st).3))
+        (λ g e. let old = law.grants_live u q (sym (ap (λ a. not (same_mode a NL)) e) ∙ h) in
+        (woken_some got u (s.txns u) ∙ old.0, old.1, subst (ModeFitsKind s q) (sym e) old.2));
     waits_live = λ u q h. law.waits_live u q (left_waits u q h);
     compatible = λ u v q ne. compatible_now q u v ne;
     grants_intend = λ u q h. rule_more (s.held u) ((pumped s chosen).held u) (grew u) (parents_of s.graph q) ((pumped s chosen).held u q) (grant_case u q
@@ -134,7 +131,8 @@ module _ (s : State) (chosen : NodeId → Bool) (law : IsLawfulBut chosen s) whe
       old.3,
     );
     one_wait = λ u q m st'. let was = woken_waits got u q m (s.txns u) st' in
-        sym (filter-append (is_waiter u) (got q) (left q) ∙ ap (λ l. l ++ filter (is_waiter u) (left q)) (not_among u (got q) was.1)) ∙ ap (filter (is_waiter u)) (granted_rest q) ∙ law.one_wait u q m was.0;
+        sym (filter-append (is_waiter u) (got q) (left q) ∙ ap (λ l. l ++ filter (is_waiter u) (left q)) (not_among u (got q) was.1))
+        ∙ ap (filter (is_waiter u)) (granted_rest q) ∙ law.one_wait u q m was.0;
     waits_are = λ u q h. let st = wait_of u q (left_waits u q h) in
         let out : is_among_waiters u (got q) ≡ false = grant_case u q (λ m _ g e out. clash h out) (λ g e. g) in
         ap (λ o. waits_at o q) (woken_sleeps got u q st.0 (s.txns u) st.1 out) ∙ same_node-refl q;
@@ -146,6 +144,7 @@ module _ (s : State) (chosen : NodeId → Bool) (law : IsLawfulBut chosen s) whe
         (ahead_is (s.queue q) a b ∙ ap (λ l. ahead l a b) (sym (granted_rest q)) ∙ ahead_after (got q) (left q) a b g ah)));
     front_waits = λ q. front_now q;
     slots_below = λ u h. law.slots_below u (sym (woken_some got u (s.txns u)) ∙ h);
-    ages = λ u h. let old = law.ages u (sym (woken_some got u (s.txns u)) ∙ h) in let same = sym (woken_age got u (s.txns u)) in (subst (λ a. 1 ≤ a) same old.0, subst (λ a. a ≤ s.begins) same old.1);
+    ages = λ u h. let old = law.ages u (sym (woken_some got u (s.txns u)) ∙ h) in let same = sym (woken_age got u (s.txns u)) in
+        (subst (λ a. 1 ≤ a) same old.0, subst (λ a. a ≤ s.begins) same old.1);
     ages_differ = λ u v h e. law.ages_differ u v (sym (woken_some got u (s.txns u)) ∙ h) (sym (woken_age got u (s.txns u)) ∙ e ∙ woken_age got v (s.txns v));
   }

@@ -1,30 +1,9 @@
 -- Lists that agree with a state still do once a node has granted from its front.
-use Rattle.std.specs.Prelude.{◌≡◌, ◌≢◌, ℕ, ◌+◌, ◌≤◌, Bool, true, false, not, ◌&&◌, ◌||◌, ◌==◌, List, [], ◌∷◌, Some, if◌then◌else◌}
-use Rattle.std.specs.List.{count_by}
-use Rattle.std.proofs.Common.{refl, sym, ap, ap₂, ◌∙◌, subst, arith}
-use Rattle.std.proofs.Math.Path.{fun_ext}
-use Rattle.gl_modes.specs.declared.mode.Mode.{Mode}
-use Rattle.gl_modes.specs.declared.mode.Mode.TheVariants.{NL}
-use Rattle.gl_modes.specs.declared.node.NodeId.{NodeId}
-use Rattle.gl_modes.specs.Modes.{same_mode}
-use Rattle.gl_modes.specs.Nodes.{same_node}
-use Rattle.gl_modes.proofs.ModeLemmas.{same_mode-equal}
-use Rattle.gl_modes.proofs.NodeLemmas.{same_node-equal, same_node-refl, same_node-sym}
-use Rattle.gl_graph.specs.Graph.{is_live, parents_of}
-use Rattle.gl_graph.specs.Lawful.{IsLawfulGraph}
-use Rattle.gl_graph.proofs.Look.{split, and_both, or_left, or_right}
-use Rattle.gl_header.specs.Header.{Members, Waiter, after_grants, holds, is_among_waiters, with_mode}
-use Rattle.gl_header.proofs.Ranges.{not_true}
-use Rattle.gl_table.specs.declared.list.LockList.{LockList}
-use Rattle.gl_table.specs.declared.txn.Status.TheVariants.{Waiting}
-use Rattle.gl_table.specs.Covered.{held_children}
-use Rattle.gl_table.specs.Locks.{Agrees, CountsHeld}
-use Rattle.gl_table.specs.Pumping.{WaitWell}
-use Rattle.gl_table.specs.Pumps.{front_at, granted_at, pumped}
-use Rattle.gl_table.specs.Slots.{WakesLists, held_by}
-use Rattle.gl_table.specs.State.{State, members, status_of}
-use Rattle.gl_table.specs.Steps.{children_that}
-use Rattle.gl_table.specs.Waiting.{is_wait}
+use Rattle.gl_table.proofs.Words.{[], ◌&&◌, ◌+◌, ◌==◌, ◌||◌, ◌∙◌, ◌∷◌, ◌≡◌, ◌≢◌, ◌≤◌, after_grants, Agrees, and_both, ap, ap₂, arith, Bool, children_that}
+use Rattle.gl_table.proofs.Words.{count_by, CountsHeld, false, front_at, fun_ext, granted_at, held_by, held_children, holds, if◌then◌else◌, is_among_waiters}
+use Rattle.gl_table.proofs.Words.{is_live, is_wait, IsLawfulGraph, List, LockList, Members, members, Mode, NL, NodeId, not, not_true, or_left, or_right}
+use Rattle.gl_table.proofs.Words.{parents_of, pumped, refl, same_mode, same_mode-equal, same_node, same_node-equal, same_node-refl, same_node-sym, Some, split}
+use Rattle.gl_table.proofs.Words.{State, status_of, subst, sym, true, Waiter, Waiting, WaitWell, WakesLists, with_mode, ℕ}
 use Rattle.gl_table.proofs.Children.{children_up}
 use Rattle.gl_table.proofs.Less.{waiting_is}
 use Rattle.gl_table.proofs.Pumped.{woken_waits}
@@ -59,7 +38,8 @@ module _ (b : State) (n : NodeId) (well : WaitWell b n) where
   granted_mode : (u : ℕ) → is_among_waiters u (granted n) ≡ true → (m : Mode) × (after.held u n ≡ m) × (m ≢ NL)
   granted_mode u h =
       let stands = well.one_wait u (granted_stands b (same_node n) u n h) in
-      let once = one_in_first (waits_of u (granted n)) (waits_of u (left_at b (same_node n) n)) (u, stands.0) (waits_granted_and_left b (same_node n) u n ∙ stands.1) (λ e. clash h (none_filtered u (granted n) e)) in
+      let once = one_in_first (waits_of u (granted n)) (waits_of u (left_at b (same_node n) n)) (u, stands.0) (waits_granted_and_left b (same_node n) u n
+      ∙ stands.1) (λ e. clash h (none_filtered u (granted n) e)) in
       (stands.0, grants_one (granted n) (members b n) u stands.0 once.0, stands.2)
 
   now_holds : (u : ℕ) → is_among_waiters u (granted n) ≡ true → holds (members after n) u ≡ true
@@ -70,13 +50,16 @@ module _ (b : State) (n : NodeId) (well : WaitWell b n) where
   same_held u q e = grants_other (granted q) (members b q) u e
 
   -- who held or waited still does
-  concerned : (u : ℕ) (q : NodeId) → (holds (members b q) u || is_among_waiters u (b.queue q)) ≡ (holds (members after q) u || is_among_waiters u (after.queue q))
+  concerned : (u : ℕ) (q : NodeId) → (holds (members b q) u || is_among_waiters u (b.queue q))
+      ≡ (holds (members after q) u || is_among_waiters u (after.queue q))
   concerned u q = split (is_among_waiters u (granted q))
       (λ h. let is = only_here u q h in
       or_right (holds (members b q) u) (is_among_waiters u (b.queue q)) (granted_stands b (same_node n) u q h)
-      ∙ sym (or_left (holds (members after q) u) (is_among_waiters u (after.queue q)) (ap (λ x. holds (members after x) u) is ∙ now_holds u (ap (λ x. is_among_waiters u (granted x)) (sym is) ∙ h))))
+      ∙ sym (or_left (holds (members after q) u) (is_among_waiters u (after.queue q)) (ap (λ x. holds (members after x) u) is
+      ∙ now_holds u (ap (λ x. is_among_waiters u (granted x)) (sym is) ∙ h))))
       (λ h. ap₂ (λ x y. not (same_mode x NL) || y) (sym (same_held u q h))
-      (ap (is_among_waiters u) (sym (granted_and_left b (same_node n) q)) ∙ among_append u (granted q) (left_at b (same_node n) q) ∙ ap (λ k. k || is_among_waiters u (left_at b (same_node n) q)) h))
+      (ap (is_among_waiters u) (sym (granted_and_left b (same_node n) q)) ∙ among_append u (granted q) (left_at b (same_node n) q)
+      ∙ ap (λ k. k || is_among_waiters u (left_at b (same_node n) q)) h))
 
   module _ (ls ls' : List LockList) (wakes : WakesLists ls n (parents_of b.graph n) (front_at b n) ls') where
     pub agrees_pumped : (u : ℕ) → Agrees b ls u → Agrees after ls' u
@@ -85,7 +68,8 @@ module _ (b : State) (n : NodeId) (well : WaitWell b n) where
           (λ e. ap (λ k. if k then after_grants (λ v. held_by ls v n) (front_at b n) u else held_by ls u q) e
           ∙ after_local (front_at b n) (λ v. held_by ls v n) (members b n) u (agrees.modes n)
           ∙ ap (λ ws. after_grants (members b n) ws u) (sym granted_here) ∙ ap (λ x. after.held u x) (sym (same_node-equal q n e)))
-          (λ e. ap (λ k. if k then after_grants (λ v. held_by ls v n) (front_at b n) u else held_by ls u q) e ∙ agrees.modes q ∙ ap (λ ws. after_grants (members b q) ws u) (sym (granted_there q e)));
+          (λ e. ap (λ k. if k then after_grants (λ v. held_by ls v n) (front_at b n) u else held_by ls u q) e ∙ agrees.modes q
+          ∙ ap (λ ws. after_grants (members b q) ws u) (sym (granted_there q e)));
       listed = λ q. wakes.listed u q ∙ agrees.listed q ∙ concerned u q;
       room = λ h. let st = wait_is (status_of after u) h in let was = woken_waits granted u st.0 st.1 (b.txns u) st.2 in
           subst (λ (k : ℕ). 9 ≤ k) (sym (wakes.rooms u (not_true _ (λ g. clash (ap (is_among_waiters u) granted_here ∙ g) (asleep u st.0 st.1 was)))))
@@ -93,7 +77,8 @@ module _ (b : State) (n : NodeId) (well : WaitWell b n) where
     }
       where
         -- who waits still was not granted
-        asleep : (u : ℕ) (q : NodeId) (m : Mode) → (status_of b u ≡ Some (Waiting q m)) × (is_among_waiters u (granted q) ≡ false) → is_among_waiters u (granted n) ≡ false
+        asleep : (u : ℕ) (q : NodeId) (m : Mode) → (status_of b u ≡ Some (Waiting q m)) × (is_among_waiters u (granted q) ≡ false)
+            → is_among_waiters u (granted n) ≡ false
         asleep u q m was = split (is_among_waiters u (granted n))
             (λ h. let here = waiting_is (status_of b u) n (well.waits_are u (granted_stands b (same_node n) u n h)) in
             clash h (ap (λ x. is_among_waiters u (granted x)) (waiting_there (sym here.1 ∙ was.0)) ∙ was.1))
@@ -103,11 +88,13 @@ module _ (b : State) (n : NodeId) (well : WaitWell b n) where
             waiting_there e = cc
 
     pub counts_pumped : IsLawfulGraph b.graph → is_live b.graph n ≡ true → (u : ℕ) → held_by ls u n ≡ b.held u n → CountsHeld b ls u → CountsHeld after ls' u
-    counts_pumped law live u same counts p = wakes.counts u p ∙ ap₂ (λ k m. k + (if is_among_waiters u (front_at b n) && same_mode m NL then count_by (same_node p) (parents_of b.graph n) else 0)) (counts p) same
+    counts_pumped law live u same counts p = wakes.counts u p
+        ∙ ap₂ (λ k m. k + (if is_among_waiters u (front_at b n) && same_mode m NL then count_by (same_node p) (parents_of b.graph n) else 0)) (counts p) same
         ∙ split (is_among_waiters u (front_at b n) && same_mode (b.held u n) NL)
         (λ e. let both = and_both (is_among_waiters u (front_at b n)) (same_mode (b.held u n) NL) e in
         ap (λ k. held_children b u p + (if k then count_by (same_node p) (parents_of b.graph n) else 0)) e
-        ∙ sym (children_up b.graph law (holding b) (holding after) n live (ap not both.1) (now_holds u (ap (is_among_waiters u) granted_here ∙ both.0)) (λ q e. ap (λ m. not (same_mode m NL)) (same_held u q (ap (is_among_waiters u) (granted_there q e)))) p))
+        ∙ sym (children_up b.graph law (holding b) (holding after) n live (ap not both.1) (now_holds u (ap (is_among_waiters u) granted_here ∙ both.0))
+        (λ q e. ap (λ m. not (same_mode m NL)) (same_held u q (ap (is_among_waiters u) (granted_there q e)))) p))
         (λ e. ap (λ k. held_children b u p + (if k then count_by (same_node p) (parents_of b.graph n) else 0)) e ∙ no_more (held_children b u p)
         ∙ ap (λ f. children_that b.graph f p) (fun_ext (λ q. sym (same_holding q e))))
       where

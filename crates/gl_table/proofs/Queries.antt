@@ -1,27 +1,9 @@
 -- What is asked of a table: what its lists and headers say is what its state says.
-use Rattle.std.specs.Prelude.{◌≡◌, ℕ, Bool, true, false, List, [], ◌∷◌, Option, Some, None, Result, Ok, Err, if◌then◌else◌, length}
-use Rattle.std.proofs.Common.{refl, sym, ap, ap₂, subst, ◌∙◌}
-use Rattle.std.proofs.Math.Path.{fun_ext}
-use Rattle.gl_modes.specs.declared.node.NodeId.{NodeId}
-use Rattle.gl_modes.specs.declared.refusal.Refusal.{Refusal}
-use Rattle.gl_graph.specs.Refusals.{Refuses, first_refusal}
-use Rattle.gl_graph.specs.View.{graph_of}
-use Rattle.gl_graph.proofs.Look.{no, none_some}
-use Rattle.gl_header.specs.Header.{group_of, holds}
-use Rattle.gl_header.specs.State.{slot_limit}
-use Rattle.gl_header.proofs.GroupOf.{group_of-limit}
-use Rattle.gl_table.specs.declared.seat.Seat.{Seat}
+use Rattle.gl_table.proofs.Words.{[], ◌∙◌, ◌∷◌, ◌≡◌, answered, ap, ap₂, board_of, Bool, counted_by, effect_on, effective, Err, false, first_refusal, fun_ext}
+use Rattle.gl_table.proofs.Words.{graph_of, group_of, group_of-limit, held_by, held_children, held_of, holds, if◌then◌else◌, IsSound, length, List, members}
+use Rattle.gl_table.proofs.Words.{members_at, no, NodeId, None, none_some, Ok, Option, queue_of, refl, Refusal, Refuses, RefusesOnly, Result, Seat, shown}
+use Rattle.gl_table.proofs.Words.{slot_limit, Some, state_of, subst, sym, TableView, true, txns_of, view_of, ℕ}
 use Rattle.gl_table.specs.declared.table.Table.TheInside.{Inside}
-use Rattle.gl_table.specs.Answers.{RefusesOnly, answered}
-use Rattle.gl_table.specs.BoardOf.{board_of, shown}
-use Rattle.gl_table.specs.Covered.{held_children}
-use Rattle.gl_table.specs.Effects.{effect_on, effective}
-use Rattle.gl_table.specs.Headers.{held_of, members_at, queue_of}
-use Rattle.gl_table.specs.Seats.{txns_of}
-use Rattle.gl_table.specs.Slots.{counted_by, held_by}
-use Rattle.gl_table.specs.Sound.{IsSound, view_of}
-use Rattle.gl_table.specs.State.{members}
-use Rattle.gl_table.specs.Table.{TableView, state_of}
 use Rattle.gl_table.proofs.GrantKeeps.{lawful-within}
 
 -- where no test refuses, a call answers the value
@@ -65,7 +47,8 @@ module _ (i : Inside) (sound : IsSound i) (v : TableView) (view : view_of i ≡ 
 
   pub group-seen : (n : NodeId) → group_of slot_limit (members_at i.locks.headers.entries n) ≡ group_of (state_of v).most (members (state_of v) n)
   group-seen n =
-      sym (group_of-limit (length i.locks.seats.items) (members_at i.locks.headers.entries n) sound.sound.few (lawful-within (state_of (view_of i)) sound.lawful n))
+      sym (group_of-limit (length i.locks.seats.items) (members_at i.locks.headers.entries n) sound.sound.few
+      (lawful-within (state_of (view_of i)) sound.lawful n))
       ∙ ap (λ w. group_of (state_of w).most (members (state_of w) n)) view
 
   pub children-seen : (t : ℕ) (n : NodeId)
@@ -74,7 +57,8 @@ module _ (i : Inside) (sound : IsSound i) (v : TableView) (view : view_of i ≡ 
   children-seen t n = ap₂ (λ m k. if holds (λ u. m) t then Some k else None) (modes-seen t n) (counts-seen t n)
 
   -- a board is made of who lives, holds and waits alone
-  pub board-seen : (seats : List (Option Seat)) (epoch : ℕ) → seats ≡ i.locks.seats.items → board_of (shown i.locks.headers.entries seats epoch) ≡ board_of (record (state_of v) { accepted = epoch })
+  pub board-seen : (seats : List (Option Seat)) (epoch : ℕ) → seats ≡ i.locks.seats.items
+      → board_of (shown i.locks.headers.entries seats epoch) ≡ board_of (record (state_of v) { accepted = epoch })
   board-seen seats epoch is = λ z.
       board_of (record (state_of v) {
         txns = (ap txns_of is ∙ ap (λ w. txns_of w.seats) view) z;

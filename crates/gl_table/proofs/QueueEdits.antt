@@ -1,15 +1,8 @@
 -- A queue with a wait taken out, and one with a wait put in its place.
-use Rattle.std.specs.Prelude.{◌≡◌, ◌≢◌, ℕ, Bool, true, false, not, ◌&&◌, ◌||◌, ◌==◌, List, [], ◌∷◌, ◌++◌, if◌then◌else◌}
-use Rattle.std.specs.List.{filter}
-use Rattle.std.proofs.Common.{refl, sym, ap, ap₂, ◌∙◌, arith}
-use Rattle.std.proofs.lemmas.Bool.Decides.{nat_tests}
-use Rattle.std.proofs.lemmas.List.Elements.{filter-append}
-use Rattle.gl_modes.specs.declared.mode.Mode.{Mode}
-use Rattle.gl_header.specs.Header.{Members, Waiter, fits, with_mode, front, is_waiter, is_among_waiters, without_waiter, placed, holds, is_empty, enters}
-use Rattle.std.proofs.lemmas.List.{append-nil}
+use Rattle.gl_table.proofs.Words.{[], ◌&&◌, ◌++◌, ◌==◌, ◌||◌, ◌∙◌, ◌∷◌, ◌≡◌, ◌≢◌, and_both, ap, append-nil, ap₂, arith, Bool, differ-false, enters, false}
+use Rattle.gl_table.proofs.Words.{filter, filter-append, fits, front, holds, if◌then◌else◌, is_among_waiters, is_empty, is_waiter, List, Members, Mode}
+use Rattle.gl_table.proofs.Words.{nat_tests, not, or_elim, or_left, or_right, placed, refl, same_number, split, sym, true, Waiter, with_mode, without_waiter, ℕ}
 use Rattle.gl_table.proofs.Queues.{ahead, ahead_first, clash, no_cons, among_append, not_among, none_filtered}
-use Rattle.gl_graph.proofs.Look.{split, or_elim, or_left, or_right, and_both, same_number}
-use Rattle.gl_header.proofs.Ranges.{differ-false}
 
 same_slot : (t : ℕ) → (t == t) ≡ true
 same_slot t = grind (arith, nat_tests)
@@ -22,10 +15,12 @@ out_of_without t u (w ∷ q) h = by (w.0 == t) refl h (out_of_without t u q)
     differ : (w.0 == t) ≡ false → (w.0 == u) ≡ true → u ≢ t
     differ e f = grind (arith, nat_tests)
 
-    by : (b : Bool) → (w.0 == t) ≡ b → is_among_waiters u (if not b then w ∷ without_waiter t q else without_waiter t q) ≡ true → (is_among_waiters u (without_waiter t q) ≡ true → (is_among_waiters u q ≡ true) × (u ≢ t))
+    by : (b : Bool) → (w.0 == t) ≡ b → is_among_waiters u (if not b then w ∷ without_waiter t q else without_waiter t q) ≡ true
+        → (is_among_waiters u (without_waiter t q) ≡ true → (is_among_waiters u q ≡ true) × (u ≢ t))
         → (((w.0 == u) || is_among_waiters u q) ≡ true) × (u ≢ t)
     by true e k r = let old = r k in (or_right (w.0 == u) _ old.0, old.1)
-    by false e k r = or_elim (w.0 == u) _ k (λ f. (ap (λ x. x || is_among_waiters u q) f, differ e f)) (λ f. let old = r f in (or_right (w.0 == u) _ old.0, old.1))
+    by false e k r = or_elim (w.0 == u) _ k (λ f. (ap (λ x. x || is_among_waiters u q) f, differ e f)) (λ f. let old = r f in
+        (or_right (w.0 == u) _ old.0, old.1))
 
 -- another's waits stay
 pub without_filter : (t u : ℕ) (q : List Waiter) → u ≢ t → filter (is_waiter u) (without_waiter t q) ≡ filter (is_waiter u) q
@@ -36,7 +31,8 @@ without_filter t u (w ∷ q) ne = by (w.0 == t) (w.0 == u) refl refl (without_fi
     not_both e f = grind (arith, nat_tests)
 
     by : (a b : Bool) → (w.0 == t) ≡ a → (w.0 == u) ≡ b → filter (is_waiter u) (without_waiter t q) ≡ filter (is_waiter u) q
-        → filter (is_waiter u) (if not a then w ∷ without_waiter t q else without_waiter t q) ≡ (if b then w ∷ filter (is_waiter u) q else filter (is_waiter u) q)
+        → filter (is_waiter u) (if not a then w ∷ without_waiter t q else without_waiter t q)
+        ≡ (if b then w ∷ filter (is_waiter u) q else filter (is_waiter u) q)
     by true true e f r = absurd (not_both e f)
     by true false e f r = r
     by false true e f r = ap (λ b. if b then w ∷ filter (is_waiter u) (without_waiter t q) else filter (is_waiter u) (without_waiter t q)) f ∙ ap (λ l. w ∷ l) r
@@ -45,29 +41,36 @@ without_filter t u (w ∷ q) ne = by (w.0 == t) (w.0 == u) refl refl (without_fi
 -- and the order among the others
 pub without_ahead : (t a b : ℕ) (q : List Waiter) → ahead (without_waiter t q) a b ≡ true → ahead q a b ≡ true
 without_ahead t a b [] h = h
-without_ahead t a b (w ∷ q) h = by (w.0 == t) (w.0 == a) (w.0 == b) refl refl refl h (without_ahead t a b q) (λ k. (out_of_without t a q k).0) (λ k. (out_of_without t a q k).1)
+without_ahead t a b (w ∷ q) h = by (w.0 == t) (w.0 == a) (w.0 == b) refl refl refl h (without_ahead t a b q) (λ k. (out_of_without t a q k).0)
+    (λ k. (out_of_without t a q k).1)
   where
     still : (w.0 == t) ≡ true → (w.0 == a) ≡ true → a ≡ t
     still e f = grind (arith, nat_tests)
 
     by : (x y z : Bool) → (w.0 == t) ≡ x → (w.0 == a) ≡ y → (w.0 == b) ≡ z → ahead (if not x then w ∷ without_waiter t q else without_waiter t q) a b ≡ true
-        → (ahead (without_waiter t q) a b ≡ true → ahead q a b ≡ true) → (is_among_waiters a (without_waiter t q) ≡ true → is_among_waiters a q ≡ true) → (is_among_waiters a (without_waiter t q) ≡ true → a ≢ t)
+        → (ahead (without_waiter t q) a b ≡ true → ahead q a b ≡ true) → (is_among_waiters a (without_waiter t q) ≡ true → is_among_waiters a q ≡ true)
+        → (is_among_waiters a (without_waiter t q) ≡ true → a ≢ t)
         → (not (w.0 == a) && (if w.0 == b then is_among_waiters a q else ahead q a b)) ≡ true
     by true true z ex ey ez k r s d = absurd (d (ahead_first (without_waiter t q) a b k) (still ex ey))
-    by true false true ex ey ez k r s d = ap₂ (λ m n. not m && (if n then is_among_waiters a q else ahead q a b)) ey ez ∙ s (ahead_first (without_waiter t q) a b k)
+    by true false true ex ey ez k r s d = ap₂ (λ m n. not m && (if n then is_among_waiters a q else ahead q a b)) ey ez
+        ∙ s (ahead_first (without_waiter t q) a b k)
     by true false false ex ey ez k r s d = ap₂ (λ m n. not m && (if n then is_among_waiters a q else ahead q a b)) ey ez ∙ r k
-    by false true z ex ey ez k r s d = clash (sym (ap (λ m. not m && (if w.0 == b then is_among_waiters a (without_waiter t q) else ahead (without_waiter t q) a b)) ey) ∙ k) refl
+    by false true z ex ey ez k r s d = clash (sym (ap (λ m. not m
+        && (if w.0 == b then is_among_waiters a (without_waiter t q) else ahead (without_waiter t q) a b)) ey) ∙ k) refl
     by false false true ex ey ez k r s d =
-        ap₂ (λ m n. not m && (if n then is_among_waiters a q else ahead q a b)) ey ez ∙ s (sym (ap₂ (λ m n. not m && (if n then is_among_waiters a (without_waiter t q) else ahead (without_waiter t q) a b)) ey ez) ∙ k)
+        ap₂ (λ m n. not m && (if n then is_among_waiters a q else ahead q a b)) ey ez
+        ∙ s (sym (ap₂ (λ m n. not m && (if n then is_among_waiters a (without_waiter t q) else ahead (without_waiter t q) a b)) ey ez) ∙ k)
     by false false false ex ey ez k r s d =
-        ap₂ (λ m n. not m && (if n then is_among_waiters a q else ahead q a b)) ey ez ∙ r (sym (ap₂ (λ m n. not m && (if n then is_among_waiters a (without_waiter t q) else ahead (without_waiter t q) a b)) ey ez) ∙ k)
+        ap₂ (λ m n. not m && (if n then is_among_waiters a q else ahead q a b)) ey ez
+        ∙ r (sym (ap₂ (λ m n. not m && (if n then is_among_waiters a (without_waiter t q) else ahead (without_waiter t q) a b)) ey ez) ∙ k)
 
 -- where t does not wait, nothing is taken out
 pub without_none : (t : ℕ) (q : List Waiter) → is_among_waiters t q ≡ false → without_waiter t q ≡ q
 without_none t [] h = refl
 without_none t (w ∷ q) h = by (w.0 == t) refl h (without_none t q)
   where
-    by : (a : Bool) → (w.0 == t) ≡ a → (a || is_among_waiters t q) ≡ false → (is_among_waiters t q ≡ false → without_waiter t q ≡ q) → without_waiter t (w ∷ q) ≡ w ∷ q
+    by : (a : Bool) → (w.0 == t) ≡ a → (a || is_among_waiters t q) ≡ false → (is_among_waiters t q ≡ false → without_waiter t q ≡ q)
+        → without_waiter t (w ∷ q) ≡ w ∷ q
     by true e k r = clash refl k
     by false e k r = ap (λ b. if not b then w ∷ without_waiter t q else without_waiter t q) e ∙ ap (λ l. w ∷ l) (r k)
 
@@ -87,17 +90,21 @@ keep_filter p u (w ∷ q) = by (p w.0) (w.0 == u) (p u) refl refl refl (keep_fil
     same e = let is : w.0 ≡ u = grind (arith, nat_tests) in ap p is
 
     by : (a b c : Bool) → p w.0 ≡ a → (w.0 == u) ≡ b → p u ≡ c → filter (is_waiter u) (filter (λ v. p v.0) q) ≡ (if c then filter (is_waiter u) q else [])
-        → filter (is_waiter u) (if a then w ∷ filter (λ v. p v.0) q else filter (λ v. p v.0) q) ≡ (if c then (if w.0 == u then w ∷ filter (is_waiter u) q else filter (is_waiter u) q) else [])
-    by true true true ea eb ec r = ap₂ (λ x y. if x then w ∷ y else y) eb r ∙ sym (ap (λ x. if x then w ∷ filter (is_waiter u) q else filter (is_waiter u) q) eb)
+        → filter (is_waiter u) (if a then w ∷ filter (λ v. p v.0) q else filter (λ v. p v.0) q)
+        ≡ (if c then (if w.0 == u then w ∷ filter (is_waiter u) q else filter (is_waiter u) q) else [])
+    by true true true ea eb ec r = ap₂ (λ x y. if x then w ∷ y else y) eb r
+        ∙ sym (ap (λ x. if x then w ∷ filter (is_waiter u) q else filter (is_waiter u) q) eb)
     by true true false ea eb ec r = clash (sym (same eb) ∙ ea) ec
-    by true false true ea eb ec r = ap₂ (λ x y. if x then w ∷ y else y) eb r ∙ sym (ap (λ x. if x then w ∷ filter (is_waiter u) q else filter (is_waiter u) q) eb)
+    by true false true ea eb ec r = ap₂ (λ x y. if x then w ∷ y else y) eb r
+        ∙ sym (ap (λ x. if x then w ∷ filter (is_waiter u) q else filter (is_waiter u) q) eb)
     by true false false ea eb ec r = ap₂ (λ x y. if x then w ∷ y else y) eb r
     by false true true ea eb ec r = clash ec (sym (same eb) ∙ ea)
     by false true false ea eb ec r = r
     by false false true ea eb ec r = r ∙ sym (ap (λ x. if x then w ∷ filter (is_waiter u) q else filter (is_waiter u) q) eb)
     by false false false ea eb ec r = r
 
-keep_parts : (p : ℕ → Bool) (u : ℕ) (q : List Waiter) → filter (is_waiter u) (filter (λ w. p w.0) q) ++ filter (is_waiter u) (filter (λ w. not (p w.0)) q) ≡ filter (is_waiter u) q
+keep_parts : (p : ℕ → Bool) (u : ℕ) (q : List Waiter)
+    → filter (is_waiter u) (filter (λ w. p w.0) q) ++ filter (is_waiter u) (filter (λ w. not (p w.0)) q) ≡ filter (is_waiter u) q
 keep_parts p u q = ap₂ (λ a b. a ++ b) (keep_filter p u q) (keep_filter (λ x. not (p x)) u q) ∙ by (p u) (filter (is_waiter u) q)
   where
     by : (b : Bool) (l : List Waiter) → (if b then l else []) ++ (if not b then l else []) ≡ l
@@ -106,12 +113,14 @@ keep_parts p u q = ap₂ (λ a b. a ++ b) (keep_filter p u q) (keep_filter (λ x
 
 -- among those chosen by slot, that slot is chosen
 pub chosen_is : (p : ℕ → Bool) (u : ℕ) (q : List Waiter) → is_among_waiters u (filter (λ w. p w.0) q) ≡ true → p u ≡ true
-chosen_is p u q h = split (p u) (λ e. e) (λ e. clash h (none_filtered u (filter (λ w. p w.0) q) (keep_filter p u q ∙ ap (λ b. if b then filter (is_waiter u) q else []) e)))
+chosen_is p u q h = split (p u) (λ e. e) (λ e. clash h
+    (none_filtered u (filter (λ w. p w.0) q) (keep_filter p u q ∙ ap (λ b. if b then filter (is_waiter u) q else []) e)))
 
 none_kept : (p : ℕ → Bool) (q : List Waiter) → ((a : ℕ) → is_among_waiters a q ≡ true → p a ≡ false) → filter (λ w. p w.0) q ≡ []
 none_kept p [] out = refl
 none_kept p (w ∷ q) out =
-    ap (λ b. if b then w ∷ filter (λ v. p v.0) q else filter (λ v. p v.0) q) (out w.0 (or_left _ _ (same_slot w.0))) ∙ none_kept p q (λ a h. out a (or_right (w.0 == a) _ h))
+    ap (λ b. if b then w ∷ filter (λ v. p v.0) q else filter (λ v. p v.0) q) (out w.0 (or_left _ _ (same_slot w.0)))
+    ∙ none_kept p q (λ a h. out a (or_right (w.0 == a) _ h))
 
 pub among_same : (u : ℕ) (a b : List Waiter) → filter (is_waiter u) a ≡ filter (is_waiter u) b → is_among_waiters u a ≡ true → is_among_waiters u b ≡ true
 among_same u a b e h = split (is_among_waiters u b) (λ k. k) (λ k. clash h (none_filtered u a (e ∙ not_among u b k)))
@@ -123,8 +132,10 @@ placed_other g q t u m ne = by (holds g t)
     skip : (l : List Waiter) → filter (is_waiter u) ((t, m) ∷ l) ≡ filter (is_waiter u) l
     skip l = ap (λ b. if b then (t, m) ∷ filter (is_waiter u) l else filter (is_waiter u) l) (differ-false t u ne)
 
-    by : (b : Bool) → filter (is_waiter u) (if b then filter (λ w. holds g w.0) q ++ (t, m) ∷ filter (λ w. not (holds g w.0)) q else q ++ (t, m) ∷ []) ≡ filter (is_waiter u) q
-    by true = filter-append (is_waiter u) (filter (λ w. holds g w.0) q) ((t, m) ∷ filter (λ w. not (holds g w.0)) q) ∙ ap (λ l. filter (is_waiter u) (filter (λ w. holds g w.0) q) ++ l) (skip (filter (λ w. not (holds g w.0)) q)) ∙ keep_parts (holds g) u q
+    by : (b : Bool) → filter (is_waiter u) (if b then filter (λ w. holds g w.0) q ++ (t, m) ∷ filter (λ w. not (holds g w.0)) q else q ++ (t, m) ∷ [])
+        ≡ filter (is_waiter u) q
+    by true = filter-append (is_waiter u) (filter (λ w. holds g w.0) q) ((t, m) ∷ filter (λ w. not (holds g w.0)) q)
+        ∙ ap (λ l. filter (is_waiter u) (filter (λ w. holds g w.0) q) ++ l) (skip (filter (λ w. not (holds g w.0)) q)) ∙ keep_parts (holds g) u q
     by false = filter-append (is_waiter u) q ((t, m) ∷ []) ∙ ap (λ l. filter (is_waiter u) q ++ l) (skip []) ∙ append-nil (filter (is_waiter u) q)
 
 -- t stands there once, with its mode
@@ -141,7 +152,8 @@ placed_self g q t m out = by (holds g t)
     gone : (p : ℕ → Bool) → filter (is_waiter t) (filter (λ w. p w.0) q) ≡ []
     gone p = keep_filter p t q ∙ if_none (p t) (filter (is_waiter t) q) (not_among t q out)
 
-    by : (b : Bool) → filter (is_waiter t) (if b then filter (λ w. holds g w.0) q ++ (t, m) ∷ filter (λ w. not (holds g w.0)) q else q ++ (t, m) ∷ []) ≡ (t, m) ∷ []
+    by : (b : Bool) → filter (is_waiter t) (if b then filter (λ w. holds g w.0) q ++ (t, m) ∷ filter (λ w. not (holds g w.0)) q else q ++ (t, m) ∷ [])
+        ≡ (t, m) ∷ []
     by true = filter-append (is_waiter t) (filter (λ w. holds g w.0) q) ((t, m) ∷ filter (λ w. not (holds g w.0)) q)
         ∙ ap₂ (λ a b. a ++ b) (gone (holds g)) (take_it (filter (λ w. not (holds g w.0)) q) (gone (λ x. not (holds g x))))
     by false = filter-append (is_waiter t) q ((t, m) ∷ []) ∙ ap₂ (λ a b. a ++ b) (not_among t q out) (take_it [] refl)
@@ -150,11 +162,13 @@ placed_self g q t m out = by (holds g t)
 abbrev pub HoldersFirst : Members → List Waiter → Type 0
 HoldersFirst g q = (a b : ℕ) → holds g a ≡ true → ahead q a b ≡ true → holds g b ≡ true
 
-holders_then : (p : ℕ → Bool) (r : List Waiter) (a b : ℕ) (q : List Waiter) → (ahead r a b ≡ true → p b ≡ true) → ahead (filter (λ w. p w.0) q ++ r) a b ≡ true → p b ≡ true
+holders_then : (p : ℕ → Bool) (r : List Waiter) (a b : ℕ) (q : List Waiter) → (ahead r a b ≡ true → p b ≡ true) → ahead (filter (λ w. p w.0) q ++ r) a b ≡ true
+    → p b ≡ true
 holders_then p r a b [] rest h = rest h
 holders_then p r a b (w ∷ q) rest h = by (p w.0) (w.0 == a) (w.0 == b) refl refl h (holders_then p r a b q rest)
   where
-    by : (x y z : Bool) → p w.0 ≡ x → (w.0 == b) ≡ z → ahead ((if x then w ∷ filter (λ v. p v.0) q else filter (λ v. p v.0) q) ++ r) a b ≡ true → (ahead (filter (λ v. p v.0) q ++ r) a b ≡ true → p b ≡ true) → p b ≡ true
+    by : (x y z : Bool) → p w.0 ≡ x → (w.0 == b) ≡ z → ahead ((if x then w ∷ filter (λ v. p v.0) q else filter (λ v. p v.0) q) ++ r) a b ≡ true
+        → (ahead (filter (λ v. p v.0) q ++ r) a b ≡ true → p b ≡ true) → p b ≡ true
     by true y true ex ez k f = sym (ap p (same_number w.0 b ez)) ∙ ex
     by true y false ex ez k f =
         let both = and_both (not (w.0 == a)) _ k in
@@ -180,7 +194,8 @@ placed_order g q t m sorted a b ha h = by (holds g t) refl h
     behind et k =
         let both = and_both (not (t == a)) _ k in
         split (t == b) (λ e. sym (ap (holds g) (same_number t b e)) ∙ et)
-        (λ e. let on = sym (ap (λ z. if z then is_among_waiters a (filter (λ w. not (holds g w.0)) q) else ahead (filter (λ w. not (holds g w.0)) q) a b) e) ∙ both.1 in
+        (λ e. let on = sym (ap (λ z. if z then is_among_waiters a (filter (λ w. not (holds g w.0)) q) else ahead (filter (λ w. not (holds g w.0)) q) a b) e)
+        ∙ both.1 in
         clash (chosen_is (λ x. not (holds g x)) a q (ahead_first (filter (λ w. not (holds g w.0)) q) a b on)) (ap not ha))
 
     last : holds g t ≡ false → ahead (q ++ (t, m) ∷ []) a b ≡ true → holds g b ≡ true
@@ -188,7 +203,8 @@ placed_order g q t m sorted a b ha h = by (holds g t) refl h
         (λ e. or_elim _ _ (sym (among_append a q ((t, m) ∷ [])) ∙ ahead_first (q ++ (t, m) ∷ []) a b k) (λ f. clash f e)
         (λ f. or_elim (t == a) false f (λ is. clash (ap (holds g) (same_number t a is) ∙ ha) et) (λ no. clash no refl)))
 
-    by : (x : Bool) → holds g t ≡ x → ahead (if x then filter (λ w. holds g w.0) q ++ (t, m) ∷ filter (λ w. not (holds g w.0)) q else q ++ (t, m) ∷ []) a b ≡ true → holds g b ≡ true
+    by : (x : Bool) → holds g t ≡ x → ahead (if x then filter (λ w. holds g w.0) q ++ (t, m) ∷ filter (λ w. not (holds g w.0)) q else q ++ (t, m) ∷ []) a b
+        ≡ true → holds g b ≡ true
     by true et k = holders_then (holds g) ((t, m) ∷ filter (λ w. not (holds g w.0)) q) a b q (behind et) k
     by false et k = last et k
 
@@ -203,21 +219,25 @@ front_none : (most : ℕ) (g : Members) (t : ℕ) (m : Mode) (r : List Waiter) �
 front_none most g t m r h = ap (λ b. if b then (t, m) ∷ front most (with_mode g t m) r else []) h
 
 -- the head of the queue is as before, or is what does not fit
-pub placed_front : (most : ℕ) (g : Members) (q : List Waiter) (t : ℕ) (m : Mode) → HoldersFirst g q → front most g q ≡ [] → enters most g q t m ≡ false → front most g (placed g q t m) ≡ []
+pub placed_front : (most : ℕ) (g : Members) (q : List Waiter) (t : ℕ) (m : Mode) → HoldersFirst g q → front most g q ≡ [] → enters most g q t m ≡ false
+    → front most g (placed g q t m) ≡ []
 placed_front most g q t m sorted before out = by (holds g t) refl out
   where
     left_out : (a b : Bool) → b ≡ true → (a && b) ≡ false → a ≡ false
     left_out true b e k = clash e k
     left_out false b e k = refl
 
-    as_holder : (l : List Waiter) → HoldersFirst g l → front most g l ≡ [] → fits most g t m ≡ false → front most g (filter (λ w. holds g w.0) l ++ (t, m) ∷ filter (λ w. not (holds g w.0)) q) ≡ []
+    as_holder : (l : List Waiter) → HoldersFirst g l → front most g l ≡ [] → fits most g t m ≡ false
+        → front most g (filter (λ w. holds g w.0) l ++ (t, m) ∷ filter (λ w. not (holds g w.0)) q) ≡ []
     as_holder [] so be off = front_none most g t m (filter (λ w. not (holds g w.0)) q) off
     as_holder (w ∷ l) so be off =
         split (holds g w.0)
-        (λ e. ap (λ b. front most g ((if b then w ∷ filter (λ v. holds g v.0) l else filter (λ v. holds g v.0) l) ++ (t, m) ∷ filter (λ v. not (holds g v.0)) q)) e
+        (λ e. ap (λ b. front most g ((if b then w ∷ filter (λ v. holds g v.0) l else filter (λ v. holds g v.0) l) ++ (t, m)
+        ∷ filter (λ v. not (holds g v.0)) q)) e
         ∙ front_head most g w l (filter (λ v. holds g v.0) l ++ (t, m) ∷ filter (λ v. not (holds g v.0)) q) be)
         (λ e. ap (λ k. front most g (k ++ (t, m) ∷ filter (λ v. not (holds g v.0)) q))
-        (ap (λ b. if b then w ∷ filter (λ v. holds g v.0) l else filter (λ v. holds g v.0) l) e ∙ none_kept (holds g) l (λ a h. split (holds g a) (λ ha. clash (so a w.0 ha (first_ahead a h ha e)) e) (λ ha. ha)))
+        (ap (λ b. if b then w ∷ filter (λ v. holds g v.0) l else filter (λ v. holds g v.0) l) e
+        ∙ none_kept (holds g) l (λ a h. split (holds g a) (λ ha. clash (so a w.0 ha (first_ahead a h ha e)) e) (λ ha. ha)))
         ∙ front_none most g t m (filter (λ v. not (holds g v.0)) q) off)
       where
         first_ahead : (a : ℕ) → is_among_waiters a l ≡ true → holds g a ≡ true → holds g w.0 ≡ false → ahead (w ∷ l) a w.0 ≡ true

@@ -1,14 +1,7 @@
 -- Lists of waiters: who stands ahead, what a front takes, what a taken wait leaves.
-use Rattle.std.specs.Prelude.{◌≡◌, ℕ, Bool, true, false, not, ◌&&◌, ◌||◌, ◌==◌, List, [], ◌∷◌, ◌++◌, if◌then◌else◌}
-use Rattle.std.specs.List.{filter, before_first}
-use Rattle.std.proofs.Common.{refl, sym, ap, ap₂, ◌∙◌, arith}
-use Rattle.std.proofs.lemmas.Bool.Decides.{nat_tests}
-use Rattle.std.proofs.lemmas.List.Folds.{list_any-append}
-use mathlib.Core.Bool.{true≢false}
-use Rattle.gl_modes.specs.declared.mode.Mode.{Mode}
-use Rattle.gl_header.specs.Header.{Members, Waiter, with_mode, after_grants, is_waiter, is_among_waiters, is_ahead}
-use Rattle.gl_graph.proofs.Look.{split, or_left, or_right}
-use Rattle.gl_graph.proofs.Unrefused.{or_no}
+use Rattle.gl_table.proofs.Words.{[], ◌&&◌, ◌++◌, ◌==◌, ◌||◌, ◌∙◌, ◌∷◌, ◌≡◌, after_grants, ap, ap₂, arith, before_first, Bool, false, filter, if◌then◌else◌}
+use Rattle.gl_table.proofs.Words.{is_ahead, is_among_waiters, is_waiter, List, list_any-append, Members, Mode, nat_tests, not, or_left, or_no, or_right, refl}
+use Rattle.gl_table.proofs.Words.{split, sym, true, true≢false, Waiter, with_mode, ℕ}
 use Rattle.gl_table.proofs.Waiters.{both_empty}
 
 -- who stands ahead, one waiter after another
@@ -21,7 +14,8 @@ pub ahead_is : (q : List Waiter) (t u : ℕ) → is_ahead q t u ≡ ahead q t u
 ahead_is [] t u = refl
 ahead_is (w ∷ q) t u = by (w.0 == t) (w.0 == u) (is_among_waiters t q) refl (ahead_is q t u)
   where
-    by : (a b c : Bool) → is_among_waiters t q ≡ c → (is_among_waiters t q && is_among_waiters u (before_first (is_waiter t) q)) ≡ ahead q t u → is_ahead (w ∷ q) t u ≡ ahead (w ∷ q) t u
+    by : (a b c : Bool) → is_among_waiters t q ≡ c → (is_among_waiters t q && is_among_waiters u (before_first (is_waiter t) q)) ≡ ahead q t u
+        → is_ahead (w ∷ q) t u ≡ ahead (w ∷ q) t u
     by a b c e h = grind (arith, nat_tests)
 
 -- a test passes and fails
@@ -38,14 +32,16 @@ among_append t a b = list_any-append (is_waiter t) a b
 -- a waiter is found where the list of its waits is not empty
 pub among_by_filter : (t : ℕ) (w : Waiter) (ws q : List Waiter) → filter (is_waiter t) q ≡ w ∷ ws → is_among_waiters t q ≡ true
 among_by_filter t w ws [] h = absurd (no_cons (sym h))
-among_by_filter t w ws (v ∷ q) h = split (v.0 == t) (λ e. or_left _ _ e) (λ e. or_right (v.0 == t) _ (among_by_filter t w ws q (sym (ap (λ b. if b then v ∷ filter (is_waiter t) q else filter (is_waiter t) q) e) ∙ h)))
+among_by_filter t w ws (v ∷ q) h = split (v.0 == t) (λ e. or_left _ _ e)
+    (λ e. or_right (v.0 == t) _ (among_by_filter t w ws q (sym (ap (λ b. if b then v ∷ filter (is_waiter t) q else filter (is_waiter t) q) e) ∙ h)))
 
 -- who does not wait there has no waits there
 pub not_among : (t : ℕ) (q : List Waiter) → is_among_waiters t q ≡ false → filter (is_waiter t) q ≡ []
 not_among t [] h = refl
 not_among t (v ∷ q) h = by (v.0 == t) (is_among_waiters t q) refl refl (not_among t q) h
   where
-    by : (a b : Bool) → (v.0 == t) ≡ a → is_among_waiters t q ≡ b → (is_among_waiters t q ≡ false → filter (is_waiter t) q ≡ []) → (a || b) ≡ false → (if (v.0 == t) then v ∷ filter (is_waiter t) q else filter (is_waiter t) q) ≡ []
+    by : (a b : Bool) → (v.0 == t) ≡ a → is_among_waiters t q ≡ b → (is_among_waiters t q ≡ false → filter (is_waiter t) q ≡ []) → (a || b) ≡ false
+        → (if (v.0 == t) then v ∷ filter (is_waiter t) q else filter (is_waiter t) q) ≡ []
     by true b ea eb r k = clash refl k
     by false b ea eb r k = ap (λ x. if x then v ∷ filter (is_waiter t) q else filter (is_waiter t) q) ea ∙ r (eb ∙ k)
 
@@ -53,7 +49,8 @@ pub none_filtered : (t : ℕ) (q : List Waiter) → filter (is_waiter t) q ≡ [
 none_filtered t [] h = refl
 none_filtered t (v ∷ q) h = by (v.0 == t) refl h (none_filtered t q)
   where
-    by : (a : Bool) → (v.0 == t) ≡ a → (if a then v ∷ filter (is_waiter t) q else filter (is_waiter t) q) ≡ [] → (filter (is_waiter t) q ≡ [] → is_among_waiters t q ≡ false) → is_among_waiters t (v ∷ q) ≡ false
+    by : (a : Bool) → (v.0 == t) ≡ a → (if a then v ∷ filter (is_waiter t) q else filter (is_waiter t) q) ≡ []
+        → (filter (is_waiter t) q ≡ [] → is_among_waiters t q ≡ false) → is_among_waiters t (v ∷ q) ≡ false
     by true e k r = no_cons k
     by false e k r = ap (λ x. x || is_among_waiters t q) e ∙ r k
 
@@ -79,9 +76,11 @@ ahead_after (w ∷ a) b t u out h =
         firsts false true d k r = k
         firsts false false d k r = r k
 
-    by : (x y : Bool) → (w.0 == t) ≡ x → (w.0 == u) ≡ y → (x || is_among_waiters t a) ≡ false → (is_among_waiters t a ≡ false → ahead (a ++ b) t u ≡ true) → (not (w.0 == t) && (if w.0 == u then is_among_waiters t (a ++ b) else ahead (a ++ b) t u)) ≡ true
+    by : (x y : Bool) → (w.0 == t) ≡ x → (w.0 == u) ≡ y → (x || is_among_waiters t a) ≡ false → (is_among_waiters t a ≡ false → ahead (a ++ b) t u ≡ true)
+        → (not (w.0 == t) && (if w.0 == u then is_among_waiters t (a ++ b) else ahead (a ++ b) t u)) ≡ true
     by true y ex ey o r = clash refl o
-    by false true ex ey o r = ap₂ (λ p q. not p && (if q then is_among_waiters t (a ++ b) else ahead (a ++ b) t u)) ex ey ∙ among_append t a b ∙ or_right (is_among_waiters t a) _ (first b h)
+    by false true ex ey o r = ap₂ (λ p q. not p && (if q then is_among_waiters t (a ++ b) else ahead (a ++ b) t u)) ex ey ∙ among_append t a b
+        ∙ or_right (is_among_waiters t a) _ (first b h)
     by false false ex ey o r = ap₂ (λ p q. not p && (if q then is_among_waiters t (a ++ b) else ahead (a ++ b) t u)) ex ey ∙ r o
 
 -- who has another ahead of it waits, and so does that one
@@ -99,13 +98,15 @@ pub ahead_second : (q : List Waiter) (t u : ℕ) → ahead q t u ≡ true → is
 ahead_second [] t u h = clash h refl
 ahead_second (w ∷ q) t u h = by (w.0 == t) (w.0 == u) h (ahead_second q t u)
   where
-    by : (a c : Bool) → (not a && (if c then is_among_waiters t q else ahead q t u)) ≡ true → (ahead q t u ≡ true → is_among_waiters u q ≡ true) → (c || is_among_waiters u q) ≡ true
+    by : (a c : Bool) → (not a && (if c then is_among_waiters t q else ahead q t u)) ≡ true → (ahead q t u ≡ true → is_among_waiters u q ≡ true)
+        → (c || is_among_waiters u q) ≡ true
     by true c k r = clash k refl
     by false true k r = refl
     by false false k r = r k
 
 -- all of a first part stand ahead of those who wait only behind it
-pub ahead_across : (a b : List Waiter) (t u : ℕ) → is_among_waiters t a ≡ false → is_among_waiters t b ≡ true → is_among_waiters u a ≡ true → ahead (a ++ b) t u ≡ true
+pub ahead_across : (a b : List Waiter) (t u : ℕ) → is_among_waiters t a ≡ false → is_among_waiters t b ≡ true → is_among_waiters u a ≡ true
+    → ahead (a ++ b) t u ≡ true
 ahead_across [] b t u out later h = clash h refl
 ahead_across (w ∷ a) b t u out later h = by (w.0 == t) (w.0 == u) refl refl out h (ahead_across a b t u)
   where
@@ -113,7 +114,8 @@ ahead_across (w ∷ a) b t u out later h = by (w.0 == t) (w.0 == u) refl refl ou
         → (is_among_waiters t a ≡ false → is_among_waiters t b ≡ true → is_among_waiters u a ≡ true → ahead (a ++ b) t u ≡ true)
         → (not (w.0 == t) && (if w.0 == u then is_among_waiters t (a ++ b) else ahead (a ++ b) t u)) ≡ true
     by true y ex ey o k r = clash refl o
-    by false true ex ey o k r = ap₂ (λ p q. not p && (if q then is_among_waiters t (a ++ b) else ahead (a ++ b) t u)) ex ey ∙ among_append t a b ∙ or_right (is_among_waiters t a) _ later
+    by false true ex ey o k r = ap₂ (λ p q. not p && (if q then is_among_waiters t (a ++ b) else ahead (a ++ b) t u)) ex ey ∙ among_append t a b
+        ∙ or_right (is_among_waiters t a) _ later
     by false false ex ey o k r = ap₂ (λ p q. not p && (if q then is_among_waiters t (a ++ b) else ahead (a ++ b) t u)) ex ey ∙ r o later k
 
 -- what a slot holds once these are granted
@@ -133,7 +135,8 @@ grants_one (w ∷ ws) g t m h = by (w.0 == t) refl h (λ g'. grants_one ws g' t 
     here : (w.0 == t) ≡ true → (if t == w.0 then w.1 else g t) ≡ w.1
     here k = grind (arith, nat_tests)
 
-    by : (b : Bool) → (w.0 == t) ≡ b → (if b then w ∷ filter (is_waiter t) ws else filter (is_waiter t) ws) ≡ (t, m) ∷ [] → ((g' : Members) → filter (is_waiter t) ws ≡ (t, m) ∷ [] → after_grants g' ws t ≡ m)
+    by : (b : Bool) → (w.0 == t) ≡ b → (if b then w ∷ filter (is_waiter t) ws else filter (is_waiter t) ws) ≡ (t, m) ∷ []
+        → ((g' : Members) → filter (is_waiter t) ws ≡ (t, m) ∷ [] → after_grants g' ws t ≡ m)
         → after_grants (with_mode g w.0 w.1) ws t ≡ m
     by true e k r =
         let rest : filter (is_waiter t) ws ≡ [] = cc in let is : w ≡ (t, m) = cc in

@@ -1,27 +1,9 @@
 -- One node is released: the lists agree with what is left.
-use Rattle.std.specs.Prelude.{◌≡◌, ℕ, ◌+◌, ◌≤◌, ◌<◌, Bool, true, false, not, ◌&&◌, ◌||◌, ◌==◌, List, length, Some, if◌then◌else◌}
-use Rattle.std.specs.List.{count_by}
-use Rattle.std.proofs.Common.{refl, sym, ap, ap₂, ◌∙◌, subst, arith}
-use Rattle.gl_modes.specs.declared.mode.Mode.{Mode}
-use Rattle.gl_modes.specs.declared.mode.Mode.TheVariants.{NL}
-use Rattle.gl_modes.specs.declared.node.NodeId.{NodeId}
-use Rattle.gl_modes.specs.Modes.{same_mode}
-use Rattle.gl_modes.specs.Nodes.{same_node}
-use Rattle.gl_modes.proofs.NodeLemmas.{same_node-equal, same_node-refl}
-use Rattle.gl_graph.specs.Graph.{is_live, parents_of}
-use Rattle.gl_graph.specs.Lawful.{IsLawfulGraph}
-use Rattle.gl_graph.proofs.Look.{split, number_same, same_number}
-use Rattle.gl_header.specs.Header.{after_grants, holds, is_among_waiters}
-use Rattle.gl_header.proofs.Ranges.{not_true}
-use Rattle.gl_table.specs.declared.list.LockList.{LockList}
-use Rattle.gl_table.specs.declared.txn.Status.TheVariants.{Active, Waiting}
-use Rattle.gl_table.specs.Calls.{unlocked}
-use Rattle.gl_table.specs.Covered.{held_children}
-use Rattle.gl_table.specs.Locks.{Agrees, CountsHeld, IsOrderly}
-use Rattle.gl_table.specs.Pumps.{front_at, granted_at}
-use Rattle.gl_table.specs.Slots.{CanStrike, Strikes, WakesLists, counted_by, held_by, listed_by}
-use Rattle.gl_table.specs.State.{State, members, status_of, with_grant}
-use Rattle.gl_table.specs.Waiting.{is_wait}
+use Rattle.gl_table.proofs.Words.{◌&&◌, ◌+◌, ◌<◌, ◌==◌, ◌||◌, ◌∙◌, ◌≡◌, ◌≤◌, Active, after_grants, Agrees, ap, ap₂, arith, Bool, CanStrike, count_by}
+use Rattle.gl_table.proofs.Words.{counted_by, CountsHeld, false, front_at, granted_at, held_by, held_children, holds, if◌then◌else◌, is_among_waiters, is_live}
+use Rattle.gl_table.proofs.Words.{is_wait, IsLawfulGraph, IsOrderly, length, List, listed_by, LockList, members, Mode, NL, NodeId, not, not_true, number_same}
+use Rattle.gl_table.proofs.Words.{parents_of, refl, same_mode, same_node, same_node-equal, same_node-refl, same_number, Some, split, State, status_of, Strikes}
+use Rattle.gl_table.proofs.Words.{subst, sym, true, unlocked, Waiting, WakesLists, with_grant, ℕ}
 use Rattle.gl_table.proofs.Children.{children_down}
 use Rattle.gl_table.proofs.OneWaits.{front_stands, well_granted}
 use Rattle.gl_table.proofs.Orderly.{in_no_queue}
@@ -31,8 +13,10 @@ use Rattle.gl_table.proofs.Settles.{wait_is}
 use Rattle.gl_table.proofs.Unlocked.{agrees_unlocked, counts_unlocked, unlocked_own}
 use Rattle.gl_table.proofs.Ways.{left_stands}
 
-module _ (s : State) (o : IsOrderly s) (law : IsLawfulGraph s.graph) (t : ℕ) (n : NodeId) (active : status_of s t ≡ Some Active) (live : is_live s.graph n ≡ true) (holding : holds (members s n) t ≡ true)
-    (ls mid : List LockList) (agree : (u : ℕ) → Agrees s ls u) (count : (u : ℕ) → CountsHeld s ls u) (wakes : WakesLists ls n (parents_of s.graph n) (front_at (with_grant s t n NL) n) mid) where
+module _ (s : State) (o : IsOrderly s) (law : IsLawfulGraph s.graph) (t : ℕ) (n : NodeId) (active : status_of s t ≡ Some Active)
+    (live : is_live s.graph n ≡ true) (holding : holds (members s n) t ≡ true)
+    (ls mid : List LockList) (agree : (u : ℕ) → Agrees s ls u) (count : (u : ℕ) → CountsHeld s ls u)
+    (wakes : WakesLists ls n (parents_of s.graph n) (front_at (with_grant s t n NL) n) mid) where
   abbrev b : State
   b = with_grant s t n NL
 
@@ -50,11 +34,13 @@ module _ (s : State) (o : IsOrderly s) (law : IsLawfulGraph s.graph) (t : ℕ) (
 
   mode_own : (q : NodeId) → held_by mid t q ≡ s.held t q
   mode_own q = wakes.modes t q ∙ split (same_node q n)
-      (λ e. ap (λ k. if k then after_grants (λ v. held_by ls v n) (front_at b n) t else held_by ls t q) e ∙ grants_other (front_at b n) (λ v. held_by ls v n) t not_front ∙ (agree t).modes n ∙ ap (s.held t) (sym (same_node-equal q n e)))
+      (λ e. ap (λ k. if k then after_grants (λ v. held_by ls v n) (front_at b n) t else held_by ls t q) e
+      ∙ grants_other (front_at b n) (λ v. held_by ls v n) t not_front ∙ (agree t).modes n ∙ ap (s.held t) (sym (same_node-equal q n e)))
       (λ e. ap (λ k. if k then after_grants (λ v. held_by ls v n) (front_at b n) t else held_by ls t q) e ∙ (agree t).modes q)
 
   count_own : (p : NodeId) → counted_by mid t p ≡ held_children s t p
-  count_own p = wakes.counts t p ∙ ap (λ k. counted_by ls t p + (if k && same_mode (held_by ls t n) NL then count_by (same_node p) (parents_of s.graph n) else 0)) not_front
+  count_own p = wakes.counts t p ∙ ap (λ k. counted_by ls t p
+      + (if k && same_mode (held_by ls t n) NL then count_by (same_node p) (parents_of s.graph n) else 0)) not_front
       ∙ no_more (counted_by ls t p) ∙ count t p
     where
       no_more : (k : ℕ) → k + 0 ≡ k
@@ -85,7 +71,8 @@ module _ (s : State) (o : IsOrderly s) (law : IsLawfulGraph s.graph) (t : ℕ) (
 
     agrees_own : Agrees after ls' t
     agrees_own = record {
-      modes = λ q. strikes.modes t q ∙ ap (λ k. if k && same_node q n then NL else held_by mid t q) (number_same t t refl) ∙ ap (λ m. if same_node q n then NL else m) (mode_own q) ∙ sym (after_own q);
+      modes = λ q. strikes.modes t q ∙ ap (λ k. if k && same_node q n then NL else held_by mid t q) (number_same t t refl)
+          ∙ ap (λ m. if same_node q n then NL else m) (mode_own q) ∙ sym (after_own q);
       listed = λ q. strikes.listed t q ∙ ap (λ k. if k && same_node q n then false else listed_by mid t q) (number_same t t refl)
           ∙ ap (λ k. if same_node q n then false else k) (wakes.listed t q ∙ (agree t).listed q ∙ ap (λ k. holds (members s q) t || k) (out q))
           ∙ own (same_node q n) (s.held t q)
@@ -105,7 +92,8 @@ module _ (s : State) (o : IsOrderly s) (law : IsLawfulGraph s.graph) (t : ℕ) (
 
     counts_other : (u : ℕ) → (u == t) ≡ false → CountsHeld after ls' u
     counts_other u e p =
-        no_more (counted_by ls' u p) ∙ ap (λ k. counted_by ls' u p + (if k then count_by (same_node p) (parents_of s.graph n) else 0)) (sym e) ∙ strikes.counts u p
+        no_more (counted_by ls' u p) ∙ ap (λ k. counted_by ls' u p + (if k then count_by (same_node p) (parents_of s.graph n) else 0)) (sym e)
+        ∙ strikes.counts u p
         ∙ counts_unlocked s t n o ls mid wakes u e (agree u) law live (count u) p
       where
         no_more : (k : ℕ) → k ≡ k + 0
@@ -113,7 +101,8 @@ module _ (s : State) (o : IsOrderly s) (law : IsLawfulGraph s.graph) (t : ℕ) (
 
     counts_own : CountsHeld after ls' t
     counts_own p =
-        let now = sym (ap (λ k. counted_by ls' t p + (if k then count_by (same_node p) (parents_of s.graph n) else 0)) (number_same t t refl)) ∙ strikes.counts t p ∙ count_own p in
+        let now = sym (ap (λ k. counted_by ls' t p + (if k then count_by (same_node p) (parents_of s.graph n) else 0)) (number_same t t refl))
+        ∙ strikes.counts t p ∙ count_own p in
         let l = less p in
         omega arith
 

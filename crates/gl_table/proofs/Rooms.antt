@@ -1,24 +1,13 @@
 -- Lists with more room say what they said.
-use Rattle.std.specs.Prelude.{◌≡◌, ℕ, ◌<◌, ◌≤◌, false, ◌==◌, List, length, is_some, if◌then◌else◌, slice_set, slice_index_or}
-use Rattle.std.specs.List.{IsDistinct}
-use Rattle.std.specs.Map.{keys_of, lookup}
-use Rattle.std.proofs.Common.{refl, sym, ap, ap₂, ◌∙◌, subst, arith, length-set}
-use Rattle.indexmap.specs.IndexMap.{spare}
-use Rattle.gl_modes.specs.declared.mode.Mode.TheVariants.{NL}
-use Rattle.gl_modes.specs.declared.node.NodeId.{NodeId}
-use Rattle.gl_modes.specs.Nodes.{same_node}
-use Rattle.gl_graph.proofs.Look.{number_same, split}
-use Rattle.gl_table.specs.declared.list.Entry.{Entry}
-use Rattle.gl_table.specs.declared.list.LockList.{LockList}
-use Rattle.gl_table.specs.Lists.{HasRoom, IsApart, count_in, count_of, is_listed, mode_in, mode_of}
-use Rattle.gl_table.specs.Locks.{Agrees, CountsHeld}
-use Rattle.gl_table.specs.Slots.{HasRoomAt, KeepsLists, by_list, room_by}
-use Rattle.gl_table.specs.State.{State}
+use Rattle.gl_table.proofs.Words.{◌<◌, ◌==◌, ◌∙◌, ◌≡◌, ◌≤◌, Agrees, ap, ap₂, arith, by_list, count_in, count_of, CountsHeld, Entry, false, HasRoom, HasRoomAt}
+use Rattle.gl_table.proofs.Words.{if◌then◌else◌, is_listed, is_some, IsApart, IsDistinct, KeepsLists, keys_of, length, length-set, List, LockList, lookup}
+use Rattle.gl_table.proofs.Words.{map-set_same, mode_in, mode_of, NL, NodeId, number_same, refl, room_by, same_node, slice_index_or, slice_set, spare, split}
+use Rattle.gl_table.proofs.Words.{State, subst, sym, ℕ}
 use Rattle.gl_table.proofs.Slots.{apart-set, by_list-set, slice_get-at, by_list-here, by_list-kept}
-use Rattle.std.proofs.Math.Seq.{map-set_same}
 
 module _ (ls : List LockList) (t : ℕ) (l l' : LockList) (lt : t < length ls) (at : l ≡ slice_index_or ls t l) where
-  pub keeps-set : l'.entries.entries ≡ l.entries.entries → l'.loose.entries ≡ l.loose.entries → spare l.loose ≤ spare l'.loose → KeepsLists ls (slice_set ls t l')
+  pub keeps-set : l'.entries.entries ≡ l.entries.entries → l'.loose.entries ≡ l.loose.entries → spare l.loose ≤ spare l'.loose
+      → KeepsLists ls (slice_set ls t l')
   unfolding IsApart
   keeps-set entries loose more = record {
     len = length-set ls t l';
@@ -31,7 +20,8 @@ module _ (ls : List LockList) (t : ℕ) (l l' : LockList) (lt : t < length ls) (
         );
     modes = λ u q. by_list-kept ls t l lt at l' (λ x. mode_of x q) NL (ap (λ (es : List (NodeId × Entry)). mode_in (lookup (same_node q) es)) entries) u;
     listed = λ u q. by_list-kept ls t l lt at l' (λ x. is_listed x q) false (listed q) u;
-    counts = λ u q. by_list-kept ls t l lt at l' (λ x. count_of x q) 0 (ap₂ (λ (es : List (NodeId × Entry)) (ks : List (NodeId × ℕ)). count_in (lookup (same_node q) es) (lookup (same_node q) ks)) entries loose) u;
+    counts = λ u q. by_list-kept ls t l lt at l' (λ x. count_of x q) 0
+        (ap₂ (λ (es : List (NodeId × Entry)) (ks : List (NodeId × ℕ)). count_in (lookup (same_node q) es) (lookup (same_node q) ks)) entries loose) u;
     rooms = λ u. subst (λ (k : ℕ). room_by ls u ≤ k) (sym (by_list-set ls t l' lt (λ x. spare x.loose) 0 u)) (split (u == t)
         (λ k. subst (λ b. room_by ls u ≤ (if b then spare l'.loose else room_by ls u)) (sym k)
         (subst (λ (r : ℕ). r ≤ spare l'.loose) (sym (by_list-here ls t l lt at u k (λ x. spare x.loose) 0)) more))

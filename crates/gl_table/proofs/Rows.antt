@@ -1,17 +1,13 @@
 -- Who stands ahead in a queue, as the waiters that are passed; the slots of waiters.
-use Rattle.std.proofs.Common.{◌≡◌, ℕ, zero, suc, ◌+◌, ◌<◌, Bool, true, false, not, ◌&&◌, ◌||◌, ◌==◌, List, [], ◌∷◌, All, length, get_or, take, refl, ap, ◌∙◌, arith}
-use Rattle.std.specs.Prelude.{if◌then◌else◌}
-use Rattle.std.proofs.lemmas.Bool.Decides.{nat_tests}
-use Rattle.std.proofs.lemmas.List.{take_more}
-use Rattle.std.proofs.lemmas.List.Elements.{All-same}
-use Rattle.std.proofs.lemmas.List.Folds.{list_any_at}
-use Rattle.gl_header.specs.Header.{Waiter, is_waiter, is_ahead, is_among_waiters}
-use Rattle.gl_header.specs.State.{HeaderState, IsLawfulHeader}
-use Rattle.gl_graph.proofs.Look.{number_same}
+use Rattle.gl_table.proofs.Words.{[], ◌&&◌, ◌+◌, ◌<◌, ◌==◌, ◌||◌, ◌∙◌, ◌∷◌, ◌≡◌, All-same, ap, arith, Bool, false, get_or, HeaderState, if◌then◌else◌, is_ahead}
+use Rattle.gl_table.proofs.Words.{is_among_waiters, is_waiter, IsLawfulHeader, length, List, list_any_at, nat_tests, not, number_same, refl, suc, take}
+use Rattle.gl_table.proofs.Words.{take_more, true, Waiter, zero, ℕ}
+use Rattle.std.proofs.Common.{All}
 use Rattle.gl_table.proofs.Queues.{ahead, ahead_is, among_append}
 
 -- who stands ahead of t is who stands before its first wait
-pub ahead-first : (q : List Waiter) (t u i : ℕ) (d : Waiter) → i < length q → (get_or q i d).0 ≡ t → is_among_waiters t (take i q) ≡ false → is_ahead q t u ≡ is_among_waiters u (take i q)
+pub ahead-first : (q : List Waiter) (t u i : ℕ) (d : Waiter) → i < length q → (get_or q i d).0 ≡ t → is_among_waiters t (take i q) ≡ false
+    → is_ahead q t u ≡ is_among_waiters u (take i q)
 ahead-first q t u i d low at none = ahead_is q t u ∙ by q i low at none
   where
     by : (q : List Waiter) (i : ℕ) → i < length q → (get_or q i d).0 ≡ t → is_among_waiters t (take i q) ≡ false → ahead q t u ≡ is_among_waiters u (take i q)
@@ -32,9 +28,11 @@ pub queue-below : (h : HeaderState) (q : List Waiter) (k : ℕ) (d : Waiter) →
 queue-below h q k d law is low = All-same (λ (e : Waiter). e.0 < 128) q h.queue is (all-below h.queue law.waiters_below) k d low
 
 -- one more of a queue
-pub among-next : (q : List Waiter) (i u : ℕ) (d : Waiter) → i < length q → is_among_waiters u (take (i + 1) q) ≡ (is_among_waiters u (take i q) || (u == (get_or q i d).0))
+pub among-next : (q : List Waiter) (i u : ℕ) (d : Waiter) → i < length q
+    → is_among_waiters u (take (i + 1) q) ≡ (is_among_waiters u (take i q) || (u == (get_or q i d).0))
 among-next q i u d low =
-    ap (is_among_waiters u) (take_more q i d low) ∙ among_append u (take i q) (get_or q i d ∷ []) ∙ ap (λ b. is_among_waiters u (take i q) || b) (last (get_or q i d).0)
+    ap (is_among_waiters u) (take_more q i d low) ∙ among_append u (take i q) (get_or q i d ∷ [])
+    ∙ ap (λ b. is_among_waiters u (take i q) || b) (last (get_or q i d).0)
   where
     last : (s : ℕ) → ((s == u) || false) ≡ (u == s)
     last s = grind (arith, nat_tests)

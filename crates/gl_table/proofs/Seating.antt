@@ -1,14 +1,11 @@
 -- The set of free slots finds the lowest free seat.
-use Rattle.std.specs.Prelude.{◌≡◌, ℕ, zero, suc, ◌<◌, true, false, List, [], ◌∷◌, length, None, Option, Some, position}
-use Rattle.std.specs.List.{position_or_len}
-use Rattle.std.proofs.Common.{arith, refl}
-use Rattle.std.proofs.lemmas.Bool.Decides.{nat_tests}
-use Rattle.gl_table.specs.declared.seat.Seat.{Seat}
-use Rattle.gl_table.specs.Seats.{is_free, is_free_at}
+use Rattle.gl_table.proofs.Words.{[], ◌<◌, ◌∷◌, ◌≡◌, arith, false, is_free, is_free_at, length, List, nat_tests, None, Option, position, position_or_len, refl}
+use Rattle.gl_table.proofs.Words.{Seat, Some, suc, true, zero, ℕ}
 use Rattle.gl_table.proofs.Queues.{clash}
 
 -- the place of the first free seat is the lowest free slot
-first : (xs : List (Option Seat)) (k : ℕ) → is_free_at xs k ≡ true → ((u : ℕ) → u < k → is_free_at xs u ≡ false) → (position_or_len is_free xs ≡ k) × (k < length xs)
+first : (xs : List (Option Seat)) (k : ℕ) → is_free_at xs k ≡ true → ((u : ℕ) → u < k → is_free_at xs u ≡ false) → (position_or_len is_free xs ≡ k)
+    × (k < length xs)
 first [] k h below = clash h refl
 first (x ∷ xs) zero h below = grind (arith, nat_tests, h)
 first (x ∷ xs) (suc k) h below =

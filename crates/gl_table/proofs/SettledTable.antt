@@ -1,14 +1,7 @@
--- Settling looks neither at the way of detection and the choice of victims that the state names nor at how many began, in which a table's state differs from that of its locks.
-use Rattle.std.specs.Prelude.{ℕ, zero, suc}
-use Rattle.std.proofs.Common.{ap, get_or}
-use Rattle.gl_waits.specs.declared.victims.Victims.{Victims}
-use Rattle.gl_table.specs.declared.detect.Detect.{Detect}
-use Rattle.gl_table.specs.declared.deadlock.Deadlock.{Deadlock}
-use Rattle.gl_table.specs.declared.deadlock.Stuck.{Stuck}
-use Rattle.gl_table.specs.Deadlocks.{IsDeadlock, IsStuck, SettlesKeeping, SettlesKeepingWithin}
-use Rattle.gl_table.specs.Pumps.{condemned}
-use Rattle.gl_table.specs.State.{State}
-use Rattle.gl_table.specs.Waiting.{IsVictim, Settled, SettledWithin}
+-- Settling looks neither at the way of detection and the choice of victims that the state names nor at how many began, in which a table's state differs from
+-- that of its locks.
+use Rattle.gl_table.proofs.Words.{ap, condemned, Deadlock, Detect, get_or, IsDeadlock, IsStuck, IsVictim, Settled, SettledWithin, SettlesKeeping}
+use Rattle.gl_table.proofs.Words.{SettlesKeepingWithin, State, Stuck, suc, Victims, zero, ℕ}
 
 module _ (c : Victims) (t : ℕ) (d : Detect) (v : Victims) (b : ℕ) where
   -- the state, with these
@@ -30,7 +23,8 @@ module _ (c : Victims) (t : ℕ) (d : Detect) (v : Victims) (b : ℕ) where
   stuck_on x r h = record { on_cycle = h.on_cycle; name = h.name; waits = h.waits; waits_for = h.waits_for }
 
   deadlock_on : (x : State) (u : ℕ) (e : Deadlock) → IsDeadlock x t u e → IsDeadlock (over x) t u e
-  deadlock_on x u e h = record { victim = h.victim; rows = λ k r low. stuck_on x (get_or e.cycle.items k r) (h.rows k r low); whole = h.whole; rising = h.rising }
+  deadlock_on x u e h = record { victim = h.victim; rows = λ k r low. stuck_on x (get_or e.cycle.items k r) (h.rows k r low); whole = h.whole;
+      rising = h.rising }
 
   keeping_on : (k : ℕ) (x x' : State) (e e' : Deadlock) → SettlesKeepingWithin c k x t e x' e' → SettlesKeepingWithin c k (over x) t e (over x') e'
   keeping_on zero x x' e e' h = (h.0, ap over h.1, h.2)

@@ -1,26 +1,10 @@
 -- Settling always comes to an end: each turn leaves fewer that wait.
-use Rattle.std.specs.Prelude.{◌≡◌, ℕ, zero, suc, ◌<◌, ◌≤◌, Bool, true, false, not, ◌==◌, List, [], ◌∷◌, Option, Some, None, if◌then◌else◌}
-use Rattle.std.specs.List.{list_any}
-use Rattle.std.proofs.Common.{refl, sym, ap, ◌∙◌, arith, rules}
-use Rattle.std.proofs.lemmas.Bool.Decides.{nat_tests}
-use Rattle.gl_modes.specs.declared.mode.Mode.{Mode}
-use Rattle.gl_modes.specs.declared.mode.Mode.TheVariants.{NL}
-use Rattle.gl_modes.specs.declared.node.NodeId.{NodeId}
-use Rattle.gl_modes.specs.Modes.{are_compatible}
-use Rattle.gl_table.specs.declared.txn.TxnId.{TxnId}
-use Rattle.gl_table.specs.declared.txn.Status.{Status}
-use Rattle.gl_table.specs.declared.txn.Status.TheVariants.{Active, Waiting, Condemned}
-use Rattle.gl_table.specs.declared.detect.Detect.{Detect}
-use Rattle.gl_table.specs.declared.detect.Detect.TheVariants.{AtBlock, ByWatcher}
-use Rattle.gl_header.specs.Header.{holds, is_ahead}
-use Rattle.gl_waits.specs.declared.victims.Victims.{Victims}
-use Rattle.gl_waits.specs.Waits.{IsWalk}
-use Rattle.gl_waits.proofs.VictimLemmas.{candidate-on_cycle}
-use Rattle.gl_table.specs.State.{State, members, slots, status_in, status_of, age_of, restatus, with_grant}
-use Rattle.gl_table.specs.Pumps.{without_wait, is_waiting_at, granted_at, condemned}
-use Rattle.gl_table.specs.Waiting.{waits_for, IsVictim, Settled, is_wait}
-use Rattle.gl_table.specs.Lawful.{IsLawful}
-use Rattle.gl_table.specs.Calls.{Locks, WaitSettles, wanted, enters_at, enqueued}
+use Rattle.gl_table.proofs.Words.{[], ◌<◌, ◌==◌, ◌∙◌, ◌∷◌, ◌≡◌, ◌≤◌, Active, age_of, ap, are_compatible, arith, AtBlock, Bool, ByWatcher, candidate-on_cycle}
+use Rattle.gl_table.proofs.Words.{Condemned, condemned, Detect, enqueued, enters_at, false, granted_at, holds, if◌then◌else◌, is_ahead, is_wait, is_waiting_at}
+use Rattle.gl_table.proofs.Words.{IsLawful, IsVictim, IsWalk, List, list_any, members, Mode, nat_tests, NL, NodeId, None, not, Option, or_elim, refl, restatus}
+use Rattle.gl_table.proofs.Words.{rules, Settled, slots, Some, split, State, Status, status_in, status_of, suc, sym, true, TxnId, Victims, Waiting, waits_for}
+use Rattle.gl_table.proofs.Words.{WaitSettles, wanted, with_grant, without_wait, zero, ℕ}
+use Rattle.gl_table.specs.Calls.{Locks}
 use Rattle.gl_table.proofs.GrantKeeps.{nl_is, txn_there}
 use Rattle.gl_table.proofs.Queues.{ahead_is, ahead_second, clash}
 use Rattle.gl_table.proofs.Less.{waiting_is}
@@ -29,7 +13,6 @@ use Rattle.gl_table.proofs.Taken.{without_wait-less, condemned-lawful, restatus_
 use Rattle.gl_table.proofs.Edges.{step_is}
 use Rattle.gl_table.proofs.LockKeeps.{MayLock, waiting-lawful}
 use Rattle.gl_table.proofs.Walks.{same, in_range, victim, IsAnswer, victim_is}
-use Rattle.gl_graph.proofs.Look.{split, or_elim}
 
 -- how many pass
 abbrev pub tally : (ℕ → Bool) → List ℕ → ℕ
@@ -41,7 +24,8 @@ module _ (p q : ℕ → Bool) (sub : (u : ℕ) → q u ≡ true → p u ≡ true
   tally_le [] = omega arith
   tally_le (x ∷ xs) = by (p x) (q x) refl refl (tally_le xs)
     where
-      by : (a b : Bool) → p x ≡ a → q x ≡ b → tally q xs ≤ tally p xs → (if b then suc (tally q xs) else tally q xs) ≤ (if a then suc (tally p xs) else tally p xs)
+      by : (a b : Bool) → p x ≡ a → q x ≡ b → tally q xs ≤ tally p xs
+          → (if b then suc (tally q xs) else tally q xs) ≤ (if a then suc (tally p xs) else tally p xs)
       by true true ea eb le = omega arith
       by true false ea eb le = omega arith
       by false true ea eb le = clash (sub x eb) ea
@@ -58,12 +42,14 @@ module _ (p q : ℕ → Bool) (sub : (u : ℕ) → q u ≡ true → p u ≡ true
           let le = tally_le xs in
           at (q x) (p x) (ap q (sym is) ∙ qv) (ap p (sym is) ∙ pv) le
         where
-          at : (b a : Bool) → b ≡ false → a ≡ true → tally q xs ≤ tally p xs → (if b then suc (tally q xs) else tally q xs) < (if a then suc (tally p xs) else tally p xs)
+          at : (b a : Bool) → b ≡ false → a ≡ true → tally q xs ≤ tally p xs
+              → (if b then suc (tally q xs) else tally q xs) < (if a then suc (tally p xs) else tally p xs)
           at true a eb ea le = clash refl eb
           at false true eb ea le = omega arith
           at false false eb ea le = clash ea refl
 
-      there : (a b : Bool) → p x ≡ a → q x ≡ b → tally q xs < tally p xs → (if b then suc (tally q xs) else tally q xs) < (if a then suc (tally p xs) else tally p xs)
+      there : (a b : Bool) → p x ≡ a → q x ≡ b → tally q xs < tally p xs
+          → (if b then suc (tally q xs) else tally q xs) < (if a then suc (tally p xs) else tally p xs)
       there true true ea eb lt = omega arith
       there true false ea eb lt = omega arith
       there false true ea eb lt = clash (sub x eb) ea
@@ -96,14 +82,16 @@ module _ (s : State) (law : IsLawful s) where
   pub waits_no_more : (v : ℕ) → waiting (condemned s v) v ≡ false
   waits_no_more v = no_wait (status_of (condemned s v) v) (λ n m e.
       let before = woken_waits (granted_at (without_wait s v Condemned) (is_waiting_at s v)) v n m ((without_wait s v Condemned).txns v) e in
-      restatus_quiet Condemned (λ q w k. cc) (s.txns v) n m (ap (λ b. status_in (if b then restatus Condemned (s.txns v) else s.txns v)) (sym (same_slot v)) ∙ before.0))
+      restatus_quiet Condemned (λ q w k. cc) (s.txns v) n m (ap (λ b. status_in (if b then restatus Condemned (s.txns v) else s.txns v)) (sym (same_slot v))
+      ∙ before.0))
 
   -- who is waited for lives
   pub low : (x y : ℕ) → waits_for s x y ≡ true → y < s.most
   low x y h =
       let st = step_is s x y h in let n = st.0 in let m = st.1 in
       or_elim (not (are_compatible m (s.held y n))) (is_ahead (s.queue n) x y) st.2.blocked
-      (λ b. split (holds (members s n) y) (λ k. law.slots_below y (law.grants_live y n k).0) (λ k. clash b (ap (λ a. not (are_compatible m a)) (nl_is (s.held y n) k) ∙ free m)))
+      (λ b. split (holds (members s n) y) (λ k. law.slots_below y (law.grants_live y n k).0)
+      (λ k. clash b (ap (λ a. not (are_compatible m a)) (nl_is (s.held y n) k) ∙ free m)))
       (λ b. let among = ahead_second (s.queue n) x y (sym (ahead_is (s.queue n) x y) ∙ b) in
       law.slots_below y (txn_there (s.txns y) _ (waiting_is (status_of s y) n (law.waits_are y n among)).1))
     where
@@ -146,7 +134,8 @@ module _ (c : Victims) where
       by (victim c (waits_for s) s.most (age_of s) t) (victim_is (waits_for s) s.most (low s law) c (age_of s) t)
       (λ v one. let w = victim_waits s law t v one in let lt = fewer s law v w in settles_within k (condemned s v) (condemned-lawful s law v) t (omega arith))
     where
-      by : (o : Option ℕ) → IsAnswer c (waits_for s) (age_of s) t o → ((v : ℕ) → IsVictim c s t v → Settled c (condemned s v) t (settled_by c k (condemned s v) t))
+      by : (o : Option ℕ) → IsAnswer c (waits_for s) (age_of s) t o
+          → ((v : ℕ) → IsVictim c s t v → Settled c (condemned s v) t (settled_by c k (condemned s v) t))
           → Settled c s t (by_victim (λ v. settled_by c k (condemned s v) t) s o)
       by None none rest = (zero, (none, refl))
       by (Some v) one rest = let r = rest v one in (suc r.0, (v, one, r.1))
@@ -176,6 +165,8 @@ locks_some s law t n m may = by (enters_at s t.slot n m) refl
     wait_some AtBlock c z u lawful = settles c z lawful u
     wait_some ByWatcher c z u lawful = refl
 
-    by : (b : Bool) → enters_at s t.slot n m ≡ b → Locks s t.slot n m (if b then with_grant s t.slot n (wanted s t.slot n m) else waited s.detect s.victims (enqueued s t.slot n (wanted s t.slot n m)) t.slot)
+    by : (b : Bool) → enters_at s t.slot n m ≡ b → Locks s t.slot n m
+        (if b then with_grant s t.slot n (wanted s t.slot n m) else waited s.detect s.victims (enqueued s t.slot n (wanted s t.slot n m)) t.slot)
     by true e = record { at_once = λ _. refl; waits = λ f. clash e f }
-    by false e = record { at_once = λ f. clash f e; waits = λ _. wait_some s.detect s.victims (enqueued s t.slot n (wanted s t.slot n m)) t.slot (waiting-lawful s law t n m may e) }
+    by false e = record { at_once = λ f. clash f e; waits = λ _. wait_some s.detect s.victims (enqueued s t.slot n (wanted s t.slot n m)) t.slot
+        (waiting-lawful s law t n m may e) }

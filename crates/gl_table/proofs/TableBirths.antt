@@ -1,17 +1,7 @@
 -- A call on a table's graph makes nodes, or changes nothing: what holds of the fields still does.
-use Rattle.std.specs.Prelude.{◌≡◌, ℕ, Bool, IfOk, OnErr, Option, Some, None, Result, Ok, Err}
-use Rattle.std.proofs.Common.{refl, sym, ap, ◌∙◌, subst}
-use Rattle.gl_modes.specs.declared.node.NodeId.{NodeId}
-use Rattle.gl_modes.specs.declared.refusal.Refusal.{Refusal}
-use Rattle.gl_graph.specs.Refusals.{Refuses}
-use Rattle.gl_graph.specs.View.{View, graph_of}
-use Rattle.gl_header.specs.Header.{holds}
+use Rattle.gl_table.proofs.Words.{◌∙◌, ◌≡◌, ap, Bool, children_that, CountsHeld, Err, graph_of, holds, IfOk, IsSound, members, NodeId, None, Ok, OnErr, Option}
+use Rattle.gl_table.proofs.Words.{refl, Refusal, Refuses, Result, Some, State, state_of, state_on, subst, sym, View, view_of, ℕ}
 use Rattle.gl_table.specs.declared.table.Table.TheInside.{Inside}
-use Rattle.gl_table.specs.Locks.{CountsHeld, state_on}
-use Rattle.gl_table.specs.Sound.{IsSound, view_of}
-use Rattle.gl_table.specs.State.{State, members}
-use Rattle.gl_table.specs.Steps.{children_that}
-use Rattle.gl_table.specs.Table.{state_of}
 use Rattle.gl_table.proofs.Births.{Grows, born-children, grown-lawful}
 
 module _ (i : Inside) (sound : IsSound i) (v : View) where
@@ -39,7 +29,8 @@ module _ (i : Inside) (sound : IsSound i) (v : View) where
   }
 
   -- a call that makes nodes passed all its tests, and one that is refused left the graph as it was
-  pub called-sound : (refusal : Option Refusal) (result : Result NodeId Refusal) (Made : NodeId → Type 0) → Refuses refusal result → IfOk result Made → OnErr result (v ≡ i.graph)
+  pub called-sound : (refusal : Option Refusal) (result : Result NodeId Refusal) (Made : NodeId → Type 0) → Refuses refusal result → IfOk result Made
+      → OnErr result (v ≡ i.graph)
       → ((n : NodeId) → refusal ≡ None → Made n → Grows (graph_of i.graph) (graph_of v)) → IsSound after
   called-sound None (Ok n) Made refuses made same grows = grown-sound (grows n refl made)
   called-sound (Some r) (Ok n) Made refuses made same grows = absurd (cc)

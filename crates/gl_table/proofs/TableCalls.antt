@@ -1,33 +1,11 @@
 -- What the calls on the locks make of a table.
-use Rattle.std.specs.Prelude.{◌≡◌, ℕ, ◌∷◌, [], ◌&&◌, ◌==◌, true, false, Option, Some, None, Ok, if◌then◌else◌}
-use Rattle.std.proofs.Common.{refl, sym, ap, ◌∙◌, subst}
-use Rattle.gl_modes.specs.declared.mode.Mode.TheVariants.{NL}
-use Rattle.gl_modes.specs.declared.node.NodeId.{NodeId}
-use Rattle.gl_modes.specs.declared.refusal.Refusal.{Refusal}
-use Rattle.gl_graph.specs.Graph.{is_child, nodes}
-use Rattle.gl_graph.specs.Refusals.{first_refusal, verdict}
-use Rattle.gl_graph.specs.View.{graph_of}
-use Rattle.gl_graph.proofs.Look.{same_number, split}
-use Rattle.gl_header.proofs.Ranges.{not_true}
-use Rattle.gl_graph.proofs.Unrefused.{not_refused, not_false, test_fails}
-use Rattle.gl_header.specs.Header.{holds, is_among_waiters}
+use Rattle.gl_table.proofs.Words.{[], ◌&&◌, ◌==◌, ◌∙◌, ◌∷◌, ◌≡◌, Active, Agrees, ap, AreSound, commit_tests, CountsHeld, false, first_refusal, front_at}
+use Rattle.gl_table.proofs.Words.{grant_notice, graph_of, HasNoCycle, held_child, held_children, holds, if◌then◌else◌, is_among_waiters, is_child, is_wait}
+use Rattle.gl_table.proofs.Words.{IsLawful, IsOnWay, IsOrderly, IsSound, members, NL, NodeId, nodes, None, not_false, not_held, not_refused, not_true, Ok}
+use Rattle.gl_table.proofs.Words.{Option, refl, Refusal, released, same_number, Some, split, State, state_of, state_on, status_of, subst, sym, TableView}
+use Rattle.gl_table.proofs.Words.{test_fails, Told, told, told_to, true, TxnId, unlocked, verdict, view_of, WakesTold, with_grant, ℕ}
 use Rattle.gl_table.specs.declared.locks.Locks.{Locks}
 use Rattle.gl_table.specs.declared.table.Table.TheInside.{Inside}
-use Rattle.gl_table.specs.declared.txn.Status.TheVariants.{Active}
-use Rattle.gl_table.specs.declared.txn.TxnId.{TxnId}
-use Rattle.gl_table.specs.Calls.{released, unlocked}
-use Rattle.gl_table.specs.Covered.{held_children}
-use Rattle.gl_table.specs.Lawful.{IsLawful}
-use Rattle.gl_table.specs.Locks.{Agrees, AreSound, CountsHeld, IsOrderly, state_on}
-use Rattle.gl_table.specs.Pumps.{front_at}
-use Rattle.gl_table.specs.Refusals.{commit_tests, held_child, not_held}
-use Rattle.gl_table.specs.Slots.{WakesTold, grant_notice}
-use Rattle.gl_table.specs.Sound.{IsSound, view_of}
-use Rattle.gl_table.specs.State.{State, members, status_of, with_grant}
-use Rattle.gl_table.specs.Table.{TableView, state_of}
-use Rattle.gl_table.specs.Tellings.{Told, told}
-use Rattle.gl_table.specs.Tells.{IsOnWay, told_to}
-use Rattle.gl_table.specs.Waiting.{HasNoCycle, is_wait}
 use Rattle.gl_table.proofs.Childless.{none_found_counted}
 use Rattle.gl_table.proofs.LockKeeps.{unlocked-lawful}
 use Rattle.gl_table.proofs.NoCycle.{released-no_cycle, unlocked-no_cycle}
@@ -72,28 +50,33 @@ module _ (i : Inside) (sound : IsSound i) where
 
   pub orderly : IsOrderly l
   orderly = let o = lawful_orderly s sound.lawful in
-      record { holders = o.holders; holders_live = o.holders_live; waiters_live = o.waiters_live; waits_are = o.waits_are; one_wait = o.one_wait; below = o.below }
+      record { holders = o.holders; holders_live = o.holders_live; waiters_live = o.waiters_live; waits_are = o.waits_are; one_wait = o.one_wait;
+          below = o.below }
 
   -- who passed the tests of an unlock holds the node and no child of it
   pub may_unlock : (v : TableView) → view_of i ≡ v → (t : TxnId) (n : NodeId) (x y : Unit {0}) → Ok x ≡ verdict (first_refusal (commit_tests (state_of v) t))
       → Ok y ≡ verdict (first_refusal (not_held (state_of v) t.slot n ∷ held_child (state_of v) t.slot n ∷ []))
       → (status_of s t.slot ≡ Some Active) × (holds (members s n) t.slot ≡ true) × (held_child s t.slot n ≡ None) × (held_children s t.slot n ≡ 0)
   may_unlock v view t n x y a b =
-      let back = λ (w : TableView). (status_of (state_of w) t.slot ≡ Some Active) × (holds (members (state_of w) n) t.slot ≡ true) × (held_child (state_of w) t.slot n ≡ None) × (held_children (state_of w) t.slot n ≡ 0) in
+      let back = λ (w : TableView). (status_of (state_of w) t.slot ≡ Some Active) × (holds (members (state_of w) n) t.slot ≡ true)
+      × (held_child (state_of w) t.slot n ≡ None) × (held_children (state_of w) t.slot n ≡ 0) in
       let first = not_refused (not_held (state_of v) t.slot n) _ (test_passed _ y b) in
       let second = not_refused (held_child (state_of v) t.slot n) [] first.1 in
       subst back (sym view)
-      (is_active (state_of v) t (test_passed _ x a), not_false _ (test_fails _ _ first.0), second.0, none_found_counted (λ c. is_child (state_of v).graph n c && holds (members (state_of v) c) t.slot) (nodes (state_of v).graph) second.0)
+      (is_active (state_of v) t (test_passed _ x a), not_false _ (test_fails _ _ first.0), second.0,
+      none_found_counted (λ c. is_child (state_of v).graph n c && holds (members (state_of v) c) t.slot) (nodes (state_of v).graph) second.0)
 
   -- one node was released, of which no child was held
-  module _ (t : ℕ) (n : NodeId) (active : status_of s t ≡ Some Active) (childless : held_child s t n ≡ None) (locks : Locks) (is : state_on (graph_of i.graph) locks ≡ unlocked l t n) where
+  module _ (t : ℕ) (n : NodeId) (active : status_of s t ≡ Some Active) (childless : held_child s t n ≡ None) (locks : Locks)
+      (is : state_on (graph_of i.graph) locks ≡ unlocked l t n) where
     abbrev after : Inside
     after = record i { locks = locks }
 
     pub state_unlocked : state_of (view_of after) ≡ unlocked s t n
     state_unlocked = ap {A = State} (λ x. record x { detect = i.detect; victims = i.victims; begins = i.begins }) is
 
-    pub sound_unlocked : AreSound locks → ((u : ℕ) → Agrees (state_on (graph_of i.graph) locks) locks.lists.items u) → ((u : ℕ) → CountsHeld (state_on (graph_of i.graph) locks) locks.lists.items u) → IsSound after
+    pub sound_unlocked : AreSound locks → ((u : ℕ) → Agrees (state_on (graph_of i.graph) locks) locks.lists.items u)
+        → ((u : ℕ) → CountsHeld (state_on (graph_of i.graph) locks) locks.lists.items u) → IsSound after
     sound_unlocked are agrees counts = record {
       lawful = subst IsLawful (sym state_unlocked) (unlocked-lawful s sound.lawful t n active childless);
       sound = are;
@@ -107,11 +90,14 @@ module _ (i : Inside) (sound : IsSound i) where
         told_is s (state_of (view_of after)) list sound.lawful sound.sound.few tells.by_slot
         (λ u. tells.notices u ∙ noticed u ∙ sym (ap (λ x. told_to s x u) state_unlocked))
       where
-        noticed : (u : ℕ) → (if is_among_waiters u (front_at (with_grant s t n NL) n) then grant_notice s.txns n (front_at (with_grant s t n NL) n) u else None) ≡ told_to s (unlocked s t n) u
+        noticed : (u : ℕ) → (if is_among_waiters u (front_at (with_grant s t n NL) n) then grant_notice s.txns n (front_at (with_grant s t n NL) n) u else None)
+            ≡ told_to s (unlocked s t n) u
         noticed u = split (u == t)
-            (λ e. ap (λ b. if b then grant_notice s.txns n (front_at (with_grant s t n NL) n) u else None) (ap (λ v. is_among_waiters v (front_at (with_grant s t n NL) n)) (same_number u t e) ∙ not_front)
+            (λ e. ap (λ b. if b then grant_notice s.txns n (front_at (with_grant s t n NL) n) u else None)
+            (ap (λ v. is_among_waiters v (front_at (with_grant s t n NL) n)) (same_number u t e) ∙ not_front)
             ∙ sym (active_untold s (unlocked s t n) u (ap (status_of s) (same_number u t e) ∙ active)))
-            (λ e. ap (λ o. if is_among_waiters u (front_at (with_grant s t n NL) n) then grant_notice s.txns n (front_at (with_grant s t n NL) n) u else o) (sym (nobody_told s u))
+            (λ e. ap (λ o. if is_among_waiters u (front_at (with_grant s t n NL) n) then grant_notice s.txns n (front_at (with_grant s t n NL) n) u else o)
+            (sym (nobody_told s u))
             ∙ sym (release_tells s s t n (way_begins s sound.lawful) u e))
           where
             o : IsOrderly s
@@ -122,7 +108,8 @@ module _ (i : Inside) (sound : IsSound i) where
 
   -- the way from a table's state begins at its locks
   pub table_way : IsOnWay s l
-  table_way = let w = way_begins s sound.lawful in record { graph = refl; ages = w.ages; waited = w.waited; waits_are = w.waits_are; one_wait = w.one_wait; live = w.live }
+  table_way = let w = way_begins s sound.lawful in record { graph = refl; ages = w.ages; waited = w.waited; waits_are = w.waits_are; one_wait = w.one_wait;
+      live = w.live }
 
   -- a transaction ended
   module _ (t : ℕ) (locks : Locks) (is : state_on (graph_of i.graph) locks ≡ released l t) where
@@ -132,7 +119,8 @@ module _ (i : Inside) (sound : IsSound i) where
     pub state_released : state_of (view_of ended) ≡ released s t
     state_released = ap {A = State} (λ x. record x { detect = i.detect; victims = i.victims; begins = i.begins }) is
 
-    pub sound_released : AreSound locks → ((u : ℕ) → Agrees (state_on (graph_of i.graph) locks) locks.lists.items u) → ((u : ℕ) → CountsHeld (state_on (graph_of i.graph) locks) locks.lists.items u) → IsSound ended
+    pub sound_released : AreSound locks → ((u : ℕ) → Agrees (state_on (graph_of i.graph) locks) locks.lists.items u)
+        → ((u : ℕ) → CountsHeld (state_on (graph_of i.graph) locks) locks.lists.items u) → IsSound ended
     sound_released are agrees counts = record {
       lawful = subst IsLawful (sym state_released) (released-lawful s sound.lawful t);
       sound = are;

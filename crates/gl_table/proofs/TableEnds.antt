@@ -1,28 +1,11 @@
 -- What the ends of waits and of transactions make of a table.
-use Rattle.std.specs.Prelude.{◌≡◌, ℕ, Bool, true, false, ◌==◌, List, [], ◌||◌, Option, None, if◌then◌else◌}
-use Rattle.std.proofs.Common.{refl, sym, ap, ◌∙◌, subst}
-use Rattle.gl_modes.specs.declared.node.NodeId.{NodeId}
-use Rattle.gl_graph.specs.View.{graph_of}
-use Rattle.gl_graph.proofs.Look.{number_same, same_number, split}
-use Rattle.gl_header.specs.Header.{Waiter, holds}
-use Rattle.gl_table.specs.declared.deadlock.Deadlock.{Deadlock}
+use Rattle.gl_table.proofs.Words.{[], ◌==◌, ◌||◌, ◌∙◌, ◌≡◌, Active, Agrees, ap, AreSound, Bool, cancelled, CountsHeld, Deadlock, false, front_at, granted_at}
+use Rattle.gl_table.proofs.Words.{graph_of, HasNoCycle, holds, if◌then◌else◌, is_waiting_at, IsBySlot, IsLawful, IsOnWay, IsSound, List, members, NodeId, None}
+use Rattle.gl_table.proofs.Words.{notices_in, number_same, Option, refl, released, same_number, Settled, SettlesKeeping, split, State, state_of, state_on}
+use Rattle.gl_table.proofs.Words.{status_in, status_of, stripped, subst, sym, Told, told, told_but, told_to, true, Txn, view_of, Waiter, WakesTold}
+use Rattle.gl_table.proofs.Words.{without_wait, woken, ℕ}
 use Rattle.gl_table.specs.declared.locks.Locks.{Locks}
 use Rattle.gl_table.specs.declared.table.Table.TheInside.{Inside}
-use Rattle.gl_table.specs.declared.txn.Status.TheVariants.{Active}
-use Rattle.gl_table.specs.Calls.{cancelled, released}
-use Rattle.gl_table.specs.Deadlocks.{SettlesKeeping}
-use Rattle.gl_table.specs.Lawful.{IsLawful}
-use Rattle.gl_table.specs.Locks.{Agrees, AreSound, CountsHeld, state_on}
-use Rattle.gl_table.specs.Pumps.{front_at, granted_at, is_waiting_at, without_wait, woken}
-use Rattle.gl_table.specs.Slots.{WakesTold}
-use Rattle.gl_table.specs.Sound.{IsSound, view_of}
-use Rattle.gl_table.specs.State.{State, Txn, members, status_in, status_of}
-use Rattle.gl_table.specs.Steps.{stripped}
-use Rattle.gl_table.specs.Table.{state_of}
-use Rattle.gl_table.specs.Telling.{IsBySlot, notices_in}
-use Rattle.gl_table.specs.Tellings.{Told, told, told_but}
-use Rattle.gl_table.specs.Tells.{IsOnWay, told_to}
-use Rattle.gl_table.specs.Waiting.{HasNoCycle, Settled}
 use Rattle.gl_table.proofs.Cancelled.{cancelled_own, cancelled_tells}
 use Rattle.gl_table.proofs.NoCycle.{given_up-no_cycle, settled-no_cycle}
 use Rattle.gl_table.proofs.Queues.{clash}
@@ -50,12 +33,14 @@ module _ (i : Inside) (sound : IsSound i) where
 
   -- a transaction ended, whatever it was doing: all others are told, and it is told nothing itself
   pub told_ended : (t : ℕ) (locks : Locks) → state_on (graph_of i.graph) locks ≡ released l t → (first list : Told) → first ≡ [] → IsBySlot list
-      → ((from : State) → IsOnWay from l → ((u : ℕ) → (u == t) ≡ false → notices_in first u ≡ told_to from l u) → (u : ℕ) → (u == t) ≡ false → notices_in list u ≡ told_to from (state_on (graph_of i.graph) locks) u)
+      → ((from : State) → IsOnWay from l → ((u : ℕ) → (u == t) ≡ false → notices_in first u ≡ told_to from l u) → (u : ℕ) → (u == t) ≡ false
+      → notices_in list u ≡ told_to from (state_on (graph_of i.graph) locks) u)
       → notices_in list t ≡ notices_in first t → list ≡ told s (state_of (view_of (record i { locks = locks })))
   told_ended t locks is first list none by_slot tells own =
       told_is s after list sound.lawful sound.sound.few by_slot
       (λ u. split (u == t)
-      (λ e. ap (notices_in list) (same_number u t e) ∙ own ∙ ap (λ xs. notices_in xs t) none ∙ sym (ap (told_to s after) (same_number u t e) ∙ gone_untold s after t gone))
+      (λ e. ap (notices_in list) (same_number u t e) ∙ own ∙ ap (λ xs. notices_in xs t) none
+      ∙ sym (ap (told_to s after) (same_number u t e) ∙ gone_untold s after t gone))
       (λ e. tells s (table_way i sound) (λ v k. ap (λ xs. notices_in xs v) none ∙ sym (nobody_told s v)) u e))
     where
       after : State
@@ -72,7 +57,8 @@ module _ (i : Inside) (sound : IsSound i) where
     pub state_cancelled : state_of (view_of after) ≡ cancelled s t
     state_cancelled = ap {A = State} (λ x. record x { detect = i.detect; victims = i.victims; begins = i.begins }) is
 
-    pub sound_cancelled : AreSound locks → ((u : ℕ) → Agrees (state_on (graph_of i.graph) locks) locks.lists.items u) → ((u : ℕ) → CountsHeld (state_on (graph_of i.graph) locks) locks.lists.items u) → IsSound after
+    pub sound_cancelled : AreSound locks → ((u : ℕ) → Agrees (state_on (graph_of i.graph) locks) locks.lists.items u)
+        → ((u : ℕ) → CountsHeld (state_on (graph_of i.graph) locks) locks.lists.items u) → IsSound after
     sound_cancelled are agrees counts = record {
       lawful = subst IsLawful (sym state_cancelled) (without_wait-lawful s sound.lawful t Active (λ q m e. cc));
       sound = are;
@@ -82,12 +68,14 @@ module _ (i : Inside) (sound : IsSound i) where
     }
 
     -- the others are told
-    pub told_cancelled : (first list : Told) → first ≡ [] → WakesTold l.txns n (front_at (without_wait l t Active) n) first list → list ≡ told_but t s (state_of (view_of after))
+    pub told_cancelled : (first list : Told) → first ≡ [] → WakesTold l.txns n (front_at (without_wait l t Active) n) first list
+        → list ≡ told_but t s (state_of (view_of after))
     told_cancelled first list none tells =
         told_but_is s (state_of (view_of after)) t list sound.lawful sound.sound.few tells.by_slot
         (λ u. is_by_test (u == t)
         (λ e. ap (notices_in list) (same_number u t e) ∙ cancelled_own l (orderly i sound) t n waits first list tells ∙ ap (λ xs. notices_in xs t) none)
-        (λ e. (cancelled_tells l (orderly i sound) t n waits first list tells s (table_way i sound) (λ v k. ap (λ xs. notices_in xs v) none ∙ sym (nobody_told s v))).1 u e ∙ ap (λ x. told_to s x u) (sym is)))
+        (λ e. (cancelled_tells l (orderly i sound) t n waits first list tells s (table_way i sound) (λ v k. ap (λ xs. notices_in xs v) none
+        ∙ sym (nobody_told s v))).1 u e ∙ ap (λ x. told_to s x u) (sym is)))
 
   -- a transaction was settled
   module _ (t : ℕ) (locks : Locks) (kept : Deadlock) (is : Settled i.victims l t (state_on (graph_of i.graph) locks)) where
@@ -98,10 +86,12 @@ module _ (i : Inside) (sound : IsSound i) where
     state_settled = settled_also i.victims t i.detect i.victims i.begins l (state_on (graph_of i.graph) locks) is
 
     -- with what is kept of it
-    pub kept_settled : SettlesKeeping i.victims l t i.deadlock (state_on (graph_of i.graph) locks) kept → SettlesKeeping s.victims s t i.deadlock (state_of (view_of now)) kept
+    pub kept_settled : SettlesKeeping i.victims l t i.deadlock (state_on (graph_of i.graph) locks) kept
+        → SettlesKeeping s.victims s t i.deadlock (state_of (view_of now)) kept
     kept_settled keeps = keeping_also i.victims t i.detect i.victims i.begins l (state_on (graph_of i.graph) locks) i.deadlock kept keeps
 
-    pub sound_settled : AreSound locks → ((u : ℕ) → Agrees (state_on (graph_of i.graph) locks) locks.lists.items u) → ((u : ℕ) → CountsHeld (state_on (graph_of i.graph) locks) locks.lists.items u) → IsSound now
+    pub sound_settled : AreSound locks → ((u : ℕ) → Agrees (state_on (graph_of i.graph) locks) locks.lists.items u)
+        → ((u : ℕ) → CountsHeld (state_on (graph_of i.graph) locks) locks.lists.items u) → IsSound now
     sound_settled are agrees counts = record {
       lawful = settled-lawful s.victims s (state_of (view_of now)) t sound.lawful state_settled;
       sound = are;
@@ -112,7 +102,9 @@ module _ (i : Inside) (sound : IsSound i) where
 
     -- who is granted is told, and who is a victim
     pub told_settled : (first list : Told) → first ≡ [] → IsBySlot list
-        → ((from : State) → IsOnWay from l → ((u : ℕ) → notices_in first u ≡ told_to from l u) → (u : ℕ) → notices_in list u ≡ told_to from (state_on (graph_of i.graph) locks) u)
+        → ((from : State) → IsOnWay from l → ((u : ℕ) → notices_in first u ≡ told_to from l u) → (u : ℕ)
+        → notices_in list u ≡ told_to from (state_on (graph_of i.graph) locks) u)
         → list ≡ told s (state_of (view_of now))
     told_settled first list none by_slot tells =
-        told_is s (state_of (view_of now)) list sound.lawful sound.sound.few by_slot (tells s (table_way i sound) (λ u. ap (λ xs. notices_in xs u) none ∙ sym (nobody_told s u)))
+        told_is s (state_of (view_of now)) list sound.lawful sound.sound.few by_slot
+        (tells s (table_way i sound) (λ u. ap (λ xs. notices_in xs u) none ∙ sym (nobody_told s u)))

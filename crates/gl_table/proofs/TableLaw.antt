@@ -1,23 +1,9 @@
 -- What holds of a table's fields, in the words of what a contract sees.
-use Rattle.std.specs.Prelude.{◌≡◌, ℕ, zero, suc, ◌||◌, map, List, [], ◌∷◌, Option, Some, None, is_some, slice_get}
-use Rattle.std.specs.List.{IsDistinct}
-use Rattle.std.specs.Map.{keys_of, lookup}
-use Rattle.std.specs.Option.{option_map_or}
-use Rattle.std.proofs.Common.{refl, sym, ap, subst, ◌∙◌}
-use Rattle.indexmap.specs.IndexMap.{IsUnique}
-use Rattle.gl_modes.specs.declared.node.NodeId.{NodeId}
-use Rattle.gl_modes.specs.Nodes.{same_node}
-use Rattle.gl_header.specs.Header.{holds, is_among_waiters}
-use Rattle.gl_table.specs.declared.list.Entry.{Entry}
-use Rattle.gl_table.specs.declared.list.LockList.{LockList}
+use Rattle.gl_table.proofs.Words.{[], ◌||◌, ◌∙◌, ◌∷◌, ◌≡◌, ap, AreApart, by_list, count_in, counted_by, Entry, entry_of, holds, is_among_waiters, is_some}
+use Rattle.gl_table.proofs.Words.{is_waiting_at, IsApart, IsDistinct, IsLawful, IsSound, IsUnique, keys_of, List, ListsAgree, LockList, lookup, loose_of, map}
+use Rattle.gl_table.proofs.Words.{members, mode_in, NodeId, None, Option, option_map_or, refl, same_node, slice_get, Some, StandOnce, State, state_of}
+use Rattle.gl_table.proofs.Words.{status_of, subst, suc, sym, view_of, zero, ℕ}
 use Rattle.gl_table.specs.declared.table.Table.TheInside.{Inside}
-use Rattle.gl_table.specs.Lawful.{IsLawful}
-use Rattle.gl_table.specs.Lists.{IsApart, count_in, entry_of, loose_of, mode_in}
-use Rattle.gl_table.specs.Pumps.{is_waiting_at}
-use Rattle.gl_table.specs.Slots.{AreApart, by_list, counted_by}
-use Rattle.gl_table.specs.Sound.{IsSound, view_of}
-use Rattle.gl_table.specs.State.{State, members, status_of}
-use Rattle.gl_table.specs.Table.{ListsAgree, StandOnce, state_of}
 use Rattle.gl_table.proofs.Less.{waiting_is}
 use Rattle.gl_table.proofs.Queues.{among_by_filter}
 use Rattle.gl_table.proofs.Transfer.{same_bool}
@@ -37,7 +23,8 @@ said_by (l ∷ ls) n zero = refl
 said_by (l ∷ ls) n (suc t) = said_by ls n t
 
 -- what is said of an entry, by slot
-through : {A : Type 0} (f : Option Entry → A) (ls : List LockList) (n : NodeId) (t : ℕ) → f (by_list (λ l. entry_of l n) None ls t) ≡ by_list (λ l. f (entry_of l n)) (f None) ls t
+through : {A : Type 0} (f : Option Entry → A) (ls : List LockList) (n : NodeId) (t : ℕ)
+    → f (by_list (λ l. entry_of l n) None ls t) ≡ by_list (λ l. f (entry_of l n)) (f None) ls t
 through f [] n t = refl
 through f (l ∷ ls) n zero = refl
 through f (l ∷ ls) n (suc t) = through f ls n t
@@ -49,7 +36,8 @@ counted (l ∷ ls) n (suc t) e h = counted ls n t e h
 
 pub lists_agree : (i : Inside) → IsSound i → ListsAgree (view_of i)
 lists_agree i sound = record {
-  listed = λ t n. ap is_some (said_by ls n t) ∙ through is_some ls n t ∙ (sound.agrees t).listed n ∙ ap (λ b. holds (members (state_of (view_of i)) n) t || b) (sym (waits_among (state_of (view_of i)) sound.lawful t n));
+  listed = λ t n. ap is_some (said_by ls n t) ∙ through is_some ls n t ∙ (sound.agrees t).listed n
+      ∙ ap (λ b. holds (members (state_of (view_of i)) n) t || b) (sym (waits_among (state_of (view_of i)) sound.lawful t n));
   modes = λ t n. ap mode_in (said_by ls n t) ∙ through mode_in ls n t ∙ (sound.agrees t).modes n;
   counts = λ t n e h. sym (counted ls n t e (sym (said_by ls n t) ∙ h)) ∙ sound.counts t n;
 }
@@ -62,9 +50,11 @@ unfolding IsApart
 unique_in l apart = apart.0
 
 -- no list has a node twice
-lists_once : (ls : List LockList) → AreApart ls → (t : ℕ) (es : List (NodeId × Entry)) → slice_get (map (λ l. l.entries.entries) ls) t ≡ Some es → IsDistinct same_node (keys_of es)
+lists_once : (ls : List LockList) → AreApart ls → (t : ℕ) (es : List (NodeId × Entry)) → slice_get (map (λ l. l.entries.entries) ls) t ≡ Some es
+    → IsDistinct same_node (keys_of es)
 lists_once [] apart t es e = absurd (cc)
-lists_once (l ∷ ls) apart zero es e = let is : l.entries.entries ≡ es = cc in subst (λ (xs : List (NodeId × Entry)). IsDistinct same_node (keys_of xs)) is (unique_in l (apart 0 l refl))
+lists_once (l ∷ ls) apart zero es e = let is : l.entries.entries ≡ es = cc in
+    subst (λ (xs : List (NodeId × Entry)). IsDistinct same_node (keys_of xs)) is (unique_in l (apart 0 l refl))
 lists_once (l ∷ ls) apart (suc t) es e = lists_once ls (λ u x h. apart (suc u) x h) t es e
 
 -- and no node has two headers, by the map's own word

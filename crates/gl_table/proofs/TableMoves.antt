@@ -1,49 +1,18 @@
 -- A call on a table's graph gave a node other parents, and the locks followed.
-use Rattle.std.specs.Prelude.{◌≡◌, ℕ, ◌+◌, ◌<◌, ◌≤◌, ◌^◌, Bool, true, false, not, ◌&&◌, ◌||◌, ◌==◌, List, [], ◌∷◌, Option, Some, None, if◌then◌else◌, slice_get}
-use Rattle.std.specs.List.{count_by, list_all}
-use Rattle.std.specs.Option.{option_map_or}
-use Rattle.std.proofs.Common.{refl, sym, ap, ap₂, ◌∙◌, arith, subst, ⊎_elim}
-use Rattle.std.proofs.lemmas.List.Sums.{count_by-le-length}
-use Rattle.gl_modes.specs.declared.mode.Mode.{Mode}
-use Rattle.gl_modes.specs.declared.mode.Mode.TheVariants.{NL, IX, X}
-use Rattle.gl_modes.specs.declared.node.NodeId.{NodeId}
-use Rattle.gl_modes.specs.Modes.{is_at_least, same_mode}
-use Rattle.gl_modes.specs.Nodes.{same_node}
-use Rattle.gl_modes.proofs.ModeLemmas.{at_least-not_NL}
-use Rattle.gl_graph.specs.Changes.{rekeyed, rekeyed_parents, with_parents}
-use Rattle.gl_graph.specs.Graph.{Graph, Node, is_live, parents_of, shape_of}
-use Rattle.gl_graph.specs.Lawful.{AreInnerParents}
-use Rattle.gl_graph.specs.Refusals.{first_cycle}
-use Rattle.gl_graph.specs.Shapes.{is_movable_shape, is_record_shape, least_parents}
-use Rattle.gl_graph.specs.View.{View, graph_of}
-use Rattle.gl_graph.proofs.Counts.{count_none}
-use Rattle.gl_graph.proofs.Look.{and_both, other_number, same_number, split}
-use Rattle.gl_header.specs.Header.{fits, holds, is_among_waiters}
-use Rattle.gl_header.specs.State.{slot_limit}
-use Rattle.gl_header.proofs.Fits.{fits-limit}
-use Rattle.gl_header.proofs.Ranges.{not_true}
-use Rattle.gl_table.specs.declared.list.LockList.{LockList}
+use Rattle.gl_table.proofs.Words.{[], ◌&&◌, ◌+◌, ◌<◌, ◌==◌, ◌^◌, ◌||◌, ◌∙◌, ◌∷◌, ◌≡◌, ◌≤◌, Active, Agrees, and_both, ap, ap₂, AreInnerParents, AreSound, arith}
+use Rattle.gl_table.proofs.Words.{at_least-not_NL, Bool, children_that, count_by, count_by-le-length, count_none, counted_by, CountsHeld, false, first_cycle}
+use Rattle.gl_table.proofs.Words.{fits, fits-limit, Graph, graph_of, HasNoCycle, held_children, holds, if◌then◌else◌, is_among_waiters, is_at_least, is_listed}
+use Rattle.gl_table.proofs.Words.{is_live, is_movable_shape, is_record_shape, IsBySlot, IsLawful, IsOrderly, IsSound, IX, least_parents, List, list_all}
+use Rattle.gl_table.proofs.Words.{listed_by, LockList, members, Mode, moved_to, need_exclusive, need_new_parents, NL, Node, NodeId, None, not, not_true}
+use Rattle.gl_table.proofs.Words.{notices_in, Option, option_map_or, other_number, parents_of, refl, rekeyed, rekeyed_parents, same_mode, same_node}
+use Rattle.gl_table.proofs.Words.{same_number, shape_of, slice_get, slot_limit, Some, some_given, split, State, state_of, state_on, status_of, stays, subst}
+use Rattle.gl_table.proofs.Words.{sym, TableView, Told, told, told_to, true, unlisted, unlisted_by, View, view_of, with_parents, X, ℕ, ⊎_elim}
 use Rattle.gl_table.specs.declared.locks.Locks.{Locks}
 use Rattle.gl_table.specs.declared.table.Table.TheInside.{Inside}
-use Rattle.gl_table.specs.declared.txn.Status.TheVariants.{Active}
-use Rattle.gl_table.specs.Calls.{moved_to, stays}
-use Rattle.gl_table.specs.Covered.{held_children}
-use Rattle.gl_table.specs.Lawful.{IsLawful}
-use Rattle.gl_table.specs.Lists.{is_listed, unlisted}
-use Rattle.gl_table.specs.Locks.{Agrees, AreSound, CountsHeld, IsOrderly, state_on}
-use Rattle.gl_table.specs.Refusals.{need_exclusive, need_new_parents, some_given}
-use Rattle.gl_table.specs.Slots.{counted_by, listed_by, unlisted_by}
-use Rattle.gl_table.specs.Sound.{IsSound, view_of}
-use Rattle.gl_table.specs.State.{State, members, status_of}
-use Rattle.gl_table.specs.Steps.{children_that}
-use Rattle.gl_table.specs.Table.{TableView, state_of}
-use Rattle.gl_table.specs.Telling.{IsBySlot, notices_in}
-use Rattle.gl_table.specs.Tellings.{Told, told}
-use Rattle.gl_table.specs.Tells.{told_to}
-use Rattle.gl_table.specs.Waiting.{HasNoCycle}
 use Rattle.gl_table.proofs.Children.{children_few}
 use Rattle.gl_table.proofs.MovedCounts.{children_moved, parents_counted}
-use Rattle.gl_table.proofs.MovedNodes.{Moves, changed_keeps, may_be_moved, may_be_rekeyed, moved_node, rekeyed_to, live_kept, new_parents, node_there, nodes_kept, others_parents}
+use Rattle.gl_table.proofs.MovedNodes.{Moves, changed_keeps, may_be_moved, may_be_rekeyed, moved_node, rekeyed_to, live_kept, new_parents, node_there}
+use Rattle.gl_table.proofs.MovedNodes.{nodes_kept, others_parents}
 use Rattle.gl_table.proofs.MoveKeeps.{only_mover, waiter_bare, waiters_stuck}
 use Rattle.gl_table.proofs.Movers.{HoldsNode, HoldsParents}
 use Rattle.gl_table.proofs.MoveSteps.{moved-no_cycle}
@@ -64,12 +33,14 @@ none_unlisted ls t ps h = by (slice_get ls t) h
     by (Some l) k = count_none (is_listed l) (λ p. not (is_listed l p)) ps k (λ p there. ap not there)
 
 -- what is held is listed
-all_listed : (s : State) (ls : List LockList) (t : ℕ) → Agrees s ls t → (test : Mode → Bool) → ((m : Mode) → test m ≡ true → same_mode m NL ≡ false) → (ps : List NodeId)
+all_listed : (s : State) (ls : List LockList) (t : ℕ) → Agrees s ls t → (test : Mode → Bool) → ((m : Mode) → test m ≡ true → same_mode m NL ≡ false)
+    → (ps : List NodeId)
     → list_all (λ p. test (s.held t p)) ps ≡ true → list_all (listed_by ls t) ps ≡ true
 all_listed s ls t agree test locks [] h = refl
 all_listed s ls t agree test locks (p ∷ ps) h =
     let two = and_both (test (s.held t p)) _ h in
-    ap₂ (λ a b. a && b) (agree.listed p ∙ ap (λ b. not b || is_among_waiters t (s.queue p)) (locks (s.held t p) two.0)) (all_listed s ls t agree test locks ps two.1)
+    ap₂ (λ a b. a && b) (agree.listed p ∙ ap (λ b. not b || is_among_waiters t (s.queue p)) (locks (s.held t p) two.0))
+    (all_listed s ls t agree test locks ps two.1)
 
 module _ (i : Inside) (sound : IsSound i) (t : ℕ) (n : NodeId) (was is : Node) (v : View) (m : Moves (state_of (view_of i)) t n was is (graph_of v)) where
   abbrev s : State
@@ -107,7 +78,8 @@ module _ (i : Inside) (sound : IsSound i) (t : ℕ) (n : NodeId) (was is : Node)
   bare_moved = waiter_bare s sound.lawful t n is.parents m.active m.right
 
   pub stuck_moved : list_all (λ w. not (fits slot_limit (members l n) w.0 w.1)) (l.queue n) ≡ true
-  stuck_moved = waiters_stuck s sound.lawful t n is.parents m.active m.right slot_limit (λ u w. fits-limit s.most (members s n) u w sound.sound.few (members_within l orderly_moved n))
+  stuck_moved = waiters_stuck s sound.lawful t n is.parents m.active m.right slot_limit
+      (λ u w. fits-limit s.most (members s n) u w sound.sound.few (members_within l orderly_moved n))
 
   -- the mover's old parents are counted
   pub counted_moved : holds (members l n) t ≡ true → (q : NodeId) → count_by (same_node q) (parents_of s.graph n) ≤ counted_by i.locks.lists.items t q
@@ -118,10 +90,13 @@ module _ (i : Inside) (sound : IsSound i) (t : ℕ) (n : NodeId) (was is : Node)
 
   -- and its new parents are listed
   pub listed_moved : unlisted_by i.locks.lists.items t (parents_of g' n) ≡ 0
-  listed_moved = none_unlisted i.locks.lists.items t (parents_of g' n) (subst (λ (ps : List NodeId). list_all (listed_by i.locks.lists.items t) ps ≡ true) (sym here)
+  listed_moved = none_unlisted i.locks.lists.items t (parents_of g' n)
+      (subst (λ (ps : List NodeId). list_all (listed_by i.locks.lists.items t) ps ≡ true) (sym here)
       (⊎_elim
-      (λ (a : HoldsNode s t n is.parents). all_listed l i.locks.lists.items t (agree_moved t) (λ k. is_at_least k IX) (λ k h. at_least-not_NL k IX h refl) is.parents a.new)
-      (λ (b : HoldsParents s t n is.parents). all_listed l i.locks.lists.items t (agree_moved t) (λ k. same_mode k X) (λ k h. at_least-not_NL k IX (x_is k h) refl) is.parents b.new)
+      (λ (a : HoldsNode s t n is.parents). all_listed l i.locks.lists.items t (agree_moved t) (λ k. is_at_least k IX) (λ k h. at_least-not_NL k IX h refl)
+      is.parents a.new)
+      (λ (b : HoldsParents s t n is.parents). all_listed l i.locks.lists.items t (agree_moved t) (λ k. same_mode k X)
+      (λ k h. at_least-not_NL k IX (x_is k h) refl) is.parents b.new)
       m.right))
 
   pub few_moved : (q : NodeId) → counted_by i.locks.lists.items t q + count_by (same_node q) (parents_of g' n) < 2 ^ 32
@@ -144,21 +119,28 @@ module _ (i : Inside) (sound : IsSound i) (t : ℕ) (n : NodeId) (was is : Node)
     holding u c = holds (members s c) u
 
     -- the mover's counts were changed, and nobody else holds the node
-    pub counts_moved : (old : List NodeId) → old ≡ parents_of s.graph n → ((u : ℕ) (q : NodeId) → counted_by locks.lists.items u q + (if (u == t) && holds (members l n) t then count_by (same_node q) old else 0)
-        ≡ counted_by i.locks.lists.items u q + (if (u == t) && holds (members l n) t then count_by (same_node q) (parents_of g' n) else 0)) → (u : ℕ) → CountsHeld (state_on g' locks) locks.lists.items u
+    pub counts_moved : (old : List NodeId) → old ≡ parents_of s.graph n
+        → ((u : ℕ) (q : NodeId) → counted_by locks.lists.items u q + (if (u == t) && holds (members l n) t then count_by (same_node q) old else 0)
+        ≡ counted_by i.locks.lists.items u q + (if (u == t) && holds (members l n) t then count_by (same_node q) (parents_of g' n) else 0)) → (u : ℕ)
+        → CountsHeld (state_on g' locks) locks.lists.items u
     counts_moved old before counts u p =
-        let moved = children_moved s.graph g' sound.lawful.graph m.lawful n (nodes_kept s t n was is g' m) (others_parents s t n was is g' m) (node_there s t n was is g' m) (live n ∙ node_there s t n was is g' m) (holding u) p in
+        let moved = children_moved s.graph g' sound.lawful.graph m.lawful n (nodes_kept s t n was is g' m) (others_parents s t n was is g' m)
+        (node_there s t n was is g' m) (live n ∙ node_there s t n was is g' m) (holding u) p in
         let same : ((u == t) && holds (members l n) t) ≡ holding u n = split (u == t)
         (λ e. ap (λ b. b && holds (members l n) t) e ∙ ap (λ x. holding x n) (sym (same_number u t e)))
-        (λ e. ap (λ b. b && holds (members l n) t) e ∙ sym (not_true _ (λ h. other_number u t e (only_mover s sound.lawful t n is.parents m.active m.right u h)))) in
+        (λ e. ap (λ b. b && holds (members l n) t) e ∙ sym
+        (not_true _ (λ h. other_number u t e (only_mover s sound.lawful t n is.parents m.active m.right u h)))) in
         let written = subst
-        (λ (b : Bool). counted_by locks.lists.items u p + (if b then count_by (same_node p) (parents_of s.graph n) else 0) ≡ counted_by i.locks.lists.items u p + (if b then count_by (same_node p) (parents_of g' n) else 0))
-        same (ap (λ ps. counted_by locks.lists.items u p + (if (u == t) && holds (members l n) t then count_by (same_node p) ps else 0)) (sym before) ∙ counts u p) in
+        (λ (b : Bool). counted_by locks.lists.items u p + (if b then count_by (same_node p) (parents_of s.graph n) else 0)
+        ≡ counted_by i.locks.lists.items u p + (if b then count_by (same_node p) (parents_of g' n) else 0))
+        same (ap (λ ps. counted_by locks.lists.items u p + (if (u == t) && holds (members l n) t then count_by (same_node p) ps else 0)) (sym before)
+        ∙ counts u p) in
         let count = sound.counts u p in
         let now : counted_by locks.lists.items u p ≡ children_that g' (holding u) p = omega arith in
         now ∙ ap (λ (x : State). held_children x u p) (sym state)
 
-    pub sound_moved : AreSound locks → ((u : ℕ) → Agrees (state_on g' locks) locks.lists.items u) → ((u : ℕ) → CountsHeld (state_on g' locks) locks.lists.items u) → IsSound after
+    pub sound_moved : AreSound locks → ((u : ℕ) → Agrees (state_on g' locks) locks.lists.items u)
+        → ((u : ℕ) → CountsHeld (state_on g' locks) locks.lists.items u) → IsSound after
     sound_moved are agrees counts = record {
       lawful = subst IsLawful (sym state_moved) (changed_keeps s t n was is g' m sound.lawful);
       sound = are;
@@ -167,11 +149,13 @@ module _ (i : Inside) (sound : IsSound i) (t : ℕ) (n : NodeId) (was is : Node)
       no_cycle = λ at. subst HasNoCycle (sym state_moved) (moved-no_cycle s sound.lawful n is.parents g' (sound.no_cycle at));
     }
 
-    pub told_moved : (list : Told) → IsBySlot list → ((u : ℕ) → notices_in list u ≡ (if is_lost l n (stays l (parents_of g' n)) u then moved_notice l u else None)) → list ≡ told s (state_of (view_of after))
+    pub told_moved : (list : Told) → IsBySlot list → ((u : ℕ)
+        → notices_in list u ≡ (if is_lost l n (stays l (parents_of g' n)) u then moved_notice l u else None)) → list ≡ told s (state_of (view_of after))
     told_moved list by_slot tells =
         told_is s (state_of (view_of after)) list sound.lawful sound.sound.few by_slot
         (λ u. tells u ∙ ap (λ ps. if is_lost s n (stays s ps) u then moved_notice s u else None) here
-        ∙ sym (moved_told s (lawful_orderly s sound.lawful) n is.parents g' bare_moved (λ x h. live n ∙ node_there s t n was is g' m) u) ∙ sym (ap (λ x. told_to s x u) state_moved))
+        ∙ sym (moved_told s (lawful_orderly s sound.lawful) n is.parents g' bare_moved (λ x h. live n ∙ node_there s t n was is g' m) u)
+        ∙ sym (ap (λ x. told_to s x u) state_moved))
 
 -- what a call may do by what it requires, once the graph's call is done
 module _ (i : Inside) (sound : IsSound i) (w : TableView) (view : view_of i ≡ w) (t : ℕ) (v : View) where
@@ -181,16 +165,21 @@ module _ (i : Inside) (sound : IsSound i) (w : TableView) (view : view_of i ≡ 
   lawful_seen : IsLawful x
   lawful_seen = subst (λ (y : TableView). IsLawful (state_of y)) view sound.lawful
 
-  pub rekey_call : (r index : NodeId) (key : ℕ) → status_of x t ≡ Some Active → is_record_shape (shape_of x.graph r) ≡ true → need_exclusive x t r true (rekeyed_parents x.graph r index key) ≡ None
+  pub rekey_call : (r index : NodeId) (key : ℕ) → status_of x t ≡ Some Active → is_record_shape (shape_of x.graph r) ≡ true
+      → need_exclusive x t r true (rekeyed_parents x.graph r index key) ≡ None
       → need_new_parents x t r (rekeyed_parents x.graph r index key) ≡ None → graph_of v ≡ rekeyed x.graph r index key
       → (was : Node) × Moves (state_of (view_of i)) t r was (rekeyed_to x.graph r index key was) (graph_of v)
   rekey_call r index key active rec exclusive parents made =
       let may = may_be_rekeyed x lawful_seen t r index key active rec exclusive parents in
-      (may.0, subst (λ (y : TableView). Moves (state_of y) t r may.0 (rekeyed_to x.graph r index key may.0) (graph_of v)) (sym view) (subst (λ g. Moves x t r may.0 (rekeyed_to x.graph r index key may.0) g) (sym made) may.1))
+      (may.0, subst (λ (y : TableView). Moves (state_of y) t r may.0 (rekeyed_to x.graph r index key may.0) (graph_of v)) (sym view)
+      (subst (λ g. Moves x t r may.0 (rekeyed_to x.graph r index key may.0) g) (sym made) may.1))
 
-  pub move_call : (n : NodeId) (ps : List NodeId) → status_of x t ≡ Some Active → is_movable_shape (shape_of x.graph n) ≡ true → AreInnerParents x.graph (least_parents (shape_of x.graph n)) ps
-      → need_exclusive x t n (some_given (parents_of x.graph n) && some_given ps) ps ≡ None → need_new_parents x t n ps ≡ None → first_cycle x.graph n ps ≡ None → graph_of v ≡ with_parents x.graph n ps
+  pub move_call : (n : NodeId) (ps : List NodeId) → status_of x t ≡ Some Active → is_movable_shape (shape_of x.graph n) ≡ true
+      → AreInnerParents x.graph (least_parents (shape_of x.graph n)) ps
+      → need_exclusive x t n (some_given (parents_of x.graph n) && some_given ps) ps ≡ None → need_new_parents x t n ps ≡ None → first_cycle x.graph n ps ≡ None
+      → graph_of v ≡ with_parents x.graph n ps
       → (was : Node) × Moves (state_of (view_of i)) t n was (moved_node ps was) (graph_of v)
   move_call n ps active movable inner exclusive rule clear made =
       let may = may_be_moved x lawful_seen t n ps active movable inner exclusive rule clear in
-      (may.0, subst (λ (y : TableView). Moves (state_of y) t n may.0 (moved_node ps may.0) (graph_of v)) (sym view) (subst (λ g. Moves x t n may.0 (moved_node ps may.0) g) (sym made) may.1))
+      (may.0, subst (λ (y : TableView). Moves (state_of y) t n may.0 (moved_node ps may.0) (graph_of v)) (sym view)
+      (subst (λ g. Moves x t n may.0 (moved_node ps may.0) g) (sym made) may.1))

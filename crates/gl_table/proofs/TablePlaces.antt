@@ -1,27 +1,10 @@
 -- A record is made in a table, and one transaction holds it in X: what holds of the fields still does.
-use Rattle.std.specs.Prelude.{◌≡◌, ℕ, ◌≤◌, true, [], List, length, IfOk, None, OnErr, Result, Some}
-use Rattle.std.proofs.Common.{sym, ap, ◌∙◌, subst}
-use Rattle.gl_modes.specs.declared.mode.Mode.TheVariants.{NL, X}
-use Rattle.gl_modes.specs.declared.node.NodeId.{NodeId}
-use Rattle.gl_modes.specs.declared.refusal.Refusal.{Refusal}
-use Rattle.gl_graph.specs.Changes.{IsBorn}
-use Rattle.gl_graph.specs.Graph.{Graph, is_live, record_parents}
-use Rattle.gl_graph.specs.Refusals.{Refuses, record_refusal}
-use Rattle.gl_graph.specs.Shapes.{Rec}
-use Rattle.gl_graph.specs.View.{View, graph_of}
-use Rattle.gl_graph.proofs.Unrefused.{IsRoomyRecord, record_unrefused}
+use Rattle.gl_table.proofs.Words.{[], ◌∙◌, ◌≡◌, ◌≤◌, Active, Agrees, ap, AreHeaders, AreSound, CountsHeld, first_not_ix, Graph, graph_of, HasNoCycle, IfOk}
+use Rattle.gl_table.proofs.Words.{is_live, IsBorn, IsLawful, IsRoomyRecord, IsSound, KeepsLists, length, List, NL, NodeId, None, OnErr, Rec, record_parents}
+use Rattle.gl_table.proofs.Words.{record_refusal, record_unrefused, Refusal, Refuses, Result, Some, State, state_of, state_on, status_of, subst, sym, true}
+use Rattle.gl_table.proofs.Words.{View, view_of, with_grant, with_graph, X, ℕ}
 use Rattle.gl_table.specs.declared.locks.Locks.{Locks}
 use Rattle.gl_table.specs.declared.table.Table.TheInside.{Inside}
-use Rattle.gl_table.specs.declared.txn.Status.TheVariants.{Active}
-use Rattle.gl_table.specs.Headers.{AreHeaders}
-use Rattle.gl_table.specs.Lawful.{IsLawful}
-use Rattle.gl_table.specs.Locks.{Agrees, AreSound, CountsHeld, state_on}
-use Rattle.gl_table.specs.Refusals.{first_not_ix}
-use Rattle.gl_table.specs.Slots.{KeepsLists}
-use Rattle.gl_table.specs.Sound.{IsSound, view_of}
-use Rattle.gl_table.specs.State.{State, status_of, with_grant, with_graph}
-use Rattle.gl_table.specs.Table.{state_of}
-use Rattle.gl_table.specs.Waiting.{HasNoCycle}
 use Rattle.gl_table.proofs.Asks.{state-same}
 use Rattle.gl_table.proofs.NoCycle.{granted-no_cycle}
 use Rattle.gl_table.proofs.Placed.{born-live, born-unawaited, born-unheld, placed-lawful, record-grows}
@@ -29,7 +12,8 @@ use Rattle.gl_table.proofs.Rooms.{keeps-agrees, keeps-counts}
 use Rattle.gl_table.proofs.TableBirths.{called-sound}
 
 -- room was made, and all says what it said
-module _ (i : Inside) (sound : IsSound i) (locks : Locks) (headers : locks.headers.entries ≡ i.locks.headers.entries) (seats : locks.seats ≡ i.locks.seats) (lists : KeepsLists i.locks.lists.items locks.lists.items) where
+module _ (i : Inside) (sound : IsSound i) (locks : Locks) (headers : locks.headers.entries ≡ i.locks.headers.entries) (seats : locks.seats ≡ i.locks.seats)
+    (lists : KeepsLists i.locks.lists.items locks.lists.items) where
   abbrev roomy : Inside
   roomy = record i { locks = locks }
 
@@ -48,8 +32,10 @@ module _ (i : Inside) (sound : IsSound i) (locks : Locks) (headers : locks.heade
       lists = lists.len ∙ sound.sound.lists ∙ sym many;
       apart = lists.apart sound.sound.apart;
     };
-    agrees = λ u. subst (λ x. Agrees x locks.lists.items u) (sym (same_on (graph_of i.graph))) (keeps-agrees (state_on (graph_of i.graph) i.locks) i.locks.lists.items locks.lists.items u lists (sound.agrees u));
-    counts = λ u. subst (λ x. CountsHeld x locks.lists.items u) (sym (same_on (graph_of i.graph))) (keeps-counts (state_on (graph_of i.graph) i.locks) i.locks.lists.items locks.lists.items u lists (sound.counts u));
+    agrees = λ u. subst (λ x. Agrees x locks.lists.items u) (sym (same_on (graph_of i.graph)))
+        (keeps-agrees (state_on (graph_of i.graph) i.locks) i.locks.lists.items locks.lists.items u lists (sound.agrees u));
+    counts = λ u. subst (λ x. CountsHeld x locks.lists.items u) (sym (same_on (graph_of i.graph)))
+        (keeps-counts (state_on (graph_of i.graph) i.locks) i.locks.lists.items locks.lists.items u lists (sound.counts u));
     no_cycle = λ at. subst HasNoCycle (sym same_state) (sound.no_cycle at);
   }
     where
@@ -70,7 +56,8 @@ module _ (i : Inside) (sound : IsSound i) (f : NodeId) (keys : List ℕ) (free :
   pub sound_grown : (r : Result NodeId Refusal) → Refuses (record_refusal (graph_of i.graph) f keys) r
       → IfOk r (λ n. IsBorn (graph_of i.graph) (graph_of v) n (Rec keys) (record_parents (graph_of i.graph) f keys)) → OnErr r (v ≡ i.graph) → IsSound grown
   sound_grown r refuses made same =
-      called-sound i sound v (record_refusal (graph_of i.graph) f keys) r (λ n. IsBorn (graph_of i.graph) (graph_of v) n (Rec keys) (record_parents (graph_of i.graph) f keys)) refuses made same
+      called-sound i sound v (record_refusal (graph_of i.graph) f keys) r
+      (λ n. IsBorn (graph_of i.graph) (graph_of v) n (Rec keys) (record_parents (graph_of i.graph) f keys)) refuses made same
       (λ n free' born. record-grows s sound.lawful f keys roomy_record.file roomy_record.each roomy_record.room (graph_of v) n born)
 
   module _ (n : NodeId) (born : IsBorn (graph_of i.graph) (graph_of v) n (Rec keys) (record_parents (graph_of i.graph) f keys)) where
@@ -92,9 +79,11 @@ module _ (i : Inside) (sound : IsSound i) (f : NodeId) (keys : List ℕ) (free :
       state_placed = ap {A = State} (λ x. record x { detect = i.detect; victims = i.victims; begins = i.begins }) is
 
       pub sound_placed : status_of s t ≡ Some Active → first_not_ix (s.held t) (record_parents (graph_of i.graph) f keys) ≡ None
-          → AreSound locks → ((u : ℕ) → Agrees (state_on (graph_of v) locks) locks.lists.items u) → ((u : ℕ) → CountsHeld (state_on (graph_of v) locks) locks.lists.items u) → IsSound after
+          → AreSound locks → ((u : ℕ) → Agrees (state_on (graph_of v) locks) locks.lists.items u)
+          → ((u : ℕ) → CountsHeld (state_on (graph_of v) locks) locks.lists.items u) → IsSound after
       sound_placed active rule are agrees counts = record {
-        lawful = subst IsLawful (sym state_placed) (placed-lawful s sound.lawful f keys roomy_record.file roomy_record.each roomy_record.room (graph_of v) n born t active rule);
+        lawful = subst IsLawful (sym state_placed) (placed-lawful s sound.lawful f keys roomy_record.file roomy_record.each roomy_record.room (graph_of v) n
+            born t active rule);
         sound = are;
         agrees = agrees;
         counts = counts;

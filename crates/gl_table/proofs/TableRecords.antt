@@ -1,35 +1,12 @@
 -- Records of a table come and go: what holds of the fields still does.
-use Rattle.std.specs.Prelude.{◌≡◌, ℕ, true, false, not, ◌==◌, [], Option, Some, None, is_some, if◌then◌else◌}
-use Rattle.std.proofs.Common.{refl, sym, ap, ◌∙◌, subst, rules}
-use Rattle.gl_modes.specs.declared.mode.Mode.{Mode}
-use Rattle.gl_modes.specs.declared.mode.Mode.TheVariants.{NL, X}
-use Rattle.gl_modes.specs.declared.node.NodeId.{NodeId}
-use Rattle.gl_modes.specs.Modes.{are_compatible, same_mode}
-use Rattle.gl_modes.proofs.ModeLemmas.{same_mode-equal}
-use Rattle.gl_modes.proofs.NodeLemmas.{same_node-refl}
-use Rattle.gl_graph.specs.Changes.{without_node}
-use Rattle.gl_graph.specs.Graph.{Graph, is_live, shape_of, with_key}
-use Rattle.gl_graph.specs.Shapes.{is_record_shape}
-use Rattle.gl_graph.specs.View.{View, graph_of}
-use Rattle.gl_graph.proofs.Look.{number_same, other_number, split}
-use Rattle.gl_header.specs.Header.{is_among_waiters}
-use Rattle.gl_header.proofs.Ranges.{not_true}
+use Rattle.gl_table.proofs.Words.{[], ◌==◌, ◌∙◌, ◌≡◌, Active, addressed, age_in, age_of, Agrees, ap, are_compatible, AreSound, CountsHeld, deleted, false}
+use Rattle.gl_table.proofs.Words.{freed, FreesTold, Graph, graph_of, HasNoCycle, if◌then◌else◌, is_among_waiters, is_live, is_record_shape, is_some}
+use Rattle.gl_table.proofs.Words.{is_waiting_at, IsLawful, IsOrderly, IsSound, Mode, NL, NodeId, None, none_but, not, not_true, notice_of, number_same, Option}
+use Rattle.gl_table.proofs.Words.{other_number, refl, rules, same_mode, same_mode-equal, same_node-refl, shape_of, Some, split, State, state_of, state_on}
+use Rattle.gl_table.proofs.Words.{status_in, subst, sym, Told, told, told_from, told_to, true, Txn, TxnId, View, view_of, Waiting, with_key, without_node, X, ℕ}
 use Rattle.gl_table.specs.declared.locks.Locks.{Locks}
-use Rattle.gl_table.specs.declared.notice.Notice.TheVariants as notice
 use Rattle.gl_table.specs.declared.table.Table.TheInside.{Inside}
-use Rattle.gl_table.specs.declared.txn.Status.TheVariants.{Active, Waiting}
-use Rattle.gl_table.specs.declared.txn.TxnId.{TxnId}
-use Rattle.gl_table.specs.Calls.{deleted, freed, none_but}
-use Rattle.gl_table.specs.Frees.{FreesTold}
-use Rattle.gl_table.specs.Lawful.{IsLawful}
-use Rattle.gl_table.specs.Locks.{Agrees, AreSound, CountsHeld, IsOrderly, state_on}
-use Rattle.gl_table.specs.Pumps.{is_waiting_at}
-use Rattle.gl_table.specs.Sound.{IsSound, view_of}
-use Rattle.gl_table.specs.State.{State, Txn, age_in, age_of, status_in}
-use Rattle.gl_table.specs.Table.{state_of}
-use Rattle.gl_table.specs.Tellings.{Told, addressed, notice_of, told, told_from}
-use Rattle.gl_table.specs.Tells.{told_to}
-use Rattle.gl_table.specs.Waiting.{HasNoCycle}
+use Rattle.gl_table.specs.declared.notice.Notice.TheVariants as notice
 use Rattle.gl_table.proofs.Deleted.{deleted-no_cycle, deleted_lawful}
 use Rattle.gl_table.proofs.OneWaits.{stands_there, waits_there}
 use Rattle.gl_table.proofs.Queues.{clash}
@@ -44,7 +21,8 @@ beside_x m h = search rules
 -- beside X nobody holds the node
 pub held_alone : (s : State) → IsLawful s → (t : ℕ) (n : NodeId) → same_mode (s.held t n) X ≡ true → (u : ℕ) → (u == t) ≡ false → s.held u n ≡ NL
 held_alone s law t n x u e =
-    beside_x (s.held u n) (ap (λ m. are_compatible m (s.held u n)) (sym (same_mode-equal (s.held t n) X x)) ∙ law.compatible t u n (λ is. other_number u t e (sym is)))
+    beside_x (s.held u n) (ap (λ m. are_compatible m (s.held u n)) (sym (same_mode-equal (s.held t n) X x))
+    ∙ law.compatible t u n (λ is. other_number u t e (sym is)))
 
 -- the node that was taken out names none
 out_of_graph : (g : Graph) (n : NodeId) → is_live (without_node g n) n ≡ false
@@ -53,7 +31,8 @@ out_of_graph g n = ap (λ b. is_some (with_key n.key (if b then None else g.at n
 -- who waited for it is active
 active_again : (n : NodeId) (m : Mode) (x : Option Txn) → status_in x ≡ Some (Waiting n m) → status_in (freed n x) ≡ Some Active
 active_again n m None h = absurd (cc)
-active_again n m (Some x) h = let is : x.status ≡ Waiting n m = cc in ap (λ st. Some (none_but st n)) is ∙ ap (λ b. Some (if b then Active else Waiting n m)) (same_node-refl n)
+active_again n m (Some x) h = let is : x.status ≡ Waiting n m = cc in ap (λ st. Some (none_but st n)) is
+    ∙ ap (λ b. Some (if b then Active else Waiting n m)) (same_node-refl n)
 
 -- and is told that it is gone; all others, who do what they did, are told nothing
 deleted_tells : (s : State) (o : IsOrderly s) (r : NodeId) (u : ℕ)
@@ -62,8 +41,10 @@ deleted_tells s o r u = split (is_among_waiters u (s.queue r))
     (λ e.
     let wait = waits_there s o u r e in
     ap (λ b. if b then Some (name, notice.Gone) else None) e
-    ∙ ap (λ b. addressed name (if not b then Some notice.Gone else (if same_mode (now.held u r) wait.0 then Some (notice.Granted r wait.0) else Some notice.Moved))) (sym (out_of_graph s.graph r))
-    ∙ sym (ap (λ x. addressed name (told_from now u x)) wait.1 ∙ ap (λ x. addressed name (notice_of now u r wait.0 x)) (active_again r wait.0 (s.txns u) wait.1)))
+    ∙ ap (λ b. addressed name (if not b then Some notice.Gone
+    else (if same_mode (now.held u r) wait.0 then Some (notice.Granted r wait.0) else Some notice.Moved))) (sym (out_of_graph s.graph r))
+    ∙ sym (ap (λ x. addressed name (told_from now u x)) wait.1
+    ∙ ap (λ x. addressed name (notice_of now u r wait.0 x)) (active_again r wait.0 (s.txns u) wait.1)))
     (λ e.
     let same = freed_other r (s.txns u) (not_true (is_waiting_at s u r) (λ w. clash (stands_there s o u r w) e)) in
     ap (λ b. if b then Some (name, notice.Gone) else None) e
@@ -76,7 +57,8 @@ deleted_tells s o r u = split (is_among_waiters u (s.queue r))
     now = deleted s r
 
 module _ (i : Inside) (sound : IsSound i) (r : NodeId) (rec : is_record_shape (shape_of (graph_of i.graph) r) ≡ true)
-    (locks : Locks) (v : View) (removed : graph_of v ≡ without_node (graph_of i.graph) r) (is : state_on (without_node (graph_of i.graph) r) locks ≡ deleted (state_on (graph_of i.graph) i.locks) r) where
+    (locks : Locks) (v : View) (removed : graph_of v ≡ without_node (graph_of i.graph) r)
+    (is : state_on (without_node (graph_of i.graph) r) locks ≡ deleted (state_on (graph_of i.graph) i.locks) r) where
   abbrev s : State
   s = state_of (view_of i)
 
@@ -92,7 +74,8 @@ module _ (i : Inside) (sound : IsSound i) (r : NodeId) (rec : is_record_shape (s
   pub state_deleted : state_of (view_of after) ≡ deleted s r
   state_deleted = ap {A = State} (λ x. record x { detect = i.detect; victims = i.victims; begins = i.begins }) on_locks
 
-  pub sound_deleted : AreSound locks → ((u : ℕ) → Agrees (deleted l r) locks.lists.items u) → ((u : ℕ) → CountsHeld (deleted l r) locks.lists.items u) → IsSound after
+  pub sound_deleted : AreSound locks → ((u : ℕ) → Agrees (deleted l r) locks.lists.items u) → ((u : ℕ) → CountsHeld (deleted l r) locks.lists.items u)
+      → IsSound after
   sound_deleted are agrees counts = record {
     lawful = subst IsLawful (sym state_deleted) (deleted_lawful s sound.lawful r rec);
     sound = are;

@@ -1,34 +1,12 @@
 -- A table that sheds covered children.
-use Rattle.std.specs.Prelude.{◌≡◌, ℕ, ◌+◌, ◌-◌, ◌≤◌, Bool, true, false, cond, not, ◌&&◌, ◌||◌, ◌==◌, List, [], ◌∷◌, Option, Some, None, if◌then◌else◌, unwrap_or}
-use Rattle.std.specs.List.{count_by, list_all}
-use Rattle.std.proofs.Common.{refl, sym, ap, ◌∙◌, subst, arith, rules}
-use Rattle.gl_modes.specs.declared.mode.Mode.{Mode}
-use Rattle.gl_modes.specs.declared.mode.Mode.TheVariants.{NL, S, X}
-use Rattle.gl_modes.specs.declared.node.NodeId.{NodeId}
-use Rattle.gl_modes.specs.Modes.{is_at_least, same_mode}
-use Rattle.gl_graph.specs.Graph.{is_child, nodes, parents_of}
-use Rattle.gl_graph.specs.View.{graph_of}
-use Rattle.gl_graph.proofs.Counts.{count_cons}
-use Rattle.gl_graph.proofs.Look.{and_both, number_same, same_number, split}
-use Rattle.gl_graph.proofs.RouteLengths.{listed}
-use Rattle.gl_header.specs.Header.{holds}
-use Rattle.gl_header.proofs.Ranges.{not_true}
+use Rattle.gl_table.proofs.Words.{[], ◌&&◌, ◌+◌, ◌-◌, ◌==◌, ◌||◌, ◌∙◌, ◌∷◌, ◌≡◌, ◌≤◌, Active, Agrees, and_both, ap, AreSound, arith, Bool, cond, count_by}
+use Rattle.gl_table.proofs.Words.{count_cons, counted_by, CountsHeld, covered_children, false, granted_at, graph_of, HasNoCycle, held_by, held_children, holds}
+use Rattle.gl_table.proofs.Words.{holds_child, if◌then◌else◌, is_at_least, is_child, is_covered, is_wait, IsBySlot, IsLawful, IsOnWay, IsSound, List, list_all}
+use Rattle.gl_table.proofs.Words.{listed, members, Mode, NL, NodeId, nodes, None, not, not_true, notices_in, number_same, Option, parents_of, refl, rules, S}
+use Rattle.gl_table.proofs.Words.{same_mode, same_number, shed, Some, split, State, state_of, state_on, status_of, subst, sym, Told, told, told_to, true}
+use Rattle.gl_table.proofs.Words.{unwrap_or, view_of, X, ℕ}
 use Rattle.gl_table.specs.declared.locks.Locks.{Locks}
 use Rattle.gl_table.specs.declared.table.Table.TheInside.{Inside}
-use Rattle.gl_table.specs.declared.txn.Status.TheVariants.{Active}
-use Rattle.gl_table.specs.Calls.{shed}
-use Rattle.gl_table.specs.Covered.{covered_children, held_children, holds_child, is_covered}
-use Rattle.gl_table.specs.Lawful.{IsLawful}
-use Rattle.gl_table.specs.Locks.{Agrees, AreSound, CountsHeld, state_on}
-use Rattle.gl_table.specs.Pumps.{granted_at}
-use Rattle.gl_table.specs.Slots.{counted_by, held_by}
-use Rattle.gl_table.specs.Sound.{IsSound, view_of}
-use Rattle.gl_table.specs.State.{State, members, status_of}
-use Rattle.gl_table.specs.Table.{state_of}
-use Rattle.gl_table.specs.Telling.{IsBySlot, notices_in}
-use Rattle.gl_table.specs.Tellings.{Told, told}
-use Rattle.gl_table.specs.Tells.{IsOnWay, told_to}
-use Rattle.gl_table.specs.Waiting.{HasNoCycle, is_wait}
 use Rattle.gl_table.proofs.Bare.{granted_waits}
 use Rattle.gl_table.proofs.Escalates.{shed-lawful}
 use Rattle.gl_table.proofs.NoCycle.{shed-no_cycle}
@@ -40,7 +18,8 @@ use Rattle.gl_table.proofs.TestsPass.{one_found}
 use Rattle.gl_table.proofs.ToldLists.{told_is}
 
 -- of what passes one test, those that pass another and those that do not
-count_parts : (f g h : NodeId → Bool) (xs : List NodeId) → ((x : NodeId) → cond (f x) 1 0 ≡ cond (g x) 1 0 + cond (h x) 1 0) → count_by f xs ≡ count_by g xs + count_by h xs
+count_parts : (f g h : NodeId → Bool) (xs : List NodeId) → ((x : NodeId) → cond (f x) 1 0 ≡ cond (g x) 1 0 + cond (h x) 1 0)
+    → count_by f xs ≡ count_by g xs + count_by h xs
 count_parts f g h [] parts = refl
 count_parts f g h (x ∷ xs) parts =
     let rest = count_parts f g h xs parts in
@@ -53,9 +32,11 @@ reads_held m h = search rules
 
 -- of a node that is held, how many children are held is what is said
 children_said : (i : Inside) → IsSound i → (t : ℕ) (n : NodeId) → holds (members (state_of (view_of i)) n) t ≡ true → (o : Option ℕ)
-    → o ≡ (if holds (λ u. held_by i.locks.lists.items u n) t then Some (counted_by i.locks.lists.items t n) else None) → (k : ℕ) → k ≡ unwrap_or o 0 → k ≡ held_children (state_of (view_of i)) t n
+    → o ≡ (if holds (λ u. held_by i.locks.lists.items u n) t then Some (counted_by i.locks.lists.items t n) else None) → (k : ℕ) → k ≡ unwrap_or o 0
+    → k ≡ held_children (state_of (view_of i)) t n
 children_said i sound t n h o said k is =
-    is ∙ ap (λ x. unwrap_or x 0) (said ∙ ap (λ b. if b then Some (counted_by i.locks.lists.items t n) else None) (ap (λ m. not (same_mode m NL)) ((sound.agrees t).modes n) ∙ h))
+    is ∙ ap (λ x. unwrap_or x 0) (said ∙ ap (λ b. if b then Some (counted_by i.locks.lists.items t n) else None)
+    (ap (λ m. not (same_mode m NL)) ((sound.agrees t).modes n) ∙ h))
     ∙ sound.counts t n
 
 -- what an active slot holds of a node that covers some of its children
@@ -70,12 +51,14 @@ module _ (i : Inside) (sound : IsSound i) (t : ℕ) (n : NodeId) where
 
     shed_own : (q : NodeId) → (shed s t n).held t q ≡ (if is_covered s t n q then NL else s.held t q)
     shed_own q =
-        grants_other (granted_at less (is_covered s t n) q) (members less q) t (granted_waits less t (is_covered s t n) q (in_no_queue s (lawful_orderly s sound.lawful) t (ap is_wait active) q))
+        grants_other (granted_at less (is_covered s t n) q) (members less q) t
+        (granted_waits less t (is_covered s t n) q (in_no_queue s (lawful_orderly s sound.lawful) t (ap is_wait active) q))
         ∙ ap (λ k. if k && is_covered s t n q then NL else s.held t q) (number_same t t refl)
 
     -- each held child is kept or covered
     pub shed_counts : held_children s t n ≡ held_children (shed s t n) t n + covered_children s t n
-    shed_counts = count_parts (λ c. is_child s.graph n c && holds (members s c) t) (λ c. is_child s.graph n c && holds (members (shed s t n) c) t) (is_covered s t n) (nodes s.graph)
+    shed_counts = count_parts (λ c. is_child s.graph n c && holds (members s c) t) (λ c. is_child s.graph n c && holds (members (shed s t n) c) t)
+        (is_covered s t n) (nodes s.graph)
         (λ c. part (is_child s.graph n c) (s.held t c) (is_covered s t n c) _ (shed_own c) (λ h. covered_child c h))
       where
         part : (a : Bool) (m : Mode) (k : Bool) (m' : Mode) → m' ≡ (if k then NL else m) → (k ≡ true → (a && not (same_mode m NL)) ≡ true)
@@ -104,7 +87,8 @@ module _ (i : Inside) (sound : IsSound i) (t : ℕ) (n : NodeId) where
       pub state_shed : state_of (view_of ended) ≡ shed s t n
       state_shed = ap {A = State} (λ x. record x { detect = i.detect; victims = i.victims; begins = i.begins }) is
 
-      pub sound_shed : AreSound locks → ((u : ℕ) → Agrees (state_on (graph_of i.graph) locks) locks.lists.items u) → ((u : ℕ) → CountsHeld (state_on (graph_of i.graph) locks) locks.lists.items u) → IsSound ended
+      pub sound_shed : AreSound locks → ((u : ℕ) → Agrees (state_on (graph_of i.graph) locks) locks.lists.items u)
+          → ((u : ℕ) → CountsHeld (state_on (graph_of i.graph) locks) locks.lists.items u) → IsSound ended
       sound_shed are agrees counts = record {
         lawful = subst IsLawful (sym state_shed) (shed-lawful s sound.lawful t n active);
         sound = are;
@@ -114,23 +98,31 @@ module _ (i : Inside) (sound : IsSound i) (t : ℕ) (n : NodeId) where
       }
 
       pub told_shed : (first list : Told) → first ≡ [] → IsBySlot list
-          → ((from : State) → IsOnWay from (state_on (graph_of i.graph) i.locks) → ((u : ℕ) → (u == t) ≡ false → notices_in first u ≡ told_to from (state_on (graph_of i.graph) i.locks) u) → (u : ℕ) → (u == t) ≡ false → notices_in list u ≡ told_to from (state_on (graph_of i.graph) locks) u)
+          → ((from : State) → IsOnWay from (state_on (graph_of i.graph) i.locks)
+          → ((u : ℕ) → (u == t) ≡ false → notices_in first u ≡ told_to from (state_on (graph_of i.graph) i.locks) u) → (u : ℕ) → (u == t) ≡ false
+          → notices_in list u ≡ told_to from (state_on (graph_of i.graph) locks) u)
           → notices_in list t ≡ notices_in first t → list ≡ told s (state_of (view_of ended))
       told_shed first list none by_slot tells own =
           told_is s (state_of (view_of ended)) list sound.lawful sound.sound.few by_slot
           (λ u. split (u == t)
-          (λ e. let is = same_number u t e in ap (notices_in list) is ∙ own ∙ ap (λ xs. notices_in xs t) none ∙ sym (active_untold s (state_of (view_of ended)) u (ap (status_of s) is ∙ active)))
+          (λ e. let is = same_number u t e in ap (notices_in list) is ∙ own ∙ ap (λ xs. notices_in xs t) none
+          ∙ sym (active_untold s (state_of (view_of ended)) u (ap (status_of s) is ∙ active)))
           (λ e. tells s (table_way i sound) (λ v k. ap (λ xs. notices_in xs v) none ∙ sym (nobody_told s v)) u e))
 
-      module _ (are : AreSound locks) (agrees : (u : ℕ) → Agrees (state_on (graph_of i.graph) locks) locks.lists.items u) (counts : (u : ℕ) → CountsHeld (state_on (graph_of i.graph) locks) locks.lists.items u)
-          (reads : is_at_least (s.held t n) S ≡ true) (o o' : Option ℕ) (said : o ≡ (if holds (λ u. held_by i.locks.lists.items u n) t then Some (counted_by i.locks.lists.items t n) else None))
-          (said' : o' ≡ (if holds (λ u. held_by locks.lists.items u n) t then Some (counted_by locks.lists.items t n) else None)) (k k' : ℕ) (held : k ≡ unwrap_or o 0) (kept : k' ≡ unwrap_or o' 0) where
+      module _ (are : AreSound locks) (agrees : (u : ℕ) → Agrees (state_on (graph_of i.graph) locks) locks.lists.items u) (counts : (u : ℕ)
+          → CountsHeld (state_on (graph_of i.graph) locks) locks.lists.items u)
+          (reads : is_at_least (s.held t n) S ≡ true) (o o' : Option ℕ)
+          (said : o ≡ (if holds (λ u. held_by i.locks.lists.items u n) t then Some (counted_by i.locks.lists.items t n) else None))
+          (said' : o' ≡ (if holds (λ u. held_by locks.lists.items u n) t then Some (counted_by locks.lists.items t n) else None)) (k k' : ℕ)
+          (held : k ≡ unwrap_or o 0) (kept : k' ≡ unwrap_or o' 0) where
         -- the node is no child of its own, and stays
         uncovered : is_covered s t n n ≡ false
         uncovered = not_true _ (λ e.
-            let a = and_both (is_child s.graph n n && holds (members s n) t && not (holds_child s t n)) (not (same_mode (s.held t n) X) || list_all (λ p. same_mode (s.held t p) X) (parents_of s.graph n)) e in
+            let a = and_both (is_child s.graph n n && holds (members s n) t && not (holds_child s t n))
+            (not (same_mode (s.held t n) X) || list_all (λ p. same_mode (s.held t p) X) (parents_of s.graph n)) e in
             let b = and_both (is_child s.graph n n && holds (members s n) t) (not (holds_child s t n)) a.0 in
-            clash b.1 (ap not (one_found (λ x. is_child s.graph n x && holds (members s x) t) n (nodes s.graph) b.0 (listed s.graph sound.lawful.graph n (sound.lawful.grants_live t n (reads_held (s.held t n) reads)).1))))
+            clash b.1 (ap not (one_found (λ x. is_child s.graph n x && holds (members s x) t) n (nodes s.graph) b.0
+            (listed s.graph sound.lawful.graph n (sound.lawful.grants_live t n (reads_held (s.held t n) reads)).1))))
 
         before : k ≡ held_children s t n
         before = children_said i sound t n (reads_held (s.held t n) reads) o said k held
@@ -138,7 +130,8 @@ module _ (i : Inside) (sound : IsSound i) (t : ℕ) (n : NodeId) where
         after : k' ≡ held_children (shed s t n) t n
         after =
             children_said ended (sound_shed are agrees counts) t n
-            (ap (λ (x : State). holds (members x n) t) state_shed ∙ ap (λ m. not (same_mode m NL)) (shed_own n ∙ ap (λ b. if b then NL else s.held t n) uncovered) ∙ reads_held (s.held t n) reads)
+            (ap (λ (x : State). holds (members x n) t) state_shed
+            ∙ ap (λ m. not (same_mode m NL)) (shed_own n ∙ ap (λ b. if b then NL else s.held t n) uncovered) ∙ reads_held (s.held t n) reads)
             o' said' k' kept
             ∙ ap (λ (x : State). held_children x t n) state_shed
 

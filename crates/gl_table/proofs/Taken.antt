@@ -1,28 +1,14 @@
 -- What is taken away: some grants of an active transaction, a wait, a whole transaction.
-use Rattle.gl_waits.specs.declared.victims.Victims.{Victims}
-use Rattle.std.specs.Prelude.{◌≡◌, ◌≢◌, ◌⊎◌, ℕ, zero, suc, Bool, true, false, not, ◌&&◌, ◌||◌, ◌==◌, Option, Some, None, is_some, if◌then◌else◌}
-use Rattle.std.proofs.Common.{refl, sym, ap, ap₂, ◌∙◌, arith, subst, ⊎_elim, inl, inr}
-use Rattle.std.proofs.lemmas.Bool.Decides.{nat_tests}
-use Rattle.gl_modes.specs.declared.mode.Mode.{Mode}
-use Rattle.gl_modes.specs.declared.mode.Mode.TheVariants.{NL}
-use Rattle.gl_modes.specs.declared.node.NodeId.{NodeId}
-use Rattle.gl_table.specs.declared.txn.Status.{Status}
-use Rattle.gl_table.specs.declared.txn.Status.TheVariants.{Active, Waiting, Condemned}
-use Rattle.gl_graph.specs.Graph.{is_child, is_live}
-use Rattle.gl_header.specs.Header.{holds, is_among_waiters, without_waiter}
-use Rattle.gl_modes.specs.Modes.{same_mode}
-use Rattle.gl_table.specs.State.{State, Txn, members, status_in, status_of, age_in, age_of, restatus}
-use Rattle.gl_table.specs.Pumps.{is_waiting_at, without_wait, pumped, condemned}
-use Rattle.gl_table.specs.Waiting.{SettledWithin, Settled}
-use Rattle.gl_table.specs.Lawful.{IsLawful}
-use Rattle.gl_table.specs.Calls.{released}
+use Rattle.gl_table.proofs.Words.{◌&&◌, ◌==◌, ◌||◌, ◌∙◌, ◌≡◌, ◌≢◌, ◌⊎◌, Active, age_in, age_of, and_both, ap, ap₂, arith, Bool, Condemned, condemned, false}
+use Rattle.gl_table.proofs.Words.{holds, if◌then◌else◌, inl, inr, is_among_waiters, is_child, is_live, is_some, is_waiting_at, IsLawful, members, Mode}
+use Rattle.gl_table.proofs.Words.{nat_tests, NL, NodeId, None, not, number_other, Option, or_no, other_number, pumped, refl, released, restatus, same_mode}
+use Rattle.gl_table.proofs.Words.{same_number, Settled, SettledWithin, Some, split, State, Status, status_in, status_of, subst, suc, sym, true, Txn, Victims}
+use Rattle.gl_table.proofs.Words.{Waiting, without_wait, without_waiter, zero, ℕ, ⊎_elim}
 use Rattle.gl_table.proofs.GrantKeeps.{apart, nl_is}
 use Rattle.gl_table.proofs.Queues.{ahead_is, clash}
 use Rattle.gl_table.proofs.QueueEdits.{out_of_without, without_filter, without_ahead, without_none}
 use Rattle.gl_table.proofs.Less.{IsLess, less-lawful, nl_holds}
 use Rattle.gl_table.proofs.Pumped.{pumped-lawful}
-use Rattle.gl_graph.proofs.Look.{split, and_both, same_number, number_other, other_number}
-use Rattle.gl_graph.proofs.Unrefused.{or_no}
 
 -- grants of one active transaction
 module _ (s : State) (law : IsLawful s) (t : ℕ) (gone chosen : NodeId → Bool) (active : status_of s t ≡ Some Active)
@@ -34,7 +20,8 @@ module _ (s : State) (law : IsLawful s) (t : ℕ) (gone chosen : NodeId → Bool
 
   held_case : {C : Type 0} (u : ℕ) (q : NodeId) → (u ≡ t → gone q ≡ true → held_but u q ≡ NL → C) → (held_but u q ≡ s.held u q → C) → C
   held_case u q here there =
-      split ((u == t) && gone q) (λ e. let both = and_both _ _ e in here (same_number u t both.0) both.1 (ap (λ b. if b then NL else s.held u q) e)) (λ e. there (ap (λ b. if b then NL else s.held u q) e))
+      split ((u == t) && gone q) (λ e. let both = and_both _ _ e in here (same_number u t both.0) both.1 (ap (λ b. if b then NL else s.held u q) e))
+      (λ e. there (ap (λ b. if b then NL else s.held u q) e))
 
   held_other : (u : ℕ) (q : NodeId) → u ≢ t → held_but u q ≡ s.held u q
   held_other u q ne = held_case u q (λ e _ _. absurd (ne e)) (λ e. e)
@@ -74,7 +61,8 @@ module _ (s : State) (law : IsLawful s) (t : ℕ) (held : ℕ → NodeId → Mod
   txns_but u = if u == t then x else s.txns u
 
   txn_case : {C : Type 0} (u : ℕ) → (u ≡ t → txns_but u ≡ x → C) → (u ≢ t → txns_but u ≡ s.txns u → C) → C
-  txn_case u here there = split (u == t) (λ e. here (same_number u t e) (ap (λ b. if b then x else s.txns u) e)) (λ e. there (other_number u t e) (ap (λ b. if b then x else s.txns u) e))
+  txn_case u here there = split (u == t) (λ e. here (same_number u t e) (ap (λ b. if b then x else s.txns u) e))
+      (λ e. there (other_number u t e) (ap (λ b. if b then x else s.txns u) e))
 
   at_own : (u : ℕ) (q : NodeId) → u ≡ t → held t q ≡ s.held t q → held u q ≡ s.held u q
   at_own u q is e = ap (λ v. held v q) is ∙ e ∙ sym (ap (λ v. s.held v q) is)
@@ -89,7 +77,8 @@ module _ (s : State) (law : IsLawful s) (t : ℕ) (held : ℕ → NodeId → Mod
     above = λ u q p h live child. txn_case u
         (λ is e. ⊎_elim (λ f. clash h (nl_holds _ (ap (λ v. held v q) is ∙ f q))) (λ f. at_own u p is (f.0 p)) own)
         (λ ne e. others u p ne);
-    waits_same = λ u n m st. txn_case u (λ is e. absurd (quiet n m (ap status_in (sym e) ∙ st))) (λ ne e. (ap status_in (sym e) ∙ st, λ p. others u p ne, without_filter t u (s.queue n) ne));
+    waits_same = λ u n m st. txn_case u (λ is e. absurd (quiet n m (ap status_in (sym e) ∙ st)))
+        (λ ne e. (ap status_in (sym e) ∙ st, λ p. others u p ne, without_filter t u (s.queue n) ne));
     waiters_same = λ u n h. let was = out_of_without t u (s.queue n) h in (was.0, txn_case u (λ is e. absurd (was.1 is)) (λ ne e. ap status_in e));
     order = λ n a b h. ahead_is (s.queue n) a b ∙ without_ahead t a b (s.queue n) (sym (ahead_is (without_waiter t (s.queue n)) a b) ∙ h);
     txns_same = λ u h. txn_case u
@@ -133,7 +122,8 @@ without_wait-less s law t st quiet =
 pub without_wait-lawful : (s : State) → IsLawful s → (t : ℕ) (st : Status) → IsQuiet st → IsLawful (pumped (without_wait s t st) (is_waiting_at s t))
 without_wait-lawful s law t st quiet =
     pumped-lawful (without_wait s t st) (is_waiting_at s t)
-    (less-lawful s law s.held (λ n. without_waiter t (s.queue n)) (λ u. if u == t then restatus st (s.txns t) else s.txns u) (is_waiting_at s t) (without_wait-less s law t st quiet))
+    (less-lawful s law s.held (λ n. without_waiter t (s.queue n)) (λ u. if u == t then restatus st (s.txns t) else s.txns u) (is_waiting_at s t)
+    (without_wait-less s law t st quiet))
 
 -- a wait taken out and its node pumped
 pub condemned-lawful : (s : State) → IsLawful s → (t : ℕ) → IsLawful (condemned s t)
@@ -152,7 +142,8 @@ abbrev pub at_all : State → ℕ → NodeId → Bool
 at_all s t n = holds (members s n) t || is_waiting_at s t n
 
 -- all of t is gone
-pub released-less : (s : State) → IsLawful s → (t : ℕ) → IsLess s (λ u n. if u == t then NL else s.held u n) (λ n. without_waiter t (s.queue n)) (λ u. if u == t then None else s.txns u) (at_all s t)
+pub released-less : (s : State) → IsLawful s → (t : ℕ)
+    → IsLess s (λ u n. if u == t then NL else s.held u n) (λ n. without_waiter t (s.queue n)) (λ u. if u == t then None else s.txns u) (at_all s t)
 released-less s law t =
     out-less s law t (λ u n. if u == t then NL else s.held u n) None (at_all s t)
     (λ u q ne. ap (λ b. if b then NL else s.held u q) (number_other u t ne)) (inl own) (λ q m h. cc) (λ h. clash h refl)
@@ -167,5 +158,7 @@ released-less s law t =
 -- a transaction that leaves
 pub released-lawful : (s : State) → IsLawful s → (t : ℕ) → IsLawful (released s t)
 released-lawful s law t =
-    pumped-lawful (record s { held = λ u n. if u == t then NL else s.held u n; queue = λ n. without_waiter t (s.queue n); txns = λ u. if u == t then None else s.txns u }) (at_all s t)
-    (less-lawful s law (λ u n. if u == t then NL else s.held u n) (λ n. without_waiter t (s.queue n)) (λ u. if u == t then None else s.txns u) (at_all s t) (released-less s law t))
+    pumped-lawful (record s { held = λ u n. if u == t then NL else s.held u n; queue = λ n. without_waiter t (s.queue n);
+    txns = λ u. if u == t then None else s.txns u }) (at_all s t)
+    (less-lawful s law (λ u n. if u == t then NL else s.held u n) (λ n. without_waiter t (s.queue n)) (λ u. if u == t then None else s.txns u) (at_all s t)
+    (released-less s law t))

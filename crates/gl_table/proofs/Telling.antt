@@ -1,18 +1,8 @@
 -- A notice put in its place among notices by rising slot.
-use Rattle.std.specs.Prelude.{◌≡◌, ℕ, zero, suc, ◌+◌, ◌<◌, ◌≤◌, Bool, true, false, cond, ◌&&◌, ◌==◌, nat_lt, nat_le, [], ◌∷◌, length, Some, None, if◌then◌else◌}
-use Rattle.std.specs.List.{insert, list_all, prefix_len}
-use Rattle.std.specs.List.Sorted.{IsNonDecreasingBy, IsPartitionPoint, IsPartitionedBy}
-use Rattle.std.proofs.Common.{refl, sym, ap, ap₂, ◌∙◌, arith, get_or}
-use Rattle.std.proofs.lemmas.Bool.Decides.{nat_tests}
-use Rattle.std.proofs.lemmas.List.Folds.{list_all_at}
-use Rattle.std.proofs.lemmas.List.Sorted.{IsPartitionedBy-ltb}
-use Rattle.std.proofs.lemmas.List.Sums.{prefix_len_is}
-use Rattle.gl_table.specs.declared.txn.TxnId.{TxnId}
-use Rattle.gl_table.specs.declared.notice.Notice.{Notice}
-use Rattle.gl_table.specs.declared.notice.Notice.TheVariants.{Victim}
-use Rattle.gl_table.specs.Tellings.{Told}
-use Rattle.gl_table.specs.Telling.{IsBySlot, is_rising, notices_in}
-use Rattle.gl_graph.proofs.Look.{split, and_both}
+use Rattle.gl_table.proofs.Words.{[], ◌&&◌, ◌+◌, ◌<◌, ◌==◌, ◌∙◌, ◌∷◌, ◌≡◌, ◌≤◌, and_both, ap, ap₂, arith, Bool, cond, false, get_or, if◌then◌else◌, insert}
+use Rattle.gl_table.proofs.Words.{is_rising, IsBySlot, IsNonDecreasingBy, IsPartitionedBy, IsPartitionedBy-ltb, IsPartitionPoint, length, list_all, list_all_at}
+use Rattle.gl_table.proofs.Words.{nat_le, nat_lt, nat_tests, None, Notice, notices_in, prefix_len, prefix_len_is, refl, Some, split, suc, sym, Told, true}
+use Rattle.gl_table.proofs.Words.{TxnId, Victim, zero, ℕ}
 use Rattle.gl_table.proofs.Queues.{clash}
 
 abbrev Named : Type 0
@@ -59,7 +49,8 @@ rising_order (x ∷ xs) h (suc i) (suc j) d le lt = rising_order xs (and_both _ 
 pub place_parts : (xs : Told) (s : ℕ) → is_rising xs ≡ true → IsPartitionedBy (λ (x : Named). nat_lt x.0.slot s) xs
 place_parts xs s h = IsPartitionedBy-ltb (λ (x : Named). x.0.slot) xs s (rising_order xs h)
 
-pub place_found : (xs : Told) (s i : ℕ) → i ≤ length xs → IsPartitionPoint (λ (x : Named). nat_lt x.0.slot s ≡ true) (λ (x : Named). nat_lt x.0.slot s ≡ false) xs i → i ≡ place xs s
+pub place_found : (xs : Told) (s i : ℕ) → i ≤ length xs
+    → IsPartitionPoint (λ (x : Named). nat_lt x.0.slot s ≡ true) (λ (x : Named). nat_lt x.0.slot s ≡ false) xs i → i ≡ place xs s
 place_found xs s i within parts =
     let d : Named = (record { slot = 0; age = 0 }, Victim) in
     sym (prefix_len_is (λ (x : Named). nat_lt x.0.slot s) xs i d within (λ k h. parts.0 k d (omega arith) h) (λ h. parts.1 i d (omega arith) h))
@@ -76,7 +67,8 @@ module _ (x : Named) where
   absent_cons : (y : Named) (ys : Told) → notices_in (y ∷ ys) x.0.slot ≡ None → ((y.0.slot == x.0.slot) ≡ false) × (notices_in ys x.0.slot ≡ None)
   absent_cons y ys h = by (y.0.slot == x.0.slot) refl h
     where
-      by : (b : Bool) → (y.0.slot == x.0.slot) ≡ b → cond b (Some y) (notices_in ys x.0.slot) ≡ None → ((y.0.slot == x.0.slot) ≡ false) × (notices_in ys x.0.slot ≡ None)
+      by : (b : Bool) → (y.0.slot == x.0.slot) ≡ b → cond b (Some y) (notices_in ys x.0.slot) ≡ None → ((y.0.slot == x.0.slot) ≡ false)
+          × (notices_in ys x.0.slot ≡ None)
       by true e k = cc
       by false e k = (e, k)
 
@@ -86,9 +78,11 @@ module _ (x : Named) where
       let out = absent_cons y ys absent in let both = and_both _ _ h in
       split (nat_lt y.0.slot x.0.slot)
       (λ e. ap is_rising (inserted_cons y ys true e)
-      ∙ ap₂ (λ a b. a && b) (all_inserted (λ z. nat_lt y.0.slot z.0.slot) ys (place ys x.0.slot) x (place_within ys x.0.slot) e both.0) (rising_inserted ys both.1 out.1))
+      ∙ ap₂ (λ a b. a && b) (all_inserted (λ z. nat_lt y.0.slot z.0.slot) ys (place ys x.0.slot) x (place_within ys x.0.slot) e both.0)
+      (rising_inserted ys both.1 out.1))
       (λ e. let lower : nat_lt x.0.slot y.0.slot ≡ true = grind (arith, nat_tests) in let low : x.0.slot < y.0.slot = grind (arith, nat_tests) in
-      ap is_rising (inserted_cons y ys false e) ∙ ap₂ (λ a b. (a && b) && (list_all (λ z. nat_lt y.0.slot z.0.slot) ys && is_rising ys)) lower (all_above x.0.slot y.0.slot ys low both.0) ∙ h)
+      ap is_rising (inserted_cons y ys false e) ∙ ap₂ (λ a b. (a && b) && (list_all (λ z. nat_lt y.0.slot z.0.slot) ys && is_rising ys)) lower
+      (all_above x.0.slot y.0.slot ys low both.0) ∙ h)
 
   pub by_slot_inserted : (xs : Told) → IsBySlot xs → notices_in xs x.0.slot ≡ None → x.0.slot < 128 → IsBySlot (inserted xs)
   by_slot_inserted xs is absent low = record {
@@ -96,7 +90,8 @@ module _ (x : Named) where
     below = all_inserted (λ z. nat_lt z.0.slot 128) xs (place xs x.0.slot) x (place_within xs x.0.slot) (grind (arith, nat_tests)) is.below;
   }
 
-  pub notices_inserted : (xs : Told) → notices_in xs x.0.slot ≡ None → (u : ℕ) → notices_in (inserted xs) u ≡ (if u == x.0.slot then Some x else notices_in xs u)
+  pub notices_inserted : (xs : Told) → notices_in xs x.0.slot ≡ None → (u : ℕ)
+      → notices_in (inserted xs) u ≡ (if u == x.0.slot then Some x else notices_in xs u)
   notices_inserted [] absent u = turned (x.0.slot == u) (u == x.0.slot) (grind (arith, nat_tests))
     where
       turned : (a b : Bool) → a ≡ b → cond a (Some x) None ≡ (if b then Some x else None)
@@ -107,13 +102,15 @@ module _ (x : Named) where
   notices_inserted (y ∷ ys) absent u =
       let out = absent_cons y ys absent in
       split (nat_lt y.0.slot x.0.slot)
-      (λ e. ap (λ zs. notices_in zs u) (inserted_cons y ys true e) ∙ ap (cond (y.0.slot == u) (Some y)) (notices_inserted ys out.1 u) ∙ swap (y.0.slot == u) (u == x.0.slot) (apart u out.0))
+      (λ e. ap (λ zs. notices_in zs u) (inserted_cons y ys true e) ∙ ap (cond (y.0.slot == u) (Some y)) (notices_inserted ys out.1 u)
+      ∙ swap (y.0.slot == u) (u == x.0.slot) (apart u out.0))
       (λ e. ap (λ zs. notices_in zs u) (inserted_cons y ys false e) ∙ here (x.0.slot == u) (u == x.0.slot) (grind (arith, nat_tests)))
     where
       apart : (u : ℕ) → (y.0.slot == x.0.slot) ≡ false → (y.0.slot == u) ≡ true → (u == x.0.slot) ≡ false
       apart u ne e = grind (arith, nat_tests)
 
-      swap : (a b : Bool) → (a ≡ true → b ≡ false) → cond a (Some y) (if b then Some x else notices_in ys u) ≡ (if b then Some x else cond a (Some y) (notices_in ys u))
+      swap : (a b : Bool) → (a ≡ true → b ≡ false) → cond a (Some y) (if b then Some x else notices_in ys u)
+          ≡ (if b then Some x else cond a (Some y) (notices_in ys u))
       swap true b h = sym (ap (λ z. if z then Some x else Some y) (h refl))
       swap false b h = refl
 
@@ -124,7 +121,8 @@ module _ (x : Named) where
       here false true e = cc
 
 -- rising slots from lo on and below k are at most k - lo
-rising_few : (lo k : ℕ) (xs : Told) → lo ≤ k → is_rising xs ≡ true → list_all (λ x. nat_le lo x.0.slot) xs ≡ true → list_all (λ x. nat_lt x.0.slot k) xs ≡ true → length xs + lo ≤ k
+rising_few : (lo k : ℕ) (xs : Told) → lo ≤ k → is_rising xs ≡ true → list_all (λ x. nat_le lo x.0.slot) xs ≡ true → list_all (λ x. nat_lt x.0.slot k) xs ≡ true
+    → length xs + lo ≤ k
 rising_few lo k [] h up from below = omega arith
 rising_few lo k (x ∷ xs) h up from below =
     let rest = and_both _ _ up in let f = and_both (nat_le lo x.0.slot) _ from in let b = and_both (nat_lt x.0.slot k) _ below in
@@ -134,7 +132,8 @@ rising_few lo k (x ∷ xs) h up from below =
   where
     next : (s : ℕ) (xs : Told) → list_all (λ y. nat_lt s y.0.slot) xs ≡ true → list_all (λ y. nat_le (s + 1) y.0.slot) xs ≡ true
     next s [] h = refl
-    next s (y ∷ ys) h = let both = and_both _ _ h in let here : nat_le (s + 1) y.0.slot ≡ true = grind (arith, nat_tests) in ap₂ (λ a b. a && b) here (next s ys both.1)
+    next s (y ∷ ys) h = let both = and_both _ _ h in let here : nat_le (s + 1) y.0.slot ≡ true = grind (arith, nat_tests) in
+        ap₂ (λ a b. a && b) here (next s ys both.1)
 
 -- there is room for one more slot
 pub few_told : (xs : Told) → IsBySlot xs → length xs ≤ 128

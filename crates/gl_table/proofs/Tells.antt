@@ -1,25 +1,11 @@
 -- What the steps of a way tell: who is granted, who gives its wait up, and all others what they were told before.
-use Rattle.std.specs.Prelude.{◌≡◌, ℕ, Bool, true, false, not, ◌&&◌, ◌==◌, List, [], ◌∷◌, Option, Some, None, if◌then◌else◌}
-use Rattle.std.proofs.Common.{refl, sym, ap, ap₂, ◌∙◌}
-use Rattle.gl_modes.specs.declared.mode.Mode.{Mode}
-use Rattle.gl_modes.specs.declared.mode.Mode.TheVariants.{NL}
-use Rattle.gl_modes.specs.declared.node.NodeId.{NodeId}
-use Rattle.gl_modes.specs.Modes.{same_mode}
-use Rattle.gl_modes.specs.Nodes.{same_node}
-use Rattle.gl_modes.proofs.ModeLemmas.{same_mode-refl}
-use Rattle.gl_modes.proofs.NodeLemmas.{same_node-equal, same_node-refl}
-use Rattle.gl_graph.specs.Graph.{is_live}
-use Rattle.gl_graph.proofs.Look.{split, same_number}
-use Rattle.gl_header.specs.Header.{Waiter, is_among_waiters}
+use Rattle.gl_table.proofs.Words.{[], ◌&&◌, ◌==◌, ◌∙◌, ◌∷◌, ◌≡◌, Active, ActiveUntold, addressed, age_of, ap, ap₂, awake, Bool, CancelTells, Condemned, false}
+use Rattle.gl_table.proofs.Words.{front_at, GoneTells, grant_notice, granted_at, if◌then◌else◌, is_among_waiters, is_live, is_waiting_at, IsOnWay, List}
+use Rattle.gl_table.proofs.Words.{members, Mode, mode_given, NL, NobodyTold, NodeId, None, not, notice_of, Option, pumped, refl, ReleaseTells, same_mode}
+use Rattle.gl_table.proofs.Words.{same_mode-refl, same_node, same_node-equal, same_node-refl, same_number, Some, split, State, Status, status_in, status_of}
+use Rattle.gl_table.proofs.Words.{sym, told_from, told_to, true, Txn, TxnId, VictimTells, Waiter, Waiting, waits_at, with_grant, with_txn, without_wait, woken}
+use Rattle.gl_table.proofs.Words.{ℕ}
 use Rattle.gl_table.specs.declared.notice.Notice.TheVariants as notice
-use Rattle.gl_table.specs.declared.txn.Status.{Status}
-use Rattle.gl_table.specs.declared.txn.Status.TheVariants.{Active, Waiting, Condemned}
-use Rattle.gl_table.specs.declared.txn.TxnId.{TxnId}
-use Rattle.gl_table.specs.Pumps.{awake, front_at, granted_at, is_waiting_at, pumped, waits_at, without_wait, woken}
-use Rattle.gl_table.specs.Slots.{grant_notice, mode_given}
-use Rattle.gl_table.specs.State.{State, Txn, age_of, members, status_in, status_of, with_grant, with_txn}
-use Rattle.gl_table.specs.Tellings.{addressed, notice_of, told_from}
-use Rattle.gl_table.specs.Tells.{CancelTells, GoneTells, IsOnWay, NobodyTold, ReleaseTells, ActiveUntold, VictimTells, told_to}
 use Rattle.gl_table.proofs.Follows.{SameGrants}
 use Rattle.gl_table.proofs.Queues.{grants_one, grants_other}
 use Rattle.gl_table.proofs.Taken.{IsQuiet, restatus_is}
@@ -32,7 +18,8 @@ is_by_test true f g = f refl
 is_by_test false f g = g refl
 
 -- who was granted where it waited is active
-pub woken_up : (g : NodeId → List Waiter) (u : ℕ) (q : NodeId) (m : Mode) (x : Option Txn) → status_in x ≡ Some (Waiting q m) → is_among_waiters u (g q) ≡ true → status_in (woken g u x) ≡ Some Active
+pub woken_up : (g : NodeId → List Waiter) (u : ℕ) (q : NodeId) (m : Mode) (x : Option Txn) → status_in x ≡ Some (Waiting q m) → is_among_waiters u (g q) ≡ true
+    → status_in (woken g u x) ≡ Some Active
 woken_up g u q m None h k = absurd (cc)
 woken_up g u q m (Some x) h k = let is : x.status ≡ Waiting q m = cc in ap (λ st. Some (awake g u st)) is ∙ ap (λ b. Some (if b then Active else Waiting q m)) k
 
@@ -47,7 +34,8 @@ woken_same g u out (Some x) = ap (λ st. Some (record { age = x.age; status = st
     by Condemned = refl
 
 -- what a slot is told is read from the graph, and from its own transaction and grants
-pub told_same : (now s' : State) (u : ℕ) → s'.graph ≡ now.graph → s'.txns u ≡ now.txns u → SameGrants now s' u → (o : Option Status) → told_from s' u o ≡ told_from now u o
+pub told_same : (now s' : State) (u : ℕ) → s'.graph ≡ now.graph → s'.txns u ≡ now.txns u → SameGrants now s' u → (o : Option Status)
+    → told_from s' u o ≡ told_from now u o
 told_same now s' u graph txn grants None = refl
 told_same now s' u graph txn grants (Some Active) = refl
 told_same now s' u graph txn grants (Some Condemned) = refl
@@ -55,7 +43,8 @@ told_same now s' u graph txn grants (Some (Waiting n m)) = ap (notice_of s' u n 
   where
     by : (o : Option Status) → notice_of s' u n m o ≡ notice_of now u n m o
     by None = refl
-    by (Some Active) = ap₂ (λ g w. if not (is_live g n) then Some notice.Gone else (if same_mode w m then Some (notice.Granted n m) else Some notice.Moved)) graph (grants n)
+    by (Some Active) = ap₂ (λ g w. if not (is_live g n) then Some notice.Gone else (if same_mode w m then Some (notice.Granted n m) else Some notice.Moved))
+        graph (grants n)
     by (Some (Waiting q w)) = refl
     by (Some Condemned) = refl
 
@@ -84,7 +73,8 @@ module _ (s now : State) (way : IsOnWay s now) where
         ∙ ap₂ (λ a b. addressed name (if not a then Some notice.Gone else (if b then Some (notice.Granted n wait.0) else Some notice.Moved)))
         (ap (λ g. is_live g n) way.graph ∙ way.live u n wait.0 (way.waited u n wait.0 wait.1))
         (ap (λ w. same_mode w wait.0) (grants_one (granted_at now (same_node n) n) (members now n) u wait.0 once) ∙ same_mode-refl wait.0)
-        ∙ ap (λ w. Some (name, notice.Granted n w)) (sym (ap (λ ws. mode_given ws u) (sym here) ∙ grants_one (granted_at now (same_node n) n) (λ _. NL) u wait.0 once))
+        ∙ ap (λ w. Some (name, notice.Granted n w)) (sym (ap (λ ws. mode_given ws u) (sym here)
+        ∙ grants_one (granted_at now (same_node n) n) (λ _. NL) u wait.0 once))
       where
         here : granted_at now (same_node n) n ≡ front_at now n
         here = ap (λ b. if b then front_at now n else []) (same_node-refl n)
@@ -101,24 +91,29 @@ module _ (s now : State) (way : IsOnWay s now) where
     -- all others are told what they were
     pub others_told : is_among_waiters u (front_at now n) ≡ false → told_to s (pumped now (same_node n)) u ≡ told_to s now u
     others_told h =
-        ap (addressed name) (told_same now after u refl (woken_same (granted_at now (same_node n)) u out (now.txns u)) (λ q. grants_other (granted_at now (same_node n) q) (members now q) u (out q)) (status_of s u))
+        ap (addressed name) (told_same now after u refl (woken_same (granted_at now (same_node n)) u out (now.txns u))
+        (λ q. grants_other (granted_at now (same_node n) q) (members now q) u (out q)) (status_of s u))
       where
         out : (q : NodeId) → is_among_waiters u (granted_at now (same_node n) q) ≡ false
         out q = split (same_node n q)
-            (λ e. ap (λ b. is_among_waiters u (if b then front_at now q else [])) e ∙ ap (λ p. is_among_waiters u (front_at now p)) (sym (same_node-equal n q e)) ∙ h)
+            (λ e. ap (λ b. is_among_waiters u (if b then front_at now q else [])) e
+            ∙ ap (λ p. is_among_waiters u (front_at now p)) (sym (same_node-equal n q e)) ∙ h)
             (λ e. ap (λ b. is_among_waiters u (if b then front_at now q else [])) e)
 
-    pub pumped_told : told_to s (pumped now (same_node n)) u ≡ (if is_among_waiters u (front_at now n) then grant_notice s.txns n (front_at now n) u else told_to s now u)
+    pub pumped_told : told_to s (pumped now (same_node n)) u
+        ≡ (if is_among_waiters u (front_at now n) then grant_notice s.txns n (front_at now n) u else told_to s now u)
     pumped_told = is_by_test (is_among_waiters u (front_at now n)) granted_told others_told
 
 -- another's wait that is over tells nothing
 pub without_wait_told : (s now : State) (t : ℕ) (st : Status) (u : ℕ) → (u == t) ≡ false → told_to s (without_wait now t st) u ≡ told_to s now u
-without_wait_told s now t st u e = ap (addressed (record { slot = u; age = age_of s u })) (told_same now (without_wait now t st) u refl (without_wait_other now t st u e) (λ q. refl) (status_of s u))
+without_wait_told s now t st u e = ap (addressed (record { slot = u; age = age_of s u }))
+    (told_same now (without_wait now t st) u refl (without_wait_other now t st u e) (λ q. refl) (status_of s u))
 
 -- of a wait that is over those are told whom its node grants, and all others what they are told of its end
 pub wait_over_told : (s now : State) (t : ℕ) (n : NodeId) (m : Mode) (st : Status) → IsQuiet st → status_of now t ≡ Some (Waiting n m) → IsOnWay s now → (u : ℕ)
     → told_to s (pumped (without_wait now t st) (is_waiting_at now t)) u
-    ≡ (if is_among_waiters u (front_at (without_wait now t st) n) then grant_notice s.txns n (front_at (without_wait now t st) n) u else told_to s (without_wait now t st) u)
+    ≡ (if is_among_waiters u (front_at (without_wait now t st) n) then grant_notice s.txns n (front_at (without_wait now t st) n) u
+    else told_to s (without_wait now t st) u)
 wait_over_told s now t n m st quiet waits way u =
     ap (λ o. told_to s (pumped (without_wait now t st) (waits_at o)) u) waits
     ∙ pumped_told s (without_wait now t st) (way_without_wait s now way t st quiet) n u
@@ -127,7 +122,8 @@ pub release_tells : ReleaseTells
 release_tells s now t n way u e =
     pumped_told s (with_grant now t n NL) (way_with_grant s now way t n NL) n u
     ∙ ap (λ x. if is_among_waiters u (front_at (with_grant now t n NL) n) then grant_notice s.txns n (front_at (with_grant now t n NL) n) u else x)
-    (ap (addressed (record { slot = u; age = age_of s u })) (told_same now (with_grant now t n NL) u refl refl (λ q. ap (λ b. if b && same_node q n then NL else now.held u q) e) (status_of s u)))
+    (ap (addressed (record { slot = u; age = age_of s u }))
+    (told_same now (with_grant now t n NL) u refl refl (λ q. ap (λ b. if b && same_node q n then NL else now.held u q) e) (status_of s u)))
 
 pub active_untold : ActiveUntold
 active_untold s now t is = told_waits s now t Active (λ q m h. cc) is
@@ -135,7 +131,8 @@ active_untold s now t is = told_waits s now t Active (λ q m h. cc) is
 pub victim_tells : VictimTells
 victim_tells s now t n m waits way u =
     wait_over_told s now t n m Condemned (λ q w h. cc) waits way u
-    ∙ ap (λ x. if is_among_waiters u (front_at (without_wait now t Condemned) n) then grant_notice s.txns n (front_at (without_wait now t Condemned) n) u else x) over
+    ∙ ap (λ x. if is_among_waiters u (front_at (without_wait now t Condemned) n) then grant_notice s.txns n (front_at (without_wait now t Condemned) n) u
+    else x) over
   where
     own : told_to s (without_wait now t Condemned) t ≡ Some (record { slot = t; age = age_of s t }, notice.Victim)
     own = ap (λ o. addressed (record { slot = t; age = age_of s t }) (told_from (without_wait now t Condemned) t o)) (way.waited t n m waits)
@@ -177,4 +174,5 @@ gone_untold s now u gone = by (status_of s u)
 pub gone_tells : GoneTells
 gone_tells s now t u =
     is_by_test (u == t) (λ e. gone_untold s (with_txn now t None) u (ap (λ b. status_in (if b then None else now.txns u)) e))
-    (λ e. ap (addressed (record { slot = u; age = age_of s u })) (told_same now (with_txn now t None) u refl (ap (λ b. if b then None else now.txns u) e) (λ q. refl) (status_of s u)))
+    (λ e. ap (addressed (record { slot = u; age = age_of s u }))
+    (told_same now (with_txn now t None) u refl (ap (λ b. if b then None else now.txns u) e) (λ q. refl) (status_of s u)))

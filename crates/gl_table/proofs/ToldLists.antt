@@ -1,16 +1,8 @@
 -- Notices by rising slot are what is told slot after slot.
-use Rattle.std.specs.Prelude.{◌≡◌, ℕ, zero, suc, ◌+◌, ◌<◌, ◌≤◌, Bool, true, false, cond, not, ◌&&◌, ◌==◌, nat_lt, nat_le, List, [], ◌∷◌, Option, Some, None, is_some, if◌then◌else◌}
-use Rattle.std.specs.List.{cons_option, filter, filter_map, list_all, range_with_len}
-use Rattle.std.proofs.Common.{refl, sym, ap, ap₂, ◌∙◌, arith}
-use Rattle.std.proofs.Math.Path.{fun_ext}
-use Rattle.std.proofs.lemmas.Bool.Decides.{nat_tests}
-use Rattle.gl_graph.proofs.Look.{split, and_both, number_same}
-use Rattle.gl_table.specs.declared.notice.Notice.{Notice}
-use Rattle.gl_table.specs.declared.txn.TxnId.{TxnId}
-use Rattle.gl_table.specs.State.{State, Txn, age_in, age_of, slots, status_in, status_of}
-use Rattle.gl_table.specs.Telling.{IsBySlot, is_rising, notices_in}
-use Rattle.gl_table.specs.Tellings.{Told, addressed, told, told_but, told_from}
-use Rattle.gl_table.specs.Tells.{ToldButIs, ToldIs, told_to}
+use Rattle.gl_table.proofs.Words.{[], ◌&&◌, ◌+◌, ◌<◌, ◌==◌, ◌∙◌, ◌∷◌, ◌≡◌, ◌≤◌, addressed, age_in, age_of, and_both, ap, ap₂, arith, Bool, cond, cons_option}
+use Rattle.gl_table.proofs.Words.{false, filter, filter_map, fun_ext, if◌then◌else◌, is_rising, is_some, IsBySlot, List, list_all, nat_le, nat_lt, nat_tests}
+use Rattle.gl_table.proofs.Words.{None, not, Notice, notices_in, number_same, Option, range_with_len, refl, slots, Some, split, State, status_in, status_of}
+use Rattle.gl_table.proofs.Words.{suc, sym, Told, told, told_but, told_from, told_to, ToldButIs, ToldIs, true, Txn, TxnId, zero, ℕ}
 use Rattle.gl_table.proofs.Queues.{clash}
 use Rattle.gl_table.proofs.Tells.{quiet_told}
 
@@ -23,12 +15,15 @@ pub filter-filter_map : {X Y : Type 0} (p : Y → Bool) (h : X → Option Y) (xs
 filter-filter_map p h [] = refl
 filter-filter_map p h (x ∷ xs) = by (h x) (filter-filter_map p h xs)
   where
-    by : (o : Option _) → filter p (filter_map h xs) ≡ filter_map (λ z. kept p (h z)) xs → filter p (cons_option o (filter_map h xs)) ≡ cons_option (kept p o) (filter_map (λ z. kept p (h z)) xs)
+    by : (o : Option _) → filter p (filter_map h xs) ≡ filter_map (λ z. kept p (h z)) xs
+        → filter p (cons_option o (filter_map h xs)) ≡ cons_option (kept p o) (filter_map (λ z. kept p (h z)) xs)
     by None e = e
     by (Some y) e =
         split (p y)
-        (λ t. ap (λ b. if b then y ∷ filter p (filter_map h xs) else filter p (filter_map h xs)) t ∙ ap (λ ys. y ∷ ys) e ∙ sym (ap (λ b. cons_option (if b then Some y else None) (filter_map (λ z. kept p (h z)) xs)) t))
-        (λ t. ap (λ b. if b then y ∷ filter p (filter_map h xs) else filter p (filter_map h xs)) t ∙ e ∙ sym (ap (λ b. cons_option (if b then Some y else None) (filter_map (λ z. kept p (h z)) xs)) t))
+        (λ t. ap (λ b. if b then y ∷ filter p (filter_map h xs) else filter p (filter_map h xs)) t ∙ ap (λ ys. y ∷ ys) e
+        ∙ sym (ap (λ b. cons_option (if b then Some y else None) (filter_map (λ z. kept p (h z)) xs)) t))
+        (λ t. ap (λ b. if b then y ∷ filter p (filter_map h xs) else filter p (filter_map h xs)) t ∙ e
+        ∙ sym (ap (λ b. cons_option (if b then Some y else None) (filter_map (λ z. kept p (h z)) xs)) t))
 
 -- a slot below all has no notice
 pub untold_below : (u : ℕ) (xs : Told) → list_all (λ y. nat_lt u y.0.slot) xs ≡ true → notices_in xs u ≡ None
@@ -41,7 +36,8 @@ untold_below u (y ∷ ys) h =
 pub told_pass : (p : ℕ → Bool) (xs : Told) → ((u : ℕ) → is_some (notices_in xs u) ≡ true → p u ≡ true) → list_all (λ x. p x.0.slot) xs ≡ true
 told_pass p [] h = refl
 told_pass p (x ∷ xs) h =
-    ap₂ (λ a b. a && b) (h x.0.slot (ap (λ b. is_some (cond b (Some x) (notices_in xs x.0.slot))) (number_same x.0.slot x.0.slot refl))) (told_pass p xs (λ u k. h u (more u (x.0.slot == u) k)))
+    ap₂ (λ a b. a && b) (h x.0.slot (ap (λ b. is_some (cond b (Some x) (notices_in xs x.0.slot))) (number_same x.0.slot x.0.slot refl)))
+    (told_pass p xs (λ u k. h u (more u (x.0.slot == u) k)))
   where
     more : (u : ℕ) (b : Bool) → is_some (notices_in xs u) ≡ true → is_some (cond b (Some x) (notices_in xs u)) ≡ true
     more u true k = refl
@@ -53,7 +49,8 @@ all_weaker p q [] more h = refl
 all_weaker p q (x ∷ xs) more h = let both = and_both _ _ h in ap₂ (λ a b. a && b) (more x.0.slot both.0) (all_weaker p q xs more both.1)
 
 -- rising notices for n slots from lo on are those of each slot, in order
-pub rising_is : (f : ℕ → Option (TxnId × Notice)) (n lo : ℕ) (xs : Told) → is_rising xs ≡ true → list_all (λ x. nat_le lo x.0.slot) xs ≡ true → list_all (λ x. nat_lt x.0.slot (lo + n)) xs ≡ true
+pub rising_is : (f : ℕ → Option (TxnId × Notice)) (n lo : ℕ) (xs : Told) → is_rising xs ≡ true → list_all (λ x. nat_le lo x.0.slot) xs ≡ true
+    → list_all (λ x. nat_lt x.0.slot (lo + n)) xs ≡ true
     → ((u : ℕ) → lo ≤ u → notices_in xs u ≡ f u) → xs ≡ filter_map f (range_with_len lo n)
 rising_is f zero lo [] up from below each = refl
 rising_is f zero lo (x ∷ xs) up from below each =
@@ -61,19 +58,23 @@ rising_is f zero lo (x ∷ xs) up from below each =
     let low : lo ≤ x.0.slot = grind (arith, nat_tests) in let high : x.0.slot < lo + 0 = grind (arith, nat_tests) in
     absurd (omega arith)
 rising_is f (suc n) lo [] up from below each =
-    rising_is f n (lo + 1) [] refl refl refl (λ u h. each u (omega arith)) ∙ ap (λ o. cons_option o (filter_map f (range_with_len (lo + 1) n))) (each lo (omega arith))
+    rising_is f n (lo + 1) [] refl refl refl (λ u h. each u (omega arith))
+    ∙ ap (λ o. cons_option o (filter_map f (range_with_len (lo + 1) n))) (each lo (omega arith))
 rising_is f (suc n) lo (x ∷ xs) up from below each =
     let rest = and_both _ _ up in let a = and_both (nat_le lo x.0.slot) _ from in let b = and_both (nat_lt x.0.slot (lo + suc n)) _ below in
     split (x.0.slot == lo)
     (λ e. ap (λ ys. x ∷ ys)
     (rising_is f n (lo + 1) xs rest.1 (all_weaker (λ v. nat_lt x.0.slot v) (λ v. nat_le (lo + 1) v) xs (λ v h. above v e h) rest.0)
-    (all_weaker (λ v. nat_lt v (lo + suc n)) (λ v. nat_lt v (lo + 1 + n)) xs nearer b.1) (λ u h. sym (ap (λ c. cond c (Some x) (notices_in xs u)) (passed u e h)) ∙ each u (omega arith)))
+    (all_weaker (λ v. nat_lt v (lo + suc n)) (λ v. nat_lt v (lo + 1 + n)) xs nearer b.1)
+    (λ u h. sym (ap (λ c. cond c (Some x) (notices_in xs u)) (passed u e h)) ∙ each u (omega arith)))
     ∙ ap (λ o. cons_option o (filter_map f (range_with_len (lo + 1) n))) (sym (ap (λ c. cond c (Some x) (notices_in xs lo)) e) ∙ each lo (omega arith)))
     (λ e. let first : nat_lt lo x.0.slot ≡ true = later e a.0 in
-    rising_is f n (lo + 1) (x ∷ xs) up (ap₂ (λ c d. c && d) (next x.0.slot first) (all_weaker (λ v. nat_lt x.0.slot v) (λ v. nat_le (lo + 1) v) xs (λ v h. beyond v first h) rest.0))
+    rising_is f n (lo + 1) (x ∷ xs) up (ap₂ (λ c d. c && d) (next x.0.slot first)
+    (all_weaker (λ v. nat_lt x.0.slot v) (λ v. nat_le (lo + 1) v) xs (λ v h. beyond v first h) rest.0))
     (all_weaker (λ v. nat_lt v (lo + suc n)) (λ v. nat_lt v (lo + 1 + n)) (x ∷ xs) nearer below) (λ u h. each u (omega arith))
     ∙ ap (λ o. cons_option o (filter_map f (range_with_len (lo + 1) n)))
-    (sym (untold_below lo (x ∷ xs) (ap₂ (λ c d. c && d) first (all_weaker (λ v. nat_lt x.0.slot v) (λ v. nat_lt lo v) xs (λ v h. behind v first h) rest.0))) ∙ each lo (omega arith)))
+    (sym (untold_below lo (x ∷ xs) (ap₂ (λ c d. c && d) first (all_weaker (λ v. nat_lt x.0.slot v) (λ v. nat_lt lo v) xs (λ v h. behind v first h) rest.0)))
+    ∙ each lo (omega arith)))
   where
     nearer : (v : ℕ) → nat_lt v (lo + suc n) ≡ true → nat_lt v (lo + 1 + n) ≡ true
     nearer v h = grind (arith, nat_tests)
@@ -97,9 +98,11 @@ rising_is f (suc n) lo (x ∷ xs) up from below each =
     beyond v e h = grind (arith, nat_tests)
 
 -- rising notices, none for a slot from n on
-pub rising_all : (f : ℕ → Option (TxnId × Notice)) (n : ℕ) (xs : Told) → is_rising xs ≡ true → ((u : ℕ) → notices_in xs u ≡ f u) → ((u : ℕ) → is_some (f u) ≡ true → u < n) → xs ≡ filter_map f (range_with_len 0 n)
+pub rising_all : (f : ℕ → Option (TxnId × Notice)) (n : ℕ) (xs : Told) → is_rising xs ≡ true → ((u : ℕ) → notices_in xs u ≡ f u)
+    → ((u : ℕ) → is_some (f u) ≡ true → u < n) → xs ≡ filter_map f (range_with_len 0 n)
 rising_all f n xs up each low =
-    rising_is f n 0 xs up (told_pass (λ v. nat_le 0 v) xs (λ u h. first u)) (told_pass (λ v. nat_lt v (0 + n)) xs (λ u h. below u (low u (sym (ap is_some (each u)) ∙ h)))) (λ u h. each u)
+    rising_is f n 0 xs up (told_pass (λ v. nat_le 0 v) xs (λ u h. first u))
+    (told_pass (λ v. nat_lt v (0 + n)) xs (λ u h. below u (low u (sym (ap is_some (each u)) ∙ h)))) (λ u h. each u)
   where
     first : (u : ℕ) → nat_le 0 u ≡ true
     first u = grind (arith, nat_tests)
@@ -116,7 +119,8 @@ told_lives s now u h = by (s.txns u) h
     by (Some x) k = refl
 
 -- where slots are below the limit, notices by rising slot that are those of each slot are what is told
-pub told_in_order : (s now : State) → ((u : ℕ) → is_some (s.txns u) ≡ true → u < s.most) → (xs : Told) → IsBySlot xs → ((u : ℕ) → notices_in xs u ≡ told_to s now u) → xs ≡ told s now
+pub told_in_order : (s now : State) → ((u : ℕ) → is_some (s.txns u) ≡ true → u < s.most) → (xs : Told) → IsBySlot xs
+    → ((u : ℕ) → notices_in xs u ≡ told_to s now u) → xs ≡ told s now
 told_in_order s now below xs sorted each = rising_all (told_to s now) s.most xs sorted.rising each (λ u h. below u (told_lives s now u h))
 
 pub told_is : ToldIs
@@ -142,7 +146,8 @@ told_but_same s s' now t most same =
         left_out e (Some x) k = ap (λ b. if not b then Some (record { slot = u; age = k }, x) else None) e
 
 -- a name is left out by its slot
-kept_name : (t : ℕ) (name : TxnId) (o : Option Notice) → kept (λ x. not (x.0.slot == t)) (addressed name o) ≡ (if name.slot == t then None else addressed name o)
+kept_name : (t : ℕ) (name : TxnId) (o : Option Notice)
+    → kept (λ x. not (x.0.slot == t)) (addressed name o) ≡ (if name.slot == t then None else addressed name o)
 kept_name t name None = by (name.slot == t)
   where
     by : (b : Bool) → addressed name None ≡ (if b then None else addressed name None)
@@ -165,5 +170,7 @@ told_but_is s now t xs law most sorted each =
     but u false h = h
 
 -- and where the status of all is the same, nothing is told
-pub told_nothing : (s now : State) (t : ℕ) → ((u : ℕ) → is_some (s.txns u) ≡ true → u < s.most) → ((u : ℕ) → status_of now u ≡ status_of s u) → [] ≡ told_but t s now
-told_nothing s now t below same = ap (filter (λ x. not (x.0.slot == t))) (told_in_order s now below [] (record { rising = refl; below = refl }) (λ u. sym (quiet_told s now u (same u))))
+pub told_nothing : (s now : State) (t : ℕ) → ((u : ℕ) → is_some (s.txns u) ≡ true → u < s.most) → ((u : ℕ) → status_of now u ≡ status_of s u)
+    → [] ≡ told_but t s now
+told_nothing s now t below same = ap (filter (λ x. not (x.0.slot == t)))
+    (told_in_order s now below [] (record { rising = refl; below = refl }) (λ u. sym (quiet_told s now u (same u))))

@@ -1,25 +1,10 @@
 -- A graph that changes only at nodes on which a holder has no effective S: its effective modes and what lies below stay.
-use Rattle.std.specs.Prelude.{◌≡◌, ℕ, zero, suc, Bool, true, false, not, ◌&&◌, ◌||◌, List, [], ◌∷◌, Option, Some, None, is_some, if◌then◌else◌}
-use Rattle.std.specs.List.{list_all, list_any}
-use Rattle.std.proofs.Common.{refl, sym, ap, ap₂, ◌∙◌}
-use mathlib.Core.Bool.{true≢false}
-use Rattle.gl_modes.specs.declared.mode.Mode.{Mode}
-use Rattle.gl_modes.specs.declared.mode.Mode.TheVariants.{X}
-use Rattle.gl_modes.specs.declared.node.NodeId.{NodeId}
+use Rattle.gl_table.proofs.Words.{[], ◌&&◌, ◌||◌, ◌∙◌, ◌∷◌, ◌≡◌, all_at, and_both, ap, ap₂, Bool, eff_s, eff_x, effective, false, Graph, if◌then◌else◌, is_live}
+use Rattle.gl_table.proofs.Words.{is_record_shape, is_some, IsLawful, IsRoute, keys_in, List, list_all, list_any, Mode, no_parents, Node, node_at, node_count}
+use Rattle.gl_table.proofs.Words.{NodeId, None, not, Option, or-true, or_elim, parents_in, parents_of, refl, same_mode, same_node, SameBelow, shape_in}
+use Rattle.gl_table.proofs.Words.{shape_of, Some, split, State, suc, sym, true, true≢false, X, zero, ℕ}
 use Rattle.gl_table.specs.declared.effect.Effect.TheVariants as effect
-use Rattle.gl_graph.specs.Graph.{Graph, Node, node_at, node_count, parents_of, parents_in, shape_of, shape_in, is_live}
-use Rattle.gl_graph.specs.Shapes.{keys_in, is_record_shape}
-use Rattle.gl_modes.specs.Nodes.{same_node}
-use Rattle.gl_graph.specs.Routes.{IsRoute}
-use Rattle.gl_modes.specs.Modes.{same_mode}
-use Rattle.gl_table.specs.Effects.{eff_s, eff_x, effective}
-use Rattle.gl_table.specs.Intends.{no_parents}
-use Rattle.gl_table.specs.State.{State}
-use Rattle.gl_table.specs.Lawful.{IsLawful}
-use Rattle.gl_table.specs.Below.{SameBelow}
 use Rattle.gl_table.proofs.Effects.{all_from, ReadOn, read_on_route, eff_s_route, eff_x_route, read_on_eff, eff_x_any}
-use Rattle.gl_graph.proofs.Look.{split, or_elim, and_both, all_at}
-use Rattle.std.proofs.Math.Bool.{or-true}
 
 -- the graph changes at the nodes of a set; h has no effective S there, where the node stood before or is a record after
 pub record GraphStep (g g' : Graph) (h : NodeId → Mode) (changed : NodeId → Bool) : Type 0 where
@@ -32,21 +17,25 @@ record_lives : (o : Option Node) → is_record_shape (shape_in o) ≡ true → i
 record_lives None h = absurd (true≢false (sym h))
 record_lives (Some n) h = refl
 
-module _ (g g' : Graph) (h : NodeId → Mode) (changed : NodeId → Bool) (step : GraphStep g g' h changed) (parents_live : (n p : NodeId) → list_any (same_node p) (parents_of g n) ≡ true → is_live g p ≡ true) where
+module _ (g g' : Graph) (h : NodeId → Mode) (changed : NodeId → Bool) (step : GraphStep g g' h changed) (parents_live : (n p : NodeId)
+    → list_any (same_node p) (parents_of g n) ≡ true → is_live g p ≡ true) where
   same_parents : (n : NodeId) → changed n ≡ false → parents_of g' n ≡ parents_of g n
   same_parents n e = ap parents_in (step.same n e)
 
   -- a route to a node under no changed one
-  carry : (n m : NodeId) (way : List NodeId) → IsRoute g n way m → ((c : NodeId) (pre : List NodeId) → changed c ≡ true → IsRoute g c pre m → ⊥) → IsRoute g' n way m
+  carry : (n m : NodeId) (way : List NodeId) → IsRoute g n way m → ((c : NodeId) (pre : List NodeId) → changed c ≡ true → IsRoute g c pre m → ⊥)
+      → IsRoute g' n way m
   carry n m [] route never = route
   carry n m (p ∷ way) route never =
       split (changed n) (λ e. absurd (never n (p ∷ way) e route)) (λ e. (ap (list_any (same_node p)) (same_parents n e) ∙ route.0, carry p m way route.1 never))
 
-  back : (n m : NodeId) (way : List NodeId) → is_live g n ≡ true → IsRoute g' n way m → ((c : NodeId) (pre : List NodeId) → changed c ≡ true → is_live g c ≡ true → IsRoute g' c pre m → ⊥) → IsRoute g n way m
+  back : (n m : NodeId) (way : List NodeId) → is_live g n ≡ true → IsRoute g' n way m
+      → ((c : NodeId) (pre : List NodeId) → changed c ≡ true → is_live g c ≡ true → IsRoute g' c pre m → ⊥) → IsRoute g n way m
   back n m [] live route never = route
   back n m (p ∷ way) live route never =
       split (changed n) (λ e. absurd (never n (p ∷ way) e live route))
-      (λ e. let up : list_any (same_node p) (parents_of g n) ≡ true = ap (list_any (same_node p)) (sym (same_parents n e)) ∙ route.0 in (up, back p m way (parents_live n p up) route.1 never))
+      (λ e. let up : list_any (same_node p) (parents_of g n) ≡ true = ap (list_any (same_node p)) (sym (same_parents n e)) ∙ route.0 in
+      (up, back p m way (parents_live n p up) route.1 never))
 
   -- a route to what is read cannot pass a changed node, since the node would be read
   pub reads_carry : (n : NodeId) → ReadOn g h n → ReadOn g' h n
@@ -64,7 +53,8 @@ module _ (g g' : Graph) (h : NodeId → Mode) (changed : NodeId → Bool) (step 
       (λ e. or_elim _ _ x (λ here. ap (λ b. b || (not (no_parents (parents_of g' n)) && list_all (eff_x k g' h) (parents_of g' n))) here)
       (λ up. let both = and_both _ _ up in
       ap (λ b. same_mode (h n) X || b) (ap₂ (λ a b. a && b) (ap (λ ps. not (no_parents ps)) (same_parents n e) ∙ both.0)
-      (ap (list_all (eff_x k g' h)) (same_parents n e) ∙ all_from (eff_x k g' h) (parents_of g n) (λ p on. x_carry k p (all_at (eff_x k g h) (parents_of g n) p on both.1)))) ∙ or-true _))
+      (ap (list_all (eff_x k g' h)) (same_parents n e) ∙ all_from (eff_x k g' h) (parents_of g n)
+      (λ p on. x_carry k p (all_at (eff_x k g h) (parents_of g n) p on both.1)))) ∙ or-true _))
 
   -- the same, back
   pub x_back : (k : ℕ) (n : NodeId) → is_live g n ≡ true → eff_x k g' h n ≡ true → eff_x k g h n ≡ true
@@ -96,7 +86,8 @@ module _ (g g' : Graph) (h : NodeId → Mode) (changed : NodeId → Bool) (step 
         let is : is_record_shape (shape_of g c) ≡ true = ap (λ o. is_record_shape (shape_in o)) (sym e) ∙ below.is_record in
         record {
           is_record = is;
-          route = (below.route.0, back c n below.route.0 (record_lives (node_at g c) is) below.route.1 (λ d pre e' live route. step.after d e' live (read_on_route g' h d n pre route r')));
+          route = (below.route.0, back c n below.route.0 (record_lives (node_at g c) is) below.route.1
+              (λ d pre e' live route. step.after d e' live (read_on_route g' h d n pre route r')));
         };
   }
 
@@ -106,16 +97,24 @@ same_bool false true f g = sym (g refl)
 same_bool false false f g = refl
 
 -- a holder's effective modes where its grants stay and the graph makes such a step
-pub effective_same : (s s' : State) (t : ℕ) (changed : NodeId → Bool) → IsLawful s → IsLawful s' → GraphStep s.graph s'.graph (s.held t) changed → s'.held t ≡ s.held t
+pub effective_same : (s s' : State) (t : ℕ) (changed : NodeId → Bool) → IsLawful s → IsLawful s' → GraphStep s.graph s'.graph (s.held t) changed
+    → s'.held t ≡ s.held t
     → (n : NodeId) → is_live s.graph n ≡ true → is_live s'.graph n ≡ true → effective s' t n ≡ effective s t n
 effective_same s s' t changed law law' step keeps n live live' =
     let h' : ℕ → NodeId → Mode = s'.held in
     let xs : eff_x (node_count s'.graph) s'.graph (s'.held t) n ≡ eff_x (node_count s.graph) s.graph (s.held t) n =
     same_bool _ _
-    (λ x. eff_x_any s' law' t (node_count s.graph) n live' (ap (λ h. eff_x (node_count s.graph) s'.graph h n) keeps ∙ x_carry s.graph s'.graph (s.held t) changed step law.graph.parents_live (node_count s.graph) n x))
-    (λ x. eff_x_any s law t (node_count s'.graph) n live (x_back s.graph s'.graph (s.held t) changed step law.graph.parents_live (node_count s'.graph) n live (ap (λ h. eff_x (node_count s'.graph) s'.graph h n) (sym keeps) ∙ x))) in
+    (λ x. eff_x_any s' law' t (node_count s.graph) n live' (ap (λ h. eff_x (node_count s.graph) s'.graph h n) keeps
+    ∙ x_carry s.graph s'.graph (s.held t) changed step law.graph.parents_live (node_count s.graph) n x))
+    (λ x. eff_x_any s law t (node_count s'.graph) n live
+    (x_back s.graph s'.graph (s.held t) changed step law.graph.parents_live (node_count s'.graph) n live
+    (ap (λ h. eff_x (node_count s'.graph) s'.graph h n) (sym keeps) ∙ x))) in
     let ss : eff_s (node_count s'.graph) s'.graph (s'.held t) n ≡ eff_s (node_count s.graph) s.graph (s.held t) n =
     same_bool _ _
-    (λ x. ap (λ h. eff_s (node_count s'.graph) s'.graph h n) keeps ∙ read_on_eff s'.graph law'.graph (s.held t) n live' (reads_carry s.graph s'.graph (s.held t) changed step law.graph.parents_live n (eff_s_route s.graph (s.held t) (node_count s.graph) n x)))
-    (λ x. read_on_eff s.graph law.graph (s.held t) n live (reads_back s.graph s'.graph (s.held t) changed step law.graph.parents_live n live (eff_s_route s'.graph (s.held t) (node_count s'.graph) n (ap (λ h. eff_s (node_count s'.graph) s'.graph h n) (sym keeps) ∙ x)))) in
+    (λ x. ap (λ h. eff_s (node_count s'.graph) s'.graph h n) keeps
+    ∙ read_on_eff s'.graph law'.graph (s.held t) n live'
+    (reads_carry s.graph s'.graph (s.held t) changed step law.graph.parents_live n (eff_s_route s.graph (s.held t) (node_count s.graph) n x)))
+    (λ x. read_on_eff s.graph law.graph (s.held t) n live
+    (reads_back s.graph s'.graph (s.held t) changed step law.graph.parents_live n live
+    (eff_s_route s'.graph (s.held t) (node_count s'.graph) n (ap (λ h. eff_s (node_count s'.graph) s'.graph h n) (sym keeps) ∙ x)))) in
     ap₂ (λ x y. if x then effect.X else (if y then effect.S else effect.None)) xs ss

@@ -1,38 +1,17 @@
 -- Waits on one node that end without a grant: the state, the lists and the notices while some of them still stand.
-use Rattle.std.specs.Prelude.{◌≡◌, ℕ, ◌+◌, ◌<◌, ◌≤◌, Bool, true, false, not, ◌&&◌, ◌||◌, ◌==◌, List, [], ◌∷◌, Option, Some, None, if◌then◌else◌}
-use Rattle.std.specs.List.{filter, list_all}
-use Rattle.std.proofs.Common.{refl, sym, ap, ap₂, ◌∙◌, arith, subst}
-use Rattle.std.proofs.Math.Path.{fun_ext}
-use Rattle.gl_modes.specs.declared.mode.Mode.{Mode}
-use Rattle.gl_modes.specs.declared.mode.Mode.TheVariants.{NL}
-use Rattle.gl_modes.specs.declared.node.NodeId.{NodeId}
-use Rattle.gl_modes.specs.Modes.{same_mode}
-use Rattle.gl_modes.specs.Nodes.{same_node}
-use Rattle.gl_modes.proofs.NodeLemmas.{same_node-equal, same_node-refl}
-use Rattle.gl_graph.proofs.Look.{both, or_right, other_number, same_number, some_is, split}
-use Rattle.gl_header.specs.Header.{Waiter, fits, front, is_among_waiters, is_waiter, without_waiter}
-use Rattle.gl_header.proofs.Ranges.{not_true}
-use Rattle.gl_table.specs.declared.list.LockList.{LockList}
+use Rattle.gl_table.proofs.Words.{[], ◌&&◌, ◌+◌, ◌<◌, ◌==◌, ◌||◌, ◌∙◌, ◌∷◌, ◌≡◌, ◌≤◌, Active, age_in, Agrees, and-false, and-true, ap, ap₂, arith, Bool, both}
+use Rattle.gl_table.proofs.Words.{Condemned, counted_by, false, filter, fits, freed, freed_unless, front, fun_ext, if◌then◌else◌, is_among_waiters, is_wait}
+use Rattle.gl_table.proofs.Words.{is_waiter, IsBySlot, IsOrderly, List, list_all, LockList, members, Mode, NL, NodeId, None, none_but, not, not_true}
+use Rattle.gl_table.proofs.Words.{notices_in, Option, or-false, or_right, other_number, refl, restatus, room_by, same_mode, same_node, same_node-equal}
+use Rattle.gl_table.proofs.Words.{same_node-refl, same_number, Some, some_is, split, State, Status, status_in, status_of, Strikes, subst, sym, Told, true, Txn}
+use Rattle.gl_table.proofs.Words.{TxnId, Waiter, Waiting, waits_at, with_waiters, without_waiter, ℕ}
 use Rattle.gl_table.specs.declared.notice.Notice.TheVariants as notice
-use Rattle.gl_table.specs.declared.txn.Status.{Status}
-use Rattle.gl_table.specs.declared.txn.Status.TheVariants.{Active, Waiting, Condemned}
-use Rattle.gl_table.specs.declared.txn.TxnId.{TxnId}
-use Rattle.gl_table.specs.Calls.{freed, freed_unless, none_but}
-use Rattle.gl_table.specs.Headers.{with_waiters}
-use Rattle.gl_table.specs.Locks.{Agrees, IsOrderly}
-use Rattle.gl_table.specs.Pumps.{waits_at}
-use Rattle.gl_table.specs.Slots.{Strikes, counted_by, room_by}
-use Rattle.gl_table.specs.State.{State, Txn, age_in, members, restatus, status_in, status_of}
-use Rattle.gl_table.specs.Telling.{IsBySlot, notices_in}
-use Rattle.gl_table.specs.Tellings.{Told}
-use Rattle.gl_table.specs.Waiting.{is_wait}
 use Rattle.gl_table.proofs.OneWaits.{stands_there, waiters_below, waits_there}
 use Rattle.gl_table.proofs.QueueEdits.{out_of_without, without_filter}
 use Rattle.gl_table.proofs.Queues.{among_by_filter, clash}
 use Rattle.gl_table.proofs.Strays.{all_filtered, all_of_some, all_or_chosen, filter_all, stuck_front, without_chosen}
 use Rattle.gl_table.proofs.Waiters.{among_waits, some_wait}
 use Rattle.gl_table.proofs.Waiting.{any_left, one_left, one_stays}
-use Rattle.std.proofs.Math.Bool.{or-false, and-true, and-false}
 
 -- the waits on n that fail a test are out of its queue, and their owners are active
 abbrev pub thinned : State → NodeId → (Waiter → Bool) → State
@@ -65,11 +44,13 @@ pub freed_here : (n : NodeId) (m : Mode) (x : Option Txn) → status_in x ≡ So
 freed_here n m None h = absurd (cc)
 freed_here n m (Some x) h =
     let is : x.status ≡ Waiting n m = some_is h in
-    ap (λ st. Some (record { age = x.age; status = none_but st n })) is ∙ ap (λ b. Some (record { age = x.age; status = if b then Active else Waiting n m })) (same_node-refl n)
+    ap (λ st. Some (record { age = x.age; status = none_but st n })) is
+    ∙ ap (λ b. Some (record { age = x.age; status = if b then Active else Waiting n m })) (same_node-refl n)
 
 module _ (s : State) (o : IsOrderly s) (n : NodeId) (f : Waiter → Bool) where
   -- a lost wait is the one wait of its slot, and fails the test
-  pub lost_waits : (u : ℕ) → is_lost s n f u ≡ true → (m : Mode) × (status_of s u ≡ Some (Waiting n m)) × (filter (is_waiter u) (s.queue n) ≡ (u, m) ∷ []) × (not (f (u, m)) ≡ true)
+  pub lost_waits : (u : ℕ) → is_lost s n f u ≡ true → (m : Mode) × (status_of s u ≡ Some (Waiting n m)) × (filter (is_waiter u) (s.queue n) ≡ (u, m) ∷ [])
+      × (not (f (u, m)) ≡ true)
   lost_waits u h =
       let wait = waits_there s o u n (any_left (is_waiter u) (λ w. not (f w)) (s.queue n) h) in
       let one = (o.one_wait u n wait.0 wait.1).0 in
@@ -140,20 +121,25 @@ module _ (s : State) (o : IsOrderly s) (n : NodeId) (f : Waiter → Bool) where
         ap (λ b. if b then restatus Active (before.txns t) else before.txns u) e
         ∙ ap (λ b. restatus Active (if b then s.txns t else freed n (s.txns t))) stands ∙ sym (freed_here n w.0 (s.txns t) w.1)
         ∙ sym (ap (λ b. if b then s.txns t else freed n (s.txns t)) out) ∙ ap after.txns (sym (same_number u t e)))
-        (λ e. ap (λ b. if b then restatus Active (before.txns t) else before.txns u) e ∙ ap (λ b. if b then s.txns u else freed n (s.txns u)) (sym (others u e)))
+        (λ e. ap (λ b. if b then restatus Active (before.txns t) else before.txns u) e
+        ∙ ap (λ b. if b then s.txns u else freed n (s.txns u)) (sym (others u e)))
 
     -- the lists, where the slot held nothing there and the node is taken out of its list
     module _ (bare : s.held t n ≡ NL) (ls ls' : List LockList) (strikes : Strikes ls ls' t n []) where
-      left_among : (u : ℕ) (q : NodeId) → is_among_waiters u (after.queue q) ≡ (if (u == t) && same_node q n then false else is_among_waiters u (before.queue q))
+      left_among : (u : ℕ) (q : NodeId) → is_among_waiters u (after.queue q)
+          ≡ (if (u == t) && same_node q n then false else is_among_waiters u (before.queue q))
       left_among u q = split (same_node q n)
           (λ e.
           let here : (r0 : Waiter → Bool) → (thinned s n r0).queue q ≡ filter r0 (s.queue n) =
           λ r0. ap (λ b. if b then filter r0 (s.queue q) else s.queue q) e ∙ ap (λ x. filter r0 (s.queue x)) (same_node-equal q n e) in
           ap (is_among_waiters u) (here r')
           ∙ split (u == t)
-          (λ k. ap (λ v. is_among_waiters v (filter r' (s.queue n))) (same_number u t k) ∙ out ∙ sym (ap₂ (λ a b. if a && b then false else is_among_waiters u (before.queue q)) k e))
-          (λ k. others u k ∙ ap (is_among_waiters u) (sym (here r)) ∙ sym (ap (λ a. if a && same_node q n then false else is_among_waiters u (before.queue q)) k)))
-          (λ e. ap (λ b. is_among_waiters u (if b then filter r' (s.queue q) else s.queue q)) e ∙ sym (ap (λ b. is_among_waiters u (if b then filter r (s.queue q) else s.queue q)) e)
+          (λ k. ap (λ v. is_among_waiters v (filter r' (s.queue n))) (same_number u t k) ∙ out
+          ∙ sym (ap₂ (λ a b. if a && b then false else is_among_waiters u (before.queue q)) k e))
+          (λ k. others u k ∙ ap (is_among_waiters u) (sym (here r))
+          ∙ sym (ap (λ a. if a && same_node q n then false else is_among_waiters u (before.queue q)) k)))
+          (λ e. ap (λ b. is_among_waiters u (if b then filter r' (s.queue q) else s.queue q)) e
+          ∙ sym (ap (λ b. is_among_waiters u (if b then filter r (s.queue q) else s.queue q)) e)
           ∙ by (u == t) (same_node q n) e)
         where
           by : (a b : Bool) → b ≡ false → is_among_waiters u (before.queue q) ≡ (if a && b then false else is_among_waiters u (before.queue q))
@@ -175,12 +161,14 @@ module _ (s : State) (o : IsOrderly s) (n : NodeId) (f : Waiter → Bool) where
             ∙ pulled ((u == t) && same_node q n) (s.held u q) (is_among_waiters u (before.queue q))
             ∙ ap₂ (λ m b. not (same_mode m NL) || b) (held_struck u q) (sym (left_among u q));
         room = λ h. split (u == t)
-            (λ e. clash h (ap (λ x. is_wait (status_in x)) (sym (one_txn u)) ∙ ap (λ b. is_wait (status_in (if b then restatus Active (before.txns t) else before.txns u))) e ∙ at_rest (before.txns t)))
+            (λ e. clash h (ap (λ x. is_wait (status_in x)) (sym (one_txn u))
+            ∙ ap (λ b. is_wait (status_in (if b then restatus Active (before.txns t) else before.txns u))) e ∙ at_rest (before.txns t)))
             (λ e. subst (λ (k : ℕ). 9 ≤ k) (sym (strikes.rooms u e))
             (agree.room (ap (λ x. is_wait (status_in x)) (sym (ap (λ b. if b then restatus Active (before.txns t) else before.txns u) e) ∙ one_txn u) ∙ h)));
       }
         where
-          pulled : (b : Bool) (m : Mode) (k : Bool) → (if b then false else (not (same_mode m NL) || k)) ≡ (not (same_mode (if b then NL else m) NL) || (if b then false else k))
+          pulled : (b : Bool) (m : Mode) (k : Bool) → (if b then false else (not (same_mode m NL) || k))
+              ≡ (not (same_mode (if b then NL else m) NL) || (if b then false else k))
           pulled true m k = refl
           pulled false m k = refl
 
@@ -197,7 +185,8 @@ pub record IsTurning (s now : State) (n : NodeId) (f : Waiter → Bool) (pending
   pub by_slot : IsBySlot told'
   pub notices : (u : ℕ) → notices_in told' u ≡ (if is_lost s n f u && not (pending u) then moved_notice s u else notices_in told u)
 
-pub turning_begins : (s : State) → IsOrderly s → (n : NodeId) (f : Waiter → Bool) (pending : ℕ → Bool) (ls : List LockList) (told : Told) → ((u : ℕ) → Agrees s ls u) → IsBySlot told
+pub turning_begins : (s : State) → IsOrderly s → (n : NodeId) (f : Waiter → Bool) (pending : ℕ → Bool) (ls : List LockList) (told : Told)
+    → ((u : ℕ) → Agrees s ls u) → IsBySlot told
     → ((u : ℕ) → pending u ≡ is_lost s n f u) → IsTurning s s n f pending ls ls told told
 turning_begins s o n f pending ls told agree by_slot all = record {
   state = sym (thinned_none s o n f pending (λ u h. all u ∙ h));
@@ -222,7 +211,8 @@ module _ (s : State) (o : IsOrderly s) (n : NodeId) (f : Waiter → Bool) (bare 
   turning_ends none = is.state ∙ ap (thinned s n) (fun_ext (λ w. ap (λ b. f w || b) (none w.0) ∙ or-false (f w)))
 
   pub told_at_end : ((u : ℕ) → pending u ≡ false) → (u : ℕ) → notices_in mid_told u ≡ (if is_lost s n f u then moved_notice s u else notices_in told u)
-  told_at_end none u = is.notices u ∙ ap (λ b. if is_lost s n f u && not b then moved_notice s u else notices_in told u) (none u) ∙ ap (λ b. if b then moved_notice s u else notices_in told u) (and-true (is_lost s n f u))
+  told_at_end none u = is.notices u ∙ ap (λ b. if is_lost s n f u && not b then moved_notice s u else notices_in told u) (none u)
+      ∙ ap (λ b. if b then moved_notice s u else notices_in told u) (and-true (is_lost s n f u))
 
   -- a pending slot
   module _ (t : ℕ) (member : pending t ≡ true) where
@@ -242,19 +232,23 @@ module _ (s : State) (o : IsOrderly s) (n : NodeId) (f : Waiter → Bool) (bare 
     at_node = ap (λ b. if b then filter standing (s.queue n) else s.queue n) (same_node-refl n)
 
     pub turned_waits : is_among_waiters t (now.queue n) ≡ true
-    turned_waits = ap (λ (x : State). is_among_waiters t (x.queue n)) is.state ∙ ap (is_among_waiters t) at_node ∙ stands s o n f pending (λ x. pending x && not (x == t)) t lost member (λ x. refl)
+    turned_waits = ap (λ (x : State). is_among_waiters t (x.queue n)) is.state ∙ ap (is_among_waiters t) at_node
+        ∙ stands s o n f pending (λ x. pending x && not (x == t)) t lost member (λ x. refl)
 
-    pub turned_front : (most : ℕ) → list_all (λ w. not (fits most (members s n) w.0 w.1)) (s.queue n) ≡ true → front most (members now n) (without_waiter t (now.queue n)) ≡ []
+    pub turned_front : (most : ℕ) → list_all (λ w. not (fits most (members s n) w.0 w.1)) (s.queue n) ≡ true
+        → front most (members now n) (without_waiter t (now.queue n)) ≡ []
     turned_front most stuck =
         ap (λ (x : State). front most (members x n) (without_waiter t (x.queue n))) is.state
         ∙ ap (λ q. front most (members s n) (without_waiter t q)) at_node
         ∙ stuck_front most (members s n) (without_waiter t (filter standing (s.queue n)))
-        (all_filtered (λ w. not (fits most (members s n) w.0 w.1)) (λ w. not (is_waiter t w)) (filter standing (s.queue n)) (all_filtered (λ w. not (fits most (members s n) w.0 w.1)) standing (s.queue n) stuck))
+        (all_filtered (λ w. not (fits most (members s n) w.0 w.1)) (λ w. not (is_waiter t w)) (filter standing (s.queue n))
+        (all_filtered (λ w. not (fits most (members s n) w.0 w.1)) standing (s.queue n) stuck))
 
     pub turned_room : 9 ≤ room_by mid t
     turned_room = (is.agree t).room
         (ap (λ (x : State). is_wait (status_of x t)) is.state
-        ∙ ap (λ b. is_wait (status_in (if b then s.txns t else freed n (s.txns t)))) (stands s o n f pending (λ x. pending x && not (x == t)) t lost member (λ x. refl))
+        ∙ ap (λ b. is_wait (status_in (if b then s.txns t else freed n (s.txns t))))
+        (stands s o n f pending (λ x. pending x && not (x == t)) t lost member (λ x. refl))
         ∙ ap is_wait (lost_waits s o n f t lost).1)
 
     pub turned_untold : ((u : ℕ) → is_among_waiters u (s.queue n) ≡ true → notices_in told u ≡ None) → notices_in mid_told t ≡ None
@@ -262,21 +256,26 @@ module _ (s : State) (o : IsOrderly s) (n : NodeId) (f : Waiter → Bool) (bare 
 
     -- its wait ends
     pub turning_one : (next : State) (pending' : ℕ → Bool) (ls' : List LockList) (told' : Told) → ((x : ℕ) → pending' x ≡ (pending x && not (x == t)))
-        → next ≡ record now { queue = with_waiters now.queue n (without_waiter t (now.queue n)); txns = λ u. if u == t then restatus Active (now.txns t) else now.txns u }
-        → Strikes mid ls' t n [] → IsBySlot told' → ((u : ℕ) → notices_in told' u ≡ (if u == t then Some (record { slot = t; age = age_in (now.txns t) }, notice.Moved) else notices_in mid_told u))
+        → next ≡ record now { queue = with_waiters now.queue n (without_waiter t (now.queue n));
+        txns = λ u. if u == t then restatus Active (now.txns t) else now.txns u }
+        → Strikes mid ls' t n [] → IsBySlot told' → ((u : ℕ)
+        → notices_in told' u ≡ (if u == t then Some (record { slot = t; age = age_in (now.txns t) }, notice.Moved) else notices_in mid_told u))
         → IsTurning s next n f pending' ls ls' told told'
     turning_one next pending' ls' told' less changed strikes by_slot tells = record {
       state = state;
       lost = λ u h. is.lost u (first (pending u) (not (u == t)) (sym (less u) ∙ h));
-      agree = λ u. subst (λ x. Agrees x ls' u) (sym state) (one_agrees s o n f pending pending' t lost member less (bare t stood) mid ls' strikes u (subst (λ x. Agrees x mid u) is.state (is.agree u)));
+      agree = λ u. subst (λ x. Agrees x ls' u) (sym state)
+          (one_agrees s o n f pending pending' t lost member less (bare t stood) mid ls' strikes u (subst (λ x. Agrees x mid u) is.state (is.agree u)));
       counts = λ u q. no_more (counted_by ls' u q) (u == t) ∙ strikes.counts u q ∙ is.counts u q;
       by_slot = by_slot;
       notices = λ u. tells u ∙ noticed u;
     }
       where
         state : next ≡ thinned s n (λ w. f w || pending' w.0)
-        state = changed ∙ ap (λ (x : State). record x { queue = with_waiters x.queue n (without_waiter t (x.queue n)); txns = λ u. if u == t then restatus Active (x.txns t) else x.txns u }) is.state
-            ∙ (λ i. record s { queue = one_queue s o n f pending pending' t lost member less i; txns = λ u. one_txn s o n f pending pending' t lost member less u i })
+        state = changed ∙ ap (λ (x : State). record x { queue = with_waiters x.queue n (without_waiter t (x.queue n));
+            txns = λ u. if u == t then restatus Active (x.txns t) else x.txns u }) is.state
+            ∙ (λ i. record s { queue = one_queue s o n f pending pending' t lost member less i;
+            txns = λ u. one_txn s o n f pending pending' t lost member less u i })
 
         first : (a b : Bool) → (a && b) ≡ true → a ≡ true
         first true b h = refl
@@ -287,7 +286,8 @@ module _ (s : State) (o : IsOrderly s) (n : NodeId) (f : Waiter → Bool) (bare 
         no_more k false = omega arith
 
         same_txn : now.txns t ≡ s.txns t
-        same_txn = ap (λ (x : State). x.txns t) is.state ∙ ap (λ b. if b then s.txns t else freed n (s.txns t)) (stands s o n f pending pending' t lost member less)
+        same_txn = ap (λ (x : State). x.txns t) is.state ∙ ap (λ b. if b then s.txns t else freed n (s.txns t))
+            (stands s o n f pending pending' t lost member less)
 
         noticed : (u : ℕ) → (if u == t then Some (record { slot = t; age = age_in (now.txns t) }, notice.Moved) else notices_in mid_told u)
             ≡ (if is_lost s n f u && not (pending' u) then moved_notice s u else notices_in told u)
@@ -295,6 +295,8 @@ module _ (s : State) (o : IsOrderly s) (n : NodeId) (f : Waiter → Bool) (bare 
             (λ e. let at = same_number u t e in
             ap (λ b. if b then Some (record { slot = t; age = age_in (now.txns t) }, notice.Moved) else notices_in mid_told u) e
             ∙ ap (λ x. Some (record { slot = t; age = age_in x }, notice.Moved)) same_txn ∙ ap (moved_notice s) (sym at)
-            ∙ sym (ap₂ (λ a b. if a && not b then moved_notice s u else notices_in told u) (ap (is_lost s n f) at ∙ lost) (less u ∙ ap (λ b. pending u && not b) e ∙ and-false (pending u))))
+            ∙ sym (ap₂ (λ a b. if a && not b then moved_notice s u else notices_in told u) (ap (is_lost s n f) at ∙ lost)
+            (less u ∙ ap (λ b. pending u && not b) e ∙ and-false (pending u))))
             (λ e. ap (λ b. if b then Some (record { slot = t; age = age_in (now.txns t) }, notice.Moved) else notices_in mid_told u) e ∙ is.notices u
-            ∙ ap (λ b. if is_lost s n f u && not b then moved_notice s u else notices_in told u) (sym (less u ∙ ap (λ b. pending u && not b) e ∙ and-true (pending u))))
+            ∙ ap (λ b. if is_lost s n f u && not b then moved_notice s u else notices_in told u)
+            (sym (less u ∙ ap (λ b. pending u && not b) e ∙ and-true (pending u))))

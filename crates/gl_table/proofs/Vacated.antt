@@ -1,41 +1,12 @@
 -- A record goes with its locks: the lists agree with what is left.
-use Rattle.std.specs.Prelude.{◌≡◌, ℕ, ◌+◌, ◌≤◌, ◌<◌, Bool, true, false, not, ◌&&◌, ◌||◌, ◌==◌, List, [], length, Option, Some, None, cond, if◌then◌else◌}
-use Rattle.std.specs.List.{count_by, list_any}
-use Rattle.std.proofs.Common.{refl, sym, ap, ap₂, ◌∙◌, subst, arith}
-use Rattle.std.proofs.Math.Bool.{and-false}
-use Rattle.std.proofs.Math.Path.{fun_ext}
-use Rattle.gl_modes.specs.declared.mode.Mode.{Mode}
-use Rattle.gl_modes.specs.declared.mode.Mode.TheVariants.{NL}
-use Rattle.gl_modes.specs.declared.node.NodeId.{NodeId}
-use Rattle.gl_modes.specs.Modes.{same_mode}
-use Rattle.gl_modes.specs.Nodes.{same_node}
-use Rattle.gl_modes.proofs.NodeLemmas.{same_node-equal, same_node-refl}
-use Rattle.gl_graph.specs.Changes.{without_node}
-use Rattle.gl_graph.specs.Graph.{Graph, is_child, is_live, node_at, nodes, parents_in, parents_of, shape_of}
-use Rattle.gl_graph.specs.Lawful.{IsLawfulGraph}
-use Rattle.gl_graph.specs.Shapes.{is_record_shape}
-use Rattle.gl_graph.proofs.Counts.{count_none, count_same, nodes_live}
-use Rattle.gl_graph.proofs.KindRules.{parent_plain, rec_not_plain}
-use Rattle.gl_graph.proofs.Left.{count_there}
-use Rattle.gl_graph.proofs.Look.{live_node, number_same, same_number, split}
-use Rattle.gl_graph.proofs.Removed.{rec_live, was_there}
-use Rattle.gl_header.specs.Header.{holds, is_among_waiters}
-use Rattle.gl_header.proofs.Ranges.{not_true}
-use Rattle.gl_table.specs.declared.list.LockList.{LockList}
-use Rattle.gl_table.specs.declared.seat.Seat.{Seat}
-use Rattle.gl_table.specs.declared.txn.Status.{Status}
-use Rattle.gl_table.specs.declared.txn.Status.TheVariants.{Active, Waiting, Condemned}
-use Rattle.gl_table.specs.Calls.{deleted, freed, none_but}
-use Rattle.gl_table.specs.Covered.{held_children}
-use Rattle.gl_table.specs.Frees.{CanFree, FreesLists}
-use Rattle.gl_table.specs.Locks.{Agrees, CountsHeld, IsOrderly}
-use Rattle.gl_table.specs.Pumps.{is_waiting_at, waits_at}
-use Rattle.gl_table.specs.Slots.{CanStrike, Strikes, counted_by, held_by, listed_by}
-use Rattle.gl_table.specs.State.{State, Txn, members, restatus, status_in, status_of}
-use Rattle.gl_table.specs.Steps.{children_that}
-use Rattle.gl_table.specs.Telling.{IsBySlot, notices_in}
-use Rattle.gl_table.specs.Tellings.{Told}
-use Rattle.gl_table.specs.Waiting.{is_wait}
+use Rattle.gl_table.proofs.Words.{[], ◌&&◌, ◌+◌, ◌<◌, ◌==◌, ◌||◌, ◌∙◌, ◌≡◌, ◌≤◌, Active, Agrees, and-false, ap, ap₂, arith, Bool, CanFree, CanStrike}
+use Rattle.gl_table.proofs.Words.{children_that, cond, Condemned, count_by, count_none, count_same, count_there, counted_by, CountsHeld, deleted, false, freed}
+use Rattle.gl_table.proofs.Words.{FreesLists, fun_ext, Graph, held_by, held_children, holds, if◌then◌else◌, is_among_waiters, is_child, is_live}
+use Rattle.gl_table.proofs.Words.{is_record_shape, is_wait, is_waiting_at, IsBySlot, IsLawfulGraph, IsOrderly, length, List, list_any, listed_by, live_node}
+use Rattle.gl_table.proofs.Words.{LockList, members, Mode, NL, node_at, NodeId, nodes, nodes_live, None, none_but, not, not_true, notices_in, number_same}
+use Rattle.gl_table.proofs.Words.{Option, parent_plain, parents_in, parents_of, rec_live, rec_not_plain, refl, restatus, same_mode, same_node, same_node-equal}
+use Rattle.gl_table.proofs.Words.{same_node-refl, same_number, Seat, shape_of, Some, split, State, Status, status_in, status_of, Strikes, subst, sym, Told}
+use Rattle.gl_table.proofs.Words.{true, Txn, Waiting, waits_at, was_there, without_node, ℕ}
 use Rattle.gl_table.proofs.Children.{children_down}
 use Rattle.gl_table.proofs.OneWaits.{distinct_once, stands_there, waiters_below, waits_there}
 use Rattle.gl_table.proofs.Orderly.{stands_other}
@@ -49,14 +20,18 @@ record-childless g law r rec f = count_none (is_live g) (λ c. is_child g r c &&
     (λ c live. ap (λ b. b && f c) (not_true (is_child g r c) (λ h. rec_not_plain (shape_of g r) rec (parent_plain g law c r h))))
 
 -- where the record that goes does not pass the test, as many children of a node pass it as did
-pub children-left : (g : Graph) (law : IsLawfulGraph g) (r : NodeId) → is_record_shape (shape_of g r) ≡ true → (f : NodeId → Bool) → f r ≡ false → (p : NodeId) → children_that (without_node g r) f p ≡ children_that g f p
+pub children-left : (g : Graph) (law : IsLawfulGraph g) (r : NodeId) → is_record_shape (shape_of g r) ≡ true → (f : NodeId → Bool) → f r ≡ false → (p : NodeId)
+    → children_that (without_node g r) f p ≡ children_that g f p
 children-left g law r rec f none p =
     let same : children_that (without_node g r) f p ≡ count_by (λ c. is_child g p c && f c) (nodes (without_node g r))
-    = count_same (is_live (without_node g r)) (λ c. is_child g p c && f c) (λ c. is_child (without_node g r) p c && f c) (nodes (without_node g r)) (nodes_live (without_node g r))
-    (λ c h. let n = live_node (node_at (without_node g r) c) h in ap (λ o. list_any (same_node p) (parents_in o) && f c) (n.1 ∙ sym (was_there g law r rec c n.0 n.1))) in
+    = count_same (is_live (without_node g r)) (λ c. is_child g p c && f c) (λ c. is_child (without_node g r) p c && f c) (nodes (without_node g r))
+    (nodes_live (without_node g r))
+    (λ c h. let n = live_node (node_at (without_node g r) c) h in
+    ap (λ o. list_any (same_node p) (parents_in o) && f c) (n.1 ∙ sym (was_there g law r rec c n.0 n.1))) in
     let all : children_that g f p ≡ count_by (λ c. is_child g p c && f c) (nodes (without_node g r)) + 0
     = count_there g law r (rec_live g law r rec) (λ c. is_child g p c && f c)
-    ∙ ap (λ b. count_by (λ c. is_child g p c && f c) (nodes (without_node g r)) + cond b 1 0) (ap (λ b. is_child g p r && b) none ∙ and-false (is_child g p r)) in
+    ∙ ap (λ b. count_by (λ c. is_child g p c && f c) (nodes (without_node g r)) + cond b 1 0) (ap (λ b. is_child g p r && b) none
+    ∙ and-false (is_child g p r)) in
     omega arith
 
 -- who waits at the node is active, and all others are as they were
@@ -76,7 +51,8 @@ freed_other r (Some x) h = by x.status refl h
     by : (st : Status) → x.status ≡ st → waits_at (Some st) r ≡ false → Some (record { age = x.age; status = none_but x.status r }) ≡ Some x
     by Active e k = ap (λ y. Some (record { age = x.age; status = none_but y r })) e ∙ ap (λ y. Some (record { age = x.age; status = y })) (sym e)
     by Condemned e k = ap (λ y. Some (record { age = x.age; status = none_but y r })) e ∙ ap (λ y. Some (record { age = x.age; status = y })) (sym e)
-    by (Waiting q m) e k = ap (λ y. Some (record { age = x.age; status = none_but y r })) e ∙ ap (λ b. Some (record { age = x.age; status = if b then Active else Waiting q m })) k
+    by (Waiting q m) e k = ap (λ y. Some (record { age = x.age; status = none_but y r })) e
+        ∙ ap (λ b. Some (record { age = x.age; status = if b then Active else Waiting q m })) k
         ∙ ap (λ y. Some (record { age = x.age; status = y })) (sym e)
 
 -- the slot alone holds the record, and the lists say what the state says
@@ -103,7 +79,8 @@ module _ (s : State) (t : ℕ) (r : NodeId) (ls : List LockList) (may : MayVacat
 
   -- each parent has one child less that the slot holds
   less : (p : NodeId) → held_children after t p + count_by (same_node p) (parents_of s.graph r) ≡ held_children s t p
-  less p = ap (λ (k : ℕ). k + count_by (same_node p) (parents_of s.graph r)) (children-left s.graph may.law r may.rec (λ c. holds (members after c) t) (gone t) p)
+  less p = ap (λ (k : ℕ). k + count_by (same_node p) (parents_of s.graph r))
+      (children-left s.graph may.law r may.rec (λ c. holds (members after c) t) (gone t) p)
       ∙ children_down s.graph may.law (λ c. holds (members s c) t) (λ c. holds (members after c) t) r (rec_live s.graph may.law r may.rec) may.holding (gone t)
       (λ q e. ap (λ m. not (same_mode m NL)) (held_other t q e)) p
 
@@ -124,7 +101,8 @@ module _ (s : State) (t : ℕ) (r : NodeId) (ls : List LockList) (may : MayVacat
   pub txns_freed : (u : ℕ) → (if is_among_waiters u (s.queue r) then restatus Active (s.txns u) else s.txns u) ≡ freed r (s.txns u)
   txns_freed u = split (is_among_waiters u (s.queue r))
       (λ e. ap (λ b. if b then restatus Active (s.txns u) else s.txns u) e ∙ sym (freed_here r (s.txns u) (may.orderly.waits_are u r e)))
-      (λ e. ap (λ b. if b then restatus Active (s.txns u) else s.txns u) e ∙ sym (freed_other r (s.txns u) (not_true (is_waiting_at s u r) (λ w. clash (stands_there s may.orderly u r w) e))))
+      (λ e. ap (λ b. if b then restatus Active (s.txns u) else s.txns u) e
+      ∙ sym (freed_other r (s.txns u) (not_true (is_waiting_at s u r) (λ w. clash (stands_there s may.orderly u r w) e))))
 
   waiter_other : (u : ℕ) → is_among_waiters u (s.queue r) ≡ true → (u == t) ≡ false
   waiter_other u h = stands_other s may.orderly t (ap is_wait may.active) u r h
@@ -139,7 +117,8 @@ module _ (s : State) (t : ℕ) (r : NodeId) (ls : List LockList) (may : MayVacat
       by_slot = by_slot;
       distinct = distinct_once (s.queue r) (λ u h. let w = waits_there s may.orderly u r h in ((u, w.0), (may.orderly.one_wait u r w.0 w.1).0));
       below = λ u h. subst (λ (k : ℕ). u < k) (sym most) (waiters_below s may.orderly r u h);
-      childless = λ u h. no_more (counted_by mid u r) ∙ ap (λ b. counted_by mid u r + (if b then count_by (same_node r) (parents_of s.graph r) else 0)) (sym (waiter_other u h)) ∙ struck.counts u r
+      childless = λ u h. no_more (counted_by mid u r) ∙ ap (λ b. counted_by mid u r + (if b then count_by (same_node r) (parents_of s.graph r) else 0))
+          (sym (waiter_other u h)) ∙ struck.counts u r
           ∙ may.count u r ∙ record-childless s.graph may.law r may.rec (λ c. holds (members s c) u);
       untold = untold;
     }
@@ -164,9 +143,11 @@ module _ (s : State) (t : ℕ) (r : NodeId) (ls : List LockList) (may : MayVacat
 
       listed_left : (u : ℕ) (q : NodeId) → listed_by ls' u q ≡ (holds (members after q) u || is_among_waiters u (after.queue q))
       listed_left u q = frees.listed u q ∙ ap (λ m. if is_among_waiters u (s.queue r) && same_node q r then false else m) (struck.listed u q)
-          ∙ ap (λ m. if is_among_waiters u (s.queue r) && same_node q r then false else (if (u == t) && same_node q r then false else m)) ((may.agree u).listed q)
+          ∙ ap (λ m. if is_among_waiters u (s.queue r) && same_node q r then false else (if (u == t) && same_node q r then false else m))
+          ((may.agree u).listed q)
           ∙ by (is_among_waiters u (s.queue r)) (u == t) (same_node q r)
-          (λ e k. ap (λ m. not (same_mode m NL)) (ap (s.held u) (same_node-equal q r k) ∙ may.alone u e)) (λ k. ap (λ x. is_among_waiters u (s.queue x)) (same_node-equal q r k))
+          (λ e k. ap (λ m. not (same_mode m NL)) (ap (s.held u) (same_node-equal q r k) ∙ may.alone u e))
+          (λ k. ap (λ x. is_among_waiters u (s.queue x)) (same_node-equal q r k))
         where
           by : (a b k : Bool) → (b ≡ false → k ≡ true → holds (members s q) u ≡ false) → (k ≡ true → is_among_waiters u (s.queue q) ≡ a)
               → (if a && k then false else (if b && k then false else (holds (members s q) u || is_among_waiters u (s.queue q))))
@@ -193,13 +174,15 @@ module _ (s : State) (t : ℕ) (r : NodeId) (ls : List LockList) (may : MayVacat
 
       own_counts : (p : NodeId) → counted_by mid t p ≡ held_children after t p
       own_counts p =
-          let now = sym (ap (λ b. counted_by mid t p + (if b then count_by (same_node p) (parents_of s.graph r) else 0)) (number_same t t refl)) ∙ struck.counts t p ∙ may.count t p in
+          let now = sym (ap (λ b. counted_by mid t p + (if b then count_by (same_node p) (parents_of s.graph r) else 0)) (number_same t t refl))
+          ∙ struck.counts t p ∙ may.count t p in
           let l = less p in
           omega arith
 
       other_counts : (u : ℕ) → (u == t) ≡ false → (p : NodeId) → counted_by mid u p ≡ held_children after u p
       other_counts u e p =
-          let now = sym (ap (λ b. counted_by mid u p + (if b then count_by (same_node p) (parents_of s.graph r) else 0)) e) ∙ struck.counts u p ∙ may.count u p in
+          let now = sym (ap (λ b. counted_by mid u p + (if b then count_by (same_node p) (parents_of s.graph r) else 0)) e) ∙ struck.counts u p
+          ∙ may.count u p in
           let same = others u e p in
           omega arith
 

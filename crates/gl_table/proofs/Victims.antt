@@ -1,13 +1,6 @@
 -- The victim: what is read from the locks is what their state says.
-use Rattle.std.specs.Prelude.{◌≡◌, ℕ, Bool, true, List}
-use Rattle.std.proofs.Common.{ap, subst, [], ◌∷◌}
-use Rattle.std.proofs.Math.Path.{fun_ext}
-use Rattle.gl_waits.specs.declared.victims.Victims.{Victims}
-use Rattle.gl_waits.specs.Victims.{IsCandidate}
-use Rattle.gl_waits.specs.Waits.{IsLowestYoungest, IsOnCycleOf, IsWalk, IsYoungest, Reaches}
-use Rattle.gl_waits.proofs.VictimLemmas.{candidate-on_cycle}
-use Rattle.gl_table.specs.State.{State, age_of, status_of}
-use Rattle.gl_table.specs.Waiting.{IsVictim, is_wait, waits_for}
+use Rattle.gl_table.proofs.Words.{[], ◌∷◌, ◌≡◌, age_of, ap, Bool, candidate-on_cycle, fun_ext, is_wait, IsCandidate, IsLowestYoungest, IsOnCycleOf, IsVictim}
+use Rattle.gl_table.proofs.Words.{IsWalk, IsYoungest, List, Reaches, State, status_of, subst, true, Victims, waits_for, ℕ}
 use Rattle.gl_table.proofs.Edges.{step_is}
 
 -- who reaches a slot has a step
@@ -23,7 +16,8 @@ pub cycle_waits : (s : State) (t v : ℕ) → IsOnCycleOf (waits_for s) t v → 
 cycle_waits s t v on = let step = first_step (waits_for s) v t on.back in ap is_wait (step_is s v step.0 step.1).2.waits
 
 -- a victim by ages that are those of the state
-pub victim_by_ages : (c : Victims) (s : State) (t v : ℕ) (age : ℕ → ℕ) → ((u : ℕ) → age u ≡ age_of s u) → IsLowestYoungest (IsCandidate c (waits_for s) t) age v → IsVictim c s t v
+pub victim_by_ages : (c : Victims) (s : State) (t v : ℕ) (age : ℕ → ℕ) → ((u : ℕ) → age u ≡ age_of s u) → IsLowestYoungest (IsCandidate c (waits_for s) t) age v
+    → IsVictim c s t v
 victim_by_ages c s t v age ages best = subst (λ (f : ℕ → ℕ). IsYoungest (IsCandidate c (waits_for s) t) f v) (fun_ext ages) best.youngest
 
 -- and it waits

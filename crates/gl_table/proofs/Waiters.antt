@@ -1,14 +1,7 @@
 -- One slot's waits in a queue, and what granting from a front gives it.
-use Rattle.std.specs.Prelude.{◌≡◌, ◌≢◌, ◌⊎◌, ℕ, Bool, true, false, not, ◌||◌, ◌==◌, List, [], ◌∷◌, ◌++◌, if◌then◌else◌}
-use Rattle.std.specs.List.{filter}
-use Rattle.std.proofs.Common.{refl, sym, ap, ap₂, ◌∙◌, arith, inl, inr}
-use Rattle.std.proofs.lemmas.List.Elements.{filter-append}
-use Rattle.std.proofs.lemmas.List.{append-nil}
-use Rattle.std.proofs.lemmas.Bool.Decides.{nat_tests}
-use mathlib.Core.Bool.{true≢false}
-use Rattle.gl_modes.specs.declared.mode.Mode.{Mode}
-use Rattle.gl_header.specs.Header.{Members, Waiter, with_mode, after_grants, is_waiter, is_among_waiters, without_waiter, placed, holds}
-use Rattle.gl_graph.proofs.Look.{split}
+use Rattle.gl_table.proofs.Words.{[], ◌++◌, ◌==◌, ◌||◌, ◌∙◌, ◌∷◌, ◌≡◌, ◌≢◌, ◌⊎◌, after_grants, ap, append-nil, ap₂, arith, Bool, false, filter, filter-append}
+use Rattle.gl_table.proofs.Words.{holds, if◌then◌else◌, inl, inr, is_among_waiters, is_waiter, List, Members, Mode, nat_tests, not, placed, refl, split, sym}
+use Rattle.gl_table.proofs.Words.{true, true≢false, Waiter, with_mode, without_waiter, ℕ}
 
 pub both_empty : (xs ys : List Waiter) → xs ++ ys ≡ [] → (xs ≡ []) × (ys ≡ [])
 both_empty [] ys e = (refl, e)
@@ -99,7 +92,8 @@ pub gone_waits : (t : ℕ) (p : Waiter → Bool) (q : List Waiter) → ((w : Wai
 gone_waits t p [] none = refl
 gone_waits t p (w ∷ q) none = by (p w) (is_waiter t w) refl (none w) (gone_waits t p q none)
   where
-    by : (a b : Bool) → is_waiter t w ≡ b → (is_waiter t w ≡ true → a ≡ false) → waits_of t (filter p q) ≡ [] → waits_of t (if a then w ∷ filter p q else filter p q) ≡ []
+    by : (a b : Bool) → is_waiter t w ≡ b → (is_waiter t w ≡ true → a ≡ false) → waits_of t (filter p q) ≡ []
+        → waits_of t (if a then w ∷ filter p q else filter p q) ≡ []
     by true true here f e = absurd (true≢false (f here))
     by true false here f e = ap (λ b. if b then w ∷ waits_of t (filter p q) else waits_of t (filter p q)) here ∙ e
     by false b here f e = e
@@ -121,13 +115,18 @@ without_self t q = gone_waits t (λ w. not (is_waiter t w)) q (λ w h. ap not h)
 pub placed_other : (g : Members) (u t : ℕ) (q : List Waiter) (m : Mode) → u ≢ t → waits_of t (placed g q u m) ≡ waits_of t q
 placed_other g u t q m ne =
     split (holds g u)
-    (λ e. ap (λ b. waits_of t (if b then filter (λ w. holds g w.0) q ++ (u, m) ∷ filter (λ w. not (holds g w.0)) q else q ++ (u, m) ∷ [])) e ∙ within (filter (λ w. holds g w.0) q) (filter (λ w. not (holds g w.0)) q)
+    (λ e. ap (λ b. waits_of t (if b then filter (λ w. holds g w.0) q ++ (u, m) ∷ filter (λ w. not (holds g w.0)) q else q ++ (u, m) ∷ [])) e
+    ∙ within (filter (λ w. holds g w.0) q) (filter (λ w. not (holds g w.0)) q)
     ∙ split (holds g t)
-    (λ h. ap₂ (λ xs ys. xs ++ ys) (kept_waits t (λ w. holds g w.0) q (λ w i. ap (holds g) (slot_of t w i) ∙ h)) (gone_waits t (λ w. not (holds g w.0)) q (λ w i. ap (λ v. not (holds g v)) (slot_of t w i) ∙ ap not h)) ∙ append-nil (waits_of t q))
-    (λ h. ap₂ (λ xs ys. xs ++ ys) (gone_waits t (λ w. holds g w.0) q (λ w i. ap (holds g) (slot_of t w i) ∙ h)) (kept_waits t (λ w. not (holds g w.0)) q (λ w i. ap (λ v. not (holds g v)) (slot_of t w i) ∙ ap not h))))
-    (λ e. ap (λ b. waits_of t (if b then filter (λ w. holds g w.0) q ++ (u, m) ∷ filter (λ w. not (holds g w.0)) q else q ++ (u, m) ∷ [])) e ∙ within q [] ∙ append-nil (waits_of t q))
+    (λ h. ap₂ (λ xs ys. xs ++ ys) (kept_waits t (λ w. holds g w.0) q (λ w i. ap (holds g) (slot_of t w i) ∙ h))
+    (gone_waits t (λ w. not (holds g w.0)) q (λ w i. ap (λ v. not (holds g v)) (slot_of t w i) ∙ ap not h)) ∙ append-nil (waits_of t q))
+    (λ h. ap₂ (λ xs ys. xs ++ ys) (gone_waits t (λ w. holds g w.0) q (λ w i. ap (holds g) (slot_of t w i) ∙ h))
+    (kept_waits t (λ w. not (holds g w.0)) q (λ w i. ap (λ v. not (holds g v)) (slot_of t w i) ∙ ap not h))))
+    (λ e. ap (λ b. waits_of t (if b then filter (λ w. holds g w.0) q ++ (u, m) ∷ filter (λ w. not (holds g w.0)) q else q ++ (u, m) ∷ [])) e ∙ within q []
+    ∙ append-nil (waits_of t q))
   where
     within : (xs ys : List Waiter) → waits_of t (xs ++ (u, m) ∷ ys) ≡ waits_of t xs ++ waits_of t ys
     within xs ys =
         filter-append (is_waiter t) xs ((u, m) ∷ ys)
-        ∙ ap (λ b. waits_of t xs ++ (if b then (u, m) ∷ waits_of t ys else waits_of t ys)) (split (is_waiter t (u, m)) (λ h. absurd (ne (slot_of t (u, m) h))) (λ h. h))
+        ∙ ap (λ b. waits_of t xs ++ (if b then (u, m) ∷ waits_of t ys else waits_of t ys))
+        (split (is_waiter t (u, m)) (λ h. absurd (ne (slot_of t (u, m) h))) (λ h. h))

@@ -1,18 +1,7 @@
 -- Queues from which waiters are taken, and what becomes of their owners.
-use Rattle.std.specs.Prelude.{◌≡◌, ℕ, Bool, true, false, ◌||◌, List, [], ◌∷◌, Option, Some, None, is_some, if◌then◌else◌}
-use Rattle.std.specs.List.{list_any, filter}
-use Rattle.std.proofs.Common.{refl, sym, ap, ◌∙◌}
-use mathlib.Core.Bool.{true≢false}
-use Rattle.gl_modes.specs.declared.mode.Mode.{Mode}
-use Rattle.gl_modes.specs.declared.node.NodeId.{NodeId}
-use Rattle.gl_table.specs.declared.txn.Status.{Status}
-use Rattle.gl_table.specs.declared.txn.Status.TheVariants.{Active, Waiting, Condemned}
-use Rattle.gl_modes.specs.Nodes.{same_node}
-use Rattle.gl_header.specs.Header.{Waiter}
-use Rattle.gl_table.specs.State.{Txn, status_in, age_in}
-use Rattle.gl_table.specs.Pumps.{waits_at}
-use Rattle.gl_table.specs.Calls.{none_but, freed, freed_unless}
-use Rattle.gl_graph.proofs.Look.{split, no, or_elim, or_left, or_right, none_some, some_is, same_node_is}
+use Rattle.gl_table.proofs.Words.{[], ◌||◌, ◌∙◌, ◌∷◌, ◌≡◌, Active, age_in, ap, Bool, Condemned, false, filter, freed, freed_unless, if◌then◌else◌, is_some}
+use Rattle.gl_table.proofs.Words.{List, list_any, Mode, no, NodeId, None, none_but, none_some, Option, or_elim, or_left, or_right, refl, same_node}
+use Rattle.gl_table.proofs.Words.{same_node_is, Some, some_is, split, Status, status_in, sym, true, true≢false, Txn, Waiter, Waiting, waits_at, ℕ}
 
 pub filter_yes : (p : Waiter → Bool) (x : Waiter) (xs : List Waiter) → p x ≡ true → filter p (x ∷ xs) ≡ x ∷ filter p xs
 filter_yes p x xs t = ap (λ b. if b then x ∷ filter p xs else filter p xs) t
@@ -25,7 +14,8 @@ filter_swap p r [] = refl
 filter_swap p r (x ∷ xs) =
     split (p x)
     (λ tp. split (r x)
-    (λ tr. ap (filter p) (filter_yes r x xs tr) ∙ filter_yes p x (filter r xs) tp ∙ ap (λ ys. x ∷ ys) (filter_swap p r xs) ∙ sym (ap (filter r) (filter_yes p x xs tp) ∙ filter_yes r x (filter p xs) tr))
+    (λ tr. ap (filter p) (filter_yes r x xs tr) ∙ filter_yes p x (filter r xs) tp ∙ ap (λ ys. x ∷ ys) (filter_swap p r xs)
+    ∙ sym (ap (filter r) (filter_yes p x xs tp) ∙ filter_yes r x (filter p xs) tr))
     (λ fr. ap (filter p) (filter_no r x xs fr) ∙ filter_swap p r xs ∙ sym (ap (filter r) (filter_yes p x xs tp) ∙ filter_no r x (filter p xs) fr)))
     (λ fp. split (r x)
     (λ tr. ap (filter p) (filter_yes r x xs tr) ∙ filter_no p x (filter r xs) fp ∙ filter_swap p r xs ∙ sym (ap (filter r) (filter_no p x xs fp)))
@@ -43,7 +33,8 @@ pub any_left : (p r : Waiter → Bool) (xs : List Waiter) → list_any p (filter
 any_left p r [] h = h
 any_left p r (x ∷ xs) h =
     split (r x)
-    (λ t. or_elim (p x) (list_any p (filter r xs)) (sym (ap (list_any p) (filter_yes r x xs t)) ∙ h) (λ e. or_left (p x) (list_any p xs) e) (λ e. or_right (p x) (list_any p xs) (any_left p r xs e)))
+    (λ t. or_elim (p x) (list_any p (filter r xs)) (sym (ap (list_any p) (filter_yes r x xs t)) ∙ h) (λ e. or_left (p x) (list_any p xs) e)
+    (λ e. or_right (p x) (list_any p xs) (any_left p r xs e)))
     (λ t. or_right (p x) (list_any p xs) (any_left p r xs (sym (ap (list_any p) (filter_no r x xs t)) ∙ h)))
 
 -- the one that passes the first test passes the second, where one that passes the first is left
@@ -64,7 +55,8 @@ pub age_freed : (n : NodeId) (o : Option Txn) → age_in (freed n o) ≡ age_in 
 age_freed n None = refl
 age_freed n (Some x) = refl
 
-pub still_waits : (n q : NodeId) (m : Mode) (o : Option Txn) → status_in (freed n o) ≡ Some (Waiting q m) → (status_in o ≡ Some (Waiting q m)) × (same_node q n ≡ false)
+pub still_waits : (n q : NodeId) (m : Mode) (o : Option Txn) → status_in (freed n o) ≡ Some (Waiting q m) → (status_in o ≡ Some (Waiting q m))
+    × (same_node q n ≡ false)
 still_waits n q m None e = absurd (none_some e)
 still_waits n q m (Some x) e = by x.status e
   where
@@ -94,17 +86,22 @@ waits_still n q (Some x) h other = by x.status h
     by (Waiting p w) h' = ap (λ b. waits_at (Some (if b then Active else Waiting p w)) q) (ap (λ y. same_node y n) (same_node_is p q h') ∙ other) ∙ h'
 
 pub unless_some : (keeps : ℕ → Bool) (n : NodeId) (u : ℕ) (o : Option Txn) → is_some (freed_unless keeps n u o) ≡ is_some o
-unless_some keeps n u o = split (keeps u) (λ t. ap (λ b. is_some (if b then o else freed n o)) t) (λ f. ap (λ b. is_some (if b then o else freed n o)) f ∙ some_freed n o)
+unless_some keeps n u o = split (keeps u) (λ t. ap (λ b. is_some (if b then o else freed n o)) t) (λ f. ap (λ b. is_some (if b then o else freed n o)) f
+    ∙ some_freed n o)
 
 pub unless_age : (keeps : ℕ → Bool) (n : NodeId) (u : ℕ) (o : Option Txn) → age_in (freed_unless keeps n u o) ≡ age_in o
-unless_age keeps n u o = split (keeps u) (λ t. ap (λ b. age_in (if b then o else freed n o)) t) (λ f. ap (λ b. age_in (if b then o else freed n o)) f ∙ age_freed n o)
+unless_age keeps n u o = split (keeps u) (λ t. ap (λ b. age_in (if b then o else freed n o)) t) (λ f. ap (λ b. age_in (if b then o else freed n o)) f
+    ∙ age_freed n o)
 
-pub unless_waits : (keeps : ℕ → Bool) (n q : NodeId) (m : Mode) (u : ℕ) (o : Option Txn) → status_in (freed_unless keeps n u o) ≡ Some (Waiting q m) → (status_in o ≡ Some (Waiting q m)) × (same_node q n ≡ true → keeps u ≡ true)
+pub unless_waits : (keeps : ℕ → Bool) (n q : NodeId) (m : Mode) (u : ℕ) (o : Option Txn) → status_in (freed_unless keeps n u o) ≡ Some (Waiting q m)
+    → (status_in o ≡ Some (Waiting q m)) × (same_node q n ≡ true → keeps u ≡ true)
 unless_waits keeps n q m u o e =
     split (keeps u) (λ t. (sym (ap (λ b. status_in (if b then o else freed n o)) t) ∙ e, λ _. t))
     (λ f. let w = still_waits n q m o (sym (ap (λ b. status_in (if b then o else freed n o)) f) ∙ e) in (w.0, λ h. absurd (true≢false (sym h ∙ w.1))))
 
-pub waits_unless : (keeps : ℕ → Bool) (n q : NodeId) (u : ℕ) (o : Option Txn) → waits_at (status_in o) q ≡ true → (same_node q n ≡ true → keeps u ≡ true) → waits_at (status_in (freed_unless keeps n u o)) q ≡ true
+pub waits_unless : (keeps : ℕ → Bool) (n q : NodeId) (u : ℕ) (o : Option Txn) → waits_at (status_in o) q ≡ true → (same_node q n ≡ true → keeps u ≡ true)
+    → waits_at (status_in (freed_unless keeps n u o)) q ≡ true
 waits_unless keeps n q u o h k =
     split (keeps u) (λ t. ap (λ b. waits_at (status_in (if b then o else freed n o)) q) t ∙ h)
-    (λ f. ap (λ b. waits_at (status_in (if b then o else freed n o)) q) f ∙ waits_still n q o h (split (same_node q n) (λ t. absurd (true≢false (sym (k t) ∙ f))) (λ e. e)))
+    (λ f. ap (λ b. waits_at (status_in (if b then o else freed n o)) q) f
+    ∙ waits_still n q o h (split (same_node q n) (λ t. absurd (true≢false (sym (k t) ∙ f))) (λ e. e)))

@@ -1,26 +1,9 @@
 -- The front of a node's queue may be woken.
-use Rattle.std.specs.Prelude.{◌≡◌, ℕ, ◌<◌, ◌≤◌, true, not, List, length, Option, Some, None, slice_get}
-use Rattle.std.specs.Option.{option_map_or}
-use Rattle.std.proofs.Common.{sym, ap, ◌∙◌, subst, arith}
-use Rattle.std.proofs.lemmas.List.Sums.{count_by-le-length}
-use Rattle.gl_modes.specs.declared.node.NodeId.{NodeId}
-use Rattle.gl_modes.specs.Nodes.{same_node}
-use Rattle.gl_graph.specs.Graph.{Graph, parents_of}
-use Rattle.gl_graph.specs.Lawful.{IsLawfulGraph}
-use Rattle.gl_graph.proofs.Look.{or_right}
-use Rattle.gl_header.specs.Header.{Waiter, holds, is_among_waiters}
-use Rattle.gl_header.specs.Sound.{is_distinct}
-use Rattle.gl_table.specs.declared.list.LockList.{LockList}
+use Rattle.gl_table.proofs.Words.{◌<◌, ◌∙◌, ◌≡◌, ◌≤◌, Agrees, ap, AreSound, arith, CanHold, CanWake, count_by-le-length, CountsHeld, front_at, Graph, holds}
+use Rattle.gl_table.proofs.Words.{is_among_waiters, is_distinct, is_listed, is_wait, IsBySlot, IsLawfulGraph, IsOrderly, length, List, LockList, members}
+use Rattle.gl_table.proofs.Words.{NodeId, None, not, notices_in, Option, option_map_or, or_right, parents_of, same_node, slice_get, Some, State, state_on}
+use Rattle.gl_table.proofs.Words.{subst, sym, Told, true, unlisted, unlisted_by, Waiter, WaitWell, ℕ}
 use Rattle.gl_table.specs.declared.locks.Locks.{Locks}
-use Rattle.gl_table.specs.Lists.{is_listed, unlisted}
-use Rattle.gl_table.specs.Locks.{Agrees, AreSound, CountsHeld, IsOrderly, state_on}
-use Rattle.gl_table.specs.Pumping.{WaitWell}
-use Rattle.gl_table.specs.Pumps.{front_at}
-use Rattle.gl_table.specs.Slots.{CanHold, CanWake, unlisted_by}
-use Rattle.gl_table.specs.State.{State, members}
-use Rattle.gl_table.specs.Telling.{IsBySlot, notices_in}
-use Rattle.gl_table.specs.Tellings.{Told}
-use Rattle.gl_table.specs.Waiting.{is_wait}
 use Rattle.gl_table.proofs.Children.{children_few, few_parents}
 use Rattle.gl_table.proofs.OneWaits.{front_distinct, front_stands, waiters_below, waits_there}
 
@@ -33,7 +16,8 @@ unlisted_by-few ls t ps = by (slice_get ls t)
     by (Some l) = count_by-le-length (λ p. not (is_listed l p)) ps
 
 -- who waits for a node may come to hold it: its list has the node, and room for the counts of the parents
-pub can_hold_there : (s : State) → IsOrderly s → IsLawfulGraph s.graph → (n : NodeId) (ls : List LockList) (u : ℕ) → is_among_waiters u (s.queue n) ≡ true → u < length ls → Agrees s ls u → CountsHeld s ls u
+pub can_hold_there : (s : State) → IsOrderly s → IsLawfulGraph s.graph → (n : NodeId) (ls : List LockList) (u : ℕ) → is_among_waiters u (s.queue n) ≡ true
+    → u < length ls → Agrees s ls u → CountsHeld s ls u
     → CanHold ls u n (parents_of s.graph n)
 can_hold_there s o law n ls u h lt agree count =
     let parents = few_parents s.graph law n in
@@ -65,7 +49,8 @@ can_wake_front g l law sound o n b well stand agree count told by_slot untold ws
       below = λ u h. below u (stand u (stands u h));
       can_hold = λ u h.
           let there = stand u (stands u h) in
-          can_hold_there (state_on g l) o law n l.lists.items u there (subst (λ (k : ℕ). u < k) (sym sound.lists) (below u there)) (agree u there) (count u there);
+          can_hold_there (state_on g l) o law n l.lists.items u there (subst (λ (k : ℕ). u < k) (sym sound.lists) (below u there)) (agree u there)
+          (count u there);
       untold = λ u h. untold u (stands u h);
     }
   where

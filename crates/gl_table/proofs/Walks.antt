@@ -1,19 +1,10 @@
 -- Walks of a relation between finitely many numbers: whether there is one, and who is a victim.
-use Rattle.std.specs.Prelude.{◌≡◌, ◌≢◌, ℕ, zero, suc, ◌+◌, ◌<◌, ◌≤◌, Bool, true, false, not, ◌&&◌, ◌||◌, ◌==◌, nat_le, List, [], ◌∷◌, length, ⊤, Option, Some, None, if◌then◌else◌}
-use Rattle.std.specs.List.{list_any, range_with_len, AllByRecursion, IsDistinct}
-use Rattle.std.specs.Cmp.{IsEquivalence}
-use Rattle.std.proofs.Common.{refl, sym, ap, ap₂, ◌∙◌, arith, subst}
-use Rattle.std.proofs.lemmas.Bool.Decides.{nat_tests}
-use Rattle.std.proofs.lemmas.Map.Made.{length-le_from_is_member}
-use Rattle.std.proofs.lemmas.List.FromFn.{length-range_with_len}
-use Rattle.gl_waits.specs.declared.victims.Victims.{Victims}
-use Rattle.gl_waits.specs.declared.victims.Victims.TheVariants.{Youngest, Fewest}
-use Rattle.gl_waits.specs.Victims.{IsCandidate}
-use Rattle.gl_waits.specs.Waits.{IsWalk, Reaches, IsOnCycleOf, IsOnNoCycle, IsYoungest, without}
-use Rattle.gl_waits.proofs.WalkLemmas.{no_cycle-reaches, on_cycle-reaches, waits_of-less}
-use Rattle.gl_waits.proofs.VictimLemmas.{candidate-on_cycle, freeing-itself}
+use Rattle.gl_table.proofs.Words.{[], ◌&&◌, ◌+◌, ◌<◌, ◌==◌, ◌||◌, ◌∙◌, ◌∷◌, ◌≡◌, ◌≢◌, ◌≤◌, AllByRecursion, and_both, ap, ap₂, arith, Bool, candidate-on_cycle}
+use Rattle.gl_table.proofs.Words.{false, Fewest, freeing-itself, if◌then◌else◌, IsCandidate, IsDistinct, IsEquivalence, IsOnCycleOf, IsOnNoCycle, IsWalk}
+use Rattle.gl_table.proofs.Words.{IsYoungest, length, length-le_from_is_member, length-range_with_len, List, list_any, nat_le, nat_tests, no_cycle-reaches}
+use Rattle.gl_table.proofs.Words.{None, not, on_cycle-reaches, Option, or_elim, or_left, or_right, range_with_len, Reaches, refl, Some, split, subst, suc, sym}
+use Rattle.gl_table.proofs.Words.{true, Victims, waits_of-less, without, Youngest, zero, ℕ, ⊤}
 use Rattle.gl_table.proofs.Queues.{clash}
-use Rattle.gl_graph.proofs.Look.{split, or_elim, or_left, or_right, and_both}
 
 abbrev pub same : ℕ → ℕ → Bool
 same x y = x == y
@@ -35,7 +26,8 @@ all_differ : (v : ℕ) (way : List ℕ) → list_any (same v) way ≡ false → 
 all_differ v [] h = tt
 all_differ v (w ∷ way) h = by (same v w) refl h (all_differ v way)
   where
-    by : (b : Bool) → same v w ≡ b → (b || list_any (same v) way) ≡ false → (list_any (same v) way ≡ false → AllByRecursion (λ y. same v y ≡ false) way) → (same v w ≡ false) × AllByRecursion (λ y. same v y ≡ false) way
+    by : (b : Bool) → same v w ≡ b → (b || list_any (same v) way) ≡ false → (list_any (same v) way ≡ false → AllByRecursion (λ y. same v y ≡ false) way)
+        → (same v w ≡ false) × AllByRecursion (λ y. same v y ≡ false) way
     by true e k r = clash refl k
     by false e k r = (e, r k)
 
@@ -46,7 +38,8 @@ is_distinct (v ∷ way) d = (all_differ v way d.0, is_distinct way d.1)
 
 pub in_range : (q k n : ℕ) → k ≤ q → q < k + n → list_any (same q) (range_with_len k n) ≡ true
 in_range q k zero low high = absurd (omega arith)
-in_range q k (suc n) low high = split (same q k) (λ e. or_left _ _ e) (λ e. let ne : q ≢ k = grind (arith, nat_tests) in or_right (same q k) _ (in_range q (k + 1) n (omega arith) (omega arith)))
+in_range q k (suc n) low high = split (same q k) (λ e. or_left _ _ e) (λ e. let ne : q ≢ k = grind (arith, nat_tests) in
+    or_right (same q k) _ (in_range q (k + 1) n (omega arith) (omega arith)))
 
 any_of : (f : ℕ → Bool) (xs : List ℕ) → list_any f xs ≡ true → (q : ℕ) × (f q ≡ true)
 any_of f [] h = clash h refl
@@ -115,7 +108,8 @@ IsAnswer c edge age t (Some v) = IsYoungest (IsCandidate c edge t) age v
 
 module _ (edge : ℕ → ℕ → Bool) (most : ℕ) (low : (x y : ℕ) → edge x y ≡ true → y < most) where
   -- a walk that meets v goes on from v
-  cut : (u v y : ℕ) (way : List ℕ) → IsWalk edge u way y → list_any (same v) way ≡ true → Distinct way → (post : List ℕ) × IsWalk edge v post y × Distinct post × (list_any (same v) post ≡ false)
+  cut : (u v y : ℕ) (way : List ℕ) → IsWalk edge u way y → list_any (same v) way ≡ true → Distinct way → (post : List ℕ) × IsWalk edge v post y × Distinct post
+      × (list_any (same v) post ≡ false)
   cut u v y [] h k d = clash k refl
   cut u v y (w ∷ way) h k d =
       or_elim (same v w) (list_any (same v) way) k
@@ -132,11 +126,13 @@ module _ (edge : ℕ → ℕ → Bool) (most : ℕ) (low : (x y : ℕ) → edge 
 
   on_way : (way : List ℕ) (x y q : ℕ) → IsWalk edge x way y → list_any (same q) way ≡ true → q < most
   on_way [] x y q h k = clash k refl
-  on_way (v ∷ way) x y q h k = or_elim (same q v) (list_any (same q) way) k (λ e. subst (λ z. z < most) (sym (same_true q v e)) (low x v h.0)) (λ there. on_way way v y q h.1 there)
+  on_way (v ∷ way) x y q h k = or_elim (same q v) (list_any (same q) way) k (λ e. subst (λ z. z < most) (sym (same_true q v e)) (low x v h.0))
+      (λ there. on_way way v y q h.1 there)
 
   pub short : (way : List ℕ) (x y : ℕ) → IsWalk edge x way y → Distinct way → length way ≤ most
   short way x y h d =
-      let few = length-le_from_is_member same_equivalence way (range_with_len 0 most) (is_distinct way d) (λ q k. let lt = on_way way x y q h k in in_range q 0 most (omega arith) (omega arith)) in
+      let few = length-le_from_is_member same_equivalence way (range_with_len 0 most) (is_distinct way d) (λ q k. let lt = on_way way x y q h k in
+      in_range q 0 most (omega arith) (omega arith)) in
       let len = length-range_with_len 0 most in
       omega arith
 
@@ -155,7 +151,8 @@ module _ (edge : ℕ → ℕ → Bool) (most : ℕ) (low : (x y : ℕ) → edge 
   complete (suc k) (v ∷ way) x y le h =
       let lt = low x v h.0 in
       or_right (edge x y) (list_any (λ u. edge x u && hops edge most k u y) (range_with_len 0 most))
-      (one_found (λ u. edge x u && hops edge most k u y) v (range_with_len 0 most) (ap₂ (λ a b. a && b) h.0 (complete k way v y (omega arith) h.1)) (in_range v 0 most (omega arith) (omega arith)))
+      (one_found (λ u. edge x u && hops edge most k u y) v (range_with_len 0 most) (ap₂ (λ a b. a && b) h.0 (complete k way v y (omega arith) h.1))
+      (in_range v 0 most (omega arith) (omega arith)))
 
   reached_is : (x y : ℕ) → Reaches edge x y → hops edge most most x y ≡ true
   reached_is x y r = let way = simple r.0 x y r.1 in complete most way.0 x y (short way.0 x y way.1 way.2) way.1
@@ -168,7 +165,8 @@ module _ (edge : ℕ → ℕ → Bool) (most : ℕ) (low : (x y : ℕ) → edge 
   turns t v on = ap₂ (λ a b. a && b) (reached_is t v on.there) (reached_is v t on.back)
 
   pub turned : (t v : ℕ) → circles edge most t v ≡ true → IsOnCycleOf edge t v
-  turned t v h = let both = and_both (hops edge most most t v) (hops edge most most v t) h in record { there = sound most t v both.0; back = sound most v t both.1 }
+  turned t v h = let both = and_both (hops edge most most t v) (hops edge most most v t) h in
+      record { there = sound most t v both.0; back = sound most v t both.1 }
 
   -- who is on no cycle does not come round
   pub round_none : (t : ℕ) → IsOnNoCycle edge t → hops edge most most t t ≡ false
@@ -185,7 +183,8 @@ module _ (edge : ℕ → ℕ → Bool) (most : ℕ) (low : (x y : ℕ) → edge 
   passes_is Youngest t v h = turned edge most low t v h
   passes_is Fewest t v h =
       let both = and_both (circles edge most t v) (not (hops (without edge v) most most t t)) h in
-      record { on_cycle = turned edge most low t v both.0; freed = none_round (without edge v) most (low_without v) t (not_true (hops (without edge v) most most t t) both.1) }
+      record { on_cycle = turned edge most low t v both.0;
+          freed = none_round (without edge v) most (low_without v) t (not_true (hops (without edge v) most most t t) both.1) }
     where
       not_true : (b : Bool) → not b ≡ true → b ≡ false
       not_true true e = clash e refl

@@ -1,21 +1,9 @@
 -- The way from one state to another by releases and withdrawn waits: each step keeps what is known of it.
-use Rattle.std.specs.Prelude.{◌≡◌, ℕ, Bool, true, false, ◌==◌, List, [], ◌∷◌, ◌++◌, length, drop, Some, if◌then◌else◌}
-use Rattle.std.proofs.Common.{refl, sym, ap, ◌∙◌}
-use Rattle.std.proofs.lemmas.List.Elements.{filter-append}
-use Rattle.gl_modes.specs.declared.mode.Mode.{Mode}
-use Rattle.gl_modes.specs.declared.mode.Mode.TheVariants.{NL}
-use Rattle.gl_modes.specs.declared.node.NodeId.{NodeId}
-use Rattle.gl_modes.specs.Nodes.{same_node}
-use Rattle.gl_modes.proofs.NodeLemmas.{same_node-refl}
-use Rattle.gl_graph.proofs.Look.{split, or_left, or_right, number_same, same_number, number_other, other_number}
-use Rattle.gl_header.specs.Header.{Waiter, is_among_waiters, is_waiter}
-use Rattle.gl_header.proofs.Fronts.{front-and_rest}
-use Rattle.gl_header.proofs.Ranges.{not_true}
-use Rattle.gl_table.specs.declared.txn.Status.{Status}
-use Rattle.gl_table.specs.declared.txn.Status.TheVariants.{Waiting}
-use Rattle.gl_table.specs.Pumps.{front_at, granted_at, is_waiting_at, pumped, waits_at, without_wait}
-use Rattle.gl_table.specs.State.{State, age_in, age_of, members, restatus, status_in, status_of, with_grant}
-use Rattle.gl_table.specs.Tells.{IsOnWay, WayBegins, WayReleases, WayGivesUp}
+use Rattle.gl_table.proofs.Words.{[], ◌++◌, ◌==◌, ◌∙◌, ◌∷◌, ◌≡◌, age_in, age_of, ap, Bool, drop, false, filter-append, front-and_rest, front_at, granted_at}
+use Rattle.gl_table.proofs.Words.{if◌then◌else◌, is_among_waiters, is_waiter, is_waiting_at, IsOnWay, length, List, members, Mode, NL, NodeId, not_true}
+use Rattle.gl_table.proofs.Words.{number_other, number_same, or_left, or_right, other_number, pumped, refl, restatus, same_node, same_node-refl, same_number}
+use Rattle.gl_table.proofs.Words.{Some, split, State, Status, status_in, status_of, sym, true, Waiter, Waiting, waits_at, WayBegins, WayGivesUp, WayReleases}
+use Rattle.gl_table.proofs.Words.{with_grant, without_wait, ℕ}
 use Rattle.gl_table.proofs.Less.{waiting_is}
 use Rattle.gl_table.proofs.Pumped.{woken_age, woken_sleeps, woken_waits}
 use Rattle.gl_table.proofs.Queues.{among_append, among_by_filter, clash, not_among, none_filtered, one_in_first}
@@ -36,15 +24,21 @@ granted_and_left s chosen q = by (chosen q)
     by false = refl
 
 -- so are the waits of each slot there
-pub waits_granted_and_left : (s : State) (chosen : NodeId → Bool) (u : ℕ) (q : NodeId) → waits_of u (granted_at s chosen q) ++ waits_of u (left_at s chosen q) ≡ waits_of u (s.queue q)
-waits_granted_and_left s chosen u q = sym (filter-append (is_waiter u) (granted_at s chosen q) (left_at s chosen q)) ∙ ap (waits_of u) (granted_and_left s chosen q)
+pub waits_granted_and_left : (s : State) (chosen : NodeId → Bool) (u : ℕ) (q : NodeId)
+    → waits_of u (granted_at s chosen q) ++ waits_of u (left_at s chosen q) ≡ waits_of u (s.queue q)
+waits_granted_and_left s chosen u q = sym (filter-append (is_waiter u) (granted_at s chosen q) (left_at s chosen q))
+    ∙ ap (waits_of u) (granted_and_left s chosen q)
 
-pub granted_stands : (s : State) (chosen : NodeId → Bool) (u : ℕ) (q : NodeId) → is_among_waiters u (granted_at s chosen q) ≡ true → is_among_waiters u (s.queue q) ≡ true
-granted_stands s chosen u q h = ap (is_among_waiters u) (sym (granted_and_left s chosen q)) ∙ among_append u (granted_at s chosen q) (left_at s chosen q) ∙ or_left _ _ h
+pub granted_stands : (s : State) (chosen : NodeId → Bool) (u : ℕ) (q : NodeId) → is_among_waiters u (granted_at s chosen q) ≡ true
+    → is_among_waiters u (s.queue q) ≡ true
+granted_stands s chosen u q h = ap (is_among_waiters u) (sym (granted_and_left s chosen q)) ∙ among_append u (granted_at s chosen q) (left_at s chosen q)
+    ∙ or_left _ _ h
 
-pub left_stands : (s : State) (chosen : NodeId → Bool) (u : ℕ) (q : NodeId) → is_among_waiters u (left_at s chosen q) ≡ true → is_among_waiters u (s.queue q) ≡ true
+pub left_stands : (s : State) (chosen : NodeId → Bool) (u : ℕ) (q : NodeId) → is_among_waiters u (left_at s chosen q) ≡ true
+    → is_among_waiters u (s.queue q) ≡ true
 left_stands s chosen u q h =
-    ap (is_among_waiters u) (sym (granted_and_left s chosen q)) ∙ among_append u (granted_at s chosen q) (left_at s chosen q) ∙ or_right (is_among_waiters u (granted_at s chosen q)) _ h
+    ap (is_among_waiters u) (sym (granted_and_left s chosen q)) ∙ among_append u (granted_at s chosen q) (left_at s chosen q)
+    ∙ or_right (is_among_waiters u (granted_at s chosen q)) _ h
 
 -- another's slot, once a wait is taken out
 pub without_wait_other : (s : State) (t : ℕ) (st : Status) (u : ℕ) → (u == t) ≡ false → (without_wait s t st).txns u ≡ s.txns u
@@ -60,10 +54,12 @@ module _ (s now : State) (way : IsOnWay s now) where
   way_wait u q h = waiting_is (status_of now u) q (way.waits_are u q h)
 
   -- who is granted stood once in the queue, so it is gone from what is left
-  pub way_granted_once : (chosen : NodeId → Bool) (u : ℕ) (q : NodeId) (m : Mode) → status_of now u ≡ Some (Waiting q m) → is_among_waiters u (granted_at now chosen q) ≡ true
+  pub way_granted_once : (chosen : NodeId → Bool) (u : ℕ) (q : NodeId) (m : Mode) → status_of now u ≡ Some (Waiting q m)
+      → is_among_waiters u (granted_at now chosen q) ≡ true
       → (waits_of u (granted_at now chosen q) ≡ (u, m) ∷ []) × (waits_of u (left_at now chosen q) ≡ [])
   way_granted_once chosen u q m st h =
-      one_in_first (waits_of u (granted_at now chosen q)) (waits_of u (left_at now chosen q)) (u, m) (waits_granted_and_left now chosen u q ∙ way.one_wait u q m st)
+      one_in_first (waits_of u (granted_at now chosen q)) (waits_of u (left_at now chosen q)) (u, m) (waits_granted_and_left now chosen u q
+      ∙ way.one_wait u q m st)
       (λ e. clash h (none_filtered u (granted_at now chosen q) e))
 
   -- grants are no part of it
@@ -88,9 +84,11 @@ module _ (s now : State) (way : IsOnWay s now) where
       own u e = ap (λ b. if b then restatus st (now.txns t) else now.txns u) e
 
       -- who waits still is another
-      other_waits : (u : ℕ) (q : NodeId) (m : Mode) → status_of (without_wait now t st) u ≡ Some (Waiting q m) → ((u == t) ≡ false) × (status_of now u ≡ Some (Waiting q m))
+      other_waits : (u : ℕ) (q : NodeId) (m : Mode) → status_of (without_wait now t st) u ≡ Some (Waiting q m) → ((u == t) ≡ false)
+          × (status_of now u ≡ Some (Waiting q m))
       other_waits u q m h =
-          split (u == t) (λ e. absurd (restatus_quiet st quiet (now.txns t) q m (sym (ap status_in (own u e)) ∙ h))) (λ e. (e, sym (ap status_in (without_wait_other now t st u e)) ∙ h))
+          split (u == t) (λ e. absurd (restatus_quiet st quiet (now.txns t) q m (sym (ap status_in (own u e)) ∙ h)))
+          (λ e. (e, sym (ap status_in (without_wait_other now t st u e)) ∙ h))
 
   -- who is granted waits no more, and is gone from its queue
   pub way_pumped : (chosen : NodeId → Bool) → IsOnWay s (pumped now chosen)
@@ -99,9 +97,11 @@ module _ (s now : State) (way : IsOnWay s now) where
     ages = λ u. woken_age (granted_at now chosen) u (now.txns u) ∙ way.ages u;
     waited = λ u q m h. way.waited u q m (woken_waits (granted_at now chosen) u q m (now.txns u) h).0;
     waits_are = λ u q h. let st = way_wait u q (left_stands now chosen u q h) in
-        ap (λ o. waits_at o q) (woken_sleeps (granted_at now chosen) u q st.0 (now.txns u) st.1 (not_true _ (λ g. clash h (none_filtered u (left_at now chosen q) (way_granted_once chosen u q st.0 st.1 g).1)))) ∙ same_node-refl q;
+        ap (λ o. waits_at o q) (woken_sleeps (granted_at now chosen) u q st.0 (now.txns u) st.1
+        (not_true _ (λ g. clash h (none_filtered u (left_at now chosen q) (way_granted_once chosen u q st.0 st.1 g).1)))) ∙ same_node-refl q;
     one_wait = λ u q m h. let was = woken_waits (granted_at now chosen) u q m (now.txns u) h in
-        ap (λ ws. ws ++ waits_of u (left_at now chosen q)) (sym (not_among u (granted_at now chosen q) was.1)) ∙ waits_granted_and_left now chosen u q ∙ way.one_wait u q m was.0;
+        ap (λ ws. ws ++ waits_of u (left_at now chosen q)) (sym (not_among u (granted_at now chosen q) was.1)) ∙ waits_granted_and_left now chosen u q
+        ∙ way.one_wait u q m was.0;
     live = way.live;
   }
 

@@ -1,32 +1,11 @@
 -- One wait is given up: the lists agree with what is left.
-use Rattle.std.specs.Prelude.{◌≡◌, ℕ, ◌+◌, ◌≤◌, ◌<◌, Bool, true, false, not, ◌&&◌, ◌||◌, ◌==◌, List, length, Option, Some, None, is_some, if◌then◌else◌, slice_set, slice_index_or}
-use Rattle.std.specs.List.{count_by}
-use Rattle.std.proofs.Common.{refl, sym, ap, ap₂, ◌∙◌, subst, arith, length-set}
-use Rattle.std.proofs.Math.Path.{fun_ext}
-use Rattle.indexmap.specs.IndexMap.{spare}
-use Rattle.gl_modes.specs.declared.mode.Mode.TheVariants.{NL}
-use Rattle.gl_modes.specs.declared.node.NodeId.{NodeId}
-use Rattle.gl_modes.specs.Modes.{same_mode}
-use Rattle.gl_modes.specs.Nodes.{same_node}
-use Rattle.gl_modes.proofs.ModeLemmas.{same_mode-equal}
-use Rattle.gl_modes.proofs.NodeLemmas.{same_node-equal, same_node-sym}
-use Rattle.gl_graph.specs.Graph.{is_live, parents_of}
-use Rattle.gl_graph.specs.Lawful.{IsLawfulGraph}
-use Rattle.gl_graph.proofs.Look.{split, number_same, other_number, same_number}
-use Rattle.gl_header.specs.Header.{Waiter, after_grants, holds, is_among_waiters, without_waiter}
-use Rattle.gl_header.proofs.Ranges.{not_true}
-use Rattle.gl_table.specs.declared.list.Entry.{Entry}
-use Rattle.gl_table.specs.declared.list.LockList.{LockList}
-use Rattle.gl_table.specs.declared.txn.Status.{Status}
-use Rattle.gl_table.specs.Covered.{held_children}
-use Rattle.gl_table.specs.Lists.{IsApart, count_of, entry_of, is_listed, mode_in, mode_of}
-use Rattle.gl_table.specs.Locks.{Agrees, CountsHeld, IsOrderly}
-use Rattle.gl_table.specs.Pumping.{WaitWell}
-use Rattle.gl_table.specs.Pumps.{front_at, granted_at, is_waiting_at, pumped, without_wait}
-use Rattle.gl_table.specs.Slots.{AreApart, WakesLists, counted_by, held_by, listed_by, room_by}
-use Rattle.gl_table.specs.State.{State, members, status_in, status_of}
-use Rattle.gl_table.specs.Steps.{children_that}
-use Rattle.gl_table.specs.Waiting.{is_wait}
+use Rattle.gl_table.proofs.Words.{◌&&◌, ◌+◌, ◌<◌, ◌==◌, ◌||◌, ◌∙◌, ◌≡◌, ◌≤◌, after_grants, Agrees, ap, ap₂, AreApart, arith, Bool, children_that, count_by}
+use Rattle.gl_table.proofs.Words.{count_of, counted_by, CountsHeld, Entry, entry_of, false, front_at, fun_ext, granted_at, held_by, held_children, holds}
+use Rattle.gl_table.proofs.Words.{if◌then◌else◌, is_among_waiters, is_listed, is_live, is_some, is_wait, is_waiting_at, IsApart, IsLawfulGraph, IsOrderly}
+use Rattle.gl_table.proofs.Words.{length, length-set, List, listed_by, LockList, members, mode_in, mode_of, NL, NodeId, None, not, not_true, number_same}
+use Rattle.gl_table.proofs.Words.{Option, other_number, parents_of, pumped, refl, room_by, same_mode, same_mode-equal, same_node, same_node-equal}
+use Rattle.gl_table.proofs.Words.{same_node-sym, same_number, slice_index_or, slice_set, Some, spare, split, State, Status, status_in, status_of, subst, sym}
+use Rattle.gl_table.proofs.Words.{true, Waiter, WaitWell, WakesLists, without_wait, without_waiter, ℕ}
 use Rattle.gl_table.proofs.Less.{waiting_is}
 use Rattle.gl_table.proofs.OneWaits.{front_stands, stands_only, stands_there, well_without}
 use Rattle.gl_table.proofs.Pumped.{woken_waits}
@@ -54,9 +33,11 @@ held_listed None h = clash refl h
 held_listed (Some e) h = refl
 
 -- a list that has a node where it holds it
-only_held : (l : LockList) (n : NodeId) → same_mode (mode_of l n) NL ≡ false → (q : NodeId) → is_listed l q ≡ (if same_node q n then not (same_mode (mode_of l n) NL) else is_listed l q)
+only_held : (l : LockList) (n : NodeId) → same_mode (mode_of l n) NL ≡ false → (q : NodeId)
+    → is_listed l q ≡ (if same_node q n then not (same_mode (mode_of l n) NL) else is_listed l q)
 only_held l n h q = split (same_node q n)
-    (λ e. ap (is_listed l) (same_node-equal q n e) ∙ held_listed (entry_of l n) h ∙ ap not (sym h) ∙ sym (ap (λ k. if k then not (same_mode (mode_of l n) NL) else is_listed l q) e))
+    (λ e. ap (is_listed l) (same_node-equal q n e) ∙ held_listed (entry_of l n) h ∙ ap not (sym h)
+    ∙ sym (ap (λ k. if k then not (same_mode (mode_of l n) NL) else is_listed l q) e))
     (λ e. sym (ap (λ k. if k then not (same_mode (mode_of l n) NL) else is_listed l q) e))
 
 -- and one from which a node was taken that it did not hold
@@ -79,7 +60,8 @@ unheld_modes l n h q = split (same_node q n)
 module _ (ls : List LockList) (t : ℕ) (n : NodeId) (l : LockList) (lt : t < length ls) (at : l ≡ slice_index_or ls t l) (apart : AreApart ls) where
   module _ (l' : LockList) where
     -- a list is written that says the same, but has n only where it holds it
-    unlists_set : IsApart l' → ((q : NodeId) → mode_of l' q ≡ mode_of l q) → ((q : NodeId) → is_listed l' q ≡ (if same_node q n then not (same_mode (mode_of l n) NL) else is_listed l q))
+    unlists_set : IsApart l' → ((q : NodeId) → mode_of l' q ≡ mode_of l q)
+        → ((q : NodeId) → is_listed l' q ≡ (if same_node q n then not (same_mode (mode_of l n) NL) else is_listed l q))
         → ((q : NodeId) → count_of l' q ≡ count_of l q) → Unlists ls (slice_set ls t l') t n
     unlists_set here modes listed counts = record {
       len = length-set ls t l';
@@ -90,13 +72,15 @@ module _ (ls : List LockList) (t : ℕ) (n : NodeId) (l : LockList) (lt : t < le
           ∙ ap₂ (λ m k. if same_node q n then not (same_mode m NL) else k) (sym (by_list-at (λ x. mode_of x n) NL ls t l lt at))
           (sym (ap (λ v. listed_by ls v q) (same_number u t e) ∙ by_list-at (λ x. is_listed x q) false ls t l lt at))
           ∙ ap (λ k. if k && same_node q n then not (same_mode (held_by ls t n) NL) else listed_by ls u q) (sym e))
-          (λ e. ap (λ k. if k then is_listed l' q else listed_by ls u q) e ∙ ap (λ k. if k && same_node q n then not (same_mode (held_by ls t n) NL) else listed_by ls u q) (sym e));
+          (λ e. ap (λ k. if k then is_listed l' q else listed_by ls u q) e
+          ∙ ap (λ k. if k && same_node q n then not (same_mode (held_by ls t n) NL) else listed_by ls u q) (sym e));
       counts = λ u q. by_list-kept ls t l lt at l' (λ x. count_of x q) 0 (counts q) u;
       rooms = λ u e. by_list-set ls t l' lt (λ x. spare x.loose) 0 u ∙ ap (λ k. if k then spare l'.loose else room_by ls u) e;
     }
 
     pub unlists_left : same_mode (mode_of l n) NL ≡ true → IsApart l' → ((q : NodeId) → mode_of l' q ≡ (if same_node q n then NL else mode_of l q))
-        → ((q : NodeId) → is_listed l' q ≡ (is_listed l q && not (same_node q n))) → ((q : NodeId) → count_of l' q ≡ count_of l q) → Unlists ls (slice_set ls t l') t n
+        → ((q : NodeId) → is_listed l' q ≡ (is_listed l q && not (same_node q n))) → ((q : NodeId) → count_of l' q ≡ count_of l q)
+        → Unlists ls (slice_set ls t l') t n
     unlists_left h here modes listed counts = unlists_set here (λ q. modes q ∙ unheld_modes l n h q) (unheld_left l l' n h listed) counts
 
   pub unlists_held : same_mode (mode_of l n) NL ≡ false → Unlists ls (slice_set ls t l) t n
@@ -106,8 +90,10 @@ module _ (ls : List LockList) (t : ℕ) (n : NodeId) (l : LockList) (lt : t < le
 pub others_among : (t u : ℕ) (ws : List Waiter) → (u == t) ≡ false → is_among_waiters u (without_waiter t ws) ≡ is_among_waiters u ws
 others_among t u ws e = among_waits u (without_waiter t ws) ∙ ap some_wait (without_filter t u ws (other_number u t e)) ∙ sym (among_waits u ws)
 
-module _ (s : State) (o : IsOrderly s) (law : IsLawfulGraph s.graph) (t : ℕ) (n : NodeId) (st : Status) (quiet : IsQuiet st) (waits : is_waiting_at s t n ≡ true)
-    (ls mid : List LockList) (agree : (u : ℕ) → Agrees s ls u) (count : (u : ℕ) → CountsHeld s ls u) (wakes : WakesLists ls n (parents_of s.graph n) (front_at (without_wait s t st) n) mid) where
+module _ (s : State) (o : IsOrderly s) (law : IsLawfulGraph s.graph) (t : ℕ) (n : NodeId) (st : Status) (quiet : IsQuiet st)
+    (waits : is_waiting_at s t n ≡ true)
+    (ls mid : List LockList) (agree : (u : ℕ) → Agrees s ls u) (count : (u : ℕ) → CountsHeld s ls u)
+    (wakes : WakesLists ls n (parents_of s.graph n) (front_at (without_wait s t st) n) mid) where
   abbrev b : State
   b = without_wait s t st
 
@@ -132,11 +118,13 @@ module _ (s : State) (o : IsOrderly s) (law : IsLawfulGraph s.graph) (t : ℕ) (
 
   mode_own : (q : NodeId) → held_by mid t q ≡ s.held t q
   mode_own q = wakes.modes t q ∙ split (same_node q n)
-      (λ e. ap (λ k. if k then after_grants (λ v. held_by ls v n) (front_at b n) t else held_by ls t q) e ∙ grants_other (front_at b n) (λ v. held_by ls v n) t not_front ∙ (agree t).modes n ∙ ap (s.held t) (sym (same_node-equal q n e)))
+      (λ e. ap (λ k. if k then after_grants (λ v. held_by ls v n) (front_at b n) t else held_by ls t q) e
+      ∙ grants_other (front_at b n) (λ v. held_by ls v n) t not_front ∙ (agree t).modes n ∙ ap (s.held t) (sym (same_node-equal q n e)))
       (λ e. ap (λ k. if k then after_grants (λ v. held_by ls v n) (front_at b n) t else held_by ls t q) e ∙ (agree t).modes q)
 
   count_own : (p : NodeId) → counted_by mid t p ≡ held_children s t p
-  count_own p = wakes.counts t p ∙ ap (λ k. counted_by ls t p + (if k && same_mode (held_by ls t n) NL then count_by (same_node p) (parents_of s.graph n) else 0)) not_front
+  count_own p = wakes.counts t p ∙ ap (λ k. counted_by ls t p
+      + (if k && same_mode (held_by ls t n) NL then count_by (same_node p) (parents_of s.graph n) else 0)) not_front
       ∙ no_more (counted_by ls t p) ∙ count t p
     where
       no_more : (k : ℕ) → k + 0 ≡ k
@@ -144,7 +132,8 @@ module _ (s : State) (o : IsOrderly s) (law : IsLawfulGraph s.graph) (t : ℕ) (
 
   -- its list has room to count the node apart
   pub room_left : 0 < room_by mid t
-  room_left = let nine = subst (λ (k : ℕ). 9 ≤ k) (sym (wakes.rooms t not_front)) ((agree t).room (ap is_wait (waiting_is (status_of s t) n waits).1)) in omega arith
+  room_left = let nine = subst (λ (k : ℕ). 9 ≤ k) (sym (wakes.rooms t not_front)) ((agree t).room (ap is_wait (waiting_is (status_of s t) n waits).1)) in
+      omega arith
 
   module _ (ls' : List LockList) (unlists : Unlists mid ls' t n) where
     agrees_other : (u : ℕ) → (u == t) ≡ false → Agrees after ls' u
@@ -171,7 +160,8 @@ module _ (s : State) (o : IsOrderly s) (law : IsLawfulGraph s.graph) (t : ℕ) (
           ∙ ap (λ k. holds (members s q) t || k) (stands_only s o t n waits q (same_node-sym n q ∙ e)))
           ∙ ap₂ (λ m k. not (same_mode m NL) || k) (sym (after_own q)) (sym (not_true _ (λ h. clash (left_stands b (same_node n) t q h) (out q))));
       room = λ h. let w = wait_is (status_of after t) h in
-          absurd (restatus_quiet st quiet (s.txns t) w.0 w.1 (ap status_in (sym (without_wait_own s t st)) ∙ (woken_waits (granted_at b (same_node n)) t w.0 w.1 (b.txns t) w.2).0));
+          absurd (restatus_quiet st quiet (s.txns t) w.0 w.1 (ap status_in (sym (without_wait_own s t st))
+          ∙ (woken_waits (granted_at b (same_node n)) t w.0 w.1 (b.txns t) w.2).0));
     }
       where
         only : (k : Bool) → k ≡ (k || false)
@@ -182,7 +172,8 @@ module _ (s : State) (o : IsOrderly s) (law : IsLawfulGraph s.graph) (t : ℕ) (
     agrees_withdrawn u = split (u == t) (λ e. subst (Agrees after ls') (sym (same_number u t e)) agrees_own) (λ e. agrees_other u e)
 
     pub counts_withdrawn : (u : ℕ) → CountsHeld after ls' u
-    counts_withdrawn u = split (u == t) (λ e. subst (CountsHeld after ls') (sym (same_number u t e)) own) (λ e p. unlists.counts u p ∙ counts_pumped b n well ls mid wakes law live u ((agree u).modes n) (count u) p)
+    counts_withdrawn u = split (u == t) (λ e. subst (CountsHeld after ls') (sym (same_number u t e)) own) (λ e p. unlists.counts u p
+        ∙ counts_pumped b n well ls mid wakes law live u ((agree u).modes n) (count u) p)
       where
         live : is_live s.graph n ≡ true
         live = o.waiters_live t n (stands_there s o t n waits)

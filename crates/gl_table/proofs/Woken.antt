@@ -1,33 +1,16 @@
 -- Waiters woken one after the other.
-use Rattle.std.specs.Prelude.{◌≡◌, ℕ, zero, suc, ◌+◌, ◌<◌, ◌≤◌, ◌^◌, Bool, true, false, not, ◌&&◌, ◌||◌, ◌==◌, List, [], ◌∷◌, length, take, Option, Some, None, if◌then◌else◌, slice_index_or}
-use Rattle.std.specs.List.{count_by}
-use Rattle.std.proofs.Common.{refl, sym, ap, ap₂, ◌∙◌, subst, arith}
-use Rattle.std.proofs.lemmas.Bool.Decides.{nat_tests}
-use Rattle.gl_modes.specs.declared.mode.Mode.TheVariants.{NL}
-use Rattle.gl_modes.specs.declared.node.NodeId.{NodeId}
-use Rattle.gl_modes.specs.Modes.{same_mode}
-use Rattle.gl_modes.specs.Nodes.{same_node}
-use Rattle.gl_header.specs.Header.{Members, Waiter, after_grants, is_among_waiters, is_waiter, with_mode}
-use Rattle.gl_header.specs.Sound.{is_distinct}
-use Rattle.gl_table.specs.declared.list.LockList.{LockList}
+use Rattle.gl_table.proofs.Words.{[], ◌&&◌, ◌+◌, ◌<◌, ◌==◌, ◌^◌, ◌||◌, ◌∙◌, ◌∷◌, ◌≡◌, ◌≤◌, Active, after_grants, age_in, and_both, ap, ap₂, arith, Bool}
+use Rattle.gl_table.proofs.Words.{CanHold, CanWake, count_by, counted_by, false, fun_ext, grant_notice, held_by, Holds, if◌then◌else◌, is_among_waiters}
+use Rattle.gl_table.proofs.Words.{is_distinct, is_waiter, IsBySlot, length, List, list_any_more, listed_by, LockList, Members, mode_given, nat_tests, NL}
+use Rattle.gl_table.proofs.Words.{NodeId, None, not, not-true, notices_in, Option, or-false, or_left, or_right, refl, restatus, room_by, same_mode, same_node}
+use Rattle.gl_table.proofs.Words.{same_node-equal, same_node-refl, same_number, Seat, slice_index_or, Some, split, subst, suc, sym, take, Told, true, txns_of}
+use Rattle.gl_table.proofs.Words.{unlisted_by, Waiter, Wakes, WakesLists, with_mode, zero, ℕ}
 use Rattle.gl_table.specs.declared.notice.Notice.TheVariants as notice
-use Rattle.gl_table.specs.declared.seat.Seat.{Seat}
-use Rattle.gl_table.specs.declared.txn.Status.TheVariants.{Active}
-use Rattle.gl_table.specs.Seats.{txns_of}
-use Rattle.gl_table.specs.Slots.{CanHold, CanWake, Holds, Wakes, WakesLists, counted_by, grant_notice, held_by, listed_by, mode_given, room_by, unlisted_by}
-use Rattle.gl_table.specs.State.{age_in, restatus}
-use Rattle.gl_table.specs.Telling.{IsBySlot, notices_in}
-use Rattle.gl_table.specs.Tellings.{Told}
-use Rattle.gl_graph.proofs.Look.{split, same_number, and_both, or_left, or_right}
-use Rattle.gl_modes.proofs.NodeLemmas.{same_node-equal, same_node-refl}
 use Rattle.gl_table.proofs.Queues.{clash, grants_other}
-use Rattle.std.proofs.lemmas.Bool.{not-true}
-use Rattle.std.proofs.Math.Path.{fun_ext}
-use Rattle.std.proofs.Math.Bool.{or-false}
-use Rattle.std.proofs.lemmas.List.Folds.{list_any_more}
 
 -- one waiter more is taken from the front
-pub among_more : (u : ℕ) (ws : List Waiter) (i : ℕ) (d : Waiter) → i < length ws → is_among_waiters u (take (i + 1) ws) ≡ (is_among_waiters u (take i ws) || is_waiter u (slice_index_or ws i d))
+pub among_more : (u : ℕ) (ws : List Waiter) (i : ℕ) (d : Waiter) → i < length ws
+    → is_among_waiters u (take (i + 1) ws) ≡ (is_among_waiters u (take i ws) || is_waiter u (slice_index_or ws i d))
 among_more u ws i d lt = list_any_more (is_waiter u) ws i d lt
 
 -- and granted behind the others
@@ -35,7 +18,8 @@ grants_more : (g : Members) (ws : List Waiter) (i : ℕ) (d : Waiter) → i < le
     → after_grants g (take (i + 1) ws) ≡ with_mode (after_grants g (take i ws)) (slice_index_or ws i d).0 (slice_index_or ws i d).1
 grants_more g ws i d lt = let next : i + 1 ≡ suc i = omega arith in ap (λ k. after_grants g (take k ws)) next ∙ by g ws i lt
   where
-    by : (g : Members) (ws : List Waiter) (i : ℕ) → i < length ws → after_grants g (take (suc i) ws) ≡ with_mode (after_grants g (take i ws)) (slice_index_or ws i d).0 (slice_index_or ws i d).1
+    by : (g : Members) (ws : List Waiter) (i : ℕ) → i < length ws
+        → after_grants g (take (suc i) ws) ≡ with_mode (after_grants g (take i ws)) (slice_index_or ws i d).0 (slice_index_or ws i d).1
     by g [] i lt = absurd (omega arith)
     by g (w ∷ ws) zero lt = refl
     by g (w ∷ ws) (suc i) lt = by (with_mode g w.0 w.1) ws i (omega arith)
@@ -44,10 +28,12 @@ grants_more g ws i d lt = let next : i + 1 ≡ suc i = omega arith in ap (λ k. 
 pub is_among_all : (ws : List Waiter) (i : ℕ) (d : Waiter) → i < length ws → is_among_waiters (slice_index_or ws i d).0 ws ≡ true
 is_among_all [] i d lt = absurd (omega arith)
 is_among_all (w ∷ ws) zero d lt = or_left (is_waiter w.0 w) (is_among_waiters w.0 ws) (grind (arith, nat_tests))
-is_among_all (w ∷ ws) (suc i) d lt = or_right (is_waiter (slice_index_or ws i d).0 w) (is_among_waiters (slice_index_or ws i d).0 ws) (is_among_all ws i d (omega arith))
+is_among_all (w ∷ ws) (suc i) d lt = or_right (is_waiter (slice_index_or ws i d).0 w) (is_among_waiters (slice_index_or ws i d).0 ws)
+    (is_among_all ws i d (omega arith))
 
 -- and none of those before it
-pub none_before : (ws : List Waiter) (i : ℕ) (d : Waiter) → is_distinct ws ≡ true → i < length ws → is_among_waiters (slice_index_or ws i d).0 (take i ws) ≡ false
+pub none_before : (ws : List Waiter) (i : ℕ) (d : Waiter) → is_distinct ws ≡ true → i < length ws
+    → is_among_waiters (slice_index_or ws i d).0 (take i ws) ≡ false
 none_before [] i d h lt = absurd (omega arith)
 none_before (w ∷ ws) zero d h lt = refl
 none_before (w ∷ ws) (suc i) d h lt =
@@ -58,7 +44,8 @@ none_before (w ∷ ws) (suc i) d h lt =
     apart u here off = split (w.0 == u) (λ e. clash (ap (λ v. is_among_waiters v ws) (same_number w.0 u e) ∙ here) off) (λ e. e)
 
 -- what is not listed, by what is
-unlisted_by-listed : (ls ls' : List LockList) (t : ℕ) (ps : List NodeId) → t < length ls → t < length ls' → ((q : NodeId) → listed_by ls' t q ≡ listed_by ls t q) → unlisted_by ls' t ps ≡ unlisted_by ls t ps
+unlisted_by-listed : (ls ls' : List LockList) (t : ℕ) (ps : List NodeId) → t < length ls → t < length ls'
+    → ((q : NodeId) → listed_by ls' t q ≡ listed_by ls t q) → unlisted_by ls' t ps ≡ unlisted_by ls t ps
 unlisted_by-listed ls ls' t ps lt lt' same = is ls' lt' ∙ ap (λ (f : NodeId → Bool). count_by (λ p. not (f p)) ps) (fun_ext same) ∙ sym (is ls lt)
   where
     is : (ls : List LockList) → t < length ls → unlisted_by ls t ps ≡ count_by (λ p. not (listed_by ls t p)) ps
@@ -69,8 +56,10 @@ unlisted_by-listed ls ls' t ps lt lt' same = is ls' lt' ∙ ap (λ (f : NodeId �
         by (l ∷ ls) zero lt = refl
         by (l ∷ ls) (suc t) lt = by ls t (omega arith)
 
-module _ (seats : List (Option Seat)) (ls : List LockList) (told : Told) (n : NodeId) (ps : List NodeId) (ws : List Waiter) (can : CanWake seats ls told n ps ws)
-    (i : ℕ) (d : Waiter) (lt : i < length ws) (seats' : List (Option Seat)) (ls' : List LockList) (told' : Told) (woken : Wakes seats ls told n ps (take i ws) seats' ls' told') where
+module _ (seats : List (Option Seat)) (ls : List LockList) (told : Told) (n : NodeId) (ps : List NodeId) (ws : List Waiter)
+    (can : CanWake seats ls told n ps ws)
+    (i : ℕ) (d : Waiter) (lt : i < length ws) (seats' : List (Option Seat)) (ls' : List LockList) (told' : Told)
+    (woken : Wakes seats ls told n ps (take i ws) seats' ls' told') where
   abbrev w : Waiter
   w = slice_index_or ws i d
 
@@ -87,10 +76,12 @@ module _ (seats : List (Option Seat)) (ls : List LockList) (told : Told) (n : No
   txn_same = woken.txns w.0 ∙ ap (λ b. if b then restatus Active (txns_of seats w.0) else txns_of seats w.0) fresh
 
   mode_same : held_by ls' w.0 n ≡ held_by ls w.0 n
-  mode_same = woken.lists.modes w.0 n ∙ ap (λ b. if b then after_grants (λ v. held_by ls v n) (take i ws) w.0 else held_by ls w.0 n) (same_node-refl n) ∙ grants_other (take i ws) (λ v. held_by ls v n) w.0 fresh
+  mode_same = woken.lists.modes w.0 n ∙ ap (λ b. if b then after_grants (λ v. held_by ls v n) (take i ws) w.0 else held_by ls w.0 n) (same_node-refl n)
+      ∙ grants_other (take i ws) (λ v. held_by ls v n) w.0 fresh
 
   count_same : (q : NodeId) → counted_by ls' w.0 q ≡ counted_by ls w.0 q
-  count_same q = woken.lists.counts w.0 q ∙ ap (λ b. counted_by ls w.0 q + (if b && same_mode (held_by ls w.0 n) NL then count_by (same_node q) ps else 0)) fresh ∙ no_more (counted_by ls w.0 q)
+  count_same q = woken.lists.counts w.0 q ∙ ap (λ b. counted_by ls w.0 q + (if b && same_mode (held_by ls w.0 n) NL then count_by (same_node q) ps else 0))
+      fresh ∙ no_more (counted_by ls w.0 q)
     where
       no_more : (k : ℕ) → k + 0 ≡ k
       no_more k = omega arith
@@ -109,12 +100,14 @@ module _ (seats : List (Option Seat)) (ls : List LockList) (told : Told) (n : No
   pub may_tell : notices_in told' w.0 ≡ None
   may_tell = woken.tells.notices w.0 ∙ ap (λ b. if b then grant_notice (txns_of seats) n (take i ws) w.0 else notices_in told w.0) fresh ∙ can.untold w.0 among
 
-  pub woken_more : (seats'' : List (Option Seat)) (ls'' : List LockList) (told'' : Told) (age : ℕ) → age ≡ age_in (txns_of seats' w.0) → length seats'' ≡ length seats'
+  pub woken_more : (seats'' : List (Option Seat)) (ls'' : List LockList) (told'' : Told) (age : ℕ) → age ≡ age_in (txns_of seats' w.0)
+      → length seats'' ≡ length seats'
       → ((u : ℕ) → txns_of seats'' u ≡ (if u == w.0 then restatus Active (txns_of seats' w.0) else txns_of seats' u))
       → Holds ls' ls'' w.0 n w.1 ps → IsBySlot told''
       → ((u : ℕ) → notices_in told'' u ≡ (if u == w.0 then Some (record { slot = w.0; age = age }, notice.Granted n w.1) else notices_in told' u))
       → Wakes seats ls told n ps (take (i + 1) ws) seats'' ls'' told''
-  woken_more seats'' ls'' told'' age age_is len txns held by_slot notices = record { len = len ∙ woken.len; txns = txns_more; lists = lists_more; tells = record { by_slot = by_slot; notices = notices_more } }
+  woken_more seats'' ls'' told'' age age_is len txns held by_slot notices =
+      record { len = len ∙ woken.len; txns = txns_more; lists = lists_more; tells = record { by_slot = by_slot; notices = notices_more } }
     where
       no_more : (k : ℕ) → k + 0 ≡ k
       no_more k = omega arith
@@ -141,13 +134,18 @@ module _ (seats : List (Option Seat)) (ls : List LockList) (told : Told) (n : No
       given_before : (u : ℕ) → (u == w.0) ≡ false → mode_given (take (i + 1) ws) u ≡ mode_given (take i ws) u
       given_before u e = granted_now (λ _. NL) u false e
 
-      mode_at : (u : ℕ) (q : NodeId) → (if (u == w.0) && same_node q n then w.1 else held_by ls' u q) ≡ (if same_node q n then after_grants (λ v. held_by ls v n) (take (i + 1) ws) u else held_by ls u q)
+      mode_at : (u : ℕ) (q : NodeId) → (if (u == w.0) && same_node q n then w.1 else held_by ls' u q)
+          ≡ (if same_node q n then after_grants (λ v. held_by ls v n) (take (i + 1) ws) u else held_by ls u q)
       mode_at u q = split (same_node q n)
           (λ k. split (u == w.0)
-          (λ e. ap₂ (λ a b. if a && b then w.1 else held_by ls' u q) e k ∙ sym (granted_now (λ v. held_by ls v n) u true e) ∙ sym (ap (λ b. if b then after_grants (λ v. held_by ls v n) (take (i + 1) ws) u else held_by ls u q) k))
-          (λ e. ap (λ a. if a && same_node q n then w.1 else held_by ls' u q) e ∙ woken.lists.modes u q ∙ ap (λ b. if b then after_grants (λ v. held_by ls v n) (take i ws) u else held_by ls u q) k
-          ∙ sym (granted_now (λ v. held_by ls v n) u false e) ∙ sym (ap (λ b. if b then after_grants (λ v. held_by ls v n) (take (i + 1) ws) u else held_by ls u q) k)))
-          (λ k. ap (λ b. if b then w.1 else held_by ls' u q) (and_off (u == w.0) (same_node q n) k) ∙ woken.lists.modes u q ∙ ap (λ b. if b then after_grants (λ v. held_by ls v n) (take i ws) u else held_by ls u q) k
+          (λ e. ap₂ (λ a b. if a && b then w.1 else held_by ls' u q) e k ∙ sym (granted_now (λ v. held_by ls v n) u true e)
+          ∙ sym (ap (λ b. if b then after_grants (λ v. held_by ls v n) (take (i + 1) ws) u else held_by ls u q) k))
+          (λ e. ap (λ a. if a && same_node q n then w.1 else held_by ls' u q) e ∙ woken.lists.modes u q
+          ∙ ap (λ b. if b then after_grants (λ v. held_by ls v n) (take i ws) u else held_by ls u q) k
+          ∙ sym (granted_now (λ v. held_by ls v n) u false e)
+          ∙ sym (ap (λ b. if b then after_grants (λ v. held_by ls v n) (take (i + 1) ws) u else held_by ls u q) k)))
+          (λ k. ap (λ b. if b then w.1 else held_by ls' u q) (and_off (u == w.0) (same_node q n) k) ∙ woken.lists.modes u q
+          ∙ ap (λ b. if b then after_grants (λ v. held_by ls v n) (take i ws) u else held_by ls u q) k
           ∙ sym (ap (λ b. if b then after_grants (λ v. held_by ls v n) (take (i + 1) ws) u else held_by ls u q) k))
         where
           and_off : (a b : Bool) → b ≡ false → (a && b) ≡ false
@@ -157,18 +155,22 @@ module _ (seats : List (Option Seat)) (ls : List LockList) (told : Told) (n : No
       txns_more : (u : ℕ) → txns_of seats'' u ≡ (if is_among_waiters u (take (i + 1) ws) then restatus Active (txns_of seats u) else txns_of seats u)
       txns_more = λ u. split (u == w.0)
           (λ e. let is = same_number u w.0 e in
-          txns u ∙ ap (λ b. if b then restatus Active (txns_of seats' w.0) else txns_of seats' u) e ∙ ap (restatus Active) txn_same ∙ ap (λ v. restatus Active (txns_of seats v)) (sym is)
+          txns u ∙ ap (λ b. if b then restatus Active (txns_of seats' w.0) else txns_of seats' u) e ∙ ap (restatus Active) txn_same
+          ∙ ap (λ v. restatus Active (txns_of seats v)) (sym is)
           ∙ sym (ap (λ b. if b then restatus Active (txns_of seats u) else txns_of seats u) (now_among u e)))
           (λ e. txns u ∙ ap (λ b. if b then restatus Active (txns_of seats' w.0) else txns_of seats' u) e ∙ woken.txns u
           ∙ sym (ap (λ b. if b then restatus Active (txns_of seats u) else txns_of seats u) (as_before u e)))
 
-      counts_more : (u : ℕ) (q : NodeId) → counted_by ls'' u q ≡ counted_by ls u q + (if is_among_waiters u (take (i + 1) ws) && same_mode (held_by ls u n) NL then count_by (same_node q) ps else 0)
+      counts_more : (u : ℕ) (q : NodeId) → counted_by ls'' u q
+          ≡ counted_by ls u q + (if is_among_waiters u (take (i + 1) ws) && same_mode (held_by ls u n) NL then count_by (same_node q) ps else 0)
       counts_more = λ u q. split (u == w.0)
           (λ e. let is = same_number u w.0 e in
-          held.counts u q ∙ ap₂ (λ a b. a + (if b && same_mode (held_by ls' w.0 n) NL then count_by (same_node q) ps else 0)) (ap (λ v. counted_by ls' v q) is ∙ count_same q ∙ ap (λ v. counted_by ls v q) (sym is)) e
+          held.counts u q ∙ ap₂ (λ a b. a + (if b && same_mode (held_by ls' w.0 n) NL then count_by (same_node q) ps else 0)) (ap (λ v. counted_by ls' v q) is
+          ∙ count_same q ∙ ap (λ v. counted_by ls v q) (sym is)) e
           ∙ ap (λ m. counted_by ls u q + (if true && same_mode m NL then count_by (same_node q) ps else 0)) (mode_same ∙ ap (λ v. held_by ls v n) (sym is))
           ∙ sym (ap (λ b. counted_by ls u q + (if b && same_mode (held_by ls u n) NL then count_by (same_node q) ps else 0)) (now_among u e)))
-          (λ e. held.counts u q ∙ ap (λ b. counted_by ls' u q + (if b && same_mode (held_by ls' w.0 n) NL then count_by (same_node q) ps else 0)) e ∙ no_more (counted_by ls' u q) ∙ woken.lists.counts u q
+          (λ e. held.counts u q ∙ ap (λ b. counted_by ls' u q + (if b && same_mode (held_by ls' w.0 n) NL then count_by (same_node q) ps else 0)) e
+          ∙ no_more (counted_by ls' u q) ∙ woken.lists.counts u q
           ∙ sym (ap (λ b. counted_by ls u q + (if b && same_mode (held_by ls u n) NL then count_by (same_node q) ps else 0)) (as_before u e)))
 
       lists_more : WakesLists ls n ps (take (i + 1) ws) ls''
@@ -181,19 +183,23 @@ module _ (seats : List (Option Seat)) (ls : List LockList) (told : Told) (n : No
         rooms = λ u off. let e = not_this u off in held.rooms u e ∙ woken.lists.rooms u (sym (as_before u e) ∙ off);
       }
 
-      notices_more : (u : ℕ) → notices_in told'' u ≡ (if is_among_waiters u (take (i + 1) ws) then grant_notice (txns_of seats) n (take (i + 1) ws) u else notices_in told u)
+      notices_more : (u : ℕ) → notices_in told'' u ≡ (if is_among_waiters u (take (i + 1) ws) then grant_notice (txns_of seats) n (take (i + 1) ws) u
+          else notices_in told u)
       notices_more = λ u. split (u == w.0)
           (λ e. let is = same_number u w.0 e in
           notices u ∙ ap (λ b. if b then Some (record { slot = w.0; age = age }, notice.Granted n w.1) else notices_in told' u) e
-          ∙ ap₂ (λ v a. Some (record { slot = v; age = a }, notice.Granted n w.1)) (sym is) (age_is ∙ ap age_in txn_same ∙ ap (λ v. age_in (txns_of seats v)) (sym is))
+          ∙ ap₂ (λ v a. Some (record { slot = v; age = a }, notice.Granted n w.1)) (sym is) (age_is ∙ ap age_in txn_same
+          ∙ ap (λ v. age_in (txns_of seats v)) (sym is))
           ∙ ap (λ m. Some (record { slot = u; age = age_in (txns_of seats u) }, notice.Granted n m)) (sym (given_now u e))
           ∙ sym (ap (λ b. if b then grant_notice (txns_of seats) n (take (i + 1) ws) u else notices_in told u) (now_among u e)))
           (λ e. notices u ∙ ap (λ b. if b then Some (record { slot = w.0; age = age }, notice.Granted n w.1) else notices_in told' u) e ∙ woken.tells.notices u
-          ∙ ap (λ m. if is_among_waiters u (take i ws) then Some (record { slot = u; age = age_in (txns_of seats u) }, notice.Granted n m) else notices_in told u) (sym (given_before u e))
+          ∙ ap (λ m. if is_among_waiters u (take i ws) then Some (record { slot = u; age = age_in (txns_of seats u) }, notice.Granted n m)
+          else notices_in told u) (sym (given_before u e))
           ∙ sym (ap (λ b. if b then grant_notice (txns_of seats) n (take (i + 1) ws) u else notices_in told u) (as_before u e)))
 
 -- nobody is woken yet
-pub woken_none : (seats : List (Option Seat)) (ls : List LockList) (told : Told) (n : NodeId) (ps : List NodeId) (ws : List Waiter) → CanWake seats ls told n ps ws → Wakes seats ls told n ps [] seats ls told
+pub woken_none : (seats : List (Option Seat)) (ls : List LockList) (told : Told) (n : NodeId) (ps : List NodeId) (ws : List Waiter)
+    → CanWake seats ls told n ps ws → Wakes seats ls told n ps [] seats ls told
 woken_none seats ls told n ps ws can = record {
   len = refl;
   txns = λ u. refl;

@@ -1,4 +1,4 @@
-use Rattle.std.specs.Prelude.{◌≡◌, length}
+use Rattle.gl_table.proofs.Words.{◌≡◌, length}
 use Rattle.gl_table.proofs.BoardWrites.{AreAgesBelow, age_at}
 use Rattle.gl_table.proofs.boards.ages.Given as goal
 

@@ -1,4 +1,4 @@
-use Rattle.gl_table.specs.BoardOf.{shown}
+use Rattle.gl_table.proofs.Words.{shown}
 use Rattle.gl_table.proofs.BoardWrites.{IsBoardBelow}
 use Rattle.gl_table.proofs.boards.board.Given as goal
 

@@ -1,6 +1,4 @@
-use Rattle.std.proofs.Common.{◌-◌, ◌^◌}
-use Rattle.gl_graph.specs.View.{graph_of}
-use Rattle.gl_table.specs.Lists.{mode_of}
+use Rattle.gl_table.proofs.Words.{◌-◌, ◌^◌, graph_of, mode_of}
 use Rattle.gl_table.proofs.CutSet.{is_x}
 use Rattle.gl_table.proofs.Searches.{IsSearch, is_top}
 use Rattle.gl_table.proofs.effective.has_free_root.Given as goal

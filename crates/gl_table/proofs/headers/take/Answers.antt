@@ -1,5 +1,4 @@
-use Rattle.std.proofs.Common.{None, refl}
-use Rattle.gl_header.proofs.Unused.{unused-nobody}
+use Rattle.gl_table.proofs.Words.{None, refl, unused-nobody}
 use Rattle.gl_table.proofs.HeaderWrites.{IsChanged, all-removed, but-from_all, held-changed, queue-changed}
 use Rattle.gl_table.proofs.headers.take.Goals as goal
 

@@ -1,8 +1,4 @@
-use Rattle.std.specs.Prelude.{◌≡◌, is_none, is_ok, Option, Some, None}
-use Rattle.std.proofs.Common.{◌∙◌, refl, ap}
-use Rattle.gl_modes.specs.declared.refusal.Refusal.{Refusal}
-use Rattle.gl_graph.specs.Refusals.{verdict}
-use Rattle.gl_table.specs.Lists.{mode_of}
+use Rattle.gl_table.proofs.Words.{◌∙◌, ◌≡◌, ap, is_none, is_ok, mode_of, None, Option, refl, Refusal, Some, verdict}
 use Rattle.gl_table.proofs.Strays.{rule_allows}
 use Rattle.gl_table.proofs.moving.is_allowed.Goals as goal
 

@@ -1,6 +1,4 @@
-use Rattle.std.proofs.Common.{length, ap, arith}
-use Rattle.std.proofs.lemmas.List.{length-take}
-use Rattle.gl_graph.specs.View.{graph_of}
+use Rattle.gl_table.proofs.Words.{ap, arith, graph_of, length, length-take}
 use Rattle.gl_table.proofs.Parents.{parents_few}
 use Rattle.gl_table.proofs.moving.parents_before.Goals as goal
 

@@ -1,4 +1,4 @@
-use Rattle.std.proofs.Common.{◌≡◌, take}
+use Rattle.gl_table.proofs.Words.{◌≡◌, take}
 use Rattle.gl_table.proofs.moving.parents_before.Given as goal
 
 abbrev pub invariant-loop-parent : goal.invariant-loop-parent

@@ -1,9 +1,4 @@
-use Rattle.std.specs.List.{count_by}
-use Rattle.gl_graph.specs.Graph.{nodes}
-use Rattle.gl_graph.specs.View.{graph_of}
-use Rattle.gl_header.specs.Header.{holds}
-use Rattle.gl_table.specs.Locks.{AreSound, state_on}
-use Rattle.gl_table.specs.State.{members}
+use Rattle.gl_table.proofs.Words.{AreSound, count_by, graph_of, holds, members, nodes, state_on}
 use Rattle.gl_table.proofs.Departures.{IsLeaving}
 use Rattle.gl_table.proofs.locks.Locks.leave_all.Given as goal
 

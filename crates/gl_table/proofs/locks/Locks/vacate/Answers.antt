@@ -1,16 +1,5 @@
-use Rattle.std.specs.Prelude.{◌≡◌, ◌<◌, ℕ, List, length}
-use Rattle.std.proofs.Common.{refl, sym, ap, ◌∙◌, subst}
-use Rattle.std.proofs.Math.Path.{fun_ext}
-use Rattle.gl_modes.specs.declared.node.NodeId.{NodeId}
-use Rattle.gl_header.specs.Header.{Waiter}
-use Rattle.gl_graph.specs.Graph.{parents_of}
-use Rattle.gl_graph.specs.View.{graph_of}
-use Rattle.gl_table.specs.Calls.{deleted}
-use Rattle.gl_table.specs.Frees.{CanFree, Frees}
-use Rattle.gl_table.specs.Headers.{header_or_new, queue_of}
-use Rattle.gl_table.specs.Locks.{state_on}
-use Rattle.gl_table.specs.Slots.{CanStrike, Strikes}
-use Rattle.gl_table.specs.State.{State}
+use Rattle.gl_table.proofs.Words.{◌<◌, ◌∙◌, ◌≡◌, ap, CanFree, CanStrike, deleted, Frees, fun_ext, graph_of, header_or_new, length, List, NodeId, parents_of}
+use Rattle.gl_table.proofs.Words.{queue_of, refl, State, state_on, Strikes, subst, sym, Waiter, ℕ}
 use Rattle.gl_table.proofs.GrantKeeps.{txn_there}
 use Rattle.gl_table.proofs.Vacated.{MayVacate, agrees_vacated, can_free, can_strike, counts_vacated, txns_freed}
 use Rattle.gl_table.proofs.locks.Locks.vacate.Goals.{After-parents, After-queue, After-strike, Joined-header}
@@ -35,10 +24,13 @@ listed c = let s : State = state_on (graph_of c.args.graph.now) c.args.self.now 
 pub strike-requires-clause-can : goal.strike-requires-clause-can
 strike-requires-clause-can c =
     subst (λ (ps : List NodeId). CanStrike c.args.self.now.lists.items c.args.slot c.args.rec ps) (sym c.parents.ensures)
-    (can_strike (state_on (graph_of c.args.graph.now) c.args.self.now) c.args.slot c.args.rec c.args.self.now.lists.items (may (goal.at.strike-requires-clause-can c).After-parents) (listed (goal.at.strike-requires-clause-can c).After-parents))
+    (can_strike (state_on (graph_of c.args.graph.now) c.args.self.now) c.args.slot c.args.rec c.args.self.now.lists.items
+    (may (goal.at.strike-requires-clause-can c).After-parents) (listed (goal.at.strike-requires-clause-can c).After-parents))
 
-struck : (c : After-strike) → Strikes c.args.self.now.lists.items c.strike.new.lists.items c.args.slot c.args.rec (parents_of (graph_of c.args.graph.now) c.args.rec)
-struck c = subst (λ (ps : List NodeId). Strikes c.args.self.now.lists.items c.strike.new.lists.items c.args.slot c.args.rec ps) c.parents.ensures c.strike.ensures
+struck : (c : After-strike) → Strikes c.args.self.now.lists.items c.strike.new.lists.items c.args.slot c.args.rec
+    (parents_of (graph_of c.args.graph.now) c.args.rec)
+struck c = subst (λ (ps : List NodeId). Strikes c.args.self.now.lists.items c.strike.new.lists.items c.args.slot c.args.rec ps) c.parents.ensures
+    c.strike.ensures
 
 -- the waiters of the header that was taken are those of the record
 waiters : (c : After-queue) → c.queue.result.now ≡ queue_of c.args.self.now.headers.entries c.args.rec
@@ -48,13 +40,16 @@ pub free-requires : goal.free-requires
 free-requires c =
     let at = goal.at.free-requires c in
     subst (λ (ws : List Waiter). CanFree c.args.self.now.seats.items c.strike.new.lists.items c.args.told.now.items c.args.rec ws) (sym (waiters c))
-    (can_free (state_on (graph_of c.args.graph.now) c.args.self.now) c.args.slot c.args.rec c.args.self.now.lists.items (may at.After-parents) c.strike.new.lists.items (struck at.After-strike)
+    (can_free (state_on (graph_of c.args.graph.now) c.args.self.now) c.args.slot c.args.rec c.args.self.now.lists.items (may at.After-parents)
+    c.strike.new.lists.items (struck at.After-strike)
     c.args.self.now.seats.items c.args.told.now.items refl c.requires.sound.few c.requires.sound.lists c.requires.by_slot c.requires.untold)
 
 freed : (c : Joined-header) → c.queue.result.now ≡ queue_of c.args.self.now.headers.entries c.args.rec
-    → Frees c.args.self.now.seats.items c.strike.new.lists.items c.args.told.now.items c.args.rec (queue_of c.args.self.now.headers.entries c.args.rec) c.free.new.seats.items c.free.new.lists.items c.free.new.told.items
+    → Frees c.args.self.now.seats.items c.strike.new.lists.items c.args.told.now.items c.args.rec (queue_of c.args.self.now.headers.entries c.args.rec)
+    c.free.new.seats.items c.free.new.lists.items c.free.new.told.items
 freed c is =
-    subst (λ (ws : List Waiter). Frees c.args.self.now.seats.items c.strike.new.lists.items c.args.told.now.items c.args.rec ws c.free.new.seats.items c.free.new.lists.items c.free.new.told.items) is
+    subst (λ (ws : List Waiter). Frees c.args.self.now.seats.items c.strike.new.lists.items c.args.told.now.items c.args.rec ws c.free.new.seats.items
+    c.free.new.lists.items c.free.new.told.items) is
     c.free.ensures
 
 pub returns-clause-state : goal.returns-clause-state
@@ -72,11 +67,13 @@ returns-clause-state c =
 pub returns-clause-agree : goal.returns-clause-agree
 returns-clause-agree c =
     let at = goal.at.returns-clause-agree c in
-    agrees_vacated (state_on (graph_of c.args.graph.now) c.args.self.now) c.args.slot c.args.rec c.args.self.now.lists.items (may at.After-parents) c.strike.new.lists.items (struck at.After-strike)
+    agrees_vacated (state_on (graph_of c.args.graph.now) c.args.self.now) c.args.slot c.args.rec c.args.self.now.lists.items (may at.After-parents)
+    c.strike.new.lists.items (struck at.After-strike)
     c.free.new.lists.items (freed c (waiters at.After-queue)).lists
 
 pub returns-clause-count : goal.returns-clause-count
 returns-clause-count c =
     let at = goal.at.returns-clause-count c in
-    counts_vacated (state_on (graph_of c.args.graph.now) c.args.self.now) c.args.slot c.args.rec c.args.self.now.lists.items (may at.After-parents) c.strike.new.lists.items (struck at.After-strike)
+    counts_vacated (state_on (graph_of c.args.graph.now) c.args.self.now) c.args.slot c.args.rec c.args.self.now.lists.items (may at.After-parents)
+    c.strike.new.lists.items (struck at.After-strike)
     c.free.new.lists.items (freed c (waiters at.After-queue)).lists

@@ -1,16 +1,6 @@
-use Rattle.std.specs.Prelude.{◌≡◌, ◌<◌, ◌&&◌, ℕ, true, false, not, List, length, if◌then◌else◌, slice_set}
-use Rattle.std.proofs.Common.{◌∙◌, ap, subst, sym}
-use Rattle.std.proofs.lemmas.Bool.{not-false, not-true}
-use Rattle.indexmap.specs.IndexMap.{spare}
-use Rattle.gl_modes.specs.declared.mode.Mode.TheVariants.{NL}
-use Rattle.gl_modes.specs.declared.node.NodeId.{NodeId}
-use Rattle.gl_modes.specs.Nodes.{same_node}
-use Rattle.gl_graph.specs.View.{graph_of}
-use Rattle.gl_table.specs.declared.list.LockList.{LockList}
-use Rattle.gl_table.specs.Lists.{IsApart, count_of, is_listed, mode_of}
-use Rattle.gl_table.specs.Locks.{Agrees, CountsHeld, state_on}
-use Rattle.gl_table.specs.Pumps.{pumped, without_wait}
-use Rattle.gl_table.specs.State.{State}
+use Rattle.gl_table.proofs.Words.{◌&&◌, ◌<◌, ◌∙◌, ◌≡◌, Agrees, ap, count_of, CountsHeld, false, graph_of, if◌then◌else◌, is_listed, IsApart, length, List}
+use Rattle.gl_table.proofs.Words.{LockList, mode_of, NL, NodeId, not, not-false, not-true, pumped, same_node, slice_set, spare, State, state_on, subst, sym}
+use Rattle.gl_table.proofs.Words.{true, without_wait, ℕ}
 use Rattle.gl_table.proofs.GrantKeeps.{txn_there}
 use Rattle.gl_table.proofs.Less.{waiting_is}
 use Rattle.gl_table.proofs.OneWaits.{waits_only}
@@ -31,35 +21,44 @@ slot_there c = subst (λ (k : ℕ). c.args.slot < k) (sym (c.leave_queue.ensures
     (c.requires.orderly.below c.args.slot (txn_there ((before c).txns c.args.slot) _ (waiting_is _ c.args.node c.requires.waits).1))
 
 -- only its node grants
-state_is : (c : After-holds) → pumped (without_wait (before c) c.args.slot c.args.status) (same_node c.args.node) ≡ state_on (graph_of c.args.graph.now) c.leave_queue.new.self
-state_is c = sym (c.leave_queue.ensures.state ∙ ap (pumped (without_wait (before c) c.args.slot c.args.status)) (waits_only (before c) c.args.slot c.args.node c.requires.waits))
+state_is : (c : After-holds) → pumped (without_wait (before c) c.args.slot c.args.status) (same_node c.args.node)
+    ≡ state_on (graph_of c.args.graph.now) c.leave_queue.new.self
+state_is c = sym (c.leave_queue.ensures.state ∙ ap (pumped (without_wait (before c) c.args.slot c.args.status))
+    (waits_only (before c) c.args.slot c.args.node c.requires.waits))
 
 module _ (c : After-holds) (ls : List LockList) (unlists : Unlists (mid c) ls c.args.slot c.args.node) where
   agrees : (u : ℕ) → Agrees (state_on (graph_of c.args.graph.now) c.leave_queue.new.self) ls u
   agrees u = subst (λ (x : State). Agrees x ls u) (state_is c)
-      (agrees_withdrawn (before c) c.requires.orderly c.law.ensures.lawful c.args.slot c.args.node c.args.status c.requires.quiet c.requires.waits c.args.self.now.lists.items (mid c)
+      (agrees_withdrawn (before c) c.requires.orderly c.law.ensures.lawful c.args.slot c.args.node c.args.status c.requires.quiet c.requires.waits
+      c.args.self.now.lists.items (mid c)
       c.requires.agree c.requires.count c.leave_queue.ensures.lists ls unlists u)
 
   counts : (u : ℕ) → CountsHeld (state_on (graph_of c.args.graph.now) c.leave_queue.new.self) ls u
   counts u = subst (λ (x : State). CountsHeld x ls u) (state_is c)
-      (counts_withdrawn (before c) c.requires.orderly c.law.ensures.lawful c.args.slot c.args.node c.args.status c.requires.quiet c.requires.waits c.args.self.now.lists.items (mid c)
+      (counts_withdrawn (before c) c.requires.orderly c.law.ensures.lawful c.args.slot c.args.node c.args.status c.requires.quiet c.requires.waits
+      c.args.self.now.lists.items (mid c)
       c.requires.agree c.requires.count c.leave_queue.ensures.lists ls unlists u)
 
 pub leave-requires-clause-room : goal.leave-requires-clause-room
 leave-requires-clause-room c = let h = (goal.at.leave-requires-clause-room c).After-holds in λ _.
     subst (λ (k : ℕ). 0 < k) (by_list-at (λ l. spare l.loose) 0 (mid h) c.args.slot c.index_mut-list.result.now (slot_there h) c.index_mut-list.ensures.value)
-    (room_left (before h) c.requires.orderly c.law.ensures.lawful c.args.slot c.args.node c.args.status c.requires.quiet c.requires.waits c.args.self.now.lists.items (mid h)
+    (room_left (before h) c.requires.orderly c.law.ensures.lawful c.args.slot c.args.node c.args.status c.requires.quiet c.requires.waits
+    c.args.self.now.lists.items (mid h)
     c.requires.agree c.requires.count c.leave_queue.ensures.lists)
 
 -- the node was taken out of the list, which did not hold it
-left : (c : After-holds) (l' : LockList) → c.holds.result ≡ false → IsApart l' → ((q : NodeId) → mode_of l' q ≡ (if same_node q c.args.node then NL else mode_of c.index_mut-list.result.now q))
-    → ((q : NodeId) → is_listed l' q ≡ (is_listed c.index_mut-list.result.now q && not (same_node q c.args.node))) → ((q : NodeId) → count_of l' q ≡ count_of c.index_mut-list.result.now q)
+left : (c : After-holds) (l' : LockList) → c.holds.result ≡ false → IsApart l'
+    → ((q : NodeId) → mode_of l' q ≡ (if same_node q c.args.node then NL else mode_of c.index_mut-list.result.now q))
+    → ((q : NodeId) → is_listed l' q ≡ (is_listed c.index_mut-list.result.now q && not (same_node q c.args.node)))
+    → ((q : NodeId) → count_of l' q ≡ count_of c.index_mut-list.result.now q)
     → Unlists (mid c) (slice_set (mid c) c.args.slot l') c.args.slot c.args.node
-left c l' out = unlists_left (mid c) c.args.slot c.args.node c.index_mut-list.result.now (slot_there c) c.index_mut-list.ensures.value c.leave_queue.ensures.sound.apart l' (not-false _ (sym c.holds.ensures ∙ out))
+left c l' out = unlists_left (mid c) c.args.slot c.args.node c.index_mut-list.result.now (slot_there c) c.index_mut-list.ensures.value
+    c.leave_queue.ensures.sound.apart l' (not-false _ (sym c.holds.ensures ∙ out))
 
 -- or it holds it
 stays : (c : After-holds) → c.holds.result ≡ true → Unlists (mid c) (slice_set (mid c) c.args.slot c.index_mut-list.result.now) c.args.slot c.args.node
-stays c held = unlists_held (mid c) c.args.slot c.args.node c.index_mut-list.result.now (slot_there c) c.index_mut-list.ensures.value c.leave_queue.ensures.sound.apart (not-true _ (sym c.holds.ensures ∙ held))
+stays c held = unlists_held (mid c) c.args.slot c.args.node c.index_mut-list.result.now (slot_there c) c.index_mut-list.ensures.value
+    c.leave_queue.ensures.sound.apart (not-true _ (sym c.holds.ensures ∙ held))
 
 pub returns-then-not-holds-clause-sound : goal.returns-then-not-holds-clause-sound
 returns-then-not-holds-clause-sound c = let h = (goal.at.returns-then-not-holds-clause-sound c).After-holds in

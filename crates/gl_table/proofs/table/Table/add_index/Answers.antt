@@ -1,6 +1,4 @@
-use Rattle.gl_graph.specs.Changes.{IsIndexBorn}
-use Rattle.gl_graph.specs.Refusals.{index_refusal}
-use Rattle.gl_graph.specs.View.{graph_of}
+use Rattle.gl_table.proofs.Words.{graph_of, index_refusal, IsIndexBorn}
 use Rattle.gl_table.proofs.Births.{index-grows}
 use Rattle.gl_table.proofs.TableBirths.{called-sound}
 use Rattle.gl_table.proofs.table.Table.add_index.Goals as goal

@@ -1,7 +1,4 @@
-use Rattle.gl_graph.specs.Changes.{IsBorn}
-use Rattle.gl_graph.specs.Refusals.{inner_refusal}
-use Rattle.gl_graph.specs.Shapes.{Inner}
-use Rattle.gl_graph.specs.View.{graph_of}
+use Rattle.gl_table.proofs.Words.{graph_of, Inner, inner_refusal, IsBorn}
 use Rattle.gl_table.proofs.Births.{inner-grows}
 use Rattle.gl_table.proofs.TableBirths.{called-sound}
 use Rattle.gl_table.proofs.table.Table.add_inner.Goals as goal

@@ -1,4 +1,4 @@
-use Rattle.std.proofs.Common.{◌∙◌}
+use Rattle.gl_table.proofs.Words.{◌∙◌}
 use Rattle.gl_table.proofs.Queries.{effect-seen}
 use Rattle.gl_table.proofs.table.Table.effective.Goals as goal
 
