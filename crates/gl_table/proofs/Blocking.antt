@@ -1,8 +1,8 @@
 -- A lock that is granted at once, and one that waits: what each makes of a table.
 use Rattle.gl_table.proofs.Words.{[], ◌&&◌, ◌==◌, ◌∙◌, ◌≡◌, Active, Agrees, ap, ap₂, AreSound, AtBlock, Bool, ByWatcher, CountsHeld, Deadlock, Detect, enqueued}
-use Rattle.gl_table.proofs.Words.{enters_at, false, granted, graph_of, if◌then◌else◌, IsLawful, IsOrderly, IsSound, locked_as, LocksKeeping, Mode, NodeId}
-use Rattle.gl_table.proofs.Words.{number_same, refl, same_node-refl, Some, State, state_of, state_on, status_of, subst, sym, Told, told_but, true, TxnId}
-use Rattle.gl_table.proofs.Words.{Victims, view_of, WaitSettles, WaitSettlesKeeping, wanted, ℕ}
+use Rattle.gl_table.proofs.Words.{enters_at, false, granted, if◌then◌else◌, IsLawful, IsOrderly, IsSound, locked_as, LocksKeeping, Mode, NodeId, number_same}
+use Rattle.gl_table.proofs.Words.{refl, same_node-refl, Some, State, state_in, state_of, status_of, subst, sym, Told, told_but, true, TxnId, Victims, view_of}
+use Rattle.gl_table.proofs.Words.{WaitSettles, WaitSettlesKeeping, wanted, ℕ}
 use Rattle.gl_table.specs.declared.table.Table.TheInside.{Inside}
 use Rattle.gl_table.specs.Calls.{Locks}
 use Rattle.gl_table.specs.declared.locks.Locks as code
@@ -55,42 +55,42 @@ module _ (i : Inside) (sound : IsSound i) (t : TxnId) (n : NodeId) (m : Mode) (m
   s = state_of (view_of i)
 
   abbrev l : State
-  l = state_on (graph_of i.graph) i.locks
+  l = state_in i.graph i.locks
 
   -- the asker waits
-  module _ (locks : code.Locks) (is : state_on (graph_of i.graph) locks ≡ enqueued l t.slot n (wanted l t.slot n m)) where
-    pub waiting_orderly : IsOrderly (state_on (graph_of i.graph) locks)
+  module _ (locks : code.Locks) (is : state_in i.graph locks ≡ enqueued l t.slot n (wanted l t.slot n m)) where
+    pub waiting_orderly : IsOrderly (state_in i.graph locks)
     waiting_orderly =
         let o = lawful_orderly _ (waiting-lawful s sound.lawful t n m may blocks) in
         subst IsOrderly (sym is) (record { holders = o.holders; holders_live = o.holders_live; waiters_live = o.waiters_live; waits_are = o.waits_are;
         one_wait = o.one_wait; below = o.below })
 
     -- and was settled, where that is the way of detection
-    module _ (left : code.Locks) (kept : Deadlock) (settles : WaitSettles i.detect i.victims (state_on (graph_of i.graph) locks) t.slot
-        (state_on (graph_of i.graph) left)) where
+    module _ (left : code.Locks) (kept : Deadlock) (settles : WaitSettles i.detect i.victims (state_in i.graph locks) t.slot
+        (state_in i.graph left)) where
       abbrev after : Inside
       after = record i { locks = left; deadlock = kept }
 
       pub state_locked : Locks s t.slot n m (state_of (view_of after))
       state_locked = record {
         at_once = λ h. clash h blocks;
-        waits = λ h. settles_on i.detect i.victims (enqueued l t.slot n (wanted l t.slot n m)) (state_on (graph_of i.graph) left) t.slot i.detect i.victims
+        waits = λ h. settles_on i.detect i.victims (enqueued l t.slot n (wanted l t.slot n m)) (state_in i.graph left) t.slot i.detect i.victims
             i.begins
-            (subst (λ (x : State). WaitSettles i.detect i.victims x t.slot (state_on (graph_of i.graph) left)) is settles);
+            (subst (λ (x : State). WaitSettles i.detect i.victims x t.slot (state_in i.graph left)) is settles);
       }
 
       -- with what is kept of deadlocks
-      pub kept_locked : WaitSettlesKeeping i.detect i.victims (state_on (graph_of i.graph) locks) t.slot i.deadlock (state_on (graph_of i.graph) left) kept
+      pub kept_locked : WaitSettlesKeeping i.detect i.victims (state_in i.graph locks) t.slot i.deadlock (state_in i.graph left) kept
           → LocksKeeping s t.slot n m i.deadlock (state_of (view_of after)) kept
       kept_locked keeps = record {
         at_once = λ h. clash h blocks;
-        waits = λ h. keeps_on i.detect i.victims (enqueued l t.slot n (wanted l t.slot n m)) (state_on (graph_of i.graph) left) t.slot i.deadlock kept i.detect
+        waits = λ h. keeps_on i.detect i.victims (enqueued l t.slot n (wanted l t.slot n m)) (state_in i.graph left) t.slot i.deadlock kept i.detect
             i.victims i.begins
-            (subst (λ (x : State). WaitSettlesKeeping i.detect i.victims x t.slot i.deadlock (state_on (graph_of i.graph) left) kept) is keeps);
+            (subst (λ (x : State). WaitSettlesKeeping i.detect i.victims x t.slot i.deadlock (state_in i.graph left) kept) is keeps);
       }
 
-      pub sound_locked : AreSound left → ((u : ℕ) → Agrees (state_on (graph_of i.graph) left) left.lists.items u)
-          → ((u : ℕ) → CountsHeld (state_on (graph_of i.graph) left) left.lists.items u) → IsSound after
+      pub sound_locked : AreSound left → ((u : ℕ) → Agrees (state_in i.graph left) left.lists.items u)
+          → ((u : ℕ) → CountsHeld (state_in i.graph left) left.lists.items u) → IsSound after
       sound_locked are agrees counts = record {
         lawful = locks-lawful s (state_of (view_of after)) sound.lawful t n m may state_locked;
         sound = are;
@@ -100,7 +100,7 @@ module _ (i : Inside) (sound : IsSound i) (t : TxnId) (n : NodeId) (m : Mode) (m
       }
 
       -- the asker's own wait is told to nobody
-      pub told_locked : (list : Told) → list ≡ told_but t.slot (state_on (graph_of i.graph) locks) (state_on (graph_of i.graph) left)
+      pub told_locked : (list : Told) → list ≡ told_but t.slot (state_in i.graph locks) (state_in i.graph left)
           → list ≡ told_but t.slot s (state_of (view_of after))
       told_locked list told =
           told

@@ -3,7 +3,7 @@ use Rattle.gl_table.proofs.Words.{[], ◌&&◌, ◌∙◌, ◌∷◌, ◌≡◌,
 use Rattle.gl_table.proofs.Words.{Err, false, first_refusal, fun_ext, granted, graph_of, HasNoCycle, held_by, held_of, if◌then◌else◌, is_granted_at, IsLawful}
 use Rattle.gl_table.proofs.Words.{IsSound, length, lock_tests, Mode, need_parents, no_node, no_txn, NodeId, None, not, not_false, not_refused, Ok, OnErr, OnOk}
 use Rattle.gl_table.proofs.Words.{Option, parents_of, passed_then, queue_of, refl, Refusal, refused_first, Refuses, Result, rule_refusal, Some, some_no_node}
-use Rattle.gl_table.proofs.Words.{State, state_of, state_on, status_of, subst, supremum, sym, TableView, test_fails, true, try_tests, TxnId, txns_of, verdict}
+use Rattle.gl_table.proofs.Words.{State, state_in, state_of, status_of, subst, supremum, sym, TableView, test_fails, true, try_tests, TxnId, txns_of, verdict}
 use Rattle.gl_table.proofs.Words.{view_of, waiting_test, wanted, where_true, would_block, ℕ}
 use Rattle.gl_table.specs.declared.locks.Locks.{Locks}
 use Rattle.gl_table.specs.declared.table.Table.TheInside.{Inside}
@@ -85,22 +85,22 @@ module _ (i : Inside) (sound : IsSound i) (t : TxnId) (n : NodeId) (m : Mode) wh
   s = state_of (view_of i)
 
   abbrev l : State
-  l = state_on (graph_of i.graph) i.locks
+  l = state_in i.graph i.locks
 
   -- the header says what the state says
   pub same_enters : is_granted_at i.locks.headers.entries t.slot n m ≡ enters_at s t.slot n m
   same_enters = sym (enters-most l (orderly i sound) sound.sound.few t.slot n (wanted l t.slot n m))
 
   -- the grant was made
-  module _ (may : MayLock s t n m) (fits : enters_at s t.slot n m ≡ true) (locks : Locks) (is : state_on (graph_of i.graph) locks ≡ granted l t.slot n m) where
+  module _ (may : MayLock s t n m) (fits : enters_at s t.slot n m ≡ true) (locks : Locks) (is : state_in i.graph locks ≡ granted l t.slot n m) where
     abbrev after : Inside
     after = record i { locks = locks }
 
     pub state_granted : state_of (view_of after) ≡ granted s t.slot n m
     state_granted = ap {A = State} (λ x. record x { detect = i.detect; victims = i.victims; begins = i.begins }) is
 
-    pub sound_granted : AreSound locks → ((u : ℕ) → Agrees (state_on (graph_of i.graph) locks) locks.lists.items u)
-        → ((u : ℕ) → CountsHeld (state_on (graph_of i.graph) locks) locks.lists.items u) → IsSound after
+    pub sound_granted : AreSound locks → ((u : ℕ) → Agrees (state_in i.graph locks) locks.lists.items u)
+        → ((u : ℕ) → CountsHeld (state_in i.graph locks) locks.lists.items u) → IsSound after
     sound_granted are agrees counts = record {
       lawful = subst IsLawful (sym state_granted) (granted-lawful s sound.lawful t n m may fits);
       sound = are;
@@ -111,8 +111,8 @@ module _ (i : Inside) (sound : IsSound i) (t : TxnId) (n : NodeId) (m : Mode) wh
 
   -- nothing but room was made
   pub sound_kept : (locks : Locks) → locks.headers.entries ≡ i.locks.headers.entries → locks.seats ≡ i.locks.seats
-      → AreSound locks → ((u : ℕ) → Agrees (state_on (graph_of i.graph) locks) locks.lists.items u)
-      → ((u : ℕ) → CountsHeld (state_on (graph_of i.graph) locks) locks.lists.items u) → IsSound (record i { locks = locks })
+      → AreSound locks → ((u : ℕ) → Agrees (state_in i.graph locks) locks.lists.items u)
+      → ((u : ℕ) → CountsHeld (state_in i.graph locks) locks.lists.items u) → IsSound (record i { locks = locks })
   sound_kept locks headers seats are agrees counts = record {
     lawful = subst IsLawful same sound.lawful;
     sound = are;
@@ -131,14 +131,14 @@ module _ (i : Inside) (sound : IsSound i) (t : TxnId) (n : NodeId) (m : Mode) wh
 
   -- it was granted, or nothing but room was made
   pub sound_tried : (r : Result Mode Refusal) (locks : Locks) → MayLock s t n m → enters_at s t.slot n m ≡ true
-      → OnOk r (state_on (graph_of i.graph) locks ≡ granted l t.slot n m)
+      → OnOk r (state_in i.graph locks ≡ granted l t.slot n m)
       → OnErr r (locks.headers.entries ≡ i.locks.headers.entries) → OnErr r (locks.seats ≡ i.locks.seats)
-      → AreSound locks → ((u : ℕ) → Agrees (state_on (graph_of i.graph) locks) locks.lists.items u)
-      → ((u : ℕ) → CountsHeld (state_on (graph_of i.graph) locks) locks.lists.items u) → IsSound (record i { locks = locks })
+      → AreSound locks → ((u : ℕ) → Agrees (state_in i.graph locks) locks.lists.items u)
+      → ((u : ℕ) → CountsHeld (state_in i.graph locks) locks.lists.items u) → IsSound (record i { locks = locks })
   sound_tried (Ok x) locks may fits ok headers seats are agrees counts = sound_granted may fits locks ok are agrees counts
   sound_tried (Err x) locks may fits ok headers seats are agrees counts = sound_kept locks headers seats are agrees counts
 
-  pub state_tried : (r : Result Mode Refusal) (locks : Locks) → OnOk r (state_on (graph_of i.graph) locks ≡ granted l t.slot n m)
+  pub state_tried : (r : Result Mode Refusal) (locks : Locks) → OnOk r (state_in i.graph locks ≡ granted l t.slot n m)
       → OnOk r (state_of (view_of (record i { locks = locks })) ≡ granted s t.slot n m)
   state_tried (Ok x) locks ok = ap {A = State} (λ x. record x { detect = i.detect; victims = i.victims; begins = i.begins }) ok
   state_tried (Err x) locks ok = ok

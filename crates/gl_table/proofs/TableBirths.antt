@@ -1,6 +1,6 @@
 -- A call on a table's graph makes nodes, or changes nothing: what holds of the fields still does.
 use Rattle.gl_table.proofs.Words.{◌∙◌, ◌≡◌, ap, Bool, children_that, CountsHeld, Err, graph_of, holds, IfOk, IsSound, members, NodeId, None, Ok, OnErr, Option}
-use Rattle.gl_table.proofs.Words.{refl, Refusal, Refuses, Result, Some, State, state_of, state_on, subst, sym, View, view_of, ℕ}
+use Rattle.gl_table.proofs.Words.{refl, Refusal, Refuses, Result, Some, State, state_in, state_of, subst, sym, View, view_of, ℕ}
 use Rattle.gl_table.specs.declared.table.Table.TheInside.{Inside}
 use Rattle.gl_table.proofs.Births.{Grows, born-children, grown-lawful}
 
@@ -13,7 +13,7 @@ module _ (i : Inside) (sound : IsSound i) (v : View) where
   s = state_of (view_of i)
 
   -- nobody holds a new node, so the counts of held children are the old ones
-  grown-counts : Grows (graph_of i.graph) (graph_of v) → (u : ℕ) → CountsHeld (state_on (graph_of v) i.locks) i.locks.lists.items u
+  grown-counts : Grows (graph_of i.graph) (graph_of v) → (u : ℕ) → CountsHeld (state_in v i.locks) i.locks.lists.items u
   grown-counts more u p =
       let held : NodeId → Bool = λ c. holds (members s c) u in
       sound.counts u p ∙ sym (born-children (graph_of i.graph) sound.lawful.graph more.ns held (λ c h. (sound.lawful.grants_live u c h).1) p)

@@ -1,9 +1,9 @@
 -- What the calls on the locks make of a table.
 use Rattle.gl_table.proofs.Words.{[], ◌&&◌, ◌==◌, ◌∙◌, ◌∷◌, ◌≡◌, Active, Agrees, ap, AreSound, commit_tests, CountsHeld, false, first_refusal, front_at}
-use Rattle.gl_table.proofs.Words.{grant_notice, graph_of, HasNoCycle, held_child, held_children, holds, if◌then◌else◌, is_among_waiters, is_child, is_wait}
-use Rattle.gl_table.proofs.Words.{IsLawful, IsOnWay, IsOrderly, IsSound, members, NL, NodeId, nodes, None, not_false, not_held, not_refused, not_true, Ok}
-use Rattle.gl_table.proofs.Words.{Option, refl, Refusal, released, same_number, Some, split, State, state_of, state_on, status_of, subst, sym, TableView}
-use Rattle.gl_table.proofs.Words.{test_fails, Told, told, told_to, true, TxnId, unlocked, verdict, view_of, WakesTold, with_grant, ℕ}
+use Rattle.gl_table.proofs.Words.{grant_notice, HasNoCycle, held_child, held_children, holds, if◌then◌else◌, is_among_waiters, is_child, is_wait, IsLawful}
+use Rattle.gl_table.proofs.Words.{IsOnWay, IsOrderly, IsSound, members, NL, NodeId, nodes, None, not_false, not_held, not_refused, not_true, Ok, Option, refl}
+use Rattle.gl_table.proofs.Words.{Refusal, released, same_number, Some, split, State, state_in, state_of, status_of, subst, sym, TableView, test_fails, Told}
+use Rattle.gl_table.proofs.Words.{told, told_to, true, TxnId, unlocked, verdict, view_of, WakesTold, with_grant, ℕ}
 use Rattle.gl_table.specs.declared.locks.Locks.{Locks}
 use Rattle.gl_table.specs.declared.table.Table.TheInside.{Inside}
 use Rattle.gl_table.proofs.Childless.{none_found_counted}
@@ -46,7 +46,7 @@ module _ (i : Inside) (sound : IsSound i) where
 
   -- the locks alone, as a state
   abbrev l : State
-  l = state_on (graph_of i.graph) i.locks
+  l = state_in i.graph i.locks
 
   pub orderly : IsOrderly l
   orderly = let o = lawful_orderly s sound.lawful in
@@ -68,15 +68,15 @@ module _ (i : Inside) (sound : IsSound i) where
 
   -- one node was released, of which no child was held
   module _ (t : ℕ) (n : NodeId) (active : status_of s t ≡ Some Active) (childless : held_child s t n ≡ None) (locks : Locks)
-      (is : state_on (graph_of i.graph) locks ≡ unlocked l t n) where
+      (is : state_in i.graph locks ≡ unlocked l t n) where
     abbrev after : Inside
     after = record i { locks = locks }
 
     pub state_unlocked : state_of (view_of after) ≡ unlocked s t n
     state_unlocked = ap {A = State} (λ x. record x { detect = i.detect; victims = i.victims; begins = i.begins }) is
 
-    pub sound_unlocked : AreSound locks → ((u : ℕ) → Agrees (state_on (graph_of i.graph) locks) locks.lists.items u)
-        → ((u : ℕ) → CountsHeld (state_on (graph_of i.graph) locks) locks.lists.items u) → IsSound after
+    pub sound_unlocked : AreSound locks → ((u : ℕ) → Agrees (state_in i.graph locks) locks.lists.items u)
+        → ((u : ℕ) → CountsHeld (state_in i.graph locks) locks.lists.items u) → IsSound after
     sound_unlocked are agrees counts = record {
       lawful = subst IsLawful (sym state_unlocked) (unlocked-lawful s sound.lawful t n active childless);
       sound = are;
@@ -112,15 +112,15 @@ module _ (i : Inside) (sound : IsSound i) where
       live = w.live }
 
   -- a transaction ended
-  module _ (t : ℕ) (locks : Locks) (is : state_on (graph_of i.graph) locks ≡ released l t) where
+  module _ (t : ℕ) (locks : Locks) (is : state_in i.graph locks ≡ released l t) where
     abbrev ended : Inside
     ended = record i { locks = locks }
 
     pub state_released : state_of (view_of ended) ≡ released s t
     state_released = ap {A = State} (λ x. record x { detect = i.detect; victims = i.victims; begins = i.begins }) is
 
-    pub sound_released : AreSound locks → ((u : ℕ) → Agrees (state_on (graph_of i.graph) locks) locks.lists.items u)
-        → ((u : ℕ) → CountsHeld (state_on (graph_of i.graph) locks) locks.lists.items u) → IsSound ended
+    pub sound_released : AreSound locks → ((u : ℕ) → Agrees (state_in i.graph locks) locks.lists.items u)
+        → ((u : ℕ) → CountsHeld (state_in i.graph locks) locks.lists.items u) → IsSound ended
     sound_released are agrees counts = record {
       lawful = subst IsLawful (sym state_released) (released-lawful s sound.lawful t);
       sound = are;

@@ -1,7 +1,7 @@
 -- What the ends of waits and of transactions make of a table.
 use Rattle.gl_table.proofs.Words.{[], ◌==◌, ◌||◌, ◌∙◌, ◌≡◌, Active, Agrees, ap, AreSound, Bool, cancelled, CountsHeld, Deadlock, false, front_at, granted_at}
-use Rattle.gl_table.proofs.Words.{graph_of, HasNoCycle, holds, if◌then◌else◌, is_waiting_at, IsBySlot, IsLawful, IsOnWay, IsSound, List, members, NodeId, None}
-use Rattle.gl_table.proofs.Words.{notices_in, number_same, Option, refl, released, same_number, Settled, SettlesKeeping, split, State, state_of, state_on}
+use Rattle.gl_table.proofs.Words.{HasNoCycle, holds, if◌then◌else◌, is_waiting_at, IsBySlot, IsLawful, IsOnWay, IsSound, List, members, NodeId, None}
+use Rattle.gl_table.proofs.Words.{notices_in, number_same, Option, refl, released, same_number, Settled, SettlesKeeping, split, State, state_in, state_of}
 use Rattle.gl_table.proofs.Words.{status_in, status_of, stripped, subst, sym, Told, told, told_but, told_to, true, Txn, view_of, Waiter, WakesTold}
 use Rattle.gl_table.proofs.Words.{without_wait, woken, ℕ}
 use Rattle.gl_table.specs.declared.locks.Locks.{Locks}
@@ -29,12 +29,12 @@ module _ (i : Inside) (sound : IsSound i) where
 
   -- the locks alone, as a state
   abbrev l : State
-  l = state_on (graph_of i.graph) i.locks
+  l = state_in i.graph i.locks
 
   -- a transaction ended, whatever it was doing: all others are told, and it is told nothing itself
-  pub told_ended : (t : ℕ) (locks : Locks) → state_on (graph_of i.graph) locks ≡ released l t → (first list : Told) → first ≡ [] → IsBySlot list
+  pub told_ended : (t : ℕ) (locks : Locks) → state_in i.graph locks ≡ released l t → (first list : Told) → first ≡ [] → IsBySlot list
       → ((from : State) → IsOnWay from l → ((u : ℕ) → (u == t) ≡ false → notices_in first u ≡ told_to from l u) → (u : ℕ) → (u == t) ≡ false
-      → notices_in list u ≡ told_to from (state_on (graph_of i.graph) locks) u)
+      → notices_in list u ≡ told_to from (state_in i.graph locks) u)
       → notices_in list t ≡ notices_in first t → list ≡ told s (state_of (view_of (record i { locks = locks })))
   told_ended t locks is first list none by_slot tells own =
       told_is s after list sound.lawful sound.sound.few by_slot
@@ -50,15 +50,15 @@ module _ (i : Inside) (sound : IsSound i) where
       gone = ap (λ x. status_of x t) (state_released i sound t locks is) ∙ released_gone s t
 
   -- a wait was taken back
-  module _ (t : ℕ) (n : NodeId) (waits : is_waiting_at s t n ≡ true) (locks : Locks) (is : state_on (graph_of i.graph) locks ≡ cancelled l t) where
+  module _ (t : ℕ) (n : NodeId) (waits : is_waiting_at s t n ≡ true) (locks : Locks) (is : state_in i.graph locks ≡ cancelled l t) where
     abbrev after : Inside
     after = record i { locks = locks }
 
     pub state_cancelled : state_of (view_of after) ≡ cancelled s t
     state_cancelled = ap {A = State} (λ x. record x { detect = i.detect; victims = i.victims; begins = i.begins }) is
 
-    pub sound_cancelled : AreSound locks → ((u : ℕ) → Agrees (state_on (graph_of i.graph) locks) locks.lists.items u)
-        → ((u : ℕ) → CountsHeld (state_on (graph_of i.graph) locks) locks.lists.items u) → IsSound after
+    pub sound_cancelled : AreSound locks → ((u : ℕ) → Agrees (state_in i.graph locks) locks.lists.items u)
+        → ((u : ℕ) → CountsHeld (state_in i.graph locks) locks.lists.items u) → IsSound after
     sound_cancelled are agrees counts = record {
       lawful = subst IsLawful (sym state_cancelled) (without_wait-lawful s sound.lawful t Active (λ q m e. cc));
       sound = are;
@@ -78,20 +78,20 @@ module _ (i : Inside) (sound : IsSound i) where
         ∙ sym (nobody_told s v))).1 u e ∙ ap (λ x. told_to s x u) (sym is)))
 
   -- a transaction was settled
-  module _ (t : ℕ) (locks : Locks) (kept : Deadlock) (is : Settled i.victims l t (state_on (graph_of i.graph) locks)) where
+  module _ (t : ℕ) (locks : Locks) (kept : Deadlock) (is : Settled i.victims l t (state_in i.graph locks)) where
     abbrev now : Inside
     now = record i { locks = locks; deadlock = kept }
 
     pub state_settled : Settled s.victims s t (state_of (view_of now))
-    state_settled = settled_also i.victims t i.detect i.victims i.begins l (state_on (graph_of i.graph) locks) is
+    state_settled = settled_also i.victims t i.detect i.victims i.begins l (state_in i.graph locks) is
 
     -- with what is kept of it
-    pub kept_settled : SettlesKeeping i.victims l t i.deadlock (state_on (graph_of i.graph) locks) kept
+    pub kept_settled : SettlesKeeping i.victims l t i.deadlock (state_in i.graph locks) kept
         → SettlesKeeping s.victims s t i.deadlock (state_of (view_of now)) kept
-    kept_settled keeps = keeping_also i.victims t i.detect i.victims i.begins l (state_on (graph_of i.graph) locks) i.deadlock kept keeps
+    kept_settled keeps = keeping_also i.victims t i.detect i.victims i.begins l (state_in i.graph locks) i.deadlock kept keeps
 
-    pub sound_settled : AreSound locks → ((u : ℕ) → Agrees (state_on (graph_of i.graph) locks) locks.lists.items u)
-        → ((u : ℕ) → CountsHeld (state_on (graph_of i.graph) locks) locks.lists.items u) → IsSound now
+    pub sound_settled : AreSound locks → ((u : ℕ) → Agrees (state_in i.graph locks) locks.lists.items u)
+        → ((u : ℕ) → CountsHeld (state_in i.graph locks) locks.lists.items u) → IsSound now
     sound_settled are agrees counts = record {
       lawful = settled-lawful s.victims s (state_of (view_of now)) t sound.lawful state_settled;
       sound = are;
@@ -103,7 +103,7 @@ module _ (i : Inside) (sound : IsSound i) where
     -- who is granted is told, and who is a victim
     pub told_settled : (first list : Told) → first ≡ [] → IsBySlot list
         → ((from : State) → IsOnWay from l → ((u : ℕ) → notices_in first u ≡ told_to from l u) → (u : ℕ)
-        → notices_in list u ≡ told_to from (state_on (graph_of i.graph) locks) u)
+        → notices_in list u ≡ told_to from (state_in i.graph locks) u)
         → list ≡ told s (state_of (view_of now))
     told_settled first list none by_slot tells =
         told_is s (state_of (view_of now)) list sound.lawful sound.sound.few by_slot

@@ -5,8 +5,8 @@ use Rattle.gl_table.proofs.Words.{fits, fits-limit, Graph, graph_of, HasNoCycle,
 use Rattle.gl_table.proofs.Words.{is_live, is_movable_shape, is_record_shape, IsBySlot, IsLawful, IsOrderly, IsSound, IX, least_parents, List, list_all}
 use Rattle.gl_table.proofs.Words.{listed_by, LockList, members, Mode, moved_to, need_exclusive, need_new_parents, NL, Node, NodeId, None, not, not_true}
 use Rattle.gl_table.proofs.Words.{notices_in, Option, option_map_or, other_number, parents_of, refl, rekeyed, rekeyed_parents, same_mode, same_node}
-use Rattle.gl_table.proofs.Words.{same_number, shape_of, slice_get, slot_limit, Some, some_given, split, State, state_of, state_on, status_of, stays, subst}
-use Rattle.gl_table.proofs.Words.{sym, TableView, Told, told, told_to, true, unlisted, unlisted_by, View, view_of, with_parents, X, ℕ, ⊎_elim}
+use Rattle.gl_table.proofs.Words.{same_number, shape_of, slice_get, slot_limit, Some, some_given, split, State, state_in, state_of, state_on, status_of, stays}
+use Rattle.gl_table.proofs.Words.{subst, sym, TableView, Told, told, told_to, true, unlisted, unlisted_by, View, view_of, with_parents, X, ℕ, ⊎_elim}
 use Rattle.gl_table.specs.declared.locks.Locks.{Locks}
 use Rattle.gl_table.specs.declared.table.Table.TheInside.{Inside}
 use Rattle.gl_table.proofs.Children.{children_few}
@@ -48,7 +48,7 @@ module _ (i : Inside) (sound : IsSound i) (t : ℕ) (n : NodeId) (was is : Node)
 
   -- the locks as they were, over the new graph
   abbrev l : State
-  l = state_on (graph_of v) i.locks
+  l = state_in v i.locks
 
   abbrev g' : Graph
   g' = graph_of v

@@ -1,8 +1,8 @@
 -- A record is made in a table, and one transaction holds it in X: what holds of the fields still does.
 use Rattle.gl_table.proofs.Words.{[], ◌∙◌, ◌≡◌, ◌≤◌, Active, Agrees, ap, AreHeaders, AreSound, CountsHeld, first_not_ix, Graph, graph_of, HasNoCycle, IfOk}
 use Rattle.gl_table.proofs.Words.{is_live, IsBorn, IsLawful, IsRoomyRecord, IsSound, KeepsLists, length, List, NL, NodeId, None, OnErr, Rec, record_parents}
-use Rattle.gl_table.proofs.Words.{record_refusal, record_unrefused, Refusal, Refuses, Result, Some, State, state_of, state_on, status_of, subst, sym, true}
-use Rattle.gl_table.proofs.Words.{View, view_of, with_grant, with_graph, X, ℕ}
+use Rattle.gl_table.proofs.Words.{record_refusal, record_unrefused, Refusal, Refuses, Result, Some, State, state_in, state_of, state_on, status_of, subst, sym}
+use Rattle.gl_table.proofs.Words.{true, View, view_of, with_grant, with_graph, X, ℕ}
 use Rattle.gl_table.specs.declared.locks.Locks.{Locks}
 use Rattle.gl_table.specs.declared.table.Table.TheInside.{Inside}
 use Rattle.gl_table.proofs.Asks.{state-same}
@@ -33,9 +33,9 @@ module _ (i : Inside) (sound : IsSound i) (locks : Locks) (headers : locks.heade
       apart = lists.apart sound.sound.apart;
     };
     agrees = λ u. subst (λ x. Agrees x locks.lists.items u) (sym (same_on (graph_of i.graph)))
-        (keeps-agrees (state_on (graph_of i.graph) i.locks) i.locks.lists.items locks.lists.items u lists (sound.agrees u));
+        (keeps-agrees (state_in i.graph i.locks) i.locks.lists.items locks.lists.items u lists (sound.agrees u));
     counts = λ u. subst (λ x. CountsHeld x locks.lists.items u) (sym (same_on (graph_of i.graph)))
-        (keeps-counts (state_on (graph_of i.graph) i.locks) i.locks.lists.items locks.lists.items u lists (sound.counts u));
+        (keeps-counts (state_in i.graph i.locks) i.locks.lists.items locks.lists.items u lists (sound.counts u));
     no_cycle = λ at. subst HasNoCycle (sym same_state) (sound.no_cycle at);
   }
     where
@@ -71,7 +71,7 @@ module _ (i : Inside) (sound : IsSound i) (f : NodeId) (keys : List ℕ) (free :
     record_unawaited = born-unawaited s sound.lawful f keys roomy_record.file roomy_record.each roomy_record.room (graph_of v) n born
 
     -- the slot holds it
-    module _ (t : ℕ) (locks : Locks) (is : state_on (graph_of v) locks ≡ with_grant (state_on (graph_of v) i.locks) t n X) where
+    module _ (t : ℕ) (locks : Locks) (is : state_in v locks ≡ with_grant (state_in v i.locks) t n X) where
       abbrev after : Inside
       after = record grown { locks = locks }
 
@@ -79,8 +79,8 @@ module _ (i : Inside) (sound : IsSound i) (f : NodeId) (keys : List ℕ) (free :
       state_placed = ap {A = State} (λ x. record x { detect = i.detect; victims = i.victims; begins = i.begins }) is
 
       pub sound_placed : status_of s t ≡ Some Active → first_not_ix (s.held t) (record_parents (graph_of i.graph) f keys) ≡ None
-          → AreSound locks → ((u : ℕ) → Agrees (state_on (graph_of v) locks) locks.lists.items u)
-          → ((u : ℕ) → CountsHeld (state_on (graph_of v) locks) locks.lists.items u) → IsSound after
+          → AreSound locks → ((u : ℕ) → Agrees (state_in v locks) locks.lists.items u)
+          → ((u : ℕ) → CountsHeld (state_in v locks) locks.lists.items u) → IsSound after
       sound_placed active rule are agrees counts = record {
         lawful = subst IsLawful (sym state_placed) (placed-lawful s sound.lawful f keys roomy_record.file roomy_record.each roomy_record.room (graph_of v) n
             born t active rule);

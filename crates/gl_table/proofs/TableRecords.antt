@@ -2,8 +2,9 @@
 use Rattle.gl_table.proofs.Words.{[], ◌==◌, ◌∙◌, ◌≡◌, Active, addressed, age_in, age_of, Agrees, ap, are_compatible, AreSound, CountsHeld, deleted, false}
 use Rattle.gl_table.proofs.Words.{freed, FreesTold, Graph, graph_of, HasNoCycle, if◌then◌else◌, is_among_waiters, is_live, is_record_shape, is_some}
 use Rattle.gl_table.proofs.Words.{is_waiting_at, IsLawful, IsOrderly, IsSound, Mode, NL, NodeId, None, none_but, not, not_true, notice_of, number_same, Option}
-use Rattle.gl_table.proofs.Words.{other_number, refl, rules, same_mode, same_mode-equal, same_node-refl, shape_of, Some, split, State, state_of, state_on}
-use Rattle.gl_table.proofs.Words.{status_in, subst, sym, Told, told, told_from, told_to, true, Txn, TxnId, View, view_of, Waiting, with_key, without_node, X, ℕ}
+use Rattle.gl_table.proofs.Words.{other_number, refl, rules, same_mode, same_mode-equal, same_node-refl, shape_of, Some, split, State, state_in, state_of}
+use Rattle.gl_table.proofs.Words.{state_on, status_in, subst, sym, Told, told, told_from, told_to, true, Txn, TxnId, View, view_of, Waiting, with_key}
+use Rattle.gl_table.proofs.Words.{without_node, X, ℕ}
 use Rattle.gl_table.specs.declared.locks.Locks.{Locks}
 use Rattle.gl_table.specs.declared.table.Table.TheInside.{Inside}
 use Rattle.gl_table.specs.declared.notice.Notice.TheVariants as notice
@@ -58,17 +59,17 @@ deleted_tells s o r u = split (is_among_waiters u (s.queue r))
 
 module _ (i : Inside) (sound : IsSound i) (r : NodeId) (rec : is_record_shape (shape_of (graph_of i.graph) r) ≡ true)
     (locks : Locks) (v : View) (removed : graph_of v ≡ without_node (graph_of i.graph) r)
-    (is : state_on (without_node (graph_of i.graph) r) locks ≡ deleted (state_on (graph_of i.graph) i.locks) r) where
+    (is : state_on (without_node (graph_of i.graph) r) locks ≡ deleted (state_in i.graph i.locks) r) where
   abbrev s : State
   s = state_of (view_of i)
 
   abbrev l : State
-  l = state_on (graph_of i.graph) i.locks
+  l = state_in i.graph i.locks
 
   abbrev after : Inside
   after = record i { graph = v; locks = locks }
 
-  on_locks : state_on (graph_of v) locks ≡ deleted l r
+  on_locks : state_in v locks ≡ deleted l r
   on_locks = ap (λ g. state_on g locks) removed ∙ is
 
   pub state_deleted : state_of (view_of after) ≡ deleted s r

@@ -1,9 +1,9 @@
 -- A table that sheds covered children.
 use Rattle.gl_table.proofs.Words.{[], ◌&&◌, ◌+◌, ◌-◌, ◌==◌, ◌||◌, ◌∙◌, ◌∷◌, ◌≡◌, ◌≤◌, Active, Agrees, and_both, ap, AreSound, arith, Bool, cond, count_by}
-use Rattle.gl_table.proofs.Words.{count_cons, counted_by, CountsHeld, covered_children, false, granted_at, graph_of, HasNoCycle, held_by, held_children, holds}
+use Rattle.gl_table.proofs.Words.{count_cons, counted_by, CountsHeld, covered_children, false, granted_at, HasNoCycle, held_by, held_children, holds}
 use Rattle.gl_table.proofs.Words.{holds_child, if◌then◌else◌, is_at_least, is_child, is_covered, is_wait, IsBySlot, IsLawful, IsOnWay, IsSound, List, list_all}
 use Rattle.gl_table.proofs.Words.{listed, members, Mode, NL, NodeId, nodes, None, not, not_true, notices_in, number_same, Option, parents_of, refl, rules, S}
-use Rattle.gl_table.proofs.Words.{same_mode, same_number, shed, Some, split, State, state_of, state_on, status_of, subst, sym, Told, told, told_to, true}
+use Rattle.gl_table.proofs.Words.{same_mode, same_number, shed, Some, split, State, state_in, state_of, status_of, subst, sym, Told, told, told_to, true}
 use Rattle.gl_table.proofs.Words.{unwrap_or, view_of, X, ℕ}
 use Rattle.gl_table.specs.declared.locks.Locks.{Locks}
 use Rattle.gl_table.specs.declared.table.Table.TheInside.{Inside}
@@ -80,15 +80,15 @@ module _ (i : Inside) (sound : IsSound i) (t : ℕ) (n : NodeId) where
             first true b d e = refl
             first false b d e = e
 
-    module _ (locks : Locks) (is : state_on (graph_of i.graph) locks ≡ shed (state_on (graph_of i.graph) i.locks) t n) where
+    module _ (locks : Locks) (is : state_in i.graph locks ≡ shed (state_in i.graph i.locks) t n) where
       abbrev ended : Inside
       ended = record i { locks = locks }
 
       pub state_shed : state_of (view_of ended) ≡ shed s t n
       state_shed = ap {A = State} (λ x. record x { detect = i.detect; victims = i.victims; begins = i.begins }) is
 
-      pub sound_shed : AreSound locks → ((u : ℕ) → Agrees (state_on (graph_of i.graph) locks) locks.lists.items u)
-          → ((u : ℕ) → CountsHeld (state_on (graph_of i.graph) locks) locks.lists.items u) → IsSound ended
+      pub sound_shed : AreSound locks → ((u : ℕ) → Agrees (state_in i.graph locks) locks.lists.items u)
+          → ((u : ℕ) → CountsHeld (state_in i.graph locks) locks.lists.items u) → IsSound ended
       sound_shed are agrees counts = record {
         lawful = subst IsLawful (sym state_shed) (shed-lawful s sound.lawful t n active);
         sound = are;
@@ -98,9 +98,9 @@ module _ (i : Inside) (sound : IsSound i) (t : ℕ) (n : NodeId) where
       }
 
       pub told_shed : (first list : Told) → first ≡ [] → IsBySlot list
-          → ((from : State) → IsOnWay from (state_on (graph_of i.graph) i.locks)
-          → ((u : ℕ) → (u == t) ≡ false → notices_in first u ≡ told_to from (state_on (graph_of i.graph) i.locks) u) → (u : ℕ) → (u == t) ≡ false
-          → notices_in list u ≡ told_to from (state_on (graph_of i.graph) locks) u)
+          → ((from : State) → IsOnWay from (state_in i.graph i.locks)
+          → ((u : ℕ) → (u == t) ≡ false → notices_in first u ≡ told_to from (state_in i.graph i.locks) u) → (u : ℕ) → (u == t) ≡ false
+          → notices_in list u ≡ told_to from (state_in i.graph locks) u)
           → notices_in list t ≡ notices_in first t → list ≡ told s (state_of (view_of ended))
       told_shed first list none by_slot tells own =
           told_is s (state_of (view_of ended)) list sound.lawful sound.sound.few by_slot
@@ -109,8 +109,8 @@ module _ (i : Inside) (sound : IsSound i) (t : ℕ) (n : NodeId) where
           ∙ sym (active_untold s (state_of (view_of ended)) u (ap (status_of s) is ∙ active)))
           (λ e. tells s (table_way i sound) (λ v k. ap (λ xs. notices_in xs v) none ∙ sym (nobody_told s v)) u e))
 
-      module _ (are : AreSound locks) (agrees : (u : ℕ) → Agrees (state_on (graph_of i.graph) locks) locks.lists.items u) (counts : (u : ℕ)
-          → CountsHeld (state_on (graph_of i.graph) locks) locks.lists.items u)
+      module _ (are : AreSound locks) (agrees : (u : ℕ) → Agrees (state_in i.graph locks) locks.lists.items u) (counts : (u : ℕ)
+          → CountsHeld (state_in i.graph locks) locks.lists.items u)
           (reads : is_at_least (s.held t n) S ≡ true) (o o' : Option ℕ)
           (said : o ≡ (if holds (λ u. held_by i.locks.lists.items u n) t then Some (counted_by i.locks.lists.items t n) else None))
           (said' : o' ≡ (if holds (λ u. held_by locks.lists.items u n) t then Some (counted_by locks.lists.items t n) else None)) (k k' : ℕ)

@@ -124,7 +124,7 @@ pub use Rattle.gl_table.specs.Laws.{SettlingFrees}
 pub use Rattle.gl_table.specs.Listing.{AreRowsOf, is_row_of, row_of, rows_of}
 pub use Rattle.gl_table.specs.Lists.{count_in, count_of, entry_of, HasRoom, is_listed, loose_of, mode_in, mode_of, unlisted}
 unfoldable pub use Rattle.gl_table.specs.Lists.{IsApart}
-pub use Rattle.gl_table.specs.Locks.{Agrees, AreNew, AreSound, CountsHeld, IsOrderly, state_on}
+pub use Rattle.gl_table.specs.Locks.{state_in, Agrees, AreNew, AreSound, CountsHeld, IsOrderly, state_on}
 pub use Rattle.gl_table.specs.Marks.{covered_in, IsShedding, NoneMarkedFrom}
 pub use Rattle.gl_table.specs.OneHolder.{IsOneHolder}
 pub use Rattle.gl_table.specs.Pumping.{WaitWell}

@@ -5,6 +5,7 @@ use Rattle.gl_modes.specs.declared.mode.Mode.{Mode}
 use Rattle.gl_modes.specs.declared.mode.Mode.TheVariants.{NL}
 use Rattle.gl_modes.specs.declared.node.NodeId.{NodeId}
 use Rattle.gl_graph.specs.Graph.{Graph, is_live}
+use Rattle.gl_graph.specs.View.{View, graph_of}
 use Rattle.gl_header.specs.Header.{holds, is_among_waiters, is_waiter}
 use Rattle.gl_table.specs.declared.detect.Detect.TheVariants.{ByWatcher}
 use Rattle.gl_waits.specs.declared.victims.Victims.TheVariants.{Youngest}
@@ -33,6 +34,10 @@ state_on g l =
       begins = 0;
       accepted = 0;
     }
+
+-- the same, with the graph as a contract sees it
+abbrev pub state_in : View → Locks → State
+state_in g l = state_on (graph_of g) l
 
 -- a slot's list has the nodes that it holds or waits for, with their modes, and room for a later grant where it waits
 pub record Agrees (s : State) (ls : List LockList) (u : ℕ) : Type 0 where

@@ -2,9 +2,8 @@
 
 ghost use Rattle.std.specs.Prelude.{◌≡◌, ◌<◌, ◌==◌, [], ℕ, IfNone, IfSome, None, Some, false, length, true};
 ghost use Rattle.gl_graph.specs.Graph.{Graph as AGraph};
-ghost use Rattle.gl_graph.specs.View.{graph_of};
 ghost use Rattle.gl_waits.specs.Waits.{IsOnNoCycle};
-ghost use Rattle.gl_table.specs.Locks.{Agrees, AreSound, CountsHeld, IsOrderly, state_on};
+ghost use Rattle.gl_table.specs.Locks.{Agrees, AreSound, CountsHeld, IsOrderly, state_in, state_on};
 ghost use Rattle.gl_table.specs.Calls.{WaitSettles};
 ghost use Rattle.gl_table.specs.Deadlocks.{SettlesKeeping, WaitSettlesKeeping};
 ghost use Rattle.gl_table.specs.Pumps.{condemned};
@@ -39,16 +38,16 @@ impl Locks {
     )
         requires empty { told.old.items ≡ [] }
         requires sound { AreSound self.old }
-        requires orderly { IsOrderly (state_on (graph_of graph.now) self.old) }
-        requires agree { (u : ℕ) → Agrees (state_on (graph_of graph.now) self.old) self.old.lists.items u }
-        requires count { (u : ℕ) → CountsHeld (state_on (graph_of graph.now) self.old) self.old.lists.items u }
+        requires orderly { IsOrderly (state_in graph.now self.old) }
+        requires agree { (u : ℕ) → Agrees (state_in graph.now self.old) self.old.lists.items u }
+        requires count { (u : ℕ) → CountsHeld (state_in graph.now self.old) self.old.lists.items u }
         requires seated { slot < length self.old.seats.items }
         ensures sound { AreSound self.new }
-        ensures state { WaitSettles detect victims (state_on (graph_of graph.now) self.old) slot (state_on (graph_of graph.now) self.new) }
-        ensures deadlock { WaitSettlesKeeping detect victims (state_on (graph_of graph.now) self.old) slot deadlock.old (state_on (graph_of graph.now) self.new) deadlock.new }
-        ensures agree { (u : ℕ) → Agrees (state_on (graph_of graph.now) self.new) self.new.lists.items u }
-        ensures count { (u : ℕ) → CountsHeld (state_on (graph_of graph.now) self.new) self.new.lists.items u }
-        ensures told { told.new.items ≡ told_but slot (state_on (graph_of graph.now) self.old) (state_on (graph_of graph.now) self.new) }
+        ensures state { WaitSettles detect victims (state_in graph.now self.old) slot (state_in graph.now self.new) }
+        ensures deadlock { WaitSettlesKeeping detect victims (state_in graph.now self.old) slot deadlock.old (state_in graph.now self.new) deadlock.new }
+        ensures agree { (u : ℕ) → Agrees (state_in graph.now self.new) self.new.lists.items u }
+        ensures count { (u : ℕ) → CountsHeld (state_in graph.now self.new) self.new.lists.items u }
+        ensures told { told.new.items ≡ told_but slot (state_in graph.now self.old) (state_in graph.now self.new) }
     {
         if matches!(detect, Detect::AtBlock) {
             self.settle(graph, victims, slot, deadlock, told);
@@ -67,21 +66,21 @@ impl Locks {
         told: &mut Told,
     )
         requires sound { AreSound self.old }
-        requires orderly { IsOrderly (state_on (graph_of graph.now) self.old) }
-        requires agree { (u : ℕ) → Agrees (state_on (graph_of graph.now) self.old) self.old.lists.items u }
-        requires count { (u : ℕ) → CountsHeld (state_on (graph_of graph.now) self.old) self.old.lists.items u }
+        requires orderly { IsOrderly (state_in graph.now self.old) }
+        requires agree { (u : ℕ) → Agrees (state_in graph.now self.old) self.old.lists.items u }
+        requires count { (u : ℕ) → CountsHeld (state_in graph.now self.old) self.old.lists.items u }
         requires seated { slot < length self.old.seats.items }
         requires by_slot { IsBySlot told.old.items }
-        requires untold { (u : ℕ) → is_wait (status_of (state_on (graph_of graph.now) self.old) u) ≡ true → notices_in told.old.items u ≡ None }
+        requires untold { (u : ℕ) → is_wait (status_of (state_in graph.now self.old) u) ≡ true → notices_in told.old.items u ≡ None }
         ensures sound { AreSound self.new }
-        ensures state { Settled victims (state_on (graph_of graph.now) self.old) slot (state_on (graph_of graph.now) self.new) }
-        ensures deadlock { SettlesKeeping victims (state_on (graph_of graph.now) self.old) slot deadlock.old (state_on (graph_of graph.now) self.new) deadlock.new }
-        ensures agree { (u : ℕ) → Agrees (state_on (graph_of graph.now) self.new) self.new.lists.items u }
-        ensures count { (u : ℕ) → CountsHeld (state_on (graph_of graph.now) self.new) self.new.lists.items u }
+        ensures state { Settled victims (state_in graph.now self.old) slot (state_in graph.now self.new) }
+        ensures deadlock { SettlesKeeping victims (state_in graph.now self.old) slot deadlock.old (state_in graph.now self.new) deadlock.new }
+        ensures agree { (u : ℕ) → Agrees (state_in graph.now self.new) self.new.lists.items u }
+        ensures count { (u : ℕ) → CountsHeld (state_in graph.now self.new) self.new.lists.items u }
         ensures by_slot { IsBySlot told.new.items }
-        ensures tells { (s : State) → IsOnWay s (state_on (graph_of graph.now) self.old)
-            → ((u : ℕ) → notices_in told.old.items u ≡ told_to s (state_on (graph_of graph.now) self.old) u)
-            → (u : ℕ) → notices_in told.new.items u ≡ told_to s (state_on (graph_of graph.now) self.new) u }
+        ensures tells { (s : State) → IsOnWay s (state_in graph.now self.old)
+            → ((u : ℕ) → notices_in told.old.items u ≡ told_to s (state_in graph.now self.old) u)
+            → (u : ℕ) → notices_in told.new.items u ≡ told_to s (state_in graph.now self.new) u }
     {
         while let Some(victim) = self.victim(victims, slot) {
             // Kept first: once the victim's wait is given up, the cycle is gone.
@@ -110,23 +109,23 @@ impl Locks {
     /// Gives up the wait of a slot, which is condemned and told so. Its node grants from its front.
     fn condemn(&mut self, graph: &Graph, slot: u8, told: &mut Told)
         requires sound { AreSound self.old }
-        requires orderly { IsOrderly (state_on (graph_of graph.now) self.old) }
-        requires agree { (u : ℕ) → Agrees (state_on (graph_of graph.now) self.old) self.old.lists.items u }
-        requires count { (u : ℕ) → CountsHeld (state_on (graph_of graph.now) self.old) self.old.lists.items u }
-        requires waits { is_wait (status_of (state_on (graph_of graph.now) self.old) slot) ≡ true }
+        requires orderly { IsOrderly (state_in graph.now self.old) }
+        requires agree { (u : ℕ) → Agrees (state_in graph.now self.old) self.old.lists.items u }
+        requires count { (u : ℕ) → CountsHeld (state_in graph.now self.old) self.old.lists.items u }
+        requires waits { is_wait (status_of (state_in graph.now self.old) slot) ≡ true }
         requires by_slot { IsBySlot told.old.items }
-        requires untold { (u : ℕ) → is_wait (status_of (state_on (graph_of graph.now) self.old) u) ≡ true → notices_in told.old.items u ≡ None }
+        requires untold { (u : ℕ) → is_wait (status_of (state_in graph.now self.old) u) ≡ true → notices_in told.old.items u ≡ None }
         ensures sound { AreSound self.new }
-        ensures orderly { IsOrderly (state_on (graph_of graph.now) self.new) }
-        ensures state { state_on (graph_of graph.now) self.new ≡ condemned (state_on (graph_of graph.now) self.old) slot }
-        ensures agree { (u : ℕ) → Agrees (state_on (graph_of graph.now) self.new) self.new.lists.items u }
-        ensures count { (u : ℕ) → CountsHeld (state_on (graph_of graph.now) self.new) self.new.lists.items u }
+        ensures orderly { IsOrderly (state_in graph.now self.new) }
+        ensures state { state_in graph.now self.new ≡ condemned (state_in graph.now self.old) slot }
+        ensures agree { (u : ℕ) → Agrees (state_in graph.now self.new) self.new.lists.items u }
+        ensures count { (u : ℕ) → CountsHeld (state_in graph.now self.new) self.new.lists.items u }
         ensures by_slot { IsBySlot told.new.items }
-        ensures untold { (u : ℕ) → is_wait (status_of (state_on (graph_of graph.now) self.new) u) ≡ true → notices_in told.new.items u ≡ None }
-        ensures ways { (s : State) → IsOnWay s (state_on (graph_of graph.now) self.old) → IsOnWay s (state_on (graph_of graph.now) self.new) }
-        ensures tells { (s : State) → IsOnWay s (state_on (graph_of graph.now) self.old)
-            → ((u : ℕ) → notices_in told.old.items u ≡ told_to s (state_on (graph_of graph.now) self.old) u)
-            → (u : ℕ) → notices_in told.new.items u ≡ told_to s (state_on (graph_of graph.now) self.new) u }
+        ensures untold { (u : ℕ) → is_wait (status_of (state_in graph.now self.new) u) ≡ true → notices_in told.new.items u ≡ None }
+        ensures ways { (s : State) → IsOnWay s (state_in graph.now self.old) → IsOnWay s (state_in graph.now self.new) }
+        ensures tells { (s : State) → IsOnWay s (state_in graph.now self.old)
+            → ((u : ℕ) → notices_in told.old.items u ≡ told_to s (state_in graph.now self.old) u)
+            → (u : ℕ) → notices_in told.new.items u ≡ told_to s (state_in graph.now self.new) u }
     {
         if let Some(
             Seat {

@@ -3,10 +3,9 @@
 ghost use Rattle.std.specs.Prelude.{◌≡◌, ◌<◌, ◌==◌, ℕ, None, Some, false, length, true};
 ghost use Rattle.gl_modes.specs.declared.mode.Mode.TheVariants.{NL};
 ghost use Rattle.gl_modes.specs.declared.node.NodeId.{NodeId as Node};
-ghost use Rattle.gl_graph.specs.View.{graph_of};
 ghost use Rattle.gl_header.specs.Header.{is_among_waiters};
 ghost use Rattle.gl_table.specs.Calls.{released};
-ghost use Rattle.gl_table.specs.Locks.{Agrees, AreSound, CountsHeld, IsOrderly, state_on};
+ghost use Rattle.gl_table.specs.Locks.{Agrees, AreSound, CountsHeld, IsOrderly, state_in};
 ghost use Rattle.gl_table.specs.State.{State, status_of, with_txn};
 ghost use Rattle.gl_table.specs.Telling.{IsBySlot, notices_in};
 ghost use Rattle.gl_table.specs.Tells.{IsOnWay, told_to};
@@ -24,20 +23,20 @@ impl Locks {
     /// node grants from its front.
     pub(crate) fn abort(&mut self, graph: &Graph, slot: u8, told: &mut Told)
         requires sound { AreSound self.old }
-        requires orderly { IsOrderly (state_on (graph_of graph.now) self.old) }
-        requires agree { (u : ℕ) → Agrees (state_on (graph_of graph.now) self.old) self.old.lists.items u }
-        requires count { (u : ℕ) → CountsHeld (state_on (graph_of graph.now) self.old) self.old.lists.items u }
+        requires orderly { IsOrderly (state_in graph.now self.old) }
+        requires agree { (u : ℕ) → Agrees (state_in graph.now self.old) self.old.lists.items u }
+        requires count { (u : ℕ) → CountsHeld (state_in graph.now self.old) self.old.lists.items u }
         requires seated { slot < length self.old.seats.items }
         requires by_slot { IsBySlot told.old.items }
-        requires untold { (u : ℕ) → is_wait (status_of (state_on (graph_of graph.now) self.old) u) ≡ true → notices_in told.old.items u ≡ None }
+        requires untold { (u : ℕ) → is_wait (status_of (state_in graph.now self.old) u) ≡ true → notices_in told.old.items u ≡ None }
         ensures sound { AreSound self.new }
-        ensures state { state_on (graph_of graph.now) self.new ≡ released (state_on (graph_of graph.now) self.old) slot }
-        ensures agree { (u : ℕ) → Agrees (state_on (graph_of graph.now) self.new) self.new.lists.items u }
-        ensures count { (u : ℕ) → CountsHeld (state_on (graph_of graph.now) self.new) self.new.lists.items u }
+        ensures state { state_in graph.now self.new ≡ released (state_in graph.now self.old) slot }
+        ensures agree { (u : ℕ) → Agrees (state_in graph.now self.new) self.new.lists.items u }
+        ensures count { (u : ℕ) → CountsHeld (state_in graph.now self.new) self.new.lists.items u }
         ensures by_slot { IsBySlot told.new.items }
-        ensures tells { (s : State) → IsOnWay s (state_on (graph_of graph.now) self.old)
-            → ((u : ℕ) → (u == slot) ≡ false → notices_in told.old.items u ≡ told_to s (state_on (graph_of graph.now) self.old) u)
-            → (u : ℕ) → (u == slot) ≡ false → notices_in told.new.items u ≡ told_to s (state_on (graph_of graph.now) self.new) u }
+        ensures tells { (s : State) → IsOnWay s (state_in graph.now self.old)
+            → ((u : ℕ) → (u == slot) ≡ false → notices_in told.old.items u ≡ told_to s (state_in graph.now self.old) u)
+            → (u : ℕ) → (u == slot) ≡ false → notices_in told.new.items u ≡ told_to s (state_in graph.now self.new) u }
         ensures own { notices_in told.new.items slot ≡ notices_in told.old.items slot }
     {
         if let Some(
@@ -56,21 +55,21 @@ impl Locks {
     /// from its front.
     pub(crate) fn end(&mut self, graph: &Graph, slot: u8, told: &mut Told)
         requires sound { AreSound self.old }
-        requires orderly { IsOrderly (state_on (graph_of graph.now) self.old) }
-        requires agree { (u : ℕ) → Agrees (state_on (graph_of graph.now) self.old) self.old.lists.items u }
-        requires count { (u : ℕ) → CountsHeld (state_on (graph_of graph.now) self.old) self.old.lists.items u }
+        requires orderly { IsOrderly (state_in graph.now self.old) }
+        requires agree { (u : ℕ) → Agrees (state_in graph.now self.old) self.old.lists.items u }
+        requires count { (u : ℕ) → CountsHeld (state_in graph.now self.old) self.old.lists.items u }
         requires seated { slot < length self.old.seats.items }
-        requires quiet { is_wait (status_of (state_on (graph_of graph.now) self.old) slot) ≡ false }
+        requires quiet { is_wait (status_of (state_in graph.now self.old) slot) ≡ false }
         requires by_slot { IsBySlot told.old.items }
-        requires untold { (u : ℕ) → is_wait (status_of (state_on (graph_of graph.now) self.old) u) ≡ true → notices_in told.old.items u ≡ None }
+        requires untold { (u : ℕ) → is_wait (status_of (state_in graph.now self.old) u) ≡ true → notices_in told.old.items u ≡ None }
         ensures sound { AreSound self.new }
-        ensures state { state_on (graph_of graph.now) self.new ≡ released (state_on (graph_of graph.now) self.old) slot }
-        ensures agree { (u : ℕ) → Agrees (state_on (graph_of graph.now) self.new) self.new.lists.items u }
-        ensures count { (u : ℕ) → CountsHeld (state_on (graph_of graph.now) self.new) self.new.lists.items u }
+        ensures state { state_in graph.now self.new ≡ released (state_in graph.now self.old) slot }
+        ensures agree { (u : ℕ) → Agrees (state_in graph.now self.new) self.new.lists.items u }
+        ensures count { (u : ℕ) → CountsHeld (state_in graph.now self.new) self.new.lists.items u }
         ensures by_slot { IsBySlot told.new.items }
-        ensures tells { (s : State) → IsOnWay s (state_on (graph_of graph.now) self.old)
-            → ((u : ℕ) → (u == slot) ≡ false → notices_in told.old.items u ≡ told_to s (state_on (graph_of graph.now) self.old) u)
-            → (u : ℕ) → (u == slot) ≡ false → notices_in told.new.items u ≡ told_to s (state_on (graph_of graph.now) self.new) u }
+        ensures tells { (s : State) → IsOnWay s (state_in graph.now self.old)
+            → ((u : ℕ) → (u == slot) ≡ false → notices_in told.old.items u ≡ told_to s (state_in graph.now self.old) u)
+            → (u : ℕ) → (u == slot) ≡ false → notices_in told.new.items u ≡ told_to s (state_in graph.now self.new) u }
         ensures own { notices_in told.new.items slot ≡ notices_in told.old.items slot }
     {
         self.leave_all(graph, slot, told);
@@ -81,24 +80,24 @@ impl Locks {
     /// Releases one node after the other, until the slot's list is empty.
     fn leave_all(&mut self, graph: &Graph, slot: u8, told: &mut Told)
         requires sound { AreSound self.old }
-        requires orderly { IsOrderly (state_on (graph_of graph.now) self.old) }
-        requires agree { (u : ℕ) → Agrees (state_on (graph_of graph.now) self.old) self.old.lists.items u }
-        requires count { (u : ℕ) → CountsHeld (state_on (graph_of graph.now) self.old) self.old.lists.items u }
+        requires orderly { IsOrderly (state_in graph.now self.old) }
+        requires agree { (u : ℕ) → Agrees (state_in graph.now self.old) self.old.lists.items u }
+        requires count { (u : ℕ) → CountsHeld (state_in graph.now self.old) self.old.lists.items u }
         requires seated { slot < length self.old.seats.items }
-        requires quiet { is_wait (status_of (state_on (graph_of graph.now) self.old) slot) ≡ false }
+        requires quiet { is_wait (status_of (state_in graph.now self.old) slot) ≡ false }
         requires by_slot { IsBySlot told.old.items }
-        requires untold { (u : ℕ) → is_wait (status_of (state_on (graph_of graph.now) self.old) u) ≡ true → notices_in told.old.items u ≡ None }
+        requires untold { (u : ℕ) → is_wait (status_of (state_in graph.now self.old) u) ≡ true → notices_in told.old.items u ≡ None }
         ensures sound { AreSound self.new }
         ensures len { length self.new.seats.items ≡ length self.old.seats.items }
-        ensures state { released (state_on (graph_of graph.now) self.old) slot ≡ with_txn (state_on (graph_of graph.now) self.new) slot None }
-        ensures free { (n : Node) → (state_on (graph_of graph.now) self.new).held slot n ≡ NL }
-        ensures out { (n : Node) → is_among_waiters slot ((state_on (graph_of graph.now) self.new).queue n) ≡ false }
-        ensures agree { (u : ℕ) → (u == slot) ≡ false → Agrees (state_on (graph_of graph.now) self.new) self.new.lists.items u }
-        ensures count { (u : ℕ) → (u == slot) ≡ false → CountsHeld (state_on (graph_of graph.now) self.new) self.new.lists.items u }
+        ensures state { released (state_in graph.now self.old) slot ≡ with_txn (state_in graph.now self.new) slot None }
+        ensures free { (n : Node) → (state_in graph.now self.new).held slot n ≡ NL }
+        ensures out { (n : Node) → is_among_waiters slot ((state_in graph.now self.new).queue n) ≡ false }
+        ensures agree { (u : ℕ) → (u == slot) ≡ false → Agrees (state_in graph.now self.new) self.new.lists.items u }
+        ensures count { (u : ℕ) → (u == slot) ≡ false → CountsHeld (state_in graph.now self.new) self.new.lists.items u }
         ensures by_slot { IsBySlot told.new.items }
-        ensures tells { (s : State) → IsOnWay s (state_on (graph_of graph.now) self.old)
-            → ((u : ℕ) → (u == slot) ≡ false → notices_in told.old.items u ≡ told_to s (state_on (graph_of graph.now) self.old) u)
-            → (u : ℕ) → (u == slot) ≡ false → notices_in told.new.items u ≡ told_to s (state_on (graph_of graph.now) self.new) u }
+        ensures tells { (s : State) → IsOnWay s (state_in graph.now self.old)
+            → ((u : ℕ) → (u == slot) ≡ false → notices_in told.old.items u ≡ told_to s (state_in graph.now self.old) u)
+            → (u : ℕ) → (u == slot) ≡ false → notices_in told.new.items u ≡ told_to s (state_in graph.now self.new) u }
         ensures own { notices_in told.new.items slot ≡ notices_in told.old.items slot }
     {
         graph.law();

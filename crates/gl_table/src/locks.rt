@@ -12,7 +12,7 @@ ghost use Rattle.gl_graph.specs.View.{graph_of};
 ghost use Rattle.gl_header.specs.Header.{holds, is_among_waiters};
 ghost use Rattle.gl_table.specs.Calls.{unlocked};
 ghost use Rattle.gl_table.specs.Intends.{is_write};
-ghost use Rattle.gl_table.specs.Locks.{Agrees, AreSound, CountsHeld, IsOrderly, state_on};
+ghost use Rattle.gl_table.specs.Locks.{Agrees, AreSound, CountsHeld, IsOrderly, state_in};
 ghost use Rattle.gl_table.specs.Pumps.{front_at, is_waiting_at, pumped, without_wait};
 ghost use Rattle.gl_table.specs.Locks.{AreNew};
 ghost use Rattle.gl_table.specs.Seats.{txn_in, txns_of};
@@ -161,17 +161,17 @@ impl Locks {
         told: &mut Told,
     )
         requires sound { AreSound self.old }
-        requires orderly { IsOrderly (state_on (graph_of graph.now) self.old) }
-        requires holds { holds (members (state_on (graph_of graph.now) self.old) node) slot ≡ true }
-        requires no_wait { is_among_waiters slot ((state_on (graph_of graph.now) self.old).queue node) ≡ false }
-        requires agree { (u : ℕ) → is_among_waiters u ((state_on (graph_of graph.now) self.old).queue node) ≡ true → Agrees (state_on (graph_of graph.now) self.old) self.old.lists.items u }
-        requires count { (u : ℕ) → is_among_waiters u ((state_on (graph_of graph.now) self.old).queue node) ≡ true → CountsHeld (state_on (graph_of graph.now) self.old) self.old.lists.items u }
+        requires orderly { IsOrderly (state_in graph.now self.old) }
+        requires holds { holds (members (state_in graph.now self.old) node) slot ≡ true }
+        requires no_wait { is_among_waiters slot ((state_in graph.now self.old).queue node) ≡ false }
+        requires agree { (u : ℕ) → is_among_waiters u ((state_in graph.now self.old).queue node) ≡ true → Agrees (state_in graph.now self.old) self.old.lists.items u }
+        requires count { (u : ℕ) → is_among_waiters u ((state_in graph.now self.old).queue node) ≡ true → CountsHeld (state_in graph.now self.old) self.old.lists.items u }
         requires by_slot { IsBySlot told.old.items }
-        requires untold { (u : ℕ) → is_among_waiters u ((state_on (graph_of graph.now) self.old).queue node) ≡ true → notices_in told.old.items u ≡ None }
+        requires untold { (u : ℕ) → is_among_waiters u ((state_in graph.now self.old).queue node) ≡ true → notices_in told.old.items u ≡ None }
         ensures sound { AreSound self.new }
-        ensures state { state_on (graph_of graph.now) self.new ≡ unlocked (state_on (graph_of graph.now) self.old) slot node }
-        ensures lists { WakesLists self.old.lists.items node (parents_of (graph_of graph.now) node) (front_at (with_grant (state_on (graph_of graph.now) self.old) slot node NL) node) self.new.lists.items }
-        ensures tells { WakesTold (state_on (graph_of graph.now) self.old).txns node (front_at (with_grant (state_on (graph_of graph.now) self.old) slot node NL) node) told.old.items told.new.items }
+        ensures state { state_in graph.now self.new ≡ unlocked (state_in graph.now self.old) slot node }
+        ensures lists { WakesLists self.old.lists.items node (parents_of (graph_of graph.now) node) (front_at (with_grant (state_in graph.now self.old) slot node NL) node) self.new.lists.items }
+        ensures tells { WakesTold (state_in graph.now self.old).txns node (front_at (with_grant (state_in graph.now self.old) slot node NL) node) told.old.items told.new.items }
     {
         graph.law();
         drop_grant(&mut self.headers, slot, node, granted);
@@ -189,16 +189,16 @@ impl Locks {
         told: &mut Told,
     )
         requires sound { AreSound self.old }
-        requires orderly { IsOrderly (state_on (graph_of graph.now) self.old) }
-        requires waits { is_waiting_at (state_on (graph_of graph.now) self.old) slot node ≡ true }
-        requires agree { (u : ℕ) → is_among_waiters u ((state_on (graph_of graph.now) self.old).queue node) ≡ true → Agrees (state_on (graph_of graph.now) self.old) self.old.lists.items u }
-        requires count { (u : ℕ) → is_among_waiters u ((state_on (graph_of graph.now) self.old).queue node) ≡ true → CountsHeld (state_on (graph_of graph.now) self.old) self.old.lists.items u }
+        requires orderly { IsOrderly (state_in graph.now self.old) }
+        requires waits { is_waiting_at (state_in graph.now self.old) slot node ≡ true }
+        requires agree { (u : ℕ) → is_among_waiters u ((state_in graph.now self.old).queue node) ≡ true → Agrees (state_in graph.now self.old) self.old.lists.items u }
+        requires count { (u : ℕ) → is_among_waiters u ((state_in graph.now self.old).queue node) ≡ true → CountsHeld (state_in graph.now self.old) self.old.lists.items u }
         requires by_slot { IsBySlot told.old.items }
-        requires untold { (u : ℕ) → is_among_waiters u ((state_on (graph_of graph.now) self.old).queue node) ≡ true → (u == slot) ≡ false → notices_in told.old.items u ≡ None }
+        requires untold { (u : ℕ) → is_among_waiters u ((state_in graph.now self.old).queue node) ≡ true → (u == slot) ≡ false → notices_in told.old.items u ≡ None }
         ensures sound { AreSound self.new }
-        ensures state { state_on (graph_of graph.now) self.new ≡ pumped (without_wait (state_on (graph_of graph.now) self.old) slot status) (is_waiting_at (state_on (graph_of graph.now) self.old) slot) }
-        ensures lists { WakesLists self.old.lists.items node (parents_of (graph_of graph.now) node) (front_at (without_wait (state_on (graph_of graph.now) self.old) slot status) node) self.new.lists.items }
-        ensures tells { WakesTold (state_on (graph_of graph.now) self.old).txns node (front_at (without_wait (state_on (graph_of graph.now) self.old) slot status) node) told.old.items told.new.items }
+        ensures state { state_in graph.now self.new ≡ pumped (without_wait (state_in graph.now self.old) slot status) (is_waiting_at (state_in graph.now self.old) slot) }
+        ensures lists { WakesLists self.old.lists.items node (parents_of (graph_of graph.now) node) (front_at (without_wait (state_in graph.now self.old) slot status) node) self.new.lists.items }
+        ensures tells { WakesTold (state_in graph.now self.old).txns node (front_at (without_wait (state_in graph.now self.old) slot status) node) told.old.items told.new.items }
     {
         graph.law();
         let mut granted = GrantList::new();

@@ -18,7 +18,7 @@ ghost use Rattle.gl_table.specs.Intends.{intends_over};
 ghost use Rattle.indexmap.specs.IndexMap.{spare};
 ghost use Rattle.gl_modes.specs.Modes.{same_mode};
 ghost use Rattle.gl_table.specs.Lists.{IsApart, count_of, is_listed, mode_of, unlisted};
-ghost use Rattle.gl_table.specs.Locks.{Agrees, AreSound, IsOrderly, state_on};
+ghost use Rattle.gl_table.specs.Locks.{Agrees, AreSound, IsOrderly, state_in};
 ghost use Rattle.gl_table.specs.Seats.{txns_of};
 ghost use Rattle.gl_table.specs.Slots.{AreApart, Strikes, counted_by, room_by, unlisted_by};
 ghost use Rattle.gl_table.specs.State.{age_in, members, restatus};
@@ -105,24 +105,24 @@ impl Locks {
     )
         requires empty { told.old.items ≡ [] }
         requires sound { AreSound self.old }
-        requires orderly { IsOrderly (state_on (graph_of graph.now) self.old) }
-        requires agree { (u : ℕ) → Agrees (state_on (graph_of graph.now) self.old) self.old.lists.items u }
+        requires orderly { IsOrderly (state_in graph.now self.old) }
+        requires agree { (u : ℕ) → Agrees (state_in graph.now self.old) self.old.lists.items u }
         requires slot { slot < length self.old.lists.items }
-        requires newcomers { (u : ℕ) → is_among_waiters u ((state_on (graph_of graph.now) self.old).queue node) ≡ true → (state_on (graph_of graph.now) self.old).held u node ≡ NL }
-        requires stuck { list_all (λ w. not (fits slot_limit (members (state_on (graph_of graph.now) self.old) node) w.0 w.1)) ((state_on (graph_of graph.now) self.old).queue node) ≡ true }
-        requires counted { holds (members (state_on (graph_of graph.now) self.old) node) slot ≡ true → (q : Node) → count_by (same_node q) old.now ≤ counted_by self.old.lists.items slot q }
+        requires newcomers { (u : ℕ) → is_among_waiters u ((state_in graph.now self.old).queue node) ≡ true → (state_in graph.now self.old).held u node ≡ NL }
+        requires stuck { list_all (λ w. not (fits slot_limit (members (state_in graph.now self.old) node) w.0 w.1)) ((state_in graph.now self.old).queue node) ≡ true }
+        requires counted { holds (members (state_in graph.now self.old) node) slot ≡ true → (q : Node) → count_by (same_node q) old.now ≤ counted_by self.old.lists.items slot q }
         requires listed { unlisted_by self.old.lists.items slot (parents_of (graph_of graph.now) node) ≡ 0 }
         requires few { (q : Node) → counted_by self.old.lists.items slot q + count_by (same_node q) (parents_of (graph_of graph.now) node) < 2 ^ 32 }
         ensures sound { AreSound self.new }
-        ensures state { state_on (graph_of graph.now) self.new ≡ moved_to (state_on (graph_of graph.now) self.old) node (parents_of (graph_of graph.now) node) (graph_of graph.now) }
-        ensures agree { (u : ℕ) → Agrees (state_on (graph_of graph.now) self.new) self.new.lists.items u }
+        ensures state { state_in graph.now self.new ≡ moved_to (state_in graph.now self.old) node (parents_of (graph_of graph.now) node) (graph_of graph.now) }
+        ensures agree { (u : ℕ) → Agrees (state_in graph.now self.new) self.new.lists.items u }
         ensures counts { (u : ℕ) (q : Node) →
-            counted_by self.new.lists.items u q + (if (u == slot) && holds (members (state_on (graph_of graph.now) self.old) node) slot then count_by (same_node q) old.now else 0)
-            ≡ counted_by self.old.lists.items u q + (if (u == slot) && holds (members (state_on (graph_of graph.now) self.old) node) slot then count_by (same_node q) (parents_of (graph_of graph.now) node) else 0) }
+            counted_by self.new.lists.items u q + (if (u == slot) && holds (members (state_in graph.now self.old) node) slot then count_by (same_node q) old.now else 0)
+            ≡ counted_by self.old.lists.items u q + (if (u == slot) && holds (members (state_in graph.now self.old) node) slot then count_by (same_node q) (parents_of (graph_of graph.now) node) else 0) }
         ensures by_slot { IsBySlot told.new.items }
         ensures tells { (u : ℕ) → notices_in told.new.items u ≡
-            (if is_among_waiters u (filter (λ w. not (stays (state_on (graph_of graph.now) self.old) (parents_of (graph_of graph.now) node) w)) ((state_on (graph_of graph.now) self.old).queue node))
-            then Some (record { slot = u; age = age_in ((state_on (graph_of graph.now) self.old).txns u) }, notice.Moved)
+            (if is_among_waiters u (filter (λ w. not (stays (state_in graph.now self.old) (parents_of (graph_of graph.now) node) w)) ((state_in graph.now self.old).queue node))
+            then Some (record { slot = u; age = age_in ((state_in graph.now self.old).txns u) }, notice.Moved)
             else None) }
     {
         let list = &mut self.lists[slot as usize];
@@ -134,20 +134,20 @@ impl Locks {
     /// told that the node moved. The others keep their order. No waiter fits, so nobody is granted.
     fn turn_away(&mut self, graph: &Graph, node: NodeId, told: &mut Told)
         requires sound { AreSound self.old }
-        requires orderly { IsOrderly (state_on (graph_of graph.now) self.old) }
-        requires agree { (u : ℕ) → Agrees (state_on (graph_of graph.now) self.old) self.old.lists.items u }
-        requires newcomers { (u : ℕ) → is_among_waiters u ((state_on (graph_of graph.now) self.old).queue node) ≡ true → (state_on (graph_of graph.now) self.old).held u node ≡ NL }
-        requires stuck { list_all (λ w. not (fits slot_limit (members (state_on (graph_of graph.now) self.old) node) w.0 w.1)) ((state_on (graph_of graph.now) self.old).queue node) ≡ true }
+        requires orderly { IsOrderly (state_in graph.now self.old) }
+        requires agree { (u : ℕ) → Agrees (state_in graph.now self.old) self.old.lists.items u }
+        requires newcomers { (u : ℕ) → is_among_waiters u ((state_in graph.now self.old).queue node) ≡ true → (state_in graph.now self.old).held u node ≡ NL }
+        requires stuck { list_all (λ w. not (fits slot_limit (members (state_in graph.now self.old) node) w.0 w.1)) ((state_in graph.now self.old).queue node) ≡ true }
         requires by_slot { IsBySlot told.old.items }
-        requires untold { (u : ℕ) → is_among_waiters u ((state_on (graph_of graph.now) self.old).queue node) ≡ true → notices_in told.old.items u ≡ None }
+        requires untold { (u : ℕ) → is_among_waiters u ((state_in graph.now self.old).queue node) ≡ true → notices_in told.old.items u ≡ None }
         ensures sound { AreSound self.new }
-        ensures state { state_on (graph_of graph.now) self.new ≡ moved_to (state_on (graph_of graph.now) self.old) node (parents_of (graph_of graph.now) node) (graph_of graph.now) }
-        ensures agree { (u : ℕ) → Agrees (state_on (graph_of graph.now) self.new) self.new.lists.items u }
+        ensures state { state_in graph.now self.new ≡ moved_to (state_in graph.now self.old) node (parents_of (graph_of graph.now) node) (graph_of graph.now) }
+        ensures agree { (u : ℕ) → Agrees (state_in graph.now self.new) self.new.lists.items u }
         ensures counts { (u : ℕ) (q : Node) → counted_by self.new.lists.items u q ≡ counted_by self.old.lists.items u q }
         ensures by_slot { IsBySlot told.new.items }
         ensures tells { (u : ℕ) → notices_in told.new.items u ≡
-            (if is_among_waiters u (filter (λ w. not (stays (state_on (graph_of graph.now) self.old) (parents_of (graph_of graph.now) node) w)) ((state_on (graph_of graph.now) self.old).queue node))
-            then Some (record { slot = u; age = age_in ((state_on (graph_of graph.now) self.old).txns u) }, notice.Moved)
+            (if is_among_waiters u (filter (λ w. not (stays (state_in graph.now self.old) (parents_of (graph_of graph.now) node) w)) ((state_in graph.now self.old).queue node))
+            then Some (record { slot = u; age = age_in ((state_in graph.now self.old).txns u) }, notice.Moved)
             else notices_in told.old.items u) }
     {
         let mut strays = self.strays(graph, node);
@@ -161,9 +161,9 @@ impl Locks {
     /// The slots that wait on a node for a mode that does not meet the rule of the graph.
     fn strays(&self, graph: &Graph, node: NodeId) -> u128
         requires sound { AreSound self.now }
-        requires orderly { IsOrderly (state_on (graph_of graph.now) self.now) }
-        requires agree { (u : ℕ) → Agrees (state_on (graph_of graph.now) self.now) self.now.lists.items u }
-        ensures { (u : ℕ) → has_slot result u ≡ is_among_waiters u (filter (λ w. not (stays (state_on (graph_of graph.now) self.now) (parents_of (graph_of graph.now) node) w)) (queue_of self.now.headers.entries node)) }
+        requires orderly { IsOrderly (state_in graph.now self.now) }
+        requires agree { (u : ℕ) → Agrees (state_in graph.now self.now) self.now.lists.items u }
+        ensures { (u : ℕ) → has_slot result u ≡ is_among_waiters u (filter (λ w. not (stays (state_in graph.now self.now) (parents_of (graph_of graph.now) node) w)) (queue_of self.now.headers.entries node)) }
     {
         let Some(header) = self.headers.get(&node) else {
             return 0;

@@ -11,7 +11,7 @@ ghost use Rattle.gl_graph.specs.View.{graph_of};
 ghost use Rattle.gl_header.specs.Header.{holds, is_among_waiters};
 ghost use Rattle.gl_table.specs.Calls.{deleted};
 ghost use Rattle.gl_table.specs.Frees.{CanFree, Frees, FreesTold};
-ghost use Rattle.gl_table.specs.Locks.{Agrees, AreSound, CountsHeld, IsOrderly, state_on};
+ghost use Rattle.gl_table.specs.Locks.{Agrees, AreSound, CountsHeld, IsOrderly, state_in, state_on};
 ghost use Rattle.gl_table.specs.OneHolder.{IsOneHolder};
 ghost use Rattle.gl_table.specs.Slots.{HasRoomAt, KeepsLists};
 ghost use Rattle.gl_table.specs.State.{members, status_of, with_grant};
@@ -56,20 +56,20 @@ impl Locks {
     /// it are active again, and are told that it is gone.
     pub(crate) fn vacate(&mut self, graph: &Graph, slot: u8, rec: NodeId, told: &mut Told)
         requires sound { AreSound self.old }
-        requires orderly { IsOrderly (state_on (graph_of graph.now) self.old) }
-        requires agree { (u : ℕ) → Agrees (state_on (graph_of graph.now) self.old) self.old.lists.items u }
-        requires count { (u : ℕ) → CountsHeld (state_on (graph_of graph.now) self.old) self.old.lists.items u }
-        requires active { status_of (state_on (graph_of graph.now) self.old) slot ≡ Some Active }
+        requires orderly { IsOrderly (state_in graph.now self.old) }
+        requires agree { (u : ℕ) → Agrees (state_in graph.now self.old) self.old.lists.items u }
+        requires count { (u : ℕ) → CountsHeld (state_in graph.now self.old) self.old.lists.items u }
+        requires active { status_of (state_in graph.now self.old) slot ≡ Some Active }
         requires record { is_record_shape (shape_of (graph_of graph.now) rec) ≡ true }
-        requires holds { holds (members (state_on (graph_of graph.now) self.old) rec) slot ≡ true }
-        requires alone { (u : ℕ) → (u == slot) ≡ false → (state_on (graph_of graph.now) self.old).held u rec ≡ NL }
+        requires holds { holds (members (state_in graph.now self.old) rec) slot ≡ true }
+        requires alone { (u : ℕ) → (u == slot) ≡ false → (state_in graph.now self.old).held u rec ≡ NL }
         requires by_slot { IsBySlot told.old.items }
-        requires untold { (u : ℕ) → is_among_waiters u ((state_on (graph_of graph.now) self.old).queue rec) ≡ true → notices_in told.old.items u ≡ None }
+        requires untold { (u : ℕ) → is_among_waiters u ((state_in graph.now self.old).queue rec) ≡ true → notices_in told.old.items u ≡ None }
         ensures sound { AreSound self.new }
-        ensures state { state_on (without_node (graph_of graph.now) rec) self.new ≡ deleted (state_on (graph_of graph.now) self.old) rec }
-        ensures agree { (u : ℕ) → Agrees (deleted (state_on (graph_of graph.now) self.old) rec) self.new.lists.items u }
-        ensures count { (u : ℕ) → CountsHeld (deleted (state_on (graph_of graph.now) self.old) rec) self.new.lists.items u }
-        ensures tells { FreesTold (state_on (graph_of graph.now) self.old).txns ((state_on (graph_of graph.now) self.old).queue rec) told.old.items told.new.items }
+        ensures state { state_on (without_node (graph_of graph.now) rec) self.new ≡ deleted (state_in graph.now self.old) rec }
+        ensures agree { (u : ℕ) → Agrees (deleted (state_in graph.now self.old) rec) self.new.lists.items u }
+        ensures count { (u : ℕ) → CountsHeld (deleted (state_in graph.now self.old) rec) self.new.lists.items u }
+        ensures tells { FreesTold (state_in graph.now self.old).txns ((state_in graph.now self.old).queue rec) told.old.items told.new.items }
     {
         graph.law();
         strike(&mut self.lists, slot, rec, graph.parents(rec));
@@ -106,20 +106,20 @@ impl Locks {
     /// takes no memory: the room is there.
     pub(crate) fn place(&mut self, graph: &Graph, slot: u8, node: NodeId, header: Header)
         requires sound { AreSound self.old }
-        requires orderly { IsOrderly (state_on (graph_of graph.now) self.old) }
-        requires agree { (u : ℕ) → Agrees (state_on (graph_of graph.now) self.old) self.old.lists.items u }
-        requires count { (u : ℕ) → CountsHeld (state_on (graph_of graph.now) self.old) self.old.lists.items u }
-        requires active { status_of (state_on (graph_of graph.now) self.old) slot ≡ Some Active }
+        requires orderly { IsOrderly (state_in graph.now self.old) }
+        requires agree { (u : ℕ) → Agrees (state_in graph.now self.old) self.old.lists.items u }
+        requires count { (u : ℕ) → CountsHeld (state_in graph.now self.old) self.old.lists.items u }
+        requires active { status_of (state_in graph.now self.old) slot ≡ Some Active }
         requires live { is_live (graph_of graph.now) node ≡ true }
-        requires unheld { (u : ℕ) → (state_on (graph_of graph.now) self.old).held u node ≡ NL }
-        requires unawaited { (state_on (graph_of graph.now) self.old).queue node ≡ [] }
+        requires unheld { (u : ℕ) → (state_in graph.now self.old).held u node ≡ NL }
+        requires unawaited { (state_in graph.now self.old).queue node ≡ [] }
         requires header { IsOneHolder header slot X }
         requires headers_room { 0 < spare self.old.headers }
         requires lists_room { HasRoomAt self.old.lists.items slot }
         ensures sound { AreSound self.new }
-        ensures state { state_on (graph_of graph.now) self.new ≡ with_grant (state_on (graph_of graph.now) self.old) slot node X }
-        ensures agree { (u : ℕ) → Agrees (state_on (graph_of graph.now) self.new) self.new.lists.items u }
-        ensures count { (u : ℕ) → CountsHeld (state_on (graph_of graph.now) self.new) self.new.lists.items u }
+        ensures state { state_in graph.now self.new ≡ with_grant (state_in graph.now self.old) slot node X }
+        ensures agree { (u : ℕ) → Agrees (state_in graph.now self.new) self.new.lists.items u }
+        ensures count { (u : ℕ) → CountsHeld (state_in graph.now self.new) self.new.lists.items u }
     {
         graph.law();
         self.headers.insert(node, header).unwrap();

@@ -2,11 +2,10 @@
 
 ghost use Rattle.std.specs.Prelude.{◌≡◌, ℕ, None, Some, true};
 ghost use Rattle.gl_modes.specs.declared.mode.Mode.TheVariants.{NL};
-ghost use Rattle.gl_graph.specs.View.{graph_of};
 ghost use Rattle.gl_header.specs.Header.{holds, is_among_waiters};
 ghost use Rattle.gl_table.specs.Calls.{unlocked};
 ghost use Rattle.gl_table.specs.Covered.{held_children};
-ghost use Rattle.gl_table.specs.Locks.{Agrees, AreSound, CountsHeld, IsOrderly, state_on};
+ghost use Rattle.gl_table.specs.Locks.{Agrees, AreSound, CountsHeld, IsOrderly, state_in};
 ghost use Rattle.gl_table.specs.Pumps.{front_at};
 ghost use Rattle.gl_table.specs.Slots.{AreApart, CanStrike, Strikes, WakesTold};
 ghost use Rattle.gl_table.specs.State.{members, status_of, with_grant};
@@ -36,19 +35,19 @@ impl Locks {
     /// Releases a node of which the slot holds no child. The node grants from its front.
     pub(crate) fn release(&mut self, graph: &Graph, slot: u8, node: NodeId, told: &mut Told)
         requires sound { AreSound self.old }
-        requires orderly { IsOrderly (state_on (graph_of graph.now) self.old) }
-        requires agree { (u : ℕ) → Agrees (state_on (graph_of graph.now) self.old) self.old.lists.items u }
-        requires count { (u : ℕ) → CountsHeld (state_on (graph_of graph.now) self.old) self.old.lists.items u }
-        requires active { status_of (state_on (graph_of graph.now) self.old) slot ≡ Some Active }
-        requires holds { holds (members (state_on (graph_of graph.now) self.old) node) slot ≡ true }
-        requires childless { held_children (state_on (graph_of graph.now) self.old) slot node ≡ 0 }
+        requires orderly { IsOrderly (state_in graph.now self.old) }
+        requires agree { (u : ℕ) → Agrees (state_in graph.now self.old) self.old.lists.items u }
+        requires count { (u : ℕ) → CountsHeld (state_in graph.now self.old) self.old.lists.items u }
+        requires active { status_of (state_in graph.now self.old) slot ≡ Some Active }
+        requires holds { holds (members (state_in graph.now self.old) node) slot ≡ true }
+        requires childless { held_children (state_in graph.now self.old) slot node ≡ 0 }
         requires by_slot { IsBySlot told.old.items }
-        requires untold { (u : ℕ) → is_among_waiters u ((state_on (graph_of graph.now) self.old).queue node) ≡ true → notices_in told.old.items u ≡ None }
+        requires untold { (u : ℕ) → is_among_waiters u ((state_in graph.now self.old).queue node) ≡ true → notices_in told.old.items u ≡ None }
         ensures sound { AreSound self.new }
-        ensures state { state_on (graph_of graph.now) self.new ≡ unlocked (state_on (graph_of graph.now) self.old) slot node }
-        ensures agree { (u : ℕ) → Agrees (state_on (graph_of graph.now) self.new) self.new.lists.items u }
-        ensures count { (u : ℕ) → CountsHeld (state_on (graph_of graph.now) self.new) self.new.lists.items u }
-        ensures tells { WakesTold (state_on (graph_of graph.now) self.old).txns node (front_at (with_grant (state_on (graph_of graph.now) self.old) slot node NL) node) told.old.items told.new.items }
+        ensures state { state_in graph.now self.new ≡ unlocked (state_in graph.now self.old) slot node }
+        ensures agree { (u : ℕ) → Agrees (state_in graph.now self.new) self.new.lists.items u }
+        ensures count { (u : ℕ) → CountsHeld (state_in graph.now self.new) self.new.lists.items u }
+        ensures tells { WakesTold (state_in graph.now self.old).txns node (front_at (with_grant (state_in graph.now self.old) slot node NL) node) told.old.items told.new.items }
     {
         graph.law();
         self.drop_and_wake(graph, slot, node, &mut GrantList::new(), told);

@@ -2,10 +2,9 @@
 
 ghost use Rattle.std.specs.Prelude.{◌≡◌, ◌==◌, ℕ, None, Some, false, true};
 ghost use Rattle.gl_modes.specs.declared.node.NodeId.{NodeId as Node};
-ghost use Rattle.gl_graph.specs.View.{graph_of};
 ghost use Rattle.gl_table.specs.Calls.{shed};
 ghost use Rattle.gl_table.specs.Lists.{mode_of};
-ghost use Rattle.gl_table.specs.Locks.{Agrees, AreSound, CountsHeld, IsOrderly, state_on};
+ghost use Rattle.gl_table.specs.Locks.{Agrees, AreSound, CountsHeld, IsOrderly, state_in};
 ghost use Rattle.gl_table.specs.Marks.{IsShedding};
 ghost use Rattle.gl_table.specs.State.{State, status_of};
 ghost use Rattle.gl_table.specs.Telling.{IsBySlot, notices_in};
@@ -28,20 +27,20 @@ impl Locks {
     /// is out of its place meanwhile.
     pub(crate) fn shed(&mut self, graph: &Graph, slot: u8, node: NodeId, told: &mut Told)
         requires sound { AreSound self.old }
-        requires orderly { IsOrderly (state_on (graph_of graph.now) self.old) }
-        requires agree { (u : ℕ) → Agrees (state_on (graph_of graph.now) self.old) self.old.lists.items u }
-        requires count { (u : ℕ) → CountsHeld (state_on (graph_of graph.now) self.old) self.old.lists.items u }
-        requires active { status_of (state_on (graph_of graph.now) self.old) slot ≡ Some Active }
+        requires orderly { IsOrderly (state_in graph.now self.old) }
+        requires agree { (u : ℕ) → Agrees (state_in graph.now self.old) self.old.lists.items u }
+        requires count { (u : ℕ) → CountsHeld (state_in graph.now self.old) self.old.lists.items u }
+        requires active { status_of (state_in graph.now self.old) slot ≡ Some Active }
         requires by_slot { IsBySlot told.old.items }
-        requires untold { (u : ℕ) → is_wait (status_of (state_on (graph_of graph.now) self.old) u) ≡ true → notices_in told.old.items u ≡ None }
+        requires untold { (u : ℕ) → is_wait (status_of (state_in graph.now self.old) u) ≡ true → notices_in told.old.items u ≡ None }
         ensures sound { AreSound self.new }
-        ensures state { state_on (graph_of graph.now) self.new ≡ shed (state_on (graph_of graph.now) self.old) slot node }
-        ensures agree { (u : ℕ) → Agrees (state_on (graph_of graph.now) self.new) self.new.lists.items u }
-        ensures count { (u : ℕ) → CountsHeld (state_on (graph_of graph.now) self.new) self.new.lists.items u }
+        ensures state { state_in graph.now self.new ≡ shed (state_in graph.now self.old) slot node }
+        ensures agree { (u : ℕ) → Agrees (state_in graph.now self.new) self.new.lists.items u }
+        ensures count { (u : ℕ) → CountsHeld (state_in graph.now self.new) self.new.lists.items u }
         ensures by_slot { IsBySlot told.new.items }
-        ensures tells { (s : State) → IsOnWay s (state_on (graph_of graph.now) self.old)
-            → ((u : ℕ) → (u == slot) ≡ false → notices_in told.old.items u ≡ told_to s (state_on (graph_of graph.now) self.old) u)
-            → (u : ℕ) → (u == slot) ≡ false → notices_in told.new.items u ≡ told_to s (state_on (graph_of graph.now) self.new) u }
+        ensures tells { (s : State) → IsOnWay s (state_in graph.now self.old)
+            → ((u : ℕ) → (u == slot) ≡ false → notices_in told.old.items u ≡ told_to s (state_in graph.now self.old) u)
+            → (u : ℕ) → (u == slot) ≡ false → notices_in told.new.items u ≡ told_to s (state_in graph.now self.new) u }
         ensures own { notices_in told.new.items slot ≡ notices_in told.old.items slot }
     {
         graph.law();
@@ -62,25 +61,25 @@ impl Locks {
         told: &mut Told,
     )
         requires sound { AreSound self.old }
-        requires orderly { IsOrderly (state_on (graph_of graph.now) self.old) }
-        requires agree { (u : ℕ) → (u == slot) ≡ false → Agrees (state_on (graph_of graph.now) self.old) self.old.lists.items u }
-        requires count { (u : ℕ) → (u == slot) ≡ false → CountsHeld (state_on (graph_of graph.now) self.old) self.old.lists.items u }
-        requires active { status_of (state_on (graph_of graph.now) self.old) slot ≡ Some Active }
-        requires marked { IsShedding (state_on (graph_of graph.now) self.old) (state_on (graph_of graph.now) self.old) slot node list.old }
+        requires orderly { IsOrderly (state_in graph.now self.old) }
+        requires agree { (u : ℕ) → (u == slot) ≡ false → Agrees (state_in graph.now self.old) self.old.lists.items u }
+        requires count { (u : ℕ) → (u == slot) ≡ false → CountsHeld (state_in graph.now self.old) self.old.lists.items u }
+        requires active { status_of (state_in graph.now self.old) slot ≡ Some Active }
+        requires marked { IsShedding (state_in graph.now self.old) (state_in graph.now self.old) slot node list.old }
         requires by_slot { IsBySlot told.old.items }
-        requires untold { (u : ℕ) → is_wait (status_of (state_on (graph_of graph.now) self.old) u) ≡ true → notices_in told.old.items u ≡ None }
+        requires untold { (u : ℕ) → is_wait (status_of (state_in graph.now self.old) u) ≡ true → notices_in told.old.items u ≡ None }
         ensures sound { AreSound self.new }
-        ensures orderly { IsOrderly (state_on (graph_of graph.now) self.new) }
-        ensures state { state_on (graph_of graph.now) self.new ≡ shed (state_on (graph_of graph.now) self.old) slot node }
-        ensures agree { (u : ℕ) → (u == slot) ≡ false → Agrees (state_on (graph_of graph.now) self.new) self.new.lists.items u }
-        ensures count { (u : ℕ) → (u == slot) ≡ false → CountsHeld (state_on (graph_of graph.now) self.new) self.new.lists.items u }
-        ensures active { status_of (state_on (graph_of graph.now) self.new) slot ≡ Some Active }
-        ensures marked { IsShedding (state_on (graph_of graph.now) self.old) (state_on (graph_of graph.now) self.new) slot node list.new }
-        ensures modes { (q : Node) → mode_of list.new q ≡ (state_on (graph_of graph.now) self.new).held slot q }
+        ensures orderly { IsOrderly (state_in graph.now self.new) }
+        ensures state { state_in graph.now self.new ≡ shed (state_in graph.now self.old) slot node }
+        ensures agree { (u : ℕ) → (u == slot) ≡ false → Agrees (state_in graph.now self.new) self.new.lists.items u }
+        ensures count { (u : ℕ) → (u == slot) ≡ false → CountsHeld (state_in graph.now self.new) self.new.lists.items u }
+        ensures active { status_of (state_in graph.now self.new) slot ≡ Some Active }
+        ensures marked { IsShedding (state_in graph.now self.old) (state_in graph.now self.new) slot node list.new }
+        ensures modes { (q : Node) → mode_of list.new q ≡ (state_in graph.now self.new).held slot q }
         ensures by_slot { IsBySlot told.new.items }
-        ensures tells { (s : State) → IsOnWay s (state_on (graph_of graph.now) self.old)
-            → ((u : ℕ) → (u == slot) ≡ false → notices_in told.old.items u ≡ told_to s (state_on (graph_of graph.now) self.old) u)
-            → (u : ℕ) → (u == slot) ≡ false → notices_in told.new.items u ≡ told_to s (state_on (graph_of graph.now) self.new) u }
+        ensures tells { (s : State) → IsOnWay s (state_in graph.now self.old)
+            → ((u : ℕ) → (u == slot) ≡ false → notices_in told.old.items u ≡ told_to s (state_in graph.now self.old) u)
+            → (u : ℕ) → (u == slot) ≡ false → notices_in told.new.items u ≡ told_to s (state_in graph.now self.new) u }
         ensures own { notices_in told.new.items slot ≡ notices_in told.old.items slot }
     {
         graph.law();

@@ -1,6 +1,6 @@
 use Rattle.gl_table.proofs.Words.{◌&&◌, ◌+◌, ◌<◌, ◌^◌, ◌∙◌, ◌≡◌, ◌≤◌, Agrees, and-false, ap, ap₂, arith, Asked, asked_at, count_by, count_of, enters_at, false}
 use Rattle.gl_table.proofs.Words.{graph_of, held_of, holds, if◌then◌else◌, is_granted_at, members, mode_of, NL, not, not-false, not-true, parents_of, refl}
-use Rattle.gl_table.proofs.Words.{rules, same_mode, same_node, spare, state_on, subst, supremum, sym, true, unlisted, wanted, with_item, ℕ}
+use Rattle.gl_table.proofs.Words.{rules, same_mode, same_node, spare, state_in, subst, supremum, sym, true, unlisted, wanted, with_item, ℕ}
 use Rattle.gl_header.specs.declared.header.Asked.TheVariants as asked
 use Rattle.gl_table.proofs.Asks.{MayAsk, own-apart, own-few, own-listed, own-mode, own-room, parents-room, roomy_may, roomy_ready, roomy_same, roomy_says}
 use Rattle.gl_table.proofs.Asks.{says_is, slot-listed, state-same}
@@ -19,7 +19,7 @@ may c = record { sound = c.requires.sound; orderly = c.requires.orderly; agree =
 
 -- whether the slot holds the node, as its list says
 member_is : (c : After-make_room_to_ask) → c.ne-is_member.result
-    ≡ holds (members (state_on (graph_of c.args.graph.now) c.args.self.now) c.args.node) c.args.slot
+    ≡ holds (members (state_in c.args.graph.now c.args.self.now) c.args.node) c.args.slot
 member_is c =
     let is : c.ne-is_member.result ≡ not (same_mode c.args.held NL) = search rules in
     is ∙ ap (λ m. not (same_mode m NL)) (c.requires.held ∙ (c.requires.agree c.args.slot).modes c.args.node)
@@ -30,16 +30,16 @@ may_now : (c : After-make_room_to_ask) → MayAsk (graph_of c.args.graph.now) c.
 may_now c = roomy_may (graph_of c.args.graph.now) c.args.self.now c.make_room_to_ask.new.self c.args.slot (may c) c.make_room_to_ask.ensures.rest
     c.make_room_to_ask.ensures.kept
 
-same : (c : After-make_room_to_ask) → state_on (graph_of c.args.graph.now) c.make_room_to_ask.new.self ≡ state_on (graph_of c.args.graph.now) c.args.self.now
+same : (c : After-make_room_to_ask) → state_in c.args.graph.now c.make_room_to_ask.new.self ≡ state_in c.args.graph.now c.args.self.now
 same c = roomy_same (graph_of c.args.graph.now) c.args.self.now c.make_room_to_ask.new.self c.args.slot (may c) c.make_room_to_ask.ensures.rest
     c.make_room_to_ask.ensures.kept
 
 says : (c : After-make_room_to_ask) → is_granted_at c.make_room_to_ask.new.self.headers.entries c.args.slot c.args.node c.args.mode
-    ≡ enters_at (state_on (graph_of c.args.graph.now) c.args.self.now) c.args.slot c.args.node c.args.mode
+    ≡ enters_at (state_in c.args.graph.now c.args.self.now) c.args.slot c.args.node c.args.mode
 says c = roomy_says (graph_of c.args.graph.now) c.args.self.now c.make_room_to_ask.new.self c.args.slot (may c) c.make_room_to_ask.ensures.rest
     c.make_room_to_ask.ensures.kept c.args.node c.args.mode
 
-member_now : (c : After-make_room_to_ask) → holds (members (state_on (graph_of c.args.graph.now) c.make_room_to_ask.new.self) c.args.node) c.args.slot
+member_now : (c : After-make_room_to_ask) → holds (members (state_in c.args.graph.now c.make_room_to_ask.new.self) c.args.node) c.args.slot
     ≡ c.ne-is_member.result
 member_now c = ap (λ s. holds (members s c.args.node) c.args.slot) (same c) ∙ sym (member_is c)
 
@@ -47,7 +47,7 @@ member_now c = ap (λ s. holds (members s c.args.node) c.args.slot) (same c) ∙
 answer_is : (c : After-make_room_to_ask) (a : Asked)
     → a ≡ (if is_granted_at c.make_room_to_ask.new.self.headers.entries c.args.slot c.args.node c.args.mode then asked.Granted
     (supremum (held_of c.make_room_to_ask.new.self.headers.entries c.args.slot c.args.node) c.args.mode) else asked.Waiting)
-    → a ≡ asked_at (state_on (graph_of c.args.graph.now) c.args.self.now) c.args.slot c.args.node c.args.mode
+    → a ≡ asked_at (state_in c.args.graph.now c.args.self.now) c.args.slot c.args.node c.args.mode
 answer_is c a e = e ∙ ap₂ (λ b w. if b then asked.Granted w else asked.Waiting) (says c) (ap (λ s. wanted s c.args.slot c.args.node c.args.mode) (same c))
 
 -- the refusals
@@ -137,7 +137,7 @@ enter-requires-then-not-is_member-clause-room c =
 
 -- a conversion is granted: its list has the mode
 put_raised : (c : After-set_mode) → MayAsk (graph_of c.args.graph.now) c.args.self.now c.args.slot
-    → c.ne-is_member.result ≡ holds (members (state_on (graph_of c.args.graph.now) c.args.self.now) c.args.node) c.args.slot
+    → c.ne-is_member.result ≡ holds (members (state_in c.args.graph.now c.args.self.now) c.args.node) c.args.slot
     → IsGranted (graph_of c.args.graph.now) c.args.self.now
     (record c.make_room_to_ask.new.self { headers = c.ask.new.headers; lists = with_item c.make_room_to_ask.new.self.lists c.args.slot c.set_mode.new.self })
     c.args.slot c.args.node c.args.mode c.in-Granted.wanted
@@ -163,7 +163,7 @@ put_raised c m held = let g = graph_of c.args.graph.now in let l = c.make_room_t
 
 -- a newcomer is granted: its list has the node
 put_new : (c : After-count_up) → MayAsk (graph_of c.args.graph.now) c.args.self.now c.args.slot
-    → c.ne-is_member.result ≡ holds (members (state_on (graph_of c.args.graph.now) c.args.self.now) c.args.node) c.args.slot
+    → c.ne-is_member.result ≡ holds (members (state_in c.args.graph.now c.args.self.now) c.args.node) c.args.slot
     → IsGranted (graph_of c.args.graph.now) c.args.self.now
     (record c.make_room_to_ask.new.self { headers = c.ask.new.headers; lists = with_item c.make_room_to_ask.new.self.lists c.args.slot c.count_up.new.self })
     c.args.slot c.args.node c.args.mode c.in-Granted-2.wanted
@@ -186,7 +186,7 @@ put_new c m held = let g = graph_of c.args.graph.now in let l = c.make_room_to_a
 
 -- the list of one who waits has the node
 listed : (c : After-set_status) → MayAsk (graph_of c.args.graph.now) c.make_room_to_ask.new.self c.args.slot
-    → holds (members (state_on (graph_of c.args.graph.now) c.make_room_to_ask.new.self) c.args.node) c.args.slot ≡ c.ne-is_member.result
+    → holds (members (state_in c.args.graph.now c.make_room_to_ask.new.self) c.args.node) c.args.slot ≡ c.ne-is_member.result
     → is_granted_at c.args.self.now.headers.entries c.args.slot c.args.node c.args.mode ≡ false
     → HasWait c.make_room_to_ask.new.self.lists.items c.if-not-is_member.self.lists.items c.args.slot c.args.node
     (held_of c.make_room_to_ask.new.self.headers.entries c.args.slot c.args.node)
@@ -216,7 +216,7 @@ same_seats : (c : After-set_status) → c.if-not-is_member.self.seats ≡ c.make
 same_seats c = elim c.if-not-is_member.branch [ then-not-is_member w ↦ ap (λ y. y.seats) w.self-is | else-not-is_member w ↦ ap (λ y. y.seats) w.self-is ]
 
 blocks : (c : After-set_status) → MayAsk (graph_of c.args.graph.now) c.args.self.now c.args.slot
-    → enters_at (state_on (graph_of c.args.graph.now) c.args.self.now) c.args.slot c.args.node c.args.mode ≡ false
+    → enters_at (state_in c.args.graph.now c.args.self.now) c.args.slot c.args.node c.args.mode ≡ false
 blocks c m =
     sym (roomy_says (graph_of c.args.graph.now) c.args.self.now c.make_room_to_ask.new.self c.args.slot m c.make_room_to_ask.ensures.rest
     c.make_room_to_ask.ensures.kept c.args.node c.args.mode)
@@ -224,7 +224,7 @@ blocks c m =
 
 -- it waits
 put : (c : After-set_status) → MayAsk (graph_of c.args.graph.now) c.args.self.now c.args.slot
-    → c.ne-is_member.result ≡ holds (members (state_on (graph_of c.args.graph.now) c.args.self.now) c.args.node) c.args.slot
+    → c.ne-is_member.result ≡ holds (members (state_in c.args.graph.now c.args.self.now) c.args.node) c.args.slot
     → IsEnqueued (graph_of c.args.graph.now) c.args.self.now (record c.if-not-is_member.self { seats = c.set_status.new.self }) c.args.slot c.args.node
     c.args.mode
 put c m held = let g = graph_of c.args.graph.now in let l = c.make_room_to_ask.new.self in let t = c.args.slot in let n = c.args.node in

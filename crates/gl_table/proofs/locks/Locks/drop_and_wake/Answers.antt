@@ -1,5 +1,5 @@
 use Rattle.gl_table.proofs.Words.{◌&&◌, ◌==◌, ◌∙◌, ◌≡◌, ap, Bool, false, front, front_at, graph_of, held_of, if◌then◌else◌, members, NL, NodeId, parents_of}
-use Rattle.gl_table.proofs.Words.{queue_of, refl, same_node, slot_limit, State, state_on, sym, true, txns_of, Wakes, with_grant, with_mode, ℕ}
+use Rattle.gl_table.proofs.Words.{queue_of, refl, same_node, slot_limit, State, state_in, sym, true, txns_of, Wakes, with_grant, with_mode, ℕ}
 use Rattle.gl_table.proofs.FrontsGranted.{held-pumped, members-with_grant, pumped_by_fields, queue-pumped, released_front, wakes-same}
 use Rattle.gl_table.proofs.OneWaits.{well_granted, woken_front}
 use Rattle.gl_table.proofs.WakesFronts.{can_wake_front}
@@ -7,7 +7,7 @@ use Rattle.gl_table.proofs.locks.Locks.drop_and_wake.Goals as goal
 
 pub wake_granted-requires : goal.wake_granted-requires
 wake_granted-requires c =
-    let s = state_on (graph_of c.args.graph.now) c.args.self.now in
+    let s = state_in c.args.graph.now c.args.self.now in
     can_wake_front (graph_of c.args.graph.now) c.args.self.now c.law.ensures.lawful c.requires.sound c.requires.orderly c.args.node
     (with_grant s c.args.slot c.args.node NL)
     (well_granted s c.requires.orderly c.args.slot c.args.node NL c.args.node) (λ u h. h) c.requires.agree c.requires.count c.args.told.now.items
@@ -15,7 +15,7 @@ wake_granted-requires c =
     (c.as_slice.ensures.value ∙ c.drop_grant.ensures.granted ∙ released_front s c.requires.orderly c.requires.sound.few c.args.slot c.args.node)
 
 abbrev before : goal.After-wake_granted → State
-before c = state_on (graph_of c.args.graph.now) c.args.self.now
+before c = state_in c.args.graph.now c.args.self.now
 
 abbrev dropped : goal.After-wake_granted → State
 dropped c = with_grant (before c) c.args.slot c.args.node NL

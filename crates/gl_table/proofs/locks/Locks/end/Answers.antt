@@ -1,4 +1,4 @@
-use Rattle.gl_table.proofs.Words.{◌<◌, ◌∙◌, Agrees, ap, graph_of, if◌then◌else◌, length, None, slice_set, State, state_on, subst, sym, told_to, ℕ}
+use Rattle.gl_table.proofs.Words.{◌<◌, ◌∙◌, Agrees, ap, if◌then◌else◌, length, None, slice_set, State, state_in, subst, sym, told_to, ℕ}
 use Rattle.gl_table.proofs.FreedSlots.{agrees-gone, counts-gone, state-freed}
 use Rattle.gl_table.proofs.Tells.{gone_tells}
 use Rattle.gl_table.proofs.locks.Locks.end.Goals as goal
@@ -6,7 +6,7 @@ use Rattle.gl_table.proofs.locks.Locks.end.Goals as goal
 pub returns-clause-agree : goal.returns-clause-agree
 returns-clause-agree c =
     let left = c.leave_all.new.self in
-    let now : State = state_on (graph_of c.args.graph.now) left in
+    let now : State = state_in c.args.graph.now left in
     let seated : c.args.slot < length left.seats.items = subst (λ (k : ℕ). c.args.slot < k) (sym c.leave_all.ensures.len) c.requires.seated in
     λ u. subst (λ (x : State). Agrees x (slice_set left.lists.items c.args.slot c.clear.new.self) u)
     (sym (state-freed now left.seats.items c.leave.new.self.items c.args.slot seated c.leave.ensures))
@@ -17,7 +17,7 @@ returns-clause-agree c =
 pub returns-clause-count : goal.returns-clause-count
 returns-clause-count c =
     let left = c.leave_all.new.self in
-    let now : State = state_on (graph_of c.args.graph.now) left in
+    let now : State = state_in c.args.graph.now left in
     let seated : c.args.slot < length left.lists.items = subst (λ (k : ℕ). c.args.slot < k) (sym (c.leave_all.ensures.sound.lists ∙ c.leave_all.ensures.len))
     c.requires.seated in
     counts-gone now c.args.slot c.leave_all.ensures.free c.leave_all.ensures.out left.lists.items c.clear.new.self seated
@@ -26,7 +26,7 @@ returns-clause-count c =
 pub returns-clause-tells : goal.returns-clause-tells
 returns-clause-tells c =
     let left = c.leave_all.new.self in
-    let now : State = state_on (graph_of c.args.graph.now) left in
+    let now : State = state_in c.args.graph.now left in
     let seated : c.args.slot < length left.seats.items = subst (λ (k : ℕ). c.args.slot < k) (sym c.leave_all.ensures.len) c.requires.seated in
     λ s way same u e. c.leave_all.ensures.tells s way same u e
     ∙ sym (ap (λ x. told_to s x u) (state-freed now left.seats.items c.leave.new.self.items c.args.slot seated c.leave.ensures) ∙ gone_tells s now c.args.slot u

@@ -1,12 +1,12 @@
 use Rattle.gl_table.proofs.Words.{◌&&◌, ◌+◌, ◌<◌, ◌==◌, ◌^◌, ◌∙◌, ◌≡◌, ◌≤◌, ap, Bool, count_by, count_of, counted_by, graph_of, if◌then◌else◌, length-set, List}
-use Rattle.gl_table.proofs.Words.{mode_of, NL, NodeId, not, parents_of, same_mode, same_node, State, state_on, subst, sym, unlisted, ℕ}
+use Rattle.gl_table.proofs.Words.{mode_of, NL, NodeId, not, parents_of, same_mode, same_node, State, state_in, subst, sym, unlisted, ℕ}
 use Rattle.gl_table.proofs.Recounted.{agrees_recounted, counts_recounted}
 use Rattle.gl_table.proofs.Slots.{apart-set, by_list-at}
 use Rattle.gl_table.proofs.locks.Locks.follow.Goals as goal
 
 -- the mover's list says what it holds of the node
 held_here : (c : goal.After-parents) → mode_of c.index_mut-list.result.now c.args.node
-    ≡ (state_on (graph_of c.args.graph.now) c.args.self.now).held c.args.slot c.args.node
+    ≡ (state_in c.args.graph.now c.args.self.now).held c.args.slot c.args.node
 held_here c =
     sym (by_list-at (λ l. mode_of l c.args.node) NL c.args.self.now.lists.items c.args.slot c.index_mut-list.result.now c.requires.slot
     c.index_mut-list.ensures.value) ∙ (c.requires.agree c.args.slot).modes c.args.node
@@ -45,11 +45,11 @@ pub turn_away-requires-clause-agree : goal.turn_away-requires-clause-agree
 turn_away-requires-clause-agree c = λ u.
     agrees_recounted c.args.self.now.lists.items c.args.slot c.index_mut-list.result.now c.recount.new.list c.requires.slot c.index_mut-list.ensures.value
     c.recount.ensures.modes c.recount.ensures.listed c.recount.ensures.room
-    (state_on (graph_of c.args.graph.now) c.args.self.now) u (c.requires.agree u)
+    (state_in c.args.graph.now c.args.self.now) u (c.requires.agree u)
 
 pub returns-clause-counts : goal.returns-clause-counts
 returns-clause-counts c = λ u q.
-    let s : State = state_on (graph_of c.args.graph.now) c.args.self.now in
+    let s : State = state_in c.args.graph.now c.args.self.now in
     let ps = parents_of (graph_of c.args.graph.now) c.args.node in
     let old = c.args.old.now in
     let ls = c.args.self.now.lists.items in

@@ -1,5 +1,5 @@
 use Rattle.gl_table.proofs.Words.{◌<◌, ◌∙◌, ◌≡◌, count_by, false, graph_of, holds, is_listed, length, length-set, listed_by, members, NodeId, nodes, slice_set}
-use Rattle.gl_table.proofs.Words.{State, state_on, subst, sym, true, ℕ}
+use Rattle.gl_table.proofs.Words.{State, state_in, subst, sym, true, ℕ}
 use Rattle.gl_table.proofs.Departures.{IsLeaving, left_free, left_released, leaving_begins, leaving_fewer, leaving_one}
 use Rattle.gl_table.proofs.Orderly.{stands_other}
 use Rattle.gl_table.proofs.OtherLists.{agrees-set, counts-set, popped-listed}
@@ -9,7 +9,7 @@ use Rattle.gl_table.proofs.locks.Locks.leave_all.Goals as goal
 pub loop-node-init : goal.loop-node-init
 loop-node-init c = record {
   sound = c.requires.sound;
-  leaving = leaving_begins (state_on (graph_of c.args.graph.now) c.args.self.now) c.args.slot c.args.self.now.lists.items c.args.told.now.items
+  leaving = leaving_begins (state_in c.args.graph.now c.args.self.now) c.args.slot c.args.self.now.lists.items c.args.told.now.items
       c.requires.orderly c.requires.quiet c.requires.agree c.requires.count c.requires.by_slot c.requires.untold;
 }
 
@@ -37,7 +37,7 @@ drop_and_wake-requires-clause-holds c =
 
 pub drop_and_wake-requires-clause-agree : goal.drop_and_wake-requires-clause-agree
 drop_and_wake-requires-clause-agree c =
-    let now : State = state_on (graph_of c.args.graph.now) c.loop-node.self in
+    let now : State = state_in c.args.graph.now c.loop-node.self in
     let is = c.loop-node.invariant.leaving in
     let seated : c.args.slot < length c.loop-node.self.lists.items = subst (λ (k : ℕ). c.args.slot < k) (sym (c.loop-node.invariant.sound.lists ∙ is.most))
     c.requires.seated in
@@ -46,7 +46,7 @@ drop_and_wake-requires-clause-agree c =
 
 pub drop_and_wake-requires-clause-count : goal.drop_and_wake-requires-clause-count
 drop_and_wake-requires-clause-count c =
-    let now : State = state_on (graph_of c.args.graph.now) c.loop-node.self in
+    let now : State = state_in c.args.graph.now c.loop-node.self in
     let is = c.loop-node.invariant.leaving in
     let seated : c.args.slot < length c.loop-node.self.lists.items = subst (λ (k : ℕ). c.args.slot < k) (sym (c.loop-node.invariant.sound.lists ∙ is.most))
     c.requires.seated in
@@ -54,10 +54,10 @@ drop_and_wake-requires-clause-count c =
     counts-set c.loop-node.self.lists.items c.args.slot c.pop.new.self seated u e now (is.count u e)
 
 abbrev before : goal.After-drop_and_wake → State
-before c = state_on (graph_of c.args.graph.now) c.args.self.now
+before c = state_in c.args.graph.now c.args.self.now
 
 abbrev now : goal.After-drop_and_wake → State
-now c = state_on (graph_of c.args.graph.now) c.loop-node.self
+now c = state_in c.args.graph.now c.loop-node.self
 
 seated : (c : goal.After-drop_and_wake) → c.args.slot < length c.loop-node.self.lists.items
 seated c = subst (λ (k : ℕ). c.args.slot < k) (sym (c.loop-node.invariant.sound.lists ∙ c.loop-node.invariant.leaving.most)) c.requires.seated
@@ -103,13 +103,13 @@ none c q =
 
 pub returns-clause-state : goal.returns-clause-state
 returns-clause-state c =
-    left_released (state_on (graph_of c.args.graph.now) c.args.self.now) (state_on (graph_of c.args.graph.now) c.loop-node.self) c.args.slot
+    left_released (state_in c.args.graph.now c.args.self.now) (state_in c.args.graph.now c.loop-node.self) c.args.slot
     c.loop-node.self.lists.items c.args.told.now.items c.loop-node.told.items c.loop-node.invariant.leaving (none c)
     c.requires.quiet
 
 pub returns-clause-free : goal.returns-clause-free
 returns-clause-free c =
-    left_free (state_on (graph_of c.args.graph.now) c.args.self.now) (state_on (graph_of c.args.graph.now) c.loop-node.self) c.args.slot
+    left_free (state_in c.args.graph.now c.args.self.now) (state_in c.args.graph.now c.loop-node.self) c.args.slot
     c.loop-node.self.lists.items c.args.told.now.items c.loop-node.told.items c.loop-node.invariant.leaving (none c)
 
 pub returns-clause-tells : goal.returns-clause-tells

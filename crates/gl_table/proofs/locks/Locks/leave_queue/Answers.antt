@@ -1,5 +1,5 @@
 use Rattle.gl_table.proofs.Words.{◌∙◌, ◌≡◌, ap, false, front, front_at, graph_of, held_of, is_among_waiters, members, not_true, number_other, parents_of}
-use Rattle.gl_table.proofs.Words.{pumped, queue_of, refl, same_node, same_node-sym, slot_limit, State, state_on, sym, txns_of, WaitWell, Wakes, without_wait}
+use Rattle.gl_table.proofs.Words.{pumped, queue_of, refl, same_node, same_node-sym, slot_limit, State, state_in, sym, txns_of, WaitWell, Wakes, without_wait}
 use Rattle.gl_table.proofs.Words.{without_waiter}
 use Rattle.gl_table.proofs.FrontsGranted.{held-pumped, pumped_by_fields, queue-pumped, status_last, wakes-same, withdrawn_front}
 use Rattle.gl_table.proofs.OneWaits.{front_stands, stands_only, stands_there, waits_only, well_without, woken_front}
@@ -8,12 +8,12 @@ use Rattle.gl_table.proofs.WakesFronts.{can_wake_front}
 use Rattle.gl_table.proofs.locks.Locks.leave_queue.Goals as goal
 
 pub drop_wait-requires-clause-waits : goal.drop_wait-requires-clause-waits
-drop_wait-requires-clause-waits c = stands_there (state_on (graph_of c.args.graph.now) c.args.self.now) c.requires.orderly c.args.slot c.args.node
+drop_wait-requires-clause-waits c = stands_there (state_in c.args.graph.now c.args.self.now) c.requires.orderly c.args.slot c.args.node
     c.requires.waits
 
 pub wake_granted-requires : goal.wake_granted-requires
 wake_granted-requires c =
-    let s = state_on (graph_of c.args.graph.now) c.args.self.now in
+    let s = state_in c.args.graph.now c.args.self.now in
     can_wake_front (graph_of c.args.graph.now) c.args.self.now c.law.ensures.lawful c.requires.sound c.requires.orderly c.args.node
     (without_wait s c.args.slot c.args.status)
     (well_without s c.requires.orderly c.args.slot c.args.status c.args.node) (λ u h. (out_of_without c.args.slot u (s.queue c.args.node) h).0) c.requires.agree
@@ -22,7 +22,7 @@ wake_granted-requires c =
     (c.as_slice.ensures.value ∙ c.drop_wait.ensures.granted ∙ withdrawn_front s c.requires.orderly c.requires.sound.few c.args.slot c.args.node c.args.status)
 
 abbrev before : goal.After-set_status → State
-before c = state_on (graph_of c.args.graph.now) c.args.self.now
+before c = state_in c.args.graph.now c.args.self.now
 
 abbrev left : goal.After-set_status → State
 left c = without_wait (before c) c.args.slot c.args.status

@@ -1,5 +1,5 @@
 use Rattle.gl_table.proofs.Words.{◌+◌, ◌<◌, ◌^◌, ◌∙◌, ◌≤◌, ap, ap₂, arith, count_by, count_of, graph_of, held_of, IfOk-at_ok, if◌then◌else◌, NL, not}
-use Rattle.gl_table.proofs.Words.{parents_of, refl, same_mode, same_node, spare, State, state_on, subst, supremum, sym, unlisted, with_grant, with_item, X, ℕ}
+use Rattle.gl_table.proofs.Words.{parents_of, refl, same_mode, same_node, spare, State, state_in, subst, supremum, sym, unlisted, with_grant, with_item, X, ℕ}
 use Rattle.gl_table.proofs.Asks.{MayAsk, own-few, own-listed, own-room, parents-room, slot-listed}
 use Rattle.gl_table.proofs.Grants.{IsGranted}
 use Rattle.gl_table.proofs.Listed.{counts-set, has_node-set}
@@ -57,7 +57,7 @@ returns-clause-sound c = (placed c (may (goal.at.returns-clause-sound c).After-l
 
 pub returns-clause-state : goal.returns-clause-state
 returns-clause-state c =
-    let s : State = state_on (graph_of c.args.graph.now) c.args.self.now in
+    let s : State = state_in c.args.graph.now c.args.self.now in
     (placed c (may (goal.at.returns-clause-state c).After-law)).state
     ∙ ap (λ y. with_grant s c.args.slot c.args.node (supremum y X)) (c.requires.unheld c.args.slot)
 

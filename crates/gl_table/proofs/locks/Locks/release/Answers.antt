@@ -1,11 +1,11 @@
-use Rattle.gl_table.proofs.Words.{◌<◌, ◌∙◌, Agrees, CanStrike, CountsHeld, graph_of, List, NodeId, State, state_on, Strikes, subst, sym, ℕ}
+use Rattle.gl_table.proofs.Words.{◌<◌, ◌∙◌, Agrees, CanStrike, CountsHeld, List, NodeId, State, state_in, Strikes, subst, sym, ℕ}
 use Rattle.gl_table.proofs.GrantKeeps.{txn_there}
 use Rattle.gl_table.proofs.Released.{agrees_released, can_strike, counts_released}
 use Rattle.gl_table.proofs.locks.Locks.release.Goals as goal
 
 pub strike-requires-clause-can : goal.strike-requires-clause-can
 strike-requires-clause-can c =
-    let s : State = state_on (graph_of c.args.graph.now) c.args.self.now in
+    let s : State = state_in c.args.graph.now c.args.self.now in
     let lt = c.requires.orderly.below c.args.slot (txn_there (s.txns c.args.slot) _ c.requires.active) in
     subst (λ (ps : List NodeId). CanStrike c.drop_and_wake.new.self.lists.items c.args.slot c.args.node ps) (sym c.parents.ensures)
     (can_strike s c.requires.orderly c.law.ensures.lawful c.args.slot c.args.node c.requires.active
@@ -15,7 +15,7 @@ strike-requires-clause-can c =
 
 pub returns-clause-agree : goal.returns-clause-agree
 returns-clause-agree c =
-    let s : State = state_on (graph_of c.args.graph.now) c.args.self.now in
+    let s : State = state_in c.args.graph.now c.args.self.now in
     λ u. subst (λ (x : State). Agrees x c.strike.new.lists.items u) (sym c.drop_and_wake.ensures.state)
     (agrees_released s c.requires.orderly c.law.ensures.lawful c.args.slot c.args.node c.requires.active
     (c.requires.orderly.holders_live c.args.slot c.args.node c.requires.holds) c.requires.holds
@@ -25,7 +25,7 @@ returns-clause-agree c =
 
 pub returns-clause-count : goal.returns-clause-count
 returns-clause-count c =
-    let s : State = state_on (graph_of c.args.graph.now) c.args.self.now in
+    let s : State = state_in c.args.graph.now c.args.self.now in
     λ u. subst (λ (x : State). CountsHeld x c.strike.new.lists.items u) (sym c.drop_and_wake.ensures.state)
     (counts_released s c.requires.orderly c.law.ensures.lawful c.args.slot c.args.node c.requires.active
     (c.requires.orderly.holders_live c.args.slot c.args.node c.requires.holds) c.requires.holds

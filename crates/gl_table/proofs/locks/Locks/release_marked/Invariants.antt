@@ -1,4 +1,4 @@
-use Rattle.gl_table.proofs.Words.{◌≤◌, AreSound, graph_of, keys, length, NoneMarkedFrom, state_on}
+use Rattle.gl_table.proofs.Words.{◌≤◌, AreSound, keys, length, NoneMarkedFrom, state_in}
 use Rattle.gl_table.proofs.Marked.{IsReleasing}
 use Rattle.gl_table.proofs.locks.Locks.release_marked.Given as goal
 
@@ -7,7 +7,7 @@ invariant-loop-at l = record {
   sound : AreSound l.self;
   within : l.at ≤ length (keys l.list.entries);
   passed : NoneMarkedFrom l.list l.at;
-  releasing : IsReleasing (state_on (graph_of l.graph) l.fn.self) (state_on (graph_of l.graph) l.self) l.slot l.fn.node l.self.lists.items l.list
+  releasing : IsReleasing (state_in l.graph l.fn.self) (state_in l.graph l.self) l.slot l.fn.node l.self.lists.items l.list
       l.fn.told.items l.told.items;
 }
 

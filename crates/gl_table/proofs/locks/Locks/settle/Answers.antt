@@ -1,11 +1,11 @@
-use Rattle.gl_table.proofs.Words.{◌<◌, ap, graph_of, refl, State, state_on, subst, sym, ℕ}
+use Rattle.gl_table.proofs.Words.{◌<◌, ap, graph_of, refl, State, state_in, state_on, subst, sym, ℕ}
 use Rattle.gl_table.proofs.FewerWait.{fewer_wait, how_many_wait}
 use Rattle.gl_table.proofs.Settling.{keeping_turn, settles-keeping}
 use Rattle.gl_table.proofs.locks.Locks.settle.Goals as goal
 
 pub loop-victim-smaller : goal.loop-victim-smaller
 loop-victim-smaller c =
-    let s = state_on (graph_of c.args.graph.now) c.loop-victim.self in
+    let s = state_in c.args.graph.now c.loop-victim.self in
     let orderly = c.loop-victim.invariant.orderly in
     subst (λ (x : State). how_many_wait x < how_many_wait s) (sym c.condemn.ensures.state)
     (fewer_wait s orderly c.in-Some.victim (c.in-Some.ensures.waits (graph_of c.args.graph.now) orderly))
@@ -32,7 +32,7 @@ loop-victim-preserved c =
 
 pub returns-clause-deadlock : goal.returns-clause-deadlock
 returns-clause-deadlock c = let now = c.loop-victim.invariant in
-    now.settled (state_on (graph_of c.args.graph.now) c.loop-victim.self) c.loop-victim.deadlock
+    now.settled (state_in c.args.graph.now c.loop-victim.self) c.loop-victim.deadlock
     (0, (c.in_default.ensures.none (graph_of c.args.graph.now) now.orderly, refl, refl))
 
 pub returns-clause-state : goal.returns-clause-state

@@ -1,4 +1,4 @@
-use Rattle.gl_table.proofs.Words.{graph_of, state_on}
+use Rattle.gl_table.proofs.Words.{graph_of, state_in}
 use Rattle.gl_table.proofs.FewerWait.{how_many_wait}
 use Rattle.gl_table.proofs.Settling.{IsSettling}
 use Rattle.gl_table.proofs.locks.Locks.settle.Given as goal
@@ -9,4 +9,4 @@ invariant-loop-victim l = IsSettling (graph_of l.fn.graph) l.victims l.initial.s
 
 -- each victim leaves fewer that wait
 abbrev pub decreases-loop-victim : goal.decreases-loop-victim
-decreases-loop-victim l = how_many_wait (state_on (graph_of l.fn.graph) l.self)
+decreases-loop-victim l = how_many_wait (state_in l.fn.graph l.self)

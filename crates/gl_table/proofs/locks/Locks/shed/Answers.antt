@@ -1,4 +1,4 @@
-use Rattle.gl_table.proofs.Words.{◌∙◌, graph_of, IsApart, length-set, state_on, subst, sym}
+use Rattle.gl_table.proofs.Words.{◌∙◌, graph_of, IsApart, length-set, state_in, subst, sym}
 use Rattle.gl_table.proofs.MarkedLists.{agrees-back, counts-back, parents_counted, list_there, shedding_begins, taken_out}
 use Rattle.gl_table.proofs.OtherLists.{agrees-set, counts-set}
 use Rattle.gl_table.proofs.Slots.{apart-set}
@@ -6,7 +6,7 @@ use Rattle.gl_table.proofs.locks.Locks.shed.Goals as goal
 
 pub mark_covered-requires : goal.mark_covered-requires
 mark_covered-requires c = record {
-  counted = parents_counted (state_on (graph_of c.args.graph.now) c.args.self.now) c.requires.orderly c.args.slot c.requires.active c.law.ensures.lawful
+  counted = parents_counted (state_in c.args.graph.now c.args.self.now) c.requires.orderly c.args.slot c.requires.active c.law.ensures.lawful
       c.args.self.now.lists.items c.replace-list.result (list_there c.args.self.now (graph_of c.args.graph.now) c.requires.sound c.requires.orderly c.args.slot
       c.requires.active) (taken_out c.args.self.now.lists.items c.args.slot c.index_mut.result.now c.replace-list.result c.replace-list.ensures.value
       c.index_mut.ensures.value)
@@ -27,17 +27,17 @@ pub release_marked-requires-clause-agree : goal.release_marked-requires-clause-a
 release_marked-requires-clause-agree c = λ u e.
     agrees-set c.args.self.now.lists.items c.args.slot c.replace-list.new.dest
     (list_there c.args.self.now (graph_of c.args.graph.now) c.requires.sound c.requires.orderly c.args.slot c.requires.active) u e
-    (state_on (graph_of c.args.graph.now) c.args.self.now) (c.requires.agree u)
+    (state_in c.args.graph.now c.args.self.now) (c.requires.agree u)
 
 pub release_marked-requires-clause-count : goal.release_marked-requires-clause-count
 release_marked-requires-clause-count c = λ u e.
     counts-set c.args.self.now.lists.items c.args.slot c.replace-list.new.dest
     (list_there c.args.self.now (graph_of c.args.graph.now) c.requires.sound c.requires.orderly c.args.slot c.requires.active) u e
-    (state_on (graph_of c.args.graph.now) c.args.self.now) (c.requires.count u)
+    (state_in c.args.graph.now c.args.self.now) (c.requires.count u)
 
 pub release_marked-requires-clause-marked : goal.release_marked-requires-clause-marked
 release_marked-requires-clause-marked c =
-    shedding_begins (state_on (graph_of c.args.graph.now) c.args.self.now) c.requires.orderly c.args.slot c.requires.active c.law.ensures.lawful
+    shedding_begins (state_in c.args.graph.now c.args.self.now) c.requires.orderly c.args.slot c.requires.active c.law.ensures.lawful
     c.args.self.now.lists.items c.replace-list.result (list_there c.args.self.now (graph_of c.args.graph.now) c.requires.sound c.requires.orderly c.args.slot
     c.requires.active) (taken_out c.args.self.now.lists.items c.args.slot c.index_mut.result.now c.replace-list.result c.replace-list.ensures.value
     c.index_mut.ensures.value)
@@ -56,16 +56,16 @@ returns-clause-sound c = record {
 
 pub returns-clause-agree : goal.returns-clause-agree
 returns-clause-agree c =
-    agrees-back (state_on (graph_of c.args.graph.now) c.release_marked.new.self) c.release_marked.ensures.orderly c.args.slot c.release_marked.ensures.active
-    (state_on (graph_of c.args.graph.now) c.args.self.now) c.args.node
+    agrees-back (state_in c.args.graph.now c.release_marked.new.self) c.release_marked.ensures.orderly c.args.slot c.release_marked.ensures.active
+    (state_in c.args.graph.now c.args.self.now) c.args.node
     c.release_marked.new.self.lists.items c.release_marked.new.list
     (list_there c.release_marked.new.self (graph_of c.args.graph.now) c.release_marked.ensures.sound c.release_marked.ensures.orderly c.args.slot
     c.release_marked.ensures.active) c.release_marked.ensures.marked c.release_marked.ensures.modes c.release_marked.ensures.agree
 
 pub returns-clause-count : goal.returns-clause-count
 returns-clause-count c =
-    counts-back (state_on (graph_of c.args.graph.now) c.release_marked.new.self) c.release_marked.ensures.orderly c.args.slot c.release_marked.ensures.active
-    (state_on (graph_of c.args.graph.now) c.args.self.now) c.args.node
+    counts-back (state_in c.args.graph.now c.release_marked.new.self) c.release_marked.ensures.orderly c.args.slot c.release_marked.ensures.active
+    (state_in c.args.graph.now c.args.self.now) c.args.node
     c.release_marked.new.self.lists.items c.release_marked.new.list
     (list_there c.release_marked.new.self (graph_of c.args.graph.now) c.release_marked.ensures.sound c.release_marked.ensures.orderly c.args.slot
     c.release_marked.ensures.active) c.release_marked.ensures.marked c.release_marked.ensures.modes c.release_marked.ensures.count

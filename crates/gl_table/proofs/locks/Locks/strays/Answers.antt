@@ -1,5 +1,5 @@
 use Rattle.gl_table.proofs.Words.{◌+◌, ◌<◌, ◌∙◌, ◌≡◌, ap, arith, Bool, graph_of, header_or_new, HeaderState, intends_over, length, List, mode_of, NL, NodeId}
-use Rattle.gl_table.proofs.Words.{not, parents_of, queue_of, refl, slice_index_or, State, state_on, stays, subst, sym, take, Waiter, ℕ}
+use Rattle.gl_table.proofs.Words.{not, parents_of, queue_of, refl, slice_index_or, State, state_in, stays, subst, sym, take, Waiter, ℕ}
 use Rattle.gl_table.proofs.OneWaits.{waiters_below}
 use Rattle.gl_table.proofs.Strays.{IsSetOf, allowed_stays, among_at, set-with, set-without}
 use Rattle.gl_table.proofs.locks.Locks.strays.Goals.{then-not-is_allowed, else-not-is_allowed}
@@ -7,7 +7,7 @@ use Rattle.gl_table.proofs.locks.Locks.strays.Goals as goal
 
 pub index-list-requires : goal.index-list-requires
 index-list-requires c =
-    let s : State = state_on (graph_of c.args.graph.now) c.args.self.now in
+    let s : State = state_in c.args.graph.now c.args.self.now in
     let queue = c.queue-slot-items.ensures ∙ ap (λ (h : HeaderState). h.queue) (ap header_or_new c.in-Some.ensures.value) in
     let low = waiters_below s c.requires.orderly c.args.node _
     (among_at _ (queue_of c.args.self.now.headers.entries c.args.node) c.loop-slot.slot-index (0, NL) queue c.loop-slot-test.true) in
@@ -15,7 +15,7 @@ index-list-requires c =
 
 pub with-strays-requires : goal.with-strays-requires
 with-strays-requires c =
-    let s : State = state_on (graph_of c.args.graph.now) c.args.self.now in
+    let s : State = state_in c.args.graph.now c.args.self.now in
     let queue = c.queue-slot-items.ensures ∙ ap (λ (h : HeaderState). h.queue) (ap header_or_new c.in-Some.ensures.value) in
     let low = waiters_below s c.requires.orderly c.args.node _
     (among_at _ (queue_of c.args.self.now.headers.entries c.args.node) c.loop-slot.slot-index (0, NL) queue c.loop-slot-test.true) in
@@ -23,7 +23,7 @@ with-strays-requires c =
 
 pub loop-slot-preserved : goal.loop-slot-preserved
 loop-slot-preserved c =
-    let s : State = state_on (graph_of c.args.graph.now) c.args.self.now in
+    let s : State = state_in c.args.graph.now c.args.self.now in
     let ps = parents_of (graph_of c.args.graph.now) c.args.node in
     let f : Waiter → Bool = λ w. not (stays s ps w) in
     let q = c.queue-slot-items.result.now in

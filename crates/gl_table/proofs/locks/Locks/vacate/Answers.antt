@@ -1,11 +1,11 @@
 use Rattle.gl_table.proofs.Words.{◌<◌, ◌∙◌, ◌≡◌, ap, CanFree, CanStrike, deleted, Frees, fun_ext, graph_of, header_or_new, length, List, NodeId, parents_of}
-use Rattle.gl_table.proofs.Words.{queue_of, refl, State, state_on, Strikes, subst, sym, Waiter, ℕ}
+use Rattle.gl_table.proofs.Words.{queue_of, refl, State, state_in, Strikes, subst, sym, Waiter, ℕ}
 use Rattle.gl_table.proofs.GrantKeeps.{txn_there}
 use Rattle.gl_table.proofs.Vacated.{MayVacate, agrees_vacated, can_free, can_strike, counts_vacated, txns_freed}
 use Rattle.gl_table.proofs.locks.Locks.vacate.Goals.{After-parents, After-queue, After-strike, Joined-header}
 use Rattle.gl_table.proofs.locks.Locks.vacate.Goals as goal
 
-may : (c : After-parents) → MayVacate (state_on (graph_of c.args.graph.now) c.args.self.now) c.args.slot c.args.rec c.args.self.now.lists.items
+may : (c : After-parents) → MayVacate (state_in c.args.graph.now c.args.self.now) c.args.slot c.args.rec c.args.self.now.lists.items
 may c = record {
   orderly = c.requires.orderly;
   law = c.law.ensures.lawful;
@@ -18,13 +18,13 @@ may c = record {
 }
 
 listed : (c : After-parents) → c.args.slot < length c.args.self.now.lists.items
-listed c = let s : State = state_on (graph_of c.args.graph.now) c.args.self.now in
+listed c = let s : State = state_in c.args.graph.now c.args.self.now in
     subst (λ (k : ℕ). c.args.slot < k) (sym c.requires.sound.lists) (c.requires.orderly.below c.args.slot (txn_there (s.txns c.args.slot) _ c.requires.active))
 
 pub strike-requires-clause-can : goal.strike-requires-clause-can
 strike-requires-clause-can c =
     subst (λ (ps : List NodeId). CanStrike c.args.self.now.lists.items c.args.slot c.args.rec ps) (sym c.parents.ensures)
-    (can_strike (state_on (graph_of c.args.graph.now) c.args.self.now) c.args.slot c.args.rec c.args.self.now.lists.items
+    (can_strike (state_in c.args.graph.now c.args.self.now) c.args.slot c.args.rec c.args.self.now.lists.items
     (may (goal.at.strike-requires-clause-can c).After-parents) (listed (goal.at.strike-requires-clause-can c).After-parents))
 
 struck : (c : After-strike) → Strikes c.args.self.now.lists.items c.strike.new.lists.items c.args.slot c.args.rec
@@ -40,7 +40,7 @@ pub free-requires : goal.free-requires
 free-requires c =
     let at = goal.at.free-requires c in
     subst (λ (ws : List Waiter). CanFree c.args.self.now.seats.items c.strike.new.lists.items c.args.told.now.items c.args.rec ws) (sym (waiters c))
-    (can_free (state_on (graph_of c.args.graph.now) c.args.self.now) c.args.slot c.args.rec c.args.self.now.lists.items (may at.After-parents)
+    (can_free (state_in c.args.graph.now c.args.self.now) c.args.slot c.args.rec c.args.self.now.lists.items (may at.After-parents)
     c.strike.new.lists.items (struck at.After-strike)
     c.args.self.now.seats.items c.args.told.now.items refl c.requires.sound.few c.requires.sound.lists c.requires.by_slot c.requires.untold)
 
@@ -55,7 +55,7 @@ freed c is =
 pub returns-clause-state : goal.returns-clause-state
 returns-clause-state c =
     let at = goal.at.returns-clause-state c in
-    let s : State = state_on (graph_of c.args.graph.now) c.args.self.now in
+    let s : State = state_in c.args.graph.now c.args.self.now in
     let all = freed c (waiters at.After-queue) in
     λ i. record (deleted s c.args.rec) {
       txns = fun_ext (λ u. all.txns u ∙ txns_freed s c.args.slot c.args.rec c.args.self.now.lists.items (may at.After-parents) u) i;
@@ -67,13 +67,13 @@ returns-clause-state c =
 pub returns-clause-agree : goal.returns-clause-agree
 returns-clause-agree c =
     let at = goal.at.returns-clause-agree c in
-    agrees_vacated (state_on (graph_of c.args.graph.now) c.args.self.now) c.args.slot c.args.rec c.args.self.now.lists.items (may at.After-parents)
+    agrees_vacated (state_in c.args.graph.now c.args.self.now) c.args.slot c.args.rec c.args.self.now.lists.items (may at.After-parents)
     c.strike.new.lists.items (struck at.After-strike)
     c.free.new.lists.items (freed c (waiters at.After-queue)).lists
 
 pub returns-clause-count : goal.returns-clause-count
 returns-clause-count c =
     let at = goal.at.returns-clause-count c in
-    counts_vacated (state_on (graph_of c.args.graph.now) c.args.self.now) c.args.slot c.args.rec c.args.self.now.lists.items (may at.After-parents)
+    counts_vacated (state_in c.args.graph.now c.args.self.now) c.args.slot c.args.rec c.args.self.now.lists.items (may at.After-parents)
     c.strike.new.lists.items (struck at.After-strike)
     c.free.new.lists.items (freed c (waiters at.After-queue)).lists

@@ -1,6 +1,6 @@
-use Rattle.gl_table.proofs.Words.{◌&&◌, ◌<◌, ◌∙◌, ◌≡◌, Agrees, ap, count_of, CountsHeld, false, graph_of, if◌then◌else◌, is_listed, IsApart, length, List}
-use Rattle.gl_table.proofs.Words.{LockList, mode_of, NL, NodeId, not, not-false, not-true, pumped, same_node, slice_set, spare, State, state_on, subst, sym}
-use Rattle.gl_table.proofs.Words.{true, without_wait, ℕ}
+use Rattle.gl_table.proofs.Words.{◌&&◌, ◌<◌, ◌∙◌, ◌≡◌, Agrees, ap, count_of, CountsHeld, false, if◌then◌else◌, is_listed, IsApart, length, List, LockList}
+use Rattle.gl_table.proofs.Words.{mode_of, NL, NodeId, not, not-false, not-true, pumped, same_node, slice_set, spare, State, state_in, subst, sym, true}
+use Rattle.gl_table.proofs.Words.{without_wait, ℕ}
 use Rattle.gl_table.proofs.GrantKeeps.{txn_there}
 use Rattle.gl_table.proofs.Less.{waiting_is}
 use Rattle.gl_table.proofs.OneWaits.{waits_only}
@@ -10,7 +10,7 @@ use Rattle.gl_table.proofs.locks.Locks.withdraw.Goals.{After-holds}
 use Rattle.gl_table.proofs.locks.Locks.withdraw.Goals as goal
 
 abbrev before : After-holds → State
-before c = state_on (graph_of c.args.graph.now) c.args.self.now
+before c = state_in c.args.graph.now c.args.self.now
 
 -- the lists, once the wait is out of its queue
 abbrev mid : After-holds → List LockList
@@ -22,18 +22,18 @@ slot_there c = subst (λ (k : ℕ). c.args.slot < k) (sym (c.leave_queue.ensures
 
 -- only its node grants
 state_is : (c : After-holds) → pumped (without_wait (before c) c.args.slot c.args.status) (same_node c.args.node)
-    ≡ state_on (graph_of c.args.graph.now) c.leave_queue.new.self
+    ≡ state_in c.args.graph.now c.leave_queue.new.self
 state_is c = sym (c.leave_queue.ensures.state ∙ ap (pumped (without_wait (before c) c.args.slot c.args.status))
     (waits_only (before c) c.args.slot c.args.node c.requires.waits))
 
 module _ (c : After-holds) (ls : List LockList) (unlists : Unlists (mid c) ls c.args.slot c.args.node) where
-  agrees : (u : ℕ) → Agrees (state_on (graph_of c.args.graph.now) c.leave_queue.new.self) ls u
+  agrees : (u : ℕ) → Agrees (state_in c.args.graph.now c.leave_queue.new.self) ls u
   agrees u = subst (λ (x : State). Agrees x ls u) (state_is c)
       (agrees_withdrawn (before c) c.requires.orderly c.law.ensures.lawful c.args.slot c.args.node c.args.status c.requires.quiet c.requires.waits
       c.args.self.now.lists.items (mid c)
       c.requires.agree c.requires.count c.leave_queue.ensures.lists ls unlists u)
 
-  counts : (u : ℕ) → CountsHeld (state_on (graph_of c.args.graph.now) c.leave_queue.new.self) ls u
+  counts : (u : ℕ) → CountsHeld (state_in c.args.graph.now c.leave_queue.new.self) ls u
   counts u = subst (λ (x : State). CountsHeld x ls u) (state_is c)
       (counts_withdrawn (before c) c.requires.orderly c.law.ensures.lawful c.args.slot c.args.node c.args.status c.requires.quiet c.requires.waits
       c.args.self.now.lists.items (mid c)

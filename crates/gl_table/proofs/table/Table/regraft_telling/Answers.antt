@@ -1,5 +1,5 @@
-use Rattle.gl_table.proofs.Words.{◌∙◌, ◌≡◌, ◌≤◌, ap, count_by, counted_by, CountsHeld, first_cycle, graph_of, List, moved_to, Node, NodeId, same_node, state_of}
-use Rattle.gl_table.proofs.Words.{state_on, subst, sym, TableView, told, view_of, with_parents, ℕ}
+use Rattle.gl_table.proofs.Words.{◌∙◌, ◌≡◌, ◌≤◌, ap, count_by, counted_by, CountsHeld, first_cycle, graph_of, List, moved_to, Node, NodeId, same_node, state_in}
+use Rattle.gl_table.proofs.Words.{state_of, subst, sym, TableView, told, view_of, with_parents, ℕ}
 use Rattle.gl_table.proofs.MovedNodes.{Moves, moved_node}
 use Rattle.gl_table.proofs.TableMoves.{agree_moved, bare_moved, counted_moved, counts_moved, few_moved, listed_moved, move_call, orderly_moved, sound_moved}
 use Rattle.gl_table.proofs.TableMoves.{state_moved, stuck_moved, told_moved}
@@ -50,7 +50,7 @@ follow-requires-clause-listed c = let m = made c in
 pub follow-requires-clause-few : goal.follow-requires-clause-few
 follow-requires-clause-few c = let m = made c in few_moved c.self.inside c.self.invariant c.args.t.slot c.args.n m.0 (after c m.0) c.set_parents.new.self m.1
 
-counted : (c : goal.After-follow) → (u : ℕ) → CountsHeld (state_on (graph_of c.set_parents.new.self) c.follow.new.self) c.follow.new.self.lists.items u
+counted : (c : goal.After-follow) → (u : ℕ) → CountsHeld (state_in c.set_parents.new.self c.follow.new.self) c.follow.new.self.lists.items u
 counted c = let m = made c.before in
     counts_moved c.self.inside c.self.invariant c.args.t.slot c.args.n m.0 (after c.before m.0) c.set_parents.new.self m.1 c.follow.new.self
     c.follow.ensures.state

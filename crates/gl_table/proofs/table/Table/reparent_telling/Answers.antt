@@ -1,5 +1,5 @@
 use Rattle.gl_table.proofs.Words.{◌∙◌, ◌≡◌, ◌≤◌, ap, count_by, counted_by, CountsHeld, graph_of, List, moved_to, Node, NodeId, rekeyed, rekeyed_parents}
-use Rattle.gl_table.proofs.Words.{same_node, state_of, state_on, subst, sym, TableView, told, view_of, ℕ}
+use Rattle.gl_table.proofs.Words.{same_node, state_in, state_of, subst, sym, TableView, told, view_of, ℕ}
 use Rattle.gl_table.proofs.MovedNodes.{Moves, rekeyed_to}
 use Rattle.gl_table.proofs.TableMoves.{agree_moved, bare_moved, counted_moved, counts_moved, few_moved, listed_moved, orderly_moved, rekey_call, sound_moved}
 use Rattle.gl_table.proofs.TableMoves.{state_moved, stuck_moved, told_moved}
@@ -45,7 +45,7 @@ follow-requires-clause-listed c = let m = made c in
 pub follow-requires-clause-few : goal.follow-requires-clause-few
 follow-requires-clause-few c = let m = made c in few_moved c.self.inside c.self.invariant c.args.t.slot c.args.rec m.0 (after c m.0) c.set_key.new.self m.1
 
-counted : (c : goal.After-follow) → (u : ℕ) → CountsHeld (state_on (graph_of c.set_key.new.self) c.follow.new.self) c.follow.new.self.lists.items u
+counted : (c : goal.After-follow) → (u : ℕ) → CountsHeld (state_in c.set_key.new.self c.follow.new.self) c.follow.new.self.lists.items u
 counted c = let m = made c.before in
     counts_moved c.self.inside c.self.invariant c.args.t.slot c.args.rec m.0 (after c.before m.0) c.set_key.new.self m.1 c.follow.new.self
     c.follow.ensures.state

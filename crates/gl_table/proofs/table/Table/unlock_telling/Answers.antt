@@ -1,5 +1,4 @@
-use Rattle.gl_table.proofs.Words.{◌∙◌, ap, front_at, graph_of, NL, State, state_of, state_on, subst, TableView, Told, told, unlocked, view_of, WakesTold}
-use Rattle.gl_table.proofs.Words.{with_grant}
+use Rattle.gl_table.proofs.Words.{◌∙◌, ap, front_at, NL, State, state_in, state_of, subst, TableView, Told, told, unlocked, view_of, WakesTold, with_grant}
 use Rattle.gl_table.proofs.TableCalls.{may_unlock, orderly, sound_unlocked, state_unlocked, told_unlocked}
 use Rattle.gl_table.proofs.table.Table.unlock_telling.Goals as goal
 
@@ -29,7 +28,7 @@ pub returns-clause-told : goal.returns-clause-told
 returns-clause-told c =
     let may = may_unlock c.self.inside c.self.invariant c.args.self.now c.self.view_is c.args.t c.args.n c.in_ok-check_active.field-0
     c.in_ok-check_childless.field-0 c.in_ok-check_active.ensures c.in_ok-check_childless.ensures in
-    let first : State = state_on (graph_of c.self.inside.graph) c.self.inside.locks in
+    let first : State = state_in c.self.inside.graph c.self.inside.locks in
     let tells = subst (λ (list : Told). WakesTold first.txns c.args.n (front_at (with_grant first c.args.t.slot c.args.n NL) c.args.n) list
     c.release.new.told.items) c.requires.empty c.release.ensures.tells in
     told_unlocked c.self.inside c.self.invariant c.args.t.slot c.args.n may.0 may.2 c.release.new.self c.release.ensures.state c.release.new.told.items tells
