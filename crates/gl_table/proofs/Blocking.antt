@@ -66,16 +66,14 @@ module _ (i : Inside) (sound : IsSound i) (t : TxnId) (n : NodeId) (m : Mode) (m
         one_wait = o.one_wait; below = o.below })
 
     -- and was settled, where that is the way of detection
-    module _ (left : code.Locks) (kept : Deadlock) (settles : WaitSettles i.detect i.victims (state_in i.graph locks) t.slot
-        (state_in i.graph left)) where
+    module _ (left : code.Locks) (kept : Deadlock) (settles : WaitSettles i.detect i.victims (state_in i.graph locks) t.slot (state_in i.graph left)) where
       abbrev after : Inside
       after = record i { locks = left; deadlock = kept }
 
       pub state_locked : Locks s t.slot n m (state_of (view_of after))
       state_locked = record {
         at_once = λ h. clash h blocks;
-        waits = λ h. settles_on i.detect i.victims (enqueued l t.slot n (wanted l t.slot n m)) (state_in i.graph left) t.slot i.detect i.victims
-            i.begins
+        waits = λ h. settles_on i.detect i.victims (enqueued l t.slot n (wanted l t.slot n m)) (state_in i.graph left) t.slot i.detect i.victims i.begins
             (subst (λ (x : State). WaitSettles i.detect i.victims x t.slot (state_in i.graph left)) is settles);
       }
 
@@ -84,8 +82,8 @@ module _ (i : Inside) (sound : IsSound i) (t : TxnId) (n : NodeId) (m : Mode) (m
           → LocksKeeping s t.slot n m i.deadlock (state_of (view_of after)) kept
       kept_locked keeps = record {
         at_once = λ h. clash h blocks;
-        waits = λ h. keeps_on i.detect i.victims (enqueued l t.slot n (wanted l t.slot n m)) (state_in i.graph left) t.slot i.deadlock kept i.detect
-            i.victims i.begins
+        waits = λ h. keeps_on i.detect i.victims (enqueued l t.slot n (wanted l t.slot n m)) (state_in i.graph left) t.slot i.deadlock kept i.detect i.victims
+            i.begins
             (subst (λ (x : State). WaitSettlesKeeping i.detect i.victims x t.slot i.deadlock (state_in i.graph left) kept) is keeps);
       }
 

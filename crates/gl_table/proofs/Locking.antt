@@ -111,8 +111,8 @@ module _ (i : Inside) (sound : IsSound i) (t : TxnId) (n : NodeId) (m : Mode) wh
 
   -- nothing but room was made
   pub sound_kept : (locks : Locks) → locks.headers.entries ≡ i.locks.headers.entries → locks.seats ≡ i.locks.seats
-      → AreSound locks → ((u : ℕ) → Agrees (state_in i.graph locks) locks.lists.items u)
-      → ((u : ℕ) → CountsHeld (state_in i.graph locks) locks.lists.items u) → IsSound (record i { locks = locks })
+      → AreSound locks → ((u : ℕ) → Agrees (state_in i.graph locks) locks.lists.items u) → ((u : ℕ) → CountsHeld (state_in i.graph locks) locks.lists.items u)
+      → IsSound (record i { locks = locks })
   sound_kept locks headers seats are agrees counts = record {
     lawful = subst IsLawful same sound.lawful;
     sound = are;
@@ -133,8 +133,8 @@ module _ (i : Inside) (sound : IsSound i) (t : TxnId) (n : NodeId) (m : Mode) wh
   pub sound_tried : (r : Result Mode Refusal) (locks : Locks) → MayLock s t n m → enters_at s t.slot n m ≡ true
       → OnOk r (state_in i.graph locks ≡ granted l t.slot n m)
       → OnErr r (locks.headers.entries ≡ i.locks.headers.entries) → OnErr r (locks.seats ≡ i.locks.seats)
-      → AreSound locks → ((u : ℕ) → Agrees (state_in i.graph locks) locks.lists.items u)
-      → ((u : ℕ) → CountsHeld (state_in i.graph locks) locks.lists.items u) → IsSound (record i { locks = locks })
+      → AreSound locks → ((u : ℕ) → Agrees (state_in i.graph locks) locks.lists.items u) → ((u : ℕ) → CountsHeld (state_in i.graph locks) locks.lists.items u)
+      → IsSound (record i { locks = locks })
   sound_tried (Ok x) locks may fits ok headers seats are agrees counts = sound_granted may fits locks ok are agrees counts
   sound_tried (Err x) locks may fits ok headers seats are agrees counts = sound_kept locks headers seats are agrees counts
 

@@ -79,8 +79,8 @@ module _ (i : Inside) (sound : IsSound i) (f : NodeId) (keys : List ℕ) (free :
       state_placed = ap {A = State} (λ x. record x { detect = i.detect; victims = i.victims; begins = i.begins }) is
 
       pub sound_placed : status_of s t ≡ Some Active → first_not_ix (s.held t) (record_parents (graph_of i.graph) f keys) ≡ None
-          → AreSound locks → ((u : ℕ) → Agrees (state_in v locks) locks.lists.items u)
-          → ((u : ℕ) → CountsHeld (state_in v locks) locks.lists.items u) → IsSound after
+          → AreSound locks → ((u : ℕ) → Agrees (state_in v locks) locks.lists.items u) → ((u : ℕ) → CountsHeld (state_in v locks) locks.lists.items u)
+          → IsSound after
       sound_placed active rule are agrees counts = record {
         lawful = subst IsLawful (sym state_placed) (placed-lawful s sound.lawful f keys roomy_record.file roomy_record.each roomy_record.room (graph_of v) n
             born t active rule);

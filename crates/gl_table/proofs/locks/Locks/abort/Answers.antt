@@ -10,8 +10,7 @@ before c = state_in c.args.graph.now c.args.self.now
 idle : (c : Joined-seat) → is_wait (status_of (before c) c.args.slot) ≡ false → c.match-seat.self ≡ c.args.self.now → c.match-seat.told ≡ c.args.told.now
     → IsFree (before c) (state_in c.args.graph.now c.match-seat.self) c.args.slot c.args.told.now.items c.match-seat.told.items
 idle c quiet self told =
-    free_same (before c) (before c) _ c.args.slot c.args.told.now.items c.args.told.now.items _ (ap (state_in c.args.graph.now) self)
-    (ap (λ x. x.items) told)
+    free_same (before c) (before c) _ c.args.slot c.args.told.now.items c.args.told.now.items _ (ap (state_in c.args.graph.now) self) (ap (λ x. x.items) told)
     (free_idle (before c) c.args.slot c.args.told.now.items c.requires.orderly quiet c.requires.untold)
 
 -- the slot waits for nothing, once its wait is taken back, if it has one

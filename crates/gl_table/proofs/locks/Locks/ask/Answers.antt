@@ -18,8 +18,7 @@ may : (c : After-make_room_to_ask) → MayAsk (graph_of c.args.graph.now) c.args
 may c = record { sound = c.requires.sound; orderly = c.requires.orderly; agree = c.requires.agree; count = c.requires.count; active = c.requires.active }
 
 -- whether the slot holds the node, as its list says
-member_is : (c : After-make_room_to_ask) → c.ne-is_member.result
-    ≡ holds (members (state_in c.args.graph.now c.args.self.now) c.args.node) c.args.slot
+member_is : (c : After-make_room_to_ask) → c.ne-is_member.result ≡ holds (members (state_in c.args.graph.now c.args.self.now) c.args.node) c.args.slot
 member_is c =
     let is : c.ne-is_member.result ≡ not (same_mode c.args.held NL) = search rules in
     is ∙ ap (λ m. not (same_mode m NL)) (c.requires.held ∙ (c.requires.agree c.args.slot).modes c.args.node)

@@ -9,8 +9,8 @@ use Rattle.gl_table.proofs.locks.Locks.leave_all.Goals as goal
 pub loop-node-init : goal.loop-node-init
 loop-node-init c = record {
   sound = c.requires.sound;
-  leaving = leaving_begins (state_in c.args.graph.now c.args.self.now) c.args.slot c.args.self.now.lists.items c.args.told.now.items
-      c.requires.orderly c.requires.quiet c.requires.agree c.requires.count c.requires.by_slot c.requires.untold;
+  leaving = leaving_begins (state_in c.args.graph.now c.args.self.now) c.args.slot c.args.self.now.lists.items c.args.told.now.items c.requires.orderly
+      c.requires.quiet c.requires.agree c.requires.count c.requires.by_slot c.requires.untold;
 }
 
 pub drop_and_wake-requires-clause-sound : goal.drop_and_wake-requires-clause-sound
@@ -103,14 +103,14 @@ none c q =
 
 pub returns-clause-state : goal.returns-clause-state
 returns-clause-state c =
-    left_released (state_in c.args.graph.now c.args.self.now) (state_in c.args.graph.now c.loop-node.self) c.args.slot
-    c.loop-node.self.lists.items c.args.told.now.items c.loop-node.told.items c.loop-node.invariant.leaving (none c)
+    left_released (state_in c.args.graph.now c.args.self.now) (state_in c.args.graph.now c.loop-node.self) c.args.slot c.loop-node.self.lists.items
+    c.args.told.now.items c.loop-node.told.items c.loop-node.invariant.leaving (none c)
     c.requires.quiet
 
 pub returns-clause-free : goal.returns-clause-free
 returns-clause-free c =
-    left_free (state_in c.args.graph.now c.args.self.now) (state_in c.args.graph.now c.loop-node.self) c.args.slot
-    c.loop-node.self.lists.items c.args.told.now.items c.loop-node.told.items c.loop-node.invariant.leaving (none c)
+    left_free (state_in c.args.graph.now c.args.self.now) (state_in c.args.graph.now c.loop-node.self) c.args.slot c.loop-node.self.lists.items
+    c.args.told.now.items c.loop-node.told.items c.loop-node.invariant.leaving (none c)
 
 pub returns-clause-tells : goal.returns-clause-tells
 returns-clause-tells c = λ s way same. (c.loop-node.invariant.leaving.tells s way same).1

@@ -8,8 +8,7 @@ use Rattle.gl_table.proofs.WakesFronts.{can_wake_front}
 use Rattle.gl_table.proofs.locks.Locks.leave_queue.Goals as goal
 
 pub drop_wait-requires-clause-waits : goal.drop_wait-requires-clause-waits
-drop_wait-requires-clause-waits c = stands_there (state_in c.args.graph.now c.args.self.now) c.requires.orderly c.args.slot c.args.node
-    c.requires.waits
+drop_wait-requires-clause-waits c = stands_there (state_in c.args.graph.now c.args.self.now) c.requires.orderly c.args.slot c.args.node c.requires.waits
 
 pub wake_granted-requires : goal.wake_granted-requires
 wake_granted-requires c =

@@ -7,8 +7,7 @@ invariant-loop-at l = record {
   sound : AreSound l.self;
   within : l.at ≤ length (keys l.list.entries);
   passed : NoneMarkedFrom l.list l.at;
-  releasing : IsReleasing (state_in l.graph l.fn.self) (state_in l.graph l.self) l.slot l.fn.node l.self.lists.items l.list
-      l.fn.told.items l.told.items;
+  releasing : IsReleasing (state_in l.graph l.fn.self) (state_in l.graph l.self) l.slot l.fn.node l.self.lists.items l.list l.fn.told.items l.told.items;
 }
 
 abbrev pub decreases-loop-at : goal.decreases-loop-at

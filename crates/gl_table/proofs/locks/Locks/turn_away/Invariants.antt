@@ -6,8 +6,7 @@ use Rattle.gl_table.proofs.locks.Locks.turn_away.Given as goal
 abbrev pub invariant-loop-strays : goal.invariant-loop-strays
 invariant-loop-strays l = record {
   sound : AreSound l.self;
-  turning : IsTurning (state_in l.graph l.fn.self) (state_in l.graph l.self) l.node
-      (stays (state_in l.graph l.fn.self) (parents_of (graph_of l.graph) l.node))
+  turning : IsTurning (state_in l.graph l.fn.self) (state_in l.graph l.self) l.node (stays (state_in l.graph l.fn.self) (parents_of (graph_of l.graph) l.node))
       (has_slot l.strays) l.fn.self.lists.items l.self.lists.items l.fn.told.items l.told.items;
 }
 

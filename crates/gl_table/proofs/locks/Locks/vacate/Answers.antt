@@ -40,8 +40,8 @@ pub free-requires : goal.free-requires
 free-requires c =
     let at = goal.at.free-requires c in
     subst (λ (ws : List Waiter). CanFree c.args.self.now.seats.items c.strike.new.lists.items c.args.told.now.items c.args.rec ws) (sym (waiters c))
-    (can_free (state_in c.args.graph.now c.args.self.now) c.args.slot c.args.rec c.args.self.now.lists.items (may at.After-parents)
-    c.strike.new.lists.items (struck at.After-strike)
+    (can_free (state_in c.args.graph.now c.args.self.now) c.args.slot c.args.rec c.args.self.now.lists.items (may at.After-parents) c.strike.new.lists.items
+    (struck at.After-strike)
     c.args.self.now.seats.items c.args.told.now.items refl c.requires.sound.few c.requires.sound.lists c.requires.by_slot c.requires.untold)
 
 freed : (c : Joined-header) → c.queue.result.now ≡ queue_of c.args.self.now.headers.entries c.args.rec
