@@ -1,7 +1,7 @@
 -- What an accepted command leaves of the count of accepted commands, which is raised behind it.
 use Rattle.std.specs.Prelude.{◌≡◌, ℕ, zero, suc}
 use Rattle.std.proofs.Common.{ap}
-use Rattle.gl_graph.proofs.Look.{split}
+use Rattle.gl_modes.proofs.Words.{split}
 use Rattle.gl_waits.specs.declared.victims.Victims.{Victims}
 use Rattle.gl_table.specs.declared.detect.Detect.{Detect}
 use Rattle.gl_table.specs.declared.detect.Detect.TheVariants.{AtBlock, ByWatcher}

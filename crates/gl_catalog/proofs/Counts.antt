@@ -7,12 +7,12 @@ use Rattle.std.proofs.lemmas.List.{take_more}
 use Rattle.std.proofs.lemmas.List.Sums.{sum-map, sum_by_push}
 use Rattle.std.proofs.lemmas.List.FromFn.{sum_by-map-range_with_len_more}
 use mathlib.Core.Bool.{true≢false}
+use Rattle.gl_modes.proofs.Words.{no}
 use Rattle.gl_modes.specs.declared.node.NodeId.{NodeId}
 use Rattle.gl_graph.specs.Graph.{is_live}
 use Rattle.gl_modes.specs.declared.refusal.Refusal.{Refusal}
 use Rattle.gl_modes.specs.declared.refusal.Refusal.TheVariants.{NoSuchNode}
 use Rattle.gl_graph.specs.Refusals.{first_refusal, where_true}
-use Rattle.gl_graph.proofs.Look.{no}
 use Rattle.gl_header.specs.Header.{Waiter, is_among_waiters}
 use Rattle.gl_table.specs.declared.notice.Notice.{Notice}
 use Rattle.gl_table.specs.declared.notice.Notice.TheVariants as notice

@@ -1,4 +1,5 @@
 -- No command changes the way of detection.
+use Rattle.gl_modes.proofs.Words.{split}
 use Rattle.gl_waits.specs.declared.victims.Victims.{Victims}
 use Rattle.std.specs.Prelude.{◌≡◌, ℕ, zero, suc}
 use Rattle.std.proofs.Common.{ap, refl}
@@ -14,7 +15,6 @@ use Rattle.gl_table.specs.Tellings.{Told}
 use Rattle.gl_catalog.specs.Step.{Accepts, Step}
 use Rattle.gl_table.specs.Calls.{WaitSettles, wanted, enters_at, enqueued}
 use Rattle.gl_catalog.proofs.EachStep.{each_step}
-use Rattle.gl_graph.proofs.Look.{split}
 
 -- the way of detection stays
 settled_detect : (c : Victims) (k : ℕ) (s s' : State) (t : ℕ) → SettledWithin c k s t s' → s'.detect ≡ s.detect

@@ -3,6 +3,8 @@ use Rattle.std.specs.Prelude.{◌≡◌, ℕ, zero, suc, Bool, true, false, not,
 use Rattle.std.specs.List.{list_all, list_any}
 use Rattle.std.proofs.Common.{refl, sym, ap, ap₂, ◌∙◌, rules}
 use mathlib.Core.Bool.{true≢false}
+use Rattle.gl_modes.proofs.NodeLemmas.{same_node-equal, same_node-refl}
+use Rattle.gl_modes.proofs.Words.{split, cases_of, no, or_elim, or_left, or_right, and_both, both, number_same}
 use Rattle.gl_modes.specs.declared.mode.Mode.{Mode}
 use Rattle.gl_modes.specs.declared.mode.Mode.TheVariants.{NL, S, X}
 use Rattle.gl_modes.specs.declared.node.NodeId.{NodeId}
@@ -24,7 +26,7 @@ use Rattle.gl_table.specs.Calls.{wanted, asked_by_escalation, raised, shed}
 use Rattle.gl_catalog.specs.Tests.{worn}
 use Rattle.gl_table.specs.Refusals.{no_txn, waiting_test, condemned_test}
 use Rattle.gl_catalog.specs.Promises.{EscalateLowersNone}
-use Rattle.gl_graph.proofs.Look.{split, cases_of, no, or_elim, or_left, or_right, and_both, both, number_same, same_node_is, same_node_refl, all_at, child_live}
+use Rattle.gl_graph.proofs.Look.{all_at, child_live}
 use Rattle.gl_graph.proofs.Routes.{join}
 use Rattle.gl_graph.proofs.Moved.{some_at}
 use Rattle.gl_graph.proofs.RouteLengths.{listed}
@@ -95,7 +97,7 @@ module _ (s : State) (law : IsLawful s) (t : ℕ) (n : NodeId) (active : status_
   grew p =
       ap (λ b. is_at_least (if b && same_node p n then wanted s t n (asked_by_escalation s t n) else s.held t p) (s.held t p)) (number_same t t refl)
       ∙ split (same_node p n)
-      (λ e. ap (λ b. is_at_least (if b then wanted s t n (asked_by_escalation s t n) else s.held t p) (s.held t p)) e ∙ ap (λ x. is_at_least (wanted s t n (asked_by_escalation s t n)) (s.held t x)) (same_node_is p n e) ∙ supremum-above (s.held t n) (asked_by_escalation s t n))
+      (λ e. ap (λ b. is_at_least (if b then wanted s t n (asked_by_escalation s t n) else s.held t p) (s.held t p)) e ∙ ap (λ x. is_at_least (wanted s t n (asked_by_escalation s t n)) (s.held t x)) (same_node-equal p n e) ∙ supremum-above (s.held t n) (asked_by_escalation s t n))
       (λ e. ap (λ b. is_at_least (if b then wanted s t n (asked_by_escalation s t n) else s.held t p) (s.held t p)) e ∙ at_least-refl (s.held t p))
 
   asked_reads : is_read (asked_by_escalation s t n) ≡ true
@@ -107,7 +109,7 @@ module _ (s : State) (law : IsLawful s) (t : ℕ) (n : NodeId) (active : status_
 
   node_reads : is_read (up.held t n) ≡ true
   node_reads =
-      ap (λ b. is_read (if b then wanted s t n (asked_by_escalation s t n) else s.held t n)) (both _ _ (number_same t t refl) (same_node_refl n))
+      ap (λ b. is_read (if b then wanted s t n (asked_by_escalation s t n) else s.held t n)) (both _ _ (number_same t t refl) (same_node-refl n))
       ∙ sup_reads (s.held t n) (asked_by_escalation s t n) asked_reads
 
   -- what it says that a child is covered

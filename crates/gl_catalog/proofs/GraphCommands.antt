@@ -5,6 +5,7 @@ use Rattle.std.proofs.Common.{refl, sym, ap, ap₂, subst, ◌∙◌, arith, inl
 use Rattle.std.proofs.Math.Path.{fun_ext}
 use Rattle.std.proofs.lemmas.Bool.Decides.{nat_tests}
 use mathlib.Core.Bool.{true≢false}
+use Rattle.gl_modes.proofs.Words.{split, and_both}
 use Rattle.gl_modes.specs.declared.mode.Mode.TheVariants.{NL, X}
 use Rattle.gl_modes.specs.declared.node.NodeId.{NodeId}
 use Rattle.gl_table.specs.declared.txn.TxnId.{TxnId}
@@ -29,7 +30,6 @@ use Rattle.gl_catalog.proofs.Made.{made, next_id}
 use Rattle.gl_catalog.proofs.Keeps.{Keeps, keeps_graph}
 use Rattle.gl_catalog.proofs.NotRefused.{OnParents, given_some, record_has_parents}
 use Rattle.gl_catalog.proofs.GraphChanges.{quiet_under, x_here, x_on_parents, beside_x, is_new, no_records, born_births, born_old, born_step, born_step_records, unborn_shape, KeepsKey, changed_at, changed_here, changed_births, changed_old, changed_step, gone_keeps, rekeyed_keeps, reparented_keeps, rekeyed_parents_in, reparented_parents_in}
-use Rattle.gl_graph.proofs.Look.{split, and_both}
 use Rattle.gl_modes.proofs.NodeLemmas.{same_node-equal}
 
 freed_lives : (n : NodeId) (age : ℕ) (x : Option Txn) → live_by age (freed n x) ≡ live_by age x

@@ -4,6 +4,7 @@ use Rattle.std.specs.List.{list_all, list_any}
 use Rattle.std.proofs.Common.{refl, sym, ap, ap₂, subst, ◌∙◌, arith, rules, inl, inr}
 use Rattle.std.proofs.Math.Path.{fun_ext}
 use mathlib.Core.Bool.{true≢false}
+use Rattle.gl_modes.proofs.Words.{split, or_elim, and_both}
 use Rattle.gl_modes.specs.declared.mode.Mode.{Mode}
 use Rattle.gl_modes.specs.declared.mode.Mode.TheVariants.{NL, X}
 use Rattle.gl_modes.specs.declared.node.NodeId.{NodeId}
@@ -25,7 +26,7 @@ use Rattle.gl_table.proofs.Effects.{all_from, ReadOn, eff_s_route, read_on_eff}
 use Rattle.gl_table.proofs.Transfer.{GraphStep, reads_carry, effective_same, below_same}
 use Rattle.gl_catalog.proofs.ToldGrants.{tells, tells_grant, any_weaker}
 use Rattle.gl_table.proofs.Follows.{Follows, SameGrants, GrantedTo}
-use Rattle.gl_graph.proofs.Look.{split, or_elim, and_both, all_at}
+use Rattle.gl_graph.proofs.Look.{all_at}
 use Rattle.gl_modes.proofs.NodeLemmas.{same_node-equal}
 use Rattle.gl_modes.proofs.ModeLemmas.{at_least-refl}
 use Rattle.gl_graph.proofs.Moved.{some_at, any_found}

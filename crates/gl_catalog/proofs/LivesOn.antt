@@ -1,4 +1,5 @@
 -- A transaction that lives on over a step: its age stays, and it begins no wait.
+use Rattle.gl_modes.proofs.Words.{same_number, split}
 use Rattle.gl_waits.specs.declared.victims.Victims.{Victims}
 use Rattle.std.specs.Prelude.{◌≡◌, ℕ, zero, suc, Bool, true, false, ◌==◌, List, Option, Some, None, if◌then◌else◌}
 use Rattle.std.proofs.Common.{refl, sym, ap, subst, ◌∙◌}
@@ -16,7 +17,6 @@ use Rattle.gl_table.specs.State.{State, Txn, live_by, restatus, status_in}
 use Rattle.gl_table.specs.Waiting.{Settled, SettledWithin}
 use Rattle.gl_table.proofs.Pumped.{woken_waits}
 use Rattle.gl_table.proofs.Taken.{IsQuiet, restatus_quiet}
-use Rattle.gl_graph.proofs.Look.{same_number, split}
 
 -- the same transaction lives in the slot, and if it waits, it waited there before
 pub record LivesOn (x y : Option Txn) : Type 0 where

@@ -2,6 +2,7 @@
 use Rattle.std.specs.Prelude.{◌≡◌, ℕ, not, ◌==◌, List, [], ◌∷◌, length, Option, None}
 use denote.Bor.{Bor}
 use Rattle.std.proofs.Common.{sym, subst}
+use Rattle.gl_modes.proofs.Words.{same_number}
 use Rattle.gl_modes.specs.declared.node.NodeId.{NodeId}
 use Rattle.gl_modes.specs.declared.refusal.Refusal.{Refusal}
 use Rattle.gl_table.specs.declared.txn.TxnId.{TxnId}
@@ -14,7 +15,6 @@ use Rattle.gl_graph.specs.Refusals.{file_refusal, first_refusal, index_refusal, 
 use Rattle.gl_catalog.specs.Tests.{worn}
 use Rattle.gl_table.specs.Refusals.{no_txn, waiting_test, condemned_test, first_not_ix}
 use Rattle.gl_catalog.proofs.KeepsLaw.{KeepsLaw}
-use Rattle.gl_graph.proofs.Look.{same_number}
 use Rattle.gl_table.proofs.Births.{file-grows, grown-lawful, index-grows, inner-grows}
 use Rattle.gl_table.proofs.Placed.{placed-lawful}
 use Rattle.gl_graph.proofs.Unrefused.{not_refused, test_fails, not_false, enough_room}

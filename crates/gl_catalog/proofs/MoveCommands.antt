@@ -2,6 +2,7 @@
 use Rattle.std.specs.Prelude.{◌≡◌, ℕ, true, not, ◌&&◌, ◌||◌, List, [], ◌∷◌, None}
 use denote.Bor.{Bor}
 use Rattle.std.proofs.Common.{sym, subst}
+use Rattle.gl_modes.proofs.Words.{and_both}
 use Rattle.gl_modes.specs.declared.node.NodeId.{NodeId}
 use Rattle.gl_table.specs.declared.txn.TxnId.{TxnId}
 use Rattle.gl_catalog.specs.declared.command.Command.TheVariants as command
@@ -14,7 +15,6 @@ use Rattle.gl_catalog.specs.Tests.{worn, refusal_of}
 use Rattle.gl_graph.specs.Refusals.{some_no_node, where_true, bad_parents, first_cycle}
 use Rattle.gl_table.specs.Refusals.{no_txn, waiting_test, condemned_test, need_exclusive, need_new_parents, some_given}
 use Rattle.gl_catalog.proofs.KeepsLaw.{KeepsLaw}
-use Rattle.gl_graph.proofs.Look.{and_both}
 use Rattle.gl_graph.proofs.Unrefused.{not_refused, test_fails, not_false, or_no, inner_parents}
 use Rattle.gl_table.proofs.MovedNodes.{Moves, changed_keeps, may_be_moved, may_be_rekeyed, moved_node, rekeyed_to}
 use Rattle.gl_catalog.proofs.NotRefused.{active_is}

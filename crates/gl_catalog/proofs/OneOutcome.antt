@@ -1,4 +1,5 @@
 -- In a lawful state a command that makes no node has one outcome, since settling ends in one state and all else is an equation.
+use Rattle.gl_modes.proofs.Words.{some_is, split}
 use Rattle.gl_waits.specs.declared.victims.Victims.{Victims}
 use Rattle.std.specs.Prelude.{◌≡◌, ◌+◌, ℕ, [], false, Option, Some, None}
 use Rattle.std.proofs.Common.{refl, sym, ap, ◌∙◌}
@@ -18,7 +19,6 @@ use Rattle.gl_catalog.specs.Tests.{refusal_of, worn}
 use Rattle.gl_catalog.specs.Step.{Accepts, Answers, Goes, lock_answer, query_answer}
 use Rattle.gl_table.specs.Calls.{accepted_once}
 use Rattle.gl_catalog.specs.Promises.{OneOutcome, makes_node}
-use Rattle.gl_graph.proofs.Look.{some_is, split}
 use Rattle.gl_table.proofs.LockKeeps.{MayLock, may_lock, waiting-lawful}
 use Rattle.gl_table.proofs.OneEnd.{settled_one}
 

@@ -1,6 +1,7 @@
 -- One step of a command that does not name t keeps t.
 use Rattle.std.specs.Prelude.{◌≡◌, ◌≢◌, true, false, List, [], ◌∷◌, Option, Some, None}
 use Rattle.std.proofs.Common.{refl, sym, subst, inl, inr}
+use Rattle.gl_modes.proofs.Words.{and_both}
 use Rattle.gl_modes.specs.declared.refusal.Refusal.{Refusal}
 use Rattle.gl_modes.specs.declared.refusal.Refusal.TheVariants as no
 use Rattle.gl_table.specs.declared.txn.TxnId.{TxnId}
@@ -21,7 +22,6 @@ use Rattle.gl_catalog.proofs.Made.{made_is, indexed_is, inserted_is}
 use Rattle.gl_catalog.proofs.NotRefused.{txn_lives, nodes_live, differ, exclusive}
 use Rattle.gl_catalog.proofs.GrantCommands.{lock_keeps, try_keeps, unlock_keeps, escalate_keeps, cancel_keeps, release_keeps, settle_keeps, begin_keeps, same_keeps}
 use Rattle.gl_catalog.proofs.GraphCommands.{inner_keeps, file_keeps, index_keeps, insert_keeps, delete_keeps, rekey_keeps, move_keeps}
-use Rattle.gl_graph.proofs.Look.{and_both}
 use Rattle.gl_graph.proofs.Unrefused.{test_fails, not_false}
 
 -- each of these passed

@@ -1,4 +1,5 @@
 -- Each way in which another transaction's command changes grants, queues and slots, and what it leaves to a slot t that it does not name.
+use Rattle.gl_modes.proofs.Words.{split, and_both, same_number}
 use Rattle.gl_waits.specs.declared.victims.Victims.{Victims}
 use Rattle.gl_waits.proofs.VictimLemmas.{candidate-on_cycle}
 use Rattle.std.specs.Prelude.{◌≡◌, ◌≢◌, ℕ, zero, suc, ◌+◌, Bool, true, false, ◌&&◌, ◌||◌, ◌==◌, List, [], ◌∷◌, Option, Some, None, if◌then◌else◌}
@@ -22,7 +23,6 @@ use Rattle.gl_waits.specs.Waits.{IsWalk}
 use Rattle.gl_table.specs.Calls.{begun, enqueued, released, shed, raised, WaitSettles}
 use Rattle.gl_table.proofs.Waiters.{waits_of, without_other, without_self, placed_other}
 use Rattle.gl_table.proofs.Follows.{WaitsWell, Follows, SameGrants, follows_trans, follows_same, absent_well, pumped_follows}
-use Rattle.gl_graph.proofs.Look.{split, and_both, same_number}
 use Rattle.gl_modes.proofs.NodeLemmas.{same_node-equal}
 
 pub other : (u t : ℕ) → u ≢ t → (t == u) ≡ false

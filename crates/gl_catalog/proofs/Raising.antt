@@ -2,6 +2,8 @@
 use Rattle.std.specs.Prelude.{◌≡◌, ℕ, ◌+◌, ◌-◌, Bool, true, false, not, ◌&&◌, ◌||◌, [], ◌∷◌, Option, Some, None, Ok, Err, IsOk, if◌then◌else◌}
 use Rattle.std.specs.List.{list_any}
 use Rattle.std.proofs.Common.{refl, sym, ap, ◌∙◌}
+use Rattle.gl_modes.proofs.NodeLemmas.{same_node-refl}
+use Rattle.gl_modes.proofs.Words.{both, no, number_same, or_left}
 use Rattle.gl_modes.specs.declared.mode.Mode.{Mode}
 use Rattle.gl_modes.specs.declared.mode.Mode.TheVariants.{NL, S, X}
 use Rattle.gl_modes.specs.declared.node.NodeId.{NodeId}
@@ -12,7 +14,6 @@ use Rattle.gl_modes.proofs.Each.{every-true}
 use Rattle.gl_graph.specs.Graph.{is_child, nodes, parents_of, shape_of}
 use Rattle.gl_graph.specs.Refusals.{Refuses, first_refusal, verdict, where_true}
 use Rattle.gl_graph.specs.Shapes.{is_record_shape}
-use Rattle.gl_graph.proofs.Look.{both, no, number_same, or_left, same_node_refl}
 use Rattle.gl_graph.proofs.Unrefused.{not_false, not_refused, test_fails}
 use Rattle.gl_header.specs.Header.{fits, holds, is_empty}
 use Rattle.gl_table.specs.declared.txn.Status.TheVariants.{Active}
@@ -119,7 +120,7 @@ module _ (k : ℕ) (s : State) (t : TxnId) (n : NodeId) (passed : first_refusal 
   up = grants ∙ ap (granted s t.slot n) is
 
   held_raised : (raised s t.slot n).held t.slot n ≡ wanted s t.slot n (asked_by_escalation s t.slot n)
-  held_raised = ap (λ b. if b then wanted s t.slot n (asked_by_escalation s t.slot n) else s.held t.slot n) (both _ _ (number_same t.slot t.slot refl) (same_node_refl n))
+  held_raised = ap (λ b. if b then wanted s t.slot n (asked_by_escalation s t.slot n) else s.held t.slot n) (both _ _ (number_same t.slot t.slot refl) (same_node-refl n))
 
   -- so the children may be shed
   pub raised_lives : lives s' t ≡ true

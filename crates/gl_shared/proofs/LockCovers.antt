@@ -1,10 +1,10 @@
 -- A lock that is answered with a mode holds one that covers what was asked, also where it had to wait and a victim's removal let it in.
+use Rattle.gl_modes.proofs.Words.{number_same, same_number, split}
 use Rattle.gl_waits.specs.declared.victims.Victims.{Victims}
 use Rattle.gl_waits.proofs.VictimLemmas.{candidate-on_cycle}
 use Rattle.std.specs.Prelude.{◌≡◌, ◌⊎◌, ℕ, zero, suc, Bool, true, false, ◌&&◌, ◌==◌, List, [], Option, Some, None, if◌then◌else◌}
 use Rattle.std.proofs.Common.{refl, sym, ap, subst, ◌∙◌, inl, inr, ⊎_elim}
 use mathlib.Core.Bool.{true≢false}
-use Rattle.gl_graph.proofs.Look.{number_same, same_number, split}
 use Rattle.gl_modes.proofs.ModeLemmas.{supremum-above_right}
 use Rattle.gl_modes.proofs.NodeLemmas.{same_node-refl}
 use Rattle.gl_modes.specs.declared.mode.Mode.{Mode}

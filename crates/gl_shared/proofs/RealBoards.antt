@@ -4,9 +4,9 @@ use Rattle.std.proofs.Common.{refl, sym, ap, subst, ◌∙◌, arith}
 use Rattle.std.proofs.Math.Path.{fun_ext}
 use Rattle.std.proofs.lemmas.List.FromFn.{get_or-map-range_with_len}
 use Rattle.std.proofs.lemmas.Bool.{not-true}
+use Rattle.gl_modes.proofs.Words.{number_same, or_elim, split, clash}
 use Rattle.gl_modes.proofs.ModeLemmas.{NL-compatible}
 use Rattle.gl_modes.specs.Modes.{are_compatible}
-use Rattle.gl_graph.proofs.Look.{number_same, or_elim, split}
 use Rattle.gl_header.specs.Header.{holds}
 use Rattle.gl_waits.specs.Boards.{age_in, board_edge}
 use Rattle.gl_waits.specs.Waits.{IsOnNoCycle}
@@ -19,7 +19,7 @@ use Rattle.gl_table.specs.Waiting.{HasNoCycle, blocks, waits_for}
 use Rattle.gl_table.proofs.Edges.{step_is}
 use Rattle.gl_table.proofs.GrantKeeps.{nl_is, txn_there}
 use Rattle.gl_table.proofs.OneWaits.{waits_there}
-use Rattle.gl_table.proofs.Queues.{ahead_is, ahead_second, clash}
+use Rattle.gl_table.proofs.Queues.{ahead_is, ahead_second}
 use Rattle.gl_table.proofs.TableCalls.{lawful_orderly}
 use Rattle.gl_catalog.specs.Manager.{IsLawfulManager, ManagerView, state_of}
 use Rattle.gl_shared.specs.Boards.{Fine}

@@ -4,7 +4,7 @@ use Rattle.std.specs.List.{list_any}
 use Rattle.std.proofs.Common.{refl, ap, arith, subst, ◌∙◌}
 use Rattle.std.proofs.Math.Bool.{or-true}
 use Rattle.std.proofs.lemmas.Bool.Decides.{nat_tests}
-use Rattle.gl_graph.proofs.Look.{and_both, or_elim}
+use Rattle.gl_modes.proofs.Words.{and_both, or_elim}
 use Rattle.gl_waits.specs.Sets.{has_slot}
 use Rattle.gl_waits.proofs.SetLemmas.{has_slot-or}
 use Rattle.gl_table.specs.declared.txn.TxnId.{TxnId}

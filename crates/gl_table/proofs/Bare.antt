@@ -1,10 +1,10 @@
 -- A state without one transaction: what its nodes grant from their fronts.
 use Rattle.gl_table.proofs.Words.{[], ◌&&◌, ◌++◌, ◌==◌, ◌||◌, ◌∙◌, ◌∷◌, ◌≡◌, Active, after_grants, and_both, ap, append-nil, ap₂, are_compatible, arith, awake}
-use Rattle.gl_table.proofs.Words.{Bool, Condemned, drop, drop-nil, false, fits, front, front-waited, fun_ext, granted_at, if◌then◌else◌, is_among_waiters}
-use Rattle.gl_table.proofs.Words.{length, List, list_all, Members, members, Mode, nat_tests, NL, NL-compatible, NodeId, None, not_true, Option, or_no, pumped}
-use Rattle.gl_table.proofs.Words.{range_with_len, refl, same_number, Some, split, State, Status, stripped, sym, true, Txn, Waiter, Waiting, with_mode}
-use Rattle.gl_table.proofs.Words.{without_waiter, woken, ℕ}
-use Rattle.gl_table.proofs.Queues.{among_append, clash}
+use Rattle.gl_table.proofs.Words.{Bool, clash, Condemned, drop, drop-nil, false, fits, front, front-waited, fun_ext, granted_at, if◌then◌else◌}
+use Rattle.gl_table.proofs.Words.{is_among_waiters, length, List, list_all, Members, members, Mode, nat_tests, NL, NL-compatible, NodeId, None, not_true}
+use Rattle.gl_table.proofs.Words.{Option, or_no, pumped, range_with_len, refl, same_number, Some, split, State, Status, stripped, sym, true, Txn, Waiter}
+use Rattle.gl_table.proofs.Words.{Waiting, with_mode, without_waiter, woken, ℕ}
+use Rattle.gl_table.proofs.Queues.{among_append}
 use Rattle.gl_table.proofs.QueueEdits.{out_of_without, without_none}
 
 -- the members without t

@@ -1,5 +1,5 @@
 -- A transaction takes the lowest free seat.
-use Rattle.gl_table.proofs.Words.{[], ◌&&◌, ◌+◌, ◌<◌, ◌==◌, ◌∙◌, ◌∷◌, ◌≡◌, ◌≤◌, Active, ap, arith, begin_tests, begun, Bool, cond, elements, false, find}
+use Rattle.gl_table.proofs.Words.{[], ◌&&◌, ◌+◌, ◌<◌, ◌==◌, ◌∙◌, ◌∷◌, ◌≡◌, ◌≤◌, Active, ap, arith, begin_tests, begun, Bool, clash, cond, elements, false, find}
 use Rattle.gl_table.proofs.Words.{first_refusal, free_slot, get_or, gets, HasNoCycle, if◌then◌else◌, is_free, is_none, is_some, is_wait, IsLawful, IsSound}
 use Rattle.gl_table.proofs.Words.{length, length-set, List, list_all, max_count, nat_lt, nat_tests, None, not, Option, position, position-Some, position_or_len}
 use Rattle.gl_table.proofs.Words.{range_with_len, refl, Seat, SeatList, slice_get, slice_get-get_or, slice_set, Some, State, state_of, status_in, subst, suc}
@@ -8,7 +8,6 @@ use Rattle.gl_table.specs.declared.table.Table.TheInside.{Inside}
 use Rattle.gl_modes.specs.declared.refusal.Refusal.TheVariants as no
 use Rattle.gl_table.proofs.Enqueued.{begun-lawful}
 use Rattle.gl_table.proofs.NoCycle.{begun-no_cycle}
-use Rattle.gl_table.proofs.Queues.{clash}
 
 -- a search among the places of a list is one among its elements
 find-places : {X : Type 0} (f : X → Bool) (p : ℕ → Bool) (xs : List X) (k : ℕ) → ((i : ℕ) (x : X) → slice_get xs i ≡ Some x → p (k + i) ≡ f x)

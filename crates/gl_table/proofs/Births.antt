@@ -1,11 +1,11 @@
 -- Nodes are born: nobody holds them, no old node changes, and the law of a state is kept.
-use Rattle.gl_table.proofs.Words.{[], ◌&&◌, ◌+◌, ◌<◌, ◌∙◌, ◌∷◌, ◌≡◌, and_both, ap, ap₂, arith, Bool, born_nodes, both, children_that, cond, count_by}
+use Rattle.gl_table.proofs.Words.{[], ◌&&◌, ◌+◌, ◌<◌, ◌∙◌, ◌∷◌, ◌≡◌, and_both, ap, ap₂, arith, Bool, born_nodes, both, children_that, clash, cond, count_by}
 use Rattle.gl_table.proofs.Words.{count_none, count_same, File, file_lawful, file_refusal, Graph, Index, index_lawful, index_refusal, index_unrefused, Inner}
 use Rattle.gl_table.proofs.Words.{inner_lawful, inner_refusal, intends, intends_over, interval_nodes, is_child, is_live, is_record_shape, is_some, IsBorn}
 use Rattle.gl_table.proofs.Words.{IsIndexBorn, IsLawful, IsLawfulGraph, List, list_all, list_any, Mode, ModeFitsKind, new_ids, Node, node_at, NodeId, nodes}
 use Rattle.gl_table.proofs.Words.{nodes_grown, nodes_live, None, none_above, not, not_true, old_same, parents_in, parents_unrefused, refl, same_node, shape_in}
 use Rattle.gl_table.proofs.Words.{State, subst, sum_by-append, sym, true, with_graph, with_key, ℕ}
-use Rattle.gl_table.proofs.Queues.{among_by_filter, clash}
+use Rattle.gl_table.proofs.Queues.{among_by_filter}
 
 module _ (s : State) (law : IsLawful s) (ns : List Node) (lawful : IsLawfulGraph (born_nodes s.graph ns)) where
   abbrev grown : Graph

@@ -1,15 +1,14 @@
 -- A lock that is granted at once, and one that waits: what each makes of a table.
-use Rattle.gl_table.proofs.Words.{[], ◌&&◌, ◌==◌, ◌∙◌, ◌≡◌, Active, Agrees, ap, ap₂, AreSound, AtBlock, Bool, ByWatcher, CountsHeld, Deadlock, Detect, enqueued}
-use Rattle.gl_table.proofs.Words.{enters_at, false, granted, if◌then◌else◌, IsLawful, IsOrderly, IsSound, locked_as, LocksKeeping, Mode, NodeId, number_same}
-use Rattle.gl_table.proofs.Words.{refl, same_node-refl, Some, State, state_in, state_of, status_of, subst, sym, Told, told_but, true, TxnId, Victims, view_of}
-use Rattle.gl_table.proofs.Words.{WaitSettles, WaitSettlesKeeping, wanted, ℕ}
+use Rattle.gl_table.proofs.Words.{[], ◌&&◌, ◌==◌, ◌∙◌, ◌≡◌, Active, Agrees, ap, ap₂, AreSound, AtBlock, Bool, ByWatcher, clash, CountsHeld, Deadlock, Detect}
+use Rattle.gl_table.proofs.Words.{enqueued, enters_at, false, granted, if◌then◌else◌, IsLawful, IsOrderly, IsSound, locked_as, LocksKeeping, Mode, NodeId}
+use Rattle.gl_table.proofs.Words.{number_same, refl, same_node-refl, Some, State, state_in, state_of, status_of, subst, sym, Told, told_but, true, TxnId}
+use Rattle.gl_table.proofs.Words.{Victims, view_of, WaitSettles, WaitSettlesKeeping, wanted, ℕ}
 use Rattle.gl_table.specs.declared.table.Table.TheInside.{Inside}
 use Rattle.gl_table.specs.Calls.{Locks}
 use Rattle.gl_table.specs.declared.locks.Locks as code
 use Rattle.gl_table.specs.declared.outcome.Locked.TheVariants as locked
 use Rattle.gl_table.proofs.LockKeeps.{MayLock, locks-lawful, waiting-lawful}
 use Rattle.gl_table.proofs.NoCycle.{locks-no_cycle}
-use Rattle.gl_table.proofs.Queues.{clash}
 use Rattle.gl_table.proofs.SettledTable.{keeping_also, over, settled_also}
 use Rattle.gl_table.proofs.TableCalls.{lawful_orderly}
 use Rattle.gl_table.proofs.ToldLists.{told_but_same, told_nothing}

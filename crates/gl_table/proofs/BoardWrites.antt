@@ -1,6 +1,6 @@
 -- The board of a moment, written seat by seat.
 use Rattle.gl_table.proofs.Words.{◌&&◌, ◌+◌, ◌<◌, ◌==◌, ◌||◌, ◌∙◌, ◌≡◌, ◌≢◌, ◌≤◌, ◌⊎◌, age_in, age_of, ap, are_compatible, AreHeaders, arith, bits_of, blocks}
-use Rattle.gl_table.proofs.Words.{Board, board_of, Bool, cases_eq, cases_lt, cond, Entries, false, fill_by_all, get_or, get_or-map-range_with_len}
+use Rattle.gl_table.proofs.Words.{Board, board_of, Bool, cases_eq, cases_lt, clash, cond, Entries, false, fill_by_all, get_or, get_or-map-range_with_len}
 use Rattle.gl_table.proofs.Words.{get_or-replicate, get_or-set_other, get_or-set_same, get_or_past, header_at, header_or_new, HeaderState, held_of, inl, inr}
 use Rattle.gl_table.proofs.Words.{is_ahead, is_among_waiters, IsLawfulHeader, length, length-replicate, List, map, members_of, Mode, nat_lt, nat_tests}
 use Rattle.gl_table.proofs.Words.{NL-compatible, no_slot-zero, NodeId, None, none_some, not, not-true, Option, or_elim, queue_of, range_with_len, refl}
@@ -11,7 +11,7 @@ use Rattle.std.proofs.lemmas.List.{length-set}
 use Rattle.gl_waits.specs.Sets.{has_slot}
 use Rattle.gl_table.proofs.Edges.{idle_no_step, step_is}
 use Rattle.gl_table.proofs.Rows.{ahead-first}
-use Rattle.gl_table.proofs.Queues.{ahead_is, ahead_second, clash}
+use Rattle.gl_table.proofs.Queues.{ahead_is, ahead_second}
 
 -- a list of numbers by slot, written below i
 

@@ -1,13 +1,13 @@
 -- A wait is taken back by its own transaction, or by its end: what all others are told.
-use Rattle.gl_table.proofs.Words.{◌==◌, ◌∙◌, ◌≡◌, Active, ap, ap₂, Bool, cancelled, false, front_at, grant_notice, granted_at, if◌then◌else◌, is_among_waiters}
-use Rattle.gl_table.proofs.Words.{is_wait, is_waiting_at, IsOrderly, Mode, mode_given, NodeId, None, notices_in, number_same, Option, refl, released, restatus}
-use Rattle.gl_table.proofs.Words.{Some, State, status_in, status_of, subst, sym, Told, true, Txn, TxnId, Waiting, WakesTold, without_wait, woken, ℕ}
+use Rattle.gl_table.proofs.Words.{◌==◌, ◌∙◌, ◌≡◌, Active, ap, ap₂, Bool, cancelled, clash, false, front_at, grant_notice, granted_at, if◌then◌else◌}
+use Rattle.gl_table.proofs.Words.{is_among_waiters, is_wait, is_waiting_at, IsOrderly, Mode, mode_given, NodeId, None, notices_in, number_same, Option, refl}
+use Rattle.gl_table.proofs.Words.{released, restatus, Some, State, status_in, status_of, subst, sym, Told, true, Txn, TxnId, Waiting, WakesTold, without_wait}
+use Rattle.gl_table.proofs.Words.{woken, ℕ}
 use Rattle.gl_table.specs.declared.notice.Notice.TheVariants as notice
 use Rattle.gl_table.proofs.Departures.{StillTells}
 use Rattle.gl_table.proofs.GivenUp.{given_up_out, waits_still}
 use Rattle.gl_table.proofs.Leaving.{abort_is_release}
 use Rattle.gl_table.proofs.Less.{waiting_is}
-use Rattle.gl_table.proofs.Queues.{clash}
 use Rattle.gl_table.proofs.Tells.{cancel_tells}
 use Rattle.gl_table.proofs.Ways.{way_gives_up}
 use Rattle.gl_table.proofs.OrderlyWithout.{orderly_without}

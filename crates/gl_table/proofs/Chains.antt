@@ -1,9 +1,9 @@
 -- Where nobody is on a cycle of waits, each chain of waits ends at one who does not wait.
-use Rattle.gl_table.proofs.Words.{[], ◌&&◌, ◌==◌, ◌||◌, ◌∙◌, ◌∷◌, ◌≡◌, ◌⊎◌, ap, ap₂, are_compatible, arith, Bool, false, filter, fits, front, HasNoCycle}
+use Rattle.gl_table.proofs.Words.{[], ◌&&◌, ◌==◌, ◌||◌, ◌∙◌, ◌∷◌, ◌≡◌, ◌⊎◌, ap, ap₂, are_compatible, arith, Bool, clash, false, filter, fits, front, HasNoCycle}
 use Rattle.gl_table.proofs.Words.{if◌then◌else◌, inl, inr, is_ahead, is_among_waiters, is_wait, is_waiter, IsLawful, IsWalk, length, List, list_all, list_any}
 use Rattle.gl_table.proofs.Words.{members, Mode, nat_tests, NodeId, not, or_elim, or_left, or_no, or_right, range_with_len, Reaches, refl, Some, split, State}
 use Rattle.gl_table.proofs.Words.{status_of, suc, sym, true, Waiter, Waiting, waits_for, with_mode, zero, ℕ, ⊎_elim}
-use Rattle.gl_table.proofs.Queues.{ahead, ahead_is, clash, no_cons, among_by_filter}
+use Rattle.gl_table.proofs.Queues.{ahead, ahead_is, no_cons, among_by_filter}
 use Rattle.gl_table.proofs.Edges.{is_step}
 use Rattle.gl_table.proofs.Settles.{wait_is, low}
 use Rattle.gl_table.proofs.Walks.{same, Distinct, short}

@@ -1,8 +1,8 @@
 -- How many children of a node pass a test, once one child more or less passes it.
 use Rattle.gl_table.proofs.Words.{[], ◌&&◌, ◌+◌, ◌||◌, ◌∙◌, ◌∷◌, ◌≡◌, and_both, ap, ap₂, are_distinct, arith, Bool, children_that, ChildrenDown, ChildrenFew}
 use Rattle.gl_table.proofs.Words.{ChildrenUp, cond, count_by, count_by-le-length, count_cons, false, FewParents, is_child, List, list_any, listed, no, NodeId}
-use Rattle.gl_table.proofs.Words.{nodes, nodes_distinct, not, not_true, or_elim, or_left, or_right, parents_of, refl, same_node, same_node-sym, same_node_is}
-use Rattle.gl_table.proofs.Words.{same_node_refl, split, sym, true, ℕ}
+use Rattle.gl_table.proofs.Words.{nodes, nodes_distinct, not, not_true, or_elim, or_left, or_right, parents_of, refl, same_node, same_node-equal}
+use Rattle.gl_table.proofs.Words.{same_node-refl, same_node-sym, split, sym, true, ℕ}
 use Rattle.gl_table.proofs.Parents.{parents_distinct, parents_few}
 
 -- tests that agree on the list count the same
@@ -10,7 +10,7 @@ count_alike : (p q : NodeId → Bool) (xs : List NodeId) → ((c : NodeId) → l
 count_alike p q [] same = refl
 count_alike p q (x ∷ xs) same =
     count_cons q x xs
-    ∙ ap₂ (λ b k. cond b 1 0 + k) (same x (or_left _ _ (same_node_refl x))) (count_alike p q xs (λ c h. same c (or_right (same_node c x) _ h)))
+    ∙ ap₂ (λ b k. cond b 1 0 + k) (same x (or_left _ _ (same_node-refl x))) (count_alike p q xs (λ c h. same c (or_right (same_node c x) _ h)))
     ∙ sym (count_cons p x xs)
 
 -- where only the test of n changes, from no to b, n is counted once more if b
@@ -21,11 +21,11 @@ count_one p q n b (x ∷ xs) d h absent there same =
     count_cons q x xs
     ∙ split (same_node n x)
     (λ e.
-    let is = same_node_is n x e in
+    let is = same_node-equal n x e in
     let was : p x ≡ false = ap p (sym is) ∙ absent in
     let now : q x ≡ b = ap q (sym is) ∙ there in
     ap₂ (λ a k. cond a 1 0 + k) now (count_alike p q xs
-    (λ c m. same c (not_true _ (λ k. no (sym (ap not (ap (λ y. list_any (same_node y) xs) (sym (same_node_is c n k ∙ is)) ∙ m)) ∙ t.0)))))
+    (λ c m. same c (not_true _ (λ k. no (sym (ap not (ap (λ y. list_any (same_node y) xs) (sym (same_node-equal c n k ∙ is)) ∙ m)) ∙ t.0)))))
     ∙ here (cond b 1 0) (count_by p xs) ∙ sym (ap (λ a. cond a 1 0 + count_by p xs + cond b 1 0) was))
     (λ e.
     ap₂ (λ a k. cond a 1 0 + k) (same x (same_node-sym x n ∙ e))
@@ -52,7 +52,7 @@ count_self p (x ∷ xs) d =
     ∙ split (same_node p x)
     (λ e.
     let out : list_any (same_node p) xs ≡ false = not_true _
-    (λ k. no (sym (ap not (ap (λ y. list_any (same_node y) xs) (sym (same_node_is p x e)) ∙ k)) ∙ t.0)) in
+    (λ k. no (sym (ap not (ap (λ y. list_any (same_node y) xs) (sym (same_node-equal p x e)) ∙ k)) ∙ t.0)) in
     ap₂ (λ a k. cond a 1 0 + k) e (rest ∙ ap (λ b. cond b 1 0) out) ∙ sym (ap (λ a. cond (a || list_any (same_node p) xs) 1 0) e))
     (λ e. ap₂ (λ a k. cond a 1 0 + k) e rest ∙ nothing (cond (list_any (same_node p) xs) 1 0) ∙ sym (ap (λ a. cond (a || list_any (same_node p) xs) 1 0) e))
   where

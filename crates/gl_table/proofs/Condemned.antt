@@ -1,10 +1,10 @@
 -- A victim's wait is given up: what is told agrees with the way, and who waits still is told nothing.
-use Rattle.gl_table.proofs.Words.{◌==◌, ◌∙◌, ◌≡◌, age_of, ap, ap₂, Bool, Condemned, condemned, false, front_at, grant_notice, if◌then◌else◌, is_among_waiters}
-use Rattle.gl_table.proofs.Words.{is_wait, is_waiting_at, IsOnWay, IsOrderly, Mode, mode_given, NodeId, None, Notice, notices_in, Option, refl, same_node-refl}
-use Rattle.gl_table.proofs.Words.{same_number, Some, State, status_of, sym, Told, told_to, true, TxnId, Waiting, waits_at, WakesTold, without_wait, ℕ}
+use Rattle.gl_table.proofs.Words.{◌==◌, ◌∙◌, ◌≡◌, age_of, ap, ap₂, Bool, clash, Condemned, condemned, false, front_at, grant_notice, if◌then◌else◌}
+use Rattle.gl_table.proofs.Words.{is_among_waiters, is_wait, is_waiting_at, IsOnWay, IsOrderly, Mode, mode_given, NodeId, None, Notice, notices_in, Option}
+use Rattle.gl_table.proofs.Words.{refl, same_node-refl, same_number, Some, State, status_of, sym, Told, told_to, true, TxnId, Waiting, waits_at, WakesTold}
+use Rattle.gl_table.proofs.Words.{without_wait, ℕ}
 use Rattle.gl_table.specs.declared.notice.Notice.TheVariants as notice
 use Rattle.gl_table.proofs.GivenUp.{given_up_out, waits_still}
-use Rattle.gl_table.proofs.Queues.{clash}
 use Rattle.gl_table.proofs.Tells.{victim_tells}
 
 -- whom the node of t grants once t is condemned is told so, and t of its end

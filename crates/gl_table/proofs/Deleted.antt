@@ -1,9 +1,9 @@
 -- A record goes with its grants and waits: the law of a state is kept, and no step of a wait is added.
 use Rattle.gl_table.proofs.Words.{[], ◌||◌, ◌∙◌, ◌≡◌, ◌≤◌, ap, ap₂, are_compatible, Bool, deleted, false, filter, front, HasNoCycle, holds, if◌then◌else◌}
 use Rattle.gl_table.proofs.Words.{intends, intends_over, is_ahead, is_among_waiters, is_at_least, is_live, is_plain, is_record_shape, is_some, is_waiter}
-use Rattle.gl_table.proofs.Words.{IsLawful, less-no_cycle, List, members, Mode, ModeFitsKind, NL, no, node_other, NodeId, not, other_node, parent_plain}
-use Rattle.gl_table.proofs.Words.{parents_in, parents_of, rec_not_plain, removed_lawful, same_mode, same_node, shape_in, shape_of, Some, split, State}
-use Rattle.gl_table.proofs.Words.{status_of, stays_there, subst, sym, true, Waiter, Waiting, waits_for, ℕ}
+use Rattle.gl_table.proofs.Words.{IsLawful, less-no_cycle, List, members, Mode, ModeFitsKind, NL, no, NodeId, not, parent_plain, parents_in, parents_of}
+use Rattle.gl_table.proofs.Words.{rec_not_plain, removed_lawful, same_mode, same_node, same_node-differ, same_node-other, shape_in, shape_of, Some, split}
+use Rattle.gl_table.proofs.Words.{State, status_of, stays_there, subst, sym, true, Waiter, Waiting, waits_for, ℕ}
 use Rattle.gl_table.proofs.Edges.{step_is, is_step}
 use Rattle.gl_table.proofs.Less.{rule_same}
 use Rattle.gl_table.proofs.Queues.{among_by_filter}
@@ -36,16 +36,16 @@ module _ (s : State) (law : IsLawful s) (r : NodeId) (rec : is_record_shape (sha
       (λ e. (e, sym (ap (is_among_waiters u) (queue_there q e)) ∙ h))
 
   stands : (q : NodeId) → is_live s.graph q ≡ true → same_node q r ≡ false → is_live after.graph q ≡ true
-  stands q live e = ap is_some (stays_there s.graph law.graph r rec q live (other_node q r e)) ∙ live
+  stands q live e = ap is_some (stays_there s.graph law.graph r rec q live (same_node-other q r e)) ∙ live
 
   kind_later : (q : NodeId) (m : Mode) → is_live s.graph q ≡ true → same_node q r ≡ false → ModeFitsKind s q m → ModeFitsKind after q m
-  kind_later q m live e k h = k (sym (ap (λ o. is_record_shape (shape_in o)) (stays_there s.graph law.graph r rec q live (other_node q r e))) ∙ h)
+  kind_later q m live e k h = k (sym (ap (λ o. is_record_shape (shape_in o)) (stays_there s.graph law.graph r rec q live (same_node-other q r e))) ∙ h)
 
   rule_later : (u : ℕ) (q : NodeId) (m : Mode) → is_live s.graph q ≡ true → same_node q r ≡ false → intends s u q m ≡ true → intends after u q m ≡ true
   rule_later u q m live e h =
-      ap (λ o. intends_over (after.held u) (parents_in o) m) (stays_there s.graph law.graph r rec q live (other_node q r e))
+      ap (λ o. intends_over (after.held u) (parents_in o) m) (stays_there s.graph law.graph r rec q live (same_node-other q r e))
       ∙ rule_same (s.held u) (after.held u) m (parents_of s.graph q)
-      (λ p c. held_there u p (node_other p r (λ is. rec_not_plain (shape_of s.graph r) rec (ap (λ x. is_plain (shape_of s.graph x)) (sym is)
+      (λ p c. held_there u p (same_node-differ p r (λ is. rec_not_plain (shape_of s.graph r) rec (ap (λ x. is_plain (shape_of s.graph x)) (sym is)
       ∙ parent_plain s.graph law.graph q p c))))
       ∙ h
 

@@ -1,10 +1,10 @@
 -- A slot that waits for nothing leaves its nodes, one after the other: what holds after each.
-use Rattle.gl_table.proofs.Words.{[], ◌&&◌, ◌<◌, ◌==◌, ◌||◌, ◌∙◌, ◌≡◌, Active, Agrees, and-false, and-not_self, and-true, and_both, ap, ap₂, Bool, count_by}
-use Rattle.gl_table.proofs.Words.{CountsHeld, false, front_at, fun_ext, grant_notice, HasLeft, holds, if◌then◌else◌, is_among_waiters, is_wait, is_waiting_at}
-use Rattle.gl_table.proofs.Words.{IsBySlot, IsLawfulGraph, IsOnWay, IsOrderly, List, listed, listed_by, LockList, members, Mode, mode_given, NL, NodeId, nodes}
-use Rattle.gl_table.proofs.Words.{None, not, not_true, notices_in, Option, or-false, or-true, parents_of, pumped, refl, released, restatus, same_mode}
-use Rattle.gl_table.proofs.Words.{same_node, same_node-equal, same_node-refl, same_node-sym, Some, split, State, status_in, status_of, stripped, sym, Told}
-use Rattle.gl_table.proofs.Words.{told_to, true, Txn, TxnId, unlocked, Waiter, WakesLists, WakesTold, with_grant, with_txn, ℕ}
+use Rattle.gl_table.proofs.Words.{[], ◌&&◌, ◌<◌, ◌==◌, ◌||◌, ◌∙◌, ◌≡◌, Active, Agrees, and-false, and-not_self, and-true, and_both, ap, ap₂, Bool, clash}
+use Rattle.gl_table.proofs.Words.{count_by, CountsHeld, false, front_at, fun_ext, grant_notice, HasLeft, holds, if◌then◌else◌, is_among_waiters, is_wait}
+use Rattle.gl_table.proofs.Words.{is_waiting_at, IsBySlot, IsLawfulGraph, IsOnWay, IsOrderly, List, listed, listed_by, LockList, members, Mode, mode_given, NL}
+use Rattle.gl_table.proofs.Words.{NodeId, nodes, None, not, not_true, notices_in, Option, or-false, or-true, parents_of, pumped, refl, released, restatus}
+use Rattle.gl_table.proofs.Words.{same_mode, same_node, same_node-equal, same_node-refl, same_node-sym, Some, split, State, status_in, status_of, stripped, sym}
+use Rattle.gl_table.proofs.Words.{Told, told_to, true, Txn, TxnId, unlocked, Waiter, WakesLists, WakesTold, with_grant, with_txn, ℕ}
 use Rattle.gl_table.specs.declared.notice.Notice.TheVariants as notice
 use Rattle.gl_table.proofs.Fewer.{fewer}
 use Rattle.gl_table.proofs.GrantKeeps.{nl_is}
@@ -12,7 +12,6 @@ use Rattle.gl_table.proofs.Leaving.{left_all, left_one}
 use Rattle.gl_table.proofs.Less.{waiting_is}
 use Rattle.gl_table.proofs.OneWaits.{front_stands, well_granted, woken_front}
 use Rattle.gl_table.proofs.Orderly.{in_no_queue, orderly_unlocked}
-use Rattle.gl_table.proofs.Queues.{clash}
 use Rattle.gl_table.proofs.Tells.{release_tells, woken_same}
 use Rattle.gl_table.proofs.Unlocked.{agrees_unlocked, counts_unlocked, unlocked_own}
 use Rattle.gl_table.proofs.Ways.{way_releases}

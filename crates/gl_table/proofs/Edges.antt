@@ -1,9 +1,9 @@
 -- Who waits for whom after each change.
-use Rattle.gl_table.proofs.Words.{[], ◌&&◌, ◌==◌, ◌||◌, ◌∙◌, ◌∷◌, ◌≡◌, Active, and_both, ap, ap₂, are_compatible, arith, blocks, Bool, Condemned, drop, false}
-use Rattle.gl_table.proofs.Words.{filter, granted_at, if◌then◌else◌, is_ahead, is_among_waiters, length, List, Mode, nat_tests, NL-compatible, NodeId, None}
-use Rattle.gl_table.proofs.Words.{not, not-true, Option, or_elim, or_left, or_right, pumped, refl, Some, split, State, Status, status_of, sym, true, Txn}
+use Rattle.gl_table.proofs.Words.{[], ◌&&◌, ◌==◌, ◌||◌, ◌∙◌, ◌∷◌, ◌≡◌, Active, and_both, ap, ap₂, are_compatible, arith, blocks, Bool, clash, Condemned, drop}
+use Rattle.gl_table.proofs.Words.{false, filter, granted_at, if◌then◌else◌, is_ahead, is_among_waiters, length, List, Mode, nat_tests, NL-compatible, NodeId}
+use Rattle.gl_table.proofs.Words.{None, not, not-true, Option, or_elim, or_left, or_right, pumped, refl, Some, split, State, Status, status_of, sym, true, Txn}
 use Rattle.gl_table.proofs.Words.{Waiter, Waiting, waits_for, ℕ, ⊎_elim}
-use Rattle.gl_table.proofs.Queues.{ahead, ahead_is, ahead_first, ahead_after, ahead_across, clash, among_append, among_by_filter}
+use Rattle.gl_table.proofs.Queues.{ahead, ahead_is, ahead_first, ahead_after, ahead_across, among_append, among_by_filter}
 use Rattle.gl_table.proofs.LawfulBut.{IsLawfulBut}
 use Rattle.gl_table.proofs.Less.{IsLess}
 use Rattle.gl_table.proofs.Pumped.{woken_waits, granted_rest, grant_case}

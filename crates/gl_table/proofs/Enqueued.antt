@@ -1,10 +1,11 @@
 -- A lock that waits keeps the law, and so does a transaction that begins.
-use Rattle.gl_table.proofs.Words.{[], ◌+◌, ◌<◌, ◌==◌, ◌∙◌, ◌∷◌, ◌≡◌, ◌≢◌, ◌≤◌, Active, age_in, age_of, ap, ap₂, arith, begun, enqueued, enters, false, filter}
-use Rattle.gl_table.proofs.Words.{front, holds, if◌then◌else◌, intends, is_ahead, is_among_waiters, is_at_least, is_live, is_some, is_waiter, is_waiting_at}
-use Rattle.gl_table.proofs.Words.{IsLawful, members, Mode, ModeFitsKind, NL, NodeId, Option, other_number, placed, restatus, same_node, same_node-equal}
-use Rattle.gl_table.proofs.Words.{same_node-refl, same_number, Some, split, State, status_in, status_of, subst, sym, true, Txn, Waiting, waits_at, ℕ}
+use Rattle.gl_table.proofs.Words.{[], ◌+◌, ◌<◌, ◌==◌, ◌∙◌, ◌∷◌, ◌≡◌, ◌≢◌, ◌≤◌, Active, age_in, age_of, ap, ap₂, arith, begun, clash, enqueued, enters, false}
+use Rattle.gl_table.proofs.Words.{filter, front, holds, if◌then◌else◌, intends, is_ahead, is_among_waiters, is_at_least, is_live, is_some, is_waiter}
+use Rattle.gl_table.proofs.Words.{is_waiting_at, IsLawful, members, Mode, ModeFitsKind, NL, NodeId, Option, other_number, placed, restatus, same_node}
+use Rattle.gl_table.proofs.Words.{same_node-equal, same_node-refl, same_number, Some, split, State, status_in, status_of, subst, sym, true, Txn, Waiting}
+use Rattle.gl_table.proofs.Words.{waits_at, ℕ}
 use Rattle.gl_table.proofs.GrantKeeps.{apart, txn_there}
-use Rattle.gl_table.proofs.Queues.{ahead_is, clash}
+use Rattle.gl_table.proofs.Queues.{ahead_is}
 use Rattle.gl_table.proofs.QueueEdits.{HoldersFirst, among_same, placed_other, placed_self, placed_order, placed_front}
 use Rattle.gl_table.proofs.Less.{waiting_is, age_none}
 use Rattle.gl_table.proofs.Taken.{restatus_some, restatus_age, restatus_is}

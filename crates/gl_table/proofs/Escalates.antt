@@ -1,10 +1,9 @@
 -- Escalating keeps the law.
-use Rattle.gl_table.proofs.Words.{◌&&◌, ◌==◌, ◌||◌, ◌∙◌, ◌≡◌, Active, all_at, and_both, any_found, ap, ap₂, asked_by_escalation, cond, false, fits, holds}
-use Rattle.gl_table.proofs.Words.{if◌then◌else◌, intends, intends_over, IS, is_at_least, is_child, is_covered, is_live, is_record_shape, is_write, IsLawful, IX}
-use Rattle.gl_table.proofs.Words.{List, list_all, list_any, listed, members, Mode, NL, no_parents, NodeId, nodes, not, not_true, parents_of, raised, rules, S}
-use Rattle.gl_table.proofs.Words.{shape_of, shed, Some, split, State, status_of, supremum, supremum-above, sym, true, wanted, X, ℕ}
+use Rattle.gl_table.proofs.Words.{◌&&◌, ◌==◌, ◌||◌, ◌∙◌, ◌≡◌, Active, all_at, and_both, any_found, ap, ap₂, asked_by_escalation, clash, cond, false, fits}
+use Rattle.gl_table.proofs.Words.{holds, if◌then◌else◌, intends, intends_over, IS, is_at_least, is_child, is_covered, is_live, is_record_shape, is_write}
+use Rattle.gl_table.proofs.Words.{IsLawful, IX, List, list_all, list_any, listed, members, Mode, NL, no_parents, NodeId, nodes, not, not_true, parents_of}
+use Rattle.gl_table.proofs.Words.{raised, rules, S, shape_of, shed, Some, split, State, status_of, supremum, supremum-above, sym, true, wanted, X, ℕ}
 use Rattle.gl_table.proofs.GrantKeeps.{with_grant-lawful, write_held}
-use Rattle.gl_table.proofs.Queues.{clash}
 use Rattle.gl_table.proofs.Less.{IsLess, less-lawful}
 use Rattle.gl_table.proofs.Pumped.{pumped-lawful}
 use Rattle.gl_table.proofs.Taken.{taken-less}

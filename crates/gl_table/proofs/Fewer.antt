@@ -1,7 +1,6 @@
 -- How many nodes pass a test, where all that pass it pass another test.
-use Rattle.gl_table.proofs.Words.{[], ◌+◌, ◌<◌, ◌∙◌, ◌∷◌, ◌≡◌, ◌≤◌, ap, arith, Bool, cond, count_by, count_cons, false, List, list_any, NodeId, or_elim, refl}
-use Rattle.gl_table.proofs.Words.{same_node, same_node_is, sym, true}
-use Rattle.gl_table.proofs.Queues.{clash}
+use Rattle.gl_table.proofs.Words.{[], ◌+◌, ◌<◌, ◌∙◌, ◌∷◌, ◌≡◌, ◌≤◌, ap, arith, Bool, clash, cond, count_by, count_cons, false, List, list_any, NodeId, or_elim}
+use Rattle.gl_table.proofs.Words.{refl, same_node, same_node-equal, sym, true}
 
 fewer_or_same : (p q : NodeId → Bool) (xs : List NodeId) → ((c : NodeId) → q c ≡ true → p c ≡ true) → count_by q xs ≤ count_by p xs
 fewer_or_same p q [] less = omega arith
@@ -26,7 +25,7 @@ fewer p q n (x ∷ xs) less among was gone =
     let cq = count_cons q x xs in
     let cp = count_cons p x xs in
     or_elim (same_node n x) (list_any (same_node n) xs) among
-    (λ e. let is = same_node_is n x e in here (q x) (p x) (ap q (sym is) ∙ gone) (ap p (sym is) ∙ was) (fewer_or_same p q xs less) cq cp)
+    (λ e. let is = same_node-equal n x e in here (q x) (p x) (ap q (sym is) ∙ gone) (ap p (sym is) ∙ was) (fewer_or_same p q xs less) cq cp)
     (λ k. there (q x) (p x) (less x) (fewer p q n xs less k was gone) cq cp)
   where
     here : (a b : Bool) → a ≡ false → b ≡ true → count_by q xs ≤ count_by p xs → count_by q (x ∷ xs) ≡ cond a 1 0 + count_by q xs

@@ -1,12 +1,11 @@
 -- Each victim leaves fewer that wait.
-use Rattle.gl_table.proofs.Words.{[], ◌<◌, ◌∙◌, ◌∷◌, ◌≡◌, ◌≤◌, ap, arith, Bool, cond, Condemned, condemned, count_by, count_cons, false, granted_at, is_wait}
-use Rattle.gl_table.proofs.Words.{is_waiting_at, IsOrderly, List, list_any, not_true, or_elim, refl, same_number, slots, State, status_in, status_of, sym, true}
-use Rattle.gl_table.proofs.Words.{without_wait, ℕ}
+use Rattle.gl_table.proofs.Words.{[], ◌<◌, ◌∙◌, ◌∷◌, ◌≡◌, ◌≤◌, ap, arith, Bool, clash, cond, Condemned, condemned, count_by, count_cons, false, granted_at}
+use Rattle.gl_table.proofs.Words.{is_wait, is_waiting_at, IsOrderly, List, list_any, not_true, or_elim, refl, same_number, slots, State, status_in, status_of}
+use Rattle.gl_table.proofs.Words.{sym, true, without_wait, ℕ}
 use Rattle.gl_table.proofs.GrantKeeps.{txn_there}
 use Rattle.gl_table.proofs.Orderly.{way_here}
 use Rattle.gl_table.proofs.OrderlyWithout.{way_withdrawn}
 use Rattle.gl_table.proofs.Pumped.{woken_waits}
-use Rattle.gl_table.proofs.Queues.{clash}
 use Rattle.gl_table.proofs.Settles.{wait_is, waiting}
 use Rattle.gl_table.proofs.Walks.{in_range, same}
 use Rattle.gl_table.proofs.Ways.{without_wait_own}

@@ -1,10 +1,9 @@
 -- The first of the nodes that pass a test, found among listed ones.
-use Rattle.gl_table.proofs.Words.{[], ◌&&◌, ◌++◌, ◌+◌, ◌<◌, ◌||◌, ◌∙◌, ◌∷◌, ◌≡◌, ◌≤◌, ap, ap₂, arith, Bool, cond, cons_option, Entry, entry_of, false}
+use Rattle.gl_table.proofs.Words.{[], ◌&&◌, ◌++◌, ◌+◌, ◌<◌, ◌||◌, ◌∙◌, ◌∷◌, ◌≡◌, ◌≤◌, ap, ap₂, arith, Bool, clash, cond, cons_option, Entry, entry_of, false}
 use Rattle.gl_table.proofs.Words.{filter_map, find, found_at, Graph, id_of, if◌then◌else◌, is_live, is_some, is_some-lookup, IsLawfulGraph, keys, List}
 use Rattle.gl_table.proofs.Words.{list_any, list_any-append, live_node, LockList, mode_in, mode_of, nat_lt, nat_tests, NL, Node, node_at, NodeId, nodes, None}
 use Rattle.gl_table.proofs.Words.{not, Option, option_map_or, or-false, or_elim, range_with_len, refl, same_mode, same_node, same_node-equal, Some, split}
 use Rattle.gl_table.proofs.Words.{subst, suc, sym, true, zero, ℕ}
-use Rattle.gl_table.proofs.Queues.{clash}
 
 -- of the nodes seen so far that pass the test, the first in order of birth
 pub record IsFirst (p : NodeId → Bool) (seen : List NodeId) (first : Option NodeId) : Type 0 where

@@ -1,11 +1,10 @@
 -- A slot that holds nothing and stands in no queue is freed, and its list is emptied: the lists agree.
-use Rattle.gl_table.proofs.Words.{[], ◌&&◌, ◌<◌, ◌==◌, ◌||◌, ◌∙◌, ◌∷◌, ◌≡◌, Agrees, and-false, ap, ap₂, arith, common_steps, count_none, count_of, CountsHeld}
-use Rattle.gl_table.proofs.Words.{false, gets, if◌then◌else◌, is_among_waiters, is_child, is_listed, is_live, is_wait, length, length-set, List, LockList}
-use Rattle.gl_table.proofs.Words.{mode_of, nat_tests, NL, NodeId, nodes, nodes_live, None, not, number_same, Option, refl, same_mode, same_number, Seat}
-use Rattle.gl_table.proofs.Words.{slice_set, split, State, status_in, subst, sym, txns_of, with_txn, ℕ}
+use Rattle.gl_table.proofs.Words.{[], ◌&&◌, ◌<◌, ◌==◌, ◌||◌, ◌∙◌, ◌∷◌, ◌≡◌, Agrees, and-false, ap, ap₂, arith, clash, common_steps, count_none, count_of}
+use Rattle.gl_table.proofs.Words.{CountsHeld, false, gets, if◌then◌else◌, is_among_waiters, is_child, is_listed, is_live, is_wait, length, length-set, List}
+use Rattle.gl_table.proofs.Words.{LockList, mode_of, nat_tests, NL, NodeId, nodes, nodes_live, None, not, number_same, Option, refl, same_mode, same_number}
+use Rattle.gl_table.proofs.Words.{Seat, slice_set, split, State, status_in, subst, sym, txns_of, with_txn, ℕ}
 use Rattle.gl_table.proofs.NewLists.{IsBare, bare-modes}
 use Rattle.gl_table.proofs.OtherLists.{agrees-set, counts-set, own_list}
-use Rattle.gl_table.proofs.Queues.{clash}
 
 txns-freed : (seats : List (Option Seat)) (t u : ℕ) → t < length seats → txns_of (slice_set seats t None) u ≡ (if u == t then None else txns_of seats u)
 txns-freed seats t u lt = grind (arith, common_steps, gets, nat_tests)

@@ -1,10 +1,9 @@
 -- Waiters freed one after the other.
-use Rattle.gl_table.proofs.Words.{[], ◌&&◌, ◌+◌, ◌<◌, ◌==◌, ◌||◌, ◌∙◌, ◌≡◌, Active, age_in, ap, ap₂, arith, Bool, CanFree, count_of, counted_by, false, Frees}
-use Rattle.gl_table.proofs.Words.{held_by, if◌then◌else◌, is_among_waiters, is_waiter, IsApart, IsBySlot, length, List, listed_by, LockList, nat_tests, NL}
-use Rattle.gl_table.proofs.Words.{NodeId, None, notices_in, Option, or-false, or_right, refl, restatus, same_node, same_number, Seat, slice_index_or, Some}
+use Rattle.gl_table.proofs.Words.{[], ◌&&◌, ◌+◌, ◌<◌, ◌==◌, ◌||◌, ◌∙◌, ◌≡◌, Active, age_in, ap, ap₂, arith, Bool, CanFree, clash, count_of, counted_by, false}
+use Rattle.gl_table.proofs.Words.{Frees, held_by, if◌then◌else◌, is_among_waiters, is_waiter, IsApart, IsBySlot, length, List, listed_by, LockList, nat_tests}
+use Rattle.gl_table.proofs.Words.{NL, NodeId, None, notices_in, Option, or-false, or_right, refl, restatus, same_node, same_number, Seat, slice_index_or, Some}
 use Rattle.gl_table.proofs.Words.{split, Strikes, subst, sym, take, Told, true, txns_of, Waiter, ℕ}
 use Rattle.gl_table.specs.declared.notice.Notice.TheVariants as notice
-use Rattle.gl_table.proofs.Queues.{clash}
 use Rattle.gl_table.proofs.Slots.{by_list-at, slice_get-at}
 use Rattle.gl_table.proofs.Woken.{among_more, is_among_all, none_before}
 

@@ -1,10 +1,9 @@
 -- A wait is given up, and its node grants from its front: who is granted, and who waits still.
-use Rattle.gl_table.proofs.Words.{◌==◌, ◌∙◌, ◌≡◌, ap, ap₂, false, front_at, granted_at, is_among_waiters, is_wait, is_waiting_at, IsOrderly, Mode, NodeId}
-use Rattle.gl_table.proofs.Words.{not_true, pumped, refl, same_node-equal, same_number, Some, State, Status, status_in, status_of, sym, true, Waiting, waits_at}
-use Rattle.gl_table.proofs.Words.{WaitWell, without_wait, ℕ}
+use Rattle.gl_table.proofs.Words.{◌==◌, ◌∙◌, ◌≡◌, ap, ap₂, clash, false, front_at, granted_at, is_among_waiters, is_wait, is_waiting_at, IsOrderly, Mode}
+use Rattle.gl_table.proofs.Words.{NodeId, not_true, pumped, refl, same_node-equal, same_number, Some, State, Status, status_in, status_of, sym, true, Waiting}
+use Rattle.gl_table.proofs.Words.{waits_at, WaitWell, without_wait, ℕ}
 use Rattle.gl_table.proofs.OneWaits.{front_stands, granted_here, waits_only, well_without}
 use Rattle.gl_table.proofs.Pumped.{woken_waits}
-use Rattle.gl_table.proofs.Queues.{clash}
 use Rattle.gl_table.proofs.QueueEdits.{out_of_without}
 use Rattle.gl_table.proofs.Settles.{wait_is}
 use Rattle.gl_table.proofs.Taken.{IsQuiet, restatus_quiet}

@@ -1,6 +1,6 @@
 -- What an ask that is granted leaves.
 use Rattle.gl_table.proofs.Words.{◌&&◌, ◌+◌, ◌==◌, ◌||◌, ◌∙◌, ◌≡◌, ◌≢◌, ◌≤◌, Active, Agrees, and-false, ap, ap₂, AreHeaders, AreSound, arith, Asked, Bool}
-use Rattle.gl_table.proofs.Words.{children_that, count_by, counted_by, CountsHeld, enters, false, fun_ext, granted, Graph, held_children, held_of, holds}
+use Rattle.gl_table.proofs.Words.{children_that, clash, count_by, counted_by, CountsHeld, enters, false, fun_ext, granted, Graph, held_children, held_of, holds}
 use Rattle.gl_table.proofs.Words.{if◌then◌else◌, is_among_waiters, is_live, is_wait, IsLawfulGraph, length, List, LockList, members, members_at, Mode, NL}
 use Rattle.gl_table.proofs.Words.{NodeId, not, not_NL, parents_of, queue_of, refl, same_mode, same_node, same_node-equal, same_node-refl, same_number}
 use Rattle.gl_table.proofs.Words.{slot_limit, Some, split, State, state_on, status_of, subst, supremum, supremum-not_NL, sym, true, wanted, with_grant}
@@ -10,7 +10,6 @@ use Rattle.gl_header.specs.declared.header.Asked.TheVariants as asked
 use Rattle.gl_table.proofs.Asks.{IsReady}
 use Rattle.gl_table.proofs.Children.{children_up}
 use Rattle.gl_table.proofs.Listed.{HasNode}
-use Rattle.gl_table.proofs.Queues.{clash}
 
 -- other members of one node, of whom one alone is changed, are one grant
 pub with_members-grant : (held : ℕ → NodeId → Mode) (t : ℕ) (n : NodeId) (m : Mode)

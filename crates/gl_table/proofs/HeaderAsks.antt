@@ -1,8 +1,8 @@
 -- What an ask leaves.
-use Rattle.gl_table.proofs.Words.{[], ◌++◌, ◌∙◌, ◌∷◌, ◌≡◌, ◌≢◌, ap, arith, asked_members, asked_queue, Bool, by_test, Entries, Err, false, filter, header_at}
+use Rattle.gl_table.proofs.Words.{[], ◌++◌, ◌∙◌, ◌∷◌, ◌≡◌, ◌≢◌, ap, arith, asked_members, asked_queue, Bool, Entries, Err, false, filter, header_at}
 use Rattle.gl_table.proofs.Words.{header_or_new, HeaderState, held_of, holds, if◌then◌else◌, is_empty, is_granted, is_unused, IsLawfulHeader, List, Members}
 use Rattle.gl_table.proofs.Words.{members_at, members_of, Mode, nat_tests, NL, NodeId, not, not_NL, not_true, Ok, OnErr, OnOk, placed, queue_of, refl, Result}
-use Rattle.gl_table.proofs.Words.{same_mode, Some, supremum-not_NL, sym, true, unused-true, Waiter, with_members, with_mode, with_waiters, ℕ}
+use Rattle.gl_table.proofs.Words.{same_mode, Some, split, supremum-not_NL, sym, true, unused-true, Waiter, with_members, with_mode, with_waiters, ℕ}
 use Rattle.gl_header.specs.State.{wanted}
 use Rattle.gl_table.proofs.HeaderWrites.{IsChanged, held-changed, queue-changed, with_members-same, with_waiters-same}
 
@@ -49,7 +49,7 @@ placed-not_empty g q t m = by (holds g t)
 -- a header is needed after an ask: the slot holds or waits
 pub asked-used : (h : HeaderState) (t : ℕ) (m : Mode) (w : HeaderState) → m ≢ NL → IsLawfulHeader w → IsAsked h t m w → is_unused w ≡ false
 asked-used h t m w ne l a =
-    not_true (is_unused w) (λ u. let none = unused-true w l u in by_test (is_granted h t m) (λ g. granted g (none.0 t)) (λ g. waits g none.1))
+    not_true (is_unused w) (λ u. let none = unused-true w l u in split (is_granted h t m) (λ g. granted g (none.0 t)) (λ g. waits g none.1))
   where
     granted : is_granted h t m ≡ true → members_of w t ≡ NL → ⊥
     granted g e =

@@ -1,7 +1,6 @@
 -- A node's entry among the headers: the header that it has, or an unused one put in.
-use Rattle.gl_table.proofs.Words.{[], ◌∙◌, ◌∷◌, ◌≡◌, ap, Bool, Err, false, header_or_new, HeaderState, if◌then◌else◌, insert_entry, IsOk, List, lookup, None}
-use Rattle.gl_table.proofs.Words.{Ok, OnErr, Option, refl, Result, Some, sym, true, unused_header, unwrap_or}
-use Rattle.gl_table.proofs.Queues.{clash}
+use Rattle.gl_table.proofs.Words.{[], ◌∙◌, ◌∷◌, ◌≡◌, ap, Bool, clash, Err, false, header_or_new, HeaderState, if◌then◌else◌, insert_entry, IsOk, List, lookup}
+use Rattle.gl_table.proofs.Words.{None, Ok, OnErr, Option, refl, Result, Some, sym, true, unused_header, unwrap_or}
 
 -- the entry has the header of the node, or the unused one
 pub entered-is : (o : Option HeaderState) → unwrap_or o unused_header ≡ header_or_new o

@@ -1,11 +1,10 @@
 -- The last deadlock, while its rows are written.
 use Rattle.gl_table.proofs.Words.{[], ◌&&◌, ◌++◌, ◌<◌, ◌==◌, ◌||◌, ◌↔◌, ◌∙◌, ◌∷◌, ◌≡◌, ◌≤◌, All-nil, All-push, All-same, all_pairs_push, AllPairs, and_both, ap}
-use Rattle.gl_table.proofs.Words.{ap₂, arith, Bool, candidate-on_cycle, Deadlock, false, get_or, has_row, has_slot, HasNoSlot, IsDeadlock, IsLowest}
+use Rattle.gl_table.proofs.Words.{ap₂, arith, Bool, candidate-on_cycle, clash, Deadlock, false, get_or, has_row, has_slot, HasNoSlot, IsDeadlock, IsLowest}
 use Rattle.gl_table.proofs.Words.{IsOnCycleOf, IsStuck, IsTrue, IsWalk, length, length-append, List, list_any, list_any-append, name_at, nat_tests, not}
 use Rattle.gl_table.proofs.Words.{or_elim, or_right, reaches_join, refl, RowsLeadOn, same_number, Slots, Some, State, status_of, Stuck, subst, sym, true}
 use Rattle.gl_table.proofs.Words.{VictimHasRow, Waiting, waits_for, ℕ}
 use Rattle.std.specs.List.{All}
-use Rattle.gl_table.proofs.Queues.{clash}
 
 -- the row is of this slot
 abbrev is_of : ℕ → Stuck → Bool

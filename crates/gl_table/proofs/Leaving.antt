@@ -1,12 +1,12 @@
 -- To release all of a transaction is to leave one node after the other.
-use Rattle.gl_table.proofs.Words.{[], ◌&&◌, ◌==◌, ◌||◌, ◌∙◌, ◌≡◌, AbortIsRelease, Active, and_both, ap, ap₂, Bool, cancelled, Condemned, false, fun_ext}
+use Rattle.gl_table.proofs.Words.{[], ◌&&◌, ◌==◌, ◌||◌, ◌∙◌, ◌≡◌, AbortIsRelease, Active, and_both, ap, ap₂, Bool, cancelled, clash, Condemned, false, fun_ext}
 use Rattle.gl_table.proofs.Words.{granted_at, holds, if◌then◌else◌, is_among_waiters, is_waiting_at, LeftAll, LeftOne, members, Mode, NL, NodeId, None, not}
 use Rattle.gl_table.proofs.Words.{not_true, number_same, Option, or-false, or_comm, pumped, refl, restatus, same_mode, same_node, same_node-equal}
 use Rattle.gl_table.proofs.Words.{same_node-sym, Some, State, Status, status_in, stripped, sym, true, Txn, Waiting, waits_at, with_grant, with_txn}
 use Rattle.gl_table.proofs.Words.{without_wait, without_waiter, woken, ℕ}
 use Rattle.gl_table.proofs.GrantKeeps.{nl_is}
 use Rattle.gl_table.proofs.Pumps.{pumped-pumped}
-use Rattle.gl_table.proofs.Queues.{clash, grants_other}
+use Rattle.gl_table.proofs.Queues.{grants_other}
 use Rattle.gl_table.proofs.QueueEdits.{without_none}
 use Rattle.gl_table.proofs.Bare.{bare_free, out_of_own, granted_waits, stripped_after}
 

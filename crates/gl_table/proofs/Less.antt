@@ -1,10 +1,10 @@
 -- A state with fewer grants, waits and transactions keeps the law, but for the fronts where something was taken.
-use Rattle.gl_table.proofs.Words.{[], ◌&&◌, ◌||◌, ◌∙◌, ◌∷◌, ◌≡◌, ◌≤◌, ◌⊎◌, Active, age_in, age_of, ap, ap₂, are_compatible, arith, at_least-refl, Bool, cond}
-use Rattle.gl_table.proofs.Words.{Condemned, false, filter, front, intends, intends_over, IS, is_ahead, is_among_waiters, is_at_least, is_child, is_live}
+use Rattle.gl_table.proofs.Words.{[], ◌&&◌, ◌||◌, ◌∙◌, ◌∷◌, ◌≡◌, ◌≤◌, ◌⊎◌, Active, age_in, age_of, ap, ap₂, are_compatible, arith, at_least-refl, Bool, clash}
+use Rattle.gl_table.proofs.Words.{cond, Condemned, false, filter, front, intends, intends_over, IS, is_ahead, is_among_waiters, is_at_least, is_child, is_live}
 use Rattle.gl_table.proofs.Words.{is_some, is_waiter, is_write, IsLawful, IX, List, list_all, list_any, members, Mode, ModeFitsKind, NL, NL-compatible}
 use Rattle.gl_table.proofs.Words.{no_parents, NodeId, None, not, Option, or_left, or_right, parents_of, refl, same_mode, same_node, same_node-equal}
 use Rattle.gl_table.proofs.Words.{same_node-refl, Some, split, State, Status, status_in, status_of, subst, sym, true, Txn, Waiter, Waiting, waits_at, ℕ, ⊎_elim}
-use Rattle.gl_table.proofs.Queues.{ahead_is, ahead_second, clash}
+use Rattle.gl_table.proofs.Queues.{ahead_is, ahead_second}
 use Rattle.gl_table.proofs.GrantKeeps.{front_less}
 use Rattle.gl_table.proofs.LawfulBut.{IsLawfulBut}
 

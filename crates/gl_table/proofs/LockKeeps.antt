@@ -1,12 +1,11 @@
 -- A lock that passed its tests, and an unlock: what they leave keeps the law.
 use Rattle.gl_table.proofs.Words.{[], ◌&&◌, ◌++◌, ◌+◌, ◌<◌, ◌==◌, ◌∙◌, ◌∷◌, ◌≡◌, Active, active_on, and_both, ap, arith, AtBlock, bad_mode, Bool, ByWatcher}
-use Rattle.gl_table.proofs.Words.{cond, Detect, enqueued, enters_at, false, find, first_refusal, fits, held_child, if◌then◌else◌, intends, is_child, is_live}
-use Rattle.gl_table.proofs.Words.{is_none, is_some, IsLawful, List, members, Mode, need_parents, NL, NodeId, None, not_refused, not_true, Option, parents_of}
-use Rattle.gl_table.proofs.Words.{pumped, range_with_len, refl, Refusal, same_node, same_node-equal, same_node-sym, Some, split, State, status_of, subst, suc}
-use Rattle.gl_table.proofs.Words.{supremum-above, sym, true, Txn, TxnId, Victims, WaitSettles, wanted, with_grant, zero, ℕ}
+use Rattle.gl_table.proofs.Words.{clash, cond, Detect, enqueued, enters_at, false, find, first_refusal, fits, held_child, if◌then◌else◌, intends, is_child}
+use Rattle.gl_table.proofs.Words.{is_live, is_none, is_some, IsLawful, List, members, Mode, need_parents, NL, NodeId, None, not_refused, not_true, Option}
+use Rattle.gl_table.proofs.Words.{parents_of, pumped, range_with_len, refl, Refusal, same_node, same_node-equal, same_node-sym, Some, split, State, status_of}
+use Rattle.gl_table.proofs.Words.{subst, suc, supremum-above, sym, true, Txn, TxnId, Victims, WaitSettles, wanted, with_grant, zero, ℕ}
 use Rattle.gl_table.specs.Calls.{Locks}
 use Rattle.gl_table.proofs.GrantKeeps.{with_grant-lawful}
-use Rattle.gl_table.proofs.Queues.{clash}
 use Rattle.gl_table.proofs.Less.{IsLess, less-lawful}
 use Rattle.gl_table.proofs.Pumped.{pumped-lawful}
 use Rattle.gl_table.proofs.Taken.{taken-less, settled-lawful}

@@ -1,17 +1,16 @@
 -- Marked children are released, one after the other: what holds after each.
 use Rattle.gl_table.proofs.Words.{[], ◌&&◌, ◌+◌, ◌==◌, ◌||◌, ◌∙◌, ◌∷◌, ◌≡◌, ◌≤◌, Active, after_grants, Agrees, and-false, and-true, and_both, ap, ap₂, arith}
-use Rattle.gl_table.proofs.Words.{Bool, cond, count_by, count_cons, count_of, CountsHeld, drop, false, front, front_at, fun_ext, granted_at, held_children}
-use Rattle.gl_table.proofs.Words.{holds, holds_child, if◌then◌else◌, is_among_waiters, is_child, is_covered, is_listed, is_some, is_wait, IsApart, IsBySlot}
-use Rattle.gl_table.proofs.Words.{IsLawfulGraph, IsOrderly, IsShedding, length, List, list_all, list_any, LockList, lookup, map, members, Mode, mode_of, NL}
-use Rattle.gl_table.proofs.Words.{NodeId, nodes, None, NoneMarkedFrom, not, not-true, not_true, notices_in, or-true, or_no, parents_of, pumped, refl, same_mode}
-use Rattle.gl_table.proofs.Words.{same_node, same_node-equal, same_node-refl, same_node-sym, shed, slice_get, Some, split, State, status_in, status_of, subst}
-use Rattle.gl_table.proofs.Words.{suc, sym, Told, true, unlocked, Waiter, WakesLists, WakesTold, with_grant, woken, X, ℕ}
+use Rattle.gl_table.proofs.Words.{Bool, clash, cond, count_by, count_cons, count_of, CountsHeld, drop, false, front, front_at, fun_ext, granted_at}
+use Rattle.gl_table.proofs.Words.{held_children, holds, holds_child, if◌then◌else◌, is_among_waiters, is_child, is_covered, is_listed, is_some, is_wait}
+use Rattle.gl_table.proofs.Words.{IsApart, IsBySlot, IsLawfulGraph, IsOrderly, IsShedding, length, List, list_all, list_any, LockList, lookup, map, members}
+use Rattle.gl_table.proofs.Words.{Mode, mode_of, NL, NodeId, nodes, None, NoneMarkedFrom, not, not-true, not_true, notices_in, or-true, or_no, parents_of}
+use Rattle.gl_table.proofs.Words.{pumped, refl, same_mode, same_node, same_node-equal, same_node-refl, same_node-sym, shed, slice_get, Some, split, State}
+use Rattle.gl_table.proofs.Words.{status_in, status_of, subst, suc, sym, Told, true, unlocked, Waiter, WakesLists, WakesTold, with_grant, woken, X, ℕ}
 use Rattle.gl_table.proofs.Children.{children_down}
 use Rattle.gl_table.proofs.Departures.{StillTells, left_by, own_notice, own_txn, still_tells, still_untold}
 use Rattle.gl_table.proofs.GrantKeeps.{nl_is}
 use Rattle.gl_table.proofs.Orderly.{in_no_queue, orderly_unlocked}
 use Rattle.gl_table.proofs.Pumps.{pumped-pumped}
-use Rattle.gl_table.proofs.Queues.{clash}
 use Rattle.gl_table.proofs.Unlocked.{agrees_unlocked, counts_unlocked, unlocked_own}
 
 -- the state without t's grants on these nodes

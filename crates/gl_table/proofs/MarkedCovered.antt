@@ -1,15 +1,15 @@
 -- The covered children of a node are marked, one place of the list after another.
 use Rattle.gl_table.proofs.Words.{[], ◌&&◌, ◌+◌, ◌<◌, ◌==◌, ◌||◌, ◌∙◌, ◌∷◌, ◌≡◌, ◌≤◌, ap, ap₂, arith, Bool, count_of, covered_in, false, get_or, Graph}
-use Rattle.gl_table.proofs.Words.{if◌then◌else◌, is_child, is_same_node, keys, length, List, list_all, list_any, list_any_more, LockList, Mode, mode_of, NL}
-use Rattle.gl_table.proofs.Words.{NodeId, not, number_other, or-false, or_left, or_right, parents_of, refl, same_mode, same_node, same_node_is, slice_get}
-use Rattle.gl_table.proofs.Words.{slice_get-get_or, Some, split, sym, take, take_all, true, X, ℕ}
+use Rattle.gl_table.proofs.Words.{if◌then◌else◌, is_child, keys, length, List, list_all, list_any, list_any_more, LockList, Mode, mode_of, NL, NodeId, not}
+use Rattle.gl_table.proofs.Words.{number_other, or-false, or_left, or_right, parents_of, refl, same_mode, same_node, same_node-equal, same_node-from_equal}
+use Rattle.gl_table.proofs.Words.{slice_get, slice_get-get_or, Some, split, sym, take, take_all, true, X, ℕ}
 use Rattle.gl_table.proofs.FirstChild.{held_listed}
 
 -- tests that agree on each of these nodes
 all_alike : (f h : NodeId → Bool) (ps : List NodeId) → ((p : NodeId) → list_any (same_node p) ps ≡ true → f p ≡ h p) → list_all f ps ≡ list_all h ps
 all_alike f h [] same = refl
 all_alike f h (p ∷ ps) same =
-    ap₂ (λ a b. a && b) (same p (or_left (same_node p p) (list_any (same_node p) ps) (is_same_node p p refl)))
+    ap₂ (λ a b. a && b) (same p (or_left (same_node p p) (list_any (same_node p) ps) (same_node-from_equal p p refl)))
     (all_alike f h ps (λ q e. same q (or_right (same_node q p) (list_any (same_node q) ps) e)))
 
 -- a node with a held child is not covered
@@ -87,7 +87,7 @@ module _ (g : Graph) (n : NodeId) (was : LockList) (counted : (c p : NodeId) →
     before q = list_any (same_node q) (take at (keys was.entries))
 
     out : mode_of next here ≡ (if covered_in g l n here then NL else mode_of l here)
-    out = step here ∙ ap (λ b. if b && covered_in g l n here then NL else mode_of l here) (is_same_node here here refl)
+    out = step here ∙ ap (λ b. if b && covered_in g l n here then NL else mode_of l here) (same_node-from_equal here here refl)
 
     at_here : mode_of next here ≡ (if covered_in g was n here then NL else mode_of was here)
     at_here = split (covered_in g was n here && before here)
@@ -108,7 +108,8 @@ module _ (g : Graph) (n : NodeId) (was : LockList) (counted : (c p : NodeId) →
     pub marks_more : HasMarked g n was next (take (at + 1) (keys was.entries))
     marks_more q =
         split (same_node q here)
-        (λ e. ap (mode_of next) (same_node_is q here e) ∙ at_here ∙ ap (λ x. if covered_in g was n x then NL else mode_of was x) (sym (same_node_is q here e))
+        (λ e. ap (mode_of next) (same_node-equal q here e) ∙ at_here
+        ∙ ap (λ x. if covered_in g was n x then NL else mode_of was x) (sym (same_node-equal q here e))
         ∙ all (covered_in g was n q) ∙ ap (λ b. if covered_in g was n q && b then NL else mode_of was q)
         (sym (grown ∙ or_right (before q) (same_node q here) e)))
         (λ e. step q ∙ ap (λ b. if b && covered_in g l n here then NL else mode_of l q) e ∙ h q

@@ -1,14 +1,13 @@
 -- The list of a slot is taken out of its place, its covered children are marked, and at the end it is put back.
-use Rattle.gl_table.proofs.Words.{◌&&◌, ◌<◌, ◌==◌, ◌||◌, ◌∙◌, ◌≡◌, Active, Agrees, any_counted, ap, ap₂, AreApart, AreSound, arith, Bool, count_of, CountsHeld}
-use Rattle.gl_table.proofs.Words.{covered_in, false, fun_ext, Graph, holds, holds_child, if◌then◌else◌, is_child, is_covered, is_listed, is_wait, IsLawfulGraph}
-use Rattle.gl_table.proofs.Words.{IsOrderly, IsShedding, keys, length, List, list_all, list_any, listed, LockList, members, Mode, mode_of, nat_lt, nat_tests}
-use Rattle.gl_table.proofs.Words.{NL, NodeId, nodes, not, or-false, parents_of, refl, same_mode, same_node, same_number, slice_index_or, slice_set, Some, split}
-use Rattle.gl_table.proofs.Words.{State, state_on, status_of, subst, suc, sym, true, X, zero, ℕ}
+use Rattle.gl_table.proofs.Words.{◌&&◌, ◌<◌, ◌==◌, ◌||◌, ◌∙◌, ◌≡◌, Active, Agrees, any_counted, ap, ap₂, AreApart, AreSound, arith, Bool, clash, count_of}
+use Rattle.gl_table.proofs.Words.{CountsHeld, covered_in, false, fun_ext, Graph, holds, holds_child, if◌then◌else◌, is_child, is_covered, is_listed, is_wait}
+use Rattle.gl_table.proofs.Words.{IsLawfulGraph, IsOrderly, IsShedding, keys, length, List, list_all, list_any, listed, LockList, members, Mode, mode_of}
+use Rattle.gl_table.proofs.Words.{nat_lt, nat_tests, NL, NodeId, nodes, not, or-false, parents_of, refl, same_mode, same_node, same_number, slice_index_or}
+use Rattle.gl_table.proofs.Words.{slice_set, Some, split, State, state_on, status_of, subst, suc, sym, true, X, zero, ℕ}
 use Rattle.gl_table.specs.declared.locks.Locks.{Locks}
 use Rattle.gl_table.proofs.GrantKeeps.{txn_there}
 use Rattle.gl_table.proofs.Orderly.{in_no_queue}
 use Rattle.gl_table.proofs.OtherLists.{agrees-set, counts-set, own_list}
-use Rattle.gl_table.proofs.Queues.{clash}
 use Rattle.gl_table.proofs.Slots.{by_list-at, kept-apart}
 use Rattle.gl_table.proofs.TestsPass.{one_found}
 

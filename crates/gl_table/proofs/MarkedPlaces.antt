@@ -1,8 +1,8 @@
 -- The node at a place of a list is marked.
 use Rattle.gl_table.proofs.Words.{[], ◌&&◌, ◌+◌, ◌-◌, ◌<◌, ◌==◌, ◌∙◌, ◌∷◌, ◌≡◌, ◌≢◌, ◌≤◌, ap, ap₂, arith, Bool, cond, false, get_or, get_or-set_other}
-use Rattle.gl_table.proofs.Words.{get_or-set_same, get_or-take, get_or_from_slice_get, if◌then◌else◌, is_same_node, length, length-take-le, List, list_any}
-use Rattle.gl_table.proofs.Words.{lt-ltb, map, Mode, nat_lt, nat_tests, NL, NodeId, None, not, option_map_or, or_left, or_right, other_number, position_or_len}
-use Rattle.gl_table.proofs.Words.{refl, same_mode, same_node, same_node_refl, same_number, slice_get, slice_get-get_or, slice_get_within, slice_index_or}
+use Rattle.gl_table.proofs.Words.{get_or-set_same, get_or-take, get_or_from_slice_get, if◌then◌else◌, length, length-take-le, List, list_any, lt-ltb, map, Mode}
+use Rattle.gl_table.proofs.Words.{nat_lt, nat_tests, NL, NodeId, None, not, option_map_or, or_left, or_right, other_number, position_or_len, refl, same_mode}
+use Rattle.gl_table.proofs.Words.{same_node, same_node-from_equal, same_node-refl, same_number, slice_get, slice_get-get_or, slice_get_within, slice_index_or}
 use Rattle.gl_table.proofs.Words.{slice_set, Some, some_is, split, suc, swap_remove, swap_remove_by, sym, true, zero, ℕ}
 use Rattle.std.proofs.lemmas.List.{length-set}
 
@@ -101,13 +101,13 @@ taken_first t (x ∷ xs) at n is h =
 -- the node at a place is among them
 pub listed_at : (ks : List NodeId) (i : ℕ) (m : NodeId) → slice_get ks i ≡ Some m → list_any (same_node m) ks ≡ true
 listed_at [] i m is = absurd (cc)
-listed_at (k ∷ ks) zero m is = or_left (same_node m k) (list_any (same_node m) ks) (is_same_node m k (sym (some_is is)))
+listed_at (k ∷ ks) zero m is = or_left (same_node m k) (list_any (same_node m) ks) (same_node-from_equal m k (sym (some_is is)))
 listed_at (k ∷ ks) (suc i) m is = or_right (same_node m k) (list_any (same_node m) ks) (listed_at ks i m is)
 
 -- the node at a place is taken out, and the last one takes a place no further back
 module _ (ks rest : List NodeId) (at : ℕ) (n : NodeId) (is : rest ≡ swap_remove_by (same_node n) ks) (here : slice_get ks at ≡ Some n) where
   taken : (p : ℕ) × (d : NodeId) × (p ≤ at) × (swap_remove_by (same_node n) ks ≡ swap_remove ks p d)
-  taken = taken_first (same_node n) ks at n here (same_node_refl n)
+  taken = taken_first (same_node n) ks at n here (same_node-refl n)
 
   pub still_within : at ≤ length rest
   still_within =

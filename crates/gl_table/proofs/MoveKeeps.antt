@@ -2,8 +2,8 @@
 use Rattle.gl_table.proofs.Words.{[], ◌&&◌, ◌<◌, ◌==◌, ◌||◌, ◌∙◌, ◌∷◌, ◌≡◌, ◌≢◌, ◌≤◌, ◌⊎◌, Active, age_of, and_both, ap, ap₂, are_compatible, arith, Bool, cond}
 use Rattle.gl_table.proofs.Words.{false, filter, fits, front, Graph, holds, if◌then◌else◌, intends, intends_over, IS, is_ahead, is_among_waiters, is_at_least}
 use Rattle.gl_table.proofs.Words.{is_live, is_record_shape, is_some, is_waiter, is_waiting_at, is_write, IsLawful, IsLawfulGraph, IX, List, list_all, list_any}
-use Rattle.gl_table.proofs.Words.{members, Mode, ModeFitsKind, moved_to, NL, no, no_parents, NodeId, not, or_elim, other_node, other_number, parents_of}
-use Rattle.gl_table.proofs.Words.{range-each, refl, rules, same_mode, same_node, same_node_is, same_number, shape_of, Some, split, State, status_of, stays}
+use Rattle.gl_table.proofs.Words.{members, Mode, ModeFitsKind, moved_to, NL, no, no_parents, NodeId, not, or_elim, other_number, parents_of, range-each, refl}
+use Rattle.gl_table.proofs.Words.{rules, same_mode, same_node, same_node-equal, same_node-other, same_number, shape_of, Some, split, State, status_of, stays}
 use Rattle.gl_table.proofs.Words.{subst, sym, true, true≢false, Waiting, waits_at, X, ℕ, ⊎_elim}
 use Rattle.gl_table.proofs.NoConflict.{x_blocks, any_all, holds_one, x_is}
 use Rattle.gl_table.proofs.GrantKeeps.{nl_is, txn_there, apart}
@@ -106,10 +106,10 @@ module _ (s : State) (law : IsLawful s) (t : ℕ) (n : NodeId) (ps : List NodeId
     keeps u = is_among_waiters u (filter (stays s ps) (s.queue n))
 
     rule_elsewhere : (u : ℕ) (q : NodeId) (m : Mode) → same_node q n ≡ false → intends s u q m ≡ true → intends after u q m ≡ true
-    rule_elsewhere u q m other h = ap (λ xs. intends_over (s.held u) xs m) (others q (other_node q n other)) ∙ h
+    rule_elsewhere u q m other h = ap (λ xs. intends_over (s.held u) xs m) (others q (same_node-other q n other)) ∙ h
 
     rule_here : (u : ℕ) (q : NodeId) (m : Mode) → same_node q n ≡ true → intends_over (s.held u) ps m ≡ true → intends after u q m ≡ true
-    rule_here u q m same h = ap (λ x. intends_over (s.held u) (parents_of g' x) m) (same_node_is q n same) ∙ ap (λ xs. intends_over (s.held u) xs m) here ∙ h
+    rule_here u q m same h = ap (λ x. intends_over (s.held u) (parents_of g' x) m) (same_node-equal q n same) ∙ ap (λ xs. intends_over (s.held u) xs m) here ∙ h
 
     kind_later : (q : NodeId) (m : Mode) → ModeFitsKind s q m → ModeFitsKind after q m
     kind_later q m k r = k (sym (rec q) ∙ r)
@@ -120,7 +120,7 @@ module _ (s : State) (law : IsLawful s) (t : ℕ) (n : NodeId) (ps : List NodeId
         (λ (b : HoldsParents s t n ps). x_intends (s.held t) ps m b.some_new b.new) right
 
     queue_here : (q : NodeId) → same_node q n ≡ true → after.queue q ≡ filter (stays s ps) (s.queue n)
-    queue_here q e = ap (λ b. if b then filter (stays s ps) (s.queue q) else s.queue q) e ∙ ap (λ x. filter (stays s ps) (s.queue x)) (same_node_is q n e)
+    queue_here q e = ap (λ b. if b then filter (stays s ps) (s.queue q) else s.queue q) e ∙ ap (λ x. filter (stays s ps) (s.queue x)) (same_node-equal q n e)
 
     queue_there : (q : NodeId) → same_node q n ≡ false → after.queue q ≡ s.queue q
     queue_there q e = ap (λ b. if b then filter (stays s ps) (s.queue q) else s.queue q) e
@@ -133,13 +133,13 @@ module _ (s : State) (law : IsLawful s) (t : ℕ) (n : NodeId) (ps : List NodeId
     stayed : (u : ℕ) (q : NodeId) (m : Mode) → status_of after u ≡ Some (Waiting q m) → same_node q n ≡ true → intends_over (s.held u) ps m ≡ true
     stayed u q m st e =
         let old = waited u q m st in
-        one_stays (is_waiter u) (stays s ps) (s.queue n) (u, m) (ap (λ x. filter (is_waiter u) (s.queue x)) (sym (same_node_is q n e))
+        one_stays (is_waiter u) (stays s ps) (s.queue n) (u, m) (ap (λ x. filter (is_waiter u) (s.queue x)) (sym (same_node-equal q n e))
         ∙ law.one_wait u q m old.0) (old.1 e)
 
     among_was : (u : ℕ) (q : NodeId) → is_among_waiters u (after.queue q) ≡ true → is_among_waiters u (s.queue q) ≡ true
     among_was u q h =
         split (same_node q n)
-        (λ e. ap (λ x. is_among_waiters u (s.queue x)) (same_node_is q n e)
+        (λ e. ap (λ x. is_among_waiters u (s.queue x)) (same_node-equal q n e)
         ∙ any_left (is_waiter u) (stays s ps) (s.queue n) (sym (ap (is_among_waiters u) (queue_here q e)) ∙ h))
         (λ e. sym (ap (is_among_waiters u) (queue_there q e)) ∙ h)
 
@@ -148,7 +148,7 @@ module _ (s : State) (law : IsLawful s) (t : ℕ) (n : NodeId) (ps : List NodeId
         let old = waited u q m st in
         split (same_node q n)
         (λ e. ap (filter (is_waiter u)) (queue_here q e)
-        ∙ one_left (is_waiter u) (stays s ps) (s.queue n) (u, m) (ap (λ x. filter (is_waiter u) (s.queue x)) (sym (same_node_is q n e))
+        ∙ one_left (is_waiter u) (stays s ps) (s.queue n) (u, m) (ap (λ x. filter (is_waiter u) (s.queue x)) (sym (same_node-equal q n e))
         ∙ law.one_wait u q m old.0) (stayed u q m st e))
         (λ e. ap (filter (is_waiter u)) (queue_there q e) ∙ law.one_wait u q m old.0)
 
@@ -158,7 +158,7 @@ module _ (s : State) (law : IsLawful s) (t : ℕ) (n : NodeId) (ps : List NodeId
     front_after : (q : NodeId) → front s.most (members s q) (after.queue q) ≡ []
     front_after q =
         split (same_node q n)
-        (λ e. ap (front s.most (members s q)) (queue_here q e) ∙ ap (λ x. front s.most (members s x) (filter (stays s ps) (s.queue n))) (same_node_is q n e)
+        (λ e. ap (front s.most (members s q)) (queue_here q e) ∙ ap (λ x. front s.most (members s x) (filter (stays s ps) (s.queue n))) (same_node-equal q n e)
         ∙ stuck_front s.most (members s n) (filter (stays s ps) (s.queue n))
         (all_filtered (λ w. not (fits s.most (members s n) w.0 w.1)) (stays s ps) (s.queue n) (waiters_stuck s.most (λ u m. refl))))
         (λ e. ap (front s.most (members s q)) (queue_there q e) ∙ law.front_waits q)
@@ -178,10 +178,10 @@ module _ (s : State) (law : IsLawful s) (t : ℕ) (n : NodeId) (ps : List NodeId
       compatible = law.compatible;
       grants_intend = λ u q h. split (same_node q n)
           (λ e.
-          let held_here : holds (members s n) u ≡ true = ap (λ x. holds (members s x) u) (sym (same_node_is q n e)) ∙ h in
+          let held_here : holds (members s n) u ≡ true = ap (λ x. holds (members s x) u) (sym (same_node-equal q n e)) ∙ h in
           let mover = only_mover u held_here in
           rule_here u q (s.held u q) e (subst (λ v. intends_over (s.held v) ps (s.held v q) ≡ true) (sym mover)
-          (mover_intends (s.held t q) (ap (s.held t) (same_node_is q n e)))))
+          (mover_intends (s.held t q) (ap (s.held t) (same_node-equal q n e)))))
           (λ e. rule_elsewhere u q (s.held u q) e (law.grants_intend u q h));
       waits_intend = λ u q m st.
           let old = waited u q m st in
@@ -191,7 +191,7 @@ module _ (s : State) (law : IsLawful s) (t : ℕ) (n : NodeId) (ps : List NodeId
       waits_are = waits_are_after;
       holders_first = λ u v q h ahead. split (same_node q n)
           (λ e.
-          let mover = only_mover u (ap (λ x. holds (members s x) u) (sym (same_node_is q n e)) ∙ h) in
+          let mover = only_mover u (ap (λ x. holds (members s x) u) (sym (same_node-equal q n e)) ∙ h) in
           let at = law.waits_are u q (among_was u q (and_both _ _ ahead).0) in
           absurd (no (sym (ap (λ o. waits_at o q) (ap (status_of s) mover ∙ active)) ∙ at)))
           (λ e. law.holders_first u v q h (sym (ap (λ ws. is_ahead ws u v) (queue_there q e)) ∙ ahead));

@@ -1,9 +1,9 @@
 -- A node moves: no step from one who waits to another is new, and so no cycle.
-use Rattle.gl_table.proofs.Words.{[], ◌&&◌, ◌==◌, ◌||◌, ◌∙◌, ◌∷◌, ◌≡◌, are_compatible, Bool, false, filter, Graph, HasNoCycle, if◌then◌else◌, is_ahead}
+use Rattle.gl_table.proofs.Words.{[], ◌&&◌, ◌==◌, ◌||◌, ◌∙◌, ◌∷◌, ◌≡◌, are_compatible, Bool, clash, false, filter, Graph, HasNoCycle, if◌then◌else◌, is_ahead}
 use Rattle.gl_table.proofs.Words.{is_among_waiters, is_waiter, IsLawful, less-no_cycle, List, Mode, moved_to, NodeId, not, or_elim, or_left, or_right, refl}
 use Rattle.gl_table.proofs.Words.{same_node, Some, State, status_of, stays, sym, true, Waiter, Waiting, waits_for, ℕ}
 use Rattle.gl_table.proofs.Edges.{is_step, step_is}
-use Rattle.gl_table.proofs.Queues.{ahead, ahead_first, ahead_is, clash, none_filtered}
+use Rattle.gl_table.proofs.Queues.{ahead, ahead_first, ahead_is, none_filtered}
 use Rattle.gl_table.proofs.Waiting.{unless_waits}
 
 -- of the waits that stay, each was the only one of its slot

@@ -1,14 +1,13 @@
 -- A node moves: whose wait is lost is told so, and nobody else is told anything.
-use Rattle.gl_table.proofs.Words.{◌∙◌, ◌≡◌, Active, addressed, age_of, ap, ap₂, false, filter, freed, Graph, if◌then◌else◌, is_among_waiters, is_live}
+use Rattle.gl_table.proofs.Words.{◌∙◌, ◌≡◌, Active, addressed, age_of, ap, ap₂, clash, false, filter, freed, Graph, if◌then◌else◌, is_among_waiters, is_live}
 use Rattle.gl_table.proofs.Words.{is_waiter, IsOrderly, List, moved_to, NL, NodeId, None, not, not-true, not_true, notice_of, same_mode, same_mode-equal}
 use Rattle.gl_table.proofs.Words.{same_node-refl, Some, split, State, status_in, stays, sym, told_from, told_to, true, Waiting, waits_at, ℕ}
 use Rattle.gl_table.specs.declared.notice.Notice.TheVariants as notice
 use Rattle.gl_table.proofs.OneWaits.{stands_there}
-use Rattle.gl_table.proofs.Queues.{clash}
 use Rattle.gl_table.proofs.Strays.{among_failing}
 use Rattle.gl_table.proofs.Tells.{is_by_test, quiet_told}
-use Rattle.gl_table.proofs.TurnedAway.{freed_here, freed_other, is_lost, lost_waits, moved_notice}
-use Rattle.gl_table.proofs.Waiting.{one_stays}
+use Rattle.gl_table.proofs.TurnedAway.{freed_here, is_lost, lost_waits, moved_notice}
+use Rattle.gl_table.proofs.Waiting.{one_stays, freed_other}
 use Rattle.gl_table.proofs.Taken.{restatus_is}
 
 module _ (s : State) (o : IsOrderly s) (n : NodeId) (ps : List NodeId) (g : Graph) (bare : (u : ℕ) → is_among_waiters u (s.queue n) ≡ true → s.held u n ≡ NL)

@@ -1,6 +1,6 @@
 -- A node has other parents: how many children of each node pass a test.
 use Rattle.gl_table.proofs.Words.{◌&&◌, ◌+◌, ◌∙◌, ◌≡◌, ◌≢◌, ◌≤◌, ap, ap₂, arith, Bool, children_that, count_by, false, fun_ext, Graph, if◌then◌else◌, is_child}
-use Rattle.gl_table.proofs.Words.{is_live, IsLawfulGraph, list_any, NodeId, nodes, not, other_node, parents_of, refl, same_node, same_node-equal}
+use Rattle.gl_table.proofs.Words.{is_live, IsLawfulGraph, list_any, NodeId, nodes, not, parents_of, refl, same_node, same_node-equal, same_node-other}
 use Rattle.gl_table.proofs.Words.{same_node-refl, split, sym, true, ℕ}
 use Rattle.gl_table.proofs.Children.{children_down}
 
@@ -42,7 +42,7 @@ module _ (g g' : Graph) (law : IsLawfulGraph g) (law' : IsLawfulGraph g') (n : N
       each c = split (same_node c n)
           (λ e. let gone = ap (rest n f) (same_node-equal c n e) ∙ rest_here n f in out (is_child g' p c) (rest n f c) gone
           ∙ sym (out (is_child g p c) (rest n f c) gone))
-          (λ e. ap (λ ps. list_any (same_node p) ps && rest n f c) (others c (other_node c n e)))
+          (λ e. ap (λ ps. list_any (same_node p) ps && rest n f c) (others c (same_node-other c n e)))
 
   -- where the node passes, each old parent has one child less, and each new one more
   pub children_moved : (p : NodeId) → children_that g' f p + (if f n then count_by (same_node p) (parents_of g n) else 0)

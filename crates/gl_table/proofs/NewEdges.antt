@@ -1,9 +1,9 @@
 -- Changes at one transaction add no step between others.
 use Rattle.gl_table.proofs.Words.{[], ◌&&◌, ◌++◌, ◌+◌, ◌==◌, ◌||◌, ◌∙◌, ◌∷◌, ◌≡◌, ◌≢◌, ◌⊎◌, Active, ap, append-nil, ap₂, are_compatible, arith, begun, Bool}
-use Rattle.gl_table.proofs.Words.{differ-false, enqueued, false, filter, holds, if◌then◌else◌, inl, inr, is_ahead, is_among_waiters, IsLawful, List, Members}
-use Rattle.gl_table.proofs.Words.{members, Mode, nat_tests, NodeId, not, number_other, or_elim, or_left, or_right, placed, refl, restatus, same_node}
+use Rattle.gl_table.proofs.Words.{clash, differ-false, enqueued, false, filter, holds, if◌then◌else◌, inl, inr, is_ahead, is_among_waiters, IsLawful, List}
+use Rattle.gl_table.proofs.Words.{Members, members, Mode, nat_tests, NodeId, not, number_other, or_elim, or_left, or_right, placed, refl, restatus, same_node}
 use Rattle.gl_table.proofs.Words.{same_node-equal, Some, split, State, status_in, sym, true, Waiter, Waiting, waits_for, with_grant, ℕ, ⊎_elim}
-use Rattle.gl_table.proofs.Queues.{ahead, ahead_is, ahead_first, clash, among_append}
+use Rattle.gl_table.proofs.Queues.{ahead, ahead_is, ahead_first, among_append}
 use Rattle.gl_table.proofs.QueueEdits.{HoldersFirst, chosen_is, ahead_within}
 use Rattle.gl_table.proofs.Edges.{step_is, is_step, keep_ahead, among_kept}
 

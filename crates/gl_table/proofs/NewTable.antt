@@ -1,10 +1,9 @@
 -- A table in which nothing stands.
-use Rattle.gl_table.proofs.Words.{[], ◌||◌, ◌∙◌, ◌≡◌, ◌≤◌, ap, AreHeaders, AreNew, choosing, empty_state, graph_of, HasNoCycle, held_children, held_of, holds}
-use Rattle.gl_table.proofs.Words.{is_among_waiters, is_wait, IsLawful, IsSound, length, Members, members, None, Option, queue_of, refl, replicate, Seat, State}
-use Rattle.gl_table.proofs.Words.{state_of, status_of, subst, suc, sym, txns_of, unused-nobody, view_of, zero, ℕ}
+use Rattle.gl_table.proofs.Words.{[], ◌||◌, ◌∙◌, ◌≡◌, ◌≤◌, ap, AreHeaders, AreNew, choosing, clash, empty_state, graph_of, HasNoCycle, held_children, held_of}
+use Rattle.gl_table.proofs.Words.{holds, is_among_waiters, is_wait, IsLawful, IsSound, length, Members, members, None, Option, queue_of, refl, replicate, Seat}
+use Rattle.gl_table.proofs.Words.{State, state_of, status_of, subst, suc, sym, txns_of, unused-nobody, view_of, zero, ℕ}
 use Rattle.gl_table.specs.declared.table.Table.TheInside.{Inside}
 use Rattle.gl_table.proofs.NoCycle.{empty-no_cycle}
-use Rattle.gl_table.proofs.Queues.{clash}
 use Rattle.gl_table.proofs.Empty.{empty-lawful}
 
 length-replicate : (k : ℕ) → length (replicate {A = Option Seat} k None) ≡ k

@@ -1,9 +1,8 @@
 -- Where the fewest fall, one is enough: who is condemned waits for nobody any more, and nobody waits for whom it did not wait for.
-use Rattle.gl_table.proofs.Words.{◌&&◌, ◌==◌, ◌∙◌, ap, ap₂, arith, condemned, CondemningFrees, Fewest, freed-fewer, is_wait, IsLawful, IsOnNoCycle, IsVictim}
-use Rattle.gl_table.proofs.Words.{not, OneFalls, same_number, split, State, suc, sym, waits_for, zero, ℕ}
+use Rattle.gl_table.proofs.Words.{◌&&◌, ◌==◌, ◌∙◌, ap, ap₂, arith, clash, condemned, CondemningFrees, Fewest, freed-fewer, is_wait, IsLawful, IsOnNoCycle}
+use Rattle.gl_table.proofs.Words.{IsVictim, not, OneFalls, same_number, split, State, suc, sym, waits_for, zero, ℕ}
 use Rattle.gl_table.proofs.Edges.{step_is}
 use Rattle.gl_table.proofs.NoCycle.{condemned_steps}
-use Rattle.gl_table.proofs.Queues.{clash}
 use Rattle.gl_table.proofs.Settles.{waiting, waits_no_more}
 
 -- who waits for somebody waits

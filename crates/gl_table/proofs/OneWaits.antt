@@ -1,12 +1,12 @@
 -- Where who stands in a queue waits there, once: what follows for the front that its node grants.
-use Rattle.gl_table.proofs.Words.{[], ◌++◌, ◌∙◌, ◌∷◌, ◌≡◌, Active, ap, AreBelow, awake, Bool, both, false, filter-append, front-and_rest, front-waited}
+use Rattle.gl_table.proofs.Words.{[], ◌++◌, ◌∙◌, ◌∷◌, ◌≡◌, Active, ap, AreBelow, awake, Bool, both, clash, false, filter-append, front-and_rest, front-waited}
 use Rattle.gl_table.proofs.Words.{front_at, granted_at, if◌then◌else◌, is_among_waiters, is_distinct, is_waiter, is_waiting_at, IsOrderly, IsWithin, List}
 use Rattle.gl_table.proofs.Words.{members, Mode, NodeId, None, not, not_true, number_other, number_same, Option, or_left, or_right, pumped_queue, refl}
 use Rattle.gl_table.proofs.Words.{restatus, same_node, same_node-equal, same_node-refl, Some, split, State, Status, status_in, status_of, sym, true, Txn}
 use Rattle.gl_table.proofs.Words.{Waiter, Waiting, waits_at, WaitWell, with_grant, without_wait, woken, ℕ}
 use Rattle.gl_table.proofs.GrantKeeps.{txn_there, holders-within}
 use Rattle.gl_table.proofs.Less.{waiting_is}
-use Rattle.gl_table.proofs.Queues.{among_by_filter, clash, none_filtered, one_in_first}
+use Rattle.gl_table.proofs.Queues.{among_by_filter, none_filtered, one_in_first}
 use Rattle.gl_table.proofs.QueueEdits.{out_of_without, without_filter}
 use Rattle.gl_table.proofs.Tells.{is_by_test, woken_same}
 use Rattle.gl_table.proofs.Waiters.{waits_of}

@@ -1,11 +1,11 @@
 -- What is in order stays so once nodes grant from their fronts.
-use Rattle.gl_table.proofs.Words.{[], ◌&&◌, ◌==◌, ◌∙◌, ◌≡◌, ap, Bool, false, granted_at, holds, if◌then◌else◌, is_among_waiters, is_wait, IsOnWay, IsOrderly}
-use Rattle.gl_table.proofs.Words.{members, NL, NodeId, not, not_true, pumped, refl, same_mode, same_node, same_number, split, State, status_of, sym, true}
-use Rattle.gl_table.proofs.Words.{unlocked, with_grant, ℕ}
+use Rattle.gl_table.proofs.Words.{[], ◌&&◌, ◌==◌, ◌∙◌, ◌≡◌, ap, Bool, clash, false, granted_at, holds, if◌then◌else◌, is_among_waiters, is_wait, IsOnWay}
+use Rattle.gl_table.proofs.Words.{IsOrderly, members, NL, NodeId, not, not_true, pumped, refl, same_mode, same_node, same_number, split, State, status_of, sym}
+use Rattle.gl_table.proofs.Words.{true, unlocked, with_grant, ℕ}
 use Rattle.gl_table.proofs.GrantKeeps.{txn_there}
 use Rattle.gl_table.proofs.OneWaits.{waits_there}
 use Rattle.gl_table.proofs.Pumped.{woken_some}
-use Rattle.gl_table.proofs.Queues.{among_by_filter, clash, grants_other}
+use Rattle.gl_table.proofs.Queues.{among_by_filter, grants_other}
 use Rattle.gl_table.proofs.Ways.{granted_stands, left_stands, way_pumped}
 
 -- who does not wait stands in no queue

@@ -1,9 +1,9 @@
 -- The parents of a node in a lawful graph: no two alike, and at most eight.
 use Rattle.gl_table.proofs.Words.{[], ◌∙◌, ◌∷◌, ◌≡◌, ◌≤◌, all_filter, and_both, ap, are_distinct, arith, Bool, both, cases_of, false, File, first_in}
 use Rattle.gl_table.proofs.Words.{first_parent, Graph, HasShape, Index, indexes_distinct, indexes_of, Inner, Interval, interval_is, interval_of, intervals_of}
-use Rattle.gl_table.proofs.Words.{is_file_shape, is_index_of_shape, is_same_node, IsLawfulGraph, length, List, list_all, list_any, no, node_at, NodeId, nodes}
-use Rattle.gl_table.proofs.Words.{not, not_true, or_elim, or_left, or_right, parents_in, parents_of, Rec, refl, same_node, same_node_is, Shape, shape_in}
-use Rattle.gl_table.proofs.Words.{shape_of, subst, sym, true, ℕ}
+use Rattle.gl_table.proofs.Words.{is_file_shape, is_index_of_shape, IsLawfulGraph, length, List, list_all, list_any, no, node_at, NodeId, nodes, not, not_true}
+use Rattle.gl_table.proofs.Words.{or_elim, or_left, or_right, parents_in, parents_of, Rec, refl, same_node, same_node-equal, same_node-from_equal, Shape}
+use Rattle.gl_table.proofs.Words.{shape_in, shape_of, subst, sym, true, ℕ}
 
 short_intervals : (g : Graph) (is : List NodeId) (keys : List ℕ) → length (intervals_of g is keys) ≤ length is
 short_intervals g [] keys = omega arith
@@ -24,8 +24,8 @@ module _ (g : Graph) (law : IsLawfulGraph g) where
       let t = and_both _ _ h in
       or_elim (same_node p (interval_of g i key)) _ k
       (λ here.
-      let there = ap (node_at g) (same_node_is p _ here) ∙ interval_is g law f i key t.0 in
-      (ap (λ o. is_file_shape (shape_in o)) there, or_left _ _ (is_same_node (first_parent g p) i (ap (λ o. first_in (parents_in o)) there))))
+      let there = ap (node_at g) (same_node-equal p _ here) ∙ interval_is g law f i key t.0 in
+      (ap (λ o. is_file_shape (shape_in o)) there, or_left _ _ (same_node-from_equal (first_parent g p) i (ap (λ o. first_in (parents_in o)) there))))
       (λ rest. let r = interval_among f p is keys t.1 rest in (r.0, or_right (same_node (first_parent g p) i) _ r.1))
 
   intervals_distinct : (f : NodeId) (is : List NodeId) (keys : List ℕ) → are_of f is ≡ true → are_distinct is ≡ true

@@ -1,11 +1,11 @@
 -- Nodes that grant from their fronts bring the whole law back.
-use Rattle.gl_table.proofs.Words.{[], ◌++◌, ◌∙◌, ◌∷◌, ◌≡◌, ◌≤◌, Active, after_grants, age_in, ap, at_least-refl, awake, Bool, Condemned, drop, false, filter}
-use Rattle.gl_table.proofs.Words.{filter-append, front, front-after_front, front-and_rest, granted_at, if◌then◌else◌, intends, is_among_waiters, is_at_least}
-use Rattle.gl_table.proofs.Words.{is_some, is_waiter, IsCompatible, IsLawful, length, List, members, Mode, ModeFitsKind, NL, NodeId, None, not, Option, or_left}
-use Rattle.gl_table.proofs.Words.{or_right, parents_of, pumped, pumped-compatible, refl, same_mode, same_node-refl, Some, split, State, Status, status_in}
-use Rattle.gl_table.proofs.Words.{status_of, subst, sym, true, Txn, Waiter, Waiting, waits_at, woken, ℕ}
+use Rattle.gl_table.proofs.Words.{[], ◌++◌, ◌∙◌, ◌∷◌, ◌≡◌, ◌≤◌, Active, after_grants, age_in, ap, at_least-refl, awake, Bool, clash, Condemned, drop, false}
+use Rattle.gl_table.proofs.Words.{filter, filter-append, front, front-after_front, front-and_rest, granted_at, if◌then◌else◌, intends, is_among_waiters}
+use Rattle.gl_table.proofs.Words.{is_at_least, is_some, is_waiter, IsCompatible, IsLawful, length, List, members, Mode, ModeFitsKind, NL, NodeId, None, not}
+use Rattle.gl_table.proofs.Words.{Option, or_left, or_right, parents_of, pumped, pumped-compatible, refl, same_mode, same_node-refl, Some, split, State, Status}
+use Rattle.gl_table.proofs.Words.{status_in, status_of, subst, sym, true, Txn, Waiter, Waiting, waits_at, woken, ℕ}
 use Rattle.gl_table.proofs.GrantKeeps.{rule_more, more_held, txn_there, holders-within}
-use Rattle.gl_table.proofs.Queues.{ahead, ahead_is, ahead_first, ahead_after, clash, among_append, not_among, none_filtered, one_in_first, grants_other}
+use Rattle.gl_table.proofs.Queues.{ahead, ahead_is, ahead_first, ahead_after, among_append, not_among, none_filtered, one_in_first, grants_other}
 use Rattle.gl_table.proofs.Queues.{grants_one}
 use Rattle.gl_table.proofs.LawfulBut.{IsLawfulBut}
 use Rattle.gl_table.proofs.Less.{waiting_is}

@@ -1,13 +1,13 @@
 -- Lists that agree with a state still do once a node has granted from its front.
 use Rattle.gl_table.proofs.Words.{[], ◌&&◌, ◌+◌, ◌==◌, ◌||◌, ◌∙◌, ◌∷◌, ◌≡◌, ◌≢◌, ◌≤◌, after_grants, Agrees, and_both, ap, ap₂, arith, Bool, children_that}
-use Rattle.gl_table.proofs.Words.{count_by, CountsHeld, false, front_at, fun_ext, granted_at, held_by, held_children, holds, if◌then◌else◌, is_among_waiters}
-use Rattle.gl_table.proofs.Words.{is_live, is_wait, IsLawfulGraph, List, LockList, Members, members, Mode, NL, NodeId, not, not_true, or_left, or_right}
-use Rattle.gl_table.proofs.Words.{parents_of, pumped, refl, same_mode, same_mode-equal, same_node, same_node-equal, same_node-refl, same_node-sym, Some, split}
-use Rattle.gl_table.proofs.Words.{State, status_of, subst, sym, true, Waiter, Waiting, WaitWell, WakesLists, with_mode, ℕ}
+use Rattle.gl_table.proofs.Words.{clash, count_by, CountsHeld, false, front_at, fun_ext, granted_at, held_by, held_children, holds, if◌then◌else◌}
+use Rattle.gl_table.proofs.Words.{is_among_waiters, is_live, is_wait, IsLawfulGraph, List, LockList, Members, members, Mode, NL, NodeId, not, not_true, or_left}
+use Rattle.gl_table.proofs.Words.{or_right, parents_of, pumped, refl, same_mode, same_mode-equal, same_node, same_node-equal, same_node-refl, same_node-sym}
+use Rattle.gl_table.proofs.Words.{Some, split, State, status_of, subst, sym, true, Waiter, Waiting, WaitWell, WakesLists, with_mode, ℕ}
 use Rattle.gl_table.proofs.Children.{children_up}
 use Rattle.gl_table.proofs.Less.{waiting_is}
 use Rattle.gl_table.proofs.Pumped.{woken_waits}
-use Rattle.gl_table.proofs.Queues.{among_append, clash, grants_one, grants_other, none_filtered, one_in_first}
+use Rattle.gl_table.proofs.Queues.{among_append, grants_one, grants_other, none_filtered, one_in_first}
 use Rattle.gl_table.proofs.Settles.{wait_is}
 use Rattle.gl_table.proofs.Waiters.{waits_of}
 use Rattle.gl_table.proofs.Ways.{granted_and_left, granted_stands, left_at, waits_granted_and_left}

@@ -1,8 +1,8 @@
 -- A queue with a wait taken out, and one with a wait put in its place.
-use Rattle.gl_table.proofs.Words.{[], ◌&&◌, ◌++◌, ◌==◌, ◌||◌, ◌∙◌, ◌∷◌, ◌≡◌, ◌≢◌, and_both, ap, append-nil, ap₂, arith, Bool, differ-false, enters, false}
-use Rattle.gl_table.proofs.Words.{filter, filter-append, fits, front, holds, if◌then◌else◌, is_among_waiters, is_empty, is_waiter, List, Members, Mode}
+use Rattle.gl_table.proofs.Words.{[], ◌&&◌, ◌++◌, ◌==◌, ◌||◌, ◌∙◌, ◌∷◌, ◌≡◌, ◌≢◌, and_both, ap, append-nil, ap₂, arith, Bool, clash, differ-false, enters}
+use Rattle.gl_table.proofs.Words.{false, filter, filter-append, fits, front, holds, if◌then◌else◌, is_among_waiters, is_empty, is_waiter, List, Members, Mode}
 use Rattle.gl_table.proofs.Words.{nat_tests, not, or_elim, or_left, or_right, placed, refl, same_number, split, sym, true, Waiter, with_mode, without_waiter, ℕ}
-use Rattle.gl_table.proofs.Queues.{ahead, ahead_first, clash, no_cons, among_append, not_among, none_filtered}
+use Rattle.gl_table.proofs.Queues.{ahead, ahead_first, no_cons, among_append, not_among, none_filtered}
 
 same_slot : (t : ℕ) → (t == t) ≡ true
 same_slot t = grind (arith, nat_tests)

@@ -1,7 +1,7 @@
 -- Lists of waiters: who stands ahead, what a front takes, what a taken wait leaves.
-use Rattle.gl_table.proofs.Words.{[], ◌&&◌, ◌++◌, ◌==◌, ◌||◌, ◌∙◌, ◌∷◌, ◌≡◌, after_grants, ap, ap₂, arith, before_first, Bool, false, filter, if◌then◌else◌}
-use Rattle.gl_table.proofs.Words.{is_ahead, is_among_waiters, is_waiter, List, list_any-append, Members, Mode, nat_tests, not, or_left, or_no, or_right, refl}
-use Rattle.gl_table.proofs.Words.{split, sym, true, true≢false, Waiter, with_mode, ℕ}
+use Rattle.gl_table.proofs.Words.{[], ◌&&◌, ◌++◌, ◌==◌, ◌||◌, ◌∙◌, ◌∷◌, ◌≡◌, after_grants, ap, ap₂, arith, before_first, Bool, clash, false, filter}
+use Rattle.gl_table.proofs.Words.{if◌then◌else◌, is_ahead, is_among_waiters, is_waiter, List, list_any-append, Members, Mode, nat_tests, not, or_left, or_no}
+use Rattle.gl_table.proofs.Words.{or_right, refl, split, sym, true, Waiter, with_mode, ℕ}
 use Rattle.gl_table.proofs.Waiters.{both_empty}
 
 -- who stands ahead, one waiter after another
@@ -17,10 +17,6 @@ ahead_is (w ∷ q) t u = by (w.0 == t) (w.0 == u) (is_among_waiters t q) refl (a
     by : (a b c : Bool) → is_among_waiters t q ≡ c → (is_among_waiters t q && is_among_waiters u (before_first (is_waiter t) q)) ≡ ahead q t u
         → is_ahead (w ∷ q) t u ≡ ahead (w ∷ q) t u
     by a b c e h = grind (arith, nat_tests)
-
--- a test passes and fails
-pub clash : {C : Type 0} {b : Bool} → b ≡ true → b ≡ false → C
-clash h k = absurd (true≢false (sym h ∙ k))
 
 pub no_cons : {A C : Type 0} {x : A} {xs : List A} → x ∷ xs ≡ [] → C
 no_cons e = absurd (cc)

@@ -1,5 +1,5 @@
 -- One node is released: the lists agree with what is left.
-use Rattle.gl_table.proofs.Words.{◌&&◌, ◌+◌, ◌<◌, ◌==◌, ◌||◌, ◌∙◌, ◌≡◌, ◌≤◌, Active, after_grants, Agrees, ap, ap₂, arith, Bool, CanStrike, count_by}
+use Rattle.gl_table.proofs.Words.{◌&&◌, ◌+◌, ◌<◌, ◌==◌, ◌||◌, ◌∙◌, ◌≡◌, ◌≤◌, Active, after_grants, Agrees, ap, ap₂, arith, Bool, CanStrike, clash, count_by}
 use Rattle.gl_table.proofs.Words.{counted_by, CountsHeld, false, front_at, granted_at, held_by, held_children, holds, if◌then◌else◌, is_among_waiters, is_live}
 use Rattle.gl_table.proofs.Words.{is_wait, IsLawfulGraph, IsOrderly, length, List, listed_by, LockList, members, Mode, NL, NodeId, not, not_true, number_same}
 use Rattle.gl_table.proofs.Words.{parents_of, refl, same_mode, same_node, same_node-equal, same_node-refl, same_number, Some, split, State, status_of, Strikes}
@@ -8,7 +8,7 @@ use Rattle.gl_table.proofs.Children.{children_down}
 use Rattle.gl_table.proofs.OneWaits.{front_stands, well_granted}
 use Rattle.gl_table.proofs.Orderly.{in_no_queue}
 use Rattle.gl_table.proofs.Pumped.{woken_waits}
-use Rattle.gl_table.proofs.Queues.{clash, grants_other}
+use Rattle.gl_table.proofs.Queues.{grants_other}
 use Rattle.gl_table.proofs.Settles.{wait_is}
 use Rattle.gl_table.proofs.Unlocked.{agrees_unlocked, counts_unlocked, unlocked_own}
 use Rattle.gl_table.proofs.Ways.{left_stands}

@@ -1,7 +1,6 @@
 -- The set of free slots finds the lowest free seat.
-use Rattle.gl_table.proofs.Words.{[], ◌<◌, ◌∷◌, ◌≡◌, arith, false, is_free, is_free_at, length, List, nat_tests, None, Option, position, position_or_len, refl}
-use Rattle.gl_table.proofs.Words.{Seat, Some, suc, true, zero, ℕ}
-use Rattle.gl_table.proofs.Queues.{clash}
+use Rattle.gl_table.proofs.Words.{[], ◌<◌, ◌∷◌, ◌≡◌, arith, clash, false, is_free, is_free_at, length, List, nat_tests, None, Option, position, position_or_len}
+use Rattle.gl_table.proofs.Words.{refl, Seat, Some, suc, true, zero, ℕ}
 
 -- the place of the first free seat is the lowest free slot
 first : (xs : List (Option Seat)) (k : ℕ) → is_free_at xs k ≡ true → ((u : ℕ) → u < k → is_free_at xs u ≡ false) → (position_or_len is_free xs ≡ k)

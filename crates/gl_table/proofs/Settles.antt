@@ -1,12 +1,12 @@
 -- Settling always comes to an end: each turn leaves fewer that wait.
 use Rattle.gl_table.proofs.Words.{[], ◌<◌, ◌==◌, ◌∙◌, ◌∷◌, ◌≡◌, ◌≤◌, Active, age_of, ap, are_compatible, arith, AtBlock, Bool, ByWatcher, candidate-on_cycle}
-use Rattle.gl_table.proofs.Words.{Condemned, condemned, Detect, enqueued, enters_at, false, granted_at, holds, if◌then◌else◌, is_ahead, is_wait, is_waiting_at}
-use Rattle.gl_table.proofs.Words.{IsLawful, IsVictim, IsWalk, List, list_any, members, Mode, nat_tests, NL, NodeId, None, not, Option, or_elim, refl, restatus}
-use Rattle.gl_table.proofs.Words.{rules, Settled, slots, Some, split, State, Status, status_in, status_of, suc, sym, true, TxnId, Victims, Waiting, waits_for}
-use Rattle.gl_table.proofs.Words.{WaitSettles, wanted, with_grant, without_wait, zero, ℕ}
+use Rattle.gl_table.proofs.Words.{clash, Condemned, condemned, Detect, enqueued, enters_at, false, granted_at, holds, if◌then◌else◌, is_ahead, is_wait}
+use Rattle.gl_table.proofs.Words.{is_waiting_at, IsLawful, IsVictim, IsWalk, List, list_any, members, Mode, nat_tests, NL, NodeId, None, not, Option, or_elim}
+use Rattle.gl_table.proofs.Words.{refl, restatus, rules, Settled, slots, Some, split, State, Status, status_in, status_of, suc, sym, true, TxnId, Victims}
+use Rattle.gl_table.proofs.Words.{Waiting, waits_for, WaitSettles, wanted, with_grant, without_wait, zero, ℕ}
 use Rattle.gl_table.specs.Calls.{Locks}
 use Rattle.gl_table.proofs.GrantKeeps.{nl_is, txn_there}
-use Rattle.gl_table.proofs.Queues.{ahead_is, ahead_second, clash}
+use Rattle.gl_table.proofs.Queues.{ahead_is, ahead_second}
 use Rattle.gl_table.proofs.Less.{waiting_is}
 use Rattle.gl_table.proofs.Pumped.{woken_waits}
 use Rattle.gl_table.proofs.Taken.{without_wait-less, condemned-lawful, restatus_quiet}

@@ -1,11 +1,11 @@
 -- Waiters whose wanted modes do not meet the rule of the graph, and queues without them.
-use Rattle.gl_table.proofs.Words.{[], ◌&&◌, ◌+◌, ◌<◌, ◌==◌, ◌||◌, ◌∙◌, ◌∷◌, ◌≡◌, Agrees, and_both, ap, ap₂, arith, Bool, both, false, filter, filter-append}
-use Rattle.gl_table.proofs.Words.{first_not_ix, first_of_all, fits, front, fun_ext, get_or, if◌then◌else◌, intends_over, is_among_waiters, is_none, is_waiter}
-use Rattle.gl_table.proofs.Words.{is_write, length, List, list_all, list_any_at, LockList, Members, Mode, mode_of, nat_tests, NL, NodeId, None, not, not-true}
-use Rattle.gl_table.proofs.Words.{number_same, Option, or_elim, or_left, or_no, or_right, refl, Refusal, rule_refusal, slice_index_or, Some, split, State}
-use Rattle.gl_table.proofs.Words.{stays, sym, take, take_more, true, Waiter, with_mode, without_waiter, ℕ}
+use Rattle.gl_table.proofs.Words.{[], ◌&&◌, ◌+◌, ◌<◌, ◌==◌, ◌||◌, ◌∙◌, ◌∷◌, ◌≡◌, Agrees, and_both, ap, ap₂, arith, Bool, both, clash, false, filter}
+use Rattle.gl_table.proofs.Words.{filter-append, first_not_ix, first_of_all, fits, front, fun_ext, get_or, if◌then◌else◌, intends_over, is_among_waiters}
+use Rattle.gl_table.proofs.Words.{is_none, is_waiter, is_write, length, List, list_all, list_any_at, LockList, Members, Mode, mode_of, nat_tests, NL, NodeId}
+use Rattle.gl_table.proofs.Words.{None, not, not-true, number_same, Option, or_elim, or_left, or_no, or_right, refl, Refusal, rule_refusal, slice_index_or}
+use Rattle.gl_table.proofs.Words.{Some, split, State, stays, sym, take, take_more, true, Waiter, with_mode, without_waiter, ℕ}
 use Rattle.gl_waits.specs.Sets.{has_slot}
-use Rattle.gl_table.proofs.Queues.{among_append, clash}
+use Rattle.gl_table.proofs.Queues.{among_append}
 use Rattle.gl_table.proofs.Slots.{by_list-at}
 use Rattle.gl_table.proofs.Waiting.{filter_no, filter_yes}
 use Rattle.gl_table.proofs.TestsPass.{rule_met}

@@ -1,5 +1,5 @@
 -- What the calls on the locks make of a table.
-use Rattle.gl_table.proofs.Words.{[], ◌&&◌, ◌==◌, ◌∙◌, ◌∷◌, ◌≡◌, Active, Agrees, ap, AreSound, commit_tests, CountsHeld, false, first_refusal, front_at}
+use Rattle.gl_table.proofs.Words.{[], ◌&&◌, ◌==◌, ◌∙◌, ◌∷◌, ◌≡◌, Active, Agrees, ap, AreSound, clash, commit_tests, CountsHeld, false, first_refusal, front_at}
 use Rattle.gl_table.proofs.Words.{grant_notice, HasNoCycle, held_child, held_children, holds, if◌then◌else◌, is_among_waiters, is_child, is_wait, IsLawful}
 use Rattle.gl_table.proofs.Words.{IsOnWay, IsOrderly, IsSound, members, NL, NodeId, nodes, None, not_false, not_held, not_refused, not_true, Ok, Option, refl}
 use Rattle.gl_table.proofs.Words.{Refusal, released, same_number, Some, split, State, state_in, state_of, status_of, subst, sym, TableView, test_fails, Told}
@@ -11,7 +11,6 @@ use Rattle.gl_table.proofs.LockKeeps.{unlocked-lawful}
 use Rattle.gl_table.proofs.NoCycle.{released-no_cycle, unlocked-no_cycle}
 use Rattle.gl_table.proofs.Taken.{released-lawful}
 use Rattle.gl_table.proofs.OneWaits.{front_stands, well_granted}
-use Rattle.gl_table.proofs.Queues.{clash}
 use Rattle.gl_table.proofs.Orderly.{in_no_queue}
 use Rattle.gl_table.proofs.Tells.{active_untold, nobody_told, release_tells}
 use Rattle.gl_table.proofs.TestsPass.{active_in}

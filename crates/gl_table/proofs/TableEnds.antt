@@ -1,14 +1,13 @@
 -- What the ends of waits and of transactions make of a table.
-use Rattle.gl_table.proofs.Words.{[], ◌==◌, ◌||◌, ◌∙◌, ◌≡◌, Active, Agrees, ap, AreSound, Bool, cancelled, CountsHeld, Deadlock, false, front_at, granted_at}
-use Rattle.gl_table.proofs.Words.{HasNoCycle, holds, if◌then◌else◌, is_waiting_at, IsBySlot, IsLawful, IsOnWay, IsSound, List, members, NodeId, None}
-use Rattle.gl_table.proofs.Words.{notices_in, number_same, Option, refl, released, same_number, Settled, SettlesKeeping, split, State, state_in, state_of}
+use Rattle.gl_table.proofs.Words.{[], ◌==◌, ◌||◌, ◌∙◌, ◌≡◌, Active, Agrees, ap, AreSound, Bool, cancelled, clash, CountsHeld, Deadlock, false, front_at}
+use Rattle.gl_table.proofs.Words.{granted_at, HasNoCycle, holds, if◌then◌else◌, is_waiting_at, IsBySlot, IsLawful, IsOnWay, IsSound, List, members, NodeId}
+use Rattle.gl_table.proofs.Words.{None, notices_in, number_same, Option, refl, released, same_number, Settled, SettlesKeeping, split, State, state_in, state_of}
 use Rattle.gl_table.proofs.Words.{status_in, status_of, stripped, subst, sym, Told, told, told_but, told_to, true, Txn, view_of, Waiter, WakesTold}
 use Rattle.gl_table.proofs.Words.{without_wait, woken, ℕ}
 use Rattle.gl_table.specs.declared.locks.Locks.{Locks}
 use Rattle.gl_table.specs.declared.table.Table.TheInside.{Inside}
 use Rattle.gl_table.proofs.Cancelled.{cancelled_own, cancelled_tells}
 use Rattle.gl_table.proofs.NoCycle.{given_up-no_cycle, settled-no_cycle}
-use Rattle.gl_table.proofs.Queues.{clash}
 use Rattle.gl_table.proofs.SettledTable.{keeping_also, settled_also}
 use Rattle.gl_table.proofs.TableCalls.{orderly, state_released, table_way}
 use Rattle.gl_table.proofs.Taken.{settled-lawful, without_wait-lawful}

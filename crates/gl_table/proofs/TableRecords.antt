@@ -1,6 +1,6 @@
 -- Records of a table come and go: what holds of the fields still does.
-use Rattle.gl_table.proofs.Words.{[], ◌==◌, ◌∙◌, ◌≡◌, Active, addressed, age_in, age_of, Agrees, ap, are_compatible, AreSound, CountsHeld, deleted, false}
-use Rattle.gl_table.proofs.Words.{freed, FreesTold, Graph, graph_of, HasNoCycle, if◌then◌else◌, is_among_waiters, is_live, is_record_shape, is_some}
+use Rattle.gl_table.proofs.Words.{[], ◌==◌, ◌∙◌, ◌≡◌, Active, addressed, age_in, age_of, Agrees, ap, are_compatible, AreSound, clash, CountsHeld, deleted}
+use Rattle.gl_table.proofs.Words.{false, freed, FreesTold, Graph, graph_of, HasNoCycle, if◌then◌else◌, is_among_waiters, is_live, is_record_shape, is_some}
 use Rattle.gl_table.proofs.Words.{is_waiting_at, IsLawful, IsOrderly, IsSound, Mode, NL, NodeId, None, none_but, not, not_true, notice_of, number_same, Option}
 use Rattle.gl_table.proofs.Words.{other_number, refl, rules, same_mode, same_mode-equal, same_node-refl, shape_of, Some, split, State, state_in, state_of}
 use Rattle.gl_table.proofs.Words.{state_on, status_in, subst, sym, Told, told, told_from, told_to, true, Txn, TxnId, View, view_of, Waiting, with_key}
@@ -10,11 +10,10 @@ use Rattle.gl_table.specs.declared.table.Table.TheInside.{Inside}
 use Rattle.gl_table.specs.declared.notice.Notice.TheVariants as notice
 use Rattle.gl_table.proofs.Deleted.{deleted-no_cycle, deleted_lawful}
 use Rattle.gl_table.proofs.OneWaits.{stands_there, waits_there}
-use Rattle.gl_table.proofs.Queues.{clash}
 use Rattle.gl_table.proofs.TableCalls.{lawful_orderly}
 use Rattle.gl_table.proofs.Tells.{nobody_told}
 use Rattle.gl_table.proofs.ToldLists.{told_is}
-use Rattle.gl_table.proofs.Vacated.{freed_other}
+use Rattle.gl_table.proofs.Waiting.{freed_other}
 
 beside_x : (m : Mode) → are_compatible X m ≡ true → m ≡ NL
 beside_x m h = search rules

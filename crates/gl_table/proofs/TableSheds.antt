@@ -1,6 +1,6 @@
 -- A table that sheds covered children.
-use Rattle.gl_table.proofs.Words.{[], ◌&&◌, ◌+◌, ◌-◌, ◌==◌, ◌||◌, ◌∙◌, ◌∷◌, ◌≡◌, ◌≤◌, Active, Agrees, and_both, ap, AreSound, arith, Bool, cond, count_by}
-use Rattle.gl_table.proofs.Words.{count_cons, counted_by, CountsHeld, covered_children, false, granted_at, HasNoCycle, held_by, held_children, holds}
+use Rattle.gl_table.proofs.Words.{[], ◌&&◌, ◌+◌, ◌-◌, ◌==◌, ◌||◌, ◌∙◌, ◌∷◌, ◌≡◌, ◌≤◌, Active, Agrees, and_both, ap, AreSound, arith, Bool, clash, cond}
+use Rattle.gl_table.proofs.Words.{count_by, count_cons, counted_by, CountsHeld, covered_children, false, granted_at, HasNoCycle, held_by, held_children, holds}
 use Rattle.gl_table.proofs.Words.{holds_child, if◌then◌else◌, is_at_least, is_child, is_covered, is_wait, IsBySlot, IsLawful, IsOnWay, IsSound, List, list_all}
 use Rattle.gl_table.proofs.Words.{listed, members, Mode, NL, NodeId, nodes, None, not, not_true, notices_in, number_same, Option, parents_of, refl, rules, S}
 use Rattle.gl_table.proofs.Words.{same_mode, same_number, shed, Some, split, State, state_in, state_of, status_of, subst, sym, Told, told, told_to, true}
@@ -11,7 +11,7 @@ use Rattle.gl_table.proofs.Bare.{granted_waits}
 use Rattle.gl_table.proofs.Escalates.{shed-lawful}
 use Rattle.gl_table.proofs.NoCycle.{shed-no_cycle}
 use Rattle.gl_table.proofs.Orderly.{in_no_queue}
-use Rattle.gl_table.proofs.Queues.{clash, grants_other}
+use Rattle.gl_table.proofs.Queues.{grants_other}
 use Rattle.gl_table.proofs.TableCalls.{lawful_orderly, table_way}
 use Rattle.gl_table.proofs.Tells.{active_untold, nobody_told}
 use Rattle.gl_table.proofs.TestsPass.{one_found}

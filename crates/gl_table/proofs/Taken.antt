@@ -1,11 +1,11 @@
 -- What is taken away: some grants of an active transaction, a wait, a whole transaction.
-use Rattle.gl_table.proofs.Words.{◌&&◌, ◌==◌, ◌||◌, ◌∙◌, ◌≡◌, ◌≢◌, ◌⊎◌, Active, age_in, age_of, and_both, ap, ap₂, arith, Bool, Condemned, condemned, false}
-use Rattle.gl_table.proofs.Words.{holds, if◌then◌else◌, inl, inr, is_among_waiters, is_child, is_live, is_some, is_waiting_at, IsLawful, members, Mode}
+use Rattle.gl_table.proofs.Words.{◌&&◌, ◌==◌, ◌||◌, ◌∙◌, ◌≡◌, ◌≢◌, ◌⊎◌, Active, age_in, age_of, and_both, ap, ap₂, arith, Bool, clash, Condemned, condemned}
+use Rattle.gl_table.proofs.Words.{false, holds, if◌then◌else◌, inl, inr, is_among_waiters, is_child, is_live, is_some, is_waiting_at, IsLawful, members, Mode}
 use Rattle.gl_table.proofs.Words.{nat_tests, NL, NodeId, None, not, number_other, Option, or_no, other_number, pumped, refl, released, restatus, same_mode}
 use Rattle.gl_table.proofs.Words.{same_number, Settled, SettledWithin, Some, split, State, Status, status_in, status_of, subst, suc, sym, true, Txn, Victims}
 use Rattle.gl_table.proofs.Words.{Waiting, without_wait, without_waiter, zero, ℕ, ⊎_elim}
 use Rattle.gl_table.proofs.GrantKeeps.{apart, nl_is}
-use Rattle.gl_table.proofs.Queues.{ahead_is, clash}
+use Rattle.gl_table.proofs.Queues.{ahead_is}
 use Rattle.gl_table.proofs.QueueEdits.{out_of_without, without_filter, without_ahead, without_none}
 use Rattle.gl_table.proofs.Less.{IsLess, less-lawful, nl_holds}
 use Rattle.gl_table.proofs.Pumped.{pumped-lawful}

@@ -1,9 +1,8 @@
 -- A notice put in its place among notices by rising slot.
-use Rattle.gl_table.proofs.Words.{[], ◌&&◌, ◌+◌, ◌<◌, ◌==◌, ◌∙◌, ◌∷◌, ◌≡◌, ◌≤◌, and_both, ap, ap₂, arith, Bool, cond, false, get_or, if◌then◌else◌, insert}
-use Rattle.gl_table.proofs.Words.{is_rising, IsBySlot, IsNonDecreasingBy, IsPartitionedBy, IsPartitionedBy-ltb, IsPartitionPoint, length, list_all, list_all_at}
-use Rattle.gl_table.proofs.Words.{nat_le, nat_lt, nat_tests, None, Notice, notices_in, prefix_len, prefix_len_is, refl, Some, split, suc, sym, Told, true}
-use Rattle.gl_table.proofs.Words.{TxnId, Victim, zero, ℕ}
-use Rattle.gl_table.proofs.Queues.{clash}
+use Rattle.gl_table.proofs.Words.{[], ◌&&◌, ◌+◌, ◌<◌, ◌==◌, ◌∙◌, ◌∷◌, ◌≡◌, ◌≤◌, and_both, ap, ap₂, arith, Bool, clash, cond, false, get_or, if◌then◌else◌}
+use Rattle.gl_table.proofs.Words.{insert, is_rising, IsBySlot, IsNonDecreasingBy, IsPartitionedBy, IsPartitionedBy-ltb, IsPartitionPoint, length, list_all}
+use Rattle.gl_table.proofs.Words.{list_all_at, nat_le, nat_lt, nat_tests, None, Notice, notices_in, prefix_len, prefix_len_is, refl, Some, split, suc, sym}
+use Rattle.gl_table.proofs.Words.{Told, true, TxnId, Victim, zero, ℕ}
 
 abbrev Named : Type 0
 Named = TxnId × Notice

@@ -1,13 +1,12 @@
 -- What a command that is not refused may count on.
-use Rattle.gl_table.proofs.Words.{[], ◌&&◌, ◌++◌, ◌||◌, ◌∙◌, ◌∷◌, ◌≡◌, ◌≢◌, Active, active_on, and_both, ap, ap₂, bad_mode, Bool, child_held, cond, Condemned}
-use Rattle.gl_table.proofs.Words.{condemned_test, false, find, first_not_ix, first_of_all, first_refusal, held_child, holds, intends_over, IS, is_at_least}
-use Rattle.gl_table.proofs.Words.{is_child, is_live, is_record_shape, is_write, IsLawful, IX, List, list_all, list_any, listed, live_by, members, Mode}
-use Rattle.gl_table.proofs.Words.{ModeFitsKind, NL, no_parents, no_txn, NodeId, nodes, None, not, not_false, not_refused, Option, or_elim, or_left, or_no}
+use Rattle.gl_table.proofs.Words.{[], ◌&&◌, ◌++◌, ◌||◌, ◌∙◌, ◌∷◌, ◌≡◌, ◌≢◌, Active, active_on, and_both, ap, ap₂, bad_mode, Bool, child_held, clash, cond}
+use Rattle.gl_table.proofs.Words.{Condemned, condemned_test, false, find, first_not_ix, first_of_all, first_refusal, held_child, holds, intends_over, IS}
+use Rattle.gl_table.proofs.Words.{is_at_least, is_child, is_live, is_record_shape, is_write, IsLawful, IX, List, list_all, list_any, listed, live_by, members}
+use Rattle.gl_table.proofs.Words.{Mode, ModeFitsKind, NL, no_parents, no_txn, NodeId, nodes, None, not, not_false, not_refused, Option, or_elim, or_left, or_no}
 use Rattle.gl_table.proofs.Words.{or_right, refl, Refusal, rules, S, same_mode, same_node, same_node-equal, shape_of, Some, some_no_node, split, State, Status}
 use Rattle.gl_table.proofs.Words.{status_in, status_of, supremum, supremum-not_NL, sym, test_fails, true, Txn, TxnId, Waiting, waiting_test, wanted, X, ℕ}
 use Rattle.gl_modes.specs.declared.refusal.Refusal.TheVariants as no
 use Rattle.gl_table.proofs.GrantKeeps.{nl_is}
-use Rattle.gl_table.proofs.Queues.{clash}
 
 pub no_some : {A C : Type 0} {x : A} → Some x ≡ None → C
 no_some e = absurd (cc)

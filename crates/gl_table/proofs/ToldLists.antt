@@ -1,9 +1,8 @@
 -- Notices by rising slot are what is told slot after slot.
-use Rattle.gl_table.proofs.Words.{[], ◌&&◌, ◌+◌, ◌<◌, ◌==◌, ◌∙◌, ◌∷◌, ◌≡◌, ◌≤◌, addressed, age_in, age_of, and_both, ap, ap₂, arith, Bool, cond, cons_option}
-use Rattle.gl_table.proofs.Words.{false, filter, filter_map, fun_ext, if◌then◌else◌, is_rising, is_some, IsBySlot, List, list_all, nat_le, nat_lt, nat_tests}
-use Rattle.gl_table.proofs.Words.{None, not, Notice, notices_in, number_same, Option, range_with_len, refl, slots, Some, split, State, status_in, status_of}
-use Rattle.gl_table.proofs.Words.{suc, sym, Told, told, told_but, told_from, told_to, ToldButIs, ToldIs, true, Txn, TxnId, zero, ℕ}
-use Rattle.gl_table.proofs.Queues.{clash}
+use Rattle.gl_table.proofs.Words.{[], ◌&&◌, ◌+◌, ◌<◌, ◌==◌, ◌∙◌, ◌∷◌, ◌≡◌, ◌≤◌, addressed, age_in, age_of, and_both, ap, ap₂, arith, Bool, clash, cond}
+use Rattle.gl_table.proofs.Words.{cons_option, false, filter, filter_map, fun_ext, if◌then◌else◌, is_rising, is_some, IsBySlot, List, list_all, nat_le, nat_lt}
+use Rattle.gl_table.proofs.Words.{nat_tests, None, not, Notice, notices_in, number_same, Option, range_with_len, refl, slots, Some, split, State, status_in}
+use Rattle.gl_table.proofs.Words.{status_of, suc, sym, Told, told, told_but, told_from, told_to, ToldButIs, ToldIs, true, Txn, TxnId, zero, ℕ}
 use Rattle.gl_table.proofs.Tells.{quiet_told}
 
 -- what passes the test

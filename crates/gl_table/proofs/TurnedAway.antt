@@ -1,17 +1,17 @@
 -- Waits on one node that end without a grant: the state, the lists and the notices while some of them still stand.
 use Rattle.gl_table.proofs.Words.{[], ◌&&◌, ◌+◌, ◌<◌, ◌==◌, ◌||◌, ◌∙◌, ◌∷◌, ◌≡◌, ◌≤◌, Active, age_in, Agrees, and-false, and-true, ap, ap₂, arith, Bool, both}
-use Rattle.gl_table.proofs.Words.{Condemned, counted_by, false, filter, fits, freed, freed_unless, front, fun_ext, if◌then◌else◌, is_among_waiters, is_wait}
+use Rattle.gl_table.proofs.Words.{clash, counted_by, false, filter, fits, freed, freed_unless, front, fun_ext, if◌then◌else◌, is_among_waiters, is_wait}
 use Rattle.gl_table.proofs.Words.{is_waiter, IsBySlot, IsOrderly, List, list_all, LockList, members, Mode, NL, NodeId, None, none_but, not, not_true}
 use Rattle.gl_table.proofs.Words.{notices_in, Option, or-false, or_right, other_number, refl, restatus, room_by, same_mode, same_node, same_node-equal}
-use Rattle.gl_table.proofs.Words.{same_node-refl, same_number, Some, some_is, split, State, Status, status_in, status_of, Strikes, subst, sym, Told, true, Txn}
-use Rattle.gl_table.proofs.Words.{TxnId, Waiter, Waiting, waits_at, with_waiters, without_waiter, ℕ}
+use Rattle.gl_table.proofs.Words.{same_node-refl, same_number, Some, some_is, split, State, status_in, status_of, Strikes, subst, sym, Told, true, Txn, TxnId}
+use Rattle.gl_table.proofs.Words.{Waiter, Waiting, with_waiters, without_waiter, ℕ}
 use Rattle.gl_table.specs.declared.notice.Notice.TheVariants as notice
 use Rattle.gl_table.proofs.OneWaits.{stands_there, waiters_below, waits_there}
 use Rattle.gl_table.proofs.QueueEdits.{out_of_without, without_filter}
-use Rattle.gl_table.proofs.Queues.{among_by_filter, clash}
+use Rattle.gl_table.proofs.Queues.{among_by_filter}
 use Rattle.gl_table.proofs.Strays.{all_filtered, all_of_some, all_or_chosen, filter_all, stuck_front, without_chosen}
 use Rattle.gl_table.proofs.Waiters.{among_waits, some_wait}
-use Rattle.gl_table.proofs.Waiting.{any_left, one_left, one_stays}
+use Rattle.gl_table.proofs.Waiting.{any_left, one_left, one_stays, freed_other}
 
 -- the waits on n that fail a test are out of its queue, and their owners are active
 abbrev pub thinned : State → NodeId → (Waiter → Bool) → State
@@ -28,16 +28,6 @@ is_lost s n f u = is_among_waiters u (filter (λ w. not (f w)) (s.queue n))
 -- what it is told
 abbrev pub moved_notice : State → ℕ → Option (TxnId × notice.the_data)
 moved_notice s u = Some (record { slot = u; age = age_in (s.txns u) }, notice.Moved)
-
--- who does not wait on n is as it was
-pub freed_other : (n : NodeId) (x : Option Txn) → waits_at (status_in x) n ≡ false → freed n x ≡ x
-freed_other n None h = refl
-freed_other n (Some x) h = ap (λ st. Some (record { age = x.age; status = st })) (by x.status h)
-  where
-    by : (st : Status) → waits_at (Some st) n ≡ false → none_but st n ≡ st
-    by Active k = refl
-    by Condemned k = refl
-    by (Waiting q m) k = ap (λ b. if b then Active else Waiting q m) k
 
 -- who waits on n is active
 pub freed_here : (n : NodeId) (m : Mode) (x : Option Txn) → status_in x ≡ Some (Waiting n m) → freed n x ≡ restatus Active x

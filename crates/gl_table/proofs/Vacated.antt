@@ -1,7 +1,7 @@
 -- A record goes with its locks: the lists agree with what is left.
 use Rattle.gl_table.proofs.Words.{[], ◌&&◌, ◌+◌, ◌<◌, ◌==◌, ◌||◌, ◌∙◌, ◌≡◌, ◌≤◌, Active, Agrees, and-false, ap, ap₂, arith, Bool, CanFree, CanStrike}
-use Rattle.gl_table.proofs.Words.{children_that, cond, Condemned, count_by, count_none, count_same, count_there, counted_by, CountsHeld, deleted, false, freed}
-use Rattle.gl_table.proofs.Words.{FreesLists, fun_ext, Graph, held_by, held_children, holds, if◌then◌else◌, is_among_waiters, is_child, is_live}
+use Rattle.gl_table.proofs.Words.{children_that, clash, cond, Condemned, count_by, count_none, count_same, count_there, counted_by, CountsHeld, deleted, false}
+use Rattle.gl_table.proofs.Words.{freed, FreesLists, fun_ext, Graph, held_by, held_children, holds, if◌then◌else◌, is_among_waiters, is_child, is_live}
 use Rattle.gl_table.proofs.Words.{is_record_shape, is_wait, is_waiting_at, IsBySlot, IsLawfulGraph, IsOrderly, length, List, list_any, listed_by, live_node}
 use Rattle.gl_table.proofs.Words.{LockList, members, Mode, NL, node_at, NodeId, nodes, nodes_live, None, none_but, not, not_true, notices_in, number_same}
 use Rattle.gl_table.proofs.Words.{Option, parent_plain, parents_in, parents_of, rec_live, rec_not_plain, refl, restatus, same_mode, same_node, same_node-equal}
@@ -10,9 +10,8 @@ use Rattle.gl_table.proofs.Words.{true, Txn, Waiting, waits_at, was_there, witho
 use Rattle.gl_table.proofs.Children.{children_down}
 use Rattle.gl_table.proofs.OneWaits.{distinct_once, stands_there, waiters_below, waits_there}
 use Rattle.gl_table.proofs.Orderly.{stands_other}
-use Rattle.gl_table.proofs.Queues.{clash}
 use Rattle.gl_table.proofs.Settles.{wait_is}
-use Rattle.gl_table.proofs.Waiting.{still_waits}
+use Rattle.gl_table.proofs.Waiting.{still_waits, freed_other}
 
 -- no node is a child of a record
 pub record-childless : (g : Graph) → IsLawfulGraph g → (r : NodeId) → is_record_shape (shape_of g r) ≡ true → (f : NodeId → Bool) → children_that g f r ≡ 0
@@ -43,17 +42,6 @@ freed_here r (Some x) h = by x.status h
     by Active k = clash k refl
     by Condemned k = clash k refl
     by (Waiting q m) k = ap (λ b. Some (record { age = x.age; status = if b then Active else Waiting q m })) k
-
-pub freed_other : (r : NodeId) (x : Option Txn) → waits_at (status_in x) r ≡ false → freed r x ≡ x
-freed_other r None h = refl
-freed_other r (Some x) h = by x.status refl h
-  where
-    by : (st : Status) → x.status ≡ st → waits_at (Some st) r ≡ false → Some (record { age = x.age; status = none_but x.status r }) ≡ Some x
-    by Active e k = ap (λ y. Some (record { age = x.age; status = none_but y r })) e ∙ ap (λ y. Some (record { age = x.age; status = y })) (sym e)
-    by Condemned e k = ap (λ y. Some (record { age = x.age; status = none_but y r })) e ∙ ap (λ y. Some (record { age = x.age; status = y })) (sym e)
-    by (Waiting q m) e k = ap (λ y. Some (record { age = x.age; status = none_but y r })) e
-        ∙ ap (λ b. Some (record { age = x.age; status = if b then Active else Waiting q m })) k
-        ∙ ap (λ y. Some (record { age = x.age; status = y })) (sym e)
 
 -- the slot alone holds the record, and the lists say what the state says
 pub record MayVacate (s : State) (t : ℕ) (r : NodeId) (ls : List LockList) : Type 0 where

@@ -1,7 +1,7 @@
 -- Queues from which waiters are taken, and what becomes of their owners.
 use Rattle.gl_table.proofs.Words.{[], ◌||◌, ◌∙◌, ◌∷◌, ◌≡◌, Active, age_in, ap, Bool, Condemned, false, filter, freed, freed_unless, if◌then◌else◌, is_some}
 use Rattle.gl_table.proofs.Words.{List, list_any, Mode, no, NodeId, None, none_but, none_some, Option, or_elim, or_left, or_right, refl, same_node}
-use Rattle.gl_table.proofs.Words.{same_node_is, Some, some_is, split, Status, status_in, sym, true, true≢false, Txn, Waiter, Waiting, waits_at, ℕ}
+use Rattle.gl_table.proofs.Words.{same_node-equal, Some, some_is, split, Status, status_in, sym, true, true≢false, Txn, Waiter, Waiting, waits_at, ℕ}
 
 pub filter_yes : (p : Waiter → Bool) (x : Waiter) (xs : List Waiter) → p x ≡ true → filter p (x ∷ xs) ≡ x ∷ filter p xs
 filter_yes p x xs t = ap (λ b. if b then x ∷ filter p xs else filter p xs) t
@@ -83,7 +83,7 @@ waits_still n q (Some x) h other = by x.status h
     by : (st : Status) → waits_at (Some st) q ≡ true → waits_at (Some (none_but st n)) q ≡ true
     by Active h' = absurd (no h')
     by Condemned h' = absurd (no h')
-    by (Waiting p w) h' = ap (λ b. waits_at (Some (if b then Active else Waiting p w)) q) (ap (λ y. same_node y n) (same_node_is p q h') ∙ other) ∙ h'
+    by (Waiting p w) h' = ap (λ b. waits_at (Some (if b then Active else Waiting p w)) q) (ap (λ y. same_node y n) (same_node-equal p q h') ∙ other) ∙ h'
 
 pub unless_some : (keeps : ℕ → Bool) (n : NodeId) (u : ℕ) (o : Option Txn) → is_some (freed_unless keeps n u o) ≡ is_some o
 unless_some keeps n u o = split (keeps u) (λ t. ap (λ b. is_some (if b then o else freed n o)) t) (λ f. ap (λ b. is_some (if b then o else freed n o)) f
@@ -105,3 +105,13 @@ waits_unless keeps n q u o h k =
     split (keeps u) (λ t. ap (λ b. waits_at (status_in (if b then o else freed n o)) q) t ∙ h)
     (λ f. ap (λ b. waits_at (status_in (if b then o else freed n o)) q) f
     ∙ waits_still n q o h (split (same_node q n) (λ t. absurd (true≢false (sym (k t) ∙ f))) (λ e. e)))
+
+-- who does not wait on n is as it was
+pub freed_other : (n : NodeId) (x : Option Txn) → waits_at (status_in x) n ≡ false → freed n x ≡ x
+freed_other n None h = refl
+freed_other n (Some x) h = ap (λ st. Some (record { age = x.age; status = st })) (by x.status h)
+  where
+    by : (st : Status) → waits_at (Some st) n ≡ false → none_but st n ≡ st
+    by Active k = refl
+    by Condemned k = refl
+    by (Waiting q m) k = ap (λ b. if b then Active else Waiting q m) k

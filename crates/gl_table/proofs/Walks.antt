@@ -1,10 +1,9 @@
 -- Walks of a relation between finitely many numbers: whether there is one, and who is a victim.
 use Rattle.gl_table.proofs.Words.{[], ◌&&◌, ◌+◌, ◌<◌, ◌==◌, ◌||◌, ◌∙◌, ◌∷◌, ◌≡◌, ◌≢◌, ◌≤◌, AllByRecursion, and_both, ap, ap₂, arith, Bool, candidate-on_cycle}
-use Rattle.gl_table.proofs.Words.{false, Fewest, freeing-itself, if◌then◌else◌, IsCandidate, IsDistinct, IsEquivalence, IsOnCycleOf, IsOnNoCycle, IsWalk}
+use Rattle.gl_table.proofs.Words.{clash, false, Fewest, freeing-itself, if◌then◌else◌, IsCandidate, IsDistinct, IsEquivalence, IsOnCycleOf, IsOnNoCycle, IsWalk}
 use Rattle.gl_table.proofs.Words.{IsYoungest, length, length-le_from_is_member, length-range_with_len, List, list_any, nat_le, nat_tests, no_cycle-reaches}
 use Rattle.gl_table.proofs.Words.{None, not, on_cycle-reaches, Option, or_elim, or_left, or_right, range_with_len, Reaches, refl, Some, split, subst, suc, sym}
 use Rattle.gl_table.proofs.Words.{true, Victims, waits_of-less, without, Youngest, zero, ℕ, ⊤}
-use Rattle.gl_table.proofs.Queues.{clash}
 
 abbrev pub same : ℕ → ℕ → Bool
 same x y = x == y

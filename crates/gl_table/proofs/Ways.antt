@@ -1,12 +1,12 @@
 -- The way from one state to another by releases and withdrawn waits: each step keeps what is known of it.
-use Rattle.gl_table.proofs.Words.{[], ◌++◌, ◌==◌, ◌∙◌, ◌∷◌, ◌≡◌, age_in, age_of, ap, Bool, drop, false, filter-append, front-and_rest, front_at, granted_at}
-use Rattle.gl_table.proofs.Words.{if◌then◌else◌, is_among_waiters, is_waiter, is_waiting_at, IsOnWay, length, List, members, Mode, NL, NodeId, not_true}
-use Rattle.gl_table.proofs.Words.{number_other, number_same, or_left, or_right, other_number, pumped, refl, restatus, same_node, same_node-refl, same_number}
-use Rattle.gl_table.proofs.Words.{Some, split, State, Status, status_in, status_of, sym, true, Waiter, Waiting, waits_at, WayBegins, WayGivesUp, WayReleases}
-use Rattle.gl_table.proofs.Words.{with_grant, without_wait, ℕ}
+use Rattle.gl_table.proofs.Words.{[], ◌++◌, ◌==◌, ◌∙◌, ◌∷◌, ◌≡◌, age_in, age_of, ap, Bool, clash, drop, false, filter-append, front-and_rest, front_at}
+use Rattle.gl_table.proofs.Words.{granted_at, if◌then◌else◌, is_among_waiters, is_waiter, is_waiting_at, IsOnWay, length, List, members, Mode, NL, NodeId}
+use Rattle.gl_table.proofs.Words.{not_true, number_other, number_same, or_left, or_right, other_number, pumped, refl, restatus, same_node, same_node-refl}
+use Rattle.gl_table.proofs.Words.{same_number, Some, split, State, Status, status_in, status_of, sym, true, Waiter, Waiting, waits_at, WayBegins, WayGivesUp}
+use Rattle.gl_table.proofs.Words.{WayReleases, with_grant, without_wait, ℕ}
 use Rattle.gl_table.proofs.Less.{waiting_is}
 use Rattle.gl_table.proofs.Pumped.{woken_age, woken_sleeps, woken_waits}
-use Rattle.gl_table.proofs.Queues.{among_append, among_by_filter, clash, not_among, none_filtered, one_in_first}
+use Rattle.gl_table.proofs.Queues.{among_append, among_by_filter, not_among, none_filtered, one_in_first}
 use Rattle.gl_table.proofs.QueueEdits.{out_of_without, without_filter}
 use Rattle.gl_table.proofs.Taken.{IsQuiet, restatus_age, restatus_quiet}
 use Rattle.gl_table.proofs.Waiters.{waits_of}

@@ -1,16 +1,16 @@
 -- One wait is given up: the lists agree with what is left.
-use Rattle.gl_table.proofs.Words.{◌&&◌, ◌+◌, ◌<◌, ◌==◌, ◌||◌, ◌∙◌, ◌≡◌, ◌≤◌, after_grants, Agrees, ap, ap₂, AreApart, arith, Bool, children_that, count_by}
-use Rattle.gl_table.proofs.Words.{count_of, counted_by, CountsHeld, Entry, entry_of, false, front_at, fun_ext, granted_at, held_by, held_children, holds}
-use Rattle.gl_table.proofs.Words.{if◌then◌else◌, is_among_waiters, is_listed, is_live, is_some, is_wait, is_waiting_at, IsApart, IsLawfulGraph, IsOrderly}
-use Rattle.gl_table.proofs.Words.{length, length-set, List, listed_by, LockList, members, mode_in, mode_of, NL, NodeId, None, not, not_true, number_same}
-use Rattle.gl_table.proofs.Words.{Option, other_number, parents_of, pumped, refl, room_by, same_mode, same_mode-equal, same_node, same_node-equal}
+use Rattle.gl_table.proofs.Words.{◌&&◌, ◌+◌, ◌<◌, ◌==◌, ◌||◌, ◌∙◌, ◌≡◌, ◌≤◌, after_grants, Agrees, ap, ap₂, AreApart, arith, Bool, children_that, clash}
+use Rattle.gl_table.proofs.Words.{count_by, count_of, counted_by, CountsHeld, Entry, entry_of, false, front_at, fun_ext, granted_at, held_by, held_children}
+use Rattle.gl_table.proofs.Words.{holds, if◌then◌else◌, is_among_waiters, is_listed, is_live, is_some, is_wait, is_waiting_at, IsApart, IsLawfulGraph}
+use Rattle.gl_table.proofs.Words.{IsOrderly, length, length-set, List, listed_by, LockList, members, mode_in, mode_of, NL, NodeId, None, not, not_true}
+use Rattle.gl_table.proofs.Words.{number_same, Option, other_number, parents_of, pumped, refl, room_by, same_mode, same_mode-equal, same_node, same_node-equal}
 use Rattle.gl_table.proofs.Words.{same_node-sym, same_number, slice_index_or, slice_set, Some, spare, split, State, Status, status_in, status_of, subst, sym}
 use Rattle.gl_table.proofs.Words.{true, Waiter, WaitWell, WakesLists, without_wait, without_waiter, ℕ}
 use Rattle.gl_table.proofs.Less.{waiting_is}
 use Rattle.gl_table.proofs.OneWaits.{front_stands, stands_only, stands_there, well_without}
 use Rattle.gl_table.proofs.Pumped.{woken_waits}
 use Rattle.gl_table.proofs.Pumping.{agrees_pumped, counts_pumped}
-use Rattle.gl_table.proofs.Queues.{clash, grants_other}
+use Rattle.gl_table.proofs.Queues.{grants_other}
 use Rattle.gl_table.proofs.QueueEdits.{out_of_without, without_filter}
 use Rattle.gl_table.proofs.Settles.{wait_is}
 use Rattle.gl_table.proofs.Slots.{apart-set, by_list-at, by_list-set, slice_get-at, by_list-kept}

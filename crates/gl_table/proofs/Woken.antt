@@ -1,12 +1,12 @@
 -- Waiters woken one after the other.
 use Rattle.gl_table.proofs.Words.{[], ◌&&◌, ◌+◌, ◌<◌, ◌==◌, ◌^◌, ◌||◌, ◌∙◌, ◌∷◌, ◌≡◌, ◌≤◌, Active, after_grants, age_in, and_both, ap, ap₂, arith, Bool}
-use Rattle.gl_table.proofs.Words.{CanHold, CanWake, count_by, counted_by, false, fun_ext, grant_notice, held_by, Holds, if◌then◌else◌, is_among_waiters}
+use Rattle.gl_table.proofs.Words.{CanHold, CanWake, clash, count_by, counted_by, false, fun_ext, grant_notice, held_by, Holds, if◌then◌else◌, is_among_waiters}
 use Rattle.gl_table.proofs.Words.{is_distinct, is_waiter, IsBySlot, length, List, list_any_more, listed_by, LockList, Members, mode_given, nat_tests, NL}
 use Rattle.gl_table.proofs.Words.{NodeId, None, not, not-true, notices_in, Option, or-false, or_left, or_right, refl, restatus, room_by, same_mode, same_node}
 use Rattle.gl_table.proofs.Words.{same_node-equal, same_node-refl, same_number, Seat, slice_index_or, Some, split, subst, suc, sym, take, Told, true, txns_of}
 use Rattle.gl_table.proofs.Words.{unlisted_by, Waiter, Wakes, WakesLists, with_mode, zero, ℕ}
 use Rattle.gl_table.specs.declared.notice.Notice.TheVariants as notice
-use Rattle.gl_table.proofs.Queues.{clash, grants_other}
+use Rattle.gl_table.proofs.Queues.{grants_other}
 
 -- one waiter more is taken from the front
 pub among_more : (u : ℕ) (ws : List Waiter) (i : ℕ) (d : Waiter) → i < length ws

@@ -38,9 +38,11 @@ pub use Rattle.indexmap.proofs.SetLemmas.{keys_swap_remove_entry}
 pub use Rattle.indexmap.specs.Entry.{map_with_value}
 pub use Rattle.indexmap.specs.IndexMap.{index_of_by, IndexMap, insert_entry, IsUnique, keys, set_value_at, spare, swap_remove_by, Updates, values}
 pub use Rattle.indexmap.specs.IndexMap.{with_value_at}
+pub use Rattle.gl_modes.proofs.Words.{and_both, both, cases_of, no, none_some, number_other, number_same, or_elim, or_left, or_right, other_number, same_number}
+pub use Rattle.gl_modes.proofs.Words.{some_is, split, not_true, clash}
 pub use Rattle.gl_modes.proofs.ModeLemmas.{at_least-not_NL, at_least-refl, at_least-transitive, compatible-symmetric, NL-compatible, not_NL, same_mode-equal}
 pub use Rattle.gl_modes.proofs.ModeLemmas.{same_mode-refl, supremum-above, supremum-not_NL}
-pub use Rattle.gl_modes.proofs.NodeLemmas.{same_node-equal, same_node-refl, same_node-sym}
+pub use Rattle.gl_modes.proofs.NodeLemmas.{same_node-equal, same_node-refl, same_node-sym, same_node-from_equal, node_is, same_node-differ, same_node-other}
 pub use Rattle.gl_modes.specs.Modes.{are_compatible, is_at_least, same_mode, supremum}
 pub use Rattle.gl_modes.specs.Nodes.{same_node}
 pub use Rattle.gl_modes.specs.declared.mode.Mode.{Mode}
@@ -58,9 +60,8 @@ pub use Rattle.gl_graph.proofs.Distinct.{indexes_distinct, nodes_distinct}
 pub use Rattle.gl_graph.proofs.FirstOf.{passed_then, refused_first}
 pub use Rattle.gl_graph.proofs.KindRules.{interval_is, is_plain, parent_plain, rec_not_plain}
 pub use Rattle.gl_graph.proofs.Left.{count_there}
-pub use Rattle.gl_graph.proofs.Look.{all_at, all_filter, and_both, both, cases_of, found_at, is_same_node, live_node, no, node_is, node_other, none_some}
-pub use Rattle.gl_graph.proofs.Look.{number_other, number_same, or_elim, or_left, or_right, other_node, other_number, same_node_is, same_node_refl, same_number}
-pub use Rattle.gl_graph.proofs.Look.{some_is, split, there_is}
+pub use Rattle.gl_graph.proofs.Look.{all_at, all_filter, found_at, live_node}
+pub use Rattle.gl_graph.proofs.Look.{there_is}
 pub use Rattle.gl_graph.proofs.Moved.{any_found, file_of_record, movable_alike, move_lawful, rec_alike, rekey_lawful, rekeyed_is, some_at, with_parents_is}
 pub use Rattle.gl_graph.proofs.NewIndex.{index_lawful}
 pub use Rattle.gl_graph.proofs.NewNodes.{file_lawful, inner_lawful, record_lawful}
@@ -85,7 +86,7 @@ pub use Rattle.gl_graph.specs.View.{graph_of, View}
 pub use Rattle.gl_header.proofs.Fits.{enters-limit, fits-all, fits-from_all, fits-limit}
 pub use Rattle.gl_header.proofs.Fronts.{front-after_front, front-and_rest, front-limit, front-waited, pumped-compatible}
 pub use Rattle.gl_header.proofs.GroupOf.{group_of-limit, group_of-unique}
-pub use Rattle.gl_header.proofs.Ranges.{by_test, differ-false, not_true, range-each}
+pub use Rattle.gl_header.proofs.Ranges.{differ-false, range-each}
 pub use Rattle.gl_header.proofs.Unused.{unused-nobody, unused-true}
 pub use Rattle.gl_header.specs.Answers.{asked_members, asked_queue}
 pub use Rattle.gl_header.specs.Header.{after_grants, AreBelow, enters, fits, front, group_of, holds, is_ahead, is_among_waiters, is_empty, is_waiter}

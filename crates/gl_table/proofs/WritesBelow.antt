@@ -1,11 +1,10 @@
 -- Whether some child is held to write, asked of what is listed.
-use Rattle.gl_table.proofs.Words.{[], ◌&&◌, ◌||◌, ◌∙◌, ◌∷◌, ◌≡◌, and_both, any_found, ap, ap₂, Bool, false, fun_ext, Graph, graph_of, held_by, is_child}
+use Rattle.gl_table.proofs.Words.{[], ◌&&◌, ◌||◌, ◌∙◌, ◌∷◌, ◌≡◌, and_both, any_found, ap, ap₂, Bool, clash, false, fun_ext, Graph, graph_of, held_by, is_child}
 use Rattle.gl_table.proofs.Words.{is_live, is_write, IsLawfulGraph, IsSound, keys, List, list_any, listed, LockList, Mode, mode_of, NL, NodeId, nodes, None}
 use Rattle.gl_table.proofs.Words.{not, not_true, option_map_or, refl, same_mode, same_node, slice_get, split, state_of, sym, TableView, true, view_of, ℕ}
 use Rattle.gl_table.specs.declared.table.Table.TheInside.{Inside}
 use Rattle.gl_table.proofs.FirstChild.{held_listed}
 use Rattle.gl_table.proofs.Queries.{modes-seen}
-use Rattle.gl_table.proofs.Queues.{clash}
 use Rattle.gl_table.proofs.TestsPass.{one_found}
 use Rattle.gl_table.proofs.GrantKeeps.{write_held}
 

@@ -1,7 +1,7 @@
 use Rattle.std.specs.Prelude.{Err, Result}
 use Rattle.std.proofs.Common.{ap, refl, rules, subst, sym, ◌≡◌}
+use Rattle.gl_modes.proofs.Words.{no}
 use Rattle.gl_modes.specs.declared.refusal.Refusal.{Refusal}
-use Rattle.gl_graph.proofs.Look.{no}
 use Rattle.gl_table.specs.declared.outcome.Locked.{Locked}
 use Rattle.gl_table.specs.Deadlocks.{LocksKeeping}
 use Rattle.gl_table.specs.Refusals.{lock_tests}

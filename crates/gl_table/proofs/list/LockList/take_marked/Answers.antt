@@ -1,5 +1,5 @@
 use Rattle.gl_table.proofs.Words.{◌∙◌, ◌≤◌, ap, count_by, count_of, if◌then◌else◌, is_listed, is_some, is_some-lookup, keys, keys_swap_remove_entry, List}
-use Rattle.gl_table.proofs.Words.{mode_of, NL, node_other, NodeId, option_map, other_node, same_mode, same_node, slice_get-map, subst, sym, ℕ}
+use Rattle.gl_table.proofs.Words.{mode_of, NL, NodeId, option_map, same_mode, same_node, same_node-differ, same_node-other, slice_get-map, subst, sym, ℕ}
 use Rattle.gl_table.proofs.GrantKeeps.{nl_is}
 use Rattle.gl_table.proofs.MarkedPlaces.{first_or_later, held_not, not_taken, still_passed, still_within}
 use Rattle.gl_table.proofs.list.LockList.take_marked.Goals as goal
@@ -26,8 +26,9 @@ returns-clause-passed c =
     (slice_get-map (λ e. e.0) es c.args.at ∙ ap (option_map (λ e. e.0)) (sym c.in_ok-node.ensures.entry))
     (λ q. same_mode (mode_of c.args.self.now q) NL) (λ q. same_mode (mode_of c.count_down.new.self q) NL)
     (λ q other. ap (λ m. same_mode m NL) (c.count_down.ensures.modes q ∙ c.leave.ensures.modes q
-    ∙ ap (λ b. if b then NL else mode_of c.args.self.now q) (node_other q node other)))
-    (λ q there. other_node q node (not_taken (is_listed c.args.self.now q) (same_node q node) (sym (c.count_down.ensures.listed q ∙ c.leave.ensures.listed q)
+    ∙ ap (λ b. if b then NL else mode_of c.args.self.now q) (same_node-differ q node other)))
+    (λ q there. same_node-other q node (not_taken (is_listed c.args.self.now q) (same_node q node)
+    (sym (c.count_down.ensures.listed q ∙ c.leave.ensures.listed q)
     ∙ is_some-lookup (same_node q) c.count_down.new.self.entries.entries ∙ there)))
     c.requires.passed
 

@@ -1,6 +1,6 @@
-use Rattle.gl_table.proofs.Words.{◌&&◌, ◌+◌, ◌<◌, ◌^◌, ◌∙◌, ◌≡◌, ◌≤◌, Agrees, and-false, ap, ap₂, arith, Asked, asked_at, count_by, count_of, enters_at, false}
-use Rattle.gl_table.proofs.Words.{graph_of, held_of, holds, if◌then◌else◌, is_granted_at, members, mode_of, NL, not, not-false, not-true, parents_of, refl}
-use Rattle.gl_table.proofs.Words.{rules, same_mode, same_node, spare, state_in, subst, supremum, sym, true, unlisted, wanted, with_item, ℕ}
+use Rattle.gl_table.proofs.Words.{◌&&◌, ◌+◌, ◌<◌, ◌^◌, ◌∙◌, ◌≡◌, ◌≤◌, Agrees, and-false, ap, ap₂, arith, Asked, asked_at, clash, count_by, count_of, enters_at}
+use Rattle.gl_table.proofs.Words.{false, graph_of, held_of, holds, if◌then◌else◌, is_granted_at, members, mode_of, NL, not, not-false, not-true, parents_of}
+use Rattle.gl_table.proofs.Words.{refl, rules, same_mode, same_node, spare, state_in, subst, supremum, sym, true, unlisted, wanted, with_item, ℕ}
 use Rattle.gl_header.specs.declared.header.Asked.TheVariants as asked
 use Rattle.gl_table.proofs.Asks.{MayAsk, own-apart, own-few, own-listed, own-mode, own-room, parents-room, roomy_may, roomy_ready, roomy_same, roomy_says}
 use Rattle.gl_table.proofs.Asks.{says_is, slot-listed, state-same}
@@ -8,7 +8,6 @@ use Rattle.gl_table.proofs.Enqueues.{HasWait, IsEnqueued, has_wait-set, is_enque
 use Rattle.gl_table.proofs.Grants.{IsGranted, answer-enters, answer-waits, is_granted}
 use Rattle.gl_table.proofs.GrantKeeps.{nl_is}
 use Rattle.gl_table.proofs.Listed.{also_held, also_listed, counts-set, has_node-set, none_more}
-use Rattle.gl_table.proofs.Queues.{clash}
 use Rattle.gl_table.proofs.Slots.{kept-apart}
 use Rattle.gl_table.proofs.locks.Locks.ask.Goals.{After-make_room_to_ask, After-count_up, After-set_mode, After-set_status, then-not-is_member}
 use Rattle.gl_table.proofs.locks.Locks.ask.Goals.{else-not-is_member}

@@ -1,5 +1,4 @@
-use Rattle.gl_table.proofs.Words.{◌∙◌, ◌≡◌, ap, is_wait, Option, rules, Seat, Some, status_in, sym, true, Txn, txn_in}
-use Rattle.gl_table.proofs.Queues.{clash}
+use Rattle.gl_table.proofs.Words.{◌∙◌, ◌≡◌, ap, clash, is_wait, Option, rules, Seat, Some, status_in, sym, true, Txn, txn_in}
 use Rattle.gl_table.proofs.locks.Locks.stuck.Goals.{in_default-via-in-Some+in_default, in_default-via-in_default}
 use Rattle.gl_table.proofs.locks.Locks.stuck.Goals as goal
 
