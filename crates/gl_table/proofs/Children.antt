@@ -1,6 +1,6 @@
 -- How many children of a node pass a test, once one child more or less passes it.
-use Rattle.gl_table.proofs.Words.{[], ◌&&◌, ◌+◌, ◌||◌, ◌∙◌, ◌∷◌, ◌≡◌, and_both, ap, ap₂, are_distinct, arith, Bool, children_that, ChildrenDown, ChildrenFew}
-use Rattle.gl_table.proofs.Words.{ChildrenUp, cond, count_by, count_by-le-length, count_cons, false, FewParents, is_child, List, list_any, listed, no, NodeId}
+use Rattle.gl_table.proofs.Words.{[], ◌&&◌, ◌+◌, ◌||◌, ◌∙◌, ◌∷◌, ◌≡◌, ◌≤◌, and_both, ap, ap₂, are_distinct, arith, Bool, children_that, cond, count_by}
+use Rattle.gl_table.proofs.Words.{count_by-le-length, count_cons, false, Graph, is_child, is_live, IsLawfulGraph, length, List, list_any, listed, no, NodeId}
 use Rattle.gl_table.proofs.Words.{nodes, nodes_distinct, not, not_true, or_elim, or_left, or_right, parents_of, refl, same_node, same_node-equal}
 use Rattle.gl_table.proofs.Words.{same_node-refl, same_node-sym, split, sym, true, ℕ}
 use Rattle.gl_table.proofs.Parents.{parents_distinct, parents_few}
@@ -59,7 +59,10 @@ count_self p (x ∷ xs) d =
     nothing : (k : ℕ) → 0 + k ≡ k
     nothing k = omega arith
 
-pub children_up : ChildrenUp
+-- one child more passes the test: each of its parents has one more
+pub children_up : (g : Graph) → IsLawfulGraph g → (f f' : NodeId → Bool) (n : NodeId) → is_live g n ≡ true → f n ≡ false → f' n ≡ true
+    → ((q : NodeId) → same_node q n ≡ false → f' q ≡ f q)
+    → (p : NodeId) → children_that g f' p ≡ children_that g f p + count_by (same_node p) (parents_of g n)
 children_up g law f f' n live was now same p =
     count_one (λ c. is_child g p c && f c) (λ c. is_child g p c && f' c) n (is_child g p n) (nodes g) (nodes_distinct g) (listed g law n live)
     (ap (λ b. is_child g p n && b) was ∙ and_no (is_child g p n)) (ap (λ b. is_child g p n && b) now ∙ and_yes (is_child g p n))
@@ -75,14 +78,18 @@ children_up g law f f' n live was now same p =
     and_yes false = refl
 
 -- one less is one more, the other way round
-pub children_down : ChildrenDown
+pub children_down : (g : Graph) → IsLawfulGraph g → (f f' : NodeId → Bool) (n : NodeId) → is_live g n ≡ true → f n ≡ true → f' n ≡ false
+    → ((q : NodeId) → same_node q n ≡ false → f' q ≡ f q)
+    → (p : NodeId) → children_that g f' p + count_by (same_node p) (parents_of g n) ≡ children_that g f p
 children_down g law f f' n live was now same p = sym (children_up g law f' f n live now was (λ q e. sym (same q e)) p)
 
-pub children_few : ChildrenFew
+-- and there are at most as many as nodes
+pub children_few : (g : Graph) → IsLawfulGraph g → (f : NodeId → Bool) (p : NodeId) → children_that g f p ≤ 65536
 children_few g law f p =
     let few = count_by-le-length (λ c. is_child g p c && f c) (nodes g) in
     let room = law.room in
     omega arith
 
-pub few_parents : FewParents
+-- a node has at most eight parents
+pub few_parents : (g : Graph) → IsLawfulGraph g → (n : NodeId) → length (parents_of g n) ≤ 8
 few_parents g law n = parents_few g law n

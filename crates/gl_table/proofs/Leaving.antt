@@ -1,9 +1,9 @@
 -- To release all of a transaction is to leave one node after the other.
-use Rattle.gl_table.proofs.Words.{[], ◌&&◌, ◌==◌, ◌||◌, ◌∙◌, ◌≡◌, AbortIsRelease, Active, and_both, ap, ap₂, Bool, cancelled, clash, Condemned, false, fun_ext}
-use Rattle.gl_table.proofs.Words.{granted_at, holds, if◌then◌else◌, is_among_waiters, is_waiting_at, LeftAll, LeftOne, members, Mode, NL, NodeId, None, not}
-use Rattle.gl_table.proofs.Words.{not_true, number_same, Option, or-false, or_comm, pumped, refl, restatus, same_mode, same_node, same_node-equal}
-use Rattle.gl_table.proofs.Words.{same_node-sym, Some, State, Status, status_in, stripped, sym, true, Txn, Waiting, waits_at, with_grant, with_txn}
-use Rattle.gl_table.proofs.Words.{without_wait, without_waiter, woken, ℕ}
+use Rattle.gl_table.proofs.Words.{[], ◌&&◌, ◌==◌, ◌||◌, ◌∙◌, ◌≡◌, Active, and_both, ap, ap₂, Bool, cancelled, clash, Condemned, false, fun_ext, granted_at}
+use Rattle.gl_table.proofs.Words.{HasLeft, holds, if◌then◌else◌, is_among_waiters, is_waiting_at, members, Mode, NL, NodeId, None, not, not_true, number_same}
+use Rattle.gl_table.proofs.Words.{Option, or-false, or_comm, pumped, refl, released, restatus, same_mode, same_node, same_node-equal, same_node-sym, Some}
+use Rattle.gl_table.proofs.Words.{State, Status, status_in, stripped, sym, true, Txn, unlocked, Waiting, waits_at, with_grant, with_txn, without_wait}
+use Rattle.gl_table.proofs.Words.{without_waiter, woken, ℕ}
 use Rattle.gl_table.proofs.GrantKeeps.{nl_is}
 use Rattle.gl_table.proofs.Pumps.{pumped-pumped}
 use Rattle.gl_table.proofs.Queues.{grants_other}
@@ -54,7 +54,10 @@ stripped_pumped s t P out free =
     ∙ stripped_after s t P (λ q. false) out (λ n h _. free n h)
     ∙ ap (pumped (stripped s t)) (fun_ext (λ n. or-false (P n)))
 
-pub left_one : LeftOne
+-- leaving one node more
+pub left_one : (s now : State) (t : ℕ) (n : NodeId) (left : NodeId → Bool) → now.most ≡ s.most → ((q : NodeId) → is_among_waiters t (now.queue q) ≡ false)
+    → left n ≡ false → HasLeft s t left now
+    → HasLeft s t (λ q. left q || same_node n q) (unlocked now t n)
 left_one s now t n left most out off was =
     stripped_pumped (with_grant now t n NL) t (same_node n) out freed
     ∙ ap (λ x. pumped x (same_node n)) (stripped_grant now t n NL ∙ was)
@@ -64,11 +67,13 @@ left_one s now t n left most out off was =
     freed : (q : NodeId) → same_node n q ≡ true → (with_grant now t n NL).held t q ≡ NL
     freed q h = ap₂ (λ a b. if a && b then NL else now.held t q) (number_same t t refl) (same_node-sym q n ∙ h)
 
-pub left_all : LeftAll
+-- where all were left that t held, t is released
+pub left_all : (s now : State) (t : ℕ) → ((q : NodeId) → now.held t q ≡ NL) → ((q : NodeId) → is_among_waiters t (now.queue q) ≡ false)
+    → HasLeft s t (λ n. holds (members s n) t || is_waiting_at s t n) now → released s t ≡ with_txn now t None
 left_all s now t free out was = sym was ∙ stripped_free now t free out
 
 -- what t's node grants with t's grant there, and then once it is gone, is what it grants at once without t
-pub abort_is_release : AbortIsRelease
+pub abort_is_release : (s : State) (t : ℕ) → released s t ≡ released (cancelled s t) t
 abort_is_release s t =
     ap₂ pumped (sym (stripped_wait s t Active)) (fun_ext (λ n. or_comm (holds (members s n) t) (is_waiting_at s t n)))
     ∙ sym (stripped_after (without_wait s t Active) t (is_waiting_at s t) (λ n. holds (members s n) t) out free)

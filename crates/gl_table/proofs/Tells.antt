@@ -1,10 +1,9 @@
 -- What the steps of a way tell: who is granted, who gives its wait up, and all others what they were told before.
-use Rattle.gl_table.proofs.Words.{[], ◌&&◌, ◌==◌, ◌∙◌, ◌∷◌, ◌≡◌, Active, ActiveUntold, addressed, age_of, ap, ap₂, awake, Bool, CancelTells, Condemned, false}
-use Rattle.gl_table.proofs.Words.{front_at, GoneTells, grant_notice, granted_at, if◌then◌else◌, is_among_waiters, is_live, is_waiting_at, IsOnWay, List}
-use Rattle.gl_table.proofs.Words.{members, Mode, mode_given, NL, NobodyTold, NodeId, None, not, notice_of, Option, pumped, refl, ReleaseTells, same_mode}
-use Rattle.gl_table.proofs.Words.{same_mode-refl, same_node, same_node-equal, same_node-refl, same_number, Some, split, State, Status, status_in, status_of}
-use Rattle.gl_table.proofs.Words.{sym, told_from, told_to, true, Txn, TxnId, VictimTells, Waiter, Waiting, waits_at, with_grant, with_txn, without_wait, woken}
-use Rattle.gl_table.proofs.Words.{ℕ}
+use Rattle.gl_table.proofs.Words.{[], ◌&&◌, ◌==◌, ◌∙◌, ◌∷◌, ◌≡◌, Active, addressed, age_of, ap, ap₂, awake, Bool, Condemned, false, front_at, grant_notice}
+use Rattle.gl_table.proofs.Words.{granted_at, if◌then◌else◌, is_among_waiters, is_live, is_waiting_at, IsOnWay, List, members, Mode, mode_given, NL, NodeId}
+use Rattle.gl_table.proofs.Words.{None, not, notice_of, Option, pumped, refl, same_mode, same_mode-refl, same_node, same_node-equal, same_node-refl}
+use Rattle.gl_table.proofs.Words.{same_number, Some, split, State, Status, status_in, status_of, sym, told_from, told_to, true, Txn, TxnId, unlocked, Waiter}
+use Rattle.gl_table.proofs.Words.{Waiting, waits_at, with_grant, with_txn, without_wait, woken, ℕ}
 use Rattle.gl_table.specs.declared.notice.Notice.TheVariants as notice
 use Rattle.gl_table.proofs.Follows.{SameGrants}
 use Rattle.gl_table.proofs.Queues.{grants_one, grants_other}
@@ -118,17 +117,26 @@ wait_over_told s now t n m st quiet waits way u =
     ap (λ o. told_to s (pumped (without_wait now t st) (waits_at o)) u) waits
     ∙ pumped_told s (without_wait now t st) (way_without_wait s now way t st quiet) n u
 
-pub release_tells : ReleaseTells
+-- of a release all others are told who are granted
+pub release_tells : (s now : State) (t : ℕ) (n : NodeId) → IsOnWay s now → (u : ℕ) → (u == t) ≡ false
+    → told_to s (unlocked now t n) u
+    ≡ (if is_among_waiters u (front_at (with_grant now t n NL) n) then grant_notice s.txns n (front_at (with_grant now t n NL) n) u else told_to s now u)
 release_tells s now t n way u e =
     pumped_told s (with_grant now t n NL) (way_with_grant s now way t n NL) n u
     ∙ ap (λ x. if is_among_waiters u (front_at (with_grant now t n NL) n) then grant_notice s.txns n (front_at (with_grant now t n NL) n) u else x)
     (ap (addressed (record { slot = u; age = age_of s u }))
     (told_same now (with_grant now t n NL) u refl refl (λ q. ap (λ b. if b && same_node q n then NL else now.held u q) e) (status_of s u)))
 
-pub active_untold : ActiveUntold
+-- who was active from the beginning is told nothing
+pub active_untold : (s now : State) (t : ℕ) → status_of s t ≡ Some Active → told_to s now t ≡ None
 active_untold s now t is = told_waits s now t Active (λ q m h. cc) is
 
-pub victim_tells : VictimTells
+-- of a wait given up by a victim it is told, and those who are granted
+pub victim_tells : (s now : State) (t : ℕ) (n : NodeId) (m : Mode) → status_of now t ≡ Some (Waiting n m) → IsOnWay s now → (u : ℕ)
+    → told_to s (pumped (without_wait now t Condemned) (is_waiting_at now t)) u
+    ≡ (if is_among_waiters u (front_at (without_wait now t Condemned) n)
+    then grant_notice s.txns n (front_at (without_wait now t Condemned) n) u
+    else (if u == t then Some (record { slot = t; age = age_of s t }, notice.Victim) else told_to s now u))
 victim_tells s now t n m waits way u =
     wait_over_told s now t n m Condemned (λ q w h. cc) waits way u
     ∙ ap (λ x. if is_among_waiters u (front_at (without_wait now t Condemned) n) then grant_notice s.txns n (front_at (without_wait now t Condemned) n) u
@@ -142,7 +150,11 @@ victim_tells s now t n m waits way u =
     over : told_to s (without_wait now t Condemned) u ≡ (if u == t then Some (record { slot = t; age = age_of s t }, notice.Victim) else told_to s now u)
     over = is_by_test (u == t) (λ e. ap (told_to s (without_wait now t Condemned)) (same_number u t e) ∙ own) (without_wait_told s now t Condemned u)
 
-pub cancel_tells : CancelTells
+-- of a wait taken back all others are told who are granted
+pub cancel_tells : (s now : State) (t : ℕ) (n : NodeId) (m : Mode) → status_of now t ≡ Some (Waiting n m) → IsOnWay s now → (u : ℕ) → (u == t) ≡ false
+    → told_to s (pumped (without_wait now t Active) (is_waiting_at now t)) u
+    ≡ (if is_among_waiters u (front_at (without_wait now t Active) n) then grant_notice s.txns n (front_at (without_wait now t Active) n) u
+    else told_to s now u)
 cancel_tells s now t n m waits way u other =
     wait_over_told s now t n m Active (λ q w h. cc) waits way u
     ∙ ap (λ x. if is_among_waiters u (front_at (without_wait now t Active) n) then grant_notice s.txns n (front_at (without_wait now t Active) n) u else x)
@@ -158,7 +170,8 @@ quiet_told s now u same = by (status_of s u) refl
     by (Some Condemned) e = refl
     by (Some (Waiting n m)) e = ap (λ o. addressed (record { slot = u; age = age_of s u }) (notice_of now u n m o)) (same ∙ e)
 
-pub nobody_told : NobodyTold
+-- at the beginning nobody is told
+pub nobody_told : (s : State) (u : ℕ) → told_to s s u ≡ None
 nobody_told s u = quiet_told s s u refl
 
 -- who is gone is told nothing
@@ -171,7 +184,8 @@ gone_untold s now u gone = by (status_of s u)
     by (Some Condemned) = refl
     by (Some (Waiting n m)) = ap (λ o. addressed (record { slot = u; age = age_of s u }) (notice_of now u n m o)) gone
 
-pub gone_tells : GoneTells
+-- when t is gone, all others are told what they were
+pub gone_tells : (s now : State) (t u : ℕ) → told_to s (with_txn now t None) u ≡ (if u == t then None else told_to s now u)
 gone_tells s now t u =
     is_by_test (u == t) (λ e. gone_untold s (with_txn now t None) u (ap (λ b. status_in (if b then None else now.txns u)) e))
     (λ e. ap (addressed (record { slot = u; age = age_of s u }))

@@ -1,8 +1,8 @@
 -- Notices by rising slot are what is told slot after slot.
 use Rattle.gl_table.proofs.Words.{[], ◌&&◌, ◌+◌, ◌<◌, ◌==◌, ◌∙◌, ◌∷◌, ◌≡◌, ◌≤◌, addressed, age_in, age_of, and_both, ap, ap₂, arith, Bool, clash, cond}
-use Rattle.gl_table.proofs.Words.{cons_option, false, filter, filter_map, fun_ext, if◌then◌else◌, is_rising, is_some, IsBySlot, List, list_all, nat_le, nat_lt}
-use Rattle.gl_table.proofs.Words.{nat_tests, None, not, Notice, notices_in, number_same, Option, range_with_len, refl, slots, Some, split, State, status_in}
-use Rattle.gl_table.proofs.Words.{status_of, suc, sym, Told, told, told_but, told_from, told_to, ToldButIs, ToldIs, true, Txn, TxnId, zero, ℕ}
+use Rattle.gl_table.proofs.Words.{cons_option, false, filter, filter_map, fun_ext, if◌then◌else◌, is_rising, is_some, IsBySlot, IsLawful, List, list_all}
+use Rattle.gl_table.proofs.Words.{nat_le, nat_lt, nat_tests, None, not, Notice, notices_in, number_same, Option, range_with_len, refl, slots, Some, split}
+use Rattle.gl_table.proofs.Words.{State, status_in, status_of, suc, sym, Told, told, told_but, told_from, told_to, true, Txn, TxnId, zero, ℕ}
 use Rattle.gl_table.proofs.Tells.{quiet_told}
 
 -- what passes the test
@@ -122,7 +122,8 @@ pub told_in_order : (s now : State) → ((u : ℕ) → is_some (s.txns u) ≡ tr
     → ((u : ℕ) → notices_in xs u ≡ told_to s now u) → xs ≡ told s now
 told_in_order s now below xs sorted each = rising_all (told_to s now) s.most xs sorted.rising each (λ u h. below u (told_lives s now u h))
 
-pub told_is : ToldIs
+-- notices by rising slot that are those of each slot are what is told
+pub told_is : (s now : State) (xs : Told) → IsLawful s → s.most ≤ 128 → IsBySlot xs → ((u : ℕ) → notices_in xs u ≡ told_to s now u) → xs ≡ told s now
 told_is s now xs law most sorted each = told_in_order s now law.slots_below xs sorted each
 
 -- what is told from two states is the same but for t, where they agree on all others
@@ -158,7 +159,9 @@ kept_name t name (Some x) = by (name.slot == t)
     by true = refl
     by false = refl
 
-pub told_but_is : ToldButIs
+-- the same with the caller left out
+pub told_but_is : (s now : State) (t : ℕ) (xs : Told) → IsLawful s → s.most ≤ 128 → IsBySlot xs
+    → ((u : ℕ) → notices_in xs u ≡ (if u == t then None else told_to s now u)) → xs ≡ told_but t s now
 told_but_is s now t xs law most sorted each =
     rising_all (λ u. if u == t then None else told_to s now u) s.most xs sorted.rising each (λ u h. law.slots_below u (told_lives s now u (but u (u == t) h)))
     ∙ ap (λ f. filter_map f (slots s)) (fun_ext (λ u. sym (kept_name t (record { slot = u; age = age_of s u }) (told_from now u (status_of s u)))))

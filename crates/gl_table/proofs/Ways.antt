@@ -1,9 +1,9 @@
 -- The way from one state to another by releases and withdrawn waits: each step keeps what is known of it.
 use Rattle.gl_table.proofs.Words.{[], ◌++◌, ◌==◌, ◌∙◌, ◌∷◌, ◌≡◌, age_in, age_of, ap, Bool, clash, drop, false, filter-append, front-and_rest, front_at}
-use Rattle.gl_table.proofs.Words.{granted_at, if◌then◌else◌, is_among_waiters, is_waiter, is_waiting_at, IsOnWay, length, List, members, Mode, NL, NodeId}
-use Rattle.gl_table.proofs.Words.{not_true, number_other, number_same, or_left, or_right, other_number, pumped, refl, restatus, same_node, same_node-refl}
-use Rattle.gl_table.proofs.Words.{same_number, Some, split, State, Status, status_in, status_of, sym, true, Waiter, Waiting, waits_at, WayBegins, WayGivesUp}
-use Rattle.gl_table.proofs.Words.{WayReleases, with_grant, without_wait, ℕ}
+use Rattle.gl_table.proofs.Words.{granted_at, if◌then◌else◌, is_among_waiters, is_waiter, is_waiting_at, IsLawful, IsOnWay, length, List, members, Mode, NL}
+use Rattle.gl_table.proofs.Words.{NodeId, not_true, number_other, number_same, or_left, or_right, other_number, pumped, refl, restatus, same_node}
+use Rattle.gl_table.proofs.Words.{same_node-refl, same_number, Some, split, State, Status, status_in, status_of, sym, true, unlocked, Waiter, Waiting, waits_at}
+use Rattle.gl_table.proofs.Words.{with_grant, without_wait, ℕ}
 use Rattle.gl_table.proofs.Less.{waiting_is}
 use Rattle.gl_table.proofs.Pumped.{woken_age, woken_sleeps, woken_waits}
 use Rattle.gl_table.proofs.Queues.{among_append, among_by_filter, not_among, none_filtered, one_in_first}
@@ -105,7 +105,8 @@ module _ (s now : State) (way : IsOnWay s now) where
     live = way.live;
   }
 
-pub way_begins : WayBegins
+-- the way begins anywhere
+pub way_begins : (s : State) → IsLawful s → IsOnWay s s
 way_begins s law = record {
   graph = refl;
   ages = λ u. refl;
@@ -115,8 +116,12 @@ way_begins s law = record {
   live = λ u q m h. law.waits_live u q (among_by_filter u (u, m) [] (s.queue q) (law.one_wait u q m h));
 }
 
-pub way_releases : WayReleases
+-- and goes on by the release of a node
+pub way_releases : (s now : State) (t : ℕ) (n : NodeId) → IsOnWay s now → IsOnWay s (unlocked now t n)
 way_releases s now t n way = way_pumped s (with_grant now t n NL) (way_with_grant s now way t n NL) (same_node n)
 
-pub way_gives_up : WayGivesUp
+-- or by a wait that is given up, with another status
+pub way_gives_up : (s now : State) (t : ℕ) (n : NodeId) (m : Mode) (st : Status) → ((q : NodeId) (w : Mode) → Some st ≡ Some (Waiting q w) → ⊥)
+    → status_of now t ≡ Some (Waiting n m) → IsOnWay s now
+    → IsOnWay s (pumped (without_wait now t st) (is_waiting_at now t))
 way_gives_up s now t n m st quiet waits way = way_pumped s (without_wait now t st) (way_without_wait s now way t st quiet) (is_waiting_at now t)

@@ -140,12 +140,11 @@ pub use Rattle.gl_table.specs.Slots.{mode_given, room_by, Strikes, unlisted_by, 
 pub use Rattle.gl_table.specs.Sound.{IsSound, view_of}
 pub use Rattle.gl_table.specs.State.{age_in, age_of, choosing, empty_state, live_by, lives, members, restatus, slots, State, status_in, status_of, Txn}
 pub use Rattle.gl_table.specs.State.{with_grant, with_graph, with_txn}
-pub use Rattle.gl_table.specs.Steps.{AbortIsRelease, children_that, ChildrenDown, ChildrenFew, ChildrenUp, FewParents, HasLeft, LeftAll, LeftOne, stripped}
+pub use Rattle.gl_table.specs.Steps.{children_that, HasLeft, stripped}
 pub use Rattle.gl_table.specs.Table.{entry_at, ListsAgree, StandOnce, state_of, TableView}
 pub use Rattle.gl_table.specs.Telling.{is_rising, IsBySlot, notices_in}
 pub use Rattle.gl_table.specs.Tellings.{addressed, notice_of, Told, told, told_but, told_from}
-pub use Rattle.gl_table.specs.Tells.{ActiveUntold, CancelTells, GoneTells, IsOnWay, NobodyTold, ReleaseTells, told_to, ToldButIs, ToldIs, VictimTells}
-pub use Rattle.gl_table.specs.Tells.{WayBegins, WayGivesUp, WayReleases}
+pub use Rattle.gl_table.specs.Tells.{IsOnWay, told_to}
 pub use Rattle.gl_table.specs.Waiting.{blocks, HasNoCycle, is_wait, IsVictim, Settled, SettledWithin, waits_for}
 pub use Rattle.gl_table.specs.declared.deadlock.Deadlock.{Deadlock}
 pub use Rattle.gl_table.specs.declared.deadlock.Stuck.{Stuck}
