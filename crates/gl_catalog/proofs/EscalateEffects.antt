@@ -30,15 +30,15 @@ use Rattle.gl_graph.proofs.Look.{all_at, child_live}
 use Rattle.gl_graph.proofs.Routes.{join}
 use Rattle.gl_graph.proofs.Moved.{some_at}
 use Rattle.gl_graph.proofs.RouteLengths.{listed}
-use Rattle.gl_table.proofs.CutSet.{cut_set_on}
-use Rattle.gl_table.proofs.Placed.{nobody_holds}
+use Rattle.gl_table.proofs.law.Effects.{cut_set_on}
+use Rattle.gl_table.proofs.law.Records.{nobody_holds}
 use Rattle.gl_graph.proofs.Unrefused.{not_refused, or_no}
 use Rattle.gl_catalog.proofs.EachStep.{each_step}
 use Rattle.gl_catalog.proofs.Keeps.{effect_refl, x_more, read_more}
 use Rattle.gl_catalog.proofs.NotRefused.{active_is}
 use Rattle.gl_modes.proofs.ModeLemmas.{at_least-refl, supremum-above}
-use Rattle.gl_table.proofs.Effects.{eff_s_route, read_on_eff}
-use Rattle.gl_table.proofs.Queues.{grants_other}
+use Rattle.gl_table.proofs.law.Effects.{eff_s_route, read_on_eff}
+use Rattle.gl_table.proofs.queues.Waiters.{grants_other}
 use Rattle.std.proofs.lemmas.Bool.{not-true}
 
 sup_reads : (a b : Mode) → is_read b ≡ true → is_read (supremum a b) ≡ true

@@ -16,7 +16,7 @@ use Rattle.gl_table.specs.Lawful.{IsLawful}
 use Rattle.gl_table.specs.Tellings.{told, told_but, Told}
 use Rattle.gl_catalog.specs.Step.{Accepts}
 use Rattle.gl_table.specs.Calls.{accepted_once, enters_at, free_slot, wanted, enqueued, released}
-use Rattle.gl_table.proofs.Follows.{Follows, GrantedTo, WaitsWell, lawful_waits, follows_refl, follows_same, follows_trans}
+use Rattle.gl_table.proofs.telling.Follows.{Follows, GrantedTo, WaitsWell, lawful_waits, follows_refl, follows_same, follows_trans}
 use Rattle.gl_catalog.proofs.OtherChanges.{other, with_grant_follows, begun_follows, enqueued_follows, settled_follows, wait_settles_follows, released_follows, escalated_follows, unlocked_follows, cancelled_follows}
 use Rattle.gl_catalog.proofs.ToldGrants.{tells, told_of_grant, told_but_of_grant}
 use Rattle.gl_catalog.proofs.Keeps.{Keeps, keeps_follows}

@@ -18,9 +18,9 @@ use Rattle.gl_table.specs.State.{State}
 use Rattle.gl_table.specs.Lawful.{IsLawful}
 use Rattle.gl_table.specs.Effects.{eff_x, EffX}
 use Rattle.gl_table.specs.Intends.{no_parents}
-use Rattle.gl_table.proofs.NoConflict.{no_conflict_law}
-use Rattle.gl_table.proofs.Effects.{ReadOn, read_on_eff, eff_x_any}
-use Rattle.gl_table.proofs.Transfer.{GraphStep}
+use Rattle.gl_table.proofs.law.Effects.{no_conflict_law}
+use Rattle.gl_table.proofs.law.Effects.{ReadOn, read_on_eff, eff_x_any}
+use Rattle.gl_table.proofs.law.Searches.{GraphStep}
 use Rattle.gl_catalog.proofs.Keeps.{read_lives}
 use Rattle.gl_modes.proofs.NodeLemmas.{same_node-equal}
 use Rattle.std.proofs.lemmas.Bool.{not-true}

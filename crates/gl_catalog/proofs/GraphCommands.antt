@@ -23,8 +23,8 @@ use Rattle.gl_table.specs.Intends.{no_parents}
 use Rattle.gl_table.specs.Tellings.{Told}
 use Rattle.gl_table.specs.Calls.{accepted_once, freed, freed_unless, stays, moved_to, deleted}
 use Rattle.gl_table.specs.Refusals.{holds_x, some_given}
-use Rattle.gl_table.proofs.Effects.{ReadOn}
-use Rattle.gl_table.proofs.Follows.{SameGrants}
+use Rattle.gl_table.proofs.law.Effects.{ReadOn}
+use Rattle.gl_table.proofs.telling.Follows.{SameGrants}
 use Rattle.gl_catalog.proofs.OtherChanges.{with_grant_same}
 use Rattle.gl_catalog.proofs.Made.{made, next_id}
 use Rattle.gl_catalog.proofs.Keeps.{Keeps, keeps_graph}

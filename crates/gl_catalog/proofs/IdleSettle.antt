@@ -10,7 +10,7 @@ use Rattle.gl_table.specs.State.{State}
 use Rattle.gl_table.specs.Tellings.{Told}
 use Rattle.gl_table.specs.Waiting.{waits_for}
 use Rattle.gl_table.specs.declared.txn.TxnId.{TxnId}
-use Rattle.gl_table.proofs.Idle.{settled_same, told_settled_same}
+use Rattle.gl_table.proofs.telling.Lists.{settled_same, told_settled_same}
 use Rattle.gl_catalog.specs.declared.command.Answer.{Answer}
 use Rattle.gl_catalog.specs.declared.command.Answer.TheVariants as answer
 use Rattle.gl_catalog.specs.declared.command.Command.{Command}

@@ -22,10 +22,10 @@ use Rattle.gl_table.specs.Intends.{no_parents}
 use Rattle.gl_table.specs.Tellings.{Told}
 use Rattle.gl_table.specs.Below.{SameBelow}
 use Rattle.gl_catalog.specs.Promises.{is_grant_to}
-use Rattle.gl_table.proofs.Effects.{all_from, ReadOn, eff_s_route, read_on_eff}
-use Rattle.gl_table.proofs.Transfer.{GraphStep, reads_carry, effective_same, below_same}
+use Rattle.gl_table.proofs.law.Effects.{all_from, ReadOn, eff_s_route, read_on_eff}
+use Rattle.gl_table.proofs.law.Searches.{GraphStep, reads_carry, effective_same, below_same}
 use Rattle.gl_catalog.proofs.ToldGrants.{tells, tells_grant, any_weaker}
-use Rattle.gl_table.proofs.Follows.{Follows, SameGrants, GrantedTo}
+use Rattle.gl_table.proofs.telling.Follows.{Follows, SameGrants, GrantedTo}
 use Rattle.gl_graph.proofs.Look.{all_at}
 use Rattle.gl_modes.proofs.NodeLemmas.{same_node-equal}
 use Rattle.gl_modes.proofs.ModeLemmas.{at_least-refl}

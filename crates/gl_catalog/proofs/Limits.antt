@@ -21,7 +21,7 @@ use Rattle.gl_table.specs.Tellings.{Told}
 use Rattle.gl_catalog.specs.Tests.{refusal_of}
 use Rattle.gl_catalog.specs.Step.{Run}
 use Rattle.gl_graph.proofs.Counts.{count_grown}
-use Rattle.gl_table.proofs.Empty.{empty-lawful}
+use Rattle.gl_table.proofs.law.Takes.{empty-lawful}
 use Rattle.gl_catalog.proofs.Made.{made}
 use Rattle.gl_catalog.proofs.Play.{Outcome, after, new_node, play, replies, tested}
 use Rattle.gl_catalog.proofs.PlayIsStep.{play_runs, play_steps}

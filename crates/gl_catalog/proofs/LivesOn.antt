@@ -15,8 +15,8 @@ use Rattle.gl_table.specs.Calls.{WaitSettles, freed, freed_unless, none_but}
 use Rattle.gl_table.specs.Pumps.{condemned, granted_at, is_waiting_at, pumped, without_wait, woken}
 use Rattle.gl_table.specs.State.{State, Txn, live_by, restatus, status_in}
 use Rattle.gl_table.specs.Waiting.{Settled, SettledWithin}
-use Rattle.gl_table.proofs.Pumped.{woken_waits}
-use Rattle.gl_table.proofs.Taken.{IsQuiet, restatus_quiet}
+use Rattle.gl_table.proofs.law.Keeps.{woken_waits}
+use Rattle.gl_table.proofs.law.Takes.{IsQuiet, restatus_quiet}
 
 -- the same transaction lives in the slot, and if it waits, it waited there before
 pub record LivesOn (x y : Option Txn) : Type 0 where

@@ -15,8 +15,8 @@ use Rattle.gl_graph.specs.Refusals.{file_refusal, first_refusal, index_refusal, 
 use Rattle.gl_catalog.specs.Tests.{worn}
 use Rattle.gl_table.specs.Refusals.{no_txn, waiting_test, condemned_test, first_not_ix}
 use Rattle.gl_catalog.proofs.KeepsLaw.{KeepsLaw}
-use Rattle.gl_table.proofs.Births.{file-grows, grown-lawful, index-grows, inner-grows}
-use Rattle.gl_table.proofs.Placed.{placed-lawful}
+use Rattle.gl_table.proofs.law.Records.{file-grows, grown-lawful, index-grows, inner-grows}
+use Rattle.gl_table.proofs.law.Records.{placed-lawful}
 use Rattle.gl_graph.proofs.Unrefused.{not_refused, test_fails, not_false, enough_room}
 use Rattle.gl_catalog.proofs.NotRefused.{active_is}
 

@@ -16,7 +16,7 @@ use Rattle.gl_graph.specs.Refusals.{some_no_node, where_true, bad_parents, first
 use Rattle.gl_table.specs.Refusals.{no_txn, waiting_test, condemned_test, need_exclusive, need_new_parents, some_given}
 use Rattle.gl_catalog.proofs.KeepsLaw.{KeepsLaw}
 use Rattle.gl_graph.proofs.Unrefused.{not_refused, test_fails, not_false, or_no, inner_parents}
-use Rattle.gl_table.proofs.MovedNodes.{Moves, changed_keeps, may_be_moved, may_be_rekeyed, moved_node, rekeyed_to}
+use Rattle.gl_table.proofs.law.Move.{Moves, changed_keeps, may_be_moved, may_be_rekeyed, moved_node, rekeyed_to}
 use Rattle.gl_catalog.proofs.NotRefused.{active_is}
 
 -- a move that is not refused is lawful for its mover

@@ -21,10 +21,10 @@ use Rattle.gl_table.specs.Intends.{no_parents}
 use Rattle.gl_table.specs.Calls.{moved_to}
 use Rattle.gl_catalog.specs.Promises.{MoveKeepsMover, RekeyKeepsMover}
 use Rattle.gl_catalog.proofs.EachStep.{each_step}
-use Rattle.gl_table.proofs.Movers.{HoldsNode, HoldsParents}
-use Rattle.gl_table.proofs.MovedNodes.{Moves, others_parents, new_parents, count_same, moved_node, rekeyed_to}
+use Rattle.gl_table.proofs.law.Move.{HoldsNode, HoldsParents}
+use Rattle.gl_table.proofs.law.Move.{Moves, others_parents, new_parents, count_same, moved_node, rekeyed_to}
 use Rattle.gl_catalog.proofs.MoveCommands.{move_moves, rekey_moves}
-use Rattle.gl_table.proofs.Effects.{x_reads}
+use Rattle.gl_table.proofs.law.Effects.{x_reads}
 use Rattle.gl_catalog.proofs.GraphChanges.{held_x}
 
 s_held : (k : ℕ) (g : Graph) (held : NodeId → Mode) (n : NodeId) → is_read (held n) ≡ true → eff_s k g held n ≡ true

@@ -19,8 +19,8 @@ use Rattle.gl_catalog.specs.Tests.{refusal_of, worn}
 use Rattle.gl_catalog.specs.Step.{Accepts, Answers, Goes, lock_answer, query_answer}
 use Rattle.gl_table.specs.Calls.{accepted_once}
 use Rattle.gl_catalog.specs.Promises.{OneOutcome, makes_node}
-use Rattle.gl_table.proofs.LockKeeps.{MayLock, may_lock, waiting-lawful}
-use Rattle.gl_table.proofs.OneEnd.{settled_one}
+use Rattle.gl_table.proofs.law.Lock.{MayLock, may_lock, waiting-lawful}
+use Rattle.gl_table.proofs.law.Settle.{settled_one}
 
 wait_one : (d : Detect) (c : Victims) (s s₁ s₂ : State) (t : ℕ) → IsLawful s → WaitSettles d c s t s₁ → WaitSettles d c s t s₂ → s₁ ≡ s₂
 wait_one AtBlock c s s₁ s₂ t law h k = settled_one c s s₁ s₂ t law h k

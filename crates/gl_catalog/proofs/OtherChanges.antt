@@ -21,8 +21,8 @@ use Rattle.gl_table.specs.Covered.{is_covered}
 use Rattle.gl_table.specs.Waiting.{blocks, waits_for, SettledWithin, Settled}
 use Rattle.gl_waits.specs.Waits.{IsWalk}
 use Rattle.gl_table.specs.Calls.{begun, enqueued, released, shed, raised, WaitSettles}
-use Rattle.gl_table.proofs.Waiters.{waits_of, without_other, without_self, placed_other}
-use Rattle.gl_table.proofs.Follows.{WaitsWell, Follows, SameGrants, follows_trans, follows_same, absent_well, pumped_follows}
+use Rattle.gl_table.proofs.queues.Waiters.{waits_of, without_other, without_self, placed_other}
+use Rattle.gl_table.proofs.telling.Follows.{WaitsWell, Follows, SameGrants, follows_trans, follows_same, absent_well, pumped_follows}
 use Rattle.gl_modes.proofs.NodeLemmas.{same_node-equal}
 
 pub other : (u t : ℕ) → u ≢ t → (t == u) ≡ false

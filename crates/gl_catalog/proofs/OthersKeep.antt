@@ -19,7 +19,7 @@ use Rattle.gl_table.specs.Tellings.{Told}
 use Rattle.gl_table.specs.Below.{SameBelow}
 use Rattle.gl_catalog.specs.Promises.{names, is_grant_to, told_granted, OthersKeepEffects, OthersKeepBelow}
 use Rattle.gl_catalog.proofs.ToldGrants.{tells, tells_grant, any_weaker}
-use Rattle.gl_table.proofs.Follows.{SameGrants, GrantedTo}
+use Rattle.gl_table.proofs.telling.Follows.{SameGrants, GrantedTo}
 use Rattle.gl_catalog.proofs.Keeps.{Keeps, ToldGrant, grown, effect_refl, below_itself}
 use Rattle.gl_catalog.proofs.OneStep.{step_keeps}
 use Rattle.gl_catalog.proofs.StepsKeepLaw.{steps_keep_law}

@@ -17,7 +17,7 @@ use Rattle.gl_table.specs.Covered.{covered_children, held_children}
 use Rattle.gl_table.specs.Tellings.{Told, told, told_but}
 use Rattle.gl_catalog.specs.Tests.{refusal_of}
 use Rattle.gl_catalog.specs.Step.{lock_answer, query_answer}
-use Rattle.gl_table.proofs.Settles.{locked, settled}
+use Rattle.gl_table.proofs.law.Settle.{locked, settled}
 use Rattle.gl_catalog.proofs.Made.{made, next_id}
 
 -- an answer, who is told, and what is left

@@ -21,8 +21,8 @@ use Rattle.gl_catalog.specs.Step.{Goes, Run, Step}
 use Rattle.gl_catalog.specs.Promises.{AlwaysAnswers}
 use Rattle.gl_graph.proofs.Look.{live_node, found_at, there_is}
 use Rattle.gl_graph.proofs.Unrefused.{not_refused, test_fails}
-use Rattle.gl_table.proofs.LockKeeps.{may_lock}
-use Rattle.gl_table.proofs.Settles.{locks_some, settles}
+use Rattle.gl_table.proofs.law.Lock.{may_lock}
+use Rattle.gl_table.proofs.law.Settle.{locks_some, settles}
 use Rattle.gl_catalog.proofs.StepsKeepLaw.{steps_keep_law}
 use Rattle.gl_catalog.proofs.Play.{above_key, after, free_key, greater, interval_keys, play, replies, slot_or_zero, tested, top}
 

@@ -25,8 +25,8 @@ use Rattle.gl_table.specs.Lawful.{IsLawful}
 use Rattle.gl_table.specs.Refusals.{active_on, bad_mode, escalation_blocks, first_not_ix, first_of_all, need_parents, no_txn, not_held, try_tests, would_block}
 use Rattle.gl_table.specs.State.{State, lives, members, status_of}
 use Rattle.gl_table.specs.Tellings.{told}
-use Rattle.gl_table.proofs.Locking.{test_refused}
-use Rattle.gl_table.proofs.TestsPass.{active_after}
+use Rattle.gl_table.proofs.calls.Locking.{test_refused}
+use Rattle.gl_table.proofs.law.Tests.{active_after}
 use Rattle.gl_catalog.specs.declared.command.Answer.TheVariants as answer
 use Rattle.gl_catalog.specs.declared.command.Command.TheVariants as command
 use Rattle.gl_catalog.specs.declared.command.Escalated.{Escalated}
@@ -36,7 +36,7 @@ use Rattle.gl_catalog.specs.Tests.{escalate_asks, refusal_of, worn}
 use Rattle.gl_catalog.proofs.Carried.{accepted_step, refused_step}
 use Rattle.gl_graph.proofs.FirstOf.{passed_then, passes_first, refused_first}
 use Rattle.gl_catalog.proofs.NotRefused.{txn_lives}
-use Rattle.gl_table.proofs.Escalates.{raised_intends}
+use Rattle.gl_table.proofs.law.Tests.{raised_intends}
 
 -- what an escalation asks, by whether some child is held to write
 abbrev asked_if : Bool → Mode

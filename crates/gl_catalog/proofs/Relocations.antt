@@ -18,7 +18,7 @@ use Rattle.gl_table.specs.Calls.{moved_to}
 use Rattle.gl_table.specs.Refusals.{condemned_test, need_exclusive, need_new_parents, no_txn, some_given, waiting_test}
 use Rattle.gl_table.specs.State.{State, lives, status_of}
 use Rattle.gl_table.specs.Tellings.{told}
-use Rattle.gl_table.proofs.Locking.{test_refused}
+use Rattle.gl_table.proofs.calls.Locking.{test_refused}
 use Rattle.gl_catalog.specs.declared.command.Command.TheVariants as command
 use Rattle.gl_catalog.specs.Manager.{counting}
 use Rattle.gl_catalog.specs.Replies.{CallSteps, Notices, done}

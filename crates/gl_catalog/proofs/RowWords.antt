@@ -17,7 +17,7 @@ use Rattle.gl_catalog.specs.declared.command.Command.TheVariants as command
 use Rattle.gl_table.specs.State.{State, empty_state}
 use Rattle.gl_table.specs.Tellings.{Told}
 use Rattle.gl_catalog.specs.Step.{Run}
-use Rattle.gl_table.proofs.Empty.{empty-lawful}
+use Rattle.gl_table.proofs.law.Takes.{empty-lawful}
 use Rattle.gl_catalog.proofs.Play.{after, replies}
 use Rattle.gl_catalog.proofs.PlayIsStep.{play_runs}
 

@@ -24,12 +24,12 @@ use Rattle.gl_table.specs.Calls.{asked_by_escalation, raised, shed, wanted}
 use Rattle.gl_catalog.specs.Promises.{RunsKeepNoCycle}
 use Rattle.gl_graph.specs.Refusals.{where_true, worn_births}
 use Rattle.gl_graph.proofs.Unrefused.{not_false, not_refused, test_fails}
-use Rattle.gl_table.proofs.Escalates.{raised-lawful}
-use Rattle.gl_table.proofs.MoveSteps.{moved-no_cycle}
-use Rattle.gl_table.proofs.TestsPass.{active_after}
-use Rattle.gl_table.proofs.Deleted.{deleted-no_cycle}
-use Rattle.gl_table.proofs.LockKeeps.{may_lock}
-use Rattle.gl_table.proofs.NoCycle.{begun-no_cycle, granted-no_cycle, locks-no_cycle, unlocked-no_cycle, shed-no_cycle, given_up-no_cycle, released-no_cycle, settled-no_cycle}
+use Rattle.gl_table.proofs.law.Tests.{raised-lawful}
+use Rattle.gl_table.proofs.law.Move.{moved-no_cycle}
+use Rattle.gl_table.proofs.law.Tests.{active_after}
+use Rattle.gl_table.proofs.law.Records.{deleted-no_cycle}
+use Rattle.gl_table.proofs.law.Lock.{may_lock}
+use Rattle.gl_table.proofs.law.Lock.{begun-no_cycle, granted-no_cycle, locks-no_cycle, unlocked-no_cycle, shed-no_cycle, given_up-no_cycle, released-no_cycle, settled-no_cycle}
 use Rattle.gl_catalog.proofs.EachStep.{each_step}
 use Rattle.gl_catalog.proofs.Detection.{steps_keep_detect}
 use Rattle.gl_catalog.proofs.StepsKeepLaw.{steps_keep_law}

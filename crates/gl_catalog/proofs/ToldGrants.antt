@@ -18,8 +18,8 @@ use Rattle.gl_table.specs.State.{State, Txn, lives, live_by, status_of, age_of, 
 use Rattle.gl_table.specs.Lawful.{IsLawful}
 use Rattle.gl_table.specs.Tellings.{told, told_but, told_from, notice_of, addressed}
 use Rattle.gl_catalog.specs.Promises.{is_grant_to, same_txn}
-use Rattle.gl_table.proofs.Waiters.{one_among}
-use Rattle.gl_table.proofs.Follows.{GrantedTo}
+use Rattle.gl_table.proofs.queues.Waiters.{one_among}
+use Rattle.gl_table.proofs.telling.Follows.{GrantedTo}
 use Rattle.gl_modes.proofs.NodeLemmas.{same_node-refl}
 use Rattle.gl_modes.proofs.ModeLemmas.{same_mode-refl}
 use Rattle.std.proofs.Math.Bool.{or-true}

@@ -27,7 +27,7 @@ use Rattle.gl_table.specs.Refusals.{no_txn, waiting_test}
 use Rattle.gl_table.specs.State.{State, Txn, age_of, live_by, lives, members, restatus, status_in, status_of, with_grant}
 use Rattle.gl_table.specs.Steps.{stripped}
 use Rattle.gl_table.specs.Tellings.{Told, addressed, notice_of, told, told_but, told_from}
-use Rattle.gl_table.proofs.Less.{waiting_is}
+use Rattle.gl_table.proofs.law.Keeps.{waiting_is}
 use Rattle.gl_catalog.specs.declared.command.Answer.{Answer}
 use Rattle.gl_catalog.specs.declared.command.Command.{Command}
 use Rattle.gl_catalog.specs.declared.command.Command.TheVariants as command

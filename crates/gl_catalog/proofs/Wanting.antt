@@ -12,7 +12,7 @@ use Rattle.gl_modes.specs.Modes.{is_at_least}
 use Rattle.gl_graph.specs.Refusals.{verdict}
 use Rattle.gl_graph.proofs.Unrefused.{verdict_ok}
 use Rattle.gl_table.specs.Refusals.{first_not_ix}
-use Rattle.gl_table.proofs.Locking.{test_refused}
+use Rattle.gl_table.proofs.calls.Locking.{test_refused}
 
 module _ (held : NodeId → Mode) (p : NodeId) (ps : List NodeId) where
   -- the first is held, so the others decide

@@ -12,7 +12,7 @@ use Rattle.gl_table.specs.BoardOf.{board_of}
 use Rattle.gl_table.specs.State.{State, status_of}
 use Rattle.gl_table.specs.Tellings.{Told}
 use Rattle.gl_table.specs.Waiting.{is_wait}
-use Rattle.gl_table.proofs.Chains.{waits_for_one}
+use Rattle.gl_table.proofs.law.Settle.{waits_for_one}
 use Rattle.gl_catalog.specs.declared.command.Answer.{Answer}
 use Rattle.gl_catalog.specs.declared.command.Command.{Command}
 use Rattle.gl_catalog.specs.Manager.{IsLawfulManager, ManagerView, state_of}

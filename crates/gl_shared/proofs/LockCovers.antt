@@ -26,14 +26,14 @@ use Rattle.gl_table.specs.Pumps.{awake, condemned, granted_at, is_waiting_at, wi
 use Rattle.gl_table.specs.State.{State, Txn, members, restatus, status_in, status_of}
 use Rattle.gl_table.specs.Tellings.{Told}
 use Rattle.gl_table.specs.Waiting.{SettledWithin, is_wait, waits_for}
-use Rattle.gl_table.proofs.Less.{less-lawful}
-use Rattle.gl_table.proofs.LockKeeps.{may_lock, waiting-lawful}
-use Rattle.gl_table.proofs.Pumped.{one_of, woken_sleeps}
-use Rattle.gl_table.proofs.Taken.{condemned-lawful, restatus_is, without_wait-less}
-use Rattle.gl_table.proofs.Tells.{woken_up}
-use Rattle.gl_table.proofs.LawfulBut.{IsLawfulBut}
-use Rattle.gl_table.proofs.Victims.{cycle_waits}
-use Rattle.gl_table.proofs.Waiters.{granted_mode, last_mode}
+use Rattle.gl_table.proofs.law.Keeps.{less-lawful}
+use Rattle.gl_table.proofs.law.Lock.{may_lock, waiting-lawful}
+use Rattle.gl_table.proofs.law.Keeps.{one_of, woken_sleeps}
+use Rattle.gl_table.proofs.law.Takes.{condemned-lawful, restatus_is, without_wait-less}
+use Rattle.gl_table.proofs.telling.Ways.{woken_up}
+use Rattle.gl_table.proofs.law.Keeps.{IsLawfulBut}
+use Rattle.gl_table.proofs.inside.Boards.{cycle_waits}
+use Rattle.gl_table.proofs.queues.Waiters.{granted_mode, last_mode}
 use Rattle.gl_catalog.specs.declared.command.Answer.{Answer}
 use Rattle.gl_catalog.specs.declared.command.Answer.TheVariants as answer
 use Rattle.gl_catalog.specs.declared.command.Command.TheVariants as command

@@ -16,11 +16,11 @@ use Rattle.gl_table.specs.BoardOf.{board_of}
 use Rattle.gl_table.specs.Lawful.{IsLawful}
 use Rattle.gl_table.specs.State.{State, age_of, members, status_of}
 use Rattle.gl_table.specs.Waiting.{HasNoCycle, blocks, waits_for}
-use Rattle.gl_table.proofs.Edges.{step_is}
-use Rattle.gl_table.proofs.GrantKeeps.{nl_is, txn_there}
-use Rattle.gl_table.proofs.OneWaits.{waits_there}
-use Rattle.gl_table.proofs.Queues.{ahead_is, ahead_second}
-use Rattle.gl_table.proofs.TableCalls.{lawful_orderly}
+use Rattle.gl_table.proofs.law.Edges.{step_is}
+use Rattle.gl_table.proofs.law.Keeps.{nl_is, txn_there}
+use Rattle.gl_table.proofs.telling.Fronts.{waits_there}
+use Rattle.gl_table.proofs.queues.Waiters.{ahead_is, ahead_second}
+use Rattle.gl_table.proofs.calls.Calls.{lawful_orderly}
 use Rattle.gl_catalog.specs.Manager.{IsLawfulManager, ManagerView, state_of}
 use Rattle.gl_shared.specs.Boards.{Fine}
 

@@ -7,8 +7,8 @@ use Rattle.gl_table.specs.declared.txn.TxnId.{TxnId}
 use Rattle.gl_table.specs.Listing.{AreRowsOf, rows_of}
 use Rattle.gl_table.specs.Refusals.{living_tests}
 use Rattle.gl_table.specs.State.{lives, status_of}
-use Rattle.gl_table.proofs.ListedRows.{are_rows}
-use Rattle.gl_table.proofs.Queries.{passed}
+use Rattle.gl_table.proofs.calls.Queries.{are_rows}
+use Rattle.gl_table.proofs.calls.Queries.{passed}
 use Rattle.gl_catalog.specs.Replies.{wait_of}
 use Rattle.gl_interpreter.specs.Printed.{refusal_line}
 use Rattle.gl_interpreter.specs.Rows.{listed, lock_row}

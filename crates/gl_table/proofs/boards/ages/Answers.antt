@@ -1,9 +1,8 @@
 use Rattle.gl_table.proofs.Words.{◌+◌, ◌∙◌, ◌≡◌, ap, arith, length, length-replicate, List, Seat, subst, sym, ℕ}
 use Rattle.std.proofs.lemmas.List.{length-set}
-use Rattle.gl_table.proofs.BoardWrites.{AreAgesBelow, age_at, ages-begin, ages-free, ages-read, ages-taken}
+use Rattle.gl_table.proofs.inside.Boards.{age_at, ages-begin, ages-free, ages-read, ages-taken, AreAgesBelow}
 use Rattle.gl_table.proofs.boards.ages.Goals as goal
 use Rattle.gl_table.proofs.boards.ages.Goals.{in-Some, in_default}
-
 pub loop-slot-init : goal.loop-slot-init
 loop-slot-init c = (length-replicate {A = ℕ} 128 0, ages-begin c.args.seats.now)
 

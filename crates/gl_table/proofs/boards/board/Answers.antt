@@ -1,9 +1,8 @@
 use Rattle.gl_table.proofs.Words.{◌∙◌, ap, arith, Seat, shown, sym}
-use Rattle.gl_table.proofs.BoardWrites.{board-all, board-none, free-next, idle-next, shown-next, waits-next}
+use Rattle.gl_table.proofs.inside.Boards.{board-all, board-none, free-next, idle-next, shown-next, waits-next}
 use Rattle.gl_table.proofs.boards.board.Goals as goal
 use Rattle.gl_table.proofs.boards.board.Goals.{in-Some+in-Waiting+then-board-slot-eq0, in-Some+in-Waiting+else-board-slot-eq0, in-Some+in_default-status}
 use Rattle.gl_table.proofs.boards.board.Goals.{in_default}
-
 pub loop-slot-init : goal.loop-slot-init
 loop-slot-init c = board-none (shown c.args.headers.now.entries c.args.seats.now c.args.epoch)
 

@@ -1,9 +1,8 @@
 use Rattle.gl_table.proofs.Words.{◌∙◌, ◌≡◌, ap, header_at, header_or_new, HeaderState, members_of, refl, set_value_at, Some, sym, without_waiter}
-use Rattle.gl_table.proofs.HeaderPlaces.{header_found, key_found, key_stays, written_there}
-use Rattle.gl_table.proofs.HeaderWrites.{IsChanged, but-written, held-changed, queue-changed, with_members-same}
+use Rattle.gl_table.proofs.inside.Headers.{but-written, header_found, held-changed, IsChanged, key_found, key_stays, queue-changed, with_members-same}
+use Rattle.gl_table.proofs.inside.Headers.{written_there}
 use Rattle.gl_table.proofs.headers.dismiss.Goals.{After-dismiss}
 use Rattle.gl_table.proofs.headers.dismiss.Goals as goal
-
 written : (c : After-dismiss) → IsChanged c.args.headers.now.entries (set_value_at c.args.headers.now.entries c.in-Some.at c.dismiss.new.self) c.args.node
     (Some c.dismiss.new.self)
 written c =

@@ -1,11 +1,10 @@
 use Rattle.gl_table.proofs.Words.{[], arith, NL}
-use Rattle.gl_table.proofs.FreedWaiters.{freed_more, may_leave, may_tell, no_children, slot_listed, slot_within}
-use Rattle.gl_table.proofs.Slots.{struck-written}
+use Rattle.gl_table.proofs.inside.Slots.{struck-written}
+use Rattle.gl_table.proofs.inside.Woken.{freed_more, gone_within, may_leave, may_tell_gone, no_children, slot_listed}
 use Rattle.gl_table.proofs.placing.free.Goals as goal
-
 pub set_status-age-requires : goal.set_status-age-requires
 set_status-age-requires c =
-    slot_within c.args.seats.now.items c.args.lists.now.items c.args.told.now.items c.args.node c.args.waiters.now c.requires c.loop-waiter.waiter-index (0, NL)
+    gone_within c.args.seats.now.items c.args.lists.now.items c.args.told.now.items c.args.node c.args.waiters.now c.requires c.loop-waiter.waiter-index (0, NL)
     c.loop-waiter-test.true
     c.loop-waiter.seats.items c.loop-waiter.lists.items c.loop-waiter.told.items c.loop-waiter.invariant
 
@@ -24,7 +23,8 @@ leave-requires-clause-room c =
 
 pub tell-requires-clause-absent : goal.tell-requires-clause-absent
 tell-requires-clause-absent c =
-    may_tell c.args.seats.now.items c.args.lists.now.items c.args.told.now.items c.args.node c.args.waiters.now c.requires c.loop-waiter.waiter-index (0, NL)
+    may_tell_gone c.args.seats.now.items c.args.lists.now.items c.args.told.now.items c.args.node c.args.waiters.now c.requires c.loop-waiter.waiter-index
+    (0, NL)
     c.loop-waiter-test.true
     c.loop-waiter.seats.items c.loop-waiter.lists.items c.loop-waiter.told.items c.loop-waiter.invariant
 

@@ -1,7 +1,6 @@
 use Rattle.gl_table.proofs.Words.{◌∙◌, ◌≤◌, ap, arith, insert, IsBySlot, length, notices_in, subst, sym, ℕ}
-use Rattle.gl_table.proofs.Telling.{place, place_within, room_to_tell, by_slot_inserted, notices_inserted}
+use Rattle.gl_table.proofs.telling.Lists.{by_slot_inserted, notices_inserted, place, place_within, room_to_tell}
 use Rattle.gl_table.proofs.told.tell.Goals as goal
-
 pub insert-requires : goal.insert-requires
 insert-requires c =
     let at = c.place_of-place.ensures ∙ ap (λ xs. place xs c.args.t.slot) c.as_slice.ensures.value in (

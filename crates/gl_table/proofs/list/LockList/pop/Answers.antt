@@ -1,7 +1,6 @@
 use Rattle.gl_table.proofs.Words.{◌∙◌, ap, is_some, IsApart, lookup, same_node}
-use Rattle.gl_table.proofs.ListWrites.{StaysApart, at_each, IsWritten-same, IsTakenOut, IsTakenOut-here, IsTakenOut-apart, is_some-lookup_last}
+use Rattle.gl_table.proofs.inside.Lists.{at_each, is_some-lookup_last, IsTakenOut, IsTakenOut-apart, IsTakenOut-here, IsWritten-same, StaysApart}
 use Rattle.gl_table.proofs.list.LockList.pop.Goals as goal
-
 pub returns-clause-was : goal.returns-clause-was
 returns-clause-was c =
     ap (λ es. is_some (lookup (same_node c.unwrap.result.0) es)) (rw c.unwrap.ensures at c.pop.ensures.entries)

@@ -1,9 +1,8 @@
 use Rattle.gl_table.proofs.Words.{◌∙◌, ◌≤◌, ap, count_by, count_of, if◌then◌else◌, is_listed, is_some, is_some-lookup, keys, keys_swap_remove_entry, List}
 use Rattle.gl_table.proofs.Words.{mode_of, NL, NodeId, option_map, same_mode, same_node, same_node-differ, same_node-other, slice_get-map, subst, sym, ℕ}
-use Rattle.gl_table.proofs.GrantKeeps.{nl_is}
-use Rattle.gl_table.proofs.MarkedPlaces.{first_or_later, held_not, not_taken, still_passed, still_within}
+use Rattle.gl_table.proofs.inside.Lists.{first_or_later, held_not, not_taken, still_passed, still_within}
+use Rattle.gl_table.proofs.law.Keeps.{nl_is}
 use Rattle.gl_table.proofs.list.LockList.take_marked.Goals as goal
-
 pub returns-then-holds-clause-passed : goal.returns-then-holds-clause-passed
 returns-then-holds-clause-passed c = λ i n le at.
     let e = c.in_ok-node.field-0 in

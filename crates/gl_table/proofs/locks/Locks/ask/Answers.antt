@@ -2,17 +2,14 @@ use Rattle.gl_table.proofs.Words.{◌&&◌, ◌+◌, ◌<◌, ◌^◌, ◌∙◌
 use Rattle.gl_table.proofs.Words.{false, graph_of, held_of, holds, if◌then◌else◌, is_granted_at, members, mode_of, NL, not, not-false, not-true, parents_of}
 use Rattle.gl_table.proofs.Words.{refl, rules, same_mode, same_node, spare, state_in, subst, supremum, sym, true, unlisted, wanted, with_item, ℕ}
 use Rattle.gl_header.specs.declared.header.Asked.TheVariants as asked
-use Rattle.gl_table.proofs.Asks.{MayAsk, own-apart, own-few, own-listed, own-mode, own-room, parents-room, roomy_may, roomy_ready, roomy_same, roomy_says}
-use Rattle.gl_table.proofs.Asks.{says_is, slot-listed, state-same}
-use Rattle.gl_table.proofs.Enqueues.{HasWait, IsEnqueued, has_wait-set, is_enqueued}
-use Rattle.gl_table.proofs.Grants.{IsGranted, answer-enters, answer-waits, is_granted}
-use Rattle.gl_table.proofs.GrantKeeps.{nl_is}
-use Rattle.gl_table.proofs.Listed.{also_held, also_listed, counts-set, has_node-set, none_more}
-use Rattle.gl_table.proofs.Slots.{kept-apart}
+use Rattle.gl_table.proofs.inside.Asks.{answer-enters, answer-waits, is_granted, IsGranted, MayAsk, own-apart, own-few, own-listed, own-mode, own-room}
+use Rattle.gl_table.proofs.inside.Asks.{parents-room, roomy_may, roomy_ready, roomy_same, roomy_says, says_is, slot-listed, state-same}
+use Rattle.gl_table.proofs.inside.Enqueues.{has_wait-set, HasWait, is_enqueued, IsEnqueued}
+use Rattle.gl_table.proofs.inside.Slots.{also_held, also_listed, counts-entered, has_node-set, kept-apart, none_more}
+use Rattle.gl_table.proofs.law.Keeps.{nl_is}
 use Rattle.gl_table.proofs.locks.Locks.ask.Goals.{After-make_room_to_ask, After-count_up, After-set_mode, After-set_status, then-not-is_member}
 use Rattle.gl_table.proofs.locks.Locks.ask.Goals.{else-not-is_member}
 use Rattle.gl_table.proofs.locks.Locks.ask.Goals as goal
-
 may : (c : After-make_room_to_ask) → MayAsk (graph_of c.args.graph.now) c.args.self.now c.args.slot
 may c = record { sound = c.requires.sound; orderly = c.requires.orderly; agree = c.requires.agree; count = c.requires.count; active = c.requires.active }
 
@@ -154,7 +151,7 @@ put_raised c m held = let g = graph_of c.args.graph.now in let l = c.make_room_t
     c.set_mode.ensures.keys)
     c.set_mode.ensures.modes
     (λ q. c.set_mode.ensures.listed q ∙ also_listed x n (own-listed g l t r.may x c.index_mut-list.ensures.value n ∙ r.is_held ∙ c.if-is_member.true) q))
-    (counts-set l.lists.items t x x' listed c.index_mut-list.ensures.value
+    (counts-entered l.lists.items t x x' listed c.index_mut-list.ensures.value
     (λ q. if same_mode (held_of l.headers.entries t n) NL then count_by (same_node q) (parents_of g n) else 0)
     (λ q. c.set_mode.ensures.counts q ∙ none_more (count_of x q)
     ∙ ap (λ b. count_of x q + (if b then count_by (same_node q) (parents_of g n) else 0)) (sym (not-true _ (r.is_held ∙ c.if-is_member.true)))))
@@ -177,7 +174,7 @@ put_new c m held = let g = graph_of c.args.graph.now in let l = c.make_room_to_a
     refl
     (has_node-set l.lists.items t x x' listed c.index_mut-list.ensures.value n c.in-Granted-2.wanted r.may.sound.apart c.count_up.ensures.apart
     (λ q. c.count_up.ensures.modes q ∙ c.enter.ensures.modes q) (λ q. c.count_up.ensures.listed q ∙ c.enter.ensures.listed q))
-    (counts-set l.lists.items t x x' listed c.index_mut-list.ensures.value
+    (counts-entered l.lists.items t x x' listed c.index_mut-list.ensures.value
     (λ q. if same_mode (held_of l.headers.entries t n) NL then count_by (same_node q) (parents_of g n) else 0)
     (λ q. c.count_up.ensures.counts q ∙ ap₂ (λ k ps. k + count_by (same_node q) ps) (c.enter.ensures.counts q) c.parents.ensures
     ∙ ap (λ b. count_of x q + (if b then count_by (same_node q) (parents_of g n) else 0)) (sym (not-false _ (r.is_held ∙ c.if-is_member.false)))))

@@ -1,8 +1,7 @@
 use Rattle.gl_table.proofs.Words.{◌<◌, ◌∙◌, Agrees, ap, if◌then◌else◌, length, None, slice_set, State, state_in, subst, sym, told_to, ℕ}
-use Rattle.gl_table.proofs.FreedSlots.{agrees-gone, counts-gone, state-freed}
-use Rattle.gl_table.proofs.Tells.{gone_tells}
+use Rattle.gl_table.proofs.inside.Seats.{agrees-gone, counts-gone, state-freed}
+use Rattle.gl_table.proofs.telling.Ways.{gone_tells}
 use Rattle.gl_table.proofs.locks.Locks.end.Goals as goal
-
 pub returns-clause-agree : goal.returns-clause-agree
 returns-clause-agree c =
     let left = c.leave_all.new.self in

@@ -1,11 +1,9 @@
 use Rattle.gl_table.proofs.Words.{◌<◌, ◌∙◌, ◌≡◌, count_by, false, graph_of, holds, is_listed, length, length-set, listed_by, members, NodeId, nodes, slice_set}
 use Rattle.gl_table.proofs.Words.{State, state_in, subst, sym, true, ℕ}
-use Rattle.gl_table.proofs.Departures.{IsLeaving, left_free, left_released, leaving_begins, leaving_fewer, leaving_one}
-use Rattle.gl_table.proofs.Orderly.{stands_other}
-use Rattle.gl_table.proofs.OtherLists.{agrees-set, counts-set, popped-listed}
-use Rattle.gl_table.proofs.Slots.{apart-set, by_list-at, slice_get-at}
+use Rattle.gl_table.proofs.inside.Departures.{IsLeaving, leaving_begins, leaving_fewer, leaving_one, left_free, left_released}
+use Rattle.gl_table.proofs.inside.Slots.{agrees-set, apart-set, by_list-at, counts-set, popped-listed, slice_get-at}
+use Rattle.gl_table.proofs.telling.Fronts.{stands_other}
 use Rattle.gl_table.proofs.locks.Locks.leave_all.Goals as goal
-
 pub loop-node-init : goal.loop-node-init
 loop-node-init c = record {
   sound = c.requires.sound;

@@ -1,12 +1,10 @@
 use Rattle.gl_table.proofs.Words.{◌∙◌, ◌≡◌, ap, false, front, front_at, graph_of, held_of, is_among_waiters, members, not_true, number_other, parents_of}
 use Rattle.gl_table.proofs.Words.{pumped, queue_of, refl, same_node, same_node-sym, slot_limit, State, state_in, sym, txns_of, WaitWell, Wakes, without_wait}
 use Rattle.gl_table.proofs.Words.{without_waiter}
-use Rattle.gl_table.proofs.FrontsGranted.{held-pumped, pumped_by_fields, queue-pumped, status_last, wakes-same, withdrawn_front}
-use Rattle.gl_table.proofs.OneWaits.{front_stands, stands_only, stands_there, waits_only, well_without, woken_front}
-use Rattle.gl_table.proofs.QueueEdits.{out_of_without, without_none}
-use Rattle.gl_table.proofs.WakesFronts.{can_wake_front}
+use Rattle.gl_table.proofs.inside.Granted.{can_wake_front, held-pumped, pumped_by_fields, queue-pumped, status_last, wakes-same, withdrawn_front}
+use Rattle.gl_table.proofs.queues.Edits.{out_of_without, without_none}
+use Rattle.gl_table.proofs.telling.Fronts.{front_stands, stands_only, stands_there, waits_only, well_without, woken_front}
 use Rattle.gl_table.proofs.locks.Locks.leave_queue.Goals as goal
-
 pub drop_wait-requires-clause-waits : goal.drop_wait-requires-clause-waits
 drop_wait-requires-clause-waits c = stands_there (state_in c.args.graph.now c.args.self.now) c.requires.orderly c.args.slot c.args.node c.requires.waits
 

@@ -1,12 +1,9 @@
 use Rattle.gl_table.proofs.Words.{◌+◌, ◌<◌, ◌^◌, ◌∙◌, ◌≤◌, ap, ap₂, arith, count_by, count_of, graph_of, held_of, IfOk-at_ok, if◌then◌else◌, NL, not}
 use Rattle.gl_table.proofs.Words.{parents_of, refl, same_mode, same_node, spare, State, state_in, subst, supremum, sym, unlisted, with_grant, with_item, X, ℕ}
-use Rattle.gl_table.proofs.Asks.{MayAsk, own-few, own-listed, own-room, parents-room, slot-listed}
-use Rattle.gl_table.proofs.Grants.{IsGranted}
-use Rattle.gl_table.proofs.Listed.{counts-set, has_node-set}
-use Rattle.gl_table.proofs.NewHolders.{is_placed}
+use Rattle.gl_table.proofs.inside.Asks.{is_placed, IsGranted, MayAsk, own-few, own-listed, own-room, parents-room, slot-listed}
+use Rattle.gl_table.proofs.inside.Slots.{counts-entered, has_node-set}
 use Rattle.gl_table.proofs.locks.Locks.place.Goals.{After-law, After-self-1}
 use Rattle.gl_table.proofs.locks.Locks.place.Goals as goal
-
 may : (c : After-law) → MayAsk (graph_of c.args.graph.now) c.args.self.now c.args.slot
 may c = record { sound = c.requires.sound; orderly = c.requires.orderly; agree = c.requires.agree; count = c.requires.count; active = c.requires.active }
 
@@ -47,7 +44,7 @@ placed c m = let g = graph_of c.args.graph.now in let l = c.args.self.now in let
     (record { at = (IfOk-at_ok _ c.unwrap.ensures c.insert.ensures.updates).0 }) refl
     (has_node-set l.lists.items t x x' listed c.index_mut-list.ensures.value n X c.requires.sound.apart c.count_up.ensures.apart
     (λ q. c.count_up.ensures.modes q ∙ c.enter.ensures.modes q) (λ q. c.count_up.ensures.listed q ∙ c.enter.ensures.listed q))
-    (counts-set l.lists.items t x x' listed c.index_mut-list.ensures.value
+    (counts-entered l.lists.items t x x' listed c.index_mut-list.ensures.value
     (λ q. if same_mode (held_of l.headers.entries t n) NL then count_by (same_node q) (parents_of g n) else 0)
     (λ q. c.count_up.ensures.counts q ∙ ap₂ (λ k ps. k + count_by (same_node q) ps) (c.enter.ensures.counts q) c.parents.ensures
     ∙ ap (λ y. count_of x q + (if same_mode y NL then count_by (same_node q) (parents_of g n) else 0)) (sym (c.requires.unheld t))))

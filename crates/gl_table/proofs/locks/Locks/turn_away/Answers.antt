@@ -1,9 +1,8 @@
 use Rattle.gl_table.proofs.Words.{◌∙◌, ap, graph_of, has_slot-zero, parents_of, slot_limit, State, state_in, stays}
 use Rattle.gl_waits.specs.Sets.{has_slot}
-use Rattle.gl_table.proofs.TurnedAway.{told_at_end, turned_below, turned_front, turned_room, turned_untold, turned_waits, turning_begins, turning_ends}
-use Rattle.gl_table.proofs.TurnedAway.{turning_one}
+use Rattle.gl_table.proofs.inside.TurnedAway.{told_at_end, turned_below, turned_front, turned_room, turned_untold, turned_waits, turning_begins, turning_ends}
+use Rattle.gl_table.proofs.inside.TurnedAway.{turning_one}
 use Rattle.gl_table.proofs.locks.Locks.turn_away.Goals as goal
-
 pub loop-strays-init : goal.loop-strays-init
 loop-strays-init c =
     let s : State = state_in c.args.graph.now c.args.self.now in

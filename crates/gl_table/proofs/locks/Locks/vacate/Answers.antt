@@ -1,10 +1,9 @@
 use Rattle.gl_table.proofs.Words.{◌<◌, ◌∙◌, ◌≡◌, ap, CanFree, CanStrike, deleted, Frees, fun_ext, graph_of, header_or_new, length, List, NodeId, parents_of}
 use Rattle.gl_table.proofs.Words.{queue_of, refl, State, state_in, Strikes, subst, sym, Waiter, ℕ}
-use Rattle.gl_table.proofs.GrantKeeps.{txn_there}
-use Rattle.gl_table.proofs.Vacated.{MayVacate, agrees_vacated, can_free, can_strike, counts_vacated, txns_freed}
+use Rattle.gl_table.proofs.inside.Vacated.{agrees_vacated, can_free, can_strike, counts_vacated, MayVacate, txns_freed}
+use Rattle.gl_table.proofs.law.Keeps.{txn_there}
 use Rattle.gl_table.proofs.locks.Locks.vacate.Goals.{After-parents, After-queue, After-strike, Joined-header}
 use Rattle.gl_table.proofs.locks.Locks.vacate.Goals as goal
-
 may : (c : After-parents) → MayVacate (state_in c.args.graph.now c.args.self.now) c.args.slot c.args.rec c.args.self.now.lists.items
 may c = record {
   orderly = c.requires.orderly;

@@ -1,14 +1,12 @@
 use Rattle.gl_table.proofs.Words.{◌&&◌, ◌<◌, ◌∙◌, ◌≡◌, Agrees, ap, count_of, CountsHeld, false, if◌then◌else◌, is_listed, IsApart, length, List, LockList}
 use Rattle.gl_table.proofs.Words.{mode_of, NL, NodeId, not, not-false, not-true, pumped, same_node, slice_set, spare, State, state_in, subst, sym, true}
 use Rattle.gl_table.proofs.Words.{without_wait, ℕ}
-use Rattle.gl_table.proofs.GrantKeeps.{txn_there}
-use Rattle.gl_table.proofs.Less.{waiting_is}
-use Rattle.gl_table.proofs.OneWaits.{waits_only}
-use Rattle.gl_table.proofs.Slots.{by_list-at}
-use Rattle.gl_table.proofs.Withdrawn.{Unlists, agrees_withdrawn, counts_withdrawn, room_left, unlists_held, unlists_left}
+use Rattle.gl_table.proofs.inside.Slots.{by_list-at}
+use Rattle.gl_table.proofs.inside.Withdrawn.{agrees_withdrawn, counts_withdrawn, room_left, Unlists, unlists_held, unlists_left}
+use Rattle.gl_table.proofs.law.Keeps.{txn_there, waiting_is}
+use Rattle.gl_table.proofs.telling.Fronts.{waits_only}
 use Rattle.gl_table.proofs.locks.Locks.withdraw.Goals.{After-holds}
 use Rattle.gl_table.proofs.locks.Locks.withdraw.Goals as goal
-
 abbrev before : After-holds → State
 before c = state_in c.args.graph.now c.args.self.now
 

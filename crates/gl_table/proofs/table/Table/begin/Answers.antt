@@ -1,9 +1,8 @@
 use Rattle.gl_table.proofs.Words.{◌+◌, ◌∙◌, ◌≡◌, ap, begin_tests, begun, Err, first_refusal, free_slot, is_free, None, none_some, Ok, position, refl, Refuses}
 use Rattle.gl_table.proofs.Words.{Some, state_of, subst, sym, TableView, TxnId}
 use Rattle.gl_modes.specs.declared.refusal.Refusal.TheVariants as no
-use Rattle.gl_table.proofs.Begins.{begin-refusal, begun-sound, begun-state, found-slot}
+use Rattle.gl_table.proofs.calls.Law.{begin-refusal, begun-sound, begun-state, found-slot}
 use Rattle.gl_table.proofs.table.Table.begin.Goals as goal
-
 -- no slot is free
 
 full : (c : goal.In_default) → first_refusal (begin_tests (state_of c.args.self.now)) ≡ Some no.TooManyTxns

@@ -1,9 +1,8 @@
 use Rattle.gl_table.proofs.Words.{◌∙◌, ◌≡◌, ap, cancelled, is_waiting_at, state_of, TableView, told_but, true, view_of}
-use Rattle.gl_table.proofs.TableCalls.{orderly}
-use Rattle.gl_table.proofs.TableEnds.{sound_cancelled, state_cancelled, told_cancelled}
+use Rattle.gl_table.proofs.calls.Calls.{orderly}
+use Rattle.gl_table.proofs.calls.Ends.{sound_cancelled, state_cancelled, told_cancelled}
 use Rattle.gl_table.proofs.table.Table.cancel_telling.Goals.{After-withdraw}
 use Rattle.gl_table.proofs.table.Table.cancel_telling.Goals as goal
-
 pub withdraw-requires-clause-orderly : goal.withdraw-requires-clause-orderly
 withdraw-requires-clause-orderly c = orderly c.self.inside c.self.invariant
 

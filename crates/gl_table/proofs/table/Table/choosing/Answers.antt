@@ -1,7 +1,6 @@
 use Rattle.gl_table.proofs.Words.{refl}
-use Rattle.gl_table.proofs.NewTable.{new_sound, new_state}
+use Rattle.gl_table.proofs.calls.Law.{new_sound, new_state}
 use Rattle.gl_table.proofs.table.Table.choosing.Goals as goal
-
 pub invariant_of-result : goal.invariant_of-result
 invariant_of-result c =
     new_sound (record { graph = c.new-in-Ok.result; locks = c.in-Ok.locks; detect = c.args.detect; victims = c.args.victims; begins = 0;

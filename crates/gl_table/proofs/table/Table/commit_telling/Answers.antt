@@ -1,8 +1,7 @@
 use Rattle.gl_table.proofs.Words.{◌∙◌, ap, released, state_of, TableView, told, view_of}
-use Rattle.gl_table.proofs.TableCalls.{orderly, sound_released, state_released}
+use Rattle.gl_table.proofs.calls.Calls.{orderly, sound_released, state_released}
+use Rattle.gl_table.proofs.calls.Ends.{told_ended}
 use Rattle.gl_table.proofs.table.Table.commit_telling.Goals as goal
-use Rattle.gl_table.proofs.TableEnds.{told_ended}
-
 pub end-requires-clause-orderly : goal.end-requires-clause-orderly
 end-requires-clause-orderly c = orderly c.self.inside c.self.invariant
 

@@ -1,17 +1,15 @@
 use Rattle.gl_table.proofs.Words.{◌<◌, ◌∙◌, ◌≡◌, Active, ap, enters_at, false, first_refusal, lock_tests, locked_as, LocksKeeping, None, Option, Refusal}
 use Rattle.gl_table.proofs.Words.{Refuses, rules, state_of, status_of, subst, sym, TableView, told_but, true, view_of, ℕ}
 use Rattle.gl_table.specs.Calls.{Locks}
-use Rattle.gl_table.proofs.Blocking.{granted_answer, granted_keeps, granted_locks, granted_told, kept_locked, sound_locked, state_locked, told_locked}
-use Rattle.gl_table.proofs.Blocking.{waiting_orderly}
-use Rattle.gl_table.proofs.GrantKeeps.{txn_there}
-use Rattle.gl_table.proofs.Grants.{answer-enters, answer-granted, answer-waits}
-use Rattle.gl_table.proofs.LockKeeps.{MayLock}
-use Rattle.gl_table.proofs.Locking.{answered-err, answered-ok, may_lock_by, sound_granted, sound_kept, state_granted, unrefused}
-use Rattle.gl_table.proofs.Queries.{modes-seen}
-use Rattle.gl_table.proofs.TableCalls.{orderly}
+use Rattle.gl_table.proofs.calls.Calls.{orderly}
+use Rattle.gl_table.proofs.calls.Locking.{answered-err, answered-ok, granted_answer, granted_keeps, granted_locks, granted_told, kept_locked, may_lock_by}
+use Rattle.gl_table.proofs.calls.Locking.{sound_granted, sound_kept, sound_locked, state_granted, state_locked, told_locked, unrefused, waiting_orderly}
+use Rattle.gl_table.proofs.calls.Queries.{modes-seen}
+use Rattle.gl_table.proofs.inside.Asks.{answer-enters, answer-granted, answer-waits}
+use Rattle.gl_table.proofs.law.Keeps.{txn_there}
+use Rattle.gl_table.proofs.law.Lock.{MayLock}
 use Rattle.gl_table.proofs.table.Table.lock_telling.Goals.{After-ask, In-Granted, In-Waiting}
 use Rattle.gl_table.proofs.table.Table.lock_telling.Goals as goal
-
 -- the tests of the ask passed, and this is the mode held
 checked : (c : After-ask) → (first_refusal (lock_tests (state_of c.args.self.now) c.args.t c.args.n c.args.mode) ≡ None)
     × (c.in_ok-held.held ≡ (state_of c.args.self.now).held c.args.t.slot c.args.n)

@@ -1,11 +1,10 @@
 use Rattle.gl_table.proofs.Words.{◌∙◌, ◌≡◌, Active, ap, first_not_ix, graph_of, IsSound, None, Option, record_parents, record_refusal, Refusal, Refuses, Some}
 use Rattle.gl_table.proofs.Words.{State, state_of, status_of, subst, sym, TableView, view_of, with_grant, with_graph, X}
 use Rattle.gl_table.specs.declared.table.Table.TheInside.{Inside}
-use Rattle.gl_table.proofs.TableCalls.{orderly}
-use Rattle.gl_table.proofs.TablePlaces.{record_lives, record_unawaited, record_unheld, same_state, sound_grown, sound_placed, sound_roomy, state_placed}
+use Rattle.gl_table.proofs.calls.Calls.{orderly}
+use Rattle.gl_table.proofs.calls.Records.{record_lives, record_unawaited, record_unheld, same_state, sound_grown, sound_placed, sound_roomy, state_placed}
 use Rattle.gl_table.proofs.table.Table.place_under.Goals.{After-add_record_under}
 use Rattle.gl_table.proofs.table.Table.place_under.Goals as goal
-
 pub invariant_of-self : goal.invariant_of-self
 invariant_of-self c = sound_roomy c.self.inside c.self.invariant c.prepare.new.self c.prepare.ensures.headers c.prepare.ensures.seats c.prepare.ensures.lists
 

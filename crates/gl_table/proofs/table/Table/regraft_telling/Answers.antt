@@ -1,10 +1,9 @@
 use Rattle.gl_table.proofs.Words.{◌∙◌, ◌≡◌, ◌≤◌, ap, count_by, counted_by, CountsHeld, first_cycle, graph_of, List, moved_to, Node, NodeId, same_node, state_in}
 use Rattle.gl_table.proofs.Words.{state_of, subst, sym, TableView, told, view_of, with_parents, ℕ}
-use Rattle.gl_table.proofs.MovedNodes.{Moves, moved_node}
-use Rattle.gl_table.proofs.TableMoves.{agree_moved, bare_moved, counted_moved, counts_moved, few_moved, listed_moved, move_call, orderly_moved, sound_moved}
-use Rattle.gl_table.proofs.TableMoves.{state_moved, stuck_moved, told_moved}
+use Rattle.gl_table.proofs.calls.Moves.{agree_moved, bare_moved, counted_moved, counts_moved, few_moved, listed_moved, move_call, orderly_moved, sound_moved}
+use Rattle.gl_table.proofs.calls.Moves.{state_moved, stuck_moved, told_moved}
+use Rattle.gl_table.proofs.law.Move.{moved_node, Moves}
 use Rattle.gl_table.proofs.table.Table.regraft_telling.Goals as goal
-
 abbrev after : goal.After-as_slice → Node → Node
 after c was = moved_node c.args.parents.now was
 

@@ -1,10 +1,9 @@
 use Rattle.gl_table.proofs.Words.{◌∙◌, ◌≡◌, ◌≤◌, ap, count_by, counted_by, CountsHeld, graph_of, List, moved_to, Node, NodeId, rekeyed, rekeyed_parents}
 use Rattle.gl_table.proofs.Words.{same_node, state_in, state_of, subst, sym, TableView, told, view_of, ℕ}
-use Rattle.gl_table.proofs.MovedNodes.{Moves, rekeyed_to}
-use Rattle.gl_table.proofs.TableMoves.{agree_moved, bare_moved, counted_moved, counts_moved, few_moved, listed_moved, orderly_moved, rekey_call, sound_moved}
-use Rattle.gl_table.proofs.TableMoves.{state_moved, stuck_moved, told_moved}
+use Rattle.gl_table.proofs.calls.Moves.{agree_moved, bare_moved, counted_moved, counts_moved, few_moved, listed_moved, orderly_moved, rekey_call, sound_moved}
+use Rattle.gl_table.proofs.calls.Moves.{state_moved, stuck_moved, told_moved}
+use Rattle.gl_table.proofs.law.Move.{Moves, rekeyed_to}
 use Rattle.gl_table.proofs.table.Table.reparent_telling.Goals as goal
-
 abbrev after : goal.After-as_slice → Node → Node
 after c was = rekeyed_to (graph_of c.args.self.now.graph) c.args.rec c.args.index c.args.key was
 

@@ -1,9 +1,8 @@
 use Rattle.gl_table.proofs.Words.{◌∙◌, ap, IsLawful, Settled, SettlesKeeping, state_of, subst, TableView, told, view_of}
-use Rattle.gl_table.proofs.Idle.{settled_same, told_settled_same}
-use Rattle.gl_table.proofs.TableCalls.{orderly}
-use Rattle.gl_table.proofs.TableEnds.{kept_settled, sound_settled, state_settled, told_settled}
+use Rattle.gl_table.proofs.calls.Calls.{orderly}
+use Rattle.gl_table.proofs.calls.Ends.{kept_settled, sound_settled, state_settled, told_settled}
+use Rattle.gl_table.proofs.telling.Lists.{settled_same, told_settled_same}
 use Rattle.gl_table.proofs.table.Table.settle_telling.Goals as goal
-
 pub settle-requires-clause-orderly : goal.settle-requires-clause-orderly
 settle-requires-clause-orderly c = orderly c.self.inside c.self.invariant
 

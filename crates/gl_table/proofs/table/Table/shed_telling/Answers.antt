@@ -1,9 +1,8 @@
 use Rattle.gl_table.proofs.Words.{◌-◌, ◌∙◌, ◌≡◌, Active, ap, covered_children, held_children, is_at_least, S, shed, Some, state_of, status_of, subst, sym}
 use Rattle.gl_table.proofs.Words.{TableView, told, true, view_of}
-use Rattle.gl_table.proofs.TableCalls.{orderly}
-use Rattle.gl_table.proofs.TableSheds.{no_more_kept, number_kept, number_released, sound_shed, state_shed, told_shed}
+use Rattle.gl_table.proofs.calls.Calls.{orderly}
+use Rattle.gl_table.proofs.calls.Records.{no_more_kept, number_kept, number_released, sound_shed, state_shed, told_shed}
 use Rattle.gl_table.proofs.table.Table.shed_telling.Goals as goal
-
 pub shed-requires-clause-orderly : goal.shed-requires-clause-orderly
 shed-requires-clause-orderly c = orderly c.self.inside c.self.invariant
 

@@ -1,12 +1,11 @@
 use Rattle.gl_table.proofs.Words.{◌∙◌, ◌≡◌, Err, false, granted, Mode, none_some, OnOk, Option, refl, Refusal, Refuses, rules, state_of, subst, sym, TableView}
 use Rattle.gl_table.proofs.Words.{true, view_of}
 use Rattle.gl_modes.specs.declared.refusal.Refusal.TheVariants as no
-use Rattle.gl_table.proofs.LockKeeps.{MayLock}
-use Rattle.gl_table.proofs.Locking.{answered-err, answered-ok, decided, may_lock_by, same_enters, sound_tried, state_tried, try_refused}
-use Rattle.gl_table.proofs.Queries.{modes-seen}
-use Rattle.gl_table.proofs.TableCalls.{orderly}
+use Rattle.gl_table.proofs.calls.Calls.{orderly}
+use Rattle.gl_table.proofs.calls.Locking.{answered-err, answered-ok, decided, may_lock_by, same_enters, sound_tried, state_tried, try_refused}
+use Rattle.gl_table.proofs.calls.Queries.{modes-seen}
+use Rattle.gl_table.proofs.law.Lock.{MayLock}
 use Rattle.gl_table.proofs.table.Table.try_lock.Goals as goal
-
 pub returns-in_err-held-clause-refuses : goal.returns-in_err-held-clause-refuses
 returns-in_err-held-clause-refuses c =
     let is = try_refused (state_of c.args.self.now) c.args.t c.args.n c.args.mode c.in_err-held.field-0.0
