@@ -17,12 +17,10 @@ use Rattle.gl_header.specs.Header.{Waiter, is_among_waiters}
 use Rattle.gl_table.specs.declared.notice.Notice.{Notice}
 use Rattle.gl_table.specs.declared.notice.Notice.TheVariants as notice
 use Rattle.gl_table.specs.declared.txn.TxnId.{TxnId}
-use Rattle.gl_table.specs.Answers.{RefusesOnly}
-use Rattle.gl_table.specs.Lawful.{IsLawful}
-use Rattle.gl_table.specs.Refusals.{group_tests}
-use Rattle.gl_table.specs.State.{State, status_of}
-use Rattle.gl_table.specs.Tellings.{Told}
-use Rattle.gl_table.specs.Waiting.{is_wait}
+use Rattle.gl_table.specs.model.Calls.{RefusesOnly, group_tests}
+use Rattle.gl_table.specs.model.Lawful.{IsLawful}
+use Rattle.gl_table.specs.model.State.{State, status_of, is_wait}
+use Rattle.gl_table.specs.model.Tellings.{Told}
 use Rattle.gl_catalog.specs.declared.counters.Counters.{Counters}
 use Rattle.gl_catalog.specs.Counters.{is_gone, is_grant, is_moved, is_victim, rises, with_notice, with_notices}
 

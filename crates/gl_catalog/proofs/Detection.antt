@@ -8,12 +8,10 @@ use Rattle.gl_table.specs.declared.detect.Detect.TheVariants.{AtBlock, ByWatcher
 use Rattle.gl_catalog.specs.declared.command.Answer.{Answer}
 use Rattle.gl_catalog.specs.declared.command.Command.{Command}
 use Rattle.gl_catalog.specs.declared.command.Command.TheVariants as command
-use Rattle.gl_table.specs.State.{State}
-use Rattle.gl_table.specs.Waiting.{SettledWithin}
-use Rattle.gl_table.specs.Pumps.{condemned}
-use Rattle.gl_table.specs.Tellings.{Told}
+use Rattle.gl_table.specs.model.State.{State, SettledWithin, condemned}
+use Rattle.gl_table.specs.model.Tellings.{Told}
 use Rattle.gl_catalog.specs.Step.{Accepts, Step}
-use Rattle.gl_table.specs.Calls.{WaitSettles, wanted, enters_at, enqueued}
+use Rattle.gl_table.specs.model.Calls.{WaitSettles, wanted, enters_at, enqueued}
 use Rattle.gl_catalog.proofs.EachStep.{each_step}
 
 -- the way of detection stays

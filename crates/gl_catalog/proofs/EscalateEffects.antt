@@ -16,15 +16,10 @@ use Rattle.gl_graph.specs.Graph.{Graph, nodes, node_at, node_count, is_live, par
 use Rattle.gl_modes.specs.Nodes.{same_node}
 use Rattle.gl_graph.specs.Routes.{IsRoute}
 use Rattle.gl_header.specs.Header.{Members, Waiter, fits, holds, with_mode, front, is_waiter, is_among_waiters}
-use Rattle.gl_table.specs.State.{State, members, status_of}
-use Rattle.gl_table.specs.Effects.{eff_s, eff_x, is_read, effective, EffX, is_at_least_effect}
-use Rattle.gl_table.specs.Intends.{no_parents, is_write}
-use Rattle.gl_table.specs.Pumps.{waits_at, front_at, granted_at}
-use Rattle.gl_table.specs.Covered.{holds_child, is_covered}
-use Rattle.gl_table.specs.Lawful.{IsLawful}
-use Rattle.gl_table.specs.Calls.{wanted, asked_by_escalation, raised, shed}
+use Rattle.gl_table.specs.model.State.{State, members, status_of, no_parents, is_write, waits_at, front_at, granted_at}
+use Rattle.gl_table.specs.model.Lawful.{eff_s, eff_x, is_read, effective, EffX, is_at_least_effect, IsLawful}
+use Rattle.gl_table.specs.model.Calls.{holds_child, is_covered, wanted, asked_by_escalation, raised, shed, no_txn, waiting_test, condemned_test}
 use Rattle.gl_catalog.specs.Tests.{worn}
-use Rattle.gl_table.specs.Refusals.{no_txn, waiting_test, condemned_test}
 use Rattle.gl_catalog.specs.Promises.{EscalateLowersNone}
 use Rattle.gl_graph.proofs.Look.{all_at, child_live}
 use Rattle.gl_graph.proofs.Routes.{join}

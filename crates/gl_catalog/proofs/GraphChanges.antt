@@ -14,10 +14,8 @@ use Rattle.gl_graph.specs.Shapes.{Rec, is_record_shape}
 use Rattle.gl_modes.specs.Nodes.{same_node}
 use Rattle.gl_graph.specs.Changes.{born_node, born_nodes, rekeyed_node, reparented}
 use Rattle.gl_graph.specs.Lawful.{IsLawfulGraph}
-use Rattle.gl_table.specs.State.{State}
-use Rattle.gl_table.specs.Lawful.{IsLawful}
-use Rattle.gl_table.specs.Effects.{eff_x, EffX}
-use Rattle.gl_table.specs.Intends.{no_parents}
+use Rattle.gl_table.specs.model.State.{State, no_parents}
+use Rattle.gl_table.specs.model.Lawful.{IsLawful, eff_x, EffX}
 use Rattle.gl_table.proofs.law.Effects.{no_conflict_law}
 use Rattle.gl_table.proofs.law.Effects.{ReadOn, read_on_eff, eff_x_any}
 use Rattle.gl_table.proofs.law.Searches.{GraphStep}

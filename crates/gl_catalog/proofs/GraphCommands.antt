@@ -16,13 +16,10 @@ use Rattle.gl_modes.specs.Nodes.{same_node}
 use Rattle.gl_graph.specs.Routes.{IsRoute}
 use Rattle.gl_modes.specs.Modes.{same_mode}
 use Rattle.gl_header.specs.Header.{is_among_waiters}
-use Rattle.gl_table.specs.State.{State, Txn, with_grant, lives, live_by, with_graph}
-use Rattle.gl_table.specs.Lawful.{IsLawful}
-use Rattle.gl_table.specs.Effects.{is_read, EffX}
-use Rattle.gl_table.specs.Intends.{no_parents}
-use Rattle.gl_table.specs.Tellings.{Told}
-use Rattle.gl_table.specs.Calls.{accepted_once, freed, freed_unless, stays, moved_to, deleted}
-use Rattle.gl_table.specs.Refusals.{holds_x, some_given}
+use Rattle.gl_table.specs.model.State.{State, Txn, with_grant, lives, live_by, with_graph, no_parents}
+use Rattle.gl_table.specs.model.Lawful.{IsLawful, is_read, EffX}
+use Rattle.gl_table.specs.model.Tellings.{Told}
+use Rattle.gl_table.specs.model.Calls.{accepted_once, freed, freed_unless, stays, moved_to, deleted, holds_x, some_given}
 use Rattle.gl_table.proofs.law.Effects.{ReadOn}
 use Rattle.gl_table.proofs.telling.Follows.{SameGrants}
 use Rattle.gl_catalog.proofs.OtherChanges.{with_grant_same}

@@ -15,12 +15,9 @@ use Rattle.gl_table.specs.declared.effect.Effect.TheVariants as effect
 use Rattle.gl_graph.specs.Graph.{Graph, Node, node_at, node_count, parents_of, parents_in, is_live}
 use Rattle.gl_modes.specs.Nodes.{same_node}
 use Rattle.gl_graph.specs.Routes.{IsRoute}
-use Rattle.gl_table.specs.State.{State, lives}
-use Rattle.gl_table.specs.Lawful.{IsLawful}
-use Rattle.gl_table.specs.Effects.{eff_s, eff_x, is_read, EffS, effective, is_at_least_effect}
-use Rattle.gl_table.specs.Intends.{no_parents}
-use Rattle.gl_table.specs.Tellings.{Told}
-use Rattle.gl_table.specs.Below.{SameBelow}
+use Rattle.gl_table.specs.model.State.{State, lives, no_parents}
+use Rattle.gl_table.specs.model.Lawful.{IsLawful, eff_s, eff_x, is_read, EffS, effective, is_at_least_effect, SameBelow}
+use Rattle.gl_table.specs.model.Tellings.{Told}
 use Rattle.gl_catalog.specs.Promises.{is_grant_to}
 use Rattle.gl_table.proofs.law.Effects.{all_from, ReadOn, eff_s_route, read_on_eff}
 use Rattle.gl_table.proofs.law.Searches.{GraphStep, reads_carry, effective_same, below_same}

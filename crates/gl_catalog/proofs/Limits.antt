@@ -13,11 +13,10 @@ use Rattle.gl_catalog.specs.declared.command.Command.TheVariants as command
 use Rattle.gl_graph.specs.Graph.{node_count}
 use Rattle.gl_graph.specs.Refusals.{first_refusal, max_count, where_true}
 use Rattle.gl_graph.specs.Shapes.{Inner}
-use Rattle.gl_table.specs.State.{State, empty_state}
-use Rattle.gl_table.specs.Calls.{accepted_once}
-use Rattle.gl_table.specs.Lawful.{IsLawful}
-use Rattle.gl_table.specs.Refusals.{no_txn}
-use Rattle.gl_table.specs.Tellings.{Told}
+use Rattle.gl_table.specs.model.State.{State, empty_state}
+use Rattle.gl_table.specs.model.Calls.{accepted_once, no_txn}
+use Rattle.gl_table.specs.model.Lawful.{IsLawful}
+use Rattle.gl_table.specs.model.Tellings.{Told}
 use Rattle.gl_catalog.specs.Tests.{refusal_of}
 use Rattle.gl_catalog.specs.Step.{Run}
 use Rattle.gl_graph.proofs.Counts.{count_grown}

@@ -11,10 +11,9 @@ use Rattle.gl_table.specs.declared.detect.Detect.{Detect}
 use Rattle.gl_table.specs.declared.detect.Detect.TheVariants.{AtBlock, ByWatcher}
 use Rattle.gl_table.specs.declared.txn.Status.{Status}
 use Rattle.gl_table.specs.declared.txn.Status.TheVariants.{Active, Waiting, Condemned}
-use Rattle.gl_table.specs.Calls.{WaitSettles, freed, freed_unless, none_but}
-use Rattle.gl_table.specs.Pumps.{condemned, granted_at, is_waiting_at, pumped, without_wait, woken}
-use Rattle.gl_table.specs.State.{State, Txn, live_by, restatus, status_in}
-use Rattle.gl_table.specs.Waiting.{Settled, SettledWithin}
+use Rattle.gl_table.specs.model.Calls.{WaitSettles, freed, freed_unless, none_but}
+use Rattle.gl_table.specs.model.State.{condemned, granted_at, is_waiting_at, pumped, without_wait, woken, State, Txn, live_by, restatus, status_in}
+use Rattle.gl_table.specs.model.State.{Settled, SettledWithin}
 use Rattle.gl_table.proofs.law.Keeps.{woken_waits}
 use Rattle.gl_table.proofs.law.Takes.{IsQuiet, restatus_quiet}
 

@@ -15,10 +15,9 @@ use Rattle.gl_graph.specs.Graph.{Graph, Node, parents_of, node_count}
 use Rattle.gl_modes.specs.Nodes.{same_node}
 use Rattle.gl_graph.specs.Changes.{with_parents, rekeyed}
 use Rattle.gl_modes.specs.Modes.{same_mode}
-use Rattle.gl_table.specs.State.{State}
-use Rattle.gl_table.specs.Effects.{eff_s, eff_x, is_read, effective}
-use Rattle.gl_table.specs.Intends.{no_parents}
-use Rattle.gl_table.specs.Calls.{moved_to}
+use Rattle.gl_table.specs.model.State.{State, no_parents}
+use Rattle.gl_table.specs.model.Lawful.{eff_s, eff_x, is_read, effective}
+use Rattle.gl_table.specs.model.Calls.{moved_to}
 use Rattle.gl_catalog.specs.Promises.{MoveKeepsMover, RekeyKeepsMover}
 use Rattle.gl_catalog.proofs.EachStep.{each_step}
 use Rattle.gl_table.proofs.law.Move.{HoldsNode, HoldsParents}

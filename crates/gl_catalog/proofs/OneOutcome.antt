@@ -11,13 +11,12 @@ use Rattle.gl_catalog.specs.declared.command.Answer.{Answer}
 use Rattle.gl_catalog.specs.declared.command.Answer.TheVariants as answer
 use Rattle.gl_catalog.specs.declared.command.Command.{Command}
 use Rattle.gl_catalog.specs.declared.command.Command.TheVariants as command
-use Rattle.gl_table.specs.State.{State, status_of}
-use Rattle.gl_table.specs.Calls.{WaitSettles, begun, enqueued, enters_at, wanted}
-use Rattle.gl_table.specs.Lawful.{IsLawful}
-use Rattle.gl_table.specs.Tellings.{Told, told, told_but}
+use Rattle.gl_table.specs.model.State.{State, status_of}
+use Rattle.gl_table.specs.model.Calls.{WaitSettles, begun, enqueued, enters_at, wanted, accepted_once}
+use Rattle.gl_table.specs.model.Lawful.{IsLawful}
+use Rattle.gl_table.specs.model.Tellings.{Told, told, told_but}
 use Rattle.gl_catalog.specs.Tests.{refusal_of, worn}
 use Rattle.gl_catalog.specs.Step.{Accepts, Answers, Goes, lock_answer, query_answer}
-use Rattle.gl_table.specs.Calls.{accepted_once}
 use Rattle.gl_catalog.specs.Promises.{OneOutcome, makes_node}
 use Rattle.gl_table.proofs.law.Lock.{MayLock, may_lock, waiting-lawful}
 use Rattle.gl_table.proofs.law.Settle.{settled_one}

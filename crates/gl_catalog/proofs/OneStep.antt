@@ -8,14 +8,13 @@ use Rattle.gl_table.specs.declared.txn.TxnId.{TxnId}
 use Rattle.gl_catalog.specs.declared.command.Answer.{Answer}
 use Rattle.gl_catalog.specs.declared.command.Command.{Command}
 use Rattle.gl_catalog.specs.declared.command.Command.TheVariants as command
-use Rattle.gl_table.specs.State.{State, lives}
-use Rattle.gl_table.specs.Lawful.{IsLawful}
+use Rattle.gl_table.specs.model.State.{State, lives}
+use Rattle.gl_table.specs.model.Lawful.{IsLawful}
 use Rattle.gl_catalog.specs.Step.{Step, Goes, Answers, query_answer}
-use Rattle.gl_table.specs.Tellings.{Told}
-use Rattle.gl_table.specs.Calls.{accepted_once}
+use Rattle.gl_table.specs.model.Tellings.{Told}
+use Rattle.gl_table.specs.model.Calls.{accepted_once, no_txn}
 use Rattle.gl_graph.specs.Refusals.{first_refusal}
 use Rattle.gl_catalog.specs.Tests.{tests_of, refusal_of}
-use Rattle.gl_table.specs.Refusals.{no_txn}
 use Rattle.gl_catalog.specs.Promises.{names, same_txn}
 use Rattle.gl_catalog.proofs.Keeps.{Keeps}
 use Rattle.gl_catalog.proofs.Made.{made_is, indexed_is, inserted_is}

@@ -15,12 +15,10 @@ use Rattle.gl_table.specs.declared.detect.Detect.{Detect}
 use Rattle.gl_table.specs.declared.detect.Detect.TheVariants.{AtBlock, ByWatcher}
 use Rattle.gl_modes.specs.Nodes.{same_node}
 use Rattle.gl_header.specs.Header.{holds, placed, without_waiter}
-use Rattle.gl_table.specs.State.{State, Txn, members, live_by, status_of, status_in, restatus, with_grant}
-use Rattle.gl_table.specs.Pumps.{is_waiting_at, pumped, without_wait, condemned}
-use Rattle.gl_table.specs.Covered.{is_covered}
-use Rattle.gl_table.specs.Waiting.{blocks, waits_for, SettledWithin, Settled}
+use Rattle.gl_table.specs.model.State.{State, Txn, members, live_by, status_of, status_in, restatus, with_grant, is_waiting_at, pumped, without_wait, condemned}
+use Rattle.gl_table.specs.model.Calls.{is_covered, begun, enqueued, released, shed, raised, WaitSettles}
+use Rattle.gl_table.specs.model.State.{blocks, waits_for, SettledWithin, Settled}
 use Rattle.gl_waits.specs.Waits.{IsWalk}
-use Rattle.gl_table.specs.Calls.{begun, enqueued, released, shed, raised, WaitSettles}
 use Rattle.gl_table.proofs.queues.Waiters.{waits_of, without_other, without_self, placed_other}
 use Rattle.gl_table.proofs.telling.Follows.{WaitsWell, Follows, SameGrants, follows_trans, follows_same, absent_well, pumped_follows}
 use Rattle.gl_modes.proofs.NodeLemmas.{same_node-equal}

@@ -13,9 +13,9 @@ use Rattle.gl_catalog.specs.declared.command.Command.TheVariants as command
 use Rattle.gl_graph.specs.Graph.{Graph, Node, IsFreeKey, node_at}
 use Rattle.gl_graph.specs.Changes.{are_apart}
 use Rattle.gl_graph.specs.Lawful.{IsLawfulGraph}
-use Rattle.gl_table.specs.State.{State, Txn, slots}
-use Rattle.gl_table.specs.Lawful.{IsLawful}
-use Rattle.gl_table.specs.Refusals.{too_many_txns, worn_begins}
+use Rattle.gl_table.specs.model.State.{State, Txn, slots}
+use Rattle.gl_table.specs.model.Lawful.{IsLawful}
+use Rattle.gl_table.specs.model.Calls.{too_many_txns, worn_begins}
 use Rattle.gl_catalog.specs.Tests.{refusal_of, worn}
 use Rattle.gl_catalog.specs.Step.{Goes, Run, Step}
 use Rattle.gl_catalog.specs.Promises.{AlwaysAnswers}

@@ -18,13 +18,11 @@ use Rattle.gl_graph.proofs.Unrefused.{not_false, not_refused, test_fails}
 use Rattle.gl_header.specs.Header.{fits, holds, is_empty}
 use Rattle.gl_table.specs.declared.txn.Status.TheVariants.{Active}
 use Rattle.gl_table.specs.declared.txn.TxnId.{TxnId}
-use Rattle.gl_table.specs.Calls.{asked_by_escalation, granted, raised, shed, wanted}
-use Rattle.gl_table.specs.Covered.{covered_children, held_children}
-use Rattle.gl_table.specs.Intends.{is_write}
-use Rattle.gl_table.specs.Lawful.{IsLawful}
-use Rattle.gl_table.specs.Refusals.{active_on, bad_mode, escalation_blocks, first_not_ix, first_of_all, need_parents, no_txn, not_held, try_tests, would_block}
-use Rattle.gl_table.specs.State.{State, lives, members, status_of}
-use Rattle.gl_table.specs.Tellings.{told}
+use Rattle.gl_table.specs.model.Calls.{asked_by_escalation, granted, raised, shed, wanted, covered_children, held_children}
+use Rattle.gl_table.specs.model.State.{is_write, State, lives, members, status_of}
+use Rattle.gl_table.specs.model.Lawful.{IsLawful}
+use Rattle.gl_table.specs.model.Calls.{active_on, bad_mode, escalation_blocks, first_not_ix, first_of_all, need_parents, no_txn, not_held, try_tests, would_block}
+use Rattle.gl_table.specs.model.Tellings.{told}
 use Rattle.gl_table.proofs.calls.Locking.{test_refused}
 use Rattle.gl_table.proofs.law.Tests.{active_after}
 use Rattle.gl_catalog.specs.declared.command.Answer.TheVariants as answer

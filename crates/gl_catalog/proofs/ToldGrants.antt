@@ -14,9 +14,9 @@ use Rattle.gl_table.specs.declared.notice.Notice.TheVariants as notice
 use Rattle.gl_graph.specs.Graph.{is_live}
 use Rattle.gl_modes.specs.Nodes.{same_node}
 use Rattle.gl_modes.specs.Modes.{same_mode}
-use Rattle.gl_table.specs.State.{State, Txn, lives, live_by, status_of, age_of, age_in}
-use Rattle.gl_table.specs.Lawful.{IsLawful}
-use Rattle.gl_table.specs.Tellings.{told, told_but, told_from, notice_of, addressed}
+use Rattle.gl_table.specs.model.State.{State, Txn, lives, live_by, status_of, age_of, age_in}
+use Rattle.gl_table.specs.model.Lawful.{IsLawful}
+use Rattle.gl_table.specs.model.Tellings.{told, told_but, told_from, notice_of, addressed}
 use Rattle.gl_catalog.specs.Promises.{is_grant_to, same_txn}
 use Rattle.gl_table.proofs.queues.Waiters.{one_among}
 use Rattle.gl_table.proofs.telling.Follows.{GrantedTo}

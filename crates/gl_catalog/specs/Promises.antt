@@ -17,14 +17,10 @@ use Rattle.gl_catalog.specs.Tests.{refusal_of}
 use Rattle.gl_catalog.specs.Step.{Goes, Run, Step}
 use Rattle.gl_graph.specs.Graph.{is_live, shape_of}
 use Rattle.gl_graph.specs.Shapes.{is_record_shape}
-use Rattle.gl_table.specs.Calls.{accepted_once}
-use Rattle.gl_table.specs.Effects.{EffS, effective, is_at_least_effect}
-use Rattle.gl_table.specs.Below.{SameBelow}
-use Rattle.gl_table.specs.Lawful.{IsLawful}
-use Rattle.gl_table.specs.Pumps.{is_waiting_at}
-use Rattle.gl_table.specs.State.{State, lives, status_of}
-use Rattle.gl_table.specs.Tellings.{Told}
-use Rattle.gl_table.specs.Waiting.{HasNoCycle, is_wait, waits_for}
+use Rattle.gl_table.specs.model.Calls.{accepted_once}
+use Rattle.gl_table.specs.model.Lawful.{EffS, effective, is_at_least_effect, SameBelow, IsLawful}
+use Rattle.gl_table.specs.model.State.{is_waiting_at, State, lives, status_of, HasNoCycle, is_wait, waits_for}
+use Rattle.gl_table.specs.model.Tellings.{Told}
 use Rattle.gl_waits.specs.Waits.{IsOnNoCycle}
 
 -- two names of one transaction

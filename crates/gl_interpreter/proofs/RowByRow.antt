@@ -13,9 +13,9 @@ use Rattle.gl_slots.specs.Slots.{has_slot, slot_limit, slots_of}
 use Rattle.gl_table.specs.declared.deadlock.Stuck.{Stuck}
 use Rattle.gl_table.specs.declared.lock_row.LockRow.{LockRow}
 use Rattle.gl_table.specs.declared.txn.TxnId.{TxnId}
-use Rattle.gl_table.specs.Answers.{RefusesOnly}
-use Rattle.gl_table.specs.Listing.{AreRowsOf}
-use Rattle.gl_table.specs.State.{State}
+use Rattle.gl_table.specs.model.Calls.{RefusesOnly}
+use Rattle.gl_table.specs.model.Table.{AreRowsOf}
+use Rattle.gl_table.specs.model.State.{State}
 use Rattle.gl_catalog.specs.Manager.{counting}
 use Rattle.gl_interpreter.specs.Printed.{refusal_line}
 use Rattle.gl_interpreter.specs.Script.{Script}

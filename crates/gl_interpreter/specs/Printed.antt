@@ -13,7 +13,7 @@ use Rattle.gl_table.specs.declared.effect.Effect.TheVariants as effect
 use Rattle.gl_table.specs.declared.notice.Notice.{Notice}
 use Rattle.gl_table.specs.declared.notice.Notice.TheVariants as notice
 use Rattle.gl_table.specs.declared.txn.TxnId.{TxnId}
-use Rattle.gl_table.specs.Tellings.{Told}
+use Rattle.gl_table.specs.model.Tellings.{Told}
 use Rattle.gl_catalog.specs.declared.command.Answer.{Answer}
 use Rattle.gl_catalog.specs.declared.command.Answer.TheVariants as answer
 use Rattle.gl_script.specs.Grammar.{Text, Node, Plain, Interval, Command, Inner, File, Index, Lock, Try, Unlock, Cancel, Commit, Abort, Settle, Insert, Delete, Rekey, Escalate, Move, Group, Held, Effective, node_text}

@@ -20,12 +20,11 @@ use Rattle.gl_table.specs.declared.detect.Detect.TheVariants.{AtBlock, ByWatcher
 use Rattle.gl_table.specs.declared.txn.Status.{Status}
 use Rattle.gl_table.specs.declared.txn.Status.TheVariants.{Active, Waiting, Condemned}
 use Rattle.gl_table.specs.declared.txn.TxnId.{TxnId}
-use Rattle.gl_table.specs.Calls.{WaitSettles, enqueued, enters_at, granted, wanted}
-use Rattle.gl_table.specs.Lawful.{IsLawful}
-use Rattle.gl_table.specs.Pumps.{awake, condemned, granted_at, is_waiting_at, without_wait, woken}
-use Rattle.gl_table.specs.State.{State, Txn, members, restatus, status_in, status_of}
-use Rattle.gl_table.specs.Tellings.{Told}
-use Rattle.gl_table.specs.Waiting.{SettledWithin, is_wait, waits_for}
+use Rattle.gl_table.specs.model.Calls.{WaitSettles, enqueued, enters_at, granted, wanted}
+use Rattle.gl_table.specs.model.Lawful.{IsLawful}
+use Rattle.gl_table.specs.model.State.{awake, condemned, granted_at, is_waiting_at, without_wait, woken, State, Txn, members, restatus, status_in, status_of}
+use Rattle.gl_table.specs.model.Tellings.{Told}
+use Rattle.gl_table.specs.model.State.{SettledWithin, is_wait, waits_for}
 use Rattle.gl_table.proofs.law.Keeps.{less-lawful}
 use Rattle.gl_table.proofs.law.Lock.{may_lock, waiting-lawful}
 use Rattle.gl_table.proofs.law.Keeps.{one_of, woken_sleeps}

@@ -12,10 +12,9 @@ use Rattle.gl_waits.specs.Boards.{age_in, board_edge}
 use Rattle.gl_waits.specs.Waits.{IsOnNoCycle}
 use Rattle.gl_waits.proofs.BoardLemmas.{row_edge-bits_of}
 use Rattle.gl_table.specs.declared.detect.Detect.TheVariants.{AtBlock}
-use Rattle.gl_table.specs.BoardOf.{board_of}
-use Rattle.gl_table.specs.Lawful.{IsLawful}
-use Rattle.gl_table.specs.State.{State, age_of, members, status_of}
-use Rattle.gl_table.specs.Waiting.{HasNoCycle, blocks, waits_for}
+use Rattle.gl_table.specs.model.Table.{board_of}
+use Rattle.gl_table.specs.model.Lawful.{IsLawful}
+use Rattle.gl_table.specs.model.State.{State, age_of, members, status_of, HasNoCycle, blocks, waits_for}
 use Rattle.gl_table.proofs.law.Edges.{step_is}
 use Rattle.gl_table.proofs.law.Keeps.{nl_is, txn_there}
 use Rattle.gl_table.proofs.telling.Fronts.{waits_there}

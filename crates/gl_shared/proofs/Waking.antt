@@ -8,9 +8,9 @@ use Rattle.gl_modes.proofs.Words.{and_both, or_elim}
 use Rattle.gl_waits.specs.Sets.{has_slot}
 use Rattle.gl_waits.proofs.SetLemmas.{has_slot-or}
 use Rattle.gl_table.specs.declared.txn.TxnId.{TxnId}
-use Rattle.gl_table.specs.Lawful.{IsLawful}
-use Rattle.gl_table.specs.State.{State}
-use Rattle.gl_table.specs.Tellings.{Told}
+use Rattle.gl_table.specs.model.Lawful.{IsLawful}
+use Rattle.gl_table.specs.model.State.{State}
+use Rattle.gl_table.specs.model.Tellings.{Told}
 use Rattle.gl_catalog.specs.declared.command.Answer.{Answer}
 use Rattle.gl_catalog.specs.declared.command.Command.{Command}
 use Rattle.gl_catalog.specs.declared.command.Command.TheVariants as command

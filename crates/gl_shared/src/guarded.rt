@@ -3,14 +3,12 @@
 ghost use Rattle.std.specs.Prelude.{◌≡◌, ◌+◌, ◌++◌, ◌∷◌, ◌≤◌, ◌<◌, ◌⊎◌, ◌||◌, [], true, false, None, Some, Ok, List, slice_set, replicate, IfSome, is_some};
 ghost use Rattle.gl_modes.specs.declared.mode.Mode.{Mode as AMode};
 ghost use Rattle.gl_modes.specs.Modes.{is_at_least};
-ghost use Rattle.gl_table.specs.BoardOf.{board_of};
+ghost use Rattle.gl_table.specs.model.Table.{board_of};
 ghost use Rattle.gl_table.specs.declared.detect.Detect.TheVariants.{AtBlock};
 ghost use Rattle.gl_table.specs.declared.notice.Notice.{Notice};
 ghost use Rattle.gl_table.specs.declared.txn.TxnId.{TxnId};
-ghost use Rattle.gl_table.specs.Pumps.{is_waiting_at};
-ghost use Rattle.gl_table.specs.State.{lives};
-ghost use Rattle.gl_table.specs.Tellings.{Told as Notices};
-ghost use Rattle.gl_table.specs.Waiting.{HasNoCycle};
+ghost use Rattle.gl_table.specs.model.State.{is_waiting_at, lives, HasNoCycle};
+ghost use Rattle.gl_table.specs.model.Tellings.{Told as Notices};
 ghost use Rattle.gl_catalog.specs.declared.command.Answer.TheVariants.{Granted};
 ghost use Rattle.gl_catalog.specs.declared.command.Command.TheVariants.{Lock};
 ghost use Rattle.gl_catalog.specs.Manager.{IsLawfulManager, state_of};

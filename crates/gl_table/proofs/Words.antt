@@ -106,46 +106,36 @@ pub use Rattle.gl_waits.specs.Waits.{IsLowestYoungest, IsOnCycleOf, IsOnNoCycle,
 pub use Rattle.gl_waits.specs.declared.board.Board.{Board}
 pub use Rattle.gl_waits.specs.declared.victims.Victims.{Victims}
 pub use Rattle.gl_waits.specs.declared.victims.Victims.TheVariants.{Fewest, Youngest}
-pub use Rattle.gl_table.specs.Answers.{answered, asked_at, locked_as, RefusesOnly}
-pub use Rattle.gl_table.specs.Below.{SameBelow}
-pub use Rattle.gl_table.specs.BoardOf.{board_of, shown}
-pub use Rattle.gl_table.specs.Calls.{asked_by_escalation, begun, cancelled, deleted, enqueued, enters_at, free_slot, freed, freed_unless, granted, moved_to}
-pub use Rattle.gl_table.specs.Calls.{none_but, raised, released, shed, stays, unlocked, WaitSettles, wanted}
-pub use Rattle.gl_table.specs.Covered.{covered_children, held_children, holds_child, is_covered}
-pub use Rattle.gl_table.specs.Deadlocks.{has_row, IsDeadlock, IsStuck, LocksKeeping, name_at, RowsLeadOn, SettlesKeeping, SettlesKeepingWithin, VictimHasRow}
-pub use Rattle.gl_table.specs.Deadlocks.{WaitSettlesKeeping}
-pub use Rattle.gl_table.specs.Effects.{eff_s, eff_x, effect_on, effective, EffX, HasNoConflict, is_read, IsCut}
-pub use Rattle.gl_table.specs.Frees.{CanFree, Frees, FreesLists, FreesTold}
-pub use Rattle.gl_table.specs.Headers.{AreHeaders, AreHeadersBut, Entries, header_at, header_or_new, held_of, is_granted_at, members_at, queue_of, with_members}
-pub use Rattle.gl_table.specs.Headers.{with_waiters}
-pub use Rattle.gl_table.specs.Intends.{intends, intends_over, is_write, no_parents}
-pub use Rattle.gl_table.specs.Lawful.{IsLawful, ModeFitsKind}
-pub use Rattle.gl_table.specs.Laws.{CondemningFrees, CutSetLaw, EmptyHasNoCycle, LawfulCutSet, LawfulNoConflict, NoConflictLaw, OneFalls, SettlingEnds}
-pub use Rattle.gl_table.specs.Laws.{SettlingFrees}
-pub use Rattle.gl_table.specs.Listing.{AreRowsOf, is_row_of, row_of, rows_of}
-pub use Rattle.gl_table.specs.Lists.{count_in, count_of, entry_of, HasRoom, is_listed, loose_of, mode_in, mode_of, unlisted}
-unfoldable pub use Rattle.gl_table.specs.Lists.{IsApart}
-pub use Rattle.gl_table.specs.Locks.{state_in, Agrees, AreNew, AreSound, CountsHeld, IsOrderly, state_on}
-pub use Rattle.gl_table.specs.Marks.{covered_in, IsShedding, NoneMarkedFrom}
-pub use Rattle.gl_table.specs.OneHolder.{IsOneHolder}
-pub use Rattle.gl_table.specs.Pumping.{WaitWell}
-pub use Rattle.gl_table.specs.Pumps.{awake, condemned, front_at, granted_at, is_waiting_at, pumped, waits_at, without_wait, woken}
-pub use Rattle.gl_table.specs.Refusals.{active_on, bad_mode, begin_tests, child_held, commit_tests, condemned_test, first_not_ix, first_of_all, held_child}
-pub use Rattle.gl_table.specs.Refusals.{holds_x, holds_x_on_all, lock_tests, need_exclusive, need_new_parents, need_parents, no_node, no_txn, not_held}
-pub use Rattle.gl_table.specs.Refusals.{rule_refusal, some_given, too_many_txns, try_tests, unlock_tests, waiting_test, would_block}
-pub use Rattle.gl_table.specs.Seating.{IsSeating}
-pub use Rattle.gl_table.specs.Seats.{is_free, is_free_at, SeatList, txn_in, txns_of}
-pub use Rattle.gl_table.specs.Slots.{AreApart, by_list, CanHold, CanStrike, CanWake, counted_by, grant_notice, HasRoomAt, held_by, Holds, KeepsLists, listed_by}
-pub use Rattle.gl_table.specs.Slots.{mode_given, room_by, Strikes, unlisted_by, Wakes, WakesLists, WakesTold}
-pub use Rattle.gl_table.specs.Sound.{IsSound, view_of}
-pub use Rattle.gl_table.specs.State.{age_in, age_of, choosing, empty_state, live_by, lives, members, restatus, slots, State, status_in, status_of, Txn}
-pub use Rattle.gl_table.specs.State.{with_grant, with_graph, with_txn}
-pub use Rattle.gl_table.specs.Steps.{children_that, HasLeft, stripped}
-pub use Rattle.gl_table.specs.Table.{entry_at, ListsAgree, StandOnce, state_of, TableView}
-pub use Rattle.gl_table.specs.Telling.{is_rising, IsBySlot, notices_in}
-pub use Rattle.gl_table.specs.Tellings.{addressed, notice_of, Told, told, told_but, told_from}
-pub use Rattle.gl_table.specs.Tells.{IsOnWay, told_to}
-pub use Rattle.gl_table.specs.Waiting.{blocks, HasNoCycle, is_wait, IsVictim, Settled, SettledWithin, waits_for}
+pub use Rattle.gl_table.specs.model.Calls.{answered, asked_at, locked_as, RefusesOnly}
+pub use Rattle.gl_table.specs.model.Lawful.{SameBelow, eff_s, eff_x, effect_on, effective, EffX, HasNoConflict, is_read, IsCut, IsLawful, ModeFitsKind}
+pub use Rattle.gl_table.specs.model.Table.{board_of, shown, AreRowsOf, is_row_of, row_of, rows_of, entry_at, ListsAgree, StandOnce, state_of, TableView}
+pub use Rattle.gl_table.specs.model.Calls.{asked_by_escalation, begun, cancelled, deleted, enqueued, enters_at, free_slot, freed, freed_unless, granted, moved_to}
+pub use Rattle.gl_table.specs.model.Calls.{none_but, raised, released, shed, stays, unlocked, WaitSettles, wanted}
+pub use Rattle.gl_table.specs.model.Calls.{covered_children, held_children, holds_child, is_covered}
+pub use Rattle.gl_table.specs.model.Deadlocks.{has_row, IsDeadlock, IsStuck, LocksKeeping, name_at, RowsLeadOn, SettlesKeeping, SettlesKeepingWithin, VictimHasRow}
+pub use Rattle.gl_table.specs.model.Deadlocks.{WaitSettlesKeeping}
+pub use Rattle.gl_table.specs.inside.Slots.{CanFree, Frees, FreesLists, FreesTold}
+pub use Rattle.gl_table.specs.inside.Headers.{AreHeaders, AreHeadersBut, Entries, header_at, header_or_new, held_of, is_granted_at, members_at, queue_of, with_members}
+pub use Rattle.gl_table.specs.inside.Headers.{with_waiters, IsOneHolder}
+pub use Rattle.gl_table.specs.model.State.{intends, intends_over, is_write, no_parents}
+pub use Rattle.gl_table.specs.model.Lawful.{CondemningFrees, CutSetLaw, EmptyHasNoCycle, LawfulCutSet, LawfulNoConflict, NoConflictLaw, OneFalls, SettlingEnds}
+pub use Rattle.gl_table.specs.model.Lawful.{SettlingFrees}
+pub use Rattle.gl_table.specs.inside.Lists.{count_in, count_of, entry_of, HasRoom, is_listed, loose_of, mode_in, mode_of, unlisted}
+unfoldable pub use Rattle.gl_table.specs.inside.Lists.{IsApart}
+pub use Rattle.gl_table.specs.inside.Locks.{state_in, Agrees, AreNew, AreSound, CountsHeld, IsOrderly, state_on, WaitWell}
+pub use Rattle.gl_table.specs.inside.Lists.{covered_in, IsShedding, NoneMarkedFrom}
+pub use Rattle.gl_table.specs.model.State.{awake, condemned, front_at, granted_at, is_waiting_at, pumped, waits_at, without_wait, woken}
+pub use Rattle.gl_table.specs.model.Calls.{active_on, bad_mode, begin_tests, child_held, commit_tests, condemned_test, first_not_ix, first_of_all, held_child}
+pub use Rattle.gl_table.specs.model.Calls.{holds_x, holds_x_on_all, lock_tests, need_exclusive, need_new_parents, need_parents, no_node, no_txn, not_held}
+pub use Rattle.gl_table.specs.model.Calls.{rule_refusal, some_given, too_many_txns, try_tests, unlock_tests, waiting_test, would_block}
+pub use Rattle.gl_table.specs.inside.Seating.{IsSeating}
+pub use Rattle.gl_table.specs.inside.Seats.{is_free, is_free_at, SeatList, txn_in, txns_of}
+pub use Rattle.gl_table.specs.inside.Slots.{AreApart, by_list, CanHold, CanStrike, CanWake, counted_by, grant_notice, HasRoomAt, held_by, Holds, KeepsLists, listed_by}
+pub use Rattle.gl_table.specs.inside.Slots.{mode_given, room_by, Strikes, unlisted_by, Wakes, WakesLists, WakesTold, is_rising, IsBySlot, notices_in}
+pub use Rattle.gl_table.specs.inside.Sound.{IsSound, view_of}
+pub use Rattle.gl_table.specs.model.State.{age_in, age_of, choosing, empty_state, live_by, lives, members, restatus, slots, State, status_in, status_of, Txn}
+pub use Rattle.gl_table.specs.model.State.{with_grant, with_graph, with_txn, blocks, HasNoCycle, is_wait, IsVictim, Settled, SettledWithin, waits_for}
+pub use Rattle.gl_table.specs.model.Tellings.{children_that, HasLeft, stripped, addressed, notice_of, Told, told, told_but, told_from, IsOnWay, told_to}
 pub use Rattle.gl_table.specs.declared.deadlock.Deadlock.{Deadlock}
 pub use Rattle.gl_table.specs.declared.deadlock.Stuck.{Stuck}
 pub use Rattle.gl_table.specs.declared.detect.Detect.{Detect}

@@ -3,15 +3,12 @@
 ghost use Rattle.std.specs.Prelude.{◌≡◌, ◌<◌, ◌==◌, [], ℕ, IfNone, IfSome, None, Some, false, length, true};
 ghost use Rattle.gl_graph.specs.Graph.{Graph as AGraph};
 ghost use Rattle.gl_waits.specs.Waits.{IsOnNoCycle};
-ghost use Rattle.gl_table.specs.Locks.{Agrees, AreSound, CountsHeld, IsOrderly, state_in, state_on};
-ghost use Rattle.gl_table.specs.Calls.{WaitSettles};
-ghost use Rattle.gl_table.specs.Deadlocks.{SettlesKeeping, WaitSettlesKeeping};
-ghost use Rattle.gl_table.specs.Pumps.{condemned};
-ghost use Rattle.gl_table.specs.State.{State, status_of};
-ghost use Rattle.gl_table.specs.Telling.{IsBySlot, notices_in};
-ghost use Rattle.gl_table.specs.Tellings.{told_but};
-ghost use Rattle.gl_table.specs.Tells.{IsOnWay, told_to};
-ghost use Rattle.gl_table.specs.Waiting.{IsVictim, Settled, is_wait, waits_for};
+ghost use Rattle.gl_table.specs.inside.Locks.{Agrees, AreSound, CountsHeld, IsOrderly, state_in, state_on};
+ghost use Rattle.gl_table.specs.model.Calls.{WaitSettles};
+ghost use Rattle.gl_table.specs.model.Deadlocks.{SettlesKeeping, WaitSettlesKeeping};
+ghost use Rattle.gl_table.specs.model.State.{condemned, State, status_of, IsVictim, Settled, is_wait, waits_for};
+ghost use Rattle.gl_table.specs.inside.Slots.{IsBySlot, notices_in};
+ghost use Rattle.gl_table.specs.model.Tellings.{told_but, IsOnWay, told_to};
 
 use crate::boards::{Waits, ages};
 use crate::deadlock::Deadlock;

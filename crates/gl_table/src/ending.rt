@@ -4,12 +4,11 @@ ghost use Rattle.std.specs.Prelude.{◌≡◌, ◌<◌, ◌==◌, ℕ, None, Som
 ghost use Rattle.gl_modes.specs.declared.mode.Mode.TheVariants.{NL};
 ghost use Rattle.gl_modes.specs.declared.node.NodeId.{NodeId as Node};
 ghost use Rattle.gl_header.specs.Header.{is_among_waiters};
-ghost use Rattle.gl_table.specs.Calls.{released};
-ghost use Rattle.gl_table.specs.Locks.{Agrees, AreSound, CountsHeld, IsOrderly, state_in};
-ghost use Rattle.gl_table.specs.State.{State, status_of, with_txn};
-ghost use Rattle.gl_table.specs.Telling.{IsBySlot, notices_in};
-ghost use Rattle.gl_table.specs.Tells.{IsOnWay, told_to};
-ghost use Rattle.gl_table.specs.Waiting.{is_wait};
+ghost use Rattle.gl_table.specs.model.Calls.{released};
+ghost use Rattle.gl_table.specs.inside.Locks.{Agrees, AreSound, CountsHeld, IsOrderly, state_in};
+ghost use Rattle.gl_table.specs.model.State.{State, status_of, with_txn, is_wait};
+ghost use Rattle.gl_table.specs.inside.Slots.{IsBySlot, notices_in};
+ghost use Rattle.gl_table.specs.model.Tellings.{IsOnWay, told_to};
 
 use crate::locks::Locks;
 use crate::notice::Told;

@@ -4,11 +4,10 @@ ghost use Rattle.std.specs.Prelude.{◌≡◌, ◌<◌, ◌&&◌, ◌↔◌, ℕ
 ghost use Rattle.gl_graph.specs.Graph.{Graph as AGraph};
 ghost use Rattle.gl_slots.specs.Slots.{has_slot};
 ghost use Rattle.gl_waits.specs.Waits.{IsOnCycleOf};
-ghost use Rattle.gl_table.specs.Deadlocks.{IsDeadlock, name_at};
-ghost use Rattle.gl_table.specs.Locks.{AreSound, state_on};
-ghost use Rattle.gl_table.specs.Seats.{txns_of};
-ghost use Rattle.gl_table.specs.State.{status_in, status_of};
-ghost use Rattle.gl_table.specs.Waiting.{is_wait, waits_for};
+ghost use Rattle.gl_table.specs.model.Deadlocks.{IsDeadlock, name_at};
+ghost use Rattle.gl_table.specs.inside.Locks.{AreSound, state_on};
+ghost use Rattle.gl_table.specs.inside.Seats.{txns_of};
+ghost use Rattle.gl_table.specs.model.State.{status_in, status_of, is_wait, waits_for};
 ghost use Rattle.gl_table.specs.declared.txn.Status.TheVariants.{Waiting};
 
 use crate::boards::Waits;

@@ -10,14 +10,13 @@ ghost use Rattle.gl_modes.specs.declared.mode.Mode.TheVariants.{NL, X};
 ghost use Rattle.gl_graph.specs.Graph.{is_child, is_live, nodes, parents_of};
 ghost use Rattle.gl_graph.specs.View.{graph_of};
 ghost use Rattle.gl_modes.specs.declared.node.NodeId.{NodeId as Node};
-ghost use Rattle.gl_table.specs.Marks.{NoneMarkedFrom, covered_in};
+ghost use Rattle.gl_table.specs.inside.Lists.{NoneMarkedFrom, covered_in, HasRoom, IsApart, count_of, entry_of, is_listed, mode_of, unlisted};
 ghost use Rattle.indexmap.specs.IndexMap.{keys, swap_remove_entry};
 ghost use Rattle.std.specs.Map.{keys_of, lookup};
 ghost use Rattle.gl_modes.specs.Modes.{same_mode};
 ghost use Rattle.gl_modes.specs.Nodes.{same_node};
-ghost use Rattle.gl_table.specs.Intends.{is_write};
-ghost use Rattle.gl_table.specs.Listing.{row_of};
-ghost use Rattle.gl_table.specs.Lists.{HasRoom, IsApart, count_of, entry_of, is_listed, mode_of, unlisted};
+ghost use Rattle.gl_table.specs.model.State.{is_write};
+ghost use Rattle.gl_table.specs.model.Table.{row_of};
 
 use crate::lock_row::LockRow;
 use gl_graph::Graph;

@@ -9,13 +9,11 @@ ghost use Rattle.gl_graph.specs.Graph.{is_live, shape_of};
 ghost use Rattle.gl_graph.specs.Shapes.{is_record_shape};
 ghost use Rattle.gl_graph.specs.View.{graph_of};
 ghost use Rattle.gl_header.specs.Header.{holds, is_among_waiters};
-ghost use Rattle.gl_table.specs.Calls.{deleted};
-ghost use Rattle.gl_table.specs.Frees.{CanFree, Frees, FreesTold};
-ghost use Rattle.gl_table.specs.Locks.{Agrees, AreSound, CountsHeld, IsOrderly, state_in, state_on};
-ghost use Rattle.gl_table.specs.OneHolder.{IsOneHolder};
-ghost use Rattle.gl_table.specs.Slots.{HasRoomAt, KeepsLists};
-ghost use Rattle.gl_table.specs.State.{members, status_of, with_grant};
-ghost use Rattle.gl_table.specs.Telling.{IsBySlot, notices_in};
+ghost use Rattle.gl_table.specs.model.Calls.{deleted};
+ghost use Rattle.gl_table.specs.inside.Slots.{CanFree, Frees, FreesTold, HasRoomAt, KeepsLists, IsBySlot, notices_in};
+ghost use Rattle.gl_table.specs.inside.Locks.{Agrees, AreSound, CountsHeld, IsOrderly, state_in, state_on};
+ghost use Rattle.gl_table.specs.inside.Headers.{IsOneHolder};
+ghost use Rattle.gl_table.specs.model.State.{members, status_of, with_grant};
 ghost use Rattle.gl_table.specs.declared.txn.Status.TheVariants.{Active};
 
 use crate::asking::make_room;

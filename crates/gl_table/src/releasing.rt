@@ -3,13 +3,10 @@
 ghost use Rattle.std.specs.Prelude.{◌≡◌, ℕ, None, Some, true};
 ghost use Rattle.gl_modes.specs.declared.mode.Mode.TheVariants.{NL};
 ghost use Rattle.gl_header.specs.Header.{holds, is_among_waiters};
-ghost use Rattle.gl_table.specs.Calls.{unlocked};
-ghost use Rattle.gl_table.specs.Covered.{held_children};
-ghost use Rattle.gl_table.specs.Locks.{Agrees, AreSound, CountsHeld, IsOrderly, state_in};
-ghost use Rattle.gl_table.specs.Pumps.{front_at};
-ghost use Rattle.gl_table.specs.Slots.{AreApart, CanStrike, Strikes, WakesTold};
-ghost use Rattle.gl_table.specs.State.{members, status_of, with_grant};
-ghost use Rattle.gl_table.specs.Telling.{IsBySlot, notices_in};
+ghost use Rattle.gl_table.specs.model.Calls.{unlocked, held_children};
+ghost use Rattle.gl_table.specs.inside.Locks.{Agrees, AreSound, CountsHeld, IsOrderly, state_in};
+ghost use Rattle.gl_table.specs.model.State.{front_at, members, status_of, with_grant};
+ghost use Rattle.gl_table.specs.inside.Slots.{AreApart, CanStrike, Strikes, WakesTold, IsBySlot, notices_in};
 ghost use Rattle.gl_table.specs.declared.txn.Status.TheVariants.{Active};
 
 use crate::list::LockList;

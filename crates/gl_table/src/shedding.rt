@@ -2,14 +2,12 @@
 
 ghost use Rattle.std.specs.Prelude.{◌≡◌, ◌==◌, ℕ, None, Some, false, true};
 ghost use Rattle.gl_modes.specs.declared.node.NodeId.{NodeId as Node};
-ghost use Rattle.gl_table.specs.Calls.{shed};
-ghost use Rattle.gl_table.specs.Lists.{mode_of};
-ghost use Rattle.gl_table.specs.Locks.{Agrees, AreSound, CountsHeld, IsOrderly, state_in};
-ghost use Rattle.gl_table.specs.Marks.{IsShedding};
-ghost use Rattle.gl_table.specs.State.{State, status_of};
-ghost use Rattle.gl_table.specs.Telling.{IsBySlot, notices_in};
-ghost use Rattle.gl_table.specs.Tells.{IsOnWay, told_to};
-ghost use Rattle.gl_table.specs.Waiting.{is_wait};
+ghost use Rattle.gl_table.specs.model.Calls.{shed};
+ghost use Rattle.gl_table.specs.inside.Lists.{mode_of, IsShedding};
+ghost use Rattle.gl_table.specs.inside.Locks.{Agrees, AreSound, CountsHeld, IsOrderly, state_in};
+ghost use Rattle.gl_table.specs.model.State.{State, status_of, is_wait};
+ghost use Rattle.gl_table.specs.inside.Slots.{IsBySlot, notices_in};
+ghost use Rattle.gl_table.specs.model.Tellings.{IsOnWay, told_to};
 ghost use Rattle.gl_table.specs.declared.txn.Status.TheVariants.{Active};
 
 use crate::list::LockList;

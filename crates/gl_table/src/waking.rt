@@ -2,7 +2,7 @@
 
 ghost use Rattle.std.specs.Prelude.{◌≡◌};
 ghost use Rattle.gl_header.specs.Header.{is_among_waiters};
-ghost use Rattle.gl_table.specs.Slots.{AreApart, CanHold, CanWake, Holds, Wakes};
+ghost use Rattle.gl_table.specs.inside.Slots.{AreApart, CanHold, CanWake, Holds, Wakes};
 
 use crate::list::LockList;
 use crate::notice::{Notice, Told};

@@ -3,12 +3,9 @@
 ghost use Rattle.std.specs.Prelude.{◌≡◌, ◌==◌, ℕ, None, Some, false, true};
 ghost use Rattle.gl_modes.specs.declared.mode.Mode.{Mode as AMode};
 ghost use Rattle.gl_modes.specs.declared.node.NodeId.{NodeId as Node};
-ghost use Rattle.gl_table.specs.Locks.{Agrees, AreSound, CountsHeld, IsOrderly, state_in};
-ghost use Rattle.gl_table.specs.Pumps.{front_at, is_waiting_at, pumped, without_wait};
-ghost use Rattle.gl_table.specs.Slots.{WakesTold};
-ghost use Rattle.gl_table.specs.State.{status_of};
-ghost use Rattle.gl_table.specs.Telling.{IsBySlot, notices_in};
-ghost use Rattle.gl_table.specs.Waiting.{is_wait};
+ghost use Rattle.gl_table.specs.inside.Locks.{Agrees, AreSound, CountsHeld, IsOrderly, state_in};
+ghost use Rattle.gl_table.specs.model.State.{front_at, is_waiting_at, pumped, without_wait, status_of, is_wait};
+ghost use Rattle.gl_table.specs.inside.Slots.{WakesTold, IsBySlot, notices_in};
 ghost use Rattle.gl_table.specs.declared.txn.Status.TheVariants.{Waiting};
 
 use crate::locks::Locks;

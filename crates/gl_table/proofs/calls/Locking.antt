@@ -9,7 +9,7 @@ use Rattle.gl_table.proofs.Words.{told_but, true, try_tests, TxnId, txns_of, ver
 use Rattle.gl_table.proofs.Words.{where_true, would_block, ℕ}
 use Rattle.gl_table.specs.declared.locks.Locks.{Locks}
 use Rattle.gl_table.specs.declared.table.Table.TheInside.{Inside}
-use Rattle.gl_table.specs.Calls.{Locks}
+use Rattle.gl_table.specs.model.Calls.{Locks}
 use Rattle.gl_modes.specs.declared.refusal.Refusal.TheVariants as no
 use Rattle.gl_table.specs.declared.locks.Locks as code
 use Rattle.gl_table.specs.declared.outcome.Locked.TheVariants as locked

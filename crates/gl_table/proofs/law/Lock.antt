@@ -7,7 +7,7 @@ use Rattle.gl_table.proofs.Words.{no_step-no_cycle, NodeId, None, not_refused, n
 use Rattle.gl_table.proofs.Words.{restatus, same_node, same_node-equal, same_node-sym, Settled, SettledWithin, SettlingFrees, shed, Some, split, State, Status}
 use Rattle.gl_table.proofs.Words.{status_in, status_of, subst, suc, supremum-above, sym, true, Txn, TxnId, Victims, Waiter, waits_for, WaitSettles, wanted}
 use Rattle.gl_table.proofs.Words.{with_grant, without_wait, without_waiter, zero, ℕ}
-use Rattle.gl_table.specs.Calls.{Locks}
+use Rattle.gl_table.specs.model.Calls.{Locks}
 use Rattle.gl_table.proofs.law.Edges.{begun_steps, enqueued_steps, granted_steps, idle_no_step, less_steps, pumped_steps}
 use Rattle.gl_table.proofs.law.Keeps.{apart, IsLess, less-lawful, pumped-lawful, with_grant-lawful}
 use Rattle.gl_table.proofs.law.Takes.{at_all, condemned-lawful, enqueued-lawful, IsQuiet, released-less, settled-lawful, taken-less, without_wait-less}

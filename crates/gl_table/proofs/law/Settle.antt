@@ -6,7 +6,7 @@ use Rattle.gl_table.proofs.Words.{is_waiter, is_waiting_at, IsLawful, IsOnNoCycl
 use Rattle.gl_table.proofs.Words.{NL, NodeId, None, not, OneFalls, Option, or_elim, or_left, or_no, or_right, range_with_len, Reaches, refl, restatus, rules}
 use Rattle.gl_table.proofs.Words.{same_number, Settled, SettledWithin, SettlingEnds, slots, Some, split, State, Status, status_in, status_of, subst, suc, sym}
 use Rattle.gl_table.proofs.Words.{true, TxnId, Victims, Waiter, Waiting, waits_for, WaitSettles, wanted, with_grant, with_mode, without_wait, zero, ℕ, ⊎_elim}
-use Rattle.gl_table.specs.Calls.{Locks}
+use Rattle.gl_table.specs.model.Calls.{Locks}
 use Rattle.gl_table.proofs.law.Edges.{is_step, step_is}
 use Rattle.gl_table.proofs.law.Keeps.{nl_is, txn_there, waiting_is, woken_waits}
 use Rattle.gl_table.proofs.law.Lock.{condemned_steps, MayLock, waiting-lawful}

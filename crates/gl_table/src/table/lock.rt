@@ -7,13 +7,11 @@ ghost use Rattle.gl_graph.specs.Graph.{shape_of};
 ghost use Rattle.gl_graph.specs.Refusals.{Refuses, first_refusal};
 ghost use Rattle.gl_graph.specs.Shapes.{is_record_shape};
 ghost use Rattle.gl_header.specs.Header.{holds};
-ghost use Rattle.gl_table.specs.Answers.{answered, locked_as};
-ghost use Rattle.gl_table.specs.Calls.{Locks, enters_at, granted, wanted};
-ghost use Rattle.gl_table.specs.Deadlocks.{LocksKeeping};
-ghost use Rattle.gl_table.specs.Refusals.{lock_tests, try_tests};
-ghost use Rattle.gl_table.specs.State.{members, status_of};
-ghost use Rattle.gl_table.specs.Table.{state_of};
-ghost use Rattle.gl_table.specs.Tellings.{told_but};
+ghost use Rattle.gl_table.specs.model.Calls.{answered, locked_as, Locks, enters_at, granted, wanted, lock_tests, try_tests};
+ghost use Rattle.gl_table.specs.model.Deadlocks.{LocksKeeping};
+ghost use Rattle.gl_table.specs.model.State.{members, status_of};
+ghost use Rattle.gl_table.specs.model.Table.{state_of};
+ghost use Rattle.gl_table.specs.model.Tellings.{told_but};
 
 use super::Table;
 use crate::headers::would_grant;

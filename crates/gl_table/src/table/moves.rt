@@ -7,11 +7,10 @@ ghost use Rattle.gl_graph.specs.Graph.{first_parent, parents_of, shape_of};
 ghost use Rattle.gl_graph.specs.Lawful.{AreInnerParents};
 ghost use Rattle.gl_graph.specs.Refusals.{first_cycle};
 ghost use Rattle.gl_graph.specs.Shapes.{is_index_of_shape, is_movable_shape, is_record_shape, least_parents};
-ghost use Rattle.gl_table.specs.Calls.{moved_to};
-ghost use Rattle.gl_table.specs.Refusals.{need_exclusive, need_new_parents, some_given};
-ghost use Rattle.gl_table.specs.State.{lives, status_of};
-ghost use Rattle.gl_table.specs.Table.{state_of};
-ghost use Rattle.gl_table.specs.Tellings.{told};
+ghost use Rattle.gl_table.specs.model.Calls.{moved_to, need_exclusive, need_new_parents, some_given};
+ghost use Rattle.gl_table.specs.model.State.{lives, status_of};
+ghost use Rattle.gl_table.specs.model.Table.{state_of};
+ghost use Rattle.gl_table.specs.model.Tellings.{told};
 ghost use Rattle.gl_table.specs.declared.txn.Status.TheVariants.{Active};
 
 use super::Table;

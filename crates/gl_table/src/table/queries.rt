@@ -5,14 +5,10 @@ ghost use Rattle.std.specs.List.{list_any};
 ghost use Rattle.gl_graph.specs.Graph.{is_child, nodes};
 ghost use Rattle.gl_graph.specs.Refusals.{Refuses, first_refusal};
 ghost use Rattle.gl_header.specs.Header.{group_of, holds};
-ghost use Rattle.gl_table.specs.Answers.{answered};
-ghost use Rattle.gl_table.specs.BoardOf.{board_of};
-ghost use Rattle.gl_table.specs.Covered.{held_children};
-ghost use Rattle.gl_table.specs.Effects.{effective};
-ghost use Rattle.gl_table.specs.Intends.{is_write};
-ghost use Rattle.gl_table.specs.Refusals.{group_tests, held_tests};
-ghost use Rattle.gl_table.specs.State.{lives, members};
-ghost use Rattle.gl_table.specs.Table.{state_of};
+ghost use Rattle.gl_table.specs.model.Calls.{answered, held_children, group_tests, held_tests};
+ghost use Rattle.gl_table.specs.model.Table.{board_of, state_of};
+ghost use Rattle.gl_table.specs.model.Lawful.{effective};
+ghost use Rattle.gl_table.specs.model.State.{is_write, lives, members};
 
 use super::Table;
 use crate::boards::board;

@@ -8,11 +8,10 @@ ghost use Rattle.gl_graph.specs.Changes.{IsBorn};
 ghost use Rattle.gl_graph.specs.Graph.{indexes_of, record_parents, shape_of};
 ghost use Rattle.gl_graph.specs.Refusals.{Refuses, first_refusal, record_refusal, too_many_nodes, worn_births};
 ghost use Rattle.gl_graph.specs.Shapes.{Rec, is_file_shape, is_record_shape};
-ghost use Rattle.gl_table.specs.Calls.{deleted};
-ghost use Rattle.gl_table.specs.Refusals.{first_not_ix};
-ghost use Rattle.gl_table.specs.State.{lives, status_of, with_grant, with_graph};
-ghost use Rattle.gl_table.specs.Table.{state_of};
-ghost use Rattle.gl_table.specs.Tellings.{told};
+ghost use Rattle.gl_table.specs.model.Calls.{deleted, first_not_ix};
+ghost use Rattle.gl_table.specs.model.State.{lives, status_of, with_grant, with_graph};
+ghost use Rattle.gl_table.specs.model.Table.{state_of};
+ghost use Rattle.gl_table.specs.model.Tellings.{told};
 ghost use Rattle.gl_table.specs.declared.txn.Status.TheVariants.{Active};
 
 use super::Table;

@@ -2,11 +2,9 @@
 
 ghost use Rattle.std.specs.Prelude.{◌≡◌, [], IfOk, OnErr, OnOk};
 ghost use Rattle.gl_graph.specs.Refusals.{first_refusal};
-ghost use Rattle.gl_table.specs.Answers.{RefusesOnly};
-ghost use Rattle.gl_table.specs.Calls.{released, unlocked};
-ghost use Rattle.gl_table.specs.Refusals.{commit_tests, living_tests, unlock_tests};
-ghost use Rattle.gl_table.specs.Table.{state_of};
-ghost use Rattle.gl_table.specs.Tellings.{told};
+ghost use Rattle.gl_table.specs.model.Calls.{RefusesOnly, released, unlocked, commit_tests, living_tests, unlock_tests};
+ghost use Rattle.gl_table.specs.model.Table.{state_of};
+ghost use Rattle.gl_table.specs.model.Tellings.{told};
 
 use super::Table;
 use crate::notice::Told;

@@ -3,11 +3,10 @@
 ghost use Rattle.std.specs.Prelude.{◌≡◌, ◌-◌, [], Some, true};
 ghost use Rattle.gl_modes.specs.declared.mode.Mode.TheVariants.{S};
 ghost use Rattle.gl_modes.specs.Modes.{is_at_least};
-ghost use Rattle.gl_table.specs.Calls.{shed};
-ghost use Rattle.gl_table.specs.Covered.{covered_children, held_children};
-ghost use Rattle.gl_table.specs.State.{lives, status_of};
-ghost use Rattle.gl_table.specs.Table.{state_of};
-ghost use Rattle.gl_table.specs.Tellings.{told};
+ghost use Rattle.gl_table.specs.model.Calls.{shed, covered_children, held_children};
+ghost use Rattle.gl_table.specs.model.State.{lives, status_of};
+ghost use Rattle.gl_table.specs.model.Table.{state_of};
+ghost use Rattle.gl_table.specs.model.Tellings.{told};
 ghost use Rattle.gl_table.specs.declared.txn.Status.TheVariants.{Active};
 
 use super::Table;

@@ -2,14 +2,11 @@
 
 ghost use Rattle.std.specs.Prelude.{◌≡◌, [], IfOk, OnErr, OnOk, true};
 ghost use Rattle.gl_graph.specs.Refusals.{first_refusal};
-ghost use Rattle.gl_table.specs.Answers.{RefusesOnly};
-ghost use Rattle.gl_table.specs.Calls.{cancelled};
-ghost use Rattle.gl_table.specs.Deadlocks.{SettlesKeeping};
-ghost use Rattle.gl_table.specs.Pumps.{is_waiting_at};
-ghost use Rattle.gl_table.specs.Refusals.{cancel_tests, living_tests};
-ghost use Rattle.gl_table.specs.Table.{state_of};
-ghost use Rattle.gl_table.specs.Tellings.{told, told_but};
-ghost use Rattle.gl_table.specs.Waiting.{Settled, waits_for};
+ghost use Rattle.gl_table.specs.model.Calls.{RefusesOnly, cancelled, cancel_tests, living_tests};
+ghost use Rattle.gl_table.specs.model.Deadlocks.{SettlesKeeping};
+ghost use Rattle.gl_table.specs.model.State.{is_waiting_at, Settled, waits_for};
+ghost use Rattle.gl_table.specs.model.Table.{state_of};
+ghost use Rattle.gl_table.specs.model.Tellings.{told, told_but};
 ghost use Rattle.gl_waits.specs.Waits.{IsOnNoCycle};
 
 use super::Table;

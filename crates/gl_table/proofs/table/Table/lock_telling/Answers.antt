@@ -1,6 +1,6 @@
 use Rattle.gl_table.proofs.Words.{◌<◌, ◌∙◌, ◌≡◌, Active, ap, enters_at, false, first_refusal, lock_tests, locked_as, LocksKeeping, None, Option, Refusal}
 use Rattle.gl_table.proofs.Words.{Refuses, rules, state_of, status_of, subst, sym, TableView, told_but, true, view_of, ℕ}
-use Rattle.gl_table.specs.Calls.{Locks}
+use Rattle.gl_table.specs.model.Calls.{Locks}
 use Rattle.gl_table.proofs.calls.Calls.{orderly}
 use Rattle.gl_table.proofs.calls.Locking.{answered-err, answered-ok, granted_answer, granted_keeps, granted_locks, granted_told, kept_locked, may_lock_by}
 use Rattle.gl_table.proofs.calls.Locking.{sound_granted, sound_kept, sound_locked, state_granted, state_locked, told_locked, unrefused, waiting_orderly}

@@ -1,12 +1,15 @@
 -- The headers of all nodes, seen as who holds what and who waits where.
-use Rattle.std.specs.Prelude.{◌≡◌, ℕ, Bool, false, List, Option, Some, None, if◌then◌else◌}
+use Rattle.std.specs.Prelude.{◌≡◌, ℕ, Bool, false, List, Option, Some, None, if◌then◌else◌, []}
 use Rattle.std.specs.Map.{lookup}
 use Rattle.gl_modes.specs.declared.mode.Mode.{Mode}
 use Rattle.gl_modes.specs.declared.node.NodeId.{NodeId}
 use Rattle.gl_modes.specs.Modes.{supremum}
 use Rattle.gl_modes.specs.Nodes.{same_node}
-use Rattle.gl_header.specs.Header.{Members, Waiter}
+use Rattle.gl_modes.specs.declared.mode.Mode.TheVariants.{NL}
+use Rattle.gl_header.specs.Header.{Members, Waiter, with_mode}
 use Rattle.gl_header.specs.State.{HeaderState, IsLawfulHeader, is_granted, is_unused, members_of, unused_header}
+
+-- The headers of all nodes, seen as who holds what and who waits where.
 
 -- nodes with their headers
 abbrev pub Entries : Type 0
@@ -58,3 +61,11 @@ with_members held n ms = λ u q. if same_node q n then ms u else held u q
 -- the queues with another on one node
 abbrev pub with_waiters : (NodeId → List Waiter) → NodeId → List Waiter → NodeId → List Waiter
 with_waiters queue n ws = λ q. if same_node q n then ws else queue q
+
+-- The header of a node that one slot holds, and nobody waits for.
+
+-- the slot holds the node in this mode, nobody else holds it, and nobody waits
+pub record IsOneHolder (h : HeaderState) (t : ℕ) (m : Mode) : Type 0 where
+  pub lawful : IsLawfulHeader h
+  pub members : members_of h ≡ with_mode (λ _. NL) t m
+  pub queue : h.queue ≡ []

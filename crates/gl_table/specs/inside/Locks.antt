@@ -7,18 +7,18 @@ use Rattle.gl_modes.specs.declared.node.NodeId.{NodeId}
 use Rattle.gl_graph.specs.Graph.{Graph, is_live}
 use Rattle.gl_graph.specs.View.{View, graph_of}
 use Rattle.gl_header.specs.Header.{holds, is_among_waiters, is_waiter}
-use Rattle.gl_table.specs.declared.detect.Detect.TheVariants.{ByWatcher}
 use Rattle.gl_waits.specs.declared.victims.Victims.TheVariants.{Youngest}
+use Rattle.gl_table.specs.declared.detect.Detect.TheVariants.{ByWatcher}
 use Rattle.gl_table.specs.declared.list.LockList.{LockList}
 use Rattle.gl_table.specs.declared.locks.Locks.{Locks}
 use Rattle.gl_table.specs.declared.txn.Status.TheVariants.{Waiting}
-use Rattle.gl_table.specs.Covered.{held_children}
-use Rattle.gl_table.specs.Headers.{AreHeaders, held_of, queue_of}
-use Rattle.gl_table.specs.Pumps.{is_waiting_at}
-use Rattle.gl_table.specs.Seats.{txns_of}
-use Rattle.gl_table.specs.Slots.{AreApart, counted_by, held_by, listed_by, room_by}
-use Rattle.gl_table.specs.State.{State, members, status_of}
-use Rattle.gl_table.specs.Waiting.{is_wait}
+use Rattle.gl_table.specs.model.Calls.{held_children}
+use Rattle.gl_table.specs.inside.Headers.{AreHeaders, held_of, queue_of}
+use Rattle.gl_table.specs.model.State.{is_waiting_at, State, members, status_of, is_wait}
+use Rattle.gl_table.specs.inside.Seats.{txns_of}
+use Rattle.gl_table.specs.inside.Slots.{AreApart, counted_by, held_by, listed_by, room_by}
+
+-- The locks that the code keeps beside the graph: as a state of the model, and what agrees with it.
 
 -- the state that the locks are over a graph
 abbrev pub state_on : Graph → Locks → State
@@ -74,3 +74,10 @@ pub record AreNew (l : Locks) (most : ℕ) : Type 0 where
   pub listed : (t : ℕ) (n : NodeId) → listed_by l.lists.items t n ≡ false
   pub modes : (t : ℕ) (n : NodeId) → held_by l.lists.items t n ≡ NL
   pub counts : (t : ℕ) (n : NodeId) → counted_by l.lists.items t n ≡ 0
+
+-- Lists that agree with a state still do once a node has granted from its front and the lists say so.
+
+-- who stands in the queue of n waits there, once, for a mode
+pub record WaitWell (b : State) (n : NodeId) : Type 0 where
+  pub waits_are : (u : ℕ) → is_among_waiters u (b.queue n) ≡ true → is_waiting_at b u n ≡ true
+  pub one_wait : (u : ℕ) → is_among_waiters u (b.queue n) ≡ true → (m : Mode) × (filter (is_waiter u) (b.queue n) ≡ (u, m) ∷ []) × (m ≢ NL)

@@ -1,12 +1,12 @@
 -- What a contract sees of a table's fields, and what holds of them always.
 use Rattle.std.specs.Prelude.{◌≡◌, ℕ, map}
+use Rattle.gl_graph.specs.View.{graph_of}
 use Rattle.gl_table.specs.declared.detect.Detect.TheVariants.{AtBlock}
 use Rattle.gl_table.specs.declared.table.Table.TheInside.{Inside}
-use Rattle.gl_table.specs.Lawful.{IsLawful}
-use Rattle.gl_graph.specs.View.{graph_of}
-use Rattle.gl_table.specs.Locks.{Agrees, AreSound, CountsHeld, state_in}
-use Rattle.gl_table.specs.Table.{TableView, state_of}
-use Rattle.gl_table.specs.Waiting.{HasNoCycle}
+use Rattle.gl_table.specs.model.Lawful.{IsLawful}
+use Rattle.gl_table.specs.inside.Locks.{Agrees, AreSound, CountsHeld, state_in}
+use Rattle.gl_table.specs.model.Table.{TableView, state_of}
+use Rattle.gl_table.specs.model.State.{HasNoCycle}
 
 -- what a contract sees: of the lists their nodes, and not for how many there is room
 abbrev pub view_of : Inside → TableView

@@ -1,6 +1,7 @@
--- The lists of all transactions by slot, and what it is to wake waiters.
-use Rattle.std.specs.Prelude.{◌≡◌, ℕ, ◌+◌, ◌<◌, ◌≤◌, ◌^◌, ◌&&◌, ◌==◌, Bool, true, false, map, List, length, Option, Some, None, if◌then◌else◌, slice_get}
-use Rattle.std.specs.List.{count_by, list_any}
+-- The told list and the lists of all transactions by slot: what it is to wake and to free waiters.
+use Rattle.std.specs.Prelude.{ℕ, Bool, true, ◌&&◌, ◌==◌, ◌≡◌, nat_lt, [], ◌∷◌, Option, ◌+◌, ◌<◌, ◌≤◌, ◌^◌, false, map, List, length, Some, None, if◌then◌else◌}
+use Rattle.std.specs.Prelude.{slice_get}
+use Rattle.std.specs.List.{find, list_all, count_by, list_any}
 use Rattle.std.specs.Option.{option_map_or}
 use Rattle.indexmap.specs.IndexMap.{spare}
 use Rattle.gl_modes.specs.declared.mode.Mode.{Mode}
@@ -10,17 +11,34 @@ use Rattle.gl_modes.specs.Modes.{same_mode}
 use Rattle.gl_modes.specs.Nodes.{same_node}
 use Rattle.gl_header.specs.Header.{Waiter, after_grants, is_among_waiters}
 use Rattle.gl_header.specs.Sound.{is_distinct}
-use Rattle.gl_table.specs.declared.list.LockList.{LockList}
+use Rattle.gl_table.specs.declared.txn.TxnId.{TxnId}
 use Rattle.gl_table.specs.declared.notice.Notice.{Notice}
-use Rattle.gl_table.specs.declared.notice.Notice.TheVariants as notice
+use Rattle.gl_table.specs.model.Tellings.{Told}
+use Rattle.gl_table.specs.declared.list.LockList.{LockList}
 use Rattle.gl_table.specs.declared.seat.Seat.{Seat}
 use Rattle.gl_table.specs.declared.txn.Status.TheVariants.{Active}
-use Rattle.gl_table.specs.declared.txn.TxnId.{TxnId}
-use Rattle.gl_table.specs.Lists.{IsApart, count_of, is_listed, mode_of, unlisted}
-use Rattle.gl_table.specs.Seats.{txns_of}
-use Rattle.gl_table.specs.State.{Txn, age_in, restatus}
-use Rattle.gl_table.specs.Telling.{IsBySlot, notices_in}
-use Rattle.gl_table.specs.Tellings.{Told}
+use Rattle.gl_table.specs.inside.Lists.{IsApart, count_of, is_listed, mode_of, unlisted}
+use Rattle.gl_table.specs.inside.Seats.{txns_of}
+use Rattle.gl_table.specs.model.State.{Txn, age_in, restatus}
+use Rattle.gl_table.specs.declared.notice.Notice.TheVariants as notice
+
+-- A told list as it is filled: notices by rising slot.
+
+-- each slot is below all behind it
+abbrev pub is_rising : Told → Bool
+is_rising [] = true
+is_rising (x ∷ xs) = list_all (λ y. nat_lt x.0.slot y.0.slot) xs && is_rising xs
+
+-- the notices stand by rising slot, and slots are below 128
+pub record IsBySlot (told : Told) : Type 0 where
+  pub rising : is_rising told ≡ true
+  pub below : list_all (λ x. nat_lt x.0.slot 128) told ≡ true
+
+-- what is told to a slot
+abbrev pub notices_in : Told → ℕ → Option (TxnId × Notice)
+notices_in told u = find (λ x. x.0.slot == u) told
+
+-- The lists of all transactions by slot, and what it is to wake waiters.
 
 -- what a list says, by slot
 abbrev pub by_list : {A : Type 0} → (LockList → A) → A → List LockList → ℕ → A
@@ -135,3 +153,37 @@ pub record Strikes (ls ls' : List LockList) (t : ℕ) (n : NodeId) (ps : List No
   pub listed : (u : ℕ) (q : NodeId) → listed_by ls' u q ≡ (if (u == t) && same_node q n then false else listed_by ls u q)
   pub counts : (u : ℕ) (q : NodeId) → counted_by ls' u q + (if u == t then count_by (same_node q) ps else 0) ≡ counted_by ls u q
   pub rooms : (u : ℕ) → (u == t) ≡ false → room_by ls' u ≡ room_by ls u
+
+-- What it is to free those who wait for a node that goes.
+
+-- these waiters may be freed of a node of which they hold no child
+pub record CanFree (seats : List (Option Seat)) (ls : List LockList) (told : Told) (n : NodeId) (ws : List Waiter) : Type 0 where
+  pub few : length seats ≤ 128
+  pub len : length ls ≡ length seats
+  pub apart : AreApart ls
+  pub by_slot : IsBySlot told
+  pub distinct : is_distinct ws ≡ true
+  pub below : (u : ℕ) → is_among_waiters u ws ≡ true → u < length seats
+  pub childless : (u : ℕ) → is_among_waiters u ws ≡ true → counted_by ls u n ≡ 0
+  pub untold : (u : ℕ) → is_among_waiters u ws ≡ true → notices_in told u ≡ None
+
+-- the lists of these waiters have the node no more, and all else is as it was
+pub record FreesLists (ls : List LockList) (n : NodeId) (ws : List Waiter) (ls' : List LockList) : Type 0 where
+  pub len : length ls' ≡ length ls
+  pub apart : AreApart ls'
+  pub modes : (u : ℕ) (q : NodeId) → held_by ls' u q ≡ (if is_among_waiters u ws && same_node q n then NL else held_by ls u q)
+  pub listed : (u : ℕ) (q : NodeId) → listed_by ls' u q ≡ (if is_among_waiters u ws && same_node q n then false else listed_by ls u q)
+  pub counts : (u : ℕ) (q : NodeId) → counted_by ls' u q ≡ counted_by ls u q
+  pub rooms : (u : ℕ) → is_among_waiters u ws ≡ false → room_by ls' u ≡ room_by ls u
+
+-- these waiters are told that the node is gone, and all others what they were
+pub record FreesTold (txns : ℕ → Option Txn) (ws : List Waiter) (told told' : Told) : Type 0 where
+  pub by_slot : IsBySlot told'
+  pub notices : (u : ℕ) → notices_in told' u ≡ (if is_among_waiters u ws then Some (record { slot = u; age = age_in (txns u) }, notice.Gone) else notices_in told u)
+
+-- these waiters are active, have the node in their lists no more and are told; all else is as it was
+pub record Frees (seats : List (Option Seat)) (ls : List LockList) (told : Told) (n : NodeId) (ws : List Waiter) (seats' : List (Option Seat)) (ls' : List LockList) (told' : Told) : Type 0 where
+  pub len : length seats' ≡ length seats
+  pub txns : (u : ℕ) → txns_of seats' u ≡ (if is_among_waiters u ws then restatus Active (txns_of seats u) else txns_of seats u)
+  pub lists : FreesLists ls n ws ls'
+  pub tells : FreesTold (txns_of seats) ws told told'

@@ -2,7 +2,7 @@
 use Rattle.std.specs.Prelude.{◌≡◌, ◌≤◌, ℕ, length}
 use Rattle.gl_slots.specs.Slots.{has_slot}
 use Rattle.gl_table.specs.declared.seats.Seats.TheInside.{Inside}
-use Rattle.gl_table.specs.Seats.{SeatList, is_free_at}
+use Rattle.gl_table.specs.inside.Seats.{SeatList, is_free_at}
 
 -- what a contract sees of the fields
 abbrev pub seats_of : Inside → SeatList

@@ -12,10 +12,8 @@ use Rattle.gl_table.specs.declared.detect.Detect.{Detect}
 use Rattle.gl_table.specs.declared.detect.Detect.TheVariants.{AtBlock, ByWatcher}
 use Rattle.gl_table.specs.declared.txn.Status.TheVariants.{Waiting}
 use Rattle.gl_table.specs.declared.txn.TxnId.{TxnId}
-use Rattle.gl_table.specs.Calls.{enqueued, enters_at, wanted}
-use Rattle.gl_table.specs.Pumps.{condemned}
-use Rattle.gl_table.specs.State.{State, age_of, status_of}
-use Rattle.gl_table.specs.Waiting.{IsVictim, Settled, waits_for}
+use Rattle.gl_table.specs.model.Calls.{enqueued, enters_at, wanted}
+use Rattle.gl_table.specs.model.State.{condemned, State, age_of, status_of, IsVictim, Settled, waits_for}
 
 -- before the first victim: no victim, and nobody on a cycle
 abbrev pub no_deadlock : Deadlock
