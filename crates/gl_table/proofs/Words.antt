@@ -38,11 +38,11 @@ pub use Rattle.indexmap.proofs.SetLemmas.{keys_swap_remove_entry}
 pub use Rattle.indexmap.specs.Entry.{map_with_value}
 pub use Rattle.indexmap.specs.IndexMap.{index_of_by, IndexMap, insert_entry, IsUnique, keys, set_value_at, spare, swap_remove_by, Updates, values}
 pub use Rattle.indexmap.specs.IndexMap.{with_value_at}
-pub use Rattle.gl_modes.proofs.Words.{and_both, both, cases_of, no, none_some, number_other, number_same, or_elim, or_left, or_right, other_number, same_number}
-pub use Rattle.gl_modes.proofs.Words.{some_is, split, not_true, clash}
+pub use Rattle.gl_modes.proofs.Words.{and_both, both, cases_of, clash, no, none_some, not_true, number_other, number_same, or_elim, or_left, or_right}
+pub use Rattle.gl_modes.proofs.Words.{other_number, same_number, some_is, split}
 pub use Rattle.gl_modes.proofs.ModeLemmas.{at_least-not_NL, at_least-refl, at_least-transitive, compatible-symmetric, NL-compatible, not_NL, same_mode-equal}
 pub use Rattle.gl_modes.proofs.ModeLemmas.{same_mode-refl, supremum-above, supremum-not_NL}
-pub use Rattle.gl_modes.proofs.NodeLemmas.{same_node-equal, same_node-refl, same_node-sym, same_node-from_equal, node_is, same_node-differ, same_node-other}
+pub use Rattle.gl_modes.proofs.NodeLemmas.{node_is, same_node-differ, same_node-equal, same_node-from_equal, same_node-other, same_node-refl, same_node-sym}
 pub use Rattle.gl_modes.specs.Modes.{are_compatible, is_at_least, same_mode, supremum}
 pub use Rattle.gl_modes.specs.Nodes.{same_node}
 pub use Rattle.gl_modes.specs.declared.mode.Mode.{Mode}
@@ -60,8 +60,7 @@ pub use Rattle.gl_graph.proofs.Distinct.{indexes_distinct, nodes_distinct}
 pub use Rattle.gl_graph.proofs.FirstOf.{passed_then, refused_first}
 pub use Rattle.gl_graph.proofs.KindRules.{interval_is, is_plain, parent_plain, rec_not_plain}
 pub use Rattle.gl_graph.proofs.Left.{count_there}
-pub use Rattle.gl_graph.proofs.Look.{all_at, all_filter, found_at, live_node}
-pub use Rattle.gl_graph.proofs.Look.{there_is}
+pub use Rattle.gl_graph.proofs.Look.{all_at, all_filter, found_at, live_node, there_is}
 pub use Rattle.gl_graph.proofs.Moved.{any_found, file_of_record, movable_alike, move_lawful, rec_alike, rekey_lawful, rekeyed_is, some_at, with_parents_is}
 pub use Rattle.gl_graph.proofs.NewIndex.{index_lawful}
 pub use Rattle.gl_graph.proofs.NewNodes.{file_lawful, inner_lawful, record_lawful}
@@ -106,36 +105,35 @@ pub use Rattle.gl_waits.specs.Waits.{IsLowestYoungest, IsOnCycleOf, IsOnNoCycle,
 pub use Rattle.gl_waits.specs.declared.board.Board.{Board}
 pub use Rattle.gl_waits.specs.declared.victims.Victims.{Victims}
 pub use Rattle.gl_waits.specs.declared.victims.Victims.TheVariants.{Fewest, Youngest}
-pub use Rattle.gl_table.specs.model.Calls.{answered, asked_at, locked_as, RefusesOnly}
-pub use Rattle.gl_table.specs.model.Lawful.{SameBelow, eff_s, eff_x, effect_on, effective, EffX, HasNoConflict, is_read, IsCut, IsLawful, ModeFitsKind}
-pub use Rattle.gl_table.specs.model.Table.{board_of, shown, AreRowsOf, is_row_of, row_of, rows_of, entry_at, ListsAgree, StandOnce, state_of, TableView}
-pub use Rattle.gl_table.specs.model.Calls.{asked_by_escalation, begun, cancelled, deleted, enqueued, enters_at, free_slot, freed, freed_unless, granted, moved_to}
-pub use Rattle.gl_table.specs.model.Calls.{none_but, raised, released, shed, stays, unlocked, WaitSettles, wanted}
-pub use Rattle.gl_table.specs.model.Calls.{covered_children, held_children, holds_child, is_covered}
-pub use Rattle.gl_table.specs.model.Deadlocks.{has_row, IsDeadlock, IsStuck, LocksKeeping, name_at, RowsLeadOn, SettlesKeeping, SettlesKeepingWithin, VictimHasRow}
-pub use Rattle.gl_table.specs.model.Deadlocks.{WaitSettlesKeeping}
-pub use Rattle.gl_table.specs.inside.Slots.{CanFree, Frees, FreesLists, FreesTold}
-pub use Rattle.gl_table.specs.inside.Headers.{AreHeaders, AreHeadersBut, Entries, header_at, header_or_new, held_of, is_granted_at, members_at, queue_of, with_members}
-pub use Rattle.gl_table.specs.inside.Headers.{with_waiters, IsOneHolder}
-pub use Rattle.gl_table.specs.model.State.{intends, intends_over, is_write, no_parents}
-pub use Rattle.gl_table.specs.model.Lawful.{CondemningFrees, CutSetLaw, EmptyHasNoCycle, LawfulCutSet, LawfulNoConflict, NoConflictLaw, OneFalls, SettlingEnds}
+pub use Rattle.gl_table.specs.model.Calls.{active_on, answered, asked_at, asked_by_escalation, bad_mode, begin_tests, begun, cancelled, child_held}
+pub use Rattle.gl_table.specs.model.Calls.{commit_tests, condemned_test, covered_children, deleted, enqueued, enters_at, first_not_ix, first_of_all, free_slot}
+pub use Rattle.gl_table.specs.model.Calls.{freed, freed_unless, granted, held_child, held_children, holds_child, holds_x, holds_x_on_all, is_covered}
+pub use Rattle.gl_table.specs.model.Calls.{lock_tests, locked_as, moved_to, need_exclusive, need_new_parents, need_parents, no_node, no_txn, none_but, not_held}
+pub use Rattle.gl_table.specs.model.Calls.{raised, RefusesOnly, released, rule_refusal, shed, some_given, stays, too_many_txns, try_tests, unlock_tests}
+pub use Rattle.gl_table.specs.model.Calls.{unlocked, waiting_test, WaitSettles, wanted, would_block}
+pub use Rattle.gl_table.specs.model.Lawful.{CondemningFrees, CutSetLaw, eff_s, eff_x, effect_on, effective, EffX, EmptyHasNoCycle, HasNoConflict, is_read}
+pub use Rattle.gl_table.specs.model.Lawful.{IsCut, IsLawful, LawfulCutSet, LawfulNoConflict, ModeFitsKind, NoConflictLaw, OneFalls, SameBelow, SettlingEnds}
 pub use Rattle.gl_table.specs.model.Lawful.{SettlingFrees}
-pub use Rattle.gl_table.specs.inside.Lists.{count_in, count_of, entry_of, HasRoom, is_listed, loose_of, mode_in, mode_of, unlisted}
+pub use Rattle.gl_table.specs.model.Table.{AreRowsOf, board_of, entry_at, is_row_of, ListsAgree, row_of, rows_of, shown, StandOnce, state_of, TableView}
+pub use Rattle.gl_table.specs.model.Deadlocks.{has_row, IsDeadlock, IsStuck, LocksKeeping, name_at, RowsLeadOn, SettlesKeeping, SettlesKeepingWithin}
+pub use Rattle.gl_table.specs.model.Deadlocks.{VictimHasRow, WaitSettlesKeeping}
+pub use Rattle.gl_table.specs.inside.Slots.{AreApart, by_list, CanFree, CanHold, CanStrike, CanWake, counted_by, Frees, FreesLists, FreesTold, grant_notice}
+pub use Rattle.gl_table.specs.inside.Slots.{HasRoomAt, held_by, Holds, is_rising, IsBySlot, KeepsLists, listed_by, mode_given, notices_in, room_by, Strikes}
+pub use Rattle.gl_table.specs.inside.Slots.{unlisted_by, Wakes, WakesLists, WakesTold}
+pub use Rattle.gl_table.specs.inside.Headers.{AreHeaders, AreHeadersBut, Entries, header_at, header_or_new, held_of, is_granted_at, IsOneHolder, members_at}
+pub use Rattle.gl_table.specs.inside.Headers.{queue_of, with_members, with_waiters}
+pub use Rattle.gl_table.specs.model.State.{age_in, age_of, awake, blocks, choosing, condemned, empty_state, front_at, granted_at, HasNoCycle, intends}
+pub use Rattle.gl_table.specs.model.State.{intends_over, is_wait, is_waiting_at, is_write, IsVictim, live_by, lives, members, no_parents, pumped, restatus}
+pub use Rattle.gl_table.specs.model.State.{Settled, SettledWithin, slots, State, status_in, status_of, Txn, waits_at, waits_for, with_grant, with_graph}
+pub use Rattle.gl_table.specs.model.State.{with_txn, without_wait, woken}
+pub use Rattle.gl_table.specs.inside.Lists.{count_in, count_of, covered_in, entry_of, HasRoom, is_listed, IsShedding, loose_of, mode_in, mode_of}
+pub use Rattle.gl_table.specs.inside.Lists.{NoneMarkedFrom, unlisted}
 unfoldable pub use Rattle.gl_table.specs.inside.Lists.{IsApart}
-pub use Rattle.gl_table.specs.inside.Locks.{state_in, Agrees, AreNew, AreSound, CountsHeld, IsOrderly, state_on, WaitWell}
-pub use Rattle.gl_table.specs.inside.Lists.{covered_in, IsShedding, NoneMarkedFrom}
-pub use Rattle.gl_table.specs.model.State.{awake, condemned, front_at, granted_at, is_waiting_at, pumped, waits_at, without_wait, woken}
-pub use Rattle.gl_table.specs.model.Calls.{active_on, bad_mode, begin_tests, child_held, commit_tests, condemned_test, first_not_ix, first_of_all, held_child}
-pub use Rattle.gl_table.specs.model.Calls.{holds_x, holds_x_on_all, lock_tests, need_exclusive, need_new_parents, need_parents, no_node, no_txn, not_held}
-pub use Rattle.gl_table.specs.model.Calls.{rule_refusal, some_given, too_many_txns, try_tests, unlock_tests, waiting_test, would_block}
+pub use Rattle.gl_table.specs.inside.Locks.{Agrees, AreNew, AreSound, CountsHeld, IsOrderly, state_in, state_on, WaitWell}
 pub use Rattle.gl_table.specs.inside.Seating.{IsSeating}
 pub use Rattle.gl_table.specs.inside.Seats.{is_free, is_free_at, SeatList, txn_in, txns_of}
-pub use Rattle.gl_table.specs.inside.Slots.{AreApart, by_list, CanHold, CanStrike, CanWake, counted_by, grant_notice, HasRoomAt, held_by, Holds, KeepsLists, listed_by}
-pub use Rattle.gl_table.specs.inside.Slots.{mode_given, room_by, Strikes, unlisted_by, Wakes, WakesLists, WakesTold, is_rising, IsBySlot, notices_in}
 pub use Rattle.gl_table.specs.inside.Sound.{IsSound, view_of}
-pub use Rattle.gl_table.specs.model.State.{age_in, age_of, choosing, empty_state, live_by, lives, members, restatus, slots, State, status_in, status_of, Txn}
-pub use Rattle.gl_table.specs.model.State.{with_grant, with_graph, with_txn, blocks, HasNoCycle, is_wait, IsVictim, Settled, SettledWithin, waits_for}
-pub use Rattle.gl_table.specs.model.Tellings.{children_that, HasLeft, stripped, addressed, notice_of, Told, told, told_but, told_from, IsOnWay, told_to}
+pub use Rattle.gl_table.specs.model.Tellings.{addressed, children_that, HasLeft, IsOnWay, notice_of, stripped, Told, told, told_but, told_from, told_to}
 pub use Rattle.gl_table.specs.declared.deadlock.Deadlock.{Deadlock}
 pub use Rattle.gl_table.specs.declared.deadlock.Stuck.{Stuck}
 pub use Rattle.gl_table.specs.declared.detect.Detect.{Detect}

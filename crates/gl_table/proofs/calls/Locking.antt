@@ -7,7 +7,6 @@ use Rattle.gl_table.proofs.Words.{OnErr, OnOk, Option, parents_of, passed_then, 
 use Rattle.gl_table.proofs.Words.{same_node-refl, Some, some_no_node, State, state_in, state_of, status_of, subst, supremum, sym, TableView, test_fails, Told}
 use Rattle.gl_table.proofs.Words.{told_but, true, try_tests, TxnId, txns_of, verdict, Victims, view_of, waiting_test, WaitSettles, WaitSettlesKeeping, wanted}
 use Rattle.gl_table.proofs.Words.{where_true, would_block, ℕ}
-use Rattle.gl_table.specs.declared.locks.Locks.{Locks}
 use Rattle.gl_table.specs.declared.table.Table.TheInside.{Inside}
 use Rattle.gl_table.specs.model.Calls.{Locks}
 use Rattle.gl_modes.specs.declared.refusal.Refusal.TheVariants as no
@@ -99,7 +98,7 @@ module _ (i : Inside) (sound : IsSound i) (t : TxnId) (n : NodeId) (m : Mode) wh
   same_enters = sym (enters-most l (orderly i sound) sound.sound.few t.slot n (wanted l t.slot n m))
 
   -- the grant was made
-  module _ (may : MayLock s t n m) (fits : enters_at s t.slot n m ≡ true) (locks : Locks) (is : state_in i.graph locks ≡ granted l t.slot n m) where
+  module _ (may : MayLock s t n m) (fits : enters_at s t.slot n m ≡ true) (locks : code.Locks) (is : state_in i.graph locks ≡ granted l t.slot n m) where
     abbrev after : Inside
     after = record i { locks = locks }
 
@@ -117,7 +116,7 @@ module _ (i : Inside) (sound : IsSound i) (t : TxnId) (n : NodeId) (m : Mode) wh
     }
 
   -- nothing but room was made
-  pub sound_kept : (locks : Locks) → locks.headers.entries ≡ i.locks.headers.entries → locks.seats ≡ i.locks.seats
+  pub sound_kept : (locks : code.Locks) → locks.headers.entries ≡ i.locks.headers.entries → locks.seats ≡ i.locks.seats
       → AreSound locks → ((u : ℕ) → Agrees (state_in i.graph locks) locks.lists.items u) → ((u : ℕ) → CountsHeld (state_in i.graph locks) locks.lists.items u)
       → IsSound (record i { locks = locks })
   sound_kept locks headers seats are agrees counts = record {
@@ -137,7 +136,7 @@ module _ (i : Inside) (sound : IsSound i) (t : TxnId) (n : NodeId) (m : Mode) wh
       }
 
   -- it was granted, or nothing but room was made
-  pub sound_tried : (r : Result Mode Refusal) (locks : Locks) → MayLock s t n m → enters_at s t.slot n m ≡ true
+  pub sound_tried : (r : Result Mode Refusal) (locks : code.Locks) → MayLock s t n m → enters_at s t.slot n m ≡ true
       → OnOk r (state_in i.graph locks ≡ granted l t.slot n m)
       → OnErr r (locks.headers.entries ≡ i.locks.headers.entries) → OnErr r (locks.seats ≡ i.locks.seats)
       → AreSound locks → ((u : ℕ) → Agrees (state_in i.graph locks) locks.lists.items u) → ((u : ℕ) → CountsHeld (state_in i.graph locks) locks.lists.items u)
@@ -145,7 +144,7 @@ module _ (i : Inside) (sound : IsSound i) (t : TxnId) (n : NodeId) (m : Mode) wh
   sound_tried (Ok x) locks may fits ok headers seats are agrees counts = sound_granted may fits locks ok are agrees counts
   sound_tried (Err x) locks may fits ok headers seats are agrees counts = sound_kept locks headers seats are agrees counts
 
-  pub state_tried : (r : Result Mode Refusal) (locks : Locks) → OnOk r (state_in i.graph locks ≡ granted l t.slot n m)
+  pub state_tried : (r : Result Mode Refusal) (locks : code.Locks) → OnOk r (state_in i.graph locks ≡ granted l t.slot n m)
       → OnOk r (state_of (view_of (record i { locks = locks })) ≡ granted s t.slot n m)
   state_tried (Ok x) locks ok = ap {A = State} (λ x. record x { detect = i.detect; victims = i.victims; begins = i.begins }) ok
   state_tried (Err x) locks ok = ok
