@@ -9,7 +9,7 @@ ghost use Rattle.gl_table.specs.model.Calls.{rule_refusal, asked_at, locked_as, 
 ghost use Rattle.gl_graph.specs.View.{graph_of};
 ghost use Rattle.gl_header.specs.Header.{holds};
 ghost use Rattle.gl_table.specs.inside.Headers.{is_granted_at};
-ghost use Rattle.gl_table.specs.inside.Locks.{Agrees, AreSound, CountsHeld, IsOrderly, state_in};
+ghost use Rattle.gl_table.specs.inside.Locks.{AreExact, IsOrderly, state_in};
 ghost use Rattle.gl_table.specs.inside.Slots.{HasRoomAt, KeepsLists, held_by};
 ghost use Rattle.gl_table.specs.inside.Seats.{txns_of};
 ghost use Rattle.gl_table.specs.model.State.{members, status_in, status_of};
@@ -95,22 +95,18 @@ impl Locks {
         mode: Mode,
         held: Mode,
     ) -> Result<Asked, Refusal>
-        requires sound { AreSound self.old }
+        requires exact { AreExact graph.now self.old }
         requires orderly { IsOrderly (state_in graph.now self.old) }
-        requires agree { (u : ℕ) → Agrees (state_in graph.now self.old) self.old.lists.items u }
-        requires count { (u : ℕ) → CountsHeld (state_in graph.now self.old) self.old.lists.items u }
         requires active { status_of (state_in graph.now self.old) slot ≡ Some Active }
         requires live { is_live (graph_of graph.now) node ≡ true }
         requires lock { mode ≢ NL }
         requires held { held ≡ held_by self.old.lists.items slot node }
-        ensures sound { AreSound self.new }
+        ensures exact { AreExact graph.now self.new }
         ensures answer { IfOk result (λ asked. asked ≡ asked_at (state_in graph.now self.old) slot node mode) }
         ensures granted { OnOk result (enters_at (state_in graph.now self.old) slot node mode ≡ true
             → state_in graph.now self.new ≡ granted (state_in graph.now self.old) slot node mode) }
         ensures waits { OnOk result (enters_at (state_in graph.now self.old) slot node mode ≡ false
             → state_in graph.now self.new ≡ enqueued (state_in graph.now self.old) slot node (wanted (state_in graph.now self.old) slot node mode)) }
-        ensures agree { (u : ℕ) → Agrees (state_in graph.now self.new) self.new.lists.items u }
-        ensures count { (u : ℕ) → CountsHeld (state_in graph.now self.new) self.new.lists.items u }
         ensures err_headers { OnErr result (self.new.headers.entries ≡ self.old.headers.entries) }
         ensures err_seats { OnErr result (self.new.seats ≡ self.old.seats) }
         ensures err_lists { OnErr result (KeepsLists self.old.lists.items self.new.lists.items) }
@@ -151,20 +147,16 @@ impl Locks {
         mode: Mode,
         held: Mode,
     ) -> Result<Mode, Refusal>
-        requires sound { AreSound self.old }
+        requires exact { AreExact graph.now self.old }
         requires orderly { IsOrderly (state_in graph.now self.old) }
-        requires agree { (u : ℕ) → Agrees (state_in graph.now self.old) self.old.lists.items u }
-        requires count { (u : ℕ) → CountsHeld (state_in graph.now self.old) self.old.lists.items u }
         requires active { status_of (state_in graph.now self.old) slot ≡ Some Active }
         requires live { is_live (graph_of graph.now) node ≡ true }
         requires lock { mode ≢ NL }
         requires held { held ≡ held_by self.old.lists.items slot node }
         requires enters { enters_at (state_in graph.now self.old) slot node mode ≡ true }
-        ensures sound { AreSound self.new }
+        ensures exact { AreExact graph.now self.new }
         ensures mode { IfOk result (λ m. m ≡ wanted (state_in graph.now self.old) slot node mode) }
         ensures state { OnOk result (state_in graph.now self.new ≡ granted (state_in graph.now self.old) slot node mode) }
-        ensures agree { (u : ℕ) → Agrees (state_in graph.now self.new) self.new.lists.items u }
-        ensures count { (u : ℕ) → CountsHeld (state_in graph.now self.new) self.new.lists.items u }
         ensures err_headers { OnErr result (self.new.headers.entries ≡ self.old.headers.entries) }
         ensures err_seats { OnErr result (self.new.seats ≡ self.old.seats) }
         ensures err_lists { OnErr result (KeepsLists self.old.lists.items self.new.lists.items) }

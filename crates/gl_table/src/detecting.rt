@@ -3,7 +3,7 @@
 ghost use Rattle.std.specs.Prelude.{◌≡◌, ◌<◌, ◌==◌, [], ℕ, IfNone, IfSome, None, Some, false, length, true};
 ghost use Rattle.gl_graph.specs.Graph.{Graph as AGraph};
 ghost use Rattle.gl_waits.specs.Waits.{IsOnNoCycle};
-ghost use Rattle.gl_table.specs.inside.Locks.{Agrees, AreSound, CountsHeld, IsOrderly, state_in, state_on};
+ghost use Rattle.gl_table.specs.inside.Locks.{AreExact, AreSound, IsOrderly, state_in, state_on};
 ghost use Rattle.gl_table.specs.model.Calls.{WaitSettles};
 ghost use Rattle.gl_table.specs.model.Deadlocks.{SettlesKeeping, WaitSettlesKeeping};
 ghost use Rattle.gl_table.specs.model.State.{condemned, State, status_of, IsVictim, Settled, is_wait, waits_for};
@@ -34,16 +34,12 @@ impl Locks {
         told: &mut Told,
     )
         requires empty { told.old.items ≡ [] }
-        requires sound { AreSound self.old }
+        requires exact { AreExact graph.now self.old }
         requires orderly { IsOrderly (state_in graph.now self.old) }
-        requires agree { (u : ℕ) → Agrees (state_in graph.now self.old) self.old.lists.items u }
-        requires count { (u : ℕ) → CountsHeld (state_in graph.now self.old) self.old.lists.items u }
         requires seated { slot < length self.old.seats.items }
-        ensures sound { AreSound self.new }
+        ensures exact { AreExact graph.now self.new }
         ensures state { WaitSettles detect victims (state_in graph.now self.old) slot (state_in graph.now self.new) }
         ensures deadlock { WaitSettlesKeeping detect victims (state_in graph.now self.old) slot deadlock.old (state_in graph.now self.new) deadlock.new }
-        ensures agree { (u : ℕ) → Agrees (state_in graph.now self.new) self.new.lists.items u }
-        ensures count { (u : ℕ) → CountsHeld (state_in graph.now self.new) self.new.lists.items u }
         ensures told { told.new.items ≡ told_but slot (state_in graph.now self.old) (state_in graph.now self.new) }
     {
         if matches!(detect, Detect::AtBlock) {
@@ -62,18 +58,14 @@ impl Locks {
         deadlock: &mut Deadlock,
         told: &mut Told,
     )
-        requires sound { AreSound self.old }
+        requires exact { AreExact graph.now self.old }
         requires orderly { IsOrderly (state_in graph.now self.old) }
-        requires agree { (u : ℕ) → Agrees (state_in graph.now self.old) self.old.lists.items u }
-        requires count { (u : ℕ) → CountsHeld (state_in graph.now self.old) self.old.lists.items u }
         requires seated { slot < length self.old.seats.items }
         requires by_slot { IsBySlot told.old.items }
         requires untold { (u : ℕ) → is_wait (status_of (state_in graph.now self.old) u) ≡ true → notices_in told.old.items u ≡ None }
-        ensures sound { AreSound self.new }
+        ensures exact { AreExact graph.now self.new }
         ensures state { Settled victims (state_in graph.now self.old) slot (state_in graph.now self.new) }
         ensures deadlock { SettlesKeeping victims (state_in graph.now self.old) slot deadlock.old (state_in graph.now self.new) deadlock.new }
-        ensures agree { (u : ℕ) → Agrees (state_in graph.now self.new) self.new.lists.items u }
-        ensures count { (u : ℕ) → CountsHeld (state_in graph.now self.new) self.new.lists.items u }
         ensures by_slot { IsBySlot told.new.items }
         ensures tells { (s : State) → IsOnWay s (state_in graph.now self.old)
             → ((u : ℕ) → notices_in told.old.items u ≡ told_to s (state_in graph.now self.old) u)
@@ -105,18 +97,14 @@ impl Locks {
 
     /// Gives up the wait of a slot, which is condemned and told so. Its node grants from its front.
     fn condemn(&mut self, graph: &Graph, slot: u8, told: &mut Told)
-        requires sound { AreSound self.old }
+        requires exact { AreExact graph.now self.old }
         requires orderly { IsOrderly (state_in graph.now self.old) }
-        requires agree { (u : ℕ) → Agrees (state_in graph.now self.old) self.old.lists.items u }
-        requires count { (u : ℕ) → CountsHeld (state_in graph.now self.old) self.old.lists.items u }
         requires waits { is_wait (status_of (state_in graph.now self.old) slot) ≡ true }
         requires by_slot { IsBySlot told.old.items }
         requires untold { (u : ℕ) → is_wait (status_of (state_in graph.now self.old) u) ≡ true → notices_in told.old.items u ≡ None }
-        ensures sound { AreSound self.new }
+        ensures exact { AreExact graph.now self.new }
         ensures orderly { IsOrderly (state_in graph.now self.new) }
         ensures state { state_in graph.now self.new ≡ condemned (state_in graph.now self.old) slot }
-        ensures agree { (u : ℕ) → Agrees (state_in graph.now self.new) self.new.lists.items u }
-        ensures count { (u : ℕ) → CountsHeld (state_in graph.now self.new) self.new.lists.items u }
         ensures by_slot { IsBySlot told.new.items }
         ensures untold { (u : ℕ) → is_wait (status_of (state_in graph.now self.new) u) ≡ true → notices_in told.new.items u ≡ None }
         ensures ways { (s : State) → IsOnWay s (state_in graph.now self.old) → IsOnWay s (state_in graph.now self.new) }

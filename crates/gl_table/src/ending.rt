@@ -5,7 +5,7 @@ ghost use Rattle.gl_modes.specs.declared.mode.Mode.TheVariants.{NL};
 ghost use Rattle.gl_modes.specs.declared.node.NodeId.{NodeId as Node};
 ghost use Rattle.gl_header.specs.Header.{is_among_waiters};
 ghost use Rattle.gl_table.specs.model.Calls.{released};
-ghost use Rattle.gl_table.specs.inside.Locks.{Agrees, AreSound, CountsHeld, IsOrderly, state_in};
+ghost use Rattle.gl_table.specs.inside.Locks.{Agrees, AreExact, AreSound, CountsHeld, IsOrderly, state_in};
 ghost use Rattle.gl_table.specs.model.State.{State, status_of, with_txn, is_wait};
 ghost use Rattle.gl_table.specs.inside.Slots.{IsBySlot, notices_in};
 ghost use Rattle.gl_table.specs.model.Tellings.{IsOnWay, told_to};
@@ -21,17 +21,13 @@ impl Locks {
     /// Takes back the wait of a slot, if it has one, releases all that it holds, and frees it. Each
     /// node grants from its front.
     pub(crate) fn abort(&mut self, graph: &Graph, slot: u8, told: &mut Told)
-        requires sound { AreSound self.old }
+        requires exact { AreExact graph.now self.old }
         requires orderly { IsOrderly (state_in graph.now self.old) }
-        requires agree { (u : ℕ) → Agrees (state_in graph.now self.old) self.old.lists.items u }
-        requires count { (u : ℕ) → CountsHeld (state_in graph.now self.old) self.old.lists.items u }
         requires seated { slot < length self.old.seats.items }
         requires by_slot { IsBySlot told.old.items }
         requires untold { (u : ℕ) → is_wait (status_of (state_in graph.now self.old) u) ≡ true → notices_in told.old.items u ≡ None }
-        ensures sound { AreSound self.new }
+        ensures exact { AreExact graph.now self.new }
         ensures state { state_in graph.now self.new ≡ released (state_in graph.now self.old) slot }
-        ensures agree { (u : ℕ) → Agrees (state_in graph.now self.new) self.new.lists.items u }
-        ensures count { (u : ℕ) → CountsHeld (state_in graph.now self.new) self.new.lists.items u }
         ensures by_slot { IsBySlot told.new.items }
         ensures tells { (s : State) → IsOnWay s (state_in graph.now self.old)
             → ((u : ℕ) → (u == slot) ≡ false → notices_in told.old.items u ≡ told_to s (state_in graph.now self.old) u)
@@ -53,18 +49,14 @@ impl Locks {
     /// Releases all that a slot holds, which waits for nothing, and frees the slot. Each node grants
     /// from its front.
     pub(crate) fn end(&mut self, graph: &Graph, slot: u8, told: &mut Told)
-        requires sound { AreSound self.old }
+        requires exact { AreExact graph.now self.old }
         requires orderly { IsOrderly (state_in graph.now self.old) }
-        requires agree { (u : ℕ) → Agrees (state_in graph.now self.old) self.old.lists.items u }
-        requires count { (u : ℕ) → CountsHeld (state_in graph.now self.old) self.old.lists.items u }
         requires seated { slot < length self.old.seats.items }
         requires quiet { is_wait (status_of (state_in graph.now self.old) slot) ≡ false }
         requires by_slot { IsBySlot told.old.items }
         requires untold { (u : ℕ) → is_wait (status_of (state_in graph.now self.old) u) ≡ true → notices_in told.old.items u ≡ None }
-        ensures sound { AreSound self.new }
+        ensures exact { AreExact graph.now self.new }
         ensures state { state_in graph.now self.new ≡ released (state_in graph.now self.old) slot }
-        ensures agree { (u : ℕ) → Agrees (state_in graph.now self.new) self.new.lists.items u }
-        ensures count { (u : ℕ) → CountsHeld (state_in graph.now self.new) self.new.lists.items u }
         ensures by_slot { IsBySlot told.new.items }
         ensures tells { (s : State) → IsOnWay s (state_in graph.now self.old)
             → ((u : ℕ) → (u == slot) ≡ false → notices_in told.old.items u ≡ told_to s (state_in graph.now self.old) u)
@@ -78,10 +70,8 @@ impl Locks {
 
     /// Releases one node after the other, until the slot's list is empty.
     fn leave_all(&mut self, graph: &Graph, slot: u8, told: &mut Told)
-        requires sound { AreSound self.old }
+        requires exact { AreExact graph.now self.old }
         requires orderly { IsOrderly (state_in graph.now self.old) }
-        requires agree { (u : ℕ) → Agrees (state_in graph.now self.old) self.old.lists.items u }
-        requires count { (u : ℕ) → CountsHeld (state_in graph.now self.old) self.old.lists.items u }
         requires seated { slot < length self.old.seats.items }
         requires quiet { is_wait (status_of (state_in graph.now self.old) slot) ≡ false }
         requires by_slot { IsBySlot told.old.items }

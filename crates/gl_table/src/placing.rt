@@ -11,7 +11,7 @@ ghost use Rattle.gl_graph.specs.View.{graph_of};
 ghost use Rattle.gl_header.specs.Header.{holds, is_among_waiters};
 ghost use Rattle.gl_table.specs.model.Calls.{deleted};
 ghost use Rattle.gl_table.specs.inside.Slots.{CanFree, Frees, FreesTold, HasRoomAt, KeepsLists, IsBySlot, notices_in};
-ghost use Rattle.gl_table.specs.inside.Locks.{Agrees, AreSound, CountsHeld, IsOrderly, state_in, state_on};
+ghost use Rattle.gl_table.specs.inside.Locks.{Agrees, AreExact, AreSound, CountsHeld, IsOrderly, state_in, state_on};
 ghost use Rattle.gl_table.specs.inside.Headers.{IsOneHolder};
 ghost use Rattle.gl_table.specs.model.State.{members, status_of, with_grant};
 ghost use Rattle.gl_table.specs.declared.txn.Status.TheVariants.{Active};
@@ -53,10 +53,8 @@ impl Locks {
     /// Takes all locks on a record away that an active slot holds and nobody else. Those who wait for
     /// it are active again, and are told that it is gone.
     pub(crate) fn vacate(&mut self, graph: &Graph, slot: u8, rec: NodeId, told: &mut Told)
-        requires sound { AreSound self.old }
+        requires exact { AreExact graph.now self.old }
         requires orderly { IsOrderly (state_in graph.now self.old) }
-        requires agree { (u : ℕ) → Agrees (state_in graph.now self.old) self.old.lists.items u }
-        requires count { (u : ℕ) → CountsHeld (state_in graph.now self.old) self.old.lists.items u }
         requires active { status_of (state_in graph.now self.old) slot ≡ Some Active }
         requires record { is_record_shape (shape_of (graph_of graph.now) rec) ≡ true }
         requires holds { holds (members (state_in graph.now self.old) rec) slot ≡ true }
@@ -103,10 +101,8 @@ impl Locks {
     /// An active slot comes to hold a node in X that nobody holds or waits for, by this header. It
     /// takes no memory: the room is there.
     pub(crate) fn place(&mut self, graph: &Graph, slot: u8, node: NodeId, header: Header)
-        requires sound { AreSound self.old }
+        requires exact { AreExact graph.now self.old }
         requires orderly { IsOrderly (state_in graph.now self.old) }
-        requires agree { (u : ℕ) → Agrees (state_in graph.now self.old) self.old.lists.items u }
-        requires count { (u : ℕ) → CountsHeld (state_in graph.now self.old) self.old.lists.items u }
         requires active { status_of (state_in graph.now self.old) slot ≡ Some Active }
         requires live { is_live (graph_of graph.now) node ≡ true }
         requires unheld { (u : ℕ) → (state_in graph.now self.old).held u node ≡ NL }
@@ -114,10 +110,8 @@ impl Locks {
         requires header { IsOneHolder header slot X }
         requires headers_room { 0 < spare self.old.headers }
         requires lists_room { HasRoomAt self.old.lists.items slot }
-        ensures sound { AreSound self.new }
+        ensures exact { AreExact graph.now self.new }
         ensures state { state_in graph.now self.new ≡ with_grant (state_in graph.now self.old) slot node X }
-        ensures agree { (u : ℕ) → Agrees (state_in graph.now self.new) self.new.lists.items u }
-        ensures count { (u : ℕ) → CountsHeld (state_in graph.now self.new) self.new.lists.items u }
     {
         graph.law();
         self.headers.insert(node, header).unwrap();

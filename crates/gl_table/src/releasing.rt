@@ -4,7 +4,7 @@ ghost use Rattle.std.specs.Prelude.{◌≡◌, ℕ, None, Some, true};
 ghost use Rattle.gl_modes.specs.declared.mode.Mode.TheVariants.{NL};
 ghost use Rattle.gl_header.specs.Header.{holds, is_among_waiters};
 ghost use Rattle.gl_table.specs.model.Calls.{unlocked, held_children};
-ghost use Rattle.gl_table.specs.inside.Locks.{Agrees, AreSound, CountsHeld, IsOrderly, state_in};
+ghost use Rattle.gl_table.specs.inside.Locks.{AreExact, IsOrderly, state_in};
 ghost use Rattle.gl_table.specs.model.State.{front_at, members, status_of, with_grant};
 ghost use Rattle.gl_table.specs.inside.Slots.{AreApart, CanStrike, Strikes, WakesTold, IsBySlot, notices_in};
 ghost use Rattle.gl_table.specs.declared.txn.Status.TheVariants.{Active};
@@ -31,19 +31,15 @@ pub(crate) fn strike(lists: &mut Vec<LockList>, slot: u8, node: NodeId, parents:
 impl Locks {
     /// Releases a node of which the slot holds no child. The node grants from its front.
     pub(crate) fn release(&mut self, graph: &Graph, slot: u8, node: NodeId, told: &mut Told)
-        requires sound { AreSound self.old }
+        requires exact { AreExact graph.now self.old }
         requires orderly { IsOrderly (state_in graph.now self.old) }
-        requires agree { (u : ℕ) → Agrees (state_in graph.now self.old) self.old.lists.items u }
-        requires count { (u : ℕ) → CountsHeld (state_in graph.now self.old) self.old.lists.items u }
         requires active { status_of (state_in graph.now self.old) slot ≡ Some Active }
         requires holds { holds (members (state_in graph.now self.old) node) slot ≡ true }
         requires childless { held_children (state_in graph.now self.old) slot node ≡ 0 }
         requires by_slot { IsBySlot told.old.items }
         requires untold { (u : ℕ) → is_among_waiters u ((state_in graph.now self.old).queue node) ≡ true → notices_in told.old.items u ≡ None }
-        ensures sound { AreSound self.new }
+        ensures exact { AreExact graph.now self.new }
         ensures state { state_in graph.now self.new ≡ unlocked (state_in graph.now self.old) slot node }
-        ensures agree { (u : ℕ) → Agrees (state_in graph.now self.new) self.new.lists.items u }
-        ensures count { (u : ℕ) → CountsHeld (state_in graph.now self.new) self.new.lists.items u }
         ensures tells { WakesTold (state_in graph.now self.old).txns node (front_at (with_grant (state_in graph.now self.old) slot node NL) node) told.old.items told.new.items }
     {
         graph.law();

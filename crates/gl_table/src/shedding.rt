@@ -4,7 +4,7 @@ ghost use Rattle.std.specs.Prelude.{◌≡◌, ◌==◌, ℕ, None, Some, false,
 ghost use Rattle.gl_modes.specs.declared.node.NodeId.{NodeId as Node};
 ghost use Rattle.gl_table.specs.model.Calls.{shed};
 ghost use Rattle.gl_table.specs.inside.Lists.{mode_of, IsShedding};
-ghost use Rattle.gl_table.specs.inside.Locks.{Agrees, AreSound, CountsHeld, IsOrderly, state_in};
+ghost use Rattle.gl_table.specs.inside.Locks.{Agrees, AreExact, AreSound, CountsHeld, IsOrderly, state_in};
 ghost use Rattle.gl_table.specs.model.State.{State, status_of, is_wait};
 ghost use Rattle.gl_table.specs.inside.Slots.{IsBySlot, notices_in};
 ghost use Rattle.gl_table.specs.model.Tellings.{IsOnWay, told_to};
@@ -24,17 +24,13 @@ impl Locks {
     /// What is covered is judged before any of it is released, and marked in the slot's list, which
     /// is out of its place meanwhile.
     pub(crate) fn shed(&mut self, graph: &Graph, slot: u8, node: NodeId, told: &mut Told)
-        requires sound { AreSound self.old }
+        requires exact { AreExact graph.now self.old }
         requires orderly { IsOrderly (state_in graph.now self.old) }
-        requires agree { (u : ℕ) → Agrees (state_in graph.now self.old) self.old.lists.items u }
-        requires count { (u : ℕ) → CountsHeld (state_in graph.now self.old) self.old.lists.items u }
         requires active { status_of (state_in graph.now self.old) slot ≡ Some Active }
         requires by_slot { IsBySlot told.old.items }
         requires untold { (u : ℕ) → is_wait (status_of (state_in graph.now self.old) u) ≡ true → notices_in told.old.items u ≡ None }
-        ensures sound { AreSound self.new }
+        ensures exact { AreExact graph.now self.new }
         ensures state { state_in graph.now self.new ≡ shed (state_in graph.now self.old) slot node }
-        ensures agree { (u : ℕ) → Agrees (state_in graph.now self.new) self.new.lists.items u }
-        ensures count { (u : ℕ) → CountsHeld (state_in graph.now self.new) self.new.lists.items u }
         ensures by_slot { IsBySlot told.new.items }
         ensures tells { (s : State) → IsOnWay s (state_in graph.now self.old)
             → ((u : ℕ) → (u == slot) ≡ false → notices_in told.old.items u ≡ told_to s (state_in graph.now self.old) u)

@@ -3,7 +3,7 @@
 ghost use Rattle.std.specs.Prelude.{◌≡◌, ◌==◌, ℕ, None, Some, false, true};
 ghost use Rattle.gl_modes.specs.declared.mode.Mode.{Mode as AMode};
 ghost use Rattle.gl_modes.specs.declared.node.NodeId.{NodeId as Node};
-ghost use Rattle.gl_table.specs.inside.Locks.{Agrees, AreSound, CountsHeld, IsOrderly, state_in};
+ghost use Rattle.gl_table.specs.inside.Locks.{AreExact, IsOrderly, state_in};
 ghost use Rattle.gl_table.specs.model.State.{front_at, is_waiting_at, pumped, without_wait, status_of, is_wait};
 ghost use Rattle.gl_table.specs.inside.Slots.{WakesTold, IsBySlot, notices_in};
 ghost use Rattle.gl_table.specs.declared.txn.Status.TheVariants.{Waiting};
@@ -24,18 +24,14 @@ impl Locks {
         status: Status,
         told: &mut Told,
     )
-        requires sound { AreSound self.old }
+        requires exact { AreExact graph.now self.old }
         requires orderly { IsOrderly (state_in graph.now self.old) }
-        requires agree { (u : ℕ) → Agrees (state_in graph.now self.old) self.old.lists.items u }
-        requires count { (u : ℕ) → CountsHeld (state_in graph.now self.old) self.old.lists.items u }
         requires waits { is_waiting_at (state_in graph.now self.old) slot node ≡ true }
         requires quiet { (q : Node) (m : AMode) → Some status ≡ Some (Waiting q m) → ⊥ }
         requires by_slot { IsBySlot told.old.items }
         requires untold { (u : ℕ) → is_wait (status_of (state_in graph.now self.old) u) ≡ true → notices_in told.old.items u ≡ None }
-        ensures sound { AreSound self.new }
+        ensures exact { AreExact graph.now self.new }
         ensures state { state_in graph.now self.new ≡ pumped (without_wait (state_in graph.now self.old) slot status) (is_waiting_at (state_in graph.now self.old) slot) }
-        ensures agree { (u : ℕ) → Agrees (state_in graph.now self.new) self.new.lists.items u }
-        ensures count { (u : ℕ) → CountsHeld (state_in graph.now self.new) self.new.lists.items u }
         ensures tells { WakesTold (state_in graph.now self.old).txns node (front_at (without_wait (state_in graph.now self.old) slot status) node) told.old.items told.new.items }
     {
         graph.law();

@@ -1,11 +1,10 @@
 -- What the calls on the locks make of a table. For the calls that release.
-use Rattle.gl_table.proofs.Words.{[], ◌&&◌, ◌==◌, ◌∙◌, ◌∷◌, ◌≡◌, Active, Agrees, ap, AreSound, clash, commit_tests, condemned, CountsHeld, Deadlock, Detect}
-use Rattle.gl_table.proofs.Words.{false, first_refusal, front_at, get_or, grant_notice, HasNoCycle, held_child, held_children, holds, if◌then◌else◌}
-use Rattle.gl_table.proofs.Words.{is_among_waiters, is_child, is_wait, IsDeadlock, IsLawful, IsOnWay, IsOrderly, IsSound, IsStuck, IsVictim, members, NL}
-use Rattle.gl_table.proofs.Words.{NodeId, nodes, None, not_false, not_held, not_refused, not_true, Ok, Option, refl, Refusal, released, same_number, Settled}
-use Rattle.gl_table.proofs.Words.{SettledWithin, SettlesKeeping, SettlesKeepingWithin, Some, split, State, state_in, state_of, status_of, Stuck, subst, suc}
-use Rattle.gl_table.proofs.Words.{sym, TableView, test_fails, Told, told, told_to, true, TxnId, unlocked, verdict, Victims, view_of, WakesTold, with_grant}
-use Rattle.gl_table.proofs.Words.{zero, ℕ}
+use Rattle.gl_table.proofs.Words.{[], ◌&&◌, ◌==◌, ◌∙◌, ◌∷◌, ◌≡◌, Active, ap, AreExact, clash, commit_tests, condemned, Deadlock, Detect, false, first_refusal}
+use Rattle.gl_table.proofs.Words.{front_at, get_or, grant_notice, HasNoCycle, held_child, held_children, holds, if◌then◌else◌, is_among_waiters, is_child}
+use Rattle.gl_table.proofs.Words.{is_wait, IsDeadlock, IsLawful, IsOnWay, IsOrderly, IsSound, IsStuck, IsVictim, members, NL, NodeId, nodes, None, not_false}
+use Rattle.gl_table.proofs.Words.{not_held, not_refused, not_true, Ok, Option, refl, Refusal, released, same_number, Settled, SettledWithin, SettlesKeeping}
+use Rattle.gl_table.proofs.Words.{SettlesKeepingWithin, Some, split, State, state_in, state_of, status_of, Stuck, subst, suc, sym, TableView, test_fails, Told}
+use Rattle.gl_table.proofs.Words.{told, told_to, true, TxnId, unlocked, verdict, Victims, view_of, WakesTold, with_grant, zero, ℕ}
 use Rattle.gl_table.specs.declared.locks.Locks.{Locks}
 use Rattle.gl_table.specs.declared.table.Table.TheInside.{Inside}
 use Rattle.gl_table.proofs.calls.Queries.{none_found_counted}
@@ -75,19 +74,16 @@ module _ (i : Inside) (sound : IsSound i) where
     pub state_unlocked : state_of (view_of after) ≡ unlocked s t n
     state_unlocked = ap {A = State} (λ x. record x { detect = i.detect; victims = i.victims; begins = i.begins }) is
 
-    pub sound_unlocked : AreSound locks → ((u : ℕ) → Agrees (state_in i.graph locks) locks.lists.items u)
-        → ((u : ℕ) → CountsHeld (state_in i.graph locks) locks.lists.items u) → IsSound after
-    sound_unlocked are agrees counts = record {
+    pub sound_unlocked : AreExact i.graph locks → IsSound after
+    sound_unlocked exact = record {
       lawful = subst IsLawful (sym state_unlocked) (unlocked-lawful s sound.lawful t n active childless);
-      sound = are;
-      agrees = agrees;
-      counts = counts;
+      exact = exact;
       no_cycle = λ at. subst HasNoCycle (sym state_unlocked) (unlocked-no_cycle s sound.lawful t n active childless (sound.no_cycle at));
     }
 
     pub told_unlocked : (list : Told) → WakesTold l.txns n (front_at (with_grant l t n NL) n) [] list → list ≡ told s (state_of (view_of after))
     told_unlocked list tells =
-        told_is s (state_of (view_of after)) list sound.lawful sound.sound.few tells.by_slot
+        told_is s (state_of (view_of after)) list sound.lawful sound.exact.sound.few tells.by_slot
         (λ u. tells.notices u ∙ noticed u ∙ sym (ap (λ x. told_to s x u) state_unlocked))
       where
         noticed : (u : ℕ) → (if is_among_waiters u (front_at (with_grant s t n NL) n) then grant_notice s.txns n (front_at (with_grant s t n NL) n) u else None)
@@ -119,13 +115,10 @@ module _ (i : Inside) (sound : IsSound i) where
     pub state_released : state_of (view_of ended) ≡ released s t
     state_released = ap {A = State} (λ x. record x { detect = i.detect; victims = i.victims; begins = i.begins }) is
 
-    pub sound_released : AreSound locks → ((u : ℕ) → Agrees (state_in i.graph locks) locks.lists.items u)
-        → ((u : ℕ) → CountsHeld (state_in i.graph locks) locks.lists.items u) → IsSound ended
-    sound_released are agrees counts = record {
+    pub sound_released : AreExact i.graph locks → IsSound ended
+    sound_released exact = record {
       lawful = subst IsLawful (sym state_released) (released-lawful s sound.lawful t);
-      sound = are;
-      agrees = agrees;
-      counts = counts;
+      exact = exact;
       no_cycle = λ at. subst HasNoCycle (sym state_released) (released-no_cycle s sound.lawful t (sound.no_cycle at));
     }
 

@@ -1,9 +1,8 @@
 -- What the ends of waits and of transactions make of a table. For cancels, commits, aborts and settles.
-use Rattle.gl_table.proofs.Words.{[], ◌==◌, ◌||◌, ◌∙◌, ◌≡◌, Active, Agrees, ap, AreSound, Bool, cancelled, clash, CountsHeld, Deadlock, false, front_at}
-use Rattle.gl_table.proofs.Words.{granted_at, HasNoCycle, holds, if◌then◌else◌, is_waiting_at, IsBySlot, IsLawful, IsOnWay, IsSound, List, members, NodeId}
-use Rattle.gl_table.proofs.Words.{None, notices_in, number_same, Option, refl, released, same_number, Settled, SettlesKeeping, split, State, state_in, state_of}
-use Rattle.gl_table.proofs.Words.{status_in, status_of, stripped, subst, sym, Told, told, told_but, told_to, true, Txn, view_of, Waiter, WakesTold}
-use Rattle.gl_table.proofs.Words.{without_wait, woken, ℕ}
+use Rattle.gl_table.proofs.Words.{[], ◌==◌, ◌||◌, ◌∙◌, ◌≡◌, Active, ap, AreExact, Bool, cancelled, clash, Deadlock, false, front_at, granted_at, HasNoCycle}
+use Rattle.gl_table.proofs.Words.{holds, if◌then◌else◌, is_waiting_at, IsBySlot, IsLawful, IsOnWay, IsSound, List, members, NodeId, None, notices_in}
+use Rattle.gl_table.proofs.Words.{number_same, Option, refl, released, same_number, Settled, SettlesKeeping, split, State, state_in, state_of, status_in}
+use Rattle.gl_table.proofs.Words.{status_of, stripped, subst, sym, Told, told, told_but, told_to, true, Txn, view_of, Waiter, WakesTold, without_wait, woken, ℕ}
 use Rattle.gl_table.specs.declared.locks.Locks.{Locks}
 use Rattle.gl_table.specs.declared.table.Table.TheInside.{Inside}
 use Rattle.gl_table.proofs.calls.Calls.{keeping_also, orderly, settled_also, state_released, table_way}
@@ -35,7 +34,7 @@ module _ (i : Inside) (sound : IsSound i) where
       → notices_in list u ≡ told_to from (state_in i.graph locks) u)
       → notices_in list t ≡ notices_in first t → list ≡ told s (state_of (view_of (record i { locks = locks })))
   told_ended t locks is first list none by_slot tells own =
-      told_is s after list sound.lawful sound.sound.few by_slot
+      told_is s after list sound.lawful sound.exact.sound.few by_slot
       (λ u. split (u == t)
       (λ e. ap (notices_in list) (same_number u t e) ∙ own ∙ ap (λ xs. notices_in xs t) none
       ∙ sym (ap (told_to s after) (same_number u t e) ∙ gone_untold s after t gone))
@@ -55,13 +54,10 @@ module _ (i : Inside) (sound : IsSound i) where
     pub state_cancelled : state_of (view_of after) ≡ cancelled s t
     state_cancelled = ap {A = State} (λ x. record x { detect = i.detect; victims = i.victims; begins = i.begins }) is
 
-    pub sound_cancelled : AreSound locks → ((u : ℕ) → Agrees (state_in i.graph locks) locks.lists.items u)
-        → ((u : ℕ) → CountsHeld (state_in i.graph locks) locks.lists.items u) → IsSound after
-    sound_cancelled are agrees counts = record {
+    pub sound_cancelled : AreExact i.graph locks → IsSound after
+    sound_cancelled exact = record {
       lawful = subst IsLawful (sym state_cancelled) (without_wait-lawful s sound.lawful t Active (λ q m e. cc));
-      sound = are;
-      agrees = agrees;
-      counts = counts;
+      exact = exact;
       no_cycle = λ at. subst HasNoCycle (sym state_cancelled) (given_up-no_cycle s sound.lawful t Active (λ q m e. cc) (sound.no_cycle at));
     }
 
@@ -69,7 +65,7 @@ module _ (i : Inside) (sound : IsSound i) where
     pub told_cancelled : (first list : Told) → first ≡ [] → WakesTold l.txns n (front_at (without_wait l t Active) n) first list
         → list ≡ told_but t s (state_of (view_of after))
     told_cancelled first list none tells =
-        told_but_is s (state_of (view_of after)) t list sound.lawful sound.sound.few tells.by_slot
+        told_but_is s (state_of (view_of after)) t list sound.lawful sound.exact.sound.few tells.by_slot
         (λ u. is_by_test (u == t)
         (λ e. ap (notices_in list) (same_number u t e) ∙ cancelled_own l (orderly i sound) t n waits first list tells ∙ ap (λ xs. notices_in xs t) none)
         (λ e. (cancelled_tells l (orderly i sound) t n waits first list tells s (table_way i sound) (λ v k. ap (λ xs. notices_in xs v) none
@@ -88,13 +84,10 @@ module _ (i : Inside) (sound : IsSound i) where
         → SettlesKeeping s.victims s t i.deadlock (state_of (view_of now)) kept
     kept_settled keeps = keeping_also i.victims t i.detect i.victims i.begins l (state_in i.graph locks) i.deadlock kept keeps
 
-    pub sound_settled : AreSound locks → ((u : ℕ) → Agrees (state_in i.graph locks) locks.lists.items u)
-        → ((u : ℕ) → CountsHeld (state_in i.graph locks) locks.lists.items u) → IsSound now
-    sound_settled are agrees counts = record {
+    pub sound_settled : AreExact i.graph locks → IsSound now
+    sound_settled exact = record {
       lawful = settled-lawful s.victims s (state_of (view_of now)) t sound.lawful state_settled;
-      sound = are;
-      agrees = agrees;
-      counts = counts;
+      exact = exact;
       no_cycle = λ at. settled-no_cycle s.victims s (state_of (view_of now)) t sound.lawful state_settled (sound.no_cycle at);
     }
 
@@ -104,5 +97,5 @@ module _ (i : Inside) (sound : IsSound i) where
         → notices_in list u ≡ told_to from (state_in i.graph locks) u)
         → list ≡ told s (state_of (view_of now))
     told_settled first list none by_slot tells =
-        told_is s (state_of (view_of now)) list sound.lawful sound.sound.few by_slot
+        told_is s (state_of (view_of now)) list sound.lawful sound.exact.sound.few by_slot
         (tells s (table_way i sound) (λ u. ap (λ xs. notices_in xs u) none ∙ sym (nobody_told s u)))

@@ -47,10 +47,10 @@ counted (l ∷ ls) n (suc t) e h = counted ls n t e h
 
 pub lists_agree : (i : Inside) → IsSound i → ListsAgree (view_of i)
 lists_agree i sound = record {
-  listed = λ t n. ap is_some (said_by ls n t) ∙ through is_some ls n t ∙ (sound.agrees t).listed n
+  listed = λ t n. ap is_some (said_by ls n t) ∙ through is_some ls n t ∙ (sound.exact.agree t).listed n
       ∙ ap (λ b. holds (members (state_of (view_of i)) n) t || b) (sym (waits_among (state_of (view_of i)) sound.lawful t n));
-  modes = λ t n. ap mode_in (said_by ls n t) ∙ through mode_in ls n t ∙ (sound.agrees t).modes n;
-  counts = λ t n e h. sym (counted ls n t e (sym (said_by ls n t) ∙ h)) ∙ sound.counts t n;
+  modes = λ t n. ap mode_in (said_by ls n t) ∙ through mode_in ls n t ∙ (sound.exact.agree t).modes n;
+  counts = λ t n e h. sym (counted ls n t e (sym (said_by ls n t) ∙ h)) ∙ sound.exact.count t n;
 }
   where
     ls : List LockList
@@ -70,7 +70,7 @@ lists_once (l ∷ ls) apart (suc t) es e = lists_once ls (λ u x h. apart (suc u
 
 -- and no node has two headers, by the map's own word
 pub stand_once : (i : Inside) → IsSound i → IsUnique same_node i.locks.headers → StandOnce (view_of i)
-stand_once i sound unique = record { headers = unique; lists = lists_once i.locks.lists.items sound.sound.apart }
+stand_once i sound unique = record { headers = unique; lists = lists_once i.locks.lists.items sound.exact.sound.apart }
 
 -- A table in which nothing stands.
 
@@ -104,18 +104,20 @@ module _ (i : Inside) (most : ℕ) (few : most ≤ 128) (none : (birth : ℕ) �
   pub new_sound : IsSound i
   new_sound = record {
     lawful = subst IsLawful (sym new_state) (empty-lawful i.detect i.victims most);
-    sound = record {
-      headers = subst AreHeaders (sym new.headers) no_headers;
-      few = subst (λ (k : ℕ). k ≤ 128) (sym (ap length new.seats ∙ length-replicate most)) few;
-      lists = new.lists ∙ sym (ap length new.seats ∙ length-replicate most);
-      apart = new.apart;
+    exact = record {
+      sound = record {
+        headers = subst AreHeaders (sym new.headers) no_headers;
+        few = subst (λ (k : ℕ). k ≤ 128) (sym (ap length new.seats ∙ length-replicate most)) few;
+        lists = new.lists ∙ sym (ap length new.seats ∙ length-replicate most);
+        apart = new.apart;
+      };
+      agree = λ u. record {
+        modes = λ q. new.modes u q ∙ sym (ap (λ x. x.held u q) new_state);
+        listed = λ q. new.listed u q ∙ sym (ap (λ x. holds (members x q) u || is_among_waiters u (x.queue q)) new_state);
+        room = λ h. clash (ap (λ x. is_wait (status_of x u)) (sym new_state) ∙ h) refl;
+      };
+      count = λ u p. new.counts u p ∙ sym (ap (λ x. held_children x u p) new_state);
     };
-    agrees = λ u. record {
-      modes = λ q. new.modes u q ∙ sym (ap (λ x. x.held u q) new_state);
-      listed = λ q. new.listed u q ∙ sym (ap (λ x. holds (members x q) u || is_among_waiters u (x.queue q)) new_state);
-      room = λ h. clash (ap (λ x. is_wait (status_of x u)) (sym new_state) ∙ h) refl;
-    };
-    counts = λ u p. new.counts u p ∙ sym (ap (λ x. held_children x u p) new_state);
     no_cycle = λ _. subst HasNoCycle (sym new_state) (empty-no_cycle i.detect i.victims most);
   }
 
@@ -133,15 +135,17 @@ module _ (i : Inside) (sound : IsSound i) (v : View) where
   grown-counts : Grows (graph_of i.graph) (graph_of v) → (u : ℕ) → CountsHeld (state_in v i.locks) i.locks.lists.items u
   grown-counts more u p =
       let held : NodeId → Bool = λ c. holds (members before c) u in
-      sound.counts u p ∙ sym (born-children (graph_of i.graph) sound.lawful.graph more.ns held (λ c h. (sound.lawful.grants_live u c h).1) p)
+      sound.exact.count u p ∙ sym (born-children (graph_of i.graph) sound.lawful.graph more.ns held (λ c h. (sound.lawful.grants_live u c h).1) p)
       ∙ sym (ap (λ g. children_that g held p) more.after)
 
   grown-sound : Grows (graph_of i.graph) (graph_of v) → IsSound grown
   grown-sound more = record {
     lawful = grown-lawful before sound.lawful (graph_of v) more;
-    sound = sound.sound;
-    agrees = λ u. let old = sound.agrees u in record { modes = old.modes; listed = old.listed; room = old.room };
-    counts = grown-counts more;
+    exact = record {
+      sound = sound.exact.sound;
+      agree = λ u. let old = sound.exact.agree u in record { modes = old.modes; listed = old.listed; room = old.room };
+      count = grown-counts more;
+    };
     no_cycle = sound.no_cycle;
   }
 
@@ -267,17 +271,19 @@ module _ (i : Inside) (sound : IsSound i) (t : ℕ) (at : Some t ≡ position is
   pub begun-sound : IsSound begun_in
   begun-sound = record {
     lawful = subst IsLawful (sym begun-state) (begun-lawful first sound.lawful t free place.0);
-    sound = record {
-      headers = sound.sound.headers;
-      few = subst (λ (k : ℕ). k ≤ 128) (sym seats-same) sound.sound.few;
-      lists = sound.sound.lists ∙ sym seats-same;
-      apart = sound.sound.apart;
+    exact = record {
+      sound = record {
+        headers = sound.exact.sound.headers;
+        few = subst (λ (k : ℕ). k ≤ 128) (sym seats-same) sound.exact.sound.few;
+        lists = sound.exact.sound.lists ∙ sym seats-same;
+        apart = sound.exact.sound.apart;
+      };
+      agree = λ u. record {
+        modes = (sound.exact.agree u).modes;
+        listed = (sound.exact.agree u).listed;
+        room = λ h. (sound.exact.agree u).room (waited u (ap (λ x. is_wait (status_in (x.txns u))) (sym begun-state) ∙ h));
+      };
+      count = sound.exact.count;
     };
-    agrees = λ u. record {
-      modes = (sound.agrees u).modes;
-      listed = (sound.agrees u).listed;
-      room = λ h. (sound.agrees u).room (waited u (ap (λ x. is_wait (status_in (x.txns u))) (sym begun-state) ∙ h));
-    };
-    counts = sound.counts;
     no_cycle = λ e. subst HasNoCycle (sym begun-state) (begun-no_cycle first t (sound.no_cycle e));
   }

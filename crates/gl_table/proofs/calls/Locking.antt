@@ -1,12 +1,12 @@
 -- What a lock that is granted, and one that waits, makes of a table. For the calls that lock.
-use Rattle.gl_table.proofs.Words.{[], ◌&&◌, ◌==◌, ◌∙◌, ◌∷◌, ◌≡◌, Active, Agrees, answered, ap, ap₂, AreSound, AtBlock, bad_mode, Bool, ByWatcher, clash}
-use Rattle.gl_table.proofs.Words.{commit_tests, condemned_test, CountsHeld, Deadlock, Detect, enqueued, enters_at, Err, false, first_refusal, fun_ext, granted}
-use Rattle.gl_table.proofs.Words.{graph_of, HasNoCycle, held_by, held_of, if◌then◌else◌, is_granted_at, IsLawful, IsOrderly, IsSound, length, lock_tests}
-use Rattle.gl_table.proofs.Words.{locked_as, LocksKeeping, Mode, need_parents, no_node, no_txn, NodeId, None, not, not_false, not_refused, number_same, Ok}
-use Rattle.gl_table.proofs.Words.{OnErr, OnOk, Option, parents_of, passed_then, queue_of, refl, Refusal, refused_first, Refuses, Result, rule_refusal}
-use Rattle.gl_table.proofs.Words.{same_node-refl, Some, some_no_node, State, state_in, state_of, status_of, subst, supremum, sym, TableView, test_fails, Told}
-use Rattle.gl_table.proofs.Words.{told_but, true, try_tests, TxnId, txns_of, verdict, Victims, view_of, waiting_test, WaitSettles, WaitSettlesKeeping, wanted}
-use Rattle.gl_table.proofs.Words.{where_true, would_block, ℕ}
+use Rattle.gl_table.proofs.Words.{[], ◌&&◌, ◌==◌, ◌∙◌, ◌∷◌, ◌≡◌, Active, answered, ap, ap₂, AreExact, AtBlock, bad_mode, Bool, ByWatcher, clash, commit_tests}
+use Rattle.gl_table.proofs.Words.{condemned_test, Deadlock, Detect, enqueued, enters_at, Err, false, first_refusal, fun_ext, granted, graph_of, HasNoCycle}
+use Rattle.gl_table.proofs.Words.{held_by, held_of, if◌then◌else◌, is_granted_at, IsLawful, IsOrderly, IsSound, length, lock_tests, locked_as, LocksKeeping}
+use Rattle.gl_table.proofs.Words.{Mode, need_parents, no_node, no_txn, NodeId, None, not, not_false, not_refused, number_same, Ok, OnErr, OnOk, Option}
+use Rattle.gl_table.proofs.Words.{parents_of, passed_then, queue_of, refl, Refusal, refused_first, Refuses, Result, rule_refusal, same_node-refl, Some}
+use Rattle.gl_table.proofs.Words.{some_no_node, State, state_in, state_of, status_of, subst, supremum, sym, TableView, test_fails, Told, told_but, true}
+use Rattle.gl_table.proofs.Words.{try_tests, TxnId, txns_of, verdict, Victims, view_of, waiting_test, WaitSettles, WaitSettlesKeeping, wanted, where_true}
+use Rattle.gl_table.proofs.Words.{would_block, ℕ}
 use Rattle.gl_table.specs.declared.table.Table.TheInside.{Inside}
 use Rattle.gl_table.specs.model.Calls.{Locks}
 use Rattle.gl_modes.specs.declared.refusal.Refusal.TheVariants as no
@@ -95,7 +95,7 @@ module _ (i : Inside) (sound : IsSound i) (t : TxnId) (n : NodeId) (m : Mode) wh
 
   -- the header says what the state says
   pub same_enters : is_granted_at i.locks.headers.entries t.slot n m ≡ enters_at s t.slot n m
-  same_enters = sym (enters-most l (orderly i sound) sound.sound.few t.slot n (wanted l t.slot n m))
+  same_enters = sym (enters-most l (orderly i sound) sound.exact.sound.few t.slot n (wanted l t.slot n m))
 
   -- the grant was made
   module _ (may : MayLock s t n m) (fits : enters_at s t.slot n m ≡ true) (locks : code.Locks) (is : state_in i.graph locks ≡ granted l t.slot n m) where
@@ -105,25 +105,19 @@ module _ (i : Inside) (sound : IsSound i) (t : TxnId) (n : NodeId) (m : Mode) wh
     pub state_granted : state_of (view_of after) ≡ granted s t.slot n m
     state_granted = ap {A = State} (λ x. record x { detect = i.detect; victims = i.victims; begins = i.begins }) is
 
-    pub sound_granted : AreSound locks → ((u : ℕ) → Agrees (state_in i.graph locks) locks.lists.items u)
-        → ((u : ℕ) → CountsHeld (state_in i.graph locks) locks.lists.items u) → IsSound after
-    sound_granted are agrees counts = record {
+    pub sound_granted : AreExact i.graph locks → IsSound after
+    sound_granted exact = record {
       lawful = subst IsLawful (sym state_granted) (granted-lawful s sound.lawful t n m may fits);
-      sound = are;
-      agrees = agrees;
-      counts = counts;
+      exact = exact;
       no_cycle = λ at. subst HasNoCycle (sym state_granted) (granted-no_cycle s t.slot n (wanted s t.slot n m) may.active (sound.no_cycle at));
     }
 
   -- nothing but room was made
   pub sound_kept : (locks : code.Locks) → locks.headers.entries ≡ i.locks.headers.entries → locks.seats ≡ i.locks.seats
-      → AreSound locks → ((u : ℕ) → Agrees (state_in i.graph locks) locks.lists.items u) → ((u : ℕ) → CountsHeld (state_in i.graph locks) locks.lists.items u)
-      → IsSound (record i { locks = locks })
-  sound_kept locks headers seats are agrees counts = record {
+      → AreExact i.graph locks → IsSound (record i { locks = locks })
+  sound_kept locks headers seats exact = record {
     lawful = subst IsLawful same sound.lawful;
-    sound = are;
-    agrees = agrees;
-    counts = counts;
+    exact = exact;
     no_cycle = λ at. subst HasNoCycle same (sound.no_cycle at);
   }
     where
@@ -139,10 +133,9 @@ module _ (i : Inside) (sound : IsSound i) (t : TxnId) (n : NodeId) (m : Mode) wh
   pub sound_tried : (r : Result Mode Refusal) (locks : code.Locks) → MayLock s t n m → enters_at s t.slot n m ≡ true
       → OnOk r (state_in i.graph locks ≡ granted l t.slot n m)
       → OnErr r (locks.headers.entries ≡ i.locks.headers.entries) → OnErr r (locks.seats ≡ i.locks.seats)
-      → AreSound locks → ((u : ℕ) → Agrees (state_in i.graph locks) locks.lists.items u) → ((u : ℕ) → CountsHeld (state_in i.graph locks) locks.lists.items u)
-      → IsSound (record i { locks = locks })
-  sound_tried (Ok x) locks may fits ok headers seats are agrees counts = sound_granted may fits locks ok are agrees counts
-  sound_tried (Err x) locks may fits ok headers seats are agrees counts = sound_kept locks headers seats are agrees counts
+      → AreExact i.graph locks → IsSound (record i { locks = locks })
+  sound_tried (Ok x) locks may fits ok headers seats exact = sound_granted may fits locks ok exact
+  sound_tried (Err x) locks may fits ok headers seats exact = sound_kept locks headers seats exact
 
   pub state_tried : (r : Result Mode Refusal) (locks : code.Locks) → OnOk r (state_in i.graph locks ≡ granted l t.slot n m)
       → OnOk r (state_of (view_of (record i { locks = locks })) ≡ granted s t.slot n m)
@@ -235,13 +228,10 @@ module _ (i : Inside) (sound : IsSound i) (t : TxnId) (n : NodeId) (m : Mode) (m
             (subst (λ (x : State). WaitSettlesKeeping i.detect i.victims x t.slot i.deadlock (state_in i.graph left) kept) is keeps);
       }
 
-      pub sound_locked : AreSound left → ((u : ℕ) → Agrees (state_in i.graph left) left.lists.items u)
-          → ((u : ℕ) → CountsHeld (state_in i.graph left) left.lists.items u) → IsSound waited
-      sound_locked are agrees counts = record {
+      pub sound_locked : AreExact i.graph left → IsSound waited
+      sound_locked exact = record {
         lawful = locks-lawful before (state_of (view_of waited)) sound.lawful t n m may state_locked;
-        sound = are;
-        agrees = agrees;
-        counts = counts;
+        exact = exact;
         no_cycle = λ at. locks-no_cycle before (state_of (view_of waited)) at sound.lawful t n m may state_locked (sound.no_cycle at);
       }
 

@@ -66,20 +66,20 @@ module _ (i : Inside) (sound : IsSound i) (t : ℕ) (n : NodeId) (was is : Node)
       }
 
   pub agree_moved : (u : ℕ) → Agrees l i.locks.lists.items u
-  agree_moved u = let old = sound.agrees u in record { modes = old.modes; listed = old.listed; room = old.room }
+  agree_moved u = let old = sound.exact.agree u in record { modes = old.modes; listed = old.listed; room = old.room }
 
   pub bare_moved : (u : ℕ) → is_among_waiters u (l.queue n) ≡ true → l.held u n ≡ NL
   bare_moved = waiter_bare s sound.lawful t n is.parents m.active m.right
 
   pub stuck_moved : list_all (λ w. not (fits slot_limit (members l n) w.0 w.1)) (l.queue n) ≡ true
   stuck_moved = waiters_stuck s sound.lawful t n is.parents m.active m.right slot_limit
-      (λ u w. fits-limit s.most (members s n) u w sound.sound.few (members_within l orderly_moved n))
+      (λ u w. fits-limit s.most (members s n) u w sound.exact.sound.few (members_within l orderly_moved n))
 
   -- the mover's old parents are counted
   pub counted_moved : holds (members l n) t ≡ true → (q : NodeId) → count_by (same_node q) (parents_of s.graph n) ≤ counted_by i.locks.lists.items t q
   counted_moved held q =
       let some = parents_counted n (λ c. holds (members s c) t) s.graph sound.lawful.graph (node_there s t n was is g' m) held q in
-      let count = sound.counts t q in
+      let count = sound.exact.count t q in
       omega arith
 
   -- and its new parents are listed
@@ -95,7 +95,7 @@ module _ (i : Inside) (sound : IsSound i) (t : ℕ) (n : NodeId) (was is : Node)
 
   pub few_moved : (q : NodeId) → counted_by i.locks.lists.items t q + count_by (same_node q) (parents_of g' n) < 2 ^ 32
   few_moved q =
-      let count = sound.counts t q in
+      let count = sound.exact.count t q in
       let few = children_few s.graph sound.lawful.graph (λ c. holds (members s c) t) q in
       let short = count_by-le-length (same_node q) (parents_of g' n) in
       let eight = parents_few g' m.lawful n in
@@ -129,24 +129,22 @@ module _ (i : Inside) (sound : IsSound i) (t : ℕ) (n : NodeId) (was is : Node)
         ≡ counted_by i.locks.lists.items u p + (if b then count_by (same_node p) (parents_of g' n) else 0))
         same (ap (λ ps. counted_by locks.lists.items u p + (if (u == t) && holds (members l n) t then count_by (same_node p) ps else 0)) (sym before)
         ∙ counts u p) in
-        let count = sound.counts u p in
+        let count = sound.exact.count u p in
         let now : counted_by locks.lists.items u p ≡ children_that g' (holding u) p = omega arith in
         now ∙ ap (λ (x : State). held_children x u p) (sym state)
 
     pub sound_moved : AreSound locks → ((u : ℕ) → Agrees (state_on g' locks) locks.lists.items u)
         → ((u : ℕ) → CountsHeld (state_on g' locks) locks.lists.items u) → IsSound after
-    sound_moved are agrees counts = record {
+    sound_moved exact = record {
       lawful = subst IsLawful (sym state_moved) (changed_keeps s t n was is g' m sound.lawful);
-      sound = are;
-      agrees = agrees;
-      counts = counts;
+      exact = exact;
       no_cycle = λ at. subst HasNoCycle (sym state_moved) (moved-no_cycle s sound.lawful n is.parents g' (sound.no_cycle at));
     }
 
     pub told_moved : (list : Told) → IsBySlot list → ((u : ℕ)
         → notices_in list u ≡ (if is_lost l n (stays l (parents_of g' n)) u then moved_notice l u else None)) → list ≡ told s (state_of (view_of after))
     told_moved list by_slot tells =
-        told_is s (state_of (view_of after)) list sound.lawful sound.sound.few by_slot
+        told_is s (state_of (view_of after)) list sound.lawful sound.exact.sound.few by_slot
         (λ u. tells u ∙ ap (λ ps. if is_lost s n (stays s ps) u then moved_notice s u else None) here
         ∙ sym (moved_told s (lawful_orderly s sound.lawful) n is.parents g' bare_moved (λ x h. live n ∙ node_there s t n was is g' m) u)
         ∙ sym (ap (λ x. told_to s x u) state_moved))

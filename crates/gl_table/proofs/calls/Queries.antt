@@ -43,7 +43,7 @@ module _ (i : Inside) (sound : IsSound i) (t : ℕ) (n : NodeId) where
   ls = i.locks.lists.items
 
   same_holder : (q : NodeId) → holds (λ u. held_by ls u q) t ≡ holds (members s q) t
-  same_holder q = ap (λ m. not (same_mode m NL)) ((sound.agrees t).modes q)
+  same_holder q = ap (λ m. not (same_mode m NL)) ((sound.exact.agree t).modes q)
 
   pub live_held : (c : NodeId) → holds (λ u. held_by ls u c) t ≡ true → is_live (graph_of i.graph) c ≡ true
   live_held c h = (sound.lawful.grants_live t c (sym (same_holder c) ∙ h)).1
@@ -59,7 +59,7 @@ module _ (i : Inside) (sound : IsSound i) (t : ℕ) (n : NodeId) where
     where
       by : (b : Bool) → holds (λ u. held_by ls u n) t ≡ b → Some k ≡ (if b then Some (counted_by ls t n) else None) → (holds (members s n) t ≡ true)
           × (k ≡ held_children s t n)
-      by true h q = let same : k ≡ counted_by ls t n = cc in (sym (same_holder n) ∙ h, same ∙ sound.counts t n)
+      by true h q = let same : k ≡ counted_by ls t n = cc in (sym (same_holder n) ∙ h, same ∙ sound.exact.count t n)
       by false h q = absurd (cc)
 
   pub says_not_held : None ≡ (if holds (λ u. held_by ls u n) t then Some (counted_by ls t n) else None)
@@ -144,17 +144,17 @@ module _ (A : Type 0) {B : Type 0} (o : Option Refusal) (r : Refusal) (result : 
 
 module _ (i : Inside) (sound : IsSound i) (v : TableView) (view : view_of i ≡ v) where
   pub modes-seen : (t : ℕ) (n : NodeId) → held_by i.locks.lists.items t n ≡ (state_of v).held t n
-  modes-seen t n = (sound.agrees t).modes n ∙ ap (λ w. (state_of w).held t n) view
+  modes-seen t n = (sound.exact.agree t).modes n ∙ ap (λ w. (state_of w).held t n) view
 
   pub counts-seen : (t : ℕ) (n : NodeId) → counted_by i.locks.lists.items t n ≡ held_children (state_of v) t n
-  counts-seen t n = sound.counts t n ∙ ap (λ w. held_children (state_of w) t n) view
+  counts-seen t n = sound.exact.count t n ∙ ap (λ w. held_children (state_of w) t n) view
 
   pub effect-seen : (t : ℕ) (n : NodeId) → effect_on (graph_of i.graph) (held_by i.locks.lists.items t) n ≡ effective (state_of v) t n
   effect-seen t n = ap₂ (λ w h. effect_on (graph_of w.graph) h n) view (fun_ext (modes-seen t))
 
   pub group-seen : (n : NodeId) → group_of slot_limit (members_at i.locks.headers.entries n) ≡ group_of (state_of v).most (members (state_of v) n)
   group-seen n =
-      sym (group_of-limit (length i.locks.seats.items) (members_at i.locks.headers.entries n) sound.sound.few
+      sym (group_of-limit (length i.locks.seats.items) (members_at i.locks.headers.entries n) sound.exact.sound.few
       (lawful-within (state_of (view_of i)) sound.lawful n))
       ∙ ap (λ w. group_of (state_of w).most (members (state_of w) n)) view
 

@@ -1,14 +1,14 @@
 -- Records come and go, and children are shed: what it makes of a table. For those calls.
 use Rattle.gl_table.proofs.Words.{[], ◌&&◌, ◌+◌, ◌-◌, ◌==◌, ◌||◌, ◌∙◌, ◌∷◌, ◌≡◌, ◌≤◌, Active, addressed, age_in, age_of, Agrees, and_both, ap, are_compatible}
-use Rattle.gl_table.proofs.Words.{AreHeaders, AreSound, arith, Bool, clash, cond, count_by, count_cons, counted_by, CountsHeld, covered_children, deleted}
-use Rattle.gl_table.proofs.Words.{false, first_not_ix, freed, FreesTold, granted_at, Graph, graph_of, HasNoCycle, held_by, held_children, holds, holds_child}
-use Rattle.gl_table.proofs.Words.{IfOk, if◌then◌else◌, is_among_waiters, is_at_least, is_child, is_covered, is_live, is_record_shape, is_some, is_wait}
-use Rattle.gl_table.proofs.Words.{is_waiting_at, IsBorn, IsBySlot, IsLawful, IsOnWay, IsOrderly, IsRoomyRecord, IsSound, KeepsLists, length, List, list_all}
-use Rattle.gl_table.proofs.Words.{listed, members, Mode, NL, NodeId, nodes, None, none_but, not, not_true, notice_of, notices_in, number_same, OnErr, Option}
-use Rattle.gl_table.proofs.Words.{other_number, parents_of, Rec, record_parents, record_refusal, record_unrefused, refl, Refusal, Refuses, Result, rules, S}
-use Rattle.gl_table.proofs.Words.{same_mode, same_mode-equal, same_node-refl, same_number, shape_of, shed, Some, split, State, state_in, state_of, state_on}
-use Rattle.gl_table.proofs.Words.{status_in, status_of, subst, sym, Told, told, told_from, told_to, true, Txn, TxnId, unwrap_or, View, view_of, Waiting}
-use Rattle.gl_table.proofs.Words.{with_grant, with_graph, with_key, without_node, X, ℕ}
+use Rattle.gl_table.proofs.Words.{AreExact, AreHeaders, AreSound, arith, Bool, clash, cond, count_by, count_cons, counted_by, CountsHeld, covered_children}
+use Rattle.gl_table.proofs.Words.{deleted, false, first_not_ix, freed, FreesTold, granted_at, Graph, graph_of, HasNoCycle, held_by, held_children, holds}
+use Rattle.gl_table.proofs.Words.{holds_child, IfOk, if◌then◌else◌, is_among_waiters, is_at_least, is_child, is_covered, is_live, is_record_shape, is_some}
+use Rattle.gl_table.proofs.Words.{is_wait, is_waiting_at, IsBorn, IsBySlot, IsLawful, IsOnWay, IsOrderly, IsRoomyRecord, IsSound, KeepsLists, length, List}
+use Rattle.gl_table.proofs.Words.{list_all, listed, members, Mode, NL, NodeId, nodes, None, none_but, not, not_true, notice_of, notices_in, number_same, OnErr}
+use Rattle.gl_table.proofs.Words.{Option, other_number, parents_of, Rec, record_parents, record_refusal, record_unrefused, refl, Refusal, Refuses, Result}
+use Rattle.gl_table.proofs.Words.{rules, S, same_mode, same_mode-equal, same_node-refl, same_number, shape_of, shed, Some, split, State, state_in, state_of}
+use Rattle.gl_table.proofs.Words.{state_on, status_in, status_of, subst, sym, Told, told, told_from, told_to, true, Txn, TxnId, unwrap_or, View, view_of}
+use Rattle.gl_table.proofs.Words.{Waiting, with_grant, with_graph, with_key, without_node, X, ℕ}
 use Rattle.gl_table.specs.declared.locks.Locks.{Locks}
 use Rattle.gl_table.specs.declared.table.Table.TheInside.{Inside}
 use Rattle.gl_table.specs.declared.notice.Notice.TheVariants as notice
@@ -91,15 +91,17 @@ module _ (i : Inside) (sound : IsSound i) (r : NodeId) (rec : is_record_shape (s
       → IsSound after
   sound_deleted are agrees counts = record {
     lawful = subst IsLawful (sym state_deleted) (deleted_lawful s sound.lawful r rec);
-    sound = are;
-    agrees = λ u. subst (λ x. Agrees x locks.lists.items u) (sym on_locks) (agrees u);
-    counts = λ u. subst (λ x. CountsHeld x locks.lists.items u) (sym on_locks) (counts u);
+    exact = record {
+      sound = are;
+      agree = λ u. subst (λ x. Agrees x locks.lists.items u) (sym on_locks) (agrees u);
+      count = λ u. subst (λ x. CountsHeld x locks.lists.items u) (sym on_locks) (counts u);
+    };
     no_cycle = λ at. subst HasNoCycle (sym state_deleted) (deleted-no_cycle s r (sound.no_cycle at));
   }
 
   pub told_deleted : (list : Told) → FreesTold l.txns (s.queue r) [] list → list ≡ told s (state_of (view_of after))
   told_deleted list tells =
-      told_is s (state_of (view_of after)) list sound.lawful sound.sound.few tells.by_slot
+      told_is s (state_of (view_of after)) list sound.lawful sound.exact.sound.few tells.by_slot
       (λ u. tells.notices u ∙ deleted_tells s (lawful_orderly s sound.lawful) r u ∙ sym (ap (λ x. told_to s x u) state_deleted))
 
 -- A record is made in a table, and one transaction holds it in X: what holds of the fields still does.
@@ -119,16 +121,18 @@ module _ (i : Inside) (sound : IsSound i) (locks : Locks) (headers : locks.heade
   pub sound_roomy : IsSound roomy
   sound_roomy = record {
     lawful = subst IsLawful (sym same_state) sound.lawful;
-    sound = record {
-      headers = subst AreHeaders (sym headers) sound.sound.headers;
-      few = subst (λ (k : ℕ). k ≤ 128) (sym many) sound.sound.few;
-      lists = lists.len ∙ sound.sound.lists ∙ sym many;
-      apart = lists.apart sound.sound.apart;
+    exact = record {
+      sound = record {
+        headers = subst AreHeaders (sym headers) sound.exact.sound.headers;
+        few = subst (λ (k : ℕ). k ≤ 128) (sym many) sound.exact.sound.few;
+        lists = lists.len ∙ sound.exact.sound.lists ∙ sym many;
+        apart = lists.apart sound.exact.sound.apart;
+      };
+      agree = λ u. subst (λ x. Agrees x locks.lists.items u) (sym (same_on (graph_of i.graph)))
+          (keeps-agrees (state_in i.graph i.locks) i.locks.lists.items locks.lists.items u lists (sound.exact.agree u));
+      count = λ u. subst (λ x. CountsHeld x locks.lists.items u) (sym (same_on (graph_of i.graph)))
+          (keeps-counts (state_in i.graph i.locks) i.locks.lists.items locks.lists.items u lists (sound.exact.count u));
     };
-    agrees = λ u. subst (λ x. Agrees x locks.lists.items u) (sym (same_on (graph_of i.graph)))
-        (keeps-agrees (state_in i.graph i.locks) i.locks.lists.items locks.lists.items u lists (sound.agrees u));
-    counts = λ u. subst (λ x. CountsHeld x locks.lists.items u) (sym (same_on (graph_of i.graph)))
-        (keeps-counts (state_in i.graph i.locks) i.locks.lists.items locks.lists.items u lists (sound.counts u));
     no_cycle = λ at. subst HasNoCycle (sym same_state) (sound.no_cycle at);
   }
     where
@@ -172,15 +176,12 @@ module _ (i : Inside) (sound : IsSound i) (f : NodeId) (keys : List ℕ) (free :
       state_placed = ap {A = State} (λ x. record x { detect = i.detect; victims = i.victims; begins = i.begins }) is
 
       pub sound_placed : status_of before t ≡ Some Active → first_not_ix (before.held t) (record_parents (graph_of i.graph) f keys) ≡ None
-          → AreSound locks → ((u : ℕ) → Agrees (state_in v locks) locks.lists.items u) → ((u : ℕ) → CountsHeld (state_in v locks) locks.lists.items u)
-          → IsSound placed_in
-      sound_placed active rule are agrees counts = record {
+          → AreExact v locks → IsSound placed_in
+      sound_placed active rule exact = record {
         lawful = subst IsLawful (sym state_placed) (placed-lawful before sound.lawful f keys roomy_record.file roomy_record.each roomy_record.room (graph_of v)
             n
             born t active rule);
-        sound = are;
-        agrees = agrees;
-        counts = counts;
+        exact = exact;
         no_cycle = λ at. subst HasNoCycle (sym state_placed) (granted-no_cycle (with_graph before (graph_of v)) t n X active (sound.no_cycle at));
       }
 
@@ -205,8 +206,8 @@ children_said : (i : Inside) → IsSound i → (t : ℕ) (n : NodeId) → holds 
     → k ≡ held_children (state_of (view_of i)) t n
 children_said i sound t n h o said k is =
     is ∙ ap (λ x. unwrap_or x 0) (said ∙ ap (λ b. if b then Some (counted_by i.locks.lists.items t n) else None)
-    (ap (λ m. not (same_mode m NL)) ((sound.agrees t).modes n) ∙ h))
-    ∙ sound.counts t n
+    (ap (λ m. not (same_mode m NL)) ((sound.exact.agree t).modes n) ∙ h))
+    ∙ sound.exact.count t n
 
 -- what an active slot holds of a node that covers some of its children
 module _ (i : Inside) (sound : IsSound i) (t : ℕ) (n : NodeId) where
@@ -257,13 +258,10 @@ module _ (i : Inside) (sound : IsSound i) (t : ℕ) (n : NodeId) where
       pub state_shed : state_of (view_of ended) ≡ shed whole t n
       state_shed = ap {A = State} (λ x. record x { detect = i.detect; victims = i.victims; begins = i.begins }) is
 
-      pub sound_shed : AreSound locks → ((u : ℕ) → Agrees (state_in i.graph locks) locks.lists.items u)
-          → ((u : ℕ) → CountsHeld (state_in i.graph locks) locks.lists.items u) → IsSound ended
-      sound_shed are agrees counts = record {
+      pub sound_shed : AreExact i.graph locks → IsSound ended
+      sound_shed exact = record {
         lawful = subst IsLawful (sym state_shed) (shed-lawful whole sound.lawful t n active);
-        sound = are;
-        agrees = agrees;
-        counts = counts;
+        exact = exact;
         no_cycle = λ at. subst HasNoCycle (sym state_shed) (shed-no_cycle whole sound.lawful t n active (sound.no_cycle at));
       }
 
@@ -273,15 +271,13 @@ module _ (i : Inside) (sound : IsSound i) (t : ℕ) (n : NodeId) where
           → notices_in list u ≡ told_to from (state_in i.graph locks) u)
           → notices_in list t ≡ notices_in first t → list ≡ told whole (state_of (view_of ended))
       told_shed first list none by_slot tells own =
-          told_is whole (state_of (view_of ended)) list sound.lawful sound.sound.few by_slot
+          told_is whole (state_of (view_of ended)) list sound.lawful sound.exact.sound.few by_slot
           (λ u. split (u == t)
           (λ e. let is = same_number u t e in ap (notices_in list) is ∙ own ∙ ap (λ xs. notices_in xs t) none
           ∙ sym (active_untold whole (state_of (view_of ended)) u (ap (status_of whole) is ∙ active)))
           (λ e. tells whole (table_way i sound) (λ v k. ap (λ xs. notices_in xs v) none ∙ sym (nobody_told whole v)) u e))
 
-      module _ (are : AreSound locks) (agrees : (u : ℕ) → Agrees (state_in i.graph locks) locks.lists.items u) (counts : (u : ℕ)
-          → CountsHeld (state_in i.graph locks) locks.lists.items u)
-          (reads : is_at_least (whole.held t n) S ≡ true) (o o' : Option ℕ)
+      module _ (exact : AreExact i.graph locks) (reads : is_at_least (whole.held t n) S ≡ true) (o o' : Option ℕ)
           (said : o ≡ (if holds (λ u. held_by i.locks.lists.items u n) t then Some (counted_by i.locks.lists.items t n) else None))
           (said' : o' ≡ (if holds (λ u. held_by locks.lists.items u n) t then Some (counted_by locks.lists.items t n) else None)) (k k' : ℕ)
           (held : k ≡ unwrap_or o 0) (kept : k' ≡ unwrap_or o' 0) where
@@ -299,7 +295,7 @@ module _ (i : Inside) (sound : IsSound i) (t : ℕ) (n : NodeId) where
 
         shed_in : k' ≡ held_children (shed whole t n) t n
         shed_in =
-            children_said ended (sound_shed are agrees counts) t n
+            children_said ended (sound_shed exact) t n
             (ap (λ (x : State). holds (members x n) t) state_shed
             ∙ ap (λ m. not (same_mode m NL)) (shed_own n ∙ ap (λ b. if b then NL else whole.held t n) uncovered) ∙ reads_held (whole.held t n) reads)
             o' said' k' kept

@@ -1,11 +1,10 @@
 -- The last deadlock, while its rows are written and while a slot is settled. For deadlocks.
-use Rattle.gl_table.proofs.Words.{[], ◌&&◌, ◌++◌, ◌<◌, ◌==◌, ◌||◌, ◌↔◌, ◌∙◌, ◌∷◌, ◌≡◌, ◌≤◌, Agrees, All-nil, All-push, All-same, all_pairs_push, AllPairs}
-use Rattle.gl_table.proofs.Words.{and_both, ap, ap₂, AreSound, arith, Bool, candidate-on_cycle, clash, condemned, CountsHeld, Deadlock, false, get_or, Graph}
-use Rattle.gl_table.proofs.Words.{has_row, has_slot, HasNoSlot, is_wait, IsBySlot, IsDeadlock, IsLowest, IsOnCycleOf, IsOnWay, IsOrderly, IsStuck, IsTrue}
-use Rattle.gl_table.proofs.Words.{IsVictim, IsWalk, length, length-append, List, list_any, list_any-append, name_at, nat_tests, None, not, notices_in, or_elim}
-use Rattle.gl_table.proofs.Words.{or_right, reaches_join, refl, RowsLeadOn, same_number, Settled, SettledWithin, SettlesKeeping, SettlesKeepingWithin, Slots}
-use Rattle.gl_table.proofs.Words.{Some, State, state_on, status_of, Stuck, subst, suc, sym, Told, told_to, true, VictimHasRow, Victims, Waiting, waits_for}
-use Rattle.gl_table.proofs.Words.{zero, ℕ}
+use Rattle.gl_table.proofs.Words.{[], ◌&&◌, ◌++◌, ◌<◌, ◌==◌, ◌||◌, ◌↔◌, ◌∙◌, ◌∷◌, ◌≡◌, ◌≤◌, All-nil, All-push, All-same, all_pairs_push, AllPairs, and_both, ap}
+use Rattle.gl_table.proofs.Words.{ap₂, AreExact, arith, Bool, candidate-on_cycle, clash, condemned, Deadlock, false, get_or, has_row, has_slot, HasNoSlot}
+use Rattle.gl_table.proofs.Words.{is_wait, IsBySlot, IsDeadlock, IsLowest, IsOnCycleOf, IsOnWay, IsOrderly, IsStuck, IsTrue, IsVictim, IsWalk, length}
+use Rattle.gl_table.proofs.Words.{length-append, List, list_any, list_any-append, name_at, nat_tests, None, not, notices_in, or_elim, or_right, reaches_join}
+use Rattle.gl_table.proofs.Words.{refl, RowsLeadOn, same_number, Settled, SettledWithin, SettlesKeeping, SettlesKeepingWithin, Slots, Some, State, state_in}
+use Rattle.gl_table.proofs.Words.{status_of, Stuck, subst, suc, sym, Told, told_to, true, VictimHasRow, Victims, View, Waiting, waits_for, zero, ℕ}
 use Rattle.std.specs.List.{All}
 use Rattle.gl_table.specs.declared.locks.Locks.{Locks}
 
@@ -133,19 +132,17 @@ victim_has_row c s t v d victim is = is.whole v (candidate-on_cycle c (waits_for
 -- The loop that settles a slot: what holds between its victims.
 
 -- between two victims: the locks are in order, what settles t from here settles it from the start and keeps the same, and what is told agrees with the way
-pub record IsSettling (g : Graph) (c : Victims) (start : Locks) (first : Deadlock) (before : Told) (t : ℕ) (now : Locks) (kept : Deadlock) (told : Told) : Type
+pub record IsSettling (v : View) (c : Victims) (start : Locks) (first : Deadlock) (before : Told) (t : ℕ) (now : Locks) (kept : Deadlock) (told : Told) : Type
     0 where
-  pub sound : AreSound now
-  pub orderly : IsOrderly (state_on g now)
-  pub agree : (u : ℕ) → Agrees (state_on g now) now.lists.items u
-  pub count : (u : ℕ) → CountsHeld (state_on g now) now.lists.items u
+  pub exact : AreExact v now
+  pub orderly : IsOrderly (state_in v now)
   pub seated : t < length now.seats.items
   pub by_slot : IsBySlot told
-  pub untold : (u : ℕ) → is_wait (status_of (state_on g now) u) ≡ true → notices_in told u ≡ None
-  pub settled : (s' : State) (d' : Deadlock) → SettlesKeeping c (state_on g now) t kept s' d' → SettlesKeeping c (state_on g start) t first s' d'
-  pub ways : (s : State) → IsOnWay s (state_on g start) → IsOnWay s (state_on g now)
-  pub tells : (s : State) → IsOnWay s (state_on g start) → ((u : ℕ) → notices_in before u ≡ told_to s (state_on g start) u) → (u : ℕ)
-      → notices_in told u ≡ told_to s (state_on g now) u
+  pub untold : (u : ℕ) → is_wait (status_of (state_in v now) u) ≡ true → notices_in told u ≡ None
+  pub settled : (s' : State) (d' : Deadlock) → SettlesKeeping c (state_in v now) t kept s' d' → SettlesKeeping c (state_in v start) t first s' d'
+  pub ways : (s : State) → IsOnWay s (state_in v start) → IsOnWay s (state_in v now)
+  pub tells : (s : State) → IsOnWay s (state_in v start) → ((u : ℕ) → notices_in before u ≡ told_to s (state_in v start) u) → (u : ℕ)
+      → notices_in told u ≡ told_to s (state_in v now) u
 
 -- to settle t after a victim whose deadlock is kept is to settle it before
 pub keeping_turn : (c : Victims) (s now s' : State) (t v : ℕ) (d e d' : Deadlock) → IsVictim c s t v → IsDeadlock s t v e → now ≡ condemned s v

@@ -65,6 +65,12 @@ pub record AreSound (l : Locks) : Type 0 where
   pub lists : length l.lists.items ≡ length l.seats.items
   pub apart : AreApart l.lists.items
 
+-- the locks over a graph are exact: their parts are in order, and each list has the modes and the counts of its slot
+pub record AreExact (g : View) (l : Locks) : Type 0 where
+  pub sound : AreSound l
+  pub agree : (u : ℕ) → Agrees (state_in g l) l.lists.items u
+  pub count : (u : ℕ) → CountsHeld (state_in g l) l.lists.items u
+
 -- no header, all slots free, and nothing in any list
 pub record AreNew (l : Locks) (most : ℕ) : Type 0 where
   pub headers : l.headers.entries ≡ []

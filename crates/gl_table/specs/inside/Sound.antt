@@ -4,7 +4,7 @@ use Rattle.gl_graph.specs.View.{graph_of}
 use Rattle.gl_table.specs.declared.detect.Detect.TheVariants.{AtBlock}
 use Rattle.gl_table.specs.declared.table.Table.TheInside.{Inside}
 use Rattle.gl_table.specs.model.Lawful.{IsLawful}
-use Rattle.gl_table.specs.inside.Locks.{Agrees, AreSound, CountsHeld, state_in}
+use Rattle.gl_table.specs.inside.Locks.{AreExact}
 use Rattle.gl_table.specs.model.Table.{TableView, state_of}
 use Rattle.gl_table.specs.model.State.{HasNoCycle}
 
@@ -25,7 +25,5 @@ view_of t =
 -- what holds of the fields
 pub record IsSound (t : Inside) : Type 0 where
   pub lawful : IsLawful (state_of (view_of t))
-  pub sound : AreSound t.locks
-  pub agrees : (u : ℕ) → Agrees (state_in t.graph t.locks) t.locks.lists.items u
-  pub counts : (u : ℕ) → CountsHeld (state_in t.graph t.locks) t.locks.lists.items u
+  pub exact : AreExact t.graph t.locks
   pub no_cycle : t.detect ≡ AtBlock → HasNoCycle (state_of (view_of t))

@@ -1,6 +1,6 @@
-use Rattle.gl_table.proofs.Words.{◌&&◌, ◌+◌, ◌<◌, ◌^◌, ◌∙◌, ◌≡◌, ◌≤◌, Agrees, and-false, ap, ap₂, arith, Asked, asked_at, clash, count_by, count_of, enters_at}
-use Rattle.gl_table.proofs.Words.{false, graph_of, held_of, holds, if◌then◌else◌, is_granted_at, members, mode_of, NL, not, not-false, not-true, parents_of}
-use Rattle.gl_table.proofs.Words.{refl, rules, same_mode, same_node, spare, state_in, subst, supremum, sym, true, unlisted, wanted, with_item, ℕ}
+use Rattle.gl_table.proofs.Words.{◌&&◌, ◌+◌, ◌<◌, ◌^◌, ◌∙◌, ◌≡◌, ◌≤◌, Agrees, and-false, ap, ap₂, arith, Asked, asked_at, clash, count_by, count_of, CountsHeld}
+use Rattle.gl_table.proofs.Words.{enters_at, false, graph_of, held_of, holds, if◌then◌else◌, is_granted_at, members, mode_of, NL, not, not-false, not-true}
+use Rattle.gl_table.proofs.Words.{parents_of, refl, rules, same_mode, same_node, spare, state_in, subst, supremum, sym, true, unlisted, wanted, with_item, ℕ}
 use Rattle.gl_header.specs.declared.header.Asked.TheVariants as asked
 use Rattle.gl_table.proofs.inside.Asks.{answer-enters, answer-waits, is_granted, IsGranted, MayAsk, own-apart, own-few, own-listed, own-mode, own-room}
 use Rattle.gl_table.proofs.inside.Asks.{parents-room, roomy_may, roomy_ready, roomy_same, roomy_says, says_is, slot-listed, state-same}
@@ -11,13 +11,14 @@ use Rattle.gl_table.proofs.locks.Locks.ask.Goals.{After-make_room_to_ask, After-
 use Rattle.gl_table.proofs.locks.Locks.ask.Goals.{else-not-is_member}
 use Rattle.gl_table.proofs.locks.Locks.ask.Goals as goal
 may : (c : After-make_room_to_ask) → MayAsk (graph_of c.args.graph.now) c.args.self.now c.args.slot
-may c = record { sound = c.requires.sound; orderly = c.requires.orderly; agree = c.requires.agree; count = c.requires.count; active = c.requires.active }
+may c = record { sound = c.requires.exact.sound; orderly = c.requires.orderly; agree = c.requires.exact.agree; count = c.requires.exact.count;
+    active = c.requires.active }
 
 -- whether the slot holds the node, as its list says
 member_is : (c : After-make_room_to_ask) → c.ne-is_member.result ≡ holds (members (state_in c.args.graph.now c.args.self.now) c.args.node) c.args.slot
 member_is c =
     let is : c.ne-is_member.result ≡ not (same_mode c.args.held NL) = search rules in
-    is ∙ ap (λ m. not (same_mode m NL)) (c.requires.held ∙ (c.requires.agree c.args.slot).modes c.args.node)
+    is ∙ ap (λ m. not (same_mode m NL)) (c.requires.held ∙ (c.requires.exact.agree c.args.slot).modes c.args.node)
 
 -- with the room that was made, all is as it was
 
@@ -47,8 +48,9 @@ answer_is c a e = e ∙ ap₂ (λ b w. if b then asked.Granted w else asked.Wait
 
 -- the refusals
 
-pub returns-in_err-make_room_to_ask-clause-agree : goal.returns-in_err-make_room_to_ask-clause-agree
-returns-in_err-make_room_to_ask-clause-agree c = (may_now (goal.at.returns-in_err-make_room_to_ask-clause-agree c).After-make_room_to_ask).agree
+pub returns-in_err-make_room_to_ask-clause-exact : goal.returns-in_err-make_room_to_ask-clause-exact
+returns-in_err-make_room_to_ask-clause-exact c = let m = may_now (goal.at.returns-in_err-make_room_to_ask-clause-exact c).After-make_room_to_ask in
+    record { sound = m.sound; agree = m.agree; count = m.count }
 
 pub returns-in_err-make_room_to_ask-clause-held : goal.returns-in_err-make_room_to_ask-clause-held
 returns-in_err-make_room_to_ask-clause-held c =
@@ -56,11 +58,15 @@ returns-in_err-make_room_to_ask-clause-held c =
     λ h e. clash (c.in_err-make_room_to_ask.ensures.at_once
     (ap₂ (λ x y. x && y) (member_is p ∙ h) (says_is (graph_of c.args.graph.now) c.args.self.now c.args.slot c.args.node c.args.mode (may p) ∙ e))) refl
 
-pub returns-in_err-asked-clause-agree : goal.returns-in_err-asked-clause-agree
-returns-in_err-asked-clause-agree c =
-    let p = (goal.at.returns-in_err-asked-clause-agree c).After-make_room_to_ask in let l = c.make_room_to_ask.new.self in
-    λ u. subst (λ s. Agrees s l.lists.items u) (sym (state-same (graph_of c.args.graph.now) l (record l { headers = c.ask.new.headers })
-    c.in_err-asked.ensures.err refl)) ((may_now p).agree u)
+pub returns-in_err-asked-clause-exact : goal.returns-in_err-asked-clause-exact
+returns-in_err-asked-clause-exact c =
+    let m = may_now (goal.at.returns-in_err-asked-clause-exact c).After-make_room_to_ask in let l = c.make_room_to_ask.new.self in
+    let same = sym (state-same (graph_of c.args.graph.now) l (record l { headers = c.ask.new.headers }) c.in_err-asked.ensures.err refl) in
+    record {
+      sound = record { headers = c.ask.ensures.headers; few = m.sound.few; lists = m.sound.lists; apart = m.sound.apart };
+      agree = λ u. subst (λ s. Agrees s l.lists.items u) same (m.agree u);
+      count = λ u. subst (λ s. CountsHeld s l.lists.items u) same (m.count u);
+    }
 
 pub returns-in_err-asked-clause-held : goal.returns-in_err-asked-clause-held
 returns-in_err-asked-clause-held c =
@@ -233,9 +239,9 @@ put c m held = let g = graph_of c.args.graph.now in let l = c.make_room_to_ask.n
     ∙ ap (λ s. s.held t n) (sym (roomy_same g c.args.self.now l t m c.make_room_to_ask.ensures.rest c.make_room_to_ask.ensures.kept))))
     (listed c r.may r.is_held (says_is g c.args.self.now t n c.args.mode m ∙ blocks c m))
 
-pub returns-in-Granted-clause-sound : goal.returns-in-Granted-clause-sound
-returns-in-Granted-clause-sound c = let at = goal.at.returns-in-Granted-clause-sound c in let p = at.After-make_room_to_ask in
-    (put_raised at.After-set_mode (may p) (member_is p)).sound
+pub returns-in-Granted-clause-exact : goal.returns-in-Granted-clause-exact
+returns-in-Granted-clause-exact c = let at = goal.at.returns-in-Granted-clause-exact c in let p = at.After-make_room_to_ask in
+    let now = put_raised at.After-set_mode (may p) (member_is p) in record { sound = now.sound; agree = now.agree; count = now.count }
 
 pub returns-in-Granted-clause-answer : goal.returns-in-Granted-clause-answer
 returns-in-Granted-clause-answer c = answer_is (goal.at.returns-in-Granted-clause-answer c).After-make_room_to_ask _ c.in_ok-asked.ensures.answer
@@ -248,17 +254,9 @@ pub returns-in-Granted-clause-waits : goal.returns-in-Granted-clause-waits
 returns-in-Granted-clause-waits c = let at = goal.at.returns-in-Granted-clause-waits c in
     let p = at.After-make_room_to_ask in λ e. clash (sym (says p) ∙ answer-enters _ _ _ _ c.in_ok-asked.ensures.answer c.in-Granted.is) e
 
-pub returns-in-Granted-clause-agree : goal.returns-in-Granted-clause-agree
-returns-in-Granted-clause-agree c = let at = goal.at.returns-in-Granted-clause-agree c in let p = at.After-make_room_to_ask in
-    (put_raised at.After-set_mode (may p) (member_is p)).agree
-
-pub returns-in-Granted-clause-count : goal.returns-in-Granted-clause-count
-returns-in-Granted-clause-count c = let at = goal.at.returns-in-Granted-clause-count c in let p = at.After-make_room_to_ask in
-    (put_raised at.After-set_mode (may p) (member_is p)).count
-
-pub returns-in-Granted-2-clause-sound : goal.returns-in-Granted-2-clause-sound
-returns-in-Granted-2-clause-sound c = let at = goal.at.returns-in-Granted-2-clause-sound c in let p = at.After-make_room_to_ask in
-    (put_new at.After-count_up (may p) (member_is p)).sound
+pub returns-in-Granted-2-clause-exact : goal.returns-in-Granted-2-clause-exact
+returns-in-Granted-2-clause-exact c = let at = goal.at.returns-in-Granted-2-clause-exact c in let p = at.After-make_room_to_ask in
+    let now = put_new at.After-count_up (may p) (member_is p) in record { sound = now.sound; agree = now.agree; count = now.count }
 
 pub returns-in-Granted-2-clause-answer : goal.returns-in-Granted-2-clause-answer
 returns-in-Granted-2-clause-answer c = answer_is (goal.at.returns-in-Granted-2-clause-answer c).After-make_room_to_ask _ c.in_ok-asked.ensures.answer
@@ -271,17 +269,9 @@ pub returns-in-Granted-2-clause-waits : goal.returns-in-Granted-2-clause-waits
 returns-in-Granted-2-clause-waits c = let at = goal.at.returns-in-Granted-2-clause-waits c in
     let p = at.After-make_room_to_ask in λ e. clash (sym (says p) ∙ answer-enters _ _ _ _ c.in_ok-asked.ensures.answer c.in-Granted-2.is) e
 
-pub returns-in-Granted-2-clause-agree : goal.returns-in-Granted-2-clause-agree
-returns-in-Granted-2-clause-agree c = let at = goal.at.returns-in-Granted-2-clause-agree c in let p = at.After-make_room_to_ask in
-    (put_new at.After-count_up (may p) (member_is p)).agree
-
-pub returns-in-Granted-2-clause-count : goal.returns-in-Granted-2-clause-count
-returns-in-Granted-2-clause-count c = let at = goal.at.returns-in-Granted-2-clause-count c in let p = at.After-make_room_to_ask in
-    (put_new at.After-count_up (may p) (member_is p)).count
-
-pub returns-after-not-is_member-clause-sound : goal.returns-after-not-is_member-clause-sound
-returns-after-not-is_member-clause-sound c = let at = goal.at.returns-after-not-is_member-clause-sound c in let p = at.After-make_room_to_ask in
-    (put at.After-set_status (may p) (member_is p)).sound
+pub returns-after-not-is_member-clause-exact : goal.returns-after-not-is_member-clause-exact
+returns-after-not-is_member-clause-exact c = let at = goal.at.returns-after-not-is_member-clause-exact c in let p = at.After-make_room_to_ask in
+    let now = put at.After-set_status (may p) (member_is p) in record { sound = now.sound; agree = now.agree; count = now.count }
 
 pub returns-after-not-is_member-clause-answer : goal.returns-after-not-is_member-clause-answer
 returns-after-not-is_member-clause-answer c = answer_is (goal.at.returns-after-not-is_member-clause-answer c).After-make_room_to_ask _
@@ -294,11 +284,3 @@ returns-after-not-is_member-clause-granted c = let at = goal.at.returns-after-no
 pub returns-after-not-is_member-clause-waits : goal.returns-after-not-is_member-clause-waits
 returns-after-not-is_member-clause-waits c = let at = goal.at.returns-after-not-is_member-clause-waits c in
     let p = at.After-make_room_to_ask in λ e. (put at.After-set_status (may p) (member_is p)).state
-
-pub returns-after-not-is_member-clause-agree : goal.returns-after-not-is_member-clause-agree
-returns-after-not-is_member-clause-agree c = let at = goal.at.returns-after-not-is_member-clause-agree c in let p = at.After-make_room_to_ask in
-    (put at.After-set_status (may p) (member_is p)).agree
-
-pub returns-after-not-is_member-clause-count : goal.returns-after-not-is_member-clause-count
-returns-after-not-is_member-clause-count c = let at = goal.at.returns-after-not-is_member-clause-count c in let p = at.After-make_room_to_ask in
-    (put at.After-set_status (may p) (member_is p)).count

@@ -6,9 +6,9 @@ use Rattle.gl_table.proofs.telling.Fronts.{stands_other}
 use Rattle.gl_table.proofs.locks.Locks.leave_all.Goals as goal
 pub loop-node-init : goal.loop-node-init
 loop-node-init c = record {
-  sound = c.requires.sound;
+  sound = c.requires.exact.sound;
   leaving = leaving_begins (state_in c.args.graph.now c.args.self.now) c.args.slot c.args.self.now.lists.items c.args.told.now.items c.requires.orderly
-      c.requires.quiet c.requires.agree c.requires.count c.requires.by_slot c.requires.untold;
+      c.requires.quiet c.requires.exact.agree c.requires.exact.count c.requires.by_slot c.requires.untold;
 }
 
 pub drop_and_wake-requires-clause-sound : goal.drop_and_wake-requires-clause-sound

@@ -5,7 +5,8 @@ use Rattle.gl_table.proofs.inside.Slots.{counts-entered, has_node-set}
 use Rattle.gl_table.proofs.locks.Locks.place.Goals.{After-law, After-self-1}
 use Rattle.gl_table.proofs.locks.Locks.place.Goals as goal
 may : (c : After-law) → MayAsk (graph_of c.args.graph.now) c.args.self.now c.args.slot
-may c = record { sound = c.requires.sound; orderly = c.requires.orderly; agree = c.requires.agree; count = c.requires.count; active = c.requires.active }
+may c = record { sound = c.requires.exact.sound; orderly = c.requires.orderly; agree = c.requires.exact.agree; count = c.requires.exact.count;
+    active = c.requires.active }
 
 pub enter-requires-clause-new : goal.enter-requires-clause-new
 enter-requires-clause-new c =
@@ -42,24 +43,18 @@ placed c m = let g = graph_of c.args.graph.now in let l = c.args.self.now in let
     is_placed g l t n X m c.requires.unheld c.requires.unawaited c.requires.lists_room c.law.ensures.lawful c.requires.live (λ e. cc) c.args.header
     c.requires.header (ap (λ y. supremum y X) (c.requires.unheld t)) _
     (record { at = (IfOk-at_ok _ c.unwrap.ensures c.insert.ensures.updates).0 }) refl
-    (has_node-set l.lists.items t x x' listed c.index_mut-list.ensures.value n X c.requires.sound.apart c.count_up.ensures.apart
+    (has_node-set l.lists.items t x x' listed c.index_mut-list.ensures.value n X c.requires.exact.sound.apart c.count_up.ensures.apart
     (λ q. c.count_up.ensures.modes q ∙ c.enter.ensures.modes q) (λ q. c.count_up.ensures.listed q ∙ c.enter.ensures.listed q))
     (counts-entered l.lists.items t x x' listed c.index_mut-list.ensures.value
     (λ q. if same_mode (held_of l.headers.entries t n) NL then count_by (same_node q) (parents_of g n) else 0)
     (λ q. c.count_up.ensures.counts q ∙ ap₂ (λ k ps. k + count_by (same_node q) ps) (c.enter.ensures.counts q) c.parents.ensures
     ∙ ap (λ y. count_of x q + (if same_mode y NL then count_by (same_node q) (parents_of g n) else 0)) (sym (c.requires.unheld t))))
 
-pub returns-clause-sound : goal.returns-clause-sound
-returns-clause-sound c = (placed c (may (goal.at.returns-clause-sound c).After-law)).sound
+pub returns-clause-exact : goal.returns-clause-exact
+returns-clause-exact c = let p = placed c (may (goal.at.returns-clause-exact c).After-law) in record { sound = p.sound; agree = p.agree; count = p.count }
 
 pub returns-clause-state : goal.returns-clause-state
 returns-clause-state c =
     let s : State = state_in c.args.graph.now c.args.self.now in
     (placed c (may (goal.at.returns-clause-state c).After-law)).state
     ∙ ap (λ y. with_grant s c.args.slot c.args.node (supremum y X)) (c.requires.unheld c.args.slot)
-
-pub returns-clause-agree : goal.returns-clause-agree
-returns-clause-agree c = (placed c (may (goal.at.returns-clause-agree c).After-law)).agree
-
-pub returns-clause-count : goal.returns-clause-count
-returns-clause-count c = (placed c (may (goal.at.returns-clause-count c).After-law)).count

@@ -15,10 +15,8 @@ loop-victim-preserved c =
     let before = c.loop-victim.invariant in
     let now = c.condemn.ensures in
     record {
-      sound = now.sound;
+      exact = now.exact;
       orderly = now.orderly;
-      agree = now.agree;
-      count = now.count;
       seated = subst (λ (k : ℕ). c.args.slot < k) (sym (ap (λ x. x.most) now.state)) before.seated;
       by_slot = now.by_slot;
       untold = now.untold;

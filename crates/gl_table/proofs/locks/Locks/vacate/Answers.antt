@@ -12,13 +12,14 @@ may c = record {
   rec = c.requires.record;
   holding = c.requires.holds;
   alone = c.requires.alone;
-  agree = c.requires.agree;
-  count = c.requires.count;
+  agree = c.requires.exact.agree;
+  count = c.requires.exact.count;
 }
 
 listed : (c : After-parents) → c.args.slot < length c.args.self.now.lists.items
 listed c = let s : State = state_in c.args.graph.now c.args.self.now in
-    subst (λ (k : ℕ). c.args.slot < k) (sym c.requires.sound.lists) (c.requires.orderly.below c.args.slot (txn_there (s.txns c.args.slot) _ c.requires.active))
+    subst (λ (k : ℕ). c.args.slot < k) (sym c.requires.exact.sound.lists)
+    (c.requires.orderly.below c.args.slot (txn_there (s.txns c.args.slot) _ c.requires.active))
 
 pub strike-requires-clause-can : goal.strike-requires-clause-can
 strike-requires-clause-can c =
@@ -41,7 +42,7 @@ free-requires c =
     subst (λ (ws : List Waiter). CanFree c.args.self.now.seats.items c.strike.new.lists.items c.args.told.now.items c.args.rec ws) (sym (waiters c))
     (can_free (state_in c.args.graph.now c.args.self.now) c.args.slot c.args.rec c.args.self.now.lists.items (may at.After-parents) c.strike.new.lists.items
     (struck at.After-strike)
-    c.args.self.now.seats.items c.args.told.now.items refl c.requires.sound.few c.requires.sound.lists c.requires.by_slot c.requires.untold)
+    c.args.self.now.seats.items c.args.told.now.items refl c.requires.exact.sound.few c.requires.exact.sound.lists c.requires.by_slot c.requires.untold)
 
 freed : (c : Joined-header) → c.queue.result.now ≡ queue_of c.args.self.now.headers.entries c.args.rec
     → Frees c.args.self.now.seats.items c.strike.new.lists.items c.args.told.now.items c.args.rec (queue_of c.args.self.now.headers.entries c.args.rec)

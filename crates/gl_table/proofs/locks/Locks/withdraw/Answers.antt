@@ -15,7 +15,7 @@ abbrev mid : After-holds → List LockList
 mid c = c.leave_queue.new.self.lists.items
 
 slot_there : (c : After-holds) → c.args.slot < length (mid c)
-slot_there c = subst (λ (k : ℕ). c.args.slot < k) (sym (c.leave_queue.ensures.lists.len ∙ c.requires.sound.lists))
+slot_there c = subst (λ (k : ℕ). c.args.slot < k) (sym (c.leave_queue.ensures.lists.len ∙ c.requires.exact.sound.lists))
     (c.requires.orderly.below c.args.slot (txn_there ((before c).txns c.args.slot) _ (waiting_is _ c.args.node c.requires.waits).1))
 
 -- only its node grants
@@ -29,20 +29,20 @@ module _ (c : After-holds) (ls : List LockList) (unlists : Unlists (mid c) ls c.
   agrees u = subst (λ (x : State). Agrees x ls u) (state_is c)
       (agrees_withdrawn (before c) c.requires.orderly c.law.ensures.lawful c.args.slot c.args.node c.args.status c.requires.quiet c.requires.waits
       c.args.self.now.lists.items (mid c)
-      c.requires.agree c.requires.count c.leave_queue.ensures.lists ls unlists u)
+      c.requires.exact.agree c.requires.exact.count c.leave_queue.ensures.lists ls unlists u)
 
   counts : (u : ℕ) → CountsHeld (state_in c.args.graph.now c.leave_queue.new.self) ls u
   counts u = subst (λ (x : State). CountsHeld x ls u) (state_is c)
       (counts_withdrawn (before c) c.requires.orderly c.law.ensures.lawful c.args.slot c.args.node c.args.status c.requires.quiet c.requires.waits
       c.args.self.now.lists.items (mid c)
-      c.requires.agree c.requires.count c.leave_queue.ensures.lists ls unlists u)
+      c.requires.exact.agree c.requires.exact.count c.leave_queue.ensures.lists ls unlists u)
 
 pub leave-requires-clause-room : goal.leave-requires-clause-room
 leave-requires-clause-room c = let h = (goal.at.leave-requires-clause-room c).After-holds in λ _.
     subst (λ (k : ℕ). 0 < k) (by_list-at (λ l. spare l.loose) 0 (mid h) c.args.slot c.index_mut-list.result.now (slot_there h) c.index_mut-list.ensures.value)
     (room_left (before h) c.requires.orderly c.law.ensures.lawful c.args.slot c.args.node c.args.status c.requires.quiet c.requires.waits
     c.args.self.now.lists.items (mid h)
-    c.requires.agree c.requires.count c.leave_queue.ensures.lists)
+    c.requires.exact.agree c.requires.exact.count c.leave_queue.ensures.lists)
 
 -- the node was taken out of the list, which did not hold it
 left : (c : After-holds) (l' : LockList) → c.holds.result ≡ false → IsApart l'
@@ -58,22 +58,22 @@ stays : (c : After-holds) → c.holds.result ≡ true → Unlists (mid c) (slice
 stays c held = unlists_held (mid c) c.args.slot c.args.node c.index_mut-list.result.now (slot_there c) c.index_mut-list.ensures.value
     c.leave_queue.ensures.sound.apart (not-true _ (sym c.holds.ensures ∙ held))
 
-pub returns-then-not-holds-clause-sound : goal.returns-then-not-holds-clause-sound
-returns-then-not-holds-clause-sound c = let h = (goal.at.returns-then-not-holds-clause-sound c).After-holds in
-    let now = left h c.leave.new.self c.if-not-holds.true c.leave.ensures.apart c.leave.ensures.modes c.leave.ensures.listed c.leave.ensures.counts in
+pub returns-then-not-holds-clause-exact : goal.returns-then-not-holds-clause-exact
+returns-then-not-holds-clause-exact c = let h = (goal.at.returns-then-not-holds-clause-exact c).After-holds in
     let was = c.leave_queue.ensures.sound in
-    record { headers = was.headers; few = was.few; lists = now.len ∙ was.lists; apart = now.apart }
+    let now = left h c.leave.new.self c.if-not-holds.true c.leave.ensures.apart c.leave.ensures.modes c.leave.ensures.listed c.leave.ensures.counts in
+    record {
+      sound = record { headers = was.headers; few = was.few; lists = now.len ∙ was.lists; apart = now.apart };
+      agree = agrees h _ now;
+      count = counts h _ now;
+    }
 
-pub returns-then-not-holds-clause-agree : goal.returns-then-not-holds-clause-agree
-returns-then-not-holds-clause-agree c = let h = (goal.at.returns-then-not-holds-clause-agree c).After-holds in
-    agrees h _ (left h c.leave.new.self c.if-not-holds.true c.leave.ensures.apart c.leave.ensures.modes c.leave.ensures.listed c.leave.ensures.counts)
-
-pub returns-then-not-holds-clause-count : goal.returns-then-not-holds-clause-count
-returns-then-not-holds-clause-count c = let h = (goal.at.returns-then-not-holds-clause-count c).After-holds in
-    counts h _ (left h c.leave.new.self c.if-not-holds.true c.leave.ensures.apart c.leave.ensures.modes c.leave.ensures.listed c.leave.ensures.counts)
-
-pub returns-else-not-holds-clause-agree : goal.returns-else-not-holds-clause-agree
-returns-else-not-holds-clause-agree c = let h = (goal.at.returns-else-not-holds-clause-agree c).After-holds in agrees h _ (stays h c.if-not-holds.false)
-
-pub returns-else-not-holds-clause-count : goal.returns-else-not-holds-clause-count
-returns-else-not-holds-clause-count c = let h = (goal.at.returns-else-not-holds-clause-count c).After-holds in counts h _ (stays h c.if-not-holds.false)
+pub returns-else-not-holds-clause-exact : goal.returns-else-not-holds-clause-exact
+returns-else-not-holds-clause-exact c = let h = (goal.at.returns-else-not-holds-clause-exact c).After-holds in
+    let was = c.leave_queue.ensures.sound in
+    let now = stays h c.if-not-holds.false in
+    record {
+      sound = record { headers = was.headers; few = was.few; lists = now.len ∙ was.lists; apart = now.apart };
+      agree = agrees h _ now;
+      count = counts h _ now;
+    }

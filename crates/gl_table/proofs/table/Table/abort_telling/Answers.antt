@@ -6,8 +6,7 @@ pub abort-requires-clause-orderly : goal.abort-requires-clause-orderly
 abort-requires-clause-orderly c = orderly c.self.inside c.self.invariant
 
 pub invariant_of-self : goal.invariant_of-self
-invariant_of-self c = sound_released c.self.inside c.self.invariant c.args.t.slot c.abort.new.self c.abort.ensures.state c.abort.ensures.sound
-    c.abort.ensures.agree c.abort.ensures.count
+invariant_of-self c = sound_released c.self.inside c.self.invariant c.args.t.slot c.abort.new.self c.abort.ensures.state c.abort.ensures.exact
 
 pub returns-clause-state : goal.returns-clause-state
 returns-clause-state c =

@@ -12,7 +12,7 @@ waits c = ap (λ (v : TableView). is_waiting_at (state_of v) c.args.t.slot c.in_
 pub invariant_of-self : goal.invariant_of-self
 invariant_of-self c =
     sound_cancelled c.self.inside c.self.invariant c.args.t.slot c.in_ok-node.node (waits (goal.at.invariant_of-self c).After-withdraw) c.withdraw.new.self
-    c.withdraw.ensures.state c.withdraw.ensures.sound c.withdraw.ensures.agree c.withdraw.ensures.count
+    c.withdraw.ensures.state c.withdraw.ensures.exact
 
 pub returns-clause-state : goal.returns-clause-state
 returns-clause-state c =

@@ -6,8 +6,7 @@ pub end-requires-clause-orderly : goal.end-requires-clause-orderly
 end-requires-clause-orderly c = orderly c.self.inside c.self.invariant
 
 pub invariant_of-self : goal.invariant_of-self
-invariant_of-self c = sound_released c.self.inside c.self.invariant c.args.t.slot c.end.new.self c.end.ensures.state c.end.ensures.sound c.end.ensures.agree
-    c.end.ensures.count
+invariant_of-self c = sound_released c.self.inside c.self.invariant c.args.t.slot c.end.new.self c.end.ensures.state c.end.ensures.exact
 
 pub returns-clause-state : goal.returns-clause-state
 returns-clause-state c =

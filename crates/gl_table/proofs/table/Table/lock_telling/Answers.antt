@@ -43,7 +43,7 @@ ask-requires-clause-held c = (answered-ok _ _ _ c.in_ok-held.ensures).1
 pub invariant_of-self : goal.invariant_of-self
 invariant_of-self c =
     sound_kept c.self.inside c.self.invariant c.args.t c.args.n c.args.mode c.ask.new.self
-    c.in_err-granted.ensures.err_headers c.in_err-granted.ensures.err_seats c.ask.ensures.sound c.ask.ensures.agree c.ask.ensures.count
+    c.in_err-granted.ensures.err_headers c.in_err-granted.ensures.err_seats c.ask.ensures.exact
 
 pub returns-in_err-granted-clause-refuses : goal.returns-in_err-granted-clause-refuses
 returns-in_err-granted-clause-refuses c =
@@ -55,7 +55,7 @@ invariant_of-self-in-Granted c =
     let at = goal.at.invariant_of-self-in-Granted c in
     sound_granted c.self.inside c.self.invariant c.args.t c.args.n c.args.mode (may at.After-ask) (fits at.In-Granted) c.ask.new.self
     (c.in_ok-granted.ensures.granted (fits at.In-Granted))
-    c.ask.ensures.sound c.ask.ensures.agree c.ask.ensures.count
+    c.ask.ensures.exact
 
 pub returns-in-Granted-clause-answer : goal.returns-in-Granted-clause-answer
 returns-in-Granted-clause-answer c =
@@ -109,13 +109,13 @@ invariant_of-self-in-Waiting c =
     let at = goal.at.invariant_of-self-in-Waiting c in let b = blocks at.In-Waiting in
     let settled = c.settle_asker.ensures in
     sound_locked c.self.inside c.self.invariant c.args.t c.args.n c.args.mode (may at.After-ask) b c.ask.new.self (c.in_ok-granted.ensures.waits b)
-    c.settle_asker.new.self c.settle_asker.new.deadlock settled.state settled.sound settled.agree settled.count
+    c.settle_asker.new.self c.settle_asker.new.deadlock settled.state settled.exact
 
 pub returns-in-Waiting-clause-answer : goal.returns-in-Waiting-clause-answer
 returns-in-Waiting-clause-answer c =
     c.outcome.ensures
     ∙ ap (λ m. locked_as m (status_of (state_of (view_of (record c.self.inside { locks = c.settle_asker.new.self; deadlock = c.settle_asker.new.deadlock })))
-    c.args.t.slot)) ((c.settle_asker.ensures.agree c.args.t.slot).modes c.args.n)
+    c.args.t.slot)) ((c.settle_asker.ensures.exact.agree c.args.t.slot).modes c.args.n)
 
 pub returns-in-Waiting-clause-told : goal.returns-in-Waiting-clause-told
 returns-in-Waiting-clause-told c =

@@ -46,11 +46,8 @@ pub place-requires-clause-orderly : goal.place-requires-clause-orderly
 place-requires-clause-orderly c = let at = (goal.at.place-requires-clause-orderly c).After-add_record_under in
     orderly (record (roomy at) { graph = c.add_record_under.new.self }) (sound_asked at)
 
-pub place-requires-clause-agree : goal.place-requires-clause-agree
-place-requires-clause-agree c = (sound_asked (goal.at.place-requires-clause-agree c).After-add_record_under).agrees
-
-pub place-requires-clause-count : goal.place-requires-clause-count
-place-requires-clause-count c = (sound_asked (goal.at.place-requires-clause-count c).After-add_record_under).counts
+pub place-requires-clause-exact : goal.place-requires-clause-exact
+place-requires-clause-exact c = (sound_asked (goal.at.place-requires-clause-exact c).After-add_record_under).exact
 
 pub place-requires-clause-live : goal.place-requires-clause-live
 place-requires-clause-live c = let at = (goal.at.place-requires-clause-live c).After-add_record_under in
@@ -71,7 +68,7 @@ invariant_of-self-2 c = let at = (goal.at.invariant_of-self-2 c).After-add_recor
     (subst (λ (s : State). status_of s c.args.t.slot ≡ Some Active) (sym (same at)) c.requires.active)
     (subst (λ (s : State). first_not_ix (s.held c.args.t.slot) (record_parents s.graph c.args.file c.args.keys.now) ≡ None) (sym (same at))
     (ap (first_not_ix ((state_of c.args.self.now).held c.args.t.slot)) (sym c.requires.parents) ∙ c.requires.writable))
-    c.place.ensures.sound c.place.ensures.agree c.place.ensures.count
+    c.place.ensures.exact
 
 pub returns-clause-state : goal.returns-clause-state
 returns-clause-state c = let at = (goal.at.returns-clause-state c).After-add_record_under in

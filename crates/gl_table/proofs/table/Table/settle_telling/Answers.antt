@@ -8,7 +8,7 @@ settle-requires-clause-orderly c = orderly c.self.inside c.self.invariant
 
 pub invariant_of-self : goal.invariant_of-self
 invariant_of-self c = sound_settled c.self.inside c.self.invariant c.args.t.slot c.settle.new.self c.settle.new.deadlock c.settle.ensures.state
-    c.settle.ensures.sound c.settle.ensures.agree c.settle.ensures.count
+    c.settle.ensures.exact
 
 pub returns-clause-state : goal.returns-clause-state
 returns-clause-state c =

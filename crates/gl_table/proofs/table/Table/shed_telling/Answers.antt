@@ -10,7 +10,7 @@ pub overflow_sub-result : goal.overflow_sub-result
 overflow_sub-result c =
     no_more_kept c.self.inside c.self.invariant c.args.t.slot c.args.n
     (subst (λ (v : TableView). status_of (state_of v) c.args.t.slot ≡ Some Active) (sym c.self.view_is) c.requires.active) c.shed.new.self c.shed.ensures.state
-    c.shed.ensures.sound c.shed.ensures.agree c.shed.ensures.count
+    c.shed.ensures.exact
     (subst (λ (v : TableView). is_at_least ((state_of v).held c.args.t.slot c.args.n) S ≡ true) (sym c.self.view_is) c.requires.reads)
     c.children.result c.children-2.result c.children.ensures c.children-2.ensures c.unwrap_or-held.result c.unwrap_or-kept.result c.unwrap_or-held.ensures
     c.unwrap_or-kept.ensures
@@ -19,7 +19,7 @@ pub invariant_of-self : goal.invariant_of-self
 invariant_of-self c =
     sound_shed c.self.inside c.self.invariant c.args.t.slot c.args.n
     (subst (λ (v : TableView). status_of (state_of v) c.args.t.slot ≡ Some Active) (sym c.self.view_is) c.requires.active) c.shed.new.self c.shed.ensures.state
-    c.shed.ensures.sound c.shed.ensures.agree c.shed.ensures.count
+    c.shed.ensures.exact
 
 pub returns-clause-state : goal.returns-clause-state
 returns-clause-state c =
@@ -31,7 +31,7 @@ pub returns-clause-released : goal.returns-clause-released
 returns-clause-released c =
     number_released c.self.inside c.self.invariant c.args.t.slot c.args.n
     (subst (λ (v : TableView). status_of (state_of v) c.args.t.slot ≡ Some Active) (sym c.self.view_is) c.requires.active) c.shed.new.self c.shed.ensures.state
-    c.shed.ensures.sound c.shed.ensures.agree c.shed.ensures.count
+    c.shed.ensures.exact
     (subst (λ (v : TableView). is_at_least ((state_of v).held c.args.t.slot c.args.n) S ≡ true) (sym c.self.view_is) c.requires.reads)
     c.children.result c.children-2.result c.children.ensures c.children-2.ensures c.unwrap_or-held.result c.unwrap_or-kept.result c.unwrap_or-held.ensures
     c.unwrap_or-kept.ensures
@@ -41,7 +41,7 @@ pub returns-clause-kept : goal.returns-clause-kept
 returns-clause-kept c =
     number_kept c.self.inside c.self.invariant c.args.t.slot c.args.n
     (subst (λ (v : TableView). status_of (state_of v) c.args.t.slot ≡ Some Active) (sym c.self.view_is) c.requires.active) c.shed.new.self c.shed.ensures.state
-    c.shed.ensures.sound c.shed.ensures.agree c.shed.ensures.count
+    c.shed.ensures.exact
     (subst (λ (v : TableView). is_at_least ((state_of v).held c.args.t.slot c.args.n) S ≡ true) (sym c.self.view_is) c.requires.reads)
     c.children.result c.children-2.result c.children.ensures c.children-2.ensures c.unwrap_or-held.result c.unwrap_or-kept.result c.unwrap_or-held.ensures
     c.unwrap_or-kept.ensures

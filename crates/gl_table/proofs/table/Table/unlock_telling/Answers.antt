@@ -13,8 +13,7 @@ pub invariant_of-self : goal.invariant_of-self
 invariant_of-self c =
     let may = may_unlock c.self.inside c.self.invariant c.args.self.now c.self.view_is c.args.t c.args.n c.in_ok-check_active.field-0
     c.in_ok-check_childless.field-0 c.in_ok-check_active.ensures c.in_ok-check_childless.ensures in
-    sound_unlocked c.self.inside c.self.invariant c.args.t.slot c.args.n may.0 may.2 c.release.new.self c.release.ensures.state c.release.ensures.sound
-    c.release.ensures.agree c.release.ensures.count
+    sound_unlocked c.self.inside c.self.invariant c.args.t.slot c.args.n may.0 may.2 c.release.new.self c.release.ensures.state c.release.ensures.exact
 
 pub returns-clause-state : goal.returns-clause-state
 returns-clause-state c =
