@@ -3,8 +3,8 @@ use Rattle.std.specs.Prelude.{◌≡◌, ◌+◌, ◌&&◌, ◌||◌, true, [], 
 use Rattle.std.proofs.Common.{ap, ap₂, arith, inl, refl, subst, sym, ◌∙◌}
 use Rattle.gl_modes.specs.declared.refusal.Refusal.{Refusal}
 use Rattle.gl_graph.specs.Refusals.{Refuses}
-use Rattle.gl_table.specs.declared.outcome.Locked.{Locked}
-use Rattle.gl_table.specs.declared.outcome.Locked.TheVariants as locked
+use Rattle.gl_table.specs.declared.answers.Locked.{Locked}
+use Rattle.gl_table.specs.declared.answers.Locked.TheVariants as locked
 use Rattle.gl_table.specs.model.Calls.{answered}
 use Rattle.gl_table.specs.model.Lawful.{IsLawful}
 use Rattle.gl_table.specs.model.State.{State}

@@ -14,8 +14,8 @@ use Rattle.gl_modes.specs.declared.refusal.Refusal.{Refusal}
 use Rattle.gl_modes.specs.declared.refusal.Refusal.TheVariants.{NoSuchNode}
 use Rattle.gl_graph.specs.Refusals.{first_refusal, where_true}
 use Rattle.gl_header.specs.Header.{Waiter, is_among_waiters}
-use Rattle.gl_table.specs.declared.notice.Notice.{Notice}
-use Rattle.gl_table.specs.declared.notice.Notice.TheVariants as notice
+use Rattle.gl_table.specs.declared.answers.Notice.{Notice}
+use Rattle.gl_table.specs.declared.answers.Notice.TheVariants as notice
 use Rattle.gl_table.specs.declared.txn.TxnId.{TxnId}
 use Rattle.gl_table.specs.model.Calls.{RefusesOnly, group_tests}
 use Rattle.gl_table.specs.model.Lawful.{IsLawful}

@@ -3,8 +3,8 @@ use Rattle.gl_modes.proofs.Words.{split}
 use Rattle.gl_waits.specs.declared.victims.Victims.{Victims}
 use Rattle.std.specs.Prelude.{◌≡◌, ℕ, zero, suc}
 use Rattle.std.proofs.Common.{ap, refl}
-use Rattle.gl_table.specs.declared.detect.Detect.{Detect}
-use Rattle.gl_table.specs.declared.detect.Detect.TheVariants.{AtBlock, ByWatcher}
+use Rattle.gl_table.specs.declared.answers.Detect.{Detect}
+use Rattle.gl_table.specs.declared.answers.Detect.TheVariants.{AtBlock, ByWatcher}
 use Rattle.gl_catalog.specs.declared.command.Answer.{Answer}
 use Rattle.gl_catalog.specs.declared.command.Command.{Command}
 use Rattle.gl_catalog.specs.declared.command.Command.TheVariants as command

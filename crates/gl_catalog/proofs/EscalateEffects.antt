@@ -9,7 +9,7 @@ use Rattle.gl_modes.specs.declared.mode.Mode.{Mode}
 use Rattle.gl_modes.specs.declared.mode.Mode.TheVariants.{NL, S, X}
 use Rattle.gl_modes.specs.declared.node.NodeId.{NodeId}
 use Rattle.gl_modes.specs.Modes.{is_at_least, supremum, same_mode}
-use Rattle.gl_table.specs.declared.effect.Effect.TheVariants as effect
+use Rattle.gl_table.specs.declared.answers.Effect.TheVariants as effect
 use Rattle.gl_table.specs.declared.txn.Status.TheVariants.{Active}
 use Rattle.gl_catalog.specs.declared.command.Command.TheVariants as command
 use Rattle.gl_graph.specs.Graph.{Graph, nodes, node_at, node_count, is_live, parents_in, parents_of, is_child}

@@ -9,7 +9,7 @@ use Rattle.gl_modes.proofs.Words.{split, or_left, or_right, and_both, both}
 use Rattle.gl_modes.specs.declared.mode.Mode.{Mode}
 use Rattle.gl_modes.specs.declared.mode.Mode.TheVariants.{X}
 use Rattle.gl_modes.specs.declared.node.NodeId.{NodeId}
-use Rattle.gl_table.specs.declared.effect.Effect.TheVariants as effect
+use Rattle.gl_table.specs.declared.answers.Effect.TheVariants as effect
 use Rattle.gl_catalog.specs.declared.command.Command.TheVariants as command
 use Rattle.gl_graph.specs.Graph.{Graph, Node, parents_of, node_count}
 use Rattle.gl_modes.specs.Nodes.{same_node}

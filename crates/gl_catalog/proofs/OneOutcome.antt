@@ -5,8 +5,8 @@ use Rattle.std.specs.Prelude.{◌≡◌, ◌+◌, ℕ, [], false, Option, Some, 
 use Rattle.std.proofs.Common.{refl, sym, ap, ◌∙◌}
 use mathlib.Core.Bool.{true≢false}
 use Rattle.gl_modes.specs.declared.refusal.Refusal.{Refusal}
-use Rattle.gl_table.specs.declared.detect.Detect.{Detect}
-use Rattle.gl_table.specs.declared.detect.Detect.TheVariants.{AtBlock, ByWatcher}
+use Rattle.gl_table.specs.declared.answers.Detect.{Detect}
+use Rattle.gl_table.specs.declared.answers.Detect.TheVariants.{AtBlock, ByWatcher}
 use Rattle.gl_catalog.specs.declared.command.Answer.{Answer}
 use Rattle.gl_catalog.specs.declared.command.Answer.TheVariants as answer
 use Rattle.gl_catalog.specs.declared.command.Command.{Command}

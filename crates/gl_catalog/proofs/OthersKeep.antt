@@ -6,7 +6,7 @@ use mathlib.Core.Bool.{true≢false}
 use Rattle.gl_modes.specs.declared.node.NodeId.{NodeId}
 use Rattle.gl_modes.specs.Modes.{is_at_least}
 use Rattle.gl_table.specs.declared.txn.TxnId.{TxnId}
-use Rattle.gl_table.specs.declared.effect.Effect.{Effect}
+use Rattle.gl_table.specs.declared.answers.Effect.{Effect}
 use Rattle.gl_catalog.specs.declared.command.Answer.{Answer}
 use Rattle.gl_catalog.specs.declared.command.Command.{Command}
 use Rattle.gl_graph.specs.Graph.{Graph, Node, is_live, with_key}

@@ -14,8 +14,8 @@ use Rattle.gl_modes.proofs.NodeLemmas.{same_node-refl}
 use Rattle.gl_graph.specs.Graph.{is_live}
 use Rattle.gl_graph.specs.Changes.{rekeyed_parents}
 use Rattle.gl_header.specs.Header.{holds, is_among_waiters}
-use Rattle.gl_table.specs.declared.notice.Notice.{Notice}
-use Rattle.gl_table.specs.declared.notice.Notice.TheVariants as notice
+use Rattle.gl_table.specs.declared.answers.Notice.{Notice}
+use Rattle.gl_table.specs.declared.answers.Notice.TheVariants as notice
 use Rattle.gl_table.specs.declared.txn.Status.{Status}
 use Rattle.gl_table.specs.declared.txn.Status.TheVariants.{Active, Waiting, Condemned}
 use Rattle.gl_table.specs.declared.txn.TxnId.{TxnId}

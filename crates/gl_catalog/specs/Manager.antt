@@ -1,6 +1,6 @@
 -- What a contract sees of a manager, the state of the model that it stands for, and what holds of every manager.
 use Rattle.std.specs.Prelude.{◌≡◌, ◌≤◌, ℕ}
-use Rattle.gl_table.specs.declared.detect.Detect.TheVariants.{AtBlock}
+use Rattle.gl_table.specs.declared.answers.Detect.TheVariants.{AtBlock}
 use Rattle.gl_table.specs.model.Lawful.{HasNoConflict, IsLawful}
 use Rattle.gl_table.specs.inside.Headers.{AreHeaders}
 use Rattle.gl_table.specs.model.State.{State, HasNoCycle}

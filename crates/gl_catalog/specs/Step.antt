@@ -1,8 +1,8 @@
 -- One command: its answer, the state that it leaves, and what others are told; and runs of commands (own).
 use Rattle.std.specs.Prelude.{◌≡◌, ◌⊎◌, ℕ, ◌+◌, ◌-◌, true, List, [], ◌∷◌, Option, Some, None}
 use Rattle.gl_table.specs.declared.txn.Status.{Status}
-use Rattle.gl_table.specs.declared.outcome.Locked.{Locked}
-use Rattle.gl_table.specs.declared.outcome.Locked.TheVariants as locked
+use Rattle.gl_table.specs.declared.answers.Locked.{Locked}
+use Rattle.gl_table.specs.declared.answers.Locked.TheVariants as locked
 use Rattle.gl_table.specs.model.Calls.{locked_as}
 use Rattle.gl_catalog.specs.declared.command.Answer.{Answer}
 use Rattle.gl_catalog.specs.declared.command.Command.{Command}

@@ -11,7 +11,7 @@ use Rattle.gl_modes.specs.declared.refusal.Refusal.{Refusal}
 use Rattle.gl_slots.specs.declared.slots.Slots.{Slots}
 use Rattle.gl_slots.specs.Slots.{has_slot, slot_limit, slots_of}
 use Rattle.gl_table.specs.declared.deadlock.Stuck.{Stuck}
-use Rattle.gl_table.specs.declared.lock_row.LockRow.{LockRow}
+use Rattle.gl_table.specs.declared.answers.LockRow.{LockRow}
 use Rattle.gl_table.specs.declared.txn.TxnId.{TxnId}
 use Rattle.gl_table.specs.model.Calls.{RefusesOnly}
 use Rattle.gl_table.specs.model.Table.{AreRowsOf}

@@ -12,7 +12,7 @@ use Rattle.gl_graph.specs.Shapes.{place_in}
 use Rattle.gl_header.specs.Header.{Waiter, holds}
 use Rattle.gl_slots.specs.Slots.{has_slot, slot_limit}
 use Rattle.gl_table.specs.declared.deadlock.Stuck.{Stuck}
-use Rattle.gl_table.specs.declared.lock_row.LockRow.{LockRow}
+use Rattle.gl_table.specs.declared.answers.LockRow.{LockRow}
 use Rattle.gl_table.specs.declared.txn.Status.{Status}
 use Rattle.gl_table.specs.declared.txn.Status.TheVariants.{Active, Waiting, Condemned}
 use Rattle.gl_table.specs.declared.txn.TxnId.{TxnId}

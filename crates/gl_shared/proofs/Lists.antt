@@ -2,7 +2,7 @@
 use Rattle.std.proofs.Common.{◌≡◌, ℕ, ◌+◌, ◌≤◌, Bool, true, false, MatchBool, List, [], ◌∷◌, ◌++◌, length, refl, sym, ap, ◌∙◌, subst, arith, zero-le, le_refl, le_trans, length-append, ◌⊎◌, ⊎_elim}
 use mathlib.Core.List.{IsPrefix}
 use Rattle.gl_waits.specs.declared.board.Board.{Board}
-use Rattle.gl_table.specs.declared.detect.Detect.{Detect}
+use Rattle.gl_table.specs.declared.answers.Detect.{Detect}
 use Rattle.gl_shared.specs.Boards.{last_epoch, Rising, Ends, Fine, AllFine, IsLawful}
 use Rattle.gl_shared.proofs.Fronts.{prefix_trans, prefix_length, prefix_shorter, prefix_whole}
 

@@ -15,8 +15,8 @@ use Rattle.gl_modes.specs.Modes.{is_at_least}
 use Rattle.gl_modes.specs.Nodes.{same_node}
 use Rattle.gl_header.specs.Header.{Waiter, is_among_waiters, without_waiter}
 use Rattle.gl_waits.specs.Waits.{IsOnCycleOf}
-use Rattle.gl_table.specs.declared.detect.Detect.{Detect}
-use Rattle.gl_table.specs.declared.detect.Detect.TheVariants.{AtBlock, ByWatcher}
+use Rattle.gl_table.specs.declared.answers.Detect.{Detect}
+use Rattle.gl_table.specs.declared.answers.Detect.TheVariants.{AtBlock, ByWatcher}
 use Rattle.gl_table.specs.declared.txn.Status.{Status}
 use Rattle.gl_table.specs.declared.txn.Status.TheVariants.{Active, Waiting, Condemned}
 use Rattle.gl_table.specs.declared.txn.TxnId.{TxnId}

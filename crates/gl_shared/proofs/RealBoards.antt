@@ -11,7 +11,7 @@ use Rattle.gl_header.specs.Header.{holds}
 use Rattle.gl_waits.specs.Boards.{age_in, board_edge}
 use Rattle.gl_waits.specs.Waits.{IsOnNoCycle}
 use Rattle.gl_waits.proofs.BoardLemmas.{row_edge-bits_of}
-use Rattle.gl_table.specs.declared.detect.Detect.TheVariants.{AtBlock}
+use Rattle.gl_table.specs.declared.answers.Detect.TheVariants.{AtBlock}
 use Rattle.gl_table.specs.model.Table.{board_of}
 use Rattle.gl_table.specs.model.Lawful.{IsLawful}
 use Rattle.gl_table.specs.model.State.{State, age_of, members, status_of, HasNoCycle, blocks, waits_for}

@@ -4,8 +4,8 @@ ghost use Rattle.std.specs.Prelude.{◌≡◌, ◌+◌, ◌++◌, ◌∷◌, ◌
 ghost use Rattle.gl_modes.specs.declared.mode.Mode.{Mode as AMode};
 ghost use Rattle.gl_modes.specs.Modes.{is_at_least};
 ghost use Rattle.gl_table.specs.model.Table.{board_of};
-ghost use Rattle.gl_table.specs.declared.detect.Detect.TheVariants.{AtBlock};
-ghost use Rattle.gl_table.specs.declared.notice.Notice.{Notice};
+ghost use Rattle.gl_table.specs.declared.answers.Detect.TheVariants.{AtBlock};
+ghost use Rattle.gl_table.specs.declared.answers.Notice.{Notice};
 ghost use Rattle.gl_table.specs.declared.txn.TxnId.{TxnId};
 ghost use Rattle.gl_table.specs.model.State.{is_waiting_at, lives, HasNoCycle};
 ghost use Rattle.gl_table.specs.model.Tellings.{Told as Notices};

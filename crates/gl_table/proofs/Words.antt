@@ -136,13 +136,13 @@ pub use Rattle.gl_table.specs.inside.Sound.{IsSound, view_of}
 pub use Rattle.gl_table.specs.model.Tellings.{addressed, children_that, HasLeft, IsOnWay, notice_of, stripped, Told, told, told_but, told_from, told_to}
 pub use Rattle.gl_table.specs.declared.deadlock.Deadlock.{Deadlock}
 pub use Rattle.gl_table.specs.declared.deadlock.Stuck.{Stuck}
-pub use Rattle.gl_table.specs.declared.detect.Detect.{Detect}
-pub use Rattle.gl_table.specs.declared.detect.Detect.TheVariants.{AtBlock, ByWatcher}
+pub use Rattle.gl_table.specs.declared.answers.Detect.{Detect}
+pub use Rattle.gl_table.specs.declared.answers.Detect.TheVariants.{AtBlock, ByWatcher}
 pub use Rattle.gl_table.specs.declared.list.Entry.{Entry}
 pub use Rattle.gl_table.specs.declared.list.LockList.{LockList}
-pub use Rattle.gl_table.specs.declared.lock_row.LockRow.{LockRow}
-pub use Rattle.gl_table.specs.declared.notice.Notice.{Notice}
-pub use Rattle.gl_table.specs.declared.notice.Notice.TheVariants.{Victim}
+pub use Rattle.gl_table.specs.declared.answers.LockRow.{LockRow}
+pub use Rattle.gl_table.specs.declared.answers.Notice.{Notice}
+pub use Rattle.gl_table.specs.declared.answers.Notice.TheVariants.{Victim}
 pub use Rattle.gl_table.specs.declared.seat.Seat.{Seat}
 pub use Rattle.gl_table.specs.declared.txn.Status.{Status}
 pub use Rattle.gl_table.specs.declared.txn.Status.TheVariants.{Active, Condemned, Waiting}

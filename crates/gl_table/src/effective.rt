@@ -9,7 +9,7 @@ ghost use Rattle.gl_graph.specs.View.{graph_of};
 ghost use Rattle.gl_table.specs.model.Lawful.{eff_s, eff_x, effect_on};
 ghost use Rattle.gl_table.specs.inside.Lists.{mode_of};
 
-use crate::effect::Effect;
+use crate::answers::Effect;
 use crate::list::LockList;
 use gl_graph::Graph;
 use gl_modes::{Mode, NodeId, covers};

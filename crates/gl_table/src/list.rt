@@ -18,7 +18,7 @@ ghost use Rattle.gl_modes.specs.Nodes.{same_node};
 ghost use Rattle.gl_table.specs.model.State.{is_write};
 ghost use Rattle.gl_table.specs.model.Table.{row_of};
 
-use crate::lock_row::LockRow;
+use crate::answers::LockRow;
 use gl_graph::Graph;
 use gl_modes::{MOST_PARENTS, Mode, NodeId, covers};
 use indexmap::IndexMap;

@@ -18,21 +18,29 @@ ghost use Rattle.gl_table.specs.model.Lawful.{effect_on};
 ghost use Rattle.gl_table.specs.model.Table.{row_of};
 ghost use Rattle.gl_table.specs.inside.Slots.{CanWake, Wakes, WakesLists, WakesTold, by_list, counted_by, held_by, IsBySlot, notices_in};
 
-use crate::effect::Effect;
+use crate::answers::{Effect, LockRow, Told};
 use crate::effective::effective;
 use crate::headers::{Headers, drop_grant, drop_wait};
 use crate::list::LockList;
-use crate::lock_row::LockRow;
-use crate::notice::Told;
 use crate::seat::Seat;
 use crate::seats::Seats;
 use crate::txn::Status;
-use crate::waking::wake;
 use gl_graph::Graph;
 use gl_header::GrantList;
 use gl_modes::{Mode, NodeId};
 use indexmap::IndexMap;
 use std::alloc::{AllocError, Global};
+
+mod ask;
+mod end;
+mod keep;
+mod leave;
+pub(crate) mod moves;
+mod place;
+mod settle;
+mod shed;
+mod wake;
+mod withdraw;
 
 /// Who holds what and who waits where. The same is kept twice, so that neither way of asking is a
 /// search: by node in the headers, and by transaction in the lists.
@@ -213,7 +221,7 @@ impl Locks {
         if granted.is_empty() {
             return; // As mostly: the parents are looked up only where somebody is granted.
         }
-        wake(
+        wake::wake(
             &mut self.seats,
             &mut self.lists,
             told,

@@ -8,10 +8,10 @@ ghost use Rattle.gl_table.specs.model.Lawful.{HasNoConflict, IsLawful};
 ghost use Rattle.gl_table.specs.inside.Headers.{AreHeaders};
 ghost use Rattle.gl_table.specs.model.State.{choosing, empty_state, lives, status_of, HasNoCycle};
 ghost use Rattle.gl_table.specs.model.Table.{ListsAgree, StandOnce, state_of};
-ghost use Rattle.gl_table.specs.declared.detect.Detect.TheVariants.{AtBlock};
+ghost use Rattle.gl_table.specs.declared.answers.Detect.TheVariants.{AtBlock};
 
+use crate::answers::Detect;
 use crate::deadlock::Deadlock;
-use crate::detect::Detect;
 use crate::locks::Locks;
 use crate::txn::{Status, TxnId};
 use gl_graph::Graph;

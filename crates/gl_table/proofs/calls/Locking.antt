@@ -11,7 +11,7 @@ use Rattle.gl_table.specs.declared.table.Table.TheInside.{Inside}
 use Rattle.gl_table.specs.model.Calls.{Locks}
 use Rattle.gl_modes.specs.declared.refusal.Refusal.TheVariants as no
 use Rattle.gl_table.specs.declared.locks.Locks as code
-use Rattle.gl_table.specs.declared.outcome.Locked.TheVariants as locked
+use Rattle.gl_table.specs.declared.answers.Locked.TheVariants as locked
 use Rattle.gl_table.proofs.calls.Calls.{keeping_also, lawful_orderly, orderly, over, settled_also, test_passed}
 use Rattle.gl_table.proofs.calls.Queries.{modes-seen}
 use Rattle.gl_table.proofs.law.Lock.{granted-lawful, granted-no_cycle, locks-lawful, locks-no_cycle, may_lock, MayLock, waiting-lawful}

@@ -11,7 +11,7 @@ use Rattle.gl_table.proofs.Words.{state_on, status_in, status_of, subst, sym, To
 use Rattle.gl_table.proofs.Words.{Waiting, with_grant, with_graph, with_key, without_node, X, ℕ}
 use Rattle.gl_table.specs.declared.locks.Locks.{Locks}
 use Rattle.gl_table.specs.declared.table.Table.TheInside.{Inside}
-use Rattle.gl_table.specs.declared.notice.Notice.TheVariants as notice
+use Rattle.gl_table.specs.declared.answers.Notice.TheVariants as notice
 use Rattle.gl_table.proofs.calls.Calls.{lawful_orderly, table_way}
 use Rattle.gl_table.proofs.calls.Law.{called-sound}
 use Rattle.gl_table.proofs.inside.Asks.{state-same}

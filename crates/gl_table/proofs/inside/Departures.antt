@@ -6,7 +6,7 @@ use Rattle.gl_table.proofs.Words.{members, Mode, mode_given, NL, NodeId, nodes, 
 use Rattle.gl_table.proofs.Words.{or_comm, parents_of, pumped, refl, released, restatus, same_mode, same_node, same_node-equal, same_node-refl, same_node-sym}
 use Rattle.gl_table.proofs.Words.{Some, split, State, Status, status_in, status_of, stripped, subst, sym, Told, told_to, true, Txn, TxnId, unlocked, Waiter}
 use Rattle.gl_table.proofs.Words.{Waiting, waits_at, WakesLists, WakesTold, with_grant, with_txn, without_wait, without_waiter, woken, ℕ}
-use Rattle.gl_table.specs.declared.notice.Notice.TheVariants as notice
+use Rattle.gl_table.specs.declared.answers.Notice.TheVariants as notice
 use Rattle.gl_table.proofs.inside.Released.{agrees_unlocked, counts_unlocked, unlocked_own}
 use Rattle.gl_table.proofs.law.Keeps.{nl_is, waiting_is}
 use Rattle.gl_table.proofs.queues.Counts.{fewer}

@@ -6,7 +6,7 @@ use Rattle.gl_table.proofs.Words.{NodeId, None, none_but, not, not-true, not_tru
 use Rattle.gl_table.proofs.Words.{restatus, room_by, same_mode, same_mode-equal, same_node, same_node-equal, same_node-refl, same_number, Some, some_is, split}
 use Rattle.gl_table.proofs.Words.{State, status_in, status_of, stays, Strikes, subst, sym, Told, told_from, told_to, true, Txn, TxnId, Waiter, Waiting}
 use Rattle.gl_table.proofs.Words.{waits_at, with_waiters, without_waiter, ℕ}
-use Rattle.gl_table.specs.declared.notice.Notice.TheVariants as notice
+use Rattle.gl_table.specs.declared.answers.Notice.TheVariants as notice
 use Rattle.gl_table.proofs.law.Strays.{all_filtered, all_of_some, all_or_chosen, among_failing, filter_all, stuck_front, without_chosen}
 use Rattle.gl_table.proofs.law.Takes.{restatus_is}
 use Rattle.gl_table.proofs.queues.Edits.{any_left, freed_other, one_left, one_stays, out_of_without, without_filter}

@@ -5,7 +5,7 @@ use Rattle.gl_table.proofs.Words.{if◌then◌else◌, is_among_waiters, is_dist
 use Rattle.gl_table.proofs.Words.{Members, mode_given, nat_tests, NL, NodeId, None, not, not-true, notices_in, Option, or-false, or_left, or_right, refl}
 use Rattle.gl_table.proofs.Words.{restatus, room_by, same_mode, same_node, same_node-equal, same_node-refl, same_number, Seat, slice_index_or, Some, split}
 use Rattle.gl_table.proofs.Words.{Strikes, subst, suc, sym, take, Told, true, txns_of, unlisted_by, Waiter, Wakes, WakesLists, with_mode, zero, ℕ}
-use Rattle.gl_table.specs.declared.notice.Notice.TheVariants as notice
+use Rattle.gl_table.specs.declared.answers.Notice.TheVariants as notice
 use Rattle.gl_table.proofs.inside.Slots.{by_list-at, slice_get-at}
 use Rattle.gl_table.proofs.queues.Waiters.{grants_other}
 

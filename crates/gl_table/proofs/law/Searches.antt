@@ -5,7 +5,7 @@ use Rattle.gl_table.proofs.Words.{is_some, IsClimb, IsLawful, IsLawfulGraph, IsR
 use Rattle.gl_table.proofs.Words.{nat_tests, never, never_stops, next_of, no, no_parents, Node, node_at, node_count, NodeId, None, not, Option, or-true}
 use Rattle.gl_table.proofs.Words.{or_elim, parents_in, parents_of, refl, same_mode, same_node, SameBelow, shape_in, shape_of, slice_get, Some, split, State}
 use Rattle.gl_table.proofs.Words.{subst, suc, sym, take, true, true≢false, with_all, X, zero, ℕ}
-use Rattle.gl_table.specs.declared.effect.Effect.TheVariants as effect
+use Rattle.gl_table.specs.declared.answers.Effect.TheVariants as effect
 use Rattle.gl_table.proofs.law.Effects.{all_from, cut_set_on, eff_s_route, eff_x_any, eff_x_route, is_x, on_path, read_on_eff, read_on_route, ReadOn}
 
 -- A search upwards, without climbing past some nodes, finds a node that is sought exactly where a route leads to one.

@@ -4,7 +4,7 @@ use Rattle.gl_table.proofs.Words.{holds, if◌then◌else◌, inl, inr, is_among
 use Rattle.gl_table.proofs.Words.{mode_given, NL, NodeId, None, not, not_true, Notice, notices_in, Option, pumped, refl, restatus, same_mode, same_node-equal}
 use Rattle.gl_table.proofs.Words.{same_node-refl, same_number, Some, split, State, Status, status_in, status_of, subst, sym, Told, told_to, true, TxnId}
 use Rattle.gl_table.proofs.Words.{Waiting, waits_at, WaitWell, WakesTold, without_wait, ℕ, ⊎_elim}
-use Rattle.gl_table.specs.declared.notice.Notice.TheVariants as notice
+use Rattle.gl_table.specs.declared.answers.Notice.TheVariants as notice
 use Rattle.gl_table.proofs.law.Keeps.{txn_there, waiting_is, woken_some, woken_waits}
 use Rattle.gl_table.proofs.law.Settle.{wait_is}
 use Rattle.gl_table.proofs.law.Takes.{IsQuiet, restatus_quiet, restatus_some}

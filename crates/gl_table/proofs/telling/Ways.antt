@@ -5,7 +5,7 @@ use Rattle.gl_table.proofs.Words.{is_waiting_at, IsLawful, IsOnWay, length, List
 use Rattle.gl_table.proofs.Words.{number_other, number_same, Option, or_left, or_right, other_number, pumped, refl, restatus, same_mode, same_mode-refl}
 use Rattle.gl_table.proofs.Words.{same_node, same_node-equal, same_node-refl, same_number, Some, split, State, Status, status_in, status_of, sym, told_from}
 use Rattle.gl_table.proofs.Words.{told_to, true, Txn, TxnId, unlocked, Waiter, Waiting, waits_at, with_grant, with_txn, without_wait, woken, ℕ}
-use Rattle.gl_table.specs.declared.notice.Notice.TheVariants as notice
+use Rattle.gl_table.specs.declared.answers.Notice.TheVariants as notice
 use Rattle.gl_table.proofs.law.Keeps.{waiting_is, woken_age, woken_sleeps, woken_waits}
 use Rattle.gl_table.proofs.law.Takes.{IsQuiet, restatus_age, restatus_is, restatus_quiet}
 use Rattle.gl_table.proofs.queues.Edits.{out_of_without, without_filter}

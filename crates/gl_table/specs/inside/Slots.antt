@@ -12,7 +12,7 @@ use Rattle.gl_modes.specs.Nodes.{same_node}
 use Rattle.gl_header.specs.Header.{Waiter, after_grants, is_among_waiters}
 use Rattle.gl_header.specs.Sound.{is_distinct}
 use Rattle.gl_table.specs.declared.txn.TxnId.{TxnId}
-use Rattle.gl_table.specs.declared.notice.Notice.{Notice}
+use Rattle.gl_table.specs.declared.answers.Notice.{Notice}
 use Rattle.gl_table.specs.model.Tellings.{Told}
 use Rattle.gl_table.specs.declared.list.LockList.{LockList}
 use Rattle.gl_table.specs.declared.seat.Seat.{Seat}
@@ -20,7 +20,7 @@ use Rattle.gl_table.specs.declared.txn.Status.TheVariants.{Active}
 use Rattle.gl_table.specs.inside.Lists.{IsApart, count_of, is_listed, mode_of, unlisted}
 use Rattle.gl_table.specs.inside.Seats.{txns_of}
 use Rattle.gl_table.specs.model.State.{Txn, age_in, restatus}
-use Rattle.gl_table.specs.declared.notice.Notice.TheVariants as notice
+use Rattle.gl_table.specs.declared.answers.Notice.TheVariants as notice
 
 -- A told list as it is filled: notices by rising slot.
 

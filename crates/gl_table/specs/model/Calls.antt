@@ -18,14 +18,14 @@ use Rattle.gl_waits.specs.declared.victims.Victims.{Victims}
 use Rattle.gl_table.specs.model.State.{State, members, intends_over, is_write, is_waiting_at, pumped, without_wait, Txn, with_grant, with_queue, with_status}
 use Rattle.gl_table.specs.model.State.{with_txn, slots, Settled, lives, status_of}
 use Rattle.gl_table.specs.declared.txn.Status.{Status}
-use Rattle.gl_table.specs.declared.detect.Detect.{Detect}
+use Rattle.gl_table.specs.declared.answers.Detect.{Detect}
 use Rattle.gl_table.specs.declared.txn.Status.TheVariants.{Active, Waiting, Condemned}
-use Rattle.gl_table.specs.declared.detect.Detect.TheVariants.{AtBlock, ByWatcher}
+use Rattle.gl_table.specs.declared.answers.Detect.TheVariants.{AtBlock, ByWatcher}
 use Rattle.gl_table.specs.declared.txn.TxnId.{TxnId}
-use Rattle.gl_table.specs.declared.outcome.Locked.{Locked}
+use Rattle.gl_table.specs.declared.answers.Locked.{Locked}
 use Rattle.gl_modes.specs.declared.refusal.Refusal.TheVariants as no
 use Rattle.gl_header.specs.declared.header.Asked.TheVariants as asked
-use Rattle.gl_table.specs.declared.outcome.Locked.TheVariants as locked
+use Rattle.gl_table.specs.declared.answers.Locked.TheVariants as locked
 
 -- Which children an escalation to a node covers (own), judged after the node was raised and before any child is released.
 

@@ -8,8 +8,8 @@ use Rattle.gl_waits.specs.declared.victims.Victims.{Victims}
 use Rattle.gl_waits.specs.Waits.{IsOnCycleOf, IsOnNoCycle}
 use Rattle.gl_table.specs.declared.deadlock.Deadlock.{Deadlock}
 use Rattle.gl_table.specs.declared.deadlock.Stuck.{Stuck}
-use Rattle.gl_table.specs.declared.detect.Detect.{Detect}
-use Rattle.gl_table.specs.declared.detect.Detect.TheVariants.{AtBlock, ByWatcher}
+use Rattle.gl_table.specs.declared.answers.Detect.{Detect}
+use Rattle.gl_table.specs.declared.answers.Detect.TheVariants.{AtBlock, ByWatcher}
 use Rattle.gl_table.specs.declared.txn.Status.TheVariants.{Waiting}
 use Rattle.gl_table.specs.declared.txn.TxnId.{TxnId}
 use Rattle.gl_table.specs.model.Calls.{enqueued, enters_at, wanted}

@@ -16,9 +16,9 @@ use Rattle.gl_waits.specs.Waits.{IsOnNoCycle, Reaches, without}
 use Rattle.gl_table.specs.declared.txn.Status.TheVariants.{Waiting}
 use Rattle.gl_table.specs.model.State.{intends, front_at, is_waiting_at, State, age_of, members, status_of, no_parents, choosing, empty_state, condemned}
 use Rattle.gl_table.specs.model.State.{HasNoCycle, Settled, SettledWithin, is_wait, waits_for}
-use Rattle.gl_table.specs.declared.effect.Effect.{Effect}
-use Rattle.gl_table.specs.declared.detect.Detect.{Detect}
-use Rattle.gl_table.specs.declared.effect.Effect.TheVariants as effect
+use Rattle.gl_table.specs.declared.answers.Effect.{Effect}
+use Rattle.gl_table.specs.declared.answers.Detect.{Detect}
+use Rattle.gl_table.specs.declared.answers.Effect.TheVariants as effect
 
 -- The law of a state: what every command keeps.
 

@@ -14,7 +14,7 @@ use Rattle.gl_waits.specs.Victims.{IsCandidate}
 use Rattle.gl_waits.specs.Waits.{IsOnNoCycle, IsYoungest}
 use Rattle.gl_table.specs.declared.txn.TxnId.{TxnId}
 use Rattle.gl_table.specs.declared.txn.Status.{Status}
-use Rattle.gl_table.specs.declared.detect.Detect.{Detect}
+use Rattle.gl_table.specs.declared.answers.Detect.{Detect}
 use Rattle.gl_table.specs.declared.txn.Status.TheVariants.{Active, Waiting, Condemned}
 
 -- The state of the lock manager: one flat map of grants, one queue for each node, the transactions by slot.

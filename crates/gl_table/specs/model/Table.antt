@@ -11,7 +11,7 @@ use Rattle.gl_waits.specs.declared.victims.Victims.{Victims}
 use Rattle.gl_waits.specs.declared.board.Board.{Board}
 use Rattle.gl_waits.specs.Sets.{bits_of}
 use Rattle.gl_table.specs.declared.deadlock.Deadlock.{Deadlock}
-use Rattle.gl_table.specs.declared.detect.Detect.{Detect}
+use Rattle.gl_table.specs.declared.answers.Detect.{Detect}
 use Rattle.gl_table.specs.declared.list.Entry.{Entry}
 use Rattle.gl_table.specs.declared.seat.Seat.{Seat}
 use Rattle.gl_table.specs.model.Calls.{held_children}
@@ -19,10 +19,10 @@ use Rattle.gl_table.specs.inside.Headers.{Entries, held_of, queue_of}
 use Rattle.gl_table.specs.inside.Lists.{mode_in}
 use Rattle.gl_table.specs.model.State.{is_waiting_at, State, members, Txn, age_of, empty_state, waits_for}
 use Rattle.gl_table.specs.inside.Seats.{txns_of}
-use Rattle.gl_table.specs.declared.lock_row.LockRow.{LockRow}
+use Rattle.gl_table.specs.declared.answers.LockRow.{LockRow}
 use Rattle.gl_table.specs.declared.txn.Status.{Status}
 use Rattle.gl_table.specs.declared.txn.TxnId.{TxnId}
-use Rattle.gl_table.specs.declared.detect.Detect.TheVariants.{ByWatcher}
+use Rattle.gl_table.specs.declared.answers.Detect.TheVariants.{ByWatcher}
 
 -- What a contract sees of a table, the state of the model that it stands for, and what holds of every table.
 

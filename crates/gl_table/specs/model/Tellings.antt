@@ -9,10 +9,10 @@ use Rattle.gl_graph.specs.Graph.{is_live, Graph, is_child, nodes}
 use Rattle.gl_header.specs.Header.{is_among_waiters, is_waiter, without_waiter}
 use Rattle.gl_table.specs.declared.txn.TxnId.{TxnId}
 use Rattle.gl_table.specs.declared.txn.Status.{Status}
-use Rattle.gl_table.specs.declared.notice.Notice.{Notice}
+use Rattle.gl_table.specs.declared.answers.Notice.{Notice}
 use Rattle.gl_table.specs.declared.txn.Status.TheVariants.{Active, Waiting, Condemned}
 use Rattle.gl_table.specs.model.State.{State, age_of, slots, status_of, is_waiting_at, pumped}
-use Rattle.gl_table.specs.declared.notice.Notice.TheVariants as notice
+use Rattle.gl_table.specs.declared.answers.Notice.TheVariants as notice
 
 -- What others are told of a command (own): a function of the states before and after.
 

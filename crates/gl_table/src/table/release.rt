@@ -6,10 +6,10 @@ ghost use Rattle.gl_table.specs.model.Calls.{RefusesOnly, released, unlocked, co
 ghost use Rattle.gl_table.specs.model.Table.{state_of};
 ghost use Rattle.gl_table.specs.model.Tellings.{told};
 
-use super::Table;
-use crate::notice::Told;
+use crate::answers::Told;
 use crate::txn::TxnId;
 use gl_modes::{NodeId, Refusal};
+use super::Table;
 
 impl Table {
     /// Releases one node, of which the transaction holds no child; the node grants from its front.

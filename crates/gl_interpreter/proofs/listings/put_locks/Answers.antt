@@ -2,7 +2,7 @@ use Rattle.std.proofs.Common.{◌≡◌, List, [], ◌∷◌, ◌++◌, Some, No
 use Rattle.std.specs.Prelude.{codes}
 use Rattle.gl_modes.specs.declared.refusal.Refusal.TheVariants.{NoSuchTxn}
 use Rattle.gl_graph.specs.Refusals.{first_refusal, where_true}
-use Rattle.gl_table.specs.declared.lock_row.LockRow.{LockRow}
+use Rattle.gl_table.specs.declared.answers.LockRow.{LockRow}
 use Rattle.gl_table.specs.declared.txn.TxnId.{TxnId}
 use Rattle.gl_table.specs.model.Table.{AreRowsOf, rows_of}
 use Rattle.gl_table.specs.model.Calls.{living_tests}

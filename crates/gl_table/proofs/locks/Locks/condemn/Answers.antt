@@ -1,6 +1,6 @@
 use Rattle.gl_table.proofs.Words.{◌==◌, ◌∙◌, ◌≡◌, age_in, ap, ap₂, Condemned, if◌then◌else◌, is_wait, is_waiting_at, IsOnWay, IsOrderly, Mode, rules, Some}
 use Rattle.gl_table.proofs.Words.{State, state_in, status_of, subst, sym, told_to, Waiting, ℕ}
-use Rattle.gl_table.specs.declared.notice.Notice.TheVariants as notice
+use Rattle.gl_table.specs.declared.answers.Notice.TheVariants as notice
 use Rattle.gl_table.proofs.law.Keeps.{waiting_is}
 use Rattle.gl_table.proofs.telling.GivenUp.{orderly_without, TellsVictim, victim_absent, victim_told, victim_untold, way_withdrawn}
 use Rattle.gl_table.proofs.locks.Locks.condemn.Goals.{After-tell, After-withdraw}
