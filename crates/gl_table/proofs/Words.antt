@@ -119,7 +119,7 @@ pub use Rattle.gl_table.specs.model.Deadlocks.{has_row, IsDeadlock, IsStuck, Loc
 pub use Rattle.gl_table.specs.model.Deadlocks.{VictimHasRow, WaitSettlesKeeping}
 pub use Rattle.gl_table.specs.inside.Slots.{AreApart, by_list, CanFree, CanHold, CanStrike, CanWake, counted_by, Frees, FreesLists, FreesTold, grant_notice}
 pub use Rattle.gl_table.specs.inside.Slots.{HasRoomAt, held_by, Holds, is_rising, IsBySlot, KeepsLists, listed_by, mode_given, notices_in, room_by, Strikes}
-pub use Rattle.gl_table.specs.inside.Slots.{unlisted_by, Wakes, WakesLists, WakesTold}
+pub use Rattle.gl_table.specs.inside.Slots.{TellsOthers, unlisted_by, Wakes, WakesLists, WakesTold}
 pub use Rattle.gl_table.specs.inside.Headers.{AreHeaders, AreHeadersBut, Entries, header_at, header_or_new, held_of, is_granted_at, IsOneHolder, members_at}
 pub use Rattle.gl_table.specs.inside.Headers.{queue_of, with_members, with_waiters}
 pub use Rattle.gl_table.specs.model.State.{age_in, age_of, awake, blocks, choosing, condemned, empty_state, front_at, granted_at, HasNoCycle, intends}
@@ -129,7 +129,7 @@ pub use Rattle.gl_table.specs.model.State.{with_txn, without_wait, woken}
 pub use Rattle.gl_table.specs.inside.Lists.{count_in, count_of, covered_in, entry_of, HasRoom, is_listed, IsShedding, loose_of, mode_in, mode_of}
 pub use Rattle.gl_table.specs.inside.Lists.{NoneMarkedFrom, unlisted}
 unfoldable pub use Rattle.gl_table.specs.inside.Lists.{IsApart}
-pub use Rattle.gl_table.specs.inside.Locks.{AreExact, Agrees, AreNew, AreSound, CountsHeld, IsOrderly, state_in, state_on, WaitWell}
+pub use Rattle.gl_table.specs.inside.Locks.{Agrees, AreExact, AreNew, AreSound, CountsHeld, IsOrderly, state_in, state_on, WaitWell}
 pub use Rattle.gl_table.specs.inside.Seating.{IsSeating}
 pub use Rattle.gl_table.specs.inside.Seats.{is_free, is_free_at, SeatList, txn_in, txns_of}
 pub use Rattle.gl_table.specs.inside.Sound.{IsSound, view_of}

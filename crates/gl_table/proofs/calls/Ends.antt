@@ -2,7 +2,8 @@
 use Rattle.gl_table.proofs.Words.{[], ◌==◌, ◌||◌, ◌∙◌, ◌≡◌, Active, ap, AreExact, Bool, cancelled, clash, Deadlock, false, front_at, granted_at, HasNoCycle}
 use Rattle.gl_table.proofs.Words.{holds, if◌then◌else◌, is_waiting_at, IsBySlot, IsLawful, IsOnWay, IsSound, List, members, NodeId, None, notices_in}
 use Rattle.gl_table.proofs.Words.{number_same, Option, refl, released, same_number, Settled, SettlesKeeping, split, State, state_in, state_of, status_in}
-use Rattle.gl_table.proofs.Words.{status_of, stripped, subst, sym, Told, told, told_but, told_to, true, Txn, view_of, Waiter, WakesTold, without_wait, woken, ℕ}
+use Rattle.gl_table.proofs.Words.{status_of, stripped, subst, sym, TellsOthers, Told, told, told_but, told_to, true, Txn, view_of, Waiter, WakesTold}
+use Rattle.gl_table.proofs.Words.{without_wait, woken, ℕ}
 use Rattle.gl_table.specs.declared.locks.Locks.{Locks}
 use Rattle.gl_table.specs.declared.table.Table.TheInside.{Inside}
 use Rattle.gl_table.proofs.calls.Calls.{keeping_also, orderly, settled_also, state_released, table_way}
@@ -29,16 +30,14 @@ module _ (i : Inside) (sound : IsSound i) where
   l = state_in i.graph i.locks
 
   -- a transaction ended, whatever it was doing: all others are told, and it is told nothing itself
-  pub told_ended : (t : ℕ) (locks : Locks) → state_in i.graph locks ≡ released l t → (first list : Told) → first ≡ [] → IsBySlot list
-      → ((from : State) → IsOnWay from l → ((u : ℕ) → (u == t) ≡ false → notices_in first u ≡ told_to from l u) → (u : ℕ) → (u == t) ≡ false
-      → notices_in list u ≡ told_to from (state_in i.graph locks) u)
-      → notices_in list t ≡ notices_in first t → list ≡ told s (state_of (view_of (record i { locks = locks })))
-  told_ended t locks is first list none by_slot tells own =
-      told_is s after list sound.lawful sound.exact.sound.few by_slot
+  pub told_ended : (t : ℕ) (locks : Locks) → state_in i.graph locks ≡ released l t → (first list : Told) → first ≡ []
+      → TellsOthers t l (state_in i.graph locks) first list → list ≡ told s (state_of (view_of (record i { locks = locks })))
+  told_ended t locks is first list none tells =
+      told_is s after list sound.lawful sound.exact.sound.few tells.by_slot
       (λ u. split (u == t)
-      (λ e. ap (notices_in list) (same_number u t e) ∙ own ∙ ap (λ xs. notices_in xs t) none
+      (λ e. ap (notices_in list) (same_number u t e) ∙ tells.own ∙ ap (λ xs. notices_in xs t) none
       ∙ sym (ap (told_to s after) (same_number u t e) ∙ gone_untold s after t gone))
-      (λ e. tells s (table_way i sound) (λ v k. ap (λ xs. notices_in xs v) none ∙ sym (nobody_told s v)) u e))
+      (λ e. tells.others s (table_way i sound) (λ v k. ap (λ xs. notices_in xs v) none ∙ sym (nobody_told s v)) u e))
     where
       after : State
       after = state_of (view_of (record i { locks = locks }))

@@ -3,11 +3,11 @@ use Rattle.gl_table.proofs.Words.{[], ◌&&◌, ◌+◌, ◌-◌, ◌==◌, ◌|
 use Rattle.gl_table.proofs.Words.{AreExact, AreHeaders, AreSound, arith, Bool, clash, cond, count_by, count_cons, counted_by, CountsHeld, covered_children}
 use Rattle.gl_table.proofs.Words.{deleted, false, first_not_ix, freed, FreesTold, granted_at, Graph, graph_of, HasNoCycle, held_by, held_children, holds}
 use Rattle.gl_table.proofs.Words.{holds_child, IfOk, if◌then◌else◌, is_among_waiters, is_at_least, is_child, is_covered, is_live, is_record_shape, is_some}
-use Rattle.gl_table.proofs.Words.{is_wait, is_waiting_at, IsBorn, IsBySlot, IsLawful, IsOnWay, IsOrderly, IsRoomyRecord, IsSound, KeepsLists, length, List}
-use Rattle.gl_table.proofs.Words.{list_all, listed, members, Mode, NL, NodeId, nodes, None, none_but, not, not_true, notice_of, notices_in, number_same, OnErr}
-use Rattle.gl_table.proofs.Words.{Option, other_number, parents_of, Rec, record_parents, record_refusal, record_unrefused, refl, Refusal, Refuses, Result}
-use Rattle.gl_table.proofs.Words.{rules, S, same_mode, same_mode-equal, same_node-refl, same_number, shape_of, shed, Some, split, State, state_in, state_of}
-use Rattle.gl_table.proofs.Words.{state_on, status_in, status_of, subst, sym, Told, told, told_from, told_to, true, Txn, TxnId, unwrap_or, View, view_of}
+use Rattle.gl_table.proofs.Words.{is_wait, is_waiting_at, IsBorn, IsLawful, IsOrderly, IsRoomyRecord, IsSound, KeepsLists, length, List, list_all, listed}
+use Rattle.gl_table.proofs.Words.{members, Mode, NL, NodeId, nodes, None, none_but, not, not_true, notice_of, notices_in, number_same, OnErr, Option}
+use Rattle.gl_table.proofs.Words.{other_number, parents_of, Rec, record_parents, record_refusal, record_unrefused, refl, Refusal, Refuses, Result, rules, S}
+use Rattle.gl_table.proofs.Words.{same_mode, same_mode-equal, same_node-refl, same_number, shape_of, shed, Some, split, State, state_in, state_of, state_on}
+use Rattle.gl_table.proofs.Words.{status_in, status_of, subst, sym, TellsOthers, Told, told, told_from, told_to, true, Txn, TxnId, unwrap_or, View, view_of}
 use Rattle.gl_table.proofs.Words.{Waiting, with_grant, with_graph, with_key, without_node, X, ℕ}
 use Rattle.gl_table.specs.declared.locks.Locks.{Locks}
 use Rattle.gl_table.specs.declared.table.Table.TheInside.{Inside}
@@ -265,17 +265,14 @@ module _ (i : Inside) (sound : IsSound i) (t : ℕ) (n : NodeId) where
         no_cycle = λ at. subst HasNoCycle (sym state_shed) (shed-no_cycle whole sound.lawful t n active (sound.no_cycle at));
       }
 
-      pub told_shed : (first list : Told) → first ≡ [] → IsBySlot list
-          → ((from : State) → IsOnWay from (state_in i.graph i.locks)
-          → ((u : ℕ) → (u == t) ≡ false → notices_in first u ≡ told_to from (state_in i.graph i.locks) u) → (u : ℕ) → (u == t) ≡ false
-          → notices_in list u ≡ told_to from (state_in i.graph locks) u)
-          → notices_in list t ≡ notices_in first t → list ≡ told whole (state_of (view_of ended))
-      told_shed first list none by_slot tells own =
-          told_is whole (state_of (view_of ended)) list sound.lawful sound.exact.sound.few by_slot
+      pub told_shed : (first list : Told) → first ≡ [] → TellsOthers t (state_in i.graph i.locks) (state_in i.graph locks) first list
+          → list ≡ told whole (state_of (view_of ended))
+      told_shed first list none tells =
+          told_is whole (state_of (view_of ended)) list sound.lawful sound.exact.sound.few tells.by_slot
           (λ u. split (u == t)
-          (λ e. let is = same_number u t e in ap (notices_in list) is ∙ own ∙ ap (λ xs. notices_in xs t) none
+          (λ e. let is = same_number u t e in ap (notices_in list) is ∙ tells.own ∙ ap (λ xs. notices_in xs t) none
           ∙ sym (active_untold whole (state_of (view_of ended)) u (ap (status_of whole) is ∙ active)))
-          (λ e. tells whole (table_way i sound) (λ v k. ap (λ xs. notices_in xs v) none ∙ sym (nobody_told whole v)) u e))
+          (λ e. tells.others whole (table_way i sound) (λ v k. ap (λ xs. notices_in xs v) none ∙ sym (nobody_told whole v)) u e))
 
       module _ (exact : AreExact i.graph locks) (reads : is_at_least (whole.held t n) S ≡ true) (o o' : Option ℕ)
           (said : o ≡ (if holds (λ u. held_by i.locks.lists.items u n) t then Some (counted_by i.locks.lists.items t n) else None))

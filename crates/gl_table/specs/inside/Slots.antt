@@ -13,13 +13,13 @@ use Rattle.gl_header.specs.Header.{Waiter, after_grants, is_among_waiters}
 use Rattle.gl_header.specs.Sound.{is_distinct}
 use Rattle.gl_table.specs.declared.txn.TxnId.{TxnId}
 use Rattle.gl_table.specs.declared.answers.Notice.{Notice}
-use Rattle.gl_table.specs.model.Tellings.{Told}
+use Rattle.gl_table.specs.model.Tellings.{IsOnWay, Told, told_to}
 use Rattle.gl_table.specs.declared.list.LockList.{LockList}
 use Rattle.gl_table.specs.declared.seat.Seat.{Seat}
 use Rattle.gl_table.specs.declared.txn.Status.TheVariants.{Active}
 use Rattle.gl_table.specs.inside.Lists.{IsApart, count_of, is_listed, mode_of, unlisted}
 use Rattle.gl_table.specs.inside.Seats.{txns_of}
-use Rattle.gl_table.specs.model.State.{Txn, age_in, restatus}
+use Rattle.gl_table.specs.model.State.{State, Txn, age_in, restatus}
 use Rattle.gl_table.specs.declared.answers.Notice.TheVariants as notice
 
 -- A told list as it is filled: notices by rising slot.
@@ -37,6 +37,13 @@ pub record IsBySlot (told : Told) : Type 0 where
 -- what is told to a slot
 abbrev pub notices_in : Told → ℕ → Option (TxnId × Notice)
 notices_in told u = find (λ x. x.0.slot == u) told
+
+-- the list goes on from what all but this slot are told of the way to one state to what they are told of the way to another; the slot is told nothing more
+pub record TellsOthers (t : ℕ) (s s' : State) (list list' : Told) : Type 0 where
+  pub by_slot : IsBySlot list'
+  pub others : (start : State) → IsOnWay start s → ((u : ℕ) → (u == t) ≡ false → notices_in list u ≡ told_to start s u)
+      → (u : ℕ) → (u == t) ≡ false → notices_in list' u ≡ told_to start s' u
+  pub own : notices_in list' t ≡ notices_in list t
 
 -- The lists of all transactions by slot, and what it is to wake waiters.
 

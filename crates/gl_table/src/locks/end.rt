@@ -6,9 +6,8 @@ ghost use Rattle.gl_modes.specs.declared.node.NodeId.{NodeId as Node};
 ghost use Rattle.gl_header.specs.Header.{is_among_waiters};
 ghost use Rattle.gl_table.specs.model.Calls.{released};
 ghost use Rattle.gl_table.specs.inside.Locks.{Agrees, AreExact, AreSound, CountsHeld, IsOrderly, state_in};
-ghost use Rattle.gl_table.specs.model.State.{State, status_of, with_txn, is_wait};
-ghost use Rattle.gl_table.specs.inside.Slots.{IsBySlot, notices_in};
-ghost use Rattle.gl_table.specs.model.Tellings.{IsOnWay, told_to};
+ghost use Rattle.gl_table.specs.model.State.{status_of, with_txn, is_wait};
+ghost use Rattle.gl_table.specs.inside.Slots.{IsBySlot, TellsOthers, notices_in};
 
 use crate::answers::Told;
 use crate::locks::Locks;
@@ -28,11 +27,7 @@ impl Locks {
         requires untold { (u : ℕ) → is_wait (status_of (state_in graph.now self.old) u) ≡ true → notices_in told.old.items u ≡ None }
         ensures exact { AreExact graph.now self.new }
         ensures state { state_in graph.now self.new ≡ released (state_in graph.now self.old) slot }
-        ensures by_slot { IsBySlot told.new.items }
-        ensures tells { (s : State) → IsOnWay s (state_in graph.now self.old)
-            → ((u : ℕ) → (u == slot) ≡ false → notices_in told.old.items u ≡ told_to s (state_in graph.now self.old) u)
-            → (u : ℕ) → (u == slot) ≡ false → notices_in told.new.items u ≡ told_to s (state_in graph.now self.new) u }
-        ensures own { notices_in told.new.items slot ≡ notices_in told.old.items slot }
+        ensures tells { TellsOthers slot (state_in graph.now self.old) (state_in graph.now self.new) told.old.items told.new.items }
     {
         if let Some(
             Seat {
@@ -57,11 +52,7 @@ impl Locks {
         requires untold { (u : ℕ) → is_wait (status_of (state_in graph.now self.old) u) ≡ true → notices_in told.old.items u ≡ None }
         ensures exact { AreExact graph.now self.new }
         ensures state { state_in graph.now self.new ≡ released (state_in graph.now self.old) slot }
-        ensures by_slot { IsBySlot told.new.items }
-        ensures tells { (s : State) → IsOnWay s (state_in graph.now self.old)
-            → ((u : ℕ) → (u == slot) ≡ false → notices_in told.old.items u ≡ told_to s (state_in graph.now self.old) u)
-            → (u : ℕ) → (u == slot) ≡ false → notices_in told.new.items u ≡ told_to s (state_in graph.now self.new) u }
-        ensures own { notices_in told.new.items slot ≡ notices_in told.old.items slot }
+        ensures tells { TellsOthers slot (state_in graph.now self.old) (state_in graph.now self.new) told.old.items told.new.items }
     {
         self.leave_all(graph, slot, told);
         self.lists[slot as usize].clear();
@@ -83,11 +74,7 @@ impl Locks {
         ensures out { (n : Node) → is_among_waiters slot ((state_in graph.now self.new).queue n) ≡ false }
         ensures agree { (u : ℕ) → (u == slot) ≡ false → Agrees (state_in graph.now self.new) self.new.lists.items u }
         ensures count { (u : ℕ) → (u == slot) ≡ false → CountsHeld (state_in graph.now self.new) self.new.lists.items u }
-        ensures by_slot { IsBySlot told.new.items }
-        ensures tells { (s : State) → IsOnWay s (state_in graph.now self.old)
-            → ((u : ℕ) → (u == slot) ≡ false → notices_in told.old.items u ≡ told_to s (state_in graph.now self.old) u)
-            → (u : ℕ) → (u == slot) ≡ false → notices_in told.new.items u ≡ told_to s (state_in graph.now self.new) u }
-        ensures own { notices_in told.new.items slot ≡ notices_in told.old.items slot }
+        ensures tells { TellsOthers slot (state_in graph.now self.old) (state_in graph.now self.new) told.old.items told.new.items }
     {
         graph.law();
         let mut granted = GrantList::new();

@@ -5,9 +5,8 @@ ghost use Rattle.gl_modes.specs.declared.node.NodeId.{NodeId as Node};
 ghost use Rattle.gl_table.specs.model.Calls.{shed};
 ghost use Rattle.gl_table.specs.inside.Lists.{mode_of, IsShedding};
 ghost use Rattle.gl_table.specs.inside.Locks.{Agrees, AreExact, AreSound, CountsHeld, IsOrderly, state_in};
-ghost use Rattle.gl_table.specs.model.State.{State, status_of, is_wait};
-ghost use Rattle.gl_table.specs.inside.Slots.{IsBySlot, notices_in};
-ghost use Rattle.gl_table.specs.model.Tellings.{IsOnWay, told_to};
+ghost use Rattle.gl_table.specs.model.State.{status_of, is_wait};
+ghost use Rattle.gl_table.specs.inside.Slots.{IsBySlot, TellsOthers, notices_in};
 ghost use Rattle.gl_table.specs.declared.txn.Status.TheVariants.{Active};
 
 use crate::answers::Told;
@@ -31,11 +30,7 @@ impl Locks {
         requires untold { (u : ℕ) → is_wait (status_of (state_in graph.now self.old) u) ≡ true → notices_in told.old.items u ≡ None }
         ensures exact { AreExact graph.now self.new }
         ensures state { state_in graph.now self.new ≡ shed (state_in graph.now self.old) slot node }
-        ensures by_slot { IsBySlot told.new.items }
-        ensures tells { (s : State) → IsOnWay s (state_in graph.now self.old)
-            → ((u : ℕ) → (u == slot) ≡ false → notices_in told.old.items u ≡ told_to s (state_in graph.now self.old) u)
-            → (u : ℕ) → (u == slot) ≡ false → notices_in told.new.items u ≡ told_to s (state_in graph.now self.new) u }
-        ensures own { notices_in told.new.items slot ≡ notices_in told.old.items slot }
+        ensures tells { TellsOthers slot (state_in graph.now self.old) (state_in graph.now self.new) told.old.items told.new.items }
     {
         graph.law();
         let empty = LockList::new(self.alloc);
@@ -70,11 +65,7 @@ impl Locks {
         ensures active { status_of (state_in graph.now self.new) slot ≡ Some Active }
         ensures marked { IsShedding (state_in graph.now self.old) (state_in graph.now self.new) slot node list.new }
         ensures modes { (q : Node) → mode_of list.new q ≡ (state_in graph.now self.new).held slot q }
-        ensures by_slot { IsBySlot told.new.items }
-        ensures tells { (s : State) → IsOnWay s (state_in graph.now self.old)
-            → ((u : ℕ) → (u == slot) ≡ false → notices_in told.old.items u ≡ told_to s (state_in graph.now self.old) u)
-            → (u : ℕ) → (u == slot) ≡ false → notices_in told.new.items u ≡ told_to s (state_in graph.now self.new) u }
-        ensures own { notices_in told.new.items slot ≡ notices_in told.old.items slot }
+        ensures tells { TellsOthers slot (state_in graph.now self.old) (state_in graph.now self.new) told.old.items told.new.items }
     {
         graph.law();
         let mut granted = GrantList::new();

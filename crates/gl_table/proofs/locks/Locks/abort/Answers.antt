@@ -37,8 +37,8 @@ pub returns-clause-state : goal.returns-clause-state
 returns-clause-state c = c.end.ensures.state ∙ (free (goal.at.returns-clause-state c).Joined-seat).released
 
 pub returns-clause-tells : goal.returns-clause-tells
-returns-clause-tells c = let f = free (goal.at.returns-clause-tells c).Joined-seat in
-    λ s way same. let now = f.tells s way same in c.end.ensures.tells s now.0 now.1
-
-pub returns-clause-own : goal.returns-clause-own
-returns-clause-own c = c.end.ensures.own ∙ (free (goal.at.returns-clause-own c).Joined-seat).own
+returns-clause-tells c = let f = free (goal.at.returns-clause-tells c).Joined-seat in let ends = c.end.ensures.tells in record {
+  by_slot = ends.by_slot;
+  others = λ s way same. let now = f.tells s way same in ends.others s now.0 now.1;
+  own = ends.own ∙ f.own;
+}

@@ -30,8 +30,13 @@ returns-clause-exact c =
 pub returns-clause-tells : goal.returns-clause-tells
 returns-clause-tells c =
     let left = c.leave_all.new.self in
+    let was = c.leave_all.ensures.tells in
     let now : State = state_in c.args.graph.now left in
     let seated : c.args.slot < length left.seats.items = subst (λ (k : ℕ). c.args.slot < k) (sym c.leave_all.ensures.len) c.requires.seated in
-    λ s way same u e. c.leave_all.ensures.tells s way same u e
-    ∙ sym (ap (λ x. told_to s x u) (state-freed now left.seats.items c.leave.new.self.items c.args.slot seated c.leave.ensures) ∙ gone_tells s now c.args.slot u
-    ∙ ap (λ b. if b then None else told_to s now u) e)
+    record {
+      by_slot = was.by_slot;
+      others = λ s way same u e. was.others s way same u e
+          ∙ sym (ap (λ x. told_to s x u) (state-freed now left.seats.items c.leave.new.self.items c.args.slot seated c.leave.ensures)
+          ∙ gone_tells s now c.args.slot u ∙ ap (λ b. if b then None else told_to s now u) e);
+      own = was.own;
+    }

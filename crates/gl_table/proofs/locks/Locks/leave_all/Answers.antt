@@ -111,4 +111,5 @@ returns-clause-free c =
     c.args.told.now.items c.loop-node.told.items c.loop-node.invariant.leaving (none c)
 
 pub returns-clause-tells : goal.returns-clause-tells
-returns-clause-tells c = λ s way same. (c.loop-node.invariant.leaving.tells s way same).1
+returns-clause-tells c = let is = c.loop-node.invariant.leaving in
+    record { by_slot = is.by_slot; others = λ s way same. (is.tells s way same).1; own = is.own }

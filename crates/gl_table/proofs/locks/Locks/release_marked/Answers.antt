@@ -37,7 +37,8 @@ returns-clause-state c =
     c.loop-at.invariant.releasing (λ i n le at. c.loop-at.invariant.passed i n (omega arith) at)
 
 pub returns-clause-tells : goal.returns-clause-tells
-returns-clause-tells c = λ s way same. (c.loop-at.invariant.releasing.tells s way same).1
+returns-clause-tells c = let is = c.loop-at.invariant.releasing in
+    record { by_slot = is.by_slot; others = λ s way same. (is.tells s way same).1; own = is.own }
 
 pub returns-clause-modes : goal.returns-clause-modes
 returns-clause-modes c =

@@ -16,5 +16,5 @@ returns-clause-state c =
 pub returns-clause-told : goal.returns-clause-told
 returns-clause-told c =
     told_ended c.self.inside c.self.invariant c.args.t.slot c.abort.new.self c.abort.ensures.state c.args.notices.now.items c.abort.new.told.items
-    c.requires.empty c.abort.ensures.by_slot c.abort.ensures.tells c.abort.ensures.own
+    c.requires.empty c.abort.ensures.tells
     ∙ ap (λ (v : TableView). told (state_of v) (state_of (view_of (record c.self.inside { locks = c.abort.new.self })))) c.self.view_is

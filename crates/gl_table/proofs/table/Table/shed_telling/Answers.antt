@@ -51,5 +51,5 @@ pub returns-clause-told : goal.returns-clause-told
 returns-clause-told c =
     told_shed c.self.inside c.self.invariant c.args.t.slot c.args.n
     (subst (λ (v : TableView). status_of (state_of v) c.args.t.slot ≡ Some Active) (sym c.self.view_is) c.requires.active) c.shed.new.self c.shed.ensures.state
-    c.args.notices.now.items c.shed.new.told.items c.requires.empty c.shed.ensures.by_slot c.shed.ensures.tells c.shed.ensures.own
+    c.args.notices.now.items c.shed.new.told.items c.requires.empty c.shed.ensures.tells
     ∙ ap (λ (v : TableView). told (state_of v) (state_of (view_of (record c.self.inside { locks = c.shed.new.self })))) c.self.view_is
