@@ -1,12 +1,13 @@
 -- Waits on one node that end without a grant, one after the other, and what is told. For moves.
 use Rattle.gl_table.proofs.Words.{[], ◌&&◌, ◌+◌, ◌<◌, ◌==◌, ◌||◌, ◌∙◌, ◌∷◌, ◌≡◌, ◌≤◌, Active, addressed, age_in, age_of, Agrees, and-false, and-true, ap, ap₂}
 use Rattle.gl_table.proofs.Words.{arith, Bool, both, clash, counted_by, false, filter, fits, freed, freed_unless, front, fun_ext, Graph, if◌then◌else◌}
-use Rattle.gl_table.proofs.Words.{is_among_waiters, is_live, is_wait, is_waiter, IsBySlot, IsOrderly, List, list_all, LockList, members, Mode, moved_to, NL}
-use Rattle.gl_table.proofs.Words.{NodeId, None, none_but, not, not-true, not_true, notice_of, notices_in, Option, or-false, or_right, other_number, refl}
-use Rattle.gl_table.proofs.Words.{restatus, room_by, same_mode, same_mode-equal, same_node, same_node-equal, same_node-refl, same_number, Some, some_is, split}
-use Rattle.gl_table.proofs.Words.{State, status_in, status_of, stays, Strikes, subst, sym, Told, told_from, told_to, true, Txn, TxnId, Waiter, Waiting}
-use Rattle.gl_table.proofs.Words.{waits_at, with_waiters, without_waiter, ℕ}
+use Rattle.gl_table.proofs.Words.{intends_over, is_among_waiters, is_live, is_wait, is_waiter, IsBySlot, IsOrderly, length, List, list_all, LockList, members}
+use Rattle.gl_table.proofs.Words.{Mode, mode_of, moved_to, NL, NodeId, None, none_but, not, not-true, not_true, notice_of, notices_in, Option, or-false}
+use Rattle.gl_table.proofs.Words.{or_right, other_number, refl, restatus, room_by, same_mode, same_mode-equal, same_node, same_node-equal, same_node-refl}
+use Rattle.gl_table.proofs.Words.{same_number, slice_index_or, Some, some_is, split, State, status_in, status_of, stays, Strikes, subst, sym, Told, told_from}
+use Rattle.gl_table.proofs.Words.{told_to, true, Txn, TxnId, Waiter, Waiting, waits_at, with_waiters, without_waiter, ℕ}
 use Rattle.gl_table.specs.declared.answers.Notice.TheVariants as notice
+use Rattle.gl_table.proofs.inside.Slots.{by_list-at}
 use Rattle.gl_table.proofs.law.Strays.{all_filtered, all_of_some, all_or_chosen, among_failing, filter_all, stuck_front, without_chosen}
 use Rattle.gl_table.proofs.law.Takes.{restatus_is}
 use Rattle.gl_table.proofs.queues.Edits.{any_left, freed_other, one_left, one_stays, out_of_without, without_filter}
@@ -15,6 +16,12 @@ use Rattle.gl_table.proofs.telling.Fronts.{stands_there, waiters_below, waits_th
 use Rattle.gl_table.proofs.telling.Ways.{is_by_test, quiet_told}
 
 -- Waits on one node that end without a grant: the state, the lists and the notices while some of them still stand.
+
+-- whether the list of a waiter allows its wait is whether the wait stays
+pub allowed_stays : (s : State) (ls : List LockList) (ps : List NodeId) (w : Waiter) (l : LockList) → w.0 < length ls → l ≡ slice_index_or ls w.0 l
+    → Agrees s ls w.0 → intends_over (mode_of l) ps w.1 ≡ stays s ps w
+allowed_stays s ls ps w l low at agree =
+    ap (λ h. intends_over h ps w.1) (fun_ext (λ q. sym (by_list-at (λ x. mode_of x q) NL ls w.0 l low at) ∙ agree.modes q))
 
 -- the waits on n that fail a test are out of its queue, and their owners are active
 abbrev pub thinned : State → NodeId → (Waiter → Bool) → State

@@ -1,11 +1,10 @@
 -- Waiters whose modes do not meet the rule of the graph, and queues without them. For moves.
-use Rattle.gl_table.proofs.Words.{[], ◌&&◌, ◌+◌, ◌<◌, ◌==◌, ◌||◌, ◌∙◌, ◌∷◌, ◌≡◌, Agrees, and_both, ap, ap₂, arith, Bool, both, clash, false, filter}
-use Rattle.gl_table.proofs.Words.{filter-append, first_not_ix, first_of_all, fits, front, fun_ext, get_or, if◌then◌else◌, intends_over, is_among_waiters}
-use Rattle.gl_table.proofs.Words.{is_none, is_waiter, is_write, length, List, list_all, list_any_at, LockList, Members, Mode, mode_of, nat_tests, NL, NodeId}
-use Rattle.gl_table.proofs.Words.{None, not, not-true, number_same, Option, or_elim, or_left, or_no, or_right, refl, Refusal, rule_refusal, slice_index_or}
-use Rattle.gl_table.proofs.Words.{Some, split, State, stays, sym, take, take_more, true, Waiter, with_mode, without_waiter, ℕ}
+use Rattle.gl_table.proofs.Words.{[], ◌&&◌, ◌+◌, ◌<◌, ◌==◌, ◌||◌, ◌∙◌, ◌∷◌, ◌≡◌, and_both, ap, ap₂, arith, Bool, both, clash, false, filter, filter-append}
+use Rattle.gl_table.proofs.Words.{first_not_ix, first_of_all, fits, front, get_or, if◌then◌else◌, intends_over, is_among_waiters, is_none, is_waiter, is_write}
+use Rattle.gl_table.proofs.Words.{length, List, list_all, list_any_at, Members, Mode, nat_tests, NodeId, None, not, not-true, number_same, Option, or_elim}
+use Rattle.gl_table.proofs.Words.{or_left, or_no, or_right, refl, Refusal, rule_refusal, Some, split, sym, take, take_more, true, Waiter, with_mode}
+use Rattle.gl_table.proofs.Words.{without_waiter, ℕ}
 use Rattle.gl_waits.specs.Sets.{has_slot}
-use Rattle.gl_table.proofs.inside.Slots.{by_list-at}
 use Rattle.gl_table.proofs.law.Tests.{rule_met}
 use Rattle.gl_table.proofs.queues.Edits.{filter_no, filter_yes}
 use Rattle.gl_table.proofs.queues.Waiters.{among_append}
@@ -71,12 +70,6 @@ module _ (f : Waiter → Bool) (q : List Waiter) (i : ℕ) (d w : Waiter) (low :
 -- who stands at a place is a waiter
 pub among_at : (q q' : List Waiter) (i : ℕ) (d : Waiter) → q ≡ q' → i < length q → is_among_waiters (get_or q i d).0 q' ≡ true
 among_at q q' i d same low = ap (is_among_waiters (get_or q i d).0) (sym same) ∙ list_any_at (is_waiter (get_or q i d).0) q i d low (number_same _ _ refl)
-
--- whether the list of a waiter allows its wait is whether the wait stays
-pub allowed_stays : (s : State) (ls : List LockList) (ps : List NodeId) (w : Waiter) (l : LockList) → w.0 < length ls → l ≡ slice_index_or ls w.0 l
-    → Agrees s ls w.0 → intends_over (mode_of l) ps w.1 ≡ stays s ps w
-allowed_stays s ls ps w l low at agree =
-    ap (λ h. intends_over h ps w.1) (fun_ext (λ q. sym (by_list-at (λ x. mode_of x q) NL ls w.0 l low at) ∙ agree.modes q))
 
 -- tests of a queue
 

@@ -1,6 +1,7 @@
 use Rattle.gl_table.proofs.Words.{◌+◌, ◌<◌, ◌∙◌, ◌≡◌, ap, arith, Bool, graph_of, header_or_new, HeaderState, intends_over, length, List, mode_of, NL, NodeId}
 use Rattle.gl_table.proofs.Words.{not, parents_of, queue_of, refl, slice_index_or, State, state_in, stays, subst, sym, take, Waiter, ℕ}
-use Rattle.gl_table.proofs.law.Strays.{allowed_stays, among_at, IsSetOf, set-with, set-without}
+use Rattle.gl_table.proofs.inside.TurnedAway.{allowed_stays}
+use Rattle.gl_table.proofs.law.Strays.{among_at, IsSetOf, set-with, set-without}
 use Rattle.gl_table.proofs.telling.Fronts.{waiters_below}
 use Rattle.gl_table.proofs.locks.Locks.strays.Goals.{then-not-is_allowed, else-not-is_allowed}
 use Rattle.gl_table.proofs.locks.Locks.strays.Goals as goal
