@@ -117,9 +117,9 @@ pub use Rattle.gl_table.specs.model.Lawful.{SettlingFrees}
 pub use Rattle.gl_table.specs.model.Table.{AreRowsOf, board_of, entry_at, is_row_of, ListsAgree, row_of, rows_of, shown, StandOnce, state_of, TableView}
 pub use Rattle.gl_table.specs.model.Deadlocks.{has_row, IsDeadlock, IsStuck, LocksKeeping, name_at, RowsLeadOn, SettlesKeeping, SettlesKeepingWithin}
 pub use Rattle.gl_table.specs.model.Deadlocks.{VictimHasRow, WaitSettlesKeeping}
-pub use Rattle.gl_table.specs.inside.Slots.{AreApart, by_list, CanFree, CanHold, CanStrike, CanWake, counted_by, Frees, FreesLists, FreesTold, grant_notice}
-pub use Rattle.gl_table.specs.inside.Slots.{HasRoomAt, held_by, Holds, is_rising, IsBySlot, KeepsLists, listed_by, mode_given, notices_in, room_by, Strikes}
-pub use Rattle.gl_table.specs.inside.Slots.{TellsOthers, unlisted_by, Wakes, WakesLists, WakesTold}
+pub use Rattle.gl_table.specs.inside.Slots.{AreApart, by_list, CanFree, CanHold, CanStrike, CanTell, CanWake, counted_by, Frees, FreesLists, FreesTold}
+pub use Rattle.gl_table.specs.inside.Slots.{grant_notice, HasRoomAt, held_by, Holds, is_rising, IsBySlot, KeepsLists, listed_by, mode_given, notices_in}
+pub use Rattle.gl_table.specs.inside.Slots.{room_by, Strikes, TellsOthers, unlisted_by, Wakes, WakesLists, WakesTold}
 pub use Rattle.gl_table.specs.inside.Headers.{AreHeaders, AreHeadersBut, Entries, header_at, header_or_new, held_of, is_granted_at, IsOneHolder, members_at}
 pub use Rattle.gl_table.specs.inside.Headers.{queue_of, with_members, with_waiters}
 pub use Rattle.gl_table.specs.model.State.{age_in, age_of, awake, blocks, choosing, condemned, empty_state, front_at, granted_at, HasNoCycle, intends}

@@ -16,7 +16,7 @@ ghost use Rattle.gl_table.specs.inside.Locks.{Agrees, AreSound, CountsHeld, IsOr
 ghost use Rattle.gl_table.specs.inside.Seats.{txn_in, txns_of};
 ghost use Rattle.gl_table.specs.model.Lawful.{effect_on};
 ghost use Rattle.gl_table.specs.model.Table.{row_of};
-ghost use Rattle.gl_table.specs.inside.Slots.{CanWake, Wakes, WakesLists, WakesTold, by_list, counted_by, held_by, IsBySlot, notices_in};
+ghost use Rattle.gl_table.specs.inside.Slots.{CanTell, CanWake, IsBySlot, Wakes, WakesLists, WakesTold, by_list, counted_by, held_by, notices_in};
 
 use crate::answers::{Effect, LockRow, Told};
 use crate::effective::effective;
@@ -170,8 +170,7 @@ impl Locks {
         requires no_wait { is_among_waiters slot ((state_in graph.now self.old).queue node) ≡ false }
         requires agree { (u : ℕ) → is_among_waiters u ((state_in graph.now self.old).queue node) ≡ true → Agrees (state_in graph.now self.old) self.old.lists.items u }
         requires count { (u : ℕ) → is_among_waiters u ((state_in graph.now self.old).queue node) ≡ true → CountsHeld (state_in graph.now self.old) self.old.lists.items u }
-        requires by_slot { IsBySlot told.old.items }
-        requires untold { (u : ℕ) → is_among_waiters u ((state_in graph.now self.old).queue node) ≡ true → notices_in told.old.items u ≡ None }
+        requires tell { CanTell told.old.items (λ u. is_among_waiters u ((state_in graph.now self.old).queue node)) }
         ensures sound { AreSound self.new }
         ensures state { state_in graph.now self.new ≡ unlocked (state_in graph.now self.old) slot node }
         ensures lists { WakesLists self.old.lists.items node (parents_of (graph_of graph.now) node) (front_at (with_grant (state_in graph.now self.old) slot node NL) node) self.new.lists.items }

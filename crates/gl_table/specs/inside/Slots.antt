@@ -38,6 +38,11 @@ pub record IsBySlot (told : Told) : Type 0 where
 abbrev pub notices_in : Told → ℕ → Option (TxnId × Notice)
 notices_in told u = find (λ x. x.0.slot == u) told
 
+-- more can be told: the list is by slot, and has no notice for these
+pub record CanTell (list : Told) (who : ℕ → Bool) : Type 0 where
+  pub by_slot : IsBySlot list
+  pub untold : (u : ℕ) → who u ≡ true → notices_in list u ≡ None
+
 -- the list goes on from what all but this slot are told of the way to one state to what they are told of the way to another; the slot is told nothing more
 pub record TellsOthers (t : ℕ) (s s' : State) (list list' : Told) : Type 0 where
   pub by_slot : IsBySlot list'

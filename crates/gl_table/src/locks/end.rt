@@ -7,7 +7,7 @@ ghost use Rattle.gl_header.specs.Header.{is_among_waiters};
 ghost use Rattle.gl_table.specs.model.Calls.{released};
 ghost use Rattle.gl_table.specs.inside.Locks.{Agrees, AreExact, AreSound, CountsHeld, IsOrderly, state_in};
 ghost use Rattle.gl_table.specs.model.State.{status_of, with_txn, is_wait};
-ghost use Rattle.gl_table.specs.inside.Slots.{IsBySlot, TellsOthers, notices_in};
+ghost use Rattle.gl_table.specs.inside.Slots.{CanTell, TellsOthers};
 
 use crate::answers::Told;
 use crate::locks::Locks;
@@ -23,8 +23,7 @@ impl Locks {
         requires exact { AreExact graph.now self.old }
         requires orderly { IsOrderly (state_in graph.now self.old) }
         requires seated { slot < length self.old.seats.items }
-        requires by_slot { IsBySlot told.old.items }
-        requires untold { (u : ℕ) → is_wait (status_of (state_in graph.now self.old) u) ≡ true → notices_in told.old.items u ≡ None }
+        requires tell { CanTell told.old.items (λ u. is_wait (status_of (state_in graph.now self.old) u)) }
         ensures exact { AreExact graph.now self.new }
         ensures state { state_in graph.now self.new ≡ released (state_in graph.now self.old) slot }
         ensures tells { TellsOthers slot (state_in graph.now self.old) (state_in graph.now self.new) told.old.items told.new.items }
@@ -48,8 +47,7 @@ impl Locks {
         requires orderly { IsOrderly (state_in graph.now self.old) }
         requires seated { slot < length self.old.seats.items }
         requires quiet { is_wait (status_of (state_in graph.now self.old) slot) ≡ false }
-        requires by_slot { IsBySlot told.old.items }
-        requires untold { (u : ℕ) → is_wait (status_of (state_in graph.now self.old) u) ≡ true → notices_in told.old.items u ≡ None }
+        requires tell { CanTell told.old.items (λ u. is_wait (status_of (state_in graph.now self.old) u)) }
         ensures exact { AreExact graph.now self.new }
         ensures state { state_in graph.now self.new ≡ released (state_in graph.now self.old) slot }
         ensures tells { TellsOthers slot (state_in graph.now self.old) (state_in graph.now self.new) told.old.items told.new.items }
@@ -65,8 +63,7 @@ impl Locks {
         requires orderly { IsOrderly (state_in graph.now self.old) }
         requires seated { slot < length self.old.seats.items }
         requires quiet { is_wait (status_of (state_in graph.now self.old) slot) ≡ false }
-        requires by_slot { IsBySlot told.old.items }
-        requires untold { (u : ℕ) → is_wait (status_of (state_in graph.now self.old) u) ≡ true → notices_in told.old.items u ≡ None }
+        requires tell { CanTell told.old.items (λ u. is_wait (status_of (state_in graph.now self.old) u)) }
         ensures sound { AreSound self.new }
         ensures len { length self.new.seats.items ≡ length self.old.seats.items }
         ensures state { released (state_in graph.now self.old) slot ≡ with_txn (state_in graph.now self.new) slot None }

@@ -6,7 +6,7 @@ ghost use Rattle.gl_header.specs.Header.{holds, is_among_waiters};
 ghost use Rattle.gl_table.specs.model.Calls.{unlocked, held_children};
 ghost use Rattle.gl_table.specs.inside.Locks.{AreExact, IsOrderly, state_in};
 ghost use Rattle.gl_table.specs.model.State.{front_at, members, status_of, with_grant};
-ghost use Rattle.gl_table.specs.inside.Slots.{AreApart, CanStrike, Strikes, WakesTold, IsBySlot, notices_in};
+ghost use Rattle.gl_table.specs.inside.Slots.{AreApart, CanStrike, CanTell, Strikes, WakesTold};
 ghost use Rattle.gl_table.specs.declared.txn.Status.TheVariants.{Active};
 
 use crate::answers::Told;
@@ -36,8 +36,7 @@ impl Locks {
         requires active { status_of (state_in graph.now self.old) slot ≡ Some Active }
         requires holds { holds (members (state_in graph.now self.old) node) slot ≡ true }
         requires childless { held_children (state_in graph.now self.old) slot node ≡ 0 }
-        requires by_slot { IsBySlot told.old.items }
-        requires untold { (u : ℕ) → is_among_waiters u ((state_in graph.now self.old).queue node) ≡ true → notices_in told.old.items u ≡ None }
+        requires tell { CanTell told.old.items (λ u. is_among_waiters u ((state_in graph.now self.old).queue node)) }
         ensures exact { AreExact graph.now self.new }
         ensures state { state_in graph.now self.new ≡ unlocked (state_in graph.now self.old) slot node }
         ensures tells { WakesTold (state_in graph.now self.old).txns node (front_at (with_grant (state_in graph.now self.old) slot node NL) node) told.old.items told.new.items }

@@ -20,7 +20,7 @@ ghost use Rattle.gl_modes.specs.Modes.{same_mode};
 ghost use Rattle.gl_table.specs.inside.Lists.{IsApart, count_of, is_listed, mode_of, unlisted};
 ghost use Rattle.gl_table.specs.inside.Locks.{Agrees, AreSound, IsOrderly, state_in};
 ghost use Rattle.gl_table.specs.inside.Seats.{txns_of};
-ghost use Rattle.gl_table.specs.inside.Slots.{AreApart, Strikes, counted_by, room_by, unlisted_by, IsBySlot, notices_in};
+ghost use Rattle.gl_table.specs.inside.Slots.{AreApart, CanTell, IsBySlot, Strikes, counted_by, notices_in, room_by, unlisted_by};
 
 use arrayvec::ArrayVec;
 use crate::answers::{Notice, Told};
@@ -136,8 +136,7 @@ impl Locks {
         requires agree { (u : ℕ) → Agrees (state_in graph.now self.old) self.old.lists.items u }
         requires newcomers { (u : ℕ) → is_among_waiters u ((state_in graph.now self.old).queue node) ≡ true → (state_in graph.now self.old).held u node ≡ NL }
         requires stuck { list_all (λ w. not (fits slot_limit (members (state_in graph.now self.old) node) w.0 w.1)) ((state_in graph.now self.old).queue node) ≡ true }
-        requires by_slot { IsBySlot told.old.items }
-        requires untold { (u : ℕ) → is_among_waiters u ((state_in graph.now self.old).queue node) ≡ true → notices_in told.old.items u ≡ None }
+        requires tell { CanTell told.old.items (λ u. is_among_waiters u ((state_in graph.now self.old).queue node)) }
         ensures sound { AreSound self.new }
         ensures state { state_in graph.now self.new ≡ moved_to (state_in graph.now self.old) node (parents_of (graph_of graph.now) node) (graph_of graph.now) }
         ensures agree { (u : ℕ) → Agrees (state_in graph.now self.new) self.new.lists.items u }

@@ -10,7 +10,7 @@ ghost use Rattle.gl_graph.specs.Shapes.{is_record_shape};
 ghost use Rattle.gl_graph.specs.View.{graph_of};
 ghost use Rattle.gl_header.specs.Header.{holds, is_among_waiters};
 ghost use Rattle.gl_table.specs.model.Calls.{deleted};
-ghost use Rattle.gl_table.specs.inside.Slots.{CanFree, Frees, FreesTold, HasRoomAt, KeepsLists, IsBySlot, notices_in};
+ghost use Rattle.gl_table.specs.inside.Slots.{CanFree, CanTell, Frees, FreesTold, HasRoomAt, KeepsLists};
 ghost use Rattle.gl_table.specs.inside.Locks.{Agrees, AreExact, AreSound, CountsHeld, IsOrderly, state_in, state_on};
 ghost use Rattle.gl_table.specs.inside.Headers.{IsOneHolder};
 ghost use Rattle.gl_table.specs.model.State.{members, status_of, with_grant};
@@ -59,8 +59,7 @@ impl Locks {
         requires record { is_record_shape (shape_of (graph_of graph.now) rec) ≡ true }
         requires holds { holds (members (state_in graph.now self.old) rec) slot ≡ true }
         requires alone { (u : ℕ) → (u == slot) ≡ false → (state_in graph.now self.old).held u rec ≡ NL }
-        requires by_slot { IsBySlot told.old.items }
-        requires untold { (u : ℕ) → is_among_waiters u ((state_in graph.now self.old).queue rec) ≡ true → notices_in told.old.items u ≡ None }
+        requires tell { CanTell told.old.items (λ u. is_among_waiters u ((state_in graph.now self.old).queue rec)) }
         ensures sound { AreSound self.new }
         ensures state { state_on (without_node (graph_of graph.now) rec) self.new ≡ deleted (state_in graph.now self.old) rec }
         ensures agree { (u : ℕ) → Agrees (deleted (state_in graph.now self.old) rec) self.new.lists.items u }

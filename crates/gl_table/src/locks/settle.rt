@@ -7,7 +7,7 @@ ghost use Rattle.gl_table.specs.inside.Locks.{AreExact, AreSound, IsOrderly, sta
 ghost use Rattle.gl_table.specs.model.Calls.{WaitSettles};
 ghost use Rattle.gl_table.specs.model.Deadlocks.{SettlesKeeping, WaitSettlesKeeping};
 ghost use Rattle.gl_table.specs.model.State.{condemned, State, status_of, IsVictim, Settled, is_wait, waits_for};
-ghost use Rattle.gl_table.specs.inside.Slots.{IsBySlot, notices_in};
+ghost use Rattle.gl_table.specs.inside.Slots.{CanTell, IsBySlot, notices_in};
 ghost use Rattle.gl_table.specs.model.Tellings.{told_but, IsOnWay, told_to};
 
 use crate::answers::{Detect, Notice, Told};
@@ -60,8 +60,7 @@ impl Locks {
         requires exact { AreExact graph.now self.old }
         requires orderly { IsOrderly (state_in graph.now self.old) }
         requires seated { slot < length self.old.seats.items }
-        requires by_slot { IsBySlot told.old.items }
-        requires untold { (u : ℕ) → is_wait (status_of (state_in graph.now self.old) u) ≡ true → notices_in told.old.items u ≡ None }
+        requires tell { CanTell told.old.items (λ u. is_wait (status_of (state_in graph.now self.old) u)) }
         ensures exact { AreExact graph.now self.new }
         ensures state { Settled victims (state_in graph.now self.old) slot (state_in graph.now self.new) }
         ensures deadlock { SettlesKeeping victims (state_in graph.now self.old) slot deadlock.old (state_in graph.now self.new) deadlock.new }
@@ -99,8 +98,7 @@ impl Locks {
         requires exact { AreExact graph.now self.old }
         requires orderly { IsOrderly (state_in graph.now self.old) }
         requires waits { is_wait (status_of (state_in graph.now self.old) slot) ≡ true }
-        requires by_slot { IsBySlot told.old.items }
-        requires untold { (u : ℕ) → is_wait (status_of (state_in graph.now self.old) u) ≡ true → notices_in told.old.items u ≡ None }
+        requires tell { CanTell told.old.items (λ u. is_wait (status_of (state_in graph.now self.old) u)) }
         ensures exact { AreExact graph.now self.new }
         ensures orderly { IsOrderly (state_in graph.now self.new) }
         ensures state { state_in graph.now self.new ≡ condemned (state_in graph.now self.old) slot }

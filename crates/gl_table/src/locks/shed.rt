@@ -6,7 +6,7 @@ ghost use Rattle.gl_table.specs.model.Calls.{shed};
 ghost use Rattle.gl_table.specs.inside.Lists.{mode_of, IsShedding};
 ghost use Rattle.gl_table.specs.inside.Locks.{Agrees, AreExact, AreSound, CountsHeld, IsOrderly, state_in};
 ghost use Rattle.gl_table.specs.model.State.{status_of, is_wait};
-ghost use Rattle.gl_table.specs.inside.Slots.{IsBySlot, TellsOthers, notices_in};
+ghost use Rattle.gl_table.specs.inside.Slots.{CanTell, TellsOthers};
 ghost use Rattle.gl_table.specs.declared.txn.Status.TheVariants.{Active};
 
 use crate::answers::Told;
@@ -26,8 +26,7 @@ impl Locks {
         requires exact { AreExact graph.now self.old }
         requires orderly { IsOrderly (state_in graph.now self.old) }
         requires active { status_of (state_in graph.now self.old) slot ≡ Some Active }
-        requires by_slot { IsBySlot told.old.items }
-        requires untold { (u : ℕ) → is_wait (status_of (state_in graph.now self.old) u) ≡ true → notices_in told.old.items u ≡ None }
+        requires tell { CanTell told.old.items (λ u. is_wait (status_of (state_in graph.now self.old) u)) }
         ensures exact { AreExact graph.now self.new }
         ensures state { state_in graph.now self.new ≡ shed (state_in graph.now self.old) slot node }
         ensures tells { TellsOthers slot (state_in graph.now self.old) (state_in graph.now self.new) told.old.items told.new.items }
@@ -55,8 +54,7 @@ impl Locks {
         requires count { (u : ℕ) → (u == slot) ≡ false → CountsHeld (state_in graph.now self.old) self.old.lists.items u }
         requires active { status_of (state_in graph.now self.old) slot ≡ Some Active }
         requires marked { IsShedding (state_in graph.now self.old) (state_in graph.now self.old) slot node list.old }
-        requires by_slot { IsBySlot told.old.items }
-        requires untold { (u : ℕ) → is_wait (status_of (state_in graph.now self.old) u) ≡ true → notices_in told.old.items u ≡ None }
+        requires tell { CanTell told.old.items (λ u. is_wait (status_of (state_in graph.now self.old) u)) }
         ensures sound { AreSound self.new }
         ensures orderly { IsOrderly (state_in graph.now self.new) }
         ensures state { state_in graph.now self.new ≡ shed (state_in graph.now self.old) slot node }

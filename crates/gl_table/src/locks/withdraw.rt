@@ -5,7 +5,7 @@ ghost use Rattle.gl_modes.specs.declared.mode.Mode.{Mode as AMode};
 ghost use Rattle.gl_modes.specs.declared.node.NodeId.{NodeId as Node};
 ghost use Rattle.gl_table.specs.inside.Locks.{AreExact, IsOrderly, state_in};
 ghost use Rattle.gl_table.specs.model.State.{front_at, is_waiting_at, pumped, without_wait, status_of, is_wait};
-ghost use Rattle.gl_table.specs.inside.Slots.{WakesTold, IsBySlot, notices_in};
+ghost use Rattle.gl_table.specs.inside.Slots.{CanTell, WakesTold};
 ghost use Rattle.gl_table.specs.declared.txn.Status.TheVariants.{Waiting};
 
 use crate::answers::Told;
@@ -28,8 +28,7 @@ impl Locks {
         requires orderly { IsOrderly (state_in graph.now self.old) }
         requires waits { is_waiting_at (state_in graph.now self.old) slot node ≡ true }
         requires quiet { (q : Node) (m : AMode) → Some status ≡ Some (Waiting q m) → ⊥ }
-        requires by_slot { IsBySlot told.old.items }
-        requires untold { (u : ℕ) → is_wait (status_of (state_in graph.now self.old) u) ≡ true → notices_in told.old.items u ≡ None }
+        requires tell { CanTell told.old.items (λ u. is_wait (status_of (state_in graph.now self.old) u)) }
         ensures exact { AreExact graph.now self.new }
         ensures state { state_in graph.now self.new ≡ pumped (without_wait (state_in graph.now self.old) slot status) (is_waiting_at (state_in graph.now self.old) slot) }
         ensures tells { WakesTold (state_in graph.now self.old).txns node (front_at (without_wait (state_in graph.now self.old) slot status) node) told.old.items told.new.items }

@@ -1,4 +1,4 @@
-use Rattle.gl_table.proofs.Words.{◌∙◌, ◌≡◌, ap, cancelled, false, is_wait, rules, State, state_in, status_of}
+use Rattle.gl_table.proofs.Words.{◌∙◌, ◌≡◌, ap, cancelled, false, is_wait, IsBySlot, rules, State, state_in, status_of, subst, sym}
 use Rattle.gl_table.proofs.inside.Departures.{free_cancelled, free_idle, free_same, IsFree}
 use Rattle.gl_table.proofs.locks.Locks.abort.Goals.{Joined-seat, in-Some-Waiting, in-Some+in-Active-1, in-None-1}
 use Rattle.gl_table.proofs.locks.Locks.abort.Goals as goal
@@ -10,7 +10,7 @@ idle : (c : Joined-seat) → is_wait (status_of (before c) c.args.slot) ≡ fals
     → IsFree (before c) (state_in c.args.graph.now c.match-seat.self) c.args.slot c.args.told.now.items c.match-seat.told.items
 idle c quiet self told =
     free_same (before c) (before c) _ c.args.slot c.args.told.now.items c.args.told.now.items _ (ap (state_in c.args.graph.now) self) (ap (λ x. x.items) told)
-    (free_idle (before c) c.args.slot c.args.told.now.items c.requires.orderly quiet c.requires.untold)
+    (free_idle (before c) c.args.slot c.args.told.now.items c.requires.orderly quiet c.requires.tell.untold)
 
 -- the slot waits for nothing, once its wait is taken back, if it has one
 free : (c : Joined-seat) → IsFree (before c) (state_in c.args.graph.now c.match-seat.self) c.args.slot c.args.told.now.items c.match-seat.told.items
@@ -19,7 +19,7 @@ free c = elim c.match-seat.branch [
       free_same (before c) (cancelled (before c) c.args.slot) _ c.args.slot c.args.told.now.items w.withdraw.new.told.items _
       (ap (state_in c.args.graph.now) w.self-is ∙ w.withdraw.ensures.state) (ap (λ x. x.items) w.told-is)
       (free_cancelled (before c) c.requires.orderly c.args.slot w.in-Some-Waiting.node (search rules) c.args.told.now.items w.withdraw.new.told.items
-      w.withdraw.ensures.tells c.requires.untold)
+      w.withdraw.ensures.tells c.requires.tell.untold)
   | in-Some+in-Active-1 w ↦ idle c (search rules) w.self-is w.told-is
   | in-None-1 w ↦ idle c (search rules) w.self-is w.told-is
 ]
@@ -30,8 +30,16 @@ end-requires-clause-orderly c = (free (goal.at.end-requires-clause-orderly c).Jo
 pub end-requires-clause-quiet : goal.end-requires-clause-quiet
 end-requires-clause-quiet c = (free (goal.at.end-requires-clause-quiet c).Joined-seat).quiet
 
-pub end-requires-clause-untold : goal.end-requires-clause-untold
-end-requires-clause-untold c = (free (goal.at.end-requires-clause-untold c).Joined-seat).untold
+-- what was told so far is by slot
+by_slot : (c : Joined-seat) → IsBySlot c.match-seat.told.items
+by_slot c = elim c.match-seat.branch [
+  | in-Some-Waiting w ↦ subst IsBySlot (sym (ap (λ x. x.items) w.told-is)) w.withdraw.ensures.tells.by_slot
+  | in-Some+in-Active-1 w ↦ subst IsBySlot (sym (ap (λ x. x.items) w.told-is)) c.requires.tell.by_slot
+  | in-None-1 w ↦ subst IsBySlot (sym (ap (λ x. x.items) w.told-is)) c.requires.tell.by_slot
+]
+
+pub end-requires-clause-tell : goal.end-requires-clause-tell
+end-requires-clause-tell c = let at = (goal.at.end-requires-clause-tell c).Joined-seat in record { by_slot = by_slot at; untold = (free at).untold }
 
 pub returns-clause-state : goal.returns-clause-state
 returns-clause-state c = c.end.ensures.state ∙ (free (goal.at.returns-clause-state c).Joined-seat).released

@@ -15,7 +15,7 @@ pub tell-requires-clause-absent : goal.tell-requires-clause-absent
 tell-requires-clause-absent c = let w = waits (goal.at.tell-requires-clause-absent c).After-withdraw in
     victim_absent (before (goal.at.tell-requires-clause-absent c).After-withdraw) c.requires.orderly c.args.slot c.in-Some-Waiting.node w.0 w.1
     c.args.told.now.items c.withdraw.new.told.items c.withdraw.ensures.tells
-    (c.requires.untold c.args.slot c.requires.waits)
+    (c.requires.tell.untold c.args.slot c.requires.waits)
 
 tells : (c : After-tell) → TellsVictim (state_in c.args.graph.now c.args.self.now) c.args.slot c.in-Some-Waiting.node c.args.told.now.items
     c.tell.new.told.items
@@ -30,7 +30,7 @@ returns-in-Some-Waiting-clause-orderly c = let s = state_in c.args.graph.now c.a
 pub returns-in-Some-Waiting-clause-untold : goal.returns-in-Some-Waiting-clause-untold
 returns-in-Some-Waiting-clause-untold c = let at = goal.at.returns-in-Some-Waiting-clause-untold c in let w = waits at.After-withdraw in
     λ u h. victim_untold (before at.After-withdraw) c.requires.orderly c.args.slot c.in-Some-Waiting.node w.0 w.1 c.args.told.now.items c.tell.new.told.items
-    (tells at.After-tell) c.requires.untold u
+    (tells at.After-tell) c.requires.tell.untold u
     (ap (λ (x : State). is_wait (status_of x u)) (sym c.withdraw.ensures.state) ∙ h)
 
 pub returns-in-Some-Waiting-clause-ways : goal.returns-in-Some-Waiting-clause-ways

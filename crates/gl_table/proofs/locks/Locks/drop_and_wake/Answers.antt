@@ -9,7 +9,7 @@ wake_granted-requires c =
     can_wake_front (graph_of c.args.graph.now) c.args.self.now c.law.ensures.lawful c.requires.sound c.requires.orderly c.args.node
     (with_grant s c.args.slot c.args.node NL)
     (well_granted s c.requires.orderly c.args.slot c.args.node NL c.args.node) (λ u h. h) c.requires.agree c.requires.count c.args.told.now.items
-    c.requires.by_slot c.requires.untold _
+    c.requires.tell.by_slot c.requires.tell.untold _
     (c.as_slice.ensures.value ∙ c.drop_grant.ensures.granted ∙ released_front s c.requires.orderly c.requires.sound.few c.args.slot c.args.node)
 
 abbrev before : goal.After-wake_granted → State

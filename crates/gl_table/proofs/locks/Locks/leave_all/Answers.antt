@@ -8,7 +8,7 @@ pub loop-node-init : goal.loop-node-init
 loop-node-init c = record {
   sound = c.requires.exact.sound;
   leaving = leaving_begins (state_in c.args.graph.now c.args.self.now) c.args.slot c.args.self.now.lists.items c.args.told.now.items c.requires.orderly
-      c.requires.quiet c.requires.exact.agree c.requires.exact.count c.requires.by_slot c.requires.untold;
+      c.requires.quiet c.requires.exact.agree c.requires.exact.count c.requires.tell.by_slot c.requires.tell.untold;
 }
 
 pub drop_and_wake-requires-clause-sound : goal.drop_and_wake-requires-clause-sound

@@ -9,7 +9,7 @@ loop-strays-init c =
     record {
       sound = c.requires.sound;
       turning = turning_begins s c.requires.orderly c.args.node (stays s (parents_of (graph_of c.args.graph.now) c.args.node)) (has_slot c.strays-strays.result)
-          c.args.self.now.lists.items c.args.told.now.items c.requires.agree c.requires.by_slot
+          c.args.self.now.lists.items c.args.told.now.items c.requires.agree c.requires.tell.by_slot
           c.strays-strays.ensures;
     }
 
@@ -51,7 +51,7 @@ turn_one_away-requires-clause-absent c =
     turned_untold s c.requires.orderly c.args.node (stays s (parents_of (graph_of c.args.graph.now) c.args.node)) c.requires.newcomers
     (state_in c.args.graph.now c.loop-strays.self) (has_slot c.loop-strays.strays)
     c.args.self.now.lists.items c.loop-strays.self.lists.items c.args.told.now.items c.loop-strays.told.items c.loop-strays.invariant.turning
-    c.take_lowest-slot.result.0 c.take_lowest-slot.ensures.member c.requires.untold
+    c.take_lowest-slot.result.0 c.take_lowest-slot.ensures.member c.requires.tell.untold
 
 pub loop-strays-preserved : goal.loop-strays-preserved
 loop-strays-preserved c =

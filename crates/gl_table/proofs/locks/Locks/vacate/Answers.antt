@@ -42,7 +42,8 @@ free-requires c =
     subst (λ (ws : List Waiter). CanFree c.args.self.now.seats.items c.strike.new.lists.items c.args.told.now.items c.args.rec ws) (sym (waiters c))
     (can_free (state_in c.args.graph.now c.args.self.now) c.args.slot c.args.rec c.args.self.now.lists.items (may at.After-parents) c.strike.new.lists.items
     (struck at.After-strike)
-    c.args.self.now.seats.items c.args.told.now.items refl c.requires.exact.sound.few c.requires.exact.sound.lists c.requires.by_slot c.requires.untold)
+    c.args.self.now.seats.items c.args.told.now.items refl c.requires.exact.sound.few c.requires.exact.sound.lists c.requires.tell.by_slot
+    c.requires.tell.untold)
 
 freed : (c : Joined-header) → c.queue.result.now ≡ queue_of c.args.self.now.headers.entries c.args.rec
     → Frees c.args.self.now.seats.items c.strike.new.lists.items c.args.told.now.items c.args.rec (queue_of c.args.self.now.headers.entries c.args.rec)
