@@ -129,7 +129,7 @@ pub use Rattle.gl_table.specs.model.State.{with_txn, without_wait, woken}
 pub use Rattle.gl_table.specs.inside.Lists.{count_in, count_of, covered_in, entry_of, HasRoom, is_listed, IsShedding, loose_of, mode_in, mode_of}
 pub use Rattle.gl_table.specs.inside.Lists.{NoneMarkedFrom, unlisted}
 unfoldable pub use Rattle.gl_table.specs.inside.Lists.{IsApart}
-pub use Rattle.gl_table.specs.inside.Locks.{Agrees, AreExact, AreNew, AreSound, CountsHeld, IsOrderly, state_in, state_on, WaitWell}
+pub use Rattle.gl_table.specs.inside.Locks.{Agrees, AreExact, AreNew, AreSound, CountsHeld, IsOrderly, KeepsLocks, state_in, state_on, WaitWell}
 pub use Rattle.gl_table.specs.inside.Seating.{IsSeating}
 pub use Rattle.gl_table.specs.inside.Seats.{is_free, is_free_at, SeatList, txn_in, txns_of}
 pub use Rattle.gl_table.specs.inside.Sound.{IsSound, view_of}

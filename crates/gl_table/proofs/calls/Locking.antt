@@ -1,9 +1,9 @@
 -- What a lock that is granted, and one that waits, makes of a table. For the calls that lock.
 use Rattle.gl_table.proofs.Words.{[], ◌&&◌, ◌==◌, ◌∙◌, ◌∷◌, ◌≡◌, Active, answered, ap, ap₂, AreExact, AtBlock, bad_mode, Bool, ByWatcher, clash, commit_tests}
 use Rattle.gl_table.proofs.Words.{condemned_test, Deadlock, Detect, enqueued, enters_at, Err, false, first_refusal, fun_ext, granted, graph_of, HasNoCycle}
-use Rattle.gl_table.proofs.Words.{held_by, held_of, if◌then◌else◌, is_granted_at, IsLawful, IsOrderly, IsSound, length, lock_tests, locked_as, LocksKeeping}
-use Rattle.gl_table.proofs.Words.{Mode, need_parents, no_node, no_txn, NodeId, None, not, not_false, not_refused, number_same, Ok, OnErr, OnOk, Option}
-use Rattle.gl_table.proofs.Words.{parents_of, passed_then, queue_of, refl, Refusal, refused_first, Refuses, Result, rule_refusal, same_node-refl, Some}
+use Rattle.gl_table.proofs.Words.{held_by, held_of, if◌then◌else◌, is_granted_at, IsLawful, IsOrderly, IsSound, KeepsLocks, length, lock_tests, locked_as}
+use Rattle.gl_table.proofs.Words.{LocksKeeping, Mode, need_parents, no_node, no_txn, NodeId, None, not, not_false, not_refused, number_same, Ok, OnErr, OnOk}
+use Rattle.gl_table.proofs.Words.{Option, parents_of, passed_then, queue_of, refl, Refusal, refused_first, Refuses, Result, rule_refusal, same_node-refl, Some}
 use Rattle.gl_table.proofs.Words.{some_no_node, State, state_in, state_of, status_of, subst, supremum, sym, TableView, test_fails, Told, told_but, true}
 use Rattle.gl_table.proofs.Words.{try_tests, TxnId, txns_of, verdict, Victims, view_of, waiting_test, WaitSettles, WaitSettlesKeeping, wanted, where_true}
 use Rattle.gl_table.proofs.Words.{would_block, ℕ}
@@ -132,10 +132,9 @@ module _ (i : Inside) (sound : IsSound i) (t : TxnId) (n : NodeId) (m : Mode) wh
   -- it was granted, or nothing but room was made
   pub sound_tried : (r : Result Mode Refusal) (locks : code.Locks) → MayLock s t n m → enters_at s t.slot n m ≡ true
       → OnOk r (state_in i.graph locks ≡ granted l t.slot n m)
-      → OnErr r (locks.headers.entries ≡ i.locks.headers.entries) → OnErr r (locks.seats ≡ i.locks.seats)
-      → AreExact i.graph locks → IsSound (record i { locks = locks })
-  sound_tried (Ok x) locks may fits ok headers seats exact = sound_granted may fits locks ok exact
-  sound_tried (Err x) locks may fits ok headers seats exact = sound_kept locks headers seats exact
+      → OnErr r (KeepsLocks i.locks locks) → AreExact i.graph locks → IsSound (record i { locks = locks })
+  sound_tried (Ok x) locks may fits ok err exact = sound_granted may fits locks ok exact
+  sound_tried (Err x) locks may fits ok err exact = sound_kept locks err.headers err.seats exact
 
   pub state_tried : (r : Result Mode Refusal) (locks : code.Locks) → OnOk r (state_in i.graph locks ≡ granted l t.slot n m)
       → OnOk r (state_of (view_of (record i { locks = locks })) ≡ granted s t.slot n m)

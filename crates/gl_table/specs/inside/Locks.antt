@@ -16,7 +16,7 @@ use Rattle.gl_table.specs.model.Calls.{held_children}
 use Rattle.gl_table.specs.inside.Headers.{AreHeaders, held_of, queue_of}
 use Rattle.gl_table.specs.model.State.{is_waiting_at, State, members, status_of, is_wait}
 use Rattle.gl_table.specs.inside.Seats.{txns_of}
-use Rattle.gl_table.specs.inside.Slots.{AreApart, counted_by, held_by, listed_by, room_by}
+use Rattle.gl_table.specs.inside.Slots.{KeepsLists, AreApart, counted_by, held_by, listed_by, room_by}
 
 -- The locks that the code keeps beside the graph: as a state of the model, and what agrees with it.
 
@@ -70,6 +70,12 @@ pub record AreExact (g : View) (l : Locks) : Type 0 where
   pub sound : AreSound l
   pub agree : (u : ℕ) → Agrees (state_in g l) l.lists.items u
   pub count : (u : ℕ) → CountsHeld (state_in g l) l.lists.items u
+
+-- no lock changed: at most room was made
+pub record KeepsLocks (l l' : Locks) : Type 0 where
+  pub headers : l'.headers.entries ≡ l.headers.entries
+  pub seats : l'.seats ≡ l.seats
+  pub lists : KeepsLists l.lists.items l'.lists.items
 
 -- no header, all slots free, and nothing in any list
 pub record AreNew (l : Locks) (most : ℕ) : Type 0 where

@@ -9,7 +9,7 @@ ghost use Rattle.gl_table.specs.model.Calls.{rule_refusal, asked_at, locked_as, 
 ghost use Rattle.gl_graph.specs.View.{graph_of};
 ghost use Rattle.gl_header.specs.Header.{holds};
 ghost use Rattle.gl_table.specs.inside.Headers.{is_granted_at};
-ghost use Rattle.gl_table.specs.inside.Locks.{AreExact, IsOrderly, state_in};
+ghost use Rattle.gl_table.specs.inside.Locks.{AreExact, IsOrderly, KeepsLocks, state_in};
 ghost use Rattle.gl_table.specs.inside.Slots.{HasRoomAt, KeepsLists, held_by};
 ghost use Rattle.gl_table.specs.inside.Seats.{txns_of};
 ghost use Rattle.gl_table.specs.model.State.{members, status_in, status_of};
@@ -107,9 +107,7 @@ impl Locks {
             → state_in graph.now self.new ≡ granted (state_in graph.now self.old) slot node mode) }
         ensures waits { OnOk result (enters_at (state_in graph.now self.old) slot node mode ≡ false
             → state_in graph.now self.new ≡ enqueued (state_in graph.now self.old) slot node (wanted (state_in graph.now self.old) slot node mode)) }
-        ensures err_headers { OnErr result (self.new.headers.entries ≡ self.old.headers.entries) }
-        ensures err_seats { OnErr result (self.new.seats ≡ self.old.seats) }
-        ensures err_lists { OnErr result (KeepsLists self.old.lists.items self.new.lists.items) }
+        ensures err { OnErr result (KeepsLocks self.old self.new) }
         ensures no_memory { IfErr result (λ refusal. refusal ≡ ARefusal.NoMemory) }
         ensures held { holds (members (state_in graph.now self.old) node) slot ≡ true
             → enters_at (state_in graph.now self.old) slot node mode ≡ true → IsOk result }
@@ -157,9 +155,7 @@ impl Locks {
         ensures exact { AreExact graph.now self.new }
         ensures mode { IfOk result (λ m. m ≡ wanted (state_in graph.now self.old) slot node mode) }
         ensures state { OnOk result (state_in graph.now self.new ≡ granted (state_in graph.now self.old) slot node mode) }
-        ensures err_headers { OnErr result (self.new.headers.entries ≡ self.old.headers.entries) }
-        ensures err_seats { OnErr result (self.new.seats ≡ self.old.seats) }
-        ensures err_lists { OnErr result (KeepsLists self.old.lists.items self.new.lists.items) }
+        ensures err { OnErr result (KeepsLocks self.old self.new) }
         ensures no_memory { IfErr result (λ refusal. refusal ≡ ARefusal.NoMemory) }
         ensures held { holds (members (state_in graph.now self.old) node) slot ≡ true → IsOk result }
     {

@@ -10,8 +10,8 @@ ghost use Rattle.gl_graph.specs.Shapes.{is_record_shape};
 ghost use Rattle.gl_graph.specs.View.{graph_of};
 ghost use Rattle.gl_header.specs.Header.{holds, is_among_waiters};
 ghost use Rattle.gl_table.specs.model.Calls.{deleted};
-ghost use Rattle.gl_table.specs.inside.Slots.{CanFree, CanTell, Frees, FreesTold, HasRoomAt, KeepsLists};
-ghost use Rattle.gl_table.specs.inside.Locks.{Agrees, AreExact, AreSound, CountsHeld, IsOrderly, state_in, state_on};
+ghost use Rattle.gl_table.specs.inside.Slots.{CanFree, CanTell, Frees, FreesTold, HasRoomAt};
+ghost use Rattle.gl_table.specs.inside.Locks.{Agrees, AreExact, AreSound, CountsHeld, IsOrderly, KeepsLocks, state_in, state_on};
 ghost use Rattle.gl_table.specs.inside.Headers.{IsOneHolder};
 ghost use Rattle.gl_table.specs.model.State.{members, status_of, with_grant};
 ghost use Rattle.gl_table.specs.declared.txn.Status.TheVariants.{Active};
@@ -81,10 +81,8 @@ impl Locks {
         requires slot { slot < length self.old.lists.items }
         requires below { slot < 128 }
         ensures header { IfOk result (λ header. IsOneHolder header slot X) }
-        ensures headers { self.new.headers.entries ≡ self.old.headers.entries }
+        ensures kept { KeepsLocks self.old self.new }
         ensures headers_room { OnOk result (0 < spare self.new.headers) }
-        ensures seats { self.new.seats ≡ self.old.seats }
-        ensures lists { KeepsLists self.old.lists.items self.new.lists.items }
         ensures lists_room { OnOk result (HasRoomAt self.new.lists.items slot) }
         ensures no_memory { IfErr result (λ refusal. refusal ≡ ARefusal.NoMemory) }
     {

@@ -43,7 +43,7 @@ ask-requires-clause-held c = (answered-ok _ _ _ c.in_ok-held.ensures).1
 pub invariant_of-self : goal.invariant_of-self
 invariant_of-self c =
     sound_kept c.self.inside c.self.invariant c.args.t c.args.n c.args.mode c.ask.new.self
-    c.in_err-granted.ensures.err_headers c.in_err-granted.ensures.err_seats c.ask.ensures.exact
+    c.in_err-granted.ensures.err.headers c.in_err-granted.ensures.err.seats c.ask.ensures.exact
 
 pub returns-in_err-granted-clause-refuses : goal.returns-in_err-granted-clause-refuses
 returns-in_err-granted-clause-refuses c =

@@ -6,7 +6,8 @@ use Rattle.gl_table.proofs.calls.Records.{record_lives, record_unawaited, record
 use Rattle.gl_table.proofs.table.Table.place_under.Goals.{After-add_record_under}
 use Rattle.gl_table.proofs.table.Table.place_under.Goals as goal
 pub invariant_of-self : goal.invariant_of-self
-invariant_of-self c = sound_roomy c.self.inside c.self.invariant c.prepare.new.self c.prepare.ensures.headers c.prepare.ensures.seats c.prepare.ensures.lists
+invariant_of-self c = sound_roomy c.self.inside c.self.invariant c.prepare.new.self c.prepare.ensures.kept.headers c.prepare.ensures.kept.seats
+    c.prepare.ensures.kept.lists
 
 -- room was made
 
@@ -14,10 +15,11 @@ abbrev roomy : After-add_record_under → Inside
 roomy c = record c.self.inside { locks = c.prepare.new.self }
 
 sound_then : (c : After-add_record_under) → IsSound (roomy c)
-sound_then c = sound_roomy c.self.inside c.self.invariant c.prepare.new.self c.prepare.ensures.headers c.prepare.ensures.seats c.prepare.ensures.lists
+sound_then c = sound_roomy c.self.inside c.self.invariant c.prepare.new.self c.prepare.ensures.kept.headers c.prepare.ensures.kept.seats
+    c.prepare.ensures.kept.lists
 
 same : (c : After-add_record_under) → state_of (view_of (roomy c)) ≡ state_of c.args.self.now
-same c = same_state c.self.inside c.self.invariant c.prepare.new.self c.prepare.ensures.headers c.prepare.ensures.seats c.prepare.ensures.lists
+same c = same_state c.self.inside c.self.invariant c.prepare.new.self c.prepare.ensures.kept.headers c.prepare.ensures.kept.seats c.prepare.ensures.kept.lists
     ∙ ap (λ (v : TableView). state_of v) c.self.view_is
 
 -- memory alone stands against the record

@@ -40,7 +40,7 @@ invariant_of-self c =
     (may_lock_by (state_of c.args.self.now) c.args.t c.args.n c.args.mode (answered-ok _ _ _ c.in_ok-held.ensures).0) in
     sound_tried c.self.inside c.self.invariant c.args.t c.args.n c.args.mode c.grant.result c.grant.new.self may
     (sym (same_enters c.self.inside c.self.invariant c.args.t c.args.n c.args.mode) ∙ sym c.if-not-would_grant.ensures)
-    c.grant.ensures.state c.grant.ensures.err_headers c.grant.ensures.err_seats c.grant.ensures.exact
+    c.grant.ensures.state c.grant.ensures.err c.grant.ensures.exact
 
 pub returns-clause-state : goal.returns-clause-state
 returns-clause-state c =
