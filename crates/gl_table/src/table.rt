@@ -20,6 +20,7 @@ use gl_waits::Victims;
 use std::alloc::{AllocError, Global};
 use std::marker::Model;
 
+mod answering;
 mod begin;
 mod checks;
 mod listing;

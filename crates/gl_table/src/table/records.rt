@@ -74,24 +74,6 @@ impl Table {
         Ok(rec)
     }
 
-    /// Takes a record away that an active transaction holds in X. Each waiter on it is active again.
-    /// Answers who is told that it is gone, by rising slot.
-    ///
-    /// It takes no memory, and looks at the record's parents and waiters alone.
-    pub fn remove(&mut self, t: TxnId, rec: NodeId) -> Told
-        requires txn { lives (state_of self.old) t ≡ true }
-        requires active { status_of (state_of self.old) t.slot ≡ Some Active }
-        requires record { is_record_shape (shape_of (state_of self.old).graph rec) ≡ true }
-        requires exclusive { same_mode ((state_of self.old).held t.slot rec) X ≡ true }
-        ensures state { state_of self.new ≡ deleted (state_of self.old) rec }
-        ensures deadlock { self.new.deadlock ≡ self.old.deadlock }
-        ensures told { result.items ≡ told (state_of self.old) (state_of self.new) }
-    {
-        let mut told = Told::new();
-        self.remove_telling(t, rec, &mut told);
-        told
-    }
-
     /// As `remove`, with the notices put into an empty list.
     pub fn remove_telling(&mut self, t: TxnId, rec: NodeId, notices: &mut Told)
         requires empty { notices.old.items ≡ [] }
