@@ -287,8 +287,8 @@ module _ (i : Inside) (sound : IsSound i) (t : ℕ) (n : NodeId) where
             clash b.1 (ap not (one_found (λ x. is_child whole.graph n x && holds (members whole x) t) n (nodes whole.graph) b.0
             (listed whole.graph sound.lawful.graph n (sound.lawful.grants_live t n (reads_held (whole.held t n) reads)).1))))
 
-        before : k ≡ held_children whole t n
-        before = children_said i sound t n (reads_held (whole.held t n) reads) o said k held
+        counted_first : k ≡ held_children whole t n
+        counted_first = children_said i sound t n (reads_held (whole.held t n) reads) o said k held
 
         shed_in : k' ≡ held_children (shed whole t n) t n
         shed_in =
@@ -299,10 +299,10 @@ module _ (i : Inside) (sound : IsSound i) (t : ℕ) (n : NodeId) where
             ∙ ap (λ (x : State). held_children x t n) state_shed
 
         pub no_more_kept : k' ≤ k
-        no_more_kept = let a = before in let b = shed_in in let d = shed_counts in omega arith
+        no_more_kept = let a = counted_first in let b = shed_in in let d = shed_counts in omega arith
 
         pub number_released : k - k' ≡ covered_children whole t n
-        number_released = let a = before in let b = shed_in in let d = shed_counts in omega arith
+        number_released = let a = counted_first in let b = shed_in in let d = shed_counts in omega arith
 
         pub number_kept : k' ≡ held_children whole t n - covered_children whole t n
         number_kept = let b = shed_in in let d = shed_counts in omega arith
