@@ -1,4 +1,5 @@
 use Rattle.gl_table.proofs.Words.{◌<◌, ◌∙◌, ◌≡◌, ◌≤◌, Agrees, ap, if◌then◌else◌, length, length-set, None, slice_set, State, state_in, subst, sym, told_to, ℕ}
+use Rattle.gl_table.proofs.inside.Lists.{IsBare}
 use Rattle.gl_table.proofs.inside.Slots.{apart-set}
 use Rattle.gl_table.proofs.inside.Seats.{agrees-gone, counts-gone, state-freed}
 use Rattle.gl_table.proofs.telling.Ways.{gone_tells}
@@ -11,7 +12,7 @@ returns-clause-exact c =
     let seated : c.args.slot < length left.seats.items = subst (λ (k : ℕ). c.args.slot < k) (sym c.leave_all.ensures.len) c.requires.seated in
     let listed : c.args.slot < length left.lists.items = subst (λ (k : ℕ). c.args.slot < k) (sym was.lists) seated in
     let seats : length left.seats.items ≡ length c.leave.new.self.items = sym (ap length c.leave.ensures ∙ length-set left.seats.items c.args.slot None) in
-    let bare = record { listed = c.clear.ensures.listed; counts = c.clear.ensures.counts; apart = c.clear.ensures.apart } in
+    let bare : IsBare c.clear.new.self = record { listed = c.clear.ensures.listed; counts = c.clear.ensures.counts; apart = c.clear.ensures.apart } in
     record {
       sound = record {
         headers = was.headers;
