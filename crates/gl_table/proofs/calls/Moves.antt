@@ -135,9 +135,9 @@ module _ (i : Inside) (sound : IsSound i) (t : ℕ) (n : NodeId) (was is : Node)
 
     pub sound_moved : AreSound locks → ((u : ℕ) → Agrees (state_on g' locks) locks.lists.items u)
         → ((u : ℕ) → CountsHeld (state_on g' locks) locks.lists.items u) → IsSound after
-    sound_moved exact = record {
+    sound_moved are agrees counts = record {
       lawful = subst IsLawful (sym state_moved) (changed_keeps s t n was is g' m sound.lawful);
-      exact = exact;
+      exact = record { sound = are; agree = agrees; count = counts };
       no_cycle = λ at. subst HasNoCycle (sym state_moved) (moved-no_cycle s sound.lawful n is.parents g' (sound.no_cycle at));
     }
 
