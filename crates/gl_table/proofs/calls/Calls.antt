@@ -49,8 +49,14 @@ module _ (i : Inside) (sound : IsSound i) where
 
   pub orderly : IsOrderly l
   orderly = let o = lawful_orderly s sound.lawful in
-      record { holders = o.holders; holders_live = o.holders_live; waiters_live = o.waiters_live; waits_are = o.waits_are; one_wait = o.one_wait;
-          below = o.below }
+      record {
+        holders = o.holders;
+        holders_live = o.holders_live;
+        waiters_live = o.waiters_live;
+        waits_are = o.waits_are;
+        one_wait = o.one_wait;
+        below = o.below;
+      }
 
   -- who passed the tests of an unlock holds the node and no child of it
   pub may_unlock : (v : TableView) → view_of i ≡ v → (t : TxnId) (n : NodeId) (x y : Unit {0}) → Ok x ≡ verdict (first_refusal (commit_tests (state_of v) t))
@@ -61,9 +67,12 @@ module _ (i : Inside) (sound : IsSound i) where
       × (held_child (state_of w) t.slot n ≡ None) × (held_children (state_of w) t.slot n ≡ 0) in
       let first = not_refused (not_held (state_of v) t.slot n) _ (test_passed _ y b) in
       let second = not_refused (held_child (state_of v) t.slot n) [] first.1 in
-      subst back (sym view)
-      (is_active (state_of v) t (test_passed _ x a), not_false _ (test_fails _ _ first.0), second.0,
-      none_found_counted (λ c. is_child (state_of v).graph n c && holds (members (state_of v) c) t.slot) (nodes (state_of v).graph) second.0)
+      subst back (sym view) (
+        is_active (state_of v) t (test_passed _ x a),
+        not_false _ (test_fails _ _ first.0),
+        second.0,
+        none_found_counted (λ c. is_child (state_of v).graph n c && holds (members (state_of v) c) t.slot) (nodes (state_of v).graph) second.0,
+      )
 
   -- one node was released, of which no child was held
   module _ (t : ℕ) (n : NodeId) (active : status_of s t ≡ Some Active) (childless : held_child s t n ≡ None) (locks : Locks)
@@ -104,8 +113,14 @@ module _ (i : Inside) (sound : IsSound i) where
 
   -- the way from a table's state begins at its locks
   pub table_way : IsOnWay s l
-  table_way = let w = way_begins s sound.lawful in record { graph = refl; ages = w.ages; waited = w.waited; waits_are = w.waits_are; one_wait = w.one_wait;
-      live = w.live }
+  table_way = let w = way_begins s sound.lawful in record {
+    graph = refl;
+    ages = w.ages;
+    waited = w.waited;
+    waits_are = w.waits_are;
+    one_wait = w.one_wait;
+    live = w.live;
+  }
 
   -- a transaction ended
   module _ (t : ℕ) (locks : Locks) (is : state_in i.graph locks ≡ released l t) where
@@ -145,8 +160,12 @@ module _ (c : Victims) (t : ℕ) (d : Detect) (v : Victims) (b : ℕ) where
   stuck_on x r h = record { on_cycle = h.on_cycle; name = h.name; waits = h.waits; waits_for = h.waits_for }
 
   deadlock_on : (x : State) (u : ℕ) (e : Deadlock) → IsDeadlock x t u e → IsDeadlock (over x) t u e
-  deadlock_on x u e h = record { victim = h.victim; rows = λ k r low. stuck_on x (get_or e.cycle.items k r) (h.rows k r low); whole = h.whole;
-      rising = h.rising }
+  deadlock_on x u e h = record {
+    victim = h.victim;
+    rows = λ k r low. stuck_on x (get_or e.cycle.items k r) (h.rows k r low);
+    whole = h.whole;
+    rising = h.rising;
+  }
 
   keeping_on : (k : ℕ) (x x' : State) (e e' : Deadlock) → SettlesKeepingWithin c k x t e x' e' → SettlesKeepingWithin c k (over x) t e (over x') e'
   keeping_on zero x x' e e' h = (h.0, ap over h.1, h.2)

@@ -200,8 +200,14 @@ module _ (i : Inside) (sound : IsSound i) (t : TxnId) (n : NodeId) (m : Mode) (m
     pub waiting_orderly : IsOrderly (state_in i.graph locks)
     waiting_orderly =
         let o = lawful_orderly _ (waiting-lawful before sound.lawful t n m may blocks) in
-        subst IsOrderly (sym is) (record { holders = o.holders; holders_live = o.holders_live; waiters_live = o.waiters_live; waits_are = o.waits_are;
-        one_wait = o.one_wait; below = o.below })
+        subst IsOrderly (sym is) (record {
+          holders = o.holders;
+          holders_live = o.holders_live;
+          waiters_live = o.waiters_live;
+          waits_are = o.waits_are;
+          one_wait = o.one_wait;
+          below = o.below;
+        })
 
     -- and was settled, where that is the way of detection
     module _ (left : code.Locks) (kept : Deadlock) (settles : WaitSettles i.detect i.victims (state_in i.graph locks) t.slot (state_in i.graph left)) where

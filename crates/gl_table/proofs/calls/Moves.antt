@@ -162,9 +162,11 @@ module _ (i : Inside) (sound : IsSound i) (w : TableView) (view : view_of i ≡ 
       → need_new_parents x t r (rekeyed_parents x.graph r index key) ≡ None → graph_of v ≡ rekeyed x.graph r index key
       → (was : Node) × Moves (state_of (view_of i)) t r was (rekeyed_to x.graph r index key was) (graph_of v)
   rekey_call r index key active rec exclusive parents made =
-      let may = may_be_rekeyed x lawful_seen t r index key active rec exclusive parents in
-      (may.0, subst (λ (y : TableView). Moves (state_of y) t r may.0 (rekeyed_to x.graph r index key may.0) (graph_of v)) (sym view)
-      (subst (λ g. Moves x t r may.0 (rekeyed_to x.graph r index key may.0) g) (sym made) may.1))
+      let may = may_be_rekeyed x lawful_seen t r index key active rec exclusive parents in (
+        may.0,
+        subst (λ (y : TableView). Moves (state_of y) t r may.0 (rekeyed_to x.graph r index key may.0) (graph_of v)) (sym view)
+            (subst (λ g. Moves x t r may.0 (rekeyed_to x.graph r index key may.0) g) (sym made) may.1),
+      )
 
   pub move_call : (n : NodeId) (ps : List NodeId) → status_of x t ≡ Some Active → is_movable_shape (shape_of x.graph n) ≡ true
       → AreInnerParents x.graph (least_parents (shape_of x.graph n)) ps
@@ -172,6 +174,8 @@ module _ (i : Inside) (sound : IsSound i) (w : TableView) (view : view_of i ≡ 
       → graph_of v ≡ with_parents x.graph n ps
       → (was : Node) × Moves (state_of (view_of i)) t n was (moved_node ps was) (graph_of v)
   move_call n ps active movable inner exclusive rule clear made =
-      let may = may_be_moved x lawful_seen t n ps active movable inner exclusive rule clear in
-      (may.0, subst (λ (y : TableView). Moves (state_of y) t n may.0 (moved_node ps may.0) (graph_of v)) (sym view)
-      (subst (λ g. Moves x t n may.0 (moved_node ps may.0) g) (sym made) may.1))
+      let may = may_be_moved x lawful_seen t n ps active movable inner exclusive rule clear in (
+        may.0,
+        subst (λ (y : TableView). Moves (state_of y) t n may.0 (moved_node ps may.0) (graph_of v)) (sym view)
+            (subst (λ g. Moves x t n may.0 (moved_node ps may.0) g) (sym made) may.1),
+      )

@@ -361,6 +361,6 @@ module _ (g : Graph) (l : Locks) (t : ℕ) (n : NodeId) (m : Mode) (may : MayAsk
       (λ enters. (
         held-changed l.headers.entries l'.headers.entries n (Some h) _ changed (one.members ∙ (λ i. with_mode (λ u. sym (unheld u) i) t (sym want_is i))),
         queue-changed l.headers.entries l'.headers.entries n (Some h) [] changed one.queue
-        ∙ with_waiters-same (queue_of l.headers.entries) n [] (sym unawaited),
+            ∙ with_waiters-same (queue_of l.headers.entries) n [] (sym unawaited),
       ))
       seats has counts

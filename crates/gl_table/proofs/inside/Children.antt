@@ -22,8 +22,12 @@ module _ (p : NodeId → Bool) (ns : List NodeId) (n : NodeId) (first : Option N
 
   -- it passes, and was born before the one found so far
   pub first_new : p n ≡ true → option_map_or (λ o. nat_lt n.birth o.birth) first true ≡ true → IsFirst p (ns ++ n ∷ []) (Some n)
-  first_new passes before = record { none = λ e c h. cc; some = λ f e. let at : n ≡ f = cc in
-      subst (λ (x : NodeId). (p x ≡ true) × ((c : NodeId) → list_any (same_node c) (ns ++ n ∷ []) ≡ true → p c ≡ true → x.birth ≤ c.birth)) at (passes, least) }
+  first_new passes before = record {
+    none = λ e c h. cc;
+    some = λ f e. let at : n ≡ f = cc in
+        subst (λ (x : NodeId). (p x ≡ true) × ((c : NodeId) → list_any (same_node c) (ns ++ n ∷ []) ≡ true → p c ≡ true → x.birth ≤ c.birth)) at
+        (passes, least);
+  }
     where
       least_of : (o : Option NodeId) → IsFirst p ns o → option_map_or (λ x. nat_lt n.birth x.birth) o true ≡ true → (c : NodeId)
           → list_any (same_node c) ns ≡ true → p c ≡ true → n.birth ≤ c.birth

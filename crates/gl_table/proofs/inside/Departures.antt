@@ -42,8 +42,10 @@ stripped_grant s t n m = λ i. record (stripped s t) { held = λ u q. by u q (u 
 
 -- t's wait is gone, and its status, whatever it was
 stripped_wait : (s : State) (t : ℕ) (st : Status) → stripped (without_wait s t st) t ≡ stripped s t
-stripped_wait s t st = λ i. record (stripped s t) { queue = λ n. without_none t (without_waiter t (s.queue n)) (out_of_own t (s.queue n)) i;
-    txns = λ u. by u (u == t) i }
+stripped_wait s t st = λ i. record (stripped s t) {
+  queue = λ n. without_none t (without_waiter t (s.queue n)) (out_of_own t (s.queue n)) i;
+  txns = λ u. by u (u == t) i;
+}
   where
     by : (u : ℕ) (b : Bool) → (if b then None else (if b then restatus st (s.txns t) else s.txns u)) ≡ (if b then None else s.txns u)
     by u true = refl

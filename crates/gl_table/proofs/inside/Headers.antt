@@ -205,14 +205,18 @@ module _ {S : Type 0} (m : IndexMap NodeId HeaderState S) (n : NodeId) (i : ℕ)
 
     -- a write there is a write to the node's header
     pub written_there : IsUnique same_node m → (w : HeaderState) → IsChanged m.entries (set_value_at m.entries i w) n (Some w)
-    written_there unique w = record { at = subst (λ k. (q : NodeId)
-        → header_at (set_value_at m.entries i w) q ≡ cond (same_node k q) (Some w) (header_at m.entries q)) some_key
-        (updates-with_value_at m i w {eq = same_node} node_equivalence unique p.0 p.1 here).0 }
+    written_there unique w = record {
+      at = subst (λ k. (q : NodeId)
+          → header_at (set_value_at m.entries i w) q ≡ cond (same_node k q) (Some w) (header_at m.entries q)) some_key
+          (updates-with_value_at m i w {eq = same_node} node_equivalence unique p.0 p.1 here).0;
+    }
 
     -- a removal there takes the node's header out
     pub removed_there : (m' : IndexMap NodeId HeaderState S) → Updates same_node m m' p.0 None → IsChanged m.entries m'.entries n None
-    removed_there m' updates = record { at = subst (λ k. (q : NodeId) → header_at m'.entries q ≡ cond (same_node k q) None (header_at m.entries q)) some_key
-        updates.0 }
+    removed_there m' updates = record {
+      at = subst (λ k. (q : NodeId) → header_at m'.entries q ≡ cond (same_node k q) None (header_at m.entries q)) some_key
+          updates.0;
+    }
 
   -- nothing stands at no place
   pub no_place : slice_get m.entries i ≡ None → slice_get (keys m) i ≡ Some n → ⊥

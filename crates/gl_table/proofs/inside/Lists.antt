@@ -174,10 +174,13 @@ module _ {K : Type 0} (ys : List K) (p at : ℕ) (d n : K) (le : p ≤ at) (here
 
   pub moved_later : (i : ℕ) (m : K) → at ≤ i → slice_get (swap_remove ys p d) i ≡ Some m → m ≢ n → (k : ℕ) × (at + 1 ≤ k) × (slice_get ys k ≡ Some m)
   moved_later i m low found other = split (i == p)
-      (λ e. (length ys - 1, (let same : i ≡ p = same_number i p e in omega (arith, within, short, same)),
-      slice_get-get_or ys (length ys - 1) d (omega (arith, within))
-      ∙ ap Some (sym (get_or-set_same ys p last d (omega (arith, within, le))) ∙ ap (λ k. get_or (slice_set ys p last) k d) (sym (same_number i p e))
-      ∙ sym is)))
+      (λ e. (
+        length ys - 1,
+        (let same : i ≡ p = same_number i p e in omega (arith, within, short, same)),
+        slice_get-get_or ys (length ys - 1) d (omega (arith, within))
+            ∙ ap Some (sym (get_or-set_same ys p last d (omega (arith, within, le))) ∙ ap (λ k. get_or (slice_set ys p last) k d) (sym (same_number i p e))
+            ∙ sym is),
+      ))
       (λ e. let same : slice_get ys i ≡ Some m = slice_get-get_or ys i d (omega (arith, within, short))
       ∙ ap Some (sym (get_or-set_other ys p i last d (other_number i p e)) ∙ sym is) in
       split (i == at) (λ f. absurd (other (some_is (sym same ∙ ap (slice_get ys) (same_number i at f) ∙ here))))

@@ -125,9 +125,11 @@ pub kept-apart : (ls : List LockList) (t : ℕ) (l l' : LockList) → t < length
     → ((q : NodeId) → is_listed l' q ≡ is_listed l q) → l'.loose ≡ l.loose → keys l'.entries ≡ keys l.entries → IsApart l'
 unfolding IsApart
 kept-apart ls t l l' lt at apart listed same nodes =
-    let old = apart t l (slice_get-at ls t l lt at) in
-    (subst (IsDistinct same_node) (sym nodes) old.0, λ n h. ap (λ (m : IndexMap NodeId ℕ _). lookup (same_node n) m.entries) same
-    ∙ old.1 n (sym (listed n) ∙ h))
+    let old = apart t l (slice_get-at ls t l lt at) in (
+      subst (IsDistinct same_node) (sym nodes) old.0,
+      λ n h. ap (λ (m : IndexMap NodeId ℕ _). lookup (same_node n) m.entries) same
+          ∙ old.1 n (sym (listed n) ∙ h),
+    )
 
 -- the modes are written, and the counts where the node was not held before
 pub held-new : (l mid l' : LockList) (n : NodeId) (m : Mode) (ps : List NodeId) → same_mode (mode_of l n) NL ≡ true

@@ -256,8 +256,10 @@ module _ (s : State) (o : IsOrderly s) (n : NodeId) (f : Waiter → Bool) (bare 
 
     -- its wait ends
     pub turning_one : (next : State) (pending' : ℕ → Bool) (ls' : List LockList) (told' : Told) → ((x : ℕ) → pending' x ≡ (pending x && not (x == t)))
-        → next ≡ record now { queue = with_waiters now.queue n (without_waiter t (now.queue n));
-        txns = λ u. if u == t then restatus Active (now.txns t) else now.txns u }
+        → next ≡ record now {
+          queue = with_waiters now.queue n (without_waiter t (now.queue n));
+          txns = λ u. if u == t then restatus Active (now.txns t) else now.txns u;
+        }
         → Strikes mid ls' t n [] → IsBySlot told' → ((u : ℕ)
         → notices_in told' u ≡ (if u == t then Some (record { slot = t; age = age_in (now.txns t) }, notice.Moved) else notices_in mid_told u))
         → IsTurning s next n f pending' ls ls' told told'
@@ -272,10 +274,14 @@ module _ (s : State) (o : IsOrderly s) (n : NodeId) (f : Waiter → Bool) (bare 
     }
       where
         state : next ≡ thinned s n (λ w. f w || pending' w.0)
-        state = changed ∙ ap (λ (x : State). record x { queue = with_waiters x.queue n (without_waiter t (x.queue n));
-            txns = λ u. if u == t then restatus Active (x.txns t) else x.txns u }) is.state
-            ∙ (λ i. record s { queue = one_queue s o n f pending pending' t lost member less i;
-            txns = λ u. one_txn s o n f pending pending' t lost member less u i })
+        state = changed ∙ ap (λ (x : State). record x {
+          queue = with_waiters x.queue n (without_waiter t (x.queue n));
+          txns = λ u. if u == t then restatus Active (x.txns t) else x.txns u;
+        }) is.state
+            ∙ (λ i. record s {
+              queue = one_queue s o n f pending pending' t lost member less i;
+              txns = λ u. one_txn s o n f pending pending' t lost member less u i;
+            })
 
         first : (a b : Bool) → (a && b) ≡ true → a ≡ true
         first true b h = refl

@@ -48,9 +48,14 @@ module _ (g : Graph) (held : NodeId → Mode) where
       by [] e f rest here = (n, [], refl, ap (λ b. b || false) here, inl e)
       by (q ∷ qs) e f rest here =
           let found = not_all (eff_x k g held) (q ∷ qs) f in
-          let up = rest found.0 found.2 in
-          (up.0, found.0 ∷ up.1, (ap (list_any (same_node found.0)) e ∙ found.1, up.2), ap (λ b. b || list_any is_x (found.0 ∷ up.1)) here
-          ∙ up.3, ⊎_elim inl (λ l. inr (ap suc l)) up.4)
+          let up = rest found.0 found.2 in (
+            up.0,
+            found.0 ∷ up.1,
+            (ap (list_any (same_node found.0)) e ∙ found.1, up.2),
+            ap (λ b. b || list_any is_x (found.0 ∷ up.1)) here
+                ∙ up.3,
+            ⊎_elim inl (λ l. inr (ap suc l)) up.4,
+          )
 
 pub cut_set_on : CutSetLaw
 cut_set_on s law t n live = (

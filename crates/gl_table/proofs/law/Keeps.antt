@@ -116,8 +116,12 @@ module _ (s : State) (law : IsLawful s) (t : ℕ) (n : NodeId) (m : Mode) (activ
   with_grant-lawful = record {
     graph = law.graph;
     grants_live = λ u q h. at_case u q
-        (λ eu eq eh. (ap (λ v. is_some (s.txns v)) eu ∙ txn_there (s.txns t) Active active, ap (is_live s.graph) eq
-        ∙ live, subst (λ p. ModeFitsKind s p ((with_grant s t n m).held u q)) (sym eq) (subst (ModeFitsKind s n) (sym eh) kind)))
+        (λ eu eq eh. (
+          ap (λ v. is_some (s.txns v)) eu ∙ txn_there (s.txns t) Active active,
+          ap (is_live s.graph) eq
+              ∙ live,
+          subst (λ p. ModeFitsKind s p ((with_grant s t n m).held u q)) (sym eq) (subst (ModeFitsKind s n) (sym eh) kind),
+        ))
         (λ eh. let old = law.grants_live u q (sym (ap (λ a. not (same_mode a NL)) eh) ∙ h) in (old.0, old.1, subst (ModeFitsKind s q) (sym eh) old.2));
     waits_live = law.waits_live;
     compatible = λ u v q ne. at_case u q
@@ -376,8 +380,11 @@ module _ (s : State) (chosen : NodeId → Bool) (law : IsLawfulBut chosen s) whe
   pumped-lawful = record {
     graph = law.graph;
     grants_live = λ u q h. grant_case u q
-        (λ m st g e out. (woken_some got u (s.txns u) ∙ txn_there (s.txns u) _ st, law.waits_live u q (got_waits u q g),
-        subst (ModeFitsKind s q) (sym e) (law.waits_intend u q m st).3))
+        (λ m st g e out. (
+          woken_some got u (s.txns u) ∙ txn_there (s.txns u) _ st,
+          law.waits_live u q (got_waits u q g),
+          subst (ModeFitsKind s q) (sym e) (law.waits_intend u q m st).3,
+        ))
         (λ g e. let old = law.grants_live u q (sym (ap (λ a. not (same_mode a NL)) e) ∙ h) in
         (woken_some got u (s.txns u) ∙ old.0, old.1, subst (ModeFitsKind s q) (sym e) old.2));
     waits_live = λ u q h. law.waits_live u q (left_waits u q h);

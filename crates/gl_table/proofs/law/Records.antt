@@ -215,9 +215,11 @@ module _ (s : State) (law : IsLawful s) (r : NodeId) (rec : is_record_shape (sha
     graph = removed_lawful s.graph law.graph r rec;
     grants_live = λ u q h.
         let w = was_held u q h in
-        let old = law.grants_live u q w.1 in
-        (some_freed r (s.txns u) ∙ old.0, stands q old.1 w.0,
-        subst (ModeFitsKind after q) (sym (held_there u q w.0)) (kind_left q (s.held u q) old.1 w.0 old.2));
+        let old = law.grants_live u q w.1 in (
+          some_freed r (s.txns u) ∙ old.0,
+          stands q old.1 w.0,
+          subst (ModeFitsKind after q) (sym (held_there u q w.0)) (kind_left q (s.held u q) old.1 w.0 old.2),
+        );
     waits_live = λ u q h. let w = was_among u q h in stands q (law.waits_live u q w.1) w.0;
     compatible = λ u v q ne. split (same_node q r) (λ e. ap₂ are_compatible (held_here u q e) (held_here v q e))
         (λ e. ap₂ are_compatible (held_there u q e) (held_there v q e) ∙ law.compatible u v q ne);

@@ -173,8 +173,11 @@ module _ (g g' : Graph) (h : NodeId → Mode) (changed : NodeId → Bool) (step 
         let is : is_record_shape (shape_of g c) ≡ true = ap (λ o. is_record_shape (shape_in o)) (sym e) ∙ below.is_record in
         record {
           is_record = is;
-          route = (below.route.0, back c n below.route.0 (record_lives (node_at g c) is) below.route.1
-              (λ d pre e' live route. step.after d e' live (read_on_route g' h d n pre route r')));
+          route = (
+            below.route.0,
+            back c n below.route.0 (record_lives (node_at g c) is) below.route.1
+                (λ d pre e' live route. step.after d e' live (read_on_route g' h d n pre route r')),
+          );
         };
   }
 

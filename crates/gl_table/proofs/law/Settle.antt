@@ -170,8 +170,11 @@ locks_some s law t n m may = by (enters_at s t.slot n m) refl
     by : (b : Bool) → enters_at s t.slot n m ≡ b → Locks s t.slot n m
         (if b then with_grant s t.slot n (wanted s t.slot n m) else waited s.detect s.victims (enqueued s t.slot n (wanted s t.slot n m)) t.slot)
     by true e = record { at_once = λ _. refl; waits = λ f. clash e f }
-    by false e = record { at_once = λ f. clash f e; waits = λ _. wait_some s.detect s.victims (enqueued s t.slot n (wanted s t.slot n m)) t.slot
-        (waiting-lawful s law t n m may e) }
+    by false e = record {
+      at_once = λ f. clash f e;
+      waits = λ _. wait_some s.detect s.victims (enqueued s t.slot n (wanted s t.slot n m)) t.slot
+          (waiting-lawful s law t n m may e);
+    }
 
 -- Settling ends in one state.
 
@@ -234,9 +237,14 @@ module _ (s : State) (law : IsLawful s) (t : ℕ) (n : NodeId) (m : Mode) (st : 
   for_holder : fits s.most (members s n) t m ≡ false → (u : ℕ) × (waits_for s t u ≡ true)
   for_holder h =
       let found = one_fails (λ u. (u == t) || are_compatible m (s.held u n)) (range_with_len 0 s.most) h in
-      let both = or_no (found.0 == t) (are_compatible m (s.held found.0 n)) found.1 in
-      (found.0, is_step s t found.0 n m (record { differ = differs found.0 both.0; waits = st;
-      blocked = or_left (not (are_compatible m (s.held found.0 n))) (is_ahead (s.queue n) t found.0) (ap not both.1) }))
+      let both = or_no (found.0 == t) (are_compatible m (s.held found.0 n)) found.1 in (
+        found.0,
+        is_step s t found.0 n m (record {
+          differ = differs found.0 both.0;
+          waits = st;
+          blocked = or_left (not (are_compatible m (s.held found.0 n))) (is_ahead (s.queue n) t found.0) (ap not both.1);
+        }),
+      )
 
   by_queue : (q : List Waiter) → s.queue n ≡ q → front s.most (members s n) q ≡ [] → filter (is_waiter t) q ≡ (t, m) ∷ [] → (u : ℕ) × (waits_for s t u ≡ true)
   by_queue [] e free one = no_cons (sym one)

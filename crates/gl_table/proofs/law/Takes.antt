@@ -161,8 +161,11 @@ released-less s law t =
 -- a transaction that leaves
 pub released-lawful : (s : State) → IsLawful s → (t : ℕ) → IsLawful (released s t)
 released-lawful s law t =
-    pumped-lawful (record s { held = λ u n. if u == t then NL else s.held u n; queue = λ n. without_waiter t (s.queue n);
-    txns = λ u. if u == t then None else s.txns u }) (at_all s t)
+    pumped-lawful (record s {
+      held = λ u n. if u == t then NL else s.held u n;
+      queue = λ n. without_waiter t (s.queue n);
+      txns = λ u. if u == t then None else s.txns u;
+    }) (at_all s t)
     (less-lawful s law (λ u n. if u == t then NL else s.held u n) (λ n. without_waiter t (s.queue n)) (λ u. if u == t then None else s.txns u) (at_all s t)
     (released-less s law t))
 

@@ -182,8 +182,10 @@ module _ (edge : ℕ → ℕ → Bool) (most : ℕ) (low : (x y : ℕ) → edge 
   passes_is Youngest t v h = turned edge most low t v h
   passes_is Fewest t v h =
       let both = and_both (circles edge most t v) (not (hops (without edge v) most most t t)) h in
-      record { on_cycle = turned edge most low t v both.0;
-          freed = none_round (without edge v) most (low_without v) t (not_true (hops (without edge v) most most t t) both.1) }
+      record {
+        on_cycle = turned edge most low t v both.0;
+        freed = none_round (without edge v) most (low_without v) t (not_true (hops (without edge v) most most t t) both.1);
+      }
     where
       not_true : (b : Bool) → not b ≡ true → b ≡ false
       not_true true e = clash e refl

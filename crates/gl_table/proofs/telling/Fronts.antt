@@ -93,9 +93,11 @@ module _ (b : State) (n : NodeId) (well : WaitWell b n) where
   rest = pumped_queue b.most (members b n) (b.queue n)
 
   pub front_distinct : is_distinct (front_at b n) ≡ true
-  front_distinct = distinct_once (front_at b n) (λ u h. let one = well.one_wait u (front_stands u h) in
-      ((u, one.0), (one_in_first (waits_of u (front_at b n)) (waits_of u rest) (u, one.0) (parts u ∙ one.1)
-      (λ e. clash h (none_filtered u (front_at b n) e))).0))
+  front_distinct = distinct_once (front_at b n) (λ u h. let one = well.one_wait u (front_stands u h) in (
+    (u, one.0),
+    (one_in_first (waits_of u (front_at b n)) (waits_of u rest) (u, one.0) (parts u ∙ one.1)
+        (λ e. clash h (none_filtered u (front_at b n) e))).0,
+  ))
     where
       parts : (u : ℕ) → waits_of u (front_at b n) ++ waits_of u rest ≡ waits_of u (b.queue n)
       parts u = sym (filter-append (is_waiter u) (front_at b n) rest) ∙ ap (waits_of u) (front-and_rest b.most (members b n) (b.queue n))

@@ -22,7 +22,6 @@ ghost use Rattle.gl_table.specs.inside.Locks.{Agrees, AreSound, IsOrderly, state
 ghost use Rattle.gl_table.specs.inside.Seats.{txns_of};
 ghost use Rattle.gl_table.specs.inside.Slots.{AreApart, CanTell, IsBySlot, Strikes, counted_by, notices_in, room_by, unlisted_by};
 
-use arrayvec::ArrayVec;
 use crate::answers::{Notice, Told};
 use crate::headers::dismiss;
 use crate::list::LockList;
@@ -30,6 +29,7 @@ use crate::locks::Locks;
 use crate::rule::check_rule;
 use crate::told::tell;
 use crate::txn::{Status, TxnId};
+use arrayvec::ArrayVec;
 use gl_graph::Graph;
 use gl_modes::{Mode, NodeId};
 use gl_waits::set::{take_lowest, with};

@@ -9,12 +9,12 @@ ghost use Rattle.gl_table.specs.model.Calls.{RefusesOnly, group_tests, living_te
 ghost use Rattle.gl_table.specs.model.Table.{AreRowsOf, living_in, rows_of, state_of};
 ghost use Rattle.gl_table.specs.model.State.{lives, members, waits_for};
 
+use super::Table;
 use crate::answers::LockRow;
 use crate::headers::{holders, queue, waits_for};
 use crate::txn::{Status, TxnId};
 use gl_modes::{Mode, NodeId, Refusal};
 use gl_slots::Slots;
-use super::Table;
 
 impl Table {
     /// How many transactions may live at once: their slots are those below.

@@ -13,13 +13,13 @@ ghost use Rattle.gl_table.specs.model.State.{members, status_of};
 ghost use Rattle.gl_table.specs.model.Table.{state_of};
 ghost use Rattle.gl_table.specs.model.Tellings.{told_but};
 
+use super::Table;
 use crate::answers::{Locked, Told};
 use crate::headers::would_grant;
 use crate::txn::TxnId;
 use gl_graph::Kind;
 use gl_header::Asked;
 use gl_modes::{Mode, NodeId, Refusal, sup};
-use super::Table;
 
 impl Table {
     /// As `lock`, with the notices put into an empty list.

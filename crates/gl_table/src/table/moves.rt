@@ -13,11 +13,11 @@ ghost use Rattle.gl_table.specs.model.Table.{state_of};
 ghost use Rattle.gl_table.specs.model.Tellings.{told};
 ghost use Rattle.gl_table.specs.declared.txn.Status.TheVariants.{Active};
 
+use super::Table;
 use crate::answers::Told;
 use crate::locks::moves::parents_before;
 use crate::txn::TxnId;
 use gl_modes::{NodeId, Refusal};
-use super::Table;
 
 impl Table {
     /// As `reparent`, with the notices put into an empty list.

@@ -10,6 +10,7 @@ ghost use Rattle.gl_table.specs.model.Table.{board_of, state_of};
 ghost use Rattle.gl_table.specs.model.Lawful.{effective};
 ghost use Rattle.gl_table.specs.model.State.{is_write, lives, members};
 
+use super::Table;
 use crate::answers::Effect;
 use crate::boards::board;
 use crate::effective::effective;
@@ -17,7 +18,6 @@ use crate::headers::group;
 use crate::txn::TxnId;
 use gl_modes::{Mode, NodeId, Refusal};
 use gl_waits::Board;
-use super::Table;
 
 impl Table {
     /// The mode in which a transaction holds a node, `NL` for none. Refused, in this order, with

@@ -14,10 +14,10 @@ ghost use Rattle.gl_table.specs.model.Table.{state_of};
 ghost use Rattle.gl_table.specs.model.Tellings.{told};
 ghost use Rattle.gl_table.specs.declared.txn.Status.TheVariants.{Active};
 
+use super::Table;
 use crate::answers::Told;
 use crate::txn::TxnId;
 use gl_modes::{NodeId, Refusal};
-use super::Table;
 
 impl Table {
     /// Makes a record of a file, with a key for each of the file's indexes, in order of their making,

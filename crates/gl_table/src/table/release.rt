@@ -6,10 +6,10 @@ ghost use Rattle.gl_table.specs.model.Calls.{RefusesOnly, released, unlocked, co
 ghost use Rattle.gl_table.specs.model.Table.{state_of};
 ghost use Rattle.gl_table.specs.model.Tellings.{told};
 
+use super::Table;
 use crate::answers::Told;
 use crate::txn::TxnId;
 use gl_modes::{NodeId, Refusal};
-use super::Table;
 
 impl Table {
     /// As `unlock`, with the notices put into an empty list.

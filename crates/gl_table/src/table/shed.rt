@@ -9,10 +9,10 @@ ghost use Rattle.gl_table.specs.model.Table.{state_of};
 ghost use Rattle.gl_table.specs.model.Tellings.{told};
 ghost use Rattle.gl_table.specs.declared.txn.Status.TheVariants.{Active};
 
+use super::Table;
 use crate::answers::Told;
 use crate::txn::TxnId;
 use gl_modes::NodeId;
-use super::Table;
 
 impl Table {
     /// As `shed`, with the notices put into an empty list.

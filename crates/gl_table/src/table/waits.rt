@@ -9,10 +9,10 @@ ghost use Rattle.gl_table.specs.model.Table.{state_of};
 ghost use Rattle.gl_table.specs.model.Tellings.{told, told_but};
 ghost use Rattle.gl_waits.specs.Waits.{IsOnNoCycle};
 
+use super::Table;
 use crate::answers::Told;
 use crate::txn::{Status, TxnId};
 use gl_modes::{NodeId, Refusal};
-use super::Table;
 
 impl Table {
     /// As `cancel`, with the notices put into an empty list.

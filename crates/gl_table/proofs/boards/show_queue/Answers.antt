@@ -4,6 +4,7 @@ use Rattle.gl_table.proofs.inside.Boards.{AreRowsShown, reached-row, rows-shown}
 use Rattle.gl_table.proofs.queues.Waiters.{among-next, queue-below}
 use Rattle.gl_table.proofs.boards.show_queue.Goals as goal
 use Rattle.gl_table.proofs.boards.show_queue.Goals.{in-Some-wanted_on+then-not-contains, in-Some-wanted_on+else-not-contains, in_default-wanted_on}
+
 pub bounds-rows-slot : goal.bounds-rows-slot
 bounds-rows-slot c = queue-below c.in-Some.header.now c.queue-slot-items.result.now c.loop-slot.slot-index (0, NL) c.law.ensures.lawful
     c.queue-slot-items.ensures c.loop-slot-test.true

@@ -1,6 +1,7 @@
 use Rattle.gl_table.proofs.Words.{◌≡◌, has_slot, is_among_waiters, length, shown, take, waits_for, ℕ}
 use Rattle.gl_table.proofs.inside.Boards.{AreRowsShown}
 use Rattle.gl_table.proofs.boards.show_queue.Given as goal
+
 -- the set has the slots so far, and each row is as it was or right
 abbrev pub invariant-loop-slot : goal.invariant-loop-slot
 invariant-loop-slot l = record {

@@ -2,6 +2,7 @@ use Rattle.gl_table.proofs.Words.{◌∙◌, ap, graph_of, lent_at, mode_of, no_
 use Rattle.gl_table.proofs.law.Effects.{is_x}
 use Rattle.gl_table.proofs.law.Searches.{cut_off, free_from, is_top, no_parents_length, search_ends, search_meets, search_past, search_up}
 use Rattle.gl_table.proofs.effective.has_free_root.Goals as goal
+
 pub loop-node-preserved-then-holds_x-2 : goal.loop-node-preserved-then-holds_x-2
 loop-node-preserved-then-holds_x-2 c =
     let found = c.loop-node.found.keys in

@@ -1,6 +1,7 @@
 use Rattle.gl_table.proofs.Words.{◌∙◌, ap, graph_of, is_read, lent_at, mode_of, never, node_count, option_copied, refl, sym, with_all}
 use Rattle.gl_table.proofs.law.Searches.{is_read_at, read_from, search_ends, search_meets, search_up, unread}
 use Rattle.gl_table.proofs.effective.reads_above.Goals as goal
+
 pub loop-node-preserved : goal.loop-node-preserved
 loop-node-preserved c =
     let found = c.loop-node.found.keys in

@@ -1,6 +1,7 @@
 use Rattle.gl_table.proofs.Words.{◌-◌, ◌^◌, graph_of, mode_of, never}
 use Rattle.gl_table.proofs.law.Searches.{is_read_at, IsSearch}
 use Rattle.gl_table.proofs.effective.reads_above.Given as goal
+
 abbrev pub invariant-loop-node : goal.invariant-loop-node
 invariant-loop-node l = IsSearch (graph_of l.graph) never (is_read_at (mode_of l.list)) l.fn.n l.found.keys l.at
 

@@ -3,6 +3,7 @@ use Rattle.gl_table.proofs.Words.{OnErr, OnOk, rules, same_node, slot_limit, Som
 use Rattle.gl_table.proofs.inside.Headers.{all-written, asked-granted, asked-on_ok, asked-used, asked-waits, by_answer, entered-is, entered-same, IsAsked}
 use Rattle.gl_table.proofs.inside.Headers.{IsChanged, nobody-enters, refused-there}
 use Rattle.gl_table.proofs.headers.ask.Goals as goal
+
 -- the header that was found or put in, as the headers say
 found : (c : goal.After-headers-3-1) → c.or_insert-header.result.now ≡ header_or_new (header_at c.args.headers.now.entries c.args.node)
 found c = c.or_insert-header.ensures.value ∙ ap₂ unwrap_or c.in-Ok.ensures.value c.new.ensures ∙ entered-is (header_at c.args.headers.now.entries c.args.node)

@@ -3,6 +3,7 @@ use Rattle.gl_table.proofs.inside.Headers.{but-written, header_found, held-chang
 use Rattle.gl_table.proofs.inside.Headers.{written_there}
 use Rattle.gl_table.proofs.headers.dismiss.Goals.{After-dismiss}
 use Rattle.gl_table.proofs.headers.dismiss.Goals as goal
+
 written : (c : After-dismiss) → IsChanged c.args.headers.now.entries (set_value_at c.args.headers.now.entries c.in-Some.at c.dismiss.new.self) c.args.node
     (Some c.dismiss.new.self)
 written c =

@@ -3,6 +3,7 @@ use Rattle.gl_table.proofs.Words.{slot_limit, Some, sym, with_mode}
 use Rattle.gl_table.proofs.inside.Headers.{but-written, header_found, held-changed, IsChanged, key_found, key_stays, queue-changed, written_there}
 use Rattle.gl_table.proofs.headers.drop_grant.Goals.{After-drop_grant}
 use Rattle.gl_table.proofs.headers.drop_grant.Goals as goal
+
 written : (c : After-drop_grant) → IsChanged c.args.headers.now.entries (set_value_at c.args.headers.now.entries c.in-Some.at c.drop_grant.new.self) c.args.node
     (Some c.drop_grant.new.self)
 written c =

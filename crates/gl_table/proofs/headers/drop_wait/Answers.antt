@@ -3,6 +3,7 @@ use Rattle.gl_table.proofs.Words.{slot_limit, Some, sym, without_waiter}
 use Rattle.gl_table.proofs.inside.Headers.{but-written, header_found, held-changed, IsChanged, key_found, key_stays, queue-changed, written_there}
 use Rattle.gl_table.proofs.headers.drop_wait.Goals.{After-drop_wait}
 use Rattle.gl_table.proofs.headers.drop_wait.Goals as goal
+
 written : (c : After-drop_wait) → IsChanged c.args.headers.now.entries (set_value_at c.args.headers.now.entries c.in-Some.at c.drop_wait.new.self) c.args.node
     (Some c.drop_wait.new.self)
 written c =

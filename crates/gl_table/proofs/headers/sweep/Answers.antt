@@ -2,6 +2,7 @@ use Rattle.gl_table.proofs.Words.{◌∙◌, ◌≡◌, ap, header_at, header_or
 use Rattle.gl_table.proofs.inside.Headers.{all-from_but, all-removed, IsChanged, no_place, removed_there, some_key, swept-held, swept-queue}
 use Rattle.gl_table.proofs.headers.sweep.Goals.{After-is_empty}
 use Rattle.gl_table.proofs.headers.sweep.Goals as goal
+
 -- the header that stands there is the node's
 there : (c : After-is_empty) → header_at c.args.headers.now.entries c.args.node ≡ Some c.in-Some.header.now
 there c =

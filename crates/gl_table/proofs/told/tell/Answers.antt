@@ -1,12 +1,15 @@
 use Rattle.gl_table.proofs.Words.{◌∙◌, ◌≤◌, ap, arith, insert, IsBySlot, length, notices_in, subst, sym, ℕ}
 use Rattle.gl_table.proofs.telling.Lists.{by_slot_inserted, notices_inserted, place, place_within, room_to_tell}
 use Rattle.gl_table.proofs.told.tell.Goals as goal
+
 pub insert-requires : goal.insert-requires
 insert-requires c =
     let at = c.place_of-place.ensures ∙ ap (λ xs. place xs c.args.t.slot) c.as_slice.ensures.value in (
       omega arith,
-      (subst (λ (i : ℕ). i ≤ length c.args.told.now.items) (sym at) (place_within c.args.told.now.items c.args.t.slot),
-      room_to_tell c.args.told.now.items (c.args.t, c.args.notice) c.requires.by_slot c.requires.absent c.requires.below),
+      (
+        subst (λ (i : ℕ). i ≤ length c.args.told.now.items) (sym at) (place_within c.args.told.now.items c.args.t.slot),
+        room_to_tell c.args.told.now.items (c.args.t, c.args.notice) c.requires.by_slot c.requires.absent c.requires.below,
+      ),
     )
 
 pub returns-clause-by_slot : goal.returns-clause-by_slot

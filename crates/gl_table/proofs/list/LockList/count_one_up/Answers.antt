@@ -1,6 +1,7 @@
 use Rattle.gl_table.proofs.Words.{◌∙◌, ap, false≢true, IfOk-at_ok, is_some, IsApart, mode_in, refl, rules, sym}
 use Rattle.gl_table.proofs.inside.Lists.{at_each, IsWritten-same, SameListed, SameMode, StaysApart}
 use Rattle.gl_table.proofs.list.LockList.count_one_up.Goals as goal
+
 pub returns-in-Some-clause-listed : goal.returns-in-Some-clause-listed
 returns-in-Some-clause-listed c =
     at_each SameListed c.args.n _ _ _ _ _ _ ((c.get_mut.follows.holds _).3 (search rules)).0

@@ -1,6 +1,7 @@
 use Rattle.gl_table.proofs.Words.{◌∙◌, IfOk-at_ok, IsApart, refl, sym}
 use Rattle.gl_table.proofs.inside.Lists.{at_each, count_in-unlisted, SameCount, StaysApart}
 use Rattle.gl_table.proofs.list.LockList.enter.Goals as goal
+
 pub returns-clause-counts : goal.returns-clause-counts
 returns-clause-counts c =
     at_each SameCount c.args.n _ _ _ _ _ _ (IfOk-at_ok _ c.unwrap.ensures c.insert.ensures.updates).0 c.take_loose-children.ensures.taken

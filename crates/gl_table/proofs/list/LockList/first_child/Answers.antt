@@ -2,6 +2,7 @@ use Rattle.gl_table.proofs.Words.{[], ◌&&◌, ◌++◌, ◌<◌, ◌∙◌, �
 use Rattle.gl_table.proofs.Words.{same_mode, subst, sym, take, take_all, take_more}
 use Rattle.gl_table.proofs.inside.Children.{first_found, first_more, held_listed, IsFirst}
 use Rattle.gl_table.proofs.list.LockList.first_child.Goals as goal
+
 pub loop-child-preserved : goal.loop-child-preserved
 loop-child-preserved c =
     let at = c.as_slice-child-items.ensures ∙ c.keys.ensures.rest in

@@ -1,6 +1,7 @@
 use Rattle.gl_table.proofs.Words.{◌∙◌, ap, arith, count_in, IfOk-at_ok, is_some, IsApart, loose_of, None, refl, rules, sym}
 use Rattle.gl_table.proofs.inside.Lists.{at_each, IsTakenOut, IsTakenOut-apart, IsTakenOut-here, IsWritten-same, SameCount, StaysApart}
 use Rattle.gl_table.proofs.list.LockList.leave.Goals as goal
+
 pub returns-then-entry-gt0-clause-listed : goal.returns-then-entry-gt0-clause-listed
 returns-then-entry-gt0-clause-listed c =
     at_each IsTakenOut c.args.n _ _ _ _ _ _ c.swap_remove.ensures.updates.0 (IfOk-at_ok _ c.unwrap.ensures c.insert.ensures.updates).0 (IsTakenOut-here _)

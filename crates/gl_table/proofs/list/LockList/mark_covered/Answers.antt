@@ -1,6 +1,7 @@
 use Rattle.gl_table.proofs.Words.{◌<◌, ◌∙◌, ◌≤◌, graph_of, length-map, refl, subst, sym, ℕ}
 use Rattle.gl_table.proofs.inside.Children.{marks_begin, marks_end, marks_more}
 use Rattle.gl_table.proofs.list.LockList.mark_covered.Goals as goal
+
 pub loop-at-init : goal.loop-at-init
 loop-at-init c = record {
   listed = λ q. refl;

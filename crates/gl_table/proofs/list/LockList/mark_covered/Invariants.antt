@@ -1,6 +1,7 @@
 use Rattle.gl_table.proofs.Words.{◌≡◌, count_of, graph_of, is_listed, keys, NodeId, take}
 use Rattle.gl_table.proofs.inside.Children.{HasMarked}
 use Rattle.gl_table.proofs.list.LockList.mark_covered.Given as goal
+
 -- the covered children at the places so far are marked
 abbrev pub invariant-loop-at : goal.invariant-loop-at
 invariant-loop-at l = record {

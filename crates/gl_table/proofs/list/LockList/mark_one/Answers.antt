@@ -1,6 +1,7 @@
 use Rattle.gl_table.proofs.Words.{◌∙◌, covered_in, graph_of, mode_of, sym}
 use Rattle.gl_table.proofs.inside.Lists.{key_at, marks_none, marks_one}
 use Rattle.gl_table.proofs.list.LockList.mark_one.Goals as goal
+
 pub returns-then-covers-clause-marks : goal.returns-then-covers-clause-marks
 returns-then-covers-clause-marks c = λ n at q.
     c.set_mode.ensures.modes q

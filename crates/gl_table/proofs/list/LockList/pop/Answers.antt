@@ -1,6 +1,7 @@
 use Rattle.gl_table.proofs.Words.{◌∙◌, ap, is_some, IsApart, lookup, same_node}
 use Rattle.gl_table.proofs.inside.Lists.{at_each, is_some-lookup_last, IsTakenOut, IsTakenOut-apart, IsTakenOut-here, IsWritten-same, StaysApart}
 use Rattle.gl_table.proofs.list.LockList.pop.Goals as goal
+
 pub returns-clause-was : goal.returns-clause-was
 returns-clause-was c =
     ap (λ es. is_some (lookup (same_node c.unwrap.result.0) es)) (rw c.unwrap.ensures at c.pop.ensures.entries)
@@ -18,5 +19,5 @@ returns-clause-apart c = λ old.
     let updates = rw c.unwrap.ensures at c.pop.ensures.updates in (
       c.pop.ensures.unique,
       λ q. at_each StaysApart c.unwrap.result.0 _ _ _ _ _ _ updates.0 (IsWritten-same c.unwrap.result.0 c.args.self.now.loose.entries) (λ f e. cc) (λ x y f. f)
-      q (old.1 q),
+          q (old.1 q),
     )

@@ -1,6 +1,7 @@
 use Rattle.gl_table.proofs.Words.{ap, count_in, is_some, loose_of, refl, rules}
 use Rattle.gl_table.proofs.inside.Lists.{at_each, IsWritten-same, SameCount, SameListed}
 use Rattle.gl_table.proofs.list.LockList.set_mode.Goals as goal
+
 pub returns-in-Some-clause-listed : goal.returns-in-Some-clause-listed
 returns-in-Some-clause-listed c =
     at_each SameListed c.args.n _ _ _ _ _ _ ((c.get_mut.follows.holds _).3 (search rules)).0

@@ -3,6 +3,7 @@ use Rattle.gl_table.proofs.Words.{mode_of, NL, NodeId, option_map, same_mode, sa
 use Rattle.gl_table.proofs.inside.Lists.{first_or_later, held_not, not_taken, still_passed, still_within}
 use Rattle.gl_table.proofs.law.Keeps.{nl_is}
 use Rattle.gl_table.proofs.list.LockList.take_marked.Goals as goal
+
 pub returns-then-holds-clause-passed : goal.returns-then-holds-clause-passed
 returns-then-holds-clause-passed c = λ i n le at.
     let e = c.in_ok-node.field-0 in

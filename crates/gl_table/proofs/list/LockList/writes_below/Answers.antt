@@ -1,6 +1,7 @@
 use Rattle.gl_table.proofs.Words.{◌&&◌, ◌∙◌, ap, graph_of, is_child, is_write, List, list_any, mode_of, NodeId}
 use Rattle.gl_table.proofs.calls.Queries.{writes_listed}
 use Rattle.gl_table.proofs.list.LockList.writes_below.Goals as goal
+
 pub returns : goal.returns
 returns c =
     c.writes_among.ensures

@@ -2,6 +2,7 @@ use Rattle.gl_table.proofs.Words.{◌∙◌, ◌≡◌, ap, cancelled, false, is
 use Rattle.gl_table.proofs.inside.Departures.{free_cancelled, free_idle, free_same, IsFree}
 use Rattle.gl_table.proofs.locks.Locks.abort.Goals.{Joined-seat, in-Some-Waiting, in-Some+in-Active-1, in-None-1}
 use Rattle.gl_table.proofs.locks.Locks.abort.Goals as goal
+
 abbrev before : Joined-seat → State
 before c = state_in c.args.graph.now c.args.self.now
 

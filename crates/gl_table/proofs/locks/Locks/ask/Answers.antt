@@ -10,9 +10,15 @@ use Rattle.gl_table.proofs.law.Keeps.{nl_is}
 use Rattle.gl_table.proofs.locks.Locks.ask.Goals.{After-make_room_to_ask, After-count_up, After-set_mode, After-set_status, then-not-is_member}
 use Rattle.gl_table.proofs.locks.Locks.ask.Goals.{else-not-is_member}
 use Rattle.gl_table.proofs.locks.Locks.ask.Goals as goal
+
 may : (c : After-make_room_to_ask) → MayAsk (graph_of c.args.graph.now) c.args.self.now c.args.slot
-may c = record { sound = c.requires.exact.sound; orderly = c.requires.orderly; agree = c.requires.exact.agree; count = c.requires.exact.count;
-    active = c.requires.active }
+may c = record {
+  sound = c.requires.exact.sound;
+  orderly = c.requires.orderly;
+  agree = c.requires.exact.agree;
+  count = c.requires.exact.count;
+  active = c.requires.active;
+}
 
 -- whether the slot holds the node, as its list says
 member_is : (c : After-make_room_to_ask) → c.ne-is_member.result ≡ holds (members (state_in c.args.graph.now c.args.self.now) c.args.node) c.args.slot

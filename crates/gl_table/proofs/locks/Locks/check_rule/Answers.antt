@@ -1,6 +1,7 @@
 use Rattle.gl_table.proofs.Words.{◌∙◌, ◌≡◌, ap₂, fun_ext, held_by, Mode, mode_of, NL, NodeId, rule_refusal, sym, verdict}
 use Rattle.gl_table.proofs.inside.Slots.{by_list-at}
 use Rattle.gl_table.proofs.locks.Locks.check_rule.Goals as goal
+
 pub returns : goal.returns
 returns c =
     let list = c.index.result.now in

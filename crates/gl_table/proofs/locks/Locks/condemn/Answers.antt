@@ -5,6 +5,7 @@ use Rattle.gl_table.proofs.law.Keeps.{waiting_is}
 use Rattle.gl_table.proofs.telling.GivenUp.{orderly_without, TellsVictim, victim_absent, victim_told, victim_untold, way_withdrawn}
 use Rattle.gl_table.proofs.locks.Locks.condemn.Goals.{After-tell, After-withdraw}
 use Rattle.gl_table.proofs.locks.Locks.condemn.Goals as goal
+
 abbrev before : After-withdraw → State
 before c = state_in c.args.graph.now c.args.self.now
 

@@ -3,6 +3,7 @@ use Rattle.gl_table.proofs.Words.{queue_of, refl, same_node, slot_limit, State, 
 use Rattle.gl_table.proofs.inside.Granted.{can_wake_front, held-pumped, members-with_grant, pumped_by_fields, queue-pumped, released_front, wakes-same}
 use Rattle.gl_table.proofs.telling.Fronts.{well_granted, woken_front}
 use Rattle.gl_table.proofs.locks.Locks.drop_and_wake.Goals as goal
+
 pub wake_granted-requires : goal.wake_granted-requires
 wake_granted-requires c =
     let s = state_in c.args.graph.now c.args.self.now in

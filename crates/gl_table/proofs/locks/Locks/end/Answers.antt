@@ -4,6 +4,7 @@ use Rattle.gl_table.proofs.inside.Slots.{apart-set}
 use Rattle.gl_table.proofs.inside.Seats.{agrees-gone, counts-gone, state-freed}
 use Rattle.gl_table.proofs.telling.Ways.{gone_tells}
 use Rattle.gl_table.proofs.locks.Locks.end.Goals as goal
+
 pub returns-clause-exact : goal.returns-clause-exact
 returns-clause-exact c =
     let left = c.leave_all.new.self in

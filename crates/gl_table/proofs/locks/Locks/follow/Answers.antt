@@ -2,6 +2,7 @@ use Rattle.gl_table.proofs.Words.{◌&&◌, ◌+◌, ◌<◌, ◌==◌, ◌^◌,
 use Rattle.gl_table.proofs.Words.{mode_of, NL, NodeId, not, parents_of, same_mode, same_node, State, state_in, subst, sym, unlisted, ℕ}
 use Rattle.gl_table.proofs.inside.Slots.{agrees_recounted, apart-set, by_list-at, counts_recounted}
 use Rattle.gl_table.proofs.locks.Locks.follow.Goals as goal
+
 -- the mover's list says what it holds of the node
 held_here : (c : goal.After-parents) → mode_of c.index_mut-list.result.now c.args.node
     ≡ (state_in c.args.graph.now c.args.self.now).held c.args.slot c.args.node

@@ -2,6 +2,7 @@ use Rattle.gl_table.proofs.Words.{arith, ByWatcher, empty_state, Graph, refl, st
 use Rattle.gl_table.proofs.inside.Boards.{cycle_waits}
 use Rattle.gl_table.proofs.inside.KeptRows.{kept-all, kept-more, kept-none, left-on_cycle}
 use Rattle.gl_table.proofs.locks.Locks.keep_deadlock.Goals as goal
+
 -- some graph: who waits for whom is the same over each
 some_graph : Graph
 some_graph = (empty_state ByWatcher 0).graph

@@ -1,6 +1,7 @@
 use Rattle.gl_table.proofs.Words.{Graph, number_of, state_on}
 use Rattle.gl_table.proofs.inside.KeptRows.{IsKeptBut}
 use Rattle.gl_table.proofs.locks.Locks.keep_deadlock.Given as goal
+
 abbrev pub invariant-loop-waiter : goal.invariant-loop-waiter
 invariant-loop-waiter l = (g : Graph) → IsKeptBut (state_on g l.self) l.slot l.victim l.cycle l.left l.deadlock
 

@@ -4,6 +4,7 @@ use Rattle.gl_table.proofs.inside.Departures.{IsLeaving, leaving_begins, leaving
 use Rattle.gl_table.proofs.inside.Slots.{agrees-set, apart-set, by_list-at, counts-set, popped-listed, slice_get-at}
 use Rattle.gl_table.proofs.telling.Fronts.{stands_other}
 use Rattle.gl_table.proofs.locks.Locks.leave_all.Goals as goal
+
 pub loop-node-init : goal.loop-node-init
 loop-node-init c = record {
   sound = c.requires.exact.sound;

@@ -1,6 +1,7 @@
 use Rattle.gl_table.proofs.Words.{AreSound, count_by, graph_of, holds, members, nodes, state_in}
 use Rattle.gl_table.proofs.inside.Departures.{IsLeaving}
 use Rattle.gl_table.proofs.locks.Locks.leave_all.Given as goal
+
 abbrev pub invariant-loop-node : goal.invariant-loop-node
 invariant-loop-node l = record {
   sound : AreSound l.self;

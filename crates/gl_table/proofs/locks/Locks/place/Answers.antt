@@ -4,9 +4,15 @@ use Rattle.gl_table.proofs.inside.Asks.{is_placed, IsGranted, MayAsk, own-few, o
 use Rattle.gl_table.proofs.inside.Slots.{counts-entered, has_node-set}
 use Rattle.gl_table.proofs.locks.Locks.place.Goals.{After-law, After-self-1}
 use Rattle.gl_table.proofs.locks.Locks.place.Goals as goal
+
 may : (c : After-law) → MayAsk (graph_of c.args.graph.now) c.args.self.now c.args.slot
-may c = record { sound = c.requires.exact.sound; orderly = c.requires.orderly; agree = c.requires.exact.agree; count = c.requires.exact.count;
-    active = c.requires.active }
+may c = record {
+  sound = c.requires.exact.sound;
+  orderly = c.requires.orderly;
+  agree = c.requires.exact.agree;
+  count = c.requires.exact.count;
+  active = c.requires.active;
+}
 
 pub enter-requires-clause-new : goal.enter-requires-clause-new
 enter-requires-clause-new c =

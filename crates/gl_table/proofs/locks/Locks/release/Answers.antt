@@ -2,6 +2,7 @@ use Rattle.gl_table.proofs.Words.{◌<◌, ◌∙◌, Agrees, CanStrike, CountsH
 use Rattle.gl_table.proofs.inside.Released.{agrees_released, can_strike, counts_released}
 use Rattle.gl_table.proofs.law.Keeps.{txn_there}
 use Rattle.gl_table.proofs.locks.Locks.release.Goals as goal
+
 pub strike-requires-clause-can : goal.strike-requires-clause-can
 strike-requires-clause-can c =
     let s : State = state_in c.args.graph.now c.args.self.now in

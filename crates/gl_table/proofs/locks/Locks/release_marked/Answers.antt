@@ -1,6 +1,7 @@
 use Rattle.gl_table.proofs.Words.{arith, State, state_in, subst, sym}
 use Rattle.gl_table.proofs.inside.Marked.{IsReleasing, marked_childless, marked_counted, releasing_ends, releasing_modes, releasing_one}
 use Rattle.gl_table.proofs.locks.Locks.release_marked.Goals as goal
+
 pub take_marked-requires-clause-childless : goal.take_marked-requires-clause-childless
 take_marked-requires-clause-childless c =
     marked_childless (state_in c.args.graph.now c.args.self.now) (state_in c.args.graph.now c.loop-at.self) c.args.slot c.args.node c.loop-at.self.lists.items

@@ -1,6 +1,7 @@
 use Rattle.gl_table.proofs.Words.{◌≤◌, AreSound, keys, length, NoneMarkedFrom, state_in}
 use Rattle.gl_table.proofs.inside.Marked.{IsReleasing}
 use Rattle.gl_table.proofs.locks.Locks.release_marked.Given as goal
+
 abbrev pub invariant-loop-at : goal.invariant-loop-at
 invariant-loop-at l = record {
   sound : AreSound l.self;

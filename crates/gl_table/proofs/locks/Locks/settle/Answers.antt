@@ -2,6 +2,7 @@ use Rattle.gl_table.proofs.Words.{◌<◌, ap, graph_of, refl, State, state_in, 
 use Rattle.gl_table.proofs.inside.KeptRows.{keeping_turn, settles-keeping}
 use Rattle.gl_table.proofs.inside.Withdrawn.{fewer_wait, how_many_wait}
 use Rattle.gl_table.proofs.locks.Locks.settle.Goals as goal
+
 pub loop-victim-smaller : goal.loop-victim-smaller
 loop-victim-smaller c =
     let s = state_in c.args.graph.now c.loop-victim.self in

@@ -2,6 +2,7 @@ use Rattle.gl_table.proofs.Words.{state_in}
 use Rattle.gl_table.proofs.inside.KeptRows.{IsSettling}
 use Rattle.gl_table.proofs.inside.Withdrawn.{how_many_wait}
 use Rattle.gl_table.proofs.locks.Locks.settle.Given as goal
+
 abbrev pub invariant-loop-victim : goal.invariant-loop-victim
 invariant-loop-victim l = IsSettling l.fn.graph l.victims l.initial.self l.initial.deadlock l.initial.told.items l.slot l.self l.deadlock
     l.told.items

@@ -3,6 +3,7 @@ use Rattle.gl_table.proofs.telling.Fronts.{way_here}
 use Rattle.gl_table.proofs.telling.Lists.{told_in_order, told_nothing}
 use Rattle.gl_table.proofs.telling.Ways.{nobody_told}
 use Rattle.gl_table.proofs.locks.Locks.settle_asker.Goals as goal
+
 pub returns-then-matches-clause-told : goal.returns-then-matches-clause-told
 returns-then-matches-clause-told c =
     let before = state_in c.args.graph.now c.args.self.now in

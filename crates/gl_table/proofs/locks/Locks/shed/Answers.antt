@@ -2,6 +2,7 @@ use Rattle.gl_table.proofs.Words.{◌∙◌, graph_of, IsApart, length-set, Stat
 use Rattle.gl_table.proofs.inside.Marked.{agrees-back, counts-back, list_there, parents_counted, shedding_begins, taken_out}
 use Rattle.gl_table.proofs.inside.Slots.{agrees-set, apart-set, counts-set}
 use Rattle.gl_table.proofs.locks.Locks.shed.Goals as goal
+
 pub mark_covered-requires : goal.mark_covered-requires
 mark_covered-requires c = record {
   counted = parents_counted (state_in c.args.graph.now c.args.self.now) c.requires.orderly c.args.slot c.requires.active c.law.ensures.lawful

@@ -5,6 +5,7 @@ use Rattle.gl_table.proofs.law.Strays.{among_at, IsSetOf, set-with, set-without}
 use Rattle.gl_table.proofs.telling.Fronts.{waiters_below}
 use Rattle.gl_table.proofs.locks.Locks.strays.Goals.{then-not-is_allowed, else-not-is_allowed}
 use Rattle.gl_table.proofs.locks.Locks.strays.Goals as goal
+
 pub index-list-requires : goal.index-list-requires
 index-list-requires c =
     let s : State = state_in c.args.graph.now c.args.self.now in

@@ -3,6 +3,7 @@ use Rattle.gl_waits.specs.Sets.{has_slot}
 use Rattle.gl_table.proofs.inside.TurnedAway.{told_at_end, turned_below, turned_front, turned_room, turned_untold, turned_waits, turning_begins, turning_ends}
 use Rattle.gl_table.proofs.inside.TurnedAway.{turning_one}
 use Rattle.gl_table.proofs.locks.Locks.turn_away.Goals as goal
+
 pub loop-strays-init : goal.loop-strays-init
 loop-strays-init c =
     let s : State = state_in c.args.graph.now c.args.self.now in

@@ -2,6 +2,7 @@ use Rattle.gl_table.proofs.Words.{AreSound, graph_of, parents_of, state_in, stay
 use Rattle.gl_waits.specs.Sets.{has_slot}
 use Rattle.gl_table.proofs.inside.TurnedAway.{IsTurning}
 use Rattle.gl_table.proofs.locks.Locks.turn_away.Given as goal
+
 abbrev pub invariant-loop-strays : goal.invariant-loop-strays
 invariant-loop-strays l = record {
   sound : AreSound l.self;

@@ -4,6 +4,7 @@ use Rattle.gl_table.proofs.inside.Vacated.{agrees_vacated, can_free, can_strike,
 use Rattle.gl_table.proofs.law.Keeps.{txn_there}
 use Rattle.gl_table.proofs.locks.Locks.vacate.Goals.{After-parents, After-queue, After-strike, Joined-header}
 use Rattle.gl_table.proofs.locks.Locks.vacate.Goals as goal
+
 may : (c : After-parents) → MayVacate (state_in c.args.graph.now c.args.self.now) c.args.slot c.args.rec c.args.self.now.lists.items
 may c = record {
   orderly = c.requires.orderly;

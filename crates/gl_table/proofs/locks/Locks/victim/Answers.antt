@@ -3,6 +3,7 @@ use Rattle.gl_table.proofs.Words.{Seat, shown, state_on, subst, sym, txns_of, wa
 use Rattle.gl_table.proofs.inside.Boards.{victim_by_ages, victim_waits}
 use Rattle.gl_table.proofs.locks.Locks.victim.Goals.{In_ok-victim}
 use Rattle.gl_table.proofs.locks.Locks.victim.Goals as goal
+
 -- what is read from the locks is what their state says over any graph
 chosen : (c : In_ok-victim) (g : Graph) → IsVictim c.args.victims (state_on g c.args.self.now) c.args.slot c.in_ok-victim.victim
 chosen c g =

@@ -2,6 +2,7 @@ use Rattle.gl_table.proofs.Words.{◌≡◌, graph_of, length, nil_from_length, 
 use Rattle.gl_table.proofs.inside.Granted.{wakes-same}
 use Rattle.gl_table.proofs.inside.Woken.{woken_none}
 use Rattle.gl_table.proofs.locks.Locks.wake_granted.Goals as goal
+
 pub returns-then-is_empty-clause-wakes : goal.returns-then-is_empty-clause-wakes
 returns-then-is_empty-clause-wakes c =
     let none : length c.args.granted.now ≡ 0 = search rules in

@@ -7,6 +7,7 @@ use Rattle.gl_table.proofs.law.Keeps.{txn_there, waiting_is}
 use Rattle.gl_table.proofs.telling.Fronts.{waits_only}
 use Rattle.gl_table.proofs.locks.Locks.withdraw.Goals.{After-holds}
 use Rattle.gl_table.proofs.locks.Locks.withdraw.Goals as goal
+
 abbrev before : After-holds → State
 before c = state_in c.args.graph.now c.args.self.now
 

@@ -1,6 +1,7 @@
 use Rattle.gl_table.proofs.Words.{◌≤◌, graph_of, length, List, LockList, subst}
 use Rattle.gl_table.proofs.calls.Queries.{no_writes, past_end}
 use Rattle.gl_table.proofs.locks.Locks.writes_below.Goals as goal
+
 pub returns-in-None : goal.returns-in-None
 returns-in-None c =
     no_writes c.args.self.now.lists.items (graph_of c.args.graph.now) c.args.slot c.args.node

@@ -1,5 +1,6 @@
 use Rattle.gl_table.proofs.inside.Slots.{has_room-set, keeps-set}
 use Rattle.gl_table.proofs.locks.ask.make_room.Goals as goal
+
 pub returns-in-Ok-clause-kept : goal.returns-in-Ok-clause-kept
 returns-in-Ok-clause-kept c =
     keeps-set c.args.lists.now.items c.args.slot c.index_mut.result.now c.make_room.new.self c.requires c.index_mut.ensures.value c.make_room.ensures.entries

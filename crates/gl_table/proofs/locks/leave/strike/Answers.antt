@@ -1,6 +1,7 @@
 use Rattle.gl_table.proofs.Words.{◌∙◌, ◌≤◌, count_by, count_of, same_node, subst, sym, ℕ}
 use Rattle.gl_table.proofs.inside.Slots.{by_list-at, struck-written}
 use Rattle.gl_table.proofs.locks.leave.strike.Goals as goal
+
 pub count_down-requires-clause-some : goal.count_down-requires-clause-some
 count_down-requires-clause-some c = λ q.
     subst (λ (k : ℕ). count_by (same_node q) c.args.parents.now ≤ k)

@@ -1,6 +1,7 @@
 use Rattle.gl_table.proofs.Words.{◌∙◌, ◌≡◌, ap, is_none, is_ok, mode_of, None, Option, refl, Refusal, Some, verdict}
 use Rattle.gl_table.proofs.law.Strays.{rule_allows}
 use Rattle.gl_table.proofs.locks.moves.is_allowed.Goals as goal
+
 -- no reason to refuse
 passes : (o : Option Refusal) → is_ok (verdict o) ≡ is_none o
 passes None = refl

@@ -2,6 +2,7 @@ use Rattle.gl_table.proofs.Words.{[], arith, NL}
 use Rattle.gl_table.proofs.inside.Slots.{struck-written}
 use Rattle.gl_table.proofs.inside.Woken.{freed_more, gone_within, may_leave, may_tell_gone, no_children, slot_listed}
 use Rattle.gl_table.proofs.locks.place.free.Goals as goal
+
 pub set_status-age-requires : goal.set_status-age-requires
 set_status-age-requires c =
     gone_within c.args.seats.now.items c.args.lists.now.items c.args.told.now.items c.args.node c.args.waiters.now c.requires c.loop-waiter.waiter-index (0, NL)

@@ -1,6 +1,7 @@
 use Rattle.gl_table.proofs.Words.{not-false, not-true, sym}
 use Rattle.gl_table.proofs.inside.Slots.{few-kept, held-new, held-raised, held-written, kept-apart, room-kept}
 use Rattle.gl_table.proofs.locks.wake.hold.Goals as goal
+
 pub count_up-requires-clause-apart : goal.count_up-requires-clause-apart
 count_up-requires-clause-apart c =
     kept-apart c.args.lists.now.items c.args.slot c.index_mut-list.result.now c.set_mode.new.self c.requires.can.slot c.index_mut-list.ensures.value

@@ -1,6 +1,7 @@
 use Rattle.gl_table.proofs.Words.{NL}
 use Rattle.gl_table.proofs.inside.Woken.{may_hold, may_tell, slot_within, woken_more, woken_none}
 use Rattle.gl_table.proofs.locks.wake.wake.Goals as goal
+
 pub loop-waiter-init : goal.loop-waiter-init
 loop-waiter-init c = woken_none c.args.seats.now.items c.args.lists.now.items c.args.told.now.items c.args.node c.args.parents.now c.args.granted.now c.requires
 

@@ -2,6 +2,7 @@ use Rattle.gl_table.proofs.Words.{◌∙◌, ap, released, state_of, TableView, 
 use Rattle.gl_table.proofs.calls.Calls.{orderly, sound_released, state_released}
 use Rattle.gl_table.proofs.calls.Ends.{told_ended}
 use Rattle.gl_table.proofs.table.Table.abort_telling.Goals as goal
+
 pub abort-requires-clause-orderly : goal.abort-requires-clause-orderly
 abort-requires-clause-orderly c = orderly c.self.inside c.self.invariant
 

@@ -3,6 +3,7 @@ use Rattle.gl_table.proofs.Words.{Some, state_of, subst, sym, TableView, TxnId}
 use Rattle.gl_modes.specs.declared.refusal.Refusal.TheVariants as no
 use Rattle.gl_table.proofs.calls.Law.{begin-refusal, begun-sound, begun-state, found-slot}
 use Rattle.gl_table.proofs.table.Table.begin.Goals as goal
+
 -- no slot is free
 
 full : (c : goal.In_default) → first_refusal (begin_tests (state_of c.args.self.now)) ≡ Some no.TooManyTxns
@@ -33,7 +34,7 @@ returns-clause-begun c = (
   slot c,
   ap (λ (v : TableView). v.begins + 1) c.self.view_is,
   begun-state c.self.inside c.self.invariant c.in-Some.slot (seat c) c.take.new.self c.take.ensures
-  ∙ ap (λ (v : TableView). begun (state_of v) c.in-Some.slot) c.self.view_is,
+      ∙ ap (λ (v : TableView). begun (state_of v) c.in-Some.slot) c.self.view_is,
 )
 
 pub returns-clause-refuses : goal.returns-clause-refuses

@@ -3,6 +3,7 @@ use Rattle.gl_table.proofs.calls.Calls.{orderly}
 use Rattle.gl_table.proofs.calls.Ends.{sound_cancelled, state_cancelled, told_cancelled}
 use Rattle.gl_table.proofs.table.Table.cancel_telling.Goals.{After-withdraw}
 use Rattle.gl_table.proofs.table.Table.cancel_telling.Goals as goal
+
 pub withdraw-requires-clause-orderly : goal.withdraw-requires-clause-orderly
 withdraw-requires-clause-orderly c = orderly c.self.inside c.self.invariant
 

@@ -2,6 +2,7 @@ use Rattle.gl_table.proofs.Words.{[], ◌∷◌, ◌≡◌, Err, first_refusal, 
 use Rattle.gl_modes.specs.declared.refusal.Refusal.TheVariants as no
 use Rattle.gl_table.proofs.calls.Queries.{live_held, says_child, says_no_child, says_none, says_not_held}
 use Rattle.gl_table.proofs.table.Table.check_childless.Goals as goal
+
 pub first_child-requires : goal.first_child-requires
 first_child-requires c = record { live = live_held c.self.inside c.self.invariant c.args.t.slot c.args.n }
 

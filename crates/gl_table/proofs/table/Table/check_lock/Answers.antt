@@ -6,6 +6,7 @@ use Rattle.gl_table.proofs.calls.Locking.{rule_decides, test_refused}
 use Rattle.gl_table.proofs.calls.Queries.{modes-seen}
 use Rattle.gl_table.proofs.table.Table.check_lock.Goals.{After-check_rule}
 use Rattle.gl_table.proofs.table.Table.check_lock.Goals as goal
+
 -- only the rule of the graph was left to be tested
 left : (c : After-check_rule) → rule_refusal (held_by c.self.inside.locks.lists.items c.args.t.slot) (parents_of (graph_of c.self.inside.graph) c.args.n)
     c.sup.result ≡ first_refusal (lock_tests (state_of c.args.self.now) c.args.t c.args.n c.args.mode)

@@ -1,6 +1,7 @@
 use Rattle.gl_table.proofs.Words.{◌&&◌, ◌∙◌, ap, held_children, holds, if◌then◌else◌, lives, members, None, Some, state_of, sym}
 use Rattle.gl_table.proofs.calls.Queries.{children-seen, passed}
 use Rattle.gl_table.proofs.table.Table.children.Goals as goal
+
 pub returns-in-Some : goal.returns-in-Some
 returns-in-Some c =
     let s = state_of c.args.self.now in

@@ -2,6 +2,7 @@ use Rattle.gl_table.proofs.Words.{◌∙◌, ap, released, state_of, TableView, 
 use Rattle.gl_table.proofs.calls.Calls.{orderly, sound_released, state_released}
 use Rattle.gl_table.proofs.calls.Ends.{told_ended}
 use Rattle.gl_table.proofs.table.Table.commit_telling.Goals as goal
+
 pub end-requires-clause-orderly : goal.end-requires-clause-orderly
 end-requires-clause-orderly c = orderly c.self.inside c.self.invariant
 

@@ -2,6 +2,7 @@ use Rattle.gl_table.proofs.Words.{◌≡◌, AtBlock, HasNoConflict, HasNoCycle,
 use Rattle.gl_table.proofs.calls.Law.{lists_agree, stand_once}
 use Rattle.gl_table.proofs.law.Effects.{no_conflict_law}
 use Rattle.gl_table.proofs.table.Table.law.Goals as goal
+
 pub returns-clause-lists : goal.returns-clause-lists
 returns-clause-lists c = subst ListsAgree c.self.view_is (lists_agree c.self.inside c.self.invariant)
 

@@ -1,6 +1,7 @@
 use Rattle.gl_table.proofs.Words.{◌∙◌, ap, if◌then◌else◌, lives, None, rows_of, slice_get, state_of, sym}
 use Rattle.gl_table.proofs.calls.Queries.{are_rows, passed, row-at}
 use Rattle.gl_table.proofs.table.Table.lock_at.Goals as goal
+
 pub returns-in-Some-clause-row : goal.returns-in-Some-clause-row
 returns-in-Some-clause-row c =
     let s = state_of c.args.self.now in

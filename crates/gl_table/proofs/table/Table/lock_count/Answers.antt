@@ -1,6 +1,7 @@
 use Rattle.gl_table.proofs.Words.{◌∙◌, ap, if◌then◌else◌, length, lives, None, rows_of, Some, state_of, sym}
 use Rattle.gl_table.proofs.calls.Queries.{passed, row-count}
 use Rattle.gl_table.proofs.table.Table.lock_count.Goals as goal
+
 pub returns-in-Some : goal.returns-in-Some
 returns-in-Some c =
     let s = state_of c.args.self.now in

@@ -10,6 +10,7 @@ use Rattle.gl_table.proofs.law.Keeps.{txn_there}
 use Rattle.gl_table.proofs.law.Lock.{MayLock}
 use Rattle.gl_table.proofs.table.Table.lock_telling.Goals.{After-ask, In-Granted, In-Waiting}
 use Rattle.gl_table.proofs.table.Table.lock_telling.Goals as goal
+
 -- the tests of the ask passed, and this is the mode held
 checked : (c : After-ask) → (first_refusal (lock_tests (state_of c.args.self.now) c.args.t c.args.n c.args.mode) ≡ None)
     × (c.in_ok-held.held ≡ (state_of c.args.self.now).held c.args.t.slot c.args.n)

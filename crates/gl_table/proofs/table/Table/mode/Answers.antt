@@ -1,6 +1,7 @@
 use Rattle.gl_table.proofs.Words.{◌∙◌, ap, if◌then◌else◌, lives, None, Some, state_of, sym}
 use Rattle.gl_table.proofs.calls.Queries.{modes-seen, passed}
 use Rattle.gl_table.proofs.table.Table.mode.Goals as goal
+
 pub returns-in-Some : goal.returns-in-Some
 returns-in-Some c =
     let s = state_of c.args.self.now in

@@ -5,6 +5,7 @@ use Rattle.gl_table.proofs.calls.Calls.{orderly}
 use Rattle.gl_table.proofs.calls.Records.{record_lives, record_unawaited, record_unheld, same_state, sound_grown, sound_placed, sound_roomy, state_placed}
 use Rattle.gl_table.proofs.table.Table.place_under.Goals.{After-add_record_under}
 use Rattle.gl_table.proofs.table.Table.place_under.Goals as goal
+
 pub invariant_of-self : goal.invariant_of-self
 invariant_of-self c = sound_roomy c.self.inside c.self.invariant c.prepare.new.self c.prepare.ensures.kept.headers c.prepare.ensures.kept.seats
     c.prepare.ensures.kept.lists

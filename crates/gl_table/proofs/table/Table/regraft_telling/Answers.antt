@@ -4,6 +4,7 @@ use Rattle.gl_table.proofs.calls.Moves.{agree_moved, bare_moved, counted_moved, 
 use Rattle.gl_table.proofs.calls.Moves.{state_moved, stuck_moved, told_moved}
 use Rattle.gl_table.proofs.law.Move.{moved_node, Moves}
 use Rattle.gl_table.proofs.table.Table.regraft_telling.Goals as goal
+
 abbrev after : goal.After-as_slice → Node → Node
 after c was = moved_node c.args.parents.now was
 

@@ -3,6 +3,7 @@ use Rattle.gl_table.proofs.Words.{true, view_of, X}
 use Rattle.gl_table.proofs.calls.Calls.{orderly}
 use Rattle.gl_table.proofs.calls.Records.{held_alone, sound_deleted, state_deleted, told_deleted}
 use Rattle.gl_table.proofs.table.Table.remove_telling.Goals as goal
+
 pub vacate-requires-clause-orderly : goal.vacate-requires-clause-orderly
 vacate-requires-clause-orderly c = orderly c.self.inside c.self.invariant
 

@@ -4,6 +4,7 @@ use Rattle.gl_table.proofs.calls.Moves.{agree_moved, bare_moved, counted_moved, 
 use Rattle.gl_table.proofs.calls.Moves.{state_moved, stuck_moved, told_moved}
 use Rattle.gl_table.proofs.law.Move.{Moves, rekeyed_to}
 use Rattle.gl_table.proofs.table.Table.reparent_telling.Goals as goal
+
 abbrev after : goal.After-as_slice → Node → Node
 after c was = rekeyed_to (graph_of c.args.self.now.graph) c.args.rec c.args.index c.args.key was
 

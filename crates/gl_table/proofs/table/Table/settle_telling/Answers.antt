@@ -3,6 +3,7 @@ use Rattle.gl_table.proofs.calls.Calls.{orderly}
 use Rattle.gl_table.proofs.calls.Ends.{kept_settled, sound_settled, state_settled, told_settled}
 use Rattle.gl_table.proofs.telling.Lists.{settled_same, told_settled_same}
 use Rattle.gl_table.proofs.table.Table.settle_telling.Goals as goal
+
 pub settle-requires-clause-orderly : goal.settle-requires-clause-orderly
 settle-requires-clause-orderly c = orderly c.self.inside c.self.invariant
 
@@ -36,5 +37,5 @@ returns-clause-idle c = λ none. (
       (state_of (view_of (record c.self.inside { locks = c.settle.new.self; deadlock = c.settle.new.deadlock }))) c.args.t.slot
       (subst (λ (v : TableView). IsLawful (state_of v)) c.self.view_is c.self.invariant.lawful) none (returns-clause-state c),
   settled_same (state_of c.args.self.now).victims (state_of c.args.self.now)
-  (state_of (view_of (record c.self.inside { locks = c.settle.new.self; deadlock = c.settle.new.deadlock }))) c.args.t.slot none (returns-clause-state c),
+      (state_of (view_of (record c.self.inside { locks = c.settle.new.self; deadlock = c.settle.new.deadlock }))) c.args.t.slot none (returns-clause-state c),
 )

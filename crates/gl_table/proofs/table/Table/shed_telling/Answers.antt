@@ -3,6 +3,7 @@ use Rattle.gl_table.proofs.Words.{TableView, told, true, view_of}
 use Rattle.gl_table.proofs.calls.Calls.{orderly}
 use Rattle.gl_table.proofs.calls.Records.{no_more_kept, number_kept, number_released, sound_shed, state_shed, told_shed}
 use Rattle.gl_table.proofs.table.Table.shed_telling.Goals as goal
+
 pub shed-requires-clause-orderly : goal.shed-requires-clause-orderly
 shed-requires-clause-orderly c = orderly c.self.inside c.self.invariant
 

@@ -6,6 +6,7 @@ use Rattle.gl_table.proofs.calls.Locking.{answered-err, answered-ok, decided, ma
 use Rattle.gl_table.proofs.calls.Queries.{modes-seen}
 use Rattle.gl_table.proofs.law.Lock.{MayLock}
 use Rattle.gl_table.proofs.table.Table.try_lock.Goals as goal
+
 pub returns-in_err-held-clause-refuses : goal.returns-in_err-held-clause-refuses
 returns-in_err-held-clause-refuses c =
     let is = try_refused (state_of c.args.self.now) c.args.t c.args.n c.args.mode c.in_err-held.field-0.0

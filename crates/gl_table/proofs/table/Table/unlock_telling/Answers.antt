@@ -1,6 +1,7 @@
 use Rattle.gl_table.proofs.Words.{◌∙◌, ap, front_at, NL, State, state_in, state_of, subst, TableView, Told, told, unlocked, view_of, WakesTold, with_grant}
 use Rattle.gl_table.proofs.calls.Calls.{may_unlock, orderly, sound_unlocked, state_unlocked, told_unlocked}
 use Rattle.gl_table.proofs.table.Table.unlock_telling.Goals as goal
+
 pub release-requires-clause-orderly : goal.release-requires-clause-orderly
 release-requires-clause-orderly c = orderly c.self.inside c.self.invariant
 

@@ -1,6 +1,7 @@
 use Rattle.gl_table.proofs.Words.{◌&&◌, ◌∙◌, ap, is_child, is_write, list_any, lives, nodes, state_of, sym}
 use Rattle.gl_table.proofs.calls.Queries.{live_held, passed, writes-seen}
 use Rattle.gl_table.proofs.table.Table.writes_below.Goals as goal
+
 pub writes_below-requires : goal.writes_below-requires
 writes_below-requires c = record { live = live_held c.self.inside c.self.invariant c.args.t.slot c.args.n }
 
