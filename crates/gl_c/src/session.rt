@@ -2,8 +2,8 @@
 
 ghost use Rattle.std.specs.Prelude.{◌≡◌, ◌≤◌, IfErr, IfOk};
 ghost use Rattle.gl_modes.specs.declared.refusal.Refusal.{Refusal as ARefusal};
-ghost use Rattle.gl_table.specs.BoardOf.{board_of};
-ghost use Rattle.gl_table.specs.State.{choosing, empty_state};
+ghost use Rattle.gl_table.specs.model.Table.{board_of};
+ghost use Rattle.gl_table.specs.model.State.{choosing, empty_state};
 ghost use Rattle.gl_catalog.specs.Manager.{state_of};
 ghost use Rattle.gl_c.specs.Carries.{Answers, Replies};
 ghost use Rattle.gl_c.specs.Looks.{looked};

@@ -2,7 +2,7 @@
 use Rattle.std.proofs.Common.{◌≡◌, ℕ, ◌+◌, ◌≤◌, Bool, true, false, MatchBool, List, [], ◌∷◌, ◌++◌, length, refl, sym, ap, ◌∙◌, subst, arith, zero-le, le_refl, le_trans, length-append, ◌⊎◌, ⊎_elim}
 use mathlib.Core.List.{IsPrefix}
 use Rattle.gl_waits.specs.declared.board.Board.{Board}
-use Rattle.gl_table.specs.declared.detect.Detect.{Detect}
+use Rattle.gl_table.specs.declared.answers.Detect.{Detect}
 use Rattle.gl_shared.specs.Boards.{last_epoch, Rising, Ends, Fine, AllFine, IsLawful}
 use Rattle.gl_shared.proofs.Fronts.{prefix_trans, prefix_length, prefix_shorter, prefix_whole}
 
@@ -22,14 +22,6 @@ last_of e (x ∷ xs) b = last_of x.epoch xs b
 pub last_ends : (list : List Board) (b : Board) → Ends list b → last_epoch 0 list ≡ b.epoch
 last_ends list b h = ap (last_epoch 0) h.1 ∙ last_of 0 h.0 b
 
--- a lawful list and one more board
-pub lawful_more : (detect : Detect) (first : Board) (list : List Board) (last y : Board) → IsLawful detect first list → Ends list last → last.epoch ≤ y.epoch → Fine detect y → IsLawful detect first (list ++ y ∷ [])
-lawful_more detect first list last y law ends le fine = record {
-  begins = prefix_trans (first ∷ []) list (list ++ y ∷ []) law.begins (y ∷ [], refl);
-  rising = rising_more 0 list y law.rising (subst (λ (e : ℕ). e ≤ y.epoch) (sym (last_ends list last ends)) le);
-  fine = fine_more detect list y law.fine fine;
-}
-
 -- the table's first list
 pub lawful_one : (detect : Detect) (first : Board) → Fine detect first → IsLawful detect first (first ∷ [])
 lawful_one detect first fine = record { begins = ([], refl); rising = (zero-le, tt); fine = (fine, tt) }
@@ -46,9 +38,6 @@ prefix_up e (x ∷ xs) (y ∷ ys) p r =
     let heads : x ≡ y = cc (p.1) in
     subst (λ (b : Board). last_epoch b.epoch xs ≤ last_epoch y.epoch ys) (sym heads) (prefix_up y.epoch xs ys (p.0, cc (p.1)) r.1)
 
-pub later_up : (detect : Detect) (first : Board) (xs ys : List Board) → IsPrefix xs ys → IsLawful detect first ys → last_epoch 0 xs ≤ last_epoch 0 ys
-later_up detect first xs ys p law = prefix_up 0 xs ys p law.rising
-
 -- a list that is one board longer
 one_longer : (xs rest front : List Board) (b : Board) → length rest ≡ 1 → xs ++ rest ≡ front ++ b ∷ [] → xs ++ rest ≡ xs ++ b ∷ []
 one_longer [] (r ∷ []) [] b one is = is
@@ -64,13 +53,6 @@ pub follows : (xs ys : List Board) (b : Board) → IsPrefix xs ys → length ys 
 follows xs ys b p len ends =
     let one : length p.0 ≡ 1 = omega (arith, ap length p.1, length-append xs p.0) in
     sym p.1 ∙ one_longer xs p.0 ends.0 b one (p.1 ∙ ends.1)
-
--- the longer of two lists, one of which is one board longer
-pub follows_either : (xs ys both : List Board) (b : Board) → IsPrefix xs both → IsPrefix ys both → (both ≡ xs) ⊎ (both ≡ ys) → length ys ≡ length xs + 1 → Ends ys b → both ≡ xs ++ b ∷ []
-follows_either xs ys both b p q either len ends = ⊎_elim
-    (λ (t : both ≡ xs). absurd (let le = prefix_length ys both q in omega (arith, ap length t, le, len)))
-    (λ (t : both ≡ ys). t ∙ follows xs ys b (subst (IsPrefix xs) t p) len ends)
-    either
 
 -- after a board of epoch n was put behind the list, or was not
 pub told_epoch : (told : Bool) (list after : List Board) (board : Board) (n : ℕ) → MatchBool told (after ≡ list ++ board ∷ []) (after ≡ list) → last_epoch 0 list ≤ n → board.epoch ≡ n → last_epoch 0 after ≤ n

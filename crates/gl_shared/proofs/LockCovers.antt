@@ -1,10 +1,10 @@
 -- A lock that is answered with a mode holds one that covers what was asked, also where it had to wait and a victim's removal let it in.
+use Rattle.gl_modes.proofs.Words.{number_same, same_number, split}
 use Rattle.gl_waits.specs.declared.victims.Victims.{Victims}
 use Rattle.gl_waits.proofs.VictimLemmas.{candidate-on_cycle}
 use Rattle.std.specs.Prelude.{◌≡◌, ◌⊎◌, ℕ, zero, suc, Bool, true, false, ◌&&◌, ◌==◌, List, [], Option, Some, None, if◌then◌else◌}
 use Rattle.std.proofs.Common.{refl, sym, ap, subst, ◌∙◌, inl, inr, ⊎_elim}
 use mathlib.Core.Bool.{true≢false}
-use Rattle.gl_graph.proofs.Look.{number_same, same_number, split}
 use Rattle.gl_modes.proofs.ModeLemmas.{supremum-above_right}
 use Rattle.gl_modes.proofs.NodeLemmas.{same_node-refl}
 use Rattle.gl_modes.specs.declared.mode.Mode.{Mode}
@@ -15,25 +15,24 @@ use Rattle.gl_modes.specs.Modes.{is_at_least}
 use Rattle.gl_modes.specs.Nodes.{same_node}
 use Rattle.gl_header.specs.Header.{Waiter, is_among_waiters, without_waiter}
 use Rattle.gl_waits.specs.Waits.{IsOnCycleOf}
-use Rattle.gl_table.specs.declared.detect.Detect.{Detect}
-use Rattle.gl_table.specs.declared.detect.Detect.TheVariants.{AtBlock, ByWatcher}
+use Rattle.gl_table.specs.declared.answers.Detect.{Detect}
+use Rattle.gl_table.specs.declared.answers.Detect.TheVariants.{AtBlock, ByWatcher}
 use Rattle.gl_table.specs.declared.txn.Status.{Status}
 use Rattle.gl_table.specs.declared.txn.Status.TheVariants.{Active, Waiting, Condemned}
 use Rattle.gl_table.specs.declared.txn.TxnId.{TxnId}
-use Rattle.gl_table.specs.Calls.{WaitSettles, enqueued, enters_at, granted, wanted}
-use Rattle.gl_table.specs.Lawful.{IsLawful}
-use Rattle.gl_table.specs.Pumps.{awake, condemned, granted_at, is_waiting_at, without_wait, woken}
-use Rattle.gl_table.specs.State.{State, Txn, members, restatus, status_in, status_of}
-use Rattle.gl_table.specs.Tellings.{Told}
-use Rattle.gl_table.specs.Waiting.{SettledWithin, is_wait, waits_for}
-use Rattle.gl_table.proofs.Less.{less-lawful}
-use Rattle.gl_table.proofs.LockKeeps.{may_lock, waiting-lawful}
-use Rattle.gl_table.proofs.Pumped.{one_of, woken_sleeps}
-use Rattle.gl_table.proofs.Taken.{condemned-lawful, restatus_is, without_wait-less}
-use Rattle.gl_table.proofs.Tells.{woken_up}
-use Rattle.gl_table.proofs.LawfulBut.{IsLawfulBut}
-use Rattle.gl_table.proofs.Victims.{cycle_waits}
-use Rattle.gl_table.proofs.Waiters.{granted_mode, last_mode}
+use Rattle.gl_table.specs.model.Calls.{WaitSettles, enqueued, enters_at, granted, wanted}
+use Rattle.gl_table.specs.model.Lawful.{IsLawful}
+use Rattle.gl_table.specs.model.State.{awake, condemned, granted_at, is_waiting_at, without_wait, woken, State, Txn, members, restatus, status_in, status_of}
+use Rattle.gl_table.specs.model.Tellings.{Told}
+use Rattle.gl_table.specs.model.State.{SettledWithin, is_wait, waits_for}
+use Rattle.gl_table.proofs.law.Keeps.{less-lawful}
+use Rattle.gl_table.proofs.law.Lock.{may_lock, waiting-lawful}
+use Rattle.gl_table.proofs.law.Keeps.{one_of, woken_sleeps}
+use Rattle.gl_table.proofs.law.Takes.{condemned-lawful, restatus_is, without_wait-less}
+use Rattle.gl_table.proofs.telling.Ways.{woken_up}
+use Rattle.gl_table.proofs.law.Keeps.{IsLawfulBut}
+use Rattle.gl_table.proofs.inside.Boards.{cycle_waits}
+use Rattle.gl_table.proofs.queues.Waiters.{granted_mode, last_mode}
 use Rattle.gl_catalog.specs.declared.command.Answer.{Answer}
 use Rattle.gl_catalog.specs.declared.command.Answer.TheVariants as answer
 use Rattle.gl_catalog.specs.declared.command.Command.TheVariants as command

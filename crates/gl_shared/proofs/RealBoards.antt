@@ -4,23 +4,22 @@ use Rattle.std.proofs.Common.{refl, sym, ap, subst, ◌∙◌, arith}
 use Rattle.std.proofs.Math.Path.{fun_ext}
 use Rattle.std.proofs.lemmas.List.FromFn.{get_or-map-range_with_len}
 use Rattle.std.proofs.lemmas.Bool.{not-true}
+use Rattle.gl_modes.proofs.Words.{number_same, or_elim, split, clash}
 use Rattle.gl_modes.proofs.ModeLemmas.{NL-compatible}
 use Rattle.gl_modes.specs.Modes.{are_compatible}
-use Rattle.gl_graph.proofs.Look.{number_same, or_elim, split}
 use Rattle.gl_header.specs.Header.{holds}
 use Rattle.gl_waits.specs.Boards.{age_in, board_edge}
 use Rattle.gl_waits.specs.Waits.{IsOnNoCycle}
 use Rattle.gl_waits.proofs.BoardLemmas.{row_edge-bits_of}
-use Rattle.gl_table.specs.declared.detect.Detect.TheVariants.{AtBlock}
-use Rattle.gl_table.specs.BoardOf.{board_of}
-use Rattle.gl_table.specs.Lawful.{IsLawful}
-use Rattle.gl_table.specs.State.{State, age_of, members, status_of}
-use Rattle.gl_table.specs.Waiting.{HasNoCycle, blocks, waits_for}
-use Rattle.gl_table.proofs.Edges.{step_is}
-use Rattle.gl_table.proofs.GrantKeeps.{nl_is, txn_there}
-use Rattle.gl_table.proofs.OneWaits.{waits_there}
-use Rattle.gl_table.proofs.Queues.{ahead_is, ahead_second, clash}
-use Rattle.gl_table.proofs.TableCalls.{lawful_orderly}
+use Rattle.gl_table.specs.declared.answers.Detect.TheVariants.{AtBlock}
+use Rattle.gl_table.specs.model.Table.{board_of}
+use Rattle.gl_table.specs.model.Lawful.{IsLawful}
+use Rattle.gl_table.specs.model.State.{State, age_of, members, status_of, HasNoCycle, blocks, waits_for}
+use Rattle.gl_table.proofs.law.Edges.{step_is}
+use Rattle.gl_table.proofs.law.Keeps.{nl_is, txn_there}
+use Rattle.gl_table.proofs.telling.Fronts.{waits_there}
+use Rattle.gl_table.proofs.queues.Waiters.{ahead_is, ahead_second}
+use Rattle.gl_table.proofs.calls.Calls.{lawful_orderly}
 use Rattle.gl_catalog.specs.Manager.{IsLawfulManager, ManagerView, state_of}
 use Rattle.gl_shared.specs.Boards.{Fine}
 

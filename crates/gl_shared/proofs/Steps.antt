@@ -48,9 +48,3 @@ publishes seat v x y same views h at =
     (λ (t : u ≡ Some (tie_of x.line)). inr (t ∙ ap (λ (z : Tie). Some z) (sym same)))
     (h by u e) in
     (w, changed y views seat w kept (inr refl), refl)
-
-pub unopened : (x : Shown) → Kept x (None ∷ [])
-unopened x by u e = ⊎_elim
-    (λ (t : get_elem? {A = Option Tie} [] by ≡ some u). absurd (some-ne-none u (sym t)))
-    (λ (t : None ≡ u). inl (sym t))
-    (at_snoc {A = Option Tie} [] None u by e)

@@ -8,7 +8,7 @@ use Rattle.gl_shared.specs.declared.shown.Tie.{Tie}
 use Rattle.gl_shared.specs.Rules.{head_of}
 use Rattle.gl_shared.specs.Boards.{IsLawful}
 use Rattle.gl_waits.specs.declared.board.Board.{Board}
-use Rattle.gl_table.specs.declared.detect.Detect.{Detect}
+use Rattle.gl_table.specs.declared.answers.Detect.{Detect}
 use Rattle.logbook.specs.Pages.{Book}
 
 -- the book and the way of detection of a list

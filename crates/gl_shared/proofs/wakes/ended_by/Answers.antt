@@ -1,7 +1,7 @@
 use Rattle.std.specs.List.{list_any}
 use Rattle.std.proofs.Common.{arith, ◌≤◌, ◌∙◌, ◌||◌, ◌==◌, ap, length, List}
 use Rattle.std.proofs.lemmas.List.{take_all}
-use Rattle.gl_table.specs.declared.notice.Notice.{Notice}
+use Rattle.gl_table.specs.declared.answers.Notice.{Notice}
 use Rattle.gl_table.specs.declared.txn.TxnId.{TxnId}
 use Rattle.gl_shared.specs.Served.{names_slot}
 use Rattle.gl_shared.proofs.Notices.{slot_below}

@@ -2,7 +2,7 @@ use Rattle.std.proofs.Common.{rules, arith, sym, ◌≡◌, ◌≤◌, ◌++◌,
 use Rattle.std.specs.Arc.{arc_value}
 use Rattle.gl_waits.specs.declared.board.Board.{Board}
 use Rattle.gl_shared.specs.Boards.{last_epoch, Rising, AllFine, Fine}
-use Rattle.gl_table.specs.declared.detect.Detect.{Detect}
+use Rattle.gl_table.specs.declared.answers.Detect.{Detect}
 use Rattle.gl_shared.specs.Rules.{head_of}
 use Rattle.gl_shared.specs.Strip.{Strip}
 use Rattle.gl_shared.proofs.Adding.{adds_moves}
