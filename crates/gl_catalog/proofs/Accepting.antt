@@ -1,15 +1,13 @@
 -- What an accepted command leaves of the count of accepted commands, which is raised behind it.
 use Rattle.std.specs.Prelude.{◌≡◌, ℕ, zero, suc}
 use Rattle.std.proofs.Common.{ap}
-use Rattle.gl_graph.proofs.Look.{split}
+use Rattle.gl_modes.proofs.Words.{split}
 use Rattle.gl_waits.specs.declared.victims.Victims.{Victims}
-use Rattle.gl_table.specs.declared.detect.Detect.{Detect}
-use Rattle.gl_table.specs.declared.detect.Detect.TheVariants.{AtBlock, ByWatcher}
-use Rattle.gl_table.specs.Calls.{WaitSettles, enqueued, enters_at, wanted}
-use Rattle.gl_table.specs.Pumps.{condemned}
-use Rattle.gl_table.specs.State.{State}
-use Rattle.gl_table.specs.Tellings.{Told}
-use Rattle.gl_table.specs.Waiting.{SettledWithin}
+use Rattle.gl_table.specs.declared.answers.Detect.{Detect}
+use Rattle.gl_table.specs.declared.answers.Detect.TheVariants.{AtBlock, ByWatcher}
+use Rattle.gl_table.specs.model.Calls.{WaitSettles, enqueued, enters_at, wanted}
+use Rattle.gl_table.specs.model.State.{condemned, State, SettledWithin}
+use Rattle.gl_table.specs.model.Tellings.{Told}
 use Rattle.gl_catalog.specs.declared.command.Answer.{Answer}
 use Rattle.gl_catalog.specs.declared.command.Command.{Command}
 use Rattle.gl_catalog.specs.declared.command.Command.TheVariants as command

@@ -3,12 +3,12 @@ use Rattle.std.specs.Prelude.{◌≡◌, ◌+◌, ◌&&◌, ◌||◌, true, [], 
 use Rattle.std.proofs.Common.{ap, ap₂, arith, inl, refl, subst, sym, ◌∙◌}
 use Rattle.gl_modes.specs.declared.refusal.Refusal.{Refusal}
 use Rattle.gl_graph.specs.Refusals.{Refuses}
-use Rattle.gl_table.specs.declared.outcome.Locked.{Locked}
-use Rattle.gl_table.specs.declared.outcome.Locked.TheVariants as locked
-use Rattle.gl_table.specs.Answers.{answered}
-use Rattle.gl_table.specs.Lawful.{IsLawful}
-use Rattle.gl_table.specs.State.{State}
-use Rattle.gl_table.specs.Tellings.{Told}
+use Rattle.gl_table.specs.declared.answers.Locked.{Locked}
+use Rattle.gl_table.specs.declared.answers.Locked.TheVariants as locked
+use Rattle.gl_table.specs.model.Calls.{answered}
+use Rattle.gl_table.specs.model.Lawful.{IsLawful}
+use Rattle.gl_table.specs.model.State.{State}
+use Rattle.gl_table.specs.model.Tellings.{Told}
 use Rattle.gl_catalog.specs.declared.command.Answer.{Answer}
 use Rattle.gl_catalog.specs.declared.command.Command.{Command}
 use Rattle.gl_catalog.specs.declared.command.Command.TheVariants as command

@@ -1,14 +1,13 @@
 -- What the table answers is a step of the manager.
 use Rattle.std.specs.Prelude.{◌≡◌, ℕ, ◌+◌, true, List, [], ◌∷◌, Option, Some, None, Ok, Err, is_none, ◌&&◌, ◌||◌}
 use Rattle.std.proofs.Common.{refl, sym, ap, ap₂, subst, ◌∙◌, inl, inr}
+use Rattle.gl_modes.proofs.Words.{no}
 use Rattle.gl_modes.specs.declared.refusal.Refusal.{Refusal}
 use Rattle.gl_modes.specs.declared.refusal.Refusal.TheVariants as refusal
 use Rattle.gl_graph.specs.Refusals.{Refuses, first_refusal, verdict}
-use Rattle.gl_graph.proofs.Look.{no}
 use Rattle.gl_graph.proofs.Unrefused.{verdict_ok}
-use Rattle.gl_table.specs.Answers.{RefusesOnly}
-use Rattle.gl_table.specs.Calls.{accepted_once}
-use Rattle.gl_table.specs.State.{State}
+use Rattle.gl_table.specs.model.Calls.{RefusesOnly, accepted_once}
+use Rattle.gl_table.specs.model.State.{State}
 use Rattle.gl_catalog.specs.declared.command.Answer.TheVariants as answer
 use Rattle.gl_catalog.specs.declared.command.Command.{Command}
 use Rattle.gl_catalog.specs.Manager.{counting}

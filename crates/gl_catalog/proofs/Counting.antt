@@ -6,19 +6,15 @@ use Rattle.gl_modes.specs.declared.mode.Mode.{Mode}
 use Rattle.gl_modes.specs.declared.node.NodeId.{NodeId}
 use Rattle.gl_table.specs.declared.deadlock.Deadlock.{Deadlock}
 use Rattle.gl_table.specs.declared.deadlock.Stuck.{Stuck}
-use Rattle.gl_table.specs.declared.detect.Detect.{Detect}
-use Rattle.gl_table.specs.declared.detect.Detect.TheVariants.{AtBlock, ByWatcher}
-use Rattle.gl_table.specs.Calls.{Locks, WaitSettles, enqueued, wanted}
-use Rattle.gl_table.specs.Deadlocks.{IsDeadlock, IsStuck, LocksKeeping, SettlesKeeping, SettlesKeepingWithin, WaitSettlesKeeping}
-use Rattle.gl_table.specs.Effects.{HasNoConflict}
-use Rattle.gl_table.specs.Headers.{AreHeaders}
-use Rattle.gl_table.specs.Lawful.{IsLawful}
-use Rattle.gl_table.specs.Pumps.{condemned}
-use Rattle.gl_table.specs.State.{State}
-use Rattle.gl_table.specs.Table.{ListsAgree, StandOnce, TableView}
-use Rattle.gl_table.specs.Table.{state_of as table_state}
-use Rattle.gl_table.specs.Tellings.{told}
-use Rattle.gl_table.specs.Waiting.{HasNoCycle, IsVictim, Settled, SettledWithin}
+use Rattle.gl_table.specs.declared.answers.Detect.{Detect}
+use Rattle.gl_table.specs.declared.answers.Detect.TheVariants.{AtBlock, ByWatcher}
+use Rattle.gl_table.specs.model.Calls.{Locks, WaitSettles, enqueued, wanted}
+use Rattle.gl_table.specs.model.Deadlocks.{IsDeadlock, IsStuck, LocksKeeping, SettlesKeeping, SettlesKeepingWithin, WaitSettlesKeeping}
+use Rattle.gl_table.specs.model.Lawful.{HasNoConflict, IsLawful}
+use Rattle.gl_table.specs.inside.Headers.{AreHeaders}
+use Rattle.gl_table.specs.model.State.{condemned, State, HasNoCycle, IsVictim, Settled, SettledWithin}
+use Rattle.gl_table.specs.model.Table.{ListsAgree, StandOnce, TableView, state_of as table_state}
+use Rattle.gl_table.specs.model.Tellings.{told}
 use Rattle.gl_catalog.specs.declared.counters.Counters.{Counters}
 use Rattle.gl_catalog.specs.Manager.{IsLawfulManager, counting}
 

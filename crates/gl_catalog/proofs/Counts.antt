@@ -7,22 +7,20 @@ use Rattle.std.proofs.lemmas.List.{take_more}
 use Rattle.std.proofs.lemmas.List.Sums.{sum-map, sum_by_push}
 use Rattle.std.proofs.lemmas.List.FromFn.{sum_by-map-range_with_len_more}
 use mathlib.Core.Bool.{true≢false}
+use Rattle.gl_modes.proofs.Words.{no}
 use Rattle.gl_modes.specs.declared.node.NodeId.{NodeId}
 use Rattle.gl_graph.specs.Graph.{is_live}
 use Rattle.gl_modes.specs.declared.refusal.Refusal.{Refusal}
 use Rattle.gl_modes.specs.declared.refusal.Refusal.TheVariants.{NoSuchNode}
 use Rattle.gl_graph.specs.Refusals.{first_refusal, where_true}
-use Rattle.gl_graph.proofs.Look.{no}
 use Rattle.gl_header.specs.Header.{Waiter, is_among_waiters}
-use Rattle.gl_table.specs.declared.notice.Notice.{Notice}
-use Rattle.gl_table.specs.declared.notice.Notice.TheVariants as notice
+use Rattle.gl_table.specs.declared.answers.Notice.{Notice}
+use Rattle.gl_table.specs.declared.answers.Notice.TheVariants as notice
 use Rattle.gl_table.specs.declared.txn.TxnId.{TxnId}
-use Rattle.gl_table.specs.Answers.{RefusesOnly}
-use Rattle.gl_table.specs.Lawful.{IsLawful}
-use Rattle.gl_table.specs.Refusals.{group_tests}
-use Rattle.gl_table.specs.State.{State, status_of}
-use Rattle.gl_table.specs.Tellings.{Told}
-use Rattle.gl_table.specs.Waiting.{is_wait}
+use Rattle.gl_table.specs.model.Calls.{RefusesOnly, group_tests}
+use Rattle.gl_table.specs.model.Lawful.{IsLawful}
+use Rattle.gl_table.specs.model.State.{State, status_of, is_wait}
+use Rattle.gl_table.specs.model.Tellings.{Told}
 use Rattle.gl_catalog.specs.declared.counters.Counters.{Counters}
 use Rattle.gl_catalog.specs.Counters.{is_gone, is_grant, is_moved, is_victim, rises, with_notice, with_notices}
 

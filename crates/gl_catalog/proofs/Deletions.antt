@@ -3,10 +3,9 @@ use Rattle.std.specs.Prelude.{◌≡◌, ℕ, ◌+◌, None, Ok}
 use Rattle.std.proofs.Common.{refl, sym, ap, subst}
 use Rattle.gl_modes.specs.declared.node.NodeId.{NodeId}
 use Rattle.gl_table.specs.declared.txn.TxnId.{TxnId}
-use Rattle.gl_table.specs.Calls.{deleted}
-use Rattle.gl_table.specs.Table.{TableView}
-use Rattle.gl_table.specs.Table.{state_of as table_state}
-use Rattle.gl_table.specs.Tellings.{told}
+use Rattle.gl_table.specs.model.Calls.{deleted}
+use Rattle.gl_table.specs.model.Table.{TableView, state_of as table_state}
+use Rattle.gl_table.specs.model.Tellings.{told}
 use Rattle.gl_catalog.specs.declared.command.Command.TheVariants as command
 use Rattle.gl_catalog.specs.declared.counters.Counters.{Counters}
 use Rattle.gl_catalog.specs.Manager.{ManagerView, counting, state_of}

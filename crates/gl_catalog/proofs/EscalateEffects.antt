@@ -3,40 +3,37 @@ use Rattle.std.specs.Prelude.{◌≡◌, ℕ, zero, suc, Bool, true, false, not,
 use Rattle.std.specs.List.{list_all, list_any}
 use Rattle.std.proofs.Common.{refl, sym, ap, ap₂, ◌∙◌, rules}
 use mathlib.Core.Bool.{true≢false}
+use Rattle.gl_modes.proofs.NodeLemmas.{same_node-equal, same_node-refl}
+use Rattle.gl_modes.proofs.Words.{split, cases_of, no, or_elim, or_left, or_right, and_both, both, number_same}
 use Rattle.gl_modes.specs.declared.mode.Mode.{Mode}
 use Rattle.gl_modes.specs.declared.mode.Mode.TheVariants.{NL, S, X}
 use Rattle.gl_modes.specs.declared.node.NodeId.{NodeId}
 use Rattle.gl_modes.specs.Modes.{is_at_least, supremum, same_mode}
-use Rattle.gl_table.specs.declared.effect.Effect.TheVariants as effect
+use Rattle.gl_table.specs.declared.answers.Effect.TheVariants as effect
 use Rattle.gl_table.specs.declared.txn.Status.TheVariants.{Active}
 use Rattle.gl_catalog.specs.declared.command.Command.TheVariants as command
 use Rattle.gl_graph.specs.Graph.{Graph, nodes, node_at, node_count, is_live, parents_in, parents_of, is_child}
 use Rattle.gl_modes.specs.Nodes.{same_node}
 use Rattle.gl_graph.specs.Routes.{IsRoute}
 use Rattle.gl_header.specs.Header.{Members, Waiter, fits, holds, with_mode, front, is_waiter, is_among_waiters}
-use Rattle.gl_table.specs.State.{State, members, status_of}
-use Rattle.gl_table.specs.Effects.{eff_s, eff_x, is_read, effective, EffX, is_at_least_effect}
-use Rattle.gl_table.specs.Intends.{no_parents, is_write}
-use Rattle.gl_table.specs.Pumps.{waits_at, front_at, granted_at}
-use Rattle.gl_table.specs.Covered.{holds_child, is_covered}
-use Rattle.gl_table.specs.Lawful.{IsLawful}
-use Rattle.gl_table.specs.Calls.{wanted, asked_by_escalation, raised, shed}
+use Rattle.gl_table.specs.model.State.{State, members, status_of, no_parents, is_write, waits_at, front_at, granted_at}
+use Rattle.gl_table.specs.model.Lawful.{eff_s, eff_x, is_read, effective, EffX, is_at_least_effect, IsLawful}
+use Rattle.gl_table.specs.model.Calls.{holds_child, is_covered, wanted, asked_by_escalation, raised, shed, no_txn, waiting_test, condemned_test}
 use Rattle.gl_catalog.specs.Tests.{worn}
-use Rattle.gl_table.specs.Refusals.{no_txn, waiting_test, condemned_test}
 use Rattle.gl_catalog.specs.Promises.{EscalateLowersNone}
-use Rattle.gl_graph.proofs.Look.{split, cases_of, no, or_elim, or_left, or_right, and_both, both, number_same, same_node_is, same_node_refl, all_at, child_live}
+use Rattle.gl_graph.proofs.Look.{all_at, child_live}
 use Rattle.gl_graph.proofs.Routes.{join}
 use Rattle.gl_graph.proofs.Moved.{some_at}
 use Rattle.gl_graph.proofs.RouteLengths.{listed}
-use Rattle.gl_table.proofs.CutSet.{cut_set_on}
-use Rattle.gl_table.proofs.Placed.{nobody_holds}
+use Rattle.gl_table.proofs.law.Effects.{cut_set_on}
+use Rattle.gl_table.proofs.law.Records.{nobody_holds}
 use Rattle.gl_graph.proofs.Unrefused.{not_refused, or_no}
 use Rattle.gl_catalog.proofs.EachStep.{each_step}
 use Rattle.gl_catalog.proofs.Keeps.{effect_refl, x_more, read_more}
 use Rattle.gl_catalog.proofs.NotRefused.{active_is}
 use Rattle.gl_modes.proofs.ModeLemmas.{at_least-refl, supremum-above}
-use Rattle.gl_table.proofs.Effects.{eff_s_route, read_on_eff}
-use Rattle.gl_table.proofs.Queues.{grants_other}
+use Rattle.gl_table.proofs.law.Effects.{eff_s_route, read_on_eff}
+use Rattle.gl_table.proofs.queues.Waiters.{grants_other}
 use Rattle.std.proofs.lemmas.Bool.{not-true}
 
 sup_reads : (a b : Mode) → is_read b ≡ true → is_read (supremum a b) ≡ true
@@ -95,7 +92,7 @@ module _ (s : State) (law : IsLawful s) (t : ℕ) (n : NodeId) (active : status_
   grew p =
       ap (λ b. is_at_least (if b && same_node p n then wanted s t n (asked_by_escalation s t n) else s.held t p) (s.held t p)) (number_same t t refl)
       ∙ split (same_node p n)
-      (λ e. ap (λ b. is_at_least (if b then wanted s t n (asked_by_escalation s t n) else s.held t p) (s.held t p)) e ∙ ap (λ x. is_at_least (wanted s t n (asked_by_escalation s t n)) (s.held t x)) (same_node_is p n e) ∙ supremum-above (s.held t n) (asked_by_escalation s t n))
+      (λ e. ap (λ b. is_at_least (if b then wanted s t n (asked_by_escalation s t n) else s.held t p) (s.held t p)) e ∙ ap (λ x. is_at_least (wanted s t n (asked_by_escalation s t n)) (s.held t x)) (same_node-equal p n e) ∙ supremum-above (s.held t n) (asked_by_escalation s t n))
       (λ e. ap (λ b. is_at_least (if b then wanted s t n (asked_by_escalation s t n) else s.held t p) (s.held t p)) e ∙ at_least-refl (s.held t p))
 
   asked_reads : is_read (asked_by_escalation s t n) ≡ true
@@ -107,7 +104,7 @@ module _ (s : State) (law : IsLawful s) (t : ℕ) (n : NodeId) (active : status_
 
   node_reads : is_read (up.held t n) ≡ true
   node_reads =
-      ap (λ b. is_read (if b then wanted s t n (asked_by_escalation s t n) else s.held t n)) (both _ _ (number_same t t refl) (same_node_refl n))
+      ap (λ b. is_read (if b then wanted s t n (asked_by_escalation s t n) else s.held t n)) (both _ _ (number_same t t refl) (same_node-refl n))
       ∙ sup_reads (s.held t n) (asked_by_escalation s t n) asked_reads
 
   -- what it says that a child is covered

@@ -3,6 +3,7 @@ use Rattle.std.specs.Prelude.{◌≡◌, ◌≢◌, ℕ, ◌+◌, Bool, true, fa
 use Rattle.std.specs.List.{find, list_any}
 use Rattle.std.proofs.Common.{refl, sym, ap, subst, ◌∙◌}
 use mathlib.Core.Bool.{true≢false}
+use Rattle.gl_modes.proofs.Words.{none_some, some_is, split}
 use Rattle.gl_modes.specs.declared.mode.Mode.{Mode}
 use Rattle.gl_modes.specs.declared.node.NodeId.{NodeId}
 use Rattle.gl_table.specs.declared.txn.TxnId.{TxnId}
@@ -10,16 +11,15 @@ use Rattle.gl_catalog.specs.declared.command.Answer.{Answer}
 use Rattle.gl_table.specs.declared.txn.Status.TheVariants.{Active, Waiting}
 use Rattle.gl_catalog.specs.declared.command.Command.TheVariants as command
 use Rattle.gl_graph.specs.Graph.{is_live}
-use Rattle.gl_table.specs.State.{State, Txn, lives, live_by, status_in, slots}
-use Rattle.gl_table.specs.Lawful.{IsLawful}
-use Rattle.gl_table.specs.Tellings.{told, told_but, Told}
+use Rattle.gl_table.specs.model.State.{State, Txn, lives, live_by, status_in, slots}
+use Rattle.gl_table.specs.model.Lawful.{IsLawful}
+use Rattle.gl_table.specs.model.Tellings.{told, told_but, Told}
 use Rattle.gl_catalog.specs.Step.{Accepts}
-use Rattle.gl_table.specs.Calls.{accepted_once, enters_at, free_slot, wanted, enqueued, released}
-use Rattle.gl_table.proofs.Follows.{Follows, GrantedTo, WaitsWell, lawful_waits, follows_refl, follows_same, follows_trans}
+use Rattle.gl_table.specs.model.Calls.{accepted_once, enters_at, free_slot, wanted, enqueued, released}
+use Rattle.gl_table.proofs.telling.Follows.{Follows, GrantedTo, WaitsWell, lawful_waits, follows_refl, follows_same, follows_trans}
 use Rattle.gl_catalog.proofs.OtherChanges.{other, with_grant_follows, begun_follows, enqueued_follows, settled_follows, wait_settles_follows, released_follows, escalated_follows, unlocked_follows, cancelled_follows}
 use Rattle.gl_catalog.proofs.ToldGrants.{tells, told_of_grant, told_but_of_grant}
 use Rattle.gl_catalog.proofs.Keeps.{Keeps, keeps_follows}
-use Rattle.gl_graph.proofs.Look.{none_some, some_is, split}
 
 accepted_follows : (s next : State) (t : ℕ) → Follows s next t → Follows s (accepted_once next) t
 accepted_follows s next t f = follows_trans s next (accepted_once next) t f (follows_same next (accepted_once next) t f.well refl refl (λ q. refl) (λ n. refl))

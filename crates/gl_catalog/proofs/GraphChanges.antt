@@ -4,6 +4,7 @@ use Rattle.std.specs.List.{list_all}
 use Rattle.std.proofs.Common.{refl, sym, ap, ap₂, subst, ◌∙◌, arith, rules}
 use Rattle.std.proofs.lemmas.Bool.Decides.{nat_tests}
 use mathlib.Core.Bool.{true≢false}
+use Rattle.gl_modes.proofs.Words.{split, and_both, no}
 use Rattle.gl_modes.specs.declared.mode.Mode.{Mode}
 use Rattle.gl_modes.specs.declared.mode.Mode.TheVariants.{NL, X}
 use Rattle.gl_modes.specs.declared.node.NodeId.{NodeId}
@@ -13,15 +14,12 @@ use Rattle.gl_graph.specs.Shapes.{Rec, is_record_shape}
 use Rattle.gl_modes.specs.Nodes.{same_node}
 use Rattle.gl_graph.specs.Changes.{born_node, born_nodes, rekeyed_node, reparented}
 use Rattle.gl_graph.specs.Lawful.{IsLawfulGraph}
-use Rattle.gl_table.specs.State.{State}
-use Rattle.gl_table.specs.Lawful.{IsLawful}
-use Rattle.gl_table.specs.Effects.{eff_x, EffX}
-use Rattle.gl_table.specs.Intends.{no_parents}
-use Rattle.gl_table.proofs.NoConflict.{no_conflict_law}
-use Rattle.gl_table.proofs.Effects.{ReadOn, read_on_eff, eff_x_any}
-use Rattle.gl_table.proofs.Transfer.{GraphStep}
+use Rattle.gl_table.specs.model.State.{State, no_parents}
+use Rattle.gl_table.specs.model.Lawful.{IsLawful, eff_x, EffX}
+use Rattle.gl_table.proofs.law.Effects.{no_conflict_law}
+use Rattle.gl_table.proofs.law.Effects.{ReadOn, read_on_eff, eff_x_any}
+use Rattle.gl_table.proofs.law.Searches.{GraphStep}
 use Rattle.gl_catalog.proofs.Keeps.{read_lives}
-use Rattle.gl_graph.proofs.Look.{split, and_both, no}
 use Rattle.gl_modes.proofs.NodeLemmas.{same_node-equal}
 use Rattle.std.proofs.lemmas.Bool.{not-true}
 use Rattle.std.proofs.Math.Bool.{or-true}

@@ -5,6 +5,7 @@ use Rattle.std.proofs.Common.{refl, sym, ap, ap₂, subst, ◌∙◌, arith, inl
 use Rattle.std.proofs.Math.Path.{fun_ext}
 use Rattle.std.proofs.lemmas.Bool.Decides.{nat_tests}
 use mathlib.Core.Bool.{true≢false}
+use Rattle.gl_modes.proofs.Words.{split, and_both}
 use Rattle.gl_modes.specs.declared.mode.Mode.TheVariants.{NL, X}
 use Rattle.gl_modes.specs.declared.node.NodeId.{NodeId}
 use Rattle.gl_table.specs.declared.txn.TxnId.{TxnId}
@@ -15,21 +16,17 @@ use Rattle.gl_modes.specs.Nodes.{same_node}
 use Rattle.gl_graph.specs.Routes.{IsRoute}
 use Rattle.gl_modes.specs.Modes.{same_mode}
 use Rattle.gl_header.specs.Header.{is_among_waiters}
-use Rattle.gl_table.specs.State.{State, Txn, with_grant, lives, live_by, with_graph}
-use Rattle.gl_table.specs.Lawful.{IsLawful}
-use Rattle.gl_table.specs.Effects.{is_read, EffX}
-use Rattle.gl_table.specs.Intends.{no_parents}
-use Rattle.gl_table.specs.Tellings.{Told}
-use Rattle.gl_table.specs.Calls.{accepted_once, freed, freed_unless, stays, moved_to, deleted}
-use Rattle.gl_table.specs.Refusals.{holds_x, some_given}
-use Rattle.gl_table.proofs.Effects.{ReadOn}
-use Rattle.gl_table.proofs.Follows.{SameGrants}
+use Rattle.gl_table.specs.model.State.{State, Txn, with_grant, lives, live_by, with_graph, no_parents}
+use Rattle.gl_table.specs.model.Lawful.{IsLawful, is_read, EffX}
+use Rattle.gl_table.specs.model.Tellings.{Told}
+use Rattle.gl_table.specs.model.Calls.{accepted_once, freed, freed_unless, stays, moved_to, deleted, holds_x, some_given}
+use Rattle.gl_table.proofs.law.Effects.{ReadOn}
+use Rattle.gl_table.proofs.telling.Follows.{SameGrants}
 use Rattle.gl_catalog.proofs.OtherChanges.{with_grant_same}
 use Rattle.gl_catalog.proofs.Made.{made, next_id}
 use Rattle.gl_catalog.proofs.Keeps.{Keeps, keeps_graph}
 use Rattle.gl_catalog.proofs.NotRefused.{OnParents, given_some, record_has_parents}
 use Rattle.gl_catalog.proofs.GraphChanges.{quiet_under, x_here, x_on_parents, beside_x, is_new, no_records, born_births, born_old, born_step, born_step_records, unborn_shape, KeepsKey, changed_at, changed_here, changed_births, changed_old, changed_step, gone_keeps, rekeyed_keeps, reparented_keeps, rekeyed_parents_in, reparented_parents_in}
-use Rattle.gl_graph.proofs.Look.{split, and_both}
 use Rattle.gl_modes.proofs.NodeLemmas.{same_node-equal}
 
 freed_lives : (n : NodeId) (age : ℕ) (x : Option Txn) → live_by age (freed n x) ≡ live_by age x

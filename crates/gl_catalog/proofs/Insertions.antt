@@ -1,6 +1,7 @@
 -- A new record: what its tests say, one after the other.
 use Rattle.std.specs.Prelude.{◌≡◌, ℕ, ◌==◌, true, false, not, List, [], ◌∷◌, ◌++◌, length, Option, Some, None, Ok, Err}
 use Rattle.std.proofs.Common.{refl, sym, ap, ◌∙◌}
+use Rattle.gl_modes.proofs.Words.{no}
 use Rattle.gl_modes.specs.declared.node.NodeId.{NodeId}
 use Rattle.gl_modes.specs.declared.refusal.Refusal.{Refusal}
 use Rattle.gl_modes.specs.declared.refusal.Refusal.TheVariants as no
@@ -8,14 +9,12 @@ use Rattle.gl_graph.specs.Graph.{indexes_of, record_parents, shape_of}
 use Rattle.gl_graph.specs.Refusals.{births_worn, first_refusal, record_refusal, some_no_node, too_many_nodes, verdict, where_true, worn_births}
 use Rattle.gl_graph.specs.Shapes.{is_file_shape}
 use Rattle.gl_graph.proofs.FirstOf.{refused_first}
-use Rattle.gl_graph.proofs.Look.{no as never}
 use Rattle.gl_graph.proofs.Unrefused.{not_refused}
 use Rattle.gl_table.specs.declared.txn.Status.TheVariants.{Active}
 use Rattle.gl_table.specs.declared.txn.TxnId.{TxnId}
-use Rattle.gl_table.specs.Answers.{RefusesOnly}
-use Rattle.gl_table.specs.Refusals.{commit_tests, condemned_test, first_not_ix, no_txn, waiting_test}
-use Rattle.gl_table.specs.State.{State, lives, status_of}
-use Rattle.gl_table.proofs.Locking.{test_refused}
+use Rattle.gl_table.specs.model.Calls.{RefusesOnly, commit_tests, condemned_test, first_not_ix, no_txn, waiting_test}
+use Rattle.gl_table.specs.model.State.{State, lives, status_of}
+use Rattle.gl_table.proofs.calls.Locking.{test_refused}
 use Rattle.gl_catalog.specs.Tests.{insert_tests, record_asks}
 use Rattle.gl_catalog.proofs.NotRefused.{active_is, txn_lives}
 

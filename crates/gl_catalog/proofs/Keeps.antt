@@ -4,28 +4,26 @@ use Rattle.std.specs.List.{list_all, list_any}
 use Rattle.std.proofs.Common.{refl, sym, ap, ap₂, subst, ◌∙◌, arith, rules, inl, inr}
 use Rattle.std.proofs.Math.Path.{fun_ext}
 use mathlib.Core.Bool.{true≢false}
+use Rattle.gl_modes.proofs.Words.{split, or_elim, and_both}
 use Rattle.gl_modes.specs.declared.mode.Mode.{Mode}
 use Rattle.gl_modes.specs.declared.mode.Mode.TheVariants.{NL, X}
 use Rattle.gl_modes.specs.declared.node.NodeId.{NodeId}
 use Rattle.gl_modes.specs.Modes.{is_at_least, same_mode}
 use Rattle.gl_table.specs.declared.txn.TxnId.{TxnId}
-use Rattle.gl_table.specs.declared.effect.Effect.{Effect}
-use Rattle.gl_table.specs.declared.effect.Effect.TheVariants as effect
+use Rattle.gl_table.specs.declared.answers.Effect.{Effect}
+use Rattle.gl_table.specs.declared.answers.Effect.TheVariants as effect
 use Rattle.gl_graph.specs.Graph.{Graph, Node, node_at, node_count, parents_of, parents_in, is_live}
 use Rattle.gl_modes.specs.Nodes.{same_node}
 use Rattle.gl_graph.specs.Routes.{IsRoute}
-use Rattle.gl_table.specs.State.{State, lives}
-use Rattle.gl_table.specs.Lawful.{IsLawful}
-use Rattle.gl_table.specs.Effects.{eff_s, eff_x, is_read, EffS, effective, is_at_least_effect}
-use Rattle.gl_table.specs.Intends.{no_parents}
-use Rattle.gl_table.specs.Tellings.{Told}
-use Rattle.gl_table.specs.Below.{SameBelow}
+use Rattle.gl_table.specs.model.State.{State, lives, no_parents}
+use Rattle.gl_table.specs.model.Lawful.{IsLawful, eff_s, eff_x, is_read, EffS, effective, is_at_least_effect, SameBelow}
+use Rattle.gl_table.specs.model.Tellings.{Told}
 use Rattle.gl_catalog.specs.Promises.{is_grant_to}
-use Rattle.gl_table.proofs.Effects.{all_from, ReadOn, eff_s_route, read_on_eff}
-use Rattle.gl_table.proofs.Transfer.{GraphStep, reads_carry, effective_same, below_same}
+use Rattle.gl_table.proofs.law.Effects.{all_from, ReadOn, eff_s_route, read_on_eff}
+use Rattle.gl_table.proofs.law.Searches.{GraphStep, reads_carry, effective_same, below_same}
 use Rattle.gl_catalog.proofs.ToldGrants.{tells, tells_grant, any_weaker}
-use Rattle.gl_table.proofs.Follows.{Follows, SameGrants, GrantedTo}
-use Rattle.gl_graph.proofs.Look.{split, or_elim, and_both, all_at}
+use Rattle.gl_table.proofs.telling.Follows.{Follows, SameGrants, GrantedTo}
+use Rattle.gl_graph.proofs.Look.{all_at}
 use Rattle.gl_modes.proofs.NodeLemmas.{same_node-equal}
 use Rattle.gl_modes.proofs.ModeLemmas.{at_least-refl}
 use Rattle.gl_graph.proofs.Moved.{some_at, any_found}

@@ -2,12 +2,13 @@
 use Rattle.std.specs.Prelude.{◌≡◌, ◌<◌, true, ◌&&◌, List, [], ◌∷◌, length, get_or}
 use Rattle.std.specs.List.{list_any}
 use Rattle.std.proofs.Common.{refl, sym, ap, ◌∙◌, arith}
+use Rattle.gl_modes.proofs.Words.{no, split}
 use Rattle.gl_modes.specs.declared.node.NodeId.{NodeId}
 use Rattle.gl_modes.specs.Nodes.{same_node}
 use Rattle.gl_graph.specs.Shapes.{is_index_of_shape, is_record_shape}
 use Rattle.gl_graph.specs.Graph.{Graph, first_in, first_parent, indexes_of, nodes, parents_of, shape_of}
 use Rattle.gl_graph.specs.Lawful.{IsLawfulGraph}
-use Rattle.gl_graph.proofs.Look.{all_at, all_filter, no, split}
+use Rattle.gl_graph.proofs.Look.{all_at, all_filter}
 use Rattle.gl_graph.proofs.KindRules.{index_of, is_plain, plain_live}
 use Rattle.gl_graph.proofs.Distinct.{index_listed}
 use Rattle.gl_graph.proofs.RecordParents.{its_parents}

@@ -1,4 +1,5 @@
 -- A transaction that lives on over a step: its age stays, and it begins no wait.
+use Rattle.gl_modes.proofs.Words.{same_number, split}
 use Rattle.gl_waits.specs.declared.victims.Victims.{Victims}
 use Rattle.std.specs.Prelude.{◌≡◌, ℕ, zero, suc, Bool, true, false, ◌==◌, List, Option, Some, None, if◌then◌else◌}
 use Rattle.std.proofs.Common.{refl, sym, ap, subst, ◌∙◌}
@@ -6,17 +7,15 @@ use Rattle.gl_modes.specs.declared.mode.Mode.{Mode}
 use Rattle.gl_modes.specs.declared.node.NodeId.{NodeId}
 use Rattle.gl_modes.specs.Nodes.{same_node}
 use Rattle.gl_header.specs.Header.{Waiter}
-use Rattle.gl_table.specs.declared.detect.Detect.{Detect}
-use Rattle.gl_table.specs.declared.detect.Detect.TheVariants.{AtBlock, ByWatcher}
+use Rattle.gl_table.specs.declared.answers.Detect.{Detect}
+use Rattle.gl_table.specs.declared.answers.Detect.TheVariants.{AtBlock, ByWatcher}
 use Rattle.gl_table.specs.declared.txn.Status.{Status}
 use Rattle.gl_table.specs.declared.txn.Status.TheVariants.{Active, Waiting, Condemned}
-use Rattle.gl_table.specs.Calls.{WaitSettles, freed, freed_unless, none_but}
-use Rattle.gl_table.specs.Pumps.{condemned, granted_at, is_waiting_at, pumped, without_wait, woken}
-use Rattle.gl_table.specs.State.{State, Txn, live_by, restatus, status_in}
-use Rattle.gl_table.specs.Waiting.{Settled, SettledWithin}
-use Rattle.gl_table.proofs.Pumped.{woken_waits}
-use Rattle.gl_table.proofs.Taken.{IsQuiet, restatus_quiet}
-use Rattle.gl_graph.proofs.Look.{same_number, split}
+use Rattle.gl_table.specs.model.Calls.{WaitSettles, freed, freed_unless, none_but}
+use Rattle.gl_table.specs.model.State.{condemned, granted_at, is_waiting_at, pumped, without_wait, woken, State, Txn, live_by, restatus, status_in}
+use Rattle.gl_table.specs.model.State.{Settled, SettledWithin}
+use Rattle.gl_table.proofs.law.Keeps.{woken_waits}
+use Rattle.gl_table.proofs.law.Takes.{IsQuiet, restatus_quiet}
 
 -- the same transaction lives in the slot, and if it waits, it waited there before
 pub record LivesOn (x y : Option Txn) : Type 0 where

@@ -4,26 +4,26 @@ use Rattle.std.specs.List.{list_all, list_any}
 use Rattle.std.proofs.Math.Path.{fun_ext}
 use Rattle.std.proofs.Common.{refl, sym, ap, ap₂, ◌∙◌, ⊎_elim}
 use mathlib.Core.Bool.{true≢false}
+use Rattle.gl_modes.proofs.NodeLemmas.{same_node-equal, same_node-other}
+use Rattle.gl_modes.proofs.Words.{split, or_left, or_right, and_both, both}
 use Rattle.gl_modes.specs.declared.mode.Mode.{Mode}
 use Rattle.gl_modes.specs.declared.mode.Mode.TheVariants.{X}
 use Rattle.gl_modes.specs.declared.node.NodeId.{NodeId}
-use Rattle.gl_table.specs.declared.effect.Effect.TheVariants as effect
+use Rattle.gl_table.specs.declared.answers.Effect.TheVariants as effect
 use Rattle.gl_catalog.specs.declared.command.Command.TheVariants as command
 use Rattle.gl_graph.specs.Graph.{Graph, Node, parents_of, node_count}
 use Rattle.gl_modes.specs.Nodes.{same_node}
 use Rattle.gl_graph.specs.Changes.{with_parents, rekeyed}
 use Rattle.gl_modes.specs.Modes.{same_mode}
-use Rattle.gl_table.specs.State.{State}
-use Rattle.gl_table.specs.Effects.{eff_s, eff_x, is_read, effective}
-use Rattle.gl_table.specs.Intends.{no_parents}
-use Rattle.gl_table.specs.Calls.{moved_to}
+use Rattle.gl_table.specs.model.State.{State, no_parents}
+use Rattle.gl_table.specs.model.Lawful.{eff_s, eff_x, is_read, effective}
+use Rattle.gl_table.specs.model.Calls.{moved_to}
 use Rattle.gl_catalog.specs.Promises.{MoveKeepsMover, RekeyKeepsMover}
-use Rattle.gl_graph.proofs.Look.{split, or_left, or_right, and_both, both, same_node_is, other_node}
 use Rattle.gl_catalog.proofs.EachStep.{each_step}
-use Rattle.gl_table.proofs.Movers.{HoldsNode, HoldsParents}
-use Rattle.gl_table.proofs.MovedNodes.{Moves, others_parents, new_parents, count_same, moved_node, rekeyed_to}
+use Rattle.gl_table.proofs.law.Move.{HoldsNode, HoldsParents}
+use Rattle.gl_table.proofs.law.Move.{Moves, others_parents, new_parents, count_same, moved_node, rekeyed_to}
 use Rattle.gl_catalog.proofs.MoveCommands.{move_moves, rekey_moves}
-use Rattle.gl_table.proofs.Effects.{x_reads}
+use Rattle.gl_table.proofs.law.Effects.{x_reads}
 use Rattle.gl_catalog.proofs.GraphChanges.{held_x}
 
 s_held : (k : ℕ) (g : Graph) (held : NodeId → Mode) (n : NodeId) → is_read (held n) ≡ true → eff_s k g held n ≡ true
@@ -52,15 +52,15 @@ module _ (g g' : Graph) (held : NodeId → Mode) (n : NodeId) (others : (q : Nod
   pub x_same : (k : ℕ) (q : NodeId) → eff_x k g' held q ≡ eff_x k g held q
   x_same zero q = refl
   x_same (suc k) q =
-      split (same_node q n) (λ e. ap (eff_x (suc k) g' held) (same_node_is q n e) ∙ x_here (suc k) ∙ sym (ap (eff_x (suc k) g held) (same_node_is q n e)))
-      (λ e. ap₂ (λ (ps : List NodeId) (f : NodeId → Bool). same_mode (held q) X || (not (no_parents ps) && list_all f ps)) (others q (other_node q n e)) (fun_ext (x_same k)))
+      split (same_node q n) (λ e. ap (eff_x (suc k) g' held) (same_node-equal q n e) ∙ x_here (suc k) ∙ sym (ap (eff_x (suc k) g held) (same_node-equal q n e)))
+      (λ e. ap₂ (λ (ps : List NodeId) (f : NodeId → Bool). same_mode (held q) X || (not (no_parents ps) && list_all f ps)) (others q (same_node-other q n e)) (fun_ext (x_same k)))
 
   -- effective S, by the steps up
   pub s_same : (k : ℕ) (q : NodeId) → eff_s k g' held q ≡ eff_s k g held q
   s_same zero q = refl
   s_same (suc k) q =
-      split (same_node q n) (λ e. ap (eff_s (suc k) g' held) (same_node_is q n e) ∙ s_here (suc k) ∙ sym (ap (eff_s (suc k) g held) (same_node_is q n e)))
-      (λ e. ap₂ (λ (ps : List NodeId) (f : NodeId → Bool). is_read (held q) || list_any f ps) (others q (other_node q n e)) (fun_ext (s_same k)))
+      split (same_node q n) (λ e. ap (eff_s (suc k) g' held) (same_node-equal q n e) ∙ s_here (suc k) ∙ sym (ap (eff_s (suc k) g held) (same_node-equal q n e)))
+      (λ e. ap₂ (λ (ps : List NodeId) (f : NodeId → Bool). is_read (held q) || list_any f ps) (others q (same_node-other q n e)) (fun_ext (s_same k)))
 
 module _ (s : State) (t : ℕ) (n : NodeId) (was is : Node) (g' : Graph) (m : Moves s t n was is g') where
   x_kept : (k : ℕ) → eff_x k g' (s.held t) n ≡ eff_x k s.graph (s.held t) n

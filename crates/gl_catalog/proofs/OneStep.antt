@@ -1,27 +1,26 @@
 -- One step of a command that does not name t keeps t.
 use Rattle.std.specs.Prelude.{◌≡◌, ◌≢◌, true, false, List, [], ◌∷◌, Option, Some, None}
 use Rattle.std.proofs.Common.{refl, sym, subst, inl, inr}
+use Rattle.gl_modes.proofs.Words.{and_both}
 use Rattle.gl_modes.specs.declared.refusal.Refusal.{Refusal}
 use Rattle.gl_modes.specs.declared.refusal.Refusal.TheVariants as no
 use Rattle.gl_table.specs.declared.txn.TxnId.{TxnId}
 use Rattle.gl_catalog.specs.declared.command.Answer.{Answer}
 use Rattle.gl_catalog.specs.declared.command.Command.{Command}
 use Rattle.gl_catalog.specs.declared.command.Command.TheVariants as command
-use Rattle.gl_table.specs.State.{State, lives}
-use Rattle.gl_table.specs.Lawful.{IsLawful}
+use Rattle.gl_table.specs.model.State.{State, lives}
+use Rattle.gl_table.specs.model.Lawful.{IsLawful}
 use Rattle.gl_catalog.specs.Step.{Step, Goes, Answers, query_answer}
-use Rattle.gl_table.specs.Tellings.{Told}
-use Rattle.gl_table.specs.Calls.{accepted_once}
+use Rattle.gl_table.specs.model.Tellings.{Told}
+use Rattle.gl_table.specs.model.Calls.{accepted_once, no_txn}
 use Rattle.gl_graph.specs.Refusals.{first_refusal}
 use Rattle.gl_catalog.specs.Tests.{tests_of, refusal_of}
-use Rattle.gl_table.specs.Refusals.{no_txn}
 use Rattle.gl_catalog.specs.Promises.{names, same_txn}
 use Rattle.gl_catalog.proofs.Keeps.{Keeps}
 use Rattle.gl_catalog.proofs.Made.{made_is, indexed_is, inserted_is}
 use Rattle.gl_catalog.proofs.NotRefused.{txn_lives, nodes_live, differ, exclusive}
 use Rattle.gl_catalog.proofs.GrantCommands.{lock_keeps, try_keeps, unlock_keeps, escalate_keeps, cancel_keeps, release_keeps, settle_keeps, begin_keeps, same_keeps}
 use Rattle.gl_catalog.proofs.GraphCommands.{inner_keeps, file_keeps, index_keeps, insert_keeps, delete_keeps, rekey_keeps, move_keeps}
-use Rattle.gl_graph.proofs.Look.{and_both}
 use Rattle.gl_graph.proofs.Unrefused.{test_fails, not_false}
 
 -- each of these passed

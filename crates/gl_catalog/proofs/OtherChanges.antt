@@ -1,4 +1,5 @@
 -- Each way in which another transaction's command changes grants, queues and slots, and what it leaves to a slot t that it does not name.
+use Rattle.gl_modes.proofs.Words.{split, and_both, same_number}
 use Rattle.gl_waits.specs.declared.victims.Victims.{Victims}
 use Rattle.gl_waits.proofs.VictimLemmas.{candidate-on_cycle}
 use Rattle.std.specs.Prelude.{◌≡◌, ◌≢◌, ℕ, zero, suc, ◌+◌, Bool, true, false, ◌&&◌, ◌||◌, ◌==◌, List, [], ◌∷◌, Option, Some, None, if◌then◌else◌}
@@ -10,19 +11,16 @@ use Rattle.gl_modes.specs.declared.mode.Mode.TheVariants.{NL}
 use Rattle.gl_modes.specs.declared.node.NodeId.{NodeId}
 use Rattle.gl_table.specs.declared.txn.Status.{Status}
 use Rattle.gl_table.specs.declared.txn.Status.TheVariants.{Active, Waiting, Condemned}
-use Rattle.gl_table.specs.declared.detect.Detect.{Detect}
-use Rattle.gl_table.specs.declared.detect.Detect.TheVariants.{AtBlock, ByWatcher}
+use Rattle.gl_table.specs.declared.answers.Detect.{Detect}
+use Rattle.gl_table.specs.declared.answers.Detect.TheVariants.{AtBlock, ByWatcher}
 use Rattle.gl_modes.specs.Nodes.{same_node}
 use Rattle.gl_header.specs.Header.{holds, placed, without_waiter}
-use Rattle.gl_table.specs.State.{State, Txn, members, live_by, status_of, status_in, restatus, with_grant}
-use Rattle.gl_table.specs.Pumps.{is_waiting_at, pumped, without_wait, condemned}
-use Rattle.gl_table.specs.Covered.{is_covered}
-use Rattle.gl_table.specs.Waiting.{blocks, waits_for, SettledWithin, Settled}
+use Rattle.gl_table.specs.model.State.{State, Txn, members, live_by, status_of, status_in, restatus, with_grant, is_waiting_at, pumped, without_wait, condemned}
+use Rattle.gl_table.specs.model.Calls.{is_covered, begun, enqueued, released, shed, raised, WaitSettles}
+use Rattle.gl_table.specs.model.State.{blocks, waits_for, SettledWithin, Settled}
 use Rattle.gl_waits.specs.Waits.{IsWalk}
-use Rattle.gl_table.specs.Calls.{begun, enqueued, released, shed, raised, WaitSettles}
-use Rattle.gl_table.proofs.Waiters.{waits_of, without_other, without_self, placed_other}
-use Rattle.gl_table.proofs.Follows.{WaitsWell, Follows, SameGrants, follows_trans, follows_same, absent_well, pumped_follows}
-use Rattle.gl_graph.proofs.Look.{split, and_both, same_number}
+use Rattle.gl_table.proofs.queues.Waiters.{waits_of, without_other, without_self, placed_other}
+use Rattle.gl_table.proofs.telling.Follows.{WaitsWell, Follows, SameGrants, follows_trans, follows_same, absent_well, pumped_follows}
 use Rattle.gl_modes.proofs.NodeLemmas.{same_node-equal}
 
 pub other : (u t : ℕ) → u ≢ t → (t == u) ≡ false

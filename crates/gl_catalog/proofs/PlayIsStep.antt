@@ -5,6 +5,7 @@ use Rattle.std.proofs.lemmas.List.FromFn.{length-range_with_len}
 use Rattle.std.proofs.lemmas.Bool.{cases_eq}
 use Rattle.std.proofs.lemmas.Bool.Decides.{nat_tests}
 use Rattle.std.proofs.Common.{refl, sym, ap, ◌∙◌, arith, inl, ⊎_elim}
+use Rattle.gl_modes.proofs.Words.{split, or_elim, both, no, same_number}
 use Rattle.gl_modes.specs.declared.refusal.Refusal.{Refusal}
 use Rattle.gl_modes.specs.declared.refusal.Refusal.TheVariants as no
 use Rattle.gl_catalog.specs.declared.command.Command.{Command}
@@ -12,16 +13,16 @@ use Rattle.gl_catalog.specs.declared.command.Command.TheVariants as command
 use Rattle.gl_graph.specs.Graph.{Graph, Node, IsFreeKey, node_at}
 use Rattle.gl_graph.specs.Changes.{are_apart}
 use Rattle.gl_graph.specs.Lawful.{IsLawfulGraph}
-use Rattle.gl_table.specs.State.{State, Txn, slots}
-use Rattle.gl_table.specs.Lawful.{IsLawful}
-use Rattle.gl_table.specs.Refusals.{too_many_txns, worn_begins}
+use Rattle.gl_table.specs.model.State.{State, Txn, slots}
+use Rattle.gl_table.specs.model.Lawful.{IsLawful}
+use Rattle.gl_table.specs.model.Calls.{too_many_txns, worn_begins}
 use Rattle.gl_catalog.specs.Tests.{refusal_of, worn}
 use Rattle.gl_catalog.specs.Step.{Goes, Run, Step}
 use Rattle.gl_catalog.specs.Promises.{AlwaysAnswers}
-use Rattle.gl_graph.proofs.Look.{split, or_elim, both, no, same_number, live_node, found_at, there_is}
+use Rattle.gl_graph.proofs.Look.{live_node, found_at, there_is}
 use Rattle.gl_graph.proofs.Unrefused.{not_refused, test_fails}
-use Rattle.gl_table.proofs.LockKeeps.{may_lock}
-use Rattle.gl_table.proofs.Settles.{locks_some, settles}
+use Rattle.gl_table.proofs.law.Lock.{may_lock}
+use Rattle.gl_table.proofs.law.Settle.{locks_some, settles}
 use Rattle.gl_catalog.proofs.StepsKeepLaw.{steps_keep_law}
 use Rattle.gl_catalog.proofs.Play.{above_key, after, free_key, greater, interval_keys, play, replies, slot_or_zero, tested, top}
 

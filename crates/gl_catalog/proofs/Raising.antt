@@ -2,6 +2,8 @@
 use Rattle.std.specs.Prelude.{◌≡◌, ℕ, ◌+◌, ◌-◌, Bool, true, false, not, ◌&&◌, ◌||◌, [], ◌∷◌, Option, Some, None, Ok, Err, IsOk, if◌then◌else◌}
 use Rattle.std.specs.List.{list_any}
 use Rattle.std.proofs.Common.{refl, sym, ap, ◌∙◌}
+use Rattle.gl_modes.proofs.NodeLemmas.{same_node-refl}
+use Rattle.gl_modes.proofs.Words.{both, no, number_same, or_left}
 use Rattle.gl_modes.specs.declared.mode.Mode.{Mode}
 use Rattle.gl_modes.specs.declared.mode.Mode.TheVariants.{NL, S, X}
 use Rattle.gl_modes.specs.declared.node.NodeId.{NodeId}
@@ -12,20 +14,17 @@ use Rattle.gl_modes.proofs.Each.{every-true}
 use Rattle.gl_graph.specs.Graph.{is_child, nodes, parents_of, shape_of}
 use Rattle.gl_graph.specs.Refusals.{Refuses, first_refusal, verdict, where_true}
 use Rattle.gl_graph.specs.Shapes.{is_record_shape}
-use Rattle.gl_graph.proofs.Look.{both, no, number_same, or_left, same_node_refl}
 use Rattle.gl_graph.proofs.Unrefused.{not_false, not_refused, test_fails}
 use Rattle.gl_header.specs.Header.{fits, holds, is_empty}
 use Rattle.gl_table.specs.declared.txn.Status.TheVariants.{Active}
 use Rattle.gl_table.specs.declared.txn.TxnId.{TxnId}
-use Rattle.gl_table.specs.Calls.{asked_by_escalation, granted, raised, shed, wanted}
-use Rattle.gl_table.specs.Covered.{covered_children, held_children}
-use Rattle.gl_table.specs.Intends.{is_write}
-use Rattle.gl_table.specs.Lawful.{IsLawful}
-use Rattle.gl_table.specs.Refusals.{active_on, bad_mode, escalation_blocks, first_not_ix, first_of_all, need_parents, no_txn, not_held, try_tests, would_block}
-use Rattle.gl_table.specs.State.{State, lives, members, status_of}
-use Rattle.gl_table.specs.Tellings.{told}
-use Rattle.gl_table.proofs.Locking.{test_refused}
-use Rattle.gl_table.proofs.TestsPass.{active_after}
+use Rattle.gl_table.specs.model.Calls.{asked_by_escalation, granted, raised, shed, wanted, covered_children, held_children}
+use Rattle.gl_table.specs.model.State.{is_write, State, lives, members, status_of}
+use Rattle.gl_table.specs.model.Lawful.{IsLawful}
+use Rattle.gl_table.specs.model.Calls.{active_on, bad_mode, escalation_blocks, first_not_ix, first_of_all, need_parents, no_txn, not_held, try_tests, would_block}
+use Rattle.gl_table.specs.model.Tellings.{told}
+use Rattle.gl_table.proofs.calls.Locking.{test_refused}
+use Rattle.gl_table.proofs.law.Tests.{active_after}
 use Rattle.gl_catalog.specs.declared.command.Answer.TheVariants as answer
 use Rattle.gl_catalog.specs.declared.command.Command.TheVariants as command
 use Rattle.gl_catalog.specs.declared.command.Escalated.{Escalated}
@@ -35,7 +34,7 @@ use Rattle.gl_catalog.specs.Tests.{escalate_asks, refusal_of, worn}
 use Rattle.gl_catalog.proofs.Carried.{accepted_step, refused_step}
 use Rattle.gl_graph.proofs.FirstOf.{passed_then, passes_first, refused_first}
 use Rattle.gl_catalog.proofs.NotRefused.{txn_lives}
-use Rattle.gl_table.proofs.Escalates.{raised_intends}
+use Rattle.gl_table.proofs.law.Tests.{raised_intends}
 
 -- what an escalation asks, by whether some child is held to write
 abbrev asked_if : Bool → Mode
@@ -119,7 +118,7 @@ module _ (k : ℕ) (s : State) (t : TxnId) (n : NodeId) (passed : first_refusal 
   up = grants ∙ ap (granted s t.slot n) is
 
   held_raised : (raised s t.slot n).held t.slot n ≡ wanted s t.slot n (asked_by_escalation s t.slot n)
-  held_raised = ap (λ b. if b then wanted s t.slot n (asked_by_escalation s t.slot n) else s.held t.slot n) (both _ _ (number_same t.slot t.slot refl) (same_node_refl n))
+  held_raised = ap (λ b. if b then wanted s t.slot n (asked_by_escalation s t.slot n) else s.held t.slot n) (both _ _ (number_same t.slot t.slot refl) (same_node-refl n))
 
   -- so the children may be shed
   pub raised_lives : lives s' t ≡ true

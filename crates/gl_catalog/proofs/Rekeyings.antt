@@ -2,6 +2,8 @@
 use Rattle.std.specs.Prelude.{◌≡◌, ℕ, zero, suc, ◌+◌, ◌<◌, Bool, true, false, not, ◌&&◌, List, [], ◌∷◌, ◌++◌, length, Some, None, Ok, if◌then◌else◌, get_or, take}
 use Rattle.std.proofs.Common.{refl, sym, ap, ap₂, ◌∙◌, arith}
 use Rattle.std.proofs.lemmas.List.{take_more}
+use Rattle.gl_modes.proofs.NodeLemmas.{same_node-equal}
+use Rattle.gl_modes.proofs.Words.{and_both}
 use Rattle.gl_modes.specs.declared.node.NodeId.{NodeId}
 use Rattle.gl_modes.specs.Nodes.{same_node}
 use Rattle.gl_graph.specs.Changes.{keys_with, rekeyed, rekeyed_keys, rekeyed_parents}
@@ -9,16 +11,14 @@ use Rattle.gl_graph.specs.Shapes.{is_index_of_shape, is_record_shape, keys_in}
 use Rattle.gl_graph.specs.Graph.{Graph, first_parent, indexes_of, interval_of, intervals_of, parents_of, shape_of}
 use Rattle.gl_graph.specs.Lawful.{IsLawfulGraph}
 use Rattle.gl_graph.specs.Refusals.{some_no_node, verdict, where_true}
-use Rattle.gl_graph.proofs.Look.{and_both, same_node_is}
 use Rattle.gl_graph.proofs.RecordParents.{its_keys, its_parents}
 use Rattle.gl_graph.proofs.Rekey.{count_intervals_of}
 use Rattle.gl_graph.proofs.Unrefused.{not_false, not_refused, test_fails, verdict_ok}
 use Rattle.gl_table.specs.declared.txn.Status.TheVariants.{Active}
 use Rattle.gl_table.specs.declared.txn.TxnId.{TxnId}
-use Rattle.gl_table.specs.Calls.{moved_to}
-use Rattle.gl_table.specs.Refusals.{condemned_test, need_exclusive, need_new_parents, no_txn, waiting_test}
-use Rattle.gl_table.specs.State.{State, lives, status_of}
-use Rattle.gl_table.specs.Tellings.{told}
+use Rattle.gl_table.specs.model.Calls.{moved_to, condemned_test, need_exclusive, need_new_parents, no_txn, waiting_test}
+use Rattle.gl_table.specs.model.State.{State, lives, status_of}
+use Rattle.gl_table.specs.model.Tellings.{told}
 use Rattle.gl_catalog.specs.declared.command.Command.TheVariants as command
 use Rattle.gl_catalog.specs.Manager.{counting}
 use Rattle.gl_catalog.specs.Replies.{CallSteps, Notices, done}
@@ -80,7 +80,7 @@ module _ (g : Graph) where
         where
           by : (x : Bool) → same_node (get_or is place d) index ≡ x
               → interval_of g (get_or is place d) (if x then key else get_or keys place 0) ≡ (if x then interval_of g index key else get_or (parents_of g r) (place + 1) d)
-          by true here = ap (λ i. interval_of g i key) (same_node_is (get_or is place d) index here)
+          by true here = ap (λ i. interval_of g i key) (same_node-equal (get_or is place d) index here)
           by false other = sym (parents_at place d low)
 
       -- and so one place after the other

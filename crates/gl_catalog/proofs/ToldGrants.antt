@@ -5,21 +5,21 @@ use Rattle.std.proofs.Common.{refl, sym, ap, ap₂, ◌∙◌, arith, ⊎_elim}
 use Rattle.std.proofs.lemmas.Bool.{cases_eq}
 use Rattle.std.proofs.lemmas.Bool.Decides.{nat_tests}
 use mathlib.Core.Bool.{true≢false}
+use Rattle.gl_modes.proofs.Words.{split, or_elim, and_both}
 use Rattle.gl_modes.specs.declared.mode.Mode.{Mode}
 use Rattle.gl_modes.specs.declared.node.NodeId.{NodeId}
 use Rattle.gl_table.specs.declared.txn.TxnId.{TxnId}
-use Rattle.gl_table.specs.declared.notice.Notice.{Notice}
-use Rattle.gl_table.specs.declared.notice.Notice.TheVariants as notice
+use Rattle.gl_table.specs.declared.answers.Notice.{Notice}
+use Rattle.gl_table.specs.declared.answers.Notice.TheVariants as notice
 use Rattle.gl_graph.specs.Graph.{is_live}
 use Rattle.gl_modes.specs.Nodes.{same_node}
 use Rattle.gl_modes.specs.Modes.{same_mode}
-use Rattle.gl_table.specs.State.{State, Txn, lives, live_by, status_of, age_of, age_in}
-use Rattle.gl_table.specs.Lawful.{IsLawful}
-use Rattle.gl_table.specs.Tellings.{told, told_but, told_from, notice_of, addressed}
+use Rattle.gl_table.specs.model.State.{State, Txn, lives, live_by, status_of, age_of, age_in}
+use Rattle.gl_table.specs.model.Lawful.{IsLawful}
+use Rattle.gl_table.specs.model.Tellings.{told, told_but, told_from, notice_of, addressed}
 use Rattle.gl_catalog.specs.Promises.{is_grant_to, same_txn}
-use Rattle.gl_table.proofs.Waiters.{one_among}
-use Rattle.gl_table.proofs.Follows.{GrantedTo}
-use Rattle.gl_graph.proofs.Look.{split, or_elim, and_both}
+use Rattle.gl_table.proofs.queues.Waiters.{one_among}
+use Rattle.gl_table.proofs.telling.Follows.{GrantedTo}
 use Rattle.gl_modes.proofs.NodeLemmas.{same_node-refl}
 use Rattle.gl_modes.proofs.ModeLemmas.{same_mode-refl}
 use Rattle.std.proofs.Math.Bool.{or-true}

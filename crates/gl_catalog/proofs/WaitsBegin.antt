@@ -3,23 +3,19 @@ use Rattle.std.specs.Prelude.{◌≡◌, ◌⊎◌, ℕ, ◌+◌, false, ◌&&�
 use Rattle.std.specs.List.{filter}
 use Rattle.std.proofs.Common.{refl, sym, ap, subst, ◌∙◌, inl, inr, ⊎_elim}
 use mathlib.Core.Bool.{true≢false}
+use Rattle.gl_modes.proofs.Words.{same_number, split}
 use Rattle.gl_modes.specs.declared.mode.Mode.{Mode}
 use Rattle.gl_modes.specs.declared.mode.Mode.TheVariants.{NL}
 use Rattle.gl_modes.specs.declared.node.NodeId.{NodeId}
 use Rattle.gl_modes.specs.Nodes.{same_node}
-use Rattle.gl_graph.proofs.Look.{same_number, split}
 use Rattle.gl_graph.specs.Changes.{rekeyed_parents}
 use Rattle.gl_header.specs.Header.{holds, is_among_waiters}
 use Rattle.gl_table.specs.declared.txn.Status.{Status}
 use Rattle.gl_table.specs.declared.txn.Status.TheVariants.{Active, Waiting, Condemned}
 use Rattle.gl_table.specs.declared.txn.TxnId.{TxnId}
-use Rattle.gl_table.specs.Calls.{Locks, enqueued, enters_at, raised, stays, wanted}
-use Rattle.gl_table.specs.Covered.{is_covered}
-use Rattle.gl_table.specs.Pumps.{granted_at, is_waiting_at, woken}
-use Rattle.gl_table.specs.State.{State, members, restatus, status_in, status_of, with_grant}
-use Rattle.gl_table.specs.Steps.{stripped}
-use Rattle.gl_table.specs.Tellings.{Told}
-use Rattle.gl_table.specs.Waiting.{is_wait}
+use Rattle.gl_table.specs.model.Calls.{Locks, enqueued, enters_at, raised, stays, wanted, is_covered}
+use Rattle.gl_table.specs.model.State.{granted_at, is_waiting_at, woken, State, members, restatus, status_in, status_of, with_grant, is_wait}
+use Rattle.gl_table.specs.model.Tellings.{stripped, Told}
 use Rattle.gl_catalog.specs.declared.command.Answer.{Answer}
 use Rattle.gl_catalog.specs.declared.command.Answer.TheVariants as answer
 use Rattle.gl_catalog.specs.declared.command.Command.{Command}

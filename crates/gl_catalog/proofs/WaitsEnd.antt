@@ -4,6 +4,7 @@ use Rattle.std.specs.List.{filter}
 use Rattle.std.proofs.Common.{refl, sym, ap, ap₂, arith, subst, ◌∙◌}
 use Rattle.std.proofs.lemmas.Bool.Decides.{nat_tests}
 use mathlib.Core.Bool.{true≢false}
+use Rattle.gl_modes.proofs.Words.{and_both, both, none_some, or_left, or_right, split}
 use Rattle.gl_modes.specs.declared.mode.Mode.{Mode}
 use Rattle.gl_modes.specs.declared.mode.Mode.TheVariants.{NL}
 use Rattle.gl_modes.specs.declared.node.NodeId.{NodeId}
@@ -11,23 +12,19 @@ use Rattle.gl_modes.specs.Modes.{same_mode}
 use Rattle.gl_modes.specs.Nodes.{same_node}
 use Rattle.gl_modes.proofs.NodeLemmas.{same_node-refl}
 use Rattle.gl_graph.specs.Graph.{is_live}
-use Rattle.gl_graph.proofs.Look.{and_both, both, none_some, or_left, or_right, split}
 use Rattle.gl_graph.specs.Changes.{rekeyed_parents}
 use Rattle.gl_header.specs.Header.{holds, is_among_waiters}
-use Rattle.gl_table.specs.declared.notice.Notice.{Notice}
-use Rattle.gl_table.specs.declared.notice.Notice.TheVariants as notice
+use Rattle.gl_table.specs.declared.answers.Notice.{Notice}
+use Rattle.gl_table.specs.declared.answers.Notice.TheVariants as notice
 use Rattle.gl_table.specs.declared.txn.Status.{Status}
 use Rattle.gl_table.specs.declared.txn.Status.TheVariants.{Active, Waiting, Condemned}
 use Rattle.gl_table.specs.declared.txn.TxnId.{TxnId}
-use Rattle.gl_table.specs.Calls.{Locks, enqueued, enters_at, granted, raised, released, stays, wanted}
-use Rattle.gl_table.specs.Covered.{is_covered}
-use Rattle.gl_table.specs.Lawful.{IsLawful}
-use Rattle.gl_table.specs.Pumps.{granted_at, is_waiting_at, waits_at, woken}
-use Rattle.gl_table.specs.Refusals.{no_txn, waiting_test}
-use Rattle.gl_table.specs.State.{State, Txn, age_of, live_by, lives, members, restatus, status_in, status_of, with_grant}
-use Rattle.gl_table.specs.Steps.{stripped}
-use Rattle.gl_table.specs.Tellings.{Told, addressed, notice_of, told, told_but, told_from}
-use Rattle.gl_table.proofs.Less.{waiting_is}
+use Rattle.gl_table.specs.model.Calls.{Locks, enqueued, enters_at, granted, raised, released, stays, wanted, is_covered, no_txn, waiting_test}
+use Rattle.gl_table.specs.model.Lawful.{IsLawful}
+use Rattle.gl_table.specs.model.State.{granted_at, is_waiting_at, waits_at, woken}
+use Rattle.gl_table.specs.model.State.{State, Txn, age_of, live_by, lives, members, restatus, status_in, status_of, with_grant}
+use Rattle.gl_table.specs.model.Tellings.{stripped, Told, addressed, notice_of, told, told_but, told_from}
+use Rattle.gl_table.proofs.law.Keeps.{waiting_is}
 use Rattle.gl_catalog.specs.declared.command.Answer.{Answer}
 use Rattle.gl_catalog.specs.declared.command.Command.{Command}
 use Rattle.gl_catalog.specs.declared.command.Command.TheVariants as command

@@ -2,6 +2,7 @@
 use Rattle.std.specs.Prelude.{◌≡◌, ℕ, ◌+◌, ◌<◌, List, [], ◌∷◌, length, drop, get_or, Some, None, Ok, Err, if◌then◌else◌}
 use Rattle.std.proofs.Common.{sym, ap, ◌∙◌}
 use Rattle.std.proofs.lemmas.List.{drop_more}
+use Rattle.gl_modes.proofs.Words.{none_some, split}
 use Rattle.gl_modes.specs.declared.mode.Mode.{Mode}
 use Rattle.gl_modes.specs.declared.mode.Mode.TheVariants.{IX}
 use Rattle.gl_modes.specs.declared.node.NodeId.{NodeId}
@@ -9,10 +10,9 @@ use Rattle.gl_modes.specs.declared.refusal.Refusal.{Refusal}
 use Rattle.gl_modes.specs.declared.refusal.Refusal.TheVariants as no
 use Rattle.gl_modes.specs.Modes.{is_at_least}
 use Rattle.gl_graph.specs.Refusals.{verdict}
-use Rattle.gl_graph.proofs.Look.{none_some, split}
 use Rattle.gl_graph.proofs.Unrefused.{verdict_ok}
-use Rattle.gl_table.specs.Refusals.{first_not_ix}
-use Rattle.gl_table.proofs.Locking.{test_refused}
+use Rattle.gl_table.specs.model.Calls.{first_not_ix}
+use Rattle.gl_table.proofs.calls.Locking.{test_refused}
 
 module _ (held : NodeId → Mode) (p : NodeId) (ps : List NodeId) where
   -- the first is held, so the others decide

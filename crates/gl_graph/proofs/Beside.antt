@@ -8,6 +8,7 @@ use Rattle.std.proofs.lemmas.Option.{slice_get_past, slice_get_read}
 use Rattle.std.proofs.lemmas.List.Sums.{sum_by-cons}
 use Rattle.std.proofs.Common.{refl, sym, ap, ap₂, ◌∙◌, subst, arith, zero-add}
 use Rattle.std.proofs.lemmas.Bool.Decides.{nat_tests}
+use Rattle.gl_modes.proofs.Words.{split, cases_of, no, none_some, some_is, same_number}
 use Rattle.gl_modes.specs.declared.node.NodeId.{NodeId}
 use Rattle.slab.specs.Slab.{Slab, get}
 use Rattle.gl_graph.specs.declared.node.Body.{Body}
@@ -18,7 +19,6 @@ use Rattle.gl_graph.specs.Graph.{node_at, shape_of, shape_in, parents_in, parent
 use Rattle.gl_graph.specs.Lawful.{IsRising, HasShape}
 use Rattle.gl_graph.specs.View.{View, graph_of, node_of, record_count, KeepsBeside}
 use Rattle.gl_graph.specs.Seen.{shape_in_body, indexes_in_body, records_in_body, intervals_in_body, vertex_of, seen, named_in, named, AreSound}
-use Rattle.gl_graph.proofs.Look.{split, cases_of, no, none_some, some_is, same_number}
 use Rattle.gl_graph.proofs.Slots.{node_named, seen_in}
 
 -- the slot of a node that an id names

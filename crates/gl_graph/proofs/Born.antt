@@ -5,13 +5,15 @@ use Rattle.std.proofs.lemmas.List.Elements.{filter_map-append}
 use Rattle.std.proofs.lemmas.List.FromFn.{length-range_with_len}
 use Rattle.std.proofs.lemmas.List.{length-append}
 use Rattle.std.proofs.Common.{refl, sym, ap, ◌∙◌, subst, arith, rules, inl, inr, ⊎_elim}
+use Rattle.gl_modes.proofs.NodeLemmas.{node_is}
+use Rattle.gl_modes.proofs.Words.{split, cases_of, no, none_some, number_same, number_other}
 use Rattle.gl_modes.specs.declared.node.NodeId.{NodeId}
 use Rattle.gl_modes.specs.Nodes.{same_node}
 use Rattle.gl_graph.specs.Shapes.{is_record_shape, is_index_of_shape}
 use Rattle.gl_graph.specs.Graph.{Graph, Node, id_of, nodes, node_count, with_key, node_at, is_live, parents_in, shape_in, shape_of, is_child, indexes_of, IsFreeKey}
 use Rattle.gl_graph.specs.Lawful.{IsWellFormed, IsLawfulGraph}
 use Rattle.gl_graph.specs.Changes.{born_node, born_nodes}
-use Rattle.gl_graph.proofs.Look.{split, cases_of, no, none_some, number_same, number_other, node_is, found_at, finds, live_node, there_is, child_node}
+use Rattle.gl_graph.proofs.Look.{found_at, finds, live_node, there_is, child_node}
 use Rattle.gl_graph.proofs.KindRules.{Frames, well_formed_kept, plain_live}
 use Rattle.gl_graph.proofs.Listings.{kept, index_born, indexes_are, range_append, map_same, map_short}
 use Rattle.gl_graph.proofs.Routes.{acyclic_beside}

@@ -3,6 +3,8 @@ use Rattle.std.specs.Prelude.{◌≡◌, ◌≢◌, ℕ, ◌≤◌, Bool, true, 
 use Rattle.std.specs.List.{list_any, filter, filter_map, range_with_len}
 use Rattle.std.proofs.Math.Path.{fun_ext}
 use Rattle.std.proofs.Common.{refl, sym, ap, ◌∙◌, subst}
+use Rattle.gl_modes.proofs.NodeLemmas.{node_is, same_node-equal, same_node-other}
+use Rattle.gl_modes.proofs.Words.{split, some_is, number_same, number_other, same_number, other_number}
 use Rattle.gl_modes.specs.declared.node.NodeId.{NodeId}
 use Rattle.gl_modes.specs.Nodes.{same_node}
 use Rattle.gl_graph.specs.Shapes.{Shape, Interval, is_record_shape, is_index_of_shape}
@@ -10,7 +12,7 @@ use Rattle.gl_graph.specs.Graph.{Graph, Node, id_of, nodes, with_key, node_at, i
 use Rattle.gl_graph.specs.Routes.{IsRoute}
 use Rattle.gl_graph.specs.Lawful.{IsWellFormed, IsLawfulGraph}
 use Rattle.gl_graph.specs.Changes.{with_node}
-use Rattle.gl_graph.proofs.Look.{split, some_is, number_same, number_other, same_number, other_number, node_is, same_node_is, other_node, found_at, finds, misses, there_is}
+use Rattle.gl_graph.proofs.Look.{found_at, finds, misses, there_is}
 use Rattle.gl_graph.proofs.KindRules.{is_plain, Frames, well_formed_kept}
 use Rattle.gl_graph.proofs.Routes.{acyclic_moved}
 
@@ -56,7 +58,7 @@ module _ (g : Graph) (n : NodeId) (was is : Node) (there : node_at g n ≡ Some 
   nodes_same = ap (λ (f : ℕ → Option NodeId). filter_map f (range_with_len 1 g.births)) (fun_ext id_same)
 
   pub live_same : (q : NodeId) → is_live after q ≡ is_live g q
-  live_same q = split (same_node q n) (λ e. ap (is_live after) (same_node_is q n e) ∙ ap is_some at_here ∙ sym (ap (is_live g) (same_node_is q n e) ∙ ap is_some there)) (λ e. ap is_some (at_other q (other_node q n e)))
+  live_same q = split (same_node q n) (λ e. ap (is_live after) (same_node-equal q n e) ∙ ap is_some at_here ∙ sym (ap (is_live g) (same_node-equal q n e) ∙ ap is_some there)) (λ e. ap is_some (at_other q (same_node-other q n e)))
 
   module _ (alike : IsAlike was.shape is.shape) where
     shape_here : shape_of after n ≡ Some is.shape
@@ -67,13 +69,13 @@ module _ (g : Graph) (n : NodeId) (was is : Node) (there : node_at g n ≡ Some 
 
     pub index_same : (f q : NodeId) → is_index_of_shape f (shape_of after q) ≡ is_index_of_shape f (shape_of g q)
     index_same f q =
-        split (same_node q n) (λ e. ap (λ x. is_index_of_shape f (shape_of after x)) (same_node_is q n e) ∙ ap (is_index_of_shape f) shape_here ∙ alike.index f ∙ sym (ap (λ x. is_index_of_shape f (shape_of g x)) (same_node_is q n e) ∙ ap (is_index_of_shape f) shape_was))
-        (λ e. ap (λ o. is_index_of_shape f (shape_in o)) (at_other q (other_node q n e)))
+        split (same_node q n) (λ e. ap (λ x. is_index_of_shape f (shape_of after x)) (same_node-equal q n e) ∙ ap (is_index_of_shape f) shape_here ∙ alike.index f ∙ sym (ap (λ x. is_index_of_shape f (shape_of g x)) (same_node-equal q n e) ∙ ap (is_index_of_shape f) shape_was))
+        (λ e. ap (λ o. is_index_of_shape f (shape_in o)) (at_other q (same_node-other q n e)))
 
     pub rec_same : (q : NodeId) → is_record_shape (shape_of after q) ≡ is_record_shape (shape_of g q)
     rec_same q =
-        split (same_node q n) (λ e. ap (λ x. is_record_shape (shape_of after x)) (same_node_is q n e) ∙ ap is_record_shape shape_here ∙ alike.rec ∙ sym (ap (λ x. is_record_shape (shape_of g x)) (same_node_is q n e) ∙ ap is_record_shape shape_was))
-        (λ e. ap (λ o. is_record_shape (shape_in o)) (at_other q (other_node q n e)))
+        split (same_node q n) (λ e. ap (λ x. is_record_shape (shape_of after x)) (same_node-equal q n e) ∙ ap is_record_shape shape_here ∙ alike.rec ∙ sym (ap (λ x. is_record_shape (shape_of g x)) (same_node-equal q n e) ∙ ap is_record_shape shape_was))
+        (λ e. ap (λ o. is_record_shape (shape_in o)) (at_other q (same_node-other q n e)))
 
     pub indexes_same : (f : NodeId) → indexes_of after f ≡ indexes_of g f
     indexes_same f = ap (filter (λ q. is_index_of_shape f (shape_of after q))) nodes_same ∙ ap (λ (p : NodeId → Bool). filter p (nodes g)) (fun_ext (index_same f))
@@ -82,12 +84,12 @@ module _ (g : Graph) (n : NodeId) (was is : Node) (there : node_at g n ≡ Some 
     changed_frames = record {
       shapes = λ q h. split (same_node q n)
           (λ e.
-          let same : q ≡ n = same_node_is q n e in
+          let same : q ≡ n = same_node-equal q n e in
           ap (shape_of after) same ∙ shape_here ∙ ap Some (alike.plain (sym (ap (λ x. is_plain (shape_of g x)) same ∙ ap is_plain shape_was) ∙ h)) ∙ sym (ap (shape_of g) same ∙ shape_was))
-          (λ e. ap shape_in (at_other q (other_node q n e)));
+          (λ e. ap shape_in (at_other q (same_node-other q n e)));
       intervals = λ q place node e shape. split (same_node q n)
-          (λ same. absurd (alike.no_interval place (ap (λ x. x.shape) (some_is (sym there ∙ ap (node_at g) (sym (same_node_is q n same)) ∙ e)) ∙ shape)))
-          (λ other. at_other q (other_node q n other) ∙ e);
+          (λ same. absurd (alike.no_interval place (ap (λ x. x.shape) (some_is (sym there ∙ ap (node_at g) (sym (same_node-equal q n same)) ∙ e)) ∙ shape)))
+          (λ other. at_other q (same_node-other q n other) ∙ e);
       indexes = λ f r h k. indexes_same f;
     }
 
@@ -104,13 +106,13 @@ module _ (g : Graph) (n : NodeId) (was is : Node) (there : node_at g n ≡ Some 
       changed_lawful = record {
         well_formed = λ q node e. split (same_node q n)
             (λ same.
-            let is_n : q ≡ n = same_node_is q n same in
+            let is_n : q ≡ n = same_node-equal q n same in
             let node_is' : is ≡ node = some_is (sym at_here ∙ ap (node_at after) (sym is_n) ∙ e) in
             subst (λ x. IsWellFormed after x node) (sym is_n) (subst (IsWellFormed after n) node_is' well))
-            (λ other. well_formed_kept g after law changed_frames q node (sym (at_other q (other_node q n other)) ∙ e));
+            (λ other. well_formed_kept g after law changed_frames q node (sym (at_other q (same_node-other q n other)) ∙ e));
         parents_live = λ q p h. live_same p ∙ split (same_node q n)
-            (λ same. up p (child_here p (subst (λ x. is_child after p x ≡ true) (same_node_is q n same) h)))
-            (λ other. law.parents_live q p (child_other p q (other_node q n other) h));
+            (λ same. up p (child_here p (subst (λ x. is_child after p x ≡ true) (same_node-equal q n same) h)))
+            (λ other. law.parents_live q p (child_other p q (same_node-other q n other) h));
         acyclic = acyclic_moved g after n (λ p q ne h. child_other p q ne h) (λ p way h route. clear p way (child_here p h) route) law.acyclic;
         keys_differ = λ a b h k e. law.keys_differ a b (sym (live_same a) ∙ h) (sym (live_same b) ∙ k) e;
         born = λ b h. split (b == n.birth)

@@ -4,13 +4,14 @@ use Rattle.std.specs.List.{list_any}
 use Rattle.std.proofs.lemmas.Option.{slice_get-get_or, slice_get_within, get_or_from_slice_get}
 use Rattle.std.proofs.lemmas.List.{take-append-le, length-append, take_all}
 use Rattle.std.proofs.Common.{refl, sym, ap, ◌∙◌, subst, arith, inl, inr, ⊎_elim}
+use Rattle.gl_modes.proofs.NodeLemmas.{same_node-equal, same_node-refl}
+use Rattle.gl_modes.proofs.Words.{split, no, none_some, or_elim, or_left, or_right}
 use Rattle.gl_modes.specs.declared.node.NodeId.{NodeId}
 use Rattle.gl_modes.specs.Nodes.{same_node}
 use Rattle.gl_graph.specs.Graph.{Graph, parents_of, is_live, node_count}
 use Rattle.gl_graph.specs.Routes.{IsRoute, is_at_or_below}
 use Rattle.gl_graph.specs.Lawful.{IsLawfulGraph}
 use Rattle.gl_graph.specs.Seen.{with_all}
-use Rattle.gl_graph.proofs.Look.{split, no, none_some, or_elim, or_left, or_right, same_node_is, same_node_refl}
 use Rattle.gl_graph.proofs.Moved.{below_complete, below_route}
 use Rattle.std.proofs.lemmas.List.Folds.{list_any_at, list_any_more, list_any-append}
 use Rattle.std.proofs.lemmas.Bool.{cases_lt}
@@ -34,13 +35,13 @@ added_keeps : (q : NodeId) (xs : List NodeId) (y : NodeId) → among q xs ≡ tr
 added_keeps q xs y h = added_case xs y (λ e same. ap (among q) same ∙ h) (λ same. ap (among q) same ∙ list_any-append (same_node q) xs (y ∷ []) ∙ or_left _ _ h)
 
 added_comes : (xs : List NodeId) (y : NodeId) → among y (added xs y) ≡ true
-added_comes xs y = added_case xs y (λ e same. ap (among y) same ∙ e) (λ same. ap (among y) same ∙ list_any-append (same_node y) xs (y ∷ []) ∙ or_right (among y xs) _ (or_left _ _ (same_node_refl y)))
+added_comes xs y = added_case xs y (λ e same. ap (among y) same ∙ e) (λ same. ap (among y) same ∙ list_any-append (same_node y) xs (y ∷ []) ∙ or_right (among y xs) _ (or_left _ _ (same_node-refl y)))
 
 added_from : (q : NodeId) (xs : List NodeId) (y : NodeId) → among q (added xs y) ≡ true → (among q xs ≡ true) ⊎ (q ≡ y)
 added_from q xs y h =
     added_case xs y (λ e same. inl (sym (ap (among q) same) ∙ h))
     (λ same. or_elim (among q xs) (among q (y ∷ [])) (sym (ap (among q) same ∙ list_any-append (same_node q) xs (y ∷ [])) ∙ h) (λ was. inl was)
-    (λ is. or_elim (same_node q y) false is (λ s. inr (same_node_is q y s)) (λ none. absurd (no none))))
+    (λ is. or_elim (same_node q y) false is (λ s. inr (same_node-equal q y s)) (λ none. absurd (no none))))
 
 -- what is there stays
 pub with_all-keeps : (q : NodeId) (xs ys : List NodeId) → among q xs ≡ true → among q (with_all xs ys) ≡ true
@@ -51,14 +52,14 @@ with_all-keeps q xs (y ∷ ys) h = with_all-keeps q (added xs y) ys (added_keeps
 pub with_all-adds : (q : NodeId) (xs ys : List NodeId) → among q ys ≡ true → among q (with_all xs ys) ≡ true
 with_all-adds q xs [] h = absurd (no h)
 with_all-adds q xs (y ∷ ys) h =
-    or_elim (same_node q y) (among q ys) h (λ here. with_all-keeps q (added xs y) ys (ap (λ z. among z (added xs y)) (same_node_is q y here) ∙ added_comes xs y))
+    or_elim (same_node q y) (among q ys) h (λ here. with_all-keeps q (added xs y) ys (ap (λ z. among z (added xs y)) (same_node-equal q y here) ∙ added_comes xs y))
     (λ there. with_all-adds q (added xs y) ys there)
 
 -- nothing else does
 pub with_all-from : (q : NodeId) (xs ys : List NodeId) → among q (with_all xs ys) ≡ true → (among q xs ≡ true) ⊎ (among q ys ≡ true)
 with_all-from q xs [] h = inl h
 with_all-from q xs (y ∷ ys) h =
-    ⊎_elim (λ (was : among q (added xs y) ≡ true). ⊎_elim (λ (w : among q xs ≡ true). inl w) (λ (e : q ≡ y). inr (or_left _ _ (ap (λ z. same_node z y) e ∙ same_node_refl y))) (added_from q xs y was))
+    ⊎_elim (λ (was : among q (added xs y) ≡ true). ⊎_elim (λ (w : among q xs ≡ true). inl w) (λ (e : q ≡ y). inr (or_left _ _ (ap (λ z. same_node z y) e ∙ same_node-refl y))) (added_from q xs y was))
     (λ (new : among q ys ≡ true). inr (or_right (same_node q y) _ new)) (with_all-from q (added xs y) ys h)
 
 added_longer : (xs : List NodeId) (y : NodeId) → length xs ≤ length (added xs y)
@@ -85,7 +86,7 @@ pub lent_at : (found xs : List NodeId) (i : ℕ) (r : Option (Bor NodeId)) → x
 lent_at found xs i r e at = sym (item_copied xs i r at ∙ ap (λ ys. slice_get ys i) e)
 
 pub item_among : (found : List NodeId) (i : ℕ) (n : NodeId) → slice_get found i ≡ Some n → among n found ≡ true
-item_among found i n item = list_any_at (same_node n) found i n (slice_get_within found i n item) (ap (same_node n) (get_or_from_slice_get found i n n item) ∙ same_node_refl n)
+item_among found i n item = list_any_at (same_node n) found i n (slice_get_within found i n item) (ap (same_node n) (get_or_from_slice_get found i n n item) ∙ same_node-refl n)
 
 -- among the first i + 1, whatever is added behind, are the first i and the next one
 pub first_more : {C : Type 0} (found more : List NodeId) (i : ℕ) (n q : NodeId) → slice_get found i ≡ Some n → among q (take (i + 1) (with_all found more)) ≡ true → (among q (take i found) ≡ true → C) → (q ≡ n → C) → C
@@ -94,7 +95,7 @@ first_more found more i n q item h was is =
     let at = get_or_from_slice_get found i n n item in
     or_elim (among q (take i found)) (same_node q n)
     (sym (ap (among q) (with_all-front found more (i + 1) (omega arith)) ∙ list_any_more (same_node q) found i n low ∙ ap (λ x. among q (take i found) || same_node q x) at) ∙ h)
-    was (λ same. is (same_node_is q n same))
+    was (λ same. is (same_node-equal q n same))
 
 module _ (g : Graph) (stops : NodeId → Bool) where
   -- a route from n to a node that is sought, past no node that stops it
@@ -166,8 +167,8 @@ pub finds_routes : (g : Graph) (law : IsLawfulGraph g) (from target : NodeId) (f
     → among target found ≡ is_at_or_below (node_count g) g target from
 finds_routes g law from target found i live none s =
     split (among target found)
-    (λ e. e ∙ sym (let l = climb_meets g never (same_node target) from found i target e s refl (same_node_refl target) in
-    below_complete g law target from l.way live (subst (IsRoute g from l.way) (sym (same_node_is target l.end l.meets)) l.route)))
+    (λ e. e ∙ sym (let l = climb_meets g never (same_node target) from found i target e s refl (same_node-refl target) in
+    below_complete g law target from l.way live (subst (IsRoute g from l.way) (sym (same_node-equal target l.end l.meets)) l.route)))
     (λ e. e ∙ sym (split (is_at_or_below (node_count g) g target from)
     (λ t. absurd (let way = below_route g target (node_count g) from t in
     no (sym e ∙ ap (among target) (sym (take_all i found (none_left found i none))) ∙ (climb_ends g never from found i none s from target way.0 s.starts way.1 (never_stops (from ∷ way.0))).0)))

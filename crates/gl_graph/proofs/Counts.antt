@@ -4,6 +4,8 @@ use Rattle.std.specs.List.{cons_option, filter, filter_map, list_all, list_any, 
 use Rattle.std.proofs.lemmas.List.Sums.{sum_by-cons, sum_by-append}
 use Rattle.std.proofs.lemmas.List.{length-append}
 use Rattle.std.proofs.Common.{refl, sym, ap, ap₂, ◌∙◌, arith}
+use Rattle.gl_modes.proofs.NodeLemmas.{same_node-equal}
+use Rattle.gl_modes.proofs.Words.{split, no, none_some, some_is, both, and_both}
 use Rattle.gl_modes.specs.declared.node.NodeId.{NodeId}
 use Rattle.gl_modes.specs.Nodes.{same_node}
 use Rattle.gl_graph.specs.Shapes.{is_record_shape, is_file_shape, is_index_of_shape}
@@ -11,7 +13,7 @@ use Rattle.gl_graph.specs.Graph.{Graph, Node, id_of, nodes, node_count, node_at,
 use Rattle.gl_graph.specs.Lawful.{IsLawfulGraph}
 use Rattle.gl_graph.specs.Changes.{born_nodes}
 use Rattle.gl_graph.specs.View.{record_count}
-use Rattle.gl_graph.proofs.Look.{split, no, none_some, some_is, both, and_both, finds, there_is, same_node_is}
+use Rattle.gl_graph.proofs.Look.{finds, there_is}
 use Rattle.gl_graph.proofs.KindRules.{plain_live, file_plain, index_of, index_node}
 use Rattle.gl_graph.proofs.Listings.{map_same}
 use Rattle.gl_graph.proofs.Born.{place_in, old_at, new_at, none_above, old_same, parts, new_node}
@@ -119,6 +121,6 @@ module _ (g : Graph) (law : IsLawfulGraph g) (f : NodeId) (dead : is_live g f �
       (λ t.
       let index = index_of f (shape_of g n) t in
       let node = index_node g law n index.0 index.1 index.2 in
-      let same : f ≡ index.0 = same_node_is f index.0 (sym (ap (is_index_of_shape f) index.2) ∙ t) in
+      let same : f ≡ index.0 = same_node-equal f index.0 (sym (ap (is_index_of_shape f) index.2) ∙ t) in
       absurd (no (sym dead ∙ plain_live g f (file_plain _ (ap (λ q. is_file_shape (shape_of g q)) same ∙ node.file)))))
       (λ t. t))

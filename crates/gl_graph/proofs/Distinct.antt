@@ -2,12 +2,13 @@
 use Rattle.std.specs.Prelude.{◌≡◌, ℕ, zero, suc, ◌+◌, ◌<◌, Bool, true, false, not, ◌||◌, List, [], ◌∷◌, length, Option, Some, None, if◌then◌else◌, slice_index_or}
 use Rattle.std.specs.List.{cons_option, filter, filter_map, list_any, range_with_len}
 use Rattle.std.proofs.Common.{refl, sym, ap, ap₂, ◌∙◌, arith}
+use Rattle.gl_modes.proofs.NodeLemmas.{same_node-equal, same_node-differ, same_node-from_equal}
+use Rattle.gl_modes.proofs.Words.{split, no, none_some, some_is, or_elim, or_left, or_right, both, and_both}
 use Rattle.gl_modes.specs.declared.node.NodeId.{NodeId}
 use Rattle.gl_modes.specs.Nodes.{same_node}
 use Rattle.gl_graph.specs.Shapes.{is_index_of_shape}
 use Rattle.gl_graph.specs.Graph.{Graph, Node, id_of, nodes, is_live, shape_of, indexes_of}
 use Rattle.gl_graph.specs.Lawful.{IsLawfulGraph, are_distinct}
-use Rattle.gl_graph.proofs.Look.{split, no, none_some, some_is, or_elim, or_left, or_right, both, and_both, same_node_is, node_other, is_same_node}
 use Rattle.gl_graph.proofs.Unrefused.{or_no}
 use Rattle.gl_graph.proofs.RouteLengths.{listed}
 
@@ -20,7 +21,7 @@ module _ (h : ℕ → Option NodeId) (born : (b : ℕ) (x : NodeId) → h b ≡ 
       by : (o : Option NodeId) → h a ≡ o → list_any (same_node q) (filter_map h (range_with_len (a + 1) n)) ≡ false → list_any (same_node q) (cons_option o (filter_map h (range_with_len (a + 1) n))) ≡ false
       by None e rest = rest
       by (Some x) e rest =
-          let other : same_node q x ≡ false = node_other q x (λ same. let b = ap (λ z. z.birth) same in let c = born a x e in absurd (omega arith)) in
+          let other : same_node q x ≡ false = same_node-differ q x (λ same. let b = ap (λ z. z.birth) same in let c = born a x e in absurd (omega arith)) in
           ap₂ (λ s t. s || t) other rest
 
   distinct_from : (a n : ℕ) → are_distinct (filter_map h (range_with_len a n)) ≡ true
@@ -64,7 +65,7 @@ module _ (p : NodeId → Bool) where
       split (p x)
       (λ e. ap (λ b. list_any (same_node q) (if b then x ∷ filter p xs else filter p xs)) e ∙ or_elim (same_node q x) (list_any (same_node q) xs) h (λ here. or_left _ _ here) (λ there. or_right (same_node q x) _ (any_filtered q xs there k)))
       (λ e. ap (λ b. list_any (same_node q) (if b then x ∷ filter p xs else filter p xs)) e
-      ∙ or_elim (same_node q x) (list_any (same_node q) xs) h (λ here. absurd (no (sym e ∙ ap p (sym (same_node_is q x here)) ∙ k))) (λ there. any_filtered q xs there k))
+      ∙ or_elim (same_node q x) (list_any (same_node q) xs) h (λ here. absurd (no (sym e ∙ ap p (sym (same_node-equal q x here)) ∙ k))) (λ there. any_filtered q xs there k))
 
 pub indexes_distinct : (g : Graph) (f : NodeId) → are_distinct (indexes_of g f) ≡ true
 indexes_distinct g f = filter_distinct (λ n. is_index_of_shape f (shape_of g n)) (nodes g) (nodes_distinct g)
@@ -74,7 +75,7 @@ index_listed g law f i live h = any_filtered (λ n. is_index_of_shape f (shape_o
 
 any_at : (q : NodeId) (xs : List NodeId) (k : ℕ) (d : NodeId) → k < length xs → slice_index_or xs k d ≡ q → list_any (same_node q) xs ≡ true
 any_at q [] k d low e = absurd (omega arith)
-any_at q (x ∷ xs) zero d low e = or_left _ _ (is_same_node q x (sym e))
+any_at q (x ∷ xs) zero d low e = or_left _ _ (same_node-from_equal q x (sym e))
 any_at q (x ∷ xs) (suc k) d low e = or_right (same_node q x) _ (any_at q xs k d (omega arith) e)
 
 -- one place for each

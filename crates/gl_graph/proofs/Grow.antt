@@ -3,6 +3,7 @@ use Rattle.std.specs.Prelude.{◌≡◌, ◌≢◌, ℕ, suc, ◌+◌, Bool, tru
 use Rattle.std.specs.List.{list_any}
 use Rattle.std.proofs.lemmas.List.{length-append}
 use Rattle.std.proofs.Common.{refl, sym, ap, ap₂, ◌∙◌, subst, arith, inl, inr}
+use Rattle.gl_modes.proofs.Words.{split, no, none_some, some_is, or_elim, both, and_both, same_number, other_number, number_other}
 use Rattle.gl_modes.specs.declared.node.NodeId.{NodeId}
 use Rattle.slab.specs.Slab.{Slab, get, slab_len, Updates}
 use Rattle.gl_graph.specs.declared.node.Node.{Node as Stored}
@@ -12,7 +13,6 @@ use Rattle.gl_graph.specs.Changes.{born_node, born_nodes, interval_nodes, keys_o
 use Rattle.gl_graph.specs.View.{graph_of, node_of}
 use Rattle.gl_graph.specs.Seen.{shape_in_body, vertex_of, seen, AreBornApart, AreBornWithin}
 use Rattle.gl_graph.specs.Grown.{IsGrown, ids_of, AreIntervalsBorn}
-use Rattle.gl_graph.proofs.Look.{split, no, none_some, some_is, or_elim, both, and_both, same_number, other_number, number_other}
 use Rattle.gl_graph.proofs.Unrefused.{or_no}
 use Rattle.gl_graph.proofs.Slots.{inserted, inserted_apart, inserted_within}
 

@@ -1,6 +1,7 @@
 -- What is kept beside the graph still agrees with it after a change.
 use Rattle.std.specs.Prelude.{◌≡◌, ℕ, ◌+◌, ◌≤◌, true, false, ◌==◌, ◌&&◌, List, [], ◌∷◌, length, Some, None, is_some, cond, count_by}
 use Rattle.std.proofs.Common.{refl, sym, ap, ap₂, ◌∙◌, subst, arith}
+use Rattle.gl_modes.proofs.Words.{split, some_is, same_number, other_number}
 use Rattle.gl_modes.specs.declared.node.NodeId.{NodeId}
 use Rattle.slab.specs.Slab.{Slab, get, slab_len, Updates}
 use Rattle.gl_graph.specs.declared.node.Body.{Body}
@@ -12,7 +13,6 @@ use Rattle.gl_graph.specs.Lawful.{IsLawfulGraph}
 use Rattle.gl_graph.specs.Changes.{born_node, IsBorn}
 use Rattle.gl_graph.specs.View.{Vertex, graph_of, node_of, record_count, KeepsBeside, AgreesAt}
 use Rattle.gl_graph.specs.Seen.{shape_in_body, vertex_of, seen, AreBornWithin, AreSound, IsPlainBody}
-use Rattle.gl_graph.proofs.Look.{split, some_is, same_number, other_number}
 use Rattle.gl_graph.proofs.KindRules.{Frames, index_node, interval_kept}
 use Rattle.gl_graph.proofs.Born.{born_frames, new_node, old_below}
 use Rattle.gl_graph.proofs.NewNodes.{one_indexes}

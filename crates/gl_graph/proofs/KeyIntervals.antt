@@ -2,6 +2,7 @@
 use Rattle.std.specs.Prelude.{◌≡◌, ℕ, zero, suc, ◌+◌, ◌<◌, ◌≤◌, ◌⊎◌, true, nat_le, List, [], ◌∷◌, ◌&&◌, length, Option, Some, None, slice_index_or, if◌then◌else◌}
 use Rattle.std.proofs.Common.{refl, sym, ap, subst, arith, rules, add-one, ⊎_elim, ◌∙◌}
 use Rattle.std.proofs.lemmas.Bool.Decides.{nat_tests}
+use Rattle.gl_modes.proofs.Words.{and_both, both, no, none_some, some_is, split}
 use Rattle.gl_modes.specs.declared.node.NodeId.{NodeId}
 use Rattle.gl_graph.specs.Graph.{Graph, interval, interval_at, interval_of, interval_place, shape_of}
 use Rattle.gl_graph.specs.Intervals.{HoldsKey, beginning}
@@ -10,7 +11,6 @@ use Rattle.gl_graph.specs.Lawful.{IsLawfulGraph, IsRising}
 use Rattle.gl_graph.specs.Shapes.{Shape, Inner, File, Index, Interval, Rec, bounds_in, is_index_shape}
 use Rattle.gl_graph.proofs.KeyPlace.{place_counted, rising_at}
 use Rattle.gl_graph.proofs.KindRules.{index_node}
-use Rattle.gl_graph.proofs.Look.{and_both, both, no, none_some, some_is, split}
 
 -- the bounds before the place of the key are not above it, and the others are
 record IsPlace (bs : List ℕ) (key k : ℕ) : Type 0 where

@@ -4,9 +4,9 @@ use Rattle.std.specs.List.{list_all}
 use Rattle.std.proofs.Common.{ap, ◌∙◌, arith}
 use Rattle.std.proofs.lemmas.List.Sums.{sum_by-cons}
 use Rattle.std.proofs.lemmas.Bool.Decides.{nat_tests}
+use Rattle.gl_modes.proofs.Words.{and_both}
 use Rattle.gl_graph.specs.Graph.{interval_place}
 use Rattle.gl_graph.specs.Lawful.{IsRising}
-use Rattle.gl_graph.proofs.Look.{and_both}
 
 above_all : (b : ℕ) (bs : List ℕ) (j : ℕ) → list_all (λ c. nat_lt b c) bs ≡ true → j < length bs → b < slice_index_or bs j 0
 above_all b [] j h low = absurd (omega arith)

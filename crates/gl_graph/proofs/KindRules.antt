@@ -3,12 +3,14 @@ use Rattle.std.specs.Prelude.{◌≡◌, ℕ, ◌≤◌, Bool, true, false, nat_
 use Rattle.std.specs.List.{list_all, list_any}
 use Rattle.std.proofs.lemmas.List.Sums.{count_by-le-length}
 use Rattle.std.proofs.Common.{refl, sym, ap, ap₂, ◌∙◌, subst, arith, rules}
+use Rattle.gl_modes.proofs.NodeLemmas.{node_is, same_node-equal, same_node-refl}
+use Rattle.gl_modes.proofs.Words.{cases_of, or_elim, or_left, and_both, both, no}
 use Rattle.gl_modes.specs.declared.node.NodeId.{NodeId}
 use Rattle.gl_modes.specs.Nodes.{same_node}
 use Rattle.gl_graph.specs.Shapes.{Shape, Inner, File, Index, Interval, Rec, is_inner_shape, is_file_shape, is_record_shape, is_index_shape, is_index_of_shape, bounds_in}
 use Rattle.gl_graph.specs.Graph.{Graph, Node, nodes, node_at, is_live, shape_in, shape_of, parents_in, is_child, indexes_of, interval, interval_of, interval_place, intervals_of, record_parents, key_or_zero}
 use Rattle.gl_graph.specs.Lawful.{are_inner, AreInnerParents, IsIndexNode, HasShape, IsWellFormed, IsLawfulGraph}
-use Rattle.gl_graph.proofs.Look.{cases_of, or_elim, or_left, and_both, both, no, node_is, same_node_is, same_node_refl, all_at, all_filter, found_at, shaped_node, child_node, there_is}
+use Rattle.gl_graph.proofs.Look.{all_at, all_filter, found_at, shaped_node, child_node, there_is}
 
 -- a living node that is no record
 abbrev pub is_plain : Option Shape → Bool
@@ -75,13 +77,13 @@ module _ (g : Graph) (law : IsLawfulGraph g) where
   among_intervals f p (i ∷ is) (key ∷ keys) h k =
       let t = and_both _ _ h in
       or_elim _ _ k
-      (λ here. let it = interval_is f i key t.0 in ap (λ q. is_plain (shape_of g q)) (same_node_is p _ here) ∙ ap (λ o. is_plain (shape_in o)) it)
+      (λ here. let it = interval_is f i key t.0 in ap (λ q. is_plain (shape_of g q)) (same_node-equal p _ here) ∙ ap (λ o. is_plain (shape_in o)) it)
       (λ there. among_intervals f p is keys t.1 there)
 
   pub record_parent_plain : (f p : NodeId) (keys : List ℕ) → is_file_shape (shape_of g f) ≡ true → list_any (same_node p) (record_parents g f keys) ≡ true → is_plain (shape_of g p) ≡ true
   record_parent_plain f p keys h k =
       or_elim _ _ k
-      (λ here. ap (λ q. is_plain (shape_of g q)) (same_node_is p f here) ∙ file_plain _ h)
+      (λ here. ap (λ q. is_plain (shape_of g q)) (same_node-equal p f here) ∙ file_plain _ h)
       (λ there. among_intervals f p (indexes_of g f) keys (all_filter (λ i. is_index_of_shape f (shape_of g i)) (nodes g)) there)
 
   parent_plain_of : (sh : Shape) (ps : List NodeId) (n p : NodeId) → HasShape g n sh ps → list_any (same_node p) ps ≡ true → is_plain (shape_of g p) ≡ true
@@ -89,7 +91,7 @@ module _ (g : Graph) (law : IsLawfulGraph g) where
   parent_plain_of File ps n p h k = inner_plain _ (all_at (λ q. is_inner_shape (shape_of g q)) ps p k h.inner)
   parent_plain_of (Index f bs) ps n p h k = inner_plain _ (all_at (λ q. is_inner_shape (shape_of g q)) ps p k h.0.inner)
   parent_plain_of (Interval place) ps n p h k =
-      or_elim _ _ (sym (ap (list_any (same_node p)) h.1) ∙ k) (λ here. ap (λ q. is_plain (shape_of g q)) (same_node_is p h.0 here) ∙ index_plain _ h.2) (λ none. absurd (no none))
+      or_elim _ _ (sym (ap (list_any (same_node p)) h.1) ∙ k) (λ here. ap (λ q. is_plain (shape_of g q)) (same_node-equal p h.0 here) ∙ index_plain _ h.2) (λ none. absurd (no none))
   parent_plain_of (Rec keys) ps n p h k = record_parent_plain h.0 p keys h.1.file_is (sym (ap (list_any (same_node p)) h.1.parents) ∙ k)
 
   pub parent_plain : (n p : NodeId) → is_child g p n ≡ true → is_plain (shape_of g p) ≡ true
@@ -151,7 +153,7 @@ module _ (g g' : Graph) (law : IsLawfulGraph g) (same : Frames g g') where
         h.4 ∙ sym (interval_kept h.0 place node (subst (λ q. node_at g q ≡ Some node) h.4 e) es),
       )
   shape_kept (Rec keys) ps n node e es ep h =
-      let child : is_child g h.0 n ≡ true = ap (λ o. list_any (same_node h.0) (parents_in o)) e ∙ ap (list_any (same_node h.0)) (ep ∙ h.1.parents) ∙ or_left _ _ (same_node_refl h.0) in
+      let child : is_child g h.0 n ≡ true = ap (λ o. list_any (same_node h.0) (parents_in o)) e ∙ ap (list_any (same_node h.0)) (ep ∙ h.1.parents) ∙ or_left _ _ (same_node-refl h.0) in
       let rec : is_record_shape (shape_of g n) ≡ true = ap (λ o. is_record_shape (shape_in o)) e ∙ ap (λ x. is_record_shape (Some x)) es in (
         h.0,
         record {

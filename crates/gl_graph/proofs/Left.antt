@@ -5,6 +5,7 @@ use Rattle.std.proofs.lemmas.List.Elements.{filter_map-append}
 use Rattle.std.proofs.lemmas.List.Sums.{sum_by-append}
 use Rattle.std.proofs.lemmas.List.{length-append}
 use Rattle.std.proofs.Common.{refl, sym, ap, ap₂, ◌∙◌, arith}
+use Rattle.gl_modes.proofs.Words.{number_same, number_other}
 use Rattle.gl_modes.specs.declared.node.NodeId.{NodeId}
 use Rattle.gl_modes.specs.Nodes.{same_node}
 use Rattle.gl_graph.specs.Shapes.{is_record_shape}
@@ -12,7 +13,7 @@ use Rattle.gl_graph.specs.Graph.{Graph, id_of, nodes, node_count, node_at, is_li
 use Rattle.gl_graph.specs.Lawful.{IsLawfulGraph}
 use Rattle.gl_graph.specs.Changes.{without_node}
 use Rattle.gl_graph.specs.View.{record_count}
-use Rattle.gl_graph.proofs.Look.{live_node, found_at, number_same, number_other, there_is}
+use Rattle.gl_graph.proofs.Look.{live_node, found_at, there_is}
 use Rattle.gl_graph.proofs.Listings.{range_append, map_same}
 use Rattle.gl_graph.proofs.Counts.{count_cons, count_same, nodes_live}
 use Rattle.gl_graph.proofs.Removed.{was_there}

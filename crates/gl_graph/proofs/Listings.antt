@@ -2,10 +2,10 @@
 use Rattle.std.specs.Prelude.{◌≡◌, ◌⊎◌, ℕ, zero, suc, ◌+◌, ◌<◌, ◌≤◌, Bool, List, [], ◌∷◌, ◌++◌, length, Option, Some, None, if◌then◌else◌}
 use Rattle.std.specs.List.{cons_option, filter, filter_map, range_with_len}
 use Rattle.std.proofs.Common.{refl, sym, ap, ap₂, ◌∙◌, subst, arith, ⊎_elim}
+use Rattle.gl_modes.proofs.Words.{split}
 use Rattle.gl_modes.specs.declared.node.NodeId.{NodeId}
 use Rattle.gl_graph.specs.Shapes.{is_index_of_shape}
 use Rattle.gl_graph.specs.Graph.{Graph, id_of, shape_of, indexes_of}
-use Rattle.gl_graph.proofs.Look.{split}
 
 abbrev pub kept : (NodeId → Bool) → Option NodeId → Option NodeId
 kept p None = None

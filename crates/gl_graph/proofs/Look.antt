@@ -4,82 +4,18 @@ use Rattle.std.specs.List.{list_all, list_any, filter}
 use Rattle.std.proofs.Common.{refl, sym, ap, ap₂, ◌∙◌, arith}
 use Rattle.std.proofs.lemmas.Bool.Decides.{nat_tests}
 use mathlib.Core.Bool.{true≢false}
+use Rattle.gl_modes.proofs.NodeLemmas.{node_is, same_node-equal}
+use Rattle.gl_modes.proofs.Words.{split, cases_of, or_elim, and_both, both, none_some, some_is, no, same_number, number_same, number_other}
 use Rattle.gl_modes.specs.declared.node.NodeId.{NodeId}
 use Rattle.gl_modes.specs.Nodes.{same_node}
 use Rattle.gl_graph.specs.Shapes.{Shape}
 use Rattle.gl_graph.specs.Graph.{Graph, Node, with_key, node_at, is_live, parents_in, shape_in, shape_of, is_child}
 
--- by cases on a test, with its equation
-pub split : {C : Type 0} (b : Bool) → (b ≡ true → C) → (b ≡ false → C) → C
-split true f g = f refl
-split false f g = g refl
-
-pub cases_of : {A C : Type 0} (o : Option A) → (o ≡ None → C) → ((x : A) → o ≡ Some x → C) → C
-cases_of None f g = f refl
-cases_of (Some x) f g = g x refl
-
-pub or_elim : {C : Type 0} (a b : Bool) → (a || b) ≡ true → (a ≡ true → C) → (b ≡ true → C) → C
-or_elim true b h f g = f refl
-or_elim false b h f g = g h
-
-pub or_left : (a b : Bool) → a ≡ true → (a || b) ≡ true
-or_left a b h = ap (λ x. x || b) h
-
-pub or_right : (a b : Bool) → b ≡ true → (a || b) ≡ true
-or_right true b h = refl
-or_right false b h = h
-
-pub and_both : (a b : Bool) → (a && b) ≡ true → (a ≡ true) × (b ≡ true)
-and_both true b h = (refl, h)
-and_both false b h = absurd (true≢false (sym h))
-
-pub both : (a b : Bool) → a ≡ true → b ≡ true → (a && b) ≡ true
-both a b h k = ap₂ (λ x y. x && y) h k
-
-pub none_some : {A : Type 0} {x : A} → None ≡ Some x → ⊥
-none_some e = cc
-
-pub some_is : {A : Type 0} {x y : A} → Some x ≡ Some y → x ≡ y
-some_is e = cc
-
-pub no : false ≡ true → ⊥
-no e = true≢false (sym e)
-
-pub same_number : (a b : ℕ) → (a == b) ≡ true → a ≡ b
-same_number a b h = grind (arith, nat_tests)
-
-pub number_same : (a b : ℕ) → a ≡ b → (a == b) ≡ true
-number_same a b h = grind (arith, nat_tests)
-
-pub number_other : (a b : ℕ) → a ≢ b → (a == b) ≡ false
-number_other a b h = grind (arith, nat_tests)
-
-pub other_number : (a b : ℕ) → (a == b) ≡ false → a ≢ b
-other_number a b h = grind (arith, nat_tests)
-
-pub node_is : (a b : NodeId) → a.key ≡ b.key → a.birth ≡ b.birth → a ≡ b
-node_is a b k l = λ i. record { key = k i; birth = l i }
-
-pub same_node_is : (a b : NodeId) → same_node a b ≡ true → a ≡ b
-same_node_is a b h = let t = and_both _ _ h in node_is a b (same_number _ _ t.0) (same_number _ _ t.1)
-
-pub same_node_refl : (a : NodeId) → same_node a a ≡ true
-same_node_refl a = both _ _ (number_same a.key a.key refl) (number_same a.birth a.birth refl)
-
-pub is_same_node : (a b : NodeId) → a ≡ b → same_node a b ≡ true
-is_same_node a b e = ap (same_node a) (sym e) ∙ same_node_refl a
-
-pub other_node : (a b : NodeId) → same_node a b ≡ false → a ≢ b
-other_node a b h e = true≢false (sym (is_same_node a b e) ∙ h)
-
-pub node_other : (a b : NodeId) → a ≢ b → same_node a b ≡ false
-node_other a b ne = split (same_node a b) (λ e. absurd (ne (same_node_is a b e))) (λ e. e)
-
 pub all_at : (q : NodeId → Bool) (ps : List NodeId) (p : NodeId) → list_any (same_node p) ps ≡ true → list_all q ps ≡ true → q p ≡ true
 all_at q [] p h k = absurd (no h)
 all_at q (x ∷ xs) p h k =
     let t = and_both _ _ k in
-    or_elim _ _ h (λ here. ap q (same_node_is p x here) ∙ t.0) (λ there. all_at q xs p there t.1)
+    or_elim _ _ h (λ here. ap q (same_node-equal p x here) ∙ t.0) (λ there. all_at q xs p there t.1)
 
 pub all_filter : (q : NodeId → Bool) (ps : List NodeId) → list_all q (filter q ps) ≡ true
 all_filter q [] = refl

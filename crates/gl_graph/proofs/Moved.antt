@@ -3,6 +3,8 @@ use Rattle.std.specs.Prelude.{◌≡◌, ℕ, zero, suc, ◌≤◌, Bool, true, 
 use Rattle.std.specs.List.{list_all, list_any}
 use Rattle.std.proofs.Math.Path.{fun_ext}
 use Rattle.std.proofs.Common.{refl, sym, ap, ◌∙◌, subst, arith}
+use Rattle.gl_modes.proofs.NodeLemmas.{same_node-equal, same_node-from_equal, same_node-refl}
+use Rattle.gl_modes.proofs.Words.{split, or_elim, or_left, or_right, no, same_number, number_same}
 use Rattle.gl_modes.specs.declared.node.NodeId.{NodeId}
 use Rattle.gl_modes.specs.Nodes.{same_node}
 use Rattle.gl_graph.specs.Shapes.{Shape, Inner, File, Index, Interval, Rec, is_file_shape, is_record_shape, is_index_of_shape, is_movable_shape, keys_in}
@@ -11,32 +13,32 @@ use Rattle.gl_graph.specs.Routes.{IsRoute, is_at_or_below}
 use Rattle.gl_graph.specs.Lawful.{AreInnerParents, HasShape, IsLawfulGraph}
 use Rattle.gl_graph.specs.Changes.{with_node, reparented, with_parents, keys_with, rekeyed_keys, rekeyed_parents, rekeyed_node, rekeyed}
 use Rattle.gl_graph.specs.Shapes.{least_parents}
-use Rattle.gl_graph.proofs.Look.{split, or_elim, or_left, or_right, no, same_number, number_same, same_node_is, is_same_node, same_node_refl, all_at, found_at}
+use Rattle.gl_graph.proofs.Look.{all_at, found_at}
 use Rattle.gl_graph.proofs.KindRules.{Frames, is_plain, file_plain, plain_live, rec_not_plain, parent_plain, record_parent_plain, parents_kept, index_kept, record_parents_kept}
 use Rattle.gl_graph.proofs.Changed.{IsAlike, changed_frames, changed_lawful, indexes_same}
 use Rattle.gl_graph.proofs.RouteLengths.{route_short}
 
 pub some_at : (q : NodeId → Bool) (ps : List NodeId) (p : NodeId) → list_any (same_node p) ps ≡ true → q p ≡ true → list_any q ps ≡ true
 some_at q [] p h k = absurd (no h)
-some_at q (x ∷ xs) p h k = or_elim _ _ h (λ here. or_left (q x) _ (ap q (sym (same_node_is p x here)) ∙ k)) (λ there. or_right (q x) _ (some_at q xs p there k))
+some_at q (x ∷ xs) p h k = or_elim _ _ h (λ here. or_left (q x) _ (ap q (sym (same_node-equal p x here)) ∙ k)) (λ there. or_right (q x) _ (some_at q xs p there k))
 
 -- p is n or has a route to n: by at most k steps, both ways
 pub below_found : (g : Graph) (n : NodeId) (k : ℕ) (p : NodeId) (way : List NodeId) → length way ≤ k → IsRoute g p way n → is_at_or_below k g n p ≡ true
-below_found g n zero p [] few r = is_same_node n p (sym r)
+below_found g n zero p [] few r = same_node-from_equal n p (sym r)
 below_found g n zero p (q ∷ way) few r = absurd (omega arith)
-below_found g n (suc k) p [] few r = or_left _ _ (is_same_node n p (sym r))
+below_found g n (suc k) p [] few r = or_left _ _ (same_node-from_equal n p (sym r))
 below_found g n (suc k) p (q ∷ way) few r = or_right (same_node n p) _ (some_at (is_at_or_below k g n) (parents_of g p) q r.0 (below_found g n k q way (omega arith) r.1))
 
 -- where some pass one is found
 pub any_found : (q : NodeId → Bool) (ps : List NodeId) → list_any q ps ≡ true → (p : NodeId) × (list_any (same_node p) ps ≡ true) × (q p ≡ true)
 any_found q [] h = absurd (no h)
 any_found q (x ∷ xs) h =
-    or_elim _ _ h (λ here. (x, or_left _ _ (same_node_refl x), here)) (λ there. let f = any_found q xs there in (f.0, or_right (same_node f.0 x) _ f.1, f.2))
+    or_elim _ _ h (λ here. (x, or_left _ _ (same_node-refl x), here)) (λ there. let f = any_found q xs there in (f.0, or_right (same_node f.0 x) _ f.1, f.2))
 
 pub below_route : (g : Graph) (n : NodeId) (k : ℕ) (p : NodeId) → is_at_or_below k g n p ≡ true → (way : List NodeId) × IsRoute g p way n
-below_route g n zero p h = ([], sym (same_node_is n p h))
+below_route g n zero p h = ([], sym (same_node-equal n p h))
 below_route g n (suc k) p h =
-    or_elim _ _ h (λ here. ([], sym (same_node_is n p here))) (λ up.
+    or_elim _ _ h (λ here. ([], sym (same_node-equal n p here))) (λ up.
     let step = any_found (is_at_or_below k g n) (parents_of g p) up in
     let rest = below_route g n k step.0 step.2 in
     (step.0 ∷ rest.0, (step.1, rest.1)))
@@ -111,7 +113,7 @@ module _ (g : Graph) (law : IsLawfulGraph g) (n : NodeId) (was : Node) (there : 
       let ps : parents_of g n ≡ record_parents g h.0 keys = ap parents_in there ∙ h.1.parents in
       let first : first_parent g n ≡ h.0 = ap first_in ps in
       subst (λ f. (is_file_shape (shape_of g f) ≡ true) × (length keys ≡ length (indexes_of g f)) × (is_child g f n ≡ true) × (was.parents ≡ record_parents g f keys)) (sym first)
-      (h.1.file_is, h.1.a_key_each, ap (list_any (same_node h.0)) ps ∙ or_left _ _ (same_node_refl h.0), h.1.parents)
+      (h.1.file_is, h.1.a_key_each, ap (list_any (same_node h.0)) ps ∙ or_left _ _ (same_node-refl h.0), h.1.parents)
 
   keys_with_length : (is : List NodeId) (keys : List ℕ) (index : NodeId) (key : ℕ) → length keys ≡ length is → length (keys_with is keys index key) ≡ length is
   keys_with_length [] keys index key e = e

@@ -3,13 +3,15 @@ use Rattle.std.specs.Prelude.{◌≡◌, ◌⊎◌, ℕ, zero, suc, ◌+◌, ◌
 use Rattle.std.specs.List.{cons_option, list_any, filter_map, range_with_len}
 use Rattle.std.proofs.lemmas.List.{length-append}
 use Rattle.std.proofs.Common.{refl, sym, ap, ap₂, ◌∙◌, subst, arith, inl, inr, ⊎_elim}
+use Rattle.gl_modes.proofs.NodeLemmas.{same_node-equal, same_node-refl, node_is}
+use Rattle.gl_modes.proofs.Words.{split, or_elim, both, no, none_some, some_is}
 use Rattle.gl_modes.specs.declared.node.NodeId.{NodeId}
 use Rattle.gl_modes.specs.Nodes.{same_node}
 use Rattle.gl_graph.specs.Shapes.{Index, Interval, bounds_in, is_inner_shape, is_file_shape, is_index_shape, is_record_shape, is_index_of_shape}
 use Rattle.gl_graph.specs.Graph.{Graph, Node, nodes, node_count, node_at, is_live, parents_in, shape_in, shape_of, is_child, indexes_of, interval, key_or_zero, IsFreeKey}
 use Rattle.gl_graph.specs.Lawful.{IsRising, AreInnerParents, HasShape, IsWellFormed, IsLawfulGraph}
 use Rattle.gl_graph.specs.Changes.{keys_of, are_apart, born_nodes, born_index, interval_nodes}
-use Rattle.gl_graph.proofs.Look.{split, or_elim, both, no, none_some, some_is, same_node_is, same_node_refl, node_is, all_at}
+use Rattle.gl_graph.proofs.Look.{all_at}
 use Rattle.gl_graph.proofs.KindRules.{Frames, inner_plain, file_plain, plain_live, parents_kept}
 use Rattle.gl_graph.proofs.Moved.{some_at}
 use Rattle.gl_graph.proofs.RouteLengths.{listed}
@@ -88,7 +90,7 @@ module _ (g : Graph) (law : IsLawfulGraph g) (key : ℕ) (ps : List NodeId) (fil
       no_index_born g law ns file (g.births + 1 + 1) (length (interval_nodes id 0 keys)) (omega arith) (omega arith) by in
       let birth : g.births + 1 ≡ g.births + 1 + 0 = omega arith in
       let here : index_born grown file (g.births + 1) ≡ Some id =
-      ap (index_born grown file) birth ∙ new_index g law ns file 0 index refl ∙ ap (λ b. if b then Some (new_id g law ns index 0) else None) (same_node_refl file) ∙ (λ i. Some (record { key = key; birth = sym birth i })) in
+      ap (index_born grown file) birth ∙ new_index g law ns file 0 index refl ∙ ap (λ b. if b then Some (new_id g law ns index 0) else None) (same_node-refl file) ∙ (λ i. Some (record { key = key; birth = sym birth i })) in
       indexes_grown g law ns file ∙ ap (λ xs. indexes_of g file ++ xs) (ap₂ cons_option here rest)
     where
       by : (k : ℕ) (node : Node) → (g.births + 1 + k ≡ g.births + 1 + 1) ⊎ (g.births + 1 + 1 < g.births + 1 + k) → place_in ns k ≡ Some node → is_index_of_shape file (Some node.shape) ≡ false
@@ -112,7 +114,7 @@ module _ (g : Graph) (law : IsLawfulGraph g) (key : ℕ) (ps : List NodeId) (fil
     unused : (f r : NodeId) → is_record_shape (shape_of g r) ≡ true → is_child g f r ≡ true → indexes_of grown f ≡ indexes_of g f
     unused f r rec child =
         others f (split (same_node f file)
-        (λ e. absurd (no (sym no_records ∙ some_at (λ q. is_record_shape (shape_of g q) && is_child g file q) (nodes g) r (listed g law r (rec_live rec)) (both _ _ rec (subst (λ x. is_child g x r ≡ true) (same_node_is f file e) child)))))
+        (λ e. absurd (no (sym no_records ∙ some_at (λ q. is_record_shape (shape_of g q) && is_child g file q) (nodes g) r (listed g law r (rec_live rec)) (both _ _ rec (subst (λ x. is_child g x r ≡ true) (same_node-equal f file e) child)))))
         (λ e. e))
       where
         rec_live : is_record_shape (shape_of g r) ≡ true → is_live g r ≡ true
@@ -159,7 +161,7 @@ module _ (g : Graph) (law : IsLawfulGraph g) (key : ℕ) (ps : List NodeId) (fil
     up (suc k) node p e h =
         let is = interval_node id 0 keys k k node (omega arith) e in
         or_elim (same_node p id) false (ap (λ (y : Node). list_any (same_node p) y.parents) (sym is) ∙ h)
-        (λ here. subst (IsFresh g law ns) (sym (same_node_is p id here)) (inr (ap is_some index_there, λ q c. inner_live q (sym (ap (λ o. list_any (same_node q) (parents_in o)) index_there) ∙ c))))
+        (λ here. subst (IsFresh g law ns) (sym (same_node-equal p id here)) (inr (ap is_some index_there, λ q c. inner_live q (sym (ap (λ o. list_any (same_node q) (parents_in o)) index_there) ∙ c))))
         (λ none. absurd (no none))
 
     keys_are : keys_of ns ≡ key ∷ keys
@@ -170,6 +172,6 @@ module _ (g : Graph) (law : IsLawfulGraph g) (key : ℕ) (ps : List NodeId) (fil
         born_lawful g law ns unused well up
         (λ k node e. free node.key (ap (list_any (λ x. x == node.key)) (sym keys_are) ∙ key_listed ns k node e))
         (places_apart ns (ap are_apart keys_are ∙ apart))
-        (λ f. split (same_node f file) (λ e. let more = one_more f in let same : length (indexes_of g f) ≡ length (indexes_of g file) = ap (λ x. length (indexes_of g x)) (same_node_is f file e) in omega arith)
+        (λ f. split (same_node f file) (λ e. let more = one_more f in let same : length (indexes_of g f) ≡ length (indexes_of g file) = ap (λ x. length (indexes_of g x)) (same_node-equal f file e) in omega arith)
         (λ e. subst (λ (is : List NodeId). length is ≤ 7) (sym (others f e)) (law.seven_indexes f)))
         (let many = count_intervals id 0 keys in omega arith)

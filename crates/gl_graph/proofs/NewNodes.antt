@@ -3,13 +3,14 @@ use Rattle.std.specs.Prelude.{◌≡◌, ◌⊎◌, ℕ, zero, suc, ◌+◌, ◌
 use Rattle.std.specs.List.{list_any, filter_map, range_with_len}
 use Rattle.std.proofs.lemmas.List.{append-nil}
 use Rattle.std.proofs.Common.{refl, sym, ap, ◌∙◌, subst, arith, rules, inl}
+use Rattle.gl_modes.proofs.Words.{or_right, and_both, no, none_some, some_is, number_same}
 use Rattle.gl_modes.specs.declared.node.NodeId.{NodeId}
 use Rattle.gl_modes.specs.Nodes.{same_node}
 use Rattle.gl_graph.specs.Shapes.{Inner, File, Rec, is_inner_shape, is_file_shape, is_index_of_shape}
 use Rattle.gl_graph.specs.Graph.{Graph, Node, node_count, is_live, shape_of, indexes_of, record_parents, IsFreeKey}
 use Rattle.gl_graph.specs.Lawful.{AreInnerParents, IsWellFormed, IsLawfulGraph}
 use Rattle.gl_graph.specs.Changes.{keys_of, are_apart, born_node, born_nodes}
-use Rattle.gl_graph.proofs.Look.{or_right, and_both, no, none_some, some_is, number_same, all_at}
+use Rattle.gl_graph.proofs.Look.{all_at}
 use Rattle.gl_graph.proofs.KindRules.{inner_plain, file_plain, plain_live, record_parent_plain, parents_kept, record_parents_kept}
 use Rattle.gl_graph.proofs.Listings.{index_born, map_none}
 use Rattle.gl_graph.proofs.Born.{place_in, new_id, new_index, indexes_grown, born_frames, born_lawful}

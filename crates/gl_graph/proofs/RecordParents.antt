@@ -2,12 +2,14 @@
 use Rattle.std.specs.Prelude.{◌≡◌, ℕ, ◌<◌, Bool, true, false, ◌||◌, List, [], ◌∷◌, length, Option, Some, None, slice_index_or, zero, suc, ◌&&◌}
 use Rattle.std.specs.List.{list_all, list_any}
 use Rattle.std.proofs.Common.{refl, sym, ap, ap₂, ◌∙◌, subst, arith}
+use Rattle.gl_modes.proofs.NodeLemmas.{same_node-equal}
+use Rattle.gl_modes.proofs.Words.{split, no, and_both}
 use Rattle.gl_modes.specs.declared.node.NodeId.{NodeId}
 use Rattle.gl_modes.specs.Nodes.{same_node}
 use Rattle.gl_graph.specs.Shapes.{Shape, Inner, File, Index, Interval, Rec, is_file_shape, is_index_shape, is_record_shape, is_index_of_shape, keys_in}
 use Rattle.gl_graph.specs.Graph.{Graph, shape_of, shape_in, parents_in, parents_of, first_parent, is_record_of, nodes, indexes_of, interval_of, intervals_of, record_parents}
 use Rattle.gl_graph.specs.Lawful.{IsLawfulGraph}
-use Rattle.gl_graph.proofs.Look.{split, no, and_both, same_node_is, all_filter, shaped_node}
+use Rattle.gl_graph.proofs.Look.{all_filter, shaped_node}
 use Rattle.gl_graph.proofs.KindRules.{interval_is}
 use Rattle.gl_graph.proofs.Moved.{file_of_record}
 
@@ -35,7 +37,7 @@ module _ (g : Graph) (law : IsLawfulGraph g) where
   no_file_among f n (i ∷ is) (key ∷ keys) h k =
       let t = and_both _ _ h in
       split (same_node n (interval_of g i key))
-      (λ same. absurd (no (sym (ap is_file_shape (ap (shape_of g) (same_node_is n _ same) ∙ ap shape_in (interval_is g law f i key t.0))) ∙ k)))
+      (λ same. absurd (no (sym (ap is_file_shape (ap (shape_of g) (same_node-equal n _ same) ∙ ap shape_in (interval_is g law f i key t.0))) ∙ k)))
       (λ other. ap (λ b. b || list_any (same_node n) (intervals_of g is keys)) other ∙ no_file_among f n is keys t.1 k)
 
   -- of the parents of a record only the file is one

@@ -2,7 +2,8 @@
 use Rattle.std.specs.Prelude.{◌≡◌, ◌≢◌, ℕ, zero, suc, ◌+◌, ◌<◌, Bool, true, false, not, nat_lt, ◌&&◌, ◌||◌, List, [], ◌∷◌, length, Option, Some, None, is_some, if◌then◌else◌, slice_index_or, slice_set, position}
 use Rattle.std.specs.List.{list_any, position_or_len}
 use Rattle.std.proofs.lemmas.Bool.Decides.{nat_tests}
-use Rattle.gl_modes.proofs.NodeLemmas.{same_node-sym}
+use Rattle.gl_modes.proofs.Words.{split, no, none_some, some_is}
+use Rattle.gl_modes.proofs.NodeLemmas.{same_node-sym, same_node-equal, same_node-other, same_node-differ}
 use Rattle.std.proofs.lemmas.List.Quantifiers.{position-Some}
 use Rattle.std.proofs.Common.{refl, sym, ap, ap₂, ◌∙◌, subst, arith}
 use Rattle.gl_modes.specs.declared.node.NodeId.{NodeId}
@@ -17,7 +18,6 @@ use Rattle.gl_graph.specs.Lawful.{IsLawfulGraph}
 use Rattle.gl_graph.specs.Changes.{with_node, keys_with, rekeyed_keys, rekeyed_parents, rekeyed}
 use Rattle.gl_graph.specs.View.{graph_of, node_of, KeepsBeside}
 use Rattle.gl_graph.specs.Seen.{shape_in_body, vertex_of, seen, with_key_at, body_with_key, AreSound}
-use Rattle.gl_graph.proofs.Look.{split, no, none_some, some_is, same_node_is, other_node, node_other}
 use Rattle.gl_graph.proofs.Changed.{IsAlike, at_here}
 use Rattle.gl_graph.proofs.Distinct.{one_place, indexes_distinct, index_listed}
 use Rattle.gl_graph.proofs.Moved.{rec_alike, rekeyed_is, rekey_lawful}
@@ -100,10 +100,10 @@ module _ (old new : Slab Stored) (births : ℕ) (sound : AreSound old births) (r
   low = (position-Some (λ listed. same_node listed i) is place no_node at).0
 
   here : (d : NodeId) → slice_index_or is place d ≡ i
-  here d = same_node_is _ i (position-Some (λ listed. same_node listed i) is place d at).1
+  here d = same_node-equal _ i (position-Some (λ listed. same_node listed i) is place d at).1
 
   other : (k : ℕ) (d : NodeId) → k < length is → k ≢ place → same_node (slice_index_or is k d) i ≡ false
-  other k d l ne = node_other _ i (λ e. ne (one_place is k place d (indexes_distinct g (first_parent g r)) l low (e ∙ sym (here d))))
+  other k d l ne = same_node-differ _ i (λ e. ne (one_place is k place d (indexes_distinct g (first_parent g r)) l low (e ∙ sym (here d))))
 
   each : length keys ≡ length is
   each = its_keys g sound.lawful r rec
@@ -122,7 +122,7 @@ module _ (old new : Slab Stored) (births : ℕ) (sound : AreSound old births) (r
   keys_are = keys_set is keys i key place each low (λ d. ap (λ q. same_node q i) (here d) ∙ same_self i) other
     where
       same_self : (q : NodeId) → same_node q q ≡ true
-      same_self q = split (same_node q q) (λ e. e) (λ e. absurd (other_node q q e refl))
+      same_self q = split (same_node q q) (λ e. e) (λ e. absurd (same_node-other q q e refl))
 
   module _ (write : (x : Stored) → get old r.key ≡ Some x → Updates old new r.key (Some (with_key_at x place key (interval_of g i key)))) (len : slab_len new ≡ slab_len old) where
     abbrev was : Stored

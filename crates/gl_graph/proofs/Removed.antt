@@ -3,13 +3,14 @@ use Rattle.std.specs.Prelude.{◌≡◌, ◌≢◌, ℕ, ◌≤◌, true, false,
 use Rattle.std.specs.List.{list_any, filter_map, range_with_len}
 use Rattle.std.proofs.Math.Path.{fun_ext}
 use Rattle.std.proofs.Common.{refl, sym, ap, ◌∙◌, subst, arith, inl, inr}
+use Rattle.gl_modes.proofs.Words.{split, cases_of, no, none_some, number_same, number_other, same_number, other_number}
 use Rattle.gl_modes.specs.declared.node.NodeId.{NodeId}
 use Rattle.gl_modes.specs.Nodes.{same_node}
 use Rattle.gl_graph.specs.Shapes.{Shape, Inner, File, Index, Interval, Rec, is_record_shape, is_index_of_shape}
 use Rattle.gl_graph.specs.Graph.{Graph, Node, id_of, with_key, node_at, is_live, parents_in, shape_in, shape_of, is_child, indexes_of}
 use Rattle.gl_graph.specs.Lawful.{IsLawfulGraph}
 use Rattle.gl_graph.specs.Changes.{without_node}
-use Rattle.gl_graph.proofs.Look.{split, cases_of, no, none_some, number_same, number_other, same_number, other_number, found_at, live_node, child_live, one_birth}
+use Rattle.gl_graph.proofs.Look.{found_at, live_node, child_live, one_birth}
 use Rattle.gl_graph.proofs.KindRules.{is_plain, Frames, well_formed_kept, parent_plain, plain_live, rec_not_plain}
 use Rattle.gl_graph.proofs.Listings.{kept, index_born, indexes_are, map_fewer}
 use Rattle.gl_graph.proofs.Routes.{acyclic_fewer}

@@ -4,8 +4,8 @@ use Rattle.std.specs.List.{list_all}
 use Rattle.std.proofs.Common.{refl, sym, ap, ap₂, ◌∙◌, arith}
 use Rattle.std.proofs.lemmas.List.{drop_more, drop_all}
 use Rattle.std.proofs.lemmas.Bool.Decides.{nat_tests}
+use Rattle.gl_modes.proofs.Words.{split, both, and_both}
 use Rattle.gl_graph.specs.Refusals.{is_rising}
-use Rattle.gl_graph.proofs.Look.{split, both, and_both}
 
 all_above : (a b : ℕ) (bs : List ℕ) → a < b → list_all (λ c. nat_lt b c) bs ≡ true → list_all (λ c. nat_lt a c) bs ≡ true
 all_above a b [] low h = refl

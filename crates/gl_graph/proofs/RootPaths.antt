@@ -2,12 +2,13 @@
 use Rattle.std.specs.Prelude.{◌≡◌, ◌⊎◌, ℕ, zero, suc, List, [], ◌∷◌, length}
 use Rattle.std.specs.List.{list_any}
 use Rattle.std.proofs.Common.{refl, ap, ◌∙◌, arith, inl, inr, ⊎_elim}
+use Rattle.gl_modes.proofs.NodeLemmas.{same_node-refl}
+use Rattle.gl_modes.proofs.Words.{or_left}
 use Rattle.gl_modes.specs.declared.node.NodeId.{NodeId}
 use Rattle.gl_modes.specs.Nodes.{same_node}
 use Rattle.gl_graph.specs.Graph.{Graph, parents_of, node_count}
 use Rattle.gl_graph.specs.Routes.{IsRoute}
 use Rattle.gl_graph.specs.Laws.{NodesHaveRootPaths, RootPathsGrow, RootPathsShrink}
-use Rattle.gl_graph.proofs.Look.{or_left, same_node_refl}
 use Rattle.gl_graph.proofs.RouteLengths.{live_end, route_short}
 
 -- a way up to a node without parents, or of k steps
@@ -25,7 +26,7 @@ goes_up g (suc k) n = by (parents_of g n) refl (goes_up g k)
     by [] e rest = record { end = n; way = []; route = refl; done = inl e }
     by (p ∷ ps) e rest =
         let up = rest p in
-        record { end = up.end; way = p ∷ up.way; route = (ap (list_any (same_node p)) e ∙ or_left _ _ (same_node_refl p), up.route); done = ⊎_elim (λ (r : parents_of g up.end ≡ []). inl r) (λ (l : length up.way ≡ k). inr (ap suc l)) up.done }
+        record { end = up.end; way = p ∷ up.way; route = (ap (list_any (same_node p)) e ∙ or_left _ _ (same_node-refl p), up.route); done = ⊎_elim (λ (r : parents_of g up.end ≡ []). inl r) (λ (l : length up.way ≡ k). inr (ap suc l)) up.done }
 
 pub root_path_there : NodesHaveRootPaths
 root_path_there g law n live =

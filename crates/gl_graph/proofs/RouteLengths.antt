@@ -7,15 +7,16 @@ use Rattle.std.proofs.Common.{refl, sym, ap, ◌∙◌, subst, arith, ⊎_elim}
 use Rattle.std.proofs.lemmas.Bool.{cases_eq}
 use Rattle.std.proofs.lemmas.Bool.Decides.{nat_tests}
 use mathlib.Core.Bool.{true≢false}
+use Rattle.gl_modes.proofs.NodeLemmas.{same_node-equal, same_node-refl}
+use Rattle.gl_modes.proofs.Words.{or_elim}
 use Rattle.gl_modes.specs.declared.node.NodeId.{NodeId}
 use Rattle.gl_modes.specs.Nodes.{same_node}
 use Rattle.gl_graph.specs.Graph.{Graph, Node, id_of, with_key, nodes, node_count, parents_of, is_live}
 use Rattle.gl_graph.specs.Routes.{IsRoute}
 use Rattle.gl_graph.specs.Lawful.{IsLawfulGraph}
-use Rattle.gl_graph.proofs.Look.{or_elim, same_node_is, same_node_refl}
 
 pub node_equivalence : IsEquivalence same_node
-node_equivalence = record { refl = same_node_refl; symm = λ a b. grind (arith, nat_tests); congr = λ a b c h. ap (λ x. same_node x c) (same_node_is a b h) }
+node_equivalence = record { refl = same_node-refl; symm = λ a b. grind (arith, nat_tests); congr = λ a b c h. ap (λ x. same_node x c) (same_node-equal a b h) }
 
 same_ids : (q : NodeId) (key k : ℕ) → (key == q.key) ≡ true → q.birth ≡ k → same_node q (record { key = key; birth = k }) ≡ true
 same_ids q key k h e = grind (arith, nat_tests)
@@ -59,7 +60,7 @@ module _ (g : Graph) (law : IsLawfulGraph g) where
       let on = longer s m p pre before route.0 in (by (same_node s p) refl on, apart s p r (pre ++ p ∷ []) way on route.1)
     where
       by : (b : Bool) → same_node s p ≡ b → IsRoute g s (pre ++ p ∷ []) p → same_node s p ≡ false
-      by true e on = absurd (no_return s p pre on (same_node_is s p e))
+      by true e on = absurd (no_return s p pre on (same_node-equal s p e))
       by false e on = e
 
   pub distinct : (n r : NodeId) (way : List NodeId) → IsRoute g n way r → IsDistinct same_node (n ∷ way)
@@ -68,9 +69,9 @@ module _ (g : Graph) (law : IsLawfulGraph g) where
   distinct n r (p ∷ way) route = (apart n n r [] (p ∷ way) refl route, distinct p r way route.1)
 
   pub live_way : (n r q : NodeId) (way : List NodeId) → is_live g n ≡ true → IsRoute g n way r → list_any (same_node q) (n ∷ way) ≡ true → is_live g q ≡ true
-  live_way n r q [] live route h = or_elim _ _ h (λ here. ap (is_live g) (same_node_is q n here) ∙ live) (λ no. absurd (true≢false (sym no)))
+  live_way n r q [] live route h = or_elim _ _ h (λ here. ap (is_live g) (same_node-equal q n here) ∙ live) (λ no. absurd (true≢false (sym no)))
   live_way n r q (p ∷ way) live route h =
-      or_elim _ _ h (λ here. ap (is_live g) (same_node_is q n here) ∙ live) (λ there. live_way p r q way (law.parents_live n p route.0) route.1 there)
+      or_elim _ _ h (λ here. ap (is_live g) (same_node-equal q n here) ∙ live) (λ there. live_way p r q way (law.parents_live n p route.0) route.1 there)
 
   listed_from : (q : NodeId) (k n : ℕ) → k ≤ q.birth → q.birth < k + n → is_live g q ≡ true → list_any (same_node q) (filter_map (λ b. id_of b (g.at b)) (range_with_len k n)) ≡ true
   listed_from q k zero low high live = absurd (omega arith)

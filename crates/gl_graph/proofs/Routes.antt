@@ -1,11 +1,12 @@
 -- No cycle comes in: with parents taken away, with nodes beside, and with one node's parents changed.
 use Rattle.std.specs.Prelude.{◌≡◌, ◌≢◌, ◌⊎◌, true, false, List, [], ◌∷◌, ◌++◌}
 use Rattle.std.proofs.Common.{sym, ap, ◌∙◌, subst, inl, inr, ⊎_elim}
+use Rattle.gl_modes.proofs.NodeLemmas.{same_node-equal, same_node-other}
+use Rattle.gl_modes.proofs.Words.{split, no}
 use Rattle.gl_modes.specs.declared.node.NodeId.{NodeId}
 use Rattle.gl_modes.specs.Nodes.{same_node}
 use Rattle.gl_graph.specs.Graph.{Graph, is_live, is_child}
 use Rattle.gl_graph.specs.Routes.{IsRoute, IsAcyclic}
-use Rattle.gl_graph.proofs.Look.{split, same_node_is, other_node, no}
 
 pub join : (g : Graph) (a b c : NodeId) (way way' : List NodeId) → IsRoute g a way b → IsRoute g b way' c → IsRoute g a (way ++ way') c
 join g a b c [] way' r r' = subst (λ x. IsRoute g x way' c) (sym r) r'
@@ -57,11 +58,11 @@ module _ (g g' : Graph) (n : NodeId)
   goes a b (p ∷ way) r =
       split (same_node a n)
       (λ is.
-      let same : a ≡ n = same_node_is a n is in
+      let same : a ≡ n = same_node-equal a n is in
       let given : is_child g' p n ≡ true = subst (λ x. is_child g' p x ≡ true) same r.0 in
       ⊎_elim (λ up. inr (record { parent = p; given = given; before_way = []; before = same; after_way = way; after = up })) (λ o. absurd (clear p o.before_way given o.before)) (goes p b way r.1))
       (λ other.
-      let step = kept p a (other_node a n other) r.0 in
+      let step = kept p a (same_node-other a n other) r.0 in
       ⊎_elim (λ up. inl (step, up)) (λ o. inr (record { parent = o.parent; given = o.given; before_way = p ∷ o.before_way; before = (step, o.before); after_way = o.after_way; after = o.after })) (goes p b way r.1))
 
   pub acyclic_moved : IsAcyclic g → IsAcyclic g'

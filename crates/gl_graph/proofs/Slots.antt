@@ -2,6 +2,7 @@
 use Rattle.std.specs.Prelude.{◌≡◌, ◌≢◌, ℕ, zero, suc, ◌+◌, true, ◌==◌, List, [], ◌∷◌, map, Option, Some, None, if◌then◌else◌, slice_index_or}
 use Rattle.std.proofs.Math.Path.{fun_ext}
 use Rattle.std.proofs.Common.{refl, sym, ap, ◌∙◌, arith}
+use Rattle.gl_modes.proofs.Words.{split, cases_of, none_some, some_is, number_same, same_number, other_number}
 use Rattle.gl_modes.specs.declared.node.NodeId.{NodeId}
 use Rattle.slab.specs.Slab.{Slab, get, Updates}
 use Rattle.gl_graph.specs.declared.node.Node.{Node as Stored}
@@ -9,7 +10,7 @@ use Rattle.gl_graph.specs.Graph.{Node, Graph, with_key, node_at, is_live, IsFree
 use Rattle.gl_graph.specs.Changes.{with_node, born_node, without_node}
 use Rattle.gl_graph.specs.View.{node_of, born_at, graph_of}
 use Rattle.gl_graph.specs.Seen.{vertex_of, see, seen, named_in, named, AreBornApart, AreBornWithin}
-use Rattle.gl_graph.proofs.Look.{split, cases_of, none_some, some_is, number_same, same_number, other_number, finds, misses, found_at, live_node}
+use Rattle.gl_graph.proofs.Look.{finds, misses, found_at, live_node}
 
 -- slots of a list, as those of a slab
 abbrev at_place : List (Option Stored) → ℕ → Option Stored

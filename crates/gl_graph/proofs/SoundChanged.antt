@@ -2,6 +2,8 @@
 use Rattle.std.specs.Prelude.{◌≡◌, ℕ, true, ◌==◌, ◌&&◌, length, Some, count_by}
 use Rattle.std.specs.List.{list_any}
 use Rattle.std.proofs.Common.{refl, sym, ap, ◌∙◌, subst}
+use Rattle.gl_modes.proofs.NodeLemmas.{same_node-equal, same_node-other}
+use Rattle.gl_modes.proofs.Words.{split, some_is, same_number, other_number}
 use Rattle.gl_modes.specs.declared.node.NodeId.{NodeId}
 use Rattle.gl_modes.specs.Nodes.{same_node}
 use Rattle.slab.specs.Slab.{Slab, get, slab_len, Updates}
@@ -12,7 +14,6 @@ use Rattle.gl_graph.specs.Lawful.{IsLawfulGraph}
 use Rattle.gl_graph.specs.Changes.{with_node}
 use Rattle.gl_graph.specs.View.{graph_of, node_of, record_count, AgreesAt}
 use Rattle.gl_graph.specs.Seen.{shape_in_body, vertex_of, seen, AreSound}
-use Rattle.gl_graph.proofs.Look.{split, some_is, same_number, other_number, same_node_is, other_node}
 use Rattle.gl_graph.proofs.Changed.{IsAlike, nodes_same, at_other, indexes_same, changed_frames}
 use Rattle.gl_graph.proofs.Counts.{count_same, nodes_live}
 use Rattle.gl_graph.proofs.Slots.{node_there, written, written_apart}
@@ -39,8 +40,8 @@ module _ (old new : Slab Stored) (births : ℕ) (sound : AreSound old births) (n
       records_same f h =
           ap (count_by (is_record_of changed f)) (nodes_same g n (node_of n.key (vertex_of was)) (node_of n.key (vertex_of x)) node_was refl)
           ∙ count_same (is_live g) (is_record_of g f) (is_record_of changed f) (nodes g) (nodes_live g)
-          (λ q live. split (same_node q n) (λ e. ap (is_record_of changed f) (same_node_is q n e) ∙ records f h ∙ ap (is_record_of g f) (sym (same_node_is q n e)))
-          (λ e. ap (λ o. is_record_shape (shape_in o) && list_any (same_node f) (parents_in o)) (at_other g n (node_of n.key (vertex_of was)) (node_of n.key (vertex_of x)) node_was refl q (other_node q n e))))
+          (λ q live. split (same_node q n) (λ e. ap (is_record_of changed f) (same_node-equal q n e) ∙ records f h ∙ ap (is_record_of g f) (sym (same_node-equal q n e)))
+          (λ e. ap (λ o. is_record_shape (shape_in o) && list_any (same_node f) (parents_in o)) (at_other g n (node_of n.key (vertex_of was)) (node_of n.key (vertex_of x)) node_was refl q (same_node-other q n e))))
 
       -- what was kept beside a node agrees
       pub still_kept : (k : ℕ) (y : Stored) → get old k ≡ Some y → AgreesAt changed k (vertex_of y)

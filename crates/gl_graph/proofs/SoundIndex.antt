@@ -4,6 +4,8 @@ use Rattle.std.specs.List.{list_any}
 use Rattle.std.specs.declared.alloc.Global.{Global}
 use Rattle.std.proofs.Common.{refl, sym, ap, ◌∙◌, subst, arith, ⊎_elim}
 use Rattle.smallvec.specs.SmallVec.{SmallVec}
+use Rattle.gl_modes.proofs.NodeLemmas.{same_node-differ}
+use Rattle.gl_modes.proofs.Words.{split, none_some, some_is, both, same_number, other_number, or_elim}
 use Rattle.gl_modes.specs.declared.node.NodeId.{NodeId}
 use Rattle.slab.specs.Slab.{Slab, get, slab_len, Updates}
 use Rattle.gl_graph.specs.declared.node.Body.{Body}
@@ -16,7 +18,6 @@ use Rattle.gl_graph.specs.Changes.{born_node, born_nodes, born_index, interval_n
 use Rattle.gl_graph.specs.View.{graph_of, node_of, record_count, KeepsBeside, AgreesAt}
 use Rattle.gl_graph.specs.Seen.{shape_in_body, indexes_in_body, records_in_body, intervals_in_body, body_with_intervals, body_with_indexes, vertex_of, seen, AreSound}
 use Rattle.gl_graph.specs.Grown.{ids_of, AreIntervalsBorn}
-use Rattle.gl_graph.proofs.Look.{split, none_some, some_is, both, same_number, other_number, node_other, or_elim}
 use Rattle.gl_graph.proofs.Born.{place_in}
 use Rattle.gl_graph.proofs.NewNodes.{place_there}
 use Rattle.gl_graph.proofs.NewIndex.{keys_of_intervals, count_intervals, others, interval_there, file_index, no_record_born, frames, index_lawful}
@@ -137,7 +138,7 @@ module _ (old mid grown : Slab Stored) (births key : ℕ) (x : Stored) (sound : 
   old_agrees k y ne e =
       let shape_there : shape_of g (record { key = k; birth = y.birth }) ≡ Some (shape_in_body y.body) = ap shape_in (node_there old births sound.apart k y e) in
       beside_kept g after sound.lawful (frames g sound.lawful key ps file bounds keys may.inner may.file may.few may.rise may.unused may.indexes born.many apart_keys free_keys may.room) (record { key = k; birth = y.birth }) (vertex_of y) (shape_in_body y.body) shape_there
-      (λ h. (others g sound.lawful key ps file bounds keys (record { key = k; birth = y.birth }) (node_other (record { key = k; birth = y.birth }) file (λ same. ne (ap (λ q. q.key) same))), records_kept (record { key = k; birth = y.birth })))
+      (λ h. (others g sound.lawful key ps file bounds keys (record { key = k; birth = y.birth }) (same_node-differ (record { key = k; birth = y.birth }) file (λ same. ne (ap (λ q. q.key) same))), records_kept (record { key = k; birth = y.birth })))
       (sound.agree k y e)
 
   -- so does what has come

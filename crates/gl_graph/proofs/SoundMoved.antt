@@ -3,6 +3,7 @@ use Rattle.std.specs.Prelude.{◌≡◌, ℕ, true, false, ◌&&◌, List, [], �
 use Rattle.std.specs.List.{list_all}
 use Rattle.std.proofs.Common.{refl, sym, ap, ◌∙◌, subst}
 use Rattle.smallvec.specs.SmallVec.{SmallVec}
+use Rattle.gl_modes.proofs.Words.{no, both, and_both}
 use Rattle.gl_modes.specs.declared.node.NodeId.{NodeId}
 use Rattle.slab.specs.Slab.{Slab, get, slab_len, ContainsKey, Updates}
 use Rattle.gl_graph.specs.declared.node.Node.{Node as Stored}
@@ -13,7 +14,6 @@ use Rattle.gl_graph.specs.Changes.{with_node, with_parents}
 use Rattle.gl_graph.specs.Refusals.{first_cycle}
 use Rattle.gl_graph.specs.View.{graph_of, node_of, KeepsBeside}
 use Rattle.gl_graph.specs.Seen.{shape_in_body, vertex_of, seen, AreSound}
-use Rattle.gl_graph.proofs.Look.{no, both, and_both}
 use Rattle.gl_graph.proofs.KindRules.{inner_plain, plain_live}
 use Rattle.gl_graph.proofs.Changed.{at_here}
 use Rattle.gl_graph.proofs.Moved.{movable_alike, move_lawful, with_parents_is}

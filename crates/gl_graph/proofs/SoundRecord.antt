@@ -2,6 +2,8 @@
 use Rattle.std.specs.Prelude.{◌≡◌, ◌≢◌, ℕ, ◌+◌, ◌≤◌, true, false, ◌==◌, ◌&&◌, List, [], ◌∷◌, length, Some, None, is_some, cond, count_by}
 use Rattle.std.specs.List.{list_any}
 use Rattle.std.proofs.Common.{refl, sym, ap, ap₂, ◌∙◌, subst, arith}
+use Rattle.gl_modes.proofs.NodeLemmas.{same_node-differ, same_node-refl}
+use Rattle.gl_modes.proofs.Words.{split, none_some, some_is, same_number, other_number}
 use Rattle.gl_modes.specs.declared.node.NodeId.{NodeId}
 use Rattle.gl_modes.specs.Nodes.{same_node}
 use Rattle.slab.specs.Slab.{Slab, get, slab_len, ContainsKey, Updates}
@@ -14,7 +16,6 @@ use Rattle.gl_graph.specs.Lawful.{IsLawfulGraph}
 use Rattle.gl_graph.specs.Changes.{born_node, IsBorn}
 use Rattle.gl_graph.specs.View.{graph_of, node_of, record_count, KeepsBeside, AgreesAt}
 use Rattle.gl_graph.specs.Seen.{shape_in_body, indexes_in_body, body_with_records, vertex_of, seen, AreBornApart, AreSound}
-use Rattle.gl_graph.proofs.Look.{split, none_some, some_is, same_number, other_number, node_other, same_node_refl}
 use Rattle.gl_graph.proofs.NewNodes.{one_indexes, record_lawful}
 use Rattle.gl_graph.proofs.Counts.{count_cons, records_grown}
 use Rattle.gl_graph.proofs.RecordParents.{file_among}
@@ -113,7 +114,7 @@ module _ (old new : Slab Stored) (births key : ℕ) (x : Stored) (sound : AreSou
   pub one_record_more : record_count g1 file ≡ record_count g0 file + 1
   one_record_more =
       let count : record_count g1 file ≡ record_count g0 file + count_by (is_record_of g1 file) (new_id ∷ []) = records_grown g0 sound.lawful (node_of key (vertex_of x) ∷ []) file in
-      let one : count_by (is_record_of g1 file) (new_id ∷ []) ≡ 1 = count_cons (is_record_of g1 file) new_id [] ∙ ap (λ b. cond b 1 0 + 0) (record_of file file_is ∙ same_node_refl file) in
+      let one : count_by (is_record_of g1 file) (new_id ∷ []) ≡ 1 = count_cons (is_record_of g1 file) new_id [] ∙ ap (λ b. cond b 1 0 + 0) (record_of file file_is ∙ same_node-refl file) in
       omega arith
 
   file_stays : file.key ≢ key
@@ -137,7 +138,7 @@ module _ (old new : Slab Stored) (births key : ℕ) (x : Stored) (sound : AreSou
         (λ t.
         let was : get old k ≡ Some y = sym (u.others k (other_number k key t)) ∙ e in
         old_kept old new births key x sound free u next no_index k y was
-        (λ h. record_of (record { key = k; birth = y.birth }) (ap is_file_shape (file_shape_at k y was) ∙ h) ∙ node_other (record { key = k; birth = y.birth }) file (λ same. ne (ap (λ q. q.key) same)))));
+        (λ h. record_of (record { key = k; birth = y.birth }) (ap is_file_shape (file_shape_at k y was) ∙ h) ∙ same_node-differ (record { key = k; birth = y.birth }) file (λ same. ne (ap (λ q. q.key) same)))));
   }
 
 -- a record is stored, and its file counts it

@@ -1,6 +1,8 @@
 -- A record is taken out, and its file counts one less.
 use Rattle.std.specs.Prelude.{◌≡◌, ℕ, ◌+◌, true, false, Option, Some, None, is_some, cond}
 use Rattle.std.proofs.Common.{sym, ap, ◌∙◌, subst, arith, rules}
+use Rattle.gl_modes.proofs.NodeLemmas.{same_node-refl, same_node-differ}
+use Rattle.gl_modes.proofs.Words.{no, none_some}
 use Rattle.gl_modes.specs.declared.node.NodeId.{NodeId}
 use Rattle.slab.specs.Slab.{Slab, get, slab_len, ContainsKey, Updates}
 use Rattle.gl_graph.specs.declared.node.Node.{Node as Stored}
@@ -10,7 +12,6 @@ use Rattle.gl_graph.specs.Lawful.{IsLawfulGraph}
 use Rattle.gl_graph.specs.Changes.{without_node}
 use Rattle.gl_graph.specs.View.{graph_of, record_count, KeepsBeside, AgreesAt}
 use Rattle.gl_graph.specs.Seen.{shape_in_body, body_with_records, vertex_of, seen, AreSound}
-use Rattle.gl_graph.proofs.Look.{no, none_some, same_node_refl, node_other}
 use Rattle.gl_graph.proofs.KindRules.{plain_live, file_plain}
 use Rattle.gl_graph.proofs.Removed.{rec_live, removed_frames, removed_lawful, indexes_left}
 use Rattle.gl_graph.proofs.Left.{fewer_nodes, records_there}
@@ -40,7 +41,7 @@ module _ (old mid new : Slab Stored) (births : ℕ) (sound : AreSound old births
   slot = file_slot old births sound file file_is
 
   pub counted_there : record_count g file ≡ record_count (without_node g r) file + 1
-  counted_there = records_there g sound.lawful r live rec file ∙ ap (λ b. record_count (without_node g r) file + cond b 1 0) (record_of_file g sound.lawful r rec file file_is ∙ same_node_refl file)
+  counted_there = records_there g sound.lawful r live rec file ∙ ap (λ b. record_count (without_node g r) file + cond b 1 0) (record_of_file g sound.lawful r rec file file_is ∙ same_node-refl file)
 
   not_file : is_file_shape (shape_of g r) ≡ true → ⊥
   not_file h = no (sym (by (shape_of g r) rec) ∙ h)
@@ -77,7 +78,7 @@ module _ (old mid new : Slab Stored) (births : ℕ) (sound : AreSound old births
           beside_kept g (without_node g r) sound.lawful (removed_frames g sound.lawful r rec) (record { key = k; birth = y.birth }) (vertex_of y) (shape_in_body y.body) shape
           (λ h. (
             indexes_left g sound.lawful r rec (record { key = k; birth = y.birth }),
-            (let other = record_of_file g sound.lawful r rec (record { key = k; birth = y.birth }) (ap is_file_shape shape ∙ h) ∙ node_other (record { key = k; birth = y.birth }) file (λ same. ne (ap (λ q. q.key) same)) in
+            (let other = record_of_file g sound.lawful r rec (record { key = k; birth = y.birth }) (ap is_file_shape shape ∙ h) ∙ same_node-differ (record { key = k; birth = y.birth }) file (λ same. ne (ap (λ q. q.key) same)) in
                 let count : record_count g (record { key = k; birth = y.birth }) ≡ record_count (without_node g r) (record { key = k; birth = y.birth }) + 0 = records_there g sound.lawful r live rec (record { key = k; birth = y.birth }) ∙ ap (λ b. record_count (without_node g r) (record { key = k; birth = y.birth }) + cond b 1 0) other in
                 omega arith),
           ))

@@ -4,6 +4,7 @@ use Rattle.std.specs.List.{list_all}
 use Rattle.std.proofs.Common.{refl, sym, ap, ◌∙◌, subst, arith}
 use Rattle.std.proofs.lemmas.Bool.Decides.{nat_tests}
 use mathlib.Core.Bool.{true≢false}
+use Rattle.gl_modes.proofs.Words.{split, no, none_some, and_both, both, same_number}
 use Rattle.gl_modes.specs.declared.node.NodeId.{NodeId}
 use Rattle.gl_modes.specs.declared.refusal.Refusal.{Refusal}
 use Rattle.gl_modes.specs.declared.refusal.Refusal.TheVariants as refusal
@@ -12,7 +13,6 @@ use Rattle.gl_graph.specs.Shapes.{is_file_shape}
 use Rattle.gl_graph.specs.Routes.{is_at_or_below}
 use Rattle.gl_graph.specs.Lawful.{IsRising, are_inner, are_distinct, AreInnerParents}
 use Rattle.gl_graph.specs.Refusals.{first_refusal, where_true, max_count, worn_births, some_no_node, bad_parents, too_many_nodes, first_cycle, is_rising, parents_refusal, record_refusal, index_refusal, bad_index_place, bad_bounds, has_records, Refuses, verdict}
-use Rattle.gl_graph.proofs.Look.{split, no, none_some, and_both, both, same_number}
 
 pub not_refused : (x : Option Refusal) (xs : List (Option Refusal)) → first_refusal (x ∷ xs) ≡ None → (x ≡ None) × (first_refusal xs ≡ None)
 not_refused None xs h = (refl, h)

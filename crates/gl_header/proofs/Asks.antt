@@ -1,6 +1,7 @@
 -- What an ask, a drop and a dismissal leave.
 use Rattle.std.proofs.Common.{◌≡◌, ℕ, ◌<◌, Bool, true, false, ◌||◌, List, refl, ap, ◌∙◌}
 use Rattle.std.specs.Prelude.{◌≢◌, if◌then◌else◌}
+use Rattle.gl_modes.proofs.Words.{and_both}
 use Rattle.gl_modes.specs.declared.mode.Mode.{Mode}
 use Rattle.gl_modes.specs.declared.mode.Mode.TheVariants.{NL}
 use Rattle.gl_modes.proofs.ModeLemmas.{supremum-above, supremum-not_NL, not_NL}
@@ -9,7 +10,6 @@ use Rattle.gl_header.specs.Groups.{held_by}
 use Rattle.gl_header.specs.State.{HeaderState, is_granted, members_of, slot_limit, wanted}
 use Rattle.gl_header.specs.Answers.{asked_queue}
 use Rattle.gl_header.specs.Sound.{IsOrderly, IsLawful, is_entry, placed_in}
-use Rattle.gl_header.proofs.Ranges.{both_true}
 use Rattle.gl_header.proofs.Queues.{is_entry-from}
 use Rattle.gl_header.proofs.Placing.{placed-list}
 use Rattle.gl_header.proofs.Orderly.{orderly-with_mode, orderly-placed_in, stuck-with_mode, stuck-placed_in}
@@ -25,7 +25,7 @@ lawful-by g g' q q' e f l = rw (e, f) l
 -- a grant at once
 pub lawful-granted : (h : HeaderState) (s : ℕ) (m w : Mode) (g : Members) → IsLawful (held_by h.granted) h.queue → is_among_waiters s h.queue ≡ false → s < 128 → is_granted h s m ≡ true → w ≡ wanted h s m → g ≡ with_mode (held_by h.granted) s w → IsLawful g h.queue
 lawful-granted h s m w g l q b k e f =
-    let fit : fits slot_limit (held_by h.granted) s (wanted h s m) ≡ true = (both_true (fits slot_limit (members_of h) s (wanted h s m)) (holds (members_of h) s || is_empty h.queue) k).0 in
+    let fit : fits slot_limit (held_by h.granted) s (wanted h s m) ≡ true = (and_both (fits slot_limit (members_of h) s (wanted h s m)) (holds (members_of h) s || is_empty h.queue) k).0 in
     lawful-by g (with_mode (held_by h.granted) s (wanted h s m)) h.queue h.queue (f ∙ ap (with_mode (held_by h.granted) s) e) refl
     (record {
       orderly = orderly-with_mode (held_by h.granted) h.queue s (wanted h s m) l.orderly q fit b;

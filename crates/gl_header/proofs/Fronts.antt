@@ -2,17 +2,10 @@
 use Rattle.std.proofs.Common.{◌≡◌, ℕ, ◌<◌, ◌≤◌, Bool, true, false, List, [], ◌∷◌, ◌++◌, length, drop, refl, ap, ap₂, arith}
 use Rattle.std.specs.Prelude.{if◌then◌else◌}
 use Rattle.std.proofs.lemmas.Bool.Decides.{nat_tests}
+use Rattle.gl_modes.proofs.Words.{split}
 use Rattle.gl_header.specs.Header.{Members, Waiter, IsCompatible, IsWithin, AreBelow, fits, with_mode, front, after_grants, pumped_members, pumped_queue, is_among_waiters}
 use Rattle.gl_header.specs.State.{slot_limit}
-use Rattle.gl_header.proofs.Ranges.{by_test}
-use Rattle.gl_header.proofs.Fits.{
-  fits-all,
-  fits-limits,
-  within-with_mode,
-  within-limit,
-  compatible-with_mode,
-  slot_limit-is,
-}
+use Rattle.gl_header.proofs.Fits.{fits-all, fits-limits, within-with_mode, within-limit, compatible-with_mode, slot_limit-is}
 
 -- the first waiter, and the others, are below the limit
 
@@ -64,7 +57,7 @@ granted-within most g (v ∷ ws) b w =
 pub front-waited : (most : ℕ) (g : Members) (q : List Waiter) (t : ℕ) → is_among_waiters t (front most g q) ≡ true → is_among_waiters t q ≡ true
 front-waited most g [] t h = h
 front-waited most g (w ∷ q) t h =
-    by_test (fits most g w.0 w.1)
+    split (fits most g w.0 w.1)
     (λ e. let f = front-waited most (with_mode g w.0 w.1) q t in grind arith)
     (λ e. grind arith)
 

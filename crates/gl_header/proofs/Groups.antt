@@ -16,14 +16,11 @@ use Rattle.gl_header.specs.declared.group.Group.{Group}
 use Rattle.gl_header.specs.Groups.{GoesBeside, HoldsTwoModes, IsGroup, group_mode, held_by}
 use Rattle.gl_header.specs.Header.{Members, IsWithin, fits, group_of, holds, with_mode}
 use Rattle.gl_header.specs.State.{slot_limit, nobody_holds}
-use Rattle.gl_header.proofs.Ranges.{by_test, not_true, range-from_each}
+use Rattle.gl_header.proofs.Ranges.{range-from_each}
 use Rattle.gl_header.proofs.Fits.{fits-all, fits-from_all, within-more, slot_limit-is}
 use Rattle.gl_header.proofs.GroupOf.{at_least-NL, group_of-unique}
 use Rattle.gl_header.proofs.Unused.{nobody_holds-all}
-
-clash : (b : Bool) → b ≡ true → b ≡ false → ⊥
-clash true h k = cc
-clash false h k = cc
+use Rattle.gl_modes.proofs.Words.{clash, split, not_true}
 
 -- what a slot of each part holds
 
@@ -40,19 +37,19 @@ other-mode g u h k =
 
 -- who holds IS is no holder of the group's mode
 pub apart-other : (g : Group) (u : ℕ) → IsGroup g → has_slot g.intents u ≡ true → has_slot g.holders u ≡ false
-apart-other g u k h = not_true (has_slot g.holders u) (λ e. clash (has_slot g.intents u) h (k.apart u e))
+apart-other g u k h = not_true (has_slot g.holders u) (λ e. clash h (k.apart u e))
 
 -- a slot in one of three ways
 pub by_part : {C : Type 0} (g : Group) (u : ℕ) → (has_slot g.holders u ≡ true → held_by g u ≡ g.mode → C) → (has_slot g.intents u ≡ true → held_by g u ≡ IS → C) → (held_by g u ≡ NL → C) → C
 by_part g u a b c =
-    by_test (has_slot g.holders u)
+    split (has_slot g.holders u)
     (λ h. a h (holder-mode g u h))
-    (λ h. by_test (has_slot g.intents u) (λ k. b k (intent-mode g u h k)) (λ k. c (other-mode g u h k)))
+    (λ h. split (has_slot g.intents u) (λ k. b k (intent-mode g u h k)) (λ k. c (other-mode g u h k)))
 
 -- who holds nothing stands in neither set
 pub no-holder : (g : Group) (u : ℕ) → IsGroup g → held_by g u ≡ NL → has_slot g.holders u ≡ false
 no-holder g u k n =
-    not_true (has_slot g.holders u) (λ h. clash (has_slot g.holders u) h (k.free (sym (holder-mode g u h) ∙ n) u))
+    not_true (has_slot g.holders u) (λ h. clash h (k.free (sym (holder-mode g u h) ∙ n) u))
 
 pub no-intent : (g : Group) (u : ℕ) → IsGroup g → held_by g u ≡ NL → has_slot g.intents u ≡ false
 no-intent g u k n =
@@ -71,9 +68,9 @@ two-modes g = (g.mode, λ t. by_part g t (λ h e. inr (inr e)) (λ h e. inr (inl
 -- the two sets have each member and nobody else
 pub listed : (g : Group) → IsGroup g → (t : ℕ) → (has_slot g.holders t || has_slot g.intents t) ≡ holds (held_by g) t
 listed g k t =
-    by_test (has_slot g.holders t)
-    (λ h. ap (λ b. b || has_slot g.intents t) h ∙ sym (ap (λ m. not (same_mode m NL)) (holder-mode g t h) ∙ ap not (not_NL g.mode (λ n. clash (has_slot g.holders t) h (k.free n t)))))
-    (λ h. by_test (has_slot g.intents t)
+    split (has_slot g.holders t)
+    (λ h. ap (λ b. b || has_slot g.intents t) h ∙ sym (ap (λ m. not (same_mode m NL)) (holder-mode g t h) ∙ ap not (not_NL g.mode (λ n. clash h (k.free n t)))))
+    (λ h. split (has_slot g.intents t)
     (λ i. ap₂ (λ a b. a || b) h i ∙ sym (ap (λ m. not (same_mode m NL)) (intent-mode g t h i)))
     (λ i. ap₂ (λ a b. a || b) h i ∙ sym (ap (λ m. not (same_mode m NL)) (other-mode g t h i))))
 
@@ -111,20 +108,20 @@ nobody-from_both g n =
 -- the supremum of what is held
 
 at_least-IS : (m : Mode) → same_mode m NL ≡ false → is_at_least m IS ≡ true
-at_least-IS m h = by_test (same_mode m NL) (λ e. absurd (clash (same_mode m NL) e h)) (λ e. implied _ _ (every-true (λ x. implies (not (same_mode x NL)) (is_at_least x IS)) refl m) (ap not e))
+at_least-IS m h = split (same_mode m NL) (λ e. absurd (clash e h)) (λ e. implied _ _ (every-true (λ x. implies (not (same_mode x NL)) (is_at_least x IS)) refl m) (ap not e))
 
 -- a mode that is the group's mode or greater, if anybody holds it
 least-main : (g : Group) (x : Mode) → IsGroup g → ((u : ℕ) → is_at_least x (held_by g u) ≡ true) → is_at_least x g.mode ≡ true
 least-main g x k h =
-    by_test (is_at_least x g.mode) (λ e. e)
+    split (is_at_least x g.mode) (λ e. e)
     (λ e.
-    let none : HasNoSlot g.holders = (λ u. not_true (has_slot g.holders u) (λ i. clash (is_at_least x g.mode) (ap (is_at_least x) (sym (holder-mode g u i)) ∙ h u) e)) in
+    let none : HasNoSlot g.holders = (λ u. not_true (has_slot g.holders u) (λ i. clash (ap (is_at_least x) (sym (holder-mode g u i)) ∙ h u) e)) in
     ap (is_at_least x) (k.idle none) ∙ at_least-NL x)
 
 least-IS : (g : Group) (x : Mode) → IsGroup g → (HasNoSlot g.intents → ⊥) → ((u : ℕ) → is_at_least x (held_by g u) ≡ true) → is_at_least x IS ≡ true
 least-IS g x k some h =
-    by_test (is_at_least x IS) (λ e. e)
-    (λ e. absurd (some (λ u. not_true (has_slot g.intents u) (λ i. clash (is_at_least x IS) (ap (is_at_least x) (sym (intent-mode g u (apart-other g u k i) i)) ∙ h u) e))))
+    split (is_at_least x IS) (λ e. e)
+    (λ e. absurd (some (λ u. not_true (has_slot g.intents u) (λ i. clash (ap (is_at_least x) (sym (intent-mode g u (apart-other g u k i) i)) ∙ h u) e))))
 
 refl-at_least : (m : Mode) → is_at_least m m ≡ true
 refl-at_least m = every-true (λ x. is_at_least x x) refl m
@@ -132,7 +129,7 @@ refl-at_least m = every-true (λ x. is_at_least x x) refl m
 pub supremum-main : (g : Group) → IsGroup g → HasNoSlot g.intents → g.mode ≡ group_of slot_limit (held_by g)
 supremum-main g k none =
     group_of-unique slot_limit (held_by g) g.mode (within-group g k)
-    (λ u. by_part g u (λ h e. ap (is_at_least g.mode) e ∙ refl-at_least g.mode) (λ h e. absurd (clash (has_slot g.intents u) h (none u))) (λ e. ap (is_at_least g.mode) e ∙ at_least-NL g.mode))
+    (λ u. by_part g u (λ h e. ap (is_at_least g.mode) e ∙ refl-at_least g.mode) (λ h e. absurd (clash h (none u))) (λ e. ap (is_at_least g.mode) e ∙ at_least-NL g.mode))
     (λ x h. least-main g x k h)
 
 pub supremum-both : (g : Group) → IsGroup g → (HasNoSlot g.intents → ⊥) → supremum g.mode IS ≡ group_of slot_limit (held_by g)
@@ -144,9 +141,9 @@ supremum-both g k some =
 -- the group mode is the supremum
 pub group_mode-is : (g : Group) → IsGroup g → group_mode g ≡ group_of slot_limit (held_by g)
 group_mode-is g k =
-    by_test (has_none g.intents)
+    split (has_none g.intents)
     (λ e. ap (λ b. cond b g.mode (supremum g.mode IS)) e ∙ supremum-main g k (test-none g.intents e))
-    (λ e. ap (λ b. cond b g.mode (supremum g.mode IS)) e ∙ supremum-both g k (λ none. clash (has_none g.intents) (none-test g.intents none) e))
+    (λ e. ap (λ b. cond b g.mode (supremum g.mode IS)) e ∙ supremum-both g k (λ none. clash (none-test g.intents none) e))
 
 -- a grant to one who holds nothing: r is the group before it, old what was held before that slot's release
 
@@ -179,8 +176,8 @@ module _ (old : Members) (r : Group) (s : ℕ) (k : IsGroup r) (e : held_by r �
   -- IS is granted
   pub intent-group : (i : Slots) → IsWithSlot r.intents s i → IsGroup (record { mode = r.mode; holders = r.holders; intents = i })
   intent-group i w = record {
-    apart = λ u h. by_test (u == s)
-        (λ t. absurd (clash (has_slot r.holders u) h (ap (has_slot r.holders) (same-slot u s t) ∙ no-holder r s k free-slot)))
+    apart = λ u h. split (u == s)
+        (λ t. absurd (clash h (ap (has_slot r.holders) (same-slot u s t) ∙ no-holder r s k free-slot)))
         (λ t. at-other _ _ u s (w u) t ∙ k.apart u h);
     not_IS = k.not_IS;
     idle = k.idle;
@@ -191,7 +188,7 @@ module _ (old : Members) (r : Group) (s : ℕ) (k : IsGroup r) (e : held_by r �
 
   pub intent-held : (i : Slots) → IsWithSlot r.intents s i → held_by (record { mode = r.mode; holders = r.holders; intents = i }) ≡ with_mode old s IS
   intent-held i w = fun_ext (λ u.
-      by_test (u == s)
+      split (u == s)
       (λ t. intent-mode (record { mode = r.mode; holders = r.holders; intents = i }) u (ap (has_slot r.holders) (same-slot u s t) ∙ no-holder r s k free-slot) (at-slot _ _ u s (w u) (same-slot u s t)) ∙ sym (here old s IS u t))
       (λ t. ap (λ b. cond (has_slot r.holders u) r.mode (cond b IS NL)) (at-other _ _ u s (w u) t) ∙ (ap (λ (g : Members). g u) e ∙ (there old s NL u t ∙ sym (there old s IS u t)))))
 
@@ -199,11 +196,11 @@ module _ (old : Members) (r : Group) (s : ℕ) (k : IsGroup r) (e : held_by r �
 
   pub main-group : (m : Mode) (j : Slots) → same_mode m IS ≡ false → m ≢ NL → IsWithSlot r.holders s j → IsGroup (record { mode = m; holders = j; intents = r.intents })
   main-group m j other lock w = record {
-    apart = λ u h. by_test (u == s)
+    apart = λ u h. split (u == s)
         (λ t. ap (has_slot r.intents) (same-slot u s t) ∙ no-intent r s k free-slot)
         (λ t. k.apart u (sym (at-other _ _ u s (w u) t) ∙ h));
     not_IS = other;
-    idle = λ none. absurd (clash (has_slot j s) (at-slot _ _ s s (w s) refl) (none s));
+    idle = λ none. absurd (clash (at-slot _ _ s s (w s) refl) (none s));
     free = λ n. absurd (lock n);
     holders_below = λ u le. at-other _ _ u s (w u) (above-slot u s le below) ∙ k.holders_below u le;
     intents_below = k.intents_below;
@@ -211,10 +208,10 @@ module _ (old : Members) (r : Group) (s : ℕ) (k : IsGroup r) (e : held_by r �
 
   one-mode : (m : Mode) → same_mode m IS ≡ false → m ≢ NL → fits slot_limit old s m ≡ true → IsWithin slot_limit old → (u : ℕ) → has_slot r.holders u ≡ true → r.mode ≡ m
   one-mode m other lock f w u h =
-      let ne : u ≢ s = (λ t. clash (has_slot r.holders u) h (ap (has_slot r.holders) t ∙ no-holder r s k free-slot)) in
+      let ne : u ≢ s = (λ t. clash h (ap (has_slot r.holders) t ∙ no-holder r s k free-slot)) in
       let is : old u ≡ r.mode = sym (there old s NL u (off u s ne)) ∙ (sym (ap (λ (g : Members). g u) e) ∙ holder-mode r u h) in
       let c : are_compatible m r.mode ≡ true = ap (are_compatible m) (sym is) ∙ fits-all slot_limit old s m w f u ne in
-      let lock' : same_mode r.mode NL ≡ false = not_NL r.mode (λ n. clash (has_slot r.holders u) h (k.free n u)) in
+      let lock' : same_mode r.mode NL ≡ false = not_NL r.mode (λ n. clash h (k.free n u)) in
       sym (same_mode-equal m r.mode (alike m r.mode other (not_NL m lock) k.not_IS lock' c))
     where
       off : (u s : ℕ) → u ≢ s → (u == s) ≡ false
@@ -226,8 +223,8 @@ module _ (old : Members) (r : Group) (s : ℕ) (k : IsGroup r) (e : held_by r �
 
   pub main-held : (m : Mode) (j : Slots) → same_mode m IS ≡ false → m ≢ NL → fits slot_limit old s m ≡ true → IsWithin slot_limit old → IsWithSlot r.holders s j → held_by (record { mode = m; holders = j; intents = r.intents }) ≡ with_mode old s m
   main-held m j other lock f in_range w = fun_ext (λ u.
-      by_test (u == s)
+      split (u == s)
       (λ t. holder-mode (record { mode = m; holders = j; intents = r.intents }) u (at-slot _ _ u s (w u) (same-slot u s t)) ∙ sym (here old s m u t))
-      (λ t. by_test (has_slot r.holders u)
+      (λ t. split (has_slot r.holders u)
       (λ h. holder-mode (record { mode = m; holders = j; intents = r.intents }) u (at-other _ _ u s (w u) t ∙ h) ∙ (sym (one-mode m other lock f in_range u h) ∙ (sym (holder-mode r u h) ∙ (ap (λ (g : Members). g u) e ∙ (there old s NL u t ∙ sym (there old s m u t))))))
       (λ h. ap (λ b. cond b m (cond (has_slot r.intents u) IS NL)) (at-other _ _ u s (w u) t ∙ h) ∙ (sym (ap (λ b. cond b r.mode (cond (has_slot r.intents u) IS NL)) h) ∙ (ap (λ (g : Members). g u) e ∙ (there old s NL u t ∙ sym (there old s m u t)))))))

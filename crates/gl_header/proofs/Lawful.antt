@@ -3,6 +3,7 @@ use Rattle.std.proofs.Common.{◌≡◌, ℕ, true, false, ◌&&◌, ◌||◌, n
 use Rattle.std.specs.Prelude.{◌==◌, ◌≢◌}
 use Rattle.std.specs.List.{filter, list_all, before_first}
 use Rattle.std.proofs.lemmas.Bool.Decides.{nat_tests}
+use Rattle.gl_modes.proofs.Words.{and_both, split}
 use Rattle.gl_modes.specs.declared.mode.Mode.{Mode}
 use Rattle.gl_modes.specs.declared.mode.Mode.TheVariants.{NL}
 use Rattle.gl_modes.specs.Modes.{same_mode, is_at_least}
@@ -10,7 +11,6 @@ use Rattle.gl_header.specs.Header.{Members, Waiter, AreBelow, IsWithin, holds, i
 use Rattle.gl_header.specs.Groups.{IsGroup, held_by}
 use Rattle.gl_header.specs.State.{HeaderState, IsLawfulHeader, slot_limit}
 use Rattle.gl_header.specs.Sound.{is_distinct, is_entry, all_new, is_ordered, all_rise, IsLawful}
-use Rattle.gl_header.proofs.Ranges.{both_true, by_test}
 use Rattle.gl_header.proofs.Fits.{slot_limit-is}
 use Rattle.gl_header.proofs.Groups.{group_mode-is, listed, two-modes}
 use Rattle.gl_header.proofs.Pumped.{stuck-front}
@@ -18,9 +18,9 @@ use Rattle.gl_header.proofs.Pumped.{stuck-front}
 waiters-below : (q : List Waiter) → list_all is_entry q ≡ true → AreBelow 128 q
 waiters-below [] v t h = cc
 waiters-below (w ∷ q) v t h =
-    by_test (w.0 == t)
+    split (w.0 == t)
     (λ e. grind (arith, nat_tests))
-    (λ e. waiters-below q (both_true (is_entry w) _ v).1 t (grind arith))
+    (λ e. waiters-below q (and_both (is_entry w) _ v).1 t (grind arith))
 
 none-filtered : (q : List Waiter) (t : ℕ) → is_among_waiters t q ≡ false → filter (is_waiter t) q ≡ []
 none-filtered [] t h = refl
@@ -29,7 +29,7 @@ none-filtered (w ∷ q) t h = grind (arith, none-filtered q t)
 one-wait : (q : List Waiter) (t : ℕ) (m : Mode) → is_distinct q ≡ true → wanted_by q t ≡ Some m → filter (is_waiter t) q ≡ (t, m) ∷ []
 one-wait [] t m d h = cc
 one-wait (w ∷ q) t m d h =
-    by_test (w.0 == t)
+    split (w.0 == t)
     (λ e.
     let none : is_among_waiters t q ≡ false = grind (arith, nat_tests) in
     let r : filter (is_waiter t) q ≡ [] = none-filtered q t none in
@@ -38,7 +38,7 @@ one-wait (w ∷ q) t m d h =
     let p : w ≡ (t, m) = λ i. (k i, l i) in
     grind arith)
     (λ e.
-    let r : wanted_by q t ≡ Some m → filter (is_waiter t) q ≡ (t, m) ∷ [] = one-wait q t m (both_true (not (is_among_waiters w.0 q)) _ d).1 in
+    let r : wanted_by q t ≡ Some m → filter (is_waiter t) q ≡ (t, m) ∷ [] = one-wait q t m (and_both (not (is_among_waiters w.0 q)) _ d).1 in
     grind arith)
 
 not-NL : (m : Mode) → same_mode m NL ≡ false → m ≢ NL
@@ -47,12 +47,12 @@ not-NL m h e = cc
 wanted-rises : (g : Members) (q : List Waiter) (t : ℕ) (m : Mode) → list_all is_entry q ≡ true → all_rise g q ≡ true → wanted_by q t ≡ Some m → (same_mode m NL ≡ false) × (is_at_least m (g t) ≡ true)
 wanted-rises g [] t m v r h = cc
 wanted-rises g (w ∷ q) t m v r h =
-    by_test (w.0 == t)
+    split (w.0 == t)
     (λ e.
     let k : w.0 ≡ t = grind (arith, nat_tests) in
     let l : w.1 ≡ m = grind arith in
     (grind (arith, nat_tests), grind arith))
-    (λ e. wanted-rises g q t m (both_true (is_entry w) _ v).1 (both_true _ _ r).1 (grind arith))
+    (λ e. wanted-rises g q t m (and_both (is_entry w) _ v).1 (and_both _ _ r).1 (grind arith))
 
 new-not_held : (g : Members) (q : List Waiter) (t : ℕ) → all_new g q ≡ true → is_among_waiters t q ≡ true → holds g t ≡ false
 new-not_held g [] t n h = cc
@@ -66,11 +66,11 @@ record IsAheadIn (w : Waiter) (q : List Waiter) (t u : ℕ) : Type 0 where
 
 ahead-step : (w : Waiter) (q : List Waiter) (t u : ℕ) → is_ahead (w ∷ q) t u ≡ true → IsAheadIn w q t u
 ahead-step w q t u h =
-    by_test (w.0 == t)
+    split (w.0 == t)
     (λ e. let none : is_ahead (w ∷ q) t u ≡ false = grind (arith, nat_tests) in cc)
     (λ e.
     let step : is_ahead (w ∷ q) t u ≡ (is_among_waiters t q && ((w.0 == u) || is_among_waiters u (before_first (is_waiter t) q))) = grind (arith, nat_tests) in
-    let p = both_true (is_among_waiters t q) ((w.0 == u) || is_among_waiters u (before_first (is_waiter t) q)) (sym step ∙ h) in
+    let p = and_both (is_among_waiters t q) ((w.0 == u) || is_among_waiters u (before_first (is_waiter t) q)) (sym step ∙ h) in
     record {
       other = e;
       waits = p.0;
@@ -81,8 +81,8 @@ holders-first : (g : Members) (q : List Waiter) (t u : ℕ) → is_ordered g q �
 holders-first g [] t u o h a = cc
 holders-first g (w ∷ q) t u o h a =
     let s = ahead-step w q t u a in
-    by_test (holds g w.0)
-    (λ e. by_test (w.0 == u)
+    split (holds g w.0)
+    (λ e. split (w.0 == u)
     (λ k. grind (arith, nat_tests))
     (λ k. let b = s.ahead in holders-first g q t u (grind arith) h (grind arith)))
     (λ e. let n : holds g t ≡ false = new-not_held g q t (grind arith) s.waits in cc)

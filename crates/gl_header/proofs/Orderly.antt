@@ -2,6 +2,7 @@
 use Rattle.std.proofs.Common.{◌≡◌, ℕ, ◌<◌, Bool, true, false, ◌&&◌, ◌||◌, not, List, [], ◌∷◌, refl, sym, ap, ◌∙◌, arith, ltb}
 use Rattle.std.specs.Prelude.{◌==◌}
 use Rattle.std.proofs.lemmas.Bool.Decides.{nat_tests}
+use Rattle.gl_modes.proofs.Words.{split, not_true}
 use Rattle.gl_modes.specs.declared.mode.Mode.{Mode}
 use Rattle.gl_modes.specs.declared.mode.Mode.TheVariants.{NL}
 use Rattle.gl_modes.specs.Modes.{are_compatible, is_at_least, same_mode}
@@ -10,7 +11,6 @@ use Rattle.gl_header.specs.Header.{Members, Waiter, Fits, IsWithin, fits, holds,
 use Rattle.gl_header.specs.State.{slot_limit}
 use Rattle.gl_header.specs.Entries.{without}
 use Rattle.gl_header.specs.Sound.{is_entry, all_new, is_ordered, all_rise, is_stuck, IsOrderly, placed_in}
-use Rattle.gl_header.proofs.Ranges.{by_test, not_true}
 use Rattle.gl_header.proofs.Fits.{fits-all, fits-from_all, within-with_mode, compatible-with_mode, slot_limit-is}
 use Rattle.gl_header.proofs.Queues.{all-without, distinct-without}
 use Rattle.gl_header.proofs.Placing.{all-placed_in, distinct-placed_in, ordered-placed_in}
@@ -47,7 +47,7 @@ orderly-member_gone g q s o h b =
 -- a member's slot is below 128
 pub member-below : (g : Members) (s : ℕ) → IsWithin slot_limit g → holds g s ≡ true → s < 128
 member-below g s w h =
-    by_test (ltb s 128)
+    split (ltb s 128)
     (λ e. grind (arith, nat_tests))
     (λ e. absurd (clash (same_mode (g s) NL) (ap (λ m. same_mode m NL) (w s (rw slot_limit-is (grind (arith, nat_tests))))) h))
   where
@@ -85,7 +85,7 @@ fits-weaker : (g : Members) (s : ℕ) (m : Mode) (t : ℕ) (x : Mode) → IsWith
 fits-weaker g s m t x w b h f =
     let all : Fits (with_mode g s m) t x = fits-all slot_limit (with_mode g s m) t x (within-with_mode slot_limit g s m (below-limit s b) w) f in
     fits-from_all slot_limit g t x (λ u ne.
-    by_test (u == s)
+    split (u == s)
     (λ e. let is : u ≡ s = grind (arith, nat_tests) in ap (λ v. are_compatible x (g v)) is ∙ lesser-fits x m (g s) h (sym (ap (are_compatible x) (here g s m u e)) ∙ all u ne))
     (λ e. sym (ap (are_compatible x) (there g s m u e)) ∙ all u ne))
   where

@@ -3,10 +3,10 @@ use Rattle.std.proofs.Common.{◌≡◌, ℕ, ◌+◌, ◌≤◌, Bool, true, fa
 use Rattle.std.specs.Prelude.{◌==◌, if◌then◌else◌}
 use Rattle.std.specs.List.{filter, insert, list_all, prefix_len}
 use Rattle.std.proofs.lemmas.Bool.Decides.{nat_tests}
+use Rattle.gl_modes.proofs.Words.{split}
 use Rattle.gl_modes.specs.declared.mode.Mode.{Mode}
 use Rattle.gl_header.specs.Header.{Members, Waiter, holds, is_among_waiters, placed}
 use Rattle.gl_header.specs.Sound.{is_distinct, all_new, is_ordered, placed_in}
-use Rattle.gl_header.proofs.Ranges.{by_test}
 
 pub placed_in-member : (g : Members) (q : List Waiter) (e : Waiter) → holds g e.0 ≡ true → insert q (prefix_len (λ w. holds g w.0) q) e ≡ placed_in g q e
 placed_in-member g [] e h = refl
@@ -46,7 +46,7 @@ ordered-placed_in g (w ∷ ws) e o = grind (arith, ordered-placed_in g ws e, all
 split-placed : (g : Members) (q : List Waiter) (e : Waiter) → holds g e.0 ≡ true → is_ordered g q ≡ true → placed_in g q e ≡ filter (λ w. holds g w.0) q ++ e ∷ filter (λ w. not (holds g w.0)) q
 split-placed g [] e h o = refl
 split-placed g (w ∷ q) e h o =
-    by_test (holds g w.0)
+    split (holds g w.0)
     (λ k. let r = split-placed g q e h in grind arith)
     (λ k. let r = all-split g q in grind arith)
   where
@@ -56,7 +56,7 @@ split-placed g (w ∷ q) e h o =
 
 pub placed-list : (g : Members) (q : List Waiter) (s : ℕ) (m : Mode) → is_ordered g q ≡ true → placed_in g q (s, m) ≡ placed g q s m
 placed-list g q s m o =
-    by_test (holds g s)
+    split (holds g s)
     (λ h. split-placed g q (s, m) h o ∙ chosen _ _ h)
     (λ h. sym (placed_in-new g q (s, m) h) ∙ other _ _ h)
   where

@@ -1,10 +1,10 @@
 -- What granting from the front does, one waiter after the other.
 use Rattle.std.proofs.Common.{◌≡◌, ◌≤◌, Bool, true, false, not, List, [], ◌∷◌, length, drop, refl, ap, arith}
 use Rattle.std.specs.Prelude.{if◌then◌else◌}
+use Rattle.gl_modes.proofs.Words.{split}
 use Rattle.gl_header.specs.Header.{Members, Waiter, fits, front, after_grants, pumped_members, pumped_queue, with_mode}
 use Rattle.gl_header.specs.State.{slot_limit}
 use Rattle.gl_header.specs.Sound.{IsOrderly, IsLawful, is_stuck}
-use Rattle.gl_header.proofs.Ranges.{by_test}
 use Rattle.gl_header.proofs.Orderly.{orderly-front}
 
 -- members and queue after a front was granted are lawful
@@ -31,7 +31,7 @@ stuck-front g (w ∷ q) k = front-refused g w q (grind arith)
 pub front-stuck : (g : Members) (q : List Waiter) → front slot_limit g q ≡ [] → is_stuck g q ≡ true
 front-stuck g [] k = refl
 front-stuck g (w ∷ q) k =
-    by_test (fits slot_limit g w.0 w.1)
+    split (fits slot_limit g w.0 w.1)
     (λ e. absurd (taken (w ∷ front slot_limit (with_mode g w.0 w.1) q) (fits slot_limit g w.0 w.1) e k))
     (λ e. ap not e)
   where
@@ -44,7 +44,7 @@ pub front-length : (g : Members) (q : List Waiter) → length (front slot_limit 
 front-length g [] = omega arith
 front-length g (w ∷ ws) =
     let r = front-length (with_mode g w.0 w.1) ws in
-    by_test (fits slot_limit g w.0 w.1)
+    split (fits slot_limit g w.0 w.1)
     (λ e. rw (front-granted g w ws e) (omega arith))
     (λ e. rw (front-refused g w ws e) (omega arith))
 

@@ -4,13 +4,13 @@ use Rattle.std.specs.Prelude.{◌==◌}
 use Rattle.std.specs.List.{list_all, list_any, remove, position_or_len, IsDistinct, AllByRecursion}
 use Rattle.std.proofs.lemmas.Map.Steps.{length-le_from_distinct_below}
 use Rattle.std.proofs.lemmas.Bool.Decides.{nat_tests}
+use Rattle.gl_modes.proofs.Words.{and_both, split}
 use Rattle.gl_modes.specs.declared.mode.Mode.{Mode}
 use Rattle.gl_modes.specs.declared.mode.Mode.TheVariants.{NL}
 use Rattle.gl_modes.proofs.ModeLemmas.{not_NL}
 use Rattle.gl_header.specs.Header.{Waiter, is_waiter, is_among_waiters, is_empty, without_waiter}
 use Rattle.gl_header.specs.Entries.{IsPlaceOf, without}
 use Rattle.gl_header.specs.Sound.{is_distinct, is_entry}
-use Rattle.gl_header.proofs.Ranges.{both_true, by_test}
 
 -- a removal
 
@@ -44,8 +44,8 @@ none-filtered (w ∷ q) s h = grind (arith, none-filtered q s)
 pub without-queue : (q : List Waiter) (s : ℕ) → is_distinct q ≡ true → without q s ≡ without_waiter s q
 without-queue [] s d = refl
 without-queue (w ∷ q) s d =
-    let r : without q s ≡ without_waiter s q = without-queue q s (both_true (not (is_among_waiters w.0 q)) _ d).1 in
-    by_test (w.0 == s)
+    let r : without q s ≡ without_waiter s q = without-queue q s (and_both (not (is_among_waiters w.0 q)) _ d).1 in
+    split (w.0 == s)
     (λ e. let h : is_among_waiters s q ≡ false = grind (arith, nat_tests) in let k = none-filtered q s h in grind arith)
     (λ e. grind arith)
 

@@ -4,25 +4,13 @@ use Rattle.std.specs.Prelude.{◌==◌, ◌≢◌, ◌⊎◌}
 use Rattle.std.specs.List.{list_all, range_with_len}
 use Rattle.std.proofs.lemmas.Bool.{cases_eq}
 use Rattle.std.proofs.lemmas.Bool.Decides.{nat_tests}
+use Rattle.gl_modes.proofs.Words.{and_both, split}
 
 -- tests that pass together are equal
 pub equal_tests : (a b : Bool) → (a ≡ true → b ≡ true) → (b ≡ true → a ≡ true) → a ≡ b
 equal_tests true b f g = sym (f refl)
 equal_tests false true f g = g refl
 equal_tests false false f g = refl
-
-pub both_true : (a b : Bool) → (a && b) ≡ true → (a ≡ true) × (b ≡ true)
-both_true true b h = (refl, h)
-both_true false b h = cc
-
--- by cases on a test, with its equation
-pub by_test : {C : Type 0} (b : Bool) → (b ≡ true → C) → (b ≡ false → C) → C
-by_test true f g = f refl
-by_test false f g = g refl
-
-pub not_true : (b : Bool) → (b ≡ true → ⊥) → b ≡ false
-not_true true h = absurd (h refl)
-not_true false h = refl
 
 pub differ : (t u : ℕ) → (t == u) ≡ false → u ≢ t
 differ t u h e = grind (arith, nat_tests)
@@ -38,7 +26,7 @@ below_or_not a b = search (arith)
 pub range-each : (p : ℕ → Bool) (k n : ℕ) → list_all p (range_with_len k n) ≡ true → (u : ℕ) → k ≤ u → u < k + n → p u ≡ true
 range-each p k zero h u l m = absurd (omega arith)
 range-each p k (suc n) h u l m =
-    let b = both_true _ _ h in
+    let b = and_both _ _ h in
     ⊎_elim (λ e. ap p e ∙ b.0) (λ ne. range-each p (k + 1) n b.1 u (omega arith) (omega arith)) (cases_eq u k)
 
 pub range-from_each : (p : ℕ → Bool) (k n : ℕ) → ((u : ℕ) → k ≤ u → u < k + n → p u ≡ true) → list_all p (range_with_len k n) ≡ true
@@ -51,4 +39,4 @@ range-from_each p k (suc n) h =
 -- a range whose numbers do not all pass has one that does not
 pub range-fails : (p : ℕ → Bool) (k n : ℕ) → list_all p (range_with_len k n) ≡ false → (u : ℕ) × (p u ≡ false)
 range-fails p k zero h = cc
-range-fails p k (suc n) h = by_test (p k) (λ e. range-fails p (k + 1) n (grind arith)) (λ e. (k, e))
+range-fails p k (suc n) h = split (p k) (λ e. range-fails p (k + 1) n (grind arith)) (λ e. (k, e))

@@ -10,8 +10,9 @@ use Rattle.gl_modes.specs.Modes.{same_mode}
 use Rattle.gl_modes.proofs.ModeLemmas.{same_mode-equal}
 use Rattle.gl_header.specs.Header.{Members, Waiter, IsWithin, holds, is_empty}
 use Rattle.gl_header.specs.State.{HeaderState, IsLawfulHeader, members_of, nobody_holds, is_unused, slot_limit, unused_header}
-use Rattle.gl_header.proofs.Ranges.{both_true, by_test, below_or_not, range-each, range-fails}
+use Rattle.gl_header.proofs.Ranges.{below_or_not, range-each, range-fails}
 use Rattle.gl_header.proofs.Fits.{within-limit}
+use Rattle.gl_modes.proofs.Words.{clash, and_both, split}
 
 not-held : (m : Mode) → not (not (same_mode m NL)) ≡ true → m ≡ NL
 not-held m h = same_mode-equal m NL (twice (same_mode m NL) h)
@@ -32,7 +33,7 @@ nobody_holds-all most g w h t =
 -- nobody holds, and nobody waits
 pub unused-true : (h : HeaderState) → IsLawfulHeader h → is_unused h ≡ true → ((t : ℕ) → members_of h t ≡ NL) × (h.queue ≡ [])
 unused-true h l u =
-    let b = both_true (nobody_holds slot_limit (members_of h)) (is_empty h.queue) u in
+    let b = and_both (nobody_holds slot_limit (members_of h)) (is_empty h.queue) u in
     (nobody_holds-all slot_limit (members_of h) (within-limit 128 (members_of h) (omega arith) l.members_below) b.0, empty-list h.queue b.1)
 
 held-by : (b : Bool) → not b ≡ false → b ≡ true
@@ -42,7 +43,7 @@ held-by false h = cc
 -- somebody holds, or somebody waits
 pub unused-false : (h : HeaderState) → is_unused h ≡ false → ((t : ℕ) × (holds (members_of h) t ≡ true)) ⊎ (is_empty h.queue ≡ false)
 unused-false h u =
-    by_test (is_empty h.queue)
+    split (is_empty h.queue)
     (λ e.
     let n : nobody_holds slot_limit (members_of h) ≡ false = first (nobody_holds slot_limit (members_of h)) (is_empty h.queue) e u in
     let f = range-fails (λ t. not (holds (members_of h) t)) 0 slot_limit n in
@@ -50,11 +51,7 @@ unused-false h u =
     (λ e. inr e)
   where
     first : (a b : Bool) → b ≡ true → (a && b) ≡ false → a ≡ false
-    first true b h k = absurd (clash b h k)
-      where
-        clash : (b : Bool) → b ≡ true → b ≡ false → ⊥
-        clash true h k = cc
-        clash false h k = cc
+    first true b h k = absurd (clash h k)
     first false b h k = refl
 
 -- nobody holds an unused header

@@ -1,9 +1,9 @@
 -- Who waits, by the queue and by the wanted mode.
 use Rattle.std.proofs.Common.{◌≡◌, ℕ, true, false, Some, None, List, [], ◌∷◌, refl, arith}
 use Rattle.std.specs.Prelude.{◌==◌}
+use Rattle.gl_modes.proofs.Words.{split}
 use Rattle.gl_modes.specs.declared.mode.Mode.{Mode}
 use Rattle.gl_header.specs.Header.{Waiter, is_among_waiters, wanted_by}
-use Rattle.gl_header.proofs.Ranges.{by_test}
 
 -- a slot waits exactly where it wants a mode
 
@@ -22,6 +22,6 @@ wanted-absent (w ∷ q) t h = grind (arith, wanted-absent q t)
 pub wanted-present : (q : List Waiter) (t : ℕ) → is_among_waiters t q ≡ true → (m : Mode) × (wanted_by q t ≡ Some m)
 wanted-present [] t h = cc
 wanted-present (w ∷ q) t h =
-    by_test (w.0 == t)
+    split (w.0 == t)
     (λ e. (w.1, grind arith))
     (λ e. let r = wanted-present q t (grind arith) in (r.0, grind arith))

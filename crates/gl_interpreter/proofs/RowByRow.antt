@@ -6,16 +6,16 @@ use Rattle.std.proofs.Math.Path.{fun_ext}
 use Rattle.std.proofs.lemmas.List.{flat_map_more, get_or_default, take_more}
 use Rattle.std.proofs.lemmas.List.FromFn.{map-range_with_len_more}
 use Rattle.std.proofs.lemmas.Option.{get_or_from_slice_get, slice_get_within}
+use Rattle.gl_modes.proofs.Words.{no, none_some}
 use Rattle.gl_modes.specs.declared.refusal.Refusal.{Refusal}
-use Rattle.gl_graph.proofs.Look.{no, none_some}
 use Rattle.gl_slots.specs.declared.slots.Slots.{Slots}
 use Rattle.gl_slots.specs.Slots.{has_slot, slot_limit, slots_of}
 use Rattle.gl_table.specs.declared.deadlock.Stuck.{Stuck}
-use Rattle.gl_table.specs.declared.lock_row.LockRow.{LockRow}
+use Rattle.gl_table.specs.declared.answers.LockRow.{LockRow}
 use Rattle.gl_table.specs.declared.txn.TxnId.{TxnId}
-use Rattle.gl_table.specs.Answers.{RefusesOnly}
-use Rattle.gl_table.specs.Listing.{AreRowsOf}
-use Rattle.gl_table.specs.State.{State}
+use Rattle.gl_table.specs.model.Calls.{RefusesOnly}
+use Rattle.gl_table.specs.model.Table.{AreRowsOf}
+use Rattle.gl_table.specs.model.State.{State}
 use Rattle.gl_catalog.specs.Manager.{counting}
 use Rattle.gl_interpreter.specs.Printed.{refusal_line}
 use Rattle.gl_interpreter.specs.Script.{Script}

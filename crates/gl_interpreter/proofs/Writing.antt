@@ -37,9 +37,6 @@ Handed-sent first w w' held true text h s =
 Handed-sent first w w' held false text h s =
     (h.0 ++ s.0, Appends-then first w w' h.0 s.0 h.1 s.2, (s.1, h.2 ∙ ap (λ l. h.0 ++ l) s.3 ∙ sym (append_assoc h.0 s.0 s.1)))
 
-pub Handed-dropped : (first w : Option (List ℕ)) (held held' text : List ℕ) → Handed first w held true text → Handed first w held' true text
-Handed-dropped first w held held' text h = h
-
 pub Hands-none : (w : Option (List ℕ)) (s : Sink) → Hands w s w s []
 unfolding Hands
 Hands-none w s first before h = subst (Holds first w s) (sym (append-nil before)) h

@@ -8,9 +8,9 @@ use Rattle.gl_graph.specs.Graph.{Graph, interval_at}
 use Rattle.gl_words.specs.declared.requests.Choices.{Choices}
 use Rattle.gl_table.specs.declared.txn.TxnId.{TxnId}
 use Rattle.gl_table.specs.declared.deadlock.Deadlock.{Deadlock}
-use Rattle.gl_table.specs.Deadlocks.{no_deadlock}
-use Rattle.gl_table.specs.State.{State, choosing, empty_state}
-use Rattle.gl_table.specs.Tellings.{Told}
+use Rattle.gl_table.specs.model.Deadlocks.{no_deadlock}
+use Rattle.gl_table.specs.model.State.{State, choosing, empty_state}
+use Rattle.gl_table.specs.model.Tellings.{Told}
 use Rattle.gl_catalog.specs.declared.command.Answer.{Answer}
 use Rattle.gl_catalog.specs.declared.command.Answer.TheVariants as answer
 use Rattle.gl_catalog.specs.declared.command.Command.{Command as Asked}

@@ -1,8 +1,11 @@
--- `same_node` is equality, both ways.
+-- Names of nodes: `same_node` is equality, both ways. For the proofs of every crate above.
 use Rattle.std.proofs.Common.{◌≡◌, ◌≢◌, Bool, true, false, refl, subst, arith}
 use Rattle.std.proofs.lemmas.Bool.Decides.{nat_tests}
 use Rattle.gl_modes.specs.declared.node.NodeId.{NodeId}
 use Rattle.gl_modes.specs.Nodes.{same_node}
+
+pub node_is : (a b : NodeId) → a.key ≡ b.key → a.birth ≡ b.birth → a ≡ b
+node_is a b k l = λ i. record { key = k i; birth = l i }
 
 pub same_node-equal : (a b : NodeId) → same_node a b ≡ true → a ≡ b
 same_node-equal a b h =

@@ -2,7 +2,7 @@
 //! what was not served.
 
 ghost use Rattle.std.specs.Prelude.{◌≡◌};
-ghost use Rattle.gl_table.specs.BoardOf.{board_of};
+ghost use Rattle.gl_table.specs.model.Table.{board_of};
 ghost use Rattle.gl_catalog.specs.Manager.{state_of};
 
 use crate::stage::{add_node, add_root, begin};

@@ -1,7 +1,7 @@
 //! What a sleeping session is woken with, and what notes and looks show.
 
 ghost use Rattle.std.specs.Prelude.{◌≡◌};
-ghost use Rattle.gl_table.specs.BoardOf.{board_of};
+ghost use Rattle.gl_table.specs.model.Table.{board_of};
 ghost use Rattle.gl_catalog.specs.Manager.{state_of};
 
 use gl_catalog::{Answer, Command, Manager};

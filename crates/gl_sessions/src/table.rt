@@ -1,7 +1,7 @@
 //! A shared table and a manager beside it, to which the same commands are put.
 
 ghost use Rattle.std.specs.Prelude.{◌≡◌};
-ghost use Rattle.gl_table.specs.BoardOf.{board_of};
+ghost use Rattle.gl_table.specs.model.Table.{board_of};
 ghost use Rattle.gl_catalog.specs.Manager.{state_of};
 
 use crate::steps::{Alone, Made, Step, Through, take};

@@ -6,12 +6,11 @@ ghost use Rattle.gl_header.specs.Header.{is_ahead};
 ghost use Rattle.gl_header.specs.State.{members_of};
 ghost use Rattle.gl_slots.specs.Slots.{has_slot as is_in};
 ghost use Rattle.gl_waits.specs.Sets.{has_slot};
-ghost use Rattle.gl_table.specs.BoardOf.{board_of, shown};
+ghost use Rattle.gl_table.specs.model.Table.{board_of, shown};
 ghost use Rattle.gl_table.specs.declared.txn.Status.TheVariants.{Waiting};
-ghost use Rattle.gl_table.specs.Headers.{AreHeaders, held_of, queue_of};
-ghost use Rattle.gl_table.specs.Seats.{txns_of};
-ghost use Rattle.gl_table.specs.State.{age_in, status_in};
-ghost use Rattle.gl_table.specs.Waiting.{waits_for};
+ghost use Rattle.gl_table.specs.inside.Headers.{AreHeaders, held_of, queue_of};
+ghost use Rattle.gl_table.specs.inside.Seats.{txns_of};
+ghost use Rattle.gl_table.specs.model.State.{age_in, status_in, waits_for};
 
 use crate::headers::{Headers, waits_for};
 use crate::seat::Seat;
@@ -102,8 +101,8 @@ pub(crate) struct Waits<'a> {
 }
 
 impl WaitsFor for Waits<'_> {
-    ghost use Rattle.gl_table.specs.BoardOf.{shown};
-    ghost use Rattle.gl_table.specs.Waiting.{waits_for};
+    ghost use Rattle.gl_table.specs.model.Table.{shown};
+    ghost use Rattle.gl_table.specs.model.State.{waits_for};
 
     ghost edge = { λ it. waits_for (shown it.headers.now.entries it.seats.now 0) };
 

@@ -2,7 +2,7 @@
 
 ghost use Rattle.std.specs.Prelude.{◌≡◌};
 ghost use Rattle.gl_slots.specs.Slots.{no_slots};
-ghost use Rattle.gl_table.specs.Deadlocks.{no_deadlock};
+ghost use Rattle.gl_table.specs.model.Deadlocks.{no_deadlock};
 
 use crate::txn::TxnId;
 use arrayvec::ArrayVec;

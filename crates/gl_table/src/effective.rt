@@ -6,10 +6,10 @@ ghost use Rattle.gl_modes.specs.Modes.{same_mode};
 ghost use Rattle.gl_graph.specs.Graph.{is_live, node_count};
 ghost use Rattle.gl_graph.specs.Seen.{with_all};
 ghost use Rattle.gl_graph.specs.View.{graph_of};
-ghost use Rattle.gl_table.specs.Effects.{eff_s, eff_x, effect_on};
-ghost use Rattle.gl_table.specs.Lists.{mode_of};
+ghost use Rattle.gl_table.specs.model.Lawful.{eff_s, eff_x, effect_on};
+ghost use Rattle.gl_table.specs.inside.Lists.{mode_of};
 
-use crate::effect::Effect;
+use crate::answers::Effect;
 use crate::list::LockList;
 use gl_graph::Graph;
 use gl_modes::{Mode, NodeId, covers};

@@ -19,7 +19,7 @@ ghost use Rattle.gl_header.specs.Header.{
   with_mode,
   without_waiter,
 };
-ghost use Rattle.gl_table.specs.Headers.{
+ghost use Rattle.gl_table.specs.inside.Headers.{
   AreHeaders,
   AreHeadersBut,
   header_at,

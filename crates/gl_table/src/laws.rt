@@ -1,7 +1,7 @@
 //! The laws of the model, each the contract of a call that does nothing.
 
-ghost use Rattle.gl_table.specs.Deadlocks.{KeepingSettles, RowsLeadOn, VictimHasRow};
-ghost use Rattle.gl_table.specs.Laws.{ChainsEnd, CondemningFrees, CutSetLaw, LawfulCutSet, LawfulNoConflict, NoConflictLaw, OneFalls, SettlingEnds, SettlingFrees};
+ghost use Rattle.gl_table.specs.model.Deadlocks.{KeepingSettles, RowsLeadOn, VictimHasRow};
+ghost use Rattle.gl_table.specs.model.Lawful.{ChainsEnd, CondemningFrees, CutSetLaw, LawfulCutSet, LawfulNoConflict, NoConflictLaw, OneFalls, SettlingEnds, SettlingFrees};
 
 /// Where the grants of different transactions on each node are compatible, and every grant meets the
 /// rule of the graph, no two transactions hold conflicting effective modes on any node. In a lawful

@@ -10,33 +10,37 @@ ghost use Rattle.std.specs.List.{find, list_any};
 ghost use Rattle.gl_graph.specs.Graph.{is_child, is_live, nodes, parents_of};
 ghost use Rattle.gl_graph.specs.View.{graph_of};
 ghost use Rattle.gl_header.specs.Header.{holds, is_among_waiters};
-ghost use Rattle.gl_table.specs.Calls.{unlocked};
-ghost use Rattle.gl_table.specs.Intends.{is_write};
-ghost use Rattle.gl_table.specs.Locks.{Agrees, AreSound, CountsHeld, IsOrderly, state_on};
-ghost use Rattle.gl_table.specs.Pumps.{front_at, is_waiting_at, pumped, without_wait};
-ghost use Rattle.gl_table.specs.Locks.{AreNew};
-ghost use Rattle.gl_table.specs.Seats.{txn_in, txns_of};
-ghost use Rattle.gl_table.specs.Effects.{effect_on};
-ghost use Rattle.gl_table.specs.Listing.{row_of};
-ghost use Rattle.gl_table.specs.Slots.{CanWake, Wakes, WakesLists, WakesTold, by_list, counted_by, held_by};
-ghost use Rattle.gl_table.specs.State.{members, with_grant};
-ghost use Rattle.gl_table.specs.Telling.{IsBySlot, notices_in};
+ghost use Rattle.gl_table.specs.model.Calls.{unlocked};
+ghost use Rattle.gl_table.specs.model.State.{is_write, front_at, is_waiting_at, pumped, without_wait, members, with_grant};
+ghost use Rattle.gl_table.specs.inside.Locks.{Agrees, AreSound, CountsHeld, IsOrderly, state_in, AreNew};
+ghost use Rattle.gl_table.specs.inside.Seats.{txn_in, txns_of};
+ghost use Rattle.gl_table.specs.model.Lawful.{effect_on};
+ghost use Rattle.gl_table.specs.model.Table.{row_of};
+ghost use Rattle.gl_table.specs.inside.Slots.{CanTell, CanWake, IsBySlot, Wakes, WakesLists, WakesTold, by_list, counted_by, held_by, notices_in};
 
-use crate::effect::Effect;
+use crate::answers::{Effect, LockRow, Told};
 use crate::effective::effective;
 use crate::headers::{Headers, drop_grant, drop_wait};
 use crate::list::LockList;
-use crate::lock_row::LockRow;
-use crate::notice::Told;
 use crate::seat::Seat;
 use crate::seats::Seats;
 use crate::txn::Status;
-use crate::waking::wake;
 use gl_graph::Graph;
 use gl_header::GrantList;
 use gl_modes::{Mode, NodeId};
 use indexmap::IndexMap;
 use std::alloc::{AllocError, Global};
+
+mod ask;
+mod end;
+mod keep;
+mod leave;
+pub(crate) mod moves;
+mod place;
+mod settle;
+mod shed;
+mod wake;
+mod withdraw;
 
 /// Who holds what and who waits where. The same is kept twice, so that neither way of asking is a
 /// search: by node in the headers, and by transaction in the lists.
@@ -161,17 +165,16 @@ impl Locks {
         told: &mut Told,
     )
         requires sound { AreSound self.old }
-        requires orderly { IsOrderly (state_on (graph_of graph.now) self.old) }
-        requires holds { holds (members (state_on (graph_of graph.now) self.old) node) slot ≡ true }
-        requires no_wait { is_among_waiters slot ((state_on (graph_of graph.now) self.old).queue node) ≡ false }
-        requires agree { (u : ℕ) → is_among_waiters u ((state_on (graph_of graph.now) self.old).queue node) ≡ true → Agrees (state_on (graph_of graph.now) self.old) self.old.lists.items u }
-        requires count { (u : ℕ) → is_among_waiters u ((state_on (graph_of graph.now) self.old).queue node) ≡ true → CountsHeld (state_on (graph_of graph.now) self.old) self.old.lists.items u }
-        requires by_slot { IsBySlot told.old.items }
-        requires untold { (u : ℕ) → is_among_waiters u ((state_on (graph_of graph.now) self.old).queue node) ≡ true → notices_in told.old.items u ≡ None }
+        requires orderly { IsOrderly (state_in graph.now self.old) }
+        requires holds { holds (members (state_in graph.now self.old) node) slot ≡ true }
+        requires no_wait { is_among_waiters slot ((state_in graph.now self.old).queue node) ≡ false }
+        requires agree { (u : ℕ) → is_among_waiters u ((state_in graph.now self.old).queue node) ≡ true → Agrees (state_in graph.now self.old) self.old.lists.items u }
+        requires count { (u : ℕ) → is_among_waiters u ((state_in graph.now self.old).queue node) ≡ true → CountsHeld (state_in graph.now self.old) self.old.lists.items u }
+        requires tell { CanTell told.old.items (λ u. is_among_waiters u ((state_in graph.now self.old).queue node)) }
         ensures sound { AreSound self.new }
-        ensures state { state_on (graph_of graph.now) self.new ≡ unlocked (state_on (graph_of graph.now) self.old) slot node }
-        ensures lists { WakesLists self.old.lists.items node (parents_of (graph_of graph.now) node) (front_at (with_grant (state_on (graph_of graph.now) self.old) slot node NL) node) self.new.lists.items }
-        ensures tells { WakesTold (state_on (graph_of graph.now) self.old).txns node (front_at (with_grant (state_on (graph_of graph.now) self.old) slot node NL) node) told.old.items told.new.items }
+        ensures state { state_in graph.now self.new ≡ unlocked (state_in graph.now self.old) slot node }
+        ensures lists { WakesLists self.old.lists.items node (parents_of (graph_of graph.now) node) (front_at (with_grant (state_in graph.now self.old) slot node NL) node) self.new.lists.items }
+        ensures tells { WakesTold (state_in graph.now self.old).txns node (front_at (with_grant (state_in graph.now self.old) slot node NL) node) told.old.items told.new.items }
     {
         graph.law();
         drop_grant(&mut self.headers, slot, node, granted);
@@ -189,16 +192,16 @@ impl Locks {
         told: &mut Told,
     )
         requires sound { AreSound self.old }
-        requires orderly { IsOrderly (state_on (graph_of graph.now) self.old) }
-        requires waits { is_waiting_at (state_on (graph_of graph.now) self.old) slot node ≡ true }
-        requires agree { (u : ℕ) → is_among_waiters u ((state_on (graph_of graph.now) self.old).queue node) ≡ true → Agrees (state_on (graph_of graph.now) self.old) self.old.lists.items u }
-        requires count { (u : ℕ) → is_among_waiters u ((state_on (graph_of graph.now) self.old).queue node) ≡ true → CountsHeld (state_on (graph_of graph.now) self.old) self.old.lists.items u }
+        requires orderly { IsOrderly (state_in graph.now self.old) }
+        requires waits { is_waiting_at (state_in graph.now self.old) slot node ≡ true }
+        requires agree { (u : ℕ) → is_among_waiters u ((state_in graph.now self.old).queue node) ≡ true → Agrees (state_in graph.now self.old) self.old.lists.items u }
+        requires count { (u : ℕ) → is_among_waiters u ((state_in graph.now self.old).queue node) ≡ true → CountsHeld (state_in graph.now self.old) self.old.lists.items u }
         requires by_slot { IsBySlot told.old.items }
-        requires untold { (u : ℕ) → is_among_waiters u ((state_on (graph_of graph.now) self.old).queue node) ≡ true → (u == slot) ≡ false → notices_in told.old.items u ≡ None }
+        requires untold { (u : ℕ) → is_among_waiters u ((state_in graph.now self.old).queue node) ≡ true → (u == slot) ≡ false → notices_in told.old.items u ≡ None }
         ensures sound { AreSound self.new }
-        ensures state { state_on (graph_of graph.now) self.new ≡ pumped (without_wait (state_on (graph_of graph.now) self.old) slot status) (is_waiting_at (state_on (graph_of graph.now) self.old) slot) }
-        ensures lists { WakesLists self.old.lists.items node (parents_of (graph_of graph.now) node) (front_at (without_wait (state_on (graph_of graph.now) self.old) slot status) node) self.new.lists.items }
-        ensures tells { WakesTold (state_on (graph_of graph.now) self.old).txns node (front_at (without_wait (state_on (graph_of graph.now) self.old) slot status) node) told.old.items told.new.items }
+        ensures state { state_in graph.now self.new ≡ pumped (without_wait (state_in graph.now self.old) slot status) (is_waiting_at (state_in graph.now self.old) slot) }
+        ensures lists { WakesLists self.old.lists.items node (parents_of (graph_of graph.now) node) (front_at (without_wait (state_in graph.now self.old) slot status) node) self.new.lists.items }
+        ensures tells { WakesTold (state_in graph.now self.old).txns node (front_at (without_wait (state_in graph.now self.old) slot status) node) told.old.items told.new.items }
     {
         graph.law();
         let mut granted = GrantList::new();
@@ -217,7 +220,7 @@ impl Locks {
         if granted.is_empty() {
             return; // As mostly: the parents are looked up only where somebody is granted.
         }
-        wake(
+        wake::wake(
             &mut self.seats,
             &mut self.lists,
             told,

@@ -5,9 +5,9 @@ ghost use Rattle.std.specs.List.{list_any};
 ghost use Rattle.gl_modes.specs.declared.mode.Mode.TheVariants.{IS};
 ghost use Rattle.gl_modes.specs.Modes.{is_at_least};
 ghost use Rattle.gl_graph.specs.Refusals.{verdict};
-ghost use Rattle.gl_table.specs.Intends.{no_parents};
-ghost use Rattle.gl_table.specs.Lists.{mode_of};
-ghost use Rattle.gl_table.specs.Refusals.{first_not_ix, first_of_all, rule_refusal};
+ghost use Rattle.gl_table.specs.model.State.{no_parents};
+ghost use Rattle.gl_table.specs.inside.Lists.{mode_of};
+ghost use Rattle.gl_table.specs.model.Calls.{first_not_ix, first_of_all, rule_refusal};
 
 use crate::list::LockList;
 use gl_modes::{Mode, NodeId, Refusal, covers};
@@ -15,7 +15,7 @@ use gl_modes::{Mode, NodeId, Refusal, covers};
 /// Whether the rule of the graph lets this transaction have this mode on a node with these parents:
 /// to write, IX or greater on each; to read, IS or greater on one, and nothing for a root. Refused
 /// with `NeedParents`: the first parent that is wanting, to read the first of all.
-#[tactic(auto, using(crate::proofs::Rules::rule_steps))]
+#[tactic(auto, using(crate::proofs::calls::Queries::rule_steps))]
 pub(crate) fn check_rule(list: &LockList, parents: &[NodeId], mode: Mode) -> Result<(), Refusal>
     ensures { result ≡ verdict (rule_refusal (mode_of list.now) parents.now mode) }
 {
@@ -27,7 +27,7 @@ pub(crate) fn check_rule(list: &LockList, parents: &[NodeId], mode: Mode) -> Res
 }
 
 /// Whether each of these is held in IX or greater.
-#[tactic(auto, using(crate::proofs::Rules::writable_steps))]
+#[tactic(auto, using(crate::proofs::calls::Queries::writable_steps))]
 pub(crate) fn check_writable(list: &LockList, parents: &[NodeId]) -> Result<(), Refusal>
     ensures { result ≡ verdict (first_not_ix (mode_of list.now) parents.now) }
 {

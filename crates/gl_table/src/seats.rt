@@ -1,8 +1,8 @@
 //! The seats of all transactions, by slot.
 
 ghost use Rattle.std.specs.Prelude.{◌≡◌, ◌<◌, ◌≤◌, ◌==◌, ℕ, IfOk, None, Some, if◌then◌else◌, length, position, replicate, slice_set};
-ghost use Rattle.gl_table.specs.State.{age_in, restatus};
-ghost use Rattle.gl_table.specs.Seats.{is_free, txn_in, txns_of};
+ghost use Rattle.gl_table.specs.model.State.{age_in, restatus};
+ghost use Rattle.gl_table.specs.inside.Seats.{is_free, txn_in, txns_of};
 
 use crate::seat::Seat;
 use crate::txn::Status;
@@ -19,11 +19,11 @@ pub(crate) struct Seats {
 }
 
 impl Model for Seats {
-    ghost use Rattle.gl_table.specs.Seats.{SeatList};
+    ghost use Rattle.gl_table.specs.inside.Seats.{SeatList};
 
     ghost Value = { SeatList };
 
-    ghost use Rattle.gl_table.specs.Seating.{IsSeating, seats_of};
+    ghost use Rattle.gl_table.specs.inside.Seating.{IsSeating, seats_of};
 
     ghost view = { seats_of };
 

@@ -3,17 +3,15 @@
 ghost use Rattle.std.specs.Prelude.{◌≡◌, ◌≤◌, ◌<◌, ◌+◌, ◌&&◌, ◌↔◌, ℕ, [], IfErr, IfOk, IfSome, IsNone, None, OnErr, OnOk, Some, if◌then◌else◌};
 ghost use Rattle.gl_modes.specs.declared.refusal.Refusal.{Refusal as ARefusal};
 ghost use Rattle.gl_graph.specs.View.{graph_of};
-ghost use Rattle.gl_table.specs.Deadlocks.{no_deadlock};
-ghost use Rattle.gl_table.specs.Effects.{HasNoConflict};
-ghost use Rattle.gl_table.specs.Headers.{AreHeaders};
-ghost use Rattle.gl_table.specs.Lawful.{IsLawful};
-ghost use Rattle.gl_table.specs.State.{choosing, empty_state, lives, status_of};
-ghost use Rattle.gl_table.specs.Table.{ListsAgree, StandOnce, state_of};
-ghost use Rattle.gl_table.specs.Waiting.{HasNoCycle};
-ghost use Rattle.gl_table.specs.declared.detect.Detect.TheVariants.{AtBlock};
+ghost use Rattle.gl_table.specs.model.Deadlocks.{no_deadlock};
+ghost use Rattle.gl_table.specs.model.Lawful.{HasNoConflict, IsLawful};
+ghost use Rattle.gl_table.specs.inside.Headers.{AreHeaders};
+ghost use Rattle.gl_table.specs.model.State.{choosing, empty_state, lives, status_of, HasNoCycle};
+ghost use Rattle.gl_table.specs.model.Table.{ListsAgree, StandOnce, state_of};
+ghost use Rattle.gl_table.specs.declared.answers.Detect.TheVariants.{AtBlock};
 
+use crate::answers::Detect;
 use crate::deadlock::Deadlock;
-use crate::detect::Detect;
 use crate::locks::Locks;
 use crate::txn::{Status, TxnId};
 use gl_graph::Graph;
@@ -22,6 +20,7 @@ use gl_waits::Victims;
 use std::alloc::{AllocError, Global};
 use std::marker::Model;
 
+mod answering;
 mod begin;
 mod checks;
 mod listing;
@@ -46,11 +45,11 @@ pub struct Table {
 }
 
 impl Model for Table {
-    ghost use Rattle.gl_table.specs.Table.{TableView};
+    ghost use Rattle.gl_table.specs.model.Table.{TableView};
 
     ghost Value = { TableView };
 
-    ghost use Rattle.gl_table.specs.Sound.{view_of, IsSound};
+    ghost use Rattle.gl_table.specs.inside.Sound.{view_of, IsSound};
 
     ghost view = { view_of };
 

@@ -1,8 +1,7 @@
 //! What the manager counts of each command.
 
 ghost use Rattle.std.specs.Prelude.{◌≡◌, if◌then◌else◌, length};
-ghost use Rattle.gl_table.specs.State.{State, status_of};
-ghost use Rattle.gl_table.specs.Waiting.{is_wait};
+ghost use Rattle.gl_table.specs.model.State.{State, status_of, is_wait};
 ghost use Rattle.gl_catalog.specs.Counters.{converts, counted, holds_already, queue_asked, waiting_in, waits};
 ghost use Rattle.gl_catalog.specs.Manager.{state_of};
 

@@ -5,16 +5,13 @@ ghost use Rattle.std.specs.Prelude.{◌≡◌, ◌||◌, ℕ, IfOk, None, Some, 
 ghost use Rattle.gl_graph.specs.Refusals.{first_refusal};
 ghost use Rattle.gl_header.specs.Header.{holds};
 ghost use Rattle.gl_slots.specs.Slots.{has_slot};
-ghost use Rattle.gl_table.specs.Answers.{RefusesOnly};
-ghost use Rattle.gl_table.specs.Listing.{AreRowsOf, living_in, rows_of};
-ghost use Rattle.gl_table.specs.Refusals.{group_tests, living_tests};
-ghost use Rattle.gl_table.specs.State.{lives, members};
-ghost use Rattle.gl_table.specs.Table.{state_of};
-ghost use Rattle.gl_table.specs.Waiting.{waits_for};
+ghost use Rattle.gl_table.specs.model.Calls.{RefusesOnly, group_tests, living_tests};
+ghost use Rattle.gl_table.specs.model.Table.{AreRowsOf, living_in, rows_of, state_of};
+ghost use Rattle.gl_table.specs.model.State.{lives, members, waits_for};
 
 use super::Table;
+use crate::answers::LockRow;
 use crate::headers::{holders, queue, waits_for};
-use crate::lock_row::LockRow;
 use crate::txn::{Status, TxnId};
 use gl_modes::{Mode, NodeId, Refusal};
 use gl_slots::Slots;

@@ -1,54 +1,27 @@
 //! Locks are asked for.
 
-ghost use Rattle.std.specs.Prelude.{◌≡◌, ◌&&◌, ◌||◌, [], IfErr, IfOk, IsOk, None, OnErr, OnOk, not, true};
+ghost use Rattle.std.specs.Prelude.{◌≡◌, ◌&&◌, ◌||◌, [], IfOk, IsOk, None, OnErr, OnOk, not, true};
 ghost use Rattle.gl_modes.specs.declared.mode.Mode.TheVariants.{NL, S, X};
 ghost use Rattle.gl_modes.specs.Modes.{same_mode};
 ghost use Rattle.gl_graph.specs.Graph.{shape_of};
 ghost use Rattle.gl_graph.specs.Refusals.{Refuses, first_refusal};
 ghost use Rattle.gl_graph.specs.Shapes.{is_record_shape};
 ghost use Rattle.gl_header.specs.Header.{holds};
-ghost use Rattle.gl_table.specs.Answers.{answered, locked_as};
-ghost use Rattle.gl_table.specs.Calls.{Locks, enters_at, granted, wanted};
-ghost use Rattle.gl_table.specs.Deadlocks.{LocksKeeping};
-ghost use Rattle.gl_table.specs.Refusals.{lock_tests, try_tests};
-ghost use Rattle.gl_table.specs.State.{members, status_of};
-ghost use Rattle.gl_table.specs.Table.{state_of};
-ghost use Rattle.gl_table.specs.Tellings.{told_but};
+ghost use Rattle.gl_table.specs.model.Calls.{answered, locked_as, Locks, enters_at, granted, wanted, lock_tests, try_tests};
+ghost use Rattle.gl_table.specs.model.Deadlocks.{LocksKeeping};
+ghost use Rattle.gl_table.specs.model.State.{members, status_of};
+ghost use Rattle.gl_table.specs.model.Table.{state_of};
+ghost use Rattle.gl_table.specs.model.Tellings.{told_but};
 
 use super::Table;
+use crate::answers::{Locked, Told};
 use crate::headers::would_grant;
-use crate::notice::Told;
-use crate::outcome::Locked;
 use crate::txn::TxnId;
 use gl_graph::Kind;
 use gl_header::Asked;
 use gl_modes::{Mode, NodeId, Refusal, sup};
 
 impl Table {
-    /// Asks for a mode on a node, and waits where it cannot be granted at once. What is granted is
-    /// the supremum of the held and the asked mode. With detection at block, the asker is settled then:
-    /// victims are condemned until it is on no cycle, and the last deadlock that this ends is kept.
-    /// Answers what the ask came to, and who else is told of a grant or of being a victim, by rising
-    /// slot.
-    ///
-    /// Refused, in this order, with `NoSuchTxn`, `TxnWaiting`, `TxnCondemned`, `NoSuchNode`,
-    /// `BadMode` (`NL`, or other than `S` and `X` on a record), `NeedParents` and `NoMemory`, which
-    /// a conversion granted at once never meets.
-    pub fn lock(&mut self, t: TxnId, n: NodeId, mode: Mode) -> Result<(Locked, Told), Refusal>
-        ensures answer { IfOk result (λ answer. answer.0 ≡ locked_as ((state_of self.new).held t.slot n) (status_of (state_of self.new) t.slot)) }
-        ensures told { IfOk result (λ answer. answer.1.items ≡ told_but t.slot (state_of self.old) (state_of self.new)) }
-        ensures state { OnOk result (Locks (state_of self.old) t.slot n mode (state_of self.new)) }
-        ensures deadlock { OnOk result (LocksKeeping (state_of self.old) t.slot n mode self.old.deadlock (state_of self.new) self.new.deadlock) }
-        ensures refuses { Refuses (first_refusal (lock_tests (state_of self.old) t n mode)) result }
-        ensures held { first_refusal (lock_tests (state_of self.old) t n mode) ≡ None → enters_at (state_of self.old) t.slot n mode ≡ true
-            → holds (members (state_of self.old) n) t.slot ≡ true → IsOk result }
-        ensures err { OnErr result (self.new ≡ self.old) }
-    {
-        let mut told = Told::new();
-        let locked = self.lock_telling(t, n, mode, &mut told)?;
-        Ok((locked, told))
-    }
-
     /// As `lock`, with the notices put into an empty list.
     pub fn lock_telling(
         &mut self,

@@ -8,15 +8,14 @@ ghost use Rattle.gl_graph.specs.Changes.{IsBorn};
 ghost use Rattle.gl_graph.specs.Graph.{indexes_of, record_parents, shape_of};
 ghost use Rattle.gl_graph.specs.Refusals.{Refuses, first_refusal, record_refusal, too_many_nodes, worn_births};
 ghost use Rattle.gl_graph.specs.Shapes.{Rec, is_file_shape, is_record_shape};
-ghost use Rattle.gl_table.specs.Calls.{deleted};
-ghost use Rattle.gl_table.specs.Refusals.{first_not_ix};
-ghost use Rattle.gl_table.specs.State.{lives, status_of, with_grant, with_graph};
-ghost use Rattle.gl_table.specs.Table.{state_of};
-ghost use Rattle.gl_table.specs.Tellings.{told};
+ghost use Rattle.gl_table.specs.model.Calls.{deleted, first_not_ix};
+ghost use Rattle.gl_table.specs.model.State.{lives, status_of, with_grant, with_graph};
+ghost use Rattle.gl_table.specs.model.Table.{state_of};
+ghost use Rattle.gl_table.specs.model.Tellings.{told};
 ghost use Rattle.gl_table.specs.declared.txn.Status.TheVariants.{Active};
 
 use super::Table;
-use crate::notice::Told;
+use crate::answers::Told;
 use crate::txn::TxnId;
 use gl_modes::{NodeId, Refusal};
 
@@ -73,24 +72,6 @@ impl Table {
         let rec = self.graph.add_record_under(file, keys, parents)?;
         self.locks.place(&self.graph, t.slot, rec, header);
         Ok(rec)
-    }
-
-    /// Takes a record away that an active transaction holds in X. Each waiter on it is active again.
-    /// Answers who is told that it is gone, by rising slot.
-    ///
-    /// It takes no memory, and looks at the record's parents and waiters alone.
-    pub fn remove(&mut self, t: TxnId, rec: NodeId) -> Told
-        requires txn { lives (state_of self.old) t ≡ true }
-        requires active { status_of (state_of self.old) t.slot ≡ Some Active }
-        requires record { is_record_shape (shape_of (state_of self.old).graph rec) ≡ true }
-        requires exclusive { same_mode ((state_of self.old).held t.slot rec) X ≡ true }
-        ensures state { state_of self.new ≡ deleted (state_of self.old) rec }
-        ensures deadlock { self.new.deadlock ≡ self.old.deadlock }
-        ensures told { result.items ≡ told (state_of self.old) (state_of self.new) }
-    {
-        let mut told = Told::new();
-        self.remove_telling(t, rec, &mut told);
-        told
     }
 
     /// As `remove`, with the notices put into an empty list.

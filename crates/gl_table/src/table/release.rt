@@ -1,36 +1,17 @@
 //! Locks are given back.
 
-ghost use Rattle.std.specs.Prelude.{◌≡◌, [], IfOk, OnErr, OnOk};
+ghost use Rattle.std.specs.Prelude.{◌≡◌, [], OnErr, OnOk};
 ghost use Rattle.gl_graph.specs.Refusals.{first_refusal};
-ghost use Rattle.gl_table.specs.Answers.{RefusesOnly};
-ghost use Rattle.gl_table.specs.Calls.{released, unlocked};
-ghost use Rattle.gl_table.specs.Refusals.{commit_tests, living_tests, unlock_tests};
-ghost use Rattle.gl_table.specs.Table.{state_of};
-ghost use Rattle.gl_table.specs.Tellings.{told};
+ghost use Rattle.gl_table.specs.model.Calls.{RefusesOnly, released, unlocked, commit_tests, living_tests, unlock_tests};
+ghost use Rattle.gl_table.specs.model.Table.{state_of};
+ghost use Rattle.gl_table.specs.model.Tellings.{told};
 
 use super::Table;
-use crate::notice::Told;
+use crate::answers::Told;
 use crate::txn::TxnId;
 use gl_modes::{NodeId, Refusal};
 
 impl Table {
-    /// Releases one node, of which the transaction holds no child; the node grants from its front.
-    /// Answers who is told of a grant, by rising slot.
-    ///
-    /// Refused, in this order, with `NoSuchTxn`, `TxnWaiting`, `TxnCondemned`, `NoSuchNode`,
-    /// `NotHeld` and `HeldChild`, naming the held child that was born first. It takes no memory.
-    pub fn unlock(&mut self, t: TxnId, n: NodeId) -> Result<Told, Refusal>
-        ensures told { IfOk result (λ list. list.items ≡ told (state_of self.old) (state_of self.new)) }
-        ensures state { OnOk result (state_of self.new ≡ unlocked (state_of self.old) t.slot n) }
-        ensures deadlock { self.new.deadlock ≡ self.old.deadlock }
-        ensures refuses { RefusesOnly (first_refusal (unlock_tests (state_of self.old) t n)) result }
-        ensures err { OnErr result (self.new ≡ self.old) }
-    {
-        let mut told = Told::new();
-        self.unlock_telling(t, n, &mut told)?;
-        Ok(told)
-    }
-
     /// As `unlock`, with the notices put into an empty list.
     pub fn unlock_telling(&mut self, t: TxnId, n: NodeId, notices: &mut Told) -> Result<(), Refusal>
         requires empty { notices.old.items ≡ [] }
@@ -48,22 +29,6 @@ impl Table {
         Ok(())
     }
 
-    /// Ends a transaction and releases everything; each node that it held grants from its front.
-    /// Answers who is told of a grant, by rising slot.
-    ///
-    /// Refused, in this order, with `NoSuchTxn`, `TxnWaiting` and `TxnCondemned`. It takes no memory.
-    pub fn commit(&mut self, t: TxnId) -> Result<Told, Refusal>
-        ensures told { IfOk result (λ list. list.items ≡ told (state_of self.old) (state_of self.new)) }
-        ensures state { OnOk result (state_of self.new ≡ released (state_of self.old) t.slot) }
-        ensures deadlock { self.new.deadlock ≡ self.old.deadlock }
-        ensures refuses { RefusesOnly (first_refusal (commit_tests (state_of self.old) t)) result }
-        ensures err { OnErr result (self.new ≡ self.old) }
-    {
-        let mut told = Told::new();
-        self.commit_telling(t, &mut told)?;
-        Ok(told)
-    }
-
     /// As `commit`, with the notices put into an empty list.
     pub fn commit_telling(&mut self, t: TxnId, notices: &mut Told) -> Result<(), Refusal>
         requires empty { notices.old.items ≡ [] }
@@ -77,23 +42,6 @@ impl Table {
         self.check_active(t)?;
         self.locks.end(&self.graph, t.slot, notices);
         Ok(())
-    }
-
-    /// Ends a transaction whatever it is doing, takes back its wait, and releases everything; each
-    /// node that it held or waited on grants from its front. Answers who is told of a grant, by
-    /// rising slot.
-    ///
-    /// Refused with `NoSuchTxn`. It takes no memory.
-    pub fn abort(&mut self, t: TxnId) -> Result<Told, Refusal>
-        ensures told { IfOk result (λ list. list.items ≡ told (state_of self.old) (state_of self.new)) }
-        ensures state { OnOk result (state_of self.new ≡ released (state_of self.old) t.slot) }
-        ensures deadlock { self.new.deadlock ≡ self.old.deadlock }
-        ensures refuses { RefusesOnly (first_refusal (living_tests (state_of self.old) t)) result }
-        ensures err { OnErr result (self.new ≡ self.old) }
-    {
-        let mut told = Told::new();
-        self.abort_telling(t, &mut told)?;
-        Ok(told)
     }
 
     /// As `abort`, with the notices put into an empty list.

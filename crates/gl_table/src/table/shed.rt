@@ -3,40 +3,18 @@
 ghost use Rattle.std.specs.Prelude.{◌≡◌, ◌-◌, [], Some, true};
 ghost use Rattle.gl_modes.specs.declared.mode.Mode.TheVariants.{S};
 ghost use Rattle.gl_modes.specs.Modes.{is_at_least};
-ghost use Rattle.gl_table.specs.Calls.{shed};
-ghost use Rattle.gl_table.specs.Covered.{covered_children, held_children};
-ghost use Rattle.gl_table.specs.State.{lives, status_of};
-ghost use Rattle.gl_table.specs.Table.{state_of};
-ghost use Rattle.gl_table.specs.Tellings.{told};
+ghost use Rattle.gl_table.specs.model.Calls.{shed, covered_children, held_children};
+ghost use Rattle.gl_table.specs.model.State.{lives, status_of};
+ghost use Rattle.gl_table.specs.model.Table.{state_of};
+ghost use Rattle.gl_table.specs.model.Tellings.{told};
 ghost use Rattle.gl_table.specs.declared.txn.Status.TheVariants.{Active};
 
 use super::Table;
-use crate::notice::Told;
+use crate::answers::Told;
 use crate::txn::TxnId;
 use gl_modes::NodeId;
 
 impl Table {
-    /// Releases the children of a node that an active transaction's lock on the node covers, and each
-    /// of them grants from its front: a held child of which no child is held, not held in `X`, or
-    /// held in `X` with `X` on each of its parents. Answers how many were released and how many are
-    /// kept, and who is told of a grant, by rising slot.
-    ///
-    /// It takes no memory, and goes over what the transaction holds.
-    pub fn shed(&mut self, t: TxnId, n: NodeId) -> (u32, u32, Told)
-        requires txn { lives (state_of self.old) t ≡ true }
-        requires active { status_of (state_of self.old) t.slot ≡ Some Active }
-        requires reads { is_at_least ((state_of self.old).held t.slot n) S ≡ true }
-        ensures state { state_of self.new ≡ shed (state_of self.old) t.slot n }
-        ensures deadlock { self.new.deadlock ≡ self.old.deadlock }
-        ensures released { result.0 ≡ covered_children (state_of self.old) t.slot n }
-        ensures kept { result.1 ≡ held_children (state_of self.old) t.slot n - covered_children (state_of self.old) t.slot n }
-        ensures told { result.2.items ≡ told (state_of self.old) (state_of self.new) }
-    {
-        let mut told = Told::new();
-        let (released, kept) = self.shed_telling(t, n, &mut told);
-        (released, kept, told)
-    }
-
     /// As `shed`, with the notices put into an empty list.
     pub fn shed_telling(&mut self, t: TxnId, n: NodeId, notices: &mut Told) -> (u32, u32)
         requires empty { notices.old.items ≡ [] }

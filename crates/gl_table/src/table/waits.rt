@@ -2,38 +2,19 @@
 
 ghost use Rattle.std.specs.Prelude.{◌≡◌, [], IfOk, OnErr, OnOk, true};
 ghost use Rattle.gl_graph.specs.Refusals.{first_refusal};
-ghost use Rattle.gl_table.specs.Answers.{RefusesOnly};
-ghost use Rattle.gl_table.specs.Calls.{cancelled};
-ghost use Rattle.gl_table.specs.Deadlocks.{SettlesKeeping};
-ghost use Rattle.gl_table.specs.Pumps.{is_waiting_at};
-ghost use Rattle.gl_table.specs.Refusals.{cancel_tests, living_tests};
-ghost use Rattle.gl_table.specs.Table.{state_of};
-ghost use Rattle.gl_table.specs.Tellings.{told, told_but};
-ghost use Rattle.gl_table.specs.Waiting.{Settled, waits_for};
+ghost use Rattle.gl_table.specs.model.Calls.{RefusesOnly, cancelled, cancel_tests, living_tests};
+ghost use Rattle.gl_table.specs.model.Deadlocks.{SettlesKeeping};
+ghost use Rattle.gl_table.specs.model.State.{is_waiting_at, Settled, waits_for};
+ghost use Rattle.gl_table.specs.model.Table.{state_of};
+ghost use Rattle.gl_table.specs.model.Tellings.{told, told_but};
 ghost use Rattle.gl_waits.specs.Waits.{IsOnNoCycle};
 
 use super::Table;
-use crate::notice::Told;
+use crate::answers::Told;
 use crate::txn::{Status, TxnId};
 use gl_modes::{NodeId, Refusal};
 
 impl Table {
-    /// Takes back the wait of a transaction, which is active then; its node grants from its front.
-    /// Answers who else is told of a grant, by rising slot.
-    ///
-    /// Refused, in this order, with `NoSuchTxn`, `TxnCondemned` and `NotWaiting`. It takes no memory.
-    pub fn cancel(&mut self, t: TxnId) -> Result<Told, Refusal>
-        ensures told { IfOk result (λ list. list.items ≡ told_but t.slot (state_of self.old) (state_of self.new)) }
-        ensures state { OnOk result (state_of self.new ≡ cancelled (state_of self.old) t.slot) }
-        ensures deadlock { self.new.deadlock ≡ self.old.deadlock }
-        ensures refuses { RefusesOnly (first_refusal (cancel_tests (state_of self.old) t)) result }
-        ensures err { OnErr result (self.new ≡ self.old) }
-    {
-        let mut told = Told::new();
-        self.cancel_telling(t, &mut told)?;
-        Ok(told)
-    }
-
     /// As `cancel`, with the notices put into an empty list.
     pub fn cancel_telling(&mut self, t: TxnId, notices: &mut Told) -> Result<(), Refusal>
         requires empty { notices.old.items ≡ [] }
@@ -48,26 +29,6 @@ impl Table {
         self.locks
             .withdraw(&self.graph, t.slot, node, Status::Active, notices);
         Ok(())
-    }
-
-    /// While the transaction is on a cycle of waits, condemns the youngest of those on a cycle with it, or,
-    /// where the fewest fall, the youngest of those that alone take it off all cycles. Each victim's
-    /// wait is given up, and its node grants from its front; the last deadlock that this ends is kept.
-    /// Answers who is told of a grant or of being a victim, by rising slot: nobody where it is on no
-    /// cycle, and then nothing changes.
-    ///
-    /// Refused with `NoSuchTxn`. It takes no memory.
-    pub fn settle(&mut self, t: TxnId) -> Result<Told, Refusal>
-        ensures told { IfOk result (λ list. list.items ≡ told (state_of self.old) (state_of self.new)) }
-        ensures state { OnOk result (Settled (state_of self.old).victims (state_of self.old) t.slot (state_of self.new)) }
-        ensures deadlock { OnOk result (SettlesKeeping (state_of self.old).victims (state_of self.old) t.slot self.old.deadlock (state_of self.new) self.new.deadlock) }
-        ensures idle { IsOnNoCycle (waits_for (state_of self.old)) t.slot → IfOk result (λ list. (list.items ≡ []) × (state_of self.new ≡ state_of self.old)) }
-        ensures refuses { RefusesOnly (first_refusal (living_tests (state_of self.old) t)) result }
-        ensures err { OnErr result (self.new ≡ self.old) }
-    {
-        let mut told = Told::new();
-        self.settle_telling(t, &mut told)?;
-        Ok(told)
     }
 
     /// As `settle`, with the notices put into an empty list.

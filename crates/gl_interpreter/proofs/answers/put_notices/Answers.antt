@@ -1,7 +1,7 @@
 use Rattle.std.proofs.Common.{◌<◌, ◌++◌, [], flat_map, take, length, sym, ap, ◌∙◌, arith, get_or, subst}
 use Rattle.std.proofs.lemmas.List.{flat_map_more, get_or_default, take_more}
-use Rattle.gl_table.specs.declared.notice.Notice.{Notice}
-use Rattle.gl_table.specs.declared.notice.Notice.TheVariants as notice
+use Rattle.gl_table.specs.declared.answers.Notice.{Notice}
+use Rattle.gl_table.specs.declared.answers.Notice.TheVariants as notice
 use Rattle.gl_table.specs.declared.txn.TxnId.{TxnId}
 use Rattle.gl_interpreter.specs.Held.{Hands}
 use Rattle.gl_interpreter.specs.Printed.{told_line}

@@ -2,13 +2,13 @@ use Rattle.std.proofs.Common.{◌≡◌, List, [], ◌∷◌, ◌++◌, Some, No
 use Rattle.std.specs.Prelude.{codes}
 use Rattle.gl_modes.specs.declared.refusal.Refusal.TheVariants.{NoSuchTxn}
 use Rattle.gl_graph.specs.Refusals.{first_refusal, where_true}
-use Rattle.gl_table.specs.declared.lock_row.LockRow.{LockRow}
+use Rattle.gl_table.specs.declared.answers.LockRow.{LockRow}
 use Rattle.gl_table.specs.declared.txn.TxnId.{TxnId}
-use Rattle.gl_table.specs.Listing.{AreRowsOf, rows_of}
-use Rattle.gl_table.specs.Refusals.{living_tests}
-use Rattle.gl_table.specs.State.{lives, status_of}
-use Rattle.gl_table.proofs.ListedRows.{are_rows}
-use Rattle.gl_table.proofs.Queries.{passed}
+use Rattle.gl_table.specs.model.Table.{AreRowsOf, rows_of}
+use Rattle.gl_table.specs.model.Calls.{living_tests}
+use Rattle.gl_table.specs.model.State.{lives, status_of}
+use Rattle.gl_table.proofs.calls.Queries.{are_rows}
+use Rattle.gl_table.proofs.calls.Queries.{passed}
 use Rattle.gl_catalog.specs.Replies.{wait_of}
 use Rattle.gl_interpreter.specs.Printed.{refusal_line}
 use Rattle.gl_interpreter.specs.Rows.{listed, lock_row}

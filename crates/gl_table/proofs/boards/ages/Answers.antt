@@ -1,7 +1,6 @@
-use Rattle.std.proofs.Common.{◌≡◌, ◌∙◌, ◌+◌, ℕ, List, ap, arith, length, subst, sym}
-use Rattle.std.proofs.lemmas.List.{length-replicate, length-set}
-use Rattle.gl_table.specs.declared.seat.Seat.{Seat}
-use Rattle.gl_table.proofs.BoardWrites.{AreAgesBelow, age_at, ages-begin, ages-free, ages-read, ages-taken}
+use Rattle.gl_table.proofs.Words.{◌+◌, ◌∙◌, ◌≡◌, ap, arith, length, length-replicate, List, Seat, subst, sym, ℕ}
+use Rattle.std.proofs.lemmas.List.{length-set}
+use Rattle.gl_table.proofs.inside.Boards.{age_at, ages-begin, ages-free, ages-read, ages-taken, AreAgesBelow}
 use Rattle.gl_table.proofs.boards.ages.Goals as goal
 use Rattle.gl_table.proofs.boards.ages.Goals.{in-Some, in_default}
 
@@ -15,9 +14,13 @@ loop-slot-preserved c =
     elim c.match-seat.branch [
       | in-Some w ↦ subst Next (sym w.ages-is) (
         length-set c.loop-slot.ages c.loop-slot.slot _ ∙ size,
-        ages-taken c.args.seats.now c.loop-slot.slot _ c.loop-slot.ages w.in-Some.field-0 c.loop-slot-test.true (let few = c.requires.few in omega arith) w.in-Some.is (ap (λ (x : Seat). x.age) w.in-Some.field-0-is) c.loop-slot.invariant.1,
+        ages-taken c.args.seats.now c.loop-slot.slot _ c.loop-slot.ages w.in-Some.field-0 c.loop-slot-test.true (let few = c.requires.few in omega arith)
+            w.in-Some.is (ap (λ (x : Seat). x.age) w.in-Some.field-0-is) c.loop-slot.invariant.1,
       )
-      | in_default w ↦ subst Next (sym w.ages-is) (size, ages-free c.args.seats.now c.loop-slot.slot c.loop-slot.ages c.loop-slot-test.true w.in_default.is c.loop-slot.invariant.1)
+      | in_default w ↦ subst Next (sym w.ages-is) (
+        size,
+        ages-free c.args.seats.now c.loop-slot.slot c.loop-slot.ages c.loop-slot-test.true w.in_default.is c.loop-slot.invariant.1,
+      )
     ]
 
 pub returns : goal.returns

@@ -1,5 +1,5 @@
-use Rattle.std.specs.Prelude.{◌≡◌, length}
-use Rattle.gl_table.proofs.BoardWrites.{AreAgesBelow, age_at}
+use Rattle.gl_table.proofs.Words.{◌≡◌, length}
+use Rattle.gl_table.proofs.inside.Boards.{age_at, AreAgesBelow}
 use Rattle.gl_table.proofs.boards.ages.Given as goal
 
 abbrev pub invariant-loop-slot : goal.invariant-loop-slot

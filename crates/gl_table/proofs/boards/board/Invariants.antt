@@ -1,5 +1,5 @@
-use Rattle.gl_table.specs.BoardOf.{shown}
-use Rattle.gl_table.proofs.BoardWrites.{IsBoardBelow}
+use Rattle.gl_table.proofs.Words.{shown}
+use Rattle.gl_table.proofs.inside.Boards.{IsBoardBelow}
 use Rattle.gl_table.proofs.boards.board.Given as goal
 
 abbrev pub invariant-loop-slot : goal.invariant-loop-slot

@@ -1,4 +1,4 @@
-use Rattle.std.proofs.Common.{ap, ◌∙◌}
+use Rattle.gl_table.proofs.Words.{◌∙◌, ap}
 use Rattle.gl_waits.specs.Sets.{has_slot}
 use Rattle.gl_table.proofs.boards.row.Goals as goal
 

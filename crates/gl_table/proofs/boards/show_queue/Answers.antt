@@ -1,19 +1,17 @@
-use Rattle.std.proofs.Common.{◌≡◌, ◌<◌, ◌||◌, ◌==◌, ℕ, Bool, get_or, length, refl, ap, sym, subst, ◌∙◌, arith}
+use Rattle.gl_table.proofs.Words.{◌<◌, ◌==◌, ◌||◌, ◌∙◌, ◌≡◌, ap, arith, Bool, get_or, header_or_new, length, NL, refl, shown, subst, sym, waits_for, ℕ}
 use Rattle.std.proofs.lemmas.List.{length-set}
-use Rattle.gl_modes.specs.declared.mode.Mode.TheVariants.{NL}
-use Rattle.gl_table.specs.BoardOf.{shown}
-use Rattle.gl_table.specs.Headers.{header_or_new}
-use Rattle.gl_table.specs.Waiting.{waits_for}
-use Rattle.gl_table.proofs.BoardWrites.{AreRowsShown, reached-row, rows-shown}
-use Rattle.gl_table.proofs.Rows.{among-next, queue-below}
+use Rattle.gl_table.proofs.inside.Boards.{AreRowsShown, reached-row, rows-shown}
+use Rattle.gl_table.proofs.queues.Waiters.{among-next, queue-below}
 use Rattle.gl_table.proofs.boards.show_queue.Goals as goal
 use Rattle.gl_table.proofs.boards.show_queue.Goals.{in-Some-wanted_on+then-not-contains, in-Some-wanted_on+else-not-contains, in_default-wanted_on}
 
 pub bounds-rows-slot : goal.bounds-rows-slot
-bounds-rows-slot c = queue-below c.in-Some.header.now c.queue-slot-items.result.now c.loop-slot.slot-index (0, NL) c.law.ensures.lawful c.queue-slot-items.ensures c.loop-slot-test.true
+bounds-rows-slot c = queue-below c.in-Some.header.now c.queue-slot-items.result.now c.loop-slot.slot-index (0, NL) c.law.ensures.lawful
+    c.queue-slot-items.ensures c.loop-slot-test.true
 
 pub insert-requires : goal.insert-requires
-insert-requires c = queue-below c.in-Some.header.now c.queue-slot-items.result.now c.loop-slot.slot-index (0, NL) c.law.ensures.lawful c.queue-slot-items.ensures c.loop-slot-test.true
+insert-requires c = queue-below c.in-Some.header.now c.queue-slot-items.result.now c.loop-slot.slot-index (0, NL) c.law.ensures.lawful
+    c.queue-slot-items.ensures c.loop-slot-test.true
 
 pub loop-slot-preserved : goal.loop-slot-preserved
 loop-slot-preserved c =
@@ -24,13 +22,16 @@ loop-slot-preserved c =
     let t = (get_or q i (0, NL)).0 in
     let low : t < 128 = queue-below h q i (0, NL) c.law.ensures.lawful c.queue-slot-items.ensures c.loop-slot-test.true in
     let edge : ℕ → ℕ → Bool = waits_for (shown c.args.headers.now.entries c.args.seats.now 0) in
-    let both : (length c.match-wanted_on.rows ≡ length c.args.rows.now) × AreRowsShown edge c.args.rows.now c.match-wanted_on.rows = elim c.match-wanted_on.branch [
+    let both : (length c.match-wanted_on.rows ≡ length c.args.rows.now)
+    × AreRowsShown edge c.args.rows.now c.match-wanted_on.rows = elim c.match-wanted_on.branch [
       | in-Some-wanted_on+then-not-contains w ↦ (
         ap length w.rows-is ∙ length-set c.loop-slot.rows t w.row_behind.result ∙ so.len,
         subst (AreRowsShown edge c.args.rows.now) (sym w.rows-is) (rows-shown edge t w.row_behind.result c.args.rows.now c.loop-slot.rows
             (omega (arith, low, so.len, c.told-rows))
-            (reached-row c.args.headers.now.entries c.args.seats.now c.args.node h q t i w.in-Some-wanted_on.wanted c.loop-slot.passed.bits w.row_behind.result (0, NL)
-            (ap header_or_new c.in-Some.ensures.value) c.queue-slot-items.ensures w.in-Some-wanted_on.ensures c.loop-slot-test.true refl so.passed (sym w.contains.ensures ∙ w.if-not-contains.true) w.row_behind.ensures)
+            (reached-row c.args.headers.now.entries c.args.seats.now c.args.node h q t i w.in-Some-wanted_on.wanted c.loop-slot.passed.bits w.row_behind.result
+            (0, NL)
+            (ap header_or_new c.in-Some.ensures.value) c.queue-slot-items.ensures w.in-Some-wanted_on.ensures c.loop-slot-test.true refl so.passed
+            (sym w.contains.ensures ∙ w.if-not-contains.true) w.row_behind.ensures)
             so.rows),
       )
       | in-Some-wanted_on+else-not-contains w ↦ (ap length w.rows-is ∙ so.len, subst (AreRowsShown edge c.args.rows.now) (sym w.rows-is) so.rows)

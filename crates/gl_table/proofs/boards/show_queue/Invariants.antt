@@ -1,9 +1,5 @@
-use Rattle.std.proofs.Common.{◌≡◌, ℕ, length, take}
-use Rattle.gl_header.specs.Header.{is_among_waiters}
-use Rattle.gl_slots.specs.Slots.{has_slot}
-use Rattle.gl_table.specs.BoardOf.{shown}
-use Rattle.gl_table.specs.Waiting.{waits_for}
-use Rattle.gl_table.proofs.BoardWrites.{AreRowsShown}
+use Rattle.gl_table.proofs.Words.{◌≡◌, has_slot, is_among_waiters, length, shown, take, waits_for, ℕ}
+use Rattle.gl_table.proofs.inside.Boards.{AreRowsShown}
 use Rattle.gl_table.proofs.boards.show_queue.Given as goal
 
 -- the set has the slots so far, and each row is as it was or right

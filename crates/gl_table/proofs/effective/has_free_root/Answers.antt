@@ -1,14 +1,7 @@
-use Rattle.std.proofs.Common.{◌∙◌, not, sym, ap}
-use Rattle.std.specs.Option.{option_copied}
-use Rattle.gl_graph.specs.View.{graph_of}
-use Rattle.gl_graph.specs.Graph.{node_count}
-use Rattle.gl_graph.specs.Seen.{with_all}
-use Rattle.gl_table.specs.Intends.{no_parents}
-use Rattle.gl_table.specs.Lists.{mode_of}
-use Rattle.gl_table.proofs.CutSet.{is_x}
-use Rattle.gl_table.proofs.Searches.{cut_off, free_from, is_top, no_parents_length, search_ends, search_meets, search_past, search_up}
+use Rattle.gl_table.proofs.Words.{◌∙◌, ap, graph_of, lent_at, mode_of, no_parents, node_count, not, option_copied, sym, with_all}
+use Rattle.gl_table.proofs.law.Effects.{is_x}
+use Rattle.gl_table.proofs.law.Searches.{cut_off, free_from, is_top, no_parents_length, search_ends, search_meets, search_past, search_up}
 use Rattle.gl_table.proofs.effective.has_free_root.Goals as goal
-use Rattle.gl_graph.proofs.Climb.{lent_at}
 
 pub loop-node-preserved-then-holds_x-2 : goal.loop-node-preserved-then-holds_x-2
 loop-node-preserved-then-holds_x-2 c =

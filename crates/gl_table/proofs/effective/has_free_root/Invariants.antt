@@ -1,8 +1,6 @@
-use Rattle.std.proofs.Common.{◌-◌, ◌^◌}
-use Rattle.gl_graph.specs.View.{graph_of}
-use Rattle.gl_table.specs.Lists.{mode_of}
-use Rattle.gl_table.proofs.CutSet.{is_x}
-use Rattle.gl_table.proofs.Searches.{IsSearch, is_top}
+use Rattle.gl_table.proofs.Words.{◌-◌, ◌^◌, graph_of, mode_of}
+use Rattle.gl_table.proofs.law.Effects.{is_x}
+use Rattle.gl_table.proofs.law.Searches.{is_top, IsSearch}
 use Rattle.gl_table.proofs.effective.has_free_root.Given as goal
 
 abbrev pub invariant-loop-node : goal.invariant-loop-node

@@ -1,17 +1,7 @@
-use Rattle.std.specs.Prelude.{◌≡◌, IsOk, None, OnErr, OnOk, unwrap_or}
-use Rattle.std.proofs.Common.{Some, [], ap, ap₂, rules, ◌∙◌}
-use Rattle.std.proofs.lemmas.Result.{on_err_weaker, on_ok_weaker}
-use Rattle.indexmap.specs.Entry.{map_with_value}
-use Rattle.gl_modes.specs.Modes.{supremum}
-use Rattle.gl_modes.specs.Nodes.{same_node}
-use Rattle.gl_header.specs.Header.{enters}
-use Rattle.gl_header.specs.State.{is_granted, slot_limit}
-use Rattle.gl_header.proofs.Unused.{unused-nobody}
-use Rattle.gl_table.specs.Headers.{header_at, header_or_new}
-use Rattle.gl_table.proofs.HeaderAsks.{IsAsked, asked-granted, asked-on_ok, asked-used, asked-waits, by_answer}
-use Rattle.gl_table.proofs.HeaderEntries.{entered-is, entered-same, refused-there}
-use Rattle.gl_table.proofs.HeaderWrites.{IsChanged, all-written}
-use Rattle.gl_table.proofs.NoHeader.{nobody-enters}
+use Rattle.gl_table.proofs.Words.{[], ◌∙◌, ◌≡◌, ap, ap₂, enters, header_at, header_or_new, is_granted, IsOk, map_with_value, None, on_err_weaker, on_ok_weaker}
+use Rattle.gl_table.proofs.Words.{OnErr, OnOk, rules, same_node, slot_limit, Some, supremum, unused-nobody, unwrap_or}
+use Rattle.gl_table.proofs.inside.Headers.{all-written, asked-granted, asked-on_ok, asked-used, asked-waits, by_answer, entered-is, entered-same, IsAsked}
+use Rattle.gl_table.proofs.inside.Headers.{IsChanged, nobody-enters, refused-there}
 use Rattle.gl_table.proofs.headers.ask.Goals as goal
 
 -- the header that was found or put in, as the headers say
@@ -25,7 +15,8 @@ written c = search rules
 changed : (c : goal.After-headers-3-1) → IsChanged c.args.headers.now.entries c.headers-3-1.given.0.entries c.args.node (Some c.ask.new.self)
 changed c = record { at = λ q. ap (λ m. header_at m.entries q) (written c) ∙ (c.in-Ok.ensures.update.0 c.ask.new.self).0 q }
 
-asked : (c : goal.After-headers-3-1) → OnOk c.ask.result (IsAsked (header_or_new (header_at c.args.headers.now.entries c.args.node)) c.args.slot c.args.mode c.ask.new.self)
+asked : (c : goal.After-headers-3-1) → OnOk c.ask.result
+    (IsAsked (header_or_new (header_at c.args.headers.now.entries c.args.node)) c.args.slot c.args.mode c.ask.new.self)
 asked c = asked-on_ok c.ask.result _ _ c.args.slot c.args.mode c.ask.new.self (found c) c.ask.ensures.members c.ask.ensures.queue
 
 -- who asks for a node without header is granted
@@ -58,5 +49,6 @@ returns-clause-waits c =
 pub returns-clause-err : goal.returns-clause-err
 returns-clause-err c =
     on_err_weaker c.ask.result
-    (λ h. ap (λ m. m.entries) (written c) ∙ c.in-Ok.ensures.update.1 c.ask.new.self ∙ entered-same same_node c.args.node c.ask.new.self c.args.headers.now.entries h)
+    (λ h. ap (λ m. m.entries) (written c) ∙ c.in-Ok.ensures.update.1 c.ask.new.self
+    ∙ entered-same same_node c.args.node c.ask.new.self c.args.headers.now.entries h)
     (there c)

@@ -1,11 +1,5 @@
-use Rattle.std.proofs.Common.{◌≡◌, not, refl, sym, ap, ◌∙◌}
-use Rattle.gl_modes.specs.declared.mode.Mode.{Mode}
-use Rattle.gl_modes.specs.declared.mode.Mode.TheVariants.{NL, IS, IX, S, SIX, X}
-use Rattle.gl_modes.specs.Modes.{are_compatible, same_mode}
-use Rattle.gl_header.specs.Header.{Members, holds}
-use Rattle.gl_header.specs.State.{members_of}
-use Rattle.gl_header.proofs.Unused.{unused-nobody}
-use Rattle.gl_table.specs.Headers.{header_or_new}
+use Rattle.gl_table.proofs.Words.{◌∙◌, ◌≡◌, ap, are_compatible, header_or_new, holds, IS, IX, Members, members_of, Mode, NL, not, refl, S, same_mode, SIX, sym}
+use Rattle.gl_table.proofs.Words.{unused-nobody, X}
 use Rattle.gl_table.proofs.headers.holders.Goals as goal
 
 -- beside X only NL goes

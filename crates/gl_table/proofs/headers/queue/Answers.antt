@@ -1,5 +1,4 @@
-use Rattle.std.proofs.Common.{ap, ◌∙◌}
-use Rattle.gl_table.specs.Headers.{header_or_new}
+use Rattle.gl_table.proofs.Words.{◌∙◌, ap, header_or_new}
 use Rattle.gl_table.proofs.headers.queue.Goals as goal
 
 pub returns-in-Some : goal.returns-in-Some

@@ -1,6 +1,5 @@
-use Rattle.std.proofs.Common.{None, refl}
-use Rattle.gl_header.proofs.Unused.{unused-nobody}
-use Rattle.gl_table.proofs.HeaderWrites.{IsChanged, all-removed, but-from_all, held-changed, queue-changed}
+use Rattle.gl_table.proofs.Words.{None, refl, unused-nobody}
+use Rattle.gl_table.proofs.inside.Headers.{all-removed, but-from_all, held-changed, IsChanged, queue-changed}
 use Rattle.gl_table.proofs.headers.take.Goals as goal
 
 gone : (c : goal.After-swap_remove) → IsChanged c.args.headers.now.entries c.swap_remove.new.self.entries c.args.node None

@@ -1,11 +1,5 @@
-use Rattle.std.proofs.Common.{◌≡◌, ℕ, Bool, true, false, not, ◌&&◌, ◌||◌, ◌==◌, refl, sym, ap, ◌∙◌}
-use Rattle.gl_modes.specs.declared.mode.Mode.{Mode}
-use Rattle.gl_modes.specs.Modes.{are_compatible}
-use Rattle.gl_modes.proofs.ModeLemmas.{NL-compatible}
-use Rattle.gl_header.specs.Header.{Members, is_ahead}
-use Rattle.gl_header.specs.State.{HeaderState, members_of, unused_header}
-use Rattle.gl_header.proofs.Unused.{unused-nobody}
-use Rattle.gl_table.specs.Headers.{header_or_new}
+use Rattle.gl_table.proofs.Words.{◌&&◌, ◌==◌, ◌||◌, ◌∙◌, ◌≡◌, ap, are_compatible, Bool, false, header_or_new, HeaderState, is_ahead, Members, members_of, Mode}
+use Rattle.gl_table.proofs.Words.{NL-compatible, not, refl, sym, true, unused-nobody, unused_header, ℕ}
 use Rattle.gl_table.proofs.headers.waits_for.Goals as goal
 
 -- whether s waits for u, where it waits for the mode in this header
@@ -26,4 +20,5 @@ returns-in-Some c = λ u. c.waits_for.ensures u ∙ ap (blocked c.args.slot u c.
 
 pub returns-in-None : goal.returns-in-None
 returns-in-None c = λ u.
-    c.empty.ensures.none u ∙ (sym (nobody-blocks c.args.slot u c.args.wanted) ∙ ap (λ o. blocked c.args.slot u c.args.wanted (header_or_new o)) c.in-None.ensures.value)
+    c.empty.ensures.none u ∙ (sym (nobody-blocks c.args.slot u c.args.wanted)
+    ∙ ap (λ o. blocked c.args.slot u c.args.wanted (header_or_new o)) c.in-None.ensures.value)

@@ -1,4 +1,4 @@
-use Rattle.gl_table.proofs.Chains.{chain_ends}
+use Rattle.gl_table.proofs.law.Settle.{chain_ends}
 use Rattle.gl_table.proofs.laws.chains_end.Goals as goal
 
 pub returns : goal.returns

@@ -1,4 +1,4 @@
-use Rattle.gl_table.proofs.CutSet.{cut_set_law, cut_set_on}
+use Rattle.gl_table.proofs.law.Effects.{cut_set_law, cut_set_on}
 use Rattle.gl_table.proofs.laws.cut_sets.Goals as goal
 
 pub returns : goal.returns

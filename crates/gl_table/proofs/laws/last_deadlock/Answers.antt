@@ -1,5 +1,4 @@
-use Rattle.gl_table.proofs.KeptRows.{rows_lead_on, victim_has_row}
-use Rattle.gl_table.proofs.Settling.{settles-keeping}
+use Rattle.gl_table.proofs.inside.KeptRows.{rows_lead_on, settles-keeping, victim_has_row}
 use Rattle.gl_table.proofs.laws.last_deadlock.Goals as goal
 
 pub returns : goal.returns

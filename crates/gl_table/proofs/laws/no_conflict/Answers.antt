@@ -1,4 +1,4 @@
-use Rattle.gl_table.proofs.NoConflict.{no_conflict_law, no_conflict_on}
+use Rattle.gl_table.proofs.law.Effects.{no_conflict_law, no_conflict_on}
 use Rattle.gl_table.proofs.laws.no_conflict.Goals as goal
 
 pub returns : goal.returns

@@ -1,4 +1,4 @@
-use Rattle.gl_table.proofs.OneFalls.{condemning_frees, one_falls}
+use Rattle.gl_table.proofs.law.Settle.{condemning_frees, one_falls}
 use Rattle.gl_table.proofs.laws.one_falls.Goals as goal
 
 pub returns : goal.returns

@@ -1,5 +1,5 @@
-use Rattle.gl_table.proofs.OneEnd.{settling_ends}
-use Rattle.gl_table.proofs.NoCycle.{settling_frees}
+use Rattle.gl_table.proofs.law.Lock.{settling_frees}
+use Rattle.gl_table.proofs.law.Settle.{settling_ends}
 use Rattle.gl_table.proofs.laws.settling_ends.Goals as goal
 
 pub returns : goal.returns

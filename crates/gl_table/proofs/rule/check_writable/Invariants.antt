@@ -1,6 +1,4 @@
-use Rattle.std.specs.Prelude.{◌≡◌, drop}
-use Rattle.gl_table.specs.Lists.{mode_of}
-use Rattle.gl_table.specs.Refusals.{first_not_ix}
+use Rattle.gl_table.proofs.Words.{◌≡◌, drop, first_not_ix, mode_of}
 use Rattle.gl_table.proofs.rule.check_writable.Given as goal
 
 -- all before this parent are held in IX or greater

@@ -1,11 +1,11 @@
 use Rattle.std.specs.Prelude.{Err, Result}
 use Rattle.std.proofs.Common.{ap, refl, rules, subst, sym, ◌≡◌}
+use Rattle.gl_modes.proofs.Words.{no}
 use Rattle.gl_modes.specs.declared.refusal.Refusal.{Refusal}
-use Rattle.gl_graph.proofs.Look.{no}
-use Rattle.gl_table.specs.declared.outcome.Locked.{Locked}
-use Rattle.gl_table.specs.Deadlocks.{LocksKeeping}
-use Rattle.gl_table.specs.Refusals.{lock_tests}
-use Rattle.gl_table.specs.Table.{state_of as table_state}
+use Rattle.gl_table.specs.declared.answers.Locked.{Locked}
+use Rattle.gl_table.specs.model.Deadlocks.{LocksKeeping}
+use Rattle.gl_table.specs.model.Calls.{lock_tests}
+use Rattle.gl_table.specs.model.Table.{state_of as table_state}
 use Rattle.gl_catalog.specs.declared.command.Command.TheVariants as command
 use Rattle.gl_catalog.specs.Manager.{ManagerView, counting, state_of}
 use Rattle.gl_catalog.specs.Replies.{CallSteps, asking}

@@ -1,10 +1,10 @@
 use Rattle.std.specs.Prelude.{Err, Result}
 use Rattle.std.proofs.Common.{ap, refl, rules, subst, sym, ◌≡◌}
+use Rattle.gl_modes.proofs.Words.{no}
 use Rattle.gl_modes.specs.declared.mode.Mode.{Mode}
 use Rattle.gl_modes.specs.declared.refusal.Refusal.{Refusal}
-use Rattle.gl_graph.proofs.Look.{no}
-use Rattle.gl_table.specs.Refusals.{try_tests}
-use Rattle.gl_table.specs.Table.{state_of as table_state}
+use Rattle.gl_table.specs.model.Calls.{try_tests}
+use Rattle.gl_table.specs.model.Table.{state_of as table_state}
 use Rattle.gl_catalog.specs.declared.command.Answer.TheVariants as answer
 use Rattle.gl_catalog.specs.declared.command.Command.TheVariants as command
 use Rattle.gl_catalog.specs.Manager.{counting, state_of}

@@ -1,7 +1,7 @@
 use Rattle.std.proofs.Common.{◌≡◌, None, Some, sym, ap, ◌∙◌, subst}
 use Rattle.std.specs.Prelude.{codes}
+use Rattle.gl_modes.proofs.Words.{none_some}
 use Rattle.gl_catalog.specs.Manager.{ManagerView, state_of}
-use Rattle.gl_graph.proofs.Look.{none_some}
 use Rattle.gl_interpreter.specs.Report.{Prints}
 use Rattle.gl_interpreter.specs.SoFar.{Answered, CarriesOut, IsReadyWith, stage_with}
 use Rattle.gl_interpreter.specs.Views.{script_of}

@@ -1,5 +1,4 @@
-use Rattle.std.proofs.Common.{rules}
-use Rattle.gl_table.specs.Lists.{IsApart}
+use Rattle.gl_table.proofs.Words.{IsApart, rules}
 use Rattle.gl_table.proofs.list.LockList.clear.Goals as goal
 
 pub returns-clause-apart : goal.returns-clause-apart

@@ -1,9 +1,5 @@
-use Rattle.std.proofs.Common.{◌≡◌, ◌+◌, ◌≤◌, take}
-use Rattle.std.specs.List.{count_by}
-use Rattle.indexmap.specs.IndexMap.{keys, spare}
+use Rattle.gl_table.proofs.Words.{◌+◌, ◌≡◌, ◌≤◌, count_by, count_of, is_listed, IsApart, keys, mode_of, same_node, spare, take}
 use Rattle.gl_modes.specs.declared.node.NodeId.{NodeId as Node}
-use Rattle.gl_modes.specs.Nodes.{same_node}
-use Rattle.gl_table.specs.Lists.{IsApart, count_of, is_listed, mode_of}
 use Rattle.gl_table.proofs.list.LockList.count_down.Given as goal
 
 abbrev pub invariant-loop-parent : goal.invariant-loop-parent

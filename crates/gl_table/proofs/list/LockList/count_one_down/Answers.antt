@@ -1,8 +1,5 @@
-use Rattle.std.proofs.Common.{◌-◌, rules, arith, refl, ap, sym, ◌∙◌}
-use Rattle.std.proofs.lemmas.Bool.{false≢true}
-use Rattle.std.specs.Prelude.{is_some}
-use Rattle.gl_table.specs.Lists.{IsApart, mode_in}
-use Rattle.gl_table.proofs.ListWrites.{at_each, IsWritten-same, SameListed, SameMode, StaysApart, CountsDown, CountsDown-last, IsWritten-twice}
+use Rattle.gl_table.proofs.Words.{◌-◌, ◌∙◌, ap, arith, false≢true, is_some, IsApart, mode_in, refl, rules, sym}
+use Rattle.gl_table.proofs.inside.Lists.{at_each, CountsDown, CountsDown-last, IsWritten-same, IsWritten-twice, SameListed, SameMode, StaysApart}
 use Rattle.gl_table.proofs.list.LockList.count_one_down.Goals as goal
 
 pub returns-in-Some-clause-listed : goal.returns-in-Some-clause-listed

@@ -1,9 +1,5 @@
-use Rattle.std.proofs.Common.{rules, refl, ap, sym, ◌∙◌}
-use Rattle.std.proofs.lemmas.Bool.{false≢true}
-use Rattle.std.proofs.lemmas.Result.{IfOk-at_ok}
-use Rattle.std.specs.Prelude.{is_some}
-use Rattle.gl_table.specs.Lists.{IsApart, mode_in}
-use Rattle.gl_table.proofs.ListWrites.{at_each, IsWritten-same, SameListed, SameMode, StaysApart}
+use Rattle.gl_table.proofs.Words.{◌∙◌, ap, false≢true, IfOk-at_ok, is_some, IsApart, mode_in, refl, rules, sym}
+use Rattle.gl_table.proofs.inside.Lists.{at_each, IsWritten-same, SameListed, SameMode, StaysApart}
 use Rattle.gl_table.proofs.list.LockList.count_one_up.Goals as goal
 
 pub returns-in-Some-clause-listed : goal.returns-in-Some-clause-listed

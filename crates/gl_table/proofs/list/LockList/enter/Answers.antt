@@ -1,7 +1,5 @@
-use Rattle.std.proofs.Common.{refl, sym, ◌∙◌}
-use Rattle.std.proofs.lemmas.Result.{IfOk-at_ok}
-use Rattle.gl_table.specs.Lists.{IsApart}
-use Rattle.gl_table.proofs.ListWrites.{at_each, count_in-unlisted, SameCount, StaysApart}
+use Rattle.gl_table.proofs.Words.{◌∙◌, IfOk-at_ok, IsApart, refl, sym}
+use Rattle.gl_table.proofs.inside.Lists.{at_each, count_in-unlisted, SameCount, StaysApart}
 use Rattle.gl_table.proofs.list.LockList.enter.Goals as goal
 
 pub returns-clause-counts : goal.returns-clause-counts

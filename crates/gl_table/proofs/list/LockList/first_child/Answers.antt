@@ -1,16 +1,7 @@
-use Rattle.std.specs.Prelude.{◌<◌, ◌≤◌, ◌&&◌, ◌++◌, ◌∷◌, [], List, get_or, length, not, take}
-use Rattle.std.proofs.Common.{ap, ◌∙◌, subst, sym}
-use Rattle.gl_modes.specs.declared.mode.Mode.TheVariants.{NL}
-use Rattle.gl_modes.specs.declared.node.NodeId.{NodeId}
-use Rattle.gl_modes.specs.Modes.{same_mode}
-use Rattle.gl_graph.specs.Graph.{is_child}
-use Rattle.gl_graph.specs.View.{graph_of}
-use Rattle.gl_graph.proofs.Look.{and_both}
-use Rattle.indexmap.specs.IndexMap.{keys}
-use Rattle.gl_table.specs.Lists.{mode_of}
-use Rattle.gl_table.proofs.FirstChild.{IsFirst, first_found, first_more, held_listed}
+use Rattle.gl_table.proofs.Words.{[], ◌&&◌, ◌++◌, ◌<◌, ◌∙◌, ◌∷◌, ◌≤◌, and_both, ap, get_or, graph_of, is_child, keys, length, List, mode_of, NL, NodeId, not}
+use Rattle.gl_table.proofs.Words.{same_mode, subst, sym, take, take_all, take_more}
+use Rattle.gl_table.proofs.inside.Children.{first_found, first_more, held_listed, IsFirst}
 use Rattle.gl_table.proofs.list.LockList.first_child.Goals as goal
-use Rattle.std.proofs.lemmas.List.{take_all, take_more}
 
 pub loop-child-preserved : goal.loop-child-preserved
 loop-child-preserved c =
@@ -19,9 +10,11 @@ loop-child-preserved c =
     let p = λ (n : NodeId). is_child (graph_of c.args.graph.now) c.args.node n && not (same_mode (mode_of c.args.self.now n) NL) in
     let d : NodeId = record { key = 0; birth = 0 } in
     let ks = keys c.args.self.now.entries in
-    let more = take_more ks c.loop-child.child-index d lt ∙ ap (λ (ns : List NodeId). take c.loop-child.child-index ks ++ get_or ns c.loop-child.child-index d ∷ []) (sym at) in
+    let more = take_more ks c.loop-child.child-index d lt
+    ∙ ap (λ (ns : List NodeId). take c.loop-child.child-index ks ++ get_or ns c.loop-child.child-index d ∷ []) (sym at) in
     subst (λ (ns : List NodeId). IsFirst p ns c.earlier_child-first.result) (sym more)
-    (first_more p (take c.loop-child.child-index ks) (get_or c.as_slice-child-items.result.now c.loop-child.child-index d) c.loop-child.first c.earlier_child-first.result c.loop-child.invariant c.earlier_child-first.ensures)
+    (first_more p (take c.loop-child.child-index ks) (get_or c.as_slice-child-items.result.now c.loop-child.child-index d) c.loop-child.first
+    c.earlier_child-first.result c.loop-child.invariant c.earlier_child-first.ensures)
 
 pub returns : goal.returns
 returns c =
@@ -29,5 +22,8 @@ returns c =
     let p = λ (n : NodeId). is_child (graph_of c.args.graph.now) c.args.node n && not (same_mode (mode_of c.args.self.now n) NL) in
     let ks = keys c.args.self.now.entries in
     first_found (graph_of c.args.graph.now) c.law.ensures.lawful p ks c.loop-child.first
-    (λ n h. let held = (and_both (is_child (graph_of c.args.graph.now) c.args.node n) (not (same_mode (mode_of c.args.self.now n) NL)) h).1 in (held_listed c.args.self.now n held, c.requires.live n held))
-    (subst (λ (ns : List NodeId). IsFirst p ns c.loop-child.first) (take_all c.loop-child.child-index ks (subst (λ (ns : List NodeId). length ns ≤ c.loop-child.child-index) at c.loop-child-test.false)) c.loop-child.invariant)
+    (λ n h. let held = (and_both (is_child (graph_of c.args.graph.now) c.args.node n) (not (same_mode (mode_of c.args.self.now n) NL)) h).1 in
+    (held_listed c.args.self.now n held, c.requires.live n held))
+    (subst (λ (ns : List NodeId). IsFirst p ns c.loop-child.first)
+    (take_all c.loop-child.child-index ks (subst (λ (ns : List NodeId). length ns ≤ c.loop-child.child-index) at c.loop-child-test.false))
+    c.loop-child.invariant)

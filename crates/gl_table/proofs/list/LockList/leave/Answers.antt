@@ -1,13 +1,11 @@
-use Rattle.std.proofs.Common.{rules, refl, ap, sym, ◌∙◌, arith}
-use Rattle.std.specs.Prelude.{is_some, None}
-use Rattle.std.proofs.lemmas.Result.{IfOk-at_ok}
-use Rattle.gl_table.specs.Lists.{IsApart, count_in, loose_of}
-use Rattle.gl_table.proofs.ListWrites.{at_each, IsWritten-same, IsTakenOut, SameCount, StaysApart, IsTakenOut-here, IsTakenOut-apart}
+use Rattle.gl_table.proofs.Words.{◌∙◌, ap, arith, count_in, IfOk-at_ok, is_some, IsApart, loose_of, None, refl, rules, sym}
+use Rattle.gl_table.proofs.inside.Lists.{at_each, IsTakenOut, IsTakenOut-apart, IsTakenOut-here, IsWritten-same, SameCount, StaysApart}
 use Rattle.gl_table.proofs.list.LockList.leave.Goals as goal
 
 pub returns-then-entry-gt0-clause-listed : goal.returns-then-entry-gt0-clause-listed
 returns-then-entry-gt0-clause-listed c =
-    at_each IsTakenOut c.args.n _ _ _ _ _ _ c.swap_remove.ensures.updates.0 (IfOk-at_ok _ c.unwrap.ensures c.insert.ensures.updates).0 (IsTakenOut-here _) IsTakenOut-apart
+    at_each IsTakenOut c.args.n _ _ _ _ _ _ c.swap_remove.ensures.updates.0 (IfOk-at_ok _ c.unwrap.ensures c.insert.ensures.updates).0 (IsTakenOut-here _)
+    IsTakenOut-apart
 
 pub returns-then-entry-gt0-clause-counts : goal.returns-then-entry-gt0-clause-counts
 returns-then-entry-gt0-clause-counts c =
@@ -25,7 +23,8 @@ returns-then-entry-gt0-clause-apart c = (
 
 pub returns-else-entry-gt0-clause-listed : goal.returns-else-entry-gt0-clause-listed
 returns-else-entry-gt0-clause-listed c =
-    at_each IsTakenOut c.args.n _ _ _ _ _ _ c.swap_remove.ensures.updates.0 (IsWritten-same c.args.n c.args.self.now.loose.entries) (IsTakenOut-here _) IsTakenOut-apart
+    at_each IsTakenOut c.args.n _ _ _ _ _ _ c.swap_remove.ensures.updates.0 (IsWritten-same c.args.n c.args.self.now.loose.entries) (IsTakenOut-here _)
+    IsTakenOut-apart
 
 pub returns-else-entry-gt0-clause-counts : goal.returns-else-entry-gt0-clause-counts
 unfolding IsApart

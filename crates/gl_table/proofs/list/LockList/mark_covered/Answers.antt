@@ -1,8 +1,5 @@
-use Rattle.std.specs.Prelude.{◌≤◌, ◌<◌, ℕ}
-use Rattle.std.proofs.Common.{refl, sym, subst, ◌∙◌}
-use Rattle.std.proofs.lemmas.List.{length-map}
-use Rattle.gl_graph.specs.View.{graph_of}
-use Rattle.gl_table.proofs.MarkedCovered.{marks_begin, marks_end, marks_more}
+use Rattle.gl_table.proofs.Words.{◌<◌, ◌∙◌, ◌≤◌, graph_of, length-map, refl, subst, sym, ℕ}
+use Rattle.gl_table.proofs.inside.Children.{marks_begin, marks_end, marks_more}
 use Rattle.gl_table.proofs.list.LockList.mark_covered.Goals as goal
 
 pub loop-at-init : goal.loop-at-init
@@ -20,7 +17,8 @@ loop-at-preserved c =
     let same = c.len-at-end.ensures.len ∙ sym (length-map c.args.self.now.entries.entries (λ e. e.0)) in
     record {
       listed = λ q. c.mark_one.ensures.listed q ∙ now.listed q;
-      modes = marks_more (graph_of c.args.graph.now) c.args.node c.args.self.now c.requires.counted c.loop-at.self c.mark_one.new.self c.loop-at.at (subst (λ (k : ℕ). c.loop-at.at < k) same c.loop-at-test.true) now.keys now.modes now.counts c.mark_one.ensures.marks;
+      modes = marks_more (graph_of c.args.graph.now) c.args.node c.args.self.now c.requires.counted c.loop-at.self c.mark_one.new.self c.loop-at.at
+          (subst (λ (k : ℕ). c.loop-at.at < k) same c.loop-at-test.true) now.keys now.modes now.counts c.mark_one.ensures.marks;
       counts = λ q. c.mark_one.ensures.counts q ∙ now.counts q;
       loose = c.mark_one.ensures.loose ∙ now.loose;
       keys = c.mark_one.ensures.keys ∙ now.keys;
@@ -29,4 +27,5 @@ loop-at-preserved c =
 pub returns-clause-modes : goal.returns-clause-modes
 returns-clause-modes c =
     let same = c.len-at-end.ensures.len ∙ sym (length-map c.args.self.now.entries.entries (λ e. e.0)) in
-    marks_end (graph_of c.args.graph.now) c.args.node c.args.self.now c.requires.counted c.loop-at.self c.loop-at.at (subst (λ (k : ℕ). k ≤ c.loop-at.at) same c.loop-at-test.false) c.loop-at.invariant.modes
+    marks_end (graph_of c.args.graph.now) c.args.node c.args.self.now c.requires.counted c.loop-at.self c.loop-at.at
+    (subst (λ (k : ℕ). k ≤ c.loop-at.at) same c.loop-at-test.false) c.loop-at.invariant.modes

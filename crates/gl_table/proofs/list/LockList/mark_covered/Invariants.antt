@@ -1,9 +1,5 @@
-use Rattle.std.specs.Prelude.{◌≡◌, take}
-use Rattle.indexmap.specs.IndexMap.{keys}
-use Rattle.gl_modes.specs.declared.node.NodeId.{NodeId}
-use Rattle.gl_graph.specs.View.{graph_of}
-use Rattle.gl_table.specs.Lists.{count_of, is_listed}
-use Rattle.gl_table.proofs.MarkedCovered.{HasMarked}
+use Rattle.gl_table.proofs.Words.{◌≡◌, count_of, graph_of, is_listed, keys, NodeId, take}
+use Rattle.gl_table.proofs.inside.Children.{HasMarked}
 use Rattle.gl_table.proofs.list.LockList.mark_covered.Given as goal
 
 -- the covered children at the places so far are marked

@@ -1,9 +1,5 @@
-use Rattle.std.proofs.Common.{ap, ◌∙◌}
-use Rattle.std.specs.Prelude.{is_some}
-use Rattle.std.specs.Map.{lookup}
-use Rattle.gl_modes.specs.Nodes.{same_node}
-use Rattle.gl_table.specs.Lists.{IsApart}
-use Rattle.gl_table.proofs.ListWrites.{StaysApart, at_each, IsWritten-same, IsTakenOut, IsTakenOut-here, IsTakenOut-apart, is_some-lookup_last}
+use Rattle.gl_table.proofs.Words.{◌∙◌, ap, is_some, IsApart, lookup, same_node}
+use Rattle.gl_table.proofs.inside.Lists.{at_each, is_some-lookup_last, IsTakenOut, IsTakenOut-apart, IsTakenOut-here, IsWritten-same, StaysApart}
 use Rattle.gl_table.proofs.list.LockList.pop.Goals as goal
 
 pub returns-clause-was : goal.returns-clause-was
@@ -14,12 +10,14 @@ returns-clause-was c =
 pub returns-clause-listed : goal.returns-clause-listed
 returns-clause-listed c =
     let updates = rw c.unwrap.ensures at c.pop.ensures.updates in
-    at_each IsTakenOut c.unwrap.result.0 _ _ _ _ _ _ updates.0 (IsWritten-same c.unwrap.result.0 c.args.self.now.loose.entries) (IsTakenOut-here _) IsTakenOut-apart
+    at_each IsTakenOut c.unwrap.result.0 _ _ _ _ _ _ updates.0 (IsWritten-same c.unwrap.result.0 c.args.self.now.loose.entries) (IsTakenOut-here _)
+    IsTakenOut-apart
 
 pub returns-clause-apart : goal.returns-clause-apart
 unfolding IsApart
 returns-clause-apart c = λ old.
     let updates = rw c.unwrap.ensures at c.pop.ensures.updates in (
       c.pop.ensures.unique,
-      λ q. at_each StaysApart c.unwrap.result.0 _ _ _ _ _ _ updates.0 (IsWritten-same c.unwrap.result.0 c.args.self.now.loose.entries) (λ f e. cc) (λ x y f. f) q (old.1 q),
+      λ q. at_each StaysApart c.unwrap.result.0 _ _ _ _ _ _ updates.0 (IsWritten-same c.unwrap.result.0 c.args.self.now.loose.entries) (λ f e. cc) (λ x y f. f)
+          q (old.1 q),
     )

@@ -1,7 +1,5 @@
-use Rattle.std.proofs.Common.{rules, refl, ap}
-use Rattle.std.specs.Prelude.{is_some}
-use Rattle.gl_table.specs.Lists.{count_in, loose_of}
-use Rattle.gl_table.proofs.ListWrites.{at_each, IsWritten-same, SameListed, SameCount}
+use Rattle.gl_table.proofs.Words.{ap, count_in, is_some, loose_of, refl, rules}
+use Rattle.gl_table.proofs.inside.Lists.{at_each, IsWritten-same, SameCount, SameListed}
 use Rattle.gl_table.proofs.list.LockList.set_mode.Goals as goal
 
 pub returns-in-Some-clause-listed : goal.returns-in-Some-clause-listed

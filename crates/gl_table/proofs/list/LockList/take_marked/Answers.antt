@@ -1,25 +1,14 @@
-use Rattle.std.proofs.lemmas.Map.Made.{is_some-lookup}
-use Rattle.std.specs.Prelude.{◌≤◌, ℕ, List, is_some, if◌then◌else◌}
-use Rattle.std.specs.List.{count_by}
-use Rattle.std.proofs.Common.{ap, subst, sym, ◌∙◌}
-use Rattle.gl_modes.specs.declared.node.NodeId.{NodeId}
-use Rattle.gl_modes.specs.Nodes.{same_node}
-use Rattle.gl_table.specs.Lists.{count_of, is_listed, mode_of}
-use Rattle.std.specs.Option.{option_map}
-use Rattle.std.proofs.lemmas.Option.{slice_get-map}
-use Rattle.indexmap.specs.IndexMap.{keys}
-use Rattle.indexmap.proofs.SetLemmas.{keys_swap_remove_entry}
-use Rattle.gl_graph.proofs.Look.{node_other, other_node}
-use Rattle.gl_table.proofs.GrantKeeps.{nl_is}
-use Rattle.gl_modes.specs.declared.mode.Mode.TheVariants.{NL}
-use Rattle.gl_modes.specs.Modes.{same_mode}
-use Rattle.gl_table.proofs.MarkedPlaces.{first_or_later, held_not, not_taken, still_passed, still_within}
+use Rattle.gl_table.proofs.Words.{◌∙◌, ◌≤◌, ap, count_by, count_of, if◌then◌else◌, is_listed, is_some, is_some-lookup, keys, keys_swap_remove_entry, List}
+use Rattle.gl_table.proofs.Words.{mode_of, NL, NodeId, option_map, same_mode, same_node, same_node-differ, same_node-other, slice_get-map, subst, sym, ℕ}
+use Rattle.gl_table.proofs.inside.Lists.{first_or_later, held_not, not_taken, still_passed, still_within}
+use Rattle.gl_table.proofs.law.Keeps.{nl_is}
 use Rattle.gl_table.proofs.list.LockList.take_marked.Goals as goal
 
 pub returns-then-holds-clause-passed : goal.returns-then-holds-clause-passed
 returns-then-holds-clause-passed c = λ i n le at.
     let e = c.in_ok-node.field-0 in
-    first_or_later c.args.self.now.entries.entries c.args.at (e.0.now, e.1.now) c.in_ok-node.ensures.entry (λ q. same_mode (mode_of c.args.self.now q) NL) (held_not (mode_of c.args.self.now e.0.now) (sym c.holds.ensures ∙ c.if-holds.true)) c.requires.passed i n le at
+    first_or_later c.args.self.now.entries.entries c.args.at (e.0.now, e.1.now) c.in_ok-node.ensures.entry (λ q. same_mode (mode_of c.args.self.now q) NL)
+    (held_not (mode_of c.args.self.now e.0.now) (sym c.holds.ensures ∙ c.if-holds.true)) c.requires.passed i n le at
 
 pub count_down-requires-clause-some : goal.count_down-requires-clause-some
 count_down-requires-clause-some c = λ q.
@@ -32,16 +21,21 @@ pub returns-clause-passed : goal.returns-clause-passed
 returns-clause-passed c =
     let node = c.in_ok-node.field-0.0.now in
     let es = c.args.self.now.entries.entries in
-    still_passed (keys c.args.self.now.entries) (keys c.count_down.new.self.entries) c.args.at node (c.count_down.ensures.keys ∙ c.leave.ensures.keys ∙ keys_swap_remove_entry (same_node node) es)
+    still_passed (keys c.args.self.now.entries) (keys c.count_down.new.self.entries) c.args.at node (c.count_down.ensures.keys ∙ c.leave.ensures.keys
+    ∙ keys_swap_remove_entry (same_node node) es)
     (slice_get-map (λ e. e.0) es c.args.at ∙ ap (option_map (λ e. e.0)) (sym c.in_ok-node.ensures.entry))
     (λ q. same_mode (mode_of c.args.self.now q) NL) (λ q. same_mode (mode_of c.count_down.new.self q) NL)
-    (λ q other. ap (λ m. same_mode m NL) (c.count_down.ensures.modes q ∙ c.leave.ensures.modes q ∙ ap (λ b. if b then NL else mode_of c.args.self.now q) (node_other q node other)))
-    (λ q there. other_node q node (not_taken (is_listed c.args.self.now q) (same_node q node) (sym (c.count_down.ensures.listed q ∙ c.leave.ensures.listed q) ∙ is_some-lookup (same_node q) c.count_down.new.self.entries.entries ∙ there)))
+    (λ q other. ap (λ m. same_mode m NL) (c.count_down.ensures.modes q ∙ c.leave.ensures.modes q
+    ∙ ap (λ b. if b then NL else mode_of c.args.self.now q) (same_node-differ q node other)))
+    (λ q there. same_node-other q node (not_taken (is_listed c.args.self.now q) (same_node q node)
+    (sym (c.count_down.ensures.listed q ∙ c.leave.ensures.listed q)
+    ∙ is_some-lookup (same_node q) c.count_down.new.self.entries.entries ∙ there)))
     c.requires.passed
 
 pub returns-clause-len : goal.returns-clause-len
 returns-clause-len c =
     let node = c.in_ok-node.field-0.0.now in
     let es = c.args.self.now.entries.entries in
-    still_within (keys c.args.self.now.entries) (keys c.count_down.new.self.entries) c.args.at node (c.count_down.ensures.keys ∙ c.leave.ensures.keys ∙ keys_swap_remove_entry (same_node node) es)
+    still_within (keys c.args.self.now.entries) (keys c.count_down.new.self.entries) c.args.at node (c.count_down.ensures.keys ∙ c.leave.ensures.keys
+    ∙ keys_swap_remove_entry (same_node node) es)
     (slice_get-map (λ e. e.0) es c.args.at ∙ ap (option_map (λ e. e.0)) (sym c.in_ok-node.ensures.entry))

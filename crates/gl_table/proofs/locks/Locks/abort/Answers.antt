@@ -1,30 +1,26 @@
-use Rattle.std.specs.Prelude.{◌≡◌, false}
-use Rattle.std.proofs.Common.{◌∙◌, ap, rules}
-use Rattle.gl_graph.specs.View.{graph_of}
-use Rattle.gl_table.specs.Calls.{cancelled}
-use Rattle.gl_table.specs.Locks.{state_on}
-use Rattle.gl_table.specs.State.{State, status_of}
-use Rattle.gl_table.specs.Waiting.{is_wait}
-use Rattle.gl_table.proofs.Cancelled.{IsFree, free_cancelled, free_idle, free_same}
+use Rattle.gl_table.proofs.Words.{◌∙◌, ◌≡◌, ap, cancelled, false, is_wait, IsBySlot, rules, State, state_in, status_of, subst, sym}
+use Rattle.gl_table.proofs.inside.Departures.{free_cancelled, free_idle, free_same, IsFree}
 use Rattle.gl_table.proofs.locks.Locks.abort.Goals.{Joined-seat, in-Some-Waiting, in-Some+in-Active-1, in-None-1}
 use Rattle.gl_table.proofs.locks.Locks.abort.Goals as goal
 
 abbrev before : Joined-seat → State
-before c = state_on (graph_of c.args.graph.now) c.args.self.now
+before c = state_in c.args.graph.now c.args.self.now
 
 -- where nothing was taken back, all is as it was
 idle : (c : Joined-seat) → is_wait (status_of (before c) c.args.slot) ≡ false → c.match-seat.self ≡ c.args.self.now → c.match-seat.told ≡ c.args.told.now
-    → IsFree (before c) (state_on (graph_of c.args.graph.now) c.match-seat.self) c.args.slot c.args.told.now.items c.match-seat.told.items
+    → IsFree (before c) (state_in c.args.graph.now c.match-seat.self) c.args.slot c.args.told.now.items c.match-seat.told.items
 idle c quiet self told =
-    free_same (before c) (before c) _ c.args.slot c.args.told.now.items c.args.told.now.items _ (ap (state_on (graph_of c.args.graph.now)) self) (ap (λ x. x.items) told)
-    (free_idle (before c) c.args.slot c.args.told.now.items c.requires.orderly quiet c.requires.untold)
+    free_same (before c) (before c) _ c.args.slot c.args.told.now.items c.args.told.now.items _ (ap (state_in c.args.graph.now) self) (ap (λ x. x.items) told)
+    (free_idle (before c) c.args.slot c.args.told.now.items c.requires.orderly quiet c.requires.tell.untold)
 
 -- the slot waits for nothing, once its wait is taken back, if it has one
-free : (c : Joined-seat) → IsFree (before c) (state_on (graph_of c.args.graph.now) c.match-seat.self) c.args.slot c.args.told.now.items c.match-seat.told.items
+free : (c : Joined-seat) → IsFree (before c) (state_in c.args.graph.now c.match-seat.self) c.args.slot c.args.told.now.items c.match-seat.told.items
 free c = elim c.match-seat.branch [
   | in-Some-Waiting w ↦
-      free_same (before c) (cancelled (before c) c.args.slot) _ c.args.slot c.args.told.now.items w.withdraw.new.told.items _ (ap (state_on (graph_of c.args.graph.now)) w.self-is ∙ w.withdraw.ensures.state) (ap (λ x. x.items) w.told-is)
-      (free_cancelled (before c) c.requires.orderly c.args.slot w.in-Some-Waiting.node (search rules) c.args.told.now.items w.withdraw.new.told.items w.withdraw.ensures.tells c.requires.untold)
+      free_same (before c) (cancelled (before c) c.args.slot) _ c.args.slot c.args.told.now.items w.withdraw.new.told.items _
+      (ap (state_in c.args.graph.now) w.self-is ∙ w.withdraw.ensures.state) (ap (λ x. x.items) w.told-is)
+      (free_cancelled (before c) c.requires.orderly c.args.slot w.in-Some-Waiting.node (search rules) c.args.told.now.items w.withdraw.new.told.items
+      w.withdraw.ensures.tells c.requires.tell.untold)
   | in-Some+in-Active-1 w ↦ idle c (search rules) w.self-is w.told-is
   | in-None-1 w ↦ idle c (search rules) w.self-is w.told-is
 ]
@@ -35,15 +31,23 @@ end-requires-clause-orderly c = (free (goal.at.end-requires-clause-orderly c).Jo
 pub end-requires-clause-quiet : goal.end-requires-clause-quiet
 end-requires-clause-quiet c = (free (goal.at.end-requires-clause-quiet c).Joined-seat).quiet
 
-pub end-requires-clause-untold : goal.end-requires-clause-untold
-end-requires-clause-untold c = (free (goal.at.end-requires-clause-untold c).Joined-seat).untold
+-- what was told so far is by slot
+by_slot : (c : Joined-seat) → IsBySlot c.match-seat.told.items
+by_slot c = elim c.match-seat.branch [
+  | in-Some-Waiting w ↦ subst IsBySlot (sym (ap (λ x. x.items) w.told-is)) w.withdraw.ensures.tells.by_slot
+  | in-Some+in-Active-1 w ↦ subst IsBySlot (sym (ap (λ x. x.items) w.told-is)) c.requires.tell.by_slot
+  | in-None-1 w ↦ subst IsBySlot (sym (ap (λ x. x.items) w.told-is)) c.requires.tell.by_slot
+]
+
+pub end-requires-clause-tell : goal.end-requires-clause-tell
+end-requires-clause-tell c = let at = (goal.at.end-requires-clause-tell c).Joined-seat in record { by_slot = by_slot at; untold = (free at).untold }
 
 pub returns-clause-state : goal.returns-clause-state
 returns-clause-state c = c.end.ensures.state ∙ (free (goal.at.returns-clause-state c).Joined-seat).released
 
 pub returns-clause-tells : goal.returns-clause-tells
-returns-clause-tells c = let f = free (goal.at.returns-clause-tells c).Joined-seat in
-    λ s way same. let now = f.tells s way same in c.end.ensures.tells s now.0 now.1
-
-pub returns-clause-own : goal.returns-clause-own
-returns-clause-own c = c.end.ensures.own ∙ (free (goal.at.returns-clause-own c).Joined-seat).own
+returns-clause-tells c = let f = free (goal.at.returns-clause-tells c).Joined-seat in let ends = c.end.ensures.tells in record {
+  by_slot = ends.by_slot;
+  others = λ s way same. let now = f.tells s way same in ends.others s now.0 now.1;
+  own = ends.own ∙ f.own;
+}

@@ -1,49 +1,41 @@
-use Rattle.std.specs.Prelude.{◌≡◌, ℕ, Bool, true, false, ◌&&◌, ◌==◌, if◌then◌else◌}
-use Rattle.std.proofs.Common.{refl, sym, ap, ◌∙◌}
-use Rattle.gl_modes.specs.declared.mode.Mode.TheVariants.{NL}
-use Rattle.gl_modes.specs.declared.node.NodeId.{NodeId}
-use Rattle.gl_modes.specs.Nodes.{same_node}
-use Rattle.gl_graph.specs.Graph.{parents_of}
-use Rattle.gl_graph.specs.View.{graph_of}
-use Rattle.gl_header.specs.Header.{front, with_mode}
-use Rattle.gl_header.specs.State.{slot_limit}
-use Rattle.gl_table.specs.Headers.{held_of, queue_of}
-use Rattle.gl_table.specs.Locks.{state_on}
-use Rattle.gl_table.specs.Pumps.{front_at}
-use Rattle.gl_table.specs.Seats.{txns_of}
-use Rattle.gl_table.specs.Slots.{Wakes}
-use Rattle.gl_table.specs.State.{State, members, with_grant}
-use Rattle.gl_table.proofs.FrontsGranted.{held-pumped, members-with_grant, pumped_by_fields, queue-pumped, released_front, wakes-same}
-use Rattle.gl_table.proofs.OneWaits.{well_granted, woken_front}
-use Rattle.gl_table.proofs.WakesFronts.{can_wake_front}
+use Rattle.gl_table.proofs.Words.{◌&&◌, ◌==◌, ◌∙◌, ◌≡◌, ap, Bool, false, front, front_at, graph_of, held_of, if◌then◌else◌, members, NL, NodeId, parents_of}
+use Rattle.gl_table.proofs.Words.{queue_of, refl, same_node, slot_limit, State, state_in, sym, true, txns_of, Wakes, with_grant, with_mode, ℕ}
+use Rattle.gl_table.proofs.inside.Granted.{can_wake_front, held-pumped, members-with_grant, pumped_by_fields, queue-pumped, released_front, wakes-same}
+use Rattle.gl_table.proofs.telling.Fronts.{well_granted, woken_front}
 use Rattle.gl_table.proofs.locks.Locks.drop_and_wake.Goals as goal
 
 pub wake_granted-requires : goal.wake_granted-requires
 wake_granted-requires c =
-    let s = state_on (graph_of c.args.graph.now) c.args.self.now in
-    can_wake_front (graph_of c.args.graph.now) c.args.self.now c.law.ensures.lawful c.requires.sound c.requires.orderly c.args.node (with_grant s c.args.slot c.args.node NL)
-    (well_granted s c.requires.orderly c.args.slot c.args.node NL c.args.node) (λ u h. h) c.requires.agree c.requires.count c.args.told.now.items c.requires.by_slot c.requires.untold _
+    let s = state_in c.args.graph.now c.args.self.now in
+    can_wake_front (graph_of c.args.graph.now) c.args.self.now c.law.ensures.lawful c.requires.sound c.requires.orderly c.args.node
+    (with_grant s c.args.slot c.args.node NL)
+    (well_granted s c.requires.orderly c.args.slot c.args.node NL c.args.node) (λ u h. h) c.requires.agree c.requires.count c.args.told.now.items
+    c.requires.tell.by_slot c.requires.tell.untold _
     (c.as_slice.ensures.value ∙ c.drop_grant.ensures.granted ∙ released_front s c.requires.orderly c.requires.sound.few c.args.slot c.args.node)
 
 abbrev before : goal.After-wake_granted → State
-before c = state_on (graph_of c.args.graph.now) c.args.self.now
+before c = state_in c.args.graph.now c.args.self.now
 
 abbrev dropped : goal.After-wake_granted → State
 dropped c = with_grant (before c) c.args.slot c.args.node NL
 
 -- the front that was granted
-front_is : (c : goal.After-wake_granted) → front slot_limit (with_mode (members (before c) c.args.node) c.args.slot NL) ((before c).queue c.args.node) ≡ front_at (dropped c) c.args.node
+front_is : (c : goal.After-wake_granted) → front slot_limit (with_mode (members (before c) c.args.node) c.args.slot NL) ((before c).queue c.args.node)
+    ≡ front_at (dropped c) c.args.node
 front_is c = released_front (before c) c.requires.orderly c.requires.sound.few c.args.slot c.args.node
 
-woken : (c : goal.After-wake_granted) → Wakes c.args.self.now.seats.items c.args.self.now.lists.items c.args.told.now.items c.args.node (parents_of (before c).graph c.args.node) (front_at (dropped c) c.args.node)
+woken : (c : goal.After-wake_granted) → Wakes c.args.self.now.seats.items c.args.self.now.lists.items c.args.told.now.items c.args.node
+    (parents_of (before c).graph c.args.node) (front_at (dropped c) c.args.node)
     c.wake_granted.new.self.seats.items c.wake_granted.new.self.lists.items c.wake_granted.new.told.items
 woken c = wakes-same _ _ _ _ _ _ c.args.node _ _ _ (c.as_slice.ensures.value ∙ c.drop_grant.ensures.granted ∙ front_is c) c.wake_granted.ensures.wakes
 
 pub returns-clause-state : goal.returns-clause-state
 returns-clause-state c =
     let b = dropped c in
-    pumped_by_fields b (same_node c.args.node) (held_of c.wake_granted.new.self.headers.entries) (queue_of c.wake_granted.new.self.headers.entries) (txns_of c.wake_granted.new.self.seats.items) _
-    (ap held_of c.wake_granted.ensures.headers ∙ c.drop_grant.ensures.held ∙ held-pumped b c.args.node (before c).held _ _ (members-with_grant (before c) c.args.slot c.args.node NL) (front_is c) apart)
+    pumped_by_fields b (same_node c.args.node) (held_of c.wake_granted.new.self.headers.entries) (queue_of c.wake_granted.new.self.headers.entries)
+    (txns_of c.wake_granted.new.self.seats.items) _
+    (ap held_of c.wake_granted.ensures.headers ∙ c.drop_grant.ensures.held
+    ∙ held-pumped b c.args.node (before c).held _ _ (members-with_grant (before c) c.args.slot c.args.node NL) (front_is c) apart)
     (ap queue_of c.wake_granted.ensures.headers ∙ c.drop_grant.ensures.queue ∙ queue-pumped b c.args.node (before c).queue _ (front_is c) (λ q e. refl))
     (λ u. (woken c).txns u ∙ sym (woken_front b c.args.node (well_granted (before c) c.requires.orderly c.args.slot c.args.node NL c.args.node) u))
     (woken c).len

@@ -1,10 +1,6 @@
-use Rattle.std.proofs.Common.{arith, refl}
-use Rattle.gl_graph.specs.Graph.{Graph}
-use Rattle.gl_table.specs.Locks.{state_on}
-use Rattle.gl_table.specs.State.{empty_state}
-use Rattle.gl_table.specs.declared.detect.Detect.TheVariants.{ByWatcher}
-use Rattle.gl_table.proofs.KeptRows.{kept-all, kept-more, kept-none, left-on_cycle}
-use Rattle.gl_table.proofs.Victims.{cycle_waits}
+use Rattle.gl_table.proofs.Words.{arith, ByWatcher, empty_state, Graph, refl, state_on}
+use Rattle.gl_table.proofs.inside.Boards.{cycle_waits}
+use Rattle.gl_table.proofs.inside.KeptRows.{kept-all, kept-more, kept-none, left-on_cycle}
 use Rattle.gl_table.proofs.locks.Locks.keep_deadlock.Goals as goal
 
 -- some graph: who waits for whom is the same over each
@@ -13,13 +9,15 @@ some_graph = (empty_state ByWatcher 0).graph
 
 pub loop-waiter-init : goal.loop-waiter-init
 loop-waiter-init c = λ g.
-    kept-none (state_on g c.args.self.now) c.args.slot c.args.victim c.cycle-cycle.result (c.cycle-cycle.ensures g) (record { victim = c.name-deadlock.result; cycle = c.clear.new.self }) (c.name-deadlock.ensures g) c.clear.ensures
+    kept-none (state_on g c.args.self.now) c.args.slot c.args.victim c.cycle-cycle.result (c.cycle-cycle.ensures g)
+    (record { victim = c.name-deadlock.result; cycle = c.clear.new.self }) (c.name-deadlock.ensures g) c.clear.ensures
 
 pub stuck-stuck-requires-clause-waits : goal.stuck-stuck-requires-clause-waits
 stuck-stuck-requires-clause-waits c =
     let s = state_on some_graph c.args.self.now in
     cycle_waits s c.args.slot c.in-Some.waiter
-    (left-on_cycle s c.args.slot c.args.victim c.cycle-cycle.result (c.cycle-cycle.ensures some_graph) c.loop-waiter.left c.in-Some.waiter c.loop-waiter.deadlock c.in-Some.ensures.some.member (c.loop-waiter.invariant some_graph))
+    (left-on_cycle s c.args.slot c.args.victim c.cycle-cycle.result (c.cycle-cycle.ensures some_graph) c.loop-waiter.left c.in-Some.waiter
+    c.loop-waiter.deadlock c.in-Some.ensures.some.member (c.loop-waiter.invariant some_graph))
 
 pub push-requires : goal.push-requires
 push-requires c =
@@ -30,9 +28,11 @@ push-requires c =
 pub loop-waiter-preserved : goal.loop-waiter-preserved
 loop-waiter-preserved c = λ g.
     let stuck = c.stuck-stuck.ensures in
-    kept-more (state_on g c.args.self.now) c.args.slot c.args.victim c.cycle-cycle.result (c.cycle-cycle.ensures g) c.loop-waiter.left c.take_lowest.new.self c.in-Some.waiter c.in-Some.ensures.some c.in-Some.ensures.left
+    kept-more (state_on g c.args.self.now) c.args.slot c.args.victim c.cycle-cycle.result (c.cycle-cycle.ensures g) c.loop-waiter.left c.take_lowest.new.self
+    c.in-Some.waiter c.in-Some.ensures.some c.in-Some.ensures.left
     c.loop-waiter.deadlock (record { victim = c.loop-waiter.deadlock.victim; cycle = c.push.new.self }) c.stuck-stuck.result (c.loop-waiter.invariant g)
     (stuck.name g) (stuck.waits g) (stuck.waits_for g) refl c.push.ensures.items
 
 pub returns : goal.returns
-returns c = λ g. kept-all (state_on g c.args.self.now) c.args.slot c.args.victim c.cycle-cycle.result c.loop-waiter.left c.loop-waiter.deadlock (c.cycle-cycle.ensures g) c.in_default.ensures.none (c.loop-waiter.invariant g)
+returns c = λ g. kept-all (state_on g c.args.self.now) c.args.slot c.args.victim c.cycle-cycle.result c.loop-waiter.left c.loop-waiter.deadlock
+    (c.cycle-cycle.ensures g) c.in_default.ensures.none (c.loop-waiter.invariant g)

@@ -1,18 +1,13 @@
-use Rattle.std.specs.List.{count_by}
-use Rattle.gl_graph.specs.Graph.{nodes}
-use Rattle.gl_graph.specs.View.{graph_of}
-use Rattle.gl_header.specs.Header.{holds}
-use Rattle.gl_table.specs.Locks.{AreSound, state_on}
-use Rattle.gl_table.specs.State.{members}
-use Rattle.gl_table.proofs.Departures.{IsLeaving}
+use Rattle.gl_table.proofs.Words.{AreSound, count_by, graph_of, holds, members, nodes, state_in}
+use Rattle.gl_table.proofs.inside.Departures.{IsLeaving}
 use Rattle.gl_table.proofs.locks.Locks.leave_all.Given as goal
 
 abbrev pub invariant-loop-node : goal.invariant-loop-node
 invariant-loop-node l = record {
   sound : AreSound l.self;
-  leaving : IsLeaving (state_on (graph_of l.graph) l.fn.self) (state_on (graph_of l.graph) l.self) l.slot l.self.lists.items l.fn.told.items l.told.items;
+  leaving : IsLeaving (state_in l.graph l.fn.self) (state_in l.graph l.self) l.slot l.self.lists.items l.fn.told.items l.told.items;
 }
 
 -- how many nodes the slot holds
 abbrev pub decreases-loop-node : goal.decreases-loop-node
-decreases-loop-node l = count_by (λ n. holds (members (state_on (graph_of l.graph) l.self) n) l.slot) (nodes (graph_of l.graph))
+decreases-loop-node l = count_by (λ n. holds (members (state_in l.graph l.self) n) l.slot) (nodes (graph_of l.graph))

@@ -1,5 +1,5 @@
-use Rattle.std.specs.Prelude.{◌≡◌, length}
-use Rattle.gl_table.proofs.NewLists.{AreBare}
+use Rattle.gl_table.proofs.Words.{◌≡◌, length}
+use Rattle.gl_table.proofs.inside.Lists.{AreBare}
 use Rattle.gl_table.proofs.locks.Locks.new.Given as goal
 
 -- so many bare lists

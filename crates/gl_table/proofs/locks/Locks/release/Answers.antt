@@ -1,35 +1,31 @@
-use Rattle.std.specs.Prelude.{◌<◌, List, ℕ}
-use Rattle.std.proofs.Common.{◌∙◌, subst, sym}
-use Rattle.gl_modes.specs.declared.node.NodeId.{NodeId}
-use Rattle.gl_graph.specs.View.{graph_of}
-use Rattle.gl_table.specs.Locks.{Agrees, CountsHeld, state_on}
-use Rattle.gl_table.specs.Slots.{CanStrike, Strikes}
-use Rattle.gl_table.specs.State.{State}
-use Rattle.gl_table.proofs.GrantKeeps.{txn_there}
-use Rattle.gl_table.proofs.Released.{agrees_released, can_strike, counts_released}
+use Rattle.gl_table.proofs.Words.{◌<◌, ◌∙◌, Agrees, CanStrike, CountsHeld, List, NodeId, State, state_in, Strikes, subst, sym, ℕ}
+use Rattle.gl_table.proofs.inside.Released.{agrees_released, can_strike, counts_released}
+use Rattle.gl_table.proofs.law.Keeps.{txn_there}
 use Rattle.gl_table.proofs.locks.Locks.release.Goals as goal
 
 pub strike-requires-clause-can : goal.strike-requires-clause-can
 strike-requires-clause-can c =
-    let s : State = state_on (graph_of c.args.graph.now) c.args.self.now in
+    let s : State = state_in c.args.graph.now c.args.self.now in
     let lt = c.requires.orderly.below c.args.slot (txn_there (s.txns c.args.slot) _ c.requires.active) in
     subst (λ (ps : List NodeId). CanStrike c.drop_and_wake.new.self.lists.items c.args.slot c.args.node ps) (sym c.parents.ensures)
-    (can_strike s c.requires.orderly c.law.ensures.lawful c.args.slot c.args.node c.requires.active (c.requires.orderly.holders_live c.args.slot c.args.node c.requires.holds) c.requires.holds
-    c.args.self.now.lists.items c.drop_and_wake.new.self.lists.items c.requires.agree c.requires.count c.drop_and_wake.ensures.lists
-    (subst (λ (k : ℕ). c.args.slot < k) (sym (c.drop_and_wake.ensures.lists.len ∙ c.requires.sound.lists)) lt) c.requires.childless)
+    (can_strike s c.requires.orderly c.law.ensures.lawful c.args.slot c.args.node c.requires.active
+    (c.requires.orderly.holders_live c.args.slot c.args.node c.requires.holds) c.requires.holds
+    c.args.self.now.lists.items c.drop_and_wake.new.self.lists.items c.requires.exact.agree c.requires.exact.count c.drop_and_wake.ensures.lists
+    (subst (λ (k : ℕ). c.args.slot < k) (sym (c.drop_and_wake.ensures.lists.len ∙ c.requires.exact.sound.lists)) lt) c.requires.childless)
 
-pub returns-clause-agree : goal.returns-clause-agree
-returns-clause-agree c =
-    let s : State = state_on (graph_of c.args.graph.now) c.args.self.now in
-    λ u. subst (λ (x : State). Agrees x c.strike.new.lists.items u) (sym c.drop_and_wake.ensures.state)
-    (agrees_released s c.requires.orderly c.law.ensures.lawful c.args.slot c.args.node c.requires.active (c.requires.orderly.holders_live c.args.slot c.args.node c.requires.holds) c.requires.holds
-    c.args.self.now.lists.items c.drop_and_wake.new.self.lists.items c.requires.agree c.requires.count c.drop_and_wake.ensures.lists c.strike.new.lists.items
-    (subst (λ (ps : List NodeId). Strikes c.drop_and_wake.new.self.lists.items c.strike.new.lists.items c.args.slot c.args.node ps) c.parents.ensures c.strike.ensures) u)
-
-pub returns-clause-count : goal.returns-clause-count
-returns-clause-count c =
-    let s : State = state_on (graph_of c.args.graph.now) c.args.self.now in
-    λ u. subst (λ (x : State). CountsHeld x c.strike.new.lists.items u) (sym c.drop_and_wake.ensures.state)
-    (counts_released s c.requires.orderly c.law.ensures.lawful c.args.slot c.args.node c.requires.active (c.requires.orderly.holders_live c.args.slot c.args.node c.requires.holds) c.requires.holds
-    c.args.self.now.lists.items c.drop_and_wake.new.self.lists.items c.requires.agree c.requires.count c.drop_and_wake.ensures.lists c.strike.new.lists.items
-    (subst (λ (ps : List NodeId). Strikes c.drop_and_wake.new.self.lists.items c.strike.new.lists.items c.args.slot c.args.node ps) c.parents.ensures c.strike.ensures) u)
+pub returns-clause-exact : goal.returns-clause-exact
+returns-clause-exact c =
+    let s : State = state_in c.args.graph.now c.args.self.now in
+    let woken = c.drop_and_wake.ensures in
+    let live = c.requires.orderly.holders_live c.args.slot c.args.node c.requires.holds in
+    let struck = subst (λ (ps : List NodeId). Strikes c.drop_and_wake.new.self.lists.items c.strike.new.lists.items c.args.slot c.args.node ps)
+    c.parents.ensures c.strike.ensures in
+    record {
+      sound = record { headers = woken.sound.headers; few = woken.sound.few; lists = struck.len ∙ woken.sound.lists; apart = struck.apart };
+      agree = λ u. subst (λ (x : State). Agrees x c.strike.new.lists.items u) (sym woken.state)
+          (agrees_released s c.requires.orderly c.law.ensures.lawful c.args.slot c.args.node c.requires.active live c.requires.holds c.args.self.now.lists.items
+          c.drop_and_wake.new.self.lists.items c.requires.exact.agree c.requires.exact.count woken.lists c.strike.new.lists.items struck u);
+      count = λ u. subst (λ (x : State). CountsHeld x c.strike.new.lists.items u) (sym woken.state)
+          (counts_released s c.requires.orderly c.law.ensures.lawful c.args.slot c.args.node c.requires.active live c.requires.holds c.args.self.now.lists.items
+          c.drop_and_wake.new.self.lists.items c.requires.exact.agree c.requires.exact.count woken.lists c.strike.new.lists.items struck u);
+    }

@@ -1,9 +1,5 @@
-use Rattle.std.specs.Prelude.{◌≤◌, length}
-use Rattle.indexmap.specs.IndexMap.{keys}
-use Rattle.gl_graph.specs.View.{graph_of}
-use Rattle.gl_table.specs.Locks.{AreSound, state_on}
-use Rattle.gl_table.specs.Marks.{NoneMarkedFrom}
-use Rattle.gl_table.proofs.Marked.{IsReleasing}
+use Rattle.gl_table.proofs.Words.{◌≤◌, AreSound, keys, length, NoneMarkedFrom, state_in}
+use Rattle.gl_table.proofs.inside.Marked.{IsReleasing}
 use Rattle.gl_table.proofs.locks.Locks.release_marked.Given as goal
 
 abbrev pub invariant-loop-at : goal.invariant-loop-at
@@ -11,7 +7,7 @@ invariant-loop-at l = record {
   sound : AreSound l.self;
   within : l.at ≤ length (keys l.list.entries);
   passed : NoneMarkedFrom l.list l.at;
-  releasing : IsReleasing (state_on (graph_of l.graph) l.fn.self) (state_on (graph_of l.graph) l.self) l.slot l.fn.node l.self.lists.items l.list l.fn.told.items l.told.items;
+  releasing : IsReleasing (state_in l.graph l.fn.self) (state_in l.graph l.self) l.slot l.fn.node l.self.lists.items l.list l.fn.told.items l.told.items;
 }
 
 abbrev pub decreases-loop-at : goal.decreases-loop-at

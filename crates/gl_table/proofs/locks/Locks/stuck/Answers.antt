@@ -1,10 +1,4 @@
-use Rattle.std.specs.Prelude.{◌≡◌, Option, Some, true}
-use Rattle.std.proofs.Common.{ap, rules, sym, ◌∙◌}
-use Rattle.gl_table.specs.declared.seat.Seat.{Seat}
-use Rattle.gl_table.specs.Seats.{txn_in}
-use Rattle.gl_table.specs.State.{Txn, status_in}
-use Rattle.gl_table.specs.Waiting.{is_wait}
-use Rattle.gl_table.proofs.Queues.{clash}
+use Rattle.gl_table.proofs.Words.{◌∙◌, ◌≡◌, ap, clash, is_wait, Option, rules, Seat, Some, status_in, sym, true, Txn, txn_in}
 use Rattle.gl_table.proofs.locks.Locks.stuck.Goals.{in_default-via-in-Some+in_default, in_default-via-in_default}
 use Rattle.gl_table.proofs.locks.Locks.stuck.Goals as goal
 
@@ -16,6 +10,7 @@ pub unreachable-requires : goal.unreachable-requires
 unreachable-requires c =
     let h = waits c.seat.result _ c.seat.ensures c.requires.waits in
     elim c.in_default.branch [
-      | in_default-via-in-Some+in_default w ↦ let status : is_wait (Some w.in_default.field-0.status) ≡ true = sym (ap (λ o. is_wait (status_in (txn_in (Some o)))) w.in_default.is) ∙ h in search rules
+      | in_default-via-in-Some+in_default w ↦ let status : is_wait (Some w.in_default.field-0.status)
+          ≡ true = sym (ap (λ o. is_wait (status_in (txn_in (Some o)))) w.in_default.is) ∙ h in search rules
       | in_default-via-in_default w ↦ clash h (ap (λ o. is_wait (status_in (txn_in (Some o)))) w.in_default.is)
     ]

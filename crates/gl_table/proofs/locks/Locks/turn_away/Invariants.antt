@@ -1,15 +1,12 @@
-use Rattle.gl_graph.specs.Graph.{parents_of}
-use Rattle.gl_graph.specs.View.{graph_of}
+use Rattle.gl_table.proofs.Words.{AreSound, graph_of, parents_of, state_in, stays}
 use Rattle.gl_waits.specs.Sets.{has_slot}
-use Rattle.gl_table.specs.Calls.{stays}
-use Rattle.gl_table.specs.Locks.{AreSound, state_on}
-use Rattle.gl_table.proofs.TurnedAway.{IsTurning}
+use Rattle.gl_table.proofs.inside.TurnedAway.{IsTurning}
 use Rattle.gl_table.proofs.locks.Locks.turn_away.Given as goal
 
 abbrev pub invariant-loop-strays : goal.invariant-loop-strays
 invariant-loop-strays l = record {
   sound : AreSound l.self;
-  turning : IsTurning (state_on (graph_of l.graph) l.fn.self) (state_on (graph_of l.graph) l.self) l.node (stays (state_on (graph_of l.graph) l.fn.self) (parents_of (graph_of l.graph) l.node))
+  turning : IsTurning (state_in l.graph l.fn.self) (state_in l.graph l.self) l.node (stays (state_in l.graph l.fn.self) (parents_of (graph_of l.graph) l.node))
       (has_slot l.strays) l.fn.self.lists.items l.self.lists.items l.fn.told.items l.told.items;
 }
 

@@ -1,22 +1,11 @@
-use Rattle.std.specs.Prelude.{◌≡◌, ◌<◌, ℕ, List, length}
-use Rattle.std.proofs.Common.{refl, sym, ap, ◌∙◌, subst}
-use Rattle.std.proofs.Math.Path.{fun_ext}
-use Rattle.gl_modes.specs.declared.node.NodeId.{NodeId}
-use Rattle.gl_header.specs.Header.{Waiter}
-use Rattle.gl_graph.specs.Graph.{parents_of}
-use Rattle.gl_graph.specs.View.{graph_of}
-use Rattle.gl_table.specs.Calls.{deleted}
-use Rattle.gl_table.specs.Frees.{CanFree, Frees}
-use Rattle.gl_table.specs.Headers.{header_or_new, queue_of}
-use Rattle.gl_table.specs.Locks.{state_on}
-use Rattle.gl_table.specs.Slots.{CanStrike, Strikes}
-use Rattle.gl_table.specs.State.{State}
-use Rattle.gl_table.proofs.GrantKeeps.{txn_there}
-use Rattle.gl_table.proofs.Vacated.{MayVacate, agrees_vacated, can_free, can_strike, counts_vacated, txns_freed}
+use Rattle.gl_table.proofs.Words.{◌<◌, ◌∙◌, ◌≡◌, ap, CanFree, CanStrike, deleted, Frees, fun_ext, graph_of, header_or_new, length, List, NodeId, parents_of}
+use Rattle.gl_table.proofs.Words.{queue_of, refl, State, state_in, Strikes, subst, sym, Waiter, ℕ}
+use Rattle.gl_table.proofs.inside.Vacated.{agrees_vacated, can_free, can_strike, counts_vacated, MayVacate, txns_freed}
+use Rattle.gl_table.proofs.law.Keeps.{txn_there}
 use Rattle.gl_table.proofs.locks.Locks.vacate.Goals.{After-parents, After-queue, After-strike, Joined-header}
 use Rattle.gl_table.proofs.locks.Locks.vacate.Goals as goal
 
-may : (c : After-parents) → MayVacate (state_on (graph_of c.args.graph.now) c.args.self.now) c.args.slot c.args.rec c.args.self.now.lists.items
+may : (c : After-parents) → MayVacate (state_in c.args.graph.now c.args.self.now) c.args.slot c.args.rec c.args.self.now.lists.items
 may c = record {
   orderly = c.requires.orderly;
   law = c.law.ensures.lawful;
@@ -24,21 +13,25 @@ may c = record {
   rec = c.requires.record;
   holding = c.requires.holds;
   alone = c.requires.alone;
-  agree = c.requires.agree;
-  count = c.requires.count;
+  agree = c.requires.exact.agree;
+  count = c.requires.exact.count;
 }
 
 listed : (c : After-parents) → c.args.slot < length c.args.self.now.lists.items
-listed c = let s : State = state_on (graph_of c.args.graph.now) c.args.self.now in
-    subst (λ (k : ℕ). c.args.slot < k) (sym c.requires.sound.lists) (c.requires.orderly.below c.args.slot (txn_there (s.txns c.args.slot) _ c.requires.active))
+listed c = let s : State = state_in c.args.graph.now c.args.self.now in
+    subst (λ (k : ℕ). c.args.slot < k) (sym c.requires.exact.sound.lists)
+    (c.requires.orderly.below c.args.slot (txn_there (s.txns c.args.slot) _ c.requires.active))
 
 pub strike-requires-clause-can : goal.strike-requires-clause-can
 strike-requires-clause-can c =
     subst (λ (ps : List NodeId). CanStrike c.args.self.now.lists.items c.args.slot c.args.rec ps) (sym c.parents.ensures)
-    (can_strike (state_on (graph_of c.args.graph.now) c.args.self.now) c.args.slot c.args.rec c.args.self.now.lists.items (may (goal.at.strike-requires-clause-can c).After-parents) (listed (goal.at.strike-requires-clause-can c).After-parents))
+    (can_strike (state_in c.args.graph.now c.args.self.now) c.args.slot c.args.rec c.args.self.now.lists.items
+    (may (goal.at.strike-requires-clause-can c).After-parents) (listed (goal.at.strike-requires-clause-can c).After-parents))
 
-struck : (c : After-strike) → Strikes c.args.self.now.lists.items c.strike.new.lists.items c.args.slot c.args.rec (parents_of (graph_of c.args.graph.now) c.args.rec)
-struck c = subst (λ (ps : List NodeId). Strikes c.args.self.now.lists.items c.strike.new.lists.items c.args.slot c.args.rec ps) c.parents.ensures c.strike.ensures
+struck : (c : After-strike) → Strikes c.args.self.now.lists.items c.strike.new.lists.items c.args.slot c.args.rec
+    (parents_of (graph_of c.args.graph.now) c.args.rec)
+struck c = subst (λ (ps : List NodeId). Strikes c.args.self.now.lists.items c.strike.new.lists.items c.args.slot c.args.rec ps) c.parents.ensures
+    c.strike.ensures
 
 -- the waiters of the header that was taken are those of the record
 waiters : (c : After-queue) → c.queue.result.now ≡ queue_of c.args.self.now.headers.entries c.args.rec
@@ -48,19 +41,23 @@ pub free-requires : goal.free-requires
 free-requires c =
     let at = goal.at.free-requires c in
     subst (λ (ws : List Waiter). CanFree c.args.self.now.seats.items c.strike.new.lists.items c.args.told.now.items c.args.rec ws) (sym (waiters c))
-    (can_free (state_on (graph_of c.args.graph.now) c.args.self.now) c.args.slot c.args.rec c.args.self.now.lists.items (may at.After-parents) c.strike.new.lists.items (struck at.After-strike)
-    c.args.self.now.seats.items c.args.told.now.items refl c.requires.sound.few c.requires.sound.lists c.requires.by_slot c.requires.untold)
+    (can_free (state_in c.args.graph.now c.args.self.now) c.args.slot c.args.rec c.args.self.now.lists.items (may at.After-parents) c.strike.new.lists.items
+    (struck at.After-strike)
+    c.args.self.now.seats.items c.args.told.now.items refl c.requires.exact.sound.few c.requires.exact.sound.lists c.requires.tell.by_slot
+    c.requires.tell.untold)
 
 freed : (c : Joined-header) → c.queue.result.now ≡ queue_of c.args.self.now.headers.entries c.args.rec
-    → Frees c.args.self.now.seats.items c.strike.new.lists.items c.args.told.now.items c.args.rec (queue_of c.args.self.now.headers.entries c.args.rec) c.free.new.seats.items c.free.new.lists.items c.free.new.told.items
+    → Frees c.args.self.now.seats.items c.strike.new.lists.items c.args.told.now.items c.args.rec (queue_of c.args.self.now.headers.entries c.args.rec)
+    c.free.new.seats.items c.free.new.lists.items c.free.new.told.items
 freed c is =
-    subst (λ (ws : List Waiter). Frees c.args.self.now.seats.items c.strike.new.lists.items c.args.told.now.items c.args.rec ws c.free.new.seats.items c.free.new.lists.items c.free.new.told.items) is
+    subst (λ (ws : List Waiter). Frees c.args.self.now.seats.items c.strike.new.lists.items c.args.told.now.items c.args.rec ws c.free.new.seats.items
+    c.free.new.lists.items c.free.new.told.items) is
     c.free.ensures
 
 pub returns-clause-state : goal.returns-clause-state
 returns-clause-state c =
     let at = goal.at.returns-clause-state c in
-    let s : State = state_on (graph_of c.args.graph.now) c.args.self.now in
+    let s : State = state_in c.args.graph.now c.args.self.now in
     let all = freed c (waiters at.After-queue) in
     λ i. record (deleted s c.args.rec) {
       txns = fun_ext (λ u. all.txns u ∙ txns_freed s c.args.slot c.args.rec c.args.self.now.lists.items (may at.After-parents) u) i;
@@ -72,11 +69,13 @@ returns-clause-state c =
 pub returns-clause-agree : goal.returns-clause-agree
 returns-clause-agree c =
     let at = goal.at.returns-clause-agree c in
-    agrees_vacated (state_on (graph_of c.args.graph.now) c.args.self.now) c.args.slot c.args.rec c.args.self.now.lists.items (may at.After-parents) c.strike.new.lists.items (struck at.After-strike)
+    agrees_vacated (state_in c.args.graph.now c.args.self.now) c.args.slot c.args.rec c.args.self.now.lists.items (may at.After-parents)
+    c.strike.new.lists.items (struck at.After-strike)
     c.free.new.lists.items (freed c (waiters at.After-queue)).lists
 
 pub returns-clause-count : goal.returns-clause-count
 returns-clause-count c =
     let at = goal.at.returns-clause-count c in
-    counts_vacated (state_on (graph_of c.args.graph.now) c.args.self.now) c.args.slot c.args.rec c.args.self.now.lists.items (may at.After-parents) c.strike.new.lists.items (struck at.After-strike)
+    counts_vacated (state_in c.args.graph.now c.args.self.now) c.args.slot c.args.rec c.args.self.now.lists.items (may at.After-parents)
+    c.strike.new.lists.items (struck at.After-strike)
     c.free.new.lists.items (freed c (waiters at.After-queue)).lists

@@ -1,15 +1,6 @@
-use Rattle.std.specs.Prelude.{ℕ, List, Option, IfNone}
-use Rattle.std.proofs.Common.{ap, get_or, refl, subst, sym, ◌∙◌}
-use Rattle.gl_graph.specs.Graph.{Graph}
-use Rattle.gl_waits.specs.Victims.{IsCandidate}
-use Rattle.gl_waits.specs.Waits.{IsLowestYoungest, IsOnNoCycle}
-use Rattle.gl_table.specs.BoardOf.{shown}
-use Rattle.gl_table.specs.declared.seat.Seat.{Seat}
-use Rattle.gl_table.specs.Locks.{IsOrderly, state_on}
-use Rattle.gl_table.specs.Seats.{txns_of}
-use Rattle.gl_table.specs.State.{age_in}
-use Rattle.gl_table.specs.Waiting.{IsVictim, waits_for}
-use Rattle.gl_table.proofs.Victims.{victim_by_ages, victim_waits}
+use Rattle.gl_table.proofs.Words.{◌∙◌, age_in, ap, get_or, Graph, IfNone, IsCandidate, IsLowestYoungest, IsOnNoCycle, IsOrderly, IsVictim, List, Option, refl}
+use Rattle.gl_table.proofs.Words.{Seat, shown, state_on, subst, sym, txns_of, waits_for, ℕ}
+use Rattle.gl_table.proofs.inside.Boards.{victim_by_ages, victim_waits}
 use Rattle.gl_table.proofs.locks.Locks.victim.Goals.{In_ok-victim}
 use Rattle.gl_table.proofs.locks.Locks.victim.Goals as goal
 
@@ -18,13 +9,16 @@ chosen : (c : In_ok-victim) (g : Graph) → IsVictim c.args.victims (state_on g 
 chosen c g =
     victim_by_ages c.args.victims (state_on g c.args.self.now) c.args.slot c.in_ok-victim.victim (λ u. get_or c.ages.result u 0)
     (λ u. c.ages.ensures u ∙ ap (λ (seats : List (Option Seat)). age_in (txns_of seats u)) c.as_slice-seats.ensures)
-    (subst (λ (seats : List (Option Seat)). IsLowestYoungest (IsCandidate c.args.victims (waits_for (shown c.args.self.now.headers.entries seats 0)) c.args.slot) (λ u. get_or c.ages.result u 0) c.in_ok-victim.victim)
+    (subst (λ (seats : List (Option Seat)). IsLowestYoungest
+    (IsCandidate c.args.victims (waits_for (shown c.args.self.now.headers.entries seats 0)) c.args.slot) (λ u. get_or c.ages.result u 0) c.in_ok-victim.victim)
     c.as_slice-seats.ensures c.in_ok-victim.ensures.some)
 
 pub returns-in_err-victim-clause-none : goal.returns-in_err-victim-clause-none
 returns-in_err-victim-clause-none c =
-    subst (λ (answer : Option ℕ). IfNone answer ((g : Graph) → IsOrderly (state_on g c.args.self.now) → IsOnNoCycle (waits_for (state_on g c.args.self.now)) c.args.slot)) (sym c.from_residual.ensures)
-    (λ g o. subst (λ (seats : List (Option Seat)). IsOnNoCycle (waits_for (shown c.args.self.now.headers.entries seats 0)) c.args.slot) c.as_slice-seats.ensures (c.in_err-victim.ensures.none.0 refl))
+    subst (λ (answer : Option ℕ). IfNone answer ((g : Graph) → IsOrderly (state_on g c.args.self.now)
+    → IsOnNoCycle (waits_for (state_on g c.args.self.now)) c.args.slot)) (sym c.from_residual.ensures)
+    (λ g o. subst (λ (seats : List (Option Seat)). IsOnNoCycle (waits_for (shown c.args.self.now.headers.entries seats 0)) c.args.slot) c.as_slice-seats.ensures
+    (c.in_err-victim.ensures.none.0 refl))
 
 pub returns-clause-some : goal.returns-clause-some
 returns-clause-some c = λ g o. chosen c g

@@ -1,82 +1,80 @@
-use Rattle.std.specs.Prelude.{◌≡◌, ◌<◌, ◌&&◌, ℕ, true, false, not, List, length, if◌then◌else◌, slice_set}
-use Rattle.std.proofs.Common.{◌∙◌, ap, subst, sym}
-use Rattle.std.proofs.lemmas.Bool.{not-false, not-true}
-use Rattle.indexmap.specs.IndexMap.{spare}
-use Rattle.gl_modes.specs.declared.mode.Mode.TheVariants.{NL}
-use Rattle.gl_modes.specs.declared.node.NodeId.{NodeId}
-use Rattle.gl_modes.specs.Nodes.{same_node}
-use Rattle.gl_graph.specs.View.{graph_of}
-use Rattle.gl_table.specs.declared.list.LockList.{LockList}
-use Rattle.gl_table.specs.Lists.{IsApart, count_of, is_listed, mode_of}
-use Rattle.gl_table.specs.Locks.{Agrees, CountsHeld, state_on}
-use Rattle.gl_table.specs.Pumps.{pumped, without_wait}
-use Rattle.gl_table.specs.State.{State}
-use Rattle.gl_table.proofs.GrantKeeps.{txn_there}
-use Rattle.gl_table.proofs.Less.{waiting_is}
-use Rattle.gl_table.proofs.OneWaits.{waits_only}
-use Rattle.gl_table.proofs.Slots.{by_list-at}
-use Rattle.gl_table.proofs.Withdrawn.{Unlists, agrees_withdrawn, counts_withdrawn, room_left, unlists_held, unlists_left}
+use Rattle.gl_table.proofs.Words.{◌&&◌, ◌<◌, ◌∙◌, ◌≡◌, Agrees, ap, count_of, CountsHeld, false, if◌then◌else◌, is_listed, IsApart, length, List, LockList}
+use Rattle.gl_table.proofs.Words.{mode_of, NL, NodeId, not, not-false, not-true, pumped, same_node, slice_set, spare, State, state_in, subst, sym, true}
+use Rattle.gl_table.proofs.Words.{without_wait, ℕ}
+use Rattle.gl_table.proofs.inside.Slots.{by_list-at}
+use Rattle.gl_table.proofs.inside.Withdrawn.{agrees_withdrawn, counts_withdrawn, room_left, Unlists, unlists_held, unlists_left}
+use Rattle.gl_table.proofs.law.Keeps.{txn_there, waiting_is}
+use Rattle.gl_table.proofs.telling.Fronts.{waits_only}
 use Rattle.gl_table.proofs.locks.Locks.withdraw.Goals.{After-holds}
 use Rattle.gl_table.proofs.locks.Locks.withdraw.Goals as goal
 
 abbrev before : After-holds → State
-before c = state_on (graph_of c.args.graph.now) c.args.self.now
+before c = state_in c.args.graph.now c.args.self.now
 
 -- the lists, once the wait is out of its queue
 abbrev mid : After-holds → List LockList
 mid c = c.leave_queue.new.self.lists.items
 
 slot_there : (c : After-holds) → c.args.slot < length (mid c)
-slot_there c = subst (λ (k : ℕ). c.args.slot < k) (sym (c.leave_queue.ensures.lists.len ∙ c.requires.sound.lists))
+slot_there c = subst (λ (k : ℕ). c.args.slot < k) (sym (c.leave_queue.ensures.lists.len ∙ c.requires.exact.sound.lists))
     (c.requires.orderly.below c.args.slot (txn_there ((before c).txns c.args.slot) _ (waiting_is _ c.args.node c.requires.waits).1))
 
 -- only its node grants
-state_is : (c : After-holds) → pumped (without_wait (before c) c.args.slot c.args.status) (same_node c.args.node) ≡ state_on (graph_of c.args.graph.now) c.leave_queue.new.self
-state_is c = sym (c.leave_queue.ensures.state ∙ ap (pumped (without_wait (before c) c.args.slot c.args.status)) (waits_only (before c) c.args.slot c.args.node c.requires.waits))
+state_is : (c : After-holds) → pumped (without_wait (before c) c.args.slot c.args.status) (same_node c.args.node)
+    ≡ state_in c.args.graph.now c.leave_queue.new.self
+state_is c = sym (c.leave_queue.ensures.state ∙ ap (pumped (without_wait (before c) c.args.slot c.args.status))
+    (waits_only (before c) c.args.slot c.args.node c.requires.waits))
 
 module _ (c : After-holds) (ls : List LockList) (unlists : Unlists (mid c) ls c.args.slot c.args.node) where
-  agrees : (u : ℕ) → Agrees (state_on (graph_of c.args.graph.now) c.leave_queue.new.self) ls u
+  agrees : (u : ℕ) → Agrees (state_in c.args.graph.now c.leave_queue.new.self) ls u
   agrees u = subst (λ (x : State). Agrees x ls u) (state_is c)
-      (agrees_withdrawn (before c) c.requires.orderly c.law.ensures.lawful c.args.slot c.args.node c.args.status c.requires.quiet c.requires.waits c.args.self.now.lists.items (mid c)
-      c.requires.agree c.requires.count c.leave_queue.ensures.lists ls unlists u)
+      (agrees_withdrawn (before c) c.requires.orderly c.law.ensures.lawful c.args.slot c.args.node c.args.status c.requires.quiet c.requires.waits
+      c.args.self.now.lists.items (mid c)
+      c.requires.exact.agree c.requires.exact.count c.leave_queue.ensures.lists ls unlists u)
 
-  counts : (u : ℕ) → CountsHeld (state_on (graph_of c.args.graph.now) c.leave_queue.new.self) ls u
+  counts : (u : ℕ) → CountsHeld (state_in c.args.graph.now c.leave_queue.new.self) ls u
   counts u = subst (λ (x : State). CountsHeld x ls u) (state_is c)
-      (counts_withdrawn (before c) c.requires.orderly c.law.ensures.lawful c.args.slot c.args.node c.args.status c.requires.quiet c.requires.waits c.args.self.now.lists.items (mid c)
-      c.requires.agree c.requires.count c.leave_queue.ensures.lists ls unlists u)
+      (counts_withdrawn (before c) c.requires.orderly c.law.ensures.lawful c.args.slot c.args.node c.args.status c.requires.quiet c.requires.waits
+      c.args.self.now.lists.items (mid c)
+      c.requires.exact.agree c.requires.exact.count c.leave_queue.ensures.lists ls unlists u)
 
 pub leave-requires-clause-room : goal.leave-requires-clause-room
 leave-requires-clause-room c = let h = (goal.at.leave-requires-clause-room c).After-holds in λ _.
     subst (λ (k : ℕ). 0 < k) (by_list-at (λ l. spare l.loose) 0 (mid h) c.args.slot c.index_mut-list.result.now (slot_there h) c.index_mut-list.ensures.value)
-    (room_left (before h) c.requires.orderly c.law.ensures.lawful c.args.slot c.args.node c.args.status c.requires.quiet c.requires.waits c.args.self.now.lists.items (mid h)
-    c.requires.agree c.requires.count c.leave_queue.ensures.lists)
+    (room_left (before h) c.requires.orderly c.law.ensures.lawful c.args.slot c.args.node c.args.status c.requires.quiet c.requires.waits
+    c.args.self.now.lists.items (mid h)
+    c.requires.exact.agree c.requires.exact.count c.leave_queue.ensures.lists)
 
 -- the node was taken out of the list, which did not hold it
-left : (c : After-holds) (l' : LockList) → c.holds.result ≡ false → IsApart l' → ((q : NodeId) → mode_of l' q ≡ (if same_node q c.args.node then NL else mode_of c.index_mut-list.result.now q))
-    → ((q : NodeId) → is_listed l' q ≡ (is_listed c.index_mut-list.result.now q && not (same_node q c.args.node))) → ((q : NodeId) → count_of l' q ≡ count_of c.index_mut-list.result.now q)
+left : (c : After-holds) (l' : LockList) → c.holds.result ≡ false → IsApart l'
+    → ((q : NodeId) → mode_of l' q ≡ (if same_node q c.args.node then NL else mode_of c.index_mut-list.result.now q))
+    → ((q : NodeId) → is_listed l' q ≡ (is_listed c.index_mut-list.result.now q && not (same_node q c.args.node)))
+    → ((q : NodeId) → count_of l' q ≡ count_of c.index_mut-list.result.now q)
     → Unlists (mid c) (slice_set (mid c) c.args.slot l') c.args.slot c.args.node
-left c l' out = unlists_left (mid c) c.args.slot c.args.node c.index_mut-list.result.now (slot_there c) c.index_mut-list.ensures.value c.leave_queue.ensures.sound.apart l' (not-false _ (sym c.holds.ensures ∙ out))
+left c l' out = unlists_left (mid c) c.args.slot c.args.node c.index_mut-list.result.now (slot_there c) c.index_mut-list.ensures.value
+    c.leave_queue.ensures.sound.apart l' (not-false _ (sym c.holds.ensures ∙ out))
 
 -- or it holds it
 stays : (c : After-holds) → c.holds.result ≡ true → Unlists (mid c) (slice_set (mid c) c.args.slot c.index_mut-list.result.now) c.args.slot c.args.node
-stays c held = unlists_held (mid c) c.args.slot c.args.node c.index_mut-list.result.now (slot_there c) c.index_mut-list.ensures.value c.leave_queue.ensures.sound.apart (not-true _ (sym c.holds.ensures ∙ held))
+stays c held = unlists_held (mid c) c.args.slot c.args.node c.index_mut-list.result.now (slot_there c) c.index_mut-list.ensures.value
+    c.leave_queue.ensures.sound.apart (not-true _ (sym c.holds.ensures ∙ held))
 
-pub returns-then-not-holds-clause-sound : goal.returns-then-not-holds-clause-sound
-returns-then-not-holds-clause-sound c = let h = (goal.at.returns-then-not-holds-clause-sound c).After-holds in
-    let now = left h c.leave.new.self c.if-not-holds.true c.leave.ensures.apart c.leave.ensures.modes c.leave.ensures.listed c.leave.ensures.counts in
+pub returns-then-not-holds-clause-exact : goal.returns-then-not-holds-clause-exact
+returns-then-not-holds-clause-exact c = let h = (goal.at.returns-then-not-holds-clause-exact c).After-holds in
     let was = c.leave_queue.ensures.sound in
-    record { headers = was.headers; few = was.few; lists = now.len ∙ was.lists; apart = now.apart }
+    let now = left h c.leave.new.self c.if-not-holds.true c.leave.ensures.apart c.leave.ensures.modes c.leave.ensures.listed c.leave.ensures.counts in
+    record {
+      sound = record { headers = was.headers; few = was.few; lists = now.len ∙ was.lists; apart = now.apart };
+      agree = agrees h _ now;
+      count = counts h _ now;
+    }
 
-pub returns-then-not-holds-clause-agree : goal.returns-then-not-holds-clause-agree
-returns-then-not-holds-clause-agree c = let h = (goal.at.returns-then-not-holds-clause-agree c).After-holds in
-    agrees h _ (left h c.leave.new.self c.if-not-holds.true c.leave.ensures.apart c.leave.ensures.modes c.leave.ensures.listed c.leave.ensures.counts)
-
-pub returns-then-not-holds-clause-count : goal.returns-then-not-holds-clause-count
-returns-then-not-holds-clause-count c = let h = (goal.at.returns-then-not-holds-clause-count c).After-holds in
-    counts h _ (left h c.leave.new.self c.if-not-holds.true c.leave.ensures.apart c.leave.ensures.modes c.leave.ensures.listed c.leave.ensures.counts)
-
-pub returns-else-not-holds-clause-agree : goal.returns-else-not-holds-clause-agree
-returns-else-not-holds-clause-agree c = let h = (goal.at.returns-else-not-holds-clause-agree c).After-holds in agrees h _ (stays h c.if-not-holds.false)
-
-pub returns-else-not-holds-clause-count : goal.returns-else-not-holds-clause-count
-returns-else-not-holds-clause-count c = let h = (goal.at.returns-else-not-holds-clause-count c).After-holds in counts h _ (stays h c.if-not-holds.false)
+pub returns-else-not-holds-clause-exact : goal.returns-else-not-holds-clause-exact
+returns-else-not-holds-clause-exact c = let h = (goal.at.returns-else-not-holds-clause-exact c).After-holds in
+    let was = c.leave_queue.ensures.sound in
+    let now = stays h c.if-not-holds.false in
+    record {
+      sound = record { headers = was.headers; few = was.few; lists = now.len ∙ was.lists; apart = now.apart };
+      agree = agrees h _ now;
+      count = counts h _ now;
+    }

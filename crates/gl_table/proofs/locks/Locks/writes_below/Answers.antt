@@ -1,12 +1,9 @@
-use Rattle.std.specs.Prelude.{◌≤◌, List, length}
-use Rattle.std.proofs.Common.{subst}
-use Rattle.gl_graph.specs.View.{graph_of}
-use Rattle.gl_table.specs.declared.list.LockList.{LockList}
-use Rattle.gl_table.proofs.Childless.{past_end}
-use Rattle.gl_table.proofs.WritesBelow.{no_writes}
+use Rattle.gl_table.proofs.Words.{◌≤◌, graph_of, length, List, LockList, subst}
+use Rattle.gl_table.proofs.calls.Queries.{no_writes, past_end}
 use Rattle.gl_table.proofs.locks.Locks.writes_below.Goals as goal
 
 pub returns-in-None : goal.returns-in-None
 returns-in-None c =
     no_writes c.args.self.now.lists.items (graph_of c.args.graph.now) c.args.slot c.args.node
-    (past_end c.args.self.now.lists.items c.args.slot (subst (λ (ls : List LockList). length ls ≤ c.args.slot) c.deref.ensures.value c.in-None.ensures.lookup.3))
+    (past_end c.args.self.now.lists.items c.args.slot (subst (λ (ls : List LockList). length ls ≤ c.args.slot) c.deref.ensures.value
+    c.in-None.ensures.lookup.3))

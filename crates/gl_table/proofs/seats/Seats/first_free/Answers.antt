@@ -1,11 +1,6 @@
-use Rattle.std.specs.Prelude.{◌≡◌, ℕ, None, Option, Some, position}
-use Rattle.std.specs.Option.{IfNone, IfSome}
-use Rattle.std.proofs.Common.{ap, sym, ◌∙◌}
-use Rattle.gl_slots.specs.Slots.{HasNoSlot, IsLowest}
-use Rattle.gl_table.specs.Seats.{SeatList, is_free}
-use Rattle.gl_table.specs.Seating.{IsSeating}
+use Rattle.gl_table.proofs.Words.{◌∙◌, ◌≡◌, ap, HasNoSlot, IfNone, IfSome, is_free, IsLowest, IsSeating, None, Option, position, SeatList, Some, sym, ℕ}
 use Rattle.gl_table.specs.declared.seats.Seats.TheInside.{Inside}
-use Rattle.gl_table.proofs.Seating.{lowest-first, none-free}
+use Rattle.gl_table.proofs.inside.Seats.{lowest-first, none-free}
 use Rattle.gl_table.proofs.seats.Seats.first_free.Goals as goal
 
 -- what the set of free slots answers is the first free seat
@@ -14,4 +9,5 @@ answer s law None some none = sym (none-free s.list.items (λ u. sym (law.free u
 answer s law (Some k) some none = sym (lowest-first s.list.items k (sym (law.free k) ∙ some.member) (λ u lt. sym (law.free u) ∙ some.none_below u lt))
 
 pub returns : goal.returns
-returns c = answer c.self.inside c.self.invariant c.lowest.result c.lowest.ensures.some c.lowest.ensures.none ∙ ap (λ (v : SeatList). position is_free v.items) c.self.view_is
+returns c = answer c.self.inside c.self.invariant c.lowest.result c.lowest.ensures.some c.lowest.ensures.none
+    ∙ ap (λ (v : SeatList). position is_free v.items) c.self.view_is

@@ -1,7 +1,4 @@
-use Rattle.std.proofs.Common.{arith}
-use Rattle.std.proofs.lemmas.Grind.{common_steps}
-use Rattle.std.proofs.lemmas.Option.{gets}
-use Rattle.std.proofs.lemmas.Bool.Decides.{nat_tests}
+use Rattle.gl_table.proofs.Words.{arith, common_steps, gets, nat_tests}
 use Rattle.gl_table.proofs.seats.Seats.leave.Goals as goal
 
 pub invariant_of-self : goal.invariant_of-self

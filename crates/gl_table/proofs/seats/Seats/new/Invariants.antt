@@ -1,5 +1,4 @@
-use Rattle.std.specs.Prelude.{◌≡◌, ℕ, None, nat_lt, replicate}
-use Rattle.gl_slots.specs.Slots.{has_slot}
+use Rattle.gl_table.proofs.Words.{◌≡◌, has_slot, nat_lt, None, replicate, ℕ}
 use Rattle.gl_table.proofs.seats.Seats.new.Given as goal
 
 -- so many free seats, whose slots are in the set

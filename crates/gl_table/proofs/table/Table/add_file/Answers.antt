@@ -1,9 +1,6 @@
-use Rattle.gl_graph.specs.Changes.{IsBorn}
-use Rattle.gl_graph.specs.Refusals.{file_refusal}
-use Rattle.gl_graph.specs.Shapes.{File}
-use Rattle.gl_graph.specs.View.{graph_of}
-use Rattle.gl_table.proofs.Births.{file-grows}
-use Rattle.gl_table.proofs.TableBirths.{called-sound}
+use Rattle.gl_table.proofs.Words.{File, file_refusal, graph_of, IsBorn}
+use Rattle.gl_table.proofs.calls.Law.{called-sound}
+use Rattle.gl_table.proofs.law.Records.{file-grows}
 use Rattle.gl_table.proofs.table.Table.add_file.Goals as goal
 
 pub invariant_of-self : goal.invariant_of-self

@@ -1,9 +1,6 @@
-use Rattle.gl_graph.specs.Changes.{IsBorn}
-use Rattle.gl_graph.specs.Refusals.{inner_refusal}
-use Rattle.gl_graph.specs.Shapes.{Inner}
-use Rattle.gl_graph.specs.View.{graph_of}
-use Rattle.gl_table.proofs.Births.{inner-grows}
-use Rattle.gl_table.proofs.TableBirths.{called-sound}
+use Rattle.gl_table.proofs.Words.{graph_of, Inner, inner_refusal, IsBorn}
+use Rattle.gl_table.proofs.calls.Law.{called-sound}
+use Rattle.gl_table.proofs.law.Records.{inner-grows}
 use Rattle.gl_table.proofs.table.Table.add_inner.Goals as goal
 
 pub invariant_of-self : goal.invariant_of-self

@@ -1,14 +1,7 @@
-use Rattle.std.specs.List.{position}
-use Rattle.std.proofs.Common.{◌≡◌, ◌+◌, None, Some, Ok, Err, refl, sym, ap, ◌∙◌, subst}
+use Rattle.gl_table.proofs.Words.{◌+◌, ◌∙◌, ◌≡◌, ap, begin_tests, begun, Err, first_refusal, free_slot, is_free, None, none_some, Ok, position, refl, Refuses}
+use Rattle.gl_table.proofs.Words.{Some, state_of, subst, sym, TableView, TxnId}
 use Rattle.gl_modes.specs.declared.refusal.Refusal.TheVariants as no
-use Rattle.gl_graph.specs.Refusals.{Refuses, first_refusal}
-use Rattle.gl_graph.proofs.Look.{none_some}
-use Rattle.gl_table.specs.declared.txn.TxnId.{TxnId}
-use Rattle.gl_table.specs.Calls.{begun, free_slot}
-use Rattle.gl_table.specs.Refusals.{begin_tests}
-use Rattle.gl_table.specs.Seats.{is_free}
-use Rattle.gl_table.specs.Table.{TableView, state_of}
-use Rattle.gl_table.proofs.Begins.{begin-refusal, begun-sound, begun-state, found-slot}
+use Rattle.gl_table.proofs.calls.Law.{begin-refusal, begun-sound, begun-state, found-slot}
 use Rattle.gl_table.proofs.table.Table.begin.Goals as goal
 
 -- no slot is free
@@ -16,7 +9,8 @@ use Rattle.gl_table.proofs.table.Table.begin.Goals as goal
 full : (c : goal.In_default) → first_refusal (begin_tests (state_of c.args.self.now)) ≡ Some no.TooManyTxns
 full c =
     let none = sym c.in_default.is ∙ c.first_free.ensures ∙ ap (λ (v : TableView). position is_free v.seats) c.self.view_is in
-    begin-refusal (state_of c.args.self.now) None (λ e. c.if-self.false (ap (λ (v : TableView). v.begins) c.self.view_is ∙ e)) (found-slot c.args.self.now None none)
+    begin-refusal (state_of c.args.self.now) None (λ e. c.if-self.false (ap (λ (v : TableView). v.begins) c.self.view_is ∙ e))
+    (found-slot c.args.self.now None none)
 
 pub returns-in_default-clause-goes : goal.returns-in_default-clause-goes
 returns-in_default-clause-goes c = λ e. absurd (none_some (sym e ∙ full c))
@@ -39,10 +33,12 @@ pub returns-clause-begun : goal.returns-clause-begun
 returns-clause-begun c = (
   slot c,
   ap (λ (v : TableView). v.begins + 1) c.self.view_is,
-  begun-state c.self.inside c.self.invariant c.in-Some.slot (seat c) c.take.new.self c.take.ensures ∙ ap (λ (v : TableView). begun (state_of v) c.in-Some.slot) c.self.view_is,
+  begun-state c.self.inside c.self.invariant c.in-Some.slot (seat c) c.take.new.self c.take.ensures
+      ∙ ap (λ (v : TableView). begun (state_of v) c.in-Some.slot) c.self.view_is,
 )
 
 pub returns-clause-refuses : goal.returns-clause-refuses
 returns-clause-refuses c =
-    let goes = begin-refusal (state_of c.args.self.now) (Some c.in-Some.slot) (λ e. c.if-self.false (ap (λ (v : TableView). v.begins) c.self.view_is ∙ e)) (slot c) in
+    let goes = begin-refusal (state_of c.args.self.now) (Some c.in-Some.slot) (λ e. c.if-self.false (ap (λ (v : TableView). v.begins) c.self.view_is ∙ e))
+    (slot c) in
     subst (λ r. Refuses {T = TxnId} r (Ok (record { slot = c.in-Some.slot; age = c.self.inside.begins + 1 }))) (sym goes) tt

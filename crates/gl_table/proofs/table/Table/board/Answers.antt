@@ -1,5 +1,5 @@
-use Rattle.std.proofs.Common.{◌∙◌}
-use Rattle.gl_table.proofs.Queries.{board-seen}
+use Rattle.gl_table.proofs.Words.{◌∙◌}
+use Rattle.gl_table.proofs.calls.Queries.{board-seen}
 use Rattle.gl_table.proofs.table.Table.board.Goals as goal
 
 pub returns : goal.returns

@@ -1,25 +1,20 @@
-use Rattle.std.specs.Prelude.{◌≡◌}
-use Rattle.std.proofs.Common.{ap, ap₂, rules, sym, ◌∙◌}
+use Rattle.gl_table.proofs.Words.{◌∙◌, ◌≡◌, answered, ap, ap₂, first_refusal, graph_of, held_by, lock_tests, parents_of, rule_refusal, rules, state_of}
+use Rattle.gl_table.proofs.Words.{supremum, sym, where_true}
 use Rattle.gl_modes.specs.declared.refusal.Refusal.TheVariants as no
-use Rattle.gl_modes.specs.Modes.{supremum}
-use Rattle.gl_graph.specs.Graph.{parents_of}
-use Rattle.gl_graph.specs.Refusals.{first_refusal, where_true}
-use Rattle.gl_graph.specs.View.{graph_of}
-use Rattle.gl_table.specs.Answers.{answered}
-use Rattle.gl_table.specs.Refusals.{lock_tests, rule_refusal}
-use Rattle.gl_table.specs.Slots.{held_by}
-use Rattle.gl_table.specs.Table.{state_of}
-use Rattle.gl_table.proofs.Locking.{rule_decides, test_refused}
-use Rattle.gl_table.proofs.Queries.{modes-seen}
-use Rattle.gl_table.proofs.TableCalls.{test_passed}
+use Rattle.gl_table.proofs.calls.Calls.{test_passed}
+use Rattle.gl_table.proofs.calls.Locking.{rule_decides, test_refused}
+use Rattle.gl_table.proofs.calls.Queries.{modes-seen}
 use Rattle.gl_table.proofs.table.Table.check_lock.Goals.{After-check_rule}
 use Rattle.gl_table.proofs.table.Table.check_lock.Goals as goal
 
 -- only the rule of the graph was left to be tested
-left : (c : After-check_rule) → rule_refusal (held_by c.self.inside.locks.lists.items c.args.t.slot) (parents_of (graph_of c.self.inside.graph) c.args.n) c.sup.result ≡ first_refusal (lock_tests (state_of c.args.self.now) c.args.t c.args.n c.args.mode)
+left : (c : After-check_rule) → rule_refusal (held_by c.self.inside.locks.lists.items c.args.t.slot) (parents_of (graph_of c.self.inside.graph) c.args.n)
+    c.sup.result ≡ first_refusal (lock_tests (state_of c.args.self.now) c.args.t c.args.n c.args.mode)
 left c =
-    ap (λ m. rule_refusal (held_by c.self.inside.locks.lists.items c.args.t.slot) (parents_of (graph_of c.self.inside.graph) c.args.n) m) (c.sup.ensures ∙ ap (λ h. supremum h c.args.mode) c.mode-held.ensures)
-    ∙ rule_decides c.self.inside c.self.invariant c.args.self.now c.self.view_is c.args.t c.args.n c.args.mode c.in_ok-check_active.field-0 c.in_ok-check_node.field-0 c.in_ok-check_active.ensures c.in_ok-check_node.ensures
+    ap (λ m. rule_refusal (held_by c.self.inside.locks.lists.items c.args.t.slot) (parents_of (graph_of c.self.inside.graph) c.args.n) m)
+    (c.sup.ensures ∙ ap (λ h. supremum h c.args.mode) c.mode-held.ensures)
+    ∙ rule_decides c.self.inside c.self.invariant c.args.self.now c.self.view_is c.args.t c.args.n c.args.mode c.in_ok-check_active.field-0
+    c.in_ok-check_node.field-0 c.in_ok-check_active.ensures c.in_ok-check_node.ensures
     (ap (λ b. where_true b no.BadMode) (sym c.if-is_bad_mode.ensures))
 
 pub returns-in_err-check_rule : goal.returns-in_err-check_rule

@@ -1,9 +1,5 @@
-use Rattle.std.proofs.Common.{◌&&◌, Some, None, if◌then◌else◌, sym, ap, ◌∙◌}
-use Rattle.gl_header.specs.Header.{holds}
-use Rattle.gl_table.specs.Covered.{held_children}
-use Rattle.gl_table.specs.State.{lives, members}
-use Rattle.gl_table.specs.Table.{state_of}
-use Rattle.gl_table.proofs.Queries.{children-seen, passed}
+use Rattle.gl_table.proofs.Words.{◌&&◌, ◌∙◌, ap, held_children, holds, if◌then◌else◌, lives, members, None, Some, state_of, sym}
+use Rattle.gl_table.proofs.calls.Queries.{children-seen, passed}
 use Rattle.gl_table.proofs.table.Table.children.Goals as goal
 
 pub returns-in-Some : goal.returns-in-Some

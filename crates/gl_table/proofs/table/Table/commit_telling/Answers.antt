@@ -1,23 +1,21 @@
-use Rattle.std.proofs.Common.{ap, ◌∙◌}
-use Rattle.gl_table.specs.Calls.{released}
-use Rattle.gl_table.specs.Sound.{view_of}
-use Rattle.gl_table.specs.Table.{TableView, state_of}
-use Rattle.gl_table.specs.Tellings.{told}
-use Rattle.gl_table.proofs.TableCalls.{orderly, sound_released, state_released}
+use Rattle.gl_table.proofs.Words.{◌∙◌, ap, released, state_of, TableView, told, view_of}
+use Rattle.gl_table.proofs.calls.Calls.{orderly, sound_released, state_released}
+use Rattle.gl_table.proofs.calls.Ends.{told_ended}
 use Rattle.gl_table.proofs.table.Table.commit_telling.Goals as goal
-use Rattle.gl_table.proofs.TableEnds.{told_ended}
 
 pub end-requires-clause-orderly : goal.end-requires-clause-orderly
 end-requires-clause-orderly c = orderly c.self.inside c.self.invariant
 
 pub invariant_of-self : goal.invariant_of-self
-invariant_of-self c = sound_released c.self.inside c.self.invariant c.args.t.slot c.end.new.self c.end.ensures.state c.end.ensures.sound c.end.ensures.agree c.end.ensures.count
+invariant_of-self c = sound_released c.self.inside c.self.invariant c.args.t.slot c.end.new.self c.end.ensures.state c.end.ensures.exact
 
 pub returns-clause-state : goal.returns-clause-state
 returns-clause-state c =
-    state_released c.self.inside c.self.invariant c.args.t.slot c.end.new.self c.end.ensures.state ∙ ap (λ (v : TableView). released (state_of v) c.args.t.slot) c.self.view_is
+    state_released c.self.inside c.self.invariant c.args.t.slot c.end.new.self c.end.ensures.state
+    ∙ ap (λ (v : TableView). released (state_of v) c.args.t.slot) c.self.view_is
 
 pub returns-clause-told : goal.returns-clause-told
 returns-clause-told c =
-    told_ended c.self.inside c.self.invariant c.args.t.slot c.end.new.self c.end.ensures.state c.args.notices.now.items c.end.new.told.items c.requires.empty c.end.ensures.by_slot c.end.ensures.tells c.end.ensures.own
+    told_ended c.self.inside c.self.invariant c.args.t.slot c.end.new.self c.end.ensures.state c.args.notices.now.items c.end.new.told.items c.requires.empty
+    c.end.ensures.tells
     ∙ ap (λ (v : TableView). told (state_of v) (state_of (view_of (record c.self.inside { locks = c.end.new.self })))) c.self.view_is

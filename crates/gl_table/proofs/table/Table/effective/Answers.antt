@@ -1,5 +1,5 @@
-use Rattle.std.proofs.Common.{◌∙◌}
-use Rattle.gl_table.proofs.Queries.{effect-seen}
+use Rattle.gl_table.proofs.Words.{◌∙◌}
+use Rattle.gl_table.proofs.calls.Queries.{effect-seen}
 use Rattle.gl_table.proofs.table.Table.effective.Goals as goal
 
 pub returns-in-Ok-clause-effect : goal.returns-in-Ok-clause-effect

@@ -1,7 +1,5 @@
-use Rattle.std.proofs.Common.{[], ◌∷◌, ap, ◌∙◌}
-use Rattle.gl_graph.specs.Refusals.{first_refusal}
-use Rattle.gl_graph.proofs.Unrefused.{verdict_ok}
-use Rattle.gl_table.proofs.Queries.{answers, group-seen}
+use Rattle.gl_table.proofs.Words.{[], ◌∙◌, ◌∷◌, ap, first_refusal, verdict_ok}
+use Rattle.gl_table.proofs.calls.Queries.{answers, group-seen}
 use Rattle.gl_table.proofs.table.Table.group.Goals as goal
 
 pub returns : goal.returns

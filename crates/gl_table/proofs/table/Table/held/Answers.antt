@@ -1,6 +1,5 @@
-use Rattle.std.proofs.Common.{◌∙◌}
-use Rattle.gl_graph.proofs.Unrefused.{verdict_ok}
-use Rattle.gl_table.proofs.Queries.{answers, both_pass, modes-seen}
+use Rattle.gl_table.proofs.Words.{◌∙◌, verdict_ok}
+use Rattle.gl_table.proofs.calls.Queries.{answers, both_pass, modes-seen}
 use Rattle.gl_table.proofs.table.Table.held.Goals as goal
 
 pub returns : goal.returns

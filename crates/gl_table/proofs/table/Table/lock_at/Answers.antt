@@ -1,16 +1,14 @@
-use Rattle.std.proofs.Common.{None, if◌then◌else◌, slice_get, sym, ap, ◌∙◌}
-use Rattle.gl_table.specs.Listing.{rows_of}
-use Rattle.gl_table.specs.State.{lives}
-use Rattle.gl_table.specs.Table.{state_of}
-use Rattle.gl_table.proofs.ListedRows.{are_rows, row-at}
-use Rattle.gl_table.proofs.Queries.{passed}
+use Rattle.gl_table.proofs.Words.{◌∙◌, ap, if◌then◌else◌, lives, None, rows_of, slice_get, state_of, sym}
+use Rattle.gl_table.proofs.calls.Queries.{are_rows, passed, row-at}
 use Rattle.gl_table.proofs.table.Table.lock_at.Goals as goal
 
 pub returns-in-Some-clause-row : goal.returns-in-Some-clause-row
 returns-in-Some-clause-row c =
     let s = state_of c.args.self.now in
-    c.row.ensures ∙ row-at c.self.inside.locks.lists.items c.args.t.slot c.args.place ∙ ap (λ w. slice_get (rows_of w c.args.t.slot) c.args.place) c.self.view_is
-    ∙ sym (ap (λ b. if b then slice_get (rows_of c.args.self.now c.args.t.slot) c.args.place else None) (passed (lives s c.args.t) _ _ (sym c.in-Some.is ∙ c.status.ensures)))
+    c.row.ensures ∙ row-at c.self.inside.locks.lists.items c.args.t.slot c.args.place
+    ∙ ap (λ w. slice_get (rows_of w c.args.t.slot) c.args.place) c.self.view_is
+    ∙ sym (ap (λ b. if b then slice_get (rows_of c.args.self.now c.args.t.slot) c.args.place else None)
+    (passed (lives s c.args.t) _ _ (sym c.in-Some.is ∙ c.status.ensures)))
 
 pub returns-in-Some-clause-rows : goal.returns-in-Some-clause-rows
 returns-in-Some-clause-rows c = are_rows c.args.self.now c.law.ensures.lists c.law.ensures.unique c.args.t.slot

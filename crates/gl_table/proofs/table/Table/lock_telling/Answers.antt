@@ -1,28 +1,19 @@
-use Rattle.std.specs.Prelude.{◌≡◌, ◌<◌, ℕ, None, Option, false, true}
-use Rattle.std.proofs.Common.{ap, rules, subst, sym, ◌∙◌}
-use Rattle.gl_modes.specs.declared.refusal.Refusal.{Refusal}
-use Rattle.gl_graph.specs.Refusals.{Refuses, first_refusal}
-use Rattle.gl_table.specs.Answers.{locked_as}
-use Rattle.gl_table.specs.Calls.{Locks, enters_at}
-use Rattle.gl_table.specs.Deadlocks.{LocksKeeping}
-use Rattle.gl_table.specs.Refusals.{lock_tests}
-use Rattle.gl_table.specs.Sound.{view_of}
-use Rattle.gl_table.specs.State.{status_of}
-use Rattle.gl_table.specs.Table.{TableView, state_of}
-use Rattle.gl_table.specs.declared.txn.Status.TheVariants.{Active}
-use Rattle.gl_table.specs.Tellings.{told_but}
-use Rattle.gl_table.proofs.Blocking.{granted_answer, granted_keeps, granted_locks, granted_told, kept_locked, sound_locked, state_locked, told_locked, waiting_orderly}
-use Rattle.gl_table.proofs.GrantKeeps.{txn_there}
-use Rattle.gl_table.proofs.Grants.{answer-enters, answer-granted, answer-waits}
-use Rattle.gl_table.proofs.LockKeeps.{MayLock}
-use Rattle.gl_table.proofs.Locking.{answered-err, answered-ok, may_lock_by, sound_granted, sound_kept, state_granted, unrefused}
-use Rattle.gl_table.proofs.Queries.{modes-seen}
-use Rattle.gl_table.proofs.TableCalls.{orderly}
+use Rattle.gl_table.proofs.Words.{◌<◌, ◌∙◌, ◌≡◌, Active, ap, enters_at, false, first_refusal, lock_tests, locked_as, LocksKeeping, None, Option, Refusal}
+use Rattle.gl_table.proofs.Words.{Refuses, rules, state_of, status_of, subst, sym, TableView, told_but, true, view_of, ℕ}
+use Rattle.gl_table.specs.model.Calls.{Locks}
+use Rattle.gl_table.proofs.calls.Calls.{orderly}
+use Rattle.gl_table.proofs.calls.Locking.{answered-err, answered-ok, granted_answer, granted_keeps, granted_locks, granted_told, kept_locked, may_lock_by}
+use Rattle.gl_table.proofs.calls.Locking.{sound_granted, sound_kept, sound_locked, state_granted, state_locked, told_locked, unrefused, waiting_orderly}
+use Rattle.gl_table.proofs.calls.Queries.{modes-seen}
+use Rattle.gl_table.proofs.inside.Asks.{answer-enters, answer-granted, answer-waits}
+use Rattle.gl_table.proofs.law.Keeps.{txn_there}
+use Rattle.gl_table.proofs.law.Lock.{MayLock}
 use Rattle.gl_table.proofs.table.Table.lock_telling.Goals.{After-ask, In-Granted, In-Waiting}
 use Rattle.gl_table.proofs.table.Table.lock_telling.Goals as goal
 
 -- the tests of the ask passed, and this is the mode held
-checked : (c : After-ask) → (first_refusal (lock_tests (state_of c.args.self.now) c.args.t c.args.n c.args.mode) ≡ None) × (c.in_ok-held.held ≡ (state_of c.args.self.now).held c.args.t.slot c.args.n)
+checked : (c : After-ask) → (first_refusal (lock_tests (state_of c.args.self.now) c.args.t c.args.n c.args.mode) ≡ None)
+    × (c.in_ok-held.held ≡ (state_of c.args.self.now).held c.args.t.slot c.args.n)
 checked c = answered-ok _ _ _ c.in_ok-held.ensures
 
 may : (c : After-ask) → MayLock (state_of (view_of c.self.inside)) c.args.t c.args.n c.args.mode
@@ -47,12 +38,13 @@ pub ask-requires-clause-orderly : goal.ask-requires-clause-orderly
 ask-requires-clause-orderly c = orderly c.self.inside c.self.invariant
 
 pub ask-requires-clause-held : goal.ask-requires-clause-held
-ask-requires-clause-held c = (answered-ok _ _ _ c.in_ok-held.ensures).1 ∙ sym (modes-seen c.self.inside c.self.invariant c.args.self.now c.self.view_is c.args.t.slot c.args.n)
+ask-requires-clause-held c = (answered-ok _ _ _ c.in_ok-held.ensures).1
+    ∙ sym (modes-seen c.self.inside c.self.invariant c.args.self.now c.self.view_is c.args.t.slot c.args.n)
 
 pub invariant_of-self : goal.invariant_of-self
 invariant_of-self c =
     sound_kept c.self.inside c.self.invariant c.args.t c.args.n c.args.mode c.ask.new.self
-    c.in_err-granted.ensures.err_headers c.in_err-granted.ensures.err_seats c.ask.ensures.sound c.ask.ensures.agree c.ask.ensures.count
+    c.in_err-granted.ensures.err.headers c.in_err-granted.ensures.err.seats c.ask.ensures.exact
 
 pub returns-in_err-granted-clause-refuses : goal.returns-in_err-granted-clause-refuses
 returns-in_err-granted-clause-refuses c =
@@ -62,13 +54,15 @@ returns-in_err-granted-clause-refuses c =
 pub invariant_of-self-in-Granted : goal.invariant_of-self-in-Granted
 invariant_of-self-in-Granted c =
     let at = goal.at.invariant_of-self-in-Granted c in
-    sound_granted c.self.inside c.self.invariant c.args.t c.args.n c.args.mode (may at.After-ask) (fits at.In-Granted) c.ask.new.self (c.in_ok-granted.ensures.granted (fits at.In-Granted))
-    c.ask.ensures.sound c.ask.ensures.agree c.ask.ensures.count
+    sound_granted c.self.inside c.self.invariant c.args.t c.args.n c.args.mode (may at.After-ask) (fits at.In-Granted) c.ask.new.self
+    (c.in_ok-granted.ensures.granted (fits at.In-Granted))
+    c.ask.ensures.exact
 
 pub returns-in-Granted-clause-answer : goal.returns-in-Granted-clause-answer
 returns-in-Granted-clause-answer c =
     let at = goal.at.returns-in-Granted-clause-answer c in let m = may at.After-ask in let f = fits at.In-Granted in
-    granted_answer (state_of (view_of c.self.inside)) (state_of (view_of (record c.self.inside { locks = c.ask.new.self }))) c.args.t.slot c.args.n c.args.mode c.in-Granted.granted m.active
+    granted_answer (state_of (view_of c.self.inside)) (state_of (view_of (record c.self.inside { locks = c.ask.new.self }))) c.args.t.slot c.args.n c.args.mode
+    c.in-Granted.granted m.active
     (state_granted c.self.inside c.self.invariant c.args.t c.args.n c.args.mode m f c.ask.new.self (c.in_ok-granted.ensures.granted f))
     (answer-granted _ _ _ _ f c.in_ok-granted.ensures.answer c.in-Granted.is)
 
@@ -115,33 +109,39 @@ pub invariant_of-self-in-Waiting : goal.invariant_of-self-in-Waiting
 invariant_of-self-in-Waiting c =
     let at = goal.at.invariant_of-self-in-Waiting c in let b = blocks at.In-Waiting in
     let settled = c.settle_asker.ensures in
-    sound_locked c.self.inside c.self.invariant c.args.t c.args.n c.args.mode (may at.After-ask) b c.ask.new.self (c.in_ok-granted.ensures.waits b) c.settle_asker.new.self c.settle_asker.new.deadlock settled.state settled.sound settled.agree settled.count
+    sound_locked c.self.inside c.self.invariant c.args.t c.args.n c.args.mode (may at.After-ask) b c.ask.new.self (c.in_ok-granted.ensures.waits b)
+    c.settle_asker.new.self c.settle_asker.new.deadlock settled.state settled.exact
 
 pub returns-in-Waiting-clause-answer : goal.returns-in-Waiting-clause-answer
 returns-in-Waiting-clause-answer c =
     c.outcome.ensures
-    ∙ ap (λ m. locked_as m (status_of (state_of (view_of (record c.self.inside { locks = c.settle_asker.new.self; deadlock = c.settle_asker.new.deadlock }))) c.args.t.slot)) ((c.settle_asker.ensures.agree c.args.t.slot).modes c.args.n)
+    ∙ ap (λ m. locked_as m (status_of (state_of (view_of (record c.self.inside { locks = c.settle_asker.new.self; deadlock = c.settle_asker.new.deadlock })))
+    c.args.t.slot)) ((c.settle_asker.ensures.exact.agree c.args.t.slot).modes c.args.n)
 
 pub returns-in-Waiting-clause-told : goal.returns-in-Waiting-clause-told
 returns-in-Waiting-clause-told c =
     let at = goal.at.returns-in-Waiting-clause-told c in let b = blocks at.In-Waiting in
     let after = state_of (view_of (record c.self.inside { locks = c.settle_asker.new.self; deadlock = c.settle_asker.new.deadlock })) in
-    told_locked c.self.inside c.self.invariant c.args.t c.args.n c.args.mode (may at.After-ask) b c.ask.new.self (c.in_ok-granted.ensures.waits b) c.settle_asker.new.self c.settle_asker.new.deadlock c.settle_asker.ensures.state
+    told_locked c.self.inside c.self.invariant c.args.t c.args.n c.args.mode (may at.After-ask) b c.ask.new.self (c.in_ok-granted.ensures.waits b)
+    c.settle_asker.new.self c.settle_asker.new.deadlock c.settle_asker.ensures.state
     c.settle_asker.new.told.items c.settle_asker.ensures.told
     ∙ ap (λ (v : TableView). told_but c.args.t.slot (state_of v) after) c.self.view_is
 
 pub returns-in-Waiting-clause-state : goal.returns-in-Waiting-clause-state
 returns-in-Waiting-clause-state c =
     let at = goal.at.returns-in-Waiting-clause-state c in let b = blocks at.In-Waiting in
-    subst (λ (v : TableView). Locks (state_of v) c.args.t.slot c.args.n c.args.mode (state_of (view_of (record c.self.inside { locks = c.settle_asker.new.self; deadlock = c.settle_asker.new.deadlock })))) c.self.view_is
-    (state_locked c.self.inside c.self.invariant c.args.t c.args.n c.args.mode (may at.After-ask) b c.ask.new.self (c.in_ok-granted.ensures.waits b) c.settle_asker.new.self c.settle_asker.new.deadlock c.settle_asker.ensures.state)
+    subst (λ (v : TableView). Locks (state_of v) c.args.t.slot c.args.n c.args.mode
+    (state_of (view_of (record c.self.inside { locks = c.settle_asker.new.self; deadlock = c.settle_asker.new.deadlock })))) c.self.view_is
+    (state_locked c.self.inside c.self.invariant c.args.t c.args.n c.args.mode (may at.After-ask) b c.ask.new.self (c.in_ok-granted.ensures.waits b)
+    c.settle_asker.new.self c.settle_asker.new.deadlock c.settle_asker.ensures.state)
 
 pub returns-in-Waiting-clause-deadlock : goal.returns-in-Waiting-clause-deadlock
 returns-in-Waiting-clause-deadlock c =
     let at = goal.at.returns-in-Waiting-clause-deadlock c in let b = blocks at.In-Waiting in
     let after = state_of (view_of (record c.self.inside { locks = c.settle_asker.new.self; deadlock = c.settle_asker.new.deadlock })) in
     subst (λ (v : TableView). LocksKeeping (state_of v) c.args.t.slot c.args.n c.args.mode v.deadlock after c.settle_asker.new.deadlock) c.self.view_is
-    (kept_locked c.self.inside c.self.invariant c.args.t c.args.n c.args.mode (may at.After-ask) b c.ask.new.self (c.in_ok-granted.ensures.waits b) c.settle_asker.new.self c.settle_asker.new.deadlock c.settle_asker.ensures.state c.settle_asker.ensures.deadlock)
+    (kept_locked c.self.inside c.self.invariant c.args.t c.args.n c.args.mode (may at.After-ask) b c.ask.new.self (c.in_ok-granted.ensures.waits b)
+    c.settle_asker.new.self c.settle_asker.new.deadlock c.settle_asker.ensures.state c.settle_asker.ensures.deadlock)
 
 pub returns-in-Waiting-clause-refuses : goal.returns-in-Waiting-clause-refuses
 returns-in-Waiting-clause-refuses c =

@@ -1,7 +1,5 @@
-use Rattle.std.proofs.Common.{Some, None, if◌then◌else◌, sym, ap, ◌∙◌}
-use Rattle.gl_table.specs.State.{lives}
-use Rattle.gl_table.specs.Table.{state_of}
-use Rattle.gl_table.proofs.Queries.{modes-seen, passed}
+use Rattle.gl_table.proofs.Words.{◌∙◌, ap, if◌then◌else◌, lives, None, Some, state_of, sym}
+use Rattle.gl_table.proofs.calls.Queries.{modes-seen, passed}
 use Rattle.gl_table.proofs.table.Table.mode.Goals as goal
 
 pub returns-in-Some : goal.returns-in-Some

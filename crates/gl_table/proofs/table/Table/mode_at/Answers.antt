@@ -1,5 +1,5 @@
-use Rattle.std.proofs.Common.{◌∙◌}
-use Rattle.gl_table.proofs.Queries.{modes-seen}
+use Rattle.gl_table.proofs.Words.{◌∙◌}
+use Rattle.gl_table.proofs.calls.Queries.{modes-seen}
 use Rattle.gl_table.proofs.table.Table.mode_at.Goals as goal
 
 pub returns : goal.returns

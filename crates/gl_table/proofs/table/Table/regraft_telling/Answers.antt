@@ -1,20 +1,8 @@
-use Rattle.std.specs.Prelude.{◌≡◌, ◌≤◌, ℕ, List}
-use Rattle.std.specs.List.{count_by}
-use Rattle.std.proofs.Common.{ap, ◌∙◌, subst, sym}
-use Rattle.gl_modes.specs.declared.node.NodeId.{NodeId}
-use Rattle.gl_modes.specs.Nodes.{same_node}
-use Rattle.gl_graph.specs.Changes.{with_parents}
-use Rattle.gl_graph.specs.Graph.{Node}
-use Rattle.gl_graph.specs.Refusals.{first_cycle}
-use Rattle.gl_graph.specs.View.{graph_of}
-use Rattle.gl_table.specs.Calls.{moved_to}
-use Rattle.gl_table.specs.Locks.{CountsHeld, state_on}
-use Rattle.gl_table.specs.Slots.{counted_by}
-use Rattle.gl_table.specs.Sound.{view_of}
-use Rattle.gl_table.specs.Table.{TableView, state_of}
-use Rattle.gl_table.specs.Tellings.{told}
-use Rattle.gl_table.proofs.MovedNodes.{Moves, moved_node}
-use Rattle.gl_table.proofs.TableMoves.{agree_moved, bare_moved, counted_moved, counts_moved, few_moved, listed_moved, move_call, orderly_moved, sound_moved, state_moved, stuck_moved, told_moved}
+use Rattle.gl_table.proofs.Words.{◌∙◌, ◌≡◌, ◌≤◌, ap, count_by, counted_by, CountsHeld, first_cycle, graph_of, List, moved_to, Node, NodeId, same_node, state_in}
+use Rattle.gl_table.proofs.Words.{state_of, subst, sym, TableView, told, view_of, with_parents, ℕ}
+use Rattle.gl_table.proofs.calls.Moves.{agree_moved, bare_moved, counted_moved, counts_moved, few_moved, listed_moved, move_call, orderly_moved, sound_moved}
+use Rattle.gl_table.proofs.calls.Moves.{state_moved, stuck_moved, told_moved}
+use Rattle.gl_table.proofs.law.Move.{moved_node, Moves}
 use Rattle.gl_table.proofs.table.Table.regraft_telling.Goals as goal
 
 abbrev after : goal.After-as_slice → Node → Node
@@ -24,53 +12,67 @@ moved_graph : (c : goal.After-as_slice) → graph_of c.set_parents.new.self ≡ 
 moved_graph c = c.in_ok-set_parents.ensures.moved ∙ ap (λ (v : TableView). with_parents (graph_of v.graph) c.args.n c.args.parents.now) c.self.view_is
 
 -- the move that was made
-made : (c : goal.After-as_slice) → (was : Node) × Moves (state_of (view_of c.self.inside)) c.args.t.slot c.args.n was (after c was) (graph_of c.set_parents.new.self)
+made : (c : goal.After-as_slice) → (was : Node) × Moves (state_of (view_of c.self.inside)) c.args.t.slot c.args.n was (after c was)
+    (graph_of c.set_parents.new.self)
 made c =
-    move_call c.self.inside c.self.invariant c.args.self.now c.self.view_is c.args.t.slot c.set_parents.new.self c.args.n c.args.parents.now c.requires.active c.requires.movable c.requires.inner c.requires.exclusive c.requires.rule
-    (ap (λ (v : TableView). first_cycle (graph_of v.graph) c.args.n c.args.parents.now) (sym c.self.view_is) ∙ c.in_ok-set_parents.ensures.clear) (moved_graph c)
+    move_call c.self.inside c.self.invariant c.args.self.now c.self.view_is c.args.t.slot c.set_parents.new.self c.args.n c.args.parents.now c.requires.active
+    c.requires.movable c.requires.inner c.requires.exclusive c.requires.rule
+    (ap (λ (v : TableView). first_cycle (graph_of v.graph) c.args.n c.args.parents.now) (sym c.self.view_is) ∙ c.in_ok-set_parents.ensures.clear)
+    (moved_graph c)
 
 pub follow-requires-clause-orderly : goal.follow-requires-clause-orderly
-follow-requires-clause-orderly c = let m = made c in orderly_moved c.self.inside c.self.invariant c.args.t.slot c.args.n m.0 (after c m.0) c.set_parents.new.self m.1
+follow-requires-clause-orderly c = let m = made c in
+    orderly_moved c.self.inside c.self.invariant c.args.t.slot c.args.n m.0 (after c m.0) c.set_parents.new.self m.1
 
 pub follow-requires-clause-agree : goal.follow-requires-clause-agree
-follow-requires-clause-agree c = let m = made c in agree_moved c.self.inside c.self.invariant c.args.t.slot c.args.n m.0 (after c m.0) c.set_parents.new.self m.1
+follow-requires-clause-agree c = let m = made c in
+    agree_moved c.self.inside c.self.invariant c.args.t.slot c.args.n m.0 (after c m.0) c.set_parents.new.self m.1
 
 pub follow-requires-clause-newcomers : goal.follow-requires-clause-newcomers
-follow-requires-clause-newcomers c = let m = made c in bare_moved c.self.inside c.self.invariant c.args.t.slot c.args.n m.0 (after c m.0) c.set_parents.new.self m.1
+follow-requires-clause-newcomers c = let m = made c in
+    bare_moved c.self.inside c.self.invariant c.args.t.slot c.args.n m.0 (after c m.0) c.set_parents.new.self m.1
 
 pub follow-requires-clause-stuck : goal.follow-requires-clause-stuck
-follow-requires-clause-stuck c = let m = made c in stuck_moved c.self.inside c.self.invariant c.args.t.slot c.args.n m.0 (after c m.0) c.set_parents.new.self m.1
+follow-requires-clause-stuck c = let m = made c in
+    stuck_moved c.self.inside c.self.invariant c.args.t.slot c.args.n m.0 (after c m.0) c.set_parents.new.self m.1
 
 pub follow-requires-clause-counted : goal.follow-requires-clause-counted
 follow-requires-clause-counted c = λ h q.
     let m = made c in
-    subst (λ (ps : List NodeId). count_by (same_node q) ps ≤ counted_by c.self.inside.locks.lists.items c.args.t.slot q) (sym (c.as_slice.ensures.value ∙ c.parents_before-old.ensures))
+    subst (λ (ps : List NodeId). count_by (same_node q) ps ≤ counted_by c.self.inside.locks.lists.items c.args.t.slot q)
+    (sym (c.as_slice.ensures.value ∙ c.parents_before-old.ensures))
     (counted_moved c.self.inside c.self.invariant c.args.t.slot c.args.n m.0 (after c m.0) c.set_parents.new.self m.1 h q)
 
 pub follow-requires-clause-listed : goal.follow-requires-clause-listed
-follow-requires-clause-listed c = let m = made c in listed_moved c.self.inside c.self.invariant c.args.t.slot c.args.n m.0 (after c m.0) c.set_parents.new.self m.1
+follow-requires-clause-listed c = let m = made c in
+    listed_moved c.self.inside c.self.invariant c.args.t.slot c.args.n m.0 (after c m.0) c.set_parents.new.self m.1
 
 pub follow-requires-clause-few : goal.follow-requires-clause-few
 follow-requires-clause-few c = let m = made c in few_moved c.self.inside c.self.invariant c.args.t.slot c.args.n m.0 (after c m.0) c.set_parents.new.self m.1
 
-counted : (c : goal.After-follow) → (u : ℕ) → CountsHeld (state_on (graph_of c.set_parents.new.self) c.follow.new.self) c.follow.new.self.lists.items u
+counted : (c : goal.After-follow) → (u : ℕ) → CountsHeld (state_in c.set_parents.new.self c.follow.new.self) c.follow.new.self.lists.items u
 counted c = let m = made c.before in
-    counts_moved c.self.inside c.self.invariant c.args.t.slot c.args.n m.0 (after c.before m.0) c.set_parents.new.self m.1 c.follow.new.self c.follow.ensures.state
+    counts_moved c.self.inside c.self.invariant c.args.t.slot c.args.n m.0 (after c.before m.0) c.set_parents.new.self m.1 c.follow.new.self
+    c.follow.ensures.state
     c.as_slice.result.now (c.as_slice.ensures.value ∙ c.parents_before-old.ensures) c.follow.ensures.counts
 
 pub invariant_of-self-2 : goal.invariant_of-self-2
 invariant_of-self-2 c = let m = made c.before in
-    sound_moved c.self.inside c.self.invariant c.args.t.slot c.args.n m.0 (after c.before m.0) c.set_parents.new.self m.1 c.follow.new.self c.follow.ensures.state
+    sound_moved c.self.inside c.self.invariant c.args.t.slot c.args.n m.0 (after c.before m.0) c.set_parents.new.self m.1 c.follow.new.self
+    c.follow.ensures.state
     c.follow.ensures.sound c.follow.ensures.agree (counted c)
 
 pub returns-clause-state : goal.returns-clause-state
 returns-clause-state c = let m = made c.before in
-    state_moved c.self.inside c.self.invariant c.args.t.slot c.args.n m.0 (after c.before m.0) c.set_parents.new.self m.1 c.follow.new.self c.follow.ensures.state
+    state_moved c.self.inside c.self.invariant c.args.t.slot c.args.n m.0 (after c.before m.0) c.set_parents.new.self m.1 c.follow.new.self
+    c.follow.ensures.state
     ∙ ap (λ (v : TableView). moved_to (state_of v) c.args.n c.args.parents.now (graph_of c.set_parents.new.self)) c.self.view_is
     ∙ ap (moved_to (state_of c.args.self.now) c.args.n c.args.parents.now) (moved_graph c.before)
 
 pub returns-clause-told : goal.returns-clause-told
 returns-clause-told c = let m = made c.before in
-    told_moved c.self.inside c.self.invariant c.args.t.slot c.args.n m.0 (after c.before m.0) c.set_parents.new.self m.1 c.follow.new.self c.follow.ensures.state
+    told_moved c.self.inside c.self.invariant c.args.t.slot c.args.n m.0 (after c.before m.0) c.set_parents.new.self m.1 c.follow.new.self
+    c.follow.ensures.state
     c.follow.new.told.items c.follow.ensures.by_slot c.follow.ensures.tells
-    ∙ ap (λ (v : TableView). told (state_of v) (state_of (view_of (record c.self.inside { graph = c.set_parents.new.self; locks = c.follow.new.self })))) c.self.view_is
+    ∙ ap (λ (v : TableView). told (state_of v) (state_of (view_of (record c.self.inside { graph = c.set_parents.new.self; locks = c.follow.new.self }))))
+    c.self.view_is

@@ -1,17 +1,7 @@
-use Rattle.std.specs.Prelude.{◌≡◌, true}
-use Rattle.std.proofs.Common.{ap, subst, ◌∙◌, sym}
-use Rattle.gl_modes.specs.declared.mode.Mode.TheVariants.{X}
-use Rattle.gl_modes.specs.Modes.{same_mode}
-use Rattle.gl_graph.specs.View.{graph_of}
-use Rattle.gl_graph.specs.Graph.{shape_of}
-use Rattle.gl_graph.specs.Shapes.{is_record_shape}
-use Rattle.gl_table.specs.Calls.{deleted}
-use Rattle.gl_table.specs.Frees.{FreesTold}
-use Rattle.gl_table.specs.Sound.{view_of}
-use Rattle.gl_table.specs.Table.{TableView, state_of}
-use Rattle.gl_table.specs.Tellings.{Told, told}
-use Rattle.gl_table.proofs.TableCalls.{orderly}
-use Rattle.gl_table.proofs.TableRecords.{held_alone, sound_deleted, state_deleted, told_deleted}
+use Rattle.gl_table.proofs.Words.{◌∙◌, ◌≡◌, ap, deleted, FreesTold, graph_of, is_record_shape, same_mode, shape_of, state_of, subst, sym, TableView, Told, told}
+use Rattle.gl_table.proofs.Words.{true, view_of, X}
+use Rattle.gl_table.proofs.calls.Calls.{orderly}
+use Rattle.gl_table.proofs.calls.Records.{held_alone, sound_deleted, state_deleted, told_deleted}
 use Rattle.gl_table.proofs.table.Table.remove_telling.Goals as goal
 
 pub vacate-requires-clause-orderly : goal.vacate-requires-clause-orderly
@@ -19,24 +9,29 @@ vacate-requires-clause-orderly c = orderly c.self.inside c.self.invariant
 
 pub vacate-requires-clause-alone : goal.vacate-requires-clause-alone
 vacate-requires-clause-alone c =
-    held_alone (state_of (view_of c.self.inside)) c.self.invariant.lawful c.args.t.slot c.args.rec (subst (λ (v : TableView). same_mode ((state_of v).held c.args.t.slot c.args.rec) X ≡ true) (sym c.self.view_is) c.requires.exclusive)
+    held_alone (state_of (view_of c.self.inside)) c.self.invariant.lawful c.args.t.slot c.args.rec
+    (subst (λ (v : TableView). same_mode ((state_of v).held c.args.t.slot c.args.rec) X ≡ true) (sym c.self.view_is) c.requires.exclusive)
 
 is_record : (c : goal.After-remove_record) → is_record_shape (shape_of (graph_of c.self.inside.graph) c.args.rec) ≡ true
 is_record c = subst (λ (v : TableView). is_record_shape (shape_of (state_of v).graph c.args.rec) ≡ true) (sym c.self.view_is) c.requires.record
 
 pub invariant_of-self : goal.invariant_of-self
 invariant_of-self c =
-    sound_deleted c.self.inside c.self.invariant c.args.rec (is_record c) c.vacate.new.self c.remove_record.new.self c.remove_record.ensures.removed c.vacate.ensures.state
+    sound_deleted c.self.inside c.self.invariant c.args.rec (is_record c) c.vacate.new.self c.remove_record.new.self c.remove_record.ensures.removed
+    c.vacate.ensures.state
     c.vacate.ensures.sound c.vacate.ensures.agree c.vacate.ensures.count
 
 pub returns-clause-state : goal.returns-clause-state
 returns-clause-state c =
-    state_deleted c.self.inside c.self.invariant c.args.rec (is_record c) c.vacate.new.self c.remove_record.new.self c.remove_record.ensures.removed c.vacate.ensures.state
+    state_deleted c.self.inside c.self.invariant c.args.rec (is_record c) c.vacate.new.self c.remove_record.new.self c.remove_record.ensures.removed
+    c.vacate.ensures.state
     ∙ ap (λ (v : TableView). deleted (state_of v) c.args.rec) c.self.view_is
 
 pub returns-clause-told : goal.returns-clause-told
 returns-clause-told c =
     let s = state_of (view_of c.self.inside) in
     let tells = subst (λ (list : Told). FreesTold s.txns (s.queue c.args.rec) list c.vacate.new.told.items) c.requires.empty c.vacate.ensures.tells in
-    told_deleted c.self.inside c.self.invariant c.args.rec (is_record c) c.vacate.new.self c.remove_record.new.self c.remove_record.ensures.removed c.vacate.ensures.state c.vacate.new.told.items tells
-    ∙ ap (λ (v : TableView). told (state_of v) (state_of (view_of (record c.self.inside { graph = c.remove_record.new.self; locks = c.vacate.new.self })))) c.self.view_is
+    told_deleted c.self.inside c.self.invariant c.args.rec (is_record c) c.vacate.new.self c.remove_record.new.self c.remove_record.ensures.removed
+    c.vacate.ensures.state c.vacate.new.told.items tells
+    ∙ ap (λ (v : TableView). told (state_of v) (state_of (view_of (record c.self.inside { graph = c.remove_record.new.self; locks = c.vacate.new.self }))))
+    c.self.view_is

@@ -1,55 +1,56 @@
-use Rattle.std.specs.Prelude.{◌≡◌, Option, OnOk, Err, true, false}
-use Rattle.std.proofs.Common.{subst, ◌∙◌, sym, refl, rules}
-use Rattle.gl_graph.proofs.Look.{none_some}
-use Rattle.gl_modes.specs.declared.mode.Mode.{Mode}
-use Rattle.gl_modes.specs.declared.refusal.Refusal.{Refusal}
+use Rattle.gl_table.proofs.Words.{◌∙◌, ◌≡◌, Err, false, granted, Mode, none_some, OnOk, Option, refl, Refusal, Refuses, rules, state_of, subst, sym, TableView}
+use Rattle.gl_table.proofs.Words.{true, view_of}
 use Rattle.gl_modes.specs.declared.refusal.Refusal.TheVariants as no
-use Rattle.gl_graph.specs.Refusals.{Refuses}
-use Rattle.gl_table.specs.Calls.{granted}
-use Rattle.gl_table.specs.Sound.{view_of}
-use Rattle.gl_table.specs.Table.{TableView, state_of}
-use Rattle.gl_table.proofs.LockKeeps.{MayLock}
-use Rattle.gl_table.proofs.Locking.{answered-err, answered-ok, decided, may_lock_by, same_enters, sound_tried, state_tried, try_refused}
-use Rattle.gl_table.proofs.Queries.{modes-seen}
-use Rattle.gl_table.proofs.TableCalls.{orderly}
+use Rattle.gl_table.proofs.calls.Calls.{orderly}
+use Rattle.gl_table.proofs.calls.Locking.{answered-err, answered-ok, decided, may_lock_by, same_enters, sound_tried, state_tried, try_refused}
+use Rattle.gl_table.proofs.calls.Queries.{modes-seen}
+use Rattle.gl_table.proofs.law.Lock.{MayLock}
 use Rattle.gl_table.proofs.table.Table.try_lock.Goals as goal
 
 pub returns-in_err-held-clause-refuses : goal.returns-in_err-held-clause-refuses
 returns-in_err-held-clause-refuses c =
-    let is = try_refused (state_of c.args.self.now) c.args.t c.args.n c.args.mode c.in_err-held.field-0.0 (answered-err _ c.in_err-held.field-0.0 _ c.in_err-held.ensures) in
+    let is = try_refused (state_of c.args.self.now) c.args.t c.args.n c.args.mode c.in_err-held.field-0.0
+    (answered-err _ c.in_err-held.field-0.0 _ c.in_err-held.ensures) in
     subst (λ (o : Option Refusal). Refuses o c.from_residual.result) (sym is) (search rules)
 
 pub returns-then-not-would_grant-clause-refuses : goal.returns-then-not-would_grant-clause-refuses
 returns-then-not-would_grant-clause-refuses c =
-    let is = decided c.self.inside c.self.invariant c.args.self.now c.self.view_is c.args.t c.args.n c.args.mode (answered-ok _ _ _ c.in_ok-held.ensures).0 false c.if-not-would_grant.ensures in
+    let is = decided c.self.inside c.self.invariant c.args.self.now c.self.view_is c.args.t c.args.n c.args.mode (answered-ok _ _ _ c.in_ok-held.ensures).0
+    false c.if-not-would_grant.ensures in
     subst (λ (o : Option Refusal). Refuses {T = Mode} o (Err no.WouldBlock)) (sym is) refl
 
 pub returns-then-not-would_grant-clause-held : goal.returns-then-not-would_grant-clause-held
 returns-then-not-would_grant-clause-held c =
-    let is = decided c.self.inside c.self.invariant c.args.self.now c.self.view_is c.args.t c.args.n c.args.mode (answered-ok _ _ _ c.in_ok-held.ensures).0 false c.if-not-would_grant.ensures in
+    let is = decided c.self.inside c.self.invariant c.args.self.now c.self.view_is c.args.t c.args.n c.args.mode (answered-ok _ _ _ c.in_ok-held.ensures).0
+    false c.if-not-would_grant.ensures in
     λ passes. absurd (none_some (sym passes ∙ is))
 
 pub grant-requires-clause-orderly : goal.grant-requires-clause-orderly
 grant-requires-clause-orderly c = orderly c.self.inside c.self.invariant
 
 pub grant-requires-clause-held : goal.grant-requires-clause-held
-grant-requires-clause-held c = (answered-ok _ _ _ c.in_ok-held.ensures).1 ∙ sym (modes-seen c.self.inside c.self.invariant c.args.self.now c.self.view_is c.args.t.slot c.args.n)
+grant-requires-clause-held c = (answered-ok _ _ _ c.in_ok-held.ensures).1
+    ∙ sym (modes-seen c.self.inside c.self.invariant c.args.self.now c.self.view_is c.args.t.slot c.args.n)
 
 pub grant-requires-clause-enters : goal.grant-requires-clause-enters
 grant-requires-clause-enters c = sym (same_enters c.self.inside c.self.invariant c.args.t c.args.n c.args.mode) ∙ sym c.if-not-would_grant.ensures
 
 pub invariant_of-self : goal.invariant_of-self
 invariant_of-self c =
-    let may = subst (λ (v : TableView). MayLock (state_of v) c.args.t c.args.n c.args.mode) (sym c.self.view_is) (may_lock_by (state_of c.args.self.now) c.args.t c.args.n c.args.mode (answered-ok _ _ _ c.in_ok-held.ensures).0) in
-    sound_tried c.self.inside c.self.invariant c.args.t c.args.n c.args.mode c.grant.result c.grant.new.self may (sym (same_enters c.self.inside c.self.invariant c.args.t c.args.n c.args.mode) ∙ sym c.if-not-would_grant.ensures)
-    c.grant.ensures.state c.grant.ensures.err_headers c.grant.ensures.err_seats c.grant.ensures.sound c.grant.ensures.agree c.grant.ensures.count
+    let may = subst (λ (v : TableView). MayLock (state_of v) c.args.t c.args.n c.args.mode) (sym c.self.view_is)
+    (may_lock_by (state_of c.args.self.now) c.args.t c.args.n c.args.mode (answered-ok _ _ _ c.in_ok-held.ensures).0) in
+    sound_tried c.self.inside c.self.invariant c.args.t c.args.n c.args.mode c.grant.result c.grant.new.self may
+    (sym (same_enters c.self.inside c.self.invariant c.args.t c.args.n c.args.mode) ∙ sym c.if-not-would_grant.ensures)
+    c.grant.ensures.state c.grant.ensures.err c.grant.ensures.exact
 
 pub returns-clause-state : goal.returns-clause-state
 returns-clause-state c =
-    subst (λ (v : TableView). OnOk c.grant.result (state_of (view_of (record c.self.inside { locks = c.grant.new.self })) ≡ granted (state_of v) c.args.t.slot c.args.n c.args.mode)) c.self.view_is
+    subst (λ (v : TableView). OnOk c.grant.result (state_of (view_of (record c.self.inside { locks = c.grant.new.self }))
+    ≡ granted (state_of v) c.args.t.slot c.args.n c.args.mode)) c.self.view_is
     (state_tried c.self.inside c.self.invariant c.args.t c.args.n c.args.mode c.grant.result c.grant.new.self c.grant.ensures.state)
 
 pub returns-clause-refuses : goal.returns-clause-refuses
 returns-clause-refuses c =
-    let is = decided c.self.inside c.self.invariant c.args.self.now c.self.view_is c.args.t c.args.n c.args.mode (answered-ok _ _ _ c.in_ok-held.ensures).0 true c.if-not-would_grant.ensures in
+    let is = decided c.self.inside c.self.invariant c.args.self.now c.self.view_is c.args.t c.args.n c.args.mode (answered-ok _ _ _ c.in_ok-held.ensures).0 true
+    c.if-not-would_grant.ensures in
     subst (λ (o : Option Refusal). Refuses {T = Mode} o c.grant.result) (sym is) c.grant.ensures.no_memory

@@ -1,13 +1,5 @@
-use Rattle.std.specs.Prelude.{◌&&◌}
-use Rattle.std.specs.List.{list_any}
-use Rattle.std.proofs.Common.{ap, sym, ◌∙◌}
-use Rattle.gl_graph.specs.Graph.{is_child, nodes}
-use Rattle.gl_table.specs.Intends.{is_write}
-use Rattle.gl_table.specs.State.{lives}
-use Rattle.gl_table.specs.Table.{state_of}
-use Rattle.gl_table.proofs.Childless.{live_held}
-use Rattle.gl_table.proofs.Queries.{passed}
-use Rattle.gl_table.proofs.WritesBelow.{writes-seen}
+use Rattle.gl_table.proofs.Words.{◌&&◌, ◌∙◌, ap, is_child, is_write, list_any, lives, nodes, state_of, sym}
+use Rattle.gl_table.proofs.calls.Queries.{live_held, passed, writes-seen}
 use Rattle.gl_table.proofs.table.Table.writes_below.Goals as goal
 
 pub writes_below-requires : goal.writes_below-requires
@@ -17,4 +9,5 @@ pub returns-in-Some : goal.returns-in-Some
 returns-in-Some c =
     let s = state_of c.args.self.now in
     c.writes_below.ensures ∙ writes-seen c.self.inside c.self.invariant c.args.self.now c.self.view_is c.args.t.slot c.args.n
-    ∙ sym (ap (λ b. b && list_any (λ q. is_child s.graph c.args.n q && is_write (s.held c.args.t.slot q)) (nodes s.graph)) (passed (lives s c.args.t) _ _ (sym c.in-Some.is ∙ c.status.ensures)))
+    ∙ sym (ap (λ b. b && list_any (λ q. is_child s.graph c.args.n q && is_write (s.held c.args.t.slot q)) (nodes s.graph))
+    (passed (lives s c.args.t) _ _ (sym c.in-Some.is ∙ c.status.ensures)))

@@ -1,0 +1,8 @@
+-- What the calls make of a table.
+pub mod Law
+pub mod Queries
+pub mod Calls
+pub mod Locking
+pub mod Ends
+pub mod Moves
+pub mod Records

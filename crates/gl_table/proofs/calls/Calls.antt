@@ -1,0 +1,176 @@
+-- What the calls on the locks make of a table. For the calls that release.
+use Rattle.gl_table.proofs.Words.{[], ◌&&◌, ◌==◌, ◌∙◌, ◌∷◌, ◌≡◌, Active, ap, AreExact, clash, commit_tests, condemned, Deadlock, Detect, false, first_refusal}
+use Rattle.gl_table.proofs.Words.{front_at, get_or, grant_notice, HasNoCycle, held_child, held_children, holds, if◌then◌else◌, is_among_waiters, is_child}
+use Rattle.gl_table.proofs.Words.{is_wait, IsDeadlock, IsLawful, IsOnWay, IsOrderly, IsSound, IsStuck, IsVictim, members, NL, NodeId, nodes, None, not_false}
+use Rattle.gl_table.proofs.Words.{not_held, not_refused, not_true, Ok, Option, refl, Refusal, released, same_number, Settled, SettledWithin, SettlesKeeping}
+use Rattle.gl_table.proofs.Words.{SettlesKeepingWithin, Some, split, State, state_in, state_of, status_of, Stuck, subst, suc, sym, TableView, test_fails, Told}
+use Rattle.gl_table.proofs.Words.{told, told_to, true, TxnId, unlocked, verdict, Victims, view_of, WakesTold, with_grant, zero, ℕ}
+use Rattle.gl_table.specs.declared.locks.Locks.{Locks}
+use Rattle.gl_table.specs.declared.table.Table.TheInside.{Inside}
+use Rattle.gl_table.proofs.calls.Queries.{none_found_counted}
+use Rattle.gl_table.proofs.law.Lock.{released-no_cycle, unlocked-lawful, unlocked-no_cycle}
+use Rattle.gl_table.proofs.law.Takes.{released-lawful}
+use Rattle.gl_table.proofs.law.Tests.{active_in}
+use Rattle.gl_table.proofs.telling.Fronts.{front_stands, in_no_queue, well_granted}
+use Rattle.gl_table.proofs.telling.Lists.{told_is}
+use Rattle.gl_table.proofs.telling.Ways.{active_untold, nobody_told, release_tells, way_begins}
+
+-- What the calls on the locks make of a table.
+
+-- a test that passed
+pub test_passed : (o : Option Refusal) (x : Unit {0}) → Ok x ≡ verdict o → o ≡ None
+test_passed None x h = refl
+test_passed (Some r) x h = absurd (cc)
+
+-- what a lawful state says of the steps within a call
+pub lawful_orderly : (s : State) → IsLawful s → IsOrderly s
+lawful_orderly s law = record {
+  holders = λ u q h. (law.grants_live u q h).0;
+  holders_live = λ u q h. (law.grants_live u q h).1;
+  waiters_live = law.waits_live;
+  waits_are = law.waits_are;
+  one_wait = λ u q m h. (law.one_wait u q m h, (law.waits_intend u q m h).1);
+  below = law.slots_below;
+}
+
+-- who passed the tests of a commit is active
+pub is_active : (s : State) (t : TxnId) → first_refusal (commit_tests s t) ≡ None → status_of s t.slot ≡ Some Active
+is_active s t h =
+    let a = not_refused _ _ h in let b = not_refused _ _ a.1 in let c = not_refused _ [] b.1 in
+    active_in t.age (s.txns t.slot) (not_false _ (test_fails _ _ a.0)) b.0 c.0
+
+module _ (i : Inside) (sound : IsSound i) where
+  abbrev s : State
+  s = state_of (view_of i)
+
+  -- the locks alone, as a state
+  abbrev l : State
+  l = state_in i.graph i.locks
+
+  pub orderly : IsOrderly l
+  orderly = let o = lawful_orderly s sound.lawful in
+      record {
+        holders = o.holders;
+        holders_live = o.holders_live;
+        waiters_live = o.waiters_live;
+        waits_are = o.waits_are;
+        one_wait = o.one_wait;
+        below = o.below;
+      }
+
+  -- who passed the tests of an unlock holds the node and no child of it
+  pub may_unlock : (v : TableView) → view_of i ≡ v → (t : TxnId) (n : NodeId) (x y : Unit {0}) → Ok x ≡ verdict (first_refusal (commit_tests (state_of v) t))
+      → Ok y ≡ verdict (first_refusal (not_held (state_of v) t.slot n ∷ held_child (state_of v) t.slot n ∷ []))
+      → (status_of s t.slot ≡ Some Active) × (holds (members s n) t.slot ≡ true) × (held_child s t.slot n ≡ None) × (held_children s t.slot n ≡ 0)
+  may_unlock v view t n x y a b =
+      let back = λ (w : TableView). (status_of (state_of w) t.slot ≡ Some Active) × (holds (members (state_of w) n) t.slot ≡ true)
+      × (held_child (state_of w) t.slot n ≡ None) × (held_children (state_of w) t.slot n ≡ 0) in
+      let first = not_refused (not_held (state_of v) t.slot n) _ (test_passed _ y b) in
+      let second = not_refused (held_child (state_of v) t.slot n) [] first.1 in
+      subst back (sym view) (
+        is_active (state_of v) t (test_passed _ x a),
+        not_false _ (test_fails _ _ first.0),
+        second.0,
+        none_found_counted (λ c. is_child (state_of v).graph n c && holds (members (state_of v) c) t.slot) (nodes (state_of v).graph) second.0,
+      )
+
+  -- one node was released, of which no child was held
+  module _ (t : ℕ) (n : NodeId) (active : status_of s t ≡ Some Active) (childless : held_child s t n ≡ None) (locks : Locks)
+      (is : state_in i.graph locks ≡ unlocked l t n) where
+    abbrev after : Inside
+    after = record i { locks = locks }
+
+    pub state_unlocked : state_of (view_of after) ≡ unlocked s t n
+    state_unlocked = ap {A = State} (λ x. record x { detect = i.detect; victims = i.victims; begins = i.begins }) is
+
+    pub sound_unlocked : AreExact i.graph locks → IsSound after
+    sound_unlocked exact = record {
+      lawful = subst IsLawful (sym state_unlocked) (unlocked-lawful s sound.lawful t n active childless);
+      exact = exact;
+      no_cycle = λ at. subst HasNoCycle (sym state_unlocked) (unlocked-no_cycle s sound.lawful t n active childless (sound.no_cycle at));
+    }
+
+    pub told_unlocked : (list : Told) → WakesTold l.txns n (front_at (with_grant l t n NL) n) [] list → list ≡ told s (state_of (view_of after))
+    told_unlocked list tells =
+        told_is s (state_of (view_of after)) list sound.lawful sound.exact.sound.few tells.by_slot
+        (λ u. tells.notices u ∙ noticed u ∙ sym (ap (λ x. told_to s x u) state_unlocked))
+      where
+        noticed : (u : ℕ) → (if is_among_waiters u (front_at (with_grant s t n NL) n) then grant_notice s.txns n (front_at (with_grant s t n NL) n) u else None)
+            ≡ told_to s (unlocked s t n) u
+        noticed u = split (u == t)
+            (λ e. ap (λ b. if b then grant_notice s.txns n (front_at (with_grant s t n NL) n) u else None)
+            (ap (λ v. is_among_waiters v (front_at (with_grant s t n NL) n)) (same_number u t e) ∙ not_front)
+            ∙ sym (active_untold s (unlocked s t n) u (ap (status_of s) (same_number u t e) ∙ active)))
+            (λ e. ap (λ o. if is_among_waiters u (front_at (with_grant s t n NL) n) then grant_notice s.txns n (front_at (with_grant s t n NL) n) u else o)
+            (sym (nobody_told s u))
+            ∙ sym (release_tells s s t n (way_begins s sound.lawful) u e))
+          where
+            o : IsOrderly s
+            o = lawful_orderly s sound.lawful
+
+            not_front : is_among_waiters t (front_at (with_grant s t n NL) n) ≡ false
+            not_front = not_true _ (λ h. clash (front_stands (with_grant s t n NL) n (well_granted s o t n NL n) t h) (in_no_queue s o t (ap is_wait active) n))
+
+  -- the way from a table's state begins at its locks
+  pub table_way : IsOnWay s l
+  table_way = let w = way_begins s sound.lawful in record {
+    graph = refl;
+    ages = w.ages;
+    waited = w.waited;
+    waits_are = w.waits_are;
+    one_wait = w.one_wait;
+    live = w.live;
+  }
+
+  -- a transaction ended
+  module _ (t : ℕ) (locks : Locks) (is : state_in i.graph locks ≡ released l t) where
+    abbrev ended : Inside
+    ended = record i { locks = locks }
+
+    pub state_released : state_of (view_of ended) ≡ released s t
+    state_released = ap {A = State} (λ x. record x { detect = i.detect; victims = i.victims; begins = i.begins }) is
+
+    pub sound_released : AreExact i.graph locks → IsSound ended
+    sound_released exact = record {
+      lawful = subst IsLawful (sym state_released) (released-lawful s sound.lawful t);
+      exact = exact;
+      no_cycle = λ at. subst HasNoCycle (sym state_released) (released-no_cycle s sound.lawful t (sound.no_cycle at));
+    }
+
+-- Settling looks neither at the way of detection and the choice of victims that the state names nor at how many began, in which a table's state differs from
+-- that of its locks.
+
+module _ (c : Victims) (t : ℕ) (d : Detect) (v : Victims) (b : ℕ) where
+  -- the state, with these
+  abbrev pub over : State → State
+  over x = record x { detect = d; victims = v; begins = b }
+
+  victim_on : (w : Victims) (x : State) (u : ℕ) → IsVictim w x t u → IsVictim w (over x) t u
+  victim_on w x u h = h
+
+  pub settled_on : (k : ℕ) (x x' : State) → SettledWithin c k x t x' → SettledWithin c k (over x) t (over x')
+  settled_on zero x x' h = (h.0, ap over h.1)
+  settled_on (suc k) x x' h = (h.0, victim_on c x h.0 h.1, settled_on k (condemned x h.0) x' h.2)
+
+  -- in as many turns as it takes
+  pub settled_also : (x x' : State) → Settled c x t x' → Settled c (over x) t (over x')
+  settled_also x x' h = (h.0, settled_on h.0 x x' h.1)
+
+  stuck_on : (x : State) (r : Stuck) → IsStuck x t r → IsStuck (over x) t r
+  stuck_on x r h = record { on_cycle = h.on_cycle; name = h.name; waits = h.waits; waits_for = h.waits_for }
+
+  deadlock_on : (x : State) (u : ℕ) (e : Deadlock) → IsDeadlock x t u e → IsDeadlock (over x) t u e
+  deadlock_on x u e h = record {
+    victim = h.victim;
+    rows = λ k r low. stuck_on x (get_or e.cycle.items k r) (h.rows k r low);
+    whole = h.whole;
+    rising = h.rising;
+  }
+
+  keeping_on : (k : ℕ) (x x' : State) (e e' : Deadlock) → SettlesKeepingWithin c k x t e x' e' → SettlesKeepingWithin c k (over x) t e (over x') e'
+  keeping_on zero x x' e e' h = (h.0, ap over h.1, h.2)
+  keeping_on (suc k) x x' e e' h = (h.0, h.1, victim_on c x h.0 h.2, deadlock_on x h.0 h.1 h.3, keeping_on k (condemned x h.0) x' h.1 e' h.4)
+
+  -- nor does what is kept of deadlocks
+  pub keeping_also : (x x' : State) (e e' : Deadlock) → SettlesKeeping c x t e x' e' → SettlesKeeping c (over x) t e (over x') e'
+  keeping_also x x' e e' h = (h.0, keeping_on h.0 x x' e e' h.1)

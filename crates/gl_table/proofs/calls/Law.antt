@@ -1,0 +1,289 @@
+-- What holds of a table's fields: of every table, of a new one, with new nodes and with one transaction more.
+use Rattle.gl_table.proofs.Words.{[], ◌&&◌, ◌+◌, ◌<◌, ◌==◌, ◌||◌, ◌∙◌, ◌∷◌, ◌≡◌, ◌≤◌, Active, ap, AreApart, AreHeaders, AreNew, arith, begin_tests, begun, Bool}
+use Rattle.gl_table.proofs.Words.{by_list, children_that, choosing, clash, cond, count_in, counted_by, CountsHeld, elements, empty_state, Entry, entry_of, Err}
+use Rattle.gl_table.proofs.Words.{false, find, first_refusal, free_slot, get_or, gets, graph_of, HasNoCycle, held_children, held_of, holds, IfOk, if◌then◌else◌}
+use Rattle.gl_table.proofs.Words.{is_among_waiters, is_free, is_none, is_some, is_wait, is_waiting_at, IsApart, IsDistinct, IsLawful, IsSound, IsUnique}
+use Rattle.gl_table.proofs.Words.{keys_of, length, length-set, List, list_all, ListsAgree, LockList, lookup, loose_of, map, max_count, Members, members}
+use Rattle.gl_table.proofs.Words.{mode_in, nat_lt, nat_tests, NodeId, None, not, Ok, OnErr, Option, option_map_or, position, position-Some, position_or_len}
+use Rattle.gl_table.proofs.Words.{queue_of, range_with_len, refl, Refusal, Refuses, replicate, Result, same_node, Seat, SeatList, slice_get, slice_get-get_or}
+use Rattle.gl_table.proofs.Words.{slice_set, Some, StandOnce, State, state_in, state_of, status_in, status_of, subst, suc, sym, TableView, too_many_txns, true}
+use Rattle.gl_table.proofs.Words.{txn_in, txns_of, unused-nobody, View, view_of, where_true, zero, ℕ}
+use Rattle.gl_table.specs.declared.table.Table.TheInside.{Inside}
+use Rattle.gl_modes.specs.declared.refusal.Refusal.TheVariants as no
+use Rattle.gl_table.proofs.law.Keeps.{waiting_is}
+use Rattle.gl_table.proofs.law.Lock.{begun-no_cycle, empty-no_cycle}
+use Rattle.gl_table.proofs.law.Records.{born-children, grown-lawful, Grows}
+use Rattle.gl_table.proofs.law.Searches.{same_bool}
+use Rattle.gl_table.proofs.law.Takes.{begun-lawful, empty-lawful}
+use Rattle.gl_table.proofs.queues.Waiters.{among_by_filter}
+
+-- What holds of a table's fields, in the words of what a contract sees.
+
+-- in a lawful state who stands in a queue is who waits there
+pub waits_among : (s : State) → IsLawful s → (t : ℕ) (n : NodeId) → is_waiting_at s t n ≡ is_among_waiters t (s.queue n)
+waits_among s law t n = same_bool (is_among_waiters t (s.queue n)) (is_waiting_at s t n) (law.waits_are t n)
+    (λ h. let st = waiting_is (status_of s t) n h in among_by_filter t (t, st.0) [] (s.queue n) (law.one_wait t n st.0 st.1))
+
+module _ (ls : List LockList) (n : NodeId) where
+  abbrev said : ℕ → Option Entry
+  said t = option_map_or (λ es. lookup (same_node n) es) (slice_get (map (λ l. l.entries.entries) ls) t) None
+
+said_by : (ls : List LockList) (n : NodeId) (t : ℕ) → said ls n t ≡ by_list (λ l. entry_of l n) None ls t
+said_by [] n t = refl
+said_by (l ∷ ls) n zero = refl
+said_by (l ∷ ls) n (suc t) = said_by ls n t
+
+-- what is said of an entry, by slot
+through : {A : Type 0} (f : Option Entry → A) (ls : List LockList) (n : NodeId) (t : ℕ)
+    → f (by_list (λ l. entry_of l n) None ls t) ≡ by_list (λ l. f (entry_of l n)) (f None) ls t
+through f [] n t = refl
+through f (l ∷ ls) n zero = refl
+through f (l ∷ ls) n (suc t) = through f ls n t
+
+counted : (ls : List LockList) (n : NodeId) (t : ℕ) (e : Entry) → by_list (λ l. entry_of l n) None ls t ≡ Some e → counted_by ls t n ≡ e.children
+counted [] n t e h = absurd (cc)
+counted (l ∷ ls) n zero e h = ap (λ o. count_in o (loose_of l n)) h
+counted (l ∷ ls) n (suc t) e h = counted ls n t e h
+
+pub lists_agree : (i : Inside) → IsSound i → ListsAgree (view_of i)
+lists_agree i sound = record {
+  listed = λ t n. ap is_some (said_by ls n t) ∙ through is_some ls n t ∙ (sound.exact.agree t).listed n
+      ∙ ap (λ b. holds (members (state_of (view_of i)) n) t || b) (sym (waits_among (state_of (view_of i)) sound.lawful t n));
+  modes = λ t n. ap mode_in (said_by ls n t) ∙ through mode_in ls n t ∙ (sound.exact.agree t).modes n;
+  counts = λ t n e h. sym (counted ls n t e (sym (said_by ls n t) ∙ h)) ∙ sound.exact.count t n;
+}
+  where
+    ls : List LockList
+    ls = i.locks.lists.items
+
+unique_in : (l : LockList) → IsApart l → IsUnique same_node l.entries
+unfolding IsApart
+unique_in l apart = apart.0
+
+-- no list has a node twice
+lists_once : (ls : List LockList) → AreApart ls → (t : ℕ) (es : List (NodeId × Entry)) → slice_get (map (λ l. l.entries.entries) ls) t ≡ Some es
+    → IsDistinct same_node (keys_of es)
+lists_once [] apart t es e = absurd (cc)
+lists_once (l ∷ ls) apart zero es e = let is : l.entries.entries ≡ es = cc in
+    subst (λ (xs : List (NodeId × Entry)). IsDistinct same_node (keys_of xs)) is (unique_in l (apart 0 l refl))
+lists_once (l ∷ ls) apart (suc t) es e = lists_once ls (λ u x h. apart (suc u) x h) t es e
+
+-- and no node has two headers, by the map's own word
+pub stand_once : (i : Inside) → IsSound i → IsUnique same_node i.locks.headers → StandOnce (view_of i)
+stand_once i sound unique = record { headers = unique; lists = lists_once i.locks.lists.items sound.exact.sound.apart }
+
+-- A table in which nothing stands.
+
+length-replicate : (k : ℕ) → length (replicate {A = Option Seat} k None) ≡ k
+length-replicate zero = refl
+length-replicate (suc k) = ap suc (length-replicate k)
+
+free_seats : (k t : ℕ) → txns_of (replicate k None) t ≡ None
+free_seats zero t = refl
+free_seats (suc k) zero = refl
+free_seats (suc k) (suc t) = free_seats k t
+
+no_headers : AreHeaders []
+no_headers = record { lawful = λ n h e. absurd (cc); used = λ n h e. absurd (cc) }
+
+module _ (i : Inside) (most : ℕ) (few : most ≤ 128) (none : (birth : ℕ) → (graph_of i.graph).at birth ≡ None) (births : i.graph.births ≡ 0)
+    (begins : i.begins ≡ 0) (new : AreNew i.locks most) where
+  abbrev s : State
+  s = state_of (view_of i)
+
+  pub new_state : s ≡ choosing i.victims (empty_state i.detect most)
+  new_state = λ z. record (choosing i.victims (empty_state i.detect most)) {
+    graph = record { at = λ b. none b z; births = births z };
+    txns = λ t. (ap (λ xs. txns_of xs t) new.seats ∙ free_seats most t) z;
+    held = λ t n. (ap (λ hs. held_of hs t n) new.headers ∙ ap (λ (g : Members). g t) unused-nobody) z;
+    queue = λ n. queue_of (new.headers z) n;
+    most = (ap length new.seats ∙ length-replicate most) z;
+    begins = begins z;
+  }
+
+  pub new_sound : IsSound i
+  new_sound = record {
+    lawful = subst IsLawful (sym new_state) (empty-lawful i.detect i.victims most);
+    exact = record {
+      sound = record {
+        headers = subst AreHeaders (sym new.headers) no_headers;
+        few = subst (λ (k : ℕ). k ≤ 128) (sym (ap length new.seats ∙ length-replicate most)) few;
+        lists = new.lists ∙ sym (ap length new.seats ∙ length-replicate most);
+        apart = new.apart;
+      };
+      agree = λ u. record {
+        modes = λ q. new.modes u q ∙ sym (ap (λ x. x.held u q) new_state);
+        listed = λ q. new.listed u q ∙ sym (ap (λ x. holds (members x q) u || is_among_waiters u (x.queue q)) new_state);
+        room = λ h. clash (ap (λ x. is_wait (status_of x u)) (sym new_state) ∙ h) refl;
+      };
+      count = λ u p. new.counts u p ∙ sym (ap (λ x. held_children x u p) new_state);
+    };
+    no_cycle = λ _. subst HasNoCycle (sym new_state) (empty-no_cycle i.detect i.victims most);
+  }
+
+-- A call on a table's graph makes nodes, or changes nothing: what holds of the fields still does.
+
+module _ (i : Inside) (sound : IsSound i) (v : View) where
+  -- the table with another graph
+  abbrev grown : Inside
+  grown = record i { graph = v }
+
+  abbrev before : State
+  before = state_of (view_of i)
+
+  -- nobody holds a new node, so the counts of held children are the old ones
+  grown-counts : Grows (graph_of i.graph) (graph_of v) → (u : ℕ) → CountsHeld (state_in v i.locks) i.locks.lists.items u
+  grown-counts more u p =
+      let held : NodeId → Bool = λ c. holds (members before c) u in
+      sound.exact.count u p ∙ sym (born-children (graph_of i.graph) sound.lawful.graph more.ns held (λ c h. (sound.lawful.grants_live u c h).1) p)
+      ∙ sym (ap (λ g. children_that g held p) more.after)
+
+  grown-sound : Grows (graph_of i.graph) (graph_of v) → IsSound grown
+  grown-sound more = record {
+    lawful = grown-lawful before sound.lawful (graph_of v) more;
+    exact = record {
+      sound = sound.exact.sound;
+      agree = λ u. let old = sound.exact.agree u in record { modes = old.modes; listed = old.listed; room = old.room };
+      count = grown-counts more;
+    };
+    no_cycle = sound.no_cycle;
+  }
+
+  -- a call that makes nodes passed all its tests, and one that is refused left the graph as it was
+  pub called-sound : (refusal : Option Refusal) (result : Result NodeId Refusal) (Made : NodeId → Type 0) → Refuses refusal result → IfOk result Made
+      → OnErr result (v ≡ i.graph)
+      → ((n : NodeId) → refusal ≡ None → Made n → Grows (graph_of i.graph) (graph_of v)) → IsSound grown
+  called-sound None (Ok n) Made refuses made same grows = grown-sound (grows n refl made)
+  called-sound (Some r) (Ok n) Made refuses made same grows = absurd (cc)
+  called-sound refusal (Err r) Made refuses made same grows = subst (λ (w : View). IsSound (record i { graph = w })) (sym same) sound
+
+-- A transaction takes the lowest free seat.
+
+-- a search among the places of a list is one among its elements
+find-places : {X : Type 0} (f : X → Bool) (p : ℕ → Bool) (xs : List X) (k : ℕ) → ((i : ℕ) (x : X) → slice_get xs i ≡ Some x → p (k + i) ≡ f x)
+    → find p (range_with_len k (length xs)) ≡ cond (nat_lt (position_or_len f xs) (length xs)) (Some (k + position_or_len f xs)) None
+find-places f p [] k h = refl
+find-places f p (x ∷ xs) k h =
+    ap (λ b. cond b (Some k) (find p (range_with_len (k + 1) (length xs)))) (ap p (zeroth k) ∙ h 0 x refl)
+    ∙ by (f x) (position_or_len f xs) (find-places f p xs (k + 1) (λ i y e. ap p (next k i) ∙ h (suc i) y e))
+  where
+    zeroth : (k : ℕ) → k ≡ k + 0
+    zeroth k = omega arith
+
+    next : (k i : ℕ) → k + 1 + i ≡ k + suc i
+    next k i = omega arith
+
+    by : (b : Bool) (q : ℕ) → find p (range_with_len (k + 1) (length xs)) ≡ cond (nat_lt q (length xs)) (Some (k + 1 + q)) None
+        → cond b (Some k) (find p (range_with_len (k + 1) (length xs)))
+        ≡ cond (nat_lt (cond (not b) (1 + q) 0) (suc (length xs))) (Some (k + cond (not b) (1 + q) 0)) None
+    by true q e = grind (arith, nat_tests)
+    by false q e = e ∙ grind (arith, nat_tests)
+
+-- all pass where none is found that does not
+all-by_find : {X : Type 0} (p : X → Bool) (xs : List X) → list_all p xs ≡ is_none (find (λ x. not (p x)) xs)
+all-by_find p [] = refl
+all-by_find p (x ∷ xs) = by (p x) (all-by_find p xs)
+  where
+    by : (b : Bool) → list_all p xs ≡ is_none (find (λ y. not (p y)) xs) → (b && list_all p xs) ≡ is_none (cond (not b) (Some x) (find (λ y. not (p y)) xs))
+    by true e = e
+    by false e = refl
+
+free-none : (o : Option Seat) → is_none (txn_in (Some o)) ≡ is_free o
+free-none None = refl
+free-none (Some x) = refl
+
+none-free : (o : Option Seat) → is_free o ≡ true → is_some (txn_in (Some o)) ≡ false
+none-free None e = refl
+none-free (Some x) e = cc
+
+-- the lowest free seat is that of the lowest free slot
+pub found-slot : (v : TableView) (o : Option ℕ) → o ≡ position is_free v.seats → free_slot (state_of v) ≡ o
+found-slot v o is =
+    find-places is_free (λ u. is_none (txns_of v.seats u)) v.seats 0 free_at
+    ∙ ap (λ k. cond (nat_lt (position_or_len is_free v.seats) (length v.seats)) (Some k) None) (from_0 (position_or_len is_free v.seats)) ∙ sym is
+  where
+    from_0 : (k : ℕ) → 0 + k ≡ k
+    from_0 k = omega arith
+
+    free_at : (i : ℕ) (x : Option Seat) → slice_get v.seats i ≡ Some x → is_none (txns_of v.seats (0 + i)) ≡ is_free x
+    free_at i x e = ap (λ k. is_none (txns_of v.seats k)) (from_0 i) ∙ ap (λ o. is_none (txn_in o)) e ∙ free-none x
+
+-- a transaction may begin where a slot is free and an age is left
+pub begin-refusal : (first : State) (o : Option ℕ) → (first.begins ≡ max_count → ⊥) → free_slot first ≡ o
+    → first_refusal (begin_tests first) ≡ where_true (is_none o) no.TooManyTxns
+begin-refusal first o left is =
+    ap (λ r. first_refusal (r ∷ too_many_txns first ∷ [])) (not_worn first.begins left)
+    ∙ last (list_all (λ t. is_some (first.txns t)) (range_with_len 0 first.most))
+    ∙ ap (λ b. where_true b no.TooManyTxns) (all-by_find (λ t. is_some (first.txns t)) (range_with_len 0 first.most) ∙ ap is_none is)
+  where
+    not_worn : (b : ℕ) → (b ≡ max_count → ⊥) → where_true (b == max_count) no.WornOut ≡ None
+    not_worn b k = grind (arith, nat_tests)
+
+    last : (b : Bool) → first_refusal (None ∷ where_true b no.TooManyTxns ∷ []) ≡ where_true b no.TooManyTxns
+    last true = refl
+    last false = refl
+
+-- one seat is written
+txns_of-set : (xs : List (Option Seat)) (i : ℕ) (x : Option Seat) → i < length xs → (t : ℕ)
+    → txns_of (slice_set xs i x) t ≡ (if t == i then txn_in (Some x) else txns_of xs t)
+txns_of-set xs i x h t = grind (arith, nat_tests, gets, elements)
+
+module _ (i : Inside) (sound : IsSound i) (t : ℕ) (at : Some t ≡ position is_free i.locks.seats.items)
+    (seats : SeatList) (seated : seats.items ≡ slice_set i.locks.seats.items t (Some (record { age = i.begins + 1; status = Active }))) where
+  abbrev begun_in : Inside
+  begun_in = record {
+    graph = i.graph;
+    locks = record i.locks { seats = seats };
+    detect = i.detect;
+    victims = i.victims;
+    begins = i.begins + 1;
+    deadlock = i.deadlock;
+  }
+
+  abbrev first : State
+  first = state_of (view_of i)
+
+  place : (t < length i.locks.seats.items) × (is_free (get_or i.locks.seats.items t None) ≡ true)
+      × ((k : ℕ) → k < t → is_free (get_or i.locks.seats.items k None) ≡ false)
+  place = position-Some is_free i.locks.seats.items t None (sym at)
+
+  free : is_some (first.txns t) ≡ false
+  free = ap (λ o. is_some (txn_in o)) (slice_get-get_or i.locks.seats.items t None place.0) ∙ none-free _ place.1
+
+  seats-same : length (view_of begun_in).seats ≡ length i.locks.seats.items
+  seats-same = ap length seated ∙ length-set i.locks.seats.items t (Some (record { age = i.begins + 1; status = Active }))
+
+  pub begun-state : state_of (view_of begun_in) ≡ begun first t
+  begun-state = λ z. record (begun first t) {
+    txns = λ u. (ap (λ xs. txns_of xs u) seated ∙ txns_of-set i.locks.seats.items t (Some (record { age = i.begins + 1; status = Active })) place.0 u) z;
+    most = seats-same z;
+  }
+
+  -- who waits was there before
+  waited : (u : ℕ) → is_wait (status_in ((begun first t).txns u)) ≡ true → is_wait (status_in (first.txns u)) ≡ true
+  waited u = by (u == t)
+    where
+      by : (b : Bool) → is_wait (status_in (if b then Some (record { age = first.begins + 1; status = Active }) else first.txns u)) ≡ true
+          → is_wait (status_in (first.txns u)) ≡ true
+      by true h = clash h refl
+      by false h = h
+
+  pub begun-sound : IsSound begun_in
+  begun-sound = record {
+    lawful = subst IsLawful (sym begun-state) (begun-lawful first sound.lawful t free place.0);
+    exact = record {
+      sound = record {
+        headers = sound.exact.sound.headers;
+        few = subst (λ (k : ℕ). k ≤ 128) (sym seats-same) sound.exact.sound.few;
+        lists = sound.exact.sound.lists ∙ sym seats-same;
+        apart = sound.exact.sound.apart;
+      };
+      agree = λ u. record {
+        modes = (sound.exact.agree u).modes;
+        listed = (sound.exact.agree u).listed;
+        room = λ h. (sound.exact.agree u).room (waited u (ap (λ x. is_wait (status_in (x.txns u))) (sym begun-state) ∙ h));
+      };
+      count = sound.exact.count;
+    };
+    no_cycle = λ e. subst HasNoCycle (sym begun-state) (begun-no_cycle first t (sound.no_cycle e));
+  }

@@ -1,0 +1,181 @@
+-- A node moved and the locks followed: what it makes of a table. For the calls that move.
+use Rattle.gl_table.proofs.Words.{[], ◌&&◌, ◌+◌, ◌<◌, ◌==◌, ◌^◌, ◌||◌, ◌∙◌, ◌∷◌, ◌≡◌, ◌≤◌, Active, Agrees, and_both, ap, ap₂, AreInnerParents, AreSound, arith}
+use Rattle.gl_table.proofs.Words.{at_least-not_NL, Bool, children_that, count_by, count_by-le-length, count_none, counted_by, CountsHeld, false, first_cycle}
+use Rattle.gl_table.proofs.Words.{fits, fits-limit, Graph, graph_of, HasNoCycle, held_children, holds, if◌then◌else◌, is_among_waiters, is_at_least, is_listed}
+use Rattle.gl_table.proofs.Words.{is_live, is_movable_shape, is_record_shape, IsBySlot, IsLawful, IsOrderly, IsSound, IX, least_parents, List, list_all}
+use Rattle.gl_table.proofs.Words.{listed_by, LockList, members, Mode, moved_to, need_exclusive, need_new_parents, NL, Node, NodeId, None, not, not_true}
+use Rattle.gl_table.proofs.Words.{notices_in, Option, option_map_or, other_number, parents_of, refl, rekeyed, rekeyed_parents, same_mode, same_node}
+use Rattle.gl_table.proofs.Words.{same_number, shape_of, slice_get, slot_limit, Some, some_given, split, State, state_in, state_of, state_on, status_of, stays}
+use Rattle.gl_table.proofs.Words.{subst, sym, TableView, Told, told, told_to, true, unlisted, unlisted_by, View, view_of, with_parents, X, ℕ, ⊎_elim}
+use Rattle.gl_table.specs.declared.locks.Locks.{Locks}
+use Rattle.gl_table.specs.declared.table.Table.TheInside.{Inside}
+use Rattle.gl_table.proofs.calls.Calls.{lawful_orderly, orderly}
+use Rattle.gl_table.proofs.inside.TurnedAway.{is_lost, moved_notice, moved_told}
+use Rattle.gl_table.proofs.law.Effects.{x_is}
+use Rattle.gl_table.proofs.law.Move.{changed_keeps, HoldsNode, HoldsParents, live_kept, may_be_moved, may_be_rekeyed, moved-no_cycle, moved_node, Moves}
+use Rattle.gl_table.proofs.law.Move.{new_parents, node_there, nodes_kept, only_mover, others_parents, rekeyed_to, waiter_bare, waiters_stuck}
+use Rattle.gl_table.proofs.queues.Counts.{children_few, children_moved, parents_counted, parents_few}
+use Rattle.gl_table.proofs.telling.Fronts.{members_within}
+use Rattle.gl_table.proofs.telling.Lists.{told_is}
+
+-- all of these are listed
+none_unlisted : (ls : List LockList) (t : ℕ) (ps : List NodeId) → list_all (listed_by ls t) ps ≡ true → unlisted_by ls t ps ≡ 0
+none_unlisted ls t ps h = by (slice_get ls t) h
+  where
+    by : (o : Option LockList) → list_all (λ p. option_map_or (λ l. is_listed l p) o false) ps ≡ true → option_map_or (λ l. unlisted l ps) o 0 ≡ 0
+    by None k = refl
+    by (Some l) k = count_none (is_listed l) (λ p. not (is_listed l p)) ps k (λ p there. ap not there)
+
+-- what is held is listed
+all_listed : (s : State) (ls : List LockList) (t : ℕ) → Agrees s ls t → (test : Mode → Bool) → ((m : Mode) → test m ≡ true → same_mode m NL ≡ false)
+    → (ps : List NodeId)
+    → list_all (λ p. test (s.held t p)) ps ≡ true → list_all (listed_by ls t) ps ≡ true
+all_listed s ls t agree test locks [] h = refl
+all_listed s ls t agree test locks (p ∷ ps) h =
+    let two = and_both (test (s.held t p)) _ h in
+    ap₂ (λ a b. a && b) (agree.listed p ∙ ap (λ b. not b || is_among_waiters t (s.queue p)) (locks (s.held t p) two.0))
+    (all_listed s ls t agree test locks ps two.1)
+
+module _ (i : Inside) (sound : IsSound i) (t : ℕ) (n : NodeId) (was is : Node) (v : View) (m : Moves (state_of (view_of i)) t n was is (graph_of v)) where
+  abbrev s : State
+  s = state_of (view_of i)
+
+  -- the locks as they were, over the new graph
+  abbrev l : State
+  l = state_in v i.locks
+
+  abbrev g' : Graph
+  g' = graph_of v
+
+  live : (q : NodeId) → is_live g' q ≡ is_live s.graph q
+  live = live_kept s t n was is g' m
+
+  here : parents_of g' n ≡ is.parents
+  here = new_parents s t n was is g' m
+
+  pub orderly_moved : IsOrderly l
+  orderly_moved =
+      let o = orderly i sound in
+      record {
+        holders = o.holders;
+        holders_live = λ u q h. live q ∙ o.holders_live u q h;
+        waiters_live = λ u q h. live q ∙ o.waiters_live u q h;
+        waits_are = o.waits_are;
+        one_wait = o.one_wait;
+        below = o.below;
+      }
+
+  pub agree_moved : (u : ℕ) → Agrees l i.locks.lists.items u
+  agree_moved u = let old = sound.exact.agree u in record { modes = old.modes; listed = old.listed; room = old.room }
+
+  pub bare_moved : (u : ℕ) → is_among_waiters u (l.queue n) ≡ true → l.held u n ≡ NL
+  bare_moved = waiter_bare s sound.lawful t n is.parents m.active m.right
+
+  pub stuck_moved : list_all (λ w. not (fits slot_limit (members l n) w.0 w.1)) (l.queue n) ≡ true
+  stuck_moved = waiters_stuck s sound.lawful t n is.parents m.active m.right slot_limit
+      (λ u w. fits-limit s.most (members s n) u w sound.exact.sound.few (members_within l orderly_moved n))
+
+  -- the mover's old parents are counted
+  pub counted_moved : holds (members l n) t ≡ true → (q : NodeId) → count_by (same_node q) (parents_of s.graph n) ≤ counted_by i.locks.lists.items t q
+  counted_moved held q =
+      let some = parents_counted n (λ c. holds (members s c) t) s.graph sound.lawful.graph (node_there s t n was is g' m) held q in
+      let count = sound.exact.count t q in
+      omega arith
+
+  -- and its new parents are listed
+  pub listed_moved : unlisted_by i.locks.lists.items t (parents_of g' n) ≡ 0
+  listed_moved = none_unlisted i.locks.lists.items t (parents_of g' n)
+      (subst (λ (ps : List NodeId). list_all (listed_by i.locks.lists.items t) ps ≡ true) (sym here)
+      (⊎_elim
+      (λ (a : HoldsNode s t n is.parents). all_listed l i.locks.lists.items t (agree_moved t) (λ k. is_at_least k IX) (λ k h. at_least-not_NL k IX h refl)
+      is.parents a.new)
+      (λ (b : HoldsParents s t n is.parents). all_listed l i.locks.lists.items t (agree_moved t) (λ k. same_mode k X)
+      (λ k h. at_least-not_NL k IX (x_is k h) refl) is.parents b.new)
+      m.right))
+
+  pub few_moved : (q : NodeId) → counted_by i.locks.lists.items t q + count_by (same_node q) (parents_of g' n) < 2 ^ 32
+  few_moved q =
+      let count = sound.exact.count t q in
+      let few = children_few s.graph sound.lawful.graph (λ c. holds (members s c) t) q in
+      let short = count_by-le-length (same_node q) (parents_of g' n) in
+      let eight = parents_few g' m.lawful n in
+      omega arith
+
+  -- the locks followed
+  module _ (locks : Locks) (state : state_on g' locks ≡ moved_to l n (parents_of g' n) g') where
+    abbrev after : Inside
+    after = record i { graph = v; locks = locks }
+
+    pub state_moved : state_of (view_of after) ≡ moved_to s n is.parents g'
+    state_moved = ap {A = State} (λ x. record x { detect = i.detect; victims = i.victims; begins = i.begins }) state ∙ ap (λ ps. moved_to s n ps g') here
+
+    abbrev holding : ℕ → NodeId → Bool
+    holding u c = holds (members s c) u
+
+    -- the mover's counts were changed, and nobody else holds the node
+    pub counts_moved : (old : List NodeId) → old ≡ parents_of s.graph n
+        → ((u : ℕ) (q : NodeId) → counted_by locks.lists.items u q + (if (u == t) && holds (members l n) t then count_by (same_node q) old else 0)
+        ≡ counted_by i.locks.lists.items u q + (if (u == t) && holds (members l n) t then count_by (same_node q) (parents_of g' n) else 0)) → (u : ℕ)
+        → CountsHeld (state_on g' locks) locks.lists.items u
+    counts_moved old before counts u p =
+        let moved = children_moved s.graph g' sound.lawful.graph m.lawful n (nodes_kept s t n was is g' m) (others_parents s t n was is g' m)
+        (node_there s t n was is g' m) (live n ∙ node_there s t n was is g' m) (holding u) p in
+        let same : ((u == t) && holds (members l n) t) ≡ holding u n = split (u == t)
+        (λ e. ap (λ b. b && holds (members l n) t) e ∙ ap (λ x. holding x n) (sym (same_number u t e)))
+        (λ e. ap (λ b. b && holds (members l n) t) e ∙ sym
+        (not_true _ (λ h. other_number u t e (only_mover s sound.lawful t n is.parents m.active m.right u h)))) in
+        let written = subst
+        (λ (b : Bool). counted_by locks.lists.items u p + (if b then count_by (same_node p) (parents_of s.graph n) else 0)
+        ≡ counted_by i.locks.lists.items u p + (if b then count_by (same_node p) (parents_of g' n) else 0))
+        same (ap (λ ps. counted_by locks.lists.items u p + (if (u == t) && holds (members l n) t then count_by (same_node p) ps else 0)) (sym before)
+        ∙ counts u p) in
+        let count = sound.exact.count u p in
+        let now : counted_by locks.lists.items u p ≡ children_that g' (holding u) p = omega arith in
+        now ∙ ap (λ (x : State). held_children x u p) (sym state)
+
+    pub sound_moved : AreSound locks → ((u : ℕ) → Agrees (state_on g' locks) locks.lists.items u)
+        → ((u : ℕ) → CountsHeld (state_on g' locks) locks.lists.items u) → IsSound after
+    sound_moved are agrees counts = record {
+      lawful = subst IsLawful (sym state_moved) (changed_keeps s t n was is g' m sound.lawful);
+      exact = record { sound = are; agree = agrees; count = counts };
+      no_cycle = λ at. subst HasNoCycle (sym state_moved) (moved-no_cycle s sound.lawful n is.parents g' (sound.no_cycle at));
+    }
+
+    pub told_moved : (list : Told) → IsBySlot list → ((u : ℕ)
+        → notices_in list u ≡ (if is_lost l n (stays l (parents_of g' n)) u then moved_notice l u else None)) → list ≡ told s (state_of (view_of after))
+    told_moved list by_slot tells =
+        told_is s (state_of (view_of after)) list sound.lawful sound.exact.sound.few by_slot
+        (λ u. tells u ∙ ap (λ ps. if is_lost s n (stays s ps) u then moved_notice s u else None) here
+        ∙ sym (moved_told s (lawful_orderly s sound.lawful) n is.parents g' bare_moved (λ x h. live n ∙ node_there s t n was is g' m) u)
+        ∙ sym (ap (λ x. told_to s x u) state_moved))
+
+-- what a call may do by what it requires, once the graph's call is done
+module _ (i : Inside) (sound : IsSound i) (w : TableView) (view : view_of i ≡ w) (t : ℕ) (v : View) where
+  abbrev x : State
+  x = state_of w
+
+  lawful_seen : IsLawful x
+  lawful_seen = subst (λ (y : TableView). IsLawful (state_of y)) view sound.lawful
+
+  pub rekey_call : (r index : NodeId) (key : ℕ) → status_of x t ≡ Some Active → is_record_shape (shape_of x.graph r) ≡ true
+      → need_exclusive x t r true (rekeyed_parents x.graph r index key) ≡ None
+      → need_new_parents x t r (rekeyed_parents x.graph r index key) ≡ None → graph_of v ≡ rekeyed x.graph r index key
+      → (was : Node) × Moves (state_of (view_of i)) t r was (rekeyed_to x.graph r index key was) (graph_of v)
+  rekey_call r index key active rec exclusive parents made =
+      let may = may_be_rekeyed x lawful_seen t r index key active rec exclusive parents in (
+        may.0,
+        subst (λ (y : TableView). Moves (state_of y) t r may.0 (rekeyed_to x.graph r index key may.0) (graph_of v)) (sym view)
+            (subst (λ g. Moves x t r may.0 (rekeyed_to x.graph r index key may.0) g) (sym made) may.1),
+      )
+
+  pub move_call : (n : NodeId) (ps : List NodeId) → status_of x t ≡ Some Active → is_movable_shape (shape_of x.graph n) ≡ true
+      → AreInnerParents x.graph (least_parents (shape_of x.graph n)) ps
+      → need_exclusive x t n (some_given (parents_of x.graph n) && some_given ps) ps ≡ None → need_new_parents x t n ps ≡ None → first_cycle x.graph n ps ≡ None
+      → graph_of v ≡ with_parents x.graph n ps
+      → (was : Node) × Moves (state_of (view_of i)) t n was (moved_node ps was) (graph_of v)
+  move_call n ps active movable inner exclusive rule clear made =
+      let may = may_be_moved x lawful_seen t n ps active movable inner exclusive rule clear in (
+        may.0,
+        subst (λ (y : TableView). Moves (state_of y) t n may.0 (moved_node ps may.0) (graph_of v)) (sym view)
+            (subst (λ g. Moves x t n may.0 (moved_node ps may.0) g) (sym made) may.1),
+      )

@@ -1,0 +1,329 @@
+-- What is asked of a table: its lists and headers say what its state says. For queries and tests.
+use Rattle.gl_table.proofs.Words.{[], ◌&&◌, ◌+◌, ◌<◌, ◌||◌, ◌∙◌, ◌∷◌, ◌≡◌, ◌≤◌, add-one, and_both, answered, any_found, ap, ap₂, AreRowsOf, arith, board_of}
+use Rattle.gl_table.proofs.Words.{Bool, by_list, child_held, clash, cond, count_by, counted_by, drop, drop-cons, effect_on, effective, Entry, entry_at, Err}
+use Rattle.gl_table.proofs.Words.{false, find, first_not_ix, first_of_all, first_refusal, fun_ext, get_or, Graph, graph_of, group_of, group_of-limit, held_by}
+use Rattle.gl_table.proofs.Words.{held_child, held_children, held_of, holds, if◌then◌else◌, IS, is_at_least, is_child, is_live, is_row_of, is_some, is_write}
+use Rattle.gl_table.proofs.Words.{IsDistinct, IsLawfulGraph, IsSound, IX, keys, keys_of, length, length-map, List, list_all, list_any, listed, ListsAgree}
+use Rattle.gl_table.proofs.Words.{LockList, LockRow, lookup, lookup_from_place, map, members, members_at, Mode, mode_in, mode_of, NL, no, no_parents}
+use Rattle.gl_table.proofs.Words.{node_equivalence, NodeId, nodes, None, none_some, not, not_held, not_true, Ok, Option, option_map, option_map_or, queue_of}
+use Rattle.gl_table.proofs.Words.{refl, Refusal, Refuses, RefusesOnly, Result, row_of, rows_of, rule_refusal, same_mode, same_node, Seat, shown, slice_get}
+use Rattle.gl_table.proofs.Words.{slice_get-get_or, slice_get-map, slot_limit, Some, split, StandOnce, State, state_of, subst, suc, sum_by-cons, sym, TableView}
+use Rattle.gl_table.proofs.Words.{true, txns_of, verdict, view_of, where_true, zero, ℕ}
+use Rattle.gl_table.specs.declared.table.Table.TheInside.{Inside}
+use Rattle.std.specs.List.{All}
+use Rattle.gl_modes.specs.declared.refusal.Refusal.TheVariants as no
+use Rattle.gl_table.proofs.inside.Children.{held_listed}
+use Rattle.gl_table.proofs.law.Keeps.{lawful-within, write_held}
+use Rattle.gl_table.proofs.law.Tests.{one_found}
+
+-- What the lists say of held children, as the tests of an unlock.
+
+-- nothing is found where nothing is counted, and the other way round
+pub none_counted : (f : NodeId → Bool) (ns : List NodeId) → count_by f ns ≡ 0 → find f ns ≡ None
+none_counted f [] h = refl
+none_counted f (n ∷ ns) h = by (f n) refl (sym (sum_by-cons (λ x. cond (f x) 1 0) n ns) ∙ h) (none_counted f ns)
+  where
+    by : (b : Bool) → f n ≡ b → cond b 1 0 + count_by f ns ≡ 0 → (count_by f ns ≡ 0 → find f ns ≡ None) → cond b (Some n) (find f ns) ≡ None
+    by true e k r = absurd (omega arith)
+    by false e k r = r (let rest : count_by f ns ≡ 0 = omega arith in rest)
+
+pub none_found_counted : (f : NodeId → Bool) (ns : List NodeId) → child_held (find f ns) ≡ None → count_by f ns ≡ 0
+none_found_counted f [] h = refl
+none_found_counted f (n ∷ ns) h = by (f n) refl h (none_found_counted f ns)
+  where
+    by : (b : Bool) → f n ≡ b → child_held (cond b (Some n) (find f ns)) ≡ None → (child_held (find f ns) ≡ None → count_by f ns ≡ 0) → count_by f (n ∷ ns) ≡ 0
+    by true e k r = absurd (cc)
+    by false e k r = sum_by-cons (λ x. cond (f x) 1 0) n ns ∙ ap (λ b. cond b 1 0 + count_by f ns) e ∙ (let rest = r k in omega arith)
+
+module _ (i : Inside) (sound : IsSound i) (t : ℕ) (n : NodeId) where
+  abbrev s : State
+  s = state_of (view_of i)
+
+  abbrev ls : List LockList
+  ls = i.locks.lists.items
+
+  same_holder : (q : NodeId) → holds (λ u. held_by ls u q) t ≡ holds (members s q) t
+  same_holder q = ap (λ m. not (same_mode m NL)) ((sound.exact.agree t).modes q)
+
+  pub live_held : (c : NodeId) → holds (λ u. held_by ls u c) t ≡ true → is_live (graph_of i.graph) c ≡ true
+  live_held c h = (sound.lawful.grants_live t c (sym (same_holder c) ∙ h)).1
+
+  -- what is answered, whether the node is held and which child is
+  answer : (h : Bool) (o : Option NodeId) → holds (members s n) t ≡ h → find (λ c. is_child s.graph n c && holds (members s c) t) (nodes s.graph) ≡ o
+      → verdict (first_refusal (not_held s t n ∷ held_child s t n ∷ [])) ≡ verdict (first_refusal (where_true (not h) no.NotHeld ∷ child_held o ∷ []))
+  answer h o e f = ap₂ (λ a b. verdict (first_refusal (where_true (not a) no.NotHeld ∷ child_held b ∷ []))) e f
+
+  holding : (k : ℕ) → Some k ≡ (if holds (λ u. held_by ls u n) t then Some (counted_by ls t n) else None) → (holds (members s n) t ≡ true)
+      × (k ≡ held_children s t n)
+  holding k e = by (holds (λ u. held_by ls u n) t) refl e
+    where
+      by : (b : Bool) → holds (λ u. held_by ls u n) t ≡ b → Some k ≡ (if b then Some (counted_by ls t n) else None) → (holds (members s n) t ≡ true)
+          × (k ≡ held_children s t n)
+      by true h q = let same : k ≡ counted_by ls t n = cc in (sym (same_holder n) ∙ h, same ∙ sound.exact.count t n)
+      by false h q = absurd (cc)
+
+  pub says_not_held : None ≡ (if holds (λ u. held_by ls u n) t then Some (counted_by ls t n) else None)
+      → Err no.NotHeld ≡ verdict (first_refusal (not_held s t n ∷ held_child s t n ∷ []))
+  says_not_held e = by (holds (λ u. held_by ls u n) t) refl e
+    where
+      by : (b : Bool) → holds (λ u. held_by ls u n) t ≡ b → None ≡ (if b then Some (counted_by ls t n) else None)
+          → Err no.NotHeld ≡ verdict (first_refusal (not_held s t n ∷ held_child s t n ∷ []))
+      by true h q = absurd (cc)
+      by false h q = sym (answer false (find (λ c. is_child s.graph n c && holds (members s c) t) (nodes s.graph)) (sym (same_holder n) ∙ h) refl)
+
+  pub says_none : (k : ℕ) → k ≡ 0 → Some k ≡ (if holds (λ u. held_by ls u n) t then Some (counted_by ls t n) else None)
+      → Ok tt ≡ verdict (first_refusal (not_held s t n ∷ held_child s t n ∷ []))
+  says_none k zero_is e = let h = holding k e in sym
+      (answer true None h.0 (none_counted (λ c. is_child s.graph n c && holds (members s c) t) (nodes s.graph) (sym h.1 ∙ zero_is)))
+
+  same_found : find (λ c. is_child (graph_of i.graph) n c && holds (λ u. held_by ls u c) t) (nodes (graph_of i.graph))
+      ≡ find (λ c. is_child s.graph n c && holds (members s c) t) (nodes s.graph)
+  same_found = ap (λ (f : NodeId → Bool). find (λ c. is_child s.graph n c && f c) (nodes s.graph)) (fun_ext same_holder)
+
+  pub says_child : (k : ℕ) → Some k ≡ (if holds (λ u. held_by ls u n) t then Some (counted_by ls t n) else None) → (c : NodeId)
+      → Some c ≡ find (λ q. is_child (graph_of i.graph) n q && holds (λ u. held_by ls u q) t) (nodes (graph_of i.graph))
+      → Err (no.HeldChild c) ≡ verdict (first_refusal (not_held s t n ∷ held_child s t n ∷ []))
+  says_child k e c f = sym (answer true (Some c) (holding k e).0 (sym (f ∙ same_found)))
+
+  pub says_no_child : (k : ℕ) → Some k ≡ (if holds (λ u. held_by ls u n) t then Some (counted_by ls t n) else None)
+      → None ≡ find (λ q. is_child (graph_of i.graph) n q && holds (λ u. held_by ls u q) t) (nodes (graph_of i.graph))
+      → Ok tt ≡ verdict (first_refusal (not_held s t n ∷ held_child s t n ∷ []))
+  says_no_child k e f = sym (answer true None (holding k e).0 (sym (f ∙ same_found)))
+
+-- a slot without list holds nothing
+pub no_list : (ls : List LockList) (g : Graph) (t : ℕ) (n : NodeId) → slice_get ls t ≡ None
+    → None ≡ find (λ c. is_child g n c && holds (λ u. held_by ls u c) t) (nodes g)
+no_list ls g t n e = sym (none_passes (nodes g))
+  where
+    and_off : (a b : Bool) → b ≡ false → (a && b) ≡ false
+    and_off true b h = h
+    and_off false b h = refl
+
+    fails : (c : NodeId) → (is_child g n c && holds (λ u. held_by ls u c) t) ≡ false
+    fails c = and_off (is_child g n c) _ (ap (λ o. not (same_mode (option_map_or (λ l. mode_of l c) o NL) NL)) e)
+
+    none_passes : (ns : List NodeId) → find (λ c. is_child g n c && holds (λ u. held_by ls u c) t) ns ≡ None
+    none_passes [] = refl
+    none_passes (c ∷ ns) = ap (λ b. cond b (Some c) (find (λ q. is_child g n q && holds (λ u. held_by ls u q) t) ns)) (fails c) ∙ none_passes ns
+
+pub past_end : (ls : List LockList) (t : ℕ) → length ls ≤ t → slice_get ls t ≡ None
+past_end [] t h = refl
+past_end (l ∷ ls) zero h = absurd (omega arith)
+past_end (l ∷ ls) (suc t) h = past_end ls t (omega arith)
+
+-- What is asked of a table: what its lists and headers say is what its state says.
+
+-- where no test refuses, a call answers the value
+pub answers : {A : Type 0} (o : Option Refusal) (x y : A) → o ≡ None → x ≡ y → Ok x ≡ answered o y
+answers o x y none same = ap Ok same ∙ ap (λ p. answered p y) (sym none)
+
+-- neither of two tests refuses
+pub both_pass : (o p : Option Refusal) → o ≡ None → p ≡ None → first_refusal (o ∷ p ∷ []) ≡ None
+both_pass o p a b = ap₂ (λ x y. first_refusal (x ∷ y ∷ [])) a b
+
+-- what is answered only under a test shows that the test passed
+pub passed : {A : Type 0} (b : Bool) (o : Option A) (x : A) → Some x ≡ (if b then o else None) → b ≡ true
+passed true o x e = refl
+passed false o x e = absurd (none_some (sym e))
+
+-- a refusal is handed on by a call that answers something else
+module _ (A : Type 0) {B : Type 0} (o : Option Refusal) (r : Refusal) (result : Result B Refusal) (is : result ≡ Err r) where
+  pub refuses_as : Refuses {T = A} o (Err r) → Refuses {T = B} o result
+  refuses_as refuses = subst (λ (x : Result B Refusal). Refuses o x) (sym is) (by o refuses)
+    where
+      by : (p : Option Refusal) → Refuses {T = A} p (Err r) → Refuses {T = B} p (Err r)
+      by None h = h
+      by (Some x) h = cc
+
+  pub refuses_only_as : RefusesOnly {A = A} o (Err r) → RefusesOnly {A = B} o result
+  refuses_only_as refuses = subst (λ (x : Result B Refusal). RefusesOnly o x) (sym is) (by o refuses)
+    where
+      by : (p : Option Refusal) → RefusesOnly {A = A} p (Err r) → RefusesOnly {A = B} p (Err r)
+      by None h = absurd (no h)
+      by (Some x) h = cc
+
+module _ (i : Inside) (sound : IsSound i) (v : TableView) (view : view_of i ≡ v) where
+  pub modes-seen : (t : ℕ) (n : NodeId) → held_by i.locks.lists.items t n ≡ (state_of v).held t n
+  modes-seen t n = (sound.exact.agree t).modes n ∙ ap (λ w. (state_of w).held t n) view
+
+  pub counts-seen : (t : ℕ) (n : NodeId) → counted_by i.locks.lists.items t n ≡ held_children (state_of v) t n
+  counts-seen t n = sound.exact.count t n ∙ ap (λ w. held_children (state_of w) t n) view
+
+  pub effect-seen : (t : ℕ) (n : NodeId) → effect_on (graph_of i.graph) (held_by i.locks.lists.items t) n ≡ effective (state_of v) t n
+  effect-seen t n = ap₂ (λ w h. effect_on (graph_of w.graph) h n) view (fun_ext (modes-seen t))
+
+  pub group-seen : (n : NodeId) → group_of slot_limit (members_at i.locks.headers.entries n) ≡ group_of (state_of v).most (members (state_of v) n)
+  group-seen n =
+      sym (group_of-limit (length i.locks.seats.items) (members_at i.locks.headers.entries n) sound.exact.sound.few
+      (lawful-within (state_of (view_of i)) sound.lawful n))
+      ∙ ap (λ w. group_of (state_of w).most (members (state_of w) n)) view
+
+  pub children-seen : (t : ℕ) (n : NodeId)
+      → (if holds (λ u. held_by i.locks.lists.items u n) t then Some (counted_by i.locks.lists.items t n) else None)
+      ≡ (if holds (members (state_of v) n) t then Some (held_children (state_of v) t n) else None)
+  children-seen t n = ap₂ (λ m k. if holds (λ u. m) t then Some k else None) (modes-seen t n) (counts-seen t n)
+
+  -- a board is made of who lives, holds and waits alone
+  pub board-seen : (seats : List (Option Seat)) (epoch : ℕ) → seats ≡ i.locks.seats.items
+      → board_of (shown i.locks.headers.entries seats epoch) ≡ board_of (record (state_of v) { accepted = epoch })
+  board-seen seats epoch is = λ z.
+      board_of (record (state_of v) {
+        txns = (ap txns_of is ∙ ap (λ w. txns_of w.seats) view) z;
+        held = held_of (view z).headers;
+        queue = queue_of (view z).headers;
+        accepted = epoch;
+      })
+
+-- The rows of a list are the locks of its transaction in the model.
+
+looked_in : (ls : List (List (NodeId × Entry))) (t : ℕ) (n : NodeId)
+    → option_map_or (λ es. lookup (same_node n) es) (slice_get ls t) None ≡ lookup (same_node n) (get_or ls t [])
+looked_in [] t n = refl
+looked_in (es ∷ ls) zero n = refl
+looked_in (es ∷ ls) (suc t) n = looked_in ls t n
+
+distinct_in : (ls : List (List (NodeId × Entry))) (t : ℕ) → ((es : List (NodeId × Entry)) → slice_get ls t ≡ Some es → IsDistinct same_node (keys_of es))
+    → IsDistinct same_node (keys_of (get_or ls t []))
+unfolding IsDistinct
+distinct_in [] t once = tt
+distinct_in (es ∷ ls) zero once = once es refl
+distinct_in (es ∷ ls) (suc t) once = distinct_in ls t once
+
+-- a node has a row exactly where the list has an entry of it
+row-listed : (n : NodeId) (es : List (NodeId × Entry)) → list_any (is_row_of n) (map row_of es) ≡ is_some (lookup (same_node n) es)
+row-listed n [] = refl
+row-listed n (x ∷ es) = split (same_node n x.0)
+    (λ e. ap (λ b. b || list_any (is_row_of n) (map row_of es)) e ∙ sym (ap is_some (here e)))
+    (λ e. ap (λ b. b || list_any (is_row_of n) (map row_of es)) e ∙ row-listed n es ∙ sym (ap is_some (there e)))
+  where
+    here : same_node n x.0 ≡ true → lookup (same_node n) (x ∷ es) ≡ Some x.1
+    here e = ap (λ b. if b then Some x.1 else lookup (same_node n) es) e
+
+    there : same_node n x.0 ≡ false → lookup (same_node n) (x ∷ es) ≡ lookup (same_node n) es
+    there e = ap (λ b. if b then Some x.1 else lookup (same_node n) es) e
+
+-- what the code reads of a slot's list are the rows that its view shows
+pub row-at : (ls : List LockList) (t place : ℕ)
+    → by_list (λ l. option_map row_of (slice_get l.entries.entries place)) None ls t
+    ≡ slice_get (map row_of (get_or (map (λ l. l.entries.entries) ls) t [])) place
+row-at [] t place = refl
+row-at (l ∷ ls) zero place = sym (slice_get-map row_of l.entries.entries place)
+row-at (l ∷ ls) (suc t) place = row-at ls t place
+
+pub row-count : (ls : List LockList) (t : ℕ) → by_list (λ l. length (keys l.entries)) 0 ls t
+    ≡ length (map row_of (get_or (map (λ l. l.entries.entries) ls) t []))
+row-count [] t = refl
+row-count (l ∷ ls) zero = length-map l.entries.entries (λ e. e.0) ∙ sym (length-map l.entries.entries row_of)
+row-count (l ∷ ls) (suc t) = row-count ls t
+
+row_nodes : (es : List (NodeId × Entry)) → map (λ (r : LockRow). r.node) (map row_of es) ≡ keys_of es
+row_nodes [] = refl
+row_nodes (x ∷ es) = ap (λ ns. x.0 ∷ ns) (row_nodes es)
+
+module _ (v : TableView) (agree : ListsAgree v) (once : StandOnce v) (t : ℕ) where
+  abbrev row_listed : List (NodeId × Entry)
+  row_listed = get_or v.lists t []
+
+  distinct : IsDistinct same_node (keys_of row_listed)
+  distinct = distinct_in v.lists t (once.lists t)
+
+  abbrev Tells : LockRow → Type 0
+  Tells r = (r.mode ≡ (state_of v).held t r.node) × (r.children ≡ held_children (state_of v) t r.node)
+
+  told_at : (n : NodeId) (e : Entry) → lookup (same_node n) row_listed ≡ Some e → Tells (row_of (n, e))
+  told_at n e h =
+      let said : entry_at v t n ≡ Some e = looked_in v.lists t n ∙ h in
+      (sym (ap mode_in said) ∙ agree.modes t n, agree.counts t n e said)
+
+  each : All Tells (map row_of row_listed)
+  each k d lt = by (slice_get row_listed k) refl
+    where
+      is : slice_get (map row_of row_listed) k ≡ Some (get_or (map row_of row_listed) k d)
+      is = slice_get-get_or (map row_of row_listed) k d lt
+
+      mapped : (o : Option (NodeId × Entry)) → slice_get row_listed k ≡ o → Some (get_or (map row_of row_listed) k d) ≡ option_map row_of o
+      mapped o e = sym is ∙ slice_get-map row_of row_listed k ∙ ap (option_map row_of) e
+
+      by : (o : Option (NodeId × Entry)) → slice_get row_listed k ≡ o → Tells (get_or (map row_of row_listed) k d)
+      by None e = absurd (none_some (sym (mapped None e)))
+      by (Some x) e =
+          let is_some_row = mapped (Some x) e in
+          let same : row_of x ≡ get_or (map row_of row_listed) k d = cc in
+          subst Tells same (told_at x.0 x.1 (lookup_from_place node_equivalence row_listed k x.0 x.1 distinct e))
+
+  pub are_rows : AreRowsOf (state_of v) t (rows_of v t)
+  are_rows = record {
+    nodes = λ n. row-listed n row_listed ∙ ap is_some (sym (looked_in v.lists t n)) ∙ agree.listed t n;
+    once = subst (λ (ns : List NodeId). IsDistinct same_node ns) (sym (row_nodes row_listed)) distinct;
+    each = each;
+  }
+
+-- Whether some child is held to write, asked of what is listed.
+
+-- where all that pass a test stand in both of two lists, some pass it in one where some do in the other
+any_alike : (p : NodeId → Bool) (xs ys : List NodeId) → ((c : NodeId) → p c ≡ true → list_any (same_node c) xs ≡ true)
+    → ((c : NodeId) → p c ≡ true → list_any (same_node c) ys ≡ true) → list_any p xs ≡ list_any p ys
+any_alike p xs ys in_xs in_ys = split (list_any p ys)
+    (λ e. let f = any_found p ys e in one_found p f.0 xs f.2 (in_xs f.0 f.2) ∙ sym e)
+    (λ e. not_true _ (λ h. let f = any_found p xs h in clash (one_found p f.0 ys f.2 (in_ys f.0 f.2)) e) ∙ sym e)
+
+-- all that is held is listed, and lives
+pub writes_listed : (g : Graph) → IsLawfulGraph g → (l : LockList) (n : NodeId) → ((c : NodeId) → not (same_mode (mode_of l c) NL) ≡ true → is_live g c ≡ true)
+    → list_any (λ c. is_child g n c && is_write (mode_of l c)) (keys l.entries) ≡ list_any (λ c. is_child g n c && is_write (mode_of l c)) (nodes g)
+writes_listed g law l n live = any_alike (λ c. is_child g n c && is_write (mode_of l c)) (keys l.entries) (nodes g) (λ c h. held_listed l c (held c h))
+    (λ c h. listed g law c (live c (held c h)))
+  where
+    held : (c : NodeId) → (is_child g n c && is_write (mode_of l c)) ≡ true → not (same_mode (mode_of l c) NL) ≡ true
+    held c h = write_held (mode_of l c) (and_both (is_child g n c) (is_write (mode_of l c)) h).1
+
+-- a slot without list holds nothing to write
+pub no_writes : (ls : List LockList) (g : Graph) (t : ℕ) (n : NodeId) → slice_get ls t ≡ None
+    → false ≡ list_any (λ c. is_child g n c && is_write (held_by ls t c)) (nodes g)
+no_writes ls g t n e = sym (none_passes (nodes g))
+  where
+    and_off : (a b : Bool) → b ≡ false → (a && b) ≡ false
+    and_off true b h = h
+    and_off false b h = refl
+
+    fails : (c : NodeId) → (is_child g n c && is_write (held_by ls t c)) ≡ false
+    fails c = and_off (is_child g n c) _ (ap (λ o. is_write (option_map_or (λ l. mode_of l c) o NL)) e)
+
+    none_passes : (ns : List NodeId) → list_any (λ c. is_child g n c && is_write (held_by ls t c)) ns ≡ false
+    none_passes [] = refl
+    none_passes (c ∷ ns) = ap₂ (λ a b. a || b) (fails c) (none_passes ns)
+
+-- what the lists say is held to write is what the state says
+pub writes-seen : (i : Inside) → IsSound i → (v : TableView) → view_of i ≡ v → (t : ℕ) (n : NodeId)
+    → list_any (λ c. is_child (graph_of i.graph) n c && is_write (held_by i.locks.lists.items t c)) (nodes (graph_of i.graph))
+    ≡ list_any (λ c. is_child (state_of v).graph n c && is_write ((state_of v).held t c)) (nodes (state_of v).graph)
+writes-seen i sound v view t n = ap₂ (λ (w : TableView) (h : NodeId → Mode). list_any (λ c. is_child (graph_of w.graph) n c && is_write (h c))
+    (nodes (graph_of w.graph))) view (fun_ext (modes-seen i sound v view t))
+
+-- The rule of the graph, as it is tested.
+
+pub first_not_ix-drop : (held : NodeId → Mode) (ps : List NodeId) (i : ℕ) (d : NodeId) → i < length ps
+    → first_not_ix held (drop i ps) ≡ (if is_at_least (held (get_or ps i d)) IX then first_not_ix held (drop (i + 1) ps)
+    else Some (no.NeedParents (get_or ps i d)))
+first_not_ix-drop held ps i d h = rw (add-one, drop-cons ps i d)
+
+-- to write
+pub rule_write : (held : NodeId → Mode) (ps : List NodeId) (m : Mode) → is_at_least m IX ≡ true → rule_refusal held ps m ≡ first_not_ix held ps
+rule_write held ps m w =
+    ap (λ b. if (if b then list_all (λ p. is_at_least (held p) IX) ps else (no_parents ps || list_any (λ p. is_at_least (held p) IS) ps)) then None
+    else (if b then first_not_ix held ps else first_of_all ps)) w
+    ∙ by ps
+  where
+    by : (qs : List NodeId) → (if list_all (λ p. is_at_least (held p) IX) qs then None else first_not_ix held qs) ≡ first_not_ix held qs
+    by [] = refl
+    by (q ∷ qs) = grind (arith, by qs)
+
+-- to read
+pub rule_read : (held : NodeId → Mode) (ps : List NodeId) (m : Mode) → is_at_least m IX ≡ false
+    → rule_refusal held ps m ≡ (if no_parents ps || list_any (λ p. is_at_least (held p) IS) ps then None else first_of_all ps)
+rule_read held ps m w =
+    ap (λ b. if (if b then list_all (λ p. is_at_least (held p) IX) ps else (no_parents ps || list_any (λ p. is_at_least (held p) IS) ps)) then None
+    else (if b then first_not_ix held ps else first_of_all ps)) w
+
+pub ruleset writable_steps = (first_not_ix-drop)
+
+pub ruleset rule_steps = (rule_write, rule_read)

@@ -1,0 +1,308 @@
+-- Records come and go, and children are shed: what it makes of a table. For those calls.
+use Rattle.gl_table.proofs.Words.{[], ◌&&◌, ◌+◌, ◌-◌, ◌==◌, ◌||◌, ◌∙◌, ◌∷◌, ◌≡◌, ◌≤◌, Active, addressed, age_in, age_of, Agrees, and_both, ap, are_compatible}
+use Rattle.gl_table.proofs.Words.{AreExact, AreHeaders, AreSound, arith, Bool, clash, cond, count_by, count_cons, counted_by, CountsHeld, covered_children}
+use Rattle.gl_table.proofs.Words.{deleted, false, first_not_ix, freed, FreesTold, granted_at, Graph, graph_of, HasNoCycle, held_by, held_children, holds}
+use Rattle.gl_table.proofs.Words.{holds_child, IfOk, if◌then◌else◌, is_among_waiters, is_at_least, is_child, is_covered, is_live, is_record_shape, is_some}
+use Rattle.gl_table.proofs.Words.{is_wait, is_waiting_at, IsBorn, IsLawful, IsOrderly, IsRoomyRecord, IsSound, KeepsLists, length, List, list_all, listed}
+use Rattle.gl_table.proofs.Words.{members, Mode, NL, NodeId, nodes, None, none_but, not, not_true, notice_of, notices_in, number_same, OnErr, Option}
+use Rattle.gl_table.proofs.Words.{other_number, parents_of, Rec, record_parents, record_refusal, record_unrefused, refl, Refusal, Refuses, Result, rules, S}
+use Rattle.gl_table.proofs.Words.{same_mode, same_mode-equal, same_node-refl, same_number, shape_of, shed, Some, split, State, state_in, state_of, state_on}
+use Rattle.gl_table.proofs.Words.{status_in, status_of, subst, sym, TellsOthers, Told, told, told_from, told_to, true, Txn, TxnId, unwrap_or, View, view_of}
+use Rattle.gl_table.proofs.Words.{Waiting, with_grant, with_graph, with_key, without_node, X, ℕ}
+use Rattle.gl_table.specs.declared.locks.Locks.{Locks}
+use Rattle.gl_table.specs.declared.table.Table.TheInside.{Inside}
+use Rattle.gl_table.specs.declared.answers.Notice.TheVariants as notice
+use Rattle.gl_table.proofs.calls.Calls.{lawful_orderly, table_way}
+use Rattle.gl_table.proofs.calls.Law.{called-sound}
+use Rattle.gl_table.proofs.inside.Asks.{state-same}
+use Rattle.gl_table.proofs.inside.Slots.{keeps-agrees, keeps-counts}
+use Rattle.gl_table.proofs.law.Lock.{granted-no_cycle, shed-no_cycle}
+use Rattle.gl_table.proofs.law.Records.{born-live, born-unawaited, born-unheld, deleted-no_cycle, deleted_lawful, placed-lawful, record-grows}
+use Rattle.gl_table.proofs.law.Tests.{one_found, shed-lawful}
+use Rattle.gl_table.proofs.queues.Edits.{freed_other}
+use Rattle.gl_table.proofs.queues.Fronts.{granted_waits}
+use Rattle.gl_table.proofs.queues.Waiters.{grants_other}
+use Rattle.gl_table.proofs.telling.Fronts.{in_no_queue, stands_there, waits_there}
+use Rattle.gl_table.proofs.telling.Lists.{told_is}
+use Rattle.gl_table.proofs.telling.Ways.{active_untold, nobody_told}
+
+-- Records of a table come and go: what holds of the fields still does.
+
+beside_x : (m : Mode) → are_compatible X m ≡ true → m ≡ NL
+beside_x m h = search rules
+
+-- beside X nobody holds the node
+pub held_alone : (s : State) → IsLawful s → (t : ℕ) (n : NodeId) → same_mode (s.held t n) X ≡ true → (u : ℕ) → (u == t) ≡ false → s.held u n ≡ NL
+held_alone s law t n x u e =
+    beside_x (s.held u n) (ap (λ m. are_compatible m (s.held u n)) (sym (same_mode-equal (s.held t n) X x))
+    ∙ law.compatible t u n (λ is. other_number u t e (sym is)))
+
+-- the node that was taken out names none
+out_of_graph : (g : Graph) (n : NodeId) → is_live (without_node g n) n ≡ false
+out_of_graph g n = ap (λ b. is_some (with_key n.key (if b then None else g.at n.birth))) (number_same n.birth n.birth refl)
+
+-- who waited for it is active
+active_again : (n : NodeId) (m : Mode) (x : Option Txn) → status_in x ≡ Some (Waiting n m) → status_in (freed n x) ≡ Some Active
+active_again n m None h = absurd (cc)
+active_again n m (Some x) h = let is : x.status ≡ Waiting n m = cc in ap (λ st. Some (none_but st n)) is
+    ∙ ap (λ b. Some (if b then Active else Waiting n m)) (same_node-refl n)
+
+-- and is told that it is gone; all others, who do what they did, are told nothing
+deleted_tells : (s : State) (o : IsOrderly s) (r : NodeId) (u : ℕ)
+    → (if is_among_waiters u (s.queue r) then Some (record { slot = u; age = age_in (s.txns u) }, notice.Gone) else None) ≡ told_to s (deleted s r) u
+deleted_tells s o r u = split (is_among_waiters u (s.queue r))
+    (λ e.
+    let wait = waits_there s o u r e in
+    ap (λ b. if b then Some (name, notice.Gone) else None) e
+    ∙ ap (λ b. addressed name (if not b then Some notice.Gone
+    else (if same_mode (now.held u r) wait.0 then Some (notice.Granted r wait.0) else Some notice.Moved))) (sym (out_of_graph s.graph r))
+    ∙ sym (ap (λ x. addressed name (told_from now u x)) wait.1
+    ∙ ap (λ x. addressed name (notice_of now u r wait.0 x)) (active_again r wait.0 (s.txns u) wait.1)))
+    (λ e.
+    let same = freed_other r (s.txns u) (not_true (is_waiting_at s u r) (λ w. clash (stands_there s o u r w) e)) in
+    ap (λ b. if b then Some (name, notice.Gone) else None) e
+    ∙ sym (ap (λ x. addressed (record { slot = u; age = age_in x }) (told_from now u (status_in x))) (sym same) ∙ nobody_told now u))
+  where
+    name : TxnId
+    name = record { slot = u; age = age_of s u }
+
+    now : State
+    now = deleted s r
+
+module _ (i : Inside) (sound : IsSound i) (r : NodeId) (rec : is_record_shape (shape_of (graph_of i.graph) r) ≡ true)
+    (locks : Locks) (v : View) (removed : graph_of v ≡ without_node (graph_of i.graph) r)
+    (is : state_on (without_node (graph_of i.graph) r) locks ≡ deleted (state_in i.graph i.locks) r) where
+  abbrev s : State
+  s = state_of (view_of i)
+
+  abbrev l : State
+  l = state_in i.graph i.locks
+
+  abbrev after : Inside
+  after = record i { graph = v; locks = locks }
+
+  on_locks : state_in v locks ≡ deleted l r
+  on_locks = ap (λ g. state_on g locks) removed ∙ is
+
+  pub state_deleted : state_of (view_of after) ≡ deleted s r
+  state_deleted = ap {A = State} (λ x. record x { detect = i.detect; victims = i.victims; begins = i.begins }) on_locks
+
+  pub sound_deleted : AreSound locks → ((u : ℕ) → Agrees (deleted l r) locks.lists.items u) → ((u : ℕ) → CountsHeld (deleted l r) locks.lists.items u)
+      → IsSound after
+  sound_deleted are agrees counts = record {
+    lawful = subst IsLawful (sym state_deleted) (deleted_lawful s sound.lawful r rec);
+    exact = record {
+      sound = are;
+      agree = λ u. subst (λ x. Agrees x locks.lists.items u) (sym on_locks) (agrees u);
+      count = λ u. subst (λ x. CountsHeld x locks.lists.items u) (sym on_locks) (counts u);
+    };
+    no_cycle = λ at. subst HasNoCycle (sym state_deleted) (deleted-no_cycle s r (sound.no_cycle at));
+  }
+
+  pub told_deleted : (list : Told) → FreesTold l.txns (s.queue r) [] list → list ≡ told s (state_of (view_of after))
+  told_deleted list tells =
+      told_is s (state_of (view_of after)) list sound.lawful sound.exact.sound.few tells.by_slot
+      (λ u. tells.notices u ∙ deleted_tells s (lawful_orderly s sound.lawful) r u ∙ sym (ap (λ x. told_to s x u) state_deleted))
+
+-- A record is made in a table, and one transaction holds it in X: what holds of the fields still does.
+
+-- room was made, and all says what it said
+module _ (i : Inside) (sound : IsSound i) (locks : Locks) (headers : locks.headers.entries ≡ i.locks.headers.entries) (seats : locks.seats ≡ i.locks.seats)
+    (lists : KeepsLists i.locks.lists.items locks.lists.items) where
+  abbrev roomy : Inside
+  roomy = record i { locks = locks }
+
+  same_on : (g : Graph) → state_on g locks ≡ state_on g i.locks
+  same_on g = state-same g i.locks locks headers seats
+
+  pub same_state : state_of (view_of roomy) ≡ state_of (view_of i)
+  same_state = ap {A = State} (λ x. record x { detect = i.detect; victims = i.victims; begins = i.begins }) (same_on (graph_of i.graph))
+
+  pub sound_roomy : IsSound roomy
+  sound_roomy = record {
+    lawful = subst IsLawful (sym same_state) sound.lawful;
+    exact = record {
+      sound = record {
+        headers = subst AreHeaders (sym headers) sound.exact.sound.headers;
+        few = subst (λ (k : ℕ). k ≤ 128) (sym many) sound.exact.sound.few;
+        lists = lists.len ∙ sound.exact.sound.lists ∙ sym many;
+        apart = lists.apart sound.exact.sound.apart;
+      };
+      agree = λ u. subst (λ x. Agrees x locks.lists.items u) (sym (same_on (graph_of i.graph)))
+          (keeps-agrees (state_in i.graph i.locks) i.locks.lists.items locks.lists.items u lists (sound.exact.agree u));
+      count = λ u. subst (λ x. CountsHeld x locks.lists.items u) (sym (same_on (graph_of i.graph)))
+          (keeps-counts (state_in i.graph i.locks) i.locks.lists.items locks.lists.items u lists (sound.exact.count u));
+    };
+    no_cycle = λ at. subst HasNoCycle (sym same_state) (sound.no_cycle at);
+  }
+    where
+      many : length locks.seats.items ≡ length i.locks.seats.items
+      many = ap (λ x. length x.items) seats
+
+module _ (i : Inside) (sound : IsSound i) (f : NodeId) (keys : List ℕ) (free : record_refusal (graph_of i.graph) f keys ≡ None) (v : View) where
+  abbrev before : State
+  before = state_of (view_of i)
+
+  abbrev grown : Inside
+  grown = record i { graph = v }
+
+  roomy_record : IsRoomyRecord (graph_of i.graph) f keys
+  roomy_record = record_unrefused (graph_of i.graph) f keys free
+
+  -- the graph was asked for the record
+  pub sound_grown : (r : Result NodeId Refusal) → Refuses (record_refusal (graph_of i.graph) f keys) r
+      → IfOk r (λ n. IsBorn (graph_of i.graph) (graph_of v) n (Rec keys) (record_parents (graph_of i.graph) f keys)) → OnErr r (v ≡ i.graph) → IsSound grown
+  sound_grown r refuses made same =
+      called-sound i sound v (record_refusal (graph_of i.graph) f keys) r
+      (λ n. IsBorn (graph_of i.graph) (graph_of v) n (Rec keys) (record_parents (graph_of i.graph) f keys)) refuses made same
+      (λ n free' born. record-grows before sound.lawful f keys roomy_record.file roomy_record.each roomy_record.room (graph_of v) n born)
+
+  module _ (n : NodeId) (born : IsBorn (graph_of i.graph) (graph_of v) n (Rec keys) (record_parents (graph_of i.graph) f keys)) where
+    pub record_lives : is_live (graph_of v) n ≡ true
+    record_lives = born-live before sound.lawful f keys roomy_record.file roomy_record.each roomy_record.room (graph_of v) n born
+
+    pub record_unheld : (u : ℕ) → before.held u n ≡ NL
+    record_unheld = born-unheld before sound.lawful f keys roomy_record.file roomy_record.each roomy_record.room (graph_of v) n born
+
+    pub record_unawaited : before.queue n ≡ []
+    record_unawaited = born-unawaited before sound.lawful f keys roomy_record.file roomy_record.each roomy_record.room (graph_of v) n born
+
+    -- the slot holds it
+    module _ (t : ℕ) (locks : Locks) (is : state_in v locks ≡ with_grant (state_in v i.locks) t n X) where
+      abbrev placed_in : Inside
+      placed_in = record grown { locks = locks }
+
+      pub state_placed : state_of (view_of placed_in) ≡ with_grant (with_graph before (graph_of v)) t n X
+      state_placed = ap {A = State} (λ x. record x { detect = i.detect; victims = i.victims; begins = i.begins }) is
+
+      pub sound_placed : status_of before t ≡ Some Active → first_not_ix (before.held t) (record_parents (graph_of i.graph) f keys) ≡ None
+          → AreExact v locks → IsSound placed_in
+      sound_placed active rule exact = record {
+        lawful = subst IsLawful (sym state_placed) (placed-lawful before sound.lawful f keys roomy_record.file roomy_record.each roomy_record.room (graph_of v)
+            n
+            born t active rule);
+        exact = exact;
+        no_cycle = λ at. subst HasNoCycle (sym state_placed) (granted-no_cycle (with_graph before (graph_of v)) t n X active (sound.no_cycle at));
+      }
+
+-- A table that sheds covered children.
+
+-- of what passes one test, those that pass another and those that do not
+count_parts : (f g h : NodeId → Bool) (xs : List NodeId) → ((x : NodeId) → cond (f x) 1 0 ≡ cond (g x) 1 0 + cond (h x) 1 0)
+    → count_by f xs ≡ count_by g xs + count_by h xs
+count_parts f g h [] parts = refl
+count_parts f g h (x ∷ xs) parts =
+    let rest = count_parts f g h xs parts in
+    let a = count_cons f x xs in let b = count_cons g x xs in let c = count_cons h x xs in let p = parts x in
+    omega arith
+
+-- who reads a node holds it
+reads_held : (m : Mode) → is_at_least m S ≡ true → not (same_mode m NL) ≡ true
+reads_held m h = search rules
+
+-- of a node that is held, how many children are held is what is said
+children_said : (i : Inside) → IsSound i → (t : ℕ) (n : NodeId) → holds (members (state_of (view_of i)) n) t ≡ true → (o : Option ℕ)
+    → o ≡ (if holds (λ u. held_by i.locks.lists.items u n) t then Some (counted_by i.locks.lists.items t n) else None) → (k : ℕ) → k ≡ unwrap_or o 0
+    → k ≡ held_children (state_of (view_of i)) t n
+children_said i sound t n h o said k is =
+    is ∙ ap (λ x. unwrap_or x 0) (said ∙ ap (λ b. if b then Some (counted_by i.locks.lists.items t n) else None)
+    (ap (λ m. not (same_mode m NL)) ((sound.exact.agree t).modes n) ∙ h))
+    ∙ sound.exact.count t n
+
+-- what an active slot holds of a node that covers some of its children
+module _ (i : Inside) (sound : IsSound i) (t : ℕ) (n : NodeId) where
+  abbrev whole : State
+  whole = state_of (view_of i)
+
+  module _ (active : status_of whole t ≡ Some Active) where
+    -- the state before the nodes grant
+    abbrev less : State
+    less = record whole { held = λ u c. if (u == t) && is_covered whole t n c then NL else whole.held u c }
+
+    shed_own : (q : NodeId) → (shed whole t n).held t q ≡ (if is_covered whole t n q then NL else whole.held t q)
+    shed_own q =
+        grants_other (granted_at less (is_covered whole t n) q) (members less q) t
+        (granted_waits less t (is_covered whole t n) q (in_no_queue whole (lawful_orderly whole sound.lawful) t (ap is_wait active) q))
+        ∙ ap (λ k. if k && is_covered whole t n q then NL else whole.held t q) (number_same t t refl)
+
+    -- each held child is kept or covered
+    pub shed_counts : held_children whole t n ≡ held_children (shed whole t n) t n + covered_children whole t n
+    shed_counts = count_parts (λ c. is_child whole.graph n c && holds (members whole c) t)
+        (λ c. is_child whole.graph n c && holds (members (shed whole t n) c) t)
+        (is_covered whole t n) (nodes whole.graph)
+        (λ c. part (is_child whole.graph n c) (whole.held t c) (is_covered whole t n c) _ (shed_own c) (λ h. covered_child c h))
+      where
+        part : (a : Bool) (m : Mode) (k : Bool) (m' : Mode) → m' ≡ (if k then NL else m) → (k ≡ true → (a && not (same_mode m NL)) ≡ true)
+            → cond (a && not (same_mode m NL)) 1 0 ≡ cond (a && not (same_mode m' NL)) 1 0 + cond k 1 0
+        part a m true m' e f = ap (λ b. cond b 1 0) (f refl) ∙ sym (ap (λ b. cond b 1 0 + 1) (ap (λ x. a && not (same_mode x NL)) e ∙ off a))
+          where
+            off : (a : Bool) → (a && false) ≡ false
+            off true = refl
+            off false = refl
+        part a m false m' e f = none (cond (a && not (same_mode m NL)) 1 0) ∙ sym (ap (λ x. cond (a && not (same_mode x NL)) 1 0 + 0) e)
+          where
+            none : (k : ℕ) → k ≡ k + 0
+            none k = omega arith
+
+        covered_child : (c : NodeId) → is_covered whole t n c ≡ true → (is_child whole.graph n c && holds (members whole c) t) ≡ true
+        covered_child c h = first (is_child whole.graph n c && holds (members whole c) t) _ _ h
+          where
+            first : (a b d : Bool) → (a && b && d) ≡ true → a ≡ true
+            first true b d e = refl
+            first false b d e = e
+
+    module _ (locks : Locks) (is : state_in i.graph locks ≡ shed (state_in i.graph i.locks) t n) where
+      abbrev ended : Inside
+      ended = record i { locks = locks }
+
+      pub state_shed : state_of (view_of ended) ≡ shed whole t n
+      state_shed = ap {A = State} (λ x. record x { detect = i.detect; victims = i.victims; begins = i.begins }) is
+
+      pub sound_shed : AreExact i.graph locks → IsSound ended
+      sound_shed exact = record {
+        lawful = subst IsLawful (sym state_shed) (shed-lawful whole sound.lawful t n active);
+        exact = exact;
+        no_cycle = λ at. subst HasNoCycle (sym state_shed) (shed-no_cycle whole sound.lawful t n active (sound.no_cycle at));
+      }
+
+      pub told_shed : (first list : Told) → first ≡ [] → TellsOthers t (state_in i.graph i.locks) (state_in i.graph locks) first list
+          → list ≡ told whole (state_of (view_of ended))
+      told_shed first list none tells =
+          told_is whole (state_of (view_of ended)) list sound.lawful sound.exact.sound.few tells.by_slot
+          (λ u. split (u == t)
+          (λ e. let is = same_number u t e in ap (notices_in list) is ∙ tells.own ∙ ap (λ xs. notices_in xs t) none
+          ∙ sym (active_untold whole (state_of (view_of ended)) u (ap (status_of whole) is ∙ active)))
+          (λ e. tells.others whole (table_way i sound) (λ v k. ap (λ xs. notices_in xs v) none ∙ sym (nobody_told whole v)) u e))
+
+      module _ (exact : AreExact i.graph locks) (reads : is_at_least (whole.held t n) S ≡ true) (o o' : Option ℕ)
+          (said : o ≡ (if holds (λ u. held_by i.locks.lists.items u n) t then Some (counted_by i.locks.lists.items t n) else None))
+          (said' : o' ≡ (if holds (λ u. held_by locks.lists.items u n) t then Some (counted_by locks.lists.items t n) else None)) (k k' : ℕ)
+          (held : k ≡ unwrap_or o 0) (kept : k' ≡ unwrap_or o' 0) where
+        -- the node is no child of its own, and stays
+        uncovered : is_covered whole t n n ≡ false
+        uncovered = not_true _ (λ e.
+            let a = and_both (is_child whole.graph n n && holds (members whole n) t && not (holds_child whole t n))
+            (not (same_mode (whole.held t n) X) || list_all (λ p. same_mode (whole.held t p) X) (parents_of whole.graph n)) e in
+            let b = and_both (is_child whole.graph n n && holds (members whole n) t) (not (holds_child whole t n)) a.0 in
+            clash b.1 (ap not (one_found (λ x. is_child whole.graph n x && holds (members whole x) t) n (nodes whole.graph) b.0
+            (listed whole.graph sound.lawful.graph n (sound.lawful.grants_live t n (reads_held (whole.held t n) reads)).1))))
+
+        counted_first : k ≡ held_children whole t n
+        counted_first = children_said i sound t n (reads_held (whole.held t n) reads) o said k held
+
+        shed_in : k' ≡ held_children (shed whole t n) t n
+        shed_in =
+            children_said ended (sound_shed exact) t n
+            (ap (λ (x : State). holds (members x n) t) state_shed
+            ∙ ap (λ m. not (same_mode m NL)) (shed_own n ∙ ap (λ b. if b then NL else whole.held t n) uncovered) ∙ reads_held (whole.held t n) reads)
+            o' said' k' kept
+            ∙ ap (λ (x : State). held_children x t n) state_shed
+
+        pub no_more_kept : k' ≤ k
+        no_more_kept = let a = counted_first in let b = shed_in in let d = shed_counts in omega arith
+
+        pub number_released : k - k' ≡ covered_children whole t n
+        number_released = let a = counted_first in let b = shed_in in let d = shed_counts in omega arith
+
+        pub number_kept : k' ≡ held_children whole t n - covered_children whole t n
+        number_kept = let b = shed_in in let d = shed_counts in omega arith

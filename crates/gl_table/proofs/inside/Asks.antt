@@ -1,0 +1,366 @@
+-- What an ask that is granted leaves, also of a node that nobody held. For asks and new records.
+use Rattle.gl_table.proofs.Words.{[], ◌&&◌, ◌+◌, ◌<◌, ◌==◌, ◌^◌, ◌||◌, ◌∙◌, ◌≡◌, ◌≢◌, ◌≤◌, Active, Agrees, and-false, ap, ap₂, AreHeaders, AreSound, arith}
+use Rattle.gl_table.proofs.Words.{Asked, asked_members, asked_queue, Bool, children_that, clash, count_by, count_by-le-length, count_of, counted_by, CountsHeld}
+use Rattle.gl_table.proofs.Words.{enters, enters_at, false, fun_ext, granted, Graph, HasRoom, HasRoomAt, HeaderState, held_children, held_of, holds}
+use Rattle.gl_table.proofs.Words.{if◌then◌else◌, is_among_waiters, is_granted_at, is_listed, is_live, is_unused, is_wait, IsApart, IsLawfulGraph}
+use Rattle.gl_table.proofs.Words.{IsLawfulHeader, IsOneHolder, IsOrderly, KeepsLists, length, List, LockList, members, members_at, members_of, Mode, mode_of}
+use Rattle.gl_table.proofs.Words.{NL, NodeId, not, not-true, not_NL, not_true, number_same, or-false, parents_of, placed, queue_of, refl, same_mode, same_node}
+use Rattle.gl_table.proofs.Words.{same_node-equal, same_node-refl, same_number, slice_index_or, slot_limit, Some, spare, split, State, state_on, status_of}
+use Rattle.gl_table.proofs.Words.{subst, supremum, supremum-not_NL, sym, true, unlisted, unused-nobody, unused-true, unused_header, wanted, with_grant}
+use Rattle.gl_table.proofs.Words.{with_members, with_mode, ℕ}
+use Rattle.gl_table.specs.declared.locks.Locks.{Locks}
+use Rattle.gl_header.specs.declared.header.Asked.TheVariants as asked
+use Rattle.gl_table.proofs.inside.Headers.{all-written, held-changed, IsChanged, nobody-enters, queue-changed, with_waiters-same}
+use Rattle.gl_table.proofs.inside.Slots.{by_list-at, HasNode, keeps-agrees, keeps-counts, slice_get-at}
+use Rattle.gl_table.proofs.law.Keeps.{apart, txn_there, waiting_is}
+use Rattle.gl_table.proofs.queues.Counts.{children_few, children_up, few_parents}
+use Rattle.gl_table.proofs.telling.Fronts.{enters-most}
+
+-- What is known of an active slot that asks for a node, and of its list.
+
+-- the slot is active, and the lists say what the headers say
+pub record MayAsk (g : Graph) (l : Locks) (t : ℕ) : Type 0 where
+  pub sound : AreSound l
+  pub orderly : IsOrderly (state_on g l)
+  pub agree : (u : ℕ) → Agrees (state_on g l) l.lists.items u
+  pub count : (u : ℕ) → CountsHeld (state_on g l) l.lists.items u
+  pub active : status_of (state_on g l) t ≡ Some Active
+
+-- room was made in the list of the slot, if it was wanted; all says what it said
+pub record HasMadeRoom (l l' : Locks) (t : ℕ) (wanted : Bool) : Type 0 where
+  pub headers : l'.headers ≡ l.headers
+  pub seats : l'.seats ≡ l.seats
+  pub lists : KeepsLists l.lists.items l'.lists.items
+  pub room : wanted ≡ true → HasRoomAt l'.lists.items t
+
+-- headers and seats alone make the state
+pub state-same : (g : Graph) (l l' : Locks) → l'.headers.entries ≡ l.headers.entries → l'.seats ≡ l.seats → state_on g l' ≡ state_on g l
+state-same g l l' headers seats = λ i. record (state_on g (record l { seats = seats i })) { held = held_of (headers i); queue = queue_of (headers i) }
+
+pub room-state : (g : Graph) (l l' : Locks) (t : ℕ) (wanted : Bool) → HasMadeRoom l l' t wanted → state_on g l' ≡ state_on g l
+room-state g l l' t wanted made = state-same g l l' (ap (λ h. h.entries) made.headers) made.seats
+
+pub room-may_ask : (g : Graph) (l l' : Locks) (t : ℕ) (wanted : Bool) → HasMadeRoom l l' t wanted → MayAsk g l t → MayAsk g l' t
+room-may_ask g l l' t wanted made may = record {
+  sound = record {
+    headers = subst AreHeaders (ap (λ h. h.entries) (sym made.headers)) may.sound.headers;
+    few = subst (λ (k : ℕ). k ≤ 128) (sym seats) may.sound.few;
+    lists = made.lists.len ∙ may.sound.lists ∙ sym seats;
+    apart = made.lists.apart may.sound.apart;
+  };
+  orderly = subst IsOrderly (sym same) may.orderly;
+  agree = λ u. subst (λ s. Agrees s l'.lists.items u) (sym same) (keeps-agrees (state_on g l) l.lists.items l'.lists.items u made.lists (may.agree u));
+  count = λ u. subst (λ s. CountsHeld s l'.lists.items u) (sym same) (keeps-counts (state_on g l) l.lists.items l'.lists.items u made.lists (may.count u));
+  active = ap (λ s. status_of s t) same ∙ may.active;
+}
+  where
+    same : state_on g l' ≡ state_on g l
+    same = room-state g l l' t wanted made
+
+    seats : length l'.seats.items ≡ length l.seats.items
+    seats = ap (λ x. length x.items) made.seats
+
+module _ (g : Graph) (l : Locks) (t : ℕ) (may : MayAsk g l t) where
+  abbrev s : State
+  s = state_on g l
+
+  pub slot-below : t < length l.seats.items
+  slot-below = may.orderly.below t (txn_there (s.txns t) Active may.active)
+
+  pub slot-listed : t < length l.lists.items
+  slot-listed = subst (λ (k : ℕ). t < k) (sym may.sound.lists) slot-below
+
+  pub active-waits_nowhere : (q : NodeId) → is_among_waiters t (s.queue q) ≡ false
+  active-waits_nowhere q = split (is_among_waiters t (s.queue q)) (λ h. let w = waiting_is (status_of s t) q (may.orderly.waits_are t q h) in
+      absurd (apart (sym may.active ∙ w.1))) (λ h. h)
+
+  -- its list has what it holds
+  module _ (x : LockList) (at : x ≡ slice_index_or l.lists.items t x) where
+    pub own-mode : (q : NodeId) → mode_of x q ≡ s.held t q
+    own-mode q = sym (by_list-at (λ y. mode_of y q) NL l.lists.items t x slot-listed at) ∙ (may.agree t).modes q
+
+    pub own-listed : (q : NodeId) → is_listed x q ≡ holds (members s q) t
+    own-listed q = sym (by_list-at (λ y. is_listed y q) false l.lists.items t x slot-listed at) ∙ (may.agree t).listed q
+        ∙ ap (λ b. holds (members s q) t || b) (active-waits_nowhere q) ∙ or-false (holds (members s q) t)
+
+    pub own-count : (q : NodeId) → count_of x q ≡ held_children s t q
+    own-count q = sym (by_list-at (λ y. count_of y q) 0 l.lists.items t x slot-listed at) ∙ may.count t q
+
+    pub own-apart : IsApart x
+    own-apart = may.sound.apart t x (slice_get-at l.lists.items t x slot-listed at)
+
+    pub own-room : HasRoomAt l.lists.items t → HasRoom x
+    own-room room = (
+      subst (λ (k : ℕ). 0 < k) (by_list-at (λ y. spare y.entries) 0 l.lists.items t x slot-listed at) room.entry,
+      subst (λ (k : ℕ). 9 ≤ k) (by_list-at (λ y. spare y.loose) 0 l.lists.items t x slot-listed at) room.counts,
+    )
+
+    -- one child more of each of these can be counted
+    pub own-few : IsLawfulGraph g → (n q : NodeId) → count_of x q + count_by (same_node q) (parents_of g n) < 2 ^ 32
+    own-few law n q =
+        let count = own-count q in
+        let children = children_few g law (λ c. holds (members s c) t) q in
+        let once = count_by-le-length (same_node q) (parents_of g n) in
+        let few = few_parents g law n in
+        omega arith
+
+-- a list with room for nine has room for the parents of a node
+pub parents-room : (g : Graph) → IsLawfulGraph g → (n : NodeId) (x : LockList) → 9 ≤ spare x.loose → unlisted x (parents_of g n) ≤ spare x.loose
+parents-room g law n x room =
+    let some = count_by-le-length (λ p. not (is_listed x p)) (parents_of g n) in
+    let few = few_parents g law n in
+    omega arith
+
+-- room was made for an ask, which a conversion that is granted at once does not need; the flags say whether the slot holds the node, and whether the ask is
+-- granted at once
+pub record IsReady (g : Graph) (l l' : Locks) (t : ℕ) (n : NodeId) (m : Mode) (held now : Bool) : Type 0 where
+  pub may : MayAsk g l' t
+  pub same : state_on g l' ≡ state_on g l
+  pub room : (held && now) ≡ false → HasRoomAt l'.lists.items t
+  pub enters : enters slot_limit (members_at l'.headers.entries n) (queue_of l'.headers.entries n) t (wanted (state_on g l') t n m) ≡ now
+  pub is_held : holds (members (state_on g l') n) t ≡ held
+
+pub is_ready : (g : Graph) (l l' : Locks) (t : ℕ) (n : NodeId) (m : Mode) (held now : Bool) → MayAsk g l t → enters_at (state_on g l) t n m ≡ now
+    → held ≡ holds (members (state_on g l) n) t → HasMadeRoom l l' t (not (held && now))
+    → IsReady g l l' t n m held now
+is_ready g l l' t n m held now may enters held_is made = record {
+  may = may_now;
+  same = same;
+  room = λ e. made.room (ap not e);
+  enters = sym (enters-most (state_on g l') may_now.orderly may_now.sound.few t n (wanted (state_on g l') t n m)) ∙ ap (λ s. enters_at s t n m) same ∙ enters;
+  is_held = ap (λ s. holds (members s n) t) same ∙ sym held_is;
+}
+  where
+    same : state_on g l' ≡ state_on g l
+    same = room-state g l l' t (not (held && now)) made
+
+    may_now : MayAsk g l' t
+    may_now = room-may_ask g l l' t (not (held && now)) made may
+
+-- what the header of a node says of an ask is what the state says
+pub says_is : (g : Graph) (l : Locks) (t : ℕ) (n : NodeId) (m : Mode) → MayAsk g l t → is_granted_at l.headers.entries t n m ≡ enters_at (state_on g l) t n m
+says_is g l t n m may = sym (enters-most (state_on g l) may.orderly may.sound.few t n (wanted (state_on g l) t n m))
+
+-- room was made in the lists alone
+module _ (g : Graph) (l l' : Locks) (t : ℕ) (may : MayAsk g l t) (rest : l' ≡ record l { lists = l'.lists })
+    (lists : KeepsLists l.lists.items l'.lists.items) where
+  only_room : (wanted : Bool) → (wanted ≡ true → HasRoomAt l'.lists.items t) → HasMadeRoom l l' t wanted
+  only_room wanted room = record { headers = ap (λ x. x.headers) rest; seats = ap (λ x. x.seats) rest; lists = lists; room = room }
+
+  none_wanted : HasMadeRoom l l' t false
+  none_wanted = only_room false (λ e. absurd (cc))
+
+  pub roomy_may : MayAsk g l' t
+  roomy_may = room-may_ask g l l' t false none_wanted may
+
+  pub roomy_same : state_on g l' ≡ state_on g l
+  roomy_same = room-state g l l' t false none_wanted
+
+  pub roomy_says : (n : NodeId) (m : Mode) → is_granted_at l'.headers.entries t n m ≡ enters_at (state_on g l) t n m
+  roomy_says n m = says_is g l' t n m roomy_may ∙ ap (λ s. enters_at s t n m) roomy_same
+
+  -- so the ask can be carried out, whatever it comes to
+  pub roomy_ready : (n : NodeId) (m : Mode) (held now : Bool) → held ≡ holds (members (state_on g l) n) t → enters_at (state_on g l) t n m ≡ now
+      → ((held && is_granted_at l.headers.entries t n m) ≡ false → HasRoomAt l'.lists.items t) → IsReady g l l' t n m held now
+  roomy_ready n m held now is at room =
+      is_ready g l l' t n m held now may at is (only_room (not (held && now))
+      (λ e. room (ap (λ b. held && b) (says_is g l t n m may ∙ at) ∙ not-true (held && now) e)))
+
+-- What an ask that is granted leaves.
+
+-- other members of one node, of whom one alone is changed, are one grant
+pub with_members-grant : (held : ℕ → NodeId → Mode) (t : ℕ) (n : NodeId) (m : Mode)
+    → with_members held n (with_mode (λ u. held u n) t m) ≡ (λ u q. if (u == t) && same_node q n then m else held u q)
+with_members-grant held t n m = fun_ext (λ u. fun_ext (λ q. split (same_node q n)
+    (λ e. ap (λ b. if b then (if u == t then m else held u n) else held u q) e ∙ ap (λ p. if u == t then m else held u p) (sym (same_node-equal q n e))
+    ∙ here (u == t) (same_node q n) m (held u q) e)
+    (λ e. ap (λ b. if b then (if u == t then m else held u n) else held u q) e ∙ there (u == t) (same_node q n) m (held u q) e)))
+  where
+    here : (a b : Bool) (x y : Mode) → b ≡ true → (if a then x else y) ≡ (if a && b then x else y)
+    here true b x y e = ap (λ k. if k then x else y) (sym e)
+    here false b x y e = refl
+
+    there : (a b : Bool) (x y : Mode) → b ≡ false → y ≡ (if a && b then x else y)
+    there true b x y e = ap (λ k. if k then x else y) (sym e)
+    there false b x y e = refl
+
+-- a grant to an active slot: what it now holds, its list has
+pub grant-agrees : (s : State) (ls ls' : List LockList) (t : ℕ) (n : NodeId) (m : Mode) → m ≢ NL → status_of s t ≡ Some Active → HasNode ls ls' t n m → (u : ℕ)
+    → Agrees s ls u → Agrees (with_grant s t n m) ls' u
+grant-agrees s ls ls' t n m lock active has u agrees = record {
+  modes = λ q. has.modes u q ∙ ap (λ x. if (u == t) && same_node q n then m else x) (agrees.modes q);
+  listed = λ q. has.listed u q ∙ ap (λ b. ((u == t) && same_node q n) || b) (agrees.listed q) ∙ by q ((u == t) && same_node q n);
+  room = λ w. split (u == t)
+      (λ e. clash w (ap (λ v. is_wait (status_of s v)) (same_number u t e) ∙ ap is_wait active))
+      (λ e. subst (λ (k : ℕ). 9 ≤ k) (sym (has.rooms u e)) (agrees.room w));
+}
+  where
+    by : (q : NodeId) (b : Bool) → (b || (holds (members s q) u || is_among_waiters u (s.queue q)))
+        ≡ (not (same_mode (if b then m else s.held u q) NL) || is_among_waiters u (s.queue q))
+    by q true = ap (λ b. not b || is_among_waiters u (s.queue q)) (sym (not_NL m lock))
+    by q false = refl
+
+-- whether a slot holds a node, once one slot holds one node more
+module _ (s : State) (t : ℕ) (n : NodeId) (m : Mode) (lock : m ≢ NL) (u : ℕ) where
+  abbrev after : State
+  after = with_grant s t n m
+
+  abbrev holding : State → NodeId → Bool
+  holding x c = holds (members x c) u
+
+  holding-new : (u == t) ≡ true → holding after n ≡ true
+  holding-new e = ap₂ (λ a b. not (same_mode (if a && b then m else s.held u n) NL)) e (same_node-refl n) ∙ ap not (not_NL m lock)
+
+  holding-node : (q : NodeId) → same_node q n ≡ false → holding after q ≡ holding s q
+  holding-node q e = ap (λ b. not (same_mode (if (u == t) && b then m else s.held u q) NL)) e
+      ∙ ap (λ b. not (same_mode (if b then m else s.held u q) NL)) (and-false (u == t))
+
+  holding-slot : (u == t) ≡ false → (q : NodeId) → holding after q ≡ holding s q
+  holding-slot e q = ap (λ b. not (same_mode (if b && same_node q n then m else s.held u q) NL)) e
+
+  -- where it holds the same nodes, it holds the same children
+  children-same : ((q : NodeId) → holding after q ≡ holding s q) → (p : NodeId) → held_children s u p + 0 ≡ held_children after u p
+  children-same alike p = let none : held_children s u p + 0 ≡ held_children s u p = omega arith in
+      none ∙ ap (λ f. children_that s.graph f p) (fun_ext (λ q. sym (alike q)))
+
+  children-new : IsLawfulGraph s.graph → is_live s.graph n ≡ true → (p : NodeId)
+      → held_children s u p + (if u == t then (if same_mode (s.held t n) NL then count_by (same_node p) (parents_of s.graph n) else 0) else 0)
+      ≡ held_children after u p
+  children-new law live p = split (u == t)
+      (λ e. ap (λ b. held_children s u p + (if b then (if same_mode (s.held t n) NL then count_by (same_node p) (parents_of s.graph n) else 0) else 0)) e
+      ∙ split (same_mode (s.held t n) NL)
+      (λ k. ap (λ b. held_children s u p + (if b then count_by (same_node p) (parents_of s.graph n) else 0)) k
+      ∙ sym (children_up s.graph law (holding s) (holding after) n live (was e ∙ ap not k) (holding-new e) holding-node p))
+      (λ k. ap (λ b. held_children s u p + (if b then count_by (same_node p) (parents_of s.graph n) else 0)) k
+      ∙ children-same (λ q. split (same_node q n) (λ h. let is = same_node-equal q n h in ap (holding after) is ∙ holding-new e
+      ∙ sym (ap (holding s) is ∙ was e ∙ ap not k)) (holding-node q)) p))
+      (λ e. ap (λ b. held_children s u p + (if b then (if same_mode (s.held t n) NL then count_by (same_node p) (parents_of s.graph n) else 0) else 0)) e
+      ∙ children-same (holding-slot e) p)
+    where
+      was : (u == t) ≡ true → holding s n ≡ not (same_mode (s.held t n) NL)
+      was e = ap (holds (members s n)) (same_number u t e)
+
+-- what a grant leaves of the counts: a node that was not held before is a child more of each of its parents
+abbrev pub CountsGrant : (s : State) (ls ls' : List LockList) (t : ℕ) (n : NodeId) → Type 0
+CountsGrant s ls ls' t n = (u : ℕ) (q : NodeId) → counted_by ls' u q
+    ≡ counted_by ls u q + (if u == t then (if same_mode (s.held t n) NL then count_by (same_node q) (parents_of s.graph n) else 0) else 0)
+
+pub grant-counts : (s : State) (ls ls' : List LockList) (t : ℕ) (n : NodeId) (m : Mode) → IsLawfulGraph s.graph → is_live s.graph n ≡ true → m ≢ NL
+    → CountsGrant s ls ls' t n → (u : ℕ) → CountsHeld s ls u
+    → CountsHeld (with_grant s t n m) ls' u
+grant-counts s ls ls' t n m law live lock more u counts p =
+    more u p ∙ ap (λ (k : ℕ). k + (if u == t then (if same_mode (s.held t n) NL then count_by (same_node p) (parents_of s.graph n) else 0) else 0)) (counts p)
+    ∙ children-new s t n m lock u law live p
+
+-- the answer to an ask that enters
+pub answer-granted : (enters : Bool) (a : Asked) (m w : Mode) → enters ≡ true → a ≡ (if enters then asked.Granted m else asked.Waiting) → a ≡ asked.Granted w
+    → w ≡ m
+answer-granted enters a m w now answer is = let e : asked.Granted w ≡ asked.Granted m = sym is ∙ answer
+    ∙ ap (λ k. if k then asked.Granted m else asked.Waiting) now in cc
+
+-- an ask that was granted enters, and one that waits does not
+pub answer-enters : (enters : Bool) (a : Asked) (m w : Mode) → a ≡ (if enters then asked.Granted m else asked.Waiting) → a ≡ asked.Granted w → enters ≡ true
+answer-enters true a m w answer is = refl
+answer-enters false a m w answer is = absurd (cc)
+
+pub answer-waits : (enters : Bool) (a : Asked) (m : Mode) → a ≡ (if enters then asked.Granted m else asked.Waiting) → a ≡ asked.Waiting → enters ≡ false
+answer-waits true a m answer is = absurd (cc)
+answer-waits false a m answer is = refl
+
+-- what an ask for m leaves, granted as w
+pub record IsGranted (g : Graph) (l l' : Locks) (t : ℕ) (n : NodeId) (m w : Mode) : Type 0 where
+  pub sound : AreSound l'
+  pub mode : w ≡ wanted (state_on g l) t n m
+  pub state : state_on g l' ≡ granted (state_on g l) t n m
+  pub agree : (u : ℕ) → Agrees (state_on g l') l'.lists.items u
+  pub count : (u : ℕ) → CountsHeld (state_on g l') l'.lists.items u
+
+-- room was made, the headers were asked, and the list was written
+module _ (g : Graph) (l r l' : Locks) (t : ℕ) (n : NodeId) (m : Mode) (old : Bool) (ready : IsReady g l r t n m old true) (a : Asked) (w : Mode) where
+  abbrev want : Mode
+  want = supremum (held_of r.headers.entries t n) m
+
+  abbrev enters_now : Bool
+  enters_now = enters slot_limit (members_at r.headers.entries n) (queue_of r.headers.entries n) t want
+
+  pub is_granted : IsLawfulGraph g → is_live g n ≡ true → m ≢ NL → AreHeaders l'.headers.entries
+      → a ≡ (if enters_now then asked.Granted want else asked.Waiting) → a ≡ asked.Granted w
+      → (enters_now ≡ true → (held_of l'.headers.entries ≡ with_members (held_of r.headers.entries) n (with_mode (members_at r.headers.entries n) t want))
+      × (queue_of l'.headers.entries ≡ queue_of r.headers.entries))
+      → l'.seats ≡ r.seats → HasNode r.lists.items l'.lists.items t n w → CountsGrant (state_on g r) r.lists.items l'.lists.items t n → IsGranted g l l' t n m w
+  is_granted law live lock headers answer is changed seats has counts = record {
+    sound = record {
+      headers = headers;
+      few = subst (λ (k : ℕ). k ≤ 128) (ap (λ x. length x.items) (sym seats)) ready.may.sound.few;
+      lists = has.len ∙ ready.may.sound.lists ∙ ap (λ x. length x.items) (sym seats);
+      apart = has.apart;
+    };
+    mode = mode ∙ ap (λ s. wanted s t n m) ready.same;
+    state = state ∙ ap₂ (λ s x. with_grant s t n x) ready.same (mode ∙ ap (λ s. wanted s t n m) ready.same);
+    agree = λ u. subst (λ s. Agrees s l'.lists.items u) (sym state)
+        (grant-agrees (state_on g r) r.lists.items l'.lists.items t n w locks ready.may.active has u (ready.may.agree u));
+    count = λ u. subst (λ s. CountsHeld s l'.lists.items u) (sym state)
+        (grant-counts (state_on g r) r.lists.items l'.lists.items t n w law live locks counts u (ready.may.count u));
+  }
+    where
+      mode : w ≡ want
+      mode = answer-granted enters_now a want w ready.enters answer is
+
+      locks : w ≢ NL
+      locks e = clash (ap (λ x. same_mode x NL) (sym mode ∙ e)) (supremum-not_NL (held_of r.headers.entries t n) m (not_NL m lock))
+
+      state : state_on g l' ≡ with_grant (state_on g r) t n w
+      state = λ i. record (state_on g (record r { seats = seats i })) {
+        held = ((changed ready.enters).0 ∙ with_members-grant (held_of r.headers.entries) t n want
+            ∙ ap (λ x. (with_grant (state_on g r) t n x).held) (sym mode)) i;
+        queue = (changed ready.enters).1 i;
+      }
+
+-- A node that nobody holds and nobody waits for comes to be held by one slot.
+
+-- what an ask leaves of a new header
+pub one_holder : (h w : HeaderState) (t : ℕ) (m : Mode) → h ≡ unused_header → IsLawfulHeader w → members_of w ≡ asked_members h t m
+    → w.queue ≡ asked_queue h t m → IsOneHolder w t m
+one_holder h w t m new lawful members queue = record {
+  lawful = lawful;
+  members = members ∙ ap (λ x. asked_members x t m) new
+      ∙ ap (λ g. if enters slot_limit g [] t (supremum (g t) m) then with_mode g t (supremum (g t) m) else g) unused-nobody
+      ∙ ap (λ b. if b then with_mode (λ _. NL) t m else (λ _. NL)) (nobody-enters slot_limit t m);
+  queue = queue ∙ ap (λ x. asked_queue x t m) new ∙ ap (λ g. if enters slot_limit g [] t (supremum (g t) m) then [] else placed g [] t (supremum (g t) m))
+      unused-nobody ∙ ap (λ b. if b then [] else placed (λ _. NL) [] t m) (nobody-enters slot_limit t m);
+}
+
+-- the header is needed
+holder-used : (h : HeaderState) (t : ℕ) (m : Mode) → m ≢ NL → IsOneHolder h t m → is_unused h ≡ false
+holder-used h t m lock one = not_true (is_unused h)
+    (λ u. lock (sym (ap (λ b. if b then m else NL) (number_same t t refl)) ∙ ap (λ ms. ms t) (sym one.members) ∙ (unused-true h one.lawful u).0 t))
+
+module _ (g : Graph) (l : Locks) (t : ℕ) (n : NodeId) (m : Mode) (may : MayAsk g l t) (unheld : (u : ℕ) → (state_on g l).held u n ≡ NL)
+    (unawaited : (state_on g l).queue n ≡ []) (room : HasRoomAt l.lists.items t) where
+  abbrev wanted_new : Mode
+  wanted_new = supremum (held_of l.headers.entries t n) m
+
+  -- an ask for the node would be granted at once
+  ready : IsReady g l l t n m false true
+  ready = record {
+    may = may;
+    same = refl;
+    room = λ e. room;
+    enters = (λ i. enters slot_limit (λ u. unheld u i) (unawaited i) t wanted_new) ∙ nobody-enters slot_limit t wanted_new;
+    is_held = ap (λ x. not (same_mode x NL)) (unheld t);
+  }
+
+  -- its header was put in, and the slot's list was written
+  pub is_placed : IsLawfulGraph g → is_live g n ≡ true → m ≢ NL → (h : HeaderState) → IsOneHolder h t m → wanted_new ≡ m → (l' : Locks)
+      → IsChanged l.headers.entries l'.headers.entries n (Some h) → l'.seats ≡ l.seats
+      → HasNode l.lists.items l'.lists.items t n m → CountsGrant (state_on g l) l.lists.items l'.lists.items t n → IsGranted g l l' t n m m
+  is_placed law live lock h one want_is l' changed seats has counts =
+      is_granted g l l l' t n m false ready (asked.Granted m) m law live lock
+      (all-written l.headers.entries l'.headers.entries n h may.sound.headers changed one.lawful (holder-used h t m lock one))
+      (ap asked.Granted (sym want_is) ∙ sym (ap (λ b. if b then asked.Granted wanted_new else asked.Waiting) ready.enters)) refl
+      (λ enters. (
+        held-changed l.headers.entries l'.headers.entries n (Some h) _ changed (one.members ∙ (λ i. with_mode (λ u. sym (unheld u) i) t (sym want_is i))),
+        queue-changed l.headers.entries l'.headers.entries n (Some h) [] changed one.queue
+            ∙ with_waiters-same (queue_of l.headers.entries) n [] (sym unawaited),
+      ))
+      seats has counts

@@ -1,0 +1,127 @@
+-- What an ask that waits leaves. For asks.
+use Rattle.gl_table.proofs.Words.{◌&&◌, ◌+◌, ◌<◌, ◌==◌, ◌||◌, ◌∙◌, ◌≡◌, ◌≤◌, Agrees, and_both, ap, ap₂, AreApart, AreHeaders, AreSound, Bool, count_of}
+use Rattle.gl_table.proofs.Words.{counted_by, CountsHeld, enqueued, enters, Entries, false, fun_ext, Graph, held_of, holds, if◌then◌else◌, is_among_waiters}
+use Rattle.gl_table.proofs.Words.{is_listed, is_wait, IsApart, length, List, LockList, members, members_at, Mode, mode_of, NodeId, number_same, Option}
+use Rattle.gl_table.proofs.Words.{other_number, placed, queue_of, refl, restatus, room_by, same_node, same_node-equal, same_number, Seat, slice_index_or}
+use Rattle.gl_table.proofs.Words.{slice_set, slot_limit, spare, split, State, state_on, status_in, subst, supremum, sym, true, txns_of, Waiting, wanted}
+use Rattle.gl_table.proofs.Words.{with_waiters, ℕ}
+use Rattle.gl_table.specs.declared.locks.Locks.{Locks}
+use Rattle.gl_table.proofs.inside.Asks.{active-waits_nowhere, IsReady}
+use Rattle.gl_table.proofs.inside.Slots.{by_list-set, counts-entered, has_node-set, HasNode, none_more}
+use Rattle.gl_table.proofs.queues.Edits.{placed_other, placed_self}
+use Rattle.gl_table.proofs.queues.Waiters.{among_waits, one_among, some_wait}
+
+module _ (s : State) (t : ℕ) (n : NodeId) (w : Mode) (out : is_among_waiters t (s.queue n) ≡ false) where
+  abbrev after : State
+  after = enqueued s t n w
+
+  -- who stands in a queue stood there, or is the one who asked
+  among-placed : (u : ℕ) → is_among_waiters u (placed (members s n) (s.queue n) t w) ≡ ((u == t) || is_among_waiters u (s.queue n))
+  among-placed u = split (u == t)
+      (λ e. ap (λ v. is_among_waiters v (placed (members s n) (s.queue n) t w)) (same_number u t e)
+      ∙ one_among t (placed (members s n) (s.queue n) t w) (t, w) (placed_self (members s n) (s.queue n) t w out)
+      ∙ sym (ap (λ b. b || is_among_waiters u (s.queue n)) e))
+      (λ e. among_waits u (placed (members s n) (s.queue n) t w) ∙ ap some_wait (placed_other (members s n) (s.queue n) t u w (other_number u t e))
+      ∙ sym (among_waits u (s.queue n))
+      ∙ sym (ap (λ b. b || is_among_waiters u (s.queue n)) e))
+
+  among-enqueued : (u : ℕ) (q : NodeId) → is_among_waiters u (after.queue q) ≡ (((u == t) && same_node q n) || is_among_waiters u (s.queue q))
+  among-enqueued u q = split (same_node q n)
+      (λ e. ap (λ b. is_among_waiters u (if b then placed (members s n) (s.queue n) t w else s.queue q)) e ∙ among-placed u
+      ∙ ap₂ (λ b p. b || is_among_waiters u (s.queue p)) (and_so (u == t) (same_node q n) e) (sym (same_node-equal q n e)))
+      (λ e. ap (λ b. is_among_waiters u (if b then placed (members s n) (s.queue n) t w else s.queue q)) e
+      ∙ ap (λ b. b || is_among_waiters u (s.queue q)) (and_not (u == t) (same_node q n) e))
+    where
+      and_so : (a b : Bool) → b ≡ true → a ≡ (a && b)
+      and_so true b e = sym e
+      and_so false b e = refl
+
+      and_not : (a b : Bool) → b ≡ false → false ≡ (a && b)
+      and_not true b e = sym e
+      and_not false b e = refl
+
+  -- the list has the node, in the mode that is held
+  pub enqueue-agrees : (ls ls' : List LockList) → HasNode ls ls' t n (s.held t n) → 9 ≤ room_by ls' t → (u : ℕ) → Agrees s ls u → Agrees after ls' u
+  enqueue-agrees ls ls' has room u agrees = record {
+    modes = λ q. has.modes u q ∙ ap (λ x. if (u == t) && same_node q n then s.held t n else x) (agrees.modes q) ∙ split ((u == t) && same_node q n)
+        (λ e. let both = and_both (u == t) (same_node q n) e in
+        ap (λ b. if b then s.held t n else s.held u q) e ∙ ap₂ s.held (sym (same_number u t both.0)) (sym (same_node-equal q n both.1)))
+        (λ e. ap (λ b. if b then s.held t n else s.held u q) e);
+    listed = λ q. has.listed u q ∙ ap (λ b. ((u == t) && same_node q n) || b) (agrees.listed q)
+        ∙ swapped ((u == t) && same_node q n) (holds (members s q) u) (is_among_waiters u (s.queue q))
+        ∙ ap (λ b. holds (members s q) u || b) (sym (among-enqueued u q));
+    room = λ wait. split (u == t)
+        (λ e. subst (λ v. 9 ≤ room_by ls' v) (sym (same_number u t e)) room)
+        (λ e. subst (λ (k : ℕ). 9 ≤ k) (sym (has.rooms u e))
+        (agrees.room (ap (λ b. is_wait (status_in (if b then restatus (Waiting n w) (s.txns t) else s.txns u))) (sym e) ∙ wait)));
+  }
+    where
+      swapped : (a b c : Bool) → (a || (b || c)) ≡ (b || (a || c))
+      swapped true true c = refl
+      swapped true false c = refl
+      swapped false b c = refl
+
+-- the list of one who will wait has the node, in the mode that is held, and room for the counts of a later grant
+pub record HasWait (ls ls' : List LockList) (t : ℕ) (n : NodeId) (held : Mode) : Type 0 where
+  pub node : HasNode ls ls' t n held
+  pub counts : (u : ℕ) (q : NodeId) → counted_by ls' u q ≡ counted_by ls u q
+  pub room : 9 ≤ room_by ls' t
+
+pub has_wait-set : (ls : List LockList) (t : ℕ) (x x' : LockList) → t < length ls → x ≡ slice_index_or ls t x → (n : NodeId) (held : Mode) → AreApart ls
+    → IsApart x' → ((q : NodeId) → mode_of x' q ≡ (if same_node q n then held else mode_of x q))
+    → ((q : NodeId) → is_listed x' q ≡ (same_node q n || is_listed x q)) → ((q : NodeId) → count_of x' q ≡ count_of x q) → 9 ≤ spare x'.loose
+    → HasWait ls (slice_set ls t x') t n held
+has_wait-set ls t x x' lt at n held all_apart apart modes listed counts room = record {
+  node = has_node-set ls t x x' lt at n held all_apart apart modes listed;
+  counts = λ u q. counts-entered ls t x x' lt at (λ p. 0) (λ p. counts p ∙ none_more (count_of x p)) u q ∙ no_more (u == t) (counted_by ls u q);
+  room = subst (λ (k : ℕ). 9 ≤ k) (sym (by_list-set ls t x' lt (λ y. spare y.loose) 0 t
+      ∙ ap (λ b. if b then spare x'.loose else room_by ls t) (number_same t t refl))) room;
+}
+  where
+    no_more : (b : Bool) (k : ℕ) → k + (if b then 0 else 0) ≡ k
+    no_more true k = sym (none_more k)
+    no_more false k = sym (none_more k)
+
+-- what an ask for m leaves that waits
+pub record IsEnqueued (g : Graph) (l l' : Locks) (t : ℕ) (n : NodeId) (m : Mode) : Type 0 where
+  pub sound : AreSound l'
+  pub state : state_on g l' ≡ enqueued (state_on g l) t n (wanted (state_on g l) t n m)
+  pub agree : (u : ℕ) → Agrees (state_on g l') l'.lists.items u
+  pub count : (u : ℕ) → CountsHeld (state_on g l') l'.lists.items u
+
+-- room was made, the headers were asked, the node was listed, and the status was written
+module _ (g : Graph) (l r l' : Locks) (t : ℕ) (n : NodeId) (m w : Mode) (held : Bool) (ready : IsReady g l r t n m held false) (hs : Entries)
+    (seats : List (Option Seat)) where
+  abbrev want : Mode
+  want = supremum (held_of r.headers.entries t n) m
+
+  pub is_enqueued : l'.headers.entries ≡ hs → AreHeaders hs
+      → (enters slot_limit (members_at r.headers.entries n) (queue_of r.headers.entries n) t want ≡ false
+      → (held_of hs ≡ held_of r.headers.entries) × (queue_of hs
+      ≡ with_waiters (queue_of r.headers.entries) n (placed (members_at r.headers.entries n) (queue_of r.headers.entries n) t want)))
+      → seats ≡ r.seats.items → length l'.seats.items ≡ length seats
+      → ((u : ℕ) → txns_of l'.seats.items u ≡ (if u == t then restatus (Waiting n w) (txns_of seats t) else txns_of seats u)) → w ≡ want
+      → HasWait r.lists.items l'.lists.items t n (held_of r.headers.entries t n) → IsEnqueued g l l' t n m
+  is_enqueued entries headers changed same len txns wants has = record {
+    sound = record {
+      headers = subst AreHeaders (sym entries) headers;
+      few = subst (λ (k : ℕ). k ≤ 128) (sym count) ready.may.sound.few;
+      lists = has.node.len ∙ ready.may.sound.lists ∙ sym count;
+      apart = has.node.apart;
+    };
+    state = state ∙ ap (λ s. enqueued s t n (wanted s t n m)) ready.same;
+    agree = λ u. subst (λ s. Agrees s l'.lists.items u) (sym state)
+        (enqueue-agrees (state_on g r) t n want (active-waits_nowhere g r t ready.may n) r.lists.items l'.lists.items has.node has.room u (ready.may.agree u));
+    count = λ u. subst (λ s. CountsHeld s l'.lists.items u) (sym state) (λ p. has.counts u p ∙ ready.may.count u p);
+  }
+    where
+      count : length l'.seats.items ≡ length r.seats.items
+      count = len ∙ ap length same
+
+      state : state_on g l' ≡ enqueued (state_on g r) t n want
+      state = λ i. record (state_on g r) {
+        txns = (fun_ext txns ∙ ap₂ (λ x ss. λ u. if u == t then restatus (Waiting n x) (txns_of ss t) else txns_of ss u) wants same) i;
+        held = (ap held_of entries ∙ (changed ready.enters).0) i;
+        queue = (ap queue_of entries ∙ (changed ready.enters).1) i;
+        most = count i;
+      }

@@ -1,0 +1,77 @@
+-- The lowest free seat, and a slot that is freed. For seats, and for the end of a transaction.
+use Rattle.gl_table.proofs.Words.{[], ◌&&◌, ◌<◌, ◌==◌, ◌||◌, ◌∙◌, ◌∷◌, ◌≡◌, Agrees, and-false, ap, ap₂, arith, clash, common_steps, count_none, count_of}
+use Rattle.gl_table.proofs.Words.{CountsHeld, false, gets, if◌then◌else◌, is_among_waiters, is_child, is_free, is_free_at, is_listed, is_live, is_wait, length}
+use Rattle.gl_table.proofs.Words.{length-set, List, LockList, mode_of, nat_tests, NL, NodeId, nodes, nodes_live, None, not, number_same, Option, position}
+use Rattle.gl_table.proofs.Words.{position_or_len, refl, same_mode, same_number, Seat, slice_set, Some, split, State, status_in, subst, suc, sym, true, txns_of}
+use Rattle.gl_table.proofs.Words.{with_txn, zero, ℕ}
+use Rattle.gl_table.proofs.inside.Lists.{bare-modes, IsBare}
+use Rattle.gl_table.proofs.inside.Slots.{agrees-set, counts-set, own_list}
+
+-- The set of free slots finds the lowest free seat.
+
+-- the place of the first free seat is the lowest free slot
+first : (xs : List (Option Seat)) (k : ℕ) → is_free_at xs k ≡ true → ((u : ℕ) → u < k → is_free_at xs u ≡ false) → (position_or_len is_free xs ≡ k)
+    × (k < length xs)
+first [] k h below = clash h refl
+first (x ∷ xs) zero h below = grind (arith, nat_tests, h)
+first (x ∷ xs) (suc k) h below =
+    let later = first xs k h (λ u lt. below (suc u) (omega arith)) in
+    let taken : is_free x ≡ false = below 0 (omega arith) in
+    grind (arith, nat_tests, later.0, later.1, taken)
+
+pub lowest-first : (xs : List (Option Seat)) (k : ℕ) → is_free_at xs k ≡ true → ((u : ℕ) → u < k → is_free_at xs u ≡ false) → position is_free xs ≡ Some k
+lowest-first xs k h below = let f = first xs k h below in grind (arith, nat_tests, f.0, f.1)
+
+all-taken : (xs : List (Option Seat)) → ((u : ℕ) → is_free_at xs u ≡ false) → position_or_len is_free xs ≡ length xs
+all-taken [] all = refl
+all-taken (x ∷ xs) all =
+    let later = all-taken xs (λ u. all (suc u)) in
+    let taken : is_free x ≡ false = all 0 in
+    grind (arith, nat_tests, later, taken)
+
+-- where no slot is free, no seat is
+pub none-free : (xs : List (Option Seat)) → ((u : ℕ) → is_free_at xs u ≡ false) → position is_free xs ≡ None
+none-free xs all = let t = all-taken xs all in grind (arith, nat_tests, t)
+
+-- A slot that holds nothing and stands in no queue is freed, and its list is emptied: the lists agree.
+
+txns-freed : (seats : List (Option Seat)) (t u : ℕ) → t < length seats → txns_of (slice_set seats t None) u ≡ (if u == t then None else txns_of seats u)
+txns-freed seats t u lt = grind (arith, common_steps, gets, nat_tests)
+
+-- the state with the slot's seat free
+pub state-freed : (s : State) (seats seats' : List (Option Seat)) (t : ℕ) → t < length seats → seats' ≡ slice_set seats t None
+    → record s { txns = txns_of seats'; most = length seats' } ≡ with_txn (record s { txns = txns_of seats; most = length seats }) t None
+state-freed s seats seats' t lt freed =
+    ap {B = State} (λ (xs : List (Option Seat)). record s { txns = txns_of xs; most = length xs }) freed
+    ∙ (λ i. record s { txns = λ u. txns-freed seats t u lt i; most = length-set seats t None i })
+
+module _ (s : State) (t : ℕ) (free : (q : NodeId) → s.held t q ≡ NL) (out : (q : NodeId) → is_among_waiters t (s.queue q) ≡ false) (ls : List LockList)
+    (new : LockList) (lt : t < length ls) (bare : IsBare new) where
+  abbrev gone : State
+  gone = with_txn s t None
+
+  own_agrees : Agrees gone (slice_set ls t new) t
+  own_agrees = record {
+    modes = λ q. own_list ls t new lt (λ l. mode_of l q) NL ∙ bare-modes (new ∷ []) (bare, tt) 0 q ∙ sym (free q);
+    listed = λ q. own_list ls t new lt (λ l. is_listed l q) false ∙ bare.listed q ∙ sym (ap₂ (λ m k. not (same_mode m NL) || k) (free q) (out q));
+    room = λ h. clash h (ap (λ b. is_wait (status_in (if b then None else s.txns t))) (number_same t t refl));
+  }
+
+  other_agrees : (u : ℕ) → (u == t) ≡ false → Agrees s ls u → Agrees gone (slice_set ls t new) u
+  other_agrees u e agree = agrees-set ls t new lt u e gone (record {
+    modes = agree.modes;
+    listed = agree.listed;
+    room = λ h. agree.room (sym (ap (λ b. is_wait (status_in (if b then None else s.txns u))) e) ∙ h);
+  })
+
+  pub agrees-gone : ((u : ℕ) → (u == t) ≡ false → Agrees s ls u) → (u : ℕ) → Agrees gone (slice_set ls t new) u
+  agrees-gone agree u = split (u == t) (λ e. subst (Agrees gone (slice_set ls t new)) (sym (same_number u t e)) own_agrees) (λ e. other_agrees u e (agree u e))
+
+  own_counts : CountsHeld gone (slice_set ls t new) t
+  own_counts p = own_list ls t new lt (λ l. count_of l p) 0 ∙ bare.counts p
+      ∙ sym (count_none (is_live s.graph) (λ c. is_child s.graph p c && not (same_mode (s.held t c) NL)) (nodes s.graph) (nodes_live s.graph)
+      (λ c h. ap (λ m. is_child s.graph p c && not (same_mode m NL)) (free c) ∙ and-false (is_child s.graph p c)))
+
+  pub counts-gone : ((u : ℕ) → (u == t) ≡ false → CountsHeld s ls u) → (u : ℕ) → CountsHeld gone (slice_set ls t new) u
+  counts-gone count u = split (u == t) (λ e. subst (CountsHeld gone (slice_set ls t new)) (sym (same_number u t e)) own_counts)
+      (λ e. counts-set ls t new lt u e gone (count u e))

@@ -1,0 +1,231 @@
+-- A wait is withdrawn: the lists agree, and fewer wait. For cancels and victims.
+use Rattle.gl_table.proofs.Words.{[], ◌&&◌, ◌+◌, ◌<◌, ◌==◌, ◌||◌, ◌∙◌, ◌∷◌, ◌≡◌, ◌≤◌, after_grants, Agrees, ap, ap₂, AreApart, arith, Bool, children_that}
+use Rattle.gl_table.proofs.Words.{clash, cond, Condemned, condemned, count_by, count_cons, count_of, counted_by, CountsHeld, Entry, entry_of, false, front_at}
+use Rattle.gl_table.proofs.Words.{fun_ext, granted_at, held_by, held_children, holds, if◌then◌else◌, is_among_waiters, is_listed, is_live, is_some, is_wait}
+use Rattle.gl_table.proofs.Words.{is_waiting_at, IsApart, IsLawfulGraph, IsOrderly, length, length-set, List, list_any, listed_by, LockList, members, mode_in}
+use Rattle.gl_table.proofs.Words.{mode_of, NL, NodeId, None, not, not_true, number_same, Option, or_elim, other_number, parents_of, pumped, refl, room_by}
+use Rattle.gl_table.proofs.Words.{same_mode, same_mode-equal, same_node, same_node-equal, same_node-sym, same_number, slice_index_or, slice_set, slots, Some}
+use Rattle.gl_table.proofs.Words.{spare, split, State, Status, status_in, status_of, subst, sym, true, Waiter, WaitWell, WakesLists, without_wait}
+use Rattle.gl_table.proofs.Words.{without_waiter, ℕ}
+use Rattle.gl_table.proofs.inside.Granted.{agrees_pumped, counts_pumped}
+use Rattle.gl_table.proofs.inside.Slots.{apart-set, by_list-at, by_list-kept, by_list-set, slice_get-at}
+use Rattle.gl_table.proofs.law.Keeps.{txn_there, waiting_is, woken_waits}
+use Rattle.gl_table.proofs.law.Settle.{wait_is, waiting}
+use Rattle.gl_table.proofs.law.Takes.{IsQuiet, restatus_quiet}
+use Rattle.gl_table.proofs.queues.Edits.{out_of_without, without_filter}
+use Rattle.gl_table.proofs.queues.Waiters.{among_waits, grants_other, some_wait}
+use Rattle.gl_table.proofs.queues.Walks.{in_range, same}
+use Rattle.gl_table.proofs.telling.Fronts.{front_stands, stands_only, stands_there, way_here, well_without}
+use Rattle.gl_table.proofs.telling.GivenUp.{way_withdrawn}
+use Rattle.gl_table.proofs.telling.Ways.{granted_stands, left_stands, without_wait_other, without_wait_own}
+
+-- One wait is given up: the lists agree with what is left.
+
+-- the list of t has n only where t holds it; what the lists say else is as it was
+pub record Unlists (ls ls' : List LockList) (t : ℕ) (n : NodeId) : Type 0 where
+  pub len : length ls' ≡ length ls
+  pub apart : AreApart ls'
+  pub modes : (u : ℕ) (q : NodeId) → held_by ls' u q ≡ held_by ls u q
+  pub listed : (u : ℕ) (q : NodeId) → listed_by ls' u q ≡ (if (u == t) && same_node q n then not (same_mode (held_by ls t n) NL) else listed_by ls u q)
+  pub counts : (u : ℕ) (q : NodeId) → counted_by ls' u q ≡ counted_by ls u q
+  pub rooms : (u : ℕ) → (u == t) ≡ false → room_by ls' u ≡ room_by ls u
+
+-- what is held is listed
+held_listed : (o : Option Entry) → same_mode (mode_in o) NL ≡ false → is_some o ≡ true
+held_listed None h = clash refl h
+held_listed (Some e) h = refl
+
+-- a list that has a node where it holds it
+only_held : (l : LockList) (n : NodeId) → same_mode (mode_of l n) NL ≡ false → (q : NodeId)
+    → is_listed l q ≡ (if same_node q n then not (same_mode (mode_of l n) NL) else is_listed l q)
+only_held l n h q = split (same_node q n)
+    (λ e. ap (is_listed l) (same_node-equal q n e) ∙ held_listed (entry_of l n) h ∙ ap not (sym h)
+    ∙ sym (ap (λ k. if k then not (same_mode (mode_of l n) NL) else is_listed l q) e))
+    (λ e. sym (ap (λ k. if k then not (same_mode (mode_of l n) NL) else is_listed l q) e))
+
+-- and one from which a node was taken that it did not hold
+unheld_left : (l l' : LockList) (n : NodeId) → same_mode (mode_of l n) NL ≡ true → ((q : NodeId) → is_listed l' q ≡ (is_listed l q && not (same_node q n)))
+    → (q : NodeId) → is_listed l' q ≡ (if same_node q n then not (same_mode (mode_of l n) NL) else is_listed l q)
+unheld_left l l' n h left q = left q ∙ by (is_listed l q) (same_node q n) ∙ ap (λ k. if same_node q n then not k else is_listed l q) (sym h)
+  where
+    by : (a b : Bool) → (a && not b) ≡ (if b then false else a)
+    by true true = refl
+    by true false = refl
+    by false true = refl
+    by false false = refl
+
+-- where a node was taken out that was not held, the modes are the same
+unheld_modes : (l : LockList) (n : NodeId) → same_mode (mode_of l n) NL ≡ true → (q : NodeId) → (if same_node q n then NL else mode_of l q) ≡ mode_of l q
+unheld_modes l n h q = split (same_node q n)
+    (λ e. ap (λ k. if k then NL else mode_of l q) e ∙ sym (same_mode-equal (mode_of l n) NL h) ∙ ap (mode_of l) (sym (same_node-equal q n e)))
+    (λ e. ap (λ k. if k then NL else mode_of l q) e)
+
+module _ (ls : List LockList) (t : ℕ) (n : NodeId) (l : LockList) (lt : t < length ls) (at : l ≡ slice_index_or ls t l) (apart : AreApart ls) where
+  module _ (l' : LockList) where
+    -- a list is written that says the same, but has n only where it holds it
+    unlists_set : IsApart l' → ((q : NodeId) → mode_of l' q ≡ mode_of l q)
+        → ((q : NodeId) → is_listed l' q ≡ (if same_node q n then not (same_mode (mode_of l n) NL) else is_listed l q))
+        → ((q : NodeId) → count_of l' q ≡ count_of l q) → Unlists ls (slice_set ls t l') t n
+    unlists_set here modes listed counts = record {
+      len = length-set ls t l';
+      apart = apart-set ls t l' lt apart here;
+      modes = λ u q. by_list-kept ls t l lt at l' (λ x. mode_of x q) NL (modes q) u;
+      listed = λ u q. by_list-set ls t l' lt (λ x. is_listed x q) false u ∙ split (u == t)
+          (λ e. ap (λ k. if k then is_listed l' q else listed_by ls u q) e ∙ listed q
+          ∙ ap₂ (λ m k. if same_node q n then not (same_mode m NL) else k) (sym (by_list-at (λ x. mode_of x n) NL ls t l lt at))
+          (sym (ap (λ v. listed_by ls v q) (same_number u t e) ∙ by_list-at (λ x. is_listed x q) false ls t l lt at))
+          ∙ ap (λ k. if k && same_node q n then not (same_mode (held_by ls t n) NL) else listed_by ls u q) (sym e))
+          (λ e. ap (λ k. if k then is_listed l' q else listed_by ls u q) e
+          ∙ ap (λ k. if k && same_node q n then not (same_mode (held_by ls t n) NL) else listed_by ls u q) (sym e));
+      counts = λ u q. by_list-kept ls t l lt at l' (λ x. count_of x q) 0 (counts q) u;
+      rooms = λ u e. by_list-set ls t l' lt (λ x. spare x.loose) 0 u ∙ ap (λ k. if k then spare l'.loose else room_by ls u) e;
+    }
+
+    pub unlists_left : same_mode (mode_of l n) NL ≡ true → IsApart l' → ((q : NodeId) → mode_of l' q ≡ (if same_node q n then NL else mode_of l q))
+        → ((q : NodeId) → is_listed l' q ≡ (is_listed l q && not (same_node q n))) → ((q : NodeId) → count_of l' q ≡ count_of l q)
+        → Unlists ls (slice_set ls t l') t n
+    unlists_left h here modes listed counts = unlists_set here (λ q. modes q ∙ unheld_modes l n h q) (unheld_left l l' n h listed) counts
+
+  pub unlists_held : same_mode (mode_of l n) NL ≡ false → Unlists ls (slice_set ls t l) t n
+  unlists_held h = unlists_set l (apart t l (slice_get-at ls t l lt at)) (λ q. refl) (only_held l n h) (λ q. refl)
+
+-- all others stand in the queue where they stood
+pub others_among : (t u : ℕ) (ws : List Waiter) → (u == t) ≡ false → is_among_waiters u (without_waiter t ws) ≡ is_among_waiters u ws
+others_among t u ws e = among_waits u (without_waiter t ws) ∙ ap some_wait (without_filter t u ws (other_number u t e)) ∙ sym (among_waits u ws)
+
+module _ (s : State) (o : IsOrderly s) (law : IsLawfulGraph s.graph) (t : ℕ) (n : NodeId) (st : Status) (quiet : IsQuiet st)
+    (waits : is_waiting_at s t n ≡ true)
+    (ls mid : List LockList) (agree : (u : ℕ) → Agrees s ls u) (count : (u : ℕ) → CountsHeld s ls u)
+    (wakes : WakesLists ls n (parents_of s.graph n) (front_at (without_wait s t st) n) mid) where
+  abbrev b : State
+  b = without_wait s t st
+
+  abbrev after : State
+  after = pumped b (same_node n)
+
+  well : WaitWell b n
+  well = well_without s o t st n
+
+  -- who left stands in no queue, and is not granted
+  out : (q : NodeId) → is_among_waiters t (b.queue q) ≡ false
+  out q = not_true _ (λ h. (out_of_without t t (s.queue q) h).1 refl)
+
+  not_granted : (q : NodeId) → is_among_waiters t (granted_at b (same_node n) q) ≡ false
+  not_granted q = not_true _ (λ h. clash (granted_stands b (same_node n) t q h) (out q))
+
+  not_front : is_among_waiters t (front_at b n) ≡ false
+  not_front = not_true _ (λ h. clash (front_stands b n well t h) (out n))
+
+  after_own : (q : NodeId) → after.held t q ≡ s.held t q
+  after_own q = grants_other (granted_at b (same_node n) q) (members b q) t (not_granted q)
+
+  mode_own : (q : NodeId) → held_by mid t q ≡ s.held t q
+  mode_own q = wakes.modes t q ∙ split (same_node q n)
+      (λ e. ap (λ k. if k then after_grants (λ v. held_by ls v n) (front_at b n) t else held_by ls t q) e
+      ∙ grants_other (front_at b n) (λ v. held_by ls v n) t not_front ∙ (agree t).modes n ∙ ap (s.held t) (sym (same_node-equal q n e)))
+      (λ e. ap (λ k. if k then after_grants (λ v. held_by ls v n) (front_at b n) t else held_by ls t q) e ∙ (agree t).modes q)
+
+  count_own : (p : NodeId) → counted_by mid t p ≡ held_children s t p
+  count_own p = wakes.counts t p ∙ ap (λ k. counted_by ls t p
+      + (if k && same_mode (held_by ls t n) NL then count_by (same_node p) (parents_of s.graph n) else 0)) not_front
+      ∙ no_more (counted_by ls t p) ∙ count t p
+    where
+      no_more : (k : ℕ) → k + 0 ≡ k
+      no_more k = omega arith
+
+  -- its list has room to count the node apart
+  pub room_left : 0 < room_by mid t
+  room_left = let nine = subst (λ (k : ℕ). 9 ≤ k) (sym (wakes.rooms t not_front)) ((agree t).room (ap is_wait (waiting_is (status_of s t) n waits).1)) in
+      omega arith
+
+  module _ (ls' : List LockList) (unlists : Unlists mid ls' t n) where
+    agrees_other : (u : ℕ) → (u == t) ≡ false → Agrees after ls' u
+    agrees_other u e =
+        let now = agrees_pumped b n well ls mid wakes u (record {
+          modes = (agree u).modes;
+          listed = λ q. (agree u).listed q ∙ ap (λ k. holds (members s q) u || k) (sym (others_among t u (s.queue q) e));
+          room = λ h. (agree u).room (ap (λ x. is_wait (status_in x)) (sym (without_wait_other s t st u e)) ∙ h);
+        }) in
+        record {
+          modes = λ q. unlists.modes u q ∙ now.modes q;
+          listed = λ q. unlists.listed u q ∙ ap (λ k. if k && same_node q n then not (same_mode (held_by mid t n) NL) else listed_by mid u q) e ∙ now.listed q;
+          room = λ h. subst (λ (k : ℕ). 9 ≤ k) (sym (unlists.rooms u e)) (now.room h);
+        }
+
+    agrees_own : Agrees after ls' t
+    agrees_own = record {
+      modes = λ q. unlists.modes t q ∙ mode_own q ∙ sym (after_own q);
+      listed = λ q. unlists.listed t q ∙ ap (λ k. if k && same_node q n then not (same_mode (held_by mid t n) NL) else listed_by mid t q) (number_same t t refl)
+          ∙ split (same_node q n)
+          (λ e. ap (λ k. if k then not (same_mode (held_by mid t n) NL) else listed_by mid t q) e
+          ∙ ap (λ m. not (same_mode m NL)) (mode_own n ∙ ap (s.held t) (sym (same_node-equal q n e))) ∙ only (holds (members s q) t))
+          (λ e. ap (λ k. if k then not (same_mode (held_by mid t n) NL) else listed_by mid t q) e ∙ wakes.listed t q ∙ (agree t).listed q
+          ∙ ap (λ k. holds (members s q) t || k) (stands_only s o t n waits q (same_node-sym n q ∙ e)))
+          ∙ ap₂ (λ m k. not (same_mode m NL) || k) (sym (after_own q)) (sym (not_true _ (λ h. clash (left_stands b (same_node n) t q h) (out q))));
+      room = λ h. let w = wait_is (status_of after t) h in
+          absurd (restatus_quiet st quiet (s.txns t) w.0 w.1 (ap status_in (sym (without_wait_own s t st))
+          ∙ (woken_waits (granted_at b (same_node n)) t w.0 w.1 (b.txns t) w.2).0));
+    }
+      where
+        only : (k : Bool) → k ≡ (k || false)
+        only true = refl
+        only false = refl
+
+    pub agrees_withdrawn : (u : ℕ) → Agrees after ls' u
+    agrees_withdrawn u = split (u == t) (λ e. subst (Agrees after ls') (sym (same_number u t e)) agrees_own) (λ e. agrees_other u e)
+
+    pub counts_withdrawn : (u : ℕ) → CountsHeld after ls' u
+    counts_withdrawn u = split (u == t) (λ e. subst (CountsHeld after ls') (sym (same_number u t e)) own) (λ e p. unlists.counts u p
+        ∙ counts_pumped b n well ls mid wakes law live u ((agree u).modes n) (count u) p)
+      where
+        live : is_live s.graph n ≡ true
+        live = o.waiters_live t n (stands_there s o t n waits)
+
+        own : CountsHeld after ls' t
+        own p = unlists.counts t p ∙ count_own p ∙ ap (λ f. children_that s.graph f p) (fun_ext (λ c. ap (λ m. not (same_mode m NL)) (sym (after_own c))))
+
+-- Each victim leaves fewer that wait.
+
+-- what one number adds to a count
+abbrev one_if : Bool → ℕ
+one_if b = cond b 1 0
+
+one_if_more : (a b : Bool) → (b ≡ true → a ≡ true) → one_if b ≤ one_if a
+one_if_more true true h = omega arith
+one_if_more true false h = omega arith
+one_if_more false true h = clash (h refl) refl
+one_if_more false false h = omega arith
+
+-- of the numbers that pass p only some pass q, so not more, and fewer where v passes p alone
+module _ (p q : ℕ → Bool) (sub : (u : ℕ) → q u ≡ true → p u ≡ true) where
+  count_le : (xs : List ℕ) → count_by q xs ≤ count_by p xs
+  count_le [] = omega arith
+  count_le (x ∷ xs) = let here = one_if_more (p x) (q x) (sub x) in let le = count_le xs in omega (arith, count_cons q x xs, count_cons p x xs)
+
+  count_less : (v : ℕ) (xs : List ℕ) → list_any (same v) xs ≡ true → p v ≡ true → q v ≡ false → count_by q xs < count_by p xs
+  count_less v [] h pv qv = clash h refl
+  count_less v (x ∷ xs) h pv qv = or_elim (same v x) (list_any (same v) xs) h
+      (λ e. let none = ap one_if (ap q (sym (same_number v x e)) ∙ qv) in let one = ap one_if (ap p (sym (same_number v x e)) ∙ pv) in let le = count_le xs in
+      omega (arith, count_cons q x xs, count_cons p x xs))
+      (λ k. let here = one_if_more (p x) (q x) (sub x) in let lt = count_less v xs k pv qv in omega (arith, count_cons q x xs, count_cons p x xs))
+
+-- how many wait
+abbrev pub how_many_wait : State → ℕ
+how_many_wait s = count_by (waiting s) (slots s)
+
+pub fewer_wait : (s : State) → IsOrderly s → (v : ℕ) → waiting s v ≡ true → how_many_wait (condemned s v) < how_many_wait s
+fewer_wait s o v h = count_less (waiting s) (waiting (condemned s v)) still v (slots s) (in_range v 0 s.most (omega arith) (let lt = low in omega arith)) h gone
+  where
+    low : v < s.most
+    low = o.below v (txn_there (s.txns v) _ (wait_is (status_of s v) h).2)
+
+    -- who waits still waited before
+    still : (u : ℕ) → waiting (condemned s v) u ≡ true → waiting s u ≡ true
+    still u k = let w = wait_is (status_of (condemned s v) u) k in
+        ap is_wait ((way_withdrawn s s v Condemned (is_waiting_at s v) (λ q m e. cc) (way_here s o)).waited u w.0 w.1 w.2)
+
+    gone : waiting (condemned s v) v ≡ false
+    gone = not_true _ (λ k. let w = wait_is (status_of (condemned s v) v) k in
+        restatus_quiet Condemned (λ q m e. cc) (s.txns v) w.0 w.1
+        (ap status_in (sym (without_wait_own s v Condemned))
+        ∙ (woken_waits (granted_at (without_wait s v Condemned) (is_waiting_at s v)) v w.0 w.1 ((without_wait s v Condemned).txns v) w.2).0))

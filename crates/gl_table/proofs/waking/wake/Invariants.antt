@@ -1,7 +1,0 @@
-use Rattle.std.specs.Prelude.{take}
-use Rattle.gl_table.specs.Slots.{Wakes}
-use Rattle.gl_table.proofs.waking.wake.Given as goal
-
--- those before this place are woken
-abbrev pub invariant-loop-waiter : goal.invariant-loop-waiter
-invariant-loop-waiter l = Wakes l.initial.seats.items l.initial.lists.items l.initial.told.items l.node l.parents (take l.waiter-index l.granted) l.seats.items l.lists.items l.told.items

@@ -1,0 +1,7 @@
+pub mod Seats
+pub mod Seating
+pub mod Headers
+pub mod Lists
+pub mod Slots
+pub mod Locks
+pub mod Sound

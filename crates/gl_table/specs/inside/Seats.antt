@@ -1,0 +1,28 @@
+-- The seats that the code keeps, as transactions by slot.
+use Rattle.std.specs.Prelude.{ℕ, Bool, true, false, List, Option, Some, None, slice_get}
+use Rattle.std.specs.Option.{option_map_or}
+use Rattle.gl_table.specs.declared.seat.Seat.{Seat}
+use Rattle.gl_table.specs.model.State.{Txn}
+
+-- the transaction in a seat that is there and taken
+abbrev pub txn_in : Option (Option Seat) → Option Txn
+txn_in None = None
+txn_in (Some None) = None
+txn_in (Some (Some x)) = Some (record { age = x.age; status = x.status })
+
+-- the transactions by slot
+abbrev pub txns_of : List (Option Seat) → ℕ → Option Txn
+txns_of seats t = txn_in (slice_get seats t)
+
+-- the seats by slot, as a contract sees them
+pub record SeatList : Type 0 where
+  pub items : List (Option Seat)
+
+-- nobody sits there
+abbrev pub is_free : Option Seat → Bool
+is_free None = true
+is_free (Some x) = false
+
+-- the slot is there, and nobody sits there
+abbrev pub is_free_at : List (Option Seat) → ℕ → Bool
+is_free_at seats t = option_map_or is_free (slice_get seats t) false

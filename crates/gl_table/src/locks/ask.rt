@@ -1,0 +1,188 @@
+//! Asking for a node: granted at once, or queued.
+
+ghost use Rattle.std.specs.Prelude.{◌≡◌, ◌≢◌, ◌<◌, ◌&&◌, ℕ, IfErr, IfOk, IsOk, OnErr, OnOk, Some, false, length, true};
+ghost use Rattle.gl_modes.specs.declared.mode.Mode.TheVariants.{NL};
+ghost use Rattle.gl_modes.specs.declared.refusal.Refusal.{Refusal as ARefusal};
+ghost use Rattle.gl_graph.specs.Graph.{is_live, parents_of};
+ghost use Rattle.gl_graph.specs.Refusals.{verdict};
+ghost use Rattle.gl_table.specs.model.Calls.{rule_refusal, asked_at, locked_as, enqueued, enters_at, granted, wanted};
+ghost use Rattle.gl_graph.specs.View.{graph_of};
+ghost use Rattle.gl_header.specs.Header.{holds};
+ghost use Rattle.gl_table.specs.inside.Headers.{is_granted_at};
+ghost use Rattle.gl_table.specs.inside.Locks.{AreExact, IsOrderly, KeepsLocks, state_in};
+ghost use Rattle.gl_table.specs.inside.Slots.{HasRoomAt, KeepsLists, held_by};
+ghost use Rattle.gl_table.specs.inside.Seats.{txns_of};
+ghost use Rattle.gl_table.specs.model.State.{members, status_in, status_of};
+ghost use Rattle.gl_table.specs.declared.txn.Status.TheVariants.{Active};
+
+use crate::answers::Locked;
+use crate::headers::{ask, would_grant};
+use crate::list::LockList;
+use crate::locks::Locks;
+use crate::rule::check_rule;
+use crate::seat::Seat;
+use crate::txn::Status;
+use gl_graph::Graph;
+use gl_header::Asked;
+use gl_modes::{Mode, NodeId, Refusal, sup};
+
+/// Makes room in the list of a slot for one node more, and for the counts of its parents.
+pub(crate) fn make_room(lists: &mut Vec<LockList>, slot: u8) -> Result<(), Refusal>
+    requires { slot < length lists.old.items }
+    ensures kept { KeepsLists lists.old.items lists.new.items }
+    ensures ok { OnOk result (HasRoomAt lists.new.items slot) }
+    ensures no_memory { IfErr result (λ refusal. refusal ≡ ARefusal.NoMemory) }
+{
+    match lists[slot as usize].make_room() {
+        Ok(()) => Ok(()),
+        Err(_) => Err(Refusal::NoMemory),
+    }
+}
+
+impl Locks {
+    /// Makes room in the list of a slot for what an ask comes to. A conversion that is granted at once
+    /// needs none, so that want of memory does not refuse it.
+    fn make_room_to_ask(
+        &mut self,
+        slot: u8,
+        node: NodeId,
+        mode: Mode,
+        is_member: bool,
+    ) -> Result<(), Refusal>
+        requires { slot < length self.old.lists.items }
+        ensures rest { self.new ≡ record self.old { lists = self.new.lists } }
+        ensures kept { KeepsLists self.old.lists.items self.new.lists.items }
+        ensures room { OnOk result ((is_member && is_granted_at self.old.headers.entries slot node mode) ≡ false
+            → HasRoomAt self.new.lists.items slot) }
+        ensures at_once { (is_member && is_granted_at self.old.headers.entries slot node mode) ≡ true → IsOk result }
+        ensures no_memory { IfErr result (λ refusal. refusal ≡ ARefusal.NoMemory) }
+    {
+        match make_room(&mut self.lists, slot) {
+            Ok(()) => Ok(()),
+            Err(refusal) => {
+                if is_member && would_grant(&self.headers, slot, node, mode) {
+                    Ok(())
+                } else {
+                    Err(refusal)
+                }
+            }
+        }
+    }
+
+    /// Whether the rule of the graph lets a slot have this mode on a node.
+    pub(crate) fn check_rule(
+        &self,
+        graph: &Graph,
+        slot: u8,
+        node: NodeId,
+        mode: Mode,
+    ) -> Result<(), Refusal>
+        requires { slot < length self.now.lists.items }
+        ensures { result ≡ verdict (rule_refusal (held_by self.now.lists.items slot) (parents_of (graph_of graph.now) node) mode) }
+    {
+        check_rule(&self.lists[slot as usize], graph.parents(node), mode)
+    }
+
+    /// Asks for a mode on a node that the slot holds in the mode `held`: the supremum of the held and
+    /// the asked mode is granted at once, or the slot waits for it in its place. The room for a later
+    /// grant is made here. The only refusal is `NoMemory`, which a member that is granted at once
+    /// never meets.
+    pub(crate) fn ask(
+        &mut self,
+        graph: &Graph,
+        slot: u8,
+        node: NodeId,
+        mode: Mode,
+        held: Mode,
+    ) -> Result<Asked, Refusal>
+        requires exact { AreExact graph.now self.old }
+        requires orderly { IsOrderly (state_in graph.now self.old) }
+        requires active { status_of (state_in graph.now self.old) slot ≡ Some Active }
+        requires live { is_live (graph_of graph.now) node ≡ true }
+        requires lock { mode ≢ NL }
+        requires held { held ≡ held_by self.old.lists.items slot node }
+        ensures exact { AreExact graph.now self.new }
+        ensures answer { IfOk result (λ asked. asked ≡ asked_at (state_in graph.now self.old) slot node mode) }
+        ensures granted { OnOk result (enters_at (state_in graph.now self.old) slot node mode ≡ true
+            → state_in graph.now self.new ≡ granted (state_in graph.now self.old) slot node mode) }
+        ensures waits { OnOk result (enters_at (state_in graph.now self.old) slot node mode ≡ false
+            → state_in graph.now self.new ≡ enqueued (state_in graph.now self.old) slot node (wanted (state_in graph.now self.old) slot node mode)) }
+        ensures err { OnErr result (KeepsLocks self.old self.new) }
+        ensures no_memory { IfErr result (λ refusal. refusal ≡ ARefusal.NoMemory) }
+        ensures held { holds (members (state_in graph.now self.old) node) slot ≡ true
+            → enters_at (state_in graph.now self.old) slot node mode ≡ true → IsOk result }
+    {
+        graph.law();
+        let is_member = held != Mode::NL;
+        self.make_room_to_ask(slot, node, mode, is_member)?;
+        let asked = ask(self.alloc, &mut self.headers, slot, node, mode)?;
+        let list = &mut self.lists[slot as usize];
+        match asked {
+            Asked::Granted(wanted) if is_member => list.set_mode(node, wanted),
+            Asked::Granted(wanted) => {
+                list.enter(node, wanted);
+                list.count_up(graph.parents(node));
+            }
+            Asked::Waiting => {
+                let wanted = sup(held, mode);
+                if !is_member {
+                    list.enter(node, Mode::NL);
+                }
+                self.seats
+                    .set_status(slot, Status::Waiting { node, wanted });
+            }
+        }
+        Ok(asked)
+    }
+
+    /// Grants a mode that can be granted at once, where the slot holds the mode `held`: the supremum
+    /// of the held and the asked mode. The only refusal is `NoMemory`, which a member never meets.
+    pub(crate) fn grant(
+        &mut self,
+        graph: &Graph,
+        slot: u8,
+        node: NodeId,
+        mode: Mode,
+        held: Mode,
+    ) -> Result<Mode, Refusal>
+        requires exact { AreExact graph.now self.old }
+        requires orderly { IsOrderly (state_in graph.now self.old) }
+        requires active { status_of (state_in graph.now self.old) slot ≡ Some Active }
+        requires live { is_live (graph_of graph.now) node ≡ true }
+        requires lock { mode ≢ NL }
+        requires held { held ≡ held_by self.old.lists.items slot node }
+        requires enters { enters_at (state_in graph.now self.old) slot node mode ≡ true }
+        ensures exact { AreExact graph.now self.new }
+        ensures mode { IfOk result (λ m. m ≡ wanted (state_in graph.now self.old) slot node mode) }
+        ensures state { OnOk result (state_in graph.now self.new ≡ granted (state_in graph.now self.old) slot node mode) }
+        ensures err { OnErr result (KeepsLocks self.old self.new) }
+        ensures no_memory { IfErr result (λ refusal. refusal ≡ ARefusal.NoMemory) }
+        ensures held { holds (members (state_in graph.now self.old) node) slot ≡ true → IsOk result }
+    {
+        match self.ask(graph, slot, node, mode, held)? {
+            Asked::Granted(wanted) => Ok(wanted),
+            Asked::Waiting => unreachable!(),
+        }
+    }
+
+    /// What an ask of a slot for a node came to.
+    pub(crate) fn outcome(&self, slot: u8, node: NodeId) -> Locked
+        ensures { result ≡ locked_as (held_by self.now.lists.items slot node) (status_in (txns_of self.now.seats.items slot)) }
+    {
+        match self.seat(slot) {
+            Some(
+                Seat {
+                    status: Status::Waiting { .. },
+                    ..
+                },
+            ) => Locked::Waiting,
+            Some(
+                Seat {
+                    status: Status::Condemned,
+                    ..
+                },
+            ) => Locked::Victim,
+            _ => Locked::Granted(self.mode(slot, node)),
+        }
+    }
+}

@@ -1,0 +1,53 @@
+//! Waiters that are granted.
+
+ghost use Rattle.std.specs.Prelude.{◌≡◌};
+ghost use Rattle.gl_header.specs.Header.{is_among_waiters};
+ghost use Rattle.gl_table.specs.inside.Slots.{AreApart, CanHold, CanWake, Holds, Wakes};
+
+use crate::answers::{Notice, Told};
+use crate::list::LockList;
+use crate::seats::Seats;
+use crate::told::tell;
+use crate::txn::{Status, TxnId};
+use gl_modes::{Mode, NodeId};
+
+/// A slot, whose list has the node, holds it in this mode. Where it did not hold it before, each
+/// parent has one held child more.
+pub(crate) fn hold(
+    lists: &mut Vec<LockList>,
+    slot: u8,
+    node: NodeId,
+    mode: Mode,
+    parents: &[NodeId],
+)
+    requires can { CanHold lists.old.items slot node parents.now }
+    requires apart { AreApart lists.old.items }
+    ensures { Holds lists.old.items lists.new.items slot node mode parents.now }
+{
+    let list = &mut lists[slot as usize];
+    let is_new = !list.holds(node);
+    list.set_mode(node, mode);
+    if is_new {
+        list.count_up(parents);
+    }
+}
+
+/// Those whose waits on a node were granted hold it, are active, and are told.
+pub(crate) fn wake(
+    seats: &mut Seats,
+    lists: &mut Vec<LockList>,
+    told: &mut Told,
+    node: NodeId,
+    parents: &[NodeId],
+    granted: &[(u8, Mode)],
+)
+    requires { CanWake seats.old.items lists.old.items told.old.items node parents.now granted.now }
+    ensures { Wakes seats.old.items lists.old.items told.old.items node parents.now granted.now seats.new.items lists.new.items told.new.items }
+{
+    for waiter in granted {
+        let (slot, mode) = *waiter;
+        let age = seats.set_status(slot, Status::Active);
+        hold(lists, slot, node, mode, parents);
+        tell(told, TxnId { slot, age }, Notice::Granted(node, mode));
+    }
+}

@@ -1,0 +1,231 @@
+//! The calls that answer with a told list of their own. Each makes the list, and calls its twin.
+
+ghost use Rattle.std.specs.Prelude.{◌≡◌, [], IfOk, OnErr, OnOk, ◌&&◌, IfErr, IsOk, None, not, true, Some, ◌⊎◌, ◌-◌};
+ghost use Rattle.gl_graph.specs.Refusals.{first_refusal, Refuses, first_cycle};
+ghost use Rattle.gl_table.specs.model.Calls.{RefusesOnly, released, unlocked, commit_tests, living_tests, unlock_tests, locked_as, Locks};
+ghost use Rattle.gl_table.specs.model.Calls.{enters_at, granted, lock_tests, cancelled, cancel_tests, deleted, moved_to, need_exclusive};
+ghost use Rattle.gl_table.specs.model.Calls.{need_new_parents, some_given, shed, covered_children, held_children};
+ghost use Rattle.gl_table.specs.model.Table.{state_of};
+ghost use Rattle.gl_table.specs.model.Tellings.{told, told_but};
+ghost use Rattle.gl_modes.specs.declared.mode.Mode.TheVariants.{S, X};
+ghost use Rattle.gl_modes.specs.Modes.{same_mode, is_at_least};
+ghost use Rattle.gl_graph.specs.Graph.{shape_of, first_parent, parents_of};
+ghost use Rattle.gl_graph.specs.Shapes.{is_record_shape, is_index_of_shape, is_movable_shape, least_parents};
+ghost use Rattle.gl_header.specs.Header.{holds};
+ghost use Rattle.gl_table.specs.model.Deadlocks.{LocksKeeping, SettlesKeeping};
+ghost use Rattle.gl_table.specs.model.State.{members, status_of, Settled, waits_for, lives};
+ghost use Rattle.gl_waits.specs.Waits.{IsOnNoCycle};
+ghost use Rattle.gl_modes.specs.declared.refusal.Refusal.{Refusal as ARefusal};
+ghost use Rattle.gl_graph.specs.Changes.{rekeyed, rekeyed_parents, with_parents};
+ghost use Rattle.gl_table.specs.declared.txn.Status.TheVariants.{Active};
+ghost use Rattle.gl_graph.specs.Lawful.{AreInnerParents};
+
+use super::Table;
+use crate::answers::{Locked, Told};
+use crate::txn::TxnId;
+use gl_modes::{Mode, NodeId, Refusal};
+
+impl Table {
+    /// Releases one node, of which the transaction holds no child; the node grants from its front.
+    /// Answers who is told of a grant, by rising slot.
+    ///
+    /// Refused, in this order, with `NoSuchTxn`, `TxnWaiting`, `TxnCondemned`, `NoSuchNode`,
+    /// `NotHeld` and `HeldChild`, naming the held child that was born first. It takes no memory.
+    pub fn unlock(&mut self, t: TxnId, n: NodeId) -> Result<Told, Refusal>
+        ensures told { IfOk result (λ list. list.items ≡ told (state_of self.old) (state_of self.new)) }
+        ensures state { OnOk result (state_of self.new ≡ unlocked (state_of self.old) t.slot n) }
+        ensures deadlock { self.new.deadlock ≡ self.old.deadlock }
+        ensures refuses { RefusesOnly (first_refusal (unlock_tests (state_of self.old) t n)) result }
+        ensures err { OnErr result (self.new ≡ self.old) }
+    {
+        let mut told = Told::new();
+        self.unlock_telling(t, n, &mut told)?;
+        Ok(told)
+    }
+
+    /// Ends a transaction and releases everything; each node that it held grants from its front.
+    /// Answers who is told of a grant, by rising slot.
+    ///
+    /// Refused, in this order, with `NoSuchTxn`, `TxnWaiting` and `TxnCondemned`. It takes no memory.
+    pub fn commit(&mut self, t: TxnId) -> Result<Told, Refusal>
+        ensures told { IfOk result (λ list. list.items ≡ told (state_of self.old) (state_of self.new)) }
+        ensures state { OnOk result (state_of self.new ≡ released (state_of self.old) t.slot) }
+        ensures deadlock { self.new.deadlock ≡ self.old.deadlock }
+        ensures refuses { RefusesOnly (first_refusal (commit_tests (state_of self.old) t)) result }
+        ensures err { OnErr result (self.new ≡ self.old) }
+    {
+        let mut told = Told::new();
+        self.commit_telling(t, &mut told)?;
+        Ok(told)
+    }
+
+    /// Ends a transaction whatever it is doing, takes back its wait, and releases everything; each
+    /// node that it held or waited on grants from its front. Answers who is told of a grant, by
+    /// rising slot.
+    ///
+    /// Refused with `NoSuchTxn`. It takes no memory.
+    pub fn abort(&mut self, t: TxnId) -> Result<Told, Refusal>
+        ensures told { IfOk result (λ list. list.items ≡ told (state_of self.old) (state_of self.new)) }
+        ensures state { OnOk result (state_of self.new ≡ released (state_of self.old) t.slot) }
+        ensures deadlock { self.new.deadlock ≡ self.old.deadlock }
+        ensures refuses { RefusesOnly (first_refusal (living_tests (state_of self.old) t)) result }
+        ensures err { OnErr result (self.new ≡ self.old) }
+    {
+        let mut told = Told::new();
+        self.abort_telling(t, &mut told)?;
+        Ok(told)
+    }
+
+    /// Asks for a mode on a node, and waits where it cannot be granted at once. What is granted is
+    /// the supremum of the held and the asked mode. With detection at block, the asker is settled then:
+    /// victims are condemned until it is on no cycle, and the last deadlock that this ends is kept.
+    /// Answers what the ask came to, and who else is told of a grant or of being a victim, by rising
+    /// slot.
+    ///
+    /// Refused, in this order, with `NoSuchTxn`, `TxnWaiting`, `TxnCondemned`, `NoSuchNode`,
+    /// `BadMode` (`NL`, or other than `S` and `X` on a record), `NeedParents` and `NoMemory`, which
+    /// a conversion granted at once never meets.
+    pub fn lock(&mut self, t: TxnId, n: NodeId, mode: Mode) -> Result<(Locked, Told), Refusal>
+        ensures answer { IfOk result (λ answer. answer.0 ≡ locked_as ((state_of self.new).held t.slot n) (status_of (state_of self.new) t.slot)) }
+        ensures told { IfOk result (λ answer. answer.1.items ≡ told_but t.slot (state_of self.old) (state_of self.new)) }
+        ensures state { OnOk result (Locks (state_of self.old) t.slot n mode (state_of self.new)) }
+        ensures deadlock { OnOk result (LocksKeeping (state_of self.old) t.slot n mode self.old.deadlock (state_of self.new) self.new.deadlock) }
+        ensures refuses { Refuses (first_refusal (lock_tests (state_of self.old) t n mode)) result }
+        ensures held { first_refusal (lock_tests (state_of self.old) t n mode) ≡ None → enters_at (state_of self.old) t.slot n mode ≡ true
+            → holds (members (state_of self.old) n) t.slot ≡ true → IsOk result }
+        ensures err { OnErr result (self.new ≡ self.old) }
+    {
+        let mut told = Told::new();
+        let locked = self.lock_telling(t, n, mode, &mut told)?;
+        Ok((locked, told))
+    }
+
+    /// Takes back the wait of a transaction, which is active then; its node grants from its front.
+    /// Answers who else is told of a grant, by rising slot.
+    ///
+    /// Refused, in this order, with `NoSuchTxn`, `TxnCondemned` and `NotWaiting`. It takes no memory.
+    pub fn cancel(&mut self, t: TxnId) -> Result<Told, Refusal>
+        ensures told { IfOk result (λ list. list.items ≡ told_but t.slot (state_of self.old) (state_of self.new)) }
+        ensures state { OnOk result (state_of self.new ≡ cancelled (state_of self.old) t.slot) }
+        ensures deadlock { self.new.deadlock ≡ self.old.deadlock }
+        ensures refuses { RefusesOnly (first_refusal (cancel_tests (state_of self.old) t)) result }
+        ensures err { OnErr result (self.new ≡ self.old) }
+    {
+        let mut told = Told::new();
+        self.cancel_telling(t, &mut told)?;
+        Ok(told)
+    }
+
+    /// While the transaction is on a cycle of waits, condemns the youngest of those on a cycle with it, or,
+    /// where the fewest fall, the youngest of those that alone take it off all cycles. Each victim's
+    /// wait is given up, and its node grants from its front; the last deadlock that this ends is kept.
+    /// Answers who is told of a grant or of being a victim, by rising slot: nobody where it is on no
+    /// cycle, and then nothing changes.
+    ///
+    /// Refused with `NoSuchTxn`. It takes no memory.
+    pub fn settle(&mut self, t: TxnId) -> Result<Told, Refusal>
+        ensures told { IfOk result (λ list. list.items ≡ told (state_of self.old) (state_of self.new)) }
+        ensures state { OnOk result (Settled (state_of self.old).victims (state_of self.old) t.slot (state_of self.new)) }
+        ensures deadlock { OnOk result (SettlesKeeping (state_of self.old).victims (state_of self.old) t.slot self.old.deadlock (state_of self.new) self.new.deadlock) }
+        ensures idle { IsOnNoCycle (waits_for (state_of self.old)) t.slot → IfOk result (λ list. (list.items ≡ []) × (state_of self.new ≡ state_of self.old)) }
+        ensures refuses { RefusesOnly (first_refusal (living_tests (state_of self.old) t)) result }
+        ensures err { OnErr result (self.new ≡ self.old) }
+    {
+        let mut told = Told::new();
+        self.settle_telling(t, &mut told)?;
+        Ok(told)
+    }
+
+    /// Takes a record away that an active transaction holds in X. Each waiter on it is active again.
+    /// Answers who is told that it is gone, by rising slot.
+    ///
+    /// It takes no memory, and looks at the record's parents and waiters alone.
+    pub fn remove(&mut self, t: TxnId, rec: NodeId) -> Told
+        requires txn { lives (state_of self.old) t ≡ true }
+        requires active { status_of (state_of self.old) t.slot ≡ Some Active }
+        requires record { is_record_shape (shape_of (state_of self.old).graph rec) ≡ true }
+        requires exclusive { same_mode ((state_of self.old).held t.slot rec) X ≡ true }
+        ensures state { state_of self.new ≡ deleted (state_of self.old) rec }
+        ensures deadlock { self.new.deadlock ≡ self.old.deadlock }
+        ensures told { result.items ≡ told (state_of self.old) (state_of self.new) }
+    {
+        let mut told = Told::new();
+        self.remove_telling(t, rec, &mut told);
+        told
+    }
+
+    /// Gives a record another key for one index of its file, and the interval in which that key lies
+    /// in place of the old one. Waits on it that do not meet the rule of the graph over its new
+    /// parents are over: they are taken from the queue, and the others keep their order. Answers who
+    /// is told of that, by rising slot.
+    ///
+    /// The transaction is active, and holds X on the record and IX or greater on each new parent, or
+    /// X on each old and each new parent. Linear in the parents and the waiters of the record. It
+    /// takes no memory, and refuses nothing.
+    pub fn reparent(&mut self, t: TxnId, rec: NodeId, index: NodeId, key: u64) -> Told
+        requires txn { lives (state_of self.old) t ≡ true }
+        requires active { status_of (state_of self.old) t.slot ≡ Some Active }
+        requires record { is_record_shape (shape_of (state_of self.old).graph rec) ≡ true }
+        requires index { is_index_of_shape (first_parent (state_of self.old).graph rec) (shape_of (state_of self.old).graph index) ≡ true }
+        requires exclusive { need_exclusive (state_of self.old) t.slot rec true (rekeyed_parents (state_of self.old).graph rec index key) ≡ None }
+        requires parents { need_new_parents (state_of self.old) t.slot rec (rekeyed_parents (state_of self.old).graph rec index key) ≡ None }
+        ensures state { state_of self.new ≡ moved_to (state_of self.old) rec (rekeyed_parents (state_of self.old).graph rec index key) (rekeyed (state_of self.old).graph rec index key) }
+        ensures deadlock { self.new.deadlock ≡ self.old.deadlock }
+        ensures told { result.items ≡ told (state_of self.old) (state_of self.new) }
+    {
+        let mut told = Told::new();
+        self.reparent_telling(t, rec, index, key, &mut told);
+        told
+    }
+
+    /// Gives an inner node, a file or an index other parents: living, different inner nodes, at most
+    /// 8, and at least one for a file or an index. Without parents an inner node is a root. Waits on
+    /// it that do not meet the rule of the graph over its new parents are over: they are taken from
+    /// the queue, and the others keep their order. Answers who is told of that, by rising slot.
+    ///
+    /// The transaction is active, and holds X on the node and IX or greater on each new parent, or X
+    /// on each old and each new parent, where there are some on both sides. Linear in the parents and
+    /// the waiters of the node, but for the search for a cycle.
+    ///
+    /// Refused with `Cycle`, naming the first new parent that is the node or has a path to it, and
+    /// with `NoMemory`, also where the search for such a path had too little.
+    pub fn regraft(&mut self, t: TxnId, n: NodeId, parents: &[NodeId]) -> Result<Told, Refusal>
+        requires txn { lives (state_of self.old) t ≡ true }
+        requires active { status_of (state_of self.old) t.slot ≡ Some Active }
+        requires movable { is_movable_shape (shape_of (state_of self.old).graph n) ≡ true }
+        requires inner { AreInnerParents (state_of self.old).graph (least_parents (shape_of (state_of self.old).graph n)) parents.now }
+        requires exclusive { need_exclusive (state_of self.old) t.slot n (some_given (parents_of (state_of self.old).graph n) && some_given parents.now) parents.now ≡ None }
+        requires rule { need_new_parents (state_of self.old) t.slot n parents.now ≡ None }
+        ensures told { IfOk result (λ list. list.items ≡ told (state_of self.old) (state_of self.new)) }
+        ensures state { OnOk result (state_of self.new ≡ moved_to (state_of self.old) n parents.now (with_parents (state_of self.old).graph n parents.now)) }
+        ensures deadlock { self.new.deadlock ≡ self.old.deadlock }
+        ensures clear { OnOk result (first_cycle (state_of self.old).graph n parents.now ≡ None) }
+        ensures refused { IfErr result (λ r. (r ≡ ARefusal.NoMemory) ⊎ (first_cycle (state_of self.old).graph n parents.now ≡ Some r)) }
+        ensures err { OnErr result (self.new ≡ self.old) }
+    {
+        let mut told = Told::new();
+        self.regraft_telling(t, n, parents, &mut told)?;
+        Ok(told)
+    }
+
+    /// Releases the children of a node that an active transaction's lock on the node covers, and each
+    /// of them grants from its front: a held child of which no child is held, not held in `X`, or
+    /// held in `X` with `X` on each of its parents. Answers how many were released and how many are
+    /// kept, and who is told of a grant, by rising slot.
+    ///
+    /// It takes no memory, and goes over what the transaction holds.
+    pub fn shed(&mut self, t: TxnId, n: NodeId) -> (u32, u32, Told)
+        requires txn { lives (state_of self.old) t ≡ true }
+        requires active { status_of (state_of self.old) t.slot ≡ Some Active }
+        requires reads { is_at_least ((state_of self.old).held t.slot n) S ≡ true }
+        ensures state { state_of self.new ≡ shed (state_of self.old) t.slot n }
+        ensures deadlock { self.new.deadlock ≡ self.old.deadlock }
+        ensures released { result.0 ≡ covered_children (state_of self.old) t.slot n }
+        ensures kept { result.1 ≡ held_children (state_of self.old) t.slot n - covered_children (state_of self.old) t.slot n }
+        ensures told { result.2.items ≡ told (state_of self.old) (state_of self.new) }
+    {
+        let mut told = Told::new();
+        let (released, kept) = self.shed_telling(t, n, &mut told);
+        (released, kept, told)
+    }
+}
