@@ -7,9 +7,9 @@ ghost use Rattle.gl_boxes.specs.Rules.{head_of};
 ghost use Rattle.gl_shared.specs.Sides.{IsIdle, shown_by};
 ghost use Rattle.gl_shared.specs.Ties.{tie_of};
 
-use gl_boxes::{Head, Line};
 use crate::rule::{Publish, Published, Ties};
 use crate::shown::{Next, Shown, Tie};
+use gl_boxes::{Head, Line};
 use gl_waits::Board;
 use left_right::reader::Reader;
 use left_right::writer::Writer;

@@ -2,8 +2,8 @@
 ghost use Rattle.std.specs.Prelude.{◌≡◌};
 ghost use Rattle.gl_boxes.specs.Boards.{IsLawful, Ends, last_epoch};
 
-use gl_boxes::Line;
 use crate::naming::Naming;
+use gl_boxes::Line;
 use gl_waits::Board;
 use std::marker::{Model, PhantomData};
 

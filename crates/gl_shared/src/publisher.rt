@@ -7,9 +7,9 @@ ghost use Rattle.gl_boxes.specs.Rules.{head_of};
 ghost use Rattle.gl_shared.specs.Ties.{IsOf};
 
 use crate::boards::{BoardWriter, Side, publish};
-use gl_boxes::{Head, Line};
 use crate::naming::Naming;
 use crate::note::Note;
+use gl_boxes::{Head, Line};
 use gl_waits::Board;
 use std::alloc::Global;
 use std::marker::{Model, PhantomData};

@@ -10,7 +10,6 @@ ghost use Rattle.gl_shared.specs.Ties.{IsOf, tie_of};
 
 use crate::boards::BoardWriter;
 use crate::guarded::Guarded;
-use gl_boxes::Line;
 use crate::naming::Naming;
 use crate::parts::Parts;
 use crate::publisher::Publisher;
@@ -18,6 +17,7 @@ use crate::rule::Ties;
 use crate::share::Share;
 use crate::wakes::Wakes;
 use crate::watcher::Watcher;
+use gl_boxes::Line;
 use gl_catalog::{Counters, Manager};
 use gl_modes::Refusal;
 use std::alloc::{AllocError, Global};

@@ -6,10 +6,10 @@ ghost use Rattle.gl_boxes.specs.Rules.{head_of};
 ghost use Rattle.gl_shared.specs.Ties.{IsOf};
 
 use crate::boards::{BoardReader, BoardWriter};
-use gl_boxes::Line;
 use crate::naming::Naming;
 use crate::note::Note;
 use crate::rule::{Enter, Ties};
+use gl_boxes::Line;
 use gl_waits::Board;
 use std::alloc::AllocError;
 use std::marker::{Model, PhantomData};
