@@ -34,6 +34,10 @@
 #   older is granted and commits. Ours is in one thread, and in another line in two as theirs; both then meet
 #   at a barrier twice a round, on either side.
 # - The commit is that of 1,000 records in X and three nodes in IX. Taking them is not measured.
+# - The lines of bs_table are calls of include/burlapslate_shared.h: a short transaction in one thread, alone and
+#   beside a thread that looks at boards all the time, whose instructions are not counted; a wait and its grant
+#   between two threads, where a commit and the next ask are one bs_table_run; 1, 4 and 16 threads; and 4 and 16 with
+#   all of it in one bs_table_run, and in one lock_vec of theirs the four locks. Theirs has DB_THREAD in all.
 # - The four threads do short transactions on records of their own; a round is one transaction of any of
 #   them. Ours has one mutex, held round each call. Theirs is measured likewise, without DB_THREAD, and with
 #   DB_THREAD and no mutex, with one partition and with as many as it takes by itself.
@@ -51,7 +55,7 @@ unrepeated=glibc.cpu.x86_rep_stosb_threshold=1000000:glibc.cpu.x86_rep_movsb_thr
 
 # build: the program, with the side of Berkeley DB where a program over it can be linked.
 build() {
-  local sources=("$top"/bench/race/{main,ours,together}.c) with=()
+  local sources=("$top"/bench/race/{main,ours,table,together}.c) with=()
   mapfile -t libraries < <("$top/tools/c_library.sh" 2>"$work/log")
   [ "${#libraries[@]}" -eq 2 ] || { cat "$work/log" >&2; return 1; }
   printf '#include <db.h>\nint main(void) { return db_env_create(0, 0); }\n' >"$work/db.c"
@@ -67,10 +71,12 @@ build() {
     "${libraries[@]}" "${with[@]}" -pthread
 }
 
-# instructions WORD WAY ROUNDS: of one whole run; of the commit, of what is measured in it.
+# instructions WORD WAY ROUNDS: of one whole run; of the commit, and of one thread with a table, of what is measured in it.
 instructions() {
   local measured=()
-  [ "$1" != commit ] || measured=(--toggle-collect='measured*')
+  case $1.$2 in
+    commit.* | table.ours | table-watched.ours) measured=(--toggle-collect='measured*') ;;
+  esac
   GLIBC_TUNABLES=$unrepeated timeout 300 valgrind --tool=callgrind --callgrind-out-file=/dev/null \
     "${measured[@]}" "$work/race" play "$@" >"$work/log" 2>&1 || { cat "$work/log" >&2; return 1; }
   sed -n 's/.*Collected : //p' "$work/log"

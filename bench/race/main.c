@@ -70,6 +70,27 @@ static const struct line lines[] = {
   { "crew-own", "four threads, theirs with DB_THREAD", 0, CREW, 1, MEDIAN,
     ours_crew, THEIRS(theirs_crew), 3,
     { KEPT | THREADED, FRESH | THREADED, KEPT | THREADED | PARTITIONED } },
+  { "table", "bs_table: a short transaction, writes", 0, 1, 1, BEST,
+    table_write, THEIRS(theirs_write), 2, { KEPT | THREADED, FRESH | THREADED } },
+  { "table-watched", "bs_table: the same beside who looks", 0, 1, 1, BEST,
+    table_watched, THEIRS(theirs_write), 2, { KEPT | THREADED, FRESH | THREADED } },
+  { "table-wait", "bs_table: wait and grant, two threads", 0, 1, 4, MEDIAN,
+    table_wait, THEIRS(theirs_wait_paired), 1, { THREADED } },
+  { "table-1", "bs_table: one thread, DB_THREAD", 0, CREW, 1, MEDIAN,
+    table_crew_1, THEIRS(theirs_crew_1), 3,
+    { KEPT | THREADED, FRESH | THREADED, KEPT | THREADED | PARTITIONED } },
+  { "table-4", "bs_table: four threads, DB_THREAD", 0, CREW, 1, MEDIAN,
+    table_crew_4, THEIRS(theirs_crew), 3,
+    { KEPT | THREADED, FRESH | THREADED, KEPT | THREADED | PARTITIONED } },
+  { "table-16", "bs_table: sixteen threads, DB_THREAD", 0, MOST_CREW, 1, MEDIAN,
+    table_crew_16, THEIRS(theirs_crew_16), 3,
+    { KEPT | THREADED, FRESH | THREADED, KEPT | THREADED | PARTITIONED } },
+  { "table-run-4", "bs_table_run: four threads, lock_vec", 0, CREW, 1, MEDIAN,
+    table_once_4, THEIRS(theirs_crew), 3,
+    { KEPT | THREADED | AT_ONCE, FRESH | THREADED | AT_ONCE, KEPT | THREADED | PARTITIONED | AT_ONCE } },
+  { "table-run-16", "bs_table_run: sixteen threads, lock_vec", 0, MOST_CREW, 1, MEDIAN,
+    table_once_16, THEIRS(theirs_crew_16), 3,
+    { KEPT | THREADED | AT_ONCE, FRESH | THREADED | AT_ONCE, KEPT | THREADED | PARTITIONED | AT_ONCE } },
 };
 
 enum { LINES = sizeof lines / sizeof lines[0] };
@@ -115,7 +136,7 @@ static double of_round(uint64_t *times, enum turns turn, long rounds) {
 
 /* The sides play by turns, so that what else the machine does meets both. */
 static void time_line(const struct line *line, long asked) {
-  long rounds = asked / line->share < 2 * CREW ? 2 * CREW : asked / line->share;
+  long rounds = asked / line->share < 2 * MOST_CREW ? 2 * MOST_CREW : asked / line->share;
   size_t turn, way, ways = line->theirs == NULL ? 0 : line->way_count;
   uint64_t times[TURNS], their_times[MOST_WAYS][TURNS];
   double best = 0;

@@ -14,7 +14,8 @@
 enum {
   INNER_NODES = 3,     /* a data base, an area, a file: the path to the records */
   MOST_RECORDS = 1000, /* how many records a play can have */
-  CREW = 4             /* how many threads the crew has */
+  CREW = 4,            /* how many threads the crew has, where nothing else is said */
+  MOST_CREW = 16       /* and how many a crew can have */
 };
 
 /* How Berkeley DB is used. Where a line has several ways, its fastest is taken. */
@@ -58,8 +59,15 @@ play ours_wait, ours_wait_paired, theirs_wait_paired;
 /* Two that wait for each other: the younger aborts, the older goes on. */
 play ours_deadlock, ours_deadlock_paired, theirs_deadlock_paired;
 
-/* Short transactions by CREW threads, each on a record of its own. */
-play ours_crew, theirs_crew;
+/* Short transactions by CREW threads, each on a record of its own; and by so many. */
+play ours_crew, theirs_crew, theirs_crew_1, theirs_crew_16;
+
+/* The same through a shared table: a short transaction that writes, alone and beside a watcher that looks all the
+ * time; a wait and its grant; crews. Of the first two a count takes what the thread that writes does. */
+play table_write, table_watched, table_wait, table_crew_1, table_crew_4, table_crew_16;
+
+/* And with all of it in one call. */
+play table_once_4, table_once_16;
 
 /* Ends the program with status 1. */
 void fail(const char *what, const char *file, int line);

@@ -20,7 +20,7 @@ enum {
 static DB_ENV *env;
 static DB_LOCK_ILOCK names[NAMES];
 static DBT objects[NAMES];
-static u_int32_t lockers[CREW];
+static u_int32_t lockers[MOST_CREW];
 static size_t record_count;
 static unsigned way;
 static long rounds_each;
@@ -79,7 +79,7 @@ static void set_up(const struct scene *scene) {
   if (way & THREADED) flags |= DB_THREAD;
   done(env->open(env, NULL, flags, 0));
   for (i = 0; i < scene->others; i++) get_path(new_locker(), DB_LOCK_IWRITE);
-  for (i = 0; i < CREW; i++) lockers[i] = new_locker();
+  for (i = 0; i < MOST_CREW; i++) lockers[i] = new_locker();
 }
 
 static DB_LOCK_STAT statistics(void) {
@@ -252,18 +252,34 @@ static void work(size_t number) {
     if (way & FRESH) latch_on();
     locker = begin(number);
     if (way & FRESH) latch_off();
-    for (i = 0; i < INNER_NODES; i++) latched_get(locker, i, DB_LOCK_IWRITE);
-    latched_get(locker, FIRST_RECORD + number, DB_LOCK_WRITE);
+    if (way & AT_ONCE) {
+      get_at_once(locker, FIRST_RECORD + number, DB_LOCK_IWRITE, DB_LOCK_WRITE);
+    } else {
+      for (i = 0; i < INNER_NODES; i++) latched_get(locker, i, DB_LOCK_IWRITE);
+      latched_get(locker, FIRST_RECORD + number, DB_LOCK_WRITE);
+    }
     latch_on();
     commit(locker);
     latch_off();
   }
 }
 
-uint64_t theirs_crew(long rounds) {
+static uint64_t crew_of(size_t count, long rounds) {
   uint64_t taken;
-  rounds_each = rounds / CREW;
-  taken = together(CREW, work);
+  rounds_each = rounds / (long)count;
+  taken = together(count, work);
   WANT(statistics().st_lock_wait == 0);
   return taken;
+}
+
+uint64_t theirs_crew(long rounds) {
+  return crew_of(CREW, rounds);
+}
+
+uint64_t theirs_crew_1(long rounds) {
+  return crew_of(1, rounds);
+}
+
+uint64_t theirs_crew_16(long rounds) {
+  return crew_of(MOST_CREW, rounds);
 }

@@ -40,10 +40,10 @@ static void *run(void *argument) {
 }
 
 uint64_t together(size_t count, void (*body)(size_t number)) {
-  struct member members[CREW];
+  struct member members[MOST_CREW];
   uint64_t start;
   size_t i;
-  WANT(count <= CREW);
+  WANT(count <= MOST_CREW);
   WANT(pthread_barrier_init(&all, NULL, (unsigned)count + 1) == 0);
   WANT(pthread_barrier_init(&both, NULL, 2) == 0);
   for (i = 0; i < count; i++) {

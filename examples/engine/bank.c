@@ -17,15 +17,19 @@ bool same_node(bs_node a, bs_node b) {
 }
 
 void bank_open(struct bank *b, enum bs_detects detect) {
-  bs_manager *m = &b->store.manager;
-  store_open(&b->store, detect);
-  b->root = MUST(bs_add_inner(m, NULL, 0)).node;
-  b->table = MUST(bs_add_file(m, &b->root, 1)).node;
-  b->by_balance = MUST(bs_add_index(m, &b->root, 1, b->table, bounds, INTERVALS - 1)).node;
+  static const bs_table none = BS_NO_TABLE_HERE;
+  b->locks = none;
+  pthread_mutex_init(&b->mutex, NULL);
+  MUST(bs_table_make(&b->locks, detect, BS_YOUNGEST, BS_SLOTS));
+  if (detect == BS_BY_WATCHER) MUST(bs_table_watch_thread(&b->locks, 0));
+  b->root = MUST(bs_table_add_inner(&b->locks, NULL, 0)).node;
+  b->table = MUST(bs_table_add_file(&b->locks, &b->root, 1)).node;
+  b->by_balance = MUST(bs_table_add_index(&b->locks, &b->root, 1, b->table, bounds, INTERVALS - 1)).node;
 }
 
 void bank_close(struct bank *b) {
-  store_close(&b->store);
+  MUST(bs_table_end(&b->locks));
+  pthread_mutex_destroy(&b->mutex);
 }
 
 struct row *bank_row(struct bank *b, bs_node account) {
@@ -50,30 +54,30 @@ struct row *bank_free_row(struct bank *b) {
 }
 
 bs_node bank_interval_at(struct bank *b, size_t place) {
-  return MUST(bs_interval(&b->store.manager, b->by_balance, place)).node;
+  return MUST(bs_table_interval(&b->locks, b->by_balance, place)).node;
 }
 
 bs_node bank_interval_for(struct bank *b, uint64_t balance) {
-  return MUST(bs_interval_of(&b->store.manager, b->by_balance, balance)).node;
+  return MUST(bs_table_interval_of(&b->locks, b->by_balance, balance)).node;
 }
 
 bs_node bank_interval_of(struct bank *b, bs_node account) {
-  return MUST(bs_parent(&b->store.manager, account, PLACE_OF_INTERVAL)).node;
+  return MUST(bs_table_parent(&b->locks, account, PLACE_OF_INTERVAL)).node;
 }
 
 bs_node bank_account_from(struct bank *b, size_t place) {
   bs_node account;
-  store_latch(&b->store);
+  pthread_mutex_lock(&b->mutex);
   while (!b->rows[place].is_open) place = (place + 1) % MOST_ACCOUNTS;
   account = b->rows[place].account;
-  store_unlatch(&b->store);
+  pthread_mutex_unlock(&b->mutex);
   return account;
 }
 
 bool bank_next_account(struct bank *b, uint64_t *number, bs_node *account) {
   const struct row *next = NULL;
   size_t i;
-  store_latch(&b->store);
+  pthread_mutex_lock(&b->mutex);
   for (i = 0; i < MOST_ACCOUNTS; i++) {
     const struct row *row = &b->rows[i];
     if (!row->is_open || row->number <= *number) continue;
@@ -83,7 +87,7 @@ bool bank_next_account(struct bank *b, uint64_t *number, bs_node *account) {
     *number = next->number;
     *account = next->account;
   }
-  store_unlatch(&b->store);
+  pthread_mutex_unlock(&b->mutex);
   return next != NULL;
 }
 
@@ -95,47 +99,45 @@ static void add_up(struct totals *totals, const struct row *row) {
 struct totals bank_total(struct bank *b) {
   struct totals totals = { 0, 0 };
   size_t i;
-  store_latch(&b->store);
+  pthread_mutex_lock(&b->mutex);
   for (i = 0; i < MOST_ACCOUNTS; i++) {
     if (b->rows[i].is_open) add_up(&totals, &b->rows[i]);
   }
-  store_unlatch(&b->store);
+  pthread_mutex_unlock(&b->mutex);
   return totals;
 }
 
 struct totals bank_total_of_interval(struct bank *b, size_t place) {
   struct totals totals = { 0, 0 };
-  bs_node interval;
+  bs_node interval = bank_interval_at(b, place);
   size_t i;
-  store_latch(&b->store);
-  interval = bank_interval_at(b, place);
+  pthread_mutex_lock(&b->mutex);
   for (i = 0; i < MOST_ACCOUNTS; i++) {
     const struct row *row = &b->rows[i];
     if (row->is_open && same_node(bank_interval_of(b, row->account), interval)) add_up(&totals, row);
   }
-  store_unlatch(&b->store);
+  pthread_mutex_unlock(&b->mutex);
   return totals;
 }
 
 void bank_count(struct bank *b, uint64_t *counter) {
-  store_latch(&b->store);
+  pthread_mutex_lock(&b->mutex);
   ++*counter;
-  store_unlatch(&b->store);
+  pthread_mutex_unlock(&b->mutex);
 }
 
 void bank_check(struct bank *b, uint64_t sum) {
-  bs_manager *m = &b->store.manager;
   struct totals totals = bank_total(b);
   size_t i;
   if (totals.sum != sum) fail("wrong sum: at the end %" PRIu64 " in place of %" PRIu64, totals.sum, sum);
-  store_latch(&b->store);
+  pthread_mutex_lock(&b->mutex);
   for (i = 0; i < MOST_ACCOUNTS; i++) {
     const struct row *row = &b->rows[i];
     if (!row->is_open) continue;
     if (same_node(bank_interval_for(b, row->balance), bank_interval_of(b, row->account))) continue;
     fail("an account with %" PRIu64 " is in another interval", row->balance);
   }
-  if (MUST(bs_len(m)).count != NODES_ABOVE + totals.count) fail("there are records without rows");
-  if (MUST(bs_group(m, b->root)).mode != BS_NL) fail("somebody still holds a lock");
-  store_unlatch(&b->store);
+  if (MUST(bs_table_len(&b->locks)).count != NODES_ABOVE + totals.count) fail("there are records without rows");
+  if (MUST(bs_table_group(&b->locks, b->root)).mode != BS_NL) fail("somebody still holds a lock");
+  pthread_mutex_unlock(&b->mutex);
 }

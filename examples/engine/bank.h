@@ -1,5 +1,5 @@
 /*
- * bank.h: a table of accounts over a store. The lock graph has a data base, the table as its file, an index
+ * bank.h: a table of accounts under granular locks. The lock graph has a data base, the table as its file, an index
  * by balance with its intervals, and a record for each account; the rows are kept here, beside it.
  *
  *   data base --+-- table ------------------------+
@@ -11,27 +11,28 @@
 #ifndef BANK_H
 #define BANK_H
 
-#include "store.h"
+#include "burlapslate_shared.h"
 
 enum { MOST_ACCOUNTS = 32, INTERVALS = 4 };
 
 struct row {
   bool is_open;
-  bs_node account;
+  bs_node account; /* which lives as long as the row is open, and a little longer */
   uint64_t number; /* they rise, and none is given twice */
   uint64_t balance;
 };
 
 /* What was done, for the summary. */
 struct counts {
-  uint64_t transfers, no_account, opened, closed, rekeyed, audits, lists, escalations, released, victims;
+  uint64_t transfers, no_account, opened, closed, rekeyed, audits, lists, given_up;
 };
 
-/* All but the names of nodes is read and written under the latch, and a row by who has the lock that it
- * takes: the latch keeps a single step whole, and the locks a transaction. */
+/* All below the mutex is read and written under it, and a row by who has the lock that it takes: the mutex keeps a
+ * single step whole, and the locks a transaction. Nobody sleeps for a lock with the mutex held. */
 struct bank {
-  struct store store;
+  bs_table locks;
   bs_node root, table, by_balance;
+  pthread_mutex_t mutex;
   struct row rows[MOST_ACCOUNTS];
   uint64_t numbers; /* how many were given */
   struct counts counts;
@@ -60,7 +61,14 @@ struct totals bank_total_of_interval(struct bank *b, size_t place);
 
 void bank_count(struct bank *b, uint64_t *counter);
 
-/* These are called with the latch held. */
+/* The interval at a place, that of a balance, and that in which the record of an account lies now. */
+bs_node bank_interval_at(struct bank *b, size_t place);
+bs_node bank_interval_for(struct bank *b, uint64_t balance);
+bs_node bank_interval_of(struct bank *b, bs_node account);
+
+bool same_node(bs_node a, bs_node b);
+
+/* These are called with the mutex held. */
 
 /* The row of an account, or NULL. */
 struct row *bank_row(struct bank *b, bs_node account);
@@ -69,12 +77,5 @@ struct row *bank_row(struct bank *b, bs_node account);
 struct row *bank_locked_row(struct bank *b, bs_node account);
 
 struct row *bank_free_row(struct bank *b);
-
-/* The interval at a place, that of a balance, and that in which the record of an account lies now. */
-bs_node bank_interval_at(struct bank *b, size_t place);
-bs_node bank_interval_for(struct bank *b, uint64_t balance);
-bs_node bank_interval_of(struct bank *b, bs_node account);
-
-bool same_node(bs_node a, bs_node b);
 
 #endif

@@ -9,8 +9,8 @@ static void start(pthread_t *thread, void *(*run)(void *), void *arg) {
   if (pthread_create(thread, NULL, run, arg) != 0) fail("no thread for a story");
 }
 
-static void want(const char *story, enum ending ending, enum ending wanted) {
-  if (ending != wanted) fail("%s: %s in place of %s", story, ending_text(ending), ending_text(wanted));
+static void want(const char *story, bs_status status, bs_status wanted) {
+  if (status != wanted) fail("%s: %s in place of %s", story, bs_text(status), bs_text(wanted));
 }
 
 /* The account of a number that has one. */
@@ -19,6 +19,15 @@ static bs_node numbered(struct bank *b, uint64_t number) {
   number--;
   if (!bank_next_account(b, &number, &account)) fail("too few accounts for a story");
   return account;
+}
+
+static void rest(void) {
+  static const struct timespec moment = { 0, 100000 };
+  nanosleep(&moment, NULL);
+}
+
+static bool is_waiting(struct bank *b, bs_txn name) {
+  return bs_table_waiting(&b->locks, name).status == BS_WAITING;
 }
 
 /* ------------------------------------------------------------------------------------------------
@@ -31,54 +40,54 @@ struct follower {
   struct bank *bank;
   bs_node first, wanted;
   unsigned patience;
-  bs_txn name;
-  enum ending ending;
-  uint64_t before[ENDINGS]; /* how many waits had ended by then */
+  struct txn txn;
+  bs_status status;
+  bs_counts before; /* what had been done by then */
+  uint64_t given_up;
   pthread_t thread;
 };
 
 static void *run_follower(void *arg) {
   struct follower *f = arg;
-  struct store *s = &f->bank->store;
-  struct txn t = txn_begin(f->bank, f->patience);
-  enum ending ending;
-  store_latch(s);
-  f->name = t.name;
-  store_unlatch(s);
-  ending = txn_lock_account(&t, f->first, BS_X);
-  if (ending == GRANTED) ending = txn_lock_account(&t, f->wanted, BS_X);
-  f->ending = txn_end(&t, ending);
+  bs_status status = txn_lock_account(&f->txn, f->first, BS_X);
+  if (status == BS_DONE) status = txn_lock_account(&f->txn, f->wanted, BS_X);
+  f->status = txn_end(&f->txn, status);
   return NULL;
 }
 
 static void lead(struct follower *f, struct txn *leader) {
-  struct store *s = &f->bank->store;
-  size_t i;
   *leader = txn_begin(f->bank, FOR_EVER);
-  want(f->story, txn_lock_account(leader, f->wanted, BS_X), GRANTED);
-  store_latch(s);
-  for (i = 0; i < ENDINGS; i++) f->before[i] = s->ended[i];
-  store_unlatch(s);
+  want(f->story, txn_lock_account(leader, f->wanted, BS_X), BS_DONE);
+  f->txn = txn_begin(f->bank, f->patience);
+  f->given_up = f->bank->counts.given_up;
+  MUST(bs_table_counters(&f->bank->locks, &f->before));
   start(&f->thread, run_follower, f);
 }
 
 static void await_wait(struct follower *f) {
-  struct store *s = &f->bank->store;
-  store_latch(s);
-  while (!store_is_waiting(s, f->name)) store_await_news(s);
-  store_unlatch(s);
+  while (!is_waiting(f->bank, f->txn.name)) rest();
+}
+
+/* How many waits have ended so since the follower began. */
+static uint64_t ended(struct follower *f, bs_status of_wait) {
+  bs_counts now = { 0 };
+  MUST(bs_table_counters(&f->bank->locks, &now));
+  switch (of_wait) {
+    case BS_DONE: return now.granted_later - f->before.granted_later;
+    case BS_VICTIM: return now.victims - f->before.victims;
+    case BS_MOVED: return now.moved - f->before.moved;
+    case BS_GONE: return now.gone - f->before.gone;
+    default: return f->bank->counts.given_up - f->given_up;
+  }
 }
 
 /* The follower's wait must have ended so, and then its transaction so. */
-static void join(struct follower *f, enum ending of_wait, enum ending of_txn) {
-  struct store *s = &f->bank->store;
-  uint64_t ended;
+static void join(struct follower *f, bs_status of_wait, bs_status of_txn) {
+  uint64_t count;
   pthread_join(f->thread, NULL);
-  store_latch(s);
-  ended = s->ended[of_wait] - f->before[of_wait];
-  store_unlatch(s);
-  if (ended != 1) fail("%s: %" PRIu64 " waits ended so: %s", f->story, ended, ending_text(of_wait));
-  want(f->story, f->ending, of_txn);
+  count = ended(f, of_wait);
+  if (count != 1) fail("%s: %" PRIu64 " waits ended so: %s", f->story, count, bs_text(of_wait));
+  want(f->story, f->status, of_txn);
 }
 
 /* A commit lets the follower have the lock. */
@@ -87,8 +96,8 @@ static void a_wait_is_granted(struct bank *b) {
   struct txn leader;
   lead(&f, &leader);
   await_wait(&f);
-  want(f.story, txn_end(&leader, GRANTED), GRANTED);
-  join(&f, GRANTED, GRANTED);
+  want(f.story, txn_end(&leader, BS_DONE), BS_DONE);
+  join(&f, BS_DONE, BS_DONE);
 }
 
 /* The leader closes a cycle of waits, and the follower is the younger. */
@@ -97,9 +106,9 @@ static void a_wait_ends_as_a_victims(struct bank *b) {
   struct txn leader;
   lead(&f, &leader);
   await_wait(&f);
-  want(f.story, txn_lock_account(&leader, f.first, BS_X), GRANTED);
-  want(f.story, txn_end(&leader, GRANTED), GRANTED);
-  join(&f, VICTIM, VICTIM);
+  want(f.story, txn_lock_account(&leader, f.first, BS_X), BS_DONE);
+  want(f.story, txn_end(&leader, BS_DONE), BS_DONE);
+  join(&f, BS_VICTIM, BS_VICTIM);
 }
 
 /* The account comes to lie in another interval. The follower asks again, and has it. */
@@ -109,8 +118,8 @@ static void a_wait_is_moved(struct bank *b) {
   struct txn leader;
   lead(&f, &leader);
   await_wait(&f);
-  want(f.story, txn_end(&leader, move_money(&leader, &most)), GRANTED);
-  join(&f, MOVED, GRANTED);
+  want(f.story, txn_end(&leader, move_money(&leader, &most)), BS_DONE);
+  join(&f, BS_MOVED, BS_DONE);
 }
 
 /* The account is closed, and the follower has nothing to do any more. */
@@ -122,8 +131,8 @@ static void a_wait_for_what_goes(struct bank *b) {
   await_wait(&f);
   leader.closes = true;
   leader.closed = f.wanted;
-  want(f.story, txn_end(&leader, move_money(&leader, &all)), GRANTED);
-  join(&f, GONE, GONE);
+  want(f.story, txn_end(&leader, move_money(&leader, &all)), BS_DONE);
+  join(&f, BS_GONE, BS_GONE);
 }
 
 /* The leader keeps its lock until the follower has lost patience. */
@@ -132,8 +141,8 @@ static void a_wait_takes_too_long(struct bank *b) {
   struct txn leader;
   f.patience = 1;
   lead(&f, &leader);
-  join(&f, GAVE_UP, GAVE_UP);
-  want(f.story, txn_end(&leader, GRANTED), GRANTED);
+  join(&f, BS_TIMED_OUT, BS_TIMED_OUT);
+  want(f.story, txn_end(&leader, BS_DONE), BS_DONE);
 }
 
 void led_waits(struct bank *b) {
@@ -152,40 +161,41 @@ struct payment {
   struct bank *bank;
   struct order order;
   struct payment *other;
-  bs_txn name;
-  bool has_read;
+  struct txn txn;
+  bool has_read; /* under the mutex of the bank */
   pthread_t thread;
 };
+
+static bool has_read(struct payment *p) {
+  bool has;
+  pthread_mutex_lock(&p->bank->mutex);
+  has = p->has_read;
+  pthread_mutex_unlock(&p->bank->mutex);
+  return has;
+}
 
 /* Between its reading and its writing a payment lets the other come as far as it can: until that has read
  * too, or waits for a lock. */
 static void let_the_other_read(void *arg) {
   struct payment *p = arg;
-  struct store *s = &p->bank->store;
-  store_latch(s);
+  pthread_mutex_lock(&p->bank->mutex);
   p->has_read = true;
-  store_tell_news(s);
-  while (!p->other->has_read && !store_is_waiting(s, p->other->name)) store_await_news(s);
-  store_unlatch(s);
+  pthread_mutex_unlock(&p->bank->mutex);
+  while (!has_read(p->other) && !is_waiting(p->bank, p->other->txn.name)) rest();
 }
 
 static void *pay(void *arg) {
   struct payment *p = arg;
-  struct store *s = &p->bank->store;
-  struct txn t = txn_begin(p->bank, FOR_EVER);
-  store_latch(s);
-  p->name = t.name;
-  store_unlatch(s);
-  want("payment", txn_end(&t, move_money(&t, &p->order)), GRANTED);
+  want("payment", txn_end(&p->txn, move_money(&p->txn, &p->order)), BS_DONE);
   return NULL;
 }
 
 static uint64_t balance_of(struct bank *b, bs_node account) {
   struct txn t = txn_begin(b, FOR_EVER);
   uint64_t balance;
-  want("balance", txn_lock_account(&t, account, BS_S), GRANTED);
+  want("balance", txn_lock_account(&t, account, BS_S), BS_DONE);
   balance = txn_read(&t, account);
-  want("balance", txn_end(&t, GRANTED), GRANTED);
+  want("balance", txn_end(&t, BS_DONE), BS_DONE);
   return balance;
 }
 
@@ -199,6 +209,7 @@ void led_payments(struct bank *b, bool skips_lock) {
   for (i = 0; i < 2; i++) {
     payments[i].other = &payments[1 - i];
     payments[i].order.arg = &payments[i];
+    payments[i].txn = txn_begin(b, FOR_EVER);
   }
   for (i = 0; i < 2; i++) start(&payments[i].thread, pay, &payments[i]);
   for (i = 0; i < 2; i++) pthread_join(payments[i].thread, NULL);

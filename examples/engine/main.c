@@ -11,7 +11,6 @@
  */
 #include "check.h"
 #include "led.h"
-#include "watcher.h"
 #include "work.h"
 
 #include <inttypes.h>
@@ -62,8 +61,8 @@ static bs_node any_account(struct worker *w) {
 }
 
 /* Whether a transaction that was rolled back is to begin again. */
-static bool is_to_repeat(enum ending ending) {
-  return ending == VICTIM || ending == GAVE_UP;
+static bool is_to_repeat(bs_status status) {
+  return status == BS_VICTIM || status == BS_TIMED_OUT;
 }
 
 static struct order any_order(struct worker *w) {
@@ -92,11 +91,11 @@ static void *run_branch(void *arg) {
   for (i = 0; i < CHANGES; i++) {
     struct order o = any_order(w);
     unsigned patience = PATIENCE;
-    enum ending ending = GAVE_UP;
+    bs_status status = BS_TIMED_OUT;
     while (same_node(o.from, o.to)) o.to = any_account(w);
-    for (; is_to_repeat(ending); patience = FOR_EVER) {
-      if (i % 8 < 4) ending = open_account(w->bank, o.from, o.amount, patience);
-      else ending = close_account(w->bank, o.from, o.to, patience);
+    for (; is_to_repeat(status); patience = FOR_EVER) {
+      if (i % 8 < 4) status = open_account(w->bank, o.from, o.amount, patience);
+      else status = close_account(w->bank, o.from, o.to, patience);
     }
   }
   return NULL;
@@ -156,21 +155,22 @@ static void print_line(const struct item *items, size_t count) {
   putchar('\n');
 }
 
-static void print_summary(const struct bank *b) {
+static void print_summary(struct bank *b) {
   const struct counts *c = &b->counts;
-  const uint64_t *ended = b->store.ended;
+  bs_counts locks = { 0 };
+  MUST(bs_table_counters(&b->locks, &locks));
   const struct item writes[] = {
     { "transfers", c->transfers }, { "of a closed account", c->no_account }, { "opened", c->opened },
     { "closed", c->closed }, { "rekeyed", c->rekeyed }
   };
   const struct item reads[] = {
-    { "reads of the table", c->audits }, { "escalations", c->escalations },
-    { "locks released by them", c->released }, { "reads of an interval", c->lists }
+    { "reads of the table", c->audits }, { "escalations", locks.escalations },
+    { "locks released by them", locks.released_children }, { "reads of an interval", c->lists }
   };
   const struct item waits[] = {
-    { "waits", b->store.waits }, { "granted", ended[GRANTED] }, { "victims", ended[VICTIM] },
-    { "moved", ended[MOVED] }, { "gone", ended[GONE] }, { "given up", ended[GAVE_UP] },
-    { "victims with those told at once", c->victims }
+    { "waits", locks.waited }, { "granted", locks.granted_later }, { "victims", locks.victims },
+    { "moved", locks.moved }, { "gone", locks.gone }, { "given up", c->given_up },
+    { "the longest queue", locks.longest_queue }
   };
   print_line(writes, sizeof writes / sizeof writes[0]);
   print_line(reads, sizeof reads / sizeof reads[0]);
@@ -180,18 +180,15 @@ static void print_summary(const struct bank *b) {
 int main(int count, char **word) {
   static struct bank bank;
   struct words words = { false, false };
-  struct watcher watcher;
   if (!read_words(count, word, &words)) {
     fputs("usage: engine [--watch] [--skip-lock]\n", stderr);
     return 2;
   }
   bank_open(&bank, words.watch ? BS_BY_WATCHER : BS_AT_BLOCK);
-  if (words.watch) watcher_start(&watcher, &bank.store);
   found_accounts(&bank);
   led_waits(&bank);
   led_payments(&bank, words.skip_lock);
   run_crowd(&bank);
-  if (words.watch) watcher_stop(&watcher);
   bank_check(&bank, FOUNDERS * FIRST_BALANCE);
   print_summary(&bank);
   bank_close(&bank);

@@ -3,201 +3,167 @@
 #include "check.h"
 
 /* ------------------------------------------------------------------------------------------------
- * Locks, with the latch held.
+ * Locks.
  */
 
-static enum ending ask(struct txn *t, bs_node node, bs_mode mode) {
-  return store_lock(&t->bank->store, t->name, node, mode, t->patience);
-}
-
-/* Locks a node from the root down: to read it takes an intention on one parent, to write it on all. */
-static enum ending lock_from_root(struct txn *t, bs_node node, bs_mode mode) {
-  bool reads = mode == BS_IS || mode == BS_S;
-  size_t place, most = reads ? 1 : BS_MOST_PARENTS;
-  for (place = 0; place < most; place++) {
-    bs_reply parent = bs_parent(&t->bank->store.manager, node, place);
-    enum ending ending;
-    if (parent.status != BS_DONE) break; /* It has no more. */
-    ending = lock_from_root(t, parent.node, reads ? BS_IS : BS_IX);
-    if (ending != GRANTED) return ending;
+static struct timespec moment_in(unsigned milliseconds) {
+  struct timespec moment;
+  clock_gettime(CLOCK_MONOTONIC, &moment);
+  moment.tv_sec += milliseconds / 1000;
+  moment.tv_nsec += milliseconds % 1000 * 1000000L;
+  if (moment.tv_nsec >= 1000000000L) {
+    moment.tv_sec++;
+    moment.tv_nsec -= 1000000000L;
   }
-  return ask(t, node, mode);
+  return moment;
 }
 
-/* During a wait the record may move to another interval, and only then: the latch is free. */
-static enum ending lock_record(struct txn *t, bs_node account, bs_mode mode) {
-  enum ending ending;
-  uint64_t waits;
-  do {
-    waits = t->bank->store.waits;
-    ending = lock_from_root(t, account, mode);
-    if (ending == MOVED && t->bank->store.waits == waits) fail("a record moved without a wait");
-  } while (ending == MOVED);
-  return ending;
+/* Locks a node, with the intentions above it. */
+static bs_status lock(struct txn *t, bs_node node, bs_mode mode) {
+  struct timespec until = moment_in(t->patience);
+  const struct timespec *limit = t->patience == FOR_EVER ? NULL : &until;
+  bs_reply reply = bs_table_lock_path(&t->bank->locks, t->name, node, mode, limit);
+  switch (reply.status) {
+    case BS_VICTIM: case BS_GONE: return reply.status;
+    case BS_NO_SUCH_NODE: return BS_GONE; /* It went before it was asked for. */
+    case BS_TIMED_OUT: bank_count(t->bank, &t->bank->counts.given_up); return BS_TIMED_OUT;
+    default: return must(reply, "bs_table_lock_path").status;
+  }
 }
 
-static bs_reply escalate(struct txn *t) {
-  struct store *s = &t->bank->store;
-  bs_reply reply = bs_escalate(&s->manager, t->name, t->bank->table, &s->told);
-  store_deliver(s);
-  return reply;
+bs_status txn_lock_account(struct txn *t, bs_node account, bs_mode mode) {
+  return lock(t, account, mode);
+}
+
+bs_status txn_lock_interval(struct txn *t, size_t place) {
+  return lock(t, bank_interval_at(t->bank, place), BS_S);
 }
 
 /* Trades locks on accounts for one on the table: at once, or after a wait for those who write there. */
-static enum ending escalate_or_wait(struct txn *t) {
-  enum ending ending = lock_from_root(t, t->bank->table, BS_IS);
+bs_status txn_lock_table(struct txn *t) {
+  struct bank *b = t->bank;
+  bs_status status = lock(t, b->table, BS_IS);
   bs_reply reply;
-  if (ending != GRANTED) return ending;
-  reply = escalate(t);
+  if (status != BS_DONE) return status;
+  reply = bs_table_escalate(&b->locks, t->name, b->table, NULL);
   if (reply.status == BS_WOULD_BLOCK) {
-    ending = ask(t, t->bank->table, BS_S);
-    if (ending != GRANTED) return ending;
-    reply = escalate(t);
+    status = lock(t, b->table, BS_S);
+    if (status != BS_DONE) return status;
+    reply = bs_table_escalate(&b->locks, t->name, b->table, NULL);
   }
-  must(reply, "bs_escalate");
-  t->bank->counts.escalations++;
-  t->bank->counts.released += reply.released;
-  return GRANTED;
+  return must(reply, "bs_table_escalate").status;
 }
 
 /* ------------------------------------------------------------------------------------------------
- * Commits and roll-backs, with the latch held.
+ * Rows.
+ */
+
+uint64_t txn_read(struct txn *t, bs_node account) {
+  uint64_t balance;
+  pthread_mutex_lock(&t->bank->mutex);
+  balance = bank_locked_row(t->bank, account)->balance;
+  pthread_mutex_unlock(&t->bank->mutex);
+  return balance;
+}
+
+static void set_balance(struct bank *b, bs_node account, uint64_t balance) {
+  pthread_mutex_lock(&b->mutex);
+  bank_locked_row(b, account)->balance = balance;
+  pthread_mutex_unlock(&b->mutex);
+}
+
+void txn_write(struct txn *t, bs_node account, uint64_t balance) {
+  if (t->writes == MOST_WRITES) fail("a transaction writes too much");
+  t->undo[t->writes].account = account;
+  t->undo[t->writes].balance = txn_read(t, account);
+  t->writes++;
+  set_balance(t->bank, account, balance);
+}
+
+/* ------------------------------------------------------------------------------------------------
+ * Commits and roll-backs.
  */
 
 /* A record needs an intention to write on the interval to which it comes. */
-static enum ending lock_new_intervals(struct txn *t) {
+static bs_status lock_new_intervals(struct txn *t) {
   struct bank *b = t->bank;
-  enum ending ending = GRANTED;
+  bs_status status = BS_DONE;
   size_t i;
-  for (i = 0; i < t->writes && ending == GRANTED; i++) {
-    const struct row *row = bank_locked_row(b, t->undo[i].account);
-    ending = lock_from_root(t, bank_interval_for(b, row->balance), BS_IX);
+  for (i = 0; i < t->writes && status == BS_DONE; i++) {
+    status = lock(t, bank_interval_for(b, txn_read(t, t->undo[i].account)), BS_IX);
   }
-  if (t->opens && ending == GRANTED) ending = lock_from_root(t, b->table, BS_IX);
-  if (t->opens && ending == GRANTED) ending = lock_from_root(t, bank_interval_for(b, t->deposit), BS_IX);
-  return ending;
+  if (t->opens && status == BS_DONE) status = lock(t, b->table, BS_IX);
+  if (t->opens && status == BS_DONE) status = lock(t, bank_interval_for(b, t->deposit), BS_IX);
+  return status;
 }
 
+/* The record comes before the row, so that each row has its record. */
 static void insert_opened(struct txn *t) {
   struct bank *b = t->bank;
-  struct row *row = bank_free_row(b);
-  row->account = MUST(bs_insert(&b->store.manager, t->name, b->table, &t->deposit, 1)).node;
+  bs_node account = MUST(bs_table_insert(&b->locks, t->name, b->table, &t->deposit, 1)).node;
+  struct row *row;
+  pthread_mutex_lock(&b->mutex);
+  row = bank_free_row(b);
+  row->account = account;
   row->number = ++b->numbers;
   row->balance = t->deposit;
   row->is_open = true;
+  pthread_mutex_unlock(&b->mutex);
 }
 
-/* Whoever waits for the record is told that it is gone. */
+/* The row goes before the record. Whoever waits for the record is told that it is gone. */
 static void delete_closed(struct txn *t) {
-  struct store *s = &t->bank->store;
-  struct row *row = bank_locked_row(t->bank, t->closed);
-  if (row->balance != 0) fail("an account that has money is closed");
-  MUST(bs_delete(&s->manager, t->name, t->closed, &s->told));
-  store_deliver(s);
-  row->is_open = false;
+  struct bank *b = t->bank;
+  if (txn_read(t, t->closed) != 0) fail("an account that has money is closed");
+  pthread_mutex_lock(&b->mutex);
+  bank_locked_row(b, t->closed)->is_open = false;
+  pthread_mutex_unlock(&b->mutex);
+  MUST(bs_table_delete(&b->locks, t->name, t->closed, NULL));
 }
 
 /* A record moves where its balance has come to belong to another interval. Whoever waits for it with an
- * intention on the old interval alone is told that it moved. */
+ * intention on the old interval alone asks again. */
 static void rekey_written(struct txn *t) {
   struct bank *b = t->bank;
-  struct store *s = &b->store;
   size_t i;
   for (i = 0; i < t->writes; i++) {
-    const struct row *row = bank_row(b, t->undo[i].account);
-    if (row == NULL) continue; /* It was closed. */
-    if (same_node(bank_interval_for(b, row->balance), bank_interval_of(b, row->account))) continue;
-    MUST(bs_rekey(&s->manager, t->name, row->account, b->by_balance, row->balance, &s->told));
-    store_deliver(s);
-    b->counts.rekeyed++;
+    bs_node account = t->undo[i].account;
+    uint64_t balance;
+    if (t->closes && same_node(account, t->closed)) continue;
+    balance = txn_read(t, account);
+    if (same_node(bank_interval_for(b, balance), bank_interval_of(b, account))) continue;
+    MUST(bs_table_rekey(&b->locks, t->name, account, b->by_balance, balance, NULL));
+    bank_count(b, &b->counts.rekeyed);
   }
 }
 
 /* Behind the last lock nothing is waited for, so nobody condemns the transaction any more. */
-static enum ending commit(struct txn *t) {
-  struct store *s = &t->bank->store;
-  enum ending ending = lock_new_intervals(t);
-  if (ending != GRANTED) return ending;
+static bs_status commit(struct txn *t) {
+  bs_status status = lock_new_intervals(t);
+  if (status != BS_DONE) return status;
   if (t->opens) insert_opened(t);
   if (t->closes) delete_closed(t);
   rekey_written(t);
-  MUST(bs_commit(&s->manager, t->name, &s->told));
-  store_deliver(s);
-  return GRANTED;
+  return MUST(bs_table_commit(&t->bank->locks, t->name, NULL)).status;
 }
 
 /* Takes back what was written, the last first, while the locks still keep others away; then releases. */
 static void roll_back(struct txn *t) {
-  struct store *s = &t->bank->store;
   while (t->writes > 0) {
     const struct undo *last = &t->undo[--t->writes];
-    bank_locked_row(t->bank, last->account)->balance = last->balance;
+    set_balance(t->bank, last->account, last->balance);
   }
-  MUST(bs_abort(&s->manager, t->name, &s->told));
-  store_deliver(s);
+  MUST(bs_table_abort(&t->bank->locks, t->name, NULL));
 }
-
-/* ------------------------------------------------------------------------------------------------
- * What others call. The latch is free between these.
- */
 
 struct txn txn_begin(struct bank *b, unsigned patience) {
   struct txn t = { .bank = b, .patience = patience };
-  store_latch(&b->store);
-  t.name = MUST(bs_begin(&b->store.manager)).txn;
-  store_unlatch(&b->store);
+  t.name = MUST(bs_table_begin(&b->locks)).txn;
   return t;
 }
 
-enum ending txn_end(struct txn *t, enum ending ending) {
-  store_latch(&t->bank->store);
-  if (ending == GRANTED) ending = commit(t);
-  if (ending != GRANTED) roll_back(t);
-  if (ending == VICTIM) t->bank->counts.victims++;
-  store_unlatch(&t->bank->store);
-  return ending;
-}
-
-enum ending txn_lock_account(struct txn *t, bs_node account, bs_mode mode) {
-  enum ending ending;
-  store_latch(&t->bank->store);
-  ending = lock_record(t, account, mode);
-  store_unlatch(&t->bank->store);
-  return ending;
-}
-
-enum ending txn_lock_interval(struct txn *t, size_t place) {
-  enum ending ending;
-  store_latch(&t->bank->store);
-  ending = lock_from_root(t, bank_interval_at(t->bank, place), BS_S);
-  store_unlatch(&t->bank->store);
-  return ending;
-}
-
-enum ending txn_lock_table(struct txn *t) {
-  enum ending ending;
-  store_latch(&t->bank->store);
-  ending = escalate_or_wait(t);
-  store_unlatch(&t->bank->store);
-  return ending;
-}
-
-uint64_t txn_read(struct txn *t, bs_node account) {
-  uint64_t balance;
-  store_latch(&t->bank->store);
-  balance = bank_locked_row(t->bank, account)->balance;
-  store_unlatch(&t->bank->store);
-  return balance;
-}
-
-void txn_write(struct txn *t, bs_node account, uint64_t balance) {
-  struct row *row;
-  store_latch(&t->bank->store);
-  row = bank_locked_row(t->bank, account);
-  if (t->writes == MOST_WRITES) fail("a transaction writes too much");
-  t->undo[t->writes].account = account;
-  t->undo[t->writes].balance = row->balance;
-  t->writes++;
-  row->balance = balance;
-  store_unlatch(&t->bank->store);
+bs_status txn_end(struct txn *t, bs_status status) {
+  if (status == BS_DONE) status = commit(t);
+  if (status != BS_DONE) roll_back(t);
+  return status;
 }

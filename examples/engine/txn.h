@@ -2,6 +2,9 @@
  * txn.h: transactions over a bank. A transaction writes rows as it goes, and keeps what they were. What
  * changes the lock graph it only notes, and its commit carries that out when all locks are held: whoever is
  * condemned can do nothing but abort, and could not take such a change back.
+ *
+ * What is answered is BS_DONE, or why the transaction is to be rolled back: BS_VICTIM, to end a deadlock; BS_GONE,
+ * the account is no more; BS_TIMED_OUT, it took longer than its patience.
  */
 #ifndef TXN_H
 #define TXN_H
@@ -9,6 +12,9 @@
 #include "bank.h"
 
 enum { MOST_WRITES = 4 };
+
+/* The patience of who waits as long as it takes. */
+enum { FOR_EVER = 0 };
 
 /* What an account had before a write. */
 struct undo {
@@ -19,7 +25,7 @@ struct undo {
 struct txn {
   struct bank *bank;
   bs_txn name;
-  unsigned patience; /* of each wait */
+  unsigned patience; /* of each wait, in milliseconds */
   size_t writes;
   struct undo undo[MOST_WRITES];
   bool opens;        /* an account, with this deposit */
@@ -30,17 +36,17 @@ struct txn {
 
 struct txn txn_begin(struct bank *b, unsigned patience);
 
-/* Commits where all went well so far, else rolls back. GRANTED: it is committed; a commit may have to wait
+/* Commits where all went well so far, else rolls back. BS_DONE: it is committed; a commit may have to wait
  * for locks too. */
-enum ending txn_end(struct txn *t, enum ending ending);
+bs_status txn_end(struct txn *t, bs_status status);
 
 /* Locks an account in BS_S or BS_X. */
-enum ending txn_lock_account(struct txn *t, bs_node account, bs_mode mode);
+bs_status txn_lock_account(struct txn *t, bs_node account, bs_mode mode);
 
 /* Lock all accounts of an interval, or all, to read: until the end none of them changes, and none comes or
  * goes. The lock on the table takes the place of those on accounts that were read before. */
-enum ending txn_lock_interval(struct txn *t, size_t place);
-enum ending txn_lock_table(struct txn *t);
+bs_status txn_lock_interval(struct txn *t, size_t place);
+bs_status txn_lock_table(struct txn *t);
 
 /* The transaction has the lock that this takes. */
 uint64_t txn_read(struct txn *t, bs_node account);

@@ -14,58 +14,58 @@ void let_others_run(void *unused) {
 }
 
 /* Ends a transaction, and counts it where it is committed. */
-static enum ending finish(struct txn *t, enum ending ending, uint64_t *counter) {
-  ending = txn_end(t, ending);
-  if (ending == GRANTED) bank_count(t->bank, counter);
-  return ending;
+static bs_status finish(struct txn *t, bs_status status, uint64_t *counter) {
+  status = txn_end(t, status);
+  if (status == BS_DONE) bank_count(t->bank, counter);
+  return status;
 }
 
 /* ------------------------------------------------------------------------------------------------
  * Writers.
  */
 
-enum ending move_money(struct txn *t, const struct order *o) {
+bs_status move_money(struct txn *t, const struct order *o) {
   uint64_t balance, amount;
-  enum ending ending = txn_lock_account(t, o->from, BS_X);
-  if (ending != GRANTED) return ending;
+  bs_status status = txn_lock_account(t, o->from, BS_X);
+  if (status != BS_DONE) return status;
   balance = txn_read(t, o->from);
   amount = o->amount < balance ? o->amount : balance;
   txn_write(t, o->from, balance - amount);
-  if (!o->skips_lock) ending = txn_lock_account(t, o->to, BS_X);
-  if (ending != GRANTED) return ending;
+  if (!o->skips_lock) status = txn_lock_account(t, o->to, BS_X);
+  if (status != BS_DONE) return status;
   balance = txn_read(t, o->to);
   o->between(o->arg);
   txn_write(t, o->to, balance + amount);
-  return GRANTED;
+  return BS_DONE;
 }
 
-enum ending transfer(struct bank *b, const struct order *o) {
+bs_status transfer(struct bank *b, const struct order *o) {
   struct txn t = txn_begin(b, FOR_EVER);
-  enum ending ending = finish(&t, move_money(&t, o), &b->counts.transfers);
-  if (ending == GONE) bank_count(b, &b->counts.no_account);
-  return ending;
+  bs_status status = finish(&t, move_money(&t, o), &b->counts.transfers);
+  if (status == BS_GONE) bank_count(b, &b->counts.no_account);
+  return status;
 }
 
 void found_account(struct bank *b, uint64_t balance) {
   struct txn t = txn_begin(b, FOR_EVER);
   t.opens = true;
   t.deposit = balance;
-  if (txn_end(&t, GRANTED) != GRANTED) fail("an account was not founded");
+  if (txn_end(&t, BS_DONE) != BS_DONE) fail("an account was not founded");
 }
 
-enum ending open_account(struct bank *b, bs_node donor, uint64_t deposit, unsigned patience) {
+bs_status open_account(struct bank *b, bs_node donor, uint64_t deposit, unsigned patience) {
   struct txn t = txn_begin(b, patience);
-  enum ending ending = txn_lock_account(&t, donor, BS_X);
-  if (ending == GRANTED) {
+  bs_status status = txn_lock_account(&t, donor, BS_X);
+  if (status == BS_DONE) {
     uint64_t balance = txn_read(&t, donor);
     t.opens = true;
     t.deposit = deposit < balance ? deposit : balance;
     txn_write(&t, donor, balance - t.deposit);
   }
-  return finish(&t, ending, &b->counts.opened);
+  return finish(&t, status, &b->counts.opened);
 }
 
-enum ending close_account(struct bank *b, bs_node account, bs_node heir, unsigned patience) {
+bs_status close_account(struct bank *b, bs_node account, bs_node heir, unsigned patience) {
   struct order all = { account, heir, UINT64_MAX, let_others_run, NULL, false };
   struct txn t = txn_begin(b, patience);
   t.closes = true;
@@ -84,22 +84,22 @@ static void read_one(struct txn *t, bs_node account, struct totals *totals) {
 
 /* Reads the accounts by their numbers, the first few under a lock on each, the rest under one on the table.
  * New numbers are the highest, so before it has that lock no account can come in behind the reader. */
-static enum ending read_all(struct txn *t, struct totals *totals) {
+static bs_status read_all(struct txn *t, struct totals *totals) {
   uint64_t number = 0;
   size_t locks = 0;
   bs_node account;
-  enum ending ending;
+  bs_status status;
   while (locks < LOCKS_BEFORE_ESCALATION && bank_next_account(t->bank, &number, &account)) {
-    ending = txn_lock_account(t, account, BS_S);
-    if (ending == GONE) continue; /* It was closed meanwhile. */
-    if (ending != GRANTED) return ending;
+    status = txn_lock_account(t, account, BS_S);
+    if (status == BS_GONE) continue; /* It was closed meanwhile. */
+    if (status != BS_DONE) return status;
     read_one(t, account, totals);
     locks++;
   }
-  ending = txn_lock_table(t);
-  if (ending != GRANTED) return ending;
+  status = txn_lock_table(t);
+  if (status != BS_DONE) return status;
   while (bank_next_account(t->bank, &number, &account)) read_one(t, account, totals);
-  return GRANTED;
+  return BS_DONE;
 }
 
 /* What a transaction has read it must read again. */
@@ -109,25 +109,25 @@ static void want_same(const char *what, struct totals first, struct totals again
        first.count, first.sum, again.count, again.sum);
 }
 
-enum ending audit(struct bank *b, uint64_t sum) {
+bs_status audit(struct bank *b, uint64_t sum) {
   struct txn t = txn_begin(b, FOR_EVER);
   struct totals totals = { 0, 0 };
-  enum ending ending = read_all(&t, &totals);
-  if (ending == GRANTED) {
+  bs_status status = read_all(&t, &totals);
+  if (status == BS_DONE) {
     if (totals.sum != sum) fail("wrong sum: read %" PRIu64 " in place of %" PRIu64, totals.sum, sum);
     let_others_run(NULL);
     want_same("the table", totals, bank_total(b));
   }
-  return finish(&t, ending, &b->counts.audits);
+  return finish(&t, status, &b->counts.audits);
 }
 
-enum ending list_interval(struct bank *b, size_t place) {
+bs_status list_interval(struct bank *b, size_t place) {
   struct txn t = txn_begin(b, FOR_EVER);
-  enum ending ending = txn_lock_interval(&t, place);
-  if (ending == GRANTED) {
+  bs_status status = txn_lock_interval(&t, place);
+  if (status == BS_DONE) {
     struct totals totals = bank_total_of_interval(b, place);
     let_others_run(NULL);
     want_same("an interval", totals, bank_total_of_interval(b, place));
   }
-  return finish(&t, ending, &b->counts.lists);
+  return finish(&t, status, &b->counts.lists);
 }

@@ -19,15 +19,16 @@ static enum action what_to_do(bs_status status) {
   switch ((enum bs_statuses)status) {
     case BS_DONE: case BS_NO_PLACE: case BS_NOT_WAITING: return GO_ON;
     case BS_WAITING: return SLEEP;
-    case BS_NEED_PARENTS: case BS_NO_SUCH_NODE: return LOOK_AGAIN;
+    case BS_NEED_PARENTS: case BS_NO_SUCH_NODE: case BS_MOVED: case BS_GONE: return LOOK_AGAIN;
     case BS_WOULD_BLOCK: return DO_WITHOUT;
-    case BS_VICTIM: case BS_TXN_CONDEMNED: case BS_NO_MEMORY: return ROLL_BACK;
+    case BS_VICTIM: case BS_TXN_CONDEMNED: case BS_NO_MEMORY: case BS_TIMED_OUT: return ROLL_BACK;
     case BS_NO_SUCH_TXN: return LEAVE;
-    case BS_TOO_MANY_TXNS: case BS_TOO_MANY_NODES: return MAKE_ROOM;
+    case BS_TOO_MANY_TXNS: case BS_TOO_MANY_NODES: case BS_TOO_MANY_WATCHERS: return MAKE_ROOM;
     case BS_WORN_OUT: return CLOSE;
     case BS_TXN_WAITING: case BS_BAD_MODE: case BS_NOT_HELD: case BS_HELD_CHILD: return MEND;
     case BS_BAD_PARENTS: case BS_NEED_EXCLUSIVE: case BS_FILE_IN_USE: case BS_BAD_KEYS: return MEND;
     case BS_CYCLE: case BS_NULL_POINTER: case BS_NO_MANAGER: case BS_BAD_NUMBER: case BS_IN_USE: return MEND;
+    case BS_NO_WATCHER: return MEND;
     case BS_NAME_TAKEN: case BS_BAD_LINE: return MEND; /* Not answered to C. */
   }
   return MEND;

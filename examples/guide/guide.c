@@ -87,6 +87,8 @@ static void tell(const char *name, void (*topic)(void)) {
 
 int main(void) {
   setvbuf(stdout, NULL, _IONBF, 0);
+  TELL(sessions_in_threads);
+  TELL(several_in_one_hold);
   TELL(which_node_for_what);
   TELL(pages_as_records);
   TELL(more_rows_than_nodes);
@@ -104,6 +106,7 @@ int main(void) {
   TELL(deadlocks_at_block);
   TELL(whom_a_deadlock_takes);
   TELL(old_boards_do_no_harm);
+  TELL(a_watcher_of_your_own);
   TELL(another_choice_of_victims);
   TELL(waits_that_are_too_old);
   TELL(a_thread_that_died);

@@ -41,6 +41,10 @@ bool is_empty(bs_slots slots);
 /* The next of a row of numbers that looks like chance. */
 uint64_t roll(uint64_t *dice);
 
+/* tables.c */
+void sessions_in_threads(void);
+void several_in_one_hold(void);
+
 /* nodes.c */
 void which_node_for_what(void);
 void pages_as_records(void);
@@ -69,6 +73,9 @@ void what_each_answer_asks(void);
 void deadlocks_at_block(void);
 void whom_a_deadlock_takes(void);
 void old_boards_do_no_harm(void);
+
+/* watcher.c */
+void a_watcher_of_your_own(void);
 
 /* policy.c */
 void another_choice_of_victims(void);

@@ -1,6 +1,6 @@
 /*
- * A watcher with a choice of victims of its own: whoever holds the fewest rows gives way. The store of
- * examples/engine has the latch and the seats.
+ * A watcher with a choice of victims of its own: whoever holds the fewest rows gives way. The store has
+ * the latch and the seats.
  */
 #include "guide.h"
 

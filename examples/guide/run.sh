@@ -20,5 +20,5 @@ mapfile -t libraries < <(tools/c_library.sh 2>"$work/log")
 
 # shellcheck disable=SC2086 # CC may have words behind the name.
 $compiler -std=c99 -D_POSIX_C_SOURCE=200809L -pthread -Wall -Wextra -Werror -O1 -Iinclude -Iexamples/engine \
-  -o "$work/guide" examples/guide/*.c examples/engine/store.c examples/engine/check.c "${libraries[@]}" || exit 1
+  -o "$work/guide" examples/guide/*.c examples/engine/check.c "${libraries[@]}" || exit 1
 timeout 60 "$work/guide" || exit 1

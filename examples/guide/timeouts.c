@@ -1,6 +1,5 @@
 /*
- * A thread that takes back the waits that are too old. The store of examples/engine has the latch and the
- * seats.
+ * A thread that takes back the waits that are too old. The store has the latch and the seats.
  */
 #include "guide.h"
 

@@ -1,7 +1,8 @@
 #!/usr/bin/env bash
-# run.sh: compiles the stories over the C library, runs them, and compiles the header as C++. Prints a line
-# for each story. Ends with status 1 where something is not as wanted; where there is no C compiler it
-# says so, and ends with status 0. CC and CXX name other compilers than cc and c++.
+# run.sh: compiles the stories over the C library, runs them, and compiles the headers as C++. Prints a line
+# for each story, of one thread and of a shared table, and for each setting of a crowd. Then it plants two faults in
+# the header of the shared table, which the stories must find, and installs the library. Ends with status 1 where something is not as wanted;
+# where there is no C compiler it says so, and ends with status 0. CC and CXX name other compilers than cc and c++.
 set -uo pipefail
 top=$(cd "$(dirname "$0")/../.." && pwd) || exit 2
 compiler=${CC:-cc}
@@ -15,24 +16,38 @@ trap 'rm -rf "$work"' EXIT
 mapfile -t libraries < <("$top/tools/c_library.sh" 2>"$work/log")
 [ "${#libraries[@]}" -eq 2 ] || { cat "$work/log" >&2; exit 1; }
 
-# shellcheck disable=SC2086 # CC may have words behind the name.
-$compiler -std=c99 -Wall -Wextra -Werror -O1 -I"$top/include" -o "$work/stories" "$top/tests/c/stories.c" \
-  "${libraries[@]}" -Wl,--wrap=malloc,--wrap=realloc,--wrap=free || exit 1
+# compile PROGRAM WORD..: from the source of its name in this folder.
+compile() {
+  # shellcheck disable=SC2086 # CC may have words behind the name.
+  $compiler -std=c99 -D_POSIX_C_SOURCE=200809L -pthread -Wall -Wextra -Werror -O1 -I"$top/include" -o "$work/$1" \
+    "$top/tests/c/$1.c" "${libraries[@]}" "${@:2}"
+}
+
+# Each call with a manager has its twin with a table, but for what the table asks itself.
+for name in $(sed -n 's/^static inline [a-z_]* bs_\([a-z_]*\)(bs_manager \*manager.*/\1/p' "$top/include/burlapslate.h"); do
+  case $name in
+    make_choosing | ended) continue ;;
+  esac
+  grep -q "bs_table_$name(bs_table \*table" "$top/include/burlapslate_shared.h" && continue
+  echo "tests/c: there is no bs_table_$name" >&2
+  exit 1
+done
+
+compile stories -Wl,--wrap=malloc,--wrap=realloc,--wrap=free || exit 1
 timeout 60 "$work/stories" || exit 1
+compile shared -Wl,--wrap=malloc,--wrap=realloc,--wrap=free || exit 1
+timeout 60 "$work/shared" || exit 1
+compile crowd || exit 1
+timeout 100 "$work/crowd" 2>"$work/log" || { cat "$work/log" >&2; exit 1; }
+"$top/tests/c/faults.sh" commit-forgets-to-wake early-return "${libraries[@]}" || exit 1
+"$top/tests/c/install.sh" || exit 1
 
 plus=${CXX:-c++}
 if ! command -v "${plus%% *}" >/dev/null; then
-  echo "tests/c: no C++ compiler: $plus is not found, so the header was not tried with it"
+  echo "tests/c: no C++ compiler: $plus is not found, so the headers were not tried with it"
   exit 0
 fi
-cat >"$work/plus.cc" <<'END'
-#include "burlapslate.h"
-int main() {
-  bs_manager m = BS_NO_MANAGER_HERE;
-  return bs_end(&m).status == BS_NO_MANAGER ? 0 : 1;
-}
-END
 # shellcheck disable=SC2086 # The same of CXX.
-$plus -Wall -Wextra -Werror -I"$top/include" -o "$work/plus" "$work/plus.cc" "${libraries[@]}" || exit 1
+$plus -pthread -Wall -Wextra -Werror -I"$top/include" -o "$work/plus" "$top/tests/c/plus.cc" "${libraries[@]}" || exit 1
 timeout 60 "$work/plus" || exit 1
-echo "the_header_in_cpp"
+echo "the_headers_in_cpp"

@@ -26,61 +26,42 @@
 //!
 //! # Threads
 //!
-//! A [`Manager`] is used by one thread at a time, now one and now another: share it in a `Mutex`.
-//! No call waits. A lock that is not granted at once is answered with [`Asked::Waiting`], and a
-//! later call of another transaction tells its end by a [`Notice`]: whoever made that call hands it
-//! on, to where the thread of the waiting transaction sleeps. Notices are handed on before the
-//! mutex is given back, so that they come in their order.
+//! A [`Table`] is what threads share: each begins a [`Session`], whose locks sleep until they are
+//! granted, and which is aborted where it is dropped without a commit. A [`Watcher`] looks at who
+//! waits for whom without its mutex.
 //!
 //! ```
-//! use burlapslate::{Asked, Detect, Manager, Mode, Node, Notice, Notices, Refusal, SLOTS};
-//! use std::sync::{Condvar, Mutex};
-//!
-//! /// The manager, and by slot how a wait ended.
-//! struct Table {
-//!     manager: Manager,
-//!     ended: [Option<Notice>; SLOTS],
-//! }
-//!
-//! fn hand_on(told: Notices, ended: &mut [Option<Notice>; SLOTS], woken: &Condvar) {
-//!     for notice in told {
-//!         ended[notice.txn().slot()] = Some(notice);
-//!         woken.notify_all();
-//!     }
-//! }
+//! use burlapslate::{Detect, Mode, Node, Stop, Table, SLOTS};
+//! use std::thread;
 //!
 //! /// A transaction that writes a node.
-//! fn write(table: &Mutex<Table>, woken: &Condvar, node: Node) -> Result<(), Refusal> {
-//!     let mut guard = table.lock().unwrap();
-//!     let txn = guard.manager.begin()?;
-//!     let Table { manager, ended } = &mut *guard;
-//!     let (asked, told) = manager.lock(txn, node, Mode::X)?;
-//!     hand_on(told, ended, woken);
-//!     if asked == Asked::Waiting {
-//!         guard = woken
-//!             .wait_while(guard, |table| table.ended[txn.slot()].is_none())
-//!             .unwrap();
-//!         let end = guard.ended[txn.slot()].take();
-//!         assert_eq!(end, Some(Notice::Granted { txn, node, mode: Mode::X }));
-//!     }
-//!     drop(guard); // Here the node is written, with the mutex free for others.
-//!     let mut guard = table.lock().unwrap();
-//!     let Table { manager, ended } = &mut *guard;
-//!     hand_on(manager.commit(txn)?, ended, woken);
+//! fn write(table: &Table, node: Node) -> Result<(), Stop> {
+//!     let mut session = table.begin()?;
+//!     session.lock_path(node, Mode::X)?;
+//!     // Here the node is written. Where a lock comes to nothing, the session is dropped, and so
+//!     // aborted.
+//!     session.commit()?;
 //!     Ok(())
 //! }
 //!
-//! let mut manager = Manager::new(Detect::AtBlock, SLOTS)?;
-//! let node = manager.add_inner(&[])?;
-//! let table = Mutex::new(Table { manager, ended: [None; SLOTS] });
-//! let woken = Condvar::new();
-//! std::thread::scope(|scope| {
+//! let table = Table::new(Detect::AtBlock, SLOTS)?;
+//! let db = table.add_inner(&[])?;
+//! let file = table.add_file(&[db])?;
+//! thread::scope(|scope| {
 //!     for _ in 0..4 {
-//!         scope.spawn(|| write(&table, &woken, node).unwrap());
+//!         scope.spawn(|| write(&table, file).unwrap());
 //!     }
 //! });
-//! # Ok::<(), Refusal>(())
+//! println!("{}", table.dump());
+//! # Ok::<(), burlapslate::Refusal>(())
 //! ```
+//!
+//! A [`Manager`] is for those with a scheduler of their own. It is used by one thread at a time, now
+//! one and now another. No call waits: a lock that is not granted at once is answered with
+//! [`Asked::Waiting`], and a later call of another transaction tells its end by a [`Notice`].
+//! Whoever made that call hands it on, to where the waiting transaction sleeps, before the manager is
+//! used again, so that notices come in their order. [`Manager::verdict`] and [`Manager::ended`] say
+//! the same to those who only wake.
 //!
 //! # Refusals
 //!
@@ -101,20 +82,28 @@
 #![deny(clippy::undocumented_unsafe_blocks)]
 
 mod board;
+mod listing;
 mod manager;
 mod mode;
 mod names;
 mod notices;
 mod refusal;
+mod session;
 #[allow(unsafe_code)]
 mod sys;
+mod table;
+mod watcher;
 
 pub use board::{Board, SlotIter, Slots};
+pub use listing::{Counters, Deadlock, Doing, Listing, LockRow, Stuck, TxnRow, Waiter};
 pub use manager::{Asked, Escalated, Manager, Wait};
 pub use mode::{Detect, Kind, Mode, Victims};
 pub use names::{Node, Txn};
 pub use notices::{Notice, Notices};
 pub use refusal::Refusal;
+pub use session::{Session, Stop};
+pub use table::Table;
+pub use watcher::Watcher;
 
 /// How many transactions can live at once in a manager, and so how many notices a command can have.
 pub const SLOTS: usize = 128;
@@ -124,3 +113,6 @@ pub const VERSION: &str = env!("CARGO_PKG_VERSION");
 
 /// How many parents a node can have.
 pub const MOST_PARENTS: usize = 8;
+
+/// How many watchers a manager can have at once.
+pub const MOST_WATCHERS: usize = 8;

@@ -1,11 +1,14 @@
 //! The manager: its commands and questions.
 
-use crate::board::Board;
+use crate::board::{Board, Slots};
+use crate::listing::{Counters, Deadlock, Doing, Listing, LockRow, TxnRow, Waiter};
 use crate::mode::{Detect, Kind, Mode, Victims};
 use crate::names::{Node, Txn};
 use crate::notices::Notices;
 use crate::refusal::{accepted, Refusal};
+use crate::session::Stop;
 use crate::sys::{self, Pinned, Reply};
+use crate::watcher::Watcher;
 use crate::SLOTS;
 use std::fmt;
 
@@ -560,6 +563,198 @@ impl Manager {
     }
 }
 
+/// # Waits and watchers
+///
+/// What whoever lets threads sleep asks, as [`Table`](crate::Table) does.
+impl Manager {
+    /// What became of a lock that was left waiting for this node: `None` where the wait goes on; the
+    /// mode now held, which covers the asked one; or why it was not granted. It is
+    /// [`Stop::Cancelled`] where it does not wait for the node and no notice tells why.
+    ///
+    /// ```
+    /// # use burlapslate::{Asked, Detect, Manager, Mode, SLOTS};
+    /// # let mut m = Manager::new(Detect::AtBlock, SLOTS)?;
+    /// # let db = m.add_inner(&[])?;
+    /// # let (a, b) = (m.begin()?, m.begin()?);
+    /// # let _ = m.lock(a, db, Mode::X)?;
+    /// assert_eq!(m.lock(b, db, Mode::S)?.0, Asked::Waiting);
+    /// assert_eq!(m.verdict(b, db, Mode::S), None);
+    /// let _ = m.commit(a)?;
+    /// assert_eq!(m.verdict(b, db, Mode::S), Some(Ok(Mode::S)));
+    /// assert!(m.ended().contains(b.slot()));
+    /// # Ok::<(), burlapslate::Refusal>(())
+    /// ```
+    pub fn verdict(&self, txn: Txn, node: Node, mode: Mode) -> Option<Result<Mode, Stop>> {
+        let reply = sys::bs_call_verdict(&self.pinned.place, txn, node, mode as u32);
+        Some(match reply.status {
+            sys::WAITING => return None,
+            sys::DONE => Ok(Mode::of(reply.mode)),
+            sys::VICTIM => Err(Stop::Victim),
+            sys::MOVED => Err(Stop::Moved),
+            sys::GONE => Err(Stop::Gone),
+            sys::NOT_WAITING => Err(Stop::Cancelled),
+            _ => Err(Stop::Refused(Refusal::of(&reply))),
+        })
+    }
+
+    /// The slots whose wait the last command that was accepted may have ended: whose sleepers are to
+    /// be woken. No other transaction's wait was ended by it.
+    pub fn ended(&self) -> Slots {
+        found(sys::bs_call_ended(&self.pinned.place)).unwrap_or(Slots::NONE)
+    }
+
+    /// Makes a watcher, which knows the board of this moment.
+    ///
+    /// Refused with [`TooManyWatchers`](Refusal::TooManyWatchers), [`NoMemory`](Refusal::NoMemory).
+    /// Takes memory.
+    pub fn watch(&mut self) -> Result<Watcher, Refusal> {
+        Watcher::of(self)
+    }
+
+    pub(crate) fn as_place(&self) -> &sys::Place {
+        &self.pinned.place
+    }
+}
+
+/// # Listings
+///
+/// Who lives, who holds what and who waits where. They change nothing, and all that is asked between
+/// two commands is of one moment. Rows can be printed.
+impl Manager {
+    /// How many transactions may live at once.
+    pub fn most(&self) -> usize {
+        answered(sys::bs_call_most(&self.pinned.place)) as usize
+    }
+
+    /// The transactions that live, by rising slot.
+    ///
+    /// ```
+    /// # use burlapslate::{Detect, Manager, SLOTS};
+    /// # let mut m = Manager::new(Detect::AtBlock, SLOTS)?;
+    /// let a = m.begin()?;
+    /// for row in m.transactions() {
+    ///     assert_eq!(row.txn, a);
+    ///     assert_eq!(row.to_string(), "   0            1 active");
+    /// }
+    /// # Ok::<(), burlapslate::Refusal>(())
+    /// ```
+    pub fn transactions(&self) -> impl Iterator<Item = TxnRow> + '_ {
+        let living = (0..SLOTS as u32).filter_map(|slot| {
+            placed(sys::bs_call_living(&self.pinned.place, slot)).map(|reply| reply.txn)
+        });
+        living.filter_map(|txn| {
+            let doing = self.doing(txn).ok()?;
+            let waits_for = self.waits_for(txn).ok()?;
+            Some(TxnRow {
+                txn,
+                doing,
+                waits_for,
+            })
+        })
+    }
+
+    /// What a transaction is doing.
+    ///
+    /// Refused with [`NoSuchTxn`](Refusal::NoSuchTxn).
+    pub fn doing(&self, txn: Txn) -> Result<Doing, Refusal> {
+        let reply = accepted(sys::bs_call_doing(&self.pinned.place, txn))?;
+        Ok(match reply.count {
+            sys::ACTIVE => Doing::Active,
+            sys::WAITS => Doing::Waiting(Wait {
+                node: reply.node,
+                mode: Mode::of(reply.mode),
+            }),
+            sys::CONDEMNED => Doing::Condemned,
+            count => unreachable!("the library answered {count} for what one does"),
+        })
+    }
+
+    /// How many nodes a transaction holds or waits for.
+    ///
+    /// Refused with [`NoSuchTxn`](Refusal::NoSuchTxn).
+    pub fn lock_count(&self, txn: Txn) -> Result<usize, Refusal> {
+        let reply = accepted(sys::bs_call_lock_count(&self.pinned.place, txn))?;
+        Ok(reply.count as usize)
+    }
+
+    /// The nodes that a transaction holds or waits for, each once; none where it does not live.
+    pub fn locks(&self, txn: Txn) -> impl Iterator<Item = LockRow> + '_ {
+        let wait = self.waiting(txn);
+        let row = move |reply: Reply| LockRow {
+            txn,
+            node: reply.node,
+            mode: Mode::of(reply.mode),
+            wants: wait
+                .filter(|wait| wait.node == reply.node)
+                .map(|wait| wait.mode),
+            children: reply.count,
+        };
+        (0..).map_while(move |place| {
+            placed(sys::bs_call_lock_at(&self.pinned.place, txn, place)).map(row)
+        })
+    }
+
+    /// The slots of those who hold a node.
+    ///
+    /// Refused with [`NoSuchNode`](Refusal::NoSuchNode).
+    pub fn holders(&self, node: Node) -> Result<Slots, Refusal> {
+        found(sys::bs_call_holders(&self.pinned.place, node))
+    }
+
+    /// The mode in which the transaction of a slot holds a node, [`NL`](Mode::NL) for none, also
+    /// where there is no such slot.
+    pub fn mode_at(&self, slot: usize, node: Node) -> Mode {
+        if slot >= SLOTS {
+            return Mode::NL;
+        }
+        let reply = sys::bs_call_mode_at(&self.pinned.place, slot as u32, node);
+        Mode::of(answered_in_full(reply).mode)
+    }
+
+    /// Who waits for a node, the first to be granted first.
+    ///
+    /// Refused with [`NoSuchNode`](Refusal::NoSuchNode).
+    pub fn queue(&self, node: Node) -> Result<impl Iterator<Item = Waiter> + '_, Refusal> {
+        let len = accepted(sys::bs_call_queue_len(&self.pinned.place, node))?.count;
+        Ok((0..len as usize).map(move |place| {
+            let reply = answered_in_full(sys::bs_call_queue_at(&self.pinned.place, node, place));
+            Waiter {
+                slot: reply.txn.slot(),
+                wants: Mode::of(reply.mode),
+            }
+        }))
+    }
+
+    /// The slots of those for whom a transaction waits; none where it does not wait.
+    ///
+    /// Refused with [`NoSuchTxn`](Refusal::NoSuchTxn).
+    pub fn waits_for(&self, txn: Txn) -> Result<Slots, Refusal> {
+        found(sys::bs_call_waits_for(&self.pinned.place, txn))
+    }
+
+    /// The deadlock of which the last victim fell; `None` where nobody ever fell.
+    pub fn last_deadlock(&self) -> Option<Deadlock> {
+        let mut deadlock = sys::Deadlock::new();
+        placed(sys::bs_call_last_deadlock(
+            &self.pinned.place,
+            &mut deadlock,
+        ))?;
+        Some(Deadlock::of(&deadlock))
+    }
+
+    /// What the manager has been doing since it was made.
+    pub fn counters(&self) -> Counters {
+        let mut counters = Counters::default();
+        answered(sys::bs_call_counters(&self.pinned.place, &mut counters));
+        counters
+    }
+
+    /// All of it, to be printed.
+    pub fn listing(&self) -> Listing<'_> {
+        Listing { manager: self }
+    }
+}
+
 impl Drop for Manager {
     fn drop(&mut self) {
         sys::bs_call_end(&mut self.pinned.place);
@@ -580,6 +775,12 @@ impl fmt::Debug for Manager {
 /// The mode in a reply.
 fn mode_in(reply: Reply) -> Result<Mode, Refusal> {
     accepted(reply).map(|reply| Mode::of(reply.mode))
+}
+
+/// The slots of a reply.
+fn found(found: sys::Found) -> Result<Slots, Refusal> {
+    let status = found.status;
+    accepted(Reply::with_status(status)).map(|_| found.slots)
 }
 
 /// The reply of a question that asks for a place; `None` where there are fewer.

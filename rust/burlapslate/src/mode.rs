@@ -88,9 +88,9 @@ pub enum Detect {
     /// When a transaction begins to wait: a lock that closes a cycle of waits has a victim at
     /// once.
     AtBlock = 0,
-    /// By a watcher of yours, which reads boards ([`Manager::board`](crate::Manager::board)) and
-    /// asks [`Manager::settle`](crate::Manager::settle) for victims. Until then a cycle of waits
-    /// stands.
+    /// By one who watches: [`Table::watch_over`](crate::Table::watch_over), or a watcher of yours,
+    /// which reads boards ([`Manager::board`](crate::Manager::board)) and asks
+    /// [`Manager::settle`](crate::Manager::settle) for victims. Until then a cycle of waits stands.
     ByWatcher = 1,
 }
 

@@ -1,5 +1,7 @@
 //! The names of nodes and transactions.
 
+use std::fmt;
+
 /// The name of a node. It is the same as long as the node lives, and never another's: once the node
 /// is gone it names nothing, and each call refuses it. So names are safe to keep, wherever and as
 /// long as you like.
@@ -16,6 +18,13 @@ pub struct Node {
 impl Node {
     /// A name that no node has, in any manager: each call refuses it.
     pub const NONE: Node = Node { key: 0, birth: 0 };
+}
+
+/// Its two numbers, as `12/34`.
+impl fmt::Display for Node {
+    fn fmt(&self, f: &mut fmt::Formatter<'_>) -> fmt::Result {
+        write!(f, "{}/{}", self.key, self.birth)
+    }
 }
 
 /// The name of a transaction. It is the same as long as the transaction lives, and never another's:

@@ -48,6 +48,8 @@ pub enum Refusal {
     WornOut,
     /// The new parent is the node itself or lies below it; this is that parent.
     Cycle(Node),
+    /// As many watch already as may: [`MOST_WATCHERS`](crate::MOST_WATCHERS).
+    TooManyWatchers,
     /// More than 8 parents, or a manager for none or more than 128 transactions. It comes first of
     /// all.
     BadNumber,
@@ -76,6 +78,7 @@ impl Refusal {
             sys::BAD_KEYS => Refusal::BadKeys,
             sys::WORN_OUT => Refusal::WornOut,
             sys::CYCLE => Refusal::Cycle(reply.node),
+            sys::TOO_MANY_WATCHERS => Refusal::TooManyWatchers,
             sys::BAD_NUMBER => Refusal::BadNumber,
             // Null pointers, places without a manager and the like cannot come from these types.
             status => unreachable!("the library answered with status {status}"),
@@ -104,6 +107,7 @@ impl Refusal {
             Refusal::BadKeys => "BadKeys",
             Refusal::WornOut => "WornOut",
             Refusal::Cycle(_) => "Cycle",
+            Refusal::TooManyWatchers => "TooManyWatchers",
             Refusal::BadNumber => "BadNumber",
         }
     }
@@ -139,7 +143,7 @@ mod tests {
     }
 
     /// The names of the statuses by number, those that the safe calls never answer left out.
-    const TEXTS: [(u32, &str); 20] = [
+    const TEXTS: [(u32, &str); 21] = [
         (1, "NoMemory"),
         (2, "NoSuchNode"),
         (3, "NoSuchTxn"),
@@ -160,6 +164,7 @@ mod tests {
         (19, "WornOut"),
         (21, "Cycle"),
         (66, "BadNumber"),
+        (70, "TooManyWatchers"),
     ];
 
     #[test]

@@ -12,6 +12,7 @@
 //! manager at once; and no call calls back, so a question never meets another one half done.
 
 use crate::board::Slots;
+use crate::listing::Counters;
 use crate::names::{Node, Txn};
 use crate::SLOTS;
 use std::alloc::{alloc_zeroed, Layout};
@@ -40,8 +41,15 @@ pub(crate) const WORN_OUT: u32 = 19;
 pub(crate) const CYCLE: u32 = 21;
 pub(crate) const WAITING: u32 = 32;
 pub(crate) const VICTIM: u32 = 33;
+pub(crate) const MOVED: u32 = 34;
+pub(crate) const GONE: u32 = 35;
 pub(crate) const BAD_NUMBER: u32 = 66;
 pub(crate) const NO_PLACE: u32 = 68;
+pub(crate) const TOO_MANY_WATCHERS: u32 = 70;
+
+pub(crate) const ACTIVE: u64 = 1;
+pub(crate) const WAITS: u64 = 2;
+pub(crate) const CONDEMNED: u64 = 3;
 
 pub(crate) const TOLD_GRANTED: u32 = 1;
 pub(crate) const TOLD_VICTIM: u32 = 2;
@@ -62,6 +70,28 @@ pub(crate) struct Place(UnsafeCell<Manager>);
 // SAFETY: a manager is used by one thread at a time, now one and now another, as the header says:
 // nothing of it belongs to a thread.
 unsafe impl Send for Place {}
+
+/// `bs_watcher`, whose fields are the library's own.
+#[repr(C)]
+pub(crate) struct WatcherPlace {
+    _is_open: bool,
+    _at: *mut c_void,
+}
+
+impl WatcherPlace {
+    /// The place of no watcher, which stays where it is; `None` where memory is refused.
+    pub(crate) fn new() -> Option<Box<WatcherPlace>> {
+        // SAFETY: zero in all bytes is a value of it: `false`, and a null pointer.
+        unsafe { zeroed() }
+    }
+}
+
+// SAFETY: a watcher is used by one thread at a time, now one and now another, as the header says:
+// nothing of it belongs to a thread. It is changed by `&mut` alone.
+unsafe impl Send for WatcherPlace {}
+
+// SAFETY: by `&` nothing can be done with it.
+unsafe impl Sync for WatcherPlace {}
 
 /// `bs_reply`.
 #[repr(C)]
@@ -109,6 +139,41 @@ pub(crate) struct Board {
     pub(crate) rows: [Slots; SLOTS],
 }
 
+/// `bs_stuck`.
+#[repr(C)]
+#[derive(Clone, Copy)]
+pub(crate) struct Stuck {
+    pub(crate) txn: Txn,
+    pub(crate) node: Node,
+    pub(crate) mode: u32,
+    pub(crate) waits_for: Slots,
+}
+
+/// `bs_deadlock`.
+#[repr(C)]
+pub(crate) struct Deadlock {
+    pub(crate) victim: Txn,
+    pub(crate) count: usize,
+    pub(crate) at: [Stuck; SLOTS],
+}
+
+impl Deadlock {
+    /// One of nobody, to be written over.
+    pub(crate) fn new() -> Deadlock {
+        let nobody = Stuck {
+            txn: Txn::NONE,
+            node: Node::NONE,
+            mode: 0,
+            waits_for: Slots::NONE,
+        };
+        Deadlock {
+            victim: Txn::NONE,
+            count: 0,
+            at: [nobody; SLOTS],
+        }
+    }
+}
+
 /// `bs_found`.
 #[repr(C)]
 pub(crate) struct Found {
@@ -125,15 +190,24 @@ pub(crate) struct Pinned {
 impl Pinned {
     /// A place without a manager, and no notices; `None` where memory is refused.
     pub(crate) fn new() -> Option<Box<Pinned>> {
-        // SAFETY: the layout is that of `Pinned`, which is not empty.
-        let memory = unsafe { alloc_zeroed(Layout::new::<Pinned>()) };
-        if memory.is_null() {
-            return None;
-        }
-        // SAFETY: a box of a `Pinned` has this layout and this allocator, and zero in all bytes is
-        // a value of it: numbers, `false`, and a null pointer.
-        Some(unsafe { Box::from_raw(memory.cast()) })
+        // SAFETY: zero in all bytes is a value of it: numbers, `false`, and a null pointer.
+        unsafe { zeroed() }
     }
+}
+
+/// A box of zero in all bytes; `None` where memory is refused.
+///
+/// # Safety
+///
+/// The type is not empty, and zero in all bytes is a value of it.
+unsafe fn zeroed<T>() -> Option<Box<T>> {
+    // SAFETY: the layout is that of the type, which is not empty.
+    let memory = unsafe { alloc_zeroed(Layout::new::<T>()) };
+    if memory.is_null() {
+        return None;
+    }
+    // SAFETY: a box of the type has this layout and this allocator, and these bytes are a value.
+    Some(unsafe { Box::from_raw(memory.cast()) })
 }
 
 // SAFETY: these are the calls of the header, and their types have the layout of its types. Those
@@ -214,6 +288,12 @@ unsafe extern "C" {
         told: &mut Notices,
     ) -> Reply;
 
+    pub(crate) safe fn bs_call_verdict(manager: &Place, txn: Txn, node: Node, mode: u32) -> Reply;
+    pub(crate) safe fn bs_call_ended(manager: &Place) -> Found;
+    pub(crate) safe fn bs_call_watch(manager: &Place, watcher: &mut WatcherPlace) -> Reply;
+    pub(crate) safe fn bs_call_look(watcher: &mut WatcherPlace, board: &mut Board) -> Reply;
+    pub(crate) safe fn bs_call_watch_end(watcher: &mut WatcherPlace) -> Reply;
+
     pub(crate) safe fn bs_call_group(manager: &Place, node: Node) -> Reply;
     pub(crate) safe fn bs_call_held(manager: &Place, txn: Txn, node: Node) -> Reply;
     pub(crate) safe fn bs_call_effective(manager: &Place, txn: Txn, node: Node) -> Reply;
@@ -231,6 +311,19 @@ unsafe extern "C" {
     pub(crate) safe fn bs_call_accepted(manager: &Place) -> Reply;
     pub(crate) safe fn bs_call_detect(manager: &Place) -> Reply;
     pub(crate) safe fn bs_call_victims(manager: &Place) -> Reply;
+
+    pub(crate) safe fn bs_call_most(manager: &Place) -> Reply;
+    pub(crate) safe fn bs_call_living(manager: &Place, slot: u32) -> Reply;
+    pub(crate) safe fn bs_call_doing(manager: &Place, txn: Txn) -> Reply;
+    pub(crate) safe fn bs_call_lock_count(manager: &Place, txn: Txn) -> Reply;
+    pub(crate) safe fn bs_call_lock_at(manager: &Place, txn: Txn, place: usize) -> Reply;
+    pub(crate) safe fn bs_call_holders(manager: &Place, node: Node) -> Found;
+    pub(crate) safe fn bs_call_mode_at(manager: &Place, slot: u32, node: Node) -> Reply;
+    pub(crate) safe fn bs_call_queue_len(manager: &Place, node: Node) -> Reply;
+    pub(crate) safe fn bs_call_queue_at(manager: &Place, node: Node, place: usize) -> Reply;
+    pub(crate) safe fn bs_call_waits_for(manager: &Place, txn: Txn) -> Found;
+    pub(crate) safe fn bs_call_last_deadlock(manager: &Place, deadlock: &mut Deadlock) -> Reply;
+    pub(crate) safe fn bs_call_counters(manager: &Place, counts: &mut Counters) -> Reply;
 
     pub(crate) safe fn bs_call_board(manager: &Place, board: &mut Board) -> Reply;
     pub(crate) safe fn bs_call_on_cycle(board: &Board, slot: u32) -> Found;
@@ -297,8 +390,15 @@ pub(crate) fn move_node(
 impl Default for Reply {
     /// Zero in all fields.
     fn default() -> Reply {
+        Reply::with_status(DONE)
+    }
+}
+
+impl Reply {
+    /// Zero in all fields but the status.
+    pub(crate) fn with_status(status: u32) -> Reply {
         Reply {
-            status: DONE,
+            status,
             mode: 0,
             node: Node::NONE,
             txn: Txn::NONE,
@@ -368,6 +468,18 @@ mod layouts {
         assert_eq!(offset_of!(Board, epoch), 0);
         assert_eq!(offset_of!(Board, ages), 8);
         assert_eq!(offset_of!(Board, rows), 1032);
+        assert_eq!(room::<WatcherPlace>(), (16, 8));
+        assert_eq!(offset_of!(WatcherPlace, _at), 8);
+        assert_eq!(room::<Stuck>(), (56, 8));
+        assert_eq!((offset_of!(Stuck, node), offset_of!(Stuck, mode)), (16, 32));
+        assert_eq!(offset_of!(Stuck, waits_for), 40);
+        assert_eq!(room::<Deadlock>(), (7192, 8));
+        assert_eq!(
+            (offset_of!(Deadlock, count), offset_of!(Deadlock, at)),
+            (16, 24)
+        );
+        assert_eq!(room::<Counters>(), (96, 8));
+        assert_eq!(offset_of!(Counters, longest_queue), 88);
         assert_eq!(room::<Found>(), (24, 8));
         assert_eq!(
             (offset_of!(Found, status), offset_of!(Found, slots)),

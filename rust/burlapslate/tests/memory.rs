@@ -146,6 +146,26 @@ fn managers_that_are_not_made() {
     assert_eq!(refused, Err(Refusal::BadNumber));
 }
 
+/// Watchers that are made or not leave nothing behind.
+#[test]
+fn watchers_that_are_not_made() {
+    let before = BLOCKS.get();
+    let (mut m, _) = at_block();
+    let mut n = 1;
+    loop {
+        let (made, left) = refusing(Refused::Nth(n), || m.watch());
+        if left != Refused::None {
+            assert!(made.is_ok());
+            break;
+        }
+        assert_eq!(made.unwrap_err(), Refusal::NoMemory);
+        n += 1;
+    }
+    assert!(n > 1);
+    drop(m);
+    assert_eq!(BLOCKS.get(), before);
+}
+
 /// Calls until the answer is no want of memory, and changes nothing before. What is left to be
 /// refused goes over to the next call.
 fn in_spite<T>(

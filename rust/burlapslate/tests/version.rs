@@ -5,7 +5,10 @@ const HEADER: &str = include_str!("../../../include/burlapslate.h");
 /// The number that the header defines under this name.
 fn number(name: &str) -> &'static str {
     let start = format!("#define {name} ");
-    HEADER.lines().find_map(|line| line.strip_prefix(start.as_str())).unwrap()
+    HEADER
+        .lines()
+        .find_map(|line| line.strip_prefix(start.as_str()))
+        .unwrap()
 }
 
 #[test]

@@ -433,5 +433,6 @@ fn number(refusal: Refusal) -> u32 {
         Refusal::WornOut => 19,
         Refusal::Cycle(_) => 21,
         Refusal::BadNumber => panic!("a script with more than eight parents is not played here"),
+        Refusal::TooManyWatchers => panic!("a script has no watcher"),
     }
 }

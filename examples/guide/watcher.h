@@ -1,5 +1,5 @@
 /*
- * watcher.h: a thread that ends deadlocks, for a store that was opened with BS_BY_WATCHER.
+ * watcher.h: a thread of one's own that ends deadlocks, for a store that was opened with BS_BY_WATCHER.
  */
 #ifndef WATCHER_H
 #define WATCHER_H

@@ -1,6 +1,7 @@
 #include "watcher.h"
 
 #include "check.h"
+#include "guide.h"
 
 /* Sleeps until somebody has begun to wait since the last look, since no cycle of waits closes but by a
  * wait that begins. False: the store closes. */
@@ -51,4 +52,47 @@ void watcher_stop(struct watcher *w) {
   store_tell_news(w->store);
   store_unlatch(w->store);
   pthread_join(w->thread, NULL);
+}
+
+/* Two that hold a node in BS_S, and ask for BS_X. */
+struct reader {
+  struct store *store;
+  bs_txn txn;
+  bs_node node;
+  enum ending ending;
+  pthread_t thread;
+};
+
+static void *convert(void *arg) {
+  struct reader *r = arg;
+  struct store *s = r->store;
+  store_latch(s);
+  r->ending = store_lock(s, r->txn, r->node, BS_X, FOR_EVER);
+  if (r->ending == GRANTED) DONE(bs_commit(&s->manager, r->txn, &s->told));
+  else DONE(bs_abort(&s->manager, r->txn, &s->told));
+  store_deliver(s);
+  store_unlatch(s);
+  return NULL;
+}
+
+void a_watcher_of_your_own(void) {
+  static struct store store;
+  struct watcher watcher;
+  struct reader readers[2];
+  bs_node root;
+  size_t i;
+  store_open(&store, BS_BY_WATCHER);
+  root = DONE(bs_add_inner(&store.manager, NULL, 0)).node;
+  for (i = 0; i < 2; i++) {
+    struct reader r = { .store = &store, .node = root };
+    r.txn = begin(&store.manager);
+    DONE(bs_lock(&store.manager, r.txn, root, BS_S, &told));
+    readers[i] = r;
+  }
+  watcher_start(&watcher, &store);
+  for (i = 0; i < 2; i++) WANT(pthread_create(&readers[i].thread, NULL, convert, &readers[i]) == 0);
+  for (i = 0; i < 2; i++) WANT(pthread_join(readers[i].thread, NULL) == 0);
+  watcher_stop(&watcher);
+  WANT(readers[0].ending == GRANTED && readers[1].ending == VICTIM);
+  store_close(&store);
 }

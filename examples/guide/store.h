@@ -1,6 +1,7 @@
 /*
- * store.h: a lock manager that threads share: one latch round all its calls, transactions that sleep while
- * they wait, and the notices that wake them. It knows nothing of what is locked.
+ * store.h: a lock manager under a scheduler of one's own: one latch round all its calls, transactions that sleep
+ * while they wait, and the notices that wake them. It knows nothing of what is locked. With threads as here,
+ * bs_table does the same in fewer lines.
  *
  * The latch is held for a call or a few, never for the length of a transaction, and never in a sleep.
  */

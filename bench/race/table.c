@@ -1,0 +1,207 @@
+/*
+ * The plays through a shared table of this repository: every answer is looked at.
+ */
+#include "race.h"
+
+#include "burlapslate_shared.h"
+
+#include <stdlib.h>
+
+static bs_table table = BS_NO_TABLE_HERE;
+static bs_node path[INNER_NODES];
+static bs_node own[MOST_CREW]; /* a record for each thread */
+static long rounds_each;
+
+static inline bs_reply done(bs_reply reply) {
+  if (reply.status != BS_DONE) fail(bs_text(reply.status), __FILE__, __LINE__);
+  return reply;
+}
+
+static void open_table(void) {
+  bs_txn txn;
+  size_t i;
+  done(bs_table_make(&table, BS_AT_BLOCK, BS_YOUNGEST, BS_SLOTS));
+  path[0] = done(bs_table_add_inner(&table, NULL, 0)).node;
+  path[1] = done(bs_table_add_inner(&table, &path[0], 1)).node;
+  path[2] = done(bs_table_add_file(&table, &path[1], 1)).node;
+  txn = done(bs_table_begin(&table)).txn;
+  done(bs_table_lock_path(&table, txn, path[2], BS_IX, NULL));
+  for (i = 0; i < MOST_CREW; i++) own[i] = done(bs_table_insert(&table, txn, path[2], NULL, 0)).node;
+  done(bs_table_commit(&table, txn, NULL));
+}
+
+static void close_table(void) {
+  WANT(bs_table_group(&table, path[0]).mode == BS_NL);
+  done(bs_table_end(&table));
+}
+
+enum { ALL = INNER_NODES + 3 };
+
+/* All of it in one hold of the latch: a list that is made in each round. */
+static void fill_list(bs_command *list, size_t number) {
+  size_t i;
+  list[0] = bs_do_begin();
+  for (i = 0; i < INNER_NODES; i++) list[1 + i] = bs_do_lock(bs_begun(), path[i], BS_IX);
+  list[ALL - 2] = bs_do_lock(bs_begun(), own[number], BS_X);
+  list[ALL - 1] = bs_do_commit(bs_begun());
+}
+
+static void short_transaction(size_t number) {
+  bs_txn txn = done(bs_table_begin(&table)).txn;
+  size_t i;
+  for (i = 0; i < INNER_NODES; i++) done(bs_table_lock(&table, txn, path[i], BS_IX));
+  done(bs_table_lock(&table, txn, own[number], BS_X));
+  done(bs_table_commit(&table, txn, NULL));
+}
+
+/* ------------------------------------------------------------------------------------------------
+ * One thread, alone and beside one who looks.
+ */
+
+static MEASURED uint64_t measured_rounds(long rounds) {
+  uint64_t start = now();
+  while (rounds-- > 0) short_transaction(0);
+  return now() - start;
+}
+
+uint64_t table_write(long rounds) {
+  uint64_t taken;
+  open_table();
+  taken = measured_rounds(rounds);
+  close_table();
+  return taken;
+}
+
+static pthread_mutex_t over_latch = PTHREAD_MUTEX_INITIALIZER;
+static bool is_over;
+
+static bool goes_on(void) {
+  bool on;
+  pthread_mutex_lock(&over_latch);
+  on = !is_over;
+  pthread_mutex_unlock(&over_latch);
+  return on;
+}
+
+/* Asks whether it is over only once in 1,000 looks, so that it does little but look. */
+static void *look_on(void *arg) {
+  bs_watcher *watcher = arg;
+  bs_board *board = calloc(1, sizeof *board);
+  uint64_t epoch = 0;
+  long i;
+  WANT(board != NULL);
+  while (goes_on()) {
+    for (i = 0; i < 1000; i++) {
+      done(bs_table_look(watcher, board));
+      WANT(board->epoch >= epoch);
+      epoch = board->epoch;
+    }
+  }
+  free(board);
+  return NULL;
+}
+
+static void set_over(bool over) {
+  pthread_mutex_lock(&over_latch);
+  is_over = over;
+  pthread_mutex_unlock(&over_latch);
+}
+
+uint64_t table_watched(long rounds) {
+  bs_watcher watcher = BS_NO_WATCHER_HERE;
+  pthread_t thread;
+  uint64_t taken;
+  open_table();
+  done(bs_table_watch(&table, &watcher));
+  set_over(false);
+  WANT(pthread_create(&thread, NULL, look_on, &watcher) == 0);
+  taken = measured_rounds(rounds);
+  set_over(true);
+  WANT(pthread_join(thread, NULL) == 0);
+  done(bs_table_watch_end(&watcher));
+  close_table();
+  return taken;
+}
+
+/* ------------------------------------------------------------------------------------------------
+ * Several threads, each on a record of its own.
+ */
+
+static void work(size_t number) {
+  long left = rounds_each;
+  while (left-- > 0) short_transaction(number);
+}
+
+static void work_at_once(size_t number) {
+  bs_command list[ALL];
+  long left = rounds_each;
+  fill_list(list, number);
+  while (left-- > 0) WANT(bs_table_run(&table, list, ALL) == ALL);
+}
+
+static uint64_t crew_of(size_t count, long rounds, void (*body)(size_t number)) {
+  uint64_t taken;
+  open_table();
+  rounds_each = rounds / (long)count;
+  taken = together(count, body);
+  close_table();
+  return taken;
+}
+
+uint64_t table_crew_1(long rounds) {
+  return crew_of(1, rounds, work);
+}
+
+uint64_t table_crew_4(long rounds) {
+  return crew_of(4, rounds, work);
+}
+
+uint64_t table_crew_16(long rounds) {
+  return crew_of(16, rounds, work);
+}
+
+uint64_t table_once_4(long rounds) {
+  return crew_of(4, rounds, work_at_once);
+}
+
+uint64_t table_once_16(long rounds) {
+  return crew_of(16, rounds, work_at_once);
+}
+
+/* ------------------------------------------------------------------------------------------------
+ * A wait and its grant: the lock goes to and fro between two threads. A commit and the next ask are one hold of the
+ * latch, so that each round waits once.
+ */
+
+static bs_txn first[2];
+
+static void take_turns(size_t number) {
+  bs_txn mine = first[number];
+  long left = rounds_each;
+  if (number == 1) done(bs_table_await(&table, mine, path[0], BS_X, NULL));
+  while (left-- > 0) {
+    bs_txn next = done(bs_table_begin(&table)).txn;
+    bs_command list[2];
+    list[0] = bs_do_commit(mine);
+    list[1] = bs_do_lock(next, path[0], BS_X);
+    WANT(bs_table_run(&table, list, 2) == 1 && list[1].reply.status == BS_WAITING);
+    done(bs_table_await(&table, next, path[0], BS_X, NULL));
+    mine = next;
+  }
+  done(bs_table_commit(&table, mine, NULL));
+}
+
+uint64_t table_wait(long rounds) {
+  bs_command wait;
+  uint64_t taken;
+  open_table();
+  rounds_each = rounds / 2;
+  first[0] = done(bs_table_begin(&table)).txn;
+  first[1] = done(bs_table_begin(&table)).txn;
+  done(bs_table_lock(&table, first[0], path[0], BS_X));
+  wait = bs_do_lock(first[1], path[0], BS_X);
+  WANT(bs_table_run(&table, &wait, 1) == 0 && wait.reply.status == BS_WAITING);
+  taken = together(2, take_turns);
+  close_table();
+  return taken;
+}

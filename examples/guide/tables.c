@@ -1,0 +1,76 @@
+/*
+ * A shared table: sessions in threads, several commands in one hold, and a thread that ends deadlocks.
+ */
+#include "guide.h"
+
+#include "burlapslate_shared.h"
+
+static bs_table table = BS_NO_TABLE_HERE;
+static struct { bs_node db, orders, rows[2]; } shop;
+static uint64_t amounts[2];
+
+static void open_table(uint32_t detect) {
+  bs_txn t;
+  size_t i;
+  DONE(bs_table_make(&table, detect, BS_YOUNGEST, BS_SLOTS));
+  if (detect == BS_BY_WATCHER) DONE(bs_table_watch_thread(&table, 1000000)); /* It rests a millisecond between looks. */
+  shop.db = DONE(bs_table_add_inner(&table, NULL, 0)).node;
+  shop.orders = DONE(bs_table_add_file(&table, &shop.db, 1)).node;
+  t = DONE(bs_table_begin(&table)).txn;
+  DONE(bs_table_lock_path(&table, t, shop.orders, BS_IX, NULL));
+  for (i = 0; i < 2; i++) shop.rows[i] = DONE(bs_table_insert(&table, t, shop.orders, NULL, 0)).node;
+  DONE(bs_table_commit(&table, t, NULL));
+}
+
+/* Moves one from a row to another: BS_DONE, or why it was rolled back. */
+static bs_status move_one(size_t from, size_t to) {
+  bs_txn t = DONE(bs_table_begin(&table)).txn;
+  bs_status status = bs_table_lock_path(&table, t, shop.rows[from], BS_X, NULL).status;
+  if (status == BS_DONE) status = bs_table_lock_path(&table, t, shop.rows[to], BS_X, NULL).status;
+  if (status == BS_DONE) {
+    amounts[from]--;
+    amounts[to]++;
+    DONE(bs_table_commit(&table, t, NULL));
+  } else {
+    DONE(bs_table_abort(&table, t, NULL));
+  }
+  return status;
+}
+
+static void *move_many(void *arg) {
+  size_t *from = arg, i;
+  for (i = 0; i < 200; i++) {
+    while (move_one(*from, 1 - *from) == BS_VICTIM) continue;
+  }
+  return NULL;
+}
+
+/* They lock the rows in opposite orders, and so meet in deadlocks. */
+static void move_to_and_fro(uint32_t detect) {
+  size_t from[2] = { 0, 1 }, i;
+  pthread_t threads[2];
+  open_table(detect);
+  for (i = 0; i < 2; i++) WANT(pthread_create(&threads[i], NULL, move_many, &from[i]) == 0);
+  for (i = 0; i < 2; i++) WANT(pthread_join(threads[i], NULL) == 0);
+  WANT(amounts[0] == 0 && amounts[1] == 0);
+  DONE(bs_table_end(&table));
+}
+
+void sessions_in_threads(void) {
+  move_to_and_fro(BS_AT_BLOCK);
+  move_to_and_fro(BS_BY_WATCHER);
+}
+
+/* All but the first is done in one hold of the latch. */
+void several_in_one_hold(void) {
+  bs_command list[3];
+  bs_txn t;
+  open_table(BS_AT_BLOCK);
+  t = DONE(bs_table_begin(&table)).txn;
+  list[0] = bs_do_lock(t, shop.db, BS_IX);
+  list[1] = bs_do_lock(t, shop.orders, BS_IX);
+  list[2] = bs_do_lock(t, shop.rows[0], BS_X);
+  WANT(bs_table_run(&table, list, 3) == 3);
+  WANT(list[2].reply.mode == BS_X);
+  DONE(bs_table_end(&table));
+}

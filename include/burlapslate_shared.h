@@ -1,0 +1,1020 @@
+/*
+ * burlapslate_shared.h: a table of granular locks that threads share, for C and C++.
+ *
+ * A bs_table is a manager of burlapslate.h behind one mutex, its latch, with a condition for each slot. Any
+ * thread calls it. A lock that has to wait sleeps until it is granted, or until it never will be; each call that
+ * ends the wait of somebody wakes who sleeps for it.
+ *
+ * It is this header alone, over burlapslate.h and POSIX threads. Where the compiler keeps to ISO C (-std=c99),
+ * _POSIX_C_SOURCE is to be 200809L before the first header of the program.
+ *
+ * WHO MAY CALL WHEN. Any thread may make any call with a table at any time, but for bs_table_hold. The calls of
+ * one transaction are one thread's at a time, as of any transaction; what another may do to it is said below. A
+ * call holds the latch for as long as it takes, and never in a sleep. No call may be made from a signal handler,
+ * or from the forked child of a process with threads, and nothing may end a thread within a call, as
+ * pthread_cancel would.
+ *
+ * WHAT YOU KEEP. What burlapslate.h asks of pointers, lists and the allocator, and beside it:
+ *   - a bs_table is BS_NO_TABLE_HERE before the first call with it; from then on it is neither copied, moved, read
+ *     nor written by you;
+ *   - its memory stays as long as a thread may call with it: bs_table_end makes no difference to that, so join
+ *     the threads, and give the memory up then;
+ *   - names of transactions and nodes are good with the table that gave them.
+ *
+ * WHAT A CALL ANSWERS. What the call of burlapslate.h answers that has its name without `table_`, with one more
+ * status, BS_TIMED_OUT. Each call is one step of the manager, and what stands there of refusals, memory and costs
+ * holds here too. A table that was never made or was ended answers BS_NO_MANAGER. A call with `told` fills it
+ * where it is not null; those who sleep are woken, whether it is null or not.
+ *
+ * HOW A SLEEP ENDS. The one who sleeps for a lock is answered
+ *   - BS_DONE: it was granted, and is held in `mode`;
+ *   - BS_VICTIM: the transaction was condemned to end a deadlock, by a lock or a settle, and can only abort;
+ *   - BS_MOVED, BS_GONE: the node moved, or is gone, by another transaction's rekey, move or delete;
+ *   - BS_TIMED_OUT: its time came first; the wait was taken back, and the transaction is active;
+ *   - BS_NOT_WAITING: another thread took the wait back by bs_table_cancel; the transaction is active;
+ *   - BS_NO_SUCH_TXN: another thread ended the transaction by bs_table_abort;
+ *   - BS_NO_MANAGER: bs_table_end was called.
+ * A grant that came before the one who sleeps got the latch is a grant, also where its time was over by then.
+ *
+ * WHAT IS PROVED, AND WHAT IS NOT. The library is proved: what each command does and whom it tells, what became of
+ * a wait (bs_verdict), whose sleepers are to be woken (bs_ended), that a look gives a whole board and never an older
+ * one. Written in C here, and tested: the mutex and the conditions. They are in bs_table_enter, round each call;
+ * bs_table_woken, behind each command; bs_table_sleep, where a lock waits; bs_table_end; and bs_table_watches, the
+ * thread that watches. The rest of this header makes calls of burlapslate.h between these.
+ */
+#ifndef BURLAPSLATE_SHARED_H
+#define BURLAPSLATE_SHARED_H
+
+#include "burlapslate.h"
+
+#include <errno.h>
+#include <pthread.h>
+#include <stdio.h>
+#include <stdlib.h>
+#include <string.h>
+#include <time.h>
+
+#ifdef __cplusplus
+extern "C" {
+#endif
+
+/* What is made with a table, and ends with it. Its fields are this header's own: they are read and written with
+ * the latch held. */
+typedef struct bs_table_inside {
+  bs_manager manager;
+  bs_notices told;                /* by the last command whose caller wanted no list */
+  pthread_cond_t ended[BS_SLOTS]; /* by slot: a wait may be over */
+  size_t sleepers;                /* how many threads sleep for a lock */
+  uint64_t waited;                /* how many commands had been accepted when the last lock was left waiting */
+  bool is_ending;
+  pthread_cond_t left;            /* the last who slept has left an ending table */
+  bool is_watched;                /* there is a thread that watches, and it looks by `eye` */
+  pthread_t watch;
+  bs_watcher eye;
+  uint64_t pace;
+  pthread_cond_t began;           /* a lock was left waiting, or the table ends */
+  pthread_cond_t over;            /* the table ends */
+} bs_table_inside;
+
+/* The place of a table. Its fields are this header's own. */
+typedef struct bs_table {
+  pthread_mutex_t latch;
+  bs_table_inside *in;
+} bs_table;
+
+#define BS_NO_TABLE_HERE { PTHREAD_MUTEX_INITIALIZER, NULL }
+
+/* ------------------------------------------------------------------------------------------------
+ * The latch and the wake-ups.
+ */
+
+/* Takes the latch of a table, and answers what is inside; null where there is no table, and then the latch is
+ * not held. */
+static inline bs_table_inside *bs_table_enter(bs_table *table) {
+  if (table == NULL) return NULL;
+  pthread_mutex_lock(&table->latch);
+  if (table->in != NULL && !table->in->is_ending) return table->in;
+  pthread_mutex_unlock(&table->latch);
+  return NULL;
+}
+
+static inline bs_reply bs_table_leave(bs_table *table, bs_reply reply) {
+  pthread_mutex_unlock(&table->latch);
+  return reply;
+}
+
+/* The reply where there is no table. */
+static inline bs_reply bs_no_table(const bs_table *table) {
+  bs_reply reply = bs_null();
+  if (table != NULL) reply.status = BS_NO_MANAGER;
+  return reply;
+}
+
+/* Wakes who sleeps for a slot of these, of which the first is `first`. */
+static inline void bs_table_wake_half(bs_table_inside *in, uint64_t half, size_t first) {
+  size_t slot;
+  for (slot = first; half != 0; slot++, half >>= 1) {
+    if ((half & 1) != 0) pthread_cond_broadcast(&in->ended[slot]);
+  }
+}
+
+/* Wakes those whose wait the last command may have ended; where a wait began by it, who watches is woken too.
+ * Answers the reply of that command. Who that is says bs_ended: it is not asked where there is nobody, since the
+ * command was refused, or told nobody and is none that ends a wait by name, as a cancel and an abort are. */
+static inline bs_reply bs_table_woken(bs_table_inside *in, bs_reply reply, const bs_notices *told, bool by_name) {
+  bool is_accepted = reply.status == BS_DONE || reply.status == BS_WAITING || reply.status == BS_VICTIM;
+  if (is_accepted && (by_name || told->count > 0)) {
+    bs_slots ended = bs_ended(&in->manager).slots;
+    bs_table_wake_half(in, ended.low, 0);
+    bs_table_wake_half(in, ended.high, 64);
+  }
+  if (reply.status == BS_WAITING) {
+    in->waited = bs_accepted(&in->manager).count;
+    pthread_cond_signal(&in->began);
+  }
+  return reply;
+}
+
+/* Takes back the wait of one whose time is over, and answers so. */
+static inline bs_reply bs_table_late(bs_table_inside *in, bs_txn txn) {
+  bs_reply reply = bs_table_woken(in, bs_cancel(&in->manager, txn, &in->told), &in->told, true);
+  if (reply.status == BS_DONE) reply.status = BS_TIMED_OUT;
+  return reply;
+}
+
+/* Where a lock is BS_WAITING, sleeps, with the latch held before and behind it, until it has its verdict, or the time
+ * is over, or the table ends. What became of the wait is asked before the clock. */
+static inline bs_reply bs_table_sleep(bs_table *table, bs_txn txn, bs_node node, bs_mode mode,
+                                      const struct timespec *until, bs_reply reply) {
+  bs_table_inside *in = table->in;
+  int late = 0;
+  if (reply.status != BS_WAITING) return reply;
+  in->sleepers++;
+  while (reply.status == BS_WAITING) {
+    if (late == ETIMEDOUT) {
+      reply = bs_table_late(in, txn);
+      break;
+    }
+    late = until == NULL ? pthread_cond_wait(&in->ended[txn.slot], &table->latch)
+                         : pthread_cond_timedwait(&in->ended[txn.slot], &table->latch, until);
+    reply = in->is_ending ? bs_no_table(table) : bs_verdict(&in->manager, txn, node, mode);
+  }
+  in->sleepers--;
+  if (in->is_ending && in->sleepers == 0) pthread_cond_signal(&in->left);
+  return reply;
+}
+
+/* Whether this is a time: null, or with nanoseconds below a second. */
+static inline bool bs_is_time(const struct timespec *until) {
+  return until == NULL || (until->tv_nsec >= 0 && until->tv_nsec < 1000000000L);
+}
+
+/* The list that a command fills: the caller's, or else the table's own. */
+static inline bs_notices *bs_table_list(bs_table_inside *in, bs_notices *told) {
+  return told == NULL ? &in->told : told;
+}
+
+/* Where there is no table nobody is told. */
+static inline bs_reply bs_table_tells_none(const bs_table *table, bs_notices *told) {
+  if (told != NULL) told->count = 0;
+  return bs_no_table(table);
+}
+
+/* The body of a function that makes one call with the manager in `in`; of one whose call tells somebody. */
+#define BS_TABLE_ASK(table, call)                \
+  bs_table_inside *in = bs_table_enter(table);   \
+  if (in == NULL) return bs_no_table(table);     \
+  return bs_table_leave(table, call)
+
+#define BS_TABLE_TELL(table, told, by_name, call)            \
+  bs_table_inside *in = bs_table_enter(table);               \
+  bs_notices *list;                                          \
+  if (in == NULL) return bs_table_tells_none(table, told);   \
+  list = bs_table_list(in, told);                            \
+  return bs_table_leave(table, bs_table_woken(in, call, list, by_name))
+
+/* ------------------------------------------------------------------------------------------------
+ * Tables.
+ */
+
+/* What is inside a new table, with no manager yet; null where memory is refused. */
+static inline bs_table_inside *bs_table_new_inside(void) {
+  bs_table_inside *in = (bs_table_inside *)malloc(sizeof *in);
+  pthread_condattr_t steady;
+  size_t slot;
+  if (in == NULL) return NULL;
+  memset(in, 0, sizeof *in);
+  pthread_condattr_init(&steady);
+  pthread_condattr_setclock(&steady, CLOCK_MONOTONIC);
+  for (slot = 0; slot < BS_SLOTS; slot++) pthread_cond_init(&in->ended[slot], &steady);
+  pthread_cond_init(&in->left, &steady);
+  pthread_cond_init(&in->began, &steady);
+  pthread_cond_init(&in->over, &steady);
+  pthread_condattr_destroy(&steady);
+  return in;
+}
+
+static inline void bs_table_free_inside(bs_table_inside *in) {
+  size_t slot;
+  for (slot = 0; slot < BS_SLOTS; slot++) pthread_cond_destroy(&in->ended[slot]);
+  pthread_cond_destroy(&in->left);
+  pthread_cond_destroy(&in->began);
+  pthread_cond_destroy(&in->over);
+  free(in);
+}
+
+/* Makes a table at a place that has none: a manager as bs_make_choosing makes one. Refused with BS_NULL_POINTER,
+ * BS_IN_USE, BS_BAD_NUMBER, BS_NO_MEMORY. Takes memory. */
+static inline bs_reply bs_table_make(bs_table *table, uint32_t detect, uint32_t victims, uint32_t most) {
+  bs_table_inside *in;
+  bs_reply reply = bs_null();
+  if (table == NULL) return reply;
+  pthread_mutex_lock(&table->latch);
+  reply.status = BS_IN_USE;
+  if (table->in != NULL) return bs_table_leave(table, reply);
+  reply.status = BS_NO_MEMORY;
+  in = bs_table_new_inside();
+  if (in == NULL) return bs_table_leave(table, reply);
+  reply = bs_make_choosing(&in->manager, detect, victims, most);
+  if (reply.status == BS_DONE) table->in = in;
+  else bs_table_free_inside(in);
+  return bs_table_leave(table, reply);
+}
+
+/* Wakes all who sleep with a table that ends. */
+static inline void bs_table_wake_all(bs_table_inside *in) {
+  bs_table_wake_half(in, UINT64_MAX, 0);
+  bs_table_wake_half(in, UINT64_MAX, 64);
+  pthread_cond_broadcast(&in->began);
+  pthread_cond_broadcast(&in->over);
+}
+
+/* Ends a table, whatever its transactions do, and gives back all memory that it took. Each call that begins from
+ * now on is answered BS_NO_MANAGER, and so is each that sleeps; behind this call none sleeps any more, and the
+ * thread that watched has ended. The place has no table then, and may be used for another. Watchers go on, and
+ * are ended by bs_table_watch_end. Refused with BS_NULL_POINTER, and with BS_NO_MANAGER, also where another
+ * thread is ending it. */
+static inline bs_reply bs_table_end(bs_table *table) {
+  bs_table_inside *in = bs_table_enter(table);
+  bs_reply reply;
+  if (in == NULL) return bs_no_table(table);
+  in->is_ending = true;
+  bs_table_wake_all(in);
+  pthread_mutex_unlock(&table->latch);
+  if (in->is_watched) pthread_join(in->watch, NULL);
+  pthread_mutex_lock(&table->latch);
+  while (in->sleepers > 0) pthread_cond_wait(&in->left, &table->latch);
+  reply = bs_end(&in->manager);
+  table->in = NULL;
+  pthread_mutex_unlock(&table->latch);
+  bs_table_free_inside(in);
+  return reply;
+}
+
+/* ------------------------------------------------------------------------------------------------
+ * The graph.
+ */
+
+static inline bs_reply bs_table_add_inner(bs_table *table, const bs_node *parents, size_t count) {
+  BS_TABLE_ASK(table, bs_add_inner(&in->manager, parents, count));
+}
+
+static inline bs_reply bs_table_add_file(bs_table *table, const bs_node *parents, size_t count) {
+  BS_TABLE_ASK(table, bs_add_file(&in->manager, parents, count));
+}
+
+static inline bs_reply bs_table_add_index(bs_table *table, const bs_node *parents, size_t count, bs_node file,
+                                          const uint64_t *bounds, size_t bound_count) {
+  BS_TABLE_ASK(table, bs_add_index(&in->manager, parents, count, file, bounds, bound_count));
+}
+
+/* ------------------------------------------------------------------------------------------------
+ * Transactions and locks.
+ */
+
+static inline bs_reply bs_table_begin(bs_table *table) {
+  BS_TABLE_ASK(table, bs_begin(&in->manager));
+}
+
+/* As bs_lock, but it never answers BS_WAITING: a lock that has to wait sleeps until its end, or, where `until` is
+ * not null, until that time by CLOCK_MONOTONIC. Refused with BS_BAD_NUMBER also where `until` is no time. */
+static inline bs_reply bs_table_lock_until(bs_table *table, bs_txn txn, bs_node node, bs_mode mode,
+                                           const struct timespec *until) {
+  bs_table_inside *in = bs_table_enter(table);
+  bs_reply reply = bs_null();
+  if (in == NULL) return bs_no_table(table);
+  reply.status = BS_BAD_NUMBER;
+  if (!bs_is_time(until)) return bs_table_leave(table, reply);
+  reply = bs_table_woken(in, bs_lock(&in->manager, txn, node, mode, &in->told), &in->told, false);
+  return bs_table_leave(table, bs_table_sleep(table, txn, node, mode, until, reply));
+}
+
+static inline bs_reply bs_table_lock(bs_table *table, bs_txn txn, bs_node node, bs_mode mode) {
+  return bs_table_lock_until(table, txn, node, mode, NULL);
+}
+
+/* Sleeps until the end of a lock that bs_table_run left waiting, as bs_table_lock_until does. BS_NOT_WAITING: the
+ * transaction waits for another node, or for none, and no notice tells of this one. */
+static inline bs_reply bs_table_await(bs_table *table, bs_txn txn, bs_node node, bs_mode mode,
+                                      const struct timespec *until) {
+  bs_table_inside *in = bs_table_enter(table);
+  bs_reply reply = bs_null();
+  if (in == NULL) return bs_no_table(table);
+  reply.status = BS_BAD_NUMBER;
+  if (!bs_is_time(until)) return bs_table_leave(table, reply);
+  reply = bs_verdict(&in->manager, txn, node, mode);
+  return bs_table_leave(table, bs_table_sleep(table, txn, node, mode, until, reply));
+}
+
+/* Whether a lock that bs_table_run left waiting has its end: the same without a sleep. */
+static inline bs_reply bs_table_verdict(bs_table *table, bs_txn txn, bs_node node, bs_mode mode) {
+  BS_TABLE_ASK(table, bs_verdict(&in->manager, txn, node, mode));
+}
+
+static inline bs_reply bs_table_try(bs_table *table, bs_txn txn, bs_node node, bs_mode mode) {
+  BS_TABLE_ASK(table, bs_try(&in->manager, txn, node, mode));
+}
+
+static inline bs_reply bs_table_unlock(bs_table *table, bs_txn txn, bs_node node, bs_notices *told) {
+  BS_TABLE_TELL(table, told, false, bs_unlock(&in->manager, txn, node, list));
+}
+
+/* Takes a wait back, and wakes who sleeps for it: that one is answered BS_NOT_WAITING. */
+static inline bs_reply bs_table_cancel(bs_table *table, bs_txn txn, bs_notices *told) {
+  BS_TABLE_TELL(table, told, true, bs_cancel(&in->manager, txn, list));
+}
+
+static inline bs_reply bs_table_commit(bs_table *table, bs_txn txn, bs_notices *told) {
+  BS_TABLE_TELL(table, told, false, bs_commit(&in->manager, txn, list));
+}
+
+/* Ends a transaction whatever it is doing, and wakes who sleeps for it: that one is answered BS_NO_SUCH_TXN. It is
+ * how the transaction of a thread that died is ended. */
+static inline bs_reply bs_table_abort(bs_table *table, bs_txn txn, bs_notices *told) {
+  BS_TABLE_TELL(table, told, true, bs_abort(&in->manager, txn, list));
+}
+
+static inline bs_reply bs_table_settle(bs_table *table, bs_txn txn, bs_notices *told) {
+  BS_TABLE_TELL(table, told, false, bs_settle(&in->manager, txn, list));
+}
+
+static inline bs_reply bs_table_escalate(bs_table *table, bs_txn txn, bs_node node, bs_notices *told) {
+  BS_TABLE_TELL(table, told, false, bs_escalate(&in->manager, txn, node, list));
+}
+
+/* How many nodes bs_table_lock_path keeps in mind on its way up; of a longer way it asks for some nodes again. */
+enum { BS_PATH_KEPT = 16 };
+
+/* The next step of bs_table_lock_path, once a lock was answered: whether there is one. `way` has the nodes that are
+ * still to be locked, the lowest first. */
+static inline bool bs_path_goes_on(bs_reply reply, bs_node *way, size_t *count) {
+  switch (reply.status) {
+    case BS_NEED_PARENTS: /* What is above comes first. Of too many the upper ones are forgotten. */
+      if (*count == BS_PATH_KEPT) *count = 1;
+      way[(*count)++] = reply.node;
+      return true;
+    case BS_DONE: return --*count > 0;
+    case BS_MOVED: return true; /* It is asked for again, and names its new parents. */
+    default: return false;
+  }
+}
+
+/* Locks a node with what has to be held above it: intentions, root first, on all parents to write, and to read on a
+ * parent that is held already, or else on the first; then the node in its mode. Each is waited for in its turn, to
+ * `until` at most where that is not null. A node that moves meanwhile is begun anew, so that BS_MOVED and
+ * BS_NEED_PARENTS are not answered. BS_DONE: `mode` is the mode in which the node is held. Else it is the answer of
+ * the first lock that was refused or came to nothing; what was locked before it stays locked. A record that was
+ * deleted meanwhile answers BS_GONE or BS_NO_SUCH_NODE. Costs at most two asks for each node that it locks, and more
+ * where more than 16 stand one above the other. */
+static inline bs_reply bs_table_lock_path(bs_table *table, bs_txn txn, bs_node node, bs_mode mode,
+                                          const struct timespec *until) {
+  bs_table_inside *in = bs_table_enter(table);
+  bs_mode intention = mode == BS_IS || mode == BS_S ? BS_IS : BS_IX;
+  bs_node way[BS_PATH_KEPT];
+  bs_reply reply = bs_null();
+  size_t count = 1;
+  if (in == NULL) return bs_no_table(table);
+  reply.status = BS_BAD_NUMBER;
+  if (!bs_is_time(until)) return bs_table_leave(table, reply);
+  way[0] = node;
+  do {
+    bs_node next = way[count - 1];
+    bs_mode asked = count == 1 ? mode : intention;
+    reply = bs_table_woken(in, bs_lock(&in->manager, txn, next, asked, &in->told), &in->told, false);
+    reply = bs_table_sleep(table, txn, next, asked, until, reply);
+  } while (bs_path_goes_on(reply, way, &count));
+  return bs_table_leave(table, reply);
+}
+
+/* ------------------------------------------------------------------------------------------------
+ * Records, and nodes that move.
+ */
+
+static inline bs_reply bs_table_insert(bs_table *table, bs_txn txn, bs_node file, const uint64_t *keys,
+                                       size_t count) {
+  BS_TABLE_ASK(table, bs_insert(&in->manager, txn, file, keys, count));
+}
+
+static inline bs_reply bs_table_delete(bs_table *table, bs_txn txn, bs_node record, bs_notices *told) {
+  BS_TABLE_TELL(table, told, false, bs_delete(&in->manager, txn, record, list));
+}
+
+static inline bs_reply bs_table_rekey(bs_table *table, bs_txn txn, bs_node record, bs_node index, uint64_t key,
+                                      bs_notices *told) {
+  BS_TABLE_TELL(table, told, false, bs_rekey(&in->manager, txn, record, index, key, list));
+}
+
+static inline bs_reply bs_table_move(bs_table *table, bs_txn txn, bs_node node, const bs_node *parents, size_t count,
+                                     bs_notices *told) {
+  BS_TABLE_TELL(table, told, false, bs_move(&in->manager, txn, node, parents, count, list));
+}
+
+/* ------------------------------------------------------------------------------------------------
+ * Several commands in one hold of the latch, with nobody's between them.
+ */
+
+enum bs_command_kinds {
+  BS_DO_BEGIN = 1, BS_DO_LOCK, BS_DO_TRY, BS_DO_UNLOCK, BS_DO_ESCALATE, BS_DO_CANCEL, BS_DO_COMMIT, BS_DO_ABORT,
+  BS_DO_SETTLE, BS_DO_INSERT, BS_DO_DELETE, BS_DO_REKEY, BS_DO_MOVE, BS_DO_ADD_INNER, BS_DO_ADD_FILE, BS_DO_ADD_INDEX
+};
+
+/* A command, of enum bs_command_kinds, with what it is given: the fields that its maker below sets. */
+typedef struct bs_command {
+  uint32_t kind;
+  bs_txn txn;
+  bs_node node;
+  bs_mode mode;
+  bs_node other;           /* the index of a rekey, the file of a new index */
+  uint64_t key;
+  const bs_node *parents;
+  size_t parent_count;
+  const uint64_t *numbers; /* keys of an insert, bounds of an index */
+  size_t number_count;
+  bs_notices *told;        /* may be null */
+  bs_reply reply;          /* what it was answered, where it was made */
+} bs_command;
+
+static inline bs_command bs_do(uint32_t kind, bs_txn txn, bs_node node) {
+  bs_command command;
+  memset(&command, 0, sizeof command);
+  command.kind = kind;
+  command.txn = txn;
+  command.node = node;
+  return command;
+}
+
+static inline bs_command bs_do_txn(uint32_t kind, bs_txn txn) {
+  bs_node none = { 0, 0 };
+  return bs_do(kind, txn, none);
+}
+
+static inline bs_command bs_do_locking(uint32_t kind, bs_txn txn, bs_node node, bs_mode mode) {
+  bs_command command = bs_do(kind, txn, node);
+  command.mode = mode;
+  return command;
+}
+
+static inline bs_command bs_do_placing(bs_command command, const bs_node *parents, size_t count) {
+  command.parents = parents;
+  command.parent_count = count;
+  return command;
+}
+
+static inline bs_command bs_do_adding(uint32_t kind, const bs_node *parents, size_t count) {
+  bs_txn none = { 0, 0 };
+  return bs_do_placing(bs_do_txn(kind, none), parents, count);
+}
+
+/* The makers of commands, each with the words of the call of its name. */
+static inline bs_command bs_do_lock(bs_txn txn, bs_node node, bs_mode mode) {
+  return bs_do_locking(BS_DO_LOCK, txn, node, mode);
+}
+static inline bs_command bs_do_try(bs_txn txn, bs_node node, bs_mode mode) {
+  return bs_do_locking(BS_DO_TRY, txn, node, mode);
+}
+static inline bs_command bs_do_begin(void) { return bs_do_adding(BS_DO_BEGIN, NULL, 0); }
+static inline bs_command bs_do_unlock(bs_txn txn, bs_node node) { return bs_do(BS_DO_UNLOCK, txn, node); }
+static inline bs_command bs_do_escalate(bs_txn txn, bs_node node) { return bs_do(BS_DO_ESCALATE, txn, node); }
+static inline bs_command bs_do_cancel(bs_txn txn) { return bs_do_txn(BS_DO_CANCEL, txn); }
+static inline bs_command bs_do_commit(bs_txn txn) { return bs_do_txn(BS_DO_COMMIT, txn); }
+static inline bs_command bs_do_abort(bs_txn txn) { return bs_do_txn(BS_DO_ABORT, txn); }
+static inline bs_command bs_do_settle(bs_txn txn) { return bs_do_txn(BS_DO_SETTLE, txn); }
+static inline bs_command bs_do_delete(bs_txn txn, bs_node record) { return bs_do(BS_DO_DELETE, txn, record); }
+static inline bs_command bs_do_insert(bs_txn txn, bs_node file, const uint64_t *keys, size_t count) {
+  bs_command command = bs_do(BS_DO_INSERT, txn, file);
+  command.numbers = keys;
+  command.number_count = count;
+  return command;
+}
+static inline bs_command bs_do_rekey(bs_txn txn, bs_node record, bs_node index, uint64_t key) {
+  bs_command command = bs_do(BS_DO_REKEY, txn, record);
+  command.other = index;
+  command.key = key;
+  return command;
+}
+static inline bs_command bs_do_move(bs_txn txn, bs_node node, const bs_node *parents, size_t count) {
+  return bs_do_placing(bs_do(BS_DO_MOVE, txn, node), parents, count);
+}
+static inline bs_command bs_do_add_inner(const bs_node *parents, size_t count) {
+  return bs_do_adding(BS_DO_ADD_INNER, parents, count);
+}
+static inline bs_command bs_do_add_file(const bs_node *parents, size_t count) {
+  return bs_do_adding(BS_DO_ADD_FILE, parents, count);
+}
+static inline bs_command bs_do_add_index(const bs_node *parents, size_t count, bs_node file, const uint64_t *bounds,
+                                         size_t bound_count) {
+  bs_command command = bs_do_adding(BS_DO_ADD_INDEX, parents, count);
+  command.other = file;
+  command.numbers = bounds;
+  command.number_count = bound_count;
+  return command;
+}
+
+/* In a list, the transaction that the last bs_do_begin ahead began; with none ahead it names nobody. So a whole short
+ * transaction can be one list, which is made again and again. */
+static inline bs_txn bs_begun(void) {
+  bs_txn txn = { 255, 0 };
+  return txn;
+}
+
+/* Makes a command with a manager, for this transaction. */
+static inline bs_reply bs_command_made(bs_manager *m, const bs_command *c, bs_txn txn, bs_notices *told) {
+  bs_reply none = bs_null();
+  switch (c->kind) {
+    case BS_DO_BEGIN: return bs_begin(m);
+    case BS_DO_LOCK: return bs_lock(m, txn, c->node, c->mode, told);
+    case BS_DO_TRY: return bs_try(m, txn, c->node, c->mode);
+    case BS_DO_UNLOCK: return bs_unlock(m, txn, c->node, told);
+    case BS_DO_ESCALATE: return bs_escalate(m, txn, c->node, told);
+    case BS_DO_CANCEL: return bs_cancel(m, txn, told);
+    case BS_DO_COMMIT: return bs_commit(m, txn, told);
+    case BS_DO_ABORT: return bs_abort(m, txn, told);
+    case BS_DO_SETTLE: return bs_settle(m, txn, told);
+    case BS_DO_INSERT: return bs_insert(m, txn, c->node, c->numbers, c->number_count);
+    case BS_DO_DELETE: return bs_delete(m, txn, c->node, told);
+    case BS_DO_REKEY: return bs_rekey(m, txn, c->node, c->other, c->key, told);
+    case BS_DO_MOVE: return bs_move(m, txn, c->node, c->parents, c->parent_count, told);
+    case BS_DO_ADD_INNER: return bs_add_inner(m, c->parents, c->parent_count);
+    case BS_DO_ADD_FILE: return bs_add_file(m, c->parents, c->parent_count);
+    case BS_DO_ADD_INDEX:
+      return bs_add_index(m, c->parents, c->parent_count, c->other, c->numbers, c->number_count);
+    default: none.status = BS_BAD_NUMBER; return none;
+  }
+}
+
+/* Makes commands one behind the other in one hold of the latch, up to the first that is not done, and writes into
+ * each that was made its reply: how many were done. Where that is fewer than `count`, the reply of the next says
+ * why: it was refused; or it is BS_VICTIM; or a lock that is BS_WAITING, which bs_table_await awaits. Those behind
+ * it were not made. Whom they tell is woken, be it by the first or by the last. Where there is no table the first
+ * is answered so. A kind that is none is refused with BS_BAD_NUMBER. */
+static inline size_t bs_table_run(bs_table *table, bs_command *commands, size_t count) {
+  bs_table_inside *in;
+  bs_txn begun = bs_begun();
+  size_t done = 0;
+  if (commands == NULL || count == 0) return 0;
+  in = bs_table_enter(table);
+  if (in == NULL) {
+    commands[0].reply = bs_table_tells_none(table, commands[0].told);
+    return 0;
+  }
+  while (done < count) {
+    bs_command *next = &commands[done];
+    bs_txn txn = next->txn.slot == bs_begun().slot ? begun : next->txn;
+    bs_notices *told = bs_table_list(in, next->told);
+    bool by_name;
+    told->count = 0;
+    by_name = next->kind == BS_DO_CANCEL || next->kind == BS_DO_ABORT;
+    next->reply = bs_table_woken(in, bs_command_made(&in->manager, next, txn, told), told, by_name);
+    if (next->reply.status != BS_DONE) break;
+    if (next->kind == BS_DO_BEGIN) begun = next->reply.txn;
+    done++;
+  }
+  pthread_mutex_unlock(&table->latch);
+  return done;
+}
+
+/* ------------------------------------------------------------------------------------------------
+ * Questions.
+ */
+
+/* Takes the latch and answers the manager, for questions of burlapslate.h that are all of one moment; null where
+ * there is no table, and then the latch is not held. Between this and bs_table_let_go the thread makes no other
+ * call with the table, and none with the manager but questions and bs_read_board: of a command nobody would be
+ * woken. */
+static inline bs_manager *bs_table_hold(bs_table *table) {
+  bs_table_inside *in = bs_table_enter(table);
+  return in == NULL ? NULL : &in->manager;
+}
+
+static inline void bs_table_let_go(bs_table *table) { pthread_mutex_unlock(&table->latch); }
+
+static inline bs_reply bs_table_group(bs_table *table, bs_node node) {
+  BS_TABLE_ASK(table, bs_group(&in->manager, node));
+}
+
+static inline bs_reply bs_table_held(bs_table *table, bs_txn txn, bs_node node) {
+  BS_TABLE_ASK(table, bs_held(&in->manager, txn, node));
+}
+
+static inline bs_reply bs_table_effective(bs_table *table, bs_txn txn, bs_node node) {
+  BS_TABLE_ASK(table, bs_effective(&in->manager, txn, node));
+}
+
+static inline bs_reply bs_table_waiting(bs_table *table, bs_txn txn) {
+  BS_TABLE_ASK(table, bs_waiting(&in->manager, txn));
+}
+
+static inline bs_reply bs_table_children(bs_table *table, bs_txn txn, bs_node node) {
+  BS_TABLE_ASK(table, bs_children(&in->manager, txn, node));
+}
+
+static inline bs_reply bs_table_kind(bs_table *table, bs_node node) {
+  BS_TABLE_ASK(table, bs_kind(&in->manager, node));
+}
+
+static inline bs_reply bs_table_parent(bs_table *table, bs_node node, size_t place) {
+  BS_TABLE_ASK(table, bs_parent(&in->manager, node, place));
+}
+
+static inline bs_reply bs_table_key(bs_table *table, bs_node record, size_t place) {
+  BS_TABLE_ASK(table, bs_key(&in->manager, record, place));
+}
+
+static inline bs_reply bs_table_index(bs_table *table, bs_node file, size_t place) {
+  BS_TABLE_ASK(table, bs_index(&in->manager, file, place));
+}
+
+static inline bs_reply bs_table_interval(bs_table *table, bs_node index, size_t place) {
+  BS_TABLE_ASK(table, bs_interval(&in->manager, index, place));
+}
+
+static inline bs_reply bs_table_interval_of(bs_table *table, bs_node index, uint64_t key) {
+  BS_TABLE_ASK(table, bs_interval_of(&in->manager, index, key));
+}
+
+static inline bs_reply bs_table_place(bs_table *table, bs_node interval) {
+  BS_TABLE_ASK(table, bs_place(&in->manager, interval));
+}
+
+static inline bs_reply bs_table_has_records(bs_table *table, bs_node file) {
+  BS_TABLE_ASK(table, bs_has_records(&in->manager, file));
+}
+
+static inline bs_reply bs_table_len(bs_table *table) {
+  BS_TABLE_ASK(table, bs_len(&in->manager));
+}
+
+static inline bs_reply bs_table_accepted(bs_table *table) {
+  BS_TABLE_ASK(table, bs_accepted(&in->manager));
+}
+
+static inline bs_reply bs_table_detect(bs_table *table) {
+  BS_TABLE_ASK(table, bs_detect(&in->manager));
+}
+
+static inline bs_reply bs_table_victims(bs_table *table) {
+  BS_TABLE_ASK(table, bs_victims(&in->manager));
+}
+
+static inline bs_reply bs_table_read_board(bs_table *table, bs_board *board) {
+  BS_TABLE_ASK(table, bs_read_board(&in->manager, board));
+}
+
+/* Listings. Those of one moment are asked of one hold (bs_table_hold). */
+
+static inline bs_reply bs_table_most(bs_table *table) {
+  BS_TABLE_ASK(table, bs_most(&in->manager));
+}
+
+static inline bs_reply bs_table_living(bs_table *table, uint32_t slot) {
+  BS_TABLE_ASK(table, bs_living(&in->manager, slot));
+}
+
+static inline bs_reply bs_table_doing(bs_table *table, bs_txn txn) {
+  BS_TABLE_ASK(table, bs_doing(&in->manager, txn));
+}
+
+static inline bs_reply bs_table_lock_count(bs_table *table, bs_txn txn) {
+  BS_TABLE_ASK(table, bs_lock_count(&in->manager, txn));
+}
+
+static inline bs_reply bs_table_lock_at(bs_table *table, bs_txn txn, size_t place) {
+  BS_TABLE_ASK(table, bs_lock_at(&in->manager, txn, place));
+}
+
+static inline bs_reply bs_table_mode_at(bs_table *table, uint32_t slot, bs_node node) {
+  BS_TABLE_ASK(table, bs_mode_at(&in->manager, slot, node));
+}
+
+static inline bs_reply bs_table_queue_len(bs_table *table, bs_node node) {
+  BS_TABLE_ASK(table, bs_queue_len(&in->manager, node));
+}
+
+static inline bs_reply bs_table_queue_at(bs_table *table, bs_node node, size_t place) {
+  BS_TABLE_ASK(table, bs_queue_at(&in->manager, node, place));
+}
+
+static inline bs_reply bs_table_last_deadlock(bs_table *table, bs_deadlock *deadlock) {
+  BS_TABLE_ASK(table, bs_last_deadlock(&in->manager, deadlock));
+}
+
+static inline bs_reply bs_table_counters(bs_table *table, bs_counts *counts) {
+  BS_TABLE_ASK(table, bs_counters(&in->manager, counts));
+}
+
+/* The slots where there is no table. */
+static inline bs_found bs_table_finds_none(const bs_table *table) {
+  bs_found found = bs_none_found();
+  if (table != NULL) found.status = BS_NO_MANAGER;
+  return found;
+}
+
+static inline bs_found bs_table_holders(bs_table *table, bs_node node) {
+  bs_table_inside *in = bs_table_enter(table);
+  bs_found found;
+  if (in == NULL) return bs_table_finds_none(table);
+  found = bs_holders(&in->manager, node);
+  pthread_mutex_unlock(&table->latch);
+  return found;
+}
+
+static inline bs_found bs_table_waits_for(bs_table *table, bs_txn txn) {
+  bs_table_inside *in = bs_table_enter(table);
+  bs_found found;
+  if (in == NULL) return bs_table_finds_none(table);
+  found = bs_waits_for(&in->manager, txn);
+  pthread_mutex_unlock(&table->latch);
+  return found;
+}
+
+/* ------------------------------------------------------------------------------------------------
+ * Watchers: who waits for whom, without the latch.
+ */
+
+static inline bs_reply bs_table_watch(bs_table *table, bs_watcher *watcher) {
+  BS_TABLE_ASK(table, bs_watch(&in->manager, watcher));
+}
+
+/* These need no latch, and no table: a watcher is used by one thread at a time. */
+static inline bs_reply bs_table_look(bs_watcher *watcher, bs_board *board) { return bs_look(watcher, board); }
+
+static inline bs_reply bs_table_watch_end(bs_watcher *watcher) { return bs_watch_end(watcher); }
+
+/* Sleeps for some nanoseconds, but no longer than the table lives. The latch is held before and behind it. */
+static inline void bs_table_rest(bs_table *table, bs_table_inside *in, uint64_t nanoseconds) {
+  struct timespec until;
+  if (nanoseconds == 0) return;
+  clock_gettime(CLOCK_MONOTONIC, &until);
+  until.tv_sec += (time_t)(nanoseconds / 1000000000u);
+  until.tv_nsec += (long)(nanoseconds % 1000000000u);
+  if (until.tv_nsec >= 1000000000L) {
+    until.tv_sec++;
+    until.tv_nsec -= 1000000000L;
+  }
+  while (!in->is_ending && pthread_cond_timedwait(&in->over, &table->latch, &until) != ETIMEDOUT) continue;
+}
+
+/* Settles the youngest suspect of a board, with the latch held: whether there was one. */
+static inline bool bs_table_settles(bs_table_inside *in, const bs_board *board) {
+  bs_reply youngest = bs_youngest(board, bs_suspects(board).slots);
+  bs_txn suspect;
+  if (youngest.status != BS_DONE) return false;
+  suspect.slot = (uint8_t)youngest.count;
+  suspect.age = board->ages[youngest.count];
+  bs_table_woken(in, bs_settle(&in->manager, suspect, &in->told), &in->told, false);
+  return true;
+}
+
+/* The thread that watches. No cycle of waits closes but by a lock that is left waiting: so it sleeps until there was
+ * one since it last looked and found no suspect. A board that is older than the last of these could not be shown, for
+ * want of memory: then it is read with the latch, which takes none. */
+static inline void *bs_table_watches(void *place) {
+  bs_table *table = (bs_table *)place;
+  bs_table_inside *in;
+  bs_board board;
+  uint64_t seen = 0;
+  bool is_clear = true;
+  memset(&board, 0, sizeof board);
+  pthread_mutex_lock(&table->latch);
+  in = table->in;
+  while (!in->is_ending) {
+    if (is_clear && in->waited == seen) {
+      pthread_cond_wait(&in->began, &table->latch);
+      continue;
+    }
+    seen = in->waited;
+    pthread_mutex_unlock(&table->latch);
+    bs_look(&in->eye, &board);
+    pthread_mutex_lock(&table->latch);
+    if (in->is_ending) break;
+    if (board.epoch < seen) bs_read_board(&in->manager, &board);
+    is_clear = !bs_table_settles(in, &board);
+    bs_table_rest(table, in, in->pace);
+  }
+  pthread_mutex_unlock(&table->latch);
+  bs_watch_end(&in->eye);
+  return NULL;
+}
+
+/* Starts a thread that ends deadlocks, for a table that was made with BS_BY_WATCHER: it looks as a watcher does,
+ * settles the youngest suspect, and rests for `pace` nanoseconds behind each look. While no lock has been left
+ * waiting since it saw no suspect it sleeps. It ends with the table, and counts as a watcher. Refused with
+ * BS_NULL_POINTER, BS_NO_MANAGER, BS_IN_USE where the table has such a thread, BS_TOO_MANY_WATCHERS, and with
+ * BS_NO_MEMORY also where no thread can be started. */
+static inline bs_reply bs_table_watch_thread(bs_table *table, uint64_t pace) {
+  bs_table_inside *in = bs_table_enter(table);
+  bs_reply reply;
+  if (in == NULL) return bs_no_table(table);
+  reply = bs_watch(&in->manager, &in->eye);
+  if (reply.status != BS_DONE) return bs_table_leave(table, reply);
+  in->pace = pace;
+  in->is_watched = pthread_create(&in->watch, NULL, bs_table_watches, table) == 0;
+  if (!in->is_watched) {
+    bs_watch_end(&in->eye);
+    reply.status = BS_NO_MEMORY;
+  }
+  return bs_table_leave(table, reply);
+}
+
+/* ------------------------------------------------------------------------------------------------
+ * All of it as text.
+ */
+
+/* The name of a mode; of a number that is none, "?". */
+static inline const char *bs_mode_text(bs_mode mode) {
+  static const char *const texts[] = { "NL", "IS", "IX", "S", "SIX", "X" };
+  return mode <= BS_X ? texts[mode] : "?";
+}
+
+static inline const char *bs_kind_text(uint64_t kind) {
+  static const char *const texts[] = { "?", "inner", "file", "index", "interval", "record" };
+  return kind <= BS_RECORD ? texts[kind] : "?";
+}
+
+/* A node: what it is, and its name, as KEY/BIRTH. */
+static inline void bs_dump_node(bs_manager *m, bs_node node, FILE *out) {
+  bs_reply kind = bs_kind(m, node);
+  fprintf(out, "%s %llu/%llu", kind.status == BS_DONE ? bs_kind_text(kind.count) : "gone", (unsigned long long)node.key,
+          (unsigned long long)node.birth);
+}
+
+static inline void bs_dump_slots(bs_slots slots, FILE *out) {
+  uint32_t slot;
+  for (slot = 0; slot < BS_SLOTS; slot++) {
+    if (bs_has(slots, slot)) fprintf(out, " %lu", (unsigned long)slot);
+  }
+}
+
+static inline void bs_dump_count(uint64_t count, const char *what, FILE *out) {
+  fprintf(out, "%-12llu %s\n", (unsigned long long)count, what);
+}
+
+static inline void bs_dump_counters(bs_manager *m, FILE *out) {
+  bs_counts counts;
+  memset(&counts, 0, sizeof counts);
+  bs_counters(m, &counts);
+  fprintf(out, "Counters, since the table was made:\n");
+  bs_dump_count(counts.accepted, "commands were accepted", out);
+  bs_dump_count(counts.granted, "locks were granted at once", out);
+  bs_dump_count(counts.waited, "locks were left waiting", out);
+  bs_dump_count(counts.conversions, "locks were of a node that was held already", out);
+  bs_dump_count(counts.granted_later, "waits ended with a grant", out);
+  bs_dump_count(counts.victims, "transactions were condemned to end a deadlock", out);
+  bs_dump_count(counts.moved, "waits ended since the node moved", out);
+  bs_dump_count(counts.gone, "waits ended since the node was gone", out);
+  bs_dump_count(counts.escalations, "escalations were done", out);
+  bs_dump_count(counts.released_children, "locks were released by them", out);
+  bs_dump_count(counts.most_waiting, "transactions waited at once, at most", out);
+  bs_dump_count(counts.longest_queue, "waited for one node at once, at most", out);
+  bs_dump_count(bs_len(m).count, "nodes live", out);
+  bs_dump_count(bs_most(m).count, "transactions may live at once", out);
+}
+
+/* The name of what a transaction does, of enum bs_doings. */
+static inline const char *bs_doing_text(uint64_t doing) {
+  static const char *const texts[] = { "?", "active", "waits", "condemned" };
+  return doing <= BS_CONDEMNED ? texts[doing] : "?";
+}
+
+static inline void bs_dump_txn(bs_manager *m, bs_txn txn, FILE *out) {
+  bs_reply doing = bs_doing(m, txn);
+  fprintf(out, "%4u %12llu %s", (unsigned)txn.slot, (unsigned long long)txn.age, bs_doing_text(doing.count));
+  if (doing.count == BS_WAITS) {
+    fprintf(out, "     %-4s ", bs_mode_text(doing.mode));
+    bs_dump_node(m, doing.node, out);
+    fprintf(out, ", behind");
+    bs_dump_slots(bs_waits_for(m, txn).slots, out);
+  }
+  fprintf(out, "\n");
+}
+
+/* The locks of a transaction: what it holds, and in the column behind it what it waits for. */
+static inline void bs_dump_locks(bs_manager *m, bs_txn txn, FILE *out) {
+  bs_reply doing = bs_doing(m, txn), row;
+  size_t place;
+  for (place = 0; (row = bs_lock_at(m, txn, place)).status == BS_DONE; place++) {
+    bool waits = doing.count == BS_WAITS && doing.node.key == row.node.key && doing.node.birth == row.node.birth;
+    fprintf(out, "%4u %12llu %-4s %-5s %8llu ", (unsigned)txn.slot, (unsigned long long)txn.age, bs_mode_text(row.mode),
+            waits ? bs_mode_text(doing.mode) : "-", (unsigned long long)row.count);
+    bs_dump_node(m, row.node, out);
+    fprintf(out, "\n");
+  }
+}
+
+/* The queue in which a transaction is the first: who holds its node, and who waits for it. */
+static inline void bs_dump_queue(bs_manager *m, bs_txn txn, FILE *out) {
+  bs_reply doing = bs_doing(m, txn), waiter;
+  bs_slots holders;
+  uint32_t slot;
+  size_t place;
+  if (doing.count != BS_WAITS || bs_queue_at(m, doing.node, 0).txn.slot != txn.slot) return;
+  holders = bs_holders(m, doing.node).slots;
+  bs_dump_node(m, doing.node, out);
+  fprintf(out, "\n");
+  for (slot = 0; slot < BS_SLOTS; slot++) {
+    if (bs_has(holders, slot)) {
+      fprintf(out, "    held %9lu %s\n", (unsigned long)slot, bs_mode_text(bs_mode_at(m, slot, doing.node).mode));
+    }
+  }
+  for (place = 0; (waiter = bs_queue_at(m, doing.node, place)).status == BS_DONE; place++) {
+    fprintf(out, "%8lu. %8u %s\n", (unsigned long)place + 1, (unsigned)waiter.txn.slot, bs_mode_text(waiter.mode));
+  }
+}
+
+static inline void bs_dump_deadlock(bs_manager *m, FILE *out) {
+  bs_deadlock last;
+  size_t i;
+  memset(&last, 0, sizeof last);
+  fprintf(out, "\nLast deadlock:\n");
+  if (bs_last_deadlock(m, &last).status != BS_DONE) {
+    fprintf(out, "none\n");
+    return;
+  }
+  fprintf(out, "victim: slot %u, age %llu\nslot          age wants waits for\n", (unsigned)last.victim.slot,
+          (unsigned long long)last.victim.age);
+  for (i = 0; i < last.count; i++) {
+    fprintf(out, "%4u %12llu %-5s ", (unsigned)last.at[i].txn.slot, (unsigned long long)last.at[i].txn.age,
+            bs_mode_text(last.at[i].mode));
+    bs_dump_node(m, last.at[i].node, out);
+    fprintf(out, ", behind");
+    bs_dump_slots(last.at[i].waits_for, out);
+    fprintf(out, "\n");
+  }
+}
+
+/* For each transaction that lives, in the order of the slots. */
+static inline void bs_dump_each(bs_manager *m, void (*dump)(bs_manager *m, bs_txn txn, FILE *out), FILE *out) {
+  uint32_t slot;
+  for (slot = 0; slot < BS_SLOTS; slot++) {
+    bs_reply living = bs_living(m, slot);
+    if (living.status == BS_DONE) dump(m, living.txn, out);
+  }
+}
+
+static inline void bs_dump(bs_manager *m, FILE *out) {
+  bs_dump_counters(m, out);
+  fprintf(out, "\nTransactions:\nslot          age doing     waits for\n");
+  bs_dump_each(m, bs_dump_txn, out);
+  fprintf(out, "\nLocks by transaction:\nslot          age mode wants children node\n");
+  bs_dump_each(m, bs_dump_locks, out);
+  fprintf(out, "\nQueues:\n   place     slot mode\n");
+  bs_dump_each(m, bs_dump_queue, out);
+  bs_dump_deadlock(m, out);
+}
+
+/* Writes all that there is to a file, as text in columns: counters, transactions, the locks of each, queues and the
+ * last deadlock, all of one moment. The text is made with the latch held, and written without it. Refused with
+ * BS_NULL_POINTER, BS_NO_MANAGER, BS_NO_MEMORY; what the file says of faults, ferror tells. Takes memory. */
+static inline bs_reply bs_table_dump(bs_table *table, FILE *file) {
+  bs_reply reply = bs_null();
+  bs_manager *manager;
+  char *text = NULL;
+  size_t size = 0;
+  bool is_whole;
+  FILE *out;
+  if (table == NULL || file == NULL) return reply;
+  reply.status = BS_NO_MEMORY;
+  out = open_memstream(&text, &size);
+  if (out == NULL) return reply;
+  manager = bs_table_hold(table);
+  if (manager != NULL) {
+    bs_dump(manager, out);
+    bs_table_let_go(table);
+  }
+  is_whole = ferror(out) == 0;
+  is_whole = fclose(out) == 0 && is_whole;
+  if (is_whole && manager != NULL) fwrite(text, 1, size, file);
+  free(text);
+  if (manager == NULL) reply.status = BS_NO_MANAGER;
+  else if (is_whole) reply.status = BS_DONE;
+  return reply;
+}
+
+#undef BS_TABLE_ASK
+#undef BS_TABLE_TELL
+
+#ifdef __cplusplus
+}
+#endif
+
+#endif

@@ -1,0 +1,220 @@
+//! A transaction of a shared table, in the hands of a thread.
+
+use crate::manager::Escalated;
+use crate::mode::Mode;
+use crate::names::{Node, Txn};
+use crate::refusal::Refusal;
+use crate::table::Table;
+use std::error::Error;
+use std::fmt;
+use std::time::{Duration, Instant};
+
+/// Why a lock gave no grant.
+#[derive(Clone, Copy, PartialEq, Eq, Hash, Debug)]
+pub enum Stop {
+    /// It was refused, before it waited or behind that: [`Refusal::NoSuchTxn`] where another thread
+    /// ended the transaction meanwhile.
+    Refused(Refusal),
+    /// The transaction was condemned to end a deadlock, and can only abort.
+    Victim,
+    /// The node moved: lock from the root down again.
+    Moved,
+    /// The node is gone.
+    Gone,
+    /// Its time came first. The wait was taken back, and the transaction is active.
+    TimedOut,
+    /// Another thread took the wait back, and the transaction is active.
+    Cancelled,
+}
+
+/// What it is, for a log.
+impl fmt::Display for Stop {
+    fn fmt(&self, f: &mut fmt::Formatter<'_>) -> fmt::Result {
+        match self {
+            Stop::Refused(refusal) => refusal.fmt(f),
+            Stop::Victim => f.pad("Victim"),
+            Stop::Moved => f.pad("Moved"),
+            Stop::Gone => f.pad("Gone"),
+            Stop::TimedOut => f.pad("TimedOut"),
+            Stop::Cancelled => f.pad("Cancelled"),
+        }
+    }
+}
+
+impl Error for Stop {}
+
+impl From<Refusal> for Stop {
+    fn from(refusal: Refusal) -> Stop {
+        Stop::Refused(refusal)
+    }
+}
+
+/// A transaction of a [`Table`], which one thread drives. Its locks sleep until they are granted. One
+/// that is dropped without a commit is aborted, so that its locks never outlive it: undo first what
+/// it wrote.
+///
+/// ```
+/// use burlapslate::{Detect, Mode, Table, SLOTS};
+///
+/// let table = Table::new(Detect::AtBlock, SLOTS)?;
+/// let db = table.add_inner(&[])?;
+/// let mut session = table.begin()?;
+/// assert_eq!(session.lock(db, Mode::X), Ok(Mode::X));
+/// drop(session); // It is aborted.
+/// assert_eq!(table.with(|m| m.group(db)), Ok(Mode::NL));
+/// # Ok::<(), burlapslate::Refusal>(())
+/// ```
+#[must_use = "a session that is dropped is aborted"]
+pub struct Session<'t> {
+    table: &'t Table,
+    txn: Txn,
+    has_ended: bool,
+}
+
+impl<'t> Session<'t> {
+    pub(crate) fn of(table: &'t Table, txn: Txn) -> Session<'t> {
+        Session {
+            table,
+            txn,
+            has_ended: false,
+        }
+    }
+
+    /// The name of its transaction, by which other threads may abort, cancel or settle it.
+    pub fn txn(&self) -> Txn {
+        self.txn
+    }
+
+    /// As [`Manager::lock`](crate::Manager::lock), but it sleeps until the lock is granted, or never
+    /// will be. It answers the mode that is held then.
+    pub fn lock(&mut self, node: Node, mode: Mode) -> Result<Mode, Stop> {
+        self.table.lock(self.txn, node, mode, None)
+    }
+
+    /// As [`lock`](Session::lock), but the wait is taken back after this time, and answered with
+    /// [`Stop::TimedOut`]. A grant that comes at the same moment is a grant.
+    ///
+    /// ```
+    /// # use burlapslate::{Detect, Mode, Stop, Table, SLOTS};
+    /// # use std::time::Duration;
+    /// # let table = Table::new(Detect::AtBlock, SLOTS)?;
+    /// # let db = table.add_inner(&[])?;
+    /// let (mut first, mut second) = (table.begin()?, table.begin()?);
+    /// assert_eq!(first.lock(db, Mode::S), Ok(Mode::S));
+    /// let end = second.lock_timeout(db, Mode::X, Duration::from_millis(1));
+    /// assert_eq!(end, Err(Stop::TimedOut));
+    /// assert_eq!(second.lock(db, Mode::S), Ok(Mode::S));
+    /// # Ok::<(), burlapslate::Refusal>(())
+    /// ```
+    pub fn lock_timeout(&mut self, node: Node, mode: Mode, time: Duration) -> Result<Mode, Stop> {
+        self.table.lock(self.txn, node, mode, deadline(time))
+    }
+
+    /// Locks a node with what has to be held above it: intentions, root first, on all parents to
+    /// write, and to read on a parent that is held already, or else on the first; then the node in
+    /// its mode. Each is waited for in its turn. A node that moves meanwhile is begun anew, so it is
+    /// never answered [`Stop::Moved`]. Else it ends at the first lock that is refused or comes to
+    /// nothing; what was locked before that stays locked.
+    ///
+    /// ```
+    /// # use burlapslate::{Detect, Mode, Table, SLOTS};
+    /// # let table = Table::new(Detect::AtBlock, SLOTS)?;
+    /// # let db = table.add_inner(&[])?;
+    /// # let file = table.add_file(&[db])?;
+    /// let mut session = table.begin()?;
+    /// assert_eq!(session.lock_path(file, Mode::X), Ok(Mode::X));
+    /// assert_eq!(table.with(|m| m.held(session.txn(), db)), Ok(Mode::IX));
+    /// session.commit()?;
+    /// # Ok::<(), burlapslate::Refusal>(())
+    /// ```
+    pub fn lock_path(&mut self, node: Node, mode: Mode) -> Result<Mode, Stop> {
+        self.table.lock_path(self.txn, node, mode, None)
+    }
+
+    /// As [`lock_path`](Session::lock_path), within this time.
+    pub fn lock_path_timeout(
+        &mut self,
+        node: Node,
+        mode: Mode,
+        time: Duration,
+    ) -> Result<Mode, Stop> {
+        self.table.lock_path(self.txn, node, mode, deadline(time))
+    }
+
+    /// As [`Manager::try_lock`](crate::Manager::try_lock).
+    pub fn try_lock(&mut self, node: Node, mode: Mode) -> Result<Mode, Refusal> {
+        self.table.serve(|m| m.try_lock(self.txn, node, mode))
+    }
+
+    /// As [`Manager::unlock`](crate::Manager::unlock).
+    pub fn unlock(&mut self, node: Node) -> Result<(), Refusal> {
+        self.table.serve(|m| m.unlock(self.txn, node).map(drop))
+    }
+
+    /// As [`Manager::escalate`](crate::Manager::escalate).
+    pub fn escalate(&mut self, node: Node) -> Result<Escalated, Refusal> {
+        self.table
+            .serve(|m| m.escalate(self.txn, node).map(|(escalated, _)| escalated))
+    }
+
+    /// As [`Manager::insert`](crate::Manager::insert).
+    pub fn insert(&mut self, file: Node, keys: &[u64]) -> Result<Node, Refusal> {
+        self.table.serve(|m| m.insert(self.txn, file, keys))
+    }
+
+    /// As [`Manager::delete`](crate::Manager::delete). Who sleeps for the record is woken.
+    pub fn delete(&mut self, record: Node) -> Result<(), Refusal> {
+        self.table.serve(|m| m.delete(self.txn, record).map(drop))
+    }
+
+    /// As [`Manager::rekey`](crate::Manager::rekey).
+    pub fn rekey(&mut self, record: Node, index: Node, key: u64) -> Result<(), Refusal> {
+        self.table
+            .serve(|m| m.rekey(self.txn, record, index, key).map(drop))
+    }
+
+    /// As [`Manager::move_node`](crate::Manager::move_node).
+    pub fn move_node(&mut self, node: Node, parents: &[Node]) -> Result<(), Refusal> {
+        self.table
+            .serve(|m| m.move_node(self.txn, node, parents).map(drop))
+    }
+
+    /// Commits, and wakes whoever is granted by that. One that is refused, since the transaction was
+    /// condemned or another thread ended it, is aborted.
+    ///
+    /// Refused as [`Manager::commit`](crate::Manager::commit).
+    pub fn commit(mut self) -> Result<(), Refusal> {
+        let end = self.table.serve(|m| m.commit(self.txn).map(drop));
+        self.has_ended = end.is_ok();
+        end
+    }
+
+    /// Aborts. A session that is dropped does the same.
+    pub fn abort(self) {}
+
+    /// Lets the transaction live on without a session, with its locks, as one that is prepared: whoever
+    /// has its name ends it by [`Table::commit`] or [`Table::abort`].
+    pub fn leave(mut self) -> Txn {
+        self.has_ended = true;
+        self.txn
+    }
+}
+
+impl Drop for Session<'_> {
+    fn drop(&mut self) {
+        if !self.has_ended {
+            let _ = self.table.abort(self.txn); // Refused where another thread has ended it.
+        }
+    }
+}
+
+impl fmt::Debug for Session<'_> {
+    fn fmt(&self, f: &mut fmt::Formatter<'_>) -> fmt::Result {
+        f.debug_tuple("Session").field(&self.txn).finish()
+    }
+}
+
+/// When so much time will be over; `None` where that is beyond the clock.
+fn deadline(time: Duration) -> Option<Instant> {
+    Instant::now().checked_add(time)
+}

@@ -1,0 +1,416 @@
+//! A table that threads share.
+
+use crate::board::{Board, Slots};
+use crate::manager::{Asked, Manager};
+use crate::mode::{Detect, Mode, Victims};
+use crate::names::{Node, Txn};
+use crate::refusal::Refusal;
+use crate::session::{Session, Stop};
+use crate::watcher::Watcher;
+use crate::SLOTS;
+use std::fmt;
+use std::sync::{Condvar, Mutex, MutexGuard, PoisonError};
+use std::time::{Duration, Instant};
+
+/// A table of granular locks that threads share: a [`Manager`] behind one mutex, its latch, with a
+/// condition for each slot.
+///
+/// A thread begins a [`Session`], which sleeps while its locks are waited for; each command that
+/// ends the wait of somebody wakes who sleeps for it.
+///
+/// ```
+/// use burlapslate::{Detect, Mode, Stop, Table, SLOTS};
+/// use std::thread;
+///
+/// let table = Table::new(Detect::AtBlock, SLOTS)?;
+/// let db = table.add_inner(&[])?;
+/// thread::scope(|scope| {
+///     for _ in 0..4 {
+///         scope.spawn(|| {
+///             let mut session = table.begin()?;
+///             session.lock(db, Mode::X)?; // It sleeps until the lock is granted.
+///             session.commit()?;
+///             Ok::<(), Stop>(())
+///         });
+///     }
+/// });
+/// # Ok::<(), burlapslate::Refusal>(())
+/// ```
+///
+/// What is proved: what each command does, whom it tells, what became of a wait and whose sleepers
+/// are to be woken. Written in Rust here, and tested: the mutex, the conditions, and the calls round
+/// them.
+pub struct Table {
+    latch: Mutex<Guarded>,
+    /// By slot: a wait may be over.
+    ended: [Condvar; SLOTS],
+    /// A lock was left waiting, or nobody is to watch any more.
+    began: Condvar,
+}
+
+struct Guarded {
+    manager: Manager,
+    /// How many commands had been accepted when the last lock was left waiting.
+    waited: u64,
+    /// Whether those who watch over the table are to end.
+    is_unwatched: bool,
+}
+
+/// How many nodes a path keeps in mind on its way up; of a longer way it asks for some again.
+const PATH_KEPT: usize = 16;
+
+impl Table {
+    /// Makes a table for `most` transactions at once, 1 to [`SLOTS`], with a way of detection. Of
+    /// those in a deadlock the youngest falls.
+    ///
+    /// Refused as [`Manager::new`].
+    pub fn new(detect: Detect, most: usize) -> Result<Table, Refusal> {
+        Table::choosing(detect, Victims::Youngest, most)
+    }
+
+    /// As [`new`](Table::new), with a choice of victims.
+    pub fn choosing(detect: Detect, victims: Victims, most: usize) -> Result<Table, Refusal> {
+        let guarded = Guarded {
+            manager: Manager::choosing(detect, victims, most)?,
+            waited: 0,
+            is_unwatched: false,
+        };
+        Ok(Table {
+            latch: Mutex::new(guarded),
+            ended: [const { Condvar::new() }; SLOTS],
+            began: Condvar::new(),
+        })
+    }
+
+    /// A new transaction, in the hands of this thread.
+    ///
+    /// Refused as [`Manager::begin`].
+    pub fn begin(&self) -> Result<Session<'_>, Refusal> {
+        let txn = self.serve(|m| m.begin())?;
+        Ok(Session::of(self, txn))
+    }
+
+    /// As [`Manager::add_inner`].
+    pub fn add_inner(&self, parents: &[Node]) -> Result<Node, Refusal> {
+        self.serve(|m| m.add_inner(parents))
+    }
+
+    /// As [`Manager::add_file`].
+    pub fn add_file(&self, parents: &[Node]) -> Result<Node, Refusal> {
+        self.serve(|m| m.add_file(parents))
+    }
+
+    /// As [`Manager::add_index`].
+    pub fn add_index(&self, parents: &[Node], file: Node, bounds: &[u64]) -> Result<Node, Refusal> {
+        self.serve(|m| m.add_index(parents, file, bounds))
+    }
+
+    /// Ends a transaction whatever it is doing, from any thread. Whoever sleeps for it is woken, and
+    /// answered [`Refusal::NoSuchTxn`].
+    ///
+    /// Refused as [`Manager::abort`].
+    pub fn abort(&self, txn: Txn) -> Result<(), Refusal> {
+        self.serve(|m| m.abort(txn).map(drop))
+    }
+
+    /// Commits a transaction that no session drives any more ([`Session::leave`]).
+    ///
+    /// Refused as [`Manager::commit`].
+    pub fn commit(&self, txn: Txn) -> Result<(), Refusal> {
+        self.serve(|m| m.commit(txn).map(drop))
+    }
+
+    /// Takes the wait of a transaction back, from any thread. Whoever sleeps for it is woken, and
+    /// answered [`Stop::Cancelled`].
+    ///
+    /// Refused as [`Manager::cancel`].
+    pub fn cancel(&self, txn: Txn) -> Result<(), Refusal> {
+        self.serve(|m| m.cancel(txn).map(drop))
+    }
+
+    /// Condemns victims until a transaction is on no cycle of waits, and wakes them; how many.
+    ///
+    /// Refused as [`Manager::settle`].
+    pub fn settle(&self, txn: Txn) -> Result<usize, Refusal> {
+        use crate::notices::Notice;
+        self.serve(|m| {
+            let told = m.settle(txn)?;
+            Ok(told
+                .filter(|notice| matches!(notice, Notice::Victim { .. }))
+                .count())
+        })
+    }
+
+    /// Asks questions that are all of one moment, with the latch held. A closure that calls this
+    /// table again never comes to an end.
+    ///
+    /// ```
+    /// # use burlapslate::{Detect, Mode, Table, SLOTS};
+    /// # let table = Table::new(Detect::AtBlock, SLOTS)?;
+    /// # let db = table.add_inner(&[])?;
+    /// # let mut session = table.begin()?;
+    /// # let _ = session.lock(db, Mode::X);
+    /// table.with(|m| {
+    ///     for row in m.transactions().flat_map(|row| m.locks(row.txn)) {
+    ///         assert_eq!((row.node, row.mode), (db, Mode::X));
+    ///     }
+    /// });
+    /// # Ok::<(), burlapslate::Refusal>(())
+    /// ```
+    pub fn with<T>(&self, ask: impl FnOnce(&Manager) -> T) -> T {
+        ask(&self.guarded().manager)
+    }
+
+    /// All that there is, of one moment, as text in columns.
+    pub fn dump(&self) -> String {
+        self.with(|m| m.listing().to_string())
+    }
+
+    /// A watcher, which looks without the latch.
+    ///
+    /// Refused as [`Manager::watch`].
+    pub fn watch(&self) -> Result<Watcher, Refusal> {
+        self.guarded().manager.watch()
+    }
+
+    /// Ends deadlocks, for a table with [`Detect::ByWatcher`], until
+    /// [`end_watch`](Table::end_watch) is called: looks as a watcher does, settles the youngest
+    /// suspect, and rests for this time behind each look. While no lock has been left waiting since
+    /// it saw no suspect it sleeps. It counts as a watcher.
+    ///
+    /// Refused as [`Manager::watch`].
+    ///
+    /// ```
+    /// use burlapslate::{Detect, Mode, Stop, Table, SLOTS};
+    /// use std::thread;
+    /// use std::time::Duration;
+    ///
+    /// let table = Table::new(Detect::ByWatcher, SLOTS)?;
+    /// let db = table.add_inner(&[])?;
+    /// let (mut older, mut younger) = (table.begin()?, table.begin()?);
+    /// for session in [&mut older, &mut younger] {
+    ///     assert_eq!(session.lock(db, Mode::S), Ok(Mode::S));
+    /// }
+    /// thread::scope(|scope| {
+    ///     scope.spawn(|| table.watch_over(Duration::ZERO).unwrap());
+    ///     let fell = scope.spawn(move || {
+    ///         let end = younger.lock(db, Mode::X);
+    ///         younger.abort();
+    ///         end
+    ///     });
+    ///     assert_eq!(older.lock(db, Mode::X), Ok(Mode::X));
+    ///     assert_eq!(fell.join().unwrap(), Err(Stop::Victim));
+    ///     table.end_watch();
+    /// });
+    /// # Ok::<(), burlapslate::Refusal>(())
+    /// ```
+    pub fn watch_over(&self, rest: Duration) -> Result<(), Refusal> {
+        let mut watcher = self.watch()?;
+        let mut board = Board::new();
+        let mut seen = 0;
+        let mut is_clear = true;
+        let mut guarded = self.guarded();
+        while !guarded.is_unwatched {
+            if is_clear && guarded.waited == seen {
+                guarded = wait(&self.began, guarded);
+                continue;
+            }
+            seen = guarded.waited;
+            drop(guarded);
+            watcher.look(&mut board);
+            guarded = self.guarded();
+            if board.epoch() < seen {
+                guarded.manager.read_board(&mut board); // It could not be shown, for want of memory.
+            }
+            is_clear = !self.settle_youngest(&mut guarded, &board);
+            guarded = self.rest(guarded, rest);
+        }
+        Ok(())
+    }
+
+    /// Ends all who watch over the table, now and from now on.
+    pub fn end_watch(&self) {
+        self.guarded().is_unwatched = true;
+        self.began.notify_all();
+    }
+}
+
+/// What a [`Session`] asks.
+impl Table {
+    /// Serves a command that never waits, and wakes whose wait it ended.
+    pub(crate) fn serve<T>(
+        &self,
+        command: impl FnOnce(&mut Manager) -> Result<T, Refusal>,
+    ) -> Result<T, Refusal> {
+        let mut guarded = self.guarded();
+        let answer = command(&mut guarded.manager)?;
+        self.wake(&guarded);
+        Ok(answer)
+    }
+
+    pub(crate) fn lock(
+        &self,
+        txn: Txn,
+        node: Node,
+        mode: Mode,
+        until: Option<Instant>,
+    ) -> Result<Mode, Stop> {
+        self.lock_held(self.guarded(), txn, node, mode, until).1
+    }
+
+    /// Each lock of a path in one hold of the latch, but for the sleeps.
+    pub(crate) fn lock_path(
+        &self,
+        txn: Txn,
+        node: Node,
+        mode: Mode,
+        until: Option<Instant>,
+    ) -> Result<Mode, Stop> {
+        let intention = match mode {
+            Mode::IS | Mode::S => Mode::IS,
+            _ => Mode::IX,
+        };
+        let mut guarded = self.guarded();
+        let mut way = [node; PATH_KEPT]; // What is still to be locked, the lowest first.
+        let mut count = 1;
+        loop {
+            let (next, asked) = (way[count - 1], if count == 1 { mode } else { intention });
+            let (held, end) = self.lock_held(guarded, txn, next, asked, until);
+            guarded = held;
+            match end {
+                Ok(mode) if count == 1 => return Ok(mode),
+                Ok(_) => count -= 1,
+                Err(Stop::Refused(Refusal::NeedParents(parent))) => {
+                    if count == PATH_KEPT {
+                        count = 1; // The upper ones are forgotten.
+                    }
+                    way[count] = parent;
+                    count += 1;
+                }
+                Err(Stop::Moved) => {} // It is asked for again, and names its new parents.
+                Err(stop) => return Err(stop),
+            }
+        }
+    }
+
+    /// Asks for a lock with the latch held, and sleeps where it has to be waited for.
+    fn lock_held<'t>(
+        &'t self,
+        mut guarded: MutexGuard<'t, Guarded>,
+        txn: Txn,
+        node: Node,
+        mode: Mode,
+        until: Option<Instant>,
+    ) -> (MutexGuard<'t, Guarded>, Result<Mode, Stop>) {
+        let asked = match guarded.manager.lock(txn, node, mode) {
+            Ok((asked, _)) => asked,
+            Err(refusal) => return (guarded, Err(Stop::Refused(refusal))),
+        };
+        self.wake(&guarded);
+        match asked {
+            Asked::Granted(mode) => (guarded, Ok(mode)),
+            Asked::Victim => (guarded, Err(Stop::Victim)),
+            Asked::Waiting => {
+                guarded.waited = guarded.manager.accepted();
+                self.began.notify_all();
+                self.sleep(guarded, txn, node, mode, until)
+            }
+        }
+    }
+
+    /// Sleeps until the wait has its end, or the time is over. What became of the wait is asked
+    /// before the clock.
+    fn sleep<'t>(
+        &'t self,
+        mut guarded: MutexGuard<'t, Guarded>,
+        txn: Txn,
+        node: Node,
+        mode: Mode,
+        until: Option<Instant>,
+    ) -> (MutexGuard<'t, Guarded>, Result<Mode, Stop>) {
+        let ended = &self.ended[txn.slot()];
+        loop {
+            let is_late;
+            (guarded, is_late) = match until {
+                None => (wait(ended, guarded), false),
+                Some(until) => wait_until(ended, guarded, until),
+            };
+            if let Some(end) = guarded.manager.verdict(txn, node, mode) {
+                return (guarded, end);
+            }
+            if is_late {
+                let end = match guarded.manager.cancel(txn).map(drop) {
+                    Ok(()) => Stop::TimedOut,
+                    Err(refusal) => Stop::Refused(refusal),
+                };
+                self.wake(&guarded);
+                return (guarded, Err(end));
+            }
+        }
+    }
+
+    /// Wakes those whose wait the last command may have ended.
+    fn wake(&self, guarded: &Guarded) {
+        for slot in guarded.manager.ended() {
+            self.ended[slot].notify_all();
+        }
+    }
+
+    /// Settles the youngest suspect of a board, with the latch held: whether there was one.
+    fn settle_youngest(&self, guarded: &mut Guarded, board: &Board) -> bool {
+        let suspects: Slots = board.suspects();
+        let Some(suspect) = board.youngest(suspects).and_then(|slot| board.txn(slot)) else {
+            return false;
+        };
+        if guarded.manager.settle(suspect).map(drop).is_ok() {
+            self.wake(guarded);
+        }
+        true
+    }
+
+    /// Lets some time go by, but no longer than somebody is to watch.
+    fn rest<'t>(
+        &'t self,
+        mut guarded: MutexGuard<'t, Guarded>,
+        time: Duration,
+    ) -> MutexGuard<'t, Guarded> {
+        let Some(until) = Instant::now().checked_add(time) else {
+            return guarded;
+        };
+        let mut is_late = time.is_zero();
+        while !is_late && !guarded.is_unwatched {
+            (guarded, is_late) = wait_until(&self.began, guarded, until);
+        }
+        guarded
+    }
+
+    /// Takes the latch. A thread that panics does so in a closure of [`with`](Table::with), which
+    /// changes nothing: so what is guarded is whole also then.
+    fn guarded(&self) -> MutexGuard<'_, Guarded> {
+        self.latch.lock().unwrap_or_else(PoisonError::into_inner)
+    }
+}
+
+fn wait<'t>(on: &Condvar, guarded: MutexGuard<'t, Guarded>) -> MutexGuard<'t, Guarded> {
+    on.wait(guarded).unwrap_or_else(PoisonError::into_inner)
+}
+
+/// Waits, but no longer than to a moment: whether that has come.
+fn wait_until<'t>(
+    on: &Condvar,
+    guarded: MutexGuard<'t, Guarded>,
+    until: Instant,
+) -> (MutexGuard<'t, Guarded>, bool) {
+    let left = until.saturating_duration_since(Instant::now());
+    let (guarded, _) = on
+        .wait_timeout(guarded, left)
+        .unwrap_or_else(PoisonError::into_inner);
+    (guarded, Instant::now() >= until)
+}
+
+/// How deadlocks are found, and how much there is.
+impl fmt::Debug for Table {
+    fn fmt(&self, f: &mut fmt::Formatter<'_>) -> fmt::Result {
+        self.with(|manager| f.debug_struct("Table").field("manager", manager).finish())
+    }
+}

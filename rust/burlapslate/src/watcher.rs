@@ -1,0 +1,65 @@
+//! Watchers: who waits for whom, without the mutex of a table.
+
+use crate::board::Board;
+use crate::manager::Manager;
+use crate::refusal::{accepted, Refusal};
+use crate::sys::{self, WatcherPlace};
+use std::fmt;
+
+/// One who looks at the boards that a manager shows, with no mutex and no wait.
+///
+/// A manager that has watchers shows them its board behind each accepted command, as long as
+/// somebody waits or waited when it was last shown. So a board that shows no wait is older than the
+/// last command only where nobody waits. A watcher may outlive its manager: then it sees the last
+/// board that was shown.
+///
+/// ```
+/// use burlapslate::{Board, Detect, Mode, Table, SLOTS};
+///
+/// let table = Table::new(Detect::AtBlock, SLOTS)?;
+/// let db = table.add_inner(&[])?;
+/// let mut watcher = table.watch()?;
+/// let mut board = Board::new();
+/// watcher.look(&mut board);
+/// assert!(board.rows().iter().all(|row| row.is_empty()));
+/// # let _ = db;
+/// # Ok::<(), burlapslate::Refusal>(())
+/// ```
+pub struct Watcher {
+    place: Box<WatcherPlace>,
+}
+
+impl Watcher {
+    /// A watcher of a manager.
+    pub(crate) fn of(manager: &Manager) -> Result<Watcher, Refusal> {
+        let mut place = WatcherPlace::new().ok_or(Refusal::NoMemory)?;
+        accepted(sys::bs_call_watch(manager.as_place(), &mut place))?;
+        Ok(Watcher { place })
+    }
+
+    /// Looks: writes the last board that was shown over this one. It is whole, and never older than
+    /// what this watcher saw before; with detection at block it has no suspect.
+    pub fn look(&mut self, board: &mut Board) {
+        let reply = sys::bs_call_look(&mut self.place, board.as_sys());
+        assert_eq!(reply.status, sys::DONE, "a look was refused");
+    }
+
+    /// The last board that was shown.
+    pub fn board(&mut self) -> Board {
+        let mut board = Board::new();
+        self.look(&mut board);
+        board
+    }
+}
+
+impl Drop for Watcher {
+    fn drop(&mut self) {
+        sys::bs_call_watch_end(&mut self.place);
+    }
+}
+
+impl fmt::Debug for Watcher {
+    fn fmt(&self, f: &mut fmt::Formatter<'_>) -> fmt::Result {
+        f.debug_struct("Watcher").finish_non_exhaustive()
+    }
+}

@@ -1,0 +1,302 @@
+//! A crowd over one shared table: threads make random commands of every kind, by both ways of
+//! detection and both choices of victims. Those who hold X on an account add to it in two steps, and
+//! no addition may be lost; in the end nobody holds or waits, and boards never went back.
+
+use burlapslate::{Board, Detect, Mode, Node, Refusal, Session, Stop, Table, Txn, Victims, SLOTS};
+use std::sync::atomic::{AtomicBool, AtomicU64, Ordering};
+use std::sync::Mutex;
+use std::thread;
+use std::time::Duration;
+
+const SESSIONS: usize = SLOTS;
+const ROUNDS: usize = 4;
+const ACCOUNTS: usize = 8;
+const RECORDS: usize = 24;
+
+struct Crowd {
+    table: Table,
+    root: Node,
+    areas: [Node; 2],
+    files: [Node; 2],
+    indexes: [Node; 2],
+    accounts: [Node; ACCOUNTS],
+    /// What was added, by those who held the account in X.
+    added: [AtomicU64; ACCOUNTS],
+    records: Mutex<[Node; RECORDS]>,
+    /// Those whose transaction anybody may end.
+    game: Mutex<[Txn; SESSIONS]>,
+}
+
+impl Crowd {
+    fn new(detect: Detect, victims: Victims) -> Result<Crowd, Stop> {
+        let table = Table::choosing(detect, victims, SLOTS)?;
+        let root = table.add_inner(&[])?;
+        let areas = [table.add_inner(&[root])?, table.add_inner(&[root])?];
+        let files = [table.add_file(&[areas[0]])?, table.add_file(&[areas[1]])?];
+        let mut indexes = [root; 2];
+        for i in 0..2 {
+            indexes[i] = table.add_index(&[areas[i]], files[i], &[100, 200])?;
+        }
+        let mut accounts = [root; ACCOUNTS];
+        for account in &mut accounts {
+            *account = table.add_inner(&[root])?;
+        }
+        let mut records = [root; RECORDS];
+        let mut session = table.begin()?;
+        for (i, record) in records.iter_mut().enumerate() {
+            let key = i as u64 * 12;
+            let interval = table.with(|m| m.interval_of(indexes[i % 2], key))?;
+            session.lock_path(interval, Mode::IX)?;
+            session.lock_path(files[i % 2], Mode::IX)?;
+            *record = session.insert(files[i % 2], &[key])?;
+        }
+        session.commit()?;
+        Ok(Crowd {
+            table,
+            root,
+            areas,
+            files,
+            indexes,
+            accounts,
+            added: [const { AtomicU64::new(0) }; ACCOUNTS],
+            records: Mutex::new(records),
+            game: Mutex::new([Txn::NONE; SESSIONS]),
+        })
+    }
+}
+
+/// A session, with small random numbers of its own (Marsaglia's xorshift).
+struct Member<'c> {
+    crowd: &'c Crowd,
+    number: usize,
+    dice: u64,
+    /// Whether anybody may end its transaction.
+    is_game: bool,
+    adds: [u64; ACCOUNTS],
+    fell: usize,
+}
+
+impl Member<'_> {
+    fn pick(&mut self, sides: usize) -> usize {
+        self.dice ^= self.dice << 13;
+        self.dice ^= self.dice >> 7;
+        self.dice ^= self.dice << 17;
+        (self.dice >> 16) as usize % sides
+    }
+
+    fn record(&mut self) -> Node {
+        let place = self.pick(RECORDS);
+        self.crowd.records.lock().unwrap()[place]
+    }
+
+    fn node(&mut self) -> Node {
+        let (i, account) = (self.pick(2), self.pick(ACCOUNTS));
+        match self.pick(6) {
+            0 => self.crowd.root,
+            1 => self.crowd.areas[i],
+            2 => self.crowd.files[i],
+            3 => self.crowd.indexes[i],
+            4 => self.crowd.accounts[account],
+            _ => self.record(),
+        }
+    }
+
+    fn mode(&mut self) -> Mode {
+        [Mode::IS, Mode::IX, Mode::IX, Mode::S, Mode::SIX, Mode::X][self.pick(6)]
+    }
+
+    /// Locks a path, sometimes within a time.
+    fn path(&mut self, session: &mut Session<'_>, node: Node, mode: Mode) -> Result<Mode, Stop> {
+        if self.pick(4) != 0 {
+            return session.lock_path(node, mode);
+        }
+        let time = Duration::from_micros(200 + self.pick(2000) as u64);
+        session.lock_path_timeout(node, mode, time)
+    }
+
+    fn add(&mut self, session: &mut Session<'_>) -> Result<(), Stop> {
+        let i = self.pick(ACCOUNTS);
+        self.path(session, self.crowd.accounts[i], Mode::X)?;
+        if !self.is_game {
+            let before = self.crowd.added[i].load(Ordering::Relaxed);
+            thread::yield_now();
+            self.crowd.added[i].store(before + 1, Ordering::Relaxed);
+            self.adds[i] += 1;
+        }
+        Ok(())
+    }
+
+    fn insert(&mut self, session: &mut Session<'_>) -> Result<(), Stop> {
+        let (i, place, key) = (self.pick(2), self.pick(RECORDS), self.pick(300) as u64);
+        let interval = self
+            .crowd
+            .table
+            .with(|m| m.interval_of(self.crowd.indexes[i], key))?;
+        self.path(session, interval, Mode::IX)?;
+        self.path(session, self.crowd.files[i], Mode::IX)?;
+        let record = session.insert(self.crowd.files[i], &[key])?;
+        self.crowd.records.lock().unwrap()[place] = record;
+        Ok(())
+    }
+
+    fn rekey(&mut self, session: &mut Session<'_>) -> Result<(), Stop> {
+        let (record, i, key) = (self.record(), self.pick(2), self.pick(300) as u64);
+        self.path(session, record, Mode::X)?;
+        let interval = self
+            .crowd
+            .table
+            .with(|m| m.interval_of(self.crowd.indexes[i], key))?;
+        self.path(session, interval, Mode::IX)?;
+        Ok(session.rekey(record, self.crowd.indexes[i], key)?)
+    }
+
+    fn move_file(&mut self, session: &mut Session<'_>) -> Result<(), Stop> {
+        let (file, area) = (
+            self.crowd.files[self.pick(2)],
+            self.crowd.areas[self.pick(2)],
+        );
+        self.path(session, file, Mode::X)?;
+        self.path(session, area, Mode::IX)?;
+        Ok(session.move_node(file, &[area])?)
+    }
+
+    fn meddle(&mut self) -> Result<(), Stop> {
+        let place = self.pick(SESSIONS);
+        let whom = self.crowd.game.lock().unwrap()[place];
+        match self.pick(3) {
+            0 => self.crowd.table.abort(whom)?,
+            1 => self.crowd.table.settle(whom).map(drop)?,
+            _ => self.crowd.table.cancel(whom)?,
+        }
+        Ok(())
+    }
+
+    fn command(&mut self, session: &mut Session<'_>) -> Result<(), Stop> {
+        let (node, mode) = (self.node(), self.mode());
+        match self.pick(16) {
+            0 => session.lock(node, mode).map(drop)?,
+            1 => session.try_lock(node, mode).map(drop)?,
+            2 => session.unlock(node)?,
+            3 => session.escalate(node).map(drop)?,
+            4 => self.insert(session)?,
+            5 => {
+                let record = self.record();
+                self.path(session, record, Mode::X)?;
+                session.delete(record)?;
+            }
+            6 => self.rekey(session)?,
+            7 => self.move_file(session)?,
+            8 => self.meddle()?,
+            9 | 10 => {
+                let record = self.record();
+                self.path(session, record, Mode::S).map(drop)?;
+            }
+            _ => self.add(session)?,
+        }
+        Ok(())
+    }
+
+    fn transaction(&mut self) {
+        let mut session = self.crowd.table.begin().unwrap();
+        self.is_game = self.pick(6) == 0;
+        let name = if self.is_game {
+            session.txn()
+        } else {
+            Txn::NONE
+        };
+        self.crowd.game.lock().unwrap()[self.number] = name;
+        let mut end = Ok(());
+        for _ in 0..=self.pick(6) {
+            end = self.command(&mut session);
+            if matches!(
+                end,
+                Err(Stop::Victim | Stop::Refused(Refusal::TxnCondemned))
+            ) {
+                break;
+            }
+        }
+        self.fell += usize::from(end == Err(Stop::Victim));
+        self.crowd.game.lock().unwrap()[self.number] = Txn::NONE;
+        if end == Err(Stop::Victim) || self.pick(8) == 0 {
+            return; // It is dropped, and so aborted.
+        }
+        let end = session.commit();
+        assert!(
+            end.is_ok() || self.is_game || end == Err(Refusal::TxnCondemned),
+            "{end:?}"
+        );
+    }
+}
+
+/// Looks on until all is over: epochs never fall, and at block there is no suspect.
+fn look_on(crowd: &Crowd, detect: Detect, is_over: &AtomicBool) {
+    let mut watcher = crowd.table.watch().unwrap();
+    let mut board = Board::new();
+    let mut epoch = 0;
+    while !is_over.load(Ordering::Relaxed) {
+        watcher.look(&mut board);
+        assert!(board.epoch() >= epoch);
+        epoch = board.epoch();
+        assert!(detect == Detect::ByWatcher || board.suspects().is_empty());
+    }
+}
+
+fn play(detect: Detect, victims: Victims) {
+    let crowd = Crowd::new(detect, victims).unwrap();
+    let is_over = AtomicBool::new(false);
+    let members = thread::scope(|scope| {
+        scope.spawn(|| look_on(&crowd, detect, &is_over));
+        if detect == Detect::ByWatcher {
+            scope.spawn(|| crowd.table.watch_over(Duration::ZERO).unwrap());
+        }
+        let sessions: Vec<_> = (0..SESSIONS)
+            .map(|number| {
+                let crowd = &crowd;
+                scope.spawn(move || {
+                    let mut member = Member {
+                        crowd,
+                        number,
+                        dice: 0x9e37_79b9_7f4a_7c15u64.wrapping_mul(number as u64 + 1),
+                        is_game: false,
+                        adds: [0; ACCOUNTS],
+                        fell: 0,
+                    };
+                    for _ in 0..ROUNDS {
+                        member.transaction();
+                    }
+                    (member.adds, member.fell)
+                })
+            })
+            .collect();
+        let members: Vec<_> = sessions.into_iter().map(|it| it.join().unwrap()).collect();
+        is_over.store(true, Ordering::Relaxed);
+        crowd.table.end_watch();
+        members
+    });
+    for i in 0..ACCOUNTS {
+        let sum: u64 = members.iter().map(|(adds, _)| adds[i]).sum();
+        assert_eq!(
+            crowd.added[i].load(Ordering::Relaxed),
+            sum,
+            "an addition is lost"
+        );
+    }
+    crowd.table.with(|m| {
+        assert_eq!(m.transactions().count(), 0);
+        assert_eq!(m.group(crowd.root), Ok(Mode::NL));
+        let fell: usize = members.iter().map(|(_, fell)| fell).sum();
+        assert!(m.counters().victims >= fell as u64);
+    });
+}
+
+#[test]
+fn a_crowd_at_block() {
+    play(Detect::AtBlock, Victims::Youngest);
+    play(Detect::AtBlock, Victims::Fewest);
+}
+
+#[test]
+fn a_crowd_by_watcher() {
+    play(Detect::ByWatcher, Victims::Youngest);
+    play(Detect::ByWatcher, Victims::Fewest);
+}

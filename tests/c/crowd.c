@@ -1,0 +1,698 @@
+/*
+ * A crowd over one shared table: 128 threads make random commands of every kind, by both ways of detection and both
+ * choices of victims.
+ *
+ *   crowd [ROUNDS [SECONDS]]   how many transactions each thread begins, 4 where none is given; and the time that a
+ *                              setting may take before it is said to hang, 20 where none is given
+ *
+ * Each call that the table makes with its manager is written down with its answer, with the latch held. In the end a
+ * manager of one thread is asked the same in the same order, and must answer the same. What each thread was answered
+ * must be what was written down, or, where it slept, how its wait then ended. Those who hold BS_X on an account add
+ * to it with nothing else to guard it, and no addition may be lost. Listings of one moment agree with each other.
+ */
+#include "burlapslate.h"
+
+#include <sched.h>
+#include <stdlib.h>
+#include <string.h>
+
+/* ------------------------------------------------------------------------------------------------
+ * What was served.
+ */
+
+enum kind {
+  BEGIN, LOCK, TRY, UNLOCK, ESCALATE, CANCEL, COMMIT, ABORT, SETTLE, INSERT, DELETE, REKEY, MOVE, ADD_INNER, ADD_FILE,
+  ADD_INDEX, KINDS
+};
+
+enum { MOST_NUMBERS = 3, MOST_PARENTS = 2 };
+
+/* A call, with all that it was given. */
+struct call {
+  enum kind kind;
+  bs_txn txn;
+  bs_node node;
+  bs_mode mode;
+  bs_node other;
+  uint64_t key;
+  bs_node parents[MOST_PARENTS];
+  size_t parent_count;
+  uint64_t numbers[MOST_NUMBERS];
+  size_t number_count;
+};
+
+struct served {
+  struct call call;
+  bs_reply reply;
+  size_t told_count;
+  uint64_t told_sum; /* of all that the notices say */
+  uint64_t accepted; /* behind it */
+  bool has_slept;    /* a lock that was left waiting, and what its thread was answered then */
+  bs_reply came;
+};
+
+/* With the latch of the table held. */
+static struct served *log_of_calls;
+static size_t log_count, log_room;
+
+/* The last call that this thread had served. */
+static __thread size_t my_last;
+
+static uint64_t mixed(uint64_t sum, uint64_t more) {
+  return (sum ^ more) * UINT64_C(0x100000001b3);
+}
+
+static uint64_t sum_of(const bs_notices *told) {
+  uint64_t sum = UINT64_C(0xcbf29ce484222325);
+  size_t i;
+  for (i = 0; i < told->count; i++) {
+    const bs_notice *n = &told->at[i];
+    sum = mixed(mixed(mixed(sum, n->txn.slot), n->txn.age), n->kind);
+    sum = mixed(mixed(mixed(sum, n->node.key), n->node.birth), n->mode);
+  }
+  return sum;
+}
+
+static bs_reply write_down(bs_manager *m, const struct call *call, bs_reply reply, const bs_notices *told) {
+  struct served *s;
+  if (log_count == log_room) {
+    log_room = log_room == 0 ? 4096 : 2 * log_room;
+    log_of_calls = (struct served *)realloc(log_of_calls, log_room * sizeof *log_of_calls);
+    if (log_of_calls == NULL) abort();
+  }
+  my_last = log_count++;
+  s = &log_of_calls[my_last];
+  memset(s, 0, sizeof *s);
+  s->call = *call;
+  s->reply = reply;
+  s->told_count = told == NULL ? 0 : told->count;
+  s->told_sum = told == NULL ? 0 : sum_of(told);
+  s->accepted = bs_accepted(m).count;
+  return reply;
+}
+
+/* Makes a call with a manager of one thread. */
+static bs_reply made(bs_manager *m, const struct call *c, bs_notices *told) {
+  told->count = 0;
+  switch (c->kind) {
+    case BEGIN: return bs_begin(m);
+    case LOCK: return bs_lock(m, c->txn, c->node, c->mode, told);
+    case TRY: return bs_try(m, c->txn, c->node, c->mode);
+    case UNLOCK: return bs_unlock(m, c->txn, c->node, told);
+    case ESCALATE: return bs_escalate(m, c->txn, c->node, told);
+    case CANCEL: return bs_cancel(m, c->txn, told);
+    case COMMIT: return bs_commit(m, c->txn, told);
+    case ABORT: return bs_abort(m, c->txn, told);
+    case SETTLE: return bs_settle(m, c->txn, told);
+    case INSERT: return bs_insert(m, c->txn, c->node, c->numbers, c->number_count);
+    case DELETE: return bs_delete(m, c->txn, c->node, told);
+    case REKEY: return bs_rekey(m, c->txn, c->node, c->other, c->key, told);
+    case MOVE: return bs_move(m, c->txn, c->node, c->parents, c->parent_count, told);
+    case ADD_INNER: return bs_add_inner(m, c->parents, c->parent_count);
+    case ADD_FILE: return bs_add_file(m, c->parents, c->parent_count);
+    default: return bs_add_index(m, c->parents, c->parent_count, c->other, c->numbers, c->number_count);
+  }
+}
+
+static struct call call_of(enum kind kind, bs_txn txn, bs_node node) {
+  struct call call;
+  memset(&call, 0, sizeof call);
+  call.kind = kind;
+  call.txn = txn;
+  call.node = node;
+  return call;
+}
+
+static struct call adding(enum kind kind, const bs_node *parents, size_t count) {
+  bs_txn nobody = { 0, 0 };
+  bs_node none = { 0, 0 };
+  struct call call = call_of(kind, nobody, none);
+  if (count > MOST_PARENTS) abort();
+  if (count > 0) memcpy(call.parents, parents, count * sizeof *parents);
+  call.parent_count = count;
+  return call;
+}
+
+static void give_numbers(struct call *call, const uint64_t *numbers, size_t count) {
+  if (count > MOST_NUMBERS) abort();
+  if (count > 0) memcpy(call->numbers, numbers, count * sizeof *numbers);
+  call->number_count = count;
+}
+
+/* The calls that the header makes in place of those of burlapslate.h. */
+static bs_reply serve(bs_manager *m, struct call call, bs_notices *told) {
+  static bs_notices none; /* with the latch held too */
+  bs_reply reply = made(m, &call, told == NULL ? &none : told);
+  return write_down(m, &call, reply, told);
+}
+
+static bs_reply served_begin(bs_manager *m) {
+  return serve(m, adding(BEGIN, NULL, 0), NULL);
+}
+
+static bs_reply served_lock(bs_manager *m, bs_txn txn, bs_node node, bs_mode mode, bs_notices *told) {
+  struct call call = call_of(LOCK, txn, node);
+  call.mode = mode;
+  return serve(m, call, told);
+}
+
+static bs_reply served_try(bs_manager *m, bs_txn txn, bs_node node, bs_mode mode) {
+  struct call call = call_of(TRY, txn, node);
+  call.mode = mode;
+  return serve(m, call, NULL);
+}
+
+static bs_reply served_unlock(bs_manager *m, bs_txn txn, bs_node node, bs_notices *told) {
+  return serve(m, call_of(UNLOCK, txn, node), told);
+}
+
+static bs_reply served_escalate(bs_manager *m, bs_txn txn, bs_node node, bs_notices *told) {
+  return serve(m, call_of(ESCALATE, txn, node), told);
+}
+
+static bs_reply served_end(bs_manager *m, enum kind kind, bs_txn txn, bs_notices *told) {
+  bs_node none = { 0, 0 };
+  return serve(m, call_of(kind, txn, none), told);
+}
+
+static bs_reply served_insert(bs_manager *m, bs_txn txn, bs_node file, const uint64_t *keys, size_t count) {
+  struct call call = call_of(INSERT, txn, file);
+  give_numbers(&call, keys, count);
+  return serve(m, call, NULL);
+}
+
+static bs_reply served_delete(bs_manager *m, bs_txn txn, bs_node record, bs_notices *told) {
+  return serve(m, call_of(DELETE, txn, record), told);
+}
+
+static bs_reply served_rekey(bs_manager *m, bs_txn txn, bs_node record, bs_node index, uint64_t key, bs_notices *told) {
+  struct call call = call_of(REKEY, txn, record);
+  call.other = index;
+  call.key = key;
+  return serve(m, call, told);
+}
+
+static bs_reply served_move(bs_manager *m, bs_txn txn, bs_node node, const bs_node *parents, size_t count,
+                            bs_notices *told) {
+  struct call call = adding(MOVE, parents, count);
+  call.txn = txn;
+  call.node = node;
+  return serve(m, call, told);
+}
+
+static bs_reply served_add(bs_manager *m, enum kind kind, const bs_node *parents, size_t count) {
+  return serve(m, adding(kind, parents, count), NULL);
+}
+
+static bs_reply served_add_index(bs_manager *m, const bs_node *parents, size_t count, bs_node file,
+                                 const uint64_t *bounds, size_t bound_count) {
+  struct call call = adding(ADD_INDEX, parents, count);
+  call.other = file;
+  give_numbers(&call, bounds, bound_count);
+  return serve(m, call, NULL);
+}
+
+#define bs_begin(m) served_begin(m)
+#define bs_lock(m, txn, node, mode, told) served_lock(m, txn, node, mode, told)
+#define bs_try(m, txn, node, mode) served_try(m, txn, node, mode)
+#define bs_unlock(m, txn, node, told) served_unlock(m, txn, node, told)
+#define bs_escalate(m, txn, node, told) served_escalate(m, txn, node, told)
+#define bs_cancel(m, txn, told) served_end(m, CANCEL, txn, told)
+#define bs_commit(m, txn, told) served_end(m, COMMIT, txn, told)
+#define bs_abort(m, txn, told) served_end(m, ABORT, txn, told)
+#define bs_settle(m, txn, told) served_end(m, SETTLE, txn, told)
+#define bs_insert(m, txn, file, keys, count) served_insert(m, txn, file, keys, count)
+#define bs_delete(m, txn, record, told) served_delete(m, txn, record, told)
+#define bs_rekey(m, txn, record, index, key, told) served_rekey(m, txn, record, index, key, told)
+#define bs_move(m, txn, node, parents, count, told) served_move(m, txn, node, parents, count, told)
+#define bs_add_inner(m, parents, count) served_add(m, ADD_INNER, parents, count)
+#define bs_add_file(m, parents, count) served_add(m, ADD_FILE, parents, count)
+#define bs_add_index(m, parents, count, file, bounds, most) served_add_index(m, parents, count, file, bounds, most)
+
+#include "threads.h"
+
+/* ------------------------------------------------------------------------------------------------
+ * The nodes: a root, two areas, four files with an index of three intervals each, six records in each file at first,
+ * and eight accounts.
+ */
+
+enum { AREAS = 2, FILES = 4, INTERVALS = 3, RECORDS = 24, ACCOUNTS = 8, THREADS = 128, WATCHERS = 2 };
+
+static bs_table table = BS_NO_TABLE_HERE;
+static bs_node root, areas[AREAS], files[FILES], indexes[FILES], intervals[FILES][INTERVALS], accounts[ACCOUNTS];
+static bs_node records[RECORDS];
+static pthread_mutex_t names = PTHREAD_MUTEX_INITIALIZER; /* of records, and of those who may be ended by anybody */
+static bs_txn free_game[THREADS];
+static long added[ACCOUNTS]; /* by who holds the account in X */
+static bool is_over;         /* for those who watch, with `names` held */
+
+static void make_file(size_t i) {
+  static const uint64_t bounds[2] = { 100, 200 };
+  bs_node area = areas[i % AREAS];
+  bs_txn t = DONE(bs_table_begin(&table)).txn;
+  size_t j;
+  files[i] = DONE(bs_table_add_file(&table, &area, 1)).node;
+  indexes[i] = DONE(bs_table_add_index(&table, &area, 1, files[i], bounds, 2)).node;
+  for (j = 0; j < INTERVALS; j++) {
+    intervals[i][j] = DONE(bs_table_interval(&table, indexes[i], j)).node;
+    DONE(bs_table_lock_path(&table, t, intervals[i][j], BS_IX, NULL));
+  }
+  DONE(bs_table_lock_path(&table, t, files[i], BS_IX, NULL));
+  for (j = i; j < RECORDS; j += FILES) {
+    uint64_t key = j * 11;
+    records[j] = DONE(bs_table_insert(&table, t, files[i], &key, 1)).node;
+  }
+  DONE(bs_table_commit(&table, t, NULL));
+}
+
+static void set_up(uint32_t detect, uint32_t victims) {
+  size_t i;
+  log_count = 0;
+  memset(added, 0, sizeof added);
+  memset(free_game, 0, sizeof free_game);
+  is_over = false;
+  DONE(bs_table_make(&table, detect, victims, BS_SLOTS));
+  root = DONE(bs_table_add_inner(&table, NULL, 0)).node;
+  for (i = 0; i < AREAS; i++) areas[i] = DONE(bs_table_add_inner(&table, &root, 1)).node;
+  for (i = 0; i < FILES; i++) make_file(i);
+  for (i = 0; i < ACCOUNTS; i++) accounts[i] = DONE(bs_table_add_inner(&table, &root, 1)).node;
+  if (detect == BS_BY_WATCHER) DONE(bs_table_watch_thread(&table, 0));
+}
+
+/* ------------------------------------------------------------------------------------------------
+ * A session.
+ */
+
+struct session {
+  size_t number;
+  uint64_t dice;
+  bs_txn txn;
+  bool is_game; /* anybody may end its transaction */
+  long adds[ACCOUNTS], victims, slept, late;
+  pthread_t thread;
+};
+
+static size_t pick(struct session *s, size_t sides) {
+  return (size_t)roll(&s->dice, sides);
+}
+
+static bs_node any_record(struct session *s) {
+  bs_node record;
+  pthread_mutex_lock(&names);
+  record = records[pick(s, RECORDS)];
+  pthread_mutex_unlock(&names);
+  return record;
+}
+
+static bs_node any_node(struct session *s) {
+  size_t i = pick(s, FILES);
+  switch (pick(s, 8)) {
+    case 0: return root;
+    case 1: return areas[i % AREAS];
+    case 2: return files[i];
+    case 3: return indexes[i];
+    case 4: return intervals[i][pick(s, INTERVALS)];
+    case 5: return accounts[pick(s, ACCOUNTS)];
+    default: return any_record(s);
+  }
+}
+
+static bool same_reply(bs_reply a, bs_reply b) {
+  return a.status == b.status && a.mode == b.mode && same_node(a.node, b.node) && same_txn(a.txn, b.txn) &&
+         a.released == b.released && a.kept == b.kept && a.count == b.count;
+}
+
+/* What was answered to a call that cannot sleep is what was written down for it. */
+static bs_reply as_served(bs_reply reply) {
+  pthread_mutex_lock(&table.latch);
+  WANT(same_reply(reply, log_of_calls[my_last].reply));
+  pthread_mutex_unlock(&table.latch);
+  return reply;
+}
+
+/* The same of a lock. Where it slept, what it came to is noted; a wait that was given up has the cancel as its last. */
+static bs_reply as_slept(struct session *s, bs_reply reply) {
+  struct served *last;
+  pthread_mutex_lock(&table.latch);
+  last = &log_of_calls[my_last];
+  if (reply.status == BS_TIMED_OUT) {
+    WANT(last->call.kind == CANCEL && last->reply.status == BS_DONE);
+    s->late++;
+  } else if (last->reply.status == BS_WAITING) {
+    last->has_slept = true;
+    last->came = reply;
+    s->slept++;
+  } else {
+    WANT(same_reply(reply, last->reply));
+  }
+  pthread_mutex_unlock(&table.latch);
+  return reply;
+}
+
+static bs_reply ask(struct session *s, bs_node node, bs_mode mode) {
+  struct timespec until = moment_in(200 + (long)pick(s, 2000));
+  return as_slept(s, bs_table_lock_until(&table, s->txn, node, mode, pick(s, 4) == 0 ? &until : NULL));
+}
+
+static bs_reply ask_path(struct session *s, bs_node node, bs_mode mode) {
+  struct timespec until = moment_in(200 + (long)pick(s, 4000));
+  return as_slept(s, bs_table_lock_path(&table, s->txn, node, mode, pick(s, 4) == 0 ? &until : NULL));
+}
+
+static bs_mode any_mode(struct session *s) {
+  static const bs_mode modes[] = { BS_IS, BS_IS, BS_IX, BS_IX, BS_S, BS_S, BS_SIX, BS_X };
+  return modes[pick(s, 8)];
+}
+
+/* Adds to an account under X, unless others may end the transaction meanwhile. */
+static bs_reply add(struct session *s) {
+  size_t i = pick(s, ACCOUNTS);
+  bs_reply reply = ask_path(s, accounts[i], BS_X);
+  if (reply.status == BS_DONE && !s->is_game) {
+    long before = added[i];
+    sched_yield();
+    added[i] = before + 1;
+    s->adds[i]++;
+  }
+  return reply;
+}
+
+/* A new record takes the place of another in the list of names, which may live on. */
+static bs_reply insert(struct session *s) {
+  size_t i = pick(s, FILES), place = pick(s, INTERVALS);
+  uint64_t key = place * 100 + pick(s, 100);
+  bs_reply reply = ask_path(s, intervals[i][place], BS_IX);
+  if (reply.status == BS_DONE) reply = ask_path(s, files[i], BS_IX);
+  if (reply.status != BS_DONE) return reply;
+  reply = as_served(bs_table_insert(&table, s->txn, files[i], &key, 1));
+  if (reply.status != BS_DONE) return reply;
+  pthread_mutex_lock(&names);
+  records[pick(s, RECORDS)] = reply.node;
+  pthread_mutex_unlock(&names);
+  return reply;
+}
+
+static bs_reply remove_record(struct session *s) {
+  bs_node record = any_record(s);
+  bs_reply reply = ask_path(s, record, BS_X);
+  return reply.status == BS_DONE ? as_served(bs_table_delete(&table, s->txn, record, NULL)) : reply;
+}
+
+static bs_reply rekey(struct session *s) {
+  size_t i = pick(s, FILES), place = pick(s, INTERVALS);
+  bs_node record = any_record(s);
+  bs_reply reply = ask_path(s, record, BS_X);
+  if (reply.status == BS_DONE) reply = ask_path(s, intervals[i][place], BS_IX);
+  if (reply.status != BS_DONE) return reply;
+  return as_served(bs_table_rekey(&table, s->txn, record, indexes[i], place * 100, NULL));
+}
+
+static bs_reply move(struct session *s) {
+  bs_node file = files[pick(s, FILES)], area = areas[pick(s, AREAS)];
+  bs_reply reply = ask_path(s, file, BS_X);
+  if (reply.status == BS_DONE) reply = ask_path(s, area, BS_IX);
+  return reply.status == BS_DONE ? as_served(bs_table_move(&table, s->txn, file, &area, 1, NULL)) : reply;
+}
+
+/* Ends or cancels somebody whom anybody may end. */
+static bs_reply meddle(struct session *s) {
+  bs_txn whom;
+  pthread_mutex_lock(&names);
+  whom = free_game[pick(s, THREADS)];
+  pthread_mutex_unlock(&names);
+  if (pick(s, 3) == 0) return as_served(bs_table_abort(&table, whom, NULL));
+  return as_served(bs_table_cancel(&table, whom, NULL));
+}
+
+/* Several in one hold; one that waits is awaited. */
+static bs_reply run_list(struct session *s) {
+  bs_command list[3];
+  size_t i, count;
+  for (i = 0; i < 3; i++) list[i] = bs_do_lock(s->txn, i == 0 ? root : areas[i - 1], i == 2 ? BS_IX : BS_IS);
+  if (pick(s, 2) == 0) list[2] = bs_do_settle(s->txn);
+  count = bs_table_run(&table, list, 3);
+  if (count == 3) return as_served(list[2].reply);
+  if (list[count].reply.status != BS_WAITING) return as_served(list[count].reply);
+  return as_slept(s, bs_table_await(&table, s->txn, list[count].node, list[count].mode, NULL));
+}
+
+/* How often a transaction stands in a queue. */
+static size_t times_in_queue(bs_manager *m, bs_txn txn, bs_node node) {
+  bs_reply waiter;
+  size_t place, times = 0;
+  for (place = 0; (waiter = bs_queue_at(m, node, place)).status == BS_DONE; place++) {
+    if (waiter.txn.slot == txn.slot) times++;
+  }
+  WANT(place == bs_queue_len(m, node).count);
+  return times;
+}
+
+/* The listings of one transaction agree with each other. */
+static void audit_one(bs_manager *m, bs_txn txn, const bs_board *board) {
+  bs_reply doing = DONE(bs_doing(m, txn)), row;
+  bs_slots behind = bs_waits_for(m, txn).slots;
+  size_t place;
+  for (place = 0; (row = bs_lock_at(m, txn, place)).status == BS_DONE; place++) {
+    bool waits = doing.count == BS_WAITS && same_node(doing.node, row.node);
+    WANT(bs_mode_at(m, txn.slot, row.node).mode == row.mode && (row.mode != BS_NL || waits));
+    WANT(bs_has(bs_holders(m, row.node).slots, txn.slot) == (row.mode != BS_NL));
+    WANT(row.mode == BS_NL || bs_children(m, txn, row.node).count == row.count);
+    WANT(times_in_queue(m, txn, row.node) == (waits ? 1 : 0));
+  }
+  WANT(bs_lock_count(m, txn).count == place);
+  WANT(behind.low == board->rows[txn.slot].low && behind.high == board->rows[txn.slot].high);
+}
+
+/* All listings, of one moment. */
+static bs_reply audit(void) {
+  static bs_board board; /* with the latch held */
+  bs_manager *m = bs_table_hold(&table);
+  bs_reply reply = DONE(bs_read_board(m, &board));
+  uint32_t slot;
+  for (slot = 0; slot < BS_SLOTS; slot++) {
+    bs_reply living = bs_living(m, slot);
+    WANT((living.status == BS_DONE ? living.txn.age : 0) == board.ages[slot]);
+    if (living.status == BS_DONE) audit_one(m, living.txn, &board);
+  }
+  bs_table_let_go(&table);
+  return reply;
+}
+
+static bs_reply any_command(struct session *s) {
+  switch (pick(s, 25)) {
+    case 0: return ask(s, any_node(s), any_mode(s));
+    case 1: return as_served(bs_table_try(&table, s->txn, any_node(s), any_mode(s)));
+    case 2: return as_served(bs_table_unlock(&table, s->txn, any_node(s), NULL));
+    case 3: return as_served(bs_table_escalate(&table, s->txn, any_node(s), NULL));
+    case 4: return as_served(bs_table_settle(&table, s->txn, NULL));
+    case 5: case 6: return insert(s);
+    case 7: return remove_record(s);
+    case 8: return rekey(s);
+    case 9: return move(s);
+    case 10: return meddle(s);
+    case 11: return run_list(s);
+    case 12: case 13: case 14: return ask_path(s, any_record(s), BS_S);
+    case 15: case 16: return ask_path(s, any_record(s), BS_X);
+    case 17: return ask_path(s, any_node(s), any_mode(s));
+    case 18: return pick(s, 4) == 0 ? audit() : add(s);
+    default: return add(s);
+  }
+}
+
+static void name_game(struct session *s, bool is_game) {
+  bs_txn nobody = { 0, 0 };
+  pthread_mutex_lock(&names);
+  free_game[s->number] = is_game ? s->txn : nobody;
+  pthread_mutex_unlock(&names);
+}
+
+static void one_transaction(struct session *s) {
+  bs_status status = BS_DONE;
+  size_t i, count = 1 + pick(s, 6);
+  s->txn = as_served(DONE(bs_table_begin(&table))).txn;
+  s->is_game = pick(s, 6) == 0;
+  name_game(s, s->is_game);
+  for (i = 0; i < count && status != BS_VICTIM && status != BS_TXN_CONDEMNED; i++) status = any_command(s).status;
+  if (status == BS_VICTIM) s->victims++;
+  name_game(s, false);
+  if (status == BS_VICTIM || pick(s, 8) == 0) status = as_served(bs_table_abort(&table, s->txn, NULL)).status;
+  else status = as_served(bs_table_commit(&table, s->txn, NULL)).status;
+  if (status == BS_TXN_CONDEMNED) status = as_served(bs_table_abort(&table, s->txn, NULL)).status;
+  WANT(status == BS_DONE || (status == BS_NO_SUCH_TXN && s->is_game));
+}
+
+static long rounds = 4;
+
+static void *run_session(void *arg) {
+  struct session *s = (struct session *)arg;
+  long i;
+  for (i = 0; i < rounds; i++) one_transaction(s);
+  return NULL;
+}
+
+/* ------------------------------------------------------------------------------------------------
+ * Those who look.
+ */
+
+struct looker {
+  bool is_at_block;
+  long looks;
+  pthread_t thread;
+};
+
+static bool goes_on(void) {
+  bool on;
+  pthread_mutex_lock(&names);
+  on = !is_over;
+  pthread_mutex_unlock(&names);
+  return on;
+}
+
+static bool is_sound(const bs_board *board) {
+  uint32_t slot, other;
+  for (slot = 0; slot < BS_SLOTS; slot++) {
+    for (other = 0; other < BS_SLOTS; other++) {
+      if (!bs_has(board->rows[slot], other)) continue;
+      if (slot == other || board->ages[slot] == 0 || board->ages[other] == 0) return false;
+    }
+  }
+  return true;
+}
+
+static void *look_on(void *arg) {
+  struct looker *l = (struct looker *)arg;
+  bs_watcher watcher = BS_NO_WATCHER_HERE;
+  bs_board board;
+  uint64_t epoch = 0;
+  memset(&board, 0, sizeof board);
+  DONE(bs_table_watch(&table, &watcher));
+  while (goes_on()) {
+    bs_slots suspects;
+    DONE(bs_table_look(&watcher, &board));
+    WANT(board.epoch >= epoch && is_sound(&board));
+    epoch = board.epoch;
+    suspects = bs_suspects(&board).slots;
+    WANT(!l->is_at_block || (suspects.low == 0 && suspects.high == 0));
+    l->looks++;
+  }
+  DONE(bs_table_watch_end(&watcher));
+  return NULL;
+}
+
+/* ------------------------------------------------------------------------------------------------
+ * The replay.
+ */
+
+/* By slot, the lock that waits. */
+static size_t waiting_at[BS_SLOTS];
+
+/* How a notice ends a lock, and whether it came to that; or its transaction was ended by somebody before it looked. */
+static void compare_end(const bs_notice *n) {
+  static const bs_status ends[] = { BS_DONE, BS_DONE, BS_VICTIM, BS_MOVED, BS_GONE };
+  const struct served *s = &log_of_calls[waiting_at[n->txn.slot]];
+  if (!s->has_slept) return; /* A path that was begun anew, or a wait that was taken back later. */
+  if (s->came.status == BS_NO_SUCH_TXN) return;
+  WANT(s->came.status == ends[n->kind]);
+  if (n->kind == BS_TOLD_GRANTED) WANT(s->came.mode == n->mode && same_node(s->call.node, n->node));
+}
+
+static void compare_named(const struct call *call) {
+  const struct served *s = &log_of_calls[waiting_at[call->txn.slot]];
+  if (!s->has_slept || !same_txn(s->call.txn, call->txn)) return;
+  if (call->kind == CANCEL) WANT(s->came.status == BS_NOT_WAITING || s->came.status == BS_NO_SUCH_TXN);
+  else WANT(s->came.status == BS_NO_SUCH_TXN);
+}
+
+static void replay_one(bs_manager *m, size_t at, bs_notices *told) {
+  const struct served *s = &log_of_calls[at];
+  bool was_waiting = s->call.kind <= MOVE && s->call.kind != BEGIN && (bs_waiting)(m, s->call.txn).status == BS_WAITING;
+  bs_reply reply = made(m, &s->call, told);
+  size_t i;
+  WANT(same_reply(reply, s->reply));
+  WANT(told->count == s->told_count && (told->count == 0 || sum_of(told) == s->told_sum));
+  WANT((bs_accepted)(m).count == s->accepted);
+  if (reply.status == BS_WAITING) waiting_at[s->call.txn.slot] = at;
+  for (i = 0; i < told->count; i++) compare_end(&told->at[i]);
+  if (reply.status != BS_DONE || !was_waiting) return;
+  if (s->call.kind == CANCEL || s->call.kind == ABORT) compare_named(&s->call);
+}
+
+/* Behind all sessions: a manager of one thread, asked the same, is the same. */
+static void replay(uint32_t detect, uint32_t victims) {
+  static bs_notices told;
+  static bs_board ours, theirs;
+  bs_manager m = BS_NO_MANAGER_HERE;
+  bs_counts counts, their_counts;
+  size_t i;
+  memset(&counts, 0, sizeof counts);
+  memset(&their_counts, 0, sizeof their_counts);
+  DONE(bs_make_choosing(&m, detect, victims, BS_SLOTS));
+  for (i = 0; i < log_count; i++) replay_one(&m, i, &told);
+  DONE(bs_table_read_board(&table, &ours));
+  DONE(bs_read_board(&m, &theirs));
+  WANT(memcmp(&ours, &theirs, sizeof ours) == 0);
+  DONE(bs_table_counters(&table, &counts));
+  DONE(bs_counters(&m, &their_counts));
+  WANT(memcmp(&counts, &their_counts, sizeof counts) == 0);
+  for (i = 0; i < BS_SLOTS; i++) WANT(ours.ages[i] == 0);
+  DONE(bs_end(&m));
+}
+
+static void compare_accounts(const struct session *sessions) {
+  size_t i, j;
+  for (i = 0; i < ACCOUNTS; i++) {
+    long sum = 0;
+    for (j = 0; j < THREADS; j++) sum += sessions[j].adds[i];
+    WANT(sum == added[i]); /* Else an addition is lost. */
+  }
+}
+
+static void crowd(const char *name, uint32_t detect, uint32_t victims, unsigned patience) {
+  static struct session sessions[THREADS];
+  struct looker lookers[WATCHERS];
+  long fell = 0, slept = 0, late = 0, looks = 0;
+  size_t i;
+  story = name;
+  feed(patience);
+  set_up(detect, victims);
+  memset(sessions, 0, sizeof sessions);
+  memset(lookers, 0, sizeof lookers);
+  for (i = 0; i < WATCHERS; i++) {
+    lookers[i].is_at_block = detect == BS_AT_BLOCK;
+    start(&lookers[i].thread, look_on, &lookers[i]);
+  }
+  for (i = 0; i < THREADS; i++) {
+    sessions[i].number = i;
+    sessions[i].dice = UINT64_C(0x9e3779b97f4a7c15) * (i + 1);
+    start(&sessions[i].thread, run_session, &sessions[i]);
+  }
+  for (i = 0; i < THREADS; i++) join(sessions[i].thread);
+  pthread_mutex_lock(&names);
+  is_over = true;
+  pthread_mutex_unlock(&names);
+  for (i = 0; i < WATCHERS; i++) join(lookers[i].thread);
+  for (i = 0; i < WATCHERS; i++) looks += lookers[i].looks;
+  for (i = 0; i < THREADS; i++) {
+    fell += sessions[i].victims;
+    slept += sessions[i].slept;
+    late += sessions[i].late;
+  }
+  replay(detect, victims);
+  compare_accounts(sessions);
+  DONE(bs_table_end(&table));
+  fprintf(stderr, "%s: %lu calls, %ld sleeps, %ld too late, %ld victims, %ld looks\n", name, (unsigned long)log_count,
+          slept, late, fell, looks);
+  printf("%s\n", name);
+}
+
+int main(int count, char **words) {
+  unsigned patience = count > 2 ? (unsigned)atoi(words[2]) : 20;
+  setvbuf(stdout, NULL, _IONBF, 0);
+  if (count > 1) rounds = atol(words[1]);
+  crowd("a_crowd_at_block_the_youngest", BS_AT_BLOCK, BS_YOUNGEST, patience);
+  crowd("a_crowd_at_block_the_fewest", BS_AT_BLOCK, BS_FEWEST, patience);
+  crowd("a_crowd_by_watcher_the_youngest", BS_BY_WATCHER, BS_YOUNGEST, patience);
+  crowd("a_crowd_by_watcher_the_fewest", BS_BY_WATCHER, BS_FEWEST, patience);
+  free(log_of_calls);
+  return 0;
+}

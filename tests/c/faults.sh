@@ -1,0 +1,61 @@
+#!/usr/bin/env bash
+# faults.sh NAME.. LIBRARY LIBRARY: plants faults in a copy of include/burlapslate_shared.h, each by itself, and wants
+# the stories or the crowd to find it: by a want that does not hold, or since they hang. `all` stands for every fault
+# there is. The libraries are those that tools/c_library.sh prints. Ends with status 1 where one is not found. CC names
+# another compiler than cc.
+set -uo pipefail
+top=$(cd "$(dirname "$0")/../.." && pwd) || exit 2
+[ $# -ge 3 ] || { sed -n '2,5s/^# //p' "$0" >&2; exit 2; }
+names=("${@:1:$#-2}")
+libraries=("${@:$#-1:2}")
+work=$(mktemp -d) || exit 2
+trap 'rm -rf "$work"' EXIT
+
+# The faults: a name, and an edit by sed that must change the header. The library may need more words (FAULT_LINKS).
+faults() {
+  local call
+  for call in unlock cancel commit abort settle escalate delete rekey move; do
+    printf '%s-forgets-to-wake\ts/BS_TABLE_TELL(table, told, [a-z]*, \\(bs_%s(.*\\)list))/BS_TABLE_ASK(table, \\1bs_table_list(in, told)))/\n' \
+      "$call" "$call"
+  done
+  cat <<'FAULTS'
+lock-forgets-to-wake	s/= bs_table_woken(in, \(bs_lock(.*)\), &in->told, false);/= \1;/
+run-forgets-to-wake	s/= bs_table_woken(in, \(bs_command_made(.*)\), told, by_name);/= \1;/
+run-forgets-names	s/    by_name = next->kind .*/    by_name = false;/
+late-forgets-to-wake	s/= bs_table_woken(in, \(bs_cancel(.*)\), &in->told, true);/= \1;/
+nobody-is-named	s/by_name || told->count/told->count/
+nobody-is-told	s/by_name || told->count > 0/by_name/
+second-half-sleeps-on	s/  bs_table_wake_half(in, ended.high, 64);//
+watch-is-not-woken	s/    pthread_cond_signal(&in->began);//
+watch-forgets-to-wake	s/  bs_table_woken(in, \(bs_settle(.*)\), &in->told, false);/  \1;/
+early-return	s/    reply = in->is_ending ? .*/    reply.status = BS_DONE, reply.mode = mode;/
+time-before-grant	s/    reply = in->is_ending ? /    if (late == 0) &/
+end-leaves-sleepers	s/  bs_table_wake_half(in, UINT64_MAX, 0);//
+FAULTS
+}
+
+# found NAME EDIT: whether the fault is found.
+found() {
+  local there=$work/$1 compiler=${CC:-cc} program
+  mkdir -p "$there" && cp "$top/include/burlapslate.h" "$there/" || return 1
+  sed "$2" "$top/include/burlapslate_shared.h" >"$there/burlapslate_shared.h"
+  ! cmp -s "$there/burlapslate_shared.h" "$top/include/burlapslate_shared.h" || { echo "faults.sh: $1 changes nothing"; return 1; }
+  for program in shared crowd; do
+    local with=()
+    [ "$program" != shared ] || with=(-Wl,--wrap=malloc,--wrap=realloc,--wrap=free)
+    # shellcheck disable=SC2086 # CC and FAULT_LINKS may have several words.
+    $compiler -std=c99 -D_POSIX_C_SOURCE=200809L -pthread -O1 -w -I"$there" -o "$there/$program" \
+      "$top/tests/c/$program.c" "${libraries[@]}" ${FAULT_LINKS:-} "${with[@]}" || return 1
+  done
+  timeout 60 "$there/shared" 2 >"$there/said" 2>&1 && timeout 60 "$there/crowd" 4 4 >>"$there/said" 2>&1
+  [ $? -eq 1 ] || { echo "faults.sh: $1 was not found"; return 1; }
+  echo "$1: found: $(grep -E ': (hangs|not so|[a-z_]*: not so)' "$there/said" | tail -n 1 | sed 's/^[^ ]*\.c:[0-9]*: //')"
+}
+
+status=0
+while IFS=$'\t' read -r name edit; do
+  case " ${names[*]} " in
+    *" all "* | *" $name "*) found "$name" "$edit" || status=1 ;;
+  esac
+done < <(faults)
+exit "$status"

@@ -1,0 +1,1080 @@
+/*
+ * Stories of a table that threads share: each is a function that ends the program with status 1 at the first answer
+ * that is not as wanted, and else prints its name.
+ *
+ *   shared [SECONDS]   the time that a story may take before it is said to hang; 20 where none is given
+ *
+ * It is linked with calls for memory that a story can have refused (run.sh).
+ */
+#include "threads.h"
+
+/* ------------------------------------------------------------------------------------------------
+ * Memory.
+ */
+
+/* Which growth of this thread is refused, counted from now on; 0: none. And how many blocks are out. */
+static __thread long refused_growth;
+static long blocks;
+static pthread_mutex_t count_latch = PTHREAD_MUTEX_INITIALIZER;
+
+void *__real_malloc(size_t size);
+void *__real_realloc(void *old, size_t size);
+void __real_free(void *block);
+void *__wrap_malloc(size_t size);
+void *__wrap_realloc(void *old, size_t size);
+void __wrap_free(void *block);
+
+static bool is_refused(void) {
+  return refused_growth > 0 && --refused_growth == 0;
+}
+
+static void count_blocks(long more) {
+  pthread_mutex_lock(&count_latch);
+  blocks += more;
+  pthread_mutex_unlock(&count_latch);
+}
+
+static long blocks_out(void) {
+  long out;
+  pthread_mutex_lock(&count_latch);
+  out = blocks;
+  pthread_mutex_unlock(&count_latch);
+  return out;
+}
+
+void *__wrap_malloc(size_t size) {
+  void *block = is_refused() ? NULL : __real_malloc(size);
+  if (block != NULL) count_blocks(1);
+  return block;
+}
+
+void *__wrap_realloc(void *old, size_t size) {
+  if (old == NULL) return __wrap_malloc(size);
+  return is_refused() ? NULL : __real_realloc(old, size);
+}
+
+void __wrap_free(void *block) {
+  if (block != NULL) count_blocks(-1);
+  __real_free(block);
+}
+
+/* ------------------------------------------------------------------------------------------------
+ * A table with a store, and one who asks in a thread of its own.
+ */
+
+/* A file under a root, with an index of two intervals, parted at 100, and a record in each. */
+static bs_table table = BS_NO_TABLE_HERE;
+static bs_node root, file, by_key, below, above, low, high;
+static bs_notices told;
+
+static bs_txn begin(void) {
+  return DONE(bs_table_begin(&table)).txn;
+}
+
+static void set_up(uint32_t detect) {
+  static const uint64_t bound = 100, keys[2] = { 50, 200 };
+  bs_txn t;
+  DONE(bs_table_make(&table, detect, BS_YOUNGEST, BS_SLOTS));
+  root = DONE(bs_table_add_inner(&table, NULL, 0)).node;
+  file = DONE(bs_table_add_file(&table, &root, 1)).node;
+  by_key = DONE(bs_table_add_index(&table, &root, 1, file, &bound, 1)).node;
+  below = DONE(bs_table_interval(&table, by_key, 0)).node;
+  above = DONE(bs_table_interval_of(&table, by_key, 100)).node;
+  t = begin();
+  DONE(bs_table_lock_path(&table, t, file, BS_IX, NULL));
+  DONE(bs_table_lock_path(&table, t, below, BS_IX, NULL));
+  DONE(bs_table_lock_path(&table, t, above, BS_IX, NULL));
+  low = DONE(bs_table_insert(&table, t, file, &keys[0], 1)).node;
+  high = DONE(bs_table_insert(&table, t, file, &keys[1], 1)).node;
+  DONE(bs_table_commit(&table, t, NULL));
+}
+
+struct asker {
+  bs_txn txn;
+  bs_node node;
+  bs_mode mode;
+  bool by_path;
+  const struct timespec *until;
+  bs_reply reply;
+  pthread_t thread;
+};
+
+static void *ask(void *arg) {
+  struct asker *a = (struct asker *)arg;
+  if (a->by_path) a->reply = bs_table_lock_path(&table, a->txn, a->node, a->mode, a->until);
+  else a->reply = bs_table_lock_until(&table, a->txn, a->node, a->mode, a->until);
+  return NULL;
+}
+
+static void await_wait(bs_txn txn) {
+  while (bs_table_waiting(&table, txn).status != BS_WAITING) nap();
+}
+
+/* Has a transaction ask in a thread, which comes to sleep. */
+static void send(struct asker *a, bs_txn txn, bs_node node, bs_mode mode) {
+  memset(a, 0, sizeof *a);
+  a->txn = txn;
+  a->node = node;
+  a->mode = mode;
+  start(&a->thread, ask, a);
+  await_wait(txn);
+}
+
+static void send_by_path(struct asker *a, bs_txn txn, bs_node node, bs_mode mode) {
+  memset(a, 0, sizeof *a);
+  a->txn = txn;
+  a->node = node;
+  a->mode = mode;
+  a->by_path = true;
+  start(&a->thread, ask, a);
+  await_wait(txn);
+}
+
+/* It must have been answered so. */
+static bs_reply back(struct asker *a, bs_status status) {
+  join(a->thread);
+  return ANSWERS(status, a->reply);
+}
+
+static bool is_told(size_t place, bs_txn txn, uint32_t kind) {
+  return place < told.count && same_txn(told.at[place].txn, txn) && told.at[place].kind == kind;
+}
+
+static void holds(bs_txn txn, bs_node node, bs_mode mode) {
+  WANT(bs_table_held(&table, txn, node).mode == mode);
+}
+
+/* ------------------------------------------------------------------------------------------------
+ * How a sleep ends.
+ */
+
+static void a_commit_grants(void) {
+  struct asker one, two;
+  bs_txn a, b, c;
+  set_up(BS_AT_BLOCK);
+  a = begin(), b = begin(), c = begin();
+  DONE(bs_table_lock(&table, a, root, BS_X));
+  send(&one, b, root, BS_S);
+  send(&two, c, root, BS_IS);
+  DONE(bs_table_commit(&table, a, &told));
+  WANT(told.count == 2 && is_told(0, b, BS_TOLD_GRANTED) && is_told(1, c, BS_TOLD_GRANTED));
+  WANT(back(&one, BS_DONE).mode == BS_S && back(&two, BS_DONE).mode == BS_IS);
+  holds(b, root, BS_S);
+  DONE(bs_table_end(&table));
+}
+
+static void an_unlock_grants(void) {
+  struct asker one;
+  bs_txn a, b;
+  set_up(BS_AT_BLOCK);
+  a = begin(), b = begin();
+  DONE(bs_table_lock(&table, a, root, BS_X));
+  send(&one, b, root, BS_X);
+  DONE(bs_table_unlock(&table, a, root, NULL));
+  WANT(back(&one, BS_DONE).mode == BS_X);
+  DONE(bs_table_end(&table));
+}
+
+/* One commit wakes all, also those in slots from 64 on. */
+static void a_commit_wakes_all(void) {
+  static struct asker all[BS_SLOTS - 1];
+  bs_txn a;
+  size_t i;
+  set_up(BS_AT_BLOCK);
+  a = begin();
+  DONE(bs_table_lock(&table, a, root, BS_X));
+  for (i = 0; i < BS_SLOTS - 1; i++) send(&all[i], begin(), root, BS_IS);
+  DONE(bs_table_commit(&table, a, &told));
+  WANT(told.count == BS_SLOTS - 1);
+  for (i = 0; i < BS_SLOTS - 1; i++) WANT(back(&all[i], BS_DONE).mode == BS_IS);
+  DONE(bs_table_end(&table));
+}
+
+/* The younger sleeps, and the older closes the cycle. */
+static void a_lock_condemns(void) {
+  struct asker one, two;
+  bs_txn a, b;
+  set_up(BS_AT_BLOCK);
+  a = begin(), b = begin();
+  DONE(bs_table_lock(&table, a, root, BS_S));
+  DONE(bs_table_lock(&table, b, root, BS_S));
+  send(&one, b, root, BS_X);
+  send(&two, a, root, BS_X);
+  back(&one, BS_VICTIM);
+  ANSWERS(BS_TXN_CONDEMNED, bs_table_lock(&table, b, root, BS_S));
+  DONE(bs_table_abort(&table, b, NULL));
+  WANT(back(&two, BS_DONE).mode == BS_X);
+  DONE(bs_table_end(&table));
+}
+
+/* The asker itself falls, and does not sleep. */
+static void an_asker_falls(void) {
+  struct asker one;
+  bs_txn a, b;
+  set_up(BS_AT_BLOCK);
+  a = begin(), b = begin();
+  DONE(bs_table_lock(&table, a, root, BS_S));
+  DONE(bs_table_lock(&table, b, root, BS_S));
+  send(&one, a, root, BS_X);
+  ANSWERS(BS_VICTIM, bs_table_lock(&table, b, root, BS_X));
+  DONE(bs_table_abort(&table, b, &told));
+  WANT(told.count == 1 && is_told(0, a, BS_TOLD_GRANTED));
+  back(&one, BS_DONE);
+  DONE(bs_table_end(&table));
+}
+
+static void a_settle_condemns(void) {
+  struct asker one, two;
+  bs_txn a, b;
+  set_up(BS_BY_WATCHER);
+  a = begin(), b = begin();
+  DONE(bs_table_lock(&table, a, root, BS_S));
+  DONE(bs_table_lock(&table, b, root, BS_S));
+  send(&one, a, root, BS_X);
+  send(&two, b, root, BS_X);
+  DONE(bs_table_settle(&table, a, &told));
+  WANT(told.count == 1 && is_told(0, b, BS_TOLD_VICTIM));
+  back(&two, BS_VICTIM);
+  DONE(bs_table_abort(&table, b, NULL));
+  back(&one, BS_DONE);
+  DONE(bs_table_end(&table));
+}
+
+static void a_rekey_moves(void) {
+  struct asker one;
+  bs_txn a, b;
+  set_up(BS_AT_BLOCK);
+  a = begin(), b = begin();
+  DONE(bs_table_lock_path(&table, a, low, BS_X, NULL));
+  DONE(bs_table_lock_path(&table, a, above, BS_IX, NULL));
+  DONE(bs_table_lock_path(&table, b, below, BS_IX, NULL));
+  DONE(bs_table_lock(&table, b, file, BS_IX));
+  send(&one, b, low, BS_X);
+  DONE(bs_table_rekey(&table, a, low, by_key, 150, &told));
+  WANT(told.count == 1 && is_told(0, b, BS_TOLD_MOVED));
+  back(&one, BS_MOVED);
+  WANT(bs_table_key(&table, low, 0).count == 150);
+  DONE(bs_table_end(&table));
+}
+
+static void a_file_moves(void) {
+  struct asker one;
+  bs_node other;
+  bs_txn a, b;
+  set_up(BS_AT_BLOCK);
+  other = DONE(bs_table_add_inner(&table, NULL, 0)).node;
+  a = begin(), b = begin();
+  DONE(bs_table_lock_path(&table, a, file, BS_X, NULL));
+  DONE(bs_table_lock(&table, a, other, BS_IX));
+  DONE(bs_table_lock(&table, b, root, BS_IS));
+  send(&one, b, file, BS_S);
+  DONE(bs_table_move(&table, a, file, &other, 1, NULL));
+  back(&one, BS_MOVED);
+  WANT(same_node(bs_table_parent(&table, file, 0).node, other));
+  DONE(bs_table_end(&table));
+}
+
+static void a_record_goes(void) {
+  struct asker one;
+  bs_txn a, b;
+  set_up(BS_AT_BLOCK);
+  a = begin(), b = begin();
+  DONE(bs_table_lock_path(&table, a, low, BS_X, NULL));
+  send_by_path(&one, b, low, BS_S);
+  DONE(bs_table_delete(&table, a, low, &told));
+  WANT(told.count == 1 && is_told(0, b, BS_TOLD_GONE));
+  back(&one, BS_GONE);
+  ANSWERS(BS_NO_SUCH_NODE, bs_table_kind(&table, low));
+  DONE(bs_table_end(&table));
+}
+
+/* An escalation releases a child, for which a reader waits that came by another parent. */
+static void an_escalation_grants(void) {
+  struct asker one;
+  bs_node parents[2], child;
+  bs_reply reply;
+  bs_txn a, b;
+  set_up(BS_AT_BLOCK);
+  parents[0] = DONE(bs_table_add_inner(&table, &root, 1)).node;
+  parents[1] = DONE(bs_table_add_inner(&table, &root, 1)).node;
+  child = DONE(bs_table_add_inner(&table, parents, 2)).node;
+  a = begin(), b = begin();
+  DONE(bs_table_lock_path(&table, a, child, BS_IX, NULL));
+  DONE(bs_table_lock_path(&table, b, parents[1], BS_IS, NULL));
+  send(&one, b, child, BS_S);
+  reply = DONE(bs_table_escalate(&table, a, parents[0], NULL));
+  WANT(reply.mode == BS_X && reply.released == 1);
+  WANT(back(&one, BS_DONE).mode == BS_S);
+  DONE(bs_table_end(&table));
+}
+
+/* Another thread takes the wait back: the transaction is active then. */
+static void a_cancel_ends_a_sleep(void) {
+  struct asker one;
+  bs_txn a, b;
+  set_up(BS_AT_BLOCK);
+  a = begin(), b = begin();
+  DONE(bs_table_lock(&table, a, root, BS_X));
+  send(&one, b, root, BS_X);
+  DONE(bs_table_cancel(&table, b, &told));
+  WANT(told.count == 0);
+  back(&one, BS_NOT_WAITING);
+  ANSWERS(BS_WOULD_BLOCK, bs_table_try(&table, b, root, BS_IS));
+  ANSWERS(BS_NOT_WAITING, bs_table_cancel(&table, b, NULL));
+  DONE(bs_table_end(&table));
+}
+
+/* And who stood behind it is granted. */
+static void a_cancel_grants(void) {
+  struct asker one, two;
+  bs_txn a, b, c;
+  set_up(BS_AT_BLOCK);
+  a = begin(), b = begin(), c = begin();
+  DONE(bs_table_lock(&table, a, root, BS_S));
+  send(&one, b, root, BS_X);
+  send(&two, c, root, BS_S);
+  DONE(bs_table_cancel(&table, b, NULL));
+  back(&one, BS_NOT_WAITING);
+  back(&two, BS_DONE);
+  DONE(bs_table_end(&table));
+}
+
+/* Another thread ends the transaction, and one that begins then may have its slot. */
+static void an_abort_ends_a_sleep(void) {
+  struct asker one;
+  bs_txn a, b, c;
+  set_up(BS_AT_BLOCK);
+  a = begin(), b = begin();
+  DONE(bs_table_lock(&table, a, root, BS_X));
+  send(&one, b, root, BS_X);
+  DONE(bs_table_abort(&table, b, NULL));
+  c = begin();
+  WANT(c.slot == b.slot && c.age != b.age);
+  back(&one, BS_NO_SUCH_TXN);
+  DONE(bs_table_end(&table));
+}
+
+/* A thread leaves its transaction open and ends. */
+static void *leave_open(void *arg) {
+  bs_txn *left = (bs_txn *)arg;
+  *left = begin();
+  DONE(bs_table_lock_path(&table, *left, low, BS_X, NULL));
+  return NULL;
+}
+
+static void a_thread_dies(void) {
+  struct asker one;
+  bs_txn left, b;
+  pthread_t thread;
+  set_up(BS_AT_BLOCK);
+  b = begin();
+  start(&thread, leave_open, &left);
+  join(thread);
+  send_by_path(&one, b, low, BS_X);
+  DONE(bs_table_abort(&table, left, NULL));
+  WANT(back(&one, BS_DONE).mode == BS_X);
+  DONE(bs_table_end(&table));
+}
+
+/* It sleeps on through wakes that are none, and through what others do elsewhere. */
+static void an_idle_wake(void) {
+  struct asker one;
+  bs_txn a, b, c;
+  int i;
+  set_up(BS_AT_BLOCK);
+  a = begin(), b = begin();
+  DONE(bs_table_lock_path(&table, a, low, BS_X, NULL));
+  send_by_path(&one, b, low, BS_S);
+  for (i = 0; i < 500; i++) {
+    pthread_mutex_lock(&table.latch);
+    pthread_cond_broadcast(&table.in->ended[b.slot]);
+    pthread_mutex_unlock(&table.latch);
+    c = begin();
+    DONE(bs_table_lock_path(&table, c, high, BS_X, NULL));
+    DONE(bs_table_commit(&table, c, NULL));
+    ANSWERS(BS_WAITING, bs_table_waiting(&table, b));
+  }
+  WANT(one.reply.status == 0 && one.reply.mode == BS_NL);
+  DONE(bs_table_commit(&table, a, NULL));
+  WANT(back(&one, BS_DONE).mode == BS_S);
+  DONE(bs_table_end(&table));
+}
+
+/* ------------------------------------------------------------------------------------------------
+ * Times.
+ */
+
+static void a_time_comes(void) {
+  struct timespec until = moment_in(2000), now, wrong = moment_in(0);
+  struct asker two;
+  bs_txn a, b, c;
+  set_up(BS_AT_BLOCK);
+  a = begin(), b = begin(), c = begin();
+  DONE(bs_table_lock(&table, a, root, BS_S));
+  ANSWERS(BS_TIMED_OUT, bs_table_lock_until(&table, b, root, BS_X, &until));
+  clock_gettime(CLOCK_MONOTONIC, &now);
+  WANT(now.tv_sec > until.tv_sec || (now.tv_sec == until.tv_sec && now.tv_nsec >= until.tv_nsec));
+  ANSWERS(BS_NOT_WAITING, bs_table_waiting(&table, b));
+  DONE(bs_table_lock_until(&table, b, root, BS_IS, &until));
+  wrong.tv_nsec = 1000000000;
+  ANSWERS(BS_BAD_NUMBER, bs_table_lock_until(&table, b, root, BS_IS, &wrong));
+  ANSWERS(BS_BAD_NUMBER, bs_table_await(&table, b, root, BS_IS, &wrong));
+  ANSWERS(BS_BAD_NUMBER, bs_table_lock_path(&table, b, root, BS_IS, &wrong));
+  wrong.tv_nsec = -1;
+  ANSWERS(BS_BAD_NUMBER, bs_table_lock_until(&table, b, root, BS_IS, &wrong));
+  send(&two, b, root, BS_X);
+  until = moment_in(1000);
+  ANSWERS(BS_TIMED_OUT, bs_table_lock_until(&table, c, root, BS_IS, &until));
+  DONE(bs_table_commit(&table, a, NULL));
+  back(&two, BS_DONE);
+  DONE(bs_table_end(&table));
+}
+
+/* Whose time comes wakes who stood behind it. */
+static void a_time_comes_and_grants(void) {
+  struct timespec until = moment_in(100000);
+  struct asker one, two;
+  bs_txn a, b, c;
+  set_up(BS_AT_BLOCK);
+  a = begin(), b = begin(), c = begin();
+  DONE(bs_table_lock(&table, a, root, BS_S));
+  memset(&one, 0, sizeof one);
+  one.txn = b, one.node = root, one.mode = BS_X, one.until = &until;
+  two = one;
+  two.txn = c, two.mode = BS_S, two.until = NULL;
+  start(&one.thread, ask, &one);
+  nap();
+  start(&two.thread, ask, &two);
+  back(&one, BS_TIMED_OUT);
+  WANT(back(&two, BS_DONE).mode == BS_S);
+  DONE(bs_table_end(&table));
+}
+
+/* The time is over, and then, before the one who sleeps has the latch again, it is granted. */
+static void a_grant_behind_the_time(void) {
+  struct timespec until = moment_in(300000), now;
+  struct asker one;
+  bs_manager *m;
+  bs_txn a, b;
+  set_up(BS_AT_BLOCK);
+  a = begin(), b = begin();
+  DONE(bs_table_lock(&table, a, root, BS_X));
+  memset(&one, 0, sizeof one);
+  one.txn = b, one.node = root, one.mode = BS_X, one.until = &until;
+  start(&one.thread, ask, &one);
+  await_wait(b);
+  m = bs_table_hold(&table);
+  do {
+    nap();
+    clock_gettime(CLOCK_MONOTONIC, &now);
+  } while (now.tv_sec < until.tv_sec || (now.tv_sec == until.tv_sec && now.tv_nsec < until.tv_nsec));
+  nap();
+  DONE(bs_commit(m, a, &told)); /* Nobody is woken for it. */
+  bs_table_let_go(&table);
+  WANT(back(&one, BS_DONE).mode == BS_X);
+  holds(b, root, BS_X);
+  DONE(bs_table_end(&table));
+}
+
+/* Times and grants at the same moment, again and again: a lock is held or it is not. */
+static void times_and_grants(void) {
+  uint64_t dice = 88172645463325252u;
+  long granted = 0, late = 0;
+  int i;
+  set_up(BS_AT_BLOCK);
+  for (i = 0; i < 400; i++) {
+    bs_txn a = begin(), b = begin();
+    struct timespec until = moment_in(60 + (long)roll(&dice, 60)), pause = { 0, 0 };
+    struct asker one;
+    DONE(bs_table_lock(&table, a, root, BS_X));
+    memset(&one, 0, sizeof one);
+    one.txn = b, one.node = root, one.mode = BS_X, one.until = &until;
+    start(&one.thread, ask, &one);
+    pause.tv_nsec = (long)roll(&dice, 80000);
+    nanosleep(&pause, NULL);
+    DONE(bs_table_commit(&table, a, NULL));
+    join(one.thread);
+    WANT(one.reply.status == BS_DONE || one.reply.status == BS_TIMED_OUT);
+    holds(b, root, one.reply.status == BS_DONE ? BS_X : BS_NL);
+    if (one.reply.status == BS_DONE) granted++;
+    else late++;
+    DONE(bs_table_commit(&table, b, NULL));
+  }
+  WANT(granted + late == 400);
+  DONE(bs_table_end(&table));
+}
+
+/* ------------------------------------------------------------------------------------------------
+ * Paths.
+ */
+
+static void paths(void) {
+  bs_node chain[40], deep;
+  bs_txn a, b;
+  size_t i;
+  set_up(BS_AT_BLOCK);
+  a = begin(), b = begin();
+  WANT(DONE(bs_table_lock_path(&table, a, low, BS_X, NULL)).mode == BS_X);
+  holds(a, root, BS_IX), holds(a, file, BS_IX), holds(a, by_key, BS_IX), holds(a, below, BS_IX);
+  holds(a, above, BS_NL);
+  WANT(DONE(bs_table_lock_path(&table, b, high, BS_S, NULL)).mode == BS_S);
+  holds(b, root, BS_IS), holds(b, file, BS_IS), holds(b, by_key, BS_NL), holds(b, above, BS_NL);
+  DONE(bs_table_commit(&table, b, NULL));
+  b = begin();
+  DONE(bs_table_lock_path(&table, b, above, BS_IS, NULL));
+  DONE(bs_table_lock_path(&table, b, high, BS_S, NULL));
+  holds(b, file, BS_NL);
+  WANT(DONE(bs_table_lock_path(&table, a, low, BS_S, NULL)).mode == BS_X);
+  ANSWERS(BS_BAD_MODE, bs_table_lock_path(&table, a, low, BS_IX, NULL));
+  ANSWERS(BS_BAD_NUMBER, bs_table_lock_path(&table, a, low, 6, NULL));
+  chain[0] = root;
+  for (i = 1; i < 40; i++) chain[i] = DONE(bs_table_add_inner(&table, &chain[i - 1], 1)).node;
+  deep = chain[39];
+  DONE(bs_table_lock_path(&table, a, deep, BS_X, NULL));
+  for (i = 0; i < 39; i++) holds(a, chain[i], BS_IX);
+  holds(a, deep, BS_X);
+  DONE(bs_table_end(&table));
+}
+
+/* Each lock of a path is waited for in its turn. */
+static void a_path_waits_twice(void) {
+  struct asker one;
+  bs_txn a, b, c;
+  set_up(BS_AT_BLOCK);
+  a = begin(), b = begin(), c = begin();
+  DONE(bs_table_lock_path(&table, a, low, BS_S, NULL));
+  DONE(bs_table_lock_path(&table, c, below, BS_S, NULL));
+  send_by_path(&one, b, low, BS_X);
+  WANT(same_node(bs_table_waiting(&table, b).node, below));
+  DONE(bs_table_commit(&table, c, NULL));
+  while (!same_node(bs_table_waiting(&table, b).node, low)) nap();
+  DONE(bs_table_commit(&table, a, NULL));
+  WANT(back(&one, BS_DONE).mode == BS_X);
+  holds(b, below, BS_IX);
+  DONE(bs_table_end(&table));
+}
+
+/* A record that moves while its path is waited for is locked where it is then. */
+static void a_path_moves(void) {
+  struct asker one;
+  bs_txn a, b;
+  set_up(BS_AT_BLOCK);
+  a = begin(), b = begin();
+  DONE(bs_table_lock_path(&table, a, low, BS_X, NULL));
+  DONE(bs_table_lock_path(&table, a, above, BS_IX, NULL));
+  send_by_path(&one, b, low, BS_X);
+  DONE(bs_table_rekey(&table, a, low, by_key, 150, &told));
+  WANT(told.count == 1 && is_told(0, b, BS_TOLD_MOVED));
+  DONE(bs_table_commit(&table, a, NULL));
+  WANT(back(&one, BS_DONE).mode == BS_X);
+  holds(b, above, BS_IX), holds(b, below, BS_IX);
+  DONE(bs_table_end(&table));
+}
+
+/* It ends at the first lock that comes to nothing, and what is above stays. */
+static void a_path_ends_early(void) {
+  struct timespec until;
+  bs_txn a, b;
+  set_up(BS_AT_BLOCK);
+  a = begin(), b = begin();
+  DONE(bs_table_lock_path(&table, a, file, BS_X, NULL));
+  until = moment_in(1000);
+  ANSWERS(BS_TIMED_OUT, bs_table_lock_path(&table, b, low, BS_X, &until));
+  holds(b, root, BS_IX), holds(b, low, BS_NL), holds(b, below, BS_NL);
+  DONE(bs_table_abort(&table, b, NULL));
+  ANSWERS(BS_NO_SUCH_TXN, bs_table_lock_path(&table, b, low, BS_X, NULL));
+  DONE(bs_table_end(&table));
+}
+
+/* ------------------------------------------------------------------------------------------------
+ * Lists of commands.
+ */
+
+static void lists_of_commands(void) {
+  static bs_notices first;
+  struct asker one;
+  bs_command list[6];
+  bs_txn a, b;
+  set_up(BS_AT_BLOCK);
+  a = begin(), b = begin();
+  list[0] = bs_do_lock(a, root, BS_IX);
+  list[1] = bs_do_lock(a, file, BS_IX);
+  list[2] = bs_do_try(a, root, BS_X);
+  WANT(bs_table_run(&table, list, 3) == 3 && list[2].reply.mode == BS_X);
+  send(&one, b, root, BS_S);
+  list[0] = bs_do_unlock(a, file);
+  list[1] = bs_do_commit(a);
+  list[1].told = &first;
+  list[2] = bs_do_begin();
+  list[3] = bs_do_lock(a, root, BS_S);
+  list[4] = bs_do_begin();
+  list[4].reply.status = 99;
+  WANT(bs_table_run(&table, list, 5) == 3);
+  WANT(list[3].reply.status == BS_NO_SUCH_TXN && list[4].reply.status == 99);
+  WANT(first.count == 1 && same_txn(first.at[0].txn, b));
+  back(&one, BS_DONE);
+  a = list[2].reply.txn;
+  list[0] = bs_do_lock(a, root, BS_IX);
+  list[1] = bs_do_lock(a, file, BS_X);
+  WANT(bs_table_run(&table, list, 2) == 0 && list[0].reply.status == BS_WAITING);
+  ANSWERS(BS_WAITING, bs_table_verdict(&table, a, root, BS_IX));
+  DONE(bs_table_commit(&table, b, NULL));
+  DONE(bs_table_verdict(&table, a, root, BS_IX));
+  WANT(DONE(bs_table_await(&table, a, root, BS_IX, NULL)).mode == BS_IX);
+  ANSWERS(BS_NOT_WAITING, bs_table_await(&table, a, file, BS_X, NULL));
+  DONE(bs_table_end(&table));
+  WANT(bs_table_run(&table, list, 2) == 0 && list[0].reply.status == BS_NO_MANAGER);
+  WANT(bs_table_run(NULL, list, 2) == 0 && list[0].reply.status == BS_NULL_POINTER);
+  WANT(bs_table_run(&table, NULL, 2) == 0 && bs_table_run(&table, list, 0) == 0);
+}
+
+/* A whole transaction in a list, which is made again and again. */
+static void lists_that_begin(void) {
+  bs_command list[4];
+  bs_txn before;
+  set_up(BS_AT_BLOCK);
+  list[0] = bs_do_begin();
+  list[1] = bs_do_lock(bs_begun(), root, BS_IX);
+  list[2] = bs_do_lock(bs_begun(), file, BS_X);
+  list[3] = bs_do_commit(bs_begun());
+  WANT(bs_table_run(&table, list, 4) == 4 && list[2].reply.mode == BS_X);
+  before = list[0].reply.txn;
+  WANT(bs_table_run(&table, list, 4) == 4 && list[0].reply.txn.age > before.age);
+  WANT(bs_table_run(&table, &list[1], 1) == 0 && list[1].reply.status == BS_NO_SUCH_TXN);
+  ANSWERS(BS_NO_SUCH_TXN, bs_table_abort(&table, list[0].reply.txn, NULL));
+  DONE(bs_table_end(&table));
+}
+
+/* A list wakes whom it names. */
+static void lists_that_name(void) {
+  struct asker one, two;
+  bs_command list[2];
+  bs_txn a, b, c;
+  set_up(BS_AT_BLOCK);
+  a = begin(), b = begin(), c = begin();
+  DONE(bs_table_lock(&table, a, root, BS_X));
+  send(&one, b, root, BS_X);
+  send(&two, c, root, BS_X);
+  list[0] = bs_do_cancel(b);
+  list[1] = bs_do_abort(c);
+  WANT(bs_table_run(&table, list, 2) == 2);
+  back(&one, BS_NOT_WAITING);
+  back(&two, BS_NO_SUCH_TXN);
+  DONE(bs_table_end(&table));
+}
+
+/* Each command can stand in a list. */
+static void every_command(void) {
+  static const uint64_t bound = 7, key = 3;
+  bs_node top, under, table_node, index, record;
+  bs_command list[5];
+  bs_txn t, u;
+  set_up(BS_AT_BLOCK);
+  list[0] = bs_do_add_inner(NULL, 0);
+  WANT(bs_table_run(&table, list, 1) == 1);
+  top = list[0].reply.node;
+  list[0] = bs_do_add_file(&top, 1);
+  list[1] = bs_do_add_inner(&top, 1);
+  WANT(bs_table_run(&table, list, 2) == 2);
+  table_node = list[0].reply.node, under = list[1].reply.node;
+  list[0] = bs_do_add_index(&top, 1, table_node, &bound, 1);
+  list[1] = bs_do_begin();
+  list[2] = bs_do_begin();
+  WANT(bs_table_run(&table, list, 3) == 3);
+  index = list[0].reply.node, t = list[1].reply.txn, u = list[2].reply.txn;
+  DONE(bs_table_lock_path(&table, t, bs_table_interval(&table, index, 0).node, BS_X, NULL));
+  DONE(bs_table_lock_path(&table, t, bs_table_interval(&table, index, 1).node, BS_IX, NULL));
+  DONE(bs_table_lock_path(&table, t, table_node, BS_IX, NULL));
+  list[0] = bs_do_insert(t, table_node, &key, 1);
+  WANT(bs_table_run(&table, list, 1) == 1);
+  record = list[0].reply.node;
+  list[0] = bs_do_escalate(t, table_node);
+  list[1] = bs_do_rekey(t, record, index, 8);
+  list[2] = bs_do_delete(t, record);
+  list[3] = bs_do_settle(t);
+  list[4] = bs_do_abort(u);
+  WANT(bs_table_run(&table, list, 2) == 1 && list[1].reply.status == BS_NEED_EXCLUSIVE);
+  list[0] = bs_do_lock(t, record, BS_X);
+  WANT(bs_table_run(&table, list, 2) == 2 && bs_table_key(&table, record, 0).count == 8);
+  list[1] = bs_do_try(t, record, BS_X);
+  WANT(bs_table_run(&table, list, 5) == 5);
+  WANT(bs_table_key(&table, record, 0).status == BS_NO_PLACE);
+  list[0] = bs_do_lock(t, table_node, BS_X);
+  list[1] = bs_do_lock(t, under, BS_IX);
+  list[2] = bs_do_move(t, table_node, &under, 1);
+  list[3] = bs_do_cancel(t);
+  WANT(bs_table_run(&table, list, 4) == 3 && list[3].reply.status == BS_NOT_WAITING);
+  list[0] = bs_do(99, t, root);
+  WANT(bs_table_run(&table, list, 1) == 0 && list[0].reply.status == BS_BAD_NUMBER);
+  DONE(bs_table_end(&table));
+}
+
+/* ------------------------------------------------------------------------------------------------
+ * Watchers.
+ */
+
+static bool waits_on_board(const bs_board *board, bs_txn one, bs_txn other) {
+  return bs_has(board->rows[one.slot], other.slot);
+}
+
+static void a_watcher_looks(void) {
+  static bs_board board;
+  bs_watcher watcher = BS_NO_WATCHER_HERE;
+  struct asker one;
+  bs_txn a, b;
+  set_up(BS_AT_BLOCK);
+  DONE(bs_table_watch(&table, &watcher));
+  a = begin(), b = begin();
+  DONE(bs_table_lock(&table, a, root, BS_X));
+  send(&one, b, root, BS_S);
+  DONE(bs_table_look(&watcher, &board));
+  WANT(waits_on_board(&board, b, a) && !waits_on_board(&board, a, b));
+  WANT(board.epoch == bs_table_accepted(&table).count);
+  DONE(bs_table_commit(&table, a, NULL));
+  back(&one, BS_DONE);
+  DONE(bs_table_look(&watcher, &board));
+  WANT(!waits_on_board(&board, b, a) && board.ages[a.slot] == 0);
+  DONE(bs_table_end(&table));
+  DONE(bs_table_look(&watcher, &board));
+  DONE(bs_table_watch_end(&watcher));
+  ANSWERS(BS_NO_WATCHER, bs_table_look(&watcher, &board));
+}
+
+static void a_ninth_watcher(void) {
+  static const bs_watcher none = BS_NO_WATCHER_HERE;
+  bs_watcher all[9];
+  size_t i;
+  set_up(BS_BY_WATCHER);
+  for (i = 0; i < 9; i++) all[i] = none;
+  for (i = 0; i < BS_MOST_WATCHERS; i++) DONE(bs_table_watch(&table, &all[i]));
+  ANSWERS(BS_TOO_MANY_WATCHERS, bs_table_watch(&table, &all[8]));
+  ANSWERS(BS_TOO_MANY_WATCHERS, bs_table_watch_thread(&table, 0));
+  ANSWERS(BS_IN_USE, bs_table_watch(&table, &all[0]));
+  DONE(bs_table_watch_end(&all[3]));
+  DONE(bs_table_watch_thread(&table, 0));
+  ANSWERS(BS_TOO_MANY_WATCHERS, bs_table_watch(&table, &all[8]));
+  ANSWERS(BS_IN_USE, bs_table_watch_thread(&table, 0));
+  DONE(bs_table_end(&table));
+  for (i = 0; i < 9; i++) bs_table_watch_end(&all[i]);
+}
+
+/* A pair that waits for each other comes to an end by the thread that watches, whenever it began. */
+static void a_thread_watches(uint64_t pace) {
+  int i;
+  set_up(BS_BY_WATCHER);
+  DONE(bs_table_watch_thread(&table, pace));
+  for (i = 0; i < 20; i++) {
+    bs_txn a = begin(), b = begin();
+    struct asker one, two;
+    DONE(bs_table_lock(&table, a, root, BS_S));
+    DONE(bs_table_lock(&table, b, root, BS_S));
+    memset(&one, 0, sizeof one);
+    one.txn = a, one.node = root, one.mode = BS_X;
+    two = one;
+    two.txn = b;
+    start(&one.thread, ask, &one);
+    if (i % 2 == 0) nap();
+    start(&two.thread, ask, &two);
+    back(&two, BS_VICTIM);
+    DONE(bs_table_abort(&table, b, NULL));
+    back(&one, BS_DONE);
+    DONE(bs_table_commit(&table, a, NULL));
+  }
+  DONE(bs_table_end(&table));
+}
+
+static void a_thread_watches_without_rest(void) {
+  a_thread_watches(0);
+}
+
+static void a_thread_watches_and_rests(void) {
+  a_thread_watches(1000000);
+}
+
+/* It does not keep the table from its end, however long it rests. */
+static void a_thread_rests_long(void) {
+  struct asker one;
+  bs_txn a, b;
+  set_up(BS_BY_WATCHER);
+  DONE(bs_table_watch_thread(&table, UINT64_C(3600000000000)));
+  a = begin(), b = begin();
+  DONE(bs_table_lock(&table, a, root, BS_X));
+  send(&one, b, root, BS_X);
+  DONE(bs_table_end(&table));
+  back(&one, BS_NO_MANAGER);
+}
+
+/* ------------------------------------------------------------------------------------------------
+ * Listings.
+ */
+
+static void listings(void) {
+  static bs_deadlock last;
+  bs_counts counts;
+  struct asker one, two;
+  bs_manager *m;
+  bs_txn a, b, c;
+  size_t place, rows = 0;
+  set_up(BS_AT_BLOCK);
+  ANSWERS(BS_NO_PLACE, bs_table_last_deadlock(&table, &last));
+  a = begin(), b = begin(), c = begin();
+  DONE(bs_table_lock_path(&table, a, low, BS_X, NULL));
+  send_by_path(&one, b, low, BS_S);
+  send_by_path(&two, c, low, BS_S);
+  m = bs_table_hold(&table);
+  WANT(bs_most(m).count == BS_SLOTS && same_txn(bs_living(m, a.slot).txn, a));
+  WANT(bs_living(m, 5).status == BS_NO_PLACE && bs_living(m, 128).status == BS_BAD_NUMBER);
+  WANT(bs_doing(m, a).count == BS_ACTIVE && bs_doing(m, b).count == BS_WAITS);
+  WANT(bs_lock_count(m, a).count == 5 && bs_lock_count(m, b).count == 3);
+  for (place = 0; bs_lock_at(m, a, place).status == BS_DONE; place++) {
+    if (same_node(bs_lock_at(m, a, place).node, file)) rows += bs_lock_at(m, a, place).count;
+  }
+  WANT(place == 5 && rows == 1);
+  WANT(bs_has(bs_holders(m, low).slots, a.slot) && bs_holders(m, low).slots.low == (uint64_t)1 << a.slot);
+  WANT(bs_mode_at(m, a.slot, low).mode == BS_X && bs_mode_at(m, b.slot, low).mode == BS_NL);
+  WANT(bs_queue_len(m, low).count == 2 && bs_queue_at(m, low, 0).txn.slot == b.slot);
+  WANT(bs_queue_at(m, low, 1).txn.slot == c.slot && bs_queue_at(m, low, 2).status == BS_NO_PLACE);
+  WANT(bs_has(bs_waits_for(m, c).slots, a.slot) && bs_has(bs_waits_for(m, c).slots, b.slot));
+  bs_table_let_go(&table);
+  DONE(bs_table_counters(&table, &counts));
+  WANT(counts.waited == 2 && counts.accepted == bs_table_accepted(&table).count);
+  ANSWERS(BS_WAITING, bs_table_waiting(&table, b));
+  WANT(bs_table_queue_len(&table, low).count == 2 && bs_table_holders(&table, low).status == BS_DONE);
+  DONE(bs_table_commit(&table, a, NULL));
+  back(&one, BS_DONE), back(&two, BS_DONE);
+  send_by_path(&one, b, low, BS_X);
+  ANSWERS(BS_VICTIM, bs_table_lock_path(&table, c, low, BS_X, NULL));
+  DONE(bs_table_last_deadlock(&table, &last));
+  WANT(same_txn(last.victim, c) && last.count == 2);
+  WANT(same_txn(last.at[0].txn, b) && same_node(last.at[0].node, low) && last.at[0].mode == BS_X);
+  WANT(same_txn(last.at[1].txn, c) && bs_has(last.at[1].waits_for, b.slot) && bs_has(last.at[0].waits_for, c.slot));
+  DONE(bs_table_abort(&table, c, NULL));
+  back(&one, BS_DONE);
+  DONE(bs_table_counters(&table, &counts));
+  WANT(counts.victims == 1 && counts.granted_later == 3 && counts.most_waiting <= 2);
+  DONE(bs_table_end(&table));
+}
+
+/* How many lines of a text begin so. */
+static size_t lines_with(FILE *text, const char *start_of_line) {
+  char line[200];
+  size_t count = 0;
+  rewind(text);
+  while (fgets(line, sizeof line, text) != NULL) count += strncmp(line, start_of_line, strlen(start_of_line)) == 0;
+  return count;
+}
+
+static void a_dump(void) {
+  struct asker one;
+  FILE *text = tmpfile();
+  bs_txn a, b;
+  WANT(text != NULL);
+  set_up(BS_AT_BLOCK);
+  a = begin(), b = begin();
+  DONE(bs_table_lock_path(&table, a, low, BS_X, NULL));
+  send_by_path(&one, b, low, BS_S);
+  DONE(bs_table_dump(&table, text));
+  WANT(lines_with(text, "Counters") == 1 && lines_with(text, "Transactions:") == 1);
+  WANT(lines_with(text, "   0 ") == 6 && lines_with(text, "   1 ") == 4);
+  WANT(lines_with(text, "       1.        1 S") == 1 && lines_with(text, "    held         0 X") == 1);
+  WANT(lines_with(text, "none") == 1);
+  DONE(bs_table_commit(&table, a, NULL));
+  back(&one, BS_DONE);
+  ANSWERS(BS_NULL_POINTER, bs_table_dump(&table, NULL));
+  ANSWERS(BS_NULL_POINTER, bs_table_dump(NULL, text));
+  DONE(bs_table_end(&table));
+  ANSWERS(BS_NO_MANAGER, bs_table_dump(&table, text));
+  fclose(text);
+  count_blocks(2); /* The texts of two dumps were blocks of the C library. */
+}
+
+/* ------------------------------------------------------------------------------------------------
+ * Tables that end.
+ */
+
+enum { SLEEPERS = 40 };
+
+static void an_end_with_sleepers(void) {
+  static struct asker askers[SLEEPERS];
+  bs_txn a;
+  size_t i;
+  set_up(BS_AT_BLOCK);
+  a = begin();
+  DONE(bs_table_lock(&table, a, root, BS_X));
+  for (i = 0; i < SLEEPERS; i++) send_by_path(&askers[i], begin(), i % 2 == 0 ? low : high, BS_X);
+  DONE(bs_table_end(&table));
+  for (i = 0; i < SLEEPERS; i++) back(&askers[i], BS_NO_MANAGER);
+  for (i = 0; i < SLEEPERS; i++) ANSWERS(BS_NO_MANAGER, bs_table_abort(&table, askers[i].txn, NULL));
+}
+
+/* Threads that go on calling while the table ends. */
+static void *call_on(void *arg) {
+  long calls = 0;
+  (void)arg;
+  for (;;) {
+    bs_reply reply = bs_table_begin(&table);
+    if (reply.status == BS_DONE) reply = bs_table_lock_path(&table, reply.txn, low, BS_X, NULL);
+    if (reply.status == BS_NO_MANAGER) return NULL;
+    if (reply.status == BS_DONE && ++calls % 3 != 0) continue; /* It is left open, so that others sleep. */
+  }
+}
+
+static void an_end_in_the_middle(void) {
+  pthread_t threads[8];
+  size_t i, round;
+  for (round = 0; round < 20; round++) {
+    set_up(BS_BY_WATCHER);
+    DONE(bs_table_watch_thread(&table, 0));
+    for (i = 0; i < 8; i++) start(&threads[i], call_on, NULL);
+    nap();
+    DONE(bs_table_end(&table));
+    for (i = 0; i < 8; i++) join(threads[i]);
+  }
+}
+
+static void places_without_a_table(void) {
+  static bs_board board;
+  bs_table never = BS_NO_TABLE_HERE;
+  bs_watcher watcher = BS_NO_WATCHER_HERE;
+  bs_txn t;
+  ANSWERS(BS_NO_MANAGER, bs_table_begin(&never));
+  ANSWERS(BS_NO_MANAGER, bs_table_end(&never));
+  ANSWERS(BS_NO_MANAGER, bs_table_watch(&never, &watcher));
+  ANSWERS(BS_NO_MANAGER, bs_table_watch_thread(&never, 0));
+  ANSWERS(BS_NO_MANAGER, bs_table_read_board(&never, &board));
+  WANT(bs_table_hold(&never) == NULL && bs_table_holders(&never, root).status == BS_NO_MANAGER);
+  ANSWERS(BS_BAD_NUMBER, bs_table_make(&never, 2, BS_YOUNGEST, 1));
+  ANSWERS(BS_BAD_NUMBER, bs_table_make(&never, BS_AT_BLOCK, BS_YOUNGEST, 129));
+  ANSWERS(BS_NULL_POINTER, bs_table_make(NULL, BS_AT_BLOCK, BS_YOUNGEST, 1));
+  ANSWERS(BS_NULL_POINTER, bs_table_end(NULL));
+  set_up(BS_AT_BLOCK);
+  ANSWERS(BS_IN_USE, bs_table_make(&table, BS_AT_BLOCK, BS_YOUNGEST, 1));
+  t = begin();
+  DONE(bs_table_end(&table));
+  told.count = 1;
+  ANSWERS(BS_NO_MANAGER, bs_table_commit(&table, t, &told));
+  WANT(told.count == 0);
+  ANSWERS(BS_NO_MANAGER, bs_table_lock(&table, t, root, BS_X));
+  ANSWERS(BS_NO_MANAGER, bs_table_lock_path(&table, t, root, BS_X, NULL));
+  ANSWERS(BS_NO_MANAGER, bs_table_end(&table));
+  told.count = 1;
+  ANSWERS(BS_NULL_POINTER, bs_table_commit(NULL, t, &told));
+  WANT(told.count == 0 && bs_table_waits_for(NULL, t).status == BS_NULL_POINTER);
+  ANSWERS(BS_NULL_POINTER, bs_table_lock(NULL, t, root, BS_X));
+  ANSWERS(BS_NULL_POINTER, bs_table_lock_path(NULL, t, root, BS_X, NULL));
+}
+
+/* ------------------------------------------------------------------------------------------------
+ * Want of memory.
+ */
+
+static void refused_tables(void) {
+  bs_reply made = { BS_NO_MEMORY, BS_NL, { 0, 0 }, { 0, 0 }, 0, 0, 0 };
+  long n;
+  for (n = 1; made.status == BS_NO_MEMORY; n++) {
+    bs_table t = BS_NO_TABLE_HERE;
+    refused_growth = n;
+    made = bs_table_make(&t, BS_AT_BLOCK, BS_YOUNGEST, BS_SLOTS);
+    refused_growth = 0;
+    WANT(bs_table_end(&t).status == (made.status == BS_DONE ? BS_DONE : BS_NO_MANAGER));
+  }
+  WANT(made.status == BS_DONE && n > 3);
+}
+
+/* A call whose growth is refused is made again, and is done then; whether one was refused. */
+static bool refuses(long n) {
+  bs_watcher watcher = BS_NO_WATCHER_HERE;
+  bs_command list[2];
+  bool refused;
+  bs_txn t;
+  bs_reply reply;
+  set_up(BS_BY_WATCHER);
+  t = begin();
+  refused_growth = n;
+  reply = bs_table_lock_path(&table, t, low, BS_X, NULL);
+  if (reply.status == BS_NO_MEMORY) reply = bs_table_lock_path(&table, t, low, BS_X, NULL);
+  DONE(reply);
+  list[0] = bs_do_lock(t, above, BS_IX);
+  list[1] = bs_do_lock(t, high, BS_X);
+  if (bs_table_run(&table, list, 2) < 2) WANT(bs_table_run(&table, list, 2) == 2);
+  reply = bs_table_watch(&table, &watcher);
+  if (reply.status == BS_NO_MEMORY) reply = bs_table_watch(&table, &watcher);
+  DONE(reply);
+  reply = bs_table_watch_thread(&table, 0);
+  if (reply.status == BS_NO_MEMORY) reply = bs_table_watch_thread(&table, 0);
+  DONE(reply);
+  refused = refused_growth == 0;
+  refused_growth = 0;
+  DONE(bs_table_commit(&table, t, NULL));
+  DONE(bs_table_end(&table));
+  DONE(bs_table_watch_end(&watcher));
+  return refused;
+}
+
+static void refused_growths(void) {
+  long n = 1;
+  while (refuses(n)) n++;
+  WANT(n > 2);
+}
+
+/* ------------------------------------------------------------------------------------------------
+ * The whole.
+ */
+
+static unsigned patience = 20;
+
+static void tell(const char *name, void (*play)(void)) {
+  long before = blocks_out();
+  story = name;
+  feed(patience);
+  play();
+  WANT(blocks_out() == before);
+  printf("%s\n", name);
+}
+
+#define TELL(name) tell(#name, name)
+
+int main(int count, char **words) {
+  setvbuf(stdout, NULL, _IONBF, 0);
+  if (count > 1) patience = (unsigned)atoi(words[1]);
+  TELL(a_commit_grants);
+  TELL(an_unlock_grants);
+  TELL(a_commit_wakes_all);
+  TELL(a_lock_condemns);
+  TELL(an_asker_falls);
+  TELL(a_settle_condemns);
+  TELL(a_rekey_moves);
+  TELL(a_file_moves);
+  TELL(a_record_goes);
+  TELL(an_escalation_grants);
+  TELL(a_cancel_ends_a_sleep);
+  TELL(a_cancel_grants);
+  TELL(an_abort_ends_a_sleep);
+  TELL(a_thread_dies);
+  TELL(an_idle_wake);
+  TELL(a_time_comes);
+  TELL(a_time_comes_and_grants);
+  TELL(a_grant_behind_the_time);
+  TELL(times_and_grants);
+  TELL(paths);
+  TELL(a_path_waits_twice);
+  TELL(a_path_moves);
+  TELL(a_path_ends_early);
+  TELL(lists_of_commands);
+  TELL(lists_that_begin);
+  TELL(lists_that_name);
+  TELL(every_command);
+  TELL(a_watcher_looks);
+  TELL(a_ninth_watcher);
+  TELL(a_thread_watches_without_rest);
+  TELL(a_thread_watches_and_rests);
+  TELL(a_thread_rests_long);
+  TELL(listings);
+  TELL(a_dump);
+  TELL(an_end_with_sleepers);
+  TELL(an_end_in_the_middle);
+  TELL(places_without_a_table);
+  TELL(refused_tables);
+  TELL(refused_growths);
+  return 0;
+}

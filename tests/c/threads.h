@@ -1,0 +1,90 @@
+/*
+ * threads.h: what the tests of a shared table have in common: wants that end the program, a watchdog, and threads
+ * that sleep for a lock.
+ */
+#ifndef THREADS_H
+#define THREADS_H
+
+#include "burlapslate_shared.h"
+
+#include <signal.h>
+#include <unistd.h>
+
+/* The story that is played, for messages. */
+static const char *story = "";
+
+/* Other threads may run still: one line, and no end of the program but at once. */
+static void wanted(bool holds, const char *what, const char *file, int line) {
+  if (holds) return;
+  fprintf(stderr, "%s:%d: %s: not so: %s\n", file, line, story, what);
+  _Exit(1);
+}
+
+#define WANT(condition) wanted((condition), #condition, __FILE__, __LINE__)
+
+static bs_reply answered(bs_reply reply, bs_status status, const char *call, const char *file, int line) {
+  if (reply.status != status) fprintf(stderr, "answered: %s\n", bs_text(reply.status));
+  wanted(reply.status == status, call, file, line);
+  return reply;
+}
+
+#define ANSWERS(status, call) answered((call), (status), #call, __FILE__, __LINE__)
+#define DONE(call) ANSWERS(BS_DONE, call)
+
+/* What hangs ends the program with status 1 and the name of the story. */
+static void bark(int number) {
+  static const char text[] = ": hangs\n";
+  ssize_t written = write(2, story, strlen(story)) + write(2, text, sizeof text - 1);
+  (void)number;
+  _Exit(written > 0 ? 1 : 2);
+}
+
+/* The watchdog barks where it is not fed for so many seconds. */
+static void feed(unsigned seconds) {
+  signal(SIGALRM, bark);
+  alarm(seconds);
+}
+
+static inline void nap(void) {
+  struct timespec time = { 0, 50000 };
+  nanosleep(&time, NULL);
+}
+
+/* The time in so many microseconds. */
+static struct timespec moment_in(long microseconds) {
+  struct timespec moment;
+  clock_gettime(CLOCK_MONOTONIC, &moment);
+  moment.tv_sec += microseconds / 1000000;
+  moment.tv_nsec += microseconds % 1000000 * 1000;
+  if (moment.tv_nsec >= 1000000000) {
+    moment.tv_sec++;
+    moment.tv_nsec -= 1000000000;
+  }
+  return moment;
+}
+
+static void start(pthread_t *thread, void *(*run)(void *), void *arg) {
+  WANT(pthread_create(thread, NULL, run, arg) == 0);
+}
+
+static void join(pthread_t thread) {
+  WANT(pthread_join(thread, NULL) == 0);
+}
+
+/* Small random numbers, by Marsaglia's xorshift: from 0 to below `sides`. */
+static uint64_t roll(uint64_t *dice, uint64_t sides) {
+  *dice ^= *dice << 13;
+  *dice ^= *dice >> 7;
+  *dice ^= *dice << 17;
+  return (*dice >> 16) % sides;
+}
+
+static bool same_node(bs_node a, bs_node b) {
+  return a.key == b.key && a.birth == b.birth;
+}
+
+static bool same_txn(bs_txn a, bs_txn b) {
+  return a.slot == b.slot && a.age == b.age;
+}
+
+#endif
