@@ -22,6 +22,14 @@ below() {
   done
 }
 
+# of_kit NAME: the crates of the toolchain that a crate and those below it stand on, but for std.
+of_kit() {
+  local crate
+  for crate in $(sed -n "s/^$1\( staticlib\)*: *//p" "$top/crates.txt"); do
+    if [ -d "$top/crates/$crate" ]; then of_kit "$crate"; else echo "$crate"; fi
+  done
+}
+
 # build_over_kept: as `rt lib`, over the proved libraries that `rt ci` has left, which `rt lib` proves again.
 build_over_kept() {
   local crate rlib with=()
@@ -31,9 +39,12 @@ build_over_kept() {
     if [ ! -e "$rlib" ] || [ -n "$(sources -newer "$rlib" | grep "/crates/$crate/")" ]; then return 1; fi
     with+=(--extern "$crate=$rlib" -L "dependency=${rlib%/*}")
   done
+  for crate in $(of_kit gl_c | sort -u); do
+    with+=(--extern "$crate=$kit/rlibs/$crate.rlib")
+  done
   mkdir -p "${library%/*}"
   "$kit/bin/rattle" build --crate-name gl_c "$top/crates/gl_c/src/lib.rt" --crate-type staticlib \
-    --extern "std=$kit/rlibs/std.rlib" --extern "arrayvec=$kit/rlibs/arrayvec.rlib" -L "dependency=$kit/rlibs" \
+    --extern "std=$kit/rlibs/std.rlib" -L "dependency=$kit/rlibs" \
     "${with[@]}" --antt-project "$kit/rattle/logic/antt-project.json" --logic-built "$kit/logic_built" \
     --links gl_c= --toolchain "$kit/toolchain" --backend llvm --jobs 2 -o "$library"
 }

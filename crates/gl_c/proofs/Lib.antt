@@ -1,4 +1,10 @@
 pub mod Halves
+mod Opening
 mod PlaceCalls
 mod PlaceSteps
 mod PlaceWords
+mod PostedCalls
+mod PostedWords
+mod Queues
+mod Serving
+mod Showing

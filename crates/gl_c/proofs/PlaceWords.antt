@@ -19,7 +19,7 @@ use Rattle.std.specs.contracts.alloc.Global as heap
 use Rattle.std.proofs.alloc.Calls.{Al, Fits, handle_tells}
 use Rattle.std.proofs.alloc.Global.TheLaws as heap_laws
 use Rattle.std.proofs.ResultValues.{and_tt}
-use Rattle.gl_catalog.specs.Manager.{ManagerView}
+use Rattle.gl_c.specs.Guarded.{GuardedView}
 use Rattle.gl_c.specs.Held.{owns_session}
 use Rattle.gl_c.specs.contracts.held.Held as held
 
@@ -113,16 +113,16 @@ module _
   pub place_apart : K → (d : (held.the_row).Denot) (vs : List Val)
       → ((h : Val) → vs ≡ place d.at h ∷ [] → Fits plain_heap h
       → Seq K 𝓛 (‵ ((heap.the_row).own_val d.alloc (h ∷ []))
-      ∷ ‵ (owns_session d.alloc d.at d.manager) ∷ Γ) G)
+      ∷ ‵ (owns_session d.alloc d.at d.guarded) ∷ Γ) G)
       → Seq K 𝓛 (‵ ((held.the_row).own_val d vs) ∷ Γ) G
   place_apart t d vs rest =
       fsplit t $
       apart t plain_heap d.at d.alloc vs rest
 
-  pub place_together : K → (p : Ptr) (h : Val) (a : Global) (m : Option ManagerView)
+  pub place_together : K → (p : Ptr) (h : Val) (a : Global) (m : Option GuardedView)
       → Step K 𝓛
       (‵ ((held.the_row).own_val
-      (record { at = p; alloc = a; manager = m }) (place p h ∷ [])) ∷ Γ) G
+      (record { at = p; alloc = a; guarded = m }) (place p h ∷ [])) ∷ Γ) G
       (‵ ((heap.the_row).own_val a (h ∷ [])) ∷ ‵ (owns_session a p m) ∷ Γ) G
   place_together t p h a m = step (λ s.
       together t plain_heap p a h $

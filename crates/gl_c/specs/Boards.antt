@@ -5,12 +5,13 @@ use Rattle.gl_waits.specs.Boards.{age_in, board_edge}
 use Rattle.gl_waits.specs.Sets.{has_slot}
 use Rattle.gl_waits.specs.Waits.{IsLowestYoungest, IsOnCycle, IsOnCycleOf}
 use Rattle.gl_table.specs.model.Table.{board_of}
-use Rattle.gl_catalog.specs.Manager.{ManagerView, state_of}
+use Rattle.gl_catalog.specs.Manager.{state_of}
 use Rattle.gl_c.specs.declared.board.Board.{Board}
 use Rattle.gl_c.specs.declared.board.Slots.{Slots}
-use Rattle.gl_c.specs.declared.searches.Found.{Found}
+use Rattle.gl_c.specs.declared.found.Found.{Found}
 use Rattle.gl_c.specs.declared.reply.Reply.{Reply}
 use Rattle.gl_c.specs.Carries.{Declines}
+use Rattle.gl_c.specs.Guarded.{GuardedView}
 use Rattle.gl_c.specs.Numbers.{bad_number, done, no_manager, no_place}
 use Rattle.gl_c.specs.Replies.{count_reply, status_reply}
 
@@ -26,9 +27,9 @@ abbrev pub board_in : Board → TheBoard
 board_in b = record { epoch = b.epoch; ages = b.ages; rows = map set_of b.rows }
 
 -- a call that asks for the board of this moment
-abbrev pub Shows : Option ManagerView → Reply → Board → Board → Option ManagerView → Type 0
+abbrev pub Shows : Option GuardedView → Reply → Board → Board → Option GuardedView → Type 0
 Shows None r board board' s' = Declines None no_manager r s' × (board' ≡ board)
-Shows (Some m) r board board' s' = (r ≡ status_reply done) × (board_in board' ≡ board_of (state_of m)) × (s' ≡ Some m)
+Shows (Some g) r board board' s' = (r ≡ status_reply done) × (board_in board' ≡ board_of (state_of g.manager)) × (s' ≡ Some g)
 
 -- the slots on a cycle with a slot of the board; a greater number is refused
 pub record FindsCycle (b : Board) (slot : ℕ) (f : Found) : Type 0 where

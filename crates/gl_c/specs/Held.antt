@@ -5,10 +5,10 @@ use Rattle.std.specs.contracts.impls.GlobalAllocator.TheImpl.{ghosts}
 use Rattle.std.specs.declared.alloc.Global.{Global}
 use base.Fml.{Fml, ftrue}
 use denote.RawPtr.{Ptr}
-use Rattle.gl_catalog.specs.Manager.{ManagerView}
 use Rattle.gl_c.specs.contracts.session.Session.{the_row}
+use Rattle.gl_c.specs.Guarded.{GuardedView}
 
 -- at the place of a session its box, at that of none nothing
-abbrev pub owns_session : Global → Ptr → Option ManagerView → Fml
+abbrev pub owns_session : Global → Ptr → Option GuardedView → Fml
 owns_session a p None = ftrue
-owns_session a p (Some m) = box_owns (ghosts.dealloc_token a) the_row p m
+owns_session a p (Some g) = box_owns (ghosts.dealloc_token a) the_row p g

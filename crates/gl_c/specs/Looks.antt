@@ -1,5 +1,5 @@
 -- What is answered to a question.
-use Rattle.std.specs.Prelude.{◌≡◌, ℕ, ◌&&◌, Option, Some, None, if◌then◌else◌}
+use Rattle.std.specs.Prelude.{◌≡◌, ℕ, ◌&&◌, Option, Some, None, if◌then◌else◌, length}
 use Rattle.std.specs.List.{slice_get}
 use Rattle.std.specs.Option.{option_map}
 use Rattle.gl_modes.specs.declared.mode.Mode.{Mode}
@@ -8,14 +8,15 @@ use Rattle.gl_modes.specs.declared.refusal.Refusal.TheVariants as no
 use Rattle.gl_graph.specs.declared.kind.Kind.{Kind}
 use Rattle.gl_graph.specs.declared.kind.Kind.TheVariants as kind
 use Rattle.gl_graph.specs.Graph.{Graph, indexes_of, interval_at, interval_of, node_count, parents_of, shape_of}
-use Rattle.gl_graph.specs.Refusals.{has_records}
+use Rattle.gl_graph.specs.Refusals.{first_refusal, has_records}
 use Rattle.gl_graph.specs.Shapes.{is_file_shape, is_index_shape, keys_in, kind_in, place_in}
 use Rattle.gl_header.specs.Header.{holds}
 use Rattle.gl_table.specs.declared.answers.Detect.{Detect}
 use Rattle.gl_table.specs.declared.answers.Detect.TheVariants.{AtBlock, ByWatcher}
 use Rattle.gl_waits.specs.declared.victims.Victims.{Victims}
 use Rattle.gl_waits.specs.declared.victims.Victims.TheVariants.{Youngest, Fewest}
-use Rattle.gl_table.specs.model.Calls.{held_children}
+use Rattle.gl_table.specs.model.Calls.{held_children, group_tests}
+use Rattle.gl_table.specs.model.Table.{living_in, rows_of}
 use Rattle.gl_table.specs.model.State.{lives, members, status_of}
 use Rattle.gl_catalog.specs.declared.command.Answer.TheVariants as answer
 use Rattle.gl_catalog.specs.Manager.{ManagerView, state_of}
@@ -24,6 +25,8 @@ use Rattle.gl_c.specs.declared.look.Query.{Query}
 use Rattle.gl_c.specs.declared.look.Query.TheVariants as query
 use Rattle.gl_c.specs.declared.reply.Reply.{Reply}
 use Rattle.gl_c.specs.Carries.{Declines}
+use Rattle.gl_c.specs.Guarded.{GuardedView}
+use Rattle.gl_c.specs.Listings.{doing, lived, of_queue, row_reply, waiter_reply}
 use Rattle.gl_c.specs.Names.{node_of}
 use Rattle.gl_c.specs.Numbers.{mode_number, no_manager, no_place, waiting}
 use Rattle.gl_c.specs.Replies.{count_reply, refused_reply, reply_of, status_reply}
@@ -89,8 +92,16 @@ looked m query.Len = count_reply (node_count (state_of m).graph)
 looked m query.Accepted = count_reply m.accepted
 looked m query.Detect = count_reply (detect_number m.table.detect)
 looked m query.Victims = count_reply (victims_number m.table.victims)
+looked m query.Most = count_reply (state_of m).most
+looked m (query.Living slot) = lived (living_in (state_of m) slot)
+looked m (query.Doing t) = doing (if lives (state_of m) t then status_of (state_of m) t.slot else None)
+looked m (query.LockCount t) = counted (refused_reply no.NoSuchTxn) (if lives (state_of m) t then Some (length (rows_of m.table t.slot)) else None)
+looked m (query.LockAt t place) = row_reply (if lives (state_of m) t then slice_get (rows_of m.table t.slot) place else None)
+looked m (query.ModeAt slot n) = reply_of (answer.Mode ((state_of m).held slot n))
+looked m (query.QueueLen n) = of_queue (first_refusal (group_tests (state_of m) n)) (λ queue. count_reply (length queue)) ((state_of m).queue n)
+looked m (query.QueueAt n place) = of_queue (first_refusal (group_tests (state_of m) n)) (λ queue. waiter_reply (slice_get queue place)) ((state_of m).queue n)
 
 -- a call that asks a question: it is answered where there is a manager, and nothing changes
-abbrev pub Looks : Option ManagerView → Query → Reply → Option ManagerView → Type 0
+abbrev pub Looks : Option GuardedView → Query → Reply → Option GuardedView → Type 0
 Looks None q r s' = Declines None no_manager r s'
-Looks (Some m) q r s' = (r ≡ looked m q) × (s' ≡ Some m)
+Looks (Some g) q r s' = (r ≡ looked g.manager q) × (s' ≡ Some g)

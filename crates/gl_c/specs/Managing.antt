@@ -1,12 +1,13 @@
 -- Managers come and go.
-use Rattle.std.specs.Prelude.{◌≡◌, ◌⊎◌, ℕ, Bool, ◌&&◌, Option, Some, None, if◌then◌else◌, nat_lt}
+use Rattle.std.specs.Prelude.{◌≡◌, ◌⊎◌, ℕ, Bool, ◌&&◌, Option, Some, None, if◌then◌else◌, nat_lt, replicate}
 use Rattle.gl_modes.specs.declared.refusal.Refusal.TheVariants as no
 use Rattle.gl_table.specs.declared.answers.Detect.{Detect}
 use Rattle.gl_waits.specs.declared.victims.Victims.{Victims}
 use Rattle.gl_table.specs.model.State.{choosing, empty_state}
-use Rattle.gl_catalog.specs.Manager.{ManagerView, state_of}
+use Rattle.gl_catalog.specs.Manager.{state_of}
 use Rattle.gl_c.specs.declared.reply.Reply.{Reply}
 use Rattle.gl_c.specs.Carries.{Declines, Where}
+use Rattle.gl_c.specs.Guarded.{GuardedView}
 use Rattle.gl_c.specs.Numbers.{bad_number, detect_at, done, in_use, no_manager, victims_at}
 use Rattle.gl_c.specs.Replies.{refused_reply, status_reply}
 
@@ -14,10 +15,17 @@ use Rattle.gl_c.specs.Replies.{refused_reply, status_reply}
 abbrev pub can_have : ℕ → Bool
 can_have most = nat_lt 0 most && nat_lt most 129
 
--- there is a manager without nodes and transactions from now on, or memory was wanting, and there is none
-abbrev pub Begins : Detect → Victims → ℕ → Reply → Option ManagerView → Type 0
+-- a manager without nodes and transactions, with empty boxes, that no watcher was shown
+pub record IsNew (detect : Detect) (victims : Victims) (most : ℕ) (g : GuardedView) : Type 0 where
+  pub manager : state_of g.manager ≡ choosing victims (empty_state detect most)
+  pub boxes : g.boxes ≡ replicate 128 None
+  pub ended : g.ended ≡ 0
+  pub shown : g.shown ≡ None
+
+-- there is a new manager from now on, or memory was wanting, and there is none
+abbrev pub Begins : Detect → Victims → ℕ → Reply → Option GuardedView → Type 0
 Begins detect victims most r s' =
-    ((r ≡ status_reply done) × (m : ManagerView) × (s' ≡ Some m) × (state_of m ≡ choosing victims (empty_state detect most)))
+    ((r ≡ status_reply done) × (g : GuardedView) × (s' ≡ Some g) × IsNew detect victims most g)
     ⊎ ((r ≡ refused_reply no.NoMemory) × (s' ≡ None))
 
 -- the way of detection, where its number names one and so many transactions can be had
@@ -25,12 +33,12 @@ abbrev pub wanted : ℕ → ℕ → Option Detect
 wanted detect most = if can_have most then detect_at detect else None
 
 -- what comes of asking for a manager
-abbrev pub Makes : Option ManagerView → ℕ → ℕ → ℕ → Reply → Option ManagerView → Type 0
-Makes (Some m) detect victims most r s' = Declines (Some m) in_use r s'
+abbrev pub Makes : Option GuardedView → ℕ → ℕ → ℕ → Reply → Option GuardedView → Type 0
+Makes (Some g) detect victims most r s' = Declines (Some g) in_use r s'
 Makes None detect victims most r s' =
     Where (wanted detect most) (λ way. Where (victims_at victims) (λ choice. Begins way choice most r s') (Declines None bad_number r s')) (Declines None bad_number r s')
 
 -- what the end of a manager is answered
-abbrev pub ended : Option ManagerView → Reply
-ended (Some m) = status_reply done
+abbrev pub ended : Option GuardedView → Reply
+ended (Some g) = status_reply done
 ended None = status_reply no_manager

@@ -1,5 +1,5 @@
 -- The numbers by which C names modes, ways of detection, choices of victims and kinds of notices, and the statuses that are no refusals.
-use Rattle.std.specs.Prelude.{ℕ, Option, Some, None, ◌==◌, if◌then◌else◌}
+use Rattle.std.specs.Prelude.{ℕ, Option, Some, None, ◌==◌, if◌then◌else◌, nat_lt}
 use Rattle.gl_modes.specs.declared.mode.Mode.{Mode}
 use Rattle.gl_modes.specs.declared.mode.Mode.TheVariants.{NL, IS, IX, S, SIX, X}
 use Rattle.gl_table.specs.declared.answers.Detect.{Detect}
@@ -42,6 +42,10 @@ detect_at n = if n == 0 then Some AtBlock else if n == 1 then Some ByWatcher els
 abbrev pub victims_at : ℕ → Option Victims
 victims_at n = if n == 0 then Some Youngest else if n == 1 then Some Fewest else None
 
+-- the slot of a number, if it is one's
+abbrev pub slot_at : ℕ → Option ℕ
+slot_at n = if nat_lt n 128 then Some n else None
+
 -- it was done; refusals have their own numbers, 1 to 21
 abbrev pub done : ℕ
 done = 0
@@ -53,6 +57,14 @@ waiting = 32
 -- the asker was condemned to end a deadlock
 abbrev pub victim : ℕ
 victim = 33
+
+-- the node moved, and the wait is over
+abbrev pub moved : ℕ
+moved = 34
+
+-- the node is gone, and the wait is over
+abbrev pub gone : ℕ
+gone = 35
 
 -- there is no manager at this place; 64 is the null pointer of the header's functions
 abbrev pub no_manager : ℕ
@@ -69,3 +81,11 @@ in_use = 67
 -- there are fewer than that
 abbrev pub no_place : ℕ
 no_place = 68
+
+-- there is no watcher at this place
+abbrev pub no_watcher : ℕ
+no_watcher = 69
+
+-- as many watch already as may
+abbrev pub too_many_watchers : ℕ
+too_many_watchers = 70

@@ -1,11 +1,11 @@
 -- What a contract sees of a session, and what holds of every session.
 use Rattle.std.specs.Prelude.{◌≡◌, []}
-use Rattle.gl_catalog.specs.Manager.{ManagerView}
 use Rattle.gl_c.specs.declared.session.Session.TheInside.{Inside}
+use Rattle.gl_c.specs.Guarded.{GuardedView}
 
--- the manager
-abbrev pub manager_in : Inside → ManagerView
-manager_in s = s.manager
+-- what C's mutex guards
+abbrev pub guarded_of : Inside → GuardedView
+guarded_of s = s.guarded
 
 -- between commands the list of notices is empty
 abbrev pub IsIdle : Inside → Type 0

@@ -15,5 +15,5 @@ pub struct Handle {
     is_open: bool,
     held: Held,
     alloc: Global,
-    ghost open: { is_open ≡ is_some held.manager },
+    ghost open: { is_open ≡ is_some held.guarded },
 }

@@ -1,7 +1,7 @@
 //! A session behind a raw pointer.
 
 ghost use Rattle.std.specs.Prelude.{◌≡◌, Option, None, Some, is_some, true};
-ghost use Rattle.gl_catalog.specs.Manager.{ManagerView};
+ghost use Rattle.gl_c.specs.Guarded.{GuardedView};
 ghost use Rattle.gl_c.specs.Held.{owns_session};
 
 use crate::session::Session;
@@ -14,11 +14,11 @@ use std::marker::{Model, Send};
 pub struct Held {
     at: *mut u8,
     alloc: Global,
-    pub(crate) ghost manager: { Option ManagerView },
+    pub(crate) ghost guarded: { Option GuardedView },
 }
 
 impl Model for Held {
-    ghost also_owns = { λ held. owns_session held.alloc held.at held.manager };
+    ghost also_owns = { λ held. owns_session held.alloc held.at held.guarded };
 }
 
 // A session may go to another thread, and so may its place.
@@ -27,7 +27,7 @@ unsafe impl Send for Held {}
 impl Held {
     /// The place of no session.
     pub(crate) fn none(alloc: Global) -> Held
-        ensures { result.manager ≡ None }
+        ensures { result.guarded ≡ None }
     {
         Held {
             at: std::ptr::null_mut(),
@@ -37,7 +37,7 @@ impl Held {
 
     /// The place of this session, which the caller gives up.
     pub(crate) fn of(session: Box<Session, Global>) -> Held
-        ensures { result.manager ≡ Some session.value }
+        ensures { result.guarded ≡ Some session.value }
     {
         let (at, alloc) = Box::into_raw_with_allocator(session);
         Held {
@@ -48,8 +48,8 @@ impl Held {
 
     /// The session at this place, of which there is one.
     pub(crate) fn into_session(self) -> Box<Session, Global>
-        requires { is_some self.manager ≡ true }
-        ensures { Some result.value ≡ self.manager }
+        requires { is_some self.guarded ≡ true }
+        ensures { Some result.value ≡ self.guarded }
     {
         let Held { at, alloc } = self;
         unsafe { Box::from_raw(alloc, at.cast::<Session>()) }

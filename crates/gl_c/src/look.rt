@@ -8,6 +8,9 @@ ghost use Rattle.gl_c.specs.Looks.{counted, detect_number, found, index_at, inte
 ghost use Rattle.gl_c.specs.Numbers.{no_place};
 ghost use Rattle.gl_c.specs.Replies.{refused_reply, status_reply};
 
+use crate::listing::{
+    doing_reply, living_reply, lock_count_reply, queue_at_reply, queue_len_reply, row_reply,
+};
 use crate::names::Node;
 use crate::numbers::{DONE, NO_PLACE, WAITING, mode_number};
 use crate::reply::Reply;
@@ -46,7 +49,24 @@ pub(crate) enum Query {
     Accepted,
     /// How deadlocks are found.
     Detect,
+    /// Whom a deadlock takes.
     Victims,
+    /// How many transactions may live at once.
+    Most,
+    /// Who lives in a slot.
+    Living { slot: u8 },
+    /// What a transaction is doing.
+    Doing { txn: TxnId },
+    /// How many nodes a transaction holds or waits for.
+    LockCount { txn: TxnId },
+    /// A node that a transaction holds or waits for.
+    LockAt { txn: TxnId, place: usize },
+    /// The mode in which the transaction of a slot holds a node.
+    ModeAt { slot: u8, node: NodeId },
+    /// How many wait for a node.
+    QueueLen { node: NodeId },
+    /// Who waits for a node.
+    QueueAt { node: NodeId, place: usize },
 }
 
 /// Answers a question.
@@ -69,6 +89,14 @@ pub(crate) fn look(manager: &Manager, query: Query) -> Reply
         Query::IntervalOf { index, key } => interval_reply(graph, index, key),
         Query::Place { node } => place_reply(graph.place(node)),
         Query::HasRecords { file } => records_reply(graph, file),
+        Query::Most => Reply::with_count(manager.most() as u64),
+        Query::Living { slot } => living_reply(manager.living(slot)),
+        Query::Doing { txn } => doing_reply(manager.status(txn)),
+        Query::LockCount { txn } => lock_count_reply(manager.lock_count(txn)),
+        Query::LockAt { txn, place } => row_reply(manager.lock_at(txn, place)),
+        Query::ModeAt { slot, node } => Reply::with_mode(manager.mode_at(slot, node)),
+        Query::QueueLen { node } => queue_len_reply(manager.queue(node)),
+        Query::QueueAt { node, place } => queue_at_reply(manager.queue(node), place),
     }
 }
 

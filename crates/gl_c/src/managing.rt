@@ -1,7 +1,7 @@
 //! Managers come and go.
 
 ghost use Rattle.std.specs.Prelude.{◌≡◌, ◌≤◌, None};
-ghost use Rattle.gl_c.specs.Handle.{manager_in};
+ghost use Rattle.gl_c.specs.Handle.{guarded_in};
 ghost use Rattle.gl_c.specs.Managing.{Begins, Makes, ended};
 
 use crate::handle::Handle;
@@ -17,7 +17,7 @@ use std::alloc::Global;
 /// of detection of this number. Of those in a deadlock the youngest falls. It takes memory.
 #[unsafe(no_mangle)]
 pub extern "C" fn bs_call_make(manager: &mut Handle, alloc: Global, detect: u32, most: u32) -> Reply
-    ensures { Makes (manager_in manager.old) detect 0 most result (manager_in manager.new) }
+    ensures { Makes (guarded_in manager.old) detect 0 most result (guarded_in manager.new) }
 {
     make_by_numbers(manager, alloc, detect, 0, most)
 }
@@ -31,7 +31,7 @@ pub extern "C" fn bs_call_make_choosing(
     victims: u32,
     most: u32,
 ) -> Reply
-    ensures { Makes (manager_in manager.old) detect victims most result (manager_in manager.new) }
+    ensures { Makes (guarded_in manager.old) detect victims most result (guarded_in manager.new) }
 {
     make_by_numbers(manager, alloc, detect, victims, most)
 }
@@ -44,7 +44,7 @@ fn make_by_numbers(
     victims: u32,
     most: u32,
 ) -> Reply
-    ensures { Makes (manager_in manager.old) detect victims most result (manager_in manager.new) }
+    ensures { Makes (guarded_in manager.old) detect victims most result (guarded_in manager.new) }
 {
     if manager.has_session() {
         return Reply::with_status(IN_USE);
@@ -59,10 +59,10 @@ fn make_by_numbers(
 
 /// Makes a manager at a place that has none.
 fn make(manager: &mut Handle, alloc: Global, detect: Detect, victims: Victims, most: usize) -> Reply
-    requires none { manager_in manager.old ≡ None }
+    requires none { guarded_in manager.old ≡ None }
     requires some { 1 ≤ most }
     requires few { most ≤ 128 }
-    ensures { Begins detect victims most result (manager_in manager.new) }
+    ensures { Begins detect victims most result (guarded_in manager.new) }
 {
     let Ok(session) = Session::new(alloc, detect, victims, most) else {
         return Reply::refused(Refusal::NoMemory);
@@ -77,8 +77,8 @@ fn make(manager: &mut Handle, alloc: Global, detect: Detect, victims: Victims, m
 /// Ends a manager, and gives back all the memory that it took; its place has none from then on.
 #[unsafe(no_mangle)]
 pub extern "C" fn bs_call_end(manager: &mut Handle) -> Reply
-    ensures replied { result ≡ ended (manager_in manager.old) }
-    ensures none { manager_in manager.new ≡ None }
+    ensures replied { result ≡ ended (guarded_in manager.old) }
+    ensures none { guarded_in manager.new ≡ None }
 {
     match manager.take() {
         Some(_) => Reply::with_status(DONE),

@@ -2,7 +2,7 @@
 
 ghost use Rattle.gl_catalog.specs.declared.command.Command.TheVariants as command;
 ghost use Rattle.gl_c.specs.Carries.{Asks, Declines, Under};
-ghost use Rattle.gl_c.specs.Handle.{manager_in};
+ghost use Rattle.gl_c.specs.Handle.{guarded_in};
 ghost use Rattle.gl_c.specs.Names.{node_id};
 ghost use Rattle.gl_c.specs.Numbers.{bad_number};
 
@@ -16,7 +16,7 @@ use gl_catalog::Command;
 /// A new inner node, under 0 to 8 inner nodes; without parents it is a root.
 #[unsafe(no_mangle)]
 pub extern "C" fn bs_call_add_inner(manager: &mut Handle, parents: &[Node]) -> Reply
-    ensures { Under parents.now (λ ids. Asks (manager_in manager.old) (command.Inner ids) result (manager_in manager.new)) (Declines (manager_in manager.old) bad_number result (manager_in manager.new)) }
+    ensures { Under parents.now (λ ids. Asks (guarded_in manager.old) (command.Inner ids) result (guarded_in manager.new)) (Declines (guarded_in manager.old) bad_number result (guarded_in manager.new)) }
 {
     match parent_ids(parents) {
         Some(ids) => manager.ask(Command::Inner {
@@ -29,7 +29,7 @@ pub extern "C" fn bs_call_add_inner(manager: &mut Handle, parents: &[Node]) -> R
 /// A new file, under 1 to 8 inner nodes.
 #[unsafe(no_mangle)]
 pub extern "C" fn bs_call_add_file(manager: &mut Handle, parents: &[Node]) -> Reply
-    ensures { Under parents.now (λ ids. Asks (manager_in manager.old) (command.File ids) result (manager_in manager.new)) (Declines (manager_in manager.old) bad_number result (manager_in manager.new)) }
+    ensures { Under parents.now (λ ids. Asks (guarded_in manager.old) (command.File ids) result (guarded_in manager.new)) (Declines (guarded_in manager.old) bad_number result (guarded_in manager.new)) }
 {
     match parent_ids(parents) {
         Some(ids) => manager.ask(Command::File {
@@ -48,7 +48,7 @@ pub extern "C" fn bs_call_add_index(
     file: Node,
     bounds: &[u64],
 ) -> Reply
-    ensures { Under parents.now (λ ids. Asks (manager_in manager.old) (command.Index ids (node_id file) bounds.entry) result (manager_in manager.new)) (Declines (manager_in manager.old) bad_number result (manager_in manager.new)) }
+    ensures { Under parents.now (λ ids. Asks (guarded_in manager.old) (command.Index ids (node_id file) bounds.entry) result (guarded_in manager.new)) (Declines (guarded_in manager.old) bad_number result (guarded_in manager.new)) }
 {
     match parent_ids(parents) {
         Some(ids) => manager.ask(Command::Index {

@@ -1,7 +1,7 @@
 //! The numbers by which C names modes, ways of detection and statuses.
 
 ghost use Rattle.std.specs.Prelude.{◌≡◌};
-ghost use Rattle.gl_c.specs.Numbers.{detect_at, effect_number, mode_at, mode_number, victims_at};
+ghost use Rattle.gl_c.specs.Numbers.{detect_at, effect_number, mode_at, mode_number, slot_at, victims_at};
 
 use gl_modes::Mode;
 use gl_table::{Detect, Effect};
@@ -16,17 +16,29 @@ pub(crate) const WAITING: u32 = 32;
 /// The asker was condemned to end a deadlock.
 pub(crate) const VICTIM: u32 = 33;
 
+/// The node moved, and the wait is over.
+pub(crate) const MOVED: u32 = 34;
+
+/// The node is gone, and the wait is over.
+pub(crate) const GONE: u32 = 35;
+
 /// There is no manager at this place: none was made, or it was ended.
 pub(crate) const NO_MANAGER: u32 = 65;
 
 /// A number names no mode, no way of detection or no lawful count.
 pub(crate) const BAD_NUMBER: u32 = 66;
 
-/// There is a manager at this place already.
+/// There is a manager, or a watcher, at this place already.
 pub(crate) const IN_USE: u32 = 67;
 
 /// There are fewer than that.
 pub(crate) const NO_PLACE: u32 = 68;
+
+/// There is no watcher at this place: none was made, or it was ended.
+pub(crate) const NO_WATCHER: u32 = 69;
+
+/// As many watch already as may.
+pub(crate) const TOO_MANY_WATCHERS: u32 = 70;
 
 /// A mode's number.
 pub(crate) fn mode_number(mode: Mode) -> u32
@@ -87,5 +99,16 @@ pub(crate) fn detect_at(number: u32) -> Option<Detect>
         0 => Some(Detect::AtBlock),
         1 => Some(Detect::ByWatcher),
         _ => None,
+    }
+}
+
+/// The slot of a number; `None` where it is no slot's.
+pub(crate) fn slot_at(number: u32) -> Option<u8>
+    ensures { result ≡ slot_at number }
+{
+    if number < 128 {
+        Some(number as u8)
+    } else {
+        None
     }
 }

@@ -3,7 +3,7 @@
 ghost use Rattle.std.specs.Prelude.{[]};
 ghost use Rattle.gl_catalog.specs.declared.command.Command.TheVariants as command;
 ghost use Rattle.gl_c.specs.Carries.{Asks, Carries, Declines, Under};
-ghost use Rattle.gl_c.specs.Handle.{manager_in};
+ghost use Rattle.gl_c.specs.Handle.{guarded_in};
 ghost use Rattle.gl_c.specs.Names.{node_id, txn_id};
 ghost use Rattle.gl_c.specs.Notices.{Tells};
 ghost use Rattle.gl_c.specs.Numbers.{bad_number};
@@ -19,7 +19,7 @@ use gl_catalog::Command;
 /// A new record of a file, with a key for each of its indexes, held in X.
 #[unsafe(no_mangle)]
 pub extern "C" fn bs_call_insert(manager: &mut Handle, txn: Txn, file: Node, keys: &[u64]) -> Reply
-    ensures { Asks (manager_in manager.old) (command.Insert (txn_id txn) (node_id file) keys.entry) result (manager_in manager.new) }
+    ensures { Asks (guarded_in manager.old) (command.Insert (txn_id txn) (node_id file) keys.entry) result (guarded_in manager.new) }
 {
     manager.ask(Command::Insert {
         txn: txn.id(),
@@ -36,7 +36,7 @@ pub extern "C" fn bs_call_delete(
     rec: Node,
     told: &mut Notices,
 ) -> Reply
-    ensures { Carries (manager_in manager.old) (command.Delete (txn_id txn) (node_id rec)) result told.new (manager_in manager.new) }
+    ensures { Carries (guarded_in manager.old) (command.Delete (txn_id txn) (node_id rec)) result told.new (guarded_in manager.new) }
 {
     let command = Command::Delete {
         txn: txn.id(),
@@ -55,7 +55,7 @@ pub extern "C" fn bs_call_rekey(
     key: u64,
     told: &mut Notices,
 ) -> Reply
-    ensures { Carries (manager_in manager.old) (command.Rekey (txn_id txn) (node_id rec) (node_id index) key) result told.new (manager_in manager.new) }
+    ensures { Carries (guarded_in manager.old) (command.Rekey (txn_id txn) (node_id rec) (node_id index) key) result told.new (guarded_in manager.new) }
 {
     let command = Command::Rekey {
         txn: txn.id(),
@@ -75,7 +75,7 @@ pub extern "C" fn bs_call_move(
     parents: &[Node],
     told: &mut Notices,
 ) -> Reply
-    ensures { Under parents.now (λ ids. Carries (manager_in manager.old) (command.Move (txn_id txn) (node_id node) ids) result told.new (manager_in manager.new)) (Declines (manager_in manager.old) bad_number result (manager_in manager.new) × Tells told.new []) }
+    ensures { Under parents.now (λ ids. Carries (guarded_in manager.old) (command.Move (txn_id txn) (node_id node) ids) result told.new (guarded_in manager.new)) (Declines (guarded_in manager.old) bad_number result (guarded_in manager.new) × Tells told.new []) }
 {
     let Some(ids) = parent_ids(parents) else {
         told.clear();

@@ -3,9 +3,11 @@
 ghost use Rattle.std.specs.Prelude.{◌≡◌};
 ghost use Rattle.gl_catalog.specs.declared.command.Answer.TheVariants as answer;
 ghost use Rattle.gl_c.specs.Replies.{count_reply, refused_at, refused_reply, reply_of, status_reply};
+ghost use Rattle.gl_c.specs.Verdicts.{verdict_reply};
 
 use crate::names::{Node, Txn};
-use crate::numbers::{DONE, VICTIM, WAITING, effect_number, mode_number};
+use crate::numbers::{DONE, GONE, MOVED, VICTIM, WAITING, effect_number, mode_number};
+use gl_boxes::{Grant, Stop};
 use gl_catalog::Answer;
 use gl_modes::{Mode, NodeId, Refusal};
 use gl_table::TxnId;
@@ -74,6 +76,20 @@ impl Reply {
         }
     }
 
+    /// What C is answered for a verdict.
+    pub(crate) fn of_verdict(verdict: Option<Result<Grant, Stop>>) -> Reply
+        ensures { result ≡ verdict_reply verdict }
+    {
+        match verdict {
+            None => Reply::with_status(WAITING),
+            Some(Ok(grant)) => Reply::with_mode(grant.mode),
+            Some(Err(Stop::Refused(refusal))) => Reply::refused(refusal),
+            Some(Err(Stop::Victim)) => Reply::with_status(VICTIM),
+            Some(Err(Stop::Moved)) => Reply::with_status(MOVED),
+            Some(Err(Stop::Gone)) => Reply::with_status(GONE),
+        }
+    }
+
     /// A number that was asked after.
     pub(crate) fn with_count(count: u64) -> Reply
         ensures { result ≡ count_reply count }
@@ -94,7 +110,8 @@ impl Reply {
         }
     }
 
-    fn with_mode(mode: Mode) -> Reply
+    /// A mode that was asked after.
+    pub(crate) fn with_mode(mode: Mode) -> Reply
         ensures { result ≡ reply_of (answer.Mode mode) }
     {
         Reply {

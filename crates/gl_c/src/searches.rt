@@ -2,26 +2,19 @@
 
 ghost use Rattle.std.specs.Prelude.{◌≡◌, ℕ};
 ghost use Rattle.gl_c.specs.Boards.{FindsCycle, FindsSuspects, PicksFor, Shows};
-ghost use Rattle.gl_c.specs.Handle.{manager_in};
+ghost use Rattle.gl_c.specs.Handle.{guarded_in};
 
 use crate::board::{Board, Slots};
+use crate::found::Found;
 use crate::handle::Handle;
-use crate::numbers::{BAD_NUMBER, DONE, NO_PLACE};
+use crate::numbers::{BAD_NUMBER, NO_PLACE};
 use crate::reply::Reply;
 use gl_waits::{SLOTS, on_cycle, suspects, youngest};
-
-/// Slots that were asked after.
-#[repr(C)]
-#[derive(Clone, Copy)]
-pub struct Found {
-    pub status: u32,
-    pub slots: Slots,
-}
 
 /// Writes down who waits for whom at this moment; the epoch is the count of accepted commands.
 #[unsafe(no_mangle)]
 pub extern "C" fn bs_call_board(manager: &mut Handle, board: &mut Board) -> Reply
-    ensures { Shows (manager_in manager.old) result board.old board.new (manager_in manager.new) }
+    ensures { Shows (guarded_in manager.old) result board.old board.new (guarded_in manager.new) }
 {
     manager.show(board)
 }
@@ -34,15 +27,9 @@ pub extern "C" fn bs_call_on_cycle(board: &Board, slot: u32) -> Found
     let slot = slot as usize;
     if slot < SLOTS {
         let set = on_cycle(&board.read(), slot);
-        Found {
-            status: DONE,
-            slots: Slots::of(set),
-        }
+        Found::of(set)
     } else {
-        Found {
-            status: BAD_NUMBER,
-            slots: Slots { low: 0, high: 0 },
-        }
+        Found::none(BAD_NUMBER)
     }
 }
 
@@ -51,11 +38,7 @@ pub extern "C" fn bs_call_on_cycle(board: &Board, slot: u32) -> Found
 pub extern "C" fn bs_call_suspects(board: &Board) -> Found
     ensures { FindsSuspects board.now result }
 {
-    let set = suspects(&board.read());
-    Found {
-        status: DONE,
-        slots: Slots::of(set),
-    }
+    Found::of(suspects(&board.read()))
 }
 
 /// The youngest of these slots, of equal ages the lowest.

@@ -1,39 +1,45 @@
 //! A manager with its list of notices.
 
-ghost use Rattle.std.specs.Prelude.{◌≡◌, ◌≤◌, IfErr, IfOk};
+ghost use Rattle.std.specs.Prelude.{◌≡◌, ◌≤◌, IfErr, IfOk, Some};
 ghost use Rattle.gl_modes.specs.declared.refusal.Refusal.{Refusal as ARefusal};
 ghost use Rattle.gl_table.specs.model.Table.{board_of};
-ghost use Rattle.gl_table.specs.model.State.{choosing, empty_state};
 ghost use Rattle.gl_catalog.specs.Manager.{state_of};
+ghost use Rattle.gl_boxes.specs.Boards.{Ends};
+ghost use Rattle.gl_boxes.specs.Boxes.{verdict_of};
 ghost use Rattle.gl_c.specs.Carries.{Answers, Replies};
 ghost use Rattle.gl_c.specs.Looks.{looked};
+ghost use Rattle.gl_c.specs.Managing.{IsNew};
+ghost use Rattle.gl_c.specs.Verdicts.{verdict_reply};
+ghost use Rattle.gl_c.specs.Watching.{OnlyShows};
 
+use crate::guarded::Guarded;
 use crate::look::{Query, look};
 use crate::notices::Notices;
 use crate::reply::Reply;
 use gl_catalog::{Command, Manager};
-use gl_modes::Refusal;
-use gl_table::{Detect, Told};
+use gl_modes::{Mode, NodeId, Refusal};
+use gl_table::{Detect, Told, TxnId};
 use gl_waits::Victims;
+use gl_window::{WatchFault, Watcher};
 use std::alloc::Global;
 use std::marker::Model;
 
-/// A manager, and the list that its commands fill, which is empty between them: it is some six
-/// kilobytes large, so that it is made once.
+/// A manager with all that is guarded with it, and the list that its commands fill, which is empty
+/// between them: it is some six kilobytes large, so that it is made once.
 #[derive(Drop)]
 pub(crate) struct Session {
-    manager: Manager,
+    guarded: Guarded,
     told: Told,
 }
 
 impl Model for Session {
-    ghost use Rattle.gl_catalog.specs.Manager.{ManagerView};
+    ghost use Rattle.gl_c.specs.Guarded.{GuardedView};
 
-    ghost Value = { ManagerView };
+    ghost Value = { GuardedView };
 
-    ghost use Rattle.gl_c.specs.Session.{manager_in, IsIdle};
+    ghost use Rattle.gl_c.specs.Session.{guarded_of, IsIdle};
 
-    ghost view = { manager_in };
+    ghost view = { guarded_of };
 
     ghost invariant = { IsIdle };
 }
@@ -49,12 +55,12 @@ impl Session {
     ) -> Result<Self, Refusal>
         requires some { 1 ≤ most }
         requires few { most ≤ 128 }
-        ensures made { IfOk result (λ session. state_of session ≡ choosing victims (empty_state detect most)) }
+        ensures made { IfOk result (λ session. IsNew detect victims most session) }
         ensures refused { IfErr result (λ refusal. refusal ≡ ARefusal.NoMemory) }
     {
-        let manager = Manager::choosing(alloc, detect, victims, most)?;
+        let guarded = Guarded::new(alloc, detect, victims, most)?;
         Ok(Session {
-            manager,
+            guarded,
             told: Told::new(),
         })
     }
@@ -63,7 +69,7 @@ impl Session {
     pub(crate) fn carry_out(&mut self, command: Command<'_>, notices: &mut Notices) -> Reply
         ensures { Replies self.old command.entry result notices.new self.new }
     {
-        let answer = self.manager.apply_telling(command, &mut self.told);
+        let answer = self.guarded.serve(command, &mut self.told);
         notices.put(self.told.as_slice());
         self.told.clear();
         Reply::of(answer)
@@ -73,22 +79,51 @@ impl Session {
     pub(crate) fn ask(&mut self, command: Command<'_>) -> Reply
         ensures { Answers self.old command.entry result self.new }
     {
-        let answer = self.manager.apply_telling(command, &mut self.told);
+        let answer = self.guarded.serve(command, &mut self.told);
         self.told.clear();
         Reply::of(answer)
     }
 
     /// Answers a question.
     pub(crate) fn look(&self, query: Query) -> Reply
-        ensures { result ≡ looked self.now query }
+        ensures { result ≡ looked self.now.manager query }
     {
-        look(&self.manager, query)
+        look(self.guarded.manager(), query)
     }
 
     /// Who waits for whom at this moment.
     pub(crate) fn board(&self) -> gl_waits::Board
-        ensures { result ≡ board_of (state_of self.now) }
+        ensures { result ≡ board_of (state_of self.now.manager) }
     {
-        self.manager.board()
+        self.guarded.manager().board()
+    }
+
+    /// What became of the wait of a transaction for a node.
+    pub(crate) fn verdict(&self, txn: TxnId, node: NodeId, mode: Mode) -> Reply
+        ensures { result ≡ verdict_reply (verdict_of (state_of self.now.manager) self.now.boxes txn node mode) }
+    {
+        Reply::of_verdict(self.guarded.verdict(txn, node, mode))
+    }
+
+    /// The slots whose wait the last accepted command may have ended.
+    pub(crate) fn ended(&self) -> u128
+        ensures { result ≡ self.now.ended }
+    {
+        self.guarded.ended()
+    }
+
+    /// A watcher that knows the board of now.
+    pub(crate) fn watch(&mut self, alloc: Global) -> Result<Watcher, WatchFault>
+        ensures kept { OnlyShows self.old self.new }
+        ensures watcher { IfOk result (λ watcher. (self.new.shown ≡ Some watcher) × Ends watcher.list (board_of (state_of self.old.manager))) }
+    {
+        self.guarded.watch(alloc)
+    }
+
+    /// The manager, to be asked.
+    pub(crate) fn manager(&self) -> &Manager
+        ensures { result.now ≡ self.now.manager }
+    {
+        self.guarded.manager()
     }
 }

@@ -3,7 +3,7 @@
 ghost use Rattle.std.specs.Prelude.{[]};
 ghost use Rattle.gl_catalog.specs.declared.command.Command.TheVariants as command;
 ghost use Rattle.gl_c.specs.Carries.{Asks, Carries, Declines, Where};
-ghost use Rattle.gl_c.specs.Handle.{manager_in};
+ghost use Rattle.gl_c.specs.Handle.{guarded_in};
 ghost use Rattle.gl_c.specs.Names.{node_id, txn_id};
 ghost use Rattle.gl_c.specs.Notices.{Tells};
 ghost use Rattle.gl_c.specs.Numbers.{bad_number, mode_at};
@@ -18,7 +18,7 @@ use gl_catalog::Command;
 /// A new transaction.
 #[unsafe(no_mangle)]
 pub extern "C" fn bs_call_begin(manager: &mut Handle) -> Reply
-    ensures { Asks (manager_in manager.old) command.Begin result (manager_in manager.new) }
+    ensures { Asks (guarded_in manager.old) command.Begin result (guarded_in manager.new) }
 {
     manager.ask(Command::Begin)
 }
@@ -32,7 +32,7 @@ pub extern "C" fn bs_call_lock(
     mode: u32,
     told: &mut Notices,
 ) -> Reply
-    ensures { Where (mode_at mode) (λ wanted. Carries (manager_in manager.old) (command.Lock (txn_id txn) (node_id node) wanted) result told.new (manager_in manager.new)) (Declines (manager_in manager.old) bad_number result (manager_in manager.new) × Tells told.new []) }
+    ensures { Where (mode_at mode) (λ wanted. Carries (guarded_in manager.old) (command.Lock (txn_id txn) (node_id node) wanted) result told.new (guarded_in manager.new)) (Declines (guarded_in manager.old) bad_number result (guarded_in manager.new) × Tells told.new []) }
 {
     let Some(mode) = mode_at(mode) else {
         told.clear();
@@ -49,7 +49,7 @@ pub extern "C" fn bs_call_lock(
 /// Asks for a lock, and is refused where it cannot be granted at once.
 #[unsafe(no_mangle)]
 pub extern "C" fn bs_call_try(manager: &mut Handle, txn: Txn, node: Node, mode: u32) -> Reply
-    ensures { Where (mode_at mode) (λ wanted. Asks (manager_in manager.old) (command.Try (txn_id txn) (node_id node) wanted) result (manager_in manager.new)) (Declines (manager_in manager.old) bad_number result (manager_in manager.new)) }
+    ensures { Where (mode_at mode) (λ wanted. Asks (guarded_in manager.old) (command.Try (txn_id txn) (node_id node) wanted) result (guarded_in manager.new)) (Declines (guarded_in manager.old) bad_number result (guarded_in manager.new)) }
 {
     let Some(mode) = mode_at(mode) else {
         return Reply::with_status(BAD_NUMBER);
@@ -69,7 +69,7 @@ pub extern "C" fn bs_call_unlock(
     node: Node,
     told: &mut Notices,
 ) -> Reply
-    ensures { Carries (manager_in manager.old) (command.Unlock (txn_id txn) (node_id node)) result told.new (manager_in manager.new) }
+    ensures { Carries (guarded_in manager.old) (command.Unlock (txn_id txn) (node_id node)) result told.new (guarded_in manager.new) }
 {
     let command = Command::Unlock {
         txn: txn.id(),
@@ -86,7 +86,7 @@ pub extern "C" fn bs_call_escalate(
     node: Node,
     told: &mut Notices,
 ) -> Reply
-    ensures { Carries (manager_in manager.old) (command.Escalate (txn_id txn) (node_id node)) result told.new (manager_in manager.new) }
+    ensures { Carries (guarded_in manager.old) (command.Escalate (txn_id txn) (node_id node)) result told.new (guarded_in manager.new) }
 {
     let command = Command::Escalate {
         txn: txn.id(),
@@ -98,7 +98,7 @@ pub extern "C" fn bs_call_escalate(
 /// Takes a wait back.
 #[unsafe(no_mangle)]
 pub extern "C" fn bs_call_cancel(manager: &mut Handle, txn: Txn, told: &mut Notices) -> Reply
-    ensures { Carries (manager_in manager.old) (command.Cancel (txn_id txn)) result told.new (manager_in manager.new) }
+    ensures { Carries (guarded_in manager.old) (command.Cancel (txn_id txn)) result told.new (guarded_in manager.new) }
 {
     manager.carry_out(Command::Cancel { txn: txn.id() }, told)
 }
@@ -106,7 +106,7 @@ pub extern "C" fn bs_call_cancel(manager: &mut Handle, txn: Txn, told: &mut Noti
 /// Ends a transaction, and releases everything.
 #[unsafe(no_mangle)]
 pub extern "C" fn bs_call_commit(manager: &mut Handle, txn: Txn, told: &mut Notices) -> Reply
-    ensures { Carries (manager_in manager.old) (command.Commit (txn_id txn)) result told.new (manager_in manager.new) }
+    ensures { Carries (guarded_in manager.old) (command.Commit (txn_id txn)) result told.new (guarded_in manager.new) }
 {
     manager.carry_out(Command::Commit { txn: txn.id() }, told)
 }
@@ -114,7 +114,7 @@ pub extern "C" fn bs_call_commit(manager: &mut Handle, txn: Txn, told: &mut Noti
 /// Ends a transaction and releases everything, also while it waits or is condemned.
 #[unsafe(no_mangle)]
 pub extern "C" fn bs_call_abort(manager: &mut Handle, txn: Txn, told: &mut Notices) -> Reply
-    ensures { Carries (manager_in manager.old) (command.Abort (txn_id txn)) result told.new (manager_in manager.new) }
+    ensures { Carries (guarded_in manager.old) (command.Abort (txn_id txn)) result told.new (guarded_in manager.new) }
 {
     manager.carry_out(Command::Abort { txn: txn.id() }, told)
 }
@@ -122,7 +122,7 @@ pub extern "C" fn bs_call_abort(manager: &mut Handle, txn: Txn, told: &mut Notic
 /// Condemns those who lie on a cycle with a transaction, by the manager's choice of victims, until it is on none.
 #[unsafe(no_mangle)]
 pub extern "C" fn bs_call_settle(manager: &mut Handle, txn: Txn, told: &mut Notices) -> Reply
-    ensures { Carries (manager_in manager.old) (command.Settle (txn_id txn)) result told.new (manager_in manager.new) }
+    ensures { Carries (guarded_in manager.old) (command.Settle (txn_id txn)) result told.new (guarded_in manager.new) }
 {
     manager.carry_out(Command::Settle { txn: txn.id() }, told)
 }

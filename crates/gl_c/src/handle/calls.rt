@@ -4,11 +4,24 @@ ghost use Rattle.std.specs.Prelude.{◌≡◌, None, Some, is_some};
 ghost use Rattle.std.specs.Option.{option_map};
 ghost use Rattle.gl_c.specs.Boards.{Shows};
 ghost use Rattle.gl_c.specs.Carries.{Asks, Carries};
-ghost use Rattle.gl_c.specs.Handle.{manager_in};
+ghost use Rattle.gl_c.specs.Handle.{guarded_in};
+ghost use Rattle.gl_c.specs.Counts.{Counting};
+ghost use Rattle.gl_c.specs.Deadlocks.{Recalls};
+ghost use Rattle.gl_c.specs.Finding.{FindsEnded, FindsIn};
+ghost use Rattle.gl_graph.specs.Refusals.{first_refusal};
+ghost use Rattle.gl_header.specs.Header.{holds};
+ghost use Rattle.gl_table.specs.model.Calls.{group_tests, living_tests};
+ghost use Rattle.gl_table.specs.model.State.{members, waits_for};
 ghost use Rattle.gl_c.specs.Looks.{Looks};
+ghost use Rattle.gl_c.specs.Verdicts.{Judges};
+ghost use Rattle.gl_c.specs.Watching.{Attends};
 
 use super::Handle;
 use crate::board::Board;
+use crate::counts::Counts;
+use crate::crossing::hand_over;
+use crate::deadlock::Deadlock;
+use crate::found::{Found, holders, waits_for};
 use crate::held::Held;
 use crate::look::Query;
 use crate::notices::Notices;
@@ -16,20 +29,15 @@ use crate::numbers::{DONE, NO_MANAGER};
 use crate::reply::Reply;
 use crate::session::Session;
 use gl_catalog::Command;
+use gl_modes::{Mode, NodeId};
+use gl_table::TxnId;
+use gl_window::{WatchFault, Watcher};
 use std::alloc::Global;
-use std::marker::Send;
 use std::mem::replace;
-
-/// Hands a value over to whatever thread takes it.
-fn hand_over<T: Send>(value: T) -> T
-    ensures { result ≡ value }
-{
-    value
-}
 
 impl Handle {
     fn none(alloc: Global) -> Handle
-        ensures { manager_in result ≡ None }
+        ensures { guarded_in result ≡ None }
     {
         Handle {
             is_open: false,
@@ -40,7 +48,7 @@ impl Handle {
 
     /// The place of this session.
     pub(crate) fn of(alloc: Global, session: Box<Session, Global>) -> Handle
-        ensures { manager_in result ≡ Some session.value }
+        ensures { guarded_in result ≡ Some session.value }
     {
         Handle {
             is_open: true,
@@ -51,15 +59,15 @@ impl Handle {
 
     /// Whether there is a session.
     pub(crate) fn has_session(&self) -> bool
-        ensures { result ≡ is_some (manager_in self.now) }
+        ensures { result ≡ is_some (guarded_in self.now) }
     {
         self.is_open
     }
 
     /// Takes the session out, if there is one.
     pub(crate) fn take(&mut self) -> Option<Box<Session, Global>>
-        ensures taken { option_map (λ session. session.value) result ≡ manager_in self.old }
-        ensures none { manager_in self.new ≡ None }
+        ensures taken { option_map (λ session. session.value) result ≡ guarded_in self.old }
+        ensures none { guarded_in self.new ≡ None }
     {
         let alloc = self.alloc;
         let Handle { is_open, held, .. } = replace(self, Handle::none(alloc));
@@ -72,7 +80,7 @@ impl Handle {
 
     /// Carries out a command, and writes down whom it tells.
     pub(crate) fn carry_out(&mut self, command: Command<'_>, told: &mut Notices) -> Reply
-        ensures { Carries (manager_in self.old) command.entry result told.new (manager_in self.new) }
+        ensures { Carries (guarded_in self.old) command.entry result told.new (guarded_in self.new) }
     {
         let alloc = self.alloc;
         let Some(mut session) = self.take() else {
@@ -86,7 +94,7 @@ impl Handle {
 
     /// Carries out a command that tells nobody.
     pub(crate) fn ask(&mut self, command: Command<'_>) -> Reply
-        ensures { Asks (manager_in self.old) command.entry result (manager_in self.new) }
+        ensures { Asks (guarded_in self.old) command.entry result (guarded_in self.new) }
     {
         let alloc = self.alloc;
         let Some(mut session) = self.take() else {
@@ -99,7 +107,7 @@ impl Handle {
 
     /// Answers a question.
     pub(crate) fn look(&mut self, query: Query) -> Reply
-        ensures { Looks (manager_in self.old) query result (manager_in self.new) }
+        ensures { Looks (guarded_in self.old) query result (guarded_in self.new) }
     {
         let alloc = self.alloc;
         let Some(session) = self.take() else {
@@ -112,13 +120,105 @@ impl Handle {
 
     /// Writes the board of this moment down.
     pub(crate) fn show(&mut self, board: &mut Board) -> Reply
-        ensures { Shows (manager_in self.old) result board.old board.new (manager_in self.new) }
+        ensures { Shows (guarded_in self.old) result board.old board.new (guarded_in self.new) }
     {
         let alloc = self.alloc;
         let Some(session) = self.take() else {
             return Reply::with_status(NO_MANAGER);
         };
         board.put(&session.board());
+        *self = Handle::of(alloc, session);
+        Reply::with_status(DONE)
+    }
+
+    /// What became of the wait of a transaction for a node.
+    pub(crate) fn verdict(&mut self, txn: TxnId, node: NodeId, mode: Mode) -> Reply
+        ensures { Judges (guarded_in self.old) txn node mode result (guarded_in self.new) }
+    {
+        let alloc = self.alloc;
+        let Some(session) = self.take() else {
+            return Reply::with_status(NO_MANAGER);
+        };
+        let reply = session.verdict(txn, node, mode);
+        *self = Handle::of(alloc, session);
+        reply
+    }
+
+    /// The slots whose wait the last accepted command may have ended.
+    pub(crate) fn ended(&mut self) -> Found
+        ensures { FindsEnded (guarded_in self.old) result (guarded_in self.new) }
+    {
+        let alloc = self.alloc;
+        let Some(session) = self.take() else {
+            return Found::none(NO_MANAGER);
+        };
+        let found = Found::of(session.ended());
+        *self = Handle::of(alloc, session);
+        found
+    }
+
+    /// A watcher that knows the board of now; `None` where there is no manager.
+    pub(crate) fn watch(&mut self) -> Option<Result<Watcher, WatchFault>>
+        ensures { Attends (guarded_in self.old) result (guarded_in self.new) }
+    {
+        let alloc = self.alloc;
+        let Some(mut session) = self.take() else {
+            return None;
+        };
+        let watcher = session.watch(alloc);
+        *self = Handle::of(alloc, session);
+        Some(watcher)
+    }
+
+    /// The slots of those who hold a node.
+    pub(crate) fn holders(&mut self, node: NodeId) -> Found
+        ensures { FindsIn (guarded_in self.old) (λ s. first_refusal (group_tests s node)) (λ s u. holds (members s node) u) result (guarded_in self.new) }
+    {
+        let alloc = self.alloc;
+        let Some(session) = self.take() else {
+            return Found::none(NO_MANAGER);
+        };
+        let found = holders(session.manager(), node);
+        *self = Handle::of(alloc, session);
+        found
+    }
+
+    /// The slots of those for whom a transaction waits.
+    pub(crate) fn waits_for(&mut self, txn: TxnId) -> Found
+        ensures { FindsIn (guarded_in self.old) (λ s. first_refusal (living_tests s txn)) (λ s u. waits_for s txn.slot u) result (guarded_in self.new) }
+    {
+        let alloc = self.alloc;
+        let Some(session) = self.take() else {
+            return Found::none(NO_MANAGER);
+        };
+        let found = waits_for(session.manager(), txn);
+        *self = Handle::of(alloc, session);
+        found
+    }
+
+    /// Writes the last deadlock down.
+    pub(crate) fn recall(&mut self, deadlock: &mut Deadlock) -> Reply
+        ensures { Recalls (guarded_in self.old) result deadlock.old deadlock.new (guarded_in self.new) }
+    {
+        let alloc = self.alloc;
+        let Some(session) = self.take() else {
+            return Reply::with_status(NO_MANAGER);
+        };
+        let reply = deadlock.recall(session.manager());
+        *self = Handle::of(alloc, session);
+        reply
+    }
+
+    /// Writes down what the manager has been doing.
+    pub(crate) fn count(&mut self, counts: &mut Counts) -> Reply
+        ensures { Counting (guarded_in self.old) result counts.old counts.new (guarded_in self.new) }
+    {
+        let alloc = self.alloc;
+        let Some(session) = self.take() else {
+            return Reply::with_status(NO_MANAGER);
+        };
+        let manager = session.manager();
+        *counts = Counts::of(manager.accepted(), manager.counters());
         *self = Handle::of(alloc, session);
         Reply::with_status(DONE)
     }

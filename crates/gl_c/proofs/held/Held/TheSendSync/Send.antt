@@ -12,25 +12,25 @@ use Rattle.std.specs.contracts.impls.GlobalAllocator.TheImpl.{ghosts}
 use Rattle.std.specs.declared.alloc.Global.{Global}
 use Rattle.std.proofs.Crossing.{frees}
 use Rattle.std.proofs.alloc.Global.TheSendSync as heap_crosses
-use Rattle.gl_catalog.specs.Manager.{ManagerView}
+use Rattle.gl_c.specs.Guarded.{GuardedView}
 use Rattle.gl_c.specs.Held.{owns_session}
 use Rattle.gl_c.specs.contracts.held.Held.{the_row, the_type}
 use Rattle.gl_c.specs.contracts.session.Session as session
 use Rattle.gl_c.proofs.session.Session.TheSendSync as session_crosses
 
 -- a session in memory; at null there is none
-lying : (m : ManagerView) (p : Ptr) → Keyless (lies_at session.the_row full_share p m)
+lying : (m : GuardedView) (p : Ptr) → Keyless (lies_at session.the_row full_share p m)
 lying m null_ptr = tt
 lying m (block_ptr b o) =
     part_keyless session.the_row session_crosses.the_send full_share m b o
 
 -- and with the right to free its block
-boxed : (a : Global) (m : ManagerView) (p : Ptr)
+boxed : (a : Global) (m : GuardedView) (p : Ptr)
     → Keyless (box_owns (ghosts.dealloc_token a) session.the_row p m)
 boxed a m p = (lying m p, frees.frees a (raw (lone (session.the_row).mir)) p)
 
 -- what a place owns, of somebody or of nobody
-owned : (a : Global) (p : Ptr) (o : Option ManagerView) → Keyless (owns_session a p o)
+owned : (a : Global) (p : Ptr) (o : Option GuardedView) → Keyless (owns_session a p o)
 owned a p None = tt
 owned a p (Some m) = boxed a m p
 
@@ -41,5 +41,5 @@ pub send : IsSend the_row
 send =
     owning_send the_type
     (pointer, (heap_crosses.the_field_send, tt))
-    (λ d. owned d.alloc d.at d.manager)
+    (λ d. owned d.alloc d.at d.guarded)
     (λ kept d words. tt)

@@ -36,7 +36,7 @@ use Rattle.std.proofs.impls.GlobalAllocator.TheImpl.Met.{passed}
 use Rattle.std.proofs.BoxSteps.Form as box
 use Rattle.std.proofs.lemmas.Bool.{false≢true}
 use Rattle.std.proofs.raw_atomic.Walks.{proved_at, leaves}
-use Rattle.gl_catalog.specs.Manager.{ManagerView}
+use Rattle.gl_c.specs.Guarded.{GuardedView}
 use Rattle.gl_c.specs.Held.{owns_session}
 use Rattle.gl_c.specs.contracts.held.Held as held
 use Rattle.gl_c.proofs.PlaceCalls.{Sess, sess_laws, Heap, heap_laws_passed, no_drop, Boxing, box_tells}
@@ -48,7 +48,7 @@ use Rattle.gl_c.proofs.held.Held.into_session.Statement.{statement}
 use Rattle.gl_c.proofs.held.Held.into_session.Code as code
 
 -- who is there
-there : (o : Option ManagerView) → is_some o ≡ true → (m : ManagerView) × (o ≡ Some m)
+there : (o : Option GuardedView) → is_some o ≡ true → (m : GuardedView) × (o ≡ Some m)
 there (Some m) e = (m, refl)
 there None e = absurd (false≢true e)
 
@@ -70,13 +70,13 @@ into_session_spec {M} 𝓤 𝓛 𝓜 𝓡 wired =
     qed 𝓛
     ((raw (alive 𝓛 ended.signature κs z.0.1)
     ⊛ ‵ (owns (types_at ended.signature.params κs) z.0.3 z.0.4))
-    ∷ raw (fact 𝓤 (is_some d.manager ≡ true))
+    ∷ raw (fact 𝓤 (is_some d.guarded ≡ true))
     ∷ []) ∵
     -- somebody is there
     move ! (1 ∷ []) $
-    heard ! (is_some d.manager ≡ true) (λ somebody.
-    let m = (there d.manager somebody).0 in
-    let is = (there d.manager somebody).1 in
+    heard ! (is_some d.guarded ≡ true) (λ somebody.
+    let m = (there d.guarded somebody).0 in
+    let is = (there d.guarded somebody).1 in
     -- the parameter is a place
     split ! $
     move ! (1 ∷ []) $
@@ -84,7 +84,7 @@ into_session_spec {M} 𝓤 𝓛 𝓜 𝓡 wired =
     place_apart ! d z.0.4.0 (λ h spelled fits.
     -- which owns a box, so that the pointer is not null
     move ! (1 ∷ []) $
-    rewrite ! 0 (λ (k : Option ManagerView). ‵ (owns_session a d.at k)) is refl $
+    rewrite ! 0 (λ (k : Option GuardedView). ‵ (owns_session a d.at k)) is refl $
     in_a_block ! d.at
     (λ p. box_owns (ghosts.dealloc_token a) Sess p m)
     (fst∗ 𝓤 (never 𝓤) (sem 𝓛 (ghosts.dealloc_token a (bare (lone Sess.mir)) null_ptr)))
@@ -162,7 +162,7 @@ into_session_spec {M} 𝓤 𝓛 𝓜 𝓡 wired =
     -- what is ensured: who was there is in it
     move ! (1 ∷ []) $
     heard ! (r.value ≡ m) (λ same.
-    said ! (Some r.value ≡ d.manager) (ap Some same ∙ sym is) $
+    said ! (Some r.value ≡ d.guarded) (ap Some same ∙ sym is) $
     -- the box to the result
     lands_last ! refl typed $
     exec ! 𝓣.C 𝓣.Λ here code.Mir.t-4 (at_ret here left) $

@@ -18,7 +18,7 @@ use Rattle.std.specs.Prelude.{Option, None}
 use Rattle.std.specs.contracts.alloc.Global as heap
 use Rattle.std.proofs.alloc.Calls.{handle_tells}
 use Rattle.std.proofs.raw_atomic.Walks.{proved_at, leaves}
-use Rattle.gl_catalog.specs.Manager.{ManagerView}
+use Rattle.gl_c.specs.Guarded.{GuardedView}
 use Rattle.gl_c.proofs.PlaceSteps.{begins, said, used_up}
 use Rattle.gl_c.proofs.PlaceWords.{plain_heap, place, place_typed, place_together}
 use Rattle.gl_c.specs.contracts.held.Held.none.{ended, clauses}
@@ -39,7 +39,7 @@ none_spec 𝓤 𝓛 𝓜 𝓡 wired =
     let κs = z.0.0 in
     let a = z.0.3.0 in
     let left : Val → SProp 𝓤 = (walk_of 𝓛 ended stays asks).post z in
-    let nobody : Option ManagerView = None in
+    let nobody : Option GuardedView = None in
     qed 𝓛
     ((raw (alive 𝓛 ended.signature κs z.0.1)
     ⊛ ‵ (owns (types_at ended.signature.params κs) z.0.3 z.0.4))
@@ -69,5 +69,5 @@ none_spec 𝓤 𝓛 𝓜 𝓡 wired =
     free_all ! refl $
     keep ! (5 ∷ 0 ∷ 2 ∷ 1 ∷ []) $
     by ! (leaves 𝓛 ended stays asks z (place null_ptr h)
-    (record { at = null_ptr; alloc = a; manager = None })
+    (record { at = null_ptr; alloc = a; guarded = None })
     (tt, tt) (tt, tt)))))

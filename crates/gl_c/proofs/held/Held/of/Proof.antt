@@ -212,5 +212,5 @@ of_spec {M} 𝓤 𝓛 𝓜 𝓡 wired =
     free_all ! refl $
     keep ! (4 ∷ 0 ∷ 2 ∷ 1 ∷ []) $
     by ! (leaves 𝓛 ended stays asks z (place p h')
-    (record { at = p; alloc = a; manager = Some m })
+    (record { at = p; alloc = a; guarded = Some m })
     (tt, tt) (tt, tt)))))))))))

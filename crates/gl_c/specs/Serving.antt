@@ -1,0 +1,59 @@
+-- What a command does to all that C's mutex guards.
+use Rattle.std.specs.Prelude.{◌≡◌, ◌⊎◌, ℕ, ◌<◌, ◌||◌, ◌==◌, Bool, true, false, List, [], ◌∷◌, ◌++◌, Option, Some, None, IfSome}
+use Rattle.std.specs.List.{list_any}
+use Rattle.gl_waits.specs.declared.board.Board.{Board}
+use Rattle.gl_waits.specs.Sets.{has_slot}
+use Rattle.gl_table.specs.model.Table.{board_of}
+use Rattle.gl_table.specs.model.Tellings.{Told}
+use Rattle.gl_catalog.specs.declared.command.Answer.{Answer}
+use Rattle.gl_catalog.specs.declared.command.Command.{Command}
+use Rattle.gl_catalog.specs.Counters.{counted}
+use Rattle.gl_catalog.specs.Deadlocks.{KeepsDeadlock}
+use Rattle.gl_catalog.specs.Manager.{ManagerView, state_of}
+use Rattle.gl_catalog.specs.Promises.{KeepsCaller, NobodyWaits, SettlesIdle, StepLeavesOthers}
+use Rattle.gl_catalog.specs.Step.{Step}
+use Rattle.gl_boxes.specs.Boards.{EndsIdle}
+use Rattle.gl_boxes.specs.Boxes.{Delivers, Slot, cleared}
+use Rattle.gl_boxes.specs.Served.{accepts, leaves_waiting, names_slot}
+use Rattle.gl_boxes.specs.Strip.{Strip}
+use Rattle.gl_boxes.specs.Wakes.{HasEnded}
+use Rattle.gl_c.specs.Guarded.{GuardedView}
+
+-- a command is one step of the model, leaves its caller and the others what the manager promises, keeps the last deadlock that it ends, and is counted by the law of the counters; where it is refused or only asks, all is as before
+pub record Applies (m : ManagerView) (c : Command) (a : Answer) (told : Told) (m' : ManagerView) : Type 0 where
+  pub step : Step (state_of m) c a told (state_of m')
+  pub caller : KeepsCaller c (state_of m) (state_of m')
+  pub others : StepLeavesOthers (state_of m) c (a, told) (state_of m')
+  pub settles : SettlesIdle (state_of m) c a told (state_of m')
+  pub deadlock : KeepsDeadlock c m a m'
+  pub counters : m'.counters ≡ counted (state_of m) c a told (state_of m') m.counters
+  pub same : m'.accepted ≡ m.accepted → m' ≡ m
+
+-- nobody waits on the last board that was shown, if one was
+abbrev pub ShowsNobodyLast : Option Strip → Type 0
+ShowsNobodyLast shown = IfSome shown (λ s. EndsIdle s.list)
+
+-- a list of the same book and way of detection: what was shown, or that and then this board, which is shown only where somebody waited
+pub record GoesOnBy (waited : Bool) (board : Board) (before after : Strip) : Type 0 where
+  pub book : after.book ≡ before.book
+  pub detect : after.detect ≡ before.detect
+  pub list : (after.list ≡ before.list) ⊎ ((waited ≡ true) × (after.list ≡ before.list ++ board ∷ []))
+
+-- the same, if there ever was a watcher
+abbrev pub ShowsOn : Bool → Board → Option Strip → Option Strip → Type 0
+ShowsOn waited board None after = after ≡ None
+ShowsOn waited board (Some before) after = (s : Strip) × (after ≡ Some s) × GoesOnBy waited board before s
+
+-- whose wait the command ended is in the set: exactly whom it told, and whom a cancel or an abort names
+pub record Wakes (c : Command) (m : ManagerView) (told : Told) (m' : ManagerView) (ended : ℕ) : Type 0 where
+  pub all : HasEnded (state_of m) (state_of m') ended
+  pub slots : (u : ℕ) → u < 128 → has_slot ended u ≡ (names_slot c u || list_any (λ x. x.0.slot == u) told)
+
+-- a command is carried out; its notices stand in their boxes, but that an accepted lock empties its own slot's; whose wait it ended is known; watchers are shown the board behind it, whole, or nothing; one that is not accepted changes nothing
+pub record Serves (g : GuardedView) (c : Command) (a : Answer) (told : Told) (g' : GuardedView) : Type 0 where
+  pub applies : Applies g.manager c a told g'.manager
+  pub boxes : (mid : List Slot) × Delivers g.boxes told mid × (g'.boxes ≡ cleared c a mid)
+  pub not_accepted : accepts c a ≡ false → (g' ≡ g) × (told ≡ [])
+  pub wakes : accepts c a ≡ true → Wakes c g.manager told g'.manager g'.ended
+  pub shown : ShowsOn (g.waited || leaves_waiting a) (board_of (state_of g'.manager)) g.shown g'.shown
+  pub quiet : g'.waited ≡ false → NobodyWaits (state_of g'.manager) × ShowsNobodyLast g'.shown

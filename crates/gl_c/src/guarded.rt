@@ -1,0 +1,182 @@
+//! All that C's mutex guards.
+
+ghost use Rattle.std.specs.Prelude.{◌≡◌, ◌≤◌, ◌∷◌, false, [], IfErr, IfNone, IfOk, IfSome, List, None, Ok, Some, replicate};
+ghost use Rattle.gl_modes.specs.declared.refusal.Refusal.{Refusal as ARefusal};
+ghost use Rattle.gl_table.specs.model.Table.{board_of};
+ghost use Rattle.gl_table.specs.model.State.{choosing, empty_state};
+ghost use Rattle.gl_catalog.specs.Manager.{state_of};
+ghost use Rattle.gl_catalog.specs.Promises.{NobodyWaits};
+ghost use Rattle.gl_boxes.specs.Boards.{Ends, Fine};
+ghost use Rattle.gl_boxes.specs.Boxes.{Delivers, Slot, cleared, verdict_of};
+ghost use Rattle.gl_boxes.specs.Served.{RisingTo, is_refused};
+ghost use Rattle.gl_c.specs.Managing.{IsNew};
+ghost use Rattle.gl_c.specs.Serving.{Serves, ShowsNobodyLast, ShowsOn};
+ghost use Rattle.gl_c.specs.Watching.{OnlyShows};
+
+use gl_boxes::{
+    Boxes, Grant, Stop, Telling, board_now, ended_by, is_accepted, is_due, leaves_waiting,
+    may_show_waits,
+};
+use gl_catalog::{Answer, Command, Manager};
+use gl_modes::{Mode, NodeId, Refusal};
+use gl_table::{Detect, Notice, Told, TxnId};
+use gl_waits::{Board, Victims};
+use gl_window::{Publisher, WatchFault, Watcher};
+use std::alloc::{AllocError, Global};
+use std::marker::Model;
+
+/// The manager, a notice box for each slot, the slots whose wait the last accepted command may have
+/// ended, and, once there was a watcher, the side that shows boards.
+#[derive(Drop)]
+pub(crate) struct Guarded {
+    manager: Manager,
+    boxes: Boxes,
+    ended: u128,
+    publisher: Option<Publisher>,
+    /// Whether somebody waited when watchers were last shown a board, or a lock was left waiting since.
+    waited: bool,
+}
+
+impl Model for Guarded {
+    ghost use Rattle.gl_c.specs.Guarded.{GuardedView};
+
+    ghost Value = { GuardedView };
+
+    ghost use Rattle.gl_c.specs.Sound.{view_of, IsSound};
+
+    ghost view = { view_of };
+
+    ghost invariant = { IsSound };
+}
+
+impl Guarded {
+    /// A new manager, for at most so many transactions at once. The only refusal is `NoMemory`.
+    pub(crate) fn new(
+        alloc: Global,
+        detect: Detect,
+        victims: Victims,
+        most: usize,
+    ) -> Result<Self, Refusal>
+        requires some { 1 ≤ most }
+        requires few { most ≤ 128 }
+        ensures made { IfOk result (λ guarded. IsNew detect victims most guarded) }
+        ensures refused { IfErr result (λ refusal. refusal ≡ ARefusal.NoMemory) }
+    {
+        let manager = Manager::choosing(alloc, detect, victims, most)?;
+        Ok(Guarded {
+            manager,
+            boxes: Boxes::new(),
+            ended: 0,
+            publisher: None,
+            waited: true,
+        })
+    }
+
+    /// The manager.
+    pub(crate) fn manager(&self) -> &Manager
+        ensures { result.now ≡ self.now.manager }
+    {
+        &self.manager
+    }
+
+    /// The slots whose wait the last accepted command may have ended.
+    pub(crate) fn ended(&self) -> u128
+        ensures { result ≡ self.now.ended }
+    {
+        self.ended
+    }
+
+    /// Whether the transaction has its answer on this node, and which.
+    pub(crate) fn verdict(
+        &self,
+        txn: TxnId,
+        node: NodeId,
+        mode: Mode,
+    ) -> Option<Result<Grant, Stop>>
+        ensures { result ≡ verdict_of (state_of self.now.manager) self.now.boxes txn node mode }
+    {
+        self.boxes.verdict(&self.manager, txn, node, mode)
+    }
+
+    /// Carries out a command, with its notices put into an empty list.
+    pub(crate) fn serve(&mut self, command: Command<'_>, told: &mut Told) -> Answer
+        requires empty { told.old.items ≡ [] }
+        ensures { Serves self.old command.entry result told.new.items self.new }
+    {
+        self.manager.law();
+        let answer = self.manager.apply_telling(command, told);
+        if !is_accepted(&command, &answer) {
+            return answer;
+        }
+        deliver(&mut self.boxes, &command, &answer, told.as_slice());
+        self.ended = ended_by(&command, told.as_slice());
+        self.waited |= leaves_waiting(&answer);
+        self.show_if_due();
+        answer
+    }
+
+    /// Shows watchers the board of now, where there is one, and somebody waits or waited when they were
+    /// last shown a board.
+    fn show_if_due(&mut self)
+        ensures kept { (self.new.manager ≡ self.old.manager) × (self.new.boxes ≡ self.old.boxes) × (self.new.ended ≡ self.old.ended) }
+        ensures shown { ShowsOn self.old.waited (board_of (state_of self.old.manager)) self.old.shown self.new.shown }
+        ensures quiet { self.new.waited ≡ false → NobodyWaits (state_of self.new.manager) × ShowsNobodyLast self.new.shown }
+    {
+        let Some(publisher) = &mut self.publisher else {
+            return;
+        };
+        if !is_due(Telling::WhileWaiting, self.waited) || !publisher.is_watched() {
+            return;
+        }
+        let board = board_now(&self.manager);
+        if publisher.publish(board) {
+            self.waited = may_show_waits(Telling::WhileWaiting, &board);
+        }
+    }
+
+    /// A watcher that knows the board of now.
+    pub(crate) fn watch(&mut self, alloc: Global) -> Result<Watcher, WatchFault>
+        ensures kept { OnlyShows self.old self.new }
+        ensures watcher { IfOk result (λ watcher. (self.new.shown ≡ Some watcher) × Ends watcher.list (board_of (state_of self.old.manager))) }
+    {
+        let now = board_now(&self.manager);
+        let detect = self.manager.detect();
+        self.waited = true;
+        let Ok(mut publisher) = publisher_of(self.publisher.take(), alloc, now, detect) else {
+            return Err(WatchFault::NoMemory);
+        };
+        let watcher = publisher.watch(now);
+        self.publisher = Some(publisher);
+        watcher
+    }
+}
+
+/// The publisher, or where there is none yet, one that shows this board.
+fn publisher_of(
+    publisher: Option<Publisher>,
+    alloc: Global,
+    board: Board,
+    detect: Detect,
+) -> Result<Publisher, AllocError>
+    requires fine { Fine detect board }
+    ensures same { IfSome publisher (λ p. result ≡ Ok p) }
+    ensures first { IfNone publisher (IfOk result (λ p. (p.list ≡ board ∷ []) × (p.detect ≡ detect))) }
+{
+    match publisher {
+        Some(publisher) => Ok(publisher),
+        None => Publisher::new(alloc, board, detect),
+    }
+}
+
+/// Puts the notices of an accepted command into their boxes, and empties that of a lock's own slot.
+fn deliver(boxes: &mut Boxes, command: &Command<'_>, answer: &Answer, told: &[(TxnId, Notice)])
+    requires rising { RisingTo 0 told.now 128 }
+    requires accepted { is_refused answer.now ≡ false }
+    ensures { (mid : List Slot) × Delivers boxes.old told.now mid × (boxes.new ≡ cleared command.now answer.now mid) }
+{
+    let _ = answer;
+    boxes.deliver(told);
+    if let Command::Lock { txn, .. } = command {
+        boxes.empty(txn.slot);
+    }
+}

@@ -1,0 +1,100 @@
+//! What is answered to the questions of a listing.
+
+ghost use Rattle.std.specs.Prelude.{◌≡◌, ℕ, List, Result, Ok, Err, MatchResult, length};
+ghost use Rattle.std.specs.List.{slice_get};
+ghost use Rattle.gl_modes.specs.declared.refusal.Refusal.TheVariants as no;
+ghost use Rattle.gl_c.specs.Listings.{doing, lived, row_reply, waiter_reply};
+ghost use Rattle.gl_c.specs.Looks.{counted};
+ghost use Rattle.gl_c.specs.Replies.{count_reply, refused_reply};
+
+use crate::names::{Node, Txn};
+use crate::numbers::{DONE, NO_PLACE, mode_number};
+use crate::reply::Reply;
+use gl_modes::{Mode, Refusal};
+use gl_table::{LockRow, Status, TxnId};
+
+/// Who lives in a slot.
+pub(crate) fn living_reply(living: Option<(TxnId, Status)>) -> Reply
+    ensures { result ≡ lived living }
+{
+    match living {
+        Some((txn, _)) => Reply {
+            txn: Txn::of(txn),
+            ..Reply::with_status(DONE)
+        },
+        None => Reply::with_status(NO_PLACE),
+    }
+}
+
+/// What a transaction is doing.
+pub(crate) fn doing_reply(status: Option<Status>) -> Reply
+    ensures { result ≡ doing status }
+{
+    match status {
+        Some(Status::Active) => Reply::with_count(1),
+        Some(Status::Waiting { node, wanted }) => Reply {
+            node: Node::of(node),
+            mode: mode_number(wanted),
+            ..Reply::with_count(2)
+        },
+        Some(Status::Condemned) => Reply::with_count(3),
+        None => Reply::refused(Refusal::NoSuchTxn),
+    }
+}
+
+/// How many nodes a transaction holds or waits for.
+pub(crate) fn lock_count_reply(count: Option<usize>) -> Reply
+    ensures { result ≡ counted (refused_reply no.NoSuchTxn) count }
+{
+    match count {
+        Some(count) => Reply::with_count(count as u64),
+        None => Reply::refused(Refusal::NoSuchTxn),
+    }
+}
+
+/// A node that a transaction holds or waits for.
+pub(crate) fn row_reply(row: Option<LockRow>) -> Reply
+    ensures { result ≡ row_reply row }
+{
+    match row {
+        Some(row) => Reply {
+            node: Node::of(row.node),
+            mode: mode_number(row.mode),
+            ..Reply::with_count(u64::from(row.children))
+        },
+        None => Reply::with_status(NO_PLACE),
+    }
+}
+
+/// How many wait for a node.
+pub(crate) fn queue_len_reply(queue: Result<&[(u8, Mode)], Refusal>) -> Reply
+    ensures { MatchResult queue.entry (λ waiters. result ≡ count_reply (length waiters.now)) (λ refusal. result ≡ refused_reply refusal) }
+{
+    match queue {
+        Ok(waiters) => Reply::with_count(waiters.len() as u64),
+        Err(refusal) => Reply::refused(refusal),
+    }
+}
+
+/// Who waits for a node, by its place in the queue.
+pub(crate) fn queue_at_reply(queue: Result<&[(u8, Mode)], Refusal>, place: usize) -> Reply
+    ensures { MatchResult queue.entry (λ waiters. result ≡ waiter_reply (slice_get waiters.now place)) (λ refusal. result ≡ refused_reply refusal) }
+{
+    match queue {
+        Ok(waiters) => waiter_reply(waiters.get(place).copied()),
+        Err(refusal) => Reply::refused(refusal),
+    }
+}
+
+fn waiter_reply(waiter: Option<(u8, Mode)>) -> Reply
+    ensures { result ≡ waiter_reply waiter }
+{
+    match waiter {
+        Some((slot, wanted)) => Reply {
+            txn: Txn { slot, age: 0 },
+            mode: mode_number(wanted),
+            ..Reply::with_status(DONE)
+        },
+        None => Reply::with_status(NO_PLACE),
+    }
+}
