@@ -8,14 +8,16 @@
  * WHO MAY CALL WHEN. A manager is used by one thread at a time, now one and now another: hold a mutex of
  * your own round each call with it. No call waits: a lock that is not granted at once is answered with
  * BS_WAITING, and a later call of another transaction tells its end by a notice. Two managers share
- * nothing, and a board is a value of its own, which any thread may read. No call may be made from a signal
- * handler, or from the forked child of a process with threads.
+ * nothing, and a board is a value of its own, which any thread may read. A bs_watcher is used by one thread at
+ * a time as well, but bs_look and bs_watch_end need no mutex: they go on while others use the manager. No call
+ * may be made from a signal handler, or from the forked child of a process with threads.
  *
  * WHAT YOU KEEP. Beside what a call says:
  *   - a bs_manager is BS_NO_MANAGER_HERE, which is all zero, before the first call with it; from then on
- *     it is neither copied, moved, read nor written by you, until bs_end;
+ *     it is neither copied, moved, read nor written by you, until bs_end; the same of a bs_watcher, which
+ *     is BS_NO_WATCHER_HERE, until bs_watch_end;
  *   - a pointer is null or points to what its type says, which was given some value before, and a list to
- *     as many as its count says; what a call writes (its manager, notices or board) overlaps with nothing
+ *     as many as its count says; what a call writes (its manager, watcher, notices or board) overlaps with nothing
  *     else that it is given, and nobody else uses it during the call;
  *   - malloc, realloc and free are one allocator's, and align as the C standard asks.
  * Null pointers are refused with BS_NULL_POINTER and never read; a list of count 0 may be null. Names may be
@@ -49,7 +51,7 @@ extern "C" {
 /* The version of what is declared here. The first number rises where a program has to be changed for it, the
  * second where something is added, the third where neither. */
 #define BS_VERSION_MAJOR 0
-#define BS_VERSION_MINOR 4
+#define BS_VERSION_MINOR 5
 #define BS_VERSION_PATCH 0
 
 /* How many transactions can live at once, and so how many notices a call can have. */
@@ -58,7 +60,10 @@ extern "C" {
 /* How many parents a node can have. */
 #define BS_MOST_PARENTS 8
 
-/* What a call comes to. Refusals are 1 to 21, of the manager, and 64 to 68, of this library. */
+/* How many watchers a manager can have at once. */
+#define BS_MOST_WATCHERS 8
+
+/* What a call comes to. Refusals are 1 to 21, of the manager, and 64 to 70, of this library. */
 typedef uint32_t bs_status;
 enum bs_statuses {
   BS_DONE = 0,
@@ -85,11 +90,16 @@ enum bs_statuses {
   BS_CYCLE = 21,          /* the new parent `node` is the node itself or lies below it */
   BS_WAITING = 32,        /* the lock is waited for */
   BS_VICTIM = 33,         /* the asker was condemned to end a deadlock, and can only abort */
+  BS_MOVED = 34,          /* the node moved, and the wait is over */
+  BS_GONE = 35,           /* the node is gone, and the wait is over */
+  BS_TIMED_OUT = 36,      /* not answered here: the lock was not granted in time, and the wait was taken back */
   BS_NULL_POINTER = 64,   /* a pointer is null */
   BS_NO_MANAGER = 65,     /* no manager was made at this place, or it was ended */
   BS_BAD_NUMBER = 66,     /* a number names no mode or way of detection, or a count is out of range */
-  BS_IN_USE = 67,         /* there is a manager at this place already */
-  BS_NO_PLACE = 68        /* there are fewer than that */
+  BS_IN_USE = 67,         /* there is a manager, or a watcher, at this place already */
+  BS_NO_PLACE = 68,       /* there are fewer than that */
+  BS_NO_WATCHER = 69,     /* no watcher was made at this place, or it was ended */
+  BS_TOO_MANY_WATCHERS = 70 /* as many watch already as may */
 };
 
 /* Lock modes, from none to exclusive. Of what different transactions hold on one node, BS_IS goes with all
@@ -107,6 +117,9 @@ enum bs_choices { BS_YOUNGEST = 0, BS_FEWEST = 1 };
 
 /* What a node is. */
 enum bs_kinds { BS_INNER = 1, BS_FILE = 2, BS_INDEX = 3, BS_INTERVAL = 4, BS_RECORD = 5 };
+
+/* What a transaction is doing: it may ask for locks; it waits for one; it was condemned, and can only abort. */
+enum bs_doings { BS_ACTIVE = 1, BS_WAITS = 2, BS_CONDEMNED = 3 };
 
 /* What a transaction is told. */
 enum bs_notice_kinds {
@@ -136,6 +149,14 @@ typedef struct bs_manager {
 } bs_manager;
 
 #define BS_NO_MANAGER_HERE { false, NULL }
+
+/* The place of a watcher. Its fields are the library's own. */
+typedef struct bs_watcher {
+  bool is_open;
+  void *at;
+} bs_watcher;
+
+#define BS_NO_WATCHER_HERE { false, NULL }
 
 /* What a call answers. */
 typedef struct bs_reply {
@@ -181,6 +202,38 @@ typedef struct bs_found {
   bs_slots slots;
 } bs_found;
 
+/* One who waits on a cycle. */
+typedef struct bs_stuck {
+  bs_txn txn;
+  bs_node node;       /* the node that it waits for */
+  bs_mode mode;       /* the mode in which it wants that node */
+  bs_slots waits_for; /* the slots of those on the cycle for whom it waits */
+} bs_stuck;
+
+/* A deadlock, as it was when its victim was condemned. */
+typedef struct bs_deadlock {
+  bs_txn victim;         /* who was condemned to end it */
+  size_t count;          /* how many were on a cycle with the one that was settled, the victim among them */
+  bs_stuck at[BS_SLOTS]; /* these, by rising slot: the first `count` places */
+} bs_deadlock;
+
+/* What a manager has been doing since it was made, in commands that it accepted. Each of these is a count
+ * that stops at the greatest uint64_t. */
+typedef struct bs_counts {
+  uint64_t accepted;          /* all commands that were neither refused nor questions */
+  uint64_t granted;           /* asks, by lock or by try, that were answered with a mode */
+  uint64_t waited;            /* locks that were answered with a wait */
+  uint64_t conversions;       /* asks of a node that the transaction held already, where not refused */
+  uint64_t granted_later;     /* waits that ended with a grant */
+  uint64_t victims;           /* transactions that were condemned to end a deadlock */
+  uint64_t moved;             /* waits that ended since the node moved */
+  uint64_t gone;              /* waits that ended since the node is gone */
+  uint64_t escalations;       /* escalations that were done */
+  uint64_t released_children; /* children that escalations released */
+  uint64_t most_waiting;      /* the most transactions that waited at once, behind a lock that waits */
+  uint64_t longest_queue;     /* the most that waited for one node at once, behind a lock that waits for it */
+} bs_counts;
+
 /* ------------------------------------------------------------------------------------------------
  * The calls of the library. Use the functions below them: each of those tests its pointers for null,
  * and then makes the call of its name.
@@ -206,6 +259,11 @@ bs_reply bs_call_delete(bs_manager *manager, bs_txn txn, bs_node record, bs_noti
 bs_reply bs_call_rekey(bs_manager *manager, bs_txn txn, bs_node record, bs_node index, uint64_t key, bs_notices *told);
 bs_reply bs_call_move(bs_manager *manager, bs_txn txn, bs_node node, const bs_node *parents, size_t count,
                       bs_notices *told);
+bs_reply bs_call_verdict(bs_manager *manager, bs_txn txn, bs_node node, bs_mode mode);
+bs_found bs_call_ended(bs_manager *manager);
+bs_reply bs_call_watch(bs_manager *manager, bs_watcher *watcher);
+bs_reply bs_call_look(bs_watcher *watcher, bs_board *board);
+bs_reply bs_call_watch_end(bs_watcher *watcher);
 bs_reply bs_call_group(bs_manager *manager, bs_node node);
 bs_reply bs_call_held(bs_manager *manager, bs_txn txn, bs_node node);
 bs_reply bs_call_effective(bs_manager *manager, bs_txn txn, bs_node node);
@@ -223,6 +281,18 @@ bs_reply bs_call_len(bs_manager *manager);
 bs_reply bs_call_accepted(bs_manager *manager);
 bs_reply bs_call_detect(bs_manager *manager);
 bs_reply bs_call_victims(bs_manager *manager);
+bs_reply bs_call_most(bs_manager *manager);
+bs_reply bs_call_living(bs_manager *manager, uint32_t slot);
+bs_reply bs_call_doing(bs_manager *manager, bs_txn txn);
+bs_reply bs_call_lock_count(bs_manager *manager, bs_txn txn);
+bs_reply bs_call_lock_at(bs_manager *manager, bs_txn txn, size_t place);
+bs_found bs_call_holders(bs_manager *manager, bs_node node);
+bs_reply bs_call_mode_at(bs_manager *manager, uint32_t slot, bs_node node);
+bs_reply bs_call_queue_len(bs_manager *manager, bs_node node);
+bs_reply bs_call_queue_at(bs_manager *manager, bs_node node, size_t place);
+bs_found bs_call_waits_for(bs_manager *manager, bs_txn txn);
+bs_reply bs_call_last_deadlock(bs_manager *manager, bs_deadlock *deadlock);
+bs_reply bs_call_counters(bs_manager *manager, bs_counts *counts);
 bs_reply bs_call_board(bs_manager *manager, bs_board *board);
 bs_found bs_call_on_cycle(const bs_board *board, uint32_t slot);
 bs_found bs_call_suspects(const bs_board *board);
@@ -232,6 +302,12 @@ bs_reply bs_call_youngest(const bs_board *board, bs_slots slots);
 static inline bs_reply bs_null(void) {
   bs_reply reply = { BS_NULL_POINTER, BS_NL, { 0, 0 }, { 0, 0 }, 0, 0, 0 };
   return reply;
+}
+
+/* The slots of a call with a null pointer. */
+static inline bs_found bs_none_found(void) {
+  bs_found found = { BS_NULL_POINTER, { 0, 0 } };
+  return found;
 }
 
 /* Whether one of these is null; where the notices are not, they are emptied then. */
@@ -427,6 +503,52 @@ static inline bs_reply bs_move(bs_manager *manager, bs_txn txn, bs_node node, co
 }
 
 /* ------------------------------------------------------------------------------------------------
+ * Waits: what whoever lets threads sleep asks. Each slot has a box, in which its last notice lies; a lock that
+ * was not refused empties the box of its own slot.
+ */
+
+/* What became of a lock that was left waiting for this node. BS_WAITING: the wait goes on. BS_DONE: it was
+ * granted; `mode` is the mode now held, which covers the asked one. BS_VICTIM, BS_MOVED, BS_GONE: it was not,
+ * and the wait is over. Refused with BS_NO_SUCH_TXN, with BS_NOT_WAITING where it does not wait for the node
+ * and no notice tells why, as after a cancel, and with BS_BAD_NUMBER, first of all, where the mode is no number
+ * of enum bs_modes. */
+static inline bs_reply bs_verdict(bs_manager *manager, bs_txn txn, bs_node node, bs_mode mode) {
+  return manager == NULL ? bs_null() : bs_call_verdict(manager, txn, node, mode);
+}
+
+/* The slots whose wait the last command that was accepted may have ended: whose sleepers are to be woken. Those
+ * are the slots that it told, and that which a cancel or an abort names; no other transaction's wait was ended
+ * by it. A refused command and a question leave them as they are. */
+static inline bs_found bs_ended(bs_manager *manager) {
+  return manager == NULL ? bs_none_found() : bs_call_ended(manager);
+}
+
+/* ------------------------------------------------------------------------------------------------
+ * Watchers: who waits for whom, without the mutex of the manager. A manager that has watchers shows them its
+ * board behind each accepted command, as long as somebody waits or waited when it was last shown; so a board
+ * that shows no wait is older than the last command only where nobody waits.
+ */
+
+/* Makes a watcher of a manager at a place that has none, which knows the board of this moment. Refused with
+ * BS_IN_USE, BS_TOO_MANY_WATCHERS, BS_NO_MEMORY. Takes memory. Costs what bs_read_board does. */
+static inline bs_reply bs_watch(bs_manager *manager, bs_watcher *watcher) {
+  return manager == NULL || watcher == NULL ? bs_null() : bs_call_watch(manager, watcher);
+}
+
+/* The last board that was shown, written into `board`: whole, and never older than what this watcher was given
+ * before. With detection at block it has no suspect. It needs no mutex, never waits, and takes no memory. Of a
+ * manager that was ended it is the last that it showed. Refused with BS_NO_WATCHER; nothing is written then. */
+static inline bs_reply bs_look(bs_watcher *watcher, bs_board *board) {
+  return watcher == NULL || board == NULL ? bs_null() : bs_call_look(watcher, board);
+}
+
+/* Ends a watcher, with no mutex. Its place has none then, and may be used for another. Refused with
+ * BS_NO_WATCHER. */
+static inline bs_reply bs_watch_end(bs_watcher *watcher) {
+  return watcher == NULL ? bs_null() : bs_call_watch_end(watcher);
+}
+
+/* ------------------------------------------------------------------------------------------------
  * Questions. They change nothing and, but for bs_effective, take no memory. Each costs a look-up or two;
  * what costs more says so.
  */
@@ -529,6 +651,82 @@ static inline bs_reply bs_victims(bs_manager *manager) {
 }
 
 /* ------------------------------------------------------------------------------------------------
+ * Listings: who lives, who holds what and who waits where, one after the other. They change nothing and take
+ * no memory; all that is asked between two commands is of one moment.
+ */
+
+/* How many transactions may live at once, in `count`: their slots are those below. */
+static inline bs_reply bs_most(bs_manager *manager) {
+  return manager == NULL ? bs_null() : bs_call_most(manager);
+}
+
+/* The transaction in a slot, in `txn`. Refused with BS_BAD_NUMBER, first of all, where the slot is over 127,
+ * and with BS_NO_PLACE where it is free. */
+static inline bs_reply bs_living(bs_manager *manager, uint32_t slot) {
+  return manager == NULL ? bs_null() : bs_call_living(manager, slot);
+}
+
+/* What a transaction is doing, in `count`, of enum bs_doings; where it waits, the node in `node` and the wanted
+ * mode in `mode`, what is held and what was asked joined. Refused with BS_NO_SUCH_TXN. */
+static inline bs_reply bs_doing(bs_manager *manager, bs_txn txn) {
+  return manager == NULL ? bs_null() : bs_call_doing(manager, txn);
+}
+
+/* How many nodes a transaction holds or waits for, in `count`. Refused with BS_NO_SUCH_TXN. */
+static inline bs_reply bs_lock_count(bs_manager *manager, bs_txn txn) {
+  return manager == NULL ? bs_null() : bs_call_lock_count(manager, txn);
+}
+
+/* A node that a transaction holds or waits for, by its place from 0 on: `node`, the mode in which it is held in
+ * `mode`, BS_NL where it is only waited for, and how many of its children are held in `count`. Each such node
+ * has one place; a command may change the places. Refused with BS_NO_PLACE where there are fewer, or the
+ * transaction does not live. */
+static inline bs_reply bs_lock_at(bs_manager *manager, bs_txn txn, size_t place) {
+  return manager == NULL ? bs_null() : bs_call_lock_at(manager, txn, place);
+}
+
+/* The slots of those who hold a node. Refused with BS_NO_SUCH_NODE. */
+static inline bs_found bs_holders(bs_manager *manager, bs_node node) {
+  return manager == NULL ? bs_none_found() : bs_call_holders(manager, node);
+}
+
+/* The mode in which the transaction of a slot holds a node, in `mode`; BS_NL for none. Refused with
+ * BS_BAD_NUMBER, first of all, where the slot is over 127. */
+static inline bs_reply bs_mode_at(bs_manager *manager, uint32_t slot, bs_node node) {
+  return manager == NULL ? bs_null() : bs_call_mode_at(manager, slot, node);
+}
+
+/* How many transactions wait for a node, in `count`. Refused with BS_NO_SUCH_NODE. */
+static inline bs_reply bs_queue_len(bs_manager *manager, bs_node node) {
+  return manager == NULL ? bs_null() : bs_call_queue_len(manager, node);
+}
+
+/* Who waits for a node, by its place in the queue from 0 on, the first to be granted first: its slot in
+ * `txn.slot` (`txn.age` is zero), and the wanted mode in `mode`. Refused with BS_NO_SUCH_NODE, and with
+ * BS_NO_PLACE where there are fewer. */
+static inline bs_reply bs_queue_at(bs_manager *manager, bs_node node, size_t place) {
+  return manager == NULL ? bs_null() : bs_call_queue_at(manager, node, place);
+}
+
+/* The slots of those for whom a transaction waits: who holds the node in a mode that does not go with the
+ * wanted one, and who stands ahead in its queue; none where it does not wait. Refused with BS_NO_SUCH_TXN. */
+static inline bs_found bs_waits_for(bs_manager *manager, bs_txn txn) {
+  return manager == NULL ? bs_none_found() : bs_call_waits_for(manager, txn);
+}
+
+/* The deadlock of which the last victim fell, as it was when that was condemned, written into `deadlock`. Its
+ * transactions may have ended since. Refused with BS_NO_PLACE where nobody ever fell; nothing is written then.
+ * Costs a copy of its rows. */
+static inline bs_reply bs_last_deadlock(bs_manager *manager, bs_deadlock *deadlock) {
+  return manager == NULL || deadlock == NULL ? bs_null() : bs_call_last_deadlock(manager, deadlock);
+}
+
+/* What the manager has been doing since it was made, written into `counts`. */
+static inline bs_reply bs_counters(bs_manager *manager, bs_counts *counts) {
+  return manager == NULL || counts == NULL ? bs_null() : bs_call_counters(manager, counts);
+}
+
+/* ------------------------------------------------------------------------------------------------
  * Boards: who waits for whom at one moment, as a value that any thread may read without the manager and
  * its mutex. A board may be older than what is; to settle a suspect of an old board does no harm.
  */
@@ -597,11 +795,16 @@ static inline const char *bs_text(bs_status status) {
     case BS_CYCLE: return "Cycle";
     case BS_WAITING: return "Waiting";
     case BS_VICTIM: return "Victim";
+    case BS_MOVED: return "Moved";
+    case BS_GONE: return "Gone";
+    case BS_TIMED_OUT: return "TimedOut";
     case BS_NULL_POINTER: return "NullPointer";
     case BS_NO_MANAGER: return "NoManager";
     case BS_BAD_NUMBER: return "BadNumber";
     case BS_IN_USE: return "InUse";
     case BS_NO_PLACE: return "NoPlace";
+    case BS_NO_WATCHER: return "NoWatcher";
+    case BS_TOO_MANY_WATCHERS: return "TooManyWatchers";
     default: return "?";
   }
 }
