@@ -1,7 +1,7 @@
 -- A new record: what its tests say, one after the other.
 use Rattle.std.specs.Prelude.{◌≡◌, ℕ, ◌==◌, true, false, not, List, [], ◌∷◌, ◌++◌, length, Option, Some, None, Ok, Err}
 use Rattle.std.proofs.Common.{refl, sym, ap, ◌∙◌}
-use Rattle.gl_modes.proofs.Words.{no}
+use Rattle.gl_modes.proofs.Words.{no as never}
 use Rattle.gl_modes.specs.declared.node.NodeId.{NodeId}
 use Rattle.gl_modes.specs.declared.refusal.Refusal.{Refusal}
 use Rattle.gl_modes.specs.declared.refusal.Refusal.TheVariants as no
