@@ -404,16 +404,21 @@ static void an_idle_wake(void) {
  * Times.
  */
 
+static bool is_over(const struct timespec *until) {
+  struct timespec now;
+  clock_gettime(CLOCK_MONOTONIC, &now);
+  return now.tv_sec > until->tv_sec || (now.tv_sec == until->tv_sec && now.tv_nsec >= until->tv_nsec);
+}
+
 static void a_time_comes(void) {
-  struct timespec until = moment_in(2000), now, wrong = moment_in(0);
+  struct timespec until = moment_in(2000), wrong = moment_in(0);
   struct asker two;
   bs_txn a, b, c;
   set_up(BS_AT_BLOCK);
   a = begin(), b = begin(), c = begin();
   DONE(bs_table_lock(&table, a, root, BS_S));
   ANSWERS(BS_TIMED_OUT, bs_table_lock_until(&table, b, root, BS_X, &until));
-  clock_gettime(CLOCK_MONOTONIC, &now);
-  WANT(now.tv_sec > until.tv_sec || (now.tv_sec == until.tv_sec && now.tv_nsec >= until.tv_nsec));
+  WANT(is_over(&until));
   ANSWERS(BS_NOT_WAITING, bs_table_waiting(&table, b));
   DONE(bs_table_lock_until(&table, b, root, BS_IS, &until));
   wrong.tv_nsec = 1000000000;
@@ -450,30 +455,50 @@ static void a_time_comes_and_grants(void) {
   DONE(bs_table_end(&table));
 }
 
-/* The time is over, and then, before the one who sleeps has the latch again, it is granted. */
-static void a_grant_behind_the_time(void) {
-  struct timespec until = moment_in(300000), now;
+/* Takes the latch while a transaction waits; null where its wait, the first of the table, is over already. */
+static bs_manager *hold_in_wait(bs_txn txn) {
+  bs_counts counts;
+  memset(&counts, 0, sizeof counts);
+  for (;;) {
+    bs_manager *m = bs_table_hold(&table);
+    if (bs_waiting(m, txn).status == BS_WAITING) return m;
+    DONE(bs_counters(m, &counts));
+    bs_table_let_go(&table);
+    if (counts.waited > 0) return NULL;
+    nap();
+  }
+}
+
+/* The time is over, and then, before the one who sleeps has the latch again, it is granted. False: this machine was
+ * too slow to see it wait. */
+static bool grants_behind_the_time(long microseconds) {
+  struct timespec until;
   struct asker one;
   bs_manager *m;
   bs_txn a, b;
   set_up(BS_AT_BLOCK);
   a = begin(), b = begin();
   DONE(bs_table_lock(&table, a, root, BS_X));
+  until = moment_in(microseconds);
   memset(&one, 0, sizeof one);
   one.txn = b, one.node = root, one.mode = BS_X, one.until = &until;
   start(&one.thread, ask, &one);
-  await_wait(b);
-  m = bs_table_hold(&table);
-  do {
+  m = hold_in_wait(b);
+  if (m != NULL) {
+    while (!is_over(&until)) nap();
     nap();
-    clock_gettime(CLOCK_MONOTONIC, &now);
-  } while (now.tv_sec < until.tv_sec || (now.tv_sec == until.tv_sec && now.tv_nsec < until.tv_nsec));
-  nap();
-  DONE(bs_commit(m, a, &told)); /* Nobody is woken for it. */
-  bs_table_let_go(&table);
-  WANT(back(&one, BS_DONE).mode == BS_X);
-  holds(b, root, BS_X);
+    DONE(bs_commit(m, a, &told)); /* Nobody is woken for it. */
+    bs_table_let_go(&table);
+  }
+  WANT(back(&one, m == NULL ? BS_TIMED_OUT : BS_DONE).mode == (m == NULL ? BS_NL : BS_X));
+  holds(b, root, m == NULL ? BS_NL : BS_X);
   DONE(bs_table_end(&table));
+  return m != NULL;
+}
+
+static void a_grant_behind_the_time(void) {
+  long microseconds = 50000;
+  while (!grants_behind_the_time(microseconds)) microseconds *= 2;
 }
 
 /* Times and grants at the same moment, again and again: a lock is held or it is not. */
@@ -482,7 +507,7 @@ static void times_and_grants(void) {
   long granted = 0, late = 0;
   int i;
   set_up(BS_AT_BLOCK);
-  for (i = 0; i < 400; i++) {
+  for (i = 0; i < 200; i++) {
     bs_txn a = begin(), b = begin();
     struct timespec until = moment_in(60 + (long)roll(&dice, 60)), pause = { 0, 0 };
     struct asker one;
@@ -500,7 +525,7 @@ static void times_and_grants(void) {
     else late++;
     DONE(bs_table_commit(&table, b, NULL));
   }
-  WANT(granted + late == 400);
+  WANT(granted + late == 200);
   DONE(bs_table_end(&table));
 }
 
