@@ -1,6 +1,6 @@
 -- What watchers are shown, for whoever shows: epochs, the way of detection, and lists that go on.
-use Rattle.std.specs.Prelude.{◌≡◌, ◌⊎◌, ◌≤◌, ℕ, List, [], ◌∷◌, ◌++◌, Option, Some, None, Result, Ok, Err, IfSome, IfOk, true}
-use Rattle.std.proofs.Common.{refl, sym, ap, subst, ◌∙◌, le_trans, ⊎_elim}
+use Rattle.std.specs.Prelude.{◌≡◌, ◌⊎◌, ◌≤◌, ℕ, List, [], ◌∷◌, ◌++◌, Option, Some, None, Result, Ok, Err, IfSome, IfOk, Bool, true}
+use Rattle.std.proofs.Common.{refl, sym, ap, subst, ◌∙◌, inl, inr, le_trans, ⊎_elim}
 use mathlib.Core.List.{IsPrefix}
 use Rattle.gl_waits.specs.declared.board.Board.{Board}
 use Rattle.gl_boxes.specs.Boards.{Ends, last_epoch}
@@ -9,6 +9,7 @@ use Rattle.gl_boxes.proofs.Fronts.{prefix_self, prefix_trans}
 use Rattle.gl_boxes.proofs.Lists.{told_epoch}
 use Rattle.gl_window.specs.Window.{GoesOn}
 use Rattle.gl_window.specs.declared.publisher.WatchFault.{WatchFault}
+use Rattle.gl_c.specs.Serving.{ShowsOn}
 use Rattle.gl_c.specs.Watching.{Continues}
 
 -- a manager that accepted more
@@ -22,6 +23,25 @@ either_epoch list after board n is low at = ⊎_elim
     (λ (t : after ≡ list). subst (λ (l : List Board). last_epoch 0 l ≤ n) (sym t) low)
     (λ (t : after ≡ list ++ board ∷ []). told_epoch true list after board n t low at)
     is
+
+-- the same board by another name
+pub either_board : (list after : List Board) (b c : Board) → (after ≡ list) ⊎ (after ≡ list ++ b ∷ []) → b ≡ c → (after ≡ list) ⊎ (after ≡ list ++ c ∷ [])
+either_board list after b c either is = subst (λ (x : Board). (after ≡ list) ⊎ (after ≡ list ++ x ∷ [])) is either
+
+-- what watchers are shown, where somebody waited
+pub shows_on : (waited : Bool) (board : Board) (p q : Strip) → waited ≡ true → (q.list ≡ p.list) ⊎ (q.list ≡ p.list ++ board ∷ []) → q.book ≡ p.book → q.detect ≡ p.detect → ShowsOn waited board (Some p) (Some q)
+shows_on waited board p q on either book detect = (
+  q,
+  refl,
+  record {
+    book = book;
+    detect = detect;
+    list = ⊎_elim
+        (λ (t : q.list ≡ p.list). inl t)
+        (λ (t : q.list ≡ p.list ++ board ∷ []). inr (on, t))
+        either;
+  },
+)
 
 -- a list with the board or without goes on
 pub either_goes_on : (p q : Strip) (board : Board) → (q.list ≡ p.list) ⊎ (q.list ≡ p.list ++ board ∷ []) → q.book ≡ p.book → q.detect ≡ p.detect → GoesOn p q

@@ -1,12 +1,12 @@
 //! All that C's mutex guards.
 
-ghost use Rattle.std.specs.Prelude.{◌≡◌, ◌≤◌, ◌∷◌, false, [], IfErr, IfNone, IfOk, IfSome, List, None, Ok, Some, replicate};
+ghost use Rattle.std.specs.Prelude.{◌≡◌, ◌≤◌, ◌⊎◌, ◌∷◌, ◌++◌, false, [], IfErr, IfNone, IfOk, IfSome, List, None, Ok, Some, replicate};
 ghost use Rattle.gl_modes.specs.declared.refusal.Refusal.{Refusal as ARefusal};
 ghost use Rattle.gl_table.specs.model.Table.{board_of};
 ghost use Rattle.gl_table.specs.model.State.{choosing, empty_state};
-ghost use Rattle.gl_catalog.specs.Manager.{state_of};
+ghost use Rattle.gl_catalog.specs.Manager.{IsLawfulManager, state_of};
 ghost use Rattle.gl_catalog.specs.Promises.{NobodyWaits};
-ghost use Rattle.gl_boxes.specs.Boards.{Ends, Fine};
+ghost use Rattle.gl_boxes.specs.Boards.{Ends, Fine, ShowsNobody, last_epoch};
 ghost use Rattle.gl_boxes.specs.Boxes.{Delivers, Slot, cleared, verdict_of};
 ghost use Rattle.gl_boxes.specs.Served.{RisingTo, is_refused};
 ghost use Rattle.gl_c.specs.Managing.{IsNew};
@@ -128,9 +128,8 @@ impl Guarded {
         if !is_due(Telling::WhileWaiting, self.waited) || !publisher.is_watched() {
             return;
         }
-        let board = board_now(&self.manager);
-        if publisher.publish(board) {
-            self.waited = may_show_waits(Telling::WhileWaiting, &board);
+        if let Some(waits) = show(&self.manager, publisher) {
+            self.waited = waits;
         }
     }
 
@@ -148,6 +147,25 @@ impl Guarded {
         let watcher = publisher.watch(now);
         self.publisher = Some(publisher);
         watcher
+    }
+}
+
+/// Shows the board of a manager, and says whether somebody may wait on it; `None` where it was not shown.
+/// A command that shows nothing is not to pay for the room that a board takes, so it is not inlined.
+#[inline(never)]
+fn show(manager: &Manager, publisher: &mut Publisher) -> Option<bool>
+    requires rises { last_epoch 0 publisher.old.list ≤ manager.now.accepted }
+    requires detect { publisher.old.detect ≡ manager.now.table.detect }
+    ensures law { IsLawfulManager manager.now }
+    ensures shown { IfSome result (λ waits. (publisher.new.list ≡ publisher.old.list ++ board_of (state_of manager.now) ∷ []) × (waits ≡ false → ShowsNobody (board_of (state_of manager.now)))) }
+    ensures list { (publisher.new.list ≡ publisher.old.list) ⊎ (publisher.new.list ≡ publisher.old.list ++ board_of (state_of manager.now) ∷ []) }
+    ensures of { (publisher.new.book ≡ publisher.old.book) × (publisher.new.detect ≡ publisher.old.detect) }
+{
+    let board = board_now(manager);
+    if publisher.publish(board) {
+        Some(may_show_waits(Telling::WhileWaiting, &board))
+    } else {
+        None
     }
 }
 
