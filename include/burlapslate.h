@@ -526,11 +526,13 @@ static inline bs_found bs_ended(bs_manager *manager) {
 /* ------------------------------------------------------------------------------------------------
  * Watchers: who waits for whom, without the mutex of the manager. A manager that has watchers shows them its
  * board behind each accepted command, as long as somebody waits or waited when it was last shown; so a board
- * that shows no wait is older than the last command only where nobody waits.
+ * that shows no wait is older than the last command only where nobody waits. To show a board takes memory, some
+ * three kilobytes; where that is refused the command is done all the same, and the next one shows the board.
  */
 
 /* Makes a watcher of a manager at a place that has none, which knows the board of this moment. Refused with
- * BS_IN_USE, BS_TOO_MANY_WATCHERS, BS_NO_MEMORY. Takes memory. Costs what bs_read_board does. */
+ * BS_IN_USE, BS_TOO_MANY_WATCHERS, BS_NO_MEMORY; for want of memory the other watchers may be shown the board
+ * of this moment all the same. Takes memory. Costs what bs_read_board does. */
 static inline bs_reply bs_watch(bs_manager *manager, bs_watcher *watcher) {
   return manager == NULL || watcher == NULL ? bs_null() : bs_call_watch(manager, watcher);
 }

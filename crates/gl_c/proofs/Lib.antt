@@ -6,5 +6,6 @@ mod PlaceWords
 mod PostedCalls
 mod PostedWords
 mod Queues
+mod Rows
 mod Serving
 mod Showing

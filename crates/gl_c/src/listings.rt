@@ -4,6 +4,7 @@
 ghost use Rattle.std.specs.Prelude.{IfSome};
 ghost use Rattle.gl_graph.specs.Refusals.{first_refusal};
 ghost use Rattle.gl_header.specs.Header.{holds};
+ghost use Rattle.gl_table.specs.model.Table.{AreRowsOf, rows_of};
 ghost use Rattle.gl_table.specs.model.Calls.{group_tests, living_tests};
 ghost use Rattle.gl_table.specs.model.State.{members, waits_for};
 ghost use Rattle.gl_catalog.specs.Manager.{state_of};
@@ -64,7 +65,8 @@ pub extern "C" fn bs_call_lock_count(manager: &mut Handle, txn: Txn) -> Reply
 /// A node that a transaction holds or waits for, by its place.
 #[unsafe(no_mangle)]
 pub extern "C" fn bs_call_lock_at(manager: &mut Handle, txn: Txn, place: usize) -> Reply
-    ensures { Looks (guarded_in manager.old) (query.LockAt (txn_id txn) place) result (guarded_in manager.new) }
+    ensures row { Looks (guarded_in manager.old) (query.LockAt (txn_id txn) place) result (guarded_in manager.new) }
+    ensures rows { IfSome (guarded_in manager.old) (λ g. AreRowsOf (state_of g.manager) txn.slot (rows_of g.manager.table txn.slot)) }
 {
     manager.look(Query::LockAt {
         txn: txn.id(),

@@ -3,7 +3,7 @@
 ghost use Rattle.std.specs.Prelude.{◌≡◌, ◌≤◌, IfErr, IfOk, Some};
 ghost use Rattle.gl_modes.specs.declared.refusal.Refusal.{Refusal as ARefusal};
 ghost use Rattle.gl_table.specs.model.Table.{board_of};
-ghost use Rattle.gl_catalog.specs.Manager.{state_of};
+ghost use Rattle.gl_catalog.specs.Manager.{IsLawfulManager, state_of};
 ghost use Rattle.gl_boxes.specs.Boards.{Ends};
 ghost use Rattle.gl_boxes.specs.Boxes.{verdict_of};
 ghost use Rattle.gl_c.specs.Carries.{Answers, Replies};
@@ -86,9 +86,12 @@ impl Session {
 
     /// Answers a question.
     pub(crate) fn look(&self, query: Query) -> Reply
-        ensures { result ≡ looked self.now.manager query }
+        ensures looked { result ≡ looked self.now.manager query }
+        ensures law { IsLawfulManager self.now.manager }
     {
-        look(self.guarded.manager(), query)
+        let manager = self.guarded.manager();
+        manager.law();
+        look(manager, query)
     }
 
     /// Who waits for whom at this moment.

@@ -1,6 +1,6 @@
 //! The session of a manager: put to its place, taken out, and used.
 
-ghost use Rattle.std.specs.Prelude.{◌≡◌, None, Some, is_some};
+ghost use Rattle.std.specs.Prelude.{◌≡◌, IfSome, None, Some, is_some};
 ghost use Rattle.std.specs.Option.{option_map};
 ghost use Rattle.gl_c.specs.Boards.{Shows};
 ghost use Rattle.gl_c.specs.Carries.{Asks, Carries};
@@ -12,6 +12,7 @@ ghost use Rattle.gl_graph.specs.Refusals.{first_refusal};
 ghost use Rattle.gl_header.specs.Header.{holds};
 ghost use Rattle.gl_table.specs.model.Calls.{group_tests, living_tests};
 ghost use Rattle.gl_table.specs.model.State.{members, waits_for};
+ghost use Rattle.gl_catalog.specs.Manager.{IsLawfulManager};
 ghost use Rattle.gl_c.specs.Looks.{Looks};
 ghost use Rattle.gl_c.specs.Verdicts.{Judges};
 ghost use Rattle.gl_c.specs.Watching.{Attends};
@@ -107,7 +108,8 @@ impl Handle {
 
     /// Answers a question.
     pub(crate) fn look(&mut self, query: Query) -> Reply
-        ensures { Looks (guarded_in self.old) query result (guarded_in self.new) }
+        ensures looks { Looks (guarded_in self.old) query result (guarded_in self.new) }
+        ensures law { IfSome (guarded_in self.old) (λ g. IsLawfulManager g.manager) }
     {
         let alloc = self.alloc;
         let Some(session) = self.take() else {

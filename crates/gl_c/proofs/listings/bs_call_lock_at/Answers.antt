@@ -1,0 +1,6 @@
+use Rattle.gl_c.specs.Handle.{guarded_in}
+use Rattle.gl_c.proofs.Rows.{rows_in}
+use Rattle.gl_c.proofs.listings.bs_call_lock_at.Goals as goal
+
+pub returns-clause-rows : goal.returns-clause-rows
+returns-clause-rows c = rows_in (guarded_in c.args.manager.now) c.args.txn.slot c.look.ensures.law
