@@ -55,7 +55,7 @@ see (Some x) = Some (vertex_of x)
 
 -- what a contract sees of all slots
 abbrev pub seen : Slab Node → ℕ → View
-seen nodes births = record { slots = map see nodes.slots; births = births }
+seen nodes births = record { slots = map see nodes.slots; births = births; next_key = nodes.vacant_key }
 
 -- the node that an id names
 abbrev pub named_in : ℕ → Option Node → Option Node

@@ -14,10 +14,11 @@ pub record Vertex : Type 0 where
   pub records : ℕ
   pub intervals : List NodeId
 
--- the node or nothing at each key from 0 on, and how many births there were
+-- the node or nothing at each key from 0 on, how many births there were, and the key that the next node gets
 pub record View : Type 0 where
   pub slots : List (Option Vertex)
   pub births : ℕ
+  pub next_key : ℕ
 
 -- the node that it is
 abbrev pub node_of : ℕ → Vertex → Node

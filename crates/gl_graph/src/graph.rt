@@ -87,6 +87,13 @@ impl Graph {
         self.births > u64::MAX - SPARE_BIRTHS
     }
 
+    /// The key that the next node gets. What is kept by key can so be made room for before a birth.
+    pub fn next_key(&self) -> usize
+        ensures { result ≡ self.now.next_key }
+    {
+        self.nodes.vacant_key()
+    }
+
     /// The kind of the node; `None` where the id names none.
     pub fn kind(&self, n: NodeId) -> Option<Kind>
         ensures { result ≡ kind_in (shape_of (graph_of self.now) n) }

@@ -163,6 +163,7 @@ impl Graph {
         requires free { record_refusal (graph_of self.old) file keys.now ≡ None }
         requires parents { parents.now ≡ record_parents (graph_of self.old) file keys.now }
         ensures made { IfOk result (λ n. IsBorn (graph_of self.old) (graph_of self.new) n (Rec keys.now) (record_parents (graph_of self.old) file keys.now)) }
+        ensures key { IfOk result (λ n. n.key ≡ self.old.next_key) }
         ensures memory { IfErr result (λ r. r ≡ Refusal.NoMemory) }
         ensures err { OnErr result (self.new ≡ self.old) }
     {

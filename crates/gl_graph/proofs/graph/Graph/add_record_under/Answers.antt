@@ -36,3 +36,6 @@ returns-clause-made c =
     c.args.file c.args.keys.now may.file (ap Rec c.in-Ok-from_slice.ensures.ok)
     (c.in-Ok.ensures.ok ∙ c.requires.parents ∙ ap (λ (v : View). record_parents (graph_of v) c.args.file c.args.keys.now) (sym c.self.view_is))
     may.each may.room (c.records-records.result + 1) (ap (λ n. n + 1) (c.records-records.ensures ∙ ap (λ (v : View). record_count (graph_of v) c.args.file) (sym c.self.view_is))) c.write_records.ensures.written c.write_records.ensures.len)
+
+pub returns-clause-key : goal.returns-clause-key
+returns-clause-key c = c.in-Ok-insert.ensures.key ∙ ap (λ (v : View). v.next_key) c.self.view_is
