@@ -1,9 +1,13 @@
 -- What an answer, and the list beside it, say of the call that was made.
-use Rattle.std.specs.Prelude.{◌≡◌, ◌+◌, ◌&&◌, ◌||◌, true, [], Option, Some, None, is_none, Result, Ok, Err, IfOk, OnErr, OnOk}
+use denote.Bor.{Bor}
+use Rattle.std.specs.Prelude.{◌≡◌, ℕ, ◌+◌, ◌&&◌, ◌||◌, true, List, [], Option, Some, None, is_none, Result, Ok, Err, IfOk, OnErr, OnOk}
 use Rattle.std.proofs.Common.{ap, ap₂, arith, inl, refl, subst, sym, ◌∙◌}
 use Rattle.gl_modes.specs.declared.refusal.Refusal.{Refusal}
 use Rattle.gl_graph.specs.Refusals.{Refuses}
+use Rattle.gl_modes.specs.declared.node.NodeId.{NodeId}
 use Rattle.gl_table.specs.declared.answers.Locked.{Locked}
+use Rattle.gl_table.specs.declared.answers.Notice.{Notice}
+use Rattle.gl_table.specs.declared.txn.TxnId.{TxnId}
 use Rattle.gl_table.specs.declared.answers.Locked.TheVariants as locked
 use Rattle.gl_table.specs.model.Calls.{answered}
 use Rattle.gl_table.specs.model.Lawful.{IsLawful}
@@ -12,15 +16,19 @@ use Rattle.gl_table.specs.model.Tellings.{Told}
 use Rattle.gl_catalog.specs.declared.command.Answer.{Answer}
 use Rattle.gl_catalog.specs.declared.command.Command.{Command}
 use Rattle.gl_catalog.specs.declared.command.Command.TheVariants as command
+use Rattle.gl_catalog.specs.declared.counters.Counters.{Counters}
+use Rattle.gl_catalog.specs.Completes.{Completes}
+use Rattle.gl_catalog.specs.Counters.{counted}
 use Rattle.gl_catalog.specs.Deadlocks.{KeepsAccepted, KeepsDeadlock}
-use Rattle.gl_catalog.specs.Manager.{ManagerView}
-use Rattle.gl_catalog.specs.Promises.{KeepsCaller}
-use Rattle.gl_catalog.specs.Replies.{CallSteps, Notices, Says, said}
+use Rattle.gl_catalog.specs.Manager.{ManagerView, state_of}
+use Rattle.gl_catalog.specs.Promises.{KeepsCaller, StepLeavesOthers}
+use Rattle.gl_catalog.specs.Replies.{CallSteps, Notices, Says, made, said}
 use Rattle.gl_catalog.specs.Step.{Answers, Goes, Step, answer_of_lock, query_answer}
 use Rattle.gl_catalog.specs.Tests.{is_cycle, lists_memory, refusal_of}
 use Rattle.gl_catalog.proofs.Carried.{memory_step, refused_step}
 use Rattle.gl_catalog.proofs.MoverEffects.{move_keeps_mover, rekey_keeps_mover}
 use Rattle.gl_catalog.proofs.EscalateEffects.{escalate_lowers_none}
+use Rattle.gl_catalog.proofs.Uncounted.{refusal_counted}
 
 -- a call that is a step and tells nobody leaves the list empty
 pub quiet : {A : Type 0} (answers : A → Answer) (s s' : State) (c c' : Command) (result : Result A Refusal) (a : Answer) (list : Notices) → CallSteps s c (λ x. (answers x, [])) result s' → a ≡ (said (λ x. (answers x, [])) result).0
@@ -34,16 +42,68 @@ pub fills : {A : Type 0} (answers : A → Answer) (s s' : State) (c c' : Command
 fills answers s s' c c' (Ok x) a list before step same kept empty is = coe 0 1 (i. Step s (sym is i) (sym same i) list.items s') step
 fills answers s s' c c' (Err r) a list before step same kept empty is = coe 0 1 (i. Step s (sym is i) (sym same i) (sym (ap (λ (l : Notices). l.items) kept ∙ empty) i) s') step
 
--- where the count stays, the call was refused
-pub uncounted : {A : Type 0} (v v' : ManagerView) (result : Result A Refusal) → OnErr result (v' ≡ v) → OnOk result (v'.accepted ≡ v.accepted + 1) → v'.accepted ≡ v.accepted → v' ≡ v
-uncounted v v' (Ok x) err ok e = let counted = ok in absurd (grind arith)
-uncounted v v' (Err r) err ok e = err
+-- what a call completes, with its answer
+module _ {A : Type 0} (answers : A → Answer) (v v' : ManagerView) (c c' : Command) (list : Told) (result : Result A Refusal) (completes : IfOk result (λ x. Completes c v (answers x, list) v')) (err : OnErr result (v' ≡ v)) where
+  -- where the count stays, the call was refused
+  pub uncounted : v'.accepted ≡ v.accepted → v' ≡ v
+  uncounted = by result completes err
+    where
+      by : (r : Result A Refusal) → IfOk r (λ x. Completes c v (answers x, list) v') → OnErr r (v' ≡ v) → v'.accepted ≡ v.accepted → v' ≡ v
+      by (Ok x) done was e = let counted' = done.accepted in absurd (grind arith)
+      by (Err r) done was e = was
 
--- what a call keeps of deadlocks, with its answer
-pub keeps_answered : {A : Type 0} (answers : A → Answer) (v v' : ManagerView) (c c' : Command) (result : Result A Refusal) (a : Answer) → ((x : A) → KeepsAccepted c v v' → KeepsDeadlock c v (answers x) v')
-    → OnOk result (KeepsAccepted c v v') → OnErr result (v' ≡ v) → a ≡ (said (λ x. (answers x, [])) result).0 → c' ≡ c → KeepsDeadlock c' v a v'
-keeps_answered answers v v' c c' (Ok x) a goes ok err same is = coe 0 1 (i. KeepsDeadlock (sym is i) v (sym same i) v') (goes x ok)
-keeps_answered answers v v' c c' (Err r) a goes ok err same is = coe 0 1 (i. KeepsDeadlock (sym is i) v (sym same i) v') (ap (λ w. w.table.deadlock) err)
+  -- what it keeps of deadlocks
+  pub keeps_answered : (a : Answer) → ((x : A) → KeepsAccepted c v v' → KeepsDeadlock c v (answers x) v') → a ≡ (said (λ x. (answers x, [])) result).0 → c' ≡ c → KeepsDeadlock c' v a v'
+  keeps_answered a goes same is = by result completes err same
+    where
+      by : (r : Result A Refusal) → IfOk r (λ x. Completes c v (answers x, list) v') → OnErr r (v' ≡ v) → a ≡ (said (λ x. (answers x, [])) r).0 → KeepsDeadlock c' v a v'
+      by (Ok x) done was e = coe 0 1 (i. KeepsDeadlock (sym is i) v (sym e i) v') (goes x done.deadlock)
+      by (Err r) done was e = coe 0 1 (i. KeepsDeadlock (sym is i) v (sym e i) v') (ap (λ w. w.table.deadlock) was)
+
+  -- and what it counts
+  pub counts_answered : (a : Answer) → OnErr result (list ≡ []) → a ≡ (said (λ x. (answers x, [])) result).0 → c' ≡ c → v'.counters ≡ counted (state_of v) c' a list (state_of v') v.counters
+  counts_answered a quiet same is = by result completes err quiet same
+    where
+      by : (r : Result A Refusal) → IfOk r (λ x. Completes c v (answers x, list) v') → OnErr r (v' ≡ v) → OnErr r (list ≡ []) → a ≡ (said (λ x. (answers x, [])) r).0
+          → v'.counters ≡ counted (state_of v) c' a list (state_of v') v.counters
+      by (Ok x) done was empty e = coe 0 1 (i. v'.counters ≡ counted (state_of v) (sym is i) (sym e i) list (state_of v') v.counters) done.counters
+      by (Err r) done was empty e =
+          coe 0 1 (i. v'.counters ≡ counted (state_of v) c' (sym e i) (sym empty i) (state_of v') v.counters)
+          (ap (λ w. w.counters) was ∙ sym (refusal_counted (state_of v) (state_of v') c' r v.counters))
+
+  -- by a list that it filled, and that stays empty where it is refused
+  pub list_counts : (a : Answer) (before after : Notices) → OnErr result (after ≡ before) → before.items ≡ [] → after.items ≡ list → a ≡ (said (λ x. (answers x, [])) result).0 → c' ≡ c
+      → v'.counters ≡ counted (state_of v) c' a list (state_of v') v.counters
+  list_counts a before after kept empty its same is = counts_answered a (by result kept) same is
+    where
+      by : (r : Result A Refusal) → OnErr r (after ≡ before) → OnErr r (list ≡ [])
+      by (Ok x) h = tt
+      by (Err r) h = sym its ∙ ap (λ (l : Notices). l.items) h ∙ empty
+
+-- a call that tells nobody leaves the list empty
+module _ {A : Type 0} (answers : A → Answer) (v v' : ManagerView) (c c' : Command) (list : Told) (result : Result A Refusal) (completes : IfOk result (λ x. Completes c v (answers x, []) v')) (err : OnErr result (v' ≡ v)) where
+  pub quiet_counts : (a : Answer) (told : Notices) → told.items ≡ [] → a ≡ (said (λ x. (answers x, [])) result).0 → c' ≡ c → v'.counters ≡ counted (state_of v) c' a told.items (state_of v') v.counters
+  quiet_counts a told empty same is =
+      subst (λ (l : Told). v'.counters ≡ counted (state_of v) c' a l (state_of v') v.counters) (sym empty)
+      (counts_answered answers v v' c c' [] result completes err a (by result) same is)
+    where
+      by : (r : Result A Refusal) → OnErr {E = Refusal} r ([] {A = TxnId × Notice} ≡ [])
+      by (Ok x) = tt
+      by (Err r) = refl
+
+-- a query counts nothing
+pub asked_counts : {A : Type 0} (answers : A → Answer) (s s' : State) (c c' : Command) (result : Result A Refusal) (a : Answer) (told : Notices) (k : Counters)
+    → ((x : A) → counted s c (answers x) [] s' k ≡ k) → told.items ≡ [] → a ≡ (said (λ x. (answers x, [])) result).0 → c' ≡ c → k ≡ counted s c' a told.items s' k
+asked_counts answers s s' c c' (Ok x) a told k none empty same is = coe 0 1 (i. k ≡ counted s (sym is i) (sym same i) (sym empty i) s' k) (sym (none x))
+asked_counts answers s s' c c' (Err r) a told k none empty same is = coe 0 1 (i. k ≡ counted s (sym is i) (sym same i) (sym empty i) s' k) (sym (refusal_counted s s' c r k))
+
+-- an insert completes its command
+pub insert_completes : (v v' : ManagerView) (t : TxnId) (f : NodeId) (keys : Bor (List ℕ)) (result : Result NodeId Refusal) → OnOk result (KeepsAccepted (command.Insert t f keys) v v')
+    → StepLeavesOthers (state_of v) (command.Insert t f keys) (said made result) (state_of v') → OnOk result (v'.accepted ≡ v.accepted + 1)
+    → v'.counters ≡ counted (state_of v) (command.Insert t f keys) (said made result).0 (said made result).1 (state_of v') v.counters
+    → IfOk result (λ n. Completes (command.Insert t f keys) v (made n) v')
+insert_completes v v' t f keys (Ok n) deadlock others accepted counters = record { accepted = accepted; counters = counters; deadlock = deadlock; caller = tt; others = others; settles = tt }
+insert_completes v v' t f keys (Err r) deadlock others accepted counters = tt
 
 -- a query keeps what was kept
 pub keeps_asked : {A : Type 0} (answers : A → Answer) (v : ManagerView) (c c' : Command) (result : Result A Refusal) (a : Answer) → ((x : A) → KeepsDeadlock c v (answers x) v) → a ≡ (said (λ x. (answers x, [])) result).0 → c' ≡ c → KeepsDeadlock c' v a v

@@ -46,6 +46,7 @@ pub mod Uncounted
 pub mod Carried
 pub mod Managed
 pub mod Applied
+pub mod Completed
 pub mod Insertions
 pub mod Deletions
 pub mod Raising

@@ -143,3 +143,18 @@ with_notices told' k =
       moved = rises k.moved (count_by is_moved told');
       gone = rises k.gone (count_by is_gone told');
     }
+
+-- the counters after a lock of n in which state s was left, that was answered a and told these; it converts where its transaction held n before
+abbrev pub lock_counted : State → NodeId → Bool → Answer → Told → Counters → Counters
+lock_counted s n converts' a told' k =
+    record k {
+      granted = rises k.granted (one_if (grants a));
+      waited = rises k.waited (one_if (waits a));
+      conversions = rises k.conversions (one_if converts');
+      granted_later = rises k.granted_later (count_by is_grant told');
+      victims = rises k.victims (count_by is_victim told' + one_if (condemns a));
+      moved = rises k.moved (count_by is_moved told');
+      gone = rises k.gone (count_by is_gone told');
+      most_waiting = max k.most_waiting (if waits a then waiting_in s else 0);
+      longest_queue = max k.longest_queue (if waits a then length (s.queue n) else 0);
+    }

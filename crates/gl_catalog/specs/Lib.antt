@@ -5,4 +5,5 @@ pub mod Manager
 pub mod Deadlocks
 pub mod Counters
 pub mod Replies
+pub mod Completes
 pub mod Sound

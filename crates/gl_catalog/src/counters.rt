@@ -1,10 +1,10 @@
 //! What a manager has been doing, in numbers.
 
-ghost use Rattle.std.specs.Prelude.{◌≡◌, ◌&&◌, max, not};
-ghost use Rattle.gl_catalog.specs.Counters.{condemns, escalates, grants, one_if, refuses, released_by, rises, waits, with_notice, with_notices};
+ghost use Rattle.std.specs.Prelude.{◌≡◌, max};
+ghost use Rattle.gl_catalog.specs.Counters.{condemns, grants, one_if, rises, waits, with_notice, with_notices};
+ghost use Rattle.gl_catalog.specs.Step.{answer_of_lock};
 
-use crate::command::Answer;
-use gl_table::{Notice, TxnId};
+use gl_table::{Locked, Notice, TxnId};
 
 /// What a manager has been doing since it was made, in commands that it accepted. Each is a count that
 /// stops at the greatest `u64`.
@@ -39,99 +39,82 @@ pub struct Counters {
 }
 
 impl Counters {
-    /// With one command that was answered so. `held_before` says whether it asked for a node that its
-    /// transaction held already.
-    pub(crate) fn with_answer(self, held_before: bool, answer: &Answer) -> Counters
-        ensures { result ≡ record self {
-          granted = rises self.granted (one_if (grants answer.now));
-          waited = rises self.waited (one_if (waits answer.now));
-          conversions = rises self.conversions (one_if (not (refuses answer.now) && held_before));
-          victims = rises self.victims (one_if (condemns answer.now));
-          escalations = rises self.escalations (one_if (escalates answer.now));
-          released_children = rises self.released_children (released_by answer.now);
+    /// With what one lock came to. `converts` says whether its transaction held the node already.
+    pub(crate) fn add_lock(&mut self, converts: bool, locked: Locked)
+        ensures { self.new ≡ record self.old {
+          granted = rises self.old.granted (one_if (grants (answer_of_lock locked)));
+          waited = rises self.old.waited (one_if (waits (answer_of_lock locked)));
+          conversions = rises self.old.conversions (one_if converts);
+          victims = rises self.old.victims (one_if (condemns (answer_of_lock locked)));
         } }
     {
-        Counters {
-            granted: raised_if(self.granted, matches!(answer, Answer::Granted(_))),
-            waited: raised_if(self.waited, matches!(answer, Answer::Waiting)),
-            conversions: raised_if(
-                self.conversions,
-                !matches!(answer, Answer::Refused(_)) && held_before,
-            ),
-            victims: raised_if(self.victims, matches!(answer, Answer::Victim)),
-            escalations: raised_if(self.escalations, matches!(answer, Answer::Escalated(_))),
-            released_children: raised(self.released_children, released_by(answer)),
-            ..self
+        match locked {
+            Locked::Granted(_) => raise(&mut self.granted, 1),
+            Locked::Waiting => raise(&mut self.waited, 1),
+            Locked::Victim => raise(&mut self.victims, 1),
         }
+        if converts {
+            raise(&mut self.conversions, 1);
+        }
+    }
+
+    /// With one try that was granted.
+    pub(crate) fn add_grant(&mut self, converts: bool)
+        ensures { self.new ≡ record self.old {
+          granted = rises self.old.granted 1;
+          conversions = rises self.old.conversions (one_if converts);
+        } }
+    {
+        raise(&mut self.granted, 1);
+        if converts {
+            raise(&mut self.conversions, 1);
+        }
+    }
+
+    /// With one escalation that released so many children.
+    pub(crate) fn add_escalation(&mut self, released: u32)
+        ensures { self.new ≡ record self.old {
+          escalations = rises self.old.escalations 1;
+          released_children = rises self.old.released_children released;
+        } }
+    {
+        raise(&mut self.escalations, 1);
+        raise(&mut self.released_children, u64::from(released));
     }
 
     /// With so many that were seen to wait at once, and so many for one node.
-    pub(crate) fn with_waits(self, waiting: u64, queued: u64) -> Counters
-        ensures { result ≡ record self { most_waiting = max self.most_waiting waiting; longest_queue = max self.longest_queue queued } }
+    pub(crate) fn add_waits(&mut self, waiting: u64, queued: u64)
+        ensures { self.new ≡ record self.old { most_waiting = max self.old.most_waiting waiting; longest_queue = max self.old.longest_queue queued } }
     {
-        Counters {
-            most_waiting: self.most_waiting.max(waiting),
-            longest_queue: self.longest_queue.max(queued),
-            ..self
-        }
+        self.most_waiting = self.most_waiting.max(waiting);
+        self.longest_queue = self.longest_queue.max(queued);
     }
 
     /// With the notices of one command.
-    pub(crate) fn with_notices(self, told: &[(TxnId, Notice)]) -> Counters
-        ensures { result ≡ with_notices told.now self }
+    pub(crate) fn add_notices(&mut self, told: &[(TxnId, Notice)])
+        ensures { self.new ≡ with_notices told.now self.old }
     {
-        let mut counters = self;
         for (_, notice) in told {
-            counters = counters.with_notice(*notice);
+            self.add_notice(*notice);
         }
-        counters
     }
 
     /// With one notice.
-    fn with_notice(self, notice: Notice) -> Counters
-        ensures { result ≡ with_notice notice self }
+    fn add_notice(&mut self, notice: Notice)
+        ensures { self.new ≡ with_notice notice self.old }
     {
         match notice {
-            Notice::Granted(..) => Counters {
-                granted_later: raised(self.granted_later, 1),
-                ..self
-            },
-            Notice::Victim => Counters {
-                victims: raised(self.victims, 1),
-                ..self
-            },
-            Notice::Moved => Counters {
-                moved: raised(self.moved, 1),
-                ..self
-            },
-            Notice::Gone => Counters {
-                gone: raised(self.gone, 1),
-                ..self
-            },
+            Notice::Granted(..) => raise(&mut self.granted_later, 1),
+            Notice::Victim => raise(&mut self.victims, 1),
+            Notice::Moved => raise(&mut self.moved, 1),
+            Notice::Gone => raise(&mut self.gone, 1),
         }
     }
 }
 
-/// A count that rises by so many, as far as there is room for.
-fn raised(count: u64, more: u64) -> u64
-    ensures { result ≡ rises count more }
+/// Lets a count rise by so many, as far as there is room for.
+fn raise(count: &mut u64, more: u64)
+    ensures { count.new ≡ rises count.old more }
 {
-    count.saturating_add(more)
-}
-
-/// A count that rises by one where something happened.
-fn raised_if(count: u64, happened: bool) -> u64
-    ensures { result ≡ rises count (one_if happened) }
-{
-    raised(count, u64::from(happened))
-}
-
-/// How many children an escalation released; none where the answer is that of another command.
-fn released_by(answer: &Answer) -> u64
-    ensures { result ≡ released_by answer.now }
-{
-    match answer {
-        Answer::Escalated(escalated) => u64::from(escalated.released),
-        _ => 0,
-    }
+    *count = count.saturating_add(more);
 }

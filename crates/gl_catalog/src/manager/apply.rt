@@ -53,10 +53,7 @@ impl Manager {
         ensures same { self.new.accepted ≡ self.old.accepted → self.new ≡ self.old }
     {
         self.law();
-        let held_before = self.converts(&command);
-        let answer = self.carry_out(command, told);
-        self.count(&command, held_before, &answer, told);
-        answer
+        self.carry_out(command, told)
     }
 
     /// Carries out one command by the call that does it.
@@ -64,7 +61,7 @@ impl Manager {
         requires empty { told.old.items ≡ [] }
         ensures step { Step (state_of self.old) command.entry result told.new.items (state_of self.new) }
         ensures deadlock { KeepsDeadlock command.entry self.old result self.new }
-        ensures counters { self.new.counters ≡ self.old.counters }
+        ensures counters { self.new.counters ≡ counted (state_of self.old) command.entry result told.new.items (state_of self.new) self.old.counters }
         ensures same { self.new.accepted ≡ self.old.accepted → self.new ≡ self.old }
     {
         match command {

@@ -1,8 +1,9 @@
 //! A lock on a node in place of locks on its children.
 
-ghost use Rattle.std.specs.Prelude.{◌≡◌, ◌+◌, ◌∷◌, [], OnErr, OnOk};
+ghost use Rattle.std.specs.Prelude.{◌≡◌, ◌+◌, ◌∷◌, [], IfOk, OnErr, OnOk};
 ghost use Rattle.gl_graph.specs.Refusals.{first_refusal, verdict};
 ghost use Rattle.gl_catalog.specs.declared.command.Command.TheVariants as command;
+ghost use Rattle.gl_catalog.specs.Completes.{Completes};
 ghost use Rattle.gl_catalog.specs.Deadlocks.{KeepsAccepted};
 ghost use Rattle.gl_catalog.specs.Counters.{counted};
 ghost use Rattle.gl_catalog.specs.Manager.{state_of};
@@ -11,7 +12,7 @@ ghost use Rattle.gl_catalog.specs.Replies.{CallSteps, rising, rose, said};
 ghost use Rattle.gl_catalog.specs.Tests.{escalate_asks, worn};
 
 use super::Manager;
-use crate::command::{Answer, Command, Escalated};
+use crate::command::Escalated;
 use gl_graph::Kind;
 use gl_modes::{Mode, NodeId, Refusal};
 use gl_table::{Told, TxnId};
@@ -36,16 +37,13 @@ impl Manager {
         ensures counters { self.new.counters ≡ counted (state_of self.old) (command.Escalate t n) (said rose result).0 (said rose result).1 (state_of self.new) self.old.counters }
         ensures err { OnErr result (self.new ≡ self.old) }
     {
-        self.law();
         let mut told = Told::new();
         let escalated = self.escalate_telling(t, n, &mut told)?;
-        let command = Command::Escalate { txn: t, node: n };
-        self.count(&command, false, &Answer::Escalated(escalated), &told);
         Ok((escalated, told))
     }
 
     /// As `escalate`, with the notices put into an empty list.
-    pub(super) fn escalate_telling(
+    pub fn escalate_telling(
         &mut self,
         t: TxnId,
         n: NodeId,
@@ -53,10 +51,8 @@ impl Manager {
     ) -> Result<Escalated, Refusal>
         requires empty { told.old.items ≡ [] }
         ensures step { CallSteps (state_of self.old) (command.Escalate t n) (rising told.new.items) result (state_of self.new) }
-        ensures deadlock { OnOk result (KeepsAccepted (command.Escalate t n) self.old self.new) }
+        ensures completes { IfOk result (λ x. Completes (command.Escalate t n) self.old (rising told.new.items x) self.new) }
         ensures untold { OnErr result (told.new ≡ told.old) }
-        ensures counted { OnOk result (self.new.accepted ≡ self.old.accepted + 1) }
-        ensures counters { self.new.counters ≡ self.old.counters }
         ensures err { OnErr result (self.new ≡ self.old) }
     {
         self.check_escalate(t, n)?;
@@ -69,6 +65,8 @@ impl Manager {
         let (released, kept) = self.table.shed_telling(t, n, told);
         self.table.law();
         self.accepted += 1;
+        self.counters.add_escalation(released);
+        self.counters.add_notices(told.as_slice());
         Ok(Escalated {
             mode,
             released,

@@ -1,6 +1,6 @@
 //! Nodes move.
 
-ghost use Rattle.std.specs.Prelude.{◌≡◌, ◌+◌, ◌∷◌, ◌&&◌, [], OnErr, OnOk, not, true};
+ghost use Rattle.std.specs.Prelude.{◌≡◌, ◌+◌, ◌∷◌, ◌&&◌, [], IfOk, OnErr, OnOk, not, true};
 ghost use Rattle.gl_graph.specs.Changes.{rekeyed_parents};
 ghost use Rattle.gl_graph.specs.Graph.{first_parent, shape_of};
 ghost use Rattle.gl_graph.specs.Refusals.{bad_parents, first_refusal, verdict};
@@ -8,6 +8,7 @@ ghost use Rattle.gl_graph.specs.Shapes.{is_index_of_shape, is_movable_shape, is_
 ghost use Rattle.gl_table.specs.model.Calls.{holds_x_on_all, need_exclusive, need_new_parents};
 ghost use Rattle.gl_table.specs.model.State.{lives};
 ghost use Rattle.gl_catalog.specs.declared.command.Command.TheVariants as command;
+ghost use Rattle.gl_catalog.specs.Completes.{Completes};
 ghost use Rattle.gl_catalog.specs.Deadlocks.{KeepsAccepted};
 ghost use Rattle.gl_catalog.specs.Counters.{counted};
 ghost use Rattle.gl_catalog.specs.Manager.{state_of};
@@ -16,7 +17,6 @@ ghost use Rattle.gl_catalog.specs.Replies.{CallSteps, doing, done, said};
 ghost use Rattle.gl_catalog.specs.Tests.{move_asks, refusal_of, worn};
 
 use super::Manager;
-use crate::command::{Answer, Command};
 use arrayvec::ArrayVec;
 use gl_graph::Kind;
 use gl_modes::{Mode, NodeId, Refusal};
@@ -43,21 +43,13 @@ impl Manager {
         ensures counters { self.new.counters ≡ counted (state_of self.old) (command.Rekey t rec index key) (said done result).0 (said done result).1 (state_of self.new) self.old.counters }
         ensures err { OnErr result (self.new ≡ self.old) }
     {
-        self.law();
         let mut told = Told::new();
         self.rekey_telling(t, rec, index, key, &mut told)?;
-        let command = Command::Rekey {
-            txn: t,
-            rec,
-            index,
-            key,
-        };
-        self.count(&command, false, &Answer::Done, &told);
         Ok(told)
     }
 
     /// As `rekey`, with the notices put into an empty list.
-    pub(super) fn rekey_telling(
+    pub fn rekey_telling(
         &mut self,
         t: TxnId,
         rec: NodeId,
@@ -67,16 +59,15 @@ impl Manager {
     ) -> Result<(), Refusal>
         requires empty { told.old.items ≡ [] }
         ensures step { CallSteps (state_of self.old) (command.Rekey t rec index key) (doing told.new.items) result (state_of self.new) }
-        ensures deadlock { OnOk result (KeepsAccepted (command.Rekey t rec index key) self.old self.new) }
+        ensures completes { IfOk result (λ x. Completes (command.Rekey t rec index key) self.old (doing told.new.items x) self.new) }
         ensures untold { OnErr result (told.new ≡ told.old) }
-        ensures counted { OnOk result (self.new.accepted ≡ self.old.accepted + 1) }
-        ensures counters { self.new.counters ≡ self.old.counters }
         ensures err { OnErr result (self.new ≡ self.old) }
     {
         self.check_rekey(t, rec, index, key)?;
         self.table.reparent_telling(t, rec, index, key, told);
         self.table.law();
         self.accepted += 1;
+        self.counters.add_notices(told.as_slice());
         Ok(())
     }
 
@@ -100,20 +91,13 @@ impl Manager {
         ensures counters { self.new.counters ≡ counted (state_of self.old) (command.Move t n parents.entry) (said done result).0 (said done result).1 (state_of self.new) self.old.counters }
         ensures err { OnErr result (self.new ≡ self.old) }
     {
-        self.law();
         let mut told = Told::new();
         self.relocate_telling(t, n, parents, &mut told)?;
-        let command = Command::Move {
-            txn: t,
-            node: n,
-            parents,
-        };
-        self.count(&command, false, &Answer::Done, &told);
         Ok(told)
     }
 
     /// As `relocate`, with the notices put into an empty list.
-    pub(super) fn relocate_telling(
+    pub fn relocate_telling(
         &mut self,
         t: TxnId,
         n: NodeId,
@@ -122,16 +106,15 @@ impl Manager {
     ) -> Result<(), Refusal>
         requires empty { told.old.items ≡ [] }
         ensures step { CallSteps (state_of self.old) (command.Move t n parents.entry) (doing told.new.items) result (state_of self.new) }
-        ensures deadlock { OnOk result (KeepsAccepted (command.Move t n parents.entry) self.old self.new) }
+        ensures completes { IfOk result (λ x. Completes (command.Move t n parents.entry) self.old (doing told.new.items x) self.new) }
         ensures untold { OnErr result (told.new ≡ told.old) }
-        ensures counted { OnOk result (self.new.accepted ≡ self.old.accepted + 1) }
-        ensures counters { self.new.counters ≡ self.old.counters }
         ensures err { OnErr result (self.new ≡ self.old) }
     {
         self.check_relocate(t, n, parents)?;
         self.table.regraft_telling(t, n, parents, told)?;
         self.table.law();
         self.accepted += 1;
+        self.counters.add_notices(told.as_slice());
         Ok(())
     }
 

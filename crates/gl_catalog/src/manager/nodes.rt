@@ -1,8 +1,8 @@
 //! New nodes of the graph.
 
-ghost use Rattle.std.specs.Prelude.{◌≡◌, ◌+◌, OnErr, OnOk};
+ghost use Rattle.std.specs.Prelude.{◌≡◌, IfOk, OnErr};
 ghost use Rattle.gl_catalog.specs.declared.command.Command.TheVariants as command;
-ghost use Rattle.gl_catalog.specs.Deadlocks.{KeepsAccepted};
+ghost use Rattle.gl_catalog.specs.Completes.{Completes};
 ghost use Rattle.gl_catalog.specs.Manager.{state_of};
 ghost use Rattle.gl_catalog.specs.Replies.{CallSteps, made};
 
@@ -11,11 +11,9 @@ use gl_modes::{NodeId, Refusal};
 
 impl Manager {
     /// A new inner node.
-    pub(super) fn add_inner(&mut self, parents: &[NodeId]) -> Result<NodeId, Refusal>
+    pub fn add_inner(&mut self, parents: &[NodeId]) -> Result<NodeId, Refusal>
         ensures step { CallSteps (state_of self.old) (command.Inner parents.entry) made result (state_of self.new) }
-        ensures deadlock { OnOk result (KeepsAccepted (command.Inner parents.entry) self.old self.new) }
-        ensures counted { OnOk result (self.new.accepted ≡ self.old.accepted + 1) }
-        ensures counters { self.new.counters ≡ self.old.counters }
+        ensures completes { IfOk result (λ x. Completes (command.Inner parents.entry) self.old (made x) self.new) }
         ensures err { OnErr result (self.new ≡ self.old) }
     {
         self.check_count()?;
@@ -26,11 +24,9 @@ impl Manager {
     }
 
     /// A new file.
-    pub(super) fn add_file(&mut self, parents: &[NodeId]) -> Result<NodeId, Refusal>
+    pub fn add_file(&mut self, parents: &[NodeId]) -> Result<NodeId, Refusal>
         ensures step { CallSteps (state_of self.old) (command.File parents.entry) made result (state_of self.new) }
-        ensures deadlock { OnOk result (KeepsAccepted (command.File parents.entry) self.old self.new) }
-        ensures counted { OnOk result (self.new.accepted ≡ self.old.accepted + 1) }
-        ensures counters { self.new.counters ≡ self.old.counters }
+        ensures completes { IfOk result (λ x. Completes (command.File parents.entry) self.old (made x) self.new) }
         ensures err { OnErr result (self.new ≡ self.old) }
     {
         self.check_count()?;
@@ -41,16 +37,14 @@ impl Manager {
     }
 
     /// A new index of a file, with its intervals.
-    pub(super) fn add_index(
+    pub fn add_index(
         &mut self,
         parents: &[NodeId],
         file: NodeId,
         bounds: &[u64],
     ) -> Result<NodeId, Refusal>
         ensures step { CallSteps (state_of self.old) (command.Index parents.entry file bounds.entry) made result (state_of self.new) }
-        ensures deadlock { OnOk result (KeepsAccepted (command.Index parents.entry file bounds.entry) self.old self.new) }
-        ensures counted { OnOk result (self.new.accepted ≡ self.old.accepted + 1) }
-        ensures counters { self.new.counters ≡ self.old.counters }
+        ensures completes { IfOk result (λ x. Completes (command.Index parents.entry file bounds.entry) self.old (made x) self.new) }
         ensures err { OnErr result (self.new ≡ self.old) }
     {
         self.check_count()?;

@@ -5,6 +5,7 @@ ghost use Rattle.gl_graph.specs.Graph.{record_parents};
 ghost use Rattle.gl_graph.specs.Refusals.{first_refusal, verdict};
 ghost use Rattle.gl_table.specs.model.Calls.{RefusesOnly};
 ghost use Rattle.gl_catalog.specs.declared.command.Command.TheVariants as command;
+ghost use Rattle.gl_catalog.specs.Completes.{Completes};
 ghost use Rattle.gl_catalog.specs.Deadlocks.{KeepsAccepted};
 ghost use Rattle.gl_catalog.specs.Counters.{counted};
 ghost use Rattle.gl_catalog.specs.Manager.{state_of};
@@ -13,7 +14,6 @@ ghost use Rattle.gl_catalog.specs.Replies.{CallSteps, doing, done, made, said};
 ghost use Rattle.gl_catalog.specs.Tests.{insert_tests, record_asks, refusal_of};
 
 use super::Manager;
-use crate::command::{Answer, Command};
 use arrayvec::ArrayVec;
 use gl_graph::Kind;
 use gl_modes::{Mode, NodeId, Refusal};
@@ -59,16 +59,13 @@ impl Manager {
         ensures counters { self.new.counters ≡ counted (state_of self.old) (command.Delete t rec) (said done result).0 (said done result).1 (state_of self.new) self.old.counters }
         ensures err { OnErr result (self.new ≡ self.old) }
     {
-        self.law();
         let mut told = Told::new();
         self.delete_telling(t, rec, &mut told)?;
-        let command = Command::Delete { txn: t, rec };
-        self.count(&command, false, &Answer::Done, &told);
         Ok(told)
     }
 
     /// As `delete`, with the notices put into an empty list.
-    pub(super) fn delete_telling(
+    pub fn delete_telling(
         &mut self,
         t: TxnId,
         rec: NodeId,
@@ -76,16 +73,15 @@ impl Manager {
     ) -> Result<(), Refusal>
         requires empty { told.old.items ≡ [] }
         ensures step { CallSteps (state_of self.old) (command.Delete t rec) (doing told.new.items) result (state_of self.new) }
-        ensures deadlock { OnOk result (KeepsAccepted (command.Delete t rec) self.old self.new) }
+        ensures completes { IfOk result (λ x. Completes (command.Delete t rec) self.old (doing told.new.items x) self.new) }
         ensures untold { OnErr result (told.new ≡ told.old) }
-        ensures counted { OnOk result (self.new.accepted ≡ self.old.accepted + 1) }
-        ensures counters { self.new.counters ≡ self.old.counters }
         ensures err { OnErr result (self.new ≡ self.old) }
     {
         self.check_delete(t, rec)?;
         self.table.remove_telling(t, rec, told);
         self.table.law();
         self.accepted += 1;
+        self.counters.add_notices(told.as_slice());
         Ok(())
     }
 

@@ -41,9 +41,34 @@ impl Table {
             → holds (members (state_of self.old) n) t.slot ≡ true → IsOk result }
         ensures err { OnErr result (self.new ≡ self.old) }
     {
+        let (_, locked) = self.lock_from(t, n, mode, notices)?;
+        Ok(locked)
+    }
+
+    /// As `lock_telling`, and answers beside it the mode in which the node was held before, `NL` for
+    /// none: whoever counts conversions need not look it up again.
+    pub fn lock_from(
+        &mut self,
+        t: TxnId,
+        n: NodeId,
+        mode: Mode,
+        notices: &mut Told,
+    ) -> Result<(Mode, Locked), Refusal>
+        requires empty { notices.old.items ≡ [] }
+        ensures before { IfOk result (λ x. x.0 ≡ (state_of self.old).held t.slot n) }
+        ensures answer { IfOk result (λ x. x.1 ≡ locked_as ((state_of self.new).held t.slot n) (status_of (state_of self.new) t.slot)) }
+        ensures told { OnOk result (notices.new.items ≡ told_but t.slot (state_of self.old) (state_of self.new)) }
+        ensures untold { OnErr result (notices.new ≡ notices.old) }
+        ensures state { OnOk result (Locks (state_of self.old) t.slot n mode (state_of self.new)) }
+        ensures deadlock { OnOk result (LocksKeeping (state_of self.old) t.slot n mode self.old.deadlock (state_of self.new) self.new.deadlock) }
+        ensures refuses { Refuses (first_refusal (lock_tests (state_of self.old) t n mode)) result }
+        ensures held { first_refusal (lock_tests (state_of self.old) t n mode) ≡ None → enters_at (state_of self.old) t.slot n mode ≡ true
+            → holds (members (state_of self.old) n) t.slot ≡ true → IsOk result }
+        ensures err { OnErr result (self.new ≡ self.old) }
+    {
         let held = self.check_lock(t, n, mode)?;
         match self.locks.ask(&self.graph, t.slot, n, mode, held)? {
-            Asked::Granted(granted) => Ok(Locked::Granted(granted)),
+            Asked::Granted(granted) => Ok((held, Locked::Granted(granted))),
             Asked::Waiting => {
                 self.locks.settle_asker(
                     &self.graph,
@@ -53,7 +78,7 @@ impl Table {
                     &mut self.deadlock,
                     notices,
                 );
-                Ok(self.locks.outcome(t.slot, n))
+                Ok((held, self.locks.outcome(t.slot, n)))
             }
         }
     }

@@ -1,10 +1,13 @@
-use Rattle.std.proofs.Common.{ap, refl}
+use Rattle.std.proofs.Common.{ap, refl, ◌∙◌}
 use Rattle.gl_table.specs.model.Calls.{commit_tests}
 use Rattle.gl_table.specs.model.Table.{state_of as table_state}
 use Rattle.gl_catalog.specs.declared.command.Command.TheVariants as command
-use Rattle.gl_catalog.specs.Manager.{counting}
+use Rattle.gl_catalog.specs.Manager.{ManagerView, counting}
 use Rattle.gl_catalog.specs.Replies.{doing}
 use Rattle.gl_catalog.proofs.Managed.{managed_ok_only}
+use Rattle.gl_catalog.specs.declared.command.Answer.TheVariants as answer
+use Rattle.gl_catalog.specs.Sound.{view_of}
+use Rattle.gl_catalog.proofs.Completed.{notices_counted, told_completed}
 use Rattle.gl_catalog.proofs.manager.Manager.commit_telling.Goals as goal
 
 pub returns-clause-step : goal.returns-clause-step
@@ -12,3 +15,9 @@ returns-clause-step c =
     managed_ok_only (doing c.commit_telling.new.notices.items) (command.Commit c.args.t) c.self.inside.table c.self.inside.accepted c.args.self.now c.self.view_is (commit_tests (table_state c.self.inside.table) c.args.t) refl
     tt c.commit_telling.new.self c.in_ok-check_count.ensures c.in_ok-commit_telling.ensures.refuses refl
     (refl, c.in_ok-commit_telling.ensures.told, ap (counting c.self.inside.accepted) c.in_ok-commit_telling.ensures.state)
+
+pub returns-clause-completes : goal.returns-clause-completes
+returns-clause-completes c =
+    told_completed (view_of c.self.inside) c.args.self.now (record { table = c.commit_telling.new.self; accepted = c.self.inside.accepted + 1; counters = c.add_notices.new.self }) c.self.view_is c.self.invariant
+    (command.Commit c.args.t) refl answer.Done c.commit_telling.new.notices.items c.as_slice.result.now (returns-clause-step c)
+    (c.in_ok-commit_telling.ensures.deadlock ∙ ap (λ (v : ManagerView). v.table.deadlock) c.self.view_is) c.as_slice.ensures c.add_notices.ensures (notices_counted c.commit_telling.new.notices.items)

@@ -1,14 +1,11 @@
-use Rattle.std.specs.Prelude.{Err, Ok, Result}
+use Rattle.std.specs.Prelude.{Err, Result}
 use Rattle.std.proofs.Common.{ap, refl, rules, subst, sym, ◌≡◌, ◌∙◌}
 use Rattle.gl_modes.specs.declared.refusal.Refusal.{Refusal}
-use Rattle.gl_catalog.specs.Deadlocks.{KeepsAccepted}
-use Rattle.gl_catalog.specs.declared.command.Answer.TheVariants as answer
 use Rattle.gl_catalog.specs.declared.command.Command.TheVariants as command
 use Rattle.gl_catalog.specs.Counters.{counted}
 use Rattle.gl_catalog.specs.Manager.{ManagerView, state_of}
-use Rattle.gl_catalog.specs.Replies.{CallSteps, Notices, done, said}
-use Rattle.gl_catalog.proofs.RunsOn.{step_leaves_others}
-use Rattle.gl_catalog.proofs.Uncounted.{counted_call, refusal_counted}
+use Rattle.gl_catalog.specs.Replies.{Notices, done, said}
+use Rattle.gl_catalog.proofs.Uncounted.{refusal_counted}
 use Rattle.gl_catalog.proofs.manager.Manager.delete.Goals as goal
 
 pub returns-in_err-delete_telling-clause-counters : goal.returns-in_err-delete_telling-clause-counters
@@ -18,18 +15,16 @@ returns-in_err-delete_telling-clause-counters c =
     (ap (λ (v : ManagerView). v.counters) c.in_err-delete_telling.ensures.err ∙ sym (refusal_counted (state_of c.args.self.now) (state_of c.delete_telling.new.self) (command.Delete c.args.t c.args.rec) c.in_err-delete_telling.field-0.0 c.args.self.now.counters))
 
 pub returns-clause-step : goal.returns-clause-step
-returns-clause-step c =
-    subst (λ (v : ManagerView). CallSteps (state_of c.args.self.now) (command.Delete c.args.t c.args.rec) done (Ok c.delete_telling.new.told) (state_of v)) (sym (c.count.ensures (state_of c.args.self.now) refl)) c.in_ok-delete_telling.ensures.step
-
-pub returns-clause-counted : goal.returns-clause-counted
-returns-clause-counted c = ap (λ (v : ManagerView). v.accepted) (c.count.ensures (state_of c.args.self.now) refl) ∙ c.in_ok-delete_telling.ensures.counted
-
-pub returns-clause-counters : goal.returns-clause-counters
-returns-clause-counters c =
-    counted_call c.args.self.now c.delete_telling.new.self c.count.new.self (command.Delete c.args.t c.args.rec) answer.Done c.delete_telling.new.told.items (c.count.ensures (state_of c.args.self.now) refl) c.in_ok-delete_telling.ensures.counters
-
-pub returns-clause-others : goal.returns-clause-others
-returns-clause-others c = step_leaves_others (state_of c.args.self.now) (state_of c.count.new.self) (command.Delete c.args.t c.args.rec) (done c.delete_telling.new.told) c.law.ensures.lawful (returns-clause-step c)
+returns-clause-step c = c.in_ok-delete_telling.ensures.step
 
 pub returns-clause-deadlock : goal.returns-clause-deadlock
-returns-clause-deadlock c = subst (λ (v : ManagerView). KeepsAccepted (command.Delete c.args.t c.args.rec) c.args.self.now v) (sym (c.count.ensures (state_of c.args.self.now) refl)) c.in_ok-delete_telling.ensures.deadlock
+returns-clause-deadlock c = c.in_ok-delete_telling.ensures.completes.deadlock
+
+pub returns-clause-others : goal.returns-clause-others
+returns-clause-others c = c.in_ok-delete_telling.ensures.completes.others
+
+pub returns-clause-counted : goal.returns-clause-counted
+returns-clause-counted c = c.in_ok-delete_telling.ensures.completes.accepted
+
+pub returns-clause-counters : goal.returns-clause-counters
+returns-clause-counters c = c.in_ok-delete_telling.ensures.completes.counters

@@ -1,11 +1,15 @@
+use Rattle.std.proofs.Common.{ap, refl, ◌∙◌}
 use Rattle.std.proofs.lemmas.Result.{err_from_is_err_and}
 use Rattle.gl_graph.proofs.Unrefused.{verdict_ok}
 use Rattle.gl_table.proofs.calls.Locking.{test_refused}
 use Rattle.gl_catalog.specs.declared.command.Command.TheVariants as command
-use Rattle.gl_catalog.specs.Manager.{state_of}
+use Rattle.gl_catalog.specs.Manager.{ManagerView, state_of}
 use Rattle.gl_catalog.specs.Replies.{doing}
 use Rattle.gl_catalog.proofs.Carried.{refused_step}
 use Rattle.gl_catalog.proofs.Deletions.{deleted_step}
+use Rattle.gl_catalog.specs.declared.command.Answer.TheVariants as answer
+use Rattle.gl_catalog.specs.Sound.{view_of}
+use Rattle.gl_catalog.proofs.Completed.{notices_counted, told_completed}
 use Rattle.gl_catalog.proofs.manager.Manager.delete_telling.Goals as goal
 
 pub returns-in_err-check_delete-clause-step : goal.returns-in_err-check_delete-clause-step
@@ -17,3 +21,9 @@ pub returns-clause-step : goal.returns-clause-step
 returns-clause-step c =
     deleted_step c.self.inside.table c.remove_telling.new.self c.self.inside.accepted c.args.self.now c.self.view_is c.args.t c.args.rec c.remove_telling.new.notices
     (verdict_ok _ _ c.in_ok-check_delete.ensures) c.remove_telling.ensures.state c.remove_telling.ensures.told
+
+pub returns-clause-completes : goal.returns-clause-completes
+returns-clause-completes c =
+    told_completed (view_of c.self.inside) c.args.self.now (record { table = c.remove_telling.new.self; accepted = c.self.inside.accepted + 1; counters = c.add_notices.new.self }) c.self.view_is c.self.invariant
+    (command.Delete c.args.t c.args.rec) refl answer.Done c.remove_telling.new.notices.items c.as_slice.result.now (returns-clause-step c)
+    (c.remove_telling.ensures.deadlock ∙ ap (λ (v : ManagerView). v.table.deadlock) c.self.view_is) c.as_slice.ensures c.add_notices.ensures (notices_counted c.remove_telling.new.notices.items)

@@ -1,14 +1,16 @@
 use Rattle.std.specs.Prelude.{◌≡◌, ◌∷◌, ◌+◌, Err, None, Ok, true, false}
-use Rattle.std.proofs.Common.{rules, subst, sym, ◌∙◌}
+use Rattle.std.proofs.Common.{ap, rules, subst, sym, ◌∙◌}
 use Rattle.gl_graph.specs.Refusals.{first_refusal}
 use Rattle.gl_table.specs.model.Calls.{asked_by_escalation}
 use Rattle.gl_table.specs.model.Table.{state_of as table_state}
 use Rattle.gl_table.proofs.calls.Calls.{test_passed}
 use Rattle.gl_catalog.specs.declared.command.Command.TheVariants as command
-use Rattle.gl_catalog.specs.Manager.{ManagerView, counting, state_of}
+use Rattle.gl_catalog.specs.Counters.{rises, with_notices}
+use Rattle.gl_catalog.specs.Manager.{IsLawfulManager, ManagerView, counting, state_of}
 use Rattle.gl_catalog.specs.Replies.{CallSteps, rising}
 use Rattle.gl_catalog.specs.Sound.{view_of}
 use Rattle.gl_catalog.specs.Tests.{escalate_asks, worn}
+use Rattle.gl_catalog.proofs.Completed.{completed, escalation_counted}
 use Rattle.gl_catalog.proofs.Raising.{asked_is, asks_err, raised_active, raised_lives, reads, shed_step, tried_err}
 use Rattle.gl_catalog.proofs.manager.Manager.escalate_telling.Goals.{After-try_lock, then-writes_below, else-writes_below}
 use Rattle.gl_catalog.proofs.manager.Manager.escalate_telling.Goals as goal
@@ -60,3 +62,15 @@ returns-clause-step c =
     (shed_step c.self.inside.accepted (table_state c.self.inside.table) c.args.t c.args.n (passed p) c.if-writes_below.asked (asked p) (table_state c.try_lock.new.self) c.in_ok-mode.ensures.state
     c.self.invariant.lawful c.in_ok-mode.mode c.in_ok-mode.ensures.mode c.in_ok-mode.ensures.refuses c.shed_telling-released.result.0 c.shed_telling-released.result.1 c.shed_telling-released.new.notices (table_state c.shed_telling-released.new.self)
     c.shed_telling-released.ensures.state c.shed_telling-released.ensures.released c.shed_telling-released.ensures.kept c.shed_telling-released.ensures.told)
+
+pub returns-clause-completes : goal.returns-clause-completes
+returns-clause-completes c =
+    let told = c.shed_telling-released.new.notices.items in
+    let did = record { mode = c.in_ok-mode.mode; released = c.shed_telling-released.result.0; kept = c.shed_telling-released.result.1 } in
+    completed c.args.self.now (record { table = c.shed_telling-released.new.self; accepted = c.self.inside.accepted + 1; counters = c.add_notices.new.self }) (subst IsLawfulManager c.self.view_is c.self.invariant)
+    (command.Escalate c.args.t c.args.n) (rising told did) (returns-clause-step c)
+    (c.shed_telling-released.ensures.deadlock ∙ c.in_ok-mode.ensures.deadlock ∙ ap (λ (v : ManagerView). v.table.deadlock) c.self.view_is)
+    (ap (λ (v : ManagerView). v.accepted + 1) c.self.view_is)
+    (c.add_notices.ensures ∙ (λ i. with_notices (c.as_slice.ensures i) (c.add_escalation.ensures i))
+    ∙ ap (λ (v : ManagerView). with_notices told (record v.counters { escalations = rises v.counters.escalations 1; released_children = rises v.counters.released_children c.shed_telling-released.result.0 })) c.self.view_is
+    ∙ sym (escalation_counted (state_of c.args.self.now) (state_of (record { table = c.shed_telling-released.new.self; accepted = c.self.inside.accepted + 1; counters = c.add_notices.new.self })) c.args.t c.args.n did told c.args.self.now.counters))

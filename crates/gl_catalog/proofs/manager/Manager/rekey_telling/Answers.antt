@@ -1,5 +1,5 @@
 use Rattle.std.specs.Prelude.{◌≡◌, ◌+◌, Result, Ok, Err}
-use Rattle.std.proofs.Common.{subst, sym, rules}
+use Rattle.std.proofs.Common.{subst, sym, rules, ap, refl, ◌∙◌}
 use Rattle.gl_modes.specs.declared.refusal.Refusal.{Refusal}
 use Rattle.gl_graph.specs.Refusals.{verdict}
 use Rattle.gl_table.specs.model.Table.{state_of as table_state}
@@ -11,6 +11,8 @@ use Rattle.gl_catalog.specs.Sound.{view_of}
 use Rattle.gl_catalog.specs.Tests.{refusal_of}
 use Rattle.gl_catalog.proofs.Carried.{refused_step}
 use Rattle.gl_catalog.proofs.Rekeyings.{MayReparent, may_reparent, rekey_done}
+use Rattle.gl_catalog.specs.declared.command.Answer.TheVariants as answer
+use Rattle.gl_catalog.proofs.Completed.{notices_counted, told_completed}
 use Rattle.gl_catalog.proofs.manager.Manager.rekey_telling.Goals.{In_ok-check_rekey}
 use Rattle.gl_catalog.proofs.manager.Manager.rekey_telling.Goals as goal
 
@@ -50,3 +52,9 @@ returns-clause-step c =
     let at = (goal.at.returns-clause-step c).In_ok-check_rekey in
     subst (λ (v : ManagerView). CallSteps (state_of v) (command.Rekey c.args.t c.args.rec c.args.index c.args.key) (doing c.reparent_telling.new.notices.items) (Ok tt) (counting (c.self.inside.accepted + 1) (table_state c.reparent_telling.new.self))) c.self.view_is
     (rekey_done c.self.inside.accepted (table_state c.self.inside.table) (table_state c.reparent_telling.new.self) c.args.t c.args.rec c.args.index c.args.key c.reparent_telling.new.notices (asked at) c.reparent_telling.ensures.told c.reparent_telling.ensures.state)
+
+pub returns-clause-completes : goal.returns-clause-completes
+returns-clause-completes c =
+    told_completed (view_of c.self.inside) c.args.self.now (record { table = c.reparent_telling.new.self; accepted = c.self.inside.accepted + 1; counters = c.add_notices.new.self }) c.self.view_is c.self.invariant
+    (command.Rekey c.args.t c.args.rec c.args.index c.args.key) refl answer.Done c.reparent_telling.new.notices.items c.as_slice.result.now (returns-clause-step c)
+    (c.reparent_telling.ensures.deadlock ∙ ap (λ (v : ManagerView). v.table.deadlock) c.self.view_is) c.as_slice.ensures c.add_notices.ensures (notices_counted c.reparent_telling.new.notices.items)

@@ -1,5 +1,5 @@
 use Rattle.std.specs.Prelude.{◌≡◌, ◌∷◌, ◌+◌, Result, Ok, Err}
-use Rattle.std.proofs.Common.{subst, sym, rules}
+use Rattle.std.proofs.Common.{subst, sym, rules, ap, refl, ◌∙◌}
 use Rattle.gl_modes.specs.declared.refusal.Refusal.{Refusal}
 use Rattle.gl_graph.specs.Refusals.{first_refusal, verdict}
 use Rattle.gl_table.specs.model.Table.{TableView, state_of as table_state}
@@ -9,6 +9,8 @@ use Rattle.gl_catalog.specs.Replies.{CallSteps, doing}
 use Rattle.gl_catalog.specs.Sound.{view_of}
 use Rattle.gl_catalog.specs.Tests.{move_asks, worn}
 use Rattle.gl_catalog.proofs.Relocations.{MayRegraft, may_regraft, relocate_fails, relocate_refused, relocated}
+use Rattle.gl_catalog.specs.declared.command.Answer.TheVariants as answer
+use Rattle.gl_catalog.proofs.Completed.{notices_counted, told_completed}
 use Rattle.gl_catalog.proofs.manager.Manager.relocate_telling.Goals.{In_ok-check_relocate}
 use Rattle.gl_catalog.proofs.manager.Manager.relocate_telling.Goals as goal
 
@@ -55,3 +57,9 @@ pub returns-clause-step : goal.returns-clause-step
 returns-clause-step c = let at = (goal.at.returns-clause-step c).In_ok-check_relocate in
     subst (λ (v : ManagerView). CallSteps (state_of v) (command.Move c.args.t c.args.n c.args.parents) (doing c.regraft_telling.new.notices.items) (Ok tt) (counting (c.self.inside.accepted + 1) (table_state c.regraft_telling.new.self))) c.self.view_is
     (relocated c.self.inside.accepted (table_state c.self.inside.table) (table_state c.regraft_telling.new.self) c.args.t c.args.n c.args.parents c.regraft_telling.new.notices (asked at) c.in_ok-regraft_telling.ensures.clear c.in_ok-regraft_telling.ensures.told c.in_ok-regraft_telling.ensures.state)
+
+pub returns-clause-completes : goal.returns-clause-completes
+returns-clause-completes c =
+    told_completed (view_of c.self.inside) c.args.self.now (record { table = c.regraft_telling.new.self; accepted = c.self.inside.accepted + 1; counters = c.add_notices.new.self }) c.self.view_is c.self.invariant
+    (command.Move c.args.t c.args.n c.args.parents) refl answer.Done c.regraft_telling.new.notices.items c.as_slice.result.now (returns-clause-step c)
+    (c.in_ok-regraft_telling.ensures.deadlock ∙ ap (λ (v : ManagerView). v.table.deadlock) c.self.view_is) c.as_slice.ensures c.add_notices.ensures (notices_counted c.regraft_telling.new.notices.items)

@@ -1,5 +1,5 @@
-use Rattle.std.specs.Prelude.{Err, Result}
-use Rattle.std.proofs.Common.{ap, refl, rules, subst, sym, ◌≡◌}
+use Rattle.std.specs.Prelude.{◌+◌, Err, Result}
+use Rattle.std.proofs.Common.{ap, refl, rules, subst, sym, ◌≡◌, ◌∙◌}
 use Rattle.gl_modes.proofs.Words.{no}
 use Rattle.gl_modes.specs.declared.mode.Mode.{Mode}
 use Rattle.gl_modes.specs.declared.refusal.Refusal.{Refusal}
@@ -7,9 +7,11 @@ use Rattle.gl_table.specs.model.Calls.{try_tests}
 use Rattle.gl_table.specs.model.Table.{state_of as table_state}
 use Rattle.gl_catalog.specs.declared.command.Answer.TheVariants as answer
 use Rattle.gl_catalog.specs.declared.command.Command.TheVariants as command
-use Rattle.gl_catalog.specs.Manager.{counting, state_of}
+use Rattle.gl_catalog.specs.Counters.{one_if, rises}
+use Rattle.gl_catalog.specs.Manager.{IsLawfulManager, ManagerView, counting, state_of}
 use Rattle.gl_catalog.specs.Replies.{CallSteps, took}
 use Rattle.gl_catalog.proofs.Managed.{managed_err_or_memory, managed_ok, managed_worn, never_true}
+use Rattle.gl_catalog.proofs.Completed.{completed, try_counted}
 use Rattle.gl_catalog.proofs.manager.Manager.try_lock.Goals as goal
 
 pub returns-in_err-check_count-clause-step : goal.returns-in_err-check_count-clause-step
@@ -30,3 +32,11 @@ returns-clause-step c =
     managed_ok took (command.Try c.args.t c.args.n c.args.mode) c.self.inside.table c.self.inside.accepted c.args.self.now c.self.view_is (try_tests (table_state c.self.inside.table) c.args.t c.args.n c.args.mode) refl
     c.in_ok-mode.mode c.try_lock.new.self c.in_ok-check_count.ensures c.in_ok-mode.ensures.refuses refl
     (ap answer.Granted c.in_ok-mode.ensures.mode, refl, ap (counting c.self.inside.accepted) c.in_ok-mode.ensures.state)
+
+pub returns-clause-completes : goal.returns-clause-completes
+returns-clause-completes c =
+    completed c.args.self.now (record { table = c.try_lock.new.self; accepted = c.self.inside.accepted + 1; counters = c.add_grant.new.self }) (subst IsLawfulManager c.self.view_is c.self.invariant)
+    (command.Try c.args.t c.args.n c.args.mode) (took c.in_ok-mode.mode) (returns-clause-step c) (c.in_ok-mode.ensures.deadlock ∙ ap (λ (v : ManagerView). v.table.deadlock) c.self.view_is)
+    (ap (λ (v : ManagerView). v.accepted + 1) c.self.view_is)
+    (c.add_grant.ensures ∙ ap (λ (v : ManagerView). record v.counters { granted = rises v.counters.granted 1; conversions = rises v.counters.conversions (one_if c.holds_already-converts.result) }) c.self.view_is
+    ∙ sym (try_counted (state_of c.args.self.now) (state_of (record { table = c.try_lock.new.self; accepted = c.self.inside.accepted + 1; counters = c.add_grant.new.self })) c.args.t c.args.n c.in_ok-mode.mode c.args.mode c.holds_already-converts.result c.args.self.now.counters c.holds_already-converts.ensures))

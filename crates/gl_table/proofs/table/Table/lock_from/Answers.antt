@@ -8,8 +8,8 @@ use Rattle.gl_table.proofs.calls.Queries.{modes-seen}
 use Rattle.gl_table.proofs.inside.Asks.{answer-enters, answer-granted, answer-waits}
 use Rattle.gl_table.proofs.law.Keeps.{txn_there}
 use Rattle.gl_table.proofs.law.Lock.{MayLock}
-use Rattle.gl_table.proofs.table.Table.lock_telling.Goals.{After-ask, In-Granted, In-Waiting}
-use Rattle.gl_table.proofs.table.Table.lock_telling.Goals as goal
+use Rattle.gl_table.proofs.table.Table.lock_from.Goals.{After-ask, In-Granted, In-Waiting}
+use Rattle.gl_table.proofs.table.Table.lock_from.Goals as goal
 
 -- the tests of the ask passed, and this is the mode held
 checked : (c : After-ask) → (first_refusal (lock_tests (state_of c.args.self.now) c.args.t c.args.n c.args.mode) ≡ None)
@@ -146,3 +146,9 @@ returns-in-Waiting-clause-deadlock c =
 pub returns-in-Waiting-clause-refuses : goal.returns-in-Waiting-clause-refuses
 returns-in-Waiting-clause-refuses c =
     unrefused _ _ (answered-ok _ _ _ c.in_ok-held.ensures).0
+
+pub returns-in-Granted-clause-before : goal.returns-in-Granted-clause-before
+returns-in-Granted-clause-before c = (answered-ok _ _ _ c.in_ok-held.ensures).1
+
+pub returns-in-Waiting-clause-before : goal.returns-in-Waiting-clause-before
+returns-in-Waiting-clause-before c = (answered-ok _ _ _ c.in_ok-held.ensures).1

@@ -1,0 +1,17 @@
+-- What a call of the manager does beside its step, where it is not refused.
+use Rattle.std.specs.Prelude.{◌≡◌, ◌+◌}
+use Rattle.gl_catalog.specs.declared.command.Command.{Command}
+use Rattle.gl_catalog.specs.Counters.{counted}
+use Rattle.gl_catalog.specs.Deadlocks.{KeepsAccepted}
+use Rattle.gl_catalog.specs.Manager.{ManagerView, state_of}
+use Rattle.gl_catalog.specs.Promises.{KeepsCaller, SettlesIdle, StepLeavesOthers}
+use Rattle.gl_catalog.specs.Replies.{Says}
+
+-- a command that was answered so is accepted once and counted, keeps of deadlocks what it is to keep, and leaves its caller, all others and those on no cycle what it is to leave them
+pub record Completes (c : Command) (m : ManagerView) (r : Says) (m' : ManagerView) : Type 0 where
+  pub accepted : m'.accepted ≡ m.accepted + 1
+  pub counters : m'.counters ≡ counted (state_of m) c r.0 r.1 (state_of m') m.counters
+  pub deadlock : KeepsAccepted c m m'
+  pub caller : KeepsCaller c (state_of m) (state_of m')
+  pub others : StepLeavesOthers (state_of m) c r (state_of m')
+  pub settles : SettlesIdle (state_of m) c r.0 r.1 (state_of m')
