@@ -1,5 +1,8 @@
-//! Transactions, and the locks that they ask for and give back. Calls that tell somebody fill a list
-//! that is empty before.
+//! Transactions, and the locks that they ask for and give back.
+//!
+//! Each call does what `apply` does for its command, with no command and no answer to be matched. It is
+//! refused with `WornOut` where no command can be counted any more, and then as the call of the table
+//! by its name. Calls that tell somebody fill a list that is empty before.
 
 ghost use Rattle.std.specs.Prelude.{◌≡◌, [], IfOk, OnErr};
 ghost use Rattle.gl_catalog.specs.declared.command.Command.TheVariants as command;
@@ -12,7 +15,7 @@ use gl_modes::{Mode, NodeId, Refusal};
 use gl_table::{Locked, Told, TxnId};
 
 impl Manager {
-    /// Begins a transaction.
+    /// Begins a transaction, in the lowest free slot. It may want memory.
     pub fn begin(&mut self) -> Result<TxnId, Refusal>
         ensures step { CallSteps (state_of self.old) command.Begin began result (state_of self.new) }
         ensures completes { IfOk result (λ x. Completes command.Begin self.old (began x) self.new) }
@@ -25,7 +28,8 @@ impl Manager {
         Ok(txn)
     }
 
-    /// Asks for a mode on a node, and waits where it cannot be granted at once.
+    /// Asks for a mode on a node, and waits where it cannot be granted at once. With detection at block
+    /// the asker is settled then. It may want memory.
     pub fn lock_telling(
         &mut self,
         t: TxnId,
@@ -47,7 +51,8 @@ impl Manager {
         Ok(locked)
     }
 
-    /// Asks for a mode on a node, and is refused where it cannot be granted at once.
+    /// Asks for a mode on a node, and is refused with `WouldBlock` where it cannot be granted at once.
+    /// It may want memory, but where the node is held.
     pub fn try_lock(&mut self, t: TxnId, n: NodeId, mode: Mode) -> Result<Mode, Refusal>
         ensures step { CallSteps (state_of self.old) (command.Try t n mode) took result (state_of self.new) }
         ensures completes { IfOk result (λ x. Completes (command.Try t n mode) self.old (took x) self.new) }
@@ -62,13 +67,8 @@ impl Manager {
         Ok(mode)
     }
 
-    /// Releases one node.
-    pub fn unlock_telling(
-        &mut self,
-        t: TxnId,
-        n: NodeId,
-        told: &mut Told,
-    ) -> Result<(), Refusal>
+    /// Releases one node, of which no child is held; it grants from its front. It takes no memory.
+    pub fn unlock_telling(&mut self, t: TxnId, n: NodeId, told: &mut Told) -> Result<(), Refusal>
         requires empty { told.old.items ≡ [] }
         ensures step { CallSteps (state_of self.old) (command.Unlock t n) (doing told.new.items) result (state_of self.new) }
         ensures completes { IfOk result (λ x. Completes (command.Unlock t n) self.old (doing told.new.items x) self.new) }
@@ -83,7 +83,7 @@ impl Manager {
         Ok(())
     }
 
-    /// Takes back the wait of a transaction.
+    /// Takes back the wait of a transaction; its node grants from its front. It takes no memory.
     pub fn cancel_telling(&mut self, t: TxnId, told: &mut Told) -> Result<(), Refusal>
         requires empty { told.old.items ≡ [] }
         ensures step { CallSteps (state_of self.old) (command.Cancel t) (doing told.new.items) result (state_of self.new) }
@@ -99,7 +99,7 @@ impl Manager {
         Ok(())
     }
 
-    /// Ends a transaction and releases everything.
+    /// Ends an active transaction and releases everything. It takes no memory.
     pub fn commit_telling(&mut self, t: TxnId, told: &mut Told) -> Result<(), Refusal>
         requires empty { told.old.items ≡ [] }
         ensures step { CallSteps (state_of self.old) (command.Commit t) (doing told.new.items) result (state_of self.new) }
@@ -115,7 +115,7 @@ impl Manager {
         Ok(())
     }
 
-    /// Ends a transaction whatever it is doing, and releases everything.
+    /// Ends a transaction whatever it is doing, and releases everything. It takes no memory.
     pub fn abort_telling(&mut self, t: TxnId, told: &mut Told) -> Result<(), Refusal>
         requires empty { told.old.items ≡ [] }
         ensures step { CallSteps (state_of self.old) (command.Abort t) (doing told.new.items) result (state_of self.new) }
@@ -131,7 +131,8 @@ impl Manager {
         Ok(())
     }
 
-    /// Condemns victims, by the choice of victims, until the transaction is on no cycle.
+    /// Condemns victims, by the choice of victims, until the transaction is on no cycle. It takes no
+    /// memory.
     pub fn settle_telling(&mut self, t: TxnId, told: &mut Told) -> Result<(), Refusal>
         requires empty { told.old.items ≡ [] }
         ensures step { CallSteps (state_of self.old) (command.Settle t) (doing told.new.items) result (state_of self.new) }

@@ -65,12 +65,7 @@ impl Manager {
     }
 
     /// As `delete`, with the notices put into an empty list.
-    pub fn delete_telling(
-        &mut self,
-        t: TxnId,
-        rec: NodeId,
-        told: &mut Told,
-    ) -> Result<(), Refusal>
+    pub fn delete_telling(&mut self, t: TxnId, rec: NodeId, told: &mut Told) -> Result<(), Refusal>
         requires empty { told.old.items ≡ [] }
         ensures step { CallSteps (state_of self.old) (command.Delete t rec) (doing told.new.items) result (state_of self.new) }
         ensures completes { IfOk result (λ x. Completes (command.Delete t rec) self.old (doing told.new.items x) self.new) }

@@ -307,7 +307,6 @@ returns-in-Held-clause-counters c =
 pub returns-in-Effective-clause-deadlock : goal.returns-in-Effective-clause-deadlock
 returns-in-Effective-clause-deadlock c = keeps_asked answer.Effect c.args.self.now (command.Effective c.in-Effective.txn c.in-Effective.node) c.args.command c.effective.result c.effect_answer.result (λ x. refl) c.effect_answer.ensures c.in-Effective.is
 
-
 pub returns-in-Effective-clause-counters : goal.returns-in-Effective-clause-counters
 returns-in-Effective-clause-counters c =
     asked_counts answer.Effect (state_of c.args.self.now) (state_of c.args.self.now) (command.Effective c.in-Effective.txn c.in-Effective.node) c.args.command c.effective.result c.effect_answer.result
