@@ -251,3 +251,13 @@ module _ (i : Inside) (sound : IsSound i) (t : TxnId) (n : NodeId) (m : Mode) (m
           others : {A : Type 0} (b : Bool) (x y : A) → b ≡ false → (if b then x else y) ≡ y
           others true x y e = clash (sym e) refl
           others false x y e = refl
+
+-- what is refused is so whatever it would have answered
+pub refuses_err : (A B : Type 0) (o : Option Refusal) (r : Refusal) → Refuses {T = A} o (Err r) → Refuses {T = B} o (Err r)
+refuses_err A B None r h = h
+refuses_err A B (Some x) r h = let same : r ≡ x = cc in ap Err same
+
+-- and so is what is not
+pub refuses_ok : {A B : Type 0} (o : Option Refusal) (x : A) (y : B) → Refuses o (Ok x) → Refuses o (Ok y)
+refuses_ok None x y h = tt
+refuses_ok (Some r) x y h = absurd (cc)

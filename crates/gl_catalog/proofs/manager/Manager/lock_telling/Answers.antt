@@ -1,15 +1,14 @@
-use Rattle.std.specs.Prelude.{◌+◌, Err, None, Ok, Option, Result, Some, not}
+use Rattle.std.specs.Prelude.{◌+◌, Err, Ok, Result, not}
 use Rattle.std.proofs.Common.{ap, refl, rules, subst, sym, ◌≡◌, ◌∙◌}
 use Rattle.gl_modes.proofs.Words.{no}
 use Rattle.gl_modes.specs.Modes.{same_mode}
-use Rattle.gl_modes.specs.declared.mode.Mode.{Mode}
 use Rattle.gl_modes.specs.declared.mode.Mode.TheVariants.{NL}
 use Rattle.gl_modes.specs.declared.refusal.Refusal.{Refusal}
-use Rattle.gl_graph.specs.Refusals.{Refuses, first_refusal}
 use Rattle.gl_table.specs.declared.answers.Locked.{Locked}
 use Rattle.gl_table.specs.model.Deadlocks.{LocksKeeping}
 use Rattle.gl_table.specs.model.Calls.{lock_tests}
 use Rattle.gl_table.specs.model.Table.{state_of as table_state}
+use Rattle.gl_table.proofs.calls.Locking.{refuses_ok}
 use Rattle.gl_catalog.specs.declared.command.Command.TheVariants as command
 use Rattle.gl_catalog.specs.Completes.{Completes}
 use Rattle.gl_catalog.specs.Counters.{holds_already, lock_counted}
@@ -36,12 +35,8 @@ locked c = record { table = c.lock_from.new.self; accepted = c.self.inside.accep
 stepped : (c : After-count_lock) → CallSteps (state_of c.args.self.now) (command.Lock c.args.t c.args.n c.args.mode) (asking c.lock_from.new.notices.items) (Ok c.in_ok-held.locked) (state_of (locked c))
 stepped c =
     managed_ok (asking c.lock_from.new.notices.items) (command.Lock c.args.t c.args.n c.args.mode) c.self.inside.table c.self.inside.accepted c.args.self.now c.self.view_is (lock_tests (table_state c.self.inside.table) c.args.t c.args.n c.args.mode) refl
-    c.in_ok-held.locked c.lock_from.new.self c.in_ok-check_count.ensures (passes (first_refusal (lock_tests (table_state c.self.inside.table) c.args.t c.args.n c.args.mode)) c.in_ok-held.ensures.refuses) refl
+    c.in_ok-held.locked c.lock_from.new.self c.in_ok-check_count.ensures (refuses_ok _ _ c.in_ok-held.locked c.in_ok-held.ensures.refuses) refl
     (locks_counting c.self.inside.accepted (table_state c.self.inside.table) c.args.t.slot c.args.n c.args.mode (table_state c.lock_from.new.self) c.in_ok-held.ensures.state, ap answer_of_lock c.in_ok-held.ensures.answer, c.in_ok-held.ensures.told)
-  where
-    passes : (o : Option Refusal) → Refuses {T = Mode × Locked} o (Ok (c.in_ok-held.held, c.in_ok-held.locked)) → Refuses {T = Locked} o (Ok c.in_ok-held.locked)
-    passes None h = tt
-    passes (Some r) h = absurd (cc)
 
 kept : (c : After-count_lock) → LocksKeeping (state_of c.args.self.now) c.args.t.slot c.args.n c.args.mode c.args.self.now.table.deadlock (counting c.args.self.now.accepted (table_state c.lock_from.new.self)) c.lock_from.new.self.deadlock
 kept c =
