@@ -6,7 +6,6 @@ use Rattle.gl_modes.specs.declared.refusal.Refusal.{Refusal}
 use Rattle.gl_graph.specs.Refusals.{Refuses}
 use Rattle.gl_modes.specs.declared.node.NodeId.{NodeId}
 use Rattle.gl_table.specs.declared.answers.Locked.{Locked}
-use Rattle.gl_table.specs.declared.answers.Notice.{Notice}
 use Rattle.gl_table.specs.declared.txn.TxnId.{TxnId}
 use Rattle.gl_table.specs.declared.answers.Locked.TheVariants as locked
 use Rattle.gl_table.specs.model.Calls.{answered}
@@ -82,12 +81,15 @@ module _ {A : Type 0} (answers : A → Answer) (v v' : ManagerView) (c c' : Comm
 
 -- a call that tells nobody leaves the list empty
 module _ {A : Type 0} (answers : A → Answer) (v v' : ManagerView) (c c' : Command) (list : Told) (result : Result A Refusal) (completes : IfOk result (λ x. Completes c v (answers x, []) v')) (err : OnErr result (v' ≡ v)) where
+  abbrev nobody : Told
+  nobody = []
+
   pub quiet_counts : (a : Answer) (told : Notices) → told.items ≡ [] → a ≡ (said (λ x. (answers x, [])) result).0 → c' ≡ c → v'.counters ≡ counted (state_of v) c' a told.items (state_of v') v.counters
   quiet_counts a told empty same is =
       subst (λ (l : Told). v'.counters ≡ counted (state_of v) c' a l (state_of v') v.counters) (sym empty)
       (counts_answered answers v v' c c' [] result completes err a (by result) same is)
     where
-      by : (r : Result A Refusal) → OnErr {E = Refusal} r ([] {A = TxnId × Notice} ≡ [])
+      by : (r : Result A Refusal) → OnErr r (nobody ≡ nobody)
       by (Ok x) = tt
       by (Err r) = refl
 

@@ -158,18 +158,10 @@ module _ (s : State) (n : NodeId) (converts : Bool) (told : Told) (k : Counters)
   noted : (a : Answer) → rises (rises k.victims (one_if (condemns a))) (count_by is_victim told) ≡ rises k.victims (count_by is_victim told + one_if (condemns a))
   noted a = rises_twice k.victims (one_if (condemns a)) (count_by is_victim told) ∙ ap (rises k.victims) (omega arith)
 
-  -- the lock was answered at once
-  pub lock_noted : (a : Answer) → waits a ≡ false → with_notices told (with_lock a) ≡ lock_counted s n converts a told k
-  lock_noted a idle = λ i. record (lock_counted s n converts a told k) {
+  pub lock_noted : (a : Answer) (waiting queued : ℕ) → waiting ≡ (if waits a then waiting_in s else 0) → queued ≡ (if waits a then length (s.queue n) else 0)
+      → with_notices told (record (with_lock a) { most_waiting = max k.most_waiting waiting; longest_queue = max k.longest_queue queued }) ≡ lock_counted s n converts a told k
+  lock_noted a waiting queued w q = λ i. record (lock_counted s n converts a told k) {
     victims = noted a i;
-    most_waiting = (sym (max_none k.most_waiting) ∙ ap (λ b. max k.most_waiting (if b then waiting_in s else 0)) (sym idle)) i;
-    longest_queue = (sym (max_none k.longest_queue) ∙ ap (λ b. max k.longest_queue (if b then length (s.queue n) else 0)) (sym idle)) i;
-  }
-
-  -- the lock waits
-  pub wait_noted : (a : Answer) → waits a ≡ true → with_notices told (record (with_lock a) { most_waiting = max k.most_waiting (waiting_in s); longest_queue = max k.longest_queue (length (s.queue n)) }) ≡ lock_counted s n converts a told k
-  wait_noted a waiting = λ i. record (lock_counted s n converts a told k) {
-    victims = noted a i;
-    most_waiting = ap (λ b. max k.most_waiting (if b then waiting_in s else 0)) (sym waiting) i;
-    longest_queue = ap (λ b. max k.longest_queue (if b then length (s.queue n) else 0)) (sym waiting) i;
+    most_waiting = max k.most_waiting (w i);
+    longest_queue = max k.longest_queue (q i);
   }

@@ -1,8 +1,8 @@
 //! What the manager counts of each command.
 
-ghost use Rattle.std.specs.Prelude.{◌≡◌, length};
+ghost use Rattle.std.specs.Prelude.{◌≡◌, if◌then◌else◌, length};
 ghost use Rattle.gl_table.specs.model.State.{status_of, is_wait};
-ghost use Rattle.gl_catalog.specs.Counters.{holds_already, lock_counted, waiting_in};
+ghost use Rattle.gl_catalog.specs.Counters.{holds_already, lock_counted, waiting_in, waits};
 ghost use Rattle.gl_catalog.specs.Manager.{state_of};
 ghost use Rattle.gl_catalog.specs.Step.{answer_of_lock};
 
@@ -31,13 +31,22 @@ impl Manager {
         ensures { self.new ≡ record self.old { counters = lock_counted (state_of self.old) n converts (answer_of_lock locked) told.now self.old.counters } }
     {
         self.law();
+        let (waiting, queued) = self.waits_seen(n, locked);
         self.counters.add_lock(converts, locked);
-        if matches!(locked, Locked::Waiting) {
-            let waiting = self.waiting_now();
-            let queued = self.queue_length(n);
-            self.counters.add_waits(waiting, queued);
-        }
+        self.counters.add_waits(waiting, queued);
         self.counters.add_notices(told);
+    }
+
+    /// How many transactions wait, and how many of them for a node, where a lock left its asker waiting;
+    /// else none.
+    fn waits_seen(&self, n: NodeId, locked: Locked) -> (u64, u64)
+        ensures waiting { result.0 ≡ (if waits (answer_of_lock locked) then waiting_in (state_of self.now) else 0) }
+        ensures queued { result.1 ≡ (if waits (answer_of_lock locked) then length ((state_of self.now).queue n) else 0) }
+    {
+        match locked {
+            Locked::Waiting => (self.waiting_now(), self.queue_length(n)),
+            _ => (0, 0),
+        }
     }
 
     /// Whether a transaction lives and holds a node.

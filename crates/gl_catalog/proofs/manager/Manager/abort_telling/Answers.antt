@@ -1,4 +1,4 @@
-use Rattle.std.proofs.Common.{ap, refl, ◌∙◌}
+use Rattle.std.proofs.Common.{◌+◌, ap, refl, ◌∙◌}
 use Rattle.gl_table.specs.model.Calls.{living_tests}
 use Rattle.gl_table.specs.model.Table.{state_of as table_state}
 use Rattle.gl_catalog.specs.declared.command.Command.TheVariants as command
@@ -20,4 +20,4 @@ pub returns-clause-completes : goal.returns-clause-completes
 returns-clause-completes c =
     told_completed (view_of c.self.inside) c.args.self.now (record { table = c.abort_telling.new.self; accepted = c.self.inside.accepted + 1; counters = c.add_notices.new.self }) c.self.view_is c.self.invariant
     (command.Abort c.args.t) refl answer.Done c.abort_telling.new.notices.items c.as_slice.result.now (returns-clause-step c)
-    (c.in_ok-abort_telling.ensures.deadlock ∙ ap (λ (v : ManagerView). v.table.deadlock) c.self.view_is) c.as_slice.ensures c.add_notices.ensures (notices_counted c.abort_telling.new.notices.items)
+    (c.in_ok-abort_telling.ensures.deadlock ∙ ap (λ (v : ManagerView). v.table.deadlock) c.self.view_is) c.as_slice.ensures.value c.add_notices.ensures (notices_counted c.abort_telling.new.notices.items)

@@ -1,5 +1,5 @@
 use Rattle.std.specs.Prelude.{Err, Result, ℕ}
-use Rattle.std.proofs.Common.{ap, refl, rules, subst, sym, ◌≡◌, ◌∙◌}
+use Rattle.std.proofs.Common.{◌+◌, ap, refl, rules, subst, sym, ◌≡◌, ◌∙◌}
 use Rattle.gl_modes.specs.declared.refusal.Refusal.{Refusal}
 use Rattle.gl_table.specs.declared.txn.TxnId.{TxnId}
 use Rattle.gl_table.specs.model.Calls.{begin_tests}

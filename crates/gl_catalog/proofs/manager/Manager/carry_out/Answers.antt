@@ -1,14 +1,12 @@
-use Rattle.std.specs.Prelude.{[], IfOk}
+use Rattle.std.specs.Prelude.{[]}
 use Rattle.std.proofs.Common.{refl, subst}
 use Rattle.gl_catalog.specs.declared.command.Answer.TheVariants as answer
 use Rattle.gl_catalog.specs.declared.command.Command.TheVariants as command
 use Rattle.gl_catalog.specs.Manager.{ManagerView, state_of}
-use Rattle.gl_catalog.specs.Completes.{Completes}
-use Rattle.gl_catalog.specs.Replies.{CallSteps, made, read_effect, read_mode}
+use Rattle.gl_catalog.specs.Replies.{CallSteps, read_effect, read_mode}
 use Rattle.gl_catalog.specs.Step.{answer_of_lock}
 use Rattle.gl_catalog.proofs.Applied.{answered_step, asked_counts, asked_step, fills, insert_completes, keeps_answered, keeps_asked, keeps_locked, list_counts, quiet, quiet_counts, uncounted}
 use Rattle.gl_catalog.proofs.Uncounted.{raised_by_none}
-use Rattle.gl_catalog.proofs.manager.Manager.carry_out.Goals.{In-Insert}
 use Rattle.gl_catalog.proofs.manager.Manager.carry_out.Goals as goal
 
 pub returns-in-Inner-clause-step : goal.returns-in-Inner-clause-step
@@ -206,21 +204,17 @@ returns-in-Settle-clause-counters c =
 pub returns-in-Insert-clause-step : goal.returns-in-Insert-clause-step
 returns-in-Insert-clause-step c = quiet answer.Node (state_of c.args.self.now) (state_of c.insert.new.self) _ c.args.command c.insert.result c.node_answer-in-Insert.result c.args.told.now c.insert.ensures.step c.node_answer-in-Insert.ensures c.requires.empty c.in-Insert.is
 
--- an insert completes its command
-inserted : (c : In-Insert) → IfOk c.insert.result (λ n. Completes (command.Insert c.in-Insert.txn c.in-Insert.file c.in-Insert.keys) c.args.self.now (made n) c.insert.new.self)
-inserted c = insert_completes c.args.self.now c.insert.new.self _ _ _ c.insert.result c.insert.ensures.deadlock c.insert.ensures.others c.insert.ensures.counted c.insert.ensures.counters
-
 pub returns-in-Insert-clause-deadlock : goal.returns-in-Insert-clause-deadlock
 returns-in-Insert-clause-deadlock c =
-    keeps_answered answer.Node c.args.self.now c.insert.new.self _ c.args.command [] c.insert.result (inserted c) c.insert.ensures.err
+    keeps_answered answer.Node c.args.self.now c.insert.new.self _ c.args.command [] c.insert.result (insert_completes c.args.self.now c.insert.new.self c.in-Insert.txn c.in-Insert.file c.in-Insert.keys c.insert.result c.insert.ensures.deadlock c.insert.ensures.others c.insert.ensures.counted c.insert.ensures.counters) c.insert.ensures.err
     c.node_answer-in-Insert.result (λ x h. h) c.node_answer-in-Insert.ensures c.in-Insert.is
 
 pub returns-in-Insert-clause-same : goal.returns-in-Insert-clause-same
-returns-in-Insert-clause-same c = uncounted answer.Node c.args.self.now c.insert.new.self _ c.args.command [] c.insert.result (inserted c) c.insert.ensures.err
+returns-in-Insert-clause-same c = uncounted answer.Node c.args.self.now c.insert.new.self _ c.args.command [] c.insert.result (insert_completes c.args.self.now c.insert.new.self c.in-Insert.txn c.in-Insert.file c.in-Insert.keys c.insert.result c.insert.ensures.deadlock c.insert.ensures.others c.insert.ensures.counted c.insert.ensures.counters) c.insert.ensures.err
 
 pub returns-in-Insert-clause-counters : goal.returns-in-Insert-clause-counters
 returns-in-Insert-clause-counters c =
-    quiet_counts answer.Node c.args.self.now c.insert.new.self _ c.args.command [] c.insert.result (inserted c) c.insert.ensures.err
+    quiet_counts answer.Node c.args.self.now c.insert.new.self _ c.args.command [] c.insert.result (insert_completes c.args.self.now c.insert.new.self c.in-Insert.txn c.in-Insert.file c.in-Insert.keys c.insert.result c.insert.ensures.deadlock c.insert.ensures.others c.insert.ensures.counted c.insert.ensures.counters) c.insert.ensures.err
     c.node_answer-in-Insert.result c.args.told.now c.requires.empty c.node_answer-in-Insert.ensures c.in-Insert.is
 
 pub returns-in-Delete-clause-step : goal.returns-in-Delete-clause-step

@@ -5,6 +5,7 @@ use Rattle.gl_table.specs.model.Calls.{asked_by_escalation}
 use Rattle.gl_table.specs.model.Table.{state_of as table_state}
 use Rattle.gl_table.proofs.calls.Calls.{test_passed}
 use Rattle.gl_catalog.specs.declared.command.Command.TheVariants as command
+use Rattle.gl_catalog.specs.declared.command.Escalated.{Escalated}
 use Rattle.gl_catalog.specs.Counters.{rises, with_notices}
 use Rattle.gl_catalog.specs.Manager.{IsLawfulManager, ManagerView, counting, state_of}
 use Rattle.gl_catalog.specs.Replies.{CallSteps, rising}
@@ -66,11 +67,11 @@ returns-clause-step c =
 pub returns-clause-completes : goal.returns-clause-completes
 returns-clause-completes c =
     let told = c.shed_telling-released.new.notices.items in
-    let did = record { mode = c.in_ok-mode.mode; released = c.shed_telling-released.result.0; kept = c.shed_telling-released.result.1 } in
+    let did : Escalated = record { mode = c.in_ok-mode.mode; released = c.shed_telling-released.result.0; kept = c.shed_telling-released.result.1 } in
     completed c.args.self.now (record { table = c.shed_telling-released.new.self; accepted = c.self.inside.accepted + 1; counters = c.add_notices.new.self }) (subst IsLawfulManager c.self.view_is c.self.invariant)
     (command.Escalate c.args.t c.args.n) (rising told did) (returns-clause-step c)
     (c.shed_telling-released.ensures.deadlock ∙ c.in_ok-mode.ensures.deadlock ∙ ap (λ (v : ManagerView). v.table.deadlock) c.self.view_is)
     (ap (λ (v : ManagerView). v.accepted + 1) c.self.view_is)
-    (c.add_notices.ensures ∙ (λ i. with_notices (c.as_slice.ensures i) (c.add_escalation.ensures i))
+    (c.add_notices.ensures ∙ (λ i. with_notices (c.as_slice.ensures.value i) (c.add_escalation.ensures i))
     ∙ ap (λ (v : ManagerView). with_notices told (record v.counters { escalations = rises v.counters.escalations 1; released_children = rises v.counters.released_children c.shed_telling-released.result.0 })) c.self.view_is
     ∙ sym (escalation_counted (state_of c.args.self.now) (state_of (record { table = c.shed_telling-released.new.self; accepted = c.self.inside.accepted + 1; counters = c.add_notices.new.self })) c.args.t c.args.n did told c.args.self.now.counters))

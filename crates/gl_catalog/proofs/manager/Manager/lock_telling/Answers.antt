@@ -8,7 +8,7 @@ use Rattle.gl_table.specs.declared.answers.Locked.{Locked}
 use Rattle.gl_table.specs.model.Deadlocks.{LocksKeeping}
 use Rattle.gl_table.specs.model.Calls.{lock_tests}
 use Rattle.gl_table.specs.model.Table.{state_of as table_state}
-use Rattle.gl_table.proofs.calls.Locking.{refuses_ok}
+use Rattle.gl_table.proofs.calls.Locking.{refuses_err, refuses_ok}
 use Rattle.gl_catalog.specs.declared.command.Command.TheVariants as command
 use Rattle.gl_catalog.specs.Completes.{Completes}
 use Rattle.gl_catalog.specs.Counters.{holds_already, lock_counted}
@@ -21,12 +21,12 @@ use Rattle.gl_catalog.proofs.Completed.{completed, lock_converts, lock_counts}
 use Rattle.gl_catalog.proofs.manager.Manager.lock_telling.Goals.{After-count_lock}
 use Rattle.gl_catalog.proofs.manager.Manager.lock_telling.Goals as goal
 
-pub returns-in_err-locked-clause-step : goal.returns-in_err-locked-clause-step
-returns-in_err-locked-clause-step c =
-    let is : c.from_residual-in_err-locked.result ≡ Err c.in_err-locked.field-0.0 = search rules in
+pub returns-in_err-held-clause-step : goal.returns-in_err-held-clause-step
+returns-in_err-held-clause-step c =
+    let is : c.from_residual-in_err-held.result ≡ Err c.in_err-held.field-0.0 = search rules in
     subst (λ (r : Result Locked Refusal). CallSteps (state_of c.args.self.now) (command.Lock c.args.t c.args.n c.args.mode) (asking c.lock_from.new.notices.items) r (counting c.self.inside.accepted (table_state c.lock_from.new.self))) (sym is)
     (managed_err_or_memory (asking c.lock_from.new.notices.items) (command.Lock c.args.t c.args.n c.args.mode) c.self.inside.table c.self.inside.accepted c.args.self.now c.self.view_is (lock_tests (table_state c.self.inside.table) c.args.t c.args.n c.args.mode) refl
-    c.in_err-locked.field-0.0 c.lock_from.new.self c.in_ok-check_count.ensures (λ none. not_both _ _ (λ enters holds. no (c.in_err-locked.ensures.held none enters holds))) c.in_err-locked.ensures.refuses c.in_err-locked.ensures.err)
+    c.in_err-held.field-0.0 c.lock_from.new.self c.in_ok-check_count.ensures (λ none. not_both _ _ (λ enters holds. no (c.in_err-held.ensures.held none enters holds))) (refuses_err _ _ _ c.in_err-held.field-0.0 c.in_err-held.ensures.refuses) c.in_err-held.ensures.err)
 
 -- the manager as the lock left it, before it is counted
 abbrev locked : After-count_lock → ManagerView
@@ -50,7 +50,8 @@ noted c = record (locked c) { counters = lock_counted (state_of (locked c)) c.ar
 -- the node was held before
 converts : (c : After-count_lock) → c.ne.result ≡ holds_already (state_of c.args.self.now) c.args.t c.args.n
 converts c =
-    c.ne.ensures ∙ ap (λ m. not (same_mode m NL)) c.in_ok-held.ensures.before
+    let is : c.ne.result ≡ not (same_mode c.in_ok-held.held NL) = search rules in
+    is ∙ ap (λ m. not (same_mode m NL)) c.in_ok-held.ensures.before
     ∙ sym (lock_converts (table_state c.self.inside.table) c.args.t c.args.n c.args.mode (c.in_ok-held.held, c.in_ok-held.locked) c.in_ok-held.ensures.refuses)
     ∙ ap (λ (v : ManagerView). holds_already (state_of v) c.args.t c.args.n) c.self.view_is
 
@@ -63,5 +64,5 @@ returns-clause-completes c =
     subst (λ (v : ManagerView). Completes (command.Lock c.args.t c.args.n c.args.mode) c.args.self.now (asking c.lock_from.new.notices.items c.in_ok-held.locked) v) (sym c.count_lock.ensures)
     (completed c.args.self.now (noted c) (subst IsLawfulManager c.self.view_is c.self.invariant) (command.Lock c.args.t c.args.n c.args.mode) (asking c.lock_from.new.notices.items c.in_ok-held.locked) (stepped c) (kept c)
     (ap (λ (v : ManagerView). v.accepted + 1) c.self.view_is)
-    ((λ i. lock_counted (state_of (locked c)) c.args.n c.ne.result (answer_of_lock c.in_ok-held.locked) (c.as_slice.ensures i) (c.self.view_is i).counters)
+    ((λ i. lock_counted (state_of (locked c)) c.args.n c.ne.result (answer_of_lock c.in_ok-held.locked) (c.as_slice.ensures.value i) (c.self.view_is i).counters)
     ∙ lock_counts (state_of c.args.self.now) (state_of (locked c)) c.args.t c.args.n c.args.mode c.lock_from.new.notices.items c.ne.result c.args.self.now.counters (converts c) c.in_ok-held.locked))

@@ -1,4 +1,4 @@
-use Rattle.std.proofs.Common.{refl, subst}
+use Rattle.std.proofs.Common.{◌+◌, refl, subst}
 use Rattle.gl_table.specs.model.Deadlocks.{SettlesKeeping}
 use Rattle.gl_table.specs.model.Calls.{living_tests}
 use Rattle.gl_table.specs.model.Table.{state_of as table_state}
@@ -23,4 +23,4 @@ returns-clause-completes c =
     told_completed (view_of c.self.inside) c.args.self.now (record { table = c.settle_telling.new.self; accepted = c.self.inside.accepted + 1; counters = c.add_notices.new.self }) c.self.view_is c.self.invariant
     (command.Settle c.args.t) refl answer.Done c.settle_telling.new.notices.items c.as_slice.result.now (returns-clause-step c)
     (subst (λ (v : ManagerView). SettlesKeeping (state_of v).victims (state_of v) c.args.t.slot v.table.deadlock (counting v.accepted (table_state c.settle_telling.new.self)) c.settle_telling.new.self.deadlock) c.self.view_is
-    (keeping_counting c.self.inside.accepted (table_state c.self.inside.table).victims (table_state c.self.inside.table) c.args.t.slot c.self.inside.table.deadlock (table_state c.settle_telling.new.self) c.settle_telling.new.self.deadlock c.in_ok-settle_telling.ensures.deadlock)) c.as_slice.ensures c.add_notices.ensures (notices_counted c.settle_telling.new.notices.items)
+    (keeping_counting c.self.inside.accepted (table_state c.self.inside.table).victims (table_state c.self.inside.table) c.args.t.slot c.self.inside.table.deadlock (table_state c.settle_telling.new.self) c.settle_telling.new.self.deadlock c.in_ok-settle_telling.ensures.deadlock)) c.as_slice.ensures.value c.add_notices.ensures (notices_counted c.settle_telling.new.notices.items)

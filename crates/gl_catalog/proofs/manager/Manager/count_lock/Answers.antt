@@ -1,0 +1,21 @@
+use Rattle.std.proofs.Common.{ap, subst, sym, ◌≡◌, ◌∙◌}
+use Rattle.std.specs.Prelude.{if◌then◌else◌, length, max}
+use Rattle.gl_catalog.specs.declared.counters.Counters.{Counters}
+use Rattle.gl_catalog.specs.Counters.{lock_counted, waiting_in, waits, with_notices}
+use Rattle.gl_catalog.specs.Manager.{ManagerView, state_of}
+use Rattle.gl_catalog.specs.Sound.{view_of}
+use Rattle.gl_catalog.specs.Step.{answer_of_lock}
+use Rattle.gl_catalog.proofs.Completed.{lock_noted}
+use Rattle.gl_catalog.proofs.manager.Manager.count_lock.Goals as goal
+
+pub returns : goal.returns
+returns c =
+    let waiting = c.waits_seen-waiting.result.0 in
+    let queued = c.waits_seen-waiting.result.1 in
+    let k = c.self.inside.counters in
+    subst (λ (v : ManagerView). record (view_of c.self.inside) { counters = c.add_notices.new.self } ≡ record v { counters = lock_counted (state_of v) c.args.n c.args.converts (answer_of_lock c.args.locked) c.args.told.now v.counters }) c.self.view_is
+    (ap (λ (x : Counters). record (view_of c.self.inside) { counters = x })
+    (c.add_notices.ensures ∙ ap (with_notices c.args.told.now) (c.add_waits.ensures ∙ ap (λ (x : Counters). record x { most_waiting = max x.most_waiting waiting; longest_queue = max x.longest_queue queued }) c.add_lock.ensures)
+    ∙ lock_noted (state_of (view_of c.self.inside)) c.args.n c.args.converts c.args.told.now k (answer_of_lock c.args.locked) waiting queued
+    (c.waits_seen-waiting.ensures.waiting ∙ ap (λ (v : ManagerView). if waits (answer_of_lock c.args.locked) then waiting_in (state_of v) else 0) (sym c.self.view_is))
+    (c.waits_seen-waiting.ensures.queued ∙ ap (λ (v : ManagerView). if waits (answer_of_lock c.args.locked) then length ((state_of v).queue c.args.n) else 0) (sym c.self.view_is))))
