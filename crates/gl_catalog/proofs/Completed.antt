@@ -1,5 +1,5 @@
 -- What a call that was not refused completes, and what it adds to the counters. For the calls of the manager.
-use Rattle.std.specs.Prelude.{◌≡◌, ℕ, ◌+◌, Bool, true, false, not, ◌&&◌, [], Option, Some, None, max, Ok, if◌then◌else◌, length}
+use Rattle.std.specs.Prelude.{◌≡◌, ℕ, ◌+◌, Bool, not, ◌&&◌, [], Option, Some, None, max, Ok, if◌then◌else◌, length}
 use Rattle.std.specs.List.{count_by}
 use Rattle.std.proofs.Common.{refl, ap, arith, subst, sym, ◌∙◌}
 use Rattle.gl_modes.specs.Modes.{same_mode}
@@ -13,7 +13,7 @@ use Rattle.gl_table.specs.declared.answers.Locked.{Locked}
 use Rattle.gl_table.specs.declared.answers.Locked.TheVariants as locked
 use Rattle.gl_table.specs.declared.txn.TxnId.{TxnId}
 use Rattle.gl_table.specs.model.Calls.{lock_tests, no_txn}
-use Rattle.gl_table.specs.model.State.{State, lives}
+use Rattle.gl_table.specs.model.State.{State}
 use Rattle.gl_table.specs.model.Tellings.{Told}
 use Rattle.gl_catalog.specs.declared.command.Answer.{Answer}
 use Rattle.gl_catalog.specs.declared.command.Answer.TheVariants as answer

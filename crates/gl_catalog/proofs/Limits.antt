@@ -63,6 +63,7 @@ record HasFilled (s : State) (k : ℕ) : Type 0 where
   accepted : s.accepted ≡ k
   births : s.graph.births ≡ k
   count : node_count s.graph ≡ k
+  most : s.graph.most ≡ 65536
 
 abbrev root : Command
 root = command.Inner (ref [])
@@ -72,8 +73,8 @@ root_tested : (s : State) (k : ℕ) → k < 65537 → HasFilled s k → refusal_
 root_tested s k low at =
     let unworn : (s.accepted == max_count) ≡ false = let e = at.accepted in grind (arith, nat_tests) in
     let young : nat_lt (max_count - 65536) s.graph.births ≡ false = let e = at.births in grind (arith, nat_tests) in
-    ap₂ (λ a b. first_refusal (where_true a no.WornOut ∷ first_refusal (where_true b no.WornOut ∷ None ∷ None ∷ where_true (nat_lt 65536 (node_count s.graph + 1)) no.TooManyNodes ∷ []) ∷ [])) unworn young
-    ∙ ap (λ n. first_refusal (first_refusal (where_true (nat_lt 65536 (n + 1)) no.TooManyNodes ∷ []) ∷ [])) at.count
+    ap₂ (λ a b. first_refusal (where_true a no.WornOut ∷ first_refusal (where_true b no.WornOut ∷ None ∷ None ∷ where_true (nat_lt s.graph.most (node_count s.graph + 1)) no.TooManyNodes ∷ []) ∷ [])) unworn young
+    ∙ ap₂ (λ m n. first_refusal (first_refusal (where_true (nat_lt m (n + 1)) no.TooManyNodes ∷ []) ∷ [])) at.most at.count
     ∙ same (nat_lt 65536 (k + 1))
   where
     same : (b : Bool) → first_refusal (first_refusal (where_true b no.TooManyNodes ∷ []) ∷ []) ≡ where_true b no.TooManyNodes
@@ -92,6 +93,7 @@ one_root s k low at =
       accepted = ap (λ x. x.accepted) is ∙ ap (λ x. x + 1) accepted;
       births = ap (λ x. x.graph.births) is ∙ ap (λ x. x + 1) births;
       count = ap (λ x. node_count x.graph) is ∙ count ∙ ap (λ x. x + 1) old;
+      most = ap (λ x. x.graph.most) is ∙ at.most;
     }
 
 many_roots : (n k : ℕ) (s : State) → k + n ≡ 65536 → HasFilled s k → HasFilled (after s (replicate n root)) 65536
@@ -109,7 +111,7 @@ record HasFullGraph : Type 0 where
 row_too_many_nodes : (n : ℕ) → n ≡ 65536 → HasFullGraph
 row_too_many_nodes n e =
     let start : State = empty_state AtBlock 1 in
-    let full = many_roots n 0 start (omega arith) (record { law = empty-lawful AtBlock Youngest 1; accepted = refl; births = refl; count = refl }) in
+    let full = many_roots n 0 start (omega arith) (record { law = empty-lawful AtBlock Youngest 1; accepted = refl; births = refl; count = refl; most = refl }) in
     record {
       state = after start (replicate n root);
       before = replicate n root;

@@ -1,20 +1,11 @@
 -- A step adds nothing to the counters where the count of accepted commands stays.
-use Rattle.std.specs.Prelude.{◌≡◌, Bool, true, false, [], max, Option, Some, None}
-use Rattle.std.proofs.Common.{ap, subst, sym, ◌∙◌, arith, ⊎_elim}
+use Rattle.std.specs.Prelude.{◌≡◌, [], max}
 use Rattle.gl_modes.specs.declared.refusal.Refusal.{Refusal}
-use Rattle.gl_modes.specs.declared.refusal.Refusal.TheVariants as no
 use Rattle.gl_table.specs.model.State.{State}
-use Rattle.gl_table.specs.model.Tellings.{Told}
-use Rattle.gl_catalog.specs.declared.command.Answer.{Answer}
 use Rattle.gl_catalog.specs.declared.command.Answer.TheVariants as answer
 use Rattle.gl_catalog.specs.declared.command.Command.{Command}
-use Rattle.gl_catalog.specs.declared.command.Command.TheVariants as command
 use Rattle.gl_catalog.specs.declared.counters.Counters.{Counters}
 use Rattle.gl_catalog.specs.Counters.{counted, rises}
-use Rattle.gl_catalog.specs.Manager.{ManagerView, state_of}
-use Rattle.gl_catalog.specs.Step.{Answers, Goes, Step, Unchanged, query_answer}
-use Rattle.gl_catalog.specs.Tests.{may_want_memory, refusal_of}
-use Rattle.gl_catalog.proofs.Accepting.{accepting_keeps_count}
 use Rattle.gl_catalog.proofs.Counts.{max_none, rises_none}
 
 -- nothing rises

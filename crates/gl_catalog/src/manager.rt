@@ -1,12 +1,12 @@
 //! The manager of locks: a table, the count of accepted commands, and what else is counted.
 
-ghost use Rattle.std.specs.Prelude.{◌≡◌, ◌≤◌, ◌&&◌, ◌↔◌, [], IfErr, IfOk, IfSome, IsNone, None, Some, if◌then◌else◌};
+ghost use Rattle.std.specs.Prelude.{◌≡◌, ◌≤◌, ◌^◌, ◌&&◌, ◌↔◌, [], IfErr, IfOk, IfSome, IsNone, None, Some, if◌then◌else◌};
 ghost use Rattle.gl_modes.specs.declared.refusal.Refusal.{Refusal as ARefusal};
 ghost use Rattle.gl_header.specs.Header.{holds};
 ghost use Rattle.gl_table.specs.model.Table.{board_of};
 ghost use Rattle.gl_table.specs.model.Calls.{held_children};
 ghost use Rattle.gl_table.specs.model.Deadlocks.{no_deadlock};
-ghost use Rattle.gl_table.specs.model.State.{choosing, empty_state, lives, members, status_of};
+ghost use Rattle.gl_table.specs.model.State.{choosing, empty_state, lives, members, status_of, with_room};
 ghost use Rattle.gl_catalog.specs.Counters.{no_counts};
 ghost use Rattle.gl_catalog.specs.Manager.{IsLawfulManager, state_of};
 ghost use Rattle.gl_catalog.specs.Replies.{wait_of};
@@ -78,7 +78,27 @@ impl Manager {
         ensures uncounted { IfOk result (λ manager. manager.counters ≡ no_counts) }
         ensures refused { IfErr result (λ refusal. refusal ≡ ARefusal.NoMemory) }
     {
-        let table = Table::choosing(alloc, detect, victims, most)?;
+        Manager::with_room(alloc, detect, victims, most, 65_536)
+    }
+
+    /// As `choosing`, with a limit of nodes that may live at once, at most 2^31; 65,536 where none is
+    /// chosen.
+    pub fn with_room(
+        alloc: Global,
+        detect: Detect,
+        victims: Victims,
+        most: usize,
+        nodes: u32,
+    ) -> Result<Self, Refusal>
+        requires some { 1 ≤ most }
+        requires few { most ≤ 128 }
+        requires low { nodes ≤ 2 ^ 31 }
+        ensures made { IfOk result (λ manager. state_of manager ≡ with_room nodes (choosing victims (empty_state detect most))) }
+        ensures deadlock { IfOk result (λ manager. manager.table.deadlock ≡ no_deadlock) }
+        ensures uncounted { IfOk result (λ manager. manager.counters ≡ no_counts) }
+        ensures refused { IfErr result (λ refusal. refusal ≡ ARefusal.NoMemory) }
+    {
+        let table = Table::with_room(alloc, detect, victims, most, nodes)?;
         table.law();
         Ok(Manager {
             table,

@@ -1,5 +1,5 @@
 -- Nodes are born: the old ones are as they were, and the law of the graph is kept.
-use Rattle.std.specs.Prelude.{◌≡◌, ◌≢◌, ◌⊎◌, ℕ, zero, suc, ◌+◌, ◌-◌, ◌<◌, ◌≤◌, true, false, List, [], ◌∷◌, ◌++◌, length, Option, Some, None, is_some, if◌then◌else◌}
+use Rattle.std.specs.Prelude.{◌≡◌, ◌≢◌, ◌⊎◌, ℕ, zero, suc, ◌+◌, ◌-◌, ◌<◌, ◌≤◌, ◌^◌, true, false, List, [], ◌∷◌, ◌++◌, length, Option, Some, None, is_some, if◌then◌else◌}
 use Rattle.std.specs.List.{list_any, filter_map, range_with_len}
 use Rattle.std.proofs.lemmas.List.Elements.{filter_map-append}
 use Rattle.std.proofs.lemmas.List.FromFn.{length-range_with_len}
@@ -32,6 +32,11 @@ place_below (n ∷ ns) (suc k) node e = let low = place_below ns k node e in ome
 pub births_are : (g : Graph) (ns : List Node) → (born_nodes g ns).births ≡ g.births + length ns
 births_are g [] = omega arith
 births_are g (n ∷ ns) = let rest = births_are (born_node g n) ns in omega arith
+
+-- the limit of nodes stays
+pub most_is : (g : Graph) (ns : List Node) → (born_nodes g ns).most ≡ g.most
+most_is g [] = refl
+most_is g (n ∷ ns) = most_is (born_node g n) ns
 
 pub old_at : (g : Graph) (ns : List Node) (b : ℕ) → b ≤ g.births → (born_nodes g ns).at b ≡ g.at b
 old_at g [] b low = refl
@@ -133,7 +138,7 @@ module _ (g : Graph) (law : IsLawfulGraph g) (ns : List Node) where
         (up : (k : ℕ) (node : Node) (p : NodeId) → place_in ns k ≡ Some node → list_any (same_node p) node.parents ≡ true → IsFresh p)
         (free : (k : ℕ) (node : Node) → place_in ns k ≡ Some node → IsFreeKey g node.key)
         (differ : (j k : ℕ) (a b : Node) → place_in ns j ≡ Some a → place_in ns k ≡ Some b → a.key ≡ b.key → j ≡ k)
-        (seven : (f : NodeId) → length (indexes_of grown f) ≤ 7) (room : node_count g + length ns ≤ 65536) where
+        (seven : (f : NodeId) → length (indexes_of grown f) ≤ 7) (room : node_count g + length ns ≤ g.most) where
       old_child : (p n : NodeId) → is_live g n ≡ true → is_child grown p n ≡ true → is_child g p n ≡ true
       old_child p n h k = sym (ap (λ o. list_any (same_node p) (parents_in o)) (old_same n h)) ∙ k
 
@@ -171,5 +176,6 @@ module _ (g : Graph) (law : IsLawfulGraph g) (ns : List Node) where
             (λ was. let old = law.born b (there_is (g.at b) x.0 (found_at g id x.0 was).0) in (old.0, omega arith))
             (λ k at same. let low = place_below ns k x.0 at in let birth : b ≡ g.births + 1 + k = ap (λ q. q.birth) same in (omega arith, omega arith));
         seven_indexes = seven;
-        room = let few = count_grown in omega arith;
+        limit = subst (λ m. m ≤ 2 ^ 31) (sym (most_is g ns)) law.limit;
+        room = let few = count_grown in let same : grown.most ≡ g.most = most_is g ns in omega arith;
       }

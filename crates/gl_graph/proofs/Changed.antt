@@ -119,5 +119,6 @@ module _ (g : Graph) (n : NodeId) (was is : Node) (there : node_at g n ≡ Some 
             (λ e. law.born b (ap (λ x. is_some (g.at x)) (same_number b n.birth e) ∙ there_is _ was (found_at g n was there).0))
             (λ e. law.born b (sym (ap is_some (at_beside b (other_number b n.birth e))) ∙ h));
         seven_indexes = λ f. subst (λ (is' : List NodeId). length is' ≤ 7) (sym (indexes_same f)) (law.seven_indexes f);
-        room = subst (λ (xs : List NodeId). length xs ≤ 65536) (sym nodes_same) law.room;
+        limit = law.limit;
+        room = subst (λ (xs : List NodeId). length xs ≤ g.most) (sym nodes_same) law.room;
       }

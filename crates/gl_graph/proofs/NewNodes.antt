@@ -69,7 +69,7 @@ module _ (g : Graph) (law : IsLawfulGraph g) (node : Node) (no_index : (f : Node
   one_indexes f = indexes_kept g law one f (λ k x e. ap (λ y. is_index_of_shape f (Some y.shape)) (sym (only k x e).1) ∙ no_index f)
 
   pub one_lawful : IsWellFormed (born_node g node) (record { key = node.key; birth = g.births + 1 }) node → ((p : NodeId) → list_any (same_node p) node.parents ≡ true → is_live g p ≡ true)
-      → IsFreeKey g node.key → node_count g + 1 ≤ 65536 → IsLawfulGraph (born_node g node)
+      → IsFreeKey g node.key → node_count g + 1 ≤ g.most → IsLawfulGraph (born_node g node)
   one_lawful well up free room =
       born_lawful g law one (λ f r h k. one_indexes f)
       (λ k x e. let o = only k x e in let birth : g.births + 1 ≡ g.births + 1 + k = omega arith in
@@ -80,19 +80,19 @@ module _ (g : Graph) (law : IsLawfulGraph g) (node : Node) (no_index : (f : Node
       (λ f. subst (λ (is : List NodeId). length is ≤ 7) (sym (one_indexes f)) (law.seven_indexes f))
       (omega arith)
 
-pub inner_lawful : (g : Graph) (law : IsLawfulGraph g) (key : ℕ) (ps : List NodeId) → AreInnerParents g 0 ps → IsFreeKey g key → node_count g + 1 ≤ 65536 → IsLawfulGraph (born_node g (record { key = key; shape = Inner; parents = ps }))
+pub inner_lawful : (g : Graph) (law : IsLawfulGraph g) (key : ℕ) (ps : List NodeId) → AreInnerParents g 0 ps → IsFreeKey g key → node_count g + 1 ≤ g.most → IsLawfulGraph (born_node g (record { key = key; shape = Inner; parents = ps }))
 inner_lawful g law key ps inner free room =
     let node : Node = record { key = key; shape = Inner; parents = ps } in
     one_lawful g law node (λ f. refl) (parents_kept g (born_node g node) law (born_frames g law (node ∷ []) (λ f r h k. one_indexes g law node (λ f'. refl) f)) 0 ps inner)
     (λ p h. plain_live g p (inner_plain _ (all_at (λ q. is_inner_shape (shape_of g q)) ps p h inner.inner))) free room
 
-pub file_lawful : (g : Graph) (law : IsLawfulGraph g) (key : ℕ) (ps : List NodeId) → AreInnerParents g 1 ps → IsFreeKey g key → node_count g + 1 ≤ 65536 → IsLawfulGraph (born_node g (record { key = key; shape = File; parents = ps }))
+pub file_lawful : (g : Graph) (law : IsLawfulGraph g) (key : ℕ) (ps : List NodeId) → AreInnerParents g 1 ps → IsFreeKey g key → node_count g + 1 ≤ g.most → IsLawfulGraph (born_node g (record { key = key; shape = File; parents = ps }))
 file_lawful g law key ps inner free room =
     let node : Node = record { key = key; shape = File; parents = ps } in
     one_lawful g law node (λ f. refl) (parents_kept g (born_node g node) law (born_frames g law (node ∷ []) (λ f r h k. one_indexes g law node (λ f'. refl) f)) 1 ps inner)
     (λ p h. plain_live g p (inner_plain _ (all_at (λ q. is_inner_shape (shape_of g q)) ps p h inner.inner))) free room
 
-pub record_lawful : (g : Graph) (law : IsLawfulGraph g) (key : ℕ) (file : NodeId) (keys : List ℕ) → is_file_shape (shape_of g file) ≡ true → length keys ≡ length (indexes_of g file) → IsFreeKey g key → node_count g + 1 ≤ 65536
+pub record_lawful : (g : Graph) (law : IsLawfulGraph g) (key : ℕ) (file : NodeId) (keys : List ℕ) → is_file_shape (shape_of g file) ≡ true → length keys ≡ length (indexes_of g file) → IsFreeKey g key → node_count g + 1 ≤ g.most
     → IsLawfulGraph (born_node g (record { key = key; shape = Rec keys; parents = record_parents g file keys }))
 record_lawful g law key file keys is_file each free room =
     let node : Node = record { key = key; shape = Rec keys; parents = record_parents g file keys } in

@@ -99,6 +99,7 @@ module _ (g : Graph) (law : IsLawfulGraph g) (r : NodeId) (rec : is_record_shape
     keys_differ = λ a b h k e. law.keys_differ a b (was_live a h) (was_live b k) e;
     born = λ b h. split (b == r.birth) (λ e. absurd (no (sym (ap is_some (at_gone b (same_number b r.birth e))) ∙ h))) (λ e. law.born b (sym (ap is_some (at_beside b (other_number b r.birth e))) ∙ h));
     seven_indexes = λ f. subst (λ (is : List NodeId). length is ≤ 7) (sym (indexes_left f)) (law.seven_indexes f);
+    limit = law.limit;
     room =
         let fewer = map_fewer (λ b. id_of b (g.at b)) (λ b. id_of b ((without_node g r).at b)) (λ b. split (b == r.birth) (λ e. inr (ap (id_of b) (at_gone b (same_number b r.birth e)))) (λ e. inl (ap (id_of b) (at_beside b (other_number b r.birth e))))) (range_with_len 1 g.births) in
         let room = law.room in

@@ -75,9 +75,9 @@ abbrev pub seen_in : ℕ → Option Stored → Option Node
 seen_in key None = None
 seen_in key (Some x) = Some (node_of key (vertex_of x))
 
-module _ (s : Slab Stored) (births : ℕ) (apart : AreBornApart s) where
+module _ (most : ℕ) (s : Slab Stored) (births : ℕ) (apart : AreBornApart s) where
   abbrev graph : Graph
-  graph = graph_of (seen s births)
+  graph = graph_of (seen most s births)
 
   not_named : (n : NodeId) → ((x : Stored) → get s n.key ≡ Some x → x.birth ≢ n.birth) → node_at graph n ≡ None
   not_named n other =
@@ -145,7 +145,7 @@ module _ (old new : Slab Stored) (key : ℕ) (slot : Option Stored) (apart : Are
         absurd (ne (apart f.key key f.stored x (sym (u.others f.key ne) ∙ f.there) e f.born)))
 
 -- a node comes under a key that was free
-module _ (old new : Slab Stored) (births key : ℕ) (x : Stored) (apart : AreBornApart old) (within : AreBornWithin old births) (free : get old key ≡ None) (u : Updates old new key (Some x)) (next : x.birth ≡ births + 1) where
+module _ (most : ℕ) (old new : Slab Stored) (births key : ℕ) (x : Stored) (apart : AreBornApart old) (within : AreBornWithin old births) (free : get old key ≡ None) (u : Updates old new key (Some x)) (next : x.birth ≡ births + 1) where
   insert_fresh : (y : Stored) → Some x ≡ Some y → (k : ℕ) (z : Stored) → k ≢ key → get old k ≡ Some z → z.birth ≢ y.birth
   insert_fresh y e k z ne f same = let low = within k z f in let b : x.birth ≡ y.birth = ap (λ w. w.birth) (some_is e) in absurd (omega arith)
 
@@ -157,7 +157,7 @@ module _ (old new : Slab Stored) (births key : ℕ) (x : Stored) (apart : AreBor
       split (k == key) (λ t. let b : x.birth ≡ y.birth = ap (λ w. w.birth) (some_is (sym u.changed ∙ ap (get new) (sym (same_number k key t)) ∙ e)) in omega arith)
       (λ t. let low = within k y (sym (u.others k (other_number k key t)) ∙ e) in omega arith)
 
-  pub inserted : graph_of (seen new (births + 1)) ≡ born_node (graph_of (seen old births)) (node_of key (vertex_of x))
+  pub inserted : graph_of (seen most new (births + 1)) ≡ born_node (graph_of (seen most old births)) (node_of key (vertex_of x))
   inserted =
       let same : at_birth new ≡ (λ (b : ℕ). if b == births + 1 then Some (node_of key (vertex_of x)) else at_birth old b) = fun_ext (λ b. split (b == births + 1)
       (λ t.
@@ -167,15 +167,15 @@ module _ (old new : Slab Stored) (births key : ℕ) (x : Stored) (apart : AreBor
       let ne : b ≢ births + 1 = other_number b (births + 1) t in
       slot_beside old new key (Some x) apart u insert_fresh b (λ y e same. ne (sym same ∙ ap (λ w. w.birth) (sym (some_is e)) ∙ next)) (λ y e. absurd (none_some (sym free ∙ e)))
       ∙ sym (ap (λ z. if z then Some (node_of key (vertex_of x)) else at_birth old b) t))) in
-      λ i. record { at = same i; births = births + 1 }
+      λ i. record { at = same i; births = births + 1; most = most }
 
-  pub inserted_free : IsFreeKey (graph_of (seen old births)) key
+  pub inserted_free : IsFreeKey (graph_of (seen most old births)) key
   inserted_free n h e =
-      let f = stored_of old births apart n h in
+      let f = stored_of most old births apart n h in
       none_some (sym free ∙ ap (get old) (sym e) ∙ f.1)
 
 -- a node is written, and keeps its birth
-module _ (old new : Slab Stored) (births key : ℕ) (was x : Stored) (apart : AreBornApart old) (there : get old key ≡ Some was) (u : Updates old new key (Some x)) (birth : x.birth ≡ was.birth) where
+module _ (most : ℕ) (old new : Slab Stored) (births key : ℕ) (was x : Stored) (apart : AreBornApart old) (there : get old key ≡ Some was) (u : Updates old new key (Some x)) (birth : x.birth ≡ was.birth) where
   write_fresh : (y : Stored) → Some x ≡ Some y → (k : ℕ) (z : Stored) → k ≢ key → get old k ≡ Some z → z.birth ≢ y.birth
   write_fresh y e k z ne f same = ne (apart k key z was f there (same ∙ ap (λ w. w.birth) (sym (some_is e)) ∙ birth))
 
@@ -188,7 +188,7 @@ module _ (old new : Slab Stored) (births key : ℕ) (was x : Stored) (apart : Ar
       (λ t. let b : x.birth ≡ y.birth = ap (λ w. w.birth) (some_is (sym u.changed ∙ ap (get new) (sym (same_number k key t)) ∙ e)) in let low = within key was there in omega arith)
       (λ t. within k y (sym (u.others k (other_number k key t)) ∙ e))
 
-  pub written : graph_of (seen new births) ≡ with_node (graph_of (seen old births)) was.birth (node_of key (vertex_of x))
+  pub written : graph_of (seen most new births) ≡ with_node (graph_of (seen most old births)) was.birth (node_of key (vertex_of x))
   written =
       let same : at_birth new ≡ (λ (b : ℕ). if b == was.birth then Some (node_of key (vertex_of x)) else at_birth old b) = fun_ext (λ b. split (b == was.birth)
       (λ t.
@@ -198,22 +198,22 @@ module _ (old new : Slab Stored) (births key : ℕ) (was x : Stored) (apart : Ar
       let ne : b ≢ was.birth = other_number b was.birth t in
       slot_beside old new key (Some x) apart u write_fresh b (λ y e same. ne (sym same ∙ ap (λ w. w.birth) (sym (some_is e)) ∙ birth)) (λ y e same. ne (sym same ∙ ap (λ w. w.birth) (some_is (sym e ∙ there))))
       ∙ sym (ap (λ z. if z then Some (node_of key (vertex_of x)) else at_birth old b) t))) in
-      λ i. record { at = same i; births = births }
+      λ i. record { at = same i; births = births; most = most }
 
   -- what is written is not seen in the graph
-  pub unseen : node_of key (vertex_of x) ≡ node_of key (vertex_of was) → graph_of (seen new births) ≡ graph_of (seen old births)
+  pub unseen : node_of key (vertex_of x) ≡ node_of key (vertex_of was) → graph_of (seen most new births) ≡ graph_of (seen most old births)
   unseen alike =
       let same : (λ (b : ℕ). if b == was.birth then Some (node_of key (vertex_of x)) else at_birth old b) ≡ at_birth old = fun_ext (λ b. split (b == was.birth)
       (λ t. ap (λ z. if z then Some (node_of key (vertex_of x)) else at_birth old b) t ∙ ap Some alike ∙ sym (at_slot old apart key was there) ∙ ap (at_birth old) (sym (same_number b was.birth t)))
       (λ t. ap (λ z. if z then Some (node_of key (vertex_of x)) else at_birth old b) t)) in
-      written ∙ (λ i. record { at = same i; births = births })
+      written ∙ (λ i. record { at = same i; births = births; most = most })
 
 -- a node goes
-module _ (old new : Slab Stored) (births : ℕ) (n : NodeId) (was : Stored) (apart : AreBornApart old) (there : get old n.key ≡ Some was) (birth : was.birth ≡ n.birth) (u : Updates old new n.key None) where
+module _ (most : ℕ) (old new : Slab Stored) (births : ℕ) (n : NodeId) (was : Stored) (apart : AreBornApart old) (there : get old n.key ≡ Some was) (birth : was.birth ≡ n.birth) (u : Updates old new n.key None) where
   pub removed_apart : AreBornApart new
   removed_apart = still_apart old new n.key None apart u (λ x e. absurd (none_some e))
 
-  pub removed : graph_of (seen new births) ≡ without_node (graph_of (seen old births)) n
+  pub removed : graph_of (seen most new births) ≡ without_node (graph_of (seen most old births)) n
   removed =
       let same : at_birth new ≡ (λ (b : ℕ). if b == n.birth then None else at_birth old b) = fun_ext (λ b. split (b == n.birth)
       (λ t.
@@ -223,4 +223,4 @@ module _ (old new : Slab Stored) (births : ℕ) (n : NodeId) (was : Stored) (apa
       let ne : b ≢ n.birth = other_number b n.birth t in
       slot_beside old new n.key None apart u (λ x e. absurd (none_some e)) b (λ y e. absurd (none_some e)) (λ y e same. ne (sym same ∙ ap (λ w. w.birth) (some_is (sym e ∙ there)) ∙ birth))
       ∙ sym (ap (λ z. if z then None else at_birth old b) t))) in
-      λ i. record { at = same i; births = births }
+      λ i. record { at = same i; births = births; most = most }

@@ -61,18 +61,18 @@ ids_at index from birth [] k b node e f = absurd (none_some f)
 ids_at index from birth (key ∷ keys) zero b node e f = let same : birth ≡ b = omega arith in let is = some_is f in λ i. Some (record { key = (is i).key; birth = same i })
 ids_at index from birth (key ∷ keys) (suc k) b node e f = ids_at index (from + 1) (birth + 1) keys k b node (omega arith) f
 
-vacant_free : (s : Slab Stored) (births : ℕ) (sound : AreSound s births) (key : ℕ) → get s key ≡ None → IsFreeKey (graph_of (seen s births)) key
-vacant_free s births sound key e n h same = let x = stored_of s births sound.apart n h in none_some (sym e ∙ ap (get s) (sym same) ∙ x.1)
+vacant_free : (most : ℕ) (s : Slab Stored) (births : ℕ) (sound : AreSound most s births) (key : ℕ) → get s key ≡ None → IsFreeKey (graph_of (seen most s births)) key
+vacant_free most s births sound key e n h same = let x = stored_of most s births sound.apart n h in none_some (sym e ∙ ap (get s) (sym same) ∙ x.1)
 
 count_ids_of : (birth : ℕ) (keys : List ℕ) → length (ids_of birth keys) ≡ length keys
 count_ids_of birth [] = refl
 count_ids_of birth (k ∷ keys) = ap suc (count_ids_of (birth + 1) keys)
 
-module _ (old mid grown : Slab Stored) (births key : ℕ) (x : Stored) (sound : AreSound old births) (free : get old key ≡ None) (u : Updates old mid key (Some x)) (next : x.birth ≡ births + 1) (len : slab_len mid ≡ slab_len old + 1)
-    (file : NodeId) (ps : List NodeId) (bounds : List ℕ) (shape : shape_in_body x.body ≡ Index file bounds) (parents : x.parents.items ≡ ps) (may : IsRoomyIndex (graph_of (seen old births)) ps file bounds)
+module _ (most : ℕ) (old mid grown : Slab Stored) (births key : ℕ) (x : Stored) (sound : AreSound most old births) (free : get old key ≡ None) (u : Updates old mid key (Some x)) (next : x.birth ≡ births + 1) (len : slab_len mid ≡ slab_len old + 1)
+    (file : NodeId) (ps : List NodeId) (bounds : List ℕ) (shape : shape_in_body x.body ≡ Index file bounds) (parents : x.parents.items ≡ ps) (may : IsRoomyIndex (graph_of (seen most old births)) ps file bounds)
     (ids : List NodeId) (born : AreIntervalsBorn mid grown (record { key = key; birth = births + 1 }) (length bounds + 1) ids) where
   abbrev pub g : Graph
-  g = graph_of (seen old births)
+  g = graph_of (seen most old births)
 
   abbrev pub id : NodeId
   id = record { key = key; birth = births + 1 }
@@ -86,21 +86,21 @@ module _ (old mid grown : Slab Stored) (births key : ℕ) (x : Stored) (sound : 
   abbrev pub after : Graph
   after = born_index g key ps file bounds keys
 
-  index_born : graph_of (seen mid (births + 1)) ≡ born_node g (record { key = key; shape = Index file bounds; parents = ps })
-  index_born = inserted old mid births key x sound.apart (born_within old births sound) free u next ∙ (λ i. born_node g (record { key = key; shape = shape i; parents = parents i }))
+  index_born : graph_of (seen most mid (births + 1)) ≡ born_node g (record { key = key; shape = Index file bounds; parents = ps })
+  index_born = inserted most old mid births key x sound.apart (born_within most old births sound) free u next ∙ (λ i. born_node g (record { key = key; shape = shape i; parents = parents i }))
 
   count : births + 1 + length (interval_nodes id 0 keys) ≡ total
   count = let c = count_intervals id 0 keys in let m = born.many in omega arith
 
-  all_born : graph_of (seen grown total) ≡ after
-  all_born = ap (λ b. graph_of (seen grown b)) (sym count) ∙ born.grown.graph ∙ ap (λ h. born_nodes h (interval_nodes id 0 keys)) index_born
+  all_born : graph_of (seen most grown total) ≡ after
+  all_born = ap (λ b. graph_of (seen most grown b)) (sym count) ∙ born.grown.graph most ∙ ap (λ h. born_nodes h (interval_nodes id 0 keys)) index_born
 
   free_keys : (k : ℕ) → list_any (λ y. y == k) (key ∷ keys) ≡ true → IsFreeKey g k
   free_keys k h =
-      or_elim (key == k) (list_any (λ y. y == k) keys) h (λ here. vacant_free old births sound k (ap (get old) (sym (same_number key k here)) ∙ free))
+      or_elim (key == k) (list_any (λ y. y == k) keys) h (λ here. vacant_free most old births sound k (ap (get old) (sym (same_number key k here)) ∙ free))
       (λ there.
       let vacant : get mid k ≡ None = born.grown.vacant k (ap (list_any (λ y. y == k)) (keys_of_intervals id 0 keys) ∙ there) in
-      vacant_free old births sound k (by k vacant (get old k) refl))
+      vacant_free most old births sound k (by k vacant (get old k) refl))
     where
       by : (k' : ℕ) → get mid k' ≡ None → (o : Option Stored) → get old k' ≡ o → get old k' ≡ None
       by k' v None e = e
@@ -122,7 +122,7 @@ module _ (old mid grown : Slab Stored) (births key : ℕ) (x : Stored) (sound : 
   records_kept f = same_records g sound.lawful ns (no_record_born g sound.lawful key ps file bounds keys) f
 
   abbrev pub slot : FileSlot old file
-  slot = file_slot old births sound file may.file
+  slot = file_slot most old births sound file may.file
 
   pub file_apart : file.key ≢ key
   file_apart e = none_some (sym free ∙ ap (get old) (sym e) ∙ slot.there)
@@ -136,7 +136,7 @@ module _ (old mid grown : Slab Stored) (births key : ℕ) (x : Stored) (sound : 
   -- a node that stays, and is not the file, agrees as before
   pub old_agrees : (k : ℕ) (y : Stored) → k ≢ file.key → get old k ≡ Some y → AgreesAt after k (vertex_of y)
   old_agrees k y ne e =
-      let shape_there : shape_of g (record { key = k; birth = y.birth }) ≡ Some (shape_in_body y.body) = ap shape_in (node_there old births sound.apart k y e) in
+      let shape_there : shape_of g (record { key = k; birth = y.birth }) ≡ Some (shape_in_body y.body) = ap shape_in (node_there most old births sound.apart k y e) in
       beside_kept g after sound.lawful (frames g sound.lawful key ps file bounds keys may.inner may.file may.few may.rise may.unused may.indexes born.many apart_keys free_keys may.room) (record { key = k; birth = y.birth }) (vertex_of y) (shape_in_body y.body) shape_there
       (λ h. (others g sound.lawful key ps file bounds keys (record { key = k; birth = y.birth }) (same_node-differ (record { key = k; birth = y.birth }) file (λ same. ne (ap (λ q. q.key) same))), records_kept (record { key = k; birth = y.birth })))
       (sound.agree k y e)
@@ -179,11 +179,11 @@ module _ (old mid grown : Slab Stored) (births key : ℕ) (x : Stored) (sound : 
     alike4 : node_of file.key (vertex_of f4) ≡ node_of file.key (vertex_of slot.stored)
     alike4 = let s = file_same_shape slot.stored.body list in λ i. record { key = file.key; shape = s i; parents = slot.stored.parents.items }
 
-    graph3 : graph_of (seen third total) ≡ graph_of (seen grown total)
-    graph3 = unseen grown third total key x x3 born.grown.apart index_there u3 refl alike3
+    graph3 : graph_of (seen most third total) ≡ graph_of (seen most grown total)
+    graph3 = unseen most grown third total key x x3 born.grown.apart index_there u3 refl alike3
 
-    pub index_graph : graph_of (seen fourth total) ≡ after
-    index_graph = unseen third fourth total file.key slot.stored f4 (written_apart grown third total key x x3 born.grown.apart index_there u3 refl) file_third u4 refl alike4 ∙ graph3 ∙ all_born
+    pub index_graph : graph_of (seen most fourth total) ≡ after
+    index_graph = unseen most third fourth total file.key slot.stored f4 (written_apart most grown third total key x x3 born.grown.apart index_there u3 refl) file_third u4 refl alike4 ∙ graph3 ∙ all_born
 
     file_agrees : AgreesAt after file.key (vertex_of f4)
     file_agrees =
@@ -201,10 +201,10 @@ module _ (old mid grown : Slab Stored) (births key : ℕ) (x : Stored) (sound : 
         subst (λ b. KeepsBeside after (record { key = key; birth = b }) (vertex_of x3) (shape_in_body x3.body)) (sym next)
         (subst (KeepsBeside after id (vertex_of x3)) (sym (same_shape x.body fresh ∙ shape)) (ap length kept ∙ many, λ place low. ap (λ is. slice_get is place) kept ∙ intervals_at place low))
 
-    pub index_sound : AreSound fourth total
+    pub index_sound : AreSound most fourth total
     index_sound = record {
       lawful = subst IsLawfulGraph (sym index_graph) lawful;
-      apart = written_apart third fourth total file.key slot.stored f4 (written_apart grown third total key x x3 born.grown.apart index_there u3 refl) file_third u4 refl;
+      apart = written_apart most third fourth total file.key slot.stored f4 (written_apart most grown third total key x x3 born.grown.apart index_there u3 refl) file_third u4 refl;
       counted =
           (let all = count_grown g sound.lawful ns in
           let many = count_intervals id 0 keys in
@@ -229,9 +229,9 @@ module _ (old mid grown : Slab Stored) (births key : ℕ) (x : Stored) (sound : 
           (λ w. let other = other_number k key w in grown_agrees k y ne other (sym (u3.others k other) ∙ at3))));
     }
 
-    pub index_made : IsIndexBorn g (graph_of (seen fourth total)) id ps file bounds
+    pub index_made : IsIndexBorn g (graph_of (seen most fourth total)) id ps file bounds
     index_made = record { interval_keys = keys; intervals = born.many; keys_apart = apart_keys; keys_free = free_keys; birth = refl; after = index_graph }
 
 -- the capacity is not seen
-pub sound_capacity : (s : Slab Stored) (births capacity : ℕ) → AreSound s births → AreSound (record s { capacity = capacity }) births
-sound_capacity s births capacity sound = record { lawful = sound.lawful; apart = sound.apart; counted = sound.counted; agree = sound.agree }
+pub sound_capacity : (most : ℕ) (s : Slab Stored) (births capacity : ℕ) → AreSound most s births → AreSound most (record s { capacity = capacity }) births
+sound_capacity most s births capacity sound = record { lawful = sound.lawful; apart = sound.apart; counted = sound.counted; agree = sound.agree }

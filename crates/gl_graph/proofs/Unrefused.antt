@@ -43,8 +43,8 @@ inner_parents g least ps h =
     let c = or_no (nat_lt (length ps) least) (nat_lt 8 (length ps)) b.0 in
     record { enough = lt_no _ _ c.0; few = lt_no _ _ c.1; inner = not_false _ b.1; distinct = not_false _ a.1 }
 
-pub enough_room : (g : Graph) (more : ℕ) → too_many_nodes g more ≡ None → node_count g + more ≤ 65536
-enough_room g more h = lt_no 65536 (node_count g + more) (test_fails _ _ h)
+pub enough_room : (g : Graph) (more : ℕ) → too_many_nodes g more ≡ None → node_count g + more ≤ g.most
+enough_room g more h = lt_no g.most (node_count g + more) (test_fails _ _ h)
 
 pub rising : (bs : List ℕ) → is_rising bs ≡ true → IsRising bs
 rising [] h = tt
@@ -65,7 +65,7 @@ verdict_ok (Some r) u e = cc
 pub record AreRoomyParents (g : Graph) (least : ℕ) (ps : List NodeId) : Type 0 where
   pub births : g.births ≤ max_count - 65536
   pub inner : AreInnerParents g least ps
-  pub room : node_count g + 1 ≤ 65536
+  pub room : node_count g + 1 ≤ g.most
 
 pub parents_unrefused : (g : Graph) (least : ℕ) (ps : List NodeId) → parents_refusal g least ps ≡ None → AreRoomyParents g least ps
 parents_unrefused g least ps e =
@@ -80,7 +80,7 @@ pub record IsRoomyRecord (g : Graph) (f : NodeId) (keys : List ℕ) : Type 0 whe
   pub births : g.births ≤ max_count - 65536
   pub file : is_file_shape (shape_of g f) ≡ true
   pub each : length keys ≡ length (indexes_of g f)
-  pub room : node_count g + 1 ≤ 65536
+  pub room : node_count g + 1 ≤ g.most
 
 pub record_unrefused : (g : Graph) (f : NodeId) (keys : List ℕ) → record_refusal g f keys ≡ None → IsRoomyRecord g f keys
 record_unrefused g f keys e =
@@ -100,7 +100,7 @@ pub record IsRoomyIndex (g : Graph) (ps : List NodeId) (f : NodeId) (bs : List �
   pub unused : has_records g f ≡ false
   pub few : length bs ≤ 256
   pub rise : IsRising (0 ∷ bs)
-  pub room : node_count g + (2 + length bs) ≤ 65536
+  pub room : node_count g + (2 + length bs) ≤ g.most
 
 pub index_unrefused : (g : Graph) (ps : List NodeId) (f : NodeId) (bs : List ℕ) → index_refusal g ps f bs ≡ None → IsRoomyIndex g ps f bs
 index_unrefused g ps f bs e =

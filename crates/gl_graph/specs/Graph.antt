@@ -11,10 +11,11 @@ pub record Node : Type 0 where
   pub shape : Shape
   pub parents : List NodeId
 
--- the living node of each birth, and how many births there were
+-- the living node of each birth, how many births there were, and how many nodes may live at once
 pub record Graph : Type 0 where
   pub at : ℕ → Option Node
   pub births : ℕ
+  pub most : ℕ
 
 -- the node, where it is kept under this key
 abbrev pub with_key : ℕ → Option Node → Option Node

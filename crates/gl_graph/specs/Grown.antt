@@ -12,7 +12,7 @@ use Rattle.gl_graph.specs.Seen.{shape_in_body, seen, AreBornApart, AreBornWithin
 
 -- these nodes were born, in this order, and all others are as they were
 pub record IsGrown (old : Slab Stored) (births : ℕ) (new : Slab Stored) (ns : List Node) : Type 0 where
-  pub graph : graph_of (seen new (births + length ns)) ≡ born_nodes (graph_of (seen old births)) ns
+  pub graph : (most : ℕ) → graph_of (seen most new (births + length ns)) ≡ born_nodes (graph_of (seen most old births)) ns
   pub apart : AreBornApart new
   pub within : AreBornWithin new (births + length ns)
   pub len : slab_len new ≡ slab_len old + length ns

@@ -1,5 +1,5 @@
 -- Which graphs are lawful: kinds and limits, records under their file and intervals, no path closes.
-use Rattle.std.specs.Prelude.{◌≡◌, ℕ, ◌≤◌, Bool, true, not, ◌&&◌, nat_lt, List, [], ◌∷◌, length, Some, is_some, ⊤}
+use Rattle.std.specs.Prelude.{◌≡◌, ℕ, ◌^◌, ◌≤◌, Bool, true, not, ◌&&◌, nat_lt, List, [], ◌∷◌, length, Some, is_some, ⊤}
 use Rattle.std.specs.List.{list_all, list_any}
 use Rattle.gl_modes.specs.declared.node.NodeId.{NodeId}
 use Rattle.gl_modes.specs.Nodes.{same_node}
@@ -61,4 +61,5 @@ pub record IsLawfulGraph (g : Graph) : Type 0 where
   pub keys_differ : (m n : NodeId) → is_live g m ≡ true → is_live g n ≡ true → m.key ≡ n.key → m ≡ n
   pub born : (b : ℕ) → is_some (g.at b) ≡ true → (1 ≤ b) × (b ≤ g.births)
   pub seven_indexes : (f : NodeId) → length (indexes_of g f) ≤ 7
-  pub room : node_count g ≤ 65536
+  pub room : node_count g ≤ g.most
+  pub limit : g.most ≤ 2 ^ 31

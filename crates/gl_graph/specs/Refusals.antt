@@ -41,7 +41,7 @@ bad_parents g least ps = nat_lt (length ps) least || nat_lt 8 (length ps) || not
 
 -- with so many nodes more there are more than may live
 abbrev pub too_many_nodes : Graph → ℕ → Option Refusal
-too_many_nodes g more = where_true (nat_lt 65536 (node_count g + more)) no.TooManyNodes
+too_many_nodes g more = where_true (nat_lt g.most (node_count g + more)) no.TooManyNodes
 
 -- the file has records
 abbrev pub has_records : Graph → NodeId → Bool

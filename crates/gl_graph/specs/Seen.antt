@@ -53,9 +53,9 @@ abbrev pub see : Option Node → Option Vertex
 see None = None
 see (Some x) = Some (vertex_of x)
 
--- what a contract sees of all slots
-abbrev pub seen : Slab Node → ℕ → View
-seen nodes births = record { slots = map see nodes.slots; births = births; next_key = nodes.vacant_key }
+-- what a contract sees of all slots, under this limit of nodes
+abbrev pub seen : ℕ → Slab Node → ℕ → View
+seen most nodes births = record { slots = map see nodes.slots; births = births; most = most; next_key = nodes.vacant_key }
 
 -- the node that an id names
 abbrev pub named_in : ℕ → Option Node → Option Node
@@ -75,11 +75,11 @@ abbrev pub AreBornWithin : Slab Node → ℕ → Type 0
 AreBornWithin nodes births = (k : ℕ) (x : Node) → get nodes k ≡ Some x → x.birth ≤ births
 
 -- the graph is lawful, and what is kept beside it agrees with it
-pub record AreSound (nodes : Slab Node) (births : ℕ) : Type 0 where
-  pub lawful : IsLawfulGraph (graph_of (seen nodes births))
+pub record AreSound (most : ℕ) (nodes : Slab Node) (births : ℕ) : Type 0 where
+  pub lawful : IsLawfulGraph (graph_of (seen most nodes births))
   pub apart : AreBornApart nodes
-  pub counted : slab_len nodes ≡ node_count (graph_of (seen nodes births))
-  pub agree : (key : ℕ) (x : Node) → get nodes key ≡ Some x → AgreesAt (graph_of (seen nodes births)) key (vertex_of x)
+  pub counted : slab_len nodes ≡ node_count (graph_of (seen most nodes births))
+  pub agree : (key : ℕ) (x : Node) → get nodes key ≡ Some x → AgreesAt (graph_of (seen most nodes births)) key (vertex_of x)
 
 -- of an inner node or of a file with nothing kept beside it
 abbrev pub IsPlainBody : Body → Type 0

@@ -5,8 +5,8 @@ use Rattle.gl_graph.specs.Seen.{seen, AreSound}
 
 -- what a contract sees of the fields
 abbrev pub view_of : Inside → View
-view_of g = seen g.nodes g.births
+view_of g = seen g.most g.nodes g.births
 
 -- what holds of the fields
 abbrev pub IsSound : Inside → Type 0
-IsSound g = AreSound g.nodes g.births
+IsSound g = AreSound g.most g.nodes g.births

@@ -1,6 +1,6 @@
 //! The nodes of a lock graph, under keys that are used again, with births that are not.
 
-ghost use Rattle.std.specs.Prelude.{◌≡◌, ◌≢◌, ℕ, true, Option, None};
+ghost use Rattle.std.specs.Prelude.{◌≡◌, ◌≢◌, ◌≤◌, ◌^◌, ℕ, true, Option, None};
 ghost use Rattle.gl_graph.specs.Shapes.{is_file_shape, is_index_shape, keys_in, kind_in, place_in};
 ghost use Rattle.gl_graph.specs.Graph.{
   indexes_of,
@@ -32,12 +32,16 @@ use crate::store::find;
 /// How many births are held back: where no more are left, no node is made any more.
 const SPARE_BIRTHS: u64 = 65_536;
 
+/// How many nodes may live at once, where no other limit is chosen.
+const MOST_NODES: u32 = 65_536;
+
 /// A lawful lock graph: inner nodes, files and indexes under inner nodes, intervals under their
 /// index, records under their file and under one interval of each of its indexes.
 #[derive(Drop)]
 pub struct Graph {
     nodes: Slab<Node>,
     births: u64,
+    most: u32,
     alloc: Global,
 }
 
@@ -54,16 +58,35 @@ impl Model for Graph {
 }
 
 impl Graph {
-    /// A graph without nodes.
+    /// A graph without nodes, of which at most 65,536 may live at once.
     pub fn new(alloc: Global) -> Self
         ensures empty { (birth : ℕ) → (graph_of result).at birth ≡ None }
         ensures births { result.births ≡ 0 }
+        ensures most { result.most ≡ 65536 }
+    {
+        Graph::with_most(alloc, MOST_NODES)
+    }
+
+    /// As `new`, with a limit of nodes that may live at once.
+    pub fn with_most(alloc: Global, most: u32) -> Self
+        requires { most ≤ 2 ^ 31 }
+        ensures empty { (birth : ℕ) → (graph_of result).at birth ≡ None }
+        ensures births { result.births ≡ 0 }
+        ensures most { result.most ≡ most }
     {
         Graph {
             nodes: Slab::new(alloc),
             births: 0,
+            most,
             alloc,
         }
+    }
+
+    /// How many nodes may live at once.
+    pub fn most(&self) -> u32
+        ensures { result ≡ (graph_of self.now).most }
+    {
+        self.most
     }
 
     /// Every graph is lawful.

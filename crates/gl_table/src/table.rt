@@ -1,12 +1,12 @@
 //! The table of locks.
 
-ghost use Rattle.std.specs.Prelude.{◌≡◌, ◌≤◌, ◌<◌, ◌+◌, ◌&&◌, ◌↔◌, ℕ, [], IfErr, IfOk, IfSome, IsNone, None, OnErr, OnOk, Some, if◌then◌else◌};
+ghost use Rattle.std.specs.Prelude.{◌≡◌, ◌≤◌, ◌<◌, ◌+◌, ◌^◌, ◌&&◌, ◌↔◌, ℕ, [], IfErr, IfOk, IfSome, IsNone, None, OnErr, OnOk, Some, if◌then◌else◌};
 ghost use Rattle.gl_modes.specs.declared.refusal.Refusal.{Refusal as ARefusal};
 ghost use Rattle.gl_graph.specs.View.{graph_of};
 ghost use Rattle.gl_table.specs.model.Deadlocks.{no_deadlock};
 ghost use Rattle.gl_table.specs.model.Lawful.{HasNoConflict, IsLawful};
 ghost use Rattle.gl_table.specs.inside.Headers.{AreHeaders};
-ghost use Rattle.gl_table.specs.model.State.{choosing, empty_state, lives, status_of, HasNoCycle};
+ghost use Rattle.gl_table.specs.model.State.{choosing, empty_state, lives, status_of, with_room, HasNoCycle};
 ghost use Rattle.gl_table.specs.model.Table.{ListsAgree, StandOnce, state_of};
 ghost use Rattle.gl_table.specs.declared.answers.Detect.TheVariants.{AtBlock};
 
@@ -82,9 +82,28 @@ impl Table {
         ensures deadlock { IfOk result (λ table. table.deadlock ≡ no_deadlock) }
         ensures refused { IfErr result (λ refusal. refusal ≡ ARefusal.NoMemory) }
     {
+        Table::with_room(alloc, detect, victims, most, 65_536)
+    }
+
+    /// As `choosing`, with a limit of nodes that may live at once, at most 2^31; 65,536 where none is
+    /// chosen.
+    pub fn with_room(
+        alloc: Global,
+        detect: Detect,
+        victims: Victims,
+        most: usize,
+        nodes: u32,
+    ) -> Result<Self, Refusal>
+        requires some { 1 ≤ most }
+        requires few { most ≤ 128 }
+        requires low { nodes ≤ 2 ^ 31 }
+        ensures made { IfOk result (λ table. state_of table ≡ with_room nodes (choosing victims (empty_state detect most))) }
+        ensures deadlock { IfOk result (λ table. table.deadlock ≡ no_deadlock) }
+        ensures refused { IfErr result (λ refusal. refusal ≡ ARefusal.NoMemory) }
+    {
         match Locks::new(alloc, most) {
             Ok(locks) => Ok(Table {
-                graph: Graph::new(alloc),
+                graph: Graph::with_most(alloc, nodes),
                 locks,
                 detect,
                 victims,

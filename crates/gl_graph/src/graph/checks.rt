@@ -22,9 +22,6 @@ use super::Graph;
 use crate::kind::Kind;
 use gl_modes::{MOST_PARENTS, NodeId, Refusal};
 
-/// How many nodes may live at once.
-const MOST_NODES: usize = 65_536;
-
 /// How many indexes a file may have.
 const MOST_INDEXES: usize = 7;
 
@@ -104,14 +101,15 @@ impl Graph {
 
     /// Whether with so many nodes more there are more than may live.
     fn too_many(&self, more: usize) -> bool
-        ensures { result ≡ nat_lt 65536 (node_count (graph_of self.now) + more) }
+        ensures { result ≡ nat_lt (graph_of self.now).most (node_count (graph_of self.now) + more) }
     {
-        more > MOST_NODES || self.len() > MOST_NODES - more
+        let most = self.most as usize;
+        more > most || self.len() > most - more
     }
 
     /// Whether no node more may live.
     pub fn is_full(&self) -> bool
-        ensures { result ≡ nat_lt 65536 (node_count (graph_of self.now) + 1) }
+        ensures { result ≡ nat_lt (graph_of self.now).most (node_count (graph_of self.now) + 1) }
     {
         self.too_many(1)
     }

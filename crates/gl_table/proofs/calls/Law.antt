@@ -8,13 +8,15 @@ use Rattle.gl_table.proofs.Words.{mode_in, nat_lt, nat_tests, NodeId, None, not,
 use Rattle.gl_table.proofs.Words.{queue_of, range_with_len, refl, Refusal, Refuses, replicate, Result, same_node, Seat, SeatList, slice_get, slice_get-get_or}
 use Rattle.gl_table.proofs.Words.{slice_set, Some, StandOnce, State, state_in, state_of, status_in, status_of, subst, suc, sym, TableView, too_many_txns, true}
 use Rattle.gl_table.proofs.Words.{txn_in, txns_of, unused-nobody, View, view_of, where_true, zero, ℕ}
+use Rattle.std.specs.Prelude.{◌^◌}
+use Rattle.gl_table.specs.model.State.{with_room}
 use Rattle.gl_table.specs.declared.table.Table.TheInside.{Inside}
 use Rattle.gl_modes.specs.declared.refusal.Refusal.TheVariants as no
 use Rattle.gl_table.proofs.law.Keeps.{waiting_is}
 use Rattle.gl_table.proofs.law.Lock.{begun-no_cycle, empty-no_cycle}
 use Rattle.gl_table.proofs.law.Records.{born-children, grown-lawful, Grows}
 use Rattle.gl_table.proofs.law.Searches.{same_bool}
-use Rattle.gl_table.proofs.law.Takes.{begun-lawful, empty-lawful}
+use Rattle.gl_table.proofs.law.Takes.{begun-lawful, roomy-lawful}
 use Rattle.gl_table.proofs.queues.Waiters.{among_by_filter}
 
 -- What holds of a table's fields, in the words of what a contract sees.
@@ -86,14 +88,15 @@ free_seats (suc k) (suc t) = free_seats k t
 no_headers : AreHeaders []
 no_headers = record { lawful = λ n h e. absurd (cc); used = λ n h e. absurd (cc) }
 
-module _ (i : Inside) (most : ℕ) (few : most ≤ 128) (none : (birth : ℕ) → (graph_of i.graph).at birth ≡ None) (births : i.graph.births ≡ 0)
+module _ (i : Inside) (most nodes : ℕ) (few : most ≤ 128) (low : nodes ≤ 2 ^ 31) (limit : (graph_of i.graph).most ≡ nodes)
+    (none : (birth : ℕ) → (graph_of i.graph).at birth ≡ None) (births : i.graph.births ≡ 0)
     (begins : i.begins ≡ 0) (new : AreNew i.locks most) where
   abbrev s : State
   s = state_of (view_of i)
 
-  pub new_state : s ≡ choosing i.victims (empty_state i.detect most)
-  new_state = λ z. record (choosing i.victims (empty_state i.detect most)) {
-    graph = record { at = λ b. none b z; births = births z };
+  pub new_state : s ≡ with_room nodes (choosing i.victims (empty_state i.detect most))
+  new_state = λ z. record (with_room nodes (choosing i.victims (empty_state i.detect most))) {
+    graph = record { at = λ b. none b z; births = births z; most = limit z };
     txns = λ t. (ap (λ xs. txns_of xs t) new.seats ∙ free_seats most t) z;
     held = λ t n. (ap (λ hs. held_of hs t n) new.headers ∙ ap (λ (g : Members). g t) unused-nobody) z;
     queue = λ n. queue_of (new.headers z) n;
@@ -103,7 +106,7 @@ module _ (i : Inside) (most : ℕ) (few : most ≤ 128) (none : (birth : ℕ) �
 
   pub new_sound : IsSound i
   new_sound = record {
-    lawful = subst IsLawful (sym new_state) (empty-lawful i.detect i.victims most);
+    lawful = subst IsLawful (sym new_state) (roomy-lawful i.detect i.victims most nodes low);
     exact = record {
       sound = record {
         headers = subst AreHeaders (sym new.headers) no_headers;

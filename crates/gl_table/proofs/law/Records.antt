@@ -132,7 +132,7 @@ no_queue [] none = refl
 no_queue (w ∷ ws) none = absurd (none w.0 (or_left _ _ (number_same w.0 w.0 refl)))
 
 module _ (s : State) (law : IsLawful s) (f : NodeId) (keys : List ℕ) (file : is_file_shape (shape_of s.graph f) ≡ true)
-    (each : length keys ≡ length (indexes_of s.graph f)) (room : node_count s.graph + 1 ≤ 65536)
+    (each : length keys ≡ length (indexes_of s.graph f)) (room : node_count s.graph + 1 ≤ s.graph.most)
     (g' : Graph) (n : NodeId) (born : IsBorn s.graph g' n (Rec keys) (record_parents s.graph f keys)) where
   abbrev node : Node
   node = record { key = n.key; shape = Rec keys; parents = record_parents s.graph f keys }

@@ -6,6 +6,8 @@ use Rattle.gl_table.proofs.Words.{members, Mode, ModeFitsKind, nat_tests, NL, no
 use Rattle.gl_table.proofs.Words.{placed, pumped, refl, released, restatus, same_mode, same_node, same_node-equal, same_node-refl, same_number, Settled}
 use Rattle.gl_table.proofs.Words.{SettledWithin, Some, split, State, Status, status_in, status_of, subst, suc, sym, true, Txn, Victims, Waiting, waits_at}
 use Rattle.gl_table.proofs.Words.{without_wait, without_waiter, zero, ℕ, ⊎_elim}
+use Rattle.std.specs.Prelude.{◌^◌}
+use Rattle.gl_table.specs.model.State.{with_room}
 use Rattle.gl_table.proofs.law.Keeps.{age_none, apart, IsLess, less-lawful, nl_holds, nl_is, pumped-lawful, txn_there, waiting_is}
 use Rattle.gl_table.proofs.queues.Edits.{among_same, HoldersFirst, out_of_without, placed_front, placed_order, placed_other, placed_self, without_ahead}
 use Rattle.gl_table.proofs.queues.Edits.{without_filter, without_none}
@@ -299,8 +301,8 @@ module _ (s : State) (law : IsLawful s) (t : ℕ) (free : is_some (s.txns t) ≡
 
 -- The empty state meets the law, and nobody waits in it.
 
-pub empty-lawful : (d : Detect) (c : Victims) (most : ℕ) → IsLawful (choosing c (empty_state d most))
-empty-lawful d c most = record {
+pub roomy-lawful : (d : Detect) (c : Victims) (most nodes : ℕ) → nodes ≤ 2 ^ 31 → IsLawful (with_room nodes (choosing c (empty_state d most)))
+roomy-lawful d c most nodes low = record {
   graph = record {
     well_formed = λ n node e. absurd (none_some e);
     parents_live = λ n p h. absurd (no h);
@@ -309,6 +311,7 @@ empty-lawful d c most = record {
     born = λ b h. absurd (no h);
     seven_indexes = λ f. omega arith;
     room = omega arith;
+    limit = omega arith;
   };
   grants_live = λ t n h. absurd (no h);
   waits_live = λ t n h. absurd (no h);
@@ -323,3 +326,6 @@ empty-lawful d c most = record {
   ages = λ t h. absurd (no h);
   ages_differ = λ t u h e. absurd (no h);
 }
+
+pub empty-lawful : (d : Detect) (c : Victims) (most : ℕ) → IsLawful (choosing c (empty_state d most))
+empty-lawful d c most = roomy-lawful d c most 65536 (omega arith)

@@ -6,6 +6,7 @@ use Rattle.gl_table.proofs.Words.{is_child, is_file_shape, is_index_of_shape, is
 use Rattle.gl_table.proofs.Words.{NodeId, nodes, nodes_distinct, not, not_true, or_elim, or_left, or_right, parents_in, parents_of, Rec, refl, same_node}
 use Rattle.gl_table.proofs.Words.{same_node-equal, same_node-from_equal, same_node-other, same_node-refl, same_node-sym, Shape, shape_in, shape_of, split}
 use Rattle.gl_table.proofs.Words.{subst, sym, true, ℕ}
+use Rattle.std.specs.Prelude.{◌^◌}
 
 -- The parents of a node in a lawful graph: no two alike, and at most eight.
 
@@ -158,10 +159,11 @@ pub children_down : (g : Graph) → IsLawfulGraph g → (f f' : NodeId → Bool)
 children_down g law f f' n live was now same p = sym (children_up g law f' f n live now was (λ q e. sym (same q e)) p)
 
 -- and there are at most as many as nodes
-pub children_few : (g : Graph) → IsLawfulGraph g → (f : NodeId → Bool) (p : NodeId) → children_that g f p ≤ 65536
+pub children_few : (g : Graph) → IsLawfulGraph g → (f : NodeId → Bool) (p : NodeId) → children_that g f p ≤ 2 ^ 31
 children_few g law f p =
     let few = count_by-le-length (λ c. is_child g p c && f c) (nodes g) in
     let room = law.room in
+    let limit = law.limit in
     omega arith
 
 -- a node has at most eight parents

@@ -100,11 +100,15 @@ with_graph s g = record s { graph = g }
 abbrev pub choosing : Victims → State → State
 choosing c s = record s { victims = c }
 
--- no node, no transaction, nothing counted; of a deadlock the youngest falls
+-- the state with another limit of nodes
+abbrev pub with_room : ℕ → State → State
+with_room nodes s = record s { graph = record s.graph { most = nodes } }
+
+-- no node, of which 65,536 may live at once, no transaction, nothing counted; of a deadlock the youngest falls
 abbrev pub empty_state : Detect → ℕ → State
 empty_state detect most =
     record {
-      graph = record { at = λ _. None; births = 0 };
+      graph = record { at = λ _. None; births = 0; most = 65536 };
       txns = λ _. None;
       held = λ _ _. NL;
       queue = λ _. [];

@@ -1,5 +1,5 @@
 use Rattle.std.specs.Prelude.{Err, Result}
-use Rattle.std.proofs.Common.{ap, refl, rules, subst, sym, ◌≡◌, ◌∙◌}
+use Rattle.std.proofs.Common.{ap, rules, subst, sym, ◌≡◌, ◌∙◌}
 use Rattle.gl_modes.specs.declared.refusal.Refusal.{Refusal}
 use Rattle.gl_catalog.specs.declared.command.Command.TheVariants as command
 use Rattle.gl_catalog.specs.Counters.{counted}

@@ -13,12 +13,12 @@ check_cycles-requires c = inner_live (graph_of c.args.self.now) c.args.parents.n
 
 pub write_parents-requires : goal.write_parents-requires
 write_parents-requires c =
-    contained c.self.inside.nodes c.self.inside.nodes c.self.inside.births c.self.invariant c.args.n
+    contained c.self.inside.most c.self.inside.nodes c.self.inside.nodes c.self.inside.births c.self.invariant c.args.n
     (subst (λ (v : View). is_movable_shape (shape_of (graph_of v) c.args.n) ≡ true) (sym c.self.view_is) c.requires.node)
 
 pub invariant_of-self : goal.invariant_of-self
 invariant_of-self c =
-    moved_sound c.self.inside.nodes c.write_parents.new.nodes c.self.inside.births c.self.invariant c.args.n
+    moved_sound c.self.inside.most c.self.inside.nodes c.write_parents.new.nodes c.self.inside.births c.self.invariant c.args.n
     (subst (λ (v : View). is_movable_shape (shape_of (graph_of v) c.args.n) ≡ true) (sym c.self.view_is) c.requires.node) c.args.parents.now
     (subst (λ (v : View). AreInnerParents (graph_of v) (least_parents (shape_of (graph_of v) c.args.n)) c.args.parents.now) (sym c.self.view_is) c.requires.parents)
     (subst (λ (v : View). first_cycle (graph_of v) c.args.n c.args.parents.now ≡ None) (sym c.self.view_is) c.in_ok-check_cycles.ensures.clear)
@@ -26,7 +26,7 @@ invariant_of-self c =
 
 pub returns-clause-moved : goal.returns-clause-moved
 returns-clause-moved c =
-    moved_graph c.self.inside.nodes c.write_parents.new.nodes c.self.inside.births c.self.invariant c.args.n
+    moved_graph c.self.inside.most c.self.inside.nodes c.write_parents.new.nodes c.self.inside.births c.self.invariant c.args.n
     (subst (λ (v : View). is_movable_shape (shape_of (graph_of v) c.args.n) ≡ true) (sym c.self.view_is) c.requires.node) c.args.parents.now
     (subst (λ (v : View). AreInnerParents (graph_of v) (least_parents (shape_of (graph_of v) c.args.n)) c.args.parents.now) (sym c.self.view_is) c.requires.parents)
     (subst (λ (v : View). first_cycle (graph_of v) c.args.n c.args.parents.now ≡ None) (sym c.self.view_is) c.in_ok-check_cycles.ensures.clear)
