@@ -43,6 +43,7 @@
 #include <stdbool.h>
 #include <stddef.h>
 #include <stdint.h>
+#include <string.h>
 
 #ifdef __cplusplus
 extern "C" {
@@ -240,6 +241,7 @@ typedef struct bs_counts {
  */
 bs_reply bs_call_make(bs_manager *manager, uint32_t detect, uint32_t most);
 bs_reply bs_call_make_choosing(bs_manager *manager, uint32_t detect, uint32_t victims, uint32_t most);
+bs_reply bs_call_make_with(bs_manager *manager, uint32_t detect, uint32_t victims, uint32_t most, uint32_t nodes);
 bs_reply bs_call_end(bs_manager *manager);
 bs_reply bs_call_add_inner(bs_manager *manager, const bs_node *parents, size_t count);
 bs_reply bs_call_add_file(bs_manager *manager, const bs_node *parents, size_t count);
@@ -282,6 +284,7 @@ bs_reply bs_call_accepted(bs_manager *manager);
 bs_reply bs_call_detect(bs_manager *manager);
 bs_reply bs_call_victims(bs_manager *manager);
 bs_reply bs_call_most(bs_manager *manager);
+bs_reply bs_call_most_nodes(bs_manager *manager);
 bs_reply bs_call_living(bs_manager *manager, uint32_t slot);
 bs_reply bs_call_doing(bs_manager *manager, bs_txn txn);
 bs_reply bs_call_lock_count(bs_manager *manager, bs_txn txn);
@@ -341,6 +344,39 @@ static inline bs_reply bs_make(bs_manager *manager, uint32_t detect, uint32_t mo
 /* As bs_make, with a choice of victims of enum bs_choices. */
 static inline bs_reply bs_make_choosing(bs_manager *manager, uint32_t detect, uint32_t victims, uint32_t most) {
   return manager == NULL ? bs_null() : bs_call_make_choosing(manager, detect, victims, most);
+}
+
+/* What a manager is made with. The size is that of the struct that its maker knows; what lies behind it, and a
+ * number that is 0, is as usual. */
+typedef struct bs_options {
+  size_t size;           /* sizeof(bs_options) */
+  uint32_t detect;       /* of enum bs_detects; BS_AT_BLOCK as usual */
+  uint32_t victims;      /* of enum bs_choices; BS_YOUNGEST as usual */
+  uint32_t transactions; /* how many may live at once, 1 to 128; 128 as usual */
+  uint32_t nodes;        /* how many may live at once, 1 to 2^31, records and intervals among them; 65,536 as usual */
+} bs_options;
+
+/* Options as usual. */
+static inline bs_options bs_usual(void) {
+  bs_options options = { sizeof(bs_options), 0, 0, 0, 0 };
+  return options;
+}
+
+/* The options of a maker who may know fewer. */
+static inline bs_options bs_known(const bs_options *given) {
+  bs_options options = bs_usual();
+  if (given != NULL) memcpy(&options, given, given->size < sizeof options ? given->size : sizeof options);
+  if (options.transactions == 0) options.transactions = BS_SLOTS;
+  if (options.nodes == 0) options.nodes = 65536;
+  return options;
+}
+
+/* Makes a manager as bs_make_choosing, by options; where they are null it is one as usual. Refused with
+ * BS_IN_USE, BS_BAD_NUMBER, BS_NO_MEMORY. Memory for nodes is taken as they are made. */
+static inline bs_reply bs_make_with(bs_manager *manager, const bs_options *given) {
+  bs_options options = bs_known(given);
+  return manager == NULL ? bs_null()
+                         : bs_call_make_with(manager, options.detect, options.victims, options.transactions, options.nodes);
 }
 
 /* Ends a manager, whatever its transactions do, and gives back all memory that it took. Its place has
@@ -660,6 +696,25 @@ static inline bs_reply bs_victims(bs_manager *manager) {
 /* How many transactions may live at once, in `count`: their slots are those below. */
 static inline bs_reply bs_most(bs_manager *manager) {
   return manager == NULL ? bs_null() : bs_call_most(manager);
+}
+
+/* How many nodes may live at once, in `count`. */
+static inline bs_reply bs_most_nodes(bs_manager *manager) {
+  return manager == NULL ? bs_null() : bs_call_most_nodes(manager);
+}
+
+/* What a manager was made with, into `options`. */
+static inline bs_reply bs_limits(bs_manager *manager, bs_options *options) {
+  bs_reply reply = bs_null();
+  if (manager == NULL || options == NULL) return reply;
+  *options = bs_usual();
+  reply = bs_call_detect(manager);
+  options->detect = (uint32_t)reply.count;
+  if (reply.status != BS_DONE) return reply;
+  options->victims = (uint32_t)bs_call_victims(manager).count;
+  options->transactions = (uint32_t)bs_call_most(manager).count;
+  options->nodes = (uint32_t)bs_call_most_nodes(manager).count;
+  return reply;
 }
 
 /* The transaction in a slot, in `txn`. Refused with BS_BAD_NUMBER, first of all, where the slot is over 127,

@@ -3,7 +3,7 @@ use Rattle.std.specs.Prelude.{◌≡◌, ◌⊎◌, ℕ, Bool, ◌&&◌, Option,
 use Rattle.gl_modes.specs.declared.refusal.Refusal.TheVariants as no
 use Rattle.gl_table.specs.declared.answers.Detect.{Detect}
 use Rattle.gl_waits.specs.declared.victims.Victims.{Victims}
-use Rattle.gl_table.specs.model.State.{choosing, empty_state}
+use Rattle.gl_table.specs.model.State.{choosing, empty_state, with_room}
 use Rattle.gl_catalog.specs.Manager.{state_of}
 use Rattle.gl_c.specs.declared.reply.Reply.{Reply}
 use Rattle.gl_c.specs.Carries.{Declines, Where}
@@ -11,32 +11,33 @@ use Rattle.gl_c.specs.Guarded.{GuardedView}
 use Rattle.gl_c.specs.Numbers.{bad_number, detect_at, done, in_use, no_manager, victims_at}
 use Rattle.gl_c.specs.Replies.{refused_reply, status_reply}
 
--- so many transactions can be had at once
-abbrev pub can_have : ℕ → Bool
-can_have most = nat_lt 0 most && nat_lt most 129
+-- so many transactions can be had at once, and so many nodes
+abbrev pub can_have : ℕ → ℕ → Bool
+can_have most nodes = (nat_lt 0 most && nat_lt most 129) && (nat_lt 0 nodes && nat_lt nodes 2147483649)
 
 -- a manager without nodes and transactions, with empty boxes, that no watcher was shown
-pub record IsNew (detect : Detect) (victims : Victims) (most : ℕ) (g : GuardedView) : Type 0 where
-  pub manager : state_of g.manager ≡ choosing victims (empty_state detect most)
+pub record IsNew (detect : Detect) (victims : Victims) (most nodes : ℕ) (g : GuardedView) : Type 0 where
+  pub manager : state_of g.manager ≡ with_room nodes (choosing victims (empty_state detect most))
   pub boxes : g.boxes ≡ replicate 128 None
   pub ended : g.ended ≡ 0
   pub shown : g.shown ≡ None
 
 -- there is a new manager from now on, or memory was wanting, and there is none
-abbrev pub Begins : Detect → Victims → ℕ → Reply → Option GuardedView → Type 0
-Begins detect victims most r s' =
-    ((r ≡ status_reply done) × (g : GuardedView) × (s' ≡ Some g) × IsNew detect victims most g)
+abbrev pub Begins : Detect → Victims → ℕ → ℕ → Reply → Option GuardedView → Type 0
+Begins detect victims most nodes r s' =
+    ((r ≡ status_reply done) × (g : GuardedView) × (s' ≡ Some g) × IsNew detect victims most nodes g)
     ⊎ ((r ≡ refused_reply no.NoMemory) × (s' ≡ None))
 
--- the way of detection, where its number names one and so many transactions can be had
-abbrev pub wanted : ℕ → ℕ → Option Detect
-wanted detect most = if can_have most then detect_at detect else None
+-- the way of detection, where its number names one and so many transactions and nodes can be had
+abbrev pub wanted : ℕ → ℕ → ℕ → Option Detect
+wanted detect most nodes = if can_have most nodes then detect_at detect else None
 
 -- what comes of asking for a manager
-abbrev pub Makes : Option GuardedView → ℕ → ℕ → ℕ → Reply → Option GuardedView → Type 0
-Makes (Some g) detect victims most r s' = Declines (Some g) in_use r s'
-Makes None detect victims most r s' =
-    Where (wanted detect most) (λ way. Where (victims_at victims) (λ choice. Begins way choice most r s') (Declines None bad_number r s')) (Declines None bad_number r s')
+abbrev pub Makes : Option GuardedView → ℕ → ℕ → ℕ → ℕ → Reply → Option GuardedView → Type 0
+Makes (Some g) detect victims most nodes r s' = Declines (Some g) in_use r s'
+Makes None detect victims most nodes r s' =
+    Where (wanted detect most nodes) (λ way. Where (victims_at victims) (λ choice. Begins way choice most nodes r s') (Declines None bad_number r s'))
+    (Declines None bad_number r s')
 
 -- what the end of a manager is answered
 abbrev pub ended : Option GuardedView → Reply

@@ -1,6 +1,6 @@
 //! All that C's mutex guards.
 
-ghost use Rattle.std.specs.Prelude.{◌≡◌, ◌≤◌, ◌⊎◌, ◌∷◌, ◌++◌, false, [], IfErr, IfNone, IfOk, IfSome, List, None, Ok, Some, replicate};
+ghost use Rattle.std.specs.Prelude.{◌≡◌, ◌≤◌, ◌^◌, ◌⊎◌, ◌∷◌, ◌++◌, false, [], IfErr, IfNone, IfOk, IfSome, List, None, Ok, Some, replicate};
 ghost use Rattle.gl_modes.specs.declared.refusal.Refusal.{Refusal as ARefusal};
 ghost use Rattle.gl_table.specs.model.Table.{board_of};
 ghost use Rattle.gl_table.specs.model.State.{choosing, empty_state};
@@ -50,19 +50,21 @@ impl Model for Guarded {
 }
 
 impl Guarded {
-    /// A new manager, for at most so many transactions at once. The only refusal is `NoMemory`.
+    /// A new manager, for at most so many transactions and nodes at once. The only refusal is `NoMemory`.
     pub(crate) fn new(
         alloc: Global,
         detect: Detect,
         victims: Victims,
         most: usize,
+        nodes: u32,
     ) -> Result<Self, Refusal>
         requires some { 1 ≤ most }
         requires few { most ≤ 128 }
-        ensures made { IfOk result (λ guarded. IsNew detect victims most guarded) }
+        requires low { nodes ≤ 2 ^ 31 }
+        ensures made { IfOk result (λ guarded. IsNew detect victims most nodes guarded) }
         ensures refused { IfErr result (λ refusal. refusal ≡ ARefusal.NoMemory) }
     {
-        let manager = Manager::choosing(alloc, detect, victims, most)?;
+        let manager = Manager::with_room(alloc, detect, victims, most, nodes)?;
         Ok(Guarded {
             manager,
             boxes: Boxes::new(),

@@ -35,6 +35,14 @@ pub extern "C" fn bs_call_most(manager: &mut Handle) -> Reply
     manager.look(Query::Most)
 }
 
+/// How many nodes may live at once.
+#[unsafe(no_mangle)]
+pub extern "C" fn bs_call_most_nodes(manager: &mut Handle) -> Reply
+    ensures { Looks (guarded_in manager.old) query.MostNodes result (guarded_in manager.new) }
+{
+    manager.look(Query::MostNodes)
+}
+
 /// The transaction in a slot.
 #[unsafe(no_mangle)]
 pub extern "C" fn bs_call_living(manager: &mut Handle, slot: u32) -> Reply

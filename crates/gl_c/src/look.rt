@@ -53,6 +53,8 @@ pub(crate) enum Query {
     Victims,
     /// How many transactions may live at once.
     Most,
+    /// How many nodes may live at once.
+    MostNodes,
     /// Who lives in a slot.
     Living { slot: u8 },
     /// What a transaction is doing.
@@ -90,6 +92,7 @@ pub(crate) fn look(manager: &Manager, query: Query) -> Reply
         Query::Place { node } => place_reply(graph.place(node)),
         Query::HasRecords { file } => records_reply(graph, file),
         Query::Most => Reply::with_count(manager.most() as u64),
+        Query::MostNodes => Reply::with_count(u64::from(manager.graph().most())),
         Query::Living { slot } => living_reply(manager.living(slot)),
         Query::Doing { txn } => doing_reply(manager.status(txn)),
         Query::LockCount { txn } => lock_count_reply(manager.lock_count(txn)),

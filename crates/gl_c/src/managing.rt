@@ -1,8 +1,8 @@
 //! Managers come and go.
 
-ghost use Rattle.std.specs.Prelude.{◌≡◌, ◌≤◌, None};
+ghost use Rattle.std.specs.Prelude.{◌≡◌, ◌≤◌, ◌^◌, None};
 ghost use Rattle.gl_c.specs.Handle.{guarded_in};
-ghost use Rattle.gl_c.specs.Managing.{Begins, Makes, ended};
+ghost use Rattle.gl_c.specs.Managing.{Begins, Makes, can_have, ended};
 
 use crate::handle::Handle;
 use crate::numbers::{BAD_NUMBER, DONE, IN_USE, NO_MANAGER, detect_at, victims_at};
@@ -13,13 +13,19 @@ use gl_table::Detect;
 use gl_waits::{SLOTS, Victims};
 use std::alloc::Global;
 
+/// How many nodes may live at once where no number is given.
+const USUAL_NODES: u32 = 65_536;
+
+/// How many nodes a manager may be made for at most.
+const MOST_NODES: u32 = 2_147_483_648;
+
 /// Makes a manager at a place that has none, for `most` transactions at once, 1 to 128, with the way
 /// of detection of this number. Of those in a deadlock the youngest falls. It takes memory.
 #[unsafe(no_mangle)]
 pub extern "C" fn bs_call_make(manager: &mut Handle, alloc: Global, detect: u32, most: u32) -> Reply
-    ensures { Makes (guarded_in manager.old) detect 0 most result (guarded_in manager.new) }
+    ensures { Makes (guarded_in manager.old) detect 0 most 65536 result (guarded_in manager.new) }
 {
-    make_by_numbers(manager, alloc, detect, 0, most)
+    make_by_numbers(manager, alloc, detect, 0, most, USUAL_NODES)
 }
 
 /// As `bs_call_make`, with the choice of victims of this number.
@@ -31,9 +37,24 @@ pub extern "C" fn bs_call_make_choosing(
     victims: u32,
     most: u32,
 ) -> Reply
-    ensures { Makes (guarded_in manager.old) detect victims most result (guarded_in manager.new) }
+    ensures { Makes (guarded_in manager.old) detect victims most 65536 result (guarded_in manager.new) }
 {
-    make_by_numbers(manager, alloc, detect, victims, most)
+    make_by_numbers(manager, alloc, detect, victims, most, USUAL_NODES)
+}
+
+/// As `bs_call_make_choosing`, with the number of nodes that may live at once, 1 to 2^31.
+#[unsafe(no_mangle)]
+pub extern "C" fn bs_call_make_with(
+    manager: &mut Handle,
+    alloc: Global,
+    detect: u32,
+    victims: u32,
+    most: u32,
+    nodes: u32,
+) -> Reply
+    ensures { Makes (guarded_in manager.old) detect victims most nodes result (guarded_in manager.new) }
+{
+    make_by_numbers(manager, alloc, detect, victims, most, nodes)
 }
 
 /// Makes a manager by what the numbers name.
@@ -43,28 +64,44 @@ fn make_by_numbers(
     detect: u32,
     victims: u32,
     most: u32,
+    nodes: u32,
 ) -> Reply
-    ensures { Makes (guarded_in manager.old) detect victims most result (guarded_in manager.new) }
+    ensures { Makes (guarded_in manager.old) detect victims most nodes result (guarded_in manager.new) }
 {
     if manager.has_session() {
         return Reply::with_status(IN_USE);
     }
     match (detect_at(detect), victims_at(victims)) {
-        (Some(detect), Some(victims)) if most >= 1 && most as usize <= SLOTS => {
-            make(manager, alloc, detect, victims, most as usize)
+        (Some(detect), Some(victims)) if can_have(most, nodes) => {
+            make(manager, alloc, detect, victims, most as usize, nodes)
         }
         _ => Reply::with_status(BAD_NUMBER),
     }
 }
 
+/// Whether so many transactions and so many nodes can be had at once.
+fn can_have(most: u32, nodes: u32) -> bool
+    ensures { result ≡ can_have most nodes }
+{
+    (most >= 1 && most as usize <= SLOTS) && (nodes >= 1 && nodes <= MOST_NODES)
+}
+
 /// Makes a manager at a place that has none.
-fn make(manager: &mut Handle, alloc: Global, detect: Detect, victims: Victims, most: usize) -> Reply
+fn make(
+    manager: &mut Handle,
+    alloc: Global,
+    detect: Detect,
+    victims: Victims,
+    most: usize,
+    nodes: u32,
+) -> Reply
     requires none { guarded_in manager.old ≡ None }
     requires some { 1 ≤ most }
     requires few { most ≤ 128 }
-    ensures { Begins detect victims most result (guarded_in manager.new) }
+    requires low { nodes ≤ 2 ^ 31 }
+    ensures { Begins detect victims most nodes result (guarded_in manager.new) }
 {
-    let Ok(session) = Session::new(alloc, detect, victims, most) else {
+    let Ok(session) = Session::new(alloc, detect, victims, most, nodes) else {
         return Reply::refused(Refusal::NoMemory);
     };
     let Ok(session) = Box::new(alloc, session) else {

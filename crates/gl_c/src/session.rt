@@ -1,6 +1,6 @@
 //! A manager with its list of notices.
 
-ghost use Rattle.std.specs.Prelude.{◌≡◌, ◌≤◌, IfErr, IfOk, Some};
+ghost use Rattle.std.specs.Prelude.{◌≡◌, ◌≤◌, ◌^◌, IfErr, IfOk, Some};
 ghost use Rattle.gl_modes.specs.declared.refusal.Refusal.{Refusal as ARefusal};
 ghost use Rattle.gl_table.specs.model.Table.{board_of};
 ghost use Rattle.gl_catalog.specs.Manager.{IsLawfulManager, state_of};
@@ -45,20 +45,22 @@ impl Model for Session {
 }
 
 impl Session {
-    /// A session of a new manager, for at most so many transactions at once. The only refusal is
+    /// A session of a new manager, for at most so many transactions and nodes at once. The only refusal is
     /// `NoMemory`.
     pub(crate) fn new(
         alloc: Global,
         detect: Detect,
         victims: Victims,
         most: usize,
+        nodes: u32,
     ) -> Result<Self, Refusal>
         requires some { 1 ≤ most }
         requires few { most ≤ 128 }
-        ensures made { IfOk result (λ session. IsNew detect victims most session) }
+        requires low { nodes ≤ 2 ^ 31 }
+        ensures made { IfOk result (λ session. IsNew detect victims most nodes session) }
         ensures refused { IfErr result (λ refusal. refusal ≡ ARefusal.NoMemory) }
     {
-        let guarded = Guarded::new(alloc, detect, victims, most)?;
+        let guarded = Guarded::new(alloc, detect, victims, most, nodes)?;
         Ok(Session {
             guarded,
             told: Told::new(),
