@@ -223,9 +223,9 @@ static inline void bs_table_free_inside(bs_table_inside *in) {
   free(in);
 }
 
-/* Makes a table at a place that has none: a manager as bs_make_choosing makes one. Refused with BS_NULL_POINTER,
+/* Makes a table at a place that has none: a manager as bs_make_with makes one. Refused with BS_NULL_POINTER,
  * BS_IN_USE, BS_BAD_NUMBER, BS_NO_MEMORY. Takes memory. */
-static inline bs_reply bs_table_make(bs_table *table, uint32_t detect, uint32_t victims, uint32_t most) {
+static inline bs_reply bs_table_make_with(bs_table *table, const bs_options *options) {
   bs_table_inside *in;
   bs_reply reply = bs_null();
   if (table == NULL) return reply;
@@ -235,10 +235,19 @@ static inline bs_reply bs_table_make(bs_table *table, uint32_t detect, uint32_t 
   reply.status = BS_NO_MEMORY;
   in = bs_table_new_inside();
   if (in == NULL) return bs_table_leave(table, reply);
-  reply = bs_make_choosing(&in->manager, detect, victims, most);
+  reply = bs_make_with(&in->manager, options);
   if (reply.status == BS_DONE) table->in = in;
   else bs_table_free_inside(in);
   return bs_table_leave(table, reply);
+}
+
+/* The same as bs_make_choosing makes one: for `most` transactions at once, 1 to 128. */
+static inline bs_reply bs_table_make(bs_table *table, uint32_t detect, uint32_t victims, uint32_t most) {
+  bs_options options = bs_usual();
+  options.detect = detect;
+  options.victims = victims;
+  options.transactions = most != 0 ? most : UINT32_MAX; /* 0 would be as usual, and is a bad number here */
+  return bs_table_make_with(table, &options);
 }
 
 /* Wakes all who sleep with a table that ends. */
@@ -684,6 +693,14 @@ static inline bs_reply bs_table_read_board(bs_table *table, bs_board *board) {
 
 static inline bs_reply bs_table_most(bs_table *table) {
   BS_TABLE_ASK(table, bs_most(&in->manager));
+}
+
+static inline bs_reply bs_table_most_nodes(bs_table *table) {
+  BS_TABLE_ASK(table, bs_most_nodes(&in->manager));
+}
+
+static inline bs_reply bs_table_limits(bs_table *table, bs_options *options) {
+  BS_TABLE_ASK(table, bs_limits(&in->manager, options));
 }
 
 static inline bs_reply bs_table_living(bs_table *table, uint32_t slot) {

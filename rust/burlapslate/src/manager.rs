@@ -79,6 +79,53 @@ pub struct Manager {
     pinned: Box<Pinned>,
 }
 
+/// What a manager or a table is made with.
+///
+/// ```
+/// use burlapslate::{Detect, Manager, Options};
+///
+/// let manager = Manager::with(Options::new(Detect::AtBlock).nodes(1_000_000))?;
+/// assert_eq!(manager.most_nodes(), 1_000_000);
+/// # Ok::<(), burlapslate::Refusal>(())
+/// ```
+#[derive(Clone, Copy, PartialEq, Eq, Debug)]
+pub struct Options {
+    detect: Detect,
+    victims: Victims,
+    transactions: usize,
+    nodes: usize,
+}
+
+impl Options {
+    /// For 128 transactions and 65,536 nodes at once; of those in a deadlock the youngest falls.
+    pub fn new(detect: Detect) -> Options {
+        Options {
+            detect,
+            victims: Victims::Youngest,
+            transactions: SLOTS,
+            nodes: 65_536,
+        }
+    }
+
+    /// With another choice of victims.
+    pub fn victims(self, victims: Victims) -> Options {
+        Options { victims, ..self }
+    }
+
+    /// For so many transactions at once, 1 to [`SLOTS`].
+    pub fn transactions(self, transactions: usize) -> Options {
+        Options {
+            transactions,
+            ..self
+        }
+    }
+
+    /// For so many nodes at once, 1 to 2^31, records and intervals among them.
+    pub fn nodes(self, nodes: usize) -> Options {
+        Options { nodes, ..self }
+    }
+}
+
 impl Manager {
     /// Makes a manager for `most` transactions at once, 1 to [`SLOTS`], with a way of detection. Of
     /// those in a deadlock the youngest falls.
@@ -91,15 +138,23 @@ impl Manager {
 
     /// As [`new`](Manager::new), with a choice of victims.
     pub fn choosing(detect: Detect, victims: Victims, most: usize) -> Result<Manager, Refusal> {
-        if !(1..=SLOTS).contains(&most) {
-            return Err(Refusal::BadNumber);
-        }
+        Manager::with(Options::new(detect).victims(victims).transactions(most))
+    }
+
+    /// By options.
+    ///
+    /// Refused with [`BadNumber`](Refusal::BadNumber), [`NoMemory`](Refusal::NoMemory). Memory for
+    /// nodes is taken as they are made.
+    pub fn with(options: Options) -> Result<Manager, Refusal> {
+        let most = u32::try_from(options.transactions).map_err(|_| Refusal::BadNumber)?;
+        let nodes = u32::try_from(options.nodes).map_err(|_| Refusal::BadNumber)?;
         let mut pinned = Pinned::new().ok_or(Refusal::NoMemory)?;
-        accepted(sys::bs_call_make_choosing(
+        accepted(sys::bs_call_make_with(
             &mut pinned.place,
-            detect as u32,
-            victims as u32,
-            most as u32,
+            options.detect as u32,
+            options.victims as u32,
+            most,
+            nodes,
         ))?;
         Ok(Manager { pinned })
     }
@@ -624,6 +679,11 @@ impl Manager {
     /// How many transactions may live at once.
     pub fn most(&self) -> usize {
         answered(sys::bs_call_most(&self.pinned.place)) as usize
+    }
+
+    /// How many nodes may live at once.
+    pub fn most_nodes(&self) -> usize {
+        answered(sys::bs_call_most_nodes(&self.pinned.place)) as usize
     }
 
     /// The transactions that live, by rising slot.

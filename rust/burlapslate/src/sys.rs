@@ -213,11 +213,12 @@ unsafe fn zeroed<T>() -> Option<Box<T>> {
 // SAFETY: these are the calls of the header, and their types have the layout of its types. Those
 // that are safe have no conditions but what their types say, as the text above says.
 unsafe extern "C" {
-    pub(crate) safe fn bs_call_make_choosing(
+    pub(crate) safe fn bs_call_make_with(
         manager: &mut Place,
         detect: u32,
         victims: u32,
         most: u32,
+        nodes: u32,
     ) -> Reply;
     pub(crate) safe fn bs_call_end(manager: &mut Place) -> Reply;
 
@@ -313,6 +314,7 @@ unsafe extern "C" {
     pub(crate) safe fn bs_call_victims(manager: &Place) -> Reply;
 
     pub(crate) safe fn bs_call_most(manager: &Place) -> Reply;
+    pub(crate) safe fn bs_call_most_nodes(manager: &Place) -> Reply;
     pub(crate) safe fn bs_call_living(manager: &Place, slot: u32) -> Reply;
     pub(crate) safe fn bs_call_doing(manager: &Place, txn: Txn) -> Reply;
     pub(crate) safe fn bs_call_lock_count(manager: &Place, txn: Txn) -> Reply;

@@ -1,7 +1,7 @@
 //! A table that threads share.
 
 use crate::board::{Board, Slots};
-use crate::manager::{Asked, Manager};
+use crate::manager::{Asked, Manager, Options};
 use crate::mode::{Detect, Mode, Victims};
 use crate::names::{Node, Txn};
 use crate::refusal::Refusal;
@@ -70,8 +70,15 @@ impl Table {
 
     /// As [`new`](Table::new), with a choice of victims.
     pub fn choosing(detect: Detect, victims: Victims, most: usize) -> Result<Table, Refusal> {
+        Table::with(Options::new(detect).victims(victims).transactions(most))
+    }
+
+    /// By options.
+    ///
+    /// Refused as [`Manager::with`].
+    pub fn with(options: Options) -> Result<Table, Refusal> {
         let guarded = Guarded {
-            manager: Manager::choosing(detect, victims, most)?,
+            manager: Manager::with(options)?,
             waited: 0,
             is_unwatched: false,
         };
