@@ -1,4 +1,4 @@
-//! The calls of the lower crates: modes, sets of slots, boards, the lock graph, headers, and the lines of
+//! The calls of the lower crates: modes, sets of slots, boards, the lock graph, headers, lists under nodes, and
 //! a script. Each on its happy path, and at its limits.
 #![tactic(auto)]
 
@@ -10,6 +10,8 @@ mod closures;
 mod graphs;
 #[cfg(test)]
 mod headers;
+#[cfg(test)]
+mod listed;
 #[cfg(test)]
 mod listings;
 #[cfg(test)]
