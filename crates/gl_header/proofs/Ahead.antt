@@ -1,6 +1,6 @@
 -- Who stands ahead of whom, read from the front.
 use Rattle.std.proofs.Common.{◌≡◌, ℕ, zero, suc, ◌<◌, true, false, ◌&&◌, not, List, [], ◌∷◌, length, take, get_or, ap, ap₂, arith}
-use Rattle.std.specs.List.{before_first, list_all, prefix_len}
+use Rattle.std.specs.List.{list_all, prefix_len}
 use Rattle.std.proofs.lemmas.Bool.Decides.{nat_tests}
 use Rattle.gl_header.specs.Header.{Waiter, is_waiter, is_ahead, is_among_waiters}
 use Rattle.gl_header.specs.Sound.{is_entry}

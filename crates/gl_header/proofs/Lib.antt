@@ -13,3 +13,6 @@ mod Pumped
 mod Lawful
 mod Asks
 mod Steps
+pub mod Changed
+pub mod ByKey
+mod AtPlace

@@ -1,5 +1,5 @@
 -- A header that nobody uses, both ways.
-use Rattle.std.proofs.Common.{◌≡◌, ℕ, Bool, true, false, ◌&&◌, not, cond, List, [], ◌∷◌, refl, ap₂, arith}
+use Rattle.std.proofs.Common.{◌≡◌, ℕ, Bool, true, false, ◌&&◌, not, cond, List, [], ◌∷◌, ◌∙◌, refl, ap, ap₂, arith}
 use Rattle.std.proofs.Math.Path.{fun_ext}
 use Rattle.gl_slots.proofs.BitLemmas.{in_bits-zero}
 use Rattle.std.specs.Prelude.{◌⊎◌}
@@ -10,7 +10,7 @@ use Rattle.gl_modes.specs.Modes.{same_mode}
 use Rattle.gl_modes.proofs.ModeLemmas.{same_mode-equal}
 use Rattle.gl_header.specs.Header.{Members, Waiter, IsWithin, holds, is_empty}
 use Rattle.gl_header.specs.State.{HeaderState, IsLawfulHeader, members_of, nobody_holds, is_unused, slot_limit, unused_header}
-use Rattle.gl_header.proofs.Ranges.{below_or_not, range-each, range-fails}
+use Rattle.gl_header.proofs.Ranges.{below_or_not, range-each, range-fails, range-from_each}
 use Rattle.gl_header.proofs.Fits.{within-limit}
 use Rattle.gl_modes.proofs.Words.{clash, and_both, split}
 
@@ -57,3 +57,9 @@ unused-false h u =
 -- nobody holds an unused header
 pub unused-nobody : members_of unused_header ≡ (λ _. NL)
 unused-nobody = fun_ext (λ t. ap₂ (λ a b. cond a NL (cond b IS NL)) (in_bits-zero t) (in_bits-zero t))
+
+-- an unused header is not needed
+pub unused-unused : is_unused unused_header ≡ true
+unused-unused =
+    ap (λ g. nobody_holds slot_limit g && true) unused-nobody
+    ∙ ap (λ b. b && true) (range-from_each (λ t. not (holds (λ _. NL) t)) 0 slot_limit (λ u low high. refl))

@@ -4,3 +4,5 @@ pub mod Entries
 pub mod State
 pub mod Answers
 pub mod Sound
+pub mod Headers
+pub mod Places

@@ -1,4 +1,5 @@
-//! The header of one node: who holds it, in which modes, and who waits for it.
+//! The header of one node: who holds it, in which modes, and who waits for it; and the headers of all
+//! nodes, by the nodes' keys.
 //!
 //! Modes and the conversion to the supremum are those of Gray, Lorie, Putzolu and Traiger (1976);
 //! headers with a granted group and a queue are of the kind that Gray and Reuter describe (1993).
@@ -10,7 +11,10 @@ mod changes;
 mod entries;
 mod group;
 mod header;
+mod headers;
+mod places;
 
 pub use changes::GrantList;
 pub use group::Group;
 pub use header::{Asked, Header, Try};
+pub use headers::{Headers, Prepared};

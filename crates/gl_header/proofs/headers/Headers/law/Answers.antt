@@ -1,0 +1,12 @@
+use Rattle.std.proofs.Common.{ap, subst}
+use Rattle.gl_header.specs.Headers.{AreDistinct, AreHeaders, HeadersState}
+use Rattle.gl_header.proofs.ByKey.{are_headers, distinct}
+use Rattle.gl_header.proofs.headers.Headers.law.Goals as goal
+
+pub returns-clause-headers : goal.returns-clause-headers
+returns-clause-headers c =
+    subst AreHeaders (ap (λ (v : HeadersState). v.entries) c.self.view_is) (are_headers c.self.inside.places.items c.self.invariant.places)
+
+pub returns-clause-distinct : goal.returns-clause-distinct
+returns-clause-distinct c =
+    subst AreDistinct (ap (λ (v : HeadersState). v.entries) c.self.view_is) (distinct c.self.inside.places.items c.self.invariant.places)

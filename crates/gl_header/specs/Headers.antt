@@ -1,0 +1,80 @@
+-- The headers of all nodes: who holds what and who waits where, and how much room there is.
+use Rattle.std.specs.Prelude.{◌≡◌, ℕ, Bool, false, List, Option, Some, None, if◌then◌else◌, []}
+use Rattle.std.specs.List.{IsDistinct}
+use Rattle.std.specs.Map.{keys_of, lookup}
+use Rattle.gl_modes.specs.declared.mode.Mode.{Mode}
+use Rattle.gl_modes.specs.declared.mode.Mode.TheVariants.{NL}
+use Rattle.gl_modes.specs.declared.node.NodeId.{NodeId}
+use Rattle.gl_modes.specs.Modes.{supremum}
+use Rattle.gl_modes.specs.Nodes.{same_node}
+use Rattle.gl_header.specs.Header.{Members, Waiter, with_mode}
+use Rattle.gl_header.specs.State.{HeaderState, IsLawfulHeader, is_granted, is_unused, members_of, unused_header}
+
+-- nodes with their headers
+abbrev pub Entries : Type 0
+Entries = List (NodeId × HeaderState)
+
+-- the nodes that somebody holds or waits for with their headers, by rising key; and the key below which each node has a place
+pub record HeadersState : Type 0 where
+  pub entries : Entries
+  pub room : ℕ
+
+-- the header of a node
+abbrev pub header_at : Entries → NodeId → Option HeaderState
+header_at hs n = lookup (same_node n) hs
+
+-- a node without header has no members and no waiters
+abbrev pub header_or_new : Option HeaderState → HeaderState
+header_or_new None = unused_header
+header_or_new (Some h) = h
+
+-- who holds the node in which mode
+abbrev pub members_at : Entries → NodeId → Members
+members_at hs n = members_of (header_or_new (header_at hs n))
+
+-- the mode that a slot holds on a node
+abbrev pub held_of : Entries → ℕ → NodeId → Mode
+held_of hs t n = members_at hs n t
+
+-- who waits for the node
+abbrev pub queue_of : Entries → NodeId → List Waiter
+queue_of hs n = (header_or_new (header_at hs n)).queue
+
+-- an ask of a slot for a mode on the node is granted at once
+abbrev pub is_granted_at : Entries → ℕ → NodeId → Mode → Bool
+is_granted_at hs t n m = is_granted (header_or_new (header_at hs n)) t m
+
+-- the supremum of the mode that a slot holds on the node and another
+abbrev pub wanted_at : Entries → ℕ → NodeId → Mode → Mode
+wanted_at hs t n m = supremum (held_of hs t n) m
+
+-- each header is lawful, and each is needed: somebody holds or waits
+pub record AreHeaders (hs : Entries) : Type 0 where
+  pub lawful : (n : NodeId) (h : HeaderState) → header_at hs n ≡ Some h → IsLawfulHeader h
+  pub used : (n : NodeId) (h : HeaderState) → header_at hs n ≡ Some h → is_unused h ≡ false
+
+-- no node has two headers
+abbrev pub AreDistinct : Entries → Type 0
+AreDistinct hs = IsDistinct same_node (keys_of hs)
+
+-- nobody holds or waits for another node with the key of this one
+pub record HasItsKey (hs : Entries) (n : NodeId) : Type 0 where
+  pub others : (q : NodeId) → same_node q n ≡ false → q.key ≡ n.key → header_at hs q ≡ None
+
+-- nobody holds or waits for a node with this key
+pub record IsFreeKey (hs : Entries) (k : ℕ) : Type 0 where
+  pub none : (q : NodeId) → q.key ≡ k → header_at hs q ≡ None
+
+-- the grants with other members on one node
+abbrev pub with_members : (ℕ → NodeId → Mode) → NodeId → Members → ℕ → NodeId → Mode
+with_members held n ms = λ u q. if same_node q n then ms u else held u q
+
+-- the queues with another on one node
+abbrev pub with_waiters : (NodeId → List Waiter) → NodeId → List Waiter → NodeId → List Waiter
+with_waiters queue n ws = λ q. if same_node q n then ws else queue q
+
+-- the slot holds the node in this mode, nobody else holds it, and nobody waits
+pub record IsOneHolder (h : HeaderState) (t : ℕ) (m : Mode) : Type 0 where
+  pub lawful : IsLawfulHeader h
+  pub members : members_of h ≡ with_mode (λ _. NL) t m
+  pub queue : h.queue ≡ []
