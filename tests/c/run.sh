@@ -35,6 +35,8 @@ done
 
 compile stories -Wl,--wrap=malloc,--wrap=realloc,--wrap=free || exit 1
 timeout 60 "$work/stories" || exit 1
+compile many -Wl,--wrap=malloc,--wrap=realloc,--wrap=free || exit 1
+timeout 100 "$work/many" || exit 1
 compile shared -Wl,--wrap=malloc,--wrap=realloc,--wrap=free || exit 1
 timeout 60 "$work/shared" || exit 1
 compile crowd || exit 1

@@ -411,6 +411,34 @@ static void numbers_out_of_range(void) {
   DONE(bs_end(&m));
 }
 
+static void options_are_taken(void) {
+  bs_manager m = BS_NO_MANAGER_HERE, usual = BS_NO_MANAGER_HERE;
+  bs_options options = bs_usual(), was;
+  bs_node root;
+  options.victims = BS_FEWEST;
+  options.transactions = 2;
+  options.nodes = 2;
+  DONE(bs_make_with(&m, &options));
+  DONE(bs_limits(&m, &was));
+  WANT(was.size == sizeof was && was.detect == BS_AT_BLOCK && was.victims == BS_FEWEST);
+  WANT(was.transactions == 2 && was.nodes == 2 && bs_most_nodes(&m).count == 2);
+  root = DONE(bs_add_inner(&m, NULL, 0)).node;
+  DONE(bs_add_inner(&m, &root, 1));
+  WANT(bs_add_inner(&m, &root, 1).status == BS_TOO_MANY_NODES);
+  WANT(bs_make_with(&m, &options).status == BS_IN_USE);
+  DONE(bs_end(&m));
+  options.nodes = UINT32_MAX;
+  WANT(bs_make_with(&m, &options).status == BS_BAD_NUMBER);
+  options.size = offsetof(bs_options, nodes); /* of a maker who does not know of nodes */
+  DONE(bs_make_with(&m, &options));
+  WANT(bs_most_nodes(&m).count == 65536 && bs_most(&m).count == 2);
+  DONE(bs_end(&m));
+  DONE(bs_make_with(&usual, NULL));
+  WANT(bs_most_nodes(&usual).count == 65536 && bs_most(&usual).count == 128);
+  WANT(bs_make_with(NULL, NULL).status == BS_NULL_POINTER && bs_limits(&usual, NULL).status == BS_NULL_POINTER);
+  DONE(bs_end(&usual));
+}
+
 static void places_without_a_manager(void) {
   bs_manager never = BS_NO_MANAGER_HERE, m = BS_NO_MANAGER_HERE;
   bs_node root = begin_manager(&m, BS_AT_BLOCK);
@@ -613,6 +641,7 @@ int main(void) {
   TELL(questions);
   TELL(stale_names);
   TELL(numbers_out_of_range);
+  TELL(options_are_taken);
   TELL(places_without_a_manager);
   TELL(null_pointers);
   TELL(everybody_is_told);

@@ -139,6 +139,42 @@ fn no_node_past_the_limit(rt: HostRuntime) -> Result<(), Fail> {
 }
 
 #[test]
+fn a_chosen_limit_is_met_and_passed_by_none(rt: HostRuntime) -> Result<(), Fail> {
+    let mut graph = Graph::with_most(rt.alloc(), 3);
+    let db = graph.add_inner(&[])?;
+    let file = graph.add_file(&[db])?;
+    let rec = graph.add_record(file, &[])?;
+    assert!(rt; is_refused(graph.add_record(file, &[]), Refusal::TooManyNodes)?);
+    remove(&mut graph, rec);
+    graph.add_record(file, &[])?;
+    assert!(rt; is_refused(graph.add_inner(&[]), Refusal::TooManyNodes)?);
+    assert_eq!(rt; graph.most(), 3);
+    Ok(())
+}
+
+#[test]
+fn a_limit_above_the_usual_one(rt: HostRuntime) -> Result<(), Fail> {
+    let mut graph = Graph::with_most(rt.alloc(), 70_000);
+    for _ in 0..70_000 {
+        graph.add_inner(&[])?;
+    }
+    assert!(rt; is_refused(graph.add_inner(&[]), Refusal::TooManyNodes)?);
+    assert_eq!(rt; graph.len(), 70_000);
+    Ok(())
+}
+
+#[test]
+fn the_next_key_is_that_of_the_next_node(rt: HostRuntime) -> Result<(), Fail> {
+    let (mut graph, _, file, _) = small(rt.alloc(), &[])?;
+    let key = graph.next_key();
+    let rec = graph.add_record(file, &[7])?;
+    assert_eq!(rt; rec.key, key);
+    remove(&mut graph, rec);
+    assert_eq!(rt; graph.next_key(), key);
+    Ok(())
+}
+
+#[test]
 fn many_records_come_and_go(rt: HostRuntime) -> Result<(), Fail> {
     let (mut graph, _, file, _) = small(rt.alloc(), &[])?;
     let mut records = Vec::new(rt.alloc());
