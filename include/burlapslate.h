@@ -79,7 +79,7 @@ enum bs_statuses {
   BS_HELD_CHILD = 9,      /* the transaction holds the child `node` */
   BS_WOULD_BLOCK = 10,    /* the lock cannot be granted at once */
   BS_TOO_MANY_TXNS = 11,  /* as many transactions live as may */
-  BS_TOO_MANY_NODES = 12, /* as many nodes live as may: 65,536 */
+  BS_TOO_MANY_NODES = 12, /* as many nodes live as may, 65,536 where no other number was chosen */
   BS_BAD_PARENTS = 13,    /* a node of the wrong kind for its place, one parent twice, or too few */
   BS_NEED_EXCLUSIVE = 14, /* without the exclusive locks that a delete or a move needs */
   BS_NOT_WAITING = 15,    /* the transaction waits for nothing */

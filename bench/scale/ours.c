@@ -1,0 +1,103 @@
+/* The steps through the library, in a manager whose limit is what they need. */
+#include "scale.h"
+
+#include "burlapslate.h"
+
+#include <stdlib.h>
+
+enum { ABOVE = 4 };
+
+static bs_manager m = BS_NO_MANAGER_HERE;
+static bs_notices told;
+static bs_node db, file, below, *records;
+
+static bs_reply done(bs_reply reply) {
+  if (reply.status != BS_DONE) fail("an answer of ours", __FILE__, __LINE__);
+  return reply;
+}
+
+static void set_up(const struct work *work) {
+  uint64_t none = 0;
+  bs_options options = bs_usual();
+  options.nodes = work->records + ABOVE;
+  records = malloc(work->records * sizeof *records);
+  if (records == NULL) fail("no memory", __FILE__, __LINE__);
+  done(bs_make_with(&m, &options));
+  db = done(bs_add_inner(&m, NULL, 0)).node;
+  file = done(bs_add_file(&m, &db, 1)).node;
+  below = done(bs_interval_of(&m, done(bs_add_index(&m, &db, 1, file, &none, 0)).node, 0)).node;
+}
+
+static void tear_down(void) {
+  done(bs_end(&m));
+  free(records);
+}
+
+static bs_txn begin(void) {
+  bs_txn t = done(bs_begin(&m)).txn;
+  done(bs_lock(&m, t, db, BS_IX, &told));
+  done(bs_lock(&m, t, file, BS_IX, &told));
+  done(bs_lock(&m, t, below, BS_IX, &told));
+  return t;
+}
+
+static void commit(bs_txn t) {
+  done(bs_commit(&m, t, &told));
+}
+
+/* Goes over all records, a hundred in a transaction. */
+#define IN_TRANSACTIONS(work, at, t, what)                                        \
+  do {                                                                            \
+    bs_txn t = begin();                                                           \
+    uint32_t at;                                                                  \
+    for (at = 0; at < (work)->records; at++) {                                    \
+      what;                                                                       \
+      if (at % PER_TRANSACTION != PER_TRANSACTION - 1) continue;                  \
+      commit(t);                                                                  \
+      t = begin();                                                                \
+    }                                                                             \
+    commit(t);                                                                    \
+  } while (0)
+
+static __attribute__((noinline)) void step_insert(const struct work *work) {
+  IN_TRANSACTIONS(work, at, t, {
+    uint64_t key = work->order[at];
+    records[work->order[at]] = done(bs_insert(&m, t, file, &key, 1)).node;
+  });
+}
+
+static __attribute__((noinline)) void step_lock(const struct work *work) {
+  IN_TRANSACTIONS(work, at, t, done(bs_lock(&m, t, records[work->order[at]], BS_X, &told)));
+}
+
+static __attribute__((noinline)) void step_lock_all(const struct work *work) {
+  uint32_t at;
+  bs_txn t = begin();
+  for (at = 0; at < work->records; at++) done(bs_lock(&m, t, records[work->order[at]], BS_X, &told));
+  commit(t);
+}
+
+static __attribute__((noinline)) void step_escalate(const struct work *work) {
+  uint32_t at;
+  bs_txn t = begin();
+  for (at = 0; at < work->records; at++) done(bs_lock(&m, t, records[work->order[at]], BS_X, &told));
+  done(bs_escalate(&m, t, below, &told));
+  commit(t);
+}
+
+static __attribute__((noinline)) void step_delete(const struct work *work) {
+  IN_TRANSACTIONS(work, at, t, {
+    done(bs_lock(&m, t, records[work->order[at]], BS_X, &told));
+    done(bs_delete(&m, t, records[work->order[at]], &told));
+  });
+}
+
+static const struct step steps[] = {
+  { "insert\tstep_insert", step_insert },
+  { "lock, a hundred in a transaction\tstep_lock", step_lock },
+  { "lock, all in one transaction\tstep_lock_all", step_lock_all },
+  { "lock all, and escalate\tstep_escalate", step_escalate },
+  { "lock and delete\tstep_delete", step_delete },
+};
+
+const struct side ours = { set_up, steps, sizeof steps / sizeof *steps, tear_down };
