@@ -41,7 +41,8 @@ impl Manager {
     }
 
     /// As `apply`, with the notices put into an empty list, which the caller may use again: a reply is
-    /// some six kilobytes large.
+    /// some six kilobytes large. Inlined, so that a caller with one kind of command makes no choice.
+    #[inline(always)]
     pub fn apply_telling(&mut self, command: Command<'_>, told: &mut Told) -> Answer
         requires empty { told.old.items ≡ [] }
         ensures step { Step (state_of self.old) command.entry result told.new.items (state_of self.new) }
@@ -57,6 +58,7 @@ impl Manager {
     }
 
     /// Carries out one command by the call that does it.
+    #[inline(always)]
     fn carry_out(&mut self, command: Command<'_>, told: &mut Told) -> Answer
         requires empty { told.old.items ≡ [] }
         ensures step { Step (state_of self.old) command.entry result told.new.items (state_of self.new) }
