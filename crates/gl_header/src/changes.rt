@@ -76,6 +76,9 @@ pub(crate) fn pump(group: &mut Group, queue: &mut Queue, granted: &mut GrantList
     ensures queue { queue.new.items ≡ pumped_queue slot_limit (held_by group.old) queue.old.items }
 {
     granted.clear();
+    if queue.is_empty() {
+        return; // As mostly.
+    }
     for &(slot, mode) in queue.iter() {
         if !group.fits_others(slot, mode) {
             break;
