@@ -126,9 +126,10 @@ pub use Rattle.gl_table.specs.model.State.{age_in, age_of, awake, blocks, choosi
 pub use Rattle.gl_table.specs.model.State.{intends_over, is_wait, is_waiting_at, is_write, IsVictim, live_by, lives, members, no_parents, pumped, restatus}
 pub use Rattle.gl_table.specs.model.State.{Settled, SettledWithin, slots, State, status_in, status_of, Txn, waits_at, waits_for, with_grant, with_graph}
 pub use Rattle.gl_table.specs.model.State.{with_txn, without_wait, woken}
-pub use Rattle.gl_table.specs.inside.Lists.{count_in, count_of, covered_in, entry_of, HasRoom, is_listed, IsShedding, loose_of, mode_in, mode_of}
-pub use Rattle.gl_table.specs.inside.Lists.{NoneMarkedFrom, unlisted}
-unfoldable pub use Rattle.gl_table.specs.inside.Lists.{IsApart}
+pub use Rattle.gl_listed.specs.Lists.{count_in, count_of, covered_in, entry_of, HasRoom, is_listed, loose_of, mode_in, mode_of}
+pub use Rattle.gl_table.specs.inside.Slots.{IsShedding}
+pub use Rattle.gl_listed.specs.Lists.{NoneMarkedFrom, unlisted}
+unfoldable pub use Rattle.gl_listed.specs.Lists.{IsApart}
 pub use Rattle.gl_table.specs.inside.Locks.{Agrees, AreExact, AreNew, AreSound, CountsHeld, IsOrderly, KeepsLocks, state_in, state_on, WaitWell}
 pub use Rattle.gl_table.specs.inside.Seating.{IsSeating}
 pub use Rattle.gl_table.specs.inside.Seats.{is_free, is_free_at, SeatList, txn_in, txns_of}
@@ -138,8 +139,8 @@ pub use Rattle.gl_table.specs.declared.deadlock.Deadlock.{Deadlock}
 pub use Rattle.gl_table.specs.declared.deadlock.Stuck.{Stuck}
 pub use Rattle.gl_table.specs.declared.answers.Detect.{Detect}
 pub use Rattle.gl_table.specs.declared.answers.Detect.TheVariants.{AtBlock, ByWatcher}
-pub use Rattle.gl_table.specs.declared.list.Entry.{Entry}
-pub use Rattle.gl_table.specs.declared.list.LockList.{LockList}
+pub use Rattle.gl_listed.specs.declared.list.Entry.{Entry}
+pub use Rattle.gl_listed.specs.declared.list.LockList.{LockList}
 pub use Rattle.gl_table.specs.declared.answers.LockRow.{LockRow}
 pub use Rattle.gl_table.specs.declared.answers.Notice.{Notice}
 pub use Rattle.gl_table.specs.declared.answers.Notice.TheVariants.{Victim}

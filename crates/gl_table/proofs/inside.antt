@@ -3,7 +3,6 @@ pub mod Slots
 pub mod Lists
 pub mod Headers
 pub mod Seats
-pub mod Children
 pub mod Woken
 pub mod Boards
 pub mod KeptRows

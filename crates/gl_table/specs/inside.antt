@@ -1,7 +1,6 @@
 pub mod Seats
 pub mod Seating
 pub mod Headers
-pub mod Lists
 pub mod Slots
 pub mod Locks
 pub mod Sound

@@ -7,10 +7,10 @@ ghost use Rattle.gl_graph.specs.Graph.{is_live, node_count};
 ghost use Rattle.gl_graph.specs.Seen.{with_all};
 ghost use Rattle.gl_graph.specs.View.{graph_of};
 ghost use Rattle.gl_table.specs.model.Lawful.{eff_s, eff_x, effect_on};
-ghost use Rattle.gl_table.specs.inside.Lists.{mode_of};
+ghost use Rattle.gl_listed.specs.Lists.{mode_of};
 
 use crate::answers::Effect;
-use crate::list::LockList;
+use gl_listed::LockList;
 use gl_graph::Graph;
 use gl_modes::{Mode, NodeId, covers};
 use indexmap::IndexSet;

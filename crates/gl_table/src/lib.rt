@@ -8,7 +8,6 @@ mod deadlock;
 mod effective;
 mod headers;
 pub mod laws;
-mod list;
 mod locks;
 mod rule;
 mod seat;

@@ -21,7 +21,7 @@ ghost use Rattle.gl_table.specs.inside.Slots.{CanTell, CanWake, IsBySlot, Wakes,
 use crate::answers::{Effect, LockRow, Told};
 use crate::effective::effective;
 use crate::headers::{Headers, drop_grant, drop_wait};
-use crate::list::LockList;
+use gl_listed::{Entry, LockList};
 use crate::seat::Seat;
 use crate::seats::Seats;
 use crate::txn::Status;
@@ -114,7 +114,12 @@ impl Locks {
     pub(crate) fn row(&self, slot: u8, place: usize) -> Option<LockRow>
         ensures { result ≡ by_list (λ l. option_map row_of (slice_get l.entries.entries place)) None self.now.lists.items slot }
     {
-        self.lists.get(slot as usize)?.row(place)
+        let (node, Entry { mode, children }) = self.lists.get(slot as usize)?.at(place)?;
+        Some(LockRow {
+            node,
+            mode,
+            children,
+        })
     }
 
     /// The held child of a node that was born first.

@@ -12,9 +12,10 @@ use Rattle.gl_table.proofs.Words.{true, txns_of, verdict, view_of, where_true, z
 use Rattle.gl_table.specs.declared.table.Table.TheInside.{Inside}
 use Rattle.std.specs.List.{All}
 use Rattle.gl_modes.specs.declared.refusal.Refusal.TheVariants as no
-use Rattle.gl_table.proofs.inside.Children.{held_listed}
-use Rattle.gl_table.proofs.law.Keeps.{lawful-within, write_held}
-use Rattle.gl_table.proofs.law.Tests.{one_found}
+use Rattle.gl_listed.proofs.Children.{held_listed}
+use Rattle.gl_table.proofs.law.Keeps.{lawful-within}
+use Rattle.gl_listed.proofs.Children.{write_held}
+use Rattle.gl_listed.proofs.Children.{one_found}
 
 -- What the lists say of held children, as the tests of an unlock.
 
@@ -257,24 +258,6 @@ module _ (v : TableView) (agree : ListsAgree v) (once : StandOnce v) (t : ℕ) w
     once = subst (λ (ns : List NodeId). IsDistinct same_node ns) (sym (row_nodes row_listed)) distinct;
     each = each;
   }
-
--- Whether some child is held to write, asked of what is listed.
-
--- where all that pass a test stand in both of two lists, some pass it in one where some do in the other
-any_alike : (p : NodeId → Bool) (xs ys : List NodeId) → ((c : NodeId) → p c ≡ true → list_any (same_node c) xs ≡ true)
-    → ((c : NodeId) → p c ≡ true → list_any (same_node c) ys ≡ true) → list_any p xs ≡ list_any p ys
-any_alike p xs ys in_xs in_ys = split (list_any p ys)
-    (λ e. let f = any_found p ys e in one_found p f.0 xs f.2 (in_xs f.0 f.2) ∙ sym e)
-    (λ e. not_true _ (λ h. let f = any_found p xs h in clash (one_found p f.0 ys f.2 (in_ys f.0 f.2)) e) ∙ sym e)
-
--- all that is held is listed, and lives
-pub writes_listed : (g : Graph) → IsLawfulGraph g → (l : LockList) (n : NodeId) → ((c : NodeId) → not (same_mode (mode_of l c) NL) ≡ true → is_live g c ≡ true)
-    → list_any (λ c. is_child g n c && is_write (mode_of l c)) (keys l.entries) ≡ list_any (λ c. is_child g n c && is_write (mode_of l c)) (nodes g)
-writes_listed g law l n live = any_alike (λ c. is_child g n c && is_write (mode_of l c)) (keys l.entries) (nodes g) (λ c h. held_listed l c (held c h))
-    (λ c h. listed g law c (live c (held c h)))
-  where
-    held : (c : NodeId) → (is_child g n c && is_write (mode_of l c)) ≡ true → not (same_mode (mode_of l c) NL) ≡ true
-    held c h = write_held (mode_of l c) (and_both (is_child g n c) (is_write (mode_of l c)) h).1
 
 -- a slot without list holds nothing to write
 pub no_writes : (ls : List LockList) (g : Graph) (t : ℕ) (n : NodeId) → slice_get ls t ≡ None

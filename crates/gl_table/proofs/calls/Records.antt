@@ -18,7 +18,8 @@ use Rattle.gl_table.proofs.inside.Asks.{state-same}
 use Rattle.gl_table.proofs.inside.Slots.{keeps-agrees, keeps-counts}
 use Rattle.gl_table.proofs.law.Lock.{granted-no_cycle, shed-no_cycle}
 use Rattle.gl_table.proofs.law.Records.{born-live, born-unawaited, born-unheld, deleted-no_cycle, deleted_lawful, placed-lawful, record-grows}
-use Rattle.gl_table.proofs.law.Tests.{one_found, shed-lawful}
+use Rattle.gl_table.proofs.law.Tests.{shed-lawful}
+use Rattle.gl_listed.proofs.Children.{one_found}
 use Rattle.gl_table.proofs.queues.Edits.{freed_other}
 use Rattle.gl_table.proofs.queues.Fronts.{granted_waits}
 use Rattle.gl_table.proofs.queues.Waiters.{grants_other}

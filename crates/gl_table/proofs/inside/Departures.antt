@@ -8,7 +8,8 @@ use Rattle.gl_table.proofs.Words.{Some, split, State, Status, status_in, status_
 use Rattle.gl_table.proofs.Words.{Waiting, waits_at, WakesLists, WakesTold, with_grant, with_txn, without_wait, without_waiter, woken, ℕ}
 use Rattle.gl_table.specs.declared.answers.Notice.TheVariants as notice
 use Rattle.gl_table.proofs.inside.Released.{agrees_unlocked, counts_unlocked, unlocked_own}
-use Rattle.gl_table.proofs.law.Keeps.{nl_is, waiting_is}
+use Rattle.gl_table.proofs.law.Keeps.{waiting_is}
+use Rattle.gl_listed.proofs.Children.{nl_is}
 use Rattle.gl_table.proofs.queues.Counts.{fewer}
 use Rattle.gl_table.proofs.queues.Edits.{without_none}
 use Rattle.gl_table.proofs.queues.Fronts.{bare_free, granted_waits, out_of_own, pumped-pumped, stripped_after}

@@ -12,8 +12,9 @@ use Rattle.gl_table.specs.declared.locks.Locks.{Locks}
 use Rattle.gl_table.proofs.inside.Departures.{left_by, own_notice, own_txn, still_tells, still_untold, StillTells}
 use Rattle.gl_table.proofs.inside.Released.{agrees_unlocked, counts_unlocked, unlocked_own}
 use Rattle.gl_table.proofs.inside.Slots.{agrees-set, by_list-at, counts-set, kept-apart, own_list}
-use Rattle.gl_table.proofs.law.Keeps.{nl_is, txn_there}
-use Rattle.gl_table.proofs.law.Tests.{one_found}
+use Rattle.gl_table.proofs.law.Keeps.{txn_there}
+use Rattle.gl_listed.proofs.Children.{nl_is}
+use Rattle.gl_listed.proofs.Children.{one_found}
 use Rattle.gl_table.proofs.queues.Counts.{children_down}
 use Rattle.gl_table.proofs.queues.Fronts.{pumped-pumped}
 use Rattle.gl_table.proofs.telling.Fronts.{in_no_queue, orderly_unlocked}

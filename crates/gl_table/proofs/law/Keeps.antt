@@ -10,6 +10,7 @@ use Rattle.gl_table.proofs.Words.{Some, split, State, Status, status_in, status_
 use Rattle.gl_table.proofs.Words.{with_mode, woken, ℕ, ⊎_elim}
 use Rattle.gl_table.proofs.queues.Waiters.{ahead, ahead_after, ahead_first, ahead_is, ahead_second, among_append, grants_one, grants_other, none_filtered}
 use Rattle.gl_table.proofs.queues.Waiters.{not_among, one_in_first}
+use Rattle.gl_listed.proofs.Children.{nl_is}
 
 -- A grant at once keeps the law.
 
@@ -20,14 +21,6 @@ less_compatible m a b h k = search rules
 -- who holds no less holds
 pub more_held : (a b : Mode) → is_at_least b a ≡ true → not (same_mode a NL) ≡ true → not (same_mode b NL) ≡ true
 more_held a b h k = search rules
-
--- who holds to write holds
-pub write_held : (m : Mode) → is_write m ≡ true → not (same_mode m NL) ≡ true
-write_held m h = search rules
-
--- who does not hold holds NL
-pub nl_is : (a : Mode) → not (same_mode a NL) ≡ false → a ≡ NL
-nl_is a h = search rules
 
 -- where all who hold are below the limit, nobody at or above it does
 pub holders-within : (s : State) (n : NodeId) → ((u : ℕ) → holds (members s n) u ≡ true → u < s.most) → IsWithin s.most (members s n)

@@ -12,7 +12,8 @@ use Rattle.gl_table.proofs.Words.{shape_of, Some, some_given, some_is, split, St
 use Rattle.gl_table.proofs.Words.{Waiter, Waiting, waits_at, waits_for, with_node, with_parents, with_parents_is, X, ℕ, ⊎_elim}
 use Rattle.gl_table.proofs.law.Edges.{is_step, step_is}
 use Rattle.gl_table.proofs.law.Effects.{any_all, holds_one, x_blocks, x_is}
-use Rattle.gl_table.proofs.law.Keeps.{apart, nl_is, txn_there, waiting_is}
+use Rattle.gl_table.proofs.law.Keeps.{apart, txn_there, waiting_is}
+use Rattle.gl_listed.proofs.Children.{nl_is}
 use Rattle.gl_table.proofs.law.Strays.{all_filtered, all_waits, stuck_front}
 use Rattle.gl_table.proofs.law.Tests.{all_ix}
 use Rattle.gl_table.proofs.queues.Edits.{any_left, one_left, one_stays, unless_age, unless_some, unless_waits, waits_unless}

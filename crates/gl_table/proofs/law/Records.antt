@@ -11,7 +11,8 @@ use Rattle.gl_table.proofs.Words.{rec_not_plain, record_lawful, record_parents, 
 use Rattle.gl_table.proofs.Words.{shape_in, shape_of, Some, split, State, status_of, stays_there, subst, sum_by-append, sym, true, Waiter, Waiting, waits_for}
 use Rattle.gl_table.proofs.Words.{with_grant, with_graph, with_key, X, ℕ}
 use Rattle.gl_table.proofs.law.Edges.{is_step, step_is}
-use Rattle.gl_table.proofs.law.Keeps.{nl_is, rule_same, with_grant-lawful}
+use Rattle.gl_table.proofs.law.Keeps.{rule_same, with_grant-lawful}
+use Rattle.gl_listed.proofs.Children.{nl_is}
 use Rattle.gl_table.proofs.law.Tests.{all_ix}
 use Rattle.gl_table.proofs.queues.Edits.{age_freed, some_freed, still_waits, waits_still}
 use Rattle.gl_table.proofs.queues.Waiters.{among_by_filter}

@@ -8,7 +8,8 @@ use Rattle.gl_table.proofs.Words.{same_number, Settled, SettledWithin, SettlingE
 use Rattle.gl_table.proofs.Words.{true, TxnId, Victims, Waiter, Waiting, waits_for, WaitSettles, wanted, with_grant, with_mode, without_wait, zero, ℕ, ⊎_elim}
 use Rattle.gl_table.specs.model.Calls.{Locks}
 use Rattle.gl_table.proofs.law.Edges.{is_step, step_is}
-use Rattle.gl_table.proofs.law.Keeps.{nl_is, txn_there, waiting_is, woken_waits}
+use Rattle.gl_table.proofs.law.Keeps.{txn_there, waiting_is, woken_waits}
+use Rattle.gl_listed.proofs.Children.{nl_is}
 use Rattle.gl_table.proofs.law.Lock.{condemned_steps, MayLock, waiting-lawful}
 use Rattle.gl_table.proofs.law.Takes.{condemned-lawful, restatus_quiet, without_wait-less}
 use Rattle.gl_table.proofs.queues.Waiters.{ahead, ahead_is, ahead_second, among_by_filter, no_cons}

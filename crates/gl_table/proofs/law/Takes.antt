@@ -8,7 +8,8 @@ use Rattle.gl_table.proofs.Words.{SettledWithin, Some, split, State, Status, sta
 use Rattle.gl_table.proofs.Words.{without_wait, without_waiter, zero, ℕ, ⊎_elim}
 use Rattle.std.specs.Prelude.{◌^◌}
 use Rattle.gl_table.specs.model.State.{with_room}
-use Rattle.gl_table.proofs.law.Keeps.{age_none, apart, IsLess, less-lawful, nl_holds, nl_is, pumped-lawful, txn_there, waiting_is}
+use Rattle.gl_table.proofs.law.Keeps.{age_none, apart, IsLess, less-lawful, nl_holds, pumped-lawful, txn_there, waiting_is}
+use Rattle.gl_listed.proofs.Children.{nl_is}
 use Rattle.gl_table.proofs.queues.Edits.{among_same, HoldersFirst, out_of_without, placed_front, placed_order, placed_other, placed_self, without_ahead}
 use Rattle.gl_table.proofs.queues.Edits.{without_filter, without_none}
 use Rattle.gl_table.proofs.queues.Waiters.{ahead_is}

@@ -8,8 +8,10 @@ use Rattle.gl_table.proofs.Words.{parents_of, raised, refl, Refusal, rules, S, s
 use Rattle.gl_table.proofs.Words.{State, Status, status_in, status_of, supremum, supremum-above, supremum-not_NL, sym, test_fails, true, Txn, TxnId, Waiting}
 use Rattle.gl_table.proofs.Words.{waiting_test, wanted, X, ℕ}
 use Rattle.gl_modes.specs.declared.refusal.Refusal.TheVariants as no
-use Rattle.gl_table.proofs.law.Keeps.{IsLess, less-lawful, nl_is, pumped-lawful, with_grant-lawful, write_held}
+use Rattle.gl_table.proofs.law.Keeps.{IsLess, less-lawful, pumped-lawful, with_grant-lawful}
+use Rattle.gl_listed.proofs.Children.{nl_is, write_held}
 use Rattle.gl_table.proofs.law.Takes.{taken-less}
+use Rattle.gl_listed.proofs.Children.{one_found}
 
 -- What a command that is not refused may count on.
 
@@ -99,12 +101,6 @@ none_found f q (x ∷ xs) h k = by (f x) refl h (none_found f q xs)
         → (child_held (find f xs) ≡ None → list_any (same_node q) xs ≡ true → f q ≡ false) → f q ≡ false
     by true e l r = no_some l
     by false e l r = or_elim _ _ k (λ here. ap f (same_node-equal q x here) ∙ e) (λ there. r l there)
-
--- one that is listed and passes is found
-pub one_found : (f : NodeId → Bool) (q : NodeId) (xs : List NodeId) → f q ≡ true → list_any (same_node q) xs ≡ true → list_any f xs ≡ true
-one_found f q [] h k = k
-one_found f q (x ∷ xs) h k = or_elim _ _ k (λ here. or_left _ _ (ap f (sym (same_node-equal q x here)) ∙ h))
-    (λ there. or_right (f x) _ (one_found f q xs h there))
 
 -- no child was found, so none is held
 pub no_child : (s : State) → IsLawful s → (t : ℕ) (n q : NodeId) → held_child s t n ≡ None → is_live s.graph q ≡ true → is_child s.graph n q ≡ true

@@ -9,7 +9,7 @@ use Rattle.gl_graph.specs.View.{View, graph_of}
 use Rattle.gl_header.specs.Header.{holds, is_among_waiters, is_waiter}
 use Rattle.gl_waits.specs.declared.victims.Victims.TheVariants.{Youngest}
 use Rattle.gl_table.specs.declared.answers.Detect.TheVariants.{ByWatcher}
-use Rattle.gl_table.specs.declared.list.LockList.{LockList}
+use Rattle.gl_listed.specs.declared.list.LockList.{LockList}
 use Rattle.gl_table.specs.declared.locks.Locks.{Locks}
 use Rattle.gl_table.specs.declared.txn.Status.TheVariants.{Waiting}
 use Rattle.gl_table.specs.model.Calls.{held_children}

@@ -9,17 +9,18 @@ use Rattle.gl_modes.specs.declared.mode.Mode.TheVariants.{NL}
 use Rattle.gl_modes.specs.declared.node.NodeId.{NodeId}
 use Rattle.gl_modes.specs.Modes.{same_mode}
 use Rattle.gl_modes.specs.Nodes.{same_node}
-use Rattle.gl_header.specs.Header.{Waiter, after_grants, is_among_waiters}
+use Rattle.gl_header.specs.Header.{Waiter, after_grants, holds, is_among_waiters}
 use Rattle.gl_header.specs.Sound.{is_distinct}
 use Rattle.gl_table.specs.declared.txn.TxnId.{TxnId}
 use Rattle.gl_table.specs.declared.answers.Notice.{Notice}
 use Rattle.gl_table.specs.model.Tellings.{IsOnWay, Told, told_to}
-use Rattle.gl_table.specs.declared.list.LockList.{LockList}
+use Rattle.gl_listed.specs.declared.list.LockList.{LockList}
 use Rattle.gl_table.specs.declared.seat.Seat.{Seat}
 use Rattle.gl_table.specs.declared.txn.Status.TheVariants.{Active}
-use Rattle.gl_table.specs.inside.Lists.{IsApart, count_of, is_listed, mode_of, unlisted}
+use Rattle.gl_listed.specs.Lists.{IsApart, count_of, is_listed, mode_of, unlisted}
 use Rattle.gl_table.specs.inside.Seats.{txns_of}
-use Rattle.gl_table.specs.model.State.{State, Txn, age_in, restatus}
+use Rattle.gl_table.specs.model.Calls.{held_children, is_covered}
+use Rattle.gl_table.specs.model.State.{State, Txn, age_in, members, restatus}
 use Rattle.gl_table.specs.declared.answers.Notice.TheVariants as notice
 
 -- A told list as it is filled: notices by rising slot.
@@ -199,3 +200,10 @@ pub record Frees (seats : List (Option Seat)) (ls : List LockList) (told : Told)
   pub txns : (u : ℕ) → txns_of seats' u ≡ (if is_among_waiters u ws then restatus Active (txns_of seats u) else txns_of seats u)
   pub lists : FreesLists ls n ws ls'
   pub tells : FreesTold (txns_of seats) ws told told'
+
+-- the list of t while the children of n that its lock covered in s are released: they are marked, and all else is as it is now
+pub record IsShedding (s now : State) (t : ℕ) (n : NodeId) (l : LockList) : Type 0 where
+  pub apart : IsApart l
+  pub listed : (q : NodeId) → is_listed l q ≡ holds (members now q) t
+  pub modes : (q : NodeId) → mode_of l q ≡ (if is_covered s t n q then NL else now.held t q)
+  pub counts : (p : NodeId) → count_of l p ≡ held_children now t p

@@ -17,7 +17,7 @@ ghost use Rattle.gl_table.specs.declared.txn.Status.TheVariants.{Active};
 
 use crate::answers::Locked;
 use crate::headers::{ask, would_grant};
-use crate::list::LockList;
+use gl_listed::LockList;
 use crate::locks::Locks;
 use crate::rule::check_rule;
 use crate::seat::Seat;

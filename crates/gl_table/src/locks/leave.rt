@@ -10,7 +10,7 @@ ghost use Rattle.gl_table.specs.inside.Slots.{AreApart, CanStrike, CanTell, Stri
 ghost use Rattle.gl_table.specs.declared.txn.Status.TheVariants.{Active};
 
 use crate::answers::Told;
-use crate::list::LockList;
+use gl_listed::LockList;
 use crate::locks::Locks;
 use gl_graph::Graph;
 use gl_header::GrantList;

@@ -17,14 +17,14 @@ ghost use Rattle.gl_table.specs.inside.Headers.{held_of, members_at, queue_of, w
 ghost use Rattle.gl_table.specs.model.State.{intends_over, age_in, members, restatus};
 ghost use Rattle.indexmap.specs.IndexMap.{spare};
 ghost use Rattle.gl_modes.specs.Modes.{same_mode};
-ghost use Rattle.gl_table.specs.inside.Lists.{IsApart, count_of, is_listed, mode_of, unlisted};
+ghost use Rattle.gl_listed.specs.Lists.{IsApart, count_of, is_listed, mode_of, unlisted};
 ghost use Rattle.gl_table.specs.inside.Locks.{Agrees, AreSound, IsOrderly, state_in};
 ghost use Rattle.gl_table.specs.inside.Seats.{txns_of};
 ghost use Rattle.gl_table.specs.inside.Slots.{AreApart, CanTell, IsBySlot, Strikes, counted_by, notices_in, room_by, unlisted_by};
 
 use crate::answers::{Notice, Told};
 use crate::headers::dismiss;
-use crate::list::LockList;
+use gl_listed::LockList;
 use crate::locks::Locks;
 use crate::rule::check_rule;
 use crate::told::tell;

@@ -18,7 +18,7 @@ ghost use Rattle.gl_table.specs.declared.txn.Status.TheVariants.{Active};
 
 use crate::answers::{Notice, Told};
 use crate::headers::take;
-use crate::list::LockList;
+use gl_listed::LockList;
 use crate::locks::Locks;
 use crate::locks::ask::make_room;
 use crate::locks::leave::strike;

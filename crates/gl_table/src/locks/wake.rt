@@ -5,7 +5,7 @@ ghost use Rattle.gl_header.specs.Header.{is_among_waiters};
 ghost use Rattle.gl_table.specs.inside.Slots.{AreApart, CanHold, CanWake, Holds, Wakes};
 
 use crate::answers::{Notice, Told};
-use crate::list::LockList;
+use gl_listed::LockList;
 use crate::seats::Seats;
 use crate::told::tell;
 use crate::txn::{Status, TxnId};

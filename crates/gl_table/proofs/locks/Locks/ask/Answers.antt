@@ -6,7 +6,7 @@ use Rattle.gl_table.proofs.inside.Asks.{answer-enters, answer-waits, is_granted,
 use Rattle.gl_table.proofs.inside.Asks.{parents-room, roomy_may, roomy_ready, roomy_same, roomy_says, says_is, slot-listed, state-same}
 use Rattle.gl_table.proofs.inside.Enqueues.{has_wait-set, HasWait, is_enqueued, IsEnqueued}
 use Rattle.gl_table.proofs.inside.Slots.{also_held, also_listed, counts-entered, has_node-set, kept-apart, none_more}
-use Rattle.gl_table.proofs.law.Keeps.{nl_is}
+use Rattle.gl_listed.proofs.Children.{nl_is}
 use Rattle.gl_table.proofs.locks.Locks.ask.Goals.{After-make_room_to_ask, After-count_up, After-set_mode, After-set_status, then-not-is_member}
 use Rattle.gl_table.proofs.locks.Locks.ask.Goals.{else-not-is_member}
 use Rattle.gl_table.proofs.locks.Locks.ask.Goals as goal

@@ -1,0 +1,36 @@
+use Rattle.gl_listed.specs.Lists.{IsApart, mode_in}
+use Rattle.std.proofs.Common.{ap, refl, rules, sym, ◌∙◌}
+use Rattle.std.proofs.lemmas.Bool.{false≢true}
+use Rattle.std.proofs.lemmas.Result.{IfOk-at_ok}
+use Rattle.std.specs.Prelude.{is_some}
+use Rattle.gl_listed.proofs.Lists.{at_each, IsWritten-same, SameListed, SameMode, StaysApart}
+use Rattle.gl_listed.proofs.list.LockList.count_one_up.Goals as goal
+
+pub returns-in-Some-clause-listed : goal.returns-in-Some-clause-listed
+returns-in-Some-clause-listed c =
+    at_each SameListed c.args.n _ _ _ _ _ _ ((c.get_mut.follows.holds _).3 (search rules)).0
+    (IsWritten-same c.args.n c.args.self.now.loose.entries) (ap is_some c.in-Some.ensures.value) (λ x y. refl)
+
+pub returns-in-Some-clause-modes : goal.returns-in-Some-clause-modes
+returns-in-Some-clause-modes c =
+    at_each SameMode c.args.n _ _ _ _ _ _ ((c.get_mut.follows.holds _).3 (search rules)).0
+    (IsWritten-same c.args.n c.args.self.now.loose.entries) (ap mode_in c.in-Some.ensures.value) (λ x y. refl)
+
+pub returns-in-Some-clause-apart : goal.returns-in-Some-clause-apart
+unfolding IsApart
+returns-in-Some-clause-apart c = (
+  (c.get_mut.follows.holds _).4,
+  λ q.
+      at_each StaysApart c.args.n _ _ _ _ _ _ ((c.get_mut.follows.holds _).3 (search rules)).0
+      (IsWritten-same c.args.n c.args.self.now.loose.entries) (λ f _. f (ap is_some (sym c.in-Some.ensures.value))) (λ x y f. f) q (c.requires.apart.1 q),
+)
+
+pub returns-in_default-clause-apart : goal.returns-in_default-clause-apart
+unfolding IsApart
+returns-in_default-clause-apart c =
+    rw c.get_mut.follows.holds-at-none (
+      c.requires.apart.0,
+      λ q. at_each StaysApart c.args.n _ _ _ _ _ _ (IsWritten-same c.args.n c.args.self.now.entries.entries)
+          (IfOk-at_ok _ c.unwrap.ensures c.insert.ensures.updates).0
+          (λ _ h. absurd (false≢true (ap is_some c.in_default.ensures.value ∙ h))) (λ x y f. f) q (c.requires.apart.1 q),
+    )

@@ -1,0 +1,7 @@
+use Rattle.gl_listed.specs.Lists.{IsApart}
+use Rattle.std.proofs.Common.{rules}
+use Rattle.gl_listed.proofs.list.LockList.new.Goals as goal
+
+pub returns-clause-apart : goal.returns-clause-apart
+unfolding IsApart
+returns-clause-apart c = search rules

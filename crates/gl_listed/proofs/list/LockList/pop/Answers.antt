@@ -1,0 +1,27 @@
+use Rattle.gl_listed.specs.Lists.{IsApart}
+use Rattle.gl_modes.specs.Nodes.{same_node}
+use Rattle.std.proofs.Common.{ap, ◌∙◌}
+use Rattle.std.specs.Map.{lookup}
+use Rattle.std.specs.Prelude.{is_some}
+use Rattle.gl_listed.proofs.Lists.{at_each, is_some-lookup_last, IsTakenOut, IsTakenOut-apart, IsTakenOut-here, IsWritten-same, StaysApart}
+use Rattle.gl_listed.proofs.list.LockList.pop.Goals as goal
+
+pub returns-clause-was : goal.returns-clause-was
+returns-clause-was c =
+    ap (λ es. is_some (lookup (same_node c.unwrap.result.0) es)) (rw c.unwrap.ensures at c.pop.ensures.entries)
+    ∙ is_some-lookup_last c.unwrap.result.0 c.unwrap.result.1 c.pop.new.self.entries
+
+pub returns-clause-listed : goal.returns-clause-listed
+returns-clause-listed c =
+    let updates = rw c.unwrap.ensures at c.pop.ensures.updates in
+    at_each IsTakenOut c.unwrap.result.0 _ _ _ _ _ _ updates.0 (IsWritten-same c.unwrap.result.0 c.args.self.now.loose.entries) (IsTakenOut-here _)
+    IsTakenOut-apart
+
+pub returns-clause-apart : goal.returns-clause-apart
+unfolding IsApart
+returns-clause-apart c = λ old.
+    let updates = rw c.unwrap.ensures at c.pop.ensures.updates in (
+      c.pop.ensures.unique,
+      λ q. at_each StaysApart c.unwrap.result.0 _ _ _ _ _ _ updates.0 (IsWritten-same c.unwrap.result.0 c.args.self.now.loose.entries) (λ f e. cc) (λ x y f. f)
+          q (old.1 q),
+    )
