@@ -11,7 +11,7 @@ use Rattle.gl_table.specs.declared.answers.Detect.TheVariants.{AtBlock, ByWatche
 use Rattle.gl_table.specs.model.Calls.{Locks, WaitSettles, enqueued, wanted}
 use Rattle.gl_table.specs.model.Deadlocks.{IsDeadlock, IsStuck, LocksKeeping, SettlesKeeping, SettlesKeepingWithin, WaitSettlesKeeping}
 use Rattle.gl_table.specs.model.Lawful.{HasNoConflict, IsLawful}
-use Rattle.gl_table.specs.inside.Headers.{AreHeaders}
+use Rattle.gl_header.specs.Headers.{AreHeaders}
 use Rattle.gl_table.specs.model.State.{condemned, State, HasNoCycle, IsVictim, Settled, SettledWithin}
 use Rattle.gl_table.specs.model.Table.{ListsAgree, StandOnce, TableView, state_of as table_state}
 use Rattle.gl_table.specs.model.Tellings.{told}

@@ -2,7 +2,7 @@
 use Rattle.std.specs.Prelude.{◌≡◌, ◌≤◌, ℕ}
 use Rattle.gl_table.specs.declared.answers.Detect.TheVariants.{AtBlock}
 use Rattle.gl_table.specs.model.Lawful.{HasNoConflict, IsLawful}
-use Rattle.gl_table.specs.inside.Headers.{AreHeaders}
+use Rattle.gl_header.specs.Headers.{AreHeaders}
 use Rattle.gl_table.specs.model.State.{State, HasNoCycle}
 use Rattle.gl_table.specs.model.Table.{ListsAgree, StandOnce, TableView, state_of as table_state}
 use Rattle.gl_catalog.specs.declared.counters.Counters.{Counters}

@@ -53,6 +53,14 @@ module _ (ps : List Boxed) (a : ArePlaces ps) (es : Entries) (same : entries_in 
   pub found_in : header_at es n ≡ header_in n (place_at ps n.key)
   found_in = ap (λ hs. header_at hs n) (sym same) ∙ found ps a n
 
+  -- of the key one node at most has a header
+  pub alone_by_key : (h : HeaderState) → header_at es n ≡ Some h → HasItsKey es n
+  alone_by_key h has = record {
+    others = λ q ne k. let b = box_of ps a n h (ap (λ hs. header_at hs n) same ∙ has) in
+        ap (λ hs. header_at hs q) (sym same) ∙ (found ps a q ∙ (ap (λ j. header_in q (place_at ps j)) k ∙ (ap (header_in q) b.1
+        ∙ ap (λ t. cond t (Some b.0.value.header) None) (ap (same_node q) b.2 ∙ ne))));
+  }
+
   -- A node that somebody holds or waits for has a box at its place.
 
   module _ (h : HeaderState) (has : header_at es n ≡ Some h) where
@@ -90,7 +98,8 @@ module _ (ps : List Boxed) (a : ArePlaces ps) (es : Entries) (same : entries_in 
     own-node : (b : Box Place Global) → place_at ps n.key ≡ Some b → b.value.node ≡ n
     own-node b at = split (same_node n b.value.node)
         (λ yes. sym (same_node-equal n b.value.node yes))
-        (λ no. absurd (none_some (sym (none_but.none b.value.node no (a.keyed n.key b at)) ∙ (ap (header_in b.value.node) at ∙ own_header b.value.node b refl))))
+        (λ no. absurd (none_some (sym (none_but.none b.value.node no (a.keyed n.key b at)) ∙ (ap (header_in b.value.node) at
+        ∙ own_header b.value.node b refl))))
 
     pub header_there : header_of (place_at ps n.key) ≡ header_or_new (header_at es n)
     header_there = cases_of (place_at ps n.key)
@@ -215,6 +224,14 @@ module _ (ps : List Boxed) (es : Entries) (n : NodeId) (b : Box Place Global) (i
   pub taken-queue : queue_of (entries_in (slice_set ps n.key None)) ≡ with_waiters (queue_of es) n []
   taken-queue = queue-changed (entries_in ps) _ n None [] taken refl ∙ ap (λ hs. with_waiters (queue_of hs) n []) i.same
 
--- a key that is free has its node alone
-pub free-alone : (es : Entries) (n : NodeId) → IsFreeKey es n.key → HasItsKey es n
-free-alone es n free = record { others = λ q ne k. free.none q k }
+-- Whether a key is free.
+
+module _ (ps : List Boxed) (a : ArePlaces ps) (es : Entries) (same : entries_in ps ≡ es) (k : ℕ) where
+  pub free_key : place_at ps k ≡ None → IsFreeKey es k
+  free_key none = record { none = λ q e. found_in ps a es same q ∙ (ap (λ j. header_in q (place_at ps j)) e ∙ ap (header_in q) none) }
+
+  pub taken_key : IsFreeKey es k → place_at ps k ≡ None
+  taken_key free = cases_of (place_at ps k) (λ none. none)
+      (λ b some. let key = a.keyed k b some in
+      absurd (none_some (sym (free.none b.value.node key) ∙ (found_in ps a es same b.value.node
+      ∙ (ap (λ j. header_in b.value.node (place_at ps j)) key ∙ (ap (header_in b.value.node) some ∙ own_header b.value.node b refl))))))

@@ -1,5 +1,6 @@
 -- Headers at the places that their nodes' keys name: a look-up there finds the node's header, and a write there changes that header alone.
-use Rattle.std.proofs.Common.{◌≡◌, ◌≢◌, ℕ, ◌+◌, ◌<◌, ◌≤◌, Bool, true, false, cond, List, [], ◌∷◌, ◌++◌, ◌∙◌, length, take, ◌-◌, zero, suc, refl, sym, subst, ap, arith, ⊎_elim}
+use Rattle.std.proofs.Common.{◌≡◌, ◌≢◌, ℕ, ◌+◌, ◌<◌, ◌≤◌, Bool, true, false, cond, List, [], ◌∷◌, ◌++◌, ◌∙◌, length, take, ◌-◌, zero, suc, refl, sym, subst}
+use Rattle.std.proofs.Common.{ap, arith, ⊎_elim}
 use Rattle.std.proofs.lemmas.List.{get_or-set_other, get_or-set_same, get_or_append_left, get_or-append_right, get_or_past, append-nil, take_all}
 use Rattle.std.proofs.lemmas.List.Elements.{filter_map-append}
 use Rattle.std.specs.Global.{Global}
@@ -177,7 +178,8 @@ places-same ps ps' same a = record {
 -- Empty places at the end.
 
 -- every place is empty
-empty_places : {F : Type 0} (step : F → Boxed → F → Type 0) → ((f : F) (x : Boxed) (g : F) → step f x g → x ≡ None) → (ys : List Boxed) (f g : F) → FoldsTo step f ys g
+empty_places : {F : Type 0} (step : F → Boxed → F → Type 0) → ((f : F) (x : Boxed) (g : F) → step f x g → x ≡ None) → (ys : List Boxed) (f g : F)
+    → FoldsTo step f ys g
     → (entries_in ys ≡ []) × ((k : ℕ) → place_at ys k ≡ None)
 empty_places step none [] f g folds = (refl, λ k. refl)
 empty_places step none (y ∷ ys) f g folds =

@@ -15,7 +15,8 @@ use Rattle.gl_modes.proofs.Words.{cases_of, clash, not_true, split}
 use Rattle.gl_header.specs.Answers.{asked, asked_members, asked_queue}
 use Rattle.gl_header.specs.declared.header.Asked.TheVariants.{Granted, Waiting}
 use Rattle.gl_header.specs.Header.{Members, Waiter, enters, group_of, holds, is_among_waiters, is_empty, placed, with_mode}
-use Rattle.gl_header.specs.Headers.{Entries, IsOneHolder, header_at, header_or_new, held_of, members_at, queue_of, with_members, with_waiters}
+use Rattle.gl_header.specs.Headers.{Entries, HasItsKey, IsFreeKey, IsOneHolder, header_at, header_or_new, held_of, members_at, queue_of, with_members}
+use Rattle.gl_header.specs.Headers.{with_waiters}
 use Rattle.gl_header.specs.State.{HeaderState, IsLawfulHeader, is_granted, is_unused, members_of, slot_limit, unused_header, wanted}
 use Rattle.gl_header.proofs.Fits.{fits-from_all}
 use Rattle.gl_header.proofs.GroupOf.{group_of-unique}
@@ -186,3 +187,7 @@ one_holder w t m lawful a = record {
   queue = a.queue ∙ ap (λ g. if enters slot_limit g [] t (supremum (g t) m) then [] else placed g [] t (supremum (g t) m))
       unused-nobody ∙ ap (λ b. if b then [] else placed (λ _. NL) [] t m) (nobody-enters slot_limit t m);
 }
+
+-- a key that is free has each node of it alone
+pub free-alone : (hs : Entries) (n : NodeId) → IsFreeKey hs n.key → HasItsKey hs n
+free-alone hs n free = record { others = λ q ne k. free.none q k }

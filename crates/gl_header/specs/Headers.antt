@@ -61,6 +61,10 @@ AreDistinct hs = IsDistinct same_node (keys_of hs)
 pub record HasItsKey (hs : Entries) (n : NodeId) : Type 0 where
   pub others : (q : NodeId) → same_node q n ≡ false → q.key ≡ n.key → header_at hs q ≡ None
 
+-- of each key one node at most is held or waited for
+pub record AreByKey (hs : Entries) : Type 0 where
+  pub alone : (n : NodeId) (h : HeaderState) → header_at hs n ≡ Some h → HasItsKey hs n
+
 -- nobody holds or waits for a node with this key
 pub record IsFreeKey (hs : Entries) (k : ℕ) : Type 0 where
   pub none : (q : NodeId) → q.key ≡ k → header_at hs q ≡ None

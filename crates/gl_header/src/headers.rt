@@ -1,6 +1,6 @@
 //! The headers of all nodes: one for each node that somebody holds or waits for, and no other.
 
-ghost use Rattle.std.specs.Prelude.{◌≡◌, ◌≢◌, ◌<◌, ◌≤◌, ◌==◌, ◌&&◌, ◌||◌, ℕ, [], IfErr, IfOk, IsOk, OnErr, OnOk, false, not, option_copied, true};
+ghost use Rattle.std.specs.Prelude.{◌≡◌, ◌≢◌, ◌<◌, ◌≤◌, ◌==◌, ◌&&◌, ◌||◌, ◌↔◌, ℕ, [], IfErr, IfOk, IsOk, IsTrue, OnErr, OnOk, false, not, option_copied, true};
 ghost use Rattle.gl_modes.specs.declared.mode.Mode.TheVariants.{NL};
 ghost use Rattle.gl_modes.specs.declared.refusal.Refusal.{Refusal as ARefusal};
 ghost use Rattle.gl_modes.specs.Modes.{are_compatible};
@@ -20,6 +20,7 @@ ghost use Rattle.gl_header.specs.Header.{
 };
 ghost use Rattle.gl_header.specs.State.{members_of, slot_limit};
 ghost use Rattle.gl_header.specs.Headers.{
+  AreByKey,
   AreDistinct,
   AreHeaders,
   HasItsKey,
@@ -103,12 +104,24 @@ impl Headers {
         })
     }
 
-    /// The law of all headers: each is lawful, somebody holds or waits by each, and no node has two.
+    /// The law of all headers: each is lawful, somebody holds or waits by each, no node has two, and
+    /// of each key one node at most has one.
     pub fn law(&self)
         ensures headers { AreHeaders self.now.entries }
         ensures distinct { AreDistinct self.now.entries }
+        ensures by_key { AreByKey self.now.entries }
     {
         let _ = self.places.len();
+    }
+
+    /// Whether nobody holds or waits for a node with this key.
+    pub fn is_free(&self, key: usize) -> bool
+        ensures { IsTrue result ↔ IsFreeKey self.now.entries key }
+    {
+        match self.places.get(key) {
+            Some(place) => place.is_none(),
+            None => true,
+        }
     }
 
     /// The header of a node, `None` where nobody holds or waits for it.
@@ -154,7 +167,7 @@ impl Headers {
     /// Whom a slot waits for that waits on this node for this mode: who holds the node in a mode that
     /// does not go with it, and who stands ahead in the queue.
     pub fn waits_for(&self, slot: u8, node: NodeId, wanted: Mode) -> Slots
-        requires below { slot < 128 }
+        requires { slot < 128 }
         ensures { (u : ℕ) → has_slot result u ≡ (not (slot == u) && (not (are_compatible wanted (held_of self.now.entries u node)) || is_ahead (queue_of self.now.entries node) slot u)) }
     {
         match self.get(node) {
@@ -228,7 +241,7 @@ impl Headers {
     /// Takes a wait away, and grants from the front of the node's queue. The list is filled anew with
     /// those whom it granted, in the queue's order. It takes no memory.
     pub fn drop_wait(&mut self, slot: u8, node: NodeId, granted: &mut GrantList)
-        requires waits { is_among_waiters slot (queue_of self.old.entries node) ≡ true }
+        requires { is_among_waiters slot (queue_of self.old.entries node) ≡ true }
         ensures granted { granted.new.items ≡ front slot_limit (members_at self.old.entries node) (without_waiter slot (queue_of self.old.entries node)) }
         ensures held { held_of self.new.entries ≡ with_members (held_of self.old.entries) node (pumped_members slot_limit (members_at self.old.entries node) (without_waiter slot (queue_of self.old.entries node))) }
         ensures queue { queue_of self.new.entries ≡ with_waiters (queue_of self.old.entries) node (pumped_queue slot_limit (members_at self.old.entries node) (without_waiter slot (queue_of self.old.entries node))) }

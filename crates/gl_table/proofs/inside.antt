@@ -1,7 +1,6 @@
 -- Headers, lists and seats: what the code keeps.
 pub mod Slots
 pub mod Lists
-pub mod Headers
 pub mod Seats
 pub mod Woken
 pub mod Boards
@@ -12,6 +11,7 @@ pub mod Withdrawn
 pub mod Departures
 pub mod Marked
 pub mod Asks
+pub mod Living
 pub mod Enqueues
 pub mod TurnedAway
 pub mod Vacated

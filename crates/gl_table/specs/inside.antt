@@ -1,6 +1,5 @@
 pub mod Seats
 pub mod Seating
-pub mod Headers
 pub mod Slots
 pub mod Locks
 pub mod Sound

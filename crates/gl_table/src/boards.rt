@@ -8,14 +8,13 @@ ghost use Rattle.gl_slots.specs.Slots.{has_slot as is_in};
 ghost use Rattle.gl_waits.specs.Sets.{has_slot};
 ghost use Rattle.gl_table.specs.model.Table.{board_of, shown};
 ghost use Rattle.gl_table.specs.declared.txn.Status.TheVariants.{Waiting};
-ghost use Rattle.gl_table.specs.inside.Headers.{AreHeaders, held_of, queue_of};
+ghost use Rattle.gl_header.specs.Headers.{held_of, queue_of};
 ghost use Rattle.gl_table.specs.inside.Seats.{txns_of};
 ghost use Rattle.gl_table.specs.model.State.{age_in, status_in, waits_for};
 
-use crate::headers::{Headers, waits_for};
 use crate::seat::Seat;
 use crate::txn::Status;
-use gl_header::Header;
+use gl_header::{Header, Headers};
 use gl_modes::{Mode, NodeId};
 use gl_slots::Slots;
 use gl_waits::{Board, SLOTS, WaitsFor};
@@ -24,9 +23,9 @@ use gl_waits::{Board, SLOTS, WaitsFor};
 /// once for the first of them that is met, and once for the rows of all.
 pub(crate) fn board(headers: &Headers, seats: &[Option<Seat>], epoch: u64) -> Board
     requires few { length seats.now ≤ 128 }
-    requires headers { AreHeaders headers.now.entries }
     ensures { result ≡ board_of (shown headers.now.entries seats.now epoch) }
 {
+    headers.law();
     let mut board = Board {
         epoch,
         ages: [0; SLOTS],
@@ -63,11 +62,10 @@ pub(crate) fn ages(seats: &[Option<Seat>]) -> [u64; SLOTS]
 /// Writes the rows of those who wait for a node, in one pass over its queue: ahead of each are those
 /// who were passed. A slot's first place counts.
 fn show_queue(headers: &Headers, seats: &[Option<Seat>], node: NodeId, rows: &mut [u128; SLOTS])
-    requires headers { AreHeaders headers.now.entries }
     ensures len { length rows.new ≡ length rows.old }
     ensures rows { (t : ℕ) → (get_or rows.new t 0 ≡ get_or rows.old t 0) ⊎ ((u : ℕ) → has_slot (get_or rows.new t 0) u ≡ waits_for (shown headers.now.entries seats.now 0) t u) }
 {
-    let Some(header) = headers.get(&node) else {
+    let Some(header) = headers.get(node) else {
         return;
     };
     header.law();
@@ -126,7 +124,7 @@ fn row(headers: &Headers, slot: u8, node: NodeId, wanted: Mode) -> u128
     requires below { slot < 128 }
     ensures { (u : ℕ) → has_slot result u ≡ (not (slot == u) && (not (are_compatible wanted (held_of headers.now.entries u node)) || is_ahead (queue_of headers.now.entries node) slot u)) }
 {
-    waits_for(headers, slot, node, wanted).bits()
+    headers.waits_for(slot, node, wanted).bits()
 }
 
 /// Whom a slot waits for with these ahead of it.

@@ -6,7 +6,6 @@ mod answers;
 mod boards;
 mod deadlock;
 mod effective;
-mod headers;
 pub mod laws;
 mod locks;
 mod rule;

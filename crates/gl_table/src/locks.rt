@@ -20,15 +20,13 @@ ghost use Rattle.gl_table.specs.inside.Slots.{CanTell, CanWake, IsBySlot, Wakes,
 
 use crate::answers::{Effect, LockRow, Told};
 use crate::effective::effective;
-use crate::headers::{Headers, drop_grant, drop_wait};
 use gl_listed::{Entry, LockList};
 use crate::seat::Seat;
 use crate::seats::Seats;
 use crate::txn::Status;
 use gl_graph::Graph;
-use gl_header::GrantList;
+use gl_header::{GrantList, Headers};
 use gl_modes::{Mode, NodeId};
-use indexmap::IndexMap;
 use std::alloc::{AllocError, Global};
 
 mod ask;
@@ -58,6 +56,7 @@ impl Locks {
         requires { most ≤ 128 }
         ensures { IfOk result (λ locks. AreNew locks most) }
     {
+        let headers = Headers::new(alloc)?;
         let seats = Seats::new(alloc, most)?;
         let mut lists = Vec::new(alloc);
         for _ in 0..most {
@@ -65,7 +64,7 @@ impl Locks {
         }
         Ok(Locks {
             alloc,
-            headers: IndexMap::new(alloc),
+            headers,
             seats,
             lists,
         })
@@ -182,7 +181,7 @@ impl Locks {
         ensures tells { WakesTold (state_in graph.now self.old).txns node (front_at (with_grant (state_in graph.now self.old) slot node NL) node) told.old.items told.new.items }
     {
         graph.law();
-        drop_grant(&mut self.headers, slot, node, granted);
+        self.headers.drop_grant(slot, node, granted);
         self.wake_granted(graph, node, granted.as_slice(), told);
     }
 
@@ -210,7 +209,7 @@ impl Locks {
     {
         graph.law();
         let mut granted = GrantList::new();
-        drop_wait(&mut self.headers, slot, node, &mut granted);
+        self.headers.drop_wait(slot, node, &mut granted);
         self.wake_granted(graph, node, granted.as_slice(), told);
         self.seats.set_status(slot, status);
     }

@@ -5,7 +5,7 @@ ghost use Rattle.gl_modes.specs.declared.refusal.Refusal.{Refusal as ARefusal};
 ghost use Rattle.gl_graph.specs.View.{graph_of};
 ghost use Rattle.gl_table.specs.model.Deadlocks.{no_deadlock};
 ghost use Rattle.gl_table.specs.model.Lawful.{HasNoConflict, IsLawful};
-ghost use Rattle.gl_table.specs.inside.Headers.{AreHeaders};
+ghost use Rattle.gl_header.specs.Headers.{AreHeaders};
 ghost use Rattle.gl_table.specs.model.State.{choosing, empty_state, lives, status_of, with_room, HasNoCycle};
 ghost use Rattle.gl_table.specs.model.Table.{ListsAgree, StandOnce, state_of};
 ghost use Rattle.gl_table.specs.declared.answers.Detect.TheVariants.{AtBlock};
@@ -127,7 +127,7 @@ impl Table {
         ensures no_cycle { self.now.detect ≡ AtBlock → HasNoCycle (state_of self.now) }
         ensures few { (state_of self.now).most ≤ 128 }
     {
-        let _ = self.locks.headers.len();
+        self.locks.headers.law();
     }
 
     /// How deadlocks are found.

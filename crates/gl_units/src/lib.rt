@@ -11,6 +11,8 @@ mod graphs;
 #[cfg(test)]
 mod headers;
 #[cfg(test)]
+mod keyed_headers;
+#[cfg(test)]
 mod listed;
 #[cfg(test)]
 mod listings;

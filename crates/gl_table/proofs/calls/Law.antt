@@ -1,5 +1,5 @@
 -- What holds of a table's fields: of every table, of a new one, with new nodes and with one transaction more.
-use Rattle.gl_table.proofs.Words.{[], ◌&&◌, ◌+◌, ◌<◌, ◌==◌, ◌||◌, ◌∙◌, ◌∷◌, ◌≡◌, ◌≤◌, Active, ap, AreApart, AreHeaders, AreNew, arith, begin_tests, begun, Bool}
+use Rattle.gl_table.proofs.Words.{[], ◌&&◌, ◌+◌, ◌<◌, ◌==◌, ◌||◌, ◌∙◌, ◌∷◌, ◌≡◌, ◌≤◌, Active, ap, AreApart, AreDistinct, AreNew, arith, begin_tests, begun, Bool}
 use Rattle.gl_table.proofs.Words.{by_list, children_that, choosing, clash, cond, count_in, counted_by, CountsHeld, elements, empty_state, Entry, entry_of, Err}
 use Rattle.gl_table.proofs.Words.{false, find, first_refusal, free_slot, get_or, gets, graph_of, HasNoCycle, held_children, held_of, holds, IfOk, if◌then◌else◌}
 use Rattle.gl_table.proofs.Words.{is_among_waiters, is_free, is_none, is_some, is_wait, is_waiting_at, IsApart, IsDistinct, IsLawful, IsSound, IsUnique}
@@ -70,8 +70,8 @@ lists_once (l ∷ ls) apart zero es e = let is : l.entries.entries ≡ es = cc i
     subst (λ (xs : List (NodeId × Entry)). IsDistinct same_node (keys_of xs)) is (unique_in l (apart 0 l refl))
 lists_once (l ∷ ls) apart (suc t) es e = lists_once ls (λ u x h. apart (suc u) x h) t es e
 
--- and no node has two headers, by the map's own word
-pub stand_once : (i : Inside) → IsSound i → IsUnique same_node i.locks.headers → StandOnce (view_of i)
+-- and no node has two headers, by their own word
+pub stand_once : (i : Inside) → IsSound i → AreDistinct i.locks.headers.entries → StandOnce (view_of i)
 stand_once i sound unique = record { headers = unique; lists = lists_once i.locks.lists.items sound.exact.sound.apart }
 
 -- A table in which nothing stands.
@@ -84,9 +84,6 @@ free_seats : (k t : ℕ) → txns_of (replicate k None) t ≡ None
 free_seats zero t = refl
 free_seats (suc k) zero = refl
 free_seats (suc k) (suc t) = free_seats k t
-
-no_headers : AreHeaders []
-no_headers = record { lawful = λ n h e. absurd (cc); used = λ n h e. absurd (cc) }
 
 module _ (i : Inside) (most nodes : ℕ) (few : most ≤ 128) (low : nodes ≤ 2 ^ 31) (limit : (graph_of i.graph).most ≡ nodes)
     (none : (birth : ℕ) → (graph_of i.graph).at birth ≡ None) (births : i.graph.births ≡ 0)
@@ -109,7 +106,6 @@ module _ (i : Inside) (most nodes : ℕ) (few : most ≤ 128) (low : nodes ≤ 2
     lawful = subst IsLawful (sym new_state) (roomy-lawful i.detect i.victims most nodes low);
     exact = record {
       sound = record {
-        headers = subst AreHeaders (sym new.headers) no_headers;
         few = subst (λ (k : ℕ). k ≤ 128) (sym (ap length new.seats ∙ length-replicate most)) few;
         lists = new.lists ∙ sym (ap length new.seats ∙ length-replicate most);
         apart = new.apart;
@@ -276,7 +272,6 @@ module _ (i : Inside) (sound : IsSound i) (t : ℕ) (at : Some t ≡ position is
     lawful = subst IsLawful (sym begun-state) (begun-lawful first sound.lawful t free place.0);
     exact = record {
       sound = record {
-        headers = sound.exact.sound.headers;
         few = subst (λ (k : ℕ). k ≤ 128) (sym seats-same) sound.exact.sound.few;
         lists = sound.exact.sound.lists ∙ sym seats-same;
         apart = sound.exact.sound.apart;

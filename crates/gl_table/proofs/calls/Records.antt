@@ -1,6 +1,6 @@
 -- Records come and go, and children are shed: what it makes of a table. For those calls.
 use Rattle.gl_table.proofs.Words.{[], ◌&&◌, ◌+◌, ◌-◌, ◌==◌, ◌||◌, ◌∙◌, ◌∷◌, ◌≡◌, ◌≤◌, Active, addressed, age_in, age_of, Agrees, and_both, ap, are_compatible}
-use Rattle.gl_table.proofs.Words.{AreExact, AreHeaders, AreSound, arith, Bool, clash, cond, count_by, count_cons, counted_by, CountsHeld, covered_children}
+use Rattle.gl_table.proofs.Words.{AreExact, AreSound, arith, Bool, clash, cond, count_by, count_cons, counted_by, CountsHeld, covered_children}
 use Rattle.gl_table.proofs.Words.{deleted, false, first_not_ix, freed, FreesTold, granted_at, Graph, graph_of, HasNoCycle, held_by, held_children, holds}
 use Rattle.gl_table.proofs.Words.{holds_child, IfOk, if◌then◌else◌, is_among_waiters, is_at_least, is_child, is_covered, is_live, is_record_shape, is_some}
 use Rattle.gl_table.proofs.Words.{is_wait, is_waiting_at, IsBorn, IsLawful, IsOrderly, IsRoomyRecord, IsSound, KeepsLists, length, List, list_all, listed}
@@ -124,7 +124,6 @@ module _ (i : Inside) (sound : IsSound i) (locks : Locks) (headers : locks.heade
     lawful = subst IsLawful (sym same_state) sound.lawful;
     exact = record {
       sound = record {
-        headers = subst AreHeaders (sym headers) sound.exact.sound.headers;
         few = subst (λ (k : ℕ). k ≤ 128) (sym many) sound.exact.sound.few;
         lists = lists.len ∙ sound.exact.sound.lists ∙ sym many;
         apart = lists.apart sound.exact.sound.apart;

@@ -1,16 +1,15 @@
 -- What an ask that is granted leaves, also of a node that nobody held. For asks and new records.
-use Rattle.gl_table.proofs.Words.{[], ◌&&◌, ◌+◌, ◌<◌, ◌==◌, ◌^◌, ◌||◌, ◌∙◌, ◌≡◌, ◌≢◌, ◌≤◌, Active, Agrees, and-false, ap, ap₂, AreHeaders, AreSound, arith}
-use Rattle.gl_table.proofs.Words.{Asked, asked_members, asked_queue, Bool, children_that, clash, count_by, count_by-le-length, count_of, counted_by, CountsHeld}
-use Rattle.gl_table.proofs.Words.{enters, enters_at, false, fun_ext, granted, Graph, HasRoom, HasRoomAt, HeaderState, held_children, held_of, holds}
-use Rattle.gl_table.proofs.Words.{if◌then◌else◌, is_among_waiters, is_granted_at, is_listed, is_live, is_unused, is_wait, IsApart, IsLawfulGraph}
-use Rattle.gl_table.proofs.Words.{IsLawfulHeader, IsOneHolder, IsOrderly, KeepsLists, length, List, LockList, members, members_at, members_of, Mode, mode_of}
-use Rattle.gl_table.proofs.Words.{NL, NodeId, not, not-true, not_NL, not_true, number_same, or-false, parents_of, placed, queue_of, refl, same_mode, same_node}
-use Rattle.gl_table.proofs.Words.{same_node-equal, same_node-refl, same_number, slice_index_or, slot_limit, Some, spare, split, State, state_on, status_of}
-use Rattle.gl_table.proofs.Words.{subst, supremum, supremum-not_NL, sym, true, unlisted, unused-nobody, unused-true, unused_header, wanted, with_grant}
-use Rattle.gl_table.proofs.Words.{with_members, with_mode, ℕ}
+use Rattle.gl_table.proofs.Words.{[], Active, Agrees, and-false, ap, ap₂, AreSound, arith, Asked, Bool, children_that, clash, count_by, count_by-le-length}
+use Rattle.gl_table.proofs.Words.{count_of, counted_by, CountsHeld, enters, enters_at, false, fun_ext, granted, Graph, HasRoom, HasRoomAt, HeaderState}
+use Rattle.gl_table.proofs.Words.{held_children, held_of, holds, if◌then◌else◌, is_among_waiters, is_granted_at, is_listed, is_live, is_wait, IsApart}
+use Rattle.gl_table.proofs.Words.{IsLawfulGraph, IsOneHolder, IsOrderly, KeepsLists, length, List, LockList, members, members_at, members_of, Mode, mode_of}
+use Rattle.gl_table.proofs.Words.{NL, NodeId, not, not-true, not_NL, or-false, parents_of, queue_of, refl, same_mode, same_node, same_node-equal}
+use Rattle.gl_table.proofs.Words.{same_node-refl, same_number, slice_index_or, slot_limit, Some, spare, split, State, state_on, status_of, subst, supremum}
+use Rattle.gl_table.proofs.Words.{supremum-not_NL, sym, true, unlisted, wanted, with_grant, with_members, with_mode, with_waiters, ℕ, ◌&&◌, ◌+◌, ◌<◌, ◌==◌}
+use Rattle.gl_table.proofs.Words.{◌^◌, ◌||◌, ◌∙◌, ◌≡◌, ◌≢◌, ◌≤◌}
 use Rattle.gl_table.specs.declared.locks.Locks.{Locks}
 use Rattle.gl_header.specs.declared.header.Asked.TheVariants as asked
-use Rattle.gl_table.proofs.inside.Headers.{all-written, held-changed, IsChanged, nobody-enters, queue-changed, with_waiters-same}
+use Rattle.gl_header.proofs.Changed.{nobody-enters, with_waiters-same}
 use Rattle.gl_table.proofs.inside.Slots.{by_list-at, HasNode, keeps-agrees, keeps-counts, slice_get-at}
 use Rattle.gl_table.proofs.law.Keeps.{apart, txn_there, waiting_is}
 use Rattle.gl_table.proofs.queues.Counts.{children_few, children_up, few_parents}
@@ -43,7 +42,6 @@ room-state g l l' t wanted made = state-same g l l' (ap (λ h. h.entries) made.h
 pub room-may_ask : (g : Graph) (l l' : Locks) (t : ℕ) (wanted : Bool) → HasMadeRoom l l' t wanted → MayAsk g l t → MayAsk g l' t
 room-may_ask g l l' t wanted made may = record {
   sound = record {
-    headers = subst AreHeaders (ap (λ h. h.entries) (sym made.headers)) may.sound.headers;
     few = subst (λ (k : ℕ). k ≤ 128) (sym seats) may.sound.few;
     lists = made.lists.len ∙ may.sound.lists ∙ sym seats;
     apart = made.lists.apart may.sound.apart;
@@ -283,14 +281,13 @@ module _ (g : Graph) (l r l' : Locks) (t : ℕ) (n : NodeId) (m : Mode) (old : B
   abbrev enters_now : Bool
   enters_now = enters slot_limit (members_at r.headers.entries n) (queue_of r.headers.entries n) t want
 
-  pub is_granted : IsLawfulGraph g → is_live g n ≡ true → m ≢ NL → AreHeaders l'.headers.entries
+  pub is_granted : IsLawfulGraph g → is_live g n ≡ true → m ≢ NL
       → a ≡ (if enters_now then asked.Granted want else asked.Waiting) → a ≡ asked.Granted w
       → (enters_now ≡ true → (held_of l'.headers.entries ≡ with_members (held_of r.headers.entries) n (with_mode (members_at r.headers.entries n) t want))
       × (queue_of l'.headers.entries ≡ queue_of r.headers.entries))
       → l'.seats ≡ r.seats → HasNode r.lists.items l'.lists.items t n w → CountsGrant (state_on g r) r.lists.items l'.lists.items t n → IsGranted g l l' t n m w
-  is_granted law live lock headers answer is changed seats has counts = record {
+  is_granted law live lock answer is changed seats has counts = record {
     sound = record {
-      headers = headers;
       few = subst (λ (k : ℕ). k ≤ 128) (ap (λ x. length x.items) (sym seats)) ready.may.sound.few;
       lists = has.len ∙ ready.may.sound.lists ∙ ap (λ x. length x.items) (sym seats);
       apart = has.apart;
@@ -318,23 +315,6 @@ module _ (g : Graph) (l r l' : Locks) (t : ℕ) (n : NodeId) (m : Mode) (old : B
 
 -- A node that nobody holds and nobody waits for comes to be held by one slot.
 
--- what an ask leaves of a new header
-pub one_holder : (h w : HeaderState) (t : ℕ) (m : Mode) → h ≡ unused_header → IsLawfulHeader w → members_of w ≡ asked_members h t m
-    → w.queue ≡ asked_queue h t m → IsOneHolder w t m
-one_holder h w t m new lawful members queue = record {
-  lawful = lawful;
-  members = members ∙ ap (λ x. asked_members x t m) new
-      ∙ ap (λ g. if enters slot_limit g [] t (supremum (g t) m) then with_mode g t (supremum (g t) m) else g) unused-nobody
-      ∙ ap (λ b. if b then with_mode (λ _. NL) t m else (λ _. NL)) (nobody-enters slot_limit t m);
-  queue = queue ∙ ap (λ x. asked_queue x t m) new ∙ ap (λ g. if enters slot_limit g [] t (supremum (g t) m) then [] else placed g [] t (supremum (g t) m))
-      unused-nobody ∙ ap (λ b. if b then [] else placed (λ _. NL) [] t m) (nobody-enters slot_limit t m);
-}
-
--- the header is needed
-holder-used : (h : HeaderState) (t : ℕ) (m : Mode) → m ≢ NL → IsOneHolder h t m → is_unused h ≡ false
-holder-used h t m lock one = not_true (is_unused h)
-    (λ u. lock (sym (ap (λ b. if b then m else NL) (number_same t t refl)) ∙ ap (λ ms. ms t) (sym one.members) ∙ (unused-true h one.lawful u).0 t))
-
 module _ (g : Graph) (l : Locks) (t : ℕ) (n : NodeId) (m : Mode) (may : MayAsk g l t) (unheld : (u : ℕ) → (state_on g l).held u n ≡ NL)
     (unawaited : (state_on g l).queue n ≡ []) (room : HasRoomAt l.lists.items t) where
   abbrev wanted_new : Mode
@@ -352,15 +332,14 @@ module _ (g : Graph) (l : Locks) (t : ℕ) (n : NodeId) (m : Mode) (may : MayAsk
 
   -- its header was put in, and the slot's list was written
   pub is_placed : IsLawfulGraph g → is_live g n ≡ true → m ≢ NL → (h : HeaderState) → IsOneHolder h t m → wanted_new ≡ m → (l' : Locks)
-      → IsChanged l.headers.entries l'.headers.entries n (Some h) → l'.seats ≡ l.seats
+      → held_of l'.headers.entries ≡ with_members (held_of l.headers.entries) n (members_of h)
+      → queue_of l'.headers.entries ≡ with_waiters (queue_of l.headers.entries) n h.queue → l'.seats ≡ l.seats
       → HasNode l.lists.items l'.lists.items t n m → CountsGrant (state_on g l) l.lists.items l'.lists.items t n → IsGranted g l l' t n m m
-  is_placed law live lock h one want_is l' changed seats has counts =
+  is_placed law live lock h one want_is l' held queue seats has counts =
       is_granted g l l l' t n m false ready (asked.Granted m) m law live lock
-      (all-written l.headers.entries l'.headers.entries n h may.sound.headers changed one.lawful (holder-used h t m lock one))
       (ap asked.Granted (sym want_is) ∙ sym (ap (λ b. if b then asked.Granted wanted_new else asked.Waiting) ready.enters)) refl
       (λ enters. (
-        held-changed l.headers.entries l'.headers.entries n (Some h) _ changed (one.members ∙ (λ i. with_mode (λ u. sym (unheld u) i) t (sym want_is i))),
-        queue-changed l.headers.entries l'.headers.entries n (Some h) [] changed one.queue
-            ∙ with_waiters-same (queue_of l.headers.entries) n [] (sym unawaited),
+        held ∙ ap (with_members (held_of l.headers.entries) n) (one.members ∙ (λ i. with_mode (λ u. sym (unheld u) i) t (sym want_is i))),
+        queue ∙ ap (with_waiters (queue_of l.headers.entries) n) one.queue ∙ with_waiters-same (queue_of l.headers.entries) n [] (sym unawaited),
       ))
       seats has counts

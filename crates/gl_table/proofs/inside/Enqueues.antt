@@ -1,5 +1,5 @@
 -- What an ask that waits leaves. For asks.
-use Rattle.gl_table.proofs.Words.{◌&&◌, ◌+◌, ◌<◌, ◌==◌, ◌||◌, ◌∙◌, ◌≡◌, ◌≤◌, Agrees, and_both, ap, ap₂, AreApart, AreHeaders, AreSound, Bool, count_of}
+use Rattle.gl_table.proofs.Words.{◌&&◌, ◌+◌, ◌<◌, ◌==◌, ◌||◌, ◌∙◌, ◌≡◌, ◌≤◌, Agrees, and_both, ap, ap₂, AreApart, AreSound, Bool, count_of}
 use Rattle.gl_table.proofs.Words.{counted_by, CountsHeld, enqueued, enters, Entries, false, fun_ext, Graph, held_of, holds, if◌then◌else◌, is_among_waiters}
 use Rattle.gl_table.proofs.Words.{is_listed, is_wait, IsApart, length, List, LockList, members, members_at, Mode, mode_of, NodeId, number_same, Option}
 use Rattle.gl_table.proofs.Words.{other_number, placed, queue_of, refl, restatus, room_by, same_node, same_node-equal, same_number, Seat, slice_index_or}
@@ -95,16 +95,15 @@ module _ (g : Graph) (l r l' : Locks) (t : ℕ) (n : NodeId) (m w : Mode) (held 
   abbrev want : Mode
   want = supremum (held_of r.headers.entries t n) m
 
-  pub is_enqueued : l'.headers.entries ≡ hs → AreHeaders hs
+  pub is_enqueued : l'.headers.entries ≡ hs
       → (enters slot_limit (members_at r.headers.entries n) (queue_of r.headers.entries n) t want ≡ false
       → (held_of hs ≡ held_of r.headers.entries) × (queue_of hs
       ≡ with_waiters (queue_of r.headers.entries) n (placed (members_at r.headers.entries n) (queue_of r.headers.entries n) t want)))
       → seats ≡ r.seats.items → length l'.seats.items ≡ length seats
       → ((u : ℕ) → txns_of l'.seats.items u ≡ (if u == t then restatus (Waiting n w) (txns_of seats t) else txns_of seats u)) → w ≡ want
       → HasWait r.lists.items l'.lists.items t n (held_of r.headers.entries t n) → IsEnqueued g l l' t n m
-  is_enqueued entries headers changed same len txns wants has = record {
+  is_enqueued entries changed same len txns wants has = record {
     sound = record {
-      headers = subst AreHeaders (sym entries) headers;
       few = subst (λ (k : ℕ). k ≤ 128) (sym count) ready.may.sound.few;
       lists = has.node.len ∙ ready.may.sound.lists ∙ sym count;
       apart = has.node.apart;

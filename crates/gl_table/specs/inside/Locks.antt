@@ -13,7 +13,7 @@ use Rattle.gl_listed.specs.declared.list.LockList.{LockList}
 use Rattle.gl_table.specs.declared.locks.Locks.{Locks}
 use Rattle.gl_table.specs.declared.txn.Status.TheVariants.{Waiting}
 use Rattle.gl_table.specs.model.Calls.{held_children}
-use Rattle.gl_table.specs.inside.Headers.{AreHeaders, held_of, queue_of}
+use Rattle.gl_header.specs.Headers.{held_of, queue_of}
 use Rattle.gl_table.specs.model.State.{is_waiting_at, State, members, status_of, is_wait}
 use Rattle.gl_table.specs.inside.Seats.{txns_of}
 use Rattle.gl_table.specs.inside.Slots.{KeepsLists, AreApart, counted_by, held_by, listed_by, room_by}
@@ -60,7 +60,6 @@ pub record IsOrderly (s : State) : Type 0 where
 
 -- what the locks are made of is in order
 pub record AreSound (l : Locks) : Type 0 where
-  pub headers : AreHeaders l.headers.entries
   pub few : length l.seats.items ≤ 128
   pub lists : length l.lists.items ≡ length l.seats.items
   pub apart : AreApart l.lists.items

@@ -1,6 +1,5 @@
 -- What a contract sees of a table's fields, and what holds of them always.
-use Rattle.std.specs.Prelude.{◌≡◌, ℕ, map}
-use Rattle.gl_graph.specs.View.{graph_of}
+use Rattle.std.specs.Prelude.{◌≡◌, map}
 use Rattle.gl_table.specs.declared.answers.Detect.TheVariants.{AtBlock}
 use Rattle.gl_table.specs.declared.table.Table.TheInside.{Inside}
 use Rattle.gl_table.specs.model.Lawful.{IsLawful}

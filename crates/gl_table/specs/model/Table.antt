@@ -15,7 +15,7 @@ use Rattle.gl_table.specs.declared.answers.Detect.{Detect}
 use Rattle.gl_listed.specs.declared.list.Entry.{Entry}
 use Rattle.gl_table.specs.declared.seat.Seat.{Seat}
 use Rattle.gl_table.specs.model.Calls.{held_children}
-use Rattle.gl_table.specs.inside.Headers.{Entries, held_of, queue_of}
+use Rattle.gl_header.specs.Headers.{Entries, held_of, queue_of}
 use Rattle.gl_listed.specs.Lists.{mode_in}
 use Rattle.gl_table.specs.model.State.{is_waiting_at, State, members, Txn, age_of, empty_state, waits_for}
 use Rattle.gl_table.specs.inside.Seats.{txns_of}

@@ -8,7 +8,7 @@ ghost use Rattle.gl_graph.specs.Refusals.{verdict};
 ghost use Rattle.gl_table.specs.model.Calls.{rule_refusal, asked_at, locked_as, enqueued, enters_at, granted, wanted};
 ghost use Rattle.gl_graph.specs.View.{graph_of};
 ghost use Rattle.gl_header.specs.Header.{holds};
-ghost use Rattle.gl_table.specs.inside.Headers.{is_granted_at};
+ghost use Rattle.gl_header.specs.Headers.{is_granted_at};
 ghost use Rattle.gl_table.specs.inside.Locks.{AreExact, IsOrderly, KeepsLocks, state_in};
 ghost use Rattle.gl_table.specs.inside.Slots.{HasRoomAt, KeepsLists, held_by};
 ghost use Rattle.gl_table.specs.inside.Seats.{txns_of};
@@ -16,7 +16,6 @@ ghost use Rattle.gl_table.specs.model.State.{members, status_in, status_of};
 ghost use Rattle.gl_table.specs.declared.txn.Status.TheVariants.{Active};
 
 use crate::answers::Locked;
-use crate::headers::{ask, would_grant};
 use gl_listed::LockList;
 use crate::locks::Locks;
 use crate::rule::check_rule;
@@ -60,7 +59,7 @@ impl Locks {
         match make_room(&mut self.lists, slot) {
             Ok(()) => Ok(()),
             Err(refusal) => {
-                if is_member && would_grant(&self.headers, slot, node, mode) {
+                if is_member && self.headers.would_grant(slot, node, mode) {
                     Ok(())
                 } else {
                     Err(refusal)
@@ -113,9 +112,10 @@ impl Locks {
             → enters_at (state_in graph.now self.old) slot node mode ≡ true → IsOk result }
     {
         graph.law();
+        self.headers.law();
         let is_member = held != Mode::NL;
         self.make_room_to_ask(slot, node, mode, is_member)?;
-        let asked = ask(self.alloc, &mut self.headers, slot, node, mode)?;
+        let asked = self.headers.ask(slot, node, mode)?;
         let list = &mut self.lists[slot as usize];
         match asked {
             Asked::Granted(wanted) if is_member => list.set_mode(node, wanted),

@@ -12,7 +12,6 @@ ghost use Rattle.gl_table.specs.declared.txn.Status.TheVariants.{Waiting};
 
 use crate::boards::Waits;
 use crate::deadlock::{Deadlock, Stuck};
-use crate::headers::waits_for;
 use crate::locks::Locks;
 use crate::seat::Seat;
 use crate::txn::{Status, TxnId};
@@ -69,7 +68,10 @@ impl Locks {
             txn: TxnId { slot, age },
             node,
             wanted,
-            waits_for: waits_for(&self.headers, slot, node, wanted).intersection(cycle),
+            waits_for: self
+                .headers
+                .waits_for(slot, node, wanted)
+                .intersection(cycle),
         }
     }
 

@@ -13,7 +13,7 @@ ghost use Rattle.gl_waits.specs.Sets.{has_slot};
 ghost use Rattle.gl_table.specs.declared.answers.Notice.TheVariants as notice;
 ghost use Rattle.gl_table.specs.declared.txn.Status.TheVariants.{Active};
 ghost use Rattle.gl_table.specs.model.Calls.{moved_to, stays};
-ghost use Rattle.gl_table.specs.inside.Headers.{held_of, members_at, queue_of, with_waiters};
+ghost use Rattle.gl_header.specs.Headers.{held_of, members_at, queue_of, with_waiters};
 ghost use Rattle.gl_table.specs.model.State.{intends_over, age_in, members, restatus};
 ghost use Rattle.indexmap.specs.IndexMap.{spare};
 ghost use Rattle.gl_modes.specs.Modes.{same_mode};
@@ -23,7 +23,6 @@ ghost use Rattle.gl_table.specs.inside.Seats.{txns_of};
 ghost use Rattle.gl_table.specs.inside.Slots.{AreApart, CanTell, IsBySlot, Strikes, counted_by, notices_in, room_by, unlisted_by};
 
 use crate::answers::{Notice, Told};
-use crate::headers::dismiss;
 use gl_listed::LockList;
 use crate::locks::Locks;
 use crate::rule::check_rule;
@@ -162,7 +161,7 @@ impl Locks {
         requires agree { (u : ℕ) → Agrees (state_in graph.now self.now) self.now.lists.items u }
         ensures { (u : ℕ) → has_slot result u ≡ is_among_waiters u (filter (λ w. not (stays (state_in graph.now self.now) (parents_of (graph_of graph.now) node) w)) (queue_of self.now.headers.entries node)) }
     {
-        let Some(header) = self.headers.get(&node) else {
+        let Some(header) = self.headers.get(node) else {
             return 0;
         };
         let mut strays = 0;
@@ -194,7 +193,7 @@ impl Locks {
         ensures by_slot { IsBySlot told.new.items }
         ensures tells { (u : ℕ) → notices_in told.new.items u ≡ (if u == slot then Some (record { slot = slot; age = age_in (txns_of self.old.seats.items slot) }, notice.Moved) else notices_in told.old.items u) }
     {
-        dismiss(&mut self.headers, slot, node);
+        self.headers.dismiss(slot, node);
         let age = self.seats.set_status(slot, Status::Active);
         forget(&mut self.lists, slot, node);
         tell(told, TxnId { slot, age }, Notice::Moved);

@@ -1,7 +1,6 @@
 //! Locks on records that come and go.
 
 ghost use Rattle.std.specs.Prelude.{◌≡◌, ◌<◌, ◌==◌, ℕ, [], IfErr, IfOk, None, OnOk, Some, false, length, true};
-ghost use Rattle.indexmap.specs.IndexMap.{spare};
 ghost use Rattle.gl_modes.specs.declared.mode.Mode.TheVariants.{NL, X};
 ghost use Rattle.gl_modes.specs.declared.refusal.Refusal.{Refusal as ARefusal};
 ghost use Rattle.gl_graph.specs.Changes.{without_node};
@@ -12,12 +11,11 @@ ghost use Rattle.gl_header.specs.Header.{holds, is_among_waiters};
 ghost use Rattle.gl_table.specs.model.Calls.{deleted};
 ghost use Rattle.gl_table.specs.inside.Slots.{CanFree, CanTell, Frees, FreesTold, HasRoomAt};
 ghost use Rattle.gl_table.specs.inside.Locks.{Agrees, AreExact, AreSound, CountsHeld, IsOrderly, KeepsLocks, state_in, state_on};
-ghost use Rattle.gl_table.specs.inside.Headers.{IsOneHolder};
+ghost use Rattle.gl_header.specs.Headers.{IsOneHolder};
 ghost use Rattle.gl_table.specs.model.State.{members, status_of, with_grant};
 ghost use Rattle.gl_table.specs.declared.txn.Status.TheVariants.{Active};
 
 use crate::answers::{Notice, Told};
-use crate::headers::take;
 use gl_listed::LockList;
 use crate::locks::Locks;
 use crate::locks::ask::make_room;
@@ -26,7 +24,7 @@ use crate::seats::Seats;
 use crate::told::tell;
 use crate::txn::{Status, TxnId};
 use gl_graph::Graph;
-use gl_header::Header;
+use gl_header::Prepared;
 use gl_modes::{Mode, NodeId, Refusal};
 
 /// Those who wait for a node that goes wait no more: they are active, their lists have it no more,
@@ -68,50 +66,46 @@ impl Locks {
     {
         graph.law();
         strike(&mut self.lists, slot, rec, graph.parents(rec));
-        let Some(header) = take(&mut self.headers, rec) else {
+        let Some(header) = self.headers.take(rec) else {
             unreachable!()
         };
         free(&mut self.seats, &mut self.lists, told, rec, header.queue());
     }
 
-    /// Makes room for one node more that a slot comes to hold, and for the counts of its parents.
+    /// Makes room for a node with this key that a slot comes to hold, and for the counts of its parents.
     /// Answers the node's header, with the slot's X in it. The only refusal is `NoMemory`, and all
     /// locks stay as they are.
-    pub(crate) fn prepare(&mut self, slot: u8) -> Result<Header, Refusal>
+    pub(crate) fn prepare(&mut self, slot: u8, key: usize) -> Result<Prepared, Refusal>
         requires slot { slot < length self.old.lists.items }
         requires below { slot < 128 }
-        ensures header { IfOk result (λ header. IsOneHolder header slot X) }
+        ensures header { IfOk result (λ prepared. IsOneHolder prepared slot X) }
         ensures kept { KeepsLocks self.old self.new }
-        ensures headers_room { OnOk result (0 < spare self.new.headers) }
+        ensures headers_room { OnOk result (key < self.new.headers.room) }
         ensures lists_room { OnOk result (HasRoomAt self.new.lists.items slot) }
         ensures no_memory { IfErr result (λ refusal. refusal ≡ ARefusal.NoMemory) }
     {
         make_room(&mut self.lists, slot)?;
-        let Ok(()) = self.headers.reserve(1) else {
-            return Err(Refusal::NoMemory);
-        };
-        let mut header = Header::new(self.alloc);
-        header.ask(slot, Mode::X)?;
-        Ok(header)
+        self.headers.prepare(key, slot, Mode::X)
     }
 
-    /// An active slot comes to hold a node in X that nobody holds or waits for, by this header. It
-    /// takes no memory: the room is there.
-    pub(crate) fn place(&mut self, graph: &Graph, slot: u8, node: NodeId, header: Header)
+    /// An active slot comes to hold a node in X that nobody holds or waits for, by the header that was
+    /// prepared. It takes no memory: the room is there.
+    pub(crate) fn place(&mut self, graph: &Graph, slot: u8, node: NodeId, prepared: Prepared)
         requires exact { AreExact graph.now self.old }
         requires orderly { IsOrderly (state_in graph.now self.old) }
         requires active { status_of (state_in graph.now self.old) slot ≡ Some Active }
         requires live { is_live (graph_of graph.now) node ≡ true }
         requires unheld { (u : ℕ) → (state_in graph.now self.old).held u node ≡ NL }
         requires unawaited { (state_in graph.now self.old).queue node ≡ [] }
-        requires header { IsOneHolder header slot X }
-        requires headers_room { 0 < spare self.old.headers }
+        requires header { IsOneHolder prepared slot X }
+        requires headers_room { node.key < self.old.headers.room }
         requires lists_room { HasRoomAt self.old.lists.items slot }
         ensures exact { AreExact graph.now self.new }
         ensures state { state_in graph.now self.new ≡ with_grant (state_in graph.now self.old) slot node X }
     {
         graph.law();
-        self.headers.insert(node, header).unwrap();
+        self.headers.law();
+        self.headers.put(node, prepared);
         let list = &mut self.lists[slot as usize];
         list.enter(node, Mode::X);
         list.count_up(graph.parents(node));

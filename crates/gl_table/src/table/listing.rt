@@ -11,7 +11,6 @@ ghost use Rattle.gl_table.specs.model.State.{lives, members, waits_for};
 
 use super::Table;
 use crate::answers::LockRow;
-use crate::headers::{holders, queue, waits_for};
 use crate::txn::{Status, TxnId};
 use gl_modes::{Mode, NodeId, Refusal};
 use gl_slots::Slots;
@@ -67,7 +66,7 @@ impl Table {
         ensures refused { RefusesOnly (first_refusal (group_tests (state_of self.now) n)) result }
     {
         self.check_node(n)?;
-        Ok(holders(&self.locks.headers, n))
+        Ok(self.locks.headers.holders(n))
     }
 
     /// The mode in which the transaction of a slot holds a node, `NL` for none.
@@ -84,7 +83,7 @@ impl Table {
         ensures refused { RefusesOnly (first_refusal (group_tests (state_of self.now) n)) result }
     {
         self.check_node(n)?;
-        Ok(queue(&self.locks.headers, n))
+        Ok(self.locks.headers.queue(n))
     }
 
     /// The slots of those for whom a transaction waits: who holds the node in a mode that does not go
@@ -95,12 +94,9 @@ impl Table {
         ensures refused { RefusesOnly (first_refusal (living_tests (state_of self.now) t)) result }
     {
         match self.status(t) {
-            Some(Status::Waiting { node, wanted }) => Ok(waits_for(
-                &self.locks.headers,
-                t.slot,
-                node,
-                wanted,
-            )),
+            Some(Status::Waiting { node, wanted }) => Ok(
+                self.locks.headers.waits_for(t.slot, node, wanted),
+            ),
             Some(_) => Ok(Slots::empty()),
             None => Err(Refusal::NoSuchTxn),
         }

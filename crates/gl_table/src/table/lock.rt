@@ -15,7 +15,6 @@ ghost use Rattle.gl_table.specs.model.Tellings.{told_but};
 
 use super::Table;
 use crate::answers::{Locked, Told};
-use crate::headers::would_grant;
 use crate::txn::TxnId;
 use gl_graph::Kind;
 use gl_header::Asked;
@@ -98,7 +97,7 @@ impl Table {
         ensures err { OnErr result (self.new ≡ self.old) }
     {
         let held = self.check_lock(t, n, mode)?;
-        if !would_grant(&self.locks.headers, t.slot, n, mode) {
+        if !self.locks.headers.would_grant(t.slot, n, mode) {
             return Err(Refusal::WouldBlock);
         }
         self.locks.grant(&self.graph, t.slot, n, mode, held)

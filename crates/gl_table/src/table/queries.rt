@@ -14,7 +14,6 @@ use super::Table;
 use crate::answers::Effect;
 use crate::boards::board;
 use crate::effective::effective;
-use crate::headers::group;
 use crate::txn::TxnId;
 use gl_modes::{Mode, NodeId, Refusal};
 use gl_waits::Board;
@@ -36,7 +35,7 @@ impl Table {
         ensures { result ≡ answered (first_refusal (group_tests (state_of self.now) n)) (group_of (state_of self.now).most (members (state_of self.now) n)) }
     {
         self.check_node(n)?;
-        Ok(group(&self.locks.headers, n))
+        Ok(self.locks.headers.group(n))
     }
 
     /// The mode in which a transaction holds a node, `NL` for none; `None` where it does not live.

@@ -68,9 +68,9 @@ impl Table {
         ensures memory { IfErr result (λ r. r ≡ ARefusal.NoMemory) }
         ensures err { OnErr result (self.new ≡ self.old) }
     {
-        let header = self.locks.prepare(t.slot)?;
+        let prepared = self.locks.prepare(t.slot, self.graph.next_key())?;
         let rec = self.graph.add_record_under(file, keys, parents)?;
-        self.locks.place(&self.graph, t.slot, rec, header);
+        self.locks.place(&self.graph, t.slot, rec, prepared);
         Ok(rec)
     }
 

@@ -29,5 +29,5 @@ loop-slot-preserved c =
 
 pub returns : goal.returns
 returns c =
-    board-all c.args.headers.now.entries c.args.seats.now c.args.epoch c.loop-slot.slot c.loop-slot.board c.requires.headers c.requires.few (omega arith)
+    board-all c.args.headers.now.entries c.args.seats.now c.args.epoch c.loop-slot.slot c.loop-slot.board c.law.ensures.headers c.requires.few (omega arith)
     c.loop-slot.invariant

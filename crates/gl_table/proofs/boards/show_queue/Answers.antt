@@ -30,7 +30,7 @@ loop-slot-preserved c =
             (omega (arith, low, so.len, c.told-rows))
             (reached-row c.args.headers.now.entries c.args.seats.now c.args.node h q t i w.in-Some-wanted_on.wanted c.loop-slot.passed.bits w.row_behind.result
             (0, NL)
-            (ap header_or_new c.in-Some.ensures.value) c.queue-slot-items.ensures w.in-Some-wanted_on.ensures c.loop-slot-test.true refl so.passed
+            (ap header_or_new c.in-Some.ensures) c.queue-slot-items.ensures w.in-Some-wanted_on.ensures c.loop-slot-test.true refl so.passed
             (sym w.contains.ensures ∙ w.if-not-contains.true) w.row_behind.ensures)
             so.rows),
       )

@@ -20,7 +20,8 @@ invariant_of-self c = record { places = places-same _ _ c.grow.ensures.kept c.se
 pub returns-in_err-grow-clause-member : goal.returns-in_err-grow-clause-member
 returns-in_err-grow-clause-member c = λ member granted.
     let has = has_holder c.args.self.now.entries c.args.node c.args.slot member in
-    clash (c.in_err-grow.ensures.there (has_place c.self.inside.places.items c.self.invariant.places c.args.self.now.entries (ap (λ (v : HeadersState). v.entries) c.self.view_is) c.args.node has.0 has.1)) refl
+    clash (c.in_err-grow.ensures.there (has_place c.self.inside.places.items c.self.invariant.places c.args.self.now.entries (ap (λ
+    (v : HeadersState). v.entries) c.self.view_is) c.args.node has.0 has.1)) refl
 
 -- the places, once there is one for the node
 
@@ -38,13 +39,15 @@ there c = ap header_of (sym (at c)) ∙ header_there c.grow.new.places.items (gr
 
 pub ask_at-requires-clause-not_waiting : goal.ask_at-requires-clause-not_waiting
 ask_at-requires-clause-not_waiting c =
-    ap (λ (h : HeaderState). is_among_waiters c.args.slot h.queue) (there (goal.at.ask_at-requires-clause-not_waiting c).After-index_mut) ∙ c.requires.not_waiting
+    ap (λ (h : HeaderState). is_among_waiters c.args.slot h.queue) (there (goal.at.ask_at-requires-clause-not_waiting c).After-index_mut)
+    ∙ c.requires.not_waiting
 
 pub invariant_of-self-2 : goal.invariant_of-self-2
 invariant_of-self-2 c = let s = (goal.at.invariant_of-self-2 c).After-index_mut in
     record {
       places = by_answer _ _ c.ask_at.result c.ask_at.ensures.stands c.ask_at.ensures.err
-          (λ says. ok-places c.grow.new.places.items (grown s) c.args.self.now.entries (same s) c.args.node c.requires.alone c.in_ok-grow.ensures.room c.args.slot
+          (λ says. ok-places c.grow.new.places.items (grown s) c.args.self.now.entries
+          (same s) c.args.node c.requires.alone c.in_ok-grow.ensures.room c.args.slot
           c.args.mode c.requires.lock c.index_mut.result.now c.ask_at.new.place (at s) says)
           (λ stays. err-places c.grow.new.places.items (grown s) c.args.self.now.entries (same s) c.args.node c.requires.alone c.in_ok-grow.ensures.room
           c.args.slot c.args.mode c.requires.lock c.index_mut.result.now c.ask_at.new.place (at s) stays);

@@ -13,29 +13,34 @@ use Rattle.gl_header.proofs.headers.Headers.dismiss.Goals as goal
 pub index_mut-place-requires : goal.index_mut-place-requires
 index_mut-place-requires c =
     let has = has_waiter c.args.self.now.entries c.args.node c.args.slot c.requires.waits in
-    let there = has_place c.self.inside.places.items c.self.invariant.places c.args.self.now.entries (ap (λ (v : HeadersState). v.entries) c.self.view_is) c.args.node has.0 has.1 in
+    let there = has_place c.self.inside.places.items c.self.invariant.places c.args.self.now.entries (ap (λ
+    (v : HeadersState). v.entries) c.self.view_is) c.args.node has.0 has.1 in
     omega (arith, there)
 
 pub unreachable-requires : goal.unreachable-requires
 unreachable-requires c =
     let has = has_waiter c.args.self.now.entries c.args.node c.args.slot c.requires.waits in
-    not_empty c.self.inside.places.items c.self.invariant.places c.args.self.now.entries (ap (λ (v : HeadersState). v.entries) c.self.view_is) c.args.node has.0 has.1
+    not_empty c.self.inside.places.items c.self.invariant.places c.args.self.now.entries (ap (λ
+    (v : HeadersState). v.entries) c.self.view_is) c.args.node has.0 has.1
     c.index_mut-place.result.now c.index_mut-place.ensures.value (sym c.take.ensures.value ∙ c.in_default.is)
 
 here : (c : After-deref_mut) → IsAt c.self.inside.places.items c.args.self.now.entries c.args.node c.in-Some.here
 here c =
     let has = has_waiter c.args.self.now.entries c.args.node c.args.slot c.requires.waits in
-    is_at c.self.inside.places.items c.self.invariant.places c.args.self.now.entries (ap (λ (v : HeadersState). v.entries) c.self.view_is) c.args.node has.0 has.1
+    is_at c.self.inside.places.items c.self.invariant.places c.args.self.now.entries (ap (λ
+    (v : HeadersState). v.entries) c.self.view_is) c.args.node has.0 has.1
     c.index_mut-place.result.now c.index_mut-place.ensures.value c.in-Some.here (sym c.take.ensures.value ∙ c.in-Some.is)
 
 was : (c : After-deref_mut) → c.deref_mut.result.now.header ≡ header_or_new (header_at c.args.self.now.entries c.args.node)
 was c = ap (λ (p : Place). p.header) c.deref_mut.ensures.value ∙ (here c).header
 
 pub dismiss-requires-clause-waits : goal.dismiss-requires-clause-waits
-dismiss-requires-clause-waits c = ap (λ (h : HeaderState). is_among_waiters c.args.slot h.queue) (was (goal.at.dismiss-requires-clause-waits c).After-deref_mut) ∙ c.requires.waits
+dismiss-requires-clause-waits c = ap (λ (h : HeaderState). is_among_waiters c.args.slot h.queue) (was
+    (goal.at.dismiss-requires-clause-waits c).After-deref_mut) ∙ c.requires.waits
 
 pub dismiss-requires-clause-front_waits : goal.dismiss-requires-clause-front_waits
-dismiss-requires-clause-front_waits c = ap (λ (h : HeaderState). front slot_limit (members_of h) (without_waiter c.args.slot h.queue)) (was (goal.at.dismiss-requires-clause-front_waits c).After-deref_mut) ∙ c.requires.front_waits
+dismiss-requires-clause-front_waits c = ap (λ (h : HeaderState). front slot_limit (members_of h) (without_waiter c.args.slot h.queue)) (was
+    (goal.at.dismiss-requires-clause-front_waits c).After-deref_mut) ∙ c.requires.front_waits
 
 -- the write there
 

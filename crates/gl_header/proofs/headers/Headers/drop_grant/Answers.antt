@@ -14,29 +14,34 @@ use Rattle.gl_header.proofs.headers.Headers.drop_grant.Goals as goal
 pub index_mut-place-requires : goal.index_mut-place-requires
 index_mut-place-requires c =
     let has = has_holder c.args.self.now.entries c.args.node c.args.slot c.requires.holds in
-    let there = has_place c.self.inside.places.items c.self.invariant.places c.args.self.now.entries (ap (λ (v : HeadersState). v.entries) c.self.view_is) c.args.node has.0 has.1 in
+    let there = has_place c.self.inside.places.items c.self.invariant.places c.args.self.now.entries (ap (λ
+    (v : HeadersState). v.entries) c.self.view_is) c.args.node has.0 has.1 in
     omega (arith, there)
 
 pub unreachable-requires : goal.unreachable-requires
 unreachable-requires c =
     let has = has_holder c.args.self.now.entries c.args.node c.args.slot c.requires.holds in
-    not_empty c.self.inside.places.items c.self.invariant.places c.args.self.now.entries (ap (λ (v : HeadersState). v.entries) c.self.view_is) c.args.node has.0 has.1
+    not_empty c.self.inside.places.items c.self.invariant.places c.args.self.now.entries (ap (λ
+    (v : HeadersState). v.entries) c.self.view_is) c.args.node has.0 has.1
     c.index_mut-place.result.now c.index_mut-place.ensures.value (sym c.take.ensures.value ∙ c.in_default.is)
 
 here : (c : After-deref_mut) → IsAt c.self.inside.places.items c.args.self.now.entries c.args.node c.in-Some.here
 here c =
     let has = has_holder c.args.self.now.entries c.args.node c.args.slot c.requires.holds in
-    is_at c.self.inside.places.items c.self.invariant.places c.args.self.now.entries (ap (λ (v : HeadersState). v.entries) c.self.view_is) c.args.node has.0 has.1
+    is_at c.self.inside.places.items c.self.invariant.places c.args.self.now.entries (ap (λ
+    (v : HeadersState). v.entries) c.self.view_is) c.args.node has.0 has.1
     c.index_mut-place.result.now c.index_mut-place.ensures.value c.in-Some.here (sym c.take.ensures.value ∙ c.in-Some.is)
 
 was : (c : After-deref_mut) → c.deref_mut.result.now.header ≡ header_or_new (header_at c.args.self.now.entries c.args.node)
 was c = ap (λ (p : Place). p.header) c.deref_mut.ensures.value ∙ (here c).header
 
 pub drop_grant-requires-clause-holds : goal.drop_grant-requires-clause-holds
-drop_grant-requires-clause-holds c = ap (λ (h : HeaderState). holds (members_of h) c.args.slot) (was (goal.at.drop_grant-requires-clause-holds c).After-deref_mut) ∙ c.requires.holds
+drop_grant-requires-clause-holds c = ap (λ (h : HeaderState). holds (members_of h) c.args.slot) (was
+    (goal.at.drop_grant-requires-clause-holds c).After-deref_mut) ∙ c.requires.holds
 
 pub drop_grant-requires-clause-not_waiting : goal.drop_grant-requires-clause-not_waiting
-drop_grant-requires-clause-not_waiting c = ap (λ (h : HeaderState). is_among_waiters c.args.slot h.queue) (was (goal.at.drop_grant-requires-clause-not_waiting c).After-deref_mut) ∙ c.requires.not_waiting
+drop_grant-requires-clause-not_waiting c = ap (λ (h : HeaderState). is_among_waiters c.args.slot h.queue) (was
+    (goal.at.drop_grant-requires-clause-not_waiting c).After-deref_mut) ∙ c.requires.not_waiting
 
 -- the write there
 
@@ -49,18 +54,21 @@ invariant_of-self c = record {
 
 pub returns-clause-granted : goal.returns-clause-granted
 returns-clause-granted c =
-    c.drop_grant.ensures.granted ∙ ap (λ (h : HeaderState). front slot_limit (with_mode (members_of h) c.args.slot NL) h.queue) (was (goal.at.returns-clause-granted c).After-deref_mut)
+    c.drop_grant.ensures.granted ∙ ap (λ (h : HeaderState). front slot_limit (with_mode (members_of h) c.args.slot NL) h.queue) (was
+    (goal.at.returns-clause-granted c).After-deref_mut)
 
 pub returns-clause-held : goal.returns-clause-held
 returns-clause-held c =
     swept-held c.self.inside.places.items c.args.self.now.entries c.args.node c.in-Some.here (here (goal.at.returns-clause-held c).After-deref_mut)
     _ (ap (λ (p : Place). p.node) c.deref_mut.ensures.value) c.drop_grant.ensures.lawful c.put_back.new.place c.put_back.ensures.place
     ∙ ap (with_members (held_of c.args.self.now.entries) c.args.node) (c.drop_grant.ensures.members
-    ∙ ap (λ (h : HeaderState). pumped_members slot_limit (with_mode (members_of h) c.args.slot NL) h.queue) (was (goal.at.returns-clause-held c).After-deref_mut))
+    ∙ ap (λ (h : HeaderState). pumped_members slot_limit (with_mode (members_of h) c.args.slot NL) h.queue) (was
+    (goal.at.returns-clause-held c).After-deref_mut))
 
 pub returns-clause-queue : goal.returns-clause-queue
 returns-clause-queue c =
     swept-queue c.self.inside.places.items c.args.self.now.entries c.args.node c.in-Some.here (here (goal.at.returns-clause-queue c).After-deref_mut)
     _ (ap (λ (p : Place). p.node) c.deref_mut.ensures.value) c.drop_grant.ensures.lawful c.put_back.new.place c.put_back.ensures.place
     ∙ ap (with_waiters (queue_of c.args.self.now.entries) c.args.node) (c.drop_grant.ensures.queue
-    ∙ ap (λ (h : HeaderState). pumped_queue slot_limit (with_mode (members_of h) c.args.slot NL) h.queue) (was (goal.at.returns-clause-queue c).After-deref_mut))
+    ∙ ap (λ (h : HeaderState). pumped_queue slot_limit (with_mode (members_of h) c.args.slot NL) h.queue) (was
+    (goal.at.returns-clause-queue c).After-deref_mut))

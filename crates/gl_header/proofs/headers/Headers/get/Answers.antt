@@ -10,7 +10,8 @@ pub returns-in-Some : goal.returns-in-Some
 returns-in-Some c =
     c.header_in.ensures
     ∙ (ap (header_in c.args.node) (c.in-Some.ensures.lookup.3.1 None ∙ ap (λ xs. slice_index_or xs c.args.node.key None) c.deref.ensures.value)
-    ∙ sym (found_in c.self.inside.places.items c.self.invariant.places c.args.self.now.entries (ap (λ (v : HeadersState). v.entries) c.self.view_is) c.args.node))
+    ∙ sym (found_in c.self.inside.places.items c.self.invariant.places c.args.self.now.entries (ap (λ
+    (v : HeadersState). v.entries) c.self.view_is) c.args.node))
 
 pub returns-in-None : goal.returns-in-None
 returns-in-None c =

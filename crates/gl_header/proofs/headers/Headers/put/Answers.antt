@@ -5,25 +5,29 @@ use Rattle.gl_header.specs.Headers.{HeadersState}
 use Rattle.gl_header.specs.Places.{ArePlaces, entries_in}
 use Rattle.gl_header.specs.State.{HeaderState, IsLawfulHeader, is_unused, members_of}
 use Rattle.gl_header.specs.declared.places.Place.{Place}
-use Rattle.gl_header.proofs.AtPlace.{free-alone, put-changed, put-places}
-use Rattle.gl_header.proofs.Changed.{IsChanged, held-changed, queue-changed}
+use Rattle.gl_header.proofs.AtPlace.{put-changed, put-places}
+use Rattle.gl_header.proofs.Changed.{IsChanged, free-alone, held-changed, queue-changed}
 use Rattle.gl_header.proofs.headers.Headers.put.Goals as goal
 
 header : (c : goal.Joined-index_mut) → c.deref_mut.result.now.header ≡ c.prepared.inside.place.value.header
 header c = ap (λ (p : Place). p.header) c.deref_mut.ensures.value
 
 places : (c : goal.Joined-index_mut)
-    → ArePlaces (slice_set c.self.inside.places.items c.args.node.key (Some (with_value c.prepared.inside.place record { node = c.args.node; header = c.deref_mut.result.now.header })))
+    → ArePlaces (slice_set c.self.inside.places.items c.args.node.key (Some
+    (with_value c.prepared.inside.place record { node = c.args.node; header = c.deref_mut.result.now.header })))
 places c =
-    put-places c.self.inside.places.items c.self.invariant.places c.args.self.now.entries (ap (λ (v : HeadersState). v.entries) c.self.view_is) c.args.node (free-alone c.args.self.now.entries c.args.node c.requires.free)
+    put-places c.self.inside.places.items c.self.invariant.places c.args.self.now.entries (ap (λ (v : HeadersState). v.entries) c.self.view_is) c.args.node
+    (free-alone c.args.self.now.entries c.args.node c.requires.free)
     (let r = ap (λ (v : HeadersState). v.room) c.self.view_is in let l = c.requires.room in omega arith) _ refl
     (subst IsLawfulHeader (sym (header c)) c.prepared.invariant.lawful) (ap is_unused (header c) ∙ c.prepared.invariant.used)
 
 changed : (c : goal.Joined-index_mut)
     → IsChanged c.args.self.now.entries (entries_in (slice_set c.self.inside.places.items c.args.node.key
-    (Some (with_value c.prepared.inside.place record { node = c.args.node; header = c.deref_mut.result.now.header })))) c.args.node (Some c.deref_mut.result.now.header)
+    (Some (with_value c.prepared.inside.place record { node = c.args.node; header = c.deref_mut.result.now.header })))) c.args.node
+    (Some c.deref_mut.result.now.header)
 changed c =
-    put-changed c.self.inside.places.items c.self.invariant.places c.args.self.now.entries (ap (λ (v : HeadersState). v.entries) c.self.view_is) c.args.node (free-alone c.args.self.now.entries c.args.node c.requires.free)
+    put-changed c.self.inside.places.items c.self.invariant.places c.args.self.now.entries (ap (λ
+    (v : HeadersState). v.entries) c.self.view_is) c.args.node (free-alone c.args.self.now.entries c.args.node c.requires.free)
     (let r = ap (λ (v : HeadersState). v.room) c.self.view_is in let l = c.requires.room in omega arith) _ refl
     (subst IsLawfulHeader (sym (header c)) c.prepared.invariant.lawful) (ap is_unused (header c) ∙ c.prepared.invariant.used)
 

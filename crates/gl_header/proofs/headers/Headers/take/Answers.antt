@@ -21,26 +21,31 @@ returns-in_err-get-clause-held c =
 
 pub index_mut-requires : goal.index_mut-requires
 index_mut-requires c =
-    let there = has_place c.self.inside.places.items c.self.invariant.places c.args.self.now.entries (ap (λ (v : HeadersState). v.entries) c.self.view_is) c.args.node _ (sym c.in_ok-get.ensures) in
+    let there = has_place c.self.inside.places.items c.self.invariant.places c.args.self.now.entries (ap (λ
+    (v : HeadersState). v.entries) c.self.view_is) c.args.node _ (sym c.in_ok-get.ensures) in
     omega (arith, there)
 
 pub returns-in_err-here-clause-held : goal.returns-in_err-here-clause-held
 returns-in_err-here-clause-held c =
-    absurd (not_empty c.self.inside.places.items c.self.invariant.places c.args.self.now.entries (ap (λ (v : HeadersState). v.entries) c.self.view_is) c.args.node _ (sym c.in_ok-get.ensures)
+    absurd (not_empty c.self.inside.places.items c.self.invariant.places c.args.self.now.entries (ap (λ
+    (v : HeadersState). v.entries) c.self.view_is) c.args.node _ (sym c.in_ok-get.ensures)
     c.index_mut.result.now c.index_mut.ensures.value (sym c.in_err-here.ensures.value))
 
 pub returns-in_err-here-clause-queue : goal.returns-in_err-here-clause-queue
 returns-in_err-here-clause-queue c =
-    absurd (not_empty c.self.inside.places.items c.self.invariant.places c.args.self.now.entries (ap (λ (v : HeadersState). v.entries) c.self.view_is) c.args.node _ (sym c.in_ok-get.ensures)
+    absurd (not_empty c.self.inside.places.items c.self.invariant.places c.args.self.now.entries (ap (λ
+    (v : HeadersState). v.entries) c.self.view_is) c.args.node _ (sym c.in_ok-get.ensures)
     c.index_mut.result.now c.index_mut.ensures.value (sym c.in_err-here.ensures.value))
 
 pub returns-in_err-here-clause-taken : goal.returns-in_err-here-clause-taken
 returns-in_err-here-clause-taken c =
-    absurd (not_empty c.self.inside.places.items c.self.invariant.places c.args.self.now.entries (ap (λ (v : HeadersState). v.entries) c.self.view_is) c.args.node _ (sym c.in_ok-get.ensures)
+    absurd (not_empty c.self.inside.places.items c.self.invariant.places c.args.self.now.entries (ap (λ
+    (v : HeadersState). v.entries) c.self.view_is) c.args.node _ (sym c.in_ok-get.ensures)
     c.index_mut.result.now c.index_mut.ensures.value (sym c.in_err-here.ensures.value))
 
 here : (c : goal.After-into_inner) → IsAt c.self.inside.places.items c.args.self.now.entries c.args.node c.in_ok-here.here
-here c = is_at c.self.inside.places.items c.self.invariant.places c.args.self.now.entries (ap (λ (v : HeadersState). v.entries) c.self.view_is) c.args.node _ (sym c.in_ok-get.ensures)
+here c = is_at c.self.inside.places.items c.self.invariant.places c.args.self.now.entries (ap (λ
+    (v : HeadersState). v.entries) c.self.view_is) c.args.node _ (sym c.in_ok-get.ensures)
     c.index_mut.result.now c.index_mut.ensures.value c.in_ok-here.here (sym c.in_ok-here.ensures.value)
 
 pub invariant_of-self-2 : goal.invariant_of-self-2

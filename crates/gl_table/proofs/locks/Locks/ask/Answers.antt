@@ -1,10 +1,13 @@
-use Rattle.gl_table.proofs.Words.{◌&&◌, ◌+◌, ◌<◌, ◌^◌, ◌∙◌, ◌≡◌, ◌≤◌, Agrees, and-false, ap, ap₂, arith, Asked, asked_at, clash, count_by, count_of, CountsHeld}
-use Rattle.gl_table.proofs.Words.{enters_at, false, graph_of, held_of, holds, if◌then◌else◌, is_granted_at, members, mode_of, NL, not, not-false, not-true}
-use Rattle.gl_table.proofs.Words.{parents_of, refl, rules, same_mode, same_node, spare, state_in, subst, supremum, sym, true, unlisted, wanted, with_item, ℕ}
+use Rattle.gl_table.proofs.Words.{Agrees, and-false, ap, ap₂, AreHeaders, arith, Asked, asked_at, clash, count_by, count_of, CountsHeld, enters_at, false}
+use Rattle.gl_table.proofs.Words.{graph_of, held_of, holds, if◌then◌else◌, is_granted_at, members, mode_of, NL, not, not-false, not-true, parents_of, refl}
+use Rattle.gl_table.proofs.Words.{rules, same_mode, same_node, spare, state_in, subst, supremum, sym, true, unlisted, wanted, with_item, ℕ, ◌&&◌, ◌+◌, ◌<◌}
+use Rattle.gl_table.proofs.Words.{◌^◌, ◌∙◌, ◌≡◌, ◌≤◌}
 use Rattle.gl_header.specs.declared.header.Asked.TheVariants as asked
+use Rattle.gl_table.specs.declared.locks.Locks.{Locks}
 use Rattle.gl_table.proofs.inside.Asks.{answer-enters, answer-waits, is_granted, IsGranted, MayAsk, own-apart, own-few, own-listed, own-mode, own-room}
 use Rattle.gl_table.proofs.inside.Asks.{parents-room, roomy_may, roomy_ready, roomy_same, roomy_says, says_is, slot-listed, state-same}
 use Rattle.gl_table.proofs.inside.Enqueues.{has_wait-set, HasWait, is_enqueued, IsEnqueued}
+use Rattle.gl_table.proofs.inside.Living.{its_key}
 use Rattle.gl_table.proofs.inside.Slots.{also_held, also_listed, counts-entered, has_node-set, kept-apart, none_more}
 use Rattle.gl_listed.proofs.Children.{nl_is}
 use Rattle.gl_table.proofs.locks.Locks.ask.Goals.{After-make_room_to_ask, After-count_up, After-set_mode, After-set_status, then-not-is_member}
@@ -52,6 +55,13 @@ answer_is : (c : After-make_room_to_ask) (a : Asked)
     → a ≡ asked_at (state_in c.args.graph.now c.args.self.now) c.args.slot c.args.node c.args.mode
 answer_is c a e = e ∙ ap₂ (λ b w. if b then asked.Granted w else asked.Waiting) (says c) (ap (λ s. wanted s c.args.slot c.args.node c.args.mode) (same c))
 
+-- the node lives, so nobody holds or waits for another of its key
+pub ask-requires-clause-alone : goal.ask-requires-clause-alone
+ask-requires-clause-alone c = let p = (goal.at.ask-requires-clause-alone c).After-make_room_to_ask in
+    its_key (graph_of c.args.graph.now) c.make_room_to_ask.new.self
+    (subst AreHeaders (sym (ap (λ (x : Locks). x.headers.entries) c.make_room_to_ask.ensures.rest)) c.law-2.ensures.headers) (may_now p).orderly
+    c.law.ensures.lawful c.args.node c.requires.live
+
 -- the refusals
 
 pub returns-in_err-make_room_to_ask-clause-exact : goal.returns-in_err-make_room_to_ask-clause-exact
@@ -67,9 +77,9 @@ returns-in_err-make_room_to_ask-clause-held c =
 pub returns-in_err-asked-clause-exact : goal.returns-in_err-asked-clause-exact
 returns-in_err-asked-clause-exact c =
     let m = may_now (goal.at.returns-in_err-asked-clause-exact c).After-make_room_to_ask in let l = c.make_room_to_ask.new.self in
-    let same = sym (state-same (graph_of c.args.graph.now) l (record l { headers = c.ask.new.headers }) c.in_err-asked.ensures.err refl) in
+    let same = sym (state-same (graph_of c.args.graph.now) l (record l { headers = c.ask.new.self }) c.in_err-asked.ensures.err refl) in
     record {
-      sound = record { headers = c.ask.ensures.headers; few = m.sound.few; lists = m.sound.lists; apart = m.sound.apart };
+      sound = record { few = m.sound.few; lists = m.sound.lists; apart = m.sound.apart };
       agree = λ u. subst (λ s. Agrees s l.lists.items u) same (m.agree u);
       count = λ u. subst (λ s. CountsHeld s l.lists.items u) same (m.count u);
     }
@@ -146,7 +156,7 @@ enter-requires-then-not-is_member-clause-room c =
 put_raised : (c : After-set_mode) → MayAsk (graph_of c.args.graph.now) c.args.self.now c.args.slot
     → c.ne-is_member.result ≡ holds (members (state_in c.args.graph.now c.args.self.now) c.args.node) c.args.slot
     → IsGranted (graph_of c.args.graph.now) c.args.self.now
-    (record c.make_room_to_ask.new.self { headers = c.ask.new.headers; lists = with_item c.make_room_to_ask.new.self.lists c.args.slot c.set_mode.new.self })
+    (record c.make_room_to_ask.new.self { headers = c.ask.new.self; lists = with_item c.make_room_to_ask.new.self.lists c.args.slot c.set_mode.new.self })
     c.args.slot c.args.node c.args.mode c.in-Granted.wanted
 put_raised c m held = let g = graph_of c.args.graph.now in let l = c.make_room_to_ask.new.self in let t = c.args.slot in let n = c.args.node in
     let x = c.index_mut-list.result.now in let x' = c.set_mode.new.self in
@@ -156,7 +166,7 @@ put_raised c m held = let g = graph_of c.args.graph.now in let l = c.make_room_t
     now c.in_ok-make_room_to_ask.ensures.room in
     let listed = slot-listed g l t r.may in
     is_granted g c.args.self.now l _ t n c.args.mode c.ne-is_member.result r c.in_ok-asked.asked c.in-Granted.wanted c.law.ensures.lawful c.requires.live
-    c.requires.lock c.ask.ensures.headers c.in_ok-asked.ensures.answer c.in-Granted.is c.in_ok-asked.ensures.granted
+    c.requires.lock c.in_ok-asked.ensures.answer c.in-Granted.is c.in_ok-asked.ensures.granted
     refl
     (has_node-set l.lists.items t x x' listed c.index_mut-list.ensures.value n c.in-Granted.wanted r.may.sound.apart
     (kept-apart l.lists.items t x x' listed c.index_mut-list.ensures.value r.may.sound.apart c.set_mode.ensures.listed c.set_mode.ensures.loose
@@ -172,7 +182,7 @@ put_raised c m held = let g = graph_of c.args.graph.now in let l = c.make_room_t
 put_new : (c : After-count_up) → MayAsk (graph_of c.args.graph.now) c.args.self.now c.args.slot
     → c.ne-is_member.result ≡ holds (members (state_in c.args.graph.now c.args.self.now) c.args.node) c.args.slot
     → IsGranted (graph_of c.args.graph.now) c.args.self.now
-    (record c.make_room_to_ask.new.self { headers = c.ask.new.headers; lists = with_item c.make_room_to_ask.new.self.lists c.args.slot c.count_up.new.self })
+    (record c.make_room_to_ask.new.self { headers = c.ask.new.self; lists = with_item c.make_room_to_ask.new.self.lists c.args.slot c.count_up.new.self })
     c.args.slot c.args.node c.args.mode c.in-Granted-2.wanted
 put_new c m held = let g = graph_of c.args.graph.now in let l = c.make_room_to_ask.new.self in let t = c.args.slot in let n = c.args.node in
     let x = c.index_mut-list.result.now in let x' = c.count_up.new.self in
@@ -182,7 +192,7 @@ put_new c m held = let g = graph_of c.args.graph.now in let l = c.make_room_to_a
     now c.in_ok-make_room_to_ask.ensures.room in
     let listed = slot-listed g l t r.may in
     is_granted g c.args.self.now l _ t n c.args.mode c.ne-is_member.result r c.in_ok-asked.asked c.in-Granted-2.wanted c.law.ensures.lawful c.requires.live
-    c.requires.lock c.ask.ensures.headers c.in_ok-asked.ensures.answer c.in-Granted-2.is c.in_ok-asked.ensures.granted
+    c.requires.lock c.in_ok-asked.ensures.answer c.in-Granted-2.is c.in_ok-asked.ensures.granted
     refl
     (has_node-set l.lists.items t x x' listed c.index_mut-list.ensures.value n c.in-Granted-2.wanted r.may.sound.apart c.count_up.ensures.apart
     (λ q. c.count_up.ensures.modes q ∙ c.enter.ensures.modes q) (λ q. c.count_up.ensures.listed q ∙ c.enter.ensures.listed q))
@@ -216,7 +226,7 @@ listed c m is blocked = let g = graph_of c.args.graph.now in let l = c.make_room
           (also_listed x n (own-listed g l t m x at n ∙ is ∙ w.if-not-is_member.false)) (λ q. refl) room)
     ]
 
-same_headers : (c : After-set_status) → c.if-not-is_member.self.headers ≡ c.ask.new.headers
+same_headers : (c : After-set_status) → c.if-not-is_member.self.headers ≡ c.ask.new.self
 same_headers c = elim c.if-not-is_member.branch [ then-not-is_member w ↦ ap (λ y. y.headers) w.self-is | else-not-is_member w ↦ ap (λ y. y.headers) w.self-is ]
 
 same_seats : (c : After-set_status) → c.if-not-is_member.self.seats ≡ c.make_room_to_ask.new.self.seats
@@ -238,8 +248,8 @@ put c m held = let g = graph_of c.args.graph.now in let l = c.make_room_to_ask.n
     let r = roomy_ready g c.args.self.now l t m c.make_room_to_ask.ensures.rest c.make_room_to_ask.ensures.kept n c.args.mode c.ne-is_member.result false held
     (blocks c m) c.in_ok-make_room_to_ask.ensures.room in
     is_enqueued g c.args.self.now l (record c.if-not-is_member.self { seats = c.set_status.new.self }) t n c.args.mode c.sup-wanted.result _ r
-    c.ask.new.headers.entries c.if-not-is_member.self.seats.items
-    (ap (λ h. h.entries) (same_headers c)) c.ask.ensures.headers c.in_ok-asked.ensures.waits (ap (λ x. x.items) (same_seats c)) c.set_status.ensures.len
+    c.ask.new.self.entries c.if-not-is_member.self.seats.items
+    (ap (λ h. h.entries) (same_headers c)) c.in_ok-asked.ensures.waits (ap (λ x. x.items) (same_seats c)) c.set_status.ensures.len
     c.set_status.ensures.txns
     (c.sup-wanted.ensures ∙ ap (λ k. supremum k c.args.mode) (c.requires.held ∙ (m.agree t).modes n
     ∙ ap (λ s. s.held t n) (sym (roomy_same g c.args.self.now l t m c.make_room_to_ask.ensures.rest c.make_room_to_ask.ensures.kept))))

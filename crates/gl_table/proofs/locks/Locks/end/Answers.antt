@@ -16,7 +16,6 @@ returns-clause-exact c =
     let bare : IsBare c.clear.new.self = record { listed = c.clear.ensures.listed; counts = c.clear.ensures.counts; apart = c.clear.ensures.apart } in
     record {
       sound = record {
-        headers = was.headers;
         few = subst (λ (k : ℕ). k ≤ 128) seats was.few;
         lists = length-set left.lists.items c.args.slot c.clear.new.self ∙ was.lists ∙ seats;
         apart = apart-set left.lists.items c.args.slot c.clear.new.self listed was.apart c.clear.ensures.apart;

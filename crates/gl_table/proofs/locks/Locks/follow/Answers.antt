@@ -34,7 +34,6 @@ recount-requires-clause-few c = λ q.
 
 pub turn_away-requires-clause-sound : goal.turn_away-requires-clause-sound
 turn_away-requires-clause-sound c = record {
-  headers = c.requires.sound.headers;
   few = c.requires.sound.few;
   lists = length-set c.args.self.now.lists.items c.args.slot c.recount.new.list ∙ c.requires.sound.lists;
   apart = apart-set c.args.self.now.lists.items c.args.slot c.recount.new.list c.requires.slot c.requires.sound.apart c.recount.ensures.apart;

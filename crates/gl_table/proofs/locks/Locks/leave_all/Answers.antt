@@ -18,7 +18,6 @@ drop_and_wake-requires-clause-sound c =
     let ls = c.loop-node.self.lists.items in
     let seated : c.args.slot < length ls = subst (λ (k : ℕ). c.args.slot < k) (sym (is.lists ∙ c.loop-node.invariant.leaving.most)) c.requires.seated in
     record {
-      headers = is.headers;
       few = is.few;
       lists = length-set ls c.args.slot c.pop.new.self ∙ is.lists;
       apart = apart-set ls c.args.slot c.pop.new.self seated is.apart

@@ -6,8 +6,8 @@ use Rattle.gl_table.proofs.queues.Edits.{out_of_without, without_none}
 use Rattle.gl_table.proofs.telling.Fronts.{front_stands, stands_only, stands_there, waits_only, well_without, woken_front}
 use Rattle.gl_table.proofs.locks.Locks.leave_queue.Goals as goal
 
-pub drop_wait-requires-clause-waits : goal.drop_wait-requires-clause-waits
-drop_wait-requires-clause-waits c = stands_there (state_in c.args.graph.now c.args.self.now) c.requires.orderly c.args.slot c.args.node c.requires.waits
+pub drop_wait-requires : goal.drop_wait-requires
+drop_wait-requires c = stands_there (state_in c.args.graph.now c.args.self.now) c.requires.orderly c.args.slot c.args.node c.requires.waits
 
 pub wake_granted-requires : goal.wake_granted-requires
 wake_granted-requires c =

@@ -13,7 +13,7 @@ pub returns : goal.returns
 returns c =
     let all : c.loop.counter ≡ c.args.most = omega arith in
     record {
-      headers = c.new-2.ensures.empty;
+      headers = c.in_ok-headers.ensures;
       seats = c.in_ok-seats.ensures;
       lists = c.loop.invariant.0 ∙ all;
       apart = bare-apart c.loop.lists.items c.loop.invariant.1;

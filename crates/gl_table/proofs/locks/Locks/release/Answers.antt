@@ -21,7 +21,7 @@ returns-clause-exact c =
     let struck = subst (λ (ps : List NodeId). Strikes c.drop_and_wake.new.self.lists.items c.strike.new.lists.items c.args.slot c.args.node ps)
     c.parents.ensures c.strike.ensures in
     record {
-      sound = record { headers = woken.sound.headers; few = woken.sound.few; lists = struck.len ∙ woken.sound.lists; apart = struck.apart };
+      sound = record { few = woken.sound.few; lists = struck.len ∙ woken.sound.lists; apart = struck.apart };
       agree = λ u. subst (λ (x : State). Agrees x c.strike.new.lists.items u) (sym woken.state)
           (agrees_released s c.requires.orderly c.law.ensures.lawful c.args.slot c.args.node c.requires.active live c.requires.holds c.args.self.now.lists.items
           c.drop_and_wake.new.self.lists.items c.requires.exact.agree c.requires.exact.count woken.lists c.strike.new.lists.items struck u);

@@ -15,7 +15,6 @@ mark_covered-requires c = record {
 
 pub release_marked-requires-clause-sound : goal.release_marked-requires-clause-sound
 release_marked-requires-clause-sound c = record {
-  headers = c.requires.exact.sound.headers;
   few = c.requires.exact.sound.few;
   lists = length-set c.args.self.now.lists.items c.args.slot c.replace-list.new.dest ∙ c.requires.exact.sound.lists;
   apart = apart-set c.args.self.now.lists.items c.args.slot c.replace-list.new.dest
@@ -56,7 +55,6 @@ returns-clause-exact c =
     let there = list_there left (graph_of c.args.graph.now) ends.sound ends.orderly c.args.slot ends.active in
     record {
       sound = record {
-        headers = ends.sound.headers;
         few = ends.sound.few;
         lists = length-set left.lists.items c.args.slot c.release_marked.new.list ∙ ends.sound.lists;
         apart = apart-set left.lists.items c.args.slot c.release_marked.new.list there ends.sound.apart ends.marked.apart;

@@ -64,7 +64,7 @@ returns-then-not-holds-clause-exact c = let h = (goal.at.returns-then-not-holds-
     let was = c.leave_queue.ensures.sound in
     let now = left h c.leave.new.self c.if-not-holds.true c.leave.ensures.apart c.leave.ensures.modes c.leave.ensures.listed c.leave.ensures.counts in
     record {
-      sound = record { headers = was.headers; few = was.few; lists = now.len ∙ was.lists; apart = now.apart };
+      sound = record { few = was.few; lists = now.len ∙ was.lists; apart = now.apart };
       agree = agrees h _ now;
       count = counts h _ now;
     }
@@ -74,7 +74,7 @@ returns-else-not-holds-clause-exact c = let h = (goal.at.returns-else-not-holds-
     let was = c.leave_queue.ensures.sound in
     let now = stays h c.if-not-holds.false in
     record {
-      sound = record { headers = was.headers; few = was.few; lists = now.len ∙ was.lists; apart = now.apart };
+      sound = record { few = was.few; lists = now.len ∙ was.lists; apart = now.apart };
       agree = agrees h _ now;
       count = counts h _ now;
     }

@@ -1,0 +1,180 @@
+//! The headers of all nodes: found by the node's key, put in and taken out.
+
+ghost use Rattle.std.specs.Prelude.{◌≡◌, ◌≢◌, ◌<◌, false, true};
+ghost use Rattle.gl_modes.specs.declared.mode.Mode.TheVariants.{NL};
+ghost use Rattle.gl_header.specs.Header.{is_among_waiters};
+ghost use Rattle.gl_header.specs.Headers.{HasItsKey, queue_of};
+
+use arrayvec::ArrayVec;
+use gl_header::{Asked, GrantList, Headers};
+use gl_modes::{Mode, NodeId, Refusal};
+
+/// Whether a slot waits for a node.
+fn waits(headers: &Headers, slot: u8, node: NodeId) -> bool
+    ensures { result ≡ is_among_waiters slot (queue_of headers.now.entries node) }
+{
+    headers
+        .queue(node)
+        .iter()
+        .any(|waiter| waiter.0 == slot)
+}
+
+/// Whether nobody holds or waits for another node of this one's key.
+#[tactic(auto, using(crate::proofs::Steps::caller_steps))]
+fn is_alone(headers: &Headers, node: NodeId) -> bool
+    ensures { result ≡ true → HasItsKey headers.now.entries node }
+{
+    headers.law();
+    headers.get(node).is_some() || headers.is_free(node.key)
+}
+
+/// Whether a slot may ask for a mode on a node.
+fn may_ask(headers: &Headers, slot: u8, node: NodeId, mode: Mode) -> bool
+    ensures below { result ≡ true → slot < 128 }
+    ensures not_waiting { result ≡ true → is_among_waiters slot (queue_of headers.now.entries node) ≡ false }
+    ensures lock { result ≡ true → mode ≢ NL }
+    ensures alone { result ≡ true → HasItsKey headers.now.entries node }
+{
+    slot < 128 && mode != Mode::NL && !waits(headers, slot, node) && is_alone(headers, node)
+}
+
+/// Asks where the call's conditions hold.
+fn ask(
+    headers: &mut Headers,
+    slot: u8,
+    node: NodeId,
+    mode: Mode,
+) -> Result<Option<Asked>, Refusal> {
+    if !may_ask(headers, slot, node, mode) {
+        return Ok(None);
+    }
+    Ok(Some(headers.ask(slot, node, mode)?))
+}
+
+/// Drops a grant where there is one and the slot does not wait.
+fn drop_grant(headers: &mut Headers, slot: u8, node: NodeId) -> Option<GrantList> {
+    if waits(headers, slot, node) || !headers.holders(node).contains(slot) {
+        return None;
+    }
+    let mut granted = ArrayVec::new();
+    headers.drop_grant(slot, node, &mut granted);
+    Some(granted)
+}
+
+/// Drops a wait where there is one.
+fn drop_wait(headers: &mut Headers, slot: u8, node: NodeId) -> Option<GrantList> {
+    if !waits(headers, slot, node) {
+        return None;
+    }
+    let mut granted = ArrayVec::new();
+    headers.drop_wait(slot, node, &mut granted);
+    Some(granted)
+}
+
+/// Gives a node to a slot by a header that is prepared for it, where its key is free.
+fn place(headers: &mut Headers, slot: u8, node: NodeId) -> Result<bool, Refusal> {
+    if slot >= 128 || !headers.is_free(node.key) {
+        return Ok(false);
+    }
+    let prepared = headers.prepare(node.key, slot, Mode::X)?;
+    headers.put(node, prepared);
+    Ok(true)
+}
+
+/// A node with this key.
+fn node_of(key: usize, birth: u64) -> NodeId {
+    NodeId { key, birth }
+}
+
+#[test]
+fn a_header_is_found_by_its_key(rt: HostRuntime) -> Result<(), Refusal> {
+    let Ok(mut headers) = Headers::new(rt.alloc()) else {
+        return Err(Refusal::NoMemory);
+    };
+    let (near, far, other) = (node_of(0, 1), node_of(70, 2), node_of(70, 3));
+    assert!(rt; headers.is_free(70));
+    assert_eq!(rt; headers.group(far), Mode::NL);
+    assert!(rt; headers.would_grant(5, far, Mode::X));
+    assert_eq!(rt; ask(&mut headers, 5, far, Mode::X)?, Some(Asked::Granted(Mode::X)));
+    assert_eq!(rt; ask(&mut headers, 6, near, Mode::IS)?, Some(Asked::Granted(Mode::IS)));
+    assert_eq!(rt; headers.group(far), Mode::X);
+    assert_eq!(rt; headers.group(near), Mode::IS);
+    assert!(rt; headers.holders(far).contains(5) && !headers.holders(near).contains(5));
+    assert!(rt; !headers.would_grant(6, far, Mode::IS));
+    assert!(rt; headers.get(other).is_none() && !headers.is_free(70));
+    assert_eq!(rt; headers.group(other), Mode::NL);
+    assert_eq!(rt; ask(&mut headers, 6, other, Mode::S)?, None);
+    Ok(())
+}
+
+#[test]
+fn a_key_is_used_again(rt: HostRuntime) -> Result<(), Refusal> {
+    let Ok(mut headers) = Headers::new(rt.alloc()) else {
+        return Err(Refusal::NoMemory);
+    };
+    let (old, new) = (node_of(3, 1), node_of(3, 2));
+    assert_eq!(rt; ask(&mut headers, 0, old, Mode::S)?, Some(Asked::Granted(Mode::S)));
+    assert!(rt; drop_grant(&mut headers, 0, old).is_some());
+    assert!(rt; headers.is_free(3) && headers.get(old).is_none());
+    assert_eq!(rt; ask(&mut headers, 1, new, Mode::X)?, Some(Asked::Granted(Mode::X)));
+    assert!(rt; headers.holders(new).contains(1) && !headers.holders(new).contains(0));
+    assert!(rt; headers.get(old).is_none());
+    Ok(())
+}
+
+#[test]
+fn queues_grant_and_are_left(rt: HostRuntime) -> Result<(), Refusal> {
+    let Ok(mut headers) = Headers::new(rt.alloc()) else {
+        return Err(Refusal::NoMemory);
+    };
+    let node = node_of(1, 1);
+    assert_eq!(rt; ask(&mut headers, 0, node, Mode::X)?, Some(Asked::Granted(Mode::X)));
+    for slot in [1, 2] {
+        assert_eq!(rt; ask(&mut headers, slot, node, Mode::S)?, Some(Asked::Waiting));
+    }
+    assert_eq!(rt; headers.queue(node), [(1, Mode::S), (2, Mode::S)].as_slice());
+    assert!(rt; headers.waits_for(2, node, Mode::S).contains(0));
+    assert!(rt; headers.waits_for(2, node, Mode::S).contains(1));
+    let granted = drop_wait(&mut headers, 2, node).expect(&rt, "slot 2 waits");
+    assert!(rt; granted.is_empty());
+    let granted = drop_grant(&mut headers, 0, node).expect(&rt, "slot 0 holds X");
+    assert_eq!(rt; granted.as_slice(), [(1, Mode::S)].as_slice());
+    assert_eq!(rt; headers.group(node), Mode::S);
+    assert!(rt; drop_grant(&mut headers, 1, node).is_some());
+    assert!(rt; headers.is_free(1));
+    Ok(())
+}
+
+#[test]
+fn more_headers_go_than_wait_aside(rt: HostRuntime) -> Result<(), Refusal> {
+    let Ok(mut headers) = Headers::new(rt.alloc()) else {
+        return Err(Refusal::NoMemory);
+    };
+    for birth in [1, 2] {
+        for key in 0..20 {
+            let node = node_of(key, birth);
+            assert_eq!(rt; ask(&mut headers, 9, node, Mode::IX)?, Some(Asked::Granted(Mode::IX)));
+        }
+        for key in 0..20 {
+            assert!(rt; drop_grant(&mut headers, 9, node_of(key, birth)).is_some());
+            assert!(rt; headers.is_free(key));
+        }
+    }
+    Ok(())
+}
+
+#[test]
+fn a_header_is_prepared_and_taken(rt: HostRuntime) -> Result<(), Refusal> {
+    let Ok(mut headers) = Headers::new(rt.alloc()) else {
+        return Err(Refusal::NoMemory);
+    };
+    let node = node_of(40, 7);
+    assert!(rt; place(&mut headers, 2, node)?);
+    assert!(rt; !place(&mut headers, 2, node)?);
+    assert_eq!(rt; headers.group(node), Mode::X);
+    assert_eq!(rt; ask(&mut headers, 3, node, Mode::S)?, Some(Asked::Waiting));
+    let header = headers.take(node).expect(&rt, "slot 2 holds the node");
+    assert_eq!(rt; header.queue(), [(3, Mode::S)].as_slice());
+    assert!(rt; headers.is_free(40) && headers.take(node).is_none());
+    Ok(())
+}
