@@ -164,10 +164,11 @@ typedef struct bs_reply {
   bs_status status;
   bs_mode mode;      /* the mode that was granted, or that was asked after */
   bs_node node;      /* the node that was made or asked after, or that the refusal names */
-  bs_txn txn;        /* the transaction that began */
+  bs_txn txn;        /* the transaction that began or was asked after */
   uint32_t released; /* of an escalation: how many children were released */
   uint32_t kept;     /* of an escalation: how many held children were kept */
   uint64_t count;    /* the number that was asked after */
+  bs_mode wanted;    /* of bs_lock_at: the mode in which the node is waited for */
 } bs_reply;
 
 /* One notice. */
@@ -303,7 +304,7 @@ bs_reply bs_call_youngest(const bs_board *board, bs_slots slots);
 
 /* The reply of a call with a null pointer. */
 static inline bs_reply bs_null(void) {
-  bs_reply reply = { BS_NULL_POINTER, BS_NL, { 0, 0 }, { 0, 0 }, 0, 0, 0 };
+  bs_reply reply = { BS_NULL_POINTER, BS_NL, { 0, 0 }, { 0, 0 }, 0, 0, 0, BS_NL };
   return reply;
 }
 
@@ -735,9 +736,9 @@ static inline bs_reply bs_lock_count(bs_manager *manager, bs_txn txn) {
 }
 
 /* A node that a transaction holds or waits for, by its place from 0 on: `node`, the mode in which it is held in
- * `mode`, BS_NL where it is only waited for, and how many of its children are held in `count`. Each such node
- * has one place; a command may change the places. Refused with BS_NO_PLACE where there are fewer, or the
- * transaction does not live. */
+ * `mode`, BS_NL where it is only waited for, the wanted mode in `wanted`, BS_NL where it is not waited for, and
+ * how many of its children are held in `count`. Each such node has one place; a command may change the places.
+ * Refused with BS_NO_PLACE where there are fewer, or the transaction does not live. */
 static inline bs_reply bs_lock_at(bs_manager *manager, bs_txn txn, size_t place) {
   return manager == NULL ? bs_null() : bs_call_lock_at(manager, txn, place);
 }
@@ -758,9 +759,8 @@ static inline bs_reply bs_queue_len(bs_manager *manager, bs_node node) {
   return manager == NULL ? bs_null() : bs_call_queue_len(manager, node);
 }
 
-/* Who waits for a node, by its place in the queue from 0 on, the first to be granted first: its slot in
- * `txn.slot` (`txn.age` is zero), and the wanted mode in `mode`. Refused with BS_NO_SUCH_NODE, and with
- * BS_NO_PLACE where there are fewer. */
+/* Who waits for a node, by its place in the queue from 0 on, the first to be granted first, in `txn`, and the
+ * wanted mode in `mode`. Refused with BS_NO_SUCH_NODE, and with BS_NO_PLACE where there are fewer. */
 static inline bs_reply bs_queue_at(bs_manager *manager, bs_node node, size_t place) {
   return manager == NULL ? bs_null() : bs_call_queue_at(manager, node, place);
 }

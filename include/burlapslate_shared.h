@@ -927,12 +927,11 @@ static inline void bs_dump_txn(bs_manager *m, bs_txn txn, FILE *out) {
 
 /* The locks of a transaction: what it holds, and in the column behind it what it waits for. */
 static inline void bs_dump_locks(bs_manager *m, bs_txn txn, FILE *out) {
-  bs_reply doing = bs_doing(m, txn), row;
+  bs_reply row;
   size_t place;
   for (place = 0; (row = bs_lock_at(m, txn, place)).status == BS_DONE; place++) {
-    bool waits = doing.count == BS_WAITS && doing.node.key == row.node.key && doing.node.birth == row.node.birth;
     fprintf(out, "%4u %12llu %-4s %-5s %8llu ", (unsigned)txn.slot, (unsigned long long)txn.age, bs_mode_text(row.mode),
-            waits ? bs_mode_text(doing.mode) : "-", (unsigned long long)row.count);
+            row.wanted == BS_NL ? "-" : bs_mode_text(row.wanted), (unsigned long long)row.count);
     bs_dump_node(m, row.node, out);
     fprintf(out, "\n");
   }

@@ -441,7 +441,7 @@ static size_t times_in_queue(bs_manager *m, bs_txn txn, bs_node node) {
   bs_reply waiter;
   size_t place, times = 0;
   for (place = 0; (waiter = bs_queue_at(m, node, place)).status == BS_DONE; place++) {
-    if (waiter.txn.slot == txn.slot) times++;
+    if (same_txn(waiter.txn, txn)) times++;
   }
   WANT(place == bs_queue_len(m, node).count);
   return times;
@@ -455,6 +455,7 @@ static void audit_one(bs_manager *m, bs_txn txn, const bs_board *board) {
   for (place = 0; (row = bs_lock_at(m, txn, place)).status == BS_DONE; place++) {
     bool waits = doing.count == BS_WAITS && same_node(doing.node, row.node);
     WANT(bs_mode_at(m, txn.slot, row.node).mode == row.mode && (row.mode != BS_NL || waits));
+    WANT(row.wanted == (waits ? doing.mode : BS_NL));
     WANT(bs_has(bs_holders(m, row.node).slots, txn.slot) == (row.mode != BS_NL));
     WANT(row.mode == BS_NL || bs_children(m, txn, row.node).count == row.count);
     WANT(times_in_queue(m, txn, row.node) == (waits ? 1 : 0));

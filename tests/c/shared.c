@@ -857,8 +857,8 @@ static void listings(void) {
   WANT(place == 5 && rows == 1);
   WANT(bs_has(bs_holders(m, low).slots, a.slot) && bs_holders(m, low).slots.low == (uint64_t)1 << a.slot);
   WANT(bs_mode_at(m, a.slot, low).mode == BS_X && bs_mode_at(m, b.slot, low).mode == BS_NL);
-  WANT(bs_queue_len(m, low).count == 2 && bs_queue_at(m, low, 0).txn.slot == b.slot);
-  WANT(bs_queue_at(m, low, 1).txn.slot == c.slot && bs_queue_at(m, low, 2).status == BS_NO_PLACE);
+  WANT(bs_queue_len(m, low).count == 2 && same_txn(bs_queue_at(m, low, 0).txn, b));
+  WANT(same_txn(bs_queue_at(m, low, 1).txn, c) && bs_queue_at(m, low, 2).status == BS_NO_PLACE);
   WANT(bs_has(bs_waits_for(m, c).slots, a.slot) && bs_has(bs_waits_for(m, c).slots, b.slot));
   bs_table_let_go(&table);
   DONE(bs_table_counters(&table, &counts));
@@ -994,7 +994,7 @@ static void places_without_a_table(void) {
  */
 
 static void refused_tables(void) {
-  bs_reply made = { BS_NO_MEMORY, BS_NL, { 0, 0 }, { 0, 0 }, 0, 0, 0 };
+  bs_reply made = { BS_NO_MEMORY, BS_NL, { 0, 0 }, { 0, 0 }, 0, 0, 0, BS_NL };
   long n;
   for (n = 1; made.status == BS_NO_MEMORY; n++) {
     bs_table t = BS_NO_TABLE_HERE;

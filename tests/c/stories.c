@@ -538,7 +538,7 @@ static void refused_growths(void) {
 
 static void refused_managers(void) {
   long n;
-  bs_reply made = { BS_NO_MEMORY, BS_NL, { 0, 0 }, { 0, 0 }, 0, 0, 0 };
+  bs_reply made = { BS_NO_MEMORY, BS_NL, { 0, 0 }, { 0, 0 }, 0, 0, 0, BS_NL };
   for (n = 1; made.status == BS_NO_MEMORY; n++) {
     bs_manager m = BS_NO_MANAGER_HERE;
     refused_growth = n;

@@ -1,64 +1,56 @@
 -- Which commands empty a box of their own: for a step that is delivered.
-use Rattle.std.specs.Prelude.{◌≡◌, Bool, true, false, not, List}
-use Rattle.std.proofs.Common.{refl}
-use Rattle.gl_modes.specs.declared.mode.Mode.{Mode}
-use Rattle.gl_modes.specs.declared.node.NodeId.{NodeId}
-use Rattle.gl_table.specs.declared.txn.TxnId.{TxnId}
+use Rattle.std.specs.Prelude.{◌≡◌, Bool, true, false, not, ◌&&◌, if◌then◌else◌, List}
+use Rattle.std.proofs.Common.{refl, sym, ◌∙◌}
+use Rattle.gl_modes.proofs.Words.{and_both}
+use Rattle.gl_table.specs.model.Tellings.{Told}
 use Rattle.gl_catalog.specs.declared.command.Answer.{Answer}
 use Rattle.gl_catalog.specs.declared.command.Command.{Command}
 use Rattle.gl_catalog.specs.declared.command.Command.TheVariants as command
-use Rattle.gl_boxes.specs.Boxes.{Slot, cleared}
-use Rattle.gl_boxes.specs.Served.{accepts, is_refused}
+use Rattle.gl_boxes.specs.Boxes.{Delivers, Slot, cleared, emptied}
+use Rattle.gl_boxes.specs.Served.{accepts, is_query, is_refused}
 
--- no other command than a lock empties a box of its own
-pub cleared_other : (c : Command) (a : Answer) (boxes : List Slot) → ((t : TxnId) (n : NodeId) (m : Mode) → c ≡ command.Lock t n m → ⊥) → cleared c a boxes ≡ boxes
-cleared_other (command.Lock t n m) a boxes none = absurd (none t n m refl)
-cleared_other (command.Inner ps) a boxes none = refl
-cleared_other (command.File ps) a boxes none = refl
-cleared_other (command.Index ps f bs) a boxes none = refl
-cleared_other (command.Insert t f keys) a boxes none = refl
-cleared_other (command.Delete t r) a boxes none = refl
-cleared_other (command.Rekey t r i key) a boxes none = refl
-cleared_other (command.Move t n ps) a boxes none = refl
-cleared_other command.Begin a boxes none = refl
-cleared_other (command.Try t n m) a boxes none = refl
-cleared_other (command.Unlock t n) a boxes none = refl
-cleared_other (command.Escalate t n) a boxes none = refl
-cleared_other (command.Cancel t) a boxes none = refl
-cleared_other (command.Commit t) a boxes none = refl
-cleared_other (command.Abort t) a boxes none = refl
-cleared_other (command.Settle t) a boxes none = refl
-cleared_other (command.Group n) a boxes none = refl
-cleared_other (command.Held t n) a boxes none = refl
-cleared_other (command.Effective t n) a boxes none = refl
+-- a command that only asks empties none
+emptied_query : (c : Command) (boxes : List Slot) → is_query c ≡ true → emptied c boxes ≡ boxes
+emptied_query (command.Lock t n m) boxes asks = absurd (cc asks)
+emptied_query (command.Inner ps) boxes asks = refl
+emptied_query (command.File ps) boxes asks = refl
+emptied_query (command.Index ps f bs) boxes asks = refl
+emptied_query (command.Insert t f keys) boxes asks = refl
+emptied_query (command.Delete t r) boxes asks = refl
+emptied_query (command.Rekey t r i key) boxes asks = refl
+emptied_query (command.Move t n ps) boxes asks = refl
+emptied_query command.Begin boxes asks = refl
+emptied_query (command.Try t n m) boxes asks = refl
+emptied_query (command.Unlock t n) boxes asks = refl
+emptied_query (command.Escalate t n) boxes asks = refl
+emptied_query (command.Cancel t) boxes asks = refl
+emptied_query (command.Commit t) boxes asks = refl
+emptied_query (command.Abort t) boxes asks = refl
+emptied_query (command.Settle t) boxes asks = refl
+emptied_query (command.Group n) boxes asks = refl
+emptied_query (command.Held t n) boxes asks = refl
+emptied_query (command.Effective t n) boxes asks = refl
 
--- a lock that is refused, and one that is not
-pub refused_if : (b : Bool) → not b ≡ false → b ≡ true
-refused_if true e = refl
-refused_if false e = absurd (cc e)
+asks_if : (b : Bool) → not b && not false ≡ false → b ≡ true
+asks_if true e = refl
+asks_if false e = absurd (cc e)
 
-pub served_if : (b : Bool) → not b ≡ true → b ≡ false
+served_if : (b : Bool) → not b ≡ true → b ≡ false
 served_if false e = refl
 served_if true e = absurd (cc e)
 
 -- a command that is not accepted empties none
 pub cleared_not : (c : Command) (a : Answer) (boxes : List Slot) → accepts c a ≡ false → cleared c a boxes ≡ boxes
-cleared_not (command.Lock t n m) a boxes out = rw (refused_if (is_refused a) out) refl
-cleared_not (command.Inner ps) a boxes out = refl
-cleared_not (command.File ps) a boxes out = refl
-cleared_not (command.Index ps f bs) a boxes out = refl
-cleared_not (command.Insert t f keys) a boxes out = refl
-cleared_not (command.Delete t r) a boxes out = refl
-cleared_not (command.Rekey t r i key) a boxes out = refl
-cleared_not (command.Move t n ps) a boxes out = refl
-cleared_not command.Begin a boxes out = refl
-cleared_not (command.Try t n m) a boxes out = refl
-cleared_not (command.Unlock t n) a boxes out = refl
-cleared_not (command.Escalate t n) a boxes out = refl
-cleared_not (command.Cancel t) a boxes out = refl
-cleared_not (command.Commit t) a boxes out = refl
-cleared_not (command.Abort t) a boxes out = refl
-cleared_not (command.Settle t) a boxes out = refl
-cleared_not (command.Group n) a boxes out = refl
-cleared_not (command.Held t n) a boxes out = refl
-cleared_not (command.Effective t n) a boxes out = refl
+cleared_not c a boxes out = by (is_refused a) out
+  where
+    by : (b : Bool) → not (is_query c) && not b ≡ false → (if b then boxes else emptied c boxes) ≡ boxes
+    by true e = refl
+    by false e = emptied_query c boxes (asks_if (is_query c) e)
+
+-- an accepted command that was delivered
+pub cleared_yes : (c : Command) (a : Answer) (told : Told) (before after : List Slot) → accepts c a ≡ true
+    → ((mid : List Slot) × Delivers before told mid × (after ≡ emptied c mid))
+    → (mid : List Slot) × Delivers before told mid × (after ≡ cleared c a mid)
+cleared_yes c a told before after so delivered =
+    let served = served_if (is_refused a) (and_both (not (is_query c)) (not (is_refused a)) so).1 in
+    (delivered.0, delivered.1, rw served delivered.2)

@@ -12,7 +12,8 @@ use Rattle.gl_catalog.specs.declared.command.Command.TheVariants as command
 use Rattle.gl_catalog.specs.Step.{Accepts, Answers, Goes, Step, Unchanged, query_answer}
 use Rattle.gl_catalog.specs.Tests.{may_want_memory, refusal_of}
 
-module _ (Holds : Told → Type 0) (s : State) (none : Holds []) (all : (now : State) → Holds (told s now)) (but : (t : ℕ) (now : State) → Holds (told_but t s now)) where
+module _ (Holds : Told → Type 0) (s : State) (none : Holds []) (all : (now : State) → Holds (told s now))
+    (but : (t : ℕ) (now : State) → Holds (told_but t s now)) where
   accepted : (c : Command) (a : Answer) (list : Told) (s' : State) → Accepts s c a list s' → Holds list
   accepted (command.Inner ps) a list s' acc = subst Holds (sym acc.3) none
   accepted (command.File ps) a list s' acc = subst Holds (sym acc.3) none
@@ -44,7 +45,10 @@ module _ (Holds : Told → Type 0) (s : State) (none : Holds []) (all : (now : S
     goes None ends = answered (query_answer s c) ends
 
     pub told_holds : Step s c a list s' → Holds list
-    told_holds step = ⊎_elim (λ h. goes (refusal_of s c) h) (λ (want : (may_want_memory s c ≡ true) × Unchanged s a list s' (answer.Refused no.NoMemory)). subst Holds (sym want.1.nobody_told) none) step
+    told_holds step =
+        ⊎_elim (λ h. goes (refusal_of s c) h)
+        (λ (want : (may_want_memory s c ≡ true) × Unchanged s a list s' (answer.Refused no.NoMemory)). subst Holds (sym want.1.nobody_told) none) step
 
-pub each_told : (Holds : Told → Type 0) (s : State) (c : Command) (a : Answer) (list : Told) (s' : State) → Holds [] → ((now : State) → Holds (told s now)) → ((t : ℕ) (now : State) → Holds (told_but t s now)) → Step s c a list s' → Holds list
+pub each_told : (Holds : Told → Type 0) (s : State) (c : Command) (a : Answer) (list : Told) (s' : State) → Holds [] → ((now : State) → Holds (told s now))
+    → ((t : ℕ) (now : State) → Holds (told_but t s now)) → Step s c a list s' → Holds list
 each_told Holds s c a list s' none all but step = told_holds Holds s none all but c a list s' step

@@ -47,7 +47,8 @@ not_due WhileWaiting waited e = (refl, e)
 -- a board without steps has no row that is not empty
 pub no_row : (rows : List ℕ) → ((s u : ℕ) → row_edge rows s u ≡ false) → list_any (λ row. not (row == 0)) rows ≡ false
 no_row [] none = refl
-no_row (row ∷ rows) none = ap (λ (r : ℕ). not (r == 0) || list_any (λ x. not (x == 0)) rows) (no_slot-zero row (λ u. none 0 u)) ∙ no_row rows (λ s u. none (suc s) u)
+no_row (row ∷ rows) none = ap (λ (r : ℕ). not (r == 0) || list_any (λ x. not (x == 0)) rows) (no_slot-zero row (λ u. none 0 u)) ∙
+    no_row rows (λ s u. none (suc s) u)
 
 -- neither of two
 pub neither : (a b : Bool) → (a || b) ≡ false → (a ≡ false) × (b ≡ false)
@@ -55,7 +56,8 @@ neither false b e = (refl, e)
 neither true b e = absurd (true≢false e)
 
 -- a step keeps that nobody waits, where a lock that is left waiting is noted
-pub nobody_on : (s s' : State) (waited waits : Bool) (c : Command) (a : Answer) (told : Told) → waits ≡ leaves_waiting a → (waited ≡ false → NobodyWaits s) → Step s c a told s' → (waited || waits) ≡ false → NobodyWaits s'
+pub nobody_on : (s s' : State) (waited waits : Bool) (c : Command) (a : Answer) (told : Told) → waits ≡ leaves_waiting a → (waited ≡ false → NobodyWaits s)
+    → Step s c a told s' → (waited || waits) ≡ false → NobodyWaits s'
 nobody_on s s' waited waits c a told is_so quiet step e =
     let both = neither waited waits e in
     nobody_waits_on s s' c a told (quiet both.0) (λ is. absurd (true≢false (sym (is_so ∙ ap leaves_waiting is) ∙ both.1))) step

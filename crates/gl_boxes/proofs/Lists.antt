@@ -23,7 +23,8 @@ pub last_ends : (list : List Board) (b : Board) → Ends list b → last_epoch 0
 last_ends list b h = ap (last_epoch 0) h.1 ∙ last_of 0 h.0 b
 
 -- a lawful list and one more board
-pub lawful_more : (detect : Detect) (first : Board) (list : List Board) (last y : Board) → IsLawful detect first list → Ends list last → last.epoch ≤ y.epoch → Fine detect y → IsLawful detect first (list ++ y ∷ [])
+pub lawful_more : (detect : Detect) (first : Board) (list : List Board) (last y : Board) → IsLawful detect first list → Ends list last → last.epoch ≤ y.epoch
+    → Fine detect y → IsLawful detect first (list ++ y ∷ [])
 lawful_more detect first list last y law ends le fine = record {
   begins = prefix_trans (first ∷ []) list (list ++ y ∷ []) law.begins (y ∷ [], refl);
   rising = rising_more 0 list y law.rising (subst (λ (e : ℕ). e ≤ y.epoch) (sym (last_ends list last ends)) le);
@@ -66,14 +67,16 @@ follows xs ys b p len ends =
     sym p.1 ∙ one_longer xs p.0 ends.0 b one (p.1 ∙ ends.1)
 
 -- the longer of two lists, one of which is one board longer
-pub follows_either : (xs ys both : List Board) (b : Board) → IsPrefix xs both → IsPrefix ys both → (both ≡ xs) ⊎ (both ≡ ys) → length ys ≡ length xs + 1 → Ends ys b → both ≡ xs ++ b ∷ []
+pub follows_either : (xs ys both : List Board) (b : Board) → IsPrefix xs both → IsPrefix ys both → (both ≡ xs) ⊎ (both ≡ ys) → length ys ≡ length xs + 1
+    → Ends ys b → both ≡ xs ++ b ∷ []
 follows_either xs ys both b p q either len ends = ⊎_elim
     (λ (t : both ≡ xs). absurd (let le = prefix_length ys both q in omega (arith, ap length t, le, len)))
     (λ (t : both ≡ ys). t ∙ follows xs ys b (subst (IsPrefix xs) t p) len ends)
     either
 
 -- after a board of epoch n was put behind the list, or was not
-pub told_epoch : (told : Bool) (list after : List Board) (board : Board) (n : ℕ) → MatchBool told (after ≡ list ++ board ∷ []) (after ≡ list) → last_epoch 0 list ≤ n → board.epoch ≡ n → last_epoch 0 after ≤ n
+pub told_epoch : (told : Bool) (list after : List Board) (board : Board) (n : ℕ) → MatchBool told (after ≡ list ++ board ∷ []) (after ≡ list)
+    → last_epoch 0 list ≤ n → board.epoch ≡ n → last_epoch 0 after ≤ n
 told_epoch true list after board n is le epoch = subst (λ (e : ℕ). e ≤ n) (sym (last_ends after board (list, is) ∙ epoch)) (le_refl n)
 told_epoch false list after board n is le epoch = subst (λ (l : List Board). last_epoch 0 l ≤ n) (sym is) le
 
@@ -81,7 +84,9 @@ told_epoch false list after board n is le epoch = subst (λ (l : List Board). la
 pub same_length : (xs ys both : List Board) → IsPrefix xs both → IsPrefix ys both → length ys ≡ length xs → ys ≡ xs
 same_length xs ys both p q len = prefix_whole ys xs (prefix_shorter ys xs both q p (omega (arith, len))) (omega (arith, len))
 
-pub told_lawful : (told : Bool) (detect : Detect) (first : Board) (list after : List Board) (board : Board) (n : ℕ) → MatchBool told (after ≡ list ++ board ∷ []) (after ≡ list) → last_epoch 0 list ≤ n → board.epoch ≡ n → Fine detect board → IsLawful detect first list → IsLawful detect first after
+pub told_lawful : (told : Bool) (detect : Detect) (first : Board) (list after : List Board) (board : Board) (n : ℕ)
+    → MatchBool told (after ≡ list ++ board ∷ []) (after ≡ list) → last_epoch 0 list ≤ n → board.epoch ≡ n → Fine detect board → IsLawful detect first list
+    → IsLawful detect first after
 told_lawful true detect first list after board n is le epoch fine law = subst (IsLawful detect first) (sym is) (record {
   begins = prefix_trans (first ∷ []) list (list ++ board ∷ []) law.begins (board ∷ [], refl);
   rising = rising_more 0 list board law.rising (subst (λ (e : ℕ). last_epoch 0 list ≤ e) (sym epoch) le);
@@ -93,7 +98,8 @@ told_lawful false detect first list after board n is le epoch fine law = subst (
 pub lawful_here : (detect d : Detect) (first b : Board) (list : List Board) → list ≡ b ∷ [] → b ≡ first → d ≡ detect → Fine d b → IsLawful detect first list
 lawful_here detect d first b list is same at fine =
     subst (λ (l : List Board). IsLawful detect first l) (sym is)
-    (subst (λ (x : Board). IsLawful detect first (x ∷ [])) (sym same) (lawful_one detect first (subst (λ (x : Board). Fine detect x) same (subst (λ (x : Detect). Fine x b) at fine))))
+    (subst (λ (x : Board). IsLawful detect first (x ∷ [])) (sym same)
+    (lawful_one detect first (subst (λ (x : Board). Fine detect x) same (subst (λ (x : Detect). Fine x b) at fine))))
 
 fine_end : (detect : Detect) (front : List Board) (b : Board) → AllFine detect (front ++ b ∷ []) → Fine detect b
 fine_end detect [] b all = all.0

@@ -57,23 +57,29 @@ pub slot_below : (j i : ℕ) (told : List (TxnId × Notice)) (d : TxnId × Notic
 slot_below j i told d r less = at_take 0 j i told d r less
 
 -- boxes below the first told slot are as before
-kept_below : (k j : ℕ) (told : List (TxnId × Notice)) (boxes : List Slot) (slot : ℕ) → RisingTo k told j → slot < k → box_at (fold put_in boxes told) slot ≡ box_at boxes slot
+kept_below : (k j : ℕ) (told : List (TxnId × Notice)) (boxes : List Slot) (slot : ℕ) → RisingTo k told j → slot < k
+    → box_at (fold put_in boxes told) slot ≡ box_at boxes slot
 kept_below k j [] boxes slot r less = refl
 kept_below k j (x ∷ xs) boxes slot r less =
     let rest = kept_below (x.0.slot + 1) j xs (put_in boxes x) slot r.1 (omega (arith, r.0)) in
     rest ∙ set_apart boxes x.0.slot slot (Some x) (λ is. absurd (omega (arith, r.0, is, less)))
 
-others_kept : (told : List (TxnId × Notice)) (boxes : List Slot) (slot : ℕ) → All (λ x. x.0.slot ≢ slot) told → box_at (fold put_in boxes told) slot ≡ box_at boxes slot
+others_kept : (told : List (TxnId × Notice)) (boxes : List Slot) (slot : ℕ) → All (λ x. x.0.slot ≢ slot) told
+    → box_at (fold put_in boxes told) slot ≡ box_at boxes slot
 others_kept [] boxes slot apart = refl
-others_kept (x ∷ xs) boxes slot apart = others_kept xs (put_in boxes x) slot (λ k d less. apart (suc k) d (omega (arith, less))) ∙ set_apart boxes x.0.slot slot (Some x) (λ is. apart 0 x (omega arith) (sym is))
+others_kept (x ∷ xs) boxes slot apart = others_kept xs (put_in boxes x) slot (λ k d less. apart (suc k) d (omega (arith, less))) ∙
+    set_apart boxes x.0.slot slot (Some x) (λ is. apart 0 x (omega arith) (sym is))
 
-each_stands : (k j : ℕ) (told : List (TxnId × Notice)) (boxes : List Slot) → RisingTo k told j → j ≤ length boxes → All (λ x. box_at (fold put_in boxes told) x.0.slot ≡ Some x) told
+each_stands : (k j : ℕ) (told : List (TxnId × Notice)) (boxes : List Slot) → RisingTo k told j → j ≤ length boxes
+    → All (λ x. box_at (fold put_in boxes told) x.0.slot ≡ Some x) told
 each_stands k j [] boxes r fits = all_nil (λ x. box_at boxes x.0.slot ≡ Some x)
 each_stands k j (x ∷ xs) boxes r fits =
     let up = rising_front (x.0.slot + 1) j xs r.1 in
     let len : length (put_in boxes x) ≡ length boxes = set_length boxes x.0.slot (Some x) in
-    let here : box_at (fold put_in (put_in boxes x) xs) x.0.slot ≡ Some x = kept_below (x.0.slot + 1) j xs (put_in boxes x) x.0.slot r.1 (omega arith) ∙ set_there boxes x.0.slot (Some x) (omega (arith, up, fits)) in
-    all_cons (λ y. box_at (fold put_in (put_in boxes x) xs) y.0.slot ≡ Some y) x xs here (each_stands (x.0.slot + 1) j xs (put_in boxes x) r.1 (omega (arith, len, fits)))
+    let here : box_at (fold put_in (put_in boxes x) xs) x.0.slot ≡ Some x = kept_below (x.0.slot + 1) j xs (put_in boxes x) x.0.slot r.1 (omega arith) ∙
+    set_there boxes x.0.slot (Some x) (omega (arith, up, fits)) in
+    all_cons (λ y. box_at (fold put_in (put_in boxes x) xs) y.0.slot ≡ Some y) x xs here
+    (each_stands (x.0.slot + 1) j xs (put_in boxes x) r.1 (omega (arith, len, fits)))
 
 pub delivers : (j : ℕ) (told : List (TxnId × Notice)) (boxes : List Slot) → RisingTo 0 told j → j ≤ length boxes → Delivers boxes told (fold put_in boxes told)
 delivers j told boxes r fits = record { stands = each_stands 0 j told boxes r fits; others = λ slot apart. others_kept told boxes slot apart }

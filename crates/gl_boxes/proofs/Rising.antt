@@ -23,7 +23,8 @@ abbrev Names : (ℕ → Option (TxnId × Notice)) → Type 0
 Names f = (u : ℕ) (x : TxnId × Notice) → f u ≡ Some x → x.0.slot ≡ u
 
 -- one more, or none, before those of the slots further on
-before : (lo j : ℕ) (o : Option (TxnId × Notice)) (rest : List (TxnId × Notice)) → lo < j → RisingTo (lo + 1) rest j → ((x : TxnId × Notice) → o ≡ Some x → x.0.slot ≡ lo) → RisingTo lo (cons_option o rest) j
+before : (lo j : ℕ) (o : Option (TxnId × Notice)) (rest : List (TxnId × Notice)) → lo < j → RisingTo (lo + 1) rest j
+    → ((x : TxnId × Notice) → o ≡ Some x → x.0.slot ≡ lo) → RisingTo lo (cons_option o rest) j
 before lo j None rest inside up is = sooner lo (lo + 1) j rest up (omega arith)
 before lo j (Some x) rest inside up is = let e = is x refl in (omega (arith, e), subst (λ (k : ℕ). RisingTo (k + 1) rest j) (sym e) up)
 
@@ -36,7 +37,8 @@ each_slot f names (suc n) lo =
     (λ x e. names lo x e)
 
 -- and some of them
-kept_one : (b : Bool) (k j : ℕ) (x : TxnId × Notice) (rest : List (TxnId × Notice)) → k ≤ x.0.slot → RisingTo (x.0.slot + 1) rest j → RisingTo k (if b then x ∷ rest else rest) j
+kept_one : (b : Bool) (k j : ℕ) (x : TxnId × Notice) (rest : List (TxnId × Notice)) → k ≤ x.0.slot → RisingTo (x.0.slot + 1) rest j
+    → RisingTo k (if b then x ∷ rest else rest) j
 kept_one true k j x rest low up = (low, up)
 kept_one false k j x rest low up = sooner k (x.0.slot + 1) j rest up (omega (arith, low))
 
@@ -51,10 +53,12 @@ named u k (Some y) x e = let is : (record { slot = u; age = k }, y) ≡ x = cc e
 told_rises : (s s' : State) → s.most ≤ 128 → RisingTo 0 (told s s') 128
 told_rises s s' few =
     rising_on 0 (0 + s.most) 128 (told s s')
-    (each_slot (λ t. addressed (record { slot = t; age = age_of s t }) (told_from s' t (status_of s t))) (λ u x e. named u (age_of s u) (told_from s' u (status_of s u)) x e) s.most 0)
+    (each_slot (λ t. addressed (record { slot = t; age = age_of s t }) (told_from s' t (status_of s t)))
+    (λ u x e. named u (age_of s u) (told_from s' u (status_of s u)) x e) s.most 0)
     (omega (arith, few))
 
 -- whatever the command is, who is told stands by rising slot
 pub step_rises : (s : State) (c : Command) (a : Answer) (list : List (TxnId × Notice)) (s' : State) → s.most ≤ 128 → Step s c a list s' → RisingTo 0 list 128
 step_rises s c a list s' few step =
-    each_told (λ xs. RisingTo 0 xs 128) s c a list s' (omega arith) (λ now. told_rises s now few) (λ t now. kept (λ x. not (x.0.slot == t)) 0 128 (told s now) (told_rises s now few)) step
+    each_told (λ xs. RisingTo 0 xs 128) s c a list s' (omega arith) (λ now. told_rises s now few)
+    (λ t now. kept (λ x. not (x.0.slot == t)) 0 128 (told s now) (told_rises s now few)) step

@@ -119,4 +119,7 @@ module _ (s : State) (c : Command) (a : Answer) (told : Told) (s' : State) where
   goes None ends = answered (query_answer s c) refl ends
 
   pub step_counts : Step s c a told s' → Counts s c a told s'
-  step_counts step = ⊎_elim (λ h. goes (refusal_of s c) h) (λ (want : (may_want_memory s c ≡ true) × Unchanged s a told s' (answer.Refused no.NoMemory)). unchanged (answer.Refused no.NoMemory) (and_false (not (is_query c))) want.1) step
+  step_counts step =
+      ⊎_elim (λ h. goes (refusal_of s c) h)
+      (λ (want : (may_want_memory s c ≡ true) × Unchanged s a told s' (answer.Refused no.NoMemory)).
+      unchanged (answer.Refused no.NoMemory) (and_false (not (is_query c))) want.1) step

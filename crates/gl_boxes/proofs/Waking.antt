@@ -50,11 +50,13 @@ names_its_slot (command.Held u n) t h = h
 names_its_slot (command.Effective u n) t h = h
 
 -- a set of the slots that are told, and of the one that is named, has everybody whose wait was ended
-pub wakes_ended : (c : Command) (told : Told) (slots : ℕ) → ((u : ℕ) → u < 128 → has_slot slots u ≡ (names_slot c u || list_any (λ x. x.0.slot == u) told)) → WakesEnded c told slots
+pub wakes_ended : (c : Command) (told : Told) (slots : ℕ) → ((u : ℕ) → u < 128 → has_slot slots u ≡ (names_slot c u || list_any (λ x. x.0.slot == u) told))
+    → WakesEnded c told slots
 wakes_ended c told slots is s s' a step law t n below was gone =
     is t.slot below
     ∙ or_elim (is_told t told) (ends_wait_of t c) (ends_waits s s' c a told t n law step was gone)
-    (λ so. ap (λ b. names_slot c t.slot || b) (any_weaker (λ x. same_txn t x.0) (λ x. x.0.slot == t.slot) told (λ x h. turned t.slot x.0.slot (slot_of t x.0 h)) so) ∙ or-true (names_slot c t.slot))
+    (λ so. ap (λ b. names_slot c t.slot || b) (any_weaker (λ x. same_txn t x.0) (λ x. x.0.slot == t.slot) told
+    (λ x h. turned t.slot x.0.slot (slot_of t x.0 h)) so) ∙ or-true (names_slot c t.slot))
     (λ so. ap (λ b. b || list_any (λ x. x.0.slot == t.slot) told) (names_its_slot c t so))
 
 -- the same list
@@ -66,7 +68,8 @@ pub ended_none : (s : State) (slots : ℕ) → HasEnded s s slots
 ended_none s slots law t n below was gone = absurd (cc (was, gone))
 
 -- with one step more, whose wait either ended
-pub ended_more : (s mid s' : State) (c : Command) (a : Answer) (told : Told) (before more : ℕ) → (IsLawful s → IsLawful mid) → HasEnded s mid before → WakesEnded c told more → Step mid c a told s' → HasEnded s s' (bit_or before more)
+pub ended_more : (s mid s' : State) (c : Command) (a : Answer) (told : Told) (before more : ℕ) → (IsLawful s → IsLawful mid) → HasEnded s mid before
+    → WakesEnded c told more → Step mid c a told s' → HasEnded s s' (bit_or before more)
 ended_more s mid s' c a told before more keeps so_far wakes step law t n below was gone = has_slot-or before more t.slot ∙ by (waits_on mid t n) refl
   where
     by : (b : Bool) → waits_on mid t n ≡ b → (has_slot before t.slot || has_slot more t.slot) ≡ true

@@ -33,10 +33,14 @@ pub record Delivers (before : List Slot) (told : List (TxnId × Notice)) (after 
   pub stands : All (λ x. box_at after x.0.slot ≡ Some x) told
   pub others : (slot : ℕ) → All (λ x. x.0.slot ≢ slot) told → box_at after slot ≡ box_at before slot
 
--- the boxes behind a command of a session that may wait: a lock that is not refused empties its slot's, so that what stands there later is its own verdict
+-- the boxes behind an accepted command: a lock's own slot's is empty, so that what stands there later is its own verdict
+abbrev pub emptied : Command → List Slot → List Slot
+emptied (command.Lock t n m) boxes = slice_set boxes t.slot None
+emptied c boxes = boxes
+
+-- the boxes behind a command that was answered so: one that is refused empties none
 abbrev pub cleared : Command → Answer → List Slot → List Slot
-cleared (command.Lock t n m) a boxes = if is_refused a then boxes else slice_set boxes t.slot None
-cleared c a boxes = boxes
+cleared c a boxes = if is_refused a then boxes else emptied c boxes
 
 -- the notice in the box of t's slot, where it names t and its age
 abbrev pub named : TxnId → Slot → Option Notice
@@ -56,8 +60,10 @@ by_notice s t n k None = stopped NotWaiting
 by_notice s t n k (Some Victim) = Some (Err stop.Victim)
 by_notice s t n k (Some Moved) = Some (Err stop.Moved)
 by_notice s t n k (Some Gone) = Some (Err stop.Gone)
-by_notice s t n k (Some (Granted at m)) = if same_node at n && is_at_least (s.held t.slot n) k then Some (Ok (record { txn = t; node = n; mode = s.held t.slot n })) else stopped NotWaiting
+by_notice s t n k (Some (Granted at m)) =
+    if same_node at n && is_at_least (s.held t.slot n) k then Some (Ok (record { txn = t; node = n; mode = s.held t.slot n })) else stopped NotWaiting
 
 -- the first that applies: t does not live; t waits on the node; then by the notice in its box
 abbrev pub verdict_of : State → List Slot → TxnId → NodeId → Mode → Option (Result Grant Stop)
-verdict_of s boxes t n k = if lives s t then (if is_waiting_at s t.slot n then None else by_notice s t n k (named t (box_at boxes t.slot))) else stopped NoSuchTxn
+verdict_of s boxes t n k =
+    if lives s t then (if is_waiting_at s t.slot n then None else by_notice s t n k (named t (box_at boxes t.slot))) else stopped NoSuchTxn

@@ -1,15 +1,15 @@
 //! The boxes of slots: what each transaction was told last, and what became of its wait.
 
-ghost use Rattle.std.specs.Prelude.{◌≡◌, [], true, false, None, Some, Ok, slice_set, replicate};
+ghost use Rattle.std.specs.Prelude.{◌≡◌, [], true, false, None, Some, Ok, List, slice_set, replicate};
 ghost use Rattle.gl_modes.specs.Modes.{is_at_least};
 ghost use Rattle.gl_table.specs.model.State.{is_waiting_at, lives};
 ghost use Rattle.gl_catalog.specs.Manager.{state_of};
-ghost use Rattle.gl_boxes.specs.Boxes.{Delivers, box_at, named, verdict_of};
+ghost use Rattle.gl_boxes.specs.Boxes.{Delivers, Slot as ASlot, box_at, emptied, named, verdict_of};
 ghost use Rattle.gl_boxes.specs.Served.{RisingTo};
 ghost use Rattle.gl_boxes.specs.declared.grant.Grant.{Grant};
 
 use crate::grant::{Grant, Stop};
-use gl_catalog::Manager;
+use gl_catalog::{Command, Manager};
 use gl_modes::{Mode, NodeId, Refusal, covers};
 use gl_table::{Notice, TxnId};
 use gl_waits::SLOTS;
@@ -43,20 +43,17 @@ impl Boxes {
         }
     }
 
-    /// Puts each notice into its slot's box.
-    pub fn deliver(&mut self, told: &[(TxnId, Notice)])
+    /// Puts the notices of an accepted command into their slots' boxes. Behind a lock its own slot's is
+    /// empty, so that what stands there later is its own verdict.
+    pub fn deliver(&mut self, command: &Command<'_>, told: &[(TxnId, Notice)])
         requires { RisingTo 0 told.now 128 }
-        ensures told { Delivers self.old told.now self.new }
-        ensures none { told.now ≡ [] → self.new ≡ self.old }
+        ensures told { (mid : List ASlot) × Delivers self.old told.now mid × (self.new ≡ emptied command.now mid) }
+        ensures none { told.now ≡ [] → self.new ≡ emptied command.now self.old }
     {
         deliver(&mut self.slots, told);
-    }
-
-    /// Empties the box of a slot, where there is one.
-    pub fn empty(&mut self, slot: u8)
-        ensures { self.new ≡ slice_set self.old slot None }
-    {
-        empty_box(&mut self.slots, slot);
+        if let Command::Lock { txn, .. } = command {
+            empty_box(&mut self.slots, txn.slot);
+        }
     }
 
     /// Whether the transaction has its answer on this node, and which. The first that applies:

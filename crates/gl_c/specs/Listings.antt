@@ -1,12 +1,18 @@
 -- What is answered to the questions of a listing.
-use Rattle.std.specs.Prelude.{ℕ, List, Option, Some, None}
+use Rattle.std.specs.Prelude.{List, Option, Some, None, if◌then◌else◌}
 use Rattle.gl_modes.specs.declared.mode.Mode.{Mode}
+use Rattle.gl_modes.specs.declared.mode.Mode.TheVariants.{NL}
+use Rattle.gl_modes.specs.declared.node.NodeId.{NodeId}
+use Rattle.gl_modes.specs.Nodes.{same_node}
 use Rattle.gl_modes.specs.declared.refusal.Refusal.{Refusal}
 use Rattle.gl_modes.specs.declared.refusal.Refusal.TheVariants as no
+use Rattle.gl_header.specs.Header.{Waiter}
 use Rattle.gl_table.specs.declared.answers.LockRow.{LockRow}
 use Rattle.gl_table.specs.declared.txn.Status.{Status}
 use Rattle.gl_table.specs.declared.txn.Status.TheVariants.{Active, Waiting, Condemned}
 use Rattle.gl_table.specs.declared.txn.TxnId.{TxnId}
+use Rattle.gl_table.specs.model.Deadlocks.{name_at}
+use Rattle.gl_table.specs.model.State.{State}
 use Rattle.gl_c.specs.declared.reply.Reply.{Reply}
 use Rattle.gl_c.specs.Names.{node_of, txn_of}
 use Rattle.gl_c.specs.Numbers.{done, mode_number, no_place}
@@ -24,17 +30,22 @@ doing (Some (Waiting n wanted)) = record (count_reply 2) { node = node_of n; mod
 doing (Some Condemned) = count_reply 3
 doing None = refused_reply no.NoSuchTxn
 
--- a node that a transaction holds or waits for, with the count of held children
-abbrev pub row_reply : Option LockRow → Reply
-row_reply (Some r) = record (count_reply r.children) { node = node_of r.node; mode = mode_number r.mode }
-row_reply None = status_reply no_place
+-- the wanted mode, on the node that is waited for
+abbrev pub wanted_on : Option (NodeId × Mode) → NodeId → Mode
+wanted_on None n = NL
+wanted_on (Some x) n = if same_node x.0 n then x.1 else NL
 
--- one who waits for a node, by slot
-abbrev pub waiter_reply : Option (ℕ × Mode) → Reply
-waiter_reply (Some x) = record (status_reply done) { txn = record { slot = x.0; age = 0 }; mode = mode_number x.1 }
-waiter_reply None = status_reply no_place
+-- a node that a transaction with this wait holds or waits for, with the count of held children
+abbrev pub row_reply : Option (NodeId × Mode) → Option LockRow → Reply
+row_reply wait (Some r) = record (count_reply r.children) { node = node_of r.node; mode = mode_number r.mode; wanted = mode_number (wanted_on wait r.node) }
+row_reply wait None = status_reply no_place
+
+-- one who waits for a node
+abbrev pub waiter_reply : State → Option Waiter → Reply
+waiter_reply s (Some x) = record (status_reply done) { txn = txn_of (name_at s x.0); mode = mode_number x.1 }
+waiter_reply s None = status_reply no_place
 
 -- of a node's queue, or why it has none
-abbrev pub of_queue : Option Refusal → (List (ℕ × Mode) → Reply) → List (ℕ × Mode) → Reply
-of_queue None then queue = then queue
-of_queue (Some r) then queue = refused_reply r
+abbrev pub of_queue : Option Refusal → (List Waiter → Reply) → List Waiter → Reply
+of_queue None answer queue = answer queue
+of_queue (Some r) answer queue = refused_reply r

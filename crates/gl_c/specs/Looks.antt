@@ -79,7 +79,8 @@ records_of g file = if is_file_shape (shape_of g file) then count_reply (if has_
 -- what is answered to a question
 abbrev pub looked : ManagerView → Query → Reply
 looked m (query.Waiting t) = waited (if lives (state_of m) t then wait_of (status_of (state_of m) t.slot) else None)
-looked m (query.Children t n) = counted (refused_reply no.NotHeld) (if lives (state_of m) t && holds (members (state_of m) n) t.slot then Some (held_children (state_of m) t.slot n) else None)
+looked m (query.Children t n) = counted (refused_reply no.NotHeld)
+    (if lives (state_of m) t && holds (members (state_of m) n) t.slot then Some (held_children (state_of m) t.slot n) else None)
 looked m (query.Kind n) = counted (refused_reply no.NoSuchNode) (option_map kind_number (kind_in (shape_of (state_of m).graph n)))
 looked m (query.Parent n place) = found (slice_get (parents_of (state_of m).graph n) place)
 looked m (query.Key rec place) = counted (status_reply no_place) (slice_get (keys_in (shape_of (state_of m).graph rec)) place)
@@ -97,10 +98,13 @@ looked m query.MostNodes = count_reply (state_of m).graph.most
 looked m (query.Living slot) = lived (living_in (state_of m) slot)
 looked m (query.Doing t) = doing (if lives (state_of m) t then status_of (state_of m) t.slot else None)
 looked m (query.LockCount t) = counted (refused_reply no.NoSuchTxn) (if lives (state_of m) t then Some (length (rows_of m.table t.slot)) else None)
-looked m (query.LockAt t place) = row_reply (if lives (state_of m) t then slice_get (rows_of m.table t.slot) place else None)
+looked m (query.LockAt t place) =
+    row_reply (if lives (state_of m) t then wait_of (status_of (state_of m) t.slot) else None)
+    (if lives (state_of m) t then slice_get (rows_of m.table t.slot) place else None)
 looked m (query.ModeAt slot n) = reply_of (answer.Mode ((state_of m).held slot n))
 looked m (query.QueueLen n) = of_queue (first_refusal (group_tests (state_of m) n)) (λ queue. count_reply (length queue)) ((state_of m).queue n)
-looked m (query.QueueAt n place) = of_queue (first_refusal (group_tests (state_of m) n)) (λ queue. waiter_reply (slice_get queue place)) ((state_of m).queue n)
+looked m (query.QueueAt n place) = of_queue (first_refusal (group_tests (state_of m) n)) (λ queue. waiter_reply (state_of m) (slice_get queue place))
+    ((state_of m).queue n)
 
 -- a call that asks a question: it is answered where there is a manager, and nothing changes
 abbrev pub Looks : Option GuardedView → Query → Reply → Option GuardedView → Type 0

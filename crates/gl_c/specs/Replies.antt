@@ -16,7 +16,7 @@ nobody = record { key = 0; birth = 0 }
 
 -- a status alone
 abbrev pub status_reply : ℕ → Reply
-status_reply n = record { status = n; mode = 0; node = nobody; txn = record { slot = 0; age = 0 }; released = 0; kept = 0; count = 0 }
+status_reply n = record { status = n; mode = 0; node = nobody; txn = record { slot = 0; age = 0 }; released = 0; kept = 0; count = 0; wanted = 0 }
 
 -- a number that was asked after
 abbrev pub count_reply : ℕ → Reply

@@ -1,14 +1,13 @@
 //! All that C's mutex guards.
 
-ghost use Rattle.std.specs.Prelude.{◌≡◌, ◌≤◌, ◌^◌, ◌⊎◌, ◌∷◌, ◌++◌, false, [], IfErr, IfNone, IfOk, IfSome, List, None, Ok, Some, replicate};
+ghost use Rattle.std.specs.Prelude.{◌≡◌, ◌≤◌, ◌^◌, ◌⊎◌, ◌∷◌, ◌++◌, false, [], IfErr, IfNone, IfOk, IfSome, None, Ok, Some, replicate};
 ghost use Rattle.gl_modes.specs.declared.refusal.Refusal.{Refusal as ARefusal};
 ghost use Rattle.gl_table.specs.model.Table.{board_of};
 ghost use Rattle.gl_table.specs.model.State.{choosing, empty_state};
 ghost use Rattle.gl_catalog.specs.Manager.{IsLawfulManager, state_of};
 ghost use Rattle.gl_catalog.specs.Promises.{NobodyWaits};
 ghost use Rattle.gl_boxes.specs.Boards.{Ends, Fine, ShowsNobody, last_epoch};
-ghost use Rattle.gl_boxes.specs.Boxes.{Delivers, Slot, cleared, verdict_of};
-ghost use Rattle.gl_boxes.specs.Served.{RisingTo, is_refused};
+ghost use Rattle.gl_boxes.specs.Boxes.{verdict_of};
 ghost use Rattle.gl_c.specs.Managing.{IsNew};
 ghost use Rattle.gl_c.specs.Serving.{Serves, ShowsNobodyLast, ShowsOn};
 ghost use Rattle.gl_c.specs.Watching.{OnlyShows};
@@ -19,7 +18,7 @@ use gl_boxes::{
 };
 use gl_catalog::{Answer, Command, Manager};
 use gl_modes::{Mode, NodeId, Refusal};
-use gl_table::{Detect, Notice, Told, TxnId};
+use gl_table::{Detect, Told, TxnId};
 use gl_waits::{Board, Victims};
 use gl_window::{Publisher, WatchFault, Watcher};
 use std::alloc::{AllocError, Global};
@@ -101,6 +100,7 @@ impl Guarded {
     }
 
     /// Carries out a command, with its notices put into an empty list.
+    #[inline(always)]
     pub(crate) fn serve(&mut self, command: Command<'_>, told: &mut Told) -> Answer
         requires empty { told.old.items ≡ [] }
         ensures { Serves self.old command.entry result told.new.items self.new }
@@ -110,7 +110,7 @@ impl Guarded {
         if !is_accepted(&command, &answer) {
             return answer;
         }
-        deliver(&mut self.boxes, &command, &answer, told.as_slice());
+        self.boxes.deliver(&command, told.as_slice());
         self.ended = ended_by(&command, told.as_slice());
         self.waited |= leaves_waiting(&answer);
         self.show_if_due();
@@ -185,18 +185,5 @@ fn publisher_of(
     match publisher {
         Some(publisher) => Ok(publisher),
         None => Publisher::new(alloc, board, detect),
-    }
-}
-
-/// Puts the notices of an accepted command into their boxes, and empties that of a lock's own slot.
-fn deliver(boxes: &mut Boxes, command: &Command<'_>, answer: &Answer, told: &[(TxnId, Notice)])
-    requires rising { RisingTo 0 told.now 128 }
-    requires accepted { is_refused answer.now ≡ false }
-    ensures { (mid : List Slot) × Delivers boxes.old told.now mid × (boxes.new ≡ cleared command.now answer.now mid) }
-{
-    let _ = answer;
-    boxes.deliver(told);
-    if let Command::Lock { txn, .. } = command {
-        boxes.empty(txn.slot);
     }
 }

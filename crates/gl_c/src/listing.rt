@@ -3,14 +3,17 @@
 ghost use Rattle.std.specs.Prelude.{◌≡◌, ℕ, List, Result, Ok, Err, MatchResult, length};
 ghost use Rattle.std.specs.List.{slice_get};
 ghost use Rattle.gl_modes.specs.declared.refusal.Refusal.TheVariants as no;
-ghost use Rattle.gl_c.specs.Listings.{doing, lived, row_reply, waiter_reply};
+ghost use Rattle.gl_table.specs.model.Deadlocks.{name_at};
+ghost use Rattle.gl_catalog.specs.Manager.{state_of};
+ghost use Rattle.gl_c.specs.Listings.{doing, lived, row_reply, waiter_reply, wanted_on};
 ghost use Rattle.gl_c.specs.Looks.{counted};
 ghost use Rattle.gl_c.specs.Replies.{count_reply, refused_reply};
 
 use crate::names::{Node, Txn};
 use crate::numbers::{DONE, NO_PLACE, mode_number};
 use crate::reply::Reply;
-use gl_modes::{Mode, Refusal};
+use gl_catalog::Manager;
+use gl_modes::{Mode, NodeId, Refusal};
 use gl_table::{LockRow, Status, TxnId};
 
 /// Who lives in a slot.
@@ -52,17 +55,28 @@ pub(crate) fn lock_count_reply(count: Option<usize>) -> Reply
     }
 }
 
-/// A node that a transaction holds or waits for.
-pub(crate) fn row_reply(row: Option<LockRow>) -> Reply
-    ensures { result ≡ row_reply row }
+/// A node that a transaction with this wait holds or waits for.
+pub(crate) fn row_reply(wait: Option<(NodeId, Mode)>, row: Option<LockRow>) -> Reply
+    ensures { result ≡ row_reply wait row }
 {
     match row {
         Some(row) => Reply {
             node: Node::of(row.node),
             mode: mode_number(row.mode),
+            wanted: mode_number(wanted_on(wait, row.node)),
             ..Reply::with_count(u64::from(row.children))
         },
         None => Reply::with_status(NO_PLACE),
+    }
+}
+
+/// The wanted mode, on the node that is waited for.
+fn wanted_on(wait: Option<(NodeId, Mode)>, node: NodeId) -> Mode
+    ensures { result ≡ wanted_on wait node }
+{
+    match wait {
+        Some((at, wanted)) if at.key == node.key && at.birth == node.birth => wanted,
+        _ => Mode::NL,
     }
 }
 
@@ -77,24 +91,38 @@ pub(crate) fn queue_len_reply(queue: Result<&[(u8, Mode)], Refusal>) -> Reply
 }
 
 /// Who waits for a node, by its place in the queue.
-pub(crate) fn queue_at_reply(queue: Result<&[(u8, Mode)], Refusal>, place: usize) -> Reply
-    ensures { MatchResult queue.entry (λ waiters. result ≡ waiter_reply (slice_get waiters.now place)) (λ refusal. result ≡ refused_reply refusal) }
+pub(crate) fn queue_at_reply(
+    manager: &Manager,
+    queue: Result<&[(u8, Mode)], Refusal>,
+    place: usize,
+) -> Reply
+    ensures { MatchResult queue.entry (λ waiters. result ≡ waiter_reply (state_of manager.now) (slice_get waiters.now place)) (λ refusal. result ≡ refused_reply refusal) }
 {
     match queue {
-        Ok(waiters) => waiter_reply(waiters.get(place).copied()),
+        Ok(waiters) => waiter_reply(manager, waiters.get(place).copied()),
         Err(refusal) => Reply::refused(refusal),
     }
 }
 
-fn waiter_reply(waiter: Option<(u8, Mode)>) -> Reply
-    ensures { result ≡ waiter_reply waiter }
+fn waiter_reply(manager: &Manager, waiter: Option<(u8, Mode)>) -> Reply
+    ensures { result ≡ waiter_reply (state_of manager.now) waiter }
 {
     match waiter {
         Some((slot, wanted)) => Reply {
-            txn: Txn { slot, age: 0 },
+            txn: Txn::of(name_at(manager, slot)),
             mode: mode_number(wanted),
             ..Reply::with_status(DONE)
         },
         None => Reply::with_status(NO_PLACE),
+    }
+}
+
+/// The name of the transaction in a slot, of age 0 where the slot is free.
+fn name_at(manager: &Manager, slot: u8) -> TxnId
+    ensures { result ≡ name_at (state_of manager.now) slot }
+{
+    match manager.living(slot) {
+        Some((txn, _)) => txn,
+        None => TxnId { slot, age: 0 },
     }
 }

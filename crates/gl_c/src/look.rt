@@ -96,10 +96,12 @@ pub(crate) fn look(manager: &Manager, query: Query) -> Reply
         Query::Living { slot } => living_reply(manager.living(slot)),
         Query::Doing { txn } => doing_reply(manager.status(txn)),
         Query::LockCount { txn } => lock_count_reply(manager.lock_count(txn)),
-        Query::LockAt { txn, place } => row_reply(manager.lock_at(txn, place)),
+        Query::LockAt { txn, place } => {
+            row_reply(manager.waiting(txn), manager.lock_at(txn, place))
+        },
         Query::ModeAt { slot, node } => Reply::with_mode(manager.mode_at(slot, node)),
         Query::QueueLen { node } => queue_len_reply(manager.queue(node)),
-        Query::QueueAt { node, place } => queue_at_reply(manager.queue(node), place),
+        Query::QueueAt { node, place } => { queue_at_reply(manager, manager.queue(node), place) },
     }
 }
 

@@ -22,7 +22,7 @@ pub struct Reply {
     pub mode: u32,
     /// The node that was made or asked after, or that the refusal names.
     pub node: Node,
-    /// The transaction that began.
+    /// The transaction that began or was asked after.
     pub txn: Txn,
     /// How many children an escalation released.
     pub released: u32,
@@ -30,6 +30,8 @@ pub struct Reply {
     pub kept: u32,
     /// The number that was asked after.
     pub count: u64,
+    /// The number of the mode in which a listed node is waited for.
+    pub wanted: u32,
 }
 
 impl Reply {
@@ -45,6 +47,7 @@ impl Reply {
             released: 0,
             kept: 0,
             count: 0,
+            wanted: 0,
         }
     }
 

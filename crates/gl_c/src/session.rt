@@ -68,6 +68,7 @@ impl Session {
     }
 
     /// Carries out a command, and writes down whom it tells.
+    #[inline(always)]
     pub(crate) fn carry_out(&mut self, command: Command<'_>, notices: &mut Notices) -> Reply
         ensures { Replies self.old command.entry result notices.new self.new }
     {
@@ -78,6 +79,7 @@ impl Session {
     }
 
     /// Carries out a command of which nobody is to be told.
+    #[inline(always)]
     pub(crate) fn ask(&mut self, command: Command<'_>) -> Reply
         ensures { Answers self.old command.entry result self.new }
     {

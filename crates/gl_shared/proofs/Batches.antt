@@ -4,33 +4,30 @@ use Rattle.std.specs.List.{list_all}
 use Rattle.std.proofs.Common.{refl, sym, ap, subst, ◌∙◌, arith}
 use Rattle.std.proofs.lemmas.List.{length-append, map-append, take_more}
 use Rattle.gl_modes.proofs.Words.{and_both}
-use Rattle.gl_modes.specs.declared.mode.Mode.{Mode}
-use Rattle.gl_modes.specs.declared.node.NodeId.{NodeId}
-use Rattle.gl_table.specs.declared.txn.TxnId.{TxnId}
 use Rattle.gl_table.specs.model.Tellings.{Told}
 use Rattle.gl_catalog.specs.declared.command.Answer.{Answer}
 use Rattle.gl_catalog.specs.declared.command.Command.{Command}
-use Rattle.gl_catalog.specs.declared.command.Command.TheVariants as command
 use Rattle.gl_catalog.specs.Manager.{state_of}
 use Rattle.gl_catalog.specs.Step.{Step}
 use Rattle.gl_shared.specs.Batches.{Serves, ServesEach, ServesOne, Stops, accepted_in, goes_on, one_if}
-use Rattle.gl_boxes.specs.Served.{accepts, is_refused, leaves_waiting}
+use Rattle.gl_boxes.specs.Served.{accepts, leaves_waiting}
 use Rattle.gl_boxes.specs.Boxes.{Delivers, Slot, cleared}
-use Rattle.gl_boxes.proofs.Clearing.{refused_if, served_if}
 use Rattle.gl_shared.specs.State.{GuardedView}
 
 -- one answer more
 pub one_longer : (xs : List Answer) (a : Answer) (k : ℕ) → length xs ≡ k → length (xs ++ a ∷ []) ≡ k + 1
 one_longer xs a k is = let e = length-append xs (a ∷ []) in omega (arith, e, is)
 
-each_snoc : (s mid t : GuardedView) (cs : List Command) (rs : List (Answer × Told)) (c : Command) (a : Answer) (told : Told) → ServesEach s cs rs mid → ServesOne mid c a told t → ServesEach s (cs ++ c ∷ []) (rs ++ (a, told) ∷ []) t
+each_snoc : (s mid t : GuardedView) (cs : List Command) (rs : List (Answer × Told)) (c : Command) (a : Answer) (told : Told) → ServesEach s cs rs mid
+    → ServesOne mid c a told t → ServesEach s (cs ++ c ∷ []) (rs ++ (a, told) ∷ []) t
 each_snoc s mid t [] [] c a told same one = (t, subst (λ (g : GuardedView). ServesOne g c a told t) same one, refl)
 each_snoc s mid t [] (r ∷ rs) c a told run one = absurd run
 each_snoc s mid t (d ∷ cs) [] c a told run one = absurd run
 each_snoc s mid t (d ∷ cs) (r ∷ rs) c a told run one = (run.0, run.1, each_snoc run.0 mid t cs rs c a told run.2 one)
 
 -- the next command of a list is a step more
-pub serves_next : (s mid t : GuardedView) (cs : List Command) (xs : List Answer) (k : ℕ) (d : Command) (a : Answer) (told : Told) → length xs ≡ k → k < length cs → Serves s cs xs mid → ServesOne mid (slice_index_or cs k d) a told t
+pub serves_next : (s mid t : GuardedView) (cs : List Command) (xs : List Answer) (k : ℕ) (d : Command) (a : Answer) (told : Told) → length xs ≡ k
+    → k < length cs → Serves s cs xs mid → ServesOne mid (slice_index_or cs k d) a told t
     → Serves s cs (xs ++ a ∷ []) t
 serves_next s mid t cs xs k d a told is less run step = (
   run.0 ++ (a, told) ∷ [],
@@ -40,7 +37,8 @@ serves_next s mid t cs xs k d a told is less run step = (
 )
 
 -- and is counted where it is accepted
-accepted_next : (cs : List Command) (xs : List Answer) (d : Command) (a : Answer) → length xs < length cs → accepted_in cs (xs ++ a ∷ []) ≡ accepted_in cs xs + one_if (accepts (slice_index_or cs (length xs) d) a)
+accepted_next : (cs : List Command) (xs : List Answer) (d : Command) (a : Answer) → length xs < length cs
+    → accepted_in cs (xs ++ a ∷ []) ≡ accepted_in cs xs + one_if (accepts (slice_index_or cs (length xs) d) a)
 accepted_next [] xs d a less = absurd (omega (arith, less))
 accepted_next (c ∷ cs) [] d a less = by cs
   where
@@ -49,14 +47,17 @@ accepted_next (c ∷ cs) [] d a less = by cs
     by (x ∷ rest) = omega arith
 accepted_next (c ∷ cs) (x ∷ xs) d a less = let rest = accepted_next cs xs d a (omega (arith, less)) in omega (arith, rest)
 
-pub accepted_more : (cs : List Command) (xs : List Answer) (k : ℕ) (d : Command) (a : Answer) → length xs ≡ k → k < length cs → accepted_in cs (xs ++ a ∷ []) ≡ accepted_in cs xs + one_if (accepts (slice_index_or cs k d) a)
+pub accepted_more : (cs : List Command) (xs : List Answer) (k : ℕ) (d : Command) (a : Answer) → length xs ≡ k → k < length cs
+    → accepted_in cs (xs ++ a ∷ []) ≡ accepted_in cs xs + one_if (accepts (slice_index_or cs k d) a)
 accepted_more cs xs k d a is less =
-    subst (λ (n : ℕ). accepted_in cs (xs ++ a ∷ []) ≡ accepted_in cs xs + one_if (accepts (slice_index_or cs n d) a)) is (accepted_next cs xs d a (omega (arith, less, is)))
+    subst (λ (n : ℕ). accepted_in cs (xs ++ a ∷ []) ≡ accepted_in cs xs + one_if (accepts (slice_index_or cs n d) a)) is
+    (accepted_next cs xs d a (omega (arith, less, is)))
 
 -- all answers so far went on
 pub all_more : (xs : List Answer) (a : Answer) → list_all goes_on xs ≡ true → goes_on a ≡ true → list_all goes_on (xs ++ a ∷ []) ≡ true
 all_more [] a all on = ap (λ b. b && true) on
-all_more (x ∷ xs) a all on = let both = and_both (goes_on x) (list_all goes_on xs) all in ap (λ b. b && list_all goes_on (xs ++ a ∷ [])) both.0 ∙ all_more xs a both.1 on
+all_more (x ∷ xs) a all on = let both = and_both (goes_on x) (list_all goes_on xs) all in ap (λ b. b && list_all goes_on (xs ++ a ∷ [])) both.0 ∙
+    all_more xs a both.1 on
 
 -- each command has its answer
 pub stops_whole : (cs : List Command) (xs : List Answer) → list_all goes_on xs ≡ true → length cs ≡ length xs → Stops cs xs
@@ -68,7 +69,8 @@ stops_whole (c ∷ cs) (a ∷ xs) all same =
     subst (λ (b : Bool). MatchBool b (Stops cs xs) (xs ≡ [])) (sym both.0) (stops_whole cs xs both.1 (omega (arith, same)))
 
 -- or the last does not go on
-pub stops_here : (cs : List Command) (xs : List Answer) (a : Answer) → list_all goes_on xs ≡ true → length xs < length cs → goes_on a ≡ false → Stops cs (xs ++ a ∷ [])
+pub stops_here : (cs : List Command) (xs : List Answer) (a : Answer) → list_all goes_on xs ≡ true → length xs < length cs → goes_on a ≡ false
+    → Stops cs (xs ++ a ∷ [])
 stops_here [] xs a all less off = absurd (omega (arith, less))
 stops_here (c ∷ cs) [] a all less off = subst (λ (b : Bool). MatchBool b (Stops cs []) (◌≡◌ {A = List Answer} [] [])) (sym off) refl
 stops_here (c ∷ cs) (x ∷ xs) a all less off =
@@ -80,20 +82,22 @@ pub counted_if : (yes : Bool) (after before : ℕ) → (yes ≡ false → after 
 counted_if true after before stays rises = rises refl
 counted_if false after before stays rises = let same = stays refl in omega (arith, same)
 
--- a lock is one command of a list
-pub serves_lock : (g g' : GuardedView) (t : TxnId) (n : NodeId) (m : Mode) (a : Answer) (told : Told) → Step (state_of g.manager) (command.Lock t n m) a told (state_of g'.manager) → (is_refused a ≡ true → (g' ≡ g) × (told ≡ []))
-    → (is_refused a ≡ false → g'.book ≡ g.book + 1) → ((mid : List Slot) × Delivers g.boxes told mid × (g'.boxes ≡ cleared (command.Lock t n m) a mid)) → (is_refused a ≡ false → g'.waited ≡ (g.waited || leaves_waiting a))
-    → (g'.list ≡ g.list) × (g'.telling ≡ g.telling) → ServesOne g (command.Lock t n m) a told g'
-serves_lock g g' t n m a told step refused accepted boxes waited list = record {
+-- what is served is one command of a list
+pub serves_one : (g g' : GuardedView) (c : Command) (a : Answer) (told : Told) → Step (state_of g.manager) c a told (state_of g'.manager)
+    → (accepts c a ≡ false → (g' ≡ g) × (told ≡ [])) → (accepts c a ≡ true → g'.book ≡ g.book + 1)
+    → ((mid : List Slot) × Delivers g.boxes told mid × (g'.boxes ≡ cleared c a mid)) → (accepts c a ≡ true → g'.waited ≡ (g.waited || leaves_waiting a))
+    → (g'.list ≡ g.list) × (g'.telling ≡ g.telling) → ServesOne g c a told g'
+serves_one g g' c a told step refused accepted boxes waited list = record {
   step = step;
   boxes = boxes;
-  not_accepted = λ no. refused (refused_if (is_refused a) no);
-  book = counted_if (accepts (command.Lock t n m) a) g'.book g.book (λ no. ap (λ (v : GuardedView). v.book) (refused (refused_if (is_refused a) no)).0) (λ yes. accepted (served_if (is_refused a) yes));
-  waited = λ yes. waited (served_if (is_refused a) yes);
+  not_accepted = refused;
+  book = counted_if (accepts c a) g'.book g.book (λ no. ap (λ (v : GuardedView). v.book) (refused no).0) accepted;
+  waited = waited;
   list = list;
 }
 
-pub share_more : (cs : List Command) (xs ys : List Answer) (k : ℕ) (d : Command) (a : Answer) (after before start : ℕ) → length xs ≡ k → k < length cs → ys ≡ xs ++ a ∷ [] → after ≡ before + one_if (accepts (slice_index_or cs k d) a)
+pub share_more : (cs : List Command) (xs ys : List Answer) (k : ℕ) (d : Command) (a : Answer) (after before start : ℕ) → length xs ≡ k → k < length cs
+    → ys ≡ xs ++ a ∷ [] → after ≡ before + one_if (accepts (slice_index_or cs k d) a)
     → before ≡ start + accepted_in cs xs → after ≡ start + accepted_in cs ys
 share_more cs xs ys k d a after before start is less ends rises so_far =
     let more = accepted_more cs xs k d a is less in

@@ -50,7 +50,7 @@ fn serve_all<N: Naming>(
     let mut ended = 0;
     for command in commands {
         told.clear();
-        let answer = guarded.serve_next(share, *command, told);
+        let answer = guarded.serve_telling(share, *command, told);
         ended |= ended_by(command, told.as_slice());
         let last = !goes_on(&answer);
         answers.push_reserved(answer);

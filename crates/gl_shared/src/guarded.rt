@@ -15,7 +15,6 @@ ghost use Rattle.gl_boxes.specs.Boxes.{Delivers, Slot, cleared, verdict_of};
 ghost use Rattle.gl_boxes.specs.Served.{RisingTo, accepts, is_refused, leaves_waiting};
 ghost use Rattle.gl_boxes.specs.Tellings.{is_due};
 ghost use Rattle.gl_boxes.specs.declared.grant.Grant.{Grant};
-ghost use Rattle.gl_shared.specs.Batches.{ServesOne, one_if};
 ghost use Rattle.gl_boxes.specs.Boards.{last_epoch, IsLawful};
 ghost use Rattle.gl_shared.specs.State.{Remembers, StaysUntold, Told};
 
@@ -24,8 +23,7 @@ use crate::note::Note;
 use crate::publisher::Publisher;
 use crate::share::Share;
 use gl_boxes::{
-    Boxes, Grant, Stop, Telling, board_now, is_accepted, is_due, is_refused, leaves_waiting,
-    may_show_waits,
+    Boxes, Grant, Stop, Telling, board_now, is_accepted, is_due, leaves_waiting, may_show_waits,
 };
 use gl_catalog::{Answer, Command, Counters, Manager, Reply};
 use gl_modes::{Mode, NodeId};
@@ -186,13 +184,14 @@ impl<N: Naming> Guarded<N> {
         Some(self.tell(rt))
     }
 
-    /// One command, its reply and its notices.
+    /// One command, its reply and its notices, which then stand in their boxes. An accepted lock empties
+    /// its own slot's, so that what stands there later is its own verdict.
     pub fn serve(&mut self, share: &mut Share<N>, command: Command<'_>) -> Reply
         ensures step { Step (state_of self.old.manager) command.entry result.answer result.told.items (state_of self.new.manager) }
         ensures caller { KeepsCaller command.entry (state_of self.old.manager) (state_of self.new.manager) }
         ensures refused { accepts command.entry result.answer ≡ false → (self.new ≡ self.old) × (share.new ≡ share.old) }
         ensures accepted { accepts command.entry result.answer ≡ true → (self.new.book ≡ self.old.book + 1) × (share.new ≡ share.old + 1) }
-        ensures boxes { Delivers self.old.boxes result.told.items self.new.boxes }
+        ensures boxes { (mid : List Slot) × Delivers self.old.boxes result.told.items mid × (self.new.boxes ≡ cleared command.entry result.answer mid) }
         ensures waited { accepts command.entry result.answer ≡ true → self.new.waited ≡ (self.old.waited || leaves_waiting result.answer) }
         ensures list { (self.new.list ≡ self.old.list) × (self.new.telling ≡ self.old.telling) }
         ensures calm { N.detect ≡ AtBlock → HasNoCycle (state_of self.new.manager) }
@@ -215,7 +214,7 @@ impl<N: Naming> Guarded<N> {
         ensures caller { KeepsCaller command.entry (state_of self.old.manager) (state_of self.new.manager) }
         ensures refused { accepts command.entry result ≡ false → (self.new ≡ self.old) × (share.new ≡ share.old) × (told.new.items ≡ []) }
         ensures accepted { accepts command.entry result ≡ true → (self.new.book ≡ self.old.book + 1) × (share.new ≡ share.old + 1) }
-        ensures boxes { Delivers self.old.boxes told.new.items self.new.boxes }
+        ensures boxes { (mid : List Slot) × Delivers self.old.boxes told.new.items mid × (self.new.boxes ≡ cleared command.entry result mid) }
         ensures rising { RisingTo 0 told.new.items 128 }
         ensures waited { accepts command.entry result ≡ true → self.new.waited ≡ (self.old.waited || leaves_waiting result) }
         ensures list { (self.new.list ≡ self.old.list) × (self.new.telling ≡ self.old.telling) }
@@ -229,11 +228,11 @@ impl<N: Naming> Guarded<N> {
         self.book.add(&mut share.token, 1);
         self.served += 1;
         self.waited |= leaves_waiting(&answer);
-        self.boxes.deliver(told.as_slice());
+        self.boxes.deliver(&command, told.as_slice());
         answer
     }
 
-    /// One lock command. Where it is accepted, the box of its slot is empty afterwards.
+    /// As `serve_telling`, of a lock.
     pub(crate) fn serve_lock(
         &mut self,
         share: &mut Share<N>,
@@ -253,28 +252,6 @@ impl<N: Naming> Guarded<N> {
         ensures list { (self.new.list ≡ self.old.list) × (self.new.telling ≡ self.old.telling) }
     {
         self.law();
-        let answer = self.serve_telling(share, Command::Lock { txn, node, mode }, told);
-        if !is_refused(&answer) {
-            self.boxes.empty(txn.slot);
-        }
-        answer
-    }
-
-    /// One command of a list. A lock's verdict is then its own, as after `serve_lock`.
-    pub(crate) fn serve_next(
-        &mut self,
-        share: &mut Share<N>,
-        command: Command<'_>,
-        told: &mut Told,
-    ) -> Answer
-        requires empty { told.old.items ≡ [] }
-        ensures served { ServesOne self.old command.entry result told.new.items self.new }
-        ensures share { share.new ≡ share.old + one_if (accepts command.entry result) }
-        ensures rising { RisingTo 0 told.new.items 128 }
-    {
-        match command {
-            Command::Lock { txn, node, mode } => self.serve_lock(share, txn, node, mode, told),
-            other => self.serve_telling(share, other, told),
-        }
+        self.serve_telling(share, Command::Lock { txn, node, mode }, told)
     }
 }

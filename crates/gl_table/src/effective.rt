@@ -10,8 +10,8 @@ ghost use Rattle.gl_table.specs.model.Lawful.{eff_s, eff_x, effect_on};
 ghost use Rattle.gl_listed.specs.Lists.{mode_of};
 
 use crate::answers::Effect;
-use gl_listed::LockList;
 use gl_graph::Graph;
+use gl_listed::LockList;
 use gl_modes::{Mode, NodeId, covers};
 use indexmap::IndexSet;
 use std::alloc::{AllocError, Global};

@@ -20,12 +20,12 @@ ghost use Rattle.gl_table.specs.inside.Slots.{CanTell, CanWake, IsBySlot, Wakes,
 
 use crate::answers::{Effect, LockRow, Told};
 use crate::effective::effective;
-use gl_listed::{Entry, LockList};
 use crate::seat::Seat;
 use crate::seats::Seats;
 use crate::txn::Status;
 use gl_graph::Graph;
 use gl_header::{GrantList, Headers};
+use gl_listed::{Entry, LockList};
 use gl_modes::{Mode, NodeId};
 use std::alloc::{AllocError, Global};
 

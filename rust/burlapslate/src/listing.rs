@@ -95,8 +95,8 @@ impl fmt::Display for LockRow {
 /// Who waits for a node.
 #[derive(Clone, Copy, PartialEq, Eq, Debug)]
 pub struct Waiter {
-    /// Its slot.
-    pub slot: usize,
+    /// Its name.
+    pub txn: Txn,
     /// The mode in which it wants the node.
     pub wants: Mode,
 }
@@ -104,7 +104,7 @@ pub struct Waiter {
 /// Slot and wanted mode.
 impl fmt::Display for Waiter {
     fn fmt(&self, f: &mut fmt::Formatter<'_>) -> fmt::Result {
-        write!(f, "{:>8} {}", self.slot, self.wants)
+        write!(f, "{:>8} {}", self.txn.slot(), self.wants)
     }
 }
 
@@ -254,10 +254,7 @@ impl Listing<'_> {
                 continue;
             };
             let queue: Vec<Waiter> = self.manager.queue(node).into_iter().flatten().collect();
-            if queue
-                .first()
-                .is_none_or(|first| first.slot != row.txn.slot())
-            {
+            if queue.first().is_none_or(|first| first.txn != row.txn) {
                 continue; // It is listed with the first who waits for it.
             }
             writeln!(f, "{}", self.named(node))?;

@@ -739,14 +739,11 @@ impl Manager {
 
     /// The nodes that a transaction holds or waits for, each once; none where it does not live.
     pub fn locks(&self, txn: Txn) -> impl Iterator<Item = LockRow> + '_ {
-        let wait = self.waiting(txn);
         let row = move |reply: Reply| LockRow {
             txn,
             node: reply.node,
             mode: Mode::of(reply.mode),
-            wants: wait
-                .filter(|wait| wait.node == reply.node)
-                .map(|wait| wait.mode),
+            wants: Some(Mode::of(reply.wanted)).filter(|mode| *mode != Mode::NL),
             children: reply.count,
         };
         (0..).map_while(move |place| {
@@ -779,7 +776,7 @@ impl Manager {
         Ok((0..len as usize).map(move |place| {
             let reply = answered_in_full(sys::bs_call_queue_at(&self.pinned.place, node, place));
             Waiter {
-                slot: reply.txn.slot(),
+                txn: reply.txn,
                 wants: Mode::of(reply.mode),
             }
         }))

@@ -104,6 +104,7 @@ pub(crate) struct Reply {
     pub(crate) released: u32,
     pub(crate) kept: u32,
     pub(crate) count: u64,
+    pub(crate) wanted: u32,
 }
 
 /// `bs_notice`.
@@ -407,6 +408,7 @@ impl Reply {
             released: 0,
             kept: 0,
             count: 0,
+            wanted: 0,
         }
     }
 }
@@ -440,7 +442,7 @@ mod layouts {
 
     #[test]
     fn replies() {
-        assert_eq!(room::<Reply>(), (56, 8));
+        assert_eq!(room::<Reply>(), (64, 8));
         assert_eq!(offset_of!(Reply, status), 0);
         assert_eq!(offset_of!(Reply, mode), 4);
         assert_eq!(offset_of!(Reply, node), 8);
@@ -448,6 +450,7 @@ mod layouts {
         assert_eq!(offset_of!(Reply, released), 40);
         assert_eq!(offset_of!(Reply, kept), 44);
         assert_eq!(offset_of!(Reply, count), 48);
+        assert_eq!(offset_of!(Reply, wanted), 56);
     }
 
     #[test]

@@ -416,7 +416,7 @@ fn listings() {
             );
             assert_eq!(m.mode_at(holder.slot(), s.low), Mode::X);
             let queue: Vec<_> = m.queue(s.low).unwrap().collect();
-            assert!(queue.len() == 1 && queue[0].slot == waiter.slot());
+            assert!(queue.len() == 1 && queue[0].txn == waiter);
             assert_eq!(m.counters().waited, 1);
             assert_eq!(m.counters().accepted, m.accepted());
             assert_eq!(m.most(), SLOTS);

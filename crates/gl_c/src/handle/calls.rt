@@ -79,7 +79,9 @@ impl Handle {
         }
     }
 
-    /// Carries out a command, and writes down whom it tells.
+    /// Carries out a command, and writes down whom it tells. Inlined, as all below it, so that a call for
+    /// one kind of command makes no choice.
+    #[inline(always)]
     pub(crate) fn carry_out(&mut self, command: Command<'_>, told: &mut Notices) -> Reply
         ensures { Carries (guarded_in self.old) command.entry result told.new (guarded_in self.new) }
     {
@@ -94,6 +96,7 @@ impl Handle {
     }
 
     /// Carries out a command that tells nobody.
+    #[inline(always)]
     pub(crate) fn ask(&mut self, command: Command<'_>) -> Reply
         ensures { Asks (guarded_in self.old) command.entry result (guarded_in self.new) }
     {

@@ -16,13 +16,13 @@ ghost use Rattle.gl_table.specs.model.State.{members, status_in, status_of};
 ghost use Rattle.gl_table.specs.declared.txn.Status.TheVariants.{Active};
 
 use crate::answers::Locked;
-use gl_listed::LockList;
 use crate::locks::Locks;
 use crate::rule::check_rule;
 use crate::seat::Seat;
 use crate::txn::Status;
 use gl_graph::Graph;
 use gl_header::Asked;
+use gl_listed::LockList;
 use gl_modes::{Mode, NodeId, Refusal, sup};
 
 /// Makes room in the list of a slot for one node more, and for the counts of its parents.

@@ -10,10 +10,10 @@ ghost use Rattle.gl_table.specs.inside.Slots.{AreApart, CanStrike, CanTell, Stri
 ghost use Rattle.gl_table.specs.declared.txn.Status.TheVariants.{Active};
 
 use crate::answers::Told;
-use gl_listed::LockList;
 use crate::locks::Locks;
 use gl_graph::Graph;
 use gl_header::GrantList;
+use gl_listed::LockList;
 use gl_modes::NodeId;
 
 /// Takes a node, of which no child is held, out of the list of a slot; each parent has one held

@@ -23,13 +23,13 @@ ghost use Rattle.gl_table.specs.inside.Seats.{txns_of};
 ghost use Rattle.gl_table.specs.inside.Slots.{AreApart, CanTell, IsBySlot, Strikes, counted_by, notices_in, room_by, unlisted_by};
 
 use crate::answers::{Notice, Told};
-use gl_listed::LockList;
 use crate::locks::Locks;
 use crate::rule::check_rule;
 use crate::told::tell;
 use crate::txn::{Status, TxnId};
 use arrayvec::ArrayVec;
 use gl_graph::Graph;
+use gl_listed::LockList;
 use gl_modes::{Mode, NodeId};
 use gl_waits::set::{take_lowest, with};
 

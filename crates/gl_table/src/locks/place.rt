@@ -16,7 +16,6 @@ ghost use Rattle.gl_table.specs.model.State.{members, status_of, with_grant};
 ghost use Rattle.gl_table.specs.declared.txn.Status.TheVariants.{Active};
 
 use crate::answers::{Notice, Told};
-use gl_listed::LockList;
 use crate::locks::Locks;
 use crate::locks::ask::make_room;
 use crate::locks::leave::strike;
@@ -25,6 +24,7 @@ use crate::told::tell;
 use crate::txn::{Status, TxnId};
 use gl_graph::Graph;
 use gl_header::Prepared;
+use gl_listed::LockList;
 use gl_modes::{Mode, NodeId, Refusal};
 
 /// Those who wait for a node that goes wait no more: they are active, their lists have it no more,

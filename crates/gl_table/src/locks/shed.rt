@@ -11,10 +11,10 @@ ghost use Rattle.gl_table.specs.inside.Slots.{CanTell, TellsOthers};
 ghost use Rattle.gl_table.specs.declared.txn.Status.TheVariants.{Active};
 
 use crate::answers::Told;
-use gl_listed::LockList;
 use crate::locks::Locks;
 use gl_graph::Graph;
 use gl_header::GrantList;
+use gl_listed::LockList;
 use gl_modes::NodeId;
 
 impl Locks {

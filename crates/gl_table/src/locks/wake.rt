@@ -5,10 +5,10 @@ ghost use Rattle.gl_header.specs.Header.{is_among_waiters};
 ghost use Rattle.gl_table.specs.inside.Slots.{AreApart, CanHold, CanWake, Holds, Wakes};
 
 use crate::answers::{Notice, Told};
-use gl_listed::LockList;
 use crate::seats::Seats;
 use crate::told::tell;
 use crate::txn::{Status, TxnId};
+use gl_listed::LockList;
 use gl_modes::{Mode, NodeId};
 
 /// A slot, whose list has the node, holds it in this mode. Where it did not hold it before, each

@@ -14,6 +14,7 @@ returns-clause-told c =
     let told = c.args.told.now in
     let before = c.args.boxes.now in
     let all : length told ≤ c.loop-txn.txn-index = omega arith in
-    let is : c.loop-txn.boxes ≡ fold put_in before told = c.loop-txn.invariant.0 ∙ ap (λ (l : List (TxnId × Notice)). fold put_in before l) (take_all c.loop-txn.txn-index told all) in
+    let is : c.loop-txn.boxes ≡ fold put_in before told = c.loop-txn.invariant.0 ∙
+    ap (λ (l : List (TxnId × Notice)). fold put_in before l) (take_all c.loop-txn.txn-index told all) in
     let many : 128 ≤ length before = search rules in
     subst (λ (b : List Slot). Delivers before told b) (sym is) (delivers 128 told before c.requires many)

@@ -16,4 +16,5 @@ returns-clause-all c =
     let told = c.args.told.now in
     let all : length told ≤ c.loop-txn.txn-index = omega arith in
     wakes_ended c.args.command.now told c.loop-txn.slots
-    (λ u less. c.loop-txn.invariant u less ∙ ap (λ (l : List (TxnId × Notice)). names_slot c.args.command.now u || list_any (λ x. x.0.slot == u) l) (take_all c.loop-txn.txn-index told all))
+    (λ u less. c.loop-txn.invariant u less ∙ ap (λ (l : List (TxnId × Notice)). names_slot c.args.command.now u || list_any (λ x. x.0.slot == u) l)
+    (take_all c.loop-txn.txn-index told all))

@@ -2,7 +2,7 @@ use Rattle.std.proofs.Common.{arith, ◌≡◌, ◌∙◌, true, ap, length, ref
 use Rattle.std.specs.List.{list_all}
 use Rattle.gl_catalog.specs.declared.command.Answer.{Answer}
 use Rattle.gl_shared.specs.Batches.{Serves, Stops, goes_on}
-use Rattle.gl_shared.proofs.Batches.{accepted_none, all_more, one_longer, serves_next, serves_none, share_more, stops_here, stops_whole}
+use Rattle.gl_shared.proofs.Batches.{accepted_none, all_more, counted_if, one_longer, serves_next, serves_none, serves_one, share_more, stops_here, stops_whole}
 use Rattle.gl_catalog.proofs.StepsKeepLaw.{steps_keep_law}
 use Rattle.gl_boxes.proofs.Waking.{ended_more, ended_none, wakes_told}
 use Rattle.gl_shared.proofs.batch.serve_all.Goals as goal
@@ -35,28 +35,36 @@ push_reserved-requires g c =
 pub loop-command-preserved : goal.loop-command-preserved
 loop-command-preserved g c =
     let cs = c.args.commands.now in
+    let e = c.serve_telling-answer.ensures in
+    let one = serves_one _ _ _ _ _ e.step (λ no. ((e.refused no).0, (e.refused no).2)) (λ yes. (e.accepted yes).0) e.boxes e.waited e.list in
     let so_far = c.loop-command.answers.items in
     let inv = c.loop-command.invariant in
     let items = c.push_reserved.ensures.items in
     let room = c.push_reserved.ensures.capacity in
     record {
-      ran = subst (λ (l : List Answer). Serves c.args.guarded.now cs l c.serve_next-answer.new.self) (sym items)
-          (serves_next _ _ _ cs so_far c.loop-command.command-index _ c.serve_next-answer.result _ inv.answered c.loop-command-test.true inv.ran c.serve_next-answer.ensures.served);
-      answered = ap length items ∙ one_longer so_far c.serve_next-answer.result c.loop-command.command-index inv.answered;
+      ran = subst (λ (l : List Answer). Serves c.args.guarded.now cs l c.serve_telling-answer.new.self) (sym items)
+          (serves_next _ _ _ cs so_far c.loop-command.command-index _ c.serve_telling-answer.result _ inv.answered c.loop-command-test.true inv.ran one);
+      answered = ap length items ∙ one_longer so_far c.serve_telling-answer.result c.loop-command.command-index inv.answered;
       room = room ∙ inv.room;
-      on = subst (λ (l : List Answer). list_all goes_on l ≡ true) (sym items) (all_more so_far c.serve_next-answer.result inv.on (sym c.goes_on-last.ensures ∙ c.if-last.false));
-      share = share_more cs so_far _ c.loop-command.command-index _ c.serve_next-answer.result _ _ _ inv.answered c.loop-command-test.true items c.serve_next-answer.ensures.share inv.share;
-      book = share_more cs so_far _ c.loop-command.command-index _ c.serve_next-answer.result _ _ _ inv.answered c.loop-command-test.true items c.serve_next-answer.ensures.served.book inv.book;
-      list = c.serve_next-answer.ensures.served.list.0 ∙ inv.list;
-      lawful = λ law. steps_keep_law _ _ _ _ _ (inv.lawful law) c.serve_next-answer.ensures.served.step;
-      ended = ended_more _ _ _ _ _ _ _ _ inv.lawful inv.ended (wakes_told _ _ _ _ c.as_slice.ensures.value c.ended_by-ended.ensures.all) c.serve_next-answer.ensures.served.step;
+      on = subst (λ (l : List Answer). list_all goes_on l ≡ true) (sym items)
+          (all_more so_far c.serve_telling-answer.result inv.on (sym c.goes_on-last.ensures ∙ c.if-last.false));
+      share = share_more cs so_far _ c.loop-command.command-index _ c.serve_telling-answer.result _ _ _ inv.answered c.loop-command-test.true items
+          (counted_if _ _ _ (λ no. (e.refused no).1) (λ yes. (e.accepted yes).1)) inv.share;
+      book = share_more cs so_far _ c.loop-command.command-index _ c.serve_telling-answer.result _ _ _ inv.answered c.loop-command-test.true items one.book
+          inv.book;
+      list = e.list.0 ∙ inv.list;
+      lawful = λ law. steps_keep_law _ _ _ _ _ (inv.lawful law) e.step;
+      ended = ended_more _ _ _ _ _ _ _ _ inv.lawful inv.ended (wakes_told _ _ _ _ c.as_slice.ensures.value c.ended_by-ended.ensures.all) e.step;
     }
 
 pub returns-then-last-clause-run : goal.returns-then-last-clause-run
 returns-then-last-clause-run g c =
     let inv = c.loop-command.invariant in
-    subst (λ (l : List Answer). Serves c.args.guarded.now c.args.commands.now l c.serve_next-answer.new.self) (sym c.push_reserved.ensures.items)
-    (serves_next _ _ _ c.args.commands.now c.loop-command.answers.items c.loop-command.command-index _ c.serve_next-answer.result _ inv.answered c.loop-command-test.true inv.ran c.serve_next-answer.ensures.served)
+    let e = c.serve_telling-answer.ensures in
+    subst (λ (l : List Answer). Serves c.args.guarded.now c.args.commands.now l c.serve_telling-answer.new.self) (sym c.push_reserved.ensures.items)
+    (serves_next _ _ _ c.args.commands.now c.loop-command.answers.items c.loop-command.command-index _ c.serve_telling-answer.result _ inv.answered
+    c.loop-command-test.true inv.ran (serves_one _ _ _ _ _ e.step (λ no. ((e.refused no).0, (e.refused no).2)) (λ yes. (e.accepted yes).0) e.boxes e.waited
+    e.list))
 
 pub returns-then-last-clause-stops : goal.returns-then-last-clause-stops
 returns-then-last-clause-stops g c =
@@ -64,25 +72,32 @@ returns-then-last-clause-stops g c =
     let answered = inv.answered in
     let below = c.loop-command-test.true in
     subst (λ (l : List Answer). Stops c.args.commands.now l) (sym c.push_reserved.ensures.items)
-    (stops_here c.args.commands.now c.loop-command.answers.items c.serve_next-answer.result inv.on (omega (arith, answered, below)) (sym c.goes_on-last.ensures ∙ c.if-last.true))
+    (stops_here c.args.commands.now c.loop-command.answers.items c.serve_telling-answer.result inv.on (omega (arith, answered, below))
+    (sym c.goes_on-last.ensures ∙ c.if-last.true))
 
 pub returns-then-last-clause-share : goal.returns-then-last-clause-share
 returns-then-last-clause-share g c =
     let inv = c.loop-command.invariant in
-    share_more c.args.commands.now c.loop-command.answers.items _ c.loop-command.command-index _ c.serve_next-answer.result _ _ _ inv.answered c.loop-command-test.true c.push_reserved.ensures.items c.serve_next-answer.ensures.share inv.share
+    let e = c.serve_telling-answer.ensures in
+    share_more c.args.commands.now c.loop-command.answers.items _ c.loop-command.command-index _ c.serve_telling-answer.result _ _ _ inv.answered
+    c.loop-command-test.true c.push_reserved.ensures.items (counted_if _ _ _ (λ no. (e.refused no).1) (λ yes. (e.accepted yes).1)) inv.share
 
 pub returns-then-last-clause-book : goal.returns-then-last-clause-book
 returns-then-last-clause-book g c =
     let inv = c.loop-command.invariant in
-    share_more c.args.commands.now c.loop-command.answers.items _ c.loop-command.command-index _ c.serve_next-answer.result _ _ _ inv.answered c.loop-command-test.true c.push_reserved.ensures.items c.serve_next-answer.ensures.served.book inv.book
+    let e = c.serve_telling-answer.ensures in
+    share_more c.args.commands.now c.loop-command.answers.items _ c.loop-command.command-index _ c.serve_telling-answer.result _ _ _ inv.answered
+    c.loop-command-test.true c.push_reserved.ensures.items
+    (serves_one _ _ _ _ _ e.step (λ no. ((e.refused no).0, (e.refused no).2)) (λ yes. (e.accepted yes).0) e.boxes e.waited e.list).book inv.book
 
 pub returns-then-last-clause-ended : goal.returns-then-last-clause-ended
 returns-then-last-clause-ended g c =
     let inv = c.loop-command.invariant in
-    ended_more _ _ _ _ _ _ _ _ inv.lawful inv.ended (wakes_told _ _ _ _ c.as_slice.ensures.value c.ended_by-ended.ensures.all) c.serve_next-answer.ensures.served.step
+    ended_more _ _ _ _ _ _ _ _ inv.lawful inv.ended (wakes_told _ _ _ _ c.as_slice.ensures.value c.ended_by-ended.ensures.all)
+    c.serve_telling-answer.ensures.step
 
 pub returns-then-last-clause-list : goal.returns-then-last-clause-list
-returns-then-last-clause-list g c = c.serve_next-answer.ensures.served.list.0 ∙ c.loop-command.invariant.list
+returns-then-last-clause-list g c = c.serve_telling-answer.ensures.list.0 ∙ c.loop-command.invariant.list
 
 pub returns-clause-run : goal.returns-clause-run
 returns-clause-run g c = c.loop-command.invariant.ran

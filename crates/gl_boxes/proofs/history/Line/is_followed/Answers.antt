@@ -17,6 +17,7 @@ returns c =
     let it : c.other.inside.seen.log ≡ theirs = ap (λ (v : Strip). v.list) c.other.view_is in
     let len' : length theirs ≡ length mine + 1 = sym (ap length it) ∙ (len ∙ ap (λ (l : List Board). length l + 1) me) in
     let same : arc_value c.other.inside.board ≡ c.args.board.now = search rules in
-    let ends : Ends theirs c.args.board.now = subst (λ (l : List Board). Ends l c.args.board.now) it (subst (Ends c.other.inside.seen.log) same c.other.invariant.1) in
+    let ends : Ends theirs c.args.board.now = subst (λ (l : List Board). Ends l c.args.board.now) it
+    (subst (Ends c.other.inside.seen.log) same c.other.invariant.1) in
     let pre : IsPrefix mine theirs = prefix_shorter mine theirs c.beside.ensures.0 c.beside.ensures.1 c.beside.ensures.2 (omega (arith, len')) in
     λ _. follows mine theirs c.args.board.now pre len' ends

@@ -4,9 +4,10 @@ use Rattle.gl_table.specs.declared.txn.TxnId.{TxnId}
 use Rattle.gl_boxes.specs.Served.{RisingTo, accepts}
 use Rattle.gl_table.specs.model.State.{State}
 use Rattle.gl_catalog.proofs.Detection.{steps_keep_detect}
-use Rattle.gl_boxes.specs.Boxes.{Delivers, Slot}
+use Rattle.gl_boxes.specs.Boxes.{Delivers, Slot, cleared, emptied}
 use Rattle.gl_shared.specs.State.{GuardedView}
 use Rattle.gl_shared.proofs.Idle.{quiet_on}
+use Rattle.gl_boxes.proofs.Clearing.{cleared_not, cleared_yes}
 use Rattle.gl_boxes.proofs.Notices.{delivers_none}
 use Rattle.gl_boxes.proofs.Rising.{step_rises}
 use Rattle.gl_boxes.proofs.Serving.{step_counts}
@@ -31,7 +32,8 @@ deliver-requires g c =
 pub invariant_of-self : goal.invariant_of-self
 invariant_of-self g c =
     let no : accepts c.args.command c.apply_telling-answer.result ≡ false = search rules in
-    let same = c.apply_telling-answer.ensures.same (ap (λ (s : State). s.accepted) ((step_counts _ _ _ _ _ c.apply_telling-answer.ensures.step).not_accepted no).0) in
+    let same = c.apply_telling-answer.ensures.same (ap (λ (s : State). s.accepted)
+    ((step_counts _ _ _ _ _ c.apply_telling-answer.ensures.step).not_accepted no).0) in
     rw same c.self.invariant
 
 pub returns-then-not-is_accepted-clause-refused : goal.returns-then-not-is_accepted-clause-refused
@@ -44,9 +46,21 @@ returns-then-not-is_accepted-clause-refused g c =
 pub returns-then-not-is_accepted-clause-boxes : goal.returns-then-not-is_accepted-clause-boxes
 returns-then-not-is_accepted-clause-boxes g c =
     let no : accepts c.args.command c.apply_telling-answer.result ≡ false = search rules in
+    let told = c.apply_telling-answer.new.told.items in
     let still = (step_counts _ _ _ _ _ c.apply_telling-answer.ensures.step).not_accepted no in
-    subst (λ (b : List Slot). Delivers b c.apply_telling-answer.new.told.items c.self.inside.boxes) (ap (λ (v : GuardedView). v.boxes) c.self.view_is)
-    (delivers_none c.apply_telling-answer.new.told.items c.self.inside.boxes still.1)
+    let same = ap (λ (v : GuardedView). v.boxes) c.self.view_is in
+    subst (λ (b : List Slot). (mid : List Slot) × Delivers b told mid × (c.self.inside.boxes ≡ cleared c.args.command c.apply_telling-answer.result mid)) same
+    (c.self.inside.boxes, delivers_none told c.self.inside.boxes still.1, sym (cleared_not c.args.command c.apply_telling-answer.result c.self.inside.boxes no))
+
+pub returns-clause-boxes : goal.returns-clause-boxes
+returns-clause-boxes g c =
+    let yes : accepts c.args.command c.apply_telling-answer.result ≡ true = search rules in
+    let told = c.apply_telling-answer.new.told.items in
+    let same = ap (λ (v : GuardedView). v.boxes) c.self.view_is in
+    subst (λ (b : List Slot). (mid : List Slot) × Delivers b told mid × (c.deliver.new.self ≡ cleared c.args.command c.apply_telling-answer.result mid)) same
+    (cleared_yes c.args.command c.apply_telling-answer.result told c.self.inside.boxes c.deliver.new.self yes
+    (subst (λ (l : List (TxnId × Notice)). (mid : List Slot) × Delivers c.self.inside.boxes l mid × (c.deliver.new.self ≡ emptied c.args.command mid))
+    c.as_slice.ensures.value c.deliver.ensures.told))
 
 pub invariant_of-self-2 : goal.invariant_of-self-2
 invariant_of-self-2 g c =
