@@ -49,7 +49,7 @@ build_over_kept() {
     --links gl_c= --toolchain "$kit/toolchain" --backend llvm --jobs 2 -o "$library"
 }
 
-if [ ! -e "$library" ] || [ -n "$(sources -newer "$library" -quit)" ]; then
+if [ ! -e "$library" ] || [ -n "$(sources -newer "$library" | head -n 1)" ]; then
   build_over_kept >&2 || (cd "$top/crates/gl_c" && rt lib) >&2 || exit 1
 fi
 printf '%s\n%s\n' "$library" "$kit/c/liblibc_c.a"

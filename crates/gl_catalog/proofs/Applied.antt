@@ -30,19 +30,23 @@ use Rattle.gl_catalog.proofs.EscalateEffects.{escalate_lowers_none}
 use Rattle.gl_catalog.proofs.Uncounted.{refusal_counted}
 
 -- a call that is a step and tells nobody leaves the list empty
-pub quiet : {A : Type 0} (answers : A → Answer) (s s' : State) (c c' : Command) (result : Result A Refusal) (a : Answer) (list : Notices) → CallSteps s c (λ x. (answers x, [])) result s' → a ≡ (said (λ x. (answers x, [])) result).0
+pub quiet : {A : Type 0} (answers : A → Answer) (s s' : State) (c c' : Command) (result : Result A Refusal) (a : Answer) (list : Notices)
+    → CallSteps s c (λ x. (answers x, [])) result s' → a ≡ (said (λ x. (answers x, [])) result).0
     → list.items ≡ [] → c' ≡ c → Step s c' a list.items s'
 quiet answers s s' c c' (Ok x) a list step same empty is = coe 0 1 (i. Step s (sym is i) (sym same i) (sym empty i) s') step
 quiet answers s s' c c' (Err r) a list step same empty is = coe 0 1 (i. Step s (sym is i) (sym same i) (sym empty i) s') step
 
 -- a call that is a step and tells somebody fills the list, which stays empty where the call is refused
-pub fills : {A : Type 0} (answers : A → Answer) (s s' : State) (c c' : Command) (result : Result A Refusal) (a : Answer) (list before : Notices) → CallSteps s c (λ x. (answers x, list.items)) result s' → a ≡ (said (λ x. (answers x, [])) result).0
+pub fills : {A : Type 0} (answers : A → Answer) (s s' : State) (c c' : Command) (result : Result A Refusal) (a : Answer) (list before : Notices)
+    → CallSteps s c (λ x. (answers x, list.items)) result s' → a ≡ (said (λ x. (answers x, [])) result).0
     → OnErr result (list ≡ before) → before.items ≡ [] → c' ≡ c → Step s c' a list.items s'
 fills answers s s' c c' (Ok x) a list before step same kept empty is = coe 0 1 (i. Step s (sym is i) (sym same i) list.items s') step
-fills answers s s' c c' (Err r) a list before step same kept empty is = coe 0 1 (i. Step s (sym is i) (sym same i) (sym (ap (λ (l : Notices). l.items) kept ∙ empty) i) s') step
+fills answers s s' c c' (Err r) a list before step same kept empty is = coe 0 1 (i. Step s (sym is i) (sym same i) (sym (ap (λ
+    (l : Notices). l.items) kept ∙ empty) i) s') step
 
 -- what a call completes, with its answer
-module _ {A : Type 0} (answers : A → Answer) (v v' : ManagerView) (c c' : Command) (list : Told) (result : Result A Refusal) (completes : IfOk result (λ x. Completes c v (answers x, list) v')) (err : OnErr result (v' ≡ v)) where
+module _ {A : Type 0} (answers : A → Answer) (v v' : ManagerView) (c c' : Command) (list : Told) (result : Result A Refusal) (completes : IfOk result
+    (λ x. Completes c v (answers x, list) v')) (err : OnErr result (v' ≡ v)) where
   -- where the count stays, the call was refused
   pub uncounted : v'.accepted ≡ v.accepted → v' ≡ v
   uncounted = by result completes err
@@ -52,18 +56,22 @@ module _ {A : Type 0} (answers : A → Answer) (v v' : ManagerView) (c c' : Comm
       by (Err r) done was e = was
 
   -- what it keeps of deadlocks
-  pub keeps_answered : (a : Answer) → ((x : A) → KeepsAccepted c v v' → KeepsDeadlock c v (answers x) v') → a ≡ (said (λ x. (answers x, [])) result).0 → c' ≡ c → KeepsDeadlock c' v a v'
+  pub keeps_answered : (a : Answer) → ((x : A) → KeepsAccepted c v v' → KeepsDeadlock c v (answers x) v') → a ≡ (said (λ x. (answers x, [])) result).0
+      → c' ≡ c → KeepsDeadlock c' v a v'
   keeps_answered a goes same is = by result completes err same
     where
-      by : (r : Result A Refusal) → IfOk r (λ x. Completes c v (answers x, list) v') → OnErr r (v' ≡ v) → a ≡ (said (λ x. (answers x, [])) r).0 → KeepsDeadlock c' v a v'
+      by : (r : Result A Refusal) → IfOk r (λ x. Completes c v (answers x, list) v') → OnErr r (v' ≡ v) → a ≡ (said (λ x. (answers x, [])) r).0
+          → KeepsDeadlock c' v a v'
       by (Ok x) done was e = coe 0 1 (i. KeepsDeadlock (sym is i) v (sym e i) v') (goes x done.deadlock)
       by (Err r) done was e = coe 0 1 (i. KeepsDeadlock (sym is i) v (sym e i) v') (ap (λ w. w.table.deadlock) was)
 
   -- and what it counts
-  pub counts_answered : (a : Answer) → OnErr result (list ≡ []) → a ≡ (said (λ x. (answers x, [])) result).0 → c' ≡ c → v'.counters ≡ counted (state_of v) c' a list (state_of v') v.counters
+  pub counts_answered : (a : Answer) → OnErr result (list ≡ []) → a ≡ (said (λ x. (answers x, [])) result).0 → c' ≡ c
+      → v'.counters ≡ counted (state_of v) c' a list (state_of v') v.counters
   counts_answered a quiet same is = by result completes err quiet same
     where
-      by : (r : Result A Refusal) → IfOk r (λ x. Completes c v (answers x, list) v') → OnErr r (v' ≡ v) → OnErr r (list ≡ []) → a ≡ (said (λ x. (answers x, [])) r).0
+      by : (r : Result A Refusal) → IfOk r (λ x. Completes c v (answers x, list) v') → OnErr r (v' ≡ v) → OnErr r (list ≡ [])
+          → a ≡ (said (λ x. (answers x, [])) r).0
           → v'.counters ≡ counted (state_of v) c' a list (state_of v') v.counters
       by (Ok x) done was empty e = coe 0 1 (i. v'.counters ≡ counted (state_of v) (sym is i) (sym e i) list (state_of v') v.counters) done.counters
       by (Err r) done was empty e =
@@ -71,7 +79,8 @@ module _ {A : Type 0} (answers : A → Answer) (v v' : ManagerView) (c c' : Comm
           (ap (λ w. w.counters) was ∙ sym (refusal_counted (state_of v) (state_of v') c' r v.counters))
 
   -- by a list that it filled, and that stays empty where it is refused
-  pub list_counts : (a : Answer) (before after : Notices) → OnErr result (after ≡ before) → before.items ≡ [] → after.items ≡ list → a ≡ (said (λ x. (answers x, [])) result).0 → c' ≡ c
+  pub list_counts : (a : Answer) (before after : Notices) → OnErr result (after ≡ before) → before.items ≡ [] → after.items ≡ list
+      → a ≡ (said (λ x. (answers x, [])) result).0 → c' ≡ c
       → v'.counters ≡ counted (state_of v) c' a list (state_of v') v.counters
   list_counts a before after kept empty its same is = counts_answered a (by result kept) same is
     where
@@ -80,11 +89,13 @@ module _ {A : Type 0} (answers : A → Answer) (v v' : ManagerView) (c c' : Comm
       by (Err r) h = sym its ∙ ap (λ (l : Notices). l.items) h ∙ empty
 
 -- a call that tells nobody leaves the list empty
-module _ {A : Type 0} (answers : A → Answer) (v v' : ManagerView) (c c' : Command) (list : Told) (result : Result A Refusal) (completes : IfOk result (λ x. Completes c v (answers x, []) v')) (err : OnErr result (v' ≡ v)) where
+module _ {A : Type 0} (answers : A → Answer) (v v' : ManagerView) (c c' : Command) (list : Told) (result : Result A Refusal) (completes : IfOk result
+    (λ x. Completes c v (answers x, []) v')) (err : OnErr result (v' ≡ v)) where
   abbrev nobody : Told
   nobody = []
 
-  pub quiet_counts : (a : Answer) (told : Notices) → told.items ≡ [] → a ≡ (said (λ x. (answers x, [])) result).0 → c' ≡ c → v'.counters ≡ counted (state_of v) c' a told.items (state_of v') v.counters
+  pub quiet_counts : (a : Answer) (told : Notices) → told.items ≡ [] → a ≡ (said (λ x. (answers x, [])) result).0 → c' ≡ c
+      → v'.counters ≡ counted (state_of v) c' a told.items (state_of v') v.counters
   quiet_counts a told empty same is =
       subst (λ (l : Told). v'.counters ≡ counted (state_of v) c' a l (state_of v') v.counters) (sym empty)
       (counts_answered answers v v' c c' [] result completes err a (by result) same is)
@@ -95,20 +106,32 @@ module _ {A : Type 0} (answers : A → Answer) (v v' : ManagerView) (c c' : Comm
 
 -- a query counts nothing
 pub asked_counts : {A : Type 0} (answers : A → Answer) (s s' : State) (c c' : Command) (result : Result A Refusal) (a : Answer) (told : Notices) (k : Counters)
-    → ((x : A) → counted s c (answers x) [] s' k ≡ k) → told.items ≡ [] → a ≡ (said (λ x. (answers x, [])) result).0 → c' ≡ c → k ≡ counted s c' a told.items s' k
+    → ((x : A) → counted s c (answers x) [] s' k ≡ k) → told.items ≡ [] → a ≡ (said (λ x. (answers x, [])) result).0 → c' ≡ c
+    → k ≡ counted s c' a told.items s' k
 asked_counts answers s s' c c' (Ok x) a told k none empty same is = coe 0 1 (i. k ≡ counted s (sym is i) (sym same i) (sym empty i) s' k) (sym (none x))
-asked_counts answers s s' c c' (Err r) a told k none empty same is = coe 0 1 (i. k ≡ counted s (sym is i) (sym same i) (sym empty i) s' k) (sym (refusal_counted s s' c r k))
+asked_counts answers s s' c c' (Err r) a told k none empty same is = coe 0 1 (i. k ≡ counted s (sym is i) (sym same i) (sym empty i) s' k) (sym
+    (refusal_counted s s' c r k))
 
 -- an insert completes its command
-pub insert_completes : (v v' : ManagerView) (t : TxnId) (f : NodeId) (keys : Bor (List ℕ)) (result : Result NodeId Refusal) → OnOk result (KeepsAccepted (command.Insert t f keys) v v')
+pub insert_completes : (v v' : ManagerView) (t : TxnId) (f : NodeId) (keys : Bor (List ℕ)) (result : Result NodeId Refusal)
+    → OnOk result (KeepsAccepted (command.Insert t f keys) v v')
     → StepLeavesOthers (state_of v) (command.Insert t f keys) (said made result) (state_of v') → OnOk result (v'.accepted ≡ v.accepted + 1)
     → v'.counters ≡ counted (state_of v) (command.Insert t f keys) (said made result).0 (said made result).1 (state_of v') v.counters
     → IfOk result (λ n. Completes (command.Insert t f keys) v (made n) v')
-insert_completes v v' t f keys (Ok n) deadlock others accepted counters = record { accepted = accepted; counters = counters; deadlock = deadlock; caller = tt; others = others; settles = tt }
+insert_completes v v' t f keys (Ok n) deadlock others accepted counters = record {
+  accepted = accepted;
+  counters = counters;
+  deadlock = deadlock;
+  caller =
+      tt;
+  others = others;
+  settles = tt;
+}
 insert_completes v v' t f keys (Err r) deadlock others accepted counters = tt
 
 -- a query keeps what was kept
-pub keeps_asked : {A : Type 0} (answers : A → Answer) (v : ManagerView) (c c' : Command) (result : Result A Refusal) (a : Answer) → ((x : A) → KeepsDeadlock c v (answers x) v) → a ≡ (said (λ x. (answers x, [])) result).0 → c' ≡ c → KeepsDeadlock c' v a v
+pub keeps_asked : {A : Type 0} (answers : A → Answer) (v : ManagerView) (c c' : Command) (result : Result A Refusal) (a : Answer) → ((x : A)
+    → KeepsDeadlock c v (answers x) v) → a ≡ (said (λ x. (answers x, [])) result).0 → c' ≡ c → KeepsDeadlock c' v a v
 keeps_asked answers v c c' (Ok x) a goes same is = coe 0 1 (i. KeepsDeadlock (sym is i) v (sym same i) v) (goes x)
 keeps_asked answers v c c' (Err r) a goes same is = coe 0 1 (i. KeepsDeadlock (sym is i) v (sym same i) v) refl
 
@@ -127,21 +150,25 @@ keeps_caller c s s' a told law step = tt
 
 module _ {A : Type 0} (says : A → Says) (c : Command) (s : State) where
   -- a query is answered with its value
-  pub answered_step : (x : A) (result : Result A Refusal) → result ≡ answered (refusal_of s c) x → query_answer s c ≡ Some (says x).0 → (says x).1 ≡ [] → CallSteps s c says result s
+  pub answered_step : (x : A) (result : Result A Refusal) → result ≡ answered (refusal_of s c) x → query_answer s c ≡ Some (says x).0 → (says x).1 ≡ []
+      → CallSteps s c says result s
   answered_step x result is value quiet = subst (λ (r : Result A Refusal). CallSteps s c says r s) (sym is) (by (refusal_of s c) refl)
     where
       by : (o : Option Refusal) → refusal_of s c ≡ o → CallSteps s c says (answered o x) s
       by (Some r) e = refused_step says c s r e
       by None e =
-          inl (subst (λ o. Goes s c o (says x).0 (says x).1 s) (sym e) (subst (λ q. Answers s c q (says x).0 (says x).1 s) (sym value) (record { answer_is = refl; nobody_told = quiet; same = refl })))
+          inl (subst (λ o. Goes s c o (says x).0 (says x).1 s) (sym e) (subst (λ q. Answers s c q (says x).0 (says x).1 s) (sym value)
+          (record { answer_is = refl; nobody_told = quiet; same = refl })))
 
   -- or is refused, maybe for want of memory
-  pub asked_step : (v : A) (result : Result A Refusal) → Refuses (refusal_of s c) result → IfOk result (λ x. x ≡ v) → query_answer s c ≡ Some (says v).0 → (says v).1 ≡ [] → lists_memory s c ≡ true → CallSteps s c says result s
+  pub asked_step : (v : A) (result : Result A Refusal) → Refuses (refusal_of s c) result → IfOk result (λ x. x ≡ v) → query_answer s c ≡ Some (says v).0
+      → (says v).1 ≡ [] → lists_memory s c ≡ true → CallSteps s c says result s
   asked_step v result refuses ok value quiet lists = by (refusal_of s c) refl result refuses ok
     where
       by : (o : Option Refusal) → refusal_of s c ≡ o → (r : Result A Refusal) → Refuses o r → IfOk r (λ x. x ≡ v) → CallSteps s c says r s
       by (Some y) e r is ok' = subst (λ (z : Result A Refusal). CallSteps s c says z s) (sym is) (refused_step says c s y e)
       by None e (Ok x) is ok' =
           subst (λ (z : A). CallSteps s c says (Ok z) s) (sym ok')
-          (inl (subst (λ o. Goes s c o (says v).0 (says v).1 s) (sym e) (subst (λ q. Answers s c q (says v).0 (says v).1 s) (sym value) (record { answer_is = refl; nobody_told = quiet; same = refl }))))
+          (inl (subst (λ o. Goes s c o (says v).0 (says v).1 s) (sym e) (subst (λ q. Answers s c q (says v).0 (says v).1 s) (sym value)
+          (record { answer_is = refl; nobody_told = quiet; same = refl }))))
       by None e (Err r) is ok' = memory_step says c s r (ap₂ (λ l o. l && (is_none o || is_cycle o)) lists e) is

@@ -22,7 +22,8 @@ use Rattle.gl_catalog.specs.declared.command.Command.TheVariants as command
 use Rattle.gl_catalog.specs.declared.command.Escalated.{Escalated}
 use Rattle.gl_catalog.specs.declared.counters.Counters.{Counters}
 use Rattle.gl_catalog.specs.Completes.{Completes}
-use Rattle.gl_catalog.specs.Counters.{condemns, counted, grants, holds_already, is_gone, is_grant, is_moved, is_victim, lock_counted, one_if, rises, waiting_in, waits, with_notices}
+use Rattle.gl_catalog.specs.Counters.{condemns, counted, grants, holds_already, is_gone, is_grant, is_moved, is_victim, lock_counted, one_if, rises}
+use Rattle.gl_catalog.specs.Counters.{waiting_in, waits, with_notices}
 use Rattle.gl_catalog.specs.Deadlocks.{KeepsAccepted}
 use Rattle.gl_catalog.specs.Manager.{IsLawfulManager, ManagerView, state_of}
 use Rattle.gl_catalog.specs.Replies.{Says}
@@ -34,7 +35,8 @@ use Rattle.gl_catalog.proofs.NotRefused.{txn_lives}
 use Rattle.gl_catalog.proofs.RunsOn.{step_leaves_others}
 
 -- a step that was counted, and kept what it is to keep of deadlocks, completes its command
-pub completed : (v v' : ManagerView) → IsLawfulManager v → (c : Command) (r : Says) → Step (state_of v) c r.0 r.1 (state_of v') → KeepsAccepted c v v' → v'.accepted ≡ v.accepted + 1
+pub completed : (v v' : ManagerView) → IsLawfulManager v → (c : Command) (r : Says) → Step (state_of v) c r.0 r.1 (state_of v') → KeepsAccepted c v v'
+    → v'.accepted ≡ v.accepted + 1
     → v'.counters ≡ counted (state_of v) c r.0 r.1 (state_of v') v.counters → Completes c v r v'
 completed v v' law c r step deadlock accepted counters = record {
   accepted = accepted;
@@ -48,14 +50,16 @@ completed v v' law c r step deadlock accepted counters = record {
 -- the manager before a call: as its fields are, and as a contract sees them
 module _ (inside v v' : ManagerView) (view_is : inside ≡ v) (law : IsLawfulManager inside) (c : Command) (accepted : v'.accepted ≡ inside.accepted + 1) where
   -- a call that counts nothing
-  pub quiet_completed : (r : Says) → Step (state_of v) c r.0 r.1 (state_of v') → KeepsAccepted c v v' → v'.counters ≡ inside.counters → ((k : Counters) → counted (state_of v) c r.0 r.1 (state_of v') k ≡ k)
+  pub quiet_completed : (r : Says) → Step (state_of v) c r.0 r.1 (state_of v') → KeepsAccepted c v v' → v'.counters ≡ inside.counters → ((k : Counters)
+      → counted (state_of v) c r.0 r.1 (state_of v') k ≡ k)
       → Completes c v r v'
   quiet_completed r step deadlock kept counts =
       completed v v' (subst IsLawfulManager view_is law) c r step deadlock (accepted ∙ ap (λ (m : ManagerView). m.accepted + 1) view_is)
       (kept ∙ ap (λ (m : ManagerView). m.counters) view_is ∙ sym (counts v.counters))
 
   -- a call that counts its notices
-  pub told_completed : (a : Answer) (told list : Told) → Step (state_of v) c a told (state_of v') → KeepsAccepted c v v' → list ≡ told → v'.counters ≡ with_notices list inside.counters
+  pub told_completed : (a : Answer) (told list : Told) → Step (state_of v) c a told (state_of v') → KeepsAccepted c v v' → list ≡ told
+      → v'.counters ≡ with_notices list inside.counters
       → ((k : Counters) → counted (state_of v) c a told (state_of v') k ≡ with_notices told k) → Completes c v (a, told) v'
   told_completed a told list step deadlock same noted counts =
       completed v v' (subst IsLawfulManager view_is law) c (a, told) step deadlock (accepted ∙ ap (λ (m : ManagerView). m.accepted + 1) view_is)
@@ -95,7 +99,8 @@ notices_counted told k = λ i. record {
 
 -- an escalation, and then its notices
 pub escalation_counted : (s s' : State) (t : TxnId) (n : NodeId) (x : Escalated) (told : Told) (k : Counters)
-    → counted s (command.Escalate t n) (answer.Escalated x) told s' k ≡ with_notices told (record k { escalations = rises k.escalations 1; released_children = rises k.released_children x.released })
+    → counted s (command.Escalate t n) (answer.Escalated x) told s' k ≡ with_notices told
+    (record k { escalations = rises k.escalations 1; released_children = rises k.released_children x.released })
 escalation_counted s s' t n x told k = λ i. record {
   granted = rises_none k.granted i;
   waited = rises_none k.waited i;
@@ -115,7 +120,11 @@ escalation_counted s s' t n x told k = λ i. record {
 
 -- a try that was granted
 pub try_counted : (s s' : State) (t : TxnId) (n : NodeId) (m asked : Mode) (converts : Bool) (k : Counters) → converts ≡ holds_already s t n
-    → counted s (command.Try t n asked) (answer.Granted m) [] s' k ≡ record k { granted = rises k.granted 1; conversions = rises k.conversions (one_if converts) }
+    → counted s (command.Try t n asked) (answer.Granted m) [] s' k ≡ record k {
+      granted = rises k.granted 1;
+      conversions = rises k.conversions
+          (one_if converts);
+    }
 try_counted s s' t n m asked converts k is = λ i. record {
   granted = rises k.granted 1;
   waited = rises_none k.waited i;
@@ -133,12 +142,25 @@ try_counted s s' t n m asked converts k is = λ i. record {
 module _ (s s' : State) (t : TxnId) (n : NodeId) (m : Mode) (told : Told) (converts : Bool) (k : Counters) (is : converts ≡ holds_already s t n) where
   -- a lock is not refused, whatever it came to
   pub lock_counts : (x : Locked) → lock_counted s' n converts (answer_of_lock x) told k ≡ counted s (command.Lock t n m) (answer_of_lock x) told s' k
-  lock_counts (locked.Granted held) = λ i. record (lock_counted s' n (is i) (answer.Granted held) told k) { escalations = sym (rises_none k.escalations) i; released_children = sym (rises_none k.released_children) i }
-  lock_counts locked.Waiting = λ i. record (lock_counted s' n (is i) answer.Waiting told k) { escalations = sym (rises_none k.escalations) i; released_children = sym (rises_none k.released_children) i }
-  lock_counts locked.Victim = λ i. record (lock_counted s' n (is i) answer.Victim told k) { escalations = sym (rises_none k.escalations) i; released_children = sym (rises_none k.released_children) i }
+  lock_counts (locked.Granted held) = λ i. record (lock_counted s' n (is i) (answer.Granted held) told k) {
+    escalations = sym
+        (rises_none k.escalations) i;
+    released_children = sym (rises_none k.released_children) i;
+  }
+  lock_counts locked.Waiting = λ i. record (lock_counted s' n (is i) answer.Waiting told k) {
+    escalations = sym
+        (rises_none k.escalations) i;
+    released_children = sym (rises_none k.released_children) i;
+  }
+  lock_counts locked.Victim = λ i. record (lock_counted s' n (is i) answer.Victim told k) {
+    escalations = sym
+        (rises_none k.escalations) i;
+    released_children = sym (rises_none k.released_children) i;
+  }
 
 -- who was not refused a lock lives, so it holds the node already where it held any mode there
-pub lock_converts : (s : State) (t : TxnId) (n : NodeId) (m : Mode) (x : Mode × Locked) → Refuses (first_refusal (lock_tests s t n m)) (Ok x) → holds_already s t n ≡ not (same_mode (s.held t.slot n) NL)
+pub lock_converts : (s : State) (t : TxnId) (n : NodeId) (m : Mode) (x : Mode × Locked) → Refuses (first_refusal (lock_tests s t n m)) (Ok x)
+    → holds_already s t n ≡ not (same_mode (s.held t.slot n) NL)
 lock_converts s t n m x refuses = ap (λ b. b && not (same_mode (s.held t.slot n) NL)) (txn_lives s t (not_refused (no_txn s t) _ (goes _ refuses)).0)
   where
     goes : (o : Option Refusal) → Refuses o (Ok x) → o ≡ None
@@ -155,11 +177,13 @@ module _ (s : State) (n : NodeId) (converts : Bool) (told : Told) (k : Counters)
     victims = rises k.victims (one_if (condemns a));
   }
 
-  noted : (a : Answer) → rises (rises k.victims (one_if (condemns a))) (count_by is_victim told) ≡ rises k.victims (count_by is_victim told + one_if (condemns a))
+  noted : (a : Answer) → rises (rises k.victims (one_if (condemns a))) (count_by is_victim told) ≡ rises k.victims (count_by is_victim told + one_if
+      (condemns a))
   noted a = rises_twice k.victims (one_if (condemns a)) (count_by is_victim told) ∙ ap (rises k.victims) (omega arith)
 
   pub lock_noted : (a : Answer) (waiting queued : ℕ) → waiting ≡ (if waits a then waiting_in s else 0) → queued ≡ (if waits a then length (s.queue n) else 0)
-      → with_notices told (record (with_lock a) { most_waiting = max k.most_waiting waiting; longest_queue = max k.longest_queue queued }) ≡ lock_counted s n converts a told k
+      → with_notices told (record (with_lock a) { most_waiting = max k.most_waiting waiting; longest_queue = max k.longest_queue queued }) ≡ lock_counted s
+      n converts a told k
   lock_noted a waiting queued w q = λ i. record (lock_counted s n converts a told k) {
     victims = noted a i;
     most_waiting = max k.most_waiting (w i);

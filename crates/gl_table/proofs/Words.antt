@@ -120,7 +120,8 @@ pub use Rattle.gl_table.specs.model.Deadlocks.{VictimHasRow, WaitSettlesKeeping}
 pub use Rattle.gl_table.specs.inside.Slots.{AreApart, by_list, CanFree, CanHold, CanStrike, CanTell, CanWake, counted_by, Frees, FreesLists, FreesTold}
 pub use Rattle.gl_table.specs.inside.Slots.{grant_notice, HasRoomAt, held_by, Holds, is_rising, IsBySlot, KeepsLists, listed_by, mode_given, notices_in}
 pub use Rattle.gl_table.specs.inside.Slots.{room_by, Strikes, TellsOthers, unlisted_by, Wakes, WakesLists, WakesTold}
-pub use Rattle.gl_header.specs.Headers.{AreDistinct, AreHeaders, Entries, HasItsKey, header_at, header_or_new, held_of, is_granted_at, IsFreeKey, IsOneHolder, members_at}
+pub use Rattle.gl_header.specs.Headers.{AreDistinct, AreHeaders, Entries, HasItsKey, header_at, header_or_new, held_of, is_granted_at, IsFreeKey, IsOneHolder}
+pub use Rattle.gl_header.specs.Headers.{members_at}
 pub use Rattle.gl_header.specs.Headers.{queue_of, with_members, with_waiters}
 pub use Rattle.gl_table.specs.model.State.{age_in, age_of, awake, blocks, choosing, condemned, empty_state, front_at, granted_at, HasNoCycle, intends}
 pub use Rattle.gl_table.specs.model.State.{intends_over, is_wait, is_waiting_at, is_write, IsVictim, live_by, lives, members, no_parents, pumped, restatus}

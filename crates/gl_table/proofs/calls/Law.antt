@@ -1,5 +1,6 @@
 -- What holds of a table's fields: of every table, of a new one, with new nodes and with one transaction more.
-use Rattle.gl_table.proofs.Words.{[], ◌&&◌, ◌+◌, ◌<◌, ◌==◌, ◌||◌, ◌∙◌, ◌∷◌, ◌≡◌, ◌≤◌, Active, ap, AreApart, AreDistinct, AreNew, arith, begin_tests, begun, Bool}
+use Rattle.gl_table.proofs.Words.{[], ◌&&◌, ◌+◌, ◌<◌, ◌==◌, ◌||◌, ◌∙◌, ◌∷◌, ◌≡◌, ◌≤◌, Active, ap, AreApart, AreDistinct, AreNew, arith, begin_tests, begun}
+use Rattle.gl_table.proofs.Words.{Bool}
 use Rattle.gl_table.proofs.Words.{by_list, children_that, choosing, clash, cond, count_in, counted_by, CountsHeld, elements, empty_state, Entry, entry_of, Err}
 use Rattle.gl_table.proofs.Words.{false, find, first_refusal, free_slot, get_or, gets, graph_of, HasNoCycle, held_children, held_of, holds, IfOk, if◌then◌else◌}
 use Rattle.gl_table.proofs.Words.{is_among_waiters, is_free, is_none, is_some, is_wait, is_waiting_at, IsApart, IsDistinct, IsLawful, IsSound, IsUnique}

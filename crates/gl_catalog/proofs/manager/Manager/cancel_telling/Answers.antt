@@ -12,12 +12,16 @@ use Rattle.gl_catalog.proofs.manager.Manager.cancel_telling.Goals as goal
 
 pub returns-clause-step : goal.returns-clause-step
 returns-clause-step c =
-    managed_ok_only (doing c.cancel_telling.new.notices.items) (command.Cancel c.args.t) c.self.inside.table c.self.inside.accepted c.args.self.now c.self.view_is (cancel_tests (table_state c.self.inside.table) c.args.t) refl
+    managed_ok_only (doing c.cancel_telling.new.notices.items)
+    (command.Cancel c.args.t) c.self.inside.table c.self.inside.accepted c.args.self.now c.self.view_is (cancel_tests
+    (table_state c.self.inside.table) c.args.t) refl
     tt c.cancel_telling.new.self c.in_ok-check_count.ensures c.in_ok-cancel_telling.ensures.refuses refl
     (refl, c.in_ok-cancel_telling.ensures.told, ap (counting c.self.inside.accepted) c.in_ok-cancel_telling.ensures.state)
 
 pub returns-clause-completes : goal.returns-clause-completes
 returns-clause-completes c =
-    told_completed (view_of c.self.inside) c.args.self.now (record { table = c.cancel_telling.new.self; accepted = c.self.inside.accepted + 1; counters = c.add_notices.new.self }) c.self.view_is c.self.invariant
+    told_completed (view_of c.self.inside) c.args.self.now
+    (record { table = c.cancel_telling.new.self; accepted = c.self.inside.accepted + 1; counters = c.add_notices.new.self }) c.self.view_is c.self.invariant
     (command.Cancel c.args.t) refl answer.Done c.cancel_telling.new.notices.items c.as_slice.result.now (returns-clause-step c)
-    (c.in_ok-cancel_telling.ensures.deadlock ∙ ap (λ (v : ManagerView). v.table.deadlock) c.self.view_is) c.as_slice.ensures.value c.add_notices.ensures (notices_counted c.cancel_telling.new.notices.items)
+    (c.in_ok-cancel_telling.ensures.deadlock ∙ ap (λ (v : ManagerView). v.table.deadlock) c.self.view_is) c.as_slice.ensures.value c.add_notices.ensures
+    (notices_counted c.cancel_telling.new.notices.items)

@@ -7,4 +7,5 @@ use Rattle.gl_catalog.proofs.manager.Manager.check_insert.Goals as goal
 
 pub returns-in_err-check_record-clause-refuses : goal.returns-in_err-check_record-clause-refuses
 returns-in_err-check_record-clause-refuses c =
-    subst (λ (o : Option Refusal). RefusesOnly o c.from_residual.result) (sym (record_refused (state_of c.args.self.now) c.args.t c.args.file c.args.keys.now c.in_err-check_record.field-0.0 c.in_err-check_record.ensures)) (search rules)
+    subst (λ (o : Option Refusal). RefusesOnly o c.from_residual.result) (sym (record_refused
+    (state_of c.args.self.now) c.args.t c.args.file c.args.keys.now c.in_err-check_record.field-0.0 c.in_err-check_record.ensures)) (search rules)

@@ -14,8 +14,11 @@ use Rattle.gl_catalog.proofs.manager.Manager.check_rekey.Goals as goal
 pub returns : goal.returns
 returns c =
     let s : State = state_of c.args.self.now in
-    let locks : List NodeId → Option Refusal = λ ps. first_refusal (need_exclusive s c.args.t.slot c.args.rec true ps ∷ need_new_parents s c.args.t.slot c.args.rec ps ∷ []) in
+    let locks : List NodeId → Option Refusal = λ ps. first_refusal
+    (need_exclusive s c.args.t.slot c.args.rec true ps ∷ need_new_parents s c.args.t.slot c.args.rec ps ∷ []) in
     c.check_move.ensures ∙ ap (λ ps. verdict (locks ps)) (c.as_slice.ensures.value ∙ c.parents_with-parents.ensures)
     ∙ ap verdict (sym (
-    rekey_kinds s c.args.t c.args.rec c.args.index c.args.key c.in_ok-check_count.ensures c.in_ok-check_active.ensures (sym c.lives.ensures ∙ c.if-not-lives.false) (sym c.lives-else-not-lives.ensures ∙ c.if-not-lives-2.false)
-    ∙ ap (λ b. if b then locks (rekeyed_parents s.graph c.args.rec c.args.index c.args.key) else Some no.BadParents) (sym c.is_keyed_by.ensures ∙ c.if-not-is_keyed_by.false)))
+    rekey_kinds s c.args.t c.args.rec c.args.index c.args.key c.in_ok-check_count.ensures c.in_ok-check_active.ensures (sym c.lives.ensures
+    ∙ c.if-not-lives.false) (sym c.lives-else-not-lives.ensures ∙ c.if-not-lives-2.false)
+    ∙ ap (λ b. if b then locks (rekeyed_parents s.graph c.args.rec c.args.index c.args.key) else Some no.BadParents) (sym c.is_keyed_by.ensures
+    ∙ c.if-not-is_keyed_by.false)))

@@ -13,9 +13,15 @@ returns c =
     let waiting = c.waits_seen-waiting.result.0 in
     let queued = c.waits_seen-waiting.result.1 in
     let k = c.self.inside.counters in
-    subst (λ (v : ManagerView). record (view_of c.self.inside) { counters = c.add_notices.new.self } ≡ record v { counters = lock_counted (state_of v) c.args.n c.args.converts (answer_of_lock c.args.locked) c.args.told.now v.counters }) c.self.view_is
+    subst (λ (v : ManagerView). record (view_of c.self.inside) { counters = c.add_notices.new.self } ≡ record v {
+      counters = lock_counted
+          (state_of v) c.args.n c.args.converts (answer_of_lock c.args.locked) c.args.told.now v.counters;
+    }) c.self.view_is
     (ap (λ (x : Counters). record (view_of c.self.inside) { counters = x })
-    (c.add_notices.ensures ∙ ap (with_notices c.args.told.now) (c.add_waits.ensures ∙ ap (λ (x : Counters). record x { most_waiting = max x.most_waiting waiting; longest_queue = max x.longest_queue queued }) c.add_lock.ensures)
+    (c.add_notices.ensures ∙ ap (with_notices c.args.told.now) (c.add_waits.ensures
+    ∙ ap (λ (x : Counters). record x { most_waiting = max x.most_waiting waiting; longest_queue = max x.longest_queue queued }) c.add_lock.ensures)
     ∙ lock_noted (state_of (view_of c.self.inside)) c.args.n c.args.converts c.args.told.now k (answer_of_lock c.args.locked) waiting queued
-    (c.waits_seen-waiting.ensures.waiting ∙ ap (λ (v : ManagerView). if waits (answer_of_lock c.args.locked) then waiting_in (state_of v) else 0) (sym c.self.view_is))
-    (c.waits_seen-waiting.ensures.queued ∙ ap (λ (v : ManagerView). if waits (answer_of_lock c.args.locked) then length ((state_of v).queue c.args.n) else 0) (sym c.self.view_is))))
+    (c.waits_seen-waiting.ensures.waiting ∙ ap (λ (v : ManagerView). if waits (answer_of_lock c.args.locked) then waiting_in (state_of v) else 0)
+    (sym c.self.view_is))
+    (c.waits_seen-waiting.ensures.queued ∙ ap (λ (v : ManagerView). if waits (answer_of_lock c.args.locked) then length
+    ((state_of v).queue c.args.n) else 0) (sym c.self.view_is))))

@@ -11,8 +11,11 @@ use Rattle.gl_catalog.proofs.manager.Manager.delete.Goals as goal
 pub returns-in_err-delete_telling-clause-counters : goal.returns-in_err-delete_telling-clause-counters
 returns-in_err-delete_telling-clause-counters c =
     let is : c.from_residual.result ≡ Err c.in_err-delete_telling.field-0.0 = search rules in
-    subst (λ (r : Result Notices Refusal). c.delete_telling.new.self.counters ≡ counted (state_of c.args.self.now) (command.Delete c.args.t c.args.rec) (said done r).0 (said done r).1 (state_of c.delete_telling.new.self) c.args.self.now.counters) (sym is)
-    (ap (λ (v : ManagerView). v.counters) c.in_err-delete_telling.ensures.err ∙ sym (refusal_counted (state_of c.args.self.now) (state_of c.delete_telling.new.self) (command.Delete c.args.t c.args.rec) c.in_err-delete_telling.field-0.0 c.args.self.now.counters))
+    subst (λ (r : Result Notices Refusal). c.delete_telling.new.self.counters ≡ counted (state_of c.args.self.now) (command.Delete c.args.t c.args.rec)
+    (said done r).0 (said done r).1 (state_of c.delete_telling.new.self) c.args.self.now.counters) (sym is)
+    (ap (λ (v : ManagerView). v.counters) c.in_err-delete_telling.ensures.err
+    ∙ sym (refusal_counted (state_of c.args.self.now) (state_of c.delete_telling.new.self)
+    (command.Delete c.args.t c.args.rec) c.in_err-delete_telling.field-0.0 c.args.self.now.counters))
 
 pub returns-clause-step : goal.returns-clause-step
 returns-clause-step c = c.in_ok-delete_telling.ensures.step

@@ -15,15 +15,19 @@ use Rattle.gl_catalog.proofs.manager.Manager.delete_telling.Goals as goal
 pub returns-in_err-check_delete-clause-step : goal.returns-in_err-check_delete-clause-step
 returns-in_err-check_delete-clause-step c =
     let exit = err_from_is_err_and c.from_residual.result c.from_residual.ensures.1 in
-    rw (exit.1, exit.2) (refused_step (doing c.args.told.now.items) (command.Delete c.args.t c.args.rec) (state_of c.args.self.now) _ (test_refused _ _ c.in_err-check_delete.ensures))
+    rw (exit.1, exit.2) (refused_step (doing c.args.told.now.items) (command.Delete c.args.t c.args.rec) (state_of c.args.self.now) _
+    (test_refused _ _ c.in_err-check_delete.ensures))
 
 pub returns-clause-step : goal.returns-clause-step
 returns-clause-step c =
-    deleted_step c.self.inside.table c.remove_telling.new.self c.self.inside.accepted c.args.self.now c.self.view_is c.args.t c.args.rec c.remove_telling.new.notices
+    deleted_step c.self.inside.table c.remove_telling.new.self c.self.inside.accepted c.args.self.now c.self.view_is c.args.t c.args.rec
+    c.remove_telling.new.notices
     (verdict_ok _ _ c.in_ok-check_delete.ensures) c.remove_telling.ensures.state c.remove_telling.ensures.told
 
 pub returns-clause-completes : goal.returns-clause-completes
 returns-clause-completes c =
-    told_completed (view_of c.self.inside) c.args.self.now (record { table = c.remove_telling.new.self; accepted = c.self.inside.accepted + 1; counters = c.add_notices.new.self }) c.self.view_is c.self.invariant
+    told_completed (view_of c.self.inside) c.args.self.now
+    (record { table = c.remove_telling.new.self; accepted = c.self.inside.accepted + 1; counters = c.add_notices.new.self }) c.self.view_is c.self.invariant
     (command.Delete c.args.t c.args.rec) refl answer.Done c.remove_telling.new.notices.items c.as_slice.result.now (returns-clause-step c)
-    (c.remove_telling.ensures.deadlock ∙ ap (λ (v : ManagerView). v.table.deadlock) c.self.view_is) c.as_slice.ensures.value c.add_notices.ensures (notices_counted c.remove_telling.new.notices.items)
+    (c.remove_telling.ensures.deadlock ∙ ap (λ (v : ManagerView). v.table.deadlock) c.self.view_is) c.as_slice.ensures.value c.add_notices.ensures
+    (notices_counted c.remove_telling.new.notices.items)

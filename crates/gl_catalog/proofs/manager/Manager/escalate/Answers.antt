@@ -12,8 +12,11 @@ use Rattle.gl_catalog.proofs.manager.Manager.escalate.Goals as goal
 pub returns-in_err-escalated-clause-counters : goal.returns-in_err-escalated-clause-counters
 returns-in_err-escalated-clause-counters c =
     let is : c.from_residual.result ≡ Err c.in_err-escalated.field-0.0 = search rules in
-    subst (λ (r : Result (Escalated × Notices) Refusal). c.escalate_telling.new.self.counters ≡ counted (state_of c.args.self.now) (command.Escalate c.args.t c.args.n) (said rose r).0 (said rose r).1 (state_of c.escalate_telling.new.self) c.args.self.now.counters) (sym is)
-    (ap (λ (v : ManagerView). v.counters) c.in_err-escalated.ensures.err ∙ sym (refusal_counted (state_of c.args.self.now) (state_of c.escalate_telling.new.self) (command.Escalate c.args.t c.args.n) c.in_err-escalated.field-0.0 c.args.self.now.counters))
+    subst (λ (r : Result (Escalated × Notices) Refusal). c.escalate_telling.new.self.counters ≡ counted (state_of c.args.self.now)
+    (command.Escalate c.args.t c.args.n) (said rose r).0 (said rose r).1 (state_of c.escalate_telling.new.self) c.args.self.now.counters) (sym is)
+    (ap (λ (v : ManagerView). v.counters) c.in_err-escalated.ensures.err
+    ∙ sym (refusal_counted (state_of c.args.self.now) (state_of c.escalate_telling.new.self)
+    (command.Escalate c.args.t c.args.n) c.in_err-escalated.field-0.0 c.args.self.now.counters))
 
 pub returns-clause-step : goal.returns-clause-step
 returns-clause-step c = c.in_ok-escalated.ensures.step

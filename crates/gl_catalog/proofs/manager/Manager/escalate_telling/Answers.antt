@@ -16,7 +16,8 @@ use Rattle.gl_catalog.proofs.Raising.{asked_is, asks_err, raised_active, raised_
 use Rattle.gl_catalog.proofs.manager.Manager.escalate_telling.Goals.{After-try_lock, then-writes_below, else-writes_below}
 use Rattle.gl_catalog.proofs.manager.Manager.escalate_telling.Goals as goal
 
-passed : (c : After-try_lock) → first_refusal (worn (state_of (view_of c.self.inside)) ∷ escalate_asks (state_of (view_of c.self.inside)) c.args.t c.args.n) ≡ None
+passed : (c : After-try_lock) → first_refusal (worn (state_of (view_of c.self.inside)) ∷ escalate_asks (state_of
+    (view_of c.self.inside)) c.args.t c.args.n) ≡ None
 passed c =
     subst (λ (v : ManagerView). first_refusal (worn (state_of v) ∷ escalate_asks (state_of v) c.args.t c.args.n) ≡ None) (sym c.self.view_is)
     (test_passed _ c.in_ok-check_escalate.field-0 c.in_ok-check_escalate.ensures)
@@ -24,8 +25,10 @@ passed c =
 asked : (c : After-try_lock) → c.if-writes_below.asked ≡ asked_by_escalation (table_state c.self.inside.table) c.args.t.slot c.args.n
 asked c =
     elim c.if-writes_below.branch [
-      | then-writes_below w ↦ w.asked-is ∙ asked_is (state_of (view_of c.self.inside)) c.args.t c.args.n (passed c) true (sym w.if-writes_below.true ∙ c.writes_below.ensures)
-      | else-writes_below w ↦ w.asked-is ∙ asked_is (state_of (view_of c.self.inside)) c.args.t c.args.n (passed c) false (sym w.if-writes_below.false ∙ c.writes_below.ensures)
+      | then-writes_below w ↦ w.asked-is ∙ asked_is (state_of (view_of c.self.inside)) c.args.t c.args.n (passed c) true (sym w.if-writes_below.true
+          ∙ c.writes_below.ensures)
+      | else-writes_below w ↦ w.asked-is ∙ asked_is (state_of (view_of c.self.inside)) c.args.t c.args.n (passed c) false (sym w.if-writes_below.false
+          ∙ c.writes_below.ensures)
     ]
 
 pub returns-in_err-check_escalate-clause-step : goal.returns-in_err-check_escalate-clause-step
@@ -38,40 +41,60 @@ pub returns-in_err-mode-clause-step : goal.returns-in_err-mode-clause-step
 returns-in_err-mode-clause-step c =
     let p = (goal.at.returns-in_err-mode-clause-step c).After-try_lock in
     let is : c.from_residual-in_err-mode.result ≡ Err c.in_err-mode.field-0.0 = search rules in
-    coe 0 1 (i. CallSteps (state_of (c.self.view_is i)) (command.Escalate c.args.t c.args.n) (rising c.args.told.now.items) (sym is i) (counting c.self.inside.accepted (table_state (sym c.in_err-mode.ensures.err i))))
-    (tried_err (state_of (view_of c.self.inside)) c.args.t c.args.n (passed p) c.self.invariant.lawful c.if-writes_below.asked (asked p) c.in_err-mode.field-0.0 c.in_err-mode.ensures.refuses c.in_err-mode.ensures.held)
+    coe 0 1 (i. CallSteps (state_of (c.self.view_is i)) (command.Escalate c.args.t c.args.n) (rising c.args.told.now.items) (sym is i)
+    (counting c.self.inside.accepted (table_state (sym c.in_err-mode.ensures.err i))))
+    (tried_err (state_of (view_of c.self.inside)) c.args.t c.args.n (passed p) c.self.invariant.lawful c.if-writes_below.asked
+    (asked p) c.in_err-mode.field-0.0 c.in_err-mode.ensures.refuses c.in_err-mode.ensures.held)
 
 pub shed_telling-released-requires-clause-txn : goal.shed_telling-released-requires-clause-txn
 shed_telling-released-requires-clause-txn c =
     let p = (goal.at.shed_telling-released-requires-clause-txn c).After-try_lock in
-    raised_lives c.self.inside.accepted (table_state c.self.inside.table) c.args.t c.args.n (passed p) c.if-writes_below.asked (asked p) (table_state c.try_lock.new.self) c.in_ok-mode.ensures.state
+    raised_lives c.self.inside.accepted (table_state c.self.inside.table) c.args.t c.args.n (passed p) c.if-writes_below.asked (asked p)
+    (table_state c.try_lock.new.self) c.in_ok-mode.ensures.state
 
 pub shed_telling-released-requires-clause-active : goal.shed_telling-released-requires-clause-active
 shed_telling-released-requires-clause-active c =
     let p = (goal.at.shed_telling-released-requires-clause-active c).After-try_lock in
-    raised_active c.self.inside.accepted (table_state c.self.inside.table) c.args.t c.args.n (passed p) c.if-writes_below.asked (asked p) (table_state c.try_lock.new.self) c.in_ok-mode.ensures.state
+    raised_active c.self.inside.accepted (table_state c.self.inside.table) c.args.t c.args.n (passed p) c.if-writes_below.asked (asked p)
+    (table_state c.try_lock.new.self) c.in_ok-mode.ensures.state
 
 pub shed_telling-released-requires-clause-reads : goal.shed_telling-released-requires-clause-reads
 shed_telling-released-requires-clause-reads c =
     let p = (goal.at.shed_telling-released-requires-clause-reads c).After-try_lock in
-    reads c.self.inside.accepted (table_state c.self.inside.table) c.args.t c.args.n (passed p) c.if-writes_below.asked (asked p) (table_state c.try_lock.new.self) c.in_ok-mode.ensures.state
+    reads c.self.inside.accepted (table_state c.self.inside.table) c.args.t c.args.n (passed p) c.if-writes_below.asked (asked p)
+    (table_state c.try_lock.new.self) c.in_ok-mode.ensures.state
 
 pub returns-clause-step : goal.returns-clause-step
 returns-clause-step c =
     let p = (goal.at.returns-clause-step c).After-try_lock in
-    subst (λ (v : ManagerView). CallSteps (state_of v) (command.Escalate c.args.t c.args.n) (rising c.shed_telling-released.new.notices.items) (Ok (record { mode = c.in_ok-mode.mode; released = c.shed_telling-released.result.0; kept = c.shed_telling-released.result.1 })) (counting (c.self.inside.accepted + 1) (table_state c.shed_telling-released.new.self))) c.self.view_is
-    (shed_step c.self.inside.accepted (table_state c.self.inside.table) c.args.t c.args.n (passed p) c.if-writes_below.asked (asked p) (table_state c.try_lock.new.self) c.in_ok-mode.ensures.state
-    c.self.invariant.lawful c.in_ok-mode.mode c.in_ok-mode.ensures.mode c.in_ok-mode.ensures.refuses c.shed_telling-released.result.0 c.shed_telling-released.result.1 c.shed_telling-released.new.notices (table_state c.shed_telling-released.new.self)
+    subst (λ (v : ManagerView). CallSteps (state_of v) (command.Escalate c.args.t c.args.n) (rising c.shed_telling-released.new.notices.items) (Ok
+    (record { mode = c.in_ok-mode.mode; released = c.shed_telling-released.result.0; kept = c.shed_telling-released.result.1 })) (counting
+    (c.self.inside.accepted + 1) (table_state c.shed_telling-released.new.self))) c.self.view_is
+    (shed_step c.self.inside.accepted (table_state c.self.inside.table) c.args.t c.args.n (passed p) c.if-writes_below.asked (asked p)
+    (table_state c.try_lock.new.self) c.in_ok-mode.ensures.state
+    c.self.invariant.lawful c.in_ok-mode.mode c.in_ok-mode.ensures.mode c.in_ok-mode.ensures.refuses c.shed_telling-released.result.0
+    c.shed_telling-released.result.1 c.shed_telling-released.new.notices (table_state c.shed_telling-released.new.self)
     c.shed_telling-released.ensures.state c.shed_telling-released.ensures.released c.shed_telling-released.ensures.kept c.shed_telling-released.ensures.told)
 
 pub returns-clause-completes : goal.returns-clause-completes
 returns-clause-completes c =
     let told = c.shed_telling-released.new.notices.items in
     let did : Escalated = record { mode = c.in_ok-mode.mode; released = c.shed_telling-released.result.0; kept = c.shed_telling-released.result.1 } in
-    completed c.args.self.now (record { table = c.shed_telling-released.new.self; accepted = c.self.inside.accepted + 1; counters = c.add_notices.new.self }) (subst IsLawfulManager c.self.view_is c.self.invariant)
+    completed c.args.self.now (record {
+      table = c.shed_telling-released.new.self;
+      accepted = c.self.inside.accepted + 1;
+      counters = c.add_notices.new.self;
+    }) (subst IsLawfulManager c.self.view_is c.self.invariant)
     (command.Escalate c.args.t c.args.n) (rising told did) (returns-clause-step c)
     (c.shed_telling-released.ensures.deadlock ∙ c.in_ok-mode.ensures.deadlock ∙ ap (λ (v : ManagerView). v.table.deadlock) c.self.view_is)
     (ap (λ (v : ManagerView). v.accepted + 1) c.self.view_is)
     (c.add_notices.ensures ∙ (λ i. with_notices (c.as_slice.ensures.value i) (c.add_escalation.ensures i))
-    ∙ ap (λ (v : ManagerView). with_notices told (record v.counters { escalations = rises v.counters.escalations 1; released_children = rises v.counters.released_children c.shed_telling-released.result.0 })) c.self.view_is
-    ∙ sym (escalation_counted (state_of c.args.self.now) (state_of (record { table = c.shed_telling-released.new.self; accepted = c.self.inside.accepted + 1; counters = c.add_notices.new.self })) c.args.t c.args.n did told c.args.self.now.counters))
+    ∙ ap (λ (v : ManagerView). with_notices told
+    (record v.counters {
+      escalations = rises v.counters.escalations 1;
+      released_children = rises v.counters.released_children
+          c.shed_telling-released.result.0;
+    })) c.self.view_is
+    ∙ sym (escalation_counted (state_of c.args.self.now) (state_of
+    (record { table = c.shed_telling-released.new.self; accepted = c.self.inside.accepted + 1; counters = c.add_notices.new.self })) c.args.t c.args.n
+    did told c.args.self.now.counters))

@@ -25,12 +25,15 @@ pub returns-in_err-parents-clause-step : goal.returns-in_err-parents-clause-step
 returns-in_err-parents-clause-step c =
     let s : State = state_of c.args.self.now in
     let is : c.from_residual-in_err-parents.result ≡ Err c.in_err-parents.field-0.0 = search rules in
-    let refused = ap (λ (o : Option Refusal). first_refusal (o ∷ insert_tests s c.args.t c.args.file c.args.keys.now)) (verdict_ok _ tt c.in_ok-check_count.ensures) ∙ refused_so (ArrayVec NodeId) _ _ c.in_err-parents.ensures.refuses in
-    subst (λ (r : Result NodeId Refusal). CallSteps s (command.Insert c.args.t c.args.file c.args.keys) made r s) (sym is) (refused_step made (command.Insert c.args.t c.args.file c.args.keys) s c.in_err-parents.field-0.0 refused)
+    let refused = ap (λ (o : Option Refusal). first_refusal (o ∷ insert_tests s c.args.t c.args.file c.args.keys.now))
+    (verdict_ok _ tt c.in_ok-check_count.ensures) ∙ refused_so (ArrayVec NodeId) _ _ c.in_err-parents.ensures.refuses in
+    subst (λ (r : Result NodeId Refusal). CallSteps s (command.Insert c.args.t c.args.file c.args.keys) made r s) (sym is) (refused_step made
+    (command.Insert c.args.t c.args.file c.args.keys) s c.in_err-parents.field-0.0 refused)
 
 -- all tests were passed
 passed : (c : In_ok-parents) → first_refusal (insert_tests (table_state c.self.inside.table) c.args.t c.args.file c.args.keys.now) ≡ None
-passed c = subst (λ (v : ManagerView). first_refusal (insert_tests (state_of v) c.args.t c.args.file c.args.keys.now) ≡ None) (sym c.self.view_is) (goes_none _ _ c.in_ok-parents.ensures.refuses)
+passed c = subst (λ (v : ManagerView). first_refusal (insert_tests (state_of v) c.args.t c.args.file c.args.keys.now) ≡ None) (sym c.self.view_is)
+    (goes_none _ _ c.in_ok-parents.ensures.refuses)
 
 may : (c : In_ok-parents) → MayInsert (table_state c.self.inside.table) c.args.t c.args.file c.args.keys.now
 may c = may_insert (table_state c.self.inside.table) c.args.t c.args.file c.args.keys.now (passed c)
@@ -60,17 +63,23 @@ pub returns-in_err-rec-clause-step : goal.returns-in_err-rec-clause-step
 returns-in_err-rec-clause-step c =
     let at = (goal.at.returns-in_err-rec-clause-step c).In_ok-parents in
     let is : c.from_residual-in_err-rec.result ≡ Err c.in_err-rec.field-0.0 = search rules in
-    subst (λ (r : Result NodeId Refusal). CallSteps (state_of c.args.self.now) (command.Insert c.args.t c.args.file c.args.keys) made r (counting c.self.inside.accepted (table_state c.place_under.new.self))) (sym is)
-    (managed_err_or_memory made (command.Insert c.args.t c.args.file c.args.keys) c.self.inside.table c.self.inside.accepted c.args.self.now c.self.view_is (insert_tests (table_state c.self.inside.table) c.args.t c.args.file c.args.keys.now) refl
-    c.in_err-rec.field-0.0 c.place_under.new.self c.in_ok-check_count.ensures (λ _. refl) (subst (λ (o : Option Refusal). Refuses {T = NodeId} o (Err c.in_err-rec.field-0.0)) (sym (passed at)) c.in_err-rec.ensures.memory) c.in_err-rec.ensures.err)
+    subst (λ (r : Result NodeId Refusal). CallSteps (state_of c.args.self.now) (command.Insert c.args.t c.args.file c.args.keys) made r
+    (counting c.self.inside.accepted (table_state c.place_under.new.self))) (sym is)
+    (managed_err_or_memory made (command.Insert c.args.t c.args.file c.args.keys) c.self.inside.table c.self.inside.accepted c.args.self.now c.self.view_is
+    (insert_tests (table_state c.self.inside.table) c.args.t c.args.file c.args.keys.now) refl
+    c.in_err-rec.field-0.0 c.place_under.new.self c.in_ok-check_count.ensures (λ _. refl) (subst (λ (o : Option Refusal). Refuses {T = NodeId} o
+    (Err c.in_err-rec.field-0.0)) (sym (passed at)) c.in_err-rec.ensures.memory) c.in_err-rec.ensures.err)
 
 pub returns-clause-step : goal.returns-clause-step
 returns-clause-step c =
     let at = (goal.at.returns-clause-step c).In_ok-parents in
-    managed_ok made (command.Insert c.args.t c.args.file c.args.keys) c.self.inside.table c.self.inside.accepted c.args.self.now c.self.view_is (insert_tests (table_state c.self.inside.table) c.args.t c.args.file c.args.keys.now) refl
+    managed_ok made (command.Insert c.args.t c.args.file c.args.keys) c.self.inside.table c.self.inside.accepted c.args.self.now c.self.view_is
+    (insert_tests (table_state c.self.inside.table) c.args.t c.args.file c.args.keys.now) refl
     c.in_ok-rec.rec c.place_under.new.self c.in_ok-check_count.ensures (unrefused _ _ (passed at)) refl
     (c.in_ok-rec.rec, c.in_ok-rec.ensures.made, refl, refl, ap (counting c.self.inside.accepted) c.in_ok-rec.ensures.state)
 
 pub returns-clause-others : goal.returns-clause-others
 returns-clause-others c =
-    step_leaves_others (state_of c.args.self.now) (state_of (record { table = c.place_under.new.self; accepted = c.self.inside.accepted + 1; counters = c.self.inside.counters })) (command.Insert c.args.t c.args.file c.args.keys) (made c.in_ok-rec.rec) c.law.ensures.lawful (returns-clause-step c)
+    step_leaves_others (state_of c.args.self.now) (state_of
+    (record { table = c.place_under.new.self; accepted = c.self.inside.accepted + 1; counters = c.self.inside.counters }))
+    (command.Insert c.args.t c.args.file c.args.keys) (made c.in_ok-rec.rec) c.law.ensures.lawful (returns-clause-step c)

@@ -34,18 +34,22 @@ first : (c : After-parents) (d : NodeId) → get_or c.parents.result.now 0 d ≡
 first c d = ap (λ (ps : List NodeId). get_or ps 0 d) c.parents.ensures ∙ first_is_file (graph_of c.graph-graph.result.now) (law c) c.args.rec (rec c) d
 
 pub bounds-parents-0 : goal.bounds-parents-0
-bounds-parents-0 c = let some = has_parents (graph_of c.graph-graph.result.now) (law c) c.args.rec (rec c) in let same = ap length c.parents.ensures in omega arith
+bounds-parents-0 c = let some = has_parents (graph_of c.graph-graph.result.now) (law c) c.args.rec
+    (rec c) in let same = ap length c.parents.ensures in omega arith
 
 pub indexes-requires : goal.indexes-requires
 indexes-requires c =
     let at = (goal.at.indexes-requires c).After-parents in
-    ap (λ n. is_file_shape (shape_of (graph_of c.graph-graph.result.now) n)) (first at _) ∙ its_file (graph_of c.graph-graph.result.now) (law at) c.args.rec (rec at)
+    ap (λ n. is_file_shape (shape_of (graph_of c.graph-graph.result.now) n)) (first at _)
+    ∙ its_file (graph_of c.graph-graph.result.now) (law at) c.args.rec (rec at)
 
 pub returns-then-matches : goal.returns-then-matches
 returns-then-matches c =
     let at = (goal.at.returns-then-matches c).After-parents in
-    any_from_yields_List (same_node c.args.index) _ _ c.any.result c.any.ensures.ran (YieldsList-from_slice c.indexes.result.now cc) (λ x b q k. search (rules, tests))
+    any_from_yields_List (same_node c.args.index) _ _ c.any.result c.any.ensures.ran (YieldsList-from_slice c.indexes.result.now cc) (λ x b q k. search
+    (rules, tests))
     ∙ ap (list_any (same_node c.args.index)) (c.indexes.ensures ∙ ap (indexes_of (graph_of c.graph-graph.result.now)) (first at _))
     ∙ keyed_by (graph_of c.graph-graph.result.now) (law at) c.args.rec (rec at) c.args.index
-    ∙ ap (λ (g : View). is_record_shape (shape_of (graph_of g) c.args.rec) && is_index_of_shape (first_parent (graph_of g) c.args.rec) (shape_of (graph_of g) c.args.index))
+    ∙ ap (λ (g : View). is_record_shape (shape_of (graph_of g) c.args.rec) && is_index_of_shape (first_parent (graph_of g) c.args.rec) (shape_of
+    (graph_of g) c.args.index))
     (c.graph-graph.ensures ∙ ap (λ (v : ManagerView). v.table.graph) c.self.view_is)

@@ -24,28 +24,45 @@ use Rattle.gl_catalog.proofs.manager.Manager.lock_telling.Goals as goal
 pub returns-in_err-held-clause-step : goal.returns-in_err-held-clause-step
 returns-in_err-held-clause-step c =
     let is : c.from_residual-in_err-held.result ≡ Err c.in_err-held.field-0.0 = search rules in
-    subst (λ (r : Result Locked Refusal). CallSteps (state_of c.args.self.now) (command.Lock c.args.t c.args.n c.args.mode) (asking c.lock_from.new.notices.items) r (counting c.self.inside.accepted (table_state c.lock_from.new.self))) (sym is)
-    (managed_err_or_memory (asking c.lock_from.new.notices.items) (command.Lock c.args.t c.args.n c.args.mode) c.self.inside.table c.self.inside.accepted c.args.self.now c.self.view_is (lock_tests (table_state c.self.inside.table) c.args.t c.args.n c.args.mode) refl
-    c.in_err-held.field-0.0 c.lock_from.new.self c.in_ok-check_count.ensures (λ none. not_both _ _ (λ enters holds. no (c.in_err-held.ensures.held none enters holds))) (refuses_err _ _ _ c.in_err-held.field-0.0 c.in_err-held.ensures.refuses) c.in_err-held.ensures.err)
+    subst (λ (r : Result Locked Refusal). CallSteps (state_of c.args.self.now) (command.Lock c.args.t c.args.n c.args.mode)
+    (asking c.lock_from.new.notices.items) r (counting c.self.inside.accepted (table_state c.lock_from.new.self))) (sym is)
+    (managed_err_or_memory (asking c.lock_from.new.notices.items)
+    (command.Lock c.args.t c.args.n c.args.mode) c.self.inside.table c.self.inside.accepted c.args.self.now c.self.view_is (lock_tests
+    (table_state c.self.inside.table) c.args.t c.args.n c.args.mode) refl
+    c.in_err-held.field-0.0 c.lock_from.new.self c.in_ok-check_count.ensures (λ none. not_both _ _ (λ enters holds. no
+    (c.in_err-held.ensures.held none enters holds))) (refuses_err _ _ _ c.in_err-held.field-0.0 c.in_err-held.ensures.refuses) c.in_err-held.ensures.err)
 
 -- the manager as the lock left it, before it is counted
 abbrev locked : After-count_lock → ManagerView
 locked c = record { table = c.lock_from.new.self; accepted = c.self.inside.accepted + 1; counters = c.self.inside.counters }
 
-stepped : (c : After-count_lock) → CallSteps (state_of c.args.self.now) (command.Lock c.args.t c.args.n c.args.mode) (asking c.lock_from.new.notices.items) (Ok c.in_ok-held.locked) (state_of (locked c))
+stepped : (c : After-count_lock) → CallSteps (state_of c.args.self.now) (command.Lock c.args.t c.args.n c.args.mode) (asking c.lock_from.new.notices.items)
+    (Ok c.in_ok-held.locked) (state_of (locked c))
 stepped c =
-    managed_ok (asking c.lock_from.new.notices.items) (command.Lock c.args.t c.args.n c.args.mode) c.self.inside.table c.self.inside.accepted c.args.self.now c.self.view_is (lock_tests (table_state c.self.inside.table) c.args.t c.args.n c.args.mode) refl
-    c.in_ok-held.locked c.lock_from.new.self c.in_ok-check_count.ensures (refuses_ok _ _ c.in_ok-held.locked c.in_ok-held.ensures.refuses) refl
-    (locks_counting c.self.inside.accepted (table_state c.self.inside.table) c.args.t.slot c.args.n c.args.mode (table_state c.lock_from.new.self) c.in_ok-held.ensures.state, ap answer_of_lock c.in_ok-held.ensures.answer, c.in_ok-held.ensures.told)
+    managed_ok (asking c.lock_from.new.notices.items)
+    (command.Lock c.args.t c.args.n c.args.mode) c.self.inside.table c.self.inside.accepted c.args.self.now c.self.view_is (lock_tests
+    (table_state c.self.inside.table) c.args.t c.args.n c.args.mode) refl
+    c.in_ok-held.locked c.lock_from.new.self c.in_ok-check_count.ensures (refuses_ok _ _ c.in_ok-held.locked c.in_ok-held.ensures.refuses) refl (
+      locks_counting c.self.inside.accepted (table_state c.self.inside.table) c.args.t.slot c.args.n c.args.mode
+          (table_state c.lock_from.new.self) c.in_ok-held.ensures.state,
+      ap answer_of_lock c.in_ok-held.ensures.answer,
+      c.in_ok-held.ensures.told,
+    )
 
-kept : (c : After-count_lock) → LocksKeeping (state_of c.args.self.now) c.args.t.slot c.args.n c.args.mode c.args.self.now.table.deadlock (counting c.args.self.now.accepted (table_state c.lock_from.new.self)) c.lock_from.new.self.deadlock
+kept : (c : After-count_lock) → LocksKeeping (state_of c.args.self.now) c.args.t.slot c.args.n c.args.mode c.args.self.now.table.deadlock
+    (counting c.args.self.now.accepted (table_state c.lock_from.new.self)) c.lock_from.new.self.deadlock
 kept c =
-    subst (λ (v : ManagerView). LocksKeeping (state_of v) c.args.t.slot c.args.n c.args.mode v.table.deadlock (counting v.accepted (table_state c.lock_from.new.self)) c.lock_from.new.self.deadlock) c.self.view_is
-    (locks_keeping_counting c.self.inside.accepted (table_state c.self.inside.table) c.args.t.slot c.args.n c.args.mode c.self.inside.table.deadlock (table_state c.lock_from.new.self) c.lock_from.new.self.deadlock c.in_ok-held.ensures.deadlock)
+    subst (λ (v : ManagerView). LocksKeeping (state_of v) c.args.t.slot c.args.n c.args.mode v.table.deadlock (counting v.accepted
+    (table_state c.lock_from.new.self)) c.lock_from.new.self.deadlock) c.self.view_is
+    (locks_keeping_counting c.self.inside.accepted (table_state c.self.inside.table) c.args.t.slot c.args.n c.args.mode c.self.inside.table.deadlock
+    (table_state c.lock_from.new.self) c.lock_from.new.self.deadlock c.in_ok-held.ensures.deadlock)
 
 -- and once it is counted
 abbrev noted : After-count_lock → ManagerView
-noted c = record (locked c) { counters = lock_counted (state_of (locked c)) c.args.n c.ne.result (answer_of_lock c.in_ok-held.locked) c.as_slice.result.now c.self.inside.counters }
+noted c = record (locked c) {
+  counters = lock_counted (state_of (locked c)) c.args.n c.ne.result
+      (answer_of_lock c.in_ok-held.locked) c.as_slice.result.now c.self.inside.counters;
+}
 
 -- the node was held before
 converts : (c : After-count_lock) → c.ne.result ≡ holds_already (state_of c.args.self.now) c.args.t c.args.n
@@ -57,12 +74,17 @@ converts c =
 
 pub returns-clause-step : goal.returns-clause-step
 returns-clause-step c =
-    subst (λ (v : ManagerView). CallSteps (state_of c.args.self.now) (command.Lock c.args.t c.args.n c.args.mode) (asking c.lock_from.new.notices.items) (Ok c.in_ok-held.locked) (state_of v)) (sym c.count_lock.ensures) (stepped c)
+    subst (λ (v : ManagerView). CallSteps (state_of c.args.self.now) (command.Lock c.args.t c.args.n c.args.mode) (asking c.lock_from.new.notices.items)
+    (Ok c.in_ok-held.locked) (state_of v)) (sym c.count_lock.ensures) (stepped c)
 
 pub returns-clause-completes : goal.returns-clause-completes
 returns-clause-completes c =
-    subst (λ (v : ManagerView). Completes (command.Lock c.args.t c.args.n c.args.mode) c.args.self.now (asking c.lock_from.new.notices.items c.in_ok-held.locked) v) (sym c.count_lock.ensures)
-    (completed c.args.self.now (noted c) (subst IsLawfulManager c.self.view_is c.self.invariant) (command.Lock c.args.t c.args.n c.args.mode) (asking c.lock_from.new.notices.items c.in_ok-held.locked) (stepped c) (kept c)
+    subst (λ (v : ManagerView). Completes (command.Lock c.args.t c.args.n c.args.mode) c.args.self.now
+    (asking c.lock_from.new.notices.items c.in_ok-held.locked) v) (sym c.count_lock.ensures)
+    (completed c.args.self.now (noted c) (subst IsLawfulManager c.self.view_is c.self.invariant) (command.Lock c.args.t c.args.n c.args.mode)
+    (asking c.lock_from.new.notices.items c.in_ok-held.locked) (stepped c) (kept c)
     (ap (λ (v : ManagerView). v.accepted + 1) c.self.view_is)
-    ((λ i. lock_counted (state_of (locked c)) c.args.n c.ne.result (answer_of_lock c.in_ok-held.locked) (c.as_slice.ensures.value i) (c.self.view_is i).counters)
-    ∙ lock_counts (state_of c.args.self.now) (state_of (locked c)) c.args.t c.args.n c.args.mode c.lock_from.new.notices.items c.ne.result c.args.self.now.counters (converts c) c.in_ok-held.locked))
+    ((λ i. lock_counted (state_of (locked c)) c.args.n c.ne.result (answer_of_lock c.in_ok-held.locked) (c.as_slice.ensures.value i)
+    (c.self.view_is i).counters)
+    ∙ lock_counts (state_of c.args.self.now) (state_of
+    (locked c)) c.args.t c.args.n c.args.mode c.lock_from.new.notices.items c.ne.result c.args.self.now.counters (converts c) c.in_ok-held.locked))

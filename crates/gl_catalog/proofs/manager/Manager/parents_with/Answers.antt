@@ -39,7 +39,8 @@ first : (c : After-parents-old) → get_or c.parents-old.result.now 0 nobody ≡
 first c = ap (λ (ps : List NodeId). get_or ps 0 nobody) (old c) ∙ first_is_file (graph c) (law c) c.args.rec c.requires.record nobody
 
 -- the indexes are the file's
-listed : (c : After-parents-old) (is : List NodeId) → is ≡ indexes_of (graph_of c.graph-graph.result.now) (get_or c.parents-old.result.now 0 nobody) → is ≡ indexes_of (graph c) (first_parent (graph c) c.args.rec)
+listed : (c : After-parents-old) (is : List NodeId) → is ≡ indexes_of (graph_of c.graph-graph.result.now) (get_or c.parents-old.result.now 0 nobody)
+    → is ≡ indexes_of (graph c) (first_parent (graph c) c.args.rec)
 listed c is e = e ∙ ap₂ (λ (g : View) (f : NodeId). indexes_of (graph_of g) f) (same c) (first c)
 
 pub bounds-old-0 : goal.bounds-old-0
@@ -69,8 +70,10 @@ loop-place-preserved c =
     let more = rekeyed_more (graph at) (law at) c.args.rec c.requires.record c.args.index c.args.key c.loop-place.place nobody in
     c.push-in-loop-place.ensures.items ∙ ap (λ (ps : List NodeId). ps ++ c.if-eq.interval ∷ []) c.loop-place.invariant
     ∙ elim c.if-eq.branch [
-      | then-eq w ↦ ap (λ n. so_far at c.loop-place.place ++ n ∷ []) (w.interval-is ∙ w.interval_of-interval.ensures ∙ ap (λ (g : View). interval_of (graph_of g) c.args.index c.args.key) (same at)) ∙ sym (more true (omega arith) (test ∙ w.if-eq.true))
-      | else-eq w ↦ ap (λ n. so_far at c.loop-place.place ++ n ∷ []) (w.interval-is ∙ ap (λ (ps : List NodeId). get_or ps (c.loop-place.place + 1) nobody) (old at)) ∙ sym (more false (omega arith) (test ∙ w.if-eq.false))
+      | then-eq w ↦ ap (λ n. so_far at c.loop-place.place ++ n ∷ []) (w.interval-is ∙ w.interval_of-interval.ensures
+          ∙ ap (λ (g : View). interval_of (graph_of g) c.args.index c.args.key) (same at)) ∙ sym (more true (omega arith) (test ∙ w.if-eq.true))
+      | else-eq w ↦ ap (λ n. so_far at c.loop-place.place ++ n ∷ []) (w.interval-is
+          ∙ ap (λ (ps : List NodeId). get_or ps (c.loop-place.place + 1) nobody) (old at)) ∙ sym (more false (omega arith) (test ∙ w.if-eq.false))
     ]
 
 pub returns : goal.returns

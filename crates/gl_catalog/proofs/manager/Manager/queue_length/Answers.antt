@@ -7,4 +7,5 @@ use Rattle.gl_catalog.proofs.manager.Manager.queue_length.Goals as goal
 
 pub returns-in-Err : goal.returns-in-Err
 returns-in-Err c =
-    subst (λ (v : ManagerView). 0 ≡ length ((state_of v).queue c.args.n)) c.self.view_is (sym (no_waiters _ (state_of (view_of c.self.inside)) c.args.n _ c.self.invariant.lawful c.in-Err.ensures.refused))
+    subst (λ (v : ManagerView). 0 ≡ length ((state_of v).queue c.args.n)) c.self.view_is (sym (no_waiters _ (state_of
+    (view_of c.self.inside)) c.args.n _ c.self.invariant.lawful c.in-Err.ensures.refused))

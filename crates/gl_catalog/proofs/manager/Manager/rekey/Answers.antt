@@ -11,8 +11,12 @@ use Rattle.gl_catalog.proofs.manager.Manager.rekey.Goals as goal
 pub returns-in_err-rekey_telling-clause-counters : goal.returns-in_err-rekey_telling-clause-counters
 returns-in_err-rekey_telling-clause-counters c =
     let is : c.from_residual.result ≡ Err c.in_err-rekey_telling.field-0.0 = search rules in
-    subst (λ (r : Result Notices Refusal). c.rekey_telling.new.self.counters ≡ counted (state_of c.args.self.now) (command.Rekey c.args.t c.args.rec c.args.index c.args.key) (said done r).0 (said done r).1 (state_of c.rekey_telling.new.self) c.args.self.now.counters) (sym is)
-    (ap (λ (v : ManagerView). v.counters) c.in_err-rekey_telling.ensures.err ∙ sym (refusal_counted (state_of c.args.self.now) (state_of c.rekey_telling.new.self) (command.Rekey c.args.t c.args.rec c.args.index c.args.key) c.in_err-rekey_telling.field-0.0 c.args.self.now.counters))
+    subst (λ (r : Result Notices Refusal). c.rekey_telling.new.self.counters ≡ counted (state_of c.args.self.now)
+    (command.Rekey c.args.t c.args.rec c.args.index c.args.key) (said done r).0 (said done r).1
+    (state_of c.rekey_telling.new.self) c.args.self.now.counters) (sym is)
+    (ap (λ (v : ManagerView). v.counters) c.in_err-rekey_telling.ensures.err
+    ∙ sym (refusal_counted (state_of c.args.self.now) (state_of c.rekey_telling.new.self)
+    (command.Rekey c.args.t c.args.rec c.args.index c.args.key) c.in_err-rekey_telling.field-0.0 c.args.self.now.counters))
 
 pub returns-clause-step : goal.returns-clause-step
 returns-clause-step c = c.in_ok-rekey_telling.ensures.step

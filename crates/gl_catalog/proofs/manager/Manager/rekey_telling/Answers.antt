@@ -19,12 +19,15 @@ use Rattle.gl_catalog.proofs.manager.Manager.rekey_telling.Goals as goal
 pub returns-in_err-check_rekey-clause-step : goal.returns-in_err-check_rekey-clause-step
 returns-in_err-check_rekey-clause-step c =
     let is : c.from_residual.result ≡ Err c.in_err-check_rekey.field-0.0 = search rules in
-    subst (λ (r : Result (Unit {0}) Refusal). CallSteps (state_of c.args.self.now) (command.Rekey c.args.t c.args.rec c.args.index c.args.key) (doing c.args.told.now.items) r (state_of c.args.self.now)) (sym is)
-    (refused_step (doing c.args.told.now.items) (command.Rekey c.args.t c.args.rec c.args.index c.args.key) (state_of c.args.self.now) c.in_err-check_rekey.field-0.0 (test_refused _ c.in_err-check_rekey.field-0.0 c.in_err-check_rekey.ensures))
+    subst (λ (r : Result (Unit {0}) Refusal). CallSteps (state_of c.args.self.now) (command.Rekey c.args.t c.args.rec c.args.index c.args.key)
+    (doing c.args.told.now.items) r (state_of c.args.self.now)) (sym is)
+    (refused_step (doing c.args.told.now.items) (command.Rekey c.args.t c.args.rec c.args.index c.args.key)
+    (state_of c.args.self.now) c.in_err-check_rekey.field-0.0 (test_refused _ c.in_err-check_rekey.field-0.0 c.in_err-check_rekey.ensures))
 
 -- all tests were passed
 asked : (c : In_ok-check_rekey) → Ok tt ≡ verdict (refusal_of (state_of (view_of c.self.inside)) (command.Rekey c.args.t c.args.rec c.args.index c.args.key))
-asked c = subst (λ (v : ManagerView). Ok tt ≡ verdict (refusal_of (state_of v) (command.Rekey c.args.t c.args.rec c.args.index c.args.key))) (sym c.self.view_is) c.in_ok-check_rekey.ensures
+asked c = subst (λ (v : ManagerView). Ok tt ≡ verdict (refusal_of (state_of v) (command.Rekey c.args.t c.args.rec c.args.index c.args.key)))
+    (sym c.self.view_is) c.in_ok-check_rekey.ensures
 
 may : (c : In_ok-check_rekey) → MayReparent (state_of (view_of c.self.inside)) c.args.t c.args.rec c.args.index c.args.key
 may c = may_reparent (state_of (view_of c.self.inside)) c.args.t c.args.rec c.args.index c.args.key (asked c)
@@ -50,11 +53,18 @@ reparent_telling-requires-clause-parents c = (may (goal.at.reparent_telling-requ
 pub returns-clause-step : goal.returns-clause-step
 returns-clause-step c =
     let at = (goal.at.returns-clause-step c).In_ok-check_rekey in
-    subst (λ (v : ManagerView). CallSteps (state_of v) (command.Rekey c.args.t c.args.rec c.args.index c.args.key) (doing c.reparent_telling.new.notices.items) (Ok tt) (counting (c.self.inside.accepted + 1) (table_state c.reparent_telling.new.self))) c.self.view_is
-    (rekey_done c.self.inside.accepted (table_state c.self.inside.table) (table_state c.reparent_telling.new.self) c.args.t c.args.rec c.args.index c.args.key c.reparent_telling.new.notices (asked at) c.reparent_telling.ensures.told c.reparent_telling.ensures.state)
+    subst (λ (v : ManagerView). CallSteps (state_of v) (command.Rekey c.args.t c.args.rec c.args.index c.args.key)
+    (doing c.reparent_telling.new.notices.items) (Ok tt) (counting (c.self.inside.accepted + 1) (table_state c.reparent_telling.new.self))) c.self.view_is
+    (rekey_done c.self.inside.accepted (table_state c.self.inside.table)
+    (table_state c.reparent_telling.new.self) c.args.t c.args.rec c.args.index c.args.key c.reparent_telling.new.notices
+    (asked at) c.reparent_telling.ensures.told c.reparent_telling.ensures.state)
 
 pub returns-clause-completes : goal.returns-clause-completes
 returns-clause-completes c =
-    told_completed (view_of c.self.inside) c.args.self.now (record { table = c.reparent_telling.new.self; accepted = c.self.inside.accepted + 1; counters = c.add_notices.new.self }) c.self.view_is c.self.invariant
-    (command.Rekey c.args.t c.args.rec c.args.index c.args.key) refl answer.Done c.reparent_telling.new.notices.items c.as_slice.result.now (returns-clause-step c)
-    (c.reparent_telling.ensures.deadlock ∙ ap (λ (v : ManagerView). v.table.deadlock) c.self.view_is) c.as_slice.ensures.value c.add_notices.ensures (notices_counted c.reparent_telling.new.notices.items)
+    told_completed (view_of c.self.inside) c.args.self.now
+    (record { table = c.reparent_telling.new.self; accepted = c.self.inside.accepted + 1; counters = c.add_notices.new.self }) c.self.view_is
+    c.self.invariant
+    (command.Rekey c.args.t c.args.rec c.args.index c.args.key) refl answer.Done c.reparent_telling.new.notices.items c.as_slice.result.now
+    (returns-clause-step c)
+    (c.reparent_telling.ensures.deadlock ∙ ap (λ (v : ManagerView). v.table.deadlock) c.self.view_is) c.as_slice.ensures.value c.add_notices.ensures
+    (notices_counted c.reparent_telling.new.notices.items)

@@ -14,13 +14,24 @@ use Rattle.gl_catalog.proofs.manager.Manager.settle_telling.Goals as goal
 
 pub returns-clause-step : goal.returns-clause-step
 returns-clause-step c =
-    managed_ok_only (doing c.settle_telling.new.notices.items) (command.Settle c.args.t) c.self.inside.table c.self.inside.accepted c.args.self.now c.self.view_is (living_tests (table_state c.self.inside.table) c.args.t) refl
-    tt c.settle_telling.new.self c.in_ok-check_count.ensures c.in_ok-settle_telling.ensures.refuses refl
-    (refl, c.in_ok-settle_telling.ensures.told, settled_counting c.self.inside.accepted (table_state c.self.inside.table).victims (table_state c.self.inside.table) c.args.t.slot (table_state c.settle_telling.new.self) c.in_ok-settle_telling.ensures.state)
+    managed_ok_only (doing c.settle_telling.new.notices.items)
+    (command.Settle c.args.t) c.self.inside.table c.self.inside.accepted c.args.self.now c.self.view_is (living_tests
+    (table_state c.self.inside.table) c.args.t) refl
+    tt c.settle_telling.new.self c.in_ok-check_count.ensures c.in_ok-settle_telling.ensures.refuses refl (
+      refl,
+      c.in_ok-settle_telling.ensures.told,
+      settled_counting c.self.inside.accepted (table_state c.self.inside.table).victims
+          (table_state c.self.inside.table) c.args.t.slot (table_state c.settle_telling.new.self) c.in_ok-settle_telling.ensures.state,
+    )
 
 pub returns-clause-completes : goal.returns-clause-completes
 returns-clause-completes c =
-    told_completed (view_of c.self.inside) c.args.self.now (record { table = c.settle_telling.new.self; accepted = c.self.inside.accepted + 1; counters = c.add_notices.new.self }) c.self.view_is c.self.invariant
+    told_completed (view_of c.self.inside) c.args.self.now
+    (record { table = c.settle_telling.new.self; accepted = c.self.inside.accepted + 1; counters = c.add_notices.new.self }) c.self.view_is c.self.invariant
     (command.Settle c.args.t) refl answer.Done c.settle_telling.new.notices.items c.as_slice.result.now (returns-clause-step c)
-    (subst (λ (v : ManagerView). SettlesKeeping (state_of v).victims (state_of v) c.args.t.slot v.table.deadlock (counting v.accepted (table_state c.settle_telling.new.self)) c.settle_telling.new.self.deadlock) c.self.view_is
-    (keeping_counting c.self.inside.accepted (table_state c.self.inside.table).victims (table_state c.self.inside.table) c.args.t.slot c.self.inside.table.deadlock (table_state c.settle_telling.new.self) c.settle_telling.new.self.deadlock c.in_ok-settle_telling.ensures.deadlock)) c.as_slice.ensures.value c.add_notices.ensures (notices_counted c.settle_telling.new.notices.items)
+    (subst (λ (v : ManagerView). SettlesKeeping (state_of v).victims (state_of v) c.args.t.slot v.table.deadlock (counting v.accepted
+    (table_state c.settle_telling.new.self)) c.settle_telling.new.self.deadlock) c.self.view_is
+    (keeping_counting c.self.inside.accepted (table_state c.self.inside.table).victims
+    (table_state c.self.inside.table) c.args.t.slot c.self.inside.table.deadlock
+    (table_state c.settle_telling.new.self) c.settle_telling.new.self.deadlock c.in_ok-settle_telling.ensures.deadlock)) c.as_slice.ensures.value
+    c.add_notices.ensures (notices_counted c.settle_telling.new.notices.items)

@@ -17,26 +17,40 @@ use Rattle.gl_catalog.proofs.manager.Manager.try_lock.Goals as goal
 pub returns-in_err-check_count-clause-step : goal.returns-in_err-check_count-clause-step
 returns-in_err-check_count-clause-step c =
     let is : c.from_residual.result ≡ Err c.in_err-check_count.field-0.0 = search rules in
-    subst (λ (r : Result Mode Refusal). CallSteps (state_of c.args.self.now) (command.Try c.args.t c.args.n c.args.mode) took r (state_of c.args.self.now)) (sym is)
-    (managed_worn took (command.Try c.args.t c.args.n c.args.mode) c.self.inside.table c.self.inside.accepted c.args.self.now c.self.view_is (try_tests (table_state c.self.inside.table) c.args.t c.args.n c.args.mode) refl c.in_err-check_count.field-0.0 c.in_err-check_count.ensures)
+    subst (λ (r : Result Mode Refusal). CallSteps (state_of c.args.self.now) (command.Try c.args.t c.args.n c.args.mode) took r (state_of c.args.self.now))
+    (sym is)
+    (managed_worn took (command.Try c.args.t c.args.n c.args.mode) c.self.inside.table c.self.inside.accepted c.args.self.now c.self.view_is (try_tests
+    (table_state c.self.inside.table) c.args.t c.args.n c.args.mode) refl c.in_err-check_count.field-0.0 c.in_err-check_count.ensures)
 
 pub returns-in_err-mode-clause-step : goal.returns-in_err-mode-clause-step
 returns-in_err-mode-clause-step c =
     let is : c.from_residual-in_err-mode.result ≡ Err c.in_err-mode.field-0.0 = search rules in
-    subst (λ (r : Result Mode Refusal). CallSteps (state_of c.args.self.now) (command.Try c.args.t c.args.n c.args.mode) took r (counting c.self.inside.accepted (table_state c.try_lock.new.self))) (sym is)
-    (managed_err_or_memory took (command.Try c.args.t c.args.n c.args.mode) c.self.inside.table c.self.inside.accepted c.args.self.now c.self.view_is (try_tests (table_state c.self.inside.table) c.args.t c.args.n c.args.mode) refl
-    c.in_err-mode.field-0.0 c.try_lock.new.self c.in_ok-check_count.ensures (λ none. never_true _ (λ holds. no (c.in_err-mode.ensures.held none holds))) c.in_err-mode.ensures.refuses c.in_err-mode.ensures.err)
+    subst (λ (r : Result Mode Refusal). CallSteps (state_of c.args.self.now) (command.Try c.args.t c.args.n c.args.mode) took r
+    (counting c.self.inside.accepted (table_state c.try_lock.new.self))) (sym is)
+    (managed_err_or_memory took (command.Try c.args.t c.args.n c.args.mode) c.self.inside.table c.self.inside.accepted c.args.self.now c.self.view_is
+    (try_tests (table_state c.self.inside.table) c.args.t c.args.n c.args.mode) refl
+    c.in_err-mode.field-0.0 c.try_lock.new.self c.in_ok-check_count.ensures (λ none. never_true _ (λ holds. no
+    (c.in_err-mode.ensures.held none holds))) c.in_err-mode.ensures.refuses c.in_err-mode.ensures.err)
 
 pub returns-clause-step : goal.returns-clause-step
 returns-clause-step c =
-    managed_ok took (command.Try c.args.t c.args.n c.args.mode) c.self.inside.table c.self.inside.accepted c.args.self.now c.self.view_is (try_tests (table_state c.self.inside.table) c.args.t c.args.n c.args.mode) refl
+    managed_ok took (command.Try c.args.t c.args.n c.args.mode) c.self.inside.table c.self.inside.accepted c.args.self.now c.self.view_is (try_tests
+    (table_state c.self.inside.table) c.args.t c.args.n c.args.mode) refl
     c.in_ok-mode.mode c.try_lock.new.self c.in_ok-check_count.ensures c.in_ok-mode.ensures.refuses refl
     (ap answer.Granted c.in_ok-mode.ensures.mode, refl, ap (counting c.self.inside.accepted) c.in_ok-mode.ensures.state)
 
 pub returns-clause-completes : goal.returns-clause-completes
 returns-clause-completes c =
-    completed c.args.self.now (record { table = c.try_lock.new.self; accepted = c.self.inside.accepted + 1; counters = c.add_grant.new.self }) (subst IsLawfulManager c.self.view_is c.self.invariant)
-    (command.Try c.args.t c.args.n c.args.mode) (took c.in_ok-mode.mode) (returns-clause-step c) (c.in_ok-mode.ensures.deadlock ∙ ap (λ (v : ManagerView). v.table.deadlock) c.self.view_is)
+    completed c.args.self.now (record { table = c.try_lock.new.self; accepted = c.self.inside.accepted + 1; counters = c.add_grant.new.self })
+    (subst IsLawfulManager c.self.view_is c.self.invariant)
+    (command.Try c.args.t c.args.n c.args.mode) (took c.in_ok-mode.mode) (returns-clause-step c) (c.in_ok-mode.ensures.deadlock
+    ∙ ap (λ (v : ManagerView). v.table.deadlock) c.self.view_is)
     (ap (λ (v : ManagerView). v.accepted + 1) c.self.view_is)
-    (c.add_grant.ensures ∙ ap (λ (v : ManagerView). record v.counters { granted = rises v.counters.granted 1; conversions = rises v.counters.conversions (one_if c.holds_already-converts.result) }) c.self.view_is
-    ∙ sym (try_counted (state_of c.args.self.now) (state_of (record { table = c.try_lock.new.self; accepted = c.self.inside.accepted + 1; counters = c.add_grant.new.self })) c.args.t c.args.n c.in_ok-mode.mode c.args.mode c.holds_already-converts.result c.args.self.now.counters c.holds_already-converts.ensures))
+    (c.add_grant.ensures ∙ ap (λ (v : ManagerView). record v.counters {
+      granted = rises v.counters.granted 1;
+      conversions = rises v.counters.conversions
+          (one_if c.holds_already-converts.result);
+    }) c.self.view_is
+    ∙ sym (try_counted (state_of c.args.self.now) (state_of
+    (record { table = c.try_lock.new.self; accepted = c.self.inside.accepted + 1; counters = c.add_grant.new.self })) c.args.t c.args.n
+    c.in_ok-mode.mode c.args.mode c.holds_already-converts.result c.args.self.now.counters c.holds_already-converts.ensures))

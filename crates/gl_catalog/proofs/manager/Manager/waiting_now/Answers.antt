@@ -8,6 +8,8 @@ use Rattle.gl_catalog.proofs.manager.Manager.waiting_now.Goals.{then-waits_in, e
 pub loop-slot-preserved : goal.loop-slot-preserved
 loop-slot-preserved c =
     elim c.if-waits_in.branch [
-      | then-waits_in w ↦ waiting_next (state_of c.args.self.now) c.loop-slot.slot c.loop-slot.waiting c.if-waits_in.waiting true c.loop-slot.invariant.0 c.loop-slot.invariant.1 (sym w.if-waits_in.true ∙ c.waits_in.ensures) w.waiting-is
-      | else-waits_in w ↦ waiting_next (state_of c.args.self.now) c.loop-slot.slot c.loop-slot.waiting c.if-waits_in.waiting false c.loop-slot.invariant.0 c.loop-slot.invariant.1 (sym w.if-waits_in.false ∙ c.waits_in.ensures) (let is = w.waiting-is in omega (arith, is))
+      | then-waits_in w ↦ waiting_next (state_of c.args.self.now) c.loop-slot.slot c.loop-slot.waiting c.if-waits_in.waiting true c.loop-slot.invariant.0
+          c.loop-slot.invariant.1 (sym w.if-waits_in.true ∙ c.waits_in.ensures) w.waiting-is
+      | else-waits_in w ↦ waiting_next (state_of c.args.self.now) c.loop-slot.slot c.loop-slot.waiting c.if-waits_in.waiting false c.loop-slot.invariant.0
+          c.loop-slot.invariant.1 (sym w.if-waits_in.false ∙ c.waits_in.ensures) (let is = w.waiting-is in omega (arith, is))
     ]
