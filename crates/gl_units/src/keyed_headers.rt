@@ -13,10 +13,7 @@ use gl_modes::{Mode, NodeId, Refusal};
 fn waits(headers: &Headers, slot: u8, node: NodeId) -> bool
     ensures { result ≡ is_among_waiters slot (queue_of headers.now.entries node) }
 {
-    headers
-        .queue(node)
-        .iter()
-        .any(|waiter| waiter.0 == slot)
+    headers.queue(node).iter().any(|waiter| waiter.0 == slot)
 }
 
 /// Whether nobody holds or waits for another node of this one's key.
@@ -95,8 +92,14 @@ fn a_header_is_found_by_its_key(rt: HostRuntime) -> Result<(), Refusal> {
     assert!(rt; headers.is_free(70));
     assert_eq!(rt; headers.group(far), Mode::NL);
     assert!(rt; headers.would_grant(5, far, Mode::X));
-    assert_eq!(rt; ask(&mut headers, 5, far, Mode::X)?, Some(Asked::Granted(Mode::X)));
-    assert_eq!(rt; ask(&mut headers, 6, near, Mode::IS)?, Some(Asked::Granted(Mode::IS)));
+    assert_eq!(rt;
+        ask(&mut headers, 5, far, Mode::X)?,
+        Some(Asked::Granted(Mode::X))
+    );
+    assert_eq!(rt;
+        ask(&mut headers, 6, near, Mode::IS)?,
+        Some(Asked::Granted(Mode::IS))
+    );
     assert_eq!(rt; headers.group(far), Mode::X);
     assert_eq!(rt; headers.group(near), Mode::IS);
     assert!(rt; headers.holders(far).contains(5) && !headers.holders(near).contains(5));
@@ -113,10 +116,16 @@ fn a_key_is_used_again(rt: HostRuntime) -> Result<(), Refusal> {
         return Err(Refusal::NoMemory);
     };
     let (old, new) = (node_of(3, 1), node_of(3, 2));
-    assert_eq!(rt; ask(&mut headers, 0, old, Mode::S)?, Some(Asked::Granted(Mode::S)));
+    assert_eq!(rt;
+        ask(&mut headers, 0, old, Mode::S)?,
+        Some(Asked::Granted(Mode::S))
+    );
     assert!(rt; drop_grant(&mut headers, 0, old).is_some());
     assert!(rt; headers.is_free(3) && headers.get(old).is_none());
-    assert_eq!(rt; ask(&mut headers, 1, new, Mode::X)?, Some(Asked::Granted(Mode::X)));
+    assert_eq!(rt;
+        ask(&mut headers, 1, new, Mode::X)?,
+        Some(Asked::Granted(Mode::X))
+    );
     assert!(rt; headers.holders(new).contains(1) && !headers.holders(new).contains(0));
     assert!(rt; headers.get(old).is_none());
     Ok(())
@@ -128,11 +137,20 @@ fn queues_grant_and_are_left(rt: HostRuntime) -> Result<(), Refusal> {
         return Err(Refusal::NoMemory);
     };
     let node = node_of(1, 1);
-    assert_eq!(rt; ask(&mut headers, 0, node, Mode::X)?, Some(Asked::Granted(Mode::X)));
+    assert_eq!(rt;
+        ask(&mut headers, 0, node, Mode::X)?,
+        Some(Asked::Granted(Mode::X))
+    );
     for slot in [1, 2] {
-        assert_eq!(rt; ask(&mut headers, slot, node, Mode::S)?, Some(Asked::Waiting));
+        assert_eq!(rt;
+            ask(&mut headers, slot, node, Mode::S)?,
+            Some(Asked::Waiting)
+        );
     }
-    assert_eq!(rt; headers.queue(node), [(1, Mode::S), (2, Mode::S)].as_slice());
+    assert_eq!(rt;
+        headers.queue(node),
+        [(1, Mode::S), (2, Mode::S)].as_slice()
+    );
     assert!(rt; headers.waits_for(2, node, Mode::S).contains(0));
     assert!(rt; headers.waits_for(2, node, Mode::S).contains(1));
     let granted = drop_wait(&mut headers, 2, node).expect(&rt, "slot 2 waits");
@@ -153,7 +171,10 @@ fn more_headers_go_than_wait_aside(rt: HostRuntime) -> Result<(), Refusal> {
     for birth in [1, 2] {
         for key in 0..20 {
             let node = node_of(key, birth);
-            assert_eq!(rt; ask(&mut headers, 9, node, Mode::IX)?, Some(Asked::Granted(Mode::IX)));
+            assert_eq!(rt;
+                ask(&mut headers, 9, node, Mode::IX)?,
+                Some(Asked::Granted(Mode::IX))
+            );
         }
         for key in 0..20 {
             assert!(rt; drop_grant(&mut headers, 9, node_of(key, birth)).is_some());

@@ -15,8 +15,8 @@ fn node(number: u64) -> NodeId {
 
 /// Puts a value last, unless the node has one.
 fn put(list: &mut NodeMap<u32>, number: u64, value: u32) -> Result<(), AllocError> {
+    list.reserve_one()?;
     if list.get(node(number)).is_none() {
-        list.reserve_one()?;
         list.insert_new(node(number), value);
     }
     Ok(())

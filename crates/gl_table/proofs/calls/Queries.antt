@@ -1,21 +1,18 @@
 -- What is asked of a table: its lists and headers say what its state says. For queries and tests.
-use Rattle.gl_table.proofs.Words.{[], ◌&&◌, ◌+◌, ◌<◌, ◌||◌, ◌∙◌, ◌∷◌, ◌≡◌, ◌≤◌, add-one, and_both, answered, any_found, ap, ap₂, AreRowsOf, arith, board_of}
-use Rattle.gl_table.proofs.Words.{Bool, by_list, child_held, clash, cond, count_by, counted_by, drop, drop-cons, effect_on, effective, Entry, entry_at, Err}
+use Rattle.gl_table.proofs.Words.{[], ◌&&◌, ◌+◌, ◌<◌, ◌||◌, ◌∙◌, ◌∷◌, ◌≡◌, ◌≤◌, add-one, answered, ap, ap₂, AreRowsOf, arith, board_of}
+use Rattle.gl_table.proofs.Words.{Bool, by_list, child_held, cond, count_by, counted_by, drop, drop-cons, effect_on, effective, Entry, entry_at, Err}
 use Rattle.gl_table.proofs.Words.{false, find, first_not_ix, first_of_all, first_refusal, fun_ext, get_or, Graph, graph_of, group_of, group_of-limit, held_by}
 use Rattle.gl_table.proofs.Words.{held_child, held_children, held_of, holds, if◌then◌else◌, IS, is_at_least, is_child, is_live, is_row_of, is_some, is_write}
-use Rattle.gl_table.proofs.Words.{IsDistinct, IsLawfulGraph, IsSound, IX, keys, keys_of, length, length-map, List, list_all, list_any, listed, ListsAgree}
+use Rattle.gl_table.proofs.Words.{IsDistinct, IsSound, IX, keys, keys_of, length, length-map, List, list_all, list_any, ListsAgree}
 use Rattle.gl_table.proofs.Words.{LockList, LockRow, lookup, lookup_from_place, map, members, members_at, Mode, mode_in, mode_of, NL, no, no_parents}
-use Rattle.gl_table.proofs.Words.{node_equivalence, NodeId, nodes, None, none_some, not, not_held, not_true, Ok, Option, option_map, option_map_or, queue_of}
+use Rattle.gl_table.proofs.Words.{node_equivalence, NodeId, nodes, None, none_some, not, not_held, Ok, Option, option_map, option_map_or, queue_of}
 use Rattle.gl_table.proofs.Words.{refl, Refusal, Refuses, RefusesOnly, Result, row_of, rows_of, rule_refusal, same_mode, same_node, Seat, shown, slice_get}
 use Rattle.gl_table.proofs.Words.{slice_get-get_or, slice_get-map, slot_limit, Some, split, StandOnce, State, state_of, subst, suc, sum_by-cons, sym, TableView}
 use Rattle.gl_table.proofs.Words.{true, txns_of, verdict, view_of, where_true, zero, ℕ}
 use Rattle.gl_table.specs.declared.table.Table.TheInside.{Inside}
 use Rattle.std.specs.List.{All}
 use Rattle.gl_modes.specs.declared.refusal.Refusal.TheVariants as no
-use Rattle.gl_listed.proofs.Children.{held_listed}
 use Rattle.gl_table.proofs.law.Keeps.{lawful-within}
-use Rattle.gl_listed.proofs.Children.{write_held}
-use Rattle.gl_listed.proofs.Children.{one_found}
 
 -- What the lists say of held children, as the tests of an unlock.
 

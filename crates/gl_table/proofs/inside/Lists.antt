@@ -1,12 +1,11 @@
 -- Lists in which nothing stands. For new locks.
-use Rattle.gl_table.proofs.Words.{[], ◌&&◌, ◌++◌, ◌+◌, ◌-◌, ◌<◌, ◌==◌, ◌∙◌, ◌∷◌, ◌≡◌, ◌≢◌, ◌≤◌, and-false, ap, ap₂, AreApart, arith, Bool, by_list, cond}
-use Rattle.gl_table.proofs.Words.{count_in, count_of, counted_by, Entry, entry_of, false, get_or, get_or-set_other, get_or-set_same, get_or-take}
-use Rattle.gl_table.proofs.Words.{get_or_from_slice_get, held_by, if◌then◌else◌, is_listed, is_some, IsApart, length, length-take-le, List, list_any, listed_by}
-use Rattle.gl_table.proofs.Words.{LockList, lookup, lt-ltb, map, Mode, mode_in, mode_of, nat_lt, nat_tests, NL, NodeId, None, not, Option, option_map_or}
-use Rattle.gl_table.proofs.Words.{or_left, or_right, other_number, position_or_len, refl, same_mode, same_node, same_node-equal, same_node-from_equal}
-use Rattle.gl_table.proofs.Words.{same_node-refl, same_node-sym, same_number, slice_get, slice_get-get_or, slice_get_within, slice_index_or, slice_set, Some}
-use Rattle.gl_table.proofs.Words.{some_is, split, subst, suc, swap_remove, swap_remove_by, sym, true, unwrap_or, zero, ℕ, ⊤}
-use Rattle.std.proofs.lemmas.List.{length-set}
+use Rattle.gl_table.proofs.Words.{[], ◌++◌, ◌+◌, ◌∷◌, ◌≡◌, AreApart, arith, by_list}
+use Rattle.gl_table.proofs.Words.{count_of, counted_by, Entry, entry_of, false}
+use Rattle.gl_table.proofs.Words.{held_by, is_listed, is_some, IsApart, length, List, listed_by}
+use Rattle.gl_table.proofs.Words.{LockList, mode_in, mode_of, NL, NodeId, None, Option}
+use Rattle.gl_table.proofs.Words.{refl}
+use Rattle.gl_table.proofs.Words.{Some}
+use Rattle.gl_table.proofs.Words.{subst, suc, zero, ℕ, ⊤}
 
 -- Lists in which nothing stands.
 

@@ -3,7 +3,7 @@ use Rattle.gl_table.proofs.Words.{[], ◌&&◌, ◌++◌, ◌==◌, ◌||◌, �
 use Rattle.gl_table.proofs.Words.{bad_mode, Bool, child_held, clash, cond, Condemned, condemned_test, false, find, first_not_ix, first_of_all, first_refusal}
 use Rattle.gl_table.proofs.Words.{fits, held_child, holds, if◌then◌else◌, intends, intends_over, IS, is_at_least, is_child, is_covered, is_live}
 use Rattle.gl_table.proofs.Words.{is_record_shape, is_write, IsLawful, IX, List, list_all, list_any, listed, live_by, members, Mode, ModeFitsKind, NL}
-use Rattle.gl_table.proofs.Words.{no_parents, no_txn, NodeId, nodes, None, not, not_false, not_refused, not_true, Option, or_elim, or_left, or_no, or_right}
+use Rattle.gl_table.proofs.Words.{no_parents, no_txn, NodeId, nodes, None, not, not_false, not_refused, not_true, Option, or_elim, or_left, or_no}
 use Rattle.gl_table.proofs.Words.{parents_of, raised, refl, Refusal, rules, S, same_mode, same_node, same_node-equal, shape_of, shed, Some, some_no_node, split}
 use Rattle.gl_table.proofs.Words.{State, Status, status_in, status_of, supremum, supremum-above, supremum-not_NL, sym, test_fails, true, Txn, TxnId, Waiting}
 use Rattle.gl_table.proofs.Words.{waiting_test, wanted, X, ℕ}
