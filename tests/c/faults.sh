@@ -47,7 +47,7 @@ found() {
     $compiler -std=c99 -D_POSIX_C_SOURCE=200809L -pthread -O1 -w -I"$there" -o "$there/$program" \
       "$top/tests/c/$program.c" "${libraries[@]}" ${FAULT_LINKS:-} "${with[@]}" || return 1
   done
-  timeout 60 "$there/shared" 2 >"$there/said" 2>&1 && timeout 60 "$there/crowd" 4 4 >>"$there/said" 2>&1
+  timeout 60 "$there/shared" 5 >"$there/said" 2>&1 && timeout 60 "$there/crowd" 4 4 >>"$there/said" 2>&1
   [ $? -eq 1 ] || { echo "faults.sh: $1 was not found"; return 1; }
   echo "$1: found: $(grep -E ': (hangs|not so|[a-z_]*: not so)' "$there/said" | tail -n 1 | sed 's/^[^ ]*\.c:[0-9]*: //')"
 }

@@ -15,7 +15,8 @@ use Rattle.gl_c.specs.Numbers.{done, too_many_watchers}
 use Rattle.gl_c.specs.Replies.{refused_reply, status_reply}
 use Rattle.gl_c.specs.Watching.{Attends, Continues, Knows, Watches}
 
--- the publisher that a watcher finds or that is made for it is no newer than the board of now, of the manager's way of detection, and goes on from what was shown
+-- the publisher that a watcher finds or that is made for it is no newer than the board of now, of the manager's way of detection, and goes on from
+-- what was shown
 pub record IsOpened (o : Option Strip) (board : Board) (detect : Detect) (p : Strip) : Type 0 where
   pub epoch : last_epoch 0 p.list ≤ board.epoch
   pub way : p.detect ≡ detect
@@ -27,7 +28,8 @@ goes_on_self s = record { book = refl; detect = refl; begins = prefix_self s.lis
 same_ok : {E : Type 0} (x : Result Strip E) (p q : Strip) → x ≡ Ok p → x ≡ Ok q → p ≡ q
 same_ok x p q a b = cc (a, b)
 
-opened : {E : Type 0} (o : Option Strip) (x : Result Strip E) (p : Strip) (board : Board) (detect : Detect) → x ≡ Ok p → IfSome o (λ q. x ≡ Ok q) → IfNone o (IfOk x (λ q. (q.list ≡ board ∷ []) × (q.detect ≡ detect)))
+opened : {E : Type 0} (o : Option Strip) (x : Result Strip E) (p : Strip) (board : Board) (detect : Detect) → x ≡ Ok p → IfSome o (λ q. x ≡ Ok q)
+    → IfNone o (IfOk x (λ q. (q.list ≡ board ∷ []) × (q.detect ≡ detect)))
     → IfSome o (λ q. last_epoch 0 q.list ≤ board.epoch) → IfSome o (λ q. q.detect ≡ detect) → IsOpened o board detect p
 opened {E} None x p board detect is same first low way =
     let made = subst (λ (y : Result Strip E). IfOk y (λ q. (q.list ≡ board ∷ []) × (q.detect ≡ detect))) is first in
@@ -41,8 +43,10 @@ opened (Some q) x p board detect is same first low way =
     }
 
 -- the same, in the words of the call that takes it
-pub opened_by : {E : Type 0} (taken o : Option Strip) (x : Result Strip E) (p : Strip) (board : Board) (n : ℕ) (way detect : Detect) → taken ≡ o → x ≡ Ok p → IfSome taken (λ q. x ≡ Ok q)
-    → IfNone taken (IfOk x (λ q. (q.list ≡ board ∷ []) × (q.detect ≡ detect))) → IfSome o (λ q. last_epoch 0 q.list ≤ n) → IfSome o (λ q. q.detect ≡ way) → board.epoch ≡ n → detect ≡ way → IsOpened o board way p
+pub opened_by : {E : Type 0} (taken o : Option Strip) (x : Result Strip E) (p : Strip) (board : Board) (n : ℕ) (way detect : Detect) → taken ≡ o → x ≡ Ok p
+    → IfSome taken (λ q. x ≡ Ok q)
+    → IfNone taken (IfOk x (λ q. (q.list ≡ board ∷ []) × (q.detect ≡ detect))) → IfSome o (λ q. last_epoch 0 q.list ≤ n) → IfSome o (λ q. q.detect ≡ way)
+    → board.epoch ≡ n → detect ≡ way → IsOpened o board way p
 opened_by {E} taken o x p board n way detect from is same first low ways at so =
     opened o x p board way is (subst (λ (z : Option Strip). IfSome z (λ q. x ≡ Ok q)) from same)
     (subst (λ (d : Detect). IfNone o (IfOk x (λ q. (q.list ≡ board ∷ []) × (q.detect ≡ d)))) so
@@ -60,7 +64,8 @@ none_of None b is out = refl
 none_of (Some s) b is out = absurd (cc (is, out))
 
 -- a watcher that was made
-pub watches_made : (m m' : Option GuardedView) (w : Option Strip) (eye : Strip) (r : Reply) → Attends m (Some (Ok eye)) m' → w ≡ None → r ≡ status_reply done → Watches m w r m' (Some eye)
+pub watches_made : (m m' : Option GuardedView) (w : Option Strip) (eye : Strip) (r : Reply) → Attends m (Some (Ok eye)) m' → w ≡ None → r ≡ status_reply done
+    → Watches m w r m' (Some eye)
 watches_made None m' w eye r h none is = absurd (cc (h.0))
 watches_made (Some g) m' (Some s) eye r h none is = absurd (cc none)
 watches_made (Some g) m' None eye r h none is =
@@ -69,7 +74,8 @@ watches_made (Some g) m' None eye r h none is =
     (h.2, h.3, h.4, inl (is, eye, refl, subst (λ (y : Result Strip WatchFault). IfOk y (Knows g h.2)) same h.5))
 
 -- and one that was not
-pub watches_not : (m m' : Option GuardedView) (w : Option Strip) (x : Result Strip WatchFault) (r : Reply) → Attends m (Some x) m' → w ≡ None → (r ≡ status_reply too_many_watchers) ⊎ (r ≡ refused_reply no.NoMemory) → Watches m w r m' w
+pub watches_not : (m m' : Option GuardedView) (w : Option Strip) (x : Result Strip WatchFault) (r : Reply) → Attends m (Some x) m' → w ≡ None
+    → (r ≡ status_reply too_many_watchers) ⊎ (r ≡ refused_reply no.NoMemory) → Watches m w r m' w
 watches_not None m' w x r h none is = absurd (cc (h.0))
 watches_not (Some g) m' (Some s) x r h none is = absurd (cc none)
 watches_not (Some g) m' None x r h none is = (h.2, h.3, h.4, inr (is, refl))

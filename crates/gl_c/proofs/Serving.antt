@@ -27,7 +27,8 @@ abbrev pub IsQuiet : ManagerView → Option Strip → Bool → Type 0
 IsQuiet m shown waited = waited ≡ false → NobodyWaits (state_of m) × ShowsNobodyLast shown
 
 -- a command that is not accepted
-pub serves_not : (g : GuardedView) (c : Command) (a : Answer) (told : Told) (m : ManagerView) → Applies g.manager c a told m → accepts c a ≡ false → told ≡ [] → m ≡ g.manager → IsQuiet g.manager g.shown g.waited
+pub serves_not : (g : GuardedView) (c : Command) (a : Answer) (told : Told) (m : ManagerView) → Applies g.manager c a told m → accepts c a ≡ false → told ≡ []
+    → m ≡ g.manager → IsQuiet g.manager g.shown g.waited
     → Serves g c a told (record g { manager = m })
 serves_not g c a told m applies not_so none same quiet = record {
   applies = applies;
@@ -39,14 +40,18 @@ serves_not g c a told m applies not_so none same quiet = record {
 }
 
 -- an accepted command
-pub serves_yes : (g after : GuardedView) (c : Command) (a : Answer) (told : Told) (m : ManagerView) (boxes : List Slot) (ended : ℕ) → Applies g.manager c a told m → accepts c a ≡ true
-    → ((mid : List Slot) × Delivers g.boxes told mid × (boxes ≡ cleared c a mid)) → (after.manager ≡ m) × (after.boxes ≡ boxes) × (after.ended ≡ ended) → Wakes c g.manager told m ended
-    → ShowsOn (g.waited || leaves_waiting a) (board_of (state_of m)) g.shown after.shown → IsQuiet after.manager after.shown after.waited → Serves g c a told after
+pub serves_yes : (g after : GuardedView) (c : Command) (a : Answer) (told : Told) (m : ManagerView) (boxes : List Slot) (ended : ℕ)
+    → Applies g.manager c a told m → accepts c a ≡ true
+    → ((mid : List Slot) × Delivers g.boxes told mid × (boxes ≡ cleared c a mid)) → (after.manager ≡ m) × (after.boxes ≡ boxes) × (after.ended ≡ ended)
+    → Wakes c g.manager told m ended
+    → ShowsOn (g.waited || leaves_waiting a) (board_of (state_of m)) g.shown after.shown → IsQuiet after.manager after.shown after.waited
+    → Serves g c a told after
 serves_yes g after c a told m boxes ended applies so delivered kept wakes shown quiet = record {
   applies = subst (λ (x : ManagerView). Applies g.manager c a told x) (sym kept.0) applies;
   boxes = (delivered.0, delivered.1, kept.1 ∙ delivered.2);
   not_accepted = λ not_so. absurd (true≢false (sym so ∙ not_so));
-  wakes = λ _. subst (λ (n : ℕ). Wakes c g.manager told after.manager n) (sym kept.2) (subst (λ (x : ManagerView). Wakes c g.manager told x ended) (sym kept.0) wakes);
+  wakes = λ _. subst (λ (n : ℕ). Wakes c g.manager told after.manager n) (sym kept.2)
+      (subst (λ (x : ManagerView). Wakes c g.manager told x ended) (sym kept.0) wakes);
   shown = subst (λ (x : ManagerView). ShowsOn (g.waited || leaves_waiting a) (board_of (state_of x)) g.shown after.shown) (sym kept.0) shown;
   quiet = quiet;
 }

@@ -18,7 +18,8 @@ later_epoch None n m le h = h
 later_epoch (Some p) n m le h = le_trans h le
 
 -- the epoch of what is shown, with the board or without
-pub either_epoch : (list after : List Board) (board : Board) (n : ℕ) → (after ≡ list) ⊎ (after ≡ list ++ board ∷ []) → last_epoch 0 list ≤ n → board.epoch ≡ n → last_epoch 0 after ≤ n
+pub either_epoch : (list after : List Board) (board : Board) (n : ℕ) → (after ≡ list) ⊎ (after ≡ list ++ board ∷ []) → last_epoch 0 list ≤ n → board.epoch ≡ n
+    → last_epoch 0 after ≤ n
 either_epoch list after board n is low at = ⊎_elim
     (λ (t : after ≡ list). subst (λ (l : List Board). last_epoch 0 l ≤ n) (sym t) low)
     (λ (t : after ≡ list ++ board ∷ []). told_epoch true list after board n t low at)
@@ -29,7 +30,8 @@ pub either_board : (list after : List Board) (b c : Board) → (after ≡ list) 
 either_board list after b c either is = subst (λ (x : Board). (after ≡ list) ⊎ (after ≡ list ++ x ∷ [])) is either
 
 -- what watchers are shown, where somebody waited
-pub shows_on : (waited : Bool) (board : Board) (p q : Strip) → waited ≡ true → (q.list ≡ p.list) ⊎ (q.list ≡ p.list ++ board ∷ []) → q.book ≡ p.book → q.detect ≡ p.detect → ShowsOn waited board (Some p) (Some q)
+pub shows_on : (waited : Bool) (board : Board) (p q : Strip) → waited ≡ true → (q.list ≡ p.list) ⊎ (q.list ≡ p.list ++ board ∷ []) → q.book ≡ p.book
+    → q.detect ≡ p.detect → ShowsOn waited board (Some p) (Some q)
 shows_on waited board p q on either book detect = (
   q,
   refl,
@@ -55,7 +57,11 @@ either_goes_on p q board is book detect = record {
 }
 
 goes_further : (b p q : Strip) → GoesOn b p → GoesOn p q → GoesOn b q
-goes_further b p q one two = record { book = two.book ∙ one.book; detect = two.detect ∙ one.detect; begins = prefix_trans b.list p.list q.list one.begins two.begins }
+goes_further b p q one two = record {
+  book = two.book ∙ one.book;
+  detect = two.detect ∙ one.detect;
+  begins = prefix_trans b.list p.list q.list one.begins two.begins;
+}
 
 some_is : (p s : Strip) → Some p ≡ Some s → p ≡ s
 some_is p s e = cc e
@@ -65,7 +71,14 @@ continues_on None p q h on = tt
 continues_on (Some b) p q h on = (q, refl, goes_further b p q (subst (λ (s : Strip). GoesOn b s) (sym (some_is p h.0 h.1)) h.2) on)
 
 -- a watcher that knows what is shown, the board of now the last of it
-pub knows_last : (x : Result Strip WatchFault) (p q : Strip) (board now : Board) → IfOk x (λ w. (w ≡ q) × (q.list ≡ p.list ++ board ∷ [])) → board ≡ now → IfOk x (λ w. (Some q ≡ Some w) × Ends w.list now)
+pub knows_last : (x : Result Strip WatchFault) (p q : Strip) (board now : Board) → IfOk x (λ w. (w ≡ q) × (q.list ≡ p.list ++ board ∷ [])) → board ≡ now
+    → IfOk x (λ w. (Some q ≡ Some w) × Ends w.list now)
 knows_last (Err e) p q board now h is = h
-knows_last (Ok w) p q board now h is =
-    (ap (λ (s : Strip). Some s) (sym h.0), (p.list, subst (λ (s : Strip). s.list ≡ p.list ++ now ∷ []) (sym h.0) (h.1 ∙ ap (λ (b : Board). p.list ++ b ∷ []) is)))
+knows_last (Ok w) p q board now h is = (
+  ap (λ (s : Strip). Some s) (sym h.0),
+  (
+    p.list,
+    subst (λ (s : Strip). s.list ≡ p.list ++ now ∷ []) (sym h.0)
+        (h.1 ∙ ap (λ (b : Board). p.list ++ b ∷ []) is),
+  ),
+)

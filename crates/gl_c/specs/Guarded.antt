@@ -4,7 +4,8 @@ use Rattle.gl_catalog.specs.Manager.{ManagerView}
 use Rattle.gl_boxes.specs.Boxes.{Slot}
 use Rattle.gl_boxes.specs.Strip.{Strip}
 
--- the manager, one notice box a slot, the slots whose wait the last accepted command may have ended, the boards that watchers were shown, if there ever was a watcher, and whether somebody waited when the last was or a lock was left waiting since
+-- the manager, one notice box a slot, the slots whose wait the last accepted command may have ended, the boards that watchers were shown, if there
+-- ever was a watcher, and whether somebody waited when the last was or a lock was left waiting since
 pub record GuardedView : Type 0 where
   pub manager : ManagerView
   pub boxes : List Slot

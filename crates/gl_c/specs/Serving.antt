@@ -19,7 +19,8 @@ use Rattle.gl_boxes.specs.Strip.{Strip}
 use Rattle.gl_boxes.specs.Wakes.{HasEnded}
 use Rattle.gl_c.specs.Guarded.{GuardedView}
 
--- a command is one step of the model, leaves its caller and the others what the manager promises, keeps the last deadlock that it ends, and is counted by the law of the counters; where it is refused or only asks, all is as before
+-- a command is one step of the model, leaves its caller and the others what the manager promises, keeps the last deadlock that it ends, and is
+-- counted by the law of the counters; where it is refused or only asks, all is as before
 pub record Applies (m : ManagerView) (c : Command) (a : Answer) (told : Told) (m' : ManagerView) : Type 0 where
   pub step : Step (state_of m) c a told (state_of m')
   pub caller : KeepsCaller c (state_of m) (state_of m')
@@ -49,7 +50,8 @@ pub record Wakes (c : Command) (m : ManagerView) (told : Told) (m' : ManagerView
   pub all : HasEnded (state_of m) (state_of m') ended
   pub slots : (u : ℕ) → u < 128 → has_slot ended u ≡ (names_slot c u || list_any (λ x. x.0.slot == u) told)
 
--- a command is carried out; its notices stand in their boxes, but that an accepted lock empties its own slot's; whose wait it ended is known; watchers are shown the board behind it, whole, or nothing; one that is not accepted changes nothing
+-- a command is carried out; its notices stand in their boxes, but that an accepted lock empties its own slot's; whose wait it ended is known;
+-- watchers are shown the board behind it, whole, or nothing; one that is not accepted changes nothing
 pub record Serves (g : GuardedView) (c : Command) (a : Answer) (told : Told) (g' : GuardedView) : Type 0 where
   pub applies : Applies g.manager c a told g'.manager
   pub boxes : (mid : List Slot) × Delivers g.boxes told mid × (g'.boxes ≡ cleared c a mid)

@@ -17,7 +17,9 @@ returns-then-publish-clause-shown c = (
 )
 
 pub returns-then-publish-clause-list : goal.returns-then-publish-clause-list
-returns-then-publish-clause-list c = either_board c.args.publisher.now.list c.publish.new.self.list c.board_now-board.result (board_of (state_of c.args.manager.now)) c.publish.ensures.list c.board_now-board.ensures.board
+returns-then-publish-clause-list c = either_board c.args.publisher.now.list c.publish.new.self.list c.board_now-board.result
+    (board_of (state_of c.args.manager.now)) c.publish.ensures.list c.board_now-board.ensures.board
 
 pub returns-else-publish-clause-list : goal.returns-else-publish-clause-list
-returns-else-publish-clause-list c = either_board c.args.publisher.now.list c.publish.new.self.list c.board_now-board.result (board_of (state_of c.args.manager.now)) c.publish.ensures.list c.board_now-board.ensures.board
+returns-else-publish-clause-list c = either_board c.args.publisher.now.list c.publish.new.self.list c.board_now-board.result
+    (board_of (state_of c.args.manager.now)) c.publish.ensures.list c.board_now-board.ensures.board

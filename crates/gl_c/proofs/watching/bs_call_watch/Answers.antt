@@ -19,7 +19,8 @@ pub returns : goal.returns
 returns c =
     let is : c.watch.result ≡ Some (Ok c.in-Some-Ok.eye) = search rules in
     let to : watcher_in c.of-2.result ≡ Some c.in-Some-Ok.eye = search rules in
-    subst (λ (o : Option Strip). Watches (guarded_in c.args.manager.now) (watcher_in c.args.watcher.now) c.with_status-2.result (guarded_in c.watch.new.self) o) (sym to)
+    subst (λ (o : Option Strip). Watches (guarded_in c.args.manager.now) (watcher_in c.args.watcher.now) c.with_status-2.result
+    (guarded_in c.watch.new.self) o) (sym to)
     (watches_made (guarded_in c.args.manager.now) (guarded_in c.watch.new.self) (watcher_in c.args.watcher.now) c.in-Some-Ok.eye c.with_status-2.result
     (subst (λ (x : Option (Result Strip WatchFault)). Attends (guarded_in c.args.manager.now) x (guarded_in c.watch.new.self)) is c.watch.ensures)
     (none_of (watcher_in c.args.watcher.now) c.has_watcher.result c.has_watcher.ensures c.if-has_watcher.false) c.with_status-2.ensures)

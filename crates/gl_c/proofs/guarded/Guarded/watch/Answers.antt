@@ -17,24 +17,31 @@ publisher_of-requires c = record { fine = subst (λ (d : Detect). Fine d c.board
 
 pub returns-in_default-clause-kept : goal.returns-in_default-clause-kept
 returns-in_default-clause-kept c =
-    let none : c.self.inside.publisher ≡ None = sym c.take.ensures.value ∙ was_none c.take.result c.publisher_of.result c.in_default.field-0 c.publisher_of.ensures.same c.in_default.is in
-    subst (λ (v : GuardedView). OnlyShows v (record { manager = c.self.inside.manager; boxes = c.self.inside.boxes; ended = c.self.inside.ended; shown = c.take.new.self; waited = true })) c.self.view_is
+    let none : c.self.inside.publisher ≡ None = sym c.take.ensures.value ∙
+    was_none c.take.result c.publisher_of.result c.in_default.field-0 c.publisher_of.ensures.same c.in_default.is in
+    subst (λ (v : GuardedView). OnlyShows v
+    (record { manager = c.self.inside.manager; boxes = c.self.inside.boxes; ended = c.self.inside.ended; shown = c.take.new.self; waited = true }))
+    c.self.view_is
     (record { manager = refl; boxes = refl; ended = refl; shown = subst (λ (o : Option Strip). Continues o c.take.new.self) (sym none) tt })
 
 pub watch-watcher-requires-clause-rises : goal.watch-watcher-requires-clause-rises
 watch-watcher-requires-clause-rises c =
     let is : c.publisher_of.result ≡ Ok c.in-Ok.publisher = search rules in
     let found : IsOpened c.self.inside.publisher c.board_now-now.result c.self.inside.manager.table.detect c.in-Ok.publisher =
-    opened_by c.take.result c.self.inside.publisher c.publisher_of.result c.in-Ok.publisher c.board_now-now.result c.self.inside.manager.accepted c.self.inside.manager.table.detect c.detect-detect.result
-    c.take.ensures.value is c.publisher_of.ensures.same c.publisher_of.ensures.first c.self.invariant.epoch c.self.invariant.detect c.board_now-now.ensures.epoch c.detect-detect.ensures in
+    opened_by c.take.result c.self.inside.publisher c.publisher_of.result c.in-Ok.publisher c.board_now-now.result c.self.inside.manager.accepted
+    c.self.inside.manager.table.detect c.detect-detect.result
+    c.take.ensures.value is c.publisher_of.ensures.same c.publisher_of.ensures.first c.self.invariant.epoch c.self.invariant.detect
+    c.board_now-now.ensures.epoch c.detect-detect.ensures in
     found.epoch
 
 pub watch-watcher-requires-clause-fine : goal.watch-watcher-requires-clause-fine
 watch-watcher-requires-clause-fine c =
     let is : c.publisher_of.result ≡ Ok c.in-Ok.publisher = search rules in
     let found : IsOpened c.self.inside.publisher c.board_now-now.result c.self.inside.manager.table.detect c.in-Ok.publisher =
-    opened_by c.take.result c.self.inside.publisher c.publisher_of.result c.in-Ok.publisher c.board_now-now.result c.self.inside.manager.accepted c.self.inside.manager.table.detect c.detect-detect.result
-    c.take.ensures.value is c.publisher_of.ensures.same c.publisher_of.ensures.first c.self.invariant.epoch c.self.invariant.detect c.board_now-now.ensures.epoch c.detect-detect.ensures in
+    opened_by c.take.result c.self.inside.publisher c.publisher_of.result c.in-Ok.publisher c.board_now-now.result c.self.inside.manager.accepted
+    c.self.inside.manager.table.detect c.detect-detect.result
+    c.take.ensures.value is c.publisher_of.ensures.same c.publisher_of.ensures.first c.self.invariant.epoch c.self.invariant.detect
+    c.board_now-now.ensures.epoch c.detect-detect.ensures in
     subst (λ (d : Detect). Fine d c.board_now-now.result) (sym found.way) c.board_now-now.ensures.fine
 
 pub invariant_of-self-2 : goal.invariant_of-self-2
@@ -42,11 +49,14 @@ invariant_of-self-2 c =
     let at = c.board_now-now.ensures.epoch in
     let is : c.publisher_of.result ≡ Ok c.in-Ok.publisher = search rules in
     let found : IsOpened c.self.inside.publisher c.board_now-now.result c.self.inside.manager.table.detect c.in-Ok.publisher =
-    opened_by c.take.result c.self.inside.publisher c.publisher_of.result c.in-Ok.publisher c.board_now-now.result c.self.inside.manager.accepted c.self.inside.manager.table.detect c.detect-detect.result
-    c.take.ensures.value is c.publisher_of.ensures.same c.publisher_of.ensures.first c.self.invariant.epoch c.self.invariant.detect c.board_now-now.ensures.epoch c.detect-detect.ensures in
+    opened_by c.take.result c.self.inside.publisher c.publisher_of.result c.in-Ok.publisher c.board_now-now.result c.self.inside.manager.accepted
+    c.self.inside.manager.table.detect c.detect-detect.result
+    c.take.ensures.value is c.publisher_of.ensures.same c.publisher_of.ensures.first c.self.invariant.epoch c.self.invariant.detect
+    c.board_now-now.ensures.epoch c.detect-detect.ensures in
     let below = found.epoch in
     record {
-      epoch = either_epoch c.in-Ok.publisher.list c.watch-watcher.new.self.list c.board_now-now.result c.self.inside.manager.accepted c.watch-watcher.ensures.list (omega (arith, below, at)) at;
+      epoch = either_epoch c.in-Ok.publisher.list c.watch-watcher.new.self.list c.board_now-now.result c.self.inside.manager.accepted
+          c.watch-watcher.ensures.list (omega (arith, below, at)) at;
       detect = c.watch-watcher.ensures.of.1 ∙ found.way;
       quiet = λ e. absurd (true≢false e);
     }
@@ -55,13 +65,23 @@ pub returns-clause-kept : goal.returns-clause-kept
 returns-clause-kept c =
     let is : c.publisher_of.result ≡ Ok c.in-Ok.publisher = search rules in
     let found : IsOpened c.self.inside.publisher c.board_now-now.result c.self.inside.manager.table.detect c.in-Ok.publisher =
-    opened_by c.take.result c.self.inside.publisher c.publisher_of.result c.in-Ok.publisher c.board_now-now.result c.self.inside.manager.accepted c.self.inside.manager.table.detect c.detect-detect.result
-    c.take.ensures.value is c.publisher_of.ensures.same c.publisher_of.ensures.first c.self.invariant.epoch c.self.invariant.detect c.board_now-now.ensures.epoch c.detect-detect.ensures in
-    let on = either_goes_on c.in-Ok.publisher c.watch-watcher.new.self c.board_now-now.result c.watch-watcher.ensures.list c.watch-watcher.ensures.of.0 c.watch-watcher.ensures.of.1 in
-    subst (λ (v : GuardedView). OnlyShows v (record { manager = c.self.inside.manager; boxes = c.self.inside.boxes; ended = c.self.inside.ended; shown = Some c.watch-watcher.new.self; waited = true })) c.self.view_is
-    (record { manager = refl; boxes = refl; ended = refl; shown = continues_on c.self.inside.publisher c.in-Ok.publisher c.watch-watcher.new.self found.goes_on on })
+    opened_by c.take.result c.self.inside.publisher c.publisher_of.result c.in-Ok.publisher c.board_now-now.result c.self.inside.manager.accepted
+    c.self.inside.manager.table.detect c.detect-detect.result
+    c.take.ensures.value is c.publisher_of.ensures.same c.publisher_of.ensures.first c.self.invariant.epoch c.self.invariant.detect
+    c.board_now-now.ensures.epoch c.detect-detect.ensures in
+    let on = either_goes_on c.in-Ok.publisher c.watch-watcher.new.self c.board_now-now.result c.watch-watcher.ensures.list c.watch-watcher.ensures.of.0
+    c.watch-watcher.ensures.of.1 in
+    subst (λ (v : GuardedView). OnlyShows v (record
+    { manager = c.self.inside.manager; boxes = c.self.inside.boxes; ended = c.self.inside.ended; shown = Some c.watch-watcher.new.self; waited = true }))
+    c.self.view_is (record {
+      manager = refl;
+      boxes = refl;
+      ended = refl;
+      shown = continues_on c.self.inside.publisher c.in-Ok.publisher c.watch-watcher.new.self found.goes_on on;
+    })
 
 pub returns-clause-watcher : goal.returns-clause-watcher
 returns-clause-watcher c =
-    knows_last c.watch-watcher.result c.in-Ok.publisher c.watch-watcher.new.self c.board_now-now.result (board_of (state_of c.args.self.now.manager)) c.watch-watcher.ensures.watcher
+    knows_last c.watch-watcher.result c.in-Ok.publisher c.watch-watcher.new.self c.board_now-now.result (board_of (state_of c.args.self.now.manager))
+    c.watch-watcher.ensures.watcher
     (c.board_now-now.ensures.board ∙ ap (λ (v : GuardedView). board_of (state_of v.manager)) c.self.view_is)

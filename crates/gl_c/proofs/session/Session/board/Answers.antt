@@ -5,4 +5,5 @@ use Rattle.gl_c.specs.Guarded.{GuardedView}
 use Rattle.gl_c.proofs.session.Session.board.Goals as goal
 
 pub returns : goal.returns
-returns c = c.board.ensures ∙ ap (λ (m : ManagerView). board_of (state_of m)) c.manager.ensures ∙ ap (λ (g : GuardedView). board_of (state_of g.manager)) c.self.view_is
+returns c = c.board.ensures ∙ ap (λ (m : ManagerView). board_of (state_of m)) c.manager.ensures ∙
+    ap (λ (g : GuardedView). board_of (state_of g.manager)) c.self.view_is

@@ -8,4 +8,5 @@ use Rattle.gl_c.proofs.session.Session.watch.Goals as goal
 
 pub returns-clause-watcher : goal.returns-clause-watcher
 returns-clause-watcher c =
-    subst (λ (v : GuardedView). IfOk c.watch.result (λ w. (c.watch.new.self.shown ≡ Some w) × Ends w.list (board_of (state_of v.manager)))) c.self.view_is c.watch.ensures.watcher
+    subst (λ (v : GuardedView). IfOk c.watch.result (λ w. (c.watch.new.self.shown ≡ Some w) × Ends w.list (board_of (state_of v.manager)))) c.self.view_is
+    c.watch.ensures.watcher

@@ -1,0 +1,69 @@
+#!/usr/bin/env bash
+# races.sh [TOOL..]: runs the stories of a shared table and a small crowd under tools that look for races: `tsan`
+# (ThreadSanitizer, which sees what is compiled here: the header and the programs), `helgrind` and `drd` (valgrind's,
+# which see the library too); all three where none is named. races.supp says what is no race. Prints a line for each
+# run. Ends with status 1 where one reports anything or a program fails; a tool that is not found is passed over.
+# RACES_LIBS names other archives than those of tools/c_library.sh, with a space between. CC names another compiler.
+set -uo pipefail
+top=$(cd "$(dirname "$0")/../.." && pwd) || exit 2
+work=$(mktemp -d) || exit 2
+trap 'rm -rf "$work"' EXIT
+read -r -a libraries <<<"${RACES_LIBS:-$("$top/tools/c_library.sh" | tr '\n' ' ')}"
+[ "${#libraries[@]}" -eq 2 ] || exit 1
+[ $# -gt 0 ] || set -- tsan helgrind drd
+
+# compile TO PROGRAM WORD..: from the source of its name in this folder.
+compile() {
+  local with=("${@:3}") compiler=${CC:-cc}
+  # shellcheck disable=SC2054 # The commas are of one word.
+  [ "$2" != shared ] || with+=(-Wl,--wrap=malloc,--wrap=realloc,--wrap=free)
+  # shellcheck disable=SC2086 # CC may have words behind the name.
+  $compiler -std=c99 -D_POSIX_C_SOURCE=200809L -pthread -Wall -Wextra -g -O1 -I"$top/include" -o "$work/$1" \
+    "$top/tests/c/$2.c" "${libraries[@]}" "${with[@]}"
+}
+
+# quiet NAME COMMAND WORD..: whether the command ends with status 0; the tools end with 66 where they report anything.
+quiet() {
+  local status=0
+  timeout 1800 "${@:2}" >"$work/said" 2>&1 || status=$?
+  if [ "$status" -ne 0 ]; then
+    echo "$1: status $status" >&2
+    head -n 200 "$work/said" >&2
+    return 1
+  fi
+  echo "$1: nothing to report"
+}
+
+# A board that a watcher has read is freed by whoever shows the next: in an order that the library's atomic words
+# give, which ThreadSanitizer does not see.
+printf 'race:^gl_window::\nrace:^bs_call_look$\n' >"$work/seen"
+export TSAN_OPTIONS="exitcode=66 suppressions=$work/seen"
+
+status=0
+for tool in "$@"; do
+  case $tool in
+    tsan)
+      if ! compile shared-tsan shared -fsanitize=thread || ! compile crowd-tsan crowd -fsanitize=thread; then
+        echo "tsan: this compiler has none, so nothing was tried"
+        continue
+      fi
+      quiet "tsan, the stories" "$work/shared-tsan" 300 || status=1
+      quiet "tsan, the crowd" "$work/crowd-tsan" 4 300 || status=1
+      ;;
+    helgrind | drd)
+      if ! command -v valgrind >/dev/null; then
+        echo "$tool: valgrind is not found, so nothing was tried"
+        continue
+      fi
+      compile shared shared && compile crowd crowd || exit 1
+      watched=(valgrind "--tool=$tool" -q --fair-sched=yes "--suppressions=$top/tests/c/races.supp" --error-exitcode=66)
+      quiet "$tool, the stories" "${watched[@]}" "$work/shared" 900 || status=1
+      quiet "$tool, the crowd" "${watched[@]}" "$work/crowd" 1 900 || status=1
+      ;;
+    *)
+      echo "races.sh: no tool $tool" >&2
+      exit 2
+      ;;
+  esac
+done
+exit "$status"
