@@ -10,7 +10,7 @@
 # not at hand a line says so, and ours stands alone. CC names another compiler than cc.
 #
 # - A record has one index, and lies with all others in one interval. Each step goes over all records, by rising key or
-#   at random, a hundred in a transaction, with intentions on three nodes above; or all in one transaction.
+#   at random, a hundred in a transaction, with intentions on four nodes above; or all in one transaction.
 set -uo pipefail
 top=$(cd "$(dirname "$0")/.." && pwd) || exit 2
 most=${1:-1000000}

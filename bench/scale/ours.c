@@ -9,7 +9,7 @@ enum { ABOVE = 4 };
 
 static bs_manager m = BS_NO_MANAGER_HERE;
 static bs_notices told;
-static bs_node db, file, below, *records;
+static bs_node db, file, by_key, below, *records;
 
 static bs_reply done(bs_reply reply) {
   if (reply.status != BS_DONE) fail("an answer of ours", __FILE__, __LINE__);
@@ -17,7 +17,6 @@ static bs_reply done(bs_reply reply) {
 }
 
 static void set_up(const struct work *work) {
-  uint64_t none = 0;
   bs_options options = bs_usual();
   options.nodes = work->records + ABOVE;
   records = malloc(work->records * sizeof *records);
@@ -25,7 +24,8 @@ static void set_up(const struct work *work) {
   done(bs_make_with(&m, &options));
   db = done(bs_add_inner(&m, NULL, 0)).node;
   file = done(bs_add_file(&m, &db, 1)).node;
-  below = done(bs_interval_of(&m, done(bs_add_index(&m, &db, 1, file, &none, 0)).node, 0)).node;
+  by_key = done(bs_add_index(&m, &db, 1, file, NULL, 0)).node;
+  below = done(bs_interval_of(&m, by_key, 0)).node;
 }
 
 static void tear_down(void) {
@@ -37,6 +37,7 @@ static bs_txn begin(void) {
   bs_txn t = done(bs_begin(&m)).txn;
   done(bs_lock(&m, t, db, BS_IX, &told));
   done(bs_lock(&m, t, file, BS_IX, &told));
+  done(bs_lock(&m, t, by_key, BS_IX, &told));
   done(bs_lock(&m, t, below, BS_IX, &told));
   return t;
 }

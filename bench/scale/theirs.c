@@ -7,7 +7,7 @@
 #include <db.h>
 #include <string.h>
 
-enum { ABOVE = 3 };
+enum { ABOVE = 4 };
 
 static DB_ENV *env;
 static u_int32_t locker;

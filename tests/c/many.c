@@ -15,7 +15,7 @@ enum { LOCKERS = 127, BATCH = 10000, ABOVE = 4 };
 
 static bs_notices told;
 static bs_manager m = BS_NO_MANAGER_HERE;
-static bs_node db, file, below;
+static bs_node db, file, by_key, below;
 
 static void wanted(bool holds, const char *what, int line) {
   if (holds) return;
@@ -65,12 +65,12 @@ static bs_txn begin(void) {
   bs_txn t = done(bs_begin(&m)).txn;
   done(bs_lock(&m, t, db, BS_IX, &told));
   done(bs_lock(&m, t, file, BS_IX, &told));
+  done(bs_lock(&m, t, by_key, BS_IX, &told));
   done(bs_lock(&m, t, below, BS_IX, &told));
   return t;
 }
 
 static void make_graph(uint32_t nodes) {
-  uint64_t none = 0;
   bs_options options = bs_usual(), was;
   options.nodes = nodes;
   done(bs_make_with(&m, &options));
@@ -78,7 +78,8 @@ static void make_graph(uint32_t nodes) {
   WANT(was.nodes == nodes && was.transactions == BS_SLOTS && was.detect == BS_AT_BLOCK && was.victims == BS_YOUNGEST);
   db = done(bs_add_inner(&m, NULL, 0)).node;
   file = done(bs_add_file(&m, &db, 1)).node;
-  below = done(bs_interval_of(&m, done(bs_add_index(&m, &db, 1, file, &none, 0)).node, 0)).node;
+  by_key = done(bs_add_index(&m, &db, 1, file, NULL, 0)).node;
+  below = done(bs_interval_of(&m, by_key, 0)).node;
 }
 
 /* All records but the last. */

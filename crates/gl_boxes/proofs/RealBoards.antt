@@ -16,7 +16,8 @@ use Rattle.gl_table.specs.model.Table.{board_of}
 use Rattle.gl_table.specs.model.Lawful.{IsLawful}
 use Rattle.gl_table.specs.model.State.{State, age_of, members, status_of, HasNoCycle, blocks, waits_for}
 use Rattle.gl_table.proofs.law.Edges.{step_is}
-use Rattle.gl_table.proofs.law.Keeps.{nl_is, txn_there}
+use Rattle.gl_table.proofs.law.Keeps.{txn_there}
+use Rattle.gl_listed.proofs.Children.{nl_is}
 use Rattle.gl_table.proofs.telling.Fronts.{waits_there}
 use Rattle.gl_table.proofs.queues.Waiters.{ahead_is, ahead_second}
 use Rattle.gl_table.proofs.calls.Calls.{lawful_orderly}

@@ -15,9 +15,10 @@ fn node(number: u64) -> NodeId {
 
 /// Puts a value last, unless the node has one.
 fn put(list: &mut NodeMap<u32>, number: u64, value: u32) -> Result<(), AllocError> {
+    let node = node(number);
     list.reserve_one()?;
-    if list.get(node(number)).is_none() {
-        list.insert_new(node(number), value);
+    if list.get(node).is_none() {
+        list.insert_new(node, value);
     }
     Ok(())
 }
@@ -58,7 +59,10 @@ fn a_list_is_what_a_map_is(rt: HostRuntime) -> Result<(), Fail> {
     }
     for number in 0..40 {
         let other = number * 11 % 40;
-        assert_eq!(rt; list.swap_remove(node(other)), map.swap_remove(&node(other)));
+        assert_eq!(rt;
+            list.swap_remove(node(other)),
+            map.swap_remove(&node(other))
+        );
         assert!(rt; are_alike(&list, &map), "{other}");
     }
     assert!(rt; list.is_empty());
