@@ -30,6 +30,7 @@ pub(crate) fn header_in(place: &Option<Box<Place>>, node: NodeId) -> Option<&Hea
 }
 
 /// Makes places up to that of a key. It takes memory before it changes anything.
+#[inline]
 pub(crate) fn grow(places: &mut Vec<Option<Box<Place>>>, key: usize) -> Result<(), Refusal>
     ensures kept { (k : ℕ) → place_at places.new.items k ≡ place_at places.old.items k }
     ensures entries { entries_in places.new.items ≡ entries_in places.old.items }

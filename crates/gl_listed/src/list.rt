@@ -255,6 +255,9 @@ impl LockList {
         ensures loose_room { spare self.old.loose ≤ spare self.new.loose }
     {
         self.entries.clear();
+        if self.loose.is_empty() {
+            return;
+        }
         self.loose.clear();
     }
 

@@ -213,7 +213,8 @@ impl<V: Copy> NodeMap<V> {
         }
     }
 
-    /// Takes everything out, and keeps the room.
+    /// Takes everything out, and keeps the room. A map that is empty already is left alone: to clear it
+    /// would write all its room.
     pub fn clear(&mut self)
         ensures empty { IsEmpty self.new }
         ensures len { index_map_len self.new ≡ 0 }
@@ -221,6 +222,9 @@ impl<V: Copy> NodeMap<V> {
         ensures unique { IsUnique same_node self.new }
     {
         self.rows.clear();
+        if self.map.is_empty() {
+            return;
+        }
         self.map.clear();
     }
 }

@@ -26,6 +26,7 @@ use gl_listed::LockList;
 use gl_modes::{Mode, NodeId, Refusal, sup};
 
 /// Makes room in the list of a slot for one node more, and for the counts of its parents.
+#[inline]
 pub(crate) fn make_room(lists: &mut Vec<LockList>, slot: u8) -> Result<(), Refusal>
     requires { slot < length lists.old.items }
     ensures kept { KeepsLists lists.old.items lists.new.items }
