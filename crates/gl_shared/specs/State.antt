@@ -1,5 +1,5 @@
 -- What stands behind the latch.
-use Rattle.std.specs.Prelude.{◌≡◌, ℕ, Bool, true, false, List, [], ◌∷◌, ◌++◌}
+use Rattle.std.specs.Prelude.{◌≡◌, ℕ, Bool, false, List, [], ◌∷◌, ◌++◌}
 use Rattle.gl_waits.specs.declared.board.Board.{Board}
 use Rattle.gl_table.specs.model.State.{State}
 use Rattle.gl_catalog.specs.Manager.{ManagerView}

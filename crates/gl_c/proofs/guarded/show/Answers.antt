@@ -1,4 +1,4 @@
-use Rattle.std.proofs.Common.{◌≡◌, ◌⊎◌, ◌++◌, ◌∷◌, [], ◌∙◌, ap, inl, inr, subst, sym, ⊎_elim, List}
+use Rattle.std.proofs.Common.{◌++◌, ◌∷◌, [], ◌∙◌, ap, subst, sym}
 use Rattle.gl_waits.specs.declared.board.Board.{Board}
 use Rattle.gl_table.specs.declared.answers.Detect.{Detect}
 use Rattle.gl_table.specs.model.Table.{board_of}
