@@ -84,7 +84,7 @@ pub struct Manager {
 /// ```
 /// use burlapslate::{Detect, Manager, Options};
 ///
-/// let manager = Manager::with(Options::new(Detect::AtBlock).nodes(1_000_000))?;
+/// let manager = Manager::with_options(Options::new(Detect::AtBlock).nodes(1_000_000))?;
 /// assert_eq!(manager.most_nodes(), 1_000_000);
 /// # Ok::<(), burlapslate::Refusal>(())
 /// ```
@@ -138,23 +138,26 @@ impl Manager {
 
     /// As [`new`](Manager::new), with a choice of victims.
     pub fn choosing(detect: Detect, victims: Victims, most: usize) -> Result<Manager, Refusal> {
-        Manager::with(Options::new(detect).victims(victims).transactions(most))
+        Manager::with_options(Options::new(detect).victims(victims).transactions(most))
     }
 
     /// By options.
     ///
     /// Refused with [`BadNumber`](Refusal::BadNumber), [`NoMemory`](Refusal::NoMemory). Memory for
     /// nodes is taken as they are made.
-    pub fn with(options: Options) -> Result<Manager, Refusal> {
-        let most = u32::try_from(options.transactions).map_err(|_| Refusal::BadNumber)?;
-        let nodes = u32::try_from(options.nodes).map_err(|_| Refusal::BadNumber)?;
+    pub fn with_options(options: Options) -> Result<Manager, Refusal> {
+        let is_room =
+            (1..=SLOTS).contains(&options.transactions) && (1..=1 << 31).contains(&options.nodes);
+        if !is_room {
+            return Err(Refusal::BadNumber);
+        }
         let mut pinned = Pinned::new().ok_or(Refusal::NoMemory)?;
         accepted(sys::bs_call_make_with(
             &mut pinned.place,
             options.detect as u32,
             options.victims as u32,
-            most,
-            nodes,
+            options.transactions as u32,
+            options.nodes as u32,
         ))?;
         Ok(Manager { pinned })
     }

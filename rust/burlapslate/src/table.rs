@@ -70,15 +70,15 @@ impl Table {
 
     /// As [`new`](Table::new), with a choice of victims.
     pub fn choosing(detect: Detect, victims: Victims, most: usize) -> Result<Table, Refusal> {
-        Table::with(Options::new(detect).victims(victims).transactions(most))
+        Table::with_options(Options::new(detect).victims(victims).transactions(most))
     }
 
     /// By options.
     ///
-    /// Refused as [`Manager::with`].
-    pub fn with(options: Options) -> Result<Table, Refusal> {
+    /// Refused as [`Manager::with_options`].
+    pub fn with_options(options: Options) -> Result<Table, Refusal> {
         let guarded = Guarded {
-            manager: Manager::with(options)?,
+            manager: Manager::with_options(options)?,
             waited: 0,
             is_unwatched: false,
         };
