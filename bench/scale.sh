@@ -41,13 +41,14 @@ build() {
   $compiler -std=gnu99 -Wall -Wextra -Werror -O2 -g -I"$top/include" -o "$work/scale" "${sources[@]}" "${libraries[@]}" "${with[@]}"
 }
 
-# counted ORDER SIDE RECORDS: the instructions of each step, as lines of its function and the number.
+# counted ORDER SIDE RECORDS: the instructions of each step, as lines of its function and a number, of which the greatest
+# is that of the whole step.
 counted() {
   GLIBC_TUNABLES=glibc.cpu.x86_rep_stosb_threshold=1000000:glibc.cpu.x86_rep_movsb_threshold=1000000 \
     valgrind --tool=callgrind --callgrind-out-file="$work/profile" "$work/scale" "$@" >/dev/null 2>"$work/log" ||
     { cat "$work/log" >&2; return 1; }
   callgrind_annotate --inclusive=yes --threshold=100 "$work/profile" 2>/dev/null |
-    sed -n 's/^ *\([0-9,]*\) .*:\(step_[a-z_]*\) .*/\2 \1/p' | tr -d ,
+    sed -n 's/^ *\([0-9,]*\) .*:\(step_[a-z_]*\).*/\2 \1/p' | tr -d ,
 }
 
 # row ORDER SIDE: a line for each step, with a column for each number of records.
@@ -60,7 +61,7 @@ rows() {
     ! command -v valgrind >/dev/null || counted "$order" "$side" "$records" >"$work/counts" || return 1
     while IFS=$'\t' read -r time title word; do
       local count=-
-      ! command -v valgrind >/dev/null || count=$(awk -v word="$word" -v n="$records" '$1 == word { printf "%d", $2 / n; exit }' "$work/counts")
+      ! command -v valgrind >/dev/null || count=$(awk -v word="$word" -v n="$records" '$1 == word && $2 > most { most = $2 } END { printf "%d", most / n }' "$work/counts")
       [ -n "${line[$title]+is}" ] || titles+=("$title")
       line[$title]+=$(printf '%9s%9s' "$count" "$time")
     done <"$work/times"
