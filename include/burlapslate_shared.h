@@ -39,7 +39,7 @@
  * WHAT IS PROVED, AND WHAT IS NOT. The library is proved: what each command does and whom it tells, what became of
  * a wait (bs_verdict), whose sleepers are to be woken (bs_ended), that a look gives a whole board and never an older
  * one. Written in C here, and tested: the mutex and the conditions. They are in bs_table_enter, round each call;
- * bs_table_woken, behind each command; bs_table_sleep, where a lock waits; bs_table_end; and bs_table_watches, the
+ * bs_table_wake, behind each command; bs_table_sleep, where a lock waits; bs_table_end; and bs_table_watches, the
  * thread that watches. The rest of this header makes calls of burlapslate.h between these.
  */
 #ifndef BURLAPSLATE_SHARED_H
@@ -118,38 +118,39 @@ static inline void bs_table_wake_half(bs_table_inside *in, uint64_t half, size_t
   }
 }
 
-/* Wakes those whose wait the last command may have ended; where a wait began by it, who watches is woken too.
- * Answers the reply of that command. Who that is says bs_ended: it is not asked where there is nobody, since the
- * command was refused, or told nobody and is none that ends a wait by name, as a cancel and an abort are. */
-static inline bs_reply bs_table_woken(bs_table_inside *in, bs_reply reply, const bs_notices *told, bool by_name) {
-  bool is_accepted = reply.status == BS_DONE || reply.status == BS_WAITING || reply.status == BS_VICTIM;
+/* Behind a command that was answered so: wakes those whose wait it may have ended; where a wait began by it, who
+ * watches is woken too. Who that is says bs_ended: it is not asked where there is nobody, since the command was
+ * refused, or told nobody and is none that ends a wait by name, as a cancel and an abort are. */
+static inline void bs_table_wake(bs_table_inside *in, bs_status status, const bs_notices *told, bool by_name) {
+  bool is_accepted = status == BS_DONE || status == BS_WAITING || status == BS_VICTIM;
   if (is_accepted && (by_name || told->count > 0)) {
     bs_slots ended = bs_ended(&in->manager).slots;
     bs_table_wake_half(in, ended.low, 0);
     bs_table_wake_half(in, ended.high, 64);
   }
-  if (reply.status == BS_WAITING) {
+  if (status == BS_WAITING) {
     in->waited = bs_accepted(&in->manager).count;
     pthread_cond_signal(&in->began);
   }
-  return reply;
 }
 
 /* Takes back the wait of one whose time is over, and answers so. */
 static inline bs_reply bs_table_late(bs_table_inside *in, bs_txn txn) {
-  bs_reply reply = bs_table_woken(in, bs_cancel(&in->manager, txn, &in->told), &in->told, true);
+  bs_reply reply = bs_cancel(&in->manager, txn, &in->told);
+  bs_table_wake(in, reply.status, &in->told, true);
   if (reply.status == BS_DONE) reply.status = BS_TIMED_OUT;
   return reply;
 }
 
-/* Where a lock is BS_WAITING, sleeps, with the latch held before and behind it, until it has its verdict, or the time
- * is over, or the table ends. What became of the wait is asked before the clock. */
+/* Of a lock that was answered BS_WAITING: sleeps, with the latch held before and behind it, until it has its verdict,
+ * or the time is over, or the table ends. What became of the wait is asked before the clock. */
 static inline bs_reply bs_table_sleep(bs_table *table, bs_txn txn, bs_node node, bs_mode mode,
-                                      const struct timespec *until, bs_reply reply) {
+                                      const struct timespec *until) {
   bs_table_inside *in = table->in;
+  bs_reply reply = bs_null();
   int late = 0;
-  if (reply.status != BS_WAITING) return reply;
   in->sleepers++;
+  reply.status = BS_WAITING;
   while (reply.status == BS_WAITING) {
     if (late == ETIMEDOUT) {
       reply = bs_table_late(in, txn);
@@ -164,9 +165,27 @@ static inline bs_reply bs_table_sleep(bs_table *table, bs_txn txn, bs_node node,
   return reply;
 }
 
+/* Asks for a lock, with the latch held, and sleeps until its end. */
+static inline bs_reply bs_table_lock_inside(bs_table *table, bs_txn txn, bs_node node, bs_mode mode,
+                                            const struct timespec *until) {
+  bs_table_inside *in = table->in;
+  bs_reply reply = bs_lock(&in->manager, txn, node, mode, &in->told);
+  bs_table_wake(in, reply.status, &in->told, false);
+  if (reply.status == BS_WAITING) reply = bs_table_sleep(table, txn, node, mode, until);
+  return reply;
+}
+
 /* Whether this is a time: null, or with nanoseconds below a second. */
 static inline bool bs_is_time(const struct timespec *until) {
   return until == NULL || (until->tv_nsec >= 0 && until->tv_nsec < 1000000000L);
+}
+
+/* Gives the latch back, and refuses a time that is none. */
+static inline bs_reply bs_table_leave_at_no_time(bs_table *table) {
+  bs_reply reply = bs_null();
+  reply.status = BS_BAD_NUMBER;
+  pthread_mutex_unlock(&table->latch);
+  return reply;
 }
 
 /* The list that a command fills: the caller's, or else the table's own. */
@@ -183,15 +202,22 @@ static inline bs_reply bs_table_tells_none(const bs_table *table, bs_notices *to
 /* The body of a function that makes one call with the manager in `in`; of one whose call tells somebody. */
 #define BS_TABLE_ASK(table, call)                \
   bs_table_inside *in = bs_table_enter(table);   \
+  bs_reply reply;                                \
   if (in == NULL) return bs_no_table(table);     \
-  return bs_table_leave(table, call)
+  reply = call;                                  \
+  pthread_mutex_unlock(&(table)->latch);         \
+  return reply
 
 #define BS_TABLE_TELL(table, told, by_name, call)            \
   bs_table_inside *in = bs_table_enter(table);               \
   bs_notices *list;                                          \
+  bs_reply reply;                                            \
   if (in == NULL) return bs_table_tells_none(table, told);   \
   list = bs_table_list(in, told);                            \
-  return bs_table_leave(table, bs_table_woken(in, call, list, by_name))
+  reply = call;                                              \
+  bs_table_wake(in, reply.status, list, by_name);            \
+  pthread_mutex_unlock(&(table)->latch);                     \
+  return reply
 
 /* ------------------------------------------------------------------------------------------------
  * Tables.
@@ -310,12 +336,12 @@ static inline bs_reply bs_table_begin(bs_table *table) {
 static inline bs_reply bs_table_lock_until(bs_table *table, bs_txn txn, bs_node node, bs_mode mode,
                                            const struct timespec *until) {
   bs_table_inside *in = bs_table_enter(table);
-  bs_reply reply = bs_null();
+  bs_reply reply;
   if (in == NULL) return bs_no_table(table);
-  reply.status = BS_BAD_NUMBER;
-  if (!bs_is_time(until)) return bs_table_leave(table, reply);
-  reply = bs_table_woken(in, bs_lock(&in->manager, txn, node, mode, &in->told), &in->told, false);
-  return bs_table_leave(table, bs_table_sleep(table, txn, node, mode, until, reply));
+  if (!bs_is_time(until)) return bs_table_leave_at_no_time(table);
+  reply = bs_table_lock_inside(table, txn, node, mode, until);
+  pthread_mutex_unlock(&table->latch);
+  return reply;
 }
 
 static inline bs_reply bs_table_lock(bs_table *table, bs_txn txn, bs_node node, bs_mode mode) {
@@ -327,12 +353,13 @@ static inline bs_reply bs_table_lock(bs_table *table, bs_txn txn, bs_node node, 
 static inline bs_reply bs_table_await(bs_table *table, bs_txn txn, bs_node node, bs_mode mode,
                                       const struct timespec *until) {
   bs_table_inside *in = bs_table_enter(table);
-  bs_reply reply = bs_null();
+  bs_reply reply;
   if (in == NULL) return bs_no_table(table);
-  reply.status = BS_BAD_NUMBER;
-  if (!bs_is_time(until)) return bs_table_leave(table, reply);
+  if (!bs_is_time(until)) return bs_table_leave_at_no_time(table);
   reply = bs_verdict(&in->manager, txn, node, mode);
-  return bs_table_leave(table, bs_table_sleep(table, txn, node, mode, until, reply));
+  if (reply.status == BS_WAITING) reply = bs_table_sleep(table, txn, node, mode, until);
+  pthread_mutex_unlock(&table->latch);
+  return reply;
 }
 
 /* Whether a lock that bs_table_run left waiting has its end: the same without a sleep. */
@@ -376,11 +403,11 @@ enum { BS_PATH_KEPT = 16 };
 
 /* The next step of bs_table_lock_path, once a lock was answered: whether there is one. `way` has the nodes that are
  * still to be locked, the lowest first. */
-static inline bool bs_path_goes_on(bs_reply reply, bs_node *way, size_t *count) {
-  switch (reply.status) {
+static inline bool bs_path_goes_on(const bs_reply *reply, bs_node *way, size_t *count) {
+  switch (reply->status) {
     case BS_NEED_PARENTS: /* What is above comes first. Of too many the upper ones are forgotten. */
       if (*count == BS_PATH_KEPT) *count = 1;
-      way[(*count)++] = reply.node;
+      way[(*count)++] = reply->node;
       return true;
     case BS_DONE: return --*count > 0;
     case BS_MOVED: return true; /* It is asked for again, and names its new parents. */
@@ -400,19 +427,16 @@ static inline bs_reply bs_table_lock_path(bs_table *table, bs_txn txn, bs_node n
   bs_table_inside *in = bs_table_enter(table);
   bs_mode intention = mode == BS_IS || mode == BS_S ? BS_IS : BS_IX;
   bs_node way[BS_PATH_KEPT];
-  bs_reply reply = bs_null();
+  bs_reply reply;
   size_t count = 1;
   if (in == NULL) return bs_no_table(table);
-  reply.status = BS_BAD_NUMBER;
-  if (!bs_is_time(until)) return bs_table_leave(table, reply);
+  if (!bs_is_time(until)) return bs_table_leave_at_no_time(table);
   way[0] = node;
   do {
-    bs_node next = way[count - 1];
-    bs_mode asked = count == 1 ? mode : intention;
-    reply = bs_table_woken(in, bs_lock(&in->manager, txn, next, asked, &in->told), &in->told, false);
-    reply = bs_table_sleep(table, txn, next, asked, until, reply);
-  } while (bs_path_goes_on(reply, way, &count));
-  return bs_table_leave(table, reply);
+    reply = bs_table_lock_inside(table, txn, way[count - 1], count == 1 ? mode : intention, until);
+  } while (bs_path_goes_on(&reply, way, &count));
+  pthread_mutex_unlock(&table->latch);
+  return reply;
 }
 
 /* ------------------------------------------------------------------------------------------------
@@ -593,7 +617,8 @@ static inline size_t bs_table_run(bs_table *table, bs_command *commands, size_t 
     bool by_name;
     told->count = 0;
     by_name = next->kind == BS_DO_CANCEL || next->kind == BS_DO_ABORT;
-    next->reply = bs_table_woken(in, bs_command_made(&in->manager, next, txn, told), told, by_name);
+    next->reply = bs_command_made(&in->manager, next, txn, told);
+    bs_table_wake(in, next->reply.status, told, by_name);
     if (next->reply.status != BS_DONE) break;
     if (next->kind == BS_DO_BEGIN) begun = next->reply.txn;
     done++;
@@ -798,7 +823,7 @@ static inline bool bs_table_settles(bs_table_inside *in, const bs_board *board) 
   if (youngest.status != BS_DONE) return false;
   suspect.slot = (uint8_t)youngest.count;
   suspect.age = board->ages[youngest.count];
-  bs_table_woken(in, bs_settle(&in->manager, suspect, &in->told), &in->told, false);
+  bs_table_wake(in, bs_settle(&in->manager, suspect, &in->told).status, &in->told, false);
   return true;
 }
 

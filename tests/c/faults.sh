@@ -19,15 +19,15 @@ faults() {
       "$call" "$call"
   done
   cat <<'FAULTS'
-lock-forgets-to-wake	s/= bs_table_woken(in, \(bs_lock(.*)\), &in->told, false);/= \1;/
-run-forgets-to-wake	s/= bs_table_woken(in, \(bs_command_made(.*)\), told, by_name);/= \1;/
+lock-forgets-to-wake	s/  bs_table_wake(in, reply.status, &in->told, false);//
+run-forgets-to-wake	s/    bs_table_wake(in, next->reply.status, told, by_name);//
 run-forgets-names	s/    by_name = next->kind .*/    by_name = false;/
-late-forgets-to-wake	s/= bs_table_woken(in, \(bs_cancel(.*)\), &in->told, true);/= \1;/
+late-forgets-to-wake	s/  bs_table_wake(in, reply.status, &in->told, true);//
 nobody-is-named	s/by_name || told->count/told->count/
 nobody-is-told	s/by_name || told->count > 0/by_name/
 second-half-sleeps-on	s/  bs_table_wake_half(in, ended.high, 64);//
 watch-is-not-woken	s/    pthread_cond_signal(&in->began);//
-watch-forgets-to-wake	s/  bs_table_woken(in, \(bs_settle(.*)\), &in->told, false);/  \1;/
+watch-forgets-to-wake	s/  bs_table_wake(in, \(bs_settle(.*)\).status, &in->told, false);/  \1;/
 early-return	s/    reply = in->is_ending ? .*/    reply.status = BS_DONE, reply.mode = mode;/
 time-before-grant	s/    reply = in->is_ending ? /    if (late == 0) &/
 end-leaves-sleepers	s/  bs_table_wake_half(in, UINT64_MAX, 0);//
