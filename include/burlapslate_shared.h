@@ -180,11 +180,10 @@ static inline bool bs_is_time(const struct timespec *until) {
   return until == NULL || (until->tv_nsec >= 0 && until->tv_nsec < 1000000000L);
 }
 
-/* Gives the latch back, and refuses a time that is none. */
-static inline bs_reply bs_table_leave_at_no_time(bs_table *table) {
+/* The refusal of what is none of its kind. */
+static inline bs_reply bs_bad_number(void) {
   bs_reply reply = bs_null();
   reply.status = BS_BAD_NUMBER;
-  pthread_mutex_unlock(&table->latch);
   return reply;
 }
 
@@ -338,7 +337,7 @@ static inline bs_reply bs_table_lock_until(bs_table *table, bs_txn txn, bs_node 
   bs_table_inside *in = bs_table_enter(table);
   bs_reply reply;
   if (in == NULL) return bs_no_table(table);
-  if (!bs_is_time(until)) return bs_table_leave_at_no_time(table);
+  if (!bs_is_time(until)) return bs_table_leave(table, bs_bad_number());
   reply = bs_table_lock_inside(table, txn, node, mode, until);
   pthread_mutex_unlock(&table->latch);
   return reply;
@@ -355,7 +354,7 @@ static inline bs_reply bs_table_await(bs_table *table, bs_txn txn, bs_node node,
   bs_table_inside *in = bs_table_enter(table);
   bs_reply reply;
   if (in == NULL) return bs_no_table(table);
-  if (!bs_is_time(until)) return bs_table_leave_at_no_time(table);
+  if (!bs_is_time(until)) return bs_table_leave(table, bs_bad_number());
   reply = bs_verdict(&in->manager, txn, node, mode);
   if (reply.status == BS_WAITING) reply = bs_table_sleep(table, txn, node, mode, until);
   pthread_mutex_unlock(&table->latch);
@@ -430,7 +429,7 @@ static inline bs_reply bs_table_lock_path(bs_table *table, bs_txn txn, bs_node n
   bs_reply reply;
   size_t count = 1;
   if (in == NULL) return bs_no_table(table);
-  if (!bs_is_time(until)) return bs_table_leave_at_no_time(table);
+  if (!bs_is_time(until)) return bs_table_leave(table, bs_bad_number());
   way[0] = node;
   do {
     reply = bs_table_lock_inside(table, txn, way[count - 1], count == 1 ? mode : intention, until);
@@ -572,7 +571,6 @@ static inline bs_txn bs_begun(void) {
 
 /* Makes a command with a manager, for this transaction. */
 static inline bs_reply bs_command_made(bs_manager *m, const bs_command *c, bs_txn txn, bs_notices *told) {
-  bs_reply none = bs_null();
   switch (c->kind) {
     case BS_DO_BEGIN: return bs_begin(m);
     case BS_DO_LOCK: return bs_lock(m, txn, c->node, c->mode, told);
@@ -591,7 +589,7 @@ static inline bs_reply bs_command_made(bs_manager *m, const bs_command *c, bs_tx
     case BS_DO_ADD_FILE: return bs_add_file(m, c->parents, c->parent_count);
     case BS_DO_ADD_INDEX:
       return bs_add_index(m, c->parents, c->parent_count, c->other, c->numbers, c->number_count);
-    default: none.status = BS_BAD_NUMBER; return none;
+    default: return bs_bad_number();
   }
 }
 
