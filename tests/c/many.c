@@ -3,10 +3,11 @@
  * once by one of 127 transactions, in a manager whose limit they just meet. It ends the program with status 1
  * at the first answer that is not as wanted, and else prints a line.
  *
- * It is linked with calls for memory that can be refused (run.sh), to see that at that size too a refused growth
- * leaves everything as it was.
+ * It is linked with the calls for memory of memory.h, to see that at that size too a refused growth leaves
+ * everything as it was.
  */
 #include "burlapslate.h"
+#include "memory.h"
 
 #include <stdio.h>
 #include <stdlib.h>
@@ -24,36 +25,6 @@ static void wanted(bool holds, const char *what, int line) {
 }
 
 #define WANT(condition) wanted((condition), #condition, __LINE__)
-
-/* Which growth is refused, counted from now on; 0: none. And how many blocks are out. */
-static long refused_growth;
-static long blocks;
-
-void *__real_malloc(size_t size);
-void *__real_realloc(void *old, size_t size);
-void __real_free(void *block);
-void *__wrap_malloc(size_t size);
-void *__wrap_realloc(void *old, size_t size);
-void __wrap_free(void *block);
-
-static bool is_refused(void) {
-  return refused_growth > 0 && --refused_growth == 0;
-}
-
-void *__wrap_malloc(size_t size) {
-  void *block = is_refused() ? NULL : __real_malloc(size);
-  if (block != NULL) blocks++;
-  return block;
-}
-
-void *__wrap_realloc(void *old, size_t size) {
-  return is_refused() ? NULL : __real_realloc(old, size);
-}
-
-void __wrap_free(void *block) {
-  if (block != NULL) blocks--;
-  __real_free(block);
-}
 
 static bs_reply done(bs_reply reply) {
   WANT(reply.status == BS_DONE);
@@ -138,7 +109,7 @@ int main(int count, char **words) {
   insert_last(records, most);
   lock_each(records, most);
   done(bs_end(&m));
-  WANT(blocks == 0);
+  WANT(blocks_out() == 0);
   printf("%u records, each locked once\n", (unsigned)most);
   __real_free(records);
   return 0;

@@ -4,59 +4,10 @@
  *
  *   shared [SECONDS]   the time that a story may take before it is said to hang; 20 where none is given
  *
- * It is linked with calls for memory that a story can have refused (run.sh).
+ * It is linked with the calls for memory of memory.h.
  */
+#include "memory.h"
 #include "threads.h"
-
-/* ------------------------------------------------------------------------------------------------
- * Memory.
- */
-
-/* Which growth of this thread is refused, counted from now on; 0: none. And how many blocks are out. */
-static __thread long refused_growth;
-static long blocks;
-static pthread_mutex_t count_latch = PTHREAD_MUTEX_INITIALIZER;
-
-void *__real_malloc(size_t size);
-void *__real_realloc(void *old, size_t size);
-void __real_free(void *block);
-void *__wrap_malloc(size_t size);
-void *__wrap_realloc(void *old, size_t size);
-void __wrap_free(void *block);
-
-static bool is_refused(void) {
-  return refused_growth > 0 && --refused_growth == 0;
-}
-
-static void count_blocks(long more) {
-  pthread_mutex_lock(&count_latch);
-  blocks += more;
-  pthread_mutex_unlock(&count_latch);
-}
-
-static long blocks_out(void) {
-  long out;
-  pthread_mutex_lock(&count_latch);
-  out = blocks;
-  pthread_mutex_unlock(&count_latch);
-  return out;
-}
-
-void *__wrap_malloc(size_t size) {
-  void *block = is_refused() ? NULL : __real_malloc(size);
-  if (block != NULL) count_blocks(1);
-  return block;
-}
-
-void *__wrap_realloc(void *old, size_t size) {
-  if (old == NULL) return __wrap_malloc(size);
-  return is_refused() ? NULL : __real_realloc(old, size);
-}
-
-void __wrap_free(void *block) {
-  if (block != NULL) count_blocks(-1);
-  __real_free(block);
-}
 
 /* ------------------------------------------------------------------------------------------------
  * A table with a store, and one who asks in a thread of its own.

@@ -2,10 +2,11 @@
  * Stories over the library, from the header alone: each is a function that ends the program with status 1
  * at the first answer that is not as wanted, and else prints its name.
  *
- * It is linked with calls for memory that a story can have refused (run.sh), to see that a refused growth
- * leaves everything as it was, and that each manager gives back what it took.
+ * It is linked with the calls for memory of memory.h, to see that a refused growth leaves everything as it was,
+ * and that each manager gives back what it took.
  */
 #include "burlapslate.h"
+#include "memory.h"
 
 #include <stdio.h>
 #include <stdlib.h>
@@ -20,36 +21,6 @@ static void wanted(bool holds, const char *what, int line) {
 }
 
 #define WANT(condition) wanted((condition), #condition, __LINE__)
-
-/* Which growth is refused, counted from now on; 0: none. And how many blocks are out. */
-static long refused_growth;
-static long blocks;
-
-void *__real_malloc(size_t size);
-void *__real_realloc(void *old, size_t size);
-void __real_free(void *block);
-void *__wrap_malloc(size_t size);
-void *__wrap_realloc(void *old, size_t size);
-void __wrap_free(void *block);
-
-static bool is_refused(void) {
-  return refused_growth > 0 && --refused_growth == 0;
-}
-
-void *__wrap_malloc(size_t size) {
-  void *block = is_refused() ? NULL : __real_malloc(size);
-  if (block != NULL) blocks++;
-  return block;
-}
-
-void *__wrap_realloc(void *old, size_t size) {
-  return is_refused() ? NULL : __real_realloc(old, size);
-}
-
-void __wrap_free(void *block) {
-  if (block != NULL) blocks--;
-  __real_free(block);
-}
 
 static bool same_node(bs_node a, bs_node b) {
   return a.key == b.key && a.birth == b.birth;
@@ -613,10 +584,10 @@ static void a_ring_of_all(void) {
 }
 
 static void tell(const char *name, void (*play)(void)) {
-  long before = blocks;
+  long before = blocks_out();
   story = name;
   play();
-  WANT(blocks == before);
+  WANT(blocks_out() == before);
   printf("%s\n", name);
 }
 
