@@ -143,7 +143,7 @@ impl<'t> Session<'t> {
 
     /// As [`Manager::try_lock`](crate::Manager::try_lock).
     pub fn try_lock(&mut self, node: Node, mode: Mode) -> Result<Mode, Refusal> {
-        self.table.serve(|m| m.try_lock(self.txn, node, mode))
+        self.table.ask(|m| m.try_lock(self.txn, node, mode))
     }
 
     /// As [`Manager::unlock`](crate::Manager::unlock).
@@ -159,7 +159,7 @@ impl<'t> Session<'t> {
 
     /// As [`Manager::insert`](crate::Manager::insert).
     pub fn insert(&mut self, file: Node, keys: &[u64]) -> Result<Node, Refusal> {
-        self.table.serve(|m| m.insert(self.txn, file, keys))
+        self.table.ask(|m| m.insert(self.txn, file, keys))
     }
 
     /// As [`Manager::delete`](crate::Manager::delete). Who sleeps for the record is woken.

@@ -93,23 +93,23 @@ impl Table {
     ///
     /// Refused as [`Manager::begin`].
     pub fn begin(&self) -> Result<Session<'_>, Refusal> {
-        let txn = self.serve(|m| m.begin())?;
+        let txn = self.ask(|m| m.begin())?;
         Ok(Session::of(self, txn))
     }
 
     /// As [`Manager::add_inner`].
     pub fn add_inner(&self, parents: &[Node]) -> Result<Node, Refusal> {
-        self.serve(|m| m.add_inner(parents))
+        self.ask(|m| m.add_inner(parents))
     }
 
     /// As [`Manager::add_file`].
     pub fn add_file(&self, parents: &[Node]) -> Result<Node, Refusal> {
-        self.serve(|m| m.add_file(parents))
+        self.ask(|m| m.add_file(parents))
     }
 
     /// As [`Manager::add_index`].
     pub fn add_index(&self, parents: &[Node], file: Node, bounds: &[u64]) -> Result<Node, Refusal> {
-        self.serve(|m| m.add_index(parents, file, bounds))
+        self.ask(|m| m.add_index(parents, file, bounds))
     }
 
     /// Ends a transaction whatever it is doing, from any thread. Whoever sleeps for it is woken, and
@@ -244,6 +244,14 @@ impl Table {
 
 /// What a [`Session`] asks.
 impl Table {
+    /// Serves a command that tells nobody.
+    pub(crate) fn ask<T>(
+        &self,
+        command: impl FnOnce(&mut Manager) -> Result<T, Refusal>,
+    ) -> Result<T, Refusal> {
+        command(&mut self.guarded().manager)
+    }
+
     /// Serves a command that never waits, and wakes whose wait it ended.
     pub(crate) fn serve<T>(
         &self,
@@ -309,11 +317,13 @@ impl Table {
         mode: Mode,
         until: Option<Instant>,
     ) -> (MutexGuard<'t, Guarded>, Result<Mode, Stop>) {
-        let asked = match guarded.manager.lock(txn, node, mode) {
-            Ok((asked, _)) => asked,
+        let (asked, tells) = match guarded.manager.lock(txn, node, mode) {
+            Ok((asked, told)) => (asked, !told.is_empty()),
             Err(refusal) => return (guarded, Err(Stop::Refused(refusal))),
         };
-        self.wake(&guarded);
+        if tells {
+            self.wake(&guarded);
+        }
         match asked {
             Asked::Granted(mode) => (guarded, Ok(mode)),
             Asked::Victim => (guarded, Err(Stop::Victim)),
