@@ -42,8 +42,8 @@ fn filled(alloc: Global, rows: u64) -> Result<(NodeMap<u32>, IndexMap<NodeId, u3
     let mut list = NodeMap::new(alloc);
     let mut map = IndexMap::new(alloc);
     for number in 0..rows {
-        put(&mut list, number, number as u32 & 0xFF)?;
-        map.insert(node(number), number as u32 & 0xFF)?;
+        put(&mut list, number, (number % 256) as u32)?;
+        map.insert(node(number), (number % 256) as u32)?;
     }
     Ok((list, map))
 }
