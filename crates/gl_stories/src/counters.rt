@@ -39,6 +39,22 @@ impl Desk {
         }
     }
 
+    /// An index of a file, with two intervals that this key parts.
+    fn index(&mut self, parent: NodeId, file: NodeId, key: u64) -> NodeId {
+        self.node(Command::Index {
+            parents: &[parent],
+            file,
+            bounds: &[key],
+        })
+    }
+
+    fn interval(&self, index: NodeId, place: usize) -> NodeId {
+        self.manager
+            .graph()
+            .interval(index, place)
+            .unwrap_or(NodeId::NONE)
+    }
+
     fn begin(&mut self) -> TxnId {
         match self.ask(Command::Begin) {
             Answer::Begun(txn) => txn,
@@ -199,6 +215,39 @@ fn a_wait_for_what_moves_is_counted(rt: HostRuntime) {
     same(&rt, told.len(), 1);
     let wanted = Counters {
         granted: 4,
+        waited: 1,
+        moved: 1,
+        most_waiting: 1,
+        longest_queue: 1,
+        ..Counters::default()
+    };
+    desk.has_counted(&rt, wanted);
+}
+
+#[test]
+fn a_wait_for_what_is_rekeyed_is_counted(rt: HostRuntime) {
+    let mut desk = allowed(&rt, Desk::open(rt.alloc()));
+    let db = desk.root();
+    let file = desk.file(db);
+    let index = desk.index(db, file, 100);
+    let low = desk.interval(index, 0);
+    let high = desk.interval(index, 1);
+    let a = desk.begin();
+    let b = desk.begin();
+    for node in [db, file, index, low, high] {
+        desk.take(&rt, a, node, Mode::IX);
+    }
+    for node in [db, index, low] {
+        desk.take(&rt, b, node, Mode::IS);
+    }
+    let rec = allowed(&rt, desk.manager.insert(a, file, &[50]));
+    same(&rt, desk.lock(b, rec, Mode::S), Answer::Waiting);
+    let told = allowed(&rt, desk.manager.rekey(a, rec, index, 60));
+    same(&rt, told.len(), 0);
+    let told = allowed(&rt, desk.manager.rekey(a, rec, index, 150));
+    same(&rt, told.len(), 1);
+    let wanted = Counters {
+        granted: 8,
         waited: 1,
         moved: 1,
         most_waiting: 1,
