@@ -51,7 +51,7 @@ counted() {
     sed -n 's/^ *\([0-9,]*\) .*:\(step_[a-z_]*\).*/\2 \1/p' | tr -d ,
 }
 
-# row ORDER SIDE: a line for each step, with a column for each number of records.
+# rows ORDER SIDE: a line for each step, with a column for each number of records.
 rows() {
   local order=$1 side=$2 records word title time
   declare -A line
