@@ -23,6 +23,7 @@ mod change;
 mod checks;
 mod make;
 mod moves;
+mod standing;
 
 use crate::bounds::interval_place;
 use crate::kind::Kind;
