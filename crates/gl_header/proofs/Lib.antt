@@ -4,6 +4,7 @@ pub mod GroupOf
 pub mod Fronts
 pub mod Waiters
 pub mod Unused
+mod First
 mod Groups
 mod Queues
 mod Placing

@@ -1,6 +1,6 @@
 //! Changes of the group and the queue of one header.
 
-ghost use Rattle.std.specs.Prelude.{◌≡◌, ◌≤◌, OnErr, OnOk, drop, length};
+ghost use Rattle.std.specs.Prelude.{◌≡◌, ◌≤◌, [], OnErr, OnOk, drop, length};
 ghost use Rattle.gl_header.specs.Entries.{without};
 ghost use Rattle.gl_header.specs.Groups.{IsGroup, held_by};
 ghost use Rattle.gl_header.specs.Header.{front, pumped_members, pumped_queue};
@@ -66,7 +66,8 @@ fn take_front(queue: &mut Queue, count: usize)
 }
 
 /// Grants from the front of the queue, and stops at the first waiter that does not fit. The list is
-/// filled with those who were granted, in the queue's order.
+/// filled anew with those who were granted, in the queue's order.
+#[inline]
 pub(crate) fn pump(group: &mut Group, queue: &mut Queue, granted: &mut GrantList)
     requires group { IsGroup group.old }
     requires orderly { IsOrderly (held_by group.old) queue.old.items }
@@ -76,9 +77,22 @@ pub(crate) fn pump(group: &mut Group, queue: &mut Queue, granted: &mut GrantList
     ensures queue { queue.new.items ≡ pumped_queue slot_limit (held_by group.old) queue.old.items }
 {
     granted.clear();
-    if queue.is_empty() {
-        return; // As mostly.
+    if !queue.is_empty() {
+        grant_front(group, queue, granted); // Mostly nobody waits.
     }
+}
+
+/// As `pump`, into an empty list.
+#[inline(never)]
+fn grant_front(group: &mut Group, queue: &mut Queue, granted: &mut GrantList)
+    requires group { IsGroup group.old }
+    requires orderly { IsOrderly (held_by group.old) queue.old.items }
+    requires none { granted.old.items ≡ [] }
+    ensures group { IsGroup group.new }
+    ensures granted { granted.new.items ≡ front slot_limit (held_by group.old) queue.old.items }
+    ensures members { held_by group.new ≡ pumped_members slot_limit (held_by group.old) queue.old.items }
+    ensures queue { queue.new.items ≡ pumped_queue slot_limit (held_by group.old) queue.old.items }
+{
     for &(slot, mode) in queue.iter() {
         if !group.fits_others(slot, mode) {
             break;

@@ -4,7 +4,7 @@ ghost use Rattle.std.specs.Prelude.{◌≡◌, ◌≢◌, ℕ, ◌<◌, ◌↔�
 ghost use Rattle.gl_modes.specs.Modes.{are_compatible};
 ghost use Rattle.gl_modes.specs.declared.mode.Mode.TheVariants.{NL};
 ghost use Rattle.gl_slots.specs.Slots.{has_slot};
-ghost use Rattle.gl_header.specs.Groups.{GoesBeside, IsGroup, group_mode, held_by, no_group};
+ghost use Rattle.gl_header.specs.Groups.{GoesBeside, IsGroup, group_mode, held_by, no_group, nobody};
 ghost use Rattle.gl_header.specs.Header.{fits, holds, with_mode};
 ghost use Rattle.gl_header.specs.State.{nobody_holds, slot_limit};
 
@@ -34,6 +34,18 @@ impl Group {
             holders: Slots::empty(),
             intents: Slots::empty(),
         }
+    }
+
+    /// A slot holds this mode, and nobody else holds.
+    pub(crate) fn of(slot: u8, mode: Mode) -> Self
+        requires below { slot < 128 }
+        requires lock { mode ≢ NL }
+        ensures group { IsGroup result }
+        ensures held { held_by result ≡ with_mode nobody slot mode }
+    {
+        let mut group = Group::new();
+        group.hold(slot, mode);
+        group
     }
 
     /// The mode that a slot holds, `NL` where it holds none.
@@ -94,6 +106,7 @@ impl Group {
     }
 
     /// Gives `slot` the mode in place of what it held. It takes no memory.
+    #[inline]
     pub(crate) fn hold(&mut self, slot: u8, mode: Mode)
         requires group { IsGroup self.old }
         requires below { slot < 128 }

@@ -211,6 +211,21 @@ impl Header {
         }
     }
 
+    /// As `ask`, where nobody holds and nobody waits: the mode is granted. It takes no memory.
+    #[inline]
+    pub(crate) fn ask_first(&mut self, slot: u8, mode: Mode) -> Asked
+        requires below { slot < 128 }
+        requires lock { mode ≢ Mode.NL }
+        requires unused { is_unused self.old ≡ true }
+        ensures answer { result ≡ asked self.old slot mode }
+        ensures members { members_of self.new ≡ asked_members self.old slot mode }
+        ensures queue { self.new.queue ≡ asked_queue self.old slot mode }
+        ensures lawful { IsLawfulHeader self.new }
+    {
+        self.granted = Group::of(slot, mode);
+        Asked::Granted(mode)
+    }
+
     /// Asks for a mode that is granted at once, or not at all. It takes no memory.
     pub fn try_ask(&mut self, slot: u8, mode: Mode) -> Try
         requires below { slot < 128 }

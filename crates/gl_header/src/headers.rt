@@ -297,7 +297,7 @@ impl Headers {
     {
         grow(&mut self.places, key)?;
         let mut place = take_box(self.alloc, &mut self.spare, NodeId::NONE)?;
-        place.header.ask(slot, mode)?;
+        place.header.ask_first(slot, mode);
         Ok(Prepared { place })
     }
 

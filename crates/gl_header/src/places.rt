@@ -40,8 +40,22 @@ pub(crate) fn grow(places: &mut Vec<Option<Box<Place>>>, key: usize) -> Result<(
     ensures no_memory { IfErr result (λ refusal. refusal ≡ ARefusal.NoMemory) }
 {
     if key < places.len() {
-        return Ok(());
+        return Ok(()); // As mostly.
     }
+    add_places(places, key)
+}
+
+/// Makes places up to that of a key, which has none yet.
+#[cold]
+#[inline(never)]
+fn add_places(places: &mut Vec<Option<Box<Place>>>, key: usize) -> Result<(), Refusal>
+    requires { length places.old.items ≤ key }
+    ensures kept { (k : ℕ) → place_at places.new.items k ≡ place_at places.old.items k }
+    ensures entries { entries_in places.new.items ≡ entries_in places.old.items }
+    ensures room { OnOk result (key < length places.new.items) }
+    ensures grows { length places.old.items ≤ length places.new.items }
+    ensures no_memory { IfErr result (λ refusal. refusal ≡ ARefusal.NoMemory) }
+{
     let Some(len) = key.checked_add(1) else {
         return Err(Refusal::NoMemory);
     };
@@ -100,13 +114,14 @@ pub(crate) fn ask_at(
         return here.header.ask(slot, mode);
     }
     let mut fresh = take_box(alloc, spare, node)?;
-    let asked = fresh.header.ask(slot, mode)?;
+    let asked = fresh.header.ask_first(slot, mode);
     *place = Some(fresh);
     Ok(asked)
 }
 
 /// Puts a box back into its place, or aside where nobody holds or waits any more: there it waits for
 /// another node where there is room for it, so that this takes no memory.
+#[inline]
 pub(crate) fn put_back(
     place: &mut Option<Box<Place>>,
     spare: &mut Vec<Box<Place>>,
@@ -121,6 +136,6 @@ pub(crate) fn put_back(
         *place = Some(here);
     } else if spare.len() < spare.capacity() {
         here.header.law();
-        spare.push(here).unwrap();
+        spare.push_reserved(here);
     }
 }

@@ -1,6 +1,5 @@
-use Rattle.std.proofs.Common.{◌∙◌, [], ◌∷◌, ◌++◌, ap, subst, sym}
+use Rattle.std.proofs.Common.{◌∙◌, ap, subst, sym}
 use Rattle.std.proofs.lemmas.List.Elements.{All-push, All-same}
-use Rattle.std.specs.Prelude.{if◌then◌else◌, is_ok}
 use Rattle.gl_header.specs.Places.{IsIdle}
 use Rattle.gl_header.specs.State.{IsLawfulHeader, is_unused}
 use Rattle.gl_header.specs.declared.places.Place.{Place}
@@ -14,5 +13,5 @@ returns-then-len-capacity-clause-spare c =
       unused = sym (ap (λ (p : Place). is_unused p.header) c.deref.ensures) ∙ (sym c.is_empty.ensures ∙ c.if-not-is_empty.false);
     } in
     All-same IsIdle _ _
-    (c.push.ensures.items ∙ ap (λ r. if is_ok r then c.args.spare.now.items ++ c.args.here ∷ [] else c.args.spare.now.items) c.unwrap.ensures)
+    c.push_reserved.ensures.items
     (All-push IsIdle _ _ c.requires.spare idle)

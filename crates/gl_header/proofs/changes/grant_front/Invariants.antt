@@ -3,7 +3,7 @@ use Rattle.gl_header.specs.Groups.{IsGroup, held_by}
 use Rattle.gl_header.specs.Header.{front, pumped_members}
 use Rattle.gl_header.specs.Sound.{IsOrderly}
 use Rattle.gl_header.specs.State.{slot_limit}
-use Rattle.gl_header.proofs.changes.pump.Given as goal
+use Rattle.gl_header.proofs.changes.grant_front.Given as goal
 
 -- what a pump of the members of now and of the waiters behind those granted still does is the rest of what it does from the start
 abbrev pub invariant-loop-slot : goal.invariant-loop-slot

@@ -1,6 +1,6 @@
 use Rattle.std.proofs.Common.{arith, rules}
 use Rattle.gl_header.proofs.ByKey.{grown-entries, grown-place}
-use Rattle.gl_header.proofs.places.grow.Goals as goal
+use Rattle.gl_header.proofs.places.add_places.Goals as goal
 
 pub returns-in-Ok-clause-kept : goal.returns-in-Ok-clause-kept
 returns-in-Ok-clause-kept c =

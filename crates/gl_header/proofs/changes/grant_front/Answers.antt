@@ -9,7 +9,7 @@ use Rattle.gl_header.proofs.Queues.{length-le_128}
 use Rattle.gl_header.proofs.Orderly.{orderly-front}
 use Rattle.gl_header.proofs.Pumped.{front-granted, pumped-step}
 use Rattle.gl_header.proofs.Asks.{orderly-by}
-use Rattle.gl_header.proofs.changes.pump.Goals as goal
+use Rattle.gl_header.proofs.changes.grant_front.Goals as goal
 
 pub push-requires : goal.push-requires
 push-requires c =
