@@ -11,7 +11,7 @@ ghost use Rattle.gl_graph.specs.Graph.{is_child, is_live, nodes, parents_of};
 ghost use Rattle.gl_graph.specs.View.{graph_of};
 ghost use Rattle.gl_modes.specs.declared.node.NodeId.{NodeId as Node};
 ghost use Rattle.gl_listed.specs.Lists.{NoneMarkedFrom, covered_in, HasRoom, IsApart, count_of, entry_of, is_listed, mode_of, unlisted};
-ghost use Rattle.indexmap.specs.IndexMap.{keys, swap_remove_entry};
+ghost use Rattle.indexmap.specs.IndexMap.{Updates, keys, swap_remove_entry};
 ghost use Rattle.std.specs.Map.{keys_of, lookup};
 ghost use Rattle.gl_modes.specs.Modes.{is_at_least, same_mode};
 ghost use Rattle.gl_modes.specs.Nodes.{same_node};
@@ -43,6 +43,7 @@ pub struct LockList {
 }
 
 /// Takes out what is counted apart of a node. Most lists count nothing apart, and are not looked into.
+#[inline]
 fn take_loose(loose: &mut IndexMap<NodeId, u32>, n: NodeId) -> u32
     ensures value { result ≡ unwrap_or (lookup (same_node n) loose.old.entries) 0 }
     ensures taken { (q : Node) → lookup (same_node q) loose.new.entries ≡ cond (same_node n q) None (lookup (same_node q) loose.old.entries) }
@@ -51,7 +52,29 @@ fn take_loose(loose: &mut IndexMap<NodeId, u32>, n: NodeId) -> u32
     if loose.is_empty() {
         return 0;
     }
+    take_counted(loose, n)
+}
+
+/// As `take_loose`, where something is counted apart.
+#[inline(never)]
+fn take_counted(loose: &mut IndexMap<NodeId, u32>, n: NodeId) -> u32
+    ensures value { result ≡ unwrap_or (lookup (same_node n) loose.old.entries) 0 }
+    ensures taken { (q : Node) → lookup (same_node q) loose.new.entries ≡ cond (same_node n q) None (lookup (same_node q) loose.old.entries) }
+    ensures room { spare loose.old ≤ spare loose.new }
+{
     loose.swap_remove(&n).unwrap_or(0)
+}
+
+/// Counts one more of a node that is counted apart.
+#[inline(never)]
+fn count_loose_up(loose: &mut IndexMap<NodeId, u32>, n: NodeId)
+    requires room { 0 < spare loose.old }
+    requires few { unwrap_or (lookup (same_node n) loose.old.entries) 0 + 1 < 2 ^ 32 }
+    ensures updates { Updates same_node loose.old loose.new n (Some (unwrap_or (lookup (same_node n) loose.old.entries) 0 + 1)) }
+    ensures room { spare loose.old ≤ spare loose.new + 1 }
+{
+    let children = loose.get(&n).copied().unwrap_or(0);
+    loose.insert(n, children + 1).unwrap();
 }
 
 impl LockList {
@@ -83,6 +106,7 @@ impl LockList {
     }
 
     /// The mode in which the node is held, `NL` for none.
+    #[inline]
     pub fn mode(&self, n: NodeId) -> Mode
         ensures { result ≡ mode_of self.now n }
     {
@@ -100,6 +124,7 @@ impl LockList {
     }
 
     /// Makes room for one node more and for the counts of its parents.
+    #[inline]
     pub fn make_room(&mut self) -> Result<(), AllocError>
         ensures entries { self.new.entries.entries ≡ self.old.entries.entries }
         ensures loose { self.new.loose.entries ≡ self.old.loose.entries }
@@ -111,6 +136,7 @@ impl LockList {
     }
 
     /// Lists a node, with the count of its held children.
+    #[inline]
     pub fn enter(&mut self, n: NodeId, mode: Mode)
         requires apart { IsApart self.old }
         requires new { is_listed self.old n ≡ false }
@@ -173,6 +199,7 @@ impl LockList {
     }
 
     /// Counts one held child more of a node.
+    #[inline]
     fn count_one_up(&mut self, n: NodeId)
         requires apart { IsApart self.old }
         requires room { is_listed self.old n ≡ false → 0 < spare self.old.loose }
@@ -186,8 +213,7 @@ impl LockList {
         if let Some(entry) = self.entries.get_mut(n) {
             entry.children += 1;
         } else {
-            let children = self.loose.get(&n).copied().unwrap_or(0);
-            self.loose.insert(n, children + 1).unwrap();
+            count_loose_up(&mut self.loose, n);
         }
     }
 
@@ -229,6 +255,7 @@ impl LockList {
     }
 
     /// Takes out the node that was listed last, whatever is counted of its children.
+    #[inline]
     pub fn pop(&mut self) -> Option<NodeId>
         ensures none { IfNone result ((q : Node) → is_listed self.old q ≡ false) }
         ensures none_same { IfNone result (self.new ≡ self.old) }

@@ -8,7 +8,7 @@ ghost use Rattle.indexmap.specs.IndexMap.{get, index_map_len, index_of, keys, sp
 ghost use Rattle.gl_modes.specs.Nodes.{same_node};
 ghost use Rattle.gl_listed.specs.Lends.{lends_at, lends_get};
 
-use crate::rows::{move_all, place_of};
+use crate::rows::{move_all, place_in, place_of, put};
 use gl_modes::NodeId;
 use indexmap::IndexMap;
 use std::alloc::{AllocError, Global};
@@ -74,6 +74,7 @@ impl<V: Copy> NodeMap<V> {
     }
 
     /// The place of the node.
+    #[inline]
     fn place(&self, node: NodeId) -> Option<usize>
         ensures place { result ≡ index_of same_node self.now node }
         ensures unique { IsUnique same_node self.now }
@@ -81,7 +82,7 @@ impl<V: Copy> NodeMap<V> {
         if self.map.is_empty() {
             place_of(&self.rows, node)
         } else {
-            self.map.get_index_of(&node)
+            place_in(&self.map, node)
         }
     }
 
@@ -111,6 +112,7 @@ impl<V: Copy> NodeMap<V> {
     }
 
     /// The value of the node.
+    #[inline]
     pub fn get(&self, node: NodeId) -> Option<&V>
         ensures value { option_copied result ≡ get same_node self.now node }
     {
@@ -144,6 +146,7 @@ impl<V: Copy> NodeMap<V> {
     }
 
     /// Makes room for one node more.
+    #[inline]
     pub fn reserve_one(&mut self) -> Result<(), AllocError>
         ensures entries { IsUnchanged self.old self.new }
         ensures ok { OnOk result (0 < spare self.new) }
@@ -160,6 +163,7 @@ impl<V: Copy> NodeMap<V> {
     }
 
     /// Puts a value last, under a node that has none. There must be room.
+    #[inline]
     pub fn insert_new(&mut self, node: NodeId, value: V)
         requires new { get same_node self.old node ≡ None }
         requires room { 0 < spare self.old }
@@ -170,12 +174,12 @@ impl<V: Copy> NodeMap<V> {
         ensures unique { IsUnique same_node self.new }
     {
         if !self.map.is_empty() {
-            self.map.insert(node, value).unwrap();
+            put(&mut self.map, node, value);
         } else if self.rows.len() < SHORT {
-            self.rows.push((node, value)).unwrap();
+            self.rows.push_reserved((node, value));
         } else {
             move_all(&mut self.rows, &mut self.map);
-            self.map.insert(node, value).unwrap();
+            put(&mut self.map, node, value);
         }
     }
 

@@ -1,9 +1,10 @@
-//! Few rows, which are scanned, and their move into a map.
+//! Few rows, which are scanned, and more, which stand in a map. What is done with a map stands apart, so
+//! that the ways over few rows are short.
 
-ghost use Rattle.std.specs.Prelude.{◌≡◌, ◌+◌, ◌≤◌, [], length, vec_capacity, position};
+ghost use Rattle.std.specs.Prelude.{◌≡◌, ◌+◌, ◌<◌, ◌≤◌, [], Some, length, vec_capacity, position};
 ghost use Rattle.std.specs.List.{IsDistinct};
 ghost use Rattle.std.specs.Map.{keys_of};
-ghost use Rattle.indexmap.specs.IndexMap.{spare};
+ghost use Rattle.indexmap.specs.IndexMap.{index_of, insert_entry, spare, IsUnique, Updates};
 ghost use Rattle.gl_modes.specs.Nodes.{same_node};
 
 use gl_modes::NodeId;
@@ -22,7 +23,29 @@ pub(crate) fn place_of<V: Copy>(rows: &[(NodeId, V)], node: NodeId) -> Option<us
     None
 }
 
+/// Where the row of a node stands in a map.
+#[inline(never)]
+pub(crate) fn place_in<V: Copy>(map: &IndexMap<NodeId, V>, node: NodeId) -> Option<usize>
+    ensures place { result ≡ index_of same_node map.now node }
+    ensures unique { IsUnique same_node map.now }
+{
+    map.get_index_of(&node)
+}
+
+/// Puts a value into a map that has room, last where its node is new.
+#[inline(never)]
+pub(crate) fn put<V: Copy>(map: &mut IndexMap<NodeId, V>, node: NodeId, value: V)
+    requires { 0 < spare map.old }
+    ensures updates { Updates same_node map.old map.new node (Some value) }
+    ensures entries { map.new.entries ≡ insert_entry same_node map.old.entries node value }
+    ensures room { spare map.old ≤ spare map.new + 1 }
+    ensures unique { IsUnique same_node map.new }
+{
+    map.insert(node, value).unwrap();
+}
+
 /// Moves all rows into the map, in their order.
+#[inline(never)]
 pub(crate) fn move_all<V: Copy>(rows: &mut Vec<(NodeId, V)>, map: &mut IndexMap<NodeId, V>)
     requires distinct { IsDistinct same_node (keys_of rows.old.items) }
     requires empty { map.old.entries ≡ [] }

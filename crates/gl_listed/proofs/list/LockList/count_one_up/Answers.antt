@@ -1,7 +1,6 @@
 use Rattle.gl_listed.specs.Lists.{IsApart, mode_in}
 use Rattle.std.proofs.Common.{ap, refl, rules, sym, ◌∙◌}
 use Rattle.std.proofs.lemmas.Bool.{false≢true}
-use Rattle.std.proofs.lemmas.Result.{IfOk-at_ok}
 use Rattle.std.specs.Prelude.{is_some}
 use Rattle.gl_listed.proofs.Lists.{at_each, IsWritten-same, SameListed, SameMode, StaysApart}
 use Rattle.gl_listed.proofs.list.LockList.count_one_up.Goals as goal
@@ -31,6 +30,6 @@ returns-in_default-clause-apart c =
     rw c.get_mut.follows.holds-at-none (
       c.requires.apart.0,
       λ q. at_each StaysApart c.args.n _ _ _ _ _ _ (IsWritten-same c.args.n c.args.self.now.entries.entries)
-          (IfOk-at_ok _ c.unwrap.ensures c.insert.ensures.updates).0
+          c.count_loose_up.ensures.updates.0
           (λ _ h. absurd (false≢true (ap is_some c.in_default.ensures.value ∙ h))) (λ x y f. f) q (c.requires.apart.1 q),
     )
