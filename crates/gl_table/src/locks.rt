@@ -30,6 +30,7 @@ use gl_modes::{Mode, NodeId};
 use std::alloc::{AllocError, Global};
 
 mod ask;
+mod checks;
 mod end;
 mod keep;
 mod leave;
@@ -71,6 +72,7 @@ impl Locks {
     }
 
     /// The transaction in a slot.
+    #[inline]
     pub(crate) fn seat(&self, slot: u8) -> Option<Seat>
         ensures { txn_in (Some result) ≡ txns_of self.now.seats.items slot }
     {

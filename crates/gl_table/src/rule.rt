@@ -15,6 +15,7 @@ use gl_modes::{Mode, NodeId, Refusal, covers};
 /// Whether the rule of the graph lets this transaction have this mode on a node with these parents:
 /// to write, IX or greater on each; to read, IS or greater on one, and nothing for a root. Refused
 /// with `NeedParents`: the first parent that is wanting, to read the first of all.
+#[inline]
 #[tactic(auto, using(crate::proofs::calls::Queries::rule_steps))]
 pub(crate) fn check_rule(list: &LockList, parents: &[NodeId], mode: Mode) -> Result<(), Refusal>
     ensures { result ≡ verdict (rule_refusal (mode_of list.now) parents.now mode) }
@@ -27,6 +28,7 @@ pub(crate) fn check_rule(list: &LockList, parents: &[NodeId], mode: Mode) -> Res
 }
 
 /// Whether each of these is held in IX or greater.
+#[inline]
 #[tactic(auto, using(crate::proofs::calls::Queries::writable_steps))]
 pub(crate) fn check_writable(list: &LockList, parents: &[NodeId]) -> Result<(), Refusal>
     ensures { result ≡ verdict (first_not_ix (mode_of list.now) parents.now) }

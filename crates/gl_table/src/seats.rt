@@ -46,6 +46,7 @@ impl Seats {
     }
 
     /// The transaction in a slot.
+    #[inline]
     pub(crate) fn get(&self, slot: u8) -> Option<Seat>
         ensures { txn_in (Some result) ≡ txns_of self.now.items slot }
     {

@@ -1,67 +1,33 @@
 -- What a lock that is granted, and one that waits, makes of a table. For the calls that lock.
-use Rattle.gl_table.proofs.Words.{[], ◌&&◌, ◌==◌, ◌∙◌, ◌∷◌, ◌≡◌, Active, answered, ap, ap₂, AreExact, AtBlock, bad_mode, Bool, ByWatcher, clash, commit_tests}
-use Rattle.gl_table.proofs.Words.{condemned_test, Deadlock, Detect, enqueued, enters_at, Err, false, first_refusal, fun_ext, granted, graph_of, HasNoCycle}
-use Rattle.gl_table.proofs.Words.{held_by, held_of, if◌then◌else◌, is_granted_at, IsLawful, IsOrderly, IsSound, KeepsLocks, length, lock_tests, locked_as}
-use Rattle.gl_table.proofs.Words.{LocksKeeping, Mode, need_parents, no_node, no_txn, NodeId, None, not, not_false, not_refused, number_same, Ok, OnErr, OnOk}
-use Rattle.gl_table.proofs.Words.{Option, parents_of, passed_then, queue_of, refl, Refusal, refused_first, Refuses, Result, rule_refusal, same_node-refl, Some}
-use Rattle.gl_table.proofs.Words.{some_no_node, State, state_in, state_of, status_of, subst, supremum, sym, TableView, test_fails, Told, told_but, true}
-use Rattle.gl_table.proofs.Words.{try_tests, TxnId, txns_of, verdict, Victims, view_of, waiting_test, WaitSettles, WaitSettlesKeeping, wanted, where_true}
-use Rattle.gl_table.proofs.Words.{would_block, ℕ}
+use Rattle.gl_table.proofs.Words.{[], ◌&&◌, ◌==◌, ◌∙◌, ◌∷◌, ◌≡◌, Active, ap, ap₂, AreExact, AtBlock, Bool, ByWatcher, clash}
+use Rattle.gl_table.proofs.Words.{Deadlock, Detect, enqueued, enters_at, Err, false, first_refusal, granted, HasNoCycle}
+use Rattle.gl_table.proofs.Words.{held_of, if◌then◌else◌, is_granted_at, IsLawful, IsOrderly, IsSound, KeepsLocks, length, lock_tests, locked_as}
+use Rattle.gl_table.proofs.Words.{LocksKeeping, Mode, NodeId, None, not, number_same, Ok, OnErr, OnOk}
+use Rattle.gl_table.proofs.Words.{Option, passed_then, queue_of, refl, Refusal, refused_first, Refuses, Result, same_node-refl, Some}
+use Rattle.gl_table.proofs.Words.{State, state_in, state_of, status_of, subst, sym, TableView, Told, told_but, true}
+use Rattle.gl_table.proofs.Words.{try_tests, TxnId, txns_of, Victims, view_of, WaitSettles, WaitSettlesKeeping, wanted, where_true}
+use Rattle.gl_table.proofs.Words.{verdict, would_block, ℕ}
 use Rattle.gl_table.specs.declared.table.Table.TheInside.{Inside}
 use Rattle.gl_table.specs.model.Calls.{Locks}
 use Rattle.gl_modes.specs.declared.refusal.Refusal.TheVariants as no
 use Rattle.gl_table.specs.declared.locks.Locks as code
 use Rattle.gl_table.specs.declared.answers.Locked.TheVariants as locked
-use Rattle.gl_table.proofs.calls.Calls.{keeping_also, lawful_orderly, orderly, over, settled_also, test_passed}
-use Rattle.gl_table.proofs.calls.Queries.{modes-seen}
+use Rattle.gl_table.proofs.calls.Calls.{keeping_also, lawful_orderly, orderly, over, settled_also}
 use Rattle.gl_table.proofs.law.Lock.{granted-lawful, granted-no_cycle, locks-lawful, locks-no_cycle, may_lock, MayLock, waiting-lawful}
 use Rattle.gl_table.proofs.telling.Fronts.{enters-most}
 use Rattle.gl_table.proofs.telling.Lists.{told_but_same, told_nothing}
 
 -- The tests of an ask, and what a grant makes of a table.
 
--- the tests before the last have passed
-last_test : (a b c d e r : Option Refusal) → a ≡ None → b ≡ None → c ≡ None → d ≡ None → e ≡ None → first_refusal (a ∷ b ∷ c ∷ d ∷ e ∷ r ∷ []) ≡ r
-last_test None None None None None None a b c d e = refl
-last_test None None None None None (Some r) a b c d e = refl
-last_test (Some x) b' c' d' e' r a b c d e = absurd (cc)
-last_test None (Some x) c' d' e' r a b c d e = absurd (cc)
-last_test None None (Some x) d' e' r a b c d e = absurd (cc)
-last_test None None None (Some x) e' r a b c d e = absurd (cc)
-last_test None None None None (Some x) r a b c d e = absurd (cc)
+module _ (i : Inside) (v : TableView) (view : view_of i ≡ v) (t : TxnId) (n : NodeId) (m : Mode) where
+  -- the locks meet the tests of the table
+  pub tests-seen : first_refusal (lock_tests (state_in i.graph i.locks) t n m) ≡ first_refusal (lock_tests (state_of v) t n m)
+  tests-seen = ap (λ w. first_refusal (lock_tests (state_of w) t n m)) view
 
--- one node lives where it is no node that does not
-one_node : (s : State) (n : NodeId) → no_node s n ≡ None → some_no_node s.graph (n ∷ []) ≡ None
-one_node s n h = ap (λ b. where_true (not (b && true)) no.NoSuchNode) (not_false _ (test_fails _ _ h))
-
-module _ (i : Inside) (sound : IsSound i) (v : TableView) (view : view_of i ≡ v) (t : TxnId) (n : NodeId) (m : Mode) where
-  -- only the rule of the graph is left to be tested
-  pub rule_decides : (x y : Unit {0}) → Ok x ≡ verdict (first_refusal (commit_tests (state_of v) t)) → Ok y ≡ verdict (no_node (state_of v) n)
-      → bad_mode (state_of v) n m ≡ None
-      → rule_refusal (held_by i.locks.lists.items t.slot) (parents_of (graph_of i.graph) n) (supremum (held_by i.locks.lists.items t.slot n) m)
-      ≡ first_refusal (lock_tests (state_of v) t n m)
-  rule_decides x y a b good =
-      let s = state_of v in
-      let first = not_refused (no_txn s t) _ (test_passed _ x a) in
-      let second = not_refused (waiting_test (status_of s t.slot)) _ first.1 in
-      let third = not_refused (condemned_test (status_of s t.slot)) [] second.1 in
-      ap (λ (h : NodeId → Mode). rule_refusal h (parents_of (graph_of i.graph) n) (supremum (h n) m)) (fun_ext (modes-seen i sound v view t.slot))
-      ∙ ap (λ (w : TableView). rule_refusal ((state_of v).held t.slot) (parents_of (graph_of w.graph) n) (supremum ((state_of v).held t.slot n) m)) view
-      ∙ sym (last_test _ _ _ _ _ (need_parents s t.slot n (wanted s t.slot n m)) first.0 second.0 third.0 (one_node s n (test_passed _ y b)) good)
-
+-- a test that refused
 pub test_refused : (o : Option Refusal) (r : Refusal) → Err r ≡ verdict o → o ≡ Some r
 test_refused None r h = absurd (cc)
 test_refused (Some x) r h = let same : r ≡ x = cc in ap Some (sym same)
-
--- an answer that no test refused is the value, and else the refusal
-
-pub answered-ok : {A : Type 0} (o : Option Refusal) (x y : A) → Ok x ≡ answered o y → (o ≡ None) × (x ≡ y)
-answered-ok None x y h = (refl, cc)
-answered-ok (Some r) x y h = absurd (cc)
-
-pub answered-err : {A : Type 0} (o : Option Refusal) (r : Refusal) (y : A) → Err r ≡ answered o y → o ≡ Some r
-answered-err None r y h = absurd (cc)
-answered-err (Some x) r y h = let same : r ≡ x = cc in ap Some (sym same)
 
 -- where no test refuses, a value is no refusal
 pub unrefused : {T : Type 0} (o : Option Refusal) (x : T) → o ≡ None → Refuses o (Ok x)

@@ -4,8 +4,7 @@ ghost use Rattle.std.specs.Prelude.{◌≡◌, ◌≢◌, ◌<◌, ◌&&◌, ℕ
 ghost use Rattle.gl_modes.specs.declared.mode.Mode.TheVariants.{NL};
 ghost use Rattle.gl_modes.specs.declared.refusal.Refusal.{Refusal as ARefusal};
 ghost use Rattle.gl_graph.specs.Graph.{is_live, parents_of};
-ghost use Rattle.gl_graph.specs.Refusals.{verdict};
-ghost use Rattle.gl_table.specs.model.Calls.{rule_refusal, asked_at, locked_as, enqueued, enters_at, granted, wanted};
+ghost use Rattle.gl_table.specs.model.Calls.{asked_at, locked_as, enqueued, enters_at, granted, wanted};
 ghost use Rattle.gl_graph.specs.View.{graph_of};
 ghost use Rattle.gl_header.specs.Header.{holds};
 ghost use Rattle.gl_header.specs.Headers.{is_granted_at};
@@ -17,7 +16,6 @@ ghost use Rattle.gl_table.specs.declared.txn.Status.TheVariants.{Active};
 
 use crate::answers::Locked;
 use crate::locks::Locks;
-use crate::rule::check_rule;
 use crate::seat::Seat;
 use crate::txn::Status;
 use gl_graph::Graph;
@@ -42,6 +40,7 @@ pub(crate) fn make_room(lists: &mut Vec<LockList>, slot: u8) -> Result<(), Refus
 impl Locks {
     /// Makes room in the list of a slot for what an ask comes to. A conversion that is granted at once
     /// needs none, so that want of memory does not refuse it.
+    #[inline]
     fn make_room_to_ask(
         &mut self,
         slot: u8,
@@ -69,24 +68,11 @@ impl Locks {
         }
     }
 
-    /// Whether the rule of the graph lets a slot have this mode on a node.
-    pub(crate) fn check_rule(
-        &self,
-        graph: &Graph,
-        slot: u8,
-        node: NodeId,
-        mode: Mode,
-    ) -> Result<(), Refusal>
-        requires { slot < length self.now.lists.items }
-        ensures { result ≡ verdict (rule_refusal (held_by self.now.lists.items slot) (parents_of (graph_of graph.now) node) mode) }
-    {
-        check_rule(&self.lists[slot as usize], graph.parents(node), mode)
-    }
-
-    /// Asks for a mode on a node that the slot holds in the mode `held`: the supremum of the held and
-    /// the asked mode is granted at once, or the slot waits for it in its place. The room for a later
-    /// grant is made here. The only refusal is `NoMemory`, which a member that is granted at once
-    /// never meets.
+    /// Asks for a mode on a node that has these parents and that the slot holds in the mode `held`: the
+    /// supremum of the held and the asked mode is granted at once, or the slot waits for it in its
+    /// place. The room for a later grant is made here. The only refusal is `NoMemory`, which a member
+    /// that is granted at once never meets.
+    #[inline]
     pub(crate) fn ask(
         &mut self,
         graph: &Graph,
@@ -94,6 +80,7 @@ impl Locks {
         node: NodeId,
         mode: Mode,
         held: Mode,
+        parents: &[NodeId],
     ) -> Result<Asked, Refusal>
         requires exact { AreExact graph.now self.old }
         requires orderly { IsOrderly (state_in graph.now self.old) }
@@ -101,6 +88,7 @@ impl Locks {
         requires live { is_live (graph_of graph.now) node ≡ true }
         requires lock { mode ≢ NL }
         requires held { held ≡ held_by self.old.lists.items slot node }
+        requires parents { parents.now ≡ parents_of (graph_of graph.now) node }
         ensures exact { AreExact graph.now self.new }
         ensures answer { IfOk result (λ asked. asked ≡ asked_at (state_in graph.now self.old) slot node mode) }
         ensures granted { OnOk result (enters_at (state_in graph.now self.old) slot node mode ≡ true
@@ -122,7 +110,7 @@ impl Locks {
             Asked::Granted(wanted) if is_member => list.set_mode(node, wanted),
             Asked::Granted(wanted) => {
                 list.enter(node, wanted);
-                list.count_up(graph.parents(node));
+                list.count_up(parents);
             }
             Asked::Waiting => {
                 let wanted = sup(held, mode);
@@ -136,8 +124,9 @@ impl Locks {
         Ok(asked)
     }
 
-    /// Grants a mode that can be granted at once, where the slot holds the mode `held`: the supremum
-    /// of the held and the asked mode. The only refusal is `NoMemory`, which a member never meets.
+    /// Grants a mode that can be granted at once, where the node has these parents and the slot holds
+    /// the mode `held`: the supremum of the held and the asked mode. The only refusal is `NoMemory`,
+    /// which a member never meets.
     pub(crate) fn grant(
         &mut self,
         graph: &Graph,
@@ -145,6 +134,7 @@ impl Locks {
         node: NodeId,
         mode: Mode,
         held: Mode,
+        parents: &[NodeId],
     ) -> Result<Mode, Refusal>
         requires exact { AreExact graph.now self.old }
         requires orderly { IsOrderly (state_in graph.now self.old) }
@@ -152,6 +142,7 @@ impl Locks {
         requires live { is_live (graph_of graph.now) node ≡ true }
         requires lock { mode ≢ NL }
         requires held { held ≡ held_by self.old.lists.items slot node }
+        requires parents { parents.now ≡ parents_of (graph_of graph.now) node }
         requires enters { enters_at (state_in graph.now self.old) slot node mode ≡ true }
         ensures exact { AreExact graph.now self.new }
         ensures mode { IfOk result (λ m. m ≡ wanted (state_in graph.now self.old) slot node mode) }
@@ -160,7 +151,7 @@ impl Locks {
         ensures no_memory { IfErr result (λ refusal. refusal ≡ ARefusal.NoMemory) }
         ensures held { holds (members (state_in graph.now self.old) node) slot ≡ true → IsOk result }
     {
-        match self.ask(graph, slot, node, mode, held)? {
+        match self.ask(graph, slot, node, mode, held, parents)? {
             Asked::Granted(wanted) => Ok(wanted),
             Asked::Waiting => unreachable!(),
         }

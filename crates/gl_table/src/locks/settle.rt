@@ -23,6 +23,7 @@ use gl_waits::{Victims, victim_for};
 impl Locks {
     /// With detection at block, settles a slot that has begun to wait, and keeps the last deadlock that
     /// this ends. Puts who else is told into an empty list, by rising slot.
+    #[inline(never)]
     pub(crate) fn settle_asker(
         &mut self,
         graph: &Graph,

@@ -32,7 +32,9 @@ pub(crate) fn hold(
     }
 }
 
-/// Those whose waits on a node were granted hold it, are active, and are told.
+/// Those whose waits on a node were granted hold it, are active, and are told. Mostly nobody waits, so
+/// that this stands apart from the way of a release.
+#[inline(never)]
 pub(crate) fn wake(
     seats: &mut Seats,
     lists: &mut Vec<LockList>,

@@ -6,7 +6,7 @@ ghost use Rattle.gl_table.specs.model.Calls.{commit_tests, held_child, no_node, 
 ghost use Rattle.gl_table.specs.model.Table.{state_of};
 
 use super::Table;
-use crate::txn::{Status, TxnId};
+use crate::txn::TxnId;
 use gl_modes::{NodeId, Refusal};
 
 impl Table {
@@ -21,15 +21,11 @@ impl Table {
     }
 
     /// Whether the name names a transaction that lives and neither waits nor is condemned.
+    #[inline]
     pub(super) fn check_active(&self, t: TxnId) -> Result<(), Refusal>
         ensures { result ≡ verdict (first_refusal (commit_tests (state_of self.now) t)) }
     {
-        match self.status(t) {
-            Some(Status::Active) => Ok(()),
-            Some(Status::Waiting { .. }) => Err(Refusal::TxnWaiting),
-            Some(Status::Condemned) => Err(Refusal::TxnCondemned),
-            None => Err(Refusal::NoSuchTxn),
-        }
+        self.locks.check_active(t)
     }
 
     /// Whether the id names a node.

@@ -1,13 +1,9 @@
 //! Locks are asked for.
 
-ghost use Rattle.std.specs.Prelude.{◌≡◌, ◌&&◌, ◌||◌, [], IfOk, IsOk, None, OnErr, OnOk, not, true};
-ghost use Rattle.gl_modes.specs.declared.mode.Mode.TheVariants.{NL, S, X};
-ghost use Rattle.gl_modes.specs.Modes.{same_mode};
-ghost use Rattle.gl_graph.specs.Graph.{shape_of};
+ghost use Rattle.std.specs.Prelude.{◌≡◌, [], IfOk, IsOk, None, OnErr, OnOk, true};
 ghost use Rattle.gl_graph.specs.Refusals.{Refuses, first_refusal};
-ghost use Rattle.gl_graph.specs.Shapes.{is_record_shape};
 ghost use Rattle.gl_header.specs.Header.{holds};
-ghost use Rattle.gl_table.specs.model.Calls.{answered, locked_as, Locks, enters_at, granted, wanted, lock_tests, try_tests};
+ghost use Rattle.gl_table.specs.model.Calls.{locked_as, Locks, enters_at, granted, wanted, lock_tests, try_tests};
 ghost use Rattle.gl_table.specs.model.Deadlocks.{LocksKeeping};
 ghost use Rattle.gl_table.specs.model.State.{members, status_of};
 ghost use Rattle.gl_table.specs.model.Table.{state_of};
@@ -16,9 +12,8 @@ ghost use Rattle.gl_table.specs.model.Tellings.{told_but};
 use super::Table;
 use crate::answers::{Locked, Told};
 use crate::txn::TxnId;
-use gl_graph::Kind;
 use gl_header::Asked;
-use gl_modes::{Mode, NodeId, Refusal, sup};
+use gl_modes::{Mode, NodeId, Refusal};
 
 impl Table {
     /// As `lock`, with the notices put into an empty list.
@@ -65,8 +60,8 @@ impl Table {
             → holds (members (state_of self.old) n) t.slot ≡ true → IsOk result }
         ensures err { OnErr result (self.new ≡ self.old) }
     {
-        let held = self.check_lock(t, n, mode)?;
-        match self.locks.ask(&self.graph, t.slot, n, mode, held)? {
+        let (held, parents) = self.locks.check_ask(&self.graph, t, n, mode)?;
+        match self.locks.ask(&self.graph, t.slot, n, mode, held, parents)? {
             Asked::Granted(granted) => Ok((held, Locked::Granted(granted))),
             Asked::Waiting => {
                 self.locks.settle_asker(
@@ -96,36 +91,11 @@ impl Table {
         ensures held { first_refusal (try_tests (state_of self.old) t n mode) ≡ None → holds (members (state_of self.old) n) t.slot ≡ true → IsOk result }
         ensures err { OnErr result (self.new ≡ self.old) }
     {
-        let held = self.check_lock(t, n, mode)?;
+        let (held, parents) = self.locks.check_ask(&self.graph, t, n, mode)?;
         if !self.locks.headers.would_grant(t.slot, n, mode) {
             return Err(Refusal::WouldBlock);
         }
-        self.locks.grant(&self.graph, t.slot, n, mode, held)
-    }
-
-    /// The tests of an ask, whether it waits or not. Answers the mode in which the node is held.
-    fn check_lock(&self, t: TxnId, n: NodeId, mode: Mode) -> Result<Mode, Refusal>
-        ensures { result ≡ answered (first_refusal (lock_tests (state_of self.now) t n mode)) ((state_of self.now).held t.slot n) }
-    {
-        self.check_active(t)?;
-        self.check_node(n)?;
-        if self.is_bad_mode(n, mode) {
-            return Err(Refusal::BadMode);
-        }
-        let held = self.locks.mode(t.slot, n);
         self.locks
-            .check_rule(&self.graph, t.slot, n, sup(held, mode))?;
-        Ok(held)
-    }
-
-    /// Whether the mode is none, or one that a record does not take.
-    fn is_bad_mode(&self, n: NodeId, mode: Mode) -> bool
-        ensures { result ≡ (same_mode mode NL || (is_record_shape (shape_of (state_of self.now).graph n) && not (same_mode mode S || same_mode mode X))) }
-    {
-        match mode {
-            Mode::NL => true,
-            Mode::S | Mode::X => false,
-            _ => matches!(self.graph.kind(n), Some(Kind::Rec)),
-        }
+            .grant(&self.graph, t.slot, n, mode, held, parents)
     }
 }

@@ -123,13 +123,13 @@ count_up-requires-clause-room c =
     (c.in_ok-make_room_to_ask.ensures.room (ap (λ b. b && is_granted_at c.args.self.now.headers.entries c.args.slot c.args.node c.args.mode)
     c.if-is_member.false))).1 in
     let kept = c.enter.ensures.room in
-    subst (λ ps. unlisted c.enter.new.self ps ≤ spare c.enter.new.self.loose) (sym c.parents.ensures)
+    subst (λ ps. unlisted c.enter.new.self ps ≤ spare c.enter.new.self.loose) (sym c.requires.parents)
     (parents-room (graph_of c.args.graph.now) c.law.ensures.lawful c.args.node c.enter.new.self (omega arith))
 
 pub count_up-requires-clause-few : goal.count_up-requires-clause-few
 count_up-requires-clause-few c =
     let p = (goal.at.count_up-requires-clause-few c).After-make_room_to_ask in
-    λ q h. subst (λ ps. count_of c.enter.new.self q + count_by (same_node q) ps < 2 ^ 32) (sym c.parents.ensures)
+    λ q h. subst (λ ps. count_of c.enter.new.self q + count_by (same_node q) ps < 2 ^ 32) (sym c.requires.parents)
     (subst (λ (k : ℕ). k + count_by (same_node q) (parents_of (graph_of c.args.graph.now) c.args.node) < 2 ^ 32) (sym (c.enter.ensures.counts q))
     (own-few (graph_of c.args.graph.now) c.make_room_to_ask.new.self c.args.slot (may_now p) c.index_mut-list.result.now c.index_mut-list.ensures.value
     c.law.ensures.lawful c.args.node q))
@@ -198,7 +198,7 @@ put_new c m held = let g = graph_of c.args.graph.now in let l = c.make_room_to_a
     (λ q. c.count_up.ensures.modes q ∙ c.enter.ensures.modes q) (λ q. c.count_up.ensures.listed q ∙ c.enter.ensures.listed q))
     (counts-entered l.lists.items t x x' listed c.index_mut-list.ensures.value
     (λ q. if same_mode (held_of l.headers.entries t n) NL then count_by (same_node q) (parents_of g n) else 0)
-    (λ q. c.count_up.ensures.counts q ∙ ap₂ (λ k ps. k + count_by (same_node q) ps) (c.enter.ensures.counts q) c.parents.ensures
+    (λ q. c.count_up.ensures.counts q ∙ ap₂ (λ k ps. k + count_by (same_node q) ps) (c.enter.ensures.counts q) c.requires.parents
     ∙ ap (λ b. count_of x q + (if b then count_by (same_node q) (parents_of g n) else 0)) (sym (not-false _ (r.is_held ∙ c.if-is_member.false)))))
 
 -- the list of one who waits has the node

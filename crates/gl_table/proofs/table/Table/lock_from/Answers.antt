@@ -2,8 +2,9 @@ use Rattle.gl_table.proofs.Words.{◌<◌, ◌∙◌, ◌≡◌, Active, ap, ent
 use Rattle.gl_table.proofs.Words.{Refuses, rules, state_of, status_of, subst, sym, TableView, told_but, true, view_of, ℕ}
 use Rattle.gl_table.specs.model.Calls.{Locks}
 use Rattle.gl_table.proofs.calls.Calls.{orderly}
-use Rattle.gl_table.proofs.calls.Locking.{answered-err, answered-ok, granted_answer, granted_keeps, granted_locks, granted_told, kept_locked, may_lock_by}
-use Rattle.gl_table.proofs.calls.Locking.{sound_granted, sound_kept, sound_locked, state_granted, state_locked, told_locked, unrefused, waiting_orderly}
+use Rattle.gl_table.proofs.calls.Locking.{granted_answer, granted_keeps, granted_locks, granted_told, kept_locked, may_lock_by}
+use Rattle.gl_table.proofs.calls.Locking.{sound_granted, sound_kept, sound_locked, state_granted, state_locked, tests-seen, told_locked, unrefused}
+use Rattle.gl_table.proofs.calls.Locking.{waiting_orderly}
 use Rattle.gl_table.proofs.calls.Queries.{modes-seen}
 use Rattle.gl_table.proofs.inside.Asks.{answer-enters, answer-granted, answer-waits}
 use Rattle.gl_table.proofs.law.Keeps.{txn_there}
@@ -14,7 +15,10 @@ use Rattle.gl_table.proofs.table.Table.lock_from.Goals as goal
 -- the tests of the ask passed, and this is the mode held
 checked : (c : After-ask) → (first_refusal (lock_tests (state_of c.args.self.now) c.args.t c.args.n c.args.mode) ≡ None)
     × (c.in_ok-held.held ≡ (state_of c.args.self.now).held c.args.t.slot c.args.n)
-checked c = answered-ok _ _ _ c.in_ok-held.ensures
+checked c = (
+  sym (tests-seen c.self.inside c.args.self.now c.self.view_is c.args.t c.args.n c.args.mode) ∙ c.in_ok-held.ensures.passed,
+  c.in_ok-held.ensures.held ∙ modes-seen c.self.inside c.self.invariant c.args.self.now c.self.view_is c.args.t.slot c.args.n,
+)
 
 may : (c : After-ask) → MayLock (state_of (view_of c.self.inside)) c.args.t c.args.n c.args.mode
 may c =
@@ -31,15 +35,11 @@ blocks c = answer-waits _ _ _ c.in_ok-granted.ensures.answer c.in-Waiting.is
 
 pub returns-in_err-held-clause-refuses : goal.returns-in_err-held-clause-refuses
 returns-in_err-held-clause-refuses c =
-    let is = answered-err _ c.in_err-held.field-0.0 _ c.in_err-held.ensures in
+    let is = sym (tests-seen c.self.inside c.args.self.now c.self.view_is c.args.t c.args.n c.args.mode) ∙ c.in_err-held.ensures.refused in
     subst (λ (o : Option Refusal). Refuses o c.from_residual.result) (sym is) (search rules)
 
 pub ask-requires-clause-orderly : goal.ask-requires-clause-orderly
 ask-requires-clause-orderly c = orderly c.self.inside c.self.invariant
-
-pub ask-requires-clause-held : goal.ask-requires-clause-held
-ask-requires-clause-held c = (answered-ok _ _ _ c.in_ok-held.ensures).1
-    ∙ sym (modes-seen c.self.inside c.self.invariant c.args.self.now c.self.view_is c.args.t.slot c.args.n)
 
 pub invariant_of-self : goal.invariant_of-self
 invariant_of-self c =
@@ -48,7 +48,7 @@ invariant_of-self c =
 
 pub returns-in_err-granted-clause-refuses : goal.returns-in_err-granted-clause-refuses
 returns-in_err-granted-clause-refuses c =
-    let is = (answered-ok _ _ _ c.in_ok-held.ensures).0 in
+    let is = (checked (goal.at.returns-in_err-granted-clause-refuses c).After-ask).0 in
     subst (λ (o : Option Refusal). Refuses o c.from_residual-in_err-granted.result) (sym is) (search rules)
 
 pub invariant_of-self-in-Granted : goal.invariant_of-self-in-Granted
@@ -91,8 +91,7 @@ returns-in-Granted-clause-deadlock c =
     (granted_keeps (state_of (view_of c.self.inside)) after c.args.t.slot c.args.n c.args.mode c.self.inside.deadlock f)
 
 pub returns-in-Granted-clause-refuses : goal.returns-in-Granted-clause-refuses
-returns-in-Granted-clause-refuses c =
-    unrefused _ _ (answered-ok _ _ _ c.in_ok-held.ensures).0
+returns-in-Granted-clause-refuses c = unrefused _ _ (checked (goal.at.returns-in-Granted-clause-refuses c).After-ask).0
 
 pub settle_asker-requires-clause-orderly : goal.settle_asker-requires-clause-orderly
 settle_asker-requires-clause-orderly c =
@@ -144,11 +143,10 @@ returns-in-Waiting-clause-deadlock c =
     c.settle_asker.new.self c.settle_asker.new.deadlock c.settle_asker.ensures.state c.settle_asker.ensures.deadlock)
 
 pub returns-in-Waiting-clause-refuses : goal.returns-in-Waiting-clause-refuses
-returns-in-Waiting-clause-refuses c =
-    unrefused _ _ (answered-ok _ _ _ c.in_ok-held.ensures).0
+returns-in-Waiting-clause-refuses c = unrefused _ _ (checked (goal.at.returns-in-Waiting-clause-refuses c).After-ask).0
 
 pub returns-in-Granted-clause-before : goal.returns-in-Granted-clause-before
-returns-in-Granted-clause-before c = (answered-ok _ _ _ c.in_ok-held.ensures).1
+returns-in-Granted-clause-before c = (checked (goal.at.returns-in-Granted-clause-before c).After-ask).1
 
 pub returns-in-Waiting-clause-before : goal.returns-in-Waiting-clause-before
-returns-in-Waiting-clause-before c = (answered-ok _ _ _ c.in_ok-held.ensures).1
+returns-in-Waiting-clause-before c = (checked (goal.at.returns-in-Waiting-clause-before c).After-ask).1

@@ -1,36 +1,43 @@
-use Rattle.gl_table.proofs.Words.{◌∙◌, ◌≡◌, Err, false, granted, Mode, none_some, OnOk, Option, refl, Refusal, Refuses, rules, state_of, subst, sym, TableView}
-use Rattle.gl_table.proofs.Words.{true, view_of}
+use Rattle.gl_table.proofs.Words.{◌∙◌, ◌≡◌, Err, false, first_refusal, granted, lock_tests, Mode, None, none_some, OnOk, Option, refl, Refusal, Refuses}
+use Rattle.gl_table.proofs.Words.{rules, Some, state_of, subst, sym, TableView, true, try_tests, view_of}
 use Rattle.gl_modes.specs.declared.refusal.Refusal.TheVariants as no
 use Rattle.gl_table.proofs.calls.Calls.{orderly}
-use Rattle.gl_table.proofs.calls.Locking.{answered-err, answered-ok, decided, may_lock_by, same_enters, sound_tried, state_tried, try_refused}
-use Rattle.gl_table.proofs.calls.Queries.{modes-seen}
+use Rattle.gl_table.proofs.calls.Locking.{decided, may_lock_by, same_enters, sound_tried, state_tried, tests-seen, try_refused}
 use Rattle.gl_table.proofs.law.Lock.{MayLock}
+use Rattle.gl_table.proofs.table.Table.try_lock.Goals.{In_err-held, In_ok-held}
 use Rattle.gl_table.proofs.table.Table.try_lock.Goals as goal
+
+passed : (c : In_ok-held) → first_refusal (lock_tests (state_of c.args.self.now) c.args.t c.args.n c.args.mode) ≡ None
+passed c = sym (tests-seen c.self.inside c.args.self.now c.self.view_is c.args.t c.args.n c.args.mode) ∙ c.in_ok-held.ensures.passed
+
+refused : (c : In_err-held) → first_refusal (try_tests (state_of c.args.self.now) c.args.t c.args.n c.args.mode) ≡ Some c.in_err-held.field-0.0
+refused c =
+    try_refused (state_of c.args.self.now) c.args.t c.args.n c.args.mode c.in_err-held.field-0.0
+    (sym (tests-seen c.self.inside c.args.self.now c.self.view_is c.args.t c.args.n c.args.mode) ∙ c.in_err-held.ensures.refused)
 
 pub returns-in_err-held-clause-refuses : goal.returns-in_err-held-clause-refuses
 returns-in_err-held-clause-refuses c =
-    let is = try_refused (state_of c.args.self.now) c.args.t c.args.n c.args.mode c.in_err-held.field-0.0
-    (answered-err _ c.in_err-held.field-0.0 _ c.in_err-held.ensures) in
-    subst (λ (o : Option Refusal). Refuses o c.from_residual.result) (sym is) (search rules)
+    subst (λ (o : Option Refusal). Refuses o c.from_residual.result) (sym (refused (goal.at.returns-in_err-held-clause-refuses c).In_err-held)) (search rules)
+
+pub returns-in_err-held-clause-held : goal.returns-in_err-held-clause-held
+returns-in_err-held-clause-held c = λ passes. absurd (none_some (sym passes ∙ refused (goal.at.returns-in_err-held-clause-held c).In_err-held))
 
 pub returns-then-not-would_grant-clause-refuses : goal.returns-then-not-would_grant-clause-refuses
 returns-then-not-would_grant-clause-refuses c =
-    let is = decided c.self.inside c.self.invariant c.args.self.now c.self.view_is c.args.t c.args.n c.args.mode (answered-ok _ _ _ c.in_ok-held.ensures).0
+    let is = decided c.self.inside c.self.invariant c.args.self.now c.self.view_is c.args.t c.args.n c.args.mode
+    (passed (goal.at.returns-then-not-would_grant-clause-refuses c).In_ok-held)
     false c.if-not-would_grant.ensures in
     subst (λ (o : Option Refusal). Refuses {T = Mode} o (Err no.WouldBlock)) (sym is) refl
 
 pub returns-then-not-would_grant-clause-held : goal.returns-then-not-would_grant-clause-held
 returns-then-not-would_grant-clause-held c =
-    let is = decided c.self.inside c.self.invariant c.args.self.now c.self.view_is c.args.t c.args.n c.args.mode (answered-ok _ _ _ c.in_ok-held.ensures).0
+    let is = decided c.self.inside c.self.invariant c.args.self.now c.self.view_is c.args.t c.args.n c.args.mode
+    (passed (goal.at.returns-then-not-would_grant-clause-held c).In_ok-held)
     false c.if-not-would_grant.ensures in
     λ passes. absurd (none_some (sym passes ∙ is))
 
 pub grant-requires-clause-orderly : goal.grant-requires-clause-orderly
 grant-requires-clause-orderly c = orderly c.self.inside c.self.invariant
-
-pub grant-requires-clause-held : goal.grant-requires-clause-held
-grant-requires-clause-held c = (answered-ok _ _ _ c.in_ok-held.ensures).1
-    ∙ sym (modes-seen c.self.inside c.self.invariant c.args.self.now c.self.view_is c.args.t.slot c.args.n)
 
 pub grant-requires-clause-enters : goal.grant-requires-clause-enters
 grant-requires-clause-enters c = sym (same_enters c.self.inside c.self.invariant c.args.t c.args.n c.args.mode) ∙ sym c.if-not-would_grant.ensures
@@ -38,7 +45,7 @@ grant-requires-clause-enters c = sym (same_enters c.self.inside c.self.invariant
 pub invariant_of-self : goal.invariant_of-self
 invariant_of-self c =
     let may = subst (λ (v : TableView). MayLock (state_of v) c.args.t c.args.n c.args.mode) (sym c.self.view_is)
-    (may_lock_by (state_of c.args.self.now) c.args.t c.args.n c.args.mode (answered-ok _ _ _ c.in_ok-held.ensures).0) in
+    (may_lock_by (state_of c.args.self.now) c.args.t c.args.n c.args.mode (passed (goal.at.invariant_of-self c).In_ok-held)) in
     sound_tried c.self.inside c.self.invariant c.args.t c.args.n c.args.mode c.grant.result c.grant.new.self may
     (sym (same_enters c.self.inside c.self.invariant c.args.t c.args.n c.args.mode) ∙ sym c.if-not-would_grant.ensures)
     c.grant.ensures.state c.grant.ensures.err c.grant.ensures.exact
@@ -51,6 +58,7 @@ returns-clause-state c =
 
 pub returns-clause-refuses : goal.returns-clause-refuses
 returns-clause-refuses c =
-    let is = decided c.self.inside c.self.invariant c.args.self.now c.self.view_is c.args.t c.args.n c.args.mode (answered-ok _ _ _ c.in_ok-held.ensures).0 true
+    let is = decided c.self.inside c.self.invariant c.args.self.now c.self.view_is c.args.t c.args.n c.args.mode
+    (passed (goal.at.returns-clause-refuses c).In_ok-held) true
     c.if-not-would_grant.ensures in
     subst (λ (o : Option Refusal). Refuses {T = Mode} o c.grant.result) (sym is) c.grant.ensures.no_memory
