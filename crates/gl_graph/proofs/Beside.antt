@@ -118,8 +118,8 @@ file_slot most s births sound n h =
 -- what is no index has no intervals
 pub no_intervals : (b : Body) → is_index_shape (Some (shape_in_body b)) ≡ false → intervals_in_body b ≡ []
 no_intervals body.Inner h = refl
-no_intervals (body.File indexes records) h = refl
-no_intervals (body.Index file bounds intervals) h = absurd (no (sym h))
+no_intervals (body.File kept) h = refl
+no_intervals (body.Index kept) h = absurd (no (sym h))
 no_intervals (body.Interval place) h = refl
 no_intervals (body.Rec keys) h = refl
 

@@ -41,15 +41,15 @@ born_within most s births sound k x e = (sound.lawful.born x.birth (ap is_some (
 -- an inner node, a file: no index, no record
 plain_no_index : (b : Body) → IsPlainBody b → (f : NodeId) → is_index_of_shape f (Some (shape_in_body b)) ≡ false
 plain_no_index body.Inner p f = refl
-plain_no_index (body.File indexes records) p f = refl
-plain_no_index (body.Index file bounds intervals) p f = absurd p
+plain_no_index (body.File kept) p f = refl
+plain_no_index (body.Index kept) p f = absurd p
 plain_no_index (body.Interval place) p f = absurd p
 plain_no_index (body.Rec keys) p f = absurd p
 
 plain_no_record : (b : Body) → IsPlainBody b → is_record_shape (Some (shape_in_body b)) ≡ false
 plain_no_record body.Inner p = refl
-plain_no_record (body.File indexes records) p = refl
-plain_no_record (body.Index file bounds intervals) p = absurd p
+plain_no_record (body.File kept) p = refl
+plain_no_record (body.Index kept) p = absurd p
 plain_no_record (body.Interval place) p = absurd p
 plain_no_record (body.Rec keys) p = absurd p
 
@@ -104,12 +104,12 @@ module _ (most : ℕ) (old new : Slab Stored) (births key : ℕ) (x : Stored) (s
 
     new_kept : (b : Body) → x.body ≡ b → IsPlainBody b → KeepsBeside (born_node g node) id (vertex_of (record x { body = b })) (shape_in_body b)
     new_kept body.Inner e p = tt
-    new_kept (body.File indexes records) e p = (
+    new_kept (body.File kept) e p = (
       p.0 ∙ sym (one_indexes g sound.lawful node (plain_no_index x.body plain) id ∙ dead_indexes g sound.lawful id not_there),
       p.1
           ∙ sym (records_grown g sound.lawful (node ∷ []) id ∙ ap₂ (λ a b. a + b) (dead_records g sound.lawful id not_there) (count_cons (is_record_of (born_node g node) id) id [] ∙ ap (λ b. cond b 1 0 + 0) (not_record id))),
     )
-    new_kept (body.Index file bounds intervals) e p = absurd p
+    new_kept (body.Index kept) e p = absurd p
     new_kept (body.Interval place) e p = absurd p
     new_kept (body.Rec keys) e p = absurd p
 

@@ -1,9 +1,7 @@
 -- Looking nodes up: what a test says, what a node's place in the graph says.
-use Rattle.std.specs.Prelude.{◌≡◌, ◌≢◌, ℕ, Bool, true, false, ◌&&◌, ◌||◌, ◌==◌, List, [], ◌∷◌, Option, Some, None, is_some, if◌then◌else◌}
+use Rattle.std.specs.Prelude.{◌≡◌, ◌≢◌, ℕ, Bool, true, ◌==◌, List, [], ◌∷◌, Option, Some, None, is_some, if◌then◌else◌}
 use Rattle.std.specs.List.{list_all, list_any, filter}
-use Rattle.std.proofs.Common.{refl, sym, ap, ap₂, ◌∙◌, arith}
-use Rattle.std.proofs.lemmas.Bool.Decides.{nat_tests}
-use mathlib.Core.Bool.{true≢false}
+use Rattle.std.proofs.Common.{refl, sym, ap, ◌∙◌}
 use Rattle.gl_modes.proofs.NodeLemmas.{node_is, same_node-equal}
 use Rattle.gl_modes.proofs.Words.{split, cases_of, or_elim, and_both, both, none_some, some_is, no, same_number, number_same, number_other}
 use Rattle.gl_modes.specs.declared.node.NodeId.{NodeId}

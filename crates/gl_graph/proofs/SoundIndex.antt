@@ -29,29 +29,29 @@ use Rattle.gl_graph.proofs.Unrefused.{IsRoomyIndex}
 
 same_shape : (b : Body) (fresh : Vec NodeId Global) → shape_in_body (body_with_intervals b fresh) ≡ shape_in_body b
 same_shape body.Inner fresh = refl
-same_shape (body.File indexes records) fresh = refl
-same_shape (body.Index f bounds intervals) fresh = refl
+same_shape (body.File kept) fresh = refl
+same_shape (body.Index kept) fresh = refl
 same_shape (body.Interval place) fresh = refl
 same_shape (body.Rec keys) fresh = refl
 
 has_intervals : (b : Body) (fresh : Vec NodeId Global) (f : NodeId) (bs : List ℕ) → shape_in_body b ≡ Index f bs → intervals_in_body (body_with_intervals b fresh) ≡ fresh.items
 has_intervals body.Inner fresh f bs e = cc
-has_intervals (body.File indexes records) fresh f bs e = cc
-has_intervals (body.Index g bounds intervals) fresh f bs e = refl
+has_intervals (body.File kept) fresh f bs e = cc
+has_intervals (body.Index kept) fresh f bs e = refl
 has_intervals (body.Interval place) fresh f bs e = cc
 has_intervals (body.Rec keys) fresh f bs e = cc
 
 file_same_shape : (b : Body) (fresh : SmallVec NodeId) → shape_in_body (body_with_indexes b fresh) ≡ shape_in_body b
 file_same_shape body.Inner fresh = refl
-file_same_shape (body.File indexes records) fresh = refl
-file_same_shape (body.Index f bounds intervals) fresh = refl
+file_same_shape (body.File kept) fresh = refl
+file_same_shape (body.Index kept) fresh = refl
 file_same_shape (body.Interval place) fresh = refl
 file_same_shape (body.Rec keys) fresh = refl
 
 has_indexes : (b : Body) (fresh : SmallVec NodeId) → shape_in_body b ≡ File → (indexes_in_body (body_with_indexes b fresh) ≡ fresh.items) × (records_in_body (body_with_indexes b fresh) ≡ records_in_body b)
 has_indexes body.Inner fresh e = cc
-has_indexes (body.File indexes records) fresh e = (refl, refl)
-has_indexes (body.Index g bounds intervals) fresh e = cc
+has_indexes (body.File kept) fresh e = (refl, refl)
+has_indexes (body.Index kept) fresh e = cc
 has_indexes (body.Interval place) fresh e = cc
 has_indexes (body.Rec keys) fresh e = cc
 

@@ -30,15 +30,15 @@ module _ (x : Stored) (file : shape_in_body x.body ≡ File) (records : ℕ) whe
 
   by_body : (b : Body) → shape_in_body b ≡ File → (shape_in_body (body_with_records b records) ≡ File) × (indexes_in_body (body_with_records b records) ≡ indexes_in_body b)
   by_body body.Inner e = cc
-  by_body (body.File indexes was) e = (refl, refl)
-  by_body (body.Index f bounds intervals) e = cc
+  by_body (body.File kept) e = (refl, refl)
+  by_body (body.Index kept) e = cc
   by_body (body.Interval place) e = cc
   by_body (body.Rec keys) e = cc
 
   count_written : (b : Body) → shape_in_body b ≡ File → (vertex_of (record x { body = body_with_records b records })).records ≡ records
   count_written body.Inner e = cc
-  count_written (body.File indexes was) e = refl
-  count_written (body.Index f bounds intervals) e = cc
+  count_written (body.File kept) e = refl
+  count_written (body.Index kept) e = cc
   count_written (body.Interval place) e = cc
   count_written (body.Rec keys) e = cc
 

@@ -5,9 +5,10 @@ use Rattle.gl_modes.specs.declared.node.NodeId.{NodeId}
 use Rattle.gl_graph.specs.declared.graph.make.IndexParts.{IndexParts}
 
 -- copies of these, room for the intervals, and room for one index more
-pub record AreParts (parts : IndexParts) (ps : List NodeId) (bs : List ℕ) (is : List NodeId) : Type 0 where
+pub record AreParts (parts : IndexParts) (ps : List NodeId) (file : NodeId) (bs : List ℕ) (is : List NodeId) : Type 0 where
   pub parents : parts.parents.items ≡ ps
-  pub bounds : parts.bounds.items ≡ bs
+  pub file_is : parts.body.value.file ≡ file
+  pub bounds : parts.body.value.bounds.items ≡ bs
   pub none : parts.intervals.items ≡ []
   pub room : length bs + 1 ≤ vec_capacity parts.intervals
   pub indexes : parts.indexes.items ≡ is

@@ -17,24 +17,24 @@ use Rattle.gl_graph.specs.View.{Vertex, View, graph_of, AgreesAt}
 -- what a body says of the shape
 abbrev pub shape_in_body : Body → Shape
 shape_in_body body.Inner = Inner
-shape_in_body (body.File indexes records) = File
-shape_in_body (body.Index file bounds intervals) = Index file bounds.items
+shape_in_body (body.File kept) = File
+shape_in_body (body.Index kept) = Index kept.value.file kept.value.bounds.items
 shape_in_body (body.Interval place) = Interval place
 shape_in_body (body.Rec keys) = Rec keys.items
 
 -- a file's indexes, as they are kept
 abbrev pub indexes_in_body : Body → List NodeId
-indexes_in_body (body.File indexes records) = indexes.items
+indexes_in_body (body.File kept) = kept.value.indexes.items
 indexes_in_body b = []
 
 -- the number of a file's records, as it is kept
 abbrev pub records_in_body : Body → ℕ
-records_in_body (body.File indexes records) = records
+records_in_body (body.File kept) = kept.value.records
 records_in_body b = 0
 
 -- an index's intervals, as they are kept
 abbrev pub intervals_in_body : Body → List NodeId
-intervals_in_body (body.Index file bounds intervals) = intervals.items
+intervals_in_body (body.Index kept) = kept.value.intervals.items
 intervals_in_body b = []
 
 -- what a contract sees of a stored node
@@ -84,12 +84,12 @@ pub record AreSound (most : ℕ) (nodes : Slab Node) (births : ℕ) : Type 0 whe
 -- of an inner node or of a file with nothing kept beside it
 abbrev pub IsPlainBody : Body → Type 0
 IsPlainBody body.Inner = Unit {0}
-IsPlainBody (body.File indexes records) = (indexes.items ≡ []) × (records ≡ 0)
+IsPlainBody (body.File kept) = (kept.value.indexes.items ≡ []) × (kept.value.records ≡ 0)
 IsPlainBody b = ⊥
 
 -- a file with this number of records
 abbrev pub body_with_records : Body → ℕ → Body
-body_with_records (body.File indexes records) fresh = body.File indexes fresh
+body_with_records (body.File kept) fresh = body.File (record kept { value = record kept.value { records = fresh } })
 body_with_records b fresh = b
 
 -- a record with one key changed
@@ -103,12 +103,12 @@ with_key_at x place key interval = record x { parents = record x.parents { items
 
 -- an index with these intervals
 abbrev pub body_with_intervals : Body → Vec NodeId Global → Body
-body_with_intervals (body.Index file bounds intervals) fresh = body.Index file bounds fresh
+body_with_intervals (body.Index kept) fresh = body.Index (record kept { value = record kept.value { intervals = fresh } })
 body_with_intervals b fresh = b
 
 -- a file with these indexes
 abbrev pub body_with_indexes : Body → SmallVec NodeId → Body
-body_with_indexes (body.File indexes records) fresh = body.File fresh records
+body_with_indexes (body.File kept) fresh = body.File (record kept { value = record kept.value { indexes = fresh } })
 body_with_indexes b fresh = b
 
 -- ids, and then those of more that are not there yet

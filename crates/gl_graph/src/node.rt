@@ -4,26 +4,31 @@ use crate::kind::Kind;
 use gl_modes::NodeId;
 use smallvec::SmallVec;
 
-/// What a node has beside its parents, by its kind. A file's indexes and the number of its records
-/// and an index's intervals could be found by a search; they are kept so that nothing is searched.
+/// What a node has beside its parents, by its kind. Most nodes are records, so what files and indexes
+/// have is in boxes: a record takes no room for it.
 #[derive(Drop)]
 pub(crate) enum Body {
     Inner,
-    File {
-        indexes: SmallVec<NodeId, 1>,
-        records: usize,
-    },
-    Index {
-        file: NodeId,
-        bounds: Vec<u64>,
-        intervals: Vec<NodeId>,
-    },
-    Interval {
-        place: usize,
-    },
-    Rec {
-        keys: SmallVec<u64, 1>,
-    },
+    File(Box<FileBody>),
+    Index(Box<IndexBody>),
+    Interval { place: usize },
+    Rec { keys: SmallVec<u64, 1> },
+}
+
+/// What a file has. Its indexes and the number of its records could be found by a search; they are
+/// kept so that nothing is searched.
+#[derive(Drop)]
+pub(crate) struct FileBody {
+    pub(crate) indexes: SmallVec<NodeId, 1>,
+    pub(crate) records: usize,
+}
+
+/// What an index has. Its intervals are kept for the same reason.
+#[derive(Drop)]
+pub(crate) struct IndexBody {
+    pub(crate) file: NodeId,
+    pub(crate) bounds: Vec<u64>,
+    pub(crate) intervals: Vec<NodeId>,
 }
 
 #[derive(Drop)]
@@ -52,8 +57,8 @@ impl Body {
     {
         match self {
             Body::Inner => Kind::Inner,
-            Body::File { .. } => Kind::File,
-            Body::Index { .. } => Kind::Index,
+            Body::File(_) => Kind::File,
+            Body::Index(_) => Kind::Index,
             Body::Interval { .. } => Kind::Interval,
             Body::Rec { .. } => Kind::Rec,
         }
@@ -63,7 +68,7 @@ impl Body {
         ensures { result.now ≡ indexes_in_body self.now }
     {
         match self {
-            Body::File { indexes, .. } => indexes.as_slice(),
+            Body::File(kept) => kept.indexes.as_slice(),
             _ => &[],
         }
     }
@@ -72,7 +77,7 @@ impl Body {
         ensures { result ≡ records_in_body self.now }
     {
         match self {
-            Body::File { records, .. } => *records,
+            Body::File(kept) => kept.records,
             _ => 0,
         }
     }
@@ -81,7 +86,7 @@ impl Body {
         ensures { result.now ≡ bounds_in (Some (shape_in_body self.now)) }
     {
         match self {
-            Body::Index { bounds, .. } => bounds.as_slice(),
+            Body::Index(kept) => kept.bounds.as_slice(),
             _ => &[],
         }
     }
@@ -90,7 +95,7 @@ impl Body {
         ensures { result.now ≡ intervals_in_body self.now }
     {
         match self {
-            Body::Index { intervals, .. } => intervals.as_slice(),
+            Body::Index(kept) => kept.intervals.as_slice(),
             _ => &[],
         }
     }
@@ -117,8 +122,8 @@ impl Body {
     pub(crate) fn set_records(&mut self, fresh: usize)
         ensures { self.new ≡ body_with_records self.old fresh }
     {
-        if let Body::File { records, .. } = self {
-            *records = fresh;
+        if let Body::File(kept) = self {
+            kept.records = fresh;
         }
     }
 
@@ -136,8 +141,8 @@ impl Body {
     pub(crate) fn set_intervals(&mut self, fresh: Vec<NodeId>)
         ensures { self.new ≡ body_with_intervals self.old fresh }
     {
-        if let Body::Index { intervals, .. } = self {
-            *intervals = fresh;
+        if let Body::Index(kept) = self {
+            kept.intervals = fresh;
         }
     }
 
@@ -145,8 +150,8 @@ impl Body {
     pub(crate) fn set_indexes(&mut self, fresh: SmallVec<NodeId, 1>)
         ensures { self.new ≡ body_with_indexes self.old fresh }
     {
-        if let Body::File { indexes, .. } = self {
-            *indexes = fresh;
+        if let Body::File(kept) = self {
+            kept.indexes = fresh;
         }
     }
 }

@@ -11,7 +11,7 @@ ghost use Rattle.gl_graph.specs.View.{graph_of};
 ghost use Rattle.gl_graph.specs.Seen.{shape_in_body, IsPlainBody};
 
 use super::Graph;
-use crate::node::{Body, Node};
+use crate::node::{Body, FileBody, IndexBody, Node};
 use crate::store::{insert_intervals, write_indexes, write_intervals, write_records};
 use arrayvec::ArrayVec;
 use gl_modes::{NodeId, Refusal};
@@ -22,7 +22,8 @@ use std::alloc::{AllocError, Global};
 #[derive(Drop)]
 struct IndexParts {
     parents: SmallVec<NodeId, 2>,
-    bounds: Vec<u64>,
+    // Without intervals.
+    body: Box<IndexBody>,
     // Empty, with room for all.
     intervals: Vec<NodeId>,
     // Those that the file has, with room for one more.
@@ -35,20 +36,26 @@ impl IndexParts {
     fn new(
         alloc: Global,
         parents: &[NodeId],
+        file: NodeId,
         bounds: &[u64],
         indexes: &[NodeId],
     ) -> Result<Self, AllocError>
         requires { length bounds.now < 2 ^ 63 }
-        ensures made { IfOk result (λ parts. AreParts parts parents.now bounds.now indexes.now) }
+        ensures made { IfOk result (λ parts. AreParts parts parents.now file bounds.now indexes.now) }
     {
         let parents = SmallVec::from_slice(alloc, parents)?;
         let intervals = Vec::with_capacity(alloc, bounds.len() + 1)?;
-        let bounds = Vec::from_slice(alloc, bounds)?;
+        let body = IndexBody {
+            file,
+            bounds: Vec::from_slice(alloc, bounds)?,
+            intervals: Vec::new(alloc),
+        };
+        let body = Box::new(alloc, body)?;
         let mut indexes = SmallVec::from_slice(alloc, indexes)?;
         indexes.reserve(1)?;
         Ok(IndexParts {
             parents,
-            bounds,
+            body,
             intervals,
             indexes,
         })
@@ -79,11 +86,14 @@ impl Graph {
         ensures err { OnErr result (self.new ≡ self.old) }
     {
         self.check_parents(1, parents)?;
-        let body = Body::File {
+        let body = FileBody {
             indexes: SmallVec::new(self.alloc),
             records: 0,
         };
-        self.insert(parents, body)
+        let Ok(body) = Box::new(self.alloc, body) else {
+            return Err(Refusal::NoMemory);
+        };
+        self.insert(parents, Body::File(body))
     }
 
     /// Makes an index of a file that has no records, under 1 to 8 different inner nodes, with at
@@ -108,25 +118,21 @@ impl Graph {
         let Ok(()) = self.nodes.reserve(count + 1) else {
             return Err(Refusal::NoMemory);
         };
-        let Ok(parts) = IndexParts::new(self.alloc, parents, bounds, self.indexes(file)) else {
+        let listed = self.indexes(file);
+        let Ok(parts) = IndexParts::new(self.alloc, parents, file, bounds, listed) else {
             return Err(Refusal::NoMemory);
         };
         let IndexParts {
             parents,
-            bounds,
+            body,
             mut intervals,
             mut indexes,
         } = parts;
         let birth = self.births + 1;
-        let body = Body::Index {
-            file,
-            bounds,
-            intervals: Vec::new(self.alloc),
-        };
         let key = self.nodes.insert_reserved(Node {
             birth,
             parents,
-            body,
+            body: Body::Index(body),
         });
         let index = NodeId { key, birth };
         insert_intervals(&mut self.nodes, self.alloc, index, count, &mut intervals);
