@@ -18,7 +18,7 @@ use Rattle.gl_graph.specs.Shapes.{Shape, Inner, File, Index, Interval, Rec, is_f
 use Rattle.gl_graph.specs.Graph.{node_at, shape_of, shape_in, parents_in, parents_of, interval, interval_at, indexes_of}
 use Rattle.gl_graph.specs.Lawful.{IsRising, HasShape}
 use Rattle.gl_graph.specs.View.{View, graph_of, node_of, record_count, KeepsBeside}
-use Rattle.gl_graph.specs.Seen.{shape_in_body, indexes_in_body, records_in_body, intervals_in_body, vertex_of, seen, named_in, named, AreSound}
+use Rattle.gl_graph.specs.Seen.{Limits, shape_in_body, indexes_in_body, records_in_body, intervals_in_body, vertex_of, seen, named_in, named, AreSound}
 use Rattle.gl_graph.proofs.Slots.{node_named, seen_in}
 
 -- the slot of a node that an id names
@@ -32,12 +32,12 @@ named_from (Some y) birth x e =
 pub named_slot : (s : Slab Stored) (n : NodeId) (x : Stored) → named s n ≡ Some x → (get s n.key ≡ Some x) × (x.birth ≡ n.birth)
 named_slot s n x e = named_from (get s n.key) n.birth x e
 
-module _ (most : ℕ) (s : Slab Stored) (births : ℕ) (v : View) (sound : AreSound most s births) (view : seen most s births ≡ v) (n : NodeId) where
+module _ (limits : Limits) (s : Slab Stored) (births : ℕ) (v : View) (sound : AreSound limits s births) (view : seen limits s births ≡ v) (n : NodeId) where
   pub node_missed : named s n ≡ None → node_at (graph_of v) n ≡ None
-  node_missed e = ap (λ w. node_at (graph_of w) n) (sym view) ∙ node_named most s births sound.apart n ∙ ap (seen_in n.key) e
+  node_missed e = ap (λ w. node_at (graph_of w) n) (sym view) ∙ node_named limits s births sound.apart n ∙ ap (seen_in n.key) e
 
   pub node_found : (x : Stored) → named s n ≡ Some x → node_at (graph_of v) n ≡ Some (node_of n.key (vertex_of x))
-  node_found x e = ap (λ w. node_at (graph_of w) n) (sym view) ∙ node_named most s births sound.apart n ∙ ap (seen_in n.key) e
+  node_found x e = ap (λ w. node_at (graph_of w) n) (sym view) ∙ node_named limits s births sound.apart n ∙ ap (seen_in n.key) e
 
   pub shape_missed : named s n ≡ None → shape_of (graph_of v) n ≡ None
   shape_missed e = ap shape_in (node_missed e)
@@ -56,7 +56,7 @@ module _ (most : ℕ) (s : Slab Stored) (births : ℕ) (v : View) (sound : AreSo
       let slot = named_slot s n x e in
       let kept = sound.agree n.key x slot.0 in
       subst (λ (w : View). KeepsBeside (graph_of w) n (vertex_of x) (shape_in_body x.body)) view
-      (subst (λ (b : ℕ). KeepsBeside (graph_of (seen most s births)) (record { key = n.key; birth = b }) (vertex_of x) (shape_in_body x.body)) slot.1 kept)
+      (subst (λ (b : ℕ). KeepsBeside (graph_of (seen limits s births)) (record { key = n.key; birth = b }) (vertex_of x) (shape_in_body x.body)) slot.1 kept)
 
   file_shape : (x : Stored) → named s n ≡ Some x → is_file_shape (shape_of (graph_of v) n) ≡ true → shape_in_body x.body ≡ File
   file_shape x e h = by (shape_in_body x.body) (ap is_file_shape (sym (shape_found x e)) ∙ h)
@@ -96,8 +96,8 @@ module _ (most : ℕ) (s : Slab Stored) (births : ℕ) (v : View) (sound : AreSo
   index_beside x (Rec keys) t e h = absurd (no h)
   index_beside x (Index f bs) t e h =
       let kept = subst (KeepsBeside (graph_of v) n (vertex_of x)) t (beside x e) in
-      let there : node_at (graph_of (seen most s births)) n ≡ Some (node_of n.key (vertex_of x)) = ap (λ w. node_at (graph_of w) n) view ∙ node_found x e in
-      let well = subst (λ sh. HasShape (graph_of (seen most s births)) n sh x.parents.items) t (sound.lawful.well_formed n (node_of n.key (vertex_of x)) there) in
+      let there : node_at (graph_of (seen limits s births)) n ≡ Some (node_of n.key (vertex_of x)) = ap (λ w. node_at (graph_of w) n) view ∙ node_found x e in
+      let well = subst (λ sh. HasShape (graph_of (seen limits s births)) n sh x.parents.items) t (sound.lawful.well_formed n (node_of n.key (vertex_of x)) there) in
       record { count = kept.0; each = kept.1; rising = well.1.rising.1 }
 
   pub intervals_found : (x : Stored) → named s n ≡ Some x → is_index_shape (Some (shape_in_body x.body)) ≡ true → KeepsIntervals (intervals_in_body x.body) (bounds_in (Some (shape_in_body x.body)))
@@ -110,10 +110,10 @@ pub record FileSlot (s : Slab Stored) (n : NodeId) : Type 0 where
   pub born : stored.birth ≡ n.birth
   pub shape : shape_in_body stored.body ≡ File
 
-pub file_slot : (most : ℕ) (s : Slab Stored) (births : ℕ) (sound : AreSound most s births) (n : NodeId) → is_file_shape (shape_of (graph_of (seen most s births)) n) ≡ true → FileSlot s n
-file_slot most s births sound n h =
-    cases_of (named s n) (λ e. absurd (file_not_missed most s births (seen most s births) sound refl n e h))
-    (λ x e. let slot = named_slot s n x e in record { stored = x; there = slot.0; born = slot.1; shape = file_shape most s births (seen most s births) sound refl n x e h })
+pub file_slot : (limits : Limits) (s : Slab Stored) (births : ℕ) (sound : AreSound limits s births) (n : NodeId) → is_file_shape (shape_of (graph_of (seen limits s births)) n) ≡ true → FileSlot s n
+file_slot limits s births sound n h =
+    cases_of (named s n) (λ e. absurd (file_not_missed limits s births (seen limits s births) sound refl n e h))
+    (λ x e. let slot = named_slot s n x e in record { stored = x; there = slot.0; born = slot.1; shape = file_shape limits s births (seen limits s births) sound refl n x e h })
 
 -- what is no index has no intervals
 pub no_intervals : (b : Body) → is_index_shape (Some (shape_in_body b)) ≡ false → intervals_in_body b ≡ []
@@ -135,18 +135,18 @@ any_counted p (x ∷ xs) =
     positive : (k : ℕ) → nat_lt 0 (1 + k) ≡ true
     positive k = grind (arith, nat_tests)
 
-module _ (most : ℕ) (s : Slab Stored) (births : ℕ) (v : View) (sound : AreSound most s births) (view : seen most s births ≡ v) (n : NodeId) where
+module _ (limits : Limits) (s : Slab Stored) (births : ℕ) (v : View) (sound : AreSound limits s births) (view : seen limits s births ≡ v) (n : NodeId) where
   index_found : (x : Stored) → named s n ≡ Some x → is_index_shape (shape_of (graph_of v) n) ≡ true → is_index_shape (Some (shape_in_body x.body)) ≡ true
-  index_found x e h = ap is_index_shape (sym (shape_found most s births v sound view n x e)) ∙ h
+  index_found x e h = ap is_index_shape (sym (shape_found limits s births v sound view n x e)) ∙ h
 
   abbrev bounds_of : Stored → List ℕ
   bounds_of x = bounds_in (Some (shape_in_body x.body))
 
-  pub index_kept : (x : Stored) → named s n ≡ Some x → is_index_shape (shape_of (graph_of v) n) ≡ true → KeepsIntervals most s births v sound view n (intervals_in_body x.body) (bounds_of x)
-  index_kept x e h = intervals_found most s births v sound view n x e (index_found x e h)
+  pub index_kept : (x : Stored) → named s n ≡ Some x → is_index_shape (shape_of (graph_of v) n) ≡ true → KeepsIntervals limits s births v sound view n (intervals_in_body x.body) (bounds_of x)
+  index_kept x e h = intervals_found limits s births v sound view n x e (index_found x e h)
 
   pub bounds_found : (x : Stored) → named s n ≡ Some x → bounds_in (shape_of (graph_of v) n) ≡ bounds_of x
-  bounds_found x e = ap bounds_in (shape_found most s births v sound view n x e)
+  bounds_found x e = ap bounds_in (shape_found limits s births v sound view n x e)
 
   -- an interval by its place
   pub interval_found : (x : Stored) → named s n ≡ Some x → (place : ℕ) → slice_get (intervals_in_body x.body) place ≡ interval_at (graph_of v) n place
@@ -160,11 +160,11 @@ module _ (most : ℕ) (s : Slab Stored) (births : ℕ) (v : View) (sound : AreSo
       (λ high. slice_get_past (intervals_in_body x.body) place (let h : length (bounds_in (shape_of (graph_of v) n)) < place = grind (arith, nat_tests) in let c = kept.count in omega arith)
       ∙ sym (ap₂ (λ a b. if a && b then Some (interval (graph_of v) n place) else None) t high)))
       (λ t.
-      let none = no_intervals x.body (ap is_index_shape (sym (shape_found most s births v sound view n x e)) ∙ t) in
+      let none = no_intervals x.body (ap is_index_shape (sym (shape_found limits s births v sound view n x e)) ∙ t) in
       ap (λ (is : List NodeId). slice_get is place) none ∙ sym (ap (λ a. if a && nat_le place (length (bounds_in (shape_of (graph_of v) n))) then Some (interval (graph_of v) n place) else None) t))
 
   pub interval_missed : named s n ≡ None → (place : ℕ) → interval_at (graph_of v) n place ≡ None
-  interval_missed e place = ap (λ o. if is_index_shape o && nat_le place (length (bounds_in o)) then Some (interval (graph_of v) n place) else None) (shape_missed most s births v sound view n e)
+  interval_missed e place = ap (λ o. if is_index_shape o && nat_le place (length (bounds_in o)) then Some (interval (graph_of v) n place) else None) (shape_missed limits s births v sound view n e)
 
 -- what is lent at a place is the element there
 pub item_copied : {A : Type 0} (xs : List A) (i : ℕ) (r : Option (Bor A)) → IsItemAt xs i r → option_copied r ≡ slice_get xs i

@@ -38,6 +38,10 @@ pub most_is : (g : Graph) (ns : List Node) → (born_nodes g ns).most ≡ g.most
 most_is g [] = refl
 most_is g (n ∷ ns) = most_is (born_node g n) ns
 
+pub most_bounds_is : (g : Graph) (ns : List Node) → (born_nodes g ns).most_bounds ≡ g.most_bounds
+most_bounds_is g [] = refl
+most_bounds_is g (n ∷ ns) = most_bounds_is (born_node g n) ns
+
 pub old_at : (g : Graph) (ns : List Node) (b : ℕ) → b ≤ g.births → (born_nodes g ns).at b ≡ g.at b
 old_at g [] b low = refl
 old_at g (n ∷ ns) b low = old_at (born_node g n) ns b (omega arith) ∙ ap (λ x. if x then Some n else g.at b) (let ne : b ≢ g.births + 1 = omega arith in number_other b (g.births + 1) ne)
@@ -132,6 +136,7 @@ module _ (g : Graph) (law : IsLawfulGraph g) (ns : List Node) where
       shapes = λ q h. ap shape_in (old_same q (plain_live g q h));
       intervals = λ q place node e shape. old_same q (ap is_some e) ∙ e;
       indexes = indexes;
+      bounds = most_bounds_is g ns;
     }
 
     module _ (well : (k : ℕ) (node : Node) → place_in ns k ≡ Some node → IsWellFormed grown (new_id node k) node)

@@ -91,6 +91,7 @@ module _ (g : Graph) (n : NodeId) (was is : Node) (there : node_at g n ≡ Some 
           (λ same. absurd (alike.no_interval place (ap (λ x. x.shape) (some_is (sym there ∙ ap (node_at g) (sym (same_node-equal q n same)) ∙ e)) ∙ shape)))
           (λ other. at_other q (same_node-other q n other) ∙ e);
       indexes = λ f r h k. indexes_same f;
+      bounds = refl;
     }
 
     module _ (law : IsLawfulGraph g) (well : IsWellFormed after n is)

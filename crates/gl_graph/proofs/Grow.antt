@@ -51,7 +51,7 @@ pub grown_none : (s : Slab Stored) (births : ℕ) → AreBornApart s → AreBorn
 grown_none s births apart within =
     let same : births ≡ births + 0 = omega arith in
     record {
-      graph = λ most. ap (λ b. graph_of (seen most s b)) (sym same);
+      graph = λ limits. ap (λ b. graph_of (seen limits s b)) (sym same);
       apart = apart;
       within = subst (AreBornWithin s) same within;
       len = omega arith;
@@ -88,11 +88,11 @@ module _ (old now next : Slab Stored) (births : ℕ) (ns : List Node) (grown : I
 
   pub grown_more : IsGrown old births next more
   grown_more = record {
-    graph = λ most.
-        ap (λ b. graph_of (seen most next b)) (sym count) ∙ inserted most now next (births + length ns) key x grown.apart grown.within free u birth ∙ ap (λ g. born_node g (node_of key (vertex_of x))) (grown.graph most)
-        ∙ sym (born_more (graph_of (seen most old births)) ns (node_of key (vertex_of x)));
-    apart = inserted_apart 0 now next (births + length ns) key x grown.apart grown.within free u birth;
-    within = subst (AreBornWithin next) count (inserted_within 0 now next (births + length ns) key x grown.apart grown.within free u birth);
+    graph = λ limits.
+        ap (λ b. graph_of (seen limits next b)) (sym count) ∙ inserted limits now next (births + length ns) key x grown.apart grown.within free u birth ∙ ap (λ g. born_node g (node_of key (vertex_of x))) (grown.graph limits)
+        ∙ sym (born_more (graph_of (seen limits old births)) ns (node_of key (vertex_of x)));
+    apart = inserted_apart (record { most = 0; most_bounds = 0 }) now next (births + length ns) key x grown.apart grown.within free u birth;
+    within = subst (AreBornWithin next) count (inserted_within (record { most = 0; most_bounds = 0 }) now next (births + length ns) key x grown.apart grown.within free u birth);
     len = let e = length-append ns (node_of key (vertex_of x) ∷ []) in let was = grown.len in omega arith;
     stays = λ k y e. let now_there = grown.stays k y e in u.others k (not_key k y now_there) ∙ now_there;
     came = λ k y e. split (k == key)

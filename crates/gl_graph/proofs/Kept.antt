@@ -12,7 +12,7 @@ use Rattle.gl_graph.specs.Graph.{Graph, Node, node_at, is_live, shape_in, shape_
 use Rattle.gl_graph.specs.Lawful.{IsLawfulGraph}
 use Rattle.gl_graph.specs.Changes.{born_node, IsBorn}
 use Rattle.gl_graph.specs.View.{Vertex, graph_of, node_of, record_count, KeepsBeside, AgreesAt}
-use Rattle.gl_graph.specs.Seen.{shape_in_body, vertex_of, seen, AreBornWithin, AreSound, IsPlainBody}
+use Rattle.gl_graph.specs.Seen.{Limits, shape_in_body, vertex_of, seen, AreBornWithin, AreSound, IsPlainBody}
 use Rattle.gl_graph.proofs.KindRules.{Frames, index_node, interval_kept}
 use Rattle.gl_graph.proofs.Born.{born_frames, new_node, old_below}
 use Rattle.gl_graph.proofs.NewNodes.{one_indexes}
@@ -35,8 +35,8 @@ beside_kept g g' law same n x (Interval place) e file k = tt
 beside_kept g g' law same n x (Rec keys) e file k = tt
 
 -- births never go past the count
-pub born_within : (most : ℕ) (s : Slab Stored) (births : ℕ) → AreSound most s births → AreBornWithin s births
-born_within most s births sound k x e = (sound.lawful.born x.birth (ap is_some (at_slot s sound.apart k x e))).1
+pub born_within : (limits : Limits) (s : Slab Stored) (births : ℕ) → AreSound limits s births → AreBornWithin s births
+born_within limits s births sound k x e = (sound.lawful.born x.birth (ap is_some (at_slot s sound.apart k x e))).1
 
 -- an inner node, a file: no index, no record
 plain_no_index : (b : Body) → IsPlainBody b → (f : NodeId) → is_index_of_shape f (Some (shape_in_body b)) ≡ false
@@ -53,9 +53,9 @@ plain_no_record (body.Index kept) p = absurd p
 plain_no_record (body.Interval place) p = absurd p
 plain_no_record (body.Rec keys) p = absurd p
 
-module _ (most : ℕ) (old new : Slab Stored) (births key : ℕ) (x : Stored) (sound : AreSound most old births) (free : get old key ≡ None) (u : Updates old new key (Some x)) (next : x.birth ≡ births + 1) where
+module _ (limits : Limits) (old new : Slab Stored) (births key : ℕ) (x : Stored) (sound : AreSound limits old births) (free : get old key ≡ None) (u : Updates old new key (Some x)) (next : x.birth ≡ births + 1) where
   abbrev pub g : Graph
-  g = graph_of (seen most old births)
+  g = graph_of (seen limits old births)
 
   abbrev pub node : Node
   node = node_of key (vertex_of x)
@@ -63,11 +63,11 @@ module _ (most : ℕ) (old new : Slab Stored) (births key : ℕ) (x : Stored) (s
   abbrev pub id : NodeId
   id = record { key = key; birth = births + 1 }
 
-  pub after : graph_of (seen most new (births + 1)) ≡ born_node g node
-  after = inserted most old new births key x sound.apart (born_within most old births sound) free u next
+  pub after : graph_of (seen limits new (births + 1)) ≡ born_node g node
+  after = inserted limits old new births key x sound.apart (born_within limits old births sound) free u next
 
-  pub is_born : IsBorn g (graph_of (seen most new (births + 1))) id (shape_in_body x.body) x.parents.items
-  is_born = record { key_free = inserted_free most old new births key x sound.apart (born_within most old births sound) free u next; birth = refl; after = after }
+  pub is_born : IsBorn g (graph_of (seen limits new (births + 1))) id (shape_in_body x.body) x.parents.items
+  is_born = record { key_free = inserted_free limits old new births key x sound.apart (born_within limits old births sound) free u next; birth = refl; after = after }
 
   not_there : is_live g id ≡ false
   not_there = split (is_live g id) (λ t. let low = old_below g sound.lawful [] id t in absurd (omega arith)) (λ t. t)
@@ -85,7 +85,7 @@ module _ (most : ℕ) (old new : Slab Stored) (births key : ℕ) (x : Stored) (s
     pub old_kept : (k : ℕ) (y : Stored) → get old k ≡ Some y → (is_file_shape (Some (shape_in_body y.body)) ≡ true → is_record_of (born_node g node) (record { key = k; birth = y.birth }) id ≡ false) → AgreesAt (born_node g node) k (vertex_of y)
     old_kept k y e other =
         let n : NodeId = record { key = k; birth = y.birth } in
-        let shape : shape_of g n ≡ Some (shape_in_body y.body) = ap shape_in (node_there most old births sound.apart k y e) in
+        let shape : shape_of g n ≡ Some (shape_in_body y.body) = ap shape_in (node_there limits old births sound.apart k y e) in
         beside_kept g (born_node g node) sound.lawful frames n (vertex_of y) (shape_in_body y.body) shape
         (λ h. (
           one_indexes g sound.lawful node no_index n,
@@ -123,10 +123,10 @@ module _ (most : ℕ) (old new : Slab Stored) (births key : ℕ) (x : Stored) (s
         subst (λ c. AgreesAt (born_node g node) c (vertex_of y)) (sym here) (subst (λ z. AgreesAt (born_node g node) key (vertex_of z)) same is))
         (λ t. old_kept (plain_no_index x.body plain) k y (sym (u.others k (other_number k key t)) ∙ e) (λ h. not_record (record { key = k; birth = y.birth })))
 
-    pub sound_born : AreSound most new (births + 1)
+    pub sound_born : AreSound limits new (births + 1)
     sound_born = record {
       lawful = subst IsLawfulGraph (sym after) lawful;
-      apart = inserted_apart most old new births key x sound.apart (born_within most old births sound) free u next;
+      apart = inserted_apart limits old new births key x sound.apart (born_within limits old births sound) free u next;
       counted = counted (plain_no_index x.body plain) len ∙ ap node_count (sym after);
       agree = λ k y e. subst (λ h. AgreesAt h k (vertex_of y)) (sym after) (agree_born k y e);
     }

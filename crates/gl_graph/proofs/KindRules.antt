@@ -52,6 +52,7 @@ pub record Frames (g g' : Graph) : Type 0 where
   pub shapes : (q : NodeId) → is_plain (shape_of g q) ≡ true → shape_of g' q ≡ shape_of g q
   pub intervals : (q : NodeId) (place : ℕ) (node : Node) → node_at g q ≡ Some node → node.shape ≡ Interval place → node_at g' q ≡ Some node
   pub indexes : (f r : NodeId) → is_record_shape (shape_of g r) ≡ true → is_child g f r ≡ true → indexes_of g' f ≡ indexes_of g f
+  pub bounds : g'.most_bounds ≡ g.most_bounds
 
 module _ (g : Graph) (law : IsLawfulGraph g) where
   -- what a node of each kind is
@@ -116,7 +117,7 @@ module _ (g g' : Graph) (law : IsLawfulGraph g) (same : Frames g g') where
   pub index_kept : (n f : NodeId) (bs : List ℕ) → IsIndexNode g n f bs → IsIndexNode g' n f bs
   index_kept n f bs h = record {
     file = ap is_file_shape (same.shapes f (file_plain _ h.file)) ∙ h.file;
-    few = h.few;
+    few = subst (λ m. length bs ≤ m) (sym same.bounds) h.few;
     rising = h.rising;
     intervals = λ place low.
         let e = h.intervals place low in

@@ -48,12 +48,12 @@ pub below_complete : (g : Graph) (law : IsLawfulGraph g) (n p : NodeId) (way : L
 below_complete g law n p way live r = below_found g n (node_count g) p way (let few = route_short g law p n way live r in omega arith) r
 
 -- a graph with one place changed
-graph_at : (g : Graph) (f : ℕ → Option Node) (n : NodeId) (is : Node) → ((b : ℕ) → b ≡ n.birth → f b ≡ Some is) → ((b : ℕ) → (b == n.birth) ≡ false → f b ≡ g.at b) → with_node g n.birth is ≡ record { at = f; births = g.births; most = g.most }
+graph_at : (g : Graph) (f : ℕ → Option Node) (n : NodeId) (is : Node) → ((b : ℕ) → b ≡ n.birth → f b ≡ Some is) → ((b : ℕ) → (b == n.birth) ≡ false → f b ≡ g.at b) → with_node g n.birth is ≡ record { at = f; births = g.births; most = g.most; most_bounds = g.most_bounds }
 graph_at g f n is here other =
     let e : (λ (b : ℕ). if b == n.birth then Some is else g.at b) ≡ f = fun_ext (λ b. split (b == n.birth)
     (λ h. ap (λ x. if x then Some is else g.at b) h ∙ sym (here b (same_number b n.birth h)))
     (λ h. ap (λ x. if x then Some is else g.at b) h ∙ sym (other b h))) in
-    λ i. record { at = e i; births = g.births; most = g.most }
+    λ i. record { at = e i; births = g.births; most = g.most; most_bounds = g.most_bounds }
 
 pub with_parents_is : (g : Graph) (n : NodeId) (ps : List NodeId) (was : Node) → node_at g n ≡ Some was → with_node g n.birth (record was { parents = ps }) ≡ with_parents g n ps
 with_parents_is g n ps was e =

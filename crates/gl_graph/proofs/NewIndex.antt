@@ -108,7 +108,7 @@ module _ (g : Graph) (law : IsLawfulGraph g) (key : ℕ) (ps : List NodeId) (fil
       node_is (interval grown id k) (new_id g law ns node (suc k))
       (ap key_or_zero (new_at g ns (suc k) (g.births + 1 + 1 + k) (none_above g law ns) birth ∙ e)) birth
 
-  module _ (inner : AreInnerParents g 1 ps) (is_file : is_file_shape (shape_of g file) ≡ true) (few : length bounds ≤ 256) (rising : IsRising (0 ∷ bounds)) (no_records : list_any (λ r. is_record_shape (shape_of g r) && is_child g file r) (nodes g) ≡ false)
+  module _ (inner : AreInnerParents g 1 ps) (is_file : is_file_shape (shape_of g file) ≡ true) (few : length bounds ≤ g.most_bounds) (rising : IsRising (0 ∷ bounds)) (no_records : list_any (λ r. is_record_shape (shape_of g r) && is_child g file r) (nodes g) ≡ false)
       (room_for : length (indexes_of g file) + 1 ≤ 7) (each : length keys ≡ length bounds + 1) (apart : are_apart (key ∷ keys) ≡ true) (free : (k : ℕ) → list_any (λ x. x == k) (key ∷ keys) ≡ true → IsFreeKey g k)
       (room : node_count g + (2 + length bounds) ≤ g.most) where
     unused : (f r : NodeId) → is_record_shape (shape_of g r) ≡ true → is_child g f r ≡ true → indexes_of grown f ≡ indexes_of g f
@@ -138,7 +138,7 @@ module _ (g : Graph) (law : IsLawfulGraph g) (key : ℕ) (ps : List NodeId) (fil
     index_well : HasShape grown id (Index file bounds) ps
     index_well = (
       parents_kept g grown law frames 1 ps inner,
-      record { file = ap is_file_shape (frames.shapes file (file_plain _ is_file)) ∙ is_file; few = few; rising = rising; intervals = intervals_stand },
+      record { file = ap is_file_shape (frames.shapes file (file_plain _ is_file)) ∙ is_file; few = subst (λ m. length bounds ≤ m) (sym frames.bounds) few; rising = rising; intervals = intervals_stand },
     )
 
     well : (k : ℕ) (node : Node) → place_in ns k ≡ Some node → IsWellFormed grown (new_id g law ns node k) node

@@ -17,7 +17,7 @@ use Rattle.gl_graph.specs.Graph.{Graph, Node, node_at, is_live, shape_in, shape_
 use Rattle.gl_graph.specs.Lawful.{IsLawfulGraph}
 use Rattle.gl_graph.specs.Changes.{with_node, keys_with, rekeyed_keys, rekeyed_parents, rekeyed}
 use Rattle.gl_graph.specs.View.{graph_of, node_of, KeepsBeside}
-use Rattle.gl_graph.specs.Seen.{shape_in_body, vertex_of, seen, with_key_at, body_with_key, AreSound}
+use Rattle.gl_graph.specs.Seen.{Limits, shape_in_body, vertex_of, seen, with_key_at, body_with_key, AreSound}
 use Rattle.gl_graph.proofs.Changed.{IsAlike, at_here}
 use Rattle.gl_graph.proofs.Distinct.{one_place, indexes_distinct, index_listed}
 use Rattle.gl_graph.proofs.Moved.{rec_alike, rekeyed_is, rekey_lawful}
@@ -70,10 +70,10 @@ record_body : (sh : Shape) → is_record_shape (Some sh) ≡ true → sh ≡ Rec
 record_body (Rec keys) h = refl
 record_body _ h = absurd (no h)
 
-module _ (most : ℕ) (old new : Slab Stored) (births : ℕ) (sound : AreSound most old births) (r i : NodeId) (key place : ℕ) (rec : is_record_shape (shape_of (graph_of (seen most old births)) r) ≡ true)
-    (at : position (λ listed. same_node listed i) (indexes_of (graph_of (seen most old births)) (first_parent (graph_of (seen most old births)) r)) ≡ Some place) where
+module _ (limits : Limits) (old new : Slab Stored) (births : ℕ) (sound : AreSound limits old births) (r i : NodeId) (key place : ℕ) (rec : is_record_shape (shape_of (graph_of (seen limits old births)) r) ≡ true)
+    (at : position (λ listed. same_node listed i) (indexes_of (graph_of (seen limits old births)) (first_parent (graph_of (seen limits old births)) r)) ≡ Some place) where
   abbrev pub g : Graph
-  g = graph_of (seen most old births)
+  g = graph_of (seen limits old births)
 
   abbrev is : List NodeId
   is = indexes_of g (first_parent g r)
@@ -85,7 +85,7 @@ module _ (most : ℕ) (old new : Slab Stored) (births : ℕ) (sound : AreSound m
   live = rec_live g sound.lawful r rec
 
   slot : (x : Stored) × (get old r.key ≡ Some x) × (x.birth ≡ r.birth)
-  slot = stored_of most old births sound.apart r live
+  slot = stored_of limits old births sound.apart r live
 
   pub contained : ContainsKey old r.key
   contained = ap is_some slot.1
@@ -94,7 +94,7 @@ module _ (most : ℕ) (old new : Slab Stored) (births : ℕ) (sound : AreSound m
   node_is : (x : Stored) → get old r.key ≡ Some x → node_at g r ≡ Some (node_of r.key (vertex_of x))
   node_is x e =
       let same : slot.0 ≡ x = some_is (sym slot.1 ∙ e) in
-      node_was most old old births sound r slot.0 slot.0 slot.1 slot.2 refl ∙ ap (λ z. Some (node_of r.key (vertex_of z))) same
+      node_was limits old old births sound r slot.0 slot.0 slot.1 slot.2 refl ∙ ap (λ z. Some (node_of r.key (vertex_of z))) same
 
   low : place < length is
   low = (position-Some (λ listed. same_node listed i) is place no_node at).0
@@ -146,22 +146,22 @@ module _ (most : ℕ) (old new : Slab Stored) (births : ℕ) (sound : AreSound m
     node_rekeyed : node_of r.key (vertex_of x) ≡ record { key = r.key; shape = Rec (rekeyed_keys g r i key); parents = rekeyed_parents g r i key }
     node_rekeyed = let s = shape_is in let p = parents_are in λ j. record { key = r.key; shape = s j; parents = p j }
 
-    graph_is : changed most old new births sound r was x slot.1 slot.2 refl ≡ rekeyed g r i key
+    graph_is : changed limits old new births sound r was x slot.1 slot.2 refl ≡ rekeyed g r i key
     graph_is = ap (with_node g r.birth) node_rekeyed ∙ rekeyed_is g r i key (node_of r.key (vertex_of was)) (node_is was slot.1)
 
-    pub rekeyed_graph : graph_of (seen most new births) ≡ rekeyed g r i key
-    rekeyed_graph = changed_graph most old new births sound r was x slot.1 slot.2 refl (write was slot.1) ∙ graph_is
+    pub rekeyed_graph : graph_of (seen limits new births) ≡ rekeyed g r i key
+    rekeyed_graph = changed_graph limits old new births sound r was x slot.1 slot.2 refl (write was slot.1) ∙ graph_is
 
-    pub rekeyed_sound : AreSound most new births
+    pub rekeyed_sound : AreSound limits new births
     rekeyed_sound =
-        changed_sound most old new births sound r was x slot.1 slot.2 refl (write was slot.1) len
+        changed_sound limits old new births sound r was x slot.1 slot.2 refl (write was slot.1) len
         (subst (λ s. IsAlike (shape_in_body was.body) s) (sym shape_is) (rec_alike (shape_in_body was.body) (keys_in (Some (shape_in_body was.body))) (rekeyed_keys g r i key) (record_body (shape_in_body was.body) rec_body)))
         (subst IsLawfulGraph (sym graph_is) (rekey_lawful g sound.lawful r (node_of r.key (vertex_of was)) (node_is was slot.1) (keys_in (Some (shape_in_body was.body))) i key (record_body (shape_in_body was.body) rec_body)))
         (λ f h.
         ap (λ o. is_record_shape (shape_in o) && list_any (same_node f) (parents_in o)) (at_here g r (node_of r.key (vertex_of was)) (node_of r.key (vertex_of x)) (node_is was slot.1) refl)
         ∙ ap₂ (λ s ps. is_record_shape (Some s) && list_any (same_node f) ps) shape_is parents_are
         ∙ file_among g sound.lawful (first_parent g r) f (rekeyed_keys g r i key) h ∙ sym (record_of_file g sound.lawful r rec f h))
-        (subst (KeepsBeside (changed most old new births sound r was x slot.1 slot.2 refl) (record { key = r.key; birth = x.birth }) (vertex_of x)) (sym shape_is) tt)
+        (subst (KeepsBeside (changed limits old new births sound r was x slot.1 slot.2 refl) (record { key = r.key; birth = x.birth }) (vertex_of x)) (sym shape_is) tt)
 
 -- what passes a test is found by it
 first_within : {A : Type 0} (p : A → Bool) (xs : List A) → list_any p xs ≡ true → position_or_len p xs < length xs

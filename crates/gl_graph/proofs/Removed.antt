@@ -89,6 +89,7 @@ module _ (g : Graph) (law : IsLawfulGraph g) (r : NodeId) (rec : is_record_shape
     shapes = λ q h. ap shape_in (plain_stays q h);
     intervals = λ q place node e shape. plain_stays q (ap (λ o. is_plain (shape_in o)) e ∙ ap (λ s. is_plain (Some s)) shape) ∙ e;
     indexes = λ f q h k. indexes_left f;
+    bounds = refl;
   }
 
   pub removed_lawful : IsLawfulGraph (without_node g r)

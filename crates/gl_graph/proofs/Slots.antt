@@ -9,7 +9,7 @@ use Rattle.gl_graph.specs.declared.node.Node.{Node as Stored}
 use Rattle.gl_graph.specs.Graph.{Node, Graph, with_key, node_at, is_live, IsFreeKey}
 use Rattle.gl_graph.specs.Changes.{with_node, born_node, without_node}
 use Rattle.gl_graph.specs.View.{node_of, born_at, graph_of}
-use Rattle.gl_graph.specs.Seen.{vertex_of, see, seen, named_in, named, AreBornApart, AreBornWithin}
+use Rattle.gl_graph.specs.Seen.{Limits, vertex_of, see, seen, named_in, named, AreBornApart, AreBornWithin}
 use Rattle.gl_graph.proofs.Look.{finds, misses, found_at, live_node}
 
 -- slots of a list, as those of a slab
@@ -75,9 +75,9 @@ abbrev pub seen_in : ℕ → Option Stored → Option Node
 seen_in key None = None
 seen_in key (Some x) = Some (node_of key (vertex_of x))
 
-module _ (most : ℕ) (s : Slab Stored) (births : ℕ) (apart : AreBornApart s) where
+module _ (limits : Limits) (s : Slab Stored) (births : ℕ) (apart : AreBornApart s) where
   abbrev graph : Graph
-  graph = graph_of (seen most s births)
+  graph = graph_of (seen limits s births)
 
   not_named : (n : NodeId) → ((x : Stored) → get s n.key ≡ Some x → x.birth ≢ n.birth) → node_at graph n ≡ None
   not_named n other =
@@ -145,7 +145,7 @@ module _ (old new : Slab Stored) (key : ℕ) (slot : Option Stored) (apart : Are
         absurd (ne (apart f.key key f.stored x (sym (u.others f.key ne) ∙ f.there) e f.born)))
 
 -- a node comes under a key that was free
-module _ (most : ℕ) (old new : Slab Stored) (births key : ℕ) (x : Stored) (apart : AreBornApart old) (within : AreBornWithin old births) (free : get old key ≡ None) (u : Updates old new key (Some x)) (next : x.birth ≡ births + 1) where
+module _ (limits : Limits) (old new : Slab Stored) (births key : ℕ) (x : Stored) (apart : AreBornApart old) (within : AreBornWithin old births) (free : get old key ≡ None) (u : Updates old new key (Some x)) (next : x.birth ≡ births + 1) where
   insert_fresh : (y : Stored) → Some x ≡ Some y → (k : ℕ) (z : Stored) → k ≢ key → get old k ≡ Some z → z.birth ≢ y.birth
   insert_fresh y e k z ne f same = let low = within k z f in let b : x.birth ≡ y.birth = ap (λ w. w.birth) (some_is e) in absurd (omega arith)
 
@@ -157,7 +157,7 @@ module _ (most : ℕ) (old new : Slab Stored) (births key : ℕ) (x : Stored) (a
       split (k == key) (λ t. let b : x.birth ≡ y.birth = ap (λ w. w.birth) (some_is (sym u.changed ∙ ap (get new) (sym (same_number k key t)) ∙ e)) in omega arith)
       (λ t. let low = within k y (sym (u.others k (other_number k key t)) ∙ e) in omega arith)
 
-  pub inserted : graph_of (seen most new (births + 1)) ≡ born_node (graph_of (seen most old births)) (node_of key (vertex_of x))
+  pub inserted : graph_of (seen limits new (births + 1)) ≡ born_node (graph_of (seen limits old births)) (node_of key (vertex_of x))
   inserted =
       let same : at_birth new ≡ (λ (b : ℕ). if b == births + 1 then Some (node_of key (vertex_of x)) else at_birth old b) = fun_ext (λ b. split (b == births + 1)
       (λ t.
@@ -167,15 +167,15 @@ module _ (most : ℕ) (old new : Slab Stored) (births key : ℕ) (x : Stored) (a
       let ne : b ≢ births + 1 = other_number b (births + 1) t in
       slot_beside old new key (Some x) apart u insert_fresh b (λ y e same. ne (sym same ∙ ap (λ w. w.birth) (sym (some_is e)) ∙ next)) (λ y e. absurd (none_some (sym free ∙ e)))
       ∙ sym (ap (λ z. if z then Some (node_of key (vertex_of x)) else at_birth old b) t))) in
-      λ i. record { at = same i; births = births + 1; most = most }
+      λ i. record { at = same i; births = births + 1; most = limits.most; most_bounds = limits.most_bounds }
 
-  pub inserted_free : IsFreeKey (graph_of (seen most old births)) key
+  pub inserted_free : IsFreeKey (graph_of (seen limits old births)) key
   inserted_free n h e =
-      let f = stored_of most old births apart n h in
+      let f = stored_of limits old births apart n h in
       none_some (sym free ∙ ap (get old) (sym e) ∙ f.1)
 
 -- a node is written, and keeps its birth
-module _ (most : ℕ) (old new : Slab Stored) (births key : ℕ) (was x : Stored) (apart : AreBornApart old) (there : get old key ≡ Some was) (u : Updates old new key (Some x)) (birth : x.birth ≡ was.birth) where
+module _ (limits : Limits) (old new : Slab Stored) (births key : ℕ) (was x : Stored) (apart : AreBornApart old) (there : get old key ≡ Some was) (u : Updates old new key (Some x)) (birth : x.birth ≡ was.birth) where
   write_fresh : (y : Stored) → Some x ≡ Some y → (k : ℕ) (z : Stored) → k ≢ key → get old k ≡ Some z → z.birth ≢ y.birth
   write_fresh y e k z ne f same = ne (apart k key z was f there (same ∙ ap (λ w. w.birth) (sym (some_is e)) ∙ birth))
 
@@ -188,7 +188,7 @@ module _ (most : ℕ) (old new : Slab Stored) (births key : ℕ) (was x : Stored
       (λ t. let b : x.birth ≡ y.birth = ap (λ w. w.birth) (some_is (sym u.changed ∙ ap (get new) (sym (same_number k key t)) ∙ e)) in let low = within key was there in omega arith)
       (λ t. within k y (sym (u.others k (other_number k key t)) ∙ e))
 
-  pub written : graph_of (seen most new births) ≡ with_node (graph_of (seen most old births)) was.birth (node_of key (vertex_of x))
+  pub written : graph_of (seen limits new births) ≡ with_node (graph_of (seen limits old births)) was.birth (node_of key (vertex_of x))
   written =
       let same : at_birth new ≡ (λ (b : ℕ). if b == was.birth then Some (node_of key (vertex_of x)) else at_birth old b) = fun_ext (λ b. split (b == was.birth)
       (λ t.
@@ -198,22 +198,22 @@ module _ (most : ℕ) (old new : Slab Stored) (births key : ℕ) (was x : Stored
       let ne : b ≢ was.birth = other_number b was.birth t in
       slot_beside old new key (Some x) apart u write_fresh b (λ y e same. ne (sym same ∙ ap (λ w. w.birth) (sym (some_is e)) ∙ birth)) (λ y e same. ne (sym same ∙ ap (λ w. w.birth) (some_is (sym e ∙ there))))
       ∙ sym (ap (λ z. if z then Some (node_of key (vertex_of x)) else at_birth old b) t))) in
-      λ i. record { at = same i; births = births; most = most }
+      λ i. record { at = same i; births = births; most = limits.most; most_bounds = limits.most_bounds }
 
   -- what is written is not seen in the graph
-  pub unseen : node_of key (vertex_of x) ≡ node_of key (vertex_of was) → graph_of (seen most new births) ≡ graph_of (seen most old births)
+  pub unseen : node_of key (vertex_of x) ≡ node_of key (vertex_of was) → graph_of (seen limits new births) ≡ graph_of (seen limits old births)
   unseen alike =
       let same : (λ (b : ℕ). if b == was.birth then Some (node_of key (vertex_of x)) else at_birth old b) ≡ at_birth old = fun_ext (λ b. split (b == was.birth)
       (λ t. ap (λ z. if z then Some (node_of key (vertex_of x)) else at_birth old b) t ∙ ap Some alike ∙ sym (at_slot old apart key was there) ∙ ap (at_birth old) (sym (same_number b was.birth t)))
       (λ t. ap (λ z. if z then Some (node_of key (vertex_of x)) else at_birth old b) t)) in
-      written ∙ (λ i. record { at = same i; births = births; most = most })
+      written ∙ (λ i. record { at = same i; births = births; most = limits.most; most_bounds = limits.most_bounds })
 
 -- a node goes
-module _ (most : ℕ) (old new : Slab Stored) (births : ℕ) (n : NodeId) (was : Stored) (apart : AreBornApart old) (there : get old n.key ≡ Some was) (birth : was.birth ≡ n.birth) (u : Updates old new n.key None) where
+module _ (limits : Limits) (old new : Slab Stored) (births : ℕ) (n : NodeId) (was : Stored) (apart : AreBornApart old) (there : get old n.key ≡ Some was) (birth : was.birth ≡ n.birth) (u : Updates old new n.key None) where
   pub removed_apart : AreBornApart new
   removed_apart = still_apart old new n.key None apart u (λ x e. absurd (none_some e))
 
-  pub removed : graph_of (seen most new births) ≡ without_node (graph_of (seen most old births)) n
+  pub removed : graph_of (seen limits new births) ≡ without_node (graph_of (seen limits old births)) n
   removed =
       let same : at_birth new ≡ (λ (b : ℕ). if b == n.birth then None else at_birth old b) = fun_ext (λ b. split (b == n.birth)
       (λ t.
@@ -223,4 +223,4 @@ module _ (most : ℕ) (old new : Slab Stored) (births : ℕ) (n : NodeId) (was :
       let ne : b ≢ n.birth = other_number b n.birth t in
       slot_beside old new n.key None apart u (λ x e. absurd (none_some e)) b (λ y e. absurd (none_some e)) (λ y e same. ne (sym same ∙ ap (λ w. w.birth) (some_is (sym e ∙ there)) ∙ birth))
       ∙ sym (ap (λ z. if z then None else at_birth old b) t))) in
-      λ i. record { at = same i; births = births; most = most }
+      λ i. record { at = same i; births = births; most = limits.most; most_bounds = limits.most_bounds }

@@ -1,5 +1,5 @@
 -- An index is born with its intervals: what is kept beside the graph agrees.
-use Rattle.std.specs.Prelude.{◌≡◌, ◌≢◌, ℕ, zero, suc, ◌+◌, ◌≤◌, true, not, ◌==◌, List, [], ◌∷◌, ◌++◌, length, Option, Some, None, slice_get, Vec}
+use Rattle.std.specs.Prelude.{◌≡◌, ◌≢◌, ℕ, zero, suc, ◌+◌, ◌<◌, ◌≤◌, ◌^◌, true, not, ◌==◌, List, [], ◌∷◌, ◌++◌, length, Option, Some, None, slice_get, Vec}
 use Rattle.std.specs.List.{list_any}
 use Rattle.std.specs.declared.alloc.Global.{Global}
 use Rattle.std.proofs.Common.{refl, sym, ap, ◌∙◌, subst, arith, ⊎_elim}
@@ -15,8 +15,9 @@ use Rattle.gl_graph.specs.Shapes.{File, Index, Interval}
 use Rattle.gl_graph.specs.Graph.{Graph, Node, shape_in, shape_of, interval, indexes_of, node_count, IsFreeKey}
 use Rattle.gl_graph.specs.Lawful.{IsLawfulGraph}
 use Rattle.gl_graph.specs.Changes.{born_node, born_nodes, born_index, interval_nodes, are_apart, IsIndexBorn}
-use Rattle.gl_graph.specs.View.{graph_of, node_of, record_count, KeepsBeside, AgreesAt}
-use Rattle.gl_graph.specs.Seen.{shape_in_body, indexes_in_body, records_in_body, intervals_in_body, body_with_intervals, body_with_indexes, vertex_of, seen, AreSound}
+use Rattle.gl_graph.specs.Refusals.{index_refusal}
+use Rattle.gl_graph.specs.View.{View, graph_of, node_of, record_count, KeepsBeside, AgreesAt}
+use Rattle.gl_graph.specs.Seen.{Limits, shape_in_body, indexes_in_body, records_in_body, intervals_in_body, body_with_intervals, body_with_indexes, vertex_of, seen, AreSound}
 use Rattle.gl_graph.specs.Grown.{ids_of, AreIntervalsBorn}
 use Rattle.gl_graph.proofs.Born.{place_in}
 use Rattle.gl_graph.proofs.NewNodes.{place_there}
@@ -25,7 +26,7 @@ use Rattle.gl_graph.proofs.Counts.{count_grown, same_records}
 use Rattle.gl_graph.proofs.Slots.{stored_of, node_there, inserted, written_apart, unseen}
 use Rattle.gl_graph.proofs.Beside.{FileSlot, file_slot}
 use Rattle.gl_graph.proofs.Kept.{born_within, beside_kept}
-use Rattle.gl_graph.proofs.Unrefused.{IsRoomyIndex}
+use Rattle.gl_graph.proofs.Unrefused.{IsRoomyIndex, index_births, index_unrefused}
 
 same_shape : (b : Body) (fresh : Vec NodeId Global) → shape_in_body (body_with_intervals b fresh) ≡ shape_in_body b
 same_shape body.Inner fresh = refl
@@ -61,18 +62,25 @@ ids_at index from birth [] k b node e f = absurd (none_some f)
 ids_at index from birth (key ∷ keys) zero b node e f = let same : birth ≡ b = omega arith in let is = some_is f in λ i. Some (record { key = (is i).key; birth = same i })
 ids_at index from birth (key ∷ keys) (suc k) b node e f = ids_at index (from + 1) (birth + 1) keys k b node (omega arith) f
 
-vacant_free : (most : ℕ) (s : Slab Stored) (births : ℕ) (sound : AreSound most s births) (key : ℕ) → get s key ≡ None → IsFreeKey (graph_of (seen most s births)) key
-vacant_free most s births sound key e n h same = let x = stored_of most s births sound.apart n h in none_some (sym e ∙ ap (get s) (sym same) ∙ x.1)
+vacant_free : (limits : Limits) (s : Slab Stored) (births : ℕ) (sound : AreSound limits s births) (key : ℕ) → get s key ≡ None → IsFreeKey (graph_of (seen limits s births)) key
+vacant_free limits s births sound key e n h same = let x = stored_of limits s births sound.apart n h in none_some (sym e ∙ ap (get s) (sym same) ∙ x.1)
+
+-- an index that no test refuses can be numbered, with its intervals
+pub births_left : (limits : Limits) (s : Slab Stored) (births : ℕ) (v : View) → AreSound limits s births → seen limits s births ≡ v
+    → (ps : List NodeId) (f : NodeId) (bs : List ℕ) → index_refusal (graph_of v) ps f bs ≡ None → births + 1 + (length bs + 1) < 2 ^ 64
+births_left limits s births v sound is ps f bs free =
+    let g = graph_of (seen limits s births) in
+    index_births g ps f bs (index_unrefused g ps f bs (ap (λ (w : View). index_refusal (graph_of w) ps f bs) is ∙ free)) sound.lawful.limit
 
 count_ids_of : (birth : ℕ) (keys : List ℕ) → length (ids_of birth keys) ≡ length keys
 count_ids_of birth [] = refl
 count_ids_of birth (k ∷ keys) = ap suc (count_ids_of (birth + 1) keys)
 
-module _ (most : ℕ) (old mid grown : Slab Stored) (births key : ℕ) (x : Stored) (sound : AreSound most old births) (free : get old key ≡ None) (u : Updates old mid key (Some x)) (next : x.birth ≡ births + 1) (len : slab_len mid ≡ slab_len old + 1)
-    (file : NodeId) (ps : List NodeId) (bounds : List ℕ) (shape : shape_in_body x.body ≡ Index file bounds) (parents : x.parents.items ≡ ps) (may : IsRoomyIndex (graph_of (seen most old births)) ps file bounds)
+module _ (limits : Limits) (old mid grown : Slab Stored) (births key : ℕ) (x : Stored) (sound : AreSound limits old births) (free : get old key ≡ None) (u : Updates old mid key (Some x)) (next : x.birth ≡ births + 1) (len : slab_len mid ≡ slab_len old + 1)
+    (file : NodeId) (ps : List NodeId) (bounds : List ℕ) (shape : shape_in_body x.body ≡ Index file bounds) (parents : x.parents.items ≡ ps) (may : IsRoomyIndex (graph_of (seen limits old births)) ps file bounds)
     (ids : List NodeId) (born : AreIntervalsBorn mid grown (record { key = key; birth = births + 1 }) (length bounds + 1) ids) where
   abbrev pub g : Graph
-  g = graph_of (seen most old births)
+  g = graph_of (seen limits old births)
 
   abbrev pub id : NodeId
   id = record { key = key; birth = births + 1 }
@@ -86,21 +94,21 @@ module _ (most : ℕ) (old mid grown : Slab Stored) (births key : ℕ) (x : Stor
   abbrev pub after : Graph
   after = born_index g key ps file bounds keys
 
-  index_born : graph_of (seen most mid (births + 1)) ≡ born_node g (record { key = key; shape = Index file bounds; parents = ps })
-  index_born = inserted most old mid births key x sound.apart (born_within most old births sound) free u next ∙ (λ i. born_node g (record { key = key; shape = shape i; parents = parents i }))
+  index_born : graph_of (seen limits mid (births + 1)) ≡ born_node g (record { key = key; shape = Index file bounds; parents = ps })
+  index_born = inserted limits old mid births key x sound.apart (born_within limits old births sound) free u next ∙ (λ i. born_node g (record { key = key; shape = shape i; parents = parents i }))
 
   count : births + 1 + length (interval_nodes id 0 keys) ≡ total
   count = let c = count_intervals id 0 keys in let m = born.many in omega arith
 
-  all_born : graph_of (seen most grown total) ≡ after
-  all_born = ap (λ b. graph_of (seen most grown b)) (sym count) ∙ born.grown.graph most ∙ ap (λ h. born_nodes h (interval_nodes id 0 keys)) index_born
+  all_born : graph_of (seen limits grown total) ≡ after
+  all_born = ap (λ b. graph_of (seen limits grown b)) (sym count) ∙ born.grown.graph limits ∙ ap (λ h. born_nodes h (interval_nodes id 0 keys)) index_born
 
   free_keys : (k : ℕ) → list_any (λ y. y == k) (key ∷ keys) ≡ true → IsFreeKey g k
   free_keys k h =
-      or_elim (key == k) (list_any (λ y. y == k) keys) h (λ here. vacant_free most old births sound k (ap (get old) (sym (same_number key k here)) ∙ free))
+      or_elim (key == k) (list_any (λ y. y == k) keys) h (λ here. vacant_free limits old births sound k (ap (get old) (sym (same_number key k here)) ∙ free))
       (λ there.
       let vacant : get mid k ≡ None = born.grown.vacant k (ap (list_any (λ y. y == k)) (keys_of_intervals id 0 keys) ∙ there) in
-      vacant_free most old births sound k (by k vacant (get old k) refl))
+      vacant_free limits old births sound k (by k vacant (get old k) refl))
     where
       by : (k' : ℕ) → get mid k' ≡ None → (o : Option Stored) → get old k' ≡ o → get old k' ≡ None
       by k' v None e = e
@@ -122,7 +130,7 @@ module _ (most : ℕ) (old mid grown : Slab Stored) (births key : ℕ) (x : Stor
   records_kept f = same_records g sound.lawful ns (no_record_born g sound.lawful key ps file bounds keys) f
 
   abbrev pub slot : FileSlot old file
-  slot = file_slot most old births sound file may.file
+  slot = file_slot limits old births sound file may.file
 
   pub file_apart : file.key ≢ key
   file_apart e = none_some (sym free ∙ ap (get old) (sym e) ∙ slot.there)
@@ -136,7 +144,7 @@ module _ (most : ℕ) (old mid grown : Slab Stored) (births key : ℕ) (x : Stor
   -- a node that stays, and is not the file, agrees as before
   pub old_agrees : (k : ℕ) (y : Stored) → k ≢ file.key → get old k ≡ Some y → AgreesAt after k (vertex_of y)
   old_agrees k y ne e =
-      let shape_there : shape_of g (record { key = k; birth = y.birth }) ≡ Some (shape_in_body y.body) = ap shape_in (node_there most old births sound.apart k y e) in
+      let shape_there : shape_of g (record { key = k; birth = y.birth }) ≡ Some (shape_in_body y.body) = ap shape_in (node_there limits old births sound.apart k y e) in
       beside_kept g after sound.lawful (frames g sound.lawful key ps file bounds keys may.inner may.file may.few may.rise may.unused may.indexes born.many apart_keys free_keys may.room) (record { key = k; birth = y.birth }) (vertex_of y) (shape_in_body y.body) shape_there
       (λ h. (others g sound.lawful key ps file bounds keys (record { key = k; birth = y.birth }) (same_node-differ (record { key = k; birth = y.birth }) file (λ same. ne (ap (λ q. q.key) same))), records_kept (record { key = k; birth = y.birth })))
       (sound.agree k y e)
@@ -179,11 +187,11 @@ module _ (most : ℕ) (old mid grown : Slab Stored) (births key : ℕ) (x : Stor
     alike4 : node_of file.key (vertex_of f4) ≡ node_of file.key (vertex_of slot.stored)
     alike4 = let s = file_same_shape slot.stored.body list in λ i. record { key = file.key; shape = s i; parents = slot.stored.parents.items }
 
-    graph3 : graph_of (seen most third total) ≡ graph_of (seen most grown total)
-    graph3 = unseen most grown third total key x x3 born.grown.apart index_there u3 refl alike3
+    graph3 : graph_of (seen limits third total) ≡ graph_of (seen limits grown total)
+    graph3 = unseen limits grown third total key x x3 born.grown.apart index_there u3 refl alike3
 
-    pub index_graph : graph_of (seen most fourth total) ≡ after
-    index_graph = unseen most third fourth total file.key slot.stored f4 (written_apart most grown third total key x x3 born.grown.apart index_there u3 refl) file_third u4 refl alike4 ∙ graph3 ∙ all_born
+    pub index_graph : graph_of (seen limits fourth total) ≡ after
+    index_graph = unseen limits third fourth total file.key slot.stored f4 (written_apart limits grown third total key x x3 born.grown.apart index_there u3 refl) file_third u4 refl alike4 ∙ graph3 ∙ all_born
 
     file_agrees : AgreesAt after file.key (vertex_of f4)
     file_agrees =
@@ -201,10 +209,10 @@ module _ (most : ℕ) (old mid grown : Slab Stored) (births key : ℕ) (x : Stor
         subst (λ b. KeepsBeside after (record { key = key; birth = b }) (vertex_of x3) (shape_in_body x3.body)) (sym next)
         (subst (KeepsBeside after id (vertex_of x3)) (sym (same_shape x.body fresh ∙ shape)) (ap length kept ∙ many, λ place low. ap (λ is. slice_get is place) kept ∙ intervals_at place low))
 
-    pub index_sound : AreSound most fourth total
+    pub index_sound : AreSound limits fourth total
     index_sound = record {
       lawful = subst IsLawfulGraph (sym index_graph) lawful;
-      apart = written_apart most third fourth total file.key slot.stored f4 (written_apart most grown third total key x x3 born.grown.apart index_there u3 refl) file_third u4 refl;
+      apart = written_apart limits third fourth total file.key slot.stored f4 (written_apart limits grown third total key x x3 born.grown.apart index_there u3 refl) file_third u4 refl;
       counted =
           (let all = count_grown g sound.lawful ns in
           let many = count_intervals id 0 keys in
@@ -229,9 +237,9 @@ module _ (most : ℕ) (old mid grown : Slab Stored) (births key : ℕ) (x : Stor
           (λ w. let other = other_number k key w in grown_agrees k y ne other (sym (u3.others k other) ∙ at3))));
     }
 
-    pub index_made : IsIndexBorn g (graph_of (seen most fourth total)) id ps file bounds
+    pub index_made : IsIndexBorn g (graph_of (seen limits fourth total)) id ps file bounds
     index_made = record { interval_keys = keys; intervals = born.many; keys_apart = apart_keys; keys_free = free_keys; birth = refl; after = index_graph }
 
 -- the capacity is not seen
-pub sound_capacity : (most : ℕ) (s : Slab Stored) (births capacity : ℕ) → AreSound most s births → AreSound most (record s { capacity = capacity }) births
-sound_capacity most s births capacity sound = record { lawful = sound.lawful; apart = sound.apart; counted = sound.counted; agree = sound.agree }
+pub sound_capacity : (limits : Limits) (s : Slab Stored) (births capacity : ℕ) → AreSound limits s births → AreSound limits (record s { capacity = capacity }) births
+sound_capacity limits s births capacity sound = record { lawful = sound.lawful; apart = sound.apart; counted = sound.counted; agree = sound.agree }

@@ -13,7 +13,7 @@ use Rattle.gl_graph.specs.Lawful.{IsLawfulGraph, AreInnerParents, are_inner}
 use Rattle.gl_graph.specs.Changes.{with_node, with_parents}
 use Rattle.gl_graph.specs.Refusals.{first_cycle}
 use Rattle.gl_graph.specs.View.{graph_of, node_of, KeepsBeside}
-use Rattle.gl_graph.specs.Seen.{shape_in_body, vertex_of, seen, AreSound}
+use Rattle.gl_graph.specs.Seen.{Limits, shape_in_body, vertex_of, seen, AreSound}
 use Rattle.gl_graph.proofs.KindRules.{inner_plain, plain_live}
 use Rattle.gl_graph.proofs.Changed.{at_here}
 use Rattle.gl_graph.proofs.Moved.{movable_alike, move_lawful, with_parents_is}
@@ -48,12 +48,12 @@ same_beside g n was fresh (Index f bs) k = k
 same_beside g n was fresh (Interval place) k = k
 same_beside g n was fresh (Rec keys) k = k
 
-module _ (most : ℕ) (old new : Slab Stored) (births : ℕ) (sound : AreSound most old births) (n : NodeId) (movable : is_movable_shape (shape_of (graph_of (seen most old births)) n) ≡ true) where
+module _ (limits : Limits) (old new : Slab Stored) (births : ℕ) (sound : AreSound limits old births) (n : NodeId) (movable : is_movable_shape (shape_of (graph_of (seen limits old births)) n) ≡ true) where
   abbrev pub g : Graph
-  g = graph_of (seen most old births)
+  g = graph_of (seen limits old births)
 
   slot : (x : Stored) × (get old n.key ≡ Some x) × (x.birth ≡ n.birth)
-  slot = stored_of most old births sound.apart n (movable_live g n movable)
+  slot = stored_of limits old births sound.apart n (movable_live g n movable)
 
   pub contained : ContainsKey old n.key
   contained = ap is_some slot.1
@@ -67,7 +67,7 @@ module _ (most : ℕ) (old new : Slab Stored) (births : ℕ) (sound : AreSound m
     x = record was { parents = fresh }
 
     there : node_at g n ≡ Some (node_of n.key (vertex_of was))
-    there = node_was most old new births sound n was x slot.1 slot.2 refl
+    there = node_was limits old new births sound n was x slot.1 slot.2 refl
 
     shape_is : shape_of g n ≡ Some (shape_in_body was.body)
     shape_is = ap shape_in there
@@ -75,15 +75,15 @@ module _ (most : ℕ) (old new : Slab Stored) (births : ℕ) (sound : AreSound m
     can_move : is_movable_shape (Some (shape_in_body was.body)) ≡ true
     can_move = ap is_movable_shape (sym shape_is) ∙ movable
 
-    graph_is : changed most old new births sound n was x slot.1 slot.2 refl ≡ with_parents g n ps
+    graph_is : changed limits old new births sound n was x slot.1 slot.2 refl ≡ with_parents g n ps
     graph_is =
         (λ i. with_node g n.birth (record { key = n.key; shape = shape_in_body was.body; parents = fresh_is i }))
         ∙ with_parents_is g n ps (node_of n.key (vertex_of was)) there
 
-    pub moved_graph : graph_of (seen most new births) ≡ with_parents g n ps
-    moved_graph = changed_graph most old new births sound n was x slot.1 slot.2 refl (write was slot.1) ∙ graph_is
+    pub moved_graph : graph_of (seen limits new births) ≡ with_parents g n ps
+    moved_graph = changed_graph limits old new births sound n was x slot.1 slot.2 refl (write was slot.1) ∙ graph_is
 
-    lawful : IsLawfulGraph (changed most old new births sound n was x slot.1 slot.2 refl)
+    lawful : IsLawfulGraph (changed limits old new births sound n was x slot.1 slot.2 refl)
     lawful =
         subst IsLawfulGraph (sym graph_is)
         (move_lawful g sound.lawful n (node_of n.key (vertex_of was)) there ps can_move (subst (λ (o : Option Shape). AreInnerParents g (least_parents o) ps) shape_is inner) (inner_live g ps inner.inner) (no_cycle g n ps clear))
@@ -91,13 +91,13 @@ module _ (most : ℕ) (old new : Slab Stored) (births : ℕ) (sound : AreSound m
     no_record : is_record_shape (Some (shape_in_body was.body)) ≡ false
     no_record = movable_no_record (Some (shape_in_body was.body)) can_move
 
-    records : (f : NodeId) → (is_record_shape (shape_of (changed most old new births sound n was x slot.1 slot.2 refl) n) && is_child (changed most old new births sound n was x slot.1 slot.2 refl) f n) ≡ (is_record_shape (shape_of g n) && is_child g f n)
+    records : (f : NodeId) → (is_record_shape (shape_of (changed limits old new births sound n was x slot.1 slot.2 refl) n) && is_child (changed limits old new births sound n was x slot.1 slot.2 refl) f n) ≡ (is_record_shape (shape_of g n) && is_child g f n)
     records f =
-        ap (λ b. b && is_child (changed most old new births sound n was x slot.1 slot.2 refl) f n) (ap (λ o. is_record_shape (shape_in o)) (at_here g n (node_of n.key (vertex_of was)) (node_of n.key (vertex_of x)) there refl) ∙ no_record)
+        ap (λ b. b && is_child (changed limits old new births sound n was x slot.1 slot.2 refl) f n) (ap (λ o. is_record_shape (shape_in o)) (at_here g n (node_of n.key (vertex_of was)) (node_of n.key (vertex_of x)) there refl) ∙ no_record)
         ∙ sym (ap (λ b. b && is_child g f n) (ap is_record_shape shape_is ∙ no_record))
 
-    pub moved_sound : AreSound most new births
+    pub moved_sound : AreSound limits new births
     moved_sound =
-        changed_sound most old new births sound n was x slot.1 slot.2 refl (write was slot.1) len (movable_alike (shape_in_body was.body) can_move) lawful (λ f h. records f)
-        (same_beside (changed most old new births sound n was x slot.1 slot.2 refl) (record { key = n.key; birth = was.birth }) was fresh (shape_in_body was.body)
-        (still_kept most old new births sound n was x slot.1 slot.2 refl (write was slot.1) len (movable_alike (shape_in_body was.body) can_move) lawful (λ f h. records f) n.key was slot.1))
+        changed_sound limits old new births sound n was x slot.1 slot.2 refl (write was slot.1) len (movable_alike (shape_in_body was.body) can_move) lawful (λ f h. records f)
+        (same_beside (changed limits old new births sound n was x slot.1 slot.2 refl) (record { key = n.key; birth = was.birth }) was fresh (shape_in_body was.body)
+        (still_kept limits old new births sound n was x slot.1 slot.2 refl (write was slot.1) len (movable_alike (shape_in_body was.body) can_move) lawful (λ f h. records f) n.key was slot.1))

@@ -11,7 +11,7 @@ use Rattle.gl_graph.specs.Graph.{Graph, is_live, shape_in, shape_of, first_paren
 use Rattle.gl_graph.specs.Lawful.{IsLawfulGraph}
 use Rattle.gl_graph.specs.Changes.{without_node}
 use Rattle.gl_graph.specs.View.{graph_of, record_count, KeepsBeside, AgreesAt}
-use Rattle.gl_graph.specs.Seen.{shape_in_body, body_with_records, vertex_of, seen, AreSound}
+use Rattle.gl_graph.specs.Seen.{Limits, shape_in_body, body_with_records, vertex_of, seen, AreSound}
 use Rattle.gl_graph.proofs.KindRules.{plain_live, file_plain}
 use Rattle.gl_graph.proofs.Removed.{rec_live, removed_frames, removed_lawful, indexes_left}
 use Rattle.gl_graph.proofs.Left.{fewer_nodes, records_there}
@@ -21,15 +21,15 @@ use Rattle.gl_graph.proofs.Beside.{FileSlot, file_slot}
 use Rattle.gl_graph.proofs.Kept.{beside_kept}
 use Rattle.gl_graph.proofs.SoundRecord.{IsSoundBut, recount_unseen, sound_recounted}
 
-module _ (most : ℕ) (old mid new : Slab Stored) (births : ℕ) (sound : AreSound most old births) (r : NodeId) (rec : is_record_shape (shape_of (graph_of (seen most old births)) r) ≡ true) where
+module _ (limits : Limits) (old mid new : Slab Stored) (births : ℕ) (sound : AreSound limits old births) (r : NodeId) (rec : is_record_shape (shape_of (graph_of (seen limits old births)) r) ≡ true) where
   abbrev g : Graph
-  g = graph_of (seen most old births)
+  g = graph_of (seen limits old births)
 
   live : is_live g r ≡ true
   live = rec_live g sound.lawful r rec
 
   pub contained : ContainsKey old r.key
-  contained = ap is_some (stored_of most old births sound.apart r live).1
+  contained = ap is_some (stored_of limits old births sound.apart r live).1
 
   abbrev pub file : NodeId
   file = first_parent g r
@@ -38,7 +38,7 @@ module _ (most : ℕ) (old mid new : Slab Stored) (births : ℕ) (sound : AreSou
   file_is = its_file g sound.lawful r rec
 
   abbrev pub slot : FileSlot old file
-  slot = file_slot most old births sound file file_is
+  slot = file_slot limits old births sound file file_is
 
   pub counted_there : record_count g file ≡ record_count (without_node g r) file + 1
   counted_there = records_there g sound.lawful r live rec file ∙ ap (λ b. record_count (without_node g r) file + cond b 1 0) (record_of_file g sound.lawful r rec file file_is ∙ same_node-refl file)
@@ -58,13 +58,13 @@ module _ (most : ℕ) (old mid new : Slab Stored) (births : ℕ) (sound : AreSou
     pub file_contained : ContainsKey mid file.key
     file_contained = ap is_some file_there
 
-    left : graph_of (seen most mid births) ≡ without_node g r
-    left = let x = stored_of most old births sound.apart r live in removed most old mid births r x.0 sound.apart x.1 x.2 u
+    left : graph_of (seen limits mid births) ≡ without_node g r
+    left = let x = stored_of limits old births sound.apart r live in removed limits old mid births r x.0 sound.apart x.1 x.2 u
 
-    but : IsSoundBut most mid births file.key slot.stored
+    but : IsSoundBut limits mid births file.key slot.stored
     but = record {
       lawful = subst IsLawfulGraph (sym left) (removed_lawful g sound.lawful r rec);
-      apart = (let x = stored_of most old births sound.apart r live in removed_apart most old mid births r x.0 sound.apart x.1 x.2 u);
+      apart = (let x = stored_of limits old births sound.apart r live in removed_apart limits old mid births r x.0 sound.apart x.1 x.2 u);
       counted = (let fewer = fewer_nodes g sound.lawful r live in let was = sound.counted in let same : slab_len mid ≡ node_count (without_node g r) = omega arith in same ∙ ap node_count (sym left));
       there = file_there;
       shape = slot.shape;
@@ -74,7 +74,7 @@ module _ (most : ℕ) (old mid new : Slab Stored) (births : ℕ) (sound : AreSou
       agree = λ k y ne e. subst (λ h. AgreesAt h k (vertex_of y)) (sym left)
           (let n : NodeId = record { key = k; birth = y.birth } in
           let was : get old k ≡ Some y = sym (u.others k (λ same. none_some (sym u.changed ∙ ap (get mid) (sym same) ∙ e))) ∙ e in
-          let shape : shape_of g (record { key = k; birth = y.birth }) ≡ Some (shape_in_body y.body) = ap shape_in (node_there most old births sound.apart k y was) in
+          let shape : shape_of g (record { key = k; birth = y.birth }) ≡ Some (shape_in_body y.body) = ap shape_in (node_there limits old births sound.apart k y was) in
           beside_kept g (without_node g r) sound.lawful (removed_frames g sound.lawful r rec) (record { key = k; birth = y.birth }) (vertex_of y) (shape_in_body y.body) shape
           (λ h. (
             indexes_left g sound.lawful r rec (record { key = k; birth = y.birth }),
@@ -86,13 +86,13 @@ module _ (most : ℕ) (old mid new : Slab Stored) (births : ℕ) (sound : AreSou
     }
 
     module _ (records : ℕ) (count : records + 1 ≡ record_count g file) (write : (y : Stored) → get mid file.key ≡ Some y → Updates mid new file.key (Some (record y { body = body_with_records y.body records }))) (len' : slab_len new ≡ slab_len mid) where
-      counts : records ≡ record_count (graph_of (seen most mid births)) (record { key = file.key; birth = slot.stored.birth })
+      counts : records ≡ record_count (graph_of (seen limits mid births)) (record { key = file.key; birth = slot.stored.birth })
       counts =
           (let c = counted_there in let same : records ≡ record_count (without_node g r) file = omega arith in same)
-          ∙ ap (λ h. record_count h file) (sym left) ∙ (let birth : file.birth ≡ slot.stored.birth = sym slot.born in ap (λ b. record_count (graph_of (seen most mid births)) (record { key = file.key; birth = b })) birth)
+          ∙ ap (λ h. record_count h file) (sym left) ∙ (let birth : file.birth ≡ slot.stored.birth = sym slot.born in ap (λ b. record_count (graph_of (seen limits mid births)) (record { key = file.key; birth = b })) birth)
 
-      pub removed_sound : AreSound most new births
-      removed_sound = sound_recounted most mid new births file.key slot.stored but records (write slot.stored file_there) counts len'
+      pub removed_sound : AreSound limits new births
+      removed_sound = sound_recounted limits mid new births file.key slot.stored but records (write slot.stored file_there) counts len'
 
-      pub removed_graph : graph_of (seen most new births) ≡ without_node g r
-      removed_graph = recount_unseen most mid new births file.key slot.stored but records (write slot.stored file_there) ∙ left
+      pub removed_graph : graph_of (seen limits new births) ≡ without_node g r
+      removed_graph = recount_unseen limits mid new births file.key slot.stored but records (write slot.stored file_there) ∙ left

@@ -1,5 +1,5 @@
 -- What it says of the graph that no test finds a reason to refuse.
-use Rattle.std.specs.Prelude.{◌≡◌, ℕ, ◌+◌, ◌<◌, ◌≤◌, Bool, true, false, not, ◌||◌, ◌==◌, nat_lt, nat_le, List, [], ◌∷◌, length, Option, Some, None, Result, Ok, Err, ◌++◌, if◌then◌else◌, ◌-◌}
+use Rattle.std.specs.Prelude.{◌≡◌, ℕ, ◌+◌, ◌<◌, ◌≤◌, ◌^◌, Bool, true, false, not, ◌||◌, ◌==◌, nat_lt, nat_le, List, [], ◌∷◌, length, Option, Some, None, Result, Ok, Err, ◌++◌, if◌then◌else◌, ◌-◌}
 use Rattle.std.specs.List.{list_all}
 use Rattle.std.proofs.Common.{refl, sym, ap, ◌∙◌, arith}
 use Rattle.std.proofs.lemmas.Bool.Decides.{nat_tests}
@@ -63,7 +63,7 @@ verdict_ok (Some r) u e = cc
 
 -- what a new inner node or file needs
 pub record AreRoomyParents (g : Graph) (least : ℕ) (ps : List NodeId) : Type 0 where
-  pub births : g.births ≤ max_count - 65536
+  pub births : g.births ≤ max_count - g.most
   pub inner : AreInnerParents g least ps
   pub room : node_count g + 1 ≤ g.most
 
@@ -73,11 +73,11 @@ parents_unrefused g least ps e =
     let b = not_refused (some_no_node g ps) _ a.1 in
     let c = not_refused (where_true (bad_parents g least ps) refusal.BadParents) _ b.1 in
     let d = not_refused (too_many_nodes g 1) [] c.1 in
-    record { births = lt_no (max_count - 65536) g.births (test_fails _ _ a.0); inner = inner_parents g least ps (test_fails _ _ c.0); room = enough_room g 1 d.0 }
+    record { births = lt_no (max_count - g.most) g.births (test_fails _ _ a.0); inner = inner_parents g least ps (test_fails _ _ c.0); room = enough_room g 1 d.0 }
 
 -- what a new record needs
 pub record IsRoomyRecord (g : Graph) (f : NodeId) (keys : List ℕ) : Type 0 where
-  pub births : g.births ≤ max_count - 65536
+  pub births : g.births ≤ max_count - g.most
   pub file : is_file_shape (shape_of g f) ≡ true
   pub each : length keys ≡ length (indexes_of g f)
   pub room : node_count g + 1 ≤ g.most
@@ -89,16 +89,16 @@ record_unrefused g f keys e =
     let c = not_refused (where_true (not (is_file_shape (shape_of g f))) refusal.BadParents) _ b.1 in
     let d = not_refused (where_true (not (length keys == length (indexes_of g f))) refusal.BadKeys) _ c.1 in
     let r = not_refused (too_many_nodes g 1) [] d.1 in
-    record { births = lt_no (max_count - 65536) g.births (test_fails _ _ a.0); file = not_false _ (test_fails _ _ c.0); each = same_number _ _ (not_false _ (test_fails _ _ d.0)); room = enough_room g 1 r.0 }
+    record { births = lt_no (max_count - g.most) g.births (test_fails _ _ a.0); file = not_false _ (test_fails _ _ c.0); each = same_number _ _ (not_false _ (test_fails _ _ d.0)); room = enough_room g 1 r.0 }
 
 -- what a new index needs
 pub record IsRoomyIndex (g : Graph) (ps : List NodeId) (f : NodeId) (bs : List ℕ) : Type 0 where
-  pub births : g.births ≤ max_count - 65536
+  pub births : g.births ≤ max_count - g.most
   pub inner : AreInnerParents g 1 ps
   pub file : is_file_shape (shape_of g f) ≡ true
   pub indexes : length (indexes_of g f) + 1 ≤ 7
   pub unused : has_records g f ≡ false
-  pub few : length bs ≤ 256
+  pub few : length bs ≤ g.most_bounds
   pub rise : IsRising (0 ∷ bs)
   pub room : node_count g + (2 + length bs) ≤ g.most
 
@@ -108,22 +108,27 @@ index_unrefused g ps f bs e =
     let b = not_refused (some_no_node g (ps ++ f ∷ [])) _ a.1 in
     let c = not_refused (where_true (bad_index_place g ps f) refusal.BadParents) _ b.1 in
     let d = not_refused (where_true (has_records g f) refusal.FileInUse) _ c.1 in
-    let k = not_refused (where_true (bad_bounds bs) refusal.BadKeys) _ d.1 in
+    let k = not_refused (where_true (bad_bounds g bs) refusal.BadKeys) _ d.1 in
     let r = not_refused (too_many_nodes g (2 + length bs)) [] k.1 in
     let place = or_no (bad_parents g 1 ps || not (is_file_shape (shape_of g f))) (nat_le 7 (length (indexes_of g f))) (test_fails _ _ c.0) in
     let kinds = or_no (bad_parents g 1 ps) (not (is_file_shape (shape_of g f))) place.0 in
-    let bounds = or_no (nat_lt 256 (length bs)) (not (is_rising (0 ∷ bs))) (test_fails _ _ k.0) in
+    let bounds = or_no (nat_lt g.most_bounds (length bs)) (not (is_rising (0 ∷ bs))) (test_fails _ _ k.0) in
     let seven = le_no 7 (length (indexes_of g f)) place.1 in
     record {
-      births = lt_no (max_count - 65536) g.births (test_fails _ _ a.0);
+      births = lt_no (max_count - g.most) g.births (test_fails _ _ a.0);
       inner = inner_parents g 1 ps kinds.0;
       file = not_false _ kinds.1;
       indexes = omega arith;
       unused = test_fails _ _ d.0;
-      few = lt_no 256 (length bs) bounds.0;
+      few = lt_no g.most_bounds (length bs) bounds.0;
       rise = rising (0 ∷ bs) (not_false _ bounds.1);
       room = enough_room g (2 + length bs) r.0;
     }
+
+-- the births of the index and of its intervals can be counted
+pub index_births : (g : Graph) (ps : List NodeId) (f : NodeId) (bs : List ℕ) → IsRoomyIndex g ps f bs → g.most ≤ 2 ^ 31
+    → g.births + 1 + (length bs + 1) < 2 ^ 64
+index_births g ps f bs may limit = let births = may.births in let room = may.room in omega arith
 
 abbrev passes : Result (Unit {0}) Refusal → Bool
 passes (Ok u) = true

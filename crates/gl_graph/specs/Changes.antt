@@ -8,11 +8,11 @@ use Rattle.gl_graph.specs.Graph.{Graph, Node, shape_of, indexes_of, record_paren
 
 -- the graph with another node of this birth
 abbrev pub with_node : Graph → ℕ → Node → Graph
-with_node g birth node = record { at = λ b. if b == birth then Some node else g.at b; births = g.births; most = g.most }
+with_node g birth node = record { at = λ b. if b == birth then Some node else g.at b; births = g.births; most = g.most; most_bounds = g.most_bounds }
 
 -- the graph with a node more, which has the next birth
 abbrev pub born_node : Graph → Node → Graph
-born_node g node = record { at = λ b. if b == g.births + 1 then Some node else g.at b; births = g.births + 1; most = g.most }
+born_node g node = record { at = λ b. if b == g.births + 1 then Some node else g.at b; births = g.births + 1; most = g.most; most_bounds = g.most_bounds }
 
 -- these nodes are born, one after the other
 abbrev pub born_nodes : Graph → List Node → Graph
@@ -57,7 +57,7 @@ pub record IsIndexBorn (g g' : Graph) (n : NodeId) (parents : List NodeId) (file
 
 -- the graph with one node less
 abbrev pub without_node : Graph → NodeId → Graph
-without_node g n = record { at = λ b. if b == n.birth then None else g.at b; births = g.births; most = g.most }
+without_node g n = record { at = λ b. if b == n.birth then None else g.at b; births = g.births; most = g.most; most_bounds = g.most_bounds }
 
 -- the node with these parents
 abbrev pub reparented : List NodeId → Option Node → Option Node
@@ -66,7 +66,7 @@ reparented ps (Some n) = Some (record n { parents = ps })
 
 -- the node has these parents
 abbrev pub with_parents : Graph → NodeId → List NodeId → Graph
-with_parents g n ps = record { at = λ b. if b == n.birth then reparented ps (g.at b) else g.at b; births = g.births; most = g.most }
+with_parents g n ps = record { at = λ b. if b == n.birth then reparented ps (g.at b) else g.at b; births = g.births; most = g.most; most_bounds = g.most_bounds }
 
 -- the keys with the one of an index changed
 abbrev pub keys_with : List NodeId → List ℕ → NodeId → ℕ → List ℕ
@@ -94,4 +94,5 @@ rekeyed g rec index key =
       at = λ b. if b == rec.birth then rekeyed_node (rekeyed_keys g rec index key) (rekeyed_parents g rec index key) (g.at b) else g.at b;
       births = g.births;
       most = g.most;
+      most_bounds = g.most_bounds;
     }

@@ -11,11 +11,12 @@ pub record Node : Type 0 where
   pub shape : Shape
   pub parents : List NodeId
 
--- the living node of each birth, how many births there were, and how many nodes may live at once
+-- the living node of each birth, how many births there were, how many nodes may live at once, and how many bounds an index may have
 pub record Graph : Type 0 where
   pub at : ℕ → Option Node
   pub births : ℕ
   pub most : ℕ
+  pub most_bounds : ℕ
 
 -- the node, where it is kept under this key
 abbrev pub with_key : ℕ → Option Node → Option Node

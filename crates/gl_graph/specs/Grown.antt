@@ -8,11 +8,11 @@ use Rattle.gl_graph.specs.Shapes.{Interval}
 use Rattle.gl_graph.specs.Graph.{Node}
 use Rattle.gl_graph.specs.Changes.{born_nodes, interval_nodes, keys_of, are_apart}
 use Rattle.gl_graph.specs.View.{graph_of}
-use Rattle.gl_graph.specs.Seen.{shape_in_body, seen, AreBornApart, AreBornWithin}
+use Rattle.gl_graph.specs.Seen.{shape_in_body, Limits, seen, AreBornApart, AreBornWithin}
 
 -- these nodes were born, in this order, and all others are as they were
 pub record IsGrown (old : Slab Stored) (births : ℕ) (new : Slab Stored) (ns : List Node) : Type 0 where
-  pub graph : (most : ℕ) → graph_of (seen most new (births + length ns)) ≡ born_nodes (graph_of (seen most old births)) ns
+  pub graph : (limits : Limits) → graph_of (seen limits new (births + length ns)) ≡ born_nodes (graph_of (seen limits old births)) ns
   pub apart : AreBornApart new
   pub within : AreBornWithin new (births + length ns)
   pub len : slab_len new ≡ slab_len old + length ns

@@ -31,7 +31,7 @@ pub record AreInnerParents (g : Graph) (least : ℕ) (ps : List NodeId) : Type 0
 -- its file, its bounds, and behind it in order of birth its intervals
 pub record IsIndexNode (g : Graph) (n f : NodeId) (bs : List ℕ) : Type 0 where
   pub file : is_file_shape (shape_of g f) ≡ true
-  pub few : length bs ≤ 256
+  pub few : length bs ≤ g.most_bounds
   pub rising : IsRising (0 ∷ bs)
   pub intervals : (place : ℕ) → place ≤ length bs → (node_at g (interval g n place) ≡ Some (record { key = (interval g n place).key; shape = Interval place; parents = n ∷ [] }))
 

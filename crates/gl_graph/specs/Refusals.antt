@@ -25,7 +25,7 @@ max_count = 2 ^ 64 - 1
 
 -- so many births were given that a full graph of new nodes might not be numbered any more
 abbrev pub births_worn : Graph → Bool
-births_worn g = nat_lt (max_count - 65536) g.births
+births_worn g = nat_lt (max_count - g.most) g.births
 
 -- no more births can be given
 abbrev pub worn_births : Graph → Option Refusal
@@ -52,9 +52,9 @@ abbrev pub is_rising : List ℕ → Bool
 is_rising [] = true
 is_rising (b ∷ bs) = list_all (λ c. nat_lt b c) bs && is_rising bs
 
--- more than 256 bounds, or bounds that do not rise from above 0
-abbrev pub bad_bounds : List ℕ → Bool
-bad_bounds bs = nat_lt 256 (length bs) || not (is_rising (0 ∷ bs))
+-- more bounds than an index may have, or bounds that do not rise from above 0
+abbrev pub bad_bounds : Graph → List ℕ → Bool
+bad_bounds g bs = nat_lt g.most_bounds (length bs) || not (is_rising (0 ∷ bs))
 
 -- of an inner node, which may have no parents, and of a file, which has one at least
 abbrev pub parents_refusal : Graph → ℕ → List NodeId → Option Refusal
@@ -78,7 +78,7 @@ abbrev pub index_refusal : Graph → List NodeId → NodeId → List ℕ → Opt
 index_refusal g ps f bs =
     first_refusal (
     worn_births g ∷ some_no_node g (ps ++ f ∷ []) ∷ where_true (bad_index_place g ps f) no.BadParents ∷ where_true (has_records g f) no.FileInUse
-    ∷ where_true (bad_bounds bs) no.BadKeys ∷ too_many_nodes g (2 + length bs) ∷ []
+    ∷ where_true (bad_bounds g bs) no.BadKeys ∷ too_many_nodes g (2 + length bs) ∷ []
     )
 
 -- why no record of this file can be made, with these keys

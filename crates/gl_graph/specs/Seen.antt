@@ -53,9 +53,14 @@ abbrev pub see : Option Node → Option Vertex
 see None = None
 see (Some x) = Some (vertex_of x)
 
--- what a contract sees of all slots, under this limit of nodes
-abbrev pub seen : ℕ → Slab Node → ℕ → View
-seen most nodes births = record { slots = map see nodes.slots; births = births; most = most; next_key = nodes.vacant_key }
+-- how many nodes may live at once, and how many bounds an index may have
+pub record Limits : Type 0 where
+  pub most : ℕ
+  pub most_bounds : ℕ
+
+-- what a contract sees of all slots, under these limits
+abbrev pub seen : Limits → Slab Node → ℕ → View
+seen limits nodes births = record { slots = map see nodes.slots; births = births; most = limits.most; most_bounds = limits.most_bounds; next_key = nodes.vacant_key }
 
 -- the node that an id names
 abbrev pub named_in : ℕ → Option Node → Option Node
@@ -75,11 +80,11 @@ abbrev pub AreBornWithin : Slab Node → ℕ → Type 0
 AreBornWithin nodes births = (k : ℕ) (x : Node) → get nodes k ≡ Some x → x.birth ≤ births
 
 -- the graph is lawful, and what is kept beside it agrees with it
-pub record AreSound (most : ℕ) (nodes : Slab Node) (births : ℕ) : Type 0 where
-  pub lawful : IsLawfulGraph (graph_of (seen most nodes births))
+pub record AreSound (limits : Limits) (nodes : Slab Node) (births : ℕ) : Type 0 where
+  pub lawful : IsLawfulGraph (graph_of (seen limits nodes births))
   pub apart : AreBornApart nodes
-  pub counted : slab_len nodes ≡ node_count (graph_of (seen most nodes births))
-  pub agree : (key : ℕ) (x : Node) → get nodes key ≡ Some x → AgreesAt (graph_of (seen most nodes births)) key (vertex_of x)
+  pub counted : slab_len nodes ≡ node_count (graph_of (seen limits nodes births))
+  pub agree : (key : ℕ) (x : Node) → get nodes key ≡ Some x → AgreesAt (graph_of (seen limits nodes births)) key (vertex_of x)
 
 -- of an inner node or of a file with nothing kept beside it
 abbrev pub IsPlainBody : Body → Type 0

@@ -14,11 +14,12 @@ pub record Vertex : Type 0 where
   pub records : ℕ
   pub intervals : List NodeId
 
--- the node or nothing at each key from 0 on, how many births there were, how many nodes may live at once, and the key that the next node gets
+-- the node or nothing at each key from 0 on, how many births there were, how many nodes may live at once and how many bounds an index may have, and the key that the next node gets
 pub record View : Type 0 where
   pub slots : List (Option Vertex)
   pub births : ℕ
   pub most : ℕ
+  pub most_bounds : ℕ
   pub next_key : ℕ
 
 -- the node that it is
@@ -33,7 +34,7 @@ born_at key (Some x ∷ slots) birth = if x.birth == birth then Some (node_of ke
 
 -- the graph: what is kept beside it is forgotten
 abbrev pub graph_of : View → Graph
-graph_of v = record { at = born_at 0 v.slots; births = v.births; most = v.most }
+graph_of v = record { at = born_at 0 v.slots; births = v.births; most = v.most; most_bounds = v.most_bounds }
 
 -- how many records a file has
 abbrev pub record_count : Graph → NodeId → ℕ

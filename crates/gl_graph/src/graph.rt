@@ -30,11 +30,11 @@ use crate::kind::Kind;
 use crate::node::Node;
 use crate::store::find;
 
-/// How many births are held back: where no more are left, no node is made any more.
-const SPARE_BIRTHS: u64 = 65_536;
-
 /// How many nodes may live at once, where no other limit is chosen.
 const MOST_NODES: u32 = 65_536;
+
+/// How many bounds an index may have, where no limit of nodes is chosen.
+const MOST_BOUNDS: u32 = 256;
 
 /// A lawful lock graph: inner nodes, files and indexes under inner nodes, intervals under their
 /// index, records under their file and under one interval of each of its indexes.
@@ -43,6 +43,7 @@ pub struct Graph {
     nodes: Slab<Node>,
     births: u64,
     most: u32,
+    most_bounds: u32,
     alloc: Global,
 }
 
@@ -59,26 +60,42 @@ impl Model for Graph {
 }
 
 impl Graph {
-    /// A graph without nodes, of which at most 65,536 may live at once.
+    /// A graph without nodes, of which at most 65,536 may live at once, and where an index has at most
+    /// 256 bounds.
     pub fn new(alloc: Global) -> Self
         ensures empty { (birth : ℕ) → (graph_of result).at birth ≡ None }
         ensures births { result.births ≡ 0 }
         ensures most { result.most ≡ 65536 }
+        ensures most_bounds { result.most_bounds ≡ 256 }
     {
-        Graph::with_most(alloc, MOST_NODES)
+        Graph::with_limits(alloc, MOST_NODES, MOST_BOUNDS)
     }
 
-    /// As `new`, with a limit of nodes that may live at once.
+    /// As `new`, with a limit of nodes that may live at once, at most 2^31. An index may have as many
+    /// bounds, so that its intervals are limited by the limit of nodes alone.
     pub fn with_most(alloc: Global, most: u32) -> Self
         requires { most ≤ 2 ^ 31 }
         ensures empty { (birth : ℕ) → (graph_of result).at birth ≡ None }
         ensures births { result.births ≡ 0 }
         ensures most { result.most ≡ most }
+        ensures most_bounds { result.most_bounds ≡ most }
+    {
+        Graph::with_limits(alloc, most, most)
+    }
+
+    /// A graph without nodes, with these limits.
+    fn with_limits(alloc: Global, most: u32, most_bounds: u32) -> Self
+        requires { most ≤ 2 ^ 31 }
+        ensures empty { (birth : ℕ) → (graph_of result).at birth ≡ None }
+        ensures births { result.births ≡ 0 }
+        ensures most { result.most ≡ most }
+        ensures most_bounds { result.most_bounds ≡ most_bounds }
     {
         Graph {
             nodes: Slab::new(alloc),
             births: 0,
             most,
+            most_bounds,
             alloc,
         }
     }
@@ -88,6 +105,13 @@ impl Graph {
         ensures { result ≡ (graph_of self.now).most }
     {
         self.most
+    }
+
+    /// How many bounds an index may have.
+    pub fn most_bounds(&self) -> u32
+        ensures { result ≡ (graph_of self.now).most_bounds }
+    {
+        self.most_bounds
     }
 
     /// Every graph is lawful.
@@ -104,11 +128,12 @@ impl Graph {
         self.nodes.len()
     }
 
-    /// Whether so many births were given that no node is made any more.
+    /// Whether so many births were given that no node is made any more: a full graph of new nodes might
+    /// not be numbered.
     pub fn worn(&self) -> bool
         ensures { result ≡ births_worn (graph_of self.now) }
     {
-        self.births > u64::MAX - SPARE_BIRTHS
+        self.births > u64::MAX - self.most as u64
     }
 
     /// The key that the next node gets. What is kept by key can so be made room for before a birth.

@@ -25,9 +25,6 @@ use gl_modes::{MOST_PARENTS, NodeId, Refusal};
 /// How many indexes a file may have.
 const MOST_INDEXES: usize = 7;
 
-/// How many bounds an index may have.
-const MOST_BOUNDS: usize = 256;
-
 /// Whether the node is one of these.
 fn is_among(ids: &[NodeId], n: NodeId) -> bool
     ensures { result ≡ list_any (same_node n) ids.now }
@@ -59,13 +56,6 @@ fn are_rising(bounds: &[u64]) -> bool
         last = *bound;
     }
     true
-}
-
-/// Whether these cannot be the bounds of an index.
-fn are_bad_bounds(bounds: &[u64]) -> bool
-    ensures { result ≡ bad_bounds bounds.now }
-{
-    bounds.len() > MOST_BOUNDS || !are_rising(bounds)
 }
 
 impl Graph {
@@ -178,13 +168,20 @@ impl Graph {
             Err(Refusal::BadParents)
         } else if self.has_records(file) {
             Err(Refusal::FileInUse)
-        } else if are_bad_bounds(bounds) {
+        } else if self.are_bad_bounds(bounds) {
             Err(Refusal::BadKeys)
         } else if self.too_many(bounds.len() + 2) {
             Err(Refusal::TooManyNodes)
         } else {
             Ok(())
         }
+    }
+
+    /// Whether these cannot be the bounds of an index.
+    fn are_bad_bounds(&self, bounds: &[u64]) -> bool
+        ensures { result ≡ bad_bounds (graph_of self.now) bounds.now }
+    {
+        bounds.len() > self.most_bounds as usize || !are_rising(bounds)
     }
 
     /// Whether no index of this file can be made under these parents.

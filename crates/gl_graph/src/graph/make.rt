@@ -97,8 +97,8 @@ impl Graph {
     }
 
     /// Makes an index of a file that has no records, under 1 to 8 different inner nodes, with at
-    /// most 256 strictly rising bounds above 0. The index is born first and then, in order, its
-    /// intervals: one that begins at key 0, and one at each bound.
+    /// most `most_bounds` strictly rising bounds above 0. The index is born first and then, in order,
+    /// its intervals: one that begins at key 0, and one at each bound.
     ///
     /// Refused, in this order, with `WornOut`, `NoSuchNode`, `BadParents` (also where the file is
     /// none or has seven indexes), `FileInUse`, `BadKeys` (the bounds), `TooManyNodes` and

@@ -6,6 +6,7 @@ use Rattle.gl_graph.specs.Changes.{with_parents}
 use Rattle.gl_graph.specs.Refusals.{first_cycle}
 use Rattle.gl_graph.specs.View.{View, graph_of}
 use Rattle.gl_graph.proofs.SoundMoved.{inner_live, contained, moved_graph, moved_sound}
+use Rattle.gl_graph.specs.Sound.{limits_of}
 use Rattle.gl_graph.proofs.graph.Graph.set_parents.Goals as goal
 
 pub check_cycles-requires : goal.check_cycles-requires
@@ -13,12 +14,12 @@ check_cycles-requires c = inner_live (graph_of c.args.self.now) c.args.parents.n
 
 pub write_parents-requires : goal.write_parents-requires
 write_parents-requires c =
-    contained c.self.inside.most c.self.inside.nodes c.self.inside.nodes c.self.inside.births c.self.invariant c.args.n
+    contained (limits_of c.self.inside) c.self.inside.nodes c.self.inside.nodes c.self.inside.births c.self.invariant c.args.n
     (subst (λ (v : View). is_movable_shape (shape_of (graph_of v) c.args.n) ≡ true) (sym c.self.view_is) c.requires.node)
 
 pub invariant_of-self : goal.invariant_of-self
 invariant_of-self c =
-    moved_sound c.self.inside.most c.self.inside.nodes c.write_parents.new.nodes c.self.inside.births c.self.invariant c.args.n
+    moved_sound (limits_of c.self.inside) c.self.inside.nodes c.write_parents.new.nodes c.self.inside.births c.self.invariant c.args.n
     (subst (λ (v : View). is_movable_shape (shape_of (graph_of v) c.args.n) ≡ true) (sym c.self.view_is) c.requires.node) c.args.parents.now
     (subst (λ (v : View). AreInnerParents (graph_of v) (least_parents (shape_of (graph_of v) c.args.n)) c.args.parents.now) (sym c.self.view_is) c.requires.parents)
     (subst (λ (v : View). first_cycle (graph_of v) c.args.n c.args.parents.now ≡ None) (sym c.self.view_is) c.in_ok-check_cycles.ensures.clear)
@@ -26,7 +27,7 @@ invariant_of-self c =
 
 pub returns-clause-moved : goal.returns-clause-moved
 returns-clause-moved c =
-    moved_graph c.self.inside.most c.self.inside.nodes c.write_parents.new.nodes c.self.inside.births c.self.invariant c.args.n
+    moved_graph (limits_of c.self.inside) c.self.inside.nodes c.write_parents.new.nodes c.self.inside.births c.self.invariant c.args.n
     (subst (λ (v : View). is_movable_shape (shape_of (graph_of v) c.args.n) ≡ true) (sym c.self.view_is) c.requires.node) c.args.parents.now
     (subst (λ (v : View). AreInnerParents (graph_of v) (least_parents (shape_of (graph_of v) c.args.n)) c.args.parents.now) (sym c.self.view_is) c.requires.parents)
     (subst (λ (v : View). first_cycle (graph_of v) c.args.n c.args.parents.now ≡ None) (sym c.self.view_is) c.in_ok-check_cycles.ensures.clear)
