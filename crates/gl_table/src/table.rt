@@ -6,7 +6,7 @@ ghost use Rattle.gl_graph.specs.View.{graph_of};
 ghost use Rattle.gl_table.specs.model.Deadlocks.{no_deadlock};
 ghost use Rattle.gl_table.specs.model.Lawful.{HasNoConflict, IsLawful};
 ghost use Rattle.gl_header.specs.Headers.{AreHeaders};
-ghost use Rattle.gl_table.specs.model.State.{choosing, empty_state, lives, status_of, with_room, HasNoCycle};
+ghost use Rattle.gl_table.specs.model.State.{choosing, empty_state, lives, status_of, with_limits, with_room, HasNoCycle};
 ghost use Rattle.gl_table.specs.model.Table.{ListsAgree, StandOnce, state_of};
 ghost use Rattle.gl_table.specs.declared.answers.Detect.TheVariants.{AtBlock};
 
@@ -82,11 +82,11 @@ impl Table {
         ensures deadlock { IfOk result (λ table. table.deadlock ≡ no_deadlock) }
         ensures refused { IfErr result (λ refusal. refusal ≡ ARefusal.NoMemory) }
     {
-        Table::with_room(alloc, detect, victims, most, 65_536)
+        Table::over(Graph::new(alloc), alloc, detect, victims, most)
     }
 
     /// As `choosing`, with a limit of nodes that may live at once, at most 2^31; 65,536 where none is
-    /// chosen.
+    /// chosen. An index may then have as many bounds; 256 where no limit of nodes is chosen.
     pub fn with_room(
         alloc: Global,
         detect: Detect,
@@ -101,9 +101,29 @@ impl Table {
         ensures deadlock { IfOk result (λ table. table.deadlock ≡ no_deadlock) }
         ensures refused { IfErr result (λ refusal. refusal ≡ ARefusal.NoMemory) }
     {
+        Table::over(Graph::with_most(alloc, nodes), alloc, detect, victims, most)
+    }
+
+    /// A table over a graph without nodes.
+    fn over(
+        graph: Graph,
+        alloc: Global,
+        detect: Detect,
+        victims: Victims,
+        most: usize,
+    ) -> Result<Self, Refusal>
+        requires some { 1 ≤ most }
+        requires few { most ≤ 128 }
+        requires empty { (birth : ℕ) → (graph_of graph).at birth ≡ None }
+        requires births { graph.births ≡ 0 }
+        requires low { graph.most ≤ 2 ^ 31 }
+        ensures made { IfOk result (λ table. state_of table ≡ with_limits graph.most graph.most_bounds (choosing victims (empty_state detect most))) }
+        ensures deadlock { IfOk result (λ table. table.deadlock ≡ no_deadlock) }
+        ensures refused { IfErr result (λ refusal. refusal ≡ ARefusal.NoMemory) }
+    {
         match Locks::new(alloc, most) {
             Ok(locks) => Ok(Table {
-                graph: Graph::with_most(alloc, nodes),
+                graph,
                 locks,
                 detect,
                 victims,

@@ -10,7 +10,7 @@ use Rattle.gl_table.proofs.Words.{queue_of, range_with_len, refl, Refusal, Refus
 use Rattle.gl_table.proofs.Words.{slice_set, Some, StandOnce, State, state_in, state_of, status_in, status_of, subst, suc, sym, TableView, too_many_txns, true}
 use Rattle.gl_table.proofs.Words.{txn_in, txns_of, unused-nobody, View, view_of, where_true, zero, ℕ}
 use Rattle.std.specs.Prelude.{◌^◌}
-use Rattle.gl_table.specs.model.State.{with_room}
+use Rattle.gl_table.specs.model.State.{with_limits}
 use Rattle.gl_table.specs.declared.table.Table.TheInside.{Inside}
 use Rattle.gl_modes.specs.declared.refusal.Refusal.TheVariants as no
 use Rattle.gl_table.proofs.law.Keeps.{waiting_is}
@@ -86,15 +86,15 @@ free_seats zero t = refl
 free_seats (suc k) zero = refl
 free_seats (suc k) (suc t) = free_seats k t
 
-module _ (i : Inside) (most nodes : ℕ) (few : most ≤ 128) (low : nodes ≤ 2 ^ 31) (limit : (graph_of i.graph).most ≡ nodes)
+module _ (i : Inside) (most : ℕ) (few : most ≤ 128) (low : i.graph.most ≤ 2 ^ 31)
     (none : (birth : ℕ) → (graph_of i.graph).at birth ≡ None) (births : i.graph.births ≡ 0)
     (begins : i.begins ≡ 0) (new : AreNew i.locks most) where
   abbrev s : State
   s = state_of (view_of i)
 
-  pub new_state : s ≡ with_room nodes (choosing i.victims (empty_state i.detect most))
-  new_state = λ z. record (with_room nodes (choosing i.victims (empty_state i.detect most))) {
-    graph = record { at = λ b. none b z; births = births z; most = limit z };
+  pub new_state : s ≡ with_limits i.graph.most i.graph.most_bounds (choosing i.victims (empty_state i.detect most))
+  new_state = λ z. record (with_limits i.graph.most i.graph.most_bounds (choosing i.victims (empty_state i.detect most))) {
+    graph = record { at = λ b. none b z; births = births z; most = i.graph.most; most_bounds = i.graph.most_bounds };
     txns = λ t. (ap (λ xs. txns_of xs t) new.seats ∙ free_seats most t) z;
     held = λ t n. (ap (λ hs. held_of hs t n) new.headers ∙ ap (λ (g : Members). g t) unused-nobody) z;
     queue = λ n. queue_of (new.headers z) n;
@@ -104,7 +104,7 @@ module _ (i : Inside) (most nodes : ℕ) (few : most ≤ 128) (low : nodes ≤ 2
 
   pub new_sound : IsSound i
   new_sound = record {
-    lawful = subst IsLawful (sym new_state) (roomy-lawful i.detect i.victims most nodes low);
+    lawful = subst IsLawful (sym new_state) (roomy-lawful i.detect i.victims most i.graph.most i.graph.most_bounds low);
     exact = record {
       sound = record {
         few = subst (λ (k : ℕ). k ≤ 128) (sym (ap length new.seats ∙ length-replicate most)) few;

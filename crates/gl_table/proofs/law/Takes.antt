@@ -7,7 +7,7 @@ use Rattle.gl_table.proofs.Words.{placed, pumped, refl, released, restatus, same
 use Rattle.gl_table.proofs.Words.{SettledWithin, Some, split, State, Status, status_in, status_of, subst, suc, sym, true, Txn, Victims, Waiting, waits_at}
 use Rattle.gl_table.proofs.Words.{without_wait, without_waiter, zero, ℕ, ⊎_elim}
 use Rattle.std.specs.Prelude.{◌^◌}
-use Rattle.gl_table.specs.model.State.{with_room}
+use Rattle.gl_table.specs.model.State.{with_limits}
 use Rattle.gl_table.proofs.law.Keeps.{age_none, apart, IsLess, less-lawful, nl_holds, pumped-lawful, txn_there, waiting_is}
 use Rattle.gl_listed.proofs.Children.{nl_is}
 use Rattle.gl_table.proofs.queues.Edits.{among_same, HoldersFirst, out_of_without, placed_front, placed_order, placed_other, placed_self, without_ahead}
@@ -302,8 +302,8 @@ module _ (s : State) (law : IsLawful s) (t : ℕ) (free : is_some (s.txns t) ≡
 
 -- The empty state meets the law, and nobody waits in it.
 
-pub roomy-lawful : (d : Detect) (c : Victims) (most nodes : ℕ) → nodes ≤ 2 ^ 31 → IsLawful (with_room nodes (choosing c (empty_state d most)))
-roomy-lawful d c most nodes low = record {
+pub roomy-lawful : (d : Detect) (c : Victims) (most nodes bounds : ℕ) → nodes ≤ 2 ^ 31 → IsLawful (with_limits nodes bounds (choosing c (empty_state d most)))
+roomy-lawful d c most nodes bounds low = record {
   graph = record {
     well_formed = λ n node e. absurd (none_some e);
     parents_live = λ n p h. absurd (no h);
@@ -329,4 +329,4 @@ roomy-lawful d c most nodes low = record {
 }
 
 pub empty-lawful : (d : Detect) (c : Victims) (most : ℕ) → IsLawful (choosing c (empty_state d most))
-empty-lawful d c most = roomy-lawful d c most 65536 (omega arith)
+empty-lawful d c most = roomy-lawful d c most 65536 256 (omega arith)

@@ -100,15 +100,19 @@ with_graph s g = record s { graph = g }
 abbrev pub choosing : Victims → State → State
 choosing c s = record s { victims = c }
 
--- the state with another limit of nodes
-abbrev pub with_room : ℕ → State → State
-with_room nodes s = record s { graph = record s.graph { most = nodes } }
+-- the state with other limits of its graph: of the nodes that may live at once, and of the bounds of an index
+abbrev pub with_limits : ℕ → ℕ → State → State
+with_limits nodes bounds s = record s { graph = record s.graph { most = nodes; most_bounds = bounds } }
 
--- no node, of which 65,536 may live at once, no transaction, nothing counted; of a deadlock the youngest falls
+-- the state with another limit of nodes, which limits the bounds of an index too
+abbrev pub with_room : ℕ → State → State
+with_room nodes s = with_limits nodes nodes s
+
+-- no node, of which 65,536 may live at once, 256 bounds for an index, no transaction, nothing counted; of a deadlock the youngest falls
 abbrev pub empty_state : Detect → ℕ → State
 empty_state detect most =
     record {
-      graph = record { at = λ _. None; births = 0; most = 65536 };
+      graph = record { at = λ _. None; births = 0; most = 65536; most_bounds = 256 };
       txns = λ _. None;
       held = λ _ _. NL;
       queue = λ _. [];
