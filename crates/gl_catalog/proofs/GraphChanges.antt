@@ -133,7 +133,7 @@ abbrev pub KeepsKey : (Option Node → Option Node) → Type 0
 KeepsKey f = (key : ℕ) (o : Option Node) → with_key key o ≡ None → with_key key (f o) ≡ None
 
 abbrev pub changed_at : Graph → NodeId → (Option Node → Option Node) → Graph
-changed_at g x f = record { at = λ b. if b == x.birth then f (g.at b) else g.at b; births = g.births; most = g.most }
+changed_at g x f = record { at = λ b. if b == x.birth then f (g.at b) else g.at b; births = g.births; most = g.most; most_bounds = g.most_bounds }
 
 other_key : (a b : ℕ) (o : Option Node) → is_some (with_key a o) ≡ true → (b == a) ≡ false → with_key b o ≡ None
 other_key a b None live ne = refl

@@ -72,7 +72,7 @@ root = command.Inner (ref [])
 root_tested : (s : State) (k : ℕ) → k < 65537 → HasFilled s k → refusal_of s root ≡ where_true (nat_lt 65536 (k + 1)) no.TooManyNodes
 root_tested s k low at =
     let unworn : (s.accepted == max_count) ≡ false = let e = at.accepted in grind (arith, nat_tests) in
-    let young : nat_lt (max_count - 65536) s.graph.births ≡ false = let e = at.births in grind (arith, nat_tests) in
+    let young : nat_lt (max_count - s.graph.most) s.graph.births ≡ false = let e = at.births in let m = at.most in grind (arith, nat_tests) in
     ap₂ (λ a b. first_refusal (where_true a no.WornOut ∷ first_refusal (where_true b no.WornOut ∷ None ∷ None ∷ where_true (nat_lt s.graph.most (node_count s.graph + 1)) no.TooManyNodes ∷ []) ∷ [])) unworn young
     ∙ ap₂ (λ m n. first_refusal (first_refusal (where_true (nat_lt m (n + 1)) no.TooManyNodes ∷ []) ∷ [])) at.most at.count
     ∙ same (nat_lt 65536 (k + 1))

@@ -61,8 +61,9 @@ pub enum Command<'a> {
     File {
         parents: &'a [NodeId],
     },
-    /// A new index of a file without records, under 1 to 8 inner nodes, with at most 256 rising
-    /// bounds above 0 that part its intervals.
+    /// A new index of a file without records, under 1 to 8 inner nodes, with rising bounds above 0
+    /// that part its intervals: at most 256, in a manager made `with_room` as many as its limit of
+    /// nodes.
     Index {
         parents: &'a [NodeId],
         file: NodeId,

@@ -78,11 +78,12 @@ impl Manager {
         ensures uncounted { IfOk result (λ manager. manager.counters ≡ no_counts) }
         ensures refused { IfErr result (λ refusal. refusal ≡ ARefusal.NoMemory) }
     {
-        Manager::with_room(alloc, detect, victims, most, 65_536)
+        let table = Table::choosing(alloc, detect, victims, most)?;
+        Ok(Manager::over(table))
     }
 
     /// As `choosing`, with a limit of nodes that may live at once, at most 2^31; 65,536 where none is
-    /// chosen.
+    /// chosen. An index may then have as many bounds; 256 where no limit of nodes is chosen.
     pub fn with_room(
         alloc: Global,
         detect: Detect,
@@ -99,12 +100,21 @@ impl Manager {
         ensures refused { IfErr result (λ refusal. refusal ≡ ARefusal.NoMemory) }
     {
         let table = Table::with_room(alloc, detect, victims, most, nodes)?;
+        Ok(Manager::over(table))
+    }
+
+    /// A manager of this table, with nothing counted yet.
+    fn over(table: Table) -> Self
+        ensures table { result.table ≡ table }
+        ensures accepted { result.accepted ≡ 0 }
+        ensures uncounted { result.counters ≡ no_counts }
+    {
         table.law();
-        Ok(Manager {
+        Manager {
             table,
             accepted: 0,
             counters: Counters::default(),
-        })
+        }
     }
 
     /// The law of every manager, whatever commands it has carried out.
