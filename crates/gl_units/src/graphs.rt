@@ -3,7 +3,7 @@
 use gl_graph::laws::root_path_laws;
 use gl_graph::{Graph, Kind};
 use gl_modes::{NodeId, Refusal};
-use std::alloc::Global;
+use std::alloc::{AllocError, Global};
 use std::test::Fail;
 
 /// A root, a file under it, and an index of the file with these bounds.
@@ -22,6 +22,15 @@ fn is_refused(answer: Result<NodeId, Refusal>, want: Refusal) -> Result<bool, Re
         Err(refusal) => Ok(refusal == want),
         Ok(_) => Ok(false),
     }
+}
+
+/// The bounds from 1 to this one.
+fn bounds_up_to(alloc: Global, last: u64) -> Result<Vec<u64>, AllocError> {
+    let mut bounds = Vec::new(alloc);
+    for bound in 1..=last {
+        bounds.push(bound)?;
+    }
+    Ok(bounds)
 }
 
 fn interval_with(graph: &Graph, index: NodeId, key: u64) -> Option<NodeId> {
@@ -81,13 +90,40 @@ fn without_bounds_all_keys_lie_together(rt: HostRuntime) -> Result<(), Fail> {
 #[test]
 fn an_index_has_at_most_256_bounds(rt: HostRuntime) -> Result<(), Fail> {
     let (mut graph, db, file, _) = small(rt.alloc(), &[])?;
-    let mut bounds = Vec::new(rt.alloc());
-    for bound in 1..=256u64 {
-        bounds.push(bound)?;
-    }
+    let mut bounds = bounds_up_to(rt.alloc(), 256)?;
     graph.add_index(&[db], file, &bounds)?;
     bounds.push(257)?;
     assert!(rt; is_refused(graph.add_index(&[db], file, &bounds), Refusal::BadKeys)?);
+    assert_eq!(rt; graph.most_bounds(), 256);
+    Ok(())
+}
+
+#[test]
+fn a_chosen_limit_of_nodes_is_the_limit_of_bounds(rt: HostRuntime) -> Result<(), Fail> {
+    let mut graph = Graph::with_most(rt.alloc(), 70_000);
+    let db = graph.add_inner(&[])?;
+    let file = graph.add_file(&[db])?;
+    let mut bounds = bounds_up_to(rt.alloc(), 69_997)?;
+    assert!(rt; is_refused(graph.add_index(&[db], file, &bounds), Refusal::TooManyNodes)?);
+    bounds.truncate(60_000);
+    let index = graph.add_index(&[db], file, &bounds)?;
+    for (key, place) in [
+        (0, 0),
+        (1, 1),
+        (30_000, 30_000),
+        (60_000, 60_000),
+        (u64::MAX, 60_000),
+    ] {
+        let interval = interval_with(&graph, index, key);
+        assert!(rt; interval.is_some(), "{key}");
+        assert_eq!(rt; interval, graph.interval(index, place), "{key}");
+    }
+    let rec = graph.add_record(file, &[30_000])?;
+    assert_eq!(rt;
+        graph.parents(rec).get(1).copied(),
+        graph.interval(index, 30_000)
+    );
+    assert_eq!(rt; graph.most_bounds(), 70_000);
     Ok(())
 }
 
