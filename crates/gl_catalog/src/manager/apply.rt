@@ -36,8 +36,24 @@ impl Manager {
         ensures same { self.new.accepted ≡ self.old.accepted → self.new ≡ self.old }
     {
         let mut told = Told::new();
-        let answer = self.apply_telling(command, &mut told);
+        let answer = self.apply_apart(command, &mut told);
         Reply { answer, told }
+    }
+
+    /// As `apply_telling`, but in one place: callers of `apply` make every choice of a command, and
+    /// would each have all of it inlined.
+    #[inline(never)]
+    fn apply_apart(&mut self, command: Command<'_>, told: &mut Told) -> Answer
+        requires empty { told.old.items ≡ [] }
+        ensures step { Step (state_of self.old) command.entry result told.new.items (state_of self.new) }
+        ensures deadlock { KeepsDeadlock command.entry self.old result self.new }
+        ensures caller { KeepsCaller command.entry (state_of self.old) (state_of self.new) }
+        ensures others { StepLeavesOthers (state_of self.old) command.entry (result, told.new.items) (state_of self.new) }
+        ensures settles { SettlesIdle (state_of self.old) command.entry result told.new.items (state_of self.new) }
+        ensures counters { self.new.counters ≡ counted (state_of self.old) command.entry result told.new.items (state_of self.new) self.old.counters }
+        ensures same { self.new.accepted ≡ self.old.accepted → self.new ≡ self.old }
+    {
+        self.apply_telling(command, told)
     }
 
     /// As `apply`, with the notices put into an empty list, which the caller may use again: a reply is
