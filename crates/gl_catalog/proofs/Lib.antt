@@ -56,3 +56,7 @@ pub mod KeyedBy
 pub mod Relocations
 pub mod Rekeyings
 pub mod Wanting
+-- locks along a path
+pub mod Climbing
+pub mod PathSteps
+pub mod PathRuns

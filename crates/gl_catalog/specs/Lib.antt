@@ -7,3 +7,4 @@ pub mod Counters
 pub mod Replies
 pub mod Completes
 pub mod Sound
+pub mod Paths

@@ -11,5 +11,5 @@ mod run;
 
 pub use command::{Answer, Command, Escalated, Reply};
 pub use counters::Counters;
-pub use manager::Manager;
+pub use manager::{Manager, Reached};
 pub use run::run_commands;

@@ -27,7 +27,10 @@ mod listing;
 mod locks;
 mod moves;
 mod nodes;
+mod paths;
 mod records;
+
+pub use paths::Reached;
 
 /// The lock manager of one thread: the table of locks, how many commands it has accepted, and what it
 /// has been doing.

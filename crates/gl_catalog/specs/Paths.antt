@@ -1,0 +1,90 @@
+-- Paths: locks on a node with what the rule of the graph wants above it.
+use Rattle.std.specs.Prelude.{◌≡◌, ℕ, zero, suc, Bool, true, false, not, ◌&&◌, List, [], ◌∷◌, Option, Some, None, Result, IfOk, if◌then◌else◌, length, ◌==◌, ◌++◌}
+use Rattle.gl_modes.specs.declared.mode.Mode.{Mode}
+use Rattle.gl_modes.specs.declared.mode.Mode.TheVariants.{IS, IX}
+use Rattle.gl_modes.specs.declared.node.NodeId.{NodeId}
+use Rattle.gl_modes.specs.declared.refusal.Refusal.{Refusal}
+use Rattle.gl_modes.specs.declared.refusal.Refusal.TheVariants as no
+use Rattle.gl_modes.specs.Nodes.{same_node}
+use Rattle.gl_table.specs.declared.txn.TxnId.{TxnId}
+use Rattle.gl_table.specs.model.Calls.{active_on, bad_mode}
+use Rattle.gl_table.specs.model.State.{State, is_write}
+use Rattle.gl_table.specs.model.Tellings.{Told}
+use Rattle.gl_catalog.specs.declared.command.Command.{Command}
+use Rattle.gl_catalog.specs.declared.command.Command.TheVariants as command
+use Rattle.gl_catalog.specs.declared.manager.paths.Reached.{Reached}
+use Rattle.gl_catalog.specs.Completes.{Completes}
+use Rattle.gl_catalog.specs.Counters.{grants, refuses}
+use Rattle.gl_catalog.specs.Manager.{ManagerView, state_of}
+use Rattle.gl_catalog.specs.Replies.{Says, asking, said}
+use Rattle.gl_catalog.specs.Step.{Step}
+use Rattle.gl_catalog.specs.Tests.{refusal_of, worn}
+
+-- a node, and the mode asked for on it
+abbrev pub Ask : Type 0
+Ask = NodeId × Mode
+
+-- the intention that a mode wants on parents (1976): IX to write, IS to read
+abbrev pub intention : Mode → Mode
+intention m = if is_write m then IX else IS
+
+-- the lock that an ask is
+abbrev pub lock_of : TxnId → Ask → Command
+lock_of t ask = command.Lock t ask.0 ask.1
+
+-- the parent for want of which it is refused
+abbrev pub missing_parent : Refusal → Option NodeId
+missing_parent (no.NeedParents p) = Some p
+missing_parent r = None
+
+-- the same where it may be refused
+abbrev pub parent_missed : Option Refusal → Option NodeId
+parent_missed (Some r) = missing_parent r
+parent_missed None = None
+
+-- the parent that an ask wants locked first: that for want of which its lock is refused
+abbrev pub parent_wanted : State → TxnId → Ask → Option NodeId
+parent_wanted s t ask = parent_missed (refusal_of s (lock_of t ask))
+
+-- from one ask up to another: each next one is the intention on the parent that the one before wants
+abbrev pub ClimbsTo : State → TxnId → Ask → List NodeId → Ask → Type 0
+ClimbsTo s t ask [] top = top ≡ ask
+ClimbsTo s t ask (p ∷ way) top = (parent_wanted s t ask ≡ Some p) × ClimbsTo s t (p, intention ask.1) way top
+
+-- the ask that comes first on the way to another: the climb to it ends there, since it wants no parent
+pub record ComesFirst (s : State) (t : TxnId) (ask first : Ask) : Type 0 where
+  pub climb : (way : List NodeId) × ClimbsTo s t ask way first
+  pub top : parent_wanted s t first ≡ None
+
+-- one ask of a path: it comes first in the state that it finds, and is a step; refused, it changes nothing
+pub record AsksFirst (t : TxnId) (ask : Ask) (m : ManagerView) (first : Ask) (r : Says) (m' : ManagerView) : Type 0 where
+  pub comes_first : ComesFirst (state_of m) t ask first
+  pub step : Step (state_of m) (lock_of t first) r.0 r.1 (state_of m')
+  pub completes : refuses r.0 ≡ false → Completes (lock_of t first) m r m'
+  pub unchanged : refuses r.0 ≡ true → m' ≡ m
+
+-- behind an ask a path to this node goes on: it was granted above the node, and nobody is to be told
+abbrev pub goes_on : NodeId → NodeId → Says → Bool
+goes_on node asked r = grants r.0 && (length r.1 == 0) && not (same_node asked node)
+
+-- a path with so many asks behind which it goes on, and its last one
+abbrev pub IsPath : ℕ → TxnId → Ask → ManagerView → Ask → Says → ManagerView → Type 0
+IsPath zero t ask m last r m' = AsksFirst t ask m last r m' × (goes_on ask.0 last.0 r ≡ false)
+IsPath (suc k) t ask m last r m' =
+    (first : Ask) × (granted : Says) × (mid : ManagerView) × AsksFirst t ask m first granted mid × (goes_on ask.0 first.0 granted ≡ true) × IsPath k t ask mid last r m'
+
+-- what the last ask of a path came to, and who is told
+abbrev pub reaching : Told → Reached → Says
+reaching told x = asking told x.locked
+
+-- a call that makes the first ask of a path
+abbrev pub AsksOnce : TxnId → Ask → ManagerView → Told → Result Reached Refusal → ManagerView → Type 0
+AsksOnce t ask m told result m' = (first : Ask) × AsksFirst t ask m first (said (reaching told) result) m' × IfOk result (λ x. x.node ≡ first.0)
+
+-- a call that asks along a path, to its end
+abbrev pub LocksPath : TxnId → Ask → ManagerView → Told → Result Reached Refusal → ManagerView → Type 0
+LocksPath t ask m told result m' = (k : ℕ) × (last : Ask) × IsPath k t ask m last (said (reaching told) result) m' × IfOk result (λ x. x.node ≡ last.0)
+
+-- the tests of a lock that speak of no parents
+abbrev pub path_tests : State → TxnId → NodeId → Mode → List (Option Refusal)
+path_tests s t n m = worn s ∷ active_on s t (n ∷ []) ++ bad_mode s n m ∷ []
