@@ -1,5 +1,5 @@
 -- Climbs to the ask that comes first: each goes from a node to a parent of it, so that it has fewer steps than the graph has nodes. For Manager.lock_first.
-use Rattle.std.specs.Prelude.{◌≡◌, ℕ, ◌<◌, Bool, true, false, not, ◌&&◌, ◌||◌, List, [], ◌∷◌, ◌++◌, length, Option, Some, None, is_some, if◌then◌else◌}
+use Rattle.std.specs.Prelude.{◌≡◌, Bool, true, false, ◌||◌, List, [], ◌∷◌, ◌++◌, length, Option, Some, None, is_some, if◌then◌else◌}
 use Rattle.std.specs.List.{AllByRecursion, list_any}
 use Rattle.std.proofs.Common.{refl, sym, ap, ◌∙◌, arith}
 use Rattle.gl_modes.proofs.NodeLemmas.{same_node-from_equal}
@@ -11,7 +11,7 @@ use Rattle.gl_modes.specs.declared.refusal.Refusal.{Refusal}
 use Rattle.gl_modes.specs.declared.refusal.Refusal.TheVariants as no
 use Rattle.gl_modes.specs.Modes.{is_at_least}
 use Rattle.gl_modes.specs.Nodes.{same_node}
-use Rattle.gl_graph.specs.Graph.{Graph, Node, is_live, node_at, node_count, parents_in, parents_of}
+use Rattle.gl_graph.specs.Graph.{Node, is_live, node_at, node_count, parents_in, parents_of}
 use Rattle.gl_graph.specs.Lawful.{IsLawfulGraph}
 use Rattle.gl_graph.specs.Refusals.{first_refusal, where_true}
 use Rattle.gl_graph.specs.Routes.{IsRoute}
@@ -104,10 +104,12 @@ module _ (s : State) (t : TxnId) where
     where
       rule : Option Refusal
       rule = need_parents s t.slot ask.0 (wanted s t.slot ask.0 ask.1)
+
       refused : (q : Refusal) → first_refusal (path_tests s t ask.0 ask.1) ≡ Some q → ⊥
       refused q e =
           let is = first_stays (path_tests s t ask.0 ask.1) (rule ∷ []) q e in
           none_some (sym (plain_tests s t ask.0 ask.1).0 ∙ ap parent_missed (e ∙ sym is) ∙ h)
+
       free : first_refusal (path_tests s t ask.0 ask.1) ≡ None → list_any (same_node p) (parents_of s.graph ask.0) ≡ true
       free e =
           let is : first_refusal (path_tests s t ask.0 ask.1 ++ rule ∷ []) ≡ rule = first_after (path_tests s t ask.0 ask.1) (rule ∷ []) e ∙ alone rule in

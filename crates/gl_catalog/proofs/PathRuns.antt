@@ -1,7 +1,7 @@
 -- Paths put together from their asks, and what their tests decide. For Manager.lock_path_telling.
-use Rattle.std.specs.Prelude.{◌≡◌, ◌⊎◌, ℕ, zero, suc, Bool, true, false, ◌&&◌, ◌||◌, ◌==◌, List, [], ◌∷◌, ◌++◌, length, Option, Some, None, is_none, Result, Ok, Err, not}
+use Rattle.std.specs.Prelude.{◌≡◌, ℕ, zero, suc, Bool, true, false, ◌&&◌, ◌||◌, ◌==◌, [], ◌∷◌, length, Some, None, is_none, Result, Ok, Err}
 use Rattle.std.proofs.Common.{refl, sym, ap, ◌∙◌, inl, inr, subst, arith}
-use Rattle.gl_modes.proofs.Words.{and_both, no as never, none_some, same_number}
+use Rattle.gl_modes.proofs.Words.{and_both, no as never, same_number}
 use Rattle.gl_modes.specs.declared.node.NodeId.{NodeId}
 use Rattle.gl_modes.specs.declared.refusal.Refusal.{Refusal}
 use Rattle.gl_graph.specs.Refusals.{first_refusal}
@@ -72,6 +72,7 @@ module _ (t : TxnId) (ask : Ask) (m : ManagerView) (q : Refusal) (found : first_
     where
       plain : is_cycle (Some q) ≡ false
       plain = ap is_cycle (sym found) ∙ (plain_tests s t ask.0 ask.1).1
+
       and_false : (b : Bool) → (b && false) ≡ false
       and_false true = refl
       and_false false = refl

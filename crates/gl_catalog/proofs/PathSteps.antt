@@ -1,7 +1,7 @@
 -- What a lock was answered says which parent it wanted. For Manager.lock_first and Manager.lock_path_telling.
-use Rattle.std.specs.Prelude.{◌≡◌, ◌⊎◌, ℕ, ◌+◌, Bool, true, false, ◌&&◌, ◌||◌, List, [], ◌∷◌, ◌++◌, length, Option, Some, None, is_none, Result, Ok, Err}
+use Rattle.std.specs.Prelude.{◌≡◌, ℕ, ◌+◌, true, false, ◌||◌, List, [], ◌∷◌, ◌++◌, length, Option, Some, None, is_none, Ok, Err}
 use Rattle.std.proofs.Common.{refl, sym, ap, ◌∙◌, inl, inr, subst}
-use Rattle.gl_modes.proofs.Words.{and_both, cases_of, no as never, none_some, some_is}
+use Rattle.gl_modes.proofs.Words.{and_both, cases_of, no as never, none_some}
 use Rattle.gl_modes.specs.declared.mode.Mode.{Mode}
 use Rattle.gl_modes.specs.declared.node.NodeId.{NodeId}
 use Rattle.gl_modes.specs.declared.refusal.Refusal.{Refusal}
@@ -11,7 +11,6 @@ use Rattle.gl_table.specs.declared.answers.Locked.TheVariants as locked
 use Rattle.gl_table.specs.declared.txn.TxnId.{TxnId}
 use Rattle.gl_table.specs.model.State.{State}
 use Rattle.gl_table.specs.model.Tellings.{Told}
-use Rattle.gl_catalog.specs.declared.command.Answer.{Answer}
 use Rattle.gl_catalog.specs.declared.command.Answer.TheVariants as answer
 use Rattle.gl_catalog.specs.Completes.{Completes}
 use Rattle.gl_catalog.specs.Counters.{refuses}

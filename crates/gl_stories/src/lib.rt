@@ -11,6 +11,8 @@ mod deadlocks;
 #[cfg(test)]
 mod limits;
 #[cfg(test)]
+mod paths;
+#[cfg(test)]
 mod story;
 #[cfg(test)]
 mod waits;

@@ -22,7 +22,7 @@ returns-in-None-clause-asks c =
     let now = c.up.invariant in
     let none : missing_parent c.in-Err.refusal ≡ None = search rules in
     let wanted = wants c.args.self.now c.up.self c.lock_telling.new.self now.same c.args.t (c.args.node, c.args.mode) now.climb.0 c.up.asked c.up.wanted
-        now.climb.1 c.lock_telling.new.told.items c.in-Err.refusal c.in-Err.ensures.step in
+    now.climb.1 c.lock_telling.new.told.items c.in-Err.refusal c.in-Err.ensures.step in
     asked_err c.args.self.now c.up.self c.lock_telling.new.self now.same c.args.t (c.args.node, c.args.mode) now.climb.0 c.up.asked c.up.wanted now.climb.1
     c.lock_telling.new.told.items c.in-Err.refusal c.in-Err.ensures.step c.in-Err.ensures.err (wanted ∙ none) c.lock_telling.new.told.items
 
@@ -31,7 +31,7 @@ up-preserved c =
     let now = c.up.invariant in
     let some : missing_parent c.in-Err.refusal ≡ Some c.in-Some.parent = search rules in
     let wanted = wants c.args.self.now c.up.self c.lock_telling.new.self now.same c.args.t (c.args.node, c.args.mode) now.climb.0 c.up.asked c.up.wanted
-        now.climb.1 c.lock_telling.new.told.items c.in-Err.refusal c.in-Err.ensures.step in
+    now.climb.1 c.lock_telling.new.told.items c.in-Err.refusal c.in-Err.ensures.step in
     record {
       same = c.in-Err.ensures.err ∙ now.same;
       empty = ap (λ x. x.items) c.in-Err.ensures.untold ∙ now.empty;
@@ -46,7 +46,7 @@ returns-in_err-locked-clause-asks c =
     let is : c.from_residual.result ≡ Err c.in_err-locked.field-0.0 = search rules in
     let full : c.up._step ≡ c.len-step-end.result = omega arith in
     let ended = climb_ends (state_of c.args.self.now) c.args.t c.law.ensures.lawful.graph (c.args.node, c.args.mode) now.climb.0 (c.up.asked, c.up.wanted)
-        now.climb.1 (now.climb.2 ∙ full ∙ c.len-step-end.ensures.count ∙ ap (λ g. node_count (graph_of g)) c.graph.ensures) in
+    now.climb.1 (now.climb.2 ∙ full ∙ c.len-step-end.ensures.count ∙ ap (λ g. node_count (graph_of g)) c.graph.ensures) in
     subst (λ (r : Result Reached Refusal). AsksOnce c.args.t (c.args.node, c.args.mode) c.args.self.now c.lock_telling-2.new.told.items r
     c.lock_telling-2.new.self) (sym is)
     (asked_err c.args.self.now c.up.self c.lock_telling-2.new.self now.same c.args.t (c.args.node, c.args.mode) now.climb.0 c.up.asked c.up.wanted now.climb.1
