@@ -60,3 +60,4 @@ pub mod Wanting
 pub mod Climbing
 pub mod PathSteps
 pub mod PathRuns
+pub mod PathOthers

@@ -8,7 +8,7 @@ use Rattle.gl_modes.specs.declared.refusal.Refusal.TheVariants as no
 use Rattle.gl_modes.specs.Nodes.{same_node}
 use Rattle.gl_table.specs.declared.txn.TxnId.{TxnId}
 use Rattle.gl_table.specs.model.Calls.{active_on, bad_mode}
-use Rattle.gl_table.specs.model.State.{State, is_write}
+use Rattle.gl_table.specs.model.State.{State, is_write, lives}
 use Rattle.gl_table.specs.model.Tellings.{Told}
 use Rattle.gl_catalog.specs.declared.command.Command.{Command}
 use Rattle.gl_catalog.specs.declared.command.Command.TheVariants as command
@@ -16,6 +16,7 @@ use Rattle.gl_catalog.specs.declared.manager.paths.Reached.{Reached}
 use Rattle.gl_catalog.specs.Completes.{Completes}
 use Rattle.gl_catalog.specs.Counters.{grants, refuses}
 use Rattle.gl_catalog.specs.Manager.{ManagerView, state_of}
+use Rattle.gl_catalog.specs.Promises.{Leaves, same_txn}
 use Rattle.gl_catalog.specs.Replies.{Says, asking, said}
 use Rattle.gl_catalog.specs.Step.{Step}
 use Rattle.gl_catalog.specs.Tests.{refusal_of, worn}
@@ -84,6 +85,10 @@ AsksOnce t ask m told result m' = (first : Ask) × AsksFirst t ask m first (said
 -- a call that asks along a path, to its end
 abbrev pub LocksPath : TxnId → Ask → ManagerView → Told → Result Reached Refusal → ManagerView → Type 0
 LocksPath t ask m told result m' = (k : ℕ) × (last : Ask) × IsPath k t ask m last (said (reaching told) result) m' × IfOk result (λ x. x.node ≡ last.0)
+
+-- what a path with this last reply leaves to all living transactions but its own
+abbrev pub LeavesAllBut : TxnId → State → Says → State → Type 0
+LeavesAllBut t s r s' = (u : TxnId) → lives s u ≡ true → same_txn u t ≡ false → Leaves s s' (r ∷ []) u
 
 -- the tests of a lock that speak of no parents
 abbrev pub path_tests : State → TxnId → NodeId → Mode → List (Option Refusal)

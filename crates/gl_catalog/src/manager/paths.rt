@@ -4,7 +4,8 @@ ghost use Rattle.std.specs.Prelude.{◌≡◌, [], Err, IfErr, None, OnErr, Some
 ghost use Rattle.gl_modes.specs.declared.refusal.Refusal.{Refusal as ARefusal};
 ghost use Rattle.gl_graph.specs.Refusals.{first_refusal};
 ghost use Rattle.gl_catalog.specs.Manager.{state_of};
-ghost use Rattle.gl_catalog.specs.Paths.{AsksOnce, LocksPath, goes_on, intention, missing_parent, path_tests, reaching};
+ghost use Rattle.gl_catalog.specs.Replies.{said};
+ghost use Rattle.gl_catalog.specs.Paths.{AsksOnce, LeavesAllBut, LocksPath, goes_on, intention, missing_parent, path_tests, reaching};
 
 use super::Manager;
 use gl_modes::{Mode, NodeId, Refusal, covers};
@@ -29,6 +30,10 @@ impl Manager {
     /// says which; after the grant the caller asks again for the rest of the path. What was locked
     /// stays locked.
     ///
+    /// To another living transaction its effective mode on each record is left, or raised where the
+    /// list tells it of a grant; and where it reads a node, the records below that node are left, with
+    /// their keys. Each ask does to the counters and to the last deadlock what its lock does.
+    ///
     /// Refused, in this order, with `WornOut`, `NoSuchTxn`, `TxnWaiting`, `TxnCondemned`,
     /// `NoSuchNode` and `BadMode` before anything is locked; with `WornOut` and `NoMemory` also on
     /// the way. For each ask it climbs from the node to what comes first. It may want memory for
@@ -43,9 +48,11 @@ impl Manager {
         requires empty { told.old.items ≡ [] }
         ensures path { LocksPath t (node, mode) self.old told.new.items result self.new }
         ensures tests { (r : ARefusal) → first_refusal (path_tests (state_of self.old) t node mode) ≡ Some r → (result ≡ Err r) × (self.new ≡ self.old) }
+        ensures others { LeavesAllBut t (state_of self.old) (said (reaching told.new.items) result) (state_of self.new) }
         ensures rule { IfErr result (λ refusal. missing_parent refusal ≡ None) }
         ensures untold { OnErr result (told.new.items ≡ []) }
     {
+        self.law();
         'path: loop {
             let reached = self.lock_first(t, node, mode, told)?;
             // Each of these is counted, so that there are not more of them than are counted.

@@ -4,6 +4,7 @@ use Rattle.gl_modes.specs.declared.refusal.Refusal.{Refusal}
 use Rattle.gl_catalog.specs.declared.manager.paths.Reached.{Reached}
 use Rattle.gl_catalog.specs.Paths.{LocksPath, missing_parent}
 use Rattle.gl_catalog.proofs.PathSteps.{none_missing}
+use Rattle.gl_catalog.proofs.PathOthers.{path_leaves}
 use Rattle.gl_catalog.proofs.PathRuns.{decided, ends, ends_refused, one_on, told_nobody}
 use Rattle.gl_catalog.proofs.manager.Manager.lock_path_telling.Goals as goal
 
@@ -18,6 +19,11 @@ returns-in_err-reached-clause-path c =
 pub returns-in_err-reached-clause-tests : goal.returns-in_err-reached-clause-tests
 returns-in_err-reached-clause-tests c = λ q found. decided c.args.t (c.args.node, c.args.mode) c.args.self.now q found c.lock_first.new.told.items
     c.from_residual.result c.lock_first.new.self (returns-in_err-reached-clause-path c)
+
+pub returns-in_err-reached-clause-others : goal.returns-in_err-reached-clause-others
+returns-in_err-reached-clause-others c =
+    let path = returns-in_err-reached-clause-path c in
+    path_leaves path.0 c.args.t (c.args.node, c.args.mode) path.1 c.args.self.now _ c.lock_first.new.self c.law.ensures.lawful path.2
 
 pub returns-in_err-reached-clause-rule : goal.returns-in_err-reached-clause-rule
 returns-in_err-reached-clause-rule c =
@@ -34,6 +40,11 @@ returns-then-not-leads_on-clause-path c =
 pub returns-then-not-leads_on-clause-tests : goal.returns-then-not-leads_on-clause-tests
 returns-then-not-leads_on-clause-tests c = λ q found. decided c.args.t (c.args.node, c.args.mode) c.args.self.now q found c.lock_first.new.told.items
     _ c.lock_first.new.self (returns-then-not-leads_on-clause-path c)
+
+pub returns-then-not-leads_on-clause-others : goal.returns-then-not-leads_on-clause-others
+returns-then-not-leads_on-clause-others c =
+    let path = returns-then-not-leads_on-clause-path c in
+    path_leaves path.0 c.args.t (c.args.node, c.args.mode) path.1 c.args.self.now _ c.lock_first.new.self c.law.ensures.lawful path.2
 
 pub path-preserved : goal.path-preserved
 path-preserved c =
