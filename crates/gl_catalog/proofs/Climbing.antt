@@ -132,7 +132,8 @@ module _ (s : State) (t : TxnId) where
       by None h' = absurd (never h')
       by (Some x) h' = refl
 
-  starts_live : (ask : Ask) (way : List NodeId) (top : Ask) (p : NodeId) → ClimbsTo s t ask way top → parent_wanted s t top ≡ Some p → is_live s.graph ask.0 ≡ true
+  starts_live : (ask : Ask) (way : List NodeId) (top : Ask) (p : NodeId) → ClimbsTo s t ask way top → parent_wanted s t top ≡ Some p
+      → is_live s.graph ask.0 ≡ true
   starts_live ask [] top p h w = child_lives ask p (ap (parent_wanted s t) (sym h) ∙ w)
   starts_live ask (q ∷ way) top p h w = child_lives ask q h.0
 
@@ -142,7 +143,8 @@ module _ (s : State) (t : TxnId) where
   stays_at ask (p ∷ way) top h none = absurd (none_some (sym none ∙ h.0))
 
   -- after as many steps as there are nodes no parent is wanted
-  pub climb_ends : IsLawfulGraph s.graph → (ask : Ask) (way : List NodeId) (top : Ask) → ClimbsTo s t ask way top → length way ≡ node_count s.graph → parent_wanted s t top ≡ None
+  pub climb_ends : IsLawfulGraph s.graph → (ask : Ask) (way : List NodeId) (top : Ask) → ClimbsTo s t ask way top → length way ≡ node_count s.graph
+      → parent_wanted s t top ≡ None
   climb_ends law ask way top h e =
       cases_of (parent_wanted s t top) (λ none. none)
       (λ p w. let short = route_short s.graph law ask.0 top.0 way (starts_live ask way top p h w) (climb_route ask way top h) in absurd (omega arith))

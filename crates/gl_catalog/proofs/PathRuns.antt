@@ -31,7 +31,8 @@ pub at_once : (t : TxnId) (ask : Ask) (m : ManagerView) → LeadsTo t ask m m
 at_once t ask m k last r m' path = (k, path)
 
 -- it goes on behind a grant that told nobody
-pub one_on : (t : TxnId) (ask : Ask) (m₀ m m' : ManagerView) (told : Told) (x : Reached) → LeadsTo t ask m₀ m → AsksOnce t ask m told (Ok x) m' → goes_on ask.0 x.node (reaching told x) ≡ true → LeadsTo t ask m₀ m'
+pub one_on : (t : TxnId) (ask : Ask) (m₀ m m' : ManagerView) (told : Told) (x : Reached) → LeadsTo t ask m₀ m → AsksOnce t ask m told (Ok x) m'
+    → goes_on ask.0 x.node (reaching told x) ≡ true → LeadsTo t ask m₀ m'
 one_on t ask m₀ m m' told x leads once on k last r m'' path =
     leads (suc k) last r m'' (once.0, reaching told x, m', once.1, ap (λ n. goes_on ask.0 n (reaching told x)) (sym once.2) ∙ on, path)
 
@@ -44,13 +45,15 @@ told_nobody node asked r h = none r.1 (and_both (grants r.0) _ (and_both _ _ h).
     none (x ∷ told) e = let z : length (x ∷ told) ≡ 0 = same_number _ _ e in absurd (omega (arith, z))
 
 -- it ends with an ask behind which it does not go on
-pub ends : (t : TxnId) (ask : Ask) (m₀ m m' : ManagerView) (told : Told) (x : Reached) → LeadsTo t ask m₀ m → AsksOnce t ask m told (Ok x) m' → goes_on ask.0 x.node (reaching told x) ≡ false → LocksPath t ask m₀ told (Ok x) m'
+pub ends : (t : TxnId) (ask : Ask) (m₀ m m' : ManagerView) (told : Told) (x : Reached) → LeadsTo t ask m₀ m → AsksOnce t ask m told (Ok x) m'
+    → goes_on ask.0 x.node (reaching told x) ≡ false → LocksPath t ask m₀ told (Ok x) m'
 ends t ask m₀ m m' told x leads once off =
     let whole = leads zero once.0 (reaching told x) m' (once.1, ap (λ n. goes_on ask.0 n (reaching told x)) (sym once.2) ∙ off) in
     (whole.0, once.0, whole.1, once.2)
 
 -- or is refused
-pub ends_refused : (t : TxnId) (ask : Ask) (m₀ m m' : ManagerView) (told : Told) (r : Refusal) → LeadsTo t ask m₀ m → AsksOnce t ask m told (Err r) m' → LocksPath t ask m₀ told (Err r) m'
+pub ends_refused : (t : TxnId) (ask : Ask) (m₀ m m' : ManagerView) (told : Told) (r : Refusal) → LeadsTo t ask m₀ m → AsksOnce t ask m told (Err r) m'
+    → LocksPath t ask m₀ told (Err r) m'
 ends_refused t ask m₀ m m' told r leads once =
     let whole = leads zero once.0 (answer.Refused r, []) m' (once.1, refl) in
     (whole.0, once.0, whole.1, tt)
@@ -68,7 +71,8 @@ module _ (t : TxnId) (ask : Ask) (m : ManagerView) (q : Refusal) (found : first_
 
   no_memory : may_want_memory s (lock_of t ask) ≡ false
   no_memory =
-      ap (λ o. lists_memory s (lock_of t ask) && (is_none o || is_cycle o)) refused_so ∙ ap (λ b. lists_memory s (lock_of t ask) && b) plain ∙ and_false (lists_memory s (lock_of t ask))
+      ap (λ o. lists_memory s (lock_of t ask) && (is_none o || is_cycle o)) refused_so
+      ∙ ap (λ b. lists_memory s (lock_of t ask) && b) plain ∙ and_false (lists_memory s (lock_of t ask))
     where
       plain : is_cycle (Some q) ≡ false
       plain = ap is_cycle (sym found) ∙ (plain_tests s t ask.0 ask.1).1

@@ -63,7 +63,8 @@ module _ (s s' : State) (t : TxnId) (ask : Ask) (told : Told) where
   locked_wants x (inr memory) = absurd (not_refused x no.NoMemory memory.1.answer_is)
 
 -- the first ask of a path, as lock_first makes it from a climb to one ask
-module _ (m₀ m m' : ManagerView) (same : m ≡ m₀) (t : TxnId) (ask : Ask) (way : List NodeId) (asked : NodeId) (mode : Mode) (climb : ClimbsTo (state_of m₀) t ask way (asked, mode)) (told : Told) where
+module _ (m₀ m m' : ManagerView) (same : m ≡ m₀) (t : TxnId) (ask : Ask) (way : List NodeId) (asked : NodeId) (mode : Mode)
+    (climb : ClimbsTo (state_of m₀) t ask way (asked, mode)) (told : Told) where
   abbrev top : Ask
   top = (asked, mode)
 
@@ -109,7 +110,8 @@ module _ (m₀ m m' : ManagerView) (same : m ≡ m₀) (t : TxnId) (ask : Ask) (
 abbrev pub ClimbsIn : State → TxnId → Ask → ℕ → Ask → Type 0
 ClimbsIn s t ask k top = (way : List NodeId) × ClimbsTo s t ask way top × (length way ≡ k)
 
-pub one_up : (s : State) (t : TxnId) (ask : Ask) (k : ℕ) (top : Ask) (p : NodeId) → ClimbsIn s t ask k top → parent_wanted s t top ≡ Some p → ClimbsIn s t ask (k + 1) (p, intention top.1)
+pub one_up : (s : State) (t : TxnId) (ask : Ask) (k : ℕ) (top : Ask) (p : NodeId) → ClimbsIn s t ask k top → parent_wanted s t top ≡ Some p
+    → ClimbsIn s t ask (k + 1) (p, intention top.1)
 one_up s t ask k top p h w = (h.0 ++ p ∷ [], climb_on s t ask h.0 top p h.1 w, length-more h.0 p ∙ ap (λ n. n + 1) h.2)
 
 -- a call that makes the first ask is refused for want of no parent

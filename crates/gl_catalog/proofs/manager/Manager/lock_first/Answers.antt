@@ -37,7 +37,8 @@ up-preserved c =
       empty = ap (λ x. x.items) c.in-Err.ensures.untold ∙ now.empty;
       climb = subst (λ (w : Mode). ClimbsIn (state_of c.args.self.now) c.args.t (c.args.node, c.args.mode) (c.up._step + 1) (c.in-Some.parent, w))
           (sym c.intention-wanted.ensures)
-          (one_up (state_of c.args.self.now) c.args.t (c.args.node, c.args.mode) c.up._step (c.up.asked, c.up.wanted) c.in-Some.parent now.climb (wanted ∙ some));
+          (one_up (state_of c.args.self.now) c.args.t (c.args.node, c.args.mode) c.up._step (c.up.asked, c.up.wanted) c.in-Some.parent
+          now.climb (wanted ∙ some));
     }
 
 pub returns-in_err-locked-clause-asks : goal.returns-in_err-locked-clause-asks
