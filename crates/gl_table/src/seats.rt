@@ -1,8 +1,9 @@
 //! The seats of all transactions, by slot.
 
 ghost use Rattle.std.specs.Prelude.{◌≡◌, ◌<◌, ◌≤◌, ◌==◌, ℕ, IfOk, None, Some, if◌then◌else◌, length, position, replicate, slice_set};
-ghost use Rattle.gl_table.specs.model.State.{age_in, restatus};
-ghost use Rattle.gl_table.specs.inside.Seats.{is_free, txn_in, txns_of};
+ghost use Rattle.gl_slots.specs.Slots.{has_slot};
+ghost use Rattle.gl_table.specs.model.State.{age_in, is_wait, restatus};
+ghost use Rattle.gl_table.specs.inside.Seats.{is_free, txn_in, txns_of, waits_at};
 
 use crate::seat::Seat;
 use crate::txn::Status;
@@ -10,12 +11,13 @@ use gl_slots::Slots;
 use std::alloc::{AllocError, Global};
 use std::marker::Model;
 
-/// The transaction in each slot, and the set of the free slots: so the lowest free one is found by no
-/// search, however many transactions live.
+/// The transaction in each slot, the set of the free slots, and that of those who wait: so neither the
+/// lowest free one nor who waits is found by a search, however many transactions live.
 #[derive(Drop)]
 pub(crate) struct Seats {
     list: Vec<Option<Seat>>,
     free: Slots,
+    waiting: Slots,
 }
 
 impl Model for Seats {
@@ -42,7 +44,11 @@ impl Seats {
             list.push(None)?;
             free.insert(slot as u8);
         }
-        Ok(Seats { list, free })
+        Ok(Seats {
+            list,
+            free,
+            waiting: Slots::empty(),
+        })
     }
 
     /// The transaction in a slot.
@@ -70,6 +76,13 @@ impl Seats {
         self.free.lowest()
     }
 
+    /// The slots of those who wait.
+    pub(crate) fn waiting(&self) -> Slots
+        ensures { (u : ℕ) → has_slot result u ≡ waits_at self.now.items u }
+    {
+        self.waiting
+    }
+
     /// Seats a transaction.
     pub(crate) fn take(&mut self, slot: u8, seat: Seat)
         requires { slot < length self.old.items }
@@ -77,6 +90,7 @@ impl Seats {
     {
         self.list[slot as usize] = Some(seat);
         self.free.remove(slot);
+        note(&mut self.waiting, slot, seat.status);
     }
 
     /// Frees a slot.
@@ -86,6 +100,7 @@ impl Seats {
     {
         self.list[slot as usize] = None;
         self.free.insert(slot);
+        self.waiting.remove(slot);
     }
 
     /// Writes what the transaction in a slot is doing. Answers its age, 0 for a free slot.
@@ -100,9 +115,21 @@ impl Seats {
         match seat {
             Some(seat) => {
                 seat.status = status;
+                note(&mut self.waiting, slot, status);
                 seat.age
             }
             None => 0,
         }
+    }
+}
+
+/// Puts a slot into the set of those who wait, or takes it out, by what its transaction is doing.
+fn note(waiting: &mut Slots, slot: u8, status: Status)
+    requires { slot < 128 }
+    ensures { (u : ℕ) → has_slot waiting.new u ≡ (if u == slot then is_wait (Some status) else has_slot waiting.old u) }
+{
+    match status {
+        Status::Waiting { .. } => waiting.insert(slot),
+        _ => waiting.remove(slot),
     }
 }

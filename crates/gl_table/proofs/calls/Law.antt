@@ -13,6 +13,7 @@ use Rattle.std.specs.Prelude.{◌^◌}
 use Rattle.gl_table.specs.model.State.{with_limits}
 use Rattle.gl_table.specs.declared.table.Table.TheInside.{Inside}
 use Rattle.gl_modes.specs.declared.refusal.Refusal.TheVariants as no
+use Rattle.gl_table.proofs.inside.Seats.{txns-set}
 use Rattle.gl_table.proofs.law.Keeps.{waiting_is}
 use Rattle.gl_table.proofs.law.Lock.{begun-no_cycle, empty-no_cycle}
 use Rattle.gl_table.proofs.law.Records.{born-children, grown-lawful, Grows}
@@ -223,11 +224,6 @@ begin-refusal first o left is =
     last true = refl
     last false = refl
 
--- one seat is written
-txns_of-set : (xs : List (Option Seat)) (i : ℕ) (x : Option Seat) → i < length xs → (t : ℕ)
-    → txns_of (slice_set xs i x) t ≡ (if t == i then txn_in (Some x) else txns_of xs t)
-txns_of-set xs i x h t = grind (arith, nat_tests, gets, elements)
-
 module _ (i : Inside) (sound : IsSound i) (t : ℕ) (at : Some t ≡ position is_free i.locks.seats.items)
     (seats : SeatList) (seated : seats.items ≡ slice_set i.locks.seats.items t (Some (record { age = i.begins + 1; status = Active }))) where
   abbrev begun_in : Inside
@@ -255,7 +251,7 @@ module _ (i : Inside) (sound : IsSound i) (t : ℕ) (at : Some t ≡ position is
 
   pub begun-state : state_of (view_of begun_in) ≡ begun first t
   begun-state = λ z. record (begun first t) {
-    txns = λ u. (ap (λ xs. txns_of xs u) seated ∙ txns_of-set i.locks.seats.items t (Some (record { age = i.begins + 1; status = Active })) place.0 u) z;
+    txns = λ u. (ap (λ xs. txns_of xs u) seated ∙ txns-set i.locks.seats.items t (Some (record { age = i.begins + 1; status = Active })) place.0 u) z;
     most = seats-same z;
   }
 

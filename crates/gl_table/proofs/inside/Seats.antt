@@ -1,9 +1,10 @@
--- The lowest free seat, and a slot that is freed. For seats, and for the end of a transaction.
+-- The lowest free seat, a seat that is written, and a slot that is freed. For seats, and for the end of a transaction.
 use Rattle.gl_table.proofs.Words.{[], ◌&&◌, ◌<◌, ◌==◌, ◌||◌, ◌∙◌, ◌∷◌, ◌≡◌, Agrees, and-false, ap, ap₂, arith, clash, common_steps, count_none, count_of}
 use Rattle.gl_table.proofs.Words.{CountsHeld, false, gets, if◌then◌else◌, is_among_waiters, is_child, is_free, is_free_at, is_listed, is_live, is_wait, length}
 use Rattle.gl_table.proofs.Words.{length-set, List, LockList, mode_of, nat_tests, NL, NodeId, nodes, nodes_live, None, not, number_same, Option, position}
 use Rattle.gl_table.proofs.Words.{position_or_len, refl, same_mode, same_number, Seat, slice_set, Some, split, State, status_in, subst, suc, sym, true, txns_of}
-use Rattle.gl_table.proofs.Words.{with_txn, zero, ℕ}
+use Rattle.gl_table.proofs.Words.{Bool, elements, txn_in, with_txn, zero, ℕ}
+use Rattle.gl_table.specs.inside.Seats.{waits_at}
 use Rattle.gl_table.proofs.inside.Lists.{bare-modes, IsBare}
 use Rattle.gl_table.proofs.inside.Slots.{agrees-set, counts-set, own_list}
 
@@ -33,17 +34,30 @@ all-taken (x ∷ xs) all =
 pub none-free : (xs : List (Option Seat)) → ((u : ℕ) → is_free_at xs u ≡ false) → position is_free xs ≡ None
 none-free xs all = let t = all-taken xs all in grind (arith, nat_tests, t)
 
--- A slot that holds nothing and stands in no queue is freed, and its list is emptied: the lists agree.
+-- One seat is written.
 
-txns-freed : (seats : List (Option Seat)) (t u : ℕ) → t < length seats → txns_of (slice_set seats t None) u ≡ (if u == t then None else txns_of seats u)
-txns-freed seats t u lt = grind (arith, common_steps, gets, nat_tests)
+pub txns-set : (seats : List (Option Seat)) (t : ℕ) (seat : Option Seat) → t < length seats → (u : ℕ)
+    → txns_of (slice_set seats t seat) u ≡ (if u == t then txn_in (Some seat) else txns_of seats u)
+txns-set seats t seat lt u = grind (arith, nat_tests, gets, elements)
+
+-- and who waits then
+pub waits-set : (seats : List (Option Seat)) (t : ℕ) (seat : Option Seat) → t < length seats → (u : ℕ)
+    → waits_at (slice_set seats t seat) u ≡ (if u == t then is_wait (status_in (txn_in (Some seat))) else waits_at seats u)
+waits-set seats t seat lt u = ap (λ o. is_wait (status_in o)) (txns-set seats t seat lt u) ∙ by (u == t)
+  where
+    by : (b : Bool) → is_wait (status_in (if b then txn_in (Some seat) else txns_of seats u))
+        ≡ (if b then is_wait (status_in (txn_in (Some seat))) else waits_at seats u)
+    by true = refl
+    by false = refl
+
+-- A slot that holds nothing and stands in no queue is freed, and its list is emptied: the lists agree.
 
 -- the state with the slot's seat free
 pub state-freed : (s : State) (seats seats' : List (Option Seat)) (t : ℕ) → t < length seats → seats' ≡ slice_set seats t None
     → record s { txns = txns_of seats'; most = length seats' } ≡ with_txn (record s { txns = txns_of seats; most = length seats }) t None
 state-freed s seats seats' t lt freed =
     ap {B = State} (λ (xs : List (Option Seat)). record s { txns = txns_of xs; most = length xs }) freed
-    ∙ (λ i. record s { txns = λ u. txns-freed seats t u lt i; most = length-set seats t None i })
+    ∙ (λ i. record s { txns = λ u. txns-set seats t None lt u i; most = length-set seats t None i })
 
 module _ (s : State) (t : ℕ) (free : (q : NodeId) → s.held t q ≡ NL) (out : (q : NodeId) → is_among_waiters t (s.queue q) ≡ false) (ls : List LockList)
     (new : LockList) (lt : t < length ls) (bare : IsBare new) where

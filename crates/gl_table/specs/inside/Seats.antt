@@ -2,7 +2,7 @@
 use Rattle.std.specs.Prelude.{ℕ, Bool, true, false, List, Option, Some, None, slice_get}
 use Rattle.std.specs.Option.{option_map_or}
 use Rattle.gl_table.specs.declared.seat.Seat.{Seat}
-use Rattle.gl_table.specs.model.State.{Txn}
+use Rattle.gl_table.specs.model.State.{Txn, is_wait, status_in}
 
 -- the transaction in a seat that is there and taken
 abbrev pub txn_in : Option (Option Seat) → Option Txn
@@ -17,6 +17,10 @@ txns_of seats t = txn_in (slice_get seats t)
 -- the seats by slot, as a contract sees them
 pub record SeatList : Type 0 where
   pub items : List (Option Seat)
+
+-- the transaction in the slot waits
+abbrev pub waits_at : List (Option Seat) → ℕ → Bool
+waits_at seats t = is_wait (status_in (txns_of seats t))
 
 -- nobody sits there
 abbrev pub is_free : Option Seat → Bool

@@ -7,7 +7,7 @@ ghost use Rattle.gl_header.specs.Header.{holds};
 ghost use Rattle.gl_slots.specs.Slots.{has_slot};
 ghost use Rattle.gl_table.specs.model.Calls.{RefusesOnly, group_tests, living_tests};
 ghost use Rattle.gl_table.specs.model.Table.{AreRowsOf, living_in, rows_of, state_of};
-ghost use Rattle.gl_table.specs.model.State.{lives, members, waits_for};
+ghost use Rattle.gl_table.specs.model.State.{is_wait, lives, members, status_of, waits_for};
 
 use super::Table;
 use crate::answers::LockRow;
@@ -21,6 +21,13 @@ impl Table {
         ensures { result ≡ (state_of self.now).most }
     {
         self.locks.seats.as_slice().len()
+    }
+
+    /// The slots of those who wait.
+    pub fn waiting(&self) -> Slots
+        ensures { (u : ℕ) → has_slot result u ≡ is_wait (status_of (state_of self.now) u) }
+    {
+        self.locks.seats.waiting()
     }
 
     /// The transaction in a slot, and what it is doing; `None` for a free slot.

@@ -1,8 +1,20 @@
-use Rattle.gl_table.proofs.Words.{arith, common_steps, gets, nat_tests}
+use Rattle.gl_table.proofs.Words.{◌<◌, ◌&&◌, ◌==◌, ◌∙◌, ◌≡◌, ap, arith, Bool, common_steps, false, gets, if◌then◌else◌, length, nat_tests, None, not, refl, sym, true}
+use Rattle.gl_table.proofs.inside.Seats.{waits-set}
 use Rattle.gl_table.proofs.seats.Seats.leave.Goals as goal
 
+-- without one slot
+without : (one waits : Bool) → (waits && not one) ≡ (if one then false else waits)
+without true true = refl
+without true false = refl
+without false true = refl
+without false false = refl
+
 pub invariant_of-self : goal.invariant_of-self
-invariant_of-self c = record {
-  few = grind (arith, common_steps, gets, nat_tests, c.self.invariant.few);
-  free = λ u. grind (arith, common_steps, gets, nat_tests, c.insert.ensures u, c.self.invariant.free u, c.requires);
-}
+invariant_of-self c =
+    let lt : c.args.slot < length c.self.inside.list.items = grind (arith, common_steps, c.requires, c.self.view_is) in
+    record {
+      few = grind (arith, common_steps, gets, nat_tests, c.self.invariant.few);
+      free = λ u. grind (arith, common_steps, gets, nat_tests, c.insert.ensures u, c.self.invariant.free u, c.requires);
+      waiting = λ u. c.remove.ensures u ∙ ap (λ b. b && not (u == c.args.slot)) (c.self.invariant.waiting u)
+          ∙ without (u == c.args.slot) _ ∙ sym (waits-set c.self.inside.list.items c.args.slot None lt u);
+    }
