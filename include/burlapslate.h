@@ -94,6 +94,7 @@ enum bs_statuses {
   BS_MOVED = 34,          /* the node moved, and the wait is over */
   BS_GONE = 35,           /* the node is gone, and the wait is over */
   BS_TIMED_OUT = 36,      /* not answered here: the lock was not granted in time, and the wait was taken back */
+  BS_ON_THE_WAY = 37,     /* a path is locked as far as `node`, and others are told: it is asked for again */
   BS_NULL_POINTER = 64,   /* a pointer is null */
   BS_NO_MANAGER = 65,     /* no manager was made at this place, or it was ended */
   BS_BAD_NUMBER = 66,     /* a number names no mode or way of detection, or a count is out of range */
@@ -250,6 +251,7 @@ bs_reply bs_call_add_index(bs_manager *manager, const bs_node *parents, size_t c
                            const uint64_t *bounds, size_t bound_count);
 bs_reply bs_call_begin(bs_manager *manager);
 bs_reply bs_call_lock(bs_manager *manager, bs_txn txn, bs_node node, bs_mode mode, bs_notices *told);
+bs_reply bs_call_lock_path(bs_manager *manager, bs_txn txn, bs_node node, bs_mode mode, bs_notices *told);
 bs_reply bs_call_try(bs_manager *manager, bs_txn txn, bs_node node, bs_mode mode);
 bs_reply bs_call_unlock(bs_manager *manager, bs_txn txn, bs_node node, bs_notices *told);
 bs_reply bs_call_escalate(bs_manager *manager, bs_txn txn, bs_node node, bs_notices *told);
@@ -441,6 +443,19 @@ static inline bs_reply bs_begin(bs_manager *manager) {
  * and one for each parent; where it waits with detection at block a search along the waits too. */
 static inline bs_reply bs_lock(bs_manager *manager, bs_txn txn, bs_node node, bs_mode mode, bs_notices *told) {
   return bs_lacks(manager, told) ? bs_null() : bs_call_lock(manager, txn, node, mode, told);
+}
+
+/* Locks a node with what has to be held above it: intentions, root first, on all parents to write, and to read on
+ * the first, where none is held already; then the node in its mode. Each is a lock as bs_lock asks for it, and a
+ * command. What is held already is not asked for. It ends at the first lock that waits or whose asker falls; what was
+ * locked before that stays locked. BS_DONE: `mode` is the mode in which the node is held. BS_WAITING and BS_VICTIM:
+ * `node` is the one for which it waits or fell, which is the node itself or one above it; once that is granted the
+ * call is made again. BS_ON_THE_WAY: `node`, one above, was granted by the fall of others; make the call again, when
+ * all in `told` have heard. Refused as bs_lock, but never with BS_NEED_PARENTS: nothing was locked then, but that
+ * BS_NO_MEMORY and BS_WORN_OUT may come behind some of the locks. Costs its locks, and a look at each node above for
+ * each of them. */
+static inline bs_reply bs_lock_path(bs_manager *manager, bs_txn txn, bs_node node, bs_mode mode, bs_notices *told) {
+  return bs_lacks(manager, told) ? bs_null() : bs_call_lock_path(manager, txn, node, mode, told);
 }
 
 /* As bs_lock, but where the lock cannot be granted at once it is refused with BS_WOULD_BLOCK, after the
@@ -855,6 +870,7 @@ static inline const char *bs_text(bs_status status) {
     case BS_MOVED: return "Moved";
     case BS_GONE: return "Gone";
     case BS_TIMED_OUT: return "TimedOut";
+    case BS_ON_THE_WAY: return "OnTheWay";
     case BS_NULL_POINTER: return "NullPointer";
     case BS_NO_MANAGER: return "NoManager";
     case BS_BAD_NUMBER: return "BadNumber";

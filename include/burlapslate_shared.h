@@ -122,7 +122,7 @@ static inline void bs_table_wake_half(bs_table_inside *in, uint64_t half, size_t
  * watches is woken too. Who that is says bs_ended: it is not asked where there is nobody, since the command was
  * refused, or told nobody and is none that ends a wait by name, as a cancel and an abort are. */
 static inline void bs_table_wake(bs_table_inside *in, bs_status status, const bs_notices *told, bool by_name) {
-  bool is_accepted = status == BS_DONE || status == BS_WAITING || status == BS_VICTIM;
+  bool is_accepted = status == BS_DONE || status == BS_WAITING || status == BS_VICTIM || status == BS_ON_THE_WAY;
   if (is_accepted && (by_name || told->count > 0)) {
     bs_slots ended = bs_ended(&in->manager).slots;
     bs_table_wake_half(in, ended.low, 0);
@@ -397,43 +397,37 @@ static inline bs_reply bs_table_escalate(bs_table *table, bs_txn txn, bs_node no
   BS_TABLE_TELL(table, told, false, bs_escalate(&in->manager, txn, node, list));
 }
 
-/* How many nodes bs_table_lock_path keeps in mind on its way up; of a longer way it asks for some nodes again. */
-enum { BS_PATH_KEPT = 16 };
-
-/* The next step of bs_table_lock_path, once a lock was answered: whether there is one. `way` has the nodes that are
- * still to be locked, the lowest first. */
-static inline bool bs_path_goes_on(const bs_reply *reply, bs_node *way, size_t *count) {
-  switch (reply->status) {
-    case BS_NEED_PARENTS: /* What is above comes first. Of too many the upper ones are forgotten. */
-      if (*count == BS_PATH_KEPT) *count = 1;
-      way[(*count)++] = reply->node;
-      return true;
-    case BS_DONE: return --*count > 0;
-    case BS_MOVED: return true; /* It is asked for again, and names its new parents. */
-    default: return false;
-  }
+static inline bool bs_is_same_node(bs_node one, bs_node other) {
+  return one.key == other.key && one.birth == other.birth;
 }
 
-/* Locks a node with what has to be held above it: intentions, root first, on all parents to write, and to read on a
- * parent that is held already, or else on the first; then the node in its mode. Each is waited for in its turn, to
+/* Makes the call bs_lock_path with the latch held, and sleeps where that waits. */
+static inline bs_reply bs_table_path_inside(bs_table *table, bs_txn txn, bs_node node, bs_mode mode,
+                                            const struct timespec *until) {
+  bs_table_inside *in = table->in;
+  bs_reply reply = bs_lock_path(&in->manager, txn, node, mode, &in->told);
+  bs_node at = reply.node;
+  bs_table_wake(in, reply.status, &in->told, false);
+  if (reply.status != BS_WAITING) return reply;
+  reply = bs_table_sleep(table, txn, at, bs_waiting(&in->manager, txn).mode, until);
+  if (reply.status == BS_MOVED || (reply.status == BS_DONE && !bs_is_same_node(at, node))) reply.status = BS_ON_THE_WAY;
+  return reply;
+}
+
+/* Locks a node with what has to be held above it, as bs_lock_path does, and sleeps for each lock that has to wait, to
  * `until` at most where that is not null. A node that moves meanwhile is begun anew, so that BS_MOVED and
  * BS_NEED_PARENTS are not answered. BS_DONE: `mode` is the mode in which the node is held. Else it is the answer of
  * the first lock that was refused or came to nothing; what was locked before it stays locked. A record that was
- * deleted meanwhile answers BS_GONE or BS_NO_SUCH_NODE. Costs at most two asks for each node that it locks, and more
- * where more than 16 stand one above the other. */
+ * deleted meanwhile answers BS_GONE or BS_NO_SUCH_NODE. */
 static inline bs_reply bs_table_lock_path(bs_table *table, bs_txn txn, bs_node node, bs_mode mode,
                                           const struct timespec *until) {
   bs_table_inside *in = bs_table_enter(table);
-  bs_mode intention = mode == BS_IS || mode == BS_S ? BS_IS : BS_IX;
-  bs_node way[BS_PATH_KEPT];
   bs_reply reply;
-  size_t count = 1;
   if (in == NULL) return bs_no_table(table);
   if (!bs_is_time(until)) return bs_table_leave(table, bs_bad_number());
-  way[0] = node;
   do {
-    reply = bs_table_lock_inside(table, txn, way[count - 1], count == 1 ? mode : intention, until);
-  } while (bs_path_goes_on(&reply, way, &count));
+    reply = bs_table_path_inside(table, txn, node, mode, until);
+  } while (reply.status == BS_ON_THE_WAY);
   pthread_mutex_unlock(&table->latch);
   return reply;
 }

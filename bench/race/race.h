@@ -44,7 +44,7 @@ struct side {
 extern const struct side ours, theirs;
 
 /* A short transaction: begin, intentions on the inner nodes, a lock on a record, commit. */
-play ours_write, theirs_write;
+play ours_write, ours_write_path, theirs_write;
 play ours_read, theirs_read;
 
 /* The commit of all records and the path to them. What leads to it is not timed; a count takes what

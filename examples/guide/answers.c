@@ -20,6 +20,7 @@ static enum action what_to_do(bs_status status) {
     case BS_DONE: case BS_NO_PLACE: case BS_NOT_WAITING: return GO_ON;
     case BS_WAITING: return SLEEP;
     case BS_NEED_PARENTS: case BS_NO_SUCH_NODE: case BS_MOVED: case BS_GONE: return LOOK_AGAIN;
+    case BS_ON_THE_WAY: return LOOK_AGAIN;
     case BS_WOULD_BLOCK: return DO_WITHOUT;
     case BS_VICTIM: case BS_TXN_CONDEMNED: case BS_NO_MEMORY: case BS_TIMED_OUT: return ROLL_BACK;
     case BS_NO_SUCH_TXN: return LEAVE;
@@ -56,12 +57,12 @@ static void of_locks(bs_manager *m, const struct shop *s) {
   bs_node order = add_order(m, s, 20);
   bs_txn a = begin(m), b = begin(m);
   WANT(of(bs_lock(m, a, order, BS_X, &told)) == LOOK_AGAIN);
-  WANT(of(lock_with_intentions(m, a, order, BS_X, &told)) == GO_ON);
+  WANT(of(bs_lock_path(m, a, order, BS_X, &told)) == GO_ON);
   WANT(of(bs_lock(m, a, order, BS_IX, &told)) == MEND);
   WANT(of(bs_unlock(m, a, s->orders, &told)) == MEND);
-  WANT(of(lock_with_intentions(m, b, s->orders, BS_IX, &told)) == GO_ON);
+  WANT(of(bs_lock_path(m, b, s->orders, BS_IX, &told)) == GO_ON);
   WANT(of(bs_try(m, b, s->orders, BS_S)) == DO_WITHOUT);
-  WANT(of(lock_with_intentions(m, b, order, BS_X, &told)) == SLEEP);
+  WANT(of(bs_lock_path(m, b, order, BS_X, &told)) == SLEEP);
   WANT(of(bs_commit(m, b, &told)) == MEND);
   DONE(bs_delete(m, a, order, &told));
   WANT(of_notice(0, b) == LOOK_AGAIN);

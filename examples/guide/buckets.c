@@ -26,7 +26,7 @@ static void make_buckets(bs_manager *m, struct hashed *h) {
   size_t i;
   h->root = DONE(bs_add_inner(m, NULL, 0)).node;
   h->file = DONE(bs_add_file(m, &h->root, 1)).node;
-  DONE(lock_with_intentions(m, t, h->file, BS_IX, &told));
+  DONE(bs_lock_path(m, t, h->file, BS_IX, &told));
   for (i = 0; i < BUCKETS; i++) h->buckets[i] = DONE(bs_insert(m, t, h->file, NULL, 0)).node;
   DONE(bs_commit(m, t, &told));
 }
@@ -48,10 +48,10 @@ void more_rows_than_nodes(void) {
   other = neighbour(&h, key);
   a = begin(&m);
   b = begin(&m);
-  DONE(lock_with_intentions(&m, a, bucket_of(&h, key), BS_X, &told));
-  DONE(lock_with_intentions(&m, a, bucket_of(&h, other), BS_X, &told));
+  DONE(bs_lock_path(&m, a, bucket_of(&h, key), BS_X, &told));
+  DONE(bs_lock_path(&m, a, bucket_of(&h, other), BS_X, &told));
   WANT(bs_children(&m, a, h.file).count == 1); /* One bucket, held once for both keys. */
-  DONE(lock_with_intentions(&m, b, h.file, BS_IX, &told));
+  DONE(bs_lock_path(&m, b, h.file, BS_IX, &told));
   WANT(bs_try(&m, b, bucket_of(&h, other), BS_X).status == BS_WOULD_BLOCK);
   DONE(bs_end(&m));
 }
@@ -60,7 +60,7 @@ enum { KEYS_EACH = 8, PAIRS = 1600 };
 
 static bs_txn begin_to_write(bs_manager *m, const struct hashed *h) {
   bs_txn t = begin(m);
-  DONE(lock_with_intentions(m, t, h->file, BS_IX, &told));
+  DONE(bs_lock_path(m, t, h->file, BS_IX, &told));
   return t;
 }
 
@@ -135,11 +135,11 @@ void buckets_under_intervals(void) {
   make_ranged(&m, &r);
   interval = interval_of(&m, &r.shop, 150);
   reader = begin(&m);
-  DONE(lock_with_intentions(&m, reader, interval, BS_S, &told));
+  DONE(bs_lock_path(&m, reader, interval, BS_S, &told));
   writer = begin(&m);
-  reply = lock_with_intentions(&m, writer, bucket_under(&m, &r, 150, 7), BS_X, &told);
+  reply = bs_lock_path(&m, writer, bucket_under(&m, &r, 150, 7), BS_X, &told);
   WANT(reply.status == BS_WAITING && same_node(bs_waiting(&m, writer).node, interval));
   DONE(bs_cancel(&m, writer, &told));
-  DONE(lock_with_intentions(&m, writer, bucket_under(&m, &r, 250, 7), BS_X, &told));
+  DONE(bs_lock_path(&m, writer, bucket_under(&m, &r, 250, 7), BS_X, &told));
   DONE(bs_end(&m));
 }

@@ -6,10 +6,10 @@
 /* The first waits for the last, and the last, which asks then, for the first. */
 static bs_status close_cycle(bs_manager *m, const struct shop *s, bs_txn first, bs_txn last) {
   bs_node one = add_order(m, s, 20), other = add_order(m, s, 150);
-  DONE(lock_with_intentions(m, first, one, BS_X, &told));
-  DONE(lock_with_intentions(m, last, other, BS_X, &told));
-  WANT(lock_with_intentions(m, first, other, BS_X, &told).status == BS_WAITING);
-  return lock_with_intentions(m, last, one, BS_X, &told).status;
+  DONE(bs_lock_path(m, first, one, BS_X, &told));
+  DONE(bs_lock_path(m, last, other, BS_X, &told));
+  WANT(bs_lock_path(m, first, other, BS_X, &told).status == BS_WAITING);
+  return bs_lock_path(m, last, one, BS_X, &told).status;
 }
 
 /* The youngest falls: the asker, who is answered so, or another, who is told so. */
@@ -46,13 +46,13 @@ static bs_status ask_among_readers(uint32_t victims) {
   has = add_order(&m, &s, 20);
   wants = add_order(&m, &s, 150);
   writer = begin(&m);
-  DONE(lock_with_intentions(&m, writer, has, BS_X, &told));
+  DONE(bs_lock_path(&m, writer, has, BS_X, &told));
   for (i = 0; i < 2; i++) {
     readers[i] = begin(&m);
-    DONE(lock_with_intentions(&m, readers[i], wants, BS_S, &told));
-    WANT(lock_with_intentions(&m, readers[i], has, BS_S, &told).status == BS_WAITING);
+    DONE(bs_lock_path(&m, readers[i], wants, BS_S, &told));
+    WANT(bs_lock_path(&m, readers[i], has, BS_S, &told).status == BS_WAITING);
   }
-  status = lock_with_intentions(&m, writer, wants, BS_X, &told).status;
+  status = bs_lock_path(&m, writer, wants, BS_X, &told).status;
   if (status == BS_WAITING) WANT(is_told(0, readers[0], BS_TOLD_VICTIM) && is_told(1, readers[1], BS_TOLD_VICTIM));
   if (status == BS_VICTIM) WANT(told.count == 0);
   DONE(bs_end(&m));

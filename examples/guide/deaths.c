@@ -53,7 +53,7 @@ static void *work(void *arg) {
   WANT(take(g));
   g->is_busy = true;
   j->txn = begin(&g->manager);
-  DONE(lock_with_intentions(&g->manager, j->txn, j->row, BS_X, &told));
+  DONE(bs_lock_path(&g->manager, j->txn, j->row, BS_X, &told));
   g->is_busy = false;
   j->dies(g);
   return NULL; /* Neither committed nor aborted. */
@@ -101,7 +101,7 @@ static void bury_and_lock(void (*dies)(struct guarded *g)) {
   WANT(bury(&j));
   WANT(take(&g));
   next = begin(&g.manager);
-  DONE(lock_with_intentions(&g.manager, next, j.row, BS_X, &told));
+  DONE(bs_lock_path(&g.manager, next, j.row, BS_X, &told));
   DONE(bs_end(&g.manager));
   give_back(&g);
   WANT(pthread_mutex_destroy(&g.mutex) == 0);

@@ -10,7 +10,7 @@ enum { MANY_ROWS = 8 };
 static bs_status lock_to_read(bs_manager *m, bs_txn t, bs_node table, bs_node row) {
   bs_status status;
   if (bs_held(m, t, table).mode >= BS_S) return BS_DONE; /* BS_S, BS_SIX or BS_X: it reads all rows. */
-  status = lock_with_intentions(m, t, row, BS_S, &told).status;
+  status = bs_lock_path(m, t, row, BS_S, &told).status;
   if (status != BS_DONE || bs_children(m, t, table).count % MANY_ROWS != 0) return status;
   status = bs_escalate(m, t, table, &told).status;
   return status == BS_WOULD_BLOCK ? BS_DONE : status;
@@ -34,7 +34,7 @@ void a_reader_escalates(void) {
   other = add_order(&m, &s, 250);
   reader = begin(&m);
   writer = begin(&m);
-  DONE(lock_with_intentions(&m, writer, other, BS_X, &told));
+  DONE(bs_lock_path(&m, writer, other, BS_X, &told));
   read_rows(&m, &s, reader, rows, MANY_ROWS);
   WANT(bs_held(&m, reader, s.orders).mode == BS_IS && bs_children(&m, reader, s.orders).count == MANY_ROWS);
   DONE(bs_commit(&m, writer, &told));
@@ -56,7 +56,7 @@ void a_writer_escalates(void) {
   s = make_shop(&m);
   early = interval_of(&m, &s, 0);
   t = begin(&m);
-  for (i = 0; i < MANY_ROWS; i++) DONE(lock_with_intentions(&m, t, add_order(&m, &s, i), BS_X, &told));
+  for (i = 0; i < MANY_ROWS; i++) DONE(bs_lock_path(&m, t, add_order(&m, &s, i), BS_X, &told));
   reply = DONE(bs_escalate(&m, t, s.orders, &told));
   WANT(reply.mode == BS_X && reply.released == 0 && reply.kept == MANY_ROWS);
   reply = DONE(bs_escalate(&m, t, early, &told));
@@ -75,12 +75,12 @@ void implied_is_not_held(void) {
   s = make_shop(&m);
   order = add_order(&m, &s, 150);
   t = begin(&m);
-  DONE(lock_with_intentions(&m, t, s.orders, BS_X, &told));
-  DONE(lock_with_intentions(&m, t, s.by_day, BS_X, &told));
+  DONE(bs_lock_path(&m, t, s.orders, BS_X, &told));
+  DONE(bs_lock_path(&m, t, s.by_day, BS_X, &told));
   WANT(bs_effective(&m, t, order).mode == BS_X);
   WANT(bs_insert(&m, t, s.orders, &day, 1).status == BS_NEED_PARENTS);
   WANT(bs_delete(&m, t, order, &told).status == BS_NEED_EXCLUSIVE);
-  DONE(lock_with_intentions(&m, t, order, BS_X, &told));
+  DONE(bs_lock_path(&m, t, order, BS_X, &told));
   DONE(bs_insert(&m, t, s.orders, &day, 1));
   DONE(bs_delete(&m, t, order, &told));
   DONE(bs_end(&m));

@@ -38,22 +38,11 @@ bs_node interval_of(bs_manager *m, const struct shop *s, uint64_t day) {
 bs_node add_order(bs_manager *m, const struct shop *s, uint64_t day) {
   bs_txn t = begin(m);
   bs_node order;
-  DONE(lock_with_intentions(m, t, s->orders, BS_IX, &told));
-  DONE(lock_with_intentions(m, t, interval_of(m, s, day), BS_IX, &told));
+  DONE(bs_lock_path(m, t, s->orders, BS_IX, &told));
+  DONE(bs_lock_path(m, t, interval_of(m, s, day), BS_IX, &told));
   order = DONE(bs_insert(m, t, s->orders, &day, 1)).node;
   DONE(bs_commit(m, t, &told));
   return order;
-}
-
-bs_reply lock_with_intentions(bs_manager *m, bs_txn txn, bs_node node, bs_mode mode, bs_notices *notices) {
-  bs_mode intention = mode == BS_IS || mode == BS_S ? BS_IS : BS_IX;
-  bs_reply reply = bs_lock(m, txn, node, mode, notices);
-  while (reply.status == BS_NEED_PARENTS) {
-    bs_reply above = lock_with_intentions(m, txn, reply.node, intention, notices);
-    if (above.status != BS_DONE) return above;
-    reply = bs_lock(m, txn, node, mode, notices);
-  }
-  return reply;
 }
 
 bool is_told(size_t place, bs_txn txn, uint32_t kind) {

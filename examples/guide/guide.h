@@ -29,10 +29,6 @@ bs_node add_order(bs_manager *m, const struct shop *s, uint64_t day);
 bs_node interval_of(bs_manager *m, const struct shop *s, uint64_t day);
 bs_txn begin(bs_manager *m);
 
-/* Locks a node and, from the root down, what has to be held above it. What is answered is the answer of the
- * last call: where it is BS_WAITING, the same is asked again after the wait. */
-bs_reply lock_with_intentions(bs_manager *m, bs_txn txn, bs_node node, bs_mode mode, bs_notices *notices);
-
 /* The first places of a list: whether this transaction was told this. */
 bool is_told(size_t place, bs_txn txn, uint32_t kind);
 bool same_node(bs_node a, bs_node b);

@@ -24,7 +24,7 @@ void intentions_first(void) {
   DONE(bs_lock(&m, reader, order, BS_S, &told));
   DONE(bs_commit(&m, reader, &told));
   writer = begin(&m);
-  DONE(lock_with_intentions(&m, writer, order, BS_X, &told));
+  DONE(bs_lock_path(&m, writer, order, BS_X, &told));
   WANT(bs_held(&m, writer, s.orders).mode == BS_IX);
   WANT(bs_held(&m, writer, interval_of(&m, &s, 150)).mode == BS_IX);
   WANT(bs_held(&m, writer, s.by_day).mode == BS_IX && bs_held(&m, writer, s.db).mode == BS_IX);
@@ -42,7 +42,7 @@ static bs_status lock_in_order(bs_manager *m, bs_txn t, bs_node *nodes, size_t c
   bs_status status = BS_DONE;
   size_t i;
   qsort(nodes, count, sizeof nodes[0], by_birth);
-  for (i = 0; i < count && status == BS_DONE; i++) status = lock_with_intentions(m, t, nodes[i], mode, &told).status;
+  for (i = 0; i < count && status == BS_DONE; i++) status = bs_lock_path(m, t, nodes[i], mode, &told).status;
   return status;
 }
 
@@ -77,10 +77,10 @@ void no_upgrades(void) {
   order = add_order(&m, &s, 150);
   a = begin(&m);
   b = begin(&m);
-  DONE(lock_with_intentions(&m, a, order, BS_S, &told));
-  DONE(lock_with_intentions(&m, b, order, BS_S, &told));
-  WANT(lock_with_intentions(&m, a, order, BS_X, &told).status == BS_WAITING);
-  WANT(lock_with_intentions(&m, b, order, BS_X, &told).status == BS_VICTIM);
+  DONE(bs_lock_path(&m, a, order, BS_S, &told));
+  DONE(bs_lock_path(&m, b, order, BS_S, &told));
+  WANT(bs_lock_path(&m, a, order, BS_X, &told).status == BS_WAITING);
+  WANT(bs_lock_path(&m, b, order, BS_X, &told).status == BS_VICTIM);
   DONE(bs_abort(&m, b, &told));
   WANT(is_told(0, a, BS_TOLD_GRANTED) && told.at[0].mode == BS_X);
   DONE(bs_end(&m));
@@ -100,8 +100,8 @@ void no_phantoms(void) {
   interval = interval_of(&m, &s, day);
   reader = begin(&m);
   writer = begin(&m);
-  DONE(lock_with_intentions(&m, reader, interval, BS_S, &told));
-  DONE(lock_with_intentions(&m, writer, early, BS_X, &told));
+  DONE(bs_lock_path(&m, reader, interval, BS_S, &told));
+  DONE(bs_lock_path(&m, writer, early, BS_X, &told));
   WANT(bs_try(&m, writer, interval, BS_IX).status == BS_WOULD_BLOCK);
   WANT(bs_insert(&m, writer, s.orders, &day, 1).status == BS_NEED_PARENTS);
   WANT(bs_rekey(&m, writer, early, s.by_day, day, &told).status == BS_NEED_PARENTS);
@@ -113,9 +113,9 @@ void no_phantoms(void) {
 
 /* Gives an order another day. Its interval need not change by that; where it does, all is locked first. */
 static bs_reply move_order(bs_manager *m, const struct shop *s, bs_txn t, bs_node order, uint64_t day) {
-  bs_reply reply = lock_with_intentions(m, t, order, BS_X, &told);
+  bs_reply reply = bs_lock_path(m, t, order, BS_X, &told);
   if (reply.status != BS_DONE) return reply;
-  reply = lock_with_intentions(m, t, interval_of(m, s, day), BS_IX, &told);
+  reply = bs_lock_path(m, t, interval_of(m, s, day), BS_IX, &told);
   if (reply.status != BS_DONE) return reply;
   return bs_rekey(m, t, order, s->by_day, day, &told);
 }
@@ -133,12 +133,12 @@ void a_row_moves(void) {
   mover = begin(&m);
   writer = begin(&m);
   reader = begin(&m);
-  DONE(lock_with_intentions(&m, mover, order, BS_X, &told));
-  WANT(lock_with_intentions(&m, writer, order, BS_X, &told).status == BS_WAITING);
-  WANT(lock_with_intentions(&m, reader, order, BS_S, &told).status == BS_WAITING);
+  DONE(bs_lock_path(&m, mover, order, BS_X, &told));
+  WANT(bs_lock_path(&m, writer, order, BS_X, &told).status == BS_WAITING);
+  WANT(bs_lock_path(&m, reader, order, BS_S, &told).status == BS_WAITING);
   DONE(move_order(&m, &s, mover, order, 150));
   WANT(told.count == 1 && is_told(0, writer, BS_TOLD_MOVED));
-  WANT(lock_with_intentions(&m, writer, order, BS_X, &told).status == BS_WAITING);
+  WANT(bs_lock_path(&m, writer, order, BS_X, &told).status == BS_WAITING);
   WANT(bs_held(&m, writer, interval_of(&m, &s, 150)).mode == BS_IX);
   DONE(bs_commit(&m, mover, &told));
   WANT(told.count == 1 && is_told(0, reader, BS_TOLD_GRANTED));

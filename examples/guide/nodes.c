@@ -49,8 +49,8 @@ static struct heap make_heap(bs_manager *m) {
 /* Its number is the page's key, by which it lies in its extent. */
 static bs_node add_page(bs_manager *m, bs_txn t, const struct heap *h, uint64_t number) {
   bs_node extent = DONE(bs_interval_of(m, h->extents, number)).node;
-  DONE(lock_with_intentions(m, t, h->pages, BS_IX, &told));
-  DONE(lock_with_intentions(m, t, extent, BS_IX, &told));
+  DONE(bs_lock_path(m, t, h->pages, BS_IX, &told));
+  DONE(bs_lock_path(m, t, extent, BS_IX, &told));
   return DONE(bs_insert(m, t, h->pages, &number, 1)).node;
 }
 
@@ -67,7 +67,7 @@ void pages_as_records(void) {
   DONE(bs_commit(&m, a, &told));
   b = begin(&m);
   extent = DONE(bs_interval_of(&m, h.extents, 70)).node;
-  DONE(lock_with_intentions(&m, b, extent, BS_S, &told));
+  DONE(bs_lock_path(&m, b, extent, BS_S, &told));
   WANT(bs_held(&m, b, page).mode == BS_NL && bs_effective(&m, b, page).mode == BS_S);
   DONE(bs_end(&m));
 }

@@ -113,7 +113,7 @@ static struct asker begin_asker(struct policy *p, bs_node has, bs_node wants) {
   struct asker a = { .policy = p, .wanted = wants };
   bs_manager *m = &p->store.manager;
   a.txn = begin(m);
-  DONE(lock_with_intentions(m, a.txn, has, BS_X, &told));
+  DONE(bs_lock_path(m, a.txn, has, BS_X, &told));
   return a;
 }
 
@@ -130,7 +130,7 @@ void another_choice_of_victims(void) {
   right = add_order(m, &p.shop, 21);
   light = begin_asker(&p, left, right);
   heavy = begin_asker(&p, right, left);
-  DONE(lock_with_intentions(m, heavy.txn, add_order(m, &p.shop, 22), BS_X, &told));
+  DONE(bs_lock_path(m, heavy.txn, add_order(m, &p.shop, 22), BS_X, &told));
   start(&watcher, watch, &p);
   start(&light.thread, ask, &light);
   start(&heavy.thread, ask, &heavy);

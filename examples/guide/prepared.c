@@ -44,12 +44,12 @@ void prepared_transactions(void) {
   old = begin(&m);
   young = begin(&m);
   a = begin(&m);
-  DONE(lock_with_intentions(&m, a, row, BS_S, &told));
+  DONE(bs_lock_path(&m, a, row, BS_S, &told));
   p = prepare(&m, a, 7);
-  DONE(lock_with_intentions(&m, old, row, BS_S, &told));
-  DONE(lock_with_intentions(&m, young, row, BS_S, &told));
-  WANT(lock_with_intentions(&m, old, row, BS_X, &told).status == BS_WAITING);
-  WANT(lock_with_intentions(&m, young, row, BS_X, &told).status == BS_WAITING);
+  DONE(bs_lock_path(&m, old, row, BS_S, &told));
+  DONE(bs_lock_path(&m, young, row, BS_S, &told));
+  WANT(bs_lock_path(&m, old, row, BS_X, &told).status == BS_WAITING);
+  WANT(bs_lock_path(&m, young, row, BS_X, &told).status == BS_WAITING);
   DONE(bs_read_board(&m, &board));
   WANT(bs_has(board.rows[old.slot], p.txn.slot) && !bs_has(bs_suspects(&board).slots, p.txn.slot));
   DONE(bs_settle(&m, p.txn, &told));
@@ -68,7 +68,7 @@ static struct prepared lock_again(bs_manager *m, const bs_node *rows, uint64_t n
                                   size_t count) {
   bs_txn t = begin(m);
   size_t i;
-  for (i = 0; i < count; i++) DONE(lock_with_intentions(m, t, rows[log[i].row], log[i].mode, &told));
+  for (i = 0; i < count; i++) DONE(bs_lock_path(m, t, rows[log[i].row], log[i].mode, &told));
   return prepare(m, t, number);
 }
 
@@ -86,9 +86,9 @@ void after_a_restart(void) {
   for (i = 0; i < ROWS; i++) rows[i] = add_order(&m, &s, 100 * i);
   p = lock_again(&m, rows, 7, log, sizeof log / sizeof log[0]);
   other = begin(&m);
-  DONE(lock_with_intentions(&m, other, rows[1], BS_X, &told));
-  DONE(lock_with_intentions(&m, other, rows[2], BS_S, &told));
-  WANT(lock_with_intentions(&m, other, rows[0], BS_X, &told).status == BS_WAITING);
+  DONE(bs_lock_path(&m, other, rows[1], BS_X, &told));
+  DONE(bs_lock_path(&m, other, rows[2], BS_S, &told));
+  WANT(bs_lock_path(&m, other, rows[0], BS_X, &told).status == BS_WAITING);
   decide(&m, &p, false);
   WANT(is_told(0, other, BS_TOLD_GRANTED));
   DONE(bs_end(&m));

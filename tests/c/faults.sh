@@ -23,6 +23,7 @@ lock-forgets-to-wake	s/  bs_table_wake(in, reply.status, &in->told, false);//
 run-forgets-to-wake	s/    bs_table_wake(in, next->reply.status, told, by_name);//
 run-forgets-names	s/    by_name = next->kind .*/    by_name = false;/
 late-forgets-to-wake	s/  bs_table_wake(in, reply.status, &in->told, true);//
+path-ends-above	s/  if (reply.status == BS_MOVED || (reply.status == BS_DONE .*//
 nobody-is-named	s/by_name || told->count/told->count/
 nobody-is-told	s/by_name || told->count > 0/by_name/
 second-half-sleeps-on	s/  bs_table_wake_half(in, ended.high, 64);//

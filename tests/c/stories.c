@@ -243,6 +243,52 @@ static void the_rule_of_the_graph(void) {
   DONE(bs_end(&m));
 }
 
+static void a_path_of_locks(void) {
+  bs_manager m = BS_NO_MANAGER_HERE;
+  bs_node root = begin_manager(&m, BS_AT_BLOCK);
+  struct file f = make_file(&m, root);
+  bs_txn a = begin(&m), b = begin(&m);
+  uint64_t accepted = bs_accepted(&m).count;
+  bs_reply reply;
+  WANT(bs_lock_path(&m, a, f.low, BS_IX, &told).status == BS_BAD_MODE && bs_held(&m, a, root).mode == BS_NL);
+  WANT(DONE(bs_lock_path(&m, a, f.low, BS_X, &told)).mode == BS_X && told.count == 0);
+  WANT(bs_held(&m, a, root).mode == BS_IX && bs_held(&m, a, f.file).mode == BS_IX);
+  WANT(bs_held(&m, a, f.index).mode == BS_IX && bs_held(&m, a, f.below).mode == BS_IX);
+  WANT(bs_accepted(&m).count == accepted + 5);
+  WANT(DONE(bs_lock_path(&m, a, f.low, BS_S, &told)).mode == BS_X && bs_accepted(&m).count == accepted + 6);
+  DONE(bs_lock_path(&m, b, f.high, BS_S, &told));
+  WANT(bs_held(&m, b, f.file).mode == BS_IS && bs_held(&m, b, f.above).mode == BS_NL);
+  DONE(bs_commit(&m, b, &told));
+  b = begin(&m);
+  reply = bs_lock_path(&m, b, f.file, BS_X, &told);
+  WANT(reply.status == BS_WAITING && same_node(reply.node, f.file) && bs_held(&m, b, root).mode == BS_IX);
+  DONE(bs_commit(&m, a, &told));
+  WANT(told.count == 1 && is_told(0, b, BS_TOLD_GRANTED));
+  a = begin(&m);
+  reply = bs_lock_path(&m, a, f.low, BS_S, &told);
+  WANT(reply.status == BS_WAITING && same_node(reply.node, f.file));
+  DONE(bs_commit(&m, b, &told));
+  WANT(DONE(bs_lock_path(&m, a, f.low, BS_S, &told)).mode == BS_S);
+  DONE(bs_end(&m));
+}
+
+static void a_path_by_the_fall_of_another(void) {
+  bs_manager m = BS_NO_MANAGER_HERE;
+  bs_node root = begin_manager(&m, BS_AT_BLOCK), other = DONE(bs_add_inner(&m, NULL, 0)).node;
+  struct file f = make_file(&m, root);
+  bs_txn a = begin(&m), b = begin(&m), c = begin(&m);
+  bs_reply reply;
+  DONE(bs_lock(&m, a, other, BS_X, &told));
+  DONE(bs_lock_path(&m, b, f.file, BS_IS, &told));
+  WANT(bs_lock(&m, b, other, BS_S, &told).status == BS_WAITING);
+  WANT(bs_lock_path(&m, c, f.file, BS_X, &told).status == BS_WAITING);
+  reply = bs_lock_path(&m, a, f.low, BS_X, &told);
+  WANT(reply.status == BS_ON_THE_WAY && same_node(reply.node, f.file) && bs_held(&m, a, f.file).mode == BS_IX);
+  WANT(told.count == 1 && is_told(0, c, BS_TOLD_VICTIM));
+  WANT(DONE(bs_lock_path(&m, a, f.low, BS_X, &told)).mode == BS_X && told.count == 0);
+  DONE(bs_end(&m));
+}
+
 static void a_record_moves(void) {
   bs_manager m = BS_NO_MANAGER_HERE;
   bs_node root = begin_manager(&m, BS_AT_BLOCK);
@@ -437,6 +483,7 @@ static void null_pointers(void) {
   WANT(bs_make(NULL, BS_AT_BLOCK, 1).status == BS_NULL_POINTER && bs_end(NULL).status == BS_NULL_POINTER);
   WANT(bs_begin(NULL).status == BS_NULL_POINTER && bs_len(NULL).status == BS_NULL_POINTER);
   WANT(bs_lock(&m, a, root, BS_X, NULL).status == BS_NULL_POINTER);
+  WANT(bs_lock_path(&m, a, root, BS_X, NULL).status == BS_NULL_POINTER);
   WANT(bs_held(&m, a, root).mode == BS_NL);
   told.count = 1;
   WANT(bs_commit(NULL, a, &told).status == BS_NULL_POINTER && told.count == 0);
@@ -605,6 +652,8 @@ int main(void) {
   TELL(a_board_shows_a_cycle);
   TELL(a_ring_of_all);
   TELL(the_rule_of_the_graph);
+  TELL(a_path_of_locks);
+  TELL(a_path_by_the_fall_of_another);
   TELL(a_record_moves);
   TELL(a_record_goes);
   TELL(an_escalation);

@@ -1,5 +1,6 @@
 pub mod Halves
 mod Opening
+mod Paths
 mod PlaceCalls
 mod PlaceSteps
 mod PlaceWords

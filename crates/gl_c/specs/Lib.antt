@@ -13,6 +13,7 @@ pub mod Managing
 pub mod Names
 pub mod Notices
 pub mod Numbers
+pub mod Paths
 pub mod Posted
 pub mod Replies
 pub mod Serving

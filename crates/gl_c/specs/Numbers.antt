@@ -66,6 +66,10 @@ moved = 34
 abbrev pub gone : ℕ
 gone = 35
 
+-- a path is locked as far as a node above, and others are told; 36 is a status of the header's functions
+abbrev pub on_the_way : ℕ
+on_the_way = 37
+
 -- there is no manager at this place; 64 is the null pointer of the header's functions
 abbrev pub no_manager : ℕ
 no_manager = 65

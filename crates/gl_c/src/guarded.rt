@@ -9,6 +9,7 @@ ghost use Rattle.gl_catalog.specs.Promises.{NobodyWaits};
 ghost use Rattle.gl_boxes.specs.Boards.{Ends, Fine, ShowsNobody, last_epoch};
 ghost use Rattle.gl_boxes.specs.Boxes.{verdict_of};
 ghost use Rattle.gl_c.specs.Managing.{IsNew};
+ghost use Rattle.gl_c.specs.Paths.{ServesPath, ends_waiting};
 ghost use Rattle.gl_c.specs.Serving.{Serves, ShowsNobodyLast, ShowsOn};
 ghost use Rattle.gl_c.specs.Watching.{OnlyShows};
 
@@ -16,9 +17,9 @@ use gl_boxes::{
     Boxes, Grant, Stop, Telling, board_now, ended_by, is_accepted, is_due, leaves_waiting,
     may_show_waits,
 };
-use gl_catalog::{Answer, Command, Manager};
+use gl_catalog::{Answer, Command, Manager, Reached};
 use gl_modes::{Mode, NodeId, Refusal};
-use gl_table::{Detect, Told, TxnId};
+use gl_table::{Detect, Locked, Told, TxnId};
 use gl_waits::{Board, Victims};
 use gl_window::{Publisher, WatchFault, Watcher};
 use std::alloc::{AllocError, Global};
@@ -117,6 +118,32 @@ impl Guarded {
         answer
     }
 
+    /// Locks a node with what has to be held above it, with the notices put into an empty list.
+    /// Watchers are shown one board behind all of it.
+    pub(crate) fn serve_path(
+        &mut self,
+        txn: TxnId,
+        node: NodeId,
+        mode: Mode,
+        told: &mut Told,
+    ) -> Result<Reached, Refusal>
+        requires empty { told.old.items ≡ [] }
+        ensures { ServesPath self.old txn (node, mode) result told.new.items self.new }
+    {
+        self.manager.law();
+        let before = self.manager.accepted();
+        let reached = self.manager.lock_path_telling(txn, node, mode, told);
+        if self.manager.accepted() == before {
+            return reached;
+        }
+        let asked = Command::Lock { txn, node, mode };
+        self.boxes.deliver(&asked, told.as_slice());
+        self.ended = ended_by(&asked, told.as_slice());
+        self.waited |= ends_waiting(reached);
+        self.show_if_due();
+        reached
+    }
+
     /// Shows watchers the board of now, where there is one, and somebody waits or waited when they were
     /// last shown a board.
     fn show_if_due(&mut self)
@@ -150,6 +177,19 @@ impl Guarded {
         self.publisher = Some(publisher);
         watcher
     }
+}
+
+/// Whether a path leaves its transaction waiting.
+fn ends_waiting(reached: Result<Reached, Refusal>) -> bool
+    ensures { result ≡ ends_waiting reached }
+{
+    matches!(
+        reached,
+        Ok(Reached {
+            locked: Locked::Waiting,
+            ..
+        })
+    )
 }
 
 /// Shows the board of a manager, and says whether somebody may wait on it; `None` where it was not shown.

@@ -22,6 +22,9 @@ pub(crate) const MOVED: u32 = 34;
 /// The node is gone, and the wait is over.
 pub(crate) const GONE: u32 = 35;
 
+/// A path is locked as far as a node above, and others are told.
+pub(crate) const ON_THE_WAY: u32 = 37;
+
 /// There is no manager at this place: none was made, or it was ended.
 pub(crate) const NO_MANAGER: u32 = 65;
 

@@ -2,15 +2,18 @@
 
 ghost use Rattle.std.specs.Prelude.{◌≡◌};
 ghost use Rattle.gl_catalog.specs.declared.command.Answer.TheVariants as answer;
+ghost use Rattle.gl_c.specs.Paths.{path_reply, reached_reply, reply_at};
 ghost use Rattle.gl_c.specs.Replies.{count_reply, refused_at, refused_reply, reply_of, status_reply};
 ghost use Rattle.gl_c.specs.Verdicts.{verdict_reply};
 
 use crate::names::{Node, Txn};
-use crate::numbers::{DONE, GONE, MOVED, VICTIM, WAITING, effect_number, mode_number};
+use crate::numbers::{
+    DONE, GONE, MOVED, ON_THE_WAY, VICTIM, WAITING, effect_number, mode_number,
+};
 use gl_boxes::{Grant, Stop};
-use gl_catalog::Answer;
+use gl_catalog::{Answer, Reached};
 use gl_modes::{Mode, NodeId, Refusal};
-use gl_table::TxnId;
+use gl_table::{Locked, TxnId};
 
 /// An answer. Beside the status it has what the call answers, and zero in all other fields.
 #[repr(C)]
@@ -90,6 +93,38 @@ impl Reply {
             Some(Err(Stop::Victim)) => Reply::with_status(VICTIM),
             Some(Err(Stop::Moved)) => Reply::with_status(MOVED),
             Some(Err(Stop::Gone)) => Reply::with_status(GONE),
+        }
+    }
+
+    /// What C is answered for a path to a node.
+    pub(crate) fn of_path(node: NodeId, reached: Result<Reached, Refusal>) -> Reply
+        ensures { result ≡ path_reply node reached }
+    {
+        match reached {
+            Ok(Reached { node: at, locked }) => Reply::of_reached(node, at, locked),
+            Err(refusal) => Reply::refused(refusal),
+        }
+    }
+
+    /// What C is answered for the last ask of a path to a node.
+    fn of_reached(node: NodeId, at: NodeId, locked: Locked) -> Reply
+        ensures { result ≡ reached_reply node at locked }
+    {
+        match locked {
+            Locked::Granted(mode) if at == node => Reply::with_mode(mode),
+            Locked::Granted(_) => Reply::with_status(ON_THE_WAY).at(at),
+            Locked::Waiting => Reply::with_status(WAITING).at(at),
+            Locked::Victim => Reply::with_status(VICTIM).at(at),
+        }
+    }
+
+    /// The same reply, with this node.
+    fn at(self, node: NodeId) -> Reply
+        ensures { result ≡ reply_at node self }
+    {
+        Reply {
+            node: Node::of(node),
+            ..self
         }
     }
 

@@ -8,6 +8,7 @@ ghost use Rattle.gl_boxes.specs.Boards.{Ends};
 ghost use Rattle.gl_boxes.specs.Boxes.{verdict_of};
 ghost use Rattle.gl_c.specs.Carries.{Answers, Replies};
 ghost use Rattle.gl_c.specs.Looks.{looked};
+ghost use Rattle.gl_c.specs.Paths.{RepliesPath};
 ghost use Rattle.gl_c.specs.Managing.{IsNew};
 ghost use Rattle.gl_c.specs.Verdicts.{verdict_reply};
 ghost use Rattle.gl_c.specs.Watching.{OnlyShows};
@@ -76,6 +77,22 @@ impl Session {
         notices.put(self.told.as_slice());
         self.told.clear();
         Reply::of(answer)
+    }
+
+    /// Locks a node with what has to be held above it, and writes down whom it tells.
+    pub(crate) fn lock_path(
+        &mut self,
+        txn: TxnId,
+        node: NodeId,
+        mode: Mode,
+        notices: &mut Notices,
+    ) -> Reply
+        ensures { RepliesPath self.old txn (node, mode) result notices.new self.new }
+    {
+        let reached = self.guarded.serve_path(txn, node, mode, &mut self.told);
+        notices.put(self.told.as_slice());
+        self.told.clear();
+        Reply::of_path(node, reached)
     }
 
     /// Carries out a command of which nobody is to be told.

@@ -7,6 +7,7 @@ ghost use Rattle.gl_c.specs.Handle.{guarded_in};
 ghost use Rattle.gl_c.specs.Names.{node_id, txn_id};
 ghost use Rattle.gl_c.specs.Notices.{Tells};
 ghost use Rattle.gl_c.specs.Numbers.{bad_number, mode_at};
+ghost use Rattle.gl_c.specs.Paths.{CarriesPath};
 
 use crate::handle::Handle;
 use crate::names::{Node, Txn};
@@ -44,6 +45,24 @@ pub extern "C" fn bs_call_lock(
         mode,
     };
     manager.carry_out(command, told)
+}
+
+/// Locks a node with what has to be held above it.
+#[unsafe(no_mangle)]
+pub extern "C" fn bs_call_lock_path(
+    manager: &mut Handle,
+    txn: Txn,
+    node: Node,
+    mode: u32,
+    told: &mut Notices,
+) -> Reply
+    ensures { Where (mode_at mode) (λ wanted. CarriesPath (guarded_in manager.old) (txn_id txn) (node_id node, wanted) result told.new (guarded_in manager.new)) (Declines (guarded_in manager.old) bad_number result (guarded_in manager.new) × Tells told.new []) }
+{
+    let Some(mode) = mode_at(mode) else {
+        told.clear();
+        return Reply::with_status(BAD_NUMBER);
+    };
+    manager.lock_path(txn.id(), node.id(), mode, told)
 }
 
 /// Asks for a lock, and is refused where it cannot be granted at once.

@@ -96,7 +96,7 @@ mod watcher;
 
 pub use board::{Board, SlotIter, Slots};
 pub use listing::{Counters, Deadlock, Doing, Listing, LockRow, Stuck, TxnRow, Waiter};
-pub use manager::{Asked, Escalated, Manager, Options, Wait};
+pub use manager::{Asked, Escalated, Manager, Options, Reached, Wait};
 pub use mode::{Detect, Kind, Mode, Victims};
 pub use names::{Node, Txn};
 pub use notices::{Notice, Notices};

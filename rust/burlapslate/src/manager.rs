@@ -27,6 +27,23 @@ pub enum Asked {
     Victim,
 }
 
+/// How far a path was locked.
+#[must_use = "a path may be locked in part"]
+#[derive(Clone, Copy, PartialEq, Eq, Hash, Debug)]
+pub enum Reached {
+    /// To its end: the transaction holds the node in this mode.
+    Granted(Mode),
+    /// To this node, the path's own or one above it, for which the transaction waits. Once it is
+    /// granted the path is asked for again.
+    Waiting(Node),
+    /// To a lock whose wait closed a cycle of waits, and by which the transaction fell: it is
+    /// condemned, keeps its locks, and can only abort.
+    Victim,
+    /// To this node above, which was granted by the fall of others. The path is asked for again, when
+    /// all who are told have heard.
+    Above(Node),
+}
+
 /// What a transaction waits for.
 #[derive(Clone, Copy, PartialEq, Eq, Hash, Debug)]
 pub struct Wait {
@@ -277,6 +294,44 @@ impl Manager {
             _ => return Err(Refusal::of(&reply)),
         };
         Ok((asked, Notices::of(told)))
+    }
+
+    /// Locks a node with what has to be held above it: intentions, root first, on all parents to
+    /// write, and to read on the first, where none is held already; then the node in its mode. Each
+    /// is a lock as [`lock`](Manager::lock) asks for it, and a command. What is held already is not
+    /// asked for. What was locked stays locked, however far it came.
+    ///
+    /// Refused as [`lock`](Manager::lock), but never with [`NeedParents`](Refusal::NeedParents).
+    /// Nothing was locked then, but that [`NoMemory`](Refusal::NoMemory) and
+    /// [`WornOut`](Refusal::WornOut) may come behind some of the locks.
+    ///
+    /// ```
+    /// # use burlapslate::{Detect, Manager, Mode, Reached, SLOTS};
+    /// let mut m = Manager::new(Detect::AtBlock, SLOTS)?;
+    /// let db = m.add_inner(&[])?;
+    /// let file = m.add_file(&[db])?;
+    /// let txn = m.begin()?;
+    /// let (reached, _) = m.lock_path(txn, file, Mode::X)?;
+    /// assert_eq!(reached, Reached::Granted(Mode::X));
+    /// assert_eq!(m.held(txn, db)?, Mode::IX);
+    /// # Ok::<(), burlapslate::Refusal>(())
+    /// ```
+    pub fn lock_path(
+        &mut self,
+        txn: Txn,
+        node: Node,
+        mode: Mode,
+    ) -> Result<(Reached, Notices<'_>), Refusal> {
+        let Pinned { place, told } = &mut *self.pinned;
+        let reply = sys::bs_call_lock_path(place, txn, node, mode as u32, told);
+        let reached = match reply.status {
+            sys::DONE => Reached::Granted(Mode::of(reply.mode)),
+            sys::WAITING => Reached::Waiting(reply.node),
+            sys::VICTIM => Reached::Victim,
+            sys::ON_THE_WAY => Reached::Above(reply.node),
+            _ => return Err(Refusal::of(&reply)),
+        };
+        Ok((reached, Notices::of(told)))
     }
 
     /// As [`lock`](Manager::lock), but where the lock cannot be granted at once it is refused with

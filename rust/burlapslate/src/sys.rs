@@ -43,6 +43,7 @@ pub(crate) const WAITING: u32 = 32;
 pub(crate) const VICTIM: u32 = 33;
 pub(crate) const MOVED: u32 = 34;
 pub(crate) const GONE: u32 = 35;
+pub(crate) const ON_THE_WAY: u32 = 37;
 pub(crate) const BAD_NUMBER: u32 = 66;
 pub(crate) const NO_PLACE: u32 = 68;
 pub(crate) const TOO_MANY_WATCHERS: u32 = 70;
@@ -236,6 +237,13 @@ unsafe extern "C" {
 
     pub(crate) safe fn bs_call_begin(manager: &mut Place) -> Reply;
     pub(crate) safe fn bs_call_lock(
+        manager: &mut Place,
+        txn: Txn,
+        node: Node,
+        mode: u32,
+        told: &mut Notices,
+    ) -> Reply;
+    pub(crate) safe fn bs_call_lock_path(
         manager: &mut Place,
         txn: Txn,
         node: Node,

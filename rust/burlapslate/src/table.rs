@@ -1,7 +1,7 @@
 //! A table that threads share.
 
 use crate::board::{Board, Slots};
-use crate::manager::{Asked, Manager, Options};
+use crate::manager::{Asked, Manager, Options, Reached};
 use crate::mode::{Detect, Mode, Victims};
 use crate::names::{Node, Txn};
 use crate::refusal::Refusal;
@@ -55,9 +55,6 @@ struct Guarded {
     /// Whether those who watch over the table are to end.
     is_unwatched: bool,
 }
-
-/// How many nodes a path keeps in mind on its way up; of a longer way it asks for some again.
-const PATH_KEPT: usize = 16;
 
 impl Table {
     /// Makes a table for `most` transactions at once, 1 to [`SLOTS`], with a way of detection. Of
@@ -270,10 +267,18 @@ impl Table {
         mode: Mode,
         until: Option<Instant>,
     ) -> Result<Mode, Stop> {
-        self.lock_held(self.guarded(), txn, node, mode, until).1
+        let mut guarded = self.guarded();
+        let (asked, told) = guarded.manager.lock(txn, node, mode)?;
+        let tells = !told.is_empty();
+        self.wake_behind(&mut guarded, tells, asked == Asked::Waiting);
+        match asked {
+            Asked::Granted(mode) => Ok(mode),
+            Asked::Victim => Err(Stop::Victim),
+            Asked::Waiting => self.sleep(guarded, txn, node, mode, until).1,
+        }
     }
 
-    /// Each lock of a path in one hold of the latch, but for the sleeps.
+    /// A path in one hold of the latch, but for the sleeps.
     pub(crate) fn lock_path(
         &self,
         txn: Txn,
@@ -281,57 +286,38 @@ impl Table {
         mode: Mode,
         until: Option<Instant>,
     ) -> Result<Mode, Stop> {
-        let intention = match mode {
-            Mode::IS | Mode::S => Mode::IS,
-            _ => Mode::IX,
-        };
         let mut guarded = self.guarded();
-        let mut way = [node; PATH_KEPT]; // What is still to be locked, the lowest first.
-        let mut count = 1;
         loop {
-            let (next, asked) = (way[count - 1], if count == 1 { mode } else { intention });
-            let (held, end) = self.lock_held(guarded, txn, next, asked, until);
-            guarded = held;
-            match end {
-                Ok(mode) if count == 1 => return Ok(mode),
-                Ok(_) => count -= 1,
-                Err(Stop::Refused(Refusal::NeedParents(parent))) => {
-                    if count == PATH_KEPT {
-                        count = 1; // The upper ones are forgotten.
+            let (reached, told) = guarded.manager.lock_path(txn, node, mode)?;
+            let tells = !told.is_empty();
+            self.wake_behind(&mut guarded, tells, matches!(reached, Reached::Waiting(_)));
+            match reached {
+                Reached::Granted(mode) => return Ok(mode),
+                Reached::Victim => return Err(Stop::Victim),
+                Reached::Above(_) => {}
+                Reached::Waiting(at) => {
+                    let wanted = guarded.manager.waiting(txn).map_or(mode, |wait| wait.mode);
+                    let (held, end) = self.sleep(guarded, txn, at, wanted, until);
+                    guarded = held;
+                    match end {
+                        Ok(mode) if at == node => return Ok(mode),
+                        Ok(_) | Err(Stop::Moved) => {} // The rest of the path is asked for.
+                        Err(stop) => return Err(stop),
                     }
-                    way[count] = parent;
-                    count += 1;
                 }
-                Err(Stop::Moved) => {} // It is asked for again, and names its new parents.
-                Err(stop) => return Err(stop),
             }
         }
     }
 
-    /// Asks for a lock with the latch held, and sleeps where it has to be waited for.
-    fn lock_held<'t>(
-        &'t self,
-        mut guarded: MutexGuard<'t, Guarded>,
-        txn: Txn,
-        node: Node,
-        mode: Mode,
-        until: Option<Instant>,
-    ) -> (MutexGuard<'t, Guarded>, Result<Mode, Stop>) {
-        let (asked, tells) = match guarded.manager.lock(txn, node, mode) {
-            Ok((asked, told)) => (asked, !told.is_empty()),
-            Err(refusal) => return (guarded, Err(Stop::Refused(refusal))),
-        };
+    /// Behind a lock: wakes those whose wait it ended, where it told somebody, and who watches, where
+    /// it was left waiting.
+    fn wake_behind(&self, guarded: &mut Guarded, tells: bool, waits: bool) {
         if tells {
-            self.wake(&guarded);
+            self.wake(guarded);
         }
-        match asked {
-            Asked::Granted(mode) => (guarded, Ok(mode)),
-            Asked::Victim => (guarded, Err(Stop::Victim)),
-            Asked::Waiting => {
-                guarded.waited = guarded.manager.accepted();
-                self.began.notify_all();
-                self.sleep(guarded, txn, node, mode, until)
-            }
+        if waits {
+            guarded.waited = guarded.manager.accepted();
+            self.began.notify_all();
         }
     }
 

@@ -14,6 +14,7 @@ ghost use Rattle.gl_table.specs.model.Calls.{group_tests, living_tests};
 ghost use Rattle.gl_table.specs.model.State.{members, waits_for};
 ghost use Rattle.gl_catalog.specs.Manager.{IsLawfulManager};
 ghost use Rattle.gl_c.specs.Looks.{Looks};
+ghost use Rattle.gl_c.specs.Paths.{CarriesPath};
 ghost use Rattle.gl_c.specs.Verdicts.{Judges};
 ghost use Rattle.gl_c.specs.Watching.{Attends};
 
@@ -91,6 +92,26 @@ impl Handle {
             return Reply::with_status(NO_MANAGER);
         };
         let reply = session.carry_out(command, told);
+        *self = Handle::of(alloc, session);
+        reply
+    }
+
+    /// Locks a node with what has to be held above it, and writes down whom it tells.
+    pub(crate) fn lock_path(
+        &mut self,
+        txn: TxnId,
+        node: NodeId,
+        mode: Mode,
+        told: &mut Notices,
+    ) -> Reply
+        ensures { CarriesPath (guarded_in self.old) txn (node, mode) result told.new (guarded_in self.new) }
+    {
+        let alloc = self.alloc;
+        let Some(mut session) = self.take() else {
+            told.clear();
+            return Reply::with_status(NO_MANAGER);
+        };
+        let reply = session.lock_path(txn, node, mode, told);
         *self = Handle::of(alloc, session);
         reply
     }

@@ -1,0 +1,155 @@
+-- What a path is to those who are told, who wait and who watch. For Guarded.serve_path.
+use Rattle.std.specs.Prelude.{◌≡◌, ◌⊎◌, ℕ, zero, suc, ◌+◌, ◌<◌, ◌≤◌, ◌==◌, ◌||◌, ◌&&◌, not, Bool, true, false, List, [], ◌∷◌, length, Option, Some, None, Result, Ok, Err}
+use Rattle.std.specs.List.{list_any}
+use Rattle.std.proofs.Common.{refl, sym, ap, subst, ◌∙◌, inl, inr, ⊎_elim, arith}
+use mathlib.Core.Bool.{true≢false}
+use Rattle.gl_modes.proofs.Words.{and_both, split}
+use Rattle.gl_modes.specs.declared.mode.Mode.{Mode}
+use Rattle.gl_modes.specs.declared.node.NodeId.{NodeId}
+use Rattle.gl_waits.specs.Sets.{has_slot}
+use Rattle.gl_waits.specs.declared.victims.Victims.{Victims}
+use Rattle.gl_table.specs.declared.answers.Detect.{Detect}
+use Rattle.gl_table.specs.declared.answers.Detect.TheVariants.{AtBlock, ByWatcher}
+use Rattle.gl_table.specs.declared.txn.TxnId.{TxnId}
+use Rattle.gl_table.specs.model.Calls.{WaitSettles, enqueued, enters_at, wanted}
+use Rattle.gl_table.specs.model.State.{SettledWithin, State, condemned}
+use Rattle.gl_table.specs.model.Tellings.{Told}
+use Rattle.gl_catalog.specs.declared.command.Answer.{Answer}
+use Rattle.gl_catalog.specs.declared.command.Answer.TheVariants as answer
+use Rattle.gl_catalog.specs.declared.command.Command.TheVariants as command
+use Rattle.gl_catalog.specs.Counters.{grants, refuses}
+use Rattle.gl_catalog.specs.Manager.{ManagerView, state_of}
+use Rattle.gl_catalog.specs.Paths.{Ask, AsksFirst, IsPath, goes_on, lock_of}
+use Rattle.gl_catalog.specs.Promises.{NobodyWaits, waits_on}
+use Rattle.gl_catalog.specs.Replies.{Says}
+use Rattle.gl_catalog.specs.Step.{Accepts, Step}
+use Rattle.gl_catalog.proofs.Detection.{steps_keep_detect}
+use Rattle.gl_catalog.proofs.EachStep.{each_step}
+use Rattle.gl_catalog.proofs.StepsKeepLaw.{steps_keep_law}
+use Rattle.gl_catalog.proofs.WaitsBegin.{nobody_waits_on}
+use Rattle.gl_catalog.proofs.WaitsEnd.{ends_waits}
+use Rattle.gl_boxes.specs.Served.{Counts, RisingTo, is_refused, leaves_waiting}
+use Rattle.gl_boxes.specs.Wakes.{HasEnded}
+use Rattle.gl_boxes.proofs.Rising.{step_rises}
+use Rattle.gl_boxes.proofs.Serving.{step_counts}
+use Rattle.gl_boxes.proofs.Waking.{wakes_ended}
+
+-- a lock leaves the limit of transactions
+settled_most : (c : Victims) (k : ℕ) (s s' : State) (t : ℕ) → SettledWithin c k s t s' → s'.most ≡ s.most
+settled_most c zero s s' t h = ap (λ z. z.most) h.1
+settled_most c (suc k) s s' t h = settled_most c k (condemned s h.0) s' t h.2
+
+wait_most : (d : Detect) (c : Victims) (s s' : State) (t : ℕ) → WaitSettles d c s t s' → s'.most ≡ s.most
+wait_most AtBlock c s s' t h = settled_most c h.0 s s' t h.1
+wait_most ByWatcher c s s' t h = ap (λ z. z.most) h
+
+lock_most : (t : TxnId) (ask : Ask) (s s' : State) (a : Answer) (told : Told) → Step s (lock_of t ask) a told s' → s'.most ≡ s.most
+lock_most t ask s s' a told step =
+    each_step (λ x. x.most ≡ s.most) s (lock_of t ask) a told s' refl (λ next same. same)
+    (λ free next acc. split (enters_at s t.slot ask.0 ask.1) (λ e. ap (λ z. z.most) (acc.0.at_once e))
+    (λ e. wait_most s.detect s.victims (enqueued s t.slot ask.0 (wanted s t.slot ask.0 ask.1)) next t.slot (acc.0.waits e))) step
+
+-- two words for a refusal
+refused_too : (a : Answer) → is_refused a ≡ true → refuses a ≡ true
+refused_too (answer.Refused r) e = refl
+refused_too answer.Done e = absurd (cc e)
+refused_too (answer.Node n) e = absurd (cc e)
+refused_too (answer.Begun t) e = absurd (cc e)
+refused_too (answer.Granted m) e = absurd (cc e)
+refused_too answer.Waiting e = absurd (cc e)
+refused_too answer.Victim e = absurd (cc e)
+refused_too (answer.Escalated x) e = absurd (cc e)
+refused_too (answer.Mode m) e = absurd (cc e)
+refused_too (answer.Effect x) e = absurd (cc e)
+
+-- what is granted is neither refused nor waited for
+grant_is : (a : Answer) → grants a ≡ true → (m : Mode) × (a ≡ answer.Granted m)
+grant_is (answer.Granted m) e = (m, refl)
+grant_is (answer.Refused r) e = absurd (cc e)
+grant_is answer.Done e = absurd (cc e)
+grant_is (answer.Node n) e = absurd (cc e)
+grant_is (answer.Begun t) e = absurd (cc e)
+grant_is answer.Waiting e = absurd (cc e)
+grant_is answer.Victim e = absurd (cc e)
+grant_is (answer.Escalated x) e = absurd (cc e)
+grant_is (answer.Mode m) e = absurd (cc e)
+grant_is (answer.Effect x) e = absurd (cc e)
+
+none_in : (told : Told) → (length told == 0) ≡ true → told ≡ []
+none_in [] e = refl
+none_in (x ∷ told) e = absurd (cc e)
+
+-- behind an ask that the path goes on from, nobody is told
+module _ (node asked : NodeId) (r : Says) (on : goes_on node asked r ≡ true) where
+  both : (grants r.0 ≡ true) × ((length r.1 == 0) ≡ true)
+  both = and_both (grants r.0) (length r.1 == 0) (and_both _ _ on).0
+
+  granted : (m : Mode) × (r.0 ≡ answer.Granted m)
+  granted = grant_is r.0 both.0
+
+  none_told : r.1 ≡ []
+  none_told = none_in r.1 both.1
+
+module _ (t : TxnId) (ask : Ask) (m : ManagerView) (first : Ask) (r : Says) (m' : ManagerView) (asks : AsksFirst t ask m first r m') where
+  counts : Counts (state_of m) (lock_of t first) r.0 r.1 (state_of m')
+  counts = step_counts (state_of m) (lock_of t first) r.0 r.1 (state_of m') asks.step
+
+  -- an ask is refused and changes nothing, or is counted
+  same_or_more : ((m' ≡ m) × (r.1 ≡ [])) ⊎ (m'.accepted ≡ m.accepted + 1)
+  same_or_more = by (is_refused r.0) refl
+    where
+      by : (b : Bool) → is_refused r.0 ≡ b → ((m' ≡ m) × (r.1 ≡ [])) ⊎ (m'.accepted ≡ m.accepted + 1)
+      by true e = inl (asks.unchanged (refused_too r.0 e), (counts.not_accepted (ap not e)).1)
+      by false e = inr (counts.accepted (ap not e))
+
+  -- a grant is counted
+  one_more : (mode : Mode) → r.0 ≡ answer.Granted mode → m'.accepted ≡ m.accepted + 1
+  one_more mode is = counts.accepted (ap (λ a. not (is_refused a)) is)
+
+module _ (t : TxnId) (ask last : Ask) (r : Says) (m' : ManagerView) where
+  -- a path of which nothing is accepted changes nothing
+  pub path_counts : (k : ℕ) (m : ManagerView) → IsPath k t ask m last r m' → ((m' ≡ m) × (r.1 ≡ [])) ⊎ (m.accepted < m'.accepted)
+  path_counts zero m path =
+      ⊎_elim (λ (same : (m' ≡ m) × (r.1 ≡ [])). inl same) (λ (more : m'.accepted ≡ m.accepted + 1). inr (omega (arith, more)))
+      (same_or_more t ask m last r m' path.0)
+  path_counts (suc k) m path =
+      let yes = granted ask.0 path.0.0 path.1 path.4 in
+      let more : path.2.accepted ≡ m.accepted + 1 = one_more t ask m path.0 path.1 path.2 path.3 yes.0 yes.1 in
+      inr (⊎_elim
+      (λ (same : (m' ≡ path.2) × (r.1 ≡ [])). let is : m'.accepted ≡ path.2.accepted = ap (λ (x : ManagerView). x.accepted) same.0 in omega (arith, more, is))
+      (λ (later : path.2.accepted < m'.accepted). omega (arith, more, later)) (path_counts k path.2 path.5))
+
+  -- it leaves the way of detection
+  pub path_detect : (k : ℕ) (m : ManagerView) → IsPath k t ask m last r m' → (state_of m').detect ≡ (state_of m).detect
+  path_detect zero m path = steps_keep_detect (state_of m) (state_of m') (lock_of t last) r.0 r.1 path.0.step
+  path_detect (suc k) m path = path_detect k path.2 path.5 ∙ steps_keep_detect (state_of m) (state_of path.2) (lock_of t path.0) path.1.0 path.1.1 path.3.step
+
+  -- who is told stands by rising slot
+  pub path_rises : (k : ℕ) (m : ManagerView) → (state_of m).most ≤ 128 → IsPath k t ask m last r m' → RisingTo 0 r.1 128
+  path_rises zero m few path = step_rises (state_of m) (lock_of t last) r.0 r.1 (state_of m') few path.0.step
+  path_rises (suc k) m few path =
+      path_rises k path.2
+      (subst (λ n. n ≤ 128) (sym (lock_most t path.0 (state_of m) (state_of path.2) path.1.0 path.1.1 path.3.step)) few) path.5
+
+  -- where nobody waits and it leaves nobody waiting, nobody waits behind it
+  pub path_quiet : (k : ℕ) (m : ManagerView) → NobodyWaits (state_of m) → (r.0 ≡ answer.Waiting → ⊥) → IsPath k t ask m last r m' → NobodyWaits (state_of m')
+  path_quiet zero m idle goes path = nobody_waits_on (state_of m) (state_of m') (lock_of t last) r.0 r.1 idle goes path.0.step
+  path_quiet (suc k) m idle goes path =
+      let yes = granted ask.0 path.0.0 path.1 path.4 in
+      path_quiet k path.2
+      (nobody_waits_on (state_of m) (state_of path.2) (lock_of t path.0) path.1.0 path.1.1 idle (λ is. absurd (cc (is, yes.1))) path.3.step) goes path.5
+
+  -- whose wait it ends is told by its last ask
+  pub path_ended : (k : ℕ) (m : ManagerView) (slots : ℕ) → ((u : ℕ) → u < 128 → has_slot slots u ≡ (false || list_any (λ x. x.0.slot == u) r.1))
+      → IsPath k t ask m last r m' → HasEnded (state_of m) (state_of m') slots
+  path_ended zero m slots is path = wakes_ended (lock_of t last) r.1 slots is (state_of m) (state_of m') r.0 path.0.step
+  path_ended (suc k) m slots is path law u n below was gone = by (waits_on (state_of path.2) u n) refl
+    where
+      step : Step (state_of m) (lock_of t path.0) path.1.0 path.1.1 (state_of path.2)
+      step = path.3.step
+      by : (b : Bool) → waits_on (state_of path.2) u n ≡ b → has_slot slots u.slot ≡ true
+      by true e =
+          path_ended k path.2 slots is path.5 (steps_keep_law (state_of m) (state_of path.2) (lock_of t path.0) path.1.0 path.1.1 law step) u n below e gone
+      by false e =
+          let told = ends_waits (state_of m) (state_of path.2) (lock_of t path.0) path.1.0 path.1.1 u n law step was e in
+          absurd (cc (told, none_told ask.0 path.0.0 path.1 path.4))
