@@ -147,6 +147,7 @@ module _ (t : TxnId) (ask last : Ask) (r : Says) (m' : ManagerView) where
     where
       step : Step (state_of m) (lock_of t path.0) path.1.0 path.1.1 (state_of path.2)
       step = path.3.step
+
       by : (b : Bool) → waits_on (state_of path.2) u n ≡ b → has_slot slots u.slot ≡ true
       by true e =
           path_ended k path.2 slots is path.5 (steps_keep_law (state_of m) (state_of path.2) (lock_of t path.0) path.1.0 path.1.1 law step) u n below e gone

@@ -7,9 +7,7 @@ ghost use Rattle.gl_c.specs.Replies.{count_reply, refused_at, refused_reply, rep
 ghost use Rattle.gl_c.specs.Verdicts.{verdict_reply};
 
 use crate::names::{Node, Txn};
-use crate::numbers::{
-    DONE, GONE, MOVED, ON_THE_WAY, VICTIM, WAITING, effect_number, mode_number,
-};
+use crate::numbers::{DONE, GONE, MOVED, ON_THE_WAY, VICTIM, WAITING, effect_number, mode_number};
 use gl_boxes::{Grant, Stop};
 use gl_catalog::{Answer, Reached};
 use gl_modes::{Mode, NodeId, Refusal};

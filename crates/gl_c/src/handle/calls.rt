@@ -1,6 +1,6 @@
 //! The session of a manager: put to its place, taken out, and used.
 
-ghost use Rattle.std.specs.Prelude.{◌≡◌, IfSome, None, Some, is_some};
+ghost use Rattle.std.specs.Prelude.{◌≡◌, [], IfSome, None, Some, is_some};
 ghost use Rattle.std.specs.Option.{option_map};
 ghost use Rattle.gl_c.specs.Boards.{Shows};
 ghost use Rattle.gl_c.specs.Carries.{Asks, Carries};
@@ -15,6 +15,9 @@ ghost use Rattle.gl_table.specs.model.State.{members, waits_for};
 ghost use Rattle.gl_catalog.specs.Manager.{IsLawfulManager};
 ghost use Rattle.gl_c.specs.Looks.{Looks};
 ghost use Rattle.gl_c.specs.Paths.{CarriesPath};
+ghost use Rattle.gl_c.specs.Notices.{Tells};
+ghost use Rattle.gl_c.specs.Numbers.{no_manager};
+ghost use Rattle.gl_c.specs.Replies.{status_reply};
 ghost use Rattle.gl_c.specs.Verdicts.{Judges};
 ghost use Rattle.gl_c.specs.Watching.{Attends};
 
@@ -36,6 +39,15 @@ use gl_table::TxnId;
 use gl_window::{WatchFault, Watcher};
 use std::alloc::Global;
 use std::mem::replace;
+
+/// The reply where there is no manager, and nobody is told.
+fn declined(told: &mut Notices) -> Reply
+    ensures replied { result ≡ status_reply no_manager }
+    ensures tells { Tells told.new [] }
+{
+    told.clear();
+    Reply::with_status(NO_MANAGER)
+}
 
 impl Handle {
     fn none(alloc: Global) -> Handle
@@ -88,8 +100,7 @@ impl Handle {
     {
         let alloc = self.alloc;
         let Some(mut session) = self.take() else {
-            told.clear();
-            return Reply::with_status(NO_MANAGER);
+            return declined(told);
         };
         let reply = session.carry_out(command, told);
         *self = Handle::of(alloc, session);
@@ -108,8 +119,7 @@ impl Handle {
     {
         let alloc = self.alloc;
         let Some(mut session) = self.take() else {
-            told.clear();
-            return Reply::with_status(NO_MANAGER);
+            return declined(told);
         };
         let reply = session.lock_path(txn, node, mode, told);
         *self = Handle::of(alloc, session);

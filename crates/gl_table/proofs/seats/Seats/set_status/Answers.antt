@@ -16,7 +16,7 @@ pub returns-in-Some-clause-txns : goal.returns-in-Some-clause-txns
 returns-in-Some-clause-txns c = λ u.
     let lt : c.args.slot < length c.self.inside.list.items = grind (arith, common_steps, c.requires, c.self.view_is) in
     let was : txns_of c.args.self.now.items c.args.slot ≡ Some (record { age = c.in-Some.seat.age; status = c.in-Some.seat.status }) =
-        grind (arith, common_steps, nat_tests, gets, elements, c.in-Some.is, c.in-Some.seat-is, c.index_mut-seat.ensures.value, c.requires, c.self.view_is) in
+    grind (arith, common_steps, nat_tests, gets, elements, c.in-Some.is, c.in-Some.seat-is, c.index_mut-seat.ensures.value, c.requires, c.self.view_is) in
     txns-set c.self.inside.list.items c.args.slot (Some (record { age = c.in-Some.seat.age; status = c.args.status })) lt u
     ∙ ap₂ (λ one other. if u == c.args.slot then one else other) (sym (ap (restatus c.args.status) was))
     (ap (λ (v : SeatList). txns_of v.items u) c.self.view_is)
