@@ -26,9 +26,9 @@ impl Manager {
     /// is held already is not asked again. Each ask is a lock, and is counted as one.
     ///
     /// It ends with the ask for the node; or with the first ask above it that waits, that fells its
-    /// transaction, or whose grant told others, who are to hear of it before more is asked. `node`
-    /// says which; after the grant the caller asks again for the rest of the path. What was locked
-    /// stays locked.
+    /// transaction, or whose grant told others, who are to hear of it before more is asked. The answer
+    /// says which. Once that node is granted, and they have heard, the caller asks again for the rest
+    /// of the path. What was locked stays locked.
     ///
     /// To another living transaction its effective mode on each record is left, or raised where the
     /// list tells it of a grant; and where it reads a node, the records below that node are left, with
@@ -36,8 +36,8 @@ impl Manager {
     ///
     /// Refused, in this order, with `WornOut`, `NoSuchTxn`, `TxnWaiting`, `TxnCondemned`,
     /// `NoSuchNode` and `BadMode` before anything is locked; with `WornOut` and `NoMemory` also on
-    /// the way. For each ask it climbs from the node to what comes first. It may want memory for
-    /// locks alone.
+    /// the way. It wants memory for locks alone. Each ask costs a climb from the node to what comes
+    /// first.
     pub fn lock_path_telling(
         &mut self,
         t: TxnId,
@@ -55,7 +55,7 @@ impl Manager {
         self.law();
         'path: loop {
             let reached = self.lock_first(t, node, mode, told)?;
-            // Each of these is counted, so that there are not more of them than are counted.
+            // A grant is counted, so that the path ends where the count does, if not before.
             let _counted = self.accepted();
             if !leads_on(node, reached, told) {
                 return Ok(reached);
