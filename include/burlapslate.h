@@ -407,11 +407,12 @@ static inline bs_reply bs_add_file(bs_manager *manager, const bs_node *parents, 
   return bs_call_add_file(manager, bs_nodes(parents), count);
 }
 
-/* A new index of a file that has no records, under 1 to 8 different inner nodes, with up to 256 bounds,
- * rising from above 0: interval 0 has the keys below the first bound, interval i those from bound i - 1
- * on. Refused with BS_NO_SUCH_NODE, BS_BAD_PARENTS (also where the file has 7 indexes), BS_FILE_IN_USE,
- * BS_BAD_KEYS, BS_TOO_MANY_NODES; with BS_BAD_NUMBER, first of all, where there are more than 8
- * parents. Costs a step for each bound. */
+/* A new index of a file that has no records, under 1 to 8 different inner nodes, with up to 256 bounds, or,
+ * where the manager was made by bs_make_with for another number of nodes than 65,536, up to as many bounds
+ * as nodes may live. They rise from above 0: interval 0 has the keys below the first bound, interval i those
+ * from bound i - 1 on. Each interval is a node. Refused with BS_NO_SUCH_NODE, BS_BAD_PARENTS (also where
+ * the file has 7 indexes), BS_FILE_IN_USE, BS_BAD_KEYS, BS_TOO_MANY_NODES; with BS_BAD_NUMBER, first of all,
+ * where there are more than 8 parents. Costs a step for each bound. */
 static inline bs_reply bs_add_index(bs_manager *manager, const bs_node *parents, size_t count, bs_node file,
                                     const uint64_t *bounds, size_t bound_count) {
   if (manager == NULL || (parents == NULL && count != 0) || (bounds == NULL && bound_count != 0)) return bs_null();

@@ -1,9 +1,9 @@
 -- Managers come and go.
-use Rattle.std.specs.Prelude.{◌≡◌, ◌⊎◌, ℕ, Bool, ◌&&◌, Option, Some, None, if◌then◌else◌, nat_lt, replicate}
+use Rattle.std.specs.Prelude.{◌≡◌, ◌⊎◌, ℕ, Bool, ◌&&◌, ◌==◌, Option, Some, None, if◌then◌else◌, nat_lt, replicate}
 use Rattle.gl_modes.specs.declared.refusal.Refusal.TheVariants as no
 use Rattle.gl_table.specs.declared.answers.Detect.{Detect}
 use Rattle.gl_waits.specs.declared.victims.Victims.{Victims}
-use Rattle.gl_table.specs.model.State.{choosing, empty_state, with_room}
+use Rattle.gl_table.specs.model.State.{State, choosing, empty_state, with_room}
 use Rattle.gl_catalog.specs.Manager.{state_of}
 use Rattle.gl_c.specs.declared.reply.Reply.{Reply}
 use Rattle.gl_c.specs.Carries.{Declines, Where}
@@ -15,9 +15,13 @@ use Rattle.gl_c.specs.Replies.{refused_reply, status_reply}
 abbrev pub can_have : ℕ → ℕ → Bool
 can_have most nodes = (nat_lt 0 most && nat_lt most 129) && (nat_lt 0 nodes && nat_lt nodes 2147483649)
 
+-- the state with this limit of nodes: the usual one goes with 256 bounds for an index, any other one limits the bounds too
+abbrev pub made_for : ℕ → State → State
+made_for nodes s = if nodes == 65536 then s else with_room nodes s
+
 -- a manager without nodes and transactions, with empty boxes, that no watcher was shown
 pub record IsNew (detect : Detect) (victims : Victims) (most nodes : ℕ) (g : GuardedView) : Type 0 where
-  pub manager : state_of g.manager ≡ with_room nodes (choosing victims (empty_state detect most))
+  pub manager : state_of g.manager ≡ made_for nodes (choosing victims (empty_state detect most))
   pub boxes : g.boxes ≡ replicate 128 None
   pub ended : g.ended ≡ 0
   pub shown : g.shown ≡ None

@@ -8,11 +8,12 @@ ghost use Rattle.gl_catalog.specs.Manager.{IsLawfulManager, state_of};
 ghost use Rattle.gl_catalog.specs.Promises.{NobodyWaits};
 ghost use Rattle.gl_boxes.specs.Boards.{Ends, Fine, ShowsNobody, last_epoch};
 ghost use Rattle.gl_boxes.specs.Boxes.{verdict_of};
-ghost use Rattle.gl_c.specs.Managing.{IsNew};
+ghost use Rattle.gl_c.specs.Managing.{IsNew, made_for};
 ghost use Rattle.gl_c.specs.Paths.{ServesPath, ends_waiting};
 ghost use Rattle.gl_c.specs.Serving.{Serves, ShowsNobodyLast, ShowsOn};
 ghost use Rattle.gl_c.specs.Watching.{OnlyShows};
 
+use crate::managing::USUAL_NODES;
 use gl_boxes::{
     Boxes, Grant, Stop, Telling, board_now, ended_by, is_accepted, is_due, leaves_waiting,
     may_show_waits,
@@ -24,6 +25,28 @@ use gl_waits::{Board, Victims};
 use gl_window::{Publisher, WatchFault, Watcher};
 use std::alloc::{AllocError, Global};
 use std::marker::Model;
+
+/// A manager for at most so many transactions and nodes at once. With the usual number of nodes an index
+/// may have 256 bounds, with another one as many as nodes may live. The only refusal is `NoMemory`.
+fn manager_for(
+    alloc: Global,
+    detect: Detect,
+    victims: Victims,
+    most: usize,
+    nodes: u32,
+) -> Result<Manager, Refusal>
+    requires some { 1 ≤ most }
+    requires few { most ≤ 128 }
+    requires low { nodes ≤ 2 ^ 31 }
+    ensures made { IfOk result (λ manager. state_of manager ≡ made_for nodes (choosing victims (empty_state detect most))) }
+    ensures refused { IfErr result (λ refusal. refusal ≡ ARefusal.NoMemory) }
+{
+    if nodes == USUAL_NODES {
+        Manager::choosing(alloc, detect, victims, most)
+    } else {
+        Manager::with_room(alloc, detect, victims, most, nodes)
+    }
+}
 
 /// The manager, a notice box for each slot, the slots whose wait the last accepted command may have
 /// ended, and, once there was a watcher, the side that shows boards.
@@ -64,7 +87,7 @@ impl Guarded {
         ensures made { IfOk result (λ guarded. IsNew detect victims most nodes guarded) }
         ensures refused { IfErr result (λ refusal. refusal ≡ ARefusal.NoMemory) }
     {
-        let manager = Manager::with_room(alloc, detect, victims, most, nodes)?;
+        let manager = manager_for(alloc, detect, victims, most, nodes)?;
         Ok(Guarded {
             manager,
             boxes: Boxes::new(),

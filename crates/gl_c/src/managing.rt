@@ -14,7 +14,7 @@ use gl_waits::{SLOTS, Victims};
 use std::alloc::Global;
 
 /// How many nodes may live at once where no number is given.
-const USUAL_NODES: u32 = 65_536;
+pub(crate) const USUAL_NODES: u32 = 65_536;
 
 /// How many nodes a manager may be made for at most.
 const MOST_NODES: u32 = 2_147_483_648;

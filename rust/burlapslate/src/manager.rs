@@ -203,8 +203,9 @@ impl Manager {
     }
 
     /// A new index of a file that has no records, under 1 to 8 different inner nodes, with up to
-    /// 256 bounds, rising from above 0: interval 0 has the keys below the first bound, interval i
-    /// those from bound i - 1 on.
+    /// 256 bounds, or, where the manager was made for another number of [`nodes`](Options::nodes)
+    /// than 65,536, up to as many bounds as nodes may live. They rise from above 0: interval 0 has
+    /// the keys below the first bound, interval i those from bound i - 1 on. Each interval is a node.
     ///
     /// Refused with [`BadNumber`](Refusal::BadNumber), [`WornOut`](Refusal::WornOut),
     /// [`NoSuchNode`](Refusal::NoSuchNode), [`BadParents`](Refusal::BadParents) (also where the
