@@ -52,7 +52,7 @@ extern "C" {
 /* The version of what is declared here. The first number rises where a program has to be changed for it, the
  * second where something is added, the third where neither. */
 #define BS_VERSION_MAJOR 0
-#define BS_VERSION_MINOR 6
+#define BS_VERSION_MINOR 7
 #define BS_VERSION_PATCH 0
 
 /* How many transactions can live at once, and so how many notices a call can have. */
