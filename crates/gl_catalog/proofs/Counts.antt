@@ -1,11 +1,12 @@
 -- What counting a command comes to.
-use Rattle.std.specs.Prelude.{◌≡◌, ℕ, ◌+◌, ◌<◌, ◌≤◌, Bool, true, false, not, List, [], ◌∷◌, ◌++◌, cond, get_or, length, max, take, Err}
+use Rattle.std.specs.Prelude.{◌≡◌, ℕ, zero, suc, ◌+◌, ◌-◌, ◌<◌, ◌≤◌, Bool, true, false, not, List, [], ◌∷◌, ◌++◌, cond, get_or, is_some, length, max, take, Err, Option, Some, None}
 use Rattle.std.specs.List.{count_by, range_with_len}
 use Rattle.std.proofs.Common.{refl, ap, sym, ◌∙◌, arith}
 use Rattle.std.proofs.lemmas.Bool.Decides.{nat_tests}
 use Rattle.std.proofs.lemmas.List.{take_more}
-use Rattle.std.proofs.lemmas.List.Sums.{sum-map, sum_by_push}
-use Rattle.std.proofs.lemmas.List.FromFn.{sum_by-map-range_with_len_more}
+use Rattle.std.proofs.lemmas.List.Sums.{count_by-le-length, length-filter, sum-map, sum_by_push}
+use Rattle.std.proofs.lemmas.List.FromFn.{length-range_with_len, sum_by-map-range_with_len_more}
+use Rattle.std.proofs.Math.Path.{fun_ext}
 use mathlib.Core.Bool.{true≢false}
 use Rattle.gl_modes.proofs.Words.{no}
 use Rattle.gl_modes.specs.declared.node.NodeId.{NodeId}
@@ -19,7 +20,10 @@ use Rattle.gl_table.specs.declared.answers.Notice.TheVariants as notice
 use Rattle.gl_table.specs.declared.txn.TxnId.{TxnId}
 use Rattle.gl_table.specs.model.Calls.{RefusesOnly, group_tests}
 use Rattle.gl_table.specs.model.Lawful.{IsLawful}
-use Rattle.gl_table.specs.model.State.{State, status_of, is_wait}
+use Rattle.gl_table.specs.model.State.{State, Txn, status_in, status_of, is_wait}
+use Rattle.gl_slots.specs.declared.slots.Slots.{Slots}
+use Rattle.gl_slots.specs.Slots.{has_slot, slot_limit, slots_of}
+use Rattle.gl_slots.proofs.SlotLemmas.{slot_limit-is}
 use Rattle.gl_table.specs.model.Tellings.{Told}
 use Rattle.gl_catalog.specs.declared.counters.Counters.{Counters}
 use Rattle.gl_catalog.specs.Counters.{is_gone, is_grant, is_moved, is_victim, rises, with_notice, with_notices}
@@ -82,13 +86,35 @@ waiting_more s k =
     let one : ℕ → ℕ = λ t. cond (is_wait (status_of s t)) 1 0 in
     sym (sum-map one (range_with_len 0 (k + 1))) ∙ sum_by-map-range_with_len_more (λ n. n) one 0 k k (omega arith) ∙ ap (λ n. n + one k) (sum-map one (range_with_len 0 k))
 
--- the count goes on by one where the next slot waits, and stays where it does not
-pub waiting_next : (s : State) (k n m : ℕ) (here : Bool) → n ≡ waiting_below s k → n ≤ k → here ≡ is_wait (status_of s k) → m ≡ n + cond here 1 0 → (m ≡ waiting_below s (k + 1)) × (m ≤ k + 1)
-waiting_next s k n m here so_far few is next =
-    let more = waiting_more s k in
-    let one : cond {A = ℕ} here 1 0 ≡ cond {A = ℕ} (is_wait (status_of s k)) 1 0 = ap {B = ℕ} (λ b. cond b 1 0) is in
-    let small : cond here 1 0 ≤ 1 = elim here as (λ b. cond b 1 0 ≤ 1) [ true ↦ omega arith | false ↦ omega arith ] in
-    (omega (arith, more, one, next, so_far), omega (arith, few, next, small))
+-- behind slots in which nobody waits the count stays
+none_above : (s : State) (k j : ℕ) → ((t : ℕ) → k ≤ t → is_wait (status_of s t) ≡ false) → waiting_below s (k + j) ≡ waiting_below s k
+none_above s k zero none = ap (waiting_below s) (omega arith)
+none_above s k (suc j) none =
+    ap (waiting_below s) (omega arith) ∙ waiting_more s (k + j) ∙ ap (λ b. waiting_below s (k + j) + cond b 1 0) (none (k + j) (omega arith))
+    ∙ omega arith ∙ none_above s k j none
+
+-- a slot past the limit has nobody who waits
+past_most : (s : State) → IsLawful s → (t : ℕ) → s.most ≤ t → is_wait (status_of s t) ≡ false
+past_most s law t past = by (s.txns t) refl
+  where
+    by : (o : Option Txn) → s.txns t ≡ o → is_wait (status_in o) ≡ false
+    by None e = refl
+    by (Some x) e = let below = law.slots_below t (ap is_some e) in absurd (omega (arith, below, past))
+
+-- a set of the slots of those who wait has as many as wait
+pub waiting_slots : (s : State) (w : Slots) → IsLawful s → s.most ≤ 128 → ((u : ℕ) → has_slot w u ≡ is_wait (status_of s u)) → length (slots_of w) ≡ waiting_below s s.most
+waiting_slots s w law few is =
+    length-filter (has_slot w) (range_with_len 0 slot_limit)
+    ∙ ap (λ p. count_by p (range_with_len 0 slot_limit)) (fun_ext is)
+    ∙ ap (waiting_below s) (slot_limit-is ∙ omega (arith, few))
+    ∙ none_above s s.most (128 - s.most) (past_most s law)
+
+-- no more wait than there are slots
+pub few_wait : (s : State) → s.most ≤ 128 → waiting_below s s.most ≤ 128
+few_wait s few =
+    let some = count_by-le-length (λ t. is_wait (status_of s t)) (range_with_len 0 s.most) in
+    let all = length-range_with_len 0 s.most in
+    omega (arith, some, all, few)
 
 -- nobody waits for a node of which the queue is refused, since it does not live
 pub no_waiters : (A : Type 0) (s : State) (n : NodeId) (r : Refusal) → IsLawful s → RefusesOnly {A = A} (first_refusal (group_tests s n)) (Err r) → length (s.queue n) ≡ 0

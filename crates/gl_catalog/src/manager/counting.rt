@@ -1,7 +1,6 @@
 //! What the manager counts of each command.
 
 ghost use Rattle.std.specs.Prelude.{◌≡◌, if◌then◌else◌, length};
-ghost use Rattle.gl_table.specs.model.State.{status_of, is_wait};
 ghost use Rattle.gl_catalog.specs.Counters.{holds_already, lock_counted, waiting_in, waits};
 ghost use Rattle.gl_catalog.specs.Manager.{state_of};
 ghost use Rattle.gl_catalog.specs.Step.{answer_of_lock};
@@ -9,7 +8,7 @@ ghost use Rattle.gl_catalog.specs.Step.{answer_of_lock};
 use super::Manager;
 use crate::counters::Counters;
 use gl_modes::{Mode, NodeId};
-use gl_table::{Locked, Notice, Status, TxnId};
+use gl_table::{Locked, Notice, TxnId};
 
 impl Manager {
     /// What the manager has been doing since it was made. It takes no memory.
@@ -64,20 +63,12 @@ impl Manager {
         ensures { result ≡ waiting_in (state_of self.now) }
     {
         self.law();
+        let mut left = self.table.waiting_slots();
         let mut waiting = 0;
-        for slot in 0..self.table.most() {
-            if self.waits_in(slot as u8) {
-                waiting += 1;
-            }
+        while let Some(_waiter) = left.take_lowest() {
+            waiting += 1;
         }
         waiting
-    }
-
-    /// Whether the transaction in a slot waits.
-    fn waits_in(&self, slot: u8) -> bool
-        ensures { result ≡ is_wait (status_of (state_of self.now) slot) }
-    {
-        matches!(self.table.living(slot), Some((_, Status::Waiting { .. })))
     }
 
     /// How many transactions wait for a node.

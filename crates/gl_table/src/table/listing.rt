@@ -24,7 +24,7 @@ impl Table {
     }
 
     /// The slots of those who wait.
-    pub fn waiting(&self) -> Slots
+    pub fn waiting_slots(&self) -> Slots
         ensures { (u : ℕ) → has_slot result u ≡ is_wait (status_of (state_of self.now) u) }
     {
         self.locks.seats.waiting()

@@ -1,7 +1,13 @@
-use Rattle.std.specs.Prelude.{◌≡◌, ◌≤◌}
+use Rattle.std.specs.Prelude.{◌≡◌, ◌+◌, length}
+use Rattle.gl_slots.specs.Slots.{number_of, slots_of}
+use Rattle.gl_catalog.specs.Counters.{waiting_in}
 use Rattle.gl_catalog.specs.Manager.{state_of}
-use Rattle.gl_catalog.proofs.Counts.{waiting_below}
 use Rattle.gl_catalog.proofs.manager.Manager.waiting_now.Given as goal
 
-abbrev pub invariant-loop-slot : goal.invariant-loop-slot
-invariant-loop-slot l = (l.waiting ≡ waiting_below (state_of l.self) l.slot) × (l.waiting ≤ l.slot)
+-- those that were counted, and those that are left
+abbrev pub invariant-loop-_waiter : goal.invariant-loop-_waiter
+invariant-loop-_waiter l = l.waiting + length (slots_of l.left) ≡ waiting_in (state_of l.self)
+
+-- each that is counted leaves fewer
+abbrev pub decreases-loop-_waiter : goal.decreases-loop-_waiter
+decreases-loop-_waiter l = number_of l.left
