@@ -34,10 +34,8 @@ static bs_reply done(bs_reply reply) {
 /* A transaction that may write records. */
 static bs_txn begin(void) {
   bs_txn t = done(bs_begin(&m)).txn;
-  done(bs_lock(&m, t, db, BS_IX, &told));
-  done(bs_lock(&m, t, file, BS_IX, &told));
-  done(bs_lock(&m, t, by_key, BS_IX, &told));
-  done(bs_lock(&m, t, below, BS_IX, &told));
+  done(bs_lock_path(&m, t, file, BS_IX, &told));
+  done(bs_lock_path(&m, t, below, BS_IX, &told));
   return t;
 }
 

@@ -88,10 +88,16 @@ waiting_more s k =
 
 -- behind slots in which nobody waits the count stays
 none_above : (s : State) (k j : ℕ) → ((t : ℕ) → k ≤ t → is_wait (status_of s t) ≡ false) → waiting_below s (k + j) ≡ waiting_below s k
-none_above s k zero none = ap (waiting_below s) (omega arith)
+none_above s k zero none =
+    let e : k + zero ≡ k = omega arith in
+    ap (waiting_below s) e
 none_above s k (suc j) none =
-    ap (waiting_below s) (omega arith) ∙ waiting_more s (k + j) ∙ ap (λ b. waiting_below s (k + j) + cond b 1 0) (none (k + j) (omega arith))
-    ∙ omega arith ∙ none_above s k j none
+    let e : k + suc j ≡ k + j + 1 = omega arith in
+    let more = waiting_more s (k + j) in
+    let nobody : cond (is_wait (status_of s (k + j))) 1 0 ≡ 0 = ap {B = ℕ} (λ b. cond b 1 0) (none (k + j) (omega arith)) in
+    let rest = none_above s k j none in
+    let one : waiting_below s (k + j + 1) ≡ waiting_below s k = omega (arith, more, nobody, rest) in
+    ap (waiting_below s) e ∙ one
 
 -- a slot past the limit has nobody who waits
 past_most : (s : State) → IsLawful s → (t : ℕ) → s.most ≤ t → is_wait (status_of s t) ≡ false
@@ -104,9 +110,10 @@ past_most s law t past = by (s.txns t) refl
 -- a set of the slots of those who wait has as many as wait
 pub waiting_slots : (s : State) (w : Slots) → IsLawful s → s.most ≤ 128 → ((u : ℕ) → has_slot w u ≡ is_wait (status_of s u)) → length (slots_of w) ≡ waiting_below s s.most
 waiting_slots s w law few is =
+    let limit : 128 ≡ s.most + (128 - s.most) = omega (arith, few) in
     length-filter (has_slot w) (range_with_len 0 slot_limit)
     ∙ ap (λ p. count_by p (range_with_len 0 slot_limit)) (fun_ext is)
-    ∙ ap (waiting_below s) (slot_limit-is ∙ omega (arith, few))
+    ∙ ap (waiting_below s) (slot_limit-is ∙ limit)
     ∙ none_above s s.most (128 - s.most) (past_most s law)
 
 -- no more wait than there are slots
