@@ -1,5 +1,5 @@
 -- What a path is to those who are told, who wait and who watch. For Guarded.serve_path.
-use Rattle.std.specs.Prelude.{◌≡◌, ◌⊎◌, ℕ, zero, suc, ◌+◌, ◌<◌, ◌≤◌, ◌==◌, ◌||◌, ◌&&◌, not, Bool, true, false, List, [], ◌∷◌, length, Option, Some, None, Result, Ok, Err}
+use Rattle.std.specs.Prelude.{◌≡◌, ◌⊎◌, ℕ, zero, suc, ◌+◌, ◌<◌, ◌≤◌, ◌==◌, ◌||◌, ◌&&◌, not, Bool, true, false, List, [], ◌∷◌, length, Option, Some, None, OnErr, Result, Ok, Err}
 use Rattle.std.specs.List.{list_any}
 use Rattle.std.proofs.Common.{refl, sym, ap, subst, ◌∙◌, inl, inr, ⊎_elim, arith}
 use mathlib.Core.Bool.{true≢false}
@@ -10,6 +10,8 @@ use Rattle.gl_waits.specs.Sets.{has_slot}
 use Rattle.gl_waits.specs.declared.victims.Victims.{Victims}
 use Rattle.gl_table.specs.declared.answers.Detect.{Detect}
 use Rattle.gl_table.specs.declared.answers.Detect.TheVariants.{AtBlock, ByWatcher}
+use Rattle.gl_modes.specs.declared.refusal.Refusal.{Refusal}
+use Rattle.gl_table.specs.declared.answers.Locked.TheVariants as locked
 use Rattle.gl_table.specs.declared.txn.TxnId.{TxnId}
 use Rattle.gl_table.specs.model.Calls.{WaitSettles, enqueued, enters_at, wanted}
 use Rattle.gl_table.specs.model.State.{SettledWithin, State, condemned}
@@ -19,9 +21,10 @@ use Rattle.gl_catalog.specs.declared.command.Answer.TheVariants as answer
 use Rattle.gl_catalog.specs.declared.command.Command.TheVariants as command
 use Rattle.gl_catalog.specs.Counters.{grants, refuses}
 use Rattle.gl_catalog.specs.Manager.{ManagerView, state_of}
-use Rattle.gl_catalog.specs.Paths.{Ask, AsksFirst, IsPath, goes_on, lock_of}
+use Rattle.gl_catalog.specs.declared.manager.paths.Reached.{Reached}
+use Rattle.gl_catalog.specs.Paths.{Ask, AsksFirst, IsPath, LocksPath, goes_on, lock_of, reaching}
 use Rattle.gl_catalog.specs.Promises.{NobodyWaits, waits_on}
-use Rattle.gl_catalog.specs.Replies.{Says}
+use Rattle.gl_catalog.specs.Replies.{Says, said}
 use Rattle.gl_catalog.specs.Step.{Accepts, Step}
 use Rattle.gl_catalog.proofs.Detection.{steps_keep_detect}
 use Rattle.gl_catalog.proofs.EachStep.{each_step}
@@ -30,9 +33,11 @@ use Rattle.gl_catalog.proofs.WaitsBegin.{nobody_waits_on}
 use Rattle.gl_catalog.proofs.WaitsEnd.{ends_waits}
 use Rattle.gl_boxes.specs.Served.{Counts, RisingTo, is_refused, leaves_waiting}
 use Rattle.gl_boxes.specs.Wakes.{HasEnded}
+use Rattle.gl_boxes.proofs.Idle.{neither}
 use Rattle.gl_boxes.proofs.Rising.{step_rises}
 use Rattle.gl_boxes.proofs.Serving.{step_counts}
 use Rattle.gl_boxes.proofs.Waking.{wakes_ended}
+use Rattle.gl_c.specs.Paths.{ends_waiting}
 
 -- a lock leaves the limit of transactions
 settled_most : (c : Victims) (k : ℕ) (s s' : State) (t : ℕ) → SettledWithin c k s t s' → s'.most ≡ s.most
@@ -154,3 +159,43 @@ module _ (t : TxnId) (ask last : Ask) (r : Says) (m' : ManagerView) where
       by false e =
           let told = ends_waits (state_of m) (state_of path.2) (lock_of t path.0) path.1.0 path.1.1 u n law step was e in
           absurd (cc (told, none_told ask.0 path.0.0 path.1 path.4))
+
+-- The same of a call that locks a path.
+module _ (t : TxnId) (ask : Ask) (m m' : ManagerView) (told : Told) where
+  -- what is told, also where it is refused
+  told_is : (result : Result Reached Refusal) → OnErr result (told ≡ []) → (said (reaching told) result).1 ≡ told
+  told_is (Ok x) none = refl
+  told_is (Err r) none = sym none
+
+  -- a path that leaves nobody waiting is not answered so
+  none_waiting : (result : Result Reached Refusal) → ends_waiting result ≡ false → (said (reaching told) result).0 ≡ answer.Waiting → ⊥
+  none_waiting (Ok (record { node = n; locked = locked.Granted mode })) not_so is = cc
+  none_waiting (Ok (record { node = n; locked = locked.Waiting })) not_so is = true≢false not_so
+  none_waiting (Ok (record { node = n; locked = locked.Victim })) not_so is = cc
+  none_waiting (Err r) not_so is = cc
+
+  module _ (result : Result Reached Refusal) (none : OnErr result (told ≡ [])) (path : LocksPath t ask m told result m') where
+    says : Says
+    says = said (reaching told) result
+
+    -- nothing was accepted, or more was
+    pub same_or_later : ((m' ≡ m) × (told ≡ [])) ⊎ (m.accepted < m'.accepted)
+    same_or_later =
+        ⊎_elim (λ (same : (m' ≡ m) × (says.1 ≡ [])). inl (same.0, sym (told_is result none) ∙ same.1)) (λ (later : m.accepted < m'.accepted). inr later)
+        (path_counts t ask path.1 says m' path.0 m path.2)
+
+    pub keeps_detect : (state_of m').detect ≡ (state_of m).detect
+    keeps_detect = path_detect t ask path.1 says m' path.0 m path.2
+
+    pub told_rises : (state_of m).most ≤ 128 → RisingTo 0 told 128
+    told_rises few = subst (λ (l : Told). RisingTo 0 l 128) (told_is result none) (path_rises t ask path.1 says m' path.0 m few path.2)
+
+    pub stays_quiet : (waited : Bool) → (waited ≡ false → NobodyWaits (state_of m)) → (waited || ends_waiting result) ≡ false → NobodyWaits (state_of m')
+    stays_quiet waited quiet e =
+        let both = neither waited (ends_waiting result) e in
+        path_quiet t ask path.1 says m' path.0 m (quiet both.0) (none_waiting result both.1) path.2
+
+    pub ended_told : (slots : ℕ) → ((u : ℕ) → u < 128 → has_slot slots u ≡ (false || list_any (λ x. x.0.slot == u) told)) → HasEnded (state_of m) (state_of m') slots
+    ended_told slots is =
+        path_ended t ask path.1 says m' path.0 m slots
+        (λ u low. is u low ∙ ap (λ (l : Told). false || list_any (λ x. x.0.slot == u) l) (sym (told_is result none))) path.2
