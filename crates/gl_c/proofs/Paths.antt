@@ -1,6 +1,7 @@
 -- What a path is to those who are told, who wait and who watch. For Guarded.serve_path.
-use Rattle.std.specs.Prelude.{◌≡◌, ◌⊎◌, ℕ, zero, suc, ◌+◌, ◌<◌, ◌≤◌, ◌==◌, ◌||◌, ◌&&◌, not, Bool, true, false, List, [], ◌∷◌, length, Option, Some, None, OnErr, Result, Ok, Err}
+use Rattle.std.specs.Prelude.{◌≡◌, ◌⊎◌, ℕ, zero, suc, ◌+◌, ◌<◌, ◌≤◌, ◌==◌, ◌||◌, not, Bool, true, false, [], ◌∷◌, length, OnErr, Result, Ok, Err}
 use Rattle.std.specs.List.{list_any}
+use Rattle.std.proofs.lemmas.Bool.Decides.{nat_tests}
 use Rattle.std.proofs.Common.{refl, sym, ap, subst, ◌∙◌, inl, inr, ⊎_elim, arith}
 use mathlib.Core.Bool.{true≢false}
 use Rattle.gl_modes.proofs.Words.{and_both, split}
@@ -11,6 +12,7 @@ use Rattle.gl_waits.specs.declared.victims.Victims.{Victims}
 use Rattle.gl_table.specs.declared.answers.Detect.{Detect}
 use Rattle.gl_table.specs.declared.answers.Detect.TheVariants.{AtBlock, ByWatcher}
 use Rattle.gl_modes.specs.declared.refusal.Refusal.{Refusal}
+use Rattle.gl_table.specs.declared.answers.Locked.{Locked}
 use Rattle.gl_table.specs.declared.answers.Locked.TheVariants as locked
 use Rattle.gl_table.specs.declared.txn.TxnId.{TxnId}
 use Rattle.gl_table.specs.model.Calls.{WaitSettles, enqueued, enters_at, wanted}
@@ -18,26 +20,25 @@ use Rattle.gl_table.specs.model.State.{SettledWithin, State, condemned}
 use Rattle.gl_table.specs.model.Tellings.{Told}
 use Rattle.gl_catalog.specs.declared.command.Answer.{Answer}
 use Rattle.gl_catalog.specs.declared.command.Answer.TheVariants as answer
-use Rattle.gl_catalog.specs.declared.command.Command.TheVariants as command
 use Rattle.gl_catalog.specs.Counters.{grants, refuses}
 use Rattle.gl_catalog.specs.Manager.{ManagerView, state_of}
 use Rattle.gl_catalog.specs.declared.manager.paths.Reached.{Reached}
 use Rattle.gl_catalog.specs.Paths.{Ask, AsksFirst, IsPath, LocksPath, goes_on, lock_of, reaching}
-use Rattle.gl_catalog.specs.Promises.{NobodyWaits, waits_on}
+use Rattle.gl_catalog.specs.Promises.{NobodyWaits, is_told, waits_on}
 use Rattle.gl_catalog.specs.Replies.{Says, said}
-use Rattle.gl_catalog.specs.Step.{Accepts, Step}
+use Rattle.gl_catalog.specs.Step.{Step, answer_of_lock}
 use Rattle.gl_catalog.proofs.Detection.{steps_keep_detect}
 use Rattle.gl_catalog.proofs.EachStep.{each_step}
 use Rattle.gl_catalog.proofs.StepsKeepLaw.{steps_keep_law}
 use Rattle.gl_catalog.proofs.WaitsBegin.{nobody_waits_on}
 use Rattle.gl_catalog.proofs.WaitsEnd.{ends_waits}
-use Rattle.gl_boxes.specs.Served.{Counts, RisingTo, is_refused, leaves_waiting}
+use Rattle.gl_boxes.specs.Served.{Counts, RisingTo, is_refused}
 use Rattle.gl_boxes.specs.Wakes.{HasEnded}
 use Rattle.gl_boxes.proofs.Idle.{neither}
 use Rattle.gl_boxes.proofs.Rising.{step_rises}
 use Rattle.gl_boxes.proofs.Serving.{step_counts}
 use Rattle.gl_boxes.proofs.Waking.{wakes_ended}
-use Rattle.gl_c.specs.Paths.{ends_waiting}
+use Rattle.gl_c.specs.Paths.{ends_waiting, is_left_waiting}
 
 -- a lock leaves the limit of transactions
 settled_most : (c : Victims) (k : ℕ) (s s' : State) (t : ℕ) → SettledWithin c k s t s' → s'.most ≡ s.most
@@ -82,7 +83,7 @@ grant_is (answer.Effect x) e = absurd (cc e)
 
 none_in : (told : Told) → (length told == 0) ≡ true → told ≡ []
 none_in [] e = refl
-none_in (x ∷ told) e = absurd (cc e)
+none_in (x ∷ told) e = absurd (grind (arith, nat_tests, e))
 
 -- behind an ask that the path goes on from, nobody is told
 module _ (node asked : NodeId) (r : Says) (on : goes_on node asked r ≡ true) where
@@ -147,18 +148,19 @@ module _ (t : TxnId) (ask last : Ask) (r : Says) (m' : ManagerView) where
   -- whose wait it ends is told by its last ask
   pub path_ended : (k : ℕ) (m : ManagerView) (slots : ℕ) → ((u : ℕ) → u < 128 → has_slot slots u ≡ (false || list_any (λ x. x.0.slot == u) r.1))
       → IsPath k t ask m last r m' → HasEnded (state_of m) (state_of m') slots
-  path_ended zero m slots is path = wakes_ended (lock_of t last) r.1 slots is (state_of m) (state_of m') r.0 path.0.step
-  path_ended (suc k) m slots is path law u n below was gone = by (waits_on (state_of path.2) u n) refl
+  path_ended zero m slots is path law u n below was gone =
+      wakes_ended (lock_of t last) r.1 slots is (state_of m) (state_of m') r.0 path.0.step law u n below was gone
+  path_ended (suc k) m slots is path law u n below was gone =
+      by (waits_on (state_of path.2) u n) refl
+      (λ e. path_ended k path.2 slots is path.5
+      (steps_keep_law (state_of m) (state_of path.2) (lock_of t path.0) path.1.0 path.1.1 law path.3.step) u n below e gone)
     where
-      step : Step (state_of m) (lock_of t path.0) path.1.0 path.1.1 (state_of path.2)
-      step = path.3.step
-
-      by : (b : Bool) → waits_on (state_of path.2) u n ≡ b → has_slot slots u.slot ≡ true
-      by true e =
-          path_ended k path.2 slots is path.5 (steps_keep_law (state_of m) (state_of path.2) (lock_of t path.0) path.1.0 path.1.1 law step) u n below e gone
-      by false e =
-          let told = ends_waits (state_of m) (state_of path.2) (lock_of t path.0) path.1.0 path.1.1 u n law step was e in
-          absurd (cc (told, none_told ask.0 path.0.0 path.1 path.4))
+      by : (b : Bool) → waits_on (state_of path.2) u n ≡ b → (waits_on (state_of path.2) u n ≡ true → has_slot slots u.slot ≡ true)
+          → has_slot slots u.slot ≡ true
+      by true e rest = rest e
+      by false e rest =
+          let told = ends_waits (state_of m) (state_of path.2) (lock_of t path.0) path.1.0 path.1.1 u n law path.3.step was e in
+          absurd (true≢false (sym told ∙ ap (λ (l : Told). is_told u l || false) (none_told ask.0 path.0.0 path.1 path.4)))
 
 -- The same of a call that locks a path.
 module _ (t : TxnId) (ask : Ask) (m m' : ManagerView) (told : Told) where
@@ -169,13 +171,16 @@ module _ (t : TxnId) (ask : Ask) (m m' : ManagerView) (told : Told) where
 
   -- a path that leaves nobody waiting is not answered so
   none_waiting : (result : Result Reached Refusal) → ends_waiting result ≡ false → (said (reaching told) result).0 ≡ answer.Waiting → ⊥
-  none_waiting (Ok (record { node = n; locked = locked.Granted mode })) not_so is = cc
-  none_waiting (Ok (record { node = n; locked = locked.Waiting })) not_so is = true≢false not_so
-  none_waiting (Ok (record { node = n; locked = locked.Victim })) not_so is = cc
+  none_waiting (Ok x) not_so is = by x.locked not_so is
+    where
+      by : (y : Locked) → is_left_waiting y ≡ false → answer_of_lock y ≡ answer.Waiting → ⊥
+      by (locked.Granted mode) e w = cc
+      by locked.Waiting e w = true≢false e
+      by locked.Victim e w = cc
   none_waiting (Err r) not_so is = cc
 
   module _ (result : Result Reached Refusal) (none : OnErr result (told ≡ [])) (path : LocksPath t ask m told result m') where
-    says : Says
+    abbrev says : Says
     says = said (reaching told) result
 
     -- nothing was accepted, or more was
@@ -183,6 +188,17 @@ module _ (t : TxnId) (ask : Ask) (m m' : ManagerView) (told : Told) where
     same_or_later =
         ⊎_elim (λ (same : (m' ≡ m) × (says.1 ≡ [])). inl (same.0, sym (told_is result none) ∙ same.1)) (λ (later : m.accepted < m'.accepted). inr later)
         (path_counts t ask path.1 says m' path.0 m path.2)
+
+    -- by the two counts, which of both
+    pub same_if : (before now : ℕ) → before ≡ m.accepted → now ≡ m'.accepted → now ≡ before → (m' ≡ m) × (told ≡ [])
+    same_if before now was is so =
+        ⊎_elim (λ (same : (m' ≡ m) × (told ≡ [])). same) (λ (later : m.accepted < m'.accepted). absurd (omega (arith, was, is, so, later))) same_or_later
+
+    pub later_unless : (before now : ℕ) → before ≡ m.accepted → now ≡ m'.accepted → (now ≡ before → ⊥) → m.accepted < m'.accepted
+    later_unless before now was is not_so =
+        ⊎_elim
+        (λ (same : (m' ≡ m) × (told ≡ [])). absurd (not_so (is ∙ ap (λ (x : ManagerView). x.accepted) same.0 ∙ sym was)))
+        (λ (later : m.accepted < m'.accepted). later) same_or_later
 
     pub keeps_detect : (state_of m').detect ≡ (state_of m).detect
     keeps_detect = path_detect t ask path.1 says m' path.0 m path.2

@@ -1,20 +1,25 @@
--- What a command does, put together: of one that is not accepted, and of one that is.
-use Rattle.std.specs.Prelude.{◌≡◌, ℕ, ◌||◌, Bool, true, false, List, [], Option, Some, None}
-use Rattle.std.proofs.Common.{refl, sym, subst, ◌∙◌, inl}
+-- What a command does, put together: of one that is not accepted, and of one that is; and what a path does.
+use Rattle.std.specs.Prelude.{◌≡◌, ℕ, ◌<◌, ◌||◌, Bool, true, false, List, [], Option, Some, None, Result}
+use Rattle.std.proofs.Common.{refl, sym, ap, subst, ◌∙◌, inl, arith}
 use mathlib.Core.Bool.{true≢false}
 use Rattle.gl_waits.specs.declared.board.Board.{Board}
+use Rattle.gl_modes.specs.declared.refusal.Refusal.{Refusal}
+use Rattle.gl_table.specs.declared.txn.TxnId.{TxnId}
 use Rattle.gl_table.specs.model.Table.{board_of}
 use Rattle.gl_table.specs.model.Tellings.{Told}
 use Rattle.gl_catalog.specs.declared.command.Answer.{Answer}
 use Rattle.gl_catalog.specs.declared.command.Command.{Command}
+use Rattle.gl_catalog.specs.declared.manager.paths.Reached.{Reached}
 use Rattle.gl_catalog.specs.Manager.{ManagerView, state_of}
+use Rattle.gl_catalog.specs.Paths.{Ask, LocksPath, lock_of}
 use Rattle.gl_catalog.specs.Promises.{NobodyWaits}
-use Rattle.gl_boxes.specs.Boxes.{Delivers, Slot, cleared}
+use Rattle.gl_boxes.specs.Boxes.{Delivers, Slot, cleared, emptied}
 use Rattle.gl_boxes.specs.Served.{accepts, leaves_waiting}
 use Rattle.gl_boxes.specs.Strip.{Strip}
 use Rattle.gl_boxes.proofs.Clearing.{cleared_not}
 use Rattle.gl_boxes.proofs.Notices.{delivers_none}
 use Rattle.gl_c.specs.Guarded.{GuardedView}
+use Rattle.gl_c.specs.Paths.{ServesPath, ends_waiting}
 use Rattle.gl_c.specs.Serving.{Applies, Serves, ShowsNobodyLast, ShowsOn, Wakes}
 
 -- where nothing is shown
@@ -55,3 +60,37 @@ serves_yes g after c a told m boxes ended applies so delivered kept wakes shown 
   shown = subst (λ (x : ManagerView). ShowsOn (g.waited || leaves_waiting a) (board_of (state_of x)) g.shown after.shown) (sym kept.0) shown;
   quiet = quiet;
 }
+
+-- a path of which nothing was accepted
+pub path_none : (g : GuardedView) (t : TxnId) (ask : Ask) (result : Result Reached Refusal) (told : Told) (m : ManagerView)
+    → LocksPath t ask g.manager told result m → m ≡ g.manager → told ≡ [] → IsQuiet g.manager g.shown g.waited
+    → ServesPath g t ask result told (record g { manager = m })
+path_none g t ask result told m path same none quiet =
+    let as_many : m.accepted ≡ g.manager.accepted = ap (λ (x : ManagerView). x.accepted) same in
+    record {
+      path = path;
+      none_accepted = λ _. (rw same refl, none);
+      boxes = λ later. absurd (omega (arith, later, as_many));
+      wakes = λ later. absurd (omega (arith, later, as_many));
+      shown = shows_same (g.waited || ends_waiting result) (board_of (state_of m)) g.shown;
+      quiet = subst (λ (x : ManagerView). IsQuiet x g.shown g.waited) (sym same) quiet;
+    }
+
+-- a path of which some was
+pub path_some : (g after : GuardedView) (t : TxnId) (ask : Ask) (result : Result Reached Refusal) (told : Told) (m : ManagerView) (boxes : List Slot) (ended : ℕ)
+    → LocksPath t ask g.manager told result m → g.manager.accepted < m.accepted
+    → ((mid : List Slot) × Delivers g.boxes told mid × (boxes ≡ emptied (lock_of t ask) mid))
+    → (after.manager ≡ m) × (after.boxes ≡ boxes) × (after.ended ≡ ended) → Wakes (lock_of t ask) g.manager told m ended
+    → ShowsOn (g.waited || ends_waiting result) (board_of (state_of m)) g.shown after.shown → IsQuiet after.manager after.shown after.waited
+    → ServesPath g t ask result told after
+path_some g after t ask result told m boxes ended path more delivered kept wakes shown quiet =
+    let as_many : after.manager.accepted ≡ m.accepted = ap (λ (x : ManagerView). x.accepted) kept.0 in
+    record {
+      path = subst (λ (x : ManagerView). LocksPath t ask g.manager told result x) (sym kept.0) path;
+      none_accepted = λ same. absurd (omega (arith, same, more, as_many));
+      boxes = λ _. (delivered.0, delivered.1, kept.1 ∙ delivered.2);
+      wakes = λ _. subst (λ (n : ℕ). Wakes (lock_of t ask) g.manager told after.manager n) (sym kept.2)
+          (subst (λ (x : ManagerView). Wakes (lock_of t ask) g.manager told x ended) (sym kept.0) wakes);
+      shown = subst (λ (x : ManagerView). ShowsOn (g.waited || ends_waiting result) (board_of (state_of x)) g.shown after.shown) (sym kept.0) shown;
+      quiet = quiet;
+    }

@@ -39,10 +39,15 @@ abbrev pub path_reply : NodeId → Result Reached Refusal → Reply
 path_reply n (Ok x) = reached_reply n x.node x.locked
 path_reply n (Err r) = refused_reply r
 
+-- a lock that is left waiting
+abbrev pub is_left_waiting : Locked → Bool
+is_left_waiting locked.Waiting = true
+is_left_waiting x = false
+
 -- a path that leaves its transaction waiting
 abbrev pub ends_waiting : Result Reached Refusal → Bool
-ends_waiting (Ok (record { node = n; locked = locked.Waiting })) = true
-ends_waiting result = false
+ends_waiting (Ok x) = is_left_waiting x.locked
+ends_waiting (Err r) = false
 
 -- a path is locked, as one command after the other; the notices stand in their boxes, but that the transaction's own is empty; whose wait was ended
 -- is known; watchers are shown the board behind it, whole, or nothing; where no ask was accepted nothing changed
