@@ -211,7 +211,8 @@ module _ (t : TxnId) (ask : Ask) (m m' : ManagerView) (told : Told) where
         let both = neither waited (ends_waiting result) e in
         path_quiet t ask path.1 says m' path.0 m (quiet both.0) (none_waiting result both.1) path.2
 
-    pub ended_told : (slots : ℕ) → ((u : ℕ) → u < 128 → has_slot slots u ≡ (false || list_any (λ x. x.0.slot == u) told)) → HasEnded (state_of m) (state_of m') slots
+    pub ended_told : (slots : ℕ) → ((u : ℕ) → u < 128 → has_slot slots u ≡ (false || list_any (λ x. x.0.slot == u) told))
+        → HasEnded (state_of m) (state_of m') slots
     ended_told slots is =
         path_ended t ask path.1 says m' path.0 m slots
         (λ u low. is u low ∙ ap (λ (l : Told). false || list_any (λ x. x.0.slot == u) l) (sym (told_is result none))) path.2

@@ -77,8 +77,8 @@ path_none g t ask result told m path same none quiet =
     }
 
 -- a path of which some was
-pub path_some : (g after : GuardedView) (t : TxnId) (ask : Ask) (result : Result Reached Refusal) (told : Told) (m : ManagerView) (boxes : List Slot) (ended : ℕ)
-    → LocksPath t ask g.manager told result m → g.manager.accepted < m.accepted
+pub path_some : (g after : GuardedView) (t : TxnId) (ask : Ask) (result : Result Reached Refusal) (told : Told) (m : ManagerView)
+    (boxes : List Slot) (ended : ℕ) → LocksPath t ask g.manager told result m → g.manager.accepted < m.accepted
     → ((mid : List Slot) × Delivers g.boxes told mid × (boxes ≡ emptied (lock_of t ask) mid))
     → (after.manager ≡ m) × (after.boxes ≡ boxes) × (after.ended ≡ ended) → Wakes (lock_of t ask) g.manager told m ended
     → ShowsOn (g.waited || ends_waiting result) (board_of (state_of m)) g.shown after.shown → IsQuiet after.manager after.shown after.waited

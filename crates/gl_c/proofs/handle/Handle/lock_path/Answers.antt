@@ -10,7 +10,8 @@ returns c =
     let from : c.deref_mut.result.now ≡ c.in-Some.session.value = search rules in
     let to : guarded_in c.of.result ≡ Some c.lock_path-reply.new.self = search rules in
     subst
-    (λ (s : Option GuardedView). CarriesPath s c.args.txn (c.args.node, c.args.mode) c.lock_path-reply.result c.lock_path-reply.new.notices (guarded_in c.of.result))
+    (λ (s : Option GuardedView). CarriesPath s c.args.txn (c.args.node, c.args.mode) c.lock_path-reply.result c.lock_path-reply.new.notices
+    (guarded_in c.of.result))
     c.in-Some.ensures.taken (
       c.lock_path-reply.new.self,
       to,
