@@ -21,8 +21,8 @@
  */
 
 enum kind {
-  BEGIN, LOCK, TRY, UNLOCK, ESCALATE, CANCEL, COMMIT, ABORT, SETTLE, INSERT, DELETE, REKEY, MOVE, ADD_INNER, ADD_FILE,
-  ADD_INDEX, KINDS
+  BEGIN, LOCK, LOCK_PATH, TRY, UNLOCK, ESCALATE, CANCEL, COMMIT, ABORT, SETTLE, INSERT, DELETE, REKEY, MOVE, ADD_INNER,
+  ADD_FILE, ADD_INDEX, KINDS
 };
 
 enum { MOST_NUMBERS = 3, MOST_PARENTS = 2 };
@@ -97,6 +97,7 @@ static bs_reply made(bs_manager *m, const struct call *c, bs_notices *told) {
   switch (c->kind) {
     case BEGIN: return bs_begin(m);
     case LOCK: return bs_lock(m, c->txn, c->node, c->mode, told);
+    case LOCK_PATH: return bs_lock_path(m, c->txn, c->node, c->mode, told);
     case TRY: return bs_try(m, c->txn, c->node, c->mode);
     case UNLOCK: return bs_unlock(m, c->txn, c->node, told);
     case ESCALATE: return bs_escalate(m, c->txn, c->node, told);
@@ -150,8 +151,8 @@ static bs_reply served_begin(bs_manager *m) {
   return serve(m, adding(BEGIN, NULL, 0), NULL);
 }
 
-static bs_reply served_lock(bs_manager *m, bs_txn txn, bs_node node, bs_mode mode, bs_notices *told) {
-  struct call call = call_of(LOCK, txn, node);
+static bs_reply served_lock(bs_manager *m, enum kind kind, bs_txn txn, bs_node node, bs_mode mode, bs_notices *told) {
+  struct call call = call_of(kind, txn, node);
   call.mode = mode;
   return serve(m, call, told);
 }
@@ -213,7 +214,8 @@ static bs_reply served_add_index(bs_manager *m, const bs_node *parents, size_t c
 }
 
 #define bs_begin(m) served_begin(m)
-#define bs_lock(m, txn, node, mode, told) served_lock(m, txn, node, mode, told)
+#define bs_lock(m, txn, node, mode, told) served_lock(m, LOCK, txn, node, mode, told)
+#define bs_lock_path(m, txn, node, mode, told) served_lock(m, LOCK_PATH, txn, node, mode, told)
 #define bs_try(m, txn, node, mode) served_try(m, txn, node, mode)
 #define bs_unlock(m, txn, node, told) served_unlock(m, txn, node, told)
 #define bs_escalate(m, txn, node, told) served_escalate(m, txn, node, told)
@@ -587,6 +589,11 @@ static void *look_on(void *arg) {
 /* By slot, the lock that waits. */
 static size_t waiting_at[BS_SLOTS];
 
+/* The node for which a lock waits: a path says so. */
+static bs_node awaited(const struct served *s) {
+  return s->call.kind == LOCK_PATH ? s->reply.node : s->call.node;
+}
+
 /* How a notice ends a lock, and whether it came to that; or its transaction was ended by somebody before it looked. */
 static void compare_end(const bs_notice *n) {
   static const bs_status ends[] = { BS_DONE, BS_DONE, BS_VICTIM, BS_MOVED, BS_GONE };
@@ -594,7 +601,7 @@ static void compare_end(const bs_notice *n) {
   if (!s->has_slept) return; /* A path that was begun anew, or a wait that was taken back later. */
   if (s->came.status == BS_NO_SUCH_TXN) return;
   WANT(s->came.status == ends[n->kind]);
-  if (n->kind == BS_TOLD_GRANTED) WANT(s->came.mode == n->mode && same_node(s->call.node, n->node));
+  if (n->kind == BS_TOLD_GRANTED) WANT(s->came.mode == n->mode && same_node(awaited(s), n->node));
 }
 
 static void compare_named(const struct call *call) {
