@@ -28,10 +28,10 @@
 #   and what led to it is measured alone and subtracted.
 #
 # The aims, in instructions, and what was counted in November 2026: with one list, a round alone at most 5000
-# (5240) and beside 127 others at most 6000 (5160, as beside 8); with replies, at most twice that (29100
-# alone); a wait and its grant at most 4000 (5980); a release linear in those granted (590, 7590, 14990 and
-# 29880 for 1, 32, 64 and 127). An insert and its delete, for which there is no aim, take 2780. In time, on a
-# core of an Intel Xeon that other work shares: a round some 0.7 microseconds with one list and 4 otherwise.
+# (4100) and beside 127 others at most 6000 (4280, as beside 8); with replies, at most twice that (18300
+# alone); a wait and its grant at most 4000 (4770); a release linear in those granted (790, 9250, 18250 and
+# 36290 for 1, 32, 64 and 127). An insert and its delete, for which there is no aim, take 2310. In time, on a
+# core of an Intel Xeon that other work shares: a round some 0.5 microseconds with one list and 4 otherwise.
 rounds=${1:-100000}
 cd "$(dirname "$0")/../crates/benches" || exit 2
 rt run -- locks >/dev/null 2>&1 || { echo "locks.sh: the program does not build; see rt run in crates/benches" >&2; exit 1; }
