@@ -43,3 +43,5 @@ accepting_keeps_count s (command.Settle t) a told s' acc = settled_count s.victi
 accepting_keeps_count s (command.Group n) a told s' acc = absurd acc
 accepting_keeps_count s (command.Held t n) a told s' acc = absurd acc
 accepting_keeps_count s (command.Effective t n) a told s' acc = absurd acc
+accepting_keeps_count s (command.Adopt f keys) a told s' acc = ap (λ z. z.accepted) acc.4
+accepting_keeps_count s (command.Forget r) a told s' acc = ap (λ z. z.accepted) acc.2

@@ -98,24 +98,33 @@ rule_in held ps m p h = by (intends_over held ps m) (is_write m) h
     by false false h' = first_in_all ps p h'
 
 module _ (s : State) (t : TxnId) where
-  -- what an ask wants locked first is a parent of its node
-  up : (ask : Ask) (p : NodeId) → parent_wanted s t ask ≡ Some p → list_any (same_node p) (parents_of s.graph ask.0) ≡ true
-  up ask p h = cases_of (first_refusal (path_tests s t ask.0 ask.1)) free (λ q e. absurd (refused q e))
-    where
-      rule : Option Refusal
-      rule = need_parents s t.slot ask.0 (wanted s t.slot ask.0 ask.1)
+  -- the rule of the graph for an ask
+  abbrev pub rule_of : Ask → Option Refusal
+  rule_of ask = need_parents s t.slot ask.0 (wanted s t.slot ask.0 ask.1)
 
+  -- an ask that passes the tests that speak of no parents wants the one that the rule of the graph misses
+  pub wanted_by_rule : (ask : Ask) → first_refusal (path_tests s t ask.0 ask.1) ≡ None → parent_wanted s t ask ≡ parent_missed (rule_of ask)
+  wanted_by_rule ask e =
+      let is : first_refusal (path_tests s t ask.0 ask.1 ++ rule_of ask ∷ []) ≡ rule_of ask =
+      first_after (path_tests s t ask.0 ask.1) (rule_of ask ∷ []) e ∙ alone (rule_of ask) in
+      ap parent_missed is
+
+  -- and one that does not wants none
+  pub passes : (ask : Ask) (p : NodeId) → parent_wanted s t ask ≡ Some p → first_refusal (path_tests s t ask.0 ask.1) ≡ None
+  passes ask p h = cases_of (first_refusal (path_tests s t ask.0 ask.1)) (λ none. none) (λ q e. absurd (refused q e))
+    where
       refused : (q : Refusal) → first_refusal (path_tests s t ask.0 ask.1) ≡ Some q → ⊥
       refused q e =
-          let is = first_stays (path_tests s t ask.0 ask.1) (rule ∷ []) q e in
+          let is = first_stays (path_tests s t ask.0 ask.1) (rule_of ask ∷ []) q e in
           none_some (sym (plain_tests s t ask.0 ask.1).0 ∙ ap parent_missed (e ∙ sym is) ∙ h)
 
-      free : first_refusal (path_tests s t ask.0 ask.1) ≡ None → list_any (same_node p) (parents_of s.graph ask.0) ≡ true
-      free e =
-          let is : first_refusal (path_tests s t ask.0 ask.1 ++ rule ∷ []) ≡ rule = first_after (path_tests s t ask.0 ask.1) (rule ∷ []) e ∙ alone rule in
-          rule_in (s.held t.slot) (parents_of s.graph ask.0) (wanted s t.slot ask.0 ask.1) p (ap parent_missed (sym is) ∙ h)
+  -- what an ask wants locked first is a parent of its node
+  up : (ask : Ask) (p : NodeId) → parent_wanted s t ask ≡ Some p → list_any (same_node p) (parents_of s.graph ask.0) ≡ true
+  up ask p h =
+      rule_in (s.held t.slot) (parents_of s.graph ask.0) (wanted s t.slot ask.0 ask.1) p (sym (wanted_by_rule ask (passes ask p h)) ∙ h)
 
-  climb_route : (ask : Ask) (way : List NodeId) (top : Ask) → ClimbsTo s t ask way top → IsRoute s.graph ask.0 way top.0
+  -- a climb is a way up in the graph
+  pub climb_route : (ask : Ask) (way : List NodeId) (top : Ask) → ClimbsTo s t ask way top → IsRoute s.graph ask.0 way top.0
   climb_route ask [] top h = sym (ap (λ (x : Ask). x.0) h)
   climb_route ask (p ∷ way) top h = (up ask p h.0, climb_route (p, intention ask.1) way top h.1)
 

@@ -1,4 +1,8 @@
 -- The delete of a record as a step.
+use Rattle.gl_catalog.specs.Replies.{doing}
+use Rattle.gl_graph.specs.Changes.{without_node}
+use Rattle.gl_table.specs.model.State.{with_graph}
+use Rattle.std.specs.Prelude.{[]}
 use Rattle.std.specs.Prelude.{◌≡◌, ℕ, ◌+◌, None, Ok}
 use Rattle.std.proofs.Common.{refl, sym, ap, subst}
 use Rattle.gl_modes.specs.declared.node.NodeId.{NodeId}
@@ -20,3 +24,13 @@ deleted_step table new k v is t r told' free state tells =
     subst (λ (x : ManagerView). CallSteps (state_of x) (command.Delete t r) done (Ok told') (counting (k + 1) (table_state new))) is
     (accepted_step done (command.Delete t r) (counting k (table_state table)) told' (counting k (table_state new)) (counting (k + 1) (table_state new))
     (subst (λ (x : ManagerView). refusal_of (state_of x) (command.Delete t r) ≡ None) (sym is) free) refl (refl, tells, ap (counting k) state) refl)
+
+-- the same of a record that was forgotten
+pub forgotten_step : {counts : Counters} (table new : TableView) (k : ℕ) (v : ManagerView) → record { table = table; accepted = k; counters = counts } ≡ v → (r : NodeId)
+    → refusal_of (state_of v) (command.Forget r) ≡ None
+    → table_state new ≡ with_graph (table_state table) (without_node (table_state table).graph r)
+    → CallSteps (state_of v) (command.Forget r) (doing []) (Ok tt) (counting (k + 1) (table_state new))
+forgotten_step table new k v is r free state =
+    subst (λ (x : ManagerView). CallSteps (state_of x) (command.Forget r) (doing []) (Ok tt) (counting (k + 1) (table_state new))) is
+    (accepted_step (doing []) (command.Forget r) (counting k (table_state table)) tt (counting k (table_state new)) (counting (k + 1) (table_state new))
+    (subst (λ (x : ManagerView). refusal_of (state_of x) (command.Forget r) ≡ None) (sym is) free) refl (refl, refl, ap (counting k) state) refl)

@@ -44,6 +44,8 @@ accepts_detect s (command.Settle t) a told' s' acc = settled_detect s.victims ac
 accepts_detect s (command.Group n) a told' s' acc = absurd acc
 accepts_detect s (command.Held t n) a told' s' acc = absurd acc
 accepts_detect s (command.Effective t n) a told' s' acc = absurd acc
+accepts_detect s (command.Adopt f keys) a told' s' acc = ap (λ z. z.detect) acc.4
+accepts_detect s (command.Forget r) a told' s' acc = ap (λ z. z.detect) acc.2
 
 pub steps_keep_detect : (s s' : State) (c : Command) (a : Answer) (told' : Told) → Step s c a told' s' → s'.detect ≡ s.detect
 steps_keep_detect s s' c a told' step = each_step (λ x. x.detect ≡ s.detect) s c a told' s' refl (λ next same. same) (λ free next acc. accepts_detect s c a told' next acc) step

@@ -51,7 +51,7 @@ free_differs s t alive u free e = none_dead t.age (s.txns t.slot) (ap (λ x. is_
 
 module _ (s : State) (law : IsLawful s) (t : TxnId) (alive : lives s t ≡ true) (next : State) where
   abbrev Kept : Told → Type 0
-  Kept told' = Keeps s (accepted_once next) t told'
+  Kept told' = Keeps s (accepted_once next) t told' false
 
   live_same : Follows s next t.slot → (n : NodeId) → is_live s.graph n ≡ true → is_live next.graph n ≡ true
   live_same f n live = ap (λ g. is_live g n) f.graph ∙ live
@@ -107,6 +107,6 @@ module _ (s : State) (law : IsLawful s) (t : TxnId) (alive : lives s t ≡ true)
       kept_quiet told' (ap (λ x. x.txns t.slot) acc.4 ∙ ap (λ b. if b then Some (record { age = s.begins + 1; status = Active }) else s.txns t.slot) (other acc.0 t.slot ne))
       (follows_is _ acc.4 (begun_follows s acc.0 t.slot ne well))
 
-  pub same_keeps : (told' : Told) → (s' : State) → s' ≡ s → Keeps s s' t told'
-  same_keeps told' s' e =
-      subst (λ x. Keeps s x t told') (sym e) (keeps_follows s s t told' alive (follows_refl s t.slot well) (λ g. absurd (not_granted s s t.slot refl g)))
+  pub same_keeps : (told' : Told) → (s' : State) → s' ≡ s → {rows : Bool} → Keeps s s' t told' rows
+  same_keeps told' s' e {rows} =
+      subst (λ x. Keeps s x t told' rows) (sym e) (keeps_follows s s t told' alive (follows_refl s t.slot well) (λ g. absurd (not_granted s s t.slot refl g)))

@@ -59,7 +59,7 @@ deleted_same s law u t x ne holds q =
 
 module _ (s : State) (law : IsLawful s) (t : TxnId) (alive : lives s t ≡ true) (next : State) (law' : IsLawful (accepted_once next)) (told' : Told) where
   abbrev Kept : Type 0
-  Kept = Keeps s (accepted_once next) t told'
+  Kept = Keeps s (accepted_once next) t told' false
 
   -- new nodes, none a record
   made_keeps : (ns : List Node) → next.graph ≡ born_nodes s.graph ns → no_records ns ≡ true → next.txns t.slot ≡ s.txns t.slot → SameGrants s next t.slot → Kept
@@ -70,8 +70,8 @@ module _ (s : State) (law : IsLawful s) (t : TxnId) (alive : lives s t ≡ true)
   pub inner_keeps : (key : ℕ) (ps : List NodeId) → next ≡ made s (record { key = key; shape = Inner; parents = ps }) → Kept
   inner_keeps key ps is = made_keeps (record { key = key; shape = Inner; parents = ps } ∷ []) (ap (λ x. x.graph) is) refl (ap (λ x. x.txns t.slot) is) (λ q. ap (λ x. x.held t.slot q) is)
 
-  pub file_keeps : (key : ℕ) (ps : List NodeId) → next ≡ made s (record { key = key; shape = File; parents = ps }) → Kept
-  file_keeps key ps is = made_keeps (record { key = key; shape = File; parents = ps } ∷ []) (ap (λ x. x.graph) is) refl (ap (λ x. x.txns t.slot) is) (λ q. ap (λ x. x.held t.slot q) is)
+  pub file_keeps : (key : ℕ) (ps : List NodeId) → next ≡ made s (record { key = key; shape = File false; parents = ps }) → Kept
+  file_keeps key ps is = made_keeps (record { key = key; shape = File false; parents = ps } ∷ []) (ap (λ x. x.graph) is) refl (ap (λ x. x.txns t.slot) is) (λ q. ap (λ x. x.held t.slot q) is)
 
   pub index_keeps : (key : ℕ) (ps : List NodeId) (f : NodeId) (bs keys : List ℕ) → next ≡ with_graph s (born_index s.graph key ps f bs keys) → Kept
   index_keeps key ps f bs keys is =

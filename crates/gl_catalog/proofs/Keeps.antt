@@ -1,4 +1,5 @@
 -- What a step leaves to a transaction that it does not name, and the two kinds of steps that leave it.
+use Rattle.gl_table.specs.model.Tellings.{told}
 use Rattle.std.specs.Prelude.{◌≡◌, ◌⊎◌, ℕ, zero, suc, ◌≤◌, Bool, true, false, not, ◌&&◌, ◌||◌, List, [], ◌∷◌, Option, Some, None, is_some, if◌then◌else◌}
 use Rattle.std.specs.List.{list_all, list_any}
 use Rattle.std.proofs.Common.{refl, sym, ap, ap₂, subst, ◌∙◌, arith, rules, inl, inr}
@@ -33,16 +34,16 @@ abbrev pub ToldGrant : State → State → TxnId → Told → Type 0
 ToldGrant s s' t told' = (g : GrantedTo s s' t.slot) × (list_any (tells t g.node g.mode) told' ≡ true)
 
 -- t lives on; its grants stay, or one for which it waited was given, and it was told; ids are not given again;
--- its effective modes stay, or rise where it was told; what lies below its effective S stays
-pub record Keeps (s s' : State) (t : TxnId) (told' : Told) : Type 0 where
+-- its effective modes stay, or rise where it was told; what lies below its effective S stays, where the step is not of rows
+pub record Keeps (s s' : State) (t : TxnId) (told' : Told) (rows : Bool) : Type 0 where
   pub alive : lives s' t ≡ true
   pub grants : SameGrants s s' t.slot ⊎ ToldGrant s s' t told'
   pub births : s.graph.births ≤ s'.graph.births
   pub old : (n : NodeId) → n.birth ≤ s.graph.births → is_live s'.graph n ≡ true → is_live s.graph n ≡ true
   pub same : list_any (is_grant_to t) told' ≡ false → (n : NodeId) → is_live s.graph n ≡ true → is_live s'.graph n ≡ true → effective s' t.slot n ≡ effective s t.slot n
   pub greater : (n : NodeId) → is_live s.graph n ≡ true → is_live s'.graph n ≡ true → is_at_least_effect (effective s' t.slot n) (effective s t.slot n) ≡ true
-  pub reads : (n : NodeId) → EffS s t.slot n → EffS s' t.slot n
-  pub below : (n : NodeId) → EffS s t.slot n → SameBelow s.graph s'.graph n
+  pub reads : rows ≡ false → (n : NodeId) → EffS s t.slot n → EffS s' t.slot n
+  pub below : rows ≡ false → (n : NodeId) → EffS s t.slot n → SameBelow s.graph s'.graph n
 
 -- a greater mode reads too
 pub read_more : (a b : Mode) → is_at_least b a ≡ true → is_read a ≡ true → is_read b ≡ true
@@ -107,7 +108,7 @@ pub below_itself : (g : Graph) (n : NodeId) → SameBelow g g n
 below_itself g n = record { kept = λ r b. (b, refl); no_more = λ r b. b }
 
 -- the graph stays, and the grants follow
-pub keeps_follows : (s s' : State) (t : TxnId) (told' : Told) → lives s t ≡ true → Follows s s' t.slot → ((g : GrantedTo s s' t.slot) → list_any (tells t g.node g.mode) told' ≡ true) → Keeps s s' t told'
+pub keeps_follows : (s s' : State) (t : TxnId) (told' : Told) → lives s t ≡ true → Follows s s' t.slot → ((g : GrantedTo s s' t.slot) → list_any (tells t g.node g.mode) told' ≡ true) → {rows : Bool} → Keeps s s' t told' rows
 keeps_follows s s' t told' alive f told = record {
   alive = f.lives t.age alive;
   grants = told_of f.grants;
@@ -117,8 +118,8 @@ keeps_follows s s' t told' alive f told = record {
   greater = λ n _ _. ap (λ g. is_at_least_effect (effect_over g (s'.held t.slot) n) (effective s t.slot n)) f.graph
       ∙ greater_effect _ _ _ _ (more_x s.graph (s.held t.slot) (s'.held t.slot) (grown s s' t.slot f.grants) (node_count s.graph) n)
       (more_s s.graph (s.held t.slot) (s'.held t.slot) (grown s s' t.slot f.grants) (node_count s.graph) n);
-  reads = λ n r. ap (λ g. eff_s (node_count g) g (s'.held t.slot) n) f.graph ∙ more_s s.graph (s.held t.slot) (s'.held t.slot) (grown s s' t.slot f.grants) (node_count s.graph) n r;
-  below = λ n _. subst (λ g. SameBelow s.graph g n) (sym f.graph) (below_itself s.graph n);
+  reads = λ _ n r. ap (λ g. eff_s (node_count g) g (s'.held t.slot) n) f.graph ∙ more_s s.graph (s.held t.slot) (s'.held t.slot) (grown s s' t.slot f.grants) (node_count s.graph) n r;
+  below = λ _ n _. subst (λ g. SameBelow s.graph g n) (sym f.graph) (below_itself s.graph n);
 }
   where
     told_of : SameGrants s s' t.slot ⊎ GrantedTo s s' t.slot → SameGrants s s' t.slot ⊎ ToldGrant s s' t told'
@@ -141,7 +142,7 @@ read_lives s law t n m (p ∷ way) route read = parent_lives p (node_at s.graph 
 -- the slot's grants stay, and the graph makes a step
 pub keeps_graph : (s s' : State) (t : TxnId) (told' : Told) (changed : NodeId → Bool) → IsLawful s → IsLawful s' → lives s' t ≡ true → s.graph.births ≤ s'.graph.births
     → ((n : NodeId) → n.birth ≤ s.graph.births → is_live s'.graph n ≡ true → is_live s.graph n ≡ true)
-    → SameGrants s s' t.slot → GraphStep s.graph s'.graph (s.held t.slot) changed → Keeps s s' t told'
+    → SameGrants s s' t.slot → GraphStep s.graph s'.graph (s.held t.slot) changed → {rows : Bool} → Keeps s s' t told' rows
 keeps_graph s s' t told' changed law law' alive births old same step = record {
   alive = alive;
   grants = inl same;
@@ -149,9 +150,9 @@ keeps_graph s s' t told' changed law law' alive births old same step = record {
   old = old;
   same = λ _ n a b. effective_same s s' t.slot changed law law' step (fun_ext same) n a b;
   greater = λ n a b. ap (λ e. is_at_least_effect e (effective s t.slot n)) (effective_same s s' t.slot changed law law' step (fun_ext same) n a b) ∙ effect_refl (effective s t.slot n);
-  reads = λ n r.
+  reads = λ _ n r.
       let on = reads_carry s.graph s'.graph (s.held t.slot) changed step law.graph.parents_live n (eff_s_route s.graph (s.held t.slot) (node_count s.graph) n r) in
       let on' : ReadOn s'.graph (s'.held t.slot) n = subst (λ h. ReadOn s'.graph h n) (sym (fun_ext same)) on in
       read_on_eff s'.graph law'.graph (s'.held t.slot) n (read_lives s' law' t.slot n on'.0 on'.1 on'.2 on'.3) on';
-  below = λ n r. below_same s.graph s'.graph (s.held t.slot) changed step law.graph.parents_live n (eff_s_route s.graph (s.held t.slot) (node_count s.graph) n r);
+  below = λ _ n r. below_same s.graph s'.graph (s.held t.slot) changed step law.graph.parents_live n (eff_s_route s.graph (s.held t.slot) (node_count s.graph) n r);
 }

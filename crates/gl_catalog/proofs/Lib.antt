@@ -6,6 +6,7 @@ pub mod NotRefused
 pub mod KeepsLaw
 pub mod LockCommands
 pub mod MakeKeeps
+pub mod RowKeeps
 pub mod DeleteKeeps
 pub mod MoveCommands
 pub mod StepsKeepLaw
@@ -19,6 +20,7 @@ pub mod Keeps
 pub mod GrantCommands
 pub mod GraphChanges
 pub mod GraphCommands
+pub mod RowSteps
 pub mod OneStep
 pub mod OthersKeep
 -- what a mover's own commands leave it
@@ -58,6 +60,9 @@ pub mod Rekeyings
 pub mod Wanting
 -- locks along a path
 pub mod Climbing
+pub mod KeptWays
+pub mod OwnGrants
+pub mod StillWanted
 pub mod PathSteps
 pub mod PathRuns
 pub mod PathOthers

@@ -21,7 +21,7 @@ use Rattle.gl_graph.proofs.Unrefused.{not_refused, test_fails, not_false, enough
 use Rattle.gl_catalog.proofs.NotRefused.{active_is}
 
 -- a test that was passed behind the count of commands
-behind_worn : (s : State) (o : Option Refusal) → first_refusal (worn s ∷ o ∷ []) ≡ None → o ≡ None
+pub behind_worn : (s : State) (o : Option Refusal) → first_refusal (worn s ∷ o ∷ []) ≡ None → o ≡ None
 behind_worn s o h = (not_refused o [] (not_refused (worn s) (o ∷ []) h).1).0
 
 pub inner_keeps : (ps : Bor (List NodeId)) → KeepsLaw (command.Inner ps)

@@ -85,7 +85,7 @@ record_has_parents g law r rec = by (node_at g r) refl rec
       where
         shaped : (sh : Shape) (ps : List NodeId) → HasShape g r sh ps → is_record_shape (Some sh) ≡ true → not (no_parents ps) ≡ true
         shaped Inner ps has h = absurd (true≢false (sym h))
-        shaped File ps has h = absurd (true≢false (sym h))
+        shaped (File adopted) ps has h = absurd (true≢false (sym h))
         shaped (Index f bs) ps has h = absurd (true≢false (sym h))
         shaped (Interval place) ps has h = absurd (true≢false (sym h))
         shaped (Rec keys) ps has h = ap (λ qs. not (no_parents qs)) has.1.parents

@@ -1,5 +1,5 @@
 -- One step of a command that does not name t keeps t.
-use Rattle.std.specs.Prelude.{◌≡◌, ◌≢◌, true, false, List, [], ◌∷◌, Option, Some, None}
+use Rattle.std.specs.Prelude.{◌≡◌, ◌≢◌, Bool, true, false, List, [], ◌∷◌, Option, Some, None}
 use Rattle.std.proofs.Common.{refl, sym, subst, inl, inr}
 use Rattle.gl_modes.proofs.Words.{and_both}
 use Rattle.gl_modes.specs.declared.refusal.Refusal.{Refusal}
@@ -15,12 +15,13 @@ use Rattle.gl_table.specs.model.Tellings.{Told}
 use Rattle.gl_table.specs.model.Calls.{accepted_once, no_txn}
 use Rattle.gl_graph.specs.Refusals.{first_refusal}
 use Rattle.gl_catalog.specs.Tests.{tests_of, refusal_of}
-use Rattle.gl_catalog.specs.Promises.{names, same_txn}
+use Rattle.gl_catalog.specs.Promises.{is_of_rows, names, same_txn}
 use Rattle.gl_catalog.proofs.Keeps.{Keeps}
-use Rattle.gl_catalog.proofs.Made.{made_is, indexed_is, inserted_is}
+use Rattle.gl_catalog.proofs.Made.{adopted_is, made_is, indexed_is, inserted_is}
 use Rattle.gl_catalog.proofs.NotRefused.{txn_lives, nodes_live, differ, exclusive}
 use Rattle.gl_catalog.proofs.GrantCommands.{lock_keeps, try_keeps, unlock_keeps, escalate_keeps, cancel_keeps, release_keeps, settle_keeps, begin_keeps, same_keeps}
 use Rattle.gl_catalog.proofs.GraphCommands.{inner_keeps, file_keeps, index_keeps, insert_keeps, delete_keeps, rekey_keeps, move_keeps}
+use Rattle.gl_catalog.proofs.RowSteps.{adopt_keeps, forget_keeps}
 use Rattle.gl_graph.proofs.Unrefused.{test_fails, not_false}
 
 -- each of these passed
@@ -38,16 +39,16 @@ all_none (Some r ∷ rs) h = absurd (some_none h)
     some_none e = cc
 
 module _ (s : State) (law : IsLawful s) (t : TxnId) (alive : lives s t ≡ true) (a : Answer) (told' : Told) (s' : State) (law' : IsLawful s') where
-  abbrev Kept : State → Type 0
-  Kept x = Keeps s x t told'
+  abbrev Kept : Bool → State → Type 0
+  Kept rows x = Keeps s x t told' rows
 
-  finish : (next : State) → s' ≡ accepted_once next → (IsLawful (accepted_once next) → Kept (accepted_once next)) → Kept s'
-  finish next is f = subst Kept (sym is) (f (subst IsLawful is law'))
+  finish : {rows : Bool} (next : State) → s' ≡ accepted_once next → (IsLawful (accepted_once next) → Kept rows (accepted_once next)) → Kept rows s'
+  finish {rows} next is f = subst (Kept rows) (sym is) (f (subst IsLawful is law'))
 
   other_slot : (u : TxnId) → same_txn t u ≡ false → no_txn s u ≡ None → u.slot ≢ t.slot
   other_slot u apart h = differ s t u alive (txn_lives s u h) apart
 
-  accepted : (c : Command) → names t c ≡ false → AllNone (tests_of s c) → Answers s c (query_answer s c) a told' s' → Kept s'
+  accepted : (c : Command) → names t c ≡ false → AllNone (tests_of s c) → Answers s c (query_answer s c) a told' s' → Kept (is_of_rows c) s'
   accepted (command.Inner ps) apart passed ans = finish ans.0 ans.2 (λ l. inner_keeps s law t alive ans.0 l _ ans.1.0.key ps.now (made_is s ans.0 ans.1.1 ans.1.4))
   accepted (command.File ps) apart passed ans = finish ans.0 ans.2 (λ l. file_keeps s law t alive ans.0 l _ ans.1.0.key ps.now (made_is s ans.0 ans.1.1 ans.1.4))
   accepted (command.Index ps f bs) apart passed ans = finish ans.0 ans.2 (λ l. index_keeps s law t alive ans.0 l _ ans.1.0.key ps.now f bs.now ans.1.1.interval_keys (indexed_is s ans.0 ans.1.1 ans.1.4))
@@ -74,12 +75,16 @@ module _ (s : State) (law : IsLawful s) (t : TxnId) (alive : lives s t ≡ true)
   accepted (command.Group n) apart passed ans = same_keeps s law t alive s' told' s' ans.same
   accepted (command.Held u n) apart passed ans = same_keeps s law t alive s' told' s' ans.same
   accepted (command.Effective u n) apart passed ans = same_keeps s law t alive s' told' s' ans.same
+  accepted (command.Adopt f keys) apart passed ans =
+      finish ans.0 ans.2 (λ l. adopt_keeps s law t alive ans.0 l _ ans.1.0.key f keys.now (adopted_is s ans.0 ans.1.1 ans.1.4))
+  accepted (command.Forget r) apart passed ans =
+      finish ans.0 ans.2 (λ l. forget_keeps s law t alive ans.0 l _ r (not_false _ (test_fails _ no.BadParents passed.1.1.0)) ans.1.2)
 
   -- each command, and a step that changes nothing
-  pub step_keeps : (c : Command) → names t c ≡ false → Step s c a told' s' → Kept s'
+  pub step_keeps : (c : Command) → names t c ≡ false → Step s c a told' s' → Kept (is_of_rows c) s'
   step_keeps c apart (inr want) = same_keeps s law t alive s' told' s' want.1.same
   step_keeps c apart (inl goes) = by (refusal_of s c) refl goes
     where
-      by : (o : Option Refusal) → refusal_of s c ≡ o → Goes s c o a told' s' → Kept s'
+      by : (o : Option Refusal) → refusal_of s c ≡ o → Goes s c o a told' s' → Kept (is_of_rows c) s'
       by (Some r) e g = same_keeps s law t alive s' told' s' g.same
       by None e g = accepted c apart (all_none (tests_of s c) e) g

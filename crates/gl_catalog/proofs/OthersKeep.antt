@@ -15,7 +15,7 @@ use Rattle.gl_table.specs.model.State.{State, lives}
 use Rattle.gl_table.specs.model.Lawful.{IsLawful, effective, EffS, is_at_least_effect, SameBelow}
 use Rattle.gl_catalog.specs.Step.{Run}
 use Rattle.gl_table.specs.model.Tellings.{Told}
-use Rattle.gl_catalog.specs.Promises.{names, is_grant_to, told_granted, OthersKeepEffects, OthersKeepBelow}
+use Rattle.gl_catalog.specs.Promises.{names, is_grant_to, is_of_rows, told_granted, OthersKeepEffects, OthersKeepBelow}
 use Rattle.gl_catalog.proofs.ToldGrants.{tells, tells_grant, any_weaker}
 use Rattle.gl_table.proofs.telling.Follows.{SameGrants, GrantedTo}
 use Rattle.gl_catalog.proofs.Keeps.{Keeps, ToldGrant, grown, effect_refl, below_itself}
@@ -25,7 +25,7 @@ use Rattle.gl_modes.proofs.ModeLemmas.{at_least-refl, at_least-transitive}
 use Rattle.gl_graph.proofs.Unrefused.{or_no}
 
 -- the same of many steps
-pub record KeepsOver (s s' : State) (t : TxnId) (granted : Bool) : Type 0 where
+pub record KeepsOver (s s' : State) (t : TxnId) (granted rows : Bool) : Type 0 where
   pub alive : lives s' t ≡ true
   pub held_same : granted ≡ false → SameGrants s s' t.slot
   pub held_more : (n : NodeId) → is_at_least (s'.held t.slot n) (s.held t.slot n) ≡ true
@@ -33,8 +33,8 @@ pub record KeepsOver (s s' : State) (t : TxnId) (granted : Bool) : Type 0 where
   pub old : (n : NodeId) → n.birth ≤ s.graph.births → is_live s'.graph n ≡ true → is_live s.graph n ≡ true
   pub same : granted ≡ false → (n : NodeId) → is_live s.graph n ≡ true → is_live s'.graph n ≡ true → effective s' t.slot n ≡ effective s t.slot n
   pub greater : (n : NodeId) → is_live s.graph n ≡ true → is_live s'.graph n ≡ true → is_at_least_effect (effective s' t.slot n) (effective s t.slot n) ≡ true
-  pub reads : (n : NodeId) → EffS s t.slot n → EffS s' t.slot n
-  pub below : (n : NodeId) → EffS s t.slot n → SameBelow s.graph s'.graph n
+  pub reads : rows ≡ false → (n : NodeId) → EffS s t.slot n → EffS s' t.slot n
+  pub below : rows ≡ false → (n : NodeId) → EffS s t.slot n → SameBelow s.graph s'.graph n
 
 effect_trans : (a b c : Effect) → is_at_least_effect a b ≡ true → is_at_least_effect b c ≡ true → is_at_least_effect a c ≡ true
 effect_trans a b c h k = search rules
@@ -52,8 +52,8 @@ birth_of g law n live = (law.born n.birth (found_is n.key (g.at n.birth) live)).
     found_is key None h = h
     found_is key (Some n) h = refl
 
-over_none : (s s' : State) (t : TxnId) → lives s t ≡ true → s' ≡ s → KeepsOver s s' t false
-over_none s s' t alive e = subst (λ x. KeepsOver s x t false) (sym e) (record {
+over_none : (s s' : State) (t : TxnId) → lives s t ≡ true → s' ≡ s → KeepsOver s s' t false false
+over_none s s' t alive e = subst (λ x. KeepsOver s x t false false) (sym e) (record {
   alive = alive;
   held_same = λ _ q. refl;
   held_more = λ n. at_least-refl (s.held t.slot n);
@@ -61,13 +61,13 @@ over_none s s' t alive e = subst (λ x. KeepsOver s x t false) (sym e) (record {
   old = λ n _ live. live;
   same = λ _ n _ _. refl;
   greater = λ n _ _. effect_refl (effective s t.slot n);
-  reads = λ n r. r;
-  below = λ n _. below_itself s.graph n;
+  reads = λ _ n r. r;
+  below = λ _ n _. below_itself s.graph n;
 })
 
 -- one step is such a run
-pub over_of_step : (s s' : State) (t : TxnId) (told' : Told) → Keeps s s' t told' → KeepsOver s s' t (list_any (is_grant_to t) told')
-over_of_step s s' t told' a = record {
+pub over_of_step : (s s' : State) (t : TxnId) (told' : Told) (rows : Bool) → Keeps s s' t told' rows → KeepsOver s s' t (list_any (is_grant_to t) told') rows
+over_of_step s s' t told' rows a = record {
   alive = a.alive;
   held_same = unmoved a.grants;
   held_more = grown s s' t.slot (plain a.grants);
@@ -88,8 +88,8 @@ over_of_step s s' t told' a = record {
     unmoved (inr x) quiet = absurd (true≢false (sym (any_weaker (tells t x.0.node x.0.mode) (is_grant_to t) told' (tells_grant t x.0.node x.0.mode) x.1) ∙ quiet))
 
 -- one run and then another
-pub over_trans : (s mid s' : State) (t : TxnId) (g h : Bool) → IsLawful s → KeepsOver s mid t g → KeepsOver mid s' t h → KeepsOver s s' t (g || h)
-over_trans s mid s' t g h law a b = record {
+pub over_trans : (s mid s' : State) (t : TxnId) (g h q r : Bool) → IsLawful s → KeepsOver s mid t g q → KeepsOver mid s' t h r → KeepsOver s s' t (g || h) (q || r)
+over_trans s mid s' t g h q r law a b = record {
   alive = b.alive;
   held_same = λ quiet q. let q' = or_no g h quiet in b.held_same q'.1 q ∙ a.held_same q'.0 q;
   held_more = λ n. at_least-transitive (s'.held t.slot n) (mid.held t.slot n) (s.held t.slot n) (b.held_more n) (a.held_more n);
@@ -97,23 +97,23 @@ over_trans s mid s' t g h law a b = record {
   old = λ n le live. a.old n le (b.old n (let first = a.births in omega arith) live);
   same = λ quiet n live live'. let q' = or_no g h quiet in b.same q'.1 n (between n live live') live' ∙ a.same q'.0 n live (between n live live');
   greater = λ n live live'. effect_trans (effective s' t.slot n) (effective mid t.slot n) (effective s t.slot n) (b.greater n (between n live live') live') (a.greater n live (between n live live'));
-  reads = λ n r. b.reads n (a.reads n r);
-  below = λ n r. below_trans s.graph mid.graph s'.graph n (a.below n r) (b.below n (a.reads n r));
+  reads = λ plain n on. let p = or_no q r plain in b.reads p.1 n (a.reads p.0 n on);
+  below = λ plain n on. let p = or_no q r plain in below_trans s.graph mid.graph s'.graph n (a.below p.0 n on) (b.below p.1 n (a.reads p.0 n on));
 }
   where
     between : (n : NodeId) → is_live s.graph n ≡ true → is_live s'.graph n ≡ true → is_live mid.graph n ≡ true
     between n live live' = b.old n (let old = birth_of s.graph law.graph n live in let first = a.births in omega arith) live'
 
 -- step by step, since each state of the run is lawful
-pub run_keeps : (cs : List Command) (rs : List (Answer × Told)) (s s' : State) (t : TxnId) → IsLawful s → Run s cs rs s' → lives s t ≡ true → list_any (names t) cs ≡ false → KeepsOver s s' t (told_granted t rs)
+pub run_keeps : (cs : List Command) (rs : List (Answer × Told)) (s s' : State) (t : TxnId) → IsLawful s → Run s cs rs s' → lives s t ≡ true → list_any (names t) cs ≡ false → KeepsOver s s' t (told_granted t rs) (list_any is_of_rows cs)
 run_keeps [] [] s s' t law run alive apart = over_none s s' t alive run
 run_keeps [] (r ∷ rs) s s' t law run alive apart = absurd run
 run_keeps (c ∷ cs) [] s s' t law run alive apart = absurd run
 run_keeps (c ∷ cs) (r ∷ rs) s s' t law run alive apart =
     let both = or_no (names t c) (list_any (names t) cs) apart in
     let law' = steps_keep_law s run.0 c r.0 r.1 law run.1 in
-    let first = over_of_step s run.0 t r.1 (step_keeps s law t alive r.0 r.1 run.0 law' c both.0 run.1) in
-    over_trans s run.0 s' t (list_any (is_grant_to t) r.1) (told_granted t rs) law first (run_keeps cs rs run.0 s' t law' run.2 first.alive both.1)
+    let first = over_of_step s run.0 t r.1 (is_of_rows c) (step_keeps s law t alive r.0 r.1 run.0 law' c both.0 run.1) in
+    over_trans s run.0 s' t (list_any (is_grant_to t) r.1) (told_granted t rs) (is_of_rows c) (list_any is_of_rows cs) law first (run_keeps cs rs run.0 s' t law' run.2 first.alive both.1)
 
 -- a holder's effective modes are the same, or the same or greater where it was told of a grant
 pub others_keep_effects : OthersKeepEffects
@@ -123,4 +123,4 @@ others_keep_effects s s' cs rs t law run alive apart =
 
 -- below a node on which t has effective S, no record comes or goes or changes a key
 pub others_keep_below : OthersKeepBelow
-others_keep_below s s' cs rs t n law run alive apart reads = (run_keeps cs rs s s' t law run alive apart).below n reads
+others_keep_below s s' cs rs t n law run alive apart plain reads = (run_keeps cs rs s s' t law run alive apart).below plain n reads

@@ -9,18 +9,19 @@ use Rattle.gl_catalog.specs.declared.command.Answer.{Answer}
 use Rattle.gl_catalog.specs.declared.command.Command.{Command}
 use Rattle.gl_catalog.specs.Manager.{ManagerView, state_of}
 use Rattle.gl_catalog.specs.Paths.{Ask, IsPath, LeavesAllBut, lock_of}
-use Rattle.gl_catalog.specs.Promises.{KeepsEffects, is_grant_to, names, same_txn, told_granted}
+use Rattle.gl_catalog.specs.Promises.{KeepsEffects, is_grant_to, is_of_rows, names, same_txn, told_granted}
 use Rattle.gl_catalog.specs.Replies.{Says}
 use Rattle.gl_catalog.specs.Step.{Run}
 use Rattle.gl_catalog.proofs.PathRuns.{told_nobody}
 use Rattle.gl_catalog.proofs.RunsOn.{leaves_others}
 
--- the run of a path: it names its own transaction alone, and only its last reply tells anybody
+-- the run of a path: its commands are locks of its own transaction alone, and only its last reply tells anybody
 record RunsBy (t : TxnId) (m : ManagerView) (r : Says) (m' : ManagerView) : Type 0 where
   commands : List Command
   replies : List (Answer × Told)
   run : Run (state_of m) commands replies (state_of m')
   unnamed : (u : TxnId) → same_txn u t ≡ false → list_any (names u) commands ≡ false
+  no_rows : list_any is_of_rows commands ≡ false
   tells : (u : TxnId) → told_granted u replies ≡ told_granted u (r ∷ [])
 
 or_false : (a b : Bool) → a ≡ false → b ≡ false → (a || b) ≡ false
@@ -32,6 +33,7 @@ path_runs zero t ask last m r m' path = record {
   replies = r ∷ [];
   run = (state_of m', path.0.step, refl);
   unnamed = λ u other. or_false (same_txn u t) false other refl;
+  no_rows = refl;
   tells = λ u. refl;
 }
 path_runs (suc k) t ask last m r m' path =
@@ -42,6 +44,7 @@ path_runs (suc k) t ask last m r m' path =
       replies = path.1 ∷ rest.replies;
       run = (state_of path.2, path.3.step, rest.run);
       unnamed = λ u other. or_false (same_txn u t) _ other (rest.unnamed u other);
+      no_rows = rest.no_rows;
       tells = λ u. ap (λ told. list_any (is_grant_to u) told || told_granted u rest.replies) quiet ∙ rest.tells u;
     }
 
@@ -50,4 +53,4 @@ pub path_leaves : (k : ℕ) (t : TxnId) (ask last : Ask) (m : ManagerView) (r : 
 path_leaves k t ask last m r m' law path u alive other =
     let all = path_runs k t ask last m r m' path in
     let left = leaves_others (state_of m) (state_of m') all.commands all.replies law all.run u alive (all.unnamed u other) in
-    record { effects = subst (KeepsEffects (state_of m) (state_of m') u) (all.tells u) left.effects; below = left.below }
+    record { effects = subst (KeepsEffects (state_of m) (state_of m') u) (all.tells u) left.effects; below = λ _. left.below all.no_rows }

@@ -36,7 +36,11 @@ pub one_on : (t : TxnId) (ask : Ask) (m₀ m m' : ManagerView) (told : Told) (x 
 one_on t ask m₀ m m' told x leads once on k last r m'' path =
     leads (suc k) last r m'' (once.0, reaching told x, m', once.1, ap (λ n. goes_on ask.0 n (reaching told x)) (sym once.2) ∙ on, path)
 
--- behind such an ask
+-- behind such an ask something was granted
+pub granted_so : (node asked : NodeId) (r : Says) → goes_on node asked r ≡ true → grants r.0 ≡ true
+granted_so node asked r h = (and_both (grants r.0) _ (and_both _ _ h).0).0
+
+-- and nobody told
 pub told_nobody : (node asked : NodeId) (r : Says) → goes_on node asked r ≡ true → r.1 ≡ []
 told_nobody node asked r h = none r.1 (and_both (grants r.0) _ (and_both _ _ h).0).1
   where
@@ -95,8 +99,7 @@ module _ (t : TxnId) (ask : Ask) (m : ManagerView) (q : Refusal) (found : first_
   ends_there zero last r m' path = asks_itself last r m' path.0
   ends_there (suc k) last r m' path =
       let is = asks_itself path.0 path.1 path.2 path.3 in
-      let granted = (and_both (grants path.1.0) _ (and_both _ _ path.4).0).0 in
-      absurd (never (ap grants (sym is.0) ∙ granted))
+      absurd (never (ap grants (sym is.0) ∙ granted_so ask.0 path.0.0 path.1 path.4))
 
   result_is : (told : Told) (x : Result Reached Refusal) → (said (reaching told) x).0 ≡ answer.Refused q → x ≡ Err q
   result_is told (Err r) e = ap (λ y. Err y) (refused_is r e)

@@ -1,5 +1,5 @@
 -- The model as a program: what a state answers to a command, and what is left. A new node gets the least key above all others, and settling takes as many turns as there are that wait.
-use Rattle.std.specs.Prelude.{ℕ, zero, suc, ◌+◌, ◌-◌, nat_le, List, [], ◌∷◌, length, Option, Some, None, if◌then◌else◌}
+use Rattle.std.specs.Prelude.{ℕ, false, zero, suc, ◌+◌, ◌-◌, nat_le, List, [], ◌∷◌, length, Option, Some, None, if◌then◌else◌}
 use Rattle.std.specs.List.{range_with_len}
 use Rattle.gl_modes.specs.declared.mode.Mode.TheVariants.{X}
 use Rattle.gl_modes.specs.declared.node.NodeId.{NodeId}
@@ -10,7 +10,7 @@ use Rattle.gl_catalog.specs.declared.command.Command.{Command}
 use Rattle.gl_catalog.specs.declared.command.Command.TheVariants as command
 use Rattle.gl_graph.specs.Shapes.{Shape, Inner, File, Rec}
 use Rattle.gl_graph.specs.Graph.{Node, record_parents}
-use Rattle.gl_graph.specs.Changes.{born_index, rekeyed, rekeyed_parents, with_parents}
+use Rattle.gl_graph.specs.Changes.{born_index, rekeyed, rekeyed_parents, with_parents, without_node}
 use Rattle.gl_table.specs.model.State.{State, status_of, with_grant, with_graph}
 use Rattle.gl_table.specs.model.Calls.{accepted_once, begun, cancelled, deleted, free_slot, granted, unlocked, moved_to, raised, released, shed, wanted}
 use Rattle.gl_table.specs.model.Calls.{covered_children, held_children}
@@ -18,7 +18,7 @@ use Rattle.gl_table.specs.model.Tellings.{Told, told, told_but}
 use Rattle.gl_catalog.specs.Tests.{refusal_of}
 use Rattle.gl_catalog.specs.Step.{lock_answer, query_answer}
 use Rattle.gl_table.proofs.law.Settle.{locked, settled}
-use Rattle.gl_catalog.proofs.Made.{made, next_id}
+use Rattle.gl_catalog.proofs.Made.{adopted, made, next_id}
 
 -- an answer, who is told, and what is left
 abbrev pub Outcome : Type 0
@@ -66,7 +66,7 @@ done s s' = (answer.Done, told s s', s')
 -- a command that is not refused
 abbrev pub go : State → Command → Outcome
 go s (command.Inner ps) = one_made s Inner ps.now
-go s (command.File ps) = one_made s File ps.now
+go s (command.File ps) = one_made s (File false) ps.now
 go s (command.Index ps f bs) = (answer.Node (next_id s (free_key s)), [], with_graph s (born_index s.graph (free_key s) ps.now f bs.now (interval_keys s bs.now)))
 go s command.Begin = (answer.Begun (record { slot = slot_or_zero (free_slot s); age = s.begins + 1 }), [], begun s (slot_or_zero (free_slot s)))
 go s (command.Lock t n m) =
@@ -88,6 +88,8 @@ go s (command.Insert t f keys) =
 go s (command.Delete t r) = done s (deleted s r)
 go s (command.Rekey t r i key) = done s (moved_to s r (rekeyed_parents s.graph r i key) (rekeyed s.graph r i key))
 go s (command.Move t n ps) = done s (moved_to s n ps.now (with_parents s.graph n ps.now))
+go s (command.Adopt f keys) = (answer.Node (next_id s (free_key s)), [], adopted s (free_key s) f keys.now)
+go s (command.Forget r) = (answer.Done, [], with_graph s (without_node s.graph r))
 go s c = (answer.Done, [], s)
 
 -- the command is counted

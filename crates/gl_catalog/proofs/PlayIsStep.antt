@@ -124,6 +124,8 @@ module _ (s : State) (law : IsLawful s) where
   goes (command.Group n) None e = record { answer_is = refl; nobody_told = refl; same = refl }
   goes (command.Held t n) None e = record { answer_is = refl; nobody_told = refl; same = refl }
   goes (command.Effective t n) None e = record { answer_is = refl; nobody_told = refl; same = refl }
+  goes (command.Adopt f keys) None e = (_, (_, record { key_free = key_free; birth = refl; after = refl }, refl, refl, refl), refl)
+  goes (command.Forget r) None e = (_, (refl, refl, refl), refl)
 
   -- whatever the command
   pub play_steps : (c : Command) → Step s c (play s c).0 (play s c).1 (play s c).2

@@ -36,7 +36,7 @@ run_whole s s' cs i rs past run = subst (λ (xs : List Command). Run s xs rs s')
 pub leaves_others : (s s' : State) (cs : List Command) (rs : List (Answer × Told)) → IsLawful s → Run s cs rs s' → LeavesOthers s cs rs s'
 leaves_others s s' cs rs law run t alive unnamed = record {
   effects = others_keep_effects s s' cs rs t law run alive unnamed;
-  below = λ n reads. others_keep_below s s' cs rs t n law run alive unnamed reads;
+  below = λ plain n reads. others_keep_below s s' cs rs t n law run alive unnamed plain reads;
 }
 
 -- the same of one step

@@ -67,6 +67,8 @@ accepts-no_cycle s (command.Settle t) a told' s' at law none h acc = settled-no_
 accepts-no_cycle s (command.Group n) a told' s' at law none h acc = absurd acc
 accepts-no_cycle s (command.Held t n) a told' s' at law none h acc = absurd acc
 accepts-no_cycle s (command.Effective t n) a told' s' at law none h acc = absurd acc
+accepts-no_cycle s (command.Adopt f keys) a told' s' at law none h acc = subst HasNoCycle (sym acc.4) none
+accepts-no_cycle s (command.Forget r) a told' s' at law none h acc = subst HasNoCycle (sym acc.2) none
 
 -- no cycle after each step, of any command
 pub steps_keep_no_cycle : (s s' : State) (c : Command) (a : Answer) (told' : Told) → s.detect ≡ AtBlock → IsLawful s → HasNoCycle s → Step s c a told' s' → HasNoCycle s'

@@ -12,6 +12,7 @@ use Rattle.gl_catalog.proofs.LockCommands.{begin_keeps, lock_keeps, try_keeps, u
 use Rattle.gl_catalog.proofs.MakeKeeps.{inner_keeps, file_keeps, index_keeps, insert_keeps}
 use Rattle.gl_catalog.proofs.DeleteKeeps.{delete_keeps}
 use Rattle.gl_catalog.proofs.MoveCommands.{move_keeps, rekey_keeps}
+use Rattle.gl_catalog.proofs.RowKeeps.{adopt_keeps, forget_keeps}
 
 -- no query is ever accepted: it is answered
 accepted_keeps : (c : Command) → KeepsLaw c
@@ -34,6 +35,8 @@ accepted_keeps (command.Move t n ps) = move_keeps t n ps
 accepted_keeps (command.Group n) = λ s s' a told law free acc. absurd acc
 accepted_keeps (command.Held t n) = λ s s' a told law free acc. absurd acc
 accepted_keeps (command.Effective t n) = λ s s' a told law free acc. absurd acc
+accepted_keeps (command.Adopt f keys) = adopt_keeps f keys
+accepted_keeps (command.Forget r) = forget_keeps r
 
 pub steps_keep_law : StepsKeepLaw
 steps_keep_law s s' c a told law step = each_step IsLawful s c a told s' law (λ next. lawful_counting (next.accepted + 1) next) (λ free next acc. accepted_keeps c s next a told law free acc) step

@@ -88,6 +88,8 @@ module _ (s : State) (t : ℕ) (n : NodeId) (m : Mode) (a : Answer) where
     accepted (command.Group q) acc = absurd acc
     accepted (command.Held u q) acc = absurd acc
     accepted (command.Effective u q) acc = absurd acc
+    accepted (command.Adopt f ks) acc = same _ acc.4 refl
+    accepted (command.Forget r) acc = same _ acc.2 refl
 
 pub begins_waits : BeginsWaits
 begins_waits s s' c a list t n m step =

@@ -166,6 +166,8 @@ module _ (s : State) (law : IsLawful s) (t : TxnId) (alive : lives s t ≡ true)
     accepted (command.Group q) passed acc = absurd acc
     accepted (command.Held u q) passed acc = absurd acc
     accepted (command.Effective u q) passed acc = absurd acc
+    accepted (command.Adopt f ks) passed acc = unmoved _ acc.4 refl (command.Adopt f ks)
+    accepted (command.Forget r) passed acc = unmoved _ acc.2 refl (command.Forget r)
 
 pub ends_waits : EndsWaits
 ends_waits s s' c a list t n law step begin over =

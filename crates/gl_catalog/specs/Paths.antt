@@ -88,7 +88,29 @@ LocksPath t ask m told result m' = (k : ℕ) × (last : Ask) × IsPath k t ask m
 
 -- what a path with this last reply leaves to all living transactions but its own
 abbrev pub LeavesAllBut : TxnId → State → Says → State → Type 0
-LeavesAllBut t s r s' = (u : TxnId) → lives s u ≡ true → same_txn u t ≡ false → Leaves s s' (r ∷ []) u
+LeavesAllBut t s r s' = (u : TxnId) → lives s u ≡ true → same_txn u t ≡ false → Leaves s s' (r ∷ []) u false
+
+-- the ask that is next: for the last of the nodes above that a path keeps, or for its own node
+abbrev pub next_ask : Ask → List NodeId → Ask
+next_ask ask [] = ask
+next_ask ask (p ∷ ps) = next_ask (p, intention ask.1) ps
+
+-- from one ask up to another, by a step at least
+abbrev pub ClimbsUp : State → TxnId → Ask → Ask → Type 0
+ClimbsUp s t ask top = (p : NodeId) × (way : List NodeId) × ClimbsTo s t ask (p ∷ way) top
+
+-- nodes above an ask, upwards: each is climbed up to from the one before
+abbrev pub IsWay : State → TxnId → Ask → List NodeId → Type 0
+IsWay s t ask [] = Unit {0}
+IsWay s t ask (p ∷ ps) = ClimbsUp s t ask (p, intention ask.1) × IsWay s t (p, intention ask.1) ps
+
+-- so it is with the nodes that a path keeps, where a command can still be counted
+abbrev pub KeepsWay : State → TxnId → Ask → List NodeId → Type 0
+KeepsWay s t ask above = worn s ≡ None → IsWay s t ask above
+
+-- and, on the way to write, with those below the last
+abbrev pub KeepsBelow : State → TxnId → Ask → List NodeId → Type 0
+KeepsBelow s t ask above = (below : List NodeId) (last : NodeId) → above ≡ below ++ last ∷ [] → is_write ask.1 ≡ true → KeepsWay s t ask below
 
 -- the tests of a lock that speak of no parents
 abbrev pub path_tests : State → TxnId → NodeId → Mode → List (Option Refusal)

@@ -15,9 +15,9 @@ use Rattle.gl_catalog.specs.declared.command.Answer.TheVariants as answer
 use Rattle.gl_catalog.specs.declared.command.Command.TheVariants as command
 use Rattle.gl_catalog.specs.Tests.{refusal_of}
 use Rattle.gl_catalog.specs.Step.{Goes, Run, Step}
-use Rattle.gl_graph.specs.Graph.{is_live, shape_of}
-use Rattle.gl_graph.specs.Shapes.{is_record_shape}
-use Rattle.gl_table.specs.model.Calls.{accepted_once}
+use Rattle.gl_graph.specs.Graph.{is_live, parents_of, shape_of}
+use Rattle.gl_graph.specs.Shapes.{is_record_shape, keys_in}
+use Rattle.gl_table.specs.model.Calls.{accepted_once, is_idle}
 use Rattle.gl_table.specs.model.Lawful.{EffS, effective, is_at_least_effect, SameBelow, IsLawful}
 use Rattle.gl_table.specs.model.State.{is_waiting_at, State, lives, status_of, HasNoCycle, is_wait, waits_for}
 use Rattle.gl_table.specs.model.Tellings.{Told}
@@ -66,19 +66,25 @@ abbrev pub OthersKeepEffects : Type 0
 OthersKeepEffects =
     (s s' : State) (cs : List Command) (rs : List (Answer × Told)) (t : TxnId) → IsLawful s → Run s cs rs s' → lives s t ≡ true → list_any (names t) cs ≡ false → KeepsEffects s s' t (told_granted t rs)
 
--- over a run that does not name t, no record comes, goes or changes a key below a node that t reads (own)
+-- the command makes or takes a record of which there are no locks
+abbrev pub is_of_rows : Command → Bool
+is_of_rows (command.Adopt f keys) = true
+is_of_rows (command.Forget r) = true
+is_of_rows c = false
+
+-- over a run that does not name t, and in which no row is adopted or forgotten, no record comes, goes or changes a key below a node that t reads (own)
 abbrev pub OthersKeepBelow : Type 0
 OthersKeepBelow =
-    (s s' : State) (cs : List Command) (rs : List (Answer × Told)) (t : TxnId) (n : NodeId) → IsLawful s → Run s cs rs s' → lives s t ≡ true → list_any (names t) cs ≡ false → EffS s t.slot n → SameBelow s.graph s'.graph n
+    (s s' : State) (cs : List Command) (rs : List (Answer × Told)) (t : TxnId) (n : NodeId) → IsLawful s → Run s cs rs s' → lives s t ≡ true → list_any (names t) cs ≡ false → list_any is_of_rows cs ≡ false → EffS s t.slot n → SameBelow s.graph s'.graph n
 
--- what a run leaves a transaction that it does not name: its effective modes, and the records below what it reads
-pub record Leaves (s s' : State) (rs : List (Answer × Told)) (t : TxnId) : Type 0 where
+-- what a run leaves a transaction that it does not name: its effective modes, and, where no row is adopted or forgotten, the records below what it reads
+pub record Leaves (s s' : State) (rs : List (Answer × Told)) (t : TxnId) (rows : Bool) : Type 0 where
   pub effects : KeepsEffects s s' t (told_granted t rs)
-  pub below : (n : NodeId) → EffS s t.slot n → SameBelow s.graph s'.graph n
+  pub below : rows ≡ false → (n : NodeId) → EffS s t.slot n → SameBelow s.graph s'.graph n
 
 -- a run leaves that to every living transaction that it does not name
 abbrev pub LeavesOthers : State → List Command → List (Answer × Told) → State → Type 0
-LeavesOthers s cs rs s' = (t : TxnId) → lives s t ≡ true → list_any (names t) cs ≡ false → Leaves s s' rs t
+LeavesOthers s cs rs s' = (t : TxnId) → lives s t ≡ true → list_any (names t) cs ≡ false → Leaves s s' rs t (list_any is_of_rows cs)
 
 -- one step leaves that to every living transaction that its command does not name
 abbrev pub StepLeavesOthers : State → Command → Answer × Told → State → Type 0
@@ -133,6 +139,7 @@ makes_node (command.Inner ps) = true
 makes_node (command.File ps) = true
 makes_node (command.Index ps f bs) = true
 makes_node (command.Insert t f keys) = true
+makes_node (command.Adopt f keys) = true
 makes_node c = false
 
 -- in a lawful state a command that makes no node has one answer, one list of notices and one state, want of memory aside
@@ -163,6 +170,22 @@ abbrev pub ends_wait_of : TxnId → Command → Bool
 ends_wait_of t (command.Cancel u) = same_txn t u
 ends_wait_of t (command.Abort u) = same_txn t u
 ends_wait_of t c = false
+
+-- the node is there before and after with its keys and its parents
+pub record StandsThrough (s s' : State) (n : NodeId) : Type 0 where
+  pub keys : keys_in (shape_of s'.graph n) ≡ keys_in (shape_of s.graph n)
+  pub parents : parents_of s'.graph n ≡ parents_of s.graph n
+
+-- all locks and all transactions are left; a node that comes or goes is a record of which there are no locks, and all others stand through
+pub record ChangesIdleRows (s s' : State) : Type 0 where
+  pub locks : s' ≡ record s { graph = s'.graph; accepted = s'.accepted }
+  pub came : (n : NodeId) → is_live s.graph n ≡ false → is_live s'.graph n ≡ true → (is_record_shape (shape_of s'.graph n) ≡ true) × (is_idle s' n ≡ true)
+  pub went : (n : NodeId) → is_live s.graph n ≡ true → is_live s'.graph n ≡ false → (is_record_shape (shape_of s.graph n) ≡ true) × (is_idle s n ≡ true)
+  pub stays : (n : NodeId) → is_live s.graph n ≡ true → is_live s'.graph n ≡ true → StandsThrough s s' n
+
+-- adopt and forget change only that (own)
+abbrev pub RowsComeAndGo : Type 0
+RowsComeAndGo = (s s' : State) (c : Command) (a : Answer) (told : Told) → IsLawful s → is_of_rows c ≡ true → Step s c a told s' → ChangesIdleRows s s'
 
 -- nobody waits
 abbrev pub NobodyWaits : State → Type 0

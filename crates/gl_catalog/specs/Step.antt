@@ -1,5 +1,5 @@
 -- One command: its answer, the state that it leaves, and what others are told; and runs of commands (own).
-use Rattle.std.specs.Prelude.{◌≡◌, ◌⊎◌, ℕ, ◌+◌, ◌-◌, true, List, [], ◌∷◌, Option, Some, None}
+use Rattle.std.specs.Prelude.{◌≡◌, ◌⊎◌, ℕ, ◌+◌, ◌-◌, false, true, List, [], ◌∷◌, Option, Some, None}
 use Rattle.gl_table.specs.declared.txn.Status.{Status}
 use Rattle.gl_table.specs.declared.answers.Locked.{Locked}
 use Rattle.gl_table.specs.declared.answers.Locked.TheVariants as locked
@@ -14,7 +14,7 @@ use Rattle.gl_modes.specs.declared.refusal.Refusal.TheVariants as no
 use Rattle.gl_catalog.specs.declared.command.Answer.TheVariants as answer
 use Rattle.gl_catalog.specs.declared.command.Command.TheVariants as command
 use Rattle.gl_catalog.specs.Tests.{may_want_memory, refusal_of}
-use Rattle.gl_graph.specs.Changes.{IsBorn, IsIndexBorn, rekeyed, rekeyed_parents, with_parents}
+use Rattle.gl_graph.specs.Changes.{IsAdopted, IsBorn, IsIndexBorn, rekeyed, rekeyed_parents, with_parents, without_node}
 use Rattle.gl_graph.specs.Graph.{record_parents}
 use Rattle.gl_graph.specs.Shapes.{File, Inner, Rec}
 use Rattle.gl_header.specs.Header.{group_of}
@@ -37,7 +37,7 @@ lock_answer held o = answer_of_lock (locked_as held o)
 -- a command that is not refused: what it answers, tells, and leaves, the count of accepted commands aside
 abbrev pub Accepts : State → Command → Answer → Told → State → Type 0
 Accepts s (command.Inner ps) a told' s' = (n : NodeId) × IsBorn s.graph s'.graph n Inner ps.now × (a ≡ answer.Node n) × (told' ≡ []) × (s' ≡ with_graph s s'.graph)
-Accepts s (command.File ps) a told' s' = (n : NodeId) × IsBorn s.graph s'.graph n File ps.now × (a ≡ answer.Node n) × (told' ≡ []) × (s' ≡ with_graph s s'.graph)
+Accepts s (command.File ps) a told' s' = (n : NodeId) × IsBorn s.graph s'.graph n (File false) ps.now × (a ≡ answer.Node n) × (told' ≡ []) × (s' ≡ with_graph s s'.graph)
 Accepts s (command.Index ps f bs) a told' s' = (n : NodeId) × IsIndexBorn s.graph s'.graph n ps.now f bs.now × (a ≡ answer.Node n) × (told' ≡ []) × (s' ≡ with_graph s s'.graph)
 Accepts s command.Begin a told' s' =
     (t : ℕ) × (free_slot s ≡ Some t) × (a ≡ answer.Begun (record { slot = t; age = s.begins + 1 })) × (told' ≡ []) × (s' ≡ begun s t)
@@ -60,6 +60,8 @@ Accepts s (command.Move t n ps) a told' s' = (a ≡ answer.Done) × (told' ≡ t
 Accepts s (command.Group n) a told' s' = ⊥
 Accepts s (command.Held t n) a told' s' = ⊥
 Accepts s (command.Effective t n) a told' s' = ⊥
+Accepts s (command.Adopt f keys) a told' s' = (n : NodeId) × IsAdopted s.graph s'.graph n f keys.now × (a ≡ answer.Node n) × (told' ≡ []) × (s' ≡ with_graph s s'.graph)
+Accepts s (command.Forget r) a told' s' = (a ≡ answer.Done) × (told' ≡ []) × (s' ≡ with_graph s (without_node s.graph r))
 
 -- what a query answers; no other command is one
 abbrev pub query_answer : State → Command → Option Answer

@@ -8,11 +8,11 @@ use Rattle.gl_modes.specs.declared.refusal.Refusal.TheVariants as no
 use Rattle.gl_catalog.specs.declared.command.Command.TheVariants as command
 use Rattle.gl_graph.specs.Changes.{rekeyed_parents}
 use Rattle.gl_graph.specs.Graph.{first_parent, indexes_of, parents_of, record_parents, shape_of}
-use Rattle.gl_graph.specs.Refusals.{bad_parents, file_refusal, first_cycle, first_refusal, index_refusal, inner_refusal, max_count, too_many_nodes, where_true, worn_births}
+use Rattle.gl_graph.specs.Refusals.{bad_parents, file_refusal, first_cycle, first_refusal, index_refusal, inner_refusal, max_count, record_refusal, too_many_nodes, where_true, worn_births}
 use Rattle.gl_graph.specs.Shapes.{is_file_shape, is_index_of_shape, is_movable_shape, is_record_shape, least_parents}
 use Rattle.gl_header.specs.Header.{holds}
 use Rattle.gl_table.specs.model.Calls.{enters_at}
-use Rattle.gl_table.specs.model.Calls.{active_on, begin_tests, cancel_tests, commit_tests, escalation_blocks, first_not_ix, group_tests, held_tests, holds_x, living_tests, lock_tests, need_exclusive, need_new_parents, not_held, some_given, try_tests, unlock_tests}
+use Rattle.gl_table.specs.model.Calls.{active_on, begin_tests, cancel_tests, commit_tests, escalation_blocks, first_not_ix, forget_tests, group_tests, held_tests, holds_x, living_tests, lock_tests, need_exclusive, need_new_parents, not_held, some_given, try_tests, unlock_tests}
 use Rattle.gl_table.specs.model.State.{State, members}
 
 -- no further command can be counted
@@ -83,6 +83,8 @@ tests_of s (command.Move t n ps) = worn s ∷ move_tests s t n ps.now
 tests_of s (command.Group n) = group_tests s n
 tests_of s (command.Held t n) = held_tests s t n
 tests_of s (command.Effective t n) = held_tests s t n
+tests_of s (command.Adopt f keys) = worn s ∷ record_refusal s.graph f keys.now ∷ []
+tests_of s (command.Forget r) = worn s ∷ forget_tests s r
 
 -- why the command is refused, if it is: the first test that finds a reason
 abbrev pub refusal_of : State → Command → Option Refusal
@@ -108,6 +110,7 @@ lists_memory s (command.Try t n m) = newcomer s t n
 lists_memory s (command.Insert t f keys) = true
 lists_memory s (command.Move t n ps) = true
 lists_memory s (command.Effective t n) = true
+lists_memory s (command.Adopt f keys) = true
 lists_memory s c = false
 
 -- memory is a permitted reason where nothing else is; for a move also in place of a path that closes, since the search for it may want memory

@@ -50,7 +50,8 @@ pub struct Reply {
 }
 
 /// One command. `Group`, `Held` and `Effective` are queries, which change nothing; every other
-/// command that is not refused is counted.
+/// command that is not refused is counted. `Adopt` and `Forget` are our own: by them a record need
+/// not stand for as long as its row does.
 #[derive(Clone, Copy)]
 pub enum Command<'a> {
     /// A new inner node, under 0 to 8 inner nodes.
@@ -146,5 +147,15 @@ pub enum Command<'a> {
     Effective {
         txn: TxnId,
         node: NodeId,
+    },
+    /// A new record of a file, with a key for each of its indexes, which nobody holds: a row of the
+    /// engine's that is to be locked. From then on no index of the file is made.
+    Adopt {
+        file: NodeId,
+        keys: &'a [u64],
+    },
+    /// Take a record away that nobody holds or waits for.
+    Forget {
+        rec: NodeId,
     },
 }

@@ -1,7 +1,7 @@
 //! The laws of all commands, each the contract of a call that does nothing.
 
 ghost use Rattle.gl_table.specs.model.Lawful.{EmptyIsLawful, EmptyHasNoCycle};
-ghost use Rattle.gl_catalog.specs.Promises.{AlwaysAnswers, BeginsWaits, EndsWaits, EscalateLowersNone, MoveKeepsMover, OneOutcome, OthersKeepBelow, OthersKeepEffects, RekeyKeepsMover, RunsKeepLaw, RunsKeepNoCycle, SettlesNobody, StepsKeepLaw};
+ghost use Rattle.gl_catalog.specs.Promises.{AlwaysAnswers, BeginsWaits, EndsWaits, EscalateLowersNone, MoveKeepsMover, OneOutcome, OthersKeepBelow, OthersKeepEffects, RekeyKeepsMover, RowsComeAndGo, RunsKeepLaw, RunsKeepNoCycle, SettlesNobody, StepsKeepLaw};
 
 /// Each step of each command keeps the law; so does each run, and the empty state meets it.
 pub fn steps_keep_law()
@@ -16,9 +16,15 @@ pub fn others_keep_effects()
     ensures { OthersKeepEffects }
 {}
 
-/// Over a run that does not name it, the records below what a transaction reads stay, with their keys.
+/// Over a run that does not name it, and in which no row is adopted or forgotten, the records below
+/// what a transaction reads stay, with their keys.
 pub fn others_keep_below()
     ensures { OthersKeepBelow }
+{}
+
+/// What is adopted and what is forgotten are records of which there are no locks, and nothing else changes.
+pub fn rows_come_and_go()
+    ensures { RowsComeAndGo }
 {}
 
 /// With detection at block no run makes a cycle of waits, and the empty state has none.

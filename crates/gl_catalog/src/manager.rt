@@ -135,7 +135,9 @@ impl Manager {
         self.accepted
     }
 
-    /// Who waits for whom at this moment; its epoch is the count of accepted commands.
+    /// Who waits for whom at this moment; its epoch is the count of accepted commands. A board is three
+    /// kilobytes large, so it is made where the caller has it, and not inlined.
+    #[inline(never)]
     pub fn board(&self) -> Board
         ensures { result ≡ board_of (state_of self.now) }
     {

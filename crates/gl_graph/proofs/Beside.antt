@@ -18,7 +18,7 @@ use Rattle.gl_graph.specs.Shapes.{Shape, Inner, File, Index, Interval, Rec, is_f
 use Rattle.gl_graph.specs.Graph.{node_at, shape_of, shape_in, parents_in, parents_of, interval, interval_at, indexes_of}
 use Rattle.gl_graph.specs.Lawful.{IsRising, HasShape}
 use Rattle.gl_graph.specs.View.{View, graph_of, node_of, record_count, KeepsBeside}
-use Rattle.gl_graph.specs.Seen.{Limits, shape_in_body, indexes_in_body, records_in_body, intervals_in_body, vertex_of, seen, named_in, named, AreSound}
+use Rattle.gl_graph.specs.Seen.{Limits, shape_in_body, indexes_in_body, records_in_body, intervals_in_body, vertex_of, seen, named_in, named, AreSound, parent_list}
 use Rattle.gl_graph.proofs.Slots.{node_named, seen_in}
 
 -- the slot of a node that an id names
@@ -48,7 +48,7 @@ module _ (limits : Limits) (s : Slab Stored) (births : ℕ) (v : View) (sound : 
   pub parents_missed : named s n ≡ None → parents_of (graph_of v) n ≡ []
   parents_missed e = ap parents_in (node_missed e)
 
-  pub parents_found : (x : Stored) → named s n ≡ Some x → parents_of (graph_of v) n ≡ x.parents.items
+  pub parents_found : (x : Stored) → named s n ≡ Some x → parents_of (graph_of v) n ≡ parent_list x.parents
   parents_found x e = ap parents_in (node_found x e)
 
   beside : (x : Stored) → named s n ≡ Some x → KeepsBeside (graph_of v) n (vertex_of x) (shape_in_body x.body)
@@ -58,18 +58,18 @@ module _ (limits : Limits) (s : Slab Stored) (births : ℕ) (v : View) (sound : 
       subst (λ (w : View). KeepsBeside (graph_of w) n (vertex_of x) (shape_in_body x.body)) view
       (subst (λ (b : ℕ). KeepsBeside (graph_of (seen limits s births)) (record { key = n.key; birth = b }) (vertex_of x) (shape_in_body x.body)) slot.1 kept)
 
-  file_shape : (x : Stored) → named s n ≡ Some x → is_file_shape (shape_of (graph_of v) n) ≡ true → shape_in_body x.body ≡ File
+  file_shape : (x : Stored) → named s n ≡ Some x → is_file_shape (shape_of (graph_of v) n) ≡ true → (adopted : Bool) × (shape_in_body x.body ≡ File adopted)
   file_shape x e h = by (shape_in_body x.body) (ap is_file_shape (sym (shape_found x e)) ∙ h)
     where
-      by : (sh : Shape) → is_file_shape (Some sh) ≡ true → sh ≡ File
+      by : (sh : Shape) → is_file_shape (Some sh) ≡ true → (adopted : Bool) × (sh ≡ File adopted)
       by Inner k = absurd (no k)
-      by File k = refl
+      by (File adopted) k = (adopted, refl)
       by (Index f bs) k = absurd (no k)
       by (Interval place) k = absurd (no k)
       by (Rec keys) k = absurd (no k)
 
   file_beside : (x : Stored) → named s n ≡ Some x → is_file_shape (shape_of (graph_of v) n) ≡ true → (indexes_in_body x.body ≡ indexes_of (graph_of v) n) × (records_in_body x.body ≡ record_count (graph_of v) n)
-  file_beside x e h = subst (KeepsBeside (graph_of v) n (vertex_of x)) (file_shape x e h) (beside x e)
+  file_beside x e h = subst (KeepsBeside (graph_of v) n (vertex_of x)) (file_shape x e h).1 (beside x e)
 
   pub indexes_found : (x : Stored) → named s n ≡ Some x → is_file_shape (shape_of (graph_of v) n) ≡ true → indexes_in_body x.body ≡ indexes_of (graph_of v) n
   indexes_found x e h = (file_beside x e h).0
@@ -91,13 +91,13 @@ module _ (limits : Limits) (s : Slab Stored) (births : ℕ) (v : View) (sound : 
 
   index_beside : (x : Stored) (sh : Shape) → shape_in_body x.body ≡ sh → named s n ≡ Some x → is_index_shape (Some sh) ≡ true → KeepsIntervals (intervals_in_body x.body) (bounds_in (Some sh))
   index_beside x Inner t e h = absurd (no h)
-  index_beside x File t e h = absurd (no h)
+  index_beside x (File adopted) t e h = absurd (no h)
   index_beside x (Interval place) t e h = absurd (no h)
   index_beside x (Rec keys) t e h = absurd (no h)
   index_beside x (Index f bs) t e h =
       let kept = subst (KeepsBeside (graph_of v) n (vertex_of x)) t (beside x e) in
       let there : node_at (graph_of (seen limits s births)) n ≡ Some (node_of n.key (vertex_of x)) = ap (λ w. node_at (graph_of w) n) view ∙ node_found x e in
-      let well = subst (λ sh. HasShape (graph_of (seen limits s births)) n sh x.parents.items) t (sound.lawful.well_formed n (node_of n.key (vertex_of x)) there) in
+      let well = subst (λ sh. HasShape (graph_of (seen limits s births)) n sh (parent_list x.parents)) t (sound.lawful.well_formed n (node_of n.key (vertex_of x)) there) in
       record { count = kept.0; each = kept.1; rising = well.1.rising.1 }
 
   pub intervals_found : (x : Stored) → named s n ≡ Some x → is_index_shape (Some (shape_in_body x.body)) ≡ true → KeepsIntervals (intervals_in_body x.body) (bounds_in (Some (shape_in_body x.body)))
@@ -108,12 +108,16 @@ pub record FileSlot (s : Slab Stored) (n : NodeId) : Type 0 where
   pub stored : Stored
   pub there : get s n.key ≡ Some stored
   pub born : stored.birth ≡ n.birth
-  pub shape : shape_in_body stored.body ≡ File
+  pub adopted : Bool
+  pub shape : shape_in_body stored.body ≡ File adopted
 
 pub file_slot : (limits : Limits) (s : Slab Stored) (births : ℕ) (sound : AreSound limits s births) (n : NodeId) → is_file_shape (shape_of (graph_of (seen limits s births)) n) ≡ true → FileSlot s n
 file_slot limits s births sound n h =
     cases_of (named s n) (λ e. absurd (file_not_missed limits s births (seen limits s births) sound refl n e h))
-    (λ x e. let slot = named_slot s n x e in record { stored = x; there = slot.0; born = slot.1; shape = file_shape limits s births (seen limits s births) sound refl n x e h })
+    (λ x e.
+    let slot = named_slot s n x e in
+    let shape = file_shape limits s births (seen limits s births) sound refl n x e h in
+    record { stored = x; there = slot.0; born = slot.1; adopted = shape.0; shape = shape.1 })
 
 -- what is no index has no intervals
 pub no_intervals : (b : Body) → is_index_shape (Some (shape_in_body b)) ≡ false → intervals_in_body b ≡ []
@@ -121,7 +125,9 @@ no_intervals body.Inner h = refl
 no_intervals (body.File kept) h = refl
 no_intervals (body.Index kept) h = absurd (no (sym h))
 no_intervals (body.Interval place) h = refl
-no_intervals (body.Rec keys) h = refl
+no_intervals body.Bare h = refl
+no_intervals (body.Keyed one) h = refl
+no_intervals (body.ManyKeyed keys) h = refl
 
 -- a test passes somewhere exactly where it is not counted 0 times
 pub any_counted : {A : Type 0} (p : A → Bool) (xs : List A) → nat_lt 0 (count_by p xs) ≡ list_any p xs

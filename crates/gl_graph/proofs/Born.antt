@@ -14,7 +14,7 @@ use Rattle.gl_graph.specs.Graph.{Graph, Node, id_of, nodes, node_count, with_key
 use Rattle.gl_graph.specs.Lawful.{IsWellFormed, IsLawfulGraph}
 use Rattle.gl_graph.specs.Changes.{born_node, born_nodes}
 use Rattle.gl_graph.proofs.Look.{found_at, finds, live_node, there_is, child_node}
-use Rattle.gl_graph.proofs.KindRules.{Frames, well_formed_kept, plain_live}
+use Rattle.gl_graph.proofs.KindRules.{Frames, well_formed_kept, plain_live, one_shape}
 use Rattle.gl_graph.proofs.Listings.{kept, index_born, indexes_are, range_append, map_same, map_short}
 use Rattle.gl_graph.proofs.Routes.{acyclic_beside}
 
@@ -133,7 +133,7 @@ module _ (g : Graph) (law : IsLawfulGraph g) (ns : List Node) where
   module _ (indexes : (f r : NodeId) → is_record_shape (shape_of g r) ≡ true → is_child g f r ≡ true → indexes_of grown f ≡ indexes_of g f) where
     pub born_frames : Frames g grown
     born_frames = record {
-      shapes = λ q h. ap shape_in (old_same q (plain_live g q h));
+      shapes = λ q h. one_shape _ _ (ap shape_in (old_same q (plain_live g q h)));
       intervals = λ q place node e shape. old_same q (ap is_some e) ∙ e;
       indexes = indexes;
       bounds = most_bounds_is g ns;

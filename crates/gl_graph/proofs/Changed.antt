@@ -13,12 +13,12 @@ use Rattle.gl_graph.specs.Routes.{IsRoute}
 use Rattle.gl_graph.specs.Lawful.{IsWellFormed, IsLawfulGraph}
 use Rattle.gl_graph.specs.Changes.{with_node}
 use Rattle.gl_graph.proofs.Look.{found_at, finds, misses, there_is}
-use Rattle.gl_graph.proofs.KindRules.{is_plain, Frames, well_formed_kept}
+use Rattle.gl_graph.proofs.KindRules.{is_plain, Frames, well_formed_kept, AreAlike, one_shape}
 use Rattle.gl_graph.proofs.Routes.{acyclic_moved}
 
--- the shape is the same, or a record's keys are others
+-- the shape is the same but for a file's mark, or a record's keys are others
 pub record IsAlike (was is : Shape) : Type 0 where
-  pub plain : is_plain (Some was) ≡ true → is ≡ was
+  pub plain : is_plain (Some was) ≡ true → AreAlike (Some is) (Some was)
   pub index : (f : NodeId) → is_index_of_shape f (Some is) ≡ is_index_of_shape f (Some was)
   pub rec : is_record_shape (Some is) ≡ is_record_shape (Some was)
   pub no_interval : (place : ℕ) → was ≡ Interval place → ⊥
@@ -85,8 +85,10 @@ module _ (g : Graph) (n : NodeId) (was is : Node) (there : node_at g n ≡ Some 
       shapes = λ q h. split (same_node q n)
           (λ e.
           let same : q ≡ n = same_node-equal q n e in
-          ap (shape_of after) same ∙ shape_here ∙ ap Some (alike.plain (sym (ap (λ x. is_plain (shape_of g x)) same ∙ ap is_plain shape_was) ∙ h)) ∙ sym (ap (shape_of g) same ∙ shape_was))
-          (λ e. ap shape_in (at_other q (same_node-other q n e)));
+          subst (λ (x : NodeId). AreAlike (shape_of after x) (shape_of g x)) (sym same)
+          (subst (λ (o : Option Shape). AreAlike o (shape_of g n)) (sym shape_here)
+          (subst (AreAlike (Some is.shape)) (sym shape_was) (alike.plain (sym (ap (λ x. is_plain (shape_of g x)) same ∙ ap is_plain shape_was) ∙ h)))))
+          (λ e. one_shape _ _ (ap shape_in (at_other q (same_node-other q n e))));
       intervals = λ q place node e shape. split (same_node q n)
           (λ same. absurd (alike.no_interval place (ap (λ x. x.shape) (some_is (sym there ∙ ap (node_at g) (sym (same_node-equal q n same)) ∙ e)) ∙ shape)))
           (λ other. at_other q (same_node-other q n other) ∙ e);

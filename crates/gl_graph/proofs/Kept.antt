@@ -12,7 +12,7 @@ use Rattle.gl_graph.specs.Graph.{Graph, Node, node_at, is_live, shape_in, shape_
 use Rattle.gl_graph.specs.Lawful.{IsLawfulGraph}
 use Rattle.gl_graph.specs.Changes.{born_node, IsBorn}
 use Rattle.gl_graph.specs.View.{Vertex, graph_of, node_of, record_count, KeepsBeside, AgreesAt}
-use Rattle.gl_graph.specs.Seen.{Limits, shape_in_body, vertex_of, seen, AreBornWithin, AreSound, IsPlainBody}
+use Rattle.gl_graph.specs.Seen.{Limits, shape_in_body, vertex_of, seen, AreBornWithin, AreSound, IsPlainBody, parent_list}
 use Rattle.gl_graph.proofs.KindRules.{Frames, index_node, interval_kept}
 use Rattle.gl_graph.proofs.Born.{born_frames, new_node, old_below}
 use Rattle.gl_graph.proofs.NewNodes.{one_indexes}
@@ -29,7 +29,7 @@ intervals_same g g' law same n f bs e place low =
 pub beside_kept : (g g' : Graph) (law : IsLawfulGraph g) → Frames g g' → (n : NodeId) (x : Vertex) (sh : Shape) → shape_of g n ≡ Some sh
     → (is_file_shape (Some sh) ≡ true → (indexes_of g' n ≡ indexes_of g n) × (record_count g' n ≡ record_count g n)) → KeepsBeside g n x sh → KeepsBeside g' n x sh
 beside_kept g g' law same n x Inner e file k = tt
-beside_kept g g' law same n x File e file k = let t = file refl in (k.0 ∙ sym t.0, k.1 ∙ sym t.1)
+beside_kept g g' law same n x (File adopted) e file k = let t = file refl in (k.0 ∙ sym t.0, k.1 ∙ sym t.1)
 beside_kept g g' law same n x (Index f bs) e file k = (k.0, λ place low. k.1 place low ∙ ap Some (sym (intervals_same g g' law same n f bs e place low)))
 beside_kept g g' law same n x (Interval place) e file k = tt
 beside_kept g g' law same n x (Rec keys) e file k = tt
@@ -44,14 +44,18 @@ plain_no_index body.Inner p f = refl
 plain_no_index (body.File kept) p f = refl
 plain_no_index (body.Index kept) p f = absurd p
 plain_no_index (body.Interval place) p f = absurd p
-plain_no_index (body.Rec keys) p f = absurd p
+plain_no_index body.Bare p f = absurd p
+plain_no_index (body.Keyed one) p f = absurd p
+plain_no_index (body.ManyKeyed keys) p f = absurd p
 
 plain_no_record : (b : Body) → IsPlainBody b → is_record_shape (Some (shape_in_body b)) ≡ false
 plain_no_record body.Inner p = refl
 plain_no_record (body.File kept) p = refl
 plain_no_record (body.Index kept) p = absurd p
 plain_no_record (body.Interval place) p = absurd p
-plain_no_record (body.Rec keys) p = absurd p
+plain_no_record body.Bare p = absurd p
+plain_no_record (body.Keyed one) p = absurd p
+plain_no_record (body.ManyKeyed keys) p = absurd p
 
 module _ (limits : Limits) (old new : Slab Stored) (births key : ℕ) (x : Stored) (sound : AreSound limits old births) (free : get old key ≡ None) (u : Updates old new key (Some x)) (next : x.birth ≡ births + 1) where
   abbrev pub g : Graph
@@ -66,7 +70,7 @@ module _ (limits : Limits) (old new : Slab Stored) (births key : ℕ) (x : Store
   pub after : graph_of (seen limits new (births + 1)) ≡ born_node g node
   after = inserted limits old new births key x sound.apart (born_within limits old births sound) free u next
 
-  pub is_born : IsBorn g (graph_of (seen limits new (births + 1))) id (shape_in_body x.body) x.parents.items
+  pub is_born : IsBorn g (graph_of (seen limits new (births + 1))) id (shape_in_body x.body) (parent_list x.parents)
   is_born = record { key_free = inserted_free limits old new births key x sound.apart (born_within limits old births sound) free u next; birth = refl; after = after }
 
   not_there : is_live g id ≡ false
@@ -111,7 +115,9 @@ module _ (limits : Limits) (old new : Slab Stored) (births key : ℕ) (x : Store
     )
     new_kept (body.Index kept) e p = absurd p
     new_kept (body.Interval place) e p = absurd p
-    new_kept (body.Rec keys) e p = absurd p
+    new_kept body.Bare e p = absurd p
+    new_kept (body.Keyed one) e p = absurd p
+    new_kept (body.ManyKeyed keys) e p = absurd p
 
     agree_born : (k : ℕ) (y : Stored) → get new k ≡ Some y → AgreesAt (born_node g node) k (vertex_of y)
     agree_born k y e =

@@ -82,7 +82,7 @@ held_there bs key k rising low holds = record {
 index_shape : (o : Option Shape) → is_index_shape o ≡ true → (file : NodeId) × (bounds : List ℕ) × (o ≡ Some (Index file bounds))
 index_shape None h = absurd (no h)
 index_shape (Some Inner) h = absurd (no h)
-index_shape (Some File) h = absurd (no h)
+index_shape (Some (File adopted)) h = absurd (no h)
 index_shape (Some (Index file bounds)) h = (file, bounds, refl)
 index_shape (Some (Interval place)) h = absurd (no h)
 index_shape (Some (Rec keys)) h = absurd (no h)

@@ -33,7 +33,7 @@ plain_live g q h = cases_of (node_at g q) (λ e. absurd (no (sym (ap (λ o. is_p
 pub rec_not_plain : (o : Option Shape) → is_record_shape o ≡ true → is_plain o ≡ true → ⊥
 rec_not_plain None h k = no h
 rec_not_plain (Some Inner) h k = no h
-rec_not_plain (Some File) h k = no h
+rec_not_plain (Some (File adopted)) h k = no h
 rec_not_plain (Some (Index file bounds)) h k = no h
 rec_not_plain (Some (Interval place)) h k = no h
 rec_not_plain (Some (Rec keys)) h k = no k
@@ -42,14 +42,24 @@ rec_not_plain (Some (Rec keys)) h k = no k
 pub index_of : (f : NodeId) (o : Option Shape) → is_index_of_shape f o ≡ true → (file : NodeId) × (bounds : List ℕ) × (o ≡ Some (Index file bounds))
 index_of f None h = absurd (no h)
 index_of f (Some Inner) h = absurd (no h)
-index_of f (Some File) h = absurd (no h)
+index_of f (Some (File adopted)) h = absurd (no h)
 index_of f (Some (Index file bounds)) h = (file, bounds, refl)
 index_of f (Some (Interval place)) h = absurd (no h)
 index_of f (Some (Rec keys)) h = absurd (no h)
 
+-- one shape, or files of which the one may have a mark that the other has not
+pub record AreAlike (o' o : Option Shape) : Type 0 where
+  pub inner : is_inner_shape o' ≡ is_inner_shape o
+  pub file : is_file_shape o' ≡ is_file_shape o
+  pub index : is_index_shape o' ≡ is_index_shape o
+  pub bounds : bounds_in o' ≡ bounds_in o
+
+pub one_shape : (o' o : Option Shape) → o' ≡ o → AreAlike o' o
+one_shape o' o e = record { inner = ap is_inner_shape e; file = ap is_file_shape e; index = ap is_index_shape e; bounds = ap bounds_in e }
+
 -- what the kinds of the nodes that were there read is as it was
 pub record Frames (g g' : Graph) : Type 0 where
-  pub shapes : (q : NodeId) → is_plain (shape_of g q) ≡ true → shape_of g' q ≡ shape_of g q
+  pub shapes : (q : NodeId) → is_plain (shape_of g q) ≡ true → AreAlike (shape_of g' q) (shape_of g q)
   pub intervals : (q : NodeId) (place : ℕ) (node : Node) → node_at g q ≡ Some node → node.shape ≡ Interval place → node_at g' q ≡ Some node
   pub indexes : (f r : NodeId) → is_record_shape (shape_of g r) ≡ true → is_child g f r ≡ true → indexes_of g' f ≡ indexes_of g f
   pub bounds : g'.most_bounds ≡ g.most_bounds
@@ -89,7 +99,7 @@ module _ (g : Graph) (law : IsLawfulGraph g) where
 
   parent_plain_of : (sh : Shape) (ps : List NodeId) (n p : NodeId) → HasShape g n sh ps → list_any (same_node p) ps ≡ true → is_plain (shape_of g p) ≡ true
   parent_plain_of Inner ps n p h k = inner_plain _ (all_at (λ q. is_inner_shape (shape_of g q)) ps p k h.inner)
-  parent_plain_of File ps n p h k = inner_plain _ (all_at (λ q. is_inner_shape (shape_of g q)) ps p k h.inner)
+  parent_plain_of (File adopted) ps n p h k = inner_plain _ (all_at (λ q. is_inner_shape (shape_of g q)) ps p k h.inner)
   parent_plain_of (Index f bs) ps n p h k = inner_plain _ (all_at (λ q. is_inner_shape (shape_of g q)) ps p k h.0.inner)
   parent_plain_of (Interval place) ps n p h k =
       or_elim _ _ (sym (ap (list_any (same_node p)) h.1) ∙ k) (λ here. ap (λ q. is_plain (shape_of g q)) (same_node-equal p h.0 here) ∙ index_plain _ h.2) (λ none. absurd (no none))
@@ -103,7 +113,7 @@ module _ (g g' : Graph) (law : IsLawfulGraph g) (same : Frames g g') where
   inner_kept [] h = refl
   inner_kept (p ∷ ps) h =
       let t = and_both _ _ h in
-      both _ _ (ap is_inner_shape (same.shapes p (inner_plain _ t.0)) ∙ t.0) (inner_kept ps t.1)
+      both _ _ ((same.shapes p (inner_plain _ t.0)).inner ∙ t.0) (inner_kept ps t.1)
 
   pub parents_kept : (least : ℕ) (ps : List NodeId) → AreInnerParents g least ps → AreInnerParents g' least ps
   parents_kept least ps a = record { enough = a.enough; few = a.few; inner = inner_kept ps a.inner; distinct = a.distinct }
@@ -116,7 +126,7 @@ module _ (g g' : Graph) (law : IsLawfulGraph g) (same : Frames g g') where
 
   pub index_kept : (n f : NodeId) (bs : List ℕ) → IsIndexNode g n f bs → IsIndexNode g' n f bs
   index_kept n f bs h = record {
-    file = ap is_file_shape (same.shapes f (file_plain _ h.file)) ∙ h.file;
+    file = (same.shapes f (file_plain _ h.file)).file ∙ h.file;
     few = subst (λ m. length bs ≤ m) (sym same.bounds) h.few;
     rising = h.rising;
     intervals = λ place low.
@@ -131,9 +141,9 @@ module _ (g g' : Graph) (law : IsLawfulGraph g) (same : Frames g g') where
       let t = and_both _ _ h in
       let it = interval_is g law f i key t.0 in
       let index = index_of f (shape_of g i) t.0 in
-      let shape : shape_of g' i ≡ shape_of g i = same.shapes i (ap is_plain index.2) in
+      let shape = same.shapes i (ap is_plain index.2) in
       let one : interval_of g' i key ≡ interval_of g i key =
-      ap (λ o. interval g' i (interval_place (bounds_in o) key)) shape ∙ interval_kept i (interval_place (bounds_in (shape_of g i)) key) _ it refl in
+      ap (λ bs. interval g' i (interval_place bs key)) shape.bounds ∙ interval_kept i (interval_place (bounds_in (shape_of g i)) key) _ it refl in
       ap₂ (λ x xs. x ∷ xs) one (intervals_kept f is keys t.1)
 
   pub record_parents_kept : (f : NodeId) (keys : List ℕ) → indexes_of g' f ≡ indexes_of g f → record_parents g' f keys ≡ record_parents g f keys
@@ -143,14 +153,14 @@ module _ (g g' : Graph) (law : IsLawfulGraph g) (same : Frames g g') where
   -- what its kind asks of a node is kept
   pub shape_kept : (sh : Shape) (ps : List NodeId) (n : NodeId) (node : Node) → node_at g n ≡ Some node → node.shape ≡ sh → node.parents ≡ ps → HasShape g n sh ps → HasShape g' n sh ps
   shape_kept Inner ps n node e es ep h = parents_kept 0 ps h
-  shape_kept File ps n node e es ep h = parents_kept 1 ps h
+  shape_kept (File adopted) ps n node e es ep h = parents_kept 1 ps h
   shape_kept (Index f bs) ps n node e es ep h = (parents_kept 1 ps h.0, index_kept n f bs h.1)
   shape_kept (Interval place) ps n node e es ep h =
-      let shape : shape_of g' h.0 ≡ shape_of g h.0 = same.shapes h.0 (index_plain _ h.2) in (
+      let shape = same.shapes h.0 (index_plain _ h.2) in (
         h.0,
         h.1,
-        ap is_index_shape shape ∙ h.2,
-        subst (λ o. place ≤ length (bounds_in o)) (sym shape) h.3,
+        shape.index ∙ h.2,
+        subst (λ (bs : List ℕ). place ≤ length bs) (sym shape.bounds) h.3,
         h.4 ∙ sym (interval_kept h.0 place node (subst (λ q. node_at g q ≡ Some node) h.4 e) es),
       )
   shape_kept (Rec keys) ps n node e es ep h =
@@ -158,7 +168,7 @@ module _ (g g' : Graph) (law : IsLawfulGraph g) (same : Frames g g') where
       let rec : is_record_shape (shape_of g n) ≡ true = ap (λ o. is_record_shape (shape_in o)) e ∙ ap (λ x. is_record_shape (Some x)) es in (
         h.0,
         record {
-          file_is = ap is_file_shape (same.shapes h.0 (file_plain _ h.1.file_is)) ∙ h.1.file_is;
+          file_is = (same.shapes h.0 (file_plain _ h.1.file_is)).file ∙ h.1.file_is;
           a_key_each = h.1.a_key_each ∙ ap length (sym (same.indexes h.0 n rec child));
           parents = h.1.parents ∙ sym (record_parents_kept h.0 keys (same.indexes h.0 n rec child));
         },

@@ -10,7 +10,7 @@ use Rattle.gl_graph.specs.Lawful.{AreInnerParents}
 pub inner_kind : (o : Option Shape) → kind_in o ≡ Some kind.Inner → is_inner_shape o ≡ true
 inner_kind None e = cc
 inner_kind (Some Inner) e = refl
-inner_kind (Some File) e = cc
+inner_kind (Some (File adopted)) e = cc
 inner_kind (Some (Index f bs)) e = cc
 inner_kind (Some (Interval place)) e = cc
 inner_kind (Some (Rec keys)) e = cc
@@ -18,7 +18,7 @@ inner_kind (Some (Rec keys)) e = cc
 pub file_kind : (o : Option Shape) → kind_in o ≡ Some kind.File → is_file_shape o ≡ true
 file_kind None e = cc
 file_kind (Some Inner) e = cc
-file_kind (Some File) e = refl
+file_kind (Some (File adopted)) e = refl
 file_kind (Some (Index f bs)) e = cc
 file_kind (Some (Interval place)) e = cc
 file_kind (Some (Rec keys)) e = cc
@@ -26,7 +26,7 @@ file_kind (Some (Rec keys)) e = cc
 pub index_kind : (o : Option Shape) → kind_in o ≡ Some kind.Index → is_index_shape o ≡ true
 index_kind None e = cc
 index_kind (Some Inner) e = cc
-index_kind (Some File) e = cc
+index_kind (Some (File adopted)) e = cc
 index_kind (Some (Index f bs)) e = refl
 index_kind (Some (Interval place)) e = cc
 index_kind (Some (Rec keys)) e = cc
@@ -34,7 +34,7 @@ index_kind (Some (Rec keys)) e = cc
 pub record_kind : (o : Option Shape) → kind_in o ≡ Some kind.Rec → is_record_shape o ≡ true
 record_kind None e = cc
 record_kind (Some Inner) e = cc
-record_kind (Some File) e = cc
+record_kind (Some (File adopted)) e = cc
 record_kind (Some (Index f bs)) e = cc
 record_kind (Some (Interval place)) e = cc
 record_kind (Some (Rec keys)) e = refl
@@ -42,7 +42,7 @@ record_kind (Some (Rec keys)) e = refl
 pub inner_movable : (o : Option Shape) → kind_in o ≡ Some kind.Inner → (is_movable_shape o ≡ true) × (least_parents o ≡ 0)
 inner_movable None e = cc
 inner_movable (Some Inner) e = (refl, refl)
-inner_movable (Some File) e = cc
+inner_movable (Some (File adopted)) e = cc
 inner_movable (Some (Index f bs)) e = cc
 inner_movable (Some (Interval place)) e = cc
 inner_movable (Some (Rec keys)) e = cc

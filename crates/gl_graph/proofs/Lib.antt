@@ -29,5 +29,8 @@ pub mod Rising
 pub mod SoundIndex
 pub mod Climb
 pub mod SoundMoved
+pub mod Marked
+pub mod SoundMarked
 pub mod RootPaths
 pub mod KindsOf
+pub mod Adopted

@@ -14,7 +14,7 @@ use Rattle.gl_graph.specs.Lawful.{AreInnerParents, HasShape, IsLawfulGraph}
 use Rattle.gl_graph.specs.Changes.{with_node, reparented, with_parents, keys_with, rekeyed_keys, rekeyed_parents, rekeyed_node, rekeyed}
 use Rattle.gl_graph.specs.Shapes.{least_parents}
 use Rattle.gl_graph.proofs.Look.{all_at, found_at}
-use Rattle.gl_graph.proofs.KindRules.{Frames, is_plain, file_plain, plain_live, rec_not_plain, parent_plain, record_parent_plain, parents_kept, index_kept, record_parents_kept}
+use Rattle.gl_graph.proofs.KindRules.{Frames, is_plain, file_plain, plain_live, rec_not_plain, parent_plain, record_parent_plain, parents_kept, index_kept, record_parents_kept, one_shape}
 use Rattle.gl_graph.proofs.Changed.{IsAlike, changed_frames, changed_lawful, indexes_same}
 use Rattle.gl_graph.proofs.RouteLengths.{route_short}
 
@@ -48,7 +48,7 @@ pub below_complete : (g : Graph) (law : IsLawfulGraph g) (n p : NodeId) (way : L
 below_complete g law n p way live r = below_found g n (node_count g) p way (let few = route_short g law p n way live r in omega arith) r
 
 -- a graph with one place changed
-graph_at : (g : Graph) (f : ℕ → Option Node) (n : NodeId) (is : Node) → ((b : ℕ) → b ≡ n.birth → f b ≡ Some is) → ((b : ℕ) → (b == n.birth) ≡ false → f b ≡ g.at b) → with_node g n.birth is ≡ record { at = f; births = g.births; most = g.most; most_bounds = g.most_bounds }
+pub graph_at : (g : Graph) (f : ℕ → Option Node) (n : NodeId) (is : Node) → ((b : ℕ) → b ≡ n.birth → f b ≡ Some is) → ((b : ℕ) → (b == n.birth) ≡ false → f b ≡ g.at b) → with_node g n.birth is ≡ record { at = f; births = g.births; most = g.most; most_bounds = g.most_bounds }
 graph_at g f n is here other =
     let e : (λ (b : ℕ). if b == n.birth then Some is else g.at b) ≡ f = fun_ext (λ b. split (b == n.birth)
     (λ h. ap (λ x. if x then Some is else g.at b) h ∙ sym (here b (same_number b n.birth h)))
@@ -73,7 +73,7 @@ rekeyed_is g r index key was e =
     (λ b h. ap (λ x. if x then rekeyed_node (rekeyed_keys g r index key) (rekeyed_parents g r index key) (g.at b) else g.at b) h)
 
 pub movable_alike : (sh : Shape) → is_movable_shape (Some sh) ≡ true → IsAlike sh sh
-movable_alike sh h = record { plain = λ k. refl; index = λ f. refl; rec = refl; no_interval = λ place e. no (sym (ap (λ x. is_movable_shape (Some x)) e) ∙ h) }
+movable_alike sh h = record { plain = λ k. one_shape _ _ refl; index = λ f. refl; rec = refl; no_interval = λ place e. no (sym (ap (λ x. is_movable_shape (Some x)) e) ∙ h) }
 
 pub rec_alike : (was : Shape) (keys keys' : List ℕ) → was ≡ Rec keys → IsAlike was (Rec keys')
 rec_alike was keys keys' e = record {
@@ -87,7 +87,7 @@ module _ (g : Graph) (law : IsLawfulGraph g) (n : NodeId) (was : Node) (there : 
   -- a move
   move_well : (ps : List NodeId) (g' : Graph) (sh : Shape) → was.shape ≡ sh → is_movable_shape (Some sh) ≡ true → Frames g g' → AreInnerParents g (least_parents (Some sh)) ps → HasShape g n sh was.parents → HasShape g' n sh ps
   move_well ps g' Inner e m same inner h = parents_kept g g' law same 0 ps inner
-  move_well ps g' File e m same inner h = parents_kept g g' law same 1 ps inner
+  move_well ps g' (File adopted) e m same inner h = parents_kept g g' law same 1 ps inner
   move_well ps g' (Index f bs) e m same inner h = (parents_kept g g' law same 1 ps inner, index_kept g g' law same n f bs h.1)
   move_well ps g' (Interval place) e m same inner h = absurd (no m)
   move_well ps g' (Rec keys) e m same inner h = absurd (no m)
@@ -132,7 +132,7 @@ module _ (g : Graph) (law : IsLawfulGraph g) (n : NodeId) (was : Node) (there : 
       (changed_lawful g n was is there refl alike law (
         first_parent g n,
         record {
-          file_is = ap is_file_shape (frames.shapes (first_parent g n) (file_plain _ file.0)) ∙ file.0;
+          file_is = (frames.shapes (first_parent g n) (file_plain _ file.0)).file ∙ file.0;
           a_key_each = keys_with_length (indexes_of g (first_parent g n)) (keys_in (shape_of g n)) index key (ap length keys_are ∙ file.1) ∙ ap length (sym (indexes_same g n was is there refl alike (first_parent g n)));
           parents = sym (record_parents_kept g (with_node g n.birth is) law frames (first_parent g n) (rekeyed_keys g n index key) (indexes_same g n was is there refl alike (first_parent g n)));
         },

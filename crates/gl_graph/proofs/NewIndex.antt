@@ -138,7 +138,7 @@ module _ (g : Graph) (law : IsLawfulGraph g) (key : ℕ) (ps : List NodeId) (fil
     index_well : HasShape grown id (Index file bounds) ps
     index_well = (
       parents_kept g grown law frames 1 ps inner,
-      record { file = ap is_file_shape (frames.shapes file (file_plain _ is_file)) ∙ is_file; few = subst (λ m. length bounds ≤ m) (sym frames.bounds) few; rising = rising; intervals = intervals_stand },
+      record { file = (frames.shapes file (file_plain _ is_file)).file ∙ is_file; few = subst (λ m. length bounds ≤ m) (sym frames.bounds) few; rising = rising; intervals = intervals_stand },
     )
 
     well : (k : ℕ) (node : Node) → place_in ns k ≡ Some node → IsWellFormed grown (new_id g law ns node k) node

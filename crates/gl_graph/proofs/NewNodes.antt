@@ -86,9 +86,9 @@ inner_lawful g law key ps inner free room =
     one_lawful g law node (λ f. refl) (parents_kept g (born_node g node) law (born_frames g law (node ∷ []) (λ f r h k. one_indexes g law node (λ f'. refl) f)) 0 ps inner)
     (λ p h. plain_live g p (inner_plain _ (all_at (λ q. is_inner_shape (shape_of g q)) ps p h inner.inner))) free room
 
-pub file_lawful : (g : Graph) (law : IsLawfulGraph g) (key : ℕ) (ps : List NodeId) → AreInnerParents g 1 ps → IsFreeKey g key → node_count g + 1 ≤ g.most → IsLawfulGraph (born_node g (record { key = key; shape = File; parents = ps }))
+pub file_lawful : (g : Graph) (law : IsLawfulGraph g) (key : ℕ) (ps : List NodeId) → AreInnerParents g 1 ps → IsFreeKey g key → node_count g + 1 ≤ g.most → IsLawfulGraph (born_node g (record { key = key; shape = File false; parents = ps }))
 file_lawful g law key ps inner free room =
-    let node : Node = record { key = key; shape = File; parents = ps } in
+    let node : Node = record { key = key; shape = File false; parents = ps } in
     one_lawful g law node (λ f. refl) (parents_kept g (born_node g node) law (born_frames g law (node ∷ []) (λ f r h k. one_indexes g law node (λ f'. refl) f)) 1 ps inner)
     (λ p h. plain_live g p (inner_plain _ (all_at (λ q. is_inner_shape (shape_of g q)) ps p h inner.inner))) free room
 
@@ -99,5 +99,5 @@ record_lawful g law key file keys is_file each free room =
     let frames = born_frames g law (node ∷ []) (λ f r h k. one_indexes g law node (λ f'. refl) f) in
     let same = one_indexes g law node (λ f'. refl) file in
     one_lawful g law node (λ f. refl)
-    (file, record { file_is = ap is_file_shape (frames.shapes file (file_plain _ is_file)) ∙ is_file; a_key_each = each ∙ ap length (sym same); parents = sym (record_parents_kept g (born_node g node) law frames file keys same) })
+    (file, record { file_is = (frames.shapes file (file_plain _ is_file)).file ∙ is_file; a_key_each = each ∙ ap length (sym same); parents = sym (record_parents_kept g (born_node g node) law frames file keys same) })
     (λ p h. plain_live g p (record_parent_plain g law file p keys is_file h)) free room

@@ -21,7 +21,7 @@ all_at_place p (x ∷ xs) (suc k) d all low = all_at_place p xs k d (and_both (p
 pub index_of_index : (f : NodeId) (o : Option Shape) → is_index_of_shape f o ≡ true → is_index_shape o ≡ true
 index_of_index f None h = h
 index_of_index f (Some Inner) h = h
-index_of_index f (Some File) h = h
+index_of_index f (Some (File adopted)) h = h
 index_of_index f (Some (Index file bounds)) h = refl
 index_of_index f (Some (Interval place)) h = h
 index_of_index f (Some (Rec keys)) h = h
@@ -54,7 +54,7 @@ module _ (g : Graph) (law : IsLawfulGraph g) where
 pub record_shape : (o : Option Shape) → is_record_shape o ≡ true → (keys : List ℕ) × (o ≡ Some (Rec keys))
 record_shape None h = absurd (no h)
 record_shape (Some Inner) h = absurd (no h)
-record_shape (Some File) h = absurd (no h)
+record_shape (Some (File adopted)) h = absurd (no h)
 record_shape (Some (Index file bounds)) h = absurd (no h)
 record_shape (Some (Interval place)) h = absurd (no h)
 record_shape (Some (Rec keys)) h = (keys, refl)

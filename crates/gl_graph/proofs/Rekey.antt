@@ -1,5 +1,5 @@
 -- One key of a record is written at the place of its index, and its interval behind it.
-use Rattle.std.specs.Prelude.{◌≡◌, ◌≢◌, ℕ, zero, suc, ◌+◌, ◌<◌, Bool, true, false, not, nat_lt, ◌&&◌, ◌||◌, List, [], ◌∷◌, length, Option, Some, None, is_some, if◌then◌else◌, slice_index_or, slice_set, position}
+use Rattle.std.specs.Prelude.{◌≡◌, ◌≢◌, ℕ, zero, suc, ◌+◌, ◌^◌, ◌<◌, Bool, true, false, not, nat_lt, ◌&&◌, ◌||◌, List, [], ◌∷◌, length, Option, Some, None, is_some, if◌then◌else◌, slice_index_or, slice_set, position}
 use Rattle.std.specs.List.{list_any, position_or_len}
 use Rattle.std.proofs.lemmas.Bool.Decides.{nat_tests}
 use Rattle.gl_modes.proofs.Words.{split, no, none_some, some_is}
@@ -12,12 +12,14 @@ use Rattle.slab.specs.Slab.{Slab, get, slab_len, ContainsKey, Updates}
 use Rattle.gl_graph.specs.declared.node.Body.{Body}
 use Rattle.gl_graph.specs.declared.node.Body.TheVariants as body
 use Rattle.gl_graph.specs.declared.node.Node.{Node as Stored}
+use Rattle.gl_graph.specs.declared.parents.Parents.{Parents}
+use Rattle.gl_graph.specs.declared.parents.Parents.TheVariants as parents
 use Rattle.gl_graph.specs.Shapes.{Shape, Rec, is_record_shape, is_index_of_shape, keys_in}
 use Rattle.gl_graph.specs.Graph.{Graph, Node, node_at, is_live, shape_in, shape_of, parents_in, first_parent, indexes_of, interval_of, intervals_of, record_parents}
 use Rattle.gl_graph.specs.Lawful.{IsLawfulGraph}
 use Rattle.gl_graph.specs.Changes.{with_node, keys_with, rekeyed_keys, rekeyed_parents, rekeyed}
 use Rattle.gl_graph.specs.View.{graph_of, node_of, KeepsBeside}
-use Rattle.gl_graph.specs.Seen.{Limits, shape_in_body, vertex_of, seen, with_key_at, body_with_key, AreSound}
+use Rattle.gl_graph.specs.Seen.{Limits, shape_in_body, vertex_of, seen, with_key_at, body_with_key, AreSound, parent_list, parents_with}
 use Rattle.gl_graph.proofs.Changed.{IsAlike, at_here}
 use Rattle.gl_graph.proofs.Distinct.{one_place, indexes_distinct, index_listed}
 use Rattle.gl_graph.proofs.Moved.{rec_alike, rekeyed_is, rekey_lawful}
@@ -64,7 +66,15 @@ body_keys body.Inner place key h = absurd (no h)
 body_keys (body.File kept) place key h = absurd (no h)
 body_keys (body.Index kept) place key h = absurd (no h)
 body_keys (body.Interval at) place key h = absurd (no h)
-body_keys (body.Rec keys) place key h = refl
+body_keys body.Bare place key h = refl
+body_keys (body.Keyed one) place key h = refl
+body_keys (body.ManyKeyed keys) place key h = refl
+
+parents_set : (ps : Parents) (place : ℕ) (n : NodeId) → parent_list (parents_with ps place n) ≡ slice_set (parent_list ps) place n
+parents_set parents.Root place n = refl
+parents_set (parents.One ids) place n = refl
+parents_set (parents.Two ids) place n = refl
+parents_set (parents.More ids) place n = refl
 
 record_body : (sh : Shape) → is_record_shape (Some sh) ≡ true → sh ≡ Rec (keys_in (Some sh))
 record_body (Rec keys) h = refl
@@ -111,12 +121,15 @@ module _ (limits : Limits) (old new : Slab Stored) (births : ℕ) (sound : AreSo
   pub key_there : (x : Stored) → get old r.key ≡ Some x → place < length (keys_in (Some (shape_in_body x.body)))
   key_there x e = let same = ap (λ o. length (keys_in (shape_in o))) (node_is x e) in let l = low in let n = each in omega arith
 
-  pub parent_there : (x : Stored) → get old r.key ≡ Some x → place + 1 < length x.parents.items
+  pub parent_there : (x : Stored) → get old r.key ≡ Some x → place + 1 < length (parent_list x.parents)
   parent_there x e =
-      let same : x.parents.items ≡ record_parents g (first_parent g r) keys = sym (ap parents_in (node_is x e)) ∙ its_parents g sound.lawful r rec in
-      let count : length x.parents.items ≡ suc (length is) = ap length same ∙ ap suc (count_intervals_of g is keys each) in
+      let same : parent_list x.parents ≡ record_parents g (first_parent g r) keys = sym (ap parents_in (node_is x e)) ∙ its_parents g sound.lawful r rec in
+      let count : length (parent_list x.parents) ≡ suc (length is) = ap length same ∙ ap suc (count_intervals_of g is keys each) in
       let l = low in
       omega arith
+
+  pub place_fits : place + 1 < 2 ^ 64
+  place_fits = let l = low in let few = sound.lawful.seven_indexes (first_parent g r) in omega arith
 
   keys_are : keys_with is keys i key ≡ slice_set keys place key
   keys_are = keys_set is keys i key place each low (λ d. ap (λ q. same_node q i) (here d) ∙ same_self i) other
@@ -137,10 +150,11 @@ module _ (limits : Limits) (old new : Slab Stored) (births : ℕ) (sound : AreSo
     shape_is : shape_in_body x.body ≡ Rec (rekeyed_keys g r i key)
     shape_is = body_keys was.body place key rec_body ∙ ap (λ o. Rec (slice_set (keys_in (shape_in o)) place key)) (sym (node_is was slot.1)) ∙ ap Rec (sym keys_are)
 
-    parents_are : x.parents.items ≡ rekeyed_parents g r i key
+    parents_are : parent_list x.parents ≡ rekeyed_parents g r i key
     parents_are =
         let one : place + 1 ≡ suc place = omega arith in
-        ap₂ (λ ps k. slice_set ps k (interval_of g i key)) (sym (ap parents_in (node_is was slot.1)) ∙ its_parents g sound.lawful r rec) one
+        parents_set was.parents (place + 1) (interval_of g i key)
+        ∙ ap₂ (λ ps k. slice_set ps k (interval_of g i key)) (sym (ap parents_in (node_is was slot.1)) ∙ its_parents g sound.lawful r rec) one
         ∙ ap (λ xs. first_parent g r ∷ xs) (sym (intervals_set g is keys i key place each low here) ∙ ap (intervals_of g is) (sym keys_are))
 
     node_rekeyed : node_of r.key (vertex_of x) ≡ record { key = r.key; shape = Rec (rekeyed_keys g r i key); parents = rekeyed_parents g r i key }

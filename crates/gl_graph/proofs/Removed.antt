@@ -11,7 +11,7 @@ use Rattle.gl_graph.specs.Graph.{Graph, Node, id_of, with_key, node_at, is_live,
 use Rattle.gl_graph.specs.Lawful.{IsLawfulGraph}
 use Rattle.gl_graph.specs.Changes.{without_node}
 use Rattle.gl_graph.proofs.Look.{found_at, live_node, child_live, one_birth}
-use Rattle.gl_graph.proofs.KindRules.{is_plain, Frames, well_formed_kept, parent_plain, plain_live, rec_not_plain}
+use Rattle.gl_graph.proofs.KindRules.{is_plain, Frames, well_formed_kept, parent_plain, plain_live, rec_not_plain, one_shape}
 use Rattle.gl_graph.proofs.Listings.{kept, index_born, indexes_are, map_fewer}
 use Rattle.gl_graph.proofs.Routes.{acyclic_fewer}
 
@@ -67,7 +67,7 @@ module _ (g : Graph) (law : IsLawfulGraph g) (r : NodeId) (rec : is_record_shape
       none_rec : (f : NodeId) (o : Option Shape) → is_record_shape o ≡ true → is_index_of_shape f o ≡ false
       none_rec f' None h = refl
       none_rec f' (Some Inner) h = refl
-      none_rec f' (Some File) h = refl
+      none_rec f' (Some (File adopted)) h = refl
       none_rec f' (Some (Index file bounds)) h = absurd (no h)
       none_rec f' (Some (Interval place)) h = refl
       none_rec f' (Some (Rec keys)) h = refl
@@ -86,7 +86,7 @@ module _ (g : Graph) (law : IsLawfulGraph g) (r : NodeId) (rec : is_record_shape
 
   pub removed_frames : Frames g (without_node g r)
   removed_frames = record {
-    shapes = λ q h. ap shape_in (plain_stays q h);
+    shapes = λ q h. one_shape _ _ (ap shape_in (plain_stays q h));
     intervals = λ q place node e shape. plain_stays q (ap (λ o. is_plain (shape_in o)) e ∙ ap (λ s. is_plain (Some s)) shape) ∙ e;
     indexes = λ f q h k. indexes_left f;
     bounds = refl;

@@ -1,5 +1,5 @@
 -- An index is born with its intervals: what is kept beside the graph agrees.
-use Rattle.std.specs.Prelude.{◌≡◌, ◌≢◌, ℕ, zero, suc, ◌+◌, ◌<◌, ◌≤◌, ◌^◌, true, not, ◌==◌, List, [], ◌∷◌, ◌++◌, length, Option, Some, None, slice_get, Vec}
+use Rattle.std.specs.Prelude.{◌≡◌, ◌≢◌, ℕ, zero, suc, ◌+◌, ◌<◌, ◌≤◌, ◌^◌, true, not, ◌==◌, List, [], ◌∷◌, ◌++◌, length, Option, Some, None, slice_get, Vec, Bool}
 use Rattle.std.specs.List.{list_any}
 use Rattle.std.specs.declared.alloc.Global.{Global}
 use Rattle.std.proofs.Common.{refl, sym, ap, ◌∙◌, subst, arith, ⊎_elim}
@@ -17,7 +17,7 @@ use Rattle.gl_graph.specs.Lawful.{IsLawfulGraph}
 use Rattle.gl_graph.specs.Changes.{born_node, born_nodes, born_index, interval_nodes, are_apart, IsIndexBorn}
 use Rattle.gl_graph.specs.Refusals.{index_refusal}
 use Rattle.gl_graph.specs.View.{View, graph_of, node_of, record_count, KeepsBeside, AgreesAt}
-use Rattle.gl_graph.specs.Seen.{Limits, shape_in_body, indexes_in_body, records_in_body, intervals_in_body, body_with_intervals, body_with_indexes, vertex_of, seen, AreSound}
+use Rattle.gl_graph.specs.Seen.{Limits, shape_in_body, indexes_in_body, records_in_body, intervals_in_body, body_with_intervals, body_with_indexes, vertex_of, seen, AreSound, parent_list}
 use Rattle.gl_graph.specs.Grown.{ids_of, AreIntervalsBorn}
 use Rattle.gl_graph.proofs.Born.{place_in}
 use Rattle.gl_graph.proofs.NewNodes.{place_there}
@@ -33,28 +33,36 @@ same_shape body.Inner fresh = refl
 same_shape (body.File kept) fresh = refl
 same_shape (body.Index kept) fresh = refl
 same_shape (body.Interval place) fresh = refl
-same_shape (body.Rec keys) fresh = refl
+same_shape body.Bare fresh = refl
+same_shape (body.Keyed one) fresh = refl
+same_shape (body.ManyKeyed keys) fresh = refl
 
 has_intervals : (b : Body) (fresh : Vec NodeId Global) (f : NodeId) (bs : List ℕ) → shape_in_body b ≡ Index f bs → intervals_in_body (body_with_intervals b fresh) ≡ fresh.items
 has_intervals body.Inner fresh f bs e = cc
 has_intervals (body.File kept) fresh f bs e = cc
 has_intervals (body.Index kept) fresh f bs e = refl
 has_intervals (body.Interval place) fresh f bs e = cc
-has_intervals (body.Rec keys) fresh f bs e = cc
+has_intervals body.Bare fresh f bs e = cc
+has_intervals (body.Keyed one) fresh f bs e = cc
+has_intervals (body.ManyKeyed keys) fresh f bs e = cc
 
 file_same_shape : (b : Body) (fresh : SmallVec NodeId) → shape_in_body (body_with_indexes b fresh) ≡ shape_in_body b
 file_same_shape body.Inner fresh = refl
 file_same_shape (body.File kept) fresh = refl
 file_same_shape (body.Index kept) fresh = refl
 file_same_shape (body.Interval place) fresh = refl
-file_same_shape (body.Rec keys) fresh = refl
+file_same_shape body.Bare fresh = refl
+file_same_shape (body.Keyed one) fresh = refl
+file_same_shape (body.ManyKeyed keys) fresh = refl
 
-has_indexes : (b : Body) (fresh : SmallVec NodeId) → shape_in_body b ≡ File → (indexes_in_body (body_with_indexes b fresh) ≡ fresh.items) × (records_in_body (body_with_indexes b fresh) ≡ records_in_body b)
-has_indexes body.Inner fresh e = cc
-has_indexes (body.File kept) fresh e = (refl, refl)
-has_indexes (body.Index kept) fresh e = cc
-has_indexes (body.Interval place) fresh e = cc
-has_indexes (body.Rec keys) fresh e = cc
+has_indexes : (b : Body) (fresh : SmallVec NodeId) (adopted : Bool) → shape_in_body b ≡ File adopted → (indexes_in_body (body_with_indexes b fresh) ≡ fresh.items) × (records_in_body (body_with_indexes b fresh) ≡ records_in_body b)
+has_indexes body.Inner fresh adopted e = cc
+has_indexes (body.File kept) fresh adopted e = (refl, refl)
+has_indexes (body.Index kept) fresh adopted e = cc
+has_indexes (body.Interval place) fresh adopted e = cc
+has_indexes body.Bare fresh adopted e = cc
+has_indexes (body.Keyed one) fresh adopted e = cc
+has_indexes (body.ManyKeyed keys) fresh adopted e = cc
 
 -- the list of intervals names each at its place
 ids_at : (index : NodeId) (from birth : ℕ) (keys : List ℕ) (k b : ℕ) (node : Node) → birth + k ≡ b → place_in (interval_nodes index from keys) k ≡ Some node → slice_get (ids_of birth keys) k ≡ Some (record { key = node.key; birth = b })
@@ -77,7 +85,7 @@ count_ids_of birth [] = refl
 count_ids_of birth (k ∷ keys) = ap suc (count_ids_of (birth + 1) keys)
 
 module _ (limits : Limits) (old mid grown : Slab Stored) (births key : ℕ) (x : Stored) (sound : AreSound limits old births) (free : get old key ≡ None) (u : Updates old mid key (Some x)) (next : x.birth ≡ births + 1) (len : slab_len mid ≡ slab_len old + 1)
-    (file : NodeId) (ps : List NodeId) (bounds : List ℕ) (shape : shape_in_body x.body ≡ Index file bounds) (parents : x.parents.items ≡ ps) (may : IsRoomyIndex (graph_of (seen limits old births)) ps file bounds)
+    (file : NodeId) (ps : List NodeId) (bounds : List ℕ) (shape : shape_in_body x.body ≡ Index file bounds) (parents : parent_list x.parents ≡ ps) (may : IsRoomyIndex (graph_of (seen limits old births)) ps file bounds)
     (ids : List NodeId) (born : AreIntervalsBorn mid grown (record { key = key; birth = births + 1 }) (length bounds + 1) ids) where
   abbrev pub g : Graph
   g = graph_of (seen limits old births)
@@ -182,10 +190,10 @@ module _ (limits : Limits) (old mid grown : Slab Stored) (births key : ℕ) (x :
     u4 = rewrite slot.stored file_third
 
     alike3 : node_of key (vertex_of x3) ≡ node_of key (vertex_of x)
-    alike3 = let s = same_shape x.body fresh in λ i. record { key = key; shape = s i; parents = x.parents.items }
+    alike3 = let s = same_shape x.body fresh in λ i. record { key = key; shape = s i; parents = parent_list x.parents }
 
     alike4 : node_of file.key (vertex_of f4) ≡ node_of file.key (vertex_of slot.stored)
-    alike4 = let s = file_same_shape slot.stored.body list in λ i. record { key = file.key; shape = s i; parents = slot.stored.parents.items }
+    alike4 = let s = file_same_shape slot.stored.body list in λ i. record { key = file.key; shape = s i; parents = parent_list slot.stored.parents }
 
     graph3 : graph_of (seen limits third total) ≡ graph_of (seen limits grown total)
     graph3 = unseen limits grown third total key x x3 born.grown.apart index_there u3 refl alike3
@@ -195,7 +203,7 @@ module _ (limits : Limits) (old mid grown : Slab Stored) (births key : ℕ) (x :
 
     file_agrees : AgreesAt after file.key (vertex_of f4)
     file_agrees =
-        let kept = has_indexes slot.stored.body list slot.shape in
+        let kept = has_indexes slot.stored.body list slot.adopted slot.shape in
         let was = subst (KeepsBeside g (record { key = file.key; birth = slot.stored.birth }) (vertex_of slot.stored)) slot.shape (sound.agree file.key slot.stored slot.there) in
         let here : NodeId = record { key = file.key; birth = slot.stored.birth } in
         let is_file : here ≡ file = (let b = slot.born in λ i. record { key = file.key; birth = b i }) in

@@ -2,18 +2,18 @@
 use Rattle.std.specs.Prelude.{◌≡◌, ℕ, true, false, ◌&&◌, List, [], ◌∷◌, Option, Some, None, is_some}
 use Rattle.std.specs.List.{list_all}
 use Rattle.std.proofs.Common.{refl, sym, ap, ◌∙◌, subst}
-use Rattle.smallvec.specs.SmallVec.{SmallVec}
 use Rattle.gl_modes.proofs.Words.{no, both, and_both}
 use Rattle.gl_modes.specs.declared.node.NodeId.{NodeId}
 use Rattle.slab.specs.Slab.{Slab, get, slab_len, ContainsKey, Updates}
 use Rattle.gl_graph.specs.declared.node.Node.{Node as Stored}
+use Rattle.gl_graph.specs.declared.parents.Parents.{Parents}
 use Rattle.gl_graph.specs.Shapes.{Shape, Inner, File, Index, Interval, Rec, is_movable_shape, is_record_shape, least_parents}
 use Rattle.gl_graph.specs.Graph.{Graph, Node, node_at, is_live, is_child, shape_in, shape_of}
 use Rattle.gl_graph.specs.Lawful.{IsLawfulGraph, AreInnerParents, are_inner}
 use Rattle.gl_graph.specs.Changes.{with_node, with_parents}
 use Rattle.gl_graph.specs.Refusals.{first_cycle}
 use Rattle.gl_graph.specs.View.{graph_of, node_of, KeepsBeside}
-use Rattle.gl_graph.specs.Seen.{Limits, shape_in_body, vertex_of, seen, AreSound}
+use Rattle.gl_graph.specs.Seen.{Limits, shape_in_body, parent_list, vertex_of, seen, AreSound}
 use Rattle.gl_graph.proofs.KindRules.{inner_plain, plain_live}
 use Rattle.gl_graph.proofs.Changed.{at_here}
 use Rattle.gl_graph.proofs.Moved.{movable_alike, move_lawful, with_parents_is}
@@ -28,7 +28,7 @@ inner_live g (p ∷ ps) h = let t = and_both _ (are_inner g ps) h in both _ _ (p
 movable_no_record : (o : Option Shape) → is_movable_shape o ≡ true → is_record_shape o ≡ false
 movable_no_record None h = refl
 movable_no_record (Some Inner) h = refl
-movable_no_record (Some File) h = refl
+movable_no_record (Some (File adopted)) h = refl
 movable_no_record (Some (Index f bs)) h = refl
 movable_no_record (Some (Interval place)) h = refl
 movable_no_record (Some (Rec keys)) h = absurd (no h)
@@ -41,9 +41,9 @@ movable_live g n h = by (node_at g n) h
     by (Some x) k = refl
 
 -- what is kept beside a node does not depend on its parents
-same_beside : (g : Graph) (n : NodeId) (was : Stored) (fresh : SmallVec NodeId) (sh : Shape) → KeepsBeside g n (vertex_of was) sh → KeepsBeside g n (vertex_of (record was { parents = fresh })) sh
+same_beside : (g : Graph) (n : NodeId) (was : Stored) (fresh : Parents) (sh : Shape) → KeepsBeside g n (vertex_of was) sh → KeepsBeside g n (vertex_of (record was { parents = fresh })) sh
 same_beside g n was fresh Inner k = k
-same_beside g n was fresh File k = k
+same_beside g n was fresh (File adopted) k = k
 same_beside g n was fresh (Index f bs) k = k
 same_beside g n was fresh (Interval place) k = k
 same_beside g n was fresh (Rec keys) k = k
@@ -58,7 +58,7 @@ module _ (limits : Limits) (old new : Slab Stored) (births : ℕ) (sound : AreSo
   pub contained : ContainsKey old n.key
   contained = ap is_some slot.1
 
-  module _ (ps : List NodeId) (inner : AreInnerParents g (least_parents (shape_of g n)) ps) (clear : first_cycle g n ps ≡ None) (fresh : SmallVec NodeId) (fresh_is : fresh.items ≡ ps)
+  module _ (ps : List NodeId) (inner : AreInnerParents g (least_parents (shape_of g n)) ps) (clear : first_cycle g n ps ≡ None) (fresh : Parents) (fresh_is : parent_list fresh ≡ ps)
       (write : (x : Stored) → get old n.key ≡ Some x → Updates old new n.key (Some (record x { parents = fresh }))) (len : slab_len new ≡ slab_len old) where
     abbrev was : Stored
     was = slot.0

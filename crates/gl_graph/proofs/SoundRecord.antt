@@ -1,5 +1,5 @@
 -- A record is born: what is kept beside the graph agrees again once its file counts it.
-use Rattle.std.specs.Prelude.{◌≡◌, ◌≢◌, ℕ, ◌+◌, ◌≤◌, true, false, ◌==◌, ◌&&◌, List, [], ◌∷◌, length, Some, None, is_some, cond, count_by}
+use Rattle.std.specs.Prelude.{◌≡◌, ◌≢◌, ℕ, ◌+◌, ◌≤◌, true, false, ◌==◌, ◌&&◌, List, [], ◌∷◌, length, Some, None, is_some, cond, count_by, Bool}
 use Rattle.std.specs.List.{list_any}
 use Rattle.std.proofs.Common.{refl, sym, ap, ap₂, ◌∙◌, subst, arith}
 use Rattle.gl_modes.proofs.NodeLemmas.{same_node-differ, same_node-refl}
@@ -15,7 +15,7 @@ use Rattle.gl_graph.specs.Graph.{Graph, shape_in, shape_of, parents_in, indexes_
 use Rattle.gl_graph.specs.Lawful.{IsLawfulGraph}
 use Rattle.gl_graph.specs.Changes.{born_node, IsBorn}
 use Rattle.gl_graph.specs.View.{graph_of, node_of, record_count, KeepsBeside, AgreesAt}
-use Rattle.gl_graph.specs.Seen.{Limits, shape_in_body, indexes_in_body, body_with_records, vertex_of, seen, AreBornApart, AreSound}
+use Rattle.gl_graph.specs.Seen.{Limits, shape_in_body, indexes_in_body, body_with_records, vertex_of, seen, AreBornApart, AreSound, parent_list}
 use Rattle.gl_graph.proofs.NewNodes.{one_indexes, record_lawful}
 use Rattle.gl_graph.proofs.Counts.{count_cons, records_grown}
 use Rattle.gl_graph.proofs.RecordParents.{file_among}
@@ -24,29 +24,33 @@ use Rattle.gl_graph.proofs.Beside.{FileSlot, file_slot}
 use Rattle.gl_graph.proofs.Kept.{born_within, after, there, counted, old_kept}
 
 -- a file with another count of records is seen as before, and keeps all else
-module _ (x : Stored) (file : shape_in_body x.body ≡ File) (records : ℕ) where
+module _ (x : Stored) (adopted : Bool) (file : shape_in_body x.body ≡ File adopted) (records : ℕ) where
   abbrev pub recounted : Stored
   recounted = record x { body = body_with_records x.body records }
 
-  by_body : (b : Body) → shape_in_body b ≡ File → (shape_in_body (body_with_records b records) ≡ File) × (indexes_in_body (body_with_records b records) ≡ indexes_in_body b)
+  by_body : (b : Body) → shape_in_body b ≡ File adopted → (shape_in_body (body_with_records b records) ≡ File adopted) × (indexes_in_body (body_with_records b records) ≡ indexes_in_body b)
   by_body body.Inner e = cc
-  by_body (body.File kept) e = (refl, refl)
+  by_body (body.File kept) e = (e, refl)
   by_body (body.Index kept) e = cc
   by_body (body.Interval place) e = cc
-  by_body (body.Rec keys) e = cc
+  by_body body.Bare e = cc
+  by_body (body.Keyed one) e = cc
+  by_body (body.ManyKeyed keys) e = cc
 
-  count_written : (b : Body) → shape_in_body b ≡ File → (vertex_of (record x { body = body_with_records b records })).records ≡ records
+  count_written : (b : Body) → shape_in_body b ≡ File adopted → (vertex_of (record x { body = body_with_records b records })).records ≡ records
   count_written body.Inner e = cc
   count_written (body.File kept) e = refl
   count_written (body.Index kept) e = cc
   count_written (body.Interval place) e = cc
-  count_written (body.Rec keys) e = cc
+  count_written body.Bare e = cc
+  count_written (body.Keyed one) e = cc
+  count_written (body.ManyKeyed keys) e = cc
 
-  pub recounted_shape : shape_in_body recounted.body ≡ File
+  pub recounted_shape : shape_in_body recounted.body ≡ File adopted
   recounted_shape = (by_body x.body file).0
 
   pub recounted_alike : (key : ℕ) → node_of key (vertex_of recounted) ≡ node_of key (vertex_of x)
-  recounted_alike key = let same = recounted_shape ∙ sym file in λ i. record { key = key; shape = same i; parents = x.parents.items }
+  recounted_alike key = let same = recounted_shape ∙ sym file in λ i. record { key = key; shape = same i; parents = parent_list x.parents }
 
   pub recounted_agrees : (h : Graph) (n : NodeId) → indexes_in_body x.body ≡ indexes_of h n → records ≡ record_count h n → KeepsBeside h n (vertex_of recounted) (shape_in_body recounted.body)
   recounted_agrees h n indexes count =
@@ -58,13 +62,14 @@ pub record IsSoundBut (limits : Limits) (s : Slab Stored) (births : ℕ) (key : 
   pub apart : AreBornApart s
   pub counted : slab_len s ≡ node_count (graph_of (seen limits s births))
   pub there : get s key ≡ Some f
-  pub shape : shape_in_body f.body ≡ File
+  pub adopted : Bool
+  pub shape : shape_in_body f.body ≡ File adopted
   pub indexes : indexes_in_body f.body ≡ indexes_of (graph_of (seen limits s births)) (record { key = key; birth = f.birth })
   pub agree : (k : ℕ) (x : Stored) → k ≢ key → get s k ≡ Some x → AgreesAt (graph_of (seen limits s births)) k (vertex_of x)
 
 module _ (limits : Limits) (old new : Slab Stored) (births key : ℕ) (f : Stored) (but : IsSoundBut limits old births key f) (records : ℕ) (u : Updates old new key (Some (record f { body = body_with_records f.body records }))) where
   pub recount_unseen : graph_of (seen limits new births) ≡ graph_of (seen limits old births)
-  recount_unseen = unseen limits old new births key f (record f { body = body_with_records f.body records }) but.apart but.there u refl (recounted_alike f but.shape records key)
+  recount_unseen = unseen limits old new births key f (record f { body = body_with_records f.body records }) but.apart but.there u refl (recounted_alike f but.adopted but.shape records key)
 
   pub sound_recounted : records ≡ record_count (graph_of (seen limits old births)) (record { key = key; birth = f.birth }) → slab_len new ≡ slab_len old → AreSound limits new births
   sound_recounted count len = record {
@@ -76,13 +81,13 @@ module _ (limits : Limits) (old new : Slab Stored) (births key : ℕ) (f : Store
         let here : k ≡ key = same_number k key t in
         let same : record f { body = body_with_records f.body records } ≡ y = some_is (sym u.changed ∙ ap (get new) (sym here) ∙ e) in
         subst (λ c. AgreesAt (graph_of (seen limits old births)) c (vertex_of y)) (sym here)
-        (subst (λ z. AgreesAt (graph_of (seen limits old births)) key (vertex_of z)) same (recounted_agrees f but.shape records (graph_of (seen limits old births)) (record { key = key; birth = f.birth }) but.indexes count)))
+        (subst (λ z. AgreesAt (graph_of (seen limits old births)) key (vertex_of z)) same (recounted_agrees f but.adopted but.shape records (graph_of (seen limits old births)) (record { key = key; birth = f.birth }) but.indexes count)))
         (λ t. let ne = other_number k key t in but.agree k y ne (sym (u.others k ne) ∙ e)));
   }
 
 module _ (limits : Limits) (old new : Slab Stored) (births key : ℕ) (x : Stored) (sound : AreSound limits old births) (free : get old key ≡ None) (u : Updates old new key (Some x)) (next : x.birth ≡ births + 1)
-    (file : NodeId) (keys : List ℕ) (f : Stored) (at_file : get old file.key ≡ Some f) (born : f.birth ≡ file.birth) (is_file : shape_in_body f.body ≡ File)
-    (shape : shape_in_body x.body ≡ Rec keys) (parents : x.parents.items ≡ record_parents (graph_of (seen limits old births)) file keys)
+    (file : NodeId) (keys : List ℕ) (f : Stored) (at_file : get old file.key ≡ Some f) (born : f.birth ≡ file.birth) (adopted : Bool) (is_file : shape_in_body f.body ≡ File adopted)
+    (shape : shape_in_body x.body ≡ Rec keys) (parents : parent_list x.parents ≡ record_parents (graph_of (seen limits old births)) file keys)
     (lawful : IsLawfulGraph (born_node (graph_of (seen limits old births)) (node_of key (vertex_of x)))) (len : slab_len new ≡ slab_len old + 1) where
   abbrev g0 : Graph
   g0 = graph_of (seen limits old births)
@@ -126,6 +131,7 @@ module _ (limits : Limits) (old new : Slab Stored) (births key : ℕ) (x : Store
     apart = inserted_apart limits old new births key x sound.apart (born_within limits old births sound) free u next;
     counted = counted limits old new births key x sound free u next no_index len ∙ ap node_count (sym born_graph);
     there = u.others file.key file_stays ∙ at_file;
+    adopted = adopted;
     shape = is_file;
     indexes =
         (subst (KeepsBeside g0 (record { key = file.key; birth = f.birth }) (vertex_of f)) is_file (sound.agree file.key f at_file)).0
@@ -143,7 +149,7 @@ module _ (limits : Limits) (old new : Slab Stored) (births key : ℕ) (x : Store
 
 -- a record is stored, and its file counts it
 module _ (limits : Limits) (old mid new : Slab Stored) (births key : ℕ) (x : Stored) (sound : AreSound limits old births) (free : get old key ≡ None) (u : Updates old mid key (Some x)) (next : x.birth ≡ births + 1) (len : slab_len mid ≡ slab_len old + 1)
-    (file : NodeId) (keys : List ℕ) (is_file : is_file_shape (shape_of (graph_of (seen limits old births)) file) ≡ true) (shape : shape_in_body x.body ≡ Rec keys) (parents : x.parents.items ≡ record_parents (graph_of (seen limits old births)) file keys) where
+    (file : NodeId) (keys : List ℕ) (is_file : is_file_shape (shape_of (graph_of (seen limits old births)) file) ≡ true) (shape : shape_in_body x.body ≡ Rec keys) (parents : parent_list x.parents ≡ record_parents (graph_of (seen limits old births)) file keys) where
   abbrev pub slot : FileSlot old file
   slot = file_slot limits old births sound file is_file
 
@@ -164,11 +170,11 @@ module _ (limits : Limits) (old mid new : Slab Stored) (births key : ℕ) (x : S
         (record_lawful (graph_of (seen limits old births)) sound.lawful key file keys is_file each (inserted_free limits old mid births key x sound.apart (born_within limits old births sound) free u next) room)
 
     but : IsSoundBut limits mid (births + 1) file.key slot.stored
-    but = but_file limits old mid births key x sound free u next file keys slot.stored slot.there slot.born slot.shape shape parents lawful len
+    but = but_file limits old mid births key x sound free u next file keys slot.stored slot.there slot.born slot.adopted slot.shape shape parents lawful len
 
     counts : records ≡ record_count (graph_of (seen limits mid (births + 1))) (record { key = file.key; birth = slot.stored.birth })
     counts =
-        count ∙ sym (one_record_more limits old mid births key x sound free u next file keys slot.stored slot.there slot.born slot.shape shape parents lawful len)
+        count ∙ sym (one_record_more limits old mid births key x sound free u next file keys slot.stored slot.there slot.born slot.adopted slot.shape shape parents lawful len)
         ∙ ap (λ h. record_count h file) (sym (after limits old mid births key x sound free u next))
         ∙ (let birth : file.birth ≡ slot.stored.birth = sym slot.born in ap (λ b. record_count (graph_of (seen limits mid (births + 1))) (record { key = file.key; birth = b })) birth)
 

@@ -67,6 +67,7 @@ module _ (limits : Limits) (old mid new : Slab Stored) (births : ℕ) (sound : A
       apart = (let x = stored_of limits old births sound.apart r live in removed_apart limits old mid births r x.0 sound.apart x.1 x.2 u);
       counted = (let fewer = fewer_nodes g sound.lawful r live in let was = sound.counted in let same : slab_len mid ≡ node_count (without_node g r) = omega arith in same ∙ ap node_count (sym left));
       there = file_there;
+      adopted = slot.adopted;
       shape = slot.shape;
       indexes =
           (subst (KeepsBeside g (record { key = file.key; birth = slot.stored.birth }) (vertex_of slot.stored)) slot.shape (sound.agree file.key slot.stored slot.there)).0

@@ -3,7 +3,7 @@ use Rattle.std.specs.Prelude.{◌≡◌, ℕ, ◌+◌, Bool, true, not, ◌&&◌
 use Rattle.std.specs.List.{list_any}
 use Rattle.gl_modes.specs.declared.node.NodeId.{NodeId}
 use Rattle.gl_modes.specs.Nodes.{same_node}
-use Rattle.gl_graph.specs.Shapes.{Shape, Index, Interval, Rec, keys_in}
+use Rattle.gl_graph.specs.Shapes.{Shape, File, Index, Interval, Rec, keys_in}
 use Rattle.gl_graph.specs.Graph.{Graph, Node, shape_of, indexes_of, record_parents, first_parent, IsFreeKey}
 
 -- the graph with another node of this birth
@@ -68,6 +68,20 @@ reparented ps (Some n) = Some (record n { parents = ps })
 abbrev pub with_parents : Graph → NodeId → List NodeId → Graph
 with_parents g n ps = record { at = λ b. if b == n.birth then reparented ps (g.at b) else g.at b; births = g.births; most = g.most; most_bounds = g.most_bounds }
 
+-- the shape, of a file as one of which rows were adopted
+abbrev pub marked_shape : Shape → Shape
+marked_shape (File adopted) = File true
+marked_shape s = s
+
+-- the node with that shape
+abbrev pub marked_node : Option Node → Option Node
+marked_node None = None
+marked_node (Some n) = Some (record n { shape = marked_shape n.shape })
+
+-- the file is one of which rows were adopted
+abbrev pub marked : Graph → NodeId → Graph
+marked g f = record { at = λ b. if b == f.birth then marked_node (g.at b) else g.at b; births = g.births; most = g.most; most_bounds = g.most_bounds }
+
 -- the keys with the one of an index changed
 abbrev pub keys_with : List NodeId → List ℕ → NodeId → ℕ → List ℕ
 keys_with [] keys index key = keys
@@ -96,3 +110,9 @@ rekeyed g rec index key =
       most = g.most;
       most_bounds = g.most_bounds;
     }
+
+-- n is born as a record of this file with these keys, and the file is one of which rows were adopted
+pub record IsAdopted (g g' : Graph) (n f : NodeId) (keys : List ℕ) : Type 0 where
+  pub key_free : IsFreeKey g n.key
+  pub birth : n.birth ≡ g.births + 1
+  pub after : g' ≡ marked (born_node g (record { key = n.key; shape = Rec keys; parents = record_parents g f keys })) f

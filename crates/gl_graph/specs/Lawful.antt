@@ -44,7 +44,7 @@ pub record IsRecordNode (g : Graph) (keys : List ℕ) (ps : List NodeId) (file :
 -- what the kinds ask of the node with this id
 abbrev pub HasShape : Graph → NodeId → Shape → List NodeId → Type 0
 HasShape g n Inner ps = AreInnerParents g 0 ps
-HasShape g n File ps = AreInnerParents g 1 ps
+HasShape g n (File adopted) ps = AreInnerParents g 1 ps
 HasShape g n (Index f bs) ps = AreInnerParents g 1 ps × IsIndexNode g n f bs
 HasShape g n (Interval place) ps = (index : NodeId) × (ps ≡ index ∷ []) × (is_index_shape (shape_of g index) ≡ true) × (place ≤ length (bounds_in (shape_of g index))) × (n ≡ interval g index place)
 HasShape g n (Rec keys) ps = (file : NodeId) × IsRecordNode g keys ps file

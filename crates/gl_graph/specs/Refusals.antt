@@ -4,7 +4,7 @@ use Rattle.std.specs.List.{list_all, list_any}
 use Rattle.gl_modes.specs.declared.node.NodeId.{NodeId}
 use Rattle.gl_modes.specs.declared.refusal.Refusal.{Refusal}
 use Rattle.gl_modes.specs.declared.refusal.Refusal.TheVariants as no
-use Rattle.gl_graph.specs.Shapes.{is_file_shape}
+use Rattle.gl_graph.specs.Shapes.{is_file_shape, is_adopted}
 use Rattle.gl_graph.specs.Graph.{Graph, nodes, node_count, is_live, shape_of, indexes_of, is_record_of}
 use Rattle.gl_graph.specs.Routes.{is_at_or_below}
 use Rattle.gl_graph.specs.Lawful.{are_inner, are_distinct}
@@ -77,7 +77,7 @@ bad_index_place g ps f = bad_parents g 1 ps || not (is_file_shape (shape_of g f)
 abbrev pub index_refusal : Graph → List NodeId → NodeId → List ℕ → Option Refusal
 index_refusal g ps f bs =
     first_refusal (
-    worn_births g ∷ some_no_node g (ps ++ f ∷ []) ∷ where_true (bad_index_place g ps f) no.BadParents ∷ where_true (has_records g f) no.FileInUse
+    worn_births g ∷ some_no_node g (ps ++ f ∷ []) ∷ where_true (bad_index_place g ps f) no.BadParents ∷ where_true (has_records g f || is_adopted (shape_of g f)) no.FileInUse
     ∷ where_true (bad_bounds g bs) no.BadKeys ∷ too_many_nodes g (2 + length bs) ∷ []
     )
 

@@ -1,5 +1,5 @@
 -- What a contract sees of a slab of nodes, and what holds of it always.
-use Rattle.std.specs.Prelude.{◌≡◌, ℕ, ◌==◌, List, [], ◌∷◌, ◌++◌, map, Option, Some, None, if◌then◌else◌, slice_set, ◌+◌, ◌≤◌, Vec}
+use Rattle.std.specs.Prelude.{◌≡◌, ℕ, true, ◌==◌, List, [], ◌∷◌, ◌++◌, map, Option, Some, None, if◌then◌else◌, slice_set, ◌+◌, ◌≤◌, Vec}
 use Rattle.std.specs.List.{list_any}
 use Rattle.gl_modes.specs.declared.node.NodeId.{NodeId}
 use Rattle.gl_modes.specs.Nodes.{same_node}
@@ -9,6 +9,8 @@ use Rattle.slab.specs.Slab.{Slab, get, slab_len}
 use Rattle.gl_graph.specs.declared.node.Body.{Body}
 use Rattle.gl_graph.specs.declared.node.Body.TheVariants as body
 use Rattle.gl_graph.specs.declared.node.Node.{Node}
+use Rattle.gl_graph.specs.declared.parents.Parents.{Parents}
+use Rattle.gl_graph.specs.declared.parents.Parents.TheVariants as parents
 use Rattle.gl_graph.specs.Shapes.{Shape, Inner, File, Index, Interval, Rec}
 use Rattle.gl_graph.specs.Graph.{node_count}
 use Rattle.gl_graph.specs.Lawful.{IsLawfulGraph}
@@ -17,10 +19,19 @@ use Rattle.gl_graph.specs.View.{Vertex, View, graph_of, AgreesAt}
 -- what a body says of the shape
 abbrev pub shape_in_body : Body → Shape
 shape_in_body body.Inner = Inner
-shape_in_body (body.File kept) = File
+shape_in_body (body.File kept) = File kept.value.adopted
 shape_in_body (body.Index kept) = Index kept.value.file kept.value.bounds.items
 shape_in_body (body.Interval place) = Interval place
-shape_in_body (body.Rec keys) = Rec keys.items
+shape_in_body body.Bare = Rec []
+shape_in_body (body.Keyed key) = Rec key
+shape_in_body (body.ManyKeyed keys) = Rec keys.value.items
+
+-- a node's parents, as they are kept
+abbrev pub parent_list : Parents → List NodeId
+parent_list parents.Root = []
+parent_list (parents.One ids) = ids
+parent_list (parents.Two ids) = ids
+parent_list (parents.More ids) = ids.items
 
 -- a file's indexes, as they are kept
 abbrev pub indexes_in_body : Body → List NodeId
@@ -42,7 +53,7 @@ abbrev pub vertex_of : Node → Vertex
 vertex_of x = record {
   birth = x.birth;
   shape = shape_in_body x.body;
-  parents = x.parents.items;
+  parents = parent_list x.parents;
   indexes = indexes_in_body x.body;
   records = records_in_body x.body;
   intervals = intervals_in_body x.body;
@@ -99,12 +110,20 @@ body_with_records b fresh = b
 
 -- a record with one key changed
 abbrev pub body_with_key : Body → ℕ → ℕ → Body
-body_with_key (body.Rec keys) place key = body.Rec (record keys { items = slice_set keys.items place key })
+body_with_key (body.Keyed key) place fresh = body.Keyed (slice_set key place fresh)
+body_with_key (body.ManyKeyed keys) place fresh = body.ManyKeyed (record keys { value = record keys.value { items = slice_set keys.value.items place fresh } })
 body_with_key b place key = b
+
+-- the parents with another one at this place
+abbrev pub parents_with : Parents → ℕ → NodeId → Parents
+parents_with parents.Root place fresh = parents.Root
+parents_with (parents.One ids) place fresh = parents.One (slice_set ids place fresh)
+parents_with (parents.Two ids) place fresh = parents.Two (slice_set ids place fresh)
+parents_with (parents.More ids) place fresh = parents.More (record ids { items = slice_set ids.items place fresh })
 
 -- a record with another key at this place, and another interval at the place behind it
 abbrev pub with_key_at : Node → ℕ → ℕ → NodeId → Node
-with_key_at x place key interval = record x { parents = record x.parents { items = slice_set x.parents.items (place + 1) interval }; body = body_with_key x.body place key }
+with_key_at x place key interval = record x { parents = parents_with x.parents (place + 1) interval; body = body_with_key x.body place key }
 
 -- an index with these intervals
 abbrev pub body_with_intervals : Body → Vec NodeId Global → Body
@@ -115,6 +134,11 @@ body_with_intervals b fresh = b
 abbrev pub body_with_indexes : Body → SmallVec NodeId → Body
 body_with_indexes (body.File kept) fresh = body.File (record kept { value = record kept.value { indexes = fresh } })
 body_with_indexes b fresh = b
+
+-- a file of which rows were adopted
+abbrev pub body_adopted : Body → Body
+body_adopted (body.File kept) = body.File (record kept { value = record kept.value { adopted = true } })
+body_adopted b = b
 
 -- ids, and then those of more that are not there yet
 abbrev pub with_all : List NodeId → List NodeId → List NodeId

@@ -5,10 +5,11 @@ use Rattle.gl_modes.specs.Nodes.{same_node}
 use Rattle.gl_graph.specs.declared.kind.Kind.{Kind}
 use Rattle.gl_graph.specs.declared.kind.Kind.TheVariants as kind
 
--- an index has its file and its bounds, an interval its place in the index, a record its keys
+-- a file has whether rows of it were ever adopted (a record of it came without a transaction, and may be gone),
+-- an index its file and its bounds, an interval its place in the index, a record its keys
 pub data Shape : Type 0 where
   Inner : Shape
-  File : Shape
+  File : (adopted : Bool) → Shape
   Index : (file : NodeId) → (bounds : List ℕ) → Shape
   Interval : (place : ℕ) → Shape
   Rec : (keys : List ℕ) → Shape
@@ -17,7 +18,7 @@ pub data Shape : Type 0 where
 abbrev pub kind_in : Option Shape → Option Kind
 kind_in None = None
 kind_in (Some Inner) = Some kind.Inner
-kind_in (Some File) = Some kind.File
+kind_in (Some (File adopted)) = Some kind.File
 kind_in (Some (Index file bounds)) = Some kind.Index
 kind_in (Some (Interval place)) = Some kind.Interval
 kind_in (Some (Rec keys)) = Some kind.Rec
@@ -29,8 +30,13 @@ is_inner_shape s = false
 
 -- of a file
 abbrev pub is_file_shape : Option Shape → Bool
-is_file_shape (Some File) = true
+is_file_shape (Some (File adopted)) = true
 is_file_shape s = false
+
+-- of a file of which rows were adopted
+abbrev pub is_adopted : Option Shape → Bool
+is_adopted (Some (File adopted)) = adopted
+is_adopted s = false
 
 -- of a record
 abbrev pub is_record_shape : Option Shape → Bool
@@ -55,7 +61,7 @@ is_index_of_shape f s = false
 -- what can be given other parents: an inner node, a file, an index
 abbrev pub is_movable_shape : Option Shape → Bool
 is_movable_shape (Some Inner) = true
-is_movable_shape (Some File) = true
+is_movable_shape (Some (File adopted)) = true
 is_movable_shape (Some (Index file bounds)) = true
 is_movable_shape s = false
 

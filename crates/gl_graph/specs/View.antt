@@ -42,7 +42,7 @@ record_count g f = count_by (is_record_of g f) (nodes g)
 
 -- what is kept beside a node is what the graph says
 abbrev pub KeepsBeside : Graph → NodeId → Vertex → Shape → Type 0
-KeepsBeside g n x File = (x.indexes ≡ indexes_of g n) × (x.records ≡ record_count g n)
+KeepsBeside g n x (File adopted) = (x.indexes ≡ indexes_of g n) × (x.records ≡ record_count g n)
 KeepsBeside g n x (Index file bounds) = (length x.intervals ≡ length bounds + 1) × ((place : ℕ) → place ≤ length bounds → slice_get x.intervals place ≡ Some (interval g n place))
 KeepsBeside g n x shape = Unit {0}
 

@@ -1,7 +1,14 @@
 //! The nodes of a lock graph, under keys that are used again, with births that are not.
 
 ghost use Rattle.std.specs.Prelude.{◌≡◌, ◌≢◌, ◌≤◌, ◌^◌, ℕ, true, Option, None};
-ghost use Rattle.gl_graph.specs.Shapes.{is_file_shape, is_index_shape, keys_in, kind_in, place_in};
+ghost use Rattle.gl_graph.specs.Shapes.{
+  is_adopted,
+  is_file_shape,
+  is_index_shape,
+  keys_in,
+  kind_in,
+  place_in,
+};
 ghost use Rattle.gl_graph.specs.Graph.{
   indexes_of,
   interval_at,
@@ -190,6 +197,17 @@ impl Graph {
         ensures { result ≡ has_records (graph_of self.now) file }
     {
         self.records(file) > 0
+    }
+
+    /// Whether rows of the file were ever adopted (a record of it came without a transaction, and may
+    /// be gone); `false` where the id names no file.
+    pub fn is_adopted(&self, file: NodeId) -> bool
+        ensures { result ≡ is_adopted (shape_of (graph_of self.now) file) }
+    {
+        match find(&self.nodes, file) {
+            Some(node) => node.body.is_adopted(),
+            None => false,
+        }
     }
 
     /// How many records a file has.

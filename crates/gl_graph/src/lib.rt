@@ -7,6 +7,7 @@ mod graph;
 mod kind;
 pub mod laws;
 mod node;
+mod parents;
 mod store;
 
 pub use graph::Graph;

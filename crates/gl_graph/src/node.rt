@@ -1,26 +1,34 @@
 //! What is kept of a node.
 
 use crate::kind::Kind;
+use crate::parents::Parents;
 use gl_modes::NodeId;
 use smallvec::SmallVec;
+use std::alloc::{AllocError, Global};
 
-/// What a node has beside its parents, by its kind. Most nodes are records, so what files and indexes
-/// have is in boxes: a record takes no room for it.
+/// What a node has beside its parents, by its kind. Most nodes are records, and most records have one
+/// key or none: what takes more room than a key is in boxes.
 #[derive(Drop)]
 pub(crate) enum Body {
     Inner,
     File(Box<FileBody>),
     Index(Box<IndexBody>),
     Interval { place: usize },
-    Rec { keys: SmallVec<u64, 1> },
+    /// A record of a file without indexes.
+    Bare,
+    /// A record with one key.
+    Keyed { key: [u64; 1] },
+    /// A record with several keys, of which three fill the box.
+    ManyKeyed { keys: Box<SmallVec<u64, 3>> },
 }
 
 /// What a file has. Its indexes and the number of its records could be found by a search; they are
-/// kept so that nothing is searched.
+/// kept so that nothing is searched. Whether rows of it were adopted is known from nothing else.
 #[derive(Drop)]
 pub(crate) struct FileBody {
     pub(crate) indexes: SmallVec<NodeId, 1>,
     pub(crate) records: usize,
+    pub(crate) adopted: bool,
 }
 
 /// What an index has. Its intervals are kept for the same reason.
@@ -34,14 +42,15 @@ pub(crate) struct IndexBody {
 #[derive(Drop)]
 pub(crate) struct Node {
     pub(crate) birth: u64,
-    pub(crate) parents: SmallVec<NodeId, 2>,
+    pub(crate) parents: Parents,
     pub(crate) body: Body,
 }
 
 impl Body {
-    ghost use Rattle.std.specs.Prelude.{◌≡◌, ◌<◌, Some, length};
-    ghost use Rattle.gl_graph.specs.Shapes.{bounds_in, keys_in, kind_in, place_in};
+    ghost use Rattle.std.specs.Prelude.{◌≡◌, ◌<◌, IfOk, Some, length};
+    ghost use Rattle.gl_graph.specs.Shapes.{Rec, bounds_in, is_adopted, keys_in, kind_in, place_in};
     ghost use Rattle.gl_graph.specs.Seen.{
+      body_adopted,
       body_with_indexes,
       body_with_intervals,
       body_with_key,
@@ -52,6 +61,21 @@ impl Body {
       shape_in_body,
     };
 
+    /// The body of a record with these keys.
+    pub(crate) fn of_record(alloc: Global, keys: &[u64]) -> Result<Self, AllocError>
+        ensures { IfOk result (λ body. shape_in_body body ≡ Rec keys.now) }
+    {
+        match keys {
+            [] => Ok(Body::Bare),
+            [key] => Ok(Body::Keyed { key: [*key] }),
+            _ => {
+                let keys = SmallVec::from_slice(alloc, keys)?;
+                let keys = Box::new(alloc, keys)?;
+                Ok(Body::ManyKeyed { keys })
+            }
+        }
+    }
+
     pub(crate) fn kind(&self) -> Kind
         ensures { Some result ≡ kind_in (Some (shape_in_body self.now)) }
     {
@@ -60,7 +84,7 @@ impl Body {
             Body::File(_) => Kind::File,
             Body::Index(_) => Kind::Index,
             Body::Interval { .. } => Kind::Interval,
-            Body::Rec { .. } => Kind::Rec,
+            Body::Bare | Body::Keyed { .. } | Body::ManyKeyed { .. } => Kind::Rec,
         }
     }
 
@@ -79,6 +103,15 @@ impl Body {
         match self {
             Body::File(kept) => kept.records,
             _ => 0,
+        }
+    }
+
+    pub(crate) fn is_adopted(&self) -> bool
+        ensures { result ≡ is_adopted (Some (shape_in_body self.now)) }
+    {
+        match self {
+            Body::File(kept) => kept.adopted,
+            _ => false,
         }
     }
 
@@ -113,7 +146,8 @@ impl Body {
         ensures { result.now ≡ keys_in (Some (shape_in_body self.now)) }
     {
         match self {
-            Body::Rec { keys } => keys.as_slice(),
+            Body::Keyed { key } => key.as_slice(),
+            Body::ManyKeyed { keys } => keys.as_slice(),
             _ => &[],
         }
     }
@@ -127,13 +161,24 @@ impl Body {
         }
     }
 
-    /// Writes the key of a record at this place; another body stays as it is.
-    pub(crate) fn set_key(&mut self, place: usize, key: u64)
-        requires { place < length (keys_in (Some (shape_in_body self.old))) }
-        ensures { self.new ≡ body_with_key self.old place key }
+    /// Writes that rows of a file were adopted; another body stays as it is.
+    pub(crate) fn adopt(&mut self)
+        ensures { self.new ≡ body_adopted self.old }
     {
-        if let Body::Rec { keys } = self {
-            keys.as_mut_slice()[place] = key;
+        if let Body::File(kept) = self {
+            kept.adopted = true;
+        }
+    }
+
+    /// Writes the key of a record at this place; another body stays as it is.
+    pub(crate) fn set_key(&mut self, place: usize, fresh: u64)
+        requires { place < length (keys_in (Some (shape_in_body self.old))) }
+        ensures { self.new ≡ body_with_key self.old place fresh }
+    {
+        match self {
+            Body::Keyed { key } => key.as_mut_slice()[place] = fresh,
+            Body::ManyKeyed { keys } => keys.as_mut_slice()[place] = fresh,
+            _ => {}
         }
     }
 

@@ -18,20 +18,22 @@ ghost use Rattle.gl_graph.specs.Shapes.{keys_in};
 ghost use Rattle.gl_graph.specs.Seen.{
   AreBornApart,
   AreBornWithin,
+  body_adopted,
   body_with_indexes,
   body_with_intervals,
   body_with_records,
   named,
+  parent_list,
   shape_in_body,
   with_key_at,
 };
 ghost use Rattle.gl_graph.specs.Grown.{AreIntervalsBorn};
 
 use crate::node::{Body, Node};
+use crate::parents::Parents;
 use gl_modes::NodeId;
 use slab::Slab;
 use smallvec::SmallVec;
-use std::alloc::Global;
 
 /// The node that the id names.
 pub(crate) fn find(nodes: &Slab<Node>, n: NodeId) -> Option<&Node>
@@ -52,8 +54,18 @@ pub(crate) fn write_records(nodes: &mut Slab<Node>, key: usize, records: usize)
     nodes[key].body.set_records(records);
 }
 
+/// Writes that rows of a file were adopted.
+pub(crate) fn write_adopted(nodes: &mut Slab<Node>, key: usize)
+    requires { ContainsKey nodes.old key }
+    ensures written { (x : Node) → get nodes.old key ≡ Some x → Updates nodes.old nodes.new key (Some (record x { body = body_adopted x.body })) }
+    ensures len { slab_len nodes.new ≡ slab_len nodes.old }
+    ensures next { nodes.new.vacant_key ≡ nodes.old.vacant_key }
+{
+    nodes[key].body.adopt();
+}
+
 /// Writes the parents of a node.
-pub(crate) fn write_parents(nodes: &mut Slab<Node>, key: usize, fresh: SmallVec<NodeId, 2>)
+pub(crate) fn write_parents(nodes: &mut Slab<Node>, key: usize, fresh: Parents)
     requires { ContainsKey nodes.old key }
     ensures written { (x : Node) → get nodes.old key ≡ Some x → Updates nodes.old nodes.new key (Some (record x { parents = fresh })) }
     ensures len { slab_len nodes.new ≡ slab_len nodes.old }
@@ -71,12 +83,13 @@ pub(crate) fn write_key(
 )
     requires there { ContainsKey nodes.old rec }
     requires keys { (x : Node) → get nodes.old rec ≡ Some x → place < length (keys_in (Some (shape_in_body x.body))) }
-    requires parents { (x : Node) → get nodes.old rec ≡ Some x → place + 1 < length x.parents.items }
+    requires parents { (x : Node) → get nodes.old rec ≡ Some x → place + 1 < length (parent_list x.parents) }
+    requires place { place + 1 < 2 ^ 64 }
     ensures written { (x : Node) → get nodes.old rec ≡ Some x → Updates nodes.old nodes.new rec (Some (with_key_at x place key interval)) }
     ensures len { slab_len nodes.new ≡ slab_len nodes.old }
 {
     let node = &mut nodes[rec];
-    node.parents.as_mut_slice()[place + 1] = interval;
+    node.parents.set(place + 1, interval);
     node.body.set_key(place, key);
 }
 
@@ -101,7 +114,6 @@ pub(crate) fn write_indexes(nodes: &mut Slab<Node>, key: usize, indexes: SmallVe
 /// Stores so many intervals of an index, with the births behind the index's, and lists them.
 pub(crate) fn insert_intervals(
     nodes: &mut Slab<Node>,
-    alloc: Global,
     index: NodeId,
     count: usize,
     ids: &mut Vec<NodeId>,
@@ -115,13 +127,11 @@ pub(crate) fn insert_intervals(
     ensures born { AreIntervalsBorn nodes.old nodes.new index count ids.new.items }
 {
     for place in 0..count {
-        let mut parents = SmallVec::new(alloc);
-        parents.push_reserved(index);
         let birth = index.birth + 1 + place as u64;
         let body = Body::Interval { place };
         let key = nodes.insert_reserved(Node {
             birth,
-            parents,
+            parents: Parents::One([index]),
             body,
         });
         ids.push_reserved(NodeId { key, birth });

@@ -21,7 +21,7 @@ not-held m h = same_mode-equal m NL (twice (same_mode m NL) h)
     twice true h = refl
     twice false h = h
 
-empty-list : (q : List Waiter) → is_empty q ≡ true → q ≡ []
+pub empty-list : (q : List Waiter) → is_empty q ≡ true → q ≡ []
 empty-list [] h = refl
 empty-list (w ∷ q) h = cc
 

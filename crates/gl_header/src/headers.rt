@@ -45,8 +45,8 @@ use gl_slots::Slots;
 use std::alloc::{AllocError, Global};
 use std::marker::Model;
 
-/// How many boxes wait for a node at most.
-const SPARE: usize = 16;
+/// How many boxes wait for a node at most: to free one takes as long as to release its node.
+const SPARE: usize = 1024;
 
 /// A header for each node that somebody holds or waits for. It is found by the node's key, with no
 /// hash: so a key that nobody locks costs the room of a pointer, and two nodes of one key are not

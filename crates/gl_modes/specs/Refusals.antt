@@ -23,6 +23,7 @@ use Rattle.gl_modes.specs.declared.refusal.Refusal.TheVariants.{
   WornOut,
   BadLine,
   Cycle,
+  RecordInUse,
 }
 
 -- the number of a refusal, by which scripts tell it
@@ -48,6 +49,7 @@ refusal_number BadKeys = 18
 refusal_number WornOut = 19
 refusal_number BadLine = 20
 refusal_number (Cycle _) = 21
+refusal_number RecordInUse = 22
 
 -- its name, as scripts print it
 abbrev pub refusal_name : Refusal → List ℕ
@@ -72,3 +74,4 @@ refusal_name BadKeys = codes "BadKeys"
 refusal_name WornOut = codes "WornOut"
 refusal_name BadLine = codes "BadLine"
 refusal_name (Cycle _) = codes "Cycle"
+refusal_name RecordInUse = codes "RecordInUse"

@@ -51,10 +51,12 @@ pub enum Refusal {
     BadLine,
     /// This new parent is the node itself or lies below it.
     Cycle { node: NodeId },
+    /// Some transaction holds the record or waits for it.
+    RecordInUse,
 }
 
 impl Refusal {
-    /// The refusal's number, from 1 to 21.
+    /// The refusal's number, from 1 to 22.
     pub fn number(self) -> u8
         ensures { result ≡ refusal_number self }
     {
@@ -80,6 +82,7 @@ impl Refusal {
             Refusal::WornOut => 19,
             Refusal::BadLine => 20,
             Refusal::Cycle { .. } => 21,
+            Refusal::RecordInUse => 22,
         }
     }
 
@@ -109,6 +112,7 @@ impl Refusal {
             Refusal::WornOut => "WornOut",
             Refusal::BadLine => "BadLine",
             Refusal::Cycle { .. } => "Cycle",
+            Refusal::RecordInUse => "RecordInUse",
         }
     }
 }

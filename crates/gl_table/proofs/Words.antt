@@ -62,6 +62,7 @@ pub use Rattle.gl_graph.proofs.KindRules.{interval_is, is_plain, parent_plain, r
 pub use Rattle.gl_graph.proofs.Left.{count_there}
 pub use Rattle.gl_graph.proofs.Look.{all_at, all_filter, found_at, live_node, there_is}
 pub use Rattle.gl_graph.proofs.Moved.{any_found, file_of_record, movable_alike, move_lawful, rec_alike, rekey_lawful, rekeyed_is, some_at, with_parents_is}
+pub use Rattle.gl_graph.proofs.Marked.{marked_lawful, marked_live, marked_nodes, marked_parents, marked_record}
 pub use Rattle.gl_graph.proofs.NewIndex.{index_lawful}
 pub use Rattle.gl_graph.proofs.NewNodes.{file_lawful, inner_lawful, record_lawful}
 pub use Rattle.gl_graph.proofs.RecordParents.{record_shape}
@@ -71,7 +72,7 @@ pub use Rattle.gl_graph.proofs.SoundMoved.{inner_live}
 pub use Rattle.gl_graph.proofs.Unrefused.{index_unrefused, IsRoomyRecord, no_cycle, not_false, not_refused, or_no, parents_unrefused, record_unrefused}
 pub use Rattle.gl_graph.proofs.Unrefused.{test_fails, verdict_ok}
 pub use Rattle.gl_graph.specs.Changes.{born_nodes, interval_nodes, IsBorn, IsIndexBorn, rekeyed, rekeyed_keys, rekeyed_parents, with_node, with_parents}
-pub use Rattle.gl_graph.specs.Changes.{without_node}
+pub use Rattle.gl_graph.specs.Changes.{IsAdopted, marked, without_node}
 pub use Rattle.gl_graph.specs.Graph.{first_in, first_parent, Graph, id_of, indexes_of, interval_of, intervals_of, is_child, is_live, Node, node_at, node_count}
 pub use Rattle.gl_graph.specs.Graph.{nodes, parents_in, parents_of, record_parents, shape_in, shape_of, with_key}
 pub use Rattle.gl_graph.specs.Lawful.{are_distinct, AreInnerParents, HasShape, IsLawfulGraph}
@@ -85,13 +86,13 @@ pub use Rattle.gl_graph.specs.View.{graph_of, View}
 pub use Rattle.gl_header.proofs.Fits.{enters-limit, fits-all, fits-from_all, fits-limit}
 pub use Rattle.gl_header.proofs.Fronts.{front-after_front, front-and_rest, front-limit, front-waited, pumped-compatible}
 pub use Rattle.gl_header.proofs.GroupOf.{group_of-limit, group_of-unique}
-pub use Rattle.gl_header.proofs.Ranges.{differ-false, range-each}
-pub use Rattle.gl_header.proofs.Unused.{unused-nobody, unused-true}
+pub use Rattle.gl_header.proofs.Ranges.{differ-false, range-each, range-from_each}
+pub use Rattle.gl_header.proofs.Unused.{empty-list, nobody_holds-all, unused-nobody, unused-true}
 pub use Rattle.gl_header.specs.Answers.{asked_members, asked_queue}
 pub use Rattle.gl_header.specs.Header.{after_grants, AreBelow, enters, fits, front, group_of, holds, is_ahead, is_among_waiters, is_empty, is_waiter}
 pub use Rattle.gl_header.specs.Header.{IsCompatible, IsWithin, Members, placed, pumped_members, pumped_queue, Waiter, with_mode, without_waiter}
 pub use Rattle.gl_header.specs.Sound.{is_distinct}
-pub use Rattle.gl_header.specs.State.{HeaderState, is_granted, is_unused, IsLawfulHeader, members_of, slot_limit, unused_header}
+pub use Rattle.gl_header.specs.State.{HeaderState, is_granted, is_unused, IsLawfulHeader, members_of, nobody_holds, slot_limit, unused_header}
 pub use Rattle.gl_header.specs.declared.header.Asked.{Asked}
 pub use Rattle.gl_waits.proofs.BoardLemmas.{row_edge-bits_of, row_edge-replicate}
 pub use Rattle.gl_waits.proofs.CycleLemmas.{at_one-no_cycle, less-no_cycle}
@@ -110,7 +111,7 @@ pub use Rattle.gl_table.specs.model.Calls.{commit_tests, condemned_test, covered
 pub use Rattle.gl_table.specs.model.Calls.{freed, freed_unless, granted, held_child, held_children, holds_child, holds_x, holds_x_on_all, is_covered}
 pub use Rattle.gl_table.specs.model.Calls.{lock_tests, locked_as, moved_to, need_exclusive, need_new_parents, need_parents, no_node, no_txn, none_but, not_held}
 pub use Rattle.gl_table.specs.model.Calls.{raised, RefusesOnly, released, rule_refusal, shed, some_given, stays, too_many_txns, try_tests, unlock_tests}
-pub use Rattle.gl_table.specs.model.Calls.{unlocked, waiting_test, WaitSettles, wanted, would_block}
+pub use Rattle.gl_table.specs.model.Calls.{is_idle, unlocked, waiting_test, WaitSettles, wanted, would_block}
 pub use Rattle.gl_table.specs.model.Lawful.{CondemningFrees, CutSetLaw, eff_s, eff_x, effect_on, effective, EffX, EmptyHasNoCycle, HasNoConflict, is_read}
 pub use Rattle.gl_table.specs.model.Lawful.{IsCut, IsLawful, LawfulCutSet, LawfulNoConflict, ModeFitsKind, NoConflictLaw, OneFalls, SameBelow, SettlingEnds}
 pub use Rattle.gl_table.specs.model.Lawful.{SettlingFrees}

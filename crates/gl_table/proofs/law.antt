@@ -5,6 +5,7 @@ pub mod Tests
 pub mod Lock
 pub mod Edges
 pub mod Records
+pub mod Rows
 pub mod Strays
 pub mod Move
 pub mod Effects

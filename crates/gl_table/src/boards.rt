@@ -13,17 +13,17 @@ ghost use Rattle.gl_table.specs.inside.Seats.{txns_of};
 ghost use Rattle.gl_table.specs.model.State.{age_in, status_in, waits_for};
 
 use crate::seat::Seat;
+use crate::seats::Seats;
 use crate::txn::Status;
 use gl_header::{Header, Headers};
 use gl_modes::{Mode, NodeId};
 use gl_slots::Slots;
 use gl_waits::{Board, SLOTS, WaitsFor};
 
-/// The board of this moment. Each queue in which somebody waits is read twice, however many wait in it:
-/// once for the first of them that is met, and once for the rows of all.
-pub(crate) fn board(headers: &Headers, seats: &[Option<Seat>], epoch: u64) -> Board
-    requires few { length seats.now ≤ 128 }
-    ensures { result ≡ board_of (shown headers.now.entries seats.now epoch) }
+/// The board of this moment, in which only the slots of those who live and wait are written.
+pub(crate) fn board(headers: &Headers, seats: &Seats, epoch: u64) -> Board
+    requires few { length seats.now.items ≤ 128 }
+    ensures { result ≡ board_of (shown headers.now.entries seats.now.items epoch) }
 {
     headers.law();
     let mut board = Board {
@@ -31,32 +31,70 @@ pub(crate) fn board(headers: &Headers, seats: &[Option<Seat>], epoch: u64) -> Bo
         ages: [0; SLOTS],
         rows: [0; SLOTS],
     };
-    for (slot, seat) in seats.iter().enumerate() {
-        if let Some(Seat { age, status }) = *seat {
-            board.ages[slot] = age;
-            if let Status::Waiting { node, wanted } = status {
-                if board.rows[slot] == 0 {
-                    board.rows[slot] = row(headers, slot as u8, node, wanted);
-                    show_queue(headers, seats, node, &mut board.rows);
-                }
-            }
-        }
-    }
+    write_ages(seats, &mut board.ages);
+    write_rows(headers, seats, &mut board.rows);
     board
 }
 
 /// The age in each seat, 0 in a free one.
-pub(crate) fn ages(seats: &[Option<Seat>]) -> [u64; SLOTS]
-    requires few { length seats.now ≤ 128 }
-    ensures { (u : ℕ) → get_or result u 0 ≡ age_in (txns_of seats.now u) }
+pub(crate) fn ages(seats: &Seats) -> [u64; SLOTS]
+    ensures { (u : ℕ) → get_or result u 0 ≡ age_in (txns_of seats.now.items u) }
 {
     let mut ages = [0; SLOTS];
-    for (slot, seat) in seats.iter().enumerate() {
-        if let Some(Seat { age, .. }) = *seat {
-            ages[slot] = age;
+    write_ages(seats, &mut ages);
+    ages
+}
+
+/// Writes the age in each seat that is taken, where all are 0 before.
+fn write_ages(seats: &Seats, ages: &mut [u64; SLOTS])
+    requires none { (u : ℕ) → get_or ages.old u 0 ≡ 0 }
+    ensures len { length ages.new ≡ length ages.old }
+    ensures ages { (u : ℕ) → get_or ages.new u 0 ≡ age_in (txns_of seats.now.items u) }
+{
+    let mut left = seats.living();
+    while let Some(slot) = left.take_lowest() {
+        if let Some(Seat { age, .. }) = seats.get(slot) {
+            ages[slot as usize] = age;
         }
     }
-    ages
+}
+
+/// Writes the row of each slot that waits, where all are 0 before. Each queue in which somebody waits is
+/// read once, however many wait in it.
+fn write_rows(headers: &Headers, seats: &Seats, rows: &mut [u128; SLOTS])
+    requires none { (t : ℕ) → get_or rows.old t 0 ≡ 0 }
+    ensures len { length rows.new ≡ length rows.old }
+    ensures rows { (t u : ℕ) → has_slot (get_or rows.new t 0) u ≡ waits_for (shown headers.now.entries seats.now.items 0) t u }
+{
+    let mut left = seats.waiting();
+    while let Some(slot) = left.take_lowest() {
+        if rows[slot as usize] == 0 {
+            show_waiter(headers, seats, slot, rows);
+        }
+    }
+}
+
+/// Writes the row of a slot, and those of all who wait for the same node.
+fn show_waiter(headers: &Headers, seats: &Seats, slot: u8, rows: &mut [u128; SLOTS])
+    requires below { slot < 128 }
+    requires none { get_or rows.old slot 0 ≡ 0 }
+    ensures len { length rows.new ≡ length rows.old }
+    ensures own { (u : ℕ) → has_slot (get_or rows.new slot 0) u ≡ waits_for (shown headers.now.entries seats.now.items 0) slot u }
+    ensures rows { (t : ℕ) → (get_or rows.new t 0 ≡ get_or rows.old t 0) ⊎ ((u : ℕ) → has_slot (get_or rows.new t 0) u ≡ waits_for (shown headers.now.entries seats.now.items 0) t u) }
+{
+    if let Some(
+        Seat {
+            status: Status::Waiting { node, wanted },
+            ..
+        },
+    ) = seats.get(slot)
+    {
+        show_queue(headers, seats.as_slice(), node, rows);
+        // A waiter stands in the queue, so its row is there by now.
+        if rows[slot as usize] == 0 {
+            rows[slot as usize] = row(headers, slot, node, wanted);
+        }
+    }
 }
 
 /// Writes the rows of those who wait for a node, in one pass over its queue: ahead of each are those

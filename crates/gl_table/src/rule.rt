@@ -15,7 +15,7 @@ use gl_modes::{Mode, NodeId, Refusal, covers};
 /// Whether the rule of the graph lets this transaction have this mode on a node with these parents:
 /// to write, IX or greater on each; to read, IS or greater on one, and nothing for a root. Refused
 /// with `NeedParents`: the first parent that is wanting, to read the first of all.
-#[inline]
+#[inline(always)]
 #[tactic(auto, using(crate::proofs::calls::Queries::rule_steps))]
 pub(crate) fn check_rule(list: &LockList, parents: &[NodeId], mode: Mode) -> Result<(), Refusal>
     ensures { result ≡ verdict (rule_refusal (mode_of list.now) parents.now mode) }

@@ -3,7 +3,7 @@
 ghost use Rattle.std.specs.Prelude.{◌≡◌, ◌<◌, ◌≤◌, ◌==◌, ℕ, IfOk, None, Some, if◌then◌else◌, length, position, replicate, slice_set};
 ghost use Rattle.gl_slots.specs.Slots.{has_slot};
 ghost use Rattle.gl_table.specs.model.State.{age_in, is_wait, restatus};
-ghost use Rattle.gl_table.specs.inside.Seats.{is_free, txn_in, txns_of, waits_at};
+ghost use Rattle.gl_table.specs.inside.Seats.{is_free, lives_at, txn_in, txns_of, waits_at};
 
 use crate::seat::Seat;
 use crate::txn::Status;
@@ -11,12 +11,13 @@ use gl_slots::Slots;
 use std::alloc::{AllocError, Global};
 use std::marker::Model;
 
-/// The transaction in each slot, the set of the free slots, and that of those who wait: so neither the
-/// lowest free one nor who waits is found by a search, however many transactions live.
+/// The transaction in each slot, and three sets: of the free slots, of those in which somebody lives, and
+/// of those who wait. So none of them is found by a search, however many slots there are.
 #[derive(Drop)]
 pub(crate) struct Seats {
     list: Vec<Option<Seat>>,
     free: Slots,
+    living: Slots,
     waiting: Slots,
 }
 
@@ -47,6 +48,7 @@ impl Seats {
         Ok(Seats {
             list,
             free,
+            living: Slots::empty(),
             waiting: Slots::empty(),
         })
     }
@@ -76,6 +78,13 @@ impl Seats {
         self.free.lowest()
     }
 
+    /// The slots in which somebody lives.
+    pub(crate) fn living(&self) -> Slots
+        ensures { (u : ℕ) → has_slot result u ≡ lives_at self.now.items u }
+    {
+        self.living
+    }
+
     /// The slots of those who wait.
     pub(crate) fn waiting(&self) -> Slots
         ensures { (u : ℕ) → has_slot result u ≡ waits_at self.now.items u }
@@ -90,6 +99,7 @@ impl Seats {
     {
         self.list[slot as usize] = Some(seat);
         self.free.remove(slot);
+        self.living.insert(slot);
         note(&mut self.waiting, slot, seat.status);
     }
 
@@ -100,6 +110,7 @@ impl Seats {
     {
         self.list[slot as usize] = None;
         self.free.insert(slot);
+        self.living.remove(slot);
         self.waiting.remove(slot);
     }
 

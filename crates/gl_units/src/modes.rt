@@ -34,6 +34,8 @@ fn names_refusals(rt: HostRuntime) {
     assert_eq!(rt; Refusal::NoMemory.number(), 1);
     assert_eq!(rt; Refusal::NeedParents { node }.number(), 7);
     assert_eq!(rt; Refusal::Cycle { node }.number(), 21);
+    assert_eq!(rt; Refusal::RecordInUse.number(), 22);
+    assert_eq!(rt; Refusal::RecordInUse.name(), "RecordInUse");
     assert_eq!(rt; Refusal::HeldChild { node }.name(), "HeldChild");
     assert_eq!(rt; Refusal::BadLine.name(), "BadLine");
     assert!(rt; NodeId::NONE != node);

@@ -22,7 +22,8 @@ impl Manager {
     ///
     /// To a living transaction that the command does not name, its effective mode on each record that
     /// stands before and after is left, or raised where the reply tells it of a grant; and where it
-    /// reads a node, the records below that node are left, with their keys. A rekey and a move leave
+    /// reads a node, the records below that node are left, with their keys, but for rows that are
+    /// adopted or forgotten, which nobody holds or waits for. A rekey and a move leave
     /// the effective modes of their caller, and an escalation lowers none. A settle of a transaction
     /// that is on no cycle tells nobody. A lock and a settle keep the last deadlock of which they
     /// condemn the victim, and every other command leaves the one that was kept.
@@ -117,6 +118,8 @@ impl Manager {
             Command::Group { node } => mode_answer(self.table.group(node)),
             Command::Held { txn, node } => mode_answer(self.table.held(txn, node)),
             Command::Effective { txn, node } => effect_answer(self.table.effective(txn, node)),
+            Command::Adopt { file, keys } => node_answer(self.adopt(file, keys)),
+            Command::Forget { rec } => done_answer(self.forget(rec)),
         }
     }
 }

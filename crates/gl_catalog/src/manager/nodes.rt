@@ -36,7 +36,7 @@ impl Manager {
         Ok(node)
     }
 
-    /// A new index of a file that has no records, under these, with an interval at key 0 and one at
+    /// A new index of a file that has no records and had no row adopted, under these, with an interval at key 0 and one at
     /// each bound.
     pub fn add_index(
         &mut self,

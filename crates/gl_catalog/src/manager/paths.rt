@@ -1,15 +1,24 @@
 //! A node is locked with what has to be held above it.
 
-ghost use Rattle.std.specs.Prelude.{◌≡◌, [], Err, IfErr, None, OnErr, Some};
+ghost use Rattle.std.specs.Prelude.{◌≡◌, ◌⊎◌, ◌++◌, ◌∷◌, [], Err, IfErr, None, OnErr, Some, true};
 ghost use Rattle.gl_modes.specs.declared.refusal.Refusal.{Refusal as ARefusal};
 ghost use Rattle.gl_graph.specs.Refusals.{first_refusal};
+ghost use Rattle.gl_catalog.specs.Counters.{grants};
 ghost use Rattle.gl_catalog.specs.Manager.{state_of};
 ghost use Rattle.gl_catalog.specs.Replies.{said};
-ghost use Rattle.gl_catalog.specs.Paths.{AsksOnce, LeavesAllBut, LocksPath, goes_on, intention, missing_parent, path_tests, reaching};
+ghost use Rattle.gl_catalog.specs.Paths.{AsksOnce, KeepsBelow, KeepsWay, LeavesAllBut, LocksPath, goes_on, intention, missing_parent, next_ask, parent_wanted, path_tests, reaching};
+ghost use Rattle.gl_catalog.specs.Tests.{worn};
 
 use super::Manager;
+use arrayvec::ArrayVec;
 use gl_modes::{Mode, NodeId, Refusal, covers};
 use gl_table::{Locked, Told, TxnId};
+
+/// How many nodes above a path keeps.
+const MOST_KEPT: usize = 16;
+
+/// The nodes above that a path knows to be wanted, upwards.
+type Above = ArrayVec<NodeId, MOST_KEPT>;
 
 /// The last ask of a path, and what it came to.
 #[derive(Clone, Copy, PartialEq, Eq, Debug)]
@@ -36,8 +45,8 @@ impl Manager {
     ///
     /// Refused, in this order, with `WornOut`, `NoSuchTxn`, `TxnWaiting`, `TxnCondemned`,
     /// `NoSuchNode` and `BadMode` before anything is locked; with `WornOut` and `NoMemory` also on
-    /// the way. It wants memory for locks alone. Each ask costs a climb from the node to what comes
-    /// first.
+    /// the way. It wants memory for locks alone. The way up is looked at before it is locked: to write
+    /// once, from each node that wants another parent once more, to read from the node for each ask.
     pub fn lock_path_telling(
         &mut self,
         t: TxnId,
@@ -53,32 +62,38 @@ impl Manager {
         ensures untold { OnErr result (told.new.items ≡ []) }
     {
         self.law();
+        let mut above = Above::new();
+        self.climb(t, node, mode, &mut above);
         'path: loop {
-            let reached = self.lock_first(t, node, mode, told)?;
+            let reached = self.lock_first(t, node, mode, &mut above, told)?;
             // A grant is counted, so that the path ends where the count does, if not before.
             let _counted = self.accepted();
             if !leads_on(node, reached, told) {
                 return Ok(reached);
             }
+            self.go_down(t, node, mode, &mut above);
         }
     }
 
-    /// Makes the ask that comes first on the way to a lock of this node.
+    /// Makes the ask that comes first on the way to a lock of this node, of which these nodes above are
+    /// known. A node may want another parent once one is granted, so that more may be found on the way.
     fn lock_first(
         &mut self,
         t: TxnId,
         node: NodeId,
         mode: Mode,
+        above: &mut Above,
         told: &mut Told,
     ) -> Result<Reached, Refusal>
         requires empty { told.old.items ≡ [] }
+        requires kept { KeepsWay (state_of self.old) t (node, mode) above.old.items }
         ensures asks { AsksOnce t (node, mode) self.old told.new.items result self.new }
         ensures untold { OnErr result (told.new.items ≡ []) }
+        ensures below { grants (said (reaching told.new.items) result).0 ≡ true → KeepsBelow (state_of self.new) t (node, mode) above.new.items }
     {
         self.law();
-        let (mut asked, mut wanted) = (node, mode);
-        // A way up has fewer steps than there are nodes, so that the last ask wants no parent.
-        'up: for _step in 0..self.graph().len() {
+        'first: loop {
+            let (asked, wanted) = next_ask(node, mode, above);
             match self.lock_telling(t, asked, wanted, told) {
                 Ok(locked) => {
                     return Ok(Reached {
@@ -86,21 +101,75 @@ impl Manager {
                         locked,
                     });
                 }
-                Err(refusal) => match missing_parent(refusal) {
-                    Some(parent) => {
-                        asked = parent;
-                        wanted = intention(wanted);
+                Err(refusal) => {
+                    if missing_parent(refusal).is_none() {
+                        return Err(refusal);
                     }
-                    None => return Err(refusal),
-                },
+                    self.climb(t, node, mode, above);
+                }
             }
         }
-        let locked = self.lock_telling(t, asked, wanted, told)?;
-        Ok(Reached {
-            node: asked,
-            locked,
-        })
     }
+
+    /// Climbs from the next ask to the one that comes first. Nothing is asked on the way.
+    fn climb(&self, t: TxnId, node: NodeId, mode: Mode, above: &mut Above)
+        ensures kept { KeepsWay (state_of self.now) t (node, mode) above.old.items → KeepsWay (state_of self.now) t (node, mode) above.new.items }
+        ensures first { parent_wanted (state_of self.now) t (next_ask (node, mode) above.new.items) ≡ None }
+    {
+        self.law();
+        // A way up has fewer steps than there are nodes.
+        'up: for _step in 0..self.graph().len() {
+            let (asked, wanted) = next_ask(node, mode, above);
+            match self.parent_wanted(t, asked, wanted) {
+                Some(parent) => keep(above, parent),
+                None => return,
+            }
+        }
+    }
+
+    /// Goes down from a node above that was granted. To a writer those below it are wanted as they
+    /// were; a reader may want fewer, and climbs anew.
+    fn go_down(&self, t: TxnId, node: NodeId, mode: Mode, above: &mut Above)
+        requires { KeepsBelow (state_of self.now) t (node, mode) above.old.items }
+        ensures { KeepsWay (state_of self.now) t (node, mode) above.new.items }
+    {
+        if !covers(mode, Mode::IX) {
+            above.clear();
+            self.climb(t, node, mode, above);
+            return;
+        }
+        above.pop();
+    }
+
+    /// The parent for want of which a lock would be refused.
+    fn parent_wanted(&self, t: TxnId, node: NodeId, mode: Mode) -> Option<NodeId>
+        ensures { worn (state_of self.now) ≡ None → result ≡ parent_wanted (state_of self.now) t (node, mode) }
+    {
+        match self.table.check_lock(t, node, mode) {
+            Ok(()) => None,
+            Err(refusal) => missing_parent(refusal),
+        }
+    }
+}
+
+/// What is asked next on a path of which these nodes above are known.
+fn next_ask(node: NodeId, mode: Mode, above: &Above) -> (NodeId, Mode)
+    ensures { result ≡ next_ask (node, mode) above.now.items }
+{
+    match above.last() {
+        Some(parent) => (*parent, intention(mode)),
+        None => (node, mode),
+    }
+}
+
+/// Keeps one node more. Where there is no room, those below it are forgotten, to be found again.
+fn keep(above: &mut Above, parent: NodeId)
+    ensures { (above.new.items ≡ above.old.items ++ parent ∷ []) ⊎ (above.new.items ≡ parent ∷ []) }
+{
+    if above.is_full() {
+        above.clear();
+    }
+    above.push(parent);
 }
 
 /// The intention that a mode wants on parents.

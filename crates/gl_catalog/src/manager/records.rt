@@ -80,6 +80,41 @@ impl Manager {
         Ok(())
     }
 
+    /// Makes a record of a file that nobody holds, with a key for each of the file's indexes, in order
+    /// of their making: a row of the engine's that is to be locked. From then on no index of the file
+    /// is made. Nobody is told, and others are left what `apply` leaves them.
+    ///
+    /// Refused, in this order, with `WornOut`, `NoSuchNode`, `BadParents` (the node is no file),
+    /// `BadKeys` (not a key for each index), `TooManyNodes` and `NoMemory`.
+    pub fn adopt(&mut self, file: NodeId, keys: &[u64]) -> Result<NodeId, Refusal>
+        ensures step { CallSteps (state_of self.old) (command.Adopt file keys.entry) made result (state_of self.new) }
+        ensures completes { IfOk result (λ x. Completes (command.Adopt file keys.entry) self.old (made x) self.new) }
+        ensures err { OnErr result (self.new ≡ self.old) }
+    {
+        self.check_count()?;
+        let rec = self.table.adopt(file, keys)?;
+        self.table.law();
+        self.accepted += 1;
+        Ok(rec)
+    }
+
+    /// Takes a record away that nobody holds or waits for. Nobody is told, and others are left what
+    /// `apply` leaves them.
+    ///
+    /// Refused, in this order, with `WornOut`, `NoSuchNode`, `BadParents` (the node is no record) and
+    /// `RecordInUse`. It takes no memory.
+    pub fn forget(&mut self, rec: NodeId) -> Result<(), Refusal>
+        ensures step { CallSteps (state_of self.old) (command.Forget rec) (doing []) result (state_of self.new) }
+        ensures completes { IfOk result (λ x. Completes (command.Forget rec) self.old (doing [] x) self.new) }
+        ensures err { OnErr result (self.new ≡ self.old) }
+    {
+        self.check_forget(rec)?;
+        self.table.forget(rec);
+        self.table.law();
+        self.accepted += 1;
+        Ok(())
+    }
+
     /// The tests of `insert` but for the count and memory. Where all are passed it answers the
     /// record's parents.
     fn check_insert(
@@ -117,6 +152,23 @@ impl Manager {
             Ok(())
         } else {
             Err(Refusal::BadKeys)
+        }
+    }
+
+    /// The tests of `forget`.
+    fn check_forget(&self, rec: NodeId) -> Result<(), Refusal>
+        ensures { result ≡ verdict (refusal_of (state_of self.now) (command.Forget rec)) }
+    {
+        self.check_count()?;
+        match self.table.graph().kind(rec) {
+            Some(Kind::Rec) => {}
+            Some(_) => return Err(Refusal::BadParents),
+            None => return Err(Refusal::NoSuchNode),
+        }
+        if self.table.is_idle(rec) {
+            Ok(())
+        } else {
+            Err(Refusal::RecordInUse)
         }
     }
 

@@ -5,11 +5,11 @@ ghost use Rattle.std.specs.List.{list_any};
 ghost use Rattle.gl_modes.specs.Nodes.{same_node};
 ghost use Rattle.gl_graph.specs.Shapes.{is_file_shape, is_index_of_shape, is_record_shape};
 ghost use Rattle.gl_graph.specs.Graph.{first_parent, indexes_of, shape_of};
-ghost use Rattle.gl_graph.specs.Changes.{rekeyed, without_node};
+ghost use Rattle.gl_graph.specs.Changes.{marked, rekeyed, without_node};
 ghost use Rattle.gl_graph.specs.View.{graph_of};
 
 use super::Graph;
-use crate::store::{write_key, write_records};
+use crate::store::{write_adopted, write_key, write_records};
 use gl_modes::NodeId;
 
 /// The place of the first of these that is the node.
@@ -29,6 +29,16 @@ impl Graph {
         let records = self.records(file) - 1;
         self.nodes.remove(rec.key);
         write_records(&mut self.nodes, file.key, records);
+    }
+
+    /// Keeps for ever that rows of the file were adopted: no index of it can be made from then on. It
+    /// takes no memory.
+    pub fn mark_adopted(&mut self, file: NodeId)
+        requires { is_file_shape (shape_of (graph_of self.old) file) ≡ true }
+        ensures marked { graph_of self.new ≡ marked (graph_of self.old) file }
+        ensures next_key { self.new.next_key ≡ self.old.next_key }
+    {
+        write_adopted(&mut self.nodes, file.key);
     }
 
     /// Gives a record another key for one index of its file, and the interval in which that key

@@ -166,7 +166,7 @@ impl Graph {
             Err(Refusal::NoSuchNode)
         } else if self.is_bad_index_place(parents, file) {
             Err(Refusal::BadParents)
-        } else if self.has_records(file) {
+        } else if self.has_records(file) || self.is_adopted(file) {
             Err(Refusal::FileInUse)
         } else if self.are_bad_bounds(bounds) {
             Err(Refusal::BadKeys)

@@ -1,17 +1,18 @@
 //! New nodes.
 
-ghost use Rattle.std.specs.Prelude.{◌≡◌, ◌+◌, ◌<◌, ◌^◌, ℕ, None, true, length, IfOk, OnErr, IfErr};
+ghost use Rattle.std.specs.Prelude.{◌≡◌, ◌+◌, ◌<◌, ◌^◌, ℕ, None, false, true, length, IfOk, OnErr, IfErr};
 ghost use Rattle.gl_modes.specs.declared.refusal.Refusal.{Refusal};
 ghost use Rattle.gl_graph.specs.Shapes.{File, Inner, Rec, is_file_shape};
 ghost use Rattle.gl_graph.specs.Graph.{IsFreeKey, indexes_of, record_parents, shape_of};
 ghost use Rattle.gl_graph.specs.Lawful.{IsLawfulGraph};
-ghost use Rattle.gl_graph.specs.Changes.{born_node, IsBorn, IsIndexBorn};
+ghost use Rattle.gl_graph.specs.Changes.{born_node, IsAdopted, IsBorn, IsIndexBorn};
 ghost use Rattle.gl_graph.specs.Refusals.{file_refusal, index_refusal, inner_refusal, record_refusal, Refuses};
 ghost use Rattle.gl_graph.specs.View.{graph_of};
 ghost use Rattle.gl_graph.specs.Seen.{shape_in_body, IsPlainBody};
 
 use super::Graph;
 use crate::node::{Body, FileBody, IndexBody, Node};
+use crate::parents::Parents;
 use crate::store::{insert_intervals, write_indexes, write_intervals, write_records};
 use arrayvec::ArrayVec;
 use gl_modes::{NodeId, Refusal};
@@ -21,7 +22,7 @@ use std::alloc::{AllocError, Global};
 /// What a new index takes memory for, made before anything changes.
 #[derive(Drop)]
 struct IndexParts {
-    parents: SmallVec<NodeId, 2>,
+    parents: Parents,
     // Without intervals.
     body: Box<IndexBody>,
     // Empty, with room for all.
@@ -43,7 +44,7 @@ impl IndexParts {
         requires { length bounds.now < 2 ^ 63 }
         ensures made { IfOk result (λ parts. AreParts parts parents.now file bounds.now indexes.now) }
     {
-        let parents = SmallVec::from_slice(alloc, parents)?;
+        let parents = Parents::from_slice(alloc, parents)?;
         let intervals = Vec::with_capacity(alloc, bounds.len() + 1)?;
         let body = IndexBody {
             file,
@@ -76,12 +77,13 @@ impl Graph {
         self.insert(parents, Body::Inner)
     }
 
-    /// Makes a file under 1 to 8 different inner nodes. It has no indexes and no records.
+    /// Makes a file under 1 to 8 different inner nodes. It has no indexes and no records, and no rows
+    /// of it were adopted.
     ///
     /// Refused, in this order, with `WornOut`, `NoSuchNode`, `BadParents`, `TooManyNodes` and
     /// `NoMemory`.
     pub fn add_file(&mut self, parents: &[NodeId]) -> Result<NodeId, Refusal>
-        ensures made { IfOk result (λ n. IsBorn (graph_of self.old) (graph_of self.new) n File parents.now) }
+        ensures made { IfOk result (λ n. IsBorn (graph_of self.old) (graph_of self.new) n (File false) parents.now) }
         ensures refuses { Refuses (file_refusal (graph_of self.old) parents.now) result }
         ensures err { OnErr result (self.new ≡ self.old) }
     {
@@ -89,6 +91,7 @@ impl Graph {
         let body = FileBody {
             indexes: SmallVec::new(self.alloc),
             records: 0,
+            adopted: false,
         };
         let Ok(body) = Box::new(self.alloc, body) else {
             return Err(Refusal::NoMemory);
@@ -96,13 +99,14 @@ impl Graph {
         self.insert(parents, Body::File(body))
     }
 
-    /// Makes an index of a file that has no records, under 1 to 8 different inner nodes, with at
-    /// most `most_bounds` strictly rising bounds above 0. The index is born first and then, in order,
-    /// its intervals: one that begins at key 0, and one at each bound.
+    /// Makes an index of a file that has no records and of which no rows were ever adopted, under 1
+    /// to 8 different inner nodes, with at most `most_bounds` strictly rising bounds above 0. The
+    /// index is born first and then, in order, its intervals: one that begins at key 0, and one at
+    /// each bound.
     ///
     /// Refused, in this order, with `WornOut`, `NoSuchNode`, `BadParents` (also where the file is
-    /// none or has seven indexes), `FileInUse`, `BadKeys` (the bounds), `TooManyNodes` and
-    /// `NoMemory`.
+    /// none or has seven indexes), `FileInUse` (it has records, or rows of it were ever adopted),
+    /// `BadKeys` (the bounds), `TooManyNodes` and `NoMemory`.
     pub fn add_index(
         &mut self,
         parents: &[NodeId],
@@ -135,7 +139,7 @@ impl Graph {
             body: Body::Index(body),
         });
         let index = NodeId { key, birth };
-        insert_intervals(&mut self.nodes, self.alloc, index, count, &mut intervals);
+        insert_intervals(&mut self.nodes, index, count, &mut intervals);
         indexes.push_reserved(index);
         write_intervals(&mut self.nodes, key, intervals);
         write_indexes(&mut self.nodes, file.key, indexes);
@@ -173,10 +177,10 @@ impl Graph {
         ensures memory { IfErr result (λ r. r ≡ Refusal.NoMemory) }
         ensures err { OnErr result (self.new ≡ self.old) }
     {
-        let Ok(parents) = SmallVec::from_slice(self.alloc, parents) else {
+        let Ok(parents) = Parents::from_slice(self.alloc, parents) else {
             return Err(Refusal::NoMemory);
         };
-        let Ok(keys) = SmallVec::from_slice(self.alloc, keys) else {
+        let Ok(body) = Body::of_record(self.alloc, keys) else {
             return Err(Refusal::NoMemory);
         };
         let records = self.records(file) + 1;
@@ -184,7 +188,7 @@ impl Graph {
         let node = Node {
             birth,
             parents,
-            body: Body::Rec { keys },
+            body,
         };
         let Ok(key) = self.nodes.insert(node) else {
             return Err(Refusal::NoMemory);
@@ -192,6 +196,19 @@ impl Graph {
         write_records(&mut self.nodes, file.key, records);
         self.births = birth;
         Ok(NodeId { key, birth })
+    }
+
+    /// As `add_record`, and the file is one of which rows were adopted from then on, so that no index
+    /// of it is made any more. Refused as `add_record` is.
+    pub fn adopt_record(&mut self, file: NodeId, keys: &[u64]) -> Result<NodeId, Refusal>
+        ensures made { IfOk result (λ n. IsAdopted (graph_of self.old) (graph_of self.new) n file keys.now) }
+        ensures refuses { Refuses (record_refusal (graph_of self.old) file keys.now) result }
+        ensures err { OnErr result (self.new ≡ self.old) }
+    {
+        self.law();
+        let rec = self.add_record(file, keys)?;
+        self.mark_adopted(file);
+        Ok(rec)
     }
 
     /// The parents of a record of this file with these keys: the file and then, for each index, the
@@ -219,7 +236,7 @@ impl Graph {
         ensures memory { IfErr result (λ r. r ≡ Refusal.NoMemory) }
         ensures err { OnErr result (self.new ≡ self.old) }
     {
-        let Ok(parents) = SmallVec::from_slice(self.alloc, parents) else {
+        let Ok(parents) = Parents::from_slice(self.alloc, parents) else {
             return Err(Refusal::NoMemory);
         };
         let birth = self.births + 1;

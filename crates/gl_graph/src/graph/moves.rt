@@ -13,10 +13,10 @@ ghost use Rattle.gl_graph.specs.View.{graph_of};
 ghost use Rattle.gl_graph.specs.Seen.{with_all};
 
 use super::Graph;
+use crate::parents::Parents;
 use crate::store::write_parents;
 use gl_modes::{NodeId, Refusal};
 use indexmap::IndexSet;
-use smallvec::SmallVec;
 use std::alloc::AllocError;
 
 /// Appends those of `more` that are not among the found ones yet.
@@ -44,7 +44,7 @@ impl Graph {
         ensures err { OnErr result (self.new ≡ self.old) }
     {
         self.check_cycles(n, parents)?;
-        let Ok(fresh) = SmallVec::from_slice(self.alloc, parents) else {
+        let Ok(fresh) = Parents::from_slice(self.alloc, parents) else {
             return Err(Refusal::NoMemory);
         };
         write_parents(&mut self.nodes, n.key, fresh);

@@ -1,13 +1,16 @@
 -- What holds of a table's fields: of every table, of a new one, with new nodes and with one transaction more.
+use Rattle.gl_table.proofs.Words.{is_live, with_graph}
+use Rattle.gl_table.proofs.law.Keeps.{apart}
+use Rattle.gl_table.proofs.queues.Walks.{same}
 use Rattle.gl_table.proofs.Words.{[], ◌&&◌, ◌+◌, ◌<◌, ◌==◌, ◌||◌, ◌∙◌, ◌∷◌, ◌≡◌, ◌≤◌, Active, ap, AreApart, AreDistinct, AreNew, arith, begin_tests, begun}
 use Rattle.gl_table.proofs.Words.{Bool}
-use Rattle.gl_table.proofs.Words.{by_list, children_that, choosing, clash, cond, count_in, counted_by, CountsHeld, elements, empty_state, Entry, entry_of, Err}
-use Rattle.gl_table.proofs.Words.{false, find, first_refusal, free_slot, get_or, gets, graph_of, HasNoCycle, held_children, held_of, holds, IfOk, if◌then◌else◌}
+use Rattle.gl_table.proofs.Words.{by_list, children_that, choosing, clash, cond, count_in, counted_by, empty_state, Entry, entry_of, Err}
+use Rattle.gl_table.proofs.Words.{false, find, first_refusal, free_slot, get_or, graph_of, HasNoCycle, held_children, held_of, holds, IfOk, if◌then◌else◌}
 use Rattle.gl_table.proofs.Words.{is_among_waiters, is_free, is_none, is_some, is_wait, is_waiting_at, IsApart, IsDistinct, IsLawful, IsSound, IsUnique}
 use Rattle.gl_table.proofs.Words.{keys_of, length, length-set, List, list_all, ListsAgree, LockList, lookup, loose_of, map, max_count, Members, members}
 use Rattle.gl_table.proofs.Words.{mode_in, nat_lt, nat_tests, NodeId, None, not, Ok, OnErr, Option, option_map_or, position, position-Some, position_or_len}
 use Rattle.gl_table.proofs.Words.{queue_of, range_with_len, refl, Refusal, Refuses, replicate, Result, same_node, Seat, SeatList, slice_get, slice_get-get_or}
-use Rattle.gl_table.proofs.Words.{slice_set, Some, StandOnce, State, state_in, state_of, status_in, status_of, subst, suc, sym, TableView, too_many_txns, true}
+use Rattle.gl_table.proofs.Words.{slice_set, Some, StandOnce, State, state_of, status_in, status_of, subst, suc, sym, TableView, too_many_txns, true}
 use Rattle.gl_table.proofs.Words.{txn_in, txns_of, unused-nobody, View, view_of, where_true, zero, ℕ}
 use Rattle.std.specs.Prelude.{◌^◌}
 use Rattle.gl_table.specs.model.State.{with_limits}
@@ -132,31 +135,46 @@ module _ (i : Inside) (sound : IsSound i) (v : View) where
   abbrev before : State
   before = state_of (view_of i)
 
-  -- nobody holds a new node, so the counts of held children are the old ones
-  grown-counts : Grows (graph_of i.graph) (graph_of v) → (u : ℕ) → CountsHeld (state_in v i.locks) i.locks.lists.items u
-  grown-counts more u p =
-      let held : NodeId → Bool = λ c. holds (members before c) u in
-      sound.exact.count u p ∙ sym (born-children (graph_of i.graph) sound.lawful.graph more.ns held (λ c h. (sound.lawful.grants_live u c h).1) p)
-      ∙ sym (ap (λ g. children_that g held p) more.after)
+  -- over it the law is kept, and as many children of each node are held
+  pub record Suits : Type 0 where
+    pub lawful : IsLawful (with_graph before (graph_of v))
+    pub counts : (u : ℕ) (p : NodeId) → held_children (with_graph before (graph_of v)) u p ≡ held_children before u p
 
-  grown-sound : Grows (graph_of i.graph) (graph_of v) → IsSound grown
-  grown-sound more = record {
-    lawful = grown-lawful before sound.lawful (graph_of v) more;
+  pub suited-sound : Suits → IsSound grown
+  suited-sound suits = record {
+    lawful = suits.lawful;
     exact = record {
       sound = sound.exact.sound;
       agree = λ u. let old = sound.exact.agree u in record { modes = old.modes; listed = old.listed; room = old.room };
-      count = grown-counts more;
+      count = λ u p. sound.exact.count u p ∙ sym (suits.counts u p);
     };
     no_cycle = sound.no_cycle;
   }
 
+  -- who is held by somebody lives
+  pub held-lives : (u : ℕ) (c : NodeId) → holds (members before c) u ≡ true → is_live before.graph c ≡ true
+  held-lives u c h = (sound.lawful.grants_live u c h).1
+
+  -- nobody holds a new node, so the counts of held children are the old ones
+  grown-suits : Grows (graph_of i.graph) (graph_of v) → Suits
+  grown-suits more = record {
+    lawful = grown-lawful before sound.lawful (graph_of v) more;
+    counts = λ u p. let held : NodeId → Bool = λ c. holds (members before c) u in
+        ap (λ g. children_that g held p) more.after ∙ born-children (graph_of i.graph) sound.lawful.graph more.ns held (held-lives u) p;
+  }
+
   -- a call that makes nodes passed all its tests, and one that is refused left the graph as it was
+  pub suited-call : (refusal : Option Refusal) (result : Result NodeId Refusal) (Made : NodeId → Type 0) → Refuses refusal result → IfOk result Made
+      → OnErr result (v ≡ i.graph)
+      → ((n : NodeId) → refusal ≡ None → Made n → Suits) → IsSound grown
+  suited-call None (Ok n) Made refuses made same suits = suited-sound (suits n refl made)
+  suited-call (Some r) (Ok n) Made refuses made same suits = absurd (cc)
+  suited-call refusal (Err r) Made refuses made same suits = subst (λ (w : View). IsSound (record i { graph = w })) (sym same) sound
+
   pub called-sound : (refusal : Option Refusal) (result : Result NodeId Refusal) (Made : NodeId → Type 0) → Refuses refusal result → IfOk result Made
       → OnErr result (v ≡ i.graph)
       → ((n : NodeId) → refusal ≡ None → Made n → Grows (graph_of i.graph) (graph_of v)) → IsSound grown
-  called-sound None (Ok n) Made refuses made same grows = grown-sound (grows n refl made)
-  called-sound (Some r) (Ok n) Made refuses made same grows = absurd (cc)
-  called-sound refusal (Err r) Made refuses made same grows = subst (λ (w : View). IsSound (record i { graph = w })) (sym same) sound
+  called-sound refusal result Made refuses made same grows = suited-call refusal result Made refuses made same (λ n free it. grown-suits (grows n free it))
 
 -- A transaction takes the lowest free seat.
 

@@ -1,4 +1,9 @@
 -- What is asked of a table: its lists and headers say what its state says. For queries and tests.
+use Rattle.gl_table.proofs.Words.{not_false, option_copied}
+use Rattle.gl_table.proofs.Words.{AreHeaders, both, clash, header_at, header_or_new, HeaderState, is_empty, is_idle, Members, members_of, not_true}
+use Rattle.gl_table.proofs.Words.{range-from_each, unused-nobody}
+use Rattle.gl_table.proofs.queues.Walks.{same}
+use Rattle.gl_table.proofs.telling.Lists.{place}
 use Rattle.gl_table.proofs.Words.{[], ◌&&◌, ◌+◌, ◌<◌, ◌||◌, ◌∙◌, ◌∷◌, ◌≡◌, ◌≤◌, add-one, answered, ap, ap₂, AreRowsOf, arith, board_of}
 use Rattle.gl_table.proofs.Words.{Bool, by_list, child_held, cond, count_by, counted_by, drop, drop-cons, effect_on, effective, Entry, entry_at, Err}
 use Rattle.gl_table.proofs.Words.{false, find, first_not_ix, first_of_all, first_refusal, fun_ext, get_or, Graph, graph_of, group_of, group_of-limit, held_by}
@@ -6,13 +11,16 @@ use Rattle.gl_table.proofs.Words.{held_child, held_children, held_of, holds, if�
 use Rattle.gl_table.proofs.Words.{IsDistinct, IsSound, IX, keys, keys_of, length, length-map, List, list_all, list_any, ListsAgree}
 use Rattle.gl_table.proofs.Words.{LockList, LockRow, lookup, lookup_from_place, map, members, members_at, Mode, mode_in, mode_of, NL, no, no_parents}
 use Rattle.gl_table.proofs.Words.{node_equivalence, NodeId, nodes, None, none_some, not, not_held, Ok, Option, option_map, option_map_or, queue_of}
-use Rattle.gl_table.proofs.Words.{refl, Refusal, Refuses, RefusesOnly, Result, row_of, rows_of, rule_refusal, same_mode, same_node, Seat, shown, slice_get}
-use Rattle.gl_table.proofs.Words.{slice_get-get_or, slice_get-map, slot_limit, Some, split, StandOnce, State, state_of, subst, suc, sum_by-cons, sym, TableView}
+use Rattle.gl_table.proofs.Words.{refl, Refusal, Refuses, RefusesOnly, Result, row_of, rows_of, rule_refusal, same_mode, same_node, shown, slice_get}
+use Rattle.gl_table.proofs.Words.{slice_get-get_or, slice_get-map, slot_limit, Some, split, StandOnce, State, state_of, subst, suc, sum_by-cons, sym}
+use Rattle.gl_table.proofs.Words.{TableView}
 use Rattle.gl_table.proofs.Words.{true, txns_of, verdict, view_of, where_true, zero, ℕ}
 use Rattle.gl_table.specs.declared.table.Table.TheInside.{Inside}
+use denote.Bor.{Bor}
 use Rattle.std.specs.List.{All}
 use Rattle.gl_modes.specs.declared.refusal.Refusal.TheVariants as no
 use Rattle.gl_table.proofs.law.Keeps.{lawful-within}
+use Rattle.gl_table.proofs.law.Records.{free-idle, idle-free}
 
 -- What the lists say of held children, as the tests of an unlock.
 
@@ -111,6 +119,28 @@ past_end (l ∷ ls) (suc t) h = past_end ls t (omega arith)
 
 -- What is asked of a table: what its lists and headers say is what its state says.
 
+-- a node without header is idle, and no other is
+pub idle-seen : (i : Inside) → IsSound i → AreHeaders i.locks.headers.entries → (n : NodeId) (o : Option (Bor HeaderState)) (b : Bool)
+    → option_copied o ≡ header_at i.locks.headers.entries n → is_some o ≡ not b → b ≡ is_idle (state_of (view_of i)) n
+idle-seen i sound headers n None b is none =
+    not_false b (sym none)
+    ∙ sym (free-idle (state_of (view_of i)) n (λ u. ap (λ o. members_of (header_or_new o) u) (sym is) ∙ ap (λ (g : Members). g u) unused-nobody)
+    (ap (λ o. (header_or_new o).queue) (sym is)))
+idle-seen i sound headers n (Some h) b is some = off b some ∙ sym (not_true (is_idle (state_of (view_of i)) n) busy)
+  where
+    off : (b : Bool) → true ≡ not b → b ≡ false
+    off true e = e
+    off false e = refl
+
+    busy : is_idle (state_of (view_of i)) n ≡ true → ⊥
+    busy idle =
+        let free = idle-free (state_of (view_of i)) sound.lawful n idle in
+        clash
+        (both _ _ (range-from_each (λ t. not (holds (members_of h.now) t)) 0 slot_limit
+        (λ u low high. ap (λ m. not (not (same_mode m NL))) (ap (λ o. members_of (header_or_new o) u) is ∙ free.0 u)))
+        (ap is_empty (ap (λ o. (header_or_new o).queue) is ∙ free.1)))
+        (headers.used n h.now (sym is))
+
 -- where no test refuses, a call answers the value
 pub answers : {A : Type 0} (o : Option Refusal) (x y : A) → o ≡ None → x ≡ y → Ok x ≡ answered o y
 answers o x y none same = ap Ok same ∙ ap (λ p. answered p y) (sym none)
@@ -162,11 +192,10 @@ module _ (i : Inside) (sound : IsSound i) (v : TableView) (view : view_of i ≡ 
   children-seen t n = ap₂ (λ m k. if holds (λ u. m) t then Some k else None) (modes-seen t n) (counts-seen t n)
 
   -- a board is made of who lives, holds and waits alone
-  pub board-seen : (seats : List (Option Seat)) (epoch : ℕ) → seats ≡ i.locks.seats.items
-      → board_of (shown i.locks.headers.entries seats epoch) ≡ board_of (record (state_of v) { accepted = epoch })
-  board-seen seats epoch is = λ z.
+  pub board-seen : (epoch : ℕ) → board_of (shown i.locks.headers.entries i.locks.seats.items epoch) ≡ board_of (record (state_of v) { accepted = epoch })
+  board-seen epoch = λ z.
       board_of (record (state_of v) {
-        txns = (ap txns_of is ∙ ap (λ w. txns_of w.seats) view) z;
+        txns = txns_of (view z).seats;
         held = held_of (view z).headers;
         queue = queue_of (view z).headers;
         accepted = epoch;

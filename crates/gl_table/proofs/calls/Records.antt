@@ -1,4 +1,6 @@
 -- Records come and go, and children are shed: what it makes of a table. For those calls.
+use Rattle.gl_table.proofs.Words.{IsAdopted, children_that, is_idle, keys}
+use Rattle.gl_table.proofs.queues.Walks.{same}
 use Rattle.gl_table.proofs.Words.{[], ◌&&◌, ◌+◌, ◌-◌, ◌==◌, ◌||◌, ◌∙◌, ◌∷◌, ◌≡◌, ◌≤◌, Active, addressed, age_in, age_of, Agrees, and_both, ap, are_compatible}
 use Rattle.gl_table.proofs.Words.{AreExact, AreSound, arith, Bool, clash, cond, count_by, count_cons, counted_by, CountsHeld, covered_children}
 use Rattle.gl_table.proofs.Words.{deleted, false, first_not_ix, freed, FreesTold, granted_at, Graph, graph_of, HasNoCycle, held_by, held_children, holds}
@@ -13,11 +15,13 @@ use Rattle.gl_table.specs.declared.locks.Locks.{Locks}
 use Rattle.gl_table.specs.declared.table.Table.TheInside.{Inside}
 use Rattle.gl_table.specs.declared.answers.Notice.TheVariants as notice
 use Rattle.gl_table.proofs.calls.Calls.{lawful_orderly, table_way}
-use Rattle.gl_table.proofs.calls.Law.{called-sound}
+use Rattle.gl_table.proofs.calls.Law.{called-sound, held-lives, Suits, suited-sound}
 use Rattle.gl_table.proofs.inside.Asks.{state-same}
 use Rattle.gl_table.proofs.inside.Slots.{keeps-agrees, keeps-counts}
 use Rattle.gl_table.proofs.law.Lock.{granted-no_cycle, shed-no_cycle}
-use Rattle.gl_table.proofs.law.Records.{born-live, born-unawaited, born-unheld, deleted-no_cycle, deleted_lawful, placed-lawful, record-grows}
+use Rattle.gl_table.proofs.inside.Vacated.{children-left}
+use Rattle.gl_table.proofs.law.Records.{adopted-children, adopted-lawful, born-live, born-unawaited, born-unheld, deleted-no_cycle, deleted_lawful}
+use Rattle.gl_table.proofs.law.Records.{forgotten-lawful, placed-lawful, record-grows, unheld-there}
 use Rattle.gl_table.proofs.law.Tests.{shed-lawful}
 use Rattle.gl_listed.proofs.Children.{one_found}
 use Rattle.gl_table.proofs.queues.Edits.{freed_other}
@@ -184,6 +188,28 @@ module _ (i : Inside) (sound : IsSound i) (f : NodeId) (keys : List ℕ) (free :
         exact = exact;
         no_cycle = λ at. subst HasNoCycle (sym state_placed) (granted-no_cycle (with_graph before (graph_of v)) t n X active (sound.no_cycle at));
       }
+
+-- A record that nobody holds comes or goes: what holds of a table's fields still does.
+
+module _ (i : Inside) (sound : IsSound i) (v : View) where
+  abbrev standing : State
+  standing = state_of (view_of i)
+
+  pub adopted-suits : (n f : NodeId) (keys : List ℕ) → record_refusal (graph_of i.graph) f keys ≡ None
+      → IsAdopted (graph_of i.graph) (graph_of v) n f keys → Suits i sound v
+  adopted-suits n f keys free born = record {
+    lawful = adopted-lawful standing sound.lawful (graph_of v) n f keys free born;
+    counts = λ u p. adopted-children standing sound.lawful (graph_of v) n f keys free born (λ c. holds (members standing c) u) (held-lives i sound v u) p;
+  }
+
+  pub forgotten-sound : (r : NodeId) → is_record_shape (shape_of (graph_of i.graph) r) ≡ true → is_idle standing r ≡ true
+      → graph_of v ≡ without_node (graph_of i.graph) r → IsSound (record i { graph = v })
+  forgotten-sound r rec idle is = suited-sound i sound v (record {
+    lawful = subst (λ g. IsLawful (with_graph standing g)) (sym is) (forgotten-lawful standing sound.lawful r rec idle);
+    counts = λ u p. let held : NodeId → Bool = λ c. holds (members standing c) u in
+        ap (λ g. children_that g held p) is
+        ∙ children-left (graph_of i.graph) sound.lawful.graph r rec held (unheld-there standing sound.lawful r rec idle u) p;
+  })
 
 -- A table that sheds covered children.
 

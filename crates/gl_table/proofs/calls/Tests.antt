@@ -29,7 +29,7 @@ live_kind (Some x) = kinded x.shape
   where
     kinded : (h : Shape) → true ≡ is_some (kind_in (Some h))
     kinded Inner = refl
-    kinded File = refl
+    kinded (File adopted) = refl
     kinded (Index file bounds) = refl
     kinded (Interval place) = refl
     kinded (Rec keys) = refl

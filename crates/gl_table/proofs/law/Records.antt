@@ -1,52 +1,54 @@
 -- Nodes that are born, records that are placed and deleted: the law is kept. For the calls on records.
+use Rattle.gl_table.proofs.Words.{empty-list, fun_ext, is_empty, is_idle, IsAdopted, marked, marked_lawful, marked_live, marked_nodes, marked_parents}
+use Rattle.gl_table.proofs.Words.{marked_record, nobody_holds-all, range-from_each, record_refusal, record_unrefused, same_node-equal, without_node}
 use Rattle.gl_table.proofs.Words.{[], ◌&&◌, ◌+◌, ◌<◌, ◌||◌, ◌∙◌, ◌∷◌, ◌≡◌, ◌≤◌, Active, and_both, ap, ap₂, are_compatible, arith, Bool, born_nodes, both}
 use Rattle.gl_table.proofs.Words.{children_that, clash, cond, count_by, count_none, count_same, deleted, false, File, file_lawful, file_refusal, filter}
 use Rattle.gl_table.proofs.Words.{first_not_ix, fits-from_all, front, Graph, HasNoCycle, holds, if◌then◌else◌, Index, index_lawful, index_refusal}
 use Rattle.gl_table.proofs.Words.{index_unrefused, indexes_of, Inner, inner_lawful, inner_refusal, intends, intends_over, interval_nodes, is_ahead}
 use Rattle.gl_table.proofs.Words.{is_among_waiters, is_at_least, is_child, is_file_shape, is_live, is_plain, is_record_shape, is_some, is_waiter, IsBorn}
 use Rattle.gl_table.proofs.Words.{IsIndexBorn, IsLawful, IsLawfulGraph, length, less-no_cycle, List, list_all, list_any, members, Mode, ModeFitsKind, new_id}
-use Rattle.gl_table.proofs.Words.{new_ids, new_node, NL, no, Node, node_at, node_count, node_is, NodeId, nodes, nodes_grown, nodes_live, None, none_above, not}
+use Rattle.gl_table.proofs.Words.{new_ids, new_node, NL, no, Node, node_at, node_count, node_is, NodeId, nodes, nodes_grown, nodes_live, None, none_above}
+use Rattle.gl_table.proofs.Words.{not}
 use Rattle.gl_table.proofs.Words.{not_true, number_same, old_below, old_same, or_left, parent_plain, parents_in, parents_of, parents_unrefused, Rec}
 use Rattle.gl_table.proofs.Words.{rec_not_plain, record_lawful, record_parents, refl, removed_lawful, same_mode, same_node, same_node-differ, same_node-other}
 use Rattle.gl_table.proofs.Words.{shape_in, shape_of, Some, split, State, status_of, stays_there, subst, sum_by-append, sym, true, Waiter, Waiting, waits_for}
 use Rattle.gl_table.proofs.Words.{with_grant, with_graph, with_key, X, ℕ}
 use Rattle.gl_table.proofs.law.Edges.{is_step, step_is}
-use Rattle.gl_table.proofs.law.Keeps.{rule_same, with_grant-lawful}
+use Rattle.gl_table.proofs.law.Keeps.{lawful-within, rule_same, with_grant-lawful}
 use Rattle.gl_listed.proofs.Children.{nl_is}
 use Rattle.gl_table.proofs.law.Tests.{all_ix}
 use Rattle.gl_table.proofs.queues.Edits.{age_freed, some_freed, still_waits, waits_still}
 use Rattle.gl_table.proofs.queues.Waiters.{among_by_filter}
 
--- Nodes are born: nobody holds them, no old node changes, and the law of a state is kept.
+-- Nodes come and go of which there are no locks: the law of a state is kept.
 
-module _ (s : State) (law : IsLawful s) (ns : List Node) (lawful : IsLawfulGraph (born_nodes s.graph ns)) where
-  abbrev grown : Graph
-  grown = born_nodes s.graph ns
+-- the node stands in another graph too, with its kind and its parents
+pub record StandsIn (g g' : Graph) (n : NodeId) : Type 0 where
+  pub live : is_live g' n ≡ true
+  pub record_is : is_record_shape (shape_of g' n) ≡ is_record_shape (shape_of g n)
+  pub parents : parents_of g' n ≡ parents_of g n
 
-  same : (n : NodeId) → is_live s.graph n ≡ true → node_at grown n ≡ node_at s.graph n
-  same n live = old_same s.graph law.graph ns n live
+module _ (s : State) (law : IsLawful s) (g' : Graph) (lawful : IsLawfulGraph g')
+    (held : (t : ℕ) (n : NodeId) → holds (members s n) t ≡ true → StandsIn s.graph g' n)
+    (awaited : (t : ℕ) (n : NodeId) → is_among_waiters t (s.queue n) ≡ true → StandsIn s.graph g' n) where
+  kind_later : (n : NodeId) (m : Mode) → StandsIn s.graph g' n → ModeFitsKind s n m → ModeFitsKind (with_graph s g') n m
+  kind_later n m there k rec = k (sym there.record_is ∙ rec)
 
-  live_later : (n : NodeId) → is_live s.graph n ≡ true → is_live grown n ≡ true
-  live_later n h = ap is_some (same n h) ∙ h
+  rule_later : (t : ℕ) (n : NodeId) (m : Mode) → StandsIn s.graph g' n → intends s t n m ≡ true → intends (with_graph s g') t n m ≡ true
+  rule_later t n m there k = ap (λ ps. intends_over (s.held t) ps m) there.parents ∙ k
 
-  kind_later : (n : NodeId) (m : Mode) → is_live s.graph n ≡ true → ModeFitsKind s n m → ModeFitsKind (with_graph s grown) n m
-  kind_later n m h k rec = k (sym (ap (λ o. is_record_shape (shape_in o)) (same n h)) ∙ rec)
-
-  rule_later : (t : ℕ) (n : NodeId) (m : Mode) → is_live s.graph n ≡ true → intends s t n m ≡ true → intends (with_graph s grown) t n m ≡ true
-  rule_later t n m h k = ap (λ o. intends_over (s.held t) (parents_in o) m) (same n h) ∙ k
-
-  -- who holds or waits does so on an old node, with the kind and the parents that it had
-  pub born-lawful : IsLawful (with_graph s grown)
-  born-lawful = record {
+  -- who holds or waits does so on a node that stands
+  pub regraphed-lawful : IsLawful (with_graph s g')
+  regraphed-lawful = record {
     graph = lawful;
-    grants_live = λ t n h. let old = law.grants_live t n h in (old.0, live_later n old.1, kind_later n (s.held t n) old.1 old.2);
-    waits_live = λ t n h. live_later n (law.waits_live t n h);
+    grants_live = λ t n h. let old = law.grants_live t n h in (old.0, (held t n h).live, kind_later n (s.held t n) (held t n h) old.2);
+    waits_live = λ t n h. (awaited t n h).live;
     compatible = law.compatible;
-    grants_intend = λ t n h. rule_later t n (s.held t n) (law.grants_live t n h).1 (law.grants_intend t n h);
+    grants_intend = λ t n h. rule_later t n (s.held t n) (held t n h) (law.grants_intend t n h);
     waits_intend = λ t n m st.
-        let live = law.waits_live t n (among_by_filter t (t, m) [] (s.queue n) (law.one_wait t n m st)) in
+        let there = awaited t n (among_by_filter t (t, m) [] (s.queue n) (law.one_wait t n m st)) in
         let old = law.waits_intend t n m st in
-        (rule_later t n m live old.0, old.1, old.2, kind_later n m live old.3);
+        (rule_later t n m there old.0, old.1, old.2, kind_later n m there old.3);
     one_wait = law.one_wait;
     waits_are = law.waits_are;
     holders_first = law.holders_first;
@@ -55,6 +57,18 @@ module _ (s : State) (law : IsLawful s) (ns : List Node) (lawful : IsLawfulGraph
     ages = law.ages;
     ages_differ = law.ages_differ;
   }
+
+-- Nodes are born: nobody holds them, no old node changes, and the law of a state is kept.
+
+module _ (s : State) (law : IsLawful s) (ns : List Node) (lawful : IsLawfulGraph (born_nodes s.graph ns)) where
+  old_stands : (n : NodeId) → is_live s.graph n ≡ true → StandsIn s.graph (born_nodes s.graph ns) n
+  old_stands n live =
+      let same = old_same s.graph law.graph ns n live in
+      record { live = ap is_some same ∙ live; record_is = ap (λ o. is_record_shape (shape_in o)) same; parents = ap parents_in same }
+
+  pub born-lawful : IsLawful (with_graph s (born_nodes s.graph ns))
+  born-lawful =
+      regraphed-lawful s law (born_nodes s.graph ns) lawful (λ t n h. old_stands n (law.grants_live t n h).1) (λ t n h. old_stands n (law.waits_live t n h))
 
 module _ (g : Graph) (law : IsLawfulGraph g) (ns : List Node) where
   -- no birth above the last one names a node
@@ -102,11 +116,11 @@ module _ (g g' : Graph) (law : IsLawfulGraph g) (ps : List NodeId) (n : NodeId) 
         after = born.after;
       }
 
-  pub file-grows : file_refusal g ps ≡ None → IsBorn g g' n File ps → Grows g g'
+  pub file-grows : file_refusal g ps ≡ None → IsBorn g g' n (File false) ps → Grows g g'
   file-grows free born =
       let room = parents_unrefused g 1 ps free in
       record {
-        ns = record { key = n.key; shape = File; parents = ps } ∷ [];
+        ns = record { key = n.key; shape = File false; parents = ps } ∷ [];
         lawful = file_lawful g law n.key ps room.inner born.key_free room.room;
         after = born.after;
       }
@@ -128,7 +142,7 @@ pub nobody_holds : (s : State) (law : IsLawful s) (u : ℕ) (n : NodeId) → (is
 nobody_holds s law u n gone = split (holds (members s n) u) (λ h. absurd (gone (law.grants_live u n h).1)) (λ h. nl_is (s.held u n) h)
 
 -- and nobody waits for one
-no_queue : (ws : List Waiter) → ((u : ℕ) → is_among_waiters u ws ≡ true → ⊥) → ws ≡ []
+pub no_queue : (ws : List Waiter) → ((u : ℕ) → is_among_waiters u ws ≡ true → ⊥) → ws ≡ []
 no_queue [] none = refl
 no_queue (w ∷ ws) none = absurd (none w.0 (or_left _ _ (number_same w.0 w.0 refl)))
 
@@ -165,6 +179,80 @@ module _ (s : State) (law : IsLawful s) (f : NodeId) (keys : List ℕ) (file : i
       (ap (λ o. intends_over (s.held t) (parents_in o) X) there ∙ all_ix (s.held t) (record_parents s.graph f keys) rule)
       (ap (is_at_least X) (born-unheld t))
       (fits-from_all s.most (members s n) t X (λ u other. ap (are_compatible X) (born-unheld u)))
+
+-- A record is adopted: nobody holds it, and its file is one of which rows were adopted.
+
+marked_stands : (g : Graph) (f n : NodeId) → is_live g n ≡ true → StandsIn g (marked g f) n
+marked_stands g f n live = record { live = marked_live g f n ∙ live; record_is = marked_record g f n; parents = marked_parents g f n }
+
+marked-lawful : (s : State) → IsLawful s → (f : NodeId) → IsLawful (with_graph s (marked s.graph f))
+marked-lawful s law f =
+    regraphed-lawful s law (marked s.graph f) (marked_lawful s.graph f law.graph) (λ t n h. marked_stands s.graph f n (law.grants_live t n h).1)
+    (λ t n h. marked_stands s.graph f n (law.waits_live t n h))
+
+marked-children : (g : Graph) (f : NodeId) (h : NodeId → Bool) (p : NodeId) → children_that (marked g f) h p ≡ children_that g h p
+marked-children g f h p =
+    ap (count_by (λ c. is_child (marked g f) p c && h c)) (marked_nodes g f)
+    ∙ ap (λ k. count_by k (nodes g)) (fun_ext (λ c. ap (λ ps. list_any (same_node p) ps && h c) (marked_parents g f c)))
+
+module _ (s : State) (law : IsLawful s) (g' : Graph) (n f : NodeId) (keys : List ℕ) (free : record_refusal s.graph f keys ≡ None)
+    (born : IsAdopted s.graph g' n f keys) where
+  -- before the file is marked
+  abbrev mid : Graph
+  mid = born_nodes s.graph (record { key = n.key; shape = Rec keys; parents = record_parents s.graph f keys } ∷ [])
+
+  abbrev grows : Grows s.graph mid
+  grows =
+      let room = record_unrefused s.graph f keys free in
+      record {
+        ns = record { key = n.key; shape = Rec keys; parents = record_parents s.graph f keys } ∷ [];
+        lawful = record_lawful s.graph law.graph n.key f keys room.file room.each born.key_free room.room;
+        after = refl;
+      }
+
+  pub adopted-lawful : IsLawful (with_graph s g')
+  adopted-lawful = subst (λ g. IsLawful (with_graph s g)) (sym born.after) (marked-lawful (with_graph s mid) (grown-lawful s law mid grows) f)
+
+  -- where nobody can hold it, as many children of a node are held as were
+  pub adopted-children : (h : NodeId → Bool) → ((c : NodeId) → h c ≡ true → is_live s.graph c ≡ true) → (p : NodeId)
+      → children_that g' h p ≡ children_that s.graph h p
+  adopted-children h live p = ap (λ g. children_that g h p) born.after ∙ marked-children mid f h p ∙ born-children s.graph law.graph grows.ns h live p
+
+-- A record goes of which there are no locks.
+
+-- nobody holds an idle node, and nobody waits for it
+pub idle-free : (s : State) → IsLawful s → (n : NodeId) → is_idle s n ≡ true → ((u : ℕ) → s.held u n ≡ NL) × (s.queue n ≡ [])
+idle-free s law n idle =
+    let b = and_both _ _ idle in
+    (nobody_holds-all s.most (members s n) (lawful-within s law n) b.0, empty-list (s.queue n) b.1)
+
+-- and the other way round
+pub free-idle : (s : State) (n : NodeId) → ((u : ℕ) → s.held u n ≡ NL) → s.queue n ≡ [] → is_idle s n ≡ true
+free-idle s n unheld unawaited =
+    both _ _ (range-from_each (λ t. not (holds (members s n) t)) 0 s.most (λ u low high. ap (λ m. not (not (same_mode m NL))) (unheld u)))
+    (ap is_empty unawaited)
+
+module _ (s : State) (law : IsLawful s) (r : NodeId) (rec : is_record_shape (shape_of s.graph r) ≡ true) (idle : is_idle s r ≡ true) where
+  left_stands : (n : NodeId) → is_live s.graph n ≡ true → same_node n r ≡ false → StandsIn s.graph (without_node s.graph r) n
+  left_stands n live e =
+      let same = stays_there s.graph law.graph r rec n live (same_node-other n r e) in
+      record { live = ap is_some same ∙ live; record_is = ap (λ o. is_record_shape (shape_in o)) same; parents = ap parents_in same }
+
+  pub unheld-there : (u : ℕ) → holds (members s r) u ≡ false
+  unheld-there u = ap (λ m. not (same_mode m NL)) ((idle-free s law r idle).0 u)
+
+  not_held : (u : ℕ) (n : NodeId) → holds (members s n) u ≡ true → same_node n r ≡ false
+  not_held u n h = not_true (same_node n r) (λ e. clash (ap (λ q. holds (members s q) u) (sym (same_node-equal n r e)) ∙ h) (unheld-there u))
+
+  not_awaited : (u : ℕ) (n : NodeId) → is_among_waiters u (s.queue n) ≡ true → same_node n r ≡ false
+  not_awaited u n h =
+      not_true (same_node n r) (λ e. clash (ap (λ q. is_among_waiters u (s.queue q)) (sym (same_node-equal n r e)) ∙ h)
+      (ap (is_among_waiters u) (idle-free s law r idle).1))
+
+  pub forgotten-lawful : IsLawful (with_graph s (without_node s.graph r))
+  forgotten-lawful =
+      regraphed-lawful s law (without_node s.graph r) (removed_lawful s.graph law.graph r rec)
+      (λ t n h. left_stands n (law.grants_live t n h).1 (not_held t n h)) (λ t n h. left_stands n (law.waits_live t n h) (not_awaited t n h))
 
 -- A record goes with its grants and waits: the law of a state is kept, and no step of a wait is added.
 

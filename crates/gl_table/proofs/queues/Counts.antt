@@ -48,7 +48,7 @@ module _ (g : Graph) (law : IsLawfulGraph g) where
 
   distinct_of : (sh : Shape) (ps : List NodeId) (n : NodeId) → HasShape g n sh ps → are_distinct ps ≡ true
   distinct_of Inner ps n h = h.distinct
-  distinct_of File ps n h = h.distinct
+  distinct_of (File adopted) ps n h = h.distinct
   distinct_of (Index f bs) ps n h = h.0.distinct
   distinct_of (Interval place) ps n h = ap are_distinct h.1
   distinct_of (Rec keys) ps n h =
@@ -59,7 +59,7 @@ module _ (g : Graph) (law : IsLawfulGraph g) where
 
   few_of : (sh : Shape) (ps : List NodeId) (n : NodeId) → HasShape g n sh ps → length ps ≤ 8
   few_of Inner ps n h = h.few
-  few_of File ps n h = h.few
+  few_of (File adopted) ps n h = h.few
   few_of (Index f bs) ps n h = h.0.few
   few_of (Interval place) ps n h = let one = ap length h.1 in omega arith
   few_of (Rec keys) ps n h =

@@ -2,14 +2,15 @@
 use Rattle.std.specs.Prelude.{◌≡◌, ◌≤◌, ℕ, length}
 use Rattle.gl_slots.specs.Slots.{has_slot}
 use Rattle.gl_table.specs.declared.seats.Seats.TheInside.{Inside}
-use Rattle.gl_table.specs.inside.Seats.{SeatList, is_free_at, waits_at}
+use Rattle.gl_table.specs.inside.Seats.{SeatList, is_free_at, lives_at, waits_at}
 
 -- what a contract sees of the fields
 abbrev pub seats_of : Inside → SeatList
 seats_of s = record { items = s.list.items }
 
--- the sets are those of the seats in which nobody sits, and of those who wait
+-- the sets are those of the seats in which nobody sits, of those in which somebody lives, and of those who wait
 pub record IsSeating (s : Inside) : Type 0 where
   pub few : length s.list.items ≤ 128
   pub free : (u : ℕ) → has_slot s.free u ≡ is_free_at s.list.items u
+  pub living : (u : ℕ) → has_slot s.living u ≡ lives_at s.list.items u
   pub waiting : (u : ℕ) → has_slot s.waiting u ≡ waits_at s.list.items u

@@ -1,5 +1,5 @@
 -- The seats that the code keeps, as transactions by slot.
-use Rattle.std.specs.Prelude.{ℕ, Bool, true, false, List, Option, Some, None, slice_get}
+use Rattle.std.specs.Prelude.{ℕ, Bool, true, false, List, Option, Some, None, is_some, slice_get}
 use Rattle.std.specs.Option.{option_map_or}
 use Rattle.gl_table.specs.declared.seat.Seat.{Seat}
 use Rattle.gl_table.specs.model.State.{Txn, is_wait, status_in}
@@ -17,6 +17,10 @@ txns_of seats t = txn_in (slice_get seats t)
 -- the seats by slot, as a contract sees them
 pub record SeatList : Type 0 where
   pub items : List (Option Seat)
+
+-- a transaction lives in the slot
+abbrev pub lives_at : List (Option Seat) → ℕ → Bool
+lives_at seats t = is_some (txns_of seats t)
 
 -- the transaction in the slot waits
 abbrev pub waits_at : List (Option Seat) → ℕ → Bool

@@ -12,7 +12,8 @@ use Rattle.gl_graph.specs.Graph.{is_child, nodes, parents_of, Graph, is_live, sh
 use Rattle.gl_graph.specs.Changes.{without_node}
 use Rattle.gl_graph.specs.Refusals.{max_count, some_no_node, where_true}
 use Rattle.gl_graph.specs.Shapes.{is_record_shape}
-use Rattle.gl_header.specs.Header.{holds, Waiter, enters, is_among_waiters, placed, without_waiter, fits}
+use Rattle.gl_header.specs.Header.{holds, Waiter, enters, is_among_waiters, is_empty, placed, without_waiter, fits}
+use Rattle.gl_header.specs.State.{nobody_holds}
 use Rattle.gl_header.specs.declared.header.Asked.{Asked}
 use Rattle.gl_waits.specs.declared.victims.Victims.{Victims}
 use Rattle.gl_table.specs.model.State.{State, members, intends_over, is_write, is_waiting_at, pumped, without_wait, Txn, with_grant, with_queue, with_status}
@@ -110,6 +111,10 @@ none_but Condemned n = Condemned
 abbrev pub freed : NodeId → Option Txn → Option Txn
 freed n None = None
 freed n (Some x) = Some (record { age = x.age; status = none_but x.status n })
+
+-- nobody holds the node, and nobody waits for it
+abbrev pub is_idle : State → NodeId → Bool
+is_idle s n = nobody_holds s.most (members s n) && is_empty (s.queue n)
 
 -- the node is gone with its grants and waits, and who waited there is active again
 abbrev pub deleted : State → NodeId → State
@@ -289,6 +294,10 @@ living_tests s t = no_txn s t ∷ []
 -- what a transaction holds on a node, by itself or by effect
 abbrev pub held_tests : State → TxnId → NodeId → List (Option Refusal)
 held_tests s t n = no_txn s t ∷ no_node s n ∷ []
+
+-- forget takes a record that nobody holds or waits for
+abbrev pub forget_tests : State → NodeId → List (Option Refusal)
+forget_tests s r = no_node s r ∷ where_true (not (is_record_shape (shape_of s.graph r))) no.BadParents ∷ where_true (not (is_idle s r)) no.RecordInUse ∷ []
 
 -- the group mode of a node
 abbrev pub group_tests : State → NodeId → List (Option Refusal)

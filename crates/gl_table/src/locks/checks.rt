@@ -35,7 +35,7 @@ impl Locks {
 
     /// The tests of an ask, whether it waits or not. Answers the mode in which the node is held, and
     /// its parents, so that whoever then asks looks up neither.
-    #[inline]
+    #[inline(always)]
     pub(crate) fn check_ask<'a>(
         &self,
         graph: &'a Graph,

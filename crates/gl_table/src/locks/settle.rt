@@ -85,12 +85,11 @@ impl Locks {
         ensures some { IfSome result (λ v. (g : AGraph) → IsOrderly (state_on g self.now) → IsVictim victims (state_on g self.now) slot v) }
         ensures waits { IfSome result (λ v. (g : AGraph) → IsOrderly (state_on g self.now) → is_wait (status_of (state_on g self.now) v) ≡ true) }
     {
-        let seats = self.seats.as_slice();
         let waits = Waits {
             headers: &self.headers,
-            seats,
+            seats: self.seats.as_slice(),
         };
-        let victim = victim_for(&waits, &ages(seats), slot as usize, victims)?;
+        let victim = victim_for(&waits, &ages(&self.seats), slot as usize, victims)?;
         Some(victim as u8)
     }
 

@@ -1,7 +1,7 @@
 //! Locks are asked for.
 
 ghost use Rattle.std.specs.Prelude.{◌≡◌, [], IfOk, IsOk, None, OnErr, OnOk, true};
-ghost use Rattle.gl_graph.specs.Refusals.{Refuses, first_refusal};
+ghost use Rattle.gl_graph.specs.Refusals.{Refuses, first_refusal, verdict};
 ghost use Rattle.gl_header.specs.Header.{holds};
 ghost use Rattle.gl_table.specs.model.Calls.{locked_as, Locks, enters_at, granted, wanted, lock_tests, try_tests};
 ghost use Rattle.gl_table.specs.model.Deadlocks.{LocksKeeping};
@@ -16,6 +16,16 @@ use gl_header::Asked;
 use gl_modes::{Mode, NodeId, Refusal};
 
 impl Table {
+    /// Whether `lock` would be refused, want of memory aside, and with what. Nothing is asked. It takes
+    /// no memory.
+    #[inline]
+    pub fn check_lock(&self, t: TxnId, n: NodeId, mode: Mode) -> Result<(), Refusal>
+        ensures { result ≡ verdict (first_refusal (lock_tests (state_of self.now) t n mode)) }
+    {
+        self.locks.check_ask(&self.graph, t, n, mode)?;
+        Ok(())
+    }
+
     /// As `lock`, with the notices put into an empty list.
     pub fn lock_telling(
         &mut self,

@@ -1,6 +1,6 @@
 //! New nodes of the graph.
 
-ghost use Rattle.std.specs.Prelude.{◌≡◌, IfOk, OnErr, OnOk};
+ghost use Rattle.std.specs.Prelude.{◌≡◌, IfOk, OnErr, OnOk, false};
 ghost use Rattle.gl_graph.specs.Changes.{IsBorn, IsIndexBorn};
 ghost use Rattle.gl_graph.specs.Refusals.{Refuses, file_refusal, index_refusal, inner_refusal};
 ghost use Rattle.gl_graph.specs.Shapes.{File, Inner};
@@ -32,7 +32,7 @@ impl Table {
     /// Refused, in this order, with `WornOut`, `NoSuchNode`, `BadParents`, `TooManyNodes` and
     /// `NoMemory`.
     pub fn add_file(&mut self, parents: &[NodeId]) -> Result<NodeId, Refusal>
-        ensures made { IfOk result (λ n. IsBorn (state_of self.old).graph (state_of self.new).graph n File parents.now) }
+        ensures made { IfOk result (λ n. IsBorn (state_of self.old).graph (state_of self.new).graph n (File false) parents.now) }
         ensures state { OnOk result (state_of self.new ≡ with_graph (state_of self.old) (state_of self.new).graph) }
         ensures deadlock { self.new.deadlock ≡ self.old.deadlock }
         ensures refuses { Refuses (file_refusal (state_of self.old).graph parents.now) result }
@@ -41,9 +41,9 @@ impl Table {
         self.graph.add_file(parents)
     }
 
-    /// Makes an index of a file that has no records, under 1 to 8 different inner nodes, with at
-    /// most 256 strictly rising bounds above 0, in a table made `with_room` as many as its limit of
-    /// nodes, and its intervals: one that begins at key 0, and one at each bound. The index is born
+    /// Makes an index of a file that has no records and of which none was ever adopted, under 1 to 8
+    /// different inner nodes, with at most 256 strictly rising bounds above 0, in a table made
+    /// `with_room` as many as its limit of nodes, and its intervals: one that begins at key 0, and one at each bound. The index is born
     /// first and then, in order, the intervals. Nobody holds any of them, and all locks stay as they
     /// are.
     ///

@@ -5,7 +5,7 @@ ghost use Rattle.std.specs.List.{list_any};
 ghost use Rattle.gl_graph.specs.Graph.{is_child, nodes};
 ghost use Rattle.gl_graph.specs.Refusals.{Refuses, first_refusal};
 ghost use Rattle.gl_header.specs.Header.{group_of, holds};
-ghost use Rattle.gl_table.specs.model.Calls.{answered, held_children, group_tests, held_tests};
+ghost use Rattle.gl_table.specs.model.Calls.{answered, group_tests, held_children, held_tests, is_idle};
 ghost use Rattle.gl_table.specs.model.Table.{board_of, state_of};
 ghost use Rattle.gl_table.specs.model.Lawful.{effective};
 ghost use Rattle.gl_table.specs.model.State.{is_write, lives, members};
@@ -46,6 +46,14 @@ impl Table {
             Some(_) => Some(self.locks.mode(t.slot, n)),
             None => None,
         }
+    }
+
+    /// Whether nobody holds the node, and nobody waits for it.
+    pub fn is_idle(&self, n: NodeId) -> bool
+        ensures { result ≡ is_idle (state_of self.now) n }
+    {
+        self.locks.headers.law();
+        self.locks.headers.get(n).is_none()
     }
 
     /// How many children of a node a transaction holds; `None` where it does not live or does not
@@ -89,6 +97,6 @@ impl Table {
     pub fn board(&self, epoch: u64) -> Board
         ensures { result ≡ board_of (record (state_of self.now) { accepted = epoch }) }
     {
-        board(&self.locks.headers, self.locks.seats.as_slice(), epoch)
+        board(&self.locks.headers, &self.locks.seats, epoch)
     }
 }

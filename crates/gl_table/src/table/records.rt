@@ -1,14 +1,14 @@
 //! Records come and go.
 
-ghost use Rattle.std.specs.Prelude.{◌≡◌, ◌∷◌, [], IfErr, IfOk, None, OnErr, Some, length, true};
+ghost use Rattle.std.specs.Prelude.{◌≡◌, ◌∷◌, [], IfErr, IfOk, None, OnErr, OnOk, Some, length, true};
 ghost use Rattle.gl_modes.specs.declared.mode.Mode.TheVariants.{X};
 ghost use Rattle.gl_modes.specs.declared.refusal.Refusal.{Refusal as ARefusal};
 ghost use Rattle.gl_modes.specs.Modes.{same_mode};
-ghost use Rattle.gl_graph.specs.Changes.{IsBorn};
+ghost use Rattle.gl_graph.specs.Changes.{IsAdopted, IsBorn, without_node};
 ghost use Rattle.gl_graph.specs.Graph.{indexes_of, record_parents, shape_of};
 ghost use Rattle.gl_graph.specs.Refusals.{Refuses, first_refusal, record_refusal, too_many_nodes, worn_births};
 ghost use Rattle.gl_graph.specs.Shapes.{Rec, is_file_shape, is_record_shape};
-ghost use Rattle.gl_table.specs.model.Calls.{deleted, first_not_ix};
+ghost use Rattle.gl_table.specs.model.Calls.{deleted, first_not_ix, is_idle};
 ghost use Rattle.gl_table.specs.model.State.{lives, status_of, with_grant, with_graph};
 ghost use Rattle.gl_table.specs.model.Table.{state_of};
 ghost use Rattle.gl_table.specs.model.Tellings.{told};
@@ -72,6 +72,33 @@ impl Table {
         let rec = self.graph.add_record_under(file, keys, parents)?;
         self.locks.place(&self.graph, t.slot, rec, prepared);
         Ok(rec)
+    }
+
+    /// Makes a record of a file that nobody holds, with a key for each of the file's indexes, in order
+    /// of their making: an engine's row, which is to be locked. From then on no index of the file is
+    /// made any more. All locks stay as they are.
+    ///
+    /// Refused, in this order, with `WornOut`, `NoSuchNode`, `BadParents` (no file), `BadKeys` (not a
+    /// key for each index), `TooManyNodes` and `NoMemory`.
+    pub fn adopt(&mut self, file: NodeId, keys: &[u64]) -> Result<NodeId, Refusal>
+        ensures made { IfOk result (λ n. IsAdopted (state_of self.old).graph (state_of self.new).graph n file keys.now) }
+        ensures state { OnOk result (state_of self.new ≡ with_graph (state_of self.old) (state_of self.new).graph) }
+        ensures deadlock { self.new.deadlock ≡ self.old.deadlock }
+        ensures refuses { Refuses (record_refusal (state_of self.old).graph file keys.now) result }
+        ensures err { OnErr result (self.new ≡ self.old) }
+    {
+        self.graph.adopt_record(file, keys)
+    }
+
+    /// Takes a record away that nobody holds or waits for. It takes no memory, and all locks stay as
+    /// they are.
+    pub fn forget(&mut self, rec: NodeId)
+        requires record { is_record_shape (shape_of (state_of self.old).graph rec) ≡ true }
+        requires idle { is_idle (state_of self.old) rec ≡ true }
+        ensures state { state_of self.new ≡ with_graph (state_of self.old) (without_node (state_of self.old).graph rec) }
+        ensures deadlock { self.new.deadlock ≡ self.old.deadlock }
+    {
+        self.graph.remove_record(rec);
     }
 
     /// As `remove`, with the notices put into an empty list.

@@ -1,6 +1,7 @@
-use Rattle.std.proofs.Common.{◌+◌, ap, ◌∙◌, arith, ◌++◌, ◌∷◌, [], length, refl}
+use Rattle.std.proofs.Common.{◌+◌, ap, ◌∙◌, arith, ◌∷◌, [], length, refl}
 use Rattle.std.proofs.lemmas.List.{length-append}
 use Rattle.gl_graph.specs.declared.node.Body.TheVariants as body
+use Rattle.gl_graph.specs.declared.parents.Parents.TheVariants as parents
 use Rattle.gl_graph.proofs.Grow.{intervals_born}
 use Rattle.gl_graph.proofs.store.insert_intervals.Goals as goal
 
@@ -9,13 +10,13 @@ loop-place-preserved c =
     let room = c.loop-place.invariant.room in
     let len = c.insert_reserved-key.ensures.len in
     let capacity = c.insert_reserved-key.ensures.capacity in
-    let ids = c.push_reserved-in-loop-place.ensures.capacity in
+    let ids = c.push_reserved.ensures.capacity in
     let was = c.loop-place.invariant.list_room in
     record {
       room = omega arith;
       list_room = omega arith;
-      listed = ap length c.push_reserved-in-loop-place.ensures.items ∙ length-append c.loop-place.ids.items (record { key = c.insert_reserved-key.result; birth = c.args.index.birth + 1 + c.loop-place.place } ∷ []) ∙ ap (λ n. n + 1) c.loop-place.invariant.listed;
-      born = intervals_born c.args.nodes.now c.loop-place.nodes c.insert_reserved-key.new.self c.args.index c.loop-place.place c.loop-place.ids.items c.push_reserved-in-loop-place.new.self.items c.loop-place.invariant.born c.insert_reserved-key.result
-          (record { birth = c.args.index.birth + 1 + c.loop-place.place; parents = c.push_reserved.new.self; body = body.Interval c.loop-place.place })
-          c.insert_reserved-key.ensures.was_vacant c.insert_reserved-key.ensures.updates refl len refl (c.push_reserved.ensures.items ∙ ap (λ xs. xs ++ c.args.index ∷ []) c.new-parents.ensures.items) c.push_reserved-in-loop-place.ensures.items;
+      listed = ap length c.push_reserved.ensures.items ∙ length-append c.loop-place.ids.items (record { key = c.insert_reserved-key.result; birth = c.args.index.birth + 1 + c.loop-place.place } ∷ []) ∙ ap (λ n. n + 1) c.loop-place.invariant.listed;
+      born = intervals_born c.args.nodes.now c.loop-place.nodes c.insert_reserved-key.new.self c.args.index c.loop-place.place c.loop-place.ids.items c.push_reserved.new.self.items c.loop-place.invariant.born c.insert_reserved-key.result
+          (record { birth = c.args.index.birth + 1 + c.loop-place.place; parents = parents.One (c.args.index ∷ []); body = body.Interval c.loop-place.place })
+          c.insert_reserved-key.ensures.was_vacant c.insert_reserved-key.ensures.updates refl len refl refl c.push_reserved.ensures.items;
     }

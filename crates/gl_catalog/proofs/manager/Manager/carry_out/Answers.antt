@@ -419,3 +419,41 @@ returns-in-Effective-clause-counters c =
     asked_counts answer.Effect (state_of c.args.self.now) (state_of c.args.self.now)
     (command.Effective c.in-Effective.txn c.in-Effective.node) c.args.command c.effective.result c.effect_answer.result
     c.args.told.now c.args.self.now.counters (λ x. raised_by_none c.args.self.now.counters) c.requires.empty c.effect_answer.ensures c.in-Effective.is
+
+pub returns-in-Adopt-clause-step : goal.returns-in-Adopt-clause-step
+returns-in-Adopt-clause-step c = quiet answer.Node (state_of c.args.self.now)
+    (state_of c.adopt.new.self) _ c.args.command c.adopt.result c.node_answer-in-Adopt.result c.args.told.now c.adopt.ensures.step
+    c.node_answer-in-Adopt.ensures c.requires.empty c.in-Adopt.is
+
+pub returns-in-Adopt-clause-deadlock : goal.returns-in-Adopt-clause-deadlock
+returns-in-Adopt-clause-deadlock c =
+    keeps_answered answer.Node c.args.self.now c.adopt.new.self _ c.args.command [] c.adopt.result c.adopt.ensures.completes c.adopt.ensures.err
+    c.node_answer-in-Adopt.result (λ x h. h) c.node_answer-in-Adopt.ensures c.in-Adopt.is
+
+pub returns-in-Adopt-clause-same : goal.returns-in-Adopt-clause-same
+returns-in-Adopt-clause-same c = uncounted answer.Node c.args.self.now c.adopt.new.self _ c.args.command [] c.adopt.result c.adopt.ensures.completes
+    c.adopt.ensures.err
+
+pub returns-in-Adopt-clause-counters : goal.returns-in-Adopt-clause-counters
+returns-in-Adopt-clause-counters c =
+    quiet_counts answer.Node c.args.self.now c.adopt.new.self _ c.args.command [] c.adopt.result c.adopt.ensures.completes c.adopt.ensures.err
+    c.node_answer-in-Adopt.result c.args.told.now c.requires.empty c.node_answer-in-Adopt.ensures c.in-Adopt.is
+
+pub returns-in-Forget-clause-step : goal.returns-in-Forget-clause-step
+returns-in-Forget-clause-step c = quiet (λ u. answer.Done) (state_of c.args.self.now)
+    (state_of c.forget.new.self) _ c.args.command c.forget.result c.done_answer-in-Forget.result c.args.told.now c.forget.ensures.step
+    c.done_answer-in-Forget.ensures c.requires.empty c.in-Forget.is
+
+pub returns-in-Forget-clause-deadlock : goal.returns-in-Forget-clause-deadlock
+returns-in-Forget-clause-deadlock c =
+    keeps_answered (λ u. answer.Done) c.args.self.now c.forget.new.self _ c.args.command [] c.forget.result c.forget.ensures.completes c.forget.ensures.err
+    c.done_answer-in-Forget.result (λ x h. h) c.done_answer-in-Forget.ensures c.in-Forget.is
+
+pub returns-in-Forget-clause-same : goal.returns-in-Forget-clause-same
+returns-in-Forget-clause-same c = uncounted (λ u. answer.Done) c.args.self.now c.forget.new.self _ c.args.command [] c.forget.result c.forget.ensures.completes
+    c.forget.ensures.err
+
+pub returns-in-Forget-clause-counters : goal.returns-in-Forget-clause-counters
+returns-in-Forget-clause-counters c =
+    quiet_counts (λ u. answer.Done) c.args.self.now c.forget.new.self _ c.args.command [] c.forget.result c.forget.ensures.completes c.forget.ensures.err
+    c.done_answer-in-Forget.result c.args.told.now c.requires.empty c.done_answer-in-Forget.ensures c.in-Forget.is

@@ -1,12 +1,17 @@
 use Rattle.std.specs.Prelude.{◌≡◌, []}
 use Rattle.gl_catalog.specs.Manager.{state_of}
-use Rattle.gl_catalog.proofs.PathSteps.{ClimbsIn}
+use Rattle.gl_catalog.specs.Paths.{KeepsWay, next_ask, parent_wanted}
+use Rattle.gl_catalog.proofs.PathSteps.{wants}
 use Rattle.gl_catalog.proofs.manager.Manager.lock_first.Given as goal
 
--- so many steps were climbed, and nothing is locked
-abbrev pub invariant-up : goal.invariant-up
-invariant-up l = record {
+-- nothing is locked, and what was kept is
+abbrev pub invariant-first : goal.invariant-first
+invariant-first l = record {
   same : l.self ≡ l.fn.self;
   empty : l.told.items ≡ [];
-  climb : ClimbsIn (state_of l.fn.self) l.t (l.fn.node, l.fn.mode) l._step (l.asked, l.wanted);
+  kept : KeepsWay (state_of l.fn.self) l.t (l.node, l.mode) l.above.items;
 }
+
+-- whether the next ask wants a parent locked first
+abbrev pub decreases-first : goal.decreases-first
+decreases-first l = wants (parent_wanted (state_of l.self) l.t (next_ask (l.node, l.mode) l.above.items))

@@ -5,7 +5,7 @@ use Rattle.gl_catalog.specs.declared.manager.paths.Reached.{Reached}
 use Rattle.gl_catalog.specs.Paths.{LocksPath, missing_parent}
 use Rattle.gl_catalog.proofs.PathSteps.{none_missing}
 use Rattle.gl_catalog.proofs.PathOthers.{path_leaves}
-use Rattle.gl_catalog.proofs.PathRuns.{decided, ends, ends_refused, one_on, told_nobody}
+use Rattle.gl_catalog.proofs.PathRuns.{decided, ends, ends_refused, granted_so, one_on, told_nobody}
 use Rattle.gl_catalog.proofs.manager.Manager.lock_path_telling.Goals as goal
 
 pub returns-in_err-reached-clause-path : goal.returns-in_err-reached-clause-path
@@ -46,6 +46,11 @@ returns-then-not-leads_on-clause-others c =
     let path = returns-then-not-leads_on-clause-path c in
     path_leaves path.0 c.args.t (c.args.node, c.args.mode) path.1 c.args.self.now _ c.lock_first.new.self c.law.ensures.lawful path.2
 
+pub go_down-requires : goal.go_down-requires
+go_down-requires c =
+    let on = sym c.leads_on.ensures ∙ c.if-not-leads_on.false in
+    c.in_ok-reached.ensures.below (granted_so c.args.node c.in_ok-reached.reached.node _ on)
+
 pub path-preserved : goal.path-preserved
 path-preserved c =
     let on = sym c.leads_on.ensures ∙ c.if-not-leads_on.false in
@@ -53,4 +58,5 @@ path-preserved c =
       empty = told_nobody c.args.node c.in_ok-reached.reached.node _ on;
       leads = one_on c.args.t (c.args.node, c.args.mode) c.args.self.now c.path.self c.lock_first.new.self c.lock_first.new.told.items
           c.in_ok-reached.reached c.path.invariant.leads c.in_ok-reached.ensures.asks on;
+      kept = c.go_down.ensures;
     }

@@ -1,3 +1,7 @@
+use Rattle.std.proofs.Common.{◌≡◌, false, sym, ap, subst}
+use Rattle.gl_graph.specs.Shapes.{File}
+use Rattle.gl_graph.specs.Lawful.{IsLawfulGraph}
+use Rattle.gl_graph.specs.Changes.{born_node}
 use Rattle.gl_graph.specs.View.{graph_of}
 use Rattle.gl_graph.proofs.Unrefused.{verdict_ok, parents_unrefused}
 use Rattle.gl_graph.proofs.NewNodes.{file_lawful}
@@ -6,4 +10,6 @@ use Rattle.gl_graph.proofs.graph.Graph.add_file.Goals as goal
 pub insert-requires-clause-lawful : goal.insert-requires-clause-lawful
 insert-requires-clause-lawful c = λ key law free.
     let may = parents_unrefused (graph_of c.args.self.now) 1 c.args.parents.now (verdict_ok _ _ c.in_ok-check_parents.ensures) in
-    file_lawful (graph_of c.args.self.now) law key c.args.parents.now may.inner free may.room
+    let unadopted : c.in-Ok.body.value.adopted ≡ false = ap (λ kept. kept.adopted) c.in-Ok.ensures.ok in
+    subst (λ adopted. IsLawfulGraph (born_node (graph_of c.args.self.now) (record { key = key; shape = File adopted; parents = c.args.parents.now }))) (sym unadopted)
+    (file_lawful (graph_of c.args.self.now) law key c.args.parents.now may.inner free may.room)

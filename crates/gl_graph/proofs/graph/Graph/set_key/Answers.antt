@@ -10,7 +10,7 @@ use Rattle.gl_graph.specs.Changes.{rekeyed}
 use Rattle.gl_graph.specs.View.{View, graph_of}
 use Rattle.gl_graph.specs.Seen.{seen, with_key_at}
 use Rattle.gl_graph.proofs.RecordParents.{its_file}
-use Rattle.gl_graph.proofs.Rekey.{index_among, contained, key_there, parent_there, rekeyed_graph, rekeyed_sound}
+use Rattle.gl_graph.proofs.Rekey.{index_among, contained, key_there, parent_there, place_fits, rekeyed_graph, rekeyed_sound}
 use Rattle.gl_graph.specs.Sound.{limits_of}
 use Rattle.gl_graph.proofs.graph.Graph.set_key.Goals as goal
 
@@ -49,6 +49,13 @@ write_key-requires-clause-parents c =
     let at : position (λ listed. same_node listed c.args.index) (indexes_of (graph_of (seen (limits_of c.self.inside) c.self.inside.nodes c.self.inside.births)) (first_parent (graph_of (seen (limits_of c.self.inside) c.self.inside.nodes c.self.inside.births)) c.args.rec)) ≡ Some c.index_place-place.result
     = ap (λ (v : View). position (λ listed. same_node listed c.args.index) (indexes_of (graph_of v) (first_parent (graph_of v) c.args.rec))) c.self.view_is ∙ ap (λ f. position (λ listed. same_node listed c.args.index) (indexes_of (graph_of c.args.self.now) f)) (sym c.file_of.ensures) ∙ c.index_place-place.ensures in
     parent_there (limits_of c.self.inside) c.self.inside.nodes c.self.inside.nodes c.self.inside.births c.self.invariant c.args.rec c.args.index c.args.key c.index_place-place.result rec at
+
+pub write_key-requires-clause-place : goal.write_key-requires-clause-place
+write_key-requires-clause-place c =
+    let rec = subst (λ (v : View). is_record_shape (shape_of (graph_of v) c.args.rec) ≡ true) (sym c.self.view_is) c.requires.«record» in
+    let at : position (λ listed. same_node listed c.args.index) (indexes_of (graph_of (seen (limits_of c.self.inside) c.self.inside.nodes c.self.inside.births)) (first_parent (graph_of (seen (limits_of c.self.inside) c.self.inside.nodes c.self.inside.births)) c.args.rec)) ≡ Some c.index_place-place.result
+    = ap (λ (v : View). position (λ listed. same_node listed c.args.index) (indexes_of (graph_of v) (first_parent (graph_of v) c.args.rec))) c.self.view_is ∙ ap (λ f. position (λ listed. same_node listed c.args.index) (indexes_of (graph_of c.args.self.now) f)) (sym c.file_of.ensures) ∙ c.index_place-place.ensures in
+    place_fits (limits_of c.self.inside) c.self.inside.nodes c.self.inside.nodes c.self.inside.births c.self.invariant c.args.rec c.args.index c.args.key c.index_place-place.result rec at
 
 pub invariant_of-self : goal.invariant_of-self
 invariant_of-self c =

@@ -23,7 +23,7 @@ invariant_of-self c =
     (subst (λ (v : View). is_movable_shape (shape_of (graph_of v) c.args.n) ≡ true) (sym c.self.view_is) c.requires.node) c.args.parents.now
     (subst (λ (v : View). AreInnerParents (graph_of v) (least_parents (shape_of (graph_of v) c.args.n)) c.args.parents.now) (sym c.self.view_is) c.requires.parents)
     (subst (λ (v : View). first_cycle (graph_of v) c.args.n c.args.parents.now ≡ None) (sym c.self.view_is) c.in_ok-check_cycles.ensures.clear)
-    c.in-Ok.fresh c.in-Ok.ensures.ok c.write_parents.ensures.written c.write_parents.ensures.len
+    c.in-Ok.fresh c.in-Ok.ensures c.write_parents.ensures.written c.write_parents.ensures.len
 
 pub returns-clause-moved : goal.returns-clause-moved
 returns-clause-moved c =
@@ -31,5 +31,5 @@ returns-clause-moved c =
     (subst (λ (v : View). is_movable_shape (shape_of (graph_of v) c.args.n) ≡ true) (sym c.self.view_is) c.requires.node) c.args.parents.now
     (subst (λ (v : View). AreInnerParents (graph_of v) (least_parents (shape_of (graph_of v) c.args.n)) c.args.parents.now) (sym c.self.view_is) c.requires.parents)
     (subst (λ (v : View). first_cycle (graph_of v) c.args.n c.args.parents.now ≡ None) (sym c.self.view_is) c.in_ok-check_cycles.ensures.clear)
-    c.in-Ok.fresh c.in-Ok.ensures.ok c.write_parents.ensures.written c.write_parents.ensures.len
+    c.in-Ok.fresh c.in-Ok.ensures c.write_parents.ensures.written c.write_parents.ensures.len
     ∙ ap (λ (v : View). with_parents (graph_of v) c.args.n c.args.parents.now) c.self.view_is

@@ -1,5 +1,5 @@
-use Rattle.gl_table.proofs.Words.{◌∙◌, age_in, ap, get_or, Graph, IfNone, IsCandidate, IsLowestYoungest, IsOnNoCycle, IsOrderly, IsVictim, List, Option, refl}
-use Rattle.gl_table.proofs.Words.{Seat, shown, state_on, subst, sym, txns_of, waits_for, ℕ}
+use Rattle.gl_table.proofs.Words.{get_or, Graph, IfNone, IsCandidate, IsLowestYoungest, IsOnNoCycle, IsOrderly, IsVictim, List, Option, refl}
+use Rattle.gl_table.proofs.Words.{Seat, shown, state_on, subst, sym, waits_for, ℕ}
 use Rattle.gl_table.proofs.inside.Boards.{victim_by_ages, victim_waits}
 use Rattle.gl_table.proofs.locks.Locks.victim.Goals.{In_ok-victim}
 use Rattle.gl_table.proofs.locks.Locks.victim.Goals as goal
@@ -8,16 +8,16 @@ use Rattle.gl_table.proofs.locks.Locks.victim.Goals as goal
 chosen : (c : In_ok-victim) (g : Graph) → IsVictim c.args.victims (state_on g c.args.self.now) c.args.slot c.in_ok-victim.victim
 chosen c g =
     victim_by_ages c.args.victims (state_on g c.args.self.now) c.args.slot c.in_ok-victim.victim (λ u. get_or c.ages.result u 0)
-    (λ u. c.ages.ensures u ∙ ap (λ (seats : List (Option Seat)). age_in (txns_of seats u)) c.as_slice-seats.ensures)
+    c.ages.ensures
     (subst (λ (seats : List (Option Seat)). IsLowestYoungest
     (IsCandidate c.args.victims (waits_for (shown c.args.self.now.headers.entries seats 0)) c.args.slot) (λ u. get_or c.ages.result u 0) c.in_ok-victim.victim)
-    c.as_slice-seats.ensures c.in_ok-victim.ensures.some)
+    c.as_slice.ensures c.in_ok-victim.ensures.some)
 
 pub returns-in_err-victim-clause-none : goal.returns-in_err-victim-clause-none
 returns-in_err-victim-clause-none c =
     subst (λ (answer : Option ℕ). IfNone answer ((g : Graph) → IsOrderly (state_on g c.args.self.now)
     → IsOnNoCycle (waits_for (state_on g c.args.self.now)) c.args.slot)) (sym c.from_residual.ensures)
-    (λ g o. subst (λ (seats : List (Option Seat)). IsOnNoCycle (waits_for (shown c.args.self.now.headers.entries seats 0)) c.args.slot) c.as_slice-seats.ensures
+    (λ g o. subst (λ (seats : List (Option Seat)). IsOnNoCycle (waits_for (shown c.args.self.now.headers.entries seats 0)) c.args.slot) c.as_slice.ensures
     (c.in_err-victim.ensures.none.0 refl))
 
 pub returns-clause-some : goal.returns-clause-some

@@ -1,5 +1,6 @@
-use Rattle.gl_table.proofs.Words.{◌<◌, ◌&&◌, ◌==◌, ◌∙◌, ◌≡◌, ap, arith, Bool, common_steps, false, gets, if◌then◌else◌, length, nat_tests, None, not, refl, sym, true}
-use Rattle.gl_table.proofs.inside.Seats.{waits-set}
+use Rattle.gl_table.proofs.Words.{◌<◌, ◌&&◌, ◌==◌, ◌∙◌, ◌≡◌, ap, arith, Bool, common_steps, false, gets, if◌then◌else◌}
+use Rattle.gl_table.proofs.Words.{length, nat_tests, None, not, refl, sym, true}
+use Rattle.gl_table.proofs.inside.Seats.{lives-set, waits-set}
 use Rattle.gl_table.proofs.seats.Seats.leave.Goals as goal
 
 -- without one slot
@@ -15,6 +16,8 @@ invariant_of-self c =
     record {
       few = grind (arith, common_steps, gets, nat_tests, c.self.invariant.few);
       free = λ u. grind (arith, common_steps, gets, nat_tests, c.insert.ensures u, c.self.invariant.free u, c.requires);
-      waiting = λ u. c.remove.ensures u ∙ ap (λ b. b && not (u == c.args.slot)) (c.self.invariant.waiting u)
+      living = λ u. c.remove.ensures u ∙ ap (λ b. b && not (u == c.args.slot)) (c.self.invariant.living u)
+          ∙ without (u == c.args.slot) _ ∙ sym (lives-set c.self.inside.list.items c.args.slot None lt u);
+      waiting = λ u. c.remove-2.ensures u ∙ ap (λ b. b && not (u == c.args.slot)) (c.self.invariant.waiting u)
           ∙ without (u == c.args.slot) _ ∙ sym (waits-set c.self.inside.list.items c.args.slot None lt u);
     }

@@ -1,13 +1,19 @@
-use Rattle.gl_table.proofs.Words.{◌<◌, ◌==◌, ◌∙◌, ◌≡◌, ap, ap₂, arith, common_steps, elements, gets, if◌then◌else◌, is_wait, length, nat_tests, restatus, SeatList, Some, sym, txns_of}
-use Rattle.gl_table.proofs.inside.Seats.{txns-set, waits-set}
+use Rattle.gl_table.proofs.Words.{◌<◌, ◌==◌, ◌∙◌, ◌≡◌, ap, ap₂, arith, common_steps, elements, gets, if◌then◌else◌, is_wait, length}
+use Rattle.gl_table.proofs.Words.{nat_tests, restatus, SeatList, Some, sym, true, txns_of}
+use Rattle.gl_table.specs.inside.Seats.{lives_at}
+use Rattle.gl_table.proofs.inside.Seats.{lives-kept, txns-set, waits-set}
 use Rattle.gl_table.proofs.seats.Seats.set_status.Goals as goal
 
 pub invariant_of-self : goal.invariant_of-self
 invariant_of-self c =
     let lt : c.args.slot < length c.self.inside.list.items = grind (arith, common_steps, c.requires, c.self.view_is) in
+    let lives : lives_at c.self.inside.list.items c.args.slot ≡ true =
+    grind (arith, common_steps, nat_tests, gets, elements, c.in-Some.is, c.in-Some.seat-is, c.index_mut-seat.ensures.value, c.requires, c.self.view_is) in
     record {
       few = grind (arith, common_steps, gets, nat_tests, c.self.invariant.few);
       free = λ u. grind (arith, common_steps, gets, nat_tests, c.self.invariant.free u, c.requires, c.in-Some.is);
+      living = λ u. c.self.invariant.living u
+          ∙ sym (lives-kept c.self.inside.list.items c.args.slot (record { age = c.in-Some.seat.age; status = c.args.status }) lt lives u);
       waiting = λ u. c.note.ensures u ∙ ap (λ b. if u == c.args.slot then is_wait (Some c.args.status) else b) (c.self.invariant.waiting u)
           ∙ sym (waits-set c.self.inside.list.items c.args.slot (Some (record { age = c.in-Some.seat.age; status = c.args.status })) lt u);
     }
@@ -25,4 +31,5 @@ pub returns-in-None-clause-age : goal.returns-in-None-clause-age
 returns-in-None-clause-age c = grind (arith, common_steps, nat_tests, gets, elements, c.in-None.is, c.index_mut-seat.ensures.value, c.requires, c.self.view_is)
 
 pub returns-in-None-clause-txns : goal.returns-in-None-clause-txns
-returns-in-None-clause-txns c = λ u. grind (arith, common_steps, nat_tests, gets, elements, c.in-None.is, c.index_mut-seat.ensures.value, c.requires, c.self.view_is)
+returns-in-None-clause-txns c =
+    λ u. grind (arith, common_steps, nat_tests, gets, elements, c.in-None.is, c.index_mut-seat.ensures.value, c.requires, c.self.view_is)

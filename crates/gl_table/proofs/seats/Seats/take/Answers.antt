@@ -1,6 +1,14 @@
-use Rattle.gl_table.proofs.Words.{◌<◌, ◌==◌, ◌∙◌, ap, arith, common_steps, gets, if◌then◌else◌, is_wait, length, nat_tests, Some, sym}
-use Rattle.gl_table.proofs.inside.Seats.{waits-set}
+use Rattle.gl_table.proofs.Words.{◌<◌, ◌==◌, ◌||◌, ◌∙◌, ◌≡◌, ap, arith, Bool, common_steps, false, gets, if◌then◌else◌}
+use Rattle.gl_table.proofs.Words.{is_wait, length, nat_tests, refl, Some, sym, true}
+use Rattle.gl_table.proofs.inside.Seats.{lives-set, waits-set}
 use Rattle.gl_table.proofs.seats.Seats.take.Goals as goal
+
+-- with one slot more
+with_one : (one lives : Bool) → (lives || one) ≡ (if one then true else lives)
+with_one true true = refl
+with_one true false = refl
+with_one false true = refl
+with_one false false = refl
 
 pub invariant_of-self : goal.invariant_of-self
 invariant_of-self c =
@@ -8,6 +16,8 @@ invariant_of-self c =
     record {
       few = grind (arith, common_steps, gets, nat_tests, c.self.invariant.few);
       free = λ u. grind (arith, common_steps, gets, nat_tests, c.remove.ensures u, c.self.invariant.free u, c.requires);
+      living = λ u. c.insert.ensures u ∙ ap (λ b. b || (u == c.args.slot)) (c.self.invariant.living u)
+          ∙ with_one (u == c.args.slot) _ ∙ sym (lives-set c.self.inside.list.items c.args.slot (Some c.args.seat) lt u);
       waiting = λ u. c.note.ensures u ∙ ap (λ b. if u == c.args.slot then is_wait (Some c.args.seat.status) else b) (c.self.invariant.waiting u)
           ∙ sym (waits-set c.self.inside.list.items c.args.slot (Some c.args.seat) lt u);
     }

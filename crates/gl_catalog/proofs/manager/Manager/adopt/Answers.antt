@@ -1,0 +1,30 @@
+use Rattle.std.specs.Prelude.{Ok, Option, [], ◌∷◌}
+use Rattle.std.proofs.Common.{◌+◌, ap, refl, subst, sym, ◌∙◌}
+use Rattle.gl_modes.specs.declared.node.NodeId.{NodeId}
+use Rattle.gl_modes.specs.declared.refusal.Refusal.{Refusal}
+use Rattle.gl_graph.specs.Refusals.{Refuses, record_refusal}
+use Rattle.gl_table.specs.model.Table.{state_of as table_state}
+use Rattle.gl_catalog.specs.declared.command.Command.TheVariants as command
+use Rattle.gl_catalog.specs.Manager.{ManagerView, counting}
+use Rattle.gl_catalog.specs.Replies.{made}
+use Rattle.gl_graph.proofs.FirstOf.{alone}
+use Rattle.gl_catalog.proofs.Managed.{managed_ok}
+use Rattle.gl_catalog.specs.Sound.{view_of}
+use Rattle.gl_catalog.proofs.Completed.{quiet_completed}
+use Rattle.gl_catalog.proofs.Uncounted.{raised_by_none}
+use Rattle.gl_catalog.proofs.manager.Manager.adopt.Goals as goal
+
+pub returns-clause-step : goal.returns-clause-step
+returns-clause-step c =
+    managed_ok made (command.Adopt c.args.file c.args.keys) c.self.inside.table c.self.inside.accepted c.args.self.now c.self.view_is (record_refusal
+    (table_state c.self.inside.table).graph c.args.file c.args.keys.now ∷ []) refl
+    c.in_ok-rec.rec c.adopt.new.self c.in_ok-check_count.ensures (subst (λ (o : Option Refusal). Refuses {T = NodeId} o (Ok c.in_ok-rec.rec)) (sym
+    (alone _)) c.in_ok-rec.ensures.refuses) refl
+    (c.in_ok-rec.rec, c.in_ok-rec.ensures.made, refl, refl, ap (counting c.self.inside.accepted) c.in_ok-rec.ensures.state)
+
+pub returns-clause-completes : goal.returns-clause-completes
+returns-clause-completes c =
+    quiet_completed (view_of c.self.inside) c.args.self.now
+    (record { table = c.adopt.new.self; accepted = c.self.inside.accepted + 1; counters = c.self.inside.counters }) c.self.view_is c.self.invariant
+    (command.Adopt c.args.file c.args.keys) refl (made c.in_ok-rec.rec) (returns-clause-step c) (c.in_ok-rec.ensures.deadlock
+    ∙ ap (λ (v : ManagerView). v.table.deadlock) c.self.view_is) refl raised_by_none
