@@ -30,6 +30,8 @@ emptied_query (command.Settle t) boxes asks = refl
 emptied_query (command.Group n) boxes asks = refl
 emptied_query (command.Held t n) boxes asks = refl
 emptied_query (command.Effective t n) boxes asks = refl
+emptied_query (command.Adopt f keys) boxes asks = refl
+emptied_query (command.Forget r) boxes asks = refl
 
 asks_if : (b : Bool) → not b && not false ≡ false → b ≡ true
 asks_if true e = refl

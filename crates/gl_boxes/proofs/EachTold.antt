@@ -34,6 +34,8 @@ module _ (Holds : Told → Type 0) (s : State) (none : Holds []) (all : (now : S
   accepted (command.Group n) a list s' acc = absurd acc
   accepted (command.Held t n) a list s' acc = absurd acc
   accepted (command.Effective t n) a list s' acc = absurd acc
+  accepted (command.Adopt f keys) a list s' acc = subst Holds (sym acc.3) none
+  accepted (command.Forget r) a list s' acc = subst Holds (sym acc.1) none
 
   module _ (c : Command) (a : Answer) (list : Told) (s' : State) where
     answered : (q : Option Answer) → Answers s c q a list s' → Holds list

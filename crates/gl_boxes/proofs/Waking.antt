@@ -48,6 +48,8 @@ names_its_slot (command.Move u n ps) t h = h
 names_its_slot (command.Group n) t h = h
 names_its_slot (command.Held u n) t h = h
 names_its_slot (command.Effective u n) t h = h
+names_its_slot (command.Adopt f keys) t h = h
+names_its_slot (command.Forget r) t h = h
 
 -- a set of the slots that are told, and of the one that is named, has everybody whose wait was ended
 pub wakes_ended : (c : Command) (told : Told) (slots : ℕ) → ((u : ℕ) → u < 128 → has_slot slots u ≡ (names_slot c u || list_any (λ x. x.0.slot == u) told))

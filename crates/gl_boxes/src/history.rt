@@ -7,7 +7,7 @@ ghost use Rattle.gl_boxes.specs.Boards.{Fine, AllFine, Rising, Ends, last_epoch}
 ghost use Rattle.gl_boxes.specs.Rules.{head_of};
 
 use gl_table::Detect;
-use gl_waits::{Board, SLOTS};
+use gl_waits::Board;
 use logbook::{Gain, Offer, Opening, Plain, Play, Rule, Seen, Start, Word};
 use std::alloc::{AllocError, Global};
 use std::marker::Model;
@@ -91,36 +91,6 @@ impl Model for Line {
     ghost view = { λ l. record { list = l.seen.log; book = l.seen.book; detect = l.detect } };
 
     ghost invariant = { λ l. (l.count + 1 ≡ length l.seen.log) × Ends l.seen.log (arc_value l.board) × Rising 0 l.seen.log × AllFine l.detect l.seen.log };
-}
-
-/// Whether two boards are the same. Each list is read to its end, since to stop at the first difference
-/// takes longer where there is none.
-fn are_same(one: &Board, other: &Board) -> bool
-    ensures { result ≡ true → one.now ≡ other.now }
-{
-    let ages = are_same_ages(&one.ages, &other.ages);
-    let rows = are_same_rows(&one.rows, &other.rows);
-    one.epoch == other.epoch && ages && rows
-}
-
-fn are_same_ages(one: &[u64; SLOTS], other: &[u64; SLOTS]) -> bool
-    ensures { result ≡ true → one.now ≡ other.now }
-{
-    let mut same = true;
-    for slot in 0..SLOTS {
-        same &= one[slot] == other[slot];
-    }
-    same
-}
-
-fn are_same_rows(one: &[u128; SLOTS], other: &[u128; SLOTS]) -> bool
-    ensures { result ≡ true → one.now ≡ other.now }
-{
-    let mut same = true;
-    for slot in 0..SLOTS {
-        same &= one[slot] == other[slot];
-    }
-    same
 }
 
 impl Line {
@@ -223,15 +193,12 @@ impl Line {
         })
     }
 
-    /// Whether the other list is this one and then the board.
-    pub fn is_followed(&self, board: &Board, other: &Line) -> bool
+    /// Whether the other list is this one and then its last board.
+    pub fn is_followed(&self, other: &Line) -> bool
         requires { (other.now.book ≡ self.now.book) × (other.now.detect ≡ self.now.detect) }
-        ensures { result ≡ true → other.now.list ≡ self.now.list ++ board.now ∷ [] }
+        ensures { result ≡ true → (last : ABoard) → Ends other.now.list last → other.now.list ≡ self.now.list ++ last ∷ [] }
     {
-        if other.count <= self.count
-            || other.count - self.count != 1
-            || !are_same(&other.board, board)
-        {
+        if other.count <= self.count || other.count - self.count != 1 {
             return false;
         }
         self.beside(other);

@@ -19,22 +19,12 @@ mod races;
 #[cfg(test)]
 mod ring;
 #[cfg(test)]
-mod rows;
-#[cfg(test)]
 mod sleepers;
 #[cfg(test)]
 mod stage;
 #[cfg(test)]
-mod steps;
-#[cfg(test)]
 mod story;
 #[cfg(test)]
-mod table;
-#[cfg(test)]
 mod tally;
-#[cfg(test)]
-mod tellings;
-#[cfg(test)]
-mod waits;
 #[cfg(test)]
 mod wakings;

@@ -1,10 +1,14 @@
 -- The rule of what is published.
 use Rattle.std.specs.Prelude.{◌≡◌, ◌⊎◌, ℕ, List, Option, Some, None}
+use Rattle.std.specs.Option.{option_map}
+use Rattle.std.specs.Arc.{arc_value}
 use mathlib.Core.Option.{some}
 use lib.ListN.{get_elem?}
 use Rattle.gl_boxes.specs.Strip.{Strip}
 use Rattle.gl_shared.specs.declared.shown.Shown.{Shown}
 use Rattle.gl_shared.specs.declared.shown.Tie.{Tie}
+use Rattle.gl_shared.specs.declared.shown.Turn.{Turn}
+use Rattle.gl_shared.specs.declared.shown.Next.{Next}
 use Rattle.gl_boxes.specs.Rules.{head_of}
 use Rattle.gl_boxes.specs.Boards.{IsLawful}
 use Rattle.gl_waits.specs.declared.board.Board.{Board}
@@ -14,6 +18,14 @@ use Rattle.logbook.specs.Pages.{Book}
 -- the book and the way of detection of a list
 abbrev pub tie_of : Strip → Tie
 tie_of l = record { head = head_of l.book; detect = l.detect }
+
+-- and the board that was last to stand behind the list
+abbrev pub turn_of : Shown → Turn
+turn_of s = record { tie = tie_of s.line; board = option_map arc_value s.board }
+
+-- the same once a board is published
+abbrev pub turned : Next → Turn
+turned n = record { tie = tie_of n.line; board = Some (arc_value n.board) }
 
 abbrev pub Fits : Shown → Option Tie → Type 0
 Fits x v = (v ≡ None) ⊎ (v ≡ Some (tie_of x.line))

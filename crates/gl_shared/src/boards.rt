@@ -1,11 +1,11 @@
 //! The ends of `left_right`, under the rule.
-ghost use Rattle.std.specs.Prelude.{◌≡◌, [], ◌∷◌, ◌++◌, ◌≤◌, ◌^◌, ◌<◌, drop, fold, IfOk, MatchBool, Some};
+ghost use Rattle.std.specs.Prelude.{◌≡◌, [], ◌∷◌, ◌++◌, ◌≤◌, ◌^◌, ◌<◌, drop, fold, IfOk, MatchBool, None, Some};
 ghost use Rattle.std.specs.Arc.{arc_value};
 ghost use Rattle.left_right.specs.Sides.{view};
 ghost use Rattle.gl_boxes.specs.Boards.{Fine, last_epoch};
 ghost use Rattle.gl_boxes.specs.Rules.{head_of};
 ghost use Rattle.gl_shared.specs.Sides.{IsIdle, shown_by};
-ghost use Rattle.gl_shared.specs.Ties.{tie_of};
+ghost use Rattle.gl_shared.specs.Ties.{tie_of, turn_of, turned};
 
 use crate::rule::{Publish, Published, Ties};
 use crate::shown::{Next, Shown, Tie};
@@ -39,8 +39,9 @@ impl Side {
 
 // Publishes what is pending, as often as it has to.
 fn publish_all<R: Wait>(rt: &R, writer: BoardWriter) -> BoardWriter
-    requires same { fold (λ tie next. tie_of next.line) (tie_of writer.desk.shown.value.line) (drop writer.behind writer.log.items) ≡ tie_of writer.desk.shown.value.line }
+    requires same { (fold (λ turn next. turned next) (turn_of writer.desk.shown.value) (drop writer.behind writer.log.items)).tie ≡ tie_of writer.desk.shown.value.line }
     ensures rest { drop result.behind result.log.items ≡ [] }
+    ensures turn { turn_of result.desk.shown.value ≡ fold (λ turn next. turned next) (turn_of writer.desk.shown.value) (drop writer.behind writer.log.items) }
     ensures tie { tie_of result.desk.shown.value.line ≡ tie_of writer.desk.shown.value.line }
     ensures view { view result.desk.place ≡ Some (tie_of writer.desk.shown.value.line) }
 {
@@ -93,7 +94,8 @@ pub fn publish<R: Wait>(
         Err(_) => return (Side::Open(writer), false),
     }
     let writer = publish_all(rt, writer);
-    if before.is_followed(&board, &writer.published().line) {
+    let shown = writer.published();
+    if shown.is_added && before.is_followed(&shown.line) {
         return (Side::Open(writer), true);
     }
     writer.take(rt);
@@ -110,12 +112,8 @@ pub fn open<R: Wait>(
     requires { (0 < readers) × (readers < 2 ^ 32) }
     ensures { IfOk result (λ w. (drop w.behind w.log.items ≡ []) × (w.desk.shown.value.line.list ≡ line.now.list) × (tie_of w.desk.shown.value.line ≡ tie_of line.now) × (view w.desk.place ≡ Some (tie_of line.now))) }
 {
-    let first = Shown {
-        line: line.again()?,
-    };
-    let second = Shown {
-        line: line.again()?,
-    };
+    let first = unpublished(line)?;
+    let second = unpublished(line)?;
     let writer: BoardWriter = Writer::new(alloc, first, second, readers)?;
     let writer = publish_all(rt, writer);
     if line.is_same(&writer.published().line) {
@@ -123,4 +121,15 @@ pub fn open<R: Wait>(
     }
     writer.take(rt);
     Err(AllocError)
+}
+
+/// A list behind which no board was to stand yet.
+fn unpublished(line: &Line) -> Result<Shown, AllocError>
+    ensures { IfOk result (λ shown. (shown.line ≡ line.now) × (shown.board ≡ None)) }
+{
+    Ok(Shown {
+        line: line.again()?,
+        board: None,
+        is_added: false,
+    })
 }

@@ -26,5 +26,5 @@ pub use publisher::Publisher;
 pub use session::Session;
 pub use share::Share;
 pub use shared::{Closed, NotAll, Shared, gather};
-pub use shown::{Next, Shown, Tie};
+pub use shown::{Next, Shown, Tie, Turn};
 pub use watcher::Watcher;

@@ -1,7 +1,7 @@
 //! The rule of what is published: a reader that is tied to a book finds lists of that book.
-ghost use Rattle.gl_shared.specs.Ties.{Kept, Publishes, Looks, tie_of};
+ghost use Rattle.gl_shared.specs.Ties.{Kept, Publishes, Looks, turn_of, turned};
 
-use crate::shown::{Next, Shown, Tie};
+use crate::shown::{Next, Shown, Tie, Turn};
 use atomic_table::{Join, Split};
 use crossbeam_utils::rule::{Outcome, Protocol};
 use left_right::Absorb;
@@ -10,17 +10,22 @@ use std::sync::Arc;
 
 /// One operation is one board. The first copy adds it to the book, and the second, which no reader takes, goes to the list before it.
 impl Absorb<Next> for Shown {
-    type State = Tie;
+    type State = Turn;
 
-    ghost state = { λ s. tie_of s.line };
+    ghost state = { turn_of };
 
-    ghost applied = { λ tie next. tie_of next.line };
+    ghost applied = { λ turn next. turned next };
 
     fn absorb_first(&mut self, operation: &Next, _other: &Shown) -> Result<(), AllocError> {
         let board = Arc::try_clone(&operation.board)?;
-        match operation.line.add(&operation.head, board) {
+        let last = Arc::try_clone(&operation.board)?;
+        match operation.line.add(&operation.head, last) {
             Some(line) => {
-                self.line = line;
+                *self = Shown {
+                    line,
+                    board: Some(board),
+                    is_added: true,
+                };
                 Ok(())
             }
             None => Err(AllocError),
@@ -30,10 +35,14 @@ impl Absorb<Next> for Shown {
     fn absorb_second(&mut self, operation: Next, _other: &Shown) -> Result<(), Next> {
         let Next {
             line,
-            board: _,
+            board,
             head: _,
         } = operation;
-        self.line = line;
+        *self = Shown {
+            line,
+            board: Some(board),
+            is_added: false,
+        };
         Ok(())
     }
 }

@@ -1,8 +1,6 @@
-use Rattle.std.proofs.Common.{rules, arith, sym, ◌≡◌, ◌+◌, ◌∙◌, ap, length, subst, List}
+use Rattle.std.proofs.Common.{arith, sym, ◌≡◌, ◌+◌, ◌∙◌, ap, length, List}
 use mathlib.Core.List.{IsPrefix}
-use Rattle.std.specs.Arc.{arc_value}
 use Rattle.gl_waits.specs.declared.board.Board.{Board}
-use Rattle.gl_boxes.specs.Boards.{Ends}
 use Rattle.gl_boxes.specs.Strip.{Strip}
 use Rattle.gl_boxes.proofs.Fronts.{prefix_shorter}
 use Rattle.gl_boxes.proofs.Lists.{follows}
@@ -16,8 +14,5 @@ returns c =
     let me : c.self.inside.seen.log ≡ mine = ap (λ (v : Strip). v.list) c.self.view_is in
     let it : c.other.inside.seen.log ≡ theirs = ap (λ (v : Strip). v.list) c.other.view_is in
     let len' : length theirs ≡ length mine + 1 = sym (ap length it) ∙ (len ∙ ap (λ (l : List Board). length l + 1) me) in
-    let same : arc_value c.other.inside.board ≡ c.args.board.now = search rules in
-    let ends : Ends theirs c.args.board.now = subst (λ (l : List Board). Ends l c.args.board.now) it
-    (subst (Ends c.other.inside.seen.log) same c.other.invariant.1) in
     let pre : IsPrefix mine theirs = prefix_shorter mine theirs c.beside.ensures.0 c.beside.ensures.1 c.beside.ensures.2 (omega (arith, len')) in
-    λ _. follows mine theirs c.args.board.now pre len' ends
+    λ _ last ends. follows mine theirs last pre len' ends

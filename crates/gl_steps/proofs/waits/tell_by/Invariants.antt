@@ -1,6 +1,6 @@
 use Rattle.gl_table.specs.model.Table.{board_of}
 use Rattle.gl_catalog.specs.Manager.{state_of}
-use Rattle.gl_sessions.proofs.waits.tell_by.Given as goal
+use Rattle.gl_steps.proofs.waits.tell_by.Given as goal
 
 -- the name that the parts get
 abbrev pub ghosts-tell_under_name-N-Naming : goal.ghosts-tell_under_name-N-Naming

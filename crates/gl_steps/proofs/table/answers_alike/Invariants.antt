@@ -1,6 +1,6 @@
 use Rattle.gl_table.specs.model.Table.{board_of}
 use Rattle.gl_catalog.specs.Manager.{state_of}
-use Rattle.gl_sessions.proofs.table.answers_alike.Given as goal
+use Rattle.gl_steps.proofs.table.answers_alike.Given as goal
 
 -- the name that the parts get
 abbrev pub ghosts-play_under_name-N-Naming : goal.ghosts-play_under_name-N-Naming

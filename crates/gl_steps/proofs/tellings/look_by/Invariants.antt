@@ -1,6 +1,6 @@
 use Rattle.gl_table.specs.model.Table.{board_of}
 use Rattle.gl_catalog.specs.Manager.{state_of}
-use Rattle.gl_sessions.proofs.tellings.look_by.Given as goal
+use Rattle.gl_steps.proofs.tellings.look_by.Given as goal
 
 -- the name that the parts get
 abbrev pub ghosts-look_under_name-N-Naming : goal.ghosts-look_under_name-N-Naming
