@@ -13,6 +13,10 @@ mod limits;
 #[cfg(test)]
 mod paths;
 #[cfg(test)]
+mod registry;
+#[cfg(test)]
+mod rows;
+#[cfg(test)]
 mod story;
 #[cfg(test)]
 mod waits;

@@ -17,6 +17,7 @@ pub(crate) fn play(bill: &mut Bill<'_>) {
     bill.scene("manager: a record goes", deletes);
     bill.scene("manager: nothing is inserted", inserts_nothing);
     bill.scene("manager: kinds are kept", keeps_the_kinds);
+    bill.scene("manager: a row is adopted and forgotten", adopts);
 }
 
 /// A root, a file and its index with one bound and so two intervals, and a record in each.
@@ -205,4 +206,17 @@ fn keeps_the_kinds(scene: &mut Scene) {
     scene.relocate(a, s.low, &[s.db], bad);
     scene.relocate(a, s.first, &[s.db], bad);
     scene.relocate(a, s.file, &[s.file], bad);
+}
+
+fn adopts(scene: &mut Scene) {
+    let s = make_shop(scene);
+    let a = scene.begin();
+    let row = scene.adopt(s.file, &[150]);
+    scene.lock_all(a, Mode::IX, &[s.db, s.file, s.index, s.high]);
+    scene.lock_all(a, Mode::X, &[row]);
+    scene.forget(row, refused(Refusal::RecordInUse));
+    scene.commit(a, done());
+    scene.forget(row, done());
+    scene.forget(row, refused(Refusal::NoSuchNode));
+    scene.forget(s.low, refused(Refusal::BadParents));
 }

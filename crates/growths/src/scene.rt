@@ -275,6 +275,10 @@ impl Scene {
         self.made(Command::Insert { txn, file, keys })
     }
 
+    pub(crate) fn adopt(&mut self, file: NodeId, keys: &[u64]) -> NodeId {
+        self.made(Command::Adopt { file, keys })
+    }
+
     /// The node that a command makes.
     fn made(&mut self, command: Command<'_>) -> NodeId {
         self.watch.step();
@@ -349,6 +353,10 @@ impl Scene {
 
     pub(crate) fn delete(&mut self, txn: TxnId, rec: NodeId, wanted: Said) {
         self.ask(Command::Delete { txn, rec }, wanted);
+    }
+
+    pub(crate) fn forget(&mut self, rec: NodeId, wanted: Said) {
+        self.ask(Command::Forget { rec }, wanted);
     }
 
     pub(crate) fn rekey(&mut self, txn: TxnId, rec: NodeId, index: NodeId, key: u64, wanted: Said) {

@@ -1,0 +1,50 @@
+-- What others cannot do to who reads or writes a row: its parents are the same nodes, on which effective modes stay.
+use Rattle.std.specs.Prelude.{◌≡◌, ℕ, true, List}
+use Rattle.std.proofs.Common.{ap, ◌∙◌, subst}
+use Rattle.gl_modes.specs.declared.node.NodeId.{NodeId}
+use Rattle.gl_graph.specs.Graph.{is_live, record_parents}
+use Rattle.gl_table.specs.model.Lawful.{IsLawful, effective, is_at_least_effect}
+use Rattle.gl_table.specs.model.State.{State}
+use Rattle.gl_catalog.proofs.OthersKeep.{run_keeps}
+use Rattle.gl_catalog.proofs.StepsKeepLaw.{runs_keep_law}
+use Rattle.gl_registry.proofs.KeptIndexes.{KeepsIndexes, same_parents}
+use Rattle.gl_registry.proofs.RowEffects.{OfEach, effect_under, row_parents_live, under_more, under_same}
+use Rattle.gl_registry.proofs.RunsKeepIndexes.{run_keeps as run_keeps_indexes}
+use Rattle.gl_registry.specs.Promises.{IsRowInBoth, OthersKeepRowEffects, row_effect}
+
+module _ (s s' : State) (law : IsLawful s) (law' : IsLawful s') (kept : KeepsIndexes s.graph s'.graph)
+    (f : NodeId) (keys : List ℕ) (rows : IsRowInBoth s s' f keys) where
+  abbrev parents : List NodeId
+  parents = record_parents s.graph f keys
+
+  parents_same : record_parents s'.graph f keys ≡ parents
+  parents_same = same_parents s.graph s'.graph kept f keys rows.0 rows.1
+
+  live_before : OfEach parents (λ p. is_live s.graph p ≡ true)
+  live_before = row_parents_live s.graph law.graph f keys rows.0
+
+  live_after : OfEach parents (λ p. is_live s'.graph p ≡ true)
+  live_after = subst (λ ps. OfEach ps (λ p. is_live s'.graph p ≡ true)) parents_same (row_parents_live s'.graph law'.graph f keys rows.1)
+
+  row_same : (t : ℕ) → ((p : NodeId) → is_live s.graph p ≡ true → is_live s'.graph p ≡ true → effective s' t p ≡ effective s t p)
+      → row_effect s' t f keys ≡ row_effect s t f keys
+  row_same t same =
+      ap (effect_under (effective s' t)) parents_same
+      ∙ under_same (effective s' t) (effective s t) parents (λ p on. same p (live_before p on) (live_after p on))
+
+  row_more : (t : ℕ)
+      → ((p : NodeId) → is_live s.graph p ≡ true → is_live s'.graph p ≡ true → is_at_least_effect (effective s' t p) (effective s t p) ≡ true)
+      → is_at_least_effect (row_effect s' t f keys) (row_effect s t f keys) ≡ true
+  row_more t more =
+      ap (λ ps. is_at_least_effect (effect_under (effective s' t) ps) (effect_under (effective s t) parents)) parents_same
+      ∙ under_more (effective s' t) (effective s t) parents (λ p on. more p (live_before p on) (live_after p on))
+
+pub others_keep_row_effects : OthersKeepRowEffects
+others_keep_row_effects s s' cs rs t law run alive apart =
+    let law' = runs_keep_law s s' cs rs law run in
+    let stay = run_keeps cs rs s s' t law run alive apart in
+    let indexes = run_keeps_indexes cs rs s s' law run in
+    record {
+      same = λ quiet f keys rows. row_same s s' law law' indexes f keys rows t.slot (stay.same quiet);
+      greater = λ f keys rows. row_more s s' law law' indexes f keys rows t.slot stay.greater;
+    }

@@ -1,0 +1,7 @@
+pub mod Rows
+pub mod Sound
+pub mod Locking
+pub mod Releasing
+pub mod Records
+pub mod Names
+pub mod Promises

@@ -1,0 +1,12 @@
+//! Rows by the engine's own numbers: each has a node of the lock graph for as long as it is locked. And
+//! the laws of rows, whether or not a node stands for them.
+#![tactic(auto)]
+
+pub mod laws;
+mod names;
+mod registry;
+mod row;
+mod sets;
+
+pub use registry::Registry;
+pub use row::Row;
