@@ -52,7 +52,7 @@ extern "C" {
 /* The version of what is declared here. The first number rises where a program has to be changed for it, the
  * second where something is added, the third where neither. */
 #define BS_VERSION_MAJOR 0
-#define BS_VERSION_MINOR 7
+#define BS_VERSION_MINOR 8
 #define BS_VERSION_PATCH 0
 
 /* How many transactions can live at once, and so how many notices a call can have. */
@@ -64,7 +64,7 @@ extern "C" {
 /* How many watchers a manager can have at once. */
 #define BS_MOST_WATCHERS 8
 
-/* What a call comes to. Refusals are 1 to 21, of the manager, and 64 to 70, of this library. */
+/* What a call comes to. Refusals are 1 to 22, of the manager, and 64 to 70, of this library. */
 typedef uint32_t bs_status;
 enum bs_statuses {
   BS_DONE = 0,
@@ -84,11 +84,12 @@ enum bs_statuses {
   BS_NEED_EXCLUSIVE = 14, /* without the exclusive locks that a delete or a move needs */
   BS_NOT_WAITING = 15,    /* the transaction waits for nothing */
   BS_NAME_TAKEN = 16,     /* not answered here: names are the manager's own */
-  BS_FILE_IN_USE = 17,    /* an index cannot be added to a file that has records */
+  BS_FILE_IN_USE = 17,    /* an index cannot be added to a file that has records, or had rows adopted */
   BS_BAD_KEYS = 18,       /* bounds that do not rise from above 0, too many, or not a key for each index */
   BS_WORN_OUT = 19,       /* a counter has come to its end */
   BS_BAD_LINE = 20,       /* not answered here */
   BS_CYCLE = 21,          /* the new parent `node` is the node itself or lies below it */
+  BS_RECORD_IN_USE = 22,  /* some transaction holds the record or waits for it */
   BS_WAITING = 32,        /* the lock is waited for */
   BS_VICTIM = 33,         /* the asker was condemned to end a deadlock, and can only abort */
   BS_MOVED = 34,          /* the node moved, and the wait is over */
@@ -261,6 +262,8 @@ bs_reply bs_call_abort(bs_manager *manager, bs_txn txn, bs_notices *told);
 bs_reply bs_call_settle(bs_manager *manager, bs_txn txn, bs_notices *told);
 bs_reply bs_call_insert(bs_manager *manager, bs_txn txn, bs_node file, const uint64_t *keys, size_t count);
 bs_reply bs_call_delete(bs_manager *manager, bs_txn txn, bs_node record, bs_notices *told);
+bs_reply bs_call_adopt(bs_manager *manager, bs_node file, const uint64_t *keys, size_t count);
+bs_reply bs_call_forget(bs_manager *manager, bs_node record);
 bs_reply bs_call_rekey(bs_manager *manager, bs_txn txn, bs_node record, bs_node index, uint64_t key, bs_notices *told);
 bs_reply bs_call_move(bs_manager *manager, bs_txn txn, bs_node node, const bs_node *parents, size_t count,
                       bs_notices *told);
@@ -407,8 +410,8 @@ static inline bs_reply bs_add_file(bs_manager *manager, const bs_node *parents, 
   return bs_call_add_file(manager, bs_nodes(parents), count);
 }
 
-/* A new index of a file that has no records, under 1 to 8 different inner nodes, with up to 256 bounds, or,
- * where the manager was made by bs_make_with for another number of nodes than 65,536, up to as many bounds
+/* A new index of a file that has no records and had no row adopted, under 1 to 8 different inner nodes, with up to
+ * 256 bounds, or, where the manager was made by bs_make_with for another number of nodes than 65,536, up to as many bounds
  * as nodes may live. They rise from above 0: interval 0 has the keys below the first bound, interval i those
  * from bound i - 1 on. Each interval is a node. Refused with BS_NO_SUCH_NODE, BS_BAD_PARENTS (also where
  * the file has 7 indexes), BS_FILE_IN_USE, BS_BAD_KEYS, BS_TOO_MANY_NODES; with BS_BAD_NUMBER, first of all,
@@ -527,6 +530,20 @@ static inline bs_reply bs_insert(bs_manager *manager, bs_txn txn, bs_node file, 
  * BS_TXN_WAITING, BS_TXN_CONDEMNED, BS_NO_SUCH_NODE, BS_BAD_PARENTS (no record), BS_NEED_EXCLUSIVE. */
 static inline bs_reply bs_delete(bs_manager *manager, bs_txn txn, bs_node record, bs_notices *told) {
   return bs_lacks(manager, told) ? bs_null() : bs_call_delete(manager, txn, record, told);
+}
+
+/* A new record of a file, in `node`, as bs_insert makes one, but for no transaction: nobody holds it, and no locks
+ * are asked for. So a row has a node only while it is locked. From then on no index of the file is made. Refused with
+ * BS_NO_SUCH_NODE, BS_BAD_PARENTS (no file), BS_BAD_KEYS, BS_TOO_MANY_NODES. Takes memory. */
+static inline bs_reply bs_adopt(bs_manager *manager, bs_node file, const uint64_t *keys, size_t count) {
+  if (manager == NULL || (keys == NULL && count != 0)) return bs_null();
+  return bs_call_adopt(manager, file, bs_numbers(keys), count);
+}
+
+/* Takes a record away that nobody holds and nobody waits for. Refused with BS_NO_SUCH_NODE, BS_BAD_PARENTS (no
+ * record), BS_RECORD_IN_USE. */
+static inline bs_reply bs_forget(bs_manager *manager, bs_node record) {
+  return manager == NULL ? bs_null() : bs_call_forget(manager, record);
 }
 
 /* Gives a record another key for one index, and so another interval. Lawful with X on the record and IX or
@@ -866,6 +883,7 @@ static inline const char *bs_text(bs_status status) {
     case BS_WORN_OUT: return "WornOut";
     case BS_BAD_LINE: return "BadLine";
     case BS_CYCLE: return "Cycle";
+    case BS_RECORD_IN_USE: return "RecordInUse";
     case BS_WAITING: return "Waiting";
     case BS_VICTIM: return "Victim";
     case BS_MOVED: return "Moved";

@@ -445,6 +445,14 @@ static inline bs_reply bs_table_delete(bs_table *table, bs_txn txn, bs_node reco
   BS_TABLE_TELL(table, told, false, bs_delete(&in->manager, txn, record, list));
 }
 
+static inline bs_reply bs_table_adopt(bs_table *table, bs_node file, const uint64_t *keys, size_t count) {
+  BS_TABLE_ASK(table, bs_adopt(&in->manager, file, keys, count));
+}
+
+static inline bs_reply bs_table_forget(bs_table *table, bs_node record) {
+  BS_TABLE_ASK(table, bs_forget(&in->manager, record));
+}
+
 static inline bs_reply bs_table_rekey(bs_table *table, bs_txn txn, bs_node record, bs_node index, uint64_t key,
                                       bs_notices *told) {
   BS_TABLE_TELL(table, told, false, bs_rekey(&in->manager, txn, record, index, key, list));
@@ -461,7 +469,8 @@ static inline bs_reply bs_table_move(bs_table *table, bs_txn txn, bs_node node, 
 
 enum bs_command_kinds {
   BS_DO_BEGIN = 1, BS_DO_LOCK, BS_DO_TRY, BS_DO_UNLOCK, BS_DO_ESCALATE, BS_DO_CANCEL, BS_DO_COMMIT, BS_DO_ABORT,
-  BS_DO_SETTLE, BS_DO_INSERT, BS_DO_DELETE, BS_DO_REKEY, BS_DO_MOVE, BS_DO_ADD_INNER, BS_DO_ADD_FILE, BS_DO_ADD_INDEX
+  BS_DO_SETTLE, BS_DO_INSERT, BS_DO_DELETE, BS_DO_REKEY, BS_DO_MOVE, BS_DO_ADD_INNER, BS_DO_ADD_FILE, BS_DO_ADD_INDEX,
+  BS_DO_ADOPT, BS_DO_FORGET
 };
 
 /* A command, of enum bs_command_kinds, with what it is given: the fields that its maker below sets. */
@@ -511,6 +520,13 @@ static inline bs_command bs_do_adding(uint32_t kind, const bs_node *parents, siz
   return bs_do_placing(bs_do_txn(kind, none), parents, count);
 }
 
+/* In a list, the transaction that the last bs_do_begin ahead began; with none ahead it names nobody. So a whole short
+ * transaction can be one list, which is made again and again. */
+static inline bs_txn bs_begun(void) {
+  bs_txn txn = { 255, 0 };
+  return txn;
+}
+
 /* The makers of commands, each with the words of the call of its name. */
 static inline bs_command bs_do_lock(bs_txn txn, bs_node node, bs_mode mode) {
   return bs_do_locking(BS_DO_LOCK, txn, node, mode);
@@ -532,6 +548,12 @@ static inline bs_command bs_do_insert(bs_txn txn, bs_node file, const uint64_t *
   command.number_count = count;
   return command;
 }
+static inline bs_command bs_do_adopt(bs_node file, const uint64_t *keys, size_t count) {
+  bs_command command = bs_do_insert(bs_begun(), file, keys, count);
+  command.kind = BS_DO_ADOPT;
+  return command;
+}
+static inline bs_command bs_do_forget(bs_node record) { return bs_do(BS_DO_FORGET, bs_begun(), record); }
 static inline bs_command bs_do_rekey(bs_txn txn, bs_node record, bs_node index, uint64_t key) {
   bs_command command = bs_do(BS_DO_REKEY, txn, record);
   command.other = index;
@@ -556,13 +578,6 @@ static inline bs_command bs_do_add_index(const bs_node *parents, size_t count, b
   return command;
 }
 
-/* In a list, the transaction that the last bs_do_begin ahead began; with none ahead it names nobody. So a whole short
- * transaction can be one list, which is made again and again. */
-static inline bs_txn bs_begun(void) {
-  bs_txn txn = { 255, 0 };
-  return txn;
-}
-
 /* Makes a command with a manager, for this transaction. */
 static inline bs_reply bs_command_made(bs_manager *m, const bs_command *c, bs_txn txn, bs_notices *told) {
   switch (c->kind) {
@@ -577,6 +592,8 @@ static inline bs_reply bs_command_made(bs_manager *m, const bs_command *c, bs_tx
     case BS_DO_SETTLE: return bs_settle(m, txn, told);
     case BS_DO_INSERT: return bs_insert(m, txn, c->node, c->numbers, c->number_count);
     case BS_DO_DELETE: return bs_delete(m, txn, c->node, told);
+    case BS_DO_ADOPT: return bs_adopt(m, c->node, c->numbers, c->number_count);
+    case BS_DO_FORGET: return bs_forget(m, c->node);
     case BS_DO_REKEY: return bs_rekey(m, txn, c->node, c->other, c->key, told);
     case BS_DO_MOVE: return bs_move(m, txn, c->node, c->parents, c->parent_count, told);
     case BS_DO_ADD_INNER: return bs_add_inner(m, c->parents, c->parent_count);

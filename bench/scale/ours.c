@@ -91,12 +91,29 @@ static __attribute__((noinline)) void step_delete(const struct work *work) {
   });
 }
 
+/* Records that stand only while they are locked. */
+static __attribute__((noinline)) void step_adopt(const struct work *work) {
+  uint32_t from, at, to;
+  for (from = 0; from < work->records; from = to) {
+    bs_txn t = begin();
+    to = work->records - from < PER_TRANSACTION ? work->records : from + PER_TRANSACTION;
+    for (at = from; at < to; at++) {
+      uint64_t key = work->order[at];
+      records[key] = done(bs_adopt(&m, file, &key, 1)).node;
+      done(bs_lock(&m, t, records[key], BS_X, &told));
+    }
+    commit(t);
+    for (at = from; at < to; at++) done(bs_forget(&m, records[work->order[at]]));
+  }
+}
+
 static const struct step steps[] = {
   { "insert\tstep_insert", step_insert },
   { "lock, a hundred in a transaction\tstep_lock", step_lock },
   { "lock, all in one transaction\tstep_lock_all", step_lock_all },
   { "lock all, and escalate\tstep_escalate", step_escalate },
   { "lock and delete\tstep_delete", step_delete },
+  { "adopt, lock, commit and forget\tstep_adopt", step_adopt },
 };
 
 const struct side ours = { set_up, steps, sizeof steps / sizeof *steps, tear_down };

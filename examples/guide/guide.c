@@ -80,6 +80,8 @@ int main(void) {
   TELL(several_in_one_hold);
   TELL(which_node_for_what);
   TELL(pages_as_records);
+  TELL(rows_while_they_are_locked);
+  TELL(a_locked_row_is_rekeyed);
   TELL(more_rows_than_nodes);
   TELL(false_conflicts);
   TELL(buckets_under_intervals);

@@ -45,6 +45,10 @@ void several_in_one_hold(void);
 void which_node_for_what(void);
 void pages_as_records(void);
 
+/* rows.c */
+void rows_while_they_are_locked(void);
+void a_locked_row_is_rekeyed(void);
+
 /* buckets.c */
 void more_rows_than_nodes(void);
 void false_conflicts(void);

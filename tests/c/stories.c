@@ -331,6 +331,34 @@ static void a_record_goes(void) {
   DONE(bs_end(&m));
 }
 
+static void a_row_is_adopted(void) {
+  static const uint64_t key = 70;
+  bs_manager m = BS_NO_MANAGER_HERE;
+  bs_node root = begin_manager(&m, BS_AT_BLOCK), row;
+  struct file f = make_file(&m, root);
+  bs_txn a = begin(&m), b = begin(&m);
+  WANT(bs_adopt(&m, root, &key, 1).status == BS_BAD_PARENTS && bs_adopt(&m, f.file, NULL, 0).status == BS_BAD_KEYS);
+  row = DONE(bs_adopt(&m, f.file, &key, 1)).node;
+  WANT(same_node(bs_parent(&m, row, 1).node, f.below) && bs_group(&m, row).mode == BS_NL);
+  DONE(bs_lock_path(&m, a, row, BS_X, &told));
+  WANT(bs_lock_path(&m, b, row, BS_S, &told).status == BS_WAITING);
+  WANT(bs_forget(&m, row).status == BS_RECORD_IN_USE);
+  DONE(bs_commit(&m, a, &told));
+  WANT(told.count == 1 && is_told(0, b, BS_TOLD_GRANTED) && bs_forget(&m, row).status == BS_RECORD_IN_USE);
+  DONE(bs_commit(&m, b, &told));
+  DONE(bs_forget(&m, row));
+  WANT(bs_forget(&m, row).status == BS_NO_SUCH_NODE && bs_forget(&m, f.below).status == BS_BAD_PARENTS);
+  DONE(bs_end(&m));
+}
+
+static void an_index_over_rows(void) {
+  bs_manager m = BS_NO_MANAGER_HERE;
+  bs_node root = begin_manager(&m, BS_AT_BLOCK), file = DONE(bs_add_file(&m, &root, 1)).node;
+  DONE(bs_forget(&m, DONE(bs_adopt(&m, file, NULL, 0)).node));
+  WANT(bs_has_records(&m, file).count == 0 && bs_add_index(&m, &root, 1, file, NULL, 0).status == BS_FILE_IN_USE);
+  DONE(bs_end(&m));
+}
+
 static void an_escalation(void) {
   bs_manager m = BS_NO_MANAGER_HERE;
   bs_node root = begin_manager(&m, BS_AT_BLOCK);
@@ -656,6 +684,8 @@ int main(void) {
   TELL(a_path_by_the_fall_of_another);
   TELL(a_record_moves);
   TELL(a_record_goes);
+  TELL(a_row_is_adopted);
+  TELL(an_index_over_rows);
   TELL(an_escalation);
   TELL(a_file_moves);
   TELL(questions);

@@ -46,7 +46,7 @@ victims_at n = if n == 0 then Some Youngest else if n == 1 then Some Fewest else
 abbrev pub slot_at : ℕ → Option ℕ
 slot_at n = if nat_lt n 128 then Some n else None
 
--- it was done; refusals have their own numbers, 1 to 21
+-- it was done; refusals have their own numbers, 1 to 22
 abbrev pub done : ℕ
 done = 0
 

@@ -28,6 +28,26 @@ pub extern "C" fn bs_call_insert(manager: &mut Handle, txn: Txn, file: Node, key
     })
 }
 
+/// A new record of a file, with a key for each of its indexes, which nobody holds: a row that is to be
+/// locked. From then on no index of the file is made.
+#[unsafe(no_mangle)]
+pub extern "C" fn bs_call_adopt(manager: &mut Handle, file: Node, keys: &[u64]) -> Reply
+    ensures { Asks (guarded_in manager.old) (command.Adopt (node_id file) keys.entry) result (guarded_in manager.new) }
+{
+    manager.ask(Command::Adopt {
+        file: file.id(),
+        keys,
+    })
+}
+
+/// Takes a record away that nobody holds or waits for.
+#[unsafe(no_mangle)]
+pub extern "C" fn bs_call_forget(manager: &mut Handle, rec: Node) -> Reply
+    ensures { Asks (guarded_in manager.old) (command.Forget (node_id rec)) result (guarded_in manager.new) }
+{
+    manager.ask(Command::Forget { rec: rec.id() })
+}
+
 /// Takes a record away.
 #[unsafe(no_mangle)]
 pub extern "C" fn bs_call_delete(

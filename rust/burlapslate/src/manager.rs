@@ -456,6 +456,27 @@ impl Manager {
         accepted(sys::insert(&mut self.pinned.place, txn, file, keys)).map(|reply| reply.node)
     }
 
+    /// A new record of a file, as [`insert`](Manager::insert) makes one, but for no transaction: nobody
+    /// holds it, and no locks are asked for. So a row has a node only while it is locked. From then on
+    /// no index of the file is made.
+    ///
+    /// Refused with [`WornOut`](Refusal::WornOut), [`NoSuchNode`](Refusal::NoSuchNode),
+    /// [`BadParents`](Refusal::BadParents) (no file), [`BadKeys`](Refusal::BadKeys),
+    /// [`TooManyNodes`](Refusal::TooManyNodes), [`NoMemory`](Refusal::NoMemory). Takes memory. It
+    /// tells nobody.
+    pub fn adopt(&mut self, file: Node, keys: &[u64]) -> Result<Node, Refusal> {
+        accepted(sys::adopt(&mut self.pinned.place, file, keys)).map(|reply| reply.node)
+    }
+
+    /// Takes a record away that nobody holds and nobody waits for.
+    ///
+    /// Refused with [`WornOut`](Refusal::WornOut), [`NoSuchNode`](Refusal::NoSuchNode),
+    /// [`BadParents`](Refusal::BadParents) (no record), [`RecordInUse`](Refusal::RecordInUse). Takes no
+    /// memory, and tells nobody.
+    pub fn forget(&mut self, record: Node) -> Result<(), Refusal> {
+        accepted(sys::bs_call_forget(&mut self.pinned.place, record)).map(drop)
+    }
+
     /// Takes a record away that the transaction holds in [`X`](Mode::X). Who waits for it is told
     /// [`Notice::Gone`](crate::Notice::Gone).
     ///

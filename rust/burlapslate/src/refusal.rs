@@ -39,7 +39,7 @@ pub enum Refusal {
     NeedExclusive,
     /// The transaction waits for nothing.
     NotWaiting,
-    /// An index cannot be added to a file that has records.
+    /// An index cannot be added to a file that has records, or had rows adopted.
     FileInUse,
     /// Bounds that do not rise from above 0, too many of them, or not a key for each index.
     BadKeys,
@@ -48,6 +48,8 @@ pub enum Refusal {
     WornOut,
     /// The new parent is the node itself or lies below it; this is that parent.
     Cycle(Node),
+    /// Some transaction holds the record or waits for it.
+    RecordInUse,
     /// As many watch already as may: [`MOST_WATCHERS`](crate::MOST_WATCHERS).
     TooManyWatchers,
     /// More than 8 parents, or a manager for none or more than 128 transactions. It comes first of
@@ -78,6 +80,7 @@ impl Refusal {
             sys::BAD_KEYS => Refusal::BadKeys,
             sys::WORN_OUT => Refusal::WornOut,
             sys::CYCLE => Refusal::Cycle(reply.node),
+            sys::RECORD_IN_USE => Refusal::RecordInUse,
             sys::TOO_MANY_WATCHERS => Refusal::TooManyWatchers,
             sys::BAD_NUMBER => Refusal::BadNumber,
             // Null pointers, places without a manager and the like cannot come from these types.
@@ -107,6 +110,7 @@ impl Refusal {
             Refusal::BadKeys => "BadKeys",
             Refusal::WornOut => "WornOut",
             Refusal::Cycle(_) => "Cycle",
+            Refusal::RecordInUse => "RecordInUse",
             Refusal::TooManyWatchers => "TooManyWatchers",
             Refusal::BadNumber => "BadNumber",
         }
@@ -143,7 +147,7 @@ mod tests {
     }
 
     /// The names of the statuses by number, those that the safe calls never answer left out.
-    const TEXTS: [(u32, &str); 21] = [
+    const TEXTS: [(u32, &str); 22] = [
         (1, "NoMemory"),
         (2, "NoSuchNode"),
         (3, "NoSuchTxn"),
@@ -163,6 +167,7 @@ mod tests {
         (18, "BadKeys"),
         (19, "WornOut"),
         (21, "Cycle"),
+        (22, "RecordInUse"),
         (66, "BadNumber"),
         (70, "TooManyWatchers"),
     ];

@@ -39,6 +39,7 @@ pub(crate) const FILE_IN_USE: u32 = 17;
 pub(crate) const BAD_KEYS: u32 = 18;
 pub(crate) const WORN_OUT: u32 = 19;
 pub(crate) const CYCLE: u32 = 21;
+pub(crate) const RECORD_IN_USE: u32 = 22;
 pub(crate) const WAITING: u32 = 32;
 pub(crate) const VICTIM: u32 = 33;
 pub(crate) const MOVED: u32 = 34;
@@ -275,6 +276,8 @@ unsafe extern "C" {
         keys: *const u64,
         count: usize,
     ) -> Reply;
+    fn bs_call_adopt(manager: &mut Place, file: Node, keys: *const u64, count: usize) -> Reply;
+    pub(crate) safe fn bs_call_forget(manager: &mut Place, record: Node) -> Reply;
     pub(crate) safe fn bs_call_delete(
         manager: &mut Place,
         txn: Txn,
@@ -384,6 +387,11 @@ pub(crate) fn add_index(
 pub(crate) fn insert(manager: &mut Place, txn: Txn, file: Node, keys: &[u64]) -> Reply {
     // SAFETY: the count is the list's own.
     unsafe { bs_call_insert(manager, txn, file, numbers(keys), keys.len()) }
+}
+
+pub(crate) fn adopt(manager: &mut Place, file: Node, keys: &[u64]) -> Reply {
+    // SAFETY: the count is the list's own.
+    unsafe { bs_call_adopt(manager, file, numbers(keys), keys.len()) }
 }
 
 pub(crate) fn move_node(

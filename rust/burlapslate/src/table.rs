@@ -109,6 +109,16 @@ impl Table {
         self.ask(|m| m.add_index(parents, file, bounds))
     }
 
+    /// As [`Manager::adopt`].
+    pub fn adopt(&self, file: Node, keys: &[u64]) -> Result<Node, Refusal> {
+        self.ask(|m| m.adopt(file, keys))
+    }
+
+    /// As [`Manager::forget`].
+    pub fn forget(&self, record: Node) -> Result<(), Refusal> {
+        self.ask(|m| m.forget(record))
+    }
+
     /// Ends a transaction whatever it is doing, from any thread. Whoever sleeps for it is woken, and
     /// answered [`Refusal::NoSuchTxn`].
     ///

@@ -220,6 +220,24 @@ fn keys() {
 }
 
 #[test]
+fn rows() {
+    let (mut m, root) = at_block();
+    let file = m.add_file(&[root]).unwrap();
+    let [a] = begin(&mut m);
+    assert_eq!(m.adopt(root, &[]), Err(Refusal::BadParents));
+    assert_eq!(m.adopt(file, &[1]), Err(Refusal::BadKeys));
+    let row = m.adopt(file, &[]).unwrap();
+    grant(&mut m, a, &[root, file], Mode::IX);
+    grant(&mut m, a, &[row], Mode::X);
+    assert_eq!(m.forget(row), Err(Refusal::RecordInUse));
+    assert!(m.commit(a).unwrap().is_empty());
+    assert_eq!(m.forget(row), Ok(()));
+    assert_eq!(m.forget(row), Err(Refusal::NoSuchNode));
+    assert_eq!(m.forget(file), Err(Refusal::BadParents));
+    assert_eq!(m.add_index(&[root], file, &[]), Err(Refusal::FileInUse));
+}
+
+#[test]
 fn too_many() {
     let mut m = Manager::new(Detect::AtBlock, 1).unwrap();
     assert!(m.is_empty());
