@@ -2,7 +2,6 @@
 pub mod Law
 pub mod Queries
 pub mod Calls
-pub mod Tests
 pub mod Locking
 pub mod Ends
 pub mod Moves

@@ -4,14 +4,12 @@ pub mod Lists
 pub mod Seats
 pub mod Woken
 pub mod Boards
-pub mod KeptRows
 pub mod Granted
 pub mod Released
 pub mod Withdrawn
 pub mod Departures
 pub mod Marked
 pub mod Asks
-pub mod Living
 pub mod Enqueues
 pub mod TurnedAway
 pub mod Vacated

@@ -6,16 +6,16 @@ ghost use Rattle.gl_header.specs.Header.{is_ahead};
 ghost use Rattle.gl_header.specs.State.{members_of};
 ghost use Rattle.gl_slots.specs.Slots.{has_slot as is_in};
 ghost use Rattle.gl_waits.specs.Sets.{has_slot};
-ghost use Rattle.gl_table.specs.model.Table.{board_of, shown};
-ghost use Rattle.gl_table.specs.declared.txn.Status.TheVariants.{Waiting};
+ghost use Rattle.gl_table.specs.Table.{board_of, shown};
+ghost use Rattle.gl_model.specs.declared.txn.Status.TheVariants.{Waiting};
 ghost use Rattle.gl_header.specs.Headers.{held_of, queue_of};
 ghost use Rattle.gl_table.specs.inside.Seats.{txns_of};
-ghost use Rattle.gl_table.specs.model.State.{age_in, status_in, waits_for};
+ghost use Rattle.gl_model.specs.State.{age_in, status_in, waits_for};
 
 use crate::seat::Seat;
 use crate::seats::Seats;
-use crate::txn::Status;
 use gl_header::{Header, Headers};
+use gl_model::Status;
 use gl_modes::{Mode, NodeId};
 use gl_slots::Slots;
 use gl_waits::{Board, SLOTS, WaitsFor};
@@ -137,8 +137,8 @@ pub(crate) struct Waits<'a> {
 }
 
 impl WaitsFor for Waits<'_> {
-    ghost use Rattle.gl_table.specs.model.Table.{shown};
-    ghost use Rattle.gl_table.specs.model.State.{waits_for};
+    ghost use Rattle.gl_table.specs.Table.{shown};
+    ghost use Rattle.gl_model.specs.State.{waits_for};
 
     ghost edge = { λ it. waits_for (shown it.headers.now.entries it.seats.now 0) };
 

@@ -6,12 +6,12 @@ ghost use Rattle.gl_modes.specs.Modes.{same_mode};
 ghost use Rattle.gl_graph.specs.Graph.{is_live, node_count};
 ghost use Rattle.gl_graph.specs.Seen.{with_all};
 ghost use Rattle.gl_graph.specs.View.{graph_of};
-ghost use Rattle.gl_table.specs.model.Lawful.{eff_s, eff_x, effect_on};
+ghost use Rattle.gl_model.specs.Lawful.{eff_s, eff_x, effect_on};
 ghost use Rattle.gl_listed.specs.Lists.{mode_of};
 
-use crate::answers::Effect;
 use gl_graph::Graph;
 use gl_listed::LockList;
+use gl_model::Effect;
 use gl_modes::{Mode, NodeId, covers};
 use indexmap::IndexSet;
 use std::alloc::{AllocError, Global};

@@ -10,22 +10,23 @@ ghost use Rattle.std.specs.List.{find, list_any};
 ghost use Rattle.gl_graph.specs.Graph.{is_child, is_live, nodes, parents_of};
 ghost use Rattle.gl_graph.specs.View.{graph_of};
 ghost use Rattle.gl_header.specs.Header.{holds, is_among_waiters};
-ghost use Rattle.gl_table.specs.model.Calls.{unlocked};
-ghost use Rattle.gl_table.specs.model.State.{is_write, front_at, is_waiting_at, pumped, without_wait, members, with_grant};
-ghost use Rattle.gl_table.specs.inside.Locks.{Agrees, AreSound, CountsHeld, IsOrderly, state_in, AreNew};
+ghost use Rattle.gl_model.specs.Calls.{unlocked};
+ghost use Rattle.gl_model.specs.State.{is_write, front_at, is_waiting_at, pumped, without_wait, members, with_grant};
+ghost use Rattle.gl_table.specs.inside.Locks.{Agrees, AreSound, CountsHeld, state_in, AreNew};
+ghost use Rattle.gl_model.specs.Orderly.{IsOrderly};
 ghost use Rattle.gl_table.specs.inside.Seats.{txn_in, txns_of};
-ghost use Rattle.gl_table.specs.model.Lawful.{effect_on};
-ghost use Rattle.gl_table.specs.model.Table.{row_of};
-ghost use Rattle.gl_table.specs.inside.Slots.{CanTell, CanWake, IsBySlot, Wakes, WakesLists, WakesTold, by_list, counted_by, held_by, notices_in};
+ghost use Rattle.gl_model.specs.Lawful.{effect_on};
+ghost use Rattle.gl_table.specs.Table.{row_of};
+ghost use Rattle.gl_table.specs.inside.Slots.{CanEnd, CanHold, CanTell, Wakes, WakesLists, books_of, by_list, counted_by, held_by};
+ghost use Rattle.gl_model.specs.ToldLists.{IsBySlot, WakesTold, notices_in};
 
-use crate::answers::{Effect, LockRow, Told};
 use crate::effective::effective;
 use crate::seat::Seat;
 use crate::seats::Seats;
-use crate::txn::Status;
 use gl_graph::Graph;
 use gl_header::{GrantList, Headers};
 use gl_listed::{Entry, LockList};
+use gl_model::{Effect, LockRow, Status, Told};
 use gl_modes::{Mode, NodeId};
 use std::alloc::{AllocError, Global};
 
@@ -219,9 +220,10 @@ impl Locks {
     /// Those whose waits on a node were granted hold it, are active, and are told.
     #[inline]
     fn wake_granted(&mut self, graph: &Graph, node: NodeId, granted: &[(u8, Mode)], told: &mut Told)
-        requires { CanWake self.old.seats.items self.old.lists.items told.old.items node (parents_of (graph_of graph.now) node) granted.now }
+        requires can { CanEnd (books_of self.old.seats self.old.lists.items told.old.items) granted.now }
+        requires hold { (u : ℕ) → is_among_waiters u granted.now ≡ true → CanHold self.old.lists.items u node (parents_of (graph_of graph.now) node) }
         ensures headers { self.new.headers.entries ≡ self.old.headers.entries }
-        ensures wakes { Wakes self.old.seats.items self.old.lists.items told.old.items node (parents_of (graph_of graph.now) node) granted.now self.new.seats.items self.new.lists.items told.new.items }
+        ensures wakes { Wakes (books_of self.old.seats self.old.lists.items told.old.items) node (parents_of (graph_of graph.now) node) granted.now (books_of self.new.seats self.new.lists.items told.new.items) }
     {
         if granted.is_empty() {
             return; // As mostly: the parents are looked up only where somebody is granted.

@@ -5,9 +5,9 @@ ghost use Rattle.std.specs.List.{list_any};
 ghost use Rattle.gl_modes.specs.declared.mode.Mode.TheVariants.{IS};
 ghost use Rattle.gl_modes.specs.Modes.{is_at_least};
 ghost use Rattle.gl_graph.specs.Refusals.{verdict};
-ghost use Rattle.gl_table.specs.model.State.{no_parents};
+ghost use Rattle.gl_model.specs.State.{no_parents};
 ghost use Rattle.gl_listed.specs.Lists.{mode_of};
-ghost use Rattle.gl_table.specs.model.Calls.{first_not_ix, first_of_all, rule_refusal};
+ghost use Rattle.gl_model.specs.Calls.{first_not_ix, first_of_all, rule_refusal};
 
 use gl_listed::LockList;
 use gl_modes::{Mode, NodeId, Refusal, covers};

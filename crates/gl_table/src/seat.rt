@@ -1,6 +1,6 @@
 //! A transaction that lives.
 
-use crate::txn::Status;
+use gl_model::Status;
 
 /// A transaction that lives.
 #[derive(Clone, Copy)]

@@ -2,11 +2,11 @@
 
 ghost use Rattle.std.specs.Prelude.{◌≡◌, ◌<◌, ◌≤◌, ◌==◌, ℕ, IfOk, None, Some, if◌then◌else◌, length, position, replicate, slice_set};
 ghost use Rattle.gl_slots.specs.Slots.{has_slot};
-ghost use Rattle.gl_table.specs.model.State.{age_in, is_wait, restatus};
+ghost use Rattle.gl_model.specs.State.{age_in, is_wait, restatus};
 ghost use Rattle.gl_table.specs.inside.Seats.{is_free, lives_at, txn_in, txns_of, waits_at};
 
 use crate::seat::Seat;
-use crate::txn::Status;
+use gl_model::Status;
 use gl_slots::Slots;
 use std::alloc::{AllocError, Global};
 use std::marker::Model;

@@ -3,18 +3,16 @@
 ghost use Rattle.std.specs.Prelude.{◌≡◌, ◌≤◌, ◌<◌, ◌+◌, ◌^◌, ◌&&◌, ◌↔◌, ℕ, [], IfErr, IfOk, IfSome, IsNone, None, OnErr, OnOk, Some, if◌then◌else◌};
 ghost use Rattle.gl_modes.specs.declared.refusal.Refusal.{Refusal as ARefusal};
 ghost use Rattle.gl_graph.specs.View.{graph_of};
-ghost use Rattle.gl_table.specs.model.Deadlocks.{no_deadlock};
-ghost use Rattle.gl_table.specs.model.Lawful.{HasNoConflict, IsLawful};
+ghost use Rattle.gl_model.specs.Deadlocks.{no_deadlock};
+ghost use Rattle.gl_model.specs.Lawful.{HasNoConflict, IsLawful};
 ghost use Rattle.gl_header.specs.Headers.{AreHeaders};
-ghost use Rattle.gl_table.specs.model.State.{choosing, empty_state, lives, status_of, with_limits, with_room, HasNoCycle};
-ghost use Rattle.gl_table.specs.model.Table.{ListsAgree, StandOnce, state_of};
-ghost use Rattle.gl_table.specs.declared.answers.Detect.TheVariants.{AtBlock};
+ghost use Rattle.gl_model.specs.State.{choosing, empty_state, lives, status_of, with_limits, with_room, HasNoCycle};
+ghost use Rattle.gl_table.specs.Table.{ListsAgree, StandOnce, state_of};
+ghost use Rattle.gl_model.specs.declared.answers.Detect.TheVariants.{AtBlock};
 
-use crate::answers::Detect;
-use crate::deadlock::Deadlock;
 use crate::locks::Locks;
-use crate::txn::{Status, TxnId};
 use gl_graph::Graph;
+use gl_model::{Deadlock, Detect, Status, TxnId};
 use gl_modes::Refusal;
 use gl_waits::Victims;
 use std::alloc::{AllocError, Global};
@@ -45,7 +43,7 @@ pub struct Table {
 }
 
 impl Model for Table {
-    ghost use Rattle.gl_table.specs.model.Table.{TableView};
+    ghost use Rattle.gl_table.specs.Table.{TableView};
 
     ghost Value = { TableView };
 

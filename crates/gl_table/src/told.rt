@@ -2,10 +2,9 @@
 
 ghost use Rattle.std.specs.Prelude.{◌≡◌, ◌<◌, ◌==◌, ℕ, None, Some, if◌then◌else◌, nat_lt, true};
 ghost use Rattle.std.specs.List.{prefix_len};
-ghost use Rattle.gl_table.specs.inside.Slots.{IsBySlot, is_rising, notices_in};
+ghost use Rattle.gl_model.specs.ToldLists.{IsBySlot, is_rising, notices_in};
 
-use crate::answers::{Notice, Told};
-use crate::txn::TxnId;
+use gl_model::{Notice, Told, TxnId};
 
 /// Adds a notice in its place.
 pub(crate) fn tell(told: &mut Told, t: TxnId, notice: Notice)

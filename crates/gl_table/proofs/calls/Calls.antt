@@ -1,19 +1,26 @@
--- What the calls on the locks make of a table. For the calls that release.
-use Rattle.gl_table.proofs.Words.{[], ◌&&◌, ◌==◌, ◌∙◌, ◌∷◌, ◌≡◌, Active, ap, AreExact, clash, commit_tests, condemned, Deadlock, Detect, false, first_refusal}
-use Rattle.gl_table.proofs.Words.{front_at, get_or, grant_notice, HasNoCycle, held_child, held_children, holds, if◌then◌else◌, is_among_waiters, is_child}
-use Rattle.gl_table.proofs.Words.{is_wait, IsDeadlock, IsLawful, IsOnWay, IsOrderly, IsSound, IsStuck, IsVictim, members, NL, NodeId, nodes, None, not_false}
-use Rattle.gl_table.proofs.Words.{not_held, not_refused, not_true, Ok, Option, refl, Refusal, released, same_number, Settled, SettledWithin, SettlesKeeping}
-use Rattle.gl_table.proofs.Words.{SettlesKeepingWithin, Some, split, State, state_in, state_of, status_of, Stuck, subst, suc, sym, TableView, test_fails, Told}
-use Rattle.gl_table.proofs.Words.{told, told_to, true, TxnId, unlocked, verdict, Victims, view_of, WakesTold, with_grant, zero, ℕ}
+-- What the calls on the locks make of a table, and what tests an ask passes. For the calls that release, and the locks that test.
+use Rattle.gl_table.proofs.Words.{[], ⊎_elim, ◌&&◌, ◌<◌, ◌==◌, ◌∙◌, ◌∷◌, ◌≡◌, Active, ap, AreExact, arith, bad_mode, Bool, cases_lt, clash, commit_tests}
+use Rattle.gl_table.proofs.Words.{condemned, Deadlock, Detect, false, first_refusal, front_at, get_or, grant_notice, HasNoCycle, held_child, held_children}
+use Rattle.gl_table.proofs.Words.{holds, if◌then◌else◌, is_among_waiters, is_child, is_live, is_some, is_wait, IsDeadlock, IsLawful, IsOnWay, IsOrderly}
+use Rattle.gl_table.proofs.Words.{IsSound, IsStuck, IsVictim, keys, length, List, lock_tests, members, Mode, nat_tests, need_parents, NL, NodeId, nodes, None}
+use Rattle.gl_table.proofs.Words.{none_some, not, not_false, not_held, not_refused, not_true, Ok, Option, passed_then, refl, Refusal, refused_first, released}
+use Rattle.gl_table.proofs.Words.{same_number, Settled, SettledWithin, SettlesKeeping, SettlesKeepingWithin, slice_get_past, Some, some_no_node, split, State}
+use Rattle.gl_table.proofs.Words.{state_in, state_of, status_in, status_of, Stuck, subst, suc, sym, TableView, test_fails, Told, told, told_to, true, txn_in}
+use Rattle.gl_table.proofs.Words.{TxnId, txns_of, unlocked, verdict, Victims, view_of, WakesTold, wanted, where_true, with_grant, zero, ℕ}
 use Rattle.gl_table.specs.declared.locks.Locks.{Locks}
 use Rattle.gl_table.specs.declared.table.Table.TheInside.{Inside}
 use Rattle.gl_table.proofs.calls.Queries.{none_found_counted}
-use Rattle.gl_table.proofs.law.Lock.{released-no_cycle, unlocked-lawful, unlocked-no_cycle}
-use Rattle.gl_table.proofs.law.Takes.{released-lawful}
-use Rattle.gl_table.proofs.law.Tests.{active_in}
-use Rattle.gl_table.proofs.telling.Fronts.{front_stands, in_no_queue, well_granted}
-use Rattle.gl_table.proofs.telling.Lists.{told_is}
-use Rattle.gl_table.proofs.telling.Ways.{active_untold, nobody_told, release_tells, way_begins}
+use Rattle.gl_model.proofs.law.Lock.{released-no_cycle, unlocked-lawful, unlocked-no_cycle}
+use Rattle.gl_model.proofs.law.Takes.{released-lawful}
+use Rattle.gl_model.proofs.telling.Fronts.{front_stands, in_no_queue, well_granted}
+use Rattle.gl_model.proofs.telling.Lists.{told_is}
+use Rattle.gl_model.proofs.telling.Ways.{active_untold, nobody_told, release_tells, way_begins}
+use Rattle.gl_modes.specs.declared.refusal.Refusal.TheVariants as no
+use Rattle.gl_graph.specs.declared.kind.Kind.{Kind}
+use Rattle.gl_graph.specs.Graph.{Graph, Node, shape_in}
+use Rattle.gl_graph.specs.Shapes.{File, Index, Inner, Interval, Rec, Shape, kind_in}
+use Rattle.gl_table.specs.declared.seat.Seat.{Seat}
+use Rattle.gl_table.specs.inside.Locks.{AreSound, state_on}
 
 -- What the calls on the locks make of a table.
 
@@ -35,9 +42,7 @@ lawful_orderly s law = record {
 
 -- who passed the tests of a commit is active
 pub is_active : (s : State) (t : TxnId) → first_refusal (commit_tests s t) ≡ None → status_of s t.slot ≡ Some Active
-is_active s t h =
-    let a = not_refused _ _ h in let b = not_refused _ _ a.1 in let c = not_refused _ [] b.1 in
-    active_in t.age (s.txns t.slot) (not_false _ (test_fails _ _ a.0)) b.0 c.0
+is_active s t h = grind (arith, nat_tests)
 
 module _ (i : Inside) (sound : IsSound i) where
   abbrev s : State
@@ -97,13 +102,11 @@ module _ (i : Inside) (sound : IsSound i) where
       where
         noticed : (u : ℕ) → (if is_among_waiters u (front_at (with_grant s t n NL) n) then grant_notice s.txns n (front_at (with_grant s t n NL) n) u else None)
             ≡ told_to s (unlocked s t n) u
-        noticed u = split (u == t)
-            (λ e. ap (λ b. if b then grant_notice s.txns n (front_at (with_grant s t n NL) n) u else None)
+        noticed u = split (u == t) (λ e. ap (λ b. if b then grant_notice s.txns n (front_at (with_grant s t n NL) n) u else None)
             (ap (λ v. is_among_waiters v (front_at (with_grant s t n NL) n)) (same_number u t e) ∙ not_front)
             ∙ sym (active_untold s (unlocked s t n) u (ap (status_of s) (same_number u t e) ∙ active)))
             (λ e. ap (λ o. if is_among_waiters u (front_at (with_grant s t n NL) n) then grant_notice s.txns n (front_at (with_grant s t n NL) n) u else o)
-            (sym (nobody_told s u))
-            ∙ sym (release_tells s s t n (way_begins s sound.lawful) u e))
+            (sym (nobody_told s u)) ∙ sym (release_tells s s t n (way_begins s sound.lawful) u e))
           where
             o : IsOrderly s
             o = lawful_orderly s sound.lawful
@@ -174,3 +177,61 @@ module _ (c : Victims) (t : ℕ) (d : Detect) (v : Victims) (b : ℕ) where
   -- nor does what is kept of deadlocks
   pub keeping_also : (x x' : State) (e e' : Deadlock) → SettlesKeeping c x t e x' e' → SettlesKeeping c (over x) t e (over x') e'
   keeping_also x x' e e' h = (h.0, keeping_on h.0 x x' e e' h.1)
+
+-- The tests of an ask: what refuses it, and what is left to be tested once some have passed. For the locks that test.
+
+-- who is active has a seat
+active_seated : (seats : List (Option Seat)) (t : ℕ) → status_in (txns_of seats t) ≡ Some Active → t < length seats
+active_seated seats t h =
+    ⊎_elim (λ lt. lt) (λ le. absurd (none_some (sym (ap (λ o. status_in (txn_in o)) (slice_get_past seats t le)) ∙ h))) (cases_lt t (length seats))
+
+-- who may ask has a list
+pub asker_listed : (g : Graph) (l : Locks) (t : TxnId) → AreSound l → first_refusal (commit_tests (state_on g l) t) ≡ None → t.slot < length l.lists.items
+asker_listed g l t sound may = subst (λ (k : ℕ). t.slot < k) (sym sound.lists) (active_seated l.seats.items t.slot (is_active (state_on g l) t may))
+
+-- a node lives where it has a kind
+live_kind : (x : Option Node) → is_some x ≡ is_some (kind_in (shape_in x))
+live_kind None = refl
+live_kind (Some x) = kinded x.shape
+  where
+    kinded : (h : Shape) → true ≡ is_some (kind_in (Some h))
+    kinded Inner = refl
+    kinded (File adopted) = refl
+    kinded (Index file bounds) = refl
+    kinded (Interval place) = refl
+    kinded (Rec keys) = refl
+
+pub live_by : (x : Option Node) (k : Kind) → Some k ≡ kind_in (shape_in x) → is_some x ≡ true
+live_by x k is = live_kind x ∙ sym (ap is_some is)
+
+pub dead_by : (x : Option Node) → None ≡ kind_in (shape_in x) → is_some x ≡ false
+dead_by x is = live_kind x ∙ sym (ap is_some is)
+
+one_test : (o : Option Refusal) → first_refusal (o ∷ []) ≡ o
+one_test None = refl
+one_test (Some r) = refl
+
+module _ (s : State) (t : TxnId) (n : NodeId) (m : Mode) where
+  -- the rule of the graph
+  abbrev rule : Option Refusal
+  rule = need_parents s t.slot n (wanted s t.slot n m)
+
+  -- who may not ask at all is refused
+  pub asker_refused : (r : Refusal) → first_refusal (commit_tests s t) ≡ Some r → first_refusal (lock_tests s t n m) ≡ Some r
+  asker_refused r h = refused_first (commit_tests s t) (some_no_node s.graph (n ∷ []) ∷ bad_mode s n m ∷ rule ∷ []) r h
+
+  module _ (may : first_refusal (commit_tests s t) ≡ None) where
+    node_decides : (b : Bool) → is_live s.graph n ≡ b
+        → first_refusal (lock_tests s t n m) ≡ first_refusal (where_true (not (b && true)) no.NoSuchNode ∷ bad_mode s n m ∷ rule ∷ [])
+    node_decides b is = grind (arith, nat_tests, passed_then (commit_tests s t) (some_no_node s.graph (n ∷ []) ∷ bad_mode s n m ∷ rule ∷ []) may, is)
+
+    pub node_refused : is_live s.graph n ≡ false → first_refusal (lock_tests s t n m) ≡ Some no.NoSuchNode
+    node_refused dead = node_decides false dead
+
+    module _ (live : is_live s.graph n ≡ true) where
+      pub mode_refused : bad_mode s n m ≡ Some no.BadMode → first_refusal (lock_tests s t n m) ≡ Some no.BadMode
+      mode_refused bad = node_decides true live ∙ ap (λ o. first_refusal (o ∷ rule ∷ [])) bad
+
+      -- only the rule of the graph is left to be tested
+      pub rule_decides : bad_mode s n m ≡ None → first_refusal (lock_tests s t n m) ≡ rule
+      rule_decides good = node_decides true live ∙ ap (λ o. first_refusal (o ∷ rule ∷ [])) good ∙ one_test rule

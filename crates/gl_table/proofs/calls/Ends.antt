@@ -1,25 +1,20 @@
 -- What the ends of waits and of transactions make of a table. For cancels, commits, aborts and settles.
-use Rattle.gl_table.proofs.Words.{[], ◌==◌, ◌||◌, ◌∙◌, ◌≡◌, Active, ap, AreExact, Bool, cancelled, clash, Deadlock, false, front_at, granted_at, HasNoCycle}
-use Rattle.gl_table.proofs.Words.{holds, if◌then◌else◌, is_waiting_at, IsBySlot, IsLawful, IsOnWay, IsSound, List, members, NodeId, None, notices_in}
-use Rattle.gl_table.proofs.Words.{number_same, Option, refl, released, same_number, Settled, SettlesKeeping, split, State, state_in, state_of, status_in}
-use Rattle.gl_table.proofs.Words.{status_of, stripped, subst, sym, TellsOthers, Told, told, told_but, told_to, true, Txn, view_of, Waiter, WakesTold}
-use Rattle.gl_table.proofs.Words.{without_wait, woken, ℕ}
+use Rattle.gl_table.proofs.Words.{[], ◌==◌, ◌||◌, ◌∙◌, ◌≡◌, Active, ap, AreExact, arith, cancelled, Deadlock, front_at, granted_at, HasNoCycle, holds}
+use Rattle.gl_table.proofs.Words.{is_waiting_at, IsBySlot, IsLawful, IsOnWay, IsSound, members, nat_tests, NodeId, None, notices_in, number_same, refl}
+use Rattle.gl_table.proofs.Words.{released, same_number, Settled, SettlesKeeping, split, State, state_in, state_of, status_of, stripped, subst, sym}
+use Rattle.gl_table.proofs.Words.{TellsOthers, Told, told, told_but, told_to, true, view_of, WakesTold, without_wait, ℕ}
 use Rattle.gl_table.specs.declared.locks.Locks.{Locks}
 use Rattle.gl_table.specs.declared.table.Table.TheInside.{Inside}
 use Rattle.gl_table.proofs.calls.Calls.{keeping_also, orderly, settled_also, state_released, table_way}
 use Rattle.gl_table.proofs.inside.Departures.{cancelled_own, cancelled_tells}
-use Rattle.gl_table.proofs.law.Lock.{given_up-no_cycle, settled-no_cycle}
-use Rattle.gl_table.proofs.law.Takes.{settled-lawful, without_wait-lawful}
-use Rattle.gl_table.proofs.telling.Lists.{told_but_is, told_is}
-use Rattle.gl_table.proofs.telling.Ways.{gone_untold, is_by_test, nobody_told}
+use Rattle.gl_model.proofs.law.Lock.{given_up-no_cycle, settled-no_cycle}
+use Rattle.gl_model.proofs.law.Takes.{settled-lawful, without_wait-lawful}
+use Rattle.gl_model.proofs.telling.Lists.{told_but_is, told_is}
+use Rattle.gl_model.proofs.telling.Ways.{gone_untold, is_by_test, nobody_told}
 
 -- who is released has no slot
 released_gone : (s : State) (t : ℕ) → status_of (released s t) t ≡ None
-released_gone s t = by (granted_at (stripped s t) (λ n. holds (members s n) t || is_waiting_at s t n)) (t == t) (number_same t t refl) (s.txns t)
-  where
-    by : (g : NodeId → List Waiter) (b : Bool) → b ≡ true → (x : Option Txn) → status_in (woken g t (if b then None else x)) ≡ None
-    by g true e x = refl
-    by g false e x = clash e refl
+released_gone s t = grind (arith, nat_tests, granted_at (stripped s t) (λ n. holds (members s n) t || is_waiting_at s t n), number_same t t refl)
 
 module _ (i : Inside) (sound : IsSound i) where
   abbrev s : State
@@ -33,8 +28,7 @@ module _ (i : Inside) (sound : IsSound i) where
   pub told_ended : (t : ℕ) (locks : Locks) → state_in i.graph locks ≡ released l t → (first list : Told) → first ≡ []
       → TellsOthers t l (state_in i.graph locks) first list → list ≡ told s (state_of (view_of (record i { locks = locks })))
   told_ended t locks is first list none tells =
-      told_is s after list sound.lawful sound.exact.sound.few tells.by_slot
-      (λ u. split (u == t)
+      told_is s after list sound.lawful sound.exact.sound.few tells.by_slot (λ u. split (u == t)
       (λ e. ap (notices_in list) (same_number u t e) ∙ tells.own ∙ ap (λ xs. notices_in xs t) none
       ∙ sym (ap (told_to s after) (same_number u t e) ∙ gone_untold s after t gone))
       (λ e. tells.others s (table_way i sound) (λ v k. ap (λ xs. notices_in xs v) none ∙ sym (nobody_told s v)) u e))
@@ -64,8 +58,7 @@ module _ (i : Inside) (sound : IsSound i) where
     pub told_cancelled : (first list : Told) → first ≡ [] → WakesTold l.txns n (front_at (without_wait l t Active) n) first list
         → list ≡ told_but t s (state_of (view_of after))
     told_cancelled first list none tells =
-        told_but_is s (state_of (view_of after)) t list sound.lawful sound.exact.sound.few tells.by_slot
-        (λ u. is_by_test (u == t)
+        told_but_is s (state_of (view_of after)) t list sound.lawful sound.exact.sound.few tells.by_slot (λ u. is_by_test (u == t)
         (λ e. ap (notices_in list) (same_number u t e) ∙ cancelled_own l (orderly i sound) t n waits first list tells ∙ ap (λ xs. notices_in xs t) none)
         (λ e. (cancelled_tells l (orderly i sound) t n waits first list tells s (table_way i sound) (λ v k. ap (λ xs. notices_in xs v) none
         ∙ sym (nobody_told s v))).1 u e ∙ ap (λ x. told_to s x u) (sym is)))
@@ -93,8 +86,7 @@ module _ (i : Inside) (sound : IsSound i) where
     -- who is granted is told, and who is a victim
     pub told_settled : (first list : Told) → first ≡ [] → IsBySlot list
         → ((from : State) → IsOnWay from l → ((u : ℕ) → notices_in first u ≡ told_to from l u) → (u : ℕ)
-        → notices_in list u ≡ told_to from (state_in i.graph locks) u)
-        → list ≡ told s (state_of (view_of now))
+        → notices_in list u ≡ told_to from (state_in i.graph locks) u) → list ≡ told s (state_of (view_of now))
     told_settled first list none by_slot tells =
         told_is s (state_of (view_of now)) list sound.lawful sound.exact.sound.few by_slot
         (tells s (table_way i sound) (λ u. ap (λ xs. notices_in xs u) none ∙ sym (nobody_told s u)))

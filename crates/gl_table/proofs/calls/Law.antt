@@ -1,28 +1,26 @@
 -- What holds of a table's fields: of every table, of a new one, with new nodes and with one transaction more.
-use Rattle.gl_table.proofs.Words.{is_live, with_graph}
-use Rattle.gl_table.proofs.law.Keeps.{apart}
-use Rattle.gl_table.proofs.queues.Walks.{same}
-use Rattle.gl_table.proofs.Words.{[], ◌&&◌, ◌+◌, ◌<◌, ◌==◌, ◌||◌, ◌∙◌, ◌∷◌, ◌≡◌, ◌≤◌, Active, ap, AreApart, AreDistinct, AreNew, arith, begin_tests, begun}
-use Rattle.gl_table.proofs.Words.{Bool}
-use Rattle.gl_table.proofs.Words.{by_list, children_that, choosing, clash, cond, count_in, counted_by, empty_state, Entry, entry_of, Err}
-use Rattle.gl_table.proofs.Words.{false, find, first_refusal, free_slot, get_or, graph_of, HasNoCycle, held_children, held_of, holds, IfOk, if◌then◌else◌}
-use Rattle.gl_table.proofs.Words.{is_among_waiters, is_free, is_none, is_some, is_wait, is_waiting_at, IsApart, IsDistinct, IsLawful, IsSound, IsUnique}
-use Rattle.gl_table.proofs.Words.{keys_of, length, length-set, List, list_all, ListsAgree, LockList, lookup, loose_of, map, max_count, Members, members}
-use Rattle.gl_table.proofs.Words.{mode_in, nat_lt, nat_tests, NodeId, None, not, Ok, OnErr, Option, option_map_or, position, position-Some, position_or_len}
-use Rattle.gl_table.proofs.Words.{queue_of, range_with_len, refl, Refusal, Refuses, replicate, Result, same_node, Seat, SeatList, slice_get, slice_get-get_or}
-use Rattle.gl_table.proofs.Words.{slice_set, Some, StandOnce, State, state_of, status_in, status_of, subst, suc, sym, TableView, too_many_txns, true}
-use Rattle.gl_table.proofs.Words.{txn_in, txns_of, unused-nobody, View, view_of, where_true, zero, ℕ}
+use Rattle.gl_table.proofs.Words.{[], ◌+◌, ◌<◌, ◌==◌, ◌||◌, ◌∙◌, ◌∷◌, ◌≡◌, ◌≤◌, Active, ap, AreApart, AreDistinct, AreNew, arith, begin_tests, begun, Bool}
+use Rattle.gl_table.proofs.Words.{by_list, children_that, choosing, clash, cond, count_in, counted_by, empty_state, Entry, entry_of, Err, false, find}
+use Rattle.gl_table.proofs.Words.{first_refusal, free_slot, get_or, graph_of, HasNoCycle, held_children, held_of, holds, IfOk, is_among_waiters, is_free}
+use Rattle.gl_table.proofs.Words.{is_live, is_none, is_some, is_wait, is_waiting_at, IsApart, IsDistinct, IsLawful, IsSound, IsUnique, keys_of, length}
+use Rattle.gl_table.proofs.Words.{length-set, List, list_all, ListsAgree, LockList, lookup, loose_of, map, max_count, Members, members, mode_in, nat_lt}
+use Rattle.gl_table.proofs.Words.{nat_tests, NodeId, None, not, Ok, OnErr, Option, option_map_or, position, position-Some, position_or_len, queue_of}
+use Rattle.gl_table.proofs.Words.{range_with_len, refl, Refusal, Refuses, replicate, Result, same_node, Seat, SeatList, slice_get, slice_get-get_or, slice_set}
+use Rattle.gl_table.proofs.Words.{Some, StandOnce, State, state_of, status_in, status_of, subst, suc, sym, TableView, too_many_txns, true, txn_in, txns_of}
+use Rattle.gl_table.proofs.Words.{unused-nobody, View, view_of, where_true, with_graph, zero, ℕ}
+use Rattle.gl_model.proofs.law.Keeps.{apart}
+use Rattle.gl_model.proofs.queues.Walks.{same}
 use Rattle.std.specs.Prelude.{◌^◌}
-use Rattle.gl_table.specs.model.State.{with_limits}
+use Rattle.gl_model.specs.State.{with_limits}
 use Rattle.gl_table.specs.declared.table.Table.TheInside.{Inside}
 use Rattle.gl_modes.specs.declared.refusal.Refusal.TheVariants as no
 use Rattle.gl_table.proofs.inside.Seats.{txns-set}
-use Rattle.gl_table.proofs.law.Keeps.{waiting_is}
-use Rattle.gl_table.proofs.law.Lock.{begun-no_cycle, empty-no_cycle}
-use Rattle.gl_table.proofs.law.Records.{born-children, grown-lawful, Grows}
-use Rattle.gl_table.proofs.law.Searches.{same_bool}
-use Rattle.gl_table.proofs.law.Takes.{begun-lawful, roomy-lawful}
-use Rattle.gl_table.proofs.queues.Waiters.{among_by_filter}
+use Rattle.gl_model.proofs.law.Keeps.{waiting_is}
+use Rattle.gl_model.proofs.law.Lock.{begun-no_cycle, empty-no_cycle}
+use Rattle.gl_model.proofs.law.Records.{born-children, grown-lawful, Grows}
+use Rattle.gl_model.proofs.law.Searches.{same_bool}
+use Rattle.gl_model.proofs.law.Takes.{begun-lawful, roomy-lawful}
+use Rattle.gl_model.proofs.queues.Waiters.{among_by_filter}
 
 -- What holds of a table's fields, in the words of what a contract sees.
 
@@ -91,8 +89,7 @@ free_seats (suc k) zero = refl
 free_seats (suc k) (suc t) = free_seats k t
 
 module _ (i : Inside) (most : ℕ) (few : most ≤ 128) (low : i.graph.most ≤ 2 ^ 31)
-    (none : (birth : ℕ) → (graph_of i.graph).at birth ≡ None) (births : i.graph.births ≡ 0)
-    (begins : i.begins ≡ 0) (new : AreNew i.locks most) where
+    (none : (birth : ℕ) → (graph_of i.graph).at birth ≡ None) (births : i.graph.births ≡ 0) (begins : i.begins ≡ 0) (new : AreNew i.locks most) where
   abbrev s : State
   s = state_of (view_of i)
 
@@ -165,15 +162,13 @@ module _ (i : Inside) (sound : IsSound i) (v : View) where
 
   -- a call that makes nodes passed all its tests, and one that is refused left the graph as it was
   pub suited-call : (refusal : Option Refusal) (result : Result NodeId Refusal) (Made : NodeId → Type 0) → Refuses refusal result → IfOk result Made
-      → OnErr result (v ≡ i.graph)
-      → ((n : NodeId) → refusal ≡ None → Made n → Suits) → IsSound grown
+      → OnErr result (v ≡ i.graph) → ((n : NodeId) → refusal ≡ None → Made n → Suits) → IsSound grown
   suited-call None (Ok n) Made refuses made same suits = suited-sound (suits n refl made)
   suited-call (Some r) (Ok n) Made refuses made same suits = absurd (cc)
   suited-call refusal (Err r) Made refuses made same suits = subst (λ (w : View). IsSound (record i { graph = w })) (sym same) sound
 
   pub called-sound : (refusal : Option Refusal) (result : Result NodeId Refusal) (Made : NodeId → Type 0) → Refuses refusal result → IfOk result Made
-      → OnErr result (v ≡ i.graph)
-      → ((n : NodeId) → refusal ≡ None → Made n → Grows (graph_of i.graph) (graph_of v)) → IsSound grown
+      → OnErr result (v ≡ i.graph) → ((n : NodeId) → refusal ≡ None → Made n → Grows (graph_of i.graph) (graph_of v)) → IsSound grown
   called-sound refusal result Made refuses made same grows = suited-call refusal result Made refuses made same (λ n free it. grown-suits (grows n free it))
 
 -- A transaction takes the lowest free seat.
@@ -195,17 +190,12 @@ find-places f p (x ∷ xs) k h =
     by : (b : Bool) (q : ℕ) → find p (range_with_len (k + 1) (length xs)) ≡ cond (nat_lt q (length xs)) (Some (k + 1 + q)) None
         → cond b (Some k) (find p (range_with_len (k + 1) (length xs)))
         ≡ cond (nat_lt (cond (not b) (1 + q) 0) (suc (length xs))) (Some (k + cond (not b) (1 + q) 0)) None
-    by true q e = grind (arith, nat_tests)
-    by false q e = e ∙ grind (arith, nat_tests)
+    by b q h1 = grind (arith, nat_tests)
 
 -- all pass where none is found that does not
 all-by_find : {X : Type 0} (p : X → Bool) (xs : List X) → list_all p xs ≡ is_none (find (λ x. not (p x)) xs)
 all-by_find p [] = refl
-all-by_find p (x ∷ xs) = by (p x) (all-by_find p xs)
-  where
-    by : (b : Bool) → list_all p xs ≡ is_none (find (λ y. not (p y)) xs) → (b && list_all p xs) ≡ is_none (cond (not b) (Some x) (find (λ y. not (p y)) xs))
-    by true e = e
-    by false e = refl
+all-by_find p (x ∷ xs) = grind (arith, nat_tests, p x, all-by_find p xs)
 
 free-none : (o : Option Seat) → is_none (txn_in (Some o)) ≡ is_free o
 free-none None = refl
@@ -239,8 +229,7 @@ begin-refusal first o left is =
     not_worn b k = grind (arith, nat_tests)
 
     last : (b : Bool) → first_refusal (None ∷ where_true b no.TooManyTxns ∷ []) ≡ where_true b no.TooManyTxns
-    last true = refl
-    last false = refl
+    last b = grind (arith, nat_tests)
 
 module _ (i : Inside) (sound : IsSound i) (t : ℕ) (at : Some t ≡ position is_free i.locks.seats.items)
     (seats : SeatList) (seated : seats.items ≡ slice_set i.locks.seats.items t (Some (record { age = i.begins + 1; status = Active }))) where
@@ -275,12 +264,7 @@ module _ (i : Inside) (sound : IsSound i) (t : ℕ) (at : Some t ≡ position is
 
   -- who waits was there before
   waited : (u : ℕ) → is_wait (status_in ((begun first t).txns u)) ≡ true → is_wait (status_in (first.txns u)) ≡ true
-  waited u = by (u == t)
-    where
-      by : (b : Bool) → is_wait (status_in (if b then Some (record { age = first.begins + 1; status = Active }) else first.txns u)) ≡ true
-          → is_wait (status_in (first.txns u)) ≡ true
-      by true h = clash h refl
-      by false h = h
+  waited u = grind (arith, nat_tests)
 
   pub begun-sound : IsSound begun_in
   begun-sound = record {

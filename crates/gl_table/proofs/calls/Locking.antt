@@ -1,21 +1,19 @@
 -- What a lock that is granted, and one that waits, makes of a table. For the calls that lock.
-use Rattle.gl_table.proofs.Words.{[], ◌&&◌, ◌==◌, ◌∙◌, ◌∷◌, ◌≡◌, Active, ap, ap₂, AreExact, AtBlock, Bool, ByWatcher, clash}
-use Rattle.gl_table.proofs.Words.{Deadlock, Detect, enqueued, enters_at, Err, false, first_refusal, granted, HasNoCycle}
-use Rattle.gl_table.proofs.Words.{held_of, if◌then◌else◌, is_granted_at, IsLawful, IsOrderly, IsSound, KeepsLocks, length, lock_tests, locked_as}
-use Rattle.gl_table.proofs.Words.{LocksKeeping, Mode, NodeId, None, not, number_same, Ok, OnErr, OnOk}
-use Rattle.gl_table.proofs.Words.{Option, passed_then, queue_of, refl, Refusal, refused_first, Refuses, Result, same_node-refl, Some}
-use Rattle.gl_table.proofs.Words.{State, state_in, state_of, status_of, subst, sym, TableView, Told, told_but, true}
-use Rattle.gl_table.proofs.Words.{try_tests, TxnId, txns_of, Victims, view_of, WaitSettles, WaitSettlesKeeping, wanted, where_true}
-use Rattle.gl_table.proofs.Words.{verdict, would_block, ℕ}
+use Rattle.gl_table.proofs.Words.{[], ◌==◌, ◌∙◌, ◌∷◌, ◌≡◌, Active, ap, AreExact, arith, AtBlock, Bool, ByWatcher, clash, Deadlock, Detect, enqueued, enters_at}
+use Rattle.gl_table.proofs.Words.{Err, false, first_refusal, granted, HasNoCycle, held_of, if◌then◌else◌, is_granted_at, IsLawful, IsOrderly, IsSound}
+use Rattle.gl_table.proofs.Words.{KeepsLocks, length, lock_tests, locked_as, LocksKeeping, Mode, nat_tests, NodeId, None, number_same, Ok, OnErr, OnOk, Option}
+use Rattle.gl_table.proofs.Words.{passed_then, queue_of, refl, Refusal, refused_first, Refuses, Result, same_node-refl, Some, State, state_in, state_of}
+use Rattle.gl_table.proofs.Words.{status_of, subst, sym, TableView, Told, told_but, true, try_tests, TxnId, txns_of, verdict, Victims, view_of, WaitSettles}
+use Rattle.gl_table.proofs.Words.{WaitSettlesKeeping, wanted, would_block, ℕ}
 use Rattle.gl_table.specs.declared.table.Table.TheInside.{Inside}
-use Rattle.gl_table.specs.model.Calls.{Locks}
+use Rattle.gl_model.specs.Calls.{Locks}
 use Rattle.gl_modes.specs.declared.refusal.Refusal.TheVariants as no
 use Rattle.gl_table.specs.declared.locks.Locks as code
-use Rattle.gl_table.specs.declared.answers.Locked.TheVariants as locked
+use Rattle.gl_model.specs.declared.answers.Locked.TheVariants as locked
 use Rattle.gl_table.proofs.calls.Calls.{keeping_also, lawful_orderly, orderly, over, settled_also}
-use Rattle.gl_table.proofs.law.Lock.{granted-lawful, granted-no_cycle, locks-lawful, locks-no_cycle, may_lock, MayLock, waiting-lawful}
-use Rattle.gl_table.proofs.telling.Fronts.{enters-most}
-use Rattle.gl_table.proofs.telling.Lists.{told_but_same, told_nothing}
+use Rattle.gl_model.proofs.law.Lock.{granted-lawful, granted-no_cycle, locks-lawful, locks-no_cycle, may_lock, MayLock, waiting-lawful}
+use Rattle.gl_model.proofs.telling.Fronts.{enters-most}
+use Rattle.gl_model.proofs.telling.Lists.{told_but_same, told_nothing}
 
 -- The tests of an ask, and what a grant makes of a table.
 
@@ -36,8 +34,7 @@ unrefused (Some r) x h = absurd (cc)
 
 blocked : (s : State) (t : ℕ) (n : NodeId) (m : Mode) (b : Bool) → enters_at s t n m ≡ b
     → first_refusal (would_block s t n m ∷ []) ≡ (if b then None else Some no.WouldBlock)
-blocked s t n m true e = ap (λ b. first_refusal (where_true (not b) no.WouldBlock ∷ [])) e
-blocked s t n m false e = ap (λ b. first_refusal (where_true (not b) no.WouldBlock ∷ [])) e
+blocked s t n m b h1 = grind (arith, nat_tests)
 
 module _ (s : State) (t : TxnId) (n : NodeId) (m : Mode) where
   -- what refuses a lock refuses a try
@@ -109,8 +106,7 @@ module _ (i : Inside) (sound : IsSound i) (t : TxnId) (n : NodeId) (m : Mode) wh
 
 -- what a try answers once the tests of a lock passed, by what the header says
 pub decided : (i : Inside) (sound : IsSound i) (v : TableView) → view_of i ≡ v → (t : TxnId) (n : NodeId) (m : Mode)
-    → first_refusal (lock_tests (state_of v) t n m) ≡ None → (b : Bool)
-    → b ≡ is_granted_at i.locks.headers.entries t.slot n m
+    → first_refusal (lock_tests (state_of v) t n m) ≡ None → (b : Bool) → b ≡ is_granted_at i.locks.headers.entries t.slot n m
     → first_refusal (try_tests (state_of v) t n m) ≡ (if b then None else Some no.WouldBlock)
 decided i sound v view t n m h b e =
     try_decides (state_of v) t n m h b (ap (λ (w : TableView). enters_at (state_of w) t.slot n m) (sym view) ∙ sym (same_enters i sound t n m) ∙ sym e)
@@ -142,12 +138,8 @@ granted_keeps before s' t n m d enters = record { at_once = λ h. refl; waits = 
 
 -- and its answer is the granted mode
 pub granted_answer : (before s' : State) (t : ℕ) (n : NodeId) (m x : Mode) → status_of before t ≡ Some Active → s' ≡ granted before t n m
-    → x ≡ wanted before t n m
-    → locked.Granted x ≡ locked_as (s'.held t n) (status_of s' t)
-granted_answer before s' t n m x active is mode =
-    ap locked.Granted mode
-    ∙ sym (ap₂ locked_as (ap₂ (λ a b. if a && b then wanted before t n m else before.held t n) (number_same t t refl) (same_node-refl n)) active)
-    ∙ ap (λ (z : State). locked_as (z.held t n) (status_of z t)) (sym is)
+    → x ≡ wanted before t n m → locked.Granted x ≡ locked_as (s'.held t n) (status_of s' t)
+granted_answer before s' t n m x active is mode = grind (arith, nat_tests, mode, number_same t t refl, same_node-refl n, active, is)
 
 -- and nobody is told
 pub granted_told : (before s' : State) (t : ℕ) (n : NodeId) (m : Mode) → IsLawful before → s' ≡ granted before t n m → [] ≡ told_but t before s'
@@ -184,8 +176,7 @@ module _ (i : Inside) (sound : IsSound i) (t : TxnId) (n : NodeId) (m : Mode) (m
       state_locked = record {
         at_once = λ h. clash h blocks;
         waits = λ h. settles_on i.detect i.victims (enqueued alone t.slot n (wanted alone t.slot n m)) (state_in i.graph left) t.slot i.detect i.victims
-            i.begins
-            (subst (λ (x : State). WaitSettles i.detect i.victims x t.slot (state_in i.graph left)) is settles);
+            i.begins (subst (λ (x : State). WaitSettles i.detect i.victims x t.slot (state_in i.graph left)) is settles);
       }
 
       -- with what is kept of deadlocks
@@ -194,9 +185,7 @@ module _ (i : Inside) (sound : IsSound i) (t : TxnId) (n : NodeId) (m : Mode) (m
       kept_locked keeps = record {
         at_once = λ h. clash h blocks;
         waits = λ h. keeps_on i.detect i.victims (enqueued alone t.slot n (wanted alone t.slot n m)) (state_in i.graph left) t.slot i.deadlock kept i.detect
-            i.victims
-            i.begins
-            (subst (λ (x : State). WaitSettlesKeeping i.detect i.victims x t.slot i.deadlock (state_in i.graph left) kept) is keeps);
+            i.victims i.begins (subst (λ (x : State). WaitSettlesKeeping i.detect i.victims x t.slot i.deadlock (state_in i.graph left) kept) is keeps);
       }
 
       pub sound_locked : AreExact i.graph left → IsSound waited
@@ -210,13 +199,11 @@ module _ (i : Inside) (sound : IsSound i) (t : TxnId) (n : NodeId) (m : Mode) (m
       pub told_locked : (list : Told) → list ≡ told_but t.slot (state_in i.graph locks) (state_in i.graph left)
           → list ≡ told_but t.slot before (state_of (view_of waited))
       told_locked list told =
-          told
-          ∙ ap (λ (x : State). told_but t.slot x (state_of (view_of waited))) is
+          told ∙ ap (λ (x : State). told_but t.slot x (state_of (view_of waited))) is
           ∙ told_but_same before (enqueued alone t.slot n (wanted alone t.slot n m)) (state_of (view_of waited)) t.slot refl (λ u e. others (u == t.slot) _ _ e)
         where
           others : {A : Type 0} (b : Bool) (x y : A) → b ≡ false → (if b then x else y) ≡ y
-          others true x y e = clash (sym e) refl
-          others false x y e = refl
+          others b x y h1 = grind (arith, nat_tests)
 
 -- what is refused is so whatever it would have answered
 pub refuses_err : (A B : Type 0) (o : Option Refusal) (r : Refusal) → Refuses {T = A} o (Err r) → Refuses {T = B} o (Err r)

@@ -1,22 +1,22 @@
 -- A node moved and the locks followed: what it makes of a table. For the calls that move.
-use Rattle.gl_table.proofs.Words.{[], ◌&&◌, ◌+◌, ◌<◌, ◌==◌, ◌^◌, ◌||◌, ◌∙◌, ◌∷◌, ◌≡◌, ◌≤◌, Active, Agrees, and_both, ap, ap₂, AreInnerParents, AreSound, arith}
-use Rattle.gl_table.proofs.Words.{at_least-not_NL, Bool, children_that, count_by, count_by-le-length, count_none, counted_by, CountsHeld, false, first_cycle}
-use Rattle.gl_table.proofs.Words.{fits, fits-limit, Graph, graph_of, HasNoCycle, held_children, holds, if◌then◌else◌, is_among_waiters, is_at_least, is_listed}
-use Rattle.gl_table.proofs.Words.{is_live, is_movable_shape, is_record_shape, IsBySlot, IsLawful, IsOrderly, IsSound, IX, least_parents, List, list_all}
-use Rattle.gl_table.proofs.Words.{listed_by, LockList, members, Mode, moved_to, need_exclusive, need_new_parents, NL, Node, NodeId, None, not, not_true}
-use Rattle.gl_table.proofs.Words.{notices_in, Option, option_map_or, other_number, parents_of, refl, rekeyed, rekeyed_parents, same_mode, same_node}
+use Rattle.gl_table.proofs.Words.{[], ⊎_elim, ◌&&◌, ◌+◌, ◌<◌, ◌==◌, ◌^◌, ◌||◌, ◌∙◌, ◌∷◌, ◌≡◌, ◌≤◌, Active, Agrees, and_both, ap, ap₂, AreInnerParents, AreSound}
+use Rattle.gl_table.proofs.Words.{arith, at_least-not_NL, Bool, children_that, count_by, count_by-le-length, count_none, counted_by, CountsHeld, false}
+use Rattle.gl_table.proofs.Words.{first_cycle, fits, fits-limit, Graph, graph_of, HasNoCycle, held_children, holds, if◌then◌else◌, is_among_waiters}
+use Rattle.gl_table.proofs.Words.{is_at_least, is_listed, is_live, is_movable_shape, is_record_shape, IsBySlot, IsLawful, IsOrderly, IsSound, IX, least_parents}
+use Rattle.gl_table.proofs.Words.{List, list_all, listed_by, LockList, members, Mode, moved_to, need_exclusive, need_new_parents, NL, Node, NodeId, None, not}
+use Rattle.gl_table.proofs.Words.{not_true, notices_in, Option, option_map_or, other_number, parents_of, refl, rekeyed, rekeyed_parents, same_mode, same_node}
 use Rattle.gl_table.proofs.Words.{same_number, shape_of, slice_get, slot_limit, Some, some_given, split, State, state_in, state_of, state_on, status_of, stays}
-use Rattle.gl_table.proofs.Words.{subst, sym, TableView, Told, told, told_to, true, unlisted, unlisted_by, View, view_of, with_parents, X, ℕ, ⊎_elim}
+use Rattle.gl_table.proofs.Words.{subst, sym, TableView, Told, told, told_to, true, unlisted, unlisted_by, View, view_of, with_parents, X, ℕ}
 use Rattle.gl_table.specs.declared.locks.Locks.{Locks}
 use Rattle.gl_table.specs.declared.table.Table.TheInside.{Inside}
 use Rattle.gl_table.proofs.calls.Calls.{lawful_orderly, orderly}
 use Rattle.gl_table.proofs.inside.TurnedAway.{is_lost, moved_notice, moved_told}
-use Rattle.gl_table.proofs.law.Effects.{x_is}
-use Rattle.gl_table.proofs.law.Move.{changed_keeps, HoldsNode, HoldsParents, live_kept, may_be_moved, may_be_rekeyed, moved-no_cycle, moved_node, Moves}
-use Rattle.gl_table.proofs.law.Move.{new_parents, node_there, nodes_kept, only_mover, others_parents, rekeyed_to, waiter_bare, waiters_stuck}
-use Rattle.gl_table.proofs.queues.Counts.{children_few, children_moved, parents_counted, parents_few}
-use Rattle.gl_table.proofs.telling.Fronts.{members_within}
-use Rattle.gl_table.proofs.telling.Lists.{told_is}
+use Rattle.gl_model.proofs.law.Effects.{x_is}
+use Rattle.gl_model.proofs.law.Move.{changed_keeps, HoldsNode, HoldsParents, live_kept, may_be_moved, may_be_rekeyed, moved-no_cycle, moved_node, Moves}
+use Rattle.gl_model.proofs.law.Move.{new_parents, node_there, nodes_kept, only_mover, others_parents, rekeyed_to, waiter_bare, waiters_stuck}
+use Rattle.gl_model.proofs.queues.Counts.{children_few, children_moved, parents_counted, parents_few}
+use Rattle.gl_model.proofs.telling.Fronts.{members_within}
+use Rattle.gl_model.proofs.telling.Lists.{told_is}
 
 -- all of these are listed
 none_unlisted : (ls : List LockList) (t : ℕ) (ps : List NodeId) → list_all (listed_by ls t) ps ≡ true → unlisted_by ls t ps ≡ 0
@@ -28,8 +28,7 @@ none_unlisted ls t ps h = by (slice_get ls t) h
 
 -- what is held is listed
 all_listed : (s : State) (ls : List LockList) (t : ℕ) → Agrees s ls t → (test : Mode → Bool) → ((m : Mode) → test m ≡ true → same_mode m NL ≡ false)
-    → (ps : List NodeId)
-    → list_all (λ p. test (s.held t p)) ps ≡ true → list_all (listed_by ls t) ps ≡ true
+    → (ps : List NodeId) → list_all (λ p. test (s.held t p)) ps ≡ true → list_all (listed_by ls t) ps ≡ true
 all_listed s ls t agree test locks [] h = refl
 all_listed s ls t agree test locks (p ∷ ps) h =
     let two = and_both (test (s.held t p)) _ h in
@@ -85,13 +84,10 @@ module _ (i : Inside) (sound : IsSound i) (t : ℕ) (n : NodeId) (was is : Node)
   -- and its new parents are listed
   pub listed_moved : unlisted_by i.locks.lists.items t (parents_of g' n) ≡ 0
   listed_moved = none_unlisted i.locks.lists.items t (parents_of g' n)
-      (subst (λ (ps : List NodeId). list_all (listed_by i.locks.lists.items t) ps ≡ true) (sym here)
-      (⊎_elim
+      (subst (λ (ps : List NodeId). list_all (listed_by i.locks.lists.items t) ps ≡ true) (sym here) (⊎_elim
       (λ (a : HoldsNode s t n is.parents). all_listed l i.locks.lists.items t (agree_moved t) (λ k. is_at_least k IX) (λ k h. at_least-not_NL k IX h refl)
-      is.parents a.new)
-      (λ (b : HoldsParents s t n is.parents). all_listed l i.locks.lists.items t (agree_moved t) (λ k. same_mode k X)
-      (λ k h. at_least-not_NL k IX (x_is k h) refl) is.parents b.new)
-      m.right))
+      is.parents a.new) (λ (b : HoldsParents s t n is.parents). all_listed l i.locks.lists.items t (agree_moved t) (λ k. same_mode k X)
+      (λ k h. at_least-not_NL k IX (x_is k h) refl) is.parents b.new) m.right))
 
   pub few_moved : (q : NodeId) → counted_by i.locks.lists.items t q + count_by (same_node q) (parents_of g' n) < 2 ^ 32
   few_moved q =
@@ -121,8 +117,7 @@ module _ (i : Inside) (sound : IsSound i) (t : ℕ) (n : NodeId) (was is : Node)
         let moved = children_moved s.graph g' sound.lawful.graph m.lawful n (nodes_kept s t n was is g' m) (others_parents s t n was is g' m)
         (node_there s t n was is g' m) (live n ∙ node_there s t n was is g' m) (holding u) p in
         let same : ((u == t) && holds (members l n) t) ≡ holding u n = split (u == t)
-        (λ e. ap (λ b. b && holds (members l n) t) e ∙ ap (λ x. holding x n) (sym (same_number u t e)))
-        (λ e. ap (λ b. b && holds (members l n) t) e ∙ sym
+        (λ e. ap (λ b. b && holds (members l n) t) e ∙ ap (λ x. holding x n) (sym (same_number u t e))) (λ e. ap (λ b. b && holds (members l n) t) e ∙ sym
         (not_true _ (λ h. other_number u t e (only_mover s sound.lawful t n is.parents m.active m.right u h)))) in
         let written = subst
         (λ (b : Bool). counted_by locks.lists.items u p + (if b then count_by (same_node p) (parents_of s.graph n) else 0)
@@ -171,8 +166,7 @@ module _ (i : Inside) (sound : IsSound i) (w : TableView) (view : view_of i ≡ 
   pub move_call : (n : NodeId) (ps : List NodeId) → status_of x t ≡ Some Active → is_movable_shape (shape_of x.graph n) ≡ true
       → AreInnerParents x.graph (least_parents (shape_of x.graph n)) ps
       → need_exclusive x t n (some_given (parents_of x.graph n) && some_given ps) ps ≡ None → need_new_parents x t n ps ≡ None → first_cycle x.graph n ps ≡ None
-      → graph_of v ≡ with_parents x.graph n ps
-      → (was : Node) × Moves (state_of (view_of i)) t n was (moved_node ps was) (graph_of v)
+      → graph_of v ≡ with_parents x.graph n ps → (was : Node) × Moves (state_of (view_of i)) t n was (moved_node ps was) (graph_of v)
   move_call n ps active movable inner exclusive rule clear made =
       let may = may_be_moved x lawful_seen t n ps active movable inner exclusive rule clear in (
         may.0,

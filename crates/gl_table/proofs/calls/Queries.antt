@@ -1,45 +1,34 @@
 -- What is asked of a table: its lists and headers say what its state says. For queries and tests.
-use Rattle.gl_table.proofs.Words.{not_false, option_copied}
-use Rattle.gl_table.proofs.Words.{AreHeaders, both, clash, header_at, header_or_new, HeaderState, is_empty, is_idle, Members, members_of, not_true}
-use Rattle.gl_table.proofs.Words.{range-from_each, unused-nobody}
-use Rattle.gl_table.proofs.queues.Walks.{same}
-use Rattle.gl_table.proofs.telling.Lists.{place}
-use Rattle.gl_table.proofs.Words.{[], ◌&&◌, ◌+◌, ◌<◌, ◌||◌, ◌∙◌, ◌∷◌, ◌≡◌, ◌≤◌, add-one, answered, ap, ap₂, AreRowsOf, arith, board_of}
-use Rattle.gl_table.proofs.Words.{Bool, by_list, child_held, cond, count_by, counted_by, drop, drop-cons, effect_on, effective, Entry, entry_at, Err}
-use Rattle.gl_table.proofs.Words.{false, find, first_not_ix, first_of_all, first_refusal, fun_ext, get_or, Graph, graph_of, group_of, group_of-limit, held_by}
-use Rattle.gl_table.proofs.Words.{held_child, held_children, held_of, holds, if◌then◌else◌, IS, is_at_least, is_child, is_live, is_row_of, is_some, is_write}
-use Rattle.gl_table.proofs.Words.{IsDistinct, IsSound, IX, keys, keys_of, length, length-map, List, list_all, list_any, ListsAgree}
-use Rattle.gl_table.proofs.Words.{LockList, LockRow, lookup, lookup_from_place, map, members, members_at, Mode, mode_in, mode_of, NL, no, no_parents}
-use Rattle.gl_table.proofs.Words.{node_equivalence, NodeId, nodes, None, none_some, not, not_held, Ok, Option, option_map, option_map_or, queue_of}
-use Rattle.gl_table.proofs.Words.{refl, Refusal, Refuses, RefusesOnly, Result, row_of, rows_of, rule_refusal, same_mode, same_node, shown, slice_get}
-use Rattle.gl_table.proofs.Words.{slice_get-get_or, slice_get-map, slot_limit, Some, split, StandOnce, State, state_of, subst, suc, sum_by-cons, sym}
-use Rattle.gl_table.proofs.Words.{TableView}
-use Rattle.gl_table.proofs.Words.{true, txns_of, verdict, view_of, where_true, zero, ℕ}
+use Rattle.gl_table.proofs.Words.{[], ◌&&◌, ◌+◌, ◌<◌, ◌||◌, ◌∙◌, ◌∷◌, ◌≡◌, ◌≤◌, add-one, answered, ap, ap₂, AreHeaders, AreRowsOf, arith, board_of, Bool, both}
+use Rattle.gl_table.proofs.Words.{by_list, child_held, clash, cond, count_by, counted_by, drop, drop-cons, effect_on, effective, Entry, entry_at, Err, false}
+use Rattle.gl_table.proofs.Words.{find, first_not_ix, first_of_all, first_refusal, fun_ext, get_or, Graph, graph_of, group_of, group_of-limit, header_at}
+use Rattle.gl_table.proofs.Words.{header_or_new, HeaderState, held_by, held_child, held_children, held_of, holds, if◌then◌else◌, IS, is_at_least, is_child}
+use Rattle.gl_table.proofs.Words.{is_empty, is_idle, is_live, is_row_of, is_some, is_write, IsDistinct, IsSound, IX, keys, keys_of, length, length-map, List}
+use Rattle.gl_table.proofs.Words.{list_all, list_any, ListsAgree, LockList, LockRow, lookup, lookup_from_place, map, Members, members, members_at, members_of}
+use Rattle.gl_table.proofs.Words.{Mode, mode_in, mode_of, nat_tests, NL, no, no_parents, node_equivalence, NodeId, nodes, None, none_some, not, not_false}
+use Rattle.gl_table.proofs.Words.{not_held, not_true, Ok, Option, option_copied, option_map, option_map_or, queue_of, range-from_each, refl, Refusal, Refuses}
+use Rattle.gl_table.proofs.Words.{RefusesOnly, Result, row_of, rows_of, rule_refusal, same_mode, same_node, shown, slice_get, slice_get-get_or, slice_get-map}
+use Rattle.gl_table.proofs.Words.{slot_limit, Some, split, StandOnce, State, state_of, subst, suc, sum_by-cons, sym, TableView, true, txns_of, unused-nobody}
+use Rattle.gl_table.proofs.Words.{verdict, view_of, where_true, zero, ℕ}
+use Rattle.gl_model.proofs.queues.Walks.{same}
+use Rattle.gl_model.proofs.telling.Lists.{place}
 use Rattle.gl_table.specs.declared.table.Table.TheInside.{Inside}
 use denote.Bor.{Bor}
 use Rattle.std.specs.List.{All}
 use Rattle.gl_modes.specs.declared.refusal.Refusal.TheVariants as no
-use Rattle.gl_table.proofs.law.Keeps.{lawful-within}
-use Rattle.gl_table.proofs.law.Records.{free-idle, idle-free}
+use Rattle.gl_model.proofs.law.Keeps.{lawful-within}
+use Rattle.gl_model.proofs.law.Records.{free-idle, idle-free}
 
 -- What the lists say of held children, as the tests of an unlock.
 
 -- nothing is found where nothing is counted, and the other way round
 pub none_counted : (f : NodeId → Bool) (ns : List NodeId) → count_by f ns ≡ 0 → find f ns ≡ None
 none_counted f [] h = refl
-none_counted f (n ∷ ns) h = by (f n) refl (sym (sum_by-cons (λ x. cond (f x) 1 0) n ns) ∙ h) (none_counted f ns)
-  where
-    by : (b : Bool) → f n ≡ b → cond b 1 0 + count_by f ns ≡ 0 → (count_by f ns ≡ 0 → find f ns ≡ None) → cond b (Some n) (find f ns) ≡ None
-    by true e k r = absurd (omega arith)
-    by false e k r = r (let rest : count_by f ns ≡ 0 = omega arith in rest)
+none_counted f (n ∷ ns) h = grind (arith, nat_tests, f n, sym (sum_by-cons (λ x. cond (f x) 1 0) n ns) ∙ h, none_counted f ns)
 
 pub none_found_counted : (f : NodeId → Bool) (ns : List NodeId) → child_held (find f ns) ≡ None → count_by f ns ≡ 0
 none_found_counted f [] h = refl
-none_found_counted f (n ∷ ns) h = by (f n) refl h (none_found_counted f ns)
-  where
-    by : (b : Bool) → f n ≡ b → child_held (cond b (Some n) (find f ns)) ≡ None → (child_held (find f ns) ≡ None → count_by f ns ≡ 0) → count_by f (n ∷ ns) ≡ 0
-    by true e k r = absurd (cc)
-    by false e k r = sum_by-cons (λ x. cond (f x) 1 0) n ns ∙ ap (λ b. cond b 1 0 + count_by f ns) e ∙ (let rest = r k in omega arith)
+none_found_counted f (n ∷ ns) h = grind (arith, nat_tests, f n, none_found_counted f ns)
 
 module _ (i : Inside) (sound : IsSound i) (t : ℕ) (n : NodeId) where
   abbrev s : State
@@ -102,8 +91,7 @@ pub no_list : (ls : List LockList) (g : Graph) (t : ℕ) (n : NodeId) → slice_
 no_list ls g t n e = sym (none_passes (nodes g))
   where
     and_off : (a b : Bool) → b ≡ false → (a && b) ≡ false
-    and_off true b h = h
-    and_off false b h = refl
+    and_off a b h1 = grind (arith, nat_tests)
 
     fails : (c : NodeId) → (is_child g n c && holds (λ u. held_by ls u c) t) ≡ false
     fails c = and_off (is_child g n c) _ (ap (λ o. not (same_mode (option_map_or (λ l. mode_of l c) o NL) NL)) e)
@@ -129,17 +117,14 @@ idle-seen i sound headers n None b is none =
 idle-seen i sound headers n (Some h) b is some = off b some ∙ sym (not_true (is_idle (state_of (view_of i)) n) busy)
   where
     off : (b : Bool) → true ≡ not b → b ≡ false
-    off true e = e
-    off false e = refl
+    off b h1 = grind (arith, nat_tests)
 
     busy : is_idle (state_of (view_of i)) n ≡ true → ⊥
     busy idle =
         let free = idle-free (state_of (view_of i)) sound.lawful n idle in
-        clash
-        (both _ _ (range-from_each (λ t. not (holds (members_of h.now) t)) 0 slot_limit
+        clash (both _ _ (range-from_each (λ t. not (holds (members_of h.now) t)) 0 slot_limit
         (λ u low high. ap (λ m. not (not (same_mode m NL))) (ap (λ o. members_of (header_or_new o) u) is ∙ free.0 u)))
-        (ap is_empty (ap (λ o. (header_or_new o).queue) is ∙ free.1)))
-        (headers.used n h.now (sym is))
+        (ap is_empty (ap (λ o. (header_or_new o).queue) is ∙ free.1))) (headers.used n h.now (sym is))
 
 -- where no test refuses, a call answers the value
 pub answers : {A : Type 0} (o : Option Refusal) (x y : A) → o ≡ None → x ≡ y → Ok x ≡ answered o y
@@ -151,8 +136,7 @@ both_pass o p a b = ap₂ (λ x y. first_refusal (x ∷ y ∷ [])) a b
 
 -- what is answered only under a test shows that the test passed
 pub passed : {A : Type 0} (b : Bool) (o : Option A) (x : A) → Some x ≡ (if b then o else None) → b ≡ true
-passed true o x e = refl
-passed false o x e = absurd (none_some (sym e))
+passed b o x h1 = grind (arith, nat_tests)
 
 -- a refusal is handed on by a call that answers something else
 module _ (A : Type 0) {B : Type 0} (o : Option Refusal) (r : Refusal) (result : Result B Refusal) (is : result ≡ Err r) where
@@ -183,23 +167,20 @@ module _ (i : Inside) (sound : IsSound i) (v : TableView) (view : view_of i ≡ 
   pub group-seen : (n : NodeId) → group_of slot_limit (members_at i.locks.headers.entries n) ≡ group_of (state_of v).most (members (state_of v) n)
   group-seen n =
       sym (group_of-limit (length i.locks.seats.items) (members_at i.locks.headers.entries n) sound.exact.sound.few
-      (lawful-within (state_of (view_of i)) sound.lawful n))
-      ∙ ap (λ w. group_of (state_of w).most (members (state_of w) n)) view
+      (lawful-within (state_of (view_of i)) sound.lawful n)) ∙ ap (λ w. group_of (state_of w).most (members (state_of w) n)) view
 
-  pub children-seen : (t : ℕ) (n : NodeId)
-      → (if holds (λ u. held_by i.locks.lists.items u n) t then Some (counted_by i.locks.lists.items t n) else None)
+  pub children-seen : (t : ℕ) (n : NodeId) → (if holds (λ u. held_by i.locks.lists.items u n) t then Some (counted_by i.locks.lists.items t n) else None)
       ≡ (if holds (members (state_of v) n) t then Some (held_children (state_of v) t n) else None)
   children-seen t n = ap₂ (λ m k. if holds (λ u. m) t then Some k else None) (modes-seen t n) (counts-seen t n)
 
   -- a board is made of who lives, holds and waits alone
   pub board-seen : (epoch : ℕ) → board_of (shown i.locks.headers.entries i.locks.seats.items epoch) ≡ board_of (record (state_of v) { accepted = epoch })
-  board-seen epoch = λ z.
-      board_of (record (state_of v) {
-        txns = txns_of (view z).seats;
-        held = held_of (view z).headers;
-        queue = queue_of (view z).headers;
-        accepted = epoch;
-      })
+  board-seen epoch = λ z. board_of (record (state_of v) {
+    txns = txns_of (view z).seats;
+    held = held_of (view z).headers;
+    queue = queue_of (view z).headers;
+    accepted = epoch;
+  })
 
 -- The rows of a list are the locks of its transaction in the model.
 
@@ -219,8 +200,7 @@ distinct_in (es ∷ ls) (suc t) once = distinct_in ls t once
 -- a node has a row exactly where the list has an entry of it
 row-listed : (n : NodeId) (es : List (NodeId × Entry)) → list_any (is_row_of n) (map row_of es) ≡ is_some (lookup (same_node n) es)
 row-listed n [] = refl
-row-listed n (x ∷ es) = split (same_node n x.0)
-    (λ e. ap (λ b. b || list_any (is_row_of n) (map row_of es)) e ∙ sym (ap is_some (here e)))
+row-listed n (x ∷ es) = split (same_node n x.0) (λ e. ap (λ b. b || list_any (is_row_of n) (map row_of es)) e ∙ sym (ap is_some (here e)))
     (λ e. ap (λ b. b || list_any (is_row_of n) (map row_of es)) e ∙ row-listed n es ∙ sym (ap is_some (there e)))
   where
     here : same_node n x.0 ≡ true → lookup (same_node n) (x ∷ es) ≡ Some x.1
@@ -230,8 +210,7 @@ row-listed n (x ∷ es) = split (same_node n x.0)
     there e = ap (λ b. if b then Some x.1 else lookup (same_node n) es) e
 
 -- what the code reads of a slot's list are the rows that its view shows
-pub row-at : (ls : List LockList) (t place : ℕ)
-    → by_list (λ l. option_map row_of (slice_get l.entries.entries place)) None ls t
+pub row-at : (ls : List LockList) (t place : ℕ) → by_list (λ l. option_map row_of (slice_get l.entries.entries place)) None ls t
     ≡ slice_get (map row_of (get_or (map (λ l. l.entries.entries) ls) t [])) place
 row-at [] t place = refl
 row-at (l ∷ ls) zero place = sym (slice_get-map row_of l.entries.entries place)
@@ -291,8 +270,7 @@ pub no_writes : (ls : List LockList) (g : Graph) (t : ℕ) (n : NodeId) → slic
 no_writes ls g t n e = sym (none_passes (nodes g))
   where
     and_off : (a b : Bool) → b ≡ false → (a && b) ≡ false
-    and_off true b h = h
-    and_off false b h = refl
+    and_off a b h1 = grind (arith, nat_tests)
 
     fails : (c : NodeId) → (is_child g n c && is_write (held_by ls t c)) ≡ false
     fails c = and_off (is_child g n c) _ (ap (λ o. is_write (option_map_or (λ l. mode_of l c) o NL)) e)
@@ -319,8 +297,7 @@ first_not_ix-drop held ps i d h = rw (add-one, drop-cons ps i d)
 pub rule_write : (held : NodeId → Mode) (ps : List NodeId) (m : Mode) → is_at_least m IX ≡ true → rule_refusal held ps m ≡ first_not_ix held ps
 rule_write held ps m w =
     ap (λ b. if (if b then list_all (λ p. is_at_least (held p) IX) ps else (no_parents ps || list_any (λ p. is_at_least (held p) IS) ps)) then None
-    else (if b then first_not_ix held ps else first_of_all ps)) w
-    ∙ by ps
+    else (if b then first_not_ix held ps else first_of_all ps)) w ∙ by ps
   where
     by : (qs : List NodeId) → (if list_all (λ p. is_at_least (held p) IX) qs then None else first_not_ix held qs) ≡ first_not_ix held qs
     by [] = refl
@@ -329,9 +306,7 @@ rule_write held ps m w =
 -- to read
 pub rule_read : (held : NodeId → Mode) (ps : List NodeId) (m : Mode) → is_at_least m IX ≡ false
     → rule_refusal held ps m ≡ (if no_parents ps || list_any (λ p. is_at_least (held p) IS) ps then None else first_of_all ps)
-rule_read held ps m w =
-    ap (λ b. if (if b then list_all (λ p. is_at_least (held p) IX) ps else (no_parents ps || list_any (λ p. is_at_least (held p) IS) ps)) then None
-    else (if b then first_not_ix held ps else first_of_all ps)) w
+rule_read held ps m w = grind (arith, nat_tests)
 
 pub ruleset writable_steps = (first_not_ix-drop)
 

@@ -1,35 +1,34 @@
 -- Records come and go, and children are shed: what it makes of a table. For those calls.
-use Rattle.gl_table.proofs.Words.{IsAdopted, children_that, is_idle, keys}
-use Rattle.gl_table.proofs.queues.Walks.{same}
 use Rattle.gl_table.proofs.Words.{[], ◌&&◌, ◌+◌, ◌-◌, ◌==◌, ◌||◌, ◌∙◌, ◌∷◌, ◌≡◌, ◌≤◌, Active, addressed, age_in, age_of, Agrees, and_both, ap, are_compatible}
-use Rattle.gl_table.proofs.Words.{AreExact, AreSound, arith, Bool, clash, cond, count_by, count_cons, counted_by, CountsHeld, covered_children}
-use Rattle.gl_table.proofs.Words.{deleted, false, first_not_ix, freed, FreesTold, granted_at, Graph, graph_of, HasNoCycle, held_by, held_children, holds}
-use Rattle.gl_table.proofs.Words.{holds_child, IfOk, if◌then◌else◌, is_among_waiters, is_at_least, is_child, is_covered, is_live, is_record_shape, is_some}
-use Rattle.gl_table.proofs.Words.{is_wait, is_waiting_at, IsBorn, IsLawful, IsOrderly, IsRoomyRecord, IsSound, KeepsLists, length, List, list_all, listed}
-use Rattle.gl_table.proofs.Words.{members, Mode, NL, NodeId, nodes, None, none_but, not, not_true, notice_of, notices_in, number_same, OnErr, Option}
-use Rattle.gl_table.proofs.Words.{other_number, parents_of, Rec, record_parents, record_refusal, record_unrefused, refl, Refusal, Refuses, Result, rules, S}
-use Rattle.gl_table.proofs.Words.{same_mode, same_mode-equal, same_node-refl, same_number, shape_of, shed, Some, split, State, state_in, state_of, state_on}
-use Rattle.gl_table.proofs.Words.{status_in, status_of, subst, sym, TellsOthers, Told, told, told_from, told_to, true, Txn, TxnId, unwrap_or, View, view_of}
-use Rattle.gl_table.proofs.Words.{Waiting, with_grant, with_graph, with_key, without_node, X, ℕ}
+use Rattle.gl_table.proofs.Words.{AreExact, AreSound, arith, Bool, children_that, clash, cond, count_by, count_cons, counted_by, CountsHeld, covered_children}
+use Rattle.gl_table.proofs.Words.{deleted, false, first_not_ix, freed, granted_at, Graph, graph_of, HasNoCycle, held_by, held_children, holds, holds_child}
+use Rattle.gl_table.proofs.Words.{IfOk, if◌then◌else◌, is_among_waiters, is_at_least, is_child, is_covered, is_idle, is_live, is_record_shape, is_some, is_wait}
+use Rattle.gl_table.proofs.Words.{is_waiting_at, IsAdopted, IsBorn, IsLawful, IsOrderly, IsRoomyRecord, IsSound, IsTold, KeepsLists, keys, length, List}
+use Rattle.gl_table.proofs.Words.{list_all, listed, members, Mode, nat_tests, NL, NodeId, nodes, None, none_but, not, not_true, notice_of, notices_in}
+use Rattle.gl_table.proofs.Words.{number_same, OnErr, Option, other_number, parents_of, Rec, record_parents, record_refusal, record_unrefused, refl, Refusal}
+use Rattle.gl_table.proofs.Words.{Refuses, Result, rules, S, same_mode, same_mode-equal, same_node-refl, same_number, shape_of, shed, Some, split, State}
+use Rattle.gl_table.proofs.Words.{state_in, state_of, state_on, status_in, status_of, subst, sym, TellsOthers, Told, told, told_from, told_to, true, Txn, TxnId}
+use Rattle.gl_table.proofs.Words.{unwrap_or, View, view_of, Waiting, with_grant, with_graph, with_key, without_node, X, ℕ}
+use Rattle.gl_model.proofs.queues.Walks.{same}
 use Rattle.gl_table.specs.declared.locks.Locks.{Locks}
 use Rattle.gl_table.specs.declared.table.Table.TheInside.{Inside}
-use Rattle.gl_table.specs.declared.answers.Notice.TheVariants as notice
+use Rattle.gl_model.specs.declared.answers.Notice.TheVariants as notice
 use Rattle.gl_table.proofs.calls.Calls.{lawful_orderly, table_way}
 use Rattle.gl_table.proofs.calls.Law.{called-sound, held-lives, Suits, suited-sound}
 use Rattle.gl_table.proofs.inside.Asks.{state-same}
 use Rattle.gl_table.proofs.inside.Slots.{keeps-agrees, keeps-counts}
-use Rattle.gl_table.proofs.law.Lock.{granted-no_cycle, shed-no_cycle}
+use Rattle.gl_model.proofs.law.Lock.{granted-no_cycle, shed-no_cycle}
 use Rattle.gl_table.proofs.inside.Vacated.{children-left}
-use Rattle.gl_table.proofs.law.Records.{adopted-children, adopted-lawful, born-live, born-unawaited, born-unheld, deleted-no_cycle, deleted_lawful}
-use Rattle.gl_table.proofs.law.Records.{forgotten-lawful, placed-lawful, record-grows, unheld-there}
-use Rattle.gl_table.proofs.law.Tests.{shed-lawful}
+use Rattle.gl_model.proofs.law.Records.{adopted-children, adopted-lawful, born-live, born-unawaited, born-unheld, deleted-no_cycle, deleted_lawful}
+use Rattle.gl_model.proofs.law.Records.{forgotten-lawful, placed-lawful, record-grows, unheld-there}
+use Rattle.gl_model.proofs.law.Tests.{shed-lawful}
 use Rattle.gl_listed.proofs.Children.{one_found}
-use Rattle.gl_table.proofs.queues.Edits.{freed_other}
-use Rattle.gl_table.proofs.queues.Fronts.{granted_waits}
-use Rattle.gl_table.proofs.queues.Waiters.{grants_other}
-use Rattle.gl_table.proofs.telling.Fronts.{in_no_queue, stands_there, waits_there}
-use Rattle.gl_table.proofs.telling.Lists.{told_is}
-use Rattle.gl_table.proofs.telling.Ways.{active_untold, nobody_told}
+use Rattle.gl_model.proofs.queues.Edits.{freed_other}
+use Rattle.gl_model.proofs.queues.Fronts.{granted_waits}
+use Rattle.gl_model.proofs.queues.Waiters.{grants_other, if-false, if-true}
+use Rattle.gl_model.proofs.telling.Fronts.{in_no_queue, stands_there, waits_there}
+use Rattle.gl_model.proofs.telling.Lists.{told_is}
+use Rattle.gl_model.proofs.telling.Ways.{active_untold, nobody_told}
 
 -- Records of a table come and go: what holds of the fields still does.
 
@@ -55,18 +54,14 @@ active_again n m (Some x) h = let is : x.status ≡ Waiting n m = cc in ap (λ s
 -- and is told that it is gone; all others, who do what they did, are told nothing
 deleted_tells : (s : State) (o : IsOrderly s) (r : NodeId) (u : ℕ)
     → (if is_among_waiters u (s.queue r) then Some (record { slot = u; age = age_in (s.txns u) }, notice.Gone) else None) ≡ told_to s (deleted s r) u
-deleted_tells s o r u = split (is_among_waiters u (s.queue r))
-    (λ e.
+deleted_tells s o r u = split (is_among_waiters u (s.queue r)) (λ e.
     let wait = waits_there s o u r e in
-    ap (λ b. if b then Some (name, notice.Gone) else None) e
-    ∙ ap (λ b. addressed name (if not b then Some notice.Gone
+    if-true _ e ∙ ap (λ b. addressed name (if not b then Some notice.Gone
     else (if same_mode (now.held u r) wait.0 then Some (notice.Granted r wait.0) else Some notice.Moved))) (sym (out_of_graph s.graph r))
     ∙ sym (ap (λ x. addressed name (told_from now u x)) wait.1
-    ∙ ap (λ x. addressed name (notice_of now u r wait.0 x)) (active_again r wait.0 (s.txns u) wait.1)))
-    (λ e.
+    ∙ ap (λ x. addressed name (notice_of now u r wait.0 x)) (active_again r wait.0 (s.txns u) wait.1))) (λ e.
     let same = freed_other r (s.txns u) (not_true (is_waiting_at s u r) (λ w. clash (stands_there s o u r w) e)) in
-    ap (λ b. if b then Some (name, notice.Gone) else None) e
-    ∙ sym (ap (λ x. addressed (record { slot = u; age = age_in x }) (told_from now u (status_in x))) (sym same) ∙ nobody_told now u))
+    if-false _ e ∙ sym (ap (λ x. addressed (record { slot = u; age = age_in x }) (told_from now u (status_in x))) (sym same) ∙ nobody_told now u))
   where
     name : TxnId
     name = record { slot = u; age = age_of s u }
@@ -104,7 +99,7 @@ module _ (i : Inside) (sound : IsSound i) (r : NodeId) (rec : is_record_shape (s
     no_cycle = λ at. subst HasNoCycle (sym state_deleted) (deleted-no_cycle s r (sound.no_cycle at));
   }
 
-  pub told_deleted : (list : Told) → FreesTold l.txns (s.queue r) [] list → list ≡ told s (state_of (view_of after))
+  pub told_deleted : (list : Told) → IsTold l.txns (λ u. is_among_waiters u (s.queue r)) (λ u. notice.Gone) [] list → list ≡ told s (state_of (view_of after))
   told_deleted list tells =
       told_is s (state_of (view_of after)) list sound.lawful sound.exact.sound.few tells.by_slot
       (λ u. tells.notices u ∙ deleted_tells s (lawful_orderly s sound.lawful) r u ∙ sym (ap (λ x. told_to s x u) state_deleted))
@@ -183,8 +178,7 @@ module _ (i : Inside) (sound : IsSound i) (f : NodeId) (keys : List ℕ) (free :
           → AreExact v locks → IsSound placed_in
       sound_placed active rule exact = record {
         lawful = subst IsLawful (sym state_placed) (placed-lawful before sound.lawful f keys roomy_record.file roomy_record.each roomy_record.room (graph_of v)
-            n
-            born t active rule);
+            n born t active rule);
         exact = exact;
         no_cycle = λ at. subst HasNoCycle (sym state_placed) (granted-no_cycle (with_graph before (graph_of v)) t n X active (sound.no_cycle at));
       }
@@ -230,10 +224,7 @@ reads_held m h = search rules
 children_said : (i : Inside) → IsSound i → (t : ℕ) (n : NodeId) → holds (members (state_of (view_of i)) n) t ≡ true → (o : Option ℕ)
     → o ≡ (if holds (λ u. held_by i.locks.lists.items u n) t then Some (counted_by i.locks.lists.items t n) else None) → (k : ℕ) → k ≡ unwrap_or o 0
     → k ≡ held_children (state_of (view_of i)) t n
-children_said i sound t n h o said k is =
-    is ∙ ap (λ x. unwrap_or x 0) (said ∙ ap (λ b. if b then Some (counted_by i.locks.lists.items t n) else None)
-    (ap (λ m. not (same_mode m NL)) ((sound.exact.agree t).modes n) ∙ h))
-    ∙ sound.exact.count t n
+children_said i sound t n h o said k is = grind (arith, nat_tests, is, said, (sound.exact.agree t).modes n, h, sound.exact.count t n)
 
 -- what an active slot holds of a node that covers some of its children
 module _ (i : Inside) (sound : IsSound i) (t : ℕ) (n : NodeId) where
@@ -254,8 +245,7 @@ module _ (i : Inside) (sound : IsSound i) (t : ℕ) (n : NodeId) where
     -- each held child is kept or covered
     pub shed_counts : held_children whole t n ≡ held_children (shed whole t n) t n + covered_children whole t n
     shed_counts = count_parts (λ c. is_child whole.graph n c && holds (members whole c) t)
-        (λ c. is_child whole.graph n c && holds (members (shed whole t n) c) t)
-        (is_covered whole t n) (nodes whole.graph)
+        (λ c. is_child whole.graph n c && holds (members (shed whole t n) c) t) (is_covered whole t n) (nodes whole.graph)
         (λ c. part (is_child whole.graph n c) (whole.held t c) (is_covered whole t n c) _ (shed_own c) (λ h. covered_child c h))
       where
         part : (a : Bool) (m : Mode) (k : Bool) (m' : Mode) → m' ≡ (if k then NL else m) → (k ≡ true → (a && not (same_mode m NL)) ≡ true)
@@ -263,8 +253,7 @@ module _ (i : Inside) (sound : IsSound i) (t : ℕ) (n : NodeId) where
         part a m true m' e f = ap (λ b. cond b 1 0) (f refl) ∙ sym (ap (λ b. cond b 1 0 + 1) (ap (λ x. a && not (same_mode x NL)) e ∙ off a))
           where
             off : (a : Bool) → (a && false) ≡ false
-            off true = refl
-            off false = refl
+            off a = grind (arith, nat_tests)
         part a m false m' e f = none (cond (a && not (same_mode m NL)) 1 0) ∙ sym (ap (λ x. cond (a && not (same_mode x NL)) 1 0 + 0) e)
           where
             none : (k : ℕ) → k ≡ k + 0
@@ -274,8 +263,7 @@ module _ (i : Inside) (sound : IsSound i) (t : ℕ) (n : NodeId) where
         covered_child c h = first (is_child whole.graph n c && holds (members whole c) t) _ _ h
           where
             first : (a b d : Bool) → (a && b && d) ≡ true → a ≡ true
-            first true b d e = refl
-            first false b d e = e
+            first a b d h1 = grind (arith, nat_tests)
 
     module _ (locks : Locks) (is : state_in i.graph locks ≡ shed (state_in i.graph i.locks) t n) where
       abbrev ended : Inside
@@ -294,8 +282,7 @@ module _ (i : Inside) (sound : IsSound i) (t : ℕ) (n : NodeId) where
       pub told_shed : (first list : Told) → first ≡ [] → TellsOthers t (state_in i.graph i.locks) (state_in i.graph locks) first list
           → list ≡ told whole (state_of (view_of ended))
       told_shed first list none tells =
-          told_is whole (state_of (view_of ended)) list sound.lawful sound.exact.sound.few tells.by_slot
-          (λ u. split (u == t)
+          told_is whole (state_of (view_of ended)) list sound.lawful sound.exact.sound.few tells.by_slot (λ u. split (u == t)
           (λ e. let is = same_number u t e in ap (notices_in list) is ∙ tells.own ∙ ap (λ xs. notices_in xs t) none
           ∙ sym (active_untold whole (state_of (view_of ended)) u (ap (status_of whole) is ∙ active)))
           (λ e. tells.others whole (table_way i sound) (λ v k. ap (λ xs. notices_in xs v) none ∙ sym (nobody_told whole v)) u e))
@@ -318,11 +305,9 @@ module _ (i : Inside) (sound : IsSound i) (t : ℕ) (n : NodeId) where
 
         shed_in : k' ≡ held_children (shed whole t n) t n
         shed_in =
-            children_said ended (sound_shed exact) t n
-            (ap (λ (x : State). holds (members x n) t) state_shed
+            children_said ended (sound_shed exact) t n (ap (λ (x : State). holds (members x n) t) state_shed
             ∙ ap (λ m. not (same_mode m NL)) (shed_own n ∙ ap (λ b. if b then NL else whole.held t n) uncovered) ∙ reads_held (whole.held t n) reads)
-            o' said' k' kept
-            ∙ ap (λ (x : State). held_children x t n) state_shed
+            o' said' k' kept ∙ ap (λ (x : State). held_children x t n) state_shed
 
         pub no_more_kept : k' ≤ k
         no_more_kept = let a = counted_first in let b = shed_in in let d = shed_counts in omega arith

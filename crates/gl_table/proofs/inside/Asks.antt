@@ -1,19 +1,22 @@
--- What an ask that is granted leaves, also of a node that nobody held. For asks and new records.
-use Rattle.gl_table.proofs.Words.{[], Active, Agrees, and-false, ap, ap₂, AreSound, arith, Asked, Bool, children_that, clash, count_by, count_by-le-length}
-use Rattle.gl_table.proofs.Words.{count_of, counted_by, CountsHeld, enters, enters_at, false, fun_ext, granted, Graph, HasRoom, HasRoomAt, HeaderState}
-use Rattle.gl_table.proofs.Words.{held_children, held_of, holds, if◌then◌else◌, is_among_waiters, is_granted_at, is_listed, is_live, is_wait, IsApart}
-use Rattle.gl_table.proofs.Words.{IsLawfulGraph, IsOneHolder, IsOrderly, KeepsLists, length, List, LockList, members, members_at, members_of, Mode, mode_of}
-use Rattle.gl_table.proofs.Words.{NL, NodeId, not, not-true, not_NL, or-false, parents_of, queue_of, refl, same_mode, same_node, same_node-equal}
-use Rattle.gl_table.proofs.Words.{same_node-refl, same_number, slice_index_or, slot_limit, Some, spare, split, State, state_on, status_of, subst, supremum}
-use Rattle.gl_table.proofs.Words.{supremum-not_NL, sym, true, unlisted, wanted, with_grant, with_members, with_mode, with_waiters, ℕ, ◌&&◌, ◌+◌, ◌<◌, ◌==◌}
-use Rattle.gl_table.proofs.Words.{◌^◌, ◌||◌, ◌∙◌, ◌≡◌, ◌≢◌, ◌≤◌}
+-- What an ask that is granted leaves, also of a node that nobody held, and that a node has its key alone. For asks and new records.
+use Rattle.gl_table.proofs.Words.{[], ⊎_elim, ◌&&◌, ◌+◌, ◌<◌, ◌==◌, ◌^◌, ◌||◌, ◌∙◌, ◌∷◌, ◌≡◌, ◌≢◌, ◌≤◌, Active, Agrees, and-false, ap, ap₂, AreHeaders}
+use Rattle.gl_table.proofs.Words.{AreSound, arith, Asked, Bool, cases_of, children_that, clash, count_by, count_by-le-length, count_of, counted_by, CountsHeld}
+use Rattle.gl_table.proofs.Words.{enters, enters_at, Entries, false, fun_ext, granted, Graph, HasItsKey, HasRoom, HasRoomAt, header_at, header_or_new}
+use Rattle.gl_table.proofs.Words.{HeaderState, held_children, held_of, holds, if◌then◌else◌, is_among_waiters, is_empty, is_granted_at, is_listed, is_live}
+use Rattle.gl_table.proofs.Words.{is_wait, is_waiter, IsApart, IsFreeKey, IsLawfulGraph, IsOneHolder, IsOrderly, KeepsLists, length, List, list_any, LockList}
+use Rattle.gl_table.proofs.Words.{members, members_at, members_of, Mode, mode_of, nat_tests, NL, NodeId, not, not-true, not_NL, number_same, or-false, or_left}
+use Rattle.gl_table.proofs.Words.{parents_of, queue_of, refl, same_mode, same_node, same_node-equal, same_node-from_equal, same_node-refl, same_number}
+use Rattle.gl_table.proofs.Words.{slice_index_or, slot_limit, Some, spare, split, State, state_on, status_of, subst, supremum, supremum-not_NL, sym, true}
+use Rattle.gl_table.proofs.Words.{unlisted, Waiter, wanted, with_grant, with_members, with_mode, with_waiters, ℕ}
 use Rattle.gl_table.specs.declared.locks.Locks.{Locks}
 use Rattle.gl_header.specs.declared.header.Asked.TheVariants as asked
 use Rattle.gl_header.proofs.Changed.{nobody-enters, with_waiters-same}
 use Rattle.gl_table.proofs.inside.Slots.{by_list-at, HasNode, keeps-agrees, keeps-counts, slice_get-at}
-use Rattle.gl_table.proofs.law.Keeps.{apart, txn_there, waiting_is}
-use Rattle.gl_table.proofs.queues.Counts.{children_few, children_up, few_parents}
-use Rattle.gl_table.proofs.telling.Fronts.{enters-most}
+use Rattle.gl_model.proofs.law.Keeps.{apart, txn_there, waiting_is}
+use Rattle.gl_model.proofs.queues.Counts.{children_few, children_up, few_parents}
+use Rattle.gl_model.proofs.telling.Fronts.{enters-most}
+use Rattle.gl_model.proofs.queues.Waiters.{if-false, if-true}
+use Rattle.gl_header.proofs.Unused.{unused-false}
 
 -- What is known of an active slot that asks for a node, and of its list.
 
@@ -119,8 +122,7 @@ pub record IsReady (g : Graph) (l l' : Locks) (t : ℕ) (n : NodeId) (m : Mode) 
   pub is_held : holds (members (state_on g l') n) t ≡ held
 
 pub is_ready : (g : Graph) (l l' : Locks) (t : ℕ) (n : NodeId) (m : Mode) (held now : Bool) → MayAsk g l t → enters_at (state_on g l) t n m ≡ now
-    → held ≡ holds (members (state_on g l) n) t → HasMadeRoom l l' t (not (held && now))
-    → IsReady g l l' t n m held now
+    → held ≡ holds (members (state_on g l) n) t → HasMadeRoom l l' t (not (held && now)) → IsReady g l l' t n m held now
 is_ready g l l' t n m held now may enters held_is made = record {
   may = may_now;
   same = same;
@@ -140,7 +142,7 @@ pub says_is : (g : Graph) (l : Locks) (t : ℕ) (n : NodeId) (m : Mode) → MayA
 says_is g l t n m may = sym (enters-most (state_on g l) may.orderly may.sound.few t n (wanted (state_on g l) t n m))
 
 -- room was made in the lists alone
-module _ (g : Graph) (l l' : Locks) (t : ℕ) (may : MayAsk g l t) (rest : l' ≡ record l { lists = l'.lists })
+module _ {g : Graph} {l : Locks} (l' : Locks) {t : ℕ} (may : MayAsk g l t) (rest : l' ≡ record l { lists = l'.lists })
     (lists : KeepsLists l.lists.items l'.lists.items) where
   only_room : (wanted : Bool) → (wanted ≡ true → HasRoomAt l'.lists.items t) → HasMadeRoom l l' t wanted
   only_room wanted room = record { headers = ap (λ x. x.headers) rest; seats = ap (λ x. x.seats) rest; lists = lists; room = room }
@@ -170,17 +172,14 @@ module _ (g : Graph) (l l' : Locks) (t : ℕ) (may : MayAsk g l t) (rest : l' �
 pub with_members-grant : (held : ℕ → NodeId → Mode) (t : ℕ) (n : NodeId) (m : Mode)
     → with_members held n (with_mode (λ u. held u n) t m) ≡ (λ u q. if (u == t) && same_node q n then m else held u q)
 with_members-grant held t n m = fun_ext (λ u. fun_ext (λ q. split (same_node q n)
-    (λ e. ap (λ b. if b then (if u == t then m else held u n) else held u q) e ∙ ap (λ p. if u == t then m else held u p) (sym (same_node-equal q n e))
-    ∙ here (u == t) (same_node q n) m (held u q) e)
-    (λ e. ap (λ b. if b then (if u == t then m else held u n) else held u q) e ∙ there (u == t) (same_node q n) m (held u q) e)))
+    (λ e. if-true _ e ∙ ap (λ p. if u == t then m else held u p) (sym (same_node-equal q n e)) ∙ here (u == t) (same_node q n) m (held u q) e)
+    (λ e. if-false _ e ∙ there (u == t) (same_node q n) m (held u q) e)))
   where
     here : (a b : Bool) (x y : Mode) → b ≡ true → (if a then x else y) ≡ (if a && b then x else y)
-    here true b x y e = ap (λ k. if k then x else y) (sym e)
-    here false b x y e = refl
+    here a b x y h1 = grind (arith, nat_tests)
 
     there : (a b : Bool) (x y : Mode) → b ≡ false → y ≡ (if a && b then x else y)
-    there true b x y e = ap (λ k. if k then x else y) (sym e)
-    there false b x y e = refl
+    there a b x y h1 = grind (arith, nat_tests)
 
 -- a grant to an active slot: what it now holds, its list has
 pub grant-agrees : (s : State) (ls ls' : List LockList) (t : ℕ) (n : NodeId) (m : Mode) → m ≢ NL → status_of s t ≡ Some Active → HasNode ls ls' t n m → (u : ℕ)
@@ -188,15 +187,13 @@ pub grant-agrees : (s : State) (ls ls' : List LockList) (t : ℕ) (n : NodeId) (
 grant-agrees s ls ls' t n m lock active has u agrees = record {
   modes = λ q. has.modes u q ∙ ap (λ x. if (u == t) && same_node q n then m else x) (agrees.modes q);
   listed = λ q. has.listed u q ∙ ap (λ b. ((u == t) && same_node q n) || b) (agrees.listed q) ∙ by q ((u == t) && same_node q n);
-  room = λ w. split (u == t)
-      (λ e. clash w (ap (λ v. is_wait (status_of s v)) (same_number u t e) ∙ ap is_wait active))
+  room = λ w. split (u == t) (λ e. clash w (ap (λ v. is_wait (status_of s v)) (same_number u t e) ∙ ap is_wait active))
       (λ e. subst (λ (k : ℕ). 9 ≤ k) (sym (has.rooms u e)) (agrees.room w));
 }
   where
     by : (q : NodeId) (b : Bool) → (b || (holds (members s q) u || is_among_waiters u (s.queue q)))
         ≡ (not (same_mode (if b then m else s.held u q) NL) || is_among_waiters u (s.queue q))
-    by q true = ap (λ b. not b || is_among_waiters u (s.queue q)) (sym (not_NL m lock))
-    by q false = refl
+    by q b = grind (arith, nat_tests)
 
 -- whether a slot holds a node, once one slot holds one node more
 module _ (s : State) (t : ℕ) (n : NodeId) (m : Mode) (lock : m ≢ NL) (u : ℕ) where
@@ -210,8 +207,7 @@ module _ (s : State) (t : ℕ) (n : NodeId) (m : Mode) (lock : m ≢ NL) (u : �
   holding-new e = ap₂ (λ a b. not (same_mode (if a && b then m else s.held u n) NL)) e (same_node-refl n) ∙ ap not (not_NL m lock)
 
   holding-node : (q : NodeId) → same_node q n ≡ false → holding after q ≡ holding s q
-  holding-node q e = ap (λ b. not (same_mode (if (u == t) && b then m else s.held u q) NL)) e
-      ∙ ap (λ b. not (same_mode (if b then m else s.held u q) NL)) (and-false (u == t))
+  holding-node q e = grind (arith, nat_tests, e, and-false (u == t))
 
   holding-slot : (u == t) ≡ false → (q : NodeId) → holding after q ≡ holding s q
   holding-slot e q = ap (λ b. not (same_mode (if b && same_node q n then m else s.held u q) NL)) e
@@ -226,8 +222,7 @@ module _ (s : State) (t : ℕ) (n : NodeId) (m : Mode) (lock : m ≢ NL) (u : �
       ≡ held_children after u p
   children-new law live p = split (u == t)
       (λ e. ap (λ b. held_children s u p + (if b then (if same_mode (s.held t n) NL then count_by (same_node p) (parents_of s.graph n) else 0) else 0)) e
-      ∙ split (same_mode (s.held t n) NL)
-      (λ k. ap (λ b. held_children s u p + (if b then count_by (same_node p) (parents_of s.graph n) else 0)) k
+      ∙ split (same_mode (s.held t n) NL) (λ k. ap (λ b. held_children s u p + (if b then count_by (same_node p) (parents_of s.graph n) else 0)) k
       ∙ sym (children_up s.graph law (holding s) (holding after) n live (was e ∙ ap not k) (holding-new e) holding-node p))
       (λ k. ap (λ b. held_children s u p + (if b then count_by (same_node p) (parents_of s.graph n) else 0)) k
       ∙ children-same (λ q. split (same_node q n) (λ h. let is = same_node-equal q n h in ap (holding after) is ∙ holding-new e
@@ -244,11 +239,8 @@ CountsGrant s ls ls' t n = (u : ℕ) (q : NodeId) → counted_by ls' u q
     ≡ counted_by ls u q + (if u == t then (if same_mode (s.held t n) NL then count_by (same_node q) (parents_of s.graph n) else 0) else 0)
 
 pub grant-counts : (s : State) (ls ls' : List LockList) (t : ℕ) (n : NodeId) (m : Mode) → IsLawfulGraph s.graph → is_live s.graph n ≡ true → m ≢ NL
-    → CountsGrant s ls ls' t n → (u : ℕ) → CountsHeld s ls u
-    → CountsHeld (with_grant s t n m) ls' u
-grant-counts s ls ls' t n m law live lock more u counts p =
-    more u p ∙ ap (λ (k : ℕ). k + (if u == t then (if same_mode (s.held t n) NL then count_by (same_node p) (parents_of s.graph n) else 0) else 0)) (counts p)
-    ∙ children-new s t n m lock u law live p
+    → CountsGrant s ls ls' t n → (u : ℕ) → CountsHeld s ls u → CountsHeld (with_grant s t n m) ls' u
+grant-counts s ls ls' t n m law live lock more u counts p = grind (arith, nat_tests, more u p, counts p, children-new s t n m lock u law live p)
 
 -- the answer to an ask that enters
 pub answer-granted : (enters : Bool) (a : Asked) (m w : Mode) → enters ≡ true → a ≡ (if enters then asked.Granted m else asked.Waiting) → a ≡ asked.Granted w
@@ -258,12 +250,10 @@ answer-granted enters a m w now answer is = let e : asked.Granted w ≡ asked.Gr
 
 -- an ask that was granted enters, and one that waits does not
 pub answer-enters : (enters : Bool) (a : Asked) (m w : Mode) → a ≡ (if enters then asked.Granted m else asked.Waiting) → a ≡ asked.Granted w → enters ≡ true
-answer-enters true a m w answer is = refl
-answer-enters false a m w answer is = absurd (cc)
+answer-enters enters a m w h1 h2 = grind (arith, nat_tests)
 
 pub answer-waits : (enters : Bool) (a : Asked) (m : Mode) → a ≡ (if enters then asked.Granted m else asked.Waiting) → a ≡ asked.Waiting → enters ≡ false
-answer-waits true a m answer is = absurd (cc)
-answer-waits false a m answer is = refl
+answer-waits enters a m h1 h2 = grind (arith, nat_tests)
 
 -- what an ask for m leaves, granted as w
 pub record IsGranted (g : Graph) (l l' : Locks) (t : ℕ) (n : NodeId) (m w : Mode) : Type 0 where
@@ -274,15 +264,14 @@ pub record IsGranted (g : Graph) (l l' : Locks) (t : ℕ) (n : NodeId) (m w : Mo
   pub count : (u : ℕ) → CountsHeld (state_on g l') l'.lists.items u
 
 -- room was made, the headers were asked, and the list was written
-module _ (g : Graph) (l r l' : Locks) (t : ℕ) (n : NodeId) (m : Mode) (old : Bool) (ready : IsReady g l r t n m old true) (a : Asked) (w : Mode) where
+module _ {g : Graph} {l r : Locks} (l' : Locks) {t : ℕ} {n : NodeId} {m : Mode} {old : Bool} (ready : IsReady g l r t n m old true) (a : Asked) (w : Mode) where
   abbrev want : Mode
   want = supremum (held_of r.headers.entries t n) m
 
   abbrev enters_now : Bool
   enters_now = enters slot_limit (members_at r.headers.entries n) (queue_of r.headers.entries n) t want
 
-  pub is_granted : IsLawfulGraph g → is_live g n ≡ true → m ≢ NL
-      → a ≡ (if enters_now then asked.Granted want else asked.Waiting) → a ≡ asked.Granted w
+  pub is_granted : IsLawfulGraph g → is_live g n ≡ true → m ≢ NL → a ≡ (if enters_now then asked.Granted want else asked.Waiting) → a ≡ asked.Granted w
       → (enters_now ≡ true → (held_of l'.headers.entries ≡ with_members (held_of r.headers.entries) n (with_mode (members_at r.headers.entries n) t want))
       × (queue_of l'.headers.entries ≡ queue_of r.headers.entries))
       → l'.seats ≡ r.seats → HasNode r.lists.items l'.lists.items t n w → CountsGrant (state_on g r) r.lists.items l'.lists.items t n → IsGranted g l l' t n m w
@@ -336,10 +325,40 @@ module _ (g : Graph) (l : Locks) (t : ℕ) (n : NodeId) (m : Mode) (may : MayAsk
       → queue_of l'.headers.entries ≡ with_waiters (queue_of l.headers.entries) n h.queue → l'.seats ≡ l.seats
       → HasNode l.lists.items l'.lists.items t n m → CountsGrant (state_on g l) l.lists.items l'.lists.items t n → IsGranted g l l' t n m m
   is_placed law live lock h one want_is l' held queue seats has counts =
-      is_granted g l l l' t n m false ready (asked.Granted m) m law live lock
-      (ap asked.Granted (sym want_is) ∙ sym (ap (λ b. if b then asked.Granted wanted_new else asked.Waiting) ready.enters)) refl
-      (λ enters. (
+      is_granted l' ready (asked.Granted m) m law live lock
+      (ap asked.Granted (sym want_is) ∙ sym (ap (λ b. if b then asked.Granted wanted_new else asked.Waiting) ready.enters)) refl (λ enters. (
         held ∙ ap (with_members (held_of l.headers.entries) n) (one.members ∙ (λ i. with_mode (λ u. sym (unheld u) i) t (sym want_is i))),
         queue ∙ ap (with_waiters (queue_of l.headers.entries) n) one.queue ∙ with_waiters-same (queue_of l.headers.entries) n [] (sym unawaited),
-      ))
-      seats has counts
+      )) seats has counts
+
+-- Who has a header is held or waited for, and so lives: of each key one node at most has a header. For asks and new records.
+
+-- in a queue that is not empty somebody waits
+first_waiter : (ws : List Waiter) → is_empty ws ≡ false → (t : ℕ) × (is_among_waiters t ws ≡ true)
+first_waiter [] e = clash refl e
+first_waiter (w ∷ ws) e = (w.0, or_left (w.0 == w.0) (list_any (is_waiter w.0) ws) (number_same w.0 w.0 refl))
+
+module _ {g : Graph} (l : Locks) (all : AreHeaders l.headers.entries) (orderly : IsOrderly (state_on g l)) (law : IsLawfulGraph g) where
+  abbrev hs : Entries
+  hs = l.headers.entries
+
+  header_lives : (q : NodeId) (h : HeaderState) → header_at hs q ≡ Some h → is_live g q ≡ true
+  header_lives q h has = ⊎_elim (λ t. orderly.holders_live t.0 q (ap (λ o. holds (members_of (header_or_new o)) t.0) has ∙ t.1))
+      (λ some. let w = first_waiter h.queue some in orderly.waiters_live w.0 q (ap (λ o. is_among_waiters w.0 (header_or_new o).queue) has ∙ w.1))
+      (unused-false h (all.used q h has))
+
+  -- a node that lives has its key alone
+  pub its_key : (n : NodeId) → is_live g n ≡ true → HasItsKey hs n
+  its_key n live = record {
+    others = λ q other same. cases_of (header_at hs q) (λ none. none)
+        (λ h has. clash (same_node-from_equal q n (law.keys_differ q n (header_lives q h has) live same)) other);
+  }
+
+  -- and where nobody holds or awaits it, the key is free
+  pub free_key : (n : NodeId) → is_live g n ≡ true → ((u : ℕ) → held_of hs u n ≡ NL) → queue_of hs n ≡ [] → IsFreeKey hs n.key
+  free_key n live unheld unawaited = record {
+    none = λ q same. cases_of (header_at hs q) (λ none. none)
+        (λ h has. let here = ap (header_at hs) (sym (law.keys_differ q n (header_lives q h has) live same)) ∙ has in
+        ⊎_elim (λ t. clash t.1 (ap (λ m. not (same_mode m NL)) (ap (λ o. members_of (header_or_new o) t.0) (sym here) ∙ unheld t.0)))
+        (λ some. clash (ap is_empty (ap (λ o. (header_or_new o).queue) (sym here) ∙ unawaited)) some) (unused-false h (all.used n h here)));
+  }

@@ -1,18 +1,18 @@
 -- The board of a moment, written slot by slot, and who is a victim. For boards and detection.
-use Rattle.gl_table.proofs.Words.{[], ◌&&◌, ◌<◌, ◌==◌, ◌||◌, ◌∙◌, ◌∷◌, ◌≡◌, ◌≢◌, ◌≤◌, ◌⊎◌, age_in, age_of, and-false, and-true, ap, are_compatible}
+use Rattle.gl_table.proofs.Words.{[], ⊎_elim, ◌&&◌, ◌<◌, ◌==◌, ◌||◌, ◌∙◌, ◌∷◌, ◌≡◌, ◌≢◌, ◌≤◌, ◌⊎◌, age_in, age_of, and-false, and-true, ap, are_compatible}
 use Rattle.gl_table.proofs.Words.{AreHeaders, arith, bits_of, blocks, Board, board_of, Bool, candidate-on_cycle, cases_eq, cases_lt, clash, cond, Entries}
-use Rattle.gl_table.proofs.Words.{false, fill_by_all, fun_ext, get_or, get_or-map-range_with_len, get_or-replicate, get_or-set_other, get_or-set_same}
-use Rattle.gl_table.proofs.Words.{get_or_past, has_slot-zero, HasNoSlot, header_at, header_or_new, HeaderState, inl, inr, is_ahead, is_among_waiters, is_some}
-use Rattle.gl_table.proofs.Words.{is_wait, IsCandidate, IsLawfulHeader, IsLowestYoungest, IsOnCycleOf, IsVictim, IsWalk, IsYoungest, length, length-replicate}
-use Rattle.gl_table.proofs.Words.{List, map, members_of, Mode, NL-compatible, NodeId, None, none_some, not, not-true, number_other, number_same, Option}
+use Rattle.gl_table.proofs.Words.{false, fill_by_all, front, fun_ext, get_or, get_or-map-range_with_len, get_or-replicate, get_or-set_other, get_or-set_same}
+use Rattle.gl_table.proofs.Words.{get_or_past, has_slot-zero, HasNoSlot, header_at, header_or_new, HeaderState, inl, inr, is_ahead, is_among_waiters, is_wait}
+use Rattle.gl_table.proofs.Words.{IsCandidate, IsLawfulHeader, IsLowestYoungest, IsOnCycleOf, IsVictim, IsWalk, IsYoungest, length, length-replicate, List, map}
+use Rattle.gl_table.proofs.Words.{members_of, Mode, nat_tests, NL-compatible, NodeId, None, none_some, not, not-true, number_other, number_same, Option}
 use Rattle.gl_table.proofs.Words.{or_elim, range_with_len, Reaches, refl, replicate, row_edge, row_edge-bits_of, same_slots, Seat, set, shown, slice_get_past}
-use Rattle.gl_table.proofs.Words.{Slots, Some, split, State, status_in, status_of, subst, sym, take, true, Txn, txn_in, txns_of, unused-nobody, Victims}
-use Rattle.gl_table.proofs.Words.{Waiter, Waiting, waits_for, ℕ, ⊎_elim}
+use Rattle.gl_table.proofs.Words.{Slots, Some, split, State, status_in, status_of, subst, sym, take, true, txn_in, txns_of, unused-nobody, Victims, Waiter}
+use Rattle.gl_table.proofs.Words.{Waiting, waits_for, ℕ}
 use Rattle.gl_waits.specs.Sets.{has_slot}
 use Rattle.gl_slots.specs.Slots.{has_slot as is_in}
 use Rattle.gl_table.specs.inside.Seats.{lives_at}
-use Rattle.gl_table.proofs.law.Edges.{idle_no_step, step_is}
-use Rattle.gl_table.proofs.queues.Waiters.{ahead-first, ahead_is, ahead_second}
+use Rattle.gl_model.proofs.law.Edges.{idle_no_step, step_is}
+use Rattle.gl_model.proofs.queues.Waiters.{ahead-first, ahead_is, ahead_second}
 
 -- The board of a moment, written slot by slot.
 
@@ -49,36 +49,25 @@ AreAgesBut age left xs = (t : ℕ) → get_or xs t 0 ≡ cond (is_in left t) 0 (
 -- nothing is written yet
 pub ages-begin : (seats : List (Option Seat)) (living : Slots) (xs : List ℕ) → ((u : ℕ) → is_in living u ≡ lives_at seats u) → ((u : ℕ) → get_or xs u 0 ≡ 0)
     → AreAgesBut (age_at seats) living xs
-ages-begin seats living xs is none t = none t ∙ by (is_in living t) (txns_of seats t) (is t)
-  where
-    by : (b : Bool) (o : Option Txn) → b ≡ is_some o → 0 ≡ cond b 0 (age_in o)
-    by true o e = refl
-    by false None e = refl
-    by false (Some x) e = clash refl (sym e)
+ages-begin seats living xs is none t = none t ∙ grind (arith, nat_tests, is_in living t, txns_of seats t, is t)
 
 -- slot k is written
 pub ages-written : (age : ℕ → ℕ) (left after : Slots) (k a : ℕ) (xs : List ℕ) → k < length xs → a ≡ age k → IsWithout left k after → AreAgesBut age left xs
     → AreAgesBut age after (set xs k a)
 ages-written age left after k a xs low is less ages t =
-    ⊎_elim
-    (λ e. subst (λ x. get_or (set xs k a) x 0 ≡ cond (is_in after x) 0 (age x)) (sym e)
+    ⊎_elim (λ e. subst (λ x. get_or (set xs k a) x 0 ≡ cond (is_in after x) 0 (age x)) (sym e)
     (get_or-set_same xs k a 0 low ∙ is ∙ sym (ap (λ b. cond b 0 (age k)) (taken_out left after k less))))
-    (λ ne. get_or-set_other xs k t a 0 ne ∙ ages t ∙ sym (ap (λ b. cond b 0 (age t)) (still_in left after k t ne less)))
-    (cases_eq t k)
+    (λ ne. get_or-set_other xs k t a 0 ne ∙ ages t ∙ sym (ap (λ b. cond b 0 (age t)) (still_in left after k t ne less))) (cases_eq t k)
 
 -- slot k is free, and stays at 0
 pub ages-passed : (age : ℕ → ℕ) (left after : Slots) (k : ℕ) (xs : List ℕ) → age k ≡ 0 → IsWithout left k after → AreAgesBut age left xs
     → AreAgesBut age after xs
 ages-passed age left after k xs free less ages t =
-    ages t
-    ∙ ⊎_elim (λ e. by (is_in left t) (is_in after t) (ap age e ∙ free)) (λ ne. sym (ap (λ b. cond b 0 (age t)) (still_in left after k t ne less)))
+    ages t ∙ ⊎_elim (λ e. by (is_in left t) (is_in after t) (ap age e ∙ free)) (λ ne. sym (ap (λ b. cond b 0 (age t)) (still_in left after k t ne less)))
     (cases_eq t k)
   where
     by : (a b : Bool) → age t ≡ 0 → cond a 0 (age t) ≡ cond b 0 (age t)
-    by true true e = refl
-    by true false e = sym e
-    by false true e = e
-    by false false e = refl
+    by a b h1 = grind (arith, nat_tests)
 
 -- no slot is left
 pub ages-read : (age : ℕ → ℕ) (left : Slots) (xs : List ℕ) → HasNoSlot left → AreAgesBut age left xs → (u : ℕ) → get_or xs u 0 ≡ age u
@@ -102,16 +91,13 @@ AreRowsShown edge old xs = (t : ℕ) → (get_or xs t 0 ≡ get_or old t 0) ⊎ 
 pub rows-shown : (edge : ℕ → ℕ → Bool) (i r : ℕ) (old xs : List ℕ) → i < length xs → ((u : ℕ) → has_slot r u ≡ edge i u) → AreRowsShown edge old xs
     → AreRowsShown edge old (set xs i r)
 rows-shown edge i r old xs low is rows t =
-    ⊎_elim
-    (λ e. inr (subst (IsRow edge (set xs i r)) (sym e) (λ u. ap (λ n. has_slot n u) (get_or-set_same xs i r 0 low) ∙ is u)))
+    ⊎_elim (λ e. inr (subst (IsRow edge (set xs i r)) (sym e) (λ u. ap (λ n. has_slot n u) (get_or-set_same xs i r 0 low) ∙ is u)))
     (λ ne. let other = get_or-set_other xs i t r 0 ne in
-    ⊎_elim (λ same. inl (other ∙ same)) (λ right. inr (λ u. ap (λ n. has_slot n u) other ∙ right u)) (rows t))
-    (cases_eq t i)
+    ⊎_elim (λ same. inl (other ∙ same)) (λ right. inr (λ u. ap (λ n. has_slot n u) other ∙ right u)) (rows t)) (cases_eq t i)
 
 -- the row of a slot that does not wait is 0
 pub rows-idle : (s : State) (t : ℕ) (xs : List ℕ) → is_wait (status_of s t) ≡ false → get_or xs t 0 ≡ 0 → IsRow (waits_for s) xs t
-rows-idle s t xs idle none u =
-    ap (λ n. has_slot n u) none ∙ has_slot-zero u ∙ sym (idle_no_step s t (λ n m e. clash (ap is_wait e) idle) u)
+rows-idle s t xs idle none u = grind (arith, nat_tests, none, has_slot-zero u, idle_no_step s t (λ n m e. clash (ap is_wait e) idle) u)
 
 -- nothing is written yet
 pub rows-begin : (s : State) (waiting : Slots) (xs : List ℕ) → ((u : ℕ) → is_in waiting u ≡ is_wait (status_of s u)) → ((t : ℕ) → get_or xs t 0 ≡ 0)
@@ -120,17 +106,11 @@ rows-begin s waiting xs is none t = split (is_in waiting t) (λ h. inr (h, none 
 
 -- the row of slot k is right too, and others may be
 pub rows-next : (edge : ℕ → ℕ → Bool) (left after : Slots) (k : ℕ) (old xs : List ℕ) → IsWithout left k after → IsRow edge xs k → AreRowsShown edge old xs
-    → AreRowsBut edge left old
-    → AreRowsBut edge after xs
+    → AreRowsBut edge left old → AreRowsBut edge after xs
 rows-next edge left after k old xs less own kept rows t =
-    ⊎_elim
-    (λ e. inl (subst (IsRow edge xs) (sym e) own))
-    (λ ne. ⊎_elim
+    ⊎_elim (λ e. inl (subst (IsRow edge xs) (sym e) own)) (λ ne. ⊎_elim
     (λ same. ⊎_elim (λ right. inl (λ u. ap (λ n. has_slot n u) same ∙ right u)) (λ none. inr (still_in left after k t ne less ∙ none.0, same ∙ none.1))
-    (rows t))
-    inl
-    (kept t))
-    (cases_eq t k)
+    (rows t)) inl (kept t)) (cases_eq t k)
 
 -- a row that is not 0 was right
 pub rows-there : (edge : ℕ → ℕ → Bool) (left after : Slots) (k : ℕ) (xs : List ℕ) → IsWithout left k after → (get_or xs k 0 ≡ 0 → ⊥) → AreRowsBut edge left xs
@@ -150,10 +130,8 @@ pub reached-row : (hs : Entries) (seats : List (Option Seat)) (node : NodeId) (h
     → ((u : ℕ) → has_slot r u ≡ (not (t == u) && (not (are_compatible w (members_of h u)) || has_slot passed u)))
     → (u : ℕ) → has_slot r u ≡ waits_for (shown hs seats 0) t u
 reached-row hs seats node h q t i w passed r d is same st low at front out row u =
-    row u
-    ∙ ap (λ b. not (t == u) && (not (are_compatible w (members_of h u)) || b)) (front u ∙ sym (ahead-first q t u i d low at (sym (front t) ∙ out))
-    ∙ ap (λ x. is_ahead x t u) same)
-    ∙ ap (λ (x : HeaderState). not (t == u) && (not (are_compatible w (members_of x u)) || is_ahead x.queue t u)) is
+    row u ∙ ap (λ b. not (t == u) && (not (are_compatible w (members_of h u)) || b)) (front u ∙ sym (ahead-first q t u i d low at (sym (front t) ∙ out))
+    ∙ ap (λ x. is_ahead x t u) same) ∙ ap (λ (x : HeaderState). not (t == u) && (not (are_compatible w (members_of x u)) || is_ahead x.queue t u)) is
     ∙ sym (ap (λ o. not (t == u) && blocks (shown hs seats 0) t u o) st)
 
 -- The board.
@@ -164,8 +142,7 @@ ages-all age n xs size ages = fill_by_all age xs n 0 size (λ k low. ages k)
 rows-all : (edge : ℕ → ℕ → Bool) (n m : ℕ) (xs : List ℕ) → length xs ≡ n → ((t u : ℕ) → edge t u ≡ true → (t < n) × (u < m)) → ((t : ℕ) → IsRow edge xs t)
     → xs ≡ map (λ t. bits_of m (edge t)) (range_with_len 0 n)
 rows-all edge n m xs size low right =
-    fill_by_all (λ t. bits_of m (edge t)) xs n 0 size
-    (λ k inside. same_slots _ _ (λ u. right k u ∙ sym (row_edge-bits_of n m edge low k u))
+    fill_by_all (λ t. bits_of m (edge t)) xs n 0 size (λ k inside. same_slots _ _ (λ u. right k u ∙ sym (row_edge-bits_of n m edge low k u))
     ∙ get_or-map-range_with_len (λ t. bits_of m (edge t)) 0 n k k 0 inside (omega arith))
 
 -- whom somebody waits for is below 128
@@ -192,8 +169,7 @@ board-is b epoch ages rows e a r = λ j. record { epoch = e j; ages = a j; rows 
 
 -- each age and each row is right
 pub board-all : (hs : Entries) (seats : List (Option Seat)) (epoch : ℕ) (b : Board) → AreHeaders hs → length seats ≤ 128 → b.epoch ≡ epoch
-    → length b.ages ≡ 128 → length b.rows ≡ 128
-    → ((u : ℕ) → get_or b.ages u 0 ≡ age_at seats u) → ((t : ℕ) → IsRow (waits_for (shown hs seats 0)) b.rows t)
+    → length b.ages ≡ 128 → length b.rows ≡ 128 → ((u : ℕ) → get_or b.ages u 0 ≡ age_at seats u) → ((t : ℕ) → IsRow (waits_for (shown hs seats 0)) b.rows t)
     → b ≡ board_of (shown hs seats epoch)
 board-all hs seats epoch b law few at ages_len rows_len ages rows =
     board-is b _ _ _ at (ages-all (age_at seats) 128 b.ages ages_len ages)

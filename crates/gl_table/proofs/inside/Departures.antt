@@ -1,45 +1,69 @@
--- A slot leaves its nodes one after the other. For commits and aborts.
-use Rattle.gl_table.proofs.Words.{[], ◌&&◌, ◌<◌, ◌==◌, ◌||◌, ◌∙◌, ◌≡◌, Active, Agrees, and-false, and-not_self, and-true, and_both, ap, ap₂, Bool, cancelled}
-use Rattle.gl_table.proofs.Words.{clash, Condemned, count_by, CountsHeld, false, front_at, fun_ext, grant_notice, granted_at, HasLeft, holds, if◌then◌else◌}
-use Rattle.gl_table.proofs.Words.{is_among_waiters, is_wait, is_waiting_at, IsBySlot, IsLawfulGraph, IsOnWay, IsOrderly, List, listed, listed_by, LockList}
-use Rattle.gl_table.proofs.Words.{members, Mode, mode_given, NL, NodeId, nodes, None, not, not_true, notices_in, number_same, Option, or-false, or-true}
-use Rattle.gl_table.proofs.Words.{or_comm, parents_of, pumped, refl, released, restatus, same_mode, same_node, same_node-equal, same_node-refl, same_node-sym}
-use Rattle.gl_table.proofs.Words.{Some, split, State, Status, status_in, status_of, stripped, subst, sym, Told, told_to, true, Txn, TxnId, unlocked, Waiter}
-use Rattle.gl_table.proofs.Words.{Waiting, waits_at, WakesLists, WakesTold, with_grant, with_txn, without_wait, without_waiter, woken, ℕ}
-use Rattle.gl_table.specs.declared.answers.Notice.TheVariants as notice
+-- A slot leaves its nodes one after the other. For commits, aborts and escalations.
+use Rattle.gl_table.proofs.Words.{[], ◌&&◌, ◌+◌, ◌<◌, ◌==◌, ◌||◌, ◌∙◌, ◌≡◌, Active, after_grants, Agrees, and-false, and-not_self, and-true, and_both, ap, ap₂}
+use Rattle.gl_table.proofs.Words.{arith, Bool, cancelled, CanTell, clash, count_by, CountsHeld, drop, false, front, front_at, fun_ext, grant_notice, granted_at}
+use Rattle.gl_table.proofs.Words.{held_children, holds, if◌then◌else◌, is_among_waiters, is_wait, is_waiting_at, IsBySlot, IsLawfulGraph, IsOnWay, IsOrderly}
+use Rattle.gl_table.proofs.Words.{length, List, listed, LockList, members, Mode, mode_given, nat_tests, NL, NodeId, nodes, None, not, not_true, notices_in}
+use Rattle.gl_table.proofs.Words.{number_same, Option, or-false, or-true, or_comm, parents_of, pumped, refl, released, restatus, same_mode, same_node}
+use Rattle.gl_table.proofs.Words.{same_node-equal, same_node-refl, same_node-sym, Some, split, State, Status, status_in, status_of, stripped, subst, sym, Told}
+use Rattle.gl_table.proofs.Words.{told_to, true, Txn, TxnId, unlocked, Waiter, Waiting, WakesLists, WakesTold, with_grant, with_txn, without_wait}
+use Rattle.gl_table.proofs.Words.{without_waiter, woken, ℕ}
+use Rattle.gl_model.specs.declared.answers.Notice.TheVariants as notice
 use Rattle.gl_table.proofs.inside.Released.{agrees_unlocked, counts_unlocked, unlocked_own}
-use Rattle.gl_table.proofs.law.Keeps.{waiting_is}
+use Rattle.gl_model.proofs.law.Keeps.{waiting_is}
 use Rattle.gl_listed.proofs.Children.{nl_is}
-use Rattle.gl_table.proofs.queues.Counts.{fewer}
-use Rattle.gl_table.proofs.queues.Edits.{without_none}
-use Rattle.gl_table.proofs.queues.Fronts.{bare_free, granted_waits, out_of_own, pumped-pumped, stripped_after}
-use Rattle.gl_table.proofs.queues.Waiters.{grants_other}
-use Rattle.gl_table.proofs.telling.Fronts.{front_stands, in_no_queue, orderly_unlocked, well_granted, woken_front}
-use Rattle.gl_table.proofs.telling.GivenUp.{given_up_out, orderly_without, waits_still}
-use Rattle.gl_table.proofs.telling.Ways.{cancel_tells, release_tells, way_gives_up, way_releases, woken_same}
+use Rattle.gl_model.proofs.queues.Counts.{children_down, fewer}
+use Rattle.gl_model.proofs.queues.Edits.{without_none}
+use Rattle.gl_model.proofs.queues.Fronts.{granted_waits, out_of_own, pumped-pumped, stripped_after}
+use Rattle.gl_model.proofs.queues.Waiters.{grants_other, if-false, if-true}
+use Rattle.gl_model.proofs.telling.Fronts.{front_stands, in_no_queue, orderly_unlocked, well_granted, woken_front}
+use Rattle.gl_model.proofs.telling.GivenUp.{given_up_out, orderly_without, waits_still}
+use Rattle.gl_model.proofs.telling.Ways.{cancel_tells, release_tells, way_gives_up, way_releases, woken_same}
 
--- To release all of a transaction is to leave one node after the other.
+-- One node more is taken from a slot, and grants from its front.
 
--- where no node grants, nothing changes
-woken_none : (u : ℕ) (x : Option Txn) → x ≡ woken (λ q. []) u x
-woken_none u None = refl
-woken_none u (Some x) = by x.status
-  where
-    by : (st : Status) → Some (record x { status = st }) ≡ woken (λ q. []) u (Some (record x { status = st }))
-    by Active = refl
-    by (Waiting n m) = refl
-    by Condemned = refl
+-- the state without t's grants on these nodes
+abbrev pub taken_from : State → ℕ → (NodeId → Bool) → State
+taken_from s t left = record s { held = λ u q. if (u == t) && left q then NL else s.held u q }
 
-pumped_none : (s : State) → s ≡ pumped s (λ q. false)
-pumped_none s = λ i. record s { txns = λ u. woken_none u (s.txns u) i }
+-- one node more is taken from t, and grants from its front
+module _ (s : State) (t : ℕ) (c : NodeId) (left : NodeId → Bool) (off : left c ≡ false) where
+  abbrev more : NodeId → Bool
+  more q = left q || same_node c q
 
--- t's grants are gone whatever they were
-stripped_grant : (s : State) (t : ℕ) (n : NodeId) (m : Mode) → stripped (with_grant s t n m) t ≡ stripped s t
-stripped_grant s t n m = λ i. record (stripped s t) { held = λ u q. by u q (u == t) i }
-  where
-    by : (u : ℕ) (q : NodeId) (b : Bool) → (if b then NL else (if b && same_node q n then m else s.held u q)) ≡ (if b then NL else s.held u q)
-    by u q true = refl
-    by u q false = refl
+  apart : (q : NodeId) → left q ≡ true → same_node c q ≡ false
+  apart q h = not_true _ (λ k. clash (ap left (same_node-equal c q k) ∙ h) off)
+
+  same_front : (q : NodeId) → granted_at (taken_from s t left) left q ≡ granted_at (taken_from s t more) left q
+  same_front q = grind (arith, nat_tests, left q, same_node c q)
+
+  same_held : (u : ℕ) (q : NodeId) → (with_grant (pumped (taken_from s t left) left) t c NL).held u q ≡ (pumped (taken_from s t more) left).held u q
+  same_held u q = by (left q) (same_node c q) (same_node q c) (same_node-sym q c) (apart q)
+    where
+      none : (a x : Bool) (m : Mode) → (if a && x then NL else (if a && false then NL else m)) ≡ (if a && (false || x) then NL else m)
+      none a x m = grind (arith, nat_tests)
+
+      kept : (a : Bool) (m : Mode) → (if a && false then NL else m) ≡ m
+      kept a m = grind (arith, nat_tests)
+
+      by : (b x y : Bool) → y ≡ x → (b ≡ true → x ≡ false) → (if (u == t) && y then NL else after_grants (λ v. if (v == t) && b then NL else s.held v q)
+          (if b then front s.most (λ v. if (v == t) && b then NL else s.held v q) (s.queue q) else []) u)
+          ≡ after_grants (λ v. if (v == t) && (b || x) then NL else s.held v q)
+          (if b then front s.most (λ v. if (v == t) && (b || x) then NL else s.held v q) (s.queue q) else []) u
+      by b x y h1 h2 = grind (arith, nat_tests)
+
+  same_taken : with_grant (pumped (taken_from s t left) left) t c NL ≡ pumped (taken_from s t more) left
+  same_taken = λ i. record s {
+    held = λ u q. same_held u q i;
+    queue = λ q. ap (λ ws. drop (length ws) (s.queue q)) (same_front q) i;
+    txns = λ u. ap (λ (g : NodeId → List Waiter). woken g u (s.txns u)) (fun_ext same_front) i;
+  }
+
+  pub taken_one : (now : State) → now ≡ pumped (taken_from s t left) left → unlocked now t c ≡ pumped (taken_from s t more) more
+  taken_one now is =
+      ap (λ x. unlocked x t c) is ∙ ap (λ x. pumped x (same_node c)) same_taken ∙ pumped-pumped (taken_from s t more) left (same_node c)
+      (λ q. not_true _ (λ h. let both = and_both (left q) (same_node c q) h in clash both.1 (apart q both.0)))
+
+-- To take a wait back and to release then is to release at once.
 
 -- t's wait is gone, and its status, whatever it was
 stripped_wait : (s : State) (t : ℕ) (st : Status) → stripped (without_wait s t st) t ≡ stripped s t
@@ -49,40 +73,7 @@ stripped_wait s t st = λ i. record (stripped s t) {
 }
   where
     by : (u : ℕ) (b : Bool) → (if b then None else (if b then restatus st (s.txns t) else s.txns u)) ≡ (if b then None else s.txns u)
-    by u true = refl
-    by u false = refl
-
--- where t holds nothing and waits nowhere, only its name is there to take out
-stripped_free : (s : State) (t : ℕ) → ((n : NodeId) → s.held t n ≡ NL) → ((n : NodeId) → is_among_waiters t (s.queue n) ≡ false)
-    → stripped s t ≡ with_txn s t None
-stripped_free s t free out = λ i. record (with_txn s t None)
-    { held = λ u n. bare_free t (members s n) (free n) i u; queue = λ n. without_none t (s.queue n) (out n) i }
-
--- nodes that t does not hold grant the same without t
-stripped_pumped : (s : State) (t : ℕ) (P : NodeId → Bool) → ((n : NodeId) → is_among_waiters t (s.queue n) ≡ false)
-    → ((n : NodeId) → P n ≡ true → s.held t n ≡ NL) → stripped (pumped s P) t ≡ pumped (stripped s t) P
-stripped_pumped s t P out free =
-    pumped_none (stripped (pumped s P) t)
-    ∙ stripped_after s t P (λ q. false) out (λ n h _. free n h)
-    ∙ ap (pumped (stripped s t)) (fun_ext (λ n. or-false (P n)))
-
--- leaving one node more
-pub left_one : (s now : State) (t : ℕ) (n : NodeId) (left : NodeId → Bool) → now.most ≡ s.most → ((q : NodeId) → is_among_waiters t (now.queue q) ≡ false)
-    → left n ≡ false → HasLeft s t left now
-    → HasLeft s t (λ q. left q || same_node n q) (unlocked now t n)
-left_one s now t n left most out off was =
-    stripped_pumped (with_grant now t n NL) t (same_node n) out freed
-    ∙ ap (λ x. pumped x (same_node n)) (stripped_grant now t n NL ∙ was)
-    ∙ pumped-pumped (stripped s t) left (same_node n) (λ q. not_true _ (λ h. let both = and_both (left q) (same_node n q) h in
-    clash (ap left (same_node-equal n q both.1) ∙ both.0) off))
-  where
-    freed : (q : NodeId) → same_node n q ≡ true → (with_grant now t n NL).held t q ≡ NL
-    freed q h = ap₂ (λ a b. if a && b then NL else now.held t q) (number_same t t refl) (same_node-sym q n ∙ h)
-
--- where all were left that t held, t is released
-pub left_all : (s now : State) (t : ℕ) → ((q : NodeId) → now.held t q ≡ NL) → ((q : NodeId) → is_among_waiters t (now.queue q) ≡ false)
-    → HasLeft s t (λ n. holds (members s n) t || is_waiting_at s t n) now → released s t ≡ with_txn now t None
-left_all s now t free out was = sym was ∙ stripped_free now t free out
+    by u b = grind (arith, nat_tests)
 
 -- what t's node grants with t's grant there, and then once it is gone, is what it grants at once without t
 pub abort_is_release : (s : State) (t : ℕ) → released s t ≡ released (cancelled s t) t
@@ -103,13 +94,7 @@ abort_is_release s t =
         (granted_waits (without_wait s t Active) t (is_waiting_at s t) n (out n)))
 
     active : (n : NodeId) → is_waiting_at (cancelled s t) t n ≡ false
-    active n = by (t == t) (number_same t t refl) (s.txns t)
-      where
-        by : (b : Bool) → b ≡ true → (x : Option Txn) → waits_at
-            (status_in (woken (granted_at (without_wait s t Active) (is_waiting_at s t)) t (if b then restatus Active x else x))) n ≡ false
-        by true e None = refl
-        by true e (Some x) = refl
-        by false e x = clash e refl
+    active n = grind (arith, nat_tests, number_same t t refl)
 
 -- A slot that waits for nothing leaves its nodes, one after the other: what holds after each.
 
@@ -144,15 +129,13 @@ module _ (now : State) (o : IsOrderly now) (t : ℕ) (out : (q : NodeId) → is_
   own_txn = same_txn t not_granted
 
   pub own_notice : notices_in told' t ≡ notices_in told t
-  own_notice = tell.notices t ∙ ap (λ b. if b then grant_notice now.txns n granted t else notices_in told t) not_granted
+  own_notice = tell.notices t ∙ if-false _ not_granted
 
   -- who waits still was not granted, and was told nothing
   pub still_untold : ((u : ℕ) → is_wait (status_of now u) ≡ true → notices_in told u ≡ None) → (u : ℕ) → is_wait (status_of (unlocked now t n) u) ≡ true
       → notices_in told' u ≡ None
-  still_untold untold u h = split (is_among_waiters u granted)
-      (λ e. clash h (ap (λ x. is_wait (status_in x)) (txn_is u ∙ ap (λ b. if b then restatus Active (now.txns u) else now.txns u) e) ∙ active (now.txns u)))
-      (λ e. tell.notices u ∙ ap (λ b. if b then grant_notice now.txns n granted u else notices_in told u) e
-      ∙ untold u (ap (λ x. is_wait (status_in x)) (sym (same_txn u e)) ∙ h))
+  still_untold untold u h = split (is_among_waiters u granted) (λ e. clash h (ap (λ x. is_wait (status_in x)) (txn_is u ∙ if-true _ e) ∙ active (now.txns u)))
+      (λ e. tell.notices u ∙ if-false _ e ∙ untold u (ap (λ x. is_wait (status_in x)) (sym (same_txn u e)) ∙ h))
     where
       active : (x : Option Txn) → is_wait (status_in (restatus Active x)) ≡ false
       active None = refl
@@ -162,142 +145,157 @@ module _ (now : State) (o : IsOrderly now) (t : ℕ) (out : (q : NodeId) → is_
   still_tells s was tells begin way same =
       let so_far = tells begin way same in (
         way_releases begin now t n so_far.0,
-        λ u e.
-            tell.notices u
-            ∙ ap₂ (λ x y. if is_among_waiters u granted then x else y)
+        λ u e. tell.notices u ∙ ap₂ (λ x y. if is_among_waiters u granted then x else y)
             (ap (λ (a : ℕ). let name : TxnId = record { slot = u; age = a } in Some (name, notice.Granted n (mode_given granted u))) (so_far.0.ages u))
-            (so_far.1 u e)
-            ∙ sym (release_tells begin now t n so_far.0 u e),
+            (so_far.1 u e) ∙ sym (release_tells begin now t n so_far.0 u e),
       )
 
--- t, which waits for nothing, left some of the nodes that it held in s: its list has those that it still holds, and all others have what they hold and count
+-- t left some of the nodes that it held in s: they granted from their fronts at once, all others have what they hold and count, and are told so
 pub record IsLeaving (s now : State) (t : ℕ) (ls : List LockList) (was told : Told) : Type 0 where
+  pub graph : now.graph ≡ s.graph
   pub orderly : IsOrderly now
   pub most : now.most ≡ s.most
-  pub quiet : is_wait (status_of now t) ≡ false
+  pub txn : now.txns t ≡ s.txns t
   pub agree : (u : ℕ) → (u == t) ≡ false → Agrees now ls u
   pub count : (u : ℕ) → (u == t) ≡ false → CountsHeld now ls u
-  pub listed : (q : NodeId) → listed_by ls t q ≡ holds (members now q) t
   pub less : (q : NodeId) → holds (members now q) t ≡ true → holds (members s q) t ≡ true
-  pub left : HasLeft s t (left_by s now t) now
+  pub left : now ≡ pumped (taken_from s t (left_by s now t)) (left_by s now t)
   pub by_slot : IsBySlot told
   pub untold : (u : ℕ) → is_wait (status_of now u) ≡ true → notices_in told u ≡ None
   pub own : notices_in told t ≡ notices_in was t
   pub tells : StillTells s now t was told
 
 -- at the beginning nothing is left
-pub leaving_begins : (s : State) (t : ℕ) (ls : List LockList) (told : Told) → IsOrderly s → is_wait (status_of s t) ≡ false → ((u : ℕ) → Agrees s ls u)
-    → ((u : ℕ) → CountsHeld s ls u) → IsBySlot told
-    → ((u : ℕ) → is_wait (status_of s u) ≡ true → notices_in told u ≡ None) → IsLeaving s s t ls told told
-leaving_begins s t ls told o quiet agree count by_slot untold = record {
+pub leaving_begins : (s : State) (t : ℕ) (ls : List LockList) (told : Told) → IsOrderly s → ((u : ℕ) → (u == t) ≡ false → Agrees s ls u)
+    → ((u : ℕ) → (u == t) ≡ false → CountsHeld s ls u) → CanTell told (λ u. is_wait (status_of s u)) → IsLeaving s s t ls told told
+leaving_begins s t ls told o agree count tell = record {
+  graph = refl;
   orderly = o;
   most = refl;
-  quiet = quiet;
-  agree = λ u e. agree u;
-  count = λ u e. count u;
-  listed = λ q. (agree t).listed q ∙ ap (λ b. holds (members s q) t || b) (in_no_queue s o t quiet q) ∙ or-false (holds (members s q) t);
+  txn = refl;
+  agree = agree;
+  count = count;
   less = λ q h. h;
-  left = nothing ∙ ap (pumped (stripped s t)) (fun_ext (λ q. sym (and-not_self (holds (members s q) t))));
-  by_slot = by_slot;
-  untold = untold;
+  left = nothing ∙ ap (λ f. pumped (taken_from s t f) f) (fun_ext (λ q. sym (and-not_self (holds (members s q) t))));
+  by_slot = tell.by_slot;
+  untold = tell.untold;
   own = refl;
   tells = λ begin way same. (way, same);
 }
   where
     -- where no node grants, nothing changes
-    nothing : stripped s t ≡ pumped (stripped s t) (λ q. false)
-    nothing = λ i. record (stripped s t) { txns = λ u. sym (woken_same (λ q. []) u (λ q. refl) ((stripped s t).txns u)) i }
+    nothing : s ≡ pumped (taken_from s t (λ q. false)) (λ q. false)
+    nothing = λ i. record s {
+      held = λ u q. by (u == t) (s.held u q) i;
+      txns = λ u. sym (woken_same (λ q. []) u (λ q. refl) (s.txns u)) i;
+    }
+      where
+        by : (b : Bool) (m : Mode) → m ≡ (if b && false then NL else m)
+        by b m = grind (arith, nat_tests)
 
-module _ (s now : State) (t : ℕ) (ls : List LockList) (was told : Told) (is : IsLeaving s now t ls was told) (n : NodeId)
-    (holding : holds (members now n) t ≡ true) where
-  abbrev after : State
-  after = unlocked now t n
+module _ {s now : State} {t : ℕ} {ls : List LockList} {was told : Told} (is : IsLeaving s now t ls was told) (quiet : is_wait (status_of s t) ≡ false) where
+  pub leaving_out : (q : NodeId) → is_among_waiters t (now.queue q) ≡ false
+  leaving_out = in_no_queue now is.orderly t (ap (λ x. is_wait (status_in x)) is.txn ∙ quiet)
 
-  abbrev front : List Waiter
-  front = front_at (with_grant now t n NL) n
+  module _ (n : NodeId) (holding : holds (members now n) t ≡ true) where
+    -- t holds what it held, but for n
+    pub held_after : (q : NodeId) → (unlocked now t n).held t q ≡ (if same_node q n then NL else now.held t q)
+    held_after = unlocked_own now t n leaving_out
 
-  out : (q : NodeId) → is_among_waiters t (now.queue q) ≡ false
-  out q = in_no_queue now is.orderly t is.quiet q
+    pub holds_after : (q : NodeId) → holds (members (unlocked now t n) q) t ≡ (holds (members now q) t && not (same_node q n))
+    holds_after q = ap (λ m. not (same_mode m NL)) (held_after q) ∙ grind (arith, nat_tests, same_node q n)
 
-  -- t holds what it held, but for n
-  held_own : (q : NodeId) → holds (members after q) t ≡ (holds (members now q) t && not (same_node q n))
-  held_own q = ap (λ m. not (same_mode m NL)) (unlocked_own now t n out q) ∙ by (same_node q n) (now.held t q)
-    where
-      by : (b : Bool) (m : Mode) → not (same_mode (if b then NL else m) NL) ≡ (not (same_mode m NL) && not b)
-      by true m = sym (and-false (not (same_mode m NL)))
-      by false m = sym (and-true (not (same_mode m NL)))
+    holds_still : (q : NodeId) → holds (members (unlocked now t n) q) t ≡ true → holds (members now q) t ≡ true
+    holds_still q h = (and_both (holds (members now q) t) (not (same_node q n)) (sym (holds_after q) ∙ h)).0
 
-  held_still : (q : NodeId) → holds (members after q) t ≡ true → holds (members now q) t ≡ true
-  held_still q h = (and_both (holds (members now q) t) (not (same_node q n)) (sym (held_own q) ∙ h)).0
+    holds_no_more : holds (members (unlocked now t n) n) t ≡ false
+    holds_no_more = holds_after n ∙ ap (λ b. holds (members now n) t && not b) (same_node-refl n) ∙ and-false (holds (members now n) t)
 
-  held_no_more : holds (members after n) t ≡ false
-  held_no_more = held_own n ∙ ap (λ b. holds (members now n) t && not b) (same_node-refl n) ∙ and-false (holds (members now n) t)
+    -- one node more is left
+    pub left_same : (q : NodeId) → (left_by s now t q || same_node n q) ≡ left_by s (unlocked now t n) t q
+    left_same q = by (same_node n q) refl
+      where
+        more_same : (a b : Bool) → ((a && not b) || false) ≡ (a && not (b && not false))
+        more_same a b = grind (arith, nat_tests)
 
-  -- one node more is left
-  left_more : HasLeft s t (left_by s after t) after
-  left_more =
-      left_one s now t n (left_by s now t) is.most out (ap (λ b. holds (members s n) t && not b) holding ∙ and-false (holds (members s n) t)) is.left
-      ∙ ap (pumped (stripped s t)) (fun_ext (λ q. by q (same_node n q) refl))
-    where
-      more : (a b : Bool) → ((a && not b) || false) ≡ (a && not (b && not false))
-      more true true = refl
-      more true false = refl
-      more false b = refl
+        by : (b : Bool) → same_node n q ≡ b → (left_by s now t q || b) ≡ left_by s (unlocked now t n) t q
+        by true e =
+            or-true (left_by s now t q) ∙ sym (ap₂ (λ a x. a && not x) (ap (λ x. holds (members s x) t) (sym (same_node-equal n q e)) ∙ is.less n holding)
+            (holds_after q ∙ ap (λ b. holds (members now q) t && not b) (same_node-sym q n ∙ e) ∙ and-false (holds (members now q) t)))
+        by false e = grind (arith, nat_tests, more_same (holds (members s q) t) (holds (members now q) t), holds_after q, same_node-sym q n, e)
 
-      by : (q : NodeId) (b : Bool) → same_node n q ≡ b → (left_by s now t q || b) ≡ left_by s after t q
-      by q true e =
-          or-true (left_by s now t q)
-          ∙ sym (ap₂ (λ a c. a && not c) (ap (λ x. holds (members s x) t) (sym (same_node-equal n q e)) ∙ is.less n holding)
-          (held_own q ∙ ap (λ b. holds (members now q) t && not b) (same_node-sym q n ∙ e) ∙ and-false (holds (members now q) t)))
-      by q false e =
-          more (holds (members s q) t) (holds (members now q) t)
-          ∙ sym (ap (λ b. holds (members s q) t && not b) (held_own q ∙ ap (λ b. holds (members now q) t && not b) (same_node-sym q n ∙ e)))
+    left_more : unlocked now t n ≡ pumped (taken_from s t (left_by s (unlocked now t n) t)) (left_by s (unlocked now t n) t)
+    left_more =
+        taken_one s t n (left_by s now t) (ap (λ b. holds (members s n) t && not b) holding ∙ and-false (holds (members s n) t)) now is.left
+        ∙ ap (λ f. pumped (taken_from s t f) f) (fun_ext left_same)
 
-  module _ (law : IsLawfulGraph now.graph) (mid ls' : List LockList) (told' : Told)
-      (agree : (u : ℕ) → (u == t) ≡ false → Agrees now mid u) (count : (u : ℕ) → (u == t) ≡ false → CountsHeld now mid u)
-      (listed : (q : NodeId) → listed_by mid t q ≡ (listed_by ls t q && not (same_node q n)))
-      (wakes : WakesLists mid n (parents_of now.graph n) front ls') (woken : WakesTold now.txns n front told told') where
-    pub leaving_one : IsLeaving s after t ls' was told'
-    leaving_one = record {
+    -- each parent has one held child less
+    pub fewer_held : IsLawfulGraph now.graph → (p : NodeId)
+        → held_children (unlocked now t n) t p + count_by (same_node p) (parents_of now.graph n) ≡ held_children now t p
+    fewer_held law p = children_down now.graph law (λ x. holds (members now x) t) (λ x. holds (members (unlocked now t n) x) t) n
+        (is.orderly.holders_live t n holding) holding holds_no_more
+        (λ q e. ap (λ m. not (same_mode m NL)) (held_after q ∙ ap (λ k. if k then NL else now.held t q) e)) p
+
+    -- and t holds fewer nodes
+    pub leaving_fewer : IsLawfulGraph now.graph
+        → count_by (λ q. holds (members (unlocked now t n) q) t) (nodes now.graph) < count_by (λ q. holds (members now q) t) (nodes now.graph)
+    leaving_fewer law = fewer (λ q. holds (members now q) t) (λ q. holds (members (unlocked now t n) q) t) n (nodes now.graph) holds_still
+        (listed now.graph law n (is.orderly.holders_live t n holding)) holding holds_no_more
+
+    -- the node was released, while the list of t was written or out of its place
+    pub leaving_one : {mid ls' : List LockList} {told' : Told} → IsLawfulGraph now.graph → ((u : ℕ) → (u == t) ≡ false → Agrees now mid u)
+        → ((u : ℕ) → (u == t) ≡ false → CountsHeld now mid u) → WakesLists mid n (parents_of now.graph n) (front_at (with_grant now t n NL) n) ls'
+        → WakesTold now.txns n (front_at (with_grant now t n NL) n) told told' → IsLeaving s (unlocked now t n) t ls' was told'
+    leaving_one {mid} {ls'} {told'} law agree count wakes woken = record {
+      graph = is.graph;
       orderly = orderly_unlocked now is.orderly t n;
       most = is.most;
-      quiet = ap (λ x. is_wait (status_in x)) (own_txn now is.orderly t out n told told' woken) ∙ is.quiet;
+      txn = own_txn now is.orderly t leaving_out n told told' woken ∙ is.txn;
       agree = λ u e. agrees_unlocked now t n is.orderly mid ls' wakes u e (agree u e);
       count = λ u e. counts_unlocked now t n is.orderly mid ls' wakes u e (agree u e) law (is.orderly.holders_live t n holding) (count u e);
-      listed = λ q. wakes.listed t q ∙ listed q ∙ ap (λ b. b && not (same_node q n)) (is.listed q) ∙ sym (held_own q);
-      less = λ q h. is.less q (held_still q h);
+      less = λ q h. is.less q (holds_still q h);
       left = left_more;
       by_slot = woken.by_slot;
-      untold = still_untold now is.orderly t out n told told' woken is.untold;
-      own = own_notice now is.orderly t out n told told' woken ∙ is.own;
-      tells = still_tells now is.orderly t out n told told' woken s was is.tells;
+      untold = still_untold now is.orderly t leaving_out n told told' woken is.untold;
+      own = own_notice now is.orderly t leaving_out n told told' woken ∙ is.own;
+      tells = still_tells now is.orderly t leaving_out n told told' woken s was is.tells;
     }
 
--- once its list is empty, t has left all that it held, and is released but for its name
-module _ (s now : State) (t : ℕ) (ls : List LockList) (was told : Told) (is : IsLeaving s now t ls was told) (none : (q : NodeId)
-    → listed_by ls t q ≡ false) where
-  pub left_free : (q : NodeId) → now.held t q ≡ NL
-  left_free q = nl_is (now.held t q) (sym (is.listed q) ∙ none q)
+  -- who holds nothing any more left all that it held, and is released but for its name
+  module _ (begun : IsOrderly s) (none : (q : NodeId) → holds (members now q) t ≡ false) where
+    -- the nodes that grant as t is released
+    abbrev all : NodeId → Bool
+    all n = holds (members s n) t || is_waiting_at s t n
 
-  left_out : (q : NodeId) → is_among_waiters t (now.queue q) ≡ false
-  left_out = in_no_queue now is.orderly t is.quiet
+    left_all : (q : NodeId) → left_by s now t q ≡ all q
+    left_all q = ap (λ b. holds (members s q) t && not b) (none q) ∙ and-true (holds (members s q) t) ∙ sym (or-false (holds (members s q) t))
+        ∙ ap (λ b. holds (members s q) t || b) (sym (not_true (is_waiting_at s t q) (λ h. clash (ap is_wait (waiting_is (status_of s t) q h).1) quiet)))
 
-  pub left_released : is_wait (status_of s t) ≡ false → released s t ≡ with_txn now t None
-  left_released quiet = left_all s now t left_free left_out (is.left ∙ ap (pumped (stripped s t)) (fun_ext (λ q.
-      ap (λ b. holds (members s q) t && not b) (sym (is.listed q) ∙ none q) ∙ and-true (holds (members s q) t) ∙ sym (or-false (holds (members s q) t))
-      ∙ ap (λ b. holds (members s q) t || b) (sym (nowhere q)))))
-    where
-      nowhere : (q : NodeId) → is_waiting_at s t q ≡ false
-      nowhere q = not_true _ (λ h. clash (ap is_wait (waiting_is (status_of s t) q h).1) quiet)
+    -- to take all grants of t and then its name is to strip the state of t, which stands in no queue
+    named : with_txn (taken_from s t all) t None ≡ stripped s t
+    named = λ i. record (stripped s t) {
+      held = λ u q. by u q (u == t) refl (all q) refl i;
+      queue = λ q. sym (without_none t (s.queue q) (stood q)) i;
+    }
+      where
+        -- who waits for nothing stands in no queue
+        stood : (q : NodeId) → is_among_waiters t (s.queue q) ≡ false
+        stood = in_no_queue s begun t quiet
 
--- the nodes that t holds grow fewer
-pub leaving_fewer : (s now : State) (t : ℕ) (ls : List LockList) (was told : Told) → IsLeaving s now t ls was told → IsLawfulGraph now.graph → (n : NodeId)
-    → holds (members now n) t ≡ true
-    → count_by (λ q. holds (members (unlocked now t n) q) t) (nodes now.graph) < count_by (λ q. holds (members now q) t) (nodes now.graph)
-leaving_fewer s now t ls was told is law n holding =
-    fewer (λ q. holds (members now q) t) (λ q. holds (members (unlocked now t n) q) t) n (nodes now.graph)
-    (λ q h. held_still s now t ls was told is n holding q h) (listed now.graph law n (is.orderly.holders_live t n holding)) holding
-    (held_no_more s now t ls was told is n holding)
+        by : (u : ℕ) (q : NodeId) (b : Bool) → (u == t) ≡ b → (k : Bool) → all q ≡ k → (if b && k then NL else s.held u q) ≡ (if b then NL else s.held u q)
+        by u q b h1 h2 h3 = grind (arith, nat_tests)
+
+    -- who has a name or none is granted the same
+    last : with_txn (pumped (taken_from s t all) all) t None ≡ pumped (with_txn (taken_from s t all) t None) all
+    last = λ i. record (pumped (taken_from s t all) all) { txns = λ u. by u (u == t) i }
+      where
+        by : (u : ℕ) (b : Bool) → (if b then None else woken (granted_at (taken_from s t all) all) u (s.txns u))
+            ≡ woken (granted_at (taken_from s t all) all) u (if b then None else s.txns u)
+        by u b = grind (arith, nat_tests)
+
+    pub left_released : released s t ≡ with_txn now t None
+    left_released = sym (ap (λ x. with_txn x t None) is.left ∙ ap (λ f. with_txn (pumped (taken_from s t f) f) t None) (fun_ext left_all) ∙ last
+        ∙ ap (λ x. pumped x all) named)
 
 -- A wait is taken back by its own transaction, or by its end: what all others are told.
 
@@ -321,13 +319,7 @@ free_idle s t told o quiet untold = record { orderly = o; quiet = quiet; untold 
 
 -- who took its wait back waits for nothing
 pub cancelled_idle : (s : State) (t : ℕ) → is_wait (status_of (cancelled s t) t) ≡ false
-cancelled_idle s t = by (t == t) (number_same t t refl) (s.txns t)
-  where
-    by : (b : Bool) → b ≡ true → (x : Option Txn) → is_wait
-        (status_in (woken (granted_at (without_wait s t Active) (is_waiting_at s t)) t (if b then restatus Active x else x))) ≡ false
-    by true e None = refl
-    by true e (Some x) = refl
-    by false e x = clash e refl
+cancelled_idle s t = grind (arith, nat_tests, number_same t t refl)
 
 module _ (s : State) (o : IsOrderly s) (t : ℕ) (n : NodeId) (waits : is_waiting_at s t n ≡ true) (was told : Told)
     (wakes : WakesTold s.txns n (front_at (without_wait s t Active) n) was told) where
@@ -339,16 +331,13 @@ module _ (s : State) (o : IsOrderly s) (t : ℕ) (n : NodeId) (waits : is_waitin
 
   -- it is told nothing of it
   pub cancelled_own : notices_in told t ≡ notices_in was t
-  cancelled_own = wakes.notices t ∙ ap (λ k. if k then grant_notice s.txns n (front_at (without_wait s t Active) n) t else notices_in was t)
-      (given_up_out s o t n Active (λ q m e. cc) waits)
+  cancelled_own = grind (arith, nat_tests, wakes.notices t, given_up_out s o t n Active (λ q m e. cc) waits)
 
   -- all others are told who are granted
   pub cancelled_tells : StillTells s (cancelled s t) t was told
   cancelled_tells begin way same = (
     way_gives_up begin s t n wait.0 Active (λ q m e. cc) wait.1 way,
-    λ u e.
-        wakes.notices u
-        ∙ ap₂ (λ x y. if in_front u then x else y) (ap (λ (a : ℕ). let name : TxnId = record { slot = u; age = a } in
+    λ u e. wakes.notices u ∙ ap₂ (λ x y. if in_front u then x else y) (ap (λ (a : ℕ). let name : TxnId = record { slot = u; age = a } in
         Some (name, notice.Granted n (mode_given (front_at (without_wait s t Active) n) u))) (way.ages u)) (same u e)
         ∙ sym (cancel_tells begin s t n wait.0 wait.1 way u e),
   )

@@ -1,15 +1,15 @@
 -- What an ask that waits leaves. For asks.
-use Rattle.gl_table.proofs.Words.{◌&&◌, ◌+◌, ◌<◌, ◌==◌, ◌||◌, ◌∙◌, ◌≡◌, ◌≤◌, Agrees, and_both, ap, ap₂, AreApart, AreSound, Bool, count_of}
-use Rattle.gl_table.proofs.Words.{counted_by, CountsHeld, enqueued, enters, Entries, false, fun_ext, Graph, held_of, holds, if◌then◌else◌, is_among_waiters}
-use Rattle.gl_table.proofs.Words.{is_listed, is_wait, IsApart, length, List, LockList, members, members_at, Mode, mode_of, NodeId, number_same, Option}
+use Rattle.gl_table.proofs.Words.{◌&&◌, ◌+◌, ◌<◌, ◌==◌, ◌||◌, ◌∙◌, ◌≡◌, ◌≤◌, Agrees, and_both, ap, ap₂, AreApart, AreSound, arith, Bool, count_of, counted_by}
+use Rattle.gl_table.proofs.Words.{CountsHeld, enqueued, enters, Entries, false, fun_ext, Graph, held_of, holds, if◌then◌else◌, is_among_waiters, is_listed}
+use Rattle.gl_table.proofs.Words.{is_wait, IsApart, length, List, LockList, members, members_at, Mode, mode_of, nat_tests, NodeId, number_same, Option}
 use Rattle.gl_table.proofs.Words.{other_number, placed, queue_of, refl, restatus, room_by, same_node, same_node-equal, same_number, Seat, slice_index_or}
 use Rattle.gl_table.proofs.Words.{slice_set, slot_limit, spare, split, State, state_on, status_in, subst, supremum, sym, true, txns_of, Waiting, wanted}
 use Rattle.gl_table.proofs.Words.{with_waiters, ℕ}
 use Rattle.gl_table.specs.declared.locks.Locks.{Locks}
 use Rattle.gl_table.proofs.inside.Asks.{active-waits_nowhere, IsReady}
 use Rattle.gl_table.proofs.inside.Slots.{by_list-set, counts-entered, has_node-set, HasNode, none_more}
-use Rattle.gl_table.proofs.queues.Edits.{placed_other, placed_self}
-use Rattle.gl_table.proofs.queues.Waiters.{among_waits, one_among, some_wait}
+use Rattle.gl_model.proofs.queues.Edits.{placed_other, placed_self}
+use Rattle.gl_model.proofs.queues.Waiters.{among_waits, if-false, if-true, one_among, some_wait}
 
 module _ (s : State) (t : ℕ) (n : NodeId) (w : Mode) (out : is_among_waiters t (s.queue n) ≡ false) where
   abbrev after : State
@@ -17,13 +17,11 @@ module _ (s : State) (t : ℕ) (n : NodeId) (w : Mode) (out : is_among_waiters t
 
   -- who stands in a queue stood there, or is the one who asked
   among-placed : (u : ℕ) → is_among_waiters u (placed (members s n) (s.queue n) t w) ≡ ((u == t) || is_among_waiters u (s.queue n))
-  among-placed u = split (u == t)
-      (λ e. ap (λ v. is_among_waiters v (placed (members s n) (s.queue n) t w)) (same_number u t e)
+  among-placed u = split (u == t) (λ e. ap (λ v. is_among_waiters v (placed (members s n) (s.queue n) t w)) (same_number u t e)
       ∙ one_among t (placed (members s n) (s.queue n) t w) (t, w) (placed_self (members s n) (s.queue n) t w out)
       ∙ sym (ap (λ b. b || is_among_waiters u (s.queue n)) e))
       (λ e. among_waits u (placed (members s n) (s.queue n) t w) ∙ ap some_wait (placed_other (members s n) (s.queue n) t u w (other_number u t e))
-      ∙ sym (among_waits u (s.queue n))
-      ∙ sym (ap (λ b. b || is_among_waiters u (s.queue n)) e))
+      ∙ sym (among_waits u (s.queue n)) ∙ sym (ap (λ b. b || is_among_waiters u (s.queue n)) e))
 
   among-enqueued : (u : ℕ) (q : NodeId) → is_among_waiters u (after.queue q) ≡ (((u == t) && same_node q n) || is_among_waiters u (s.queue q))
   among-enqueued u q = split (same_node q n)
@@ -33,33 +31,26 @@ module _ (s : State) (t : ℕ) (n : NodeId) (w : Mode) (out : is_among_waiters t
       ∙ ap (λ b. b || is_among_waiters u (s.queue q)) (and_not (u == t) (same_node q n) e))
     where
       and_so : (a b : Bool) → b ≡ true → a ≡ (a && b)
-      and_so true b e = sym e
-      and_so false b e = refl
+      and_so a b h1 = grind (arith, nat_tests)
 
       and_not : (a b : Bool) → b ≡ false → false ≡ (a && b)
-      and_not true b e = sym e
-      and_not false b e = refl
+      and_not a b h1 = grind (arith, nat_tests)
 
   -- the list has the node, in the mode that is held
   pub enqueue-agrees : (ls ls' : List LockList) → HasNode ls ls' t n (s.held t n) → 9 ≤ room_by ls' t → (u : ℕ) → Agrees s ls u → Agrees after ls' u
   enqueue-agrees ls ls' has room u agrees = record {
     modes = λ q. has.modes u q ∙ ap (λ x. if (u == t) && same_node q n then s.held t n else x) (agrees.modes q) ∙ split ((u == t) && same_node q n)
         (λ e. let both = and_both (u == t) (same_node q n) e in
-        ap (λ b. if b then s.held t n else s.held u q) e ∙ ap₂ s.held (sym (same_number u t both.0)) (sym (same_node-equal q n both.1)))
-        (λ e. ap (λ b. if b then s.held t n else s.held u q) e);
+        if-true _ e ∙ ap₂ s.held (sym (same_number u t both.0)) (sym (same_node-equal q n both.1))) (λ e. if-false _ e);
     listed = λ q. has.listed u q ∙ ap (λ b. ((u == t) && same_node q n) || b) (agrees.listed q)
         ∙ swapped ((u == t) && same_node q n) (holds (members s q) u) (is_among_waiters u (s.queue q))
         ∙ ap (λ b. holds (members s q) u || b) (sym (among-enqueued u q));
-    room = λ wait. split (u == t)
-        (λ e. subst (λ v. 9 ≤ room_by ls' v) (sym (same_number u t e)) room)
-        (λ e. subst (λ (k : ℕ). 9 ≤ k) (sym (has.rooms u e))
+    room = λ wait. split (u == t) (λ e. subst (λ v. 9 ≤ room_by ls' v) (sym (same_number u t e)) room) (λ e. subst (λ (k : ℕ). 9 ≤ k) (sym (has.rooms u e))
         (agrees.room (ap (λ b. is_wait (status_in (if b then restatus (Waiting n w) (s.txns t) else s.txns u))) (sym e) ∙ wait)));
   }
     where
       swapped : (a b c : Bool) → (a || (b || c)) ≡ (b || (a || c))
-      swapped true true c = refl
-      swapped true false c = refl
-      swapped false b c = refl
+      swapped a b c = grind (arith, nat_tests)
 
 -- the list of one who will wait has the node, in the mode that is held, and room for the counts of a later grant
 pub record HasWait (ls ls' : List LockList) (t : ℕ) (n : NodeId) (held : Mode) : Type 0 where
@@ -74,13 +65,11 @@ pub has_wait-set : (ls : List LockList) (t : ℕ) (x x' : LockList) → t < leng
 has_wait-set ls t x x' lt at n held all_apart apart modes listed counts room = record {
   node = has_node-set ls t x x' lt at n held all_apart apart modes listed;
   counts = λ u q. counts-entered ls t x x' lt at (λ p. 0) (λ p. counts p ∙ none_more (count_of x p)) u q ∙ no_more (u == t) (counted_by ls u q);
-  room = subst (λ (k : ℕ). 9 ≤ k) (sym (by_list-set ls t x' lt (λ y. spare y.loose) 0 t
-      ∙ ap (λ b. if b then spare x'.loose else room_by ls t) (number_same t t refl))) room;
+  room = subst (λ (k : ℕ). 9 ≤ k) (sym (by_list-set ls t x' lt (λ y. spare y.loose) 0 t ∙ if-true _ (number_same t t refl))) room;
 }
   where
     no_more : (b : Bool) (k : ℕ) → k + (if b then 0 else 0) ≡ k
-    no_more true k = sym (none_more k)
-    no_more false k = sym (none_more k)
+    no_more b k = grind (arith, nat_tests)
 
 -- what an ask for m leaves that waits
 pub record IsEnqueued (g : Graph) (l l' : Locks) (t : ℕ) (n : NodeId) (m : Mode) : Type 0 where
@@ -95,8 +84,7 @@ module _ (g : Graph) (l r l' : Locks) (t : ℕ) (n : NodeId) (m w : Mode) (held 
   abbrev want : Mode
   want = supremum (held_of r.headers.entries t n) m
 
-  pub is_enqueued : l'.headers.entries ≡ hs
-      → (enters slot_limit (members_at r.headers.entries n) (queue_of r.headers.entries n) t want ≡ false
+  pub is_enqueued : l'.headers.entries ≡ hs → (enters slot_limit (members_at r.headers.entries n) (queue_of r.headers.entries n) t want ≡ false
       → (held_of hs ≡ held_of r.headers.entries) × (queue_of hs
       ≡ with_waiters (queue_of r.headers.entries) n (placed (members_at r.headers.entries n) (queue_of r.headers.entries n) t want)))
       → seats ≡ r.seats.items → length l'.seats.items ≡ length seats

@@ -1,11 +1,7 @@
 -- Lists in which nothing stands. For new locks.
-use Rattle.gl_table.proofs.Words.{[], ◌++◌, ◌+◌, ◌∷◌, ◌≡◌, AreApart, arith, by_list}
-use Rattle.gl_table.proofs.Words.{count_of, counted_by, Entry, entry_of, false}
-use Rattle.gl_table.proofs.Words.{held_by, is_listed, is_some, IsApart, length, List, listed_by}
-use Rattle.gl_table.proofs.Words.{LockList, mode_in, mode_of, NL, NodeId, None, Option}
-use Rattle.gl_table.proofs.Words.{refl}
-use Rattle.gl_table.proofs.Words.{Some}
-use Rattle.gl_table.proofs.Words.{subst, suc, zero, ℕ, ⊤}
+use Rattle.gl_table.proofs.Words.{[], ⊤, ◌++◌, ◌+◌, ◌∷◌, ◌≡◌, AreApart, arith, by_list, count_of, counted_by, Entry, entry_of, false, held_by, is_listed}
+use Rattle.gl_table.proofs.Words.{is_some, IsApart, length, List, listed_by, LockList, mode_in, mode_of, NL, NodeId, None, Option, refl, Some, subst, suc, zero}
+use Rattle.gl_table.proofs.Words.{ℕ}
 
 -- Lists in which nothing stands.
 

@@ -1,17 +1,18 @@
 -- A grant is taken and its node released: the lists agree. For releases.
-use Rattle.gl_table.proofs.Words.{◌&&◌, ◌+◌, ◌<◌, ◌==◌, ◌||◌, ◌∙◌, ◌≡◌, ◌≤◌, Active, after_grants, Agrees, ap, ap₂, arith, Bool, CanStrike, children_that}
-use Rattle.gl_table.proofs.Words.{clash, count_by, counted_by, CountsHeld, false, front_at, fun_ext, granted_at, held_by, held_children, holds, if◌then◌else◌}
-use Rattle.gl_table.proofs.Words.{is_among_waiters, is_live, is_wait, IsLawfulGraph, IsOrderly, length, List, listed_by, LockList, members, Mode, NL, NodeId}
-use Rattle.gl_table.proofs.Words.{not, not_true, number_same, parents_of, refl, same_mode, same_node, same_node-equal, same_node-refl, same_number, Some, split}
-use Rattle.gl_table.proofs.Words.{State, status_of, Strikes, subst, sym, true, unlocked, Waiting, WakesLists, with_grant, ℕ}
+use Rattle.gl_table.proofs.Words.{◌&&◌, ◌+◌, ◌<◌, ◌==◌, ◌||◌, ◌∙◌, ◌≡◌, ◌≤◌, Active, Agrees, ap, ap₂, arith, Bool, CanStrike, children_that, clash, count_by}
+use Rattle.gl_table.proofs.Words.{counted_by, CountsHeld, false, front_at, fun_ext, granted_at, held_by, held_children, holds, if◌then◌else◌, is_among_waiters}
+use Rattle.gl_table.proofs.Words.{is_live, is_wait, IsLawfulGraph, IsOrderly, length, List, listed_by, LockList, members, Mode, mode_given, nat_tests, NL}
+use Rattle.gl_table.proofs.Words.{NodeId, not, not_true, number_same, parents_of, refl, same_mode, same_node, same_node-refl, same_number, Some, split, State}
+use Rattle.gl_table.proofs.Words.{status_of, Strikes, subst, sym, true, unlocked, Waiting, WakesLists, with_grant, ℕ}
 use Rattle.gl_table.proofs.inside.Granted.{agrees_pumped, counts_pumped}
-use Rattle.gl_table.proofs.law.Keeps.{woken_waits}
-use Rattle.gl_table.proofs.law.Settle.{wait_is}
-use Rattle.gl_table.proofs.queues.Counts.{children_down}
-use Rattle.gl_table.proofs.queues.Fronts.{granted_waits}
-use Rattle.gl_table.proofs.queues.Waiters.{grants_other}
-use Rattle.gl_table.proofs.telling.Fronts.{front_stands, in_no_queue, well_granted}
-use Rattle.gl_table.proofs.telling.Ways.{left_stands}
+use Rattle.gl_table.proofs.inside.Slots.{none_more}
+use Rattle.gl_model.proofs.law.Keeps.{woken_waits}
+use Rattle.gl_model.proofs.law.Settle.{wait_is}
+use Rattle.gl_model.proofs.queues.Counts.{children_down}
+use Rattle.gl_model.proofs.queues.Fronts.{granted_waits}
+use Rattle.gl_model.proofs.queues.Waiters.{grants_other, if-true}
+use Rattle.gl_model.proofs.telling.Fronts.{front_stands, in_no_queue, well_granted}
+use Rattle.gl_model.proofs.telling.Ways.{left_stands}
 
 -- A grant is taken from a slot that stands in no queue, and its node grants from its front: what the slot holds then, and that the lists of all others agree.
 
@@ -24,8 +25,7 @@ module _ (s : State) (t : ℕ) (n : NodeId) where
       → (unlocked s t n).held t q ≡ (if same_node q n then NL else s.held t q)
   unlocked_own out q =
       grants_other (granted_at (with_grant s t n NL) (same_node n) q) (members (with_grant s t n NL) q) t
-      (granted_waits (with_grant s t n NL) t (same_node n) q (out q))
-      ∙ ap (λ k. if k && same_node q n then NL else s.held t q) (number_same t t refl)
+      (granted_waits (with_grant s t n NL) t (same_node n) q (out q)) ∙ ap (λ k. if k && same_node q n then NL else s.held t q) (number_same t t refl)
 
   module _ (o : IsOrderly s) (ls mid : List LockList) (wakes : WakesLists ls n (parents_of s.graph n) (front_at (with_grant s t n NL) n) mid) (u : ℕ)
       (e : (u == t) ≡ false) (agree : Agrees s ls u) where
@@ -63,23 +63,15 @@ module _ (s : State) (o : IsOrderly s) (law : IsLawfulGraph s.graph) (t : ℕ) (
   after_own = unlocked_own s t n out
 
   mode_own : (q : NodeId) → held_by mid t q ≡ s.held t q
-  mode_own q = wakes.modes t q ∙ split (same_node q n)
-      (λ e. ap (λ k. if k then after_grants (λ v. held_by ls v n) (front_at b n) t else held_by ls t q) e
-      ∙ grants_other (front_at b n) (λ v. held_by ls v n) t not_front ∙ (agree t).modes n ∙ ap (s.held t) (sym (same_node-equal q n e)))
-      (λ e. ap (λ k. if k then after_grants (λ v. held_by ls v n) (front_at b n) t else held_by ls t q) e ∙ (agree t).modes q)
+  mode_own q = wakes.modes t q ∙ ap (λ k. if k && same_node q n then mode_given (front_at b n) t else held_by ls t q) not_front ∙ (agree t).modes q
 
   count_own : (p : NodeId) → counted_by mid t p ≡ held_children s t p
-  count_own p = wakes.counts t p ∙ ap (λ k. counted_by ls t p
-      + (if k && same_mode (held_by ls t n) NL then count_by (same_node p) (parents_of s.graph n) else 0)) not_front
-      ∙ no_more (counted_by ls t p) ∙ count t p
-    where
-      no_more : (k : ℕ) → k + 0 ≡ k
-      no_more k = omega arith
+  count_own p = grind (arith, nat_tests, wakes.counts t p, not_front, none_more (counted_by ls t p), count t p)
 
   -- each parent has one held child less
   less : (p : NodeId) → held_children after t p + count_by (same_node p) (parents_of s.graph n) ≡ held_children s t p
   less p = children_down s.graph law (λ c. holds (members s c) t) (λ c. holds (members after c) t) n live holding
-      (ap (λ m. not (same_mode m NL)) (after_own n ∙ ap (λ k. if k then NL else s.held t n) (same_node-refl n)))
+      (ap (λ m. not (same_mode m NL)) (after_own n ∙ if-true _ (same_node-refl n)))
       (λ q e. ap (λ m. not (same_mode m NL)) (after_own q ∙ ap (λ k. if k then NL else s.held t q) e)) p
 
   pub can_strike : t < length mid → held_children s t n ≡ 0 → CanStrike mid t n (parents_of s.graph n)
@@ -101,8 +93,7 @@ module _ (s : State) (o : IsOrderly s) (law : IsLawfulGraph s.graph) (t : ℕ) (
 
     agrees_own : Agrees after ls' t
     agrees_own = record {
-      modes = λ q. strikes.modes t q ∙ ap (λ k. if k && same_node q n then NL else held_by mid t q) (number_same t t refl)
-          ∙ ap (λ m. if same_node q n then NL else m) (mode_own q) ∙ sym (after_own q);
+      modes = λ q. grind (arith, nat_tests, strikes.modes t q, number_same t t refl, mode_own q, after_own q);
       listed = λ q. strikes.listed t q ∙ ap (λ k. if k && same_node q n then false else listed_by mid t q) (number_same t t refl)
           ∙ ap (λ k. if same_node q n then false else k) (wakes.listed t q ∙ (agree t).listed q ∙ ap (λ k. holds (members s q) t || k) (out q))
           ∙ own (same_node q n) (s.held t q)
@@ -111,8 +102,7 @@ module _ (s : State) (o : IsOrderly s) (law : IsLawfulGraph s.graph) (t : ℕ) (
     }
       where
         own : (k : Bool) (m : Mode) → (if k then false else (not (same_mode m NL) || false)) ≡ (not (same_mode (if k then NL else m) NL) || false)
-        own true m = refl
-        own false m = refl
+        own k m = grind (arith, nat_tests)
 
         other : {C : Type 0} {x : NodeId} {m : Mode} → Some Active ≡ Some (Waiting x m) → C
         other e = absurd (cc)
@@ -122,12 +112,8 @@ module _ (s : State) (o : IsOrderly s) (law : IsLawfulGraph s.graph) (t : ℕ) (
 
     counts_other : (u : ℕ) → (u == t) ≡ false → CountsHeld after ls' u
     counts_other u e p =
-        no_more (counted_by ls' u p) ∙ ap (λ k. counted_by ls' u p + (if k then count_by (same_node p) (parents_of s.graph n) else 0)) (sym e)
-        ∙ strikes.counts u p
-        ∙ counts_unlocked s t n o ls mid wakes u e (agree u) law live (count u) p
-      where
-        no_more : (k : ℕ) → k ≡ k + 0
-        no_more k = omega arith
+        none_more (counted_by ls' u p) ∙ ap (λ k. counted_by ls' u p + (if k then count_by (same_node p) (parents_of s.graph n) else 0)) (sym e)
+        ∙ strikes.counts u p ∙ counts_unlocked s t n o ls mid wakes u e (agree u) law live (count u) p
 
     counts_own : CountsHeld after ls' t
     counts_own p =

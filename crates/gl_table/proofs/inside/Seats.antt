@@ -1,9 +1,9 @@
 -- The lowest free seat, a seat that is written, and a slot that is freed. For seats, and for the end of a transaction.
-use Rattle.gl_table.proofs.Words.{[], ◌&&◌, ◌<◌, ◌==◌, ◌||◌, ◌∙◌, ◌∷◌, ◌≡◌, Agrees, and-false, ap, ap₂, arith, clash, count_none, count_of}
-use Rattle.gl_table.proofs.Words.{CountsHeld, false, gets, if◌then◌else◌, is_among_waiters, is_child, is_free, is_free_at, is_listed, is_live, is_wait, length}
-use Rattle.gl_table.proofs.Words.{length-set, List, LockList, mode_of, nat_tests, NL, NodeId, nodes, nodes_live, None, not, number_same, Option, position}
-use Rattle.gl_table.proofs.Words.{position_or_len, refl, same_mode, same_number, Seat, slice_set, Some, split, State, status_in, subst, suc, sym, true, txns_of}
-use Rattle.gl_table.proofs.Words.{Bool, elements, is_some, txn_in, with_txn, zero, ℕ}
+use Rattle.gl_table.proofs.Words.{[], ◌&&◌, ◌<◌, ◌==◌, ◌||◌, ◌∙◌, ◌∷◌, ◌≡◌, Agrees, and-false, ap, ap₂, arith, clash, count_none, count_of, CountsHeld}
+use Rattle.gl_table.proofs.Words.{elements, false, gets, if◌then◌else◌, is_among_waiters, is_child, is_free, is_free_at, is_listed, is_live, is_some, is_wait}
+use Rattle.gl_table.proofs.Words.{length, length-set, List, lives, LockList, mode_of, nat_tests, NL, NodeId, nodes, nodes_live, None, not, number_same, Option}
+use Rattle.gl_table.proofs.Words.{position, position_or_len, refl, same_mode, same_number, Seat, slice_set, Some, split, State, status_in, subst, suc, sym}
+use Rattle.gl_table.proofs.Words.{true, txn_in, txns_of, with_txn, zero, ℕ}
 use Rattle.gl_table.specs.inside.Seats.{lives_at, waits_at}
 use Rattle.gl_table.proofs.inside.Lists.{bare-modes, IsBare}
 use Rattle.gl_table.proofs.inside.Slots.{agrees-set, counts-set, own_list}
@@ -43,30 +43,17 @@ txns-set seats t seat lt u = grind (arith, nat_tests, gets, elements)
 -- and who waits then
 pub waits-set : (seats : List (Option Seat)) (t : ℕ) (seat : Option Seat) → t < length seats → (u : ℕ)
     → waits_at (slice_set seats t seat) u ≡ (if u == t then is_wait (status_in (txn_in (Some seat))) else waits_at seats u)
-waits-set seats t seat lt u = ap (λ o. is_wait (status_in o)) (txns-set seats t seat lt u) ∙ by (u == t)
-  where
-    by : (b : Bool) → is_wait (status_in (if b then txn_in (Some seat) else txns_of seats u))
-        ≡ (if b then is_wait (status_in (txn_in (Some seat))) else waits_at seats u)
-    by true = refl
-    by false = refl
+waits-set seats t seat lt u = ap (λ o. is_wait (status_in o)) (txns-set seats t seat lt u) ∙ grind (arith, nat_tests)
 
 -- and who lives
 pub lives-set : (seats : List (Option Seat)) (t : ℕ) (seat : Option Seat) → t < length seats → (u : ℕ)
     → lives_at (slice_set seats t seat) u ≡ (if u == t then is_some (txn_in (Some seat)) else lives_at seats u)
-lives-set seats t seat lt u = ap is_some (txns-set seats t seat lt u) ∙ by (u == t)
-  where
-    by : (b : Bool) → is_some (if b then txn_in (Some seat) else txns_of seats u) ≡ (if b then is_some (txn_in (Some seat)) else lives_at seats u)
-    by true = refl
-    by false = refl
+lives-set seats t seat lt u = ap is_some (txns-set seats t seat lt u) ∙ grind (arith, nat_tests)
 
 -- the same transactions live, whatever one of them is doing
 pub lives-kept : (seats : List (Option Seat)) (t : ℕ) (x : Seat) → t < length seats → lives_at seats t ≡ true → (u : ℕ)
     → lives_at (slice_set seats t (Some x)) u ≡ lives_at seats u
-lives-kept seats t x lt lives u = lives-set seats t (Some x) lt u ∙ by (u == t) refl
-  where
-    by : (b : Bool) → (u == t) ≡ b → (if b then true else lives_at seats u) ≡ lives_at seats u
-    by true e = sym (ap (lives_at seats) (same_number u t e) ∙ lives)
-    by false e = refl
+lives-kept seats t x lt lives u = lives-set seats t (Some x) lt u ∙ grind (arith, nat_tests)
 
 -- A slot that holds nothing and stands in no queue is freed, and its list is emptied: the lists agree.
 

@@ -1,11 +1,12 @@
 -- One list of many is written, gets room, a node or a mode. For all that writes lists.
-use Rattle.gl_table.proofs.Words.{[], ◌&&◌, ◌+◌, ◌<◌, ◌==◌, ◌^◌, ◌||◌, ◌∙◌, ◌∷◌, ◌≡◌, ◌≢◌, ◌≤◌, Agrees, ap, ap₂, AreApart, arith, Bool, by_list, CanHold}
-use Rattle.gl_table.proofs.Words.{count_by, count_in, count_of, counted_by, CountsHeld, Entry, false, fun_ext, HasRoom, HasRoomAt, held_by, Holds}
-use Rattle.gl_table.proofs.Words.{if◌then◌else◌, IndexMap, is_listed, is_some, IsApart, IsDistinct, KeepsLists, keys, keys_of, length, length-set, List}
-use Rattle.gl_table.proofs.Words.{list_any, listed_by, LockList, lookup, map-set_same, Mode, mode_in, mode_of, nat_tests, NL, NodeId, not, number_same}
+use Rattle.gl_table.proofs.Words.{[], ◌&&◌, ◌+◌, ◌<◌, ◌==◌, ◌^◌, ◌||◌, ◌∙◌, ◌∷◌, ◌≡◌, ◌≢◌, ◌≤◌, Agrees, and-false, ap, ap₂, AreApart, arith, as_left, Bool}
+use Rattle.gl_table.proofs.Words.{by_list, CanHold, count_by, count_in, count_of, counted_by, CountsHeld, Entry, false, fun_ext, HasRoom, HasRoomAt, held_by}
+use Rattle.gl_table.proofs.Words.{if◌then◌else◌, IndexMap, is_listed, is_some, IsApart, IsDistinct, IsWritten, KeepsLists, keys, keys_of, length, length-set}
+use Rattle.gl_table.proofs.Words.{List, list_any, listed_by, LockList, lookup, map-set_same, Mode, mode_in, mode_of, nat_tests, NL, NodeId, not, number_same}
 use Rattle.gl_table.proofs.Words.{option_map_or, refl, room_by, same_mode, same_mode-equal, same_node, same_node-equal, same_number, slice_get}
 use Rattle.gl_table.proofs.Words.{slice_get-get_or, slice_index_or, slice_set, Some, spare, split, State, Strikes, subst, suc, sym, true, unlisted, unlisted_by}
-use Rattle.gl_table.proofs.Words.{zero, ℕ}
+use Rattle.gl_table.proofs.Words.{Writing, zero, ℕ}
+use Rattle.gl_model.proofs.queues.Waiters.{if-false, if-true}
 
 -- One list of many is written.
 
@@ -36,14 +37,11 @@ module _ (ls : List LockList) (t : ℕ) (new : LockList) (lt : t < length ls) wh
 
   -- what the lists say, once one is written
   pub by_list-set : {A : Type 0} (f : LockList → A) (none : A) (u : ℕ) → by_list f none (slice_set ls t new) u ≡ (if u == t then f new else by_list f none ls u)
-  by_list-set f none u = split (u == t)
-      (λ e. ap (λ o. option_map_or f o none) (set_here u e) ∙ sym (ap (λ b. if b then f new else by_list f none ls u) e))
-      (λ e. ap (λ o. option_map_or f o none) (set_apart u e) ∙ sym (ap (λ b. if b then f new else by_list f none ls u) e))
+  by_list-set f none u = split (u == t) (λ e. ap (λ o. option_map_or f o none) (set_here u e) ∙ sym (if-true _ e))
+      (λ e. ap (λ o. option_map_or f o none) (set_apart u e) ∙ sym (if-false _ e))
 
   pub apart-set : AreApart ls → IsApart new → AreApart (slice_set ls t new)
-  apart-set apart here u l is = split (u == t)
-      (λ e. subst IsApart (some_same (sym (set_here u e) ∙ is)) here)
-      (λ e. apart u l (sym (set_apart u e) ∙ is))
+  apart-set apart here u l is = split (u == t) (λ e. subst IsApart (some_same (sym (set_here u e) ∙ is)) here) (λ e. apart u l (sym (set_apart u e) ∙ is))
     where
       some_same : {X : Type 0} {a b : X} → Some a ≡ Some b → a ≡ b
       some_same e = cc
@@ -60,48 +58,49 @@ module _ (ls : List LockList) (t : ℕ) (l : LockList) (lt : t < length ls) (at 
   -- where the list that is written says what the old one said, all say what they said
   pub by_list-kept : (l' : LockList) {A : Type 0} (f : LockList → A) (none : A) → f l' ≡ f l → (u : ℕ)
       → by_list f none (slice_set ls t l') u ≡ by_list f none ls u
-  by_list-kept l' f none same u = by_list-set ls t l' lt f none u ∙ split (u == t)
-      (λ e. ap (λ b. if b then f l' else by_list f none ls u) e ∙ same ∙ sym (by_list-here u e f none))
-      (λ e. ap (λ b. if b then f l' else by_list f none ls u) e)
+  by_list-kept l' f none same u = by_list-set ls t l' lt f none u ∙ split (u == t) (λ e. if-true _ e ∙ same ∙ sym (by_list-here u e f none)) (λ e. if-false _ e)
 
--- one list changes at one node, and in its counts
-pub record IsHeld (l l' : LockList) (n : NodeId) (m : Mode) (ps : List NodeId) : Type 0 where
-  pub apart : IsApart l'
-  pub modes : (q : NodeId) → mode_of l' q ≡ (if same_node q n then m else mode_of l q)
-  pub listed : (q : NodeId) → is_listed l' q ≡ is_listed l q
-  pub counts : (q : NodeId) → count_of l' q ≡ count_of l q + (if same_mode (mode_of l n) NL then count_by (same_node q) ps else 0)
+-- of what passes a test and fails another
+but_not : (a b : Bool) → (a && not b) ≡ (if b then false else a)
+but_not a b = grind (arith, nat_tests)
 
-pub held-written : (ls : List LockList) (t : ℕ) (l l' : LockList) (n : NodeId) (m : Mode) (ps : List NodeId) → t < length ls → l ≡ slice_index_or ls t l
-    → AreApart ls → IsHeld l l' n m ps
-    → Holds ls (slice_set ls t l') t n m ps
-held-written ls t l l' n m ps lt at apart is = record {
-  len = length-set ls t l';
-  apart = apart-set ls t l' lt apart is.apart;
-  modes = λ u q. by_list-set ls t l' lt (λ x. mode_of x q) NL u
-      ∙ at_slot u (λ x. mode_of x q) NL (λ k. if k && same_node q n then m else held_by ls u q) (λ e. is.modes q ∙ own q u e) (λ e. refl);
-  listed = λ u q. by_list-set ls t l' lt (λ x. is_listed x q) false u
-      ∙ at_slot u (λ x. is_listed x q) false (λ k. listed_by ls u q) (λ e. is.listed q ∙ sym (by_list-here ls t l lt at u e (λ x. is_listed x q) false))
-      (λ e. refl);
-  counts = λ u q. by_list-set ls t l' lt (λ x. count_of x q) 0 u
-      ∙ at_slot u (λ x. count_of x q) 0 (λ k. counted_by ls u q + (if k && same_mode (held_by ls t n) NL then count_by (same_node q) ps else 0))
-      (λ e. is.counts q ∙ ap₂ (λ a b. a + (if same_mode b NL then count_by (same_node q) ps else 0)) (sym (by_list-here ls t l lt at u e (λ x. count_of x q) 0))
-      (sym (by_list-at (λ x. mode_of x n) NL ls t l lt at)))
-      (λ e. zero_more (counted_by ls u q));
-  rooms = λ u e. by_list-set ls t l' lt (λ x. spare x.loose) 0 u ∙ ap (λ b. if b then spare l'.loose else room_by ls u) e;
-}
-  where
-    zero_more : (k : ℕ) → k ≡ k + 0
-    zero_more k = omega arith
+pub none_more : (k : ℕ) → k ≡ k + 0
+none_more k = omega arith
 
-    own : (q : NodeId) (u : ℕ) → (u == t) ≡ true → (if same_node q n then m else mode_of l q) ≡ (if same_node q n then m else held_by ls u q)
-    own q u e = ap (λ x. if same_node q n then m else x) (sym (by_list-here ls t l lt at u e (λ x. mode_of x q) NL))
+-- neither is more where nothing is
+pub none_if : (b : Bool) (k : ℕ) → k + (if b then 0 else 0) ≡ k
+none_if b k = grind (arith, nat_tests)
 
-    at_slot : {A : Type 0} (u : ℕ) (f : LockList → A) (none : A) (want : Bool → A) → ((u == t) ≡ true → f l' ≡ want true)
-        → ((u == t) ≡ false → by_list f none ls u ≡ want false)
-        → (if u == t then f l' else by_list f none ls u) ≡ want (u == t)
-    at_slot u f none want here_is apart_is = split (u == t)
-        (λ e. ap (λ b. if b then f l' else by_list f none ls u) e ∙ here_is e ∙ ap want (sym e))
-        (λ e. ap (λ b. if b then f l' else by_list f none ls u) e ∙ apart_is e ∙ ap want (sym e))
+-- What a list says by slot once it is written, where each slot has what is wanted of it.
+module _ (ls : List LockList) (t : ℕ) (l l' : LockList) (lt : t < length ls) (at : l ≡ slice_index_or ls t l) where
+  by_slot : {A : Type 0} (f : LockList → A) (none : A) (u : ℕ) (want : Bool → A) → ((u == t) ≡ true → f l ≡ by_list f none ls u → f l' ≡ want true)
+      → by_list f none ls u ≡ want false → by_list f none (slice_set ls t l') u ≡ want (u == t)
+  by_slot f none u want here there = by_list-set ls t l' lt f none u ∙ split (u == t)
+      (λ e. if-true _ e ∙ here e (sym (by_list-here ls t l lt at u e f none)) ∙ ap want (sym e)) (λ e. if-false _ e ∙ there ∙ ap want (sym e))
+
+  -- one list is written at one node
+  pub written : (n : NodeId) (is : Writing) → AreApart ls → IsApart l' → ((q : NodeId) → mode_of l' q ≡ (if same_node q n then is.mode t else mode_of l q))
+      → ((q : NodeId) → is_listed l' q ≡ (if is.gone && same_node q n then false else is_listed l q))
+      → ((q : NodeId) → count_of l' q ≡ count_of l q + is.more t q) → IsWritten ls n (λ u. u == t) is (slice_set ls t l')
+  written n is apart here modes listed counts = record {
+    len = length-set ls t l';
+    apart = apart-set ls t l' lt apart here;
+    modes = λ u q. by_slot (λ x. mode_of x q) NL u (λ k. if k && same_node q n then is.mode u else held_by ls u q)
+        (λ e was. modes q ∙ ap₂ (λ v x. if same_node q n then is.mode v else x) (sym (same_number u t e)) was) refl;
+    listed = λ u q. by_slot (λ x. is_listed x q) false u (λ k. if is.gone && (k && same_node q n) then false else listed_by ls u q)
+        (λ e was. listed q ∙ ap (λ x. if is.gone && same_node q n then false else x) was)
+        (ap (λ b. if b then false else listed_by ls u q) (sym (and-false is.gone)));
+    counts = λ u q. by_slot (λ x. count_of x q) 0 u (λ k. counted_by ls u q + (if k then is.more u q else 0))
+        (λ e was. counts q ∙ ap₂ (λ v (k : ℕ). k + is.more v q) (sym (same_number u t e)) was) (none_more (counted_by ls u q));
+    rooms = λ u e. by_list-set ls t l' lt (λ x. spare x.loose) 0 u ∙ ap (λ b. if b then spare l'.loose else room_by ls u) e;
+  }
+
+  -- a node is taken out of one list, in which no child of it is counted
+  pub written-left : (n : NodeId) → AreApart ls → IsApart l' → ((q : NodeId) → mode_of l' q ≡ (if same_node q n then NL else mode_of l q))
+      → ((q : NodeId) → is_listed l' q ≡ (is_listed l q && not (same_node q n))) → ((q : NodeId) → count_of l' q ≡ count_of l q)
+      → IsWritten ls n (λ u. u == t) as_left (slice_set ls t l')
+  written-left n apart here modes listed counts = written n as_left apart here modes (λ q. listed q ∙ but_not (is_listed l q) (same_node q n))
+      (λ q. counts q ∙ none_more (count_of l q))
 
 -- lists that have the same nodes lack the same of these
 unlisted-same : (l l' : LockList) (ps : List NodeId) → ((q : NodeId) → is_listed l' q ≡ is_listed l q) → unlisted l' ps ≡ unlisted l ps
@@ -127,36 +126,8 @@ unfolding IsApart
 kept-apart ls t l l' lt at apart listed same nodes =
     let old = apart t l (slice_get-at ls t l lt at) in (
       subst (IsDistinct same_node) (sym nodes) old.0,
-      λ n h. ap (λ (m : IndexMap NodeId ℕ _). lookup (same_node n) m.entries) same
-          ∙ old.1 n (sym (listed n) ∙ h),
+      λ n h. ap (λ (m : IndexMap NodeId ℕ _). lookup (same_node n) m.entries) same ∙ old.1 n (sym (listed n) ∙ h),
     )
-
--- the modes are written, and the counts where the node was not held before
-pub held-new : (l mid l' : LockList) (n : NodeId) (m : Mode) (ps : List NodeId) → same_mode (mode_of l n) NL ≡ true
-    → ((q : NodeId) → mode_of mid q ≡ (if same_node q n then m else mode_of l q)) → ((q : NodeId) → is_listed mid q ≡ is_listed l q)
-    → ((q : NodeId) → count_of mid q ≡ count_of l q)
-    → IsApart l' → ((q : NodeId) → mode_of l' q ≡ mode_of mid q) → ((q : NodeId) → is_listed l' q ≡ is_listed mid q)
-    → ((q : NodeId) → count_of l' q ≡ count_of mid q + count_by (same_node q) ps)
-    → IsHeld l l' n m ps
-held-new l mid l' n m ps new modes listed counts apart modes' listed' counts' = record {
-  apart = apart;
-  modes = λ q. modes' q ∙ modes q;
-  listed = λ q. listed' q ∙ listed q;
-  counts = λ q. counts' q ∙ ap₂ (λ a b. a + (if b then count_by (same_node q) ps else 0)) (counts q) (sym new);
-}
-
-pub held-raised : (l l' : LockList) (n : NodeId) (m : Mode) (ps : List NodeId) → same_mode (mode_of l n) NL ≡ false
-    → IsApart l' → ((q : NodeId) → mode_of l' q ≡ (if same_node q n then m else mode_of l q)) → ((q : NodeId) → is_listed l' q ≡ is_listed l q)
-    → ((q : NodeId) → count_of l' q ≡ count_of l q) → IsHeld l l' n m ps
-held-raised l l' n m ps old apart modes listed counts = record {
-  apart = apart;
-  modes = modes;
-  listed = listed;
-  counts = λ q. counts q ∙ more (count_of l q) ∙ ap (λ b. count_of l q + (if b then count_by (same_node q) ps else 0)) (sym old);
-}
-  where
-    more : (k : ℕ) → k ≡ k + 0
-    more k = omega arith
 
 -- a list is written whole, with these modes, nodes, counts and room
 pub struck-written : (ls : List LockList) (t : ℕ) (l l' : LockList) (n : NodeId) (ps : List NodeId) → t < length ls → l ≡ slice_index_or ls t l → AreApart ls
@@ -166,42 +137,22 @@ pub struck-written : (ls : List LockList) (t : ℕ) (l l' : LockList) (n : NodeI
 struck-written ls t l l' n ps lt at apart is modes listed counts = record {
   len = length-set ls t l';
   apart = apart-set ls t l' lt apart is;
-  modes = λ u q. by_list-set ls t l' lt (λ x. mode_of x q) NL u
-      ∙ at_slot u (λ x. mode_of x q) NL (λ k. if k && same_node q n then NL else held_by ls u q)
-      (λ e. modes q ∙ ap (λ x. if same_node q n then NL else x) (sym (by_list-here ls t l lt at u e (λ x. mode_of x q) NL))) (λ e. refl);
-  listed = λ u q. by_list-set ls t l' lt (λ x. is_listed x q) false u
-      ∙ at_slot u (λ x. is_listed x q) false (λ k. if k && same_node q n then false else listed_by ls u q)
-      (λ e. listed q ∙ ap (λ x. x && not (same_node q n)) (sym (by_list-here ls t l lt at u e (λ x. is_listed x q) false))
-      ∙ but (listed_by ls u q) (same_node q n)) (λ e. refl);
-  counts = λ u q. ap (λ k. k + (if u == t then count_by (same_node q) ps else 0)) (by_list-set ls t l' lt (λ x. count_of x q) 0 u)
-      ∙ split (u == t)
+  modes = λ u q. by_slot ls t l l' lt at (λ x. mode_of x q) NL u (λ k. if k && same_node q n then NL else held_by ls u q)
+      (λ e was. modes q ∙ ap (λ x. if same_node q n then NL else x) was) refl;
+  listed = λ u q. by_slot ls t l l' lt at (λ x. is_listed x q) false u (λ k. if k && same_node q n then false else listed_by ls u q)
+      (λ e was. listed q ∙ but_not (is_listed l q) (same_node q n) ∙ ap (λ x. if same_node q n then false else x) was) refl;
+  counts = λ u q. ap (λ k. k + (if u == t then count_by (same_node q) ps else 0)) (by_list-set ls t l' lt (λ x. count_of x q) 0 u) ∙ split (u == t)
       (λ e. ap (λ b. (if b then count_of l' q else counted_by ls u q) + (if b then count_by (same_node q) ps else 0)) e ∙ counts q
       ∙ sym (by_list-here ls t l lt at u e (λ x. count_of x q) 0))
-      (λ e. ap (λ b. (if b then count_of l' q else counted_by ls u q) + (if b then count_by (same_node q) ps else 0)) e ∙ no_more (counted_by ls u q));
+      (λ e. ap (λ b. (if b then count_of l' q else counted_by ls u q) + (if b then count_by (same_node q) ps else 0)) e ∙ sym (none_more (counted_by ls u q)));
   rooms = λ u e. by_list-set ls t l' lt (λ x. spare x.loose) 0 u ∙ ap (λ b. if b then spare l'.loose else room_by ls u) e;
 }
-  where
-    no_more : (k : ℕ) → k + 0 ≡ k
-    no_more k = omega arith
-
-    but : (a b : Bool) → (a && not b) ≡ (if b then false else a)
-    but true true = refl
-    but true false = refl
-    but false true = refl
-    but false false = refl
-
-    at_slot : {A : Type 0} (u : ℕ) (f : LockList → A) (none : A) (want : Bool → A) → ((u == t) ≡ true → f l' ≡ want true)
-        → ((u == t) ≡ false → by_list f none ls u ≡ want false)
-        → (if u == t then f l' else by_list f none ls u) ≡ want (u == t)
-    at_slot u f none want here_is apart_is = split (u == t)
-        (λ e. ap (λ b. if b then f l' else by_list f none ls u) e ∙ here_is e ∙ ap want (sym e))
-        (λ e. ap (λ b. if b then f l' else by_list f none ls u) e ∙ apart_is e ∙ ap want (sym e))
 
 -- One list is written: all others agree as they did.
 
 module _ (ls : List LockList) (t : ℕ) (new : LockList) (lt : t < length ls) where
   pub own_list : {A : Type 0} (f : LockList → A) (none : A) → by_list f none (slice_set ls t new) t ≡ f new
-  own_list f none = by_list-set ls t new lt f none t ∙ ap (λ b. if b then f new else by_list f none ls t) (number_same t t refl)
+  own_list f none = by_list-set ls t new lt f none t ∙ if-true _ (number_same t t refl)
 
   module _ (u : ℕ) (e : (u == t) ≡ false) where
     other_list : {A : Type 0} (f : LockList → A) (none : A) → by_list f none (slice_set ls t new) u ≡ by_list f none ls u
@@ -230,11 +181,9 @@ module _ (ls : List LockList) (t : ℕ) (l l' : LockList) (lt : t < length ls) (
   module _ (modes : (q : NodeId) → mode_of l' q ≡ mode_of l q) (listed : (q : NodeId) → is_listed l' q ≡ is_listed l q)
       (room : spare l.loose ≤ spare l'.loose) where
     room_kept : (u : ℕ) → room_by ls u ≤ room_by (slice_set ls t l') u
-    room_kept u = split (u == t)
-        (λ e. subst (λ (k : ℕ). k ≤ room_by (slice_set ls t l') u) (sym (by_list-here ls t l lt at u e (λ x. spare x.loose) 0))
-        (subst (λ (k : ℕ). spare l.loose ≤ k) (sym (by_list-set ls t l' lt (λ x. spare x.loose) 0 u ∙ ap (λ b. if b then spare l'.loose else room_by ls u) e))
-        room))
-        (λ e. let same = by_list-set ls t l' lt (λ x. spare x.loose) 0 u ∙ ap (λ b. if b then spare l'.loose else room_by ls u) e in omega arith)
+    room_kept u = split (u == t) (λ e. subst (λ (k : ℕ). k ≤ room_by (slice_set ls t l') u) (sym (by_list-here ls t l lt at u e (λ x. spare x.loose) 0))
+        (subst (λ (k : ℕ). spare l.loose ≤ k) (sym (by_list-set ls t l' lt (λ x. spare x.loose) 0 u ∙ if-true _ e)) room))
+        (λ e. let same = by_list-set ls t l' lt (λ x. spare x.loose) 0 u ∙ if-false _ e in omega arith)
 
     pub agrees_recounted : (s : State) (u : ℕ) → Agrees s ls u → Agrees s (slice_set ls t l') u
     agrees_recounted s u agree = record {
@@ -248,8 +197,7 @@ module _ (ls : List LockList) (t : ℕ) (l l' : LockList) (lt : t < length ls) (
       → (u : ℕ) (q : NodeId) → counted_by (slice_set ls t l') u q + (if (u == t) && b then less q else 0)
       ≡ counted_by ls u q + (if (u == t) && b then more q else 0)
   counts_recounted b less more counts u q = ap (λ (k : ℕ). k + (if (u == t) && b then less q else 0)) (by_list-set ls t l' lt (λ x. count_of x q) 0 u)
-      ∙ split (u == t)
-      (λ e. ap (λ k. (if k then count_of l' q else counted_by ls u q) + (if k && b then less q else 0)) e ∙ counts q
+      ∙ split (u == t) (λ e. ap (λ k. (if k then count_of l' q else counted_by ls u q) + (if k && b then less q else 0)) e ∙ counts q
       ∙ ap₂ (λ (k : ℕ) a. k + (if a && b then more q else 0)) (sym (by_list-here ls t l lt at u e (λ x. count_of x q) 0)) (sym e))
       (λ e. ap (λ k. (if k then count_of l' q else counted_by ls u q) + (if k && b then less q else 0)) e
       ∙ ap (λ k. counted_by ls u q + (if k && b then more q else 0)) (sym e))
@@ -289,7 +237,7 @@ module _ (ls : List LockList) (t : ℕ) (l l' : LockList) (lt : t < length ls) (
   }
     where
       here : (f : LockList → ℕ) → by_list f 0 (slice_set ls t l') t ≡ f l'
-      here f = by_list-set ls t l' lt f 0 t ∙ ap (λ b. if b then f l' else by_list f 0 ls t) (number_same t t refl)
+      here f = by_list-set ls t l' lt f 0 t ∙ if-true _ (number_same t t refl)
 
 pub keeps-agrees : (s : State) (ls ls' : List LockList) (u : ℕ) → KeepsLists ls ls' → Agrees s ls u → Agrees s ls' u
 keeps-agrees s ls ls' u keeps agrees = record {
@@ -312,38 +260,26 @@ pub record HasNode (ls ls' : List LockList) (t : ℕ) (n : NodeId) (m : Mode) : 
   pub rooms : (u : ℕ) → (u == t) ≡ false → room_by ls' u ≡ room_by ls u
 
 module _ (ls : List LockList) (t : ℕ) (l l' : LockList) (lt : t < length ls) (at : l ≡ slice_index_or ls t l) where
-  by_slot : {A : Type 0} (f : LockList → A) (none : A) (u : ℕ) (want : Bool → A) → (f l ≡ by_list f none ls u → f l' ≡ want true)
-      → by_list f none ls u ≡ want false → by_list f none (slice_set ls t l') u ≡ want (u == t)
-  by_slot f none u want here there = by_list-set ls t l' lt f none u ∙ split (u == t)
-      (λ e. ap (λ b. if b then f l' else by_list f none ls u) e ∙ here (sym (by_list-here ls t l lt at u e f none)) ∙ ap want (sym e))
-      (λ e. ap (λ b. if b then f l' else by_list f none ls u) e ∙ there ∙ ap want (sym e))
-
   pub has_node-set : (n : NodeId) (m : Mode) → AreApart ls → IsApart l' → ((q : NodeId) → mode_of l' q ≡ (if same_node q n then m else mode_of l q))
       → ((q : NodeId) → is_listed l' q ≡ (same_node q n || is_listed l q)) → HasNode ls (slice_set ls t l') t n m
   has_node-set n m apart here modes listed = record {
     len = length-set ls t l';
     apart = apart-set ls t l' lt apart here;
-    modes = λ u q. by_slot (λ x. mode_of x q) NL u (λ k. if k && same_node q n then m else held_by ls u q)
-        (λ e. modes q ∙ ap (λ x. if same_node q n then m else x) e) refl;
-    listed = λ u q. by_slot (λ x. is_listed x q) false u (λ k. (k && same_node q n) || listed_by ls u q) (λ e. listed q ∙ ap (λ b. same_node q n || b) e) refl;
+    modes = λ u q. by_slot ls t l l' lt at (λ x. mode_of x q) NL u (λ k. if k && same_node q n then m else held_by ls u q)
+        (λ e was. modes q ∙ ap (λ x. if same_node q n then m else x) was) refl;
+    listed = λ u q. by_slot ls t l l' lt at (λ x. is_listed x q) false u (λ k. (k && same_node q n) || listed_by ls u q)
+        (λ e was. listed q ∙ ap (λ b. same_node q n || b) was) refl;
     rooms = λ u e. by_list-set ls t l' lt (λ x. spare x.loose) 0 u ∙ ap (λ b. if b then spare l'.loose else room_by ls u) e;
   }
 
   pub counts-entered : (more : NodeId → ℕ) → ((q : NodeId) → count_of l' q ≡ count_of l q + more q) → (u : ℕ) (q : NodeId)
       → counted_by (slice_set ls t l') u q ≡ counted_by ls u q + (if u == t then more q else 0)
-  counts-entered more counts u q = by_slot (λ x. count_of x q) 0 u (λ k. counted_by ls u q + (if k then more q else 0))
-      (λ e. counts q ∙ ap (λ (k : ℕ). k + more q) e) (omega arith)
+  counts-entered more counts u q = by_slot ls t l l' lt at (λ x. count_of x q) 0 u (λ k. counted_by ls u q + (if k then more q else 0))
+      (λ e was. counts q ∙ ap (λ (k : ℕ). k + more q) was) (none_more (counted_by ls u q))
 
 -- a list that has the node already, and holds it in this mode
 pub also_held : (l : LockList) (n : NodeId) (m : Mode) → mode_of l n ≡ m → (q : NodeId) → mode_of l q ≡ (if same_node q n then m else mode_of l q)
-also_held l n m h q = split (same_node q n)
-    (λ e. ap (mode_of l) (same_node-equal q n e) ∙ h ∙ sym (ap (λ b. if b then m else mode_of l q) e))
-    (λ e. sym (ap (λ b. if b then m else mode_of l q) e))
+also_held l n m h q = grind (arith, nat_tests, same_node-equal)
 
 pub also_listed : (l : LockList) (n : NodeId) → is_listed l n ≡ true → (q : NodeId) → is_listed l q ≡ (same_node q n || is_listed l q)
-also_listed l n h q = split (same_node q n)
-    (λ e. ap (is_listed l) (same_node-equal q n e) ∙ h ∙ sym (ap (λ b. b || is_listed l q) e))
-    (λ e. sym (ap (λ b. b || is_listed l q) e))
-
-pub none_more : (k : ℕ) → k ≡ k + 0
-none_more k = omega arith
+also_listed l n h q = grind (arith, nat_tests, same_node-equal)

@@ -1,16 +1,18 @@
 -- A record goes with its locks: the lists agree. For removed records.
-use Rattle.gl_table.proofs.Words.{[], ◌&&◌, ◌+◌, ◌<◌, ◌==◌, ◌||◌, ◌∙◌, ◌≡◌, ◌≤◌, Active, Agrees, and-false, ap, ap₂, arith, Bool, CanFree, CanStrike}
-use Rattle.gl_table.proofs.Words.{children_that, clash, cond, Condemned, count_by, count_none, count_same, count_there, counted_by, CountsHeld, deleted, false}
-use Rattle.gl_table.proofs.Words.{freed, FreesLists, fun_ext, Graph, held_by, held_children, holds, if◌then◌else◌, is_among_waiters, is_child, is_live}
-use Rattle.gl_table.proofs.Words.{is_record_shape, is_wait, is_waiting_at, IsBySlot, IsLawfulGraph, IsOrderly, length, List, list_any, listed_by, live_node}
-use Rattle.gl_table.proofs.Words.{LockList, members, Mode, NL, node_at, NodeId, nodes, nodes_live, None, none_but, not, not_true, notices_in, number_same}
-use Rattle.gl_table.proofs.Words.{Option, parent_plain, parents_in, parents_of, rec_live, rec_not_plain, refl, restatus, same_mode, same_node, same_node-equal}
-use Rattle.gl_table.proofs.Words.{same_node-refl, same_number, Seat, shape_of, Some, split, State, Status, status_in, status_of, Strikes, subst, sym, Told}
-use Rattle.gl_table.proofs.Words.{true, Txn, Waiting, waits_at, was_there, without_node, ℕ}
-use Rattle.gl_table.proofs.law.Settle.{wait_is}
-use Rattle.gl_table.proofs.queues.Counts.{children_down}
-use Rattle.gl_table.proofs.queues.Edits.{freed_other, still_waits}
-use Rattle.gl_table.proofs.telling.Fronts.{distinct_once, stands_other, stands_there, waiters_below, waits_there}
+use Rattle.gl_table.proofs.Words.{[], ◌&&◌, ◌+◌, ◌<◌, ◌==◌, ◌||◌, ◌∙◌, ◌≡◌, ◌≤◌, Active, Agrees, and-false, and_both, ap, ap₂, arith, as_left, Bool, CanEnd}
+use Rattle.gl_table.proofs.Words.{CanStrike, children_that, clash, cond, count_by, count_none, count_same, count_there, counted_by, CountsHeld, deleted, false}
+use Rattle.gl_table.proofs.Words.{freed, fun_ext, Graph, held_children, holds, if◌then◌else◌, is_among_waiters, is_child, is_live, is_record_shape, is_wait}
+use Rattle.gl_table.proofs.Words.{is_waiting_at, IsBySlot, IsLawfulGraph, IsOrderly, IsWritten, length, List, list_any, live_node, LockList, members, Mode}
+use Rattle.gl_table.proofs.Words.{nat_tests, NL, node_at, NodeId, nodes, nodes_live, None, not, not_true, notices_in, number_same, Option, parent_plain}
+use Rattle.gl_table.proofs.Words.{parents_in, parents_of, rec_live, rec_not_plain, refl, restatus, same_mode, same_node, same_node-equal, same_node-refl}
+use Rattle.gl_table.proofs.Words.{same_number, Seat, shape_of, Some, split, State, status_in, status_of, Strikes, subst, sym, Told, true, Txn, waits_at}
+use Rattle.gl_table.proofs.Words.{was_there, with_grant, without_node, ℕ}
+use Rattle.gl_model.proofs.queues.Counts.{children_down}
+use Rattle.gl_model.proofs.queues.Edits.{freed_other}
+use Rattle.gl_table.proofs.inside.Slots.{none_if, none_more}
+use Rattle.gl_table.proofs.inside.Woken.{agrees_given_up}
+use Rattle.gl_model.proofs.telling.Fronts.{distinct_once, in_no_queue, stands_other, stands_there, waiters_below, waits_there}
+use Rattle.gl_model.proofs.queues.Waiters.{if-false, if-true}
 
 -- no node is a child of a record
 pub record-childless : (g : Graph) → IsLawfulGraph g → (r : NodeId) → is_record_shape (shape_of g r) ≡ true → (f : NodeId → Bool) → children_that g f r ≡ 0
@@ -23,8 +25,7 @@ pub children-left : (g : Graph) (law : IsLawfulGraph g) (r : NodeId) → is_reco
 children-left g law r rec f none p =
     let same : children_that (without_node g r) f p ≡ count_by (λ c. is_child g p c && f c) (nodes (without_node g r))
     = count_same (is_live (without_node g r)) (λ c. is_child g p c && f c) (λ c. is_child (without_node g r) p c && f c) (nodes (without_node g r))
-    (nodes_live (without_node g r))
-    (λ c h. let n = live_node (node_at (without_node g r) c) h in
+    (nodes_live (without_node g r)) (λ c h. let n = live_node (node_at (without_node g r) c) h in
     ap (λ o. list_any (same_node p) (parents_in o) && f c) (n.1 ∙ sym (was_there g law r rec c n.0 n.1))) in
     let all : children_that g f p ≡ count_by (λ c. is_child g p c && f c) (nodes (without_node g r)) + 0
     = count_there g law r (rec_live g law r rec) (λ c. is_child g p c && f c)
@@ -35,12 +36,7 @@ children-left g law r rec f none p =
 -- who waits at the node is active, and all others are as they were
 freed_here : (r : NodeId) (x : Option Txn) → waits_at (status_in x) r ≡ true → freed r x ≡ restatus Active x
 freed_here r None h = clash h refl
-freed_here r (Some x) h = by x.status h
-  where
-    by : (st : Status) → waits_at (Some st) r ≡ true → Some (record { age = x.age; status = none_but st r }) ≡ restatus Active (Some x)
-    by Active k = clash k refl
-    by Condemned k = clash k refl
-    by (Waiting q m) k = ap (λ b. Some (record { age = x.age; status = if b then Active else Waiting q m })) k
+freed_here r (Some x) h = grind (arith, nat_tests)
 
 -- the slot alone holds the record, and the lists say what the state says
 pub record MayVacate (s : State) (t : ℕ) (r : NodeId) (ls : List LockList) : Type 0 where
@@ -53,7 +49,7 @@ pub record MayVacate (s : State) (t : ℕ) (r : NodeId) (ls : List LockList) : T
   pub agree : (u : ℕ) → Agrees s ls u
   pub count : (u : ℕ) → CountsHeld s ls u
 
-module _ (s : State) (t : ℕ) (r : NodeId) (ls : List LockList) (may : MayVacate s t r ls) where
+module _ {s : State} {t : ℕ} {r : NodeId} {ls : List LockList} (may : MayVacate s t r ls) where
   abbrev after : State
   after = deleted s r
 
@@ -75,8 +71,7 @@ module _ (s : State) (t : ℕ) (r : NodeId) (ls : List LockList) (may : MayVacat
   others : (u : ℕ) → (u == t) ≡ false → (p : NodeId) → held_children after u p ≡ held_children s u p
   others u e p = children-left s.graph may.law r may.rec (λ c. holds (members after c) u) (gone u) p
       ∙ ap (λ f. children_that s.graph f p) (fun_ext (λ q. ap (λ m. not (same_mode m NL)) (split (same_node q r)
-      (λ k. ap (λ b. if b then NL else s.held u q) k ∙ sym (ap (s.held u) (same_node-equal q r k) ∙ may.alone u e))
-      (λ k. held_other u q k))))
+      (λ k. if-true _ k ∙ sym (ap (s.held u) (same_node-equal q r k) ∙ may.alone u e)) (λ k. held_other u q k))))
 
   pub can_strike : t < length ls → CanStrike ls t r (parents_of s.graph r)
   can_strike lt = record {
@@ -86,78 +81,62 @@ module _ (s : State) (t : ℕ) (r : NodeId) (ls : List LockList) (may : MayVacat
   }
 
   pub txns_freed : (u : ℕ) → (if is_among_waiters u (s.queue r) then restatus Active (s.txns u) else s.txns u) ≡ freed r (s.txns u)
-  txns_freed u = split (is_among_waiters u (s.queue r))
-      (λ e. ap (λ b. if b then restatus Active (s.txns u) else s.txns u) e ∙ sym (freed_here r (s.txns u) (may.orderly.waits_are u r e)))
-      (λ e. ap (λ b. if b then restatus Active (s.txns u) else s.txns u) e
+  txns_freed u = split (is_among_waiters u (s.queue r)) (λ e. if-true _ e ∙ sym (freed_here r (s.txns u) (may.orderly.waits_are u r e))) (λ e. if-false _ e
       ∙ sym (freed_other r (s.txns u) (not_true (is_waiting_at s u r) (λ w. clash (stands_there s may.orderly u r w) e))))
 
   waiter_other : (u : ℕ) → is_among_waiters u (s.queue r) ≡ true → (u == t) ≡ false
   waiter_other u h = stands_other s may.orderly t (ap is_wait may.active) u r h
 
-  module _ (mid : List LockList) (struck : Strikes ls mid t r (parents_of s.graph r)) where
+  module _ {mid : List LockList} (struck : Strikes ls mid t r (parents_of s.graph r)) where
     pub can_free : (seats : List (Option Seat)) (told : Told) → length seats ≡ s.most → length seats ≤ 128 → length ls ≡ length seats → IsBySlot told
-        → ((u : ℕ) → is_among_waiters u (s.queue r) ≡ true → notices_in told u ≡ None) → CanFree seats mid told r (s.queue r)
+        → ((u : ℕ) → is_among_waiters u (s.queue r) ≡ true → notices_in told u ≡ None) → CanEnd (record { seats = seats; lists = mid; told = told }) (s.queue r)
     can_free seats told most few len by_slot untold = record {
-      few = few;
-      len = struck.len ∙ len;
-      apart = struck.apart;
-      by_slot = by_slot;
+      kept = record { few = few; len = struck.len ∙ len; apart = struck.apart; by_slot = by_slot };
       distinct = distinct_once (s.queue r) (λ u h. let w = waits_there s may.orderly u r h in ((u, w.0), (may.orderly.one_wait u r w.0 w.1).0));
       below = λ u h. subst (λ (k : ℕ). u < k) (sym most) (waiters_below s may.orderly r u h);
-      childless = λ u h. no_more (counted_by mid u r) ∙ ap (λ b. counted_by mid u r + (if b then count_by (same_node r) (parents_of s.graph r) else 0))
-          (sym (waiter_other u h)) ∙ struck.counts u r
-          ∙ may.count u r ∙ record-childless s.graph may.law r may.rec (λ c. holds (members s c) u);
       untold = untold;
     }
+
+    pub waiter_childless : (u : ℕ) → is_among_waiters u (s.queue r) ≡ true → counted_by mid u r ≡ 0
+    waiter_childless u h = none_more (counted_by mid u r) ∙ ap (λ b. counted_by mid u r + (if b then count_by (same_node r) (parents_of s.graph r) else 0))
+        (sym (waiter_other u h)) ∙ struck.counts u r ∙ may.count u r ∙ record-childless s.graph may.law r may.rec (λ c. holds (members s c) u)
+
+    -- once it is struck from its holder's list nobody's list holds it
+    struck_agrees : (u : ℕ) → Agrees (with_grant s t r NL) mid u
+    struck_agrees u = record {
+      modes = λ q. struck.modes u q ∙ ap (λ m. if (u == t) && same_node q r then NL else m) ((may.agree u).modes q);
+      listed = λ q. struck.listed u q ∙ ap (λ m. if (u == t) && same_node q r then false else m) ((may.agree u).listed q)
+          ∙ by ((u == t) && same_node q r) (s.held u q) (is_among_waiters u (s.queue q)) (absent q);
+      room = λ h. subst (λ (k : ℕ). 9 ≤ k) (sym (struck.rooms u (not_true (u == t) (λ e. clash h (ap (λ v. is_wait (status_of s v)) (same_number u t e)
+          ∙ ap is_wait may.active))))) ((may.agree u).room h);
+    }
       where
-        no_more : (k : ℕ) → k ≡ k + 0
-        no_more k = omega arith
+        absent : (q : NodeId) → ((u == t) && same_node q r) ≡ true → is_among_waiters u (s.queue q) ≡ false
+        absent q h = grind (arith, nat_tests, same_number u t (and_both (u == t) (same_node q r) h).0, in_no_queue s may.orderly t (ap is_wait may.active) q)
 
-    module _ (ls' : List LockList) (frees : FreesLists mid r (s.queue r) ls') where
-      modes_left : (u : ℕ) (q : NodeId) → held_by ls' u q ≡ after.held u q
-      modes_left u q = frees.modes u q ∙ ap (λ m. if is_among_waiters u (s.queue r) && same_node q r then NL else m) (struck.modes u q)
-          ∙ ap (λ m. if is_among_waiters u (s.queue r) && same_node q r then NL else (if (u == t) && same_node q r then NL else m)) ((may.agree u).modes q)
-          ∙ by (is_among_waiters u (s.queue r)) (u == t) (same_node q r) (s.held u q) (λ e k. ap (s.held u) (same_node-equal q r k) ∙ may.alone u e)
-        where
-          by : (a b k : Bool) (m : Mode) → (b ≡ false → k ≡ true → m ≡ NL) → (if a && k then NL else (if b && k then NL else m)) ≡ (if k then NL else m)
-          by true b true m none = refl
-          by true true false m none = refl
-          by true false false m none = refl
-          by false true true m none = refl
-          by false true false m none = refl
-          by false false true m none = none refl refl
-          by false false false m none = refl
+        by : (k : Bool) (m : Mode) (a : Bool) → (k ≡ true → a ≡ false) → (if k then false else (not (same_mode m NL) || a))
+            ≡ (not (same_mode (if k then NL else m) NL) || a)
+        by k m a h1 = grind (arith, nat_tests)
 
-      listed_left : (u : ℕ) (q : NodeId) → listed_by ls' u q ≡ (holds (members after q) u || is_among_waiters u (after.queue q))
-      listed_left u q = frees.listed u q ∙ ap (λ m. if is_among_waiters u (s.queue r) && same_node q r then false else m) (struck.listed u q)
-          ∙ ap (λ m. if is_among_waiters u (s.queue r) && same_node q r then false else (if (u == t) && same_node q r then false else m))
-          ((may.agree u).listed q)
-          ∙ by (is_among_waiters u (s.queue r)) (u == t) (same_node q r)
-          (λ e k. ap (λ m. not (same_mode m NL)) (ap (s.held u) (same_node-equal q r k) ∙ may.alone u e))
-          (λ k. ap (λ x. is_among_waiters u (s.queue x)) (same_node-equal q r k))
-        where
-          by : (a b k : Bool) → (b ≡ false → k ≡ true → holds (members s q) u ≡ false) → (k ≡ true → is_among_waiters u (s.queue q) ≡ a)
-              → (if a && k then false else (if b && k then false else (holds (members s q) u || is_among_waiters u (s.queue q))))
-              ≡ (not (same_mode (if k then NL else s.held u q) NL) || is_among_waiters u (if k then [] else s.queue q))
-          by true b true none same = refl
-          by true true false none same = refl
-          by true false false none same = refl
-          by false true true none same = refl
-          by false true false none same = refl
-          by false false true none same = ap₂ (λ x y. x || y) (none refl refl) (same refl)
-          by false false false none same = refl
-
+    module _ {ls' : List LockList} (left : IsWritten mid r (λ u. is_among_waiters u (s.queue r)) as_left ls') where
       pub agrees_vacated : (u : ℕ) → Agrees after ls' u
-      agrees_vacated u = record {
-        modes = modes_left u;
-        listed = listed_left u;
-        room = λ h.
-            let st = wait_is (status_of after u) h in
-            let was = still_waits r st.0 st.1 (s.txns u) st.2 in
-            let out = not_true (is_among_waiters u (s.queue r)) (λ k. clash (sym (ap (λ x. waits_at x r) was.0) ∙ may.orderly.waits_are u r k) was.1) in
-            let other = not_true (u == t) (λ e. clash (ap is_wait was.0) (ap (λ v. is_wait (status_of s v)) (same_number u t e) ∙ ap is_wait may.active)) in
-            subst (λ (k : ℕ). 9 ≤ k) (sym (frees.rooms u out ∙ struck.rooms u other)) ((may.agree u).room (ap is_wait was.0));
-      }
+      agrees_vacated u = agrees_given_up (with_grant s t r NL) after r (λ v. is_among_waiters v (s.queue r))
+          (λ v h. ap (λ b. if b && same_node r r then NL else s.held v r) (waiter_other v h) ∙ may.alone v (waiter_other v h))
+          (λ v q. by (v == t) (same_node q r) (s.held v q) (λ e k. ap (s.held v) (same_node-equal q r k) ∙ may.alone v e))
+          queue (λ v. sym (txns_freed v)) left u (struck_agrees u)
+        where
+          by : (a k : Bool) (m : Mode) → (a ≡ false → k ≡ true → m ≡ NL) → (if k then NL else m) ≡ (if a && k then NL else m)
+          by a k m h1 = grind (arith, nat_tests)
+
+          queue : (v : ℕ) (q : NodeId) → is_among_waiters v (after.queue q)
+              ≡ (if is_among_waiters v (s.queue r) && same_node q r then false else is_among_waiters v (s.queue q))
+          queue v q = split (same_node q r) (λ k. ap (λ b. is_among_waiters v (if b then [] else s.queue q)) k ∙ none (is_among_waiters v (s.queue r))
+              ∙ ap₂ (λ b x. if is_among_waiters v (s.queue r) && b then false else is_among_waiters v (s.queue x)) (sym k) (sym (same_node-equal q r k)))
+              (λ k. ap (λ b. is_among_waiters v (if b then [] else s.queue q)) k
+              ∙ ap (λ b. if b then false else is_among_waiters v (s.queue q)) (sym (ap (λ b. is_among_waiters v (s.queue r) && b) k ∙ and-false _)))
+            where
+              none : (a : Bool) → false ≡ (if a && true then false else a)
+              none a = grind (arith, nat_tests)
 
       own_counts : (p : NodeId) → counted_by mid t p ≡ held_children after t p
       own_counts p =
@@ -174,6 +153,5 @@ module _ (s : State) (t : ℕ) (r : NodeId) (ls : List LockList) (may : MayVacat
           omega arith
 
       pub counts_vacated : (u : ℕ) → CountsHeld after ls' u
-      counts_vacated u p = frees.counts u p ∙ split (u == t)
-          (λ e. subst (λ v. counted_by mid v p ≡ held_children after v p) (sym (same_number u t e)) (own_counts p))
-          (λ e. other_counts u e p)
+      counts_vacated u p = left.counts u p ∙ none_if (is_among_waiters u (s.queue r)) (counted_by mid u p) ∙ split (u == t)
+          (λ e. subst (λ v. counted_by mid v p ≡ held_children after v p) (sym (same_number u t e)) (own_counts p)) (λ e. other_counts u e p)

@@ -1,23 +1,23 @@
 -- A wait is withdrawn: the lists agree, and fewer wait. For cancels and victims.
-use Rattle.gl_table.proofs.Words.{[], ◌&&◌, ◌+◌, ◌<◌, ◌==◌, ◌||◌, ◌∙◌, ◌∷◌, ◌≡◌, ◌≤◌, after_grants, Agrees, ap, ap₂, AreApart, arith, Bool, children_that}
-use Rattle.gl_table.proofs.Words.{clash, cond, Condemned, condemned, count_by, count_cons, count_of, counted_by, CountsHeld, Entry, entry_of, false, front_at}
-use Rattle.gl_table.proofs.Words.{fun_ext, granted_at, held_by, held_children, holds, if◌then◌else◌, is_among_waiters, is_listed, is_live, is_some, is_wait}
-use Rattle.gl_table.proofs.Words.{is_waiting_at, IsApart, IsLawfulGraph, IsOrderly, length, length-set, List, list_any, listed_by, LockList, members, mode_in}
-use Rattle.gl_table.proofs.Words.{mode_of, NL, NodeId, None, not, not_true, number_same, Option, or_elim, other_number, parents_of, pumped, refl, room_by}
+use Rattle.gl_table.proofs.Words.{[], ◌&&◌, ◌<◌, ◌==◌, ◌||◌, ◌∙◌, ◌∷◌, ◌≡◌, ◌≤◌, Agrees, ap, ap₂, AreApart, arith, Bool, children_that, clash, cond, Condemned}
+use Rattle.gl_table.proofs.Words.{condemned, count_by, count_cons, count_of, counted_by, CountsHeld, Entry, false, front_at, fun_ext, granted_at, held_by}
+use Rattle.gl_table.proofs.Words.{held_children, holds, if◌then◌else◌, is_among_waiters, is_listed, is_live, is_some, is_wait, is_waiting_at, IsApart}
+use Rattle.gl_table.proofs.Words.{IsLawfulGraph, IsOrderly, length, length-set, List, list_any, listed_by, LockList, members, mode_given, mode_in, mode_of}
+use Rattle.gl_table.proofs.Words.{nat_tests, NL, NodeId, None, not, not_true, number_same, Option, or_elim, other_number, parents_of, pumped, refl, room_by}
 use Rattle.gl_table.proofs.Words.{same_mode, same_mode-equal, same_node, same_node-equal, same_node-sym, same_number, slice_index_or, slice_set, slots, Some}
 use Rattle.gl_table.proofs.Words.{spare, split, State, Status, status_in, status_of, subst, sym, true, Waiter, WaitWell, WakesLists, without_wait}
 use Rattle.gl_table.proofs.Words.{without_waiter, ℕ}
 use Rattle.gl_table.proofs.inside.Granted.{agrees_pumped, counts_pumped}
-use Rattle.gl_table.proofs.inside.Slots.{apart-set, by_list-at, by_list-kept, by_list-set, slice_get-at}
-use Rattle.gl_table.proofs.law.Keeps.{txn_there, waiting_is, woken_waits}
-use Rattle.gl_table.proofs.law.Settle.{wait_is, waiting}
-use Rattle.gl_table.proofs.law.Takes.{IsQuiet, restatus_quiet}
-use Rattle.gl_table.proofs.queues.Edits.{out_of_without, without_filter}
-use Rattle.gl_table.proofs.queues.Waiters.{among_waits, grants_other, some_wait}
-use Rattle.gl_table.proofs.queues.Walks.{in_range, same}
-use Rattle.gl_table.proofs.telling.Fronts.{front_stands, stands_only, stands_there, way_here, well_without}
-use Rattle.gl_table.proofs.telling.GivenUp.{way_withdrawn}
-use Rattle.gl_table.proofs.telling.Ways.{granted_stands, left_stands, without_wait_other, without_wait_own}
+use Rattle.gl_table.proofs.inside.Slots.{apart-set, by_list-at, by_list-kept, by_list-set, none_more, slice_get-at}
+use Rattle.gl_model.proofs.law.Keeps.{txn_there, waiting_is, woken_waits}
+use Rattle.gl_model.proofs.law.Settle.{wait_is, waiting}
+use Rattle.gl_model.proofs.law.Takes.{IsQuiet, restatus_quiet}
+use Rattle.gl_model.proofs.queues.Edits.{out_of_without, without_filter}
+use Rattle.gl_model.proofs.queues.Waiters.{among_waits, grants_other, if-false, if-true, some_wait}
+use Rattle.gl_model.proofs.queues.Walks.{in_range, same}
+use Rattle.gl_model.proofs.telling.Fronts.{front_stands, stands_only, stands_there, way_here, well_without}
+use Rattle.gl_model.proofs.telling.GivenUp.{way_withdrawn}
+use Rattle.gl_model.proofs.telling.Ways.{granted_stands, left_stands, without_wait_other, without_wait_own}
 
 -- One wait is given up: the lists agree with what is left.
 
@@ -38,10 +38,7 @@ held_listed (Some e) h = refl
 -- a list that has a node where it holds it
 only_held : (l : LockList) (n : NodeId) → same_mode (mode_of l n) NL ≡ false → (q : NodeId)
     → is_listed l q ≡ (if same_node q n then not (same_mode (mode_of l n) NL) else is_listed l q)
-only_held l n h q = split (same_node q n)
-    (λ e. ap (is_listed l) (same_node-equal q n e) ∙ held_listed (entry_of l n) h ∙ ap not (sym h)
-    ∙ sym (ap (λ k. if k then not (same_mode (mode_of l n) NL) else is_listed l q) e))
-    (λ e. sym (ap (λ k. if k then not (same_mode (mode_of l n) NL) else is_listed l q) e))
+only_held l n h q = grind (arith, nat_tests, same_node-equal)
 
 -- and one from which a node was taken that it did not hold
 unheld_left : (l l' : LockList) (n : NodeId) → same_mode (mode_of l n) NL ≡ true → ((q : NodeId) → is_listed l' q ≡ (is_listed l q && not (same_node q n)))
@@ -49,16 +46,11 @@ unheld_left : (l l' : LockList) (n : NodeId) → same_mode (mode_of l n) NL ≡ 
 unheld_left l l' n h left q = left q ∙ by (is_listed l q) (same_node q n) ∙ ap (λ k. if same_node q n then not k else is_listed l q) (sym h)
   where
     by : (a b : Bool) → (a && not b) ≡ (if b then false else a)
-    by true true = refl
-    by true false = refl
-    by false true = refl
-    by false false = refl
+    by a b = grind (arith, nat_tests)
 
 -- where a node was taken out that was not held, the modes are the same
 unheld_modes : (l : LockList) (n : NodeId) → same_mode (mode_of l n) NL ≡ true → (q : NodeId) → (if same_node q n then NL else mode_of l q) ≡ mode_of l q
-unheld_modes l n h q = split (same_node q n)
-    (λ e. ap (λ k. if k then NL else mode_of l q) e ∙ sym (same_mode-equal (mode_of l n) NL h) ∙ ap (mode_of l) (sym (same_node-equal q n e)))
-    (λ e. ap (λ k. if k then NL else mode_of l q) e)
+unheld_modes l n h q = grind (arith, nat_tests, same_mode-equal, same_node-equal)
 
 module _ (ls : List LockList) (t : ℕ) (n : NodeId) (l : LockList) (lt : t < length ls) (at : l ≡ slice_index_or ls t l) (apart : AreApart ls) where
   module _ (l' : LockList) where
@@ -70,12 +62,10 @@ module _ (ls : List LockList) (t : ℕ) (n : NodeId) (l : LockList) (lt : t < le
       len = length-set ls t l';
       apart = apart-set ls t l' lt apart here;
       modes = λ u q. by_list-kept ls t l lt at l' (λ x. mode_of x q) NL (modes q) u;
-      listed = λ u q. by_list-set ls t l' lt (λ x. is_listed x q) false u ∙ split (u == t)
-          (λ e. ap (λ k. if k then is_listed l' q else listed_by ls u q) e ∙ listed q
+      listed = λ u q. by_list-set ls t l' lt (λ x. is_listed x q) false u ∙ split (u == t) (λ e. if-true _ e ∙ listed q
           ∙ ap₂ (λ m k. if same_node q n then not (same_mode m NL) else k) (sym (by_list-at (λ x. mode_of x n) NL ls t l lt at))
           (sym (ap (λ v. listed_by ls v q) (same_number u t e) ∙ by_list-at (λ x. is_listed x q) false ls t l lt at))
-          ∙ ap (λ k. if k && same_node q n then not (same_mode (held_by ls t n) NL) else listed_by ls u q) (sym e))
-          (λ e. ap (λ k. if k then is_listed l' q else listed_by ls u q) e
+          ∙ ap (λ k. if k && same_node q n then not (same_mode (held_by ls t n) NL) else listed_by ls u q) (sym e)) (λ e. if-false _ e
           ∙ ap (λ k. if k && same_node q n then not (same_mode (held_by ls t n) NL) else listed_by ls u q) (sym e));
       counts = λ u q. by_list-kept ls t l lt at l' (λ x. count_of x q) 0 (counts q) u;
       rooms = λ u e. by_list-set ls t l' lt (λ x. spare x.loose) 0 u ∙ ap (λ k. if k then spare l'.loose else room_by ls u) e;
@@ -94,8 +84,7 @@ pub others_among : (t u : ℕ) (ws : List Waiter) → (u == t) ≡ false → is_
 others_among t u ws e = among_waits u (without_waiter t ws) ∙ ap some_wait (without_filter t u ws (other_number u t e)) ∙ sym (among_waits u ws)
 
 module _ (s : State) (o : IsOrderly s) (law : IsLawfulGraph s.graph) (t : ℕ) (n : NodeId) (st : Status) (quiet : IsQuiet st)
-    (waits : is_waiting_at s t n ≡ true)
-    (ls mid : List LockList) (agree : (u : ℕ) → Agrees s ls u) (count : (u : ℕ) → CountsHeld s ls u)
+    (waits : is_waiting_at s t n ≡ true) (ls mid : List LockList) (agree : (u : ℕ) → Agrees s ls u) (count : (u : ℕ) → CountsHeld s ls u)
     (wakes : WakesLists ls n (parents_of s.graph n) (front_at (without_wait s t st) n) mid) where
   abbrev b : State
   b = without_wait s t st
@@ -120,18 +109,10 @@ module _ (s : State) (o : IsOrderly s) (law : IsLawfulGraph s.graph) (t : ℕ) (
   after_own q = grants_other (granted_at b (same_node n) q) (members b q) t (not_granted q)
 
   mode_own : (q : NodeId) → held_by mid t q ≡ s.held t q
-  mode_own q = wakes.modes t q ∙ split (same_node q n)
-      (λ e. ap (λ k. if k then after_grants (λ v. held_by ls v n) (front_at b n) t else held_by ls t q) e
-      ∙ grants_other (front_at b n) (λ v. held_by ls v n) t not_front ∙ (agree t).modes n ∙ ap (s.held t) (sym (same_node-equal q n e)))
-      (λ e. ap (λ k. if k then after_grants (λ v. held_by ls v n) (front_at b n) t else held_by ls t q) e ∙ (agree t).modes q)
+  mode_own q = wakes.modes t q ∙ ap (λ k. if k && same_node q n then mode_given (front_at b n) t else held_by ls t q) not_front ∙ (agree t).modes q
 
   count_own : (p : NodeId) → counted_by mid t p ≡ held_children s t p
-  count_own p = wakes.counts t p ∙ ap (λ k. counted_by ls t p
-      + (if k && same_mode (held_by ls t n) NL then count_by (same_node p) (parents_of s.graph n) else 0)) not_front
-      ∙ no_more (counted_by ls t p) ∙ count t p
-    where
-      no_more : (k : ℕ) → k + 0 ≡ k
-      no_more k = omega arith
+  count_own p = grind (arith, nat_tests, wakes.counts t p, not_front, none_more (counted_by ls t p), count t p)
 
   -- its list has room to count the node apart
   pub room_left : 0 < room_by mid t
@@ -156,10 +137,9 @@ module _ (s : State) (o : IsOrderly s) (law : IsLawfulGraph s.graph) (t : ℕ) (
     agrees_own = record {
       modes = λ q. unlists.modes t q ∙ mode_own q ∙ sym (after_own q);
       listed = λ q. unlists.listed t q ∙ ap (λ k. if k && same_node q n then not (same_mode (held_by mid t n) NL) else listed_by mid t q) (number_same t t refl)
-          ∙ split (same_node q n)
-          (λ e. ap (λ k. if k then not (same_mode (held_by mid t n) NL) else listed_by mid t q) e
+          ∙ split (same_node q n) (λ e. if-true _ e
           ∙ ap (λ m. not (same_mode m NL)) (mode_own n ∙ ap (s.held t) (sym (same_node-equal q n e))) ∙ only (holds (members s q) t))
-          (λ e. ap (λ k. if k then not (same_mode (held_by mid t n) NL) else listed_by mid t q) e ∙ wakes.listed t q ∙ (agree t).listed q
+          (λ e. if-false _ e ∙ wakes.listed t q ∙ (agree t).listed q
           ∙ ap (λ k. holds (members s q) t || k) (stands_only s o t n waits q (same_node-sym n q ∙ e)))
           ∙ ap₂ (λ m k. not (same_mode m NL) || k) (sym (after_own q)) (sym (not_true _ (λ h. clash (left_stands b (same_node n) t q h) (out q))));
       room = λ h. let w = wait_is (status_of after t) h in
@@ -168,8 +148,7 @@ module _ (s : State) (o : IsOrderly s) (law : IsLawfulGraph s.graph) (t : ℕ) (
     }
       where
         only : (k : Bool) → k ≡ (k || false)
-        only true = refl
-        only false = refl
+        only k = grind (arith, nat_tests)
 
     pub agrees_withdrawn : (u : ℕ) → Agrees after ls' u
     agrees_withdrawn u = split (u == t) (λ e. subst (Agrees after ls') (sym (same_number u t e)) agrees_own) (λ e. agrees_other u e)
@@ -191,10 +170,7 @@ abbrev one_if : Bool → ℕ
 one_if b = cond b 1 0
 
 one_if_more : (a b : Bool) → (b ≡ true → a ≡ true) → one_if b ≤ one_if a
-one_if_more true true h = omega arith
-one_if_more true false h = omega arith
-one_if_more false true h = clash (h refl) refl
-one_if_more false false h = omega arith
+one_if_more a b h1 = grind (arith, nat_tests)
 
 -- of the numbers that pass p only some pass q, so not more, and fewer where v passes p alone
 module _ (p q : ℕ → Bool) (sub : (u : ℕ) → q u ≡ true → p u ≡ true) where
@@ -226,6 +202,5 @@ fewer_wait s o v h = count_less (waiting s) (waiting (condemned s v)) still v (s
 
     gone : waiting (condemned s v) v ≡ false
     gone = not_true _ (λ k. let w = wait_is (status_of (condemned s v) v) k in
-        restatus_quiet Condemned (λ q m e. cc) (s.txns v) w.0 w.1
-        (ap status_in (sym (without_wait_own s v Condemned))
+        restatus_quiet Condemned (λ q m e. cc) (s.txns v) w.0 w.1 (ap status_in (sym (without_wait_own s v Condemned))
         ∙ (woken_waits (granted_at (without_wait s v Condemned) (is_waiting_at s v)) v w.0 w.1 ((without_wait s v Condemned).txns v) w.2).0))

@@ -1,328 +1,246 @@
--- Waiters woken or freed one after the other. For `wake` and `free`.
-use Rattle.gl_table.proofs.Words.{[], ◌&&◌, ◌+◌, ◌<◌, ◌==◌, ◌^◌, ◌||◌, ◌∙◌, ◌∷◌, ◌≡◌, ◌≤◌, Active, after_grants, age_in, and_both, ap, ap₂, arith, Bool}
-use Rattle.gl_table.proofs.Words.{CanFree, CanHold, CanWake, clash, count_by, count_of, counted_by, false, Frees, fun_ext, grant_notice, held_by, Holds}
-use Rattle.gl_table.proofs.Words.{if◌then◌else◌, is_among_waiters, is_distinct, is_waiter, IsApart, IsBySlot, length, List, list_any_more, listed_by, LockList}
-use Rattle.gl_table.proofs.Words.{Members, mode_given, nat_tests, NL, NodeId, None, not, not-true, notices_in, Option, or-false, or_left, or_right, refl}
-use Rattle.gl_table.proofs.Words.{restatus, room_by, same_mode, same_node, same_node-equal, same_node-refl, same_number, Seat, slice_index_or, Some, split}
-use Rattle.gl_table.proofs.Words.{Strikes, subst, suc, sym, take, Told, true, txns_of, unlisted_by, Waiter, Wakes, WakesLists, with_mode, zero, ℕ}
-use Rattle.gl_table.specs.declared.answers.Notice.TheVariants as notice
-use Rattle.gl_table.proofs.inside.Slots.{by_list-at, slice_get-at}
-use Rattle.gl_table.proofs.queues.Waiters.{grants_other}
+-- Waits on a node that end one after the other, by a grant or without one. For `wake`, `free` and `turn_away`.
+use Rattle.gl_table.proofs.Words.{[], ◌&&◌, ◌+◌, ◌<◌, ◌==◌, ◌^◌, ◌||◌, ◌∙◌, ◌∷◌, ◌≡◌, ◌≤◌, Active, after_grants, age_in, Agrees, and-false, and_both, ap, ap₂}
+use Rattle.gl_table.proofs.Words.{AreKept, arith, as_held, as_left, Books, Bool, CanHold, clash, count_by, counted_by, false, fun_ext, held_by, if◌then◌else◌}
+use Rattle.gl_table.proofs.Words.{is_among_waiters, is_distinct, is_wait, is_waiter, IsBySlot, IsWritten, length, List, list_any_at, list_any_more, listed_by}
+use Rattle.gl_table.proofs.Words.{LockList, Members, Mode, mode_given, nat_tests, NL, NodeId, None, not, not-true, not_true, Notice, notices_in, number_same}
+use Rattle.gl_table.proofs.Words.{Option, or-false, or_elim, or_no, or_right, refl, restatus, room_by, same_mode, same_node, same_node-equal, same_number}
+use Rattle.gl_table.proofs.Words.{slice_index_or, Some, split, State, status_in, status_of, subst, suc, sym, take, true, Txn, TxnId, txns_of, unlisted_by}
+use Rattle.gl_table.proofs.Words.{Waiter, WaitsEnd, with_mode, Writing, zero, ℕ}
+use Rattle.gl_table.proofs.inside.Slots.{none_more}
+use Rattle.gl_model.proofs.queues.Waiters.{grants_other, if-false, if-true}
 
--- Waiters woken one after the other.
+-- Waiters of different slots, taken from the front.
 
--- one waiter more is taken from the front
+-- one waiter more is taken
 pub among_more : (u : ℕ) (ws : List Waiter) (i : ℕ) (d : Waiter) → i < length ws
-    → is_among_waiters u (take (i + 1) ws) ≡ (is_among_waiters u (take i ws) || is_waiter u (slice_index_or ws i d))
-among_more u ws i d lt = list_any_more (is_waiter u) ws i d lt
-
--- and granted behind the others
-grants_more : (g : Members) (ws : List Waiter) (i : ℕ) (d : Waiter) → i < length ws
-    → after_grants g (take (i + 1) ws) ≡ with_mode (after_grants g (take i ws)) (slice_index_or ws i d).0 (slice_index_or ws i d).1
-grants_more g ws i d lt = let next : i + 1 ≡ suc i = omega arith in ap (λ k. after_grants g (take k ws)) next ∙ by g ws i lt
+    → is_among_waiters u (take (i + 1) ws) ≡ (is_among_waiters u (take i ws) || (u == (slice_index_or ws i d).0))
+among_more u ws i d lt = list_any_more (is_waiter u) ws i d lt ∙ ap (λ b. is_among_waiters u (take i ws) || b) (turned (slice_index_or ws i d).0)
   where
-    by : (g : Members) (ws : List Waiter) (i : ℕ) → i < length ws
-        → after_grants g (take (suc i) ws) ≡ with_mode (after_grants g (take i ws)) (slice_index_or ws i d).0 (slice_index_or ws i d).1
-    by g [] i lt = absurd (omega arith)
-    by g (w ∷ ws) zero lt = refl
-    by g (w ∷ ws) (suc i) lt = by (with_mode g w.0 w.1) ws i (omega arith)
+    turned : (k : ℕ) → (k == u) ≡ (u == k)
+    turned k = grind (arith, nat_tests)
 
--- one of all
+-- it is one of all
 pub is_among_all : (ws : List Waiter) (i : ℕ) (d : Waiter) → i < length ws → is_among_waiters (slice_index_or ws i d).0 ws ≡ true
-is_among_all [] i d lt = absurd (omega arith)
-is_among_all (w ∷ ws) zero d lt = or_left (is_waiter w.0 w) (is_among_waiters w.0 ws) (grind (arith, nat_tests))
-is_among_all (w ∷ ws) (suc i) d lt = or_right (is_waiter (slice_index_or ws i d).0 w) (is_among_waiters (slice_index_or ws i d).0 ws)
-    (is_among_all ws i d (omega arith))
+is_among_all ws i d lt = list_any_at (is_waiter (slice_index_or ws i d).0) ws i d lt (number_same _ _ refl)
 
--- and none of those before it
+-- a slot that is among some and not among others is another
+apart_by : (ws : List Waiter) (u v : ℕ) → is_among_waiters u ws ≡ true → is_among_waiters v ws ≡ false → (v == u) ≡ false
+apart_by ws u v here off = not_true (v == u) (λ e. clash (ap (λ x. is_among_waiters x ws) (same_number v u e) ∙ here) off)
+
+-- it is none of those before it
 pub none_before : (ws : List Waiter) (i : ℕ) (d : Waiter) → is_distinct ws ≡ true → i < length ws
     → is_among_waiters (slice_index_or ws i d).0 (take i ws) ≡ false
 none_before [] i d h lt = absurd (omega arith)
 none_before (w ∷ ws) zero d h lt = refl
 none_before (w ∷ ws) (suc i) d h lt =
     let both = and_both (not (is_among_waiters w.0 ws)) (is_distinct ws) h in
-    ap₂ (λ a b. a || b) (apart (slice_index_or ws i d).0 (is_among_all ws i d (omega arith)) (not-true _ both.0)) (none_before ws i d both.1 (omega arith))
+    ap₂ (λ a b. a || b) (apart_by ws _ w.0 (is_among_all ws i d (omega arith)) (not-true _ both.0)) (none_before ws i d both.1 (omega arith))
+
+-- and is given its own mode
+pub given_at : (g : Members) (ws : List Waiter) (i : ℕ) (d : Waiter) → is_distinct ws ≡ true → i < length ws
+    → (slice_index_or ws i d).1 ≡ after_grants g ws (slice_index_or ws i d).0
+given_at g [] i d h lt = absurd (omega arith)
+given_at g (w ∷ ws) zero d h lt =
+    let both = and_both (not (is_among_waiters w.0 ws)) (is_distinct ws) h in
+    sym (grants_other ws (with_mode g w.0 w.1) w.0 (not-true _ both.0) ∙ if-true _ (number_same w.0 w.0 refl))
+given_at g (w ∷ ws) (suc i) d h lt = given_at (with_mode g w.0 w.1) ws i d (and_both (not (is_among_waiters w.0 ws)) (is_distinct ws) h).1 (omega arith)
+
+-- who is among them holds what it is given, and all others what they held
+pub given_or_held : (ws : List Waiter) (g : Members) (u : ℕ) → after_grants g ws u ≡ (if is_among_waiters u ws then mode_given ws u else g u)
+given_or_held ws g u = split (is_among_waiters u ws) (λ e. same ws g (λ _. NL) e ∙ sym (if-true _ e)) (λ e. grants_other ws g u e ∙ sym (if-false _ e))
   where
-    apart : (u : ℕ) → is_among_waiters u ws ≡ true → is_among_waiters w.0 ws ≡ false → (w.0 == u) ≡ false
-    apart u here off = split (w.0 == u) (λ e. clash (ap (λ v. is_among_waiters v ws) (same_number w.0 u e) ∙ here) off) (λ e. e)
+    same : (ws : List Waiter) (g h : Members) → is_among_waiters u ws ≡ true → after_grants g ws u ≡ after_grants h ws u
+    same [] g h e = clash e refl
+    same (w ∷ ws) g h e = split (is_among_waiters u ws) (λ k. same ws _ _ k)
+        (λ k. grants_other ws _ u k ∙ ap (λ b. if b then w.1 else g u) (own k) ∙ sym (grants_other ws _ u k ∙ ap (λ b. if b then w.1 else h u) (own k)))
+      where
+        own : is_among_waiters u ws ≡ false → (u == w.0) ≡ true
+        own k = let is : (w.0 == u) ≡ true = or_elim (w.0 == u) _ e (λ x. x) (λ x. clash x k) in grind (arith, nat_tests)
+
+-- What is written at the slots of one test and then at those of another is written at both.
+
+module _ {A : Type 0} (who one all : ℕ → Bool) (both : (u : ℕ) → all u ≡ (who u || one u)) (old mid now new new' : ℕ → A)
+    (same : (u : ℕ) → one u ≡ true → new' u ≡ new u) (so_far : (u : ℕ) → mid u ≡ (if who u then new u else old u))
+    (step : (u : ℕ) → now u ≡ (if one u then new' u else mid u)) where
+  one_more : (u : ℕ) → now u ≡ (if all u then new u else old u)
+  one_more u = grind (arith, nat_tests, step u, or-false, or_right)
+
+-- tests under a third
+or_and : (a b k : Bool) → ((a || b) && k) ≡ ((a && k) || (b && k))
+or_and a b k = grind (arith, nat_tests)
+
+under : (g a b c : Bool) → c ≡ (a || b) → (g && c) ≡ ((g && a) || (g && b))
+under g a b c h1 = grind (arith, nat_tests)
+
+-- what is counted more
+either_more : (a b : Bool) (k x y : ℕ) → (b ≡ true → (a ≡ false) × (y ≡ x)) → k + (if a then x else 0) + (if b then y else 0) ≡ k + (if a || b then x else 0)
+either_more a b k x y h1 = grind (arith, nat_tests)
+
+-- Some waits on a node are over, and one more ends.
+
+-- what is kept in order still is
+pub kept_still : {b mid : Books} {n : NodeId} {who : ℕ → Bool} {is : Writing} {says : ℕ → Notice} → WaitsEnd b n who is says mid → AreKept b → AreKept mid
+kept_still over kept = record {
+  few = subst (λ (k : ℕ). k ≤ 128) (sym over.len) kept.few;
+  len = over.lists.len ∙ kept.len ∙ sym over.len;
+  apart = over.lists.apart;
+  by_slot = over.tells.by_slot;
+}
+
+module _ {b mid : Books} {n : NodeId} {who : ℕ → Bool} {is : Writing} {says : ℕ → Notice} (over : WaitsEnd b n who is says mid) (t : ℕ)
+    (fresh : who t ≡ false) where
+  -- its slot is as it was
+  pub seat_still : t < length b.seats → t < length mid.seats
+  seat_still lt = subst (λ (k : ℕ). t < k) (sym over.len) lt
+
+  pub untold_still : notices_in b.told t ≡ None → notices_in mid.told t ≡ None
+  untold_still none = over.tells.notices t ∙ if-false _ fresh ∙ none
+
+  txn_still : txns_of mid.seats t ≡ txns_of b.seats t
+  txn_still = over.txns t ∙ if-false _ fresh
+
+  mode_still : (q : NodeId) → held_by mid.lists t q ≡ held_by b.lists t q
+  mode_still q = over.lists.modes t q ∙ ap (λ c. if c && same_node q n then is.mode t else held_by b.lists t q) fresh
+
+  pub count_still : (q : NodeId) → counted_by mid.lists t q ≡ counted_by b.lists t q
+  count_still q = over.lists.counts t q ∙ ap (λ c. counted_by b.lists t q + (if c then is.more t q else 0)) fresh ∙ sym (none_more (counted_by b.lists t q))
+
+  module _ {b' : Books} {is' : Writing} {says' : ℕ → Notice} (ends : WaitsEnd mid n (λ u. u == t) is' says' b')
+      (all : ℕ → Bool) (both : (u : ℕ) → all u ≡ (who u || (u == t))) (mode : is'.mode t ≡ is.mode t) (gone : is'.gone ≡ is.gone)
+      (more : (q : NodeId) → is'.more t q ≡ is.more t q) (says_is : says' t ≡ says t) where
+    -- so its wait is over too
+    pub ends_more : WaitsEnd b n all is says b'
+    ends_more = record {
+      len = ends.len ∙ over.len;
+      txns = one_more who (λ u. u == t) all both (txns_of b.seats) (txns_of mid.seats) (txns_of b'.seats) (λ u. restatus Active (txns_of b.seats u)) _
+          (λ u e. ap (restatus Active) (own (λ v. txns_of mid.seats v ≡ txns_of b.seats v) txn_still u e)) over.txns ends.txns;
+      lists = record {
+        len = ends.lists.len ∙ over.lists.len;
+        apart = ends.lists.apart;
+        modes = λ u q. one_more (λ v. who v && same_node q n) (λ v. (v == t) && same_node q n) (λ v. all v && same_node q n)
+            (λ v. ap (λ c. c && same_node q n) (both v) ∙ or_and (who v) (v == t) (same_node q n))
+            (λ v. held_by b.lists v q) (λ v. held_by mid.lists v q) (λ v. held_by b'.lists v q) is.mode is'.mode
+            (λ v e. own (λ x. is'.mode x ≡ is.mode x) mode v (and_both (v == t) _ e).0) (λ v. over.lists.modes v q) (λ v. ends.lists.modes v q) u;
+        listed = λ u q. one_more (λ v. is.gone && (who v && same_node q n)) (λ v. is.gone && ((v == t) && same_node q n))
+            (λ v. is.gone && (all v && same_node q n))
+            (λ v. under is.gone _ _ _ (ap (λ c. c && same_node q n) (both v) ∙ or_and (who v) (v == t) (same_node q n)))
+            (λ v. listed_by b.lists v q) (λ v. listed_by mid.lists v q) (λ v. listed_by b'.lists v q) (λ v. false) (λ v. false) (λ v e. refl)
+            (λ v. over.lists.listed v q)
+            (λ v. ends.lists.listed v q ∙ ap (λ c. if c && ((v == t) && same_node q n) then false else listed_by mid.lists v q) gone) u;
+        counts = λ u q. ends.lists.counts u q ∙ ap (λ (k : ℕ). k + (if u == t then is'.more u q else 0)) (over.lists.counts u q)
+            ∙ either_more (who u) (u == t) (counted_by b.lists u q) (is.more u q) (is'.more u q)
+            (λ e. (own (λ v. who v ≡ false) fresh u e, own (λ v. is'.more v q ≡ is.more v q) (more q) u e))
+            ∙ ap (λ c. counted_by b.lists u q + (if c then is.more u q else 0)) (sym (both u));
+        rooms = λ u off. let out = or_no (who u) (u == t) (sym (both u) ∙ off) in ends.lists.rooms u out.1 ∙ over.lists.rooms u out.0;
+      };
+      tells = record {
+        by_slot = ends.tells.by_slot;
+        notices = one_more who (λ u. u == t) all both (notices_in b.told) (notices_in mid.told) (notices_in b'.told)
+            (λ u. Some (record { slot = u; age = age_in (txns_of b.seats u) }, says u)) _
+            (λ u e. ap₂ (λ (x : Option Txn) (y : Notice). let name : TxnId = record { slot = u; age = age_in x } in Some (name, y))
+            (own (λ v. txns_of mid.seats v ≡ txns_of b.seats v) txn_still u e) (own (λ v. says' v ≡ says v) says_is u e)) over.tells.notices ends.tells.notices;
+      };
+    }
+      where
+        own : (P : ℕ → Type 0) → P t → (u : ℕ) → (u == t) ≡ true → P u
+        own P p u e = subst P (sym (same_number u t e)) p
+
+-- one wait ends: its status is written, its list, and what it is told
+pub ends_one : {b b' : Books} {n : NodeId} {is : Writing} (t age : ℕ) (x : Notice) → age ≡ age_in (txns_of b.seats t) → length b'.seats ≡ length b.seats
+    → ((u : ℕ) → txns_of b'.seats u ≡ (if u == t then restatus Active (txns_of b.seats t) else txns_of b.seats u))
+    → IsWritten b.lists n (λ u. u == t) is b'.lists → IsBySlot b'.told
+    → ((u : ℕ) → notices_in b'.told u ≡ (if u == t then Some (record { slot = t; age = age }, x) else notices_in b.told u))
+    → WaitsEnd b n (λ u. u == t) is (λ u. x) b'
+ends_one {b} t age x age_is len txns lists by_slot notices = record {
+  len = len;
+  txns = λ u. txns u ∙ at_own u (λ v. restatus Active (txns_of b.seats v)) _;
+  lists = lists;
+  tells = record {
+    by_slot = by_slot;
+    notices = λ u. notices u ∙ ap (λ (a : ℕ). if u == t then Some (record { slot = t; age = a }, x) else notices_in b.told u) age_is
+        ∙ at_own u (λ v. Some (record { slot = v; age = age_in (txns_of b.seats v) }, x)) _;
+  };
+}
+  where
+    at_own : {A : Type 0} (u : ℕ) (f : ℕ → A) (y : A) → (if u == t then f t else y) ≡ (if u == t then f u else y)
+    at_own u f y = grind (arith, nat_tests, same_number u t)
+
+-- Waits are given up on a node that their owners do not hold: the lists agree with the state that is left.
+module _ (s after : State) (n : NodeId) (who : ℕ → Bool) (bare : (u : ℕ) → who u ≡ true → s.held u n ≡ NL)
+    (held : (u : ℕ) (q : NodeId) → after.held u q ≡ s.held u q)
+    (queue : (u : ℕ) (q : NodeId) → is_among_waiters u (after.queue q) ≡ (if who u && same_node q n then false else is_among_waiters u (s.queue q)))
+    (txns : (u : ℕ) → after.txns u ≡ (if who u then restatus Active (s.txns u) else s.txns u)) where
+  -- who waits still did not give its wait up
+  waits_on : (u : ℕ) → is_wait (status_of after u) ≡ true → (who u ≡ false) × (is_wait (status_of s u) ≡ true)
+  waits_on u h = split (who u) (λ e. clash h (ap (λ x. is_wait (status_in x)) (txns u ∙ if-true _ e) ∙ at_rest (s.txns u)))
+      (λ e. (e, ap (λ x. is_wait (status_in x)) (sym (txns u ∙ if-false _ e)) ∙ h))
+    where
+      at_rest : (x : Option Txn) → is_wait (status_in (restatus Active x)) ≡ false
+      at_rest None = refl
+      at_rest (Some x) = refl
+
+  pub agrees_given_up : {ls ls' : List LockList} → IsWritten ls n who as_left ls' → (u : ℕ) → Agrees s ls u → Agrees after ls' u
+  agrees_given_up is u agree = record {
+    modes = λ q. grind (arith, nat_tests, is.modes u q, agree.modes q, bare_mode (who u && same_node q n) _ (none q), held u q);
+    listed = λ q. grind (arith, nat_tests, is.listed u q, agree.listed q, bare_listed (who u && same_node q n) _ _ _ (none q) (queue u q), held u q);
+    room = λ h. let on = waits_on u h in subst (λ (k : ℕ). 9 ≤ k) (sym (is.rooms u on.0)) (agree.room on.1);
+  }
+    where
+      none : (q : NodeId) → (who u && same_node q n) ≡ true → s.held u q ≡ NL
+      none q h = let both = and_both (who u) (same_node q n) h in ap (s.held u) (same_node-equal q n both.1) ∙ bare u both.0
+
+      bare_mode : (k : Bool) (m : Mode) → (k ≡ true → m ≡ NL) → (if k then NL else m) ≡ m
+      bare_mode k m h1 = grind (arith, nat_tests)
+
+      bare_listed : (k : Bool) (m : Mode) (a b : Bool) → (k ≡ true → m ≡ NL) → b ≡ (if k then false else a)
+          → (if k then false else (not (same_mode m NL) || a)) ≡ (not (same_mode m NL) || b)
+      bare_listed k m a b h1 h2 = grind (arith, nat_tests)
+
+-- nothing is over yet
+pub ends_none : {b : Books} {n : NodeId} {is : Writing} {says : ℕ → Notice} (who : ℕ → Bool) → ((u : ℕ) → who u ≡ false) → AreKept b
+    → WaitsEnd b n who is says b
+ends_none {b} {n} {is} {says} who none kept =
+    subst (λ (f : ℕ → Bool). WaitsEnd b n f is says b) (sym (fun_ext none)) (record {
+      len = refl;
+      txns = λ u. refl;
+      lists = record {
+        len = refl;
+        apart = kept.apart;
+        modes = λ u q. refl;
+        listed = λ u q. sym (ap (λ c. if c then false else listed_by b.lists u q) (and-false is.gone));
+        counts = λ u q. none_more (counted_by b.lists u q);
+        rooms = λ u e. refl;
+      };
+      tells = record { by_slot = kept.by_slot; notices = λ u. refl };
+    })
+
+-- One waiter of several is woken: its list may hold the node.
 
 -- what is not listed, by what is
 unlisted_by-listed : (ls ls' : List LockList) (t : ℕ) (ps : List NodeId) → t < length ls → t < length ls'
     → ((q : NodeId) → listed_by ls' t q ≡ listed_by ls t q) → unlisted_by ls' t ps ≡ unlisted_by ls t ps
-unlisted_by-listed ls ls' t ps lt lt' same = is ls' lt' ∙ ap (λ (f : NodeId → Bool). count_by (λ p. not (f p)) ps) (fun_ext same) ∙ sym (is ls lt)
+unlisted_by-listed ls ls' t ps lt lt' same = is ls' t lt' ∙ ap (λ (f : NodeId → Bool). count_by (λ p. not (f p)) ps) (fun_ext same) ∙ sym (is ls t lt)
   where
-    is : (ls : List LockList) → t < length ls → unlisted_by ls t ps ≡ count_by (λ p. not (listed_by ls t p)) ps
-    is ls lt = by ls t lt
-      where
-        by : (ls : List LockList) (t : ℕ) → t < length ls → unlisted_by ls t ps ≡ count_by (λ p. not (listed_by ls t p)) ps
-        by [] t lt = absurd (omega arith)
-        by (l ∷ ls) zero lt = refl
-        by (l ∷ ls) (suc t) lt = by ls t (omega arith)
+    is : (ls : List LockList) (t : ℕ) → t < length ls → unlisted_by ls t ps ≡ count_by (λ p. not (listed_by ls t p)) ps
+    is [] t lt = absurd (omega arith)
+    is (l ∷ ls) zero lt = refl
+    is (l ∷ ls) (suc t) lt = is ls t (omega arith)
 
-module _ (seats : List (Option Seat)) (ls : List LockList) (told : Told) (n : NodeId) (ps : List NodeId) (ws : List Waiter)
-    (can : CanWake seats ls told n ps ws)
-    (i : ℕ) (d : Waiter) (lt : i < length ws) (seats' : List (Option Seat)) (ls' : List LockList) (told' : Told)
-    (woken : Wakes seats ls told n ps (take i ws) seats' ls' told') where
-  abbrev w : Waiter
-  w = slice_index_or ws i d
-
-  among : is_among_waiters w.0 ws ≡ true
-  among = is_among_all ws i d lt
-
-  fresh : is_among_waiters w.0 (take i ws) ≡ false
-  fresh = none_before ws i d can.distinct lt
-
-  pub slot_within : w.0 < length seats'
-  slot_within = subst (λ (k : ℕ). w.0 < k) (sym woken.len) (can.below w.0 among)
-
-  txn_same : txns_of seats' w.0 ≡ txns_of seats w.0
-  txn_same = woken.txns w.0 ∙ ap (λ b. if b then restatus Active (txns_of seats w.0) else txns_of seats w.0) fresh
-
-  mode_same : held_by ls' w.0 n ≡ held_by ls w.0 n
-  mode_same = woken.lists.modes w.0 n ∙ ap (λ b. if b then after_grants (λ v. held_by ls v n) (take i ws) w.0 else held_by ls w.0 n) (same_node-refl n)
-      ∙ grants_other (take i ws) (λ v. held_by ls v n) w.0 fresh
-
-  count_same : (q : NodeId) → counted_by ls' w.0 q ≡ counted_by ls w.0 q
-  count_same q = woken.lists.counts w.0 q ∙ ap (λ b. counted_by ls w.0 q + (if b && same_mode (held_by ls w.0 n) NL then count_by (same_node q) ps else 0))
-      fresh ∙ no_more (counted_by ls w.0 q)
-    where
-      no_more : (k : ℕ) → k + 0 ≡ k
-      no_more k = omega arith
-
-  pub may_hold : CanHold ls' w.0 n ps
-  may_hold =
-      let held = can.can_hold w.0 among in let below : w.0 < length ls' = subst (λ (k : ℕ). w.0 < k) (sym woken.lists.len) held.slot in
+module _ {b mid : Books} {n : NodeId} (ps : List NodeId) {who : ℕ → Bool} {mode : ℕ → Mode} {says : ℕ → Notice}
+    (over : WaitsEnd b n who (as_held b.lists n ps mode) says mid) (t : ℕ) (fresh : who t ≡ false) where
+  pub may_hold : CanHold b.lists t n ps → CanHold mid.lists t n ps
+  may_hold can =
+      let below : t < length mid.lists = subst (λ (k : ℕ). t < k) (sym over.lists.len) can.slot in
       record {
         slot = below;
-        listed = woken.lists.listed w.0 n ∙ held.listed;
-        room = λ e. subst (λ (k : ℕ). k ≤ room_by ls' w.0) (sym (unlisted_by-listed ls ls' w.0 ps held.slot below (λ q. woken.lists.listed w.0 q)))
-            (subst (λ (k : ℕ). unlisted_by ls w.0 ps ≤ k) (sym (woken.lists.rooms w.0 fresh)) (held.room (sym mode_same ∙ e)));
-        few = λ q h. subst (λ (k : ℕ). k + count_by (same_node q) ps < 2 ^ 32) (sym (count_same q)) (held.few q h);
+        listed = over.lists.listed t n ∙ can.listed;
+        room = λ e. subst (λ (k : ℕ). k ≤ room_by mid.lists t) (sym (unlisted_by-listed b.lists mid.lists t ps can.slot below (λ q. over.lists.listed t q)))
+            (subst (λ (k : ℕ). unlisted_by b.lists t ps ≤ k) (sym (over.lists.rooms t fresh)) (can.room (sym (mode_still over t fresh n) ∙ e)));
+        few = λ q h. subst (λ (k : ℕ). k + count_by (same_node q) ps < 2 ^ 32) (sym (count_still over t fresh q)) (can.few q h);
       }
 
-  pub may_tell : notices_in told' w.0 ≡ None
-  may_tell = woken.tells.notices w.0 ∙ ap (λ b. if b then grant_notice (txns_of seats) n (take i ws) w.0 else notices_in told w.0) fresh ∙ can.untold w.0 among
-
-  pub woken_more : (seats'' : List (Option Seat)) (ls'' : List LockList) (told'' : Told) (age : ℕ) → age ≡ age_in (txns_of seats' w.0)
-      → length seats'' ≡ length seats'
-      → ((u : ℕ) → txns_of seats'' u ≡ (if u == w.0 then restatus Active (txns_of seats' w.0) else txns_of seats' u))
-      → Holds ls' ls'' w.0 n w.1 ps → IsBySlot told''
-      → ((u : ℕ) → notices_in told'' u ≡ (if u == w.0 then Some (record { slot = w.0; age = age }, notice.Granted n w.1) else notices_in told' u))
-      → Wakes seats ls told n ps (take (i + 1) ws) seats'' ls'' told''
-  woken_more seats'' ls'' told'' age age_is len txns held by_slot notices =
-      record { len = len ∙ woken.len; txns = txns_more; lists = lists_more; tells = record { by_slot = by_slot; notices = notices_more } }
-    where
-      no_more : (k : ℕ) → k + 0 ≡ k
-      no_more k = omega arith
-
-      turned : (u : ℕ) (b : Bool) → (u == w.0) ≡ b → is_waiter u w ≡ b
-      turned u true e = grind (arith, nat_tests)
-      turned u false e = grind (arith, nat_tests)
-
-      now_among : (u : ℕ) → (u == w.0) ≡ true → is_among_waiters u (take (i + 1) ws) ≡ true
-      now_among u e = among_more u ws i d lt ∙ or_right (is_among_waiters u (take i ws)) (is_waiter u w) (turned u true e)
-
-      as_before : (u : ℕ) → (u == w.0) ≡ false → is_among_waiters u (take (i + 1) ws) ≡ is_among_waiters u (take i ws)
-      as_before u e = among_more u ws i d lt ∙ ap (λ b. is_among_waiters u (take i ws) || b) (turned u false e) ∙ or-false (is_among_waiters u (take i ws))
-
-      not_this : (u : ℕ) → is_among_waiters u (take (i + 1) ws) ≡ false → (u == w.0) ≡ false
-      not_this u off = split (u == w.0) (λ e. clash (now_among u e) off) (λ e. e)
-
-      granted_now : (g : Members) (u : ℕ) (b : Bool) → (u == w.0) ≡ b → after_grants g (take (i + 1) ws) u ≡ (if b then w.1 else after_grants g (take i ws) u)
-      granted_now g u b e = ap (λ h. h u) (grants_more g ws i d lt) ∙ ap (λ k. if k then w.1 else after_grants g (take i ws) u) e
-
-      given_now : (u : ℕ) → (u == w.0) ≡ true → mode_given (take (i + 1) ws) u ≡ w.1
-      given_now u e = granted_now (λ _. NL) u true e
-
-      given_before : (u : ℕ) → (u == w.0) ≡ false → mode_given (take (i + 1) ws) u ≡ mode_given (take i ws) u
-      given_before u e = granted_now (λ _. NL) u false e
-
-      mode_at : (u : ℕ) (q : NodeId) → (if (u == w.0) && same_node q n then w.1 else held_by ls' u q)
-          ≡ (if same_node q n then after_grants (λ v. held_by ls v n) (take (i + 1) ws) u else held_by ls u q)
-      mode_at u q = split (same_node q n)
-          (λ k. split (u == w.0)
-          (λ e. ap₂ (λ a b. if a && b then w.1 else held_by ls' u q) e k ∙ sym (granted_now (λ v. held_by ls v n) u true e)
-          ∙ sym (ap (λ b. if b then after_grants (λ v. held_by ls v n) (take (i + 1) ws) u else held_by ls u q) k))
-          (λ e. ap (λ a. if a && same_node q n then w.1 else held_by ls' u q) e ∙ woken.lists.modes u q
-          ∙ ap (λ b. if b then after_grants (λ v. held_by ls v n) (take i ws) u else held_by ls u q) k
-          ∙ sym (granted_now (λ v. held_by ls v n) u false e)
-          ∙ sym (ap (λ b. if b then after_grants (λ v. held_by ls v n) (take (i + 1) ws) u else held_by ls u q) k)))
-          (λ k. ap (λ b. if b then w.1 else held_by ls' u q) (and_off (u == w.0) (same_node q n) k) ∙ woken.lists.modes u q
-          ∙ ap (λ b. if b then after_grants (λ v. held_by ls v n) (take i ws) u else held_by ls u q) k
-          ∙ sym (ap (λ b. if b then after_grants (λ v. held_by ls v n) (take (i + 1) ws) u else held_by ls u q) k))
-        where
-          and_off : (a b : Bool) → b ≡ false → (a && b) ≡ false
-          and_off true b h = h
-          and_off false b h = refl
-
-      txns_more : (u : ℕ) → txns_of seats'' u ≡ (if is_among_waiters u (take (i + 1) ws) then restatus Active (txns_of seats u) else txns_of seats u)
-      txns_more = λ u. split (u == w.0)
-          (λ e. let is = same_number u w.0 e in
-          txns u ∙ ap (λ b. if b then restatus Active (txns_of seats' w.0) else txns_of seats' u) e ∙ ap (restatus Active) txn_same
-          ∙ ap (λ v. restatus Active (txns_of seats v)) (sym is)
-          ∙ sym (ap (λ b. if b then restatus Active (txns_of seats u) else txns_of seats u) (now_among u e)))
-          (λ e. txns u ∙ ap (λ b. if b then restatus Active (txns_of seats' w.0) else txns_of seats' u) e ∙ woken.txns u
-          ∙ sym (ap (λ b. if b then restatus Active (txns_of seats u) else txns_of seats u) (as_before u e)))
-
-      counts_more : (u : ℕ) (q : NodeId) → counted_by ls'' u q
-          ≡ counted_by ls u q + (if is_among_waiters u (take (i + 1) ws) && same_mode (held_by ls u n) NL then count_by (same_node q) ps else 0)
-      counts_more = λ u q. split (u == w.0)
-          (λ e. let is = same_number u w.0 e in
-          held.counts u q ∙ ap₂ (λ a b. a + (if b && same_mode (held_by ls' w.0 n) NL then count_by (same_node q) ps else 0)) (ap (λ v. counted_by ls' v q) is
-          ∙ count_same q ∙ ap (λ v. counted_by ls v q) (sym is)) e
-          ∙ ap (λ m. counted_by ls u q + (if true && same_mode m NL then count_by (same_node q) ps else 0)) (mode_same ∙ ap (λ v. held_by ls v n) (sym is))
-          ∙ sym (ap (λ b. counted_by ls u q + (if b && same_mode (held_by ls u n) NL then count_by (same_node q) ps else 0)) (now_among u e)))
-          (λ e. held.counts u q ∙ ap (λ b. counted_by ls' u q + (if b && same_mode (held_by ls' w.0 n) NL then count_by (same_node q) ps else 0)) e
-          ∙ no_more (counted_by ls' u q) ∙ woken.lists.counts u q
-          ∙ sym (ap (λ b. counted_by ls u q + (if b && same_mode (held_by ls u n) NL then count_by (same_node q) ps else 0)) (as_before u e)))
-
-      lists_more : WakesLists ls n ps (take (i + 1) ws) ls''
-      lists_more = record {
-        len = held.len ∙ woken.lists.len;
-        apart = held.apart;
-        modes = λ u q. held.modes u q ∙ mode_at u q;
-        listed = λ u q. held.listed u q ∙ woken.lists.listed u q;
-        counts = counts_more;
-        rooms = λ u off. let e = not_this u off in held.rooms u e ∙ woken.lists.rooms u (sym (as_before u e) ∙ off);
-      }
-
-      notices_more : (u : ℕ) → notices_in told'' u ≡ (if is_among_waiters u (take (i + 1) ws) then grant_notice (txns_of seats) n (take (i + 1) ws) u
-          else notices_in told u)
-      notices_more = λ u. split (u == w.0)
-          (λ e. let is = same_number u w.0 e in
-          notices u ∙ ap (λ b. if b then Some (record { slot = w.0; age = age }, notice.Granted n w.1) else notices_in told' u) e
-          ∙ ap₂ (λ v a. Some (record { slot = v; age = a }, notice.Granted n w.1)) (sym is) (age_is ∙ ap age_in txn_same
-          ∙ ap (λ v. age_in (txns_of seats v)) (sym is))
-          ∙ ap (λ m. Some (record { slot = u; age = age_in (txns_of seats u) }, notice.Granted n m)) (sym (given_now u e))
-          ∙ sym (ap (λ b. if b then grant_notice (txns_of seats) n (take (i + 1) ws) u else notices_in told u) (now_among u e)))
-          (λ e. notices u ∙ ap (λ b. if b then Some (record { slot = w.0; age = age }, notice.Granted n w.1) else notices_in told' u) e ∙ woken.tells.notices u
-          ∙ ap (λ m. if is_among_waiters u (take i ws) then Some (record { slot = u; age = age_in (txns_of seats u) }, notice.Granted n m)
-          else notices_in told u) (sym (given_before u e))
-          ∙ sym (ap (λ b. if b then grant_notice (txns_of seats) n (take (i + 1) ws) u else notices_in told u) (as_before u e)))
-
--- nobody is woken yet
-pub woken_none : (seats : List (Option Seat)) (ls : List LockList) (told : Told) (n : NodeId) (ps : List NodeId) (ws : List Waiter)
-    → CanWake seats ls told n ps ws → Wakes seats ls told n ps [] seats ls told
-woken_none seats ls told n ps ws can = record {
-  len = refl;
-  txns = λ u. refl;
-  lists = record {
-    len = refl;
-    apart = can.apart;
-    modes = λ u q. split (same_node q n)
-        (λ e. ap (λ p. held_by ls u p) (same_node-equal q n e) ∙ sym (ap (λ b. if b then held_by ls u n else held_by ls u q) e))
-        (λ e. sym (ap (λ b. if b then held_by ls u n else held_by ls u q) e));
-    listed = λ u q. refl;
-    counts = λ u q. more (counted_by ls u q);
-    rooms = λ u e. refl;
-  };
-  tells = record { by_slot = can.by_slot; notices = λ u. refl };
-}
-  where
-    more : (k : ℕ) → k ≡ k + 0
-    more k = omega arith
-
--- Waiters freed one after the other.
-
--- what one of two tests writes, beside a third
-either : {A : Type 0} (a b k : Bool) (x y : A) → (if b && k then x else (if a && k then x else y)) ≡ (if (a || b) && k then x else y)
-either true true true x y = refl
-either true true false x y = refl
-either true false k x y = refl
-either false true k x y = refl
-either false false k x y = refl
-
-module _ (seats : List (Option Seat)) (ls : List LockList) (told : Told) (n : NodeId) (ws : List Waiter) (can : CanFree seats ls told n ws)
-    (i : ℕ) (d : Waiter) (lt : i < length ws) (seats' : List (Option Seat)) (ls' : List LockList) (told' : Told)
-    (freed : Frees seats ls told n (take i ws) seats' ls' told') where
-  abbrev gone : Waiter
-  gone = slice_index_or ws i d
-
-  gone_among : is_among_waiters gone.0 ws ≡ true
-  gone_among = is_among_all ws i d lt
-
-  gone_fresh : is_among_waiters gone.0 (take i ws) ≡ false
-  gone_fresh = none_before ws i d can.distinct lt
-
-  pub gone_within : gone.0 < length seats'
-  gone_within = subst (λ (k : ℕ). gone.0 < k) (sym freed.len) (can.below gone.0 gone_among)
-
-  pub slot_listed : gone.0 < length ls'
-  slot_listed = subst (λ (k : ℕ). gone.0 < k) (sym (freed.lists.len ∙ can.len)) (can.below gone.0 gone_among)
-
-  pub may_tell_gone : notices_in told' gone.0 ≡ None
-  may_tell_gone = freed.tells.notices gone.0 ∙ ap (λ b. if b then Some (record { slot = gone.0; age = age_in (txns_of seats gone.0) }, notice.Gone)
-      else notices_in told gone.0)
-      gone_fresh ∙ can.untold gone.0 gone_among
-
-  module _ (l : LockList) (at : l ≡ slice_index_or ls' gone.0 l) where
-    pub may_leave : IsApart l
-    may_leave = freed.lists.apart gone.0 l (slice_get-at ls' gone.0 l slot_listed at)
-
-    pub no_children : count_of l n ≡ 0
-    no_children = sym (by_list-at (λ x. count_of x n) 0 ls' gone.0 l slot_listed at) ∙ freed.lists.counts gone.0 n ∙ can.childless gone.0 gone_among
-
-  gone_same : txns_of seats' gone.0 ≡ txns_of seats gone.0
-  gone_same = freed.txns gone.0 ∙ ap (λ b. if b then restatus Active (txns_of seats gone.0) else txns_of seats gone.0) gone_fresh
-
-  pub freed_more : (seats'' : List (Option Seat)) (ls'' : List LockList) (told'' : Told) (age : ℕ) → age ≡ age_in (txns_of seats' gone.0)
-      → length seats'' ≡ length seats'
-      → ((u : ℕ) → txns_of seats'' u ≡ (if u == gone.0 then restatus Active (txns_of seats' gone.0) else txns_of seats' u))
-      → Strikes ls' ls'' gone.0 n [] → IsBySlot told''
-      → ((u : ℕ) → notices_in told'' u ≡ (if u == gone.0 then Some (record { slot = gone.0; age = age }, notice.Gone) else notices_in told' u))
-      → Frees seats ls told n (take (i + 1) ws) seats'' ls'' told''
-  freed_more seats'' ls'' told'' age age_is len txns struck by_slot notices = record {
-    len = len ∙ freed.len;
-    txns = λ u. split (u == gone.0)
-        (λ e. let is = same_number u gone.0 e in
-        txns u ∙ ap (λ b. if b then restatus Active (txns_of seats' gone.0) else txns_of seats' u) e
-        ∙ ap (restatus Active) (gone_same ∙ ap (txns_of seats) (sym is))
-        ∙ sym (ap (λ b. if b then restatus Active (txns_of seats u) else txns_of seats u) (now u e)))
-        (λ e. txns u ∙ ap (λ b. if b then restatus Active (txns_of seats' gone.0) else txns_of seats' u) e ∙ freed.txns u
-        ∙ sym (ap (λ b. if b then restatus Active (txns_of seats u) else txns_of seats u) (as_before u e)));
-    lists = record {
-      len = struck.len ∙ freed.lists.len;
-      apart = struck.apart;
-      modes = λ u q. struck.modes u q ∙ ap (λ m. if (u == gone.0) && same_node q n then NL else m) (freed.lists.modes u q)
-          ∙ either (is_among_waiters u (take i ws)) (u == gone.0) (same_node q n) NL (held_by ls u q)
-          ∙ ap (λ b. if b && same_node q n then NL else held_by ls u q) (sym (next u));
-      listed = λ u q. struck.listed u q ∙ ap (λ m. if (u == gone.0) && same_node q n then false else m) (freed.lists.listed u q)
-          ∙ either (is_among_waiters u (take i ws)) (u == gone.0) (same_node q n) false (listed_by ls u q)
-          ∙ ap (λ b. if b && same_node q n then false else listed_by ls u q) (sym (next u));
-      counts = λ u q. none_less u (counted_by ls'' u q) ∙ struck.counts u q ∙ freed.lists.counts u q;
-      rooms = λ u off. let e = not_this u off in struck.rooms u e ∙ freed.lists.rooms u (sym (as_before u e) ∙ off);
-    };
-    tells = record {
-      by_slot = by_slot;
-      notices = λ u. split (u == gone.0)
-          (λ e. let is = same_number u gone.0 e in
-          notices u ∙ ap (λ b. if b then Some (record { slot = gone.0; age = age }, notice.Gone) else notices_in told' u) e
-          ∙ ap₂ (λ v a. Some (record { slot = v; age = a }, notice.Gone)) (sym is) (age_is ∙ ap age_in (gone_same ∙ ap (txns_of seats) (sym is)))
-          ∙ sym (ap (λ b. if b then Some (record { slot = u; age = age_in (txns_of seats u) }, notice.Gone) else notices_in told u) (now u e)))
-          (λ e. notices u ∙ ap (λ b. if b then Some (record { slot = gone.0; age = age }, notice.Gone) else notices_in told' u) e ∙ freed.tells.notices u
-          ∙ sym (ap (λ b. if b then Some (record { slot = u; age = age_in (txns_of seats u) }, notice.Gone) else notices_in told u) (as_before u e)));
-    };
-  }
-    where
-      turned : (u : ℕ) (b : Bool) → (u == gone.0) ≡ b → is_waiter u gone ≡ b
-      turned u true e = grind (arith, nat_tests)
-      turned u false e = grind (arith, nat_tests)
-
-      next : (u : ℕ) → is_among_waiters u (take (i + 1) ws) ≡ (is_among_waiters u (take i ws) || (u == gone.0))
-      next u = among_more u ws i d lt ∙ ap (λ b. is_among_waiters u (take i ws) || b) (turned u (u == gone.0) refl)
-
-      now : (u : ℕ) → (u == gone.0) ≡ true → is_among_waiters u (take (i + 1) ws) ≡ true
-      now u e = next u ∙ or_right (is_among_waiters u (take i ws)) (u == gone.0) e
-
-      as_before : (u : ℕ) → (u == gone.0) ≡ false → is_among_waiters u (take (i + 1) ws) ≡ is_among_waiters u (take i ws)
-      as_before u e = next u ∙ ap (λ b. is_among_waiters u (take i ws) || b) e ∙ or-false (is_among_waiters u (take i ws))
-
-      not_this : (u : ℕ) → is_among_waiters u (take (i + 1) ws) ≡ false → (u == gone.0) ≡ false
-      not_this u off = split (u == gone.0) (λ e. clash (now u e) off) (λ e. e)
-
-      none_less : (u k : ℕ) → k ≡ k + (if u == gone.0 then 0 else 0)
-      none_less u k = by (u == gone.0)
-        where
-          by : (b : Bool) → k ≡ k + (if b then 0 else 0)
-          by true = omega arith
-          by false = omega arith
+  -- and its wait ends by the grant
+  pub woken_more : {b' : Books} (m : Mode) (x : Notice) → WaitsEnd mid n (λ u. u == t) (as_held mid.lists n ps (λ u. m)) (λ u. x) b'
+      → (all : ℕ → Bool) → ((u : ℕ) → all u ≡ (who u || (u == t))) → m ≡ mode t → x ≡ says t → WaitsEnd b n all (as_held b.lists n ps mode) says b'
+  woken_more m x ends all both is says_is = ends_more over t fresh ends all both is refl
+      (λ q. ap (λ k. if same_mode k NL then count_by (same_node q) ps else 0) (mode_still over t fresh n)) says_is

@@ -1,20 +1,17 @@
 -- The locks that the code keeps beside the graph: as a state of the model, and what agrees with it.
-use Rattle.std.specs.Prelude.{◌≡◌, ◌≢◌, ◌≤◌, ◌<◌, ◌||◌, ℕ, true, false, List, [], ◌∷◌, length, None, Some, is_some, replicate}
-use Rattle.std.specs.List.{filter}
-use Rattle.gl_modes.specs.declared.mode.Mode.{Mode}
+use Rattle.std.specs.Prelude.{◌≡◌, ◌≤◌, ◌||◌, ℕ, true, false, List, [], length, None, replicate}
 use Rattle.gl_modes.specs.declared.mode.Mode.TheVariants.{NL}
 use Rattle.gl_modes.specs.declared.node.NodeId.{NodeId}
-use Rattle.gl_graph.specs.Graph.{Graph, is_live}
+use Rattle.gl_graph.specs.Graph.{Graph}
 use Rattle.gl_graph.specs.View.{View, graph_of}
-use Rattle.gl_header.specs.Header.{holds, is_among_waiters, is_waiter}
+use Rattle.gl_header.specs.Header.{holds, is_among_waiters}
 use Rattle.gl_waits.specs.declared.victims.Victims.TheVariants.{Youngest}
-use Rattle.gl_table.specs.declared.answers.Detect.TheVariants.{ByWatcher}
+use Rattle.gl_model.specs.declared.answers.Detect.TheVariants.{ByWatcher}
 use Rattle.gl_listed.specs.declared.list.LockList.{LockList}
 use Rattle.gl_table.specs.declared.locks.Locks.{Locks}
-use Rattle.gl_table.specs.declared.txn.Status.TheVariants.{Waiting}
-use Rattle.gl_table.specs.model.Calls.{held_children}
+use Rattle.gl_model.specs.Calls.{held_children}
 use Rattle.gl_header.specs.Headers.{held_of, queue_of}
-use Rattle.gl_table.specs.model.State.{is_waiting_at, State, members, status_of, is_wait}
+use Rattle.gl_model.specs.State.{State, members, status_of, is_wait}
 use Rattle.gl_table.specs.inside.Seats.{txns_of}
 use Rattle.gl_table.specs.inside.Slots.{KeepsLists, AreApart, counted_by, held_by, listed_by, room_by}
 
@@ -49,15 +46,6 @@ pub record Agrees (s : State) (ls : List LockList) (u : ℕ) : Type 0 where
 abbrev pub CountsHeld : State → List LockList → ℕ → Type 0
 CountsHeld s ls u = (p : NodeId) → counted_by ls u p ≡ held_children s u p
 
--- who holds or waits lives, on living nodes; who stands in a queue waits there, once, for a mode; this holds also between the steps of a call
-pub record IsOrderly (s : State) : Type 0 where
-  pub holders : (u : ℕ) (q : NodeId) → holds (members s q) u ≡ true → is_some (s.txns u) ≡ true
-  pub holders_live : (u : ℕ) (q : NodeId) → holds (members s q) u ≡ true → is_live s.graph q ≡ true
-  pub waiters_live : (u : ℕ) (q : NodeId) → is_among_waiters u (s.queue q) ≡ true → is_live s.graph q ≡ true
-  pub waits_are : (u : ℕ) (q : NodeId) → is_among_waiters u (s.queue q) ≡ true → is_waiting_at s u q ≡ true
-  pub one_wait : (u : ℕ) (q : NodeId) (m : Mode) → status_of s u ≡ Some (Waiting q m) → (filter (is_waiter u) (s.queue q) ≡ (u, m) ∷ []) × (m ≢ NL)
-  pub below : (u : ℕ) → is_some (s.txns u) ≡ true → u < s.most
-
 -- what the locks are made of is in order
 pub record AreSound (l : Locks) : Type 0 where
   pub few : length l.seats.items ≤ 128
@@ -85,10 +73,3 @@ pub record AreNew (l : Locks) (most : ℕ) : Type 0 where
   pub listed : (t : ℕ) (n : NodeId) → listed_by l.lists.items t n ≡ false
   pub modes : (t : ℕ) (n : NodeId) → held_by l.lists.items t n ≡ NL
   pub counts : (t : ℕ) (n : NodeId) → counted_by l.lists.items t n ≡ 0
-
--- Lists that agree with a state still do once a node has granted from its front and the lists say so.
-
--- who stands in the queue of n waits there, once, for a mode
-pub record WaitWell (b : State) (n : NodeId) : Type 0 where
-  pub waits_are : (u : ℕ) → is_among_waiters u (b.queue n) ≡ true → is_waiting_at b u n ≡ true
-  pub one_wait : (u : ℕ) → is_among_waiters u (b.queue n) ≡ true → (m : Mode) × (filter (is_waiter u) (b.queue n) ≡ (u, m) ∷ []) × (m ≢ NL)

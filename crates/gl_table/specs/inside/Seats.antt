@@ -2,7 +2,7 @@
 use Rattle.std.specs.Prelude.{ℕ, Bool, true, false, List, Option, Some, None, is_some, slice_get}
 use Rattle.std.specs.Option.{option_map_or}
 use Rattle.gl_table.specs.declared.seat.Seat.{Seat}
-use Rattle.gl_table.specs.model.State.{Txn, is_wait, status_in}
+use Rattle.gl_model.specs.State.{Txn, is_wait, status_in}
 
 -- the transaction in a seat that is there and taken
 abbrev pub txn_in : Option (Option Seat) → Option Txn

@@ -1,7 +1,7 @@
 -- The told list and the lists of all transactions by slot: what it is to wake and to free waiters.
-use Rattle.std.specs.Prelude.{ℕ, Bool, true, ◌&&◌, ◌==◌, ◌≡◌, nat_lt, [], ◌∷◌, Option, ◌+◌, ◌<◌, ◌≤◌, ◌^◌, false, map, List, length, Some, None, if◌then◌else◌}
+use Rattle.std.specs.Prelude.{ℕ, Bool, true, ◌&&◌, ◌==◌, ◌≡◌, Option, ◌+◌, ◌<◌, ◌≤◌, ◌^◌, false, map, List, length, Some, None, if◌then◌else◌}
 use Rattle.std.specs.Prelude.{slice_get}
-use Rattle.std.specs.List.{find, list_all, count_by, list_any}
+use Rattle.std.specs.List.{count_by, list_any}
 use Rattle.std.specs.Option.{option_map_or}
 use Rattle.indexmap.specs.IndexMap.{spare}
 use Rattle.gl_modes.specs.declared.mode.Mode.{Mode}
@@ -9,35 +9,21 @@ use Rattle.gl_modes.specs.declared.mode.Mode.TheVariants.{NL}
 use Rattle.gl_modes.specs.declared.node.NodeId.{NodeId}
 use Rattle.gl_modes.specs.Modes.{same_mode}
 use Rattle.gl_modes.specs.Nodes.{same_node}
-use Rattle.gl_header.specs.Header.{Waiter, after_grants, holds, is_among_waiters}
+use Rattle.gl_header.specs.Header.{Waiter, holds, is_among_waiters}
 use Rattle.gl_header.specs.Sound.{is_distinct}
-use Rattle.gl_table.specs.declared.txn.TxnId.{TxnId}
-use Rattle.gl_table.specs.declared.answers.Notice.{Notice}
-use Rattle.gl_table.specs.model.Tellings.{IsOnWay, Told, told_to}
+use Rattle.gl_model.specs.declared.answers.Notice.{Notice}
+use Rattle.gl_model.specs.Tellings.{IsOnWay, Told, told_to}
 use Rattle.gl_listed.specs.declared.list.LockList.{LockList}
 use Rattle.gl_table.specs.declared.seat.Seat.{Seat}
-use Rattle.gl_table.specs.declared.txn.Status.TheVariants.{Active}
+use Rattle.gl_model.specs.declared.txn.Status.TheVariants.{Active}
 use Rattle.gl_listed.specs.Lists.{IsApart, count_of, is_listed, mode_of, unlisted}
-use Rattle.gl_table.specs.inside.Seats.{txns_of}
-use Rattle.gl_table.specs.model.Calls.{held_children, is_covered}
-use Rattle.gl_table.specs.model.State.{State, Txn, age_in, members, restatus}
-use Rattle.gl_table.specs.declared.answers.Notice.TheVariants as notice
+use Rattle.gl_table.specs.inside.Seats.{SeatList, txns_of}
+use Rattle.gl_model.specs.Calls.{held_children, is_covered}
+use Rattle.gl_model.specs.State.{State, members, restatus}
+use Rattle.gl_model.specs.declared.answers.Notice.TheVariants as notice
+use Rattle.gl_model.specs.ToldLists.{IsBySlot, IsTold, mode_given, notices_in}
 
--- A told list as it is filled: notices by rising slot.
-
--- each slot is below all behind it
-abbrev pub is_rising : Told → Bool
-is_rising [] = true
-is_rising (x ∷ xs) = list_all (λ y. nat_lt x.0.slot y.0.slot) xs && is_rising xs
-
--- the notices stand by rising slot, and slots are below 128
-pub record IsBySlot (told : Told) : Type 0 where
-  pub rising : is_rising told ≡ true
-  pub below : list_all (λ x. nat_lt x.0.slot 128) told ≡ true
-
--- what is told to a slot
-abbrev pub notices_in : Told → ℕ → Option (TxnId × Notice)
-notices_in told u = find (λ x. x.0.slot == u) told
+-- Whom more can be told.
 
 -- more can be told: the list is by slot, and has no notice for these
 pub record CanTell (list : Told) (who : ℕ → Bool) : Type 0 where
@@ -88,54 +74,69 @@ pub record CanHold (ls : List LockList) (t : ℕ) (n : NodeId) (ps : List NodeId
   pub room : held_by ls t n ≡ NL → unlisted_by ls t ps ≤ room_by ls t
   pub few : (q : NodeId) → list_any (same_node q) ps ≡ true → counted_by ls t q + count_by (same_node q) ps < 2 ^ 32
 
--- the lists once a slot holds a node with these parents in this mode; what it did not hold before counts as a child of each parent
-pub record Holds (ls ls' : List LockList) (t : ℕ) (n : NodeId) (m : Mode) (ps : List NodeId) : Type 0 where
+-- what is written of a node in the lists of slots: its mode, whether it is listed no more, and how many held children more are counted
+pub record Writing : Type 0 where
+  pub mode : ℕ → Mode
+  pub gone : Bool
+  pub more : ℕ → NodeId → ℕ
+
+-- the lists once this is written in those of these slots; all else is as it was
+pub record IsWritten (ls : List LockList) (n : NodeId) (who : ℕ → Bool) (is : Writing) (ls' : List LockList) : Type 0 where
   pub len : length ls' ≡ length ls
   pub apart : AreApart ls'
-  pub modes : (u : ℕ) (q : NodeId) → held_by ls' u q ≡ (if (u == t) && same_node q n then m else held_by ls u q)
-  pub listed : (u : ℕ) (q : NodeId) → listed_by ls' u q ≡ listed_by ls u q
-  pub counts : (u : ℕ) (q : NodeId) → counted_by ls' u q ≡ counted_by ls u q + (if (u == t) && same_mode (held_by ls t n) NL then count_by (same_node q) ps else 0)
-  pub rooms : (u : ℕ) → (u == t) ≡ false → room_by ls' u ≡ room_by ls u
+  pub modes : (u : ℕ) (q : NodeId) → held_by ls' u q ≡ (if who u && same_node q n then is.mode u else held_by ls u q)
+  pub listed : (u : ℕ) (q : NodeId) → listed_by ls' u q ≡ (if is.gone && (who u && same_node q n) then false else listed_by ls u q)
+  pub counts : (u : ℕ) (q : NodeId) → counted_by ls' u q ≡ counted_by ls u q + (if who u then is.more u q else 0)
+  pub rooms : (u : ℕ) → who u ≡ false → room_by ls' u ≡ room_by ls u
 
--- the mode that a slot has among these, NL for none
-abbrev pub mode_given : List Waiter → ℕ → Mode
-mode_given ws u = after_grants (λ _. NL) ws u
+-- a node with these parents is held in this mode; where it was not held before it counts as a child of each parent
+abbrev pub as_held : List LockList → NodeId → List NodeId → (ℕ → Mode) → Writing
+as_held ls n ps mode = record { mode = mode; gone = false; more = λ u q. if same_mode (held_by ls u n) NL then count_by (same_node q) ps else 0 }
 
--- what a waiter is told that is granted
-abbrev pub grant_notice : (ℕ → Option Txn) → NodeId → List Waiter → ℕ → Option (TxnId × Notice)
-grant_notice txns n ws u = Some (record { slot = u; age = age_in (txns u) }, notice.Granted n (mode_given ws u))
+-- a node that is not held is listed no more
+abbrev pub as_left : Writing
+as_left = record { mode = λ u. NL; gone = true; more = λ u q. 0 }
 
--- these waiters may be woken on a node with these parents
-pub record CanWake (seats : List (Option Seat)) (ls : List LockList) (told : Told) (n : NodeId) (ps : List NodeId) (ws : List Waiter) : Type 0 where
-  pub few : length seats ≤ 128
-  pub len : length ls ≡ length seats
-  pub apart : AreApart ls
-  pub by_slot : IsBySlot told
+-- these waiters hold the node in the modes for which they waited
+abbrev pub WakesLists : List LockList → NodeId → List NodeId → List Waiter → List LockList → Type 0
+WakesLists ls n ps ws ls' = IsWritten ls n (λ u. is_among_waiters u ws) (as_held ls n ps (mode_given ws)) ls'
+
+-- The end of waits on a node, by a grant or without one.
+
+-- the seats, the lists and a told list as it is filled
+pub record Books : Type 0 where
+  pub seats : List (Option Seat)
+  pub lists : List LockList
+  pub told : Told
+
+-- so by their parts
+abbrev pub books_of : SeatList → List LockList → Told → Books
+books_of seats lists told = record { seats = seats.items; lists = lists; told = told }
+
+-- one for each slot, and each list in order
+pub record AreKept (b : Books) : Type 0 where
+  pub few : length b.seats ≤ 128
+  pub len : length b.lists ≡ length b.seats
+  pub apart : AreApart b.lists
+  pub by_slot : IsBySlot b.told
+
+-- waiters of different slots that are there, who were told nothing yet
+pub record CanEnd (b : Books) (ws : List Waiter) : Type 0 where
+  pub kept : AreKept b
   pub distinct : is_distinct ws ≡ true
-  pub below : (u : ℕ) → is_among_waiters u ws ≡ true → u < length seats
-  pub can_hold : (u : ℕ) → is_among_waiters u ws ≡ true → CanHold ls u n ps
-  pub untold : (u : ℕ) → is_among_waiters u ws ≡ true → notices_in told u ≡ None
+  pub below : (u : ℕ) → is_among_waiters u ws ≡ true → u < length b.seats
+  pub untold : (u : ℕ) → is_among_waiters u ws ≡ true → notices_in b.told u ≡ None
 
--- in the lists these waiters hold the node, and all else is as it was
-pub record WakesLists (ls : List LockList) (n : NodeId) (ps : List NodeId) (ws : List Waiter) (ls' : List LockList) : Type 0 where
-  pub len : length ls' ≡ length ls
-  pub apart : AreApart ls'
-  pub modes : (u : ℕ) (q : NodeId) → held_by ls' u q ≡ (if same_node q n then after_grants (λ v. held_by ls v n) ws u else held_by ls u q)
-  pub listed : (u : ℕ) (q : NodeId) → listed_by ls' u q ≡ listed_by ls u q
-  pub counts : (u : ℕ) (q : NodeId) → counted_by ls' u q ≡ counted_by ls u q + (if is_among_waiters u ws && same_mode (held_by ls u n) NL then count_by (same_node q) ps else 0)
-  pub rooms : (u : ℕ) → is_among_waiters u ws ≡ false → room_by ls' u ≡ room_by ls u
+-- the waits of these slots on the node are over: they are active, this is written in their lists, and they are told this; all else is as it was
+pub record WaitsEnd (b : Books) (n : NodeId) (who : ℕ → Bool) (is : Writing) (says : ℕ → Notice) (b' : Books) : Type 0 where
+  pub len : length b'.seats ≡ length b.seats
+  pub txns : (u : ℕ) → txns_of b'.seats u ≡ (if who u then restatus Active (txns_of b.seats u) else txns_of b.seats u)
+  pub lists : IsWritten b.lists n who is b'.lists
+  pub tells : IsTold (txns_of b.seats) who says b.told b'.told
 
--- these waiters are told of their grants, and all others what they were
-pub record WakesTold (txns : ℕ → Option Txn) (n : NodeId) (ws : List Waiter) (told told' : Told) : Type 0 where
-  pub by_slot : IsBySlot told'
-  pub notices : (u : ℕ) → notices_in told' u ≡ (if is_among_waiters u ws then grant_notice txns n ws u else notices_in told u)
-
--- these waiters hold the node, are active and are told; all else is as it was
-pub record Wakes (seats : List (Option Seat)) (ls : List LockList) (told : Told) (n : NodeId) (ps : List NodeId) (ws : List Waiter) (seats' : List (Option Seat)) (ls' : List LockList) (told' : Told) : Type 0 where
-  pub len : length seats' ≡ length seats
-  pub txns : (u : ℕ) → txns_of seats' u ≡ (if is_among_waiters u ws then restatus Active (txns_of seats u) else txns_of seats u)
-  pub lists : WakesLists ls n ps ws ls'
-  pub tells : WakesTold (txns_of seats) n ws told told'
+-- these waiters hold the node, are active and are told
+abbrev pub Wakes : Books → NodeId → List NodeId → List Waiter → Books → Type 0
+Wakes b n ps ws b' = WaitsEnd b n (λ u. is_among_waiters u ws) (as_held b.lists n ps (mode_given ws)) (λ u. notice.Granted n (mode_given ws u)) b'
 
 -- the lists as they were, perhaps with more room
 pub record KeepsLists (ls ls' : List LockList) : Type 0 where
@@ -166,40 +167,6 @@ pub record Strikes (ls ls' : List LockList) (t : ℕ) (n : NodeId) (ps : List No
   pub listed : (u : ℕ) (q : NodeId) → listed_by ls' u q ≡ (if (u == t) && same_node q n then false else listed_by ls u q)
   pub counts : (u : ℕ) (q : NodeId) → counted_by ls' u q + (if u == t then count_by (same_node q) ps else 0) ≡ counted_by ls u q
   pub rooms : (u : ℕ) → (u == t) ≡ false → room_by ls' u ≡ room_by ls u
-
--- What it is to free those who wait for a node that goes.
-
--- these waiters may be freed of a node of which they hold no child
-pub record CanFree (seats : List (Option Seat)) (ls : List LockList) (told : Told) (n : NodeId) (ws : List Waiter) : Type 0 where
-  pub few : length seats ≤ 128
-  pub len : length ls ≡ length seats
-  pub apart : AreApart ls
-  pub by_slot : IsBySlot told
-  pub distinct : is_distinct ws ≡ true
-  pub below : (u : ℕ) → is_among_waiters u ws ≡ true → u < length seats
-  pub childless : (u : ℕ) → is_among_waiters u ws ≡ true → counted_by ls u n ≡ 0
-  pub untold : (u : ℕ) → is_among_waiters u ws ≡ true → notices_in told u ≡ None
-
--- the lists of these waiters have the node no more, and all else is as it was
-pub record FreesLists (ls : List LockList) (n : NodeId) (ws : List Waiter) (ls' : List LockList) : Type 0 where
-  pub len : length ls' ≡ length ls
-  pub apart : AreApart ls'
-  pub modes : (u : ℕ) (q : NodeId) → held_by ls' u q ≡ (if is_among_waiters u ws && same_node q n then NL else held_by ls u q)
-  pub listed : (u : ℕ) (q : NodeId) → listed_by ls' u q ≡ (if is_among_waiters u ws && same_node q n then false else listed_by ls u q)
-  pub counts : (u : ℕ) (q : NodeId) → counted_by ls' u q ≡ counted_by ls u q
-  pub rooms : (u : ℕ) → is_among_waiters u ws ≡ false → room_by ls' u ≡ room_by ls u
-
--- these waiters are told that the node is gone, and all others what they were
-pub record FreesTold (txns : ℕ → Option Txn) (ws : List Waiter) (told told' : Told) : Type 0 where
-  pub by_slot : IsBySlot told'
-  pub notices : (u : ℕ) → notices_in told' u ≡ (if is_among_waiters u ws then Some (record { slot = u; age = age_in (txns u) }, notice.Gone) else notices_in told u)
-
--- these waiters are active, have the node in their lists no more and are told; all else is as it was
-pub record Frees (seats : List (Option Seat)) (ls : List LockList) (told : Told) (n : NodeId) (ws : List Waiter) (seats' : List (Option Seat)) (ls' : List LockList) (told' : Told) : Type 0 where
-  pub len : length seats' ≡ length seats
-  pub txns : (u : ℕ) → txns_of seats' u ≡ (if is_among_waiters u ws then restatus Active (txns_of seats u) else txns_of seats u)
-  pub lists : FreesLists ls n ws ls'
-  pub tells : FreesTold (txns_of seats) ws told told'
 
 -- the list of t while the children of n that its lock covered in s are released: they are marked, and all else is as it is now
 pub record IsShedding (s now : State) (t : ℕ) (n : NodeId) (l : LockList) : Type 0 where

@@ -1,11 +1,11 @@
 -- What a contract sees of a table's fields, and what holds of them always.
 use Rattle.std.specs.Prelude.{◌≡◌, map}
-use Rattle.gl_table.specs.declared.answers.Detect.TheVariants.{AtBlock}
+use Rattle.gl_model.specs.declared.answers.Detect.TheVariants.{AtBlock}
 use Rattle.gl_table.specs.declared.table.Table.TheInside.{Inside}
-use Rattle.gl_table.specs.model.Lawful.{IsLawful}
+use Rattle.gl_model.specs.Lawful.{IsLawful}
 use Rattle.gl_table.specs.inside.Locks.{AreExact}
-use Rattle.gl_table.specs.model.Table.{TableView, state_of}
-use Rattle.gl_table.specs.model.State.{HasNoCycle}
+use Rattle.gl_table.specs.Table.{TableView, state_of}
+use Rattle.gl_model.specs.State.{HasNoCycle}
 
 -- what a contract sees: of the lists their nodes, and not for how many there is room
 abbrev pub view_of : Inside → TableView

@@ -4,23 +4,23 @@ ghost use Rattle.std.specs.Prelude.{◌≡◌, ◌≢◌, ◌<◌, ◌&&◌, ℕ
 ghost use Rattle.gl_modes.specs.declared.mode.Mode.TheVariants.{NL};
 ghost use Rattle.gl_modes.specs.declared.refusal.Refusal.{Refusal as ARefusal};
 ghost use Rattle.gl_graph.specs.Graph.{is_live, parents_of};
-ghost use Rattle.gl_table.specs.model.Calls.{asked_at, locked_as, enqueued, enters_at, granted, wanted};
+ghost use Rattle.gl_model.specs.Calls.{asked_at, locked_as, enqueued, enters_at, granted, wanted};
 ghost use Rattle.gl_graph.specs.View.{graph_of};
 ghost use Rattle.gl_header.specs.Header.{holds};
 ghost use Rattle.gl_header.specs.Headers.{is_granted_at};
-ghost use Rattle.gl_table.specs.inside.Locks.{AreExact, IsOrderly, KeepsLocks, state_in};
+ghost use Rattle.gl_table.specs.inside.Locks.{AreExact, KeepsLocks, state_in};
+ghost use Rattle.gl_model.specs.Orderly.{IsOrderly};
 ghost use Rattle.gl_table.specs.inside.Slots.{HasRoomAt, KeepsLists, held_by};
 ghost use Rattle.gl_table.specs.inside.Seats.{txns_of};
-ghost use Rattle.gl_table.specs.model.State.{members, status_in, status_of};
-ghost use Rattle.gl_table.specs.declared.txn.Status.TheVariants.{Active};
+ghost use Rattle.gl_model.specs.State.{members, status_in, status_of};
+ghost use Rattle.gl_model.specs.declared.txn.Status.TheVariants.{Active};
 
-use crate::answers::Locked;
 use crate::locks::Locks;
 use crate::seat::Seat;
-use crate::txn::Status;
 use gl_graph::Graph;
 use gl_header::Asked;
 use gl_listed::LockList;
+use gl_model::{Locked, Status};
 use gl_modes::{Mode, NodeId, Refusal, sup};
 
 /// Makes room in the list of a slot for one node more, and for the counts of its parents.

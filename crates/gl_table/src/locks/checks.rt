@@ -9,12 +9,12 @@ ghost use Rattle.gl_graph.specs.Shapes.{Shape, is_record_shape, kind_in};
 ghost use Rattle.gl_graph.specs.View.{graph_of};
 ghost use Rattle.gl_table.specs.inside.Locks.{AreExact, state_in, state_on};
 ghost use Rattle.gl_table.specs.inside.Slots.{held_by};
-ghost use Rattle.gl_table.specs.model.Calls.{commit_tests, lock_tests};
+ghost use Rattle.gl_model.specs.Calls.{commit_tests, lock_tests};
 
 use crate::locks::Locks;
 use crate::rule::check_rule;
-use crate::txn::{Status, TxnId};
 use gl_graph::{Graph, Kind};
+use gl_model::{Status, TxnId};
 use gl_modes::{Mode, NodeId, Refusal, sup};
 
 impl Locks {

@@ -4,17 +4,17 @@ ghost use Rattle.std.specs.Prelude.{◌≡◌, ◌<◌, ◌==◌, ℕ, None, Som
 ghost use Rattle.gl_modes.specs.declared.mode.Mode.TheVariants.{NL};
 ghost use Rattle.gl_modes.specs.declared.node.NodeId.{NodeId as Node};
 ghost use Rattle.gl_header.specs.Header.{is_among_waiters};
-ghost use Rattle.gl_table.specs.model.Calls.{released};
-ghost use Rattle.gl_table.specs.inside.Locks.{Agrees, AreExact, AreSound, CountsHeld, IsOrderly, state_in};
-ghost use Rattle.gl_table.specs.model.State.{status_of, with_txn, is_wait};
+ghost use Rattle.gl_model.specs.Calls.{released};
+ghost use Rattle.gl_table.specs.inside.Locks.{Agrees, AreExact, AreSound, CountsHeld, state_in};
+ghost use Rattle.gl_model.specs.Orderly.{IsOrderly};
+ghost use Rattle.gl_model.specs.State.{status_of, with_txn, is_wait};
 ghost use Rattle.gl_table.specs.inside.Slots.{CanTell, TellsOthers};
 
-use crate::answers::Told;
 use crate::locks::Locks;
 use crate::seat::Seat;
-use crate::txn::Status;
 use gl_graph::Graph;
 use gl_header::GrantList;
+use gl_model::{Status, Told};
 
 impl Locks {
     /// Takes back the wait of a slot, if it has one, releases all that it holds, and frees it. Each

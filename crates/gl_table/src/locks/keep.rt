@@ -4,17 +4,16 @@ ghost use Rattle.std.specs.Prelude.{◌≡◌, ◌<◌, ◌&&◌, ◌↔◌, ℕ
 ghost use Rattle.gl_graph.specs.Graph.{Graph as AGraph};
 ghost use Rattle.gl_slots.specs.Slots.{has_slot};
 ghost use Rattle.gl_waits.specs.Waits.{IsOnCycleOf};
-ghost use Rattle.gl_table.specs.model.Deadlocks.{IsDeadlock, name_at};
+ghost use Rattle.gl_model.specs.Deadlocks.{IsDeadlock, name_at};
 ghost use Rattle.gl_table.specs.inside.Locks.{AreSound, state_on};
 ghost use Rattle.gl_table.specs.inside.Seats.{txns_of};
-ghost use Rattle.gl_table.specs.model.State.{status_in, status_of, is_wait, waits_for};
-ghost use Rattle.gl_table.specs.declared.txn.Status.TheVariants.{Waiting};
+ghost use Rattle.gl_model.specs.State.{status_in, status_of, is_wait, waits_for};
+ghost use Rattle.gl_model.specs.declared.txn.Status.TheVariants.{Waiting};
 
 use crate::boards::Waits;
-use crate::deadlock::{Deadlock, Stuck};
 use crate::locks::Locks;
 use crate::seat::Seat;
-use crate::txn::{Status, TxnId};
+use gl_model::{Deadlock, Status, Stuck, TxnId};
 use gl_slots::Slots;
 use gl_waits::on_cycle_in;
 

@@ -1,19 +1,23 @@
 //! Releases of single nodes.
 
-ghost use Rattle.std.specs.Prelude.{◌≡◌, ℕ, None, Some, true};
+ghost use Rattle.std.specs.Prelude.{◌≡◌, ◌<◌, ◌==◌, ℕ, None, Some, length, true};
 ghost use Rattle.gl_modes.specs.declared.mode.Mode.TheVariants.{NL};
 ghost use Rattle.gl_header.specs.Header.{holds, is_among_waiters};
-ghost use Rattle.gl_table.specs.model.Calls.{unlocked, held_children};
-ghost use Rattle.gl_table.specs.inside.Locks.{AreExact, IsOrderly, state_in};
-ghost use Rattle.gl_table.specs.model.State.{front_at, members, status_of, with_grant};
-ghost use Rattle.gl_table.specs.inside.Slots.{AreApart, CanStrike, CanTell, Strikes, WakesTold};
-ghost use Rattle.gl_table.specs.declared.txn.Status.TheVariants.{Active};
+ghost use Rattle.gl_model.specs.Calls.{unlocked, held_children};
+ghost use Rattle.gl_table.specs.inside.Locks.{AreExact, state_in};
+ghost use Rattle.gl_model.specs.Orderly.{IsOrderly};
+ghost use Rattle.gl_model.specs.State.{front_at, members, status_of, with_grant};
+ghost use Rattle.gl_table.specs.inside.Slots.{AreApart, AreKept, CanStrike, CanTell, Strikes, WaitsEnd, as_left, books_of, counted_by, room_by};
+ghost use Rattle.gl_model.specs.ToldLists.{WakesTold, notices_in};
+ghost use Rattle.gl_model.specs.declared.txn.Status.TheVariants.{Active};
 
-use crate::answers::Told;
 use crate::locks::Locks;
+use crate::seats::Seats;
+use crate::told::tell;
 use gl_graph::Graph;
 use gl_header::GrantList;
 use gl_listed::LockList;
+use gl_model::{Notice, Status, Told, TxnId};
 use gl_modes::NodeId;
 
 /// Takes a node, of which no child is held, out of the list of a slot; each parent has one held
@@ -26,6 +30,27 @@ pub(crate) fn strike(lists: &mut Vec<LockList>, slot: u8, node: NodeId, parents:
     let list = &mut lists[slot as usize];
     list.leave(node);
     list.count_down(parents);
+}
+
+/// A slot waits no more on a node that it does not hold: it is active, its list has the node no more,
+/// and it is told why.
+pub(crate) fn end_wait(
+    seats: &mut Seats,
+    lists: &mut Vec<LockList>,
+    told: &mut Told,
+    slot: u8,
+    node: NodeId,
+    why: Notice,
+)
+    requires kept { AreKept (books_of seats.old lists.old.items told.old.items) }
+    requires seated { slot < length seats.old.items }
+    requires room { 0 < counted_by lists.old.items slot node → 0 < room_by lists.old.items slot }
+    requires untold { notices_in told.old.items slot ≡ None }
+    ensures { WaitsEnd (books_of seats.old lists.old.items told.old.items) node (λ u. u == slot) as_left (λ u. why) (books_of seats.new lists.new.items told.new.items) }
+{
+    let age = seats.set_status(slot, Status::Active);
+    lists[slot as usize].leave(node);
+    tell(told, TxnId { slot, age }, why);
 }
 
 impl Locks {

@@ -10,26 +10,25 @@ ghost use Rattle.gl_graph.specs.View.{graph_of};
 ghost use Rattle.gl_header.specs.Header.{fits, front, holds, is_among_waiters, without_waiter};
 ghost use Rattle.gl_header.specs.State.{slot_limit};
 ghost use Rattle.gl_waits.specs.Sets.{has_slot};
-ghost use Rattle.gl_table.specs.declared.answers.Notice.TheVariants as notice;
-ghost use Rattle.gl_table.specs.declared.txn.Status.TheVariants.{Active};
-ghost use Rattle.gl_table.specs.model.Calls.{moved_to, stays};
+ghost use Rattle.gl_model.specs.declared.answers.Notice.TheVariants as notice;
+ghost use Rattle.gl_model.specs.Calls.{moved_to, stays};
 ghost use Rattle.gl_header.specs.Headers.{held_of, members_at, queue_of, with_waiters};
-ghost use Rattle.gl_table.specs.model.State.{intends_over, age_in, members, restatus};
+ghost use Rattle.gl_model.specs.State.{intends_over, members};
 ghost use Rattle.indexmap.specs.IndexMap.{spare};
 ghost use Rattle.gl_modes.specs.Modes.{same_mode};
 ghost use Rattle.gl_listed.specs.Lists.{IsApart, count_of, is_listed, mode_of, unlisted};
-ghost use Rattle.gl_table.specs.inside.Locks.{Agrees, AreSound, IsOrderly, state_in};
-ghost use Rattle.gl_table.specs.inside.Seats.{txns_of};
-ghost use Rattle.gl_table.specs.inside.Slots.{AreApart, CanTell, IsBySlot, Strikes, counted_by, notices_in, room_by, unlisted_by};
+ghost use Rattle.gl_table.specs.inside.Locks.{Agrees, AreSound, state_in};
+ghost use Rattle.gl_model.specs.Orderly.{IsOrderly};
+ghost use Rattle.gl_table.specs.inside.Slots.{AreKept, CanTell, WaitsEnd, as_left, books_of, counted_by, room_by, unlisted_by};
+ghost use Rattle.gl_model.specs.ToldLists.{IsTold, notices_in};
 
-use crate::answers::{Notice, Told};
 use crate::locks::Locks;
+use crate::locks::leave::end_wait;
 use crate::rule::check_rule;
-use crate::told::tell;
-use crate::txn::{Status, TxnId};
 use arrayvec::ArrayVec;
 use gl_graph::Graph;
 use gl_listed::LockList;
+use gl_model::{Notice, Told};
 use gl_modes::{Mode, NodeId};
 use gl_waits::set::{take_lowest, with};
 
@@ -75,16 +74,6 @@ fn recount(list: &mut LockList, node: NodeId, old: &[NodeId], new: &[NodeId])
     }
 }
 
-/// Takes a node out of the list of a slot. What is held of its children is still counted.
-fn forget(lists: &mut Vec<LockList>, slot: u8, node: NodeId)
-    requires slot { slot < length lists.old.items }
-    requires room { 0 < counted_by lists.old.items slot node → 0 < room_by lists.old.items slot }
-    requires apart { AreApart lists.old.items }
-    ensures { Strikes lists.old.items lists.new.items slot node [] }
-{
-    lists[slot as usize].leave(node);
-}
-
 impl Locks {
     /// A node has moved. Where the slot that moved it holds it, one held child less is counted of each
     /// old parent, and one more of each new one. Waits on the node that do not meet the rule of the
@@ -116,11 +105,9 @@ impl Locks {
         ensures counts { (u : ℕ) (q : Node) →
             counted_by self.new.lists.items u q + (if (u == slot) && holds (members (state_in graph.now self.old) node) slot then count_by (same_node q) old.now else 0)
             ≡ counted_by self.old.lists.items u q + (if (u == slot) && holds (members (state_in graph.now self.old) node) slot then count_by (same_node q) (parents_of (graph_of graph.now) node) else 0) }
-        ensures by_slot { IsBySlot told.new.items }
-        ensures tells { (u : ℕ) → notices_in told.new.items u ≡
-            (if is_among_waiters u (filter (λ w. not (stays (state_in graph.now self.old) (parents_of (graph_of graph.now) node) w)) ((state_in graph.now self.old).queue node))
-            then Some (record { slot = u; age = age_in ((state_in graph.now self.old).txns u) }, notice.Moved)
-            else None) }
+        ensures tells { IsTold (state_in graph.now self.old).txns
+            (λ u. is_among_waiters u (filter (λ w. not (stays (state_in graph.now self.old) (parents_of (graph_of graph.now) node) w)) ((state_in graph.now self.old).queue node)))
+            (λ u. notice.Moved) [] told.new.items }
     {
         let list = &mut self.lists[slot as usize];
         recount(list, node, old, graph.parents(node));
@@ -140,11 +127,9 @@ impl Locks {
         ensures state { state_in graph.now self.new ≡ moved_to (state_in graph.now self.old) node (parents_of (graph_of graph.now) node) (graph_of graph.now) }
         ensures agree { (u : ℕ) → Agrees (state_in graph.now self.new) self.new.lists.items u }
         ensures counts { (u : ℕ) (q : Node) → counted_by self.new.lists.items u q ≡ counted_by self.old.lists.items u q }
-        ensures by_slot { IsBySlot told.new.items }
-        ensures tells { (u : ℕ) → notices_in told.new.items u ≡
-            (if is_among_waiters u (filter (λ w. not (stays (state_in graph.now self.old) (parents_of (graph_of graph.now) node) w)) ((state_in graph.now self.old).queue node))
-            then Some (record { slot = u; age = age_in ((state_in graph.now self.old).txns u) }, notice.Moved)
-            else notices_in told.old.items u) }
+        ensures tells { IsTold (state_in graph.now self.old).txns
+            (λ u. is_among_waiters u (filter (λ w. not (stays (state_in graph.now self.old) (parents_of (graph_of graph.now) node) w)) ((state_in graph.now self.old).queue node)))
+            (λ u. notice.Moved) told.old.items told.new.items }
     {
         let mut strays = self.strays(graph, node);
         while strays != 0 {
@@ -177,25 +162,24 @@ impl Locks {
     /// Ends a wait of a slot that holds nothing on the node, where nobody at the front of what is left
     /// can be granted. The slot is active, and told that the node moved.
     fn turn_one_away(&mut self, slot: u8, node: NodeId, told: &mut Told)
-        requires sound { AreSound self.old }
+        requires kept { AreKept (books_of self.old.seats self.old.lists.items told.old.items) }
         requires seated { slot < length self.old.seats.items }
         requires waits { is_among_waiters slot (queue_of self.old.headers.entries node) ≡ true }
         requires front_waits { front slot_limit (members_at self.old.headers.entries node) (without_waiter slot (queue_of self.old.headers.entries node)) ≡ [] }
         requires room { 9 ≤ room_by self.old.lists.items slot }
-        requires by_slot { IsBySlot told.old.items }
-        requires absent { notices_in told.old.items slot ≡ None }
-        ensures sound { AreSound self.new }
+        requires untold { notices_in told.old.items slot ≡ None }
         ensures held { held_of self.new.headers.entries ≡ held_of self.old.headers.entries }
         ensures queue { queue_of self.new.headers.entries ≡ with_waiters (queue_of self.old.headers.entries) node (without_waiter slot (queue_of self.old.headers.entries node)) }
-        ensures len { length self.new.seats.items ≡ length self.old.seats.items }
-        ensures txns { (u : ℕ) → txns_of self.new.seats.items u ≡ (if u == slot then restatus Active (txns_of self.old.seats.items slot) else txns_of self.old.seats.items u) }
-        ensures lists { Strikes self.old.lists.items self.new.lists.items slot node [] }
-        ensures by_slot { IsBySlot told.new.items }
-        ensures tells { (u : ℕ) → notices_in told.new.items u ≡ (if u == slot then Some (record { slot = slot; age = age_in (txns_of self.old.seats.items slot) }, notice.Moved) else notices_in told.old.items u) }
+        ensures ends { WaitsEnd (books_of self.old.seats self.old.lists.items told.old.items) node (λ u. u == slot) as_left (λ u. notice.Moved) (books_of self.new.seats self.new.lists.items told.new.items) }
     {
         self.headers.dismiss(slot, node);
-        let age = self.seats.set_status(slot, Status::Active);
-        forget(&mut self.lists, slot, node);
-        tell(told, TxnId { slot, age }, Notice::Moved);
+        end_wait(
+            &mut self.seats,
+            &mut self.lists,
+            told,
+            slot,
+            node,
+            Notice::Moved,
+        );
     }
 }

@@ -8,23 +8,24 @@ ghost use Rattle.gl_graph.specs.Graph.{is_live, shape_of};
 ghost use Rattle.gl_graph.specs.Shapes.{is_record_shape};
 ghost use Rattle.gl_graph.specs.View.{graph_of};
 ghost use Rattle.gl_header.specs.Header.{holds, is_among_waiters};
-ghost use Rattle.gl_table.specs.model.Calls.{deleted};
-ghost use Rattle.gl_table.specs.inside.Slots.{CanFree, CanTell, Frees, FreesTold, HasRoomAt};
-ghost use Rattle.gl_table.specs.inside.Locks.{Agrees, AreExact, AreSound, CountsHeld, IsOrderly, KeepsLocks, state_in, state_on};
+ghost use Rattle.gl_model.specs.Calls.{deleted};
+ghost use Rattle.gl_table.specs.inside.Slots.{CanEnd, CanTell, HasRoomAt, WaitsEnd, as_left, books_of, counted_by};
+ghost use Rattle.gl_model.specs.ToldLists.{IsTold};
+ghost use Rattle.gl_table.specs.inside.Locks.{Agrees, AreExact, AreSound, CountsHeld, KeepsLocks, state_in, state_on};
+ghost use Rattle.gl_model.specs.Orderly.{IsOrderly};
 ghost use Rattle.gl_header.specs.Headers.{IsOneHolder};
-ghost use Rattle.gl_table.specs.model.State.{members, status_of, with_grant};
-ghost use Rattle.gl_table.specs.declared.txn.Status.TheVariants.{Active};
+ghost use Rattle.gl_model.specs.State.{members, status_of, with_grant};
+ghost use Rattle.gl_model.specs.declared.answers.Notice.TheVariants as notice;
+ghost use Rattle.gl_model.specs.declared.txn.Status.TheVariants.{Active};
 
-use crate::answers::{Notice, Told};
 use crate::locks::Locks;
 use crate::locks::ask::make_room;
-use crate::locks::leave::strike;
+use crate::locks::leave::{end_wait, strike};
 use crate::seats::Seats;
-use crate::told::tell;
-use crate::txn::{Status, TxnId};
 use gl_graph::Graph;
 use gl_header::Prepared;
 use gl_listed::LockList;
+use gl_model::{Notice, Told};
 use gl_modes::{Mode, NodeId, Refusal};
 
 /// Those who wait for a node that goes wait no more: they are active, their lists have it no more,
@@ -36,14 +37,13 @@ fn free(
     node: NodeId,
     waiters: &[(u8, Mode)],
 )
-    requires { CanFree seats.old.items lists.old.items told.old.items node waiters.now }
-    ensures { Frees seats.old.items lists.old.items told.old.items node waiters.now seats.new.items lists.new.items told.new.items }
+    requires can { CanEnd (books_of seats.old lists.old.items told.old.items) waiters.now }
+    requires childless { (u : ℕ) → is_among_waiters u waiters.now ≡ true → counted_by lists.old.items u node ≡ 0 }
+    ensures { WaitsEnd (books_of seats.old lists.old.items told.old.items) node (λ u. is_among_waiters u waiters.now) as_left (λ u. notice.Gone) (books_of seats.new lists.new.items told.new.items) }
 {
     for waiter in waiters {
         let (slot, _) = *waiter;
-        let age = seats.set_status(slot, Status::Active);
-        lists[slot as usize].leave(node);
-        tell(told, TxnId { slot, age }, Notice::Gone);
+        end_wait(seats, lists, told, slot, node, Notice::Gone);
     }
 }
 
@@ -62,7 +62,7 @@ impl Locks {
         ensures state { state_on (without_node (graph_of graph.now) rec) self.new ≡ deleted (state_in graph.now self.old) rec }
         ensures agree { (u : ℕ) → Agrees (deleted (state_in graph.now self.old) rec) self.new.lists.items u }
         ensures count { (u : ℕ) → CountsHeld (deleted (state_in graph.now self.old) rec) self.new.lists.items u }
-        ensures tells { FreesTold (state_in graph.now self.old).txns ((state_in graph.now self.old).queue rec) told.old.items told.new.items }
+        ensures tells { IsTold (state_in graph.now self.old).txns (λ u. is_among_waiters u ((state_in graph.now self.old).queue rec)) (λ u. notice.Gone) told.old.items told.new.items }
     {
         graph.law();
         strike(&mut self.lists, slot, rec, graph.parents(rec));

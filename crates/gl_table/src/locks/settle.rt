@@ -3,21 +3,21 @@
 ghost use Rattle.std.specs.Prelude.{◌≡◌, ◌<◌, ◌==◌, [], ℕ, IfNone, IfSome, None, Some, false, length, true};
 ghost use Rattle.gl_graph.specs.Graph.{Graph as AGraph};
 ghost use Rattle.gl_waits.specs.Waits.{IsOnNoCycle};
-ghost use Rattle.gl_table.specs.inside.Locks.{AreExact, AreSound, IsOrderly, state_in, state_on};
-ghost use Rattle.gl_table.specs.model.Calls.{WaitSettles};
-ghost use Rattle.gl_table.specs.model.Deadlocks.{SettlesKeeping, WaitSettlesKeeping};
-ghost use Rattle.gl_table.specs.model.State.{condemned, State, status_of, IsVictim, Settled, is_wait, waits_for};
-ghost use Rattle.gl_table.specs.inside.Slots.{CanTell, IsBySlot, notices_in};
-ghost use Rattle.gl_table.specs.model.Tellings.{told_but, IsOnWay, told_to};
+ghost use Rattle.gl_table.specs.inside.Locks.{AreExact, AreSound, state_in, state_on};
+ghost use Rattle.gl_model.specs.Orderly.{IsOrderly};
+ghost use Rattle.gl_model.specs.Calls.{WaitSettles};
+ghost use Rattle.gl_model.specs.Deadlocks.{SettlesKeeping, WaitSettlesKeeping};
+ghost use Rattle.gl_model.specs.State.{condemned, State, status_of, IsVictim, Settled, is_wait, waits_for};
+ghost use Rattle.gl_table.specs.inside.Slots.{CanTell};
+ghost use Rattle.gl_model.specs.ToldLists.{IsBySlot, notices_in};
+ghost use Rattle.gl_model.specs.Tellings.{told_but, IsOnWay, told_to};
 
-use crate::answers::{Detect, Notice, Told};
 use crate::boards::{Waits, ages};
-use crate::deadlock::Deadlock;
 use crate::locks::Locks;
 use crate::seat::Seat;
 use crate::told::tell;
-use crate::txn::{Status, TxnId};
 use gl_graph::Graph;
+use gl_model::{Deadlock, Detect, Notice, Status, Told, TxnId};
 use gl_waits::{Victims, victim_for};
 
 impl Locks {

@@ -2,19 +2,20 @@
 
 ghost use Rattle.std.specs.Prelude.{◌≡◌, ◌==◌, ℕ, None, Some, false, true};
 ghost use Rattle.gl_modes.specs.declared.node.NodeId.{NodeId as Node};
-ghost use Rattle.gl_table.specs.model.Calls.{shed};
+ghost use Rattle.gl_model.specs.Calls.{shed};
 ghost use Rattle.gl_listed.specs.Lists.{mode_of};
 ghost use Rattle.gl_table.specs.inside.Slots.{IsShedding};
-ghost use Rattle.gl_table.specs.inside.Locks.{Agrees, AreExact, AreSound, CountsHeld, IsOrderly, state_in};
-ghost use Rattle.gl_table.specs.model.State.{status_of, is_wait};
+ghost use Rattle.gl_table.specs.inside.Locks.{Agrees, AreExact, AreSound, CountsHeld, state_in};
+ghost use Rattle.gl_model.specs.Orderly.{IsOrderly};
+ghost use Rattle.gl_model.specs.State.{status_of, is_wait};
 ghost use Rattle.gl_table.specs.inside.Slots.{CanTell, TellsOthers};
-ghost use Rattle.gl_table.specs.declared.txn.Status.TheVariants.{Active};
+ghost use Rattle.gl_model.specs.declared.txn.Status.TheVariants.{Active};
 
-use crate::answers::Told;
 use crate::locks::Locks;
 use gl_graph::Graph;
 use gl_header::GrantList;
 use gl_listed::LockList;
+use gl_model::Told;
 use gl_modes::NodeId;
 
 impl Locks {

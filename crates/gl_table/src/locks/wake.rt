@@ -1,14 +1,13 @@
 //! Waiters that are granted.
 
-ghost use Rattle.std.specs.Prelude.{◌≡◌};
+ghost use Rattle.std.specs.Prelude.{◌≡◌, ◌==◌, ℕ, true};
 ghost use Rattle.gl_header.specs.Header.{is_among_waiters};
-ghost use Rattle.gl_table.specs.inside.Slots.{AreApart, CanHold, CanWake, Holds, Wakes};
+ghost use Rattle.gl_table.specs.inside.Slots.{AreApart, CanEnd, CanHold, IsWritten, Wakes, as_held, books_of};
 
-use crate::answers::{Notice, Told};
 use crate::seats::Seats;
 use crate::told::tell;
-use crate::txn::{Status, TxnId};
 use gl_listed::LockList;
+use gl_model::{Notice, Status, Told, TxnId};
 use gl_modes::{Mode, NodeId};
 
 /// A slot, whose list has the node, holds it in this mode. Where it did not hold it before, each
@@ -22,7 +21,7 @@ pub(crate) fn hold(
 )
     requires can { CanHold lists.old.items slot node parents.now }
     requires apart { AreApart lists.old.items }
-    ensures { Holds lists.old.items lists.new.items slot node mode parents.now }
+    ensures { IsWritten lists.old.items node (λ u. u == slot) (as_held lists.old.items node parents.now (λ u. mode)) lists.new.items }
 {
     let list = &mut lists[slot as usize];
     let is_new = !list.holds(node);
@@ -43,8 +42,9 @@ pub(crate) fn wake(
     parents: &[NodeId],
     granted: &[(u8, Mode)],
 )
-    requires { CanWake seats.old.items lists.old.items told.old.items node parents.now granted.now }
-    ensures { Wakes seats.old.items lists.old.items told.old.items node parents.now granted.now seats.new.items lists.new.items told.new.items }
+    requires can { CanEnd (books_of seats.old lists.old.items told.old.items) granted.now }
+    requires hold { (u : ℕ) → is_among_waiters u granted.now ≡ true → CanHold lists.old.items u node parents.now }
+    ensures { Wakes (books_of seats.old lists.old.items told.old.items) node parents.now granted.now (books_of seats.new lists.new.items told.new.items) }
 {
     for waiter in granted {
         let (slot, mode) = *waiter;

@@ -3,15 +3,16 @@
 ghost use Rattle.std.specs.Prelude.{◌≡◌, ◌==◌, ℕ, None, Some, false, true};
 ghost use Rattle.gl_modes.specs.declared.mode.Mode.{Mode as AMode};
 ghost use Rattle.gl_modes.specs.declared.node.NodeId.{NodeId as Node};
-ghost use Rattle.gl_table.specs.inside.Locks.{AreExact, IsOrderly, state_in};
-ghost use Rattle.gl_table.specs.model.State.{front_at, is_waiting_at, pumped, without_wait, status_of, is_wait};
-ghost use Rattle.gl_table.specs.inside.Slots.{CanTell, WakesTold};
-ghost use Rattle.gl_table.specs.declared.txn.Status.TheVariants.{Waiting};
+ghost use Rattle.gl_table.specs.inside.Locks.{AreExact, state_in};
+ghost use Rattle.gl_model.specs.Orderly.{IsOrderly};
+ghost use Rattle.gl_model.specs.State.{front_at, is_waiting_at, pumped, without_wait, status_of, is_wait};
+ghost use Rattle.gl_table.specs.inside.Slots.{CanTell};
+ghost use Rattle.gl_model.specs.ToldLists.{WakesTold};
+ghost use Rattle.gl_model.specs.declared.txn.Status.TheVariants.{Waiting};
 
-use crate::answers::Told;
 use crate::locks::Locks;
-use crate::txn::Status;
 use gl_graph::Graph;
+use gl_model::{Status, Told};
 use gl_modes::NodeId;
 
 impl Locks {

@@ -2,27 +2,26 @@
 
 ghost use Rattle.std.specs.Prelude.{◌≡◌, [], IfOk, OnErr, OnOk, ◌&&◌, IfErr, IsOk, None, not, true, Some, ◌⊎◌, ◌-◌};
 ghost use Rattle.gl_graph.specs.Refusals.{first_refusal, Refuses, first_cycle};
-ghost use Rattle.gl_table.specs.model.Calls.{RefusesOnly, released, unlocked, commit_tests, living_tests, unlock_tests, locked_as, Locks};
-ghost use Rattle.gl_table.specs.model.Calls.{enters_at, granted, lock_tests, cancelled, cancel_tests, deleted, moved_to, need_exclusive};
-ghost use Rattle.gl_table.specs.model.Calls.{need_new_parents, some_given, shed, covered_children, held_children};
-ghost use Rattle.gl_table.specs.model.Table.{state_of};
-ghost use Rattle.gl_table.specs.model.Tellings.{told, told_but};
+ghost use Rattle.gl_model.specs.Calls.{RefusesOnly, released, unlocked, commit_tests, living_tests, unlock_tests, locked_as, Locks};
+ghost use Rattle.gl_model.specs.Calls.{enters_at, granted, lock_tests, cancelled, cancel_tests, deleted, moved_to, need_exclusive};
+ghost use Rattle.gl_model.specs.Calls.{need_new_parents, some_given, shed, covered_children, held_children};
+ghost use Rattle.gl_table.specs.Table.{state_of};
+ghost use Rattle.gl_model.specs.Tellings.{told, told_but};
 ghost use Rattle.gl_modes.specs.declared.mode.Mode.TheVariants.{S, X};
 ghost use Rattle.gl_modes.specs.Modes.{same_mode, is_at_least};
 ghost use Rattle.gl_graph.specs.Graph.{shape_of, first_parent, parents_of};
 ghost use Rattle.gl_graph.specs.Shapes.{is_record_shape, is_index_of_shape, is_movable_shape, least_parents};
 ghost use Rattle.gl_header.specs.Header.{holds};
-ghost use Rattle.gl_table.specs.model.Deadlocks.{LocksKeeping, SettlesKeeping};
-ghost use Rattle.gl_table.specs.model.State.{members, status_of, Settled, waits_for, lives};
+ghost use Rattle.gl_model.specs.Deadlocks.{LocksKeeping, SettlesKeeping};
+ghost use Rattle.gl_model.specs.State.{members, status_of, Settled, waits_for, lives};
 ghost use Rattle.gl_waits.specs.Waits.{IsOnNoCycle};
 ghost use Rattle.gl_modes.specs.declared.refusal.Refusal.{Refusal as ARefusal};
 ghost use Rattle.gl_graph.specs.Changes.{rekeyed, rekeyed_parents, with_parents};
-ghost use Rattle.gl_table.specs.declared.txn.Status.TheVariants.{Active};
+ghost use Rattle.gl_model.specs.declared.txn.Status.TheVariants.{Active};
 ghost use Rattle.gl_graph.specs.Lawful.{AreInnerParents};
 
 use super::Table;
-use crate::answers::{Locked, Told};
-use crate::txn::TxnId;
+use gl_model::{Locked, Told, TxnId};
 use gl_modes::{Mode, NodeId, Refusal};
 
 impl Table {

@@ -2,12 +2,12 @@
 
 ghost use Rattle.std.specs.Prelude.{◌≡◌, ◌+◌, IfOk, IsOk, None, OnErr, Some};
 ghost use Rattle.gl_graph.specs.Refusals.{Refuses, first_refusal};
-ghost use Rattle.gl_table.specs.model.Calls.{begun, free_slot, begin_tests};
-ghost use Rattle.gl_table.specs.model.Table.{state_of};
+ghost use Rattle.gl_model.specs.Calls.{begun, free_slot, begin_tests};
+ghost use Rattle.gl_table.specs.Table.{state_of};
 
 use super::Table;
 use crate::seat::Seat;
-use crate::txn::{Status, TxnId};
+use gl_model::{Status, TxnId};
 use gl_modes::Refusal;
 
 impl Table {

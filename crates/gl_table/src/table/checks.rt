@@ -2,11 +2,11 @@
 
 ghost use Rattle.std.specs.Prelude.{◌≡◌, ◌∷◌, []};
 ghost use Rattle.gl_graph.specs.Refusals.{first_refusal, verdict};
-ghost use Rattle.gl_table.specs.model.Calls.{commit_tests, held_child, no_node, no_txn, not_held};
-ghost use Rattle.gl_table.specs.model.Table.{state_of};
+ghost use Rattle.gl_model.specs.Calls.{commit_tests, held_child, no_node, no_txn, not_held};
+ghost use Rattle.gl_table.specs.Table.{state_of};
 
 use super::Table;
-use crate::txn::TxnId;
+use gl_model::TxnId;
 use gl_modes::{NodeId, Refusal};
 
 impl Table {

@@ -5,13 +5,12 @@ ghost use Rattle.std.specs.Prelude.{◌≡◌, ◌||◌, ℕ, IfOk, None, Some, 
 ghost use Rattle.gl_graph.specs.Refusals.{first_refusal};
 ghost use Rattle.gl_header.specs.Header.{holds};
 ghost use Rattle.gl_slots.specs.Slots.{has_slot};
-ghost use Rattle.gl_table.specs.model.Calls.{RefusesOnly, group_tests, living_tests};
-ghost use Rattle.gl_table.specs.model.Table.{AreRowsOf, living_in, rows_of, state_of};
-ghost use Rattle.gl_table.specs.model.State.{is_wait, lives, members, status_of, waits_for};
+ghost use Rattle.gl_model.specs.Calls.{RefusesOnly, group_tests, living_tests};
+ghost use Rattle.gl_table.specs.Table.{AreRowsOf, living_in, rows_of, state_of};
+ghost use Rattle.gl_model.specs.State.{is_wait, lives, members, status_of, waits_for};
 
 use super::Table;
-use crate::answers::LockRow;
-use crate::txn::{Status, TxnId};
+use gl_model::{LockRow, Status, TxnId};
 use gl_modes::{Mode, NodeId, Refusal};
 use gl_slots::Slots;
 

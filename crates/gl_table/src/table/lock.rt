@@ -3,16 +3,15 @@
 ghost use Rattle.std.specs.Prelude.{◌≡◌, [], IfOk, IsOk, None, OnErr, OnOk, true};
 ghost use Rattle.gl_graph.specs.Refusals.{Refuses, first_refusal, verdict};
 ghost use Rattle.gl_header.specs.Header.{holds};
-ghost use Rattle.gl_table.specs.model.Calls.{locked_as, Locks, enters_at, granted, wanted, lock_tests, try_tests};
-ghost use Rattle.gl_table.specs.model.Deadlocks.{LocksKeeping};
-ghost use Rattle.gl_table.specs.model.State.{members, status_of};
-ghost use Rattle.gl_table.specs.model.Table.{state_of};
-ghost use Rattle.gl_table.specs.model.Tellings.{told_but};
+ghost use Rattle.gl_model.specs.Calls.{locked_as, Locks, enters_at, granted, wanted, lock_tests, try_tests};
+ghost use Rattle.gl_model.specs.Deadlocks.{LocksKeeping};
+ghost use Rattle.gl_model.specs.State.{members, status_of};
+ghost use Rattle.gl_table.specs.Table.{state_of};
+ghost use Rattle.gl_model.specs.Tellings.{told_but};
 
 use super::Table;
-use crate::answers::{Locked, Told};
-use crate::txn::TxnId;
 use gl_header::Asked;
+use gl_model::{Locked, Told, TxnId};
 use gl_modes::{Mode, NodeId, Refusal};
 
 impl Table {

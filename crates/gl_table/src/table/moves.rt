@@ -7,16 +7,15 @@ ghost use Rattle.gl_graph.specs.Graph.{first_parent, parents_of, shape_of};
 ghost use Rattle.gl_graph.specs.Lawful.{AreInnerParents};
 ghost use Rattle.gl_graph.specs.Refusals.{first_cycle};
 ghost use Rattle.gl_graph.specs.Shapes.{is_index_of_shape, is_movable_shape, is_record_shape, least_parents};
-ghost use Rattle.gl_table.specs.model.Calls.{moved_to, need_exclusive, need_new_parents, some_given};
-ghost use Rattle.gl_table.specs.model.State.{lives, status_of};
-ghost use Rattle.gl_table.specs.model.Table.{state_of};
-ghost use Rattle.gl_table.specs.model.Tellings.{told};
-ghost use Rattle.gl_table.specs.declared.txn.Status.TheVariants.{Active};
+ghost use Rattle.gl_model.specs.Calls.{moved_to, need_exclusive, need_new_parents, some_given};
+ghost use Rattle.gl_model.specs.State.{lives, status_of};
+ghost use Rattle.gl_table.specs.Table.{state_of};
+ghost use Rattle.gl_model.specs.Tellings.{told};
+ghost use Rattle.gl_model.specs.declared.txn.Status.TheVariants.{Active};
 
 use super::Table;
-use crate::answers::Told;
 use crate::locks::moves::parents_before;
-use crate::txn::TxnId;
+use gl_model::{Told, TxnId};
 use gl_modes::{NodeId, Refusal};
 
 impl Table {

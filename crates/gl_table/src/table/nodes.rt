@@ -4,8 +4,8 @@ ghost use Rattle.std.specs.Prelude.{◌≡◌, IfOk, OnErr, OnOk, false};
 ghost use Rattle.gl_graph.specs.Changes.{IsBorn, IsIndexBorn};
 ghost use Rattle.gl_graph.specs.Refusals.{Refuses, file_refusal, index_refusal, inner_refusal};
 ghost use Rattle.gl_graph.specs.Shapes.{File, Inner};
-ghost use Rattle.gl_table.specs.model.State.{with_graph};
-ghost use Rattle.gl_table.specs.model.Table.{state_of};
+ghost use Rattle.gl_model.specs.State.{with_graph};
+ghost use Rattle.gl_table.specs.Table.{state_of};
 
 use super::Table;
 use gl_modes::{NodeId, Refusal};

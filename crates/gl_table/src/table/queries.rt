@@ -5,16 +5,15 @@ ghost use Rattle.std.specs.List.{list_any};
 ghost use Rattle.gl_graph.specs.Graph.{is_child, nodes};
 ghost use Rattle.gl_graph.specs.Refusals.{Refuses, first_refusal};
 ghost use Rattle.gl_header.specs.Header.{group_of, holds};
-ghost use Rattle.gl_table.specs.model.Calls.{answered, group_tests, held_children, held_tests, is_idle};
-ghost use Rattle.gl_table.specs.model.Table.{board_of, state_of};
-ghost use Rattle.gl_table.specs.model.Lawful.{effective};
-ghost use Rattle.gl_table.specs.model.State.{is_write, lives, members};
+ghost use Rattle.gl_model.specs.Calls.{answered, group_tests, held_children, held_tests, is_idle};
+ghost use Rattle.gl_table.specs.Table.{board_of, state_of};
+ghost use Rattle.gl_model.specs.Lawful.{effective};
+ghost use Rattle.gl_model.specs.State.{is_write, lives, members};
 
 use super::Table;
-use crate::answers::Effect;
 use crate::boards::board;
 use crate::effective::effective;
-use crate::txn::TxnId;
+use gl_model::{Effect, TxnId};
 use gl_modes::{Mode, NodeId, Refusal};
 use gl_waits::Board;
 

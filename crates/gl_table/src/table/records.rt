@@ -8,15 +8,14 @@ ghost use Rattle.gl_graph.specs.Changes.{IsAdopted, IsBorn, without_node};
 ghost use Rattle.gl_graph.specs.Graph.{indexes_of, record_parents, shape_of};
 ghost use Rattle.gl_graph.specs.Refusals.{Refuses, first_refusal, record_refusal, too_many_nodes, worn_births};
 ghost use Rattle.gl_graph.specs.Shapes.{Rec, is_file_shape, is_record_shape};
-ghost use Rattle.gl_table.specs.model.Calls.{deleted, first_not_ix, is_idle};
-ghost use Rattle.gl_table.specs.model.State.{lives, status_of, with_grant, with_graph};
-ghost use Rattle.gl_table.specs.model.Table.{state_of};
-ghost use Rattle.gl_table.specs.model.Tellings.{told};
-ghost use Rattle.gl_table.specs.declared.txn.Status.TheVariants.{Active};
+ghost use Rattle.gl_model.specs.Calls.{deleted, first_not_ix, is_idle};
+ghost use Rattle.gl_model.specs.State.{lives, status_of, with_grant, with_graph};
+ghost use Rattle.gl_table.specs.Table.{state_of};
+ghost use Rattle.gl_model.specs.Tellings.{told};
+ghost use Rattle.gl_model.specs.declared.txn.Status.TheVariants.{Active};
 
 use super::Table;
-use crate::answers::Told;
-use crate::txn::TxnId;
+use gl_model::{Told, TxnId};
 use gl_modes::{NodeId, Refusal};
 
 impl Table {

@@ -2,13 +2,12 @@
 
 ghost use Rattle.std.specs.Prelude.{◌≡◌, [], OnErr, OnOk};
 ghost use Rattle.gl_graph.specs.Refusals.{first_refusal};
-ghost use Rattle.gl_table.specs.model.Calls.{RefusesOnly, released, unlocked, commit_tests, living_tests, unlock_tests};
-ghost use Rattle.gl_table.specs.model.Table.{state_of};
-ghost use Rattle.gl_table.specs.model.Tellings.{told};
+ghost use Rattle.gl_model.specs.Calls.{RefusesOnly, released, unlocked, commit_tests, living_tests, unlock_tests};
+ghost use Rattle.gl_table.specs.Table.{state_of};
+ghost use Rattle.gl_model.specs.Tellings.{told};
 
 use super::Table;
-use crate::answers::Told;
-use crate::txn::TxnId;
+use gl_model::{Told, TxnId};
 use gl_modes::{NodeId, Refusal};
 
 impl Table {

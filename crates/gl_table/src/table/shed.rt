@@ -3,15 +3,14 @@
 ghost use Rattle.std.specs.Prelude.{◌≡◌, ◌-◌, [], Some, true};
 ghost use Rattle.gl_modes.specs.declared.mode.Mode.TheVariants.{S};
 ghost use Rattle.gl_modes.specs.Modes.{is_at_least};
-ghost use Rattle.gl_table.specs.model.Calls.{shed, covered_children, held_children};
-ghost use Rattle.gl_table.specs.model.State.{lives, status_of};
-ghost use Rattle.gl_table.specs.model.Table.{state_of};
-ghost use Rattle.gl_table.specs.model.Tellings.{told};
-ghost use Rattle.gl_table.specs.declared.txn.Status.TheVariants.{Active};
+ghost use Rattle.gl_model.specs.Calls.{shed, covered_children, held_children};
+ghost use Rattle.gl_model.specs.State.{lives, status_of};
+ghost use Rattle.gl_table.specs.Table.{state_of};
+ghost use Rattle.gl_model.specs.Tellings.{told};
+ghost use Rattle.gl_model.specs.declared.txn.Status.TheVariants.{Active};
 
 use super::Table;
-use crate::answers::Told;
-use crate::txn::TxnId;
+use gl_model::{Told, TxnId};
 use gl_modes::NodeId;
 
 impl Table {

@@ -2,16 +2,15 @@
 
 ghost use Rattle.std.specs.Prelude.{◌≡◌, [], IfOk, OnErr, OnOk, true};
 ghost use Rattle.gl_graph.specs.Refusals.{first_refusal};
-ghost use Rattle.gl_table.specs.model.Calls.{RefusesOnly, cancelled, cancel_tests, living_tests};
-ghost use Rattle.gl_table.specs.model.Deadlocks.{SettlesKeeping};
-ghost use Rattle.gl_table.specs.model.State.{is_waiting_at, Settled, waits_for};
-ghost use Rattle.gl_table.specs.model.Table.{state_of};
-ghost use Rattle.gl_table.specs.model.Tellings.{told, told_but};
+ghost use Rattle.gl_model.specs.Calls.{RefusesOnly, cancelled, cancel_tests, living_tests};
+ghost use Rattle.gl_model.specs.Deadlocks.{SettlesKeeping};
+ghost use Rattle.gl_model.specs.State.{is_waiting_at, Settled, waits_for};
+ghost use Rattle.gl_table.specs.Table.{state_of};
+ghost use Rattle.gl_model.specs.Tellings.{told, told_but};
 ghost use Rattle.gl_waits.specs.Waits.{IsOnNoCycle};
 
 use super::Table;
-use crate::answers::Told;
-use crate::txn::{Status, TxnId};
+use gl_model::{Status, Told, TxnId};
 use gl_modes::{NodeId, Refusal};
 
 impl Table {

@@ -1,7 +1,7 @@
 use Rattle.gl_table.proofs.Words.{◌<◌, ◌==◌, ◌||◌, ◌∙◌, ◌≡◌, ap, arith, Bool, get_or, header_or_new, length, NL, refl, shown, subst, sym, waits_for, ℕ}
 use Rattle.std.proofs.lemmas.List.{length-set}
 use Rattle.gl_table.proofs.inside.Boards.{AreRowsShown, reached-row, rows-shown}
-use Rattle.gl_table.proofs.queues.Waiters.{among-next, queue-below}
+use Rattle.gl_model.proofs.queues.Waiters.{among-next, queue-below}
 use Rattle.gl_table.proofs.boards.show_queue.Goals as goal
 use Rattle.gl_table.proofs.boards.show_queue.Goals.{in-Some-wanted_on+then-not-contains, in-Some-wanted_on+else-not-contains, in_default-wanted_on}
 
@@ -29,10 +29,8 @@ loop-slot-preserved c =
         subst (AreRowsShown edge c.args.rows.now) (sym w.rows-is) (rows-shown edge t w.row_behind.result c.args.rows.now c.loop-slot.rows
             (omega (arith, low, so.len, c.told-rows))
             (reached-row c.args.headers.now.entries c.args.seats.now c.args.node h q t i w.in-Some-wanted_on.wanted c.loop-slot.passed.bits w.row_behind.result
-            (0, NL)
-            (ap header_or_new c.in-Some.ensures) c.queue-slot-items.ensures w.in-Some-wanted_on.ensures c.loop-slot-test.true refl so.passed
-            (sym w.contains.ensures ∙ w.if-not-contains.true) w.row_behind.ensures)
-            so.rows),
+            (0, NL) (ap header_or_new c.in-Some.ensures) c.queue-slot-items.ensures w.in-Some-wanted_on.ensures c.loop-slot-test.true refl so.passed
+            (sym w.contains.ensures ∙ w.if-not-contains.true) w.row_behind.ensures) so.rows),
       )
       | in-Some-wanted_on+else-not-contains w ↦ (ap length w.rows-is ∙ so.len, subst (AreRowsShown edge c.args.rows.now) (sym w.rows-is) so.rows)
       | in_default-wanted_on w ↦ (ap length w.rows-is ∙ so.len, subst (AreRowsShown edge c.args.rows.now) (sym w.rows-is) so.rows)

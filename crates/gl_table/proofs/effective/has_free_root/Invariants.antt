@@ -1,6 +1,6 @@
 use Rattle.gl_table.proofs.Words.{◌-◌, ◌^◌, graph_of, mode_of}
-use Rattle.gl_table.proofs.law.Effects.{is_x}
-use Rattle.gl_table.proofs.law.Searches.{is_top, IsSearch}
+use Rattle.gl_model.proofs.law.Effects.{is_x}
+use Rattle.gl_model.proofs.law.Searches.{is_top, IsSearch}
 use Rattle.gl_table.proofs.effective.has_free_root.Given as goal
 
 abbrev pub invariant-loop-node : goal.invariant-loop-node

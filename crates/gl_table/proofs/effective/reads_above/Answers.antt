@@ -1,5 +1,5 @@
 use Rattle.gl_table.proofs.Words.{◌∙◌, ap, graph_of, is_read, lent_at, mode_of, never, node_count, option_copied, refl, sym, with_all}
-use Rattle.gl_table.proofs.law.Searches.{is_read_at, read_from, search_ends, search_meets, search_up, unread}
+use Rattle.gl_model.proofs.law.Searches.{is_read_at, read_from, search_ends, search_meets, search_up, unread}
 use Rattle.gl_table.proofs.effective.reads_above.Goals as goal
 
 pub loop-node-preserved : goal.loop-node-preserved
@@ -7,10 +7,8 @@ loop-node-preserved c =
     let found = c.loop-node.found.keys in
     let lent = lent_at found c.as_slice.result.now c.loop-node.at c.get.result c.as_slice.ensures.keys c.get.ensures.lookup in
     search_up (graph_of c.args.graph.now) never (is_read_at (mode_of c.args.list.now)) c.args.n found c.add_missing.new.found.keys c.loop-node.at
-    c.in-Some.field-0.now
-    (lent ∙ ap option_copied c.in-Some.is) c.loop-node.invariant refl
-    (sym (c.covers.ensures ∙ ap is_read c.mode.ensures) ∙ c.if-covers.false)
-    (c.in_ok-add_missing.ensures ∙ ap (with_all found) c.parents.ensures)
+    c.in-Some.field-0.now (lent ∙ ap option_copied c.in-Some.is) c.loop-node.invariant refl
+    (sym (c.covers.ensures ∙ ap is_read c.mode.ensures) ∙ c.if-covers.false) (c.in_ok-add_missing.ensures ∙ ap (with_all found) c.parents.ensures)
 
 pub returns-then-covers : goal.returns-then-covers
 returns-then-covers c =

@@ -1,5 +1,5 @@
 use Rattle.gl_table.proofs.Words.{◌-◌, ◌^◌, graph_of, mode_of, never}
-use Rattle.gl_table.proofs.law.Searches.{is_read_at, IsSearch}
+use Rattle.gl_model.proofs.law.Searches.{is_read_at, IsSearch}
 use Rattle.gl_table.proofs.effective.reads_above.Given as goal
 
 abbrev pub invariant-loop-node : goal.invariant-loop-node

@@ -1,5 +1,5 @@
 use Rattle.gl_table.proofs.Words.{IsPartitionPoint-from_clause, nat_lt, rules}
-use Rattle.gl_table.proofs.telling.Lists.{place_found, place_parts}
+use Rattle.gl_model.proofs.telling.Lists.{place_found, place_parts}
 use Rattle.gl_table.proofs.told.place_of.Goals as goal
 
 -- where the binary search parts the notices

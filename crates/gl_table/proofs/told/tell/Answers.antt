@@ -1,5 +1,5 @@
 use Rattle.gl_table.proofs.Words.{◌∙◌, ◌≤◌, ap, arith, insert, IsBySlot, length, notices_in, subst, sym, ℕ}
-use Rattle.gl_table.proofs.telling.Lists.{by_slot_inserted, notices_inserted, place, place_within, room_to_tell}
+use Rattle.gl_model.proofs.telling.Lists.{by_slot_inserted, notices_inserted, place, place_within, room_to_tell}
 use Rattle.gl_table.proofs.told.tell.Goals as goal
 
 pub insert-requires : goal.insert-requires

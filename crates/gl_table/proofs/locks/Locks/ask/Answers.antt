@@ -1,13 +1,13 @@
-use Rattle.gl_table.proofs.Words.{Agrees, and-false, ap, ap₂, AreHeaders, arith, Asked, asked_at, clash, count_by, count_of, CountsHeld, enters_at, false}
-use Rattle.gl_table.proofs.Words.{graph_of, held_of, holds, if◌then◌else◌, is_granted_at, members, mode_of, NL, not, not-false, not-true, parents_of, refl}
-use Rattle.gl_table.proofs.Words.{rules, same_mode, same_node, spare, state_in, subst, supremum, sym, true, unlisted, wanted, with_item, ℕ, ◌&&◌, ◌+◌, ◌<◌}
-use Rattle.gl_table.proofs.Words.{◌^◌, ◌∙◌, ◌≡◌, ◌≤◌}
+use Rattle.gl_table.proofs.Words.{◌&&◌, ◌+◌, ◌<◌, ◌^◌, ◌∙◌, ◌≡◌, ◌≤◌, Agrees, and-false, ap, ap₂, AreHeaders, arith, Asked, asked_at, clash, count_by, count_of}
+use Rattle.gl_table.proofs.Words.{CountsHeld, enters_at, false, graph_of, held_of, holds, if◌then◌else◌, is_granted_at, members, mode_of, NL, not, not-false}
+use Rattle.gl_table.proofs.Words.{not-true, parents_of, refl, rules, same_mode, same_node, spare, state_in, subst, supremum, sym, true, unlisted, wanted}
+use Rattle.gl_table.proofs.Words.{with_item, ℕ}
 use Rattle.gl_header.specs.declared.header.Asked.TheVariants as asked
 use Rattle.gl_table.specs.declared.locks.Locks.{Locks}
 use Rattle.gl_table.proofs.inside.Asks.{answer-enters, answer-waits, is_granted, IsGranted, MayAsk, own-apart, own-few, own-listed, own-mode, own-room}
 use Rattle.gl_table.proofs.inside.Asks.{parents-room, roomy_may, roomy_ready, roomy_same, roomy_says, says_is, slot-listed, state-same}
 use Rattle.gl_table.proofs.inside.Enqueues.{has_wait-set, HasWait, is_enqueued, IsEnqueued}
-use Rattle.gl_table.proofs.inside.Living.{its_key}
+use Rattle.gl_table.proofs.inside.Asks.{its_key}
 use Rattle.gl_table.proofs.inside.Slots.{also_held, also_listed, counts-entered, has_node-set, kept-apart, none_more}
 use Rattle.gl_listed.proofs.Children.{nl_is}
 use Rattle.gl_table.proofs.locks.Locks.ask.Goals.{After-make_room_to_ask, After-count_up, After-set_mode, After-set_status, then-not-is_member}
@@ -32,17 +32,14 @@ member_is c =
 -- with the room that was made, all is as it was
 
 may_now : (c : After-make_room_to_ask) → MayAsk (graph_of c.args.graph.now) c.make_room_to_ask.new.self c.args.slot
-may_now c = roomy_may (graph_of c.args.graph.now) c.args.self.now c.make_room_to_ask.new.self c.args.slot (may c) c.make_room_to_ask.ensures.rest
-    c.make_room_to_ask.ensures.kept
+may_now c = roomy_may c.make_room_to_ask.new.self (may c) c.make_room_to_ask.ensures.rest c.make_room_to_ask.ensures.kept
 
 same : (c : After-make_room_to_ask) → state_in c.args.graph.now c.make_room_to_ask.new.self ≡ state_in c.args.graph.now c.args.self.now
-same c = roomy_same (graph_of c.args.graph.now) c.args.self.now c.make_room_to_ask.new.self c.args.slot (may c) c.make_room_to_ask.ensures.rest
-    c.make_room_to_ask.ensures.kept
+same c = roomy_same c.make_room_to_ask.new.self (may c) c.make_room_to_ask.ensures.rest c.make_room_to_ask.ensures.kept
 
 says : (c : After-make_room_to_ask) → is_granted_at c.make_room_to_ask.new.self.headers.entries c.args.slot c.args.node c.args.mode
     ≡ enters_at (state_in c.args.graph.now c.args.self.now) c.args.slot c.args.node c.args.mode
-says c = roomy_says (graph_of c.args.graph.now) c.args.self.now c.make_room_to_ask.new.self c.args.slot (may c) c.make_room_to_ask.ensures.rest
-    c.make_room_to_ask.ensures.kept c.args.node c.args.mode
+says c = roomy_says c.make_room_to_ask.new.self (may c) c.make_room_to_ask.ensures.rest c.make_room_to_ask.ensures.kept c.args.node c.args.mode
 
 member_now : (c : After-make_room_to_ask) → holds (members (state_in c.args.graph.now c.make_room_to_ask.new.self) c.args.node) c.args.slot
     ≡ c.ne-is_member.result
@@ -58,7 +55,7 @@ answer_is c a e = e ∙ ap₂ (λ b w. if b then asked.Granted w else asked.Wait
 -- the node lives, so nobody holds or waits for another of its key
 pub ask-requires-clause-alone : goal.ask-requires-clause-alone
 ask-requires-clause-alone c = let p = (goal.at.ask-requires-clause-alone c).After-make_room_to_ask in
-    its_key (graph_of c.args.graph.now) c.make_room_to_ask.new.self
+    its_key c.make_room_to_ask.new.self
     (subst AreHeaders (sym (ap (λ (x : Locks). x.headers.entries) c.make_room_to_ask.ensures.rest)) c.law-2.ensures.headers) (may_now p).orderly
     c.law.ensures.lawful c.args.node c.requires.live
 
@@ -160,18 +157,16 @@ put_raised : (c : After-set_mode) → MayAsk (graph_of c.args.graph.now) c.args.
     c.args.slot c.args.node c.args.mode c.in-Granted.wanted
 put_raised c m held = let g = graph_of c.args.graph.now in let l = c.make_room_to_ask.new.self in let t = c.args.slot in let n = c.args.node in
     let x = c.index_mut-list.result.now in let x' = c.set_mode.new.self in
-    let now = sym (roomy_says g c.args.self.now l t m c.make_room_to_ask.ensures.rest c.make_room_to_ask.ensures.kept n c.args.mode)
+    let now = sym (roomy_says l m c.make_room_to_ask.ensures.rest c.make_room_to_ask.ensures.kept n c.args.mode)
     ∙ answer-enters _ _ _ _ c.in_ok-asked.ensures.answer c.in-Granted.is in
-    let r = roomy_ready g c.args.self.now l t m c.make_room_to_ask.ensures.rest c.make_room_to_ask.ensures.kept n c.args.mode c.ne-is_member.result true held
+    let r = roomy_ready l m c.make_room_to_ask.ensures.rest c.make_room_to_ask.ensures.kept n c.args.mode c.ne-is_member.result true held
     now c.in_ok-make_room_to_ask.ensures.room in
     let listed = slot-listed g l t r.may in
-    is_granted g c.args.self.now l _ t n c.args.mode c.ne-is_member.result r c.in_ok-asked.asked c.in-Granted.wanted c.law.ensures.lawful c.requires.live
-    c.requires.lock c.in_ok-asked.ensures.answer c.in-Granted.is c.in_ok-asked.ensures.granted
-    refl
+    is_granted _ r c.in_ok-asked.asked c.in-Granted.wanted c.law.ensures.lawful c.requires.live
+    c.requires.lock c.in_ok-asked.ensures.answer c.in-Granted.is c.in_ok-asked.ensures.granted refl
     (has_node-set l.lists.items t x x' listed c.index_mut-list.ensures.value n c.in-Granted.wanted r.may.sound.apart
     (kept-apart l.lists.items t x x' listed c.index_mut-list.ensures.value r.may.sound.apart c.set_mode.ensures.listed c.set_mode.ensures.loose
-    c.set_mode.ensures.keys)
-    c.set_mode.ensures.modes
+    c.set_mode.ensures.keys) c.set_mode.ensures.modes
     (λ q. c.set_mode.ensures.listed q ∙ also_listed x n (own-listed g l t r.may x c.index_mut-list.ensures.value n ∙ r.is_held ∙ c.if-is_member.true) q))
     (counts-entered l.lists.items t x x' listed c.index_mut-list.ensures.value
     (λ q. if same_mode (held_of l.headers.entries t n) NL then count_by (same_node q) (parents_of g n) else 0)
@@ -186,14 +181,13 @@ put_new : (c : After-count_up) → MayAsk (graph_of c.args.graph.now) c.args.sel
     c.args.slot c.args.node c.args.mode c.in-Granted-2.wanted
 put_new c m held = let g = graph_of c.args.graph.now in let l = c.make_room_to_ask.new.self in let t = c.args.slot in let n = c.args.node in
     let x = c.index_mut-list.result.now in let x' = c.count_up.new.self in
-    let now = sym (roomy_says g c.args.self.now l t m c.make_room_to_ask.ensures.rest c.make_room_to_ask.ensures.kept n c.args.mode)
+    let now = sym (roomy_says l m c.make_room_to_ask.ensures.rest c.make_room_to_ask.ensures.kept n c.args.mode)
     ∙ answer-enters _ _ _ _ c.in_ok-asked.ensures.answer c.in-Granted-2.is in
-    let r = roomy_ready g c.args.self.now l t m c.make_room_to_ask.ensures.rest c.make_room_to_ask.ensures.kept n c.args.mode c.ne-is_member.result true held
+    let r = roomy_ready l m c.make_room_to_ask.ensures.rest c.make_room_to_ask.ensures.kept n c.args.mode c.ne-is_member.result true held
     now c.in_ok-make_room_to_ask.ensures.room in
     let listed = slot-listed g l t r.may in
-    is_granted g c.args.self.now l _ t n c.args.mode c.ne-is_member.result r c.in_ok-asked.asked c.in-Granted-2.wanted c.law.ensures.lawful c.requires.live
-    c.requires.lock c.in_ok-asked.ensures.answer c.in-Granted-2.is c.in_ok-asked.ensures.granted
-    refl
+    is_granted _ r c.in_ok-asked.asked c.in-Granted-2.wanted c.law.ensures.lawful c.requires.live
+    c.requires.lock c.in_ok-asked.ensures.answer c.in-Granted-2.is c.in_ok-asked.ensures.granted refl
     (has_node-set l.lists.items t x x' listed c.index_mut-list.ensures.value n c.in-Granted-2.wanted r.may.sound.apart c.count_up.ensures.apart
     (λ q. c.count_up.ensures.modes q ∙ c.enter.ensures.modes q) (λ q. c.count_up.ensures.listed q ∙ c.enter.ensures.listed q))
     (counts-entered l.lists.items t x x' listed c.index_mut-list.ensures.value
@@ -221,8 +215,7 @@ listed c m is blocked = let g = graph_of c.args.graph.now in let l = c.make_room
           w.enter-then-not-is_member.ensures.listed w.enter-then-not-is_member.ensures.counts (let kept = w.enter-then-not-is_member.ensures.room in
           omega arith))
       | else-not-is_member w ↦ subst (λ ls. HasWait l.lists.items ls.items t n held) (sym (ap (λ y. y.lists) w.self-is))
-          (has_wait-set l.lists.items t x x there at n held m.sound.apart (own-apart g l t m x at)
-          (also_held x n held (own-mode g l t m x at n))
+          (has_wait-set l.lists.items t x x there at n held m.sound.apart (own-apart g l t m x at) (also_held x n held (own-mode g l t m x at n))
           (also_listed x n (own-listed g l t m x at n ∙ is ∙ w.if-not-is_member.false)) (λ q. refl) room)
     ]
 
@@ -235,9 +228,8 @@ same_seats c = elim c.if-not-is_member.branch [ then-not-is_member w ↦ ap (λ 
 blocks : (c : After-set_status) → MayAsk (graph_of c.args.graph.now) c.args.self.now c.args.slot
     → enters_at (state_in c.args.graph.now c.args.self.now) c.args.slot c.args.node c.args.mode ≡ false
 blocks c m =
-    sym (roomy_says (graph_of c.args.graph.now) c.args.self.now c.make_room_to_ask.new.self c.args.slot m c.make_room_to_ask.ensures.rest
-    c.make_room_to_ask.ensures.kept c.args.node c.args.mode)
-    ∙ answer-waits _ _ _ c.in_ok-asked.ensures.answer c.in-Waiting.is
+    sym (roomy_says c.make_room_to_ask.new.self m c.make_room_to_ask.ensures.rest
+    c.make_room_to_ask.ensures.kept c.args.node c.args.mode) ∙ answer-waits _ _ _ c.in_ok-asked.ensures.answer c.in-Waiting.is
 
 -- it waits
 put : (c : After-set_status) → MayAsk (graph_of c.args.graph.now) c.args.self.now c.args.slot
@@ -245,14 +237,13 @@ put : (c : After-set_status) → MayAsk (graph_of c.args.graph.now) c.args.self.
     → IsEnqueued (graph_of c.args.graph.now) c.args.self.now (record c.if-not-is_member.self { seats = c.set_status.new.self }) c.args.slot c.args.node
     c.args.mode
 put c m held = let g = graph_of c.args.graph.now in let l = c.make_room_to_ask.new.self in let t = c.args.slot in let n = c.args.node in
-    let r = roomy_ready g c.args.self.now l t m c.make_room_to_ask.ensures.rest c.make_room_to_ask.ensures.kept n c.args.mode c.ne-is_member.result false held
+    let r = roomy_ready l m c.make_room_to_ask.ensures.rest c.make_room_to_ask.ensures.kept n c.args.mode c.ne-is_member.result false held
     (blocks c m) c.in_ok-make_room_to_ask.ensures.room in
     is_enqueued g c.args.self.now l (record c.if-not-is_member.self { seats = c.set_status.new.self }) t n c.args.mode c.sup-wanted.result _ r
     c.ask.new.self.entries c.if-not-is_member.self.seats.items
-    (ap (λ h. h.entries) (same_headers c)) c.in_ok-asked.ensures.waits (ap (λ x. x.items) (same_seats c)) c.set_status.ensures.len
-    c.set_status.ensures.txns
+    (ap (λ h. h.entries) (same_headers c)) c.in_ok-asked.ensures.waits (ap (λ x. x.items) (same_seats c)) c.set_status.ensures.len c.set_status.ensures.txns
     (c.sup-wanted.ensures ∙ ap (λ k. supremum k c.args.mode) (c.requires.held ∙ (m.agree t).modes n
-    ∙ ap (λ s. s.held t n) (sym (roomy_same g c.args.self.now l t m c.make_room_to_ask.ensures.rest c.make_room_to_ask.ensures.kept))))
+    ∙ ap (λ s. s.held t n) (sym (roomy_same l m c.make_room_to_ask.ensures.rest c.make_room_to_ask.ensures.kept))))
     (listed c r.may r.is_held (says_is g c.args.self.now t n c.args.mode m ∙ blocks c m))
 
 pub returns-in-Granted-clause-exact : goal.returns-in-Granted-clause-exact

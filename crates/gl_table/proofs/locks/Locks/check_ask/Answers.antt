@@ -4,7 +4,7 @@ use Rattle.gl_modes.specs.declared.refusal.Refusal.TheVariants as no
 use Rattle.gl_graph.specs.Graph.{node_at, shape_of}
 use Rattle.gl_table.proofs.calls.Calls.{test_passed}
 use Rattle.gl_table.proofs.calls.Locking.{test_refused}
-use Rattle.gl_table.proofs.calls.Tests.{asker_listed, asker_refused, dead_by, live_by, mode_refused, node_refused, rule_decides}
+use Rattle.gl_table.proofs.calls.Calls.{asker_listed, asker_refused, dead_by, live_by, mode_refused, node_refused, rule_decides}
 use Rattle.gl_table.proofs.inside.Slots.{by_list-at}
 use Rattle.gl_table.proofs.locks.Locks.check_ask.Goals.{After-check_rule}
 use Rattle.gl_table.proofs.locks.Locks.check_ask.Goals as goal
@@ -25,8 +25,7 @@ pub returns-then-is_bad_mode-clause-refused : goal.returns-then-is_bad_mode-clau
 returns-then-is_bad_mode-clause-refused c =
     mode_refused (state_in c.args.graph.now c.args.self.now) c.args.t c.args.node c.args.mode
     (test_passed _ c.in_ok-check_active.field-0 (c.in_ok-check_active.ensures (graph_of c.args.graph.now)))
-    (live_by (node_at (graph_of c.args.graph.now) c.args.node) c.in-Some.kind c.in-Some.ensures.kind)
-    (ap (λ b. where_true b no.BadMode)
+    (live_by (node_at (graph_of c.args.graph.now) c.args.node) c.in-Some.kind c.in-Some.ensures.kind) (ap (λ b. where_true b no.BadMode)
     (sym (c.is_bad_mode.ensures (shape_of (graph_of c.args.graph.now) c.args.node) c.in-Some.ensures.kind) ∙ c.if-is_bad_mode.true))
 
 pub index-list-requires : goal.index-list-requires

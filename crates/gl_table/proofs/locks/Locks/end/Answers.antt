@@ -2,7 +2,7 @@ use Rattle.gl_table.proofs.Words.{◌<◌, ◌∙◌, ◌≡◌, ◌≤◌, Agre
 use Rattle.gl_table.proofs.inside.Lists.{IsBare}
 use Rattle.gl_table.proofs.inside.Slots.{apart-set}
 use Rattle.gl_table.proofs.inside.Seats.{agrees-gone, counts-gone, state-freed}
-use Rattle.gl_table.proofs.telling.Ways.{gone_tells}
+use Rattle.gl_model.proofs.telling.Ways.{gone_tells}
 use Rattle.gl_table.proofs.locks.Locks.end.Goals as goal
 
 pub returns-clause-exact : goal.returns-clause-exact

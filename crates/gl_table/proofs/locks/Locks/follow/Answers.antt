@@ -1,5 +1,7 @@
-use Rattle.gl_table.proofs.Words.{◌&&◌, ◌+◌, ◌<◌, ◌==◌, ◌^◌, ◌∙◌, ◌≡◌, ◌≤◌, ap, Bool, count_by, count_of, counted_by, graph_of, if◌then◌else◌, length-set, List}
-use Rattle.gl_table.proofs.Words.{mode_of, NL, NodeId, not, parents_of, same_mode, same_node, State, state_in, subst, sym, unlisted, ℕ}
+use Rattle.gl_table.proofs.Words.{◌&&◌, ◌+◌, ◌<◌, ◌==◌, ◌^◌, ◌∙◌, ◌≡◌, ◌≤◌, ap, Bool, count_by, count_of, counted_by, graph_of, if◌then◌else◌, IsTold}
+use Rattle.gl_table.proofs.Words.{length-set, List, mode_of, NL, NodeId, not, parents_of, same_mode, same_node, State, state_in, stays, subst, sym, unlisted, ℕ}
+use Rattle.gl_model.specs.declared.answers.Notice.TheVariants as notice
+use Rattle.gl_table.proofs.inside.TurnedAway.{is_lost}
 use Rattle.gl_table.proofs.inside.Slots.{agrees_recounted, apart-set, by_list-at, counts_recounted}
 use Rattle.gl_table.proofs.locks.Locks.follow.Goals as goal
 
@@ -15,20 +17,17 @@ counted_here c q = by_list-at (λ l. count_of l q) 0 c.args.self.now.lists.items
     c.index_mut-list.ensures.value
 
 pub recount-requires-clause-counted : goal.recount-requires-clause-counted
-recount-requires-clause-counted c = λ h q.
-    subst (λ (k : ℕ). count_by (same_node q) c.args.old.now ≤ k) (counted_here c q)
+recount-requires-clause-counted c = λ h q. subst (λ (k : ℕ). count_by (same_node q) c.args.old.now ≤ k) (counted_here c q)
     (c.requires.counted (ap (λ m. not (same_mode m NL)) (sym (held_here c)) ∙ h) q)
 
 pub recount-requires-clause-listed : goal.recount-requires-clause-listed
 recount-requires-clause-listed c =
     ap (unlisted c.index_mut-list.result.now) c.parents.ensures
     ∙ sym (by_list-at (λ l. unlisted l (parents_of (graph_of c.args.graph.now) c.args.node)) 0 c.args.self.now.lists.items c.args.slot
-    c.index_mut-list.result.now c.requires.slot c.index_mut-list.ensures.value)
-    ∙ c.requires.listed
+    c.index_mut-list.result.now c.requires.slot c.index_mut-list.ensures.value) ∙ c.requires.listed
 
 pub recount-requires-clause-few : goal.recount-requires-clause-few
-recount-requires-clause-few c = λ q.
-    subst (λ (k : ℕ). k + count_by (same_node q) c.parents.result.now < 2 ^ 32) (counted_here c q)
+recount-requires-clause-few c = λ q. subst (λ (k : ℕ). k + count_by (same_node q) c.parents.result.now < 2 ^ 32) (counted_here c q)
     (subst (λ (ps : List NodeId). counted_by c.args.self.now.lists.items c.args.slot q + count_by (same_node q) ps < 2 ^ 32) (sym c.parents.ensures)
     (c.requires.few q))
 
@@ -42,8 +41,12 @@ turn_away-requires-clause-sound c = record {
 pub turn_away-requires-clause-agree : goal.turn_away-requires-clause-agree
 turn_away-requires-clause-agree c = λ u.
     agrees_recounted c.args.self.now.lists.items c.args.slot c.index_mut-list.result.now c.recount.new.list c.requires.slot c.index_mut-list.ensures.value
-    c.recount.ensures.modes c.recount.ensures.listed c.recount.ensures.room
-    (state_in c.args.graph.now c.args.self.now) u (c.requires.agree u)
+    c.recount.ensures.modes c.recount.ensures.listed c.recount.ensures.room (state_in c.args.graph.now c.args.self.now) u (c.requires.agree u)
+
+pub returns-clause-tells : goal.returns-clause-tells
+returns-clause-tells c = let s : State = state_in c.args.graph.now c.args.self.now in
+    subst (λ list. IsTold s.txns (is_lost s c.args.node (stays s (parents_of (graph_of c.args.graph.now) c.args.node))) (λ u. notice.Moved) list
+    c.turn_away.new.told.items) c.requires.empty c.turn_away.ensures.tells
 
 pub returns-clause-counts : goal.returns-clause-counts
 returns-clause-counts c = λ u q.

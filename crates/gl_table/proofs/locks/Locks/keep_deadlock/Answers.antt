@@ -1,6 +1,6 @@
 use Rattle.gl_table.proofs.Words.{arith, ByWatcher, empty_state, Graph, refl, state_on}
 use Rattle.gl_table.proofs.inside.Boards.{cycle_waits}
-use Rattle.gl_table.proofs.inside.KeptRows.{kept-all, kept-more, kept-none, left-on_cycle}
+use Rattle.gl_model.proofs.law.KeptRows.{kept-all, kept-more, kept-none, left-on_cycle}
 use Rattle.gl_table.proofs.locks.Locks.keep_deadlock.Goals as goal
 
 -- some graph: who waits for whom is the same over each
@@ -8,8 +8,7 @@ some_graph : Graph
 some_graph = (empty_state ByWatcher 0).graph
 
 pub loop-waiter-init : goal.loop-waiter-init
-loop-waiter-init c = λ g.
-    kept-none (state_on g c.args.self.now) c.args.slot c.args.victim c.cycle-cycle.result (c.cycle-cycle.ensures g)
+loop-waiter-init c = λ g. kept-none (state_on g c.args.self.now) c.args.slot c.args.victim c.cycle-cycle.result (c.cycle-cycle.ensures g)
     (record { victim = c.name-deadlock.result; cycle = c.clear.new.self }) (c.name-deadlock.ensures g) c.clear.ensures
 
 pub stuck-stuck-requires-clause-waits : goal.stuck-stuck-requires-clause-waits

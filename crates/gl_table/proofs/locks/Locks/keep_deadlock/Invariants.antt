@@ -1,5 +1,5 @@
 use Rattle.gl_table.proofs.Words.{Graph, number_of, state_on}
-use Rattle.gl_table.proofs.inside.KeptRows.{IsKeptBut}
+use Rattle.gl_model.proofs.law.KeptRows.{IsKeptBut}
 use Rattle.gl_table.proofs.locks.Locks.keep_deadlock.Given as goal
 
 abbrev pub invariant-loop-waiter : goal.invariant-loop-waiter

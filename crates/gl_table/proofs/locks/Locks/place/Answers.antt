@@ -1,7 +1,7 @@
-use Rattle.gl_table.proofs.Words.{ap, ap₂, arith, count_by, count_of, graph_of, held_of, if◌then◌else◌, NL, not, parents_of, refl, same_mode, same_node}
-use Rattle.gl_table.proofs.Words.{spare, State, state_in, subst, supremum, sym, unlisted, with_grant, with_item, X, ℕ, ◌+◌, ◌<◌, ◌^◌, ◌∙◌, ◌≤◌}
+use Rattle.gl_table.proofs.Words.{◌+◌, ◌<◌, ◌^◌, ◌∙◌, ◌≤◌, ap, ap₂, arith, count_by, count_of, graph_of, held_of, if◌then◌else◌, NL, not, parents_of, refl}
+use Rattle.gl_table.proofs.Words.{same_mode, same_node, spare, State, state_in, subst, supremum, sym, unlisted, with_grant, with_item, X, ℕ}
 use Rattle.gl_table.proofs.inside.Asks.{is_placed, IsGranted, MayAsk, own-few, own-listed, own-room, parents-room, slot-listed}
-use Rattle.gl_table.proofs.inside.Living.{free_key}
+use Rattle.gl_table.proofs.inside.Asks.{free_key}
 use Rattle.gl_table.proofs.inside.Slots.{counts-entered, has_node-set}
 use Rattle.gl_table.proofs.locks.Locks.place.Goals.{After-law, After-self-1}
 use Rattle.gl_table.proofs.locks.Locks.place.Goals as goal
@@ -18,8 +18,7 @@ may c = record {
 -- the node is the only one of its key that lives
 pub put-requires-clause-free : goal.put-requires-clause-free
 put-requires-clause-free c =
-    free_key (graph_of c.args.graph.now) c.args.self.now c.law-2.ensures.headers c.requires.orderly c.law.ensures.lawful c.args.node c.requires.live
-    c.requires.unheld c.requires.unawaited
+    free_key c.args.self.now c.law-2.ensures.headers c.requires.orderly c.law.ensures.lawful c.args.node c.requires.live c.requires.unheld c.requires.unawaited
 
 pub enter-requires-clause-new : goal.enter-requires-clause-new
 enter-requires-clause-new c =
@@ -40,22 +39,18 @@ count_up-requires-clause-room c =
     (parents-room (graph_of c.args.graph.now) c.law.ensures.lawful c.args.node c.enter.new.self (omega arith))
 
 pub count_up-requires-clause-few : goal.count_up-requires-clause-few
-count_up-requires-clause-few c = λ q h.
-    subst (λ ps. count_of c.enter.new.self q + count_by (same_node q) ps < 2 ^ 32) (sym c.parents.ensures)
+count_up-requires-clause-few c = λ q h. subst (λ ps. count_of c.enter.new.self q + count_by (same_node q) ps < 2 ^ 32) (sym c.parents.ensures)
     (subst (λ (k : ℕ). k + count_by (same_node q) (parents_of (graph_of c.args.graph.now) c.args.node) < 2 ^ 32) (sym (c.enter.ensures.counts q))
     (own-few (graph_of c.args.graph.now) c.args.self.now c.args.slot (may (goal.at.count_up-requires-clause-few c).After-law) c.index_mut-list.result.now
     c.index_mut-list.ensures.value c.law.ensures.lawful c.args.node q))
 
-placed : (c : After-self-1) → MayAsk (graph_of c.args.graph.now) c.args.self.now c.args.slot
-    → IsGranted (graph_of c.args.graph.now) c.args.self.now
-    (record c.args.self.now { headers = c.put.new.self; lists = with_item c.args.self.now.lists c.args.slot c.count_up.new.self }) c.args.slot c.args.node X
-    X
+placed : (c : After-self-1) → MayAsk (graph_of c.args.graph.now) c.args.self.now c.args.slot → IsGranted (graph_of c.args.graph.now) c.args.self.now
+    (record c.args.self.now { headers = c.put.new.self; lists = with_item c.args.self.now.lists c.args.slot c.count_up.new.self }) c.args.slot c.args.node X X
 placed c m = let g = graph_of c.args.graph.now in let l = c.args.self.now in let t = c.args.slot in let n = c.args.node in
     let x = c.index_mut-list.result.now in let x' = c.count_up.new.self in
     let listed = slot-listed g l t m in
     is_placed g l t n X m c.requires.unheld c.requires.unawaited c.requires.lists_room c.law.ensures.lawful c.requires.live (λ e. cc) c.args.prepared
-    c.requires.header (ap (λ y. supremum y X) (c.requires.unheld t)) _
-    c.put.ensures.held c.put.ensures.queue refl
+    c.requires.header (ap (λ y. supremum y X) (c.requires.unheld t)) _ c.put.ensures.held c.put.ensures.queue refl
     (has_node-set l.lists.items t x x' listed c.index_mut-list.ensures.value n X c.requires.exact.sound.apart c.count_up.ensures.apart
     (λ q. c.count_up.ensures.modes q ∙ c.enter.ensures.modes q) (λ q. c.count_up.ensures.listed q ∙ c.enter.ensures.listed q))
     (counts-entered l.lists.items t x x' listed c.index_mut-list.ensures.value

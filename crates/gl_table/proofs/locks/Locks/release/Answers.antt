@@ -1,6 +1,6 @@
 use Rattle.gl_table.proofs.Words.{◌<◌, ◌∙◌, Agrees, CanStrike, CountsHeld, List, NodeId, State, state_in, Strikes, subst, sym, ℕ}
 use Rattle.gl_table.proofs.inside.Released.{agrees_released, can_strike, counts_released}
-use Rattle.gl_table.proofs.law.Keeps.{txn_there}
+use Rattle.gl_model.proofs.law.Keeps.{txn_there}
 use Rattle.gl_table.proofs.locks.Locks.release.Goals as goal
 
 pub strike-requires-clause-can : goal.strike-requires-clause-can

@@ -1,5 +1,5 @@
 use Rattle.gl_table.proofs.Words.{◌<◌, ap, graph_of, refl, State, state_in, state_on, subst, sym, ℕ}
-use Rattle.gl_table.proofs.inside.KeptRows.{keeping_turn, settles-keeping}
+use Rattle.gl_model.proofs.law.KeptRows.{keeping_turn, settles-keeping}
 use Rattle.gl_table.proofs.inside.Withdrawn.{fewer_wait, how_many_wait}
 use Rattle.gl_table.proofs.locks.Locks.settle.Goals as goal
 

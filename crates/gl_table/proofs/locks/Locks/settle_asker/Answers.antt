@@ -1,7 +1,7 @@
 use Rattle.gl_table.proofs.Words.{◌==◌, ◌∙◌, ◌≡◌, ap, filter, filter-from_retain, not, notices_in, refl, rules, state_in, sym}
-use Rattle.gl_table.proofs.telling.Fronts.{way_here}
-use Rattle.gl_table.proofs.telling.Lists.{told_in_order, told_nothing}
-use Rattle.gl_table.proofs.telling.Ways.{nobody_told}
+use Rattle.gl_model.proofs.telling.Fronts.{way_here}
+use Rattle.gl_model.proofs.telling.Lists.{told_in_order, told_nothing}
+use Rattle.gl_model.proofs.telling.Ways.{nobody_told}
 use Rattle.gl_table.proofs.locks.Locks.settle_asker.Goals as goal
 
 pub returns-then-matches-clause-told : goal.returns-then-matches-clause-told

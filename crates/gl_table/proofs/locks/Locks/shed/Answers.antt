@@ -9,8 +9,7 @@ mark_covered-requires c = record {
       c.args.self.now.lists.items c.replace-list.result (list_there c.args.self.now (graph_of c.args.graph.now) c.requires.exact.sound c.requires.orderly
       c.args.slot
       c.requires.active) (taken_out c.args.self.now.lists.items c.args.slot c.index_mut.result.now c.replace-list.result c.replace-list.ensures.value
-      c.index_mut.ensures.value)
-      (c.requires.exact.agree c.args.slot) (c.requires.exact.count c.args.slot);
+      c.index_mut.ensures.value) (c.requires.exact.agree c.args.slot) (c.requires.exact.count c.args.slot);
 }
 
 pub release_marked-requires-clause-sound : goal.release_marked-requires-clause-sound
@@ -19,19 +18,16 @@ release_marked-requires-clause-sound c = record {
   lists = length-set c.args.self.now.lists.items c.args.slot c.replace-list.new.dest ∙ c.requires.exact.sound.lists;
   apart = apart-set c.args.self.now.lists.items c.args.slot c.replace-list.new.dest
       (list_there c.args.self.now (graph_of c.args.graph.now) c.requires.exact.sound c.requires.orderly c.args.slot c.requires.active)
-      c.requires.exact.sound.apart
-      (subst IsApart (sym c.replace-list.ensures.after) c.new-empty.ensures.apart);
+      c.requires.exact.sound.apart (subst IsApart (sym c.replace-list.ensures.after) c.new-empty.ensures.apart);
 }
 
 pub release_marked-requires-clause-agree : goal.release_marked-requires-clause-agree
-release_marked-requires-clause-agree c = λ u e.
-    agrees-set c.args.self.now.lists.items c.args.slot c.replace-list.new.dest
+release_marked-requires-clause-agree c = λ u e. agrees-set c.args.self.now.lists.items c.args.slot c.replace-list.new.dest
     (list_there c.args.self.now (graph_of c.args.graph.now) c.requires.exact.sound c.requires.orderly c.args.slot c.requires.active) u e
     (state_in c.args.graph.now c.args.self.now) (c.requires.exact.agree u)
 
 pub release_marked-requires-clause-count : goal.release_marked-requires-clause-count
-release_marked-requires-clause-count c = λ u e.
-    counts-set c.args.self.now.lists.items c.args.slot c.replace-list.new.dest
+release_marked-requires-clause-count c = λ u e. counts-set c.args.self.now.lists.items c.args.slot c.replace-list.new.dest
     (list_there c.args.self.now (graph_of c.args.graph.now) c.requires.exact.sound c.requires.orderly c.args.slot c.requires.active) u e
     (state_in c.args.graph.now c.args.self.now) (c.requires.exact.count u)
 
@@ -39,12 +35,10 @@ pub release_marked-requires-clause-marked : goal.release_marked-requires-clause-
 release_marked-requires-clause-marked c =
     shedding_begins (state_in c.args.graph.now c.args.self.now) c.requires.orderly c.args.slot c.requires.active c.law.ensures.lawful
     c.args.self.now.lists.items c.replace-list.result (list_there c.args.self.now (graph_of c.args.graph.now) c.requires.exact.sound c.requires.orderly
-    c.args.slot
-    c.requires.active) (taken_out c.args.self.now.lists.items c.args.slot c.index_mut.result.now c.replace-list.result c.replace-list.ensures.value
+    c.args.slot c.requires.active) (taken_out c.args.self.now.lists.items c.args.slot c.index_mut.result.now c.replace-list.result c.replace-list.ensures.value
     c.index_mut.ensures.value)
     (c.requires.exact.agree c.args.slot) (c.requires.exact.count c.args.slot) c.args.node c.requires.exact.sound.apart c.mark_covered.new.self
-    c.mark_covered.ensures.listed
-    c.mark_covered.ensures.modes c.mark_covered.ensures.counts c.mark_covered.ensures.loose c.mark_covered.ensures.keys
+    c.mark_covered.ensures.listed c.mark_covered.ensures.modes c.mark_covered.ensures.counts c.mark_covered.ensures.loose c.mark_covered.ensures.keys
 
 pub returns-clause-exact : goal.returns-clause-exact
 returns-clause-exact c =

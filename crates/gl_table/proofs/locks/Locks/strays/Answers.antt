@@ -1,8 +1,8 @@
 use Rattle.gl_table.proofs.Words.{◌+◌, ◌<◌, ◌∙◌, ◌≡◌, ap, arith, Bool, graph_of, header_or_new, HeaderState, intends_over, length, List, mode_of, NL, NodeId}
 use Rattle.gl_table.proofs.Words.{not, parents_of, queue_of, refl, slice_index_or, State, state_in, stays, subst, sym, take, Waiter, ℕ}
 use Rattle.gl_table.proofs.inside.TurnedAway.{allowed_stays}
-use Rattle.gl_table.proofs.law.Strays.{among_at, IsSetOf, set-with, set-without}
-use Rattle.gl_table.proofs.telling.Fronts.{waiters_below}
+use Rattle.gl_model.proofs.law.Strays.{among_at, IsSetOf, set-with, set-without}
+use Rattle.gl_model.proofs.telling.Fronts.{waiters_below}
 use Rattle.gl_table.proofs.locks.Locks.strays.Goals.{then-not-is_allowed, else-not-is_allowed}
 use Rattle.gl_table.proofs.locks.Locks.strays.Goals as goal
 
@@ -43,7 +43,6 @@ loop-slot-preserved c =
           (set-with f q i (0, NL) w c.loop-slot-test.true refl c.loop-slot.strays c.loop-slot.invariant b.with-strays.result
           (ap not (sym (b.if-not-is_allowed.ensures ∙ allowed))) b.with-strays.ensures)
       | else-not-is_allowed b ↦
-          subst (IsSetOf f (take (i + 1) q)) (sym b.strays-is)
-          (set-without f q i (0, NL) w c.loop-slot-test.true refl c.loop-slot.strays c.loop-slot.invariant
+          subst (IsSetOf f (take (i + 1) q)) (sym b.strays-is) (set-without f q i (0, NL) w c.loop-slot-test.true refl c.loop-slot.strays c.loop-slot.invariant
           (ap not (sym (b.if-not-is_allowed.ensures ∙ allowed))))
     ]

@@ -1,5 +1,5 @@
 use Rattle.gl_table.proofs.Words.{graph_of, not, parents_of, state_in, stays, take}
-use Rattle.gl_table.proofs.law.Strays.{IsSetOf}
+use Rattle.gl_model.proofs.law.Strays.{IsSetOf}
 use Rattle.gl_table.proofs.locks.Locks.strays.Given as goal
 
 -- the set has those so far whose wait does not meet the rule

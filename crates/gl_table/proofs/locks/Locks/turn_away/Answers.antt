@@ -1,86 +1,79 @@
-use Rattle.gl_table.proofs.Words.{◌∙◌, ap, graph_of, has_slot-zero, parents_of, slot_limit, State, state_in, stays}
+use Rattle.gl_table.proofs.Words.{◌∙◌, ◌≡◌, ap, AreKept, books_of, Bool, false, graph_of, has_slot-zero, parents_of, state_in, stays, Waiter, ℕ}
 use Rattle.gl_waits.specs.Sets.{has_slot}
-use Rattle.gl_table.proofs.inside.TurnedAway.{told_at_end, turned_below, turned_front, turned_room, turned_untold, turned_waits, turning_begins, turning_ends}
-use Rattle.gl_table.proofs.inside.TurnedAway.{turning_one}
+use Rattle.gl_table.proofs.inside.Slots.{none_if}
+use Rattle.gl_table.proofs.inside.TurnedAway.{turned_agrees, turned_below, turned_front, turned_over, turned_room, turned_untold, turned_waits, turning_begins}
+use Rattle.gl_table.proofs.inside.TurnedAway.{turning_ends, turning_one}
+use Rattle.gl_table.proofs.inside.Woken.{kept_still}
+use Rattle.gl_table.proofs.locks.Locks.turn_away.Goals.{After-strays-strays}
 use Rattle.gl_table.proofs.locks.Locks.turn_away.Goals as goal
 
+kept : (c : After-strays-strays) → AreKept (books_of c.args.self.now.seats c.args.self.now.lists.items c.args.told.now.items)
+kept c = record { few = c.requires.sound.few; len = c.requires.sound.lists; apart = c.requires.sound.apart; by_slot = c.requires.tell.by_slot }
+
+abbrev allowed : After-strays-strays → Waiter → Bool
+allowed c = stays (state_in c.args.graph.now c.args.self.now) (parents_of (graph_of c.args.graph.now) c.args.node)
+
 pub loop-strays-init : goal.loop-strays-init
-loop-strays-init c =
-    let s : State = state_in c.args.graph.now c.args.self.now in
-    record {
-      sound = c.requires.sound;
-      turning = turning_begins s c.requires.orderly c.args.node (stays s (parents_of (graph_of c.args.graph.now) c.args.node)) (has_slot c.strays-strays.result)
-          c.args.self.now.lists.items c.args.told.now.items c.requires.agree c.requires.tell.by_slot
-          c.strays-strays.ensures;
-    }
+loop-strays-init c = let p = (goal.at.loop-strays-init c).After-strays-strays in
+    turning_begins (graph_of c.args.graph.now) c.args.self.now c.requires.orderly c.args.node (allowed p) c.args.told.now.items (kept p) _
+    c.strays-strays.ensures
+
+pub turn_one_away-requires-clause-kept : goal.turn_one_away-requires-clause-kept
+turn_one_away-requires-clause-kept c = kept_still c.loop-strays.invariant.over (kept (goal.at.turn_one_away-requires-clause-kept c).After-strays-strays)
 
 pub turn_one_away-requires-clause-seated : goal.turn_one_away-requires-clause-seated
-turn_one_away-requires-clause-seated c =
-    let s : State = state_in c.args.graph.now c.args.self.now in
-    turned_below s c.requires.orderly c.args.node (stays s (parents_of (graph_of c.args.graph.now) c.args.node)) c.requires.newcomers
-    (state_in c.args.graph.now c.loop-strays.self) (has_slot c.loop-strays.strays)
-    c.args.self.now.lists.items c.loop-strays.self.lists.items c.args.told.now.items c.loop-strays.told.items c.loop-strays.invariant.turning
-    c.take_lowest-slot.result.0 c.take_lowest-slot.ensures.member
+turn_one_away-requires-clause-seated c = let p = (goal.at.turn_one_away-requires-clause-seated c).After-strays-strays in
+    turned_below (graph_of c.args.graph.now) c.args.self.now c.requires.orderly c.args.node (allowed p) c.args.told.now.items (kept p)
+    c.loop-strays.invariant _ c.take_lowest-slot.ensures.member
 
 pub turn_one_away-requires-clause-waits : goal.turn_one_away-requires-clause-waits
-turn_one_away-requires-clause-waits c =
-    let s : State = state_in c.args.graph.now c.args.self.now in
-    turned_waits s c.requires.orderly c.args.node (stays s (parents_of (graph_of c.args.graph.now) c.args.node)) c.requires.newcomers
-    (state_in c.args.graph.now c.loop-strays.self) (has_slot c.loop-strays.strays)
-    c.args.self.now.lists.items c.loop-strays.self.lists.items c.args.told.now.items c.loop-strays.told.items c.loop-strays.invariant.turning
-    c.take_lowest-slot.result.0 c.take_lowest-slot.ensures.member
+turn_one_away-requires-clause-waits c = let p = (goal.at.turn_one_away-requires-clause-waits c).After-strays-strays in
+    turned_waits (graph_of c.args.graph.now) c.args.self.now c.requires.orderly c.args.node (allowed p) c.args.told.now.items (kept p)
+    c.loop-strays.invariant _ c.take_lowest-slot.ensures.member
 
 pub turn_one_away-requires-clause-front_waits : goal.turn_one_away-requires-clause-front_waits
-turn_one_away-requires-clause-front_waits c =
-    let s : State = state_in c.args.graph.now c.args.self.now in
-    turned_front s c.requires.orderly c.args.node (stays s (parents_of (graph_of c.args.graph.now) c.args.node)) c.requires.newcomers
-    (state_in c.args.graph.now c.loop-strays.self) (has_slot c.loop-strays.strays)
-    c.args.self.now.lists.items c.loop-strays.self.lists.items c.args.told.now.items c.loop-strays.told.items c.loop-strays.invariant.turning
-    c.take_lowest-slot.result.0 c.take_lowest-slot.ensures.member slot_limit c.requires.stuck
+turn_one_away-requires-clause-front_waits c = let p = (goal.at.turn_one_away-requires-clause-front_waits c).After-strays-strays in
+    turned_front (graph_of c.args.graph.now) c.args.self.now c.requires.orderly c.args.node (allowed p) c.args.told.now.items (kept p)
+    c.loop-strays.invariant _ c.take_lowest-slot.ensures.member c.requires.stuck
 
 pub turn_one_away-requires-clause-room : goal.turn_one_away-requires-clause-room
-turn_one_away-requires-clause-room c =
-    let s : State = state_in c.args.graph.now c.args.self.now in
-    turned_room s c.requires.orderly c.args.node (stays s (parents_of (graph_of c.args.graph.now) c.args.node)) c.requires.newcomers
-    (state_in c.args.graph.now c.loop-strays.self) (has_slot c.loop-strays.strays)
-    c.args.self.now.lists.items c.loop-strays.self.lists.items c.args.told.now.items c.loop-strays.told.items c.loop-strays.invariant.turning
-    c.take_lowest-slot.result.0 c.take_lowest-slot.ensures.member
+turn_one_away-requires-clause-room c = let p = (goal.at.turn_one_away-requires-clause-room c).After-strays-strays in
+    turned_room (graph_of c.args.graph.now) c.args.self.now c.requires.orderly c.args.node (allowed p) c.args.told.now.items (kept p)
+    c.loop-strays.invariant _ c.take_lowest-slot.ensures.member (c.requires.agree _)
 
-pub turn_one_away-requires-clause-absent : goal.turn_one_away-requires-clause-absent
-turn_one_away-requires-clause-absent c =
-    let s : State = state_in c.args.graph.now c.args.self.now in
-    turned_untold s c.requires.orderly c.args.node (stays s (parents_of (graph_of c.args.graph.now) c.args.node)) c.requires.newcomers
-    (state_in c.args.graph.now c.loop-strays.self) (has_slot c.loop-strays.strays)
-    c.args.self.now.lists.items c.loop-strays.self.lists.items c.args.told.now.items c.loop-strays.told.items c.loop-strays.invariant.turning
-    c.take_lowest-slot.result.0 c.take_lowest-slot.ensures.member c.requires.tell.untold
+pub turn_one_away-requires-clause-untold : goal.turn_one_away-requires-clause-untold
+turn_one_away-requires-clause-untold c = let p = (goal.at.turn_one_away-requires-clause-untold c).After-strays-strays in
+    turned_untold (graph_of c.args.graph.now) c.args.self.now c.requires.orderly c.args.node (allowed p) c.args.told.now.items (kept p)
+    c.loop-strays.invariant _ c.take_lowest-slot.ensures.member c.requires.tell.untold
 
 pub loop-strays-preserved : goal.loop-strays-preserved
-loop-strays-preserved c =
-    let s : State = state_in c.args.graph.now c.args.self.now in
-    let now : State = state_in c.args.graph.now c.loop-strays.self in
-    let ends = c.turn_one_away.ensures in
-    record {
-      sound = ends.sound;
-      turning = turning_one s c.requires.orderly c.args.node (stays s (parents_of (graph_of c.args.graph.now) c.args.node)) c.requires.newcomers now
-          (has_slot c.loop-strays.strays) c.args.self.now.lists.items c.loop-strays.self.lists.items
-          c.args.told.now.items c.loop-strays.told.items c.loop-strays.invariant.turning c.take_lowest-slot.result.0 c.take_lowest-slot.ensures.member
-          (state_in c.args.graph.now c.turn_one_away.new.self)
-          (has_slot c.take_lowest-slot.result.1) c.turn_one_away.new.self.lists.items c.turn_one_away.new.told.items c.take_lowest-slot.ensures.left
-          (λ i. record now { held = ends.held i; queue = ends.queue i; txns = λ u. ends.txns u i; most = ends.len i }) ends.lists ends.by_slot ends.tells;
-    }
+loop-strays-preserved c = let p = (goal.at.loop-strays-preserved c).After-strays-strays in
+    turning_one (graph_of c.args.graph.now) c.args.self.now c.requires.orderly c.args.node (allowed p) c.args.told.now.items (kept p)
+    c.loop-strays.invariant _ c.take_lowest-slot.ensures.member _ c.take_lowest-slot.ensures.left
+    c.turn_one_away.ensures.held c.turn_one_away.ensures.queue c.turn_one_away.ensures.ends
+
+-- in the end no stray is left
+none : (set : ℕ) → set ≡ 0 → (u : ℕ) → has_slot set u ≡ false
+none set is u = ap (λ k. has_slot k u) is ∙ has_slot-zero u
+
+pub returns-clause-sound : goal.returns-clause-sound
+returns-clause-sound c = let k = kept_still c.loop-strays.invariant.over (kept (goal.at.returns-clause-sound c).After-strays-strays) in
+    record { few = k.few; lists = k.len; apart = k.apart }
 
 pub returns-clause-state : goal.returns-clause-state
-returns-clause-state c =
-    let s : State = state_in c.args.graph.now c.args.self.now in
-    turning_ends s c.requires.orderly c.args.node (stays s (parents_of (graph_of c.args.graph.now) c.args.node)) c.requires.newcomers
-    (state_in c.args.graph.now c.loop-strays.self) (has_slot c.loop-strays.strays)
-    c.args.self.now.lists.items c.loop-strays.self.lists.items c.args.told.now.items c.loop-strays.told.items c.loop-strays.invariant.turning
-    (λ u. ap (λ set. has_slot set u) c.loop-strays-test.false ∙ has_slot-zero u)
+returns-clause-state c = let p = (goal.at.returns-clause-state c).After-strays-strays in
+    turning_ends (graph_of c.args.graph.now) c.args.self.now c.requires.orderly c.args.node (allowed p) c.args.told.now.items (kept p)
+    c.loop-strays.invariant (none _ c.loop-strays-test.false)
+
+pub returns-clause-agree : goal.returns-clause-agree
+returns-clause-agree c = let p = (goal.at.returns-clause-agree c).After-strays-strays in
+    λ u. turned_agrees (graph_of c.args.graph.now) c.args.self.now c.requires.orderly c.args.node (allowed p) c.args.told.now.items (kept p)
+    c.loop-strays.invariant (none _ c.loop-strays-test.false) c.requires.newcomers u (c.requires.agree u)
+
+pub returns-clause-counts : goal.returns-clause-counts
+returns-clause-counts c = λ u q. c.loop-strays.invariant.over.lists.counts u q ∙ none_if _ _
 
 pub returns-clause-tells : goal.returns-clause-tells
-returns-clause-tells c =
-    let s : State = state_in c.args.graph.now c.args.self.now in
-    told_at_end s c.requires.orderly c.args.node (stays s (parents_of (graph_of c.args.graph.now) c.args.node)) c.requires.newcomers
-    (state_in c.args.graph.now c.loop-strays.self) (has_slot c.loop-strays.strays)
-    c.args.self.now.lists.items c.loop-strays.self.lists.items c.args.told.now.items c.loop-strays.told.items c.loop-strays.invariant.turning
-    (λ u. ap (λ set. has_slot set u) c.loop-strays-test.false ∙ has_slot-zero u)
+returns-clause-tells c = let p = (goal.at.returns-clause-tells c).After-strays-strays in
+    (turned_over (graph_of c.args.graph.now) c.args.self.now c.requires.orderly c.args.node (allowed p) c.args.told.now.items (kept p)
+    c.loop-strays.invariant (none _ c.loop-strays-test.false)).tells

@@ -3,8 +3,8 @@ use Rattle.gl_table.proofs.Words.{mode_of, NL, NodeId, not, not-false, not-true,
 use Rattle.gl_table.proofs.Words.{without_wait, ℕ}
 use Rattle.gl_table.proofs.inside.Slots.{by_list-at}
 use Rattle.gl_table.proofs.inside.Withdrawn.{agrees_withdrawn, counts_withdrawn, room_left, Unlists, unlists_held, unlists_left}
-use Rattle.gl_table.proofs.law.Keeps.{txn_there, waiting_is}
-use Rattle.gl_table.proofs.telling.Fronts.{waits_only}
+use Rattle.gl_model.proofs.law.Keeps.{txn_there, waiting_is}
+use Rattle.gl_model.proofs.telling.Fronts.{waits_only}
 use Rattle.gl_table.proofs.locks.Locks.withdraw.Goals.{After-holds}
 use Rattle.gl_table.proofs.locks.Locks.withdraw.Goals as goal
 
@@ -29,28 +29,24 @@ module _ (c : After-holds) (ls : List LockList) (unlists : Unlists (mid c) ls c.
   agrees : (u : ℕ) → Agrees (state_in c.args.graph.now c.leave_queue.new.self) ls u
   agrees u = subst (λ (x : State). Agrees x ls u) (state_is c)
       (agrees_withdrawn (before c) c.requires.orderly c.law.ensures.lawful c.args.slot c.args.node c.args.status c.requires.quiet c.requires.waits
-      c.args.self.now.lists.items (mid c)
-      c.requires.exact.agree c.requires.exact.count c.leave_queue.ensures.lists ls unlists u)
+      c.args.self.now.lists.items (mid c) c.requires.exact.agree c.requires.exact.count c.leave_queue.ensures.lists ls unlists u)
 
   counts : (u : ℕ) → CountsHeld (state_in c.args.graph.now c.leave_queue.new.self) ls u
   counts u = subst (λ (x : State). CountsHeld x ls u) (state_is c)
       (counts_withdrawn (before c) c.requires.orderly c.law.ensures.lawful c.args.slot c.args.node c.args.status c.requires.quiet c.requires.waits
-      c.args.self.now.lists.items (mid c)
-      c.requires.exact.agree c.requires.exact.count c.leave_queue.ensures.lists ls unlists u)
+      c.args.self.now.lists.items (mid c) c.requires.exact.agree c.requires.exact.count c.leave_queue.ensures.lists ls unlists u)
 
 pub leave-requires-clause-room : goal.leave-requires-clause-room
 leave-requires-clause-room c = let h = (goal.at.leave-requires-clause-room c).After-holds in λ _.
     subst (λ (k : ℕ). 0 < k) (by_list-at (λ l. spare l.loose) 0 (mid h) c.args.slot c.index_mut-list.result.now (slot_there h) c.index_mut-list.ensures.value)
     (room_left (before h) c.requires.orderly c.law.ensures.lawful c.args.slot c.args.node c.args.status c.requires.quiet c.requires.waits
-    c.args.self.now.lists.items (mid h)
-    c.requires.exact.agree c.requires.exact.count c.leave_queue.ensures.lists)
+    c.args.self.now.lists.items (mid h) c.requires.exact.agree c.requires.exact.count c.leave_queue.ensures.lists)
 
 -- the node was taken out of the list, which did not hold it
 left : (c : After-holds) (l' : LockList) → c.holds.result ≡ false → IsApart l'
     → ((q : NodeId) → mode_of l' q ≡ (if same_node q c.args.node then NL else mode_of c.index_mut-list.result.now q))
     → ((q : NodeId) → is_listed l' q ≡ (is_listed c.index_mut-list.result.now q && not (same_node q c.args.node)))
-    → ((q : NodeId) → count_of l' q ≡ count_of c.index_mut-list.result.now q)
-    → Unlists (mid c) (slice_set (mid c) c.args.slot l') c.args.slot c.args.node
+    → ((q : NodeId) → count_of l' q ≡ count_of c.index_mut-list.result.now q) → Unlists (mid c) (slice_set (mid c) c.args.slot l') c.args.slot c.args.node
 left c l' out = unlists_left (mid c) c.args.slot c.args.node c.index_mut-list.result.now (slot_there c) c.index_mut-list.ensures.value
     c.leave_queue.ensures.sound.apart l' (not-false _ (sym c.holds.ensures ∙ out))
 

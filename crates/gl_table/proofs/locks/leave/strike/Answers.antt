@@ -3,8 +3,7 @@ use Rattle.gl_table.proofs.inside.Slots.{by_list-at, struck-written}
 use Rattle.gl_table.proofs.locks.leave.strike.Goals as goal
 
 pub count_down-requires-clause-some : goal.count_down-requires-clause-some
-count_down-requires-clause-some c = λ q.
-    subst (λ (k : ℕ). count_by (same_node q) c.args.parents.now ≤ k)
+count_down-requires-clause-some c = λ q. subst (λ (k : ℕ). count_by (same_node q) c.args.parents.now ≤ k)
     (by_list-at (λ l. count_of l q) 0 c.args.lists.now.items c.args.slot c.index_mut-list.result.now c.requires.can.slot c.index_mut-list.ensures.value
     ∙ sym (c.leave.ensures.counts q)) (c.requires.can.some q)
 

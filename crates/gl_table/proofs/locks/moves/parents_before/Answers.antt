@@ -1,5 +1,5 @@
 use Rattle.gl_table.proofs.Words.{ap, arith, graph_of, length, length-take}
-use Rattle.gl_table.proofs.queues.Counts.{parents_few}
+use Rattle.gl_model.proofs.queues.Counts.{parents_few}
 use Rattle.gl_table.proofs.locks.moves.parents_before.Goals as goal
 
 pub push-requires : goal.push-requires

@@ -1,45 +1,37 @@
-use Rattle.gl_table.proofs.Words.{[], arith, NL}
-use Rattle.gl_table.proofs.inside.Slots.{struck-written}
-use Rattle.gl_table.proofs.inside.Woken.{freed_more, gone_within, may_leave, may_tell_gone, no_children, slot_listed}
+use Rattle.gl_table.proofs.Words.{◌∙◌, ◌≡◌, arith, false, is_among_waiters, NL, refl, slice_index_or, take, true, ℕ}
+use Rattle.gl_table.proofs.inside.Woken.{among_more, count_still, ends_more, ends_none, is_among_all, kept_still, none_before, seat_still, untold_still}
+use Rattle.gl_table.proofs.locks.place.free.Goals.{In-loop-waiter}
 use Rattle.gl_table.proofs.locks.place.free.Goals as goal
 
-pub set_status-age-requires : goal.set_status-age-requires
-set_status-age-requires c =
-    gone_within c.args.seats.now.items c.args.lists.now.items c.args.told.now.items c.args.node c.args.waiters.now c.requires c.loop-waiter.waiter-index (0, NL)
-    c.loop-waiter-test.true
-    c.loop-waiter.seats.items c.loop-waiter.lists.items c.loop-waiter.told.items c.loop-waiter.invariant
+pub loop-waiter-init : goal.loop-waiter-init
+loop-waiter-init c = ends_none _ (λ u. refl) c.requires.can.kept
 
-pub leave-requires-clause-apart : goal.leave-requires-clause-apart
-leave-requires-clause-apart c =
-    may_leave c.args.seats.now.items c.args.lists.now.items c.args.told.now.items c.args.node c.args.waiters.now c.requires c.loop-waiter.waiter-index (0, NL)
-    c.loop-waiter-test.true
-    c.loop-waiter.seats.items c.loop-waiter.lists.items c.loop-waiter.told.items c.loop-waiter.invariant c.index_mut.result.now c.index_mut.ensures.value
+-- the slot of the next waiter, which is none of those before
+abbrev slot : In-loop-waiter → ℕ
+slot c = (slice_index_or c.args.waiters.now c.loop-waiter.waiter-index (0, NL)).0
 
-pub leave-requires-clause-room : goal.leave-requires-clause-room
-leave-requires-clause-room c =
-    let none = no_children c.args.seats.now.items c.args.lists.now.items c.args.told.now.items c.args.node c.args.waiters.now c.requires
-    c.loop-waiter.waiter-index (0, NL) c.loop-waiter-test.true
-    c.loop-waiter.seats.items c.loop-waiter.lists.items c.loop-waiter.told.items c.loop-waiter.invariant c.index_mut.result.now c.index_mut.ensures.value in
-    λ some. absurd (omega arith)
+among : (c : In-loop-waiter) → is_among_waiters (slot c) c.args.waiters.now ≡ true
+among c = is_among_all c.args.waiters.now c.loop-waiter.waiter-index (0, NL) c.loop-waiter-test.true
 
-pub tell-requires-clause-absent : goal.tell-requires-clause-absent
-tell-requires-clause-absent c =
-    may_tell_gone c.args.seats.now.items c.args.lists.now.items c.args.told.now.items c.args.node c.args.waiters.now c.requires c.loop-waiter.waiter-index
-    (0, NL)
-    c.loop-waiter-test.true
-    c.loop-waiter.seats.items c.loop-waiter.lists.items c.loop-waiter.told.items c.loop-waiter.invariant
+fresh : (c : In-loop-waiter) → is_among_waiters (slot c) (take c.loop-waiter.waiter-index c.args.waiters.now) ≡ false
+fresh c = none_before c.args.waiters.now c.loop-waiter.waiter-index (0, NL) c.requires.can.distinct c.loop-waiter-test.true
+
+pub end_wait-requires-clause-kept : goal.end_wait-requires-clause-kept
+end_wait-requires-clause-kept c = kept_still c.loop-waiter.invariant c.requires.can.kept
+
+pub end_wait-requires-clause-seated : goal.end_wait-requires-clause-seated
+end_wait-requires-clause-seated c = let p = (goal.at.end_wait-requires-clause-seated c).In-loop-waiter in
+    seat_still c.loop-waiter.invariant _ (fresh p) (c.requires.can.below _ (among p))
+
+pub end_wait-requires-clause-room : goal.end_wait-requires-clause-room
+end_wait-requires-clause-room c = let p = (goal.at.end_wait-requires-clause-room c).In-loop-waiter in
+    let none = count_still c.loop-waiter.invariant _ (fresh p) c.args.node ∙ c.requires.childless _ (among p) in λ some. absurd (omega arith)
+
+pub end_wait-requires-clause-untold : goal.end_wait-requires-clause-untold
+end_wait-requires-clause-untold c = let p = (goal.at.end_wait-requires-clause-untold c).In-loop-waiter in
+    untold_still c.loop-waiter.invariant _ (fresh p) (c.requires.can.untold _ (among p))
 
 pub loop-waiter-preserved : goal.loop-waiter-preserved
-loop-waiter-preserved c =
-    freed_more c.args.seats.now.items c.args.lists.now.items c.args.told.now.items c.args.node c.args.waiters.now c.requires c.loop-waiter.waiter-index (0, NL)
-    c.loop-waiter-test.true
-    c.loop-waiter.seats.items c.loop-waiter.lists.items c.loop-waiter.told.items c.loop-waiter.invariant c.set_status-age.new.self.items _ c.tell.new.told.items
-    c.set_status-age.result
-    c.set_status-age.ensures.age c.set_status-age.ensures.len c.set_status-age.ensures.txns
-    (struck-written c.loop-waiter.lists.items _ c.index_mut.result.now c.leave.new.self c.args.node []
-    (slot_listed c.args.seats.now.items c.args.lists.now.items c.args.told.now.items c.args.node c.args.waiters.now c.requires c.loop-waiter.waiter-index
-    (0, NL) c.loop-waiter-test.true
-    c.loop-waiter.seats.items c.loop-waiter.lists.items c.loop-waiter.told.items c.loop-waiter.invariant)
-    c.index_mut.ensures.value c.loop-waiter.invariant.lists.apart c.leave.ensures.apart c.leave.ensures.modes c.leave.ensures.listed
-    (λ q. let same = c.leave.ensures.counts q in omega arith))
-    c.tell.ensures.by_slot c.tell.ensures.notices
+loop-waiter-preserved c = let p = (goal.at.loop-waiter-preserved c).In-loop-waiter in
+    ends_more c.loop-waiter.invariant _ (fresh p) c.end_wait.ensures _
+    (λ u. among_more u c.args.waiters.now c.loop-waiter.waiter-index (0, NL) c.loop-waiter-test.true) refl refl (λ q. refl) refl

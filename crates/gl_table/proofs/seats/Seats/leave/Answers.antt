@@ -1,5 +1,5 @@
-use Rattle.gl_table.proofs.Words.{◌<◌, ◌&&◌, ◌==◌, ◌∙◌, ◌≡◌, ap, arith, Bool, common_steps, false, gets, if◌then◌else◌}
-use Rattle.gl_table.proofs.Words.{length, nat_tests, None, not, refl, sym, true}
+use Rattle.gl_table.proofs.Words.{◌&&◌, ◌<◌, ◌==◌, ◌∙◌, ◌≡◌, ap, arith, Bool, common_steps, false, gets, if◌then◌else◌, length, nat_tests, None, not, refl, sym}
+use Rattle.gl_table.proofs.Words.{true}
 use Rattle.gl_table.proofs.inside.Seats.{lives-set, waits-set}
 use Rattle.gl_table.proofs.seats.Seats.leave.Goals as goal
 

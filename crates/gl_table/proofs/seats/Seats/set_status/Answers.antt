@@ -1,5 +1,5 @@
-use Rattle.gl_table.proofs.Words.{◌<◌, ◌==◌, ◌∙◌, ◌≡◌, ap, ap₂, arith, common_steps, elements, gets, if◌then◌else◌, is_wait, length}
-use Rattle.gl_table.proofs.Words.{nat_tests, restatus, SeatList, Some, sym, true, txns_of}
+use Rattle.gl_table.proofs.Words.{◌<◌, ◌==◌, ◌∙◌, ◌≡◌, ap, ap₂, arith, common_steps, elements, gets, if◌then◌else◌, is_wait, length, nat_tests, restatus}
+use Rattle.gl_table.proofs.Words.{SeatList, Some, sym, true, txns_of}
 use Rattle.gl_table.specs.inside.Seats.{lives_at}
 use Rattle.gl_table.proofs.inside.Seats.{lives-kept, txns-set, waits-set}
 use Rattle.gl_table.proofs.seats.Seats.set_status.Goals as goal

@@ -1,5 +1,5 @@
-use Rattle.gl_table.proofs.Words.{◌<◌, ◌==◌, ◌||◌, ◌∙◌, ◌≡◌, ap, arith, Bool, common_steps, false, gets, if◌then◌else◌}
-use Rattle.gl_table.proofs.Words.{is_wait, length, nat_tests, refl, Some, sym, true}
+use Rattle.gl_table.proofs.Words.{◌<◌, ◌==◌, ◌||◌, ◌∙◌, ◌≡◌, ap, arith, Bool, common_steps, false, gets, if◌then◌else◌, is_wait, length, nat_tests, refl, Some}
+use Rattle.gl_table.proofs.Words.{sym, true}
 use Rattle.gl_table.proofs.inside.Seats.{lives-set, waits-set}
 use Rattle.gl_table.proofs.seats.Seats.take.Goals as goal
 

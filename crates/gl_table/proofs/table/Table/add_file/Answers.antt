@@ -1,6 +1,6 @@
 use Rattle.gl_table.proofs.Words.{false, File, file_refusal, graph_of, IsBorn}
 use Rattle.gl_table.proofs.calls.Law.{called-sound}
-use Rattle.gl_table.proofs.law.Records.{file-grows}
+use Rattle.gl_model.proofs.law.Records.{file-grows}
 use Rattle.gl_table.proofs.table.Table.add_file.Goals as goal
 
 pub invariant_of-self : goal.invariant_of-self

@@ -1,6 +1,6 @@
 use Rattle.gl_table.proofs.Words.{graph_of, index_refusal, IsIndexBorn}
 use Rattle.gl_table.proofs.calls.Law.{called-sound}
-use Rattle.gl_table.proofs.law.Records.{index-grows}
+use Rattle.gl_model.proofs.law.Records.{index-grows}
 use Rattle.gl_table.proofs.table.Table.add_index.Goals as goal
 
 pub invariant_of-self : goal.invariant_of-self

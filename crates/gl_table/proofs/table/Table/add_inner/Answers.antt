@@ -1,6 +1,6 @@
 use Rattle.gl_table.proofs.Words.{graph_of, Inner, inner_refusal, IsBorn}
 use Rattle.gl_table.proofs.calls.Law.{called-sound}
-use Rattle.gl_table.proofs.law.Records.{inner-grows}
+use Rattle.gl_model.proofs.law.Records.{inner-grows}
 use Rattle.gl_table.proofs.table.Table.add_inner.Goals as goal
 
 pub invariant_of-self : goal.invariant_of-self

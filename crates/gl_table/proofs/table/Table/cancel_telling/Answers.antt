@@ -18,8 +18,7 @@ invariant_of-self c =
 pub returns-clause-state : goal.returns-clause-state
 returns-clause-state c =
     state_cancelled c.self.inside c.self.invariant c.args.t.slot c.in_ok-node.node (waits (goal.at.returns-clause-state c).After-withdraw) c.withdraw.new.self
-    c.withdraw.ensures.state
-    ∙ ap (λ (v : TableView). cancelled (state_of v) c.args.t.slot) c.self.view_is
+    c.withdraw.ensures.state ∙ ap (λ (v : TableView). cancelled (state_of v) c.args.t.slot) c.self.view_is
 
 pub returns-clause-told : goal.returns-clause-told
 returns-clause-told c =

@@ -17,5 +17,4 @@ returns-clause-state c =
 pub returns-clause-told : goal.returns-clause-told
 returns-clause-told c =
     told_ended c.self.inside c.self.invariant c.args.t.slot c.end.new.self c.end.ensures.state c.args.notices.now.items c.end.new.told.items c.requires.empty
-    c.end.ensures.tells
-    ∙ ap (λ (v : TableView). told (state_of v) (state_of (view_of (record c.self.inside { locks = c.end.new.self })))) c.self.view_is
+    c.end.ensures.tells ∙ ap (λ (v : TableView). told (state_of v) (state_of (view_of (record c.self.inside { locks = c.end.new.self })))) c.self.view_is

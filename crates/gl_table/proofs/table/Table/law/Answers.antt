@@ -1,6 +1,6 @@
 use Rattle.gl_table.proofs.Words.{◌≡◌, AreHeaders, AtBlock, HasNoConflict, HasNoCycle, ListsAgree, StandOnce, state_of, subst, TableView, view_of}
 use Rattle.gl_table.proofs.calls.Law.{lists_agree, stand_once}
-use Rattle.gl_table.proofs.law.Effects.{no_conflict_law}
+use Rattle.gl_model.proofs.law.Effects.{no_conflict_law}
 use Rattle.gl_table.proofs.table.Table.law.Goals as goal
 
 pub returns-clause-headers : goal.returns-clause-headers

@@ -1,14 +1,14 @@
 use Rattle.gl_table.proofs.Words.{◌<◌, ◌∙◌, ◌≡◌, Active, ap, enters_at, false, first_refusal, lock_tests, locked_as, LocksKeeping, None, Option, Refusal}
 use Rattle.gl_table.proofs.Words.{Refuses, rules, state_of, status_of, subst, sym, TableView, told_but, true, view_of, ℕ}
-use Rattle.gl_table.specs.model.Calls.{Locks}
+use Rattle.gl_model.specs.Calls.{Locks}
 use Rattle.gl_table.proofs.calls.Calls.{orderly}
 use Rattle.gl_table.proofs.calls.Locking.{granted_answer, granted_keeps, granted_locks, granted_told, kept_locked, may_lock_by}
 use Rattle.gl_table.proofs.calls.Locking.{sound_granted, sound_kept, sound_locked, state_granted, state_locked, tests-seen, told_locked, unrefused}
 use Rattle.gl_table.proofs.calls.Locking.{waiting_orderly}
 use Rattle.gl_table.proofs.calls.Queries.{modes-seen}
 use Rattle.gl_table.proofs.inside.Asks.{answer-enters, answer-granted, answer-waits}
-use Rattle.gl_table.proofs.law.Keeps.{txn_there}
-use Rattle.gl_table.proofs.law.Lock.{MayLock}
+use Rattle.gl_model.proofs.law.Keeps.{txn_there}
+use Rattle.gl_model.proofs.law.Lock.{MayLock}
 use Rattle.gl_table.proofs.table.Table.lock_from.Goals.{After-ask, In-Granted, In-Waiting}
 use Rattle.gl_table.proofs.table.Table.lock_from.Goals as goal
 
@@ -55,8 +55,7 @@ pub invariant_of-self-in-Granted : goal.invariant_of-self-in-Granted
 invariant_of-self-in-Granted c =
     let at = goal.at.invariant_of-self-in-Granted c in
     sound_granted c.self.inside c.self.invariant c.args.t c.args.n c.args.mode (may at.After-ask) (fits at.In-Granted) c.ask.new.self
-    (c.in_ok-granted.ensures.granted (fits at.In-Granted))
-    c.ask.ensures.exact
+    (c.in_ok-granted.ensures.granted (fits at.In-Granted)) c.ask.ensures.exact
 
 pub returns-in-Granted-clause-answer : goal.returns-in-Granted-clause-answer
 returns-in-Granted-clause-answer c =
@@ -70,8 +69,7 @@ pub returns-in-Granted-clause-told : goal.returns-in-Granted-clause-told
 returns-in-Granted-clause-told c =
     let at = goal.at.returns-in-Granted-clause-told c in let f = fits at.In-Granted in
     let after = state_of (view_of (record c.self.inside { locks = c.ask.new.self })) in
-    c.requires.empty
-    ∙ granted_told (state_of (view_of c.self.inside)) after c.args.t.slot c.args.n c.args.mode c.self.invariant.lawful
+    c.requires.empty ∙ granted_told (state_of (view_of c.self.inside)) after c.args.t.slot c.args.n c.args.mode c.self.invariant.lawful
     (state_granted c.self.inside c.self.invariant c.args.t c.args.n c.args.mode (may at.After-ask) f c.ask.new.self (c.in_ok-granted.ensures.granted f))
     ∙ ap (λ (v : TableView). told_but c.args.t.slot (state_of v) after) c.self.view_is
 
@@ -122,8 +120,7 @@ returns-in-Waiting-clause-told c =
     let at = goal.at.returns-in-Waiting-clause-told c in let b = blocks at.In-Waiting in
     let after = state_of (view_of (record c.self.inside { locks = c.settle_asker.new.self; deadlock = c.settle_asker.new.deadlock })) in
     told_locked c.self.inside c.self.invariant c.args.t c.args.n c.args.mode (may at.After-ask) b c.ask.new.self (c.in_ok-granted.ensures.waits b)
-    c.settle_asker.new.self c.settle_asker.new.deadlock c.settle_asker.ensures.state
-    c.settle_asker.new.told.items c.settle_asker.ensures.told
+    c.settle_asker.new.self c.settle_asker.new.deadlock c.settle_asker.ensures.state c.settle_asker.new.told.items c.settle_asker.ensures.told
     ∙ ap (λ (v : TableView). told_but c.args.t.slot (state_of v) after) c.self.view_is
 
 pub returns-in-Waiting-clause-state : goal.returns-in-Waiting-clause-state

@@ -1,6 +1,6 @@
 use Rattle.gl_table.proofs.Words.{◌≡◌, Err, first_refusal, lock_tests, Refusal, Refuses, rules, state_of, subst, sym}
 use Rattle.std.specs.Prelude.{Result}
-use Rattle.gl_table.specs.declared.answers.Locked.{Locked}
+use Rattle.gl_model.specs.declared.answers.Locked.{Locked}
 use Rattle.gl_table.proofs.calls.Locking.{refuses_err, refuses_ok}
 use Rattle.gl_table.proofs.table.Table.lock_telling.Goals as goal
 

@@ -67,11 +67,9 @@ place-requires-clause-unawaited c = let at = (goal.at.place-requires-clause-unaw
 pub invariant_of-self-2 : goal.invariant_of-self-2
 invariant_of-self-2 c = let at = (goal.at.invariant_of-self-2 c).After-add_record_under in
     sound_placed (roomy at) (sound_then at) c.args.file c.args.keys.now (free at) c.add_record_under.new.self c.in_ok-rec.rec c.in_ok-rec.ensures.made
-    c.args.t.slot c.place.new.self c.place.ensures.state
-    (subst (λ (s : State). status_of s c.args.t.slot ≡ Some Active) (sym (same at)) c.requires.active)
+    c.args.t.slot c.place.new.self c.place.ensures.state (subst (λ (s : State). status_of s c.args.t.slot ≡ Some Active) (sym (same at)) c.requires.active)
     (subst (λ (s : State). first_not_ix (s.held c.args.t.slot) (record_parents s.graph c.args.file c.args.keys.now) ≡ None) (sym (same at))
-    (ap (first_not_ix ((state_of c.args.self.now).held c.args.t.slot)) (sym c.requires.parents) ∙ c.requires.writable))
-    c.place.ensures.exact
+    (ap (first_not_ix ((state_of c.args.self.now).held c.args.t.slot)) (sym c.requires.parents) ∙ c.requires.writable)) c.place.ensures.exact
 
 pub returns-clause-state : goal.returns-clause-state
 returns-clause-state c = let at = (goal.at.returns-clause-state c).After-add_record_under in

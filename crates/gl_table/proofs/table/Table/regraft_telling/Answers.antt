@@ -2,7 +2,7 @@ use Rattle.gl_table.proofs.Words.{◌∙◌, ◌≡◌, ◌≤◌, ap, count_by,
 use Rattle.gl_table.proofs.Words.{state_of, subst, sym, TableView, told, view_of, with_parents, ℕ}
 use Rattle.gl_table.proofs.calls.Moves.{agree_moved, bare_moved, counted_moved, counts_moved, few_moved, listed_moved, move_call, orderly_moved, sound_moved}
 use Rattle.gl_table.proofs.calls.Moves.{state_moved, stuck_moved, told_moved}
-use Rattle.gl_table.proofs.law.Move.{moved_node, Moves}
+use Rattle.gl_model.proofs.law.Move.{moved_node, Moves}
 use Rattle.gl_table.proofs.table.Table.regraft_telling.Goals as goal
 
 abbrev after : goal.After-as_slice → Node → Node
@@ -53,26 +53,22 @@ follow-requires-clause-few c = let m = made c in few_moved c.self.inside c.self.
 counted : (c : goal.After-follow) → (u : ℕ) → CountsHeld (state_in c.set_parents.new.self c.follow.new.self) c.follow.new.self.lists.items u
 counted c = let m = made c.before in
     counts_moved c.self.inside c.self.invariant c.args.t.slot c.args.n m.0 (after c.before m.0) c.set_parents.new.self m.1 c.follow.new.self
-    c.follow.ensures.state
-    c.as_slice.result.now (c.as_slice.ensures.value ∙ c.parents_before-old.ensures) c.follow.ensures.counts
+    c.follow.ensures.state c.as_slice.result.now (c.as_slice.ensures.value ∙ c.parents_before-old.ensures) c.follow.ensures.counts
 
 pub invariant_of-self-2 : goal.invariant_of-self-2
 invariant_of-self-2 c = let m = made c.before in
     sound_moved c.self.inside c.self.invariant c.args.t.slot c.args.n m.0 (after c.before m.0) c.set_parents.new.self m.1 c.follow.new.self
-    c.follow.ensures.state
-    c.follow.ensures.sound c.follow.ensures.agree (counted c)
+    c.follow.ensures.state c.follow.ensures.sound c.follow.ensures.agree (counted c)
 
 pub returns-clause-state : goal.returns-clause-state
 returns-clause-state c = let m = made c.before in
     state_moved c.self.inside c.self.invariant c.args.t.slot c.args.n m.0 (after c.before m.0) c.set_parents.new.self m.1 c.follow.new.self
-    c.follow.ensures.state
-    ∙ ap (λ (v : TableView). moved_to (state_of v) c.args.n c.args.parents.now (graph_of c.set_parents.new.self)) c.self.view_is
+    c.follow.ensures.state ∙ ap (λ (v : TableView). moved_to (state_of v) c.args.n c.args.parents.now (graph_of c.set_parents.new.self)) c.self.view_is
     ∙ ap (moved_to (state_of c.args.self.now) c.args.n c.args.parents.now) (moved_graph c.before)
 
 pub returns-clause-told : goal.returns-clause-told
 returns-clause-told c = let m = made c.before in
     told_moved c.self.inside c.self.invariant c.args.t.slot c.args.n m.0 (after c.before m.0) c.set_parents.new.self m.1 c.follow.new.self
-    c.follow.ensures.state
-    c.follow.new.told.items c.follow.ensures.by_slot c.follow.ensures.tells
+    c.follow.ensures.state c.follow.new.told.items c.follow.ensures.tells.by_slot c.follow.ensures.tells.notices
     ∙ ap (λ (v : TableView). told (state_of v) (state_of (view_of (record c.self.inside { graph = c.set_parents.new.self; locks = c.follow.new.self }))))
     c.self.view_is

@@ -1,5 +1,6 @@
-use Rattle.gl_table.proofs.Words.{◌∙◌, ◌≡◌, ap, deleted, FreesTold, graph_of, is_record_shape, same_mode, shape_of, state_of, subst, sym, TableView, Told, told}
-use Rattle.gl_table.proofs.Words.{true, view_of, X}
+use Rattle.gl_table.proofs.Words.{◌∙◌, ◌≡◌, ap, deleted, graph_of, is_among_waiters, is_record_shape, IsTold, same_mode, shape_of, state_of, subst, sym}
+use Rattle.gl_table.proofs.Words.{TableView, Told, told, true, view_of, X}
+use Rattle.gl_model.specs.declared.answers.Notice.TheVariants as notice
 use Rattle.gl_table.proofs.calls.Calls.{orderly}
 use Rattle.gl_table.proofs.calls.Records.{held_alone, sound_deleted, state_deleted, told_deleted}
 use Rattle.gl_table.proofs.table.Table.remove_telling.Goals as goal
@@ -18,19 +19,18 @@ is_record c = subst (λ (v : TableView). is_record_shape (shape_of (state_of v).
 pub invariant_of-self : goal.invariant_of-self
 invariant_of-self c =
     sound_deleted c.self.inside c.self.invariant c.args.rec (is_record c) c.vacate.new.self c.remove_record.new.self c.remove_record.ensures.removed
-    c.vacate.ensures.state
-    c.vacate.ensures.sound c.vacate.ensures.agree c.vacate.ensures.count
+    c.vacate.ensures.state c.vacate.ensures.sound c.vacate.ensures.agree c.vacate.ensures.count
 
 pub returns-clause-state : goal.returns-clause-state
 returns-clause-state c =
     state_deleted c.self.inside c.self.invariant c.args.rec (is_record c) c.vacate.new.self c.remove_record.new.self c.remove_record.ensures.removed
-    c.vacate.ensures.state
-    ∙ ap (λ (v : TableView). deleted (state_of v) c.args.rec) c.self.view_is
+    c.vacate.ensures.state ∙ ap (λ (v : TableView). deleted (state_of v) c.args.rec) c.self.view_is
 
 pub returns-clause-told : goal.returns-clause-told
 returns-clause-told c =
     let s = state_of (view_of c.self.inside) in
-    let tells = subst (λ (list : Told). FreesTold s.txns (s.queue c.args.rec) list c.vacate.new.told.items) c.requires.empty c.vacate.ensures.tells in
+    let tells = subst (λ (list : Told). IsTold s.txns (λ u. is_among_waiters u (s.queue c.args.rec)) (λ u. notice.Gone) list c.vacate.new.told.items)
+    c.requires.empty c.vacate.ensures.tells in
     told_deleted c.self.inside c.self.invariant c.args.rec (is_record c) c.vacate.new.self c.remove_record.new.self c.remove_record.ensures.removed
     c.vacate.ensures.state c.vacate.new.told.items tells
     ∙ ap (λ (v : TableView). told (state_of v) (state_of (view_of (record c.self.inside { graph = c.remove_record.new.self; locks = c.vacate.new.self }))))

@@ -2,7 +2,7 @@ use Rattle.gl_table.proofs.Words.{◌∙◌, ◌≡◌, ◌≤◌, ap, count_by,
 use Rattle.gl_table.proofs.Words.{same_node, state_in, state_of, subst, sym, TableView, told, view_of, ℕ}
 use Rattle.gl_table.proofs.calls.Moves.{agree_moved, bare_moved, counted_moved, counts_moved, few_moved, listed_moved, orderly_moved, rekey_call, sound_moved}
 use Rattle.gl_table.proofs.calls.Moves.{state_moved, stuck_moved, told_moved}
-use Rattle.gl_table.proofs.law.Move.{Moves, rekeyed_to}
+use Rattle.gl_model.proofs.law.Move.{Moves, rekeyed_to}
 use Rattle.gl_table.proofs.table.Table.reparent_telling.Goals as goal
 
 abbrev after : goal.After-as_slice → Node → Node
@@ -48,8 +48,7 @@ follow-requires-clause-few c = let m = made c in few_moved c.self.inside c.self.
 counted : (c : goal.After-follow) → (u : ℕ) → CountsHeld (state_in c.set_key.new.self c.follow.new.self) c.follow.new.self.lists.items u
 counted c = let m = made c.before in
     counts_moved c.self.inside c.self.invariant c.args.t.slot c.args.rec m.0 (after c.before m.0) c.set_key.new.self m.1 c.follow.new.self
-    c.follow.ensures.state
-    c.as_slice.result.now (c.as_slice.ensures.value ∙ c.parents_before-old.ensures) c.follow.ensures.counts
+    c.follow.ensures.state c.as_slice.result.now (c.as_slice.ensures.value ∙ c.parents_before-old.ensures) c.follow.ensures.counts
 
 pub invariant_of-self : goal.invariant_of-self
 invariant_of-self c = let m = made c.before in
@@ -67,6 +66,6 @@ returns-clause-state c = let m = made c.before in
 pub returns-clause-told : goal.returns-clause-told
 returns-clause-told c = let m = made c.before in
     told_moved c.self.inside c.self.invariant c.args.t.slot c.args.rec m.0 (after c.before m.0) c.set_key.new.self m.1 c.follow.new.self c.follow.ensures.state
-    c.follow.new.told.items c.follow.ensures.by_slot c.follow.ensures.tells
+    c.follow.new.told.items c.follow.ensures.tells.by_slot c.follow.ensures.tells.notices
     ∙ ap (λ (v : TableView). told (state_of v) (state_of (view_of (record c.self.inside { graph = c.set_key.new.self; locks = c.follow.new.self }))))
     c.self.view_is

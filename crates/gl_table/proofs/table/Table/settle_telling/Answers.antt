@@ -1,7 +1,7 @@
 use Rattle.gl_table.proofs.Words.{◌∙◌, ap, IsLawful, Settled, SettlesKeeping, state_of, subst, TableView, told, view_of}
 use Rattle.gl_table.proofs.calls.Calls.{orderly}
 use Rattle.gl_table.proofs.calls.Ends.{kept_settled, sound_settled, state_settled, told_settled}
-use Rattle.gl_table.proofs.telling.Lists.{settled_same, told_settled_same}
+use Rattle.gl_model.proofs.telling.Lists.{settled_same, told_settled_same}
 use Rattle.gl_table.proofs.table.Table.settle_telling.Goals as goal
 
 pub settle-requires-clause-orderly : goal.settle-requires-clause-orderly
@@ -32,8 +32,7 @@ returns-clause-told c =
 
 pub returns-clause-idle : goal.returns-clause-idle
 returns-clause-idle c = λ none. (
-  returns-clause-told c
-      ∙ told_settled_same (state_of c.args.self.now).victims (state_of c.args.self.now)
+  returns-clause-told c ∙ told_settled_same (state_of c.args.self.now).victims (state_of c.args.self.now)
       (state_of (view_of (record c.self.inside { locks = c.settle.new.self; deadlock = c.settle.new.deadlock }))) c.args.t.slot
       (subst (λ (v : TableView). IsLawful (state_of v)) c.self.view_is c.self.invariant.lawful) none (returns-clause-state c),
   settled_same (state_of c.args.self.now).victims (state_of c.args.self.now)

@@ -11,8 +11,7 @@ pub overflow_sub-result : goal.overflow_sub-result
 overflow_sub-result c =
     no_more_kept c.self.inside c.self.invariant c.args.t.slot c.args.n
     (subst (λ (v : TableView). status_of (state_of v) c.args.t.slot ≡ Some Active) (sym c.self.view_is) c.requires.active) c.shed.new.self c.shed.ensures.state
-    c.shed.ensures.exact
-    (subst (λ (v : TableView). is_at_least ((state_of v).held c.args.t.slot c.args.n) S ≡ true) (sym c.self.view_is) c.requires.reads)
+    c.shed.ensures.exact (subst (λ (v : TableView). is_at_least ((state_of v).held c.args.t.slot c.args.n) S ≡ true) (sym c.self.view_is) c.requires.reads)
     c.children.result c.children-2.result c.children.ensures c.children-2.ensures c.unwrap_or-held.result c.unwrap_or-kept.result c.unwrap_or-held.ensures
     c.unwrap_or-kept.ensures
 
@@ -32,18 +31,15 @@ pub returns-clause-released : goal.returns-clause-released
 returns-clause-released c =
     number_released c.self.inside c.self.invariant c.args.t.slot c.args.n
     (subst (λ (v : TableView). status_of (state_of v) c.args.t.slot ≡ Some Active) (sym c.self.view_is) c.requires.active) c.shed.new.self c.shed.ensures.state
-    c.shed.ensures.exact
-    (subst (λ (v : TableView). is_at_least ((state_of v).held c.args.t.slot c.args.n) S ≡ true) (sym c.self.view_is) c.requires.reads)
+    c.shed.ensures.exact (subst (λ (v : TableView). is_at_least ((state_of v).held c.args.t.slot c.args.n) S ≡ true) (sym c.self.view_is) c.requires.reads)
     c.children.result c.children-2.result c.children.ensures c.children-2.ensures c.unwrap_or-held.result c.unwrap_or-kept.result c.unwrap_or-held.ensures
-    c.unwrap_or-kept.ensures
-    ∙ ap (λ (v : TableView). covered_children (state_of v) c.args.t.slot c.args.n) c.self.view_is
+    c.unwrap_or-kept.ensures ∙ ap (λ (v : TableView). covered_children (state_of v) c.args.t.slot c.args.n) c.self.view_is
 
 pub returns-clause-kept : goal.returns-clause-kept
 returns-clause-kept c =
     number_kept c.self.inside c.self.invariant c.args.t.slot c.args.n
     (subst (λ (v : TableView). status_of (state_of v) c.args.t.slot ≡ Some Active) (sym c.self.view_is) c.requires.active) c.shed.new.self c.shed.ensures.state
-    c.shed.ensures.exact
-    (subst (λ (v : TableView). is_at_least ((state_of v).held c.args.t.slot c.args.n) S ≡ true) (sym c.self.view_is) c.requires.reads)
+    c.shed.ensures.exact (subst (λ (v : TableView). is_at_least ((state_of v).held c.args.t.slot c.args.n) S ≡ true) (sym c.self.view_is) c.requires.reads)
     c.children.result c.children-2.result c.children.ensures c.children-2.ensures c.unwrap_or-held.result c.unwrap_or-kept.result c.unwrap_or-held.ensures
     c.unwrap_or-kept.ensures
     ∙ ap (λ (v : TableView). held_children (state_of v) c.args.t.slot c.args.n - covered_children (state_of v) c.args.t.slot c.args.n) c.self.view_is

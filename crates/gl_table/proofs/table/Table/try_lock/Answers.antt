@@ -1,9 +1,9 @@
-use Rattle.gl_table.proofs.Words.{◌∙◌, ◌≡◌, Err, false, first_refusal, granted, lock_tests, Mode, None, none_some, OnOk, Option, refl, Refusal, Refuses}
-use Rattle.gl_table.proofs.Words.{rules, Some, state_of, subst, sym, TableView, true, try_tests, view_of}
+use Rattle.gl_table.proofs.Words.{◌∙◌, ◌≡◌, Err, false, first_refusal, granted, lock_tests, Mode, None, none_some, OnOk, Option, refl, Refusal, Refuses, rules}
+use Rattle.gl_table.proofs.Words.{Some, state_of, subst, sym, TableView, true, try_tests, view_of}
 use Rattle.gl_modes.specs.declared.refusal.Refusal.TheVariants as no
 use Rattle.gl_table.proofs.calls.Calls.{orderly}
 use Rattle.gl_table.proofs.calls.Locking.{decided, may_lock_by, same_enters, sound_tried, state_tried, tests-seen, try_refused}
-use Rattle.gl_table.proofs.law.Lock.{MayLock}
+use Rattle.gl_model.proofs.law.Lock.{MayLock}
 use Rattle.gl_table.proofs.table.Table.try_lock.Goals.{In_err-held, In_ok-held}
 use Rattle.gl_table.proofs.table.Table.try_lock.Goals as goal
 
@@ -25,15 +25,13 @@ returns-in_err-held-clause-held c = λ passes. absurd (none_some (sym passes ∙
 pub returns-then-not-would_grant-clause-refuses : goal.returns-then-not-would_grant-clause-refuses
 returns-then-not-would_grant-clause-refuses c =
     let is = decided c.self.inside c.self.invariant c.args.self.now c.self.view_is c.args.t c.args.n c.args.mode
-    (passed (goal.at.returns-then-not-would_grant-clause-refuses c).In_ok-held)
-    false c.if-not-would_grant.ensures in
+    (passed (goal.at.returns-then-not-would_grant-clause-refuses c).In_ok-held) false c.if-not-would_grant.ensures in
     subst (λ (o : Option Refusal). Refuses {T = Mode} o (Err no.WouldBlock)) (sym is) refl
 
 pub returns-then-not-would_grant-clause-held : goal.returns-then-not-would_grant-clause-held
 returns-then-not-would_grant-clause-held c =
     let is = decided c.self.inside c.self.invariant c.args.self.now c.self.view_is c.args.t c.args.n c.args.mode
-    (passed (goal.at.returns-then-not-would_grant-clause-held c).In_ok-held)
-    false c.if-not-would_grant.ensures in
+    (passed (goal.at.returns-then-not-would_grant-clause-held c).In_ok-held) false c.if-not-would_grant.ensures in
     λ passes. absurd (none_some (sym passes ∙ is))
 
 pub grant-requires-clause-orderly : goal.grant-requires-clause-orderly
@@ -59,6 +57,5 @@ returns-clause-state c =
 pub returns-clause-refuses : goal.returns-clause-refuses
 returns-clause-refuses c =
     let is = decided c.self.inside c.self.invariant c.args.self.now c.self.view_is c.args.t c.args.n c.args.mode
-    (passed (goal.at.returns-clause-refuses c).In_ok-held) true
-    c.if-not-would_grant.ensures in
+    (passed (goal.at.returns-clause-refuses c).In_ok-held) true c.if-not-would_grant.ensures in
     subst (λ (o : Option Refusal). Refuses {T = Mode} o c.grant.result) (sym is) c.grant.ensures.no_memory

@@ -1,0 +1,186 @@
+-- Walks of a relation between finitely many numbers. For deadlocks: whether there is one, and who is a victim.
+use Rattle.gl_model.proofs.Words.{[], ⊤, ◌&&◌, ◌+◌, ◌<◌, ◌==◌, ◌||◌, ◌∙◌, ◌∷◌, ◌≡◌, ◌≢◌, ◌≤◌, AllByRecursion, and_both, ap, ap₂, arith, Bool}
+use Rattle.gl_model.proofs.Words.{candidate-on_cycle, clash, false, Fewest, freeing-itself, if◌then◌else◌, IsCandidate, IsDistinct, IsEquivalence, IsOnCycleOf}
+use Rattle.gl_model.proofs.Words.{IsOnNoCycle, IsWalk, IsYoungest, length, length-le_from_is_member, length-range_with_len, List, list_any, nat_le, nat_tests}
+use Rattle.gl_model.proofs.Words.{no_cycle-reaches, None, not, on_cycle-reaches, Option, or_elim, or_left, or_right, range_with_len, Reaches, refl, Some, split}
+use Rattle.gl_model.proofs.Words.{subst, suc, sym, true, Victims, waits_of-less, without, Youngest, zero, ℕ}
+
+abbrev pub same : ℕ → ℕ → Bool
+same x y = x == y
+
+same_true : (x y : ℕ) → same x y ≡ true → x ≡ y
+same_true x y h = grind (arith, nat_tests)
+
+same_refl : (x : ℕ) → same x x ≡ true
+same_refl x = grind (arith, nat_tests)
+
+same_equivalence : IsEquivalence same
+same_equivalence = record { refl = same_refl; symm = λ a b. grind (arith, nat_tests); congr = λ a b c h. ap (λ x. same x c) (same_true a b h) }
+
+abbrev pub Distinct : List ℕ → Type 0
+Distinct [] = ⊤
+Distinct (v ∷ way) = (list_any (same v) way ≡ false) × Distinct way
+
+all_differ : (v : ℕ) (way : List ℕ) → list_any (same v) way ≡ false → AllByRecursion (λ y. same v y ≡ false) way
+all_differ v [] h = tt
+all_differ v (w ∷ way) h = grind (arith, nat_tests, same v w, all_differ v way)
+
+is_distinct : (way : List ℕ) → Distinct way → IsDistinct same way
+unfolding IsDistinct
+is_distinct [] d = tt
+is_distinct (v ∷ way) d = (all_differ v way d.0, is_distinct way d.1)
+
+pub in_range : (q k n : ℕ) → k ≤ q → q < k + n → list_any (same q) (range_with_len k n) ≡ true
+in_range q k zero low high = absurd (omega arith)
+in_range q k (suc n) low high = split (same q k) (λ e. or_left _ _ e) (λ e. let ne : q ≢ k = grind (arith, nat_tests) in
+    or_right (same q k) _ (in_range q (k + 1) n (omega arith) (omega arith)))
+
+any_of : (f : ℕ → Bool) (xs : List ℕ) → list_any f xs ≡ true → (q : ℕ) × (f q ≡ true)
+any_of f [] h = clash h refl
+any_of f (x ∷ xs) h = or_elim _ _ h (λ here. (x, here)) (λ there. any_of f xs there)
+
+one_found : (f : ℕ → Bool) (q : ℕ) (xs : List ℕ) → f q ≡ true → list_any (same q) xs ≡ true → list_any f xs ≡ true
+one_found f q [] h k = k
+one_found f q (x ∷ xs) h k = or_elim _ _ k (λ here. or_left _ _ (ap f (sym (same_true q x here)) ∙ h)) (λ there. or_right (f x) _ (one_found f q xs h there))
+
+-- the one of greater age, of equal ages the later
+abbrev pub younger : (ℕ → ℕ) → ℕ → Option ℕ → Option ℕ
+younger age n None = Some n
+younger age n (Some v) = if nat_le (age v) (age n) then Some n else Some v
+
+-- of those below n that pass, one of the greatest age
+abbrev pub youngest_below : (ℕ → ℕ) → (ℕ → Bool) → ℕ → Option ℕ
+youngest_below age p zero = None
+youngest_below age p (suc n) = if p n then younger age n (youngest_below age p n) else youngest_below age p n
+
+abbrev Greatest : (ℕ → ℕ) → (ℕ → Bool) → ℕ → Option ℕ → Type 0
+Greatest age p n None = (u : ℕ) → u < n → p u ≡ false
+Greatest age p n (Some v) = (p v ≡ true) × ((u : ℕ) → u < n → p u ≡ true → age u ≤ age v)
+
+youngest_is : (age : ℕ → ℕ) (p : ℕ → Bool) (n : ℕ) → Greatest age p n (youngest_below age p n)
+youngest_is age p zero = λ u lt. absurd (omega arith)
+youngest_is age p (suc n) = grind (arith, nat_tests, p n, youngest_below age p n, youngest_is age p n)
+
+-- y is reached from x by at most k slots on the way
+abbrev pub hops : (ℕ → ℕ → Bool) → ℕ → ℕ → ℕ → ℕ → Bool
+hops edge most zero x y = edge x y
+hops edge most (suc k) x y = edge x y || list_any (λ v. edge x v && hops edge most k v y) (range_with_len 0 most)
+
+-- t and v reach each other
+abbrev pub circles : (ℕ → ℕ → Bool) → ℕ → ℕ → ℕ → Bool
+circles edge most t v = hops edge most most t v && hops edge most most v t
+
+-- v passes for a candidate by this choice
+abbrev pub passes : Victims → (ℕ → ℕ → Bool) → ℕ → ℕ → ℕ → Bool
+passes Youngest edge most t v = circles edge most t v
+passes Fewest edge most t v = circles edge most t v && not (hops (without edge v) most most t t)
+
+-- the youngest candidate
+abbrev pub victim : Victims → (ℕ → ℕ → Bool) → ℕ → (ℕ → ℕ) → ℕ → Option ℕ
+victim c edge most age t = youngest_below age (passes c edge most t) most
+
+abbrev pub IsAnswer : Victims → (ℕ → ℕ → Bool) → (ℕ → ℕ) → ℕ → Option ℕ → Type 0
+IsAnswer c edge age t None = IsOnNoCycle edge t
+IsAnswer c edge age t (Some v) = IsYoungest (IsCandidate c edge t) age v
+
+module _ (edge : ℕ → ℕ → Bool) (most : ℕ) (low : (x y : ℕ) → edge x y ≡ true → y < most) where
+  -- a walk that meets v goes on from v
+  cut : (u v y : ℕ) (way : List ℕ) → IsWalk edge u way y → list_any (same v) way ≡ true → Distinct way → (post : List ℕ) × IsWalk edge v post y × Distinct post
+      × (list_any (same v) post ≡ false)
+  cut u v y [] h k d = clash k refl
+  cut u v y (w ∷ way) h k d =
+      or_elim (same v w) (list_any (same v) way) k
+      (λ e. let is = same_true v w e in (way, subst (λ x. IsWalk edge x way y) (sym is) h.1, d.1, ap (λ x. list_any (same x) way) is ∙ d.0))
+      (λ there. cut w v y way h.1 there d.1)
+
+  simple : (way : List ℕ) (x y : ℕ) → IsWalk edge x way y → (short : List ℕ) × IsWalk edge x short y × Distinct short
+  simple [] x y h = ([], h, tt)
+  simple (v ∷ way) x y h =
+      let r = simple way v y h.1 in
+      split (list_any (same v) r.0) (λ k. let c = cut v v y r.0 r.1 k r.2 in (v ∷ c.0, (h.0, c.1), (c.3, c.2))) (λ k. (v ∷ r.0, (h.0, r.1), (k, r.2)))
+
+  on_way : (way : List ℕ) (x y q : ℕ) → IsWalk edge x way y → list_any (same q) way ≡ true → q < most
+  on_way [] x y q h k = clash k refl
+  on_way (v ∷ way) x y q h k = or_elim (same q v) (list_any (same q) way) k (λ e. subst (λ z. z < most) (sym (same_true q v e)) (low x v h.0))
+      (λ there. on_way way v y q h.1 there)
+
+  pub short : (way : List ℕ) (x y : ℕ) → IsWalk edge x way y → Distinct way → length way ≤ most
+  short way x y h d =
+      let few = length-le_from_is_member same_equivalence way (range_with_len 0 most) (is_distinct way d) (λ q k. let lt = on_way way x y q h k in
+      in_range q 0 most (omega arith) (omega arith)) in
+      let len = length-range_with_len 0 most in
+      omega arith
+
+  sound : (k x y : ℕ) → hops edge most k x y ≡ true → Reaches edge x y
+  sound zero x y h = ([], h)
+  sound (suc k) x y h =
+      or_elim (edge x y) (list_any (λ v. edge x v && hops edge most k v y) (range_with_len 0 most)) h (λ e. ([], e))
+      (λ e. let found = any_of (λ v. edge x v && hops edge most k v y) (range_with_len 0 most) e in
+      let both = and_both (edge x found.0) (hops edge most k found.0 y) found.1 in
+      let rest = sound k found.0 y both.1 in (found.0 ∷ rest.0, (both.0, rest.1)))
+
+  complete : (k : ℕ) (way : List ℕ) (x y : ℕ) → length way ≤ k → IsWalk edge x way y → hops edge most k x y ≡ true
+  complete zero [] x y le h = h
+  complete zero (v ∷ way) x y le h = absurd (omega arith)
+  complete (suc k) [] x y le h = or_left (edge x y) (list_any (λ v. edge x v && hops edge most k v y) (range_with_len 0 most)) h
+  complete (suc k) (v ∷ way) x y le h =
+      let lt = low x v h.0 in
+      or_right (edge x y) (list_any (λ u. edge x u && hops edge most k u y) (range_with_len 0 most))
+      (one_found (λ u. edge x u && hops edge most k u y) v (range_with_len 0 most) (ap₂ (λ a b. a && b) h.0 (complete k way v y (omega arith) h.1))
+      (in_range v 0 most (omega arith) (omega arith)))
+
+  reached_is : (x y : ℕ) → Reaches edge x y → hops edge most most x y ≡ true
+  reached_is x y r = let way = simple r.0 x y r.1 in complete most way.0 x y (short way.0 x y way.1 way.2) way.1
+
+  end_low : (way : List ℕ) (x y : ℕ) → IsWalk edge x way y → y < most
+  end_low [] x y h = low x y h
+  end_low (v ∷ way) x y h = end_low way v y h.1
+
+  pub turns : (t v : ℕ) → IsOnCycleOf edge t v → circles edge most t v ≡ true
+  turns t v on = ap₂ (λ a b. a && b) (reached_is t v on.there) (reached_is v t on.back)
+
+  pub turned : (t v : ℕ) → circles edge most t v ≡ true → IsOnCycleOf edge t v
+  turned t v h = let both = and_both (hops edge most most t v) (hops edge most most v t) h in
+      record { there = sound most t v both.0; back = sound most v t both.1 }
+
+  -- who is on no cycle does not come round
+  pub round_none : (t : ℕ) → IsOnNoCycle edge t → hops edge most most t t ≡ false
+  round_none t none = split (hops edge most most t t) (λ h. absurd (no_cycle-reaches edge t none (sound most t t h))) (λ h. h)
+
+  pub none_round : (t : ℕ) → hops edge most most t t ≡ false → IsOnNoCycle edge t
+  none_round t away v on = clash (reached_is t t (on_cycle-reaches edge t (v, on))) away
+
+module _ (edge : ℕ → ℕ → Bool) (most : ℕ) (low : (x y : ℕ) → edge x y ≡ true → y < most) where
+  low_without : (v x y : ℕ) → without edge v x y ≡ true → y < most
+  low_without v x y h = low x y (waits_of-less (λ s. not (s == v)) edge x y h)
+
+  passes_is : (c : Victims) (t v : ℕ) → passes c edge most t v ≡ true → IsCandidate c edge t v
+  passes_is Youngest t v h = turned edge most low t v h
+  passes_is Fewest t v h =
+      let both = and_both (circles edge most t v) (not (hops (without edge v) most most t t)) h in
+      record {
+        on_cycle = turned edge most low t v both.0;
+        freed = none_round (without edge v) most (low_without v) t (not_true (hops (without edge v) most most t t) both.1);
+      }
+    where
+      not_true : (b : Bool) → not b ≡ true → b ≡ false
+      not_true b h1 = grind (arith, nat_tests)
+
+  is_passing : (c : Victims) (t v : ℕ) → IsCandidate c edge t v → passes c edge most t v ≡ true
+  is_passing Youngest t v h = turns edge most low t v h
+  is_passing Fewest t v h = ap₂ (λ a b. a && not b) (turns edge most low t v h.on_cycle) (round_none (without edge v) most (low_without v) t h.freed)
+
+  -- who is on a cycle is a candidate itself
+  itself : (c : Victims) (t v : ℕ) → IsOnCycleOf edge t v → (u : ℕ) × IsCandidate c edge t u
+  itself Youngest t v on = (v, on)
+  itself Fewest t v on = (t, freeing-itself edge t (v, on))
+
+  pub victim_is : (c : Victims) (age : ℕ → ℕ) (t : ℕ) → IsAnswer c edge age t (victim c edge most age t)
+  victim_is c age t = by (victim c edge most age t) (youngest_is age (passes c edge most t) most)
+    where
+      below : (u : ℕ) → IsCandidate c edge t u → u < most
+      below u h = let on = candidate-on_cycle c edge t u h in end_low edge most low on.there.0 t u on.there.1
+
+      by : (o : Option ℕ) → Greatest age (passes c edge most t) most o → IsAnswer c edge age t o
+      by None none = λ v on. let one = itself c t v on in clash (is_passing c t one.0 one.1) (none one.0 (below one.0 one.1))
+      by (Some v) one = record { is_member = passes_is c t v one.0; greatest = λ u h. one.1 u (below u h) (is_passing c t u h) }

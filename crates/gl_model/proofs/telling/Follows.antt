@@ -1,0 +1,221 @@
+-- What a change by others leaves to one slot. For the crates above.
+use Rattle.gl_model.proofs.Words.{[], ⊎_elim, ◌++◌, ◌∙◌, ◌∷◌, ◌≡◌, ◌⊎◌, Active, ap, arith, awake, Bool, Condemned, drop, false, filter-append, front-and_rest}
+use Rattle.gl_model.proofs.Words.{front_at, granted_at, if◌then◌else◌, inl, inr, is_among_waiters, is_at_least, is_waiter, is_waiting_at, IsLawful, length}
+use Rattle.gl_model.proofs.Words.{List, live_by, members, Mode, nat_tests, NodeId, None, Option, pumped, refl, same_node, same_node-equal, Some, split, State}
+use Rattle.gl_model.proofs.Words.{Status, status_in, status_of, subst, sym, true, true≢false, Txn, Waiter, Waiting, waits_at, woken, ℕ}
+use Rattle.gl_model.proofs.queues.Waiters.{among_waits, both_empty, granted_mode, last_mode, nobody_among, none_of_absent, one_among, some_wait, split_one}
+use Rattle.gl_model.proofs.queues.Waiters.{waits_of}
+
+-- t, which waited for it, was granted a mode on a node; nothing else that it holds changed
+pub record GrantedTo (s s' : State) (t : ℕ) : Type 0 where
+  pub node : NodeId
+  pub mode : Mode
+  pub was : status_of s t ≡ Some (Waiting node mode)
+  pub is : status_of s' t ≡ Some Active
+  pub at : s'.held t node ≡ mode
+  pub elsewhere : (q : NodeId) → same_node node q ≡ false → s'.held t q ≡ s.held t q
+  pub more : is_at_least mode (s.held t node) ≡ true
+
+-- t stands once in the queue of the node where it waits, and in no other
+pub record WaitsWell (s : State) (t : ℕ) : Type 0 where
+  pub one : (n : NodeId) (m : Mode) → status_of s t ≡ Some (Waiting n m) → waits_of t (s.queue n) ≡ (t, m) ∷ []
+  pub more : (n : NodeId) (m : Mode) → status_of s t ≡ Some (Waiting n m) → is_at_least m (s.held t n) ≡ true
+  pub are : (n : NodeId) → is_among_waiters t (s.queue n) ≡ true → is_waiting_at s t n ≡ true
+
+-- one slot holds the same on every node
+abbrev pub SameGrants : State → State → ℕ → Type 0
+SameGrants s s' t = (q : NodeId) → s'.held t q ≡ s.held t q
+
+-- a change that leaves one slot all that it had, and raises it at most at one node, where it waited
+pub record Follows (s s' : State) (t : ℕ) : Type 0 where
+  pub graph : s'.graph ≡ s.graph
+  pub lives : (age : ℕ) → live_by age (s.txns t) ≡ true → live_by age (s'.txns t) ≡ true
+  pub active : status_of s t ≡ Some Active → status_of s' t ≡ Some Active
+  pub was_waiting : (n : NodeId) (m : Mode) → status_of s' t ≡ Some (Waiting n m) → status_of s t ≡ Some (Waiting n m)
+  pub grants : SameGrants s s' t ⊎ GrantedTo s s' t
+  pub well : WaitsWell s' t
+
+-- the law says so of every slot
+pub lawful_waits : (s : State) → IsLawful s → (t : ℕ) → WaitsWell s t
+lawful_waits s law t = record { one = law.one_wait t; more = λ n m e. (law.waits_intend t n m e).2; are = law.waits_are t }
+
+apart : {q : NodeId} {w : Mode} → Some Active ≡ Some (Waiting q w) → ⊥
+apart e = cc
+
+-- one change and then another
+pub follows_trans : (s mid s' : State) (t : ℕ) → Follows s mid t → Follows mid s' t → Follows s s' t
+follows_trans s mid s' t f g = record {
+  graph = g.graph ∙ f.graph;
+  lives = λ age h. g.lives age (f.lives age h);
+  active = λ h. g.active (f.active h);
+  was_waiting = λ n m h. f.was_waiting n m (g.was_waiting n m h);
+  grants = both f.grants g.grants;
+  well = g.well;
+}
+  where
+    both : SameGrants s mid t ⊎ GrantedTo s mid t → SameGrants mid s' t ⊎ GrantedTo mid s' t → SameGrants s s' t ⊎ GrantedTo s s' t
+    both (inl a) (inl b) = inl (λ q. b q ∙ a q)
+    both (inl a) (inr b) = inr (record {
+      node = b.node;
+      mode = b.mode;
+      was = f.was_waiting b.node b.mode b.was;
+      is = b.is;
+      at = b.at;
+      elsewhere = λ q ne. b.elsewhere q ne ∙ a q;
+      more = ap (is_at_least b.mode) (sym (a b.node)) ∙ b.more;
+    })
+    both (inr a) (inl b) = inr (record {
+      node = a.node;
+      mode = a.mode;
+      was = a.was;
+      is = g.active a.is;
+      at = b a.node ∙ a.at;
+      elsewhere = λ q ne. b q ∙ a.elsewhere q ne;
+      more = a.more;
+    })
+    both (inr a) (inr b) = absurd (apart (sym a.is ∙ b.was))
+
+-- nothing of t is touched
+pub follows_same : (s s' : State) (t : ℕ) → WaitsWell s t → s'.graph ≡ s.graph → s'.txns t ≡ s.txns t → SameGrants s s' t
+    → ((n : NodeId) → waits_of t (s'.queue n) ≡ waits_of t (s.queue n)) → Follows s s' t
+follows_same s s' t well graph txn grants waits = record {
+  graph = graph;
+  lives = λ age h. ap (live_by age) txn ∙ h;
+  active = λ h. ap status_in txn ∙ h;
+  was_waiting = λ n m h. sym (ap status_in txn) ∙ h;
+  grants = inl grants;
+  well = record {
+    one = λ n m h. waits n ∙ well.one n m (sym (ap status_in txn) ∙ h);
+    more = λ n m h. ap (is_at_least m) (grants n) ∙ well.more n m (sym (ap status_in txn) ∙ h);
+    are = λ n h. grind (arith, nat_tests, txn, well.are n (among_waits t (s.queue n) ∙ ap some_wait (sym (waits n)) ∙ sym (among_waits t (s'.queue n)) ∙ h));
+  };
+}
+
+-- no change
+pub follows_refl : (s : State) (t : ℕ) → WaitsWell s t → Follows s s t
+follows_refl s t well = follows_same s s t well refl refl (λ q. refl) (λ n. refl)
+
+-- t waits nowhere
+pub absent_well : (s : State) (t : ℕ) → ((n : NodeId) → waits_of t (s.queue n) ≡ []) → ((n : NodeId) (m : Mode) → status_of s t ≡ Some (Waiting n m) → ⊥)
+    → WaitsWell s t
+absent_well s t absent idle = record {
+  one = λ n m h. absurd (idle n m h);
+  more = λ n m h. absurd (idle n m h);
+  are = λ n h. absurd (true≢false (sym h ∙ nobody_among t (s.queue n) (absent n)));
+}
+
+abbrev awoken : (NodeId → List Waiter) → ℕ → Option Status → Option Status
+awoken g t None = None
+awoken g t (Some st) = Some (awake g t st)
+
+awoken_is : (g : NodeId → List Waiter) (t : ℕ) (x : Option Txn) → status_in (woken g t x) ≡ awoken g t (status_in x)
+awoken_is g t None = refl
+awoken_is g t (Some x) = refl
+
+woken_lives : (g : NodeId → List Waiter) (t age : ℕ) (x : Option Txn) → live_by age (woken g t x) ≡ live_by age x
+woken_lives g t age None = refl
+woken_lives g t age (Some x) = refl
+
+apart_condemned : {q : NodeId} {w : Mode} → Some Condemned ≡ Some (Waiting q w) → ⊥
+apart_condemned e = cc
+
+apart_none : {q : NodeId} {w : Mode} → None ≡ Some (Waiting q w) → ⊥
+apart_none e = cc
+
+module _ (s : State) (chosen : NodeId → Bool) (t : ℕ) (well : WaitsWell s t) where
+  abbrev granted : NodeId → List Waiter
+  granted n = granted_at s chosen n
+
+  abbrev rest : NodeId → List Waiter
+  rest n = drop (length (granted_at s chosen n)) (s.queue n)
+
+  parts : (n : NodeId) → granted n ++ rest n ≡ s.queue n
+  parts n = by (chosen n)
+    where
+      by : (b : Bool) → (if b then front_at s n else []) ++ drop (length (if b then front_at s n else [])) (s.queue n) ≡ s.queue n
+      by true = front-and_rest s.most (members s n) (s.queue n)
+      by false = refl
+
+  waits_parts : (n : NodeId) → waits_of t (granted n) ++ waits_of t (rest n) ≡ waits_of t (s.queue n)
+  waits_parts n = sym (filter-append (is_waiter t) (granted n) (rest n)) ∙ ap (waits_of t) (parts n)
+
+  held_is : (n : NodeId) → (pumped s chosen).held t n ≡ last_mode (s.held t n) (waits_of t (granted n))
+  held_is n = granted_mode (members s n) t (granted n)
+
+  held_same : (n : NodeId) → waits_of t (granted n) ≡ [] → (pumped s chosen).held t n ≡ s.held t n
+  held_same n e = held_is n ∙ ap (last_mode (s.held t n)) e
+
+  -- t waits nowhere
+  idle_follows : ((n : NodeId) → waits_of t (s.queue n) ≡ []) → status_of (pumped s chosen) t ≡ status_of s t
+      → ((n : NodeId) (m : Mode) → status_of s t ≡ Some (Waiting n m) → ⊥) → Follows s (pumped s chosen) t
+  idle_follows absent status idle = record {
+    graph = refl;
+    lives = λ age h. woken_lives granted t age (s.txns t) ∙ h;
+    active = λ h. status ∙ h;
+    was_waiting = λ n m h. sym status ∙ h;
+    grants = inl (λ n. held_same n (both_empty _ _ (waits_parts n ∙ absent n)).0);
+    well = absent_well (pumped s chosen) t (λ n. (both_empty _ _ (waits_parts n ∙ absent n)).1) (λ n m h. idle n m (sym status ∙ h));
+  }
+
+  nowhere : (o : Option Status) → status_of s t ≡ o → ((n : NodeId) → waits_at o n ≡ false) → (n : NodeId) → waits_of t (s.queue n) ≡ []
+  nowhere o e no_wait n = none_of_absent t (s.queue n) (λ h. true≢false (sym (well.are n h) ∙ ap (λ x. waits_at x n) e ∙ no_wait n))
+
+  status_is : (o : Option Status) → status_of s t ≡ o → status_of (pumped s chosen) t ≡ awoken granted t o
+  status_is o e = awoken_is granted t (s.txns t) ∙ ap (awoken granted t) e
+
+  waiting_follows : (n : NodeId) (m : Mode) → status_of s t ≡ Some (Waiting n m) → Follows s (pumped s chosen) t
+  waiting_follows n m e =
+      ⊎_elim (λ stays. let status : status_of (pumped s chosen) t ≡ Some (Waiting n m) = status_is _ e
+      ∙ ap (λ b. Some (if b then Active else Waiting n m)) (nobody_among t (granted n) stays.0) in
+      record {
+        graph = refl;
+        lives = λ age h. woken_lives granted t age (s.txns t) ∙ h;
+        active = λ h. absurd (apart (sym h ∙ e));
+        was_waiting = λ q w h. e ∙ sym status ∙ h;
+        grants = inl (λ q. held_same q (none_granted stays.0 q));
+        well = record {
+          one = λ q w h. waits_left stays.0 q ∙ well.one q w (e ∙ sym status ∙ h);
+          more = λ q w h. ap (is_at_least w) (held_same q (none_granted stays.0 q)) ∙ well.more q w (e ∙ sym status ∙ h);
+          are = λ q h. ap (λ o. waits_at o q) (status ∙ sym e)
+              ∙ well.are q (among_waits t (s.queue q) ∙ ap some_wait (sym (waits_left stays.0 q)) ∙ sym (among_waits t (rest q)) ∙ h);
+        };
+      }) (λ goes. let status : status_of (pumped s chosen) t ≡ Some Active = status_is _ e
+      ∙ ap (λ b. Some (if b then Active else Waiting n m)) (one_among t (granted n) (t, m) goes.0) in
+      record {
+        graph = refl;
+        lives = λ age h. woken_lives granted t age (s.txns t) ∙ h;
+        active = λ h. absurd (apart (sym h ∙ e));
+        was_waiting = λ q w h. absurd (apart (sym status ∙ h));
+        grants = inr (record {
+          node = n;
+          mode = m;
+          was = e;
+          is = status;
+          at = held_is n ∙ ap (last_mode (s.held t n)) goes.0;
+          elsewhere = λ q ne. held_same q (both_empty _ _ (waits_parts q ∙ elsewhere q ne)).0;
+          more = well.more n m e;
+        });
+        well = absent_well (pumped s chosen) t (λ q. split (same_node n q) (λ h. subst (λ x. waits_of t (rest x) ≡ []) (same_node-equal n q h) goes.1)
+            (λ h. (both_empty _ _ (waits_parts q ∙ elsewhere q h)).1)) (λ q w h. apart (sym status ∙ h));
+      }) (split_one _ _ (t, m) (waits_parts n ∙ well.one n m e))
+    where
+      elsewhere : (q : NodeId) → same_node n q ≡ false → waits_of t (s.queue q) ≡ []
+      elsewhere q ne = none_of_absent t (s.queue q) (λ h. true≢false (sym (well.are q h) ∙ ap (λ x. waits_at x q) e ∙ ne))
+
+      none_granted : waits_of t (granted n) ≡ [] → (q : NodeId) → waits_of t (granted q) ≡ []
+      none_granted here q = split (same_node n q) (λ h. subst (λ x. waits_of t (granted x) ≡ []) (same_node-equal n q h) here)
+          (λ h. (both_empty _ _ (waits_parts q ∙ elsewhere q h)).0)
+
+      waits_left : waits_of t (granted n) ≡ [] → (q : NodeId) → waits_of t (rest q) ≡ waits_of t (s.queue q)
+      waits_left here q = ap (λ ws. ws ++ waits_of t (rest q)) (sym (none_granted here q)) ∙ waits_parts q
+
+  -- granting from fronts gives a slot what it waits for, and nothing else
+  pub pumped_follows : Follows s (pumped s chosen) t
+  pumped_follows = by (status_of s t) refl
+    where
+      by : (o : Option Status) → status_of s t ≡ o → Follows s (pumped s chosen) t
+      by None e = idle_follows (nowhere None e (λ n. refl)) (status_is None e ∙ sym e) (λ n m h. apart_none (sym e ∙ h))
+      by (Some Active) e = idle_follows (nowhere (Some Active) e (λ n. refl)) (status_is (Some Active) e ∙ sym e) (λ n m h. apart (sym e ∙ h))
+      by (Some Condemned) e = idle_follows (nowhere (Some Condemned) e (λ n. refl)) (status_is (Some Condemned) e ∙ sym e)
+          (λ n m h. apart_condemned (sym e ∙ h))
+      by (Some (Waiting n m)) e = waiting_follows n m e

@@ -1,0 +1,326 @@
+-- What each call of the table leaves, why it is refused, and what it answers.
+use Rattle.std.specs.Prelude.{ℕ, Bool, not, ◌&&◌, ◌||◌, ◌≡◌, ◌+◌, true, false, ◌==◌, List, [], Option, Some, None, if◌then◌else◌, is_none, ◌∷◌, ◌++◌, is_some}
+use Rattle.std.specs.Prelude.{IsOk, Result, Ok, Err}
+use Rattle.std.specs.List.{list_any, list_all, count_by, filter, find}
+use Rattle.gl_modes.specs.declared.node.NodeId.{NodeId}
+use Rattle.gl_modes.specs.declared.mode.Mode.TheVariants.{X, NL, S, IX}
+use Rattle.gl_modes.specs.Modes.{same_mode, supremum, is_at_least}
+use Rattle.gl_modes.specs.declared.mode.Mode.{Mode}
+use Rattle.gl_modes.specs.Nodes.{same_node}
+use Rattle.gl_modes.specs.declared.refusal.Refusal.{Refusal}
+use Rattle.gl_graph.specs.Graph.{is_child, nodes, parents_of, Graph, is_live, shape_of}
+use Rattle.gl_graph.specs.Changes.{without_node}
+use Rattle.gl_graph.specs.Refusals.{max_count, some_no_node, where_true}
+use Rattle.gl_graph.specs.Shapes.{is_record_shape}
+use Rattle.gl_header.specs.Header.{holds, Waiter, enters, is_among_waiters, is_empty, placed, without_waiter, fits}
+use Rattle.gl_header.specs.State.{nobody_holds}
+use Rattle.gl_header.specs.declared.header.Asked.{Asked}
+use Rattle.gl_waits.specs.declared.victims.Victims.{Victims}
+use Rattle.gl_model.specs.State.{State, members, intends_over, is_write, is_waiting_at, pumped, without_wait, Txn, with_grant, with_queue, with_status}
+use Rattle.gl_model.specs.State.{with_txn, slots, Settled, lives, status_of}
+use Rattle.gl_model.specs.declared.txn.Status.{Status}
+use Rattle.gl_model.specs.declared.answers.Detect.{Detect}
+use Rattle.gl_model.specs.declared.txn.Status.TheVariants.{Active, Waiting, Condemned}
+use Rattle.gl_model.specs.declared.answers.Detect.TheVariants.{AtBlock, ByWatcher}
+use Rattle.gl_model.specs.declared.txn.TxnId.{TxnId}
+use Rattle.gl_model.specs.declared.answers.Locked.{Locked}
+use Rattle.gl_modes.specs.declared.refusal.Refusal.TheVariants as no
+use Rattle.gl_header.specs.declared.header.Asked.TheVariants as asked
+use Rattle.gl_model.specs.declared.answers.Locked.TheVariants as locked
+
+-- Which children an escalation to a node covers (own), judged after the node was raised and before any child is released.
+
+-- t holds some child of n
+abbrev pub holds_child : State → ℕ → NodeId → Bool
+holds_child s t n = list_any (λ c. is_child s.graph n c && holds (members s c) t) (nodes s.graph)
+
+-- t holds c, a child of n, and no child of c; and not X on c, or X on every parent of c, which then implies it
+abbrev pub is_covered : State → ℕ → NodeId → NodeId → Bool
+is_covered s t n c =
+    is_child s.graph n c && holds (members s c) t && not (holds_child s t c)
+    && (not (same_mode (s.held t c) X) || list_all (λ p. same_mode (s.held t p) X) (parents_of s.graph c))
+
+-- how many children of n t holds
+abbrev pub held_children : State → ℕ → NodeId → ℕ
+held_children s t n = count_by (λ c. is_child s.graph n c && holds (members s c) t) (nodes s.graph)
+
+-- how many of them are covered
+abbrev pub covered_children : State → ℕ → NodeId → ℕ
+covered_children s t n = count_by (is_covered s t n) (nodes s.graph)
+
+-- What each call of the table leaves, where it is not refused.
+
+-- the wanted mode: the supremum of what is held and what is asked (1976, conversions)
+abbrev pub wanted : State → ℕ → NodeId → Mode → Mode
+wanted s t n m = supremum (s.held t n) m
+
+-- the ask is granted at once
+abbrev pub enters_at : State → ℕ → NodeId → Mode → Bool
+enters_at s t n m = enters s.most (members s n) (s.queue n) t (wanted s t n m)
+
+-- the wanted mode is granted
+abbrev pub granted : State → ℕ → NodeId → Mode → State
+granted s t n m = with_grant s t n (wanted s t n m)
+
+-- one node is released, and grants from its front
+abbrev pub unlocked : State → ℕ → NodeId → State
+unlocked s t n = pumped (with_grant s t n NL) (same_node n)
+
+-- t's wait is taken back, and its node grants from its front
+abbrev pub cancelled : State → ℕ → State
+cancelled s t = pumped (without_wait s t Active) (is_waiting_at s t)
+
+-- the lowest free slot
+abbrev pub free_slot : State → Option ℕ
+free_slot s = find (λ u. is_none (s.txns u)) (slots s)
+
+-- what an escalation to n asks: X where some child is held to write, else S (own)
+abbrev pub asked_by_escalation : State → ℕ → NodeId → Mode
+asked_by_escalation s t n = if list_any (λ c. is_child s.graph n c && is_write (s.held t c)) (nodes s.graph) then X else S
+
+-- one command more was accepted
+abbrev pub accepted_once : State → State
+accepted_once s = record s { accepted = s.accepted + 1 }
+
+-- a transaction begins in this slot
+abbrev pub begun : State → ℕ → State
+begun s t = record (with_txn s t (Some (record { age = s.begins + 1; status = Active }))) { begins = s.begins + 1 }
+
+-- t waits on n for m
+abbrev pub enqueued : State → ℕ → NodeId → Mode → State
+enqueued s t n m = with_status (with_queue s n (placed (members s n) (s.queue n) t m)) t (Waiting n m)
+
+-- everything of t is released, and each node that it held or waited on grants from its front
+abbrev pub released : State → ℕ → State
+released s t =
+    pumped
+    (record s {
+      held = λ u n. if u == t then NL else s.held u n;
+      queue = λ n. without_waiter t (s.queue n);
+      txns = λ u. if u == t then None else s.txns u;
+    })
+    (λ n. holds (members s n) t || is_waiting_at s t n)
+
+-- a wait on this node is over
+abbrev pub none_but : Status → NodeId → Status
+none_but Active n = Active
+none_but (Waiting q m) n = if same_node q n then Active else Waiting q m
+none_but Condemned n = Condemned
+
+-- the same in a slot
+abbrev pub freed : NodeId → Option Txn → Option Txn
+freed n None = None
+freed n (Some x) = Some (record { age = x.age; status = none_but x.status n })
+
+-- nobody holds the node, and nobody waits for it
+abbrev pub is_idle : State → NodeId → Bool
+is_idle s n = nobody_holds s.most (members s n) && is_empty (s.queue n)
+
+-- the node is gone with its grants and waits, and who waited there is active again
+abbrev pub deleted : State → NodeId → State
+deleted s r =
+    record s {
+      graph = without_node s.graph r;
+      held = λ u n. if same_node n r then NL else s.held u n;
+      queue = λ n. if same_node n r then [] else s.queue n;
+      txns = λ u. freed r (s.txns u);
+    }
+
+-- a wait on n still meets the rule of the graph over these parents
+abbrev pub stays : State → List NodeId → Waiter → Bool
+stays s ps w = intends_over (s.held w.0) ps w.1
+
+-- who does not keep its wait on n is active again
+abbrev pub freed_unless : (ℕ → Bool) → NodeId → ℕ → Option Txn → Option Txn
+freed_unless keeps n u x = if keeps u then x else freed n x
+
+-- n moved, in this graph, under these parents: the waits that lose the rule are taken out, the others keep their order
+abbrev pub moved_to : State → NodeId → List NodeId → Graph → State
+moved_to s n ps g =
+    record s {
+      graph = g;
+      queue = λ q. if same_node q n then filter (stays s ps) (s.queue q) else s.queue q;
+      txns = λ u. freed_unless (λ v. is_among_waiters v (filter (stays s ps) (s.queue n))) n u (s.txns u);
+    }
+
+-- the grant on n is raised by an escalation
+abbrev pub raised : State → ℕ → NodeId → State
+raised s t n = granted s t n (asked_by_escalation s t n)
+
+-- the children that n covers are released, and grant from their fronts
+abbrev pub shed : State → ℕ → NodeId → State
+shed s t n = pumped (record s { held = λ u c. if (u == t) && is_covered s t n c then NL else s.held u c }) (is_covered s t n)
+
+-- what a lock that waits leaves: at block, the asker is settled; by watcher, it waits
+abbrev pub WaitSettles : Detect → Victims → State → ℕ → State → Type 0
+WaitSettles AtBlock c s t s' = Settled c s t s'
+WaitSettles ByWatcher c s t s' = s' ≡ s
+
+-- what a lock leaves: it is granted at once, or it waits
+pub record Locks (s : State) (t : ℕ) (n : NodeId) (m : Mode) (s' : State) : Type 0 where
+  pub at_once : enters_at s t n m ≡ true → s' ≡ granted s t n m
+  pub waits : enters_at s t n m ≡ false → WaitSettles s.detect s.victims (enqueued s t n (wanted s t n m)) t s'
+
+-- Why the table refuses: the tests, each by itself, and then the list of each call in its order. The reasons are own, in the words of the rules that they keep.
+
+-- no further age can be given
+abbrev pub worn_begins : State → Option Refusal
+worn_begins s = where_true (s.begins == max_count) no.WornOut
+
+-- the name names no living transaction
+abbrev pub no_txn : State → TxnId → Option Refusal
+no_txn s t = where_true (not (lives s t)) no.NoSuchTxn
+
+-- the transaction waits
+abbrev pub waiting_test : Option Status → Option Refusal
+waiting_test (Some (Waiting n m)) = Some no.TxnWaiting
+waiting_test o = None
+
+-- the transaction is condemned
+abbrev pub condemned_test : Option Status → Option Refusal
+condemned_test (Some Condemned) = Some no.TxnCondemned
+condemned_test o = None
+
+-- the transaction does not wait, for one who wants to cancel
+abbrev pub idle_test : Option Status → Option Refusal
+idle_test (Some Active) = Some no.NotWaiting
+idle_test o = None
+
+-- the name names no living node
+abbrev pub no_node : State → NodeId → Option Refusal
+no_node s n = where_true (not (is_live s.graph n)) no.NoSuchNode
+
+-- the transaction is active, and these nodes live
+abbrev pub active_on : State → TxnId → List NodeId → List (Option Refusal)
+active_on s t ns = no_txn s t ∷ waiting_test (status_of s t.slot) ∷ condemned_test (status_of s t.slot) ∷ some_no_node s.graph ns ∷ []
+
+-- NL, or a mode that a record does not take
+abbrev pub bad_mode : State → NodeId → Mode → Option Refusal
+bad_mode s n m = where_true (same_mode m NL || (is_record_shape (shape_of s.graph n) && not (same_mode m S || same_mode m X))) no.BadMode
+
+-- the first parent that is not held in IX or greater
+abbrev pub first_not_ix : (NodeId → Mode) → List NodeId → Option Refusal
+first_not_ix held [] = None
+first_not_ix held (p ∷ ps) = if is_at_least (held p) IX then first_not_ix held ps else Some (no.NeedParents p)
+
+-- the first parent
+abbrev pub first_of_all : List NodeId → Option Refusal
+first_of_all [] = None
+first_of_all (p ∷ ps) = Some (no.NeedParents p)
+
+-- the rule of the graph fails for one who holds these modes: to write, the first parent not held in IX or greater; to read, the first parent
+abbrev pub rule_refusal : (NodeId → Mode) → List NodeId → Mode → Option Refusal
+rule_refusal held ps m = if intends_over held ps m then None else (if is_write m then first_not_ix held ps else first_of_all ps)
+
+-- the rule of the graph fails
+abbrev pub need_parents : State → ℕ → NodeId → Mode → Option Refusal
+need_parents s t n m = rule_refusal (s.held t) (parents_of s.graph n) m
+
+-- the transaction does not hold the node
+abbrev pub not_held : State → ℕ → NodeId → Option Refusal
+not_held s t n = where_true (not (holds (members s n) t)) no.NotHeld
+
+-- the child found is in the way
+abbrev pub child_held : Option NodeId → Option Refusal
+child_held None = None
+child_held (Some c) = Some (no.HeldChild c)
+
+-- a child is held: the one of least birth
+abbrev pub held_child : State → ℕ → NodeId → Option Refusal
+held_child s t n = child_held (find (λ c. is_child s.graph n c && holds (members s c) t) (nodes s.graph))
+
+-- the ask cannot be granted at once
+abbrev pub would_block : State → ℕ → NodeId → Mode → Option Refusal
+would_block s t n m = where_true (not (enters_at s t n m)) no.WouldBlock
+
+-- all slots are taken
+abbrev pub too_many_txns : State → Option Refusal
+too_many_txns s = where_true (list_all (λ t. is_some (s.txns t)) (slots s)) no.TooManyTxns
+
+-- X on all of these
+abbrev pub holds_x_on_all : State → ℕ → List NodeId → Bool
+holds_x_on_all s t ns = list_all (λ p. same_mode (s.held t p) X) ns
+
+-- X on the node
+abbrev pub holds_x : State → ℕ → NodeId → Bool
+holds_x s t n = same_mode (s.held t n) X
+
+-- a move without X on the node, and not with X on every old and every new parent, where there are such on both sides
+abbrev pub need_exclusive : State → ℕ → NodeId → Bool → List NodeId → Option Refusal
+need_exclusive s t n both_given new =
+    where_true (not (holds_x s t n) && not (both_given && holds_x_on_all s t (parents_of s.graph n) && holds_x_on_all s t new)) no.NeedExclusive
+
+-- a move with X on the node, and a new parent not held in IX or greater
+abbrev pub need_new_parents : State → ℕ → NodeId → List NodeId → Option Refusal
+need_new_parents s t n new = if holds_x s t n then first_not_ix (s.held t) new else None
+
+-- the list has members
+abbrev pub some_given : {A : Type 0} → List A → Bool
+some_given [] = false
+some_given (x ∷ xs) = true
+
+-- the raised mode does not fit
+abbrev pub escalation_blocks : State → ℕ → NodeId → Option Refusal
+escalation_blocks s t n = where_true (not (fits s.most (members s n) t (wanted s t n (asked_by_escalation s t n)))) no.WouldBlock
+
+-- begin
+abbrev pub begin_tests : State → List (Option Refusal)
+begin_tests s = worn_begins s ∷ too_many_txns s ∷ []
+
+-- lock
+abbrev pub lock_tests : State → TxnId → NodeId → Mode → List (Option Refusal)
+lock_tests s t n m = active_on s t (n ∷ []) ++ bad_mode s n m ∷ need_parents s t.slot n (wanted s t.slot n m) ∷ []
+
+-- try
+abbrev pub try_tests : State → TxnId → NodeId → Mode → List (Option Refusal)
+try_tests s t n m = active_on s t (n ∷ []) ++ bad_mode s n m ∷ need_parents s t.slot n (wanted s t.slot n m) ∷ would_block s t.slot n m ∷ []
+
+-- unlock
+abbrev pub unlock_tests : State → TxnId → NodeId → List (Option Refusal)
+unlock_tests s t n = active_on s t (n ∷ []) ++ not_held s t.slot n ∷ held_child s t.slot n ∷ []
+
+-- cancel
+abbrev pub cancel_tests : State → TxnId → List (Option Refusal)
+cancel_tests s t = no_txn s t ∷ condemned_test (status_of s t.slot) ∷ idle_test (status_of s t.slot) ∷ []
+
+-- commit
+abbrev pub commit_tests : State → TxnId → List (Option Refusal)
+commit_tests s t = no_txn s t ∷ waiting_test (status_of s t.slot) ∷ condemned_test (status_of s t.slot) ∷ []
+
+-- abort and settle ask only that the transaction lives
+abbrev pub living_tests : State → TxnId → List (Option Refusal)
+living_tests s t = no_txn s t ∷ []
+
+-- what a transaction holds on a node, by itself or by effect
+abbrev pub held_tests : State → TxnId → NodeId → List (Option Refusal)
+held_tests s t n = no_txn s t ∷ no_node s n ∷ []
+
+-- forget takes a record that nobody holds or waits for
+abbrev pub forget_tests : State → NodeId → List (Option Refusal)
+forget_tests s r = no_node s r ∷ where_true (not (is_record_shape (shape_of s.graph r))) no.BadParents ∷ where_true (not (is_idle s r)) no.RecordInUse ∷ []
+
+-- the group mode of a node
+abbrev pub group_tests : State → NodeId → List (Option Refusal)
+group_tests s n = no_node s n ∷ []
+
+-- What calls answer.
+
+-- what a call answers that takes no memory: the value, where no test finds a reason to refuse
+abbrev pub answered : {A : Type 0} → Option Refusal → A → Result A Refusal
+answered None x = Ok x
+answered (Some r) x = Err r
+
+-- what an ask comes to: the wanted mode is granted at once, or it waits
+abbrev pub asked_at : State → ℕ → NodeId → Mode → Asked
+asked_at s t n m = if enters_at s t n m then asked.Granted (wanted s t n m) else asked.Waiting
+
+-- a call answers this refusal; where there is none, it goes
+abbrev pub RefusesOnly : {A : Type 0} → Option Refusal → Result A Refusal → Type 0
+RefusesOnly (Some r) result = result ≡ Err r
+RefusesOnly None result = IsOk result
+
+-- what a lock came to, by the mode held and the asker's status at the end
+abbrev pub locked_as : Mode → Option Status → Locked
+locked_as held (Some (Waiting n m)) = locked.Waiting
+locked_as held (Some Condemned) = locked.Victim
+locked_as held o = locked.Granted held

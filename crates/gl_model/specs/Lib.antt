@@ -1,0 +1,7 @@
+pub mod State
+pub mod Calls
+pub mod Lawful
+pub mod Tellings
+pub mod Deadlocks
+pub mod Orderly
+pub mod ToldLists

@@ -1,5 +1,0 @@
-use Rattle.gl_table.proofs.law.Effects.{cut_set_law, cut_set_on}
-use Rattle.gl_table.proofs.laws.cut_sets.Goals as goal
-
-pub returns : goal.returns
-returns c = record { law = cut_set_on; lawful = cut_set_law }

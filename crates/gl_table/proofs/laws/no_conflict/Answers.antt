@@ -1,5 +1,0 @@
-use Rattle.gl_table.proofs.law.Effects.{no_conflict_law, no_conflict_on}
-use Rattle.gl_table.proofs.laws.no_conflict.Goals as goal
-
-pub returns : goal.returns
-returns c = record { law = no_conflict_on; lawful = no_conflict_law }

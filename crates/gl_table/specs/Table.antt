@@ -1,0 +1,113 @@
+-- What a contract sees of a table, and what a listing and a board have.
+use Rattle.std.specs.Prelude.{◌≡◌, ℕ, ◌||◌, List, length, Option, Some, None, is_some, slice_get, Bool, [], map, get_or}
+use Rattle.std.specs.List.{IsDistinct, All, list_any, range_with_len}
+use Rattle.std.specs.Map.{keys_of, lookup}
+use Rattle.std.specs.Option.{option_map_or}
+use Rattle.gl_modes.specs.declared.node.NodeId.{NodeId}
+use Rattle.gl_modes.specs.Nodes.{same_node}
+use Rattle.gl_graph.specs.View.{View, graph_of}
+use Rattle.gl_header.specs.Header.{holds}
+use Rattle.gl_waits.specs.declared.victims.Victims.{Victims}
+use Rattle.gl_waits.specs.declared.board.Board.{Board}
+use Rattle.gl_waits.specs.Sets.{bits_of}
+use Rattle.gl_model.specs.declared.deadlock.Deadlock.{Deadlock}
+use Rattle.gl_model.specs.declared.answers.Detect.{Detect}
+use Rattle.gl_listed.specs.declared.list.Entry.{Entry}
+use Rattle.gl_table.specs.declared.seat.Seat.{Seat}
+use Rattle.gl_model.specs.Calls.{held_children}
+use Rattle.gl_header.specs.Headers.{Entries, held_of, queue_of}
+use Rattle.gl_listed.specs.Lists.{mode_in}
+use Rattle.gl_model.specs.State.{is_waiting_at, State, members, Txn, age_of, empty_state, waits_for}
+use Rattle.gl_table.specs.inside.Seats.{txns_of}
+use Rattle.gl_model.specs.declared.answers.LockRow.{LockRow}
+use Rattle.gl_model.specs.declared.txn.Status.{Status}
+use Rattle.gl_model.specs.declared.txn.TxnId.{TxnId}
+use Rattle.gl_model.specs.declared.answers.Detect.TheVariants.{ByWatcher}
+
+-- What a contract sees of a table, the state of the model that it stands for, and what holds of every table.
+
+-- a table: the graph, the headers by node, the transactions by slot with their lists, the way of detection, whom a deadlock takes, how many began, and the last deadlock of which a victim fell
+pub record TableView : Type 0 where
+  pub graph : View
+  pub headers : Entries
+  pub seats : List (Option Seat)
+  pub lists : List (List (NodeId × Entry))
+  pub detect : Detect
+  pub victims : Victims
+  pub begins : ℕ
+  pub deadlock : Deadlock
+
+-- the state that it stands for: headers, lists and the last deadlock are forgotten
+abbrev pub state_of : TableView → State
+state_of v =
+    record {
+      graph = graph_of v.graph;
+      txns = txns_of v.seats;
+      held = held_of v.headers;
+      queue = queue_of v.headers;
+      detect = v.detect;
+      victims = v.victims;
+      most = length v.seats;
+      begins = v.begins;
+      accepted = 0;
+    }
+
+-- what the list of a slot says of a node
+abbrev pub entry_at : TableView → ℕ → NodeId → Option Entry
+entry_at v t n = option_map_or (λ es. lookup (same_node n) es) (slice_get v.lists t) None
+
+-- the lists agree with the state: each has exactly the nodes that its transaction holds or waits for, with the mode that is held and the exact count of held children
+pub record ListsAgree (v : TableView) : Type 0 where
+  pub listed : (t : ℕ) (n : NodeId) → is_some (entry_at v t n) ≡ (holds (members (state_of v) n) t || is_waiting_at (state_of v) t n)
+  pub modes : (t : ℕ) (n : NodeId) → mode_in (entry_at v t n) ≡ (state_of v).held t n
+  pub counts : (t : ℕ) (n : NodeId) (e : Entry) → entry_at v t n ≡ Some e → e.children ≡ held_children (state_of v) t n
+
+-- each once: no node has two headers, and none stands twice in a list
+pub record StandOnce (v : TableView) : Type 0 where
+  pub headers : IsDistinct same_node (keys_of v.headers)
+  pub lists : (t : ℕ) (es : List (NodeId × Entry)) → slice_get v.lists t ≡ Some es → IsDistinct same_node (keys_of es)
+
+-- What a listing has: who lives in a slot, and the nodes that a transaction holds or waits for, row by row.
+
+-- the name and the status of the transaction in a slot
+abbrev pub named_in : ℕ → Option Txn → Option (TxnId × Status)
+named_in t None = None
+named_in t (Some x) = Some (record { slot = t; age = x.age }, x.status)
+
+-- who lives in a slot, and what it is doing
+abbrev pub living_in : State → ℕ → Option (TxnId × Status)
+living_in s t = named_in t (s.txns t)
+
+-- what a list says of a node, as a row
+abbrev pub row_of : NodeId × Entry → LockRow
+row_of (n, e) = record { node = n; mode = e.mode; children = e.children }
+
+-- the rows of a slot, in the order of its list
+abbrev pub rows_of : TableView → ℕ → List LockRow
+rows_of v t = map row_of (get_or v.lists t [])
+
+-- the row is of this node
+abbrev pub is_row_of : NodeId → LockRow → Bool
+is_row_of n r = same_node n r.node
+
+-- the rows are the locks of the slot in the model: each node that it holds or waits for has one row, with the mode that is held and the exact count of held children, and no other node has one
+pub record AreRowsOf (s : State) (t : ℕ) (rows : List LockRow) : Type 0 where
+  pub nodes : (n : NodeId) → list_any (is_row_of n) rows ≡ (holds (members s n) t || is_waiting_at s t n)
+  pub once : IsDistinct same_node (map (λ (r : LockRow). r.node) rows)
+  pub each : All (λ (r : LockRow). (r.mode ≡ s.held t r.node) × (r.children ≡ held_children s t r.node)) rows
+
+-- The board of a state: who waits for whom, in one value.
+
+-- the board of this moment: the count of accepted commands, the ages, and a bit for each wait; it has 128 places whatever the limit is (own)
+abbrev pub board_of : State → Board
+board_of s =
+    record {
+      epoch = s.accepted;
+      ages = map (age_of s) (range_with_len 0 128);
+      rows = map (λ t. bits_of 128 (waits_for s t)) (range_with_len 0 128);
+    }
+
+-- what headers and seats show of a state: who lives and waits, who holds what, and the queues
+abbrev pub shown : Entries → List (Option Seat) → ℕ → State
+shown hs seats epoch =
+    record (empty_state ByWatcher (length seats)) { txns = txns_of seats; held = held_of hs; queue = queue_of hs; accepted = epoch }

@@ -1,6 +1,0 @@
-pub mod State
-pub mod Calls
-pub mod Lawful
-pub mod Tellings
-pub mod Deadlocks
-pub mod Table
