@@ -12,10 +12,10 @@ use Rattle.gl_graph.specs.Lawful.{IsLawfulGraph}
 use Rattle.gl_graph.specs.Refusals.{first_refusal, max_count, where_true}
 use Rattle.gl_graph.specs.Shapes.{Rec, is_record_shape}
 use Rattle.gl_graph.proofs.Marked.{marked_live}
-use Rattle.gl_table.specs.model.Calls.{accepted_once, is_idle}
-use Rattle.gl_table.specs.model.Lawful.{IsLawful}
-use Rattle.gl_table.specs.model.State.{State, with_graph}
-use Rattle.gl_table.specs.model.Tellings.{Told}
+use Rattle.gl_model.specs.Calls.{accepted_once, is_idle}
+use Rattle.gl_model.specs.Lawful.{IsLawful}
+use Rattle.gl_model.specs.State.{State, with_graph}
+use Rattle.gl_model.specs.Tellings.{Told}
 use Rattle.gl_catalog.proofs.RowKeeps.{rows_come_and_go}
 use Rattle.gl_catalog.specs.declared.command.Answer.{Answer}
 use Rattle.gl_catalog.specs.declared.command.Answer.TheVariants as answer

@@ -3,8 +3,8 @@ use Rattle.std.specs.Prelude.{◌≡◌, ℕ, true, List}
 use Rattle.std.proofs.Common.{ap, ◌∙◌, subst}
 use Rattle.gl_modes.specs.declared.node.NodeId.{NodeId}
 use Rattle.gl_graph.specs.Graph.{is_live, record_parents}
-use Rattle.gl_table.specs.model.Lawful.{IsLawful, effective, is_at_least_effect}
-use Rattle.gl_table.specs.model.State.{State}
+use Rattle.gl_model.specs.Lawful.{IsLawful, effective, is_at_least_effect}
+use Rattle.gl_model.specs.State.{State}
 use Rattle.gl_catalog.proofs.OthersKeep.{run_keeps}
 use Rattle.gl_catalog.proofs.StepsKeepLaw.{runs_keep_law}
 use Rattle.gl_registry.proofs.KeptIndexes.{KeepsIndexes, same_parents}

@@ -15,10 +15,10 @@ use Rattle.gl_graph.specs.Refusals.{first_refusal, where_true}
 use Rattle.gl_graph.specs.Shapes.{File, Index, Inner, Interval, Rec, Shape, is_record_shape, kind_in}
 use Rattle.gl_graph.proofs.Removed.{was_live}
 use Rattle.gl_graph.proofs.Unrefused.{not_refused}
-use Rattle.gl_table.specs.model.Calls.{accepted_once, forget_tests, is_idle}
-use Rattle.gl_table.specs.model.Lawful.{IsLawful}
-use Rattle.gl_table.specs.model.State.{State, with_graph}
-use Rattle.gl_table.proofs.law.Rows.{gone_is, left_was}
+use Rattle.gl_model.specs.Calls.{accepted_once, forget_tests, is_idle}
+use Rattle.gl_model.specs.Lawful.{IsLawful}
+use Rattle.gl_model.specs.State.{State, with_graph}
+use Rattle.gl_model.proofs.law.Rows.{gone_is, left_was}
 use Rattle.gl_catalog.specs.declared.command.Answer.TheVariants as answer
 use Rattle.gl_catalog.specs.declared.command.Command.TheVariants as command
 use Rattle.gl_catalog.specs.Step.{Goes, Step}

@@ -1,5 +1,5 @@
--- The names of rows stay well.
-use Rattle.std.specs.Prelude.{◌≡◌, ℕ, zero, suc, Bool, true, false, List, [], ◌∷◌, Option, Some, None, Result, Ok, Err, map, is_some, if◌then◌else◌}
+-- What is said of the names of rows (IsKept of NameChanges) is kept by the calls that give locks back. For the laws of names.
+use Rattle.std.specs.Prelude.{◌≡◌, ℕ, zero, suc, Bool, true, false, List, [], ◌∷◌, Option, Some, None, Result, Ok, Err, cond, map, is_some, if◌then◌else◌}
 use Rattle.std.specs.List.{list_any}
 use Rattle.std.specs.Map.{lookup}
 use Rattle.std.proofs.Common.{refl, sym, ap, subst, ◌∙◌}
@@ -12,13 +12,13 @@ use Rattle.gl_graph.specs.Changes.{without_node}
 use Rattle.gl_graph.specs.Graph.{Graph, Node, first_in, is_live, node_at, parents_in, shape_in, shape_of}
 use Rattle.gl_graph.specs.Shapes.{is_record_shape}
 use Rattle.gl_waits.specs.declared.victims.Victims.{Victims}
-use Rattle.gl_table.specs.declared.answers.Detect.{Detect}
-use Rattle.gl_table.specs.declared.answers.Detect.TheVariants.{AtBlock, ByWatcher}
-use Rattle.gl_table.specs.model.Calls.{WaitSettles, accepted_once, enqueued, enters_at, wanted}
-use Rattle.gl_table.specs.model.Lawful.{IsLawful}
-use Rattle.gl_table.specs.model.State.{SettledWithin, State, condemned, with_graph}
-use Rattle.gl_table.specs.model.Tellings.{Told}
-use Rattle.gl_table.proofs.law.Rows.{gone_is, left_was}
+use Rattle.gl_model.specs.declared.answers.Detect.{Detect}
+use Rattle.gl_model.specs.declared.answers.Detect.TheVariants.{AtBlock, ByWatcher}
+use Rattle.gl_model.specs.Calls.{WaitSettles, accepted_once, enqueued, enters_at, wanted}
+use Rattle.gl_model.specs.Lawful.{IsLawful}
+use Rattle.gl_model.specs.State.{SettledWithin, State, condemned, with_graph}
+use Rattle.gl_model.specs.Tellings.{Told}
+use Rattle.gl_model.proofs.law.Rows.{gone_is, left_was}
 use Rattle.gl_catalog.proofs.EachStep.{each_step}
 use Rattle.gl_catalog.proofs.RowKeeps.{may_forget}
 use Rattle.gl_catalog.proofs.StepsKeepLaw.{steps_keep_law}
@@ -26,15 +26,16 @@ use Rattle.gl_catalog.specs.declared.command.Answer.{Answer}
 use Rattle.gl_catalog.specs.declared.command.Answer.TheVariants as answer
 use Rattle.gl_catalog.specs.declared.command.Command.{Command}
 use Rattle.gl_catalog.specs.declared.command.Command.TheVariants as command
-use Rattle.gl_catalog.specs.Replies.{Says, doing, rising}
+use Rattle.gl_catalog.specs.Replies.{Says}
 use Rattle.gl_catalog.specs.Step.{Accepts, Step}
-use Rattle.gl_registry.specs.Locking.{LetsGo, Names, Runs, forgets}
-use Rattle.gl_registry.specs.Names.{EndKeepsNames, GivingKeepsNames, NameWell, NoneIsNamedWell, ReleasesKeepNames, UnlocksKeepNames}
+use Rattle.gl_registry.specs.Locking.{LetsGo, LetsGoOf, Names, Runs, forgets}
+use Rattle.gl_registry.specs.Names.{EndKeeps, GivingKeeps, HoldsOf, NameWell, UnlocksKeep}
 use Rattle.gl_registry.specs.Releasing.{AreNodesOf, LetsEachGo, is_among, living, named_or_none}
 use Rattle.gl_registry.specs.Rows.{RegistryView, same_row}
 use Rattle.gl_registry.specs.declared.row.Row.{Row}
 use Rattle.gl_registry.proofs.Adopted.{accepted_of}
-use Rattle.gl_registry.proofs.LettingGo.{each_more, goes, none_go}
+use Rattle.gl_registry.proofs.LettingGo.{each_more, goes, none_go, same_row-refl}
+use Rattle.gl_registry.proofs.NameChanges.{Fewer, IsKept, IsStill, record_live}
 
 -- Commands about locks leave the graph.
 
@@ -69,22 +70,6 @@ accepted_graph s c a told s' of acc = absurd (clash of refl)
 pub step_graph : (s : State) (c : Command) (a : Answer) (told : Told) (s' : State) → is_of_locks c ≡ true → Step s c a told s' → s'.graph ≡ s.graph
 step_graph s c a told s' of step =
     each_step (λ (x : State). x.graph ≡ s.graph) s c a told s' refl (λ next h. h) (λ free next acc. accepted_graph s c a told next of acc) step
-
--- Names become fewer, and the nodes that still name rows stay.
-
-pub fewer : (ns ns' : Names) (g g' : Graph)
-    → ((q : Row) (n : NodeId) → lookup (same_row q) ns' ≡ Some n → (lookup (same_row q) ns ≡ Some n) × (node_at g' n ≡ node_at g n))
-    → NameWell ns g → NameWell ns' g'
-fewer ns ns' g g' kept well = record {
-  stands = λ row n e.
-      let k = kept row n e in let was = well.stands row n k.0 in
-      (ap (λ o. is_record_shape (shape_in o)) k.1 ∙ was.0, ap (λ o. first_in (parents_in o)) k.1 ∙ was.1);
-  apart = λ p q n a b. well.apart p q n (kept p n a).0 (kept q n b).0;
-}
-
-pub shape_live : (o : Option Node) → is_record_shape (shape_in o) ≡ true → is_some o ≡ true
-shape_live None h = absurd (never h)
-shape_live (Some x) h = refl
 
 -- Nodes are forgotten one after the other: what lives stood as it does, and what does not is among them.
 
@@ -134,16 +119,33 @@ living_some g (Some k) n e = split (is_live g k)
     (λ live. let same : k ≡ n = some_is (sym (ap (λ b. if b then Some k else None) live) ∙ e) in (ap Some same, ap (is_live g) (sym same) ∙ live))
     (λ dead. absurd (none_some (sym (ap (λ b. if b then Some k else None) dead) ∙ e)))
 
-pub each_keeps : (s s' : State) (ns ns' : Names) (rows : List Row) → IsLawful s → NameWell ns s.graph → LetsEachGo s ns rows s' ns' → NameWell ns' s'.graph
-each_keeps s s' ns ns' rows law well lets = fewer ns ns' s.graph s'.graph kept well
+-- rows are let go: names and records become fewer
+pub each_fewer : (s s' : State) (ns ns' : Names) (rows : List Row) → IsLawful s → NameWell ns s.graph → LetsEachGo s ns rows s' ns' → Fewer ns ns' s.graph s'.graph
+each_fewer s s' ns ns' rows law well lets = record {
+  records = λ r rec. still r rec;
+  names = λ q n e.
+      let was = kept q n e in (was.0, (still_shape n was.1) ∙ (well.stands q n was.0).0);
+  left = λ q n e rec. split (is_among rows q)
+      (λ among. lets.names q ∙ ap (λ b. if b then living s'.graph (lookup (same_row q) ns) else lookup (same_row q) ns) among
+      ∙ ap (living s'.graph) e ∙ ap (λ b. if b then Some n else None) (record_live s'.graph n rec))
+      (λ beside. lets.names q ∙ ap (λ b. if b then living s'.graph (lookup (same_row q) ns) else lookup (same_row q) ns) beside ∙ e);
+}
   where
     leaves : Leaves s s' lets.forgotten.0
     leaves = run_leaves s s' law lets.forgotten.0 lets.forgotten.1
 
+    still_shape : (n : NodeId) → node_at s'.graph n ≡ node_at s.graph n → is_record_shape (shape_of s'.graph n) ≡ is_record_shape (shape_of s.graph n)
+    still_shape n same = ap (λ o. is_record_shape (shape_in o)) same
+
+    still : (r : NodeId) → is_record_shape (shape_of s'.graph r) ≡ true → IsStill s.graph s'.graph r
+    still r rec =
+        let same = leaves.same r (record_live s'.graph r rec) in
+        record { was = sym (still_shape r same) ∙ rec; rec = rec; file = ap (λ o. first_in (parents_in o)) same }
+
     there : (q : Row) (n : NodeId) → lookup (same_row q) ns ≡ Some n → is_among rows q ≡ false → is_live s'.graph n ≡ true
     there q n e beside = split (is_live s'.graph n) (λ live. live)
         (λ dead.
-        let of = whose ns rows lets.forgotten.0 lets.forgotten.2 n (leaves.lost n (shape_live (node_at s.graph n) (well.stands q n e).0) dead) in
+        let of = whose ns rows lets.forgotten.0 lets.forgotten.2 n (leaves.lost n (record_live s.graph n (well.stands q n e).0) dead) in
         absurd (clash of.1 (ap (is_among rows) (well.apart of.0 q n of.2 e) ∙ beside)))
 
     kept : (q : Row) (n : NodeId) → lookup (same_row q) ns' ≡ Some n → (lookup (same_row q) ns ≡ Some n) × (node_at s'.graph n ≡ node_at s.graph n)
@@ -156,51 +158,55 @@ each_keeps s s' ns ns' rows law well lets = fewer ns ns' s.graph s'.graph kept w
         let was : lookup (same_row q) ns ≡ Some n = sym (lets.names q ∙ ap (λ b. if b then living s'.graph (lookup (same_row q) ns) else lookup (same_row q) ns) beside) ∙ e in
         (was, leaves.same n (there q n was beside)))
 
-pub one_keeps : (s s' : State) (ns ns' : Names) (row : Row) (result : Result (Unit {0}) Refusal) → IsLawful s → NameWell ns s.graph → LetsGo s ns row result s' ns' → NameWell ns' s'.graph
-one_keeps s s' ns ns' row result law well lets =
-    each_keeps s s' ns ns' (row ∷ []) law well (each_more s s s' ns ns ns' [] row (none_go s ns) (goes s s' law ns ns' row result lets))
-
 pub one_lawful : (s s' : State) (ns ns' : Names) (row : Row) (result : Result (Unit {0}) Refusal) → IsLawful s → LetsGo s ns row result s' ns' → IsLawful s'
 one_lawful s s' ns ns' row result law lets = let it = goes s s' law ns ns' row result lets in (run_leaves s s' law it.run.0 it.run.1).law
 
--- a command about locks, alone
-module _ (s mid : State) (c : Command) (a : Answer) (told : Told) (ns : Names) (law : IsLawful s) (well : NameWell ns s.graph) (of : is_of_locks c ≡ true) (run : Runs s ((c, (a, told)) ∷ []) mid) where
-  pub locks_keep : NameWell ns mid.graph
-  locks_keep = subst (NameWell ns) (sym (ap (λ (x : State). x.graph) run.2 ∙ step_graph s c a told run.0 of run.1)) well
+-- a row that was let go has no name
+pub gone_unnamed : (s s' : State) (ns ns' : Names) (row : Row) (u : Unit {0}) → LetsGo s ns row (Ok u) s' ns' → lookup (same_row row) ns' ≡ None
+gone_unnamed s s' ns ns' row u h = by (lookup (same_row row) ns) refl h
+  where
+    by : (o : Option NodeId) → lookup (same_row row) ns ≡ o → LetsGoOf o s ns row (Ok u) s' ns' → lookup (same_row row) ns' ≡ None
+    by None e h = ap (lookup (same_row row)) h.2 ∙ e
+    by (Some n) e h = h.1 row ∙ ap (λ b. cond b None (lookup (same_row row) ns)) (same_row-refl row)
 
-  pub locks_lawful : IsLawful mid
-  locks_lawful = subst IsLawful (sym run.2) (steps_keep_law s run.0 c a told law run.1)
+-- What is said of names is kept by each call that gives locks back.
 
-unlocks : UnlocksKeepNames
-unlocks s s' v v' t row (Ok u) told law well h =
-    let c : Command = command.Unlock t (named_or_none v row) in
-    one_keeps h.0 s' v.names v'.names row h.1 (locks_lawful s h.0 c _ _ v.names law well refl h.2) (locks_keep s h.0 c _ _ v.names law well refl h.2) h.3
-unlocks s s' v v' t row (Err r) told law well h =
-    subst (λ (x : RegistryView). NameWell x.names s'.graph) (sym h.1) (locks_keep s s' (command.Unlock t (named_or_none v row)) _ _ v.names law well refl h.0)
+module _ (Holds : Names → Graph → Type 0) (kept : IsKept Holds) where
+  pub each_keeps : (s s' : State) (ns ns' : Names) (rows : List Row) → IsLawful s → Holds ns s.graph → LetsEachGo s ns rows s' ns' → Holds ns' s'.graph
+  each_keeps s s' ns ns' rows law holds lets =
+      kept.fewer ns ns' s.graph s'.graph (each_fewer s s' ns ns' rows law (kept.well ns s.graph holds) lets) holds
 
-end_keeps : (c : Command) → is_of_locks c ≡ true → EndKeepsNames c
-end_keeps c of s s' v v' slot (Ok u) told law well h =
-    each_keeps h.0 s' v.names v'.names _ (locks_lawful s h.0 c _ _ v.names law well of h.1) (locks_keep s h.0 c _ _ v.names law well of h.1) h.2
-end_keeps c of s s' v v' slot (Err r) told law well h =
-    subst (λ (x : RegistryView). NameWell x.names s'.graph) (sym h.1) (locks_keep s s' c _ _ v.names law well of h.0)
+  pub one_keeps : (s s' : State) (ns ns' : Names) (row : Row) (result : Result (Unit {0}) Refusal) → IsLawful s → Holds ns s.graph → LetsGo s ns row result s' ns' → Holds ns' s'.graph
+  one_keeps s s' ns ns' row result law holds lets =
+      each_keeps s s' ns ns' (row ∷ []) law holds (each_more s s s' ns ns ns' [] row (none_go s ns) (goes s s' law ns ns' row result lets))
 
-giving_keeps : {A : Type 0} (says : A → Says) (c : Command) → is_of_locks c ≡ true → GivingKeepsNames says c
-giving_keeps says c of s s' v v' slot (Ok x) law well h =
-    each_keeps h.0 s' v.names v'.names _ (locks_lawful s h.0 c _ _ v.names law well of h.1) (locks_keep s h.0 c _ _ v.names law well of h.1) h.2
-giving_keeps says c of s s' v v' slot (Err r) law well h =
-    subst (λ (x : RegistryView). NameWell x.names s'.graph) (sym h.1) (locks_keep s s' c _ _ v.names law well of h.0)
+  -- nothing changed
+  pub same_keeps : (s s' : State) (v v' : RegistryView) → s' ≡ s → v' ≡ v → HoldsOf Holds v s → HoldsOf Holds v' s'
+  same_keeps s s' v v' state registry holds = subst (λ (x : RegistryView). HoldsOf Holds x s') (sym registry) (subst (HoldsOf Holds v) (sym state) holds)
 
-pub releases_keep_names : ReleasesKeepNames
-releases_keep_names = record {
-  unlocks = unlocks;
-  commits = λ t. end_keeps (command.Commit t) refl;
-  aborts = λ t. end_keeps (command.Abort t) refl;
-  cancels = λ t told. giving_keeps (doing told) (command.Cancel t) refl;
-  escalates = λ t n told. giving_keeps (rising told) (command.Escalate t n) refl;
-}
+  -- a command about locks, alone
+  module _ (s mid : State) (c : Command) (a : Answer) (told : Told) (ns : Names) (law : IsLawful s) (holds : Holds ns s.graph) (of : is_of_locks c ≡ true) (run : Runs s ((c, (a, told)) ∷ []) mid) where
+    pub locks_keep : Holds ns mid.graph
+    locks_keep = subst (Holds ns) (sym (ap (λ (x : State). x.graph) run.2 ∙ step_graph s c a told run.0 of run.1)) holds
 
-pub none_is_named_well : NoneIsNamedWell
-none_is_named_well v s none = record {
-  stands = λ row n e. absurd (none_some (sym (none row) ∙ e));
-  apart = λ p q n a b. absurd (none_some (sym (none p) ∙ a));
-}
+    pub locks_lawful : IsLawful mid
+    locks_lawful = subst IsLawful (sym run.2) (steps_keep_law s run.0 c a told law run.1)
+
+  pub unlocks_keep : UnlocksKeep Holds
+  unlocks_keep s s' v v' t row (Ok u) told law holds h =
+      let c : Command = command.Unlock t (named_or_none v row) in
+      one_keeps h.0 s' v.names v'.names row h.1 (locks_lawful s h.0 c _ _ v.names law holds refl h.2) (locks_keep s h.0 c _ _ v.names law holds refl h.2) h.3
+  unlocks_keep s s' v v' t row (Err r) told law holds h =
+      subst (λ (x : RegistryView). Holds x.names s'.graph) (sym h.1) (locks_keep s s' (command.Unlock t (named_or_none v row)) _ _ v.names law holds refl h.0)
+
+  pub end_keeps : (c : Command) → is_of_locks c ≡ true → EndKeeps Holds c
+  end_keeps c of s s' v v' slot (Ok u) told law holds h =
+      each_keeps h.0 s' v.names v'.names _ (locks_lawful s h.0 c _ _ v.names law holds of h.1) (locks_keep s h.0 c _ _ v.names law holds of h.1) h.2
+  end_keeps c of s s' v v' slot (Err r) told law holds h =
+      subst (λ (x : RegistryView). Holds x.names s'.graph) (sym h.1) (locks_keep s s' c _ _ v.names law holds of h.0)
+
+  pub giving_keeps : {A : Type 0} (says : A → Says) (c : Command) → is_of_locks c ≡ true → GivingKeeps Holds says c
+  giving_keeps says c of s s' v v' slot (Ok x) law holds h =
+      each_keeps h.0 s' v.names v'.names _ (locks_lawful s h.0 c _ _ v.names law holds of h.1) (locks_keep s h.0 c _ _ v.names law holds of h.1) h.2
+  giving_keeps says c of s s' v v' slot (Err r) law holds h =
+      subst (λ (x : RegistryView). Holds x.names s'.graph) (sym h.1) (locks_keep s s' c _ _ v.names law holds of h.0)

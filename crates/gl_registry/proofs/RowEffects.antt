@@ -10,11 +10,11 @@ use Rattle.gl_graph.specs.Lawful.{IsLawfulGraph}
 use Rattle.gl_graph.proofs.KindRules.{plain_live, record_parent_plain}
 use Rattle.gl_graph.proofs.Look.{all_at}
 use Rattle.gl_graph.proofs.Moved.{any_found, some_at}
-use Rattle.gl_table.specs.declared.answers.Effect.{Effect}
-use Rattle.gl_table.specs.declared.answers.Effect.TheVariants as effect
-use Rattle.gl_table.specs.model.Lawful.{EffS, EffX, eff_s, eff_x, effective, is_at_least_effect}
-use Rattle.gl_table.specs.model.State.{State}
-use Rattle.gl_table.proofs.law.Effects.{ReadOn, all_from, any_all, eff_s_route, eff_x_route}
+use Rattle.gl_model.specs.declared.answers.Effect.{Effect}
+use Rattle.gl_model.specs.declared.answers.Effect.TheVariants as effect
+use Rattle.gl_model.specs.Lawful.{EffS, EffX, eff_s, eff_x, effective, is_at_least_effect}
+use Rattle.gl_model.specs.State.{State}
+use Rattle.gl_model.proofs.law.Effects.{ReadOn, all_from, any_all, eff_s_route, eff_x_route}
 use Rattle.gl_catalog.proofs.GraphChanges.{quiet_under}
 use Rattle.gl_catalog.proofs.Keeps.{effect_refl, greater_effect}
 use Rattle.gl_registry.specs.Promises.{IsRow, NoRowConflict, effect_of}

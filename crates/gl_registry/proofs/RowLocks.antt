@@ -4,13 +4,13 @@ use Rattle.std.proofs.Common.{refl, sym, subst, inl, inr}
 use Rattle.gl_modes.specs.declared.node.NodeId.{NodeId}
 use Rattle.gl_modes.specs.declared.refusal.Refusal.{Refusal}
 use Rattle.gl_graph.specs.Refusals.{first_refusal}
-use Rattle.gl_table.specs.declared.answers.Locked.{Locked}
-use Rattle.gl_table.specs.model.State.{State}
-use Rattle.gl_table.specs.model.Tellings.{Told}
+use Rattle.gl_model.specs.declared.answers.Locked.{Locked}
+use Rattle.gl_model.specs.State.{State}
+use Rattle.gl_model.specs.Tellings.{Told}
 use Rattle.gl_registry.specs.Locking.{Adopts, IsNamed, LetsGo, LocksActive, LocksNamed, LocksRow, LocksUnless, Names, Wish, row_tests}
 use Rattle.gl_registry.specs.Records.{InsertsAfter, InsertsRow, InsertsUnless}
 use Rattle.gl_registry.specs.Locking.{Keys}
-use Rattle.gl_table.specs.declared.txn.TxnId.{TxnId}
+use Rattle.gl_model.specs.declared.txn.TxnId.{TxnId}
 use Rattle.gl_registry.specs.Rows.{RegistryView}
 use Rattle.gl_registry.specs.declared.row.Row.{Row}
 

@@ -10,12 +10,12 @@ use Rattle.gl_graph.specs.Lawful.{IsLawfulGraph}
 use Rattle.gl_graph.specs.Shapes.{Rec, Shape}
 use Rattle.gl_graph.proofs.NewIndex.{ns}
 use Rattle.gl_graph.proofs.Unrefused.{not_false, test_fails}
-use Rattle.gl_table.specs.model.Calls.{WaitSettles, enqueued, enters_at, wanted}
-use Rattle.gl_table.specs.model.Lawful.{IsLawful}
-use Rattle.gl_table.specs.model.State.{State}
-use Rattle.gl_table.specs.model.Tellings.{Told}
-use Rattle.gl_table.proofs.law.Move.{Moves}
-use Rattle.gl_table.proofs.telling.Follows.{lawful_waits}
+use Rattle.gl_model.specs.Calls.{WaitSettles, enqueued, enters_at, wanted}
+use Rattle.gl_model.specs.Lawful.{IsLawful}
+use Rattle.gl_model.specs.State.{State}
+use Rattle.gl_model.specs.Tellings.{Told}
+use Rattle.gl_model.proofs.law.Move.{Moves}
+use Rattle.gl_model.proofs.telling.Follows.{lawful_waits}
 use Rattle.gl_catalog.specs.Step.{Accepts, Run, Step}
 use Rattle.gl_catalog.specs.Tests.{refusal_of, tests_of}
 use Rattle.gl_catalog.specs.declared.command.Answer.{Answer}

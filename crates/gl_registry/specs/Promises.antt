@@ -5,12 +5,12 @@ use Rattle.gl_modes.specs.declared.mode.Mode.TheVariants.{NL}
 use Rattle.gl_modes.specs.declared.node.NodeId.{NodeId}
 use Rattle.gl_graph.specs.Graph.{Graph, first_parent, indexes_of, record_parents, shape_of}
 use Rattle.gl_graph.specs.Shapes.{is_file_shape, is_record_shape, keys_in}
-use Rattle.gl_table.specs.declared.answers.Effect.{Effect}
-use Rattle.gl_table.specs.declared.answers.Effect.TheVariants as effect
-use Rattle.gl_table.specs.declared.txn.TxnId.{TxnId}
-use Rattle.gl_table.specs.model.Lawful.{IsLawful, effective, is_at_least_effect}
-use Rattle.gl_table.specs.model.State.{State, lives}
-use Rattle.gl_table.specs.model.Tellings.{Told}
+use Rattle.gl_model.specs.declared.answers.Effect.{Effect}
+use Rattle.gl_model.specs.declared.answers.Effect.TheVariants as effect
+use Rattle.gl_model.specs.declared.txn.TxnId.{TxnId}
+use Rattle.gl_model.specs.Lawful.{IsLawful, effective, is_at_least_effect}
+use Rattle.gl_model.specs.State.{State, lives}
+use Rattle.gl_model.specs.Tellings.{Told}
 use Rattle.gl_catalog.specs.declared.command.Answer.{Answer}
 use Rattle.gl_catalog.specs.declared.command.Command.{Command}
 use Rattle.gl_catalog.specs.Promises.{names, told_granted}

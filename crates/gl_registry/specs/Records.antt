@@ -4,9 +4,9 @@ use Rattle.gl_modes.specs.declared.node.NodeId.{NodeId}
 use Rattle.gl_modes.specs.declared.refusal.Refusal.{Refusal}
 use Rattle.gl_modes.specs.declared.refusal.Refusal.TheVariants as no
 use Rattle.gl_graph.specs.Refusals.{first_refusal}
-use Rattle.gl_table.specs.declared.txn.TxnId.{TxnId}
-use Rattle.gl_table.specs.model.State.{State}
-use Rattle.gl_table.specs.model.Tellings.{Told}
+use Rattle.gl_model.specs.declared.txn.TxnId.{TxnId}
+use Rattle.gl_model.specs.State.{State}
+use Rattle.gl_model.specs.Tellings.{Told}
 use Rattle.gl_catalog.specs.declared.command.Command.TheVariants as command
 use Rattle.gl_catalog.specs.Replies.{doing, made}
 use Rattle.gl_registry.specs.declared.row.Row.{Row}

@@ -1,6 +1,6 @@
 //! The laws of rows, each the contract of a call that does nothing.
 
-ghost use Rattle.gl_registry.specs.Names.{ChangesKeepNames, InsertsKeepNames, LocksKeepNames, NoneIsNamedWell, ReleasesKeepNames};
+ghost use Rattle.gl_registry.specs.Names.{EachCallKeeps, NameWell, NoneIsLeftOut, NoneIsNamedWell, RecordsStayNamed};
 ghost use Rattle.gl_registry.specs.Promises.{NoRowConflict, OthersKeepRowEffects, RecordsHaveRowEffects};
 
 /// In a lawful state no row is written by one transaction and read by another, whether or not a
@@ -25,8 +25,12 @@ pub fn others_keep_row_effects()
 /// it is so before, it is so after each call; and it is so in a new registry.
 pub fn names_stay_well()
     ensures start { NoneIsNamedWell }
-    ensures locks { LocksKeepNames }
-    ensures releases { ReleasesKeepNames }
-    ensures inserts { InsertsKeepNames }
-    ensures changes { ChangesKeepNames }
+    ensures kept { EachCallKeeps NameWell }
+{}
+
+/// Each record of a file names a row of it: where it is so before, it is so after each call; and it is
+/// so in a new registry over a file without records.
+pub fn records_stay_named()
+    ensures start { NoneIsLeftOut }
+    ensures kept { RecordsStayNamed }
 {}

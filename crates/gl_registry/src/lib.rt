@@ -2,11 +2,14 @@
 //! the laws of rows, whether or not a node stands for them.
 #![tactic(auto)]
 
+mod call;
 pub mod laws;
 mod names;
 mod registry;
+mod replies;
 mod row;
 mod sets;
 
+pub use call::RowCall;
 pub use registry::Registry;
 pub use row::Row;

@@ -12,6 +12,7 @@ use indexmap::{IndexMap, IndexSet};
 use std::alloc::Global;
 use std::marker::Model;
 
+mod apply;
 mod lock;
 mod records;
 mod release;

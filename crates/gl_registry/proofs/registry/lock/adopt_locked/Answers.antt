@@ -1,4 +1,4 @@
-use Rattle.gl_table.specs.model.State.{State}
+use Rattle.gl_model.specs.State.{State}
 use Rattle.gl_catalog.specs.Tests.{refusal_of}
 use Rattle.gl_catalog.specs.declared.command.Command.TheVariants as command
 use Rattle.std.proofs.Common.{ap, ◌∙◌, arith}
