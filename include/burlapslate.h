@@ -25,17 +25,18 @@
  * names nothing and is refused.
  *
  * WHAT A CALL ANSWERS. A bs_reply: its status is BS_DONE, BS_WAITING, BS_VICTIM, or says why the call was
- * refused; a refused call changed nothing. All fields that a call does not speak of are zero. Where several
- * refusals hold, the first in the order of the call's list is answered. Before all others come
- * BS_NULL_POINTER and then, but where a call says that BS_BAD_NUMBER does, BS_NO_MANAGER; then BS_WORN_OUT,
- * of every call but the questions; and BS_NO_MEMORY, of each call that takes memory, comes last.
+ * refused; a refused call changed nothing, but that of bs_lock_row and bs_insert_row a node may be gone that
+ * nobody held. All fields that a call does not speak of are zero. Where several refusals hold, the first in
+ * the order of the call's list is answered. Before all others come BS_NULL_POINTER and then, but where a
+ * call says that BS_BAD_NUMBER does, BS_NO_MANAGER; then BS_WORN_OUT, of every call but the questions; and
+ * BS_NO_MEMORY, of each call that takes memory, comes last, but where a call says otherwise.
  *
  * NOTICES. A call with `told` fills it anew: whom it told what, at most one notice for each transaction, by
  * rising slot. It is empty where the call was refused. The transaction that a lock, a cancel or an abort
  * names is left out: whoever makes the call has its answer.
  *
  * MEMORY. Calls that end something or give something back take no memory and cannot fail for want of it:
- * unlock, cancel, commit, abort, settle, delete, rekey, escalate. Others say so.
+ * unlock, cancel, commit, abort, settle, delete, rekey, escalate, of nodes and of rows. Others say so.
  */
 #ifndef BURLAPSLATE_H
 #define BURLAPSLATE_H
@@ -52,7 +53,7 @@ extern "C" {
 /* The version of what is declared here. The first number rises where a program has to be changed for it, the
  * second where something is added, the third where neither. */
 #define BS_VERSION_MAJOR 0
-#define BS_VERSION_MINOR 8
+#define BS_VERSION_MINOR 9
 #define BS_VERSION_PATCH 0
 
 /* How many transactions can live at once, and so how many notices a call can have. */
@@ -267,6 +268,19 @@ bs_reply bs_call_forget(bs_manager *manager, bs_node record);
 bs_reply bs_call_rekey(bs_manager *manager, bs_txn txn, bs_node record, bs_node index, uint64_t key, bs_notices *told);
 bs_reply bs_call_move(bs_manager *manager, bs_txn txn, bs_node node, const bs_node *parents, size_t count,
                       bs_notices *told);
+bs_reply bs_call_lock_row(bs_manager *manager, bs_txn txn, bs_node file, uint64_t number, const uint64_t *keys,
+                          size_t count, bs_mode mode, bs_notices *told);
+bs_reply bs_call_unlock_row(bs_manager *manager, bs_txn txn, bs_node file, uint64_t number, bs_notices *told);
+bs_reply bs_call_insert_row(bs_manager *manager, bs_txn txn, bs_node file, uint64_t number, const uint64_t *keys,
+                            size_t count);
+bs_reply bs_call_delete_row(bs_manager *manager, bs_txn txn, bs_node file, uint64_t number, bs_notices *told);
+bs_reply bs_call_rekey_row(bs_manager *manager, bs_txn txn, bs_node file, uint64_t number, bs_node index, uint64_t key,
+                           bs_notices *told);
+bs_reply bs_call_commit_rows(bs_manager *manager, bs_txn txn, bs_notices *told);
+bs_reply bs_call_abort_rows(bs_manager *manager, bs_txn txn, bs_notices *told);
+bs_reply bs_call_cancel_rows(bs_manager *manager, bs_txn txn, bs_notices *told);
+bs_reply bs_call_escalate_rows(bs_manager *manager, bs_txn txn, bs_node node, bs_notices *told);
+bs_reply bs_call_row_node(bs_manager *manager, bs_node file, uint64_t number);
 bs_reply bs_call_verdict(bs_manager *manager, bs_txn txn, bs_node node, bs_mode mode);
 bs_found bs_call_ended(bs_manager *manager);
 bs_reply bs_call_watch(bs_manager *manager, bs_watcher *watcher);
@@ -570,6 +584,84 @@ static inline bs_reply bs_move(bs_manager *manager, bs_txn txn, bs_node node, co
     return bs_null();
   }
   return bs_call_move(manager, txn, node, bs_nodes(parents), count, told);
+}
+
+/* ------------------------------------------------------------------------------------------------
+ * Rows by the engine's own numbers. A row is a number of a file's, any number at all. It has a node while some
+ * transaction holds it or waits for it, and loses that with the last of them: bs_lock_row and bs_insert_row make the
+ * node, and the other calls named `row` or `rows` take it away.
+ * The keys are the row's own, one for each index of its file in the order of making. They are read when the row is
+ * locked, and again behind each wait, since only the engine knows them.
+ *
+ * bs_commit, bs_abort, bs_cancel, bs_escalate and bs_unlock let no row go: its node stands on then, and goes when the
+ * row is next let go. A node that bs_forget or bs_delete took away is found gone when its row is next locked, and
+ * another is adopted. Each call is one command, and each node that is adopted or forgotten is one more; where a call is
+ * refused these may be counted all the same, and bs_ended has nobody then. A transaction that ends lets go all rows
+ * that it asked for: a look-up for each, and a step for each node that is forgotten.
+ */
+
+/* Locks a row, as bs_lock locks its node, which is in `node` where it is granted, waited for, or fells its asker. The
+ * intentions above it are the caller's. A row without a node gets one; so does one whose node has other keys, where
+ * nobody holds that or waits for it. Refused with BS_WORN_OUT where fewer than four commands can be counted any more,
+ * BS_NO_SUCH_TXN, BS_TXN_WAITING, BS_TXN_CONDEMNED, BS_NO_MEMORY; BS_RECORD_IN_USE where its node has other keys, and
+ * somebody holds it or waits for it; where it needs a node, as bs_adopt; then as bs_lock, and a node that it got is
+ * gone again; and with BS_BAD_NUMBER, first of all, where the mode is no number of enum bs_modes. Takes memory. */
+static inline bs_reply bs_lock_row(bs_manager *manager, bs_txn txn, bs_node file, uint64_t number, const uint64_t *keys,
+                                   size_t count, bs_mode mode, bs_notices *told) {
+  if (bs_lacks(manager, told) || (keys == NULL && count != 0)) return bs_null();
+  return bs_call_lock_row(manager, txn, file, number, bs_numbers(keys), count, mode, told);
+}
+
+/* Releases a row, as bs_unlock releases its node, which is forgotten where nobody else holds it or waits for it. A row
+ * without a node is refused with BS_NO_SUCH_NODE here and in the two calls below. */
+static inline bs_reply bs_unlock_row(bs_manager *manager, bs_txn txn, bs_node file, uint64_t number, bs_notices *told) {
+  return bs_lacks(manager, told) ? bs_null() : bs_call_unlock_row(manager, txn, file, number, told);
+}
+
+/* A new row, with its node in `node`, as bs_insert makes one: held in X. Refused as bs_lock_row is, up to
+ * BS_RECORD_IN_USE, which here says that somebody holds the row or waits for it; and then as bs_insert. Past
+ * BS_RECORD_IN_USE a node that the row had is gone. Takes memory. */
+static inline bs_reply bs_insert_row(bs_manager *manager, bs_txn txn, bs_node file, uint64_t number,
+                                     const uint64_t *keys, size_t count) {
+  if (manager == NULL || (keys == NULL && count != 0)) return bs_null();
+  return bs_call_insert_row(manager, txn, file, number, bs_numbers(keys), count);
+}
+
+/* Takes a row away, which the transaction holds in X, as bs_delete does its node. */
+static inline bs_reply bs_delete_row(bs_manager *manager, bs_txn txn, bs_node file, uint64_t number, bs_notices *told) {
+  return bs_lacks(manager, told) ? bs_null() : bs_call_delete_row(manager, txn, file, number, told);
+}
+
+/* Gives a row another key for one index, as bs_rekey does its node. */
+static inline bs_reply bs_rekey_row(bs_manager *manager, bs_txn txn, bs_node file, uint64_t number, bs_node index,
+                                    uint64_t key, bs_notices *told) {
+  return bs_lacks(manager, told) ? bs_null() : bs_call_rekey_row(manager, txn, file, number, index, key, told);
+}
+
+/* As bs_commit, and the rows that it held are let go. */
+static inline bs_reply bs_commit_rows(bs_manager *manager, bs_txn txn, bs_notices *told) {
+  return bs_lacks(manager, told) ? bs_null() : bs_call_commit_rows(manager, txn, told);
+}
+
+/* As bs_abort, and the rows that it held or waited for are let go. */
+static inline bs_reply bs_abort_rows(bs_manager *manager, bs_txn txn, bs_notices *told) {
+  return bs_lacks(manager, told) ? bs_null() : bs_call_abort_rows(manager, txn, told);
+}
+
+/* As bs_cancel, and a row that it waited for is let go. */
+static inline bs_reply bs_cancel_rows(bs_manager *manager, bs_txn txn, bs_notices *told) {
+  return bs_lacks(manager, told) ? bs_null() : bs_call_cancel_rows(manager, txn, told);
+}
+
+/* As bs_escalate, of any node, and the rows that it released are let go. */
+static inline bs_reply bs_escalate_rows(bs_manager *manager, bs_txn txn, bs_node node, bs_notices *told) {
+  return bs_lacks(manager, told) ? bs_null() : bs_call_escalate_rows(manager, txn, node, told);
+}
+
+/* The node of a row, in `node`, for questions and for bs_verdict; where that was taken away by bs_forget or bs_delete,
+ * still its name. Refused with BS_NO_SUCH_NODE where it has none. It changes nothing and takes no memory. */
+static inline bs_reply bs_row_node(bs_manager *manager, bs_node file, uint64_t number) {
+  return manager == NULL ? bs_null() : bs_call_row_node(manager, file, number);
 }
 
 /* ------------------------------------------------------------------------------------------------

@@ -464,6 +464,73 @@ static inline bs_reply bs_table_move(bs_table *table, bs_txn txn, bs_node node, 
 }
 
 /* ------------------------------------------------------------------------------------------------
+ * Rows by the engine's own numbers.
+ */
+
+/* As bs_lock_row, but it never answers BS_WAITING: a row that has to be waited for is slept for, to `until` at most
+ * where that is not null. The intentions above it are the caller's: one that is wanting is refused with
+ * BS_NEED_PARENTS, with the parent in `node`, which bs_table_lock_path locks. That may sleep, and behind a sleep the
+ * keys are to be read again. A row whose time was over keeps its node until the transaction ends. */
+static inline bs_reply bs_table_lock_row(bs_table *table, bs_txn txn, bs_node file, uint64_t number,
+                                         const uint64_t *keys, size_t count, bs_mode mode,
+                                         const struct timespec *until) {
+  bs_table_inside *in = bs_table_enter(table);
+  bs_reply reply;
+  bs_node row;
+  if (in == NULL) return bs_no_table(table);
+  if (!bs_is_time(until)) return bs_table_leave(table, bs_bad_number());
+  reply = bs_lock_row(&in->manager, txn, file, number, keys, count, mode, &in->told);
+  row = reply.node;
+  bs_table_wake(in, reply.status, &in->told, false);
+  if (reply.status == BS_WAITING) reply = bs_table_sleep(table, txn, row, mode, until);
+  if (reply.status == BS_DONE) reply.node = row;
+  pthread_mutex_unlock(&table->latch);
+  return reply;
+}
+
+static inline bs_reply bs_table_unlock_row(bs_table *table, bs_txn txn, bs_node file, uint64_t number,
+                                           bs_notices *told) {
+  BS_TABLE_TELL(table, told, false, bs_unlock_row(&in->manager, txn, file, number, list));
+}
+
+static inline bs_reply bs_table_insert_row(bs_table *table, bs_txn txn, bs_node file, uint64_t number,
+                                           const uint64_t *keys, size_t count) {
+  BS_TABLE_ASK(table, bs_insert_row(&in->manager, txn, file, number, keys, count));
+}
+
+static inline bs_reply bs_table_delete_row(bs_table *table, bs_txn txn, bs_node file, uint64_t number,
+                                           bs_notices *told) {
+  BS_TABLE_TELL(table, told, false, bs_delete_row(&in->manager, txn, file, number, list));
+}
+
+static inline bs_reply bs_table_rekey_row(bs_table *table, bs_txn txn, bs_node file, uint64_t number, bs_node index,
+                                          uint64_t key, bs_notices *told) {
+  BS_TABLE_TELL(table, told, false, bs_rekey_row(&in->manager, txn, file, number, index, key, list));
+}
+
+static inline bs_reply bs_table_commit_rows(bs_table *table, bs_txn txn, bs_notices *told) {
+  BS_TABLE_TELL(table, told, false, bs_commit_rows(&in->manager, txn, list));
+}
+
+/* Wakes who sleeps for the transaction, as bs_table_abort does. */
+static inline bs_reply bs_table_abort_rows(bs_table *table, bs_txn txn, bs_notices *told) {
+  BS_TABLE_TELL(table, told, true, bs_abort_rows(&in->manager, txn, list));
+}
+
+/* Wakes who sleeps for the wait, as bs_table_cancel does. */
+static inline bs_reply bs_table_cancel_rows(bs_table *table, bs_txn txn, bs_notices *told) {
+  BS_TABLE_TELL(table, told, true, bs_cancel_rows(&in->manager, txn, list));
+}
+
+static inline bs_reply bs_table_escalate_rows(bs_table *table, bs_txn txn, bs_node node, bs_notices *told) {
+  BS_TABLE_TELL(table, told, false, bs_escalate_rows(&in->manager, txn, node, list));
+}
+
+static inline bs_reply bs_table_row_node(bs_table *table, bs_node file, uint64_t number) {
+  BS_TABLE_ASK(table, bs_row_node(&in->manager, file, number));
+}
+
+/* ------------------------------------------------------------------------------------------------
  * Several commands in one hold of the latch, with nobody's between them.
  */
 

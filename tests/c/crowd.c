@@ -21,8 +21,8 @@
  */
 
 enum kind {
-  BEGIN, LOCK, LOCK_PATH, TRY, UNLOCK, ESCALATE, CANCEL, COMMIT, ABORT, SETTLE, INSERT, DELETE, REKEY, MOVE, ADD_INNER,
-  ADD_FILE, ADD_INDEX, KINDS
+  BEGIN, LOCK, LOCK_PATH, LOCK_ROW, TRY, UNLOCK, UNLOCK_ROW, ESCALATE, ESCALATE_ROWS, CANCEL, CANCEL_ROWS, COMMIT,
+  COMMIT_ROWS, ABORT, ABORT_ROWS, SETTLE, INSERT, DELETE, REKEY, MOVE, ADD_INNER, ADD_FILE, ADD_INDEX, KINDS
 };
 
 enum { MOST_NUMBERS = 3, MOST_PARENTS = 2 };
@@ -98,12 +98,18 @@ static bs_reply made(bs_manager *m, const struct call *c, bs_notices *told) {
     case BEGIN: return bs_begin(m);
     case LOCK: return bs_lock(m, c->txn, c->node, c->mode, told);
     case LOCK_PATH: return bs_lock_path(m, c->txn, c->node, c->mode, told);
+    case LOCK_ROW: return bs_lock_row(m, c->txn, c->node, c->key, c->numbers, c->number_count, c->mode, told);
     case TRY: return bs_try(m, c->txn, c->node, c->mode);
     case UNLOCK: return bs_unlock(m, c->txn, c->node, told);
+    case UNLOCK_ROW: return bs_unlock_row(m, c->txn, c->node, c->key, told);
     case ESCALATE: return bs_escalate(m, c->txn, c->node, told);
+    case ESCALATE_ROWS: return bs_escalate_rows(m, c->txn, c->node, told);
     case CANCEL: return bs_cancel(m, c->txn, told);
+    case CANCEL_ROWS: return bs_cancel_rows(m, c->txn, told);
     case COMMIT: return bs_commit(m, c->txn, told);
+    case COMMIT_ROWS: return bs_commit_rows(m, c->txn, told);
     case ABORT: return bs_abort(m, c->txn, told);
+    case ABORT_ROWS: return bs_abort_rows(m, c->txn, told);
     case SETTLE: return bs_settle(m, c->txn, told);
     case INSERT: return bs_insert(m, c->txn, c->node, c->numbers, c->number_count);
     case DELETE: return bs_delete(m, c->txn, c->node, told);
@@ -157,6 +163,21 @@ static bs_reply served_lock(bs_manager *m, enum kind kind, bs_txn txn, bs_node n
   return serve(m, call, told);
 }
 
+static bs_reply served_lock_row(bs_manager *m, bs_txn txn, bs_node file, uint64_t number, const uint64_t *keys,
+                                size_t count, bs_mode mode, bs_notices *told) {
+  struct call call = call_of(LOCK_ROW, txn, file);
+  call.key = number;
+  call.mode = mode;
+  give_numbers(&call, keys, count);
+  return serve(m, call, told);
+}
+
+static bs_reply served_unlock_row(bs_manager *m, bs_txn txn, bs_node file, uint64_t number, bs_notices *told) {
+  struct call call = call_of(UNLOCK_ROW, txn, file);
+  call.key = number;
+  return serve(m, call, told);
+}
+
 static bs_reply served_try(bs_manager *m, bs_txn txn, bs_node node, bs_mode mode) {
   struct call call = call_of(TRY, txn, node);
   call.mode = mode;
@@ -167,8 +188,8 @@ static bs_reply served_unlock(bs_manager *m, bs_txn txn, bs_node node, bs_notice
   return serve(m, call_of(UNLOCK, txn, node), told);
 }
 
-static bs_reply served_escalate(bs_manager *m, bs_txn txn, bs_node node, bs_notices *told) {
-  return serve(m, call_of(ESCALATE, txn, node), told);
+static bs_reply served_escalate(bs_manager *m, enum kind kind, bs_txn txn, bs_node node, bs_notices *told) {
+  return serve(m, call_of(kind, txn, node), told);
 }
 
 static bs_reply served_end(bs_manager *m, enum kind kind, bs_txn txn, bs_notices *told) {
@@ -218,10 +239,17 @@ static bs_reply served_add_index(bs_manager *m, const bs_node *parents, size_t c
 #define bs_lock_path(m, txn, node, mode, told) served_lock(m, LOCK_PATH, txn, node, mode, told)
 #define bs_try(m, txn, node, mode) served_try(m, txn, node, mode)
 #define bs_unlock(m, txn, node, told) served_unlock(m, txn, node, told)
-#define bs_escalate(m, txn, node, told) served_escalate(m, txn, node, told)
+#define bs_escalate(m, txn, node, told) served_escalate(m, ESCALATE, txn, node, told)
 #define bs_cancel(m, txn, told) served_end(m, CANCEL, txn, told)
 #define bs_commit(m, txn, told) served_end(m, COMMIT, txn, told)
 #define bs_abort(m, txn, told) served_end(m, ABORT, txn, told)
+#define bs_lock_row(m, txn, file, row, keys, count, mode, told) \
+  served_lock_row(m, txn, file, row, keys, count, mode, told)
+#define bs_unlock_row(m, txn, file, row, told) served_unlock_row(m, txn, file, row, told)
+#define bs_escalate_rows(m, txn, node, told) served_escalate(m, ESCALATE_ROWS, txn, node, told)
+#define bs_cancel_rows(m, txn, told) served_end(m, CANCEL_ROWS, txn, told)
+#define bs_commit_rows(m, txn, told) served_end(m, COMMIT_ROWS, txn, told)
+#define bs_abort_rows(m, txn, told) served_end(m, ABORT_ROWS, txn, told)
 #define bs_settle(m, txn, told) served_end(m, SETTLE, txn, told)
 #define bs_insert(m, txn, file, keys, count) served_insert(m, txn, file, keys, count)
 #define bs_delete(m, txn, record, told) served_delete(m, txn, record, told)
@@ -235,10 +263,10 @@ static bs_reply served_add_index(bs_manager *m, const bs_node *parents, size_t c
 
 /* ------------------------------------------------------------------------------------------------
  * The nodes: a root, two areas, four files with an index of three intervals each, six records in each file at first,
- * and eight accounts.
+ * and eight accounts; and ten rows in each file, which have nodes while they are locked.
  */
 
-enum { AREAS = 2, FILES = 4, INTERVALS = 3, RECORDS = 24, ACCOUNTS = 8, THREADS = 128, WATCHERS = 2 };
+enum { AREAS = 2, FILES = 4, INTERVALS = 3, RECORDS = 24, ROWS = 10, ACCOUNTS = 8, THREADS = 128, WATCHERS = 2 };
 
 static bs_table table = BS_NO_TABLE_HERE;
 static bs_node root, areas[AREAS], files[FILES], indexes[FILES], intervals[FILES][INTERVALS], accounts[ACCOUNTS];
@@ -361,6 +389,17 @@ static bs_reply ask_path(struct session *s, bs_node node, bs_mode mode) {
   return as_slept(s, bs_table_lock_path(&table, s->txn, node, mode, pick(s, 4) == 0 ? &until : NULL));
 }
 
+/* A row by its number, which has one key for good, with the intentions above it. */
+static bs_reply ask_row(struct session *s, bs_mode mode) {
+  struct timespec until = moment_in(200 + (long)pick(s, 2000));
+  size_t i = pick(s, FILES);
+  uint64_t row = pick(s, ROWS), key = row * 29;
+  bs_reply reply = ask_path(s, intervals[i][key / 100], BS_IX);
+  if (reply.status == BS_DONE) reply = ask_path(s, files[i], BS_IX);
+  if (reply.status != BS_DONE) return reply;
+  return as_slept(s, bs_table_lock_row(&table, s->txn, files[i], row, &key, 1, mode, pick(s, 4) == 0 ? &until : NULL));
+}
+
 static bs_mode any_mode(struct session *s) {
   static const bs_mode modes[] = { BS_IS, BS_IS, BS_IX, BS_IX, BS_S, BS_S, BS_SIX, BS_X };
   return modes[pick(s, 8)];
@@ -422,8 +461,12 @@ static bs_reply meddle(struct session *s) {
   pthread_mutex_lock(&names);
   whom = free_game[pick(s, THREADS)];
   pthread_mutex_unlock(&names);
-  if (pick(s, 3) == 0) return as_served(bs_table_abort(&table, whom, NULL));
-  return as_served(bs_table_cancel(&table, whom, NULL));
+  switch (pick(s, 6)) {
+    case 0: return as_served(bs_table_abort(&table, whom, NULL));
+    case 1: return as_served(bs_table_abort_rows(&table, whom, NULL));
+    case 2: return as_served(bs_table_cancel_rows(&table, whom, NULL));
+    default: return as_served(bs_table_cancel(&table, whom, NULL));
+  }
 }
 
 /* Several in one hold; one that waits is awaited. */
@@ -482,7 +525,7 @@ static bs_reply audit(void) {
 }
 
 static bs_reply any_command(struct session *s) {
-  switch (pick(s, 25)) {
+  switch (pick(s, 31)) {
     case 0: return ask(s, any_node(s), any_mode(s));
     case 1: return as_served(bs_table_try(&table, s->txn, any_node(s), any_mode(s)));
     case 2: return as_served(bs_table_unlock(&table, s->txn, any_node(s), NULL));
@@ -498,6 +541,10 @@ static bs_reply any_command(struct session *s) {
     case 15: case 16: return ask_path(s, any_record(s), BS_X);
     case 17: return ask_path(s, any_node(s), any_mode(s));
     case 18: return pick(s, 4) == 0 ? audit() : add(s);
+    case 19: case 20: return ask_row(s, BS_X);
+    case 21: case 22: return ask_row(s, BS_S);
+    case 23: return as_served(bs_table_unlock_row(&table, s->txn, files[pick(s, FILES)], pick(s, ROWS), NULL));
+    case 24: return as_served(bs_table_escalate_rows(&table, s->txn, any_node(s), NULL));
     default: return add(s);
   }
 }
@@ -518,8 +565,9 @@ static void one_transaction(struct session *s) {
   for (i = 0; i < count && status != BS_VICTIM && status != BS_TXN_CONDEMNED; i++) status = any_command(s).status;
   if (status == BS_VICTIM) s->victims++;
   name_game(s, false);
-  if (status == BS_VICTIM || pick(s, 8) == 0) status = as_served(bs_table_abort(&table, s->txn, NULL)).status;
-  else status = as_served(bs_table_commit(&table, s->txn, NULL)).status;
+  if (status == BS_VICTIM || pick(s, 8) == 0) status = as_served(bs_table_abort_rows(&table, s->txn, NULL)).status;
+  else if (pick(s, 8) == 0) status = as_served(bs_table_commit(&table, s->txn, NULL)).status;
+  else status = as_served(bs_table_commit_rows(&table, s->txn, NULL)).status;
   if (status == BS_TXN_CONDEMNED) status = as_served(bs_table_abort(&table, s->txn, NULL)).status;
   WANT(status == BS_DONE || (status == BS_NO_SUCH_TXN && s->is_game));
 }
@@ -589,9 +637,9 @@ static void *look_on(void *arg) {
 /* By slot, the lock that waits. */
 static size_t waiting_at[BS_SLOTS];
 
-/* The node for which a lock waits: a path says so. */
+/* The node for which a lock waits: a path and a row's lock say so. */
 static bs_node awaited(const struct served *s) {
-  return s->call.kind == LOCK_PATH ? s->reply.node : s->call.node;
+  return s->call.kind == LOCK_PATH || s->call.kind == LOCK_ROW ? s->reply.node : s->call.node;
 }
 
 /* How a notice ends a lock, and whether it came to that; or its transaction was ended by somebody before it looked. */
@@ -606,9 +654,9 @@ static void compare_end(const bs_notice *n) {
 
 static void compare_named(const struct call *call) {
   const struct served *s = &log_of_calls[waiting_at[call->txn.slot]];
+  bool is_cancel = call->kind == CANCEL || call->kind == CANCEL_ROWS;
   if (!s->has_slept || !same_txn(s->call.txn, call->txn)) return;
-  if (call->kind == CANCEL) WANT(s->came.status == BS_NOT_WAITING || s->came.status == BS_NO_SUCH_TXN);
-  else WANT(s->came.status == BS_NO_SUCH_TXN);
+  WANT(s->came.status == BS_NO_SUCH_TXN || (is_cancel && s->came.status == BS_NOT_WAITING));
 }
 
 static void replay_one(bs_manager *m, size_t at, bs_notices *told) {
@@ -622,7 +670,7 @@ static void replay_one(bs_manager *m, size_t at, bs_notices *told) {
   if (reply.status == BS_WAITING) waiting_at[s->call.txn.slot] = at;
   for (i = 0; i < told->count; i++) compare_end(&told->at[i]);
   if (reply.status != BS_DONE || !was_waiting) return;
-  if (s->call.kind == CANCEL || s->call.kind == ABORT) compare_named(&s->call);
+  if (s->call.kind >= CANCEL && s->call.kind <= ABORT_ROWS) compare_named(&s->call);
 }
 
 /* Behind all sessions: a manager of one thread, asked the same, is the same. */

@@ -563,6 +563,122 @@ static void a_path_ends_early(void) {
 }
 
 /* ------------------------------------------------------------------------------------------------
+ * Rows by the engine's own numbers.
+ */
+
+/* One who asks for a row in a thread of its own. */
+struct row_asker {
+  bs_txn txn;
+  uint64_t number;
+  const struct timespec *until;
+  bs_reply reply;
+  pthread_t thread;
+};
+
+static const uint64_t row_key = 70;
+
+static void *ask_row(void *arg) {
+  struct row_asker *a = (struct row_asker *)arg;
+  a->reply = bs_table_lock_row(&table, a->txn, file, a->number, &row_key, 1, BS_X, a->until);
+  return NULL;
+}
+
+static void send_for_row(struct row_asker *a, bs_txn txn, uint64_t number) {
+  memset(a, 0, sizeof *a);
+  a->txn = txn;
+  a->number = number;
+  start(&a->thread, ask_row, a);
+  await_wait(txn);
+}
+
+/* A transaction that may write rows of the lower interval. */
+static bs_txn begin_writer(void) {
+  bs_txn t = begin();
+  DONE(bs_table_lock_path(&table, t, file, BS_IX, NULL));
+  DONE(bs_table_lock_path(&table, t, below, BS_IX, NULL));
+  return t;
+}
+
+static bs_node locked_row(bs_txn t, uint64_t number) {
+  return DONE(bs_table_lock_row(&table, t, file, number, &row_key, 1, BS_X, NULL)).node;
+}
+
+static bool has_node(uint64_t number) {
+  return bs_table_row_node(&table, file, number).status == BS_DONE;
+}
+
+static void a_row_is_slept_for(void) {
+  struct row_asker one;
+  bs_node row;
+  bs_txn a, b;
+  set_up(BS_AT_BLOCK);
+  a = begin_writer(), b = begin_writer();
+  row = locked_row(a, 7);
+  send_for_row(&one, b, 7);
+  DONE(bs_table_commit_rows(&table, a, &told));
+  WANT(told.count == 1 && is_told(0, b, BS_TOLD_GRANTED));
+  join(one.thread);
+  WANT(DONE(one.reply).mode == BS_X && same_node(one.reply.node, row));
+  holds(b, row, BS_X);
+  DONE(bs_table_unlock_row(&table, b, file, 7, NULL));
+  WANT(!has_node(7));
+  DONE(bs_table_end(&table));
+}
+
+/* A sleep for a row ends as any sleep does. */
+static void how_a_sleep_for_a_row_ends(void) {
+  static const struct timespec wrong = { 0, -1 };
+  struct row_asker one;
+  struct timespec until;
+  bs_txn a, b, c;
+  set_up(BS_AT_BLOCK);
+  a = begin_writer(), b = begin_writer(), c = begin();
+  locked_row(a, 7);
+  ANSWERS(BS_BAD_NUMBER, bs_table_lock_row(&table, b, file, 7, &row_key, 1, BS_X, &wrong));
+  ANSWERS(BS_NEED_PARENTS, bs_table_lock_row(&table, c, file, 8, &row_key, 1, BS_X, NULL));
+  until = moment_in(1000);
+  ANSWERS(BS_TIMED_OUT, bs_table_lock_row(&table, b, file, 7, &row_key, 1, BS_X, &until));
+  send_for_row(&one, b, 7);
+  DONE(bs_table_cancel_rows(&table, b, NULL));
+  join(one.thread);
+  ANSWERS(BS_NOT_WAITING, one.reply);
+  send_for_row(&one, b, 7);
+  DONE(bs_table_delete_row(&table, a, file, 7, NULL));
+  join(one.thread);
+  ANSWERS(BS_GONE, one.reply);
+  locked_row(a, 7);
+  send_for_row(&one, b, 7);
+  DONE(bs_table_abort_rows(&table, b, NULL));
+  join(one.thread);
+  ANSWERS(BS_NO_SUCH_TXN, one.reply);
+  DONE(bs_table_commit_rows(&table, a, NULL));
+  WANT(!has_node(7));
+  DONE(bs_table_end(&table));
+  ANSWERS(BS_NO_MANAGER, bs_table_lock_row(&table, a, file, 7, &row_key, 1, BS_X, NULL));
+}
+
+static void rows_that_change(void) {
+  bs_reply reply;
+  bs_node row;
+  bs_txn a;
+  set_up(BS_AT_BLOCK);
+  a = begin_writer();
+  DONE(bs_table_lock_path(&table, a, above, BS_IX, NULL));
+  row = DONE(bs_table_insert_row(&table, a, file, 7, &row_key, 1)).node;
+  WANT(same_node(bs_table_row_node(&table, file, 7).node, row));
+  DONE(bs_table_rekey_row(&table, a, file, 7, by_key, 150, &told));
+  WANT(bs_table_key(&table, row, 0).count == 150 && told.count == 0);
+  DONE(bs_table_commit_rows(&table, a, NULL));
+  WANT(!has_node(7));
+  a = begin();
+  DONE(bs_table_lock_path(&table, a, file, BS_IS, NULL));
+  DONE(bs_table_lock_row(&table, a, file, 7, &row_key, 1, BS_S, NULL));
+  reply = DONE(bs_table_escalate_rows(&table, a, file, NULL));
+  WANT(reply.mode == BS_S && reply.released == 1 && !has_node(7));
+  DONE(bs_table_end(&table));
+}
+
+/* ------------------------------------------------------------------------------------------------
  * Lists of commands.
  */
 
@@ -1036,6 +1152,9 @@ int main(int count, char **words) {
   TELL(a_path_waits_twice);
   TELL(a_path_moves);
   TELL(a_path_ends_early);
+  TELL(a_row_is_slept_for);
+  TELL(how_a_sleep_for_a_row_ends);
+  TELL(rows_that_change);
   TELL(lists_of_commands);
   TELL(lists_that_begin);
   TELL(lists_that_name);

@@ -359,6 +359,165 @@ static void an_index_over_rows(void) {
   DONE(bs_end(&m));
 }
 
+/* A row with its key, and with the intentions above it. */
+static bs_reply lock_row(bs_manager *m, bs_txn t, struct file f, uint64_t number, uint64_t key, bs_mode mode) {
+  DONE(bs_lock_path(m, t, f.file, BS_IX, &told));
+  DONE(bs_lock_path(m, t, key < 100 ? f.below : f.above, BS_IX, &told));
+  return bs_lock_row(m, t, f.file, number, &key, 1, mode, &told);
+}
+
+static bool has_node(bs_manager *m, struct file f, uint64_t number) {
+  return bs_row_node(m, f.file, number).status == BS_DONE;
+}
+
+static void a_row_by_its_number(void) {
+  bs_manager m = BS_NO_MANAGER_HERE;
+  struct file f = make_file(&m, begin_manager(&m, BS_AT_BLOCK));
+  uint64_t nodes = bs_len(&m).count;
+  bs_txn a = begin(&m), b = begin(&m);
+  bs_node row = DONE(lock_row(&m, a, f, 7, 70, BS_S)).node;
+  WANT(same_node(row, DONE(bs_row_node(&m, f.file, 7)).node) && bs_held(&m, a, row).mode == BS_S);
+  WANT(bs_key(&m, row, 0).count == 70 && same_node(bs_parent(&m, row, 1).node, f.below));
+  WANT(same_node(row, DONE(lock_row(&m, b, f, 7, 70, BS_S)).node) && bs_len(&m).count == nodes + 1);
+  DONE(bs_unlock_row(&m, a, f.file, 7, &told));
+  WANT(has_node(&m, f, 7));
+  DONE(bs_unlock_row(&m, b, f.file, 7, &told));
+  WANT(!has_node(&m, f, 7) && bs_kind(&m, row).status == BS_NO_SUCH_NODE && bs_len(&m).count == nodes);
+  DONE(lock_row(&m, a, f, 1, 10, BS_X));
+  DONE(lock_row(&m, a, f, 2, 110, BS_X));
+  WANT(has_node(&m, f, 1) && has_node(&m, f, 2) && bs_len(&m).count == nodes + 2);
+  DONE(bs_commit_rows(&m, a, &told));
+  WANT(!has_node(&m, f, 1) && !has_node(&m, f, 2) && bs_len(&m).count == nodes && told.count == 0);
+  DONE(bs_end(&m));
+}
+
+static void a_row_is_waited_for(void) {
+  bs_manager m = BS_NO_MANAGER_HERE;
+  struct file f = make_file(&m, begin_manager(&m, BS_AT_BLOCK));
+  bs_txn a = begin(&m), b = begin(&m), c = begin(&m);
+  bs_node row = DONE(lock_row(&m, a, f, 7, 70, BS_X)).node;
+  bs_reply reply = lock_row(&m, b, f, 7, 70, BS_S);
+  WANT(reply.status == BS_WAITING && same_node(reply.node, row));
+  WANT(bs_verdict(&m, b, row, BS_S).status == BS_WAITING);
+  WANT(lock_row(&m, c, f, 7, 70, BS_X).status == BS_WAITING);
+  DONE(bs_cancel_rows(&m, c, &told));
+  WANT(bs_has(bs_ended(&m).slots, c.slot) && told.count == 0 && has_node(&m, f, 7));
+  DONE(bs_commit_rows(&m, a, &told));
+  WANT(told.count == 1 && is_told(0, b, BS_TOLD_GRANTED) && same_node(told.at[0].node, row));
+  WANT(bs_has(bs_ended(&m).slots, b.slot) && DONE(bs_verdict(&m, b, row, BS_S)).mode == BS_S);
+  WANT(has_node(&m, f, 7));
+  DONE(bs_commit_rows(&m, b, &told));
+  WANT(!has_node(&m, f, 7));
+  DONE(bs_end(&m));
+}
+
+static void a_row_with_other_keys(void) {
+  bs_manager m = BS_NO_MANAGER_HERE;
+  struct file f = make_file(&m, begin_manager(&m, BS_AT_BLOCK));
+  bs_txn a = begin(&m), b = begin(&m), c = begin(&m);
+  bs_node row = DONE(lock_row(&m, a, f, 7, 70, BS_X)).node, other;
+  DONE(bs_commit(&m, a, &told));
+  WANT(has_node(&m, f, 7));
+  other = DONE(lock_row(&m, b, f, 7, 150, BS_X)).node;
+  WANT(!same_node(row, other) && bs_kind(&m, row).status == BS_NO_SUCH_NODE);
+  WANT(bs_key(&m, other, 0).count == 150 && same_node(bs_parent(&m, other, 1).node, f.above));
+  WANT(lock_row(&m, c, f, 7, 70, BS_X).status == BS_RECORD_IN_USE && same_node(bs_row_node(&m, f.file, 7).node, other));
+  DONE(bs_commit(&m, b, &told));
+  DONE(bs_forget(&m, other));
+  row = DONE(lock_row(&m, c, f, 7, 150, BS_X)).node;
+  WANT(!same_node(row, other) && same_node(bs_row_node(&m, f.file, 7).node, row));
+  DONE(bs_abort_rows(&m, c, &told));
+  WANT(!has_node(&m, f, 7));
+  DONE(bs_end(&m));
+}
+
+static void rows_are_refused(void) {
+  static const uint64_t key = 70;
+  bs_manager m = BS_NO_MANAGER_HERE;
+  bs_node root = begin_manager(&m, BS_AT_BLOCK);
+  struct file f = make_file(&m, root);
+  bs_txn a = begin(&m), gone = { 5, 0 };
+  bs_reply reply = bs_lock_row(&m, a, f.file, 7, &key, 1, BS_X, &told);
+  uint64_t nodes = bs_len(&m).count;
+  WANT(reply.status == BS_NEED_PARENTS && same_node(reply.node, f.file) && !has_node(&m, f, 7));
+  WANT(bs_lock_row(&m, a, f.file, 7, &key, 1, 6, &told).status == BS_BAD_NUMBER);
+  WANT(bs_lock_row(&m, gone, f.file, 7, &key, 1, BS_X, &told).status == BS_NO_SUCH_TXN);
+  WANT(bs_lock_row(&m, a, f.file, 7, &key, 0, BS_X, &told).status == BS_BAD_KEYS);
+  WANT(bs_lock_row(&m, a, root, 7, &key, 1, BS_X, &told).status == BS_BAD_PARENTS);
+  WANT(lock_row(&m, a, f, 7, 70, BS_IX).status == BS_BAD_MODE && !has_node(&m, f, 7) && bs_len(&m).count == nodes);
+  WANT(bs_unlock_row(&m, a, f.file, 7, &told).status == BS_NO_SUCH_NODE);
+  WANT(bs_delete_row(&m, a, f.file, 7, &told).status == BS_NO_SUCH_NODE);
+  WANT(bs_rekey_row(&m, a, f.file, 7, f.index, 80, &told).status == BS_NO_SUCH_NODE);
+  DONE(lock_row(&m, a, f, 7, 70, BS_S));
+  WANT(bs_delete_row(&m, a, f.file, 7, &told).status == BS_NEED_EXCLUSIVE && has_node(&m, f, 7));
+  WANT(bs_cancel_rows(&m, a, &told).status == BS_NOT_WAITING);
+  WANT(bs_commit_rows(&m, gone, &told).status == BS_NO_SUCH_TXN);
+  WANT(bs_abort_rows(&m, gone, &told).status == BS_NO_SUCH_TXN);
+  WANT(bs_lock_row(&m, a, f.file, 7, NULL, 1, BS_X, &told).status == BS_NULL_POINTER);
+  WANT(bs_lock_row(NULL, a, f.file, 7, &key, 1, BS_X, &told).status == BS_NULL_POINTER && told.count == 0);
+  WANT(bs_insert_row(&m, a, f.file, 8, NULL, 1).status == BS_NULL_POINTER);
+  WANT(bs_commit_rows(&m, a, NULL).status == BS_NULL_POINTER && bs_row_node(NULL, f.file, 7).status == BS_NULL_POINTER);
+  DONE(bs_end(&m));
+  WANT(bs_lock_row(&m, a, f.file, 7, &key, 1, BS_X, &told).status == BS_NO_MANAGER);
+  WANT(bs_insert_row(&m, a, f.file, 7, &key, 1).status == BS_NO_MANAGER && !has_node(&m, f, 7));
+}
+
+static void a_deadlock_over_rows(void) {
+  bs_manager m = BS_NO_MANAGER_HERE;
+  struct file f = make_file(&m, begin_manager(&m, BS_AT_BLOCK));
+  bs_txn a = begin(&m), b = begin(&m);
+  bs_node one = DONE(lock_row(&m, a, f, 1, 10, BS_X)).node, two = DONE(lock_row(&m, b, f, 2, 20, BS_X)).node;
+  bs_reply reply;
+  WANT(lock_row(&m, a, f, 2, 20, BS_X).status == BS_WAITING);
+  reply = lock_row(&m, b, f, 1, 10, BS_X);
+  WANT(reply.status == BS_VICTIM && same_node(reply.node, one));
+  DONE(bs_abort_rows(&m, b, &told));
+  WANT(told.count == 1 && is_told(0, a, BS_TOLD_GRANTED) && same_node(told.at[0].node, two));
+  WANT(has_node(&m, f, 1) && has_node(&m, f, 2));
+  DONE(bs_commit_rows(&m, a, &told));
+  WANT(!has_node(&m, f, 1) && !has_node(&m, f, 2));
+  DONE(bs_end(&m));
+}
+
+static void rows_come_and_go(void) {
+  static const uint64_t key = 70;
+  bs_manager m = BS_NO_MANAGER_HERE;
+  struct file f = make_file(&m, begin_manager(&m, BS_AT_BLOCK));
+  bs_txn a = begin(&m), b = begin(&m);
+  bs_node row;
+  DONE(lock_row(&m, a, f, 1, 70, BS_S));
+  DONE(lock_row(&m, a, f, 2, 150, BS_S));
+  DONE(lock_row(&m, b, f, 3, 70, BS_S));
+  row = DONE(bs_insert_row(&m, a, f.file, 7, &key, 1)).node;
+  WANT(bs_held(&m, a, row).mode == BS_X && same_node(bs_row_node(&m, f.file, 7).node, row));
+  WANT(bs_insert_row(&m, b, f.file, 7, &key, 1).status == BS_RECORD_IN_USE);
+  DONE(bs_rekey_row(&m, a, f.file, 7, f.index, 150, &told));
+  WANT(bs_key(&m, row, 0).count == 150 && same_node(bs_parent(&m, row, 1).node, f.above));
+  WANT(lock_row(&m, b, f, 7, 150, BS_S).status == BS_WAITING);
+  DONE(bs_delete_row(&m, a, f.file, 7, &told));
+  WANT(told.count == 1 && is_told(0, b, BS_TOLD_GONE) && bs_verdict(&m, b, row, BS_S).status == BS_GONE);
+  WANT(!has_node(&m, f, 7) && bs_kind(&m, row).status == BS_NO_SUCH_NODE);
+  DONE(bs_commit_rows(&m, a, &told));
+  WANT(!has_node(&m, f, 1) && !has_node(&m, f, 2) && has_node(&m, f, 3));
+  DONE(bs_end(&m));
+}
+
+/* A file is held whole: its rows go, but for one that somebody else reads. */
+static void an_escalation_of_rows(void) {
+  bs_manager m = BS_NO_MANAGER_HERE;
+  struct file f = make_file(&m, begin_manager(&m, BS_AT_BLOCK));
+  bs_txn a = begin(&m), b = begin(&m);
+  uint64_t key = 20;
+  bs_reply reply;
+  DONE(lock_row(&m, a, f, 1, 10, BS_S));
+  DONE(lock_row(&m, a, f, 2, key, BS_S));
+  DONE(bs_lock_path(&m, b, f.file, BS_IS, &told));
+  DONE(bs_lock_row(&m, b, f.file, 2, &key, 1, BS_S, &told));
+  reply = DONE(bs_escalate_rows(&m, a, f.file, &told));
+  WANT(reply.mode == BS_SIX && reply.released == 2 && !has_node(&m, f, 1) && has_node(&m, f, 2));
+  DONE(bs_end(&m));
+}
+
 static void an_escalation(void) {
   bs_manager m = BS_NO_MANAGER_HERE;
   bs_node root = begin_manager(&m, BS_AT_BLOCK);
@@ -686,6 +845,13 @@ int main(void) {
   TELL(a_record_goes);
   TELL(a_row_is_adopted);
   TELL(an_index_over_rows);
+  TELL(a_row_by_its_number);
+  TELL(a_row_is_waited_for);
+  TELL(a_row_with_other_keys);
+  TELL(rows_are_refused);
+  TELL(a_deadlock_over_rows);
+  TELL(rows_come_and_go);
+  TELL(an_escalation_of_rows);
   TELL(an_escalation);
   TELL(a_file_moves);
   TELL(questions);

@@ -1,4 +1,5 @@
 pub mod Halves
+mod ListedRows
 mod Opening
 mod Paths
 mod PlaceCalls
@@ -7,6 +8,6 @@ mod PlaceWords
 mod PostedCalls
 mod PostedWords
 mod Queues
-mod Rows
+mod RowCalls
 mod Serving
 mod Showing

@@ -3,7 +3,7 @@ use Rattle.std.specs.Prelude.{◌≡◌, ◌⊎◌, ◌≤◌, ℕ, Bool, false,
 use Rattle.std.proofs.Common.{refl, sym, subst, inl, inr, arith}
 use Rattle.gl_waits.specs.declared.board.Board.{Board}
 use Rattle.gl_modes.specs.declared.refusal.Refusal.TheVariants as no
-use Rattle.gl_table.specs.declared.answers.Detect.{Detect}
+use Rattle.gl_model.specs.declared.answers.Detect.{Detect}
 use Rattle.gl_boxes.specs.Boards.{last_epoch}
 use Rattle.gl_boxes.specs.Strip.{Strip}
 use Rattle.gl_boxes.proofs.Fronts.{prefix_self}

@@ -4,7 +4,7 @@ use Rattle.std.proofs.Common.{ap, ◌∙◌}
 use denote.Bor.{Bor}
 use Rattle.gl_modes.specs.declared.refusal.Refusal.{Refusal}
 use Rattle.gl_header.specs.Header.{Waiter}
-use Rattle.gl_table.specs.model.Calls.{RefusesOnly}
+use Rattle.gl_model.specs.Calls.{RefusesOnly}
 use Rattle.gl_c.specs.declared.reply.Reply.{Reply}
 use Rattle.gl_c.specs.Listings.{of_queue}
 use Rattle.gl_c.specs.Replies.{refused_reply}

@@ -4,9 +4,9 @@ use Rattle.std.proofs.Common.{refl, sym, ap, subst, ◌∙◌, inl, arith}
 use mathlib.Core.Bool.{true≢false}
 use Rattle.gl_waits.specs.declared.board.Board.{Board}
 use Rattle.gl_modes.specs.declared.refusal.Refusal.{Refusal}
-use Rattle.gl_table.specs.declared.txn.TxnId.{TxnId}
-use Rattle.gl_table.specs.model.Table.{board_of}
-use Rattle.gl_table.specs.model.Tellings.{Told}
+use Rattle.gl_model.specs.declared.txn.TxnId.{TxnId}
+use Rattle.gl_table.specs.Table.{board_of}
+use Rattle.gl_model.specs.Tellings.{Told}
 use Rattle.gl_catalog.specs.declared.command.Answer.{Answer}
 use Rattle.gl_catalog.specs.declared.command.Command.{Command}
 use Rattle.gl_catalog.specs.declared.manager.paths.Reached.{Reached}
@@ -42,12 +42,14 @@ serves_not g c a told m applies not_so none same quiet = record {
   wakes = λ so. absurd (true≢false (sym so ∙ not_so));
   shown = shows_same (g.waited || leaves_waiting a) (board_of (state_of m)) g.shown;
   quiet = subst (λ (x : ManagerView). IsQuiet x g.shown g.waited) (sym same) quiet;
+  rows = refl;
 }
 
 -- an accepted command
 pub serves_yes : (g after : GuardedView) (c : Command) (a : Answer) (told : Told) (m : ManagerView) (boxes : List Slot) (ended : ℕ)
     → Applies g.manager c a told m → accepts c a ≡ true
-    → ((mid : List Slot) × Delivers g.boxes told mid × (boxes ≡ cleared c a mid)) → (after.manager ≡ m) × (after.boxes ≡ boxes) × (after.ended ≡ ended)
+    → ((mid : List Slot) × Delivers g.boxes told mid × (boxes ≡ cleared c a mid))
+    → (after.manager ≡ m) × (after.boxes ≡ boxes) × (after.ended ≡ ended) × (after.rows ≡ g.rows)
     → Wakes c g.manager told m ended
     → ShowsOn (g.waited || leaves_waiting a) (board_of (state_of m)) g.shown after.shown → IsQuiet after.manager after.shown after.waited
     → Serves g c a told after
@@ -59,6 +61,7 @@ serves_yes g after c a told m boxes ended applies so delivered kept wakes shown 
       (subst (λ (x : ManagerView). Wakes c g.manager told x ended) (sym kept.0) wakes);
   shown = subst (λ (x : ManagerView). ShowsOn (g.waited || leaves_waiting a) (board_of (state_of x)) g.shown after.shown) (sym kept.0) shown;
   quiet = quiet;
+  rows = kept.3;
 }
 
 -- a path of which nothing was accepted
@@ -74,13 +77,14 @@ path_none g t ask result told m path same none quiet =
       wakes = λ later. absurd (omega (arith, later, as_many));
       shown = shows_same (g.waited || ends_waiting result) (board_of (state_of m)) g.shown;
       quiet = subst (λ (x : ManagerView). IsQuiet x g.shown g.waited) (sym same) quiet;
+      rows = refl;
     }
 
 -- a path of which some was
 pub path_some : (g after : GuardedView) (t : TxnId) (ask : Ask) (result : Result Reached Refusal) (told : Told) (m : ManagerView)
     (boxes : List Slot) (ended : ℕ) → LocksPath t ask g.manager told result m → g.manager.accepted < m.accepted
     → ((mid : List Slot) × Delivers g.boxes told mid × (boxes ≡ emptied (lock_of t ask) mid))
-    → (after.manager ≡ m) × (after.boxes ≡ boxes) × (after.ended ≡ ended) → Wakes (lock_of t ask) g.manager told m ended
+    → (after.manager ≡ m) × (after.boxes ≡ boxes) × (after.ended ≡ ended) × (after.rows ≡ g.rows) → Wakes (lock_of t ask) g.manager told m ended
     → ShowsOn (g.waited || ends_waiting result) (board_of (state_of m)) g.shown after.shown → IsQuiet after.manager after.shown after.waited
     → ServesPath g t ask result told after
 path_some g after t ask result told m boxes ended path more delivered kept wakes shown quiet =
@@ -93,4 +97,5 @@ path_some g after t ask result told m boxes ended path more delivered kept wakes
           (subst (λ (x : ManagerView). Wakes (lock_of t ask) g.manager told x ended) (sym kept.0) wakes);
       shown = subst (λ (x : ManagerView). ShowsOn (g.waited || ends_waiting result) (board_of (state_of x)) g.shown after.shown) (sym kept.0) shown;
       quiet = quiet;
+      rows = kept.3;
     }

@@ -4,7 +4,7 @@ use Rattle.gl_waits.specs.declared.board.Board.{Board as TheBoard}
 use Rattle.gl_waits.specs.Boards.{age_in, board_edge}
 use Rattle.gl_waits.specs.Sets.{has_slot}
 use Rattle.gl_waits.specs.Waits.{IsLowestYoungest, IsOnCycle, IsOnCycleOf}
-use Rattle.gl_table.specs.model.Table.{board_of}
+use Rattle.gl_table.specs.Table.{board_of}
 use Rattle.gl_catalog.specs.Manager.{state_of}
 use Rattle.gl_c.specs.declared.board.Board.{Board}
 use Rattle.gl_c.specs.declared.board.Slots.{Slots}

@@ -1,8 +1,8 @@
 -- The last deadlock, as C is told.
 use Rattle.std.specs.Prelude.{◌≡◌, ◌≢◌, ◌⊎◌, [], Option, Some, None, length, map, take}
 use Rattle.gl_slots.specs.Slots.{number_of}
-use Rattle.gl_table.specs.declared.deadlock.Deadlock.{Deadlock as TheDeadlock}
-use Rattle.gl_table.specs.declared.deadlock.Stuck.{Stuck as TheStuck}
+use Rattle.gl_model.specs.declared.deadlock.Deadlock.{Deadlock as TheDeadlock}
+use Rattle.gl_model.specs.declared.deadlock.Stuck.{Stuck as TheStuck}
 use Rattle.gl_c.specs.declared.deadlock.Deadlock.{Deadlock}
 use Rattle.gl_c.specs.declared.deadlock.Stuck.{Stuck}
 use Rattle.gl_c.specs.declared.reply.Reply.{Reply}

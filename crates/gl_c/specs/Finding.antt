@@ -3,7 +3,7 @@ use Rattle.std.specs.Prelude.{◌≡◌, ℕ, Bool, Option, Some, None}
 use Rattle.gl_modes.specs.declared.refusal.Refusal.{Refusal}
 use Rattle.gl_modes.specs.Refusals.{refusal_number}
 use Rattle.gl_waits.specs.Sets.{has_slot}
-use Rattle.gl_table.specs.model.State.{State}
+use Rattle.gl_model.specs.State.{State}
 use Rattle.gl_catalog.specs.Manager.{state_of}
 use Rattle.gl_c.specs.declared.found.Found.{Found}
 use Rattle.gl_c.specs.Boards.{set_of, slots_of}

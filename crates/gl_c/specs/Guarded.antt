@@ -1,14 +1,16 @@
 -- What a contract sees of all that C's mutex guards.
 use Rattle.std.specs.Prelude.{ℕ, Bool, List, Option}
 use Rattle.gl_catalog.specs.Manager.{ManagerView}
+use Rattle.gl_registry.specs.Rows.{RegistryView}
 use Rattle.gl_boxes.specs.Boxes.{Slot}
 use Rattle.gl_boxes.specs.Strip.{Strip}
 
 -- the manager, one notice box a slot, the slots whose wait the last accepted command may have ended, the boards that watchers were shown, if there
--- ever was a watcher, and whether somebody waited when the last was or a lock was left waiting since
+-- ever was a watcher, whether somebody waited when the last was or a lock was left waiting since, and the rows that are locked
 pub record GuardedView : Type 0 where
   pub manager : ManagerView
   pub boxes : List Slot
   pub ended : ℕ
   pub shown : Option Strip
   pub waited : Bool
+  pub rows : RegistryView

@@ -16,6 +16,7 @@ pub mod Numbers
 pub mod Paths
 pub mod Posted
 pub mod Replies
+pub mod Rows
 pub mod Serving
 pub mod Session
 pub mod Sound

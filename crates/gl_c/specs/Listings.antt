@@ -7,12 +7,12 @@ use Rattle.gl_modes.specs.Nodes.{same_node}
 use Rattle.gl_modes.specs.declared.refusal.Refusal.{Refusal}
 use Rattle.gl_modes.specs.declared.refusal.Refusal.TheVariants as no
 use Rattle.gl_header.specs.Header.{Waiter}
-use Rattle.gl_table.specs.declared.answers.LockRow.{LockRow}
-use Rattle.gl_table.specs.declared.txn.Status.{Status}
-use Rattle.gl_table.specs.declared.txn.Status.TheVariants.{Active, Waiting, Condemned}
-use Rattle.gl_table.specs.declared.txn.TxnId.{TxnId}
-use Rattle.gl_table.specs.model.Deadlocks.{name_at}
-use Rattle.gl_table.specs.model.State.{State}
+use Rattle.gl_model.specs.declared.answers.LockRow.{LockRow}
+use Rattle.gl_model.specs.declared.txn.Status.{Status}
+use Rattle.gl_model.specs.declared.txn.Status.TheVariants.{Active, Waiting, Condemned}
+use Rattle.gl_model.specs.declared.txn.TxnId.{TxnId}
+use Rattle.gl_model.specs.Deadlocks.{name_at}
+use Rattle.gl_model.specs.State.{State}
 use Rattle.gl_c.specs.declared.reply.Reply.{Reply}
 use Rattle.gl_c.specs.Names.{node_of, txn_of}
 use Rattle.gl_c.specs.Numbers.{done, mode_number, no_place}

@@ -11,13 +11,13 @@ use Rattle.gl_graph.specs.Graph.{Graph, indexes_of, interval_at, interval_of, no
 use Rattle.gl_graph.specs.Refusals.{first_refusal, has_records}
 use Rattle.gl_graph.specs.Shapes.{is_file_shape, is_index_shape, keys_in, kind_in, place_in}
 use Rattle.gl_header.specs.Header.{holds}
-use Rattle.gl_table.specs.declared.answers.Detect.{Detect}
-use Rattle.gl_table.specs.declared.answers.Detect.TheVariants.{AtBlock, ByWatcher}
+use Rattle.gl_model.specs.declared.answers.Detect.{Detect}
+use Rattle.gl_model.specs.declared.answers.Detect.TheVariants.{AtBlock, ByWatcher}
 use Rattle.gl_waits.specs.declared.victims.Victims.{Victims}
 use Rattle.gl_waits.specs.declared.victims.Victims.TheVariants.{Youngest, Fewest}
-use Rattle.gl_table.specs.model.Calls.{held_children, group_tests}
-use Rattle.gl_table.specs.model.Table.{living_in, rows_of}
-use Rattle.gl_table.specs.model.State.{lives, members, status_of}
+use Rattle.gl_model.specs.Calls.{held_children, group_tests}
+use Rattle.gl_table.specs.Table.{living_in, rows_of}
+use Rattle.gl_model.specs.State.{lives, members, status_of}
 use Rattle.gl_catalog.specs.declared.command.Answer.TheVariants as answer
 use Rattle.gl_catalog.specs.Manager.{ManagerView, state_of}
 use Rattle.gl_catalog.specs.Replies.{wait_of}

@@ -1,6 +1,8 @@
 -- The names of nodes and transactions that C holds, and the manager's own.
 use Rattle.gl_modes.specs.declared.node.NodeId.{NodeId}
-use Rattle.gl_table.specs.declared.txn.TxnId.{TxnId}
+use Rattle.gl_model.specs.declared.txn.TxnId.{TxnId}
+use Rattle.std.specs.Prelude.{ℕ}
+use Rattle.gl_registry.specs.declared.row.Row.{Row}
 use Rattle.gl_c.specs.declared.names.Node.{Node}
 use Rattle.gl_c.specs.declared.names.Txn.{Txn}
 
@@ -11,6 +13,10 @@ node_id n = record { key = n.key; birth = n.birth }
 -- and back
 abbrev pub node_of : NodeId → Node
 node_of n = record { key = n.key; birth = n.birth }
+
+-- a row of a file, by its number there
+abbrev pub row_at : Node → ℕ → Row
+row_at f number = record { file = node_id f; number = number }
 
 -- a transaction, as the manager names it
 abbrev pub txn_id : Txn → TxnId

@@ -1,9 +1,9 @@
 -- What C is told.
 use Rattle.std.specs.Prelude.{◌≡◌, ℕ, length, map, take}
-use Rattle.gl_table.specs.declared.txn.TxnId.{TxnId}
-use Rattle.gl_table.specs.declared.answers.Notice.{Notice as TableNotice}
-use Rattle.gl_table.specs.declared.answers.Notice.TheVariants as notice
-use Rattle.gl_table.specs.model.Tellings.{Told}
+use Rattle.gl_model.specs.declared.txn.TxnId.{TxnId}
+use Rattle.gl_model.specs.declared.answers.Notice.{Notice as TableNotice}
+use Rattle.gl_model.specs.declared.answers.Notice.TheVariants as notice
+use Rattle.gl_model.specs.Tellings.{Told}
 use Rattle.gl_c.specs.declared.notices.Notice.{Notice}
 use Rattle.gl_c.specs.declared.notices.Notices.{Notices}
 use Rattle.gl_c.specs.Names.{node_of, txn_of}

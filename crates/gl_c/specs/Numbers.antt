@@ -2,12 +2,12 @@
 use Rattle.std.specs.Prelude.{ℕ, Option, Some, None, ◌==◌, if◌then◌else◌, nat_lt}
 use Rattle.gl_modes.specs.declared.mode.Mode.{Mode}
 use Rattle.gl_modes.specs.declared.mode.Mode.TheVariants.{NL, IS, IX, S, SIX, X}
-use Rattle.gl_table.specs.declared.answers.Detect.{Detect}
-use Rattle.gl_table.specs.declared.answers.Detect.TheVariants.{AtBlock, ByWatcher}
+use Rattle.gl_model.specs.declared.answers.Detect.{Detect}
+use Rattle.gl_model.specs.declared.answers.Detect.TheVariants.{AtBlock, ByWatcher}
 use Rattle.gl_waits.specs.declared.victims.Victims.{Victims}
 use Rattle.gl_waits.specs.declared.victims.Victims.TheVariants.{Youngest, Fewest}
-use Rattle.gl_table.specs.declared.answers.Effect.{Effect}
-use Rattle.gl_table.specs.declared.answers.Effect.TheVariants as effect
+use Rattle.gl_model.specs.declared.answers.Effect.{Effect}
+use Rattle.gl_model.specs.declared.answers.Effect.TheVariants as effect
 
 -- a mode's number
 abbrev pub mode_number : Mode → ℕ

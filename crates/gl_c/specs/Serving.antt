@@ -3,8 +3,8 @@ use Rattle.std.specs.Prelude.{◌≡◌, ◌⊎◌, ℕ, ◌<◌, ◌||◌, ◌=
 use Rattle.std.specs.List.{list_any}
 use Rattle.gl_waits.specs.declared.board.Board.{Board}
 use Rattle.gl_waits.specs.Sets.{has_slot}
-use Rattle.gl_table.specs.model.Table.{board_of}
-use Rattle.gl_table.specs.model.Tellings.{Told}
+use Rattle.gl_table.specs.Table.{board_of}
+use Rattle.gl_model.specs.Tellings.{Told}
 use Rattle.gl_catalog.specs.declared.command.Answer.{Answer}
 use Rattle.gl_catalog.specs.declared.command.Command.{Command}
 use Rattle.gl_catalog.specs.Counters.{counted}
@@ -51,7 +51,7 @@ pub record Wakes (c : Command) (m : ManagerView) (told : Told) (m' : ManagerView
   pub slots : (u : ℕ) → u < 128 → has_slot ended u ≡ (names_slot c u || list_any (λ x. x.0.slot == u) told)
 
 -- a command is carried out; its notices stand in their boxes, but that an accepted lock empties its own slot's; whose wait it ended is known;
--- watchers are shown the board behind it, whole, or nothing; one that is not accepted changes nothing
+-- watchers are shown the board behind it, whole, or nothing; one that is not accepted changes nothing; no row gets or loses its node
 pub record Serves (g : GuardedView) (c : Command) (a : Answer) (told : Told) (g' : GuardedView) : Type 0 where
   pub applies : Applies g.manager c a told g'.manager
   pub boxes : (mid : List Slot) × Delivers g.boxes told mid × (g'.boxes ≡ cleared c a mid)
@@ -59,3 +59,4 @@ pub record Serves (g : GuardedView) (c : Command) (a : Answer) (told : Told) (g'
   pub wakes : accepts c a ≡ true → Wakes c g.manager told g'.manager g'.ended
   pub shown : ShowsOn (g.waited || leaves_waiting a) (board_of (state_of g'.manager)) g.shown g'.shown
   pub quiet : g'.waited ≡ false → NobodyWaits (state_of g'.manager) × ShowsNobodyLast g'.shown
+  pub rows : g'.rows ≡ g.rows

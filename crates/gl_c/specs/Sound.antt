@@ -9,7 +9,7 @@ use Rattle.gl_c.specs.Serving.{ShowsNobodyLast}
 
 -- what a contract sees
 abbrev pub view_of : Inside → GuardedView
-view_of g = record { manager = g.manager; boxes = g.boxes; ended = g.ended; shown = g.publisher; waited = g.waited }
+view_of g = record { manager = g.manager; boxes = g.boxes; ended = g.ended; shown = g.publisher; waited = g.waited; rows = g.rows }
 
 -- what is shown is no newer than the manager, and of its way of detection; where nobody is noted to have waited, nobody waits, and the last board
 -- that was shown shows nobody

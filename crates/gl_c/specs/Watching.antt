@@ -2,7 +2,7 @@
 use Rattle.std.specs.Prelude.{◌≡◌, ◌≤◌, ◌⊎◌, Option, Some, None, Result, IfOk}
 use Rattle.gl_waits.specs.declared.board.Board.{Board as TheBoard}
 use Rattle.gl_modes.specs.declared.refusal.Refusal.TheVariants as no
-use Rattle.gl_table.specs.model.Table.{board_of}
+use Rattle.gl_table.specs.Table.{board_of}
 use Rattle.gl_catalog.specs.Manager.{state_of}
 use Rattle.gl_boxes.specs.Boards.{Ends, Fine, last_epoch}
 use Rattle.gl_boxes.specs.Strip.{Strip}
@@ -26,6 +26,7 @@ pub record OnlyShows (g g' : GuardedView) : Type 0 where
   pub manager : g'.manager ≡ g.manager
   pub boxes : g'.boxes ≡ g.boxes
   pub ended : g'.ended ≡ g.ended
+  pub rows : g'.rows ≡ g.rows
   pub shown : Continues g.shown g'.shown
 
 -- a watcher that knows all that was shown, the board of now the last of it

@@ -1,26 +1,29 @@
 //! All that C's mutex guards.
 
-ghost use Rattle.std.specs.Prelude.{◌≡◌, ◌≤◌, ◌^◌, ◌⊎◌, ◌∷◌, ◌++◌, false, [], IfErr, IfNone, IfOk, IfSome, None, Ok, Some, replicate};
+ghost use Rattle.std.specs.Prelude.{◌≡◌, ◌≤◌, ◌^◌, ◌⊎◌, ◌∷◌, ◌++◌, false, true, List, [], IfErr, IfNone, IfOk, IfSome, None, Ok, Some, replicate};
 ghost use Rattle.gl_modes.specs.declared.refusal.Refusal.{Refusal as ARefusal};
-ghost use Rattle.gl_table.specs.model.Table.{board_of};
-ghost use Rattle.gl_table.specs.model.State.{choosing, empty_state};
+ghost use Rattle.gl_table.specs.Table.{board_of};
+ghost use Rattle.gl_model.specs.State.{choosing, empty_state};
 ghost use Rattle.gl_catalog.specs.Manager.{IsLawfulManager, state_of};
 ghost use Rattle.gl_catalog.specs.Promises.{NobodyWaits};
 ghost use Rattle.gl_boxes.specs.Boards.{Ends, Fine, ShowsNobody, last_epoch};
-ghost use Rattle.gl_boxes.specs.Boxes.{verdict_of};
+ghost use Rattle.gl_boxes.specs.Boxes.{Delivers, Slot as ASlot, cleared, verdict_of};
+ghost use Rattle.gl_boxes.specs.Served.{RisingTo, is_refused};
 ghost use Rattle.gl_c.specs.Managing.{IsNew, made_for};
 ghost use Rattle.gl_c.specs.Paths.{ServesPath, ends_waiting};
+ghost use Rattle.gl_c.specs.Rows.{ServesRow};
 ghost use Rattle.gl_c.specs.Serving.{Serves, ShowsNobodyLast, ShowsOn};
 ghost use Rattle.gl_c.specs.Watching.{OnlyShows};
 
 use crate::managing::USUAL_NODES;
 use gl_boxes::{
-    Boxes, Grant, Stop, Telling, board_now, ended_by, is_accepted, is_due, leaves_waiting,
-    may_show_waits,
+    Boxes, Grant, Stop, Telling, board_now, ended_by, is_accepted, is_due, is_refused,
+    leaves_waiting, may_show_waits,
 };
 use gl_catalog::{Answer, Command, Manager, Reached};
 use gl_modes::{Mode, NodeId, Refusal};
-use gl_table::{Detect, Locked, Told, TxnId};
+use gl_registry::{Registry, RowCall};
+use gl_table::{Detect, Locked, Notice, Told, TxnId};
 use gl_waits::{Board, Victims};
 use gl_window::{Publisher, WatchFault, Watcher};
 use std::alloc::{AllocError, Global};
@@ -49,7 +52,7 @@ fn manager_for(
 }
 
 /// The manager, a notice box for each slot, the slots whose wait the last accepted command may have
-/// ended, and, once there was a watcher, the side that shows boards.
+/// ended, once there was a watcher, the side that shows boards, and the rows that are locked.
 #[derive(Drop)]
 pub(crate) struct Guarded {
     manager: Manager,
@@ -58,6 +61,7 @@ pub(crate) struct Guarded {
     publisher: Option<Publisher>,
     /// Whether somebody waited when watchers were last shown a board, or a lock was left waiting since.
     waited: bool,
+    rows: Registry,
 }
 
 impl Model for Guarded {
@@ -88,12 +92,14 @@ impl Guarded {
         ensures refused { IfErr result (λ refusal. refusal ≡ ARefusal.NoMemory) }
     {
         let manager = manager_for(alloc, detect, victims, most, nodes)?;
+        let rows = Registry::new(alloc)?;
         Ok(Guarded {
             manager,
             boxes: Boxes::new(),
             ended: 0,
             publisher: None,
             waited: true,
+            rows,
         })
     }
 
@@ -102,6 +108,13 @@ impl Guarded {
         ensures { result.now ≡ self.now.manager }
     {
         &self.manager
+    }
+
+    /// The rows that are locked, each with its node.
+    pub(crate) fn rows(&self) -> &Registry
+        ensures { result.now ≡ self.now.rows }
+    {
+        &self.rows
     }
 
     /// The slots whose wait the last accepted command may have ended.
@@ -167,10 +180,30 @@ impl Guarded {
         reached
     }
 
+    /// Carries out a call about rows, with its notices put into an empty list. Watchers are shown one
+    /// board behind all of it.
+    pub(crate) fn serve_row(&mut self, call: RowCall<'_>, told: &mut Told) -> Answer
+        requires empty { told.old.items ≡ [] }
+        ensures { ServesRow self.old call.entry result told.new.items self.new }
+    {
+        self.manager.law();
+        let counted = self.manager.accepted();
+        let answer = self.rows.apply(&mut self.manager, call, told);
+        if self.manager.accepted() == counted {
+            return answer;
+        }
+        let own = call.command();
+        deliver_called(&mut self.boxes, &own, &answer, told.as_slice());
+        self.ended = ended_by(&own, told.as_slice());
+        self.waited |= leaves_waiting(&answer);
+        self.show_if_due();
+        answer
+    }
+
     /// Shows watchers the board of now, where there is one, and somebody waits or waited when they were
     /// last shown a board.
     fn show_if_due(&mut self)
-        ensures kept { (self.new.manager ≡ self.old.manager) × (self.new.boxes ≡ self.old.boxes) × (self.new.ended ≡ self.old.ended) }
+        ensures kept { (self.new.manager ≡ self.old.manager) × (self.new.boxes ≡ self.old.boxes) × (self.new.ended ≡ self.old.ended) × (self.new.rows ≡ self.old.rows) }
         ensures shown { ShowsOn self.old.waited (board_of (state_of self.old.manager)) self.old.shown self.new.shown }
         ensures quiet { self.new.waited ≡ false → NobodyWaits (state_of self.new.manager) × ShowsNobodyLast self.new.shown }
     {
@@ -199,6 +232,23 @@ impl Guarded {
         let watcher = publisher.watch(now);
         self.publisher = Some(publisher);
         watcher
+    }
+}
+
+/// Puts the notices of a call about rows into their boxes. One that is refused tells nobody and empties
+/// no box, also where its row's node was adopted and forgotten again.
+fn deliver_called(
+    boxes: &mut Boxes,
+    command: &Command<'_>,
+    answer: &Answer,
+    told: &[(TxnId, Notice)],
+)
+    requires rises { RisingTo 0 told.now 128 }
+    requires untold { is_refused answer.now ≡ true → told.now ≡ [] }
+    ensures { (mid : List ASlot) × Delivers boxes.old told.now mid × (boxes.new ≡ cleared command.now answer.now mid) }
+{
+    if !is_refused(answer) {
+        boxes.deliver(command, told);
     }
 }
 

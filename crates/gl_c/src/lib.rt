@@ -27,6 +27,7 @@ mod posted;
 mod queries;
 mod records;
 mod reply;
+mod rows;
 mod searches;
 mod session;
 mod txns;

@@ -3,7 +3,7 @@
 ghost use Rattle.std.specs.Prelude.{◌≡◌, ℕ, List, Result, Ok, Err, MatchResult, length};
 ghost use Rattle.std.specs.List.{slice_get};
 ghost use Rattle.gl_modes.specs.declared.refusal.Refusal.TheVariants as no;
-ghost use Rattle.gl_table.specs.model.Deadlocks.{name_at};
+ghost use Rattle.gl_model.specs.Deadlocks.{name_at};
 ghost use Rattle.gl_catalog.specs.Manager.{state_of};
 ghost use Rattle.gl_c.specs.Listings.{doing, lived, row_reply, waiter_reply, wanted_on};
 ghost use Rattle.gl_c.specs.Looks.{counted};

@@ -4,9 +4,9 @@
 ghost use Rattle.std.specs.Prelude.{IfSome};
 ghost use Rattle.gl_graph.specs.Refusals.{first_refusal};
 ghost use Rattle.gl_header.specs.Header.{holds};
-ghost use Rattle.gl_table.specs.model.Table.{AreRowsOf, rows_of};
-ghost use Rattle.gl_table.specs.model.Calls.{group_tests, living_tests};
-ghost use Rattle.gl_table.specs.model.State.{members, waits_for};
+ghost use Rattle.gl_table.specs.Table.{AreRowsOf, rows_of};
+ghost use Rattle.gl_model.specs.Calls.{group_tests, living_tests};
+ghost use Rattle.gl_model.specs.State.{members, waits_for};
 ghost use Rattle.gl_catalog.specs.Manager.{state_of};
 ghost use Rattle.gl_c.specs.declared.look.Query.TheVariants as query;
 ghost use Rattle.gl_c.specs.Carries.{Declines, Where};

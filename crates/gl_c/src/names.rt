@@ -1,9 +1,10 @@
 //! The names of nodes and transactions.
 
 ghost use Rattle.std.specs.Prelude.{◌≡◌};
-ghost use Rattle.gl_c.specs.Names.{node_id, node_of, txn_id, txn_of};
+ghost use Rattle.gl_c.specs.Names.{node_id, node_of, row_at, txn_id, txn_of};
 
 use gl_modes::NodeId;
+use gl_registry::Row;
 use gl_table::TxnId;
 
 /// A node's name. The name of a node that is gone names nothing, whatever was made since; zero in
@@ -31,6 +32,16 @@ impl Node {
         Node {
             key: id.key,
             birth: id.birth,
+        }
+    }
+
+    /// The row of this number in the file.
+    pub(crate) fn row(self, number: u64) -> Row
+        ensures { result ≡ row_at self number }
+    {
+        Row {
+            file: self.id(),
+            number,
         }
     }
 }

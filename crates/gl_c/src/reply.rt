@@ -4,13 +4,15 @@ ghost use Rattle.std.specs.Prelude.{◌≡◌};
 ghost use Rattle.gl_catalog.specs.declared.command.Answer.TheVariants as answer;
 ghost use Rattle.gl_c.specs.Paths.{path_reply, reached_reply, reply_at};
 ghost use Rattle.gl_c.specs.Replies.{count_reply, refused_at, refused_reply, reply_of, status_reply};
+ghost use Rattle.gl_c.specs.Rows.{call_reply};
 ghost use Rattle.gl_c.specs.Verdicts.{verdict_reply};
 
 use crate::names::{Node, Txn};
 use crate::numbers::{DONE, GONE, MOVED, ON_THE_WAY, VICTIM, WAITING, effect_number, mode_number};
-use gl_boxes::{Grant, Stop};
+use gl_boxes::{Grant, Stop, is_refused};
 use gl_catalog::{Answer, Reached};
 use gl_modes::{Mode, NodeId, Refusal};
+use gl_registry::{Registry, RowCall};
 use gl_table::{Locked, TxnId};
 
 /// An answer. Beside the status it has what the call answers, and zero in all other fields.
@@ -113,6 +115,19 @@ impl Reply {
             Locked::Granted(_) => Reply::with_status(ON_THE_WAY).at(at),
             Locked::Waiting => Reply::with_status(WAITING).at(at),
             Locked::Victim => Reply::with_status(VICTIM).at(at),
+        }
+    }
+
+    /// What C is answered for a call about rows: of a lock that is not refused also its row's node.
+    pub(crate) fn of_row_call(rows: &Registry, call: RowCall<'_>, answer: Answer) -> Reply
+        ensures { result ≡ call_reply rows.now call.entry answer }
+    {
+        let reply = Reply::of(answer);
+        match call {
+            RowCall::Lock { row, .. } if !is_refused(&answer) => {
+                reply.at(rows.node(row).unwrap_or(NodeId::NONE))
+            }
+            _ => reply,
         }
     }
 

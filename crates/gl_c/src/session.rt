@@ -2,14 +2,16 @@
 
 ghost use Rattle.std.specs.Prelude.{◌≡◌, ◌≤◌, ◌^◌, IfErr, IfOk, Some};
 ghost use Rattle.gl_modes.specs.declared.refusal.Refusal.{Refusal as ARefusal};
-ghost use Rattle.gl_table.specs.model.Table.{board_of};
+ghost use Rattle.gl_table.specs.Table.{board_of};
 ghost use Rattle.gl_catalog.specs.Manager.{IsLawfulManager, state_of};
+ghost use Rattle.gl_registry.specs.Rows.{name_of};
 ghost use Rattle.gl_boxes.specs.Boards.{Ends};
 ghost use Rattle.gl_boxes.specs.Boxes.{verdict_of};
 ghost use Rattle.gl_c.specs.Carries.{Answers, Replies};
 ghost use Rattle.gl_c.specs.Looks.{looked};
 ghost use Rattle.gl_c.specs.Paths.{RepliesPath};
 ghost use Rattle.gl_c.specs.Managing.{IsNew};
+ghost use Rattle.gl_c.specs.Rows.{AnswersRow, RepliesRow, named_reply};
 ghost use Rattle.gl_c.specs.Verdicts.{verdict_reply};
 ghost use Rattle.gl_c.specs.Watching.{OnlyShows};
 
@@ -19,6 +21,7 @@ use crate::notices::Notices;
 use crate::reply::Reply;
 use gl_catalog::{Command, Manager};
 use gl_modes::{Mode, NodeId, Refusal};
+use gl_registry::{Row, RowCall};
 use gl_table::{Detect, Told, TxnId};
 use gl_waits::Victims;
 use gl_window::{WatchFault, Watcher};
@@ -95,6 +98,25 @@ impl Session {
         Reply::of_path(node, reached)
     }
 
+    /// Carries out a call about rows, and writes down whom it tells.
+    pub(crate) fn carry_out_row(&mut self, call: RowCall<'_>, notices: &mut Notices) -> Reply
+        ensures { RepliesRow self.old call.entry result notices.new self.new }
+    {
+        let answer = self.guarded.serve_row(call, &mut self.told);
+        notices.put(self.told.as_slice());
+        self.told.clear();
+        Reply::of_row_call(self.guarded.rows(), call, answer)
+    }
+
+    /// Carries out a call about rows of which nobody is to be told.
+    pub(crate) fn ask_row(&mut self, call: RowCall<'_>) -> Reply
+        ensures { AnswersRow self.old call.entry result self.new }
+    {
+        let answer = self.guarded.serve_row(call, &mut self.told);
+        self.told.clear();
+        Reply::of_row_call(self.guarded.rows(), call, answer)
+    }
+
     /// Carries out a command of which nobody is to be told.
     #[inline(always)]
     pub(crate) fn ask(&mut self, command: Command<'_>) -> Reply
@@ -103,6 +125,16 @@ impl Session {
         let answer = self.guarded.serve(command, &mut self.told);
         self.told.clear();
         Reply::of(answer)
+    }
+
+    /// The node by which a row is named.
+    pub(crate) fn row_node(&self, row: Row) -> Reply
+        ensures { result ≡ named_reply (name_of self.now.rows row) }
+    {
+        match self.guarded.rows().node(row) {
+            Some(node) => Reply::with_node(node),
+            None => Reply::refused(Refusal::NoSuchNode),
+        }
     }
 
     /// Answers a question.

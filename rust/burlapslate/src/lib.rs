@@ -65,16 +65,17 @@
 //!
 //! # Refusals
 //!
-//! A call that is refused changed nothing. Where several refusals hold, the first in the order of
-//! the call's list is answered ([`Refusal`]).
+//! A call that is refused changed nothing, but that [`lock_row`](Manager::lock_row) and
+//! [`insert_row`](Manager::insert_row) may have let a node go. Where several refusals hold, the first in
+//! the order of the call's list is answered ([`Refusal`]).
 //!
 //! # Memory
 //!
 //! Calls that end something or give something back take no memory and cannot fail for want of it:
 //! [`unlock`](Manager::unlock), [`cancel`](Manager::cancel), [`commit`](Manager::commit),
 //! [`abort`](Manager::abort), [`settle`](Manager::settle), [`delete`](Manager::delete),
-//! [`rekey`](Manager::rekey), [`escalate`](Manager::escalate). The others are refused with
-//! [`Refusal::NoMemory`] where the allocator refuses, and can be asked again. Beside the library's
+//! [`rekey`](Manager::rekey), [`escalate`](Manager::escalate), of nodes and of rows. The others are
+//! refused with [`Refusal::NoMemory`] where the allocator refuses, and can be asked again. Beside the library's
 //! memory a manager takes five kilobytes when it is made, for the notices, and none afterwards.
 
 #![deny(missing_docs)]
@@ -98,7 +99,7 @@ pub use board::{Board, SlotIter, Slots};
 pub use listing::{Counters, Deadlock, Doing, Listing, LockRow, Stuck, TxnRow, Waiter};
 pub use manager::{Asked, Escalated, Manager, Options, Reached, Wait};
 pub use mode::{Detect, Kind, Mode, Victims};
-pub use names::{Node, Txn};
+pub use names::{Node, Row, Txn};
 pub use notices::{Notice, Notices};
 pub use refusal::Refusal;
 pub use session::{Session, Stop};

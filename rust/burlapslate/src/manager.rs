@@ -3,7 +3,7 @@
 use crate::board::{Board, Slots};
 use crate::listing::{Counters, Deadlock, Doing, Listing, LockRow, TxnRow, Waiter};
 use crate::mode::{Detect, Kind, Mode, Victims};
-use crate::names::{Node, Txn};
+use crate::names::{Node, Row, Txn};
 use crate::notices::Notices;
 use crate::refusal::{accepted, Refusal};
 use crate::session::Stop;
@@ -25,6 +25,18 @@ pub enum Asked {
     /// Its wait closed a cycle of waits, and it is the one to give way: it is condemned, keeps its
     /// locks, and can only abort.
     Victim,
+}
+
+impl Asked {
+    /// By what a lock was answered.
+    fn of(reply: &Reply) -> Result<Asked, Refusal> {
+        match reply.status {
+            sys::DONE => Ok(Asked::Granted(Mode::of(reply.mode))),
+            sys::WAITING => Ok(Asked::Waiting),
+            sys::VICTIM => Ok(Asked::Victim),
+            _ => Err(Refusal::of(reply)),
+        }
+    }
 }
 
 /// How far a path was locked.
@@ -62,6 +74,16 @@ pub struct Escalated {
     pub released: u32,
     /// How many held children were kept.
     pub kept: u32,
+}
+
+impl Escalated {
+    fn of(reply: &Reply) -> Escalated {
+        Escalated {
+            mode: Mode::of(reply.mode),
+            released: reply.released,
+            kept: reply.kept,
+        }
+    }
 }
 
 /// A lock manager.
@@ -288,13 +310,7 @@ impl Manager {
     ) -> Result<(Asked, Notices<'_>), Refusal> {
         let Pinned { place, told } = &mut *self.pinned;
         let reply = sys::bs_call_lock(place, txn, node, mode as u32, told);
-        let asked = match reply.status {
-            sys::DONE => Asked::Granted(Mode::of(reply.mode)),
-            sys::WAITING => Asked::Waiting,
-            sys::VICTIM => Asked::Victim,
-            _ => return Err(Refusal::of(&reply)),
-        };
-        Ok((asked, Notices::of(told)))
+        Ok((Asked::of(&reply)?, Notices::of(told)))
     }
 
     /// Locks a node with what has to be held above it: intentions, root first, on all parents to
@@ -429,12 +445,7 @@ impl Manager {
     pub fn escalate(&mut self, txn: Txn, node: Node) -> Result<(Escalated, Notices<'_>), Refusal> {
         let Pinned { place, told } = &mut *self.pinned;
         let reply = accepted(sys::bs_call_escalate(place, txn, node, told))?;
-        let escalated = Escalated {
-            mode: Mode::of(reply.mode),
-            released: reply.released,
-            kept: reply.kept,
-        };
-        Ok((escalated, Notices::of(told)))
+        Ok((Escalated::of(&reply), Notices::of(told)))
     }
 }
 
@@ -533,6 +544,154 @@ impl Manager {
         let Pinned { place, told } = &mut *self.pinned;
         accepted(sys::move_node(place, txn, node, parents, told))?;
         Ok(Notices::of(told))
+    }
+}
+
+/// # Rows by the engine's own numbers
+///
+/// A [`Row`] has a node while some transaction holds it or waits for it, and loses that with the last
+/// of them: [`lock_row`](Manager::lock_row) and [`insert_row`](Manager::insert_row) make the node, and the
+/// other calls with `row` in their names take it away. The keys are the row's own, one for each index of
+/// its file in the order of making. They are read when the row is locked, and again behind each wait,
+/// since only the engine knows them.
+///
+/// [`commit`](Manager::commit), [`abort`](Manager::abort), [`cancel`](Manager::cancel),
+/// [`escalate`](Manager::escalate) and [`unlock`](Manager::unlock) let no row go: its node stands on
+/// then, and goes when the row is next let go. Each call is one command, and each node that is adopted
+/// or forgotten is one more; where a call is refused these may be counted all the same, and
+/// [`ended`](Manager::ended) has nobody then. A transaction that ends lets go all rows that it asked for: a
+/// look-up for each, and a step for each node that is forgotten.
+impl Manager {
+    /// Locks a row, as [`lock`](Manager::lock) locks its node, which is answered too. The intentions
+    /// above it are the caller's. A row without a node gets one; so does one whose node has other keys,
+    /// where nobody holds that or waits for it.
+    ///
+    /// Refused with [`WornOut`](Refusal::WornOut) where fewer than four commands can be counted any
+    /// more, [`NoSuchTxn`](Refusal::NoSuchTxn), [`TxnWaiting`](Refusal::TxnWaiting),
+    /// [`TxnCondemned`](Refusal::TxnCondemned), [`NoMemory`](Refusal::NoMemory);
+    /// [`RecordInUse`](Refusal::RecordInUse) where its node has other keys, and somebody holds it or
+    /// waits for it; where it needs a node, as [`adopt`](Manager::adopt); then as
+    /// [`lock`](Manager::lock), and a node that it got is gone again. Takes memory.
+    ///
+    /// ```
+    /// # use burlapslate::{Asked, Detect, Manager, Mode, Row, SLOTS};
+    /// # let mut m = Manager::new(Detect::AtBlock, SLOTS)?;
+    /// # let db = m.add_inner(&[])?;
+    /// # let file = m.add_file(&[db])?;
+    /// let txn = m.begin()?;
+    /// let _ = m.lock_path(txn, file, Mode::IX)?;
+    /// let row = Row { file, number: 1 << 40 };
+    /// let (asked, node, _) = m.lock_row(txn, row, &[], Mode::X)?;
+    /// assert_eq!((asked, m.row_node(row)), (Asked::Granted(Mode::X), Some(node)));
+    /// let _ = m.commit_rows(txn)?;
+    /// assert_eq!(m.row_node(row), None);
+    /// # Ok::<(), burlapslate::Refusal>(())
+    /// ```
+    pub fn lock_row(
+        &mut self,
+        txn: Txn,
+        row: Row,
+        keys: &[u64],
+        mode: Mode,
+    ) -> Result<(Asked, Node, Notices<'_>), Refusal> {
+        let Pinned { place, told } = &mut *self.pinned;
+        let reply = sys::lock_row(place, txn, row, keys, mode as u32, told);
+        Ok((Asked::of(&reply)?, reply.node, Notices::of(told)))
+    }
+
+    /// Releases a row, as [`unlock`](Manager::unlock) releases its node, which is forgotten where nobody
+    /// else holds it or waits for it.
+    ///
+    /// Refused as [`unlock`](Manager::unlock); a row without a node with
+    /// [`NoSuchNode`](Refusal::NoSuchNode). Takes no memory.
+    pub fn unlock_row(&mut self, txn: Txn, row: Row) -> Result<Notices<'_>, Refusal> {
+        let Pinned { place, told } = &mut *self.pinned;
+        accepted(sys::bs_call_unlock_row(
+            place, txn, row.file, row.number, told,
+        ))?;
+        Ok(Notices::of(told))
+    }
+
+    /// A new row, whose node is answered, as [`insert`](Manager::insert) makes one: held in
+    /// [`X`](Mode::X).
+    ///
+    /// Refused as [`lock_row`](Manager::lock_row) up to [`RecordInUse`](Refusal::RecordInUse), which here
+    /// says that somebody holds the row or waits for it; and then as [`insert`](Manager::insert). Past
+    /// [`RecordInUse`](Refusal::RecordInUse) a node that the row had is gone. Takes memory. It tells
+    /// nobody.
+    pub fn insert_row(&mut self, txn: Txn, row: Row, keys: &[u64]) -> Result<Node, Refusal> {
+        accepted(sys::insert_row(&mut self.pinned.place, txn, row, keys)).map(|reply| reply.node)
+    }
+
+    /// Takes a row away, which the transaction holds in [`X`](Mode::X), as [`delete`](Manager::delete)
+    /// does its node.
+    ///
+    /// Refused as [`delete`](Manager::delete); a row without a node with
+    /// [`NoSuchNode`](Refusal::NoSuchNode). Takes no memory.
+    pub fn delete_row(&mut self, txn: Txn, row: Row) -> Result<Notices<'_>, Refusal> {
+        let Pinned { place, told } = &mut *self.pinned;
+        accepted(sys::bs_call_delete_row(
+            place, txn, row.file, row.number, told,
+        ))?;
+        Ok(Notices::of(told))
+    }
+
+    /// Gives a row another key for one index, as [`rekey`](Manager::rekey) does its node.
+    ///
+    /// Refused as [`rekey`](Manager::rekey); a row without a node with
+    /// [`NoSuchNode`](Refusal::NoSuchNode). Takes no memory.
+    pub fn rekey_row(
+        &mut self,
+        txn: Txn,
+        row: Row,
+        index: Node,
+        key: u64,
+    ) -> Result<Notices<'_>, Refusal> {
+        let Pinned { place, told } = &mut *self.pinned;
+        accepted(sys::bs_call_rekey_row(
+            place, txn, row.file, row.number, index, key, told,
+        ))?;
+        Ok(Notices::of(told))
+    }
+
+    /// As [`commit`](Manager::commit), and the rows that it held are let go.
+    pub fn commit_rows(&mut self, txn: Txn) -> Result<Notices<'_>, Refusal> {
+        let Pinned { place, told } = &mut *self.pinned;
+        accepted(sys::bs_call_commit_rows(place, txn, told))?;
+        Ok(Notices::of(told))
+    }
+
+    /// As [`abort`](Manager::abort), and the rows that it held or waited for are let go.
+    pub fn abort_rows(&mut self, txn: Txn) -> Result<Notices<'_>, Refusal> {
+        let Pinned { place, told } = &mut *self.pinned;
+        accepted(sys::bs_call_abort_rows(place, txn, told))?;
+        Ok(Notices::of(told))
+    }
+
+    /// As [`cancel`](Manager::cancel), and a row that it waited for is let go.
+    pub fn cancel_rows(&mut self, txn: Txn) -> Result<Notices<'_>, Refusal> {
+        let Pinned { place, told } = &mut *self.pinned;
+        accepted(sys::bs_call_cancel_rows(place, txn, told))?;
+        Ok(Notices::of(told))
+    }
+
+    /// As [`escalate`](Manager::escalate), of any node, and the rows that it released are let go.
+    pub fn escalate_rows(
+        &mut self,
+        txn: Txn,
+        node: Node,
+    ) -> Result<(Escalated, Notices<'_>), Refusal> {
+        let Pinned { place, told } = &mut *self.pinned;
+        let reply = accepted(sys::bs_call_escalate_rows(place, txn, node, told))?;
+        Ok((Escalated::of(&reply), Notices::of(told)))
+    }
+
+    /// The node of a row, for questions and for [`verdict`](Manager::verdict); where that was taken away
+    /// by [`forget`](Manager::forget) or [`delete`](Manager::delete), still its name. `None` where it has
+    /// none.
+    pub fn row_node(&self, row: Row) -> Option<Node> {
+        let reply = sys::bs_call_row_node(&self.pinned.place, row.file, row.number);
+        (reply.status == sys::DONE).then_some(reply.node)
     }
 }
 

@@ -20,6 +20,19 @@ impl Node {
     pub const NONE: Node = Node { key: 0, birth: 0 };
 }
 
+/// A row of a file, by the number that the engine has for it there: any number at all.
+///
+/// It has a node while some transaction holds it or waits for it ([`Manager::lock_row`]).
+///
+/// [`Manager::lock_row`]: crate::Manager::lock_row
+#[derive(Clone, Copy, PartialEq, Eq, Hash, Debug)]
+pub struct Row {
+    /// Its file.
+    pub file: Node,
+    /// Its number there.
+    pub number: u64,
+}
+
 /// Its two numbers, as `12/34`.
 impl fmt::Display for Node {
     fn fmt(&self, f: &mut fmt::Formatter<'_>) -> fmt::Result {

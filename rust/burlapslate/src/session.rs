@@ -2,7 +2,7 @@
 
 use crate::manager::Escalated;
 use crate::mode::Mode;
-use crate::names::{Node, Txn};
+use crate::names::{Node, Row, Txn};
 use crate::refusal::Refusal;
 use crate::table::Table;
 use std::error::Error;
@@ -69,6 +69,8 @@ pub struct Session<'t> {
     table: &'t Table,
     txn: Txn,
     has_ended: bool,
+    /// Whether it ever asked for a row, so that its end lets rows go.
+    has_rows: bool,
 }
 
 impl<'t> Session<'t> {
@@ -77,6 +79,7 @@ impl<'t> Session<'t> {
             table,
             txn,
             has_ended: false,
+            has_rows: false,
         }
     }
 
@@ -141,6 +144,65 @@ impl<'t> Session<'t> {
         self.table.lock_path(self.txn, node, mode, deadline(time))
     }
 
+    /// As [`Manager::lock_row`](crate::Manager::lock_row), but it sleeps until the row is granted, or never
+    /// will be. The intentions above it are the caller's: one that is wanting is refused with
+    /// [`NeedParents`](Refusal::NeedParents), and [`lock_path`](Session::lock_path) locks it. That may
+    /// sleep, and behind a sleep the keys are to be read again. The end of the session lets its rows go.
+    ///
+    /// ```
+    /// # use burlapslate::{Detect, Mode, Row, Table, SLOTS};
+    /// # let table = Table::new(Detect::AtBlock, SLOTS)?;
+    /// # let db = table.add_inner(&[])?;
+    /// # let file = table.add_file(&[db])?;
+    /// let row = Row { file, number: 7 };
+    /// let mut session = table.begin()?;
+    /// assert_eq!(session.lock_path(file, Mode::IX), Ok(Mode::IX));
+    /// assert_eq!(session.lock_row(row, &[], Mode::X), Ok(Mode::X));
+    /// session.commit()?;
+    /// assert_eq!(table.row_node(row), None);
+    /// # Ok::<(), burlapslate::Refusal>(())
+    /// ```
+    pub fn lock_row(&mut self, row: Row, keys: &[u64], mode: Mode) -> Result<Mode, Stop> {
+        self.has_rows = true;
+        self.table.lock_row(self.txn, row, keys, mode, None)
+    }
+
+    /// As [`lock_row`](Session::lock_row), but the wait is taken back after this time, and answered with
+    /// [`Stop::TimedOut`].
+    pub fn lock_row_timeout(
+        &mut self,
+        row: Row,
+        keys: &[u64],
+        mode: Mode,
+        time: Duration,
+    ) -> Result<Mode, Stop> {
+        self.has_rows = true;
+        self.table
+            .lock_row(self.txn, row, keys, mode, deadline(time))
+    }
+
+    /// As [`Manager::unlock_row`](crate::Manager::unlock_row).
+    pub fn unlock_row(&mut self, row: Row) -> Result<(), Refusal> {
+        self.table.serve(|m| m.unlock_row(self.txn, row).map(drop))
+    }
+
+    /// As [`Manager::insert_row`](crate::Manager::insert_row).
+    pub fn insert_row(&mut self, row: Row, keys: &[u64]) -> Result<Node, Refusal> {
+        self.has_rows = true;
+        self.table.ask(|m| m.insert_row(self.txn, row, keys))
+    }
+
+    /// As [`Manager::delete_row`](crate::Manager::delete_row). Who sleeps for the row is woken.
+    pub fn delete_row(&mut self, row: Row) -> Result<(), Refusal> {
+        self.table.serve(|m| m.delete_row(self.txn, row).map(drop))
+    }
+
+    /// As [`Manager::rekey_row`](crate::Manager::rekey_row).
+    pub fn rekey_row(&mut self, row: Row, index: Node, key: u64) -> Result<(), Refusal> {
+        self.table
+            .serve(|m| m.rekey_row(self.txn, row, index, key).map(drop))
+    }
+
     /// As [`Manager::try_lock`](crate::Manager::try_lock).
     pub fn try_lock(&mut self, node: Node, mode: Mode) -> Result<Mode, Refusal> {
         self.table.ask(|m| m.try_lock(self.txn, node, mode))
@@ -151,10 +213,12 @@ impl<'t> Session<'t> {
         self.table.serve(|m| m.unlock(self.txn, node).map(drop))
     }
 
-    /// As [`Manager::escalate`](crate::Manager::escalate).
+    /// As [`Manager::escalate`](crate::Manager::escalate), and the rows that it released are let go.
     pub fn escalate(&mut self, node: Node) -> Result<Escalated, Refusal> {
-        self.table
-            .serve(|m| m.escalate(self.txn, node).map(|(escalated, _)| escalated))
+        self.table.serve(|m| {
+            m.escalate_rows(self.txn, node)
+                .map(|(escalated, _)| escalated)
+        })
     }
 
     /// As [`Manager::insert`](crate::Manager::insert).
@@ -179,12 +243,16 @@ impl<'t> Session<'t> {
             .serve(|m| m.move_node(self.txn, node, parents).map(drop))
     }
 
-    /// Commits, and wakes whoever is granted by that. One that is refused, since the transaction was
-    /// condemned or another thread ended it, is aborted.
+    /// Commits, wakes whoever is granted by that, and lets its rows go. One that is refused, since the
+    /// transaction was condemned or another thread ended it, is aborted.
     ///
     /// Refused as [`Manager::commit`](crate::Manager::commit).
     pub fn commit(mut self) -> Result<(), Refusal> {
-        let end = self.table.serve(|m| m.commit(self.txn).map(drop));
+        let end = if self.has_rows {
+            self.table.serve(|m| m.commit_rows(self.txn).map(drop))
+        } else {
+            self.table.serve(|m| m.commit(self.txn).map(drop))
+        };
         self.has_ended = end.is_ok();
         end
     }

@@ -13,7 +13,7 @@
 
 use crate::board::Slots;
 use crate::listing::Counters;
-use crate::names::{Node, Txn};
+use crate::names::{Node, Row, Txn};
 use crate::SLOTS;
 use std::alloc::{alloc_zeroed, Layout};
 use std::cell::UnsafeCell;
@@ -301,6 +301,70 @@ unsafe extern "C" {
         told: &mut Notices,
     ) -> Reply;
 
+    fn bs_call_lock_row(
+        manager: &mut Place,
+        txn: Txn,
+        file: Node,
+        number: u64,
+        keys: *const u64,
+        count: usize,
+        mode: u32,
+        told: &mut Notices,
+    ) -> Reply;
+    pub(crate) safe fn bs_call_unlock_row(
+        manager: &mut Place,
+        txn: Txn,
+        file: Node,
+        number: u64,
+        told: &mut Notices,
+    ) -> Reply;
+    fn bs_call_insert_row(
+        manager: &mut Place,
+        txn: Txn,
+        file: Node,
+        number: u64,
+        keys: *const u64,
+        count: usize,
+    ) -> Reply;
+    pub(crate) safe fn bs_call_delete_row(
+        manager: &mut Place,
+        txn: Txn,
+        file: Node,
+        number: u64,
+        told: &mut Notices,
+    ) -> Reply;
+    pub(crate) safe fn bs_call_rekey_row(
+        manager: &mut Place,
+        txn: Txn,
+        file: Node,
+        number: u64,
+        index: Node,
+        key: u64,
+        told: &mut Notices,
+    ) -> Reply;
+    pub(crate) safe fn bs_call_commit_rows(
+        manager: &mut Place,
+        txn: Txn,
+        told: &mut Notices,
+    ) -> Reply;
+    pub(crate) safe fn bs_call_abort_rows(
+        manager: &mut Place,
+        txn: Txn,
+        told: &mut Notices,
+    ) -> Reply;
+    pub(crate) safe fn bs_call_cancel_rows(
+        manager: &mut Place,
+        txn: Txn,
+        told: &mut Notices,
+    ) -> Reply;
+    pub(crate) safe fn bs_call_escalate_rows(
+        manager: &mut Place,
+        txn: Txn,
+        node: Node,
+        told: &mut Notices,
+    ) -> Reply;
+    pub(crate) safe fn bs_call_row_node(manager: &Place, file: Node, number: u64) -> Reply;
+
     pub(crate) safe fn bs_call_verdict(manager: &Place, txn: Txn, node: Node, mode: u32) -> Reply;
     pub(crate) safe fn bs_call_ended(manager: &Place) -> Found;
     pub(crate) safe fn bs_call_watch(manager: &Place, watcher: &mut WatcherPlace) -> Reply;
@@ -392,6 +456,25 @@ pub(crate) fn insert(manager: &mut Place, txn: Txn, file: Node, keys: &[u64]) ->
 pub(crate) fn adopt(manager: &mut Place, file: Node, keys: &[u64]) -> Reply {
     // SAFETY: the count is the list's own.
     unsafe { bs_call_adopt(manager, file, numbers(keys), keys.len()) }
+}
+
+pub(crate) fn lock_row(
+    manager: &mut Place,
+    txn: Txn,
+    row: Row,
+    keys: &[u64],
+    mode: u32,
+    told: &mut Notices,
+) -> Reply {
+    let (start, count) = (numbers(keys), keys.len());
+    // SAFETY: the count is the list's own.
+    unsafe { bs_call_lock_row(manager, txn, row.file, row.number, start, count, mode, told) }
+}
+
+pub(crate) fn insert_row(manager: &mut Place, txn: Txn, row: Row, keys: &[u64]) -> Reply {
+    let (start, count) = (numbers(keys), keys.len());
+    // SAFETY: the count is the list's own.
+    unsafe { bs_call_insert_row(manager, txn, row.file, row.number, start, count) }
 }
 
 pub(crate) fn move_node(

@@ -3,7 +3,7 @@
 use crate::board::{Board, Slots};
 use crate::manager::{Asked, Manager, Options, Reached};
 use crate::mode::{Detect, Mode, Victims};
-use crate::names::{Node, Txn};
+use crate::names::{Node, Row, Txn};
 use crate::refusal::Refusal;
 use crate::session::{Session, Stop};
 use crate::watcher::Watcher;
@@ -119,27 +119,33 @@ impl Table {
         self.ask(|m| m.forget(record))
     }
 
-    /// Ends a transaction whatever it is doing, from any thread. Whoever sleeps for it is woken, and
-    /// answered [`Refusal::NoSuchTxn`].
+    /// As [`Manager::row_node`].
+    pub fn row_node(&self, row: Row) -> Option<Node> {
+        self.with(|m| m.row_node(row))
+    }
+
+    /// Ends a transaction whatever it is doing, from any thread, and lets its rows go. Whoever sleeps
+    /// for it is woken, and answered [`Refusal::NoSuchTxn`].
     ///
     /// Refused as [`Manager::abort`].
     pub fn abort(&self, txn: Txn) -> Result<(), Refusal> {
-        self.serve(|m| m.abort(txn).map(drop))
+        self.serve(|m| m.abort_rows(txn).map(drop))
     }
 
-    /// Commits a transaction that no session drives any more ([`Session::leave`]).
+    /// Commits a transaction that no session drives any more ([`Session::leave`]), and lets its rows
+    /// go.
     ///
     /// Refused as [`Manager::commit`].
     pub fn commit(&self, txn: Txn) -> Result<(), Refusal> {
-        self.serve(|m| m.commit(txn).map(drop))
+        self.serve(|m| m.commit_rows(txn).map(drop))
     }
 
     /// Takes the wait of a transaction back, from any thread. Whoever sleeps for it is woken, and
-    /// answered [`Stop::Cancelled`].
+    /// answered [`Stop::Cancelled`]. A row that only it waited for is let go.
     ///
     /// Refused as [`Manager::cancel`].
     pub fn cancel(&self, txn: Txn) -> Result<(), Refusal> {
-        self.serve(|m| m.cancel(txn).map(drop))
+        self.serve(|m| m.cancel_rows(txn).map(drop))
     }
 
     /// Condemns victims until a transaction is on no cycle of waits, and wakes them; how many.
@@ -279,6 +285,26 @@ impl Table {
     ) -> Result<Mode, Stop> {
         let mut guarded = self.guarded();
         let (asked, told) = guarded.manager.lock(txn, node, mode)?;
+        let tells = !told.is_empty();
+        self.wake_behind(&mut guarded, tells, asked == Asked::Waiting);
+        match asked {
+            Asked::Granted(mode) => Ok(mode),
+            Asked::Victim => Err(Stop::Victim),
+            Asked::Waiting => self.sleep(guarded, txn, node, mode, until).1,
+        }
+    }
+
+    /// A row's lock, of the intentions above which the session takes care.
+    pub(crate) fn lock_row(
+        &self,
+        txn: Txn,
+        row: Row,
+        keys: &[u64],
+        mode: Mode,
+        until: Option<Instant>,
+    ) -> Result<Mode, Stop> {
+        let mut guarded = self.guarded();
+        let (asked, node, told) = guarded.manager.lock_row(txn, row, keys, mode)?;
         let tells = !told.is_empty();
         self.wake_behind(&mut guarded, tells, asked == Asked::Waiting);
         match asked {

@@ -1,8 +1,11 @@
 //! A crowd over one shared table: threads make random commands of every kind, by both ways of
 //! detection and both choices of victims. Those who hold X on an account add to it in two steps, and
-//! no addition may be lost; in the end nobody holds or waits, and boards never went back.
+//! no addition may be lost; in the end nobody holds or waits, no row has a node, and boards never went
+//! back.
 
-use burlapslate::{Board, Detect, Mode, Node, Refusal, Session, Stop, Table, Txn, Victims, SLOTS};
+use burlapslate::{
+    Board, Detect, Mode, Node, Refusal, Row, Session, Stop, Table, Txn, Victims, SLOTS,
+};
 use std::sync::atomic::{AtomicBool, AtomicU64, Ordering};
 use std::sync::Mutex;
 use std::thread;
@@ -12,6 +15,7 @@ const SESSIONS: usize = SLOTS;
 const ROUNDS: usize = 4;
 const ACCOUNTS: usize = 8;
 const RECORDS: usize = 24;
+const ROWS: usize = 10;
 
 struct Crowd {
     table: Table,
@@ -139,6 +143,22 @@ impl Member<'_> {
         Ok(())
     }
 
+    /// A row by its number, whose key is the same for good, with the intentions above it.
+    fn row(&mut self, session: &mut Session<'_>, mode: Mode) -> Result<(), Stop> {
+        let (i, number) = (self.pick(2), self.pick(ROWS) as u64);
+        let (file, key) = (self.crowd.files[i], number * 29);
+        let index = self.crowd.indexes[i];
+        let interval = self.crowd.table.with(|m| m.interval_of(index, key))?;
+        self.path(session, interval, Mode::IX)?;
+        self.path(session, file, Mode::IX)?;
+        let row = Row { file, number };
+        if self.pick(4) != 0 {
+            return session.lock_row(row, &[key], mode).map(drop);
+        }
+        let time = Duration::from_micros(200 + self.pick(2000) as u64);
+        session.lock_row_timeout(row, &[key], mode, time).map(drop)
+    }
+
     fn rekey(&mut self, session: &mut Session<'_>) -> Result<(), Stop> {
         let (record, i, key) = (self.record(), self.pick(2), self.pick(300) as u64);
         self.path(session, record, Mode::X)?;
@@ -173,7 +193,7 @@ impl Member<'_> {
 
     fn command(&mut self, session: &mut Session<'_>) -> Result<(), Stop> {
         let (node, mode) = (self.node(), self.mode());
-        match self.pick(16) {
+        match self.pick(20) {
             0 => session.lock(node, mode).map(drop)?,
             1 => session.try_lock(node, mode).map(drop)?,
             2 => session.unlock(node)?,
@@ -187,6 +207,12 @@ impl Member<'_> {
             6 => self.rekey(session)?,
             7 => self.move_file(session)?,
             8 => self.meddle()?,
+            16 | 17 => self.row(session, mode)?,
+            18 => {
+                let (i, number) = (self.pick(2), self.pick(ROWS) as u64);
+                let file = self.crowd.files[i];
+                session.unlock_row(Row { file, number })?;
+            }
             9 | 10 => {
                 let record = self.record();
                 self.path(session, record, Mode::S).map(drop)?;
@@ -284,6 +310,14 @@ fn play(detect: Detect, victims: Victims) {
     crowd.table.with(|m| {
         assert_eq!(m.transactions().count(), 0);
         assert_eq!(m.group(crowd.root), Ok(Mode::NL));
+        for (file, number) in crowd
+            .files
+            .iter()
+            .flat_map(|file| (0..ROWS).map(move |i| (*file, i)))
+        {
+            let number = number as u64;
+            assert_eq!(m.row_node(Row { file, number }), None);
+        }
         let fell: usize = members.iter().map(|(_, fell)| fell).sum();
         assert!(m.counters().victims >= fell as u64);
     });

@@ -10,14 +10,15 @@ ghost use Rattle.gl_c.specs.Deadlocks.{Recalls};
 ghost use Rattle.gl_c.specs.Finding.{FindsEnded, FindsIn};
 ghost use Rattle.gl_graph.specs.Refusals.{first_refusal};
 ghost use Rattle.gl_header.specs.Header.{holds};
-ghost use Rattle.gl_table.specs.model.Calls.{group_tests, living_tests};
-ghost use Rattle.gl_table.specs.model.State.{members, waits_for};
+ghost use Rattle.gl_model.specs.Calls.{group_tests, living_tests};
+ghost use Rattle.gl_model.specs.State.{members, waits_for};
 ghost use Rattle.gl_catalog.specs.Manager.{IsLawfulManager};
 ghost use Rattle.gl_c.specs.Looks.{Looks};
 ghost use Rattle.gl_c.specs.Paths.{CarriesPath};
 ghost use Rattle.gl_c.specs.Notices.{Tells};
 ghost use Rattle.gl_c.specs.Numbers.{no_manager};
 ghost use Rattle.gl_c.specs.Replies.{status_reply};
+ghost use Rattle.gl_c.specs.Rows.{AsksRow, CarriesRow, FindsRow};
 ghost use Rattle.gl_c.specs.Verdicts.{Judges};
 ghost use Rattle.gl_c.specs.Watching.{Attends};
 
@@ -35,6 +36,7 @@ use crate::reply::Reply;
 use crate::session::Session;
 use gl_catalog::Command;
 use gl_modes::{Mode, NodeId};
+use gl_registry::{Row, RowCall};
 use gl_table::TxnId;
 use gl_window::{WatchFault, Watcher};
 use std::alloc::Global;
@@ -126,6 +128,32 @@ impl Handle {
         reply
     }
 
+    /// Carries out a call about rows, and writes down whom it tells.
+    pub(crate) fn carry_out_row(&mut self, call: RowCall<'_>, told: &mut Notices) -> Reply
+        ensures { CarriesRow (guarded_in self.old) call.entry result told.new (guarded_in self.new) }
+    {
+        let alloc = self.alloc;
+        let Some(mut session) = self.take() else {
+            return declined(told);
+        };
+        let reply = session.carry_out_row(call, told);
+        *self = Handle::of(alloc, session);
+        reply
+    }
+
+    /// Carries out a call about rows that tells nobody.
+    pub(crate) fn ask_row(&mut self, call: RowCall<'_>) -> Reply
+        ensures { AsksRow (guarded_in self.old) call.entry result (guarded_in self.new) }
+    {
+        let alloc = self.alloc;
+        let Some(mut session) = self.take() else {
+            return Reply::with_status(NO_MANAGER);
+        };
+        let reply = session.ask_row(call);
+        *self = Handle::of(alloc, session);
+        reply
+    }
+
     /// Carries out a command that tells nobody.
     #[inline(always)]
     pub(crate) fn ask(&mut self, command: Command<'_>) -> Reply
@@ -150,6 +178,19 @@ impl Handle {
             return Reply::with_status(NO_MANAGER);
         };
         let reply = session.look(query);
+        *self = Handle::of(alloc, session);
+        reply
+    }
+
+    /// The node by which a row is named.
+    pub(crate) fn row_node(&mut self, row: Row) -> Reply
+        ensures { FindsRow (guarded_in self.old) row result (guarded_in self.new) }
+    {
+        let alloc = self.alloc;
+        let Some(session) = self.take() else {
+            return Reply::with_status(NO_MANAGER);
+        };
+        let reply = session.row_node(row);
         *self = Handle::of(alloc, session);
         reply
     }

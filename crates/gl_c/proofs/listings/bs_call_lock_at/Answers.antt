@@ -1,5 +1,5 @@
 use Rattle.gl_c.specs.Handle.{guarded_in}
-use Rattle.gl_c.proofs.Rows.{rows_in}
+use Rattle.gl_c.proofs.ListedRows.{rows_in}
 use Rattle.gl_c.proofs.listings.bs_call_lock_at.Goals as goal
 
 pub returns-clause-rows : goal.returns-clause-rows

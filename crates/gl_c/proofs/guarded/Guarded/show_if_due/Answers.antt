@@ -1,7 +1,7 @@
 use Rattle.std.proofs.Common.{rules, ◌≡◌, ◌≤◌, ◌∙◌, true, ap, inr, refl, subst, sym}
 use Rattle.std.specs.Prelude.{Option, Some, IfSome}
 use mathlib.Core.Bool.{true≢false}
-use Rattle.gl_table.specs.model.Table.{board_of}
+use Rattle.gl_table.specs.Table.{board_of}
 use Rattle.gl_catalog.specs.Manager.{state_of}
 use Rattle.gl_boxes.specs.Boards.{last_epoch}
 use Rattle.gl_boxes.specs.Strip.{Strip}
@@ -47,6 +47,7 @@ returns-in-Some-show-clause-kept c = (
   ap (λ (v : GuardedView). v.manager) c.self.view_is,
   ap (λ (v : GuardedView). v.boxes) c.self.view_is,
   ap (λ (v : GuardedView). v.ended) c.self.view_is,
+  ap (λ (v : GuardedView). v.rows) c.self.view_is,
 )
 
 pub returns-in-Some-show-clause-shown : goal.returns-in-Some-show-clause-shown

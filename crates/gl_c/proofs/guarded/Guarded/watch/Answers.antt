@@ -1,8 +1,8 @@
 use Rattle.std.proofs.Common.{rules, arith, ◌≡◌, ◌∙◌, true, ap, refl, subst, sym}
 use Rattle.std.specs.Prelude.{Option, Some, None, Ok}
 use mathlib.Core.Bool.{true≢false}
-use Rattle.gl_table.specs.declared.answers.Detect.{Detect}
-use Rattle.gl_table.specs.model.Table.{board_of}
+use Rattle.gl_model.specs.declared.answers.Detect.{Detect}
+use Rattle.gl_table.specs.Table.{board_of}
 use Rattle.gl_catalog.specs.Manager.{state_of}
 use Rattle.gl_boxes.specs.Boards.{Fine}
 use Rattle.gl_boxes.specs.Strip.{Strip}
@@ -20,9 +20,17 @@ returns-in_default-clause-kept c =
     let none : c.self.inside.publisher ≡ None = sym c.take.ensures.value ∙
     was_none c.take.result c.publisher_of.result c.in_default.field-0 c.publisher_of.ensures.same c.in_default.is in
     subst (λ (v : GuardedView). OnlyShows v
-    (record { manager = c.self.inside.manager; boxes = c.self.inside.boxes; ended = c.self.inside.ended; shown = c.take.new.self; waited = true }))
+    (record {
+      manager = c.self.inside.manager;
+      boxes = c.self.inside.boxes;
+      ended = c.self.inside.ended;
+      shown = c.take.new.self;
+      waited = true;
+      rows =
+          c.self.inside.rows;
+    }))
     c.self.view_is
-    (record { manager = refl; boxes = refl; ended = refl; shown = subst (λ (o : Option Strip). Continues o c.take.new.self) (sym none) tt })
+    (record { manager = refl; boxes = refl; ended = refl; rows = refl; shown = subst (λ (o : Option Strip). Continues o c.take.new.self) (sym none) tt })
 
 pub watch-watcher-requires-clause-rises : goal.watch-watcher-requires-clause-rises
 watch-watcher-requires-clause-rises c =
@@ -71,12 +79,20 @@ returns-clause-kept c =
     c.board_now-now.ensures.epoch c.detect-detect.ensures in
     let on = either_goes_on c.in-Ok.publisher c.watch-watcher.new.self c.board_now-now.result c.watch-watcher.ensures.list c.watch-watcher.ensures.of.0
     c.watch-watcher.ensures.of.1 in
-    subst (λ (v : GuardedView). OnlyShows v (record
-    { manager = c.self.inside.manager; boxes = c.self.inside.boxes; ended = c.self.inside.ended; shown = Some c.watch-watcher.new.self; waited = true }))
+    subst (λ (v : GuardedView). OnlyShows v (record {
+      manager = c.self.inside.manager;
+      boxes = c.self.inside.boxes;
+      ended = c.self.inside.ended;
+      shown = Some c.watch-watcher.new.self;
+      waited = true;
+      rows
+          = c.self.inside.rows;
+    }))
     c.self.view_is (record {
       manager = refl;
       boxes = refl;
       ended = refl;
+      rows = refl;
       shown = continues_on c.self.inside.publisher c.in-Ok.publisher c.watch-watcher.new.self found.goes_on on;
     })
 

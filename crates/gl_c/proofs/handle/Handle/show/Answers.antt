@@ -1,7 +1,7 @@
 use Rattle.std.specs.Prelude.{Option}
 use Rattle.std.proofs.Common.{ap, subst, ◌∙◌}
 use Rattle.gl_catalog.specs.Manager.{state_of}
-use Rattle.gl_table.specs.model.Table.{board_of}
+use Rattle.gl_table.specs.Table.{board_of}
 use Rattle.gl_c.specs.Boards.{Shows}
 use Rattle.gl_c.specs.Guarded.{GuardedView}
 use Rattle.gl_c.specs.Handle.{guarded_in}

@@ -1,6 +1,6 @@
 -- The rows of a transaction of the manager at a place, for a listing.
 use Rattle.std.specs.Prelude.{ℕ, Option, Some, None, IfSome}
-use Rattle.gl_table.specs.model.Table.{AreRowsOf, rows_of}
+use Rattle.gl_table.specs.Table.{AreRowsOf, rows_of}
 use Rattle.gl_table.proofs.calls.Queries.{are_rows}
 use Rattle.gl_catalog.specs.Manager.{IsLawfulManager, state_of}
 use Rattle.gl_c.specs.Guarded.{GuardedView}
