@@ -7,8 +7,8 @@
 # It prints a line for each step, order and side, with a column for 10000, 100000, 1000000 records and so on up to MOST
 # (1000000 where none is given): the instructions for a record, where valgrind's callgrind is at hand, and its
 # nanoseconds. Berkeley DB keeps nothing of a record that nobody locks, so it has no insert and no delete. Where it is
-# not at hand a line says so, and ours stands alone. CC names another compiler than cc. A record that is adopted stands
-# only while it is locked.
+# not at hand a line says so, and ours stands alone. CC names another compiler than cc. A record that is adopted, by
+# its name or by its row's number, stands only while it is locked.
 #
 # - A record has one index, and lies with all others in one interval. Each step goes over all records, by rising key or
 #   at random, a hundred in a transaction, with intentions on four nodes above; or all in one transaction.

@@ -107,6 +107,20 @@ static __attribute__((noinline)) void step_adopt(const struct work *work) {
   }
 }
 
+/* The same by the rows' numbers: the library adopts and forgets. */
+static __attribute__((noinline)) void step_row(const struct work *work) {
+  uint32_t from, at, to;
+  for (from = 0; from < work->records; from = to) {
+    bs_txn t = begin();
+    to = work->records - from < PER_TRANSACTION ? work->records : from + PER_TRANSACTION;
+    for (at = from; at < to; at++) {
+      uint64_t key = work->order[at];
+      done(bs_lock_row(&m, t, file, key, &key, 1, BS_X, &told));
+    }
+    done(bs_commit_rows(&m, t, &told));
+  }
+}
+
 static const struct step steps[] = {
   { "insert\tstep_insert", step_insert },
   { "lock, a hundred in a transaction\tstep_lock", step_lock },
@@ -114,6 +128,7 @@ static const struct step steps[] = {
   { "lock all, and escalate\tstep_escalate", step_escalate },
   { "lock and delete\tstep_delete", step_delete },
   { "adopt, lock, commit and forget\tstep_adopt", step_adopt },
+  { "lock a row by its number, and commit\tstep_row", step_row },
 };
 
 const struct side ours = { set_up, steps, sizeof steps / sizeof *steps, tear_down };

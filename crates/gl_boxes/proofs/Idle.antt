@@ -5,12 +5,12 @@ use mathlib.Core.Bool.{true≢false}
 use Rattle.std.specs.List.{list_any}
 use Rattle.gl_waits.specs.Boards.{row_edge}
 use Rattle.gl_waits.proofs.SetLemmas.{no_slot-zero}
-use Rattle.gl_table.specs.declared.txn.Status.{Status}
-use Rattle.gl_table.specs.declared.txn.Status.TheVariants.{Active, Waiting, Condemned}
-use Rattle.gl_table.specs.model.Table.{board_of}
-use Rattle.gl_table.specs.model.State.{State, status_of, is_wait}
-use Rattle.gl_table.specs.model.Tellings.{Told}
-use Rattle.gl_table.proofs.law.Settle.{waits_for_one}
+use Rattle.gl_model.specs.declared.txn.Status.{Status}
+use Rattle.gl_model.specs.declared.txn.Status.TheVariants.{Active, Waiting, Condemned}
+use Rattle.gl_table.specs.Table.{board_of}
+use Rattle.gl_model.specs.State.{State, status_of, is_wait}
+use Rattle.gl_model.specs.Tellings.{Told}
+use Rattle.gl_model.proofs.law.Settle.{waits_for_one}
 use Rattle.gl_catalog.specs.declared.command.Answer.{Answer}
 use Rattle.gl_catalog.specs.declared.command.Command.{Command}
 use Rattle.gl_catalog.specs.Manager.{IsLawfulManager, ManagerView, state_of}

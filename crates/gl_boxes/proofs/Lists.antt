@@ -2,7 +2,7 @@
 use Rattle.std.proofs.Common.{◌≡◌, ℕ, ◌+◌, ◌≤◌, Bool, true, false, MatchBool, List, [], ◌∷◌, ◌++◌, length, refl, sym, ap, ◌∙◌, subst, arith, zero-le, le_refl, le_trans, length-append, ◌⊎◌, ⊎_elim}
 use mathlib.Core.List.{IsPrefix}
 use Rattle.gl_waits.specs.declared.board.Board.{Board}
-use Rattle.gl_table.specs.declared.answers.Detect.{Detect}
+use Rattle.gl_model.specs.declared.answers.Detect.{Detect}
 use Rattle.gl_boxes.specs.Boards.{Fine, last_epoch, Rising, Ends, AllFine, IsLawful}
 use Rattle.gl_boxes.proofs.Fronts.{prefix_trans, prefix_length, prefix_shorter, prefix_whole}
 

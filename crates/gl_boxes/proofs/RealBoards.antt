@@ -11,15 +11,15 @@ use Rattle.gl_header.specs.Header.{holds}
 use Rattle.gl_waits.specs.Boards.{age_in, board_edge}
 use Rattle.gl_waits.specs.Waits.{IsOnNoCycle}
 use Rattle.gl_waits.proofs.BoardLemmas.{row_edge-bits_of}
-use Rattle.gl_table.specs.declared.answers.Detect.TheVariants.{AtBlock}
-use Rattle.gl_table.specs.model.Table.{board_of}
-use Rattle.gl_table.specs.model.Lawful.{IsLawful}
-use Rattle.gl_table.specs.model.State.{State, age_of, members, status_of, HasNoCycle, blocks, waits_for}
-use Rattle.gl_table.proofs.law.Edges.{step_is}
-use Rattle.gl_table.proofs.law.Keeps.{txn_there}
+use Rattle.gl_model.specs.declared.answers.Detect.TheVariants.{AtBlock}
+use Rattle.gl_table.specs.Table.{board_of}
+use Rattle.gl_model.specs.Lawful.{IsLawful}
+use Rattle.gl_model.specs.State.{State, age_of, members, status_of, HasNoCycle, blocks, waits_for}
+use Rattle.gl_model.proofs.law.Edges.{step_is}
+use Rattle.gl_model.proofs.law.Keeps.{txn_there}
 use Rattle.gl_listed.proofs.Children.{nl_is}
-use Rattle.gl_table.proofs.telling.Fronts.{waits_there}
-use Rattle.gl_table.proofs.queues.Waiters.{ahead_is, ahead_second}
+use Rattle.gl_model.proofs.telling.Fronts.{waits_there}
+use Rattle.gl_model.proofs.queues.Waiters.{ahead_is, ahead_second}
 use Rattle.gl_table.proofs.calls.Calls.{lawful_orderly}
 use Rattle.gl_catalog.specs.Manager.{IsLawfulManager, ManagerView, state_of}
 use Rattle.gl_boxes.specs.Boards.{Fine}

@@ -1,9 +1,9 @@
 -- Which commands are accepted, and in which order notices stand.
 use Rattle.std.specs.Prelude.{◌≡◌, ℕ, ◌+◌, ◌≤◌, Bool, true, false, not, ◌&&◌, ◌==◌, List, [], ◌∷◌}
-use Rattle.gl_table.specs.declared.answers.Notice.{Notice}
-use Rattle.gl_table.specs.declared.txn.TxnId.{TxnId}
-use Rattle.gl_table.specs.model.State.{State}
-use Rattle.gl_table.specs.model.Tellings.{Told}
+use Rattle.gl_model.specs.declared.answers.Notice.{Notice}
+use Rattle.gl_model.specs.declared.txn.TxnId.{TxnId}
+use Rattle.gl_model.specs.State.{State}
+use Rattle.gl_model.specs.Tellings.{Told}
 use Rattle.gl_catalog.specs.declared.command.Answer.{Answer}
 use Rattle.gl_catalog.specs.declared.command.Answer.TheVariants as answer
 use Rattle.gl_catalog.specs.declared.command.Command.{Command}

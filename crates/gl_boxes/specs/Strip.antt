@@ -1,6 +1,6 @@
 -- A beginning of a published list.
 use Rattle.std.specs.Prelude.{List}
-use Rattle.gl_table.specs.declared.answers.Detect.{Detect}
+use Rattle.gl_model.specs.declared.answers.Detect.{Detect}
 use Rattle.logbook.specs.Pages.{Book}
 use Rattle.gl_waits.specs.declared.board.Board.{Board}
 

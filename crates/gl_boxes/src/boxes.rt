@@ -2,7 +2,7 @@
 
 ghost use Rattle.std.specs.Prelude.{◌≡◌, [], true, false, None, Some, Ok, List, slice_set, replicate};
 ghost use Rattle.gl_modes.specs.Modes.{is_at_least};
-ghost use Rattle.gl_table.specs.model.State.{is_waiting_at, lives};
+ghost use Rattle.gl_model.specs.State.{is_waiting_at, lives};
 ghost use Rattle.gl_catalog.specs.Manager.{state_of};
 ghost use Rattle.gl_boxes.specs.Boxes.{Delivers, Slot as ASlot, box_at, emptied, named, verdict_of};
 ghost use Rattle.gl_boxes.specs.Served.{RisingTo};

@@ -3,11 +3,11 @@ use Rattle.std.specs.Prelude.{◌≡◌, ℕ, zero, suc}
 use Rattle.std.proofs.Common.{ap}
 use Rattle.gl_modes.proofs.Words.{split}
 use Rattle.gl_waits.specs.declared.victims.Victims.{Victims}
-use Rattle.gl_table.specs.declared.answers.Detect.{Detect}
-use Rattle.gl_table.specs.declared.answers.Detect.TheVariants.{AtBlock, ByWatcher}
-use Rattle.gl_table.specs.model.Calls.{WaitSettles, enqueued, enters_at, wanted}
-use Rattle.gl_table.specs.model.State.{condemned, State, SettledWithin}
-use Rattle.gl_table.specs.model.Tellings.{Told}
+use Rattle.gl_model.specs.declared.answers.Detect.{Detect}
+use Rattle.gl_model.specs.declared.answers.Detect.TheVariants.{AtBlock, ByWatcher}
+use Rattle.gl_model.specs.Calls.{WaitSettles, enqueued, enters_at, wanted}
+use Rattle.gl_model.specs.State.{condemned, State, SettledWithin}
+use Rattle.gl_model.specs.Tellings.{Told}
 use Rattle.gl_catalog.specs.declared.command.Answer.{Answer}
 use Rattle.gl_catalog.specs.declared.command.Command.{Command}
 use Rattle.gl_catalog.specs.declared.command.Command.TheVariants as command

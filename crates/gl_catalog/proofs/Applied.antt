@@ -5,13 +5,13 @@ use Rattle.std.proofs.Common.{ap, ap₂, arith, inl, refl, subst, sym, ◌∙◌
 use Rattle.gl_modes.specs.declared.refusal.Refusal.{Refusal}
 use Rattle.gl_graph.specs.Refusals.{Refuses}
 use Rattle.gl_modes.specs.declared.node.NodeId.{NodeId}
-use Rattle.gl_table.specs.declared.answers.Locked.{Locked}
-use Rattle.gl_table.specs.declared.txn.TxnId.{TxnId}
-use Rattle.gl_table.specs.declared.answers.Locked.TheVariants as locked
-use Rattle.gl_table.specs.model.Calls.{answered}
-use Rattle.gl_table.specs.model.Lawful.{IsLawful}
-use Rattle.gl_table.specs.model.State.{State}
-use Rattle.gl_table.specs.model.Tellings.{Told}
+use Rattle.gl_model.specs.declared.answers.Locked.{Locked}
+use Rattle.gl_model.specs.declared.txn.TxnId.{TxnId}
+use Rattle.gl_model.specs.declared.answers.Locked.TheVariants as locked
+use Rattle.gl_model.specs.Calls.{answered}
+use Rattle.gl_model.specs.Lawful.{IsLawful}
+use Rattle.gl_model.specs.State.{State}
+use Rattle.gl_model.specs.Tellings.{Told}
 use Rattle.gl_catalog.specs.declared.command.Answer.{Answer}
 use Rattle.gl_catalog.specs.declared.command.Command.{Command}
 use Rattle.gl_catalog.specs.declared.command.Command.TheVariants as command

@@ -6,8 +6,8 @@ use Rattle.gl_modes.specs.declared.refusal.Refusal.{Refusal}
 use Rattle.gl_modes.specs.declared.refusal.Refusal.TheVariants as refusal
 use Rattle.gl_graph.specs.Refusals.{Refuses, first_refusal, verdict}
 use Rattle.gl_graph.proofs.Unrefused.{verdict_ok}
-use Rattle.gl_table.specs.model.Calls.{RefusesOnly, accepted_once}
-use Rattle.gl_table.specs.model.State.{State}
+use Rattle.gl_model.specs.Calls.{RefusesOnly, accepted_once}
+use Rattle.gl_model.specs.State.{State}
 use Rattle.gl_catalog.specs.declared.command.Answer.TheVariants as answer
 use Rattle.gl_catalog.specs.declared.command.Command.{Command}
 use Rattle.gl_catalog.specs.Manager.{counting}

@@ -16,11 +16,11 @@ use Rattle.gl_graph.specs.Lawful.{IsLawfulGraph}
 use Rattle.gl_graph.specs.Refusals.{first_refusal, where_true}
 use Rattle.gl_graph.specs.Routes.{IsRoute}
 use Rattle.gl_graph.proofs.RouteLengths.{route_short}
-use Rattle.gl_table.specs.declared.txn.Status.{Status}
-use Rattle.gl_table.specs.declared.txn.Status.TheVariants.{Active, Condemned, Waiting}
-use Rattle.gl_table.specs.declared.txn.TxnId.{TxnId}
-use Rattle.gl_table.specs.model.Calls.{condemned_test, first_not_ix, first_of_all, need_parents, rule_refusal, waiting_test, wanted}
-use Rattle.gl_table.specs.model.State.{State, intends_over, is_write}
+use Rattle.gl_model.specs.declared.txn.Status.{Status}
+use Rattle.gl_model.specs.declared.txn.Status.TheVariants.{Active, Condemned, Waiting}
+use Rattle.gl_model.specs.declared.txn.TxnId.{TxnId}
+use Rattle.gl_model.specs.Calls.{condemned_test, first_not_ix, first_of_all, need_parents, rule_refusal, waiting_test, wanted}
+use Rattle.gl_model.specs.State.{State, intends_over, is_write}
 use Rattle.gl_catalog.specs.Paths.{Ask, ClimbsTo, intention, parent_missed, parent_wanted, path_tests}
 use Rattle.gl_catalog.specs.Tests.{is_cycle}
 

@@ -4,17 +4,17 @@ use Rattle.std.specs.Prelude.{◌≡◌, ◌≤◌, ℕ, zero, suc}
 use Rattle.std.proofs.Common.{refl, ap, get_or}
 use Rattle.gl_modes.specs.declared.mode.Mode.{Mode}
 use Rattle.gl_modes.specs.declared.node.NodeId.{NodeId}
-use Rattle.gl_table.specs.declared.deadlock.Deadlock.{Deadlock}
-use Rattle.gl_table.specs.declared.deadlock.Stuck.{Stuck}
-use Rattle.gl_table.specs.declared.answers.Detect.{Detect}
-use Rattle.gl_table.specs.declared.answers.Detect.TheVariants.{AtBlock, ByWatcher}
-use Rattle.gl_table.specs.model.Calls.{Locks, WaitSettles, enqueued, wanted}
-use Rattle.gl_table.specs.model.Deadlocks.{IsDeadlock, IsStuck, LocksKeeping, SettlesKeeping, SettlesKeepingWithin, WaitSettlesKeeping}
-use Rattle.gl_table.specs.model.Lawful.{HasNoConflict, IsLawful}
+use Rattle.gl_model.specs.declared.deadlock.Deadlock.{Deadlock}
+use Rattle.gl_model.specs.declared.deadlock.Stuck.{Stuck}
+use Rattle.gl_model.specs.declared.answers.Detect.{Detect}
+use Rattle.gl_model.specs.declared.answers.Detect.TheVariants.{AtBlock, ByWatcher}
+use Rattle.gl_model.specs.Calls.{Locks, WaitSettles, enqueued, wanted}
+use Rattle.gl_model.specs.Deadlocks.{IsDeadlock, IsStuck, LocksKeeping, SettlesKeeping, SettlesKeepingWithin, WaitSettlesKeeping}
+use Rattle.gl_model.specs.Lawful.{HasNoConflict, IsLawful}
 use Rattle.gl_header.specs.Headers.{AreHeaders}
-use Rattle.gl_table.specs.model.State.{condemned, State, HasNoCycle, IsVictim, Settled, SettledWithin}
-use Rattle.gl_table.specs.model.Table.{ListsAgree, StandOnce, TableView, state_of as table_state}
-use Rattle.gl_table.specs.model.Tellings.{told}
+use Rattle.gl_model.specs.State.{condemned, State, HasNoCycle, IsVictim, Settled, SettledWithin}
+use Rattle.gl_table.specs.Table.{ListsAgree, StandOnce, TableView, state_of as table_state}
+use Rattle.gl_model.specs.Tellings.{told}
 use Rattle.gl_catalog.specs.declared.counters.Counters.{Counters}
 use Rattle.gl_catalog.specs.Manager.{IsLawfulManager, counting}
 

@@ -2,18 +2,18 @@
 use Rattle.std.specs.Prelude.{not, [], ◌∷◌}
 use Rattle.std.proofs.Common.{sym, subst}
 use Rattle.gl_modes.specs.declared.node.NodeId.{NodeId}
-use Rattle.gl_table.specs.declared.txn.TxnId.{TxnId}
+use Rattle.gl_model.specs.declared.txn.TxnId.{TxnId}
 use Rattle.gl_catalog.specs.declared.command.Command.TheVariants as command
 use Rattle.gl_graph.specs.Graph.{shape_of}
 use Rattle.gl_graph.specs.Shapes.{is_record_shape}
-use Rattle.gl_table.specs.model.State.{status_of}
-use Rattle.gl_table.specs.model.Lawful.{IsLawful}
+use Rattle.gl_model.specs.State.{status_of}
+use Rattle.gl_model.specs.Lawful.{IsLawful}
 use Rattle.gl_catalog.specs.Tests.{worn}
 use Rattle.gl_graph.specs.Refusals.{some_no_node, where_true}
-use Rattle.gl_table.specs.model.Calls.{no_txn, waiting_test, condemned_test}
+use Rattle.gl_model.specs.Calls.{no_txn, waiting_test, condemned_test}
 use Rattle.gl_catalog.proofs.KeepsLaw.{KeepsLaw}
 use Rattle.gl_graph.proofs.Unrefused.{not_refused, test_fails, not_false}
-use Rattle.gl_table.proofs.law.Records.{deleted_lawful}
+use Rattle.gl_model.proofs.law.Records.{deleted_lawful}
 
 pub delete_keeps : (t : TxnId) (r : NodeId) → KeepsLaw (command.Delete t r)
 delete_keeps t r s s' a told law free acc =

@@ -3,15 +3,15 @@ use Rattle.gl_modes.proofs.Words.{split}
 use Rattle.gl_waits.specs.declared.victims.Victims.{Victims}
 use Rattle.std.specs.Prelude.{◌≡◌, ℕ, zero, suc}
 use Rattle.std.proofs.Common.{ap, refl}
-use Rattle.gl_table.specs.declared.answers.Detect.{Detect}
-use Rattle.gl_table.specs.declared.answers.Detect.TheVariants.{AtBlock, ByWatcher}
+use Rattle.gl_model.specs.declared.answers.Detect.{Detect}
+use Rattle.gl_model.specs.declared.answers.Detect.TheVariants.{AtBlock, ByWatcher}
 use Rattle.gl_catalog.specs.declared.command.Answer.{Answer}
 use Rattle.gl_catalog.specs.declared.command.Command.{Command}
 use Rattle.gl_catalog.specs.declared.command.Command.TheVariants as command
-use Rattle.gl_table.specs.model.State.{State, SettledWithin, condemned}
-use Rattle.gl_table.specs.model.Tellings.{Told}
+use Rattle.gl_model.specs.State.{State, SettledWithin, condemned}
+use Rattle.gl_model.specs.Tellings.{Told}
 use Rattle.gl_catalog.specs.Step.{Accepts, Step}
-use Rattle.gl_table.specs.model.Calls.{WaitSettles, wanted, enters_at, enqueued}
+use Rattle.gl_model.specs.Calls.{WaitSettles, wanted, enters_at, enqueued}
 use Rattle.gl_catalog.proofs.EachStep.{each_step}
 
 -- the way of detection stays

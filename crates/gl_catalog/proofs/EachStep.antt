@@ -6,9 +6,9 @@ use Rattle.gl_modes.specs.declared.refusal.Refusal.TheVariants as no
 use Rattle.gl_catalog.specs.declared.command.Answer.{Answer}
 use Rattle.gl_catalog.specs.declared.command.Answer.TheVariants as answer
 use Rattle.gl_catalog.specs.declared.command.Command.{Command}
-use Rattle.gl_table.specs.model.State.{State}
-use Rattle.gl_table.specs.model.Calls.{accepted_once}
-use Rattle.gl_table.specs.model.Tellings.{Told}
+use Rattle.gl_model.specs.State.{State}
+use Rattle.gl_model.specs.Calls.{accepted_once}
+use Rattle.gl_model.specs.Tellings.{Told}
 use Rattle.gl_catalog.specs.Tests.{refusal_of, may_want_memory}
 use Rattle.gl_catalog.specs.Step.{Accepts, Answers, Goes, Step, Unchanged, query_answer}
 

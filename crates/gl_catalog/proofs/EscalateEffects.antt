@@ -9,31 +9,31 @@ use Rattle.gl_modes.specs.declared.mode.Mode.{Mode}
 use Rattle.gl_modes.specs.declared.mode.Mode.TheVariants.{NL, S, X}
 use Rattle.gl_modes.specs.declared.node.NodeId.{NodeId}
 use Rattle.gl_modes.specs.Modes.{is_at_least, supremum, same_mode}
-use Rattle.gl_table.specs.declared.answers.Effect.TheVariants as effect
-use Rattle.gl_table.specs.declared.txn.Status.TheVariants.{Active}
+use Rattle.gl_model.specs.declared.answers.Effect.TheVariants as effect
+use Rattle.gl_model.specs.declared.txn.Status.TheVariants.{Active}
 use Rattle.gl_catalog.specs.declared.command.Command.TheVariants as command
 use Rattle.gl_graph.specs.Graph.{Graph, nodes, node_at, node_count, is_live, parents_in, parents_of, is_child}
 use Rattle.gl_modes.specs.Nodes.{same_node}
 use Rattle.gl_graph.specs.Routes.{IsRoute}
 use Rattle.gl_header.specs.Header.{Members, Waiter, fits, holds, with_mode, front, is_waiter, is_among_waiters}
-use Rattle.gl_table.specs.model.State.{State, members, status_of, no_parents, is_write, waits_at, front_at, granted_at}
-use Rattle.gl_table.specs.model.Lawful.{eff_s, eff_x, is_read, effective, EffX, is_at_least_effect, IsLawful}
-use Rattle.gl_table.specs.model.Calls.{holds_child, is_covered, wanted, asked_by_escalation, raised, shed, no_txn, waiting_test, condemned_test}
+use Rattle.gl_model.specs.State.{State, members, status_of, no_parents, is_write, waits_at, front_at, granted_at}
+use Rattle.gl_model.specs.Lawful.{eff_s, eff_x, is_read, effective, EffX, is_at_least_effect, IsLawful}
+use Rattle.gl_model.specs.Calls.{holds_child, is_covered, wanted, asked_by_escalation, raised, shed, no_txn, waiting_test, condemned_test}
 use Rattle.gl_catalog.specs.Tests.{worn}
 use Rattle.gl_catalog.specs.Promises.{EscalateLowersNone}
 use Rattle.gl_graph.proofs.Look.{all_at, child_live}
 use Rattle.gl_graph.proofs.Routes.{join}
 use Rattle.gl_graph.proofs.Moved.{some_at}
 use Rattle.gl_graph.proofs.RouteLengths.{listed}
-use Rattle.gl_table.proofs.law.Effects.{cut_set_on}
-use Rattle.gl_table.proofs.law.Records.{nobody_holds}
+use Rattle.gl_model.proofs.law.Effects.{cut_set_on}
+use Rattle.gl_model.proofs.law.Records.{nobody_holds}
 use Rattle.gl_graph.proofs.Unrefused.{not_refused, or_no}
 use Rattle.gl_catalog.proofs.EachStep.{each_step}
 use Rattle.gl_catalog.proofs.Keeps.{effect_refl, x_more, read_more}
 use Rattle.gl_catalog.proofs.NotRefused.{active_is}
 use Rattle.gl_modes.proofs.ModeLemmas.{at_least-refl, supremum-above}
-use Rattle.gl_table.proofs.law.Effects.{eff_s_route, read_on_eff}
-use Rattle.gl_table.proofs.queues.Waiters.{grants_other}
+use Rattle.gl_model.proofs.law.Effects.{eff_s_route, read_on_eff}
+use Rattle.gl_model.proofs.queues.Waiters.{grants_other}
 use Rattle.std.proofs.lemmas.Bool.{not-true}
 
 sup_reads : (a b : Mode) → is_read b ≡ true → is_read (supremum a b) ≡ true

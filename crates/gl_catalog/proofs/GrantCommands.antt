@@ -6,17 +6,17 @@ use mathlib.Core.Bool.{true≢false}
 use Rattle.gl_modes.proofs.Words.{none_some, some_is, split}
 use Rattle.gl_modes.specs.declared.mode.Mode.{Mode}
 use Rattle.gl_modes.specs.declared.node.NodeId.{NodeId}
-use Rattle.gl_table.specs.declared.txn.TxnId.{TxnId}
+use Rattle.gl_model.specs.declared.txn.TxnId.{TxnId}
 use Rattle.gl_catalog.specs.declared.command.Answer.{Answer}
-use Rattle.gl_table.specs.declared.txn.Status.TheVariants.{Active, Waiting}
+use Rattle.gl_model.specs.declared.txn.Status.TheVariants.{Active, Waiting}
 use Rattle.gl_catalog.specs.declared.command.Command.TheVariants as command
 use Rattle.gl_graph.specs.Graph.{is_live}
-use Rattle.gl_table.specs.model.State.{State, Txn, lives, live_by, status_in, slots}
-use Rattle.gl_table.specs.model.Lawful.{IsLawful}
-use Rattle.gl_table.specs.model.Tellings.{told, told_but, Told}
+use Rattle.gl_model.specs.State.{State, Txn, lives, live_by, status_in, slots}
+use Rattle.gl_model.specs.Lawful.{IsLawful}
+use Rattle.gl_model.specs.Tellings.{told, told_but, Told}
 use Rattle.gl_catalog.specs.Step.{Accepts}
-use Rattle.gl_table.specs.model.Calls.{accepted_once, enters_at, free_slot, wanted, enqueued, released}
-use Rattle.gl_table.proofs.telling.Follows.{Follows, GrantedTo, WaitsWell, lawful_waits, follows_refl, follows_same, follows_trans}
+use Rattle.gl_model.specs.Calls.{accepted_once, enters_at, free_slot, wanted, enqueued, released}
+use Rattle.gl_model.proofs.telling.Follows.{Follows, GrantedTo, WaitsWell, lawful_waits, follows_refl, follows_same, follows_trans}
 use Rattle.gl_catalog.proofs.OtherChanges.{other, with_grant_follows, begun_follows, enqueued_follows, settled_follows, wait_settles_follows, released_follows, escalated_follows, unlocked_follows, cancelled_follows}
 use Rattle.gl_catalog.proofs.ToldGrants.{tells, told_of_grant, told_but_of_grant}
 use Rattle.gl_catalog.proofs.Keeps.{Keeps, keeps_follows}

@@ -14,11 +14,11 @@ use Rattle.gl_graph.specs.Shapes.{Rec, is_record_shape}
 use Rattle.gl_modes.specs.Nodes.{same_node}
 use Rattle.gl_graph.specs.Changes.{born_node, born_nodes, rekeyed_node, reparented}
 use Rattle.gl_graph.specs.Lawful.{IsLawfulGraph}
-use Rattle.gl_table.specs.model.State.{State, no_parents}
-use Rattle.gl_table.specs.model.Lawful.{IsLawful, eff_x, EffX}
-use Rattle.gl_table.proofs.law.Effects.{no_conflict_law}
-use Rattle.gl_table.proofs.law.Effects.{ReadOn, read_on_eff, eff_x_any}
-use Rattle.gl_table.proofs.law.Searches.{GraphStep}
+use Rattle.gl_model.specs.State.{State, no_parents}
+use Rattle.gl_model.specs.Lawful.{IsLawful, eff_x, EffX}
+use Rattle.gl_model.proofs.law.Effects.{no_conflict_law}
+use Rattle.gl_model.proofs.law.Effects.{ReadOn, read_on_eff, eff_x_any}
+use Rattle.gl_model.proofs.law.Searches.{GraphStep}
 use Rattle.gl_catalog.proofs.Keeps.{read_lives}
 use Rattle.gl_modes.proofs.NodeLemmas.{same_node-equal}
 use Rattle.std.proofs.lemmas.Bool.{not-true}

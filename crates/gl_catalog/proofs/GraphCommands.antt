@@ -8,7 +8,7 @@ use mathlib.Core.Bool.{true≢false}
 use Rattle.gl_modes.proofs.Words.{split, and_both}
 use Rattle.gl_modes.specs.declared.mode.Mode.TheVariants.{NL, X}
 use Rattle.gl_modes.specs.declared.node.NodeId.{NodeId}
-use Rattle.gl_table.specs.declared.txn.TxnId.{TxnId}
+use Rattle.gl_model.specs.declared.txn.TxnId.{TxnId}
 use Rattle.gl_graph.specs.Changes.{born_index, rekeyed, with_parents, born_node, born_nodes, interval_nodes, rekeyed_keys, rekeyed_parents, rekeyed_node, reparented}
 use Rattle.gl_graph.specs.Graph.{Graph, Node, node_at, parents_of, parents_in, shape_of, shape_in, with_key, is_live}
 use Rattle.gl_graph.specs.Shapes.{Inner, File, Index, Rec, is_record_shape}
@@ -16,12 +16,12 @@ use Rattle.gl_modes.specs.Nodes.{same_node}
 use Rattle.gl_graph.specs.Routes.{IsRoute}
 use Rattle.gl_modes.specs.Modes.{same_mode}
 use Rattle.gl_header.specs.Header.{is_among_waiters}
-use Rattle.gl_table.specs.model.State.{State, Txn, with_grant, lives, live_by, with_graph, no_parents}
-use Rattle.gl_table.specs.model.Lawful.{IsLawful, is_read, EffX}
-use Rattle.gl_table.specs.model.Tellings.{Told}
-use Rattle.gl_table.specs.model.Calls.{accepted_once, freed, freed_unless, stays, moved_to, deleted, holds_x, some_given}
-use Rattle.gl_table.proofs.law.Effects.{ReadOn}
-use Rattle.gl_table.proofs.telling.Follows.{SameGrants}
+use Rattle.gl_model.specs.State.{State, Txn, with_grant, lives, live_by, with_graph, no_parents}
+use Rattle.gl_model.specs.Lawful.{IsLawful, is_read, EffX}
+use Rattle.gl_model.specs.Tellings.{Told}
+use Rattle.gl_model.specs.Calls.{accepted_once, freed, freed_unless, stays, moved_to, deleted, holds_x, some_given}
+use Rattle.gl_model.proofs.law.Effects.{ReadOn}
+use Rattle.gl_model.proofs.telling.Follows.{SameGrants}
 use Rattle.gl_catalog.proofs.OtherChanges.{with_grant_same}
 use Rattle.gl_catalog.proofs.Made.{made, next_id}
 use Rattle.gl_catalog.proofs.Keeps.{Keeps, keeps_graph}

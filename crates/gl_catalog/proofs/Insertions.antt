@@ -10,10 +10,10 @@ use Rattle.gl_graph.specs.Refusals.{births_worn, first_refusal, record_refusal, 
 use Rattle.gl_graph.specs.Shapes.{is_file_shape}
 use Rattle.gl_graph.proofs.FirstOf.{refused_first}
 use Rattle.gl_graph.proofs.Unrefused.{not_refused}
-use Rattle.gl_table.specs.declared.txn.Status.TheVariants.{Active}
-use Rattle.gl_table.specs.declared.txn.TxnId.{TxnId}
-use Rattle.gl_table.specs.model.Calls.{RefusesOnly, commit_tests, condemned_test, first_not_ix, no_txn, waiting_test}
-use Rattle.gl_table.specs.model.State.{State, lives, status_of}
+use Rattle.gl_model.specs.declared.txn.Status.TheVariants.{Active}
+use Rattle.gl_model.specs.declared.txn.TxnId.{TxnId}
+use Rattle.gl_model.specs.Calls.{RefusesOnly, commit_tests, condemned_test, first_not_ix, no_txn, waiting_test}
+use Rattle.gl_model.specs.State.{State, lives, status_of}
 use Rattle.gl_table.proofs.calls.Locking.{test_refused}
 use Rattle.gl_catalog.specs.Tests.{insert_tests, record_asks}
 use Rattle.gl_catalog.proofs.NotRefused.{active_is, txn_lives}

@@ -1,5 +1,5 @@
 -- What a step leaves to a transaction that it does not name, and the two kinds of steps that leave it.
-use Rattle.gl_table.specs.model.Tellings.{told}
+use Rattle.gl_model.specs.Tellings.{told}
 use Rattle.std.specs.Prelude.{◌≡◌, ◌⊎◌, ℕ, zero, suc, ◌≤◌, Bool, true, false, not, ◌&&◌, ◌||◌, List, [], ◌∷◌, Option, Some, None, is_some, if◌then◌else◌}
 use Rattle.std.specs.List.{list_all, list_any}
 use Rattle.std.proofs.Common.{refl, sym, ap, ap₂, subst, ◌∙◌, arith, rules, inl, inr}
@@ -10,20 +10,20 @@ use Rattle.gl_modes.specs.declared.mode.Mode.{Mode}
 use Rattle.gl_modes.specs.declared.mode.Mode.TheVariants.{NL, X}
 use Rattle.gl_modes.specs.declared.node.NodeId.{NodeId}
 use Rattle.gl_modes.specs.Modes.{is_at_least, same_mode}
-use Rattle.gl_table.specs.declared.txn.TxnId.{TxnId}
-use Rattle.gl_table.specs.declared.answers.Effect.{Effect}
-use Rattle.gl_table.specs.declared.answers.Effect.TheVariants as effect
+use Rattle.gl_model.specs.declared.txn.TxnId.{TxnId}
+use Rattle.gl_model.specs.declared.answers.Effect.{Effect}
+use Rattle.gl_model.specs.declared.answers.Effect.TheVariants as effect
 use Rattle.gl_graph.specs.Graph.{Graph, Node, node_at, node_count, parents_of, parents_in, is_live}
 use Rattle.gl_modes.specs.Nodes.{same_node}
 use Rattle.gl_graph.specs.Routes.{IsRoute}
-use Rattle.gl_table.specs.model.State.{State, lives, no_parents}
-use Rattle.gl_table.specs.model.Lawful.{IsLawful, eff_s, eff_x, is_read, EffS, effective, is_at_least_effect, SameBelow}
-use Rattle.gl_table.specs.model.Tellings.{Told}
+use Rattle.gl_model.specs.State.{State, lives, no_parents}
+use Rattle.gl_model.specs.Lawful.{IsLawful, eff_s, eff_x, is_read, EffS, effective, is_at_least_effect, SameBelow}
+use Rattle.gl_model.specs.Tellings.{Told}
 use Rattle.gl_catalog.specs.Promises.{is_grant_to}
-use Rattle.gl_table.proofs.law.Effects.{all_from, ReadOn, eff_s_route, read_on_eff}
-use Rattle.gl_table.proofs.law.Searches.{GraphStep, reads_carry, effective_same, below_same}
+use Rattle.gl_model.proofs.law.Effects.{all_from, ReadOn, eff_s_route, read_on_eff}
+use Rattle.gl_model.proofs.law.Searches.{GraphStep, reads_carry, effective_same, below_same}
 use Rattle.gl_catalog.proofs.ToldGrants.{tells, tells_grant, any_weaker}
-use Rattle.gl_table.proofs.telling.Follows.{Follows, SameGrants, GrantedTo}
+use Rattle.gl_model.proofs.telling.Follows.{Follows, SameGrants, GrantedTo}
 use Rattle.gl_graph.proofs.Look.{all_at}
 use Rattle.gl_modes.proofs.NodeLemmas.{same_node-equal}
 use Rattle.gl_modes.proofs.ModeLemmas.{at_least-refl}

@@ -5,8 +5,8 @@ use Rattle.gl_modes.proofs.Words.{none_some, some_is}
 use Rattle.gl_modes.specs.declared.mode.Mode.{Mode}
 use Rattle.gl_modes.specs.declared.mode.Mode.TheVariants.{IS, IX}
 use Rattle.gl_modes.specs.declared.node.NodeId.{NodeId}
-use Rattle.gl_table.specs.declared.txn.TxnId.{TxnId}
-use Rattle.gl_table.specs.model.State.{State, is_write}
+use Rattle.gl_model.specs.declared.txn.TxnId.{TxnId}
+use Rattle.gl_model.specs.State.{State, is_write}
 use Rattle.gl_catalog.specs.Paths.{Ask, ClimbsTo, ClimbsUp, IsWay, intention, next_ask, parent_wanted}
 
 intention_twice : (m : Mode) → intention (intention m) ≡ intention m

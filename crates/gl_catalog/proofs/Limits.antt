@@ -4,8 +4,8 @@ use Rattle.std.specs.Prelude.{◌≡◌, ℕ, zero, suc, ◌+◌, ◌<◌, Bool,
 use Rattle.std.proofs.Common.{refl, ap, ap₂, ◌∙◌, arith, subst}
 use Rattle.std.proofs.lemmas.Bool.Decides.{nat_tests}
 use Rattle.gl_modes.specs.declared.refusal.Refusal.TheVariants as no
-use Rattle.gl_table.specs.declared.answers.Detect.TheVariants.{AtBlock}
-use Rattle.gl_table.specs.declared.txn.TxnId.{TxnId}
+use Rattle.gl_model.specs.declared.answers.Detect.TheVariants.{AtBlock}
+use Rattle.gl_model.specs.declared.txn.TxnId.{TxnId}
 use Rattle.gl_catalog.specs.declared.command.Answer.{Answer}
 use Rattle.gl_catalog.specs.declared.command.Answer.TheVariants as answer
 use Rattle.gl_catalog.specs.declared.command.Command.{Command}
@@ -13,14 +13,14 @@ use Rattle.gl_catalog.specs.declared.command.Command.TheVariants as command
 use Rattle.gl_graph.specs.Graph.{node_count}
 use Rattle.gl_graph.specs.Refusals.{first_refusal, max_count, where_true}
 use Rattle.gl_graph.specs.Shapes.{Inner}
-use Rattle.gl_table.specs.model.State.{State, empty_state}
-use Rattle.gl_table.specs.model.Calls.{accepted_once, no_txn}
-use Rattle.gl_table.specs.model.Lawful.{IsLawful}
-use Rattle.gl_table.specs.model.Tellings.{Told}
+use Rattle.gl_model.specs.State.{State, empty_state}
+use Rattle.gl_model.specs.Calls.{accepted_once, no_txn}
+use Rattle.gl_model.specs.Lawful.{IsLawful}
+use Rattle.gl_model.specs.Tellings.{Told}
 use Rattle.gl_catalog.specs.Tests.{refusal_of}
 use Rattle.gl_catalog.specs.Step.{Run}
 use Rattle.gl_graph.proofs.Counts.{count_grown}
-use Rattle.gl_table.proofs.law.Takes.{empty-lawful}
+use Rattle.gl_model.proofs.law.Takes.{empty-lawful}
 use Rattle.gl_catalog.proofs.Made.{made}
 use Rattle.gl_catalog.proofs.Play.{Outcome, after, new_node, play, replies, tested}
 use Rattle.gl_catalog.proofs.PlayIsStep.{play_runs, play_steps}

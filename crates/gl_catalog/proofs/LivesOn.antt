@@ -7,15 +7,15 @@ use Rattle.gl_modes.specs.declared.mode.Mode.{Mode}
 use Rattle.gl_modes.specs.declared.node.NodeId.{NodeId}
 use Rattle.gl_modes.specs.Nodes.{same_node}
 use Rattle.gl_header.specs.Header.{Waiter}
-use Rattle.gl_table.specs.declared.answers.Detect.{Detect}
-use Rattle.gl_table.specs.declared.answers.Detect.TheVariants.{AtBlock, ByWatcher}
-use Rattle.gl_table.specs.declared.txn.Status.{Status}
-use Rattle.gl_table.specs.declared.txn.Status.TheVariants.{Active, Waiting, Condemned}
-use Rattle.gl_table.specs.model.Calls.{WaitSettles, freed, freed_unless, none_but}
-use Rattle.gl_table.specs.model.State.{condemned, granted_at, is_waiting_at, pumped, without_wait, woken, State, Txn, live_by, restatus, status_in}
-use Rattle.gl_table.specs.model.State.{Settled, SettledWithin}
-use Rattle.gl_table.proofs.law.Keeps.{woken_waits}
-use Rattle.gl_table.proofs.law.Takes.{IsQuiet, restatus_quiet}
+use Rattle.gl_model.specs.declared.answers.Detect.{Detect}
+use Rattle.gl_model.specs.declared.answers.Detect.TheVariants.{AtBlock, ByWatcher}
+use Rattle.gl_model.specs.declared.txn.Status.{Status}
+use Rattle.gl_model.specs.declared.txn.Status.TheVariants.{Active, Waiting, Condemned}
+use Rattle.gl_model.specs.Calls.{WaitSettles, freed, freed_unless, none_but}
+use Rattle.gl_model.specs.State.{condemned, granted_at, is_waiting_at, pumped, without_wait, woken, State, Txn, live_by, restatus, status_in}
+use Rattle.gl_model.specs.State.{Settled, SettledWithin}
+use Rattle.gl_model.proofs.law.Keeps.{woken_waits}
+use Rattle.gl_model.proofs.law.Takes.{IsQuiet, restatus_quiet}
 
 -- the same transaction lives in the slot, and if it waits, it waited there before
 pub record LivesOn (x y : Option Txn) : Type 0 where

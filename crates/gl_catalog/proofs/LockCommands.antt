@@ -4,22 +4,22 @@ use Rattle.std.proofs.Common.{sym, arith, subst}
 use Rattle.gl_modes.specs.declared.mode.Mode.{Mode}
 use Rattle.gl_modes.specs.declared.node.NodeId.{NodeId}
 use Rattle.gl_modes.specs.declared.refusal.Refusal.TheVariants as no
-use Rattle.gl_table.specs.declared.txn.TxnId.{TxnId}
-use Rattle.gl_table.specs.declared.txn.Status.TheVariants.{Active}
+use Rattle.gl_model.specs.declared.txn.TxnId.{TxnId}
+use Rattle.gl_model.specs.declared.txn.Status.TheVariants.{Active}
 use Rattle.gl_catalog.specs.declared.command.Command.TheVariants as command
 use Rattle.gl_graph.specs.Graph.{shape_of}
 use Rattle.gl_graph.specs.Shapes.{is_record_shape}
-use Rattle.gl_table.specs.model.State.{State}
-use Rattle.gl_table.specs.model.Lawful.{IsLawful}
-use Rattle.gl_table.specs.model.Calls.{raised, shed, would_block, not_held, held_child, escalation_blocks}
+use Rattle.gl_model.specs.State.{State}
+use Rattle.gl_model.specs.Lawful.{IsLawful}
+use Rattle.gl_model.specs.Calls.{raised, shed, would_block, not_held, held_child, escalation_blocks}
 use Rattle.gl_catalog.specs.Tests.{refusal_of, worn}
 use Rattle.gl_graph.specs.Refusals.{where_true}
 use Rattle.gl_catalog.proofs.KeepsLaw.{KeepsLaw}
-use Rattle.gl_table.proofs.law.Takes.{without_wait-lawful, released-lawful, settled-lawful}
-use Rattle.gl_table.proofs.law.Takes.{begun-lawful}
-use Rattle.gl_table.proofs.law.Tests.{raised-lawful, shed-lawful}
-use Rattle.gl_table.proofs.law.Lock.{granted-lawful, locks-lawful, may_lock, unlocked-lawful, free_slot}
-use Rattle.gl_table.proofs.law.Tests.{active_after}
+use Rattle.gl_model.proofs.law.Takes.{without_wait-lawful, released-lawful, settled-lawful}
+use Rattle.gl_model.proofs.law.Takes.{begun-lawful}
+use Rattle.gl_model.proofs.law.Tests.{raised-lawful, shed-lawful}
+use Rattle.gl_model.proofs.law.Lock.{granted-lawful, locks-lawful, may_lock, unlocked-lawful, free_slot}
+use Rattle.gl_model.proofs.law.Tests.{active_after}
 use Rattle.gl_graph.proofs.Unrefused.{not_refused, test_fails, not_false}
 
 -- raised, and then shed

@@ -6,7 +6,7 @@ use Rattle.gl_modes.specs.declared.node.NodeId.{NodeId}
 use Rattle.gl_graph.specs.Shapes.{Rec, Shape}
 use Rattle.gl_graph.specs.Graph.{Node, record_parents}
 use Rattle.gl_graph.specs.Changes.{IsAdopted, IsBorn, IsIndexBorn, born_index, born_node, marked}
-use Rattle.gl_table.specs.model.State.{State, with_grant, with_graph}
+use Rattle.gl_model.specs.State.{State, with_grant, with_graph}
 
 -- the state with a node more
 abbrev pub made : State → Node → State

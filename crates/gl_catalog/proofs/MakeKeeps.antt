@@ -5,18 +5,18 @@ use Rattle.std.proofs.Common.{sym, subst}
 use Rattle.gl_modes.proofs.Words.{same_number}
 use Rattle.gl_modes.specs.declared.node.NodeId.{NodeId}
 use Rattle.gl_modes.specs.declared.refusal.Refusal.{Refusal}
-use Rattle.gl_table.specs.declared.txn.TxnId.{TxnId}
+use Rattle.gl_model.specs.declared.txn.TxnId.{TxnId}
 use Rattle.gl_catalog.specs.declared.command.Command.TheVariants as command
 use Rattle.gl_graph.specs.Graph.{shape_of, indexes_of, record_parents}
 use Rattle.gl_graph.specs.Shapes.{is_file_shape}
-use Rattle.gl_table.specs.model.State.{State, status_of}
-use Rattle.gl_table.specs.model.Lawful.{IsLawful}
+use Rattle.gl_model.specs.State.{State, status_of}
+use Rattle.gl_model.specs.Lawful.{IsLawful}
 use Rattle.gl_graph.specs.Refusals.{file_refusal, first_refusal, index_refusal, inner_refusal, some_no_node, too_many_nodes, where_true, worn_births}
 use Rattle.gl_catalog.specs.Tests.{worn}
-use Rattle.gl_table.specs.model.Calls.{no_txn, waiting_test, condemned_test, first_not_ix}
+use Rattle.gl_model.specs.Calls.{no_txn, waiting_test, condemned_test, first_not_ix}
 use Rattle.gl_catalog.proofs.KeepsLaw.{KeepsLaw}
-use Rattle.gl_table.proofs.law.Records.{file-grows, grown-lawful, index-grows, inner-grows}
-use Rattle.gl_table.proofs.law.Records.{placed-lawful}
+use Rattle.gl_model.proofs.law.Records.{file-grows, grown-lawful, index-grows, inner-grows}
+use Rattle.gl_model.proofs.law.Records.{placed-lawful}
 use Rattle.gl_graph.proofs.Unrefused.{not_refused, test_fails, not_false, enough_room}
 use Rattle.gl_catalog.proofs.NotRefused.{active_is}
 

@@ -3,8 +3,8 @@ use Rattle.std.specs.Prelude.{◌≡◌, ℕ, ◌+◌, Bool, true, false, not, �
 use Rattle.std.proofs.Common.{refl, sym, subst}
 use Rattle.gl_modes.specs.declared.refusal.Refusal.{Refusal}
 use Rattle.gl_graph.specs.Refusals.{Refuses, first_refusal, verdict}
-use Rattle.gl_table.specs.model.Calls.{RefusesOnly}
-use Rattle.gl_table.specs.model.Table.{TableView, state_of as table_state}
+use Rattle.gl_model.specs.Calls.{RefusesOnly}
+use Rattle.gl_table.specs.Table.{TableView, state_of as table_state}
 use Rattle.gl_catalog.specs.declared.command.Command.{Command}
 use Rattle.gl_catalog.specs.declared.counters.Counters.{Counters}
 use Rattle.gl_catalog.specs.Manager.{ManagerView, counting, state_of}

@@ -12,9 +12,9 @@ use Rattle.gl_graph.specs.Graph.{first_parent, is_live, parents_of, shape_of}
 use Rattle.gl_graph.specs.Refusals.{bad_parents, first_refusal, some_no_node, verdict, where_true}
 use Rattle.gl_graph.specs.Shapes.{is_index_of_shape, is_movable_shape, is_record_shape, least_parents}
 use Rattle.gl_graph.proofs.Unrefused.{verdict_ok}
-use Rattle.gl_table.specs.model.Calls.{commit_tests, need_exclusive, need_new_parents, some_given}
-use Rattle.gl_table.specs.model.State.{State}
-use Rattle.gl_table.specs.declared.txn.TxnId.{TxnId}
+use Rattle.gl_model.specs.Calls.{commit_tests, need_exclusive, need_new_parents, some_given}
+use Rattle.gl_model.specs.State.{State}
+use Rattle.gl_model.specs.declared.txn.TxnId.{TxnId}
 use Rattle.gl_catalog.specs.Tests.{move_asks, rekey_tests, worn}
 use Rattle.gl_graph.proofs.FirstOf.{passed_then}
 

@@ -4,19 +4,19 @@ use denote.Bor.{Bor}
 use Rattle.std.proofs.Common.{sym, subst}
 use Rattle.gl_modes.proofs.Words.{and_both}
 use Rattle.gl_modes.specs.declared.node.NodeId.{NodeId}
-use Rattle.gl_table.specs.declared.txn.TxnId.{TxnId}
+use Rattle.gl_model.specs.declared.txn.TxnId.{TxnId}
 use Rattle.gl_catalog.specs.declared.command.Command.TheVariants as command
 use Rattle.gl_graph.specs.Graph.{Node, parents_of, shape_of, first_parent}
 use Rattle.gl_graph.specs.Shapes.{is_record_shape, is_index_of_shape, is_movable_shape, least_parents}
 use Rattle.gl_graph.specs.Changes.{with_parents, rekeyed, rekeyed_parents}
-use Rattle.gl_table.specs.model.State.{State, status_of}
-use Rattle.gl_table.specs.model.Lawful.{IsLawful}
+use Rattle.gl_model.specs.State.{State, status_of}
+use Rattle.gl_model.specs.Lawful.{IsLawful}
 use Rattle.gl_catalog.specs.Tests.{worn, refusal_of}
 use Rattle.gl_graph.specs.Refusals.{some_no_node, where_true, bad_parents, first_cycle}
-use Rattle.gl_table.specs.model.Calls.{no_txn, waiting_test, condemned_test, need_exclusive, need_new_parents, some_given}
+use Rattle.gl_model.specs.Calls.{no_txn, waiting_test, condemned_test, need_exclusive, need_new_parents, some_given}
 use Rattle.gl_catalog.proofs.KeepsLaw.{KeepsLaw}
 use Rattle.gl_graph.proofs.Unrefused.{not_refused, test_fails, not_false, or_no, inner_parents}
-use Rattle.gl_table.proofs.law.Move.{Moves, changed_keeps, may_be_moved, may_be_rekeyed, moved_node, rekeyed_to}
+use Rattle.gl_model.proofs.law.Move.{Moves, changed_keeps, may_be_moved, may_be_rekeyed, moved_node, rekeyed_to}
 use Rattle.gl_catalog.proofs.NotRefused.{active_is}
 
 -- a move that is not refused is lawful for its mover

@@ -9,21 +9,21 @@ use Rattle.gl_modes.proofs.Words.{split, or_left, or_right, and_both, both}
 use Rattle.gl_modes.specs.declared.mode.Mode.{Mode}
 use Rattle.gl_modes.specs.declared.mode.Mode.TheVariants.{X}
 use Rattle.gl_modes.specs.declared.node.NodeId.{NodeId}
-use Rattle.gl_table.specs.declared.answers.Effect.TheVariants as effect
+use Rattle.gl_model.specs.declared.answers.Effect.TheVariants as effect
 use Rattle.gl_catalog.specs.declared.command.Command.TheVariants as command
 use Rattle.gl_graph.specs.Graph.{Graph, Node, parents_of, node_count}
 use Rattle.gl_modes.specs.Nodes.{same_node}
 use Rattle.gl_graph.specs.Changes.{with_parents, rekeyed}
 use Rattle.gl_modes.specs.Modes.{same_mode}
-use Rattle.gl_table.specs.model.State.{State, no_parents}
-use Rattle.gl_table.specs.model.Lawful.{eff_s, eff_x, is_read, effective}
-use Rattle.gl_table.specs.model.Calls.{moved_to}
+use Rattle.gl_model.specs.State.{State, no_parents}
+use Rattle.gl_model.specs.Lawful.{eff_s, eff_x, is_read, effective}
+use Rattle.gl_model.specs.Calls.{moved_to}
 use Rattle.gl_catalog.specs.Promises.{MoveKeepsMover, RekeyKeepsMover}
 use Rattle.gl_catalog.proofs.EachStep.{each_step}
-use Rattle.gl_table.proofs.law.Move.{HoldsNode, HoldsParents}
-use Rattle.gl_table.proofs.law.Move.{Moves, others_parents, new_parents, count_same, moved_node, rekeyed_to}
+use Rattle.gl_model.proofs.law.Move.{HoldsNode, HoldsParents}
+use Rattle.gl_model.proofs.law.Move.{Moves, others_parents, new_parents, count_same, moved_node, rekeyed_to}
 use Rattle.gl_catalog.proofs.MoveCommands.{move_moves, rekey_moves}
-use Rattle.gl_table.proofs.law.Effects.{x_reads}
+use Rattle.gl_model.proofs.law.Effects.{x_reads}
 use Rattle.gl_catalog.proofs.GraphChanges.{held_x}
 
 s_held : (k : ℕ) (g : Graph) (held : NodeId → Mode) (n : NodeId) → is_read (held n) ≡ true → eff_s k g held n ≡ true

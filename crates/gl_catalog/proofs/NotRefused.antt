@@ -4,12 +4,12 @@ use Rattle.std.specs.List.{list_all}
 use Rattle.std.proofs.Common.{refl, sym, ap, ◌∙◌, inl, inr, ap₂, arith}
 use Rattle.gl_modes.proofs.Words.{no, none_some, and_both}
 use Rattle.gl_modes.specs.declared.node.NodeId.{NodeId}
-use Rattle.gl_table.specs.declared.txn.TxnId.{TxnId}
-use Rattle.gl_table.specs.declared.txn.Status.{Status}
-use Rattle.gl_table.specs.declared.txn.Status.TheVariants.{Active, Waiting, Condemned}
+use Rattle.gl_model.specs.declared.txn.TxnId.{TxnId}
+use Rattle.gl_model.specs.declared.txn.Status.{Status}
+use Rattle.gl_model.specs.declared.txn.Status.TheVariants.{Active, Waiting, Condemned}
 use Rattle.gl_graph.specs.Graph.{parents_of, Graph, Node, node_at, is_live, parents_in, shape_of, shape_in}
-use Rattle.gl_table.specs.model.State.{State, Txn, lives, live_by, status_of, status_in, no_parents}
-use Rattle.gl_table.specs.model.Calls.{no_txn, waiting_test, condemned_test, need_exclusive, holds_x, holds_x_on_all, some_given}
+use Rattle.gl_model.specs.State.{State, Txn, lives, live_by, status_of, status_in, no_parents}
+use Rattle.gl_model.specs.Calls.{no_txn, waiting_test, condemned_test, need_exclusive, holds_x, holds_x_on_all, some_given}
 use Rattle.gl_graph.proofs.Unrefused.{test_fails, not_false}
 use Rattle.std.proofs.lemmas.Bool.Decides.{nat_tests}
 use mathlib.Core.Bool.{true≢false}

@@ -5,21 +5,21 @@ use Rattle.std.specs.Prelude.{◌≡◌, ◌+◌, ℕ, [], false, Option, Some, 
 use Rattle.std.proofs.Common.{refl, sym, ap, ◌∙◌}
 use mathlib.Core.Bool.{true≢false}
 use Rattle.gl_modes.specs.declared.refusal.Refusal.{Refusal}
-use Rattle.gl_table.specs.declared.answers.Detect.{Detect}
-use Rattle.gl_table.specs.declared.answers.Detect.TheVariants.{AtBlock, ByWatcher}
+use Rattle.gl_model.specs.declared.answers.Detect.{Detect}
+use Rattle.gl_model.specs.declared.answers.Detect.TheVariants.{AtBlock, ByWatcher}
 use Rattle.gl_catalog.specs.declared.command.Answer.{Answer}
 use Rattle.gl_catalog.specs.declared.command.Answer.TheVariants as answer
 use Rattle.gl_catalog.specs.declared.command.Command.{Command}
 use Rattle.gl_catalog.specs.declared.command.Command.TheVariants as command
-use Rattle.gl_table.specs.model.State.{State, status_of}
-use Rattle.gl_table.specs.model.Calls.{WaitSettles, begun, enqueued, enters_at, wanted, accepted_once}
-use Rattle.gl_table.specs.model.Lawful.{IsLawful}
-use Rattle.gl_table.specs.model.Tellings.{Told, told, told_but}
+use Rattle.gl_model.specs.State.{State, status_of}
+use Rattle.gl_model.specs.Calls.{WaitSettles, begun, enqueued, enters_at, wanted, accepted_once}
+use Rattle.gl_model.specs.Lawful.{IsLawful}
+use Rattle.gl_model.specs.Tellings.{Told, told, told_but}
 use Rattle.gl_catalog.specs.Tests.{refusal_of, worn}
 use Rattle.gl_catalog.specs.Step.{Accepts, Answers, Goes, lock_answer, query_answer}
 use Rattle.gl_catalog.specs.Promises.{OneOutcome, makes_node}
-use Rattle.gl_table.proofs.law.Lock.{MayLock, may_lock, waiting-lawful}
-use Rattle.gl_table.proofs.law.Settle.{settled_one}
+use Rattle.gl_model.proofs.law.Lock.{MayLock, may_lock, waiting-lawful}
+use Rattle.gl_model.proofs.law.Settle.{settled_one}
 
 wait_one : (d : Detect) (c : Victims) (s s₁ s₂ : State) (t : ℕ) → IsLawful s → WaitSettles d c s t s₁ → WaitSettles d c s t s₂ → s₁ ≡ s₂
 wait_one AtBlock c s s₁ s₂ t law h k = settled_one c s s₁ s₂ t law h k

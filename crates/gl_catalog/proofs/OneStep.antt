@@ -4,15 +4,15 @@ use Rattle.std.proofs.Common.{refl, sym, subst, inl, inr}
 use Rattle.gl_modes.proofs.Words.{and_both}
 use Rattle.gl_modes.specs.declared.refusal.Refusal.{Refusal}
 use Rattle.gl_modes.specs.declared.refusal.Refusal.TheVariants as no
-use Rattle.gl_table.specs.declared.txn.TxnId.{TxnId}
+use Rattle.gl_model.specs.declared.txn.TxnId.{TxnId}
 use Rattle.gl_catalog.specs.declared.command.Answer.{Answer}
 use Rattle.gl_catalog.specs.declared.command.Command.{Command}
 use Rattle.gl_catalog.specs.declared.command.Command.TheVariants as command
-use Rattle.gl_table.specs.model.State.{State, lives}
-use Rattle.gl_table.specs.model.Lawful.{IsLawful}
+use Rattle.gl_model.specs.State.{State, lives}
+use Rattle.gl_model.specs.Lawful.{IsLawful}
 use Rattle.gl_catalog.specs.Step.{Step, Goes, Answers, query_answer}
-use Rattle.gl_table.specs.model.Tellings.{Told}
-use Rattle.gl_table.specs.model.Calls.{accepted_once, no_txn}
+use Rattle.gl_model.specs.Tellings.{Told}
+use Rattle.gl_model.specs.Calls.{accepted_once, no_txn}
 use Rattle.gl_graph.specs.Refusals.{first_refusal}
 use Rattle.gl_catalog.specs.Tests.{tests_of, refusal_of}
 use Rattle.gl_catalog.specs.Promises.{is_of_rows, names, same_txn}

@@ -9,18 +9,18 @@ use mathlib.Core.Bool.{true≢false}
 use Rattle.gl_modes.specs.declared.mode.Mode.{Mode}
 use Rattle.gl_modes.specs.declared.mode.Mode.TheVariants.{NL}
 use Rattle.gl_modes.specs.declared.node.NodeId.{NodeId}
-use Rattle.gl_table.specs.declared.txn.Status.{Status}
-use Rattle.gl_table.specs.declared.txn.Status.TheVariants.{Active, Waiting, Condemned}
-use Rattle.gl_table.specs.declared.answers.Detect.{Detect}
-use Rattle.gl_table.specs.declared.answers.Detect.TheVariants.{AtBlock, ByWatcher}
+use Rattle.gl_model.specs.declared.txn.Status.{Status}
+use Rattle.gl_model.specs.declared.txn.Status.TheVariants.{Active, Waiting, Condemned}
+use Rattle.gl_model.specs.declared.answers.Detect.{Detect}
+use Rattle.gl_model.specs.declared.answers.Detect.TheVariants.{AtBlock, ByWatcher}
 use Rattle.gl_modes.specs.Nodes.{same_node}
 use Rattle.gl_header.specs.Header.{holds, placed, without_waiter}
-use Rattle.gl_table.specs.model.State.{State, Txn, members, live_by, status_of, status_in, restatus, with_grant, is_waiting_at, pumped, without_wait, condemned}
-use Rattle.gl_table.specs.model.Calls.{is_covered, begun, enqueued, released, shed, raised, WaitSettles}
-use Rattle.gl_table.specs.model.State.{blocks, waits_for, SettledWithin, Settled}
+use Rattle.gl_model.specs.State.{State, Txn, members, live_by, status_of, status_in, restatus, with_grant, is_waiting_at, pumped, without_wait, condemned}
+use Rattle.gl_model.specs.Calls.{is_covered, begun, enqueued, released, shed, raised, WaitSettles}
+use Rattle.gl_model.specs.State.{blocks, waits_for, SettledWithin, Settled}
 use Rattle.gl_waits.specs.Waits.{IsWalk}
-use Rattle.gl_table.proofs.queues.Waiters.{waits_of, without_other, without_self, placed_other}
-use Rattle.gl_table.proofs.telling.Follows.{WaitsWell, Follows, SameGrants, follows_trans, follows_same, absent_well, pumped_follows}
+use Rattle.gl_model.proofs.queues.Waiters.{waits_of, without_other, without_self, placed_other}
+use Rattle.gl_model.proofs.telling.Follows.{WaitsWell, Follows, SameGrants, follows_trans, follows_same, absent_well, pumped_follows}
 use Rattle.gl_modes.proofs.NodeLemmas.{same_node-equal}
 
 pub other : (u t : ℕ) → u ≢ t → (t == u) ≡ false

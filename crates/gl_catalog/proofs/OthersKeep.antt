@@ -5,19 +5,19 @@ use Rattle.std.proofs.Common.{refl, sym, subst, ◌∙◌, arith, rules, inl, in
 use mathlib.Core.Bool.{true≢false}
 use Rattle.gl_modes.specs.declared.node.NodeId.{NodeId}
 use Rattle.gl_modes.specs.Modes.{is_at_least}
-use Rattle.gl_table.specs.declared.txn.TxnId.{TxnId}
-use Rattle.gl_table.specs.declared.answers.Effect.{Effect}
+use Rattle.gl_model.specs.declared.txn.TxnId.{TxnId}
+use Rattle.gl_model.specs.declared.answers.Effect.{Effect}
 use Rattle.gl_catalog.specs.declared.command.Answer.{Answer}
 use Rattle.gl_catalog.specs.declared.command.Command.{Command}
 use Rattle.gl_graph.specs.Graph.{Graph, Node, is_live, with_key}
 use Rattle.gl_graph.specs.Lawful.{IsLawfulGraph}
-use Rattle.gl_table.specs.model.State.{State, lives}
-use Rattle.gl_table.specs.model.Lawful.{IsLawful, effective, EffS, is_at_least_effect, SameBelow}
+use Rattle.gl_model.specs.State.{State, lives}
+use Rattle.gl_model.specs.Lawful.{IsLawful, effective, EffS, is_at_least_effect, SameBelow}
 use Rattle.gl_catalog.specs.Step.{Run}
-use Rattle.gl_table.specs.model.Tellings.{Told}
+use Rattle.gl_model.specs.Tellings.{Told}
 use Rattle.gl_catalog.specs.Promises.{names, is_grant_to, is_of_rows, told_granted, OthersKeepEffects, OthersKeepBelow}
 use Rattle.gl_catalog.proofs.ToldGrants.{tells, tells_grant, any_weaker}
-use Rattle.gl_table.proofs.telling.Follows.{SameGrants, GrantedTo}
+use Rattle.gl_model.proofs.telling.Follows.{SameGrants, GrantedTo}
 use Rattle.gl_catalog.proofs.Keeps.{Keeps, ToldGrant, grown, effect_refl, below_itself}
 use Rattle.gl_catalog.proofs.OneStep.{step_keeps}
 use Rattle.gl_catalog.proofs.StepsKeepLaw.{steps_keep_law}

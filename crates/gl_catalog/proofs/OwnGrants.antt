@@ -10,14 +10,14 @@ use Rattle.gl_modes.specs.declared.node.NodeId.{NodeId}
 use Rattle.gl_modes.specs.declared.refusal.Refusal.{Refusal}
 use Rattle.gl_modes.specs.Modes.{is_at_least}
 use Rattle.gl_modes.specs.Nodes.{same_node}
-use Rattle.gl_table.specs.declared.txn.Status.{Status}
-use Rattle.gl_table.specs.declared.txn.Status.TheVariants.{Active, Condemned, Waiting}
-use Rattle.gl_table.specs.declared.txn.TxnId.{TxnId}
-use Rattle.gl_table.specs.model.Calls.{Locks, enqueued, enters_at, wanted}
-use Rattle.gl_table.specs.model.Lawful.{IsLawful}
-use Rattle.gl_table.specs.model.State.{State, Txn, live_by, lives, restatus, status_in, status_of}
-use Rattle.gl_table.proofs.law.Lock.{MayLock, may_lock, waiting-lawful}
-use Rattle.gl_table.proofs.telling.Follows.{Follows, GrantedTo, SameGrants, lawful_waits}
+use Rattle.gl_model.specs.declared.txn.Status.{Status}
+use Rattle.gl_model.specs.declared.txn.Status.TheVariants.{Active, Condemned, Waiting}
+use Rattle.gl_model.specs.declared.txn.TxnId.{TxnId}
+use Rattle.gl_model.specs.Calls.{Locks, enqueued, enters_at, wanted}
+use Rattle.gl_model.specs.Lawful.{IsLawful}
+use Rattle.gl_model.specs.State.{State, Txn, live_by, lives, restatus, status_in, status_of}
+use Rattle.gl_model.proofs.law.Lock.{MayLock, may_lock, waiting-lawful}
+use Rattle.gl_model.proofs.telling.Follows.{Follows, GrantedTo, SameGrants, lawful_waits}
 use Rattle.gl_catalog.specs.Counters.{grants}
 use Rattle.gl_catalog.specs.Paths.{Ask, lock_of}
 use Rattle.gl_catalog.specs.Replies.{Says}

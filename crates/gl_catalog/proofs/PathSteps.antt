@@ -5,14 +5,14 @@ use Rattle.gl_modes.proofs.Words.{and_both, cases_of, no as never, none_some}
 use Rattle.gl_modes.specs.declared.node.NodeId.{NodeId}
 use Rattle.gl_modes.specs.declared.refusal.Refusal.{Refusal}
 use Rattle.gl_modes.specs.declared.refusal.Refusal.TheVariants as no
-use Rattle.gl_table.specs.declared.answers.Locked.{Locked}
-use Rattle.gl_table.specs.declared.answers.Locked.TheVariants as locked
-use Rattle.gl_table.specs.declared.txn.TxnId.{TxnId}
+use Rattle.gl_model.specs.declared.answers.Locked.{Locked}
+use Rattle.gl_model.specs.declared.answers.Locked.TheVariants as locked
+use Rattle.gl_model.specs.declared.txn.TxnId.{TxnId}
 use Rattle.gl_graph.specs.Refusals.{first_refusal, max_count, where_true}
-use Rattle.gl_table.specs.model.Calls.{lock_tests}
-use Rattle.gl_table.specs.model.Lawful.{IsLawful}
-use Rattle.gl_table.specs.model.State.{State}
-use Rattle.gl_table.specs.model.Tellings.{Told}
+use Rattle.gl_model.specs.Calls.{lock_tests}
+use Rattle.gl_model.specs.Lawful.{IsLawful}
+use Rattle.gl_model.specs.State.{State}
+use Rattle.gl_model.specs.Tellings.{Told}
 use Rattle.gl_catalog.specs.declared.command.Answer.TheVariants as answer
 use Rattle.gl_catalog.specs.Completes.{Completes}
 use Rattle.gl_catalog.specs.Counters.{grants, refuses}

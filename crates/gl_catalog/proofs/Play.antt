@@ -11,13 +11,13 @@ use Rattle.gl_catalog.specs.declared.command.Command.TheVariants as command
 use Rattle.gl_graph.specs.Shapes.{Shape, Inner, File, Rec}
 use Rattle.gl_graph.specs.Graph.{Node, record_parents}
 use Rattle.gl_graph.specs.Changes.{born_index, rekeyed, rekeyed_parents, with_parents, without_node}
-use Rattle.gl_table.specs.model.State.{State, status_of, with_grant, with_graph}
-use Rattle.gl_table.specs.model.Calls.{accepted_once, begun, cancelled, deleted, free_slot, granted, unlocked, moved_to, raised, released, shed, wanted}
-use Rattle.gl_table.specs.model.Calls.{covered_children, held_children}
-use Rattle.gl_table.specs.model.Tellings.{Told, told, told_but}
+use Rattle.gl_model.specs.State.{State, status_of, with_grant, with_graph}
+use Rattle.gl_model.specs.Calls.{accepted_once, begun, cancelled, deleted, free_slot, granted, unlocked, moved_to, raised, released, shed, wanted}
+use Rattle.gl_model.specs.Calls.{covered_children, held_children}
+use Rattle.gl_model.specs.Tellings.{Told, told, told_but}
 use Rattle.gl_catalog.specs.Tests.{refusal_of}
 use Rattle.gl_catalog.specs.Step.{lock_answer, query_answer}
-use Rattle.gl_table.proofs.law.Settle.{locked, settled}
+use Rattle.gl_model.proofs.law.Settle.{locked, settled}
 use Rattle.gl_catalog.proofs.Made.{adopted, made, next_id}
 
 -- an answer, who is told, and what is left

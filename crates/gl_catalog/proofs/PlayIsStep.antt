@@ -13,16 +13,16 @@ use Rattle.gl_catalog.specs.declared.command.Command.TheVariants as command
 use Rattle.gl_graph.specs.Graph.{Graph, Node, IsFreeKey, node_at}
 use Rattle.gl_graph.specs.Changes.{are_apart}
 use Rattle.gl_graph.specs.Lawful.{IsLawfulGraph}
-use Rattle.gl_table.specs.model.State.{State, Txn, slots}
-use Rattle.gl_table.specs.model.Lawful.{IsLawful}
-use Rattle.gl_table.specs.model.Calls.{too_many_txns, worn_begins}
+use Rattle.gl_model.specs.State.{State, Txn, slots}
+use Rattle.gl_model.specs.Lawful.{IsLawful}
+use Rattle.gl_model.specs.Calls.{too_many_txns, worn_begins}
 use Rattle.gl_catalog.specs.Tests.{refusal_of, worn}
 use Rattle.gl_catalog.specs.Step.{Goes, Run, Step}
 use Rattle.gl_catalog.specs.Promises.{AlwaysAnswers}
 use Rattle.gl_graph.proofs.Look.{live_node, found_at, there_is}
 use Rattle.gl_graph.proofs.Unrefused.{not_refused, test_fails}
-use Rattle.gl_table.proofs.law.Lock.{may_lock}
-use Rattle.gl_table.proofs.law.Settle.{locks_some, settles}
+use Rattle.gl_model.proofs.law.Lock.{may_lock}
+use Rattle.gl_model.proofs.law.Settle.{locks_some, settles}
 use Rattle.gl_catalog.proofs.StepsKeepLaw.{steps_keep_law}
 use Rattle.gl_catalog.proofs.Play.{above_key, after, free_key, greater, interval_keys, play, replies, slot_or_zero, tested, top}
 

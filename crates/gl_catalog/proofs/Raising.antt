@@ -16,15 +16,15 @@ use Rattle.gl_graph.specs.Refusals.{Refuses, first_refusal, verdict, where_true}
 use Rattle.gl_graph.specs.Shapes.{is_record_shape}
 use Rattle.gl_graph.proofs.Unrefused.{not_false, not_refused, test_fails}
 use Rattle.gl_header.specs.Header.{fits, holds, is_empty}
-use Rattle.gl_table.specs.declared.txn.Status.TheVariants.{Active}
-use Rattle.gl_table.specs.declared.txn.TxnId.{TxnId}
-use Rattle.gl_table.specs.model.Calls.{asked_by_escalation, granted, raised, shed, wanted, covered_children, held_children}
-use Rattle.gl_table.specs.model.State.{is_write, State, lives, members, status_of}
-use Rattle.gl_table.specs.model.Lawful.{IsLawful}
-use Rattle.gl_table.specs.model.Calls.{active_on, bad_mode, escalation_blocks, first_not_ix, first_of_all, need_parents, no_txn, not_held, try_tests, would_block}
-use Rattle.gl_table.specs.model.Tellings.{told}
+use Rattle.gl_model.specs.declared.txn.Status.TheVariants.{Active}
+use Rattle.gl_model.specs.declared.txn.TxnId.{TxnId}
+use Rattle.gl_model.specs.Calls.{asked_by_escalation, granted, raised, shed, wanted, covered_children, held_children}
+use Rattle.gl_model.specs.State.{is_write, State, lives, members, status_of}
+use Rattle.gl_model.specs.Lawful.{IsLawful}
+use Rattle.gl_model.specs.Calls.{active_on, bad_mode, escalation_blocks, first_not_ix, first_of_all, need_parents, no_txn, not_held, try_tests, would_block}
+use Rattle.gl_model.specs.Tellings.{told}
 use Rattle.gl_table.proofs.calls.Locking.{test_refused}
-use Rattle.gl_table.proofs.law.Tests.{active_after}
+use Rattle.gl_model.proofs.law.Tests.{active_after}
 use Rattle.gl_catalog.specs.declared.command.Answer.TheVariants as answer
 use Rattle.gl_catalog.specs.declared.command.Command.TheVariants as command
 use Rattle.gl_catalog.specs.declared.command.Escalated.{Escalated}
@@ -34,7 +34,7 @@ use Rattle.gl_catalog.specs.Tests.{escalate_asks, refusal_of, worn}
 use Rattle.gl_catalog.proofs.Carried.{accepted_step, refused_step}
 use Rattle.gl_graph.proofs.FirstOf.{passed_then, passes_first, refused_first}
 use Rattle.gl_catalog.proofs.NotRefused.{txn_lives}
-use Rattle.gl_table.proofs.law.Tests.{raised_intends}
+use Rattle.gl_model.proofs.law.Tests.{raised_intends}
 
 -- what an escalation asks, by whether some child is held to write
 abbrev asked_if : Bool → Mode

@@ -3,9 +3,9 @@ use Rattle.std.specs.Prelude.{[], ◌∷◌, ◌++◌}
 use Rattle.std.proofs.Common.{refl}
 use Rattle.gl_modes.specs.declared.mode.Mode.TheVariants.{NL, IS, IX, S, X}
 use Rattle.gl_modes.specs.declared.refusal.Refusal.TheVariants as no
-use Rattle.gl_table.specs.declared.answers.Detect.TheVariants.{AtBlock}
-use Rattle.gl_table.specs.declared.answers.Effect.TheVariants as effect
-use Rattle.gl_table.specs.declared.answers.Notice.TheVariants as notice
+use Rattle.gl_model.specs.declared.answers.Detect.TheVariants.{AtBlock}
+use Rattle.gl_model.specs.declared.answers.Effect.TheVariants as effect
+use Rattle.gl_model.specs.declared.answers.Notice.TheVariants as notice
 use Rattle.gl_catalog.specs.declared.command.Answer.TheVariants as answer
 use Rattle.gl_catalog.specs.declared.command.Command.TheVariants as command
 use Rattle.gl_catalog.proofs.RowWords.{Rows, a, b, begins, c, computed, db, done, f1, holds, i1, i1_0, i1_1, locks, locks_all, prelude, r1, r2, ref, refuses, says, tells, waits}

@@ -4,8 +4,8 @@ use Rattle.std.proofs.Common.{refl}
 use Rattle.gl_modes.specs.declared.mode.Mode.TheVariants.{NL, IS, IX, S, X}
 use Rattle.gl_modes.specs.declared.node.NodeId.{NodeId}
 use Rattle.gl_modes.specs.declared.refusal.Refusal.TheVariants as no
-use Rattle.gl_table.specs.declared.answers.Detect.TheVariants.{AtBlock, ByWatcher}
-use Rattle.gl_table.specs.declared.txn.TxnId.{TxnId}
+use Rattle.gl_model.specs.declared.answers.Detect.TheVariants.{AtBlock, ByWatcher}
+use Rattle.gl_model.specs.declared.txn.TxnId.{TxnId}
 use Rattle.gl_catalog.specs.declared.command.Answer.TheVariants as answer
 use Rattle.gl_catalog.specs.declared.command.Command.TheVariants as command
 use Rattle.gl_catalog.proofs.RowWords.{Rows, a, b, begins, computed, db, f1, holds, i1, id, indexed, locks, locks_all, prelude, r1, ref, refuses, says, waits, z}

@@ -14,11 +14,11 @@ use Rattle.gl_graph.specs.Refusals.{some_no_node, verdict, where_true}
 use Rattle.gl_graph.proofs.RecordParents.{its_keys, its_parents}
 use Rattle.gl_graph.proofs.Rekey.{count_intervals_of}
 use Rattle.gl_graph.proofs.Unrefused.{not_false, not_refused, test_fails, verdict_ok}
-use Rattle.gl_table.specs.declared.txn.Status.TheVariants.{Active}
-use Rattle.gl_table.specs.declared.txn.TxnId.{TxnId}
-use Rattle.gl_table.specs.model.Calls.{moved_to, condemned_test, need_exclusive, need_new_parents, no_txn, waiting_test}
-use Rattle.gl_table.specs.model.State.{State, lives, status_of}
-use Rattle.gl_table.specs.model.Tellings.{told}
+use Rattle.gl_model.specs.declared.txn.Status.TheVariants.{Active}
+use Rattle.gl_model.specs.declared.txn.TxnId.{TxnId}
+use Rattle.gl_model.specs.Calls.{moved_to, condemned_test, need_exclusive, need_new_parents, no_txn, waiting_test}
+use Rattle.gl_model.specs.State.{State, lives, status_of}
+use Rattle.gl_model.specs.Tellings.{told}
 use Rattle.gl_catalog.specs.declared.command.Command.TheVariants as command
 use Rattle.gl_catalog.specs.Manager.{counting}
 use Rattle.gl_catalog.specs.Replies.{CallSteps, Notices, done}

@@ -12,11 +12,11 @@ use Rattle.gl_graph.specs.Refusals.{bad_parents, first_cycle, first_refusal, som
 use Rattle.gl_graph.specs.Routes.{is_at_or_below}
 use Rattle.gl_graph.specs.Shapes.{is_movable_shape, least_parents}
 use Rattle.gl_graph.proofs.Unrefused.{inner_parents, not_false, not_refused, or_no, test_fails, verdict_ok}
-use Rattle.gl_table.specs.declared.txn.Status.TheVariants.{Active}
-use Rattle.gl_table.specs.declared.txn.TxnId.{TxnId}
-use Rattle.gl_table.specs.model.Calls.{moved_to, condemned_test, need_exclusive, need_new_parents, no_txn, some_given, waiting_test}
-use Rattle.gl_table.specs.model.State.{State, lives, status_of}
-use Rattle.gl_table.specs.model.Tellings.{told}
+use Rattle.gl_model.specs.declared.txn.Status.TheVariants.{Active}
+use Rattle.gl_model.specs.declared.txn.TxnId.{TxnId}
+use Rattle.gl_model.specs.Calls.{moved_to, condemned_test, need_exclusive, need_new_parents, no_txn, some_given, waiting_test}
+use Rattle.gl_model.specs.State.{State, lives, status_of}
+use Rattle.gl_model.specs.Tellings.{told}
 use Rattle.gl_table.proofs.calls.Locking.{test_refused}
 use Rattle.gl_catalog.specs.declared.command.Command.TheVariants as command
 use Rattle.gl_catalog.specs.Manager.{counting}

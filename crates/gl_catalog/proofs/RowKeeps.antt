@@ -7,9 +7,9 @@ use Rattle.gl_graph.proofs.Removed.{was_live}
 use Rattle.gl_graph.specs.Changes.{IsAdopted, without_node}
 use Rattle.gl_graph.specs.Graph.{Graph, Node, parents_in, record_parents, shape_in}
 use Rattle.gl_graph.specs.Shapes.{Rec, keys_in}
-use Rattle.gl_table.specs.model.Calls.{accepted_once}
-use Rattle.gl_table.specs.model.State.{with_graph}
-use Rattle.gl_table.specs.model.Tellings.{Told}
+use Rattle.gl_model.specs.Calls.{accepted_once}
+use Rattle.gl_model.specs.State.{with_graph}
+use Rattle.gl_model.specs.Tellings.{Told}
 use Rattle.std.specs.Prelude.{◌≡◌, ℕ, true, not, List, [], None}
 use denote.Bor.{Bor}
 use Rattle.std.proofs.Common.{refl, sym, ap, subst}
@@ -20,11 +20,11 @@ use Rattle.gl_graph.specs.Graph.{shape_of}
 use Rattle.gl_graph.specs.Refusals.{record_refusal, where_true}
 use Rattle.gl_graph.specs.Shapes.{is_record_shape}
 use Rattle.gl_graph.proofs.Unrefused.{not_false, not_refused, test_fails}
-use Rattle.gl_table.specs.model.Calls.{is_idle, no_node}
-use Rattle.gl_table.specs.model.Lawful.{IsLawful}
-use Rattle.gl_table.specs.model.State.{State}
-use Rattle.gl_table.proofs.law.Records.{adopted-lawful, forgotten-lawful}
-use Rattle.gl_table.proofs.law.Rows.{dead-idle, gone_is, left_was, row_came, row_keys, row_live, row_parents}
+use Rattle.gl_model.specs.Calls.{is_idle, no_node}
+use Rattle.gl_model.specs.Lawful.{IsLawful}
+use Rattle.gl_model.specs.State.{State}
+use Rattle.gl_model.proofs.law.Records.{adopted-lawful, forgotten-lawful}
+use Rattle.gl_model.proofs.law.Rows.{dead-idle, gone_is, left_was, row_came, row_keys, row_live, row_parents}
 use Rattle.gl_catalog.specs.declared.command.Command.TheVariants as command
 use Rattle.gl_catalog.specs.Tests.{refusal_of, worn}
 use Rattle.gl_catalog.proofs.KeepsLaw.{KeepsLaw}

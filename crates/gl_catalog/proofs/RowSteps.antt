@@ -9,12 +9,12 @@ use Rattle.gl_graph.specs.Graph.{Graph, is_live, record_parents, shape_of}
 use Rattle.gl_graph.specs.Shapes.{is_record_shape}
 use Rattle.gl_graph.proofs.Marked.{marked_live}
 use Rattle.gl_graph.proofs.Removed.{was_live}
-use Rattle.gl_table.specs.declared.txn.TxnId.{TxnId}
-use Rattle.gl_table.specs.model.Calls.{accepted_once}
-use Rattle.gl_table.specs.model.Lawful.{IsLawful, effective, is_at_least_effect}
-use Rattle.gl_table.specs.model.State.{State, live_by, lives, with_graph}
-use Rattle.gl_table.specs.model.Tellings.{Told}
-use Rattle.gl_table.proofs.law.Rows.{LeavesParents, effective_left, forgotten_leaves, row_leaves}
+use Rattle.gl_model.specs.declared.txn.TxnId.{TxnId}
+use Rattle.gl_model.specs.Calls.{accepted_once}
+use Rattle.gl_model.specs.Lawful.{IsLawful, effective, is_at_least_effect}
+use Rattle.gl_model.specs.State.{State, live_by, lives, with_graph}
+use Rattle.gl_model.specs.Tellings.{Told}
+use Rattle.gl_model.proofs.law.Rows.{LeavesParents, effective_left, forgotten_leaves, row_leaves}
 use Rattle.gl_catalog.proofs.GraphChanges.{born_nodes_at, born_nodes_births}
 use Rattle.gl_catalog.proofs.GraphCommands.{new_record}
 use Rattle.gl_catalog.proofs.Keeps.{Keeps, effect_refl}

@@ -3,31 +3,31 @@ use Rattle.std.specs.Prelude.{◌≡◌, [], ◌∷◌, None}
 use Rattle.std.proofs.Common.{sym, ◌∙◌, subst}
 use Rattle.gl_modes.specs.declared.mode.Mode.TheVariants.{X}
 use Rattle.gl_modes.specs.declared.node.NodeId.{NodeId}
-use Rattle.gl_table.specs.declared.txn.Status.TheVariants.{Active}
-use Rattle.gl_table.specs.declared.answers.Detect.TheVariants.{AtBlock}
+use Rattle.gl_model.specs.declared.txn.Status.TheVariants.{Active}
+use Rattle.gl_model.specs.declared.answers.Detect.TheVariants.{AtBlock}
 use Rattle.gl_catalog.specs.declared.command.Answer.{Answer}
 use Rattle.gl_catalog.specs.declared.command.Command.{Command}
 use Rattle.gl_catalog.specs.declared.command.Command.TheVariants as command
 use Rattle.gl_graph.specs.Changes.{rekeyed, rekeyed_parents, with_parents}
-use Rattle.gl_table.specs.model.State.{State, with_graph, HasNoCycle}
-use Rattle.gl_table.specs.model.Lawful.{IsLawful}
-use Rattle.gl_table.specs.model.Tellings.{Told}
+use Rattle.gl_model.specs.State.{State, with_graph, HasNoCycle}
+use Rattle.gl_model.specs.Lawful.{IsLawful}
+use Rattle.gl_model.specs.Tellings.{Told}
 use Rattle.gl_catalog.specs.Step.{Accepts, Step}
 use Rattle.gl_catalog.specs.Tests.{refusal_of, worn}
 use Rattle.gl_modes.specs.declared.refusal.Refusal.TheVariants as no
-use Rattle.gl_table.specs.declared.txn.TxnId.{TxnId}
+use Rattle.gl_model.specs.declared.txn.TxnId.{TxnId}
 use Rattle.gl_graph.specs.Graph.{shape_of}
 use Rattle.gl_graph.specs.Shapes.{is_record_shape}
-use Rattle.gl_table.specs.model.Calls.{escalation_blocks, held_child, not_held, asked_by_escalation, raised, shed, wanted}
+use Rattle.gl_model.specs.Calls.{escalation_blocks, held_child, not_held, asked_by_escalation, raised, shed, wanted}
 use Rattle.gl_catalog.specs.Promises.{RunsKeepNoCycle}
 use Rattle.gl_graph.specs.Refusals.{where_true, worn_births}
 use Rattle.gl_graph.proofs.Unrefused.{not_false, not_refused, test_fails}
-use Rattle.gl_table.proofs.law.Tests.{raised-lawful}
-use Rattle.gl_table.proofs.law.Move.{moved-no_cycle}
-use Rattle.gl_table.proofs.law.Tests.{active_after}
-use Rattle.gl_table.proofs.law.Records.{deleted-no_cycle}
-use Rattle.gl_table.proofs.law.Lock.{may_lock}
-use Rattle.gl_table.proofs.law.Lock.{begun-no_cycle, granted-no_cycle, locks-no_cycle, unlocked-no_cycle, shed-no_cycle, given_up-no_cycle, released-no_cycle, settled-no_cycle}
+use Rattle.gl_model.proofs.law.Tests.{raised-lawful}
+use Rattle.gl_model.proofs.law.Move.{moved-no_cycle}
+use Rattle.gl_model.proofs.law.Tests.{active_after}
+use Rattle.gl_model.proofs.law.Records.{deleted-no_cycle}
+use Rattle.gl_model.proofs.law.Lock.{may_lock}
+use Rattle.gl_model.proofs.law.Lock.{begun-no_cycle, granted-no_cycle, locks-no_cycle, unlocked-no_cycle, shed-no_cycle, given_up-no_cycle, released-no_cycle, settled-no_cycle}
 use Rattle.gl_catalog.proofs.EachStep.{each_step}
 use Rattle.gl_catalog.proofs.Detection.{steps_keep_detect}
 use Rattle.gl_catalog.proofs.StepsKeepLaw.{steps_keep_law}

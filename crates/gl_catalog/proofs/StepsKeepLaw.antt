@@ -3,7 +3,7 @@ use Rattle.std.specs.Prelude.{◌+◌, [], ◌∷◌}
 use Rattle.std.proofs.Common.{sym, subst}
 use Rattle.gl_catalog.specs.declared.command.Command.{Command}
 use Rattle.gl_catalog.specs.declared.command.Command.TheVariants as command
-use Rattle.gl_table.specs.model.Lawful.{IsLawful}
+use Rattle.gl_model.specs.Lawful.{IsLawful}
 use Rattle.gl_catalog.specs.Promises.{StepsKeepLaw, RunsKeepLaw}
 use Rattle.gl_catalog.proofs.Counting.{lawful_counting}
 use Rattle.gl_catalog.proofs.EachStep.{each_step}

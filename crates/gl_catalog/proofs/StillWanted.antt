@@ -18,10 +18,10 @@ use Rattle.gl_graph.specs.Lawful.{IsLawfulGraph}
 use Rattle.gl_graph.specs.Refusals.{first_refusal, some_no_node, where_true}
 use Rattle.gl_graph.specs.Routes.{IsRoute}
 use Rattle.gl_graph.specs.Shapes.{is_record_shape}
-use Rattle.gl_table.specs.declared.txn.TxnId.{TxnId}
-use Rattle.gl_table.specs.model.Calls.{condemned_test, first_not_ix, first_of_all, rule_refusal, waiting_test, wanted}
-use Rattle.gl_table.specs.model.Lawful.{IsLawful}
-use Rattle.gl_table.specs.model.State.{State, is_write, no_parents}
+use Rattle.gl_model.specs.declared.txn.TxnId.{TxnId}
+use Rattle.gl_model.specs.Calls.{condemned_test, first_not_ix, first_of_all, rule_refusal, waiting_test, wanted}
+use Rattle.gl_model.specs.Lawful.{IsLawful}
+use Rattle.gl_model.specs.State.{State, is_write, no_parents}
 use Rattle.gl_catalog.specs.Paths.{Ask, ClimbsTo, IsWay, KeepsBelow, KeepsWay, intention, next_ask, parent_missed, parent_wanted, path_tests}
 use Rattle.gl_catalog.specs.Tests.{worn}
 use Rattle.gl_catalog.proofs.Climbing.{climb_route, passes, rule_of, wanted_by_rule}

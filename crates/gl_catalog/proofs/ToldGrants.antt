@@ -8,18 +8,18 @@ use mathlib.Core.Bool.{true≢false}
 use Rattle.gl_modes.proofs.Words.{split, or_elim, and_both}
 use Rattle.gl_modes.specs.declared.mode.Mode.{Mode}
 use Rattle.gl_modes.specs.declared.node.NodeId.{NodeId}
-use Rattle.gl_table.specs.declared.txn.TxnId.{TxnId}
-use Rattle.gl_table.specs.declared.answers.Notice.{Notice}
-use Rattle.gl_table.specs.declared.answers.Notice.TheVariants as notice
+use Rattle.gl_model.specs.declared.txn.TxnId.{TxnId}
+use Rattle.gl_model.specs.declared.answers.Notice.{Notice}
+use Rattle.gl_model.specs.declared.answers.Notice.TheVariants as notice
 use Rattle.gl_graph.specs.Graph.{is_live}
 use Rattle.gl_modes.specs.Nodes.{same_node}
 use Rattle.gl_modes.specs.Modes.{same_mode}
-use Rattle.gl_table.specs.model.State.{State, Txn, lives, live_by, status_of, age_of, age_in}
-use Rattle.gl_table.specs.model.Lawful.{IsLawful}
-use Rattle.gl_table.specs.model.Tellings.{told, told_but, told_from, notice_of, addressed}
+use Rattle.gl_model.specs.State.{State, Txn, lives, live_by, status_of, age_of, age_in}
+use Rattle.gl_model.specs.Lawful.{IsLawful}
+use Rattle.gl_model.specs.Tellings.{told, told_but, told_from, notice_of, addressed}
 use Rattle.gl_catalog.specs.Promises.{is_grant_to, same_txn}
-use Rattle.gl_table.proofs.queues.Waiters.{one_among}
-use Rattle.gl_table.proofs.telling.Follows.{GrantedTo}
+use Rattle.gl_model.proofs.queues.Waiters.{one_among}
+use Rattle.gl_model.proofs.telling.Follows.{GrantedTo}
 use Rattle.gl_modes.proofs.NodeLemmas.{same_node-refl}
 use Rattle.gl_modes.proofs.ModeLemmas.{same_mode-refl}
 use Rattle.std.proofs.Math.Bool.{or-true}

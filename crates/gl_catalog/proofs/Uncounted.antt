@@ -1,7 +1,7 @@
 -- A step adds nothing to the counters where the count of accepted commands stays.
 use Rattle.std.specs.Prelude.{◌≡◌, [], max}
 use Rattle.gl_modes.specs.declared.refusal.Refusal.{Refusal}
-use Rattle.gl_table.specs.model.State.{State}
+use Rattle.gl_model.specs.State.{State}
 use Rattle.gl_catalog.specs.declared.command.Answer.TheVariants as answer
 use Rattle.gl_catalog.specs.declared.command.Command.{Command}
 use Rattle.gl_catalog.specs.declared.counters.Counters.{Counters}

@@ -10,12 +10,12 @@ use Rattle.gl_modes.specs.declared.node.NodeId.{NodeId}
 use Rattle.gl_modes.specs.Nodes.{same_node}
 use Rattle.gl_graph.specs.Changes.{rekeyed_parents}
 use Rattle.gl_header.specs.Header.{holds, is_among_waiters}
-use Rattle.gl_table.specs.declared.txn.Status.{Status}
-use Rattle.gl_table.specs.declared.txn.Status.TheVariants.{Active, Waiting, Condemned}
-use Rattle.gl_table.specs.declared.txn.TxnId.{TxnId}
-use Rattle.gl_table.specs.model.Calls.{Locks, enqueued, enters_at, raised, stays, wanted, is_covered}
-use Rattle.gl_table.specs.model.State.{granted_at, is_waiting_at, woken, State, members, restatus, status_in, status_of, with_grant, is_wait}
-use Rattle.gl_table.specs.model.Tellings.{stripped, Told}
+use Rattle.gl_model.specs.declared.txn.Status.{Status}
+use Rattle.gl_model.specs.declared.txn.Status.TheVariants.{Active, Waiting, Condemned}
+use Rattle.gl_model.specs.declared.txn.TxnId.{TxnId}
+use Rattle.gl_model.specs.Calls.{Locks, enqueued, enters_at, raised, stays, wanted, is_covered}
+use Rattle.gl_model.specs.State.{granted_at, is_waiting_at, woken, State, members, restatus, status_in, status_of, with_grant, is_wait}
+use Rattle.gl_model.specs.Tellings.{stripped, Told}
 use Rattle.gl_catalog.specs.declared.command.Answer.{Answer}
 use Rattle.gl_catalog.specs.declared.command.Answer.TheVariants as answer
 use Rattle.gl_catalog.specs.declared.command.Command.{Command}

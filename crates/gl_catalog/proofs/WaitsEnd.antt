@@ -14,17 +14,17 @@ use Rattle.gl_modes.proofs.NodeLemmas.{same_node-refl}
 use Rattle.gl_graph.specs.Graph.{is_live}
 use Rattle.gl_graph.specs.Changes.{rekeyed_parents}
 use Rattle.gl_header.specs.Header.{holds, is_among_waiters}
-use Rattle.gl_table.specs.declared.answers.Notice.{Notice}
-use Rattle.gl_table.specs.declared.answers.Notice.TheVariants as notice
-use Rattle.gl_table.specs.declared.txn.Status.{Status}
-use Rattle.gl_table.specs.declared.txn.Status.TheVariants.{Active, Waiting, Condemned}
-use Rattle.gl_table.specs.declared.txn.TxnId.{TxnId}
-use Rattle.gl_table.specs.model.Calls.{Locks, enqueued, enters_at, granted, raised, released, stays, wanted, is_covered, no_txn, waiting_test}
-use Rattle.gl_table.specs.model.Lawful.{IsLawful}
-use Rattle.gl_table.specs.model.State.{granted_at, is_waiting_at, waits_at, woken}
-use Rattle.gl_table.specs.model.State.{State, Txn, age_of, live_by, lives, members, restatus, status_in, status_of, with_grant}
-use Rattle.gl_table.specs.model.Tellings.{stripped, Told, addressed, notice_of, told, told_but, told_from}
-use Rattle.gl_table.proofs.law.Keeps.{waiting_is}
+use Rattle.gl_model.specs.declared.answers.Notice.{Notice}
+use Rattle.gl_model.specs.declared.answers.Notice.TheVariants as notice
+use Rattle.gl_model.specs.declared.txn.Status.{Status}
+use Rattle.gl_model.specs.declared.txn.Status.TheVariants.{Active, Waiting, Condemned}
+use Rattle.gl_model.specs.declared.txn.TxnId.{TxnId}
+use Rattle.gl_model.specs.Calls.{Locks, enqueued, enters_at, granted, raised, released, stays, wanted, is_covered, no_txn, waiting_test}
+use Rattle.gl_model.specs.Lawful.{IsLawful}
+use Rattle.gl_model.specs.State.{granted_at, is_waiting_at, waits_at, woken}
+use Rattle.gl_model.specs.State.{State, Txn, age_of, live_by, lives, members, restatus, status_in, status_of, with_grant}
+use Rattle.gl_model.specs.Tellings.{stripped, Told, addressed, notice_of, told, told_but, told_from}
+use Rattle.gl_model.proofs.law.Keeps.{waiting_is}
 use Rattle.gl_catalog.specs.declared.command.Answer.{Answer}
 use Rattle.gl_catalog.specs.declared.command.Command.{Command}
 use Rattle.gl_catalog.specs.declared.command.Command.TheVariants as command

@@ -11,7 +11,7 @@ use Rattle.gl_modes.specs.declared.refusal.Refusal.TheVariants as no
 use Rattle.gl_modes.specs.Modes.{is_at_least}
 use Rattle.gl_graph.specs.Refusals.{verdict}
 use Rattle.gl_graph.proofs.Unrefused.{verdict_ok}
-use Rattle.gl_table.specs.model.Calls.{first_not_ix}
+use Rattle.gl_model.specs.Calls.{first_not_ix}
 use Rattle.gl_table.proofs.calls.Locking.{test_refused}
 
 module _ (held : NodeId → Mode) (p : NodeId) (ps : List NodeId) where

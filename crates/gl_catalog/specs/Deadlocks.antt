@@ -1,8 +1,8 @@
 -- What a command keeps of deadlocks.
 use Rattle.std.specs.Prelude.{◌≡◌}
-use Rattle.gl_table.specs.declared.deadlock.Deadlock.{Deadlock}
-use Rattle.gl_table.specs.model.Deadlocks.{LocksKeeping, SettlesKeeping}
-use Rattle.gl_table.specs.model.State.{State}
+use Rattle.gl_model.specs.declared.deadlock.Deadlock.{Deadlock}
+use Rattle.gl_model.specs.Deadlocks.{LocksKeeping, SettlesKeeping}
+use Rattle.gl_model.specs.State.{State}
 use Rattle.gl_catalog.specs.declared.command.Answer.{Answer}
 use Rattle.gl_catalog.specs.declared.command.Answer.TheVariants as answer
 use Rattle.gl_catalog.specs.declared.command.Command.{Command}

@@ -1,10 +1,10 @@
 -- What a contract sees of a manager, the state of the model that it stands for, and what holds of every manager.
 use Rattle.std.specs.Prelude.{◌≡◌, ◌≤◌, ℕ}
-use Rattle.gl_table.specs.declared.answers.Detect.TheVariants.{AtBlock}
-use Rattle.gl_table.specs.model.Lawful.{HasNoConflict, IsLawful}
+use Rattle.gl_model.specs.declared.answers.Detect.TheVariants.{AtBlock}
+use Rattle.gl_model.specs.Lawful.{HasNoConflict, IsLawful}
 use Rattle.gl_header.specs.Headers.{AreHeaders}
-use Rattle.gl_table.specs.model.State.{State, HasNoCycle}
-use Rattle.gl_table.specs.model.Table.{ListsAgree, StandOnce, TableView, state_of as table_state}
+use Rattle.gl_model.specs.State.{State, HasNoCycle}
+use Rattle.gl_table.specs.Table.{ListsAgree, StandOnce, TableView, state_of as table_state}
 use Rattle.gl_catalog.specs.declared.counters.Counters.{Counters}
 
 -- a manager: its table, how many commands were accepted, and what else is counted

@@ -6,10 +6,10 @@ use Rattle.gl_modes.specs.declared.node.NodeId.{NodeId}
 use Rattle.gl_modes.specs.declared.refusal.Refusal.{Refusal}
 use Rattle.gl_modes.specs.declared.refusal.Refusal.TheVariants as no
 use Rattle.gl_modes.specs.Nodes.{same_node}
-use Rattle.gl_table.specs.declared.txn.TxnId.{TxnId}
-use Rattle.gl_table.specs.model.Calls.{active_on, bad_mode}
-use Rattle.gl_table.specs.model.State.{State, is_write, lives}
-use Rattle.gl_table.specs.model.Tellings.{Told}
+use Rattle.gl_model.specs.declared.txn.TxnId.{TxnId}
+use Rattle.gl_model.specs.Calls.{active_on, bad_mode}
+use Rattle.gl_model.specs.State.{State, is_write, lives}
+use Rattle.gl_model.specs.Tellings.{Told}
 use Rattle.gl_catalog.specs.declared.command.Command.{Command}
 use Rattle.gl_catalog.specs.declared.command.Command.TheVariants as command
 use Rattle.gl_catalog.specs.declared.manager.paths.Reached.{Reached}

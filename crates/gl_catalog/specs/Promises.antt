@@ -2,25 +2,25 @@
 use Rattle.std.specs.Prelude.{◌≡◌, ◌⊎◌, ℕ, Bool, true, false, ◌&&◌, ◌||◌, ◌==◌, List, [], ◌∷◌, Some}
 use Rattle.std.specs.List.{list_any}
 use denote.Bor.{Bor}
-use Rattle.gl_table.specs.declared.txn.Status.TheVariants.{Waiting}
-use Rattle.gl_table.specs.declared.txn.TxnId.{TxnId}
-use Rattle.gl_table.specs.declared.answers.Notice.{Notice}
+use Rattle.gl_model.specs.declared.txn.Status.TheVariants.{Waiting}
+use Rattle.gl_model.specs.declared.txn.TxnId.{TxnId}
+use Rattle.gl_model.specs.declared.answers.Notice.{Notice}
 use Rattle.gl_catalog.specs.declared.command.Answer.{Answer}
 use Rattle.gl_catalog.specs.declared.command.Command.{Command}
 use Rattle.gl_modes.specs.declared.mode.Mode.{Mode}
 use Rattle.gl_modes.specs.declared.node.NodeId.{NodeId}
-use Rattle.gl_table.specs.declared.answers.Detect.TheVariants.{AtBlock}
-use Rattle.gl_table.specs.declared.answers.Notice.TheVariants as notice
+use Rattle.gl_model.specs.declared.answers.Detect.TheVariants.{AtBlock}
+use Rattle.gl_model.specs.declared.answers.Notice.TheVariants as notice
 use Rattle.gl_catalog.specs.declared.command.Answer.TheVariants as answer
 use Rattle.gl_catalog.specs.declared.command.Command.TheVariants as command
 use Rattle.gl_catalog.specs.Tests.{refusal_of}
 use Rattle.gl_catalog.specs.Step.{Goes, Run, Step}
 use Rattle.gl_graph.specs.Graph.{is_live, parents_of, shape_of}
 use Rattle.gl_graph.specs.Shapes.{is_record_shape, keys_in}
-use Rattle.gl_table.specs.model.Calls.{accepted_once, is_idle}
-use Rattle.gl_table.specs.model.Lawful.{EffS, effective, is_at_least_effect, SameBelow, IsLawful}
-use Rattle.gl_table.specs.model.State.{is_waiting_at, State, lives, status_of, HasNoCycle, is_wait, waits_for}
-use Rattle.gl_table.specs.model.Tellings.{Told}
+use Rattle.gl_model.specs.Calls.{accepted_once, is_idle}
+use Rattle.gl_model.specs.Lawful.{EffS, effective, is_at_least_effect, SameBelow, IsLawful}
+use Rattle.gl_model.specs.State.{is_waiting_at, State, lives, status_of, HasNoCycle, is_wait, waits_for}
+use Rattle.gl_model.specs.Tellings.{Told}
 use Rattle.gl_waits.specs.Waits.{IsOnNoCycle}
 
 -- two names of one transaction

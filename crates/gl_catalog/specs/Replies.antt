@@ -4,14 +4,14 @@ use Rattle.arrayvec.specs.ArrayVec.{ArrayVec}
 use Rattle.gl_modes.specs.declared.mode.Mode.{Mode}
 use Rattle.gl_modes.specs.declared.node.NodeId.{NodeId}
 use Rattle.gl_modes.specs.declared.refusal.Refusal.{Refusal}
-use Rattle.gl_table.specs.declared.answers.Effect.{Effect}
-use Rattle.gl_table.specs.declared.answers.Notice.{Notice}
-use Rattle.gl_table.specs.declared.answers.Locked.{Locked}
-use Rattle.gl_table.specs.declared.txn.Status.{Status}
-use Rattle.gl_table.specs.declared.txn.Status.TheVariants.{Waiting}
-use Rattle.gl_table.specs.declared.txn.TxnId.{TxnId}
-use Rattle.gl_table.specs.model.State.{State}
-use Rattle.gl_table.specs.model.Tellings.{Told}
+use Rattle.gl_model.specs.declared.answers.Effect.{Effect}
+use Rattle.gl_model.specs.declared.answers.Notice.{Notice}
+use Rattle.gl_model.specs.declared.answers.Locked.{Locked}
+use Rattle.gl_model.specs.declared.txn.Status.{Status}
+use Rattle.gl_model.specs.declared.txn.Status.TheVariants.{Waiting}
+use Rattle.gl_model.specs.declared.txn.TxnId.{TxnId}
+use Rattle.gl_model.specs.State.{State}
+use Rattle.gl_model.specs.Tellings.{Told}
 use Rattle.gl_catalog.specs.declared.command.Answer.{Answer}
 use Rattle.gl_catalog.specs.declared.command.Answer.TheVariants as answer
 use Rattle.gl_catalog.specs.declared.command.Command.{Command}

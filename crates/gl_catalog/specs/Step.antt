@@ -1,9 +1,9 @@
 -- One command: its answer, the state that it leaves, and what others are told; and runs of commands (own).
 use Rattle.std.specs.Prelude.{◌≡◌, ◌⊎◌, ℕ, ◌+◌, ◌-◌, false, true, List, [], ◌∷◌, Option, Some, None}
-use Rattle.gl_table.specs.declared.txn.Status.{Status}
-use Rattle.gl_table.specs.declared.answers.Locked.{Locked}
-use Rattle.gl_table.specs.declared.answers.Locked.TheVariants as locked
-use Rattle.gl_table.specs.model.Calls.{locked_as}
+use Rattle.gl_model.specs.declared.txn.Status.{Status}
+use Rattle.gl_model.specs.declared.answers.Locked.{Locked}
+use Rattle.gl_model.specs.declared.answers.Locked.TheVariants as locked
+use Rattle.gl_model.specs.Calls.{locked_as}
 use Rattle.gl_catalog.specs.declared.command.Answer.{Answer}
 use Rattle.gl_catalog.specs.declared.command.Command.{Command}
 use Rattle.gl_modes.specs.declared.mode.Mode.{Mode}
@@ -18,11 +18,11 @@ use Rattle.gl_graph.specs.Changes.{IsAdopted, IsBorn, IsIndexBorn, rekeyed, reke
 use Rattle.gl_graph.specs.Graph.{record_parents}
 use Rattle.gl_graph.specs.Shapes.{File, Inner, Rec}
 use Rattle.gl_header.specs.Header.{group_of}
-use Rattle.gl_table.specs.model.Calls.{Locks, accepted_once, begun, cancelled, deleted, free_slot, granted, moved_to, raised, released, shed, unlocked, wanted}
-use Rattle.gl_table.specs.model.Calls.{covered_children, held_children}
-use Rattle.gl_table.specs.model.Lawful.{effective}
-use Rattle.gl_table.specs.model.State.{State, members, status_of, with_grant, with_graph, Settled}
-use Rattle.gl_table.specs.model.Tellings.{Told, told, told_but}
+use Rattle.gl_model.specs.Calls.{Locks, accepted_once, begun, cancelled, deleted, free_slot, granted, moved_to, raised, released, shed, unlocked, wanted}
+use Rattle.gl_model.specs.Calls.{covered_children, held_children}
+use Rattle.gl_model.specs.Lawful.{effective}
+use Rattle.gl_model.specs.State.{State, members, status_of, with_grant, with_graph, Settled}
+use Rattle.gl_model.specs.Tellings.{Told, told, told_but}
 
 -- the answer of a lock
 abbrev pub answer_of_lock : Locked → Answer

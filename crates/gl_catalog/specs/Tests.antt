@@ -1,6 +1,6 @@
 -- Why a command is refused: the tests of each in their order, and where memory may be wanting.
 use Rattle.std.specs.Prelude.{ℕ, Bool, true, false, not, ◌&&◌, ◌||◌, ◌==◌, List, [], ◌∷◌, ◌++◌, length, Option, Some, is_none}
-use Rattle.gl_table.specs.declared.txn.TxnId.{TxnId}
+use Rattle.gl_model.specs.declared.txn.TxnId.{TxnId}
 use Rattle.gl_catalog.specs.declared.command.Command.{Command}
 use Rattle.gl_modes.specs.declared.node.NodeId.{NodeId}
 use Rattle.gl_modes.specs.declared.refusal.Refusal.{Refusal}
@@ -11,9 +11,9 @@ use Rattle.gl_graph.specs.Graph.{first_parent, indexes_of, parents_of, record_pa
 use Rattle.gl_graph.specs.Refusals.{bad_parents, file_refusal, first_cycle, first_refusal, index_refusal, inner_refusal, max_count, record_refusal, too_many_nodes, where_true, worn_births}
 use Rattle.gl_graph.specs.Shapes.{is_file_shape, is_index_of_shape, is_movable_shape, is_record_shape, least_parents}
 use Rattle.gl_header.specs.Header.{holds}
-use Rattle.gl_table.specs.model.Calls.{enters_at}
-use Rattle.gl_table.specs.model.Calls.{active_on, begin_tests, cancel_tests, commit_tests, escalation_blocks, first_not_ix, forget_tests, group_tests, held_tests, holds_x, living_tests, lock_tests, need_exclusive, need_new_parents, not_held, some_given, try_tests, unlock_tests}
-use Rattle.gl_table.specs.model.State.{State, members}
+use Rattle.gl_model.specs.Calls.{enters_at}
+use Rattle.gl_model.specs.Calls.{active_on, begin_tests, cancel_tests, commit_tests, escalation_blocks, first_not_ix, forget_tests, group_tests, held_tests, holds_x, living_tests, lock_tests, need_exclusive, need_new_parents, not_held, some_given, try_tests, unlock_tests}
+use Rattle.gl_model.specs.State.{State, members}
 
 -- no further command can be counted
 abbrev pub worn : State → Option Refusal

@@ -1,6 +1,6 @@
 //! The laws of all commands, each the contract of a call that does nothing.
 
-ghost use Rattle.gl_table.specs.model.Lawful.{EmptyIsLawful, EmptyHasNoCycle};
+ghost use Rattle.gl_model.specs.Lawful.{EmptyIsLawful, EmptyHasNoCycle};
 ghost use Rattle.gl_catalog.specs.Promises.{AlwaysAnswers, BeginsWaits, EndsWaits, EscalateLowersNone, MoveKeepsMover, OneOutcome, OthersKeepBelow, OthersKeepEffects, RekeyKeepsMover, RowsComeAndGo, RunsKeepLaw, RunsKeepNoCycle, SettlesNobody, StepsKeepLaw};
 
 /// Each step of each command keeps the law; so does each run, and the empty state meets it.

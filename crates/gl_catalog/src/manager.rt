@@ -3,10 +3,10 @@
 ghost use Rattle.std.specs.Prelude.{◌≡◌, ◌≤◌, ◌^◌, ◌&&◌, ◌↔◌, [], IfErr, IfOk, IfSome, IsNone, None, Some, if◌then◌else◌};
 ghost use Rattle.gl_modes.specs.declared.refusal.Refusal.{Refusal as ARefusal};
 ghost use Rattle.gl_header.specs.Header.{holds};
-ghost use Rattle.gl_table.specs.model.Table.{board_of};
-ghost use Rattle.gl_table.specs.model.Calls.{held_children};
-ghost use Rattle.gl_table.specs.model.Deadlocks.{no_deadlock};
-ghost use Rattle.gl_table.specs.model.State.{choosing, empty_state, lives, members, status_of, with_room};
+ghost use Rattle.gl_table.specs.Table.{board_of};
+ghost use Rattle.gl_model.specs.Calls.{held_children};
+ghost use Rattle.gl_model.specs.Deadlocks.{no_deadlock};
+ghost use Rattle.gl_model.specs.State.{choosing, empty_state, lives, members, status_of, with_room};
 ghost use Rattle.gl_catalog.specs.Counters.{no_counts};
 ghost use Rattle.gl_catalog.specs.Manager.{IsLawfulManager, state_of};
 ghost use Rattle.gl_catalog.specs.Replies.{wait_of};

@@ -1,8 +1,8 @@
 -- What shares count together, and what faults say of it.
 use Rattle.std.proofs.Common.{◌≡◌, ap, sym, subst, ℕ, suc, ◌+◌, ◌-◌, ◌*◌, ◌≤◌, List, [], ◌∷◌, ◌++◌, Option, Some, None, Result, Ok, Err, All, IfOk, MatchOption, sum, fold, length, arith, refl}
 use Rattle.std.proofs.lemmas.List.Elements.{All-cons, All-nil}
-use Rattle.gl_table.specs.declared.answers.Detect.{Detect}
-use Rattle.gl_table.specs.declared.answers.Detect.TheVariants.{AtBlock, ByWatcher}
+use Rattle.gl_model.specs.declared.answers.Detect.{Detect}
+use Rattle.gl_model.specs.declared.answers.Detect.TheVariants.{AtBlock, ByWatcher}
 use Rattle.gl_crew.specs.Crews.{IsCountOf, IsFaultless, IsSumOf, first_fault, shares_of}
 use Rattle.gl_crew.specs.declared.fault.CrewFault.{CrewFault}
 

@@ -1,7 +1,7 @@
 -- How much a crew of sessions counts, and how it ends.
 use Rattle.std.specs.Prelude.{◌≡◌, ℕ, ◌+◌, ◌-◌, ◌*◌, ◌≤◌, true, List, [], ◌∷◌, Option, Some, None, All, is_some}
-use Rattle.gl_table.specs.declared.answers.Detect.{Detect}
-use Rattle.gl_table.specs.declared.answers.Detect.TheVariants.{AtBlock, ByWatcher}
+use Rattle.gl_model.specs.declared.answers.Detect.{Detect}
+use Rattle.gl_model.specs.declared.answers.Detect.TheVariants.{AtBlock, ByWatcher}
 use Rattle.gl_crew.specs.declared.fault.CrewFault.{CrewFault}
 
 -- so many commands for each round of each session; with detection by a watcher settles come on top

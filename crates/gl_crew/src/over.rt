@@ -2,8 +2,8 @@
 
 ghost use Rattle.std.specs.Prelude.{◌≡◌, ◌+◌, ◌*◌, ◌<◌, ◌≤◌, ◌^◌, All, Err, IfErr, IfOk, MatchOption, Ok, sum, vec_capacity, vec_len};
 ghost use Rattle.gl_modes.specs.declared.refusal.Refusal.{Refusal as ARefusal};
-ghost use Rattle.gl_table.specs.model.Table.{board_of};
-ghost use Rattle.gl_table.specs.declared.answers.Detect.TheVariants.{ByWatcher};
+ghost use Rattle.gl_table.specs.Table.{board_of};
+ghost use Rattle.gl_model.specs.declared.answers.Detect.TheVariants.{ByWatcher};
 ghost use Rattle.gl_catalog.specs.Manager.{state_of};
 ghost use Rattle.gl_crew.specs.Crews.{IsCountOf, IsFaultless, IsSumOf, first_fault, shares_of};
 

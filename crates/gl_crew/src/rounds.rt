@@ -1,7 +1,7 @@
 //! The rounds of a crew: each locks a record, and what lies above it.
 
 ghost use Rattle.std.specs.Prelude.{◌≡◌, ◌+◌, ◌*◌, [], IfOk};
-ghost use Rattle.gl_table.specs.declared.txn.TxnId.{TxnId as ATxnId};
+ghost use Rattle.gl_model.specs.declared.txn.TxnId.{TxnId as ATxnId};
 ghost use Rattle.gl_crew.specs.Locked.{IsLocked, record_of};
 
 use crate::fault::CrewFault;

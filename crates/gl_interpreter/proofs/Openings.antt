@@ -4,7 +4,7 @@ use Rattle.std.specs.Prelude.{codes}
 use Rattle.gl_modes.proofs.Words.{none_some}
 use Rattle.gl_catalog.specs.Manager.{ManagerView, state_of}
 use Rattle.std.specs.Str.{bytes_eq}
-use Rattle.gl_table.specs.model.State.{choosing, empty_state}
+use Rattle.gl_model.specs.State.{choosing, empty_state}
 use Rattle.gl_script.specs.declared.form.Version.{Version}
 use Rattle.gl_script.specs.declared.form.Version.TheVariants as version
 use Rattle.gl_interpreter.specs.Report.{Answers, Going, Opens, Prints, version_of}

@@ -10,12 +10,12 @@ use Rattle.gl_modes.proofs.Words.{no, none_some}
 use Rattle.gl_modes.specs.declared.refusal.Refusal.{Refusal}
 use Rattle.gl_slots.specs.declared.slots.Slots.{Slots}
 use Rattle.gl_slots.specs.Slots.{has_slot, slot_limit, slots_of}
-use Rattle.gl_table.specs.declared.deadlock.Stuck.{Stuck}
-use Rattle.gl_table.specs.declared.answers.LockRow.{LockRow}
-use Rattle.gl_table.specs.declared.txn.TxnId.{TxnId}
-use Rattle.gl_table.specs.model.Calls.{RefusesOnly}
-use Rattle.gl_table.specs.model.Table.{AreRowsOf}
-use Rattle.gl_table.specs.model.State.{State}
+use Rattle.gl_model.specs.declared.deadlock.Stuck.{Stuck}
+use Rattle.gl_model.specs.declared.answers.LockRow.{LockRow}
+use Rattle.gl_model.specs.declared.txn.TxnId.{TxnId}
+use Rattle.gl_model.specs.Calls.{RefusesOnly}
+use Rattle.gl_table.specs.Table.{AreRowsOf}
+use Rattle.gl_model.specs.State.{State}
 use Rattle.gl_catalog.specs.Manager.{counting}
 use Rattle.gl_interpreter.specs.Printed.{refusal_line}
 use Rattle.gl_interpreter.specs.Script.{Script}

@@ -3,7 +3,7 @@ use Rattle.std.specs.Prelude.{Bool, ◌==◌, ◌&&◌, [], Option, Some, None, 
 use Rattle.std.specs.Str.{bytes_eq}
 use Rattle.gl_modes.specs.declared.node.NodeId.{NodeId}
 use Rattle.gl_modes.specs.Nodes.{same_node}
-use Rattle.gl_table.specs.declared.txn.TxnId.{TxnId}
+use Rattle.gl_model.specs.declared.txn.TxnId.{TxnId}
 use Rattle.gl_script.specs.Grammar.{Text}
 
 -- one transaction

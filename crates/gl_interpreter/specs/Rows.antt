@@ -11,14 +11,14 @@ use Rattle.gl_graph.specs.Refusals.{first_refusal}
 use Rattle.gl_graph.specs.Shapes.{place_in}
 use Rattle.gl_header.specs.Header.{Waiter, holds}
 use Rattle.gl_slots.specs.Slots.{has_slot, slot_limit}
-use Rattle.gl_table.specs.declared.deadlock.Stuck.{Stuck}
-use Rattle.gl_table.specs.declared.answers.LockRow.{LockRow}
-use Rattle.gl_table.specs.declared.txn.Status.{Status}
-use Rattle.gl_table.specs.declared.txn.Status.TheVariants.{Active, Waiting, Condemned}
-use Rattle.gl_table.specs.declared.txn.TxnId.{TxnId}
-use Rattle.gl_table.specs.model.Table.{AreRowsOf, living_in}
-use Rattle.gl_table.specs.model.Calls.{group_tests, living_tests}
-use Rattle.gl_table.specs.model.State.{members, status_of, waits_for}
+use Rattle.gl_model.specs.declared.deadlock.Stuck.{Stuck}
+use Rattle.gl_model.specs.declared.answers.LockRow.{LockRow}
+use Rattle.gl_model.specs.declared.txn.Status.{Status}
+use Rattle.gl_model.specs.declared.txn.Status.TheVariants.{Active, Waiting, Condemned}
+use Rattle.gl_model.specs.declared.txn.TxnId.{TxnId}
+use Rattle.gl_table.specs.Table.{AreRowsOf, living_in}
+use Rattle.gl_model.specs.Calls.{group_tests, living_tests}
+use Rattle.gl_model.specs.State.{members, status_of, waits_for}
 use Rattle.gl_catalog.specs.Replies.{wait_of}
 use Rattle.gl_script.specs.Grammar.{Text, Node, Listing, Holders, Queue, Locks, Waits, Txns, Cycle}
 use Rattle.gl_interpreter.specs.Printed.{called, called_at, first_unused, refusal_line}

@@ -6,11 +6,11 @@ use Rattle.gl_modes.specs.declared.refusal.Refusal.{Refusal}
 use Rattle.gl_modes.specs.declared.refusal.Refusal.TheVariants as no
 use Rattle.gl_graph.specs.Graph.{Graph, interval_at}
 use Rattle.gl_words.specs.declared.requests.Choices.{Choices}
-use Rattle.gl_table.specs.declared.txn.TxnId.{TxnId}
-use Rattle.gl_table.specs.declared.deadlock.Deadlock.{Deadlock}
-use Rattle.gl_table.specs.model.Deadlocks.{no_deadlock}
-use Rattle.gl_table.specs.model.State.{State, choosing, empty_state}
-use Rattle.gl_table.specs.model.Tellings.{Told}
+use Rattle.gl_model.specs.declared.txn.TxnId.{TxnId}
+use Rattle.gl_model.specs.declared.deadlock.Deadlock.{Deadlock}
+use Rattle.gl_model.specs.Deadlocks.{no_deadlock}
+use Rattle.gl_model.specs.State.{State, choosing, empty_state}
+use Rattle.gl_model.specs.Tellings.{Told}
 use Rattle.gl_catalog.specs.declared.command.Answer.{Answer}
 use Rattle.gl_catalog.specs.declared.command.Answer.TheVariants as answer
 use Rattle.gl_catalog.specs.declared.command.Command.{Command as Asked}

@@ -2,9 +2,9 @@
 use Rattle.std.specs.Prelude.{◌≡◌, ℕ, List, [], ◌++◌, false, take, Option, None, Some, Result, MatchResult}
 use Rattle.std.specs.Io.KnownBytes.{Appends}
 use Rattle.gl_words.specs.declared.requests.Choices.{Choices}
-use Rattle.gl_table.specs.model.Deadlocks.{no_deadlock}
-use Rattle.gl_table.specs.model.State.{choosing, empty_state}
-use Rattle.gl_table.specs.model.Tellings.{Told}
+use Rattle.gl_model.specs.Deadlocks.{no_deadlock}
+use Rattle.gl_model.specs.State.{choosing, empty_state}
+use Rattle.gl_model.specs.Tellings.{Told}
 use Rattle.gl_catalog.specs.Manager.{ManagerView, state_of}
 use Rattle.gl_catalog.specs.declared.command.Answer.{Answer}
 use Rattle.gl_script.specs.Grammar.{Command, Listing}

@@ -2,6 +2,7 @@
 
 ghost use Rattle.std.specs.Prelude.{◌≡◌, ◌+◌, ◌<◌, ◌≤◌, IfOk};
 
+use crate::wanted::same;
 use gl_catalog::{Answer, Command, Manager};
 use gl_crew::{Ended, Field, RecordRounds, Work, crew_over};
 use gl_modes::{Mode, NodeId, Refusal};
@@ -112,10 +113,18 @@ fn counted_behind<G: Gate + Sync, R: Threads + Wait + Sync>(
 /// Four sessions that do a hundred rounds.
 #[test]
 fn all_rounds_are_counted(rt: HostRuntime) {
-    assert_eq!(rt; counted(&rt, rt.alloc(), 100, Detect::AtBlock), Ok(2800));
-    assert_eq!(rt; counted(&rt, rt.alloc(), 100, Detect::ByWatcher), Ok(2800));
-    assert_eq!(rt; counted(&rt, rt.alloc(), 1, Detect::AtBlock), Ok(28));
-    assert_eq!(rt; counted(&rt, rt.alloc(), 2, Detect::ByWatcher), Ok(56));
+    same(
+        &rt,
+        counted(&rt, rt.alloc(), 100, Detect::AtBlock),
+        Ok(2800),
+    );
+    same(
+        &rt,
+        counted(&rt, rt.alloc(), 100, Detect::ByWatcher),
+        Ok(2800),
+    );
+    same(&rt, counted(&rt, rt.alloc(), 1, Detect::AtBlock), Ok(28));
+    same(&rt, counted(&rt, rt.alloc(), 2, Detect::ByWatcher), Ok(56));
 }
 
 /// Two sessions hold their locks at the same time; a crew that runs one after the other does not come
@@ -124,12 +133,12 @@ fn meets<R: Threads + Wait + Sync + Abort>(rt: &R, alloc: Global, detect: Detect
     let meeting = Meeting::new();
     let ended = counted_behind(rt, alloc, &meeting, detect);
     let Meeting { seen } = meeting;
-    assert_eq!(rt; ended, Ok(14));
+    same(rt, ended, Ok(14));
     let wanted = Seen {
         locked: [1; 2],
         committed: [1; 2],
     };
-    assert_eq!(rt; seen.into_inner(), wanted);
+    same(rt, seen.into_inner(), wanted);
 }
 
 #[test]
@@ -144,9 +153,9 @@ fn a_shut_gate_stops_a_crew(rt: HostRuntime) {
     for at in [Point::Locked, Point::Committed] {
         let gate = Shut { at };
         let ended = counted_behind(&rt, rt.alloc(), &gate, Detect::AtBlock);
-        assert_eq!(rt; ended, Err(CrewFault::Gate));
+        same(&rt, ended, Err(CrewFault::Gate));
         let ended = counted_behind(&rt, rt.alloc(), &gate, Detect::ByWatcher);
-        assert_eq!(rt; ended, Err(CrewFault::Gate));
+        same(&rt, ended, Err(CrewFault::Gate));
     }
 }
 
@@ -204,8 +213,8 @@ fn stops<R: Threads + Wait + Sync + Abort>(rt: &R, alloc: Global, detect: Detect
     let work = RecordRounds { field, gate: &gate };
     let ended = ended_after(rt, alloc, manager, &work, 2);
     let refused = CrewFault::Refused(Refusal::NoSuchNode);
-    assert_eq!(rt; ended.faults.as_slice(), [Some(refused); 2].as_slice());
-    assert_eq!(rt; ended.count, 12);
+    same(rt, ended.faults.as_slice(), [Some(refused); 2].as_slice());
+    same(rt, ended.count, 12);
     assert!(rt; nobody_lives(&ended.manager), "a transaction is left");
 }
 
@@ -243,8 +252,8 @@ fn the_first_fault_is_answered(rt: HostRuntime) {
     let ended = ended_after(&rt, rt.alloc(), manager, &Failing, 3);
     let refused = CrewFault::Refused(Refusal::NoSuchTxn);
     let wanted = [None, Some(refused), Some(CrewFault::Gate)];
-    assert_eq!(rt; ended.faults.as_slice(), wanted.as_slice());
-    assert_eq!(rt; ended.answer(), Err(refused));
+    same(&rt, ended.faults.as_slice(), wanted.as_slice());
+    same(&rt, ended.answer(), Err(refused));
 }
 
 /// Two sessions that lock the same two nodes in X, each the other's last first, and meet between.
@@ -331,9 +340,9 @@ fn frees<R: Threads + Wait + Sync + Abort>(rt: &R, alloc: Global, detect: Detect
     };
     let ended = ended_after(rt, alloc, manager, &work, 2);
     let fallen = CrewFault::Refused(Refusal::TxnCondemned);
-    assert_eq!(rt; ended.answer(), Err(fallen));
-    assert_eq!(rt; ended.faults.iter().flatten().count(), 1);
-    assert_eq!(rt; ended.manager.counters().victims, 1);
+    same(rt, ended.answer(), Err(fallen));
+    same(rt, ended.faults.iter().flatten().count(), 1);
+    same(rt, ended.manager.counters().victims, 1);
     assert!(rt; nobody_lives(&ended.manager), "a transaction is left");
     ended.count
 }
@@ -341,7 +350,7 @@ fn frees<R: Threads + Wait + Sync + Abort>(rt: &R, alloc: Global, detect: Detect
 /// With detection by a watcher nobody but the lookout ends a deadlock, by a settle that counts.
 #[test]
 fn the_lookout_settles_a_deadlock(rt: HostRuntime) {
-    assert_eq!(rt; frees(&rt, rt.alloc(), Detect::AtBlock), 8);
+    same(&rt, frees(&rt, rt.alloc(), Detect::AtBlock), 8);
     let count = frees(&rt, rt.alloc(), Detect::ByWatcher);
     assert!(rt; count >= 9, "nobody asked for a settle");
 }

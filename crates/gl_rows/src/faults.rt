@@ -3,6 +3,7 @@
 
 use crate::rows::{AT_BLOCK, answer};
 use crate::streams::{Sheet, Source};
+use crate::wanted::same;
 use gl_tool::RunFault;
 use std::test::Fail;
 
@@ -16,8 +17,8 @@ fn a_read_fails(rt: HostRuntime) -> Result<(), Fail> {
         source.left = left;
         let mut out = Sheet::new(rt.alloc())?;
         let ended = answer(rt.alloc(), &mut source, &mut out, AT_BLOCK);
-        assert_eq!(rt; ended, Err(RunFault::Read));
-        assert_eq!(rt; out.text.as_slice(), report.as_bytes(), "after {left}");
+        same(&rt, ended, Err(RunFault::Read));
+        same(&rt, (left, out.text.as_slice()), (left, report.as_bytes()));
     }
     Ok(())
 }
@@ -30,8 +31,8 @@ fn a_write_fails(rt: HostRuntime) -> Result<(), Fail> {
     out.piece = 1;
     out.calls = 2;
     let ended = answer(rt.alloc(), &mut source, &mut out, AT_BLOCK);
-    assert_eq!(rt; ended, Err(RunFault::Write));
-    assert_eq!(rt; out.text.as_slice(), b"ok".as_slice());
+    same(&rt, ended, Err(RunFault::Write));
+    same(&rt, out.text.as_slice(), b"ok".as_slice());
     Ok(())
 }
 
@@ -44,9 +45,9 @@ fn a_failed_write_ends_the_run(rt: HostRuntime) -> Result<(), Fail> {
     out.piece = 2;
     out.calls = 1;
     let ended = answer(rt.alloc(), &mut source, &mut out, AT_BLOCK);
-    assert_eq!(rt; ended, Err(RunFault::Write));
-    assert_eq!(rt; source.given, 8);
-    assert_eq!(rt; out.text.as_slice(), b"ok".as_slice());
+    same(&rt, ended, Err(RunFault::Write));
+    same(&rt, source.given, 8);
+    same(&rt, out.text.as_slice(), b"ok".as_slice());
     Ok(())
 }
 
@@ -57,7 +58,7 @@ fn a_write_takes_nothing(rt: HostRuntime) -> Result<(), Fail> {
     let mut out = Sheet::new(rt.alloc())?;
     out.piece = 0;
     let ended = answer(rt.alloc(), &mut source, &mut out, AT_BLOCK);
-    assert_eq!(rt; ended, Err(RunFault::Write));
+    same(&rt, ended, Err(RunFault::Write));
     assert!(rt; out.text.is_empty());
     Ok(())
 }

@@ -29,4 +29,6 @@ mod rows;
 #[cfg(test)]
 mod streams;
 #[cfg(test)]
+mod wanted;
+#[cfg(test)]
 mod words;

@@ -2,6 +2,7 @@
 
 use crate::rows::{AT_BLOCK, FEWEST, LISTED, Row, answer, comes_out, try_row};
 use crate::streams::{Sheet, Source};
+use crate::wanted::same;
 use gl_tool::RunFault;
 use std::alloc::{AllocError, Global};
 use std::test::Fail;
@@ -125,9 +126,9 @@ fn as_much_as_may_be(rt: HostRuntime) -> Result<(), Fail> {
         let mut source = Source::new(script.as_slice(), piece);
         let mut out = Sheet::new(rt.alloc())?;
         let ended = answer(rt.alloc(), &mut source, &mut out, AT_BLOCK);
-        assert_eq!(rt; ended, Ok(()));
-        assert_eq!(rt; source.given, 16_777_216);
-        assert_eq!(rt; out.text.len(), 3 + 2_097_151 * taken);
+        same(&rt, ended, Ok(()));
+        same(&rt, source.given, 16_777_216);
+        same(&rt, out.text.len(), 3 + 2_097_151 * taken);
     }
     Ok(())
 }
@@ -145,9 +146,9 @@ fn too_much(rt: HostRuntime) -> Result<(), Fail> {
         source.is_endless = true;
         let mut out = Sheet::new(rt.alloc())?;
         let ended = answer(rt.alloc(), &mut source, &mut out, AT_BLOCK);
-        assert_eq!(rt; ended, Err(RunFault::TooMuch));
-        assert_eq!(rt; source.given, 16_777_217, "of {text:?}");
-        assert_eq!(rt; out.text.len(), answered, "of {text:?}");
+        same(&rt, ended, Err(RunFault::TooMuch));
+        same(&rt, (text, source.given), (text, 16_777_217));
+        same(&rt, (text, out.text.len()), (text, answered));
     }
     Ok(())
 }

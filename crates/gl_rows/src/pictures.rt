@@ -1,6 +1,7 @@
 //! What a picture of a script's end looks like, and what becomes of bad words and faults.
 
 use crate::streams::{Sheet, Source};
+use crate::wanted::same;
 use gl_tool::draw_script;
 use std::alloc::Global;
 use std::process::Abort;
@@ -67,7 +68,7 @@ fn draws<A: Abort>(
     let mut writer = Sheet::new(alloc)?;
     let mut faults = Sheet::new(alloc)?;
     let status = draw_script(alloc, words, &mut reader, &mut writer, &mut faults);
-    assert_eq!(rt; status, 0);
+    same(rt, status, 0);
     assert!(rt; faults.text.is_empty());
     assert!(rt; writer.text.as_slice() == picture);
     Ok(())
@@ -79,8 +80,8 @@ fn is_refused<A: Abort>(rt: &A, alloc: Global, words: &[&str]) -> Result<(), Fai
     let mut writer = Sheet::new(alloc)?;
     let mut faults = Sheet::new(alloc)?;
     let status = draw_script(alloc, words, &mut reader, &mut writer, &mut faults);
-    assert_eq!(rt; status, 2);
-    assert_eq!(rt; reader.given, 0);
+    same(rt, status, 2);
+    same(rt, reader.given, 0);
     assert!(rt; writer.text.is_empty());
     assert!(rt; faults.text.as_slice() == BAD_WORDS);
     Ok(())
@@ -123,7 +124,7 @@ fn a_picture_that_cannot_be_written(rt: HostRuntime) -> Result<(), Fail> {
     let mut faults = Sheet::new(rt.alloc())?;
     let words: [&str; 0] = [];
     let status = draw_script(rt.alloc(), &words, &mut reader, &mut writer, &mut faults);
-    assert_eq!(rt; status, 1);
+    same(&rt, status, 1);
     assert!(rt; faults.text.as_slice() == NOT_WRITTEN);
     Ok(())
 }

@@ -1,6 +1,7 @@
 //! A script line by line, and all that is tried with it.
 
 use crate::streams::{Sheet, Source};
+use crate::wanted::same;
 use gl_table::Detect;
 use gl_tool::{Choices, RunFault, run, run_choosing};
 use gl_waits::Victims;
@@ -144,8 +145,12 @@ pub(crate) fn comes_out(rt: &impl Abort, alloc: Global, row: &Row) -> Result<(),
         let mut source = Source::new(row.script.as_slice(), piece);
         let mut out = Sheet::new(alloc)?;
         let ended = answer(alloc, &mut source, &mut out, row.choices);
-        assert_eq!(rt; ended, Ok(()));
-        assert_eq!(rt; out.text.as_slice(), row.report.as_slice(), "by {piece}");
+        same(rt, ended, Ok(()));
+        same(
+            rt,
+            (piece, out.text.as_slice()),
+            (piece, row.report.as_slice()),
+        );
     }
     Ok(())
 }
@@ -157,8 +162,12 @@ fn reads_fail(rt: &impl Abort, alloc: Global, row: &Row) -> Result<(), Fail> {
         source.calls = calls;
         let mut out = Sheet::new(alloc)?;
         let ended = answer(alloc, &mut source, &mut out, row.choices);
-        assert_eq!(rt; ended, Err(RunFault::Read));
-        assert_eq!(rt; out.text.as_slice(), row.answered(calls), "after {calls}");
+        same(rt, ended, Err(RunFault::Read));
+        same(
+            rt,
+            (calls, out.text.as_slice()),
+            (calls, row.answered(calls)),
+        );
     }
     Ok(())
 }
@@ -171,8 +180,8 @@ fn writes_fail(rt: &impl Abort, alloc: Global, row: &Row) -> Result<(), Fail> {
         out.piece = 1;
         out.calls = calls;
         let ended = answer(alloc, &mut source, &mut out, row.choices);
-        assert_eq!(rt; ended, Err(RunFault::Write));
-        assert_eq!(rt; out.text.as_slice(), &row.report.as_slice()[..calls]);
+        same(rt, ended, Err(RunFault::Write));
+        same(rt, out.text.as_slice(), &row.report.as_slice()[..calls]);
     }
     Ok(())
 }

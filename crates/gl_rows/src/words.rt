@@ -2,6 +2,7 @@
 //! nothing.
 
 use crate::rows::{AT_BLOCK, BY_WATCHER, FEWEST, FEWEST_BY_WATCHER, LISTED};
+use crate::wanted::same;
 use gl_modes::Refusal;
 use gl_table::Detect;
 use gl_tool::{
@@ -110,8 +111,12 @@ fn wanted(alloc: Global, words: &[&str]) -> Option<Asked> {
 
 /// The words ask for a script with these choices, and their plan is one with this way of detection.
 fn choose<A: Abort>(rt: &A, alloc: Global, words: &[&str], choices: Choices) {
-    assert_eq!(rt; wanted(alloc, words), Some(Asked::Script(choices)));
-    assert_eq!(rt; planned(alloc, words), Some(Plan::Script(choices.detect)));
+    same(rt, wanted(alloc, words), Some(Asked::Script(choices)));
+    same(
+        rt,
+        planned(alloc, words),
+        Some(Plan::Script(choices.detect)),
+    );
 }
 
 /// Ends with this status, and has written the report, and the line on standard error.
@@ -126,10 +131,10 @@ fn ends<H: Threads + Wait + Sync + Abort>(
     let (mut reader, mut out) = (SCRIPT, Vec::new(alloc));
     let mut faults = Vec::new(alloc);
     let ended = program(rt, alloc, words, &mut reader, &mut out, &mut faults);
-    assert_eq!(rt; ended, status);
-    assert_eq!(rt; reader.is_empty(), status == 0);
-    assert_eq!(rt; out.as_slice(), report);
-    assert_eq!(rt; faults.as_slice(), line);
+    same(rt, ended, status);
+    same(rt, reader.is_empty(), status == 0);
+    same(rt, out.as_slice(), report);
+    same(rt, faults.as_slice(), line);
 }
 
 #[test]
@@ -168,8 +173,8 @@ fn listings_stand_beside_the_plan(rt: HostRuntime) {
 #[test]
 fn all_else_is_refused(rt: HostRuntime) {
     for words in REFUSED {
-        assert_eq!(rt; wanted(rt.alloc(), words), None);
-        assert_eq!(rt; planned(rt.alloc(), words), None);
+        same(&rt, wanted(rt.alloc(), words), None);
+        same(&rt, planned(rt.alloc(), words), None);
         ends(&rt, rt.alloc(), words, 2, b"", b"gltool: bad words\n");
     }
 }
@@ -203,8 +208,8 @@ fn listings_run_by_their_word(rt: HostRuntime) -> Result<(), Fail> {
         let (mut reader, mut out) = (LISTS, Vec::with_capacity(alloc, 256)?);
         let mut faults = Vec::with_capacity(alloc, 256)?;
         let ended = program(&rt, alloc, words, &mut reader, &mut out, &mut faults);
-        assert_eq!(rt; ended, 0);
-        assert_eq!(rt; out.as_slice(), report);
+        same(&rt, ended, 0);
+        same(&rt, out.as_slice(), report);
         assert!(rt; faults.is_empty());
     }
     Ok(())
@@ -215,16 +220,16 @@ fn counts<H: Threads + Wait + Sync + Abort>(rt: &H, alloc: Global, words: &[&str
     let (mut reader, mut out) = (SCRIPT, Vec::new(alloc));
     let mut faults = Vec::new(alloc);
     let ended = program(rt, alloc, words, &mut reader, &mut out, &mut faults);
-    assert_eq!(rt; ended, 0);
-    assert_eq!(rt; reader.len(), SCRIPT.len());
-    assert_eq!(rt; out.as_slice(), line);
+    same(rt, ended, 0);
+    same(rt, reader.len(), SCRIPT.len());
+    same(rt, out.as_slice(), line);
     assert!(rt; faults.is_empty());
 }
 
 /// The words ask for this crew, and their plan is it without the choice of victims.
 fn crews<A: Abort>(rt: &A, alloc: Global, words: &[&str], crew: Asked) {
-    assert_eq!(rt; wanted(alloc, words), Some(crew));
-    assert_eq!(rt; planned(alloc, words), Some(crew.plan()));
+    same(rt, wanted(alloc, words), Some(crew));
+    same(rt, planned(alloc, words), Some(crew.plan()));
 }
 
 #[test]
@@ -236,14 +241,14 @@ fn both_numbers_are_a_crew(rt: HostRuntime) {
         detect: Detect::AtBlock,
     };
     let words = ["--crew", "128", "--rounds", "100000"];
-    assert_eq!(rt; planned(alloc, &words), Some(crew));
+    same(&rt, planned(alloc, &words), Some(crew));
     let crew = Plan::Crew {
         sessions: 1,
         rounds: 2,
         detect: Detect::ByWatcher,
     };
     let words = ["--rounds=2", "--crew=1", "--detect=by-watcher"];
-    assert_eq!(rt; planned(alloc, &words), Some(crew));
+    same(&rt, planned(alloc, &words), Some(crew));
 }
 
 #[test]
@@ -318,25 +323,34 @@ fn a_fault_has_a_status_and_a_line(rt: HostRuntime) -> Result<(), Fail> {
     let alloc = rt.alloc();
     let mut out = Vec::with_capacity(alloc, 256)?;
     let mut faults = Vec::with_capacity(alloc, 256)?;
-    assert_eq!(rt; status(&rt, alloc, &mut Broken, &mut out, &mut faults), 1);
-    assert_eq!(rt;
+    same(
+        &rt,
+        status(&rt, alloc, &mut Broken, &mut out, &mut faults),
+        1,
+    );
+    same(
+        &rt,
         status(&rt, alloc, &mut SCRIPT, &mut Broken, &mut faults),
-        1
+        1,
     );
-    assert_eq!(rt; complain(ToolFault::Run(RunFault::TooMuch), &mut faults), 1);
-    assert_eq!(rt; complain(ToolFault::Run(RunFault::Memory), &mut faults), 1);
-    assert_eq!(rt; complain(ToolFault::Crew(CrewFault::Gate), &mut faults), 1);
-    assert_eq!(rt;
-        complain(
-            ToolFault::Crew(CrewFault::Refused(Refusal::NoMemory)),
-            &mut faults
-        ),
-        1
-    );
-    assert_eq!(rt; complain(ToolFault::Words, &mut faults), 2);
-    assert_eq!(rt; complain(ToolFault::Run(RunFault::Memory), &mut Broken), 1);
-    assert_eq!(rt; faults.as_slice(), SAID);
+    let crew = CrewFault::Refused(Refusal::NoMemory);
+    for (fault, status) in [
+        (ToolFault::Run(RunFault::TooMuch), 1),
+        (ToolFault::Run(RunFault::Memory), 1),
+        (ToolFault::Crew(CrewFault::Gate), 1),
+        (ToolFault::Crew(crew), 1),
+        (ToolFault::Words, 2),
+    ] {
+        same(&rt, complain(fault, &mut faults), status);
+    }
+    same(&rt, faults.as_slice(), SAID);
     Ok(())
+}
+
+#[test]
+fn a_fault_that_cannot_be_said_has_its_status(rt: HostRuntime) {
+    let fault = ToolFault::Run(RunFault::Memory);
+    same(&rt, complain(fault, &mut Broken), 1);
 }
 
 /// The count of a crew that cannot be written is a fault like any other.
@@ -353,7 +367,7 @@ fn a_crew_meets_a_write_fault(rt: HostRuntime) -> Result<(), Fail> {
         &mut Broken,
         &mut faults,
     );
-    assert_eq!(rt; ended, 1);
-    assert_eq!(rt; faults.as_slice(), b"gltool: write fault\n".as_slice());
+    same(&rt, ended, 1);
+    same(&rt, faults.as_slice(), b"gltool: write fault\n".as_slice());
     Ok(())
 }

@@ -1,17 +1,7 @@
-//! Sessions over a shared table, told through their public calls: what no clause can say of a call
-//! that takes the latch.
+//! Tests alone: several sessions over a shared table, in threads that race, wait in rings, look on and
+//! wake each other: what no clause can say of a call that takes the latch.
 #![tactic(auto)]
 
-#[cfg(test)]
-mod actor;
-#[cfg(test)]
-mod crowd;
-#[cfg(test)]
-mod forest;
-#[cfg(test)]
-mod gathers;
-#[cfg(test)]
-mod lists;
 #[cfg(test)]
 mod looks;
 #[cfg(test)]
@@ -19,12 +9,10 @@ mod races;
 #[cfg(test)]
 mod ring;
 #[cfg(test)]
-mod sleepers;
-#[cfg(test)]
 mod stage;
 #[cfg(test)]
 mod story;
 #[cfg(test)]
-mod tally;
-#[cfg(test)]
 mod wakings;
+#[cfg(test)]
+mod wanted;

@@ -1,7 +1,8 @@
 //! Watchers look and learn notes while sessions work.
 
-use crate::stage::{add_root, enact, new_manager};
+use crate::stage::{add_root, done, enact, new_manager};
 use crate::story::Story;
+use crate::wanted::same;
 use gl_catalog::{Answer, Command};
 use gl_modes::Mode::X;
 use gl_modes::NodeId;
@@ -49,9 +50,8 @@ fn checks<R: Abort>(rt: &R, board: &Board) {
     let free = free_slots(board);
     for slot in 0..SLOTS {
         let row = board.rows[slot];
-        assert!(rt; !has(row, slot), "slot {slot}");
-        assert!(rt; row & free == 0, "slot {slot}");
-        assert!(rt; row == 0 || !has(free, slot), "slot {slot}");
+        assert!(rt; !has(row, slot) && row & free == 0);
+        assert!(rt; row == 0 || !has(free, slot));
     }
 }
 
@@ -102,21 +102,32 @@ fn looks_on<N: Naming, R: Wait + Abort>(
             break;
         }
     }
-    assert_eq!(rt; seen, last);
+    same(rt, seen, last);
     session.end()
 }
 
 /// Begins.
 fn begins<N: Naming, R: Wait + Abort>(rt: &R, session: &mut Session<'_, N>) -> TxnId {
-    let mut begun = TxnId::NONE;
-    match session.ask(rt, Command::Begin).answer {
-        Answer::Begun(txn) => begun = txn,
-        _ => assert!(rt; false, "no transaction"),
-    }
-    begun
+    let begun = match session.ask(rt, Command::Begin).answer {
+        Answer::Begun(txn) => Some(txn),
+        _ => None,
+    };
+    begun.expect(rt, "no transaction")
 }
 
-/// Begins, waits for X on the root and commits, again and again.
+/// Begins, waits for X on the root and commits.
+fn works_once<N: Naming, R: Wait + Abort>(rt: &R, session: &mut Session<'_, N>, root: NodeId) {
+    let txn = begins(rt, session);
+    let granted = Grant {
+        txn,
+        node: root,
+        mode: X,
+    };
+    same(rt, session.lock(rt, txn, root, X), Ok(granted));
+    done(rt, session, Command::Commit { txn });
+}
+
+/// The same again and again.
 fn works<N: Naming, R: Wait + Abort>(
     rt: &R,
     table: &Shared<N>,
@@ -125,17 +136,7 @@ fn works<N: Naming, R: Wait + Abort>(
 ) -> Share<N> {
     let mut session = Session::new(table, share);
     for _ in 0..COMMITS {
-        let txn = begins(rt, &mut session);
-        let granted = Grant {
-            txn,
-            node: root,
-            mode: X,
-        };
-        assert_eq!(rt; session.lock(rt, txn, root, X), Ok(granted));
-        assert_eq!(rt;
-            session.ask(rt, Command::Commit { txn }).answer,
-            Answer::Done
-        );
+        works_once(rt, &mut session, root);
     }
     session.end()
 }
@@ -192,16 +193,24 @@ impl Watched {
     }
 }
 
+/// Two look on while four work.
+fn look_on<R: Threads + Wait + Abort + Clock + Sync>(
+    rt: &R,
+    alloc: Global,
+    detect: Detect,
+) -> Result<(), Fail> {
+    let mut manager = new_manager(rt, alloc, detect);
+    let root = add_root(rt, &mut manager);
+    // The root, and of each of four sessions the begins, locks and commits.
+    let story = Watched { root, last: 1201 };
+    let closed = enact(rt, alloc, manager, 6, 2, &Story::Watched(story))?;
+    same(rt, closed.book, 1200);
+    same(rt, closed.manager.accepted(), story.last);
+    Ok(())
+}
+
 #[test]
 fn watchers_look_on_while_sessions_work(rt: HostRuntime) -> Result<(), Fail> {
-    for detect in [Detect::AtBlock, Detect::ByWatcher] {
-        let mut manager = new_manager(rt.alloc(), detect)?;
-        let root = add_root(&rt, &mut manager);
-        // The root, and of each of four sessions the begins, locks and commits.
-        let story = Watched { root, last: 1201 };
-        let closed = enact(&rt, rt.alloc(), manager, 6, 2, &Story::Watched(story))?;
-        assert_eq!(rt; closed.book, 1200);
-        assert_eq!(rt; closed.manager.accepted(), story.last);
-    }
-    Ok(())
+    look_on(&rt, rt.alloc(), Detect::AtBlock)?;
+    look_on(&rt, rt.alloc(), Detect::ByWatcher)
 }

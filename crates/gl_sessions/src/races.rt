@@ -1,12 +1,14 @@
 //! Two transactions hold S on one root, and their sessions wait for X on it in threads of their own.
 
-use crate::stage::{add_root, begin_with, enact, new_manager, settles, youngest_suspect};
+use crate::stage::{add_root, begin_with, done, enact, new_manager, settles, youngest_suspect};
 use crate::story::Story;
+use crate::wanted::same;
 use gl_catalog::{Answer, Command, Manager};
 use gl_modes::Mode::{S, X};
 use gl_modes::{NodeId, Refusal};
 use gl_shared::{Grant, Naming, Session, Share, Shared, Stop, Watcher};
 use gl_table::{Detect, TxnId};
+use std::alloc::Global;
 use std::process::Abort;
 use std::rt::Clock;
 use std::sync::Wait;
@@ -45,12 +47,12 @@ fn asks_for_x<N: Naming, R: Wait + Abort>(
 ) -> Share<N> {
     let mut session = Session::new(table, share);
     let came = session.lock(rt, txn, root, X);
-    assert_eq!(rt; came, wanted);
+    same(rt, came, wanted);
     let end = match came {
         Err(Stop::Victim) => Command::Abort { txn },
         _ => Command::Commit { txn },
     };
-    assert_eq!(rt; session.ask(rt, end).answer, Answer::Done);
+    done(rt, &mut session, end);
     session.end()
 }
 
@@ -128,17 +130,21 @@ fn asks_in_vain<N: Naming, R: Wait + Abort>(
     } = story;
     let mut session = Session::new(table, share);
     let came = session.lock(rt, txn, root, X);
-    assert_eq!(rt; came, Err(Stop::Refused(Refusal::NotWaiting)));
+    same(rt, came, Err(Stop::Refused(Refusal::NotWaiting)));
+    assert!(rt; comes_up(settled));
+    done(rt, &mut session, Command::Commit { txn });
+    session.end()
+}
+
+/// Whether a flag was seen, in at most a million turns.
+fn comes_up(flag: &AtomicBool) -> bool {
     for _ in 0..1000000u32 {
-        if settled.load(Ordering::SeqCst) {
-            break;
+        if flag.load(Ordering::SeqCst) {
+            return true;
         }
         yield_now();
     }
-    assert!(rt; settled.load(Ordering::SeqCst));
-    let end = session.ask(rt, Command::Commit { txn });
-    assert_eq!(rt; end.answer, Answer::Done);
-    session.end()
+    false
 }
 
 /// Once a board shows the suspect, cancels one wait and then settles the suspect, which does nothing
@@ -157,17 +163,21 @@ fn settles_late<N: Naming, R: Wait + Abort>(
         ..
     } = story;
     let mut session = Session::new(table, share);
-    assert_eq!(rt; youngest_suspect(watcher), Some(txn));
-    let cancel = session.ask(rt, Command::Cancel { txn: cancelled });
-    assert_eq!(rt; cancel.answer, Answer::Done);
+    same(rt, youngest_suspect(watcher), Some(txn));
+    done(rt, &mut session, Command::Cancel { txn: cancelled });
+    settles_nobody(rt, &mut session, txn);
+    settled.store(true, Ordering::SeqCst);
+    session.end()
+}
+
+/// A settle that tells nobody, and is counted.
+fn settles_nobody<N: Naming, R: Wait + Abort>(rt: &R, session: &mut Session<'_, N>, txn: TxnId) {
     let before = session.note(rt).epoch();
     let settle = session.ask(rt, Command::Settle { txn });
     let after = session.note(rt).epoch();
-    assert_eq!(rt; settle.answer, Answer::Done);
-    assert!(rt; settle.told.is_empty());
-    assert_eq!(rt; before.checked_add(1), Some(after));
-    settled.store(true, Ordering::SeqCst);
-    session.end()
+    same(rt, settle.answer, Answer::Done);
+    same(rt, settle.told.len(), 0);
+    same(rt, before.checked_add(1), Some(after));
 }
 
 /// One asks, and a third session takes its wait back before it settles the suspect.
@@ -227,44 +237,62 @@ fn add_pair<R: Abort>(rt: &R, manager: &mut Manager) -> (NodeId, TxnId, TxnId) {
     (root, older, younger)
 }
 
+/// The upgrades of two, after which so many commands are counted.
+fn race_up<R: Threads + Wait + Abort + Clock + Sync>(
+    rt: &R,
+    alloc: Global,
+    detect: Detect,
+    book: u64,
+) -> Result<(), Fail> {
+    let mut manager = new_manager(rt, alloc, detect);
+    let (root, older, younger) = add_pair(rt, &mut manager);
+    let story = Upgrade {
+        root,
+        older,
+        younger,
+        detect,
+    };
+    let closed = enact(rt, alloc, manager, 3, 1, &Story::Upgrade(story))?;
+    same(rt, closed.book, book);
+    Ok(())
+}
+
 #[test]
 fn the_younger_of_two_upgrades_gives_way(rt: HostRuntime) -> Result<(), Fail> {
     // Two locks, an abort and a commit, and what a watcher settles.
-    for (detect, book) in [(Detect::AtBlock, 4u64), (Detect::ByWatcher, 5)] {
-        for _ in 0..100u32 {
-            let mut manager = new_manager(rt.alloc(), detect)?;
-            let (root, older, younger) = add_pair(&rt, &mut manager);
-            let story = Upgrade {
-                root,
-                older,
-                younger,
-                detect,
-            };
-            let closed = enact(&rt, rt.alloc(), manager, 3, 1, &Story::Upgrade(story))?;
-            assert_eq!(rt; closed.book, book);
-        }
+    for _ in 0..100u32 {
+        race_up(&rt, rt.alloc(), Detect::AtBlock, 4)?;
+        race_up(&rt, rt.alloc(), Detect::ByWatcher, 5)?;
     }
+    Ok(())
+}
+
+/// The wait of the older or of the younger is cancelled.
+fn settle_late<R: Threads + Wait + Abort + Clock + Sync>(
+    rt: &R,
+    alloc: Global,
+    older_is_cancelled: bool,
+) -> Result<(), Fail> {
+    let mut manager = new_manager(rt, alloc, Detect::ByWatcher);
+    let (root, older, younger) = add_pair(rt, &mut manager);
+    let (cancelled, left) = if older_is_cancelled {
+        (older, younger)
+    } else {
+        (younger, older)
+    };
+    let story = SettledLate {
+        root,
+        suspect: younger,
+        cancelled,
+        left,
+    };
+    let closed = enact(rt, alloc, manager, 3, 1, &Story::SettledLate(story))?;
+    same(rt, closed.book, 6);
     Ok(())
 }
 
 #[test]
 fn a_suspect_of_an_old_board_is_settled(rt: HostRuntime) -> Result<(), Fail> {
-    for older_is_cancelled in [true, false] {
-        let mut manager = new_manager(rt.alloc(), Detect::ByWatcher)?;
-        let (root, older, younger) = add_pair(&rt, &mut manager);
-        let (cancelled, left) = if older_is_cancelled {
-            (older, younger)
-        } else {
-            (younger, older)
-        };
-        let story = SettledLate {
-            root,
-            suspect: younger,
-            cancelled,
-            left,
-        };
-        let closed = enact(&rt, rt.alloc(), manager, 3, 1, &Story::SettledLate(story))?;
-        assert_eq!(rt; closed.book, 6);
-    }
-    Ok(())
+    settle_late(&rt, rt.alloc(), true)?;
+    settle_late(&rt, rt.alloc(), false)
 }

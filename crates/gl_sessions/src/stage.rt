@@ -1,10 +1,11 @@
 //! A table over a manager that was prepared, with which sessions play in threads of their own.
 
 ghost use Rattle.std.specs.Prelude.{◌≡◌, ◌<◌};
-ghost use Rattle.gl_table.specs.model.Table.{board_of};
+ghost use Rattle.gl_table.specs.Table.{board_of};
 ghost use Rattle.gl_catalog.specs.Manager.{state_of};
 
 use crate::story::Story;
+use crate::wanted::{allowed, same};
 use gl_catalog::{Answer, Command, Manager};
 use gl_modes::{Mode, NodeId};
 use gl_shared::{Closed, Naming, NotAll, Parts, Session, Share, Shared, Watcher, gather};
@@ -65,51 +66,29 @@ pub fn enact<R: Threads + Wait + Abort + Clock + Sync>(
 }
 
 /// A manager for 128 transactions at once.
-pub fn new_manager(alloc: Global, detect: Detect) -> Result<Manager, Fail> {
-    match Manager::new(alloc, detect, 128) {
-        Ok(manager) => Ok(manager),
-        Err(_) => Err(Fail::from("no memory")),
-    }
-}
-
-/// The node that a command makes.
-pub fn add_node<R: Abort>(rt: &R, manager: &mut Manager, command: Command<'_>) -> NodeId {
-    let mut node = NodeId::NONE;
-    let answer = manager.apply(command).answer;
-    match answer {
-        Answer::Node(made) => node = made,
-        _ => assert!(rt; false, "no node"),
-    }
-    node
+pub fn new_manager<R: Abort>(rt: &R, alloc: Global, detect: Detect) -> Manager {
+    allowed(rt, Manager::new(alloc, detect, 128))
 }
 
 /// A new root.
 pub fn add_root<R: Abort>(rt: &R, manager: &mut Manager) -> NodeId {
-    add_node(rt, manager, Command::Inner { parents: &[] })
-}
-
-/// A new transaction.
-pub fn begin<R: Abort>(rt: &R, manager: &mut Manager) -> TxnId {
-    let mut begun = TxnId::NONE;
-    let answer = manager.apply(Command::Begin).answer;
-    match answer {
-        Answer::Begun(txn) => begun = txn,
-        _ => assert!(rt; false, "no transaction"),
-    }
-    begun
-}
-
-/// Locks a node, at once.
-pub fn locks<R: Abort>(rt: &R, manager: &mut Manager, txn: TxnId, node: NodeId, mode: Mode) {
-    let answer = manager.apply(Command::Lock { txn, node, mode }).answer;
-    assert_eq!(rt; answer, Answer::Granted(mode));
+    allowed(rt, manager.add_inner(&[]))
 }
 
 /// A new transaction that holds a node in this mode.
 pub fn begin_with<R: Abort>(rt: &R, manager: &mut Manager, node: NodeId, mode: Mode) -> TxnId {
-    let txn = begin(rt, manager);
-    locks(rt, manager, txn, node, mode);
+    let txn = allowed(rt, manager.begin());
+    same(rt, manager.try_lock(txn, node, mode), Ok(mode));
     txn
+}
+
+/// Asks a session for what must be done.
+pub fn done<N: Naming, R: Wait + Abort>(
+    rt: &R,
+    session: &mut Session<'_, N>,
+    command: Command<'_>,
+) {
+    same(rt, session.ask(rt, command).answer, Answer::Done);
 }
 
 /// The youngest suspect of a board.
@@ -146,9 +125,9 @@ pub fn settles<N: Naming, R: Wait + Abort>(
 ) -> Share<N> {
     let mut session = Session::new(table, share);
     if detect == Detect::ByWatcher {
-        assert_eq!(rt; youngest_suspect(watcher), Some(wanted));
+        same(rt, youngest_suspect(watcher), Some(wanted));
         let reply = session.ask(rt, Command::Settle { txn: wanted });
-        assert_eq!(rt; reply.answer, Answer::Done);
+        same(rt, reply.answer, Answer::Done);
         assert!(rt; reply.told.as_slice() == [(wanted, Notice::Victim)].as_slice());
     }
     session.end()

@@ -1,6 +1,5 @@
 //! The stories that are told on a stage.
 
-use crate::crowd::Crowd;
 use crate::looks::Watched;
 use crate::races::{SettledLate, Upgrade};
 use crate::ring::Ring;
@@ -19,7 +18,6 @@ pub enum Story {
     SettledLate(SettledLate),
     Watched(Watched),
     Ring(Ring),
-    Crowd(Crowd),
     Waking(Waking),
 }
 
@@ -38,7 +36,6 @@ impl Story {
             Story::SettledLate(story) => story.play(rt, table, shares, watchers),
             Story::Watched(story) => story.play(rt, alloc, table, shares, watchers),
             Story::Ring(story) => story.play(rt, alloc, table, shares, watchers),
-            Story::Crowd(story) => story.play(rt, alloc, table, shares, watchers),
             Story::Waking(story) => story.play(rt, alloc, table, shares),
         }
     }

@@ -1,8 +1,9 @@
 //! Who is woken: whoever sleeps for a transaction whose wait has ended, by whichever command of a list,
 //! however many they are.
 
-use crate::stage::{add_root, begin, begin_with, enact, new_manager};
+use crate::stage::{add_root, begin_with, enact, new_manager};
 use crate::story::Story;
+use crate::wanted::{allowed, same};
 use gl_catalog::{Answer, Command, Manager};
 use gl_modes::Mode::{S, X};
 use gl_modes::{Mode, NodeId};
@@ -72,7 +73,7 @@ fn sleeps<N: Naming, R: Wait + Abort>(
         node: root,
         mode,
     };
-    assert_eq!(rt; came, Ok(granted));
+    same(rt, came, Ok(granted));
     clocks.awake.fetch_add(1, Ordering::SeqCst);
     session.end()
 }
@@ -144,7 +145,7 @@ fn wakes<N: Naming, R: Wait + Abort>(
         End::First => 3,
         End::Stopped => 2,
     };
-    assert_eq!(rt; ends(rt, alloc, &mut session, story), answered);
+    same(rt, ends(rt, alloc, &mut session, story), answered);
     assert!(rt; all_counted(&clocks.awake));
     for txn in story.awaited {
         session.ask(rt, Command::Commit { txn });
@@ -210,9 +211,9 @@ impl Waking {
 
 /// A new transaction that waits for the root.
 fn begin_waiting<R: Abort>(rt: &R, manager: &mut Manager, node: NodeId, mode: Mode) -> TxnId {
-    let txn = begin(rt, manager);
+    let txn = allowed(rt, manager.begin());
     let answer = manager.apply(Command::Lock { txn, node, mode }).answer;
-    assert_eq!(rt; answer, Answer::Waiting);
+    same(rt, answer, Answer::Waiting);
     txn
 }
 
@@ -223,7 +224,7 @@ fn wakes_three<R: Threads + Wait + Abort + Clock + Sync>(
     detect: Detect,
     end: End,
 ) -> Result<(), Fail> {
-    let mut manager = new_manager(alloc, detect)?;
+    let mut manager = new_manager(rt, alloc, detect);
     let root = add_root(rt, &mut manager);
     let story = Waking {
         root,
@@ -246,7 +247,7 @@ fn wakes_three_for_one<R: Threads + Wait + Abort + Clock + Sync>(
     alloc: Global,
     detect: Detect,
 ) -> Result<(), Fail> {
-    let mut manager = new_manager(alloc, detect)?;
+    let mut manager = new_manager(rt, alloc, detect);
     let root = add_root(rt, &mut manager);
     let holder = begin_with(rt, &mut manager, root, X);
     let story = Waking {

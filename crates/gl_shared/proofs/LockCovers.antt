@@ -15,21 +15,21 @@ use Rattle.gl_modes.specs.Modes.{is_at_least}
 use Rattle.gl_modes.specs.Nodes.{same_node}
 use Rattle.gl_header.specs.Header.{Waiter, is_among_waiters, without_waiter}
 use Rattle.gl_waits.specs.Waits.{IsOnCycleOf}
-use Rattle.gl_table.specs.declared.answers.Detect.{Detect}
-use Rattle.gl_table.specs.declared.answers.Detect.TheVariants.{AtBlock, ByWatcher}
-use Rattle.gl_table.specs.declared.txn.Status.{Status}
-use Rattle.gl_table.specs.declared.txn.Status.TheVariants.{Active, Waiting, Condemned}
-use Rattle.gl_table.specs.declared.txn.TxnId.{TxnId}
-use Rattle.gl_table.specs.model.Calls.{WaitSettles, enqueued, enters_at, granted, wanted}
-use Rattle.gl_table.specs.model.Lawful.{IsLawful}
-use Rattle.gl_table.specs.model.State.{awake, condemned, granted_at, is_waiting_at, without_wait, woken, State, Txn, members, restatus, status_in, status_of, SettledWithin, is_wait, waits_for}
-use Rattle.gl_table.specs.model.Tellings.{Told}
-use Rattle.gl_table.proofs.law.Keeps.{less-lawful, one_of, woken_sleeps, IsLawfulBut}
-use Rattle.gl_table.proofs.law.Lock.{may_lock, waiting-lawful}
-use Rattle.gl_table.proofs.law.Takes.{condemned-lawful, restatus_is, without_wait-less}
-use Rattle.gl_table.proofs.telling.Ways.{woken_up}
+use Rattle.gl_model.specs.declared.answers.Detect.{Detect}
+use Rattle.gl_model.specs.declared.answers.Detect.TheVariants.{AtBlock, ByWatcher}
+use Rattle.gl_model.specs.declared.txn.Status.{Status}
+use Rattle.gl_model.specs.declared.txn.Status.TheVariants.{Active, Waiting, Condemned}
+use Rattle.gl_model.specs.declared.txn.TxnId.{TxnId}
+use Rattle.gl_model.specs.Calls.{WaitSettles, enqueued, enters_at, granted, wanted}
+use Rattle.gl_model.specs.Lawful.{IsLawful}
+use Rattle.gl_model.specs.State.{awake, condemned, granted_at, is_waiting_at, without_wait, woken, State, Txn, members, restatus, status_in, status_of, SettledWithin, is_wait, waits_for}
+use Rattle.gl_model.specs.Tellings.{Told}
+use Rattle.gl_model.proofs.law.Keeps.{less-lawful, one_of, woken_sleeps, IsLawfulBut}
+use Rattle.gl_model.proofs.law.Lock.{may_lock, waiting-lawful}
+use Rattle.gl_model.proofs.law.Takes.{condemned-lawful, restatus_is, without_wait-less}
+use Rattle.gl_model.proofs.telling.Ways.{woken_up}
 use Rattle.gl_table.proofs.inside.Boards.{cycle_waits}
-use Rattle.gl_table.proofs.queues.Waiters.{granted_mode, last_mode}
+use Rattle.gl_model.proofs.queues.Waiters.{granted_mode, last_mode}
 use Rattle.gl_catalog.specs.declared.command.Answer.{Answer}
 use Rattle.gl_catalog.specs.declared.command.Answer.TheVariants as answer
 use Rattle.gl_catalog.specs.declared.command.Command.TheVariants as command

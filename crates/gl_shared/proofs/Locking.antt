@@ -7,7 +7,7 @@ use Rattle.gl_boxes.specs.declared.grant.Grant.{Grant}
 use Rattle.gl_boxes.specs.declared.grant.Stop.{Stop}
 use Rattle.gl_modes.specs.declared.mode.Mode.{Mode}
 use Rattle.gl_modes.specs.declared.node.NodeId.{NodeId}
-use Rattle.gl_table.specs.declared.txn.TxnId.{TxnId}
+use Rattle.gl_model.specs.declared.txn.TxnId.{TxnId}
 use Rattle.gl_boxes.specs.Served.{is_refused}
 use Rattle.gl_shared.specs.Sessions.{Gives, IsVerdict}
 use Rattle.gl_boxes.specs.Boxes.{is_refusal}

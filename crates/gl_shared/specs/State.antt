@@ -1,7 +1,7 @@
 -- What stands behind the latch.
 use Rattle.std.specs.Prelude.{◌≡◌, ℕ, Bool, false, List, [], ◌∷◌, ◌++◌}
 use Rattle.gl_waits.specs.declared.board.Board.{Board}
-use Rattle.gl_table.specs.model.State.{State}
+use Rattle.gl_model.specs.State.{State}
 use Rattle.gl_catalog.specs.Manager.{ManagerView}
 use Rattle.gl_catalog.specs.Promises.{NobodyWaits}
 use Rattle.gl_boxes.specs.Boards.{ShowsNobody, EndsIdle}

@@ -12,7 +12,7 @@ use Rattle.gl_shared.specs.declared.shown.Next.{Next}
 use Rattle.gl_boxes.specs.Rules.{head_of}
 use Rattle.gl_boxes.specs.Boards.{IsLawful}
 use Rattle.gl_waits.specs.declared.board.Board.{Board}
-use Rattle.gl_table.specs.declared.answers.Detect.{Detect}
+use Rattle.gl_model.specs.declared.answers.Detect.{Detect}
 use Rattle.logbook.specs.Pages.{Book}
 
 -- the book and the way of detection of a list

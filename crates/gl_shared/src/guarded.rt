@@ -3,9 +3,9 @@
 ghost use Rattle.std.specs.Prelude.{◌≡◌, ◌+◌, ◌++◌, ◌∷◌, ◌≤◌, ◌<◌, ◌⊎◌, ◌||◌, [], true, false, None, Some, Ok, List, replicate, IfSome, is_some};
 ghost use Rattle.gl_modes.specs.declared.mode.Mode.{Mode as AMode};
 ghost use Rattle.gl_modes.specs.Modes.{is_at_least};
-ghost use Rattle.gl_table.specs.model.Table.{board_of};
-ghost use Rattle.gl_table.specs.declared.answers.Detect.TheVariants.{AtBlock};
-ghost use Rattle.gl_table.specs.model.State.{is_waiting_at, lives, HasNoCycle};
+ghost use Rattle.gl_table.specs.Table.{board_of};
+ghost use Rattle.gl_model.specs.declared.answers.Detect.TheVariants.{AtBlock};
+ghost use Rattle.gl_model.specs.State.{is_waiting_at, lives, HasNoCycle};
 ghost use Rattle.gl_catalog.specs.declared.command.Answer.TheVariants.{Granted};
 ghost use Rattle.gl_catalog.specs.declared.command.Command.TheVariants.{Lock};
 ghost use Rattle.gl_catalog.specs.Manager.{IsLawfulManager, state_of};

@@ -6,7 +6,7 @@ use std::sync::ledger::Ledger;
 /// its board at making and the book of its boards.
 pub trait Naming: Ledger {
     ghost use Rattle.std.specs.Prelude.{ℕ};
-    ghost use Rattle.gl_table.specs.declared.answers.Detect.{Detect};
+    ghost use Rattle.gl_model.specs.declared.answers.Detect.{Detect};
     ghost use Rattle.logbook.specs.Pages.{Book};
     ghost use Rattle.gl_waits.specs.declared.board.Board.{Board};
 
@@ -23,7 +23,7 @@ pub trait Naming: Ledger {
 
 impl Naming for Brand {
     ghost use Rattle.std.specs.Prelude.{[]};
-    ghost use Rattle.gl_table.specs.declared.answers.Detect.TheVariants.{ByWatcher};
+    ghost use Rattle.gl_model.specs.declared.answers.Detect.TheVariants.{ByWatcher};
 
     ghost opening = { 0 };
 

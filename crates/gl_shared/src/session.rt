@@ -2,7 +2,7 @@
 
 ghost use Rattle.std.specs.Prelude.{◌≡◌, ◌+◌, ◌≤◌, ◌<◌, ◌⊎◌, [], true, false, IfSome, IfOk, MatchResult, MatchBool};
 ghost use Rattle.gl_modes.specs.Modes.{is_at_least};
-ghost use Rattle.gl_table.specs.model.Tellings.{Told as Notices};
+ghost use Rattle.gl_model.specs.Tellings.{Told as Notices};
 ghost use Rattle.gl_catalog.specs.declared.command.Answer.{Answer as AnAnswer};
 ghost use Rattle.gl_catalog.specs.declared.command.Command.TheVariants.{Lock};
 ghost use Rattle.gl_catalog.specs.Manager.{IsLawfulManager};

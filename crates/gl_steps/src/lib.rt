@@ -12,3 +12,5 @@ mod table;
 mod tellings;
 #[cfg(test)]
 mod waits;
+#[cfg(test)]
+mod wanted;

@@ -1,10 +1,11 @@
 //! A shared table and a manager beside it, to which the same commands are put.
 
 ghost use Rattle.std.specs.Prelude.{◌≡◌};
-ghost use Rattle.gl_table.specs.model.Table.{board_of};
+ghost use Rattle.gl_table.specs.Table.{board_of};
 ghost use Rattle.gl_catalog.specs.Manager.{state_of};
 
 use crate::steps::{Alone, Made, Step, Through, take};
+use crate::wanted::same;
 use gl_catalog::{Answer, Manager};
 use gl_shared::{Naming, NotAll, Parts, Session, Share, Shared, gather};
 use gl_table::Detect;
@@ -29,27 +30,27 @@ fn play<N: Naming, R: Wait + Abort>(
     for (place, step) in steps.iter().enumerate() {
         let alone = take(&mut Alone(manager), &made, *step);
         let reply = take(&mut through, &made, *step);
-        assert_eq!(rt; reply.answer, alone.answer, "step {place}");
-        assert!(rt;
-            reply.told.as_slice() == alone.told.as_slice(),
-            "step {place}"
-        );
-        assert_eq!(rt;
-            through.session.served_at(),
-            manager.accepted(),
-            "step {place}"
-        );
-        assert_eq!(rt;
-            through.session.counters(rt),
-            manager.counters(),
-            "step {place}"
-        );
-        assert_eq!(rt; table.counters(rt), manager.counters(), "step {place}");
+        same(rt, (place, reply.answer), (place, alone.answer));
+        same(rt, reply.told.as_slice(), alone.told.as_slice());
+        counts_alike(rt, table, &through.session, manager);
         made.keep(reply.answer);
         keep_intervals(&mut made, manager, reply.answer);
     }
     let Through { rt: _, session } = through;
     session.end()
+}
+
+/// The session and the table have counted what the manager has.
+fn counts_alike<N: Naming, R: Wait + Abort>(
+    rt: &R,
+    table: &Shared<N>,
+    session: &Session<'_, N>,
+    manager: &Manager,
+) {
+    let counters = manager.counters();
+    same(rt, session.served_at(), manager.accepted());
+    same(rt, session.counters(rt), counters);
+    same(rt, table.counters(rt), counters);
 }
 
 /// Keeps the first two intervals behind an index.
@@ -87,7 +88,7 @@ fn play_under_name<N: Naming, R: Wait + Abort>(
     }
     match gather(rt, shared, shares) {
         Ok(closed) => {
-            assert_eq!(rt; closed.book, manager.accepted());
+            same(rt, closed.book, manager.accepted());
             assert!(rt; closed.manager.board() == manager.board());
         }
         Err(NotAll { shared, shares: _ }) => {

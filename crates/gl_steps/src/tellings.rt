@@ -2,10 +2,11 @@
 //! was told last.
 
 ghost use Rattle.std.specs.Prelude.{◌≡◌};
-ghost use Rattle.gl_table.specs.model.Table.{board_of};
+ghost use Rattle.gl_table.specs.Table.{board_of};
 ghost use Rattle.gl_catalog.specs.Manager.{state_of};
 
 use crate::steps::{Made, Step, Through, take};
+use crate::wanted::same;
 use gl_catalog::Manager;
 use gl_modes::Mode::X;
 use gl_shared::{Naming, NotAll, Parts, Session, Share, Shared, Telling, Watcher, gather};
@@ -47,11 +48,11 @@ fn look_behind_each<N: Naming, R: Wait + Abort>(
         made.keep(take(&mut through, &made, *step).answer);
         let board = watcher.look();
         let seen = board.map(|board| (board.epoch, board.rows[1] != 0));
-        assert_eq!(rt; seen, Some((*epoch, *waits)), "step {place}");
+        same(rt, (place, seen), (place, Some((*epoch, *waits))));
     }
     let Through { rt: _, mut session } = through;
     let note = session.note(rt);
-    assert_eq!(rt; note.epoch(), 9);
+    same(rt, note.epoch(), 9);
     watcher.learn(note);
     session.end()
 }

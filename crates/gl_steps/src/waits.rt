@@ -2,12 +2,13 @@
 //! told to it, whoever ended it and however.
 
 ghost use Rattle.std.specs.Prelude.{◌≡◌};
-ghost use Rattle.gl_table.specs.model.Table.{board_of};
+ghost use Rattle.gl_table.specs.Table.{board_of};
 ghost use Rattle.gl_catalog.specs.Manager.{state_of};
 
 use crate::rows::PRELUDE;
 use crate::steps::{Alone, Answers, Made, Step, Through, take};
 use crate::table::keep_intervals;
+use crate::wanted::same;
 use gl_catalog::{Answer, Command, Manager};
 use gl_modes::Mode::{IS, IX, S, X};
 use gl_modes::{Mode, NodeId, Refusal};
@@ -85,11 +86,11 @@ fn sleeps<N: Naming, R: Wait + Abort>(
     let mut session = Session::new(table, share);
     let came = session.lock(rt, txn, node, mode);
     match wanted {
-        Some(stop) => assert_eq!(rt; came, Err(stop)),
+        Some(stop) => same(rt, came, Err(stop)),
         None => {
-            assert_eq!(rt; came, Ok(Grant { txn, node, mode }));
+            same(rt, came, Ok(Grant { txn, node, mode }));
             let held = session.ask(rt, Command::Held { txn, node }).answer;
-            assert_eq!(rt; held, Answer::Mode(mode));
+            same(rt, held, Answer::Mode(mode));
         }
     }
     session.end()
@@ -114,11 +115,8 @@ fn take_each<R: Abort>(
 ) {
     for (place, step) in steps.iter().enumerate() {
         let answer = take(to, made, *step).answer;
-        assert_eq!(rt;
-            matches!(answer, Answer::Refused(_)),
-            is_refused,
-            "step {place}"
-        );
+        let came = matches!(answer, Answer::Refused(_));
+        same(rt, (place, came), (place, is_refused));
         made.keep(answer);
     }
 }

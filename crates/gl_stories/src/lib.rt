@@ -1,21 +1,15 @@
 //! Stories of a few transactions over one table, told through its public calls, with every answer that
-//! is wanted; and of what a manager counts.
+//! is wanted.
 #![tactic(auto)]
 
 #[cfg(test)]
-mod calls;
+mod answering;
 #[cfg(test)]
-mod counters;
+mod calls;
 #[cfg(test)]
 mod deadlocks;
 #[cfg(test)]
 mod limits;
-#[cfg(test)]
-mod paths;
-#[cfg(test)]
-mod registry;
-#[cfg(test)]
-mod rows;
 #[cfg(test)]
 mod story;
 #[cfg(test)]

@@ -64,19 +64,22 @@ pub fn allowed<T: Drop>(rt: &impl Abort, answer: Result<T, Refusal>) -> T {
     answer.expect(rt, "a call is refused")
 }
 
-const NOBODY: Heard = Heard {
+/// Nobody is told.
+pub const NOBODY: Heard = Heard {
     count: 0,
     first: None,
 };
 
-fn alone(txn: TxnId, notice: Notice) -> Heard {
+/// One transaction is told.
+pub fn alone(txn: TxnId, notice: Notice) -> Heard {
     Heard {
         count: 1,
         first: Some((txn, notice)),
     }
 }
 
-fn hear(told: &Told) -> Heard {
+/// Who is told in a list.
+pub fn hear(told: &Told) -> Heard {
     Heard {
         count: told.len(),
         first: told.as_slice().first().copied(),
@@ -93,7 +96,7 @@ fn freed(answer: Result<Told, Refusal>) -> Released {
 /// A table, asked by the calls of its own names.
 #[derive(Drop)]
 pub struct Story {
-    table: Table,
+    pub table: Table,
 }
 
 impl Story {

@@ -3,7 +3,7 @@ use Rattle.std.specs.Prelude.{◌≡◌, ◌⊎◌, ℕ, List, [], ◌∷◌, �
 use Rattle.std.specs.Io.KnownBytes.{Consumes, Appends, IsAtEnd}
 use Rattle.gl_script.specs.Grammar.{Text}
 use Rattle.gl_waits.specs.declared.victims.Victims.{Victims}
-use Rattle.gl_table.specs.declared.answers.Detect.{Detect}
+use Rattle.gl_model.specs.declared.answers.Detect.{Detect}
 use Rattle.gl_words.specs.declared.requests.Asked.TheVariants as asked
 use Rattle.gl_words.specs.declared.requests.Choices.{Choices}
 use Rattle.gl_words.specs.Planned.{AsksFor}

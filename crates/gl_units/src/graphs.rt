@@ -1,5 +1,6 @@
 //! Values from outside, and limits.
 
+use crate::wanted::same;
 use gl_graph::laws::root_path_laws;
 use gl_graph::{Graph, Kind};
 use gl_modes::{NodeId, Refusal};
@@ -57,11 +58,8 @@ fn move_under(graph: &mut Graph, n: NodeId, parent: NodeId) -> Result<(), Refusa
 fn a_key_lies_below_a_bound_or_from_it_on(rt: HostRuntime) -> Result<(), Fail> {
     let (graph, _, _, index) = small(rt.alloc(), &[100])?;
     for (key, place) in [(0, 0), (99, 0), (100, 1), (u64::MAX, 1)] {
-        assert_eq!(rt;
-            interval_with(&graph, index, key),
-            graph.interval(index, place),
-            "{key}"
-        );
+        let interval = interval_with(&graph, index, key);
+        same(&rt, (key, interval), (key, graph.interval(index, place)));
     }
     Ok(())
 }
@@ -78,11 +76,8 @@ fn one_bound_makes_two_intervals(rt: HostRuntime) -> Result<(), Fail> {
 fn without_bounds_all_keys_lie_together(rt: HostRuntime) -> Result<(), Fail> {
     let (graph, _, _, index) = small(rt.alloc(), &[])?;
     for key in [0, 99, 100, u64::MAX] {
-        assert_eq!(rt;
-            interval_with(&graph, index, key),
-            graph.interval(index, 0),
-            "{key}"
-        );
+        let interval = interval_with(&graph, index, key);
+        same(&rt, (key, interval), (key, graph.interval(index, 0)));
     }
     Ok(())
 }
@@ -94,19 +89,40 @@ fn an_index_has_at_most_256_bounds(rt: HostRuntime) -> Result<(), Fail> {
     graph.add_index(&[db], file, &bounds)?;
     bounds.push(257)?;
     assert!(rt; is_refused(graph.add_index(&[db], file, &bounds), Refusal::BadKeys)?);
-    assert_eq!(rt; graph.most_bounds(), 256);
+    same(&rt, graph.most_bounds(), 256);
+    Ok(())
+}
+
+/// A graph for 70,000 nodes, and a root and a file in it.
+fn roomy(alloc: Global) -> Result<(Graph, NodeId, NodeId), Refusal> {
+    let mut graph = Graph::with_most(alloc, 70_000);
+    let db = graph.add_inner(&[])?;
+    let file = graph.add_file(&[db])?;
+    Ok((graph, db, file))
+}
+
+/// The same with an index of so many bounds.
+fn wide(alloc: Global, last: u64) -> Result<(Graph, NodeId, NodeId), Refusal> {
+    let (mut graph, db, file) = roomy(alloc)?;
+    let Ok(bounds) = bounds_up_to(alloc, last) else {
+        return Err(Refusal::NoMemory);
+    };
+    let index = graph.add_index(&[db], file, &bounds)?;
+    Ok((graph, file, index))
+}
+
+#[test]
+fn an_index_has_no_more_bounds_than_nodes_may_live(rt: HostRuntime) -> Result<(), Fail> {
+    let answer = wide(rt.alloc(), 69_997);
+    assert!(rt; matches!(answer, Err(Refusal::TooManyNodes)));
+    let (graph, _, _) = roomy(rt.alloc())?;
+    same(&rt, graph.most_bounds(), 70_000);
     Ok(())
 }
 
 #[test]
 fn a_chosen_limit_of_nodes_is_the_limit_of_bounds(rt: HostRuntime) -> Result<(), Fail> {
-    let mut graph = Graph::with_most(rt.alloc(), 70_000);
-    let db = graph.add_inner(&[])?;
-    let file = graph.add_file(&[db])?;
-    let mut bounds = bounds_up_to(rt.alloc(), 69_997)?;
-    assert!(rt; is_refused(graph.add_index(&[db], file, &bounds), Refusal::TooManyNodes)?);
-    bounds.truncate(60_000);
-    let index = graph.add_index(&[db], file, &bounds)?;
+    let (mut graph, file, index) = wide(rt.alloc(), 60_000)?;
     for (key, place) in [
         (0, 0),
         (1, 1),
@@ -115,15 +131,12 @@ fn a_chosen_limit_of_nodes_is_the_limit_of_bounds(rt: HostRuntime) -> Result<(),
         (u64::MAX, 60_000),
     ] {
         let interval = interval_with(&graph, index, key);
-        assert!(rt; interval.is_some(), "{key}");
-        assert_eq!(rt; interval, graph.interval(index, place), "{key}");
+        assert!(rt; interval.is_some());
+        same(&rt, (key, interval), (key, graph.interval(index, place)));
     }
     let rec = graph.add_record(file, &[30_000])?;
-    assert_eq!(rt;
-        graph.parents(rec).get(1).copied(),
-        graph.interval(index, 30_000)
-    );
-    assert_eq!(rt; graph.most_bounds(), 70_000);
+    let parent = graph.parents(rec).get(1).copied();
+    same(&rt, parent, graph.interval(index, 30_000));
     Ok(())
 }
 
@@ -147,7 +160,7 @@ fn a_node_has_at_most_eight_parents(rt: HostRuntime) -> Result<(), Fail> {
     assert!(rt; is_refused(graph.add_inner(&nine), Refusal::BadParents)?);
     nine.truncate(8);
     let child = graph.add_inner(&nine)?;
-    assert_eq!(rt; graph.parents(child).len(), 8);
+    same(&rt, graph.parents(child).len(), 8);
     Ok(())
 }
 
@@ -156,7 +169,7 @@ fn a_file_with_records_gets_no_index(rt: HostRuntime) -> Result<(), Fail> {
     let mut graph = Graph::new(rt.alloc());
     let db = graph.add_inner(&[])?;
     let file = graph.add_file(&[db])?;
-    assert_eq!(rt; graph.parents(file).len(), 1);
+    same(&rt, graph.parents(file).len(), 1);
     graph.add_record(file, &[])?;
     assert!(rt; is_refused(graph.add_index(&[db], file, &[]), Refusal::FileInUse)?);
     Ok(())
@@ -169,7 +182,7 @@ fn no_node_past_the_limit(rt: HostRuntime) -> Result<(), Fail> {
         graph.add_inner(&[])?;
     }
     assert!(rt; is_refused(graph.add_inner(&[]), Refusal::TooManyNodes)?);
-    assert_eq!(rt; graph.len(), 65_536);
+    same(&rt, graph.len(), 65_536);
     assert!(rt; !graph.worn());
     Ok(())
 }
@@ -184,7 +197,7 @@ fn a_chosen_limit_is_met_and_passed_by_none(rt: HostRuntime) -> Result<(), Fail>
     remove(&mut graph, rec);
     graph.add_record(file, &[])?;
     assert!(rt; is_refused(graph.add_inner(&[]), Refusal::TooManyNodes)?);
-    assert_eq!(rt; graph.most(), 3);
+    same(&rt, graph.most(), 3);
     Ok(())
 }
 
@@ -195,7 +208,7 @@ fn a_limit_above_the_usual_one(rt: HostRuntime) -> Result<(), Fail> {
         graph.add_inner(&[])?;
     }
     assert!(rt; is_refused(graph.add_inner(&[]), Refusal::TooManyNodes)?);
-    assert_eq!(rt; graph.len(), 70_000);
+    same(&rt, graph.len(), 70_000);
     Ok(())
 }
 
@@ -204,9 +217,9 @@ fn the_next_key_is_that_of_the_next_node(rt: HostRuntime) -> Result<(), Fail> {
     let (mut graph, _, file, _) = small(rt.alloc(), &[])?;
     let key = graph.next_key();
     let rec = graph.add_record(file, &[7])?;
-    assert_eq!(rt; rec.key, key);
+    same(&rt, rec.key, key);
     remove(&mut graph, rec);
-    assert_eq!(rt; graph.next_key(), key);
+    same(&rt, graph.next_key(), key);
     Ok(())
 }
 
@@ -220,8 +233,8 @@ fn many_records_come_and_go(rt: HostRuntime) -> Result<(), Fail> {
     for rec in &records {
         remove(&mut graph, *rec);
     }
-    assert_eq!(rt; records.len(), 65_532);
-    assert_eq!(rt; graph.len(), 4);
+    same(&rt, records.len(), 65_532);
+    same(&rt, graph.len(), 4);
     Ok(())
 }
 
@@ -229,17 +242,17 @@ fn many_records_come_and_go(rt: HostRuntime) -> Result<(), Fail> {
 fn a_stale_name_names_nothing(rt: HostRuntime) -> Result<(), Fail> {
     let (mut graph, _, file, _) = small(rt.alloc(), &[100])?;
     let old = graph.add_record(file, &[50])?;
-    assert_eq!(rt; graph.keys(old), [50].as_slice());
+    same(&rt, graph.keys(old), [50].as_slice());
     remove(&mut graph, old);
     let new = graph.add_record(file, &[200])?;
     graph.law();
     if let Some(Kind::File) = graph.kind(file) {
         assert!(rt; graph.has_records(file));
-        assert_eq!(rt; graph.indexes(file).len(), 1);
+        same(&rt, graph.indexes(file).len(), 1);
     }
-    assert_eq!(rt; new.key, old.key);
-    assert_eq!(rt; graph.kind(old), None);
-    assert_eq!(rt; graph.kind(new), Some(Kind::Rec));
+    same(&rt, new.key, old.key);
+    same(&rt, graph.kind(old), None);
+    same(&rt, graph.kind(new), Some(Kind::Rec));
     Ok(())
 }
 
@@ -251,10 +264,10 @@ fn no_path_closes(rt: HostRuntime) -> Result<(), Fail> {
     let y = graph.add_inner(&[x])?;
     match move_under(&mut graph, db, y) {
         Err(Refusal::NoMemory) => return Ok(()),
-        answer => assert_eq!(rt; answer, Err(Refusal::Cycle { node: y })),
+        answer => same(&rt, answer, Err(Refusal::Cycle { node: y })),
     }
     move_under(&mut graph, y, db)?;
-    assert_eq!(rt; graph.parents(y), [db].as_slice());
+    same(&rt, graph.parents(y), [db].as_slice());
     root_path_laws();
     Ok(())
 }

@@ -4,6 +4,7 @@ ghost use Rattle.std.specs.Prelude.{◌≡◌, ◌≢◌, ◌<◌, false, true};
 ghost use Rattle.gl_modes.specs.declared.mode.Mode.TheVariants.{NL};
 ghost use Rattle.gl_header.specs.Header.{is_among_waiters};
 
+use crate::wanted::same;
 use arrayvec::ArrayVec;
 use gl_header::{Asked, GrantList, Header, Try};
 use gl_modes::{Mode, Refusal};
@@ -26,6 +27,11 @@ fn ask(header: &mut Header, slot: u8, mode: Mode) -> Result<Option<Asked>, Refus
         return Ok(None);
     }
     Ok(Some(header.ask(slot, mode)?))
+}
+
+/// An ask that comes to this.
+fn asks(rt: &impl Abort, header: &mut Header, slot: u8, mode: Mode, wanted: Asked) {
+    same(rt, ask(header, slot, mode), Ok(Some(wanted)));
 }
 
 /// Tries where the call's conditions hold.
@@ -70,128 +76,103 @@ fn dismiss_behind(header: &mut Header, slot: u8, other: u8) -> bool {
 }
 
 #[test]
-fn a_conversion_goes_first(rt: HostRuntime) -> Result<(), Refusal> {
+fn a_conversion_goes_first(rt: HostRuntime) {
     let mut header = Header::new(rt.alloc());
-    assert_eq!(rt;
-        ask(&mut header, 0, Mode::S)?,
-        Some(Asked::Granted(Mode::S))
-    );
-    assert_eq!(rt;
-        ask(&mut header, 1, Mode::S)?,
-        Some(Asked::Granted(Mode::S))
-    );
-    assert_eq!(rt; ask(&mut header, 2, Mode::X)?, Some(Asked::Waiting));
-    assert_eq!(rt; ask(&mut header, 0, Mode::X)?, Some(Asked::Waiting));
+    asks(&rt, &mut header, 0, Mode::S, Asked::Granted(Mode::S));
+    asks(&rt, &mut header, 1, Mode::S, Asked::Granted(Mode::S));
+    asks(&rt, &mut header, 2, Mode::X, Asked::Waiting);
+    asks(&rt, &mut header, 0, Mode::X, Asked::Waiting);
     let granted = drop_grant(&mut header, 1).expect(&rt, "slot 1 holds S");
-    assert_eq!(rt; granted.as_slice(), [(0, Mode::X)].as_slice());
-    assert_eq!(rt; header.group(), Mode::X);
+    same(&rt, granted.as_slice(), [(0, Mode::X)].as_slice());
+    same(&rt, header.group(), Mode::X);
     let granted = drop_grant(&mut header, 0).expect(&rt, "slot 0 holds X");
-    assert_eq!(rt; granted.as_slice(), [(2, Mode::X)].as_slice());
-    Ok(())
+    same(&rt, granted.as_slice(), [(2, Mode::X)].as_slice());
 }
 
 #[test]
-fn a_conversion_passes_the_queue(rt: HostRuntime) -> Result<(), Refusal> {
+fn a_conversion_passes_the_queue(rt: HostRuntime) {
     let mut header = Header::new(rt.alloc());
-    assert_eq!(rt;
-        ask(&mut header, 0, Mode::IS)?,
-        Some(Asked::Granted(Mode::IS))
-    );
-    assert_eq!(rt; ask(&mut header, 1, Mode::X)?, Some(Asked::Waiting));
-    assert_eq!(rt;
-        ask(&mut header, 0, Mode::S)?,
-        Some(Asked::Granted(Mode::S))
-    );
-    Ok(())
+    asks(&rt, &mut header, 0, Mode::IS, Asked::Granted(Mode::IS));
+    asks(&rt, &mut header, 1, Mode::X, Asked::Waiting);
+    asks(&rt, &mut header, 0, Mode::S, Asked::Granted(Mode::S));
 }
 
 /// The slots from 1 on ask for S one after the other, and wait.
-fn readers_wait(rt: &impl Abort, header: &mut Header, last: u8) -> Result<(), Refusal> {
+fn readers_wait(rt: &impl Abort, header: &mut Header, last: u8) {
     for slot in 1..=last {
-        assert_eq!(rt; ask(header, slot, Mode::S)?, Some(Asked::Waiting));
+        asks(rt, header, slot, Mode::S, Asked::Waiting);
     }
-    Ok(())
 }
 
 /// The slots from 1 on were granted S, in this order, and nobody else.
 fn readers_are_granted(rt: &impl Abort, granted: &GrantList, last: u8) {
-    assert_eq!(rt; granted.len(), usize::from(last));
+    same(rt, granted.len(), usize::from(last));
     for (slot, grant) in (1..=last).zip(granted.as_slice()) {
-        assert_eq!(rt; *grant, (slot, Mode::S));
+        same(rt, *grant, (slot, Mode::S));
     }
 }
 
 /// A writer holds the node, and releases it when so many readers wait.
-fn let_readers_in(rt: &impl Abort, alloc: Global, last: u8) -> Result<(), Refusal> {
+fn let_readers_in(rt: &impl Abort, alloc: Global, last: u8) {
     let mut header = Header::new(alloc);
-    assert_eq!(rt;
-        ask(&mut header, 0, Mode::X)?,
-        Some(Asked::Granted(Mode::X))
-    );
-    readers_wait(rt, &mut header, last)?;
+    asks(rt, &mut header, 0, Mode::X, Asked::Granted(Mode::X));
+    readers_wait(rt, &mut header, last);
     let granted = drop_grant(&mut header, 0).expect(rt, "slot 0 holds X");
     readers_are_granted(rt, &granted, last);
-    assert_eq!(rt; header.group(), Mode::S);
-    Ok(())
+    same(rt, header.group(), Mode::S);
 }
 
 #[test]
-fn one_release_lets_63_readers_in(rt: HostRuntime) -> Result<(), Refusal> {
+fn one_release_lets_63_readers_in(rt: HostRuntime) {
     let_readers_in(&rt, rt.alloc(), 63)
 }
 
 #[test]
-fn one_release_lets_all_127_readers_in(rt: HostRuntime) -> Result<(), Refusal> {
+fn one_release_lets_all_127_readers_in(rt: HostRuntime) {
     let_readers_in(&rt, rt.alloc(), 127)
 }
 
 #[test]
-fn the_group_falls(rt: HostRuntime) -> Result<(), Refusal> {
+fn the_group_falls(rt: HostRuntime) {
     let mut header = Header::new(rt.alloc());
-    assert_eq!(rt;
-        ask(&mut header, 0, Mode::IX)?,
-        Some(Asked::Granted(Mode::IX))
+    asks(&rt, &mut header, 0, Mode::IX, Asked::Granted(Mode::IX));
+    asks(&rt, &mut header, 0, Mode::S, Asked::Granted(Mode::SIX));
+    same(
+        &rt,
+        try_ask(&mut header, 1, Mode::IX),
+        Some(Try::WouldBlock),
     );
-    assert_eq!(rt;
-        ask(&mut header, 0, Mode::S)?,
-        Some(Asked::Granted(Mode::SIX))
-    );
-    assert_eq!(rt; try_ask(&mut header, 1, Mode::IX), Some(Try::WouldBlock));
-    assert_eq!(rt;
+    same(
+        &rt,
         try_ask(&mut header, 1, Mode::IS),
-        Some(Try::Granted(Mode::IS))
+        Some(Try::Granted(Mode::IS)),
     );
     let granted = drop_grant(&mut header, 0).expect(&rt, "slot 0 holds SIX");
     assert!(rt; granted.is_empty());
-    assert_eq!(rt; header.group(), Mode::IS);
-    Ok(())
+    same(&rt, header.group(), Mode::IS);
 }
 
 #[test]
-fn waits_are_taken_out(rt: HostRuntime) -> Result<(), Refusal> {
+fn waits_are_taken_out(rt: HostRuntime) {
     let mut header = Header::new(rt.alloc());
     assert!(rt; header.is_empty());
-    assert_eq!(rt;
-        ask(&mut header, 0, Mode::S)?,
-        Some(Asked::Granted(Mode::S))
-    );
+    asks(&rt, &mut header, 0, Mode::S, Asked::Granted(Mode::S));
     for (slot, mode) in [(1, Mode::X), (2, Mode::IX), (3, Mode::IS)] {
         assert!(rt; !header.would_grant(slot, mode));
-        assert_eq!(rt; ask(&mut header, slot, mode)?, Some(Asked::Waiting));
+        asks(&rt, &mut header, slot, mode, Asked::Waiting);
     }
     assert!(rt; header.ahead(3, 1) && header.ahead(3, 2) && !header.ahead(2, 3));
-    assert_eq!(rt; header.wanted_by(2), Some(Mode::IX));
-    assert_eq!(rt; header.mode_of(2), Mode::NL);
+    same(&rt, header.wanted_by(2), Some(Mode::IX));
+    same(&rt, header.mode_of(2), Mode::NL);
     assert!(rt; dismiss_behind(&mut header, 2, 1));
-    assert_eq!(rt; header.wanted_by(2), None);
+    same(&rt, header.wanted_by(2), None);
     let granted = drop_wait(&mut header, 1).expect(&rt, "slot 1 waits");
-    assert_eq!(rt; granted.as_slice(), [(3, Mode::IS)].as_slice());
+    same(&rt, granted.as_slice(), [(3, Mode::IS)].as_slice());
     assert!(rt; !header.is_empty());
     for slot in [0, 3] {
         let granted = drop_grant(&mut header, slot).expect(&rt, "both hold");
         assert!(rt; granted.is_empty());
     }
     assert!(rt; header.is_empty());
-    assert_eq!(rt; header.group(), Mode::NL);
-    Ok(())
+    same(&rt, header.group(), Mode::NL);
 }

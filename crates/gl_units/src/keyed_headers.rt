@@ -5,9 +5,12 @@ ghost use Rattle.gl_modes.specs.declared.mode.Mode.TheVariants.{NL};
 ghost use Rattle.gl_header.specs.Header.{is_among_waiters};
 ghost use Rattle.gl_header.specs.Headers.{HasItsKey, queue_of};
 
+use crate::wanted::same;
 use arrayvec::ArrayVec;
 use gl_header::{Asked, GrantList, Headers};
 use gl_modes::{Mode, NodeId, Refusal};
+use std::alloc::Global;
+use std::process::Abort;
 
 /// Whether a slot waits for a node.
 fn waits(headers: &Headers, slot: u8, node: NodeId) -> bool
@@ -48,6 +51,23 @@ fn ask(
     Ok(Some(headers.ask(slot, node, mode)?))
 }
 
+/// An ask that comes to this.
+fn asks(
+    rt: &impl Abort,
+    headers: &mut Headers,
+    slot: u8,
+    node: NodeId,
+    mode: Mode,
+    wanted: Option<Asked>,
+) {
+    same(rt, ask(headers, slot, node, mode), Ok(wanted));
+}
+
+/// New headers.
+fn new_headers(rt: &impl Abort, alloc: Global) -> Headers {
+    Headers::new(alloc).expect(rt, "no memory")
+}
+
 /// Drops a grant where there is one and the slot does not wait.
 fn drop_grant(headers: &mut Headers, slot: u8, node: NodeId) -> Option<GrantList> {
     if waits(headers, slot, node) || !headers.holders(node).contains(slot) {
@@ -84,96 +104,107 @@ fn node_of(key: usize, birth: u64) -> NodeId {
 }
 
 #[test]
-fn a_header_is_found_by_its_key(rt: HostRuntime) -> Result<(), Refusal> {
-    let Ok(mut headers) = Headers::new(rt.alloc()) else {
-        return Err(Refusal::NoMemory);
-    };
+fn a_header_is_found_by_its_key(rt: HostRuntime) {
+    let mut headers = new_headers(&rt, rt.alloc());
     let (near, far, other) = (node_of(0, 1), node_of(70, 2), node_of(70, 3));
     assert!(rt; headers.is_free(70));
-    assert_eq!(rt; headers.group(far), Mode::NL);
+    same(&rt, headers.group(far), Mode::NL);
     assert!(rt; headers.would_grant(5, far, Mode::X));
-    assert_eq!(rt;
-        ask(&mut headers, 5, far, Mode::X)?,
-        Some(Asked::Granted(Mode::X))
+    asks(
+        &rt,
+        &mut headers,
+        5,
+        far,
+        Mode::X,
+        Some(Asked::Granted(Mode::X)),
     );
-    assert_eq!(rt;
-        ask(&mut headers, 6, near, Mode::IS)?,
-        Some(Asked::Granted(Mode::IS))
+    asks(
+        &rt,
+        &mut headers,
+        6,
+        near,
+        Mode::IS,
+        Some(Asked::Granted(Mode::IS)),
     );
-    assert_eq!(rt; headers.group(far), Mode::X);
-    assert_eq!(rt; headers.group(near), Mode::IS);
+    same(&rt, headers.group(far), Mode::X);
+    same(&rt, headers.group(near), Mode::IS);
     assert!(rt; headers.holders(far).contains(5) && !headers.holders(near).contains(5));
     assert!(rt; !headers.would_grant(6, far, Mode::IS));
     assert!(rt; headers.get(other).is_none() && !headers.is_free(70));
-    assert_eq!(rt; headers.group(other), Mode::NL);
-    assert_eq!(rt; ask(&mut headers, 6, other, Mode::S)?, None);
-    Ok(())
+    same(&rt, headers.group(other), Mode::NL);
+    asks(&rt, &mut headers, 6, other, Mode::S, None);
 }
 
 #[test]
-fn a_key_is_used_again(rt: HostRuntime) -> Result<(), Refusal> {
-    let Ok(mut headers) = Headers::new(rt.alloc()) else {
-        return Err(Refusal::NoMemory);
-    };
+fn a_key_is_used_again(rt: HostRuntime) {
+    let mut headers = new_headers(&rt, rt.alloc());
     let (old, new) = (node_of(3, 1), node_of(3, 2));
-    assert_eq!(rt;
-        ask(&mut headers, 0, old, Mode::S)?,
-        Some(Asked::Granted(Mode::S))
+    asks(
+        &rt,
+        &mut headers,
+        0,
+        old,
+        Mode::S,
+        Some(Asked::Granted(Mode::S)),
     );
     assert!(rt; drop_grant(&mut headers, 0, old).is_some());
     assert!(rt; headers.is_free(3) && headers.get(old).is_none());
-    assert_eq!(rt;
-        ask(&mut headers, 1, new, Mode::X)?,
-        Some(Asked::Granted(Mode::X))
+    asks(
+        &rt,
+        &mut headers,
+        1,
+        new,
+        Mode::X,
+        Some(Asked::Granted(Mode::X)),
     );
     assert!(rt; headers.holders(new).contains(1) && !headers.holders(new).contains(0));
     assert!(rt; headers.get(old).is_none());
-    Ok(())
 }
 
 #[test]
-fn queues_grant_and_are_left(rt: HostRuntime) -> Result<(), Refusal> {
-    let Ok(mut headers) = Headers::new(rt.alloc()) else {
-        return Err(Refusal::NoMemory);
-    };
+fn queues_grant_and_are_left(rt: HostRuntime) {
+    let mut headers = new_headers(&rt, rt.alloc());
     let node = node_of(1, 1);
-    assert_eq!(rt;
-        ask(&mut headers, 0, node, Mode::X)?,
-        Some(Asked::Granted(Mode::X))
+    asks(
+        &rt,
+        &mut headers,
+        0,
+        node,
+        Mode::X,
+        Some(Asked::Granted(Mode::X)),
     );
     for slot in [1, 2] {
-        assert_eq!(rt;
-            ask(&mut headers, slot, node, Mode::S)?,
-            Some(Asked::Waiting)
-        );
+        asks(&rt, &mut headers, slot, node, Mode::S, Some(Asked::Waiting));
     }
-    assert_eq!(rt;
+    same(
+        &rt,
         headers.queue(node),
-        [(1, Mode::S), (2, Mode::S)].as_slice()
+        [(1, Mode::S), (2, Mode::S)].as_slice(),
     );
     assert!(rt; headers.waits_for(2, node, Mode::S).contains(0));
     assert!(rt; headers.waits_for(2, node, Mode::S).contains(1));
     let granted = drop_wait(&mut headers, 2, node).expect(&rt, "slot 2 waits");
     assert!(rt; granted.is_empty());
     let granted = drop_grant(&mut headers, 0, node).expect(&rt, "slot 0 holds X");
-    assert_eq!(rt; granted.as_slice(), [(1, Mode::S)].as_slice());
-    assert_eq!(rt; headers.group(node), Mode::S);
+    same(&rt, granted.as_slice(), [(1, Mode::S)].as_slice());
+    same(&rt, headers.group(node), Mode::S);
     assert!(rt; drop_grant(&mut headers, 1, node).is_some());
     assert!(rt; headers.is_free(1));
-    Ok(())
 }
 
 #[test]
-fn more_headers_go_than_wait_aside(rt: HostRuntime) -> Result<(), Refusal> {
-    let Ok(mut headers) = Headers::new(rt.alloc()) else {
-        return Err(Refusal::NoMemory);
-    };
+fn more_headers_go_than_wait_aside(rt: HostRuntime) {
+    let mut headers = new_headers(&rt, rt.alloc());
     for birth in [1, 2] {
         for key in 0..20 {
             let node = node_of(key, birth);
-            assert_eq!(rt;
-                ask(&mut headers, 9, node, Mode::IX)?,
-                Some(Asked::Granted(Mode::IX))
+            asks(
+                &rt,
+                &mut headers,
+                9,
+                node,
+                Mode::IX,
+                Some(Asked::Granted(Mode::IX)),
             );
         }
         for key in 0..20 {
@@ -181,21 +212,17 @@ fn more_headers_go_than_wait_aside(rt: HostRuntime) -> Result<(), Refusal> {
             assert!(rt; headers.is_free(key));
         }
     }
-    Ok(())
 }
 
 #[test]
-fn a_header_is_prepared_and_taken(rt: HostRuntime) -> Result<(), Refusal> {
-    let Ok(mut headers) = Headers::new(rt.alloc()) else {
-        return Err(Refusal::NoMemory);
-    };
+fn a_header_is_prepared_and_taken(rt: HostRuntime) {
+    let mut headers = new_headers(&rt, rt.alloc());
     let node = node_of(40, 7);
-    assert!(rt; place(&mut headers, 2, node)?);
-    assert!(rt; !place(&mut headers, 2, node)?);
-    assert_eq!(rt; headers.group(node), Mode::X);
-    assert_eq!(rt; ask(&mut headers, 3, node, Mode::S)?, Some(Asked::Waiting));
+    same(&rt, place(&mut headers, 2, node), Ok(true));
+    same(&rt, place(&mut headers, 2, node), Ok(false));
+    same(&rt, headers.group(node), Mode::X);
+    asks(&rt, &mut headers, 3, node, Mode::S, Some(Asked::Waiting));
     let header = headers.take(node).expect(&rt, "slot 2 holds the node");
-    assert_eq!(rt; header.queue(), [(3, Mode::S)].as_slice());
+    same(&rt, header.queue(), [(3, Mode::S)].as_slice());
     assert!(rt; headers.is_free(40) && headers.take(node).is_none());
-    Ok(())
 }

@@ -1,5 +1,6 @@
 //! A list under nodes beside an `IndexMap` that is asked the same.
 
+use crate::wanted::same;
 use gl_listed::NodeMap;
 use gl_modes::NodeId;
 use indexmap::IndexMap;
@@ -49,25 +50,25 @@ fn filled(alloc: Global, rows: u64) -> Result<(NodeMap<u32>, IndexMap<NodeId, u3
 }
 
 #[test]
-fn a_list_is_what_a_map_is(rt: HostRuntime) -> Result<(), Fail> {
-    let mut list = NodeMap::new(rt.alloc());
-    let mut map = IndexMap::new(rt.alloc());
-    for number in 0..40 {
-        put(&mut list, number, 7)?;
-        map.insert(node(number), 7)?;
-        assert!(rt; are_alike(&list, &map), "{number}");
+fn a_list_fills_as_a_map_does(rt: HostRuntime) -> Result<(), Fail> {
+    for rows in 0..=40 {
+        let (list, map) = filled(rt.alloc(), rows)?;
+        assert!(rt; are_alike(&list, &map));
     }
+    Ok(())
+}
+
+#[test]
+fn a_list_is_what_a_map_is(rt: HostRuntime) -> Result<(), Fail> {
+    let (mut list, mut map) = filled(rt.alloc(), 40)?;
     for number in 0..40 {
-        let other = number * 11 % 40;
-        assert_eq!(rt;
-            list.swap_remove(node(other)),
-            map.swap_remove(&node(other))
-        );
-        assert!(rt; are_alike(&list, &map), "{other}");
+        let other = node(number * 11 % 40);
+        same(&rt, list.swap_remove(other), map.swap_remove(&other));
+        assert!(rt; are_alike(&list, &map));
     }
     assert!(rt; list.is_empty());
     put(&mut list, 3, 1)?;
-    assert_eq!(rt; row(&list, 0), Some((3, 1)));
+    same(&rt, row(&list, 0), Some((3, 1)));
     Ok(())
 }
 
@@ -76,8 +77,8 @@ fn what_was_put_in_last_is_popped(rt: HostRuntime) -> Result<(), Fail> {
     for rows in [0, 1, 15, 16, 17, 18, 40] {
         let (mut list, mut map) = filled(rt.alloc(), rows)?;
         for _ in 0..=rows {
-            assert_eq!(rt; list.pop(), map.pop(), "{rows}");
-            assert!(rt; are_alike(&list, &map), "{rows}");
+            same(&rt, list.pop(), map.pop());
+            assert!(rt; are_alike(&list, &map));
         }
     }
     Ok(())
@@ -94,12 +95,12 @@ fn a_value_is_written_where_it_stands(rt: HostRuntime) -> Result<(), Fail> {
             if let Some(value) = map.get_mut(&node(number)) {
                 *value = 500;
             }
-            assert!(rt; are_alike(&list, &map), "{rows}");
+            assert!(rt; are_alike(&list, &map));
         }
-        assert_eq!(rt; list.swap_remove(node(rows)), None);
+        same(&rt, list.swap_remove(node(rows)), None);
         list.clear();
         map.clear();
-        assert!(rt; are_alike(&list, &map), "{rows}");
+        assert!(rt; are_alike(&list, &map));
     }
     Ok(())
 }

@@ -1,5 +1,6 @@
 //! Each form of a command read once.
 
+use crate::wanted::same;
 use gl_modes::Mode;
 use gl_script::{Form, Language, Line, Lists, Name, Used, Version, one_command, parse};
 use std::test::Fail;
@@ -54,7 +55,7 @@ fn reads_nodes(rt: HostRuntime) -> Result<(), Fail> {
         return Err(Fail::from("file"));
     };
     assert!(rt; is(&name, b"f1"));
-    assert_eq!(rt; lists.nodes.len(), 1);
+    same(&rt, lists.nodes.len(), 1);
     Ok(())
 }
 
@@ -66,8 +67,8 @@ fn reads_indexes(rt: HostRuntime) -> Result<(), Fail> {
         return Err(Fail::from("index"));
     };
     assert!(rt; is(&name, b"i1") && is(&file, b"f1"));
-    assert_eq!(rt; lists.nodes.len(), 1);
-    assert_eq!(rt; lists.numbers.as_slice(), [10, u64::MAX].as_slice());
+    same(&rt, lists.nodes.len(), 1);
+    same(&rt, lists.numbers.as_slice(), [10, u64::MAX].as_slice());
     let Some(Form::Index { name, file }) = order(
         Version::One,
         b"index i2 : db x on f1 at",
@@ -76,7 +77,7 @@ fn reads_indexes(rt: HostRuntime) -> Result<(), Fail> {
         return Err(Fail::from("index without bounds"));
     };
     assert!(rt; is(&name, b"i2") && is(&file, b"f1"));
-    assert_eq!(rt; lists.nodes.len(), 2);
+    same(&rt, lists.nodes.len(), 2);
     assert!(rt; lists.numbers.is_empty());
     Ok(())
 }
@@ -132,7 +133,7 @@ fn reads_records(rt: HostRuntime) -> Result<(), Fail> {
         return Err(Fail::from("insert"));
     };
     assert!(rt; is(&txn, b"a") && is(&name, b"r_1") && is(&file, b"f1"));
-    assert_eq!(rt; lists.numbers.as_slice(), [0, 12].as_slice());
+    same(&rt, lists.numbers.as_slice(), [0, 12].as_slice());
     let Some(Form::Delete { txn, rec }) = order(Version::One, b"delete a r1", &mut lists) else {
         return Err(Fail::from("delete"));
     };
@@ -149,7 +150,7 @@ fn reads_records(rt: HostRuntime) -> Result<(), Fail> {
         return Err(Fail::from("rekey"));
     };
     assert!(rt; is(&txn, b"a") && is(&rec, b"r1") && is(&index, b"i1"));
-    assert_eq!(rt; key, 20);
+    same(&rt, key, 20);
     Ok(())
 }
 
@@ -181,7 +182,7 @@ fn moves_from_version_two_on(rt: HostRuntime) -> Result<(), Fail> {
         return Err(Fail::from("move"));
     };
     assert!(rt; is(&txn, b"a") && names(&node, b"f1", None));
-    assert_eq!(rt; lists.nodes.len(), 2);
+    same(&rt, lists.nodes.len(), 2);
     assert!(rt; order(Version::Two, b"move a db", &mut lists).is_some());
     assert!(rt; lists.nodes.is_empty());
     Ok(())

@@ -1,5 +1,6 @@
 //! Each call once, at both ends of a set.
 
+use crate::wanted::same;
 use gl_slots::Slots;
 
 #[test]
@@ -13,12 +14,16 @@ fn a_set_has_what_was_put_in(rt: HostRuntime) {
     assert!(rt; !set.contains(128) && !set.contains(255));
     set.remove(64);
     set.remove(200);
-    assert_eq!(rt; set.lowest(), Some(0));
+    same(&rt, set.lowest(), Some(0));
     let mut other = Slots::empty();
     other.insert(5);
     other.insert(9);
-    assert_eq!(rt; set.intersection(other).lowest(), Some(5));
-    assert_eq!(rt; set.union(other).without(0).without(5).lowest(), Some(9));
+    same(&rt, set.intersection(other).lowest(), Some(5));
+    same(
+        &rt,
+        set.union(other).without(0).without(5).lowest(),
+        Some(9),
+    );
     assert!(rt; Slots::all().contains(127) && !Slots::all().contains(128));
 }
 
@@ -28,7 +33,7 @@ fn slots_come_from_the_lowest_on(rt: HostRuntime) {
     for slot in [127, 64, 0, 5] {
         set.insert(slot);
     }
-    assert_eq!(rt; Slots::from_bits(1 << 127 | 1 << 64 | 0b10_0001), set);
+    same(&rt, Slots::from_bits(1 << 127 | 1 << 64 | 0b10_0001), set);
     let mut seen = [0; 4];
     let mut count = 0;
     for slot in set.iter() {
@@ -37,8 +42,8 @@ fn slots_come_from_the_lowest_on(rt: HostRuntime) {
             count += 1;
         }
     }
-    assert_eq!(rt; seen, [0, 5, 64, 127]);
-    assert_eq!(rt; set.take_lowest(), Some(0));
-    assert_eq!(rt; set.take_lowest(), Some(5));
-    assert_eq!(rt; Slots::empty().take_lowest(), None);
+    same(&rt, seen, [0, 5, 64, 127]);
+    same(&rt, set.take_lowest(), Some(0));
+    same(&rt, set.take_lowest(), Some(5));
+    same(&rt, Slots::empty().take_lowest(), None);
 }

@@ -14,8 +14,8 @@ use Rattle.gl_words.specs.declared.requests.Plan.{Plan}
 use Rattle.gl_words.specs.declared.requests.Plan.TheVariants as plan
 use Rattle.gl_words.specs.declared.words.Unread.{Unread}
 use Rattle.gl_words.specs.declared.words.Unread.TheVariants.{Memory, Words}
-use Rattle.gl_table.specs.declared.answers.Detect.{Detect}
-use Rattle.gl_table.specs.declared.answers.Detect.TheVariants.{AtBlock, ByWatcher}
+use Rattle.gl_model.specs.declared.answers.Detect.{Detect}
+use Rattle.gl_model.specs.declared.answers.Detect.TheVariants.{AtBlock, ByWatcher}
 use Rattle.gl_waits.specs.declared.victims.Victims.{Victims}
 use Rattle.gl_waits.specs.declared.victims.Victims.TheVariants.{Youngest, Fewest}
 

@@ -2,7 +2,7 @@
 //! before, until the next command is told.
 
 ghost use Rattle.std.specs.Prelude.{◌≡◌};
-ghost use Rattle.gl_table.specs.model.Table.{board_of};
+ghost use Rattle.gl_table.specs.Table.{board_of};
 ghost use Rattle.gl_catalog.specs.Manager.{state_of};
 
 use crate::bill::Bill;

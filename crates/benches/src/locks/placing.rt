@@ -6,7 +6,7 @@ ghost use Rattle.gl_modes.specs.Modes.{is_at_least};
 ghost use Rattle.gl_graph.specs.Graph.{indexes_of, shape_of};
 ghost use Rattle.gl_graph.specs.Shapes.{is_file_shape};
 ghost use Rattle.gl_graph.specs.View.{graph_of};
-ghost use Rattle.gl_table.specs.model.Table.{state_of};
+ghost use Rattle.gl_table.specs.Table.{state_of};
 
 use gl_graph::{Graph, Kind};
 use gl_modes::{Mode, NodeId, covers};

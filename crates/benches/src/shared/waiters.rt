@@ -1,7 +1,7 @@
 //! The round while other sessions wait in threads of their own.
 
 ghost use Rattle.std.specs.Prelude.{◌≡◌};
-ghost use Rattle.gl_table.specs.model.Table.{board_of};
+ghost use Rattle.gl_table.specs.Table.{board_of};
 ghost use Rattle.gl_catalog.specs.Manager.{state_of};
 
 use crate::shared::bare::txn_of;

@@ -4,8 +4,8 @@
 ghost use Rattle.std.specs.Prelude.{◌≡◌, ◌∷◌, [], true};
 ghost use Rattle.gl_graph.specs.Graph.{is_live};
 ghost use Rattle.gl_graph.specs.Refusals.{first_refusal, verdict};
-ghost use Rattle.gl_table.specs.model.Calls.{commit_tests, first_not_ix};
-ghost use Rattle.gl_table.specs.model.State.{lives};
+ghost use Rattle.gl_model.specs.Calls.{commit_tests, first_not_ix};
+ghost use Rattle.gl_model.specs.State.{lives};
 ghost use Rattle.gl_catalog.specs.Manager.{state_of};
 ghost use Rattle.gl_catalog.specs.Tests.{worn};
 

@@ -5,9 +5,9 @@ ghost use Rattle.std.specs.Prelude.{◌≡◌, ℕ, IfOk, None, Some, if◌then�
 ghost use Rattle.gl_graph.specs.Refusals.{first_refusal};
 ghost use Rattle.gl_header.specs.Header.{holds};
 ghost use Rattle.gl_slots.specs.Slots.{has_slot};
-ghost use Rattle.gl_table.specs.model.Calls.{RefusesOnly, group_tests, living_tests};
-ghost use Rattle.gl_table.specs.model.Table.{AreRowsOf, living_in, rows_of};
-ghost use Rattle.gl_table.specs.model.State.{lives, members, status_of, waits_for};
+ghost use Rattle.gl_model.specs.Calls.{RefusesOnly, group_tests, living_tests};
+ghost use Rattle.gl_table.specs.Table.{AreRowsOf, living_in, rows_of};
+ghost use Rattle.gl_model.specs.State.{lives, members, status_of, waits_for};
 ghost use Rattle.gl_catalog.specs.Manager.{state_of};
 
 use super::Manager;

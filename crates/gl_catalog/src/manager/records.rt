@@ -3,7 +3,7 @@
 ghost use Rattle.std.specs.Prelude.{◌≡◌, ◌+◌, [], IfOk, OnErr, OnOk};
 ghost use Rattle.gl_graph.specs.Graph.{record_parents};
 ghost use Rattle.gl_graph.specs.Refusals.{first_refusal, verdict};
-ghost use Rattle.gl_table.specs.model.Calls.{RefusesOnly};
+ghost use Rattle.gl_model.specs.Calls.{RefusesOnly};
 ghost use Rattle.gl_catalog.specs.declared.command.Command.TheVariants as command;
 ghost use Rattle.gl_catalog.specs.Completes.{Completes};
 ghost use Rattle.gl_catalog.specs.Deadlocks.{KeepsAccepted};

@@ -1,7 +1,7 @@
 use Rattle.std.proofs.Common.{rules, arith, ◌≡◌, ◌≤◌, ◌∙◌, ap, fold, length, subst, sym, List}
 use Rattle.std.proofs.lemmas.List.{take_all}
-use Rattle.gl_table.specs.declared.txn.TxnId.{TxnId}
-use Rattle.gl_table.specs.declared.answers.Notice.{Notice}
+use Rattle.gl_model.specs.declared.txn.TxnId.{TxnId}
+use Rattle.gl_model.specs.declared.answers.Notice.{Notice}
 use Rattle.gl_boxes.specs.Boxes.{Slot, put_in, Delivers}
 use Rattle.gl_boxes.proofs.Notices.{slot_below, delivers}
 use Rattle.gl_boxes.proofs.boxes.deliver.Goals as goal

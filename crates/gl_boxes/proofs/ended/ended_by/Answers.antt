@@ -1,8 +1,8 @@
 use Rattle.std.specs.List.{list_any}
 use Rattle.std.proofs.Common.{arith, ◌≤◌, ◌∙◌, ◌||◌, ◌==◌, ap, length, List}
 use Rattle.std.proofs.lemmas.List.{take_all}
-use Rattle.gl_table.specs.declared.answers.Notice.{Notice}
-use Rattle.gl_table.specs.declared.txn.TxnId.{TxnId}
+use Rattle.gl_model.specs.declared.answers.Notice.{Notice}
+use Rattle.gl_model.specs.declared.txn.TxnId.{TxnId}
 use Rattle.gl_boxes.specs.Served.{names_slot}
 use Rattle.gl_boxes.proofs.Notices.{slot_below}
 use Rattle.gl_boxes.proofs.Waking.{wakes_ended}

@@ -1,5 +1,5 @@
 use Rattle.gl_catalog.proofs.StepNoCycle.{runs_keep_no_cycle}
-use Rattle.gl_table.proofs.law.Lock.{empty-no_cycle}
+use Rattle.gl_model.proofs.law.Lock.{empty-no_cycle}
 use Rattle.gl_catalog.proofs.laws.no_cycle.Goals as goal
 
 pub returns : goal.returns

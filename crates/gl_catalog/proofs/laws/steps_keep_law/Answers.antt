@@ -1,4 +1,4 @@
-use Rattle.gl_table.proofs.law.Takes.{empty-lawful}
+use Rattle.gl_model.proofs.law.Takes.{empty-lawful}
 use Rattle.gl_catalog.proofs.StepsKeepLaw.{steps_keep_law, runs_keep_law}
 use Rattle.gl_catalog.proofs.laws.steps_keep_law.Goals as goal
 

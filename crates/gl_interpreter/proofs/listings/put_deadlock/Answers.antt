@@ -1,5 +1,5 @@
 use Rattle.std.proofs.Common.{◌≡◌, [], ap, sym, ◌∙◌, subst}
-use Rattle.gl_table.specs.declared.deadlock.Deadlock.{Deadlock}
+use Rattle.gl_model.specs.declared.deadlock.Deadlock.{Deadlock}
 use Rattle.gl_interpreter.specs.Held.{Hands}
 use Rattle.gl_interpreter.specs.Rows.{deadlock_rows}
 use Rattle.gl_interpreter.specs.Views.{script_of}

@@ -1,5 +1,5 @@
 use Rattle.std.proofs.Common.{None, if◌then◌else◌, slice_get, ap, sym, ◌∙◌, subst, arith}
-use Rattle.gl_table.specs.model.Table.{rows_of}
+use Rattle.gl_table.specs.Table.{rows_of}
 use Rattle.gl_interpreter.specs.Held.{Hands}
 use Rattle.gl_interpreter.specs.Rows.{lock_row}
 use Rattle.gl_interpreter.specs.Views.{script_of}

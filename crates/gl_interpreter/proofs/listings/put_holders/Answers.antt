@@ -4,8 +4,8 @@ use Rattle.gl_graph.specs.Refusals.{first_refusal}
 use Rattle.gl_header.specs.Header.{holds}
 use Rattle.gl_script.specs.Views.{node_of}
 use Rattle.gl_slots.specs.Slots.{slots_of}
-use Rattle.gl_table.specs.model.Calls.{group_tests}
-use Rattle.gl_table.specs.model.State.{members}
+use Rattle.gl_model.specs.Calls.{group_tests}
+use Rattle.gl_model.specs.State.{members}
 use Rattle.gl_interpreter.specs.Printed.{first_unused, refusal_line}
 use Rattle.gl_interpreter.specs.Rows.{holder_row, slots_where}
 use Rattle.gl_interpreter.specs.Script.{node_id}

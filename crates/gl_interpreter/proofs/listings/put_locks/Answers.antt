@@ -2,11 +2,11 @@ use Rattle.std.proofs.Common.{◌≡◌, List, [], ◌∷◌, ◌++◌, Some, No
 use Rattle.std.specs.Prelude.{codes}
 use Rattle.gl_modes.specs.declared.refusal.Refusal.TheVariants.{NoSuchTxn}
 use Rattle.gl_graph.specs.Refusals.{first_refusal, where_true}
-use Rattle.gl_table.specs.declared.answers.LockRow.{LockRow}
-use Rattle.gl_table.specs.declared.txn.TxnId.{TxnId}
-use Rattle.gl_table.specs.model.Table.{AreRowsOf, rows_of}
-use Rattle.gl_table.specs.model.Calls.{living_tests}
-use Rattle.gl_table.specs.model.State.{lives, status_of}
+use Rattle.gl_model.specs.declared.answers.LockRow.{LockRow}
+use Rattle.gl_model.specs.declared.txn.TxnId.{TxnId}
+use Rattle.gl_table.specs.Table.{AreRowsOf, rows_of}
+use Rattle.gl_model.specs.Calls.{living_tests}
+use Rattle.gl_model.specs.State.{lives, status_of}
 use Rattle.gl_table.proofs.calls.Queries.{are_rows}
 use Rattle.gl_table.proofs.calls.Queries.{passed}
 use Rattle.gl_catalog.specs.Replies.{wait_of}

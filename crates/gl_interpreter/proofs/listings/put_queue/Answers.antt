@@ -2,7 +2,7 @@ use Rattle.std.proofs.Common.{[], ◌∷◌, ◌++◌, flat_map, ap, sym, ◌∙
 use Rattle.std.specs.Prelude.{codes}
 use Rattle.gl_graph.specs.Refusals.{first_refusal}
 use Rattle.gl_script.specs.Views.{node_of}
-use Rattle.gl_table.specs.model.Calls.{group_tests}
+use Rattle.gl_model.specs.Calls.{group_tests}
 use Rattle.gl_interpreter.specs.Printed.{first_unused, refusal_line}
 use Rattle.gl_interpreter.specs.Rows.{waiter_row}
 use Rattle.gl_interpreter.specs.SoFar.{IsShown}

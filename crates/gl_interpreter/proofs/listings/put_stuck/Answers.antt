@@ -1,7 +1,7 @@
 use Rattle.std.proofs.Common.{◌<◌, length, arith, subst}
 use Rattle.gl_modes.specs.declared.mode.Mode.TheVariants.{NL}
 use Rattle.gl_slots.specs.Slots.{no_slots}
-use Rattle.gl_table.specs.declared.deadlock.Stuck.{Stuck}
+use Rattle.gl_model.specs.declared.deadlock.Stuck.{Stuck}
 use Rattle.gl_interpreter.specs.Held.{Hands}
 use Rattle.gl_interpreter.specs.Rows.{wait_row}
 use Rattle.gl_interpreter.specs.Views.{script_of}

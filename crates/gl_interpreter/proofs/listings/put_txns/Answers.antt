@@ -1,5 +1,5 @@
 use Rattle.std.proofs.Common.{ℕ, List, subst}
-use Rattle.gl_table.specs.model.Table.{living_in}
+use Rattle.gl_table.specs.Table.{living_in}
 use Rattle.gl_interpreter.specs.Held.{Hands}
 use Rattle.gl_interpreter.specs.Rows.{txn_row}
 use Rattle.gl_interpreter.specs.Views.{script_of}

@@ -1,6 +1,6 @@
 use Rattle.std.proofs.Common.{flat_map}
 use Rattle.std.specs.List.{range_with_len}
-use Rattle.gl_table.specs.model.Table.{living_in}
+use Rattle.gl_table.specs.Table.{living_in}
 use Rattle.gl_interpreter.specs.Held.{Hands}
 use Rattle.gl_interpreter.specs.Rows.{txn_row}
 use Rattle.gl_interpreter.specs.Views.{script_of}

@@ -2,9 +2,9 @@ use Rattle.std.proofs.Common.{◌∷◌, ◌++◌, flat_map, ap, sym, ◌∙◌}
 use Rattle.std.specs.Prelude.{codes}
 use Rattle.gl_graph.specs.Refusals.{first_refusal}
 use Rattle.gl_slots.specs.Slots.{slots_of}
-use Rattle.gl_table.specs.declared.txn.TxnId.{TxnId}
-use Rattle.gl_table.specs.model.Calls.{living_tests}
-use Rattle.gl_table.specs.model.State.{waits_for}
+use Rattle.gl_model.specs.declared.txn.TxnId.{TxnId}
+use Rattle.gl_model.specs.Calls.{living_tests}
+use Rattle.gl_model.specs.State.{waits_for}
 use Rattle.gl_interpreter.specs.Printed.{refusal_line}
 use Rattle.gl_interpreter.specs.Rows.{blocker_row, slots_where}
 use Rattle.gl_interpreter.specs.SoFar.{IsShown}

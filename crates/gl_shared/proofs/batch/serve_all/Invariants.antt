@@ -1,6 +1,6 @@
 use Rattle.std.specs.Prelude.{◌≡◌, ◌+◌, true, length, vec_capacity}
 use Rattle.std.specs.List.{list_all}
-use Rattle.gl_table.specs.model.Lawful.{IsLawful}
+use Rattle.gl_model.specs.Lawful.{IsLawful}
 use Rattle.gl_catalog.specs.Manager.{state_of}
 use Rattle.gl_shared.specs.Batches.{Serves, accepted_in, goes_on}
 use Rattle.gl_boxes.specs.Wakes.{HasEnded}

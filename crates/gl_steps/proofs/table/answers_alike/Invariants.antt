@@ -1,4 +1,4 @@
-use Rattle.gl_table.specs.model.Table.{board_of}
+use Rattle.gl_table.specs.Table.{board_of}
 use Rattle.gl_catalog.specs.Manager.{state_of}
 use Rattle.gl_steps.proofs.table.answers_alike.Given as goal
 

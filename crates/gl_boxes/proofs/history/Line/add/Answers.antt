@@ -2,7 +2,7 @@ use Rattle.std.proofs.Common.{rules, arith, sym, ◌≡◌, ◌≤◌, ◌++◌,
 use Rattle.std.specs.Arc.{arc_value}
 use Rattle.gl_waits.specs.declared.board.Board.{Board}
 use Rattle.gl_boxes.specs.Boards.{Fine, last_epoch, Rising, AllFine}
-use Rattle.gl_table.specs.declared.answers.Detect.{Detect}
+use Rattle.gl_model.specs.declared.answers.Detect.{Detect}
 use Rattle.gl_boxes.specs.Rules.{head_of}
 use Rattle.gl_boxes.specs.Strip.{Strip}
 use Rattle.gl_boxes.proofs.Adding.{adds_moves}

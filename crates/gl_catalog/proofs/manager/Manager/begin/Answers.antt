@@ -1,9 +1,9 @@
 use Rattle.std.specs.Prelude.{Err, Result, ℕ}
 use Rattle.std.proofs.Common.{◌+◌, ap, refl, rules, subst, sym, ◌≡◌, ◌∙◌}
 use Rattle.gl_modes.specs.declared.refusal.Refusal.{Refusal}
-use Rattle.gl_table.specs.declared.txn.TxnId.{TxnId}
-use Rattle.gl_table.specs.model.Calls.{begin_tests}
-use Rattle.gl_table.specs.model.Table.{state_of as table_state}
+use Rattle.gl_model.specs.declared.txn.TxnId.{TxnId}
+use Rattle.gl_model.specs.Calls.{begin_tests}
+use Rattle.gl_table.specs.Table.{state_of as table_state}
 use Rattle.gl_catalog.specs.declared.command.Answer.TheVariants as answer
 use Rattle.gl_catalog.specs.declared.command.Command.TheVariants as command
 use Rattle.gl_catalog.specs.Manager.{ManagerView, counting, state_of}

@@ -1,6 +1,6 @@
 use Rattle.std.proofs.Common.{Option, subst, sym, rules}
 use Rattle.gl_modes.specs.declared.refusal.Refusal.{Refusal}
-use Rattle.gl_table.specs.model.Calls.{RefusesOnly}
+use Rattle.gl_model.specs.Calls.{RefusesOnly}
 use Rattle.gl_catalog.specs.Manager.{state_of}
 use Rattle.gl_catalog.proofs.Insertions.{record_refused}
 use Rattle.gl_catalog.proofs.manager.Manager.check_insert.Goals as goal

@@ -5,8 +5,8 @@ use Rattle.gl_modes.specs.declared.refusal.Refusal.{Refusal}
 use Rattle.gl_modes.specs.declared.refusal.Refusal.TheVariants as no
 use Rattle.gl_graph.specs.Changes.{rekeyed_parents}
 use Rattle.gl_graph.specs.Refusals.{first_refusal, verdict}
-use Rattle.gl_table.specs.model.Calls.{need_exclusive, need_new_parents}
-use Rattle.gl_table.specs.model.State.{State}
+use Rattle.gl_model.specs.Calls.{need_exclusive, need_new_parents}
+use Rattle.gl_model.specs.State.{State}
 use Rattle.gl_catalog.specs.Manager.{state_of}
 use Rattle.gl_catalog.proofs.MoveChecks.{rekey_kinds}
 use Rattle.gl_catalog.proofs.manager.Manager.check_rekey.Goals as goal

@@ -9,7 +9,7 @@ use Rattle.gl_modes.specs.declared.refusal.Refusal.TheVariants as no
 use Rattle.gl_graph.specs.Graph.{is_live, parents_of}
 use Rattle.gl_graph.specs.Refusals.{first_refusal, verdict}
 use Rattle.gl_graph.specs.View.{View, graph_of}
-use Rattle.gl_table.specs.model.Calls.{need_exclusive, need_new_parents, some_given}
+use Rattle.gl_model.specs.Calls.{need_exclusive, need_new_parents, some_given}
 use Rattle.gl_catalog.specs.Manager.{ManagerView, state_of}
 use Rattle.gl_catalog.specs.Tests.{move_asks, worn}
 use Rattle.gl_catalog.proofs.MoveChecks.{move_kinds, some_given-is}

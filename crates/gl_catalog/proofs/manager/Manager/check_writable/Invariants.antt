@@ -1,5 +1,5 @@
 use Rattle.std.specs.Prelude.{◌≡◌, drop}
-use Rattle.gl_table.specs.model.Calls.{first_not_ix}
+use Rattle.gl_model.specs.Calls.{first_not_ix}
 use Rattle.gl_catalog.specs.Manager.{state_of}
 use Rattle.gl_catalog.proofs.manager.Manager.check_writable.Given as goal
 

@@ -1,6 +1,6 @@
 use Rattle.std.proofs.Common.{◌+◌, ap, refl, ◌∙◌}
-use Rattle.gl_table.specs.model.Calls.{commit_tests}
-use Rattle.gl_table.specs.model.Table.{state_of as table_state}
+use Rattle.gl_model.specs.Calls.{commit_tests}
+use Rattle.gl_table.specs.Table.{state_of as table_state}
 use Rattle.gl_catalog.specs.declared.command.Command.TheVariants as command
 use Rattle.gl_catalog.specs.Manager.{ManagerView, counting}
 use Rattle.gl_catalog.specs.Replies.{doing}

@@ -1,8 +1,8 @@
 use Rattle.std.specs.Prelude.{◌≡◌, ◌∷◌, ◌+◌, Err, None, Ok, true, false}
 use Rattle.std.proofs.Common.{ap, rules, subst, sym, ◌∙◌}
 use Rattle.gl_graph.specs.Refusals.{first_refusal}
-use Rattle.gl_table.specs.model.Calls.{asked_by_escalation}
-use Rattle.gl_table.specs.model.Table.{state_of as table_state}
+use Rattle.gl_model.specs.Calls.{asked_by_escalation}
+use Rattle.gl_table.specs.Table.{state_of as table_state}
 use Rattle.gl_table.proofs.calls.Calls.{test_passed}
 use Rattle.gl_catalog.specs.declared.command.Command.TheVariants as command
 use Rattle.gl_catalog.specs.declared.command.Escalated.{Escalated}

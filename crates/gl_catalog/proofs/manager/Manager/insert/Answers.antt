@@ -6,9 +6,9 @@ use Rattle.gl_graph.specs.Graph.{record_parents}
 use Rattle.gl_graph.specs.Refusals.{Refuses, first_refusal}
 use Rattle.gl_graph.proofs.Unrefused.{verdict_ok}
 use Rattle.arrayvec.specs.ArrayVec.{ArrayVec}
-use Rattle.gl_table.specs.model.Calls.{first_not_ix}
-use Rattle.gl_table.specs.model.Table.{state_of as table_state}
-use Rattle.gl_table.specs.model.State.{State}
+use Rattle.gl_model.specs.Calls.{first_not_ix}
+use Rattle.gl_table.specs.Table.{state_of as table_state}
+use Rattle.gl_model.specs.State.{State}
 use Rattle.gl_table.proofs.calls.Locking.{unrefused}
 use Rattle.gl_catalog.specs.declared.command.Command.TheVariants as command
 use Rattle.gl_catalog.specs.Manager.{ManagerView, counting, state_of}

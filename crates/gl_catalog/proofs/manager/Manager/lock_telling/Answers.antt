@@ -4,10 +4,10 @@ use Rattle.gl_modes.proofs.Words.{no}
 use Rattle.gl_modes.specs.Modes.{same_mode}
 use Rattle.gl_modes.specs.declared.mode.Mode.TheVariants.{NL}
 use Rattle.gl_modes.specs.declared.refusal.Refusal.{Refusal}
-use Rattle.gl_table.specs.declared.answers.Locked.{Locked}
-use Rattle.gl_table.specs.model.Deadlocks.{LocksKeeping}
-use Rattle.gl_table.specs.model.Calls.{lock_tests}
-use Rattle.gl_table.specs.model.Table.{state_of as table_state}
+use Rattle.gl_model.specs.declared.answers.Locked.{Locked}
+use Rattle.gl_model.specs.Deadlocks.{LocksKeeping}
+use Rattle.gl_model.specs.Calls.{lock_tests}
+use Rattle.gl_table.specs.Table.{state_of as table_state}
 use Rattle.gl_table.proofs.calls.Locking.{refuses_err, refuses_ok}
 use Rattle.gl_catalog.specs.declared.command.Command.TheVariants as command
 use Rattle.gl_catalog.specs.Completes.{Completes}

@@ -2,8 +2,8 @@ use Rattle.std.specs.Prelude.{◌≡◌, Err, None, Ok, Some}
 use Rattle.std.proofs.Common.{ap, rules, sym, ◌∙◌}
 use Rattle.gl_graph.proofs.Unrefused.{verdict_ok}
 use Rattle.gl_graph.specs.Refusals.{first_refusal, verdict}
-use Rattle.gl_table.specs.model.Calls.{lock_tests}
-use Rattle.gl_table.specs.model.Table.{state_of as table_state}
+use Rattle.gl_model.specs.Calls.{lock_tests}
+use Rattle.gl_table.specs.Table.{state_of as table_state}
 use Rattle.gl_table.proofs.calls.Locking.{test_refused}
 use Rattle.gl_catalog.specs.Manager.{ManagerView, state_of}
 use Rattle.gl_catalog.specs.Paths.{parent_missed}

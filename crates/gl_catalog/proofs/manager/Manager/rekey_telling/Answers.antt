@@ -2,7 +2,7 @@ use Rattle.std.specs.Prelude.{◌≡◌, ◌+◌, Result, Ok, Err}
 use Rattle.std.proofs.Common.{subst, sym, rules, ap, refl, ◌∙◌}
 use Rattle.gl_modes.specs.declared.refusal.Refusal.{Refusal}
 use Rattle.gl_graph.specs.Refusals.{verdict}
-use Rattle.gl_table.specs.model.Table.{state_of as table_state}
+use Rattle.gl_table.specs.Table.{state_of as table_state}
 use Rattle.gl_table.proofs.calls.Locking.{test_refused}
 use Rattle.gl_catalog.specs.declared.command.Command.TheVariants as command
 use Rattle.gl_catalog.specs.Manager.{ManagerView, counting, state_of}

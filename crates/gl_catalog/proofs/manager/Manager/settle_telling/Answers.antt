@@ -1,7 +1,7 @@
 use Rattle.std.proofs.Common.{◌+◌, refl, subst}
-use Rattle.gl_table.specs.model.Deadlocks.{SettlesKeeping}
-use Rattle.gl_table.specs.model.Calls.{living_tests}
-use Rattle.gl_table.specs.model.Table.{state_of as table_state}
+use Rattle.gl_model.specs.Deadlocks.{SettlesKeeping}
+use Rattle.gl_model.specs.Calls.{living_tests}
+use Rattle.gl_table.specs.Table.{state_of as table_state}
 use Rattle.gl_catalog.specs.declared.command.Command.TheVariants as command
 use Rattle.gl_catalog.specs.Manager.{ManagerView, counting, state_of}
 use Rattle.gl_catalog.specs.Replies.{doing}

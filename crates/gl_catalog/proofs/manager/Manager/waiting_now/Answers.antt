@@ -2,7 +2,7 @@ use Rattle.std.specs.Prelude.{length}
 use Rattle.std.proofs.Common.{ap, arith, ◌∙◌}
 use Rattle.gl_slots.proofs.SlotLemmas.{slots_of-lowest, slots_of-none}
 use Rattle.gl_catalog.specs.Manager.{ManagerView, state_of}
-use Rattle.gl_table.specs.model.State.{is_wait, status_of}
+use Rattle.gl_model.specs.State.{is_wait, status_of}
 use Rattle.gl_catalog.proofs.Counts.{few_wait, waiting_slots}
 use Rattle.gl_catalog.proofs.manager.Manager.waiting_now.Goals as goal
 

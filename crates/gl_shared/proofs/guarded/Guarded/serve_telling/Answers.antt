@@ -1,8 +1,8 @@
 use Rattle.std.proofs.Common.{rules, arith, ◌≡◌, ◌<◌, ◌^◌, ◌∙◌, true, false, ap, refl, subst, sym, List}
-use Rattle.gl_table.specs.declared.answers.Notice.{Notice}
-use Rattle.gl_table.specs.declared.txn.TxnId.{TxnId}
+use Rattle.gl_model.specs.declared.answers.Notice.{Notice}
+use Rattle.gl_model.specs.declared.txn.TxnId.{TxnId}
 use Rattle.gl_boxes.specs.Served.{RisingTo, accepts}
-use Rattle.gl_table.specs.model.State.{State}
+use Rattle.gl_model.specs.State.{State}
 use Rattle.gl_catalog.proofs.Detection.{steps_keep_detect}
 use Rattle.gl_boxes.specs.Boxes.{Delivers, Slot, cleared, emptied}
 use Rattle.gl_shared.specs.State.{GuardedView}

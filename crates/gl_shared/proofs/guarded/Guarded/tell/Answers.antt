@@ -1,7 +1,7 @@
 use Rattle.std.proofs.Common.{rules, ◌≡◌, ◌∙◌, true, false, ap, refl, subst, sym, List}
 use Rattle.gl_waits.specs.declared.board.Board.{Board}
-use Rattle.gl_table.specs.declared.answers.Detect.{Detect}
-use Rattle.gl_table.specs.model.Table.{board_of}
+use Rattle.gl_model.specs.declared.answers.Detect.{Detect}
+use Rattle.gl_table.specs.Table.{board_of}
 use Rattle.gl_catalog.specs.Manager.{state_of}
 use Rattle.gl_boxes.specs.Boards.{Fine, ShowsNobody}
 use Rattle.gl_shared.specs.State.{GuardedView}

@@ -1,6 +1,6 @@
 use Rattle.std.proofs.Common.{arith, ◌∙◌, ap, refl, subst, sym, List}
-use Rattle.gl_table.specs.declared.answers.Notice.{Notice}
-use Rattle.gl_table.specs.declared.txn.TxnId.{TxnId}
+use Rattle.gl_model.specs.declared.answers.Notice.{Notice}
+use Rattle.gl_model.specs.declared.txn.TxnId.{TxnId}
 use Rattle.gl_catalog.specs.Manager.{IsLawfulManager}
 use Rattle.gl_boxes.specs.Served.{RisingTo}
 use Rattle.gl_shared.specs.State.{GuardedView}

@@ -1,0 +1,14 @@
+//! Stories of a few transactions over one manager, with every answer that is wanted: paths, rows and what
+//! is counted. Tests alone.
+#![tactic(auto)]
+
+#[cfg(test)]
+mod counters;
+#[cfg(test)]
+mod paths;
+#[cfg(test)]
+mod registry;
+#[cfg(test)]
+mod rows;
+#[cfg(test)]
+mod wanted;

@@ -1,0 +1,134 @@
+//! Records are removed, nodes move and children are shed, by the calls that answer with a list of their
+//! own. Each is called where its conditions hold.
+
+use crate::story::{
+    Heard, NOBODY, Released, Story, allowed, alone, granted, hear, nobody, same, tells, waits,
+};
+use gl_graph::Kind;
+use gl_modes::{Mode, NodeId, Refusal};
+use gl_table::{Detect, Notice, Status, Table, TxnId};
+use std::alloc::Global;
+use std::process::Abort;
+
+/// Removes a record that an active transaction holds in X; `None` where it is none.
+fn remove(table: &mut Table, t: TxnId, rec: NodeId) -> Option<Heard> {
+    if table.status(t) != Some(Status::Active) || table.mode(t, rec) != Some(Mode::X) {
+        return None;
+    }
+    match table.graph().kind(rec) {
+        Some(Kind::Rec) => Some(hear(&table.remove(t, rec))),
+        _ => None,
+    }
+}
+
+/// Moves an inner node that an active transaction holds in X under one that it holds in IX; `None` where
+/// they are none.
+fn move_under(table: &mut Table, t: TxnId, n: NodeId, parent: NodeId) -> Option<Released> {
+    if table.status(t) != Some(Status::Active)
+        || table.mode(t, n) != Some(Mode::X)
+        || table.mode(t, parent) != Some(Mode::IX)
+    {
+        return None;
+    }
+    match (table.graph().kind(n), table.graph().kind(parent)) {
+        (Some(Kind::Inner), Some(Kind::Inner)) => match table.regraft(t, n, &[parent]) {
+            Ok(told) => Some(Ok(hear(&told))),
+            Err(refusal) => Some(Err(refusal)),
+        },
+        _ => None,
+    }
+}
+
+/// Sheds the children of a node that an active transaction holds in X; `None` where it is none.
+fn shed(table: &mut Table, t: TxnId, n: NodeId) -> Option<(u32, u32, Heard)> {
+    if table.status(t) != Some(Status::Active) || table.mode(t, n) != Some(Mode::X) {
+        return None;
+    }
+    let (released, kept, told) = table.shed(t, n);
+    Some((released, kept, hear(&told)))
+}
+
+/// A table for two transactions, both of them, and a root.
+fn open(rt: &impl Abort, alloc: Global) -> (Story, TxnId, TxnId, NodeId) {
+    let mut story = allowed(rt, Story::new(alloc, Detect::AtBlock, 2));
+    let a = allowed(rt, story.begin());
+    let b = allowed(rt, story.begin());
+    let db = allowed(rt, story.add_inner(&[]));
+    (story, a, b, db)
+}
+
+/// A lock that is granted as it was asked for.
+fn takes(rt: &impl Abort, story: &mut Story, t: TxnId, n: NodeId, mode: Mode) {
+    same(rt, story.lock(t, n, mode), granted(mode));
+}
+
+#[test]
+fn who_waits_for_a_removed_record_is_told(rt: HostRuntime) {
+    let (mut story, a, b, db) = open(&rt, rt.alloc());
+    let file = allowed(&rt, story.add_file(&[db]));
+    let rec = allowed(&rt, story.table.adopt(file, &[]));
+    takes(&rt, &mut story, a, db, Mode::IX);
+    takes(&rt, &mut story, a, file, Mode::IX);
+    same(&rt, remove(&mut story.table, a, rec), None);
+    takes(&rt, &mut story, a, rec, Mode::X);
+    takes(&rt, &mut story, b, db, Mode::IS);
+    takes(&rt, &mut story, b, file, Mode::IS);
+    same(&rt, story.lock(b, rec, Mode::S), waits());
+    let gone = alone(b, Notice::Gone);
+    same(&rt, remove(&mut story.table, a, rec), Some(gone));
+    same(&rt, story.status(b), Some(Status::Active));
+    same(&rt, story.held(a, rec), Err(Refusal::NoSuchNode));
+}
+
+/// A root, two inner nodes under it, and one under the second of these. One transaction may write the
+/// second, and holds the first in X.
+fn tree(rt: &impl Abort, story: &mut Story, a: TxnId, db: NodeId) -> (NodeId, NodeId, NodeId) {
+    let x = allowed(rt, story.add_inner(&[db]));
+    let y = allowed(rt, story.add_inner(&[db]));
+    let z = allowed(rt, story.add_inner(&[x]));
+    takes(rt, story, a, db, Mode::IX);
+    takes(rt, story, a, x, Mode::X);
+    takes(rt, story, a, y, Mode::IX);
+    (x, y, z)
+}
+
+#[test]
+fn who_waits_for_a_moved_node_is_told(rt: HostRuntime) {
+    let (mut story, a, b, db) = open(&rt, rt.alloc());
+    let (x, y, _) = tree(&rt, &mut story, a, db);
+    takes(&rt, &mut story, b, db, Mode::IX);
+    same(&rt, story.lock(b, x, Mode::IX), waits());
+    let moved = tells(b, Notice::Moved);
+    same(&rt, move_under(&mut story.table, a, x, y), Some(moved));
+    same(&rt, story.children(a, y), Some(1));
+    let held = Err(Refusal::HeldChild { node: x });
+    same(&rt, story.unlock(a, y), held);
+    same(&rt, move_under(&mut story.table, b, x, y), None);
+}
+
+#[test]
+fn a_move_that_closes_a_path_is_refused(rt: HostRuntime) {
+    let (mut story, a, _, db) = open(&rt, rt.alloc());
+    let (x, _, z) = tree(&rt, &mut story, a, db);
+    takes(&rt, &mut story, a, z, Mode::IX);
+    let refused = Err(Refusal::Cycle { node: z });
+    same(&rt, move_under(&mut story.table, a, x, z), Some(refused));
+    same(&rt, story.unlock(a, z), nobody());
+}
+
+#[test]
+fn who_waits_for_a_shed_child_is_granted(rt: HostRuntime) {
+    let (mut story, a, b, db) = open(&rt, rt.alloc());
+    let other = allowed(&rt, story.add_inner(&[]));
+    let child = allowed(&rt, story.add_inner(&[db, other]));
+    takes(&rt, &mut story, a, db, Mode::X);
+    takes(&rt, &mut story, a, other, Mode::IX);
+    takes(&rt, &mut story, a, child, Mode::IX);
+    takes(&rt, &mut story, b, other, Mode::IS);
+    same(&rt, story.lock(b, child, Mode::S), waits());
+    same(&rt, shed(&mut story.table, b, other), None);
+    let grant = alone(b, Notice::Granted(child, Mode::S));
+    same(&rt, shed(&mut story.table, a, db), Some((1, 0, grant)));
+    same(&rt, story.held(a, child), Ok(Mode::NL));
+    same(&rt, shed(&mut story.table, a, db), Some((0, 0, NOBODY)));
+}
