@@ -91,12 +91,21 @@ static __attribute__((noinline)) void step_delete(const struct work *work) {
   });
 }
 
+/* Goes over all records, a hundred in a transaction, by the places `from` up to `to`. */
+#define BY_TRANSACTIONS(work, from, to, t, what)                                                        \
+  do {                                                                                                  \
+    uint32_t from, to;                                                                                  \
+    for (from = 0; from < (work)->records; from = to) {                                                 \
+      bs_txn t = begin();                                                                               \
+      to = (work)->records - from < PER_TRANSACTION ? (work)->records : from + PER_TRANSACTION;         \
+      what;                                                                                             \
+    }                                                                                                   \
+  } while (0)
+
 /* Records that stand only while they are locked. */
 static __attribute__((noinline)) void step_adopt(const struct work *work) {
-  uint32_t from, at, to;
-  for (from = 0; from < work->records; from = to) {
-    bs_txn t = begin();
-    to = work->records - from < PER_TRANSACTION ? work->records : from + PER_TRANSACTION;
+  uint32_t at;
+  BY_TRANSACTIONS(work, from, to, t, {
     for (at = from; at < to; at++) {
       uint64_t key = work->order[at];
       records[key] = done(bs_adopt(&m, file, &key, 1)).node;
@@ -104,21 +113,19 @@ static __attribute__((noinline)) void step_adopt(const struct work *work) {
     }
     commit(t);
     for (at = from; at < to; at++) done(bs_forget(&m, records[work->order[at]]));
-  }
+  });
 }
 
 /* The same by the rows' numbers: the library adopts and forgets. */
 static __attribute__((noinline)) void step_row(const struct work *work) {
-  uint32_t from, at, to;
-  for (from = 0; from < work->records; from = to) {
-    bs_txn t = begin();
-    to = work->records - from < PER_TRANSACTION ? work->records : from + PER_TRANSACTION;
+  uint32_t at;
+  BY_TRANSACTIONS(work, from, to, t, {
     for (at = from; at < to; at++) {
       uint64_t key = work->order[at];
       done(bs_lock_row(&m, t, file, key, &key, 1, BS_X, &told));
     }
     done(bs_commit_rows(&m, t, &told));
-  }
+  });
 }
 
 static const struct step steps[] = {

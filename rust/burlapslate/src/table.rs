@@ -283,15 +283,10 @@ impl Table {
         mode: Mode,
         until: Option<Instant>,
     ) -> Result<Mode, Stop> {
-        let mut guarded = self.guarded();
-        let (asked, told) = guarded.manager.lock(txn, node, mode)?;
-        let tells = !told.is_empty();
-        self.wake_behind(&mut guarded, tells, asked == Asked::Waiting);
-        match asked {
-            Asked::Granted(mode) => Ok(mode),
-            Asked::Victim => Err(Stop::Victim),
-            Asked::Waiting => self.sleep(guarded, txn, node, mode, until).1,
-        }
+        self.lock_by(txn, mode, until, |m| {
+            let (asked, told) = m.lock(txn, node, mode)?;
+            Ok((asked, node, !told.is_empty()))
+        })
     }
 
     /// A row's lock, of the intentions above which the session takes care.
@@ -303,9 +298,23 @@ impl Table {
         mode: Mode,
         until: Option<Instant>,
     ) -> Result<Mode, Stop> {
+        self.lock_by(txn, mode, until, |m| {
+            let (asked, node, told) = m.lock_row(txn, row, keys, mode)?;
+            Ok((asked, node, !told.is_empty()))
+        })
+    }
+
+    /// Asks for a lock, which answers its node and whether somebody is told. Wakes whom it tells, and
+    /// sleeps where it has to be waited for.
+    fn lock_by(
+        &self,
+        txn: Txn,
+        mode: Mode,
+        until: Option<Instant>,
+        ask: impl FnOnce(&mut Manager) -> Result<(Asked, Node, bool), Refusal>,
+    ) -> Result<Mode, Stop> {
         let mut guarded = self.guarded();
-        let (asked, node, told) = guarded.manager.lock_row(txn, row, keys, mode)?;
-        let tells = !told.is_empty();
+        let (asked, node, tells) = ask(&mut guarded.manager)?;
         self.wake_behind(&mut guarded, tells, asked == Asked::Waiting);
         match asked {
             Asked::Granted(mode) => Ok(mode),
