@@ -83,11 +83,11 @@ pub use Rattle.gl_model.specs.Calls.{stays, unlocked, waiting_test, WaitSettles,
 pub use Rattle.gl_model.specs.Lawful.{CondemningFrees, CutSetLaw, eff_s, eff_x, effective, EffX, EmptyHasNoCycle, is_read, IsCut, IsLawful, LawfulCutSet}
 pub use Rattle.gl_model.specs.Lawful.{LawfulNoConflict, ModeFitsKind, NoConflictLaw, OneFalls, SameBelow, SettlingEnds, SettlingFrees}
 pub use Rattle.gl_model.specs.Deadlocks.{has_row, IsDeadlock, IsStuck, name_at, RowsLeadOn, SettlesKeeping, SettlesKeepingWithin, VictimHasRow}
-pub use Rattle.gl_model.specs.ToldLists.{grant_notice, is_rising, IsBySlot, mode_given, notices_in, WakesTold}
+pub use Rattle.gl_model.specs.Tellings.{grant_notice, is_rising, IsBySlot, mode_given, notices_in, WakesTold}
 pub use Rattle.gl_model.specs.State.{age_in, age_of, awake, blocks, choosing, condemned, empty_state, front_at, granted_at, HasNoCycle, intends, intends_over}
 pub use Rattle.gl_model.specs.State.{is_wait, is_waiting_at, is_write, IsVictim, live_by, members, no_parents, pumped, restatus, Settled, SettledWithin}
 pub use Rattle.gl_model.specs.State.{slots, State, status_in, status_of, Txn, waits_at, waits_for, with_grant, with_graph, with_txn, without_wait, woken}
-pub use Rattle.gl_model.specs.Orderly.{IsOrderly, WaitWell}
+pub use Rattle.gl_model.specs.Lawful.{IsOrderly, WaitWell}
 pub use Rattle.gl_model.specs.Tellings.{addressed, children_that, IsOnWay, notice_of, stripped, Told, told, told_but, told_from, told_to}
 pub use Rattle.gl_model.specs.declared.deadlock.Deadlock.{Deadlock}
 pub use Rattle.gl_model.specs.declared.deadlock.Stuck.{Stuck}

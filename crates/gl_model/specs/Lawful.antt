@@ -1,21 +1,21 @@
 -- What holds of every state, effective modes, and the laws of the model.
-use Rattle.std.specs.Prelude.{◌≡◌, ◌≢◌, ℕ, ◌<◌, ◌≤◌, true, ◌||◌, [], ◌∷◌, Some, is_some, zero, suc, Bool, false, not, ◌&&◌, List, if◌then◌else◌}
-use Rattle.std.specs.List.{filter, list_any, list_all}
+use Rattle.std.specs.Prelude.{◌&&◌, ◌<◌, [], Bool, false, if◌then◌else◌, is_some, List, not, Some, suc, true, zero, ◌||◌, ℕ, ◌∷◌, ◌≡◌, ◌≢◌, ◌≤◌}
+use Rattle.std.specs.List.{filter, list_all, list_any}
 use Rattle.gl_modes.specs.declared.mode.Mode.{Mode}
 use Rattle.gl_modes.specs.declared.node.NodeId.{NodeId}
 use Rattle.gl_modes.specs.declared.mode.Mode.TheVariants.{NL, S, X}
 use Rattle.gl_modes.specs.Modes.{are_compatible, is_at_least, same_mode}
-use Rattle.gl_graph.specs.Graph.{is_live, shape_of, Graph, node_count, parents_of}
+use Rattle.gl_graph.specs.Graph.{Graph, is_live, node_count, parents_of, shape_of}
 use Rattle.gl_graph.specs.Shapes.{is_record_shape, keys_in}
 use Rattle.gl_graph.specs.Lawful.{IsLawfulGraph}
-use Rattle.gl_graph.specs.Routes.{IsRootPath, IsBelow}
+use Rattle.gl_graph.specs.Routes.{IsBelow, IsRootPath}
 use Rattle.gl_header.specs.Header.{holds, is_ahead, is_among_waiters, is_waiter}
 use Rattle.gl_waits.specs.declared.victims.Victims.{Victims}
 use Rattle.gl_waits.specs.declared.victims.Victims.TheVariants.{Fewest}
 use Rattle.gl_waits.specs.Waits.{IsOnNoCycle, Reaches, without}
 use Rattle.gl_model.specs.declared.txn.Status.TheVariants.{Waiting}
-use Rattle.gl_model.specs.State.{intends, front_at, is_waiting_at, State, age_of, members, status_of, no_parents, choosing, empty_state, condemned}
-use Rattle.gl_model.specs.State.{HasNoCycle, Settled, SettledWithin, is_wait, waits_for}
+use Rattle.gl_model.specs.State.{age_of, choosing, condemned, empty_state, front_at, HasNoCycle, intends, is_wait, is_waiting_at, members, no_parents, Settled}
+use Rattle.gl_model.specs.State.{SettledWithin, State, status_of, waits_for}
 use Rattle.gl_model.specs.declared.answers.Effect.{Effect}
 use Rattle.gl_model.specs.declared.answers.Detect.{Detect}
 use Rattle.gl_model.specs.declared.answers.Effect.TheVariants as effect
@@ -167,3 +167,19 @@ EmptyHasNoCycle = (detect : Detect) (victims : Victims) (most : ℕ) → HasNoCy
 pub record SameBelow (g g' : Graph) (n : NodeId) : Type 0 where
   pub kept : (r : NodeId) → IsBelow g n r → IsBelow g' n r × (keys_in (shape_of g' r) ≡ keys_in (shape_of g r))
   pub no_more : (r : NodeId) → IsBelow g' n r → IsBelow g n r
+
+-- What holds of a state also between the steps of a call.
+
+-- who holds or waits lives, on living nodes; who stands in a queue waits there, once, for a mode; this holds also between the steps of a call
+pub record IsOrderly (s : State) : Type 0 where
+  pub holders : (u : ℕ) (q : NodeId) → holds (members s q) u ≡ true → is_some (s.txns u) ≡ true
+  pub holders_live : (u : ℕ) (q : NodeId) → holds (members s q) u ≡ true → is_live s.graph q ≡ true
+  pub waiters_live : (u : ℕ) (q : NodeId) → is_among_waiters u (s.queue q) ≡ true → is_live s.graph q ≡ true
+  pub waits_are : (u : ℕ) (q : NodeId) → is_among_waiters u (s.queue q) ≡ true → is_waiting_at s u q ≡ true
+  pub one_wait : (u : ℕ) (q : NodeId) (m : Mode) → status_of s u ≡ Some (Waiting q m) → (filter (is_waiter u) (s.queue q) ≡ (u, m) ∷ []) × (m ≢ NL)
+  pub below : (u : ℕ) → is_some (s.txns u) ≡ true → u < s.most
+
+-- who stands in the queue of n waits there, once, for a mode
+pub record WaitWell (b : State) (n : NodeId) : Type 0 where
+  pub waits_are : (u : ℕ) → is_among_waiters u (b.queue n) ≡ true → is_waiting_at b u n ≡ true
+  pub one_wait : (u : ℕ) → is_among_waiters u (b.queue n) ≡ true → (m : Mode) × (filter (is_waiter u) (b.queue n) ≡ (u, m) ∷ []) × (m ≢ NL)

@@ -3,5 +3,3 @@ pub mod Calls
 pub mod Lawful
 pub mod Tellings
 pub mod Deadlocks
-pub mod Orderly
-pub mod ToldLists

@@ -1,4 +1,4 @@
--- The state of the model: who holds what, who waits where and for whom; grants from fronts, cycles and victims.
+-- The state of the model: one flat map of grants, one queue for each node, the transactions by slot; grants from fronts, cycles and victims.
 use Rattle.std.specs.Prelude.{ℕ, Bool, false, ◌&&◌, ◌==◌, List, [], Option, Some, None, if◌then◌else◌, true, ◌||◌, ◌∷◌, length, drop, ◌≡◌, zero, suc, not}
 use Rattle.std.specs.List.{range_with_len, list_any, list_all}
 use Rattle.gl_modes.specs.declared.mode.Mode.{Mode}
@@ -16,8 +16,6 @@ use Rattle.gl_model.specs.declared.txn.TxnId.{TxnId}
 use Rattle.gl_model.specs.declared.txn.Status.{Status}
 use Rattle.gl_model.specs.declared.answers.Detect.{Detect}
 use Rattle.gl_model.specs.declared.txn.Status.TheVariants.{Active, Waiting, Condemned}
-
--- The state of the lock manager: one flat map of grants, one queue for each node, the transactions by slot.
 
 -- a living transaction: the number of begins at its own, and what it is doing (Gray and Reuter; ages are own)
 pub record Txn : Type 0 where

@@ -1,20 +1,18 @@
--- What others are told of a command, at once and step by step.
-use Rattle.std.specs.Prelude.{ℕ, not, ◌==◌, List, Option, Some, None, if◌then◌else◌, ◌≡◌, true, [], ◌∷◌, Bool, ◌&&◌}
-use Rattle.std.specs.List.{filter, filter_map, count_by}
+-- What others are told of a command (own), a function of the states before and after; and the same step by step.
+use Rattle.std.specs.Prelude.{◌&&◌, ◌==◌, [], Bool, if◌then◌else◌, List, nat_lt, None, not, Option, Some, true, ℕ, ◌∷◌, ◌≡◌}
+use Rattle.std.specs.List.{count_by, filter, filter_map, find, list_all}
 use Rattle.gl_modes.specs.declared.mode.Mode.{Mode}
 use Rattle.gl_modes.specs.declared.node.NodeId.{NodeId}
 use Rattle.gl_modes.specs.Modes.{same_mode}
 use Rattle.gl_modes.specs.declared.mode.Mode.TheVariants.{NL}
-use Rattle.gl_graph.specs.Graph.{is_live, Graph, is_child, nodes}
-use Rattle.gl_header.specs.Header.{is_among_waiters, is_waiter, without_waiter}
+use Rattle.gl_graph.specs.Graph.{Graph, is_child, is_live, nodes}
+use Rattle.gl_header.specs.Header.{after_grants, is_among_waiters, is_waiter, Waiter, without_waiter}
 use Rattle.gl_model.specs.declared.txn.TxnId.{TxnId}
 use Rattle.gl_model.specs.declared.txn.Status.{Status}
 use Rattle.gl_model.specs.declared.answers.Notice.{Notice}
-use Rattle.gl_model.specs.declared.txn.Status.TheVariants.{Active, Waiting, Condemned}
-use Rattle.gl_model.specs.State.{State, age_of, slots, status_of, is_waiting_at}
+use Rattle.gl_model.specs.declared.txn.Status.TheVariants.{Active, Condemned, Waiting}
+use Rattle.gl_model.specs.State.{age_in, age_of, is_waiting_at, slots, State, status_of, Txn}
 use Rattle.gl_model.specs.declared.answers.Notice.TheVariants as notice
-
--- What others are told of a command (own): a function of the states before and after.
 
 -- what one is told that waited for m on n and waits no more: by the status at the end, whether the node lives, and whether the wanted mode is held
 abbrev pub notice_of : State → ℕ → NodeId → Mode → Option Status → Option Notice
@@ -77,3 +75,36 @@ stripped s t =
       queue = λ n. without_waiter t (s.queue n);
       txns = λ u. if u == t then None else s.txns u;
     }
+
+-- A told list as it is filled: notices by rising slot.
+
+-- each slot is below all behind it
+abbrev pub is_rising : Told → Bool
+is_rising [] = true
+is_rising (x ∷ xs) = list_all (λ y. nat_lt x.0.slot y.0.slot) xs && is_rising xs
+
+-- the notices stand by rising slot, and slots are below 128
+pub record IsBySlot (told : Told) : Type 0 where
+  pub rising : is_rising told ≡ true
+  pub below : list_all (λ x. nat_lt x.0.slot 128) told ≡ true
+
+-- what is told to a slot
+abbrev pub notices_in : Told → ℕ → Option (TxnId × Notice)
+notices_in told u = find (λ x. x.0.slot == u) told
+
+-- the mode that a slot has among these, NL for none
+abbrev pub mode_given : List Waiter → ℕ → Mode
+mode_given ws u = after_grants (λ _. NL) ws u
+
+-- these slots are told this, and all others what they were
+pub record IsTold (txns : ℕ → Option Txn) (who : ℕ → Bool) (says : ℕ → Notice) (told told' : Told) : Type 0 where
+  pub by_slot : IsBySlot told'
+  pub notices : (u : ℕ) → notices_in told' u ≡ (if who u then Some (record { slot = u; age = age_in (txns u) }, says u) else notices_in told u)
+
+-- what a waiter is told that is granted
+abbrev pub grant_notice : (ℕ → Option Txn) → NodeId → List Waiter → ℕ → Option (TxnId × Notice)
+grant_notice txns n ws u = Some (record { slot = u; age = age_in (txns u) }, notice.Granted n (mode_given ws u))
+
+-- these waiters are told of their grants
+abbrev pub WakesTold : (ℕ → Option Txn) → NodeId → List Waiter → Told → Told → Type 0
+WakesTold txns n ws told told' = IsTold txns (λ u. is_among_waiters u ws) (λ u. notice.Granted n (mode_given ws u)) told told'

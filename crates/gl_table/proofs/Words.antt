@@ -80,13 +80,13 @@ pub use Rattle.gl_model.specs.Calls.{enqueued, enters_at, first_not_ix, first_of
 pub use Rattle.gl_model.specs.Calls.{holds_child, is_covered, is_idle, lock_tests, locked_as, moved_to, need_exclusive, need_new_parents, need_parents}
 pub use Rattle.gl_model.specs.Calls.{none_but, not_held, RefusesOnly, released, rule_refusal, shed, some_given, stays, too_many_txns, try_tests, unlock_tests}
 pub use Rattle.gl_model.specs.Calls.{unlocked, WaitSettles, wanted, would_block}
-pub use Rattle.gl_model.specs.Lawful.{effect_on, effective, HasNoConflict, is_read, IsLawful}
+pub use Rattle.gl_model.specs.Lawful.{effect_on, effective, HasNoConflict, is_read, IsLawful, IsOrderly, WaitWell}
 pub use Rattle.gl_table.specs.Table.{AreRowsOf, board_of, entry_at, is_row_of, ListsAgree, row_of, rows_of, shown, StandOnce, state_of, TableView}
 pub use Rattle.gl_model.specs.Deadlocks.{IsDeadlock, IsStuck, LocksKeeping, SettlesKeeping, SettlesKeepingWithin, WaitSettlesKeeping}
 pub use Rattle.gl_table.specs.inside.Slots.{AreApart, AreKept, as_held, as_left, Books, books_of, by_list, CanEnd, CanHold, CanStrike, CanTell, counted_by}
 pub use Rattle.gl_table.specs.inside.Slots.{HasRoomAt, held_by, IsShedding, IsWritten, KeepsLists, listed_by, room_by, Strikes, TellsOthers, unlisted_by}
 pub use Rattle.gl_table.specs.inside.Slots.{WaitsEnd, Wakes, WakesLists, Writing}
-pub use Rattle.gl_model.specs.ToldLists.{grant_notice, IsBySlot, IsTold, mode_given, notices_in, WakesTold}
+pub use Rattle.gl_model.specs.Tellings.{grant_notice, IsBySlot, IsTold, mode_given, notices_in, WakesTold}
 pub use Rattle.gl_header.specs.Headers.{AreDistinct, AreHeaders, Entries, HasItsKey, header_at, header_or_new, held_of, is_granted_at, IsFreeKey, IsOneHolder}
 pub use Rattle.gl_header.specs.Headers.{members_at, queue_of, with_members, with_waiters}
 pub use Rattle.gl_model.specs.State.{age_in, age_of, blocks, choosing, condemned, empty_state, front_at, granted_at, HasNoCycle, intends_over, is_wait}
@@ -95,7 +95,6 @@ pub use Rattle.gl_model.specs.State.{status_in, status_of, Txn, waits_at, waits_
 pub use Rattle.gl_listed.specs.Lists.{count_in, count_of, covered_in, entry_of, HasRoom, is_listed, loose_of, mode_in, mode_of, NoneMarkedFrom, unlisted}
 unfoldable pub use Rattle.gl_listed.specs.Lists.{IsApart}
 pub use Rattle.gl_table.specs.inside.Locks.{Agrees, AreExact, AreNew, AreSound, CountsHeld, KeepsLocks, state_in, state_on}
-pub use Rattle.gl_model.specs.Orderly.{IsOrderly, WaitWell}
 pub use Rattle.gl_table.specs.inside.Seating.{IsSeating}
 pub use Rattle.gl_table.specs.inside.Seats.{is_free, is_free_at, SeatList, txn_in, txns_of}
 pub use Rattle.gl_table.specs.inside.Sound.{IsSound, view_of}

@@ -1,4 +1,4 @@
--- What a contract sees of a table, and what a listing and a board have.
+-- What a contract sees of a table, the state of the model that it stands for, what holds of every table, and what a listing and a board have.
 use Rattle.std.specs.Prelude.{◌≡◌, ℕ, ◌||◌, List, length, Option, Some, None, is_some, slice_get, Bool, [], map, get_or}
 use Rattle.std.specs.List.{IsDistinct, All, list_any, range_with_len}
 use Rattle.std.specs.Map.{keys_of, lookup}
@@ -23,8 +23,6 @@ use Rattle.gl_model.specs.declared.answers.LockRow.{LockRow}
 use Rattle.gl_model.specs.declared.txn.Status.{Status}
 use Rattle.gl_model.specs.declared.txn.TxnId.{TxnId}
 use Rattle.gl_model.specs.declared.answers.Detect.TheVariants.{ByWatcher}
-
--- What a contract sees of a table, the state of the model that it stands for, and what holds of every table.
 
 -- a table: the graph, the headers by node, the transactions by slot with their lists, the way of detection, whom a deadlock takes, how many began, and the last deadlock of which a victim fell
 pub record TableView : Type 0 where

@@ -13,12 +13,11 @@ ghost use Rattle.gl_header.specs.Header.{holds, is_among_waiters};
 ghost use Rattle.gl_model.specs.Calls.{unlocked};
 ghost use Rattle.gl_model.specs.State.{is_write, front_at, is_waiting_at, pumped, without_wait, members, with_grant};
 ghost use Rattle.gl_table.specs.inside.Locks.{Agrees, AreSound, CountsHeld, state_in, AreNew};
-ghost use Rattle.gl_model.specs.Orderly.{IsOrderly};
+ghost use Rattle.gl_model.specs.Lawful.{IsOrderly, effect_on};
 ghost use Rattle.gl_table.specs.inside.Seats.{txn_in, txns_of};
-ghost use Rattle.gl_model.specs.Lawful.{effect_on};
 ghost use Rattle.gl_table.specs.Table.{row_of};
 ghost use Rattle.gl_table.specs.inside.Slots.{CanEnd, CanHold, CanTell, Wakes, WakesLists, books_of, by_list, counted_by, held_by};
-ghost use Rattle.gl_model.specs.ToldLists.{IsBySlot, WakesTold, notices_in};
+ghost use Rattle.gl_model.specs.Tellings.{IsBySlot, WakesTold, notices_in};
 
 use crate::effective::effective;
 use crate::seat::Seat;

@@ -2,7 +2,7 @@
 
 ghost use Rattle.std.specs.Prelude.{◌≡◌, ◌<◌, ◌==◌, ℕ, None, Some, if◌then◌else◌, nat_lt, true};
 ghost use Rattle.std.specs.List.{prefix_len};
-ghost use Rattle.gl_model.specs.ToldLists.{IsBySlot, is_rising, notices_in};
+ghost use Rattle.gl_model.specs.Tellings.{IsBySlot, is_rising, notices_in};
 
 use gl_model::{Notice, Told, TxnId};
 

@@ -1,12 +1,12 @@
 -- Who waits for whom after each change. For cycles and boards.
 use Rattle.gl_model.proofs.Words.{[], ⊎_elim, ◌&&◌, ◌++◌, ◌+◌, ◌==◌, ◌||◌, ◌∙◌, ◌∷◌, ◌≡◌, ◌≢◌, ◌⊎◌, Active, and_both, ap, append-nil, ap₂, are_compatible}
 use Rattle.gl_model.proofs.Words.{arith, begun, blocks, Bool, clash, Condemned, differ-false, drop, enqueued, false, filter, granted_at, holds, if◌then◌else◌}
-use Rattle.gl_model.proofs.Words.{inr, is_ahead, is_among_waiters, IsLawful, length, List, Members, members, Mode, nat_tests, NL-compatible, NodeId, None, not}
-use Rattle.gl_model.proofs.Words.{not-true, number_other, Option, or_elim, or_left, or_right, placed, pumped, refl, restatus, same_node, same_node-equal, Some}
-use Rattle.gl_model.proofs.Words.{split, State, Status, status_in, status_of, sym, true, Txn, Waiter, Waiting, waits_for, with_grant, ℕ}
+use Rattle.gl_model.proofs.Words.{inr, is_ahead, is_among_waiters, is_waiter, IsLawful, length, List, Members, members, Mode, nat_tests, NL-compatible, NodeId}
+use Rattle.gl_model.proofs.Words.{None, not, not-true, number_other, Option, or_elim, or_left, or_right, placed, pumped, refl, restatus, same_node}
+use Rattle.gl_model.proofs.Words.{same_node-equal, Some, split, State, Status, status_in, status_of, sym, true, Txn, Waiter, Waiting, waits_for, with_grant, ℕ}
 use Rattle.gl_model.proofs.law.Keeps.{grant_case, granted_rest, IsLawfulBut, IsLess, woken_waits}
-use Rattle.gl_model.proofs.queues.Edits.{ahead_within, chosen_is, HoldersFirst}
-use Rattle.gl_model.proofs.queues.Waiters.{ahead, ahead_across, ahead_after, ahead_first, ahead_is, among_append, among_by_filter}
+use Rattle.gl_model.proofs.queues.Edits.{ahead_within, any_left, chosen_is, HoldersFirst, keep_ahead}
+use Rattle.gl_model.proofs.queues.Waiters.{ahead, ahead_across, ahead_after, ahead_first, ahead_is, among_append, among_by_filter, placed_case}
 
 -- Who waits for whom after each change.
 
@@ -72,36 +72,6 @@ pumped_steps s chosen law x y h =
         or_elim _ _ (sym (among_append x (granted_at s chosen n) (drop (length (granted_at s chosen n)) (s.queue n)))
         ∙ ap (is_among_waiters x) (granted_rest s chosen law n) ∙ among_by_filter x (x, m) [] (s.queue n) (law.one_wait x n m st)) (λ k. clash k out) (λ k. k)
 
--- what is filtered out of a queue was in it
-pub among_kept : (p : ℕ → Bool) (a : ℕ) (q : List Waiter) → is_among_waiters a (filter (λ w. p w.0) q) ≡ true → is_among_waiters a q ≡ true
-among_kept p a [] h = h
-among_kept p a (w ∷ q) h = grind (arith, nat_tests, p w.0, among_kept p a q)
-
--- who stood ahead before another was put in its place
-pub keep_ahead : (p : ℕ → Bool) (a b : ℕ) (q : List Waiter) → p a ≡ true → ahead (filter (λ w. p w.0) q) a b ≡ true → ahead q a b ≡ true
-keep_ahead p a b [] pa h = h
-keep_ahead p a b (w ∷ q) pa h = by (p w.0) (w.0 == a) (w.0 == b) refl refl (sym (pushed (p w.0)) ∙ h) (keep_ahead p a b q pa) (λ k. among_kept p a q k)
-  where
-    pushed : (x : Bool) → ahead (if x then w ∷ filter (λ v. p v.0) q else filter (λ v. p v.0) q) a b
-        ≡ (if x then not (w.0 == a) && (if w.0 == b then is_among_waiters a (filter (λ v. p v.0) q) else ahead (filter (λ v. p v.0) q) a b)
-        else ahead (filter (λ v. p v.0) q) a b)
-    pushed x = grind (arith, nat_tests)
-
-    slot_is : (t u : ℕ) → (t == u) ≡ true → t ≡ u
-    slot_is t u k = grind (arith, nat_tests)
-
-    by : (x y z : Bool) → p w.0 ≡ x → (w.0 == a) ≡ y →
-        (if x then not y && (if z then is_among_waiters a (filter (λ v. p v.0) q) else ahead (filter (λ v. p v.0) q) a b)
-        else ahead (filter (λ v. p v.0) q) a b) ≡ true
-        → (ahead (filter (λ v. p v.0) q) a b ≡ true → ahead q a b ≡ true) → (is_among_waiters a (filter (λ v. p v.0) q) ≡ true → is_among_waiters a q ≡ true)
-        → (not y && (if z then is_among_waiters a q else ahead q a b)) ≡ true
-    by true true z ex ey k r s = clash k refl
-    by true false true ex ey k r s = s k
-    by true false false ex ey k r s = r k
-    by false true z ex ey k r s = clash (ap p (slot_is w.0 a ey) ∙ pa) ex
-    by false false true ex ey k r s = s (ahead_first (filter (λ v. p v.0) q) a b k)
-    by false false false ex ey k r s = r k
-
 -- Changes at one transaction add no step between others.
 
 -- of two that wait, one stands ahead
@@ -112,18 +82,8 @@ one_ahead x y (w ∷ q) ne h k = grind (arith, nat_tests, one_ahead x y q ne)
 -- one between, who is neither
 ahead_skip : (x y t : ℕ) (m : Mode) (b a : List Waiter) → x ≢ t → y ≢ t → ahead (a ++ (t, m) ∷ b) x y ≡ true → ahead (a ++ b) x y ≡ true
 ahead_skip x y t m b [] nx ny h = grind (arith, nat_tests, differ-false t x nx, differ-false t y ny, h)
-ahead_skip x y t m b (w ∷ a) nx ny h = by (w.0 == x) (w.0 == y) h (ahead_skip x y t m b a nx ny)
-  where
-    fewer : is_among_waiters x (a ++ (t, m) ∷ b) ≡ true → is_among_waiters x (a ++ b) ≡ true
-    fewer k = among_append x a b ∙ or_elim (is_among_waiters x a) (is_among_waiters x ((t, m) ∷ b)) (sym (among_append x a ((t, m) ∷ b)) ∙ k)
-        (λ e. or_left (is_among_waiters x a) (is_among_waiters x b) e)
-        (λ e. or_right (is_among_waiters x a) (is_among_waiters x b) (or_elim (t == x) (is_among_waiters x b) e (λ f. clash f (differ-false t x nx)) (λ f. f)))
-
-    by : (p q : Bool) → (not p && (if q then is_among_waiters x (a ++ (t, m) ∷ b) else ahead (a ++ (t, m) ∷ b) x y)) ≡ true
-        → (ahead (a ++ (t, m) ∷ b) x y ≡ true → ahead (a ++ b) x y ≡ true) → (not p && (if q then is_among_waiters x (a ++ b) else ahead (a ++ b) x y)) ≡ true
-    by true q k r = clash k refl
-    by false true k r = fewer k
-    by false false k r = r k
+ahead_skip x y t m b (w ∷ a) nx ny h =
+    grind (arith, nat_tests, w.0 == x, w.0 == y, ahead_skip x y t m b a nx ny, among_append x a b, among_append x a ((t, m) ∷ b), differ-false t x nx)
 
 -- y stands ahead of x in the second part, or somewhere in the first
 ahead_parts : (x y : ℕ) (b a : List Waiter) → ahead (a ++ b) x y ≡ true → (is_among_waiters y a ≡ true) ⊎ (ahead b x y ≡ true)
@@ -140,8 +100,8 @@ sorted_ahead g q x y sorted ne h = split (holds g x) holder other
 
     waits : is_among_waiters x q ≡ true
     waits = or_elim (is_among_waiters x (filter (λ w. holds g w.0) q)) (is_among_waiters x (filter (λ w. not (holds g w.0)) q))
-        (sym (among_append x (filter (λ w. holds g w.0) q) (filter (λ w. not (holds g w.0)) q)) ∙ x_waits) (λ e. among_kept (holds g) x q e)
-        (λ e. among_kept (λ u. not (holds g u)) x q e)
+        (sym (among_append x (filter (λ w. holds g w.0) q) (filter (λ w. not (holds g w.0)) q)) ∙ x_waits) (λ e. any_left (is_waiter x) (λ w. holds g w.0) q e)
+        (λ e. any_left (is_waiter x) (λ w. not (holds g w.0)) q e)
 
     holder : holds g x ≡ true → ahead q x y ≡ true
     holder hx = keep_ahead (holds g) x y q hx (ahead_within x y (filter (λ w. not (holds g w.0)) q) (filter (λ w. holds g w.0) q)
@@ -151,18 +111,16 @@ sorted_ahead g q x y sorted ne h = split (holds g x) holder other
 
     other : holds g x ≡ false → ahead q x y ≡ true
     other hx =
-        ⊎_elim (λ e. ⊎_elim (λ k. k) (λ k. clash (sorted y x (chosen_is (holds g) y q e) k) hx) (one_ahead x y q ne waits (among_kept (holds g) y q e)))
+        ⊎_elim (λ e. ⊎_elim (λ k. k) (λ k. clash (sorted y x (chosen_is (holds g) y q e) k) hx) (one_ahead x y q ne waits
+        (any_left (is_waiter y) (λ w. holds g w.0) q e)))
         (λ e. keep_ahead (λ u. not (holds g u)) x y q (ap not hx) e) (ahead_parts x y (filter (λ w. not (holds g w.0)) q) (filter (λ w. holds g w.0) q) h)
 
 -- others stand as they stood
 pub placed_ahead : (g : Members) (q : List Waiter) (t : ℕ) (m : Mode) (x y : ℕ) → HoldersFirst g q → x ≢ y → x ≢ t → y ≢ t → ahead (placed g q t m) x y ≡ true
     → ahead q x y ≡ true
-placed_ahead g q t m x y sorted ne nx ny h = by (holds g t) h
-  where
-    by : (b : Bool) → ahead (if b then filter (λ w. holds g w.0) q ++ (t, m) ∷ filter (λ w. not (holds g w.0)) q else q ++ (t, m) ∷ []) x y ≡ true
-        → ahead q x y ≡ true
-    by true k = sorted_ahead g q x y sorted ne (ahead_skip x y t m (filter (λ w. not (holds g w.0)) q) (filter (λ w. holds g w.0) q) nx ny k)
-    by false k = ap (λ l. ahead l x y) (sym (append-nil q)) ∙ ahead_skip x y t m [] q nx ny k
+placed_ahead g q t m x y sorted ne nx ny = placed_case (λ l. ahead l x y ≡ true → ahead q x y ≡ true) g q t m
+    (λ e k. sorted_ahead g q x y sorted ne (ahead_skip x y t m (filter (λ w. not (holds g w.0)) q) (filter (λ w. holds g w.0) q) nx ny k))
+    (λ e k. ap (λ l. ahead l x y) (sym (append-nil q)) ∙ ahead_skip x y t m [] q nx ny k)
 
 apart_by : (x y : ℕ) → not (x == y) ≡ true → x ≢ y
 apart_by x y h = grind (arith, nat_tests)

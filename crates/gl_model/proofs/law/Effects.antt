@@ -1,9 +1,9 @@
 -- Effective modes, and that no two transactions conflict by them. For the laws and for `effective`.
-use Rattle.gl_model.proofs.Words.{[], ⊎_elim, ◌&&◌, ◌||◌, ◌∙◌, ◌∷◌, ◌≡◌, ◌≤◌, ◌⊎◌, all_at, and_both, any_found, ap, ap₂, are_compatible, arith, Bool, cond}
-use Rattle.gl_model.proofs.Words.{CutSetLaw, eff_s, eff_x, EffX, false, Graph, inl, inr, intends_over, IS, is_at_least, is_live, is_read, is_write, IsCut}
-use Rattle.gl_model.proofs.Words.{IsLawful, IsLawfulGraph, IsRoute, IX, LawfulCutSet, LawfulNoConflict, length, List, list_all, list_any, live_end, Mode}
-use Rattle.gl_model.proofs.Words.{nat_tests, NL, no_parents, NoConflictLaw, node_count, NodeId, not, or-true, or_elim, or_no, parents_of, refl, route_short}
-use Rattle.gl_model.proofs.Words.{rules, same_mode, same_node, same_node-refl, some_at, State, subst, suc, sym, true, true≢false, X, zero, ℕ}
+use Rattle.gl_model.proofs.Words.{[], ⊎_elim, ◌&&◌, ◌||◌, ◌∙◌, ◌∷◌, ◌≡◌, ◌≤◌, ◌⊎◌, all_at, and_both, any_found, ap, ap₂, are_compatible, arith, Bool, CutSetLaw}
+use Rattle.gl_model.proofs.Words.{eff_s, eff_x, EffX, false, Graph, inl, inr, intends_over, IS, is_at_least, is_live, is_read, is_write, IsLawful}
+use Rattle.gl_model.proofs.Words.{IsLawfulGraph, IsRoute, IX, LawfulCutSet, LawfulNoConflict, length, List, list_all, list_any, live_end, Mode, nat_tests, NL}
+use Rattle.gl_model.proofs.Words.{no_parents, NoConflictLaw, node_count, NodeId, not, or-true, or_elim, or_no, parents_of, refl, route_short, rules, same_mode}
+use Rattle.gl_model.proofs.Words.{same_node, same_node-refl, some_at, split, State, subst, suc, sym, true, true≢false, X, zero, ℕ}
 
 -- An effective X is an X on every root path.
 
@@ -51,15 +51,11 @@ module _ (g : Graph) (held : NodeId → Mode) where
 pub cut_set_on : CutSetLaw
 cut_set_on s law t n live = (
   λ x way path. on_path s.graph (s.held t) (node_count s.graph) n path.0 way x path.1 path.2.1,
-  λ cut. by (eff_x (node_count s.graph) s.graph (s.held t) n) refl cut,
+  λ cut. split (eff_x (node_count s.graph) s.graph (s.held t) n) (λ e. e) (λ e.
+      let out = escape s.graph (s.held t) (node_count s.graph) n e in
+      absurd (⊎_elim (λ root. true≢false (sym (cut out.1 (out.0, out.2, (live_end s.graph law n out.0 out.1 live out.2, root))) ∙ out.3))
+      (λ (long : length out.1 ≡ node_count s.graph). let few = route_short s.graph law n out.0 out.1 live out.2 in absurd (omega arith)) out.4)),
 )
-  where
-    by : (b : Bool) → eff_x (node_count s.graph) s.graph (s.held t) n ≡ b → IsCut s t n → eff_x (node_count s.graph) s.graph (s.held t) n ≡ true
-    by true e cut = e
-    by false e cut =
-        let out = escape s.graph (s.held t) (node_count s.graph) n e in
-        absurd (⊎_elim (λ root. true≢false (sym (cut out.1 (out.0, out.2, (live_end s.graph law n out.0 out.1 live out.2, root))) ∙ out.3))
-        (λ (long : length out.1 ≡ node_count s.graph). let few = route_short s.graph law n out.0 out.1 live out.2 in absurd (omega arith)) out.4)
 
 pub cut_set_law : LawfulCutSet
 cut_set_law s law t n live = cut_set_on s law.graph t n live
@@ -155,12 +151,7 @@ any_all p q (x ∷ xs) h k =
 pub holds_one : (held : NodeId → Mode) (ps : List NodeId) (m : Mode) → not (no_parents ps) ≡ true → intends_over held ps m ≡ true
     → list_any (λ p. is_at_least (held p) IS) ps ≡ true
 holds_one held [] m some h = absurd (true≢false (sym some))
-holds_one held (p ∷ ps) m some h =
-    elim (is_write m) as (λ w. cond w (list_all (λ q. is_at_least (held q) IX) (p ∷ ps))
-    (no_parents (p ∷ ps) || list_any (λ q. is_at_least (held q) IS) (p ∷ ps)) ≡ true → list_any (λ q. is_at_least (held q) IS) (p ∷ ps) ≡ true) [
-      | true ↦ λ k. ap (λ b. b || list_any (λ q. is_at_least (held q) IS) ps) (ix_is _ (and_both _ _ k).0)
-      | false ↦ λ k. k
-    ] h
+holds_one held (p ∷ ps) m some h = grind (arith, nat_tests, is_write m, is_at_least (held p) IX, ix_is (held p))
 
 holds_all : (held : NodeId → Mode) (ps : List NodeId) (m : Mode) → is_at_least m IX ≡ true → intends_over held ps m ≡ true
     → list_all (λ p. is_at_least (held p) IX) ps ≡ true

@@ -1,15 +1,16 @@
 -- What a grant and a loss keep of the law, and how fronts that grant bring the whole law back. For every change.
 use Rattle.gl_model.proofs.Words.{[], ⊎_elim, ◌&&◌, ◌++◌, ◌<◌, ◌==◌, ◌||◌, ◌∙◌, ◌∷◌, ◌≡◌, ◌≢◌, ◌≤◌, ◌⊎◌, Active, after_grants, age_in, age_of, and_both, ap}
-use Rattle.gl_model.proofs.Words.{ap₂, are_compatible, arith, at_least-refl, at_least-transitive, awake, Bool, clash, compatible-symmetric, cond, Condemned}
-use Rattle.gl_model.proofs.Words.{drop, false, filter, filter-append, fits, fits-all, front, front-after_front, front-and_rest, front_at, granted_at, holds}
-use Rattle.gl_model.proofs.Words.{if◌then◌else◌, intends, intends_over, IS, is_ahead, is_among_waiters, is_at_least, is_child, is_live, is_some, is_waiter}
-use Rattle.gl_model.proofs.Words.{is_waiting_at, is_write, IsCompatible, IsLawful, IsLawfulGraph, IsWithin, IX, length, List, list_all, list_any, Members}
-use Rattle.gl_model.proofs.Words.{members, Mode, ModeFitsKind, nat_tests, NL, NL-compatible, no_parents, NodeId, None, not, Option, or-true, or_left, or_right}
-use Rattle.gl_model.proofs.Words.{parents_of, pumped, pumped-compatible, range_with_len, refl, rules, same_mode, same_node, same_node-equal, same_node-refl}
-use Rattle.gl_model.proofs.Words.{same_number, Some, split, State, Status, status_in, status_of, subst, sym, true, true≢false, Txn, Waiter, Waiting, waits_at}
-use Rattle.gl_model.proofs.Words.{with_grant, with_mode, woken, ℕ}
-use Rattle.gl_model.proofs.queues.Waiters.{ahead, ahead_after, ahead_first, ahead_is, ahead_second, among_append, grants_one, grants_other, none_filtered}
-use Rattle.gl_model.proofs.queues.Waiters.{if-false, not_among, one_in_first}
+use Rattle.gl_model.proofs.Words.{ap₂, are_compatible, arith, at_least-refl, at_least-transitive, Bool, clash, compatible-symmetric, cond, Condemned, drop}
+use Rattle.gl_model.proofs.Words.{false, filter, filter-append, fits, fits-all, front, front-after_front, front_at, granted_at, holds, if◌then◌else◌, intends}
+use Rattle.gl_model.proofs.Words.{intends_over, IS, is_ahead, is_among_waiters, is_at_least, is_child, is_live, is_some, is_waiter, is_waiting_at, is_write}
+use Rattle.gl_model.proofs.Words.{IsCompatible, IsLawful, IsLawfulGraph, IsWithin, IX, length, List, list_all, list_any, Members, members, Mode, ModeFitsKind}
+use Rattle.gl_model.proofs.Words.{nat_tests, NL, NL-compatible, no_parents, NodeId, None, not, Option, or_elim, or_left, or_right, parents_of, pumped}
+use Rattle.gl_model.proofs.Words.{pumped-compatible, range_with_len, refl, rules, same_mode, same_node, same_node-equal, same_node-refl, same_number, Some}
+use Rattle.gl_model.proofs.Words.{split, State, Status, status_in, status_of, subst, sym, true, true≢false, Txn, Waiter, Waiting, waits_at, with_grant, woken}
+use Rattle.gl_model.proofs.Words.{ℕ}
+use Rattle.gl_model.proofs.queues.Waiters.{ahead, ahead_after, ahead_first, ahead_is, ahead_second, all_weaker, among_append, any_weaker, grants_one}
+use Rattle.gl_model.proofs.queues.Waiters.{grants_other, if-false, if-true, no_cons, none_filtered, not_among, one_in_first}
+use Rattle.gl_model.proofs.queues.Fronts.{granted_parts}
 
 -- who does not hold holds NL
 pub nl_is : (a : Mode) → not (same_mode a NL) ≡ false → a ≡ NL
@@ -33,52 +34,25 @@ holders-within s n below u le = split (holds (members s n) u) (λ h. let lt = be
 pub lawful-within : (s : State) → IsLawful s → (n : NodeId) → IsWithin s.most (members s n)
 lawful-within s law n = holders-within s n (λ u h. law.slots_below u (law.grants_live u n h).0)
 
--- the graph rule over greater modes
-all_more : (h h' : NodeId → Mode) → ((p : NodeId) → is_at_least (h' p) (h p) ≡ true) → (m : Mode) (ps : List NodeId)
-    → list_all (λ p. is_at_least (h p) m) ps ≡ true → list_all (λ p. is_at_least (h' p) m) ps ≡ true
-all_more h h' more m [] k = refl
-all_more h h' more m (p ∷ ps) k = let both = and_both _ _ k in ap₂ (λ a b. a && b) (at_least-transitive _ _ _ (more p) both.0) (all_more h h' more m ps both.1)
-
-any_more : (h h' : NodeId → Mode) → ((p : NodeId) → is_at_least (h' p) (h p) ≡ true) → (m : Mode) (ps : List NodeId)
-    → list_any (λ p. is_at_least (h p) m) ps ≡ true → list_any (λ p. is_at_least (h' p) m) ps ≡ true
-any_more h h' more m [] k = k
-any_more h h' more m (p ∷ ps) k =
-    split (is_at_least (h p) m) (λ e. ap (λ b. b || list_any (λ q. is_at_least (h' q) m) ps) (at_least-transitive _ _ _ (more p) e))
-    (λ e. ap (λ b. is_at_least (h' p) m || b) (any_more h h' more m ps (sym (ap (λ b. b || list_any (λ q. is_at_least (h q) m) ps) e) ∙ k))
-    ∙ or-true (is_at_least (h' p) m))
-
 -- a holder of no less meets the rule as before
 pub rule_more : (h h' : NodeId → Mode) → ((p : NodeId) → is_at_least (h' p) (h p) ≡ true) → (ps : List NodeId) (m : Mode) → intends_over h ps m ≡ true
     → intends_over h' ps m ≡ true
-rule_more h h' more ps m k = by (is_write m) k
-  where
-    or_more : (a b b' : Bool) → (b ≡ true → b' ≡ true) → (a || b) ≡ true → (a || b') ≡ true
-    or_more a b b' h1 h2 = grind (arith, nat_tests)
-
-    by : (w : Bool) → cond w (list_all (λ p. is_at_least (h p) IX) ps) (no_parents ps || list_any (λ p. is_at_least (h p) IS) ps) ≡ true
-        → cond w (list_all (λ p. is_at_least (h' p) IX) ps) (no_parents ps || list_any (λ p. is_at_least (h' p) IS) ps) ≡ true
-    by true k' = all_more h h' more IX ps k'
-    by false k' = or_more (no_parents ps) _ _ (any_more h h' more IS ps) k'
+rule_more h h' more ps m k =
+    let all = all_weaker (λ p. is_at_least (h p) IX) (λ p. is_at_least (h' p) IX) ps (λ p. at_least-transitive (h' p) (h p) IX (more p)) in
+    let any = any_weaker (λ p. is_at_least (h p) IS) (λ p. is_at_least (h' p) IS) ps (λ p. at_least-transitive (h' p) (h p) IS (more p)) in
+    grind (arith, nat_tests, is_write m, no_parents ps, all, any)
 
 -- fewer fit where a mode is greater
 pub fits_less : (g g' : Members) → ((u : ℕ) → is_at_least (g' u) (g u) ≡ true) → (t : ℕ) (m : Mode) (us : List ℕ)
     → list_all (λ u. (u == t) || are_compatible m (g' u)) us ≡ true → list_all (λ u. (u == t) || are_compatible m (g u)) us ≡ true
-fits_less g g' more t m [] k = refl
-fits_less g g' more t m (u ∷ us) k =
-    let both = and_both _ _ k in ap₂ (λ a b. a && b) (or_less (u == t) both.0) (fits_less g g' more t m us both.1)
-  where
-    or_less : (a : Bool) → (a || are_compatible m (g' u)) ≡ true → (a || are_compatible m (g u)) ≡ true
-    or_less a h1 = grind (arith, nat_tests)
+fits_less g g' more t m us k = all_weaker (λ u. (u == t) || are_compatible m (g' u)) (λ u. (u == t) || are_compatible m (g u)) us
+    (λ u e. or_elim _ _ e (or_left _ _) (λ c. or_right (u == t) _ (less_compatible m (g u) (g' u) (more u) c))) k
 
 -- with no less held, a front that was empty stays empty
 pub front_less : (most : ℕ) (g g' : Members) → ((u : ℕ) → is_at_least (g' u) (g u) ≡ true) → (q : List Waiter) → front most g q ≡ [] → front most g' q ≡ []
 front_less most g g' more [] h = refl
 front_less most g g' more (w ∷ q) h = split (fits most g' w.0 w.1)
-    (λ e. absurd (no_cons (sym (ap (λ b. if b then w ∷ front most (with_mode g w.0 w.1) q else []) (fits_less g g' more w.0 w.1 (range_with_len 0 most) e))
-    ∙ h))) (λ e. if-false _ e)
-  where
-    no_cons : {x : Waiter} {xs : List Waiter} → x ∷ xs ≡ [] → ⊥
-    no_cons e = cc
+    (λ e. no_cons (sym (if-true _ (fits_less g g' more w.0 w.1 (range_with_len 0 most) e)) ∙ h)) (λ e. if-false _ e)
 
 pub txn_there : (x : Option Txn) (st : Status) → status_in x ≡ Some st → is_some x ≡ true
 txn_there None st h = cc
@@ -172,22 +146,23 @@ pub age_none : (x : Option Txn) → is_some x ≡ false → age_in x ≡ 0
 age_none None h = refl
 age_none (Some x) h = clash refl h
 
+-- two tests that agree on all that is listed
+pub any_same : (f g : NodeId → Bool) (ns : List NodeId) → ((n : NodeId) → list_any (same_node n) ns ≡ true → f n ≡ g n) → list_any f ns ≡ list_any g ns
+any_same f g [] same = refl
+any_same f g (n ∷ ns) same =
+    ap₂ (λ a b. a || b) (same n (or_left _ _ (same_node-refl n))) (any_same f g ns (λ p h. same p (or_right (same_node p n) _ h)))
+
+pub all_same : (f g : NodeId → Bool) (ns : List NodeId) → ((n : NodeId) → list_any (same_node n) ns ≡ true → f n ≡ g n) → list_all f ns ≡ list_all g ns
+all_same f g [] same = refl
+all_same f g (n ∷ ns) same =
+    ap₂ (λ a b. a && b) (same n (or_left _ _ (same_node-refl n))) (all_same f g ns (λ p h. same p (or_right (same_node p n) _ h)))
+
 -- the graph rule looks at the parents alone
 pub rule_same : (h h' : NodeId → Mode) (m : Mode) (ps : List NodeId) → ((p : NodeId) → list_any (same_node p) ps ≡ true → h' p ≡ h p)
     → intends_over h' ps m ≡ intends_over h ps m
-rule_same h h' m ps same = ap₂ (λ a b. cond (is_write m) a (no_parents ps || b)) (all_same ps same) (any_same ps same)
-  where
-    all_same : (ps : List NodeId) → ((p : NodeId) → list_any (same_node p) ps ≡ true → h' p ≡ h p)
-        → list_all (λ p. is_at_least (h' p) IX) ps ≡ list_all (λ p. is_at_least (h p) IX) ps
-    all_same [] same = refl
-    all_same (p ∷ ps) same = ap₂ (λ a b. a && b) (ap (λ x. is_at_least x IX) (same p (or_left _ _ (same_node-refl p))))
-        (all_same ps (λ q k. same q (or_right (same_node q p) _ k)))
-
-    any_same : (ps : List NodeId) → ((p : NodeId) → list_any (same_node p) ps ≡ true → h' p ≡ h p)
-        → list_any (λ p. is_at_least (h' p) IS) ps ≡ list_any (λ p. is_at_least (h p) IS) ps
-    any_same [] same = refl
-    any_same (p ∷ ps) same = ap₂ (λ a b. a || b) (ap (λ x. is_at_least x IS) (same p (or_left _ _ (same_node-refl p))))
-        (any_same ps (λ q k. same q (or_right (same_node q p) _ k)))
+rule_same h h' m ps same = ap₂ (λ a b. cond (is_write m) a (no_parents ps || b))
+    (all_same (λ p. is_at_least (h' p) IX) (λ p. is_at_least (h p) IX) ps (λ p k. ap (λ x. is_at_least x IX) (same p k)))
+    (any_same (λ p. is_at_least (h' p) IS) (λ p. is_at_least (h p) IS) ps (λ p k. ap (λ x. is_at_least x IS) (same p k)))
 
 -- these grants, queues and transactions are some of the state's: no grant without those that it needs, each wait whole
 pub record IsLess (s : State) (held : ℕ → NodeId → Mode) (queue : NodeId → List Waiter) (txns : ℕ → Option Txn) (chosen : NodeId → Bool) : Type 0 where
@@ -223,7 +198,7 @@ module _ (s : State) (law : IsLawful s) (held : ℕ → NodeId → Mode) (queue 
         (λ e. ⊎_elim (λ f. ap₂ are_compatible refl f ∙ NL-compatible (held u q)) (λ f. ap₂ are_compatible e f ∙ law.compatible u v q ne) (less.kept v q))
         (less.kept u q);
     grants_intend = λ u q h. let old = law.grants_intend u q (holds_old u q h) in let live = (law.grants_live u q (holds_old u q h)).1 in
-        rule_same (s.held u) (held u) (held u q) (parents_of s.graph q) (λ p k. less.above u q p h live (is_child_from p q k))
+        rule_same (s.held u) (held u) (held u q) (parents_of s.graph q) (λ p. less.above u q p h live)
         ∙ ap (intends s u q) (held_same u q h) ∙ old;
     waits_intend = λ u q m st. let was = less.waits_same u q m st in let old = law.waits_intend u q m was.0 in (
       rule_same (s.held u) (held u) m (parents_of s.graph q) (λ p k. was.1 p) ∙ old.0,
@@ -251,41 +226,26 @@ module _ (s : State) (law : IsLawful s) (held : ℕ → NodeId → Mode) (queue 
         (λ k. let old = law.ages u was.0 in let none : age_in (txns v) ≡ 0 = age_none (txns v) k in let zero_age : age_of s u ≡ 0 = sym was.1 ∙ e ∙ none in
         absurd (omega arith));
   }
-    where
-      is_child_from : (p q : NodeId) → list_any (same_node p) (parents_of s.graph q) ≡ true → is_child s.graph p q ≡ true
-      is_child_from p q k = k
 
 -- Nodes that grant from their fronts bring the whole law back.
 
 -- what the granted lists do to a transaction
 module _ (g : NodeId → List Waiter) (u : ℕ) where
   pub woken_some : (x : Option Txn) → is_some (woken g u x) ≡ is_some x
-  woken_some None = refl
-  woken_some (Some x) = refl
+  woken_some x = grind (arith, nat_tests, x)
 
   pub woken_age : (x : Option Txn) → age_in (woken g u x) ≡ age_in x
-  woken_age None = refl
-  woken_age (Some x) = refl
-
-  still : (q : NodeId) (m : Mode) (st : Status) → Some (awake g u st) ≡ Some (Waiting q m) → (Some st ≡ Some (Waiting q m)) × (is_among_waiters u (g q) ≡ false)
-  still q m Active h = absurd (cc)
-  still q m Condemned h = absurd (cc)
-  still q m (Waiting n w) h = grind (arith, nat_tests, is_among_waiters u (g n))
+  woken_age x = grind (arith, nat_tests, x)
 
   -- who still waits was not granted
   pub woken_waits : (q : NodeId) (m : Mode) (x : Option Txn) → status_in (woken g u x) ≡ Some (Waiting q m) → (status_in x ≡ Some (Waiting q m))
       × (is_among_waiters u (g q) ≡ false)
-  woken_waits q m None h = absurd (cc)
-  woken_waits q m (Some x) h = still q m x.status h
-
-  sleeps : (q : NodeId) (m : Mode) (st : Status) → Some st ≡ Some (Waiting q m) → is_among_waiters u (g q) ≡ false → Some (awake g u st) ≡ Some (Waiting q m)
-  sleeps q m st h k = let is : st ≡ Waiting q m = cc in ap (λ x. Some (awake g u x)) is ∙ ap (λ b. Some (if b then Active else Waiting q m)) k
+  woken_waits q m x h = grind (arith, nat_tests, x)
 
   -- and who was not granted still waits
   pub woken_sleeps : (q : NodeId) (m : Mode) (x : Option Txn) → status_in x ≡ Some (Waiting q m) → is_among_waiters u (g q) ≡ false
       → status_in (woken g u x) ≡ Some (Waiting q m)
-  woken_sleeps q m None h k = absurd (cc)
-  woken_sleeps q m (Some x) h k = sleeps q m x.status h k
+  woken_sleeps q m x h k = grind (arith, nat_tests, x)
 
 module _ (s : State) (chosen : NodeId → Bool) (law : IsLawfulBut chosen s) where
   abbrev got : NodeId → List Waiter
@@ -296,12 +256,7 @@ module _ (s : State) (chosen : NodeId → Bool) (law : IsLawfulBut chosen s) whe
 
   -- a queue is what is granted and what is left
   pub granted_rest : (q : NodeId) → got q ++ left q ≡ s.queue q
-  granted_rest q = by (chosen q)
-    where
-      by : (b : Bool) → (if b then front s.most (members s q) (s.queue q) else []) ++ drop (length (if b then front s.most (members s q) (s.queue q) else []))
-          (s.queue q) ≡ s.queue q
-      by true = front-and_rest s.most (members s q) (s.queue q)
-      by false = refl
+  granted_rest q = granted_parts s chosen q
 
   pub got_waits : (u : ℕ) (q : NodeId) → is_among_waiters u (got q) ≡ true → is_among_waiters u (s.queue q) ≡ true
   got_waits u q h = ap (is_among_waiters u) (sym (granted_rest q)) ∙ among_append u (got q) (left q) ∙ or_left _ _ h

@@ -1,10 +1,10 @@
 -- The last deadlock, while its rows are written and while a slot is settled. For deadlocks.
 use Rattle.gl_model.proofs.Words.{[], ◌&&◌, ◌++◌, ◌<◌, ◌==◌, ◌||◌, ◌↔◌, ◌∙◌, ◌∷◌, ◌≡◌, ◌≤◌, All-nil, All-push, All-same, all_pairs_push, AllPairs, and_both, ap}
-use Rattle.gl_model.proofs.Words.{ap₂, arith, Bool, candidate-on_cycle, clash, condemned, Deadlock, false, get_or, has_row, has_slot, HasNoSlot}
-use Rattle.gl_model.proofs.Words.{IsDeadlock, IsLowest, IsOnCycleOf, IsStuck, IsTrue, IsVictim, IsWalk, length}
-use Rattle.gl_model.proofs.Words.{length-append, List, list_any, list_any-append, name_at, nat_tests, not, or_elim, or_right, reaches_join}
-use Rattle.gl_model.proofs.Words.{RowsLeadOn, same_number, Settled, SettledWithin, SettlesKeeping, SettlesKeepingWithin, Slots, Some, State}
-use Rattle.gl_model.proofs.Words.{status_of, Stuck, subst, suc, sym, true, VictimHasRow, Victims, Waiting, waits_for, zero, ℕ}
+use Rattle.gl_model.proofs.Words.{ap₂, arith, Bool, candidate-on_cycle, clash, condemned, Deadlock, false, get_or, has_row, has_slot, HasNoSlot, IsDeadlock}
+use Rattle.gl_model.proofs.Words.{IsLowest, IsOnCycleOf, IsStuck, IsTrue, IsVictim, IsWalk, length, length-append, List, list_any, list_any-append, name_at}
+use Rattle.gl_model.proofs.Words.{nat_tests, not, not-true, or_elim, or_right, reaches_join, RowsLeadOn, same_number, Settled, SettledWithin, SettlesKeeping}
+use Rattle.gl_model.proofs.Words.{SettlesKeepingWithin, Slots, Some, State, status_of, Stuck, subst, suc, sym, true, VictimHasRow, Victims, Waiting, waits_for}
+use Rattle.gl_model.proofs.Words.{zero, ℕ}
 use Rattle.std.specs.List.{All}
 
 -- The last deadlock, while its rows are written.
@@ -45,12 +45,8 @@ module _ (s : State) (t v : ℕ) (cycle : Slots) (of : (u : ℕ) → IsTrue (has
     still : (u : ℕ) → has_slot rest u ≡ true → (has_slot left u ≡ true) × (k < u)
     still u h =
         let both = and_both (has_slot left u) (not (u == k)) (sym (taken u) ∙ h) in
-        let differ : (u == k) ≡ false = not_false (u == k) both.1 in
-        (both.0, above (λ low. clash both.0 (lowest.none_below u low)) differ)
+        (both.0, above (λ low. clash both.0 (lowest.none_below u low)) (not-true (u == k) both.1))
       where
-        not_false : (b : Bool) → not b ≡ true → b ≡ false
-        not_false b h1 = grind (arith, nat_tests)
-
         above : (u < k → ⊥) → (u == k) ≡ false → k < u
         above low e = grind (arith, nat_tests)
 
@@ -83,12 +79,6 @@ module _ (s : State) (t v : ℕ) (cycle : Slots) (of : (u : ℕ) → IsTrue (has
             (λ h. row u ∙ ap₂ (λ a b. a && b) (sym (ap (λ n. waits_for s n u) slot) ∙ h.1) ((of u).1 h.0)),
           );
         }
-
-        joined : (any here b : Bool) → (b ≡ true → here ≡ true) → (any || here) ≡ ((any || (b || false)) || (here && not b))
-        joined any here b h1 = grind (arith, nat_tests)
-
-        same : (u : ℕ) → (r.txn.slot == u) ≡ (u == k)
-        same u = grind (arith, nat_tests, slot)
 
         moved : (u : ℕ) → (has_row d u || has_slot left u) ≡ ((has_row d u || list_any (is_of u) (r ∷ [])) || has_slot rest u)
         moved u = grind (arith, nat_tests, has_row d u, has_slot left u, has_slot left, same_number)

@@ -1,9 +1,9 @@
 -- A lock and an unlock keep the law, and no command on locks leaves a cycle. For the table's law.
 use Rattle.gl_model.proofs.Words.{[], ◌&&◌, ◌++◌, ◌+◌, ◌<◌, ◌==◌, ◌∙◌, ◌∷◌, ◌≡◌, Active, active_on, and_both, ap, arith, at_one-no_cycle, AtBlock, bad_mode}
 use Rattle.gl_model.proofs.Words.{begun, Bool, ByWatcher, choosing, Condemned, condemned, Detect, empty_state, EmptyHasNoCycle, enqueued, enters_at, false}
-use Rattle.gl_model.proofs.Words.{find, first_refusal, fits, HasNoCycle, held_child, if◌then◌else◌, intends, is_child, is_covered, is_live, is_none, is_some}
-use Rattle.gl_model.proofs.Words.{is_waiting_at, IsLawful, IsOnNoCycle, less-no_cycle, List, members, Mode, nat_tests, need_parents, NL, no_step-no_cycle}
-use Rattle.gl_model.proofs.Words.{NodeId, None, not_refused, not_true, Option, parents_of, pumped, range_with_len, Refusal, released, restatus, same_node}
+use Rattle.gl_model.proofs.Words.{find, first_refusal, HasNoCycle, held_child, if◌then◌else◌, intends, is_child, is_covered, is_live, is_none, is_some}
+use Rattle.gl_model.proofs.Words.{is_waiting_at, IsLawful, IsOnNoCycle, less-no_cycle, List, Mode, nat_tests, need_parents, NL, no_step-no_cycle, NodeId, None}
+use Rattle.gl_model.proofs.Words.{not_refused, not_true, number_same, Option, parents_of, pumped, range_with_len, refl, Refusal, released, restatus, same_node}
 use Rattle.gl_model.proofs.Words.{same_node-equal, same_node-sym, Settled, SettledWithin, SettlingFrees, shed, Some, split, State, Status, status_in, status_of}
 use Rattle.gl_model.proofs.Words.{subst, suc, supremum-above, sym, true, Txn, TxnId, Victims, Waiter, waits_for, WaitSettles, wanted, with_grant, without_wait}
 use Rattle.gl_model.proofs.Words.{without_waiter, zero, ℕ}
@@ -12,6 +12,7 @@ use Rattle.gl_model.proofs.law.Edges.{begun_steps, enqueued_steps, granted_steps
 use Rattle.gl_model.proofs.law.Keeps.{apart, IsLess, less-lawful, pumped-lawful, with_grant-lawful}
 use Rattle.gl_model.proofs.law.Takes.{at_all, condemned-lawful, enqueued-lawful, IsQuiet, released-less, settled-lawful, taken-less, without_wait-less}
 use Rattle.gl_model.proofs.law.Tests.{active_after, mode_fits, no_child, rule_met, shed-less, wanted_not_nl}
+use Rattle.gl_model.proofs.queues.Waiters.{if-true}
 
 -- A lock that passed its tests, and an unlock: what they leave keeps the law.
 
@@ -32,15 +33,12 @@ may_lock s t n m first rest h =
     let c = not_refused (need_parents s t.slot n (wanted s t.slot n m)) rest b.1 in
     (record { active = a.0; live = a.1; not_bad = b.0; rule = rule_met (s.held t.slot) (parents_of s.graph n) (wanted s t.slot n m) c.0 }, c.1)
 
-enters_fits : (s : State) (t : ℕ) (n : NodeId) (m : Mode) → enters_at s t n m ≡ true → fits s.most (members s n) t (wanted s t n m) ≡ true
-enters_fits s t n m h = (and_both _ _ h).0
-
 -- granted at once
 pub granted-lawful : (s : State) → IsLawful s → (t : TxnId) (n : NodeId) (m : Mode) → MayLock s t n m → enters_at s t.slot n m ≡ true
     → IsLawful (with_grant s t.slot n (wanted s t.slot n m))
 granted-lawful s law t n m may h =
     with_grant-lawful s law t.slot n (wanted s t.slot n m) may.active may.live (mode_fits s law t.slot n m may.not_bad).1 may.rule
-    (supremum-above (s.held t.slot n) m) (enters_fits s t.slot n m h)
+    (supremum-above (s.held t.slot n) m) (and_both _ _ h).0
 
 -- placed in the queue
 pub waiting-lawful : (s : State) → IsLawful s → (t : TxnId) (n : NodeId) (m : Mode) → MayLock s t n m → enters_at s t.slot n m ≡ false
@@ -141,13 +139,7 @@ granted-no_cycle s t n m active none =
 -- who begins waits for nobody
 pub begun-no_cycle : (s : State) (t : ℕ) → HasNoCycle s → HasNoCycle (begun s t)
 begun-no_cycle s t none = at_one-no_cycle (waits_for s) (waits_for (begun s t)) t (begun_steps s t) none
-    (no_step-no_cycle (waits_for (begun s t)) t (active_idle (begun s t) t now))
-  where
-    same : (u : ℕ) → (u == u) ≡ true
-    same u = grind (arith, nat_tests)
-
-    now : status_of (begun s t) t ≡ Some Active
-    now = ap (λ b. status_in (if b then Some (record { age = s.begins + 1; status = Active }) else s.txns t)) (same t)
+    (no_step-no_cycle (waits_for (begun s t)) t (active_idle (begun s t) t (ap status_in (if-true _ (number_same t t refl)))))
 
 -- a lock that waits, once it is settled
 pub waiting-no_cycle : (c : Victims) (s s' : State) → IsLawful s → (t : TxnId) (n : NodeId) (m : Mode) → MayLock s t n m → enters_at s t.slot n m ≡ false

@@ -1,28 +1,27 @@
 -- A node gets other parents: the law is kept, and no step of a wait is new. For moves.
-use Rattle.gl_model.proofs.Words.{[], ⊎_elim, ◌&&◌, ◌<◌, ◌==◌, ◌||◌, ◌∙◌, ◌∷◌, ◌≡◌, ◌≢◌, ◌≤◌, ◌⊎◌, Active, age_of, and_both, ap, ap₂, are_compatible}
-use Rattle.gl_model.proofs.Words.{AreInnerParents, arith, at_here, at_other, Bool, cases_of, clash, cond, false, file_of_record, filter, first_cycle, fits}
-use Rattle.gl_model.proofs.Words.{front, Graph, HasNoCycle, holds, holds_x, holds_x_on_all, if◌then◌else◌, inl, inner_live, inr, intends, intends_over, IS}
-use Rattle.gl_model.proofs.Words.{is_ahead, is_among_waiters, is_at_least, is_live, is_movable_shape, is_record_shape, is_some, is_waiter, is_waiting_at}
-use Rattle.gl_model.proofs.Words.{is_write, IsAlike, IsLawful, IsLawfulGraph, IX, least_parents, length, less-no_cycle, List, list_all, list_any, live_same}
-use Rattle.gl_model.proofs.Words.{members, Mode, ModeFitsKind, movable_alike, move_lawful, moved_to, nat_tests, need_exclusive, need_new_parents, NL, no}
-use Rattle.gl_model.proofs.Words.{no_cycle, no_parents, Node, node_at, node_count, NodeId, nodes, nodes_same, None, not, not_false, Option, or_elim, or_left}
-use Rattle.gl_model.proofs.Words.{or_right, other_number, parents_in, parents_of, range-each, Rec, rec_alike, rec_same, record_shape, refl, rekey_lawful}
-use Rattle.gl_model.proofs.Words.{rekeyed, rekeyed_is, rekeyed_keys, rekeyed_parents, rules, same_mode, same_node, same_node-equal, same_node-other}
-use Rattle.gl_model.proofs.Words.{same_number, Shape, shape_in, shape_of, Some, some_given, some_is, split, State, status_of, stays, subst, sym, test_fails}
-use Rattle.gl_model.proofs.Words.{there_is, true, true≢false, Waiter, Waiting, waits_at, waits_for, with_node, with_parents, with_parents_is, X, ℕ}
+use Rattle.gl_model.proofs.Words.{[], ⊎_elim, ◌&&◌, ◌<◌, ◌==◌, ◌||◌, ◌∙◌, ◌∷◌, ◌≡◌, ◌≢◌, ◌≤◌, ◌⊎◌, Active, age_of, and_both, ap, are_compatible}
+use Rattle.gl_model.proofs.Words.{AreInnerParents, arith, at_here, at_other, Bool, cases_of, cond, false, file_of_record, filter, first_cycle, fits, front}
+use Rattle.gl_model.proofs.Words.{Graph, HasNoCycle, holds, holds_x, holds_x_on_all, if◌then◌else◌, inl, inner_live, inr, intends, intends_over, IS, is_ahead}
+use Rattle.gl_model.proofs.Words.{is_among_waiters, is_at_least, is_live, is_movable_shape, is_record_shape, is_some, is_waiter, is_waiting_at, is_write}
+use Rattle.gl_model.proofs.Words.{IsAlike, IsLawful, IsLawfulGraph, IX, least_parents, length, less-no_cycle, List, list_all, list_any, live_same, members}
+use Rattle.gl_model.proofs.Words.{Mode, ModeFitsKind, movable_alike, move_lawful, moved_to, nat_tests, need_exclusive, need_new_parents, NL, no, no_cycle}
+use Rattle.gl_model.proofs.Words.{no_parents, Node, node_at, node_count, NodeId, nodes, nodes_same, None, not, not_false, Option, or_elim, or_left, or_right}
+use Rattle.gl_model.proofs.Words.{other_number, parents_in, parents_of, range-each, Rec, rec_alike, rec_same, record_shape, refl, rekey_lawful, rekeyed}
+use Rattle.gl_model.proofs.Words.{rekeyed_is, rekeyed_keys, rekeyed_parents, rules, same_mode, same_node, same_node-equal, same_node-other, same_number, Shape}
+use Rattle.gl_model.proofs.Words.{shape_in, shape_of, Some, some_given, some_is, split, State, status_of, stays, subst, sym, test_fails, there_is, true}
+use Rattle.gl_model.proofs.Words.{true≢false, Waiting, waits_at, waits_for, with_node, with_parents, with_parents_is, X, ℕ}
 use Rattle.gl_model.proofs.law.Edges.{is_step, step_is}
 use Rattle.gl_model.proofs.law.Effects.{any_all, holds_one, x_blocks, x_is}
 use Rattle.gl_model.proofs.law.Keeps.{apart, nl_is, txn_there, waiting_is}
-use Rattle.gl_model.proofs.law.Strays.{all_filtered, all_waits, stuck_front}
+use Rattle.gl_model.proofs.law.Strays.{all_filtered, all_of_some, all_waits, stuck_front}
 use Rattle.gl_model.proofs.law.Tests.{all_ix}
-use Rattle.gl_model.proofs.queues.Edits.{any_left, one_left, one_stays, unless_age, unless_some, unless_waits, waits_unless}
-use Rattle.gl_model.proofs.queues.Waiters.{ahead, ahead_first, ahead_is, if-true, none_filtered}
+use Rattle.gl_model.proofs.queues.Edits.{any_left, filtered_ahead, one_left, one_stays, unless_age, unless_some, unless_waits, waits_unless}
+use Rattle.gl_model.proofs.queues.Waiters.{ahead_first, ahead_is, all_weaker, if-true}
 
 -- What a transaction holds that may give a node other parents.
 
 pub some_parents : (ps : List NodeId) → some_given ps ≡ true → no_parents ps ≡ false
-some_parents [] h = absurd (no h)
-some_parents (p ∷ ps) h = refl
+some_parents ps h = grind (arith, nat_tests, ps)
 
 -- the mover has X on the node and IX or greater on all new parents, or X on all old and new ones
 pub record HoldsNode (s : State) (t : ℕ) (n : NodeId) (ps : List NodeId) : Type 0 where
@@ -59,8 +58,7 @@ x_at_least_is : (a : Mode) → same_mode a X ≡ true → is_at_least a IS ≡ t
 x_at_least_is a h = search rules
 
 all_x_ix : (held : NodeId → Mode) (ps : List NodeId) → list_all (λ p. same_mode (held p) X) ps ≡ true → list_all (λ p. is_at_least (held p) IX) ps ≡ true
-all_x_ix held [] h = refl
-all_x_ix held (p ∷ ps) h = let t = and_both _ _ h in ap₂ (λ a b. a && b) (x_is (held p) t.0) (all_x_ix held ps t.1)
+all_x_ix held ps h = all_weaker (λ p. same_mode (held p) X) (λ p. is_at_least (held p) IX) ps (λ p. x_is (held p)) h
 
 -- who writes over IX on all parents meets the rule; so does everyone over X on all of some
 write_intends : (held : NodeId → Mode) (ps : List NodeId) (m : Mode) → is_write m ≡ true → list_all (λ p. is_at_least (held p) IX) ps ≡ true
@@ -224,38 +222,6 @@ module _ (s : State) (law : IsLawful s) (t : ℕ) (n : NodeId) (ps : List NodeId
 
 -- A node moves: no step from one who waits to another is new, and so no cycle.
 
--- of the waits that stay, each was the only one of its slot
-kept_ahead : (f : Waiter → Bool) (a b : ℕ) (v : Waiter) (q : List Waiter) → filter (is_waiter a) q ≡ v ∷ [] → ahead (filter f q) a b ≡ true → ahead q a b ≡ true
-kept_ahead f a b v [] one h = h
-kept_ahead f a b v (w ∷ q) one h = by (f w) (w.0 == a) (w.0 == b) refl one (sym (pushed (f w)) ∙ h) (kept_ahead f a b v q) none_left (among_kept q)
-  where
-    pushed : (x : Bool) → ahead (if x then w ∷ filter f q else filter f q) a b
-        ≡ (if x then not (w.0 == a) && (if w.0 == b then is_among_waiters a (filter f q) else ahead (filter f q) a b) else ahead (filter f q) a b)
-    pushed x = grind (arith, nat_tests)
-
-    among_kept : (l : List Waiter) → is_among_waiters a (filter f l) ≡ true → is_among_waiters a l ≡ true
-    among_kept [] k = k
-    among_kept (u ∷ l) k = at (f u) k (among_kept l)
-      where
-        at : (x : Bool) → is_among_waiters a (if x then u ∷ filter f l else filter f l) ≡ true
-            → (is_among_waiters a (filter f l) ≡ true → is_among_waiters a l ≡ true) → ((u.0 == a) || is_among_waiters a l) ≡ true
-        at x h1 h2 = grind (arith, nat_tests)
-
-    none_left : w ∷ filter (is_waiter a) q ≡ v ∷ [] → is_among_waiters a q ≡ false
-    none_left e = let rest : filter (is_waiter a) q ≡ [] = cc in none_filtered a q rest
-
-    by : (x y z : Bool) → f w ≡ x → (if y then w ∷ filter (is_waiter a) q else filter (is_waiter a) q) ≡ v ∷ []
-        → (if x then not y && (if z then is_among_waiters a (filter f q) else ahead (filter f q) a b) else ahead (filter f q) a b) ≡ true
-        → (filter (is_waiter a) q ≡ v ∷ [] → ahead (filter f q) a b ≡ true → ahead q a b ≡ true)
-        → (w ∷ filter (is_waiter a) q ≡ v ∷ [] → is_among_waiters a q ≡ false) → (is_among_waiters a (filter f q) ≡ true → is_among_waiters a q ≡ true)
-        → (not y && (if z then is_among_waiters a q else ahead q a b)) ≡ true
-    by true true z ex o k r n g = clash k refl
-    by true false true ex o k r n g = g k
-    by true false false ex o k r n g = r o k
-    by false true z ex o k r n g = clash (g (ahead_first (filter f q) a b k)) (n o)
-    by false false true ex o k r n g = g (ahead_first (filter f q) a b k)
-    by false false false ex o k r n g = r o k
-
 pub moved_steps : (s : State) → IsLawful s → (r : NodeId) (ps : List NodeId) (g : Graph) (x y : ℕ) → waits_for (moved_to s r ps g) x y ≡ true
     → waits_for s x y ≡ true
 moved_steps s law r ps g x y h =
@@ -271,8 +237,11 @@ moved_steps s law r ps g x y h =
   where
     order : (n : NodeId) (m : Mode) → status_of s x ≡ Some (Waiting n m) → (b : Bool)
         → is_ahead (if b then filter (stays s ps) (s.queue n) else s.queue n) x y ≡ true → is_ahead (s.queue n) x y ≡ true
-    order n m st true k = ahead_is (s.queue n) x y ∙ kept_ahead (stays s ps) x y (x, m) (s.queue n) (law.one_wait x n m st)
-        (sym (ahead_is (filter (stays s ps) (s.queue n)) x y) ∙ k)
+    order n m st true k =
+        let one = law.one_wait x n m st in let ah = sym (ahead_is (filter (stays s ps) (s.queue n)) x y) ∙ k in
+        let stay = one_stays (is_waiter x) (stays s ps) (s.queue n) (x, m) one (ahead_first (filter (stays s ps) (s.queue n)) x y ah) in
+        ahead_is (s.queue n) x y ∙ filtered_ahead (stays s ps) x y (s.queue n)
+        (all_of_some (is_waiter x) (stays s ps) (s.queue n) (ap (list_all (stays s ps)) one ∙ ap (λ b. b && true) stay)) ah
     order n m st false k = k
 
 pub moved-no_cycle : (s : State) → IsLawful s → (r : NodeId) (ps : List NodeId) (g : Graph) → HasNoCycle s → HasNoCycle (moved_to s r ps g)

@@ -80,7 +80,7 @@ module _ (g : Graph) (law : IsLawfulGraph g) (ns : List Node) where
   born-children f live p =
       ap (count_by (λ c. is_child (born_nodes g ns) p c && f c)) (nodes_grown g law ns)
       ∙ sum_by-append (λ c. cond (is_child (born_nodes g ns) p c && f c) 1 0) (nodes g) (new_ids (g.births + 1) ns)
-      ∙ ap₂ (λ a b. a + b) old new ∙ no_more (children_that g f p)
+      ∙ ap₂ (λ a b. a + b) old new ∙ omega arith
     where
       old : count_by (λ c. is_child (born_nodes g ns) p c && f c) (nodes g) ≡ children_that g f p
       old = count_same (is_live g) (λ c. is_child g p c && f c) (λ c. is_child (born_nodes g ns) p c && f c) (nodes g) (nodes_live g)
@@ -90,9 +90,6 @@ module _ (g : Graph) (law : IsLawfulGraph g) (ns : List Node) where
       new = count_none (λ c. not (is_live g c)) (λ c. is_child (born_nodes g ns) p c && f c) (new_ids (g.births + 1) ns)
           (unborn ns (g.births + 1) (omega arith))
           (λ c dead. not_true _ (λ h. clash dead (ap not (live c (and_both (is_child (born_nodes g ns) p c) (f c) h).1))))
-
-      no_more : (k : ℕ) → k + 0 ≡ k
-      no_more k = omega arith
 
 -- g' is g with these nodes more, and lawful
 pub record Grows (g g' : Graph) : Type 0 where
@@ -256,14 +253,8 @@ module _ (s : State) (law : IsLawful s) (r : NodeId) (rec : is_record_shape (sha
   pub held_there : (u : ℕ) (q : NodeId) → same_node q r ≡ false → after.held u q ≡ s.held u q
   held_there u q e = ap (λ b. if b then NL else s.held u q) e
 
-  held_here : (u : ℕ) (q : NodeId) → same_node q r ≡ true → after.held u q ≡ NL
-  held_here u q e = ap (λ b. if b then NL else s.held u q) e
-
   queue_there : (q : NodeId) → same_node q r ≡ false → after.queue q ≡ s.queue q
   queue_there q e = ap (λ b. if b then [] else s.queue q) e
-
-  queue_here : (q : NodeId) → same_node q r ≡ true → after.queue q ≡ []
-  queue_here q e = ap (λ b. if b then [] else s.queue q) e
 
   was_held : (u : ℕ) (q : NodeId) → holds (members after q) u ≡ true → (same_node q r ≡ false) × (holds (members s q) u ≡ true)
   was_held u q h = grind (arith, nat_tests, same_node q r)

@@ -1,18 +1,18 @@
 -- Records without locks come and go, and all others keep their parents: effective modes stay. For rows that are adopted and forgotten.
-use Rattle.gl_model.proofs.Words.{[], ◌&&◌, ◌||◌, ◌∙◌, ◌∷◌, ◌≡◌, ap, ap₂, arith, Bool, clash, eff_s, eff_x, effective, false, Graph, if◌then◌else◌, is_idle}
-use Rattle.gl_model.proofs.Words.{is_live, is_read, is_record_shape, is_some, IsLawful, IsLawfulGraph, keys_in, List, list_all, list_any, live_node, marked}
-use Rattle.gl_model.proofs.Words.{marked_live, marked_parents, marked_record, Mode, nat_tests, no_parents, Node, node_at, node_count, NodeId, not, old_same}
-use Rattle.gl_model.proofs.Words.{or-true, parent_plain, parents_in, parents_of, refl, same_mode, same_node, same_node-equal, same_node-refl, shape_in}
-use Rattle.gl_model.proofs.Words.{shape_of, Some, State, suc, sym, true, was_there, without_node, X, zero, ℕ}
-use Rattle.gl_model.proofs.law.Effects.{eff_s_route, eff_x_any, read_on_eff}
-use Rattle.gl_model.proofs.law.Searches.{same_bool}
-use Rattle.gl_model.proofs.queues.Walks.{same}
-use Rattle.gl_model.proofs.law.Records.{free-idle, no_queue, nobody_holds}
-use Rattle.gl_model.specs.declared.answers.Effect.TheVariants as effect
+use Rattle.gl_model.proofs.Words.{[], ◌&&◌, ◌||◌, ◌∙◌, ◌∷◌, ◌≡◌, ap, ap₂, arith, clash, eff_s, eff_x, effective, false, Graph, if◌then◌else◌, is_idle, is_live}
+use Rattle.gl_model.proofs.Words.{is_read, is_record_shape, is_some, IsLawful, IsLawfulGraph, keys_in, list_all, list_any, live_node, marked, marked_live}
+use Rattle.gl_model.proofs.Words.{marked_parents, marked_record, Mode, nat_tests, no_parents, Node, node_at, node_count, NodeId, not, old_same, parent_plain}
+use Rattle.gl_model.proofs.Words.{parents_in, parents_of, refl, same_mode, same_node, same_node-equal, shape_in, shape_of, Some, State, suc, sym, true}
+use Rattle.gl_model.proofs.Words.{was_there, without_node, X, zero, ℕ}
 use Rattle.gl_graph.proofs.Born.{old_or_new, place_in}
 use Rattle.gl_graph.proofs.Marked.{marked_keys}
 use Rattle.gl_graph.proofs.Removed.{plain_stays}
 use Rattle.gl_graph.specs.Changes.{born_node}
+use Rattle.gl_model.specs.declared.answers.Effect.TheVariants as effect
+use Rattle.gl_model.proofs.law.Effects.{eff_s_route, eff_x_any, read_on_eff}
+use Rattle.gl_model.proofs.law.Searches.{same_bool}
+use Rattle.gl_model.proofs.law.Records.{free-idle, no_queue, nobody_holds}
+use Rattle.gl_model.proofs.law.Keeps.{all_same, any_same}
 
 -- Where nodes keep their parents, which stand on, the effective modes on what stands are those that they were.
 
@@ -20,19 +20,6 @@ use Rattle.gl_graph.specs.Changes.{born_node}
 pub record LeavesParents (g g' : Graph) : Type 0 where
   pub parents : (n : NodeId) → is_live g n ≡ true → is_live g' n ≡ true → parents_of g' n ≡ parents_of g n
   pub stand : (n p : NodeId) → list_any (same_node p) (parents_of g n) ≡ true → (is_live g p ≡ true) × (is_live g' p ≡ true)
-
--- two tests that agree on all that is listed
-any_same : (f g : NodeId → Bool) (ns : List NodeId) → ((n : NodeId) → list_any (same_node n) ns ≡ true → f n ≡ g n) → list_any f ns ≡ list_any g ns
-any_same f g [] same = refl
-any_same f g (n ∷ ns) same =
-    ap₂ (λ a b. a || b) (same n (ap (λ b. b || list_any (same_node n) ns) (same_node-refl n)))
-    (any_same f g ns (λ p h. same p (ap (λ b. same_node p n || b) h ∙ or-true _)))
-
-all_same : (f g : NodeId → Bool) (ns : List NodeId) → ((n : NodeId) → list_any (same_node n) ns ≡ true → f n ≡ g n) → list_all f ns ≡ list_all g ns
-all_same f g [] same = refl
-all_same f g (n ∷ ns) same =
-    ap₂ (λ a b. a && b) (same n (ap (λ b. b || list_any (same_node n) ns) (same_node-refl n)))
-    (all_same f g ns (λ p h. same p (ap (λ b. same_node p n || b) h ∙ or-true _)))
 
 module _ (g g' : Graph) (h : NodeId → Mode) (leaves : LeavesParents g g') where
   s_left : (k : ℕ) (n : NodeId) → is_live g n ≡ true → is_live g' n ≡ true → eff_s k g' h n ≡ eff_s k g h n

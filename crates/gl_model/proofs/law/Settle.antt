@@ -1,18 +1,17 @@
 -- Settling ends, in one state; chains of waits end; one victim is enough. For the laws and for deadlocks.
 use Rattle.gl_model.proofs.Words.{[], ⊎_elim, ◌&&◌, ◌<◌, ◌==◌, ◌||◌, ◌∙◌, ◌∷◌, ◌≡◌, ◌≤◌, ◌⊎◌, Active, age_of, ap, ap₂, are_compatible, arith, AtBlock, Bool}
 use Rattle.gl_model.proofs.Words.{ByWatcher, candidate-on_cycle, clash, Condemned, condemned, CondemningFrees, Detect, enqueued, enters_at, false, Fewest}
-use Rattle.gl_model.proofs.Words.{filter, fits, freed-fewer, front, granted_at, HasNoCycle, holds, if◌then◌else◌, inl, inr, is_ahead, is_among_waiters, is_some}
-use Rattle.gl_model.proofs.Words.{is_wait, is_waiter, is_waiting_at, IsLawful, IsOnNoCycle, IsVictim, IsWalk, length, List, list_all, list_any, members, Mode}
-use Rattle.gl_model.proofs.Words.{nat_tests, NL, NodeId, None, not, OneFalls, Option, or_elim, or_left, or_no, or_right, range_with_len, Reaches, refl}
-use Rattle.gl_model.proofs.Words.{restatus, rules, same_number, Settled, SettledWithin, SettlingEnds, slots, Some, split, State, Status, status_in, status_of}
-use Rattle.gl_model.proofs.Words.{subst, suc, sym, true, TxnId, Victims, Waiter, Waiting, waits_for, WaitSettles, wanted, with_grant, with_mode, without_wait}
-use Rattle.gl_model.proofs.Words.{zero, ℕ}
+use Rattle.gl_model.proofs.Words.{filter, fits, freed-fewer, front, granted_at, HasNoCycle, holds, if◌then◌else◌, inl, inr, is_ahead, is_among_waiters, is_wait}
+use Rattle.gl_model.proofs.Words.{is_waiter, is_waiting_at, IsLawful, IsOnNoCycle, IsVictim, IsWalk, length, List, list_all, list_any, members, Mode, nat_tests}
+use Rattle.gl_model.proofs.Words.{NL, NodeId, None, not, not_true, number_same, OneFalls, Option, or_elim, or_left, or_no, or_right, range_with_len, Reaches}
+use Rattle.gl_model.proofs.Words.{refl, rules, same_number, Settled, SettledWithin, SettlingEnds, slots, Some, split, State, Status, status_in, status_of}
+use Rattle.gl_model.proofs.Words.{subst, suc, sym, true, TxnId, Victims, Waiter, Waiting, waits_for, WaitSettles, wanted, with_grant, without_wait, zero, ℕ}
 use Rattle.gl_model.specs.Calls.{Locks}
 use Rattle.gl_model.proofs.law.Edges.{is_step, step_is}
 use Rattle.gl_model.proofs.law.Keeps.{nl_is, txn_there, waiting_is, woken_waits}
 use Rattle.gl_model.proofs.law.Lock.{condemned_steps, MayLock, waiting-lawful}
 use Rattle.gl_model.proofs.law.Takes.{condemned-lawful, restatus_quiet, without_wait-less}
-use Rattle.gl_model.proofs.queues.Waiters.{ahead, ahead_is, ahead_second, among_by_filter, no_cons}
+use Rattle.gl_model.proofs.queues.Waiters.{ahead, ahead_is, ahead_second, among_by_filter, if-false, if-true, no_cons}
 use Rattle.gl_model.proofs.queues.Walks.{Distinct, in_range, IsAnswer, same, short, victim, victim_is}
 
 -- Settling always comes to an end: each turn leaves fewer that wait.
@@ -30,21 +29,7 @@ module _ (p q : ℕ → Bool) (sub : (u : ℕ) → q u ≡ true → p u ≡ true
   -- and one of them passes no more
   tally_lt : (v : ℕ) (xs : List ℕ) → list_any (same v) xs ≡ true → p v ≡ true → q v ≡ false → tally q xs < tally p xs
   tally_lt v [] h pv qv = clash h refl
-  tally_lt v (x ∷ xs) h pv qv = or_elim (same v x) (list_any (same v) xs) h here (λ k. there (p x) (q x) refl refl (tally_lt v xs k pv qv))
-    where
-      here : same v x ≡ true → (if q x then suc (tally q xs) else tally q xs) < (if p x then suc (tally p xs) else tally p xs)
-      here e =
-          let is : v ≡ x = grind (arith, nat_tests) in
-          let le = tally_le xs in
-          at (q x) (p x) (ap q (sym is) ∙ qv) (ap p (sym is) ∙ pv) le
-        where
-          at : (b a : Bool) → b ≡ false → a ≡ true → tally q xs ≤ tally p xs
-              → (if b then suc (tally q xs) else tally q xs) < (if a then suc (tally p xs) else tally p xs)
-          at b a h1 h2 h3 = grind (arith, nat_tests)
-
-      there : (a b : Bool) → p x ≡ a → q x ≡ b → tally q xs < tally p xs
-          → (if b then suc (tally q xs) else tally q xs) < (if a then suc (tally p xs) else tally p xs)
-      there a b h1 h2 h3 = grind (arith, nat_tests)
+  tally_lt v (x ∷ xs) h pv qv = grind (arith, nat_tests, p x, q x, same_number v x, tally_le xs, tally_lt v xs)
 
 -- who waits
 abbrev pub waiting : State → ℕ → Bool
@@ -60,9 +45,6 @@ wait_is (Some (Waiting n m)) h = (n, m, refl)
 no_wait : (o : Option Status) → ((n : NodeId) (m : Mode) → o ≡ Some (Waiting n m) → ⊥) → is_wait o ≡ false
 no_wait o none = split (is_wait o) (λ h. let w = wait_is o h in absurd (none w.0 w.1 w.2)) (λ h. h)
 
-same_slot : (v : ℕ) → (v == v) ≡ true
-same_slot v = grind (arith, nat_tests)
-
 module _ (s : State) (law : IsLawful s) where
   still_waits : (v u : ℕ) → waiting (condemned s v) u ≡ true → waiting s u ≡ true
   still_waits v u h =
@@ -73,8 +55,7 @@ module _ (s : State) (law : IsLawful s) where
   pub waits_no_more : (v : ℕ) → waiting (condemned s v) v ≡ false
   waits_no_more v = no_wait (status_of (condemned s v) v) (λ n m e.
       let before = woken_waits (granted_at (without_wait s v Condemned) (is_waiting_at s v)) v n m ((without_wait s v Condemned).txns v) e in
-      restatus_quiet Condemned (λ q w k. cc) (s.txns v) n m (ap (λ b. status_in (if b then restatus Condemned (s.txns v) else s.txns v)) (sym (same_slot v))
-      ∙ before.0))
+      restatus_quiet Condemned (λ q w k. cc) (s.txns v) n m (sym (ap status_in (if-true _ (number_same v v refl))) ∙ before.0))
 
   -- who is waited for lives
   pub low : (x y : ℕ) → waits_for s x y ≡ true → y < s.most
@@ -167,15 +148,10 @@ locks_some s law t n m may = by (enters_at s t.slot n m) refl
 -- Settling ends in one state.
 
 -- the victim is one
-on_cycle_lives : (s : State) (v t : ℕ) (way : List ℕ) → IsWalk (waits_for s) v way t → is_some (s.txns v) ≡ true
-on_cycle_lives s v t [] h = txn_there (s.txns v) _ (step_is s v t h).2.waits
-on_cycle_lives s v t (u ∷ way) h = txn_there (s.txns v) _ (step_is s v u h.0).2.waits
-
 victim_one : (c : Victims) (s : State) → IsLawful s → (t v w : ℕ) → IsVictim c s t v → IsVictim c s t w → v ≡ w
 victim_one c s law t v w yv yw =
     let below = yv.greatest w yw.is_member in let above = yw.greatest v yv.is_member in
-    let back = (candidate-on_cycle c (waits_for s) t v yv.is_member).back in
-    law.ages_differ v w (on_cycle_lives s v t back.0 back.1) (omega arith)
+    law.ages_differ v w (txn_there (s.txns v) _ (wait_is (status_of s v) (victim_waits c s law t v yv)).2) (omega arith)
 
 -- settling leaves one state
 settled_within_one : (c : Victims) (j k : ℕ) (s a b : State) (t : ℕ) → IsLawful s → SettledWithin c j s t a → SettledWithin c k s t b → a ≡ b
@@ -216,8 +192,8 @@ one_fails f (x ∷ xs) h = split (f x) (λ e. one_fails f xs (sym (ap (λ b. b &
 
 -- whoever waits waits for someone
 module _ (s : State) (law : IsLawful s) (t : ℕ) (n : NodeId) (m : Mode) (st : status_of s t ≡ Some (Waiting n m)) where
-  differs : (u : ℕ) → (u == t) ≡ false → not (t == u) ≡ true
-  differs u h = grind (arith, nat_tests)
+  turned : (x : ℕ) → (x == t) ≡ false → not (t == x) ≡ true
+  turned x k = grind (arith, nat_tests)
 
   for_holder : fits s.most (members s n) t m ≡ false → (u : ℕ) × (waits_for s t u ≡ true)
   for_holder h =
@@ -225,7 +201,7 @@ module _ (s : State) (law : IsLawful s) (t : ℕ) (n : NodeId) (m : Mode) (st : 
       let both = or_no (found.0 == t) (are_compatible m (s.held found.0 n)) found.1 in (
         found.0,
         is_step s t found.0 n m (record {
-          differ = differs found.0 both.0;
+          differ = turned found.0 both.0;
           waits = st;
           blocked = or_left (not (are_compatible m (s.held found.0 n))) (is_ahead (s.queue n) t found.0) (ap not both.1);
         }),
@@ -235,25 +211,16 @@ module _ (s : State) (law : IsLawful s) (t : ℕ) (n : NodeId) (m : Mode) (st : 
   by_queue [] e free one = no_cons (sym one)
   by_queue (w ∷ q) e free one = split (w.0 == t) own behind
     where
-      unfit : (b : Bool) → (if b then w ∷ front s.most (with_mode (members s n) w.0 w.1) q else []) ≡ [] → b ≡ false
-      unfit b h1 = grind (arith, nat_tests)
-
       own : (w.0 == t) ≡ true → (u : ℕ) × (waits_for s t u ≡ true)
       own k =
-          let first : w ∷ filter (is_waiter t) q ≡ (t, m) ∷ [] = sym (ap (λ b. if b then w ∷ filter (is_waiter t) q else filter (is_waiter t) q) k) ∙ one in
+          let first : w ∷ filter (is_waiter t) q ≡ (t, m) ∷ [] = sym (if-true _ k) ∙ one in
           let is : w ≡ (t, m) = cc in
-          for_holder (ap (λ v. fits s.most (members s n) v.0 v.1) (sym is) ∙ unfit (fits s.most (members s n) w.0 w.1) free)
-
-      self : (x : ℕ) → (x == x) ≡ true
-      self x = grind (arith, nat_tests)
-
-      turned : (x : ℕ) → (x == t) ≡ false → not (t == x) ≡ true
-      turned x k = grind (arith, nat_tests)
+          for_holder (ap (λ v. fits s.most (members s n) v.0 v.1) (sym is) ∙ not_true _ (λ f. no_cons (sym (if-true _ f) ∙ free)))
 
       behind : (w.0 == t) ≡ false → (u : ℕ) × (waits_for s t u ≡ true)
       behind k =
-          let later : filter (is_waiter t) q ≡ (t, m) ∷ [] = sym (ap (λ b. if b then w ∷ filter (is_waiter t) q else filter (is_waiter t) q) k) ∙ one in
-          let order : ahead (w ∷ q) t w.0 ≡ true = ap₂ (λ a b. not a && (if b then is_among_waiters t q else ahead q t w.0)) k (self w.0)
+          let later : filter (is_waiter t) q ≡ (t, m) ∷ [] = sym (if-false _ k) ∙ one in
+          let order : ahead (w ∷ q) t w.0 ≡ true = ap₂ (λ a b. not a && (if b then is_among_waiters t q else ahead q t w.0)) k (number_same w.0 w.0 refl)
           ∙ among_by_filter t (t, m) [] q later in (
             w.0,
             is_step s t w.0 n m (record {
@@ -273,13 +240,8 @@ module _ (edge : ℕ → ℕ → Bool) where
   prefix : (x y q : ℕ) (way : List ℕ) → IsWalk edge x way y → list_any (same q) way ≡ true → Reaches edge x q
   prefix x y q [] h k = clash k refl
   prefix x y q (v ∷ way) h k =
-      or_elim (same q v) (list_any (same q) way) k (λ e. ([], here (same_is q v e))) (λ there. let r = prefix v y q way h.1 there in (v ∷ r.0, (h.0, r.1)))
-    where
-      same_is : (a b : ℕ) → same a b ≡ true → a ≡ b
-      same_is a b e = grind (arith, nat_tests)
-
-      here : q ≡ v → edge x q ≡ true
-      here e = ap (edge x) e ∙ h.0
+      or_elim (same q v) (list_any (same q) way) k (λ e. ([], ap (edge x) (same_number q v e) ∙ h.0))
+      (λ there. let r = prefix v y q way h.1 there in (v ∷ r.0, (h.0, r.1)))
 
   -- a walk without a cycle meets each number once
   once : ((v : ℕ) → Reaches edge v v → ⊥) → (x y : ℕ) (way : List ℕ) → IsWalk edge x way y → Distinct way

@@ -1,28 +1,17 @@
 -- Waiters whose modes do not meet the rule of the graph, and queues without them. For moves.
-use Rattle.gl_model.proofs.Words.{[], ◌&&◌, ◌+◌, ◌<◌, ◌==◌, ◌||◌, ◌∙◌, ◌∷◌, ◌≡◌, and_both, ap, ap₂, arith, Bool, both, clash, false, filter, filter-append}
-use Rattle.gl_model.proofs.Words.{first_not_ix, first_of_all, fits, front, get_or, if◌then◌else◌, intends_over, is_among_waiters, is_none, is_waiter, is_write}
-use Rattle.gl_model.proofs.Words.{length, List, list_all, list_any_at, Members, Mode, nat_tests, NodeId, None, not, not-true, number_same, Option, or_elim}
-use Rattle.gl_model.proofs.Words.{or_left, or_no, or_right, refl, Refusal, rule_refusal, Some, split, sym, take, take_more, true, Waiter, with_mode}
-use Rattle.gl_model.proofs.Words.{without_waiter, ℕ}
+use Rattle.gl_model.proofs.Words.{[], ◌&&◌, ◌+◌, ◌<◌, ◌==◌, ◌||◌, ◌∙◌, ◌∷◌, ◌≡◌, and_both, ap, ap₂, arith, Bool, both, cases_of, clash, false, filter}
+use Rattle.gl_model.proofs.Words.{filter-append, fits, front, get_or, intends_over, is_among_waiters, is_none, is_waiter, length, List, list_all, list_any_at}
+use Rattle.gl_model.proofs.Words.{Members, Mode, nat_tests, NodeId, not, not-true, number_same, or_left, or_right, refl, rule_refusal, split, sym, take}
+use Rattle.gl_model.proofs.Words.{take_more, true, Waiter, without_waiter, ℕ}
 use Rattle.gl_waits.specs.Sets.{has_slot}
 use Rattle.gl_model.proofs.law.Tests.{rule_met}
 use Rattle.gl_model.proofs.queues.Edits.{filter_no, filter_yes}
-use Rattle.gl_model.proofs.queues.Waiters.{among_append}
+use Rattle.gl_model.proofs.queues.Waiters.{among_append, if-false, if-true}
 
 -- the rule of the graph is met where it is no reason to refuse
 pub rule_allows : (held : NodeId → Mode) (ps : List NodeId) (m : Mode) → is_none (rule_refusal held ps m) ≡ intends_over held ps m
-rule_allows held ps m = split (intends_over held ps m) (λ e. none (rule_refusal held ps m) (met e) ∙ sym e)
-    (λ e. some (rule_refusal held ps m) refl (λ h. clash (rule_met held ps m h) e) ∙ sym e)
-  where
-    met : intends_over held ps m ≡ true → rule_refusal held ps m ≡ None
-    met e = ap (λ b. if b then None else (if is_write m then first_not_ix held ps else first_of_all ps)) e
-
-    none : (o : Option Refusal) → o ≡ None → is_none o ≡ true
-    none o h = ap is_none h
-
-    some : (o : Option Refusal) → rule_refusal held ps m ≡ o → (rule_refusal held ps m ≡ None → ⊥) → is_none o ≡ false
-    some None e fails = absurd (fails e)
-    some (Some r) e fails = refl
+rule_allows held ps m = split (intends_over held ps m) (λ e. ap is_none (if-true _ e) ∙ sym e)
+    (λ e. cases_of (rule_refusal held ps m) (λ k. clash (rule_met held ps m k) e) (λ r k. ap is_none k ∙ sym e))
 
 -- who is among those of a front that pass a test, with one waiter more
 pub among_more : (f : Waiter → Bool) (q : List Waiter) (i : ℕ) (d : Waiter) → i < length q → (u : ℕ)
@@ -65,13 +54,11 @@ among_at q q' i d same low = ap (is_among_waiters (get_or q i d).0) (sym same) �
 
 pub filter_all : (r : Waiter → Bool) (q : List Waiter) → list_all r q ≡ true → filter r q ≡ q
 filter_all r [] h = refl
-filter_all r (w ∷ q) h = let both = and_both (r w) (list_all r q) h in filter_yes r w q both.0 ∙ ap (λ l. w ∷ l) (filter_all r q both.1)
+filter_all r (w ∷ q) h = grind (arith, nat_tests, r w, filter_all r q)
 
 pub all_filtered : (p r : Waiter → Bool) (q : List Waiter) → list_all p q ≡ true → list_all p (filter r q) ≡ true
 all_filtered p r [] h = refl
-all_filtered p r (w ∷ q) h = let two = and_both (p w) (list_all p q) h in
-    split (r w) (λ e. ap (list_all p) (filter_yes r w q e) ∙ both (p w) _ two.0 (all_filtered p r q two.1))
-    (λ e. ap (list_all p) (filter_no r w q e) ∙ all_filtered p r q two.1)
+all_filtered p r (w ∷ q) h = grind (arith, nat_tests, p w, r w, all_filtered p r q)
 
 -- what passes for the waits of each slot passes for all
 pub all_waits : (p : Waiter → Bool) (q : List Waiter) → ((u : ℕ) → is_among_waiters u q ≡ true → list_all p (filter (is_waiter u) q) ≡ true)
@@ -87,20 +74,13 @@ all_waits p (w ∷ q) each =
 -- what passes for those that pass another test
 pub all_of_some : (p g : Waiter → Bool) (q : List Waiter) → list_all g (filter p q) ≡ true → list_all (λ w. not (p w) || g w) q ≡ true
 all_of_some p g [] h = refl
-all_of_some p g (w ∷ q) h =
-    split (p w) (λ e. let two = and_both (g w) _ (sym (ap (list_all g) (filter_yes p w q e)) ∙ h) in
-    both (not (p w) || g w) _ (or_right (not (p w)) (g w) two.0) (all_of_some p g q two.1))
-    (λ e. both (not (p w) || g w) _ (or_left (not (p w)) (g w) (ap not e)) (all_of_some p g q (sym (ap (list_all g) (filter_no p w q e)) ∙ h)))
+all_of_some p g (w ∷ q) h = grind (arith, nat_tests, p w, g w, all_of_some p g q)
 
 -- who waits, and not among those who pass, is among those who do not
 pub among_failing : (f : Waiter → Bool) (u : ℕ) (q : List Waiter) → is_among_waiters u q ≡ true → is_among_waiters u (filter f q) ≡ false
     → is_among_waiters u (filter (λ w. not (f w)) q) ≡ true
 among_failing f u [] h k = h
-among_failing f u (w ∷ q) h k =
-    split (f w) (λ e. let out = or_no (w.0 == u) _ (sym (ap (is_among_waiters u) (filter_yes f w q e)) ∙ k) in
-    ap (is_among_waiters u) (filter_no (λ v. not (f v)) w q (ap not e)) ∙ among_failing f u q (or_elim (w.0 == u) _ h (λ is. clash is out.0) (λ l. l)) out.1)
-    (λ e. ap (is_among_waiters u) (filter_yes (λ v. not (f v)) w q (ap not e)) ∙ or_elim (w.0 == u) _ h (λ is. or_left (w.0 == u) _ is)
-    (λ l. or_right (w.0 == u) _ (among_failing f u q l (sym (ap (is_among_waiters u) (filter_no f w q e)) ∙ k))))
+among_failing f u (w ∷ q) h k = grind (arith, nat_tests, f w, w.0 == u, among_failing f u q)
 
 -- those who fail the test are all chosen by slot
 pub all_or_chosen : (f : Waiter → Bool) (p : ℕ → Bool) (q : List Waiter) → ((u : ℕ) → is_among_waiters u (filter (λ w. not (f w)) q) ≡ true → p u ≡ true)
@@ -119,16 +99,9 @@ pub without_chosen : (f : Waiter → Bool) (p p' : ℕ → Bool) (u : ℕ) (q : 
 without_chosen f p p' u [] fails less = refl
 without_chosen f p p' u (w ∷ q) fails less =
     let two = and_both (not (w.0 == u) || not (f w)) _ fails in
-    by (f w) (p w.0) (p' w.0) (w.0 == u) refl two.0 (less w.0) (without_chosen f p p' u q two.1 less)
-  where
-    by : (a b c d : Bool) → (w.0 == u) ≡ d → (not d || not a) ≡ true → c ≡ (b && not d)
-        → without_waiter u (filter (λ v. f v || p v.0) q) ≡ filter (λ v. f v || p' v.0) q
-        → without_waiter u (if a || b then w ∷ filter (λ v. f v || p v.0) q else filter (λ v. f v || p v.0) q)
-        ≡ (if a || c then w ∷ filter (λ v. f v || p' v.0) q else filter (λ v. f v || p' v.0) q)
-    by a b c d h1 h2 h3 h4 = grind (arith, nat_tests)
+    grind (arith, nat_tests, f w, p w.0, w.0 == u, two.0, less w.0, without_chosen f p p' u q two.1 less)
 
 -- where nobody fits, nobody is granted
 pub stuck_front : (most : ℕ) (g : Members) (q : List Waiter) → list_all (λ w. not (fits most g w.0 w.1)) q ≡ true → front most g q ≡ []
 stuck_front most g [] h = refl
-stuck_front most g (w ∷ q) h = ap (λ b. if b then w ∷ front most (with_mode g w.0 w.1) q else [])
-    (not-true (fits most g w.0 w.1) (and_both (not (fits most g w.0 w.1)) _ h).0)
+stuck_front most g (w ∷ q) h = if-false _ (not-true (fits most g w.0 w.1) (and_both _ _ h).0)

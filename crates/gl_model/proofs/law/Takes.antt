@@ -2,10 +2,10 @@
 use Rattle.gl_model.proofs.Words.{[], ⊎_elim, ◌&&◌, ◌+◌, ◌<◌, ◌==◌, ◌||◌, ◌∙◌, ◌∷◌, ◌≡◌, ◌≢◌, ◌≤◌, ◌⊎◌, Active, age_in, age_of, and_both, ap, ap₂, arith, begun}
 use Rattle.gl_model.proofs.Words.{Bool, choosing, clash, Condemned, condemned, Detect, empty_state, enqueued, enters, false, filter, front, holds}
 use Rattle.gl_model.proofs.Words.{if◌then◌else◌, inl, inr, intends, is_ahead, is_among_waiters, is_at_least, is_child, is_live, is_some, is_waiter}
-use Rattle.gl_model.proofs.Words.{is_waiting_at, IsLawful, members, Mode, ModeFitsKind, nat_tests, NL, no, NodeId, None, none_some, not, number_other, Option}
-use Rattle.gl_model.proofs.Words.{or_no, other_number, placed, pumped, refl, released, restatus, same_mode, same_node, same_node-equal, same_node-refl}
-use Rattle.gl_model.proofs.Words.{same_number, Settled, SettledWithin, Some, split, State, Status, status_in, status_of, subst, suc, sym, true, Txn, Victims}
-use Rattle.gl_model.proofs.Words.{Waiting, waits_at, without_wait, without_waiter, zero, ℕ}
+use Rattle.gl_model.proofs.Words.{is_waiting_at, IsLawful, members, Mode, ModeFitsKind, nat_tests, NL, no, NodeId, None, none_some, not, number_other}
+use Rattle.gl_model.proofs.Words.{number_same, Option, or_no, other_number, placed, pumped, refl, released, restatus, same_mode, same_node, same_node-equal}
+use Rattle.gl_model.proofs.Words.{same_node-refl, same_number, Settled, SettledWithin, Some, split, State, Status, status_in, status_of, stripped, subst, suc}
+use Rattle.gl_model.proofs.Words.{sym, true, Txn, Victims, Waiting, waits_at, without_wait, without_waiter, zero, ℕ}
 use Rattle.std.specs.Prelude.{◌^◌}
 use Rattle.gl_model.specs.State.{with_limits}
 use Rattle.gl_model.proofs.law.Keeps.{age_none, apart, IsLess, less-lawful, nl_holds, nl_is, pumped-lawful, txn_there, waiting_is}
@@ -93,21 +93,17 @@ IsQuiet st = (q : NodeId) (m : Mode) → Some st ≡ Some (Waiting q m) → ⊥
 
 -- who gave its wait up waits no more
 pub restatus_quiet : (st : Status) → IsQuiet st → (x : Option Txn) (q : NodeId) (m : Mode) → status_in (restatus st x) ≡ Some (Waiting q m) → ⊥
-restatus_quiet st quiet None q m h = cc
-restatus_quiet st quiet (Some x) q m h = quiet q m h
+restatus_quiet st quiet x q m h = grind (arith, nat_tests, x, quiet q m)
 
 -- and has its new status
 pub restatus_is : (st was : Status) (x : Option Txn) → status_in x ≡ Some was → status_in (restatus st x) ≡ Some st
-restatus_is st was None h = absurd (cc)
-restatus_is st was (Some x) h = refl
+restatus_is st was x h = grind (arith, nat_tests, x)
 
 pub restatus_some : (st : Status) (x : Option Txn) → is_some (restatus st x) ≡ is_some x
-restatus_some st None = refl
-restatus_some st (Some x) = refl
+restatus_some st x = grind (arith, nat_tests, x)
 
 pub restatus_age : (st : Status) (x : Option Txn) → age_in (restatus st x) ≡ age_in x
-restatus_age st None = refl
-restatus_age st (Some x) = refl
+restatus_age st x = grind (arith, nat_tests, x)
 
 pub without_wait-less : (s : State) → IsLawful s → (t : ℕ) (st : Status) → IsQuiet st
     → IsLess s s.held (λ n. without_waiter t (s.queue n)) (λ u. if u == t then restatus st (s.txns t) else s.txns u) (is_waiting_at s t)
@@ -146,20 +142,13 @@ released-less s law t =
     (λ u q ne. ap (λ b. if b then NL else s.held u q) (number_other u t ne)) (inl own) (λ q m h. cc) (λ h. clash h refl)
     (λ q no. let both = or_no _ _ no in (both.1, own q ∙ sym (nl_is (s.held t q) both.0)))
   where
-    same : (u : ℕ) → (u == u) ≡ true
-    same u = grind (arith, nat_tests)
-
     own : (q : NodeId) → (if t == t then NL else s.held t q) ≡ NL
-    own q = ap (λ b. if b then NL else s.held t q) (same t)
+    own q = if-true _ (number_same t t refl)
 
 -- a transaction that leaves
 pub released-lawful : (s : State) → IsLawful s → (t : ℕ) → IsLawful (released s t)
 released-lawful s law t =
-    pumped-lawful (record s {
-      held = λ u n. if u == t then NL else s.held u n;
-      queue = λ n. without_waiter t (s.queue n);
-      txns = λ u. if u == t then None else s.txns u;
-    }) (at_all s t)
+    pumped-lawful (stripped s t) (at_all s t)
     (less-lawful s law (λ u n. if u == t then NL else s.held u n) (λ n. without_waiter t (s.queue n)) (λ u. if u == t then None else s.txns u) (at_all s t)
     (released-less s law t))
 

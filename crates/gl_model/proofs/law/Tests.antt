@@ -3,10 +3,9 @@ use Rattle.gl_model.proofs.Words.{[], ◌&&◌, ◌++◌, ◌==◌, ◌||◌, �
 use Rattle.gl_model.proofs.Words.{asked_by_escalation, bad_mode, Bool, child_held, clash, cond, condemned_test, false, find, first_not_ix, first_of_all}
 use Rattle.gl_model.proofs.Words.{first_refusal, fits, held_child, holds, if◌then◌else◌, intends, intends_over, IS, is_at_least, is_child, is_covered, is_live}
 use Rattle.gl_model.proofs.Words.{is_record_shape, is_write, IsLawful, IX, List, list_all, list_any, listed, live_by, members, Mode, ModeFitsKind, nat_tests}
-use Rattle.gl_model.proofs.Words.{NL, no_parents, no_txn, NodeId, nodes, None, not, not_false, not_refused, not_true, Option, or_left, or_no, parents_of}
+use Rattle.gl_model.proofs.Words.{NL, no_parents, no_txn, NodeId, nodes, None, none_some, not, not_false, not_refused, not_true, Option, or_no, parents_of}
 use Rattle.gl_model.proofs.Words.{raised, refl, Refusal, rules, S, same_mode, same_node, shape_of, shed, Some, some_at, some_no_node, split, State, status_in}
-use Rattle.gl_model.proofs.Words.{status_of}
-use Rattle.gl_model.proofs.Words.{supremum, supremum-above, supremum-not_NL, sym, test_fails, true, Txn, TxnId, waiting_test, wanted, X, ℕ}
+use Rattle.gl_model.proofs.Words.{status_of, supremum, supremum-above, supremum-not_NL, sym, test_fails, true, Txn, TxnId, waiting_test, wanted, X, ℕ}
 use Rattle.gl_model.proofs.law.Keeps.{IsLess, less-lawful, nl_is, pumped-lawful, with_grant-lawful}
 use Rattle.gl_model.proofs.law.Takes.{taken-less}
 
@@ -15,9 +14,6 @@ holds_write : (m : Mode) → is_at_least m IX ≡ true → not (same_mode m NL) 
 holds_write m h = search rules
 
 -- What a command that is not refused may count on.
-
-pub no_some : {A C : Type 0} {x : A} → Some x ≡ None → C
-no_some e = absurd (cc)
 
 pub active_in : (age : ℕ) (x : Option Txn) → live_by age x ≡ true → waiting_test (status_in x) ≡ None → condemned_test (status_in x) ≡ None
     → status_in x ≡ Some Active
@@ -68,18 +64,11 @@ all_ix held (p ∷ ps) h = grind (arith, nat_tests, is_at_least (held p) IX, all
 -- no refusal by the rule of the graph means that it is met
 pub rule_met : (held : NodeId → Mode) (ps : List NodeId) (m : Mode)
     → cond (intends_over held ps m) None (cond (is_write m) (first_not_ix held ps) (first_of_all ps)) ≡ None → intends_over held ps m ≡ true
-rule_met held ps m h = by (intends_over held ps m) (is_write m) refl refl h
+rule_met held ps m h = grind (arith, nat_tests, is_write m, list_all (λ p. is_at_least (held p) IX) ps, no_parents ps, all_ix held ps, empty ps)
   where
     empty : (qs : List NodeId) → first_of_all qs ≡ None → no_parents qs ≡ true
     empty [] k = refl
-    empty (q ∷ qs) k = no_some k
-
-    by : (b w : Bool) → intends_over held ps m ≡ b → is_write m ≡ w → cond b None (cond w (first_not_ix held ps) (first_of_all ps)) ≡ None
-        → intends_over held ps m ≡ true
-    by true w e f k = e
-    by false true e f k = grind (arith, nat_tests, f, all_ix held ps k)
-    by false false e f k = ap (λ x. cond x (list_all (λ p. is_at_least (held p) IX) ps) (no_parents ps || list_any (λ p. is_at_least (held p) IS) ps)) f
-        ∙ or_left _ _ (empty ps k)
+    empty (q ∷ qs) k = absurd (none_some (sym k))
 
 -- nodes that pass a test
 none_found : (f : NodeId → Bool) (q : NodeId) (xs : List NodeId) → child_held (find f xs) ≡ None → list_any (same_node q) xs ≡ true → f q ≡ false

@@ -1,7 +1,7 @@
 -- How many nodes pass a test, and how many of a node's children. For the counts of held children.
-use Rattle.gl_model.proofs.Words.{[], ◌&&◌, ◌+◌, ◌<◌, ◌||◌, ◌∙◌, ◌∷◌, ◌≡◌, ◌≢◌, ◌≤◌, all_filter, among, and_both, ap, ap₂, are_distinct, arith, Bool, both}
-use Rattle.gl_model.proofs.Words.{cases_of, children_that, clash, cond, count_by, count_by-le-length, count_cons, false, File, first_in, first_parent, fun_ext}
-use Rattle.gl_model.proofs.Words.{Graph, HasShape, if◌then◌else◌, Index, indexes_distinct, indexes_of, Inner, Interval, interval_is, interval_of, intervals_of}
+use Rattle.gl_model.proofs.Words.{[], ◌&&◌, ◌+◌, ◌<◌, ◌∙◌, ◌∷◌, ◌≡◌, ◌≢◌, ◌≤◌, all_filter, among, and_both, ap, ap₂, are_distinct, arith, Bool, both, cases_of}
+use Rattle.gl_model.proofs.Words.{children_that, clash, cond, count_by, count_by-le-length, count_cons, false, File, first_in, first_parent, fun_ext, Graph}
+use Rattle.gl_model.proofs.Words.{HasShape, if◌then◌else◌, Index, indexes_distinct, indexes_of, Inner, Interval, interval_is, interval_of, intervals_of}
 use Rattle.gl_model.proofs.Words.{is_child, is_file_shape, is_index_of_shape, is_live, IsLawfulGraph, length, List, list_all, list_any, listed, nat_tests, no}
 use Rattle.gl_model.proofs.Words.{node_at, NodeId, nodes, nodes_distinct, not, not_true, or_elim, or_left, or_right, parents_in, parents_of, Rec, refl}
 use Rattle.gl_model.proofs.Words.{same_node, same_node-equal, same_node-from_equal, same_node-refl, same_node-sym, Shape, shape_in, shape_of, split, subst, sym}
@@ -115,29 +115,15 @@ count_self : (p : NodeId) (ps : List NodeId) → are_distinct ps ≡ true → co
 count_self p [] d = refl
 count_self p (x ∷ xs) d =
     let t = and_both (not (list_any (same_node x) xs)) (are_distinct xs) d in
-    let rest = count_self p xs t.1 in
-    count_cons (same_node p) x xs ∙ split (same_node p x) (λ e.
-    let out : list_any (same_node p) xs ≡ false = not_true _
-    (λ k. no (sym (ap not (ap (λ y. list_any (same_node y) xs) (sym (same_node-equal p x e)) ∙ k)) ∙ t.0)) in
-    ap₂ (λ a k. cond a 1 0 + k) e (rest ∙ ap (λ b. cond b 1 0) out) ∙ sym (ap (λ a. cond (a || list_any (same_node p) xs) 1 0) e))
-    (λ e. ap₂ (λ a k. cond a 1 0 + k) e rest ∙ nothing (cond (list_any (same_node p) xs) 1 0) ∙ sym (ap (λ a. cond (a || list_any (same_node p) xs) 1 0) e))
-  where
-    nothing : (k : ℕ) → 0 + k ≡ k
-    nothing k = omega arith
+    grind (arith, nat_tests, count_cons (same_node p) x xs, same_node p x, count_self p xs t.1, t.0, same_node-equal p x)
 
 -- one child more passes the test: each of its parents has one more
 pub children_up : (g : Graph) → IsLawfulGraph g → (f f' : NodeId → Bool) (n : NodeId) → is_live g n ≡ true → f n ≡ false → f' n ≡ true
     → ((q : NodeId) → same_node q n ≡ false → f' q ≡ f q) → (p : NodeId) → children_that g f' p ≡ children_that g f p + count_by (same_node p) (parents_of g n)
 children_up g law f f' n live was now same p =
     count_one (λ c. is_child g p c && f c) (λ c. is_child g p c && f' c) n (is_child g p n) (nodes g) (nodes_distinct g) (listed g law n live)
-    (ap (λ b. is_child g p n && b) was ∙ and_no (is_child g p n)) (ap (λ b. is_child g p n && b) now ∙ and_yes (is_child g p n))
+    (grind (arith, nat_tests, is_child g p n)) (grind (arith, nat_tests, is_child g p n))
     (λ c e. ap (λ b. is_child g p c && b) (same c e)) ∙ ap (λ k. children_that g f p + k) (sym (count_self p (parents_of g n) (parents_distinct g law n)))
-  where
-    and_no : (b : Bool) → (b && false) ≡ false
-    and_no b = grind (arith, nat_tests)
-
-    and_yes : (b : Bool) → (b && true) ≡ b
-    and_yes b = grind (arith, nat_tests)
 
 -- one less is one more, the other way round
 pub children_down : (g : Graph) → IsLawfulGraph g → (f f' : NodeId → Bool) (n : NodeId) → is_live g n ≡ true → f n ≡ true → f' n ≡ false
@@ -179,9 +165,6 @@ module _ (g g' : Graph) (law : IsLawfulGraph g) (law' : IsLawfulGraph g') (n : N
   rest_same : (p : NodeId) → children_that g' (rest n f) p ≡ children_that g (rest n f) p
   rest_same p = ap₂ (λ (t : NodeId → Bool) xs. count_by t xs) (fun_ext each) same
     where
-      out : (a b : Bool) → b ≡ false → (a && b) ≡ false
-      out a b h1 = grind (arith, nat_tests)
-
       each : (c : NodeId) → (is_child g' p c && rest n f c) ≡ (is_child g p c && rest n f c)
       each c = grind (arith, nat_tests, same_node c n, is_child g' p c, is_child g p c, same_node p, same_node-equal)
 
@@ -205,31 +188,12 @@ module _ (g g' : Graph) (law : IsLawfulGraph g) (law' : IsLawfulGraph g') (n : N
 
 fewer_or_same : (p q : NodeId → Bool) (xs : List NodeId) → ((c : NodeId) → q c ≡ true → p c ≡ true) → count_by q xs ≤ count_by p xs
 fewer_or_same p q [] less = omega arith
-fewer_or_same p q (x ∷ xs) less =
-    let rest = fewer_or_same p q xs less in
-    let cq = count_cons q x xs in
-    let cp = count_cons p x xs in
-    by (q x) (p x) (less x) rest cq cp
-  where
-    by : (a b : Bool) → (a ≡ true → b ≡ true) → count_by q xs ≤ count_by p xs → count_by q (x ∷ xs) ≡ cond a 1 0 + count_by q xs
-        → count_by p (x ∷ xs) ≡ cond b 1 0 + count_by p xs → count_by q (x ∷ xs) ≤ count_by p (x ∷ xs)
-    by a b h1 h2 h3 h4 = grind (arith, nat_tests)
+fewer_or_same p q (x ∷ xs) less = grind (arith, nat_tests, p x, q x, less x, fewer_or_same p q xs less, count_cons q x xs, count_cons p x xs)
 
 -- where one node passes the other alone, they are fewer
 pub fewer : (p q : NodeId → Bool) (n : NodeId) (xs : List NodeId) → ((c : NodeId) → q c ≡ true → p c ≡ true) → list_any (same_node n) xs ≡ true → p n ≡ true
     → q n ≡ false → count_by q xs < count_by p xs
 fewer p q n [] less among was gone = clash among refl
 fewer p q n (x ∷ xs) less among was gone =
-    let cq = count_cons q x xs in
-    let cp = count_cons p x xs in
-    or_elim (same_node n x) (list_any (same_node n) xs) among
-    (λ e. let is = same_node-equal n x e in here (q x) (p x) (ap q (sym is) ∙ gone) (ap p (sym is) ∙ was) (fewer_or_same p q xs less) cq cp)
-    (λ k. there (q x) (p x) (less x) (fewer p q n xs less k was gone) cq cp)
-  where
-    here : (a b : Bool) → a ≡ false → b ≡ true → count_by q xs ≤ count_by p xs → count_by q (x ∷ xs) ≡ cond a 1 0 + count_by q xs
-        → count_by p (x ∷ xs) ≡ cond b 1 0 + count_by p xs → count_by q (x ∷ xs) < count_by p (x ∷ xs)
-    here a b h1 h2 h3 h4 h5 = grind (arith, nat_tests)
-
-    there : (a b : Bool) → (a ≡ true → b ≡ true) → count_by q xs < count_by p xs → count_by q (x ∷ xs) ≡ cond a 1 0 + count_by q xs
-        → count_by p (x ∷ xs) ≡ cond b 1 0 + count_by p xs → count_by q (x ∷ xs) < count_by p (x ∷ xs)
-    there a b h1 h2 h3 h4 = grind (arith, nat_tests)
+    let cq = count_cons q x xs in let cp = count_cons p x xs in
+    grind (arith, nat_tests, p x, q x, less x, same_node n x, same_node-equal n x, fewer_or_same p q xs less, fewer p q n xs less, cq, cp)

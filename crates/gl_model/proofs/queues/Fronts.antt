@@ -1,71 +1,55 @@
 -- What nodes grant from their fronts, in whatever order, and without one transaction. For releases of many nodes.
-use Rattle.gl_model.proofs.Words.{[], ◌&&◌, ◌++◌, ◌==◌, ◌||◌, ◌∙◌, ◌∷◌, ◌≡◌, Active, after_grants, and_both, ap, append-nil, ap₂, are_compatible, arith, awake}
-use Rattle.gl_model.proofs.Words.{Bool, clash, Condemned, drop, drop-nil, false, fits, front, front-waited, fun_ext, granted_at, if◌then◌else◌}
-use Rattle.gl_model.proofs.Words.{is_among_waiters, length, List, list_all, Members, members, Mode, nat_tests, NL, NL-compatible, NodeId, None, not_true}
-use Rattle.gl_model.proofs.Words.{Option, or_no, pumped, range_with_len, refl, same_number, Some, State, Status, stripped, sym, true, true≢false, Txn, Waiter}
-use Rattle.gl_model.proofs.Words.{Waiting, with_mode, without_waiter, woken, ℕ}
+use Rattle.gl_model.proofs.Words.{[], ◌&&◌, ◌++◌, ◌==◌, ◌||◌, ◌∙◌, ◌∷◌, ◌≡◌, Active, after_grants, ap, append-nil, ap₂, are_compatible, arith, awake, Bool}
+use Rattle.gl_model.proofs.Words.{clash, Condemned, drop, drop-nil, false, fits, front, front-and_rest, fun_ext, granted_at, if◌then◌else◌, is_among_waiters}
+use Rattle.gl_model.proofs.Words.{length, List, list_all, Members, members, Mode, nat_tests, NL, NL-compatible, NodeId, None, not_true, Option, or_left, or_no}
+use Rattle.gl_model.proofs.Words.{pumped, range_with_len, refl, same_number, Some, State, Status, stripped, sym, true, true≢false, Txn, Waiter, Waiting}
+use Rattle.gl_model.proofs.Words.{with_mode, without_waiter, woken, ℕ}
 use Rattle.gl_model.proofs.queues.Edits.{out_of_without, without_none}
-use Rattle.gl_model.proofs.queues.Waiters.{among_append}
+use Rattle.gl_model.proofs.queues.Waiters.{all_weaker, among_append}
 
 -- The order in which nodes grant from their fronts does not matter.
 
-module _ (most : ℕ) (m : Members) (q : List Waiter) where
-  second_front : Bool → Bool → List Waiter
-  second_front a b = if b then front most (λ t. after_grants m (if a then front most m q else []) t) (drop (length (if a then front most m q else [])) q)
-      else []
+-- a queue is what is granted of it and what is left
+pub granted_parts : (s : State) (chosen : NodeId → Bool) (n : NodeId) → granted_at s chosen n ++ drop (length (granted_at s chosen n)) (s.queue n) ≡ s.queue n
+granted_parts s chosen n = grind (arith, nat_tests, chosen n, front-and_rest s.most (members s n) (s.queue n))
 
-  held_twice : (a b : Bool) (t : ℕ) → (a && b) ≡ false
-      → after_grants (λ u. after_grants m (if a then front most m q else []) u) (second_front a b) t ≡ after_grants m (if a || b then front most m q else []) t
-  unfolding second_front
-  held_twice true true t h = absurd (true≢false h)
-  held_twice true false t h = refl
-  held_twice false true t h = refl
-  held_twice false false t h = refl
+-- waiters granted in two parts, and taken from the queue in two parts
+granted_append : (xs ys : List Waiter) (g : Members) → after_grants g (xs ++ ys) ≡ after_grants (after_grants g xs) ys
+granted_append [] ys g = refl
+granted_append (x ∷ xs) ys g = granted_append xs ys (with_mode g x.0 x.1)
 
-  queue_twice : (a b : Bool) → (a && b) ≡ false → drop (length (second_front a b)) (drop (length (if a then front most m q else [])) q)
-      ≡ drop (length (if a || b then front most m q else [])) q
-  unfolding second_front
-  queue_twice true true h = absurd (true≢false h)
-  queue_twice true false h = refl
-  queue_twice false true h = refl
-  queue_twice false false h = refl
+dropped_append : (xs ys q : List Waiter) → drop (length ys) (drop (length xs) q) ≡ drop (length (xs ++ ys)) q
+dropped_append [] ys q = refl
+dropped_append (x ∷ xs) ys [] = drop-nil (length ys)
+dropped_append (x ∷ xs) ys (w ∷ q) = dropped_append xs ys q
 
-or_itself : (b : Bool) → (if b then true else false) ≡ b
-or_itself b = grind (arith, nat_tests)
-
-among_twice : (most : ℕ) (m : Members) (q : List Waiter) (t : ℕ) (a b : Bool) → (a && b) ≡ false
-    → (if is_among_waiters t (if a then front most m q else []) then true else is_among_waiters t (second_front most m q a b))
-    ≡ is_among_waiters t (if a || b then front most m q else [])
-unfolding second_front
-among_twice most m q t true true h = absurd (true≢false h)
-among_twice most m q t true false h = or_itself _
-among_twice most m q t false true h = refl
-among_twice most m q t false false h = refl
-
-awake_if : (g : NodeId → List Waiter) (t : ℕ) (n : NodeId) (w : Mode) (b : Bool)
-    → awake g t (if b then Active else Waiting n w) ≡ (if (if b then true else is_among_waiters t (g n)) then Active else Waiting n w)
-awake_if g t n w b = grind (arith, nat_tests)
-
-awake_twice : (f g h : NodeId → List Waiter) (t : ℕ) (x : Status)
-    → ((n : NodeId) → (if is_among_waiters t (f n) then true else is_among_waiters t (g n)) ≡ is_among_waiters t (h n)) → awake g t (awake f t x) ≡ awake h t x
-awake_twice f g h t Active is = refl
-awake_twice f g h t (Waiting n w) is = awake_if g t n w (is_among_waiters t (f n)) ∙ ap (λ b. if b then Active else Waiting n w) (is n)
-awake_twice f g h t Condemned is = refl
-
-woken_twice : (f g h : NodeId → List Waiter) (t : ℕ) (x : Option Txn)
-    → ((n : NodeId) → (if is_among_waiters t (f n) then true else is_among_waiters t (g n)) ≡ is_among_waiters t (h n)) → woken g t (woken f t x) ≡ woken h t x
-woken_twice f g h t None is = refl
-woken_twice f g h t (Some x) is = ap (λ st. Some (record { age = x.age; status = st })) (awake_twice f g h t x.status is)
+-- who is woken by one list and then by another is woken by both joined
+woken_append : (f g h : NodeId → List Waiter) (u : ℕ) → ((n : NodeId) → h n ≡ f n ++ g n) → (x : Option Txn) → woken g u (woken f u x) ≡ woken h u x
+woken_append f g h u is None = refl
+woken_append f g h u is (Some x) = ap (λ st. Some (record { age = x.age; status = st })) (by x.status)
+  where
+    by : (st : Status) → awake g u (awake f u st) ≡ awake h u st
+    by Active = refl
+    by Condemned = refl
+    by (Waiting n m) = grind (arith, nat_tests, is_among_waiters u (f n), ap (is_among_waiters u) (is n) ∙ among_append u (f n) (g n))
 
 -- nodes that grant from their fronts one after the other do what they do together
 pub pumped-pumped : (s : State) (P Q : NodeId → Bool) → ((n : NodeId) → (P n && Q n) ≡ false) → pumped (pumped s P) Q ≡ pumped s (λ n. P n || Q n)
-unfolding second_front
 pumped-pumped s P Q apart = λ i. record (pumped s (λ n. P n || Q n)) {
-  held = λ t n. held_twice s.most (members s n) (s.queue n) (P n) (Q n) t (apart n) i;
-  queue = λ n. queue_twice s.most (members s n) (s.queue n) (P n) (Q n) (apart n) i;
-  txns = λ t. woken_twice (granted_at s P) (granted_at (pumped s P) Q) (granted_at s (λ n. P n || Q n)) t (s.txns t)
-      (λ n. among_twice s.most (members s n) (s.queue n) t (P n) (Q n) (apart n)) i;
+  held = λ t n. (sym (granted_append (granted_at s P n) (granted_at (pumped s P) Q n) (members s n)) ∙ ap (after_grants (members s n)) (sym (together n))) i t;
+  queue = λ n. (dropped_append (granted_at s P n) (granted_at (pumped s P) Q n) (s.queue n) ∙ ap (λ ws. drop (length ws) (s.queue n)) (sym (together n))) i;
+  txns = λ t. woken_append (granted_at s P) (granted_at (pumped s P) Q) (granted_at s (λ n. P n || Q n)) t together (s.txns t) i;
 }
+  where
+    joined : (most : ℕ) (m : Members) (q : List Waiter) (a b : Bool) → (a && b) ≡ false
+        → (if a || b then front most m q else []) ≡ (if a then front most m q else [])
+        ++ (if b then front most (λ t. after_grants m (if a then front most m q else []) t) (drop (length (if a then front most m q else [])) q) else [])
+    joined most m q true true h = absurd (true≢false h)
+    joined most m q true false h = sym (append-nil (front most m q))
+    joined most m q false b h = refl
+
+    together : (n : NodeId) → granted_at s (λ q. P q || Q q) n ≡ granted_at s P n ++ granted_at (pumped s P) Q n
+    together n = joined s.most (members s n) (s.queue n) (P n) (Q n) (apart n)
 
 -- A state without one transaction: what its nodes grant from their fronts.
 
@@ -83,13 +67,7 @@ bare_free t g free = grind (arith, nat_tests, same_number)
 
 -- a grant to another, before t is taken out or after
 bare_with_mode : (t : ℕ) (g : Members) (u : ℕ) (m : Mode) → (u == t) ≡ false → bare t (with_mode g u m) ≡ with_mode (bare t g) u m
-bare_with_mode t g u m other = fun_ext (λ v. by v (v == t) (v == u) refl refl)
-  where
-    by : (v : ℕ) (a b : Bool) → (v == t) ≡ a → (v == u) ≡ b → (if a then NL else (if b then m else g v)) ≡ (if b then m else (if a then NL else g v))
-    by v true true ea eb = let e : (u == t) ≡ true = grind (arith, nat_tests) in clash e other
-    by v true false ea eb = refl
-    by v false true ea eb = refl
-    by v false false ea eb = refl
+bare_with_mode t g u m other = fun_ext (λ v. grind (arith, nat_tests, v == t, v == u))
 
 -- the same of many grants
 pub bare_granted : (t : ℕ) (ws : List Waiter) (g : Members) → is_among_waiters t ws ≡ false → bare t (after_grants g ws) ≡ after_grants (bare t g) ws
@@ -101,14 +79,8 @@ bare_granted t (w ∷ ws) g out =
 -- what fits fits without t
 bare_fits : (t : ℕ) (g : Members) (u : ℕ) (m : Mode) (us : List ℕ) → list_all (λ v. (v == u) || are_compatible m (g v)) us ≡ true
     → list_all (λ v. (v == u) || are_compatible m (bare t g v)) us ≡ true
-bare_fits t g u m [] h = refl
-bare_fits t g u m (v ∷ us) h =
-    let both = and_both _ _ h in ap₂ (λ a b. a && b) (by (v == t) (v == u) both.0) (bare_fits t g u m us both.1)
-  where
-    by : (a b : Bool) → (b || are_compatible m (g v)) ≡ true → (b || are_compatible m (if a then NL else g v)) ≡ true
-    by true true k = refl
-    by true false k = NL-compatible m
-    by false b k = k
+bare_fits t g u m us h = all_weaker (λ v. (v == u) || are_compatible m (g v)) (λ v. (v == u) || are_compatible m (bare t g v)) us
+    (λ v e. grind (arith, nat_tests, v == t, NL-compatible m)) h
 
 -- a grant of t can only block: without t the front that fits with t is granted, and then what fits behind it
 pub bare_front : (most t : ℕ) (q : List Waiter) (g : Members) → is_among_waiters t q ≡ false
@@ -126,16 +98,6 @@ bare_front most t (w ∷ q) g out = by (fits most g w.0 w.1) refl (bare_front mo
         (drop (length (if b then w ∷ front most (with_mode g w.0 w.1) q else [])) (w ∷ q))
     by true e r = grind (arith, nat_tests, bare_fits t g w.0 w.1 (range_with_len 0 most) e, bare_with_mode t g w.0 w.1 both.0, r)
     by false e r = refl
-
--- waiters granted in two parts, and taken from the queue in two parts
-granted_append : (xs ys : List Waiter) (g : Members) → after_grants g (xs ++ ys) ≡ after_grants (after_grants g xs) ys
-granted_append [] ys g = refl
-granted_append (x ∷ xs) ys g = granted_append xs ys (with_mode g x.0 x.1)
-
-dropped_append : (xs ys q : List Waiter) → drop (length ys) (drop (length xs) q) ≡ drop (length (xs ++ ys)) q
-dropped_append [] ys q = refl
-dropped_append (x ∷ xs) ys [] = drop-nil (length ys)
-dropped_append (x ∷ xs) ys (w ∷ q) = dropped_append xs ys q
 
 dropped_waits : (t : ℕ) (xs q : List Waiter) → is_among_waiters t q ≡ false → is_among_waiters t (drop (length xs) q) ≡ false
 dropped_waits t [] q out = out
@@ -155,29 +117,11 @@ two_parts most t g q out true false free = ap₂ (front most) (bare_free t g (fr
 two_parts most t g q out false true free = refl
 two_parts most t g q out false false free = refl
 
--- who is woken by one list and then by another is woken by both joined
-awake_append : (f g h : NodeId → List Waiter) (u : ℕ) → ((n : NodeId) → h n ≡ f n ++ g n) → (st : Status) → awake g u (awake f u st) ≡ awake h u st
-awake_append f g h u is Active = refl
-awake_append f g h u is Condemned = refl
-awake_append f g h u is (Waiting n m) =
-    by (is_among_waiters u (f n)) ∙ sym (ap (λ b. if b then Active else Waiting n m) (ap (is_among_waiters u) (is n) ∙ among_append u (f n) (g n)))
-  where
-    by : (a : Bool) → awake g u (if a then Active else Waiting n m) ≡ (if a || is_among_waiters u (g n) then Active else Waiting n m)
-    by true = refl
-    by false = refl
-
-woken_append : (f g h : NodeId → List Waiter) (u : ℕ) → ((n : NodeId) → h n ≡ f n ++ g n) → (x : Option Txn) → woken g u (woken f u x) ≡ woken h u x
-woken_append f g h u is None = refl
-woken_append f g h u is (Some x) = ap (λ st. Some (record { age = x.age; status = st })) (awake_append f g h u is x.status)
-
 -- who does not wait is not granted
 pub granted_waits : (s : State) (t : ℕ) (P : NodeId → Bool) (n : NodeId) → is_among_waiters t (s.queue n) ≡ false
     → is_among_waiters t (granted_at s P n) ≡ false
-granted_waits s t P n out = by (P n)
-  where
-    by : (a : Bool) → is_among_waiters t (if a then front s.most (members s n) (s.queue n) else []) ≡ false
-    by true = not_true _ (λ h. clash (front-waited s.most (members s n) (s.queue n) t h) out)
-    by false = refl
+granted_waits s t P n out = not_true _ (λ h. clash (ap (is_among_waiters t) (sym (granted_parts s P n))
+    ∙ among_append t (granted_at s P n) _ ∙ or_left _ _ h) out)
 
 -- the nodes of P grant, then t goes, then those of Q grant: as if t had gone before, where it holds no node that is in P alone
 module _ (s : State) (t : ℕ) (P Q : NodeId → Bool) (out : (n : NodeId) → is_among_waiters t (s.queue n) ≡ false) (free : (n : NodeId) → P n ≡ true → Q n ≡ false
@@ -214,8 +158,4 @@ module _ (s : State) (t : ℕ) (P Q : NodeId → Bool) (out : (n : NodeId) → i
           ∙ ap₂ (λ ws q. drop (length ws) q) (sym (in_two_parts n)) (sym (without_none t (s.queue n) (out n)))
 
       txn_is : (u : ℕ) → woken then_more u (if u == t then None else woken first u (s.txns u)) ≡ woken at_once u (if u == t then None else s.txns u)
-      txn_is u = by (u == t)
-        where
-          by : (b : Bool) → woken then_more u (if b then None else woken first u (s.txns u)) ≡ woken at_once u (if b then None else s.txns u)
-          by true = refl
-          by false = woken_append first then_more at_once u in_two_parts (s.txns u)
+      txn_is u = grind (arith, nat_tests, u == t, woken_append first then_more at_once u in_two_parts (s.txns u))

@@ -2,20 +2,18 @@
 use Rattle.gl_model.proofs.Words.{[], ⊤, ◌&&◌, ◌+◌, ◌<◌, ◌==◌, ◌||◌, ◌∙◌, ◌∷◌, ◌≡◌, ◌≢◌, ◌≤◌, AllByRecursion, and_both, ap, ap₂, arith, Bool}
 use Rattle.gl_model.proofs.Words.{candidate-on_cycle, clash, false, Fewest, freeing-itself, if◌then◌else◌, IsCandidate, IsDistinct, IsEquivalence, IsOnCycleOf}
 use Rattle.gl_model.proofs.Words.{IsOnNoCycle, IsWalk, IsYoungest, length, length-le_from_is_member, length-range_with_len, List, list_any, nat_le, nat_tests}
-use Rattle.gl_model.proofs.Words.{no_cycle-reaches, None, not, on_cycle-reaches, Option, or_elim, or_left, or_right, range_with_len, Reaches, refl, Some, split}
-use Rattle.gl_model.proofs.Words.{subst, suc, sym, true, Victims, waits_of-less, without, Youngest, zero, ℕ}
+use Rattle.gl_model.proofs.Words.{no_cycle-reaches, None, not, not-true, number_same, on_cycle-reaches, Option, or_elim, or_left, or_right, range_with_len}
+use Rattle.gl_model.proofs.Words.{Reaches, refl, same_number, Some, split, subst, suc, sym, true, Victims, waits_of-less, without, Youngest, zero, ℕ}
 
 abbrev pub same : ℕ → ℕ → Bool
 same x y = x == y
 
-same_true : (x y : ℕ) → same x y ≡ true → x ≡ y
-same_true x y h = grind (arith, nat_tests)
-
-same_refl : (x : ℕ) → same x x ≡ true
-same_refl x = grind (arith, nat_tests)
-
 same_equivalence : IsEquivalence same
-same_equivalence = record { refl = same_refl; symm = λ a b. grind (arith, nat_tests); congr = λ a b c h. ap (λ x. same x c) (same_true a b h) }
+same_equivalence = record {
+  refl = λ a. number_same a a refl;
+  symm = λ a b. grind (arith, nat_tests);
+  congr = λ a b c h. ap (λ x. same x c) (same_number a b h);
+}
 
 abbrev pub Distinct : List ℕ → Type 0
 Distinct [] = ⊤
@@ -41,7 +39,7 @@ any_of f (x ∷ xs) h = or_elim _ _ h (λ here. (x, here)) (λ there. any_of f x
 
 one_found : (f : ℕ → Bool) (q : ℕ) (xs : List ℕ) → f q ≡ true → list_any (same q) xs ≡ true → list_any f xs ≡ true
 one_found f q [] h k = k
-one_found f q (x ∷ xs) h k = or_elim _ _ k (λ here. or_left _ _ (ap f (sym (same_true q x here)) ∙ h)) (λ there. or_right (f x) _ (one_found f q xs h there))
+one_found f q (x ∷ xs) h k = or_elim _ _ k (λ here. or_left _ _ (ap f (sym (same_number q x here)) ∙ h)) (λ there. or_right (f x) _ (one_found f q xs h there))
 
 -- the one of greater age, of equal ages the later
 abbrev pub younger : (ℕ → ℕ) → ℕ → Option ℕ → Option ℕ
@@ -90,7 +88,7 @@ module _ (edge : ℕ → ℕ → Bool) (most : ℕ) (low : (x y : ℕ) → edge 
   cut u v y [] h k d = clash k refl
   cut u v y (w ∷ way) h k d =
       or_elim (same v w) (list_any (same v) way) k
-      (λ e. let is = same_true v w e in (way, subst (λ x. IsWalk edge x way y) (sym is) h.1, d.1, ap (λ x. list_any (same x) way) is ∙ d.0))
+      (λ e. let is = same_number v w e in (way, subst (λ x. IsWalk edge x way y) (sym is) h.1, d.1, ap (λ x. list_any (same x) way) is ∙ d.0))
       (λ there. cut w v y way h.1 there d.1)
 
   simple : (way : List ℕ) (x y : ℕ) → IsWalk edge x way y → (short : List ℕ) × IsWalk edge x short y × Distinct short
@@ -101,7 +99,7 @@ module _ (edge : ℕ → ℕ → Bool) (most : ℕ) (low : (x y : ℕ) → edge 
 
   on_way : (way : List ℕ) (x y q : ℕ) → IsWalk edge x way y → list_any (same q) way ≡ true → q < most
   on_way [] x y q h k = clash k refl
-  on_way (v ∷ way) x y q h k = or_elim (same q v) (list_any (same q) way) k (λ e. subst (λ z. z < most) (sym (same_true q v e)) (low x v h.0))
+  on_way (v ∷ way) x y q h k = or_elim (same q v) (list_any (same q) way) k (λ e. subst (λ z. z < most) (sym (same_number q v e)) (low x v h.0))
       (λ there. on_way way v y q h.1 there)
 
   pub short : (way : List ℕ) (x y : ℕ) → IsWalk edge x way y → Distinct way → length way ≤ most
@@ -160,11 +158,8 @@ module _ (edge : ℕ → ℕ → Bool) (most : ℕ) (low : (x y : ℕ) → edge 
       let both = and_both (circles edge most t v) (not (hops (without edge v) most most t t)) h in
       record {
         on_cycle = turned edge most low t v both.0;
-        freed = none_round (without edge v) most (low_without v) t (not_true (hops (without edge v) most most t t) both.1);
+        freed = none_round (without edge v) most (low_without v) t (not-true (hops (without edge v) most most t t) both.1);
       }
-    where
-      not_true : (b : Bool) → not b ≡ true → b ≡ false
-      not_true b h1 = grind (arith, nat_tests)
 
   is_passing : (c : Victims) (t v : ℕ) → IsCandidate c edge t v → passes c edge most t v ≡ true
   is_passing Youngest t v h = turns edge most low t v h

@@ -1,10 +1,12 @@
 -- What a change by others leaves to one slot. For the crates above.
-use Rattle.gl_model.proofs.Words.{[], ⊎_elim, ◌++◌, ◌∙◌, ◌∷◌, ◌≡◌, ◌⊎◌, Active, ap, arith, awake, Bool, Condemned, drop, false, filter-append, front-and_rest}
-use Rattle.gl_model.proofs.Words.{front_at, granted_at, if◌then◌else◌, inl, inr, is_among_waiters, is_at_least, is_waiter, is_waiting_at, IsLawful, length}
-use Rattle.gl_model.proofs.Words.{List, live_by, members, Mode, nat_tests, NodeId, None, Option, pumped, refl, same_node, same_node-equal, Some, split, State}
-use Rattle.gl_model.proofs.Words.{Status, status_in, status_of, subst, sym, true, true≢false, Txn, Waiter, Waiting, waits_at, woken, ℕ}
-use Rattle.gl_model.proofs.queues.Waiters.{among_waits, both_empty, granted_mode, last_mode, nobody_among, none_of_absent, one_among, some_wait, split_one}
+use Rattle.gl_model.proofs.Words.{[], ⊎_elim, ◌++◌, ◌∙◌, ◌∷◌, ◌≡◌, ◌⊎◌, Active, ap, arith, Bool, Condemned, drop, false, filter-append, granted_at, inl, inr}
+use Rattle.gl_model.proofs.Words.{is_among_waiters, is_at_least, is_waiter, is_waiting_at, IsLawful, length, List, live_by, members, Mode, nat_tests, NodeId}
+use Rattle.gl_model.proofs.Words.{None, not_true, Option, pumped, refl, same_node, same_node-equal, Some, split, State, Status, status_in, status_of, subst}
+use Rattle.gl_model.proofs.Words.{sym, true, true≢false, Txn, Waiter, Waiting, waits_at, woken, ℕ}
+use Rattle.gl_model.proofs.queues.Waiters.{among_waits, both_empty, granted_mode, last_mode, none_filtered, not_among, one_among, some_wait, split_one}
 use Rattle.gl_model.proofs.queues.Waiters.{waits_of}
+use Rattle.gl_model.proofs.law.Keeps.{apart}
+use Rattle.gl_model.proofs.queues.Fronts.{granted_parts}
 
 -- t, which waited for it, was granted a mode on a node; nothing else that it holds changed
 pub record GrantedTo (s s' : State) (t : ℕ) : Type 0 where
@@ -38,9 +40,6 @@ pub record Follows (s s' : State) (t : ℕ) : Type 0 where
 -- the law says so of every slot
 pub lawful_waits : (s : State) → IsLawful s → (t : ℕ) → WaitsWell s t
 lawful_waits s law t = record { one = law.one_wait t; more = λ n m e. (law.waits_intend t n m e).2; are = law.waits_are t }
-
-apart : {q : NodeId} {w : Mode} → Some Active ≡ Some (Waiting q w) → ⊥
-apart e = cc
 
 -- one change and then another
 pub follows_trans : (s mid s' : State) (t : ℕ) → Follows s mid t → Follows mid s' t → Follows s s' t
@@ -101,26 +100,20 @@ pub absent_well : (s : State) (t : ℕ) → ((n : NodeId) → waits_of t (s.queu
 absent_well s t absent idle = record {
   one = λ n m h. absurd (idle n m h);
   more = λ n m h. absurd (idle n m h);
-  are = λ n h. absurd (true≢false (sym h ∙ nobody_among t (s.queue n) (absent n)));
+  are = λ n h. absurd (true≢false (sym h ∙ none_filtered t (s.queue n) (absent n)));
 }
 
-abbrev awoken : (NodeId → List Waiter) → ℕ → Option Status → Option Status
-awoken g t None = None
-awoken g t (Some st) = Some (awake g t st)
-
-awoken_is : (g : NodeId → List Waiter) (t : ℕ) (x : Option Txn) → status_in (woken g t x) ≡ awoken g t (status_in x)
-awoken_is g t None = refl
-awoken_is g t (Some x) = refl
-
 woken_lives : (g : NodeId → List Waiter) (t age : ℕ) (x : Option Txn) → live_by age (woken g t x) ≡ live_by age x
-woken_lives g t age None = refl
-woken_lives g t age (Some x) = refl
+woken_lives g t age x = grind (arith, nat_tests, x)
 
-apart_condemned : {q : NodeId} {w : Mode} → Some Condemned ≡ Some (Waiting q w) → ⊥
-apart_condemned e = cc
+-- who was granted nowhere is as it was
+pub unwoken : (g : NodeId → List Waiter) (u : ℕ) → ((q : NodeId) → is_among_waiters u (g q) ≡ false) → (x : Option Txn) → woken g u x ≡ x
+unwoken g u out x = grind (arith, nat_tests, x)
 
-apart_none : {q : NodeId} {w : Mode} → None ≡ Some (Waiting q w) → ⊥
-apart_none e = cc
+-- who was granted where it waited is active
+pub roused : (g : NodeId → List Waiter) (u : ℕ) (q : NodeId) (m : Mode) (x : Option Txn) → status_in x ≡ Some (Waiting q m) → is_among_waiters u (g q) ≡ true
+    → status_in (woken g u x) ≡ Some Active
+roused g u q m x h k = grind (arith, nat_tests, x)
 
 module _ (s : State) (chosen : NodeId → Bool) (t : ℕ) (well : WaitsWell s t) where
   abbrev granted : NodeId → List Waiter
@@ -129,58 +122,27 @@ module _ (s : State) (chosen : NodeId → Bool) (t : ℕ) (well : WaitsWell s t)
   abbrev rest : NodeId → List Waiter
   rest n = drop (length (granted_at s chosen n)) (s.queue n)
 
-  parts : (n : NodeId) → granted n ++ rest n ≡ s.queue n
-  parts n = by (chosen n)
-    where
-      by : (b : Bool) → (if b then front_at s n else []) ++ drop (length (if b then front_at s n else [])) (s.queue n) ≡ s.queue n
-      by true = front-and_rest s.most (members s n) (s.queue n)
-      by false = refl
-
   waits_parts : (n : NodeId) → waits_of t (granted n) ++ waits_of t (rest n) ≡ waits_of t (s.queue n)
-  waits_parts n = sym (filter-append (is_waiter t) (granted n) (rest n)) ∙ ap (waits_of t) (parts n)
-
-  held_is : (n : NodeId) → (pumped s chosen).held t n ≡ last_mode (s.held t n) (waits_of t (granted n))
-  held_is n = granted_mode (members s n) t (granted n)
+  waits_parts n = sym (filter-append (is_waiter t) (granted n) (rest n)) ∙ ap (waits_of t) (granted_parts s chosen n)
 
   held_same : (n : NodeId) → waits_of t (granted n) ≡ [] → (pumped s chosen).held t n ≡ s.held t n
-  held_same n e = held_is n ∙ ap (last_mode (s.held t n)) e
+  held_same n e = granted_mode (members s n) t (granted n) ∙ ap (last_mode (s.held t n)) e
 
-  -- t waits nowhere
-  idle_follows : ((n : NodeId) → waits_of t (s.queue n) ≡ []) → status_of (pumped s chosen) t ≡ status_of s t
-      → ((n : NodeId) (m : Mode) → status_of s t ≡ Some (Waiting n m) → ⊥) → Follows s (pumped s chosen) t
-  idle_follows absent status idle = record {
-    graph = refl;
-    lives = λ age h. woken_lives granted t age (s.txns t) ∙ h;
-    active = λ h. status ∙ h;
-    was_waiting = λ n m h. sym status ∙ h;
-    grants = inl (λ n. held_same n (both_empty _ _ (waits_parts n ∙ absent n)).0);
-    well = absent_well (pumped s chosen) t (λ n. (both_empty _ _ (waits_parts n ∙ absent n)).1) (λ n m h. idle n m (sym status ∙ h));
-  }
+  -- where no wait of t is granted, nothing of t is touched
+  same_follows : ((n : NodeId) → waits_of t (granted n) ≡ []) → Follows s (pumped s chosen) t
+  same_follows out = follows_same s (pumped s chosen) t well refl (unwoken granted t (λ n. none_filtered t (granted n) (out n)) (s.txns t))
+      (λ n. held_same n (out n)) (λ n. ap (λ ws. ws ++ waits_of t (rest n)) (sym (out n)) ∙ waits_parts n)
 
-  nowhere : (o : Option Status) → status_of s t ≡ o → ((n : NodeId) → waits_at o n ≡ false) → (n : NodeId) → waits_of t (s.queue n) ≡ []
-  nowhere o e no_wait n = none_of_absent t (s.queue n) (λ h. true≢false (sym (well.are n h) ∙ ap (λ x. waits_at x n) e ∙ no_wait n))
-
-  status_is : (o : Option Status) → status_of s t ≡ o → status_of (pumped s chosen) t ≡ awoken granted t o
-  status_is o e = awoken_is granted t (s.txns t) ∙ ap (awoken granted t) e
+  -- where t does not wait, none is
+  nowhere : (o : Option Status) → status_of s t ≡ o → (n : NodeId) → waits_at o n ≡ false → (waits_of t (granted n) ≡ []) × (waits_of t (rest n) ≡ [])
+  nowhere o e n no_wait = both_empty _ _ (waits_parts n
+      ∙ not_among t (s.queue n) (not_true _ (λ h. true≢false (sym (well.are n h) ∙ ap (λ x. waits_at x n) e ∙ no_wait))))
 
   waiting_follows : (n : NodeId) (m : Mode) → status_of s t ≡ Some (Waiting n m) → Follows s (pumped s chosen) t
   waiting_follows n m e =
-      ⊎_elim (λ stays. let status : status_of (pumped s chosen) t ≡ Some (Waiting n m) = status_is _ e
-      ∙ ap (λ b. Some (if b then Active else Waiting n m)) (nobody_among t (granted n) stays.0) in
-      record {
-        graph = refl;
-        lives = λ age h. woken_lives granted t age (s.txns t) ∙ h;
-        active = λ h. absurd (apart (sym h ∙ e));
-        was_waiting = λ q w h. e ∙ sym status ∙ h;
-        grants = inl (λ q. held_same q (none_granted stays.0 q));
-        well = record {
-          one = λ q w h. waits_left stays.0 q ∙ well.one q w (e ∙ sym status ∙ h);
-          more = λ q w h. ap (is_at_least w) (held_same q (none_granted stays.0 q)) ∙ well.more q w (e ∙ sym status ∙ h);
-          are = λ q h. ap (λ o. waits_at o q) (status ∙ sym e)
-              ∙ well.are q (among_waits t (s.queue q) ∙ ap some_wait (sym (waits_left stays.0 q)) ∙ sym (among_waits t (rest q)) ∙ h);
-        };
-      }) (λ goes. let status : status_of (pumped s chosen) t ≡ Some Active = status_is _ e
-      ∙ ap (λ b. Some (if b then Active else Waiting n m)) (one_among t (granted n) (t, m) goes.0) in
+      ⊎_elim (λ stays. same_follows (λ q. split (same_node n q) (λ h. subst (λ x. waits_of t (granted x) ≡ []) (same_node-equal n q h) stays.0)
+      (λ h. (nowhere _ e q h).0)))
+      (λ goes. let status = roused granted t n m (s.txns t) e (one_among t (granted n) (t, m) goes.0) in
       record {
         graph = refl;
         lives = λ age h. woken_lives granted t age (s.txns t) ∙ h;
@@ -191,31 +153,20 @@ module _ (s : State) (chosen : NodeId → Bool) (t : ℕ) (well : WaitsWell s t)
           mode = m;
           was = e;
           is = status;
-          at = held_is n ∙ ap (last_mode (s.held t n)) goes.0;
-          elsewhere = λ q ne. held_same q (both_empty _ _ (waits_parts q ∙ elsewhere q ne)).0;
+          at = granted_mode (members s n) t (granted n) ∙ ap (last_mode (s.held t n)) goes.0;
+          elsewhere = λ q ne. held_same q (nowhere _ e q ne).0;
           more = well.more n m e;
         });
         well = absent_well (pumped s chosen) t (λ q. split (same_node n q) (λ h. subst (λ x. waits_of t (rest x) ≡ []) (same_node-equal n q h) goes.1)
-            (λ h. (both_empty _ _ (waits_parts q ∙ elsewhere q h)).1)) (λ q w h. apart (sym status ∙ h));
+            (λ h. (nowhere _ e q h).1)) (λ q w h. apart (sym status ∙ h));
       }) (split_one _ _ (t, m) (waits_parts n ∙ well.one n m e))
-    where
-      elsewhere : (q : NodeId) → same_node n q ≡ false → waits_of t (s.queue q) ≡ []
-      elsewhere q ne = none_of_absent t (s.queue q) (λ h. true≢false (sym (well.are q h) ∙ ap (λ x. waits_at x q) e ∙ ne))
-
-      none_granted : waits_of t (granted n) ≡ [] → (q : NodeId) → waits_of t (granted q) ≡ []
-      none_granted here q = split (same_node n q) (λ h. subst (λ x. waits_of t (granted x) ≡ []) (same_node-equal n q h) here)
-          (λ h. (both_empty _ _ (waits_parts q ∙ elsewhere q h)).0)
-
-      waits_left : waits_of t (granted n) ≡ [] → (q : NodeId) → waits_of t (rest q) ≡ waits_of t (s.queue q)
-      waits_left here q = ap (λ ws. ws ++ waits_of t (rest q)) (sym (none_granted here q)) ∙ waits_parts q
 
   -- granting from fronts gives a slot what it waits for, and nothing else
   pub pumped_follows : Follows s (pumped s chosen) t
   pumped_follows = by (status_of s t) refl
     where
       by : (o : Option Status) → status_of s t ≡ o → Follows s (pumped s chosen) t
-      by None e = idle_follows (nowhere None e (λ n. refl)) (status_is None e ∙ sym e) (λ n m h. apart_none (sym e ∙ h))
-      by (Some Active) e = idle_follows (nowhere (Some Active) e (λ n. refl)) (status_is (Some Active) e ∙ sym e) (λ n m h. apart (sym e ∙ h))
-      by (Some Condemned) e = idle_follows (nowhere (Some Condemned) e (λ n. refl)) (status_is (Some Condemned) e ∙ sym e)
-          (λ n m h. apart_condemned (sym e ∙ h))
+      by None e = same_follows (λ n. (nowhere None e n refl).0)
+      by (Some Active) e = same_follows (λ n. (nowhere (Some Active) e n refl).0)
+      by (Some Condemned) e = same_follows (λ n. (nowhere (Some Condemned) e n refl).0)
       by (Some (Waiting n m)) e = waiting_follows n m e

@@ -1,13 +1,13 @@
 -- Where who stands in a queue waits there, once: the front that its node grants, and that order is kept. For wakes.
-use Rattle.gl_model.proofs.Words.{[], ◌++◌, ◌==◌, ◌∙◌, ◌∷◌, ◌≡◌, ◌≤◌, Active, ap, AreBelow, arith, awake, Bool, both, clash, enters, enters-limit, false}
+use Rattle.gl_model.proofs.Words.{[], ◌++◌, ◌==◌, ◌∙◌, ◌∷◌, ◌≡◌, ◌≤◌, Active, ap, AreBelow, arith, Bool, both, clash, enters, enters-limit, false}
 use Rattle.gl_model.proofs.Words.{filter-append, front-and_rest, front-waited, front_at, granted, granted_at, holds, if◌then◌else◌, is_among_waiters}
-use Rattle.gl_model.proofs.Words.{is_distinct, is_wait, is_waiter, is_waiting_at, IsOnWay, IsOrderly, IsWithin, List, members, Mode, nat_tests, NL, NodeId}
-use Rattle.gl_model.proofs.Words.{None, not, not_true, number_other, number_same, Option, or_left, or_right, pumped, pumped_queue, refl, restatus, same_mode}
-use Rattle.gl_model.proofs.Words.{same_node, same_node-equal, same_node-refl, same_number, slot_limit, Some, split, State, Status, status_in, status_of, sym}
-use Rattle.gl_model.proofs.Words.{true, Txn, unlocked, Waiter, Waiting, waits_at, WaitWell, with_grant, without_wait, woken, ℕ}
+use Rattle.gl_model.proofs.Words.{is_distinct, is_wait, is_waiter, is_waiting_at, IsOnWay, IsOrderly, IsWithin, List, members, Mode, nat_tests, NL, NodeId, not}
+use Rattle.gl_model.proofs.Words.{not_true, number_other, number_same, Option, or_left, or_right, pumped, pumped_queue, refl, restatus, same_mode, same_node}
+use Rattle.gl_model.proofs.Words.{same_node-equal, same_node-refl, same_number, slot_limit, Some, split, State, Status, status_in, status_of, sym, true, Txn}
+use Rattle.gl_model.proofs.Words.{unlocked, Waiter, Waiting, waits_at, WaitWell, with_grant, without_wait, woken, ℕ}
 use Rattle.gl_model.proofs.law.Keeps.{holders-within, txn_there, waiting_is, woken_some}
 use Rattle.gl_model.proofs.queues.Edits.{out_of_without, without_filter}
-use Rattle.gl_model.proofs.queues.Waiters.{among_by_filter, grants_other, if-true, none_filtered, one_in_first, waits_of}
+use Rattle.gl_model.proofs.queues.Waiters.{among_by_filter, grants_other, if-false, if-true, none_filtered, one_in_first, waits_of}
 use Rattle.gl_model.proofs.telling.Ways.{granted_stands, is_by_test, left_stands, way_pumped, without_wait_other, woken_same}
 
 -- Where who stands in a queue waits there, once: what follows for the front that its node grants.
@@ -17,21 +17,11 @@ pub distinct_once : (q : List Waiter) → ((u : ℕ) → is_among_waiters u q �
 distinct_once [] one = refl
 distinct_once (w ∷ q) one = both (not (is_among_waiters w.0 q)) (is_distinct q) (ap not alone) (distinct_once q later)
   where
-    last : {x y : Waiter} {xs : List Waiter} → x ∷ xs ≡ y ∷ [] → xs ≡ []
-    last e = cc
-
-    waits_cons : (u : ℕ) (b : Bool) → is_waiter u w ≡ b → waits_of u (w ∷ q) ≡ (if b then w ∷ waits_of u q else waits_of u q)
-    waits_cons u b e = ap (λ x. if x then w ∷ waits_of u q else waits_of u q) e
-
-    own : is_waiter w.0 w ≡ true
-    own = number_same w.0 w.0 refl
-
     alone : is_among_waiters w.0 q ≡ false
-    alone = none_filtered w.0 q (last (sym (waits_cons w.0 true own) ∙ (one w.0 (or_left _ _ own)).1))
+    alone = grind (arith, nat_tests, none_filtered w.0 q, one w.0 (or_left _ _ (number_same w.0 w.0 refl)))
 
     later : (u : ℕ) → is_among_waiters u q ≡ true → (v : Waiter) × (waits_of u q ≡ v ∷ [])
-    later u h = let was = one u (or_right (is_waiter u w) _ h) in
-        split (is_waiter u w) (λ e. clash h (none_filtered u q (last (sym (waits_cons u true e) ∙ was.1)))) (λ e. (was.0, sym (waits_cons u false e) ∙ was.1))
+    later u h = let was = one u (or_right (is_waiter u w) _ h) in (was.0, grind (arith, nat_tests, is_waiter u w, none_filtered u q, was.1))
 
 module _ (s : State) (o : IsOrderly s) where
   pub waits_there : (u : ℕ) (q : NodeId) → is_among_waiters u (s.queue q) ≡ true → (m : Mode) × (status_of s u ≡ Some (Waiting q m))
@@ -82,7 +72,7 @@ pub granted_here : (b : State) (n : NodeId) → granted_at b (same_node n) n ≡
 granted_here b n = if-true _ (same_node-refl n)
 
 pub granted_apart : (b : State) (n q : NodeId) → same_node n q ≡ false → granted_at b (same_node n) q ≡ []
-granted_apart b n q e = ap (λ c. if c then front_at b q else []) e
+granted_apart b n q e = if-false _ e
 
 module _ (b : State) (n : NodeId) (well : WaitWell b n) where
   pub front_stands : (u : ℕ) → is_among_waiters u (front_at b n) ≡ true → is_among_waiters u (b.queue n) ≡ true
@@ -112,10 +102,7 @@ module _ (b : State) (n : NodeId) (well : WaitWell b n) where
     where
       active : (m : Mode) (x : Option Txn) → status_in x ≡ Some (Waiting n m) → is_among_waiters u (granted_at b (same_node n) n) ≡ true
           → woken (granted_at b (same_node n)) u x ≡ restatus Active x
-      active m None st k = refl
-      active m (Some x) st k = let is : x.status ≡ Waiting n m = cc in
-          ap (λ y. Some (record { age = x.age; status = awake (granted_at b (same_node n)) u y })) is
-          ∙ ap (λ c. Some (record { age = x.age; status = if c then Active else Waiting n m })) k
+      active m x st k = grind (arith, nat_tests, x)
 
 -- Slots with a transaction are below the limit of the state, and so are all who hold: the limit of slots serves as well.
 

@@ -1,11 +1,12 @@
 -- Notices by rising slot, and that they are what is told. For told lists.
-use Rattle.gl_model.proofs.Words.{[], ◌&&◌, ◌+◌, ◌<◌, ◌==◌, ◌∙◌, ◌∷◌, ◌≡◌, ◌≤◌, addressed, age_in, age_of, and_both, ap, ap₂, arith, Bool, candidate-on_cycle}
+use Rattle.gl_model.proofs.Words.{[], ◌&&◌, ◌+◌, ◌<◌, ◌==◌, ◌∙◌, ◌∷◌, ◌≡◌, ◌≤◌, addressed, age_of, and_both, ap, ap₂, arith, Bool, both, candidate-on_cycle}
 use Rattle.gl_model.proofs.Words.{clash, cond, cons_option, false, filter, filter_map, fun_ext, get_or, if◌then◌else◌, insert, is_rising, is_some, IsBySlot}
 use Rattle.gl_model.proofs.Words.{IsLawful, IsNonDecreasingBy, IsOnNoCycle, IsPartitionedBy, IsPartitionedBy-ltb, IsPartitionPoint, length, List, list_all}
-use Rattle.gl_model.proofs.Words.{list_all_at, nat_le, nat_lt, nat_tests, None, not, Notice, notices_in, number_same, Option, prefix_len, prefix_len_is}
-use Rattle.gl_model.proofs.Words.{range_with_len, refl, Settled, SettledWithin, slots, Some, split, State, status_in, status_of, suc, sym, Told, told, told_but}
-use Rattle.gl_model.proofs.Words.{told_from, told_to, true, Txn, TxnId, Victim, Victims, waits_for, zero, ℕ}
+use Rattle.gl_model.proofs.Words.{list_all_at, nat_le, nat_lt, nat_tests, None, not, Notice, notices_in, number_other, number_same, Option, prefix_len}
+use Rattle.gl_model.proofs.Words.{prefix_len_is, range_with_len, refl, Settled, SettledWithin, slots, Some, split, State, status_of, suc, sym, Told, told}
+use Rattle.gl_model.proofs.Words.{told_but, told_from, told_to, true, TxnId, Victim, Victims, waits_for, zero, ℕ}
 use Rattle.gl_model.proofs.telling.Ways.{quiet_told}
+use Rattle.gl_model.proofs.queues.Waiters.{all_weaker}
 
 -- A notice put in its place among notices by rising slot.
 
@@ -15,13 +16,11 @@ Named = TxnId × Notice
 all_inserted : (p : Named → Bool) (xs : Told) (i : ℕ) (x : Named) → i ≤ length xs → p x ≡ true → list_all p xs ≡ true → list_all p (insert xs i x) ≡ true
 all_inserted p xs zero x h here rest = grind arith
 all_inserted p [] (suc i) x h here rest = absurd (omega arith)
-all_inserted p (y ∷ ys) (suc i) x h here rest = let both = and_both _ _ rest in ap₂ (λ a b. a && b) both.0 (all_inserted p ys i x (omega arith) here both.1)
+all_inserted p (y ∷ ys) (suc i) x h here rest = let b = and_both _ _ rest in both _ _ b.0 (all_inserted p ys i x (omega arith) here b.1)
 
 -- all behind one that is above are above
 all_above : (lo s : ℕ) (xs : Told) → lo < s → list_all (λ y. nat_lt s y.0.slot) xs ≡ true → list_all (λ y. nat_lt lo y.0.slot) xs ≡ true
-all_above lo s [] h above = refl
-all_above lo s (y ∷ ys) h above =
-    let both = and_both _ _ above in let here : nat_lt lo y.0.slot ≡ true = grind (arith, nat_tests) in ap₂ (λ a b. a && b) here (all_above lo s ys h both.1)
+all_above lo s xs h above = all_weaker (λ (y : Named). nat_lt s y.0.slot) (λ (y : Named). nat_lt lo y.0.slot) xs (λ y e. grind (arith, nat_tests)) above
 
 abbrev pub place : Told → ℕ → ℕ
 place xs s = prefix_len (λ x. nat_lt x.0.slot s) xs
@@ -83,26 +82,13 @@ module _ (x : Named) where
 
   pub notices_inserted : (xs : Told) → notices_in xs x.0.slot ≡ None → (u : ℕ)
       → notices_in (inserted xs) u ≡ (if u == x.0.slot then Some x else notices_in xs u)
-  notices_inserted [] absent u = turned (x.0.slot == u) (u == x.0.slot) (grind (arith, nat_tests))
-    where
-      turned : (a b : Bool) → a ≡ b → cond a (Some x) None ≡ (if b then Some x else None)
-      turned a b h1 = grind (arith, nat_tests)
+  notices_inserted [] absent u = grind (arith, nat_tests, u == x.0.slot)
   notices_inserted (y ∷ ys) absent u =
       let out = absent_cons y ys absent in
       split (nat_lt y.0.slot x.0.slot)
       (λ e. ap (λ zs. notices_in zs u) (inserted_cons y ys true e) ∙ ap (cond (y.0.slot == u) (Some y)) (notices_inserted ys out.1 u)
-      ∙ swap (y.0.slot == u) (u == x.0.slot) (apart u out.0))
-      (λ e. ap (λ zs. notices_in zs u) (inserted_cons y ys false e) ∙ here (x.0.slot == u) (u == x.0.slot) (grind (arith, nat_tests)))
-    where
-      apart : (u : ℕ) → (y.0.slot == x.0.slot) ≡ false → (y.0.slot == u) ≡ true → (u == x.0.slot) ≡ false
-      apart u ne e = grind (arith, nat_tests)
-
-      swap : (a b : Bool) → (a ≡ true → b ≡ false) → cond a (Some y) (if b then Some x else notices_in ys u)
-          ≡ (if b then Some x else cond a (Some y) (notices_in ys u))
-      swap a b h1 = grind (arith, nat_tests)
-
-      here : (a b : Bool) → a ≡ b → cond a (Some x) (notices_in (y ∷ ys) u) ≡ (if b then Some x else notices_in (y ∷ ys) u)
-      here a b h1 = grind (arith, nat_tests)
+      ∙ grind (arith, nat_tests, y.0.slot == u, u == x.0.slot, out.0))
+      (λ e. ap (λ zs. notices_in zs u) (inserted_cons y ys false e) ∙ grind (arith, nat_tests, u == x.0.slot))
 
 -- rising slots from lo on and below k are at most k - lo
 rising_few : (lo k : ℕ) (xs : Told) → lo ≤ k → is_rising xs ≡ true → list_all (λ x. nat_le lo x.0.slot) xs ≡ true → list_all (λ x. nat_lt x.0.slot k) xs ≡ true
@@ -111,21 +97,14 @@ rising_few lo k [] h up from below = omega arith
 rising_few lo k (x ∷ xs) h up from below =
     let rest = and_both _ _ up in let f = and_both (nat_le lo x.0.slot) _ from in let b = and_both (nat_lt x.0.slot k) _ below in
     let here : lo ≤ x.0.slot = grind (arith, nat_tests) in let low : x.0.slot < k = grind (arith, nat_tests) in
-    let more = rising_few (x.0.slot + 1) k xs (omega arith) rest.1 (next (x.0.slot) xs rest.0) b.1 in
+    let more = rising_few (x.0.slot + 1) k xs (omega arith) rest.1 (all_weaker (λ (y : Named). nat_lt x.0.slot y.0.slot)
+    (λ (y : Named). nat_le (x.0.slot + 1) y.0.slot) xs (λ y e. grind (arith, nat_tests)) rest.0) b.1 in
     omega arith
-  where
-    next : (s : ℕ) (xs : Told) → list_all (λ y. nat_lt s y.0.slot) xs ≡ true → list_all (λ y. nat_le (s + 1) y.0.slot) xs ≡ true
-    next s [] h = refl
-    next s (y ∷ ys) h = let both = and_both _ _ h in let here : nat_le (s + 1) y.0.slot ≡ true = grind (arith, nat_tests) in
-        ap₂ (λ a b. a && b) here (next s ys both.1)
 
 -- there is room for one more slot
 pub few_told : (xs : Told) → IsBySlot xs → length xs ≤ 128
-few_told xs is = let h = rising_few 0 128 xs (omega arith) is.rising (all_from xs) is.below in omega arith
-  where
-    all_from : (xs : Told) → list_all (λ x. nat_le 0 x.0.slot) xs ≡ true
-    all_from [] = refl
-    all_from (x ∷ xs) = let here : nat_le 0 x.0.slot ≡ true = grind (arith, nat_tests) in ap₂ (λ a b. a && b) here (all_from xs)
+few_told xs is = let h = rising_few 0 128 xs (omega arith) is.rising (all_weaker (λ (x : Named). nat_lt x.0.slot 128) (λ (x : Named). nat_le 0 x.0.slot) xs
+    (λ x e. grind (arith, nat_tests)) is.below) is.below in omega arith
 
 length-inserted : (xs : Told) (i : ℕ) (x : Named) → i ≤ length xs → length (insert xs i x) ≡ length xs + 1
 length-inserted xs zero x h = omega arith
@@ -160,16 +139,8 @@ untold_below u (y ∷ ys) h =
 pub told_pass : (p : ℕ → Bool) (xs : Told) → ((u : ℕ) → is_some (notices_in xs u) ≡ true → p u ≡ true) → list_all (λ x. p x.0.slot) xs ≡ true
 told_pass p [] h = refl
 told_pass p (x ∷ xs) h =
-    ap₂ (λ a b. a && b) (h x.0.slot (ap (λ b. is_some (cond b (Some x) (notices_in xs x.0.slot))) (number_same x.0.slot x.0.slot refl)))
-    (told_pass p xs (λ u k. h u (more u (x.0.slot == u) k)))
-  where
-    more : (u : ℕ) (b : Bool) → is_some (notices_in xs u) ≡ true → is_some (cond b (Some x) (notices_in xs u)) ≡ true
-    more u b h1 = grind (arith, nat_tests)
-
--- a test that passes more
-all_weaker : (p q : ℕ → Bool) (xs : Told) → ((u : ℕ) → p u ≡ true → q u ≡ true) → list_all (λ x. p x.0.slot) xs ≡ true → list_all (λ x. q x.0.slot) xs ≡ true
-all_weaker p q [] more h = refl
-all_weaker p q (x ∷ xs) more h = let both = and_both _ _ h in ap₂ (λ a b. a && b) (more x.0.slot both.0) (all_weaker p q xs more both.1)
+    both _ _ (h x.0.slot (ap (λ b. is_some (cond b (Some x) (notices_in xs x.0.slot))) (number_same x.0.slot x.0.slot refl)))
+    (told_pass p xs (λ u k. h u (grind (arith, nat_tests, x.0.slot == u))))
 
 -- rising notices for n slots from lo on are those of each slot, in order
 pub rising_is : (f : ℕ → Option (TxnId × Notice)) (n lo : ℕ) (xs : Told) → is_rising xs ≡ true → list_all (λ x. nat_le lo x.0.slot) xs ≡ true
@@ -181,52 +152,28 @@ rising_is f (suc n) lo [] up from below each =
     ∙ ap (λ o. cons_option o (filter_map f (range_with_len (lo + 1) n))) (each lo (omega arith))
 rising_is f (suc n) lo (x ∷ xs) up from below each =
     let rest = and_both _ _ up in let a = and_both (nat_le lo x.0.slot) _ from in let b = and_both (nat_lt x.0.slot (lo + suc n)) _ below in
-    split (x.0.slot == lo) (λ e. ap (λ ys. x ∷ ys)
-    (rising_is f n (lo + 1) xs rest.1 (all_weaker (λ v. nat_lt x.0.slot v) (λ v. nat_le (lo + 1) v) xs (λ v h. above v e h) rest.0)
-    (all_weaker (λ v. nat_lt v (lo + suc n)) (λ v. nat_lt v (lo + 1 + n)) xs nearer b.1)
-    (λ u h. sym (ap (λ c. cond c (Some x) (notices_in xs u)) (passed u e h)) ∙ each u (omega arith)))
+    split (x.0.slot == lo) (λ e. ap (λ ys. x ∷ ys) (rising_is f n (lo + 1) xs rest.1 (behind xs (λ v h. grind (arith, nat_tests)) rest.0) (nearer xs b.1)
+    (λ u h. sym (ap (λ c. cond c (Some x) (notices_in xs u)) (number_other x.0.slot u (λ is. grind (arith, nat_tests)))) ∙ each u (omega arith)))
     ∙ ap (λ o. cons_option o (filter_map f (range_with_len (lo + 1) n))) (sym (ap (λ c. cond c (Some x) (notices_in xs lo)) e) ∙ each lo (omega arith)))
-    (λ e. let first : nat_lt lo x.0.slot ≡ true = later e a.0 in
-    rising_is f n (lo + 1) (x ∷ xs) up (ap₂ (λ c d. c && d) (next x.0.slot first)
-    (all_weaker (λ v. nat_lt x.0.slot v) (λ v. nat_le (lo + 1) v) xs (λ v h. beyond v first h) rest.0))
-    (all_weaker (λ v. nat_lt v (lo + suc n)) (λ v. nat_lt v (lo + 1 + n)) (x ∷ xs) nearer below) (λ u h. each u (omega arith))
-    ∙ ap (λ o. cons_option o (filter_map f (range_with_len (lo + 1) n)))
-    (sym (untold_below lo (x ∷ xs) (ap₂ (λ c d. c && d) first (all_weaker (λ v. nat_lt x.0.slot v) (λ v. nat_lt lo v) xs (λ v h. behind v first h) rest.0)))
-    ∙ each lo (omega arith)))
+    (λ e. let first : nat_lt lo x.0.slot ≡ true = grind (arith, nat_tests, a.0) in
+    rising_is f n (lo + 1) (x ∷ xs) up (both _ _ (grind (arith, nat_tests)) (behind xs (λ v h. grind (arith, nat_tests)) rest.0)) (nearer (x ∷ xs) below)
+    (λ u h. each u (omega arith)) ∙ ap (λ o. cons_option o (filter_map f (range_with_len (lo + 1) n)))
+    (sym (untold_below lo (x ∷ xs) (both _ _ first (all_weaker (λ (y : Named). nat_lt x.0.slot y.0.slot) (λ (y : Named). nat_lt lo y.0.slot) xs
+    (λ y h. grind (arith, nat_tests)) rest.0))) ∙ each lo (omega arith)))
   where
-    nearer : (v : ℕ) → nat_lt v (lo + suc n) ≡ true → nat_lt v (lo + 1 + n) ≡ true
-    nearer v h = grind (arith, nat_tests)
+    nearer : (ys : Told) → list_all (λ y. nat_lt y.0.slot (lo + suc n)) ys ≡ true → list_all (λ y. nat_lt y.0.slot (lo + 1 + n)) ys ≡ true
+    nearer ys = all_weaker (λ (y : Named). nat_lt y.0.slot (lo + suc n)) (λ (y : Named). nat_lt y.0.slot (lo + 1 + n)) ys (λ y h. grind (arith, nat_tests))
 
-    above : (v : ℕ) → (x.0.slot == lo) ≡ true → nat_lt x.0.slot v ≡ true → nat_le (lo + 1) v ≡ true
-    above v e h = grind (arith, nat_tests)
-
-    passed : (u : ℕ) → (x.0.slot == lo) ≡ true → lo + 1 ≤ u → (x.0.slot == u) ≡ false
-    passed u e h = grind (arith, nat_tests)
-
-    later : (x.0.slot == lo) ≡ false → nat_le lo x.0.slot ≡ true → nat_lt lo x.0.slot ≡ true
-    later e h = grind (arith, nat_tests)
-
-    next : (v : ℕ) → nat_lt lo v ≡ true → nat_le (lo + 1) v ≡ true
-    next v h = grind (arith, nat_tests)
-
-    behind : (v : ℕ) → nat_lt lo x.0.slot ≡ true → nat_lt x.0.slot v ≡ true → nat_lt lo v ≡ true
-    behind v e h = grind (arith, nat_tests)
-
-    beyond : (v : ℕ) → nat_lt lo x.0.slot ≡ true → nat_lt x.0.slot v ≡ true → nat_le (lo + 1) v ≡ true
-    beyond v e h = grind (arith, nat_tests)
+    behind : (ys : Told) → ((v : ℕ) → nat_lt x.0.slot v ≡ true → nat_le (lo + 1) v ≡ true) → list_all (λ y. nat_lt x.0.slot y.0.slot) ys ≡ true
+        → list_all (λ y. nat_le (lo + 1) y.0.slot) ys ≡ true
+    behind ys more = all_weaker (λ (y : Named). nat_lt x.0.slot y.0.slot) (λ (y : Named). nat_le (lo + 1) y.0.slot) ys (λ y. more y.0.slot)
 
 -- rising notices, none for a slot from n on
 pub rising_all : (f : ℕ → Option (TxnId × Notice)) (n : ℕ) (xs : Told) → is_rising xs ≡ true → ((u : ℕ) → notices_in xs u ≡ f u)
     → ((u : ℕ) → is_some (f u) ≡ true → u < n) → xs ≡ filter_map f (range_with_len 0 n)
 rising_all f n xs up each low =
-    rising_is f n 0 xs up (told_pass (λ v. nat_le 0 v) xs (λ u h. first u))
-    (told_pass (λ v. nat_lt v (0 + n)) xs (λ u h. below u (low u (sym (ap is_some (each u)) ∙ h)))) (λ u h. each u)
-  where
-    first : (u : ℕ) → nat_le 0 u ≡ true
-    first u = grind (arith, nat_tests)
-
-    below : (u : ℕ) → u < n → nat_lt u (0 + n) ≡ true
-    below u h = grind (arith, nat_tests)
+    rising_is f n 0 xs up (told_pass (λ v. nat_le 0 v) xs (λ u h. grind (arith, nat_tests)))
+    (told_pass (λ v. nat_lt v (0 + n)) xs (λ u h. let lt = low u (sym (ap is_some (each u)) ∙ h) in grind (arith, nat_tests, lt))) (λ u h. each u)
 
 -- who is told lives
 told_lives : (s now : State) (u : ℕ) → is_some (told_to s now u) ≡ true → is_some (s.txns u) ≡ true
@@ -241,39 +188,26 @@ told_in_order s now below xs sorted each = rising_all (told_to s now) s.most xs 
 pub told_is : (s now : State) (xs : Told) → IsLawful s → s.most ≤ 128 → IsBySlot xs → ((u : ℕ) → notices_in xs u ≡ told_to s now u) → xs ≡ told s now
 told_is s now xs law most sorted each = told_in_order s now law.slots_below xs sorted each
 
--- what is told from two states is the same but for t, where they agree on all others
-pub told_but_same : (s s' now : State) (t : ℕ) → s'.most ≡ s.most → ((u : ℕ) → (u == t) ≡ false → s'.txns u ≡ s.txns u) → told_but t s' now ≡ told_but t s now
-told_but_same s s' now t most same =
-    filter-filter_map (λ x. not (x.0.slot == t)) (told_to s' now) (slots s') ∙ ap₂ filter_map (fun_ext each) (ap (range_with_len 0) most)
-    ∙ sym (filter-filter_map (λ x. not (x.0.slot == t)) (told_to s now) (slots s))
-  where
-    from : Option Txn → ℕ → Option (TxnId × Notice)
-    from x u = addressed (record { slot = u; age = age_in x }) (told_from now u (status_in x))
-
-    each : (u : ℕ) → kept (λ x. not (x.0.slot == t)) (told_to s' now u) ≡ kept (λ x. not (x.0.slot == t)) (told_to s now u)
-    each u = split (u == t) (λ e. left_out e (told_from now u (status_of s' u)) (age_of s' u) ∙ sym (left_out e (told_from now u (status_of s u)) (age_of s u)))
-        (λ e. ap (λ x. kept (λ z. not (z.0.slot == t)) (from x u)) (same u e))
-      where
-        left_out : (u == t) ≡ true → (o : Option Notice) (k : ℕ) → kept (λ x. not (x.0.slot == t)) (addressed (record { slot = u; age = k }) o) ≡ None
-        left_out e None k = refl
-        left_out e (Some x) k = ap (λ b. if not b then Some (record { slot = u; age = k }, x) else None) e
-
 -- a name is left out by its slot
 kept_name : (t : ℕ) (name : TxnId) (o : Option Notice)
     → kept (λ x. not (x.0.slot == t)) (addressed name o) ≡ (if name.slot == t then None else addressed name o)
-kept_name t name None = grind (arith, nat_tests)
-kept_name t name (Some x) = grind (arith, nat_tests)
+kept_name t name o = grind (arith, nat_tests, o)
+
+but_each : (s now : State) (t : ℕ) → told_but t s now ≡ filter_map (λ u. if u == t then None else told_to s now u) (slots s)
+but_each s now t = filter-filter_map (λ x. not (x.0.slot == t)) (told_to s now) (slots s)
+    ∙ ap (λ f. filter_map f (slots s)) (fun_ext (λ u. kept_name t (record { slot = u; age = age_of s u }) (told_from now u (status_of s u))))
+
+-- what is told from two states is the same but for t, where they agree on all others
+pub told_but_same : (s s' now : State) (t : ℕ) → s'.most ≡ s.most → ((u : ℕ) → (u == t) ≡ false → s'.txns u ≡ s.txns u) → told_but t s' now ≡ told_but t s now
+told_but_same s s' now t most same =
+    but_each s' now t ∙ ap₂ filter_map (fun_ext (λ u. grind (arith, nat_tests, u == t, same u))) (ap (range_with_len 0) most) ∙ sym (but_each s now t)
 
 -- the same with the caller left out
 pub told_but_is : (s now : State) (t : ℕ) (xs : Told) → IsLawful s → s.most ≤ 128 → IsBySlot xs
     → ((u : ℕ) → notices_in xs u ≡ (if u == t then None else told_to s now u)) → xs ≡ told_but t s now
 told_but_is s now t xs law most sorted each =
-    rising_all (λ u. if u == t then None else told_to s now u) s.most xs sorted.rising each (λ u h. law.slots_below u (told_lives s now u (but u (u == t) h)))
-    ∙ ap (λ f. filter_map f (slots s)) (fun_ext (λ u. sym (kept_name t (record { slot = u; age = age_of s u }) (told_from now u (status_of s u)))))
-    ∙ sym (filter-filter_map (λ x. not (x.0.slot == t)) (told_to s now) (slots s))
-  where
-    but : (u : ℕ) (b : Bool) → is_some (if b then None else told_to s now u) ≡ true → is_some (told_to s now u) ≡ true
-    but u b h1 = grind (arith, nat_tests)
+    rising_all (λ u. if u == t then None else told_to s now u) s.most xs sorted.rising each
+    (λ u h. law.slots_below u (told_lives s now u (grind (arith, nat_tests, u == t, h)))) ∙ sym (but_each s now t)
 
 -- and where the status of all is the same, nothing is told
 pub told_nothing : (s now : State) (t : ℕ) → ((u : ℕ) → is_some (s.txns u) ≡ true → u < s.most) → ((u : ℕ) → status_of now u ≡ status_of s u)

@@ -1,17 +1,18 @@
 -- The way from one state to another by releases and withdrawn waits, and what its steps tell. For all that tells.
-use Rattle.gl_model.proofs.Words.{[], ◌&&◌, ◌++◌, ◌==◌, ◌∙◌, ◌∷◌, ◌≡◌, Active, addressed, age_of, ap, ap₂, arith, awake, Bool, clash, Condemned, drop, false}
-use Rattle.gl_model.proofs.Words.{filter-append, front-and_rest, front_at, grant_notice, granted_at, if◌then◌else◌, is_among_waiters, is_live, is_waiter}
-use Rattle.gl_model.proofs.Words.{is_waiting_at, IsLawful, IsOnWay, length, List, members, Mode, mode_given, nat_tests, NL, NodeId, None, not, not_true}
-use Rattle.gl_model.proofs.Words.{notice_of, number_other, number_same, Option, or_left, or_right, other_number, pumped, refl, restatus, same_mode}
-use Rattle.gl_model.proofs.Words.{same_mode-refl, same_node, same_node-equal, same_node-refl, same_number, Some, State, Status, status_in, status_of, sym}
-use Rattle.gl_model.proofs.Words.{told_from, told_to, true, Txn, TxnId, unlocked, Waiter, Waiting, waits_at, with_grant, with_txn, without_wait, woken, ℕ}
+use Rattle.gl_model.proofs.Words.{[], ◌&&◌, ◌++◌, ◌==◌, ◌∙◌, ◌∷◌, ◌≡◌, Active, addressed, age_of, ap, ap₂, arith, Bool, clash, Condemned, drop, false}
+use Rattle.gl_model.proofs.Words.{filter-append, front_at, grant_notice, granted_at, if◌then◌else◌, is_among_waiters, is_live, is_waiter, is_waiting_at}
+use Rattle.gl_model.proofs.Words.{IsLawful, IsOnWay, length, List, members, Mode, mode_given, nat_tests, NL, NodeId, None, not, not_true, notice_of}
+use Rattle.gl_model.proofs.Words.{number_other, number_same, Option, or_left, or_right, other_number, pumped, refl, restatus, same_mode, same_mode-refl}
+use Rattle.gl_model.proofs.Words.{same_node, same_node-equal, same_node-refl, same_number, Some, State, Status, status_in, status_of, sym, told_from, told_to}
+use Rattle.gl_model.proofs.Words.{true, Txn, TxnId, unlocked, Waiter, Waiting, waits_at, with_grant, with_txn, without_wait, woken, ℕ}
 use Rattle.gl_model.specs.declared.answers.Notice.TheVariants as notice
 use Rattle.gl_model.proofs.law.Keeps.{waiting_is, woken_age, woken_sleeps, woken_waits}
 use Rattle.gl_model.proofs.law.Takes.{IsQuiet, restatus_is}
 use Rattle.gl_model.proofs.queues.Edits.{out_of_without, without_filter}
-use Rattle.gl_model.proofs.queues.Waiters.{among_append, among_by_filter, grants_one, grants_other, none_filtered, not_among, one_in_first, waits_of}
-use Rattle.gl_model.proofs.telling.Follows.{SameGrants}
-use Rattle.gl_model.proofs.queues.Waiters.{if-false, if-true}
+use Rattle.gl_model.proofs.queues.Waiters.{among_append, among_by_filter, grants_one, grants_other, if-false, if-true, none_filtered, not_among, one_in_first}
+use Rattle.gl_model.proofs.queues.Waiters.{waits_of}
+use Rattle.gl_model.proofs.telling.Follows.{roused, SameGrants, unwoken}
+use Rattle.gl_model.proofs.queues.Fronts.{granted_parts}
 
 -- The way from one state to another by releases and withdrawn waits: each step keeps what is known of it.
 
@@ -21,11 +22,7 @@ left_at s chosen q = drop (length (granted_at s chosen q)) (s.queue q)
 
 -- a queue is what is granted and what is left
 pub granted_and_left : (s : State) (chosen : NodeId → Bool) (q : NodeId) → granted_at s chosen q ++ left_at s chosen q ≡ s.queue q
-granted_and_left s chosen q = by (chosen q)
-  where
-    by : (b : Bool) → (if b then front_at s q else []) ++ drop (length (if b then front_at s q else [])) (s.queue q) ≡ s.queue q
-    by true = front-and_rest s.most (members s q) (s.queue q)
-    by false = refl
+granted_and_left s chosen q = granted_parts s chosen q
 
 -- so are the waits of each slot there
 pub waits_granted_and_left : (s : State) (chosen : NodeId → Bool) (u : ℕ) (q : NodeId)
@@ -80,9 +77,6 @@ module _ (s now : State) (way : IsOnWay s now) where
     live = way.live;
   }
     where
-      own : (u : ℕ) → (u == t) ≡ true → (without_wait now t st).txns u ≡ restatus st (now.txns t)
-      own u e = ap (λ b. if b then restatus st (now.txns t) else now.txns u) e
-
       -- who waits still is another
       other_waits : (u : ℕ) (q : NodeId) (m : Mode) → status_of (without_wait now t st) u ≡ Some (Waiting q m) → ((u == t) ≡ false)
           × (status_of now u ≡ Some (Waiting q m))
@@ -133,26 +127,16 @@ is_by_test false f g = g refl
 -- who was granted where it waited is active
 pub woken_up : (g : NodeId → List Waiter) (u : ℕ) (q : NodeId) (m : Mode) (x : Option Txn) → status_in x ≡ Some (Waiting q m) → is_among_waiters u (g q) ≡ true
     → status_in (woken g u x) ≡ Some Active
-woken_up g u q m None h k = absurd (cc)
-woken_up g u q m (Some x) h k = let is : x.status ≡ Waiting q m = cc in ap (λ st. Some (awake g u st)) is ∙ ap (λ b. Some (if b then Active else Waiting q m)) k
+woken_up g u q m x h k = roused g u q m x h k
 
 -- who was granted nowhere is as it was
 pub woken_same : (g : NodeId → List Waiter) (u : ℕ) → ((q : NodeId) → is_among_waiters u (g q) ≡ false) → (x : Option Txn) → woken g u x ≡ x
-woken_same g u out None = refl
-woken_same g u out (Some x) = ap (λ st. Some (record { age = x.age; status = st })) (by x.status)
-  where
-    by : (st : Status) → awake g u st ≡ st
-    by Active = refl
-    by (Waiting q m) = ap (λ b. if b then Active else Waiting q m) (out q)
-    by Condemned = refl
+woken_same g u out x = unwoken g u out x
 
 -- what a slot is told is read from the graph, and from its own transaction and grants
 pub told_same : (now s' : State) (u : ℕ) → s'.graph ≡ now.graph → s'.txns u ≡ now.txns u → SameGrants now s' u → (o : Option Status)
     → told_from s' u o ≡ told_from now u o
-told_same now s' u graph txn grants None = refl
-told_same now s' u graph txn grants (Some Active) = refl
-told_same now s' u graph txn grants (Some Condemned) = refl
-told_same now s' u graph txn grants (Some (Waiting n m)) = ap (notice_of s' u n m) (ap status_in txn) ∙ grind (arith, nat_tests, status_of now u)
+told_same now s' u graph txn grants o = grind (arith, nat_tests, o, status_of now u, ap status_in txn)
 
 -- only who waited at the beginning is told
 pub told_waits : (s now : State) (u : ℕ) (st : Status) → IsQuiet st → status_of s u ≡ Some st → told_to s now u ≡ None

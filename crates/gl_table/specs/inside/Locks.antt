@@ -15,8 +15,6 @@ use Rattle.gl_model.specs.State.{State, members, status_of, is_wait}
 use Rattle.gl_table.specs.inside.Seats.{txns_of}
 use Rattle.gl_table.specs.inside.Slots.{KeepsLists, AreApart, counted_by, held_by, listed_by, room_by}
 
--- The locks that the code keeps beside the graph: as a state of the model, and what agrees with it.
-
 -- the state that the locks are over a graph
 abbrev pub state_on : Graph → Locks → State
 state_on g l =

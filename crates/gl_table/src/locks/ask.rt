@@ -9,7 +9,7 @@ ghost use Rattle.gl_graph.specs.View.{graph_of};
 ghost use Rattle.gl_header.specs.Header.{holds};
 ghost use Rattle.gl_header.specs.Headers.{is_granted_at};
 ghost use Rattle.gl_table.specs.inside.Locks.{AreExact, KeepsLocks, state_in};
-ghost use Rattle.gl_model.specs.Orderly.{IsOrderly};
+ghost use Rattle.gl_model.specs.Lawful.{IsOrderly};
 ghost use Rattle.gl_table.specs.inside.Slots.{HasRoomAt, KeepsLists, held_by};
 ghost use Rattle.gl_table.specs.inside.Seats.{txns_of};
 ghost use Rattle.gl_model.specs.State.{members, status_in, status_of};

@@ -6,7 +6,7 @@ ghost use Rattle.gl_modes.specs.declared.node.NodeId.{NodeId as Node};
 ghost use Rattle.gl_header.specs.Header.{is_among_waiters};
 ghost use Rattle.gl_model.specs.Calls.{released};
 ghost use Rattle.gl_table.specs.inside.Locks.{Agrees, AreExact, AreSound, CountsHeld, state_in};
-ghost use Rattle.gl_model.specs.Orderly.{IsOrderly};
+ghost use Rattle.gl_model.specs.Lawful.{IsOrderly};
 ghost use Rattle.gl_model.specs.State.{status_of, with_txn, is_wait};
 ghost use Rattle.gl_table.specs.inside.Slots.{CanTell, TellsOthers};
 

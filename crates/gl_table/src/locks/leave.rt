@@ -5,10 +5,10 @@ ghost use Rattle.gl_modes.specs.declared.mode.Mode.TheVariants.{NL};
 ghost use Rattle.gl_header.specs.Header.{holds, is_among_waiters};
 ghost use Rattle.gl_model.specs.Calls.{unlocked, held_children};
 ghost use Rattle.gl_table.specs.inside.Locks.{AreExact, state_in};
-ghost use Rattle.gl_model.specs.Orderly.{IsOrderly};
+ghost use Rattle.gl_model.specs.Lawful.{IsOrderly};
 ghost use Rattle.gl_model.specs.State.{front_at, members, status_of, with_grant};
 ghost use Rattle.gl_table.specs.inside.Slots.{AreApart, AreKept, CanStrike, CanTell, Strikes, WaitsEnd, as_left, books_of, counted_by, room_by};
-ghost use Rattle.gl_model.specs.ToldLists.{WakesTold, notices_in};
+ghost use Rattle.gl_model.specs.Tellings.{WakesTold, notices_in};
 ghost use Rattle.gl_model.specs.declared.txn.Status.TheVariants.{Active};
 
 use crate::locks::Locks;

@@ -18,9 +18,9 @@ ghost use Rattle.indexmap.specs.IndexMap.{spare};
 ghost use Rattle.gl_modes.specs.Modes.{same_mode};
 ghost use Rattle.gl_listed.specs.Lists.{IsApart, count_of, is_listed, mode_of, unlisted};
 ghost use Rattle.gl_table.specs.inside.Locks.{Agrees, AreSound, state_in};
-ghost use Rattle.gl_model.specs.Orderly.{IsOrderly};
+ghost use Rattle.gl_model.specs.Lawful.{IsOrderly};
 ghost use Rattle.gl_table.specs.inside.Slots.{AreKept, CanTell, WaitsEnd, as_left, books_of, counted_by, room_by, unlisted_by};
-ghost use Rattle.gl_model.specs.ToldLists.{IsTold, notices_in};
+ghost use Rattle.gl_model.specs.Tellings.{IsTold, notices_in};
 
 use crate::locks::Locks;
 use crate::locks::leave::end_wait;

@@ -4,13 +4,12 @@ ghost use Rattle.std.specs.Prelude.{◌≡◌, ◌<◌, ◌==◌, [], ℕ, IfNon
 ghost use Rattle.gl_graph.specs.Graph.{Graph as AGraph};
 ghost use Rattle.gl_waits.specs.Waits.{IsOnNoCycle};
 ghost use Rattle.gl_table.specs.inside.Locks.{AreExact, AreSound, state_in, state_on};
-ghost use Rattle.gl_model.specs.Orderly.{IsOrderly};
+ghost use Rattle.gl_model.specs.Lawful.{IsOrderly};
 ghost use Rattle.gl_model.specs.Calls.{WaitSettles};
 ghost use Rattle.gl_model.specs.Deadlocks.{SettlesKeeping, WaitSettlesKeeping};
 ghost use Rattle.gl_model.specs.State.{condemned, State, status_of, IsVictim, Settled, is_wait, waits_for};
 ghost use Rattle.gl_table.specs.inside.Slots.{CanTell};
-ghost use Rattle.gl_model.specs.ToldLists.{IsBySlot, notices_in};
-ghost use Rattle.gl_model.specs.Tellings.{told_but, IsOnWay, told_to};
+ghost use Rattle.gl_model.specs.Tellings.{IsBySlot, notices_in, told_but, IsOnWay, told_to};
 
 use crate::boards::{Waits, ages};
 use crate::locks::Locks;

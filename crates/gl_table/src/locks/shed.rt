@@ -6,7 +6,7 @@ ghost use Rattle.gl_model.specs.Calls.{shed};
 ghost use Rattle.gl_listed.specs.Lists.{mode_of};
 ghost use Rattle.gl_table.specs.inside.Slots.{IsShedding};
 ghost use Rattle.gl_table.specs.inside.Locks.{Agrees, AreExact, AreSound, CountsHeld, state_in};
-ghost use Rattle.gl_model.specs.Orderly.{IsOrderly};
+ghost use Rattle.gl_model.specs.Lawful.{IsOrderly};
 ghost use Rattle.gl_model.specs.State.{status_of, is_wait};
 ghost use Rattle.gl_table.specs.inside.Slots.{CanTell, TellsOthers};
 ghost use Rattle.gl_model.specs.declared.txn.Status.TheVariants.{Active};

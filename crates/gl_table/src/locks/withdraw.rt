@@ -4,10 +4,10 @@ ghost use Rattle.std.specs.Prelude.{◌≡◌, ◌==◌, ℕ, None, Some, false,
 ghost use Rattle.gl_modes.specs.declared.mode.Mode.{Mode as AMode};
 ghost use Rattle.gl_modes.specs.declared.node.NodeId.{NodeId as Node};
 ghost use Rattle.gl_table.specs.inside.Locks.{AreExact, state_in};
-ghost use Rattle.gl_model.specs.Orderly.{IsOrderly};
+ghost use Rattle.gl_model.specs.Lawful.{IsOrderly};
 ghost use Rattle.gl_model.specs.State.{front_at, is_waiting_at, pumped, without_wait, status_of, is_wait};
 ghost use Rattle.gl_table.specs.inside.Slots.{CanTell};
-ghost use Rattle.gl_model.specs.ToldLists.{WakesTold};
+ghost use Rattle.gl_model.specs.Tellings.{WakesTold};
 ghost use Rattle.gl_model.specs.declared.txn.Status.TheVariants.{Waiting};
 
 use crate::locks::Locks;
