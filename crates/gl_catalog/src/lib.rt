@@ -6,7 +6,7 @@ mod command;
 mod counters;
 pub mod laws;
 mod manager;
-mod replies;
+pub mod replies;
 mod run;
 
 pub use command::{Answer, Command, Escalated, Reply};

@@ -9,7 +9,7 @@ use gl_modes::{Mode, NodeId, Refusal};
 use gl_table::{Effect, Locked, TxnId};
 
 /// A node was asked for.
-pub(crate) fn node_answer(outcome: Result<NodeId, Refusal>) -> Answer
+pub fn node_answer(outcome: Result<NodeId, Refusal>) -> Answer
     ensures { result ≡ (said made outcome).0 }
 {
     match outcome {
@@ -29,7 +29,7 @@ pub(crate) fn begun_answer(outcome: Result<TxnId, Refusal>) -> Answer
 }
 
 /// A lock was asked for.
-pub(crate) fn lock_answer(outcome: Result<Locked, Refusal>) -> Answer
+pub fn lock_answer(outcome: Result<Locked, Refusal>) -> Answer
     ensures { result ≡ (said (asking []) outcome).0 }
 {
     match outcome {
@@ -51,7 +51,7 @@ pub(crate) fn try_answer(outcome: Result<Mode, Refusal>) -> Answer
 }
 
 /// Something was to be done.
-pub(crate) fn done_answer(outcome: Result<(), Refusal>) -> Answer
+pub fn done_answer(outcome: Result<(), Refusal>) -> Answer
     ensures { result ≡ (said (doing []) outcome).0 }
 {
     match outcome {
@@ -61,7 +61,7 @@ pub(crate) fn done_answer(outcome: Result<(), Refusal>) -> Answer
 }
 
 /// An escalation was asked for.
-pub(crate) fn escalate_answer(outcome: Result<Escalated, Refusal>) -> Answer
+pub fn escalate_answer(outcome: Result<Escalated, Refusal>) -> Answer
     ensures { result ≡ (said (rising []) outcome).0 }
 {
     match outcome {

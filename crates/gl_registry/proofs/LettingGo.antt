@@ -1,7 +1,8 @@
 -- Rows are let go one after the other.
 use Rattle.std.specs.Prelude.{◌≡◌, ◌||◌, ◌++◌, ◌⊎◌, Bool, true, false, not, List, [], ◌∷◌, Option, Some, None, Result, Ok, Err, cond, map, is_some, if◌then◌else◌}
-use Rattle.std.specs.Map.{lookup}
+use Rattle.std.specs.Map.{lookup, lookup_key}
 use Rattle.std.proofs.lemmas.List.Folds.{list_any-append}
+use Rattle.std.proofs.lemmas.Map.Made.{lookup_key_passes}
 use Rattle.gl_catalog.specs.Replies.{CallSteps, doing}
 use Rattle.std.proofs.Common.{refl, sym, ap, subst, ◌∙◌, inl, inr}
 use Rattle.gl_modes.proofs.NodeLemmas.{same_node-equal, same_node-refl}
@@ -36,6 +37,19 @@ same_row-equal p q h = let b = and_both _ _ h in let f = same_node-equal p.file 
 
 pub same_row-refl : (p : Row) → same_row p p ≡ true
 same_row-refl p = both _ _ (same_node-refl p.file) (number_same p.number p.number refl)
+
+pub same_row-sym : (p q : Row) → same_row p q ≡ same_row q p
+same_row-sym p q = split (same_row p q) (λ e. e ∙ sym (one_row p q e)) (λ e. split (same_row q p) (λ f. absurd (clash (one_row q p f) e)) (λ f. e ∙ sym f))
+  where
+    one_row : (a b : Row) → same_row a b ≡ true → same_row b a ≡ true
+    one_row a b h = subst (λ (x : Row). same_row b x ≡ true) (sym (same_row-equal a b h)) (same_row-refl b)
+
+-- the name that was found goes, once its node is forgotten
+pub gone_at : (s s' : State) (ns ns' : Names) (row key : Row) (n : NodeId) → lookup (same_row row) ns ≡ Some n → lookup_key (same_row row) ns ≡ Some key → ForgetsLiving s n (Ok tt) s'
+    → Renames ns ns' key None → LetsGo s ns row (Ok tt) s' ns'
+gone_at s s' ns ns' row key n named found forgotten out =
+    subst (λ o. LetsGoOf o s ns row (Ok tt) s' ns') (sym named)
+    (forgotten, subst (λ r. Renames ns ns' r None) (sym (same_row-equal row key (lookup_key_passes (same_row row) ns key found))) out)
 
 -- the node cannot be forgotten
 abbrev pub Stuck : State → NodeId → Type 0

@@ -5,7 +5,9 @@ mod NameChanges
 mod NamesChanged
 mod NamesKept
 mod NamesMade
+mod RowInserts
 mod RowLocks
+mod RowNames
 mod SlotSets
 -- what they are to those who wait: their own commands, among records that come and go
 pub mod Upkeep

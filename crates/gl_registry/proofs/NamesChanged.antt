@@ -1,11 +1,10 @@
 -- What is said of the names of rows (IsKept of NameChanges) is kept where a row is deleted or gets another key, and so by every call. For the laws
 -- of names.
-use Rattle.std.specs.Prelude.{◌≡◌, ◌&&◌, ◌==◌, ◌∷◌, ℕ, true, false, not, List, [], Option, Some, None, Result, Ok, Err, cond, is_some, unwrap_or, if◌then◌else◌}
+use Rattle.std.specs.Prelude.{◌≡◌, ◌&&◌, ◌==◌, ◌∷◌, ℕ, true, false, not, List, [], Option, Some, None, Ok, Err, cond, is_some, unwrap_or, if◌then◌else◌}
 use Rattle.std.specs.Map.{lookup}
 use Rattle.std.proofs.Common.{refl, sym, ap, subst, ◌∙◌, arith}
 use Rattle.gl_modes.proofs.Words.{and_both, cases_of, clash, no as never, none_some, number_same, split, same_number}
 use Rattle.gl_modes.specs.declared.node.NodeId.{NodeId}
-use Rattle.gl_modes.specs.declared.refusal.Refusal.{Refusal}
 use Rattle.gl_graph.specs.Changes.{rekeyed, rekeyed_keys, rekeyed_node, rekeyed_parents, without_node}
 use Rattle.gl_graph.specs.Graph.{Graph, Node, first_in, first_parent, is_live, node_at, parents_in, shape_in, shape_of, with_key}
 use Rattle.gl_graph.specs.Lawful.{IsLawfulGraph}
@@ -32,7 +31,7 @@ use Rattle.gl_registry.specs.Rows.{RegistryView, name_of, same_row}
 use Rattle.gl_registry.specs.declared.row.Row.{Row}
 use Rattle.gl_registry.proofs.Adopted.{accepted_of, keyed}
 use Rattle.gl_registry.proofs.LettingGo.{same_row-equal, same_row-refl}
-use Rattle.gl_registry.proofs.NameChanges.{Fewer, IsKept, record_live, shape_live}
+use Rattle.gl_registry.proofs.NameChanges.{Fewer, IsKept, record_live}
 use Rattle.gl_registry.proofs.NamesKept.{end_keeps, giving_keeps, same_keeps, unlocks_keep}
 use Rattle.gl_registry.proofs.NamesMade.{inserts_keep, locks_row_keep, refused_same}
 

@@ -9,7 +9,7 @@ use Rattle.gl_modes.specs.declared.node.NodeId.{NodeId}
 use Rattle.gl_modes.specs.declared.refusal.Refusal.{Refusal}
 use Rattle.gl_modes.specs.Nodes.{same_node}
 use Rattle.gl_graph.specs.Changes.{without_node}
-use Rattle.gl_graph.specs.Graph.{Graph, Node, first_in, is_live, node_at, parents_in, shape_in, shape_of}
+use Rattle.gl_graph.specs.Graph.{Graph, first_in, is_live, node_at, parents_in, shape_in, shape_of}
 use Rattle.gl_graph.specs.Shapes.{is_record_shape}
 use Rattle.gl_waits.specs.declared.victims.Victims.{Victims}
 use Rattle.gl_model.specs.declared.answers.Detect.{Detect}

@@ -3,6 +3,7 @@ pub mod Sound
 pub mod Locking
 pub mod Releasing
 pub mod Records
+pub mod Naming
 pub mod Applying
 pub mod Names
 pub mod Promises

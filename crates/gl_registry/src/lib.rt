@@ -6,7 +6,6 @@ mod call;
 pub mod laws;
 mod names;
 mod registry;
-mod replies;
 mod row;
 mod sets;
 

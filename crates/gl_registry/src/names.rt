@@ -1,7 +1,6 @@
 //! The nodes of rows.
 
 ghost use Rattle.std.specs.Prelude.{◌≡◌, ◌+◌, ◌≤◌, ◌↔◌, IsTrue};
-ghost use Rattle.indexmap.specs.IndexMap.{spare};
 ghost use Rattle.gl_graph.specs.View.{graph_of};
 ghost use Rattle.gl_catalog.specs.Manager.{state_of};
 ghost use Rattle.gl_registry.specs.Locking.{ForgetsLiving, LetsGo, StandsAs};
@@ -17,9 +16,10 @@ use indexmap::IndexMap;
 pub(crate) fn stands(graph: &Graph, node: NodeId, row: Row, keys: &[u64]) -> bool
     ensures { IsTrue result ↔ StandsAs (graph_of graph.now) node row keys.now }
 {
-    matches!(graph.kind(node), Some(Kind::Rec))
-        && graph.parents(node).first().copied().unwrap_or(NodeId::NONE) == row.file
-        && graph.keys(node) == keys
+    let Some((Kind::Rec, parents)) = graph.kind_and_parents(node) else {
+        return false;
+    };
+    parents.first().copied().unwrap_or(NodeId::NONE) == row.file && graph.keys(node) == keys
 }
 
 /// Forgets the node by which a row is named, if that still lives, and the name with it. Refused with
@@ -29,27 +29,28 @@ pub(crate) fn let_go(
     manager: &mut Manager,
     row: Row,
 ) -> Result<(), Refusal>
-    ensures goes { LetsGo (state_of manager.old) names.old.entries row result (state_of manager.new) names.new.entries }
-    ensures room { spare names.old ≤ spare names.new }
-    ensures counted { manager.new.accepted ≤ manager.old.accepted + 1 }
+    ensures { LetsGo (state_of manager.old) names.old.entries row result (state_of manager.new) names.new.entries }
 {
-    let Some(node) = names.get(&row).copied() else {
+    let Some((place, _, node)) = names.get_full(&row) else {
         return Ok(());
     };
-    forget_living(manager, node)?;
-    names.swap_remove(&row);
+    forget_living(manager, *node)?;
+    names.swap_remove_index(place);
     Ok(())
 }
 
 /// Forgets a node, if it still lives.
-fn forget_living(manager: &mut Manager, node: NodeId) -> Result<(), Refusal>
+pub(crate) fn forget_living(manager: &mut Manager, node: NodeId) -> Result<(), Refusal>
     ensures forgets { ForgetsLiving (state_of manager.old) node result (state_of manager.new) }
     ensures counted { manager.new.accepted ≤ manager.old.accepted + 1 }
 {
+    let Err(refusal) = manager.forget(node) else {
+        return Ok(());
+    };
     if manager.graph().kind(node).is_none() {
         return Ok(());
     }
-    manager.forget(node)
+    Err(refusal)
 }
 
 /// Lets each of these rows go.

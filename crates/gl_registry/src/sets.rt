@@ -70,11 +70,17 @@ pub(crate) fn take(sets: &mut Vec<IndexSet<Row>>, slot: u8, row: Row)
     sets[slot as usize].swap_remove(&row);
 }
 
-/// Takes all rows out of the set of a slot.
+/// Takes all rows out of the set of a slot. To clear a set writes all its room; where that is far more
+/// than its rows they are taken out one by one.
 pub(crate) fn clear(sets: &mut Vec<IndexSet<Row>>, slot: u8)
     requires sets { length sets.old.items ≡ 256 }
     ensures sets { length sets.new.items ≡ 256 }
     ensures has { (u : ℕ) (q : ARow) → is_in sets.new.items u q ≡ (is_in sets.old.items u q && not (u == slot)) }
 {
-    sets[slot as usize].clear();
+    let set = &mut sets[slot as usize];
+    if set.len() < set.capacity() / 16 {
+        set.truncate(0);
+    } else {
+        set.clear();
+    }
 }

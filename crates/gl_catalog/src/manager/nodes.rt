@@ -36,8 +36,8 @@ impl Manager {
         Ok(node)
     }
 
-    /// A new index of a file that has no records and had no row adopted, under these, with an interval at key 0 and one at
-    /// each bound.
+    /// A new index of a file that has no records and had no row adopted, under these, with an interval
+    /// at key 0 and one at each bound.
     pub fn add_index(
         &mut self,
         parents: &[NodeId],

@@ -6,7 +6,7 @@ ghost use Rattle.gl_registry.specs.Applying.{AppliesRow, CarriesOut, naming, own
 
 use super::Registry;
 use crate::call::RowCall;
-use crate::replies::{done_answer, escalate_answer, lock_answer, node_answer};
+use gl_catalog::replies::{done_answer, escalate_answer, lock_answer, node_answer};
 use gl_catalog::{Answer, Manager};
 use gl_table::Told;
 

@@ -1,21 +1,20 @@
 //! Rows are locked.
 
-ghost use Rattle.std.specs.Prelude.{◌≡◌, ◌+◌, ◌≤◌, ◌^◌, ◌<◌, [], IfNone, IfSome, OnErr, length};
-ghost use Rattle.gl_modes.specs.declared.node.NodeId.{NodeId as ANode};
+ghost use Rattle.std.specs.Prelude.{◌≡◌, ◌+◌, ◌^◌, ◌<◌, [], OnErr};
 ghost use Rattle.gl_graph.specs.Refusals.{first_refusal, verdict};
 ghost use Rattle.gl_catalog.specs.Manager.{state_of};
-ghost use Rattle.gl_registry.specs.Locking.{AdoptsNode, IsNamed, LocksRow, Registers, row_tests};
-ghost use Rattle.gl_registry.specs.Sound.{HasRoom, viewed};
-ghost use Rattle.indexmap.specs.IndexMap.{spare};
+ghost use Rattle.gl_registry.specs.Locking.{AdoptsNode, LocksRow, row_tests};
+ghost use Rattle.gl_registry.specs.Naming.{LocksName};
 
 use super::Registry;
-use crate::names::{let_go, stands};
+use crate::names::{forget_living, stands};
 use crate::row::Row;
 use crate::sets::{make_room, put};
 use gl_catalog::Manager;
 use gl_modes::{Mode, NodeId, Refusal};
 use gl_table::{Locked, Status, Told, TxnId};
-use indexmap::{IndexMap, IndexSet};
+use indexmap::IndexMap;
+use indexmap::map::Entry;
 
 impl Registry {
     /// Locks a row, whose keys are these, one for each index of its file in order of their making: it
@@ -42,36 +41,10 @@ impl Registry {
         ensures untold { OnErr result (told.new.items ≡ []) }
     {
         check_row(manager, t)?;
-        if self.names.reserve(1).is_err() {
-            return Err(Refusal::NoMemory);
-        }
         make_room(&mut self.asked, t.slot)?;
-        match self.standing(manager, row, keys) {
-            Some(node) => {
-                let locked = manager.lock_telling(t, node, mode, told)?;
-                register(&mut self.names, &mut self.asked, t.slot, row, node);
-                Ok(locked)
-            }
-            None => {
-                let_go(&mut self.names, manager, row)?;
-                let (node, locked) = adopt_locked(manager, t, row, keys, mode, told)?;
-                register(&mut self.names, &mut self.asked, t.slot, row, node);
-                Ok(locked)
-            }
-        }
-    }
-
-    /// The node by which a row is named, where that stands for it with these keys.
-    fn standing(&self, manager: &Manager, row: Row, keys: &[u64]) -> Option<NodeId>
-        ensures some { IfSome result (λ node. IsNamed (state_of manager.now) self.now row keys.now node) }
-        ensures none { IfNone result ((node : ANode) → IsNamed (state_of manager.now) self.now row keys.now node → ⊥) }
-    {
-        let node = self.node(row)?;
-        if stands(manager.graph(), node, row, keys) {
-            Some(node)
-        } else {
-            None
-        }
+        let locked = lock_named(&mut self.names, manager, t, row, keys, mode, told)?;
+        put(&mut self.asked, t.slot, row);
+        Ok(locked)
     }
 }
 
@@ -87,6 +60,51 @@ pub(super) fn check_row(manager: &Manager, t: TxnId) -> Result<(), Refusal>
         Some(Status::Waiting { .. }) => Err(Refusal::TxnWaiting),
         Some(Status::Condemned) => Err(Refusal::TxnCondemned),
         Some(Status::Active) => Ok(()),
+    }
+}
+
+/// Locks the node by which a row is named, where that stands for it. Else lets it go, and names the row
+/// by a node that is adopted and locked. The name is looked up once.
+fn lock_named(
+    names: &mut IndexMap<Row, NodeId>,
+    manager: &mut Manager,
+    t: TxnId,
+    row: Row,
+    keys: &[u64],
+    mode: Mode,
+    told: &mut Told,
+) -> Result<Locked, Refusal>
+    requires empty { told.old.items ≡ [] }
+    requires counted { manager.old.accepted + 4 < 2 ^ 64 }
+    ensures locks { LocksName (state_of manager.old) names.old.entries (record { txn = t; row = row; keys = keys.entry; mode = mode }) result told.new.items (state_of manager.new) names.new.entries }
+    ensures untold { OnErr result (told.new.items ≡ []) }
+{
+    let Ok(entry) = names.entry(row) else {
+        return Err(Refusal::NoMemory);
+    };
+    match entry {
+        Entry::Occupied(mut entry) => {
+            let node = *entry.get();
+            if stands(manager.graph(), node, row, keys) {
+                return manager.lock_telling(t, node, mode, told);
+            }
+            forget_living(manager, node)?;
+            match adopt_locked(manager, t, row, keys, mode, told) {
+                Ok((node, locked)) => {
+                    entry.insert(node);
+                    Ok(locked)
+                }
+                Err(refusal) => {
+                    entry.swap_remove();
+                    Err(refusal)
+                }
+            }
+        }
+        Entry::Vacant(entry) => {
+            let (node, locked) = adopt_locked(manager, t, row, keys, mode, told)?;
+            entry.insert(node);
+            Ok(locked)
+        }
     }
 }
 
@@ -113,22 +131,4 @@ fn adopt_locked(
             Err(refusal)
         }
     }
-}
-
-/// Names a row, and puts it among those that the transaction of a slot has asked for.
-pub(super) fn register(
-    names: &mut IndexMap<Row, NodeId>,
-    sets: &mut Vec<IndexSet<Row>>,
-    slot: u8,
-    row: Row,
-    node: NodeId,
-)
-    requires room { 0 < spare names.old }
-    requires sets { length sets.old.items ≡ 256 }
-    requires set_room { HasRoom sets.old.items slot }
-    ensures sets { length sets.new.items ≡ 256 }
-    ensures registers { Registers (viewed names.old.entries sets.old.items) (viewed names.new.entries sets.new.items) slot row node }
-{
-    names.insert(row, node).unwrap();
-    put(sets, slot, row);
 }

@@ -2,16 +2,19 @@
 
 ghost use Rattle.std.specs.Prelude.{◌≡◌, [], OnErr};
 ghost use Rattle.gl_catalog.specs.Manager.{state_of};
+ghost use Rattle.gl_registry.specs.Naming.{InsertsName};
 ghost use Rattle.gl_registry.specs.Records.{DeletesRow, InsertsRow, RekeysRow};
 
 use super::Registry;
-use super::lock::{check_row, register};
-use crate::names::let_go;
+use super::lock::check_row;
+use crate::names::forget_living;
 use crate::row::Row;
-use crate::sets::{make_room, take};
+use crate::sets::{make_room, put, take};
 use gl_catalog::Manager;
 use gl_modes::{NodeId, Refusal};
 use gl_table::{Told, TxnId};
+use indexmap::IndexMap;
+use indexmap::map::Entry;
 
 impl Registry {
     /// Makes a row's node, with a key for each index of its file in order of their making, and gives it
@@ -31,13 +34,9 @@ impl Registry {
         ensures { InsertsRow (state_of manager.old) self.old t row keys.entry result (state_of manager.new) self.new }
     {
         check_row(manager, t)?;
-        if self.names.reserve(1).is_err() {
-            return Err(Refusal::NoMemory);
-        }
         make_room(&mut self.asked, t.slot)?;
-        let_go(&mut self.names, manager, row)?;
-        let node = manager.insert(t, row.file, keys)?;
-        register(&mut self.names, &mut self.asked, t.slot, row, node);
+        let node = insert_named(&mut self.names, manager, t, row, keys)?;
+        put(&mut self.asked, t.slot, row);
         Ok(node)
     }
 
@@ -80,5 +79,41 @@ impl Registry {
     {
         let node = self.node(row).unwrap_or(NodeId::NONE);
         manager.rekey_telling(t, node, index, key, told)
+    }
+}
+
+/// Lets go what a row is named by, and names the row by a node that is made for it. The name is looked
+/// up once.
+fn insert_named(
+    names: &mut IndexMap<Row, NodeId>,
+    manager: &mut Manager,
+    t: TxnId,
+    row: Row,
+    keys: &[u64],
+) -> Result<NodeId, Refusal>
+    ensures { InsertsName (state_of manager.old) names.old.entries t row keys.entry result (state_of manager.new) names.new.entries }
+{
+    let Ok(entry) = names.entry(row) else {
+        return Err(Refusal::NoMemory);
+    };
+    match entry {
+        Entry::Occupied(mut entry) => {
+            forget_living(manager, *entry.get())?;
+            match manager.insert(t, row.file, keys) {
+                Ok(node) => {
+                    entry.insert(node);
+                    Ok(node)
+                }
+                Err(refusal) => {
+                    entry.swap_remove();
+                    Err(refusal)
+                }
+            }
+        }
+        Entry::Vacant(entry) => {
+            let node = manager.insert(t, row.file, keys)?;
+            entry.insert(node);
+            Ok(node)
+        }
     }
 }

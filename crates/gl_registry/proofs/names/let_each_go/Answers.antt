@@ -12,4 +12,4 @@ loop-row-preserved c =
     (each_more (state_of c.args.manager.now) (state_of c.loop-row.manager) (state_of c.let_go.new.manager) c.args.names.now.entries c.loop-row.names.entries
     c.let_go.new.names.entries _ _ c.loop-row.invariant
     (goes (state_of c.loop-row.manager) (state_of c.let_go.new.manager) c.law.ensures.lawful c.loop-row.names.entries c.let_go.new.names.entries _ c.let_go.result
-    c.let_go.ensures.goes))
+    c.let_go.ensures))

@@ -2,6 +2,10 @@ use Rattle.std.proofs.Common.{arith}
 use Rattle.gl_registry.proofs.SlotSets.{is_in_cleared}
 use Rattle.gl_registry.proofs.sets.clear.Goals as goal
 
-pub returns-clause-has : goal.returns-clause-has
-returns-clause-has c =
+pub returns-then-len-capacity-clause-has : goal.returns-then-len-capacity-clause-has
+returns-then-len-capacity-clause-has c =
+    is_in_cleared c.args.sets.now.items c.args.slot c.truncate.new.self (omega (arith, c.requires.sets, c.ranges.slot.fits)) c.truncate.ensures.keys
+
+pub returns-else-len-capacity-clause-has : goal.returns-else-len-capacity-clause-has
+returns-else-len-capacity-clause-has c =
     is_in_cleared c.args.sets.now.items c.args.slot c.clear.new.self (omega (arith, c.requires.sets, c.ranges.slot.fits)) c.clear.ensures.empty
