@@ -3,6 +3,7 @@
 ghost use Rattle.std.specs.Prelude.{◌≤◌};
 
 use crate::scene::Scene;
+use crate::store::Store;
 use gl_table::Detect;
 use std::alloc::Global;
 
@@ -57,6 +58,20 @@ impl<'a> Bill<'a> {
             Some(mut scene) => {
                 acts(&mut scene);
                 self.tell(play, scene.differs());
+            }
+            None => self.tell(play, Some(0)),
+        }
+    }
+
+    /// Opens a store, and tells how a play went in it. At its end no row may be named.
+    pub(crate) fn store<F: FnOnce(&mut Store)>(&mut self, play: &str, acts: F)
+        requires { F.IsAlwaysCallable acts }
+    {
+        match Store::open(self.alloc()) {
+            Some(mut store) => {
+                acts(&mut store);
+                store.names(0);
+                self.tell(play, store.scene.differs());
             }
             None => self.tell(play, Some(0)),
         }

@@ -10,9 +10,11 @@ mod headers;
 mod lists;
 mod moves;
 mod records;
+mod rows;
 mod scene;
 mod scripts;
 mod shares;
+mod store;
 mod tables;
 mod view;
 mod watch;
@@ -28,6 +30,7 @@ fn main(rt: HostRuntime) -> ExitCode {
     lists::play(&mut bill);
     moves::play(&mut bill);
     records::play(&mut bill);
+    rows::play(&mut bill);
     scripts::play(&mut bill);
     shares::play(&rt, &mut bill);
     ExitCode::from(bill.status())

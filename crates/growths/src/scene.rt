@@ -72,7 +72,7 @@ pub(crate) fn effect(effect: Effect) -> Said {
 }
 
 /// What a reply says.
-fn said_in(reply: &Reply) -> Said {
+pub(crate) fn said_in(reply: &Reply) -> Said {
     Said {
         answer: reply.answer,
         count: reply.told.len(),
@@ -83,10 +83,10 @@ fn said_in(reply: &Reply) -> Said {
 /// A manager, and the nodes and transactions that were made in it, in order.
 #[derive(Drop)]
 pub(crate) struct Scene {
-    manager: Manager,
+    pub(crate) manager: Manager,
     nodes: ArrayVec<NodeId, 16>,
     txns: ArrayVec<TxnId, 4>,
-    watch: Watch,
+    pub(crate) watch: Watch,
     alloc: Global,
 }
 
@@ -201,7 +201,8 @@ impl Scene {
         }
     }
 
-    fn view(&mut self) -> View {
+    /// All that can be asked.
+    pub(crate) fn view(&mut self) -> View {
         View::of(
             &mut self.manager,
             self.nodes.as_slice(),

@@ -58,9 +58,16 @@ impl View {
 
     /// Whether both are the same, and every query was answered.
     pub(crate) fn is_as(&self, other: &View) -> bool {
-        self.is_as_of_nodes(other)
-            && self.board == other.board
+        self.is_as_but_counted(other)
+            && self.board.epoch == other.board.epoch
             && self.accepted == other.accepted
+    }
+
+    /// The same, whatever number of commands was accepted.
+    pub(crate) fn is_as_but_counted(&self, other: &View) -> bool {
+        self.is_as_of_nodes(other)
+            && self.board.ages == other.board.ages
+            && self.board.rows == other.board.rows
             && self.holds.as_slice() == other.holds.as_slice()
             && self.waits.as_slice() == other.waits.as_slice()
             && !self.wanting
