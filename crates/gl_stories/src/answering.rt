@@ -1,10 +1,16 @@
 //! Records are removed, nodes move and children are shed, by the calls that answer with a list of their
 //! own. Each is called where its conditions hold.
 
+ghost use Rattle.std.specs.Prelude.{◌≡◌, ◌∷◌, [], IfSome, true};
+ghost use Rattle.gl_graph.specs.Changes.{rekeyed_parents};
+ghost use Rattle.gl_graph.specs.Graph.{first_parent, shape_of};
+ghost use Rattle.gl_graph.specs.Shapes.{is_index_of_shape, is_record_shape};
+ghost use Rattle.gl_graph.specs.View.{graph_of};
+
 use crate::story::{
     Heard, NOBODY, Released, Story, allowed, alone, granted, hear, nobody, same, tells, waits,
 };
-use gl_graph::Kind;
+use gl_graph::{Graph, Kind};
 use gl_modes::{Mode, NodeId, Refusal};
 use gl_table::{Detect, Notice, Status, Table, TxnId};
 use std::alloc::Global;
@@ -37,6 +43,41 @@ fn move_under(table: &mut Table, t: TxnId, n: NodeId, parent: NodeId) -> Option<
         },
         _ => None,
     }
+}
+
+/// The parents that a record has with another key, where this is the one index of its file; `None`
+/// where it is not.
+fn parents_with(graph: &Graph, rec: NodeId, index: NodeId, key: u64) -> Option<(NodeId, NodeId)>
+    ensures record { IfSome result (λ _. is_record_shape (shape_of (graph_of graph.now) rec) ≡ true) }
+    ensures index { IfSome result (λ _. is_index_of_shape (first_parent (graph_of graph.now) rec) (shape_of (graph_of graph.now) index) ≡ true) }
+    ensures parents { IfSome result (λ x. rekeyed_parents (graph_of graph.now) rec index key ≡ x.0 ∷ x.1 ∷ []) }
+{
+    graph.law();
+    let Some(Kind::Rec) = graph.kind(rec) else {
+        return None;
+    };
+    let file = *graph.parents(rec).first()?;
+    let Some(Kind::File) = graph.kind(file) else {
+        return None;
+    };
+    let indexes = graph.indexes(file);
+    if indexes.len() != 1 || indexes[0] != index || graph.keys(rec).len() != 1 {
+        return None;
+    }
+    Some((file, graph.interval_of(index, key)))
+}
+
+/// Gives a record another key, where an active transaction holds it in X, and its file and the interval
+/// of that key in IX; `None` where it does not, or where the file has other indexes.
+fn give_key(table: &mut Table, t: TxnId, rec: NodeId, index: NodeId, key: u64) -> Option<Heard> {
+    if table.status(t) != Some(Status::Active) || table.mode(t, rec) != Some(Mode::X) {
+        return None;
+    }
+    let (file, interval) = parents_with(table.graph(), rec, index, key)?;
+    if table.mode(t, file) != Some(Mode::IX) || table.mode(t, interval) != Some(Mode::IX) {
+        return None;
+    }
+    Some(hear(&table.reparent(t, rec, index, key)))
 }
 
 /// Sheds the children of a node that an active transaction holds in X; `None` where it is none.
@@ -104,6 +145,51 @@ fn who_waits_for_a_moved_node_is_told(rt: HostRuntime) {
     let held = Err(Refusal::HeldChild { node: x });
     same(&rt, story.unlock(a, y), held);
     same(&rt, move_under(&mut story.table, b, x, y), None);
+}
+
+/// A file with one index of two intervals, in the lower of which two transactions may write: the index,
+/// and both intervals.
+fn keyed_file(
+    rt: &impl Abort,
+    story: &mut Story,
+    txns: [TxnId; 2],
+    db: NodeId,
+) -> (NodeId, NodeId, NodeId, NodeId) {
+    let file = allowed(rt, story.add_file(&[db]));
+    let index = allowed(rt, story.table.add_index(&[db], file, &[100]));
+    let graph = story.table.graph();
+    let low = graph
+        .interval(index, 0)
+        .expect(rt, "there are two intervals");
+    let high = graph
+        .interval(index, 1)
+        .expect(rt, "there are two intervals");
+    for t in txns {
+        takes(rt, story, t, db, Mode::IX);
+        takes(rt, story, t, file, Mode::IX);
+        takes(rt, story, t, index, Mode::IX);
+        takes(rt, story, t, low, Mode::IX);
+    }
+    (file, index, low, high)
+}
+
+#[test]
+fn who_waits_for_a_record_that_moves_is_told(rt: HostRuntime) {
+    let (mut story, a, b, db) = open(&rt, rt.alloc());
+    let (file, index, low, high) = keyed_file(&rt, &mut story, [a, b], db);
+    let rec = allowed(&rt, story.table.adopt(file, &[50]));
+    takes(&rt, &mut story, a, rec, Mode::X);
+    same(&rt, story.lock(b, rec, Mode::X), waits());
+    same(&rt, give_key(&mut story.table, a, rec, index, 150), None);
+    takes(&rt, &mut story, a, high, Mode::IX);
+    let moved = alone(b, Notice::Moved);
+    same(
+        &rt,
+        give_key(&mut story.table, a, rec, index, 150),
+        Some(moved),
+    );
+    same(&rt, story.children(a, low), Some(0));
+    same(&rt, story.children(a, high), Some(1));
 }
 
 #[test]

@@ -1,0 +1,2 @@
+-- a file with one index
+mod OneIndex
