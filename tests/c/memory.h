@@ -1,17 +1,19 @@
 /*
  * The calls for memory of a program of tests, which is linked with them (run.sh): a growth can be refused, to see
- * that it leaves everything as it was, and the blocks that are out are counted, to see that all are given back.
+ * that it leaves everything as it was, and the blocks that are out are counted with their bytes, to see that all are
+ * given back.
  */
 #ifndef MEMORY_H
 #define MEMORY_H
 
+#include <malloc.h>
 #include <pthread.h>
 #include <stdbool.h>
 #include <stddef.h>
 
-/* Which growth of this thread is refused, counted from now on; 0: none. And how many blocks are out. */
+/* Which growth of this thread is refused, counted from now on; 0: none. And how many blocks are out, and bytes. */
 static __thread long refused_growth;
-static long blocks;
+static long blocks, bytes;
 static pthread_mutex_t count_latch = PTHREAD_MUTEX_INITIALIZER;
 
 void *__real_malloc(size_t size);
@@ -25,33 +27,51 @@ static bool is_refused(void) {
   return refused_growth > 0 && --refused_growth == 0;
 }
 
-static void count_blocks(long more) {
+static void count_out(long more_blocks, long more_bytes) {
   pthread_mutex_lock(&count_latch);
-  blocks += more;
+  blocks += more_blocks;
+  bytes += more_bytes;
   pthread_mutex_unlock(&count_latch);
 }
 
-static long blocks_out(void) {
+static long out_of(const long *kept) {
   long out;
   pthread_mutex_lock(&count_latch);
-  out = blocks;
+  out = *kept;
   pthread_mutex_unlock(&count_latch);
   return out;
 }
 
+static long blocks_out(void) {
+  return out_of(&blocks);
+}
+
+static __attribute__((unused)) long bytes_out(void) {
+  return out_of(&bytes);
+}
+
+static long size_of(void *block) {
+  return (long)malloc_usable_size(block);
+}
+
 void *__wrap_malloc(size_t size) {
   void *block = is_refused() ? NULL : __real_malloc(size);
-  if (block != NULL) count_blocks(1);
+  if (block != NULL) count_out(1, size_of(block));
   return block;
 }
 
 void *__wrap_realloc(void *old, size_t size) {
+  long before;
+  void *block;
   if (old == NULL) return __wrap_malloc(size);
-  return is_refused() ? NULL : __real_realloc(old, size);
+  before = size_of(old);
+  block = is_refused() ? NULL : __real_realloc(old, size);
+  if (block != NULL) count_out(0, size_of(block) - before);
+  return block;
 }
 
 void __wrap_free(void *block) {
-  if (block != NULL) count_blocks(-1);
+  if (block != NULL) count_out(-1, -size_of(block));
   __real_free(block);
 }
 

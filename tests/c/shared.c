@@ -977,7 +977,7 @@ static void a_dump(void) {
   DONE(bs_table_end(&table));
   ANSWERS(BS_NO_MANAGER, bs_table_dump(&table, text));
   fclose(text);
-  count_blocks(2); /* The texts of two dumps were blocks of the C library. */
+  count_out(2, 0); /* The texts of two dumps were blocks of the C library. */
 }
 
 /* ------------------------------------------------------------------------------------------------

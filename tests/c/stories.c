@@ -741,6 +741,78 @@ static void refused_growths(void) {
   WANT(n > 4);
 }
 
+/* A row that is locked, or inserted. */
+static bs_reply ask_for_row(bs_manager *m, bs_txn t, struct file f, uint64_t number) {
+  static const uint64_t key = 70;
+  if (number % 2 == 0) return bs_lock_row(m, t, f.file, number, &key, 1, BS_X, &told);
+  return bs_insert_row(m, t, f.file, number, &key, 1);
+}
+
+/* A row whose growth is refused has no node and no name, and is there when it is asked for again. */
+static void row_in_spite(bs_manager *m, bs_txn t, struct file f, uint64_t number) {
+  uint64_t nodes = bs_len(m).count;
+  bs_reply reply = ask_for_row(m, t, f, number);
+  if (reply.status == BS_NO_MEMORY) {
+    WANT(!has_node(m, f, number) && bs_len(m).count == nodes);
+    reply = ask_for_row(m, t, f, number);
+  }
+  WANT(same_node(DONE(reply).node, bs_row_node(m, f.file, number).node) && bs_len(m).count == nodes + 1);
+}
+
+/* Whether there is an nth growth among these rows, which is refused. */
+static bool refuses_row(long n) {
+  bs_manager m = BS_NO_MANAGER_HERE;
+  struct file f = make_file(&m, begin_manager(&m, BS_AT_BLOCK));
+  bs_txn a = begin(&m);
+  uint64_t nodes = bs_len(&m).count, number;
+  bool refused;
+  DONE(bs_lock_path(&m, a, f.file, BS_IX, &told));
+  DONE(bs_lock_path(&m, a, f.below, BS_IX, &told));
+  refused_growth = n;
+  for (number = 0; number < 40; number++) row_in_spite(&m, a, f, number);
+  refused = refused_growth == 0;
+  refused_growth = 0;
+  DONE(bs_commit_rows(&m, a, &told));
+  WANT(bs_len(&m).count == nodes && !has_node(&m, f, 0) && !has_node(&m, f, 1));
+  DONE(bs_end(&m));
+  return refused;
+}
+
+static void refused_growths_of_rows(void) {
+  long n = 1;
+  while (refuses_row(n)) n++;
+  WANT(n > 8);
+}
+
+/* The bytes that are out once a thousand rows are locked from this one on; and they are released. */
+static long bytes_of_rows(bs_manager *m, struct file f, uint64_t from) {
+  static const uint64_t key = 70;
+  bs_txn a = begin(m);
+  uint64_t number;
+  long locked;
+  DONE(bs_lock_path(m, a, f.file, BS_IX, &told));
+  DONE(bs_lock_path(m, a, f.below, BS_IX, &told));
+  for (number = from; number < from + 1000; number++) {
+    DONE(bs_lock_row(m, a, f.file, number, &key, 1, BS_X, &told));
+  }
+  locked = bytes_out();
+  DONE(bs_commit_rows(m, a, &told));
+  return locked;
+}
+
+/* A hundred thousand rows of which a thousand are locked at a time take the memory of a thousand, or twice that: a map
+ * from which names went may double once. */
+static void rows_that_nobody_locks(void) {
+  bs_manager m = BS_NO_MANAGER_HERE;
+  struct file f = make_file(&m, begin_manager(&m, BS_AT_BLOCK));
+  long locked = bytes_of_rows(&m, f, 0), idle = bytes_out();
+  uint64_t from;
+  for (from = 1000; from < 100000; from += 1000) {
+    WANT(bytes_of_rows(&m, f, from) <= 2 * locked && bytes_out() <= 2 * idle);
+  }
+  DONE(bs_end(&m));
+}
+
 static void refused_managers(void) {
   long n;
   bs_reply made = { BS_NO_MEMORY, BS_NL, { 0, 0 }, { 0, 0 }, 0, 0, 0, BS_NL };
@@ -862,6 +934,8 @@ int main(void) {
   TELL(null_pointers);
   TELL(everybody_is_told);
   TELL(refused_growths);
+  TELL(refused_growths_of_rows);
+  TELL(rows_that_nobody_locks);
   TELL(refused_managers);
   return 0;
 }
