@@ -54,7 +54,7 @@ extern "C" {
  * second where something is added, the third where neither. */
 #define BS_VERSION_MAJOR 0
 #define BS_VERSION_MINOR 9
-#define BS_VERSION_PATCH 0
+#define BS_VERSION_PATCH 1
 
 /* How many transactions can live at once, and so how many notices a call can have. */
 #define BS_SLOTS 128

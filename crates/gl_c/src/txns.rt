@@ -138,7 +138,8 @@ pub extern "C" fn bs_call_abort(manager: &mut Handle, txn: Txn, told: &mut Notic
     manager.carry_out(Command::Abort { txn: txn.id() }, told)
 }
 
-/// Condemns those who lie on a cycle with a transaction, by the manager's choice of victims, until it is on none.
+/// Condemns those who lie on a cycle with a transaction, by the manager's choice of victims, until it
+/// is on none.
 #[unsafe(no_mangle)]
 pub extern "C" fn bs_call_settle(manager: &mut Handle, txn: Txn, told: &mut Notices) -> Reply
     ensures { Carries (guarded_in manager.old) (command.Settle (txn_id txn)) result told.new (guarded_in manager.new) }
