@@ -16,6 +16,7 @@ use rand_pcg::Pcg32;
 use std::alloc::Global;
 use std::process::Abort;
 use std::sync::Wait;
+use std::thread::yield_now;
 
 /// A command, with what it names in a list of its own.
 #[derive(Clone, Copy)]
@@ -312,6 +313,7 @@ pub fn acts<N: Naming, R: Wait + Abort>(
             break;
         }
         actor.goes_on();
+        yield_now(); // Else one after the other could do all its work, where processors are few.
     }
     actor.commits();
     let Actor {
