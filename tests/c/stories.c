@@ -735,10 +735,23 @@ static bool refuses(long n) {
   return refused;
 }
 
-static void refused_growths(void) {
+/* One more than there are growths, each of which was refused in turn. */
+static long growths_of(bool (*refuses_nth)(long n)) {
   long n = 1;
-  while (refuses(n)) n++;
-  WANT(n > 4);
+  while (refuses_nth(n)) n++;
+  return n;
+}
+
+static void refused_growths(void) {
+  WANT(growths_of(refuses) > 4);
+}
+
+/* A transaction that may write rows in the lower interval. */
+static bs_txn begin_writer(bs_manager *m, struct file f) {
+  bs_txn t = begin(m);
+  DONE(bs_lock_path(m, t, f.file, BS_IX, &told));
+  DONE(bs_lock_path(m, t, f.below, BS_IX, &told));
+  return t;
 }
 
 /* A row that is locked, or inserted. */
@@ -763,11 +776,9 @@ static void row_in_spite(bs_manager *m, bs_txn t, struct file f, uint64_t number
 static bool refuses_row(long n) {
   bs_manager m = BS_NO_MANAGER_HERE;
   struct file f = make_file(&m, begin_manager(&m, BS_AT_BLOCK));
-  bs_txn a = begin(&m);
+  bs_txn a = begin_writer(&m, f);
   uint64_t nodes = bs_len(&m).count, number;
   bool refused;
-  DONE(bs_lock_path(&m, a, f.file, BS_IX, &told));
-  DONE(bs_lock_path(&m, a, f.below, BS_IX, &told));
   refused_growth = n;
   for (number = 0; number < 40; number++) row_in_spite(&m, a, f, number);
   refused = refused_growth == 0;
@@ -779,19 +790,15 @@ static bool refuses_row(long n) {
 }
 
 static void refused_growths_of_rows(void) {
-  long n = 1;
-  while (refuses_row(n)) n++;
-  WANT(n > 8);
+  WANT(growths_of(refuses_row) > 8);
 }
 
 /* The bytes that are out once a thousand rows are locked from this one on; and they are released. */
 static long bytes_of_rows(bs_manager *m, struct file f, uint64_t from) {
   static const uint64_t key = 70;
-  bs_txn a = begin(m);
+  bs_txn a = begin_writer(m, f);
   uint64_t number;
   long locked;
-  DONE(bs_lock_path(m, a, f.file, BS_IX, &told));
-  DONE(bs_lock_path(m, a, f.below, BS_IX, &told));
   for (number = from; number < from + 1000; number++) {
     DONE(bs_lock_row(m, a, f.file, number, &key, 1, BS_X, &told));
   }
