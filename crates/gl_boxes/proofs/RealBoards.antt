@@ -20,7 +20,7 @@ use Rattle.gl_model.proofs.law.Keeps.{txn_there}
 use Rattle.gl_listed.proofs.Children.{nl_is}
 use Rattle.gl_model.proofs.telling.Fronts.{waits_there}
 use Rattle.gl_model.proofs.queues.Waiters.{ahead_is, ahead_second}
-use Rattle.gl_table.proofs.calls.Calls.{lawful_orderly}
+use Rattle.gl_table.proofs.calls.Stands.{lawful_orderly}
 use Rattle.gl_catalog.specs.Manager.{IsLawfulManager, ManagerView, state_of}
 use Rattle.gl_boxes.specs.Boards.{Fine}
 

@@ -94,10 +94,11 @@ pub use Rattle.gl_model.specs.State.{is_waiting_at, is_write, IsVictim, lives, m
 pub use Rattle.gl_model.specs.State.{status_in, status_of, Txn, waits_at, waits_for, with_grant, with_graph, with_txn, without_wait, woken}
 pub use Rattle.gl_listed.specs.Lists.{count_in, count_of, covered_in, entry_of, HasRoom, is_listed, loose_of, mode_in, mode_of, NoneMarkedFrom, unlisted}
 unfoldable pub use Rattle.gl_listed.specs.Lists.{IsApart}
-pub use Rattle.gl_table.specs.inside.Locks.{Agrees, AreExact, AreNew, AreSound, CountsHeld, KeepsLocks, state_in, state_on}
+pub use Rattle.gl_table.specs.inside.Ledger.{Agrees, AreExact, AreNew, AreSound, CountsHeld, KeepsLocks, state_in, state_on}
+pub use Rattle.gl_table.specs.inside.Locks.{state_at}
 pub use Rattle.gl_table.specs.inside.Seating.{IsSeating}
 pub use Rattle.gl_table.specs.inside.Seats.{is_free, is_free_at, SeatList, txn_in, txns_of}
-pub use Rattle.gl_table.specs.inside.Sound.{IsSound, view_of}
+pub use Rattle.gl_table.specs.inside.Sound.{IsSafe, IsSound, view_of}
 pub use Rattle.gl_model.specs.Tellings.{addressed, children_that, IsOnWay, notice_of, stripped, Told, told, told_but, told_from, told_to}
 pub use Rattle.gl_model.specs.declared.deadlock.Deadlock.{Deadlock}
 pub use Rattle.gl_model.specs.declared.deadlock.Stuck.{Stuck}

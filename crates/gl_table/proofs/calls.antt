@@ -1,4 +1,5 @@
 -- What the calls make of a table.
+pub mod Stands
 pub mod Law
 pub mod Queries
 pub mod Calls

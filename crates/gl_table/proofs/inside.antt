@@ -13,3 +13,4 @@ pub mod Asks
 pub mod Enqueues
 pub mod TurnedAway
 pub mod Vacated
+pub mod Says

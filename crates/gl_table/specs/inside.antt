@@ -1,5 +1,6 @@
 pub mod Seats
 pub mod Seating
 pub mod Slots
+pub mod Ledger
 pub mod Locks
 pub mod Sound

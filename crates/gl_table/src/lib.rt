@@ -3,6 +3,7 @@
 
 mod boards;
 mod effective;
+mod ledger;
 mod locks;
 mod rule;
 mod seat;

@@ -10,6 +10,7 @@ ghost use Rattle.gl_model.specs.State.{choosing, empty_state, lives, status_of, 
 ghost use Rattle.gl_table.specs.Table.{ListsAgree, StandOnce, state_of};
 ghost use Rattle.gl_model.specs.declared.answers.Detect.TheVariants.{AtBlock};
 
+use crate::ledger::Ledger;
 use crate::locks::Locks;
 use gl_graph::Graph;
 use gl_model::{Deadlock, Detect, Status, TxnId};
@@ -31,10 +32,9 @@ mod release;
 mod shed;
 mod waits;
 
-/// The table of locks: the lock graph, who holds what, and who waits where.
+/// The table of locks: the locks over their graph, and what is done about deadlocks.
 #[derive(Drop)]
 pub struct Table {
-    graph: Graph,
     locks: Locks,
     detect: Detect,
     victims: Victims,
@@ -119,10 +119,9 @@ impl Table {
         ensures deadlock { IfOk result (λ table. table.deadlock ≡ no_deadlock) }
         ensures refused { IfErr result (λ refusal. refusal ≡ ARefusal.NoMemory) }
     {
-        match Locks::new(alloc, most) {
-            Ok(locks) => Ok(Table {
-                graph,
-                locks,
+        match Ledger::new(alloc, most) {
+            Ok(ledger) => Ok(Table {
+                locks: Locks { graph, ledger },
                 detect,
                 victims,
                 begins: 0,
@@ -145,7 +144,7 @@ impl Table {
         ensures no_cycle { self.now.detect ≡ AtBlock → HasNoCycle (state_of self.now) }
         ensures few { (state_of self.now).most ≤ 128 }
     {
-        self.locks.headers.law();
+        self.locks.ledger.headers.law();
     }
 
     /// How deadlocks are found.
@@ -179,14 +178,14 @@ impl Table {
     pub fn graph(&self) -> &Graph
         ensures { result.now ≡ self.now.graph }
     {
-        &self.graph
+        &self.locks.graph
     }
 
     /// What a transaction is doing; `None` where the name names none that lives.
     pub fn status(&self, t: TxnId) -> Option<Status>
         ensures { result ≡ (if lives (state_of self.now) t then status_of (state_of self.now) t.slot else None) }
     {
-        match self.locks.seat(t.slot) {
+        match self.locks.ledger.seat(t.slot) {
             Some(seat) if seat.age == t.age => Some(seat.status),
             _ => None,
         }

@@ -1,14 +1,16 @@
 -- What the calls on the locks make of a table, and what tests an ask passes. For the calls that release, and the locks that test.
-use Rattle.gl_table.proofs.Words.{[], ⊎_elim, ◌&&◌, ◌<◌, ◌==◌, ◌∙◌, ◌∷◌, ◌≡◌, Active, ap, AreExact, arith, bad_mode, Bool, cases_lt, clash, commit_tests}
+use Rattle.gl_table.proofs.Words.{[], ⊎_elim, ◌&&◌, ◌<◌, ◌==◌, ◌∙◌, ◌∷◌, ◌≡◌, Active, ap, arith, bad_mode, Bool, cases_lt, clash, commit_tests, state_at}
 use Rattle.gl_table.proofs.Words.{condemned, Deadlock, Detect, false, first_refusal, front_at, get_or, grant_notice, HasNoCycle, held_child, held_children}
 use Rattle.gl_table.proofs.Words.{holds, if◌then◌else◌, is_among_waiters, is_child, is_live, is_some, is_wait, IsDeadlock, IsLawful, IsOnWay, IsOrderly}
 use Rattle.gl_table.proofs.Words.{IsSound, IsStuck, IsVictim, keys, length, List, lock_tests, members, Mode, nat_tests, need_parents, NL, NodeId, nodes, None}
 use Rattle.gl_table.proofs.Words.{none_some, not, not_false, not_held, not_refused, not_true, Ok, Option, passed_then, refl, Refusal, refused_first, released}
 use Rattle.gl_table.proofs.Words.{same_number, Settled, SettledWithin, SettlesKeeping, SettlesKeepingWithin, slice_get_past, Some, some_no_node, split, State}
-use Rattle.gl_table.proofs.Words.{state_in, state_of, status_in, status_of, Stuck, subst, suc, sym, TableView, test_fails, Told, told, told_to, true, txn_in}
+use Rattle.gl_table.proofs.Words.{state_of, status_in, status_of, Stuck, subst, suc, sym, TableView, test_fails, Told, told, told_to, true, txn_in}
 use Rattle.gl_table.proofs.Words.{TxnId, txns_of, unlocked, verdict, Victims, view_of, WakesTold, wanted, where_true, with_grant, zero, ℕ}
+use Rattle.gl_table.specs.declared.ledger.Ledger.{Ledger}
 use Rattle.gl_table.specs.declared.locks.Locks.{Locks}
 use Rattle.gl_table.specs.declared.table.Table.TheInside.{Inside}
+use Rattle.gl_table.proofs.calls.Stands.{lawful_orderly}
 use Rattle.gl_table.proofs.calls.Queries.{none_found_counted}
 use Rattle.gl_model.proofs.law.Lock.{released-no_cycle, unlocked-lawful, unlocked-no_cycle}
 use Rattle.gl_model.proofs.law.Takes.{released-lawful}
@@ -20,7 +22,7 @@ use Rattle.gl_graph.specs.declared.kind.Kind.{Kind}
 use Rattle.gl_graph.specs.Graph.{Graph, Node, shape_in}
 use Rattle.gl_graph.specs.Shapes.{File, Index, Inner, Interval, Rec, Shape, kind_in}
 use Rattle.gl_table.specs.declared.seat.Seat.{Seat}
-use Rattle.gl_table.specs.inside.Locks.{AreSound, state_on}
+use Rattle.gl_table.specs.inside.Ledger.{AreSound, state_on}
 
 -- What the calls on the locks make of a table.
 
@@ -28,17 +30,6 @@ use Rattle.gl_table.specs.inside.Locks.{AreSound, state_on}
 pub test_passed : (o : Option Refusal) (x : Unit {0}) → Ok x ≡ verdict o → o ≡ None
 test_passed None x h = refl
 test_passed (Some r) x h = absurd (cc)
-
--- what a lawful state says of the steps within a call
-pub lawful_orderly : (s : State) → IsLawful s → IsOrderly s
-lawful_orderly s law = record {
-  holders = λ u q h. (law.grants_live u q h).0;
-  holders_live = λ u q h. (law.grants_live u q h).1;
-  waiters_live = law.waits_live;
-  waits_are = law.waits_are;
-  one_wait = λ u q m h. (law.one_wait u q m h, (law.waits_intend u q m h).1);
-  below = law.slots_below;
-}
 
 -- who passed the tests of a commit is active
 pub is_active : (s : State) (t : TxnId) → first_refusal (commit_tests s t) ≡ None → status_of s t.slot ≡ Some Active
@@ -50,18 +41,7 @@ module _ (i : Inside) (sound : IsSound i) where
 
   -- the locks alone, as a state
   abbrev l : State
-  l = state_in i.graph i.locks
-
-  pub orderly : IsOrderly l
-  orderly = let o = lawful_orderly s sound.lawful in
-      record {
-        holders = o.holders;
-        holders_live = o.holders_live;
-        waiters_live = o.waiters_live;
-        waits_are = o.waits_are;
-        one_wait = o.one_wait;
-        below = o.below;
-      }
+  l = state_at i.locks
 
   -- who passed the tests of an unlock holds the node and no child of it
   pub may_unlock : (v : TableView) → view_of i ≡ v → (t : TxnId) (n : NodeId) (x y : Unit {0}) → Ok x ≡ verdict (first_refusal (commit_tests (state_of v) t))
@@ -81,23 +61,22 @@ module _ (i : Inside) (sound : IsSound i) where
 
   -- one node was released, of which no child was held
   module _ (t : ℕ) (n : NodeId) (active : status_of s t ≡ Some Active) (childless : held_child s t n ≡ None) (locks : Locks)
-      (is : state_in i.graph locks ≡ unlocked l t n) where
+      (is : state_at locks ≡ unlocked l t n) where
     abbrev after : Inside
     after = record i { locks = locks }
 
     pub state_unlocked : state_of (view_of after) ≡ unlocked s t n
     state_unlocked = ap {A = State} (λ x. record x { detect = i.detect; victims = i.victims; begins = i.begins }) is
 
-    pub sound_unlocked : AreExact i.graph locks → IsSound after
-    sound_unlocked exact = record {
+    pub sound_unlocked : IsSound after
+    sound_unlocked = record {
       lawful = subst IsLawful (sym state_unlocked) (unlocked-lawful s sound.lawful t n active childless);
-      exact = exact;
       no_cycle = λ at. subst HasNoCycle (sym state_unlocked) (unlocked-no_cycle s sound.lawful t n active childless (sound.no_cycle at));
     }
 
     pub told_unlocked : (list : Told) → WakesTold l.txns n (front_at (with_grant l t n NL) n) [] list → list ≡ told s (state_of (view_of after))
     told_unlocked list tells =
-        told_is s (state_of (view_of after)) list sound.lawful sound.exact.sound.few tells.by_slot
+        told_is s (state_of (view_of after)) list sound.lawful i.locks.sound.few tells.by_slot
         (λ u. tells.notices u ∙ noticed u ∙ sym (ap (λ x. told_to s x u) state_unlocked))
       where
         noticed : (u : ℕ) → (if is_among_waiters u (front_at (with_grant s t n NL) n) then grant_notice s.txns n (front_at (with_grant s t n NL) n) u else None)
@@ -126,17 +105,16 @@ module _ (i : Inside) (sound : IsSound i) where
   }
 
   -- a transaction ended
-  module _ (t : ℕ) (locks : Locks) (is : state_in i.graph locks ≡ released l t) where
+  module _ (t : ℕ) (locks : Locks) (is : state_at locks ≡ released l t) where
     abbrev ended : Inside
     ended = record i { locks = locks }
 
     pub state_released : state_of (view_of ended) ≡ released s t
     state_released = ap {A = State} (λ x. record x { detect = i.detect; victims = i.victims; begins = i.begins }) is
 
-    pub sound_released : AreExact i.graph locks → IsSound ended
-    sound_released exact = record {
+    pub sound_released : IsSound ended
+    sound_released = record {
       lawful = subst IsLawful (sym state_released) (released-lawful s sound.lawful t);
-      exact = exact;
       no_cycle = λ at. subst HasNoCycle (sym state_released) (released-no_cycle s sound.lawful t (sound.no_cycle at));
     }
 
@@ -186,7 +164,7 @@ active_seated seats t h =
     ⊎_elim (λ lt. lt) (λ le. absurd (none_some (sym (ap (λ o. status_in (txn_in o)) (slice_get_past seats t le)) ∙ h))) (cases_lt t (length seats))
 
 -- who may ask has a list
-pub asker_listed : (g : Graph) (l : Locks) (t : TxnId) → AreSound l → first_refusal (commit_tests (state_on g l) t) ≡ None → t.slot < length l.lists.items
+pub asker_listed : (g : Graph) (l : Ledger) (t : TxnId) → AreSound l → first_refusal (commit_tests (state_on g l) t) ≡ None → t.slot < length l.lists.items
 asker_listed g l t sound may = subst (λ (k : ℕ). t.slot < k) (sym sound.lists) (active_seated l.seats.items t.slot (is_active (state_on g l) t may))
 
 -- a node lives where it has a kind

@@ -1,11 +1,11 @@
 -- What the ends of waits and of transactions make of a table. For cancels, commits, aborts and settles.
-use Rattle.gl_table.proofs.Words.{[], ◌==◌, ◌||◌, ◌∙◌, ◌≡◌, Active, ap, AreExact, arith, cancelled, Deadlock, front_at, granted_at, HasNoCycle, holds}
+use Rattle.gl_table.proofs.Words.{[], ◌==◌, ◌||◌, ◌∙◌, ◌≡◌, Active, ap, arith, cancelled, Deadlock, front_at, granted_at, HasNoCycle, holds, state_at}
 use Rattle.gl_table.proofs.Words.{is_waiting_at, IsBySlot, IsLawful, IsOnWay, IsSound, members, nat_tests, NodeId, None, notices_in, number_same, refl}
-use Rattle.gl_table.proofs.Words.{released, same_number, Settled, SettlesKeeping, split, State, state_in, state_of, status_of, stripped, subst, sym}
+use Rattle.gl_table.proofs.Words.{released, same_number, Settled, SettlesKeeping, split, State, state_of, status_of, stripped, subst, sym}
 use Rattle.gl_table.proofs.Words.{TellsOthers, Told, told, told_but, told_to, true, view_of, WakesTold, without_wait, ℕ}
 use Rattle.gl_table.specs.declared.locks.Locks.{Locks}
 use Rattle.gl_table.specs.declared.table.Table.TheInside.{Inside}
-use Rattle.gl_table.proofs.calls.Calls.{keeping_also, orderly, settled_also, state_released, table_way}
+use Rattle.gl_table.proofs.calls.Calls.{keeping_also, settled_also, state_released, table_way}
 use Rattle.gl_table.proofs.inside.Departures.{cancelled_own, cancelled_tells}
 use Rattle.gl_model.proofs.law.Lock.{given_up-no_cycle, settled-no_cycle}
 use Rattle.gl_model.proofs.law.Takes.{settled-lawful, without_wait-lawful}
@@ -22,13 +22,13 @@ module _ (i : Inside) (sound : IsSound i) where
 
   -- the locks alone, as a state
   abbrev l : State
-  l = state_in i.graph i.locks
+  l = state_at i.locks
 
   -- a transaction ended, whatever it was doing: all others are told, and it is told nothing itself
-  pub told_ended : (t : ℕ) (locks : Locks) → state_in i.graph locks ≡ released l t → (first list : Told) → first ≡ []
-      → TellsOthers t l (state_in i.graph locks) first list → list ≡ told s (state_of (view_of (record i { locks = locks })))
+  pub told_ended : (t : ℕ) (locks : Locks) → state_at locks ≡ released l t → (first list : Told) → first ≡ []
+      → TellsOthers t l (state_at locks) first list → list ≡ told s (state_of (view_of (record i { locks = locks })))
   told_ended t locks is first list none tells =
-      told_is s after list sound.lawful sound.exact.sound.few tells.by_slot (λ u. split (u == t)
+      told_is s after list sound.lawful i.locks.sound.few tells.by_slot (λ u. split (u == t)
       (λ e. ap (notices_in list) (same_number u t e) ∙ tells.own ∙ ap (λ xs. notices_in xs t) none
       ∙ sym (ap (told_to s after) (same_number u t e) ∙ gone_untold s after t gone))
       (λ e. tells.others s (table_way i sound) (λ v k. ap (λ xs. notices_in xs v) none ∙ sym (nobody_told s v)) u e))
@@ -40,17 +40,16 @@ module _ (i : Inside) (sound : IsSound i) where
       gone = ap (λ x. status_of x t) (state_released i sound t locks is) ∙ released_gone s t
 
   -- a wait was taken back
-  module _ (t : ℕ) (n : NodeId) (waits : is_waiting_at s t n ≡ true) (locks : Locks) (is : state_in i.graph locks ≡ cancelled l t) where
+  module _ (t : ℕ) (n : NodeId) (waits : is_waiting_at s t n ≡ true) (locks : Locks) (is : state_at locks ≡ cancelled l t) where
     abbrev after : Inside
     after = record i { locks = locks }
 
     pub state_cancelled : state_of (view_of after) ≡ cancelled s t
     state_cancelled = ap {A = State} (λ x. record x { detect = i.detect; victims = i.victims; begins = i.begins }) is
 
-    pub sound_cancelled : AreExact i.graph locks → IsSound after
-    sound_cancelled exact = record {
+    pub sound_cancelled : IsSound after
+    sound_cancelled = record {
       lawful = subst IsLawful (sym state_cancelled) (without_wait-lawful s sound.lawful t Active (λ q m e. cc));
-      exact = exact;
       no_cycle = λ at. subst HasNoCycle (sym state_cancelled) (given_up-no_cycle s sound.lawful t Active (λ q m e. cc) (sound.no_cycle at));
     }
 
@@ -58,35 +57,34 @@ module _ (i : Inside) (sound : IsSound i) where
     pub told_cancelled : (first list : Told) → first ≡ [] → WakesTold l.txns n (front_at (without_wait l t Active) n) first list
         → list ≡ told_but t s (state_of (view_of after))
     told_cancelled first list none tells =
-        told_but_is s (state_of (view_of after)) t list sound.lawful sound.exact.sound.few tells.by_slot (λ u. is_by_test (u == t)
-        (λ e. ap (notices_in list) (same_number u t e) ∙ cancelled_own l (orderly i sound) t n waits first list tells ∙ ap (λ xs. notices_in xs t) none)
-        (λ e. (cancelled_tells l (orderly i sound) t n waits first list tells s (table_way i sound) (λ v k. ap (λ xs. notices_in xs v) none
+        told_but_is s (state_of (view_of after)) t list sound.lawful i.locks.sound.few tells.by_slot (λ u. is_by_test (u == t)
+        (λ e. ap (notices_in list) (same_number u t e) ∙ cancelled_own l i.locks.orderly t n waits first list tells ∙ ap (λ xs. notices_in xs t) none)
+        (λ e. (cancelled_tells l i.locks.orderly t n waits first list tells s (table_way i sound) (λ v k. ap (λ xs. notices_in xs v) none
         ∙ sym (nobody_told s v))).1 u e ∙ ap (λ x. told_to s x u) (sym is)))
 
   -- a transaction was settled
-  module _ (t : ℕ) (locks : Locks) (kept : Deadlock) (is : Settled i.victims l t (state_in i.graph locks)) where
+  module _ (t : ℕ) (locks : Locks) (kept : Deadlock) (is : Settled i.victims l t (state_at locks)) where
     abbrev now : Inside
     now = record i { locks = locks; deadlock = kept }
 
     pub state_settled : Settled s.victims s t (state_of (view_of now))
-    state_settled = settled_also i.victims t i.detect i.victims i.begins l (state_in i.graph locks) is
+    state_settled = settled_also i.victims t i.detect i.victims i.begins l (state_at locks) is
 
     -- with what is kept of it
-    pub kept_settled : SettlesKeeping i.victims l t i.deadlock (state_in i.graph locks) kept
+    pub kept_settled : SettlesKeeping i.victims l t i.deadlock (state_at locks) kept
         → SettlesKeeping s.victims s t i.deadlock (state_of (view_of now)) kept
-    kept_settled keeps = keeping_also i.victims t i.detect i.victims i.begins l (state_in i.graph locks) i.deadlock kept keeps
+    kept_settled keeps = keeping_also i.victims t i.detect i.victims i.begins l (state_at locks) i.deadlock kept keeps
 
-    pub sound_settled : AreExact i.graph locks → IsSound now
-    sound_settled exact = record {
+    pub sound_settled : IsSound now
+    sound_settled = record {
       lawful = settled-lawful s.victims s (state_of (view_of now)) t sound.lawful state_settled;
-      exact = exact;
       no_cycle = λ at. settled-no_cycle s.victims s (state_of (view_of now)) t sound.lawful state_settled (sound.no_cycle at);
     }
 
     -- who is granted is told, and who is a victim
     pub told_settled : (first list : Told) → first ≡ [] → IsBySlot list
         → ((from : State) → IsOnWay from l → ((u : ℕ) → notices_in first u ≡ told_to from l u) → (u : ℕ)
-        → notices_in list u ≡ told_to from (state_in i.graph locks) u) → list ≡ told s (state_of (view_of now))
+        → notices_in list u ≡ told_to from (state_at locks) u) → list ≡ told s (state_of (view_of now))
     told_settled first list none by_slot tells =
-        told_is s (state_of (view_of now)) list sound.lawful sound.exact.sound.few by_slot
+        told_is s (state_of (view_of now)) list sound.lawful i.locks.sound.few by_slot
         (tells s (table_way i sound) (λ u. ap (λ xs. notices_in xs u) none ∙ sym (nobody_told s u)))

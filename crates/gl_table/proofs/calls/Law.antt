@@ -1,18 +1,20 @@
 -- What holds of a table's fields: of every table, of a new one, with new nodes and with one transaction more.
 use Rattle.gl_table.proofs.Words.{[], ◌+◌, ◌<◌, ◌==◌, ◌||◌, ◌∙◌, ◌∷◌, ◌≡◌, ◌≤◌, Active, ap, AreApart, AreDistinct, AreNew, arith, begin_tests, begun, Bool}
-use Rattle.gl_table.proofs.Words.{by_list, children_that, choosing, clash, cond, count_in, counted_by, empty_state, Entry, entry_of, Err, false, find}
+use Rattle.gl_table.proofs.Words.{by_list, children_that, choosing, clash, cond, count_in, counted_by, Detect, empty_state, Entry, entry_of, Err, false, find}
 use Rattle.gl_table.proofs.Words.{first_refusal, free_slot, get_or, graph_of, HasNoCycle, held_children, held_of, holds, IfOk, is_among_waiters, is_free}
-use Rattle.gl_table.proofs.Words.{is_live, is_none, is_some, is_wait, is_waiting_at, IsApart, IsDistinct, IsLawful, IsSound, IsUnique, keys_of, length}
+use Rattle.gl_table.proofs.Words.{is_live, is_none, is_some, is_wait, is_waiting_at, IsApart, IsDistinct, IsLawful, IsSafe, IsSound, IsUnique, keys_of, length}
 use Rattle.gl_table.proofs.Words.{length-set, List, list_all, ListsAgree, LockList, lookup, loose_of, map, max_count, Members, members, mode_in, nat_lt}
 use Rattle.gl_table.proofs.Words.{nat_tests, NodeId, None, not, Ok, OnErr, Option, option_map_or, position, position-Some, position_or_len, queue_of}
 use Rattle.gl_table.proofs.Words.{range_with_len, refl, Refusal, Refuses, replicate, Result, same_node, Seat, SeatList, slice_get, slice_get-get_or, slice_set}
-use Rattle.gl_table.proofs.Words.{Some, StandOnce, State, state_of, status_in, status_of, subst, suc, sym, TableView, too_many_txns, true, txn_in, txns_of}
-use Rattle.gl_table.proofs.Words.{unused-nobody, View, view_of, where_true, with_graph, zero, ℕ}
+use Rattle.gl_table.proofs.Words.{Some, StandOnce, State, state_in, state_of, status_in, status_of, subst, suc, sym, TableView, too_many_txns, true, txn_in}
+use Rattle.gl_table.proofs.Words.{txns_of, unused-nobody, Victims, View, view_of, where_true, with_graph, zero, ℕ}
 use Rattle.gl_model.proofs.law.Keeps.{apart}
 use Rattle.gl_model.proofs.queues.Walks.{same}
 use Rattle.std.specs.Prelude.{◌^◌}
 use Rattle.gl_model.specs.State.{with_limits}
+use Rattle.gl_table.specs.declared.ledger.Ledger.{Ledger}
 use Rattle.gl_table.specs.declared.table.Table.TheInside.{Inside}
+use Rattle.gl_table.proofs.calls.Stands.{as_it_was, IsLaw, MayStand, orderly_over, stands}
 use Rattle.gl_modes.specs.declared.refusal.Refusal.TheVariants as no
 use Rattle.gl_table.proofs.inside.Seats.{txns-set}
 use Rattle.gl_model.proofs.law.Keeps.{waiting_is}
@@ -52,14 +54,14 @@ counted (l ∷ ls) n (suc t) e h = counted ls n t e h
 
 pub lists_agree : (i : Inside) → IsSound i → ListsAgree (view_of i)
 lists_agree i sound = record {
-  listed = λ t n. ap is_some (said_by ls n t) ∙ through is_some ls n t ∙ (sound.exact.agree t).listed n
+  listed = λ t n. ap is_some (said_by ls n t) ∙ through is_some ls n t ∙ (i.locks.agree t).listed n
       ∙ ap (λ b. holds (members (state_of (view_of i)) n) t || b) (sym (waits_among (state_of (view_of i)) sound.lawful t n));
-  modes = λ t n. ap mode_in (said_by ls n t) ∙ through mode_in ls n t ∙ (sound.exact.agree t).modes n;
-  counts = λ t n e h. sym (counted ls n t e (sym (said_by ls n t) ∙ h)) ∙ sound.exact.count t n;
+  modes = λ t n. ap mode_in (said_by ls n t) ∙ through mode_in ls n t ∙ (i.locks.agree t).modes n;
+  counts = λ t n e h. sym (counted ls n t e (sym (said_by ls n t) ∙ h)) ∙ i.locks.count t n;
 }
   where
     ls : List LockList
-    ls = i.locks.lists.items
+    ls = i.locks.ledger.lists.items
 
 unique_in : (l : LockList) → IsApart l → IsUnique same_node l.entries
 unfolding IsApart
@@ -74,8 +76,8 @@ lists_once (l ∷ ls) apart zero es e = let is : l.entries.entries ≡ es = cc i
 lists_once (l ∷ ls) apart (suc t) es e = lists_once ls (λ u x h. apart (suc u) x h) t es e
 
 -- and no node has two headers, by their own word
-pub stand_once : (i : Inside) → IsSound i → AreDistinct i.locks.headers.entries → StandOnce (view_of i)
-stand_once i sound unique = record { headers = unique; lists = lists_once i.locks.lists.items sound.exact.sound.apart }
+pub stand_once : (i : Inside) → IsSound i → AreDistinct i.locks.ledger.headers.entries → StandOnce (view_of i)
+stand_once i sound unique = record { headers = unique; lists = lists_once i.locks.ledger.lists.items i.locks.sound.apart }
 
 -- A table in which nothing stands.
 
@@ -88,47 +90,48 @@ free_seats zero t = refl
 free_seats (suc k) zero = refl
 free_seats (suc k) (suc t) = free_seats k t
 
-module _ (i : Inside) (most : ℕ) (few : most ≤ 128) (low : i.graph.most ≤ 2 ^ 31)
-    (none : (birth : ℕ) → (graph_of i.graph).at birth ≡ None) (births : i.graph.births ≡ 0) (begins : i.begins ≡ 0) (new : AreNew i.locks most) where
-  abbrev s : State
-  s = state_of (view_of i)
+module _ (graph : View) (ledger : Ledger) (detect : Detect) (victims : Victims) (most : ℕ) (few : most ≤ 128) (low : graph.most ≤ 2 ^ 31)
+    (none : (birth : ℕ) → (graph_of graph).at birth ≡ None) (births : graph.births ≡ 0) (new : AreNew ledger most) where
+  abbrev l : State
+  l = state_in graph ledger
 
-  pub new_state : s ≡ with_limits i.graph.most i.graph.most_bounds (choosing i.victims (empty_state i.detect most))
-  new_state = λ z. record (with_limits i.graph.most i.graph.most_bounds (choosing i.victims (empty_state i.detect most))) {
-    graph = record { at = λ b. none b z; births = births z; most = i.graph.most; most_bounds = i.graph.most_bounds };
+  abbrev fresh : State
+  fresh = record l { detect = detect; victims = victims; begins = 0 }
+
+  pub new_state : fresh ≡ with_limits graph.most graph.most_bounds (choosing victims (empty_state detect most))
+  new_state = λ z. record (with_limits graph.most graph.most_bounds (choosing victims (empty_state detect most))) {
+    graph = record { at = λ b. none b z; births = births z; most = graph.most; most_bounds = graph.most_bounds };
     txns = λ t. (ap (λ xs. txns_of xs t) new.seats ∙ free_seats most t) z;
     held = λ t n. (ap (λ hs. held_of hs t n) new.headers ∙ ap (λ (g : Members). g t) unused-nobody) z;
     queue = λ n. queue_of (new.headers z) n;
     most = (ap length new.seats ∙ length-replicate most) z;
-    begins = begins z;
   }
 
-  pub new_sound : IsSound i
-  new_sound = record {
-    lawful = subst IsLawful (sym new_state) (roomy-lawful i.detect i.victims most i.graph.most i.graph.most_bounds low);
-    exact = record {
-      sound = record {
-        few = subst (λ (k : ℕ). k ≤ 128) (sym (ap length new.seats ∙ length-replicate most)) few;
-        lists = new.lists ∙ sym (ap length new.seats ∙ length-replicate most);
-        apart = new.apart;
-      };
-      agree = λ u. record {
-        modes = λ q. new.modes u q ∙ sym (ap (λ x. x.held u q) new_state);
-        listed = λ q. new.listed u q ∙ sym (ap (λ x. holds (members x q) u || is_among_waiters u (x.queue q)) new_state);
-        room = λ h. clash (ap (λ x. is_wait (status_of x u)) (sym new_state) ∙ h) refl;
-      };
-      count = λ u p. new.counts u p ∙ sym (ap (λ x. held_children x u p) new_state);
+  pub new_safe : IsSafe fresh
+  new_safe = record {
+    lawful = subst IsLawful (sym new_state) (roomy-lawful detect victims most graph.most graph.most_bounds low);
+    no_cycle = λ _. subst HasNoCycle (sym new_state) (empty-no_cycle detect victims most);
+  }
+
+  pub new_law : IsLaw graph ledger
+  new_law = record {
+    orderly = orderly_over l detect victims 0 new_safe.lawful;
+    sound = record {
+      few = subst (λ (k : ℕ). k ≤ 128) (sym (ap length new.seats ∙ length-replicate most)) few;
+      lists = new.lists ∙ sym (ap length new.seats ∙ length-replicate most);
+      apart = new.apart;
     };
-    no_cycle = λ _. subst HasNoCycle (sym new_state) (empty-no_cycle i.detect i.victims most);
+    agree = λ u. record {
+      modes = λ q. new.modes u q ∙ sym (ap (λ (x : State). x.held u q) new_state);
+      listed = λ q. new.listed u q ∙ sym (ap (λ (x : State). holds (members x q) u || is_among_waiters u (x.queue q)) new_state);
+      room = λ h. clash (ap (λ (x : State). is_wait (status_of x u)) (sym new_state) ∙ h) refl;
+    };
+    count = λ u p. new.counts u p ∙ sym (ap (λ (x : State). held_children x u p) new_state);
   }
 
 -- A call on a table's graph makes nodes, or changes nothing: what holds of the fields still does.
 
 module _ (i : Inside) (sound : IsSound i) (v : View) where
-  -- the table with another graph
-  abbrev grown : Inside
-  grown = record i { graph = v }
-
   abbrev before : State
   before = state_of (view_of i)
 
@@ -137,39 +140,35 @@ module _ (i : Inside) (sound : IsSound i) (v : View) where
     pub lawful : IsLawful (with_graph before (graph_of v))
     pub counts : (u : ℕ) (p : NodeId) → held_children (with_graph before (graph_of v)) u p ≡ held_children before u p
 
-  pub suited-sound : Suits → IsSound grown
-  suited-sound suits = record {
-    lawful = suits.lawful;
-    exact = record {
-      sound = sound.exact.sound;
-      agree = λ u. let old = sound.exact.agree u in record { modes = old.modes; listed = old.listed; room = old.room };
-      count = λ u p. sound.exact.count u p ∙ sym (suits.counts u p);
-    };
-    no_cycle = sound.no_cycle;
-  }
+  pub suited-stands : Suits → MayStand i v i.locks.ledger
+  suited-stands suits = stands i v i.locks.ledger (record { lawful = suits.lawful; no_cycle = sound.no_cycle }) (record {
+    sound = i.locks.sound;
+    agree = λ u. let old = i.locks.agree u in record { modes = old.modes; listed = old.listed; room = old.room };
+    count = λ u p. i.locks.count u p ∙ sym (suits.counts u p);
+  })
 
   -- who is held by somebody lives
   pub held-lives : (u : ℕ) (c : NodeId) → holds (members before c) u ≡ true → is_live before.graph c ≡ true
   held-lives u c h = (sound.lawful.grants_live u c h).1
 
   -- nobody holds a new node, so the counts of held children are the old ones
-  grown-suits : Grows (graph_of i.graph) (graph_of v) → Suits
+  grown-suits : Grows (graph_of i.locks.graph) (graph_of v) → Suits
   grown-suits more = record {
     lawful = grown-lawful before sound.lawful (graph_of v) more;
     counts = λ u p. let held : NodeId → Bool = λ c. holds (members before c) u in
-        ap (λ g. children_that g held p) more.after ∙ born-children (graph_of i.graph) sound.lawful.graph more.ns held (held-lives u) p;
+        ap (λ g. children_that g held p) more.after ∙ born-children (graph_of i.locks.graph) sound.lawful.graph more.ns held (held-lives u) p;
   }
 
   -- a call that makes nodes passed all its tests, and one that is refused left the graph as it was
   pub suited-call : (refusal : Option Refusal) (result : Result NodeId Refusal) (Made : NodeId → Type 0) → Refuses refusal result → IfOk result Made
-      → OnErr result (v ≡ i.graph) → ((n : NodeId) → refusal ≡ None → Made n → Suits) → IsSound grown
-  suited-call None (Ok n) Made refuses made same suits = suited-sound (suits n refl made)
+      → OnErr result (v ≡ i.locks.graph) → ((n : NodeId) → refusal ≡ None → Made n → Suits) → MayStand i v i.locks.ledger
+  suited-call None (Ok n) Made refuses made same suits = suited-stands (suits n refl made)
   suited-call (Some r) (Ok n) Made refuses made same suits = absurd (cc)
-  suited-call refusal (Err r) Made refuses made same suits = subst (λ (w : View). IsSound (record i { graph = w })) (sym same) sound
+  suited-call refusal (Err r) Made refuses made same suits = subst (λ (w : View). MayStand i w i.locks.ledger) (sym same) (as_it_was i sound)
 
-  pub called-sound : (refusal : Option Refusal) (result : Result NodeId Refusal) (Made : NodeId → Type 0) → Refuses refusal result → IfOk result Made
-      → OnErr result (v ≡ i.graph) → ((n : NodeId) → refusal ≡ None → Made n → Grows (graph_of i.graph) (graph_of v)) → IsSound grown
-  called-sound refusal result Made refuses made same grows = suited-call refusal result Made refuses made same (λ n free it. grown-suits (grows n free it))
+  pub called : (refusal : Option Refusal) (result : Result NodeId Refusal) (Made : NodeId → Type 0) → Refuses refusal result → IfOk result Made
+      → OnErr result (v ≡ i.locks.graph) → ((n : NodeId) → refusal ≡ None → Made n → Grows (graph_of i.locks.graph) (graph_of v)) → MayStand i v i.locks.ledger
+  called refusal result Made refuses made same grows = suited-call refusal result Made refuses made same (λ n free it. grown-suits (grows n free it))
 
 -- A transaction takes the lowest free seat.
 
@@ -231,34 +230,30 @@ begin-refusal first o left is =
     last : (b : Bool) → first_refusal (None ∷ where_true b no.TooManyTxns ∷ []) ≡ where_true b no.TooManyTxns
     last b = grind (arith, nat_tests)
 
-module _ (i : Inside) (sound : IsSound i) (t : ℕ) (at : Some t ≡ position is_free i.locks.seats.items)
-    (seats : SeatList) (seated : seats.items ≡ slice_set i.locks.seats.items t (Some (record { age = i.begins + 1; status = Active }))) where
-  abbrev begun_in : Inside
-  begun_in = record {
-    graph = i.graph;
-    locks = record i.locks { seats = seats };
-    detect = i.detect;
-    victims = i.victims;
-    begins = i.begins + 1;
-    deadlock = i.deadlock;
-  }
+module _ (i : Inside) (sound : IsSound i) (t : ℕ) (at : Some t ≡ position is_free i.locks.ledger.seats.items)
+    (seats : SeatList) (seated : seats.items ≡ slice_set i.locks.ledger.seats.items t (Some (record { age = i.begins + 1; status = Active }))) where
+  abbrev ledger : Ledger
+  ledger = record i.locks.ledger { seats = seats }
 
   abbrev first : State
   first = state_of (view_of i)
 
-  place : (t < length i.locks.seats.items) × (is_free (get_or i.locks.seats.items t None) ≡ true)
-      × ((k : ℕ) → k < t → is_free (get_or i.locks.seats.items k None) ≡ false)
-  place = position-Some is_free i.locks.seats.items t None (sym at)
+  abbrev now : State
+  now = record (state_in i.locks.graph ledger) { detect = i.detect; victims = i.victims; begins = i.begins + 1 }
+
+  place : (t < length i.locks.ledger.seats.items) × (is_free (get_or i.locks.ledger.seats.items t None) ≡ true)
+      × ((k : ℕ) → k < t → is_free (get_or i.locks.ledger.seats.items k None) ≡ false)
+  place = position-Some is_free i.locks.ledger.seats.items t None (sym at)
 
   free : is_some (first.txns t) ≡ false
-  free = ap (λ o. is_some (txn_in o)) (slice_get-get_or i.locks.seats.items t None place.0) ∙ none-free _ place.1
+  free = ap (λ o. is_some (txn_in o)) (slice_get-get_or i.locks.ledger.seats.items t None place.0) ∙ none-free _ place.1
 
-  seats-same : length (view_of begun_in).seats ≡ length i.locks.seats.items
-  seats-same = ap length seated ∙ length-set i.locks.seats.items t (Some (record { age = i.begins + 1; status = Active }))
+  seats-same : length seats.items ≡ length i.locks.ledger.seats.items
+  seats-same = ap length seated ∙ length-set i.locks.ledger.seats.items t (Some (record { age = i.begins + 1; status = Active }))
 
-  pub begun-state : state_of (view_of begun_in) ≡ begun first t
+  pub begun-state : now ≡ begun first t
   begun-state = λ z. record (begun first t) {
-    txns = λ u. (ap (λ xs. txns_of xs u) seated ∙ txns-set i.locks.seats.items t (Some (record { age = i.begins + 1; status = Active })) place.0 u) z;
+    txns = λ u. (ap (λ xs. txns_of xs u) seated ∙ txns-set i.locks.ledger.seats.items t (Some (record { age = i.begins + 1; status = Active })) place.0 u) z;
     most = seats-same z;
   }
 
@@ -266,21 +261,24 @@ module _ (i : Inside) (sound : IsSound i) (t : ℕ) (at : Some t ≡ position is
   waited : (u : ℕ) → is_wait (status_in ((begun first t).txns u)) ≡ true → is_wait (status_in (first.txns u)) ≡ true
   waited u = grind (arith, nat_tests)
 
-  pub begun-sound : IsSound begun_in
-  begun-sound = record {
+  pub begun-safe : IsSafe now
+  begun-safe = record {
     lawful = subst IsLawful (sym begun-state) (begun-lawful first sound.lawful t free place.0);
-    exact = record {
-      sound = record {
-        few = subst (λ (k : ℕ). k ≤ 128) (sym seats-same) sound.exact.sound.few;
-        lists = sound.exact.sound.lists ∙ sym seats-same;
-        apart = sound.exact.sound.apart;
-      };
-      agree = λ u. record {
-        modes = (sound.exact.agree u).modes;
-        listed = (sound.exact.agree u).listed;
-        room = λ h. (sound.exact.agree u).room (waited u (ap (λ x. is_wait (status_in (x.txns u))) (sym begun-state) ∙ h));
-      };
-      count = sound.exact.count;
-    };
     no_cycle = λ e. subst HasNoCycle (sym begun-state) (begun-no_cycle first t (sound.no_cycle e));
+  }
+
+  pub begun-law : IsLaw i.locks.graph ledger
+  begun-law = record {
+    orderly = orderly_over (state_in i.locks.graph ledger) i.detect i.victims (i.begins + 1) begun-safe.lawful;
+    sound = record {
+      few = subst (λ (k : ℕ). k ≤ 128) (sym seats-same) i.locks.sound.few;
+      lists = i.locks.sound.lists ∙ sym seats-same;
+      apart = i.locks.sound.apart;
+    };
+    agree = λ u. record {
+      modes = (i.locks.agree u).modes;
+      listed = (i.locks.agree u).listed;
+      room = λ h. (i.locks.agree u).room (waited u (ap (λ (x : State). is_wait (status_in (x.txns u))) (sym begun-state) ∙ h));
+    };
+    count = i.locks.count;
   }

@@ -1,16 +1,18 @@
 -- What a lock that is granted, and one that waits, makes of a table. For the calls that lock.
-use Rattle.gl_table.proofs.Words.{[], ◌==◌, ◌∙◌, ◌∷◌, ◌≡◌, Active, ap, AreExact, arith, AtBlock, Bool, ByWatcher, clash, Deadlock, Detect, enqueued, enters_at}
-use Rattle.gl_table.proofs.Words.{Err, false, first_refusal, granted, HasNoCycle, held_of, if◌then◌else◌, is_granted_at, IsLawful, IsOrderly, IsSound}
-use Rattle.gl_table.proofs.Words.{KeepsLocks, length, lock_tests, locked_as, LocksKeeping, Mode, nat_tests, NodeId, None, number_same, Ok, OnErr, OnOk, Option}
-use Rattle.gl_table.proofs.Words.{passed_then, queue_of, refl, Refusal, refused_first, Refuses, Result, same_node-refl, Some, State, state_in, state_of}
-use Rattle.gl_table.proofs.Words.{status_of, subst, sym, TableView, Told, told_but, true, try_tests, TxnId, txns_of, verdict, Victims, view_of, WaitSettles}
-use Rattle.gl_table.proofs.Words.{WaitSettlesKeeping, wanted, would_block, ℕ}
+use Rattle.gl_table.proofs.Words.{[], ◌==◌, ◌∙◌, ◌∷◌, ◌≡◌, Active, ap, AreExact, arith, Asked, AtBlock, Bool, ByWatcher, clash, Deadlock, Detect, enqueued}
+use Rattle.gl_table.proofs.Words.{enters_at, Err, false, first_refusal, granted, HasNoCycle, held_of, if◌then◌else◌, is_granted_at, IsLawful, IsOrderly}
+use Rattle.gl_table.proofs.Words.{IsSound, KeepsLocks, length, lock_tests, locked_as, LocksKeeping, Mode, nat_tests, NodeId, None, number_same, Ok, OnErr, OnOk}
+use Rattle.gl_table.proofs.Words.{Option, passed_then, queue_of, refl, Refusal, refused_first, Refuses, Result, same_node-refl, Some, split, State, state_at}
+use Rattle.gl_table.proofs.Words.{state_in, state_of, status_of, subst, sym, TableView, Told, told_but, true, try_tests, TxnId, txns_of, verdict, Victims}
+use Rattle.gl_table.proofs.Words.{view_of, WaitSettles, WaitSettlesKeeping, wanted, would_block, ℕ}
 use Rattle.gl_table.specs.declared.table.Table.TheInside.{Inside}
 use Rattle.gl_model.specs.Calls.{Locks}
 use Rattle.gl_modes.specs.declared.refusal.Refusal.TheVariants as no
+use Rattle.gl_table.specs.declared.ledger.Ledger.{Ledger}
 use Rattle.gl_table.specs.declared.locks.Locks as code
 use Rattle.gl_model.specs.declared.answers.Locked.TheVariants as locked
-use Rattle.gl_table.proofs.calls.Calls.{keeping_also, lawful_orderly, orderly, over, settled_also}
+use Rattle.gl_table.proofs.calls.Calls.{keeping_also, over, settled_also}
+use Rattle.gl_table.proofs.calls.Stands.{IsLaw, MayStand, orderly_over, stands, with_locks}
 use Rattle.gl_model.proofs.law.Lock.{granted-lawful, granted-no_cycle, locks-lawful, locks-no_cycle, may_lock, MayLock, waiting-lawful}
 use Rattle.gl_model.proofs.telling.Fronts.{enters-most}
 use Rattle.gl_model.proofs.telling.Lists.{told_but_same, told_nothing}
@@ -19,7 +21,7 @@ use Rattle.gl_model.proofs.telling.Lists.{told_but_same, told_nothing}
 
 module _ (i : Inside) (v : TableView) (view : view_of i ≡ v) (t : TxnId) (n : NodeId) (m : Mode) where
   -- the locks meet the tests of the table
-  pub tests-seen : first_refusal (lock_tests (state_in i.graph i.locks) t n m) ≡ first_refusal (lock_tests (state_of v) t n m)
+  pub tests-seen : first_refusal (lock_tests (state_at i.locks) t n m) ≡ first_refusal (lock_tests (state_of v) t n m)
   tests-seen = ap (λ w. first_refusal (lock_tests (state_of w) t n m)) view
 
 -- a test that refused
@@ -54,59 +56,54 @@ module _ (i : Inside) (sound : IsSound i) (t : TxnId) (n : NodeId) (m : Mode) wh
   s = state_of (view_of i)
 
   abbrev l : State
-  l = state_in i.graph i.locks
+  l = state_at i.locks
 
   -- the header says what the state says
-  pub same_enters : is_granted_at i.locks.headers.entries t.slot n m ≡ enters_at s t.slot n m
-  same_enters = sym (enters-most l (orderly i sound) sound.exact.sound.few t.slot n (wanted l t.slot n m))
+  pub same_enters : is_granted_at i.locks.ledger.headers.entries t.slot n m ≡ enters_at s t.slot n m
+  same_enters = sym (enters-most l i.locks.orderly i.locks.sound.few t.slot n (wanted l t.slot n m))
 
   -- the grant was made
-  module _ (may : MayLock s t n m) (fits : enters_at s t.slot n m ≡ true) (locks : code.Locks) (is : state_in i.graph locks ≡ granted l t.slot n m) where
-    abbrev after : Inside
-    after = record i { locks = locks }
+  module _ (may : MayLock s t n m) (fits : enters_at s t.slot n m ≡ true) (ledger : Ledger)
+      (is : state_in i.locks.graph ledger ≡ granted l t.slot n m) where
+    pub state_granted : with_locks i (state_in i.locks.graph ledger) ≡ granted s t.slot n m
+    state_granted = ap {A = State} (with_locks i) is
 
-    pub state_granted : state_of (view_of after) ≡ granted s t.slot n m
-    state_granted = ap {A = State} (λ x. record x { detect = i.detect; victims = i.victims; begins = i.begins }) is
-
-    pub sound_granted : AreExact i.graph locks → IsSound after
-    sound_granted exact = record {
+    pub stands_granted : AreExact i.locks.graph ledger → MayStand i i.locks.graph ledger
+    stands_granted exact = stands i i.locks.graph ledger (record {
       lawful = subst IsLawful (sym state_granted) (granted-lawful s sound.lawful t n m may fits);
-      exact = exact;
       no_cycle = λ at. subst HasNoCycle (sym state_granted) (granted-no_cycle s t.slot n (wanted s t.slot n m) may.active (sound.no_cycle at));
-    }
+    }) exact
 
   -- nothing but room was made
-  pub sound_kept : (locks : code.Locks) → locks.headers.entries ≡ i.locks.headers.entries → locks.seats ≡ i.locks.seats
-      → AreExact i.graph locks → IsSound (record i { locks = locks })
-  sound_kept locks headers seats exact = record {
+  pub stands_kept : (ledger : Ledger) → KeepsLocks i.locks.ledger ledger → AreExact i.locks.graph ledger → MayStand i i.locks.graph ledger
+  stands_kept ledger kept exact = stands i i.locks.graph ledger (record {
     lawful = subst IsLawful same sound.lawful;
-    exact = exact;
     no_cycle = λ at. subst HasNoCycle same (sound.no_cycle at);
-  }
+  }) exact
     where
-      same : s ≡ state_of (view_of (record i { locks = locks }))
+      same : s ≡ with_locks i (state_in i.locks.graph ledger)
       same = λ z. record s {
-        txns = txns_of (sym seats z).items;
-        held = held_of (sym headers z);
-        queue = queue_of (sym headers z);
-        most = length (sym seats z).items;
+        txns = txns_of (sym kept.seats z).items;
+        held = held_of (sym kept.headers z);
+        queue = queue_of (sym kept.headers z);
+        most = length (sym kept.seats z).items;
       }
 
   -- it was granted, or nothing but room was made
-  pub sound_tried : (r : Result Mode Refusal) (locks : code.Locks) → MayLock s t n m → enters_at s t.slot n m ≡ true
-      → OnOk r (state_in i.graph locks ≡ granted l t.slot n m)
-      → OnErr r (KeepsLocks i.locks locks) → AreExact i.graph locks → IsSound (record i { locks = locks })
-  sound_tried (Ok x) locks may fits ok err exact = sound_granted may fits locks ok exact
-  sound_tried (Err x) locks may fits ok err exact = sound_kept locks err.headers err.seats exact
+  pub stands_tried : (r : Result Mode Refusal) (ledger : Ledger) → MayLock s t n m → enters_at s t.slot n m ≡ true
+      → OnOk r (state_in i.locks.graph ledger ≡ granted l t.slot n m) → OnErr r (KeepsLocks i.locks.ledger ledger)
+      → AreExact i.locks.graph ledger → MayStand i i.locks.graph ledger
+  stands_tried (Ok x) ledger may fits ok err exact = stands_granted may fits ledger ok exact
+  stands_tried (Err x) ledger may fits ok err exact = stands_kept ledger err exact
 
-  pub state_tried : (r : Result Mode Refusal) (locks : code.Locks) → OnOk r (state_in i.graph locks ≡ granted l t.slot n m)
-      → OnOk r (state_of (view_of (record i { locks = locks })) ≡ granted s t.slot n m)
-  state_tried (Ok x) locks ok = ap {A = State} (λ x. record x { detect = i.detect; victims = i.victims; begins = i.begins }) ok
-  state_tried (Err x) locks ok = ok
+  pub state_tried : (r : Result Mode Refusal) (ledger : Ledger) → OnOk r (state_in i.locks.graph ledger ≡ granted l t.slot n m)
+      → OnOk r (with_locks i (state_in i.locks.graph ledger) ≡ granted s t.slot n m)
+  state_tried (Ok x) ledger ok = ap {A = State} (with_locks i) ok
+  state_tried (Err x) ledger ok = ok
 
 -- what a try answers once the tests of a lock passed, by what the header says
 pub decided : (i : Inside) (sound : IsSound i) (v : TableView) → view_of i ≡ v → (t : TxnId) (n : NodeId) (m : Mode)
-    → first_refusal (lock_tests (state_of v) t n m) ≡ None → (b : Bool) → b ≡ is_granted_at i.locks.headers.entries t.slot n m
+    → first_refusal (lock_tests (state_of v) t n m) ≡ None → (b : Bool) → b ≡ is_granted_at i.locks.ledger.headers.entries t.slot n m
     → first_refusal (try_tests (state_of v) t n m) ≡ (if b then None else Some no.WouldBlock)
 decided i sound v view t n m h b e =
     try_decides (state_of v) t n m h b (ap (λ (w : TableView). enters_at (state_of w) t.slot n m) (sym view) ∙ sym (same_enters i sound t n m) ∙ sym e)
@@ -151,59 +148,68 @@ module _ (i : Inside) (sound : IsSound i) (t : TxnId) (n : NodeId) (m : Mode) (m
   before = state_of (view_of i)
 
   abbrev alone : State
-  alone = state_in i.graph i.locks
+  alone = state_at i.locks
 
   -- the asker waits
-  module _ (locks : code.Locks) (is : state_in i.graph locks ≡ enqueued alone t.slot n (wanted alone t.slot n m)) where
-    pub waiting_orderly : IsOrderly (state_in i.graph locks)
-    waiting_orderly =
-        let o = lawful_orderly _ (waiting-lawful before sound.lawful t n m may blocks) in
-        subst IsOrderly (sym is) (record {
-          holders = o.holders;
-          holders_live = o.holders_live;
-          waiters_live = o.waiters_live;
-          waits_are = o.waits_are;
-          one_wait = o.one_wait;
-          below = o.below;
-        })
+  module _ (ledger : Ledger) (is : state_in i.locks.graph ledger ≡ enqueued alone t.slot n (wanted alone t.slot n m)) where
+    abbrev waiting : State
+    waiting = state_in i.locks.graph ledger
+
+    pub law_waiting : AreExact i.locks.graph ledger → IsLaw i.locks.graph ledger
+    law_waiting exact = record {
+      orderly = subst IsOrderly (sym is) (orderly_over _ i.detect i.victims i.begins (waiting-lawful before sound.lawful t n m may blocks));
+      sound = exact.sound;
+      agree = exact.agree;
+      count = exact.count;
+    }
 
     -- and was settled, where that is the way of detection
-    module _ (left : code.Locks) (kept : Deadlock) (settles : WaitSettles i.detect i.victims (state_in i.graph locks) t.slot (state_in i.graph left)) where
+    module _ (left : code.Locks) (kept : Deadlock) (settles : WaitSettles i.detect i.victims waiting t.slot (state_at left)) where
       abbrev waited : Inside
       waited = record i { locks = left; deadlock = kept }
 
       pub state_locked : Locks before t.slot n m (state_of (view_of waited))
       state_locked = record {
         at_once = λ h. clash h blocks;
-        waits = λ h. settles_on i.detect i.victims (enqueued alone t.slot n (wanted alone t.slot n m)) (state_in i.graph left) t.slot i.detect i.victims
-            i.begins (subst (λ (x : State). WaitSettles i.detect i.victims x t.slot (state_in i.graph left)) is settles);
+        waits = λ h. settles_on i.detect i.victims (enqueued alone t.slot n (wanted alone t.slot n m)) (state_at left) t.slot i.detect i.victims
+            i.begins (subst (λ (x : State). WaitSettles i.detect i.victims x t.slot (state_at left)) is settles);
       }
 
       -- with what is kept of deadlocks
-      pub kept_locked : WaitSettlesKeeping i.detect i.victims (state_in i.graph locks) t.slot i.deadlock (state_in i.graph left) kept
+      pub kept_locked : WaitSettlesKeeping i.detect i.victims waiting t.slot i.deadlock (state_at left) kept
           → LocksKeeping before t.slot n m i.deadlock (state_of (view_of waited)) kept
       kept_locked keeps = record {
         at_once = λ h. clash h blocks;
-        waits = λ h. keeps_on i.detect i.victims (enqueued alone t.slot n (wanted alone t.slot n m)) (state_in i.graph left) t.slot i.deadlock kept i.detect
-            i.victims i.begins (subst (λ (x : State). WaitSettlesKeeping i.detect i.victims x t.slot i.deadlock (state_in i.graph left) kept) is keeps);
+        waits = λ h. keeps_on i.detect i.victims (enqueued alone t.slot n (wanted alone t.slot n m)) (state_at left) t.slot i.deadlock kept i.detect
+            i.victims i.begins (subst (λ (x : State). WaitSettlesKeeping i.detect i.victims x t.slot i.deadlock (state_at left) kept) is keeps);
       }
 
-      pub sound_locked : AreExact i.graph left → IsSound waited
-      sound_locked exact = record {
+      pub sound_locked : IsSound waited
+      sound_locked = record {
         lawful = locks-lawful before (state_of (view_of waited)) sound.lawful t n m may state_locked;
-        exact = exact;
         no_cycle = λ at. locks-no_cycle before (state_of (view_of waited)) at sound.lawful t n m may state_locked (sound.no_cycle at);
       }
 
       -- the asker's own wait is told to nobody
-      pub told_locked : (list : Told) → list ≡ told_but t.slot (state_in i.graph locks) (state_in i.graph left)
-          → list ≡ told_but t.slot before (state_of (view_of waited))
+      pub told_locked : (list : Told) → list ≡ told_but t.slot waiting (state_at left) → list ≡ told_but t.slot before (state_of (view_of waited))
       told_locked list told =
           told ∙ ap (λ (x : State). told_but t.slot x (state_of (view_of waited))) is
           ∙ told_but_same before (enqueued alone t.slot n (wanted alone t.slot n m)) (state_of (view_of waited)) t.slot refl (λ u e. others (u == t.slot) _ _ e)
         where
           others : {A : Type 0} (b : Bool) (x y : A) → b ≡ false → (if b then x else y) ≡ y
           others b x y h1 = grind (arith, nat_tests)
+
+-- whatever an ask came to, the locks keep their law
+pub law_asked : (i : Inside) (sound : IsSound i) (t : TxnId) (n : NodeId) (m : Mode) → MayLock (state_of (view_of i)) t n m → (ledger : Ledger)
+    (r : Result Asked Refusal)
+    → OnOk r (enters_at (state_at i.locks) t.slot n m ≡ true → state_in i.locks.graph ledger ≡ granted (state_at i.locks) t.slot n m)
+    → OnOk r (enters_at (state_at i.locks) t.slot n m ≡ false
+    → state_in i.locks.graph ledger ≡ enqueued (state_at i.locks) t.slot n (wanted (state_at i.locks) t.slot n m))
+    → OnErr r (KeepsLocks i.locks.ledger ledger) → AreExact i.locks.graph ledger → IsLaw i.locks.graph ledger
+law_asked i sound t n m may ledger (Ok a) granted waits err exact =
+    split (enters_at (state_of (view_of i)) t.slot n m) (λ e. (stands_granted i sound t n m may e ledger (granted e) exact).law)
+    (λ e. law_waiting i sound t n m may e ledger (waits e) exact)
+law_asked i sound t n m may ledger (Err r) granted waits err exact = (stands_kept i sound t n m ledger err exact).law
 
 -- what is refused is so whatever it would have answered
 pub refuses_err : (A B : Type 0) (o : Option Refusal) (r : Refusal) → Refuses {T = A} o (Err r) → Refuses {T = B} o (Err r)

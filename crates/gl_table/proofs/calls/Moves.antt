@@ -7,9 +7,9 @@ use Rattle.gl_table.proofs.Words.{List, list_all, listed_by, LockList, members, 
 use Rattle.gl_table.proofs.Words.{not_true, notices_in, Option, option_map_or, other_number, parents_of, refl, rekeyed, rekeyed_parents, same_mode, same_node}
 use Rattle.gl_table.proofs.Words.{same_number, shape_of, slice_get, slot_limit, Some, some_given, split, State, state_in, state_of, state_on, status_of, stays}
 use Rattle.gl_table.proofs.Words.{subst, sym, TableView, Told, told, told_to, true, unlisted, unlisted_by, View, view_of, with_parents, X, ℕ}
-use Rattle.gl_table.specs.declared.locks.Locks.{Locks}
+use Rattle.gl_table.specs.declared.ledger.Ledger.{Ledger}
 use Rattle.gl_table.specs.declared.table.Table.TheInside.{Inside}
-use Rattle.gl_table.proofs.calls.Calls.{lawful_orderly, orderly}
+use Rattle.gl_table.proofs.calls.Stands.{lawful_orderly, MayStand, stands, with_locks}
 use Rattle.gl_table.proofs.inside.TurnedAway.{is_lost, moved_notice, moved_told}
 use Rattle.gl_model.proofs.law.Effects.{x_is}
 use Rattle.gl_model.proofs.law.Move.{changed_keeps, HoldsNode, HoldsParents, live_kept, may_be_moved, may_be_rekeyed, moved-no_cycle, moved_node, Moves}
@@ -41,7 +41,7 @@ module _ (i : Inside) (sound : IsSound i) (t : ℕ) (n : NodeId) (was is : Node)
 
   -- the locks as they were, over the new graph
   abbrev l : State
-  l = state_in v i.locks
+  l = state_in v i.locks.ledger
 
   abbrev g' : Graph
   g' = graph_of v
@@ -54,7 +54,7 @@ module _ (i : Inside) (sound : IsSound i) (t : ℕ) (n : NodeId) (was is : Node)
 
   pub orderly_moved : IsOrderly l
   orderly_moved =
-      let o = orderly i sound in
+      let o = i.locks.orderly in
       record {
         holders = o.holders;
         holders_live = λ u q h. live q ∙ o.holders_live u q h;
@@ -64,55 +64,53 @@ module _ (i : Inside) (sound : IsSound i) (t : ℕ) (n : NodeId) (was is : Node)
         below = o.below;
       }
 
-  pub agree_moved : (u : ℕ) → Agrees l i.locks.lists.items u
-  agree_moved u = let old = sound.exact.agree u in record { modes = old.modes; listed = old.listed; room = old.room }
+  pub agree_moved : (u : ℕ) → Agrees l i.locks.ledger.lists.items u
+  agree_moved u = let old = i.locks.agree u in record { modes = old.modes; listed = old.listed; room = old.room }
 
   pub bare_moved : (u : ℕ) → is_among_waiters u (l.queue n) ≡ true → l.held u n ≡ NL
   bare_moved = waiter_bare s sound.lawful t n is.parents m.active m.right
 
   pub stuck_moved : list_all (λ w. not (fits slot_limit (members l n) w.0 w.1)) (l.queue n) ≡ true
   stuck_moved = waiters_stuck s sound.lawful t n is.parents m.active m.right slot_limit
-      (λ u w. fits-limit s.most (members s n) u w sound.exact.sound.few (members_within l orderly_moved n))
+      (λ u w. fits-limit s.most (members s n) u w i.locks.sound.few (members_within l orderly_moved n))
 
   -- the mover's old parents are counted
-  pub counted_moved : holds (members l n) t ≡ true → (q : NodeId) → count_by (same_node q) (parents_of s.graph n) ≤ counted_by i.locks.lists.items t q
+  pub counted_moved : holds (members l n) t ≡ true → (q : NodeId) → count_by (same_node q) (parents_of s.graph n) ≤ counted_by i.locks.ledger.lists.items t q
   counted_moved held q =
       let some = parents_counted n (λ c. holds (members s c) t) s.graph sound.lawful.graph (node_there s t n was is g' m) held q in
-      let count = sound.exact.count t q in
+      let count = i.locks.count t q in
       omega arith
 
   -- and its new parents are listed
-  pub listed_moved : unlisted_by i.locks.lists.items t (parents_of g' n) ≡ 0
-  listed_moved = none_unlisted i.locks.lists.items t (parents_of g' n)
-      (subst (λ (ps : List NodeId). list_all (listed_by i.locks.lists.items t) ps ≡ true) (sym here) (⊎_elim
-      (λ (a : HoldsNode s t n is.parents). all_listed l i.locks.lists.items t (agree_moved t) (λ k. is_at_least k IX) (λ k h. at_least-not_NL k IX h refl)
-      is.parents a.new) (λ (b : HoldsParents s t n is.parents). all_listed l i.locks.lists.items t (agree_moved t) (λ k. same_mode k X)
+  pub listed_moved : unlisted_by i.locks.ledger.lists.items t (parents_of g' n) ≡ 0
+  listed_moved = none_unlisted i.locks.ledger.lists.items t (parents_of g' n)
+      (subst (λ (ps : List NodeId). list_all (listed_by i.locks.ledger.lists.items t) ps ≡ true) (sym here) (⊎_elim
+      (λ (a : HoldsNode s t n is.parents). all_listed l i.locks.ledger.lists.items t (agree_moved t) (λ k. is_at_least k IX)
+      (λ k h. at_least-not_NL k IX h refl)
+      is.parents a.new) (λ (b : HoldsParents s t n is.parents). all_listed l i.locks.ledger.lists.items t (agree_moved t) (λ k. same_mode k X)
       (λ k h. at_least-not_NL k IX (x_is k h) refl) is.parents b.new) m.right))
 
-  pub few_moved : (q : NodeId) → counted_by i.locks.lists.items t q + count_by (same_node q) (parents_of g' n) < 2 ^ 32
+  pub few_moved : (q : NodeId) → counted_by i.locks.ledger.lists.items t q + count_by (same_node q) (parents_of g' n) < 2 ^ 32
   few_moved q =
-      let count = sound.exact.count t q in
+      let count = i.locks.count t q in
       let few = children_few s.graph sound.lawful.graph (λ c. holds (members s c) t) q in
       let short = count_by-le-length (same_node q) (parents_of g' n) in
       let eight = parents_few g' m.lawful n in
       omega arith
 
   -- the locks followed
-  module _ (locks : Locks) (state : state_on g' locks ≡ moved_to l n (parents_of g' n) g') where
-    abbrev after : Inside
-    after = record i { graph = v; locks = locks }
-
-    pub state_moved : state_of (view_of after) ≡ moved_to s n is.parents g'
-    state_moved = ap {A = State} (λ x. record x { detect = i.detect; victims = i.victims; begins = i.begins }) state ∙ ap (λ ps. moved_to s n ps g') here
+  module _ (ledger : Ledger) (state : state_on g' ledger ≡ moved_to l n (parents_of g' n) g') where
+    pub state_moved : with_locks i (state_in v ledger) ≡ moved_to s n is.parents g'
+    state_moved = ap {A = State} (with_locks i) state ∙ ap (λ ps. moved_to s n ps g') here
 
     abbrev holding : ℕ → NodeId → Bool
     holding u c = holds (members s c) u
 
     -- the mover's counts were changed, and nobody else holds the node
     pub counts_moved : (old : List NodeId) → old ≡ parents_of s.graph n
-        → ((u : ℕ) (q : NodeId) → counted_by locks.lists.items u q + (if (u == t) && holds (members l n) t then count_by (same_node q) old else 0)
-        ≡ counted_by i.locks.lists.items u q + (if (u == t) && holds (members l n) t then count_by (same_node q) (parents_of g' n) else 0)) → (u : ℕ)
-        → CountsHeld (state_on g' locks) locks.lists.items u
+        → ((u : ℕ) (q : NodeId) → counted_by ledger.lists.items u q + (if (u == t) && holds (members l n) t then count_by (same_node q) old else 0)
+        ≡ counted_by i.locks.ledger.lists.items u q + (if (u == t) && holds (members l n) t then count_by (same_node q) (parents_of g' n) else 0)) → (u : ℕ)
+        → CountsHeld (state_on g' ledger) ledger.lists.items u
     counts_moved old before counts u p =
         let moved = children_moved s.graph g' sound.lawful.graph m.lawful n (nodes_kept s t n was is g' m) (others_parents s t n was is g' m)
         (node_there s t n was is g' m) (live n ∙ node_there s t n was is g' m) (holding u) p in
@@ -120,26 +118,25 @@ module _ (i : Inside) (sound : IsSound i) (t : ℕ) (n : NodeId) (was is : Node)
         (λ e. ap (λ b. b && holds (members l n) t) e ∙ ap (λ x. holding x n) (sym (same_number u t e))) (λ e. ap (λ b. b && holds (members l n) t) e ∙ sym
         (not_true _ (λ h. other_number u t e (only_mover s sound.lawful t n is.parents m.active m.right u h)))) in
         let written = subst
-        (λ (b : Bool). counted_by locks.lists.items u p + (if b then count_by (same_node p) (parents_of s.graph n) else 0)
-        ≡ counted_by i.locks.lists.items u p + (if b then count_by (same_node p) (parents_of g' n) else 0))
-        same (ap (λ ps. counted_by locks.lists.items u p + (if (u == t) && holds (members l n) t then count_by (same_node p) ps else 0)) (sym before)
+        (λ (b : Bool). counted_by ledger.lists.items u p + (if b then count_by (same_node p) (parents_of s.graph n) else 0)
+        ≡ counted_by i.locks.ledger.lists.items u p + (if b then count_by (same_node p) (parents_of g' n) else 0))
+        same (ap (λ ps. counted_by ledger.lists.items u p + (if (u == t) && holds (members l n) t then count_by (same_node p) ps else 0)) (sym before)
         ∙ counts u p) in
-        let count = sound.exact.count u p in
-        let now : counted_by locks.lists.items u p ≡ children_that g' (holding u) p = omega arith in
+        let count = i.locks.count u p in
+        let now : counted_by ledger.lists.items u p ≡ children_that g' (holding u) p = omega arith in
         now ∙ ap (λ (x : State). held_children x u p) (sym state)
 
-    pub sound_moved : AreSound locks → ((u : ℕ) → Agrees (state_on g' locks) locks.lists.items u)
-        → ((u : ℕ) → CountsHeld (state_on g' locks) locks.lists.items u) → IsSound after
-    sound_moved are agrees counts = record {
+    pub stands_moved : AreSound ledger → ((u : ℕ) → Agrees (state_on g' ledger) ledger.lists.items u)
+        → ((u : ℕ) → CountsHeld (state_on g' ledger) ledger.lists.items u) → MayStand i v ledger
+    stands_moved are agrees counts = stands i v ledger (record {
       lawful = subst IsLawful (sym state_moved) (changed_keeps s t n was is g' m sound.lawful);
-      exact = record { sound = are; agree = agrees; count = counts };
       no_cycle = λ at. subst HasNoCycle (sym state_moved) (moved-no_cycle s sound.lawful n is.parents g' (sound.no_cycle at));
-    }
+    }) (record { sound = are; agree = agrees; count = counts })
 
     pub told_moved : (list : Told) → IsBySlot list → ((u : ℕ)
-        → notices_in list u ≡ (if is_lost l n (stays l (parents_of g' n)) u then moved_notice l u else None)) → list ≡ told s (state_of (view_of after))
+        → notices_in list u ≡ (if is_lost l n (stays l (parents_of g' n)) u then moved_notice l u else None)) → list ≡ told s (with_locks i (state_in v ledger))
     told_moved list by_slot tells =
-        told_is s (state_of (view_of after)) list sound.lawful sound.exact.sound.few by_slot
+        told_is s (with_locks i (state_in v ledger)) list sound.lawful i.locks.sound.few by_slot
         (λ u. tells u ∙ ap (λ ps. if is_lost s n (stays s ps) u then moved_notice s u else None) here
         ∙ sym (moved_told s (lawful_orderly s sound.lawful) n is.parents g' bare_moved (λ x h. live n ∙ node_there s t n was is g' m) u)
         ∙ sym (ap (λ x. told_to s x u) state_moved))

@@ -1,15 +1,14 @@
 -- What is asked of a table: its lists and headers say what its state says. For queries and tests.
 use Rattle.gl_table.proofs.Words.{[], ◌&&◌, ◌+◌, ◌<◌, ◌||◌, ◌∙◌, ◌∷◌, ◌≡◌, ◌≤◌, add-one, answered, ap, ap₂, AreHeaders, AreRowsOf, arith, board_of, Bool, both}
-use Rattle.gl_table.proofs.Words.{by_list, child_held, clash, cond, count_by, counted_by, drop, drop-cons, effect_on, effective, Entry, entry_at, Err, false}
-use Rattle.gl_table.proofs.Words.{find, first_not_ix, first_of_all, first_refusal, fun_ext, get_or, Graph, graph_of, group_of, group_of-limit, header_at}
-use Rattle.gl_table.proofs.Words.{header_or_new, HeaderState, held_by, held_child, held_children, held_of, holds, if◌then◌else◌, IS, is_at_least, is_child}
-use Rattle.gl_table.proofs.Words.{is_empty, is_idle, is_live, is_row_of, is_some, is_write, IsDistinct, IsSound, IX, keys, keys_of, length, length-map, List}
-use Rattle.gl_table.proofs.Words.{list_all, list_any, ListsAgree, LockList, LockRow, lookup, lookup_from_place, map, Members, members, members_at, members_of}
-use Rattle.gl_table.proofs.Words.{Mode, mode_in, mode_of, nat_tests, NL, no, no_parents, node_equivalence, NodeId, nodes, None, none_some, not, not_false}
-use Rattle.gl_table.proofs.Words.{not_held, not_true, Ok, Option, option_copied, option_map, option_map_or, queue_of, range-from_each, refl, Refusal, Refuses}
-use Rattle.gl_table.proofs.Words.{RefusesOnly, Result, row_of, rows_of, rule_refusal, same_mode, same_node, shown, slice_get, slice_get-get_or, slice_get-map}
-use Rattle.gl_table.proofs.Words.{slot_limit, Some, split, StandOnce, State, state_of, subst, suc, sum_by-cons, sym, TableView, true, txns_of, unused-nobody}
-use Rattle.gl_table.proofs.Words.{verdict, view_of, where_true, zero, ℕ}
+use Rattle.gl_table.proofs.Words.{by_list, child_held, clash, cond, count_by, drop, drop-cons, Entry, entry_at, Err, false, find, first_not_ix, first_of_all}
+use Rattle.gl_table.proofs.Words.{first_refusal, get_or, Graph, group_of, group_of-limit, header_at, header_or_new, HeaderState, held_by, held_child}
+use Rattle.gl_table.proofs.Words.{held_children, held_of, holds, if◌then◌else◌, IS, is_at_least, is_child, is_empty, is_idle, is_row_of, is_some, is_write}
+use Rattle.gl_table.proofs.Words.{IsDistinct, IsSound, IX, keys, keys_of, length, length-map, List, list_all, list_any, ListsAgree, LockList, LockRow, lookup}
+use Rattle.gl_table.proofs.Words.{lookup_from_place, map, Members, members, members_at, members_of, Mode, mode_in, mode_of, nat_tests, NL, no, no_parents}
+use Rattle.gl_table.proofs.Words.{node_equivalence, NodeId, nodes, None, none_some, not, not_false, not_held, not_true, Ok, Option, option_copied, option_map}
+use Rattle.gl_table.proofs.Words.{option_map_or, queue_of, range-from_each, refl, Refusal, Refuses, RefusesOnly, Result, row_of, rows_of, rule_refusal}
+use Rattle.gl_table.proofs.Words.{same_mode, same_node, shown, slice_get, slice_get-get_or, slice_get-map, slot_limit, Some, split, StandOnce, State, state_of}
+use Rattle.gl_table.proofs.Words.{subst, suc, sum_by-cons, sym, TableView, true, txns_of, unused-nobody, verdict, view_of, where_true, zero, ℕ}
 use Rattle.gl_model.proofs.queues.Walks.{same}
 use Rattle.gl_model.proofs.telling.Lists.{place}
 use Rattle.gl_table.specs.declared.table.Table.TheInside.{Inside}
@@ -30,60 +29,45 @@ pub none_found_counted : (f : NodeId → Bool) (ns : List NodeId) → child_held
 none_found_counted f [] h = refl
 none_found_counted f (n ∷ ns) h = grind (arith, nat_tests, f n, none_found_counted f ns)
 
-module _ (i : Inside) (sound : IsSound i) (t : ℕ) (n : NodeId) where
-  abbrev s : State
-  s = state_of (view_of i)
+module _ (s : State) (t : ℕ) (n : NodeId) where
+  -- how many children of the node are held, where it is
+  abbrev pub children_in : Option ℕ
+  children_in = if holds (members s n) t then Some (held_children s t n) else None
 
-  abbrev ls : List LockList
-  ls = i.locks.lists.items
-
-  same_holder : (q : NodeId) → holds (λ u. held_by ls u q) t ≡ holds (members s q) t
-  same_holder q = ap (λ m. not (same_mode m NL)) ((sound.exact.agree t).modes q)
-
-  pub live_held : (c : NodeId) → holds (λ u. held_by ls u c) t ≡ true → is_live (graph_of i.graph) c ≡ true
-  live_held c h = (sound.lawful.grants_live t c (sym (same_holder c) ∙ h)).1
+  abbrev tests : Result (Unit {0}) Refusal
+  tests = verdict (first_refusal (not_held s t n ∷ held_child s t n ∷ []))
 
   -- what is answered, whether the node is held and which child is
   answer : (h : Bool) (o : Option NodeId) → holds (members s n) t ≡ h → find (λ c. is_child s.graph n c && holds (members s c) t) (nodes s.graph) ≡ o
-      → verdict (first_refusal (not_held s t n ∷ held_child s t n ∷ [])) ≡ verdict (first_refusal (where_true (not h) no.NotHeld ∷ child_held o ∷ []))
+      → tests ≡ verdict (first_refusal (where_true (not h) no.NotHeld ∷ child_held o ∷ []))
   answer h o e f = ap₂ (λ a b. verdict (first_refusal (where_true (not a) no.NotHeld ∷ child_held b ∷ []))) e f
 
-  holding : (k : ℕ) → Some k ≡ (if holds (λ u. held_by ls u n) t then Some (counted_by ls t n) else None) → (holds (members s n) t ≡ true)
-      × (k ≡ held_children s t n)
-  holding k e = by (holds (λ u. held_by ls u n) t) refl e
+  pub holding : (k : ℕ) → Some k ≡ children_in → (holds (members s n) t ≡ true) × (k ≡ held_children s t n)
+  holding k e = by (holds (members s n) t) refl e
     where
-      by : (b : Bool) → holds (λ u. held_by ls u n) t ≡ b → Some k ≡ (if b then Some (counted_by ls t n) else None) → (holds (members s n) t ≡ true)
-          × (k ≡ held_children s t n)
-      by true h q = let same : k ≡ counted_by ls t n = cc in (sym (same_holder n) ∙ h, same ∙ sound.exact.count t n)
+      by : (b : Bool) → holds (members s n) t ≡ b → Some k ≡ (if b then Some (held_children s t n) else None)
+          → (holds (members s n) t ≡ true) × (k ≡ held_children s t n)
+      by true h q = let same : k ≡ held_children s t n = cc in (h, same)
       by false h q = absurd (cc)
 
-  pub says_not_held : None ≡ (if holds (λ u. held_by ls u n) t then Some (counted_by ls t n) else None)
-      → Err no.NotHeld ≡ verdict (first_refusal (not_held s t n ∷ held_child s t n ∷ []))
-  says_not_held e = by (holds (λ u. held_by ls u n) t) refl e
+  pub says_not_held : None ≡ children_in → Err no.NotHeld ≡ tests
+  says_not_held e = by (holds (members s n) t) refl e
     where
-      by : (b : Bool) → holds (λ u. held_by ls u n) t ≡ b → None ≡ (if b then Some (counted_by ls t n) else None)
-          → Err no.NotHeld ≡ verdict (first_refusal (not_held s t n ∷ held_child s t n ∷ []))
+      by : (b : Bool) → holds (members s n) t ≡ b → None ≡ (if b then Some (held_children s t n) else None) → Err no.NotHeld ≡ tests
       by true h q = absurd (cc)
-      by false h q = sym (answer false (find (λ c. is_child s.graph n c && holds (members s c) t) (nodes s.graph)) (sym (same_holder n) ∙ h) refl)
+      by false h q = sym (answer false (find (λ c. is_child s.graph n c && holds (members s c) t) (nodes s.graph)) h refl)
 
-  pub says_none : (k : ℕ) → k ≡ 0 → Some k ≡ (if holds (λ u. held_by ls u n) t then Some (counted_by ls t n) else None)
-      → Ok tt ≡ verdict (first_refusal (not_held s t n ∷ held_child s t n ∷ []))
+  pub says_none : (k : ℕ) → k ≡ 0 → Some k ≡ children_in → Ok tt ≡ tests
   says_none k zero_is e = let h = holding k e in sym
       (answer true None h.0 (none_counted (λ c. is_child s.graph n c && holds (members s c) t) (nodes s.graph) (sym h.1 ∙ zero_is)))
 
-  same_found : find (λ c. is_child (graph_of i.graph) n c && holds (λ u. held_by ls u c) t) (nodes (graph_of i.graph))
-      ≡ find (λ c. is_child s.graph n c && holds (members s c) t) (nodes s.graph)
-  same_found = ap (λ (f : NodeId → Bool). find (λ c. is_child s.graph n c && f c) (nodes s.graph)) (fun_ext same_holder)
-
-  pub says_child : (k : ℕ) → Some k ≡ (if holds (λ u. held_by ls u n) t then Some (counted_by ls t n) else None) → (c : NodeId)
-      → Some c ≡ find (λ q. is_child (graph_of i.graph) n q && holds (λ u. held_by ls u q) t) (nodes (graph_of i.graph))
-      → Err (no.HeldChild c) ≡ verdict (first_refusal (not_held s t n ∷ held_child s t n ∷ []))
-  says_child k e c f = sym (answer true (Some c) (holding k e).0 (sym (f ∙ same_found)))
-
-  pub says_no_child : (k : ℕ) → Some k ≡ (if holds (λ u. held_by ls u n) t then Some (counted_by ls t n) else None)
-      → None ≡ find (λ q. is_child (graph_of i.graph) n q && holds (λ u. held_by ls u q) t) (nodes (graph_of i.graph))
-      → Ok tt ≡ verdict (first_refusal (not_held s t n ∷ held_child s t n ∷ []))
-  says_no_child k e f = sym (answer true None (holding k e).0 (sym (f ∙ same_found)))
+  pub says_child : (k : ℕ) → Some k ≡ children_in → (o : Option NodeId)
+      → o ≡ find (λ c. is_child s.graph n c && holds (members s c) t) (nodes s.graph) → verdict (child_held o) ≡ tests
+  says_child k e o f = first o ∙ sym (answer true o (holding k e).0 (sym f))
+    where
+      first : (o : Option NodeId) → verdict (child_held o) ≡ verdict (first_refusal (where_true false no.NotHeld ∷ child_held o ∷ []))
+      first None = refl
+      first (Some c) = refl
 
 -- a slot without list holds nothing
 pub no_list : (ls : List LockList) (g : Graph) (t : ℕ) (n : NodeId) → slice_get ls t ≡ None
@@ -108,8 +92,8 @@ past_end (l ∷ ls) (suc t) h = past_end ls t (omega arith)
 -- What is asked of a table: what its lists and headers say is what its state says.
 
 -- a node without header is idle, and no other is
-pub idle-seen : (i : Inside) → IsSound i → AreHeaders i.locks.headers.entries → (n : NodeId) (o : Option (Bor HeaderState)) (b : Bool)
-    → option_copied o ≡ header_at i.locks.headers.entries n → is_some o ≡ not b → b ≡ is_idle (state_of (view_of i)) n
+pub idle-seen : (i : Inside) → IsSound i → AreHeaders i.locks.ledger.headers.entries → (n : NodeId) (o : Option (Bor HeaderState)) (b : Bool)
+    → option_copied o ≡ header_at i.locks.ledger.headers.entries n → is_some o ≡ not b → b ≡ is_idle (state_of (view_of i)) n
 idle-seen i sound headers n None b is none =
     not_false b (sym none)
     ∙ sym (free-idle (state_of (view_of i)) n (λ u. ap (λ o. members_of (header_or_new o) u) (sym is) ∙ ap (λ (g : Members). g u) unused-nobody)
@@ -155,26 +139,14 @@ module _ (A : Type 0) {B : Type 0} (o : Option Refusal) (r : Refusal) (result : 
       by (Some x) h = cc
 
 module _ (i : Inside) (sound : IsSound i) (v : TableView) (view : view_of i ≡ v) where
-  pub modes-seen : (t : ℕ) (n : NodeId) → held_by i.locks.lists.items t n ≡ (state_of v).held t n
-  modes-seen t n = (sound.exact.agree t).modes n ∙ ap (λ w. (state_of w).held t n) view
-
-  pub counts-seen : (t : ℕ) (n : NodeId) → counted_by i.locks.lists.items t n ≡ held_children (state_of v) t n
-  counts-seen t n = sound.exact.count t n ∙ ap (λ w. held_children (state_of w) t n) view
-
-  pub effect-seen : (t : ℕ) (n : NodeId) → effect_on (graph_of i.graph) (held_by i.locks.lists.items t) n ≡ effective (state_of v) t n
-  effect-seen t n = ap₂ (λ w h. effect_on (graph_of w.graph) h n) view (fun_ext (modes-seen t))
-
-  pub group-seen : (n : NodeId) → group_of slot_limit (members_at i.locks.headers.entries n) ≡ group_of (state_of v).most (members (state_of v) n)
+  pub group-seen : (n : NodeId) → group_of slot_limit (members_at i.locks.ledger.headers.entries n) ≡ group_of (state_of v).most (members (state_of v) n)
   group-seen n =
-      sym (group_of-limit (length i.locks.seats.items) (members_at i.locks.headers.entries n) sound.exact.sound.few
+      sym (group_of-limit (length i.locks.ledger.seats.items) (members_at i.locks.ledger.headers.entries n) i.locks.sound.few
       (lawful-within (state_of (view_of i)) sound.lawful n)) ∙ ap (λ w. group_of (state_of w).most (members (state_of w) n)) view
 
-  pub children-seen : (t : ℕ) (n : NodeId) → (if holds (λ u. held_by i.locks.lists.items u n) t then Some (counted_by i.locks.lists.items t n) else None)
-      ≡ (if holds (members (state_of v) n) t then Some (held_children (state_of v) t n) else None)
-  children-seen t n = ap₂ (λ m k. if holds (λ u. m) t then Some k else None) (modes-seen t n) (counts-seen t n)
-
   -- a board is made of who lives, holds and waits alone
-  pub board-seen : (epoch : ℕ) → board_of (shown i.locks.headers.entries i.locks.seats.items epoch) ≡ board_of (record (state_of v) { accepted = epoch })
+  pub board-seen : (epoch : ℕ) → board_of (shown i.locks.ledger.headers.entries i.locks.ledger.seats.items epoch) ≡ board_of (record
+      (state_of v) { accepted = epoch })
   board-seen epoch = λ z. board_of (record (state_of v) {
     txns = txns_of (view z).seats;
     held = held_of (view z).headers;
@@ -278,13 +250,6 @@ no_writes ls g t n e = sym (none_passes (nodes g))
     none_passes : (ns : List NodeId) → list_any (λ c. is_child g n c && is_write (held_by ls t c)) ns ≡ false
     none_passes [] = refl
     none_passes (c ∷ ns) = ap₂ (λ a b. a || b) (fails c) (none_passes ns)
-
--- what the lists say is held to write is what the state says
-pub writes-seen : (i : Inside) → IsSound i → (v : TableView) → view_of i ≡ v → (t : ℕ) (n : NodeId)
-    → list_any (λ c. is_child (graph_of i.graph) n c && is_write (held_by i.locks.lists.items t c)) (nodes (graph_of i.graph))
-    ≡ list_any (λ c. is_child (state_of v).graph n c && is_write ((state_of v).held t c)) (nodes (state_of v).graph)
-writes-seen i sound v view t n = ap₂ (λ (w : TableView) (h : NodeId → Mode). list_any (λ c. is_child (graph_of w.graph) n c && is_write (h c))
-    (nodes (graph_of w.graph))) view (fun_ext (modes-seen i sound v view t))
 
 -- The rule of the graph, as it is tested.
 

@@ -1,20 +1,23 @@
 -- Records come and go, and children are shed: what it makes of a table. For those calls.
 use Rattle.gl_table.proofs.Words.{[], ◌&&◌, ◌+◌, ◌-◌, ◌==◌, ◌||◌, ◌∙◌, ◌∷◌, ◌≡◌, ◌≤◌, Active, addressed, age_in, age_of, Agrees, and_both, ap, are_compatible}
-use Rattle.gl_table.proofs.Words.{AreExact, AreSound, arith, Bool, children_that, clash, cond, count_by, count_cons, counted_by, CountsHeld, covered_children}
-use Rattle.gl_table.proofs.Words.{deleted, false, first_not_ix, freed, granted_at, Graph, graph_of, HasNoCycle, held_by, held_children, holds, holds_child}
-use Rattle.gl_table.proofs.Words.{IfOk, if◌then◌else◌, is_among_waiters, is_at_least, is_child, is_covered, is_idle, is_live, is_record_shape, is_some, is_wait}
-use Rattle.gl_table.proofs.Words.{is_waiting_at, IsAdopted, IsBorn, IsLawful, IsOrderly, IsRoomyRecord, IsSound, IsTold, KeepsLists, keys, length, List}
-use Rattle.gl_table.proofs.Words.{list_all, listed, members, Mode, nat_tests, NL, NodeId, nodes, None, none_but, not, not_true, notice_of, notices_in}
-use Rattle.gl_table.proofs.Words.{number_same, OnErr, Option, other_number, parents_of, Rec, record_parents, record_refusal, record_unrefused, refl, Refusal}
-use Rattle.gl_table.proofs.Words.{Refuses, Result, rules, S, same_mode, same_mode-equal, same_node-refl, same_number, shape_of, shed, Some, split, State}
-use Rattle.gl_table.proofs.Words.{state_in, state_of, state_on, status_in, status_of, subst, sym, TellsOthers, Told, told, told_from, told_to, true, Txn, TxnId}
-use Rattle.gl_table.proofs.Words.{unwrap_or, View, view_of, Waiting, with_grant, with_graph, with_key, without_node, X, ℕ}
+use Rattle.gl_table.proofs.Words.{AreExact, AreSound, arith, Bool, children_that, clash, cond, count_by, count_cons, CountsHeld, covered_children, deleted}
+use Rattle.gl_table.proofs.Words.{false, first_not_ix, freed, granted_at, Graph, graph_of, HasNoCycle, held_children, holds, holds_child, IfOk, if◌then◌else◌}
+use Rattle.gl_table.proofs.Words.{is_among_waiters, is_at_least, is_child, is_covered, is_idle, is_live, is_record_shape, is_some, is_wait, is_waiting_at}
+use Rattle.gl_table.proofs.Words.{IsAdopted, IsBorn, IsLawful, IsOrderly, IsRoomyRecord, IsSound, IsTold, KeepsLocks, keys, length, List, list_all, listed}
+use Rattle.gl_table.proofs.Words.{members, Mode, nat_tests, NL, NodeId, nodes, None, none_but, not, not_true, notice_of, notices_in, number_same, OnErr, Option}
+use Rattle.gl_table.proofs.Words.{other_number, parents_of, Rec, record_parents, record_refusal, record_unrefused, refl, Refusal, Refuses, Result, rules, S}
+use Rattle.gl_table.proofs.Words.{same_mode, same_mode-equal, same_node-refl, same_number, shape_of, shed, Some, split, State, state_at, state_in, state_of}
+use Rattle.gl_table.proofs.Words.{state_on, status_in, status_of, subst, sym, TellsOthers, Told, told, told_from, told_to, true, Txn, TxnId, unwrap_or, View}
+use Rattle.gl_table.proofs.Words.{view_of, Waiting, with_grant, with_graph, with_key, without_node, X, ℕ}
 use Rattle.gl_model.proofs.queues.Walks.{same}
+use Rattle.gl_table.specs.declared.ledger.Ledger.{Ledger}
 use Rattle.gl_table.specs.declared.locks.Locks.{Locks}
 use Rattle.gl_table.specs.declared.table.Table.TheInside.{Inside}
 use Rattle.gl_model.specs.declared.answers.Notice.TheVariants as notice
-use Rattle.gl_table.proofs.calls.Calls.{lawful_orderly, table_way}
-use Rattle.gl_table.proofs.calls.Law.{called-sound, held-lives, Suits, suited-sound}
+use Rattle.gl_table.proofs.calls.Calls.{table_way}
+use Rattle.gl_table.proofs.calls.Stands.{lawful_orderly, MayStand, stands, with_locks}
+use Rattle.gl_table.proofs.calls.Law.{called, held-lives, Suits, suited-stands}
+use Rattle.gl_table.proofs.calls.Queries.{children_in}
 use Rattle.gl_table.proofs.inside.Asks.{state-same}
 use Rattle.gl_table.proofs.inside.Slots.{keeps-agrees, keeps-counts}
 use Rattle.gl_model.proofs.law.Lock.{granted-no_cycle, shed-no_cycle}
@@ -69,94 +72,84 @@ deleted_tells s o r u = split (is_among_waiters u (s.queue r)) (λ e.
     now : State
     now = deleted s r
 
-module _ (i : Inside) (sound : IsSound i) (r : NodeId) (rec : is_record_shape (shape_of (graph_of i.graph) r) ≡ true)
-    (locks : Locks) (v : View) (removed : graph_of v ≡ without_node (graph_of i.graph) r)
-    (is : state_on (without_node (graph_of i.graph) r) locks ≡ deleted (state_in i.graph i.locks) r) where
+module _ (i : Inside) (sound : IsSound i) (r : NodeId) (rec : is_record_shape (shape_of (graph_of i.locks.graph) r) ≡ true)
+    (ledger : Ledger) (v : View) (removed : graph_of v ≡ without_node (graph_of i.locks.graph) r)
+    (is : state_on (without_node (graph_of i.locks.graph) r) ledger ≡ deleted (state_at i.locks) r) where
   abbrev s : State
   s = state_of (view_of i)
 
   abbrev l : State
-  l = state_in i.graph i.locks
+  l = state_at i.locks
 
-  abbrev after : Inside
-  after = record i { graph = v; locks = locks }
+  on_locks : state_in v ledger ≡ deleted l r
+  on_locks = ap (λ g. state_on g ledger) removed ∙ is
 
-  on_locks : state_in v locks ≡ deleted l r
-  on_locks = ap (λ g. state_on g locks) removed ∙ is
+  pub state_deleted : with_locks i (state_in v ledger) ≡ deleted s r
+  state_deleted = ap {A = State} (with_locks i) on_locks
 
-  pub state_deleted : state_of (view_of after) ≡ deleted s r
-  state_deleted = ap {A = State} (λ x. record x { detect = i.detect; victims = i.victims; begins = i.begins }) on_locks
-
-  pub sound_deleted : AreSound locks → ((u : ℕ) → Agrees (deleted l r) locks.lists.items u) → ((u : ℕ) → CountsHeld (deleted l r) locks.lists.items u)
-      → IsSound after
-  sound_deleted are agrees counts = record {
+  pub stands_deleted : AreSound ledger → ((u : ℕ) → Agrees (deleted l r) ledger.lists.items u)
+      → ((u : ℕ) → CountsHeld (deleted l r) ledger.lists.items u) → MayStand i v ledger
+  stands_deleted are agrees counts = stands i v ledger (record {
     lawful = subst IsLawful (sym state_deleted) (deleted_lawful s sound.lawful r rec);
-    exact = record {
-      sound = are;
-      agree = λ u. subst (λ x. Agrees x locks.lists.items u) (sym on_locks) (agrees u);
-      count = λ u. subst (λ x. CountsHeld x locks.lists.items u) (sym on_locks) (counts u);
-    };
     no_cycle = λ at. subst HasNoCycle (sym state_deleted) (deleted-no_cycle s r (sound.no_cycle at));
-  }
+  }) (record {
+    sound = are;
+    agree = λ u. subst (λ x. Agrees x ledger.lists.items u) (sym on_locks) (agrees u);
+    count = λ u. subst (λ x. CountsHeld x ledger.lists.items u) (sym on_locks) (counts u);
+  })
 
-  pub told_deleted : (list : Told) → IsTold l.txns (λ u. is_among_waiters u (s.queue r)) (λ u. notice.Gone) [] list → list ≡ told s (state_of (view_of after))
+  pub told_deleted : (list : Told) → IsTold l.txns (λ u. is_among_waiters u (s.queue r)) (λ u. notice.Gone) [] list
+      → list ≡ told s (with_locks i (state_in v ledger))
   told_deleted list tells =
-      told_is s (state_of (view_of after)) list sound.lawful sound.exact.sound.few tells.by_slot
+      told_is s (with_locks i (state_in v ledger)) list sound.lawful i.locks.sound.few tells.by_slot
       (λ u. tells.notices u ∙ deleted_tells s (lawful_orderly s sound.lawful) r u ∙ sym (ap (λ x. told_to s x u) state_deleted))
 
 -- A record is made in a table, and one transaction holds it in X: what holds of the fields still does.
 
 -- room was made, and all says what it said
-module _ (i : Inside) (sound : IsSound i) (locks : Locks) (headers : locks.headers.entries ≡ i.locks.headers.entries) (seats : locks.seats ≡ i.locks.seats)
-    (lists : KeepsLists i.locks.lists.items locks.lists.items) where
-  abbrev roomy : Inside
-  roomy = record i { locks = locks }
+module _ (i : Inside) (sound : IsSound i) (ledger : Ledger) (kept : KeepsLocks i.locks.ledger ledger) where
+  same_on : (g : Graph) → state_on g ledger ≡ state_on g i.locks.ledger
+  same_on g = state-same g i.locks.ledger ledger kept.headers kept.seats
 
-  same_on : (g : Graph) → state_on g locks ≡ state_on g i.locks
-  same_on g = state-same g i.locks locks headers seats
+  pub same_state : with_locks i (state_in i.locks.graph ledger) ≡ state_of (view_of i)
+  same_state = ap {A = State} (with_locks i) (same_on (graph_of i.locks.graph))
 
-  pub same_state : state_of (view_of roomy) ≡ state_of (view_of i)
-  same_state = ap {A = State} (λ x. record x { detect = i.detect; victims = i.victims; begins = i.begins }) (same_on (graph_of i.graph))
-
-  pub sound_roomy : IsSound roomy
-  sound_roomy = record {
+  pub stands_roomy : MayStand i i.locks.graph ledger
+  stands_roomy = stands i i.locks.graph ledger (record {
     lawful = subst IsLawful (sym same_state) sound.lawful;
-    exact = record {
-      sound = record {
-        few = subst (λ (k : ℕ). k ≤ 128) (sym many) sound.exact.sound.few;
-        lists = lists.len ∙ sound.exact.sound.lists ∙ sym many;
-        apart = lists.apart sound.exact.sound.apart;
-      };
-      agree = λ u. subst (λ x. Agrees x locks.lists.items u) (sym (same_on (graph_of i.graph)))
-          (keeps-agrees (state_in i.graph i.locks) i.locks.lists.items locks.lists.items u lists (sound.exact.agree u));
-      count = λ u. subst (λ x. CountsHeld x locks.lists.items u) (sym (same_on (graph_of i.graph)))
-          (keeps-counts (state_in i.graph i.locks) i.locks.lists.items locks.lists.items u lists (sound.exact.count u));
-    };
     no_cycle = λ at. subst HasNoCycle (sym same_state) (sound.no_cycle at);
-  }
+  }) (record {
+    sound = record {
+      few = subst (λ (k : ℕ). k ≤ 128) (sym many) i.locks.sound.few;
+      lists = kept.lists.len ∙ i.locks.sound.lists ∙ sym many;
+      apart = kept.lists.apart i.locks.sound.apart;
+    };
+    agree = λ u. subst (λ x. Agrees x ledger.lists.items u) (sym (same_on (graph_of i.locks.graph)))
+        (keeps-agrees (state_at i.locks) i.locks.ledger.lists.items ledger.lists.items u kept.lists (i.locks.agree u));
+    count = λ u. subst (λ x. CountsHeld x ledger.lists.items u) (sym (same_on (graph_of i.locks.graph)))
+        (keeps-counts (state_at i.locks) i.locks.ledger.lists.items ledger.lists.items u kept.lists (i.locks.count u));
+  })
     where
-      many : length locks.seats.items ≡ length i.locks.seats.items
-      many = ap (λ x. length x.items) seats
+      many : length ledger.seats.items ≡ length i.locks.ledger.seats.items
+      many = ap (λ x. length x.items) kept.seats
 
-module _ (i : Inside) (sound : IsSound i) (f : NodeId) (keys : List ℕ) (free : record_refusal (graph_of i.graph) f keys ≡ None) (v : View) where
+module _ (i : Inside) (sound : IsSound i) (f : NodeId) (keys : List ℕ) (free : record_refusal (graph_of i.locks.graph) f keys ≡ None) (v : View) where
   abbrev before : State
   before = state_of (view_of i)
 
-  abbrev grown : Inside
-  grown = record i { graph = v }
-
-  roomy_record : IsRoomyRecord (graph_of i.graph) f keys
-  roomy_record = record_unrefused (graph_of i.graph) f keys free
+  roomy_record : IsRoomyRecord (graph_of i.locks.graph) f keys
+  roomy_record = record_unrefused (graph_of i.locks.graph) f keys free
 
   -- the graph was asked for the record
-  pub sound_grown : (r : Result NodeId Refusal) → Refuses (record_refusal (graph_of i.graph) f keys) r
-      → IfOk r (λ n. IsBorn (graph_of i.graph) (graph_of v) n (Rec keys) (record_parents (graph_of i.graph) f keys)) → OnErr r (v ≡ i.graph) → IsSound grown
-  sound_grown r refuses made same =
-      called-sound i sound v (record_refusal (graph_of i.graph) f keys) r
-      (λ n. IsBorn (graph_of i.graph) (graph_of v) n (Rec keys) (record_parents (graph_of i.graph) f keys)) refuses made same
+  pub stands_grown : (r : Result NodeId Refusal) → Refuses (record_refusal (graph_of i.locks.graph) f keys) r
+      → IfOk r (λ n. IsBorn (graph_of i.locks.graph) (graph_of v) n (Rec keys) (record_parents (graph_of i.locks.graph) f keys))
+      → OnErr r (v ≡ i.locks.graph) → MayStand i v i.locks.ledger
+  stands_grown r refuses made same =
+      called i sound v (record_refusal (graph_of i.locks.graph) f keys) r
+      (λ n. IsBorn (graph_of i.locks.graph) (graph_of v) n (Rec keys) (record_parents (graph_of i.locks.graph) f keys)) refuses made same
       (λ n free' born. record-grows before sound.lawful f keys roomy_record.file roomy_record.each roomy_record.room (graph_of v) n born)
 
-  module _ (n : NodeId) (born : IsBorn (graph_of i.graph) (graph_of v) n (Rec keys) (record_parents (graph_of i.graph) f keys)) where
+  module _ (n : NodeId) (born : IsBorn (graph_of i.locks.graph) (graph_of v) n (Rec keys) (record_parents (graph_of i.locks.graph) f keys)) where
     pub record_lives : is_live (graph_of v) n ≡ true
     record_lives = born-live before sound.lawful f keys roomy_record.file roomy_record.each roomy_record.room (graph_of v) n born
 
@@ -167,21 +160,17 @@ module _ (i : Inside) (sound : IsSound i) (f : NodeId) (keys : List ℕ) (free :
     record_unawaited = born-unawaited before sound.lawful f keys roomy_record.file roomy_record.each roomy_record.room (graph_of v) n born
 
     -- the slot holds it
-    module _ (t : ℕ) (locks : Locks) (is : state_in v locks ≡ with_grant (state_in v i.locks) t n X) where
-      abbrev placed_in : Inside
-      placed_in = record grown { locks = locks }
+    module _ (t : ℕ) (ledger : Ledger) (is : state_in v ledger ≡ with_grant (state_in v i.locks.ledger) t n X) where
+      pub state_placed : with_locks i (state_in v ledger) ≡ with_grant (with_graph before (graph_of v)) t n X
+      state_placed = ap {A = State} (with_locks i) is
 
-      pub state_placed : state_of (view_of placed_in) ≡ with_grant (with_graph before (graph_of v)) t n X
-      state_placed = ap {A = State} (λ x. record x { detect = i.detect; victims = i.victims; begins = i.begins }) is
-
-      pub sound_placed : status_of before t ≡ Some Active → first_not_ix (before.held t) (record_parents (graph_of i.graph) f keys) ≡ None
-          → AreExact v locks → IsSound placed_in
-      sound_placed active rule exact = record {
+      pub stands_placed : status_of before t ≡ Some Active → first_not_ix (before.held t) (record_parents (graph_of i.locks.graph) f keys) ≡ None
+          → AreExact v ledger → MayStand i v ledger
+      stands_placed active rule exact = stands i v ledger (record {
         lawful = subst IsLawful (sym state_placed) (placed-lawful before sound.lawful f keys roomy_record.file roomy_record.each roomy_record.room (graph_of v)
             n born t active rule);
-        exact = exact;
         no_cycle = λ at. subst HasNoCycle (sym state_placed) (granted-no_cycle (with_graph before (graph_of v)) t n X active (sound.no_cycle at));
-      }
+      }) exact
 
 -- A record that nobody holds comes or goes: what holds of a table's fields still does.
 
@@ -189,20 +178,20 @@ module _ (i : Inside) (sound : IsSound i) (v : View) where
   abbrev standing : State
   standing = state_of (view_of i)
 
-  pub adopted-suits : (n f : NodeId) (keys : List ℕ) → record_refusal (graph_of i.graph) f keys ≡ None
-      → IsAdopted (graph_of i.graph) (graph_of v) n f keys → Suits i sound v
+  pub adopted-suits : (n f : NodeId) (keys : List ℕ) → record_refusal (graph_of i.locks.graph) f keys ≡ None
+      → IsAdopted (graph_of i.locks.graph) (graph_of v) n f keys → Suits i sound v
   adopted-suits n f keys free born = record {
     lawful = adopted-lawful standing sound.lawful (graph_of v) n f keys free born;
     counts = λ u p. adopted-children standing sound.lawful (graph_of v) n f keys free born (λ c. holds (members standing c) u) (held-lives i sound v u) p;
   }
 
-  pub forgotten-sound : (r : NodeId) → is_record_shape (shape_of (graph_of i.graph) r) ≡ true → is_idle standing r ≡ true
-      → graph_of v ≡ without_node (graph_of i.graph) r → IsSound (record i { graph = v })
-  forgotten-sound r rec idle is = suited-sound i sound v (record {
+  pub forgotten-stands : (r : NodeId) → is_record_shape (shape_of (graph_of i.locks.graph) r) ≡ true → is_idle standing r ≡ true
+      → graph_of v ≡ without_node (graph_of i.locks.graph) r → MayStand i v i.locks.ledger
+  forgotten-stands r rec idle is = suited-stands i sound v (record {
     lawful = subst (λ g. IsLawful (with_graph standing g)) (sym is) (forgotten-lawful standing sound.lawful r rec idle);
     counts = λ u p. let held : NodeId → Bool = λ c. holds (members standing c) u in
         ap (λ g. children_that g held p) is
-        ∙ children-left (graph_of i.graph) sound.lawful.graph r rec held (unheld-there standing sound.lawful r rec idle u) p;
+        ∙ children-left (graph_of i.locks.graph) sound.lawful.graph r rec held (unheld-there standing sound.lawful r rec idle u) p;
   })
 
 -- A table that sheds covered children.
@@ -221,10 +210,9 @@ reads_held : (m : Mode) → is_at_least m S ≡ true → not (same_mode m NL) �
 reads_held m h = search rules
 
 -- of a node that is held, how many children are held is what is said
-children_said : (i : Inside) → IsSound i → (t : ℕ) (n : NodeId) → holds (members (state_of (view_of i)) n) t ≡ true → (o : Option ℕ)
-    → o ≡ (if holds (λ u. held_by i.locks.lists.items u n) t then Some (counted_by i.locks.lists.items t n) else None) → (k : ℕ) → k ≡ unwrap_or o 0
-    → k ≡ held_children (state_of (view_of i)) t n
-children_said i sound t n h o said k is = grind (arith, nat_tests, is, said, (sound.exact.agree t).modes n, h, sound.exact.count t n)
+children_said : (s : State) (t : ℕ) (n : NodeId) → holds (members s n) t ≡ true → (o : Option ℕ) → o ≡ children_in s t n → (k : ℕ) → k ≡ unwrap_or o 0
+    → k ≡ held_children s t n
+children_said s t n h o said k is = is ∙ ap (λ x. unwrap_or x 0) (said ∙ ap (λ b. if b then Some (held_children s t n) else None) h)
 
 -- what an active slot holds of a node that covers some of its children
 module _ (i : Inside) (sound : IsSound i) (t : ℕ) (n : NodeId) where
@@ -265,31 +253,29 @@ module _ (i : Inside) (sound : IsSound i) (t : ℕ) (n : NodeId) where
             first : (a b d : Bool) → (a && b && d) ≡ true → a ≡ true
             first a b d h1 = grind (arith, nat_tests)
 
-    module _ (locks : Locks) (is : state_in i.graph locks ≡ shed (state_in i.graph i.locks) t n) where
+    module _ (locks : Locks) (is : state_at locks ≡ shed (state_at i.locks) t n) where
       abbrev ended : Inside
       ended = record i { locks = locks }
 
       pub state_shed : state_of (view_of ended) ≡ shed whole t n
       state_shed = ap {A = State} (λ x. record x { detect = i.detect; victims = i.victims; begins = i.begins }) is
 
-      pub sound_shed : AreExact i.graph locks → IsSound ended
-      sound_shed exact = record {
+      pub sound_shed : IsSound ended
+      sound_shed = record {
         lawful = subst IsLawful (sym state_shed) (shed-lawful whole sound.lawful t n active);
-        exact = exact;
         no_cycle = λ at. subst HasNoCycle (sym state_shed) (shed-no_cycle whole sound.lawful t n active (sound.no_cycle at));
       }
 
-      pub told_shed : (first list : Told) → first ≡ [] → TellsOthers t (state_in i.graph i.locks) (state_in i.graph locks) first list
+      pub told_shed : (first list : Told) → first ≡ [] → TellsOthers t (state_at i.locks) (state_at locks) first list
           → list ≡ told whole (state_of (view_of ended))
       told_shed first list none tells =
-          told_is whole (state_of (view_of ended)) list sound.lawful sound.exact.sound.few tells.by_slot (λ u. split (u == t)
+          told_is whole (state_of (view_of ended)) list sound.lawful i.locks.sound.few tells.by_slot (λ u. split (u == t)
           (λ e. let is = same_number u t e in ap (notices_in list) is ∙ tells.own ∙ ap (λ xs. notices_in xs t) none
           ∙ sym (active_untold whole (state_of (view_of ended)) u (ap (status_of whole) is ∙ active)))
           (λ e. tells.others whole (table_way i sound) (λ v k. ap (λ xs. notices_in xs v) none ∙ sym (nobody_told whole v)) u e))
 
-      module _ (exact : AreExact i.graph locks) (reads : is_at_least (whole.held t n) S ≡ true) (o o' : Option ℕ)
-          (said : o ≡ (if holds (λ u. held_by i.locks.lists.items u n) t then Some (counted_by i.locks.lists.items t n) else None))
-          (said' : o' ≡ (if holds (λ u. held_by locks.lists.items u n) t then Some (counted_by locks.lists.items t n) else None)) (k k' : ℕ)
+      module _ (reads : is_at_least (whole.held t n) S ≡ true) (o o' : Option ℕ)
+          (said : o ≡ children_in whole t n) (said' : o' ≡ children_in (state_of (view_of ended)) t n) (k k' : ℕ)
           (held : k ≡ unwrap_or o 0) (kept : k' ≡ unwrap_or o' 0) where
         -- the node is no child of its own, and stays
         uncovered : is_covered whole t n n ≡ false
@@ -301,11 +287,11 @@ module _ (i : Inside) (sound : IsSound i) (t : ℕ) (n : NodeId) where
             (listed whole.graph sound.lawful.graph n (sound.lawful.grants_live t n (reads_held (whole.held t n) reads)).1))))
 
         counted_first : k ≡ held_children whole t n
-        counted_first = children_said i sound t n (reads_held (whole.held t n) reads) o said k held
+        counted_first = children_said whole t n (reads_held (whole.held t n) reads) o said k held
 
         shed_in : k' ≡ held_children (shed whole t n) t n
         shed_in =
-            children_said ended (sound_shed exact) t n (ap (λ (x : State). holds (members x n) t) state_shed
+            children_said (state_of (view_of ended)) t n (ap (λ (x : State). holds (members x n) t) state_shed
             ∙ ap (λ m. not (same_mode m NL)) (shed_own n ∙ ap (λ b. if b then NL else whole.held t n) uncovered) ∙ reads_held (whole.held t n) reads)
             o' said' k' kept ∙ ap (λ (x : State). held_children x t n) state_shed
 

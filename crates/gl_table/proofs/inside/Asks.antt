@@ -8,7 +8,7 @@ use Rattle.gl_table.proofs.Words.{members, members_at, members_of, Mode, mode_of
 use Rattle.gl_table.proofs.Words.{parents_of, queue_of, refl, same_mode, same_node, same_node-equal, same_node-from_equal, same_node-refl, same_number}
 use Rattle.gl_table.proofs.Words.{slice_index_or, slot_limit, Some, spare, split, State, state_on, status_of, subst, supremum, supremum-not_NL, sym, true}
 use Rattle.gl_table.proofs.Words.{unlisted, Waiter, wanted, with_grant, with_members, with_mode, with_waiters, ℕ}
-use Rattle.gl_table.specs.declared.locks.Locks.{Locks}
+use Rattle.gl_table.specs.declared.ledger.Ledger.{Ledger}
 use Rattle.gl_header.specs.declared.header.Asked.TheVariants as asked
 use Rattle.gl_header.proofs.Changed.{nobody-enters, with_waiters-same}
 use Rattle.gl_table.proofs.inside.Slots.{by_list-at, HasNode, keeps-agrees, keeps-counts, slice_get-at}
@@ -21,7 +21,7 @@ use Rattle.gl_header.proofs.Unused.{unused-false}
 -- What is known of an active slot that asks for a node, and of its list.
 
 -- the slot is active, and the lists say what the headers say
-pub record MayAsk (g : Graph) (l : Locks) (t : ℕ) : Type 0 where
+pub record MayAsk (g : Graph) (l : Ledger) (t : ℕ) : Type 0 where
   pub sound : AreSound l
   pub orderly : IsOrderly (state_on g l)
   pub agree : (u : ℕ) → Agrees (state_on g l) l.lists.items u
@@ -29,20 +29,20 @@ pub record MayAsk (g : Graph) (l : Locks) (t : ℕ) : Type 0 where
   pub active : status_of (state_on g l) t ≡ Some Active
 
 -- room was made in the list of the slot, if it was wanted; all says what it said
-pub record HasMadeRoom (l l' : Locks) (t : ℕ) (wanted : Bool) : Type 0 where
+pub record HasMadeRoom (l l' : Ledger) (t : ℕ) (wanted : Bool) : Type 0 where
   pub headers : l'.headers ≡ l.headers
   pub seats : l'.seats ≡ l.seats
   pub lists : KeepsLists l.lists.items l'.lists.items
   pub room : wanted ≡ true → HasRoomAt l'.lists.items t
 
 -- headers and seats alone make the state
-pub state-same : (g : Graph) (l l' : Locks) → l'.headers.entries ≡ l.headers.entries → l'.seats ≡ l.seats → state_on g l' ≡ state_on g l
+pub state-same : (g : Graph) (l l' : Ledger) → l'.headers.entries ≡ l.headers.entries → l'.seats ≡ l.seats → state_on g l' ≡ state_on g l
 state-same g l l' headers seats = λ i. record (state_on g (record l { seats = seats i })) { held = held_of (headers i); queue = queue_of (headers i) }
 
-pub room-state : (g : Graph) (l l' : Locks) (t : ℕ) (wanted : Bool) → HasMadeRoom l l' t wanted → state_on g l' ≡ state_on g l
+pub room-state : (g : Graph) (l l' : Ledger) (t : ℕ) (wanted : Bool) → HasMadeRoom l l' t wanted → state_on g l' ≡ state_on g l
 room-state g l l' t wanted made = state-same g l l' (ap (λ h. h.entries) made.headers) made.seats
 
-pub room-may_ask : (g : Graph) (l l' : Locks) (t : ℕ) (wanted : Bool) → HasMadeRoom l l' t wanted → MayAsk g l t → MayAsk g l' t
+pub room-may_ask : (g : Graph) (l l' : Ledger) (t : ℕ) (wanted : Bool) → HasMadeRoom l l' t wanted → MayAsk g l t → MayAsk g l' t
 room-may_ask g l l' t wanted made may = record {
   sound = record {
     few = subst (λ (k : ℕ). k ≤ 128) (sym seats) may.sound.few;
@@ -61,7 +61,7 @@ room-may_ask g l l' t wanted made may = record {
     seats : length l'.seats.items ≡ length l.seats.items
     seats = ap (λ x. length x.items) made.seats
 
-module _ (g : Graph) (l : Locks) (t : ℕ) (may : MayAsk g l t) where
+module _ (g : Graph) (l : Ledger) (t : ℕ) (may : MayAsk g l t) where
   abbrev s : State
   s = state_on g l
 
@@ -114,14 +114,14 @@ parents-room g law n x room =
 
 -- room was made for an ask, which a conversion that is granted at once does not need; the flags say whether the slot holds the node, and whether the ask is
 -- granted at once
-pub record IsReady (g : Graph) (l l' : Locks) (t : ℕ) (n : NodeId) (m : Mode) (held now : Bool) : Type 0 where
+pub record IsReady (g : Graph) (l l' : Ledger) (t : ℕ) (n : NodeId) (m : Mode) (held now : Bool) : Type 0 where
   pub may : MayAsk g l' t
   pub same : state_on g l' ≡ state_on g l
   pub room : (held && now) ≡ false → HasRoomAt l'.lists.items t
   pub enters : enters slot_limit (members_at l'.headers.entries n) (queue_of l'.headers.entries n) t (wanted (state_on g l') t n m) ≡ now
   pub is_held : holds (members (state_on g l') n) t ≡ held
 
-pub is_ready : (g : Graph) (l l' : Locks) (t : ℕ) (n : NodeId) (m : Mode) (held now : Bool) → MayAsk g l t → enters_at (state_on g l) t n m ≡ now
+pub is_ready : (g : Graph) (l l' : Ledger) (t : ℕ) (n : NodeId) (m : Mode) (held now : Bool) → MayAsk g l t → enters_at (state_on g l) t n m ≡ now
     → held ≡ holds (members (state_on g l) n) t → HasMadeRoom l l' t (not (held && now)) → IsReady g l l' t n m held now
 is_ready g l l' t n m held now may enters held_is made = record {
   may = may_now;
@@ -138,11 +138,11 @@ is_ready g l l' t n m held now may enters held_is made = record {
     may_now = room-may_ask g l l' t (not (held && now)) made may
 
 -- what the header of a node says of an ask is what the state says
-pub says_is : (g : Graph) (l : Locks) (t : ℕ) (n : NodeId) (m : Mode) → MayAsk g l t → is_granted_at l.headers.entries t n m ≡ enters_at (state_on g l) t n m
+pub says_is : (g : Graph) (l : Ledger) (t : ℕ) (n : NodeId) (m : Mode) → MayAsk g l t → is_granted_at l.headers.entries t n m ≡ enters_at (state_on g l) t n m
 says_is g l t n m may = sym (enters-most (state_on g l) may.orderly may.sound.few t n (wanted (state_on g l) t n m))
 
 -- room was made in the lists alone
-module _ {g : Graph} {l : Locks} (l' : Locks) {t : ℕ} (may : MayAsk g l t) (rest : l' ≡ record l { lists = l'.lists })
+module _ {g : Graph} {l : Ledger} (l' : Ledger) {t : ℕ} (may : MayAsk g l t) (rest : l' ≡ record l { lists = l'.lists })
     (lists : KeepsLists l.lists.items l'.lists.items) where
   only_room : (wanted : Bool) → (wanted ≡ true → HasRoomAt l'.lists.items t) → HasMadeRoom l l' t wanted
   only_room wanted room = record { headers = ap (λ x. x.headers) rest; seats = ap (λ x. x.seats) rest; lists = lists; room = room }
@@ -256,7 +256,7 @@ pub answer-waits : (enters : Bool) (a : Asked) (m : Mode) → a ≡ (if enters t
 answer-waits enters a m h1 h2 = grind (arith, nat_tests)
 
 -- what an ask for m leaves, granted as w
-pub record IsGranted (g : Graph) (l l' : Locks) (t : ℕ) (n : NodeId) (m w : Mode) : Type 0 where
+pub record IsGranted (g : Graph) (l l' : Ledger) (t : ℕ) (n : NodeId) (m w : Mode) : Type 0 where
   pub sound : AreSound l'
   pub mode : w ≡ wanted (state_on g l) t n m
   pub state : state_on g l' ≡ granted (state_on g l) t n m
@@ -264,7 +264,8 @@ pub record IsGranted (g : Graph) (l l' : Locks) (t : ℕ) (n : NodeId) (m w : Mo
   pub count : (u : ℕ) → CountsHeld (state_on g l') l'.lists.items u
 
 -- room was made, the headers were asked, and the list was written
-module _ {g : Graph} {l r : Locks} (l' : Locks) {t : ℕ} {n : NodeId} {m : Mode} {old : Bool} (ready : IsReady g l r t n m old true) (a : Asked) (w : Mode) where
+module _ {g : Graph} {l r : Ledger} (l' : Ledger) {t : ℕ} {n : NodeId} {m : Mode} {old : Bool} (ready : IsReady g l r t n m old true) (a : Asked)
+    (w : Mode) where
   abbrev want : Mode
   want = supremum (held_of r.headers.entries t n) m
 
@@ -304,7 +305,7 @@ module _ {g : Graph} {l r : Locks} (l' : Locks) {t : ℕ} {n : NodeId} {m : Mode
 
 -- A node that nobody holds and nobody waits for comes to be held by one slot.
 
-module _ (g : Graph) (l : Locks) (t : ℕ) (n : NodeId) (m : Mode) (may : MayAsk g l t) (unheld : (u : ℕ) → (state_on g l).held u n ≡ NL)
+module _ (g : Graph) (l : Ledger) (t : ℕ) (n : NodeId) (m : Mode) (may : MayAsk g l t) (unheld : (u : ℕ) → (state_on g l).held u n ≡ NL)
     (unawaited : (state_on g l).queue n ≡ []) (room : HasRoomAt l.lists.items t) where
   abbrev wanted_new : Mode
   wanted_new = supremum (held_of l.headers.entries t n) m
@@ -320,7 +321,7 @@ module _ (g : Graph) (l : Locks) (t : ℕ) (n : NodeId) (m : Mode) (may : MayAsk
   }
 
   -- its header was put in, and the slot's list was written
-  pub is_placed : IsLawfulGraph g → is_live g n ≡ true → m ≢ NL → (h : HeaderState) → IsOneHolder h t m → wanted_new ≡ m → (l' : Locks)
+  pub is_placed : IsLawfulGraph g → is_live g n ≡ true → m ≢ NL → (h : HeaderState) → IsOneHolder h t m → wanted_new ≡ m → (l' : Ledger)
       → held_of l'.headers.entries ≡ with_members (held_of l.headers.entries) n (members_of h)
       → queue_of l'.headers.entries ≡ with_waiters (queue_of l.headers.entries) n h.queue → l'.seats ≡ l.seats
       → HasNode l.lists.items l'.lists.items t n m → CountsGrant (state_on g l) l.lists.items l'.lists.items t n → IsGranted g l l' t n m m
@@ -338,7 +339,7 @@ first_waiter : (ws : List Waiter) → is_empty ws ≡ false → (t : ℕ) × (is
 first_waiter [] e = clash refl e
 first_waiter (w ∷ ws) e = (w.0, or_left (w.0 == w.0) (list_any (is_waiter w.0) ws) (number_same w.0 w.0 refl))
 
-module _ {g : Graph} (l : Locks) (all : AreHeaders l.headers.entries) (orderly : IsOrderly (state_on g l)) (law : IsLawfulGraph g) where
+module _ {g : Graph} (l : Ledger) (all : AreHeaders l.headers.entries) (orderly : IsOrderly (state_on g l)) (law : IsLawfulGraph g) where
   abbrev hs : Entries
   hs = l.headers.entries
 

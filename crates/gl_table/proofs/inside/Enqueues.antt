@@ -5,7 +5,7 @@ use Rattle.gl_table.proofs.Words.{is_wait, IsApart, length, List, LockList, memb
 use Rattle.gl_table.proofs.Words.{other_number, placed, queue_of, refl, restatus, room_by, same_node, same_node-equal, same_number, Seat, slice_index_or}
 use Rattle.gl_table.proofs.Words.{slice_set, slot_limit, spare, split, State, state_on, status_in, subst, supremum, sym, true, txns_of, Waiting, wanted}
 use Rattle.gl_table.proofs.Words.{with_waiters, ℕ}
-use Rattle.gl_table.specs.declared.locks.Locks.{Locks}
+use Rattle.gl_table.specs.declared.ledger.Ledger.{Ledger}
 use Rattle.gl_table.proofs.inside.Asks.{active-waits_nowhere, IsReady}
 use Rattle.gl_table.proofs.inside.Slots.{by_list-set, counts-entered, has_node-set, HasNode, none_more}
 use Rattle.gl_model.proofs.queues.Edits.{placed_other, placed_self}
@@ -72,14 +72,14 @@ has_wait-set ls t x x' lt at n held all_apart apart modes listed counts room = r
     no_more b k = grind (arith, nat_tests)
 
 -- what an ask for m leaves that waits
-pub record IsEnqueued (g : Graph) (l l' : Locks) (t : ℕ) (n : NodeId) (m : Mode) : Type 0 where
+pub record IsEnqueued (g : Graph) (l l' : Ledger) (t : ℕ) (n : NodeId) (m : Mode) : Type 0 where
   pub sound : AreSound l'
   pub state : state_on g l' ≡ enqueued (state_on g l) t n (wanted (state_on g l) t n m)
   pub agree : (u : ℕ) → Agrees (state_on g l') l'.lists.items u
   pub count : (u : ℕ) → CountsHeld (state_on g l') l'.lists.items u
 
 -- room was made, the headers were asked, the node was listed, and the status was written
-module _ (g : Graph) (l r l' : Locks) (t : ℕ) (n : NodeId) (m w : Mode) (held : Bool) (ready : IsReady g l r t n m held false) (hs : Entries)
+module _ (g : Graph) (l r l' : Ledger) (t : ℕ) (n : NodeId) (m w : Mode) (held : Bool) (ready : IsReady g l r t n m held false) (hs : Entries)
     (seats : List (Option Seat)) where
   abbrev want : Mode
   want = supremum (held_of r.headers.entries t n) m

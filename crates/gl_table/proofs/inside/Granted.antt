@@ -8,7 +8,7 @@ use Rattle.gl_table.proofs.Words.{parents_of, pumped, refl, restatus, same_mode,
 use Rattle.gl_table.proofs.Words.{same_number, slice_get, slot_limit, Some, split, State, state_on, Status, status_of, subst, sym, Told, true, Txn, unlisted}
 use Rattle.gl_table.proofs.Words.{unlisted_by, Waiter, Waiting, WaitWell, WakesLists, with_grant, with_members, with_mode, with_waiters, without_wait}
 use Rattle.gl_table.proofs.Words.{without_waiter, woken, ℕ}
-use Rattle.gl_table.specs.declared.locks.Locks.{Locks}
+use Rattle.gl_table.specs.declared.ledger.Ledger.{Ledger}
 use Rattle.gl_table.proofs.inside.Slots.{none_more}
 use Rattle.gl_table.proofs.inside.Woken.{given_or_held}
 use Rattle.gl_model.proofs.law.Keeps.{waiting_is, woken_waits}
@@ -191,7 +191,7 @@ can_hold_there s o law n ls u h lt agree count =
     }
 
 -- the front of a node may be woken, in a state b whose waiters there are among those of the locks
-pub can_wake_front : (g : Graph) (l : Locks) → IsLawfulGraph g → AreSound l → IsOrderly (state_on g l) → (n : NodeId) (b : State) → WaitWell b n
+pub can_wake_front : (g : Graph) (l : Ledger) → IsLawfulGraph g → AreSound l → IsOrderly (state_on g l) → (n : NodeId) (b : State) → WaitWell b n
     → ((u : ℕ) → is_among_waiters u (b.queue n) ≡ true → is_among_waiters u ((state_on g l).queue n) ≡ true)
     → ((u : ℕ) → is_among_waiters u ((state_on g l).queue n) ≡ true → Agrees (state_on g l) l.lists.items u)
     → ((u : ℕ) → is_among_waiters u ((state_on g l).queue n) ≡ true → CountsHeld (state_on g l) l.lists.items u)

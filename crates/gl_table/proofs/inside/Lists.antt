@@ -1,7 +1,6 @@
 -- Lists in which nothing stands. For new locks.
-use Rattle.gl_table.proofs.Words.{[], ⊤, ◌++◌, ◌+◌, ◌∷◌, ◌≡◌, AreApart, arith, by_list, count_of, counted_by, Entry, entry_of, false, held_by, is_listed}
-use Rattle.gl_table.proofs.Words.{is_some, IsApart, length, List, listed_by, LockList, mode_in, mode_of, NL, NodeId, None, Option, refl, Some, subst, suc, zero}
-use Rattle.gl_table.proofs.Words.{ℕ}
+use Rattle.gl_table.proofs.Words.{[], ◌++◌, ◌+◌, ◌∷◌, ◌≡◌, AreApart, arith, by_list, count_of, counted_by, Entry, entry_of, false, held_by, is_listed, is_some}
+use Rattle.gl_table.proofs.Words.{IsApart, length, List, listed_by, LockList, mode_in, mode_of, NL, NodeId, None, Option, refl, Some, subst, suc, zero, ℕ, ⊤}
 
 -- Lists in which nothing stands.
 

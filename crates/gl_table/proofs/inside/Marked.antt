@@ -6,7 +6,7 @@ use Rattle.gl_table.proofs.Words.{keys, length, List, list_all, list_any, listed
 use Rattle.gl_table.proofs.Words.{nodes, NoneMarkedFrom, not, not-true, not_true, or-false, or_no, parents_of, pumped, refl, same_mode, same_node}
 use Rattle.gl_table.proofs.Words.{same_node-equal, same_number, shed, slice_get, slice_index_or, slice_set, Some, split, State, state_on, status_of, subst, suc}
 use Rattle.gl_table.proofs.Words.{sym, Told, true, unlocked, WakesLists, WakesTold, with_grant, woken, X, zero, ℕ}
-use Rattle.gl_table.specs.declared.locks.Locks.{Locks}
+use Rattle.gl_table.specs.declared.ledger.Ledger.{Ledger}
 use Rattle.gl_table.proofs.inside.Departures.{fewer_held, held_after, holds_after, IsLeaving, leaving_one, left_by, taken_from}
 use Rattle.gl_table.proofs.inside.Slots.{agrees-set, by_list-at, counts-set, kept-apart, own_list}
 use Rattle.gl_model.proofs.law.Keeps.{txn_there}
@@ -120,7 +120,8 @@ module _ {s now : State} {t : ℕ} {n : NodeId} {ls : List LockList} {l : LockLi
 -- The list of a slot is taken out of its place, its covered children are marked, and at the end it is put back.
 
 -- who is active has a list
-pub list_there : (l : Locks) (g : Graph) → AreSound l → IsOrderly (state_on g l) → (t : ℕ) → status_of (state_on g l) t ≡ Some Active → t < length l.lists.items
+pub list_there : (l : Ledger) (g : Graph) → AreSound l → IsOrderly (state_on g l) → (t : ℕ) → status_of (state_on g l) t ≡ Some Active
+    → t < length l.lists.items
 list_there l g sound o t active = subst (λ (k : ℕ). t < k) (sym sound.lists) (o.below t (txn_there ((state_on g l).txns t) Active active))
 
 -- what was taken out of its place

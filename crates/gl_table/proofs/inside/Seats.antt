@@ -1,10 +1,11 @@
 -- The lowest free seat, a seat that is written, and a slot that is freed. For seats, and for the end of a transaction.
 use Rattle.gl_table.proofs.Words.{[], ◌&&◌, ◌<◌, ◌==◌, ◌||◌, ◌∙◌, ◌∷◌, ◌≡◌, Agrees, and-false, ap, ap₂, arith, clash, count_none, count_of, CountsHeld}
 use Rattle.gl_table.proofs.Words.{elements, false, gets, if◌then◌else◌, is_among_waiters, is_child, is_free, is_free_at, is_listed, is_live, is_some, is_wait}
-use Rattle.gl_table.proofs.Words.{length, length-set, List, lives, LockList, mode_of, nat_tests, NL, NodeId, nodes, nodes_live, None, not, number_same, Option}
-use Rattle.gl_table.proofs.Words.{position, position_or_len, refl, same_mode, same_number, Seat, slice_set, Some, split, State, status_in, subst, suc, sym}
-use Rattle.gl_table.proofs.Words.{true, txn_in, txns_of, with_txn, zero, ℕ}
+use Rattle.gl_table.proofs.Words.{IsOrderly, length, length-set, List, lives, LockList, mode_of, nat_tests, NL, NodeId, nodes, nodes_live, None, none_some, not}
+use Rattle.gl_table.proofs.Words.{number_same, Option, position, position_or_len, refl, same_mode, same_number, Seat, slice_set, Some, split, State, status_in}
+use Rattle.gl_table.proofs.Words.{subst, suc, sym, true, txn_in, txns_of, with_txn, zero, ℕ}
 use Rattle.gl_table.specs.inside.Seats.{lives_at, waits_at}
+use Rattle.gl_model.specs.State.{waits_at as awaits}
 use Rattle.gl_table.proofs.inside.Lists.{bare-modes, IsBare}
 use Rattle.gl_table.proofs.inside.Slots.{agrees-set, counts-set, own_list}
 
@@ -94,3 +95,23 @@ module _ (s : State) (t : ℕ) (free : (q : NodeId) → s.held t q ≡ NL) (out 
   pub counts-gone : ((u : ℕ) → (u == t) ≡ false → CountsHeld s ls u) → (u : ℕ) → CountsHeld gone (slice_set ls t new) u
   counts-gone count u = split (u == t) (λ e. subst (CountsHeld gone (slice_set ls t new)) (sym (same_number u t e)) own_counts)
       (λ e. counts-set ls t new lt u e gone (count u e))
+
+  -- and what held between the steps still does
+  pub orderly-gone : IsOrderly s → IsOrderly gone
+  orderly-gone o = record {
+    holders = λ u q h. split (u == t) (λ e. clash h (ap (λ m. not (same_mode m NL)) (ap (λ v. s.held v q) (same_number u t e) ∙ free q)))
+        (λ e. ap is_some (other u e) ∙ o.holders u q h);
+    holders_live = o.holders_live;
+    waiters_live = o.waiters_live;
+    waits_are = λ u q h. split (u == t) (λ e. clash h (ap (λ v. is_among_waiters v (s.queue q)) (same_number u t e) ∙ out q))
+        (λ e. ap (λ x. awaits (status_in x) q) (other u e) ∙ o.waits_are u q h);
+    one_wait = λ u q m h. split (u == t) (λ e. absurd (none_some (sym (ap status_in (mine u e)) ∙ h)))
+        (λ e. o.one_wait u q m (sym (ap status_in (other u e)) ∙ h));
+    below = λ u h. split (u == t) (λ e. clash h (ap is_some (mine u e))) (λ e. o.below u (sym (ap is_some (other u e)) ∙ h));
+  }
+    where
+      other : (u : ℕ) → (u == t) ≡ false → gone.txns u ≡ s.txns u
+      other u e = ap (λ b. if b then None else s.txns u) e
+
+      mine : (u : ℕ) → (u == t) ≡ true → gone.txns u ≡ None
+      mine u e = ap (λ b. if b then None else s.txns u) e

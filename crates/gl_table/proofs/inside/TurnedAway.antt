@@ -10,7 +10,7 @@ use Rattle.gl_table.proofs.Words.{without_waiter, ℕ}
 use Rattle.gl_model.specs.declared.answers.Notice.TheVariants as notice
 use Rattle.gl_table.proofs.inside.Slots.{by_list-at}
 use Rattle.gl_table.proofs.inside.Woken.{agrees_given_up, ends_more, ends_none, seat_still, untold_still}
-use Rattle.gl_table.specs.declared.locks.Locks.{Locks}
+use Rattle.gl_table.specs.declared.ledger.Ledger.{Ledger}
 use Rattle.gl_model.proofs.law.Strays.{all_filtered, all_of_some, all_or_chosen, among_failing, filter_all, stuck_front, without_chosen}
 use Rattle.gl_model.proofs.law.Takes.{restatus_is}
 use Rattle.gl_model.proofs.queues.Edits.{any_left, freed_other, one_left, one_stays}
@@ -75,7 +75,7 @@ module _ (s : State) (o : IsOrderly s) (n : NodeId) (f : Waiter → Bool) where
       (λ k. if-false _ k ∙ freed_other n (s.txns u) (not_true _ (λ w. clash (stands_there s o u n w) k))))
 
 -- the waits on n that fail the test are over, but for those of pending slots; nothing is granted
-pub record IsTurning (l l' : Locks) (n : NodeId) (s : State) (f : Waiter → Bool) (pending : ℕ → Bool) (told told' : Told) : Type 0 where
+pub record IsTurning (l l' : Ledger) (n : NodeId) (s : State) (f : Waiter → Bool) (pending : ℕ → Bool) (told told' : Told) : Type 0 where
   pub held : held_of l'.headers.entries ≡ s.held
   pub here : queue_of l'.headers.entries n ≡ filter (λ w. f w || pending w.0) (s.queue n)
   pub there : (q : NodeId) → same_node q n ≡ false → queue_of l'.headers.entries q ≡ s.queue q
@@ -83,7 +83,7 @@ pub record IsTurning (l l' : Locks) (n : NodeId) (s : State) (f : Waiter → Boo
   pub over : WaitsEnd (books_of l.seats l.lists.items told) n (λ u. is_lost s n f u && not (pending u)) as_left (λ u. notice.Moved)
       (books_of l'.seats l'.lists.items told')
 
-module _ (g : Graph) (l : Locks) (o : IsOrderly (state_on g l)) (n : NodeId) (f : Waiter → Bool) (told : Told)
+module _ (g : Graph) (l : Ledger) (o : IsOrderly (state_on g l)) (n : NodeId) (f : Waiter → Bool) (told : Told)
     (kept : AreKept (books_of l.seats l.lists.items told)) where
   abbrev s : State
   s = state_on g l
@@ -97,7 +97,7 @@ module _ (g : Graph) (l : Locks) (o : IsOrderly (state_on g l)) (n : NodeId) (f 
     over = ends_none _ (λ u. ap (λ b. is_lost s n f u && not b) (all u) ∙ and-not_self (is_lost s n f u)) kept;
   }
 
-  module _ {l' : Locks} {pending : ℕ → Bool} {mid : Told} (is : IsTurning l l' n s f pending told mid) where
+  module _ {l' : Ledger} {pending : ℕ → Bool} {mid : Told} (is : IsTurning l l' n s f pending told mid) where
     -- a pending slot
     module _ (t : ℕ) (member : pending t ≡ true) where
       lost : is_lost s n f t ≡ true
@@ -131,7 +131,7 @@ module _ (g : Graph) (l : Locks) (o : IsOrderly (state_on g l)) (n : NodeId) (f 
       turned_untold untold = untold_still is.over t fresh (untold t stood)
 
       -- its wait ends
-      pub turning_one : {next : Locks} {told' : Told} (pending' : ℕ → Bool) → ((x : ℕ) → pending' x ≡ (pending x && not (x == t)))
+      pub turning_one : {next : Ledger} {told' : Told} (pending' : ℕ → Bool) → ((x : ℕ) → pending' x ≡ (pending x && not (x == t)))
           → held_of next.headers.entries ≡ held_of l'.headers.entries
           → queue_of next.headers.entries ≡ with_waiters (queue_of l'.headers.entries) n (without_waiter t (queue_of l'.headers.entries n))
           → WaitsEnd (books_of l'.seats l'.lists.items mid) n (λ u. u == t) as_left (λ u. notice.Moved) (books_of next.seats next.lists.items told')

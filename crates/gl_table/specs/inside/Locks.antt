@@ -1,73 +1,8 @@
--- The locks that the code keeps beside the graph: as a state of the model, and what agrees with it.
-use Rattle.std.specs.Prelude.{◌≡◌, ◌≤◌, ◌||◌, ℕ, true, false, List, [], length, None, replicate}
-use Rattle.gl_modes.specs.declared.mode.Mode.TheVariants.{NL}
-use Rattle.gl_modes.specs.declared.node.NodeId.{NodeId}
-use Rattle.gl_graph.specs.Graph.{Graph}
-use Rattle.gl_graph.specs.View.{View, graph_of}
-use Rattle.gl_header.specs.Header.{holds, is_among_waiters}
-use Rattle.gl_waits.specs.declared.victims.Victims.TheVariants.{Youngest}
-use Rattle.gl_model.specs.declared.answers.Detect.TheVariants.{ByWatcher}
-use Rattle.gl_listed.specs.declared.list.LockList.{LockList}
+-- The locks over their graph, as a state of the model.
 use Rattle.gl_table.specs.declared.locks.Locks.{Locks}
-use Rattle.gl_model.specs.Calls.{held_children}
-use Rattle.gl_header.specs.Headers.{held_of, queue_of}
-use Rattle.gl_model.specs.State.{State, members, status_of, is_wait}
-use Rattle.gl_table.specs.inside.Seats.{txns_of}
-use Rattle.gl_table.specs.inside.Slots.{KeepsLists, AreApart, counted_by, held_by, listed_by, room_by}
+use Rattle.gl_table.specs.inside.Ledger.{state_in}
+use Rattle.gl_model.specs.State.{State}
 
--- the state that the locks are over a graph
-abbrev pub state_on : Graph → Locks → State
-state_on g l =
-    record {
-      graph = g;
-      txns = txns_of l.seats.items;
-      held = held_of l.headers.entries;
-      queue = queue_of l.headers.entries;
-      detect = ByWatcher;
-      victims = Youngest;
-      most = length l.seats.items;
-      begins = 0;
-      accepted = 0;
-    }
-
--- the same, with the graph as a contract sees it
-abbrev pub state_in : View → Locks → State
-state_in g l = state_on (graph_of g) l
-
--- a slot's list has the nodes that it holds or waits for, with their modes, and room for a later grant where it waits
-pub record Agrees (s : State) (ls : List LockList) (u : ℕ) : Type 0 where
-  pub modes : (q : NodeId) → held_by ls u q ≡ s.held u q
-  pub listed : (q : NodeId) → listed_by ls u q ≡ (holds (members s q) u || is_among_waiters u (s.queue q))
-  pub room : is_wait (status_of s u) ≡ true → 9 ≤ room_by ls u
-
--- its counts of held children are exact
-abbrev pub CountsHeld : State → List LockList → ℕ → Type 0
-CountsHeld s ls u = (p : NodeId) → counted_by ls u p ≡ held_children s u p
-
--- what the locks are made of is in order
-pub record AreSound (l : Locks) : Type 0 where
-  pub few : length l.seats.items ≤ 128
-  pub lists : length l.lists.items ≡ length l.seats.items
-  pub apart : AreApart l.lists.items
-
--- the locks over a graph are exact: their parts are in order, and each list has the modes and the counts of its slot
-pub record AreExact (g : View) (l : Locks) : Type 0 where
-  pub sound : AreSound l
-  pub agree : (u : ℕ) → Agrees (state_in g l) l.lists.items u
-  pub count : (u : ℕ) → CountsHeld (state_in g l) l.lists.items u
-
--- no lock changed: at most room was made
-pub record KeepsLocks (l l' : Locks) : Type 0 where
-  pub headers : l'.headers.entries ≡ l.headers.entries
-  pub seats : l'.seats ≡ l.seats
-  pub lists : KeepsLists l.lists.items l'.lists.items
-
--- no header, all slots free, and nothing in any list
-pub record AreNew (l : Locks) (most : ℕ) : Type 0 where
-  pub headers : l.headers.entries ≡ []
-  pub seats : l.seats.items ≡ replicate most None
-  pub lists : length l.lists.items ≡ most
-  pub apart : AreApart l.lists.items
-  pub listed : (t : ℕ) (n : NodeId) → listed_by l.lists.items t n ≡ false
-  pub modes : (t : ℕ) (n : NodeId) → held_by l.lists.items t n ≡ NL
-  pub counts : (t : ℕ) (n : NodeId) → counted_by l.lists.items t n ≡ 0
+-- the state that the ledger is over the graph
+abbrev pub state_at : Locks → State
+state_at l = state_in l.graph l.ledger

@@ -3,26 +3,28 @@ use Rattle.std.specs.Prelude.{◌≡◌, map}
 use Rattle.gl_model.specs.declared.answers.Detect.TheVariants.{AtBlock}
 use Rattle.gl_table.specs.declared.table.Table.TheInside.{Inside}
 use Rattle.gl_model.specs.Lawful.{IsLawful}
-use Rattle.gl_table.specs.inside.Locks.{AreExact}
 use Rattle.gl_table.specs.Table.{TableView, state_of}
-use Rattle.gl_model.specs.State.{HasNoCycle}
+use Rattle.gl_model.specs.State.{HasNoCycle, State}
 
 -- what a contract sees: of the lists their nodes, and not for how many there is room
 abbrev pub view_of : Inside → TableView
 view_of t =
     record {
-      graph = t.graph;
-      headers = t.locks.headers.entries;
-      seats = t.locks.seats.items;
-      lists = map (λ l. l.entries.entries) t.locks.lists.items;
+      graph = t.locks.graph;
+      headers = t.locks.ledger.headers.entries;
+      seats = t.locks.ledger.seats.items;
+      lists = map (λ l. l.entries.entries) t.locks.ledger.lists.items;
       detect = t.detect;
       victims = t.victims;
       begins = t.begins;
       deadlock = t.deadlock;
     }
 
--- what holds of the fields
-pub record IsSound (t : Inside) : Type 0 where
-  pub lawful : IsLawful (state_of (view_of t))
-  pub exact : AreExact t.graph t.locks
-  pub no_cycle : t.detect ≡ AtBlock → HasNoCycle (state_of (view_of t))
+-- a state that a table may have: it is lawful, and with detection at block nobody is on a cycle of waits
+pub record IsSafe (s : State) : Type 0 where
+  pub lawful : IsLawful s
+  pub no_cycle : s.detect ≡ AtBlock → HasNoCycle s
+
+-- what holds of the fields, beside what holds of the locks among them
+abbrev pub IsSound : Inside → Type 0
+IsSound t = IsSafe (state_of (view_of t))

@@ -26,12 +26,12 @@ impl Table {
         if self.begins == u64::MAX {
             return Err(Refusal::WornOut);
         }
-        let Some(slot) = self.locks.seats.first_free() else {
+        let Some(slot) = self.locks.ledger.seats.first_free() else {
             return Err(Refusal::TooManyTxns);
         };
         self.begins += 1;
         let age = self.begins;
-        self.locks.seats.take(
+        self.locks.ledger.seats.take(
             slot,
             Seat {
                 age,

@@ -25,14 +25,14 @@ impl Table {
     pub(super) fn check_active(&self, t: TxnId) -> Result<(), Refusal>
         ensures { result ≡ verdict (first_refusal (commit_tests (state_of self.now) t)) }
     {
-        self.locks.check_active(t)
+        self.locks.ledger.check_active(t)
     }
 
     /// Whether the id names a node.
     pub(super) fn check_node(&self, n: NodeId) -> Result<(), Refusal>
         ensures { result ≡ verdict (no_node (state_of self.now) n) }
     {
-        match self.graph.kind(n) {
+        match self.locks.graph.kind(n) {
             Some(_) => Ok(()),
             None => Err(Refusal::NoSuchNode),
         }
@@ -45,7 +45,7 @@ impl Table {
         match self.locks.children(t.slot, n) {
             None => Err(Refusal::NotHeld),
             Some(0) => Ok(()),
-            Some(_) => match self.locks.first_child(&self.graph, t.slot, n) {
+            Some(_) => match self.locks.first_child(t.slot, n) {
                 Some(node) => Err(Refusal::HeldChild { node }),
                 None => Ok(()),
             },

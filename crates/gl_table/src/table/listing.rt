@@ -19,21 +19,21 @@ impl Table {
     pub fn most(&self) -> usize
         ensures { result ≡ (state_of self.now).most }
     {
-        self.locks.seats.as_slice().len()
+        self.locks.ledger.seats.as_slice().len()
     }
 
     /// The slots of those who wait.
     pub fn waiting_slots(&self) -> Slots
         ensures { (u : ℕ) → has_slot result u ≡ is_wait (status_of (state_of self.now) u) }
     {
-        self.locks.seats.waiting()
+        self.locks.ledger.seats.waiting()
     }
 
     /// The transaction in a slot, and what it is doing; `None` for a free slot.
     pub fn living(&self, slot: u8) -> Option<(TxnId, Status)>
         ensures { result ≡ living_in (state_of self.now) slot }
     {
-        let seat = self.locks.seat(slot)?;
+        let seat = self.locks.ledger.seat(slot)?;
         Some((
             TxnId {
                 slot,
@@ -48,7 +48,7 @@ impl Table {
         ensures { result ≡ (if lives (state_of self.now) t then Some (length (rows_of self.now t.slot)) else None) }
     {
         match self.status(t) {
-            Some(_) => Some(self.locks.rows(t.slot)),
+            Some(_) => Some(self.locks.ledger.rows(t.slot)),
             None => None,
         }
     }
@@ -61,7 +61,7 @@ impl Table {
     {
         self.law();
         match self.status(t) {
-            Some(_) => self.locks.row(t.slot, place),
+            Some(_) => self.locks.ledger.row(t.slot, place),
             None => None,
         }
     }
@@ -72,7 +72,7 @@ impl Table {
         ensures refused { RefusesOnly (first_refusal (group_tests (state_of self.now) n)) result }
     {
         self.check_node(n)?;
-        Ok(self.locks.headers.holders(n))
+        Ok(self.locks.ledger.headers.holders(n))
     }
 
     /// The mode in which the transaction of a slot holds a node, `NL` for none.
@@ -89,7 +89,7 @@ impl Table {
         ensures refused { RefusesOnly (first_refusal (group_tests (state_of self.now) n)) result }
     {
         self.check_node(n)?;
-        Ok(self.locks.headers.queue(n))
+        Ok(self.locks.ledger.headers.queue(n))
     }
 
     /// The slots of those for whom a transaction waits: who holds the node in a mode that does not go
@@ -101,7 +101,7 @@ impl Table {
     {
         match self.status(t) {
             Some(Status::Waiting { node, wanted }) => Ok(
-                self.locks.headers.waits_for(t.slot, node, wanted),
+                self.locks.ledger.headers.waits_for(t.slot, node, wanted),
             ),
             Some(_) => Ok(Slots::empty()),
             None => Err(Refusal::NoSuchTxn),

@@ -21,7 +21,7 @@ impl Table {
     pub fn check_lock(&self, t: TxnId, n: NodeId, mode: Mode) -> Result<(), Refusal>
         ensures { result ≡ verdict (first_refusal (lock_tests (state_of self.now) t n mode)) }
     {
-        self.locks.check_ask(&self.graph, t, n, mode)?;
+        self.locks.ledger.check_ask(&self.locks.graph, t, n, mode)?;
         Ok(())
     }
 
@@ -69,19 +69,22 @@ impl Table {
             → holds (members (state_of self.old) n) t.slot ≡ true → IsOk result }
         ensures err { OnErr result (self.new ≡ self.old) }
     {
-        let (held, parents) = self.locks.check_ask(&self.graph, t, n, mode)?;
-        match self.locks.ask(&self.graph, t.slot, n, mode, held, parents)? {
+        let locks = &mut self.locks;
+        let (held, parents) = locks.ledger.check_ask(&locks.graph, t, n, mode)?;
+        match locks
+            .ledger
+            .ask(&locks.graph, t.slot, n, mode, held, parents)?
+        {
             Asked::Granted(granted) => Ok((held, Locked::Granted(granted))),
             Asked::Waiting => {
-                self.locks.settle_asker(
-                    &self.graph,
+                locks.settle_asker(
                     self.detect,
                     self.victims,
                     t.slot,
                     &mut self.deadlock,
                     notices,
                 );
-                Ok((held, self.locks.outcome(t.slot, n)))
+                Ok((held, locks.outcome(t.slot, n)))
             }
         }
     }
@@ -100,11 +103,13 @@ impl Table {
         ensures held { first_refusal (try_tests (state_of self.old) t n mode) ≡ None → holds (members (state_of self.old) n) t.slot ≡ true → IsOk result }
         ensures err { OnErr result (self.new ≡ self.old) }
     {
-        let (held, parents) = self.locks.check_ask(&self.graph, t, n, mode)?;
-        if !self.locks.headers.would_grant(t.slot, n, mode) {
+        let locks = &mut self.locks;
+        let (held, parents) = locks.ledger.check_ask(&locks.graph, t, n, mode)?;
+        if !locks.ledger.headers.would_grant(t.slot, n, mode) {
             return Err(Refusal::WouldBlock);
         }
-        self.locks
-            .grant(&self.graph, t.slot, n, mode, held, parents)
+        locks
+            .ledger
+            .grant(&locks.graph, t.slot, n, mode, held, parents)
     }
 }

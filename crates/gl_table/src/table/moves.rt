@@ -14,7 +14,7 @@ ghost use Rattle.gl_model.specs.Tellings.{told};
 ghost use Rattle.gl_model.specs.declared.txn.Status.TheVariants.{Active};
 
 use super::Table;
-use crate::locks::moves::parents_before;
+use crate::ledger::moves::parents_before;
 use gl_model::{Told, TxnId};
 use gl_modes::{NodeId, Refusal};
 
@@ -39,10 +39,12 @@ impl Table {
         ensures deadlock { self.new.deadlock ≡ self.old.deadlock }
         ensures told { notices.new.items ≡ told (state_of self.old) (state_of self.new) }
     {
-        let old = parents_before(&self.graph, rec);
-        self.graph.set_key(rec, index, key);
-        self.locks
-            .follow(&self.graph, t.slot, rec, notices, old.as_slice());
+        let locks = &mut self.locks;
+        let old = parents_before(&locks.graph, rec);
+        locks.graph.set_key(rec, index, key);
+        locks
+            .ledger
+            .follow(&locks.graph, t.slot, rec, notices, old.as_slice());
     }
 
     /// As `regraft`, with the notices put into an empty list.
@@ -68,10 +70,12 @@ impl Table {
         ensures refused { IfErr result (λ r. (r ≡ ARefusal.NoMemory) ⊎ (first_cycle (state_of self.old).graph n parents.now ≡ Some r)) }
         ensures err { OnErr result (self.new ≡ self.old) }
     {
-        let old = parents_before(&self.graph, n);
-        self.graph.set_parents(n, parents)?;
-        self.locks
-            .follow(&self.graph, t.slot, n, notices, old.as_slice());
+        let locks = &mut self.locks;
+        let old = parents_before(&locks.graph, n);
+        locks.graph.set_parents(n, parents)?;
+        locks
+            .ledger
+            .follow(&locks.graph, t.slot, n, notices, old.as_slice());
         Ok(())
     }
 }

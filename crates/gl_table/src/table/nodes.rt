@@ -23,7 +23,7 @@ impl Table {
         ensures refuses { Refuses (inner_refusal (state_of self.old).graph parents.now) result }
         ensures err { OnErr result (self.new ≡ self.old) }
     {
-        self.graph.add_inner(parents)
+        self.locks.graph.add_inner(parents)
     }
 
     /// Makes a file under 1 to 8 different inner nodes, with no indexes and no records. Nobody
@@ -38,7 +38,7 @@ impl Table {
         ensures refuses { Refuses (file_refusal (state_of self.old).graph parents.now) result }
         ensures err { OnErr result (self.new ≡ self.old) }
     {
-        self.graph.add_file(parents)
+        self.locks.graph.add_file(parents)
     }
 
     /// Makes an index of a file that has no records and of which none was ever adopted, under 1 to 8
@@ -62,6 +62,6 @@ impl Table {
         ensures refuses { Refuses (index_refusal (state_of self.old).graph parents.now file bounds.now) result }
         ensures err { OnErr result (self.new ≡ self.old) }
     {
-        self.graph.add_index(parents, file, bounds)
+        self.locks.graph.add_index(parents, file, bounds)
     }
 }

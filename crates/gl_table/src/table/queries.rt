@@ -34,7 +34,7 @@ impl Table {
         ensures { result ≡ answered (first_refusal (group_tests (state_of self.now) n)) (group_of (state_of self.now).most (members (state_of self.now) n)) }
     {
         self.check_node(n)?;
-        Ok(self.locks.headers.group(n))
+        Ok(self.locks.ledger.headers.group(n))
     }
 
     /// The mode in which a transaction holds a node, `NL` for none; `None` where it does not live.
@@ -51,8 +51,8 @@ impl Table {
     pub fn is_idle(&self, n: NodeId) -> bool
         ensures { result ≡ is_idle (state_of self.now) n }
     {
-        self.locks.headers.law();
-        self.locks.headers.get(n).is_none()
+        self.locks.ledger.headers.law();
+        self.locks.ledger.headers.get(n).is_none()
     }
 
     /// How many children of a node a transaction holds; `None` where it does not live or does not
@@ -72,7 +72,7 @@ impl Table {
         ensures { result ≡ (lives (state_of self.now) t && list_any (λ c. is_child (state_of self.now).graph n c && is_write ((state_of self.now).held t.slot c)) (nodes (state_of self.now).graph)) }
     {
         match self.status(t) {
-            Some(_) => self.locks.writes_below(&self.graph, t.slot, n),
+            Some(_) => self.locks.writes_below(t.slot, n),
             None => false,
         }
     }
@@ -86,7 +86,7 @@ impl Table {
     {
         self.check_txn(t)?;
         self.check_node(n)?;
-        match self.locks.effective(&self.graph, t.slot, n) {
+        match self.locks.effective(t.slot, n) {
             Ok(effect) => Ok(effect),
             Err(_) => Err(Refusal::NoMemory),
         }
@@ -96,6 +96,6 @@ impl Table {
     pub fn board(&self, epoch: u64) -> Board
         ensures { result ≡ board_of (record (state_of self.now) { accepted = epoch }) }
     {
-        board(&self.locks.headers, &self.locks.seats, epoch)
+        board(&self.locks.ledger.headers, &self.locks.ledger.seats, epoch)
     }
 }

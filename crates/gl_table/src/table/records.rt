@@ -37,13 +37,13 @@ impl Table {
         ensures refuses { Refuses (first_refusal (worn_births (state_of self.old).graph ∷ too_many_nodes (state_of self.old).graph 1 ∷ [])) result }
         ensures err { OnErr result (self.new ≡ self.old) }
     {
-        if self.graph.worn() {
+        if self.locks.graph.worn() {
             return Err(Refusal::WornOut);
         }
-        if self.graph.is_full() {
+        if self.locks.graph.is_full() {
             return Err(Refusal::TooManyNodes);
         }
-        let parents = self.graph.record_parents(file, keys);
+        let parents = self.locks.graph.record_parents(file, keys);
         self.place_under(t, file, keys, parents.as_slice())
     }
 
@@ -67,9 +67,10 @@ impl Table {
         ensures memory { IfErr result (λ r. r ≡ ARefusal.NoMemory) }
         ensures err { OnErr result (self.new ≡ self.old) }
     {
-        let prepared = self.locks.prepare(t.slot, self.graph.next_key())?;
-        let rec = self.graph.add_record_under(file, keys, parents)?;
-        self.locks.place(&self.graph, t.slot, rec, prepared);
+        let locks = &mut self.locks;
+        let prepared = locks.ledger.prepare(t.slot, locks.graph.next_key())?;
+        let rec = locks.graph.add_record_under(file, keys, parents)?;
+        locks.ledger.place(&locks.graph, t.slot, rec, prepared);
         Ok(rec)
     }
 
@@ -86,7 +87,7 @@ impl Table {
         ensures refuses { Refuses (record_refusal (state_of self.old).graph file keys.now) result }
         ensures err { OnErr result (self.new ≡ self.old) }
     {
-        self.graph.adopt_record(file, keys)
+        self.locks.graph.adopt_record(file, keys)
     }
 
     /// Takes a record away that nobody holds or waits for. It takes no memory, and all locks stay as
@@ -97,7 +98,7 @@ impl Table {
         ensures state { state_of self.new ≡ with_graph (state_of self.old) (without_node (state_of self.old).graph rec) }
         ensures deadlock { self.new.deadlock ≡ self.old.deadlock }
     {
-        self.graph.remove_record(rec);
+        self.locks.graph.remove_record(rec);
     }
 
     /// As `remove`, with the notices put into an empty list.
@@ -111,7 +112,8 @@ impl Table {
         ensures deadlock { self.new.deadlock ≡ self.old.deadlock }
         ensures told { notices.new.items ≡ told (state_of self.old) (state_of self.new) }
     {
-        self.locks.vacate(&self.graph, t.slot, rec, notices);
-        self.graph.remove_record(rec);
+        let locks = &mut self.locks;
+        locks.ledger.vacate(&locks.graph, t.slot, rec, notices);
+        locks.graph.remove_record(rec);
     }
 }

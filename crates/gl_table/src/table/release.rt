@@ -24,7 +24,7 @@ impl Table {
         self.check_active(t)?;
         self.check_node(n)?;
         self.check_childless(t, n)?;
-        self.locks.release(&self.graph, t.slot, n, notices);
+        self.locks.release(t.slot, n, notices);
         Ok(())
     }
 
@@ -39,7 +39,7 @@ impl Table {
         ensures err { OnErr result (self.new ≡ self.old) }
     {
         self.check_active(t)?;
-        self.locks.end(&self.graph, t.slot, notices);
+        self.locks.end(t.slot, notices);
         Ok(())
     }
 
@@ -54,7 +54,7 @@ impl Table {
         ensures err { OnErr result (self.new ≡ self.old) }
     {
         self.check_txn(t)?;
-        self.locks.abort(&self.graph, t.slot, notices);
+        self.locks.abort(t.slot, notices);
         Ok(())
     }
 }

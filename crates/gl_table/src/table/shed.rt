@@ -27,7 +27,7 @@ impl Table {
         ensures told { notices.new.items ≡ told (state_of self.old) (state_of self.new) }
     {
         let held = self.locks.children(t.slot, n).unwrap_or(0);
-        self.locks.shed(&self.graph, t.slot, n, notices);
+        self.locks.shed(t.slot, n, notices);
         let kept = self.locks.children(t.slot, n).unwrap_or(0);
         (held - kept, kept)
     }

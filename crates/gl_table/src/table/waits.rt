@@ -25,8 +25,7 @@ impl Table {
         ensures err { OnErr result (self.new ≡ self.old) }
     {
         let node = self.check_waiting(t)?;
-        self.locks
-            .withdraw(&self.graph, t.slot, node, Status::Active, notices);
+        self.locks.withdraw(t.slot, node, Status::Active, notices);
         Ok(())
     }
 
@@ -42,13 +41,8 @@ impl Table {
         ensures err { OnErr result (self.new ≡ self.old) }
     {
         self.check_txn(t)?;
-        self.locks.settle(
-            &self.graph,
-            self.victims,
-            t.slot,
-            &mut self.deadlock,
-            notices,
-        );
+        self.locks
+            .settle(self.victims, t.slot, &mut self.deadlock, notices);
         Ok(())
     }
 

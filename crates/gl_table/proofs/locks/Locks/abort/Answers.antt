@@ -1,32 +1,29 @@
-use Rattle.gl_table.proofs.Words.{◌∙◌, ◌≡◌, ap, cancelled, false, is_wait, IsBySlot, rules, State, state_in, status_of, subst, sym}
+use Rattle.gl_table.proofs.Words.{◌∙◌, ◌≡◌, ap, cancelled, false, is_wait, IsBySlot, rules, State, state_at, status_of, subst, sym}
 use Rattle.gl_table.proofs.inside.Departures.{free_cancelled, free_idle, free_same, IsFree}
 use Rattle.gl_table.proofs.locks.Locks.abort.Goals.{Joined-seat, in-Some-Waiting, in-Some+in-Active-1, in-None-1}
 use Rattle.gl_table.proofs.locks.Locks.abort.Goals as goal
 
 abbrev before : Joined-seat → State
-before c = state_in c.args.graph.now c.args.self.now
+before c = state_at c.args.self.now
 
 -- where nothing was taken back, all is as it was
 idle : (c : Joined-seat) → is_wait (status_of (before c) c.args.slot) ≡ false → c.match-seat.self ≡ c.args.self.now → c.match-seat.told ≡ c.args.told.now
-    → IsFree (before c) (state_in c.args.graph.now c.match-seat.self) c.args.slot c.args.told.now.items c.match-seat.told.items
+    → IsFree (before c) (state_at c.match-seat.self) c.args.slot c.args.told.now.items c.match-seat.told.items
 idle c quiet self told =
-    free_same (before c) (before c) _ c.args.slot c.args.told.now.items c.args.told.now.items _ (ap (state_in c.args.graph.now) self) (ap (λ x. x.items) told)
-    (free_idle (before c) c.args.slot c.args.told.now.items c.requires.orderly quiet c.requires.tell.untold)
+    free_same (before c) (before c) _ c.args.slot c.args.told.now.items c.args.told.now.items _ (ap state_at self) (ap (λ x. x.items) told)
+    (free_idle (before c) c.args.slot c.args.told.now.items c.args.self.now.orderly quiet c.requires.tell.untold)
 
 -- the slot waits for nothing, once its wait is taken back, if it has one
-free : (c : Joined-seat) → IsFree (before c) (state_in c.args.graph.now c.match-seat.self) c.args.slot c.args.told.now.items c.match-seat.told.items
+free : (c : Joined-seat) → IsFree (before c) (state_at c.match-seat.self) c.args.slot c.args.told.now.items c.match-seat.told.items
 free c = elim c.match-seat.branch [
   | in-Some-Waiting w ↦
       free_same (before c) (cancelled (before c) c.args.slot) _ c.args.slot c.args.told.now.items w.withdraw.new.told.items _
-      (ap (state_in c.args.graph.now) w.self-is ∙ w.withdraw.ensures.state) (ap (λ x. x.items) w.told-is)
-      (free_cancelled (before c) c.requires.orderly c.args.slot w.in-Some-Waiting.node (search rules) c.args.told.now.items w.withdraw.new.told.items
+      (ap state_at w.self-is ∙ w.withdraw.ensures.state) (ap (λ x. x.items) w.told-is)
+      (free_cancelled (before c) c.args.self.now.orderly c.args.slot w.in-Some-Waiting.node (search rules) c.args.told.now.items w.withdraw.new.told.items
       w.withdraw.ensures.tells c.requires.tell.untold)
   | in-Some+in-Active-1 w ↦ idle c (search rules) w.self-is w.told-is
   | in-None-1 w ↦ idle c (search rules) w.self-is w.told-is
 ]
-
-pub end-requires-clause-orderly : goal.end-requires-clause-orderly
-end-requires-clause-orderly c = (free (goal.at.end-requires-clause-orderly c).Joined-seat).orderly
 
 pub end-requires-clause-quiet : goal.end-requires-clause-quiet
 end-requires-clause-quiet c = (free (goal.at.end-requires-clause-quiet c).Joined-seat).quiet

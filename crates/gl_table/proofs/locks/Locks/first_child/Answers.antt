@@ -1,8 +1,9 @@
-use Rattle.gl_table.proofs.Words.{◌≤◌, graph_of, length, List, LockList, subst}
-use Rattle.gl_table.proofs.calls.Queries.{no_list, past_end}
+use Rattle.gl_table.proofs.Words.{◌∙◌}
+use Rattle.gl_table.proofs.inside.Says.{found-said, live-said}
 use Rattle.gl_table.proofs.locks.Locks.first_child.Goals as goal
 
-pub returns-in-None : goal.returns-in-None
-returns-in-None c = no_list c.args.self.now.lists.items (graph_of c.args.graph.now) c.args.slot c.args.node
-    (past_end c.args.self.now.lists.items c.args.slot (subst (λ (ls : List LockList). length ls ≤ c.args.slot) c.deref.ensures.value
-    c.in-None.ensures.lookup.3))
+pub first_child-requires : goal.first_child-requires
+first_child-requires c = record { live = live-said c.args.self.now c.args.slot }
+
+pub returns : goal.returns
+returns c = c.first_child.ensures ∙ found-said c.args.self.now c.args.slot c.args.node

@@ -1,25 +1,23 @@
-use Rattle.gl_table.proofs.Words.{◌<◌, ◌≡◌, AreExact, condemned, Deadlock, IsBySlot, IsOnWay, IsOrderly, is_wait, length, None, notices_in, SettlesKeeping}
-use Rattle.gl_table.proofs.Words.{State, state_in, status_of, told_to, true, ℕ}
+use Rattle.gl_table.proofs.Words.{◌<◌, ◌≡◌, Deadlock, IsBySlot, IsOnWay, is_wait, None, notices_in, SettlesKeeping}
+use Rattle.gl_table.proofs.Words.{State, state_at, status_of, told_to, true, ℕ}
 use Rattle.gl_table.proofs.inside.Withdrawn.{how_many_wait}
 use Rattle.gl_table.proofs.locks.Locks.settle.Given as goal
 
--- between two victims: the locks are in order, what settles the slot from here settles it from the start and keeps the same, and what is told agrees
+-- between two victims: what settles the slot from here settles it from the start and keeps the same, and what is told agrees
 -- with the way
 abbrev pub invariant-loop-victim : goal.invariant-loop-victim
 invariant-loop-victim l = record {
-  exact : AreExact l.fn.graph l.self;
-  orderly : IsOrderly (state_in l.fn.graph l.self);
-  seated : l.slot < length l.self.seats.items;
+  seated : l.slot < (state_at l.self).most;
   by_slot : IsBySlot l.told.items;
-  untold : (u : ℕ) → is_wait (status_of (state_in l.fn.graph l.self) u) ≡ true → notices_in l.told.items u ≡ None;
-  settled : (s' : State) (d' : Deadlock) → SettlesKeeping l.victims (state_in l.fn.graph l.self) l.slot l.deadlock s' d'
-      → SettlesKeeping l.victims (state_in l.fn.graph l.initial.self) l.slot l.initial.deadlock s' d';
-  ways : (s : State) → IsOnWay s (state_in l.fn.graph l.initial.self) → IsOnWay s (state_in l.fn.graph l.self);
-  tells : (s : State) → IsOnWay s (state_in l.fn.graph l.initial.self)
-      → ((u : ℕ) → notices_in l.initial.told.items u ≡ told_to s (state_in l.fn.graph l.initial.self) u) → (u : ℕ)
-      → notices_in l.told.items u ≡ told_to s (state_in l.fn.graph l.self) u;
+  untold : (u : ℕ) → is_wait (status_of (state_at l.self) u) ≡ true → notices_in l.told.items u ≡ None;
+  settled : (s' : State) (d' : Deadlock) → SettlesKeeping l.victims (state_at l.self) l.slot l.deadlock s' d'
+      → SettlesKeeping l.victims (state_at l.initial.self) l.slot l.initial.deadlock s' d';
+  ways : (s : State) → IsOnWay s (state_at l.initial.self) → IsOnWay s (state_at l.self);
+  tells : (s : State) → IsOnWay s (state_at l.initial.self)
+      → ((u : ℕ) → notices_in l.initial.told.items u ≡ told_to s (state_at l.initial.self) u) → (u : ℕ)
+      → notices_in l.told.items u ≡ told_to s (state_at l.self) u;
 }
 
 -- each victim leaves fewer that wait
 abbrev pub decreases-loop-victim : goal.decreases-loop-victim
-decreases-loop-victim l = how_many_wait (state_in l.fn.graph l.self)
+decreases-loop-victim l = how_many_wait (state_at l.self)

@@ -1,53 +1,57 @@
-use Rattle.gl_table.proofs.Words.{◌∙◌, graph_of, IsApart, length-set, State, state_in, subst, sym}
+use Rattle.gl_table.proofs.Words.{◌∙◌, graph_of, IsApart, length-set, State, state_at, state_in, subst, sym}
 use Rattle.gl_table.proofs.inside.Marked.{agrees-back, counts-back, list_there, parents_counted, shedding_begins, taken_out}
 use Rattle.gl_table.proofs.inside.Slots.{agrees-set, apart-set, counts-set}
 use Rattle.gl_table.proofs.locks.Locks.shed.Goals as goal
 
 pub mark_covered-requires : goal.mark_covered-requires
-mark_covered-requires c = record {
-  counted = parents_counted (state_in c.args.graph.now c.args.self.now) c.requires.orderly c.args.slot c.requires.active c.law.ensures.lawful
-      c.args.self.now.lists.items c.replace-list.result (list_there c.args.self.now (graph_of c.args.graph.now) c.requires.exact.sound c.requires.orderly
-      c.args.slot
-      c.requires.active) (taken_out c.args.self.now.lists.items c.args.slot c.index_mut.result.now c.replace-list.result c.replace-list.ensures.value
-      c.index_mut.ensures.value) (c.requires.exact.agree c.args.slot) (c.requires.exact.count c.args.slot);
-}
+mark_covered-requires c =
+    let l = c.args.self.now in
+    let there = list_there l.ledger (graph_of l.graph) l.sound l.orderly c.args.slot c.requires.active in
+    record {
+      counted = parents_counted (state_at l) l.orderly c.args.slot c.requires.active c.law.ensures.lawful l.ledger.lists.items c.replace-list.result there
+          (taken_out l.ledger.lists.items c.args.slot c.index_mut.result.now c.replace-list.result c.replace-list.ensures.value c.index_mut.ensures.value)
+          (l.agree c.args.slot) (l.count c.args.slot);
+    }
 
 pub release_marked-requires-clause-sound : goal.release_marked-requires-clause-sound
-release_marked-requires-clause-sound c = record {
-  few = c.requires.exact.sound.few;
-  lists = length-set c.args.self.now.lists.items c.args.slot c.replace-list.new.dest ∙ c.requires.exact.sound.lists;
-  apart = apart-set c.args.self.now.lists.items c.args.slot c.replace-list.new.dest
-      (list_there c.args.self.now (graph_of c.args.graph.now) c.requires.exact.sound c.requires.orderly c.args.slot c.requires.active)
-      c.requires.exact.sound.apart (subst IsApart (sym c.replace-list.ensures.after) c.new-empty.ensures.apart);
-}
+release_marked-requires-clause-sound c =
+    let l = c.args.self.now in
+    let there = list_there l.ledger (graph_of l.graph) l.sound l.orderly c.args.slot c.requires.active in
+    record {
+      few = l.sound.few;
+      lists = length-set l.ledger.lists.items c.args.slot c.replace-list.new.dest ∙ l.sound.lists;
+      apart = apart-set l.ledger.lists.items c.args.slot c.replace-list.new.dest there l.sound.apart
+          (subst IsApart (sym c.replace-list.ensures.after) c.new-empty.ensures.apart);
+    }
 
 pub release_marked-requires-clause-agree : goal.release_marked-requires-clause-agree
-release_marked-requires-clause-agree c = λ u e. agrees-set c.args.self.now.lists.items c.args.slot c.replace-list.new.dest
-    (list_there c.args.self.now (graph_of c.args.graph.now) c.requires.exact.sound c.requires.orderly c.args.slot c.requires.active) u e
-    (state_in c.args.graph.now c.args.self.now) (c.requires.exact.agree u)
+release_marked-requires-clause-agree c = λ u e. let l = c.args.self.now in
+    agrees-set l.ledger.lists.items c.args.slot c.replace-list.new.dest
+    (list_there l.ledger (graph_of l.graph) l.sound l.orderly c.args.slot c.requires.active) u e (state_at l) (l.agree u)
 
 pub release_marked-requires-clause-count : goal.release_marked-requires-clause-count
-release_marked-requires-clause-count c = λ u e. counts-set c.args.self.now.lists.items c.args.slot c.replace-list.new.dest
-    (list_there c.args.self.now (graph_of c.args.graph.now) c.requires.exact.sound c.requires.orderly c.args.slot c.requires.active) u e
-    (state_in c.args.graph.now c.args.self.now) (c.requires.exact.count u)
+release_marked-requires-clause-count c = λ u e. let l = c.args.self.now in
+    counts-set l.ledger.lists.items c.args.slot c.replace-list.new.dest
+    (list_there l.ledger (graph_of l.graph) l.sound l.orderly c.args.slot c.requires.active) u e (state_at l) (l.count u)
 
 pub release_marked-requires-clause-marked : goal.release_marked-requires-clause-marked
 release_marked-requires-clause-marked c =
-    shedding_begins (state_in c.args.graph.now c.args.self.now) c.requires.orderly c.args.slot c.requires.active c.law.ensures.lawful
-    c.args.self.now.lists.items c.replace-list.result (list_there c.args.self.now (graph_of c.args.graph.now) c.requires.exact.sound c.requires.orderly
-    c.args.slot c.requires.active) (taken_out c.args.self.now.lists.items c.args.slot c.index_mut.result.now c.replace-list.result c.replace-list.ensures.value
-    c.index_mut.ensures.value)
-    (c.requires.exact.agree c.args.slot) (c.requires.exact.count c.args.slot) c.args.node c.requires.exact.sound.apart c.mark_covered.new.self
-    c.mark_covered.ensures.listed c.mark_covered.ensures.modes c.mark_covered.ensures.counts c.mark_covered.ensures.loose c.mark_covered.ensures.keys
+    let l = c.args.self.now in
+    let there = list_there l.ledger (graph_of l.graph) l.sound l.orderly c.args.slot c.requires.active in
+    shedding_begins (state_at l) l.orderly c.args.slot c.requires.active c.law.ensures.lawful l.ledger.lists.items c.replace-list.result there
+    (taken_out l.ledger.lists.items c.args.slot c.index_mut.result.now c.replace-list.result c.replace-list.ensures.value c.index_mut.ensures.value)
+    (l.agree c.args.slot) (l.count c.args.slot) c.args.node l.sound.apart c.mark_covered.new.self c.mark_covered.ensures.listed c.mark_covered.ensures.modes
+    c.mark_covered.ensures.counts c.mark_covered.ensures.loose c.mark_covered.ensures.keys
 
-pub returns-clause-exact : goal.returns-clause-exact
-returns-clause-exact c =
+pub invariant_of-self : goal.invariant_of-self
+invariant_of-self c =
     let left = c.release_marked.new.self in
     let ends = c.release_marked.ensures in
-    let now : State = state_in c.args.graph.now left in
-    let before : State = state_in c.args.graph.now c.args.self.now in
-    let there = list_there left (graph_of c.args.graph.now) ends.sound ends.orderly c.args.slot ends.active in
+    let now : State = state_in c.args.self.now.graph left in
+    let before : State = state_at c.args.self.now in
+    let there = list_there left (graph_of c.args.self.now.graph) ends.sound ends.orderly c.args.slot ends.active in
     record {
+      orderly = ends.orderly;
       sound = record {
         few = ends.sound.few;
         lists = length-set left.lists.items c.args.slot c.release_marked.new.list ∙ ends.sound.lists;

@@ -1,46 +1,47 @@
-use Rattle.gl_table.proofs.Words.{◌&&◌, ◌<◌, ◌∙◌, ◌≡◌, Agrees, ap, count_of, CountsHeld, false, if◌then◌else◌, is_listed, IsApart, length, List, LockList}
-use Rattle.gl_table.proofs.Words.{mode_of, NL, NodeId, not, not-false, not-true, pumped, same_node, slice_set, spare, State, state_in, subst, sym, true}
-use Rattle.gl_table.proofs.Words.{without_wait, ℕ}
+use Rattle.gl_table.proofs.Words.{◌&&◌, ◌<◌, ◌∙◌, ◌≡◌, Agrees, ap, count_of, CountsHeld, false, if◌then◌else◌, is_listed, is_waiting_at, IsApart, IsOrderly}
+use Rattle.gl_table.proofs.Words.{length, List, LockList, mode_of, NL, NodeId, not, not-false, not-true, pumped, same_node, slice_set, spare, State, state_at}
+use Rattle.gl_table.proofs.Words.{state_in, subst, sym, true, without_wait, ℕ}
 use Rattle.gl_table.proofs.inside.Slots.{by_list-at}
 use Rattle.gl_table.proofs.inside.Withdrawn.{agrees_withdrawn, counts_withdrawn, room_left, Unlists, unlists_held, unlists_left}
 use Rattle.gl_model.proofs.law.Keeps.{txn_there, waiting_is}
 use Rattle.gl_model.proofs.telling.Fronts.{waits_only}
+use Rattle.gl_model.proofs.telling.GivenUp.{orderly_without}
 use Rattle.gl_table.proofs.locks.Locks.withdraw.Goals.{After-holds}
 use Rattle.gl_table.proofs.locks.Locks.withdraw.Goals as goal
 
 abbrev before : After-holds → State
-before c = state_in c.args.graph.now c.args.self.now
+before c = state_at c.args.self.now
 
 -- the lists, once the wait is out of its queue
 abbrev mid : After-holds → List LockList
 mid c = c.leave_queue.new.self.lists.items
 
 slot_there : (c : After-holds) → c.args.slot < length (mid c)
-slot_there c = subst (λ (k : ℕ). c.args.slot < k) (sym (c.leave_queue.ensures.lists.len ∙ c.requires.exact.sound.lists))
-    (c.requires.orderly.below c.args.slot (txn_there ((before c).txns c.args.slot) _ (waiting_is _ c.args.node c.requires.waits).1))
+slot_there c = subst (λ (k : ℕ). c.args.slot < k) (sym (c.leave_queue.ensures.lists.len ∙ c.args.self.now.sound.lists))
+    (c.args.self.now.orderly.below c.args.slot (txn_there ((before c).txns c.args.slot) _ (waiting_is _ c.args.node c.requires.waits).1))
 
 -- only its node grants
 state_is : (c : After-holds) → pumped (without_wait (before c) c.args.slot c.args.status) (same_node c.args.node)
-    ≡ state_in c.args.graph.now c.leave_queue.new.self
+    ≡ state_in c.args.self.now.graph c.leave_queue.new.self
 state_is c = sym (c.leave_queue.ensures.state ∙ ap (pumped (without_wait (before c) c.args.slot c.args.status))
     (waits_only (before c) c.args.slot c.args.node c.requires.waits))
 
 module _ (c : After-holds) (ls : List LockList) (unlists : Unlists (mid c) ls c.args.slot c.args.node) where
-  agrees : (u : ℕ) → Agrees (state_in c.args.graph.now c.leave_queue.new.self) ls u
+  agrees : (u : ℕ) → Agrees (state_in c.args.self.now.graph c.leave_queue.new.self) ls u
   agrees u = subst (λ (x : State). Agrees x ls u) (state_is c)
-      (agrees_withdrawn (before c) c.requires.orderly c.law.ensures.lawful c.args.slot c.args.node c.args.status c.requires.quiet c.requires.waits
-      c.args.self.now.lists.items (mid c) c.requires.exact.agree c.requires.exact.count c.leave_queue.ensures.lists ls unlists u)
+      (agrees_withdrawn (before c) c.args.self.now.orderly c.law.ensures.lawful c.args.slot c.args.node c.args.status c.requires.quiet c.requires.waits
+      c.args.self.now.ledger.lists.items (mid c) c.args.self.now.agree c.args.self.now.count c.leave_queue.ensures.lists ls unlists u)
 
-  counts : (u : ℕ) → CountsHeld (state_in c.args.graph.now c.leave_queue.new.self) ls u
+  counts : (u : ℕ) → CountsHeld (state_in c.args.self.now.graph c.leave_queue.new.self) ls u
   counts u = subst (λ (x : State). CountsHeld x ls u) (state_is c)
-      (counts_withdrawn (before c) c.requires.orderly c.law.ensures.lawful c.args.slot c.args.node c.args.status c.requires.quiet c.requires.waits
-      c.args.self.now.lists.items (mid c) c.requires.exact.agree c.requires.exact.count c.leave_queue.ensures.lists ls unlists u)
+      (counts_withdrawn (before c) c.args.self.now.orderly c.law.ensures.lawful c.args.slot c.args.node c.args.status c.requires.quiet c.requires.waits
+      c.args.self.now.ledger.lists.items (mid c) c.args.self.now.agree c.args.self.now.count c.leave_queue.ensures.lists ls unlists u)
 
 pub leave-requires-clause-room : goal.leave-requires-clause-room
 leave-requires-clause-room c = let h = (goal.at.leave-requires-clause-room c).After-holds in λ _.
     subst (λ (k : ℕ). 0 < k) (by_list-at (λ l. spare l.loose) 0 (mid h) c.args.slot c.index_mut-list.result.now (slot_there h) c.index_mut-list.ensures.value)
-    (room_left (before h) c.requires.orderly c.law.ensures.lawful c.args.slot c.args.node c.args.status c.requires.quiet c.requires.waits
-    c.args.self.now.lists.items (mid h) c.requires.exact.agree c.requires.exact.count c.leave_queue.ensures.lists)
+    (room_left (before h) c.args.self.now.orderly c.law.ensures.lawful c.args.slot c.args.node c.args.status c.requires.quiet c.requires.waits
+    c.args.self.now.ledger.lists.items (mid h) c.args.self.now.agree c.args.self.now.count c.leave_queue.ensures.lists)
 
 -- the node was taken out of the list, which did not hold it
 left : (c : After-holds) (l' : LockList) → c.holds.result ≡ false → IsApart l'
@@ -55,21 +56,27 @@ stays : (c : After-holds) → c.holds.result ≡ true → Unlists (mid c) (slice
 stays c held = unlists_held (mid c) c.args.slot c.args.node c.index_mut-list.result.now (slot_there c) c.index_mut-list.ensures.value
     c.leave_queue.ensures.sound.apart (not-true _ (sym c.holds.ensures ∙ held))
 
-pub returns-then-not-holds-clause-exact : goal.returns-then-not-holds-clause-exact
-returns-then-not-holds-clause-exact c = let h = (goal.at.returns-then-not-holds-clause-exact c).After-holds in
+orderly : (c : After-holds) → IsOrderly (state_in c.args.self.now.graph c.leave_queue.new.self)
+orderly c = subst IsOrderly (sym c.leave_queue.ensures.state)
+    (orderly_without (before c) c.args.self.now.orderly c.args.slot c.args.status (is_waiting_at (before c) c.args.slot) c.requires.quiet)
+
+pub invariant_of-self : goal.invariant_of-self
+invariant_of-self c = let h = (goal.at.invariant_of-self c).After-holds in
     let was = c.leave_queue.ensures.sound in
     let now = left h c.leave.new.self c.if-not-holds.true c.leave.ensures.apart c.leave.ensures.modes c.leave.ensures.listed c.leave.ensures.counts in
     record {
+      orderly = orderly h;
       sound = record { few = was.few; lists = now.len ∙ was.lists; apart = now.apart };
       agree = agrees h _ now;
       count = counts h _ now;
     }
 
-pub returns-else-not-holds-clause-exact : goal.returns-else-not-holds-clause-exact
-returns-else-not-holds-clause-exact c = let h = (goal.at.returns-else-not-holds-clause-exact c).After-holds in
+pub invariant_of-self-else-not-holds : goal.invariant_of-self-else-not-holds
+invariant_of-self-else-not-holds c = let h = (goal.at.invariant_of-self-else-not-holds c).After-holds in
     let was = c.leave_queue.ensures.sound in
     let now = stays h c.if-not-holds.false in
     record {
+      orderly = orderly h;
       sound = record { few = was.few; lists = now.len ∙ was.lists; apart = now.apart };
       agree = agrees h _ now;
       count = counts h _ now;

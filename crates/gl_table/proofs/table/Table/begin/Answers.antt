@@ -1,7 +1,8 @@
 use Rattle.gl_table.proofs.Words.{◌+◌, ◌∙◌, ◌≡◌, ap, begin_tests, begun, Err, first_refusal, free_slot, is_free, None, none_some, Ok, position, refl, Refuses}
 use Rattle.gl_table.proofs.Words.{Some, state_of, subst, sym, TableView, TxnId}
 use Rattle.gl_modes.specs.declared.refusal.Refusal.TheVariants as no
-use Rattle.gl_table.proofs.calls.Law.{begin-refusal, begun-sound, begun-state, found-slot}
+use Rattle.gl_table.proofs.calls.Law.{begin-refusal, begun-law, begun-safe, begun-state, found-slot}
+use Rattle.gl_table.proofs.table.Table.begin.Goals.{After-take}
 use Rattle.gl_table.proofs.table.Table.begin.Goals as goal
 
 -- no slot is free
@@ -20,25 +21,30 @@ returns-in_default-clause-refuses c = subst (λ r. Refuses {T = TxnId} r (Err no
 
 -- a slot is free
 
-seat : (c : goal.After-take) → Some c.in-Some.slot ≡ position is_free c.self.inside.locks.seats.items
+seat : (c : After-take) → Some c.in-Some.slot ≡ position is_free c.self.inside.locks.ledger.seats.items
 seat c = sym c.in-Some.is ∙ c.first_free.ensures
 
-slot : (c : goal.After-take) → free_slot (state_of c.args.self.now) ≡ Some c.in-Some.slot
+slot : (c : After-take) → free_slot (state_of c.args.self.now) ≡ Some c.in-Some.slot
 slot c = found-slot c.args.self.now (Some c.in-Some.slot) (seat c ∙ ap (λ (v : TableView). position is_free v.seats) c.self.view_is)
 
 pub invariant_of-self : goal.invariant_of-self
-invariant_of-self c = begun-sound c.self.inside c.self.invariant c.in-Some.slot (seat c) c.take.new.self c.take.ensures
+invariant_of-self c = let at = (goal.at.invariant_of-self c).After-take in
+    begun-safe c.self.inside c.self.invariant c.in-Some.slot (seat at) c.take.new.self c.take.ensures
+
+pub invariant_of-self-inside : goal.invariant_of-self-inside
+invariant_of-self-inside c = begun-law c.self.inside c.self.invariant c.in-Some.slot (seat c) c.take.new.self c.take.ensures
 
 pub returns-clause-begun : goal.returns-clause-begun
-returns-clause-begun c = (
-  slot c,
+returns-clause-begun c = let at = (goal.at.returns-clause-begun c).After-take in (
+  slot at,
   ap (λ (v : TableView). v.begins + 1) c.self.view_is,
-  begun-state c.self.inside c.self.invariant c.in-Some.slot (seat c) c.take.new.self c.take.ensures
+  begun-state c.self.inside c.self.invariant c.in-Some.slot (seat at) c.take.new.self c.take.ensures
       ∙ ap (λ (v : TableView). begun (state_of v) c.in-Some.slot) c.self.view_is,
 )
 
 pub returns-clause-refuses : goal.returns-clause-refuses
 returns-clause-refuses c =
+    let at = (goal.at.returns-clause-refuses c).After-take in
     let goes = begin-refusal (state_of c.args.self.now) (Some c.in-Some.slot) (λ e. c.if-self.false (ap (λ (v : TableView). v.begins) c.self.view_is ∙ e))
-    (slot c) in
+    (slot at) in
     subst (λ r. Refuses {T = TxnId} r (Ok (record { slot = c.in-Some.slot; age = c.self.inside.begins + 1 }))) (sym goes) tt

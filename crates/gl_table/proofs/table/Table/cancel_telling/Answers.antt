@@ -1,11 +1,7 @@
 use Rattle.gl_table.proofs.Words.{◌∙◌, ◌≡◌, ap, cancelled, is_waiting_at, state_of, TableView, told_but, true, view_of}
-use Rattle.gl_table.proofs.calls.Calls.{orderly}
 use Rattle.gl_table.proofs.calls.Ends.{sound_cancelled, state_cancelled, told_cancelled}
 use Rattle.gl_table.proofs.table.Table.cancel_telling.Goals.{After-withdraw}
 use Rattle.gl_table.proofs.table.Table.cancel_telling.Goals as goal
-
-pub withdraw-requires-clause-orderly : goal.withdraw-requires-clause-orderly
-withdraw-requires-clause-orderly c = orderly c.self.inside c.self.invariant
 
 waits : (c : After-withdraw) → is_waiting_at (state_of (view_of c.self.inside)) c.args.t.slot c.in_ok-node.node ≡ true
 waits c = ap (λ (v : TableView). is_waiting_at (state_of v) c.args.t.slot c.in_ok-node.node) c.self.view_is ∙ c.in_ok-node.ensures.waits
@@ -13,7 +9,7 @@ waits c = ap (λ (v : TableView). is_waiting_at (state_of v) c.args.t.slot c.in_
 pub invariant_of-self : goal.invariant_of-self
 invariant_of-self c =
     sound_cancelled c.self.inside c.self.invariant c.args.t.slot c.in_ok-node.node (waits (goal.at.invariant_of-self c).After-withdraw) c.withdraw.new.self
-    c.withdraw.ensures.state c.withdraw.ensures.exact
+    c.withdraw.ensures.state
 
 pub returns-clause-state : goal.returns-clause-state
 returns-clause-state c =

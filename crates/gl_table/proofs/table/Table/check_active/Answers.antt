@@ -3,4 +3,5 @@ use Rattle.gl_table.proofs.table.Table.check_active.Goals as goal
 
 pub returns : goal.returns
 returns c =
-    c.check_active.ensures (graph_of c.self.inside.graph) ∙ ap (λ (v : TableView). verdict (first_refusal (commit_tests (state_of v) c.args.t))) c.self.view_is
+    c.check_active.ensures (graph_of c.self.inside.locks.graph) ∙ ap (λ (v : TableView).
+    verdict (first_refusal (commit_tests (state_of v) c.args.t))) c.self.view_is

@@ -1,13 +1,10 @@
 use Rattle.gl_table.proofs.Words.{◌∙◌, ap, released, state_of, TableView, told, view_of}
-use Rattle.gl_table.proofs.calls.Calls.{orderly, sound_released, state_released}
+use Rattle.gl_table.proofs.calls.Calls.{sound_released, state_released}
 use Rattle.gl_table.proofs.calls.Ends.{told_ended}
 use Rattle.gl_table.proofs.table.Table.commit_telling.Goals as goal
 
-pub end-requires-clause-orderly : goal.end-requires-clause-orderly
-end-requires-clause-orderly c = orderly c.self.inside c.self.invariant
-
 pub invariant_of-self : goal.invariant_of-self
-invariant_of-self c = sound_released c.self.inside c.self.invariant c.args.t.slot c.end.new.self c.end.ensures.state c.end.ensures.exact
+invariant_of-self c = sound_released c.self.inside c.self.invariant c.args.t.slot c.end.new.self c.end.ensures.state
 
 pub returns-clause-state : goal.returns-clause-state
 returns-clause-state c =

@@ -5,7 +5,7 @@ use Rattle.gl_table.proofs.table.Table.lock_at.Goals as goal
 pub returns-in-Some-clause-row : goal.returns-in-Some-clause-row
 returns-in-Some-clause-row c =
     let s = state_of c.args.self.now in
-    c.row.ensures ∙ row-at c.self.inside.locks.lists.items c.args.t.slot c.args.place
+    c.row.ensures ∙ row-at c.self.inside.locks.ledger.lists.items c.args.t.slot c.args.place
     ∙ ap (λ w. slice_get (rows_of w c.args.t.slot) c.args.place) c.self.view_is
     ∙ sym (ap (λ b. if b then slice_get (rows_of c.args.self.now c.args.t.slot) c.args.place else None)
     (passed (lives s c.args.t) _ _ (sym c.in-Some.is ∙ c.status.ensures)))

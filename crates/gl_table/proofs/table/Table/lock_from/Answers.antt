@@ -1,15 +1,13 @@
-use Rattle.gl_table.proofs.Words.{◌<◌, ◌∙◌, ◌≡◌, Active, ap, enters_at, false, first_refusal, lock_tests, locked_as, LocksKeeping, None, Option, Refusal}
-use Rattle.gl_table.proofs.Words.{Refuses, rules, state_of, status_of, subst, sym, TableView, told_but, true, view_of, ℕ}
+use Rattle.gl_table.proofs.Words.{◌<◌, ◌∙◌, ◌≡◌, Active, ap, enters_at, false, first_refusal, lock_tests, LocksKeeping, None, Option, Refusal}
+use Rattle.gl_table.proofs.Words.{Refuses, rules, state_in, state_of, subst, sym, TableView, told_but, true, view_of, ℕ}
 use Rattle.gl_model.specs.Calls.{Locks}
-use Rattle.gl_table.proofs.calls.Calls.{orderly}
 use Rattle.gl_table.proofs.calls.Locking.{granted_answer, granted_keeps, granted_locks, granted_told, kept_locked, may_lock_by}
-use Rattle.gl_table.proofs.calls.Locking.{sound_granted, sound_kept, sound_locked, state_granted, state_locked, tests-seen, told_locked, unrefused}
-use Rattle.gl_table.proofs.calls.Locking.{waiting_orderly}
-use Rattle.gl_table.proofs.calls.Queries.{modes-seen}
+use Rattle.gl_table.proofs.calls.Locking.{law_asked, sound_locked, stands_granted, stands_kept, state_granted, state_locked, tests-seen, told_locked, unrefused}
+use Rattle.gl_table.proofs.calls.Stands.{MayStand, with_locks}
 use Rattle.gl_table.proofs.inside.Asks.{answer-enters, answer-granted, answer-waits}
 use Rattle.gl_model.proofs.law.Keeps.{txn_there}
 use Rattle.gl_model.proofs.law.Lock.{MayLock}
-use Rattle.gl_table.proofs.table.Table.lock_from.Goals.{After-ask, In-Granted, In-Waiting}
+use Rattle.gl_table.proofs.table.Table.lock_from.Goals.{After-ask, In_err-granted, In-Granted, In-Waiting}
 use Rattle.gl_table.proofs.table.Table.lock_from.Goals as goal
 
 -- the tests of the ask passed, and this is the mode held
@@ -17,7 +15,8 @@ checked : (c : After-ask) → (first_refusal (lock_tests (state_of c.args.self.n
     × (c.in_ok-held.held ≡ (state_of c.args.self.now).held c.args.t.slot c.args.n)
 checked c = (
   sym (tests-seen c.self.inside c.args.self.now c.self.view_is c.args.t c.args.n c.args.mode) ∙ c.in_ok-held.ensures.passed,
-  c.in_ok-held.ensures.held ∙ modes-seen c.self.inside c.self.invariant c.args.self.now c.self.view_is c.args.t.slot c.args.n,
+  c.in_ok-held.ensures.held ∙ (c.self.inside.locks.agree c.args.t.slot).modes c.args.n
+      ∙ ap (λ (v : TableView). (state_of v).held c.args.t.slot c.args.n) c.self.view_is,
 )
 
 may : (c : After-ask) → MayLock (state_of (view_of c.self.inside)) c.args.t c.args.n c.args.mode
@@ -38,29 +37,37 @@ returns-in_err-held-clause-refuses c =
     let is = sym (tests-seen c.self.inside c.args.self.now c.self.view_is c.args.t c.args.n c.args.mode) ∙ c.in_err-held.ensures.refused in
     subst (λ (o : Option Refusal). Refuses o c.from_residual.result) (sym is) (search rules)
 
-pub ask-requires-clause-orderly : goal.ask-requires-clause-orderly
-ask-requires-clause-orderly c = orderly c.self.inside c.self.invariant
+-- what the ask makes of the table where memory was wanting
+kept : (c : In_err-granted) → MayStand c.self.inside c.self.inside.locks.graph c.ask.new.self
+kept c = stands_kept c.self.inside c.self.invariant c.args.t c.args.n c.args.mode c.ask.new.self c.in_err-granted.ensures.err c.ask.ensures.exact
 
-pub invariant_of-self : goal.invariant_of-self
-invariant_of-self c =
-    sound_kept c.self.inside c.self.invariant c.args.t c.args.n c.args.mode c.ask.new.self
-    c.in_err-granted.ensures.err.headers c.in_err-granted.ensures.err.seats c.ask.ensures.exact
+pub invariant_of-self-in_err-granted : goal.invariant_of-self-in_err-granted
+invariant_of-self-in_err-granted c = (kept (goal.at.invariant_of-self-in_err-granted c).In_err-granted).safe
+
+pub invariant_of-locks-2 : goal.invariant_of-locks-2
+invariant_of-locks-2 c =
+    law_asked c.self.inside c.self.invariant c.args.t c.args.n c.args.mode (may (goal.at.invariant_of-locks-2 c).After-ask) c.ask.new.self c.ask.result
+    c.ask.ensures.granted c.ask.ensures.waits c.ask.ensures.err c.ask.ensures.exact
 
 pub returns-in_err-granted-clause-refuses : goal.returns-in_err-granted-clause-refuses
 returns-in_err-granted-clause-refuses c =
     let is = (checked (goal.at.returns-in_err-granted-clause-refuses c).After-ask).0 in
     subst (λ (o : Option Refusal). Refuses o c.from_residual-in_err-granted.result) (sym is) (search rules)
 
+-- what the grant makes of the table
+stand : (c : In-Granted) → MayLock (state_of (view_of c.self.inside)) c.args.t c.args.n c.args.mode
+    → MayStand c.self.inside c.self.inside.locks.graph c.ask.new.self
+stand c may = stands_granted c.self.inside c.self.invariant c.args.t c.args.n c.args.mode may (fits c) c.ask.new.self
+    (c.in_ok-granted.ensures.granted (fits c)) c.ask.ensures.exact
+
 pub invariant_of-self-in-Granted : goal.invariant_of-self-in-Granted
-invariant_of-self-in-Granted c =
-    let at = goal.at.invariant_of-self-in-Granted c in
-    sound_granted c.self.inside c.self.invariant c.args.t c.args.n c.args.mode (may at.After-ask) (fits at.In-Granted) c.ask.new.self
-    (c.in_ok-granted.ensures.granted (fits at.In-Granted)) c.ask.ensures.exact
+invariant_of-self-in-Granted c = let at = goal.at.invariant_of-self-in-Granted c in (stand at.In-Granted (may at.After-ask)).safe
 
 pub returns-in-Granted-clause-answer : goal.returns-in-Granted-clause-answer
 returns-in-Granted-clause-answer c =
     let at = goal.at.returns-in-Granted-clause-answer c in let m = may at.After-ask in let f = fits at.In-Granted in
-    granted_answer (state_of (view_of c.self.inside)) (state_of (view_of (record c.self.inside { locks = c.ask.new.self }))) c.args.t.slot c.args.n c.args.mode
+    granted_answer (state_of (view_of c.self.inside)) (with_locks c.self.inside (state_in c.self.inside.locks.graph c.ask.new.self)) c.args.t.slot c.args.n
+    c.args.mode
     c.in-Granted.granted m.active
     (state_granted c.self.inside c.self.invariant c.args.t c.args.n c.args.mode m f c.ask.new.self (c.in_ok-granted.ensures.granted f))
     (answer-granted _ _ _ _ f c.in_ok-granted.ensures.answer c.in-Granted.is)
@@ -68,7 +75,7 @@ returns-in-Granted-clause-answer c =
 pub returns-in-Granted-clause-told : goal.returns-in-Granted-clause-told
 returns-in-Granted-clause-told c =
     let at = goal.at.returns-in-Granted-clause-told c in let f = fits at.In-Granted in
-    let after = state_of (view_of (record c.self.inside { locks = c.ask.new.self })) in
+    let after = with_locks c.self.inside (state_in c.self.inside.locks.graph c.ask.new.self) in
     c.requires.empty ∙ granted_told (state_of (view_of c.self.inside)) after c.args.t.slot c.args.n c.args.mode c.self.invariant.lawful
     (state_granted c.self.inside c.self.invariant c.args.t c.args.n c.args.mode (may at.After-ask) f c.ask.new.self (c.in_ok-granted.ensures.granted f))
     ∙ ap (λ (v : TableView). told_but c.args.t.slot (state_of v) after) c.self.view_is
@@ -76,7 +83,7 @@ returns-in-Granted-clause-told c =
 pub returns-in-Granted-clause-state : goal.returns-in-Granted-clause-state
 returns-in-Granted-clause-state c =
     let at = goal.at.returns-in-Granted-clause-state c in let f = fits at.In-Granted in
-    let after = state_of (view_of (record c.self.inside { locks = c.ask.new.self })) in
+    let after = with_locks c.self.inside (state_in c.self.inside.locks.graph c.ask.new.self) in
     subst (λ (v : TableView). Locks (state_of v) c.args.t.slot c.args.n c.args.mode after) c.self.view_is
     (granted_locks (state_of (view_of c.self.inside)) after c.args.t.slot c.args.n c.args.mode f
     (state_granted c.self.inside c.self.invariant c.args.t c.args.n c.args.mode (may at.After-ask) f c.ask.new.self (c.in_ok-granted.ensures.granted f)))
@@ -84,36 +91,25 @@ returns-in-Granted-clause-state c =
 pub returns-in-Granted-clause-deadlock : goal.returns-in-Granted-clause-deadlock
 returns-in-Granted-clause-deadlock c =
     let at = goal.at.returns-in-Granted-clause-deadlock c in let f = fits at.In-Granted in
-    let after = state_of (view_of (record c.self.inside { locks = c.ask.new.self })) in
+    let after = with_locks c.self.inside (state_in c.self.inside.locks.graph c.ask.new.self) in
     subst (λ (v : TableView). LocksKeeping (state_of v) c.args.t.slot c.args.n c.args.mode v.deadlock after c.self.inside.deadlock) c.self.view_is
     (granted_keeps (state_of (view_of c.self.inside)) after c.args.t.slot c.args.n c.args.mode c.self.inside.deadlock f)
 
 pub returns-in-Granted-clause-refuses : goal.returns-in-Granted-clause-refuses
 returns-in-Granted-clause-refuses c = unrefused _ _ (checked (goal.at.returns-in-Granted-clause-refuses c).After-ask).0
 
-pub settle_asker-requires-clause-orderly : goal.settle_asker-requires-clause-orderly
-settle_asker-requires-clause-orderly c =
-    let at = goal.at.settle_asker-requires-clause-orderly c in let b = blocks at.In-Waiting in
-    waiting_orderly c.self.inside c.self.invariant c.args.t c.args.n c.args.mode (may at.After-ask) b c.ask.new.self (c.in_ok-granted.ensures.waits b)
-
 pub settle_asker-requires-clause-seated : goal.settle_asker-requires-clause-seated
 settle_asker-requires-clause-seated c =
     let at = goal.at.settle_asker-requires-clause-seated c in let m = may at.After-ask in
     subst (λ (k : ℕ). c.args.t.slot < k) (sym (ap (λ s. s.most) (c.in_ok-granted.ensures.waits (blocks at.In-Waiting))))
-    ((orderly c.self.inside c.self.invariant).below c.args.t.slot (txn_there ((state_of (view_of c.self.inside)).txns c.args.t.slot) Active m.active))
+    (c.self.inside.locks.orderly.below c.args.t.slot (txn_there ((state_of (view_of c.self.inside)).txns c.args.t.slot) Active m.active))
 
 pub invariant_of-self-in-Waiting : goal.invariant_of-self-in-Waiting
 invariant_of-self-in-Waiting c =
     let at = goal.at.invariant_of-self-in-Waiting c in let b = blocks at.In-Waiting in
     let settled = c.settle_asker.ensures in
     sound_locked c.self.inside c.self.invariant c.args.t c.args.n c.args.mode (may at.After-ask) b c.ask.new.self (c.in_ok-granted.ensures.waits b)
-    c.settle_asker.new.self c.settle_asker.new.deadlock settled.state settled.exact
-
-pub returns-in-Waiting-clause-answer : goal.returns-in-Waiting-clause-answer
-returns-in-Waiting-clause-answer c =
-    c.outcome.ensures
-    ∙ ap (λ m. locked_as m (status_of (state_of (view_of (record c.self.inside { locks = c.settle_asker.new.self; deadlock = c.settle_asker.new.deadlock })))
-    c.args.t.slot)) ((c.settle_asker.ensures.exact.agree c.args.t.slot).modes c.args.n)
+    c.settle_asker.new.self c.settle_asker.new.deadlock settled.state
 
 pub returns-in-Waiting-clause-told : goal.returns-in-Waiting-clause-told
 returns-in-Waiting-clause-told c =

@@ -1,15 +1,10 @@
 use Rattle.gl_table.proofs.Words.{◌∙◌, ap, IsLawful, Settled, SettlesKeeping, state_of, subst, TableView, told, view_of}
-use Rattle.gl_table.proofs.calls.Calls.{orderly}
 use Rattle.gl_table.proofs.calls.Ends.{kept_settled, sound_settled, state_settled, told_settled}
 use Rattle.gl_model.proofs.telling.Lists.{settled_same, told_settled_same}
 use Rattle.gl_table.proofs.table.Table.settle_telling.Goals as goal
 
-pub settle-requires-clause-orderly : goal.settle-requires-clause-orderly
-settle-requires-clause-orderly c = orderly c.self.inside c.self.invariant
-
 pub invariant_of-self : goal.invariant_of-self
 invariant_of-self c = sound_settled c.self.inside c.self.invariant c.args.t.slot c.settle.new.self c.settle.new.deadlock c.settle.ensures.state
-    c.settle.ensures.exact
 
 pub returns-clause-state : goal.returns-clause-state
 returns-clause-state c =

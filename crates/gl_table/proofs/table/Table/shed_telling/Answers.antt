@@ -1,17 +1,13 @@
 use Rattle.gl_table.proofs.Words.{◌-◌, ◌∙◌, ◌≡◌, Active, ap, covered_children, held_children, is_at_least, S, shed, Some, state_of, status_of, subst, sym}
 use Rattle.gl_table.proofs.Words.{TableView, told, true, view_of}
-use Rattle.gl_table.proofs.calls.Calls.{orderly}
 use Rattle.gl_table.proofs.calls.Records.{no_more_kept, number_kept, number_released, sound_shed, state_shed, told_shed}
 use Rattle.gl_table.proofs.table.Table.shed_telling.Goals as goal
-
-pub shed-requires-clause-orderly : goal.shed-requires-clause-orderly
-shed-requires-clause-orderly c = orderly c.self.inside c.self.invariant
 
 pub overflow_sub-result : goal.overflow_sub-result
 overflow_sub-result c =
     no_more_kept c.self.inside c.self.invariant c.args.t.slot c.args.n
     (subst (λ (v : TableView). status_of (state_of v) c.args.t.slot ≡ Some Active) (sym c.self.view_is) c.requires.active) c.shed.new.self c.shed.ensures.state
-    c.shed.ensures.exact (subst (λ (v : TableView). is_at_least ((state_of v).held c.args.t.slot c.args.n) S ≡ true) (sym c.self.view_is) c.requires.reads)
+    (subst (λ (v : TableView). is_at_least ((state_of v).held c.args.t.slot c.args.n) S ≡ true) (sym c.self.view_is) c.requires.reads)
     c.children.result c.children-2.result c.children.ensures c.children-2.ensures c.unwrap_or-held.result c.unwrap_or-kept.result c.unwrap_or-held.ensures
     c.unwrap_or-kept.ensures
 
@@ -19,7 +15,6 @@ pub invariant_of-self : goal.invariant_of-self
 invariant_of-self c =
     sound_shed c.self.inside c.self.invariant c.args.t.slot c.args.n
     (subst (λ (v : TableView). status_of (state_of v) c.args.t.slot ≡ Some Active) (sym c.self.view_is) c.requires.active) c.shed.new.self c.shed.ensures.state
-    c.shed.ensures.exact
 
 pub returns-clause-state : goal.returns-clause-state
 returns-clause-state c =
@@ -31,7 +26,7 @@ pub returns-clause-released : goal.returns-clause-released
 returns-clause-released c =
     number_released c.self.inside c.self.invariant c.args.t.slot c.args.n
     (subst (λ (v : TableView). status_of (state_of v) c.args.t.slot ≡ Some Active) (sym c.self.view_is) c.requires.active) c.shed.new.self c.shed.ensures.state
-    c.shed.ensures.exact (subst (λ (v : TableView). is_at_least ((state_of v).held c.args.t.slot c.args.n) S ≡ true) (sym c.self.view_is) c.requires.reads)
+    (subst (λ (v : TableView). is_at_least ((state_of v).held c.args.t.slot c.args.n) S ≡ true) (sym c.self.view_is) c.requires.reads)
     c.children.result c.children-2.result c.children.ensures c.children-2.ensures c.unwrap_or-held.result c.unwrap_or-kept.result c.unwrap_or-held.ensures
     c.unwrap_or-kept.ensures ∙ ap (λ (v : TableView). covered_children (state_of v) c.args.t.slot c.args.n) c.self.view_is
 
@@ -39,7 +34,7 @@ pub returns-clause-kept : goal.returns-clause-kept
 returns-clause-kept c =
     number_kept c.self.inside c.self.invariant c.args.t.slot c.args.n
     (subst (λ (v : TableView). status_of (state_of v) c.args.t.slot ≡ Some Active) (sym c.self.view_is) c.requires.active) c.shed.new.self c.shed.ensures.state
-    c.shed.ensures.exact (subst (λ (v : TableView). is_at_least ((state_of v).held c.args.t.slot c.args.n) S ≡ true) (sym c.self.view_is) c.requires.reads)
+    (subst (λ (v : TableView). is_at_least ((state_of v).held c.args.t.slot c.args.n) S ≡ true) (sym c.self.view_is) c.requires.reads)
     c.children.result c.children-2.result c.children.ensures c.children-2.ensures c.unwrap_or-held.result c.unwrap_or-kept.result c.unwrap_or-held.ensures
     c.unwrap_or-kept.ensures
     ∙ ap (λ (v : TableView). held_children (state_of v) c.args.t.slot c.args.n - covered_children (state_of v) c.args.t.slot c.args.n) c.self.view_is

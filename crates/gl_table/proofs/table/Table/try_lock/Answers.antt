@@ -1,10 +1,10 @@
 use Rattle.gl_table.proofs.Words.{◌∙◌, ◌≡◌, Err, false, first_refusal, granted, lock_tests, Mode, None, none_some, OnOk, Option, refl, Refusal, Refuses, rules}
-use Rattle.gl_table.proofs.Words.{Some, state_of, subst, sym, TableView, true, try_tests, view_of}
+use Rattle.gl_table.proofs.Words.{Some, state_in, state_of, subst, sym, TableView, true, try_tests, view_of}
 use Rattle.gl_modes.specs.declared.refusal.Refusal.TheVariants as no
-use Rattle.gl_table.proofs.calls.Calls.{orderly}
-use Rattle.gl_table.proofs.calls.Locking.{decided, may_lock_by, same_enters, sound_tried, state_tried, tests-seen, try_refused}
+use Rattle.gl_table.proofs.calls.Locking.{decided, may_lock_by, same_enters, stands_tried, state_tried, tests-seen, try_refused}
+use Rattle.gl_table.proofs.calls.Stands.{MayStand, with_locks}
 use Rattle.gl_model.proofs.law.Lock.{MayLock}
-use Rattle.gl_table.proofs.table.Table.try_lock.Goals.{In_err-held, In_ok-held}
+use Rattle.gl_table.proofs.table.Table.try_lock.Goals.{After-grant, In_err-held, In_ok-held}
 use Rattle.gl_table.proofs.table.Table.try_lock.Goals as goal
 
 passed : (c : In_ok-held) → first_refusal (lock_tests (state_of c.args.self.now) c.args.t c.args.n c.args.mode) ≡ None
@@ -34,23 +34,29 @@ returns-then-not-would_grant-clause-held c =
     (passed (goal.at.returns-then-not-would_grant-clause-held c).In_ok-held) false c.if-not-would_grant.ensures in
     λ passes. absurd (none_some (sym passes ∙ is))
 
-pub grant-requires-clause-orderly : goal.grant-requires-clause-orderly
-grant-requires-clause-orderly c = orderly c.self.inside c.self.invariant
-
 pub grant-requires-clause-enters : goal.grant-requires-clause-enters
 grant-requires-clause-enters c = sym (same_enters c.self.inside c.self.invariant c.args.t c.args.n c.args.mode) ∙ sym c.if-not-would_grant.ensures
 
-pub invariant_of-self : goal.invariant_of-self
-invariant_of-self c =
-    let may = subst (λ (v : TableView). MayLock (state_of v) c.args.t c.args.n c.args.mode) (sym c.self.view_is)
-    (may_lock_by (state_of c.args.self.now) c.args.t c.args.n c.args.mode (passed (goal.at.invariant_of-self c).In_ok-held)) in
-    sound_tried c.self.inside c.self.invariant c.args.t c.args.n c.args.mode c.grant.result c.grant.new.self may
+stand : (c : After-grant) → MayLock (state_of (view_of c.self.inside)) c.args.t c.args.n c.args.mode
+    → MayStand c.self.inside c.self.inside.locks.graph c.grant.new.self
+stand c may =
+    stands_tried c.self.inside c.self.invariant c.args.t c.args.n c.args.mode c.grant.result c.grant.new.self may
     (sym (same_enters c.self.inside c.self.invariant c.args.t c.args.n c.args.mode) ∙ sym c.if-not-would_grant.ensures)
     c.grant.ensures.state c.grant.ensures.err c.grant.ensures.exact
 
+may : (c : In_ok-held) → MayLock (state_of (view_of c.self.inside)) c.args.t c.args.n c.args.mode
+may c = subst (λ (v : TableView). MayLock (state_of v) c.args.t c.args.n c.args.mode) (sym c.self.view_is)
+    (may_lock_by (state_of c.args.self.now) c.args.t c.args.n c.args.mode (passed c))
+
+pub invariant_of-self-2 : goal.invariant_of-self-2
+invariant_of-self-2 c = let at = goal.at.invariant_of-self-2 c in (stand at.After-grant (may at.In_ok-held)).safe
+
+pub invariant_of-locks-2 : goal.invariant_of-locks-2
+invariant_of-locks-2 c = let at = goal.at.invariant_of-locks-2 c in (stand at.After-grant (may at.In_ok-held)).law
+
 pub returns-clause-state : goal.returns-clause-state
 returns-clause-state c =
-    subst (λ (v : TableView). OnOk c.grant.result (state_of (view_of (record c.self.inside { locks = c.grant.new.self }))
+    subst (λ (v : TableView). OnOk c.grant.result (with_locks c.self.inside (state_in c.self.inside.locks.graph c.grant.new.self)
     ≡ granted (state_of v) c.args.t.slot c.args.n c.args.mode)) c.self.view_is
     (state_tried c.self.inside c.self.invariant c.args.t c.args.n c.args.mode c.grant.result c.grant.new.self c.grant.ensures.state)
 

@@ -1,9 +1,6 @@
-use Rattle.gl_table.proofs.Words.{◌∙◌, ap, front_at, NL, State, state_in, state_of, subst, TableView, Told, told, unlocked, view_of, WakesTold, with_grant}
-use Rattle.gl_table.proofs.calls.Calls.{may_unlock, orderly, sound_unlocked, state_unlocked, told_unlocked}
+use Rattle.gl_table.proofs.Words.{◌∙◌, ap, front_at, NL, State, state_of, subst, TableView, Told, told, unlocked, view_of, WakesTold, with_grant, state_at}
+use Rattle.gl_table.proofs.calls.Calls.{may_unlock, sound_unlocked, state_unlocked, told_unlocked}
 use Rattle.gl_table.proofs.table.Table.unlock_telling.Goals as goal
-
-pub release-requires-clause-orderly : goal.release-requires-clause-orderly
-release-requires-clause-orderly c = orderly c.self.inside c.self.invariant
 
 pub release-requires-clause-childless : goal.release-requires-clause-childless
 release-requires-clause-childless c =
@@ -14,7 +11,7 @@ pub invariant_of-self : goal.invariant_of-self
 invariant_of-self c =
     let may = may_unlock c.self.inside c.self.invariant c.args.self.now c.self.view_is c.args.t c.args.n c.in_ok-check_active.field-0
     c.in_ok-check_childless.field-0 c.in_ok-check_active.ensures c.in_ok-check_childless.ensures in
-    sound_unlocked c.self.inside c.self.invariant c.args.t.slot c.args.n may.0 may.2 c.release.new.self c.release.ensures.state c.release.ensures.exact
+    sound_unlocked c.self.inside c.self.invariant c.args.t.slot c.args.n may.0 may.2 c.release.new.self c.release.ensures.state
 
 pub returns-clause-state : goal.returns-clause-state
 returns-clause-state c =
@@ -27,7 +24,7 @@ pub returns-clause-told : goal.returns-clause-told
 returns-clause-told c =
     let may = may_unlock c.self.inside c.self.invariant c.args.self.now c.self.view_is c.args.t c.args.n c.in_ok-check_active.field-0
     c.in_ok-check_childless.field-0 c.in_ok-check_active.ensures c.in_ok-check_childless.ensures in
-    let first : State = state_in c.self.inside.graph c.self.inside.locks in
+    let first : State = state_at c.self.inside.locks in
     let tells = subst (λ (list : Told). WakesTold first.txns c.args.n (front_at (with_grant first c.args.t.slot c.args.n NL) c.args.n) list
     c.release.new.told.items) c.requires.empty c.release.ensures.tells in
     told_unlocked c.self.inside c.self.invariant c.args.t.slot c.args.n may.0 may.2 c.release.new.self c.release.ensures.state c.release.new.told.items tells

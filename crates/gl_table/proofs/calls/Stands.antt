@@ -1,0 +1,63 @@
+-- When a ledger over a graph may stand in a table. For the calls that write either.
+use Rattle.gl_table.proofs.Words.{Agrees, AreExact, AreSound, CountsHeld, Detect, IsLawful, IsOrderly, IsSafe, IsSound, State, state_in, Victims, View, ℕ}
+use Rattle.gl_table.specs.declared.ledger.Ledger.{Ledger}
+use Rattle.gl_table.specs.declared.table.Table.TheInside.{Inside}
+
+-- what a lawful state says of the steps within a call
+pub lawful_orderly : (s : State) → IsLawful s → IsOrderly s
+lawful_orderly s law = record {
+  holders = λ u q h. (law.grants_live u q h).0;
+  holders_live = λ u q h. (law.grants_live u q h).1;
+  waiters_live = law.waits_live;
+  waits_are = law.waits_are;
+  one_wait = λ u q m h. (law.one_wait u q m h, (law.waits_intend u q m h).1);
+  below = law.slots_below;
+}
+
+-- the state of a table with locks of this state
+abbrev pub with_locks : Inside → State → State
+with_locks i x = record x { detect = i.detect; victims = i.victims; begins = i.begins }
+
+-- the locks are in order where the table is lawful, whatever its way of detection, its choice of victims and its count of begins
+pub orderly_over : (x : State) (d : Detect) (v : Victims) (b : ℕ) → IsLawful (record x { detect = d; victims = v; begins = b }) → IsOrderly x
+orderly_over x d v b law =
+    let o = lawful_orderly (record x { detect = d; victims = v; begins = b }) law in
+    record {
+      holders = o.holders;
+      holders_live = o.holders_live;
+      waiters_live = o.waiters_live;
+      waits_are = o.waits_are;
+      one_wait = o.one_wait;
+      below = o.below;
+    }
+
+-- what the locks are to keep: all that their struct says of them
+abbrev pub IsLaw : View → Ledger → Type 0
+IsLaw v l = record {
+  orderly : IsOrderly (state_in v l);
+  sound : AreSound l;
+  agree : (u : ℕ) → Agrees (state_in v l) l.lists.items u;
+  count : (u : ℕ) → CountsHeld (state_in v l) l.lists.items u;
+}
+
+-- the ledger may stand over the graph in this table, in place of its own
+pub record MayStand (i : Inside) (v : View) (l : Ledger) : Type 0 where
+  pub safe : IsSafe (with_locks i (state_in v l))
+  pub law : IsLaw v l
+
+pub stands : (i : Inside) (v : View) (l : Ledger) → IsSafe (with_locks i (state_in v l)) → AreExact v l → MayStand i v l
+stands i v l safe exact = record {
+  safe = safe;
+  law = record { orderly = orderly_over (state_in v l) i.detect i.victims i.begins safe.lawful; sound = exact.sound; agree = exact.agree; count = exact.count };
+}
+
+-- as its own does
+pub as_it_was : (i : Inside) → IsSound i → MayStand i i.locks.graph i.locks.ledger
+as_it_was i sound = record {
+  safe = sound;
+  law = record { orderly = i.locks.orderly; sound = i.locks.sound; agree = i.locks.agree; count = i.locks.count };
+}
+
+-- the table with it
+abbrev pub put : (i : Inside) (v : View) (l : Ledger) → IsLaw v l → Inside
+put i v l law = record i { locks = record { graph = v; ledger = l; orderly = law.orderly; sound = law.sound; agree = law.agree; count = law.count } }

@@ -1,0 +1,108 @@
+use Rattle.gl_table.proofs.Words.{◌&&◌, ◌<◌, ◌==◌, ◌||◌, ◌∙◌, ◌≡◌, Agrees, ap, count_by, CountsHeld, false, graph_of, holds, is_among_waiters, is_listed}
+use Rattle.gl_table.proofs.Words.{is_wait, length, length-set, LockList, members, NodeId, nodes, not, or-false, same_node, slice_set, State, state_in}
+use Rattle.gl_table.proofs.Words.{status_in, subst, sym, true, ℕ}
+use Rattle.gl_table.proofs.inside.Departures.{holds_after, IsLeaving, leaving_begins, leaving_fewer, leaving_one, leaving_out, left_released}
+use Rattle.gl_table.proofs.inside.Slots.{agrees-set, apart-set, by_list-at, counts-set, popped-listed, slice_get-at}
+use Rattle.gl_listed.proofs.Children.{nl_is}
+use Rattle.gl_model.proofs.telling.Fronts.{in_no_queue, stands_other}
+use Rattle.gl_table.proofs.ledger.Ledger.leave_all.Goals.{After-index_mut}
+use Rattle.gl_table.proofs.ledger.Ledger.leave_all.Goals as goal
+
+pub loop-node-init : goal.loop-node-init
+loop-node-init c =
+    let s : State = state_in c.args.graph.now c.args.self.now in
+    record {
+      sound = c.requires.exact.sound;
+      listed = λ q. (c.requires.exact.agree c.args.slot).listed q ∙ ap (λ b. holds (members s q) c.args.slot || b)
+          (in_no_queue s c.requires.orderly c.args.slot c.requires.quiet q) ∙ or-false (holds (members s q) c.args.slot);
+      leaving = leaving_begins s c.args.slot c.args.self.now.lists.items c.args.told.now.items c.requires.orderly
+          (λ u e. c.requires.exact.agree u) (λ u e. c.requires.exact.count u) c.requires.tell;
+    }
+
+abbrev now : After-index_mut → State
+now c = state_in c.args.graph.now c.loop-node.self
+
+seated : (c : After-index_mut) → c.args.slot < length c.loop-node.self.lists.items
+seated c = subst (λ (k : ℕ). c.args.slot < k) (sym (c.loop-node.invariant.sound.lists ∙ c.loop-node.invariant.leaving.most)) c.requires.seated
+
+-- what its list says is what the slot holds
+holding : (c : After-index_mut) (n : NodeId) → is_listed c.index_mut.result.now n ≡ holds (members (now c) n) c.args.slot
+holding c n = sym (by_list-at (λ l. is_listed l n) false c.loop-node.self.lists.items c.args.slot c.index_mut.result.now (seated c) c.index_mut.ensures.value)
+    ∙ c.loop-node.invariant.listed n
+
+-- all others have what they hold, whatever is written in its list
+others : (c : After-index_mut) (l : LockList) (u : ℕ) → (u == c.args.slot) ≡ false → Agrees (now c) (slice_set c.loop-node.self.lists.items c.args.slot l) u
+others c l u e = agrees-set c.loop-node.self.lists.items c.args.slot l (seated c) u e (now c) (c.loop-node.invariant.leaving.agree u e)
+
+others_count : (c : After-index_mut) (l : LockList) (u : ℕ) → (u == c.args.slot) ≡ false
+    → CountsHeld (now c) (slice_set c.loop-node.self.lists.items c.args.slot l) u
+others_count c l u e = counts-set c.loop-node.self.lists.items c.args.slot l (seated c) u e (now c) (c.loop-node.invariant.leaving.count u e)
+
+another : (c : After-index_mut) (u : ℕ) (n : NodeId) → is_among_waiters u ((now c).queue n) ≡ true → (u == c.args.slot) ≡ false
+another c u n h = let is = c.loop-node.invariant.leaving in
+    stands_other (now c) is.orderly c.args.slot (ap (λ x. is_wait (status_in x)) is.txn ∙ c.requires.quiet) u n h
+
+pub drop_and_wake-requires-clause-sound : goal.drop_and_wake-requires-clause-sound
+drop_and_wake-requires-clause-sound c =
+    let is = c.loop-node.invariant.sound in
+    let ls = c.loop-node.self.lists.items in
+    let lt = seated (goal.at.drop_and_wake-requires-clause-sound c).After-index_mut in
+    record {
+      few = is.few;
+      lists = length-set ls c.args.slot c.pop.new.self ∙ is.lists;
+      apart = apart-set ls c.args.slot c.pop.new.self lt is.apart (c.in-Some.ensures.apart (is.apart c.args.slot c.index_mut.result.now
+          (slice_get-at ls c.args.slot c.index_mut.result.now lt c.index_mut.ensures.value)));
+    }
+
+pub drop_and_wake-requires-clause-holds : goal.drop_and_wake-requires-clause-holds
+drop_and_wake-requires-clause-holds c = sym (holding (goal.at.drop_and_wake-requires-clause-holds c).After-index_mut c.in-Some.node) ∙ c.in-Some.ensures.was
+
+pub drop_and_wake-requires-clause-agree : goal.drop_and_wake-requires-clause-agree
+drop_and_wake-requires-clause-agree c = let p = (goal.at.drop_and_wake-requires-clause-agree c).After-index_mut in
+    λ u h. others p c.pop.new.self u (another p u c.in-Some.node h)
+
+pub drop_and_wake-requires-clause-count : goal.drop_and_wake-requires-clause-count
+drop_and_wake-requires-clause-count c = let p = (goal.at.drop_and_wake-requires-clause-count c).After-index_mut in
+    λ u h. others_count p c.pop.new.self u (another p u c.in-Some.node h)
+
+pub loop-node-smaller : goal.loop-node-smaller
+loop-node-smaller c = let p = (goal.at.loop-node-smaller c).After-index_mut in
+    subst (λ (x : State). count_by (λ q. holds (members x q) c.args.slot) (nodes (graph_of c.args.graph.now))
+    < count_by (λ q. holds (members (now p) q) c.args.slot) (nodes (graph_of c.args.graph.now))) (sym c.drop_and_wake.ensures.state)
+    (leaving_fewer c.loop-node.invariant.leaving c.requires.quiet c.in-Some.node (sym (holding p c.in-Some.node) ∙ c.in-Some.ensures.was) c.law.ensures.lawful)
+
+pub loop-node-preserved : goal.loop-node-preserved
+loop-node-preserved c =
+    let p = (goal.at.loop-node-preserved c).After-index_mut in
+    let ends = c.drop_and_wake.ensures in
+    let held = sym (holding p c.in-Some.node) ∙ c.in-Some.ensures.was in
+    let left = c.loop-node.invariant.leaving in
+    record {
+      sound = ends.sound;
+      listed = λ q. ends.lists.listed c.args.slot q
+          ∙ popped-listed c.loop-node.self.lists.items c.args.slot c.index_mut.result.now c.pop.new.self (seated p) c.index_mut.ensures.value c.in-Some.node
+          c.in-Some.ensures.listed q ∙ ap (λ b. b && not (same_node q c.in-Some.node)) (c.loop-node.invariant.listed q)
+          ∙ sym (ap (λ (x : State). holds (members x q) c.args.slot) ends.state ∙ holds_after left c.requires.quiet c.in-Some.node held q);
+      leaving = subst (λ (x : State). IsLeaving (state_in c.args.graph.now c.args.self.now) x c.args.slot c.drop_and_wake.new.self.lists.items
+          c.args.told.now.items c.drop_and_wake.new.told.items) (sym ends.state)
+          (leaving_one left c.requires.quiet c.in-Some.node held c.law.ensures.lawful (others p c.pop.new.self) (others_count p c.pop.new.self) ends.lists
+          ends.tells);
+    }
+
+-- in the end the list is empty
+none : (c : After-index_mut) → ((q : NodeId) → is_listed c.index_mut.result.now q ≡ false) → (q : NodeId) → holds (members (now c) q) c.args.slot ≡ false
+none c empty q = sym (holding c q) ∙ empty q
+
+pub returns-clause-state : goal.returns-clause-state
+returns-clause-state c = let p = (goal.at.returns-clause-state c).After-index_mut in
+    left_released c.loop-node.invariant.leaving c.requires.quiet c.requires.orderly (none p c.in_default.ensures.none)
+
+pub returns-clause-free : goal.returns-clause-free
+returns-clause-free c = let p = (goal.at.returns-clause-free c).After-index_mut in λ q. nl_is ((now p).held c.args.slot q) (none p c.in_default.ensures.none q)
+
+pub returns-clause-out : goal.returns-clause-out
+returns-clause-out c = leaving_out c.loop-node.invariant.leaving c.requires.quiet
+
+pub returns-clause-tells : goal.returns-clause-tells
+returns-clause-tells c = let is = c.loop-node.invariant.leaving in
+    record { by_slot = is.by_slot; others = λ s way same. (is.tells s way same).1; own = is.own }

@@ -1,0 +1,46 @@
+use Rattle.gl_table.proofs.Words.{◌∙◌, and-not_self, ap, arith, clash, holds, is_wait, keys, members, none_some, slice_get_past, State, state_in, subst, sym}
+use Rattle.gl_table.proofs.inside.Departures.{leaving_begins}
+use Rattle.gl_table.proofs.inside.Marked.{IsReleasing, marked_childless, marked_counted, releasing_ends, releasing_modes, releasing_one}
+use Rattle.gl_table.proofs.ledger.Ledger.release_marked.Goals as goal
+
+pub loop-at-init : goal.loop-at-init
+loop-at-init c = record {
+  sound = c.requires.sound;
+  within = omega arith;
+  passed = λ i n le at. absurd (none_some (sym (slice_get_past (keys c.args.list.now.entries) i (omega arith)) ∙ at));
+  releasing = record {
+    leaving = leaving_begins (state_in c.args.graph.now c.args.self.now) c.args.slot c.args.self.now.lists.items c.args.told.now.items c.requires.orderly
+        c.requires.agree c.requires.count c.requires.tell;
+    marked = c.requires.marked;
+    covered = λ q h. clash h (and-not_self (holds (members (state_in c.args.graph.now c.args.self.now) q) c.args.slot));
+  };
+}
+
+pub take_marked-requires-clause-childless : goal.take_marked-requires-clause-childless
+take_marked-requires-clause-childless c = marked_childless c.loop-at.invariant.releasing (ap is_wait c.requires.active)
+
+pub take_marked-requires-clause-counted : goal.take_marked-requires-clause-counted
+take_marked-requires-clause-counted c = λ n q listed mark.
+    marked_counted c.loop-at.invariant.releasing (ap is_wait c.requires.active) c.law.ensures.lawful n listed q
+
+pub loop-at-preserved-in-Some : goal.loop-at-preserved-in-Some
+loop-at-preserved-in-Some c = record {
+  sound = c.drop_and_wake.ensures.sound;
+  within = c.in-Some.ensures.len;
+  passed = c.in-Some.ensures.passed;
+  releasing = subst (λ (x : State). IsReleasing (state_in c.args.graph.now c.args.self.now) x c.args.slot c.args.node c.drop_and_wake.new.self.lists.items
+      c.take_marked.new.self c.args.told.now.items c.drop_and_wake.new.told.items) (sym c.drop_and_wake.ensures.state)
+      (releasing_one c.loop-at.invariant.releasing (ap is_wait c.requires.active) c.law.ensures.lawful c.in-Some.child c.in-Some.ensures.was
+      c.in-Some.ensures.was_marked c.in-Some.ensures.apart c.in-Some.ensures.listed c.in-Some.ensures.modes c.in-Some.ensures.counts
+      c.drop_and_wake.ensures.lists c.drop_and_wake.ensures.tells);
+}
+
+pub returns-clause-state : goal.returns-clause-state
+returns-clause-state c = releasing_ends c.loop-at.invariant.releasing (λ i n le at. c.loop-at.invariant.passed i n (omega arith) at)
+
+pub returns-clause-tells : goal.returns-clause-tells
+returns-clause-tells c = let is = c.loop-at.invariant.releasing.leaving in
+    record { by_slot = is.by_slot; others = λ s way same. (is.tells s way same).1; own = is.own }
+
+pub returns-clause-modes : goal.returns-clause-modes
+returns-clause-modes c = releasing_modes c.loop-at.invariant.releasing (λ i n le at. c.loop-at.invariant.passed i n (omega arith) at)

@@ -1,0 +1,79 @@
+use Rattle.gl_table.proofs.Words.{◌∙◌, ◌≡◌, ap, AreKept, books_of, Bool, false, graph_of, has_slot-zero, parents_of, state_in, stays, Waiter, ℕ}
+use Rattle.gl_waits.specs.Sets.{has_slot}
+use Rattle.gl_table.proofs.inside.Slots.{none_if}
+use Rattle.gl_table.proofs.inside.TurnedAway.{turned_agrees, turned_below, turned_front, turned_over, turned_room, turned_untold, turned_waits, turning_begins}
+use Rattle.gl_table.proofs.inside.TurnedAway.{turning_ends, turning_one}
+use Rattle.gl_table.proofs.inside.Woken.{kept_still}
+use Rattle.gl_table.proofs.ledger.Ledger.turn_away.Goals.{After-strays-strays}
+use Rattle.gl_table.proofs.ledger.Ledger.turn_away.Goals as goal
+
+kept : (c : After-strays-strays) → AreKept (books_of c.args.self.now.seats c.args.self.now.lists.items c.args.told.now.items)
+kept c = record { few = c.requires.sound.few; len = c.requires.sound.lists; apart = c.requires.sound.apart; by_slot = c.requires.tell.by_slot }
+
+abbrev allowed : After-strays-strays → Waiter → Bool
+allowed c = stays (state_in c.args.graph.now c.args.self.now) (parents_of (graph_of c.args.graph.now) c.args.node)
+
+pub loop-strays-init : goal.loop-strays-init
+loop-strays-init c = let p = (goal.at.loop-strays-init c).After-strays-strays in
+    turning_begins (graph_of c.args.graph.now) c.args.self.now c.requires.orderly c.args.node (allowed p) c.args.told.now.items (kept p) _
+    c.strays-strays.ensures
+
+pub turn_one_away-requires-clause-kept : goal.turn_one_away-requires-clause-kept
+turn_one_away-requires-clause-kept c = kept_still c.loop-strays.invariant.over (kept (goal.at.turn_one_away-requires-clause-kept c).After-strays-strays)
+
+pub turn_one_away-requires-clause-seated : goal.turn_one_away-requires-clause-seated
+turn_one_away-requires-clause-seated c = let p = (goal.at.turn_one_away-requires-clause-seated c).After-strays-strays in
+    turned_below (graph_of c.args.graph.now) c.args.self.now c.requires.orderly c.args.node (allowed p) c.args.told.now.items (kept p)
+    c.loop-strays.invariant _ c.take_lowest-slot.ensures.member
+
+pub turn_one_away-requires-clause-waits : goal.turn_one_away-requires-clause-waits
+turn_one_away-requires-clause-waits c = let p = (goal.at.turn_one_away-requires-clause-waits c).After-strays-strays in
+    turned_waits (graph_of c.args.graph.now) c.args.self.now c.requires.orderly c.args.node (allowed p) c.args.told.now.items (kept p)
+    c.loop-strays.invariant _ c.take_lowest-slot.ensures.member
+
+pub turn_one_away-requires-clause-front_waits : goal.turn_one_away-requires-clause-front_waits
+turn_one_away-requires-clause-front_waits c = let p = (goal.at.turn_one_away-requires-clause-front_waits c).After-strays-strays in
+    turned_front (graph_of c.args.graph.now) c.args.self.now c.requires.orderly c.args.node (allowed p) c.args.told.now.items (kept p)
+    c.loop-strays.invariant _ c.take_lowest-slot.ensures.member c.requires.stuck
+
+pub turn_one_away-requires-clause-room : goal.turn_one_away-requires-clause-room
+turn_one_away-requires-clause-room c = let p = (goal.at.turn_one_away-requires-clause-room c).After-strays-strays in
+    turned_room (graph_of c.args.graph.now) c.args.self.now c.requires.orderly c.args.node (allowed p) c.args.told.now.items (kept p)
+    c.loop-strays.invariant _ c.take_lowest-slot.ensures.member (c.requires.agree _)
+
+pub turn_one_away-requires-clause-untold : goal.turn_one_away-requires-clause-untold
+turn_one_away-requires-clause-untold c = let p = (goal.at.turn_one_away-requires-clause-untold c).After-strays-strays in
+    turned_untold (graph_of c.args.graph.now) c.args.self.now c.requires.orderly c.args.node (allowed p) c.args.told.now.items (kept p)
+    c.loop-strays.invariant _ c.take_lowest-slot.ensures.member c.requires.tell.untold
+
+pub loop-strays-preserved : goal.loop-strays-preserved
+loop-strays-preserved c = let p = (goal.at.loop-strays-preserved c).After-strays-strays in
+    turning_one (graph_of c.args.graph.now) c.args.self.now c.requires.orderly c.args.node (allowed p) c.args.told.now.items (kept p)
+    c.loop-strays.invariant _ c.take_lowest-slot.ensures.member _ c.take_lowest-slot.ensures.left
+    c.turn_one_away.ensures.held c.turn_one_away.ensures.queue c.turn_one_away.ensures.ends
+
+-- in the end no stray is left
+none : (set : ℕ) → set ≡ 0 → (u : ℕ) → has_slot set u ≡ false
+none set is u = ap (λ k. has_slot k u) is ∙ has_slot-zero u
+
+pub returns-clause-sound : goal.returns-clause-sound
+returns-clause-sound c = let k = kept_still c.loop-strays.invariant.over (kept (goal.at.returns-clause-sound c).After-strays-strays) in
+    record { few = k.few; lists = k.len; apart = k.apart }
+
+pub returns-clause-state : goal.returns-clause-state
+returns-clause-state c = let p = (goal.at.returns-clause-state c).After-strays-strays in
+    turning_ends (graph_of c.args.graph.now) c.args.self.now c.requires.orderly c.args.node (allowed p) c.args.told.now.items (kept p)
+    c.loop-strays.invariant (none _ c.loop-strays-test.false)
+
+pub returns-clause-agree : goal.returns-clause-agree
+returns-clause-agree c = let p = (goal.at.returns-clause-agree c).After-strays-strays in
+    λ u. turned_agrees (graph_of c.args.graph.now) c.args.self.now c.requires.orderly c.args.node (allowed p) c.args.told.now.items (kept p)
+    c.loop-strays.invariant (none _ c.loop-strays-test.false) c.requires.newcomers u (c.requires.agree u)
+
+pub returns-clause-counts : goal.returns-clause-counts
+returns-clause-counts c = λ u q. c.loop-strays.invariant.over.lists.counts u q ∙ none_if _ _
+
+pub returns-clause-tells : goal.returns-clause-tells
+returns-clause-tells c = let p = (goal.at.returns-clause-tells c).After-strays-strays in
+    (turned_over (graph_of c.args.graph.now) c.args.self.now c.requires.orderly c.args.node (allowed p) c.args.told.now.items (kept p)
+    c.loop-strays.invariant (none _ c.loop-strays-test.false)).tells

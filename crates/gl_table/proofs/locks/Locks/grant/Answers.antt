@@ -1,4 +1,0 @@
-use Rattle.gl_table.proofs.locks.Locks.grant.Goals as goal
-
-pub returns-clause-state : goal.returns-clause-state
-returns-clause-state c = c.in_ok-wanted.ensures.granted c.requires.enters

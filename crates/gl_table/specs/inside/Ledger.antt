@@ -1,0 +1,85 @@
+-- The ledger that the code keeps beside the graph: as a state of the model, and what agrees with it.
+use Rattle.std.specs.Prelude.{◌≡◌, ◌≤◌, ◌||◌, ℕ, true, false, List, [], length, None, replicate}
+use Rattle.gl_modes.specs.declared.mode.Mode.TheVariants.{NL}
+use Rattle.gl_modes.specs.declared.node.NodeId.{NodeId}
+use Rattle.gl_graph.specs.Graph.{Graph}
+use Rattle.gl_graph.specs.View.{View, graph_of}
+use Rattle.gl_header.specs.Header.{holds, is_among_waiters}
+use Rattle.gl_waits.specs.declared.victims.Victims.TheVariants.{Youngest}
+use Rattle.gl_model.specs.declared.answers.Detect.TheVariants.{ByWatcher}
+use Rattle.gl_listed.specs.declared.list.LockList.{LockList}
+use Rattle.gl_table.specs.declared.ledger.Ledger.{Ledger}
+use Rattle.gl_model.specs.Calls.{held_children}
+use Rattle.gl_header.specs.Headers.{held_of, queue_of}
+use Rattle.gl_model.specs.State.{State, members, status_of, is_wait}
+use Rattle.gl_table.specs.inside.Seats.{txns_of}
+use Rattle.std.specs.Coded.{×_prop, Π_prop, →_prop, Coded-set, coded_option, coded_ℕ, le_prop}
+use Rattle.std.specs.List.{IsDistinct-prop}
+use Rattle.gl_modes.specs.Nodes.{same_node}
+use Rattle.gl_listed.specs.Lists.{IsApart}
+use Rattle.gl_table.specs.inside.Slots.{KeepsLists, AreApart, counted_by, held_by, listed_by, room_by}
+
+-- the state that a ledger is over a graph
+abbrev pub state_on : Graph → Ledger → State
+state_on g l =
+    record {
+      graph = g;
+      txns = txns_of l.seats.items;
+      held = held_of l.headers.entries;
+      queue = queue_of l.headers.entries;
+      detect = ByWatcher;
+      victims = Youngest;
+      most = length l.seats.items;
+      begins = 0;
+      accepted = 0;
+    }
+
+-- the same, with the graph as a contract sees it
+abbrev pub state_in : View → Ledger → State
+state_in g l = state_on (graph_of g) l
+
+-- a slot's list has the nodes that it holds or waits for, with their modes, and room for a later grant where it waits
+pub record Agrees (s : State) (ls : List LockList) (u : ℕ) : Type 0 where
+  pub modes : (q : NodeId) → held_by ls u q ≡ s.held u q
+  pub listed : (q : NodeId) → listed_by ls u q ≡ (holds (members s q) u || is_among_waiters u (s.queue q))
+  pub room : is_wait (status_of s u) ≡ true → 9 ≤ room_by ls u
+
+-- its counts of held children are exact
+abbrev pub CountsHeld : State → List LockList → ℕ → Type 0
+CountsHeld s ls u = (p : NodeId) → counted_by ls u p ≡ held_children s u p
+
+-- what the ledger is made of is in order
+pub record AreSound (l : Ledger) : Type 0 where
+  pub few : length l.seats.items ≤ 128
+  pub lists : length l.lists.items ≡ length l.seats.items
+  pub apart : AreApart l.lists.items
+
+IsApart-prop : (l : LockList) → IsProp (IsApart l)
+unfolding IsApart
+IsApart-prop l = ×_prop (IsDistinct-prop same_node _) (Π_prop (λ n. →_prop (Coded-set (coded_option coded_ℕ) _ _)))
+
+-- it is a proposition, as a ghost field has to be
+pub AreSound-prop : (l : Ledger) → IsProp (AreSound l)
+AreSound-prop l = hlevel (IsApart-prop, le_prop, Coded-set coded_ℕ)
+
+-- the ledger is exact over a graph: its parts are in order, and each list has the modes and the counts of its slot
+pub record AreExact (g : View) (l : Ledger) : Type 0 where
+  pub sound : AreSound l
+  pub agree : (u : ℕ) → Agrees (state_in g l) l.lists.items u
+  pub count : (u : ℕ) → CountsHeld (state_in g l) l.lists.items u
+
+-- no lock changed: at most room was made
+pub record KeepsLocks (l l' : Ledger) : Type 0 where
+  pub headers : l'.headers.entries ≡ l.headers.entries
+  pub seats : l'.seats ≡ l.seats
+  pub lists : KeepsLists l.lists.items l'.lists.items
+
+-- no header, all slots free, and nothing in any list
+pub record AreNew (l : Ledger) (most : ℕ) : Type 0 where
+  pub headers : l.headers.entries ≡ []
+  pub seats : l.seats.items ≡ replicate most None
+  pub lists : length l.lists.items ≡ most
+  pub apart : AreApart l.lists.items
+  pub listed : (t : ℕ) (n : NodeId) → listed_by l.lists.items t n ≡ false
+  pub modes : (t : ℕ) (n : NodeId) → held_by l.lists.items t n ≡ NL
+  pub counts : (t : ℕ) (n : NodeId) → counted_by l.lists.items t n ≡ 0

@@ -1,0 +1,236 @@
+//! The ledger of locks: the headers of all nodes, and by slot the transactions with their lists.
+
+ghost use Rattle.std.specs.Prelude.{◌≡◌, ◌<◌, ◌≤◌, ◌==◌, ℕ, IfOk, None, Some, false, length, not, slice_get, true, if◌then◌else◌};
+ghost use Rattle.std.specs.Option.{option_map};
+ghost use Rattle.indexmap.specs.IndexMap.{keys};
+ghost use Rattle.gl_modes.specs.declared.mode.Mode.TheVariants.{NL};
+ghost use Rattle.gl_modes.specs.declared.node.NodeId.{NodeId as Node};
+ghost use Rattle.std.specs.Prelude.{◌&&◌};
+ghost use Rattle.std.specs.List.{find, list_any};
+ghost use Rattle.gl_graph.specs.Graph.{is_child, is_live, nodes, parents_of};
+ghost use Rattle.gl_graph.specs.View.{graph_of};
+ghost use Rattle.gl_header.specs.Header.{holds, is_among_waiters};
+ghost use Rattle.gl_model.specs.Calls.{unlocked};
+ghost use Rattle.gl_model.specs.State.{is_write, front_at, is_waiting_at, pumped, without_wait, members, with_grant};
+ghost use Rattle.gl_table.specs.inside.Ledger.{Agrees, AreSound, CountsHeld, state_in, AreNew};
+ghost use Rattle.gl_model.specs.Lawful.{IsOrderly, effect_on};
+ghost use Rattle.gl_table.specs.inside.Seats.{txn_in, txns_of};
+ghost use Rattle.gl_table.specs.Table.{row_of};
+ghost use Rattle.gl_table.specs.inside.Slots.{CanEnd, CanHold, CanTell, Wakes, WakesLists, books_of, by_list, counted_by, held_by};
+ghost use Rattle.gl_model.specs.Tellings.{IsBySlot, WakesTold, notices_in};
+
+use crate::effective::effective;
+use crate::seat::Seat;
+use crate::seats::Seats;
+use gl_graph::Graph;
+use gl_header::{GrantList, Headers};
+use gl_listed::{Entry, LockList};
+use gl_model::{Effect, LockRow, Status, Told};
+use gl_modes::{Mode, NodeId};
+use std::alloc::{AllocError, Global};
+
+mod ask;
+mod checks;
+mod deadlock;
+pub(crate) mod leave;
+pub(crate) mod moves;
+mod place;
+mod wake;
+
+/// Who holds what and who waits where. The same is kept twice, so that neither way of asking is a
+/// search: by node in the headers, and by transaction in the lists. Where the graph is asked, it is
+/// handed in.
+#[derive(Drop)]
+pub(crate) struct Ledger {
+    pub(crate) alloc: Global,
+    pub(crate) headers: Headers,
+    pub(crate) seats: Seats,
+    pub(crate) lists: Vec<LockList>,
+}
+
+impl Ledger {
+    /// No locks, and so many free slots.
+    pub(crate) fn new(alloc: Global, most: usize) -> Result<Self, AllocError>
+        requires { most ≤ 128 }
+        ensures { IfOk result (λ ledger. AreNew ledger most) }
+    {
+        let headers = Headers::new(alloc)?;
+        let seats = Seats::new(alloc, most)?;
+        let mut lists = Vec::new(alloc);
+        for _ in 0..most {
+            lists.push(LockList::new(alloc))?;
+        }
+        Ok(Ledger {
+            alloc,
+            headers,
+            seats,
+            lists,
+        })
+    }
+
+    /// The transaction in a slot.
+    #[inline]
+    pub(crate) fn seat(&self, slot: u8) -> Option<Seat>
+        ensures { txn_in (Some result) ≡ txns_of self.now.seats.items slot }
+    {
+        self.seats.get(slot)
+    }
+
+    /// The mode in which a slot holds a node, `NL` for none.
+    pub(crate) fn mode(&self, slot: u8, node: NodeId) -> Mode
+        ensures { result ≡ held_by self.now.lists.items slot node }
+    {
+        match self.lists.get(slot as usize) {
+            Some(list) => list.mode(node),
+            None => Mode::NL,
+        }
+    }
+
+    /// How many children of a node a slot holds, where it holds the node.
+    pub(crate) fn children(&self, slot: u8, node: NodeId) -> Option<u32>
+        ensures { result ≡ (if holds (λ t. held_by self.now.lists.items t node) slot then Some (counted_by self.now.lists.items slot node) else None) }
+    {
+        let entry = self.lists.get(slot as usize)?.entry(node)?;
+        if matches!(entry.mode, Mode::NL) {
+            None
+        } else {
+            Some(entry.children)
+        }
+    }
+
+    /// How many nodes a slot holds or waits for.
+    pub(crate) fn rows(&self, slot: u8) -> usize
+        ensures { result ≡ by_list (λ l. length (keys l.entries)) 0 self.now.lists.items slot }
+    {
+        match self.lists.get(slot as usize) {
+            Some(list) => list.len(),
+            None => 0,
+        }
+    }
+
+    /// The row at a place in the list of a slot.
+    pub(crate) fn row(&self, slot: u8, place: usize) -> Option<LockRow>
+        ensures { result ≡ by_list (λ l. option_map row_of (slice_get l.entries.entries place)) None self.now.lists.items slot }
+    {
+        let (node, Entry { mode, children }) = self.lists.get(slot as usize)?.at(place)?;
+        Some(LockRow {
+            node,
+            mode,
+            children,
+        })
+    }
+
+    /// The held child of a node that was born first.
+    pub(crate) fn first_child(&self, graph: &Graph, slot: u8, node: NodeId) -> Option<NodeId>
+        requires live { (c : Node) → holds (λ t. held_by self.now.lists.items t c) slot ≡ true → is_live (graph_of graph.now) c ≡ true }
+        ensures { result ≡ find (λ c. is_child (graph_of graph.now) node c && holds (λ t. held_by self.now.lists.items t c) slot) (nodes (graph_of graph.now)) }
+    {
+        match self.lists.get(slot as usize) {
+            Some(list) => list.first_child(graph, node),
+            None => None,
+        }
+    }
+
+    /// Whether a slot holds some child of a node in `IX`, `SIX` or `X`.
+    pub(crate) fn writes_below(&self, graph: &Graph, slot: u8, node: NodeId) -> bool
+        requires live { (c : Node) → holds (λ t. held_by self.now.lists.items t c) slot ≡ true → is_live (graph_of graph.now) c ≡ true }
+        ensures { result ≡ list_any (λ c. is_child (graph_of graph.now) node c && is_write (held_by self.now.lists.items slot c)) (nodes (graph_of graph.now)) }
+    {
+        match self.lists.get(slot as usize) {
+            Some(list) => list.writes_below(graph, node),
+            None => false,
+        }
+    }
+
+    /// The effective mode of a slot on a node.
+    pub(crate) fn effective(
+        &self,
+        graph: &Graph,
+        slot: u8,
+        node: NodeId,
+    ) -> Result<Effect, AllocError>
+        requires slot { slot < length self.now.lists.items }
+        requires live { is_live (graph_of graph.now) node ≡ true }
+        ensures { IfOk result (λ effect. effect ≡ effect_on (graph_of graph.now) (held_by self.now.lists.items slot) node) }
+    {
+        effective(self.alloc, graph, &self.lists[slot as usize], node)
+    }
+
+    /// Takes the grant of a slot from the header of a node, which then grants from its front. The
+    /// slot's own list is left as it is. The list `granted` is filled anew; whoever drops several
+    /// grants has one for all.
+    pub(crate) fn drop_and_wake(
+        &mut self,
+        graph: &Graph,
+        slot: u8,
+        node: NodeId,
+        granted: &mut GrantList,
+        told: &mut Told,
+    )
+        requires sound { AreSound self.old }
+        requires orderly { IsOrderly (state_in graph.now self.old) }
+        requires holds { holds (members (state_in graph.now self.old) node) slot ≡ true }
+        requires no_wait { is_among_waiters slot ((state_in graph.now self.old).queue node) ≡ false }
+        requires agree { (u : ℕ) → is_among_waiters u ((state_in graph.now self.old).queue node) ≡ true → Agrees (state_in graph.now self.old) self.old.lists.items u }
+        requires count { (u : ℕ) → is_among_waiters u ((state_in graph.now self.old).queue node) ≡ true → CountsHeld (state_in graph.now self.old) self.old.lists.items u }
+        requires tell { CanTell told.old.items (λ u. is_among_waiters u ((state_in graph.now self.old).queue node)) }
+        ensures sound { AreSound self.new }
+        ensures state { state_in graph.now self.new ≡ unlocked (state_in graph.now self.old) slot node }
+        ensures lists { WakesLists self.old.lists.items node (parents_of (graph_of graph.now) node) (front_at (with_grant (state_in graph.now self.old) slot node NL) node) self.new.lists.items }
+        ensures tells { WakesTold (state_in graph.now self.old).txns node (front_at (with_grant (state_in graph.now self.old) slot node NL) node) told.old.items told.new.items }
+    {
+        graph.law();
+        self.headers.drop_grant(slot, node, granted);
+        self.wake_granted(graph, node, granted.as_slice(), told);
+    }
+
+    /// Takes the wait of a slot from the header of its node, which then grants from its front. The
+    /// slot's own list is left as it is; its status is written.
+    pub(crate) fn leave_queue(
+        &mut self,
+        graph: &Graph,
+        slot: u8,
+        node: NodeId,
+        status: Status,
+        told: &mut Told,
+    )
+        requires sound { AreSound self.old }
+        requires orderly { IsOrderly (state_in graph.now self.old) }
+        requires waits { is_waiting_at (state_in graph.now self.old) slot node ≡ true }
+        requires agree { (u : ℕ) → is_among_waiters u ((state_in graph.now self.old).queue node) ≡ true → Agrees (state_in graph.now self.old) self.old.lists.items u }
+        requires count { (u : ℕ) → is_among_waiters u ((state_in graph.now self.old).queue node) ≡ true → CountsHeld (state_in graph.now self.old) self.old.lists.items u }
+        requires by_slot { IsBySlot told.old.items }
+        requires untold { (u : ℕ) → is_among_waiters u ((state_in graph.now self.old).queue node) ≡ true → (u == slot) ≡ false → notices_in told.old.items u ≡ None }
+        ensures sound { AreSound self.new }
+        ensures state { state_in graph.now self.new ≡ pumped (without_wait (state_in graph.now self.old) slot status) (is_waiting_at (state_in graph.now self.old) slot) }
+        ensures lists { WakesLists self.old.lists.items node (parents_of (graph_of graph.now) node) (front_at (without_wait (state_in graph.now self.old) slot status) node) self.new.lists.items }
+        ensures tells { WakesTold (state_in graph.now self.old).txns node (front_at (without_wait (state_in graph.now self.old) slot status) node) told.old.items told.new.items }
+    {
+        graph.law();
+        let mut granted = GrantList::new();
+        self.headers.drop_wait(slot, node, &mut granted);
+        self.wake_granted(graph, node, granted.as_slice(), told);
+        self.seats.set_status(slot, status);
+    }
+
+    /// Those whose waits on a node were granted hold it, are active, and are told.
+    #[inline]
+    fn wake_granted(&mut self, graph: &Graph, node: NodeId, granted: &[(u8, Mode)], told: &mut Told)
+        requires can { CanEnd (books_of self.old.seats self.old.lists.items told.old.items) granted.now }
+        requires hold { (u : ℕ) → is_among_waiters u granted.now ≡ true → CanHold self.old.lists.items u node (parents_of (graph_of graph.now) node) }
+        ensures headers { self.new.headers.entries ≡ self.old.headers.entries }
+        ensures wakes { Wakes (books_of self.old.seats self.old.lists.items told.old.items) node (parents_of (graph_of graph.now) node) granted.now (books_of self.new.seats self.new.lists.items told.new.items) }
+    {
+        if granted.is_empty() {
+            return; // As mostly: the parents are looked up only where somebody is granted.
+        }
+        wake::wake(
+            &mut self.seats,
+            &mut self.lists,
+            told,
+            node,
+            graph.parents(node),
+            granted,
+        );
+    }
+}

@@ -1,0 +1,158 @@
+//! Asking for a node: granted at once, or queued.
+
+ghost use Rattle.std.specs.Prelude.{◌&&◌, ◌<◌, ◌≡◌, ◌≢◌, IfErr, IfOk, IsOk, OnErr, OnOk, Some, false, length, true};
+ghost use Rattle.gl_graph.specs.Graph.{is_live, parents_of};
+ghost use Rattle.gl_graph.specs.View.{graph_of};
+ghost use Rattle.gl_header.specs.Header.{holds};
+ghost use Rattle.gl_header.specs.Headers.{is_granted_at};
+ghost use Rattle.gl_model.specs.Calls.{asked_at, enqueued, enters_at, granted, wanted};
+ghost use Rattle.gl_model.specs.Lawful.{IsOrderly};
+ghost use Rattle.gl_model.specs.State.{members, status_of};
+ghost use Rattle.gl_model.specs.declared.txn.Status.TheVariants.{Active};
+ghost use Rattle.gl_modes.specs.declared.mode.Mode.TheVariants.{NL};
+ghost use Rattle.gl_modes.specs.declared.refusal.Refusal.{Refusal as ARefusal};
+ghost use Rattle.gl_table.specs.inside.Ledger.{AreExact, KeepsLocks, state_in};
+ghost use Rattle.gl_table.specs.inside.Slots.{HasRoomAt, KeepsLists, held_by};
+
+use crate::ledger::Ledger;
+use crate::seat::Seat;
+use gl_graph::Graph;
+use gl_header::Asked;
+use gl_listed::LockList;
+use gl_model::{Locked, Status};
+use gl_modes::{Mode, NodeId, Refusal, sup};
+
+/// Makes room in the list of a slot for one node more, and for the counts of its parents.
+#[inline]
+pub(crate) fn make_room(lists: &mut Vec<LockList>, slot: u8) -> Result<(), Refusal>
+    requires { slot < length lists.old.items }
+    ensures kept { KeepsLists lists.old.items lists.new.items }
+    ensures ok { OnOk result (HasRoomAt lists.new.items slot) }
+    ensures no_memory { IfErr result (λ refusal. refusal ≡ ARefusal.NoMemory) }
+{
+    match lists[slot as usize].make_room() {
+        Ok(()) => Ok(()),
+        Err(_) => Err(Refusal::NoMemory),
+    }
+}
+
+impl Ledger {
+    /// Makes room in the list of a slot for what an ask comes to. A conversion that is granted at once
+    /// needs none, so that want of memory does not refuse it.
+    #[inline]
+    fn make_room_to_ask(
+        &mut self,
+        slot: u8,
+        node: NodeId,
+        mode: Mode,
+        is_member: bool,
+    ) -> Result<(), Refusal>
+        requires { slot < length self.old.lists.items }
+        ensures rest { self.new ≡ record self.old { lists = self.new.lists } }
+        ensures kept { KeepsLists self.old.lists.items self.new.lists.items }
+        ensures room { OnOk result ((is_member && is_granted_at self.old.headers.entries slot node mode) ≡ false
+            → HasRoomAt self.new.lists.items slot) }
+        ensures at_once { (is_member && is_granted_at self.old.headers.entries slot node mode) ≡ true → IsOk result }
+        ensures no_memory { IfErr result (λ refusal. refusal ≡ ARefusal.NoMemory) }
+    {
+        match make_room(&mut self.lists, slot) {
+            Ok(()) => Ok(()),
+            Err(refusal) => {
+                if is_member && self.headers.would_grant(slot, node, mode) {
+                    Ok(())
+                } else {
+                    Err(refusal)
+                }
+            }
+        }
+    }
+
+    /// Asks for a mode on a node that has these parents and that the slot holds in the mode `held`: the
+    /// supremum of the held and the asked mode is granted at once, or the slot waits for it in its
+    /// place. The room for a later grant is made here. The only refusal is `NoMemory`, which a member
+    /// that is granted at once never meets.
+    #[inline]
+    pub(crate) fn ask(
+        &mut self,
+        graph: &Graph,
+        slot: u8,
+        node: NodeId,
+        mode: Mode,
+        held: Mode,
+        parents: &[NodeId],
+    ) -> Result<Asked, Refusal>
+        requires exact { AreExact graph.now self.old }
+        requires orderly { IsOrderly (state_in graph.now self.old) }
+        requires active { status_of (state_in graph.now self.old) slot ≡ Some Active }
+        requires live { is_live (graph_of graph.now) node ≡ true }
+        requires lock { mode ≢ NL }
+        requires held { held ≡ held_by self.old.lists.items slot node }
+        requires parents { parents.now ≡ parents_of (graph_of graph.now) node }
+        ensures exact { AreExact graph.now self.new }
+        ensures answer { IfOk result (λ asked. asked ≡ asked_at (state_in graph.now self.old) slot node mode) }
+        ensures granted { OnOk result (enters_at (state_in graph.now self.old) slot node mode ≡ true
+            → state_in graph.now self.new ≡ granted (state_in graph.now self.old) slot node mode) }
+        ensures waits { OnOk result (enters_at (state_in graph.now self.old) slot node mode ≡ false
+            → state_in graph.now self.new ≡ enqueued (state_in graph.now self.old) slot node (wanted (state_in graph.now self.old) slot node mode)) }
+        ensures err { OnErr result (KeepsLocks self.old self.new) }
+        ensures no_memory { IfErr result (λ refusal. refusal ≡ ARefusal.NoMemory) }
+        ensures held { holds (members (state_in graph.now self.old) node) slot ≡ true
+            → enters_at (state_in graph.now self.old) slot node mode ≡ true → IsOk result }
+    {
+        graph.law();
+        self.headers.law();
+        let is_member = held != Mode::NL;
+        self.make_room_to_ask(slot, node, mode, is_member)?;
+        let asked = self.headers.ask(slot, node, mode)?;
+        let list = &mut self.lists[slot as usize];
+        match asked {
+            Asked::Granted(wanted) if is_member => list.set_mode(node, wanted),
+            Asked::Granted(wanted) => {
+                list.enter(node, wanted);
+                list.count_up(parents);
+            }
+            Asked::Waiting => {
+                let wanted = sup(held, mode);
+                if !is_member {
+                    list.enter(node, Mode::NL);
+                }
+                self.seats
+                    .set_status(slot, Status::Waiting { node, wanted });
+            }
+        }
+        Ok(asked)
+    }
+
+    /// Grants a mode that can be granted at once, where the node has these parents and the slot holds
+    /// the mode `held`: the supremum of the held and the asked mode. The only refusal is `NoMemory`,
+    /// which a member never meets.
+    pub(crate) fn grant(
+        &mut self,
+        graph: &Graph,
+        slot: u8,
+        node: NodeId,
+        mode: Mode,
+        held: Mode,
+        parents: &[NodeId],
+    ) -> Result<Mode, Refusal>
+        requires exact { AreExact graph.now self.old }
+        requires orderly { IsOrderly (state_in graph.now self.old) }
+        requires active { status_of (state_in graph.now self.old) slot ≡ Some Active }
+        requires live { is_live (graph_of graph.now) node ≡ true }
+        requires lock { mode ≢ NL }
+        requires held { held ≡ held_by self.old.lists.items slot node }
+        requires parents { parents.now ≡ parents_of (graph_of graph.now) node }
+        requires enters { enters_at (state_in graph.now self.old) slot node mode ≡ true }
+        ensures exact { AreExact graph.now self.new }
+        ensures mode { IfOk result (λ m. m ≡ wanted (state_in graph.now self.old) slot node mode) }
+        ensures state { OnOk result (state_in graph.now self.new ≡ granted (state_in graph.now self.old) slot node mode) }
+        ensures err { OnErr result (KeepsLocks self.old self.new) }
+        ensures no_memory { IfErr result (λ refusal. refusal ≡ ARefusal.NoMemory) }
+        ensures held { holds (members (state_in graph.now self.old) node) slot ≡ true → IsOk result }
+    {
+        match self.ask(graph, slot, node, mode, held, parents)? {
+            Asked::Granted(wanted) => Ok(wanted),
+            Asked::Waiting => unreachable!(),
+        }
+    }
+}

@@ -1,0 +1,104 @@
+//! Who falls for a deadlock, and what is kept of it before.
+
+ghost use Rattle.std.specs.Prelude.{ℕ, ◌&&◌, ◌<◌, ◌↔◌, ◌≡◌, IfNone, IfSome, IsTrue, Some, length, true};
+ghost use Rattle.gl_graph.specs.Graph.{Graph as AGraph};
+ghost use Rattle.gl_model.specs.Deadlocks.{IsDeadlock, name_at};
+ghost use Rattle.gl_model.specs.Lawful.{IsOrderly};
+ghost use Rattle.gl_model.specs.State.{IsVictim, is_wait, status_in, status_of, waits_for};
+ghost use Rattle.gl_model.specs.declared.txn.Status.TheVariants.{Waiting};
+ghost use Rattle.gl_slots.specs.Slots.{has_slot};
+ghost use Rattle.gl_table.specs.inside.Ledger.{AreSound, state_on};
+ghost use Rattle.gl_table.specs.inside.Seats.{txns_of};
+ghost use Rattle.gl_waits.specs.Waits.{IsOnCycleOf, IsOnNoCycle};
+
+use crate::boards::{Waits, ages};
+use crate::ledger::Ledger;
+use crate::seat::Seat;
+use gl_model::{Deadlock, Status, Stuck, TxnId};
+use gl_slots::Slots;
+use gl_waits::{Victims, on_cycle_in, victim_for};
+
+impl Ledger {
+    /// Who is to be condemned next for a slot; `None` where it is on no cycle.
+    pub(crate) fn victim(&self, victims: Victims, slot: u8) -> Option<u8>
+        requires sound { AreSound self.now }
+        requires seated { slot < length self.now.seats.items }
+        ensures none { IfNone result ((g : AGraph) → IsOrderly (state_on g self.now) → IsOnNoCycle (waits_for (state_on g self.now)) slot) }
+        ensures some { IfSome result (λ v. (g : AGraph) → IsOrderly (state_on g self.now) → IsVictim victims (state_on g self.now) slot v) }
+        ensures waits { IfSome result (λ v. (g : AGraph) → IsOrderly (state_on g self.now) → is_wait (status_of (state_on g self.now) v) ≡ true) }
+    {
+        let waits = Waits {
+            headers: &self.headers,
+            seats: self.seats.as_slice(),
+        };
+        let victim = victim_for(&waits, &ages(&self.seats), slot as usize, victims)?;
+        Some(victim as u8)
+    }
+
+    /// Keeps, in place of the last deadlock, that of a slot, of which this victim is to fall.
+    pub(crate) fn keep_deadlock(&self, slot: u8, victim: u8, deadlock: &mut Deadlock)
+        requires sound { AreSound self.now }
+        requires seated { slot < length self.now.seats.items }
+        ensures { (g : AGraph) → IsDeadlock (state_on g self.now) slot victim deadlock.new }
+    {
+        let cycle = self.cycle(slot);
+        deadlock.victim = self.name(victim);
+        deadlock.cycle.clear();
+        let mut left = cycle;
+        while let Some(waiter) = left.take_lowest() {
+            let stuck = self.stuck(waiter, cycle);
+            deadlock.cycle.push(stuck);
+        }
+    }
+
+    /// The slots on a cycle with a slot.
+    fn cycle(&self, slot: u8) -> Slots
+        requires below { slot < 128 }
+        ensures { (g : AGraph) (u : ℕ) → IsTrue (has_slot result u) ↔ IsOnCycleOf (waits_for (state_on g self.now)) slot u }
+    {
+        let waits = Waits {
+            headers: &self.headers,
+            seats: self.seats.as_slice(),
+        };
+        Slots::from_bits(on_cycle_in(&waits, slot as usize))
+    }
+
+    /// A slot that waits: its name, what it waits for, and for whom of these slots.
+    fn stuck(&self, slot: u8, cycle: Slots) -> Stuck
+        requires below { slot < 128 }
+        requires waits { is_wait (status_in (txns_of self.now.seats.items slot)) ≡ true }
+        ensures name { (g : AGraph) → result.txn ≡ name_at (state_on g self.now) slot }
+        ensures waits { (g : AGraph) → status_of (state_on g self.now) slot ≡ Some (Waiting result.node result.wanted) }
+        ensures waits_for { (g : AGraph) (u : ℕ) → has_slot result.waits_for u ≡ (waits_for (state_on g self.now) slot u && has_slot cycle u) }
+    {
+        let Some(
+            Seat {
+                age,
+                status: Status::Waiting { node, wanted },
+            },
+        ) = self.seat(slot)
+        else {
+            unreachable!()
+        };
+        Stuck {
+            txn: TxnId { slot, age },
+            node,
+            wanted,
+            waits_for: self
+                .headers
+                .waits_for(slot, node, wanted)
+                .intersection(cycle),
+        }
+    }
+
+    /// The name of the transaction in a slot, with age 0 for a free one.
+    fn name(&self, slot: u8) -> TxnId
+        ensures { (g : AGraph) → result ≡ name_at (state_on g self.now) slot }
+    {
+        let age = match self.seat(slot) {
+            Some(seat) => seat.age,
+            None => 0,
+        };
+        TxnId { slot, age }
+    }
+}

@@ -1,0 +1,119 @@
+//! Nodes leave the list of a slot: one by one, all of them, or those that are covered.
+
+ghost use Rattle.std.specs.Prelude.{ℕ, ◌<◌, ◌==◌, ◌≡◌, None, Some, false, length};
+ghost use Rattle.gl_header.specs.Header.{is_among_waiters};
+ghost use Rattle.gl_listed.specs.Lists.{mode_of};
+ghost use Rattle.gl_model.specs.Calls.{released, shed};
+ghost use Rattle.gl_model.specs.Lawful.{IsOrderly};
+ghost use Rattle.gl_model.specs.State.{is_wait, status_of, with_txn};
+ghost use Rattle.gl_model.specs.Tellings.{notices_in, told};
+ghost use Rattle.gl_model.specs.declared.txn.Status.TheVariants.{Active};
+ghost use Rattle.gl_modes.specs.declared.mode.Mode.TheVariants.{NL};
+ghost use Rattle.gl_modes.specs.declared.node.NodeId.{NodeId as Node};
+ghost use Rattle.gl_table.specs.inside.Ledger.{Agrees, AreExact, AreSound, CountsHeld, state_in};
+ghost use Rattle.gl_table.specs.inside.Slots.{AreApart, AreKept, CanStrike, CanTell, IsShedding, Strikes, TellsOthers, WaitsEnd, as_left, books_of, counted_by, room_by};
+
+use crate::ledger::Ledger;
+use crate::seats::Seats;
+use crate::told::tell;
+use gl_graph::Graph;
+use gl_header::GrantList;
+use gl_listed::LockList;
+use gl_model::{Notice, Status, Told, TxnId};
+use gl_modes::NodeId;
+
+/// Takes a node, of which no child is held, out of the list of a slot; each parent has one held
+/// child less.
+pub(crate) fn strike(lists: &mut Vec<LockList>, slot: u8, node: NodeId, parents: &[NodeId])
+    requires can { CanStrike lists.old.items slot node parents.now }
+    requires apart { AreApart lists.old.items }
+    ensures { Strikes lists.old.items lists.new.items slot node parents.now }
+{
+    let list = &mut lists[slot as usize];
+    list.leave(node);
+    list.count_down(parents);
+}
+
+/// A slot waits no more on a node that it does not hold: it is active, its list has the node no more,
+/// and it is told why.
+pub(crate) fn end_wait(
+    seats: &mut Seats,
+    lists: &mut Vec<LockList>,
+    told: &mut Told,
+    slot: u8,
+    node: NodeId,
+    why: Notice,
+)
+    requires kept { AreKept (books_of seats.old lists.old.items told.old.items) }
+    requires seated { slot < length seats.old.items }
+    requires room { 0 < counted_by lists.old.items slot node → 0 < room_by lists.old.items slot }
+    requires untold { notices_in told.old.items slot ≡ None }
+    ensures { WaitsEnd (books_of seats.old lists.old.items told.old.items) node (λ u. u == slot) as_left (λ u. why) (books_of seats.new lists.new.items told.new.items) }
+{
+    let age = seats.set_status(slot, Status::Active);
+    lists[slot as usize].leave(node);
+    tell(told, TxnId { slot, age }, why);
+}
+
+impl Ledger {
+    /// Releases one node after the other, until the slot's list is empty.
+    pub(crate) fn leave_all(&mut self, graph: &Graph, slot: u8, told: &mut Told)
+        requires exact { AreExact graph.now self.old }
+        requires orderly { IsOrderly (state_in graph.now self.old) }
+        requires seated { slot < length self.old.seats.items }
+        requires quiet { is_wait (status_of (state_in graph.now self.old) slot) ≡ false }
+        requires tell { CanTell told.old.items (λ u. is_wait (status_of (state_in graph.now self.old) u)) }
+        ensures sound { AreSound self.new }
+        ensures orderly { IsOrderly (state_in graph.now self.new) }
+        ensures len { length self.new.seats.items ≡ length self.old.seats.items }
+        ensures state { released (state_in graph.now self.old) slot ≡ with_txn (state_in graph.now self.new) slot None }
+        ensures free { (n : Node) → (state_in graph.now self.new).held slot n ≡ NL }
+        ensures out { (n : Node) → is_among_waiters slot ((state_in graph.now self.new).queue n) ≡ false }
+        ensures agree { (u : ℕ) → (u == slot) ≡ false → Agrees (state_in graph.now self.new) self.new.lists.items u }
+        ensures count { (u : ℕ) → (u == slot) ≡ false → CountsHeld (state_in graph.now self.new) self.new.lists.items u }
+        ensures tells { TellsOthers slot (state_in graph.now self.old) (state_in graph.now self.new) told.old.items told.new.items }
+    {
+        graph.law();
+        let mut granted = GrantList::new();
+        while let Some(node) = self.lists[slot as usize].pop() {
+            self.drop_and_wake(graph, slot, node, &mut granted, told);
+        }
+    }
+
+    /// Releases what is marked in the list of a slot, from its back to its front.
+    pub(crate) fn release_marked(
+        &mut self,
+        graph: &Graph,
+        slot: u8,
+        node: NodeId,
+        list: &mut LockList,
+        told: &mut Told,
+    )
+        requires sound { AreSound self.old }
+        requires orderly { IsOrderly (state_in graph.now self.old) }
+        requires agree { (u : ℕ) → (u == slot) ≡ false → Agrees (state_in graph.now self.old) self.old.lists.items u }
+        requires count { (u : ℕ) → (u == slot) ≡ false → CountsHeld (state_in graph.now self.old) self.old.lists.items u }
+        requires active { status_of (state_in graph.now self.old) slot ≡ Some Active }
+        requires marked { IsShedding (state_in graph.now self.old) (state_in graph.now self.old) slot node list.old }
+        requires tell { CanTell told.old.items (λ u. is_wait (status_of (state_in graph.now self.old) u)) }
+        ensures sound { AreSound self.new }
+        ensures orderly { IsOrderly (state_in graph.now self.new) }
+        ensures state { state_in graph.now self.new ≡ shed (state_in graph.now self.old) slot node }
+        ensures agree { (u : ℕ) → (u == slot) ≡ false → Agrees (state_in graph.now self.new) self.new.lists.items u }
+        ensures count { (u : ℕ) → (u == slot) ≡ false → CountsHeld (state_in graph.now self.new) self.new.lists.items u }
+        ensures active { status_of (state_in graph.now self.new) slot ≡ Some Active }
+        ensures marked { IsShedding (state_in graph.now self.old) (state_in graph.now self.new) slot node list.new }
+        ensures modes { (q : Node) → mode_of list.new q ≡ (state_in graph.now self.new).held slot q }
+        ensures tells { TellsOthers slot (state_in graph.now self.old) (state_in graph.now self.new) told.old.items told.new.items }
+    {
+        graph.law();
+        let mut granted = GrantList::new();
+        let mut at = list.len();
+        while at > 0 {
+            at -= 1;
+            if let Some(child) = list.take_marked(graph, at) {
+                self.drop_and_wake(graph, slot, child, &mut granted, told);
+            }
+        }
+    }
+}

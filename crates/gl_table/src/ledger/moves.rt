@@ -1,0 +1,185 @@
+//! A node that moved: what follows for who moved it, and for those who wait on it.
+
+ghost use Rattle.std.specs.Prelude.{◌≡◌, ◌<◌, ◌≤◌, ◌+◌, ◌^◌, ◌&&◌, ◌==◌, [], ℕ, None, Some, if◌then◌else◌, length, not, true};
+ghost use Rattle.std.specs.List.{count_by, filter, list_all};
+ghost use Rattle.gl_modes.specs.declared.mode.Mode.TheVariants.{NL};
+ghost use Rattle.gl_modes.specs.declared.node.NodeId.{NodeId as Node};
+ghost use Rattle.gl_modes.specs.Nodes.{same_node};
+ghost use Rattle.gl_graph.specs.Graph.{parents_of};
+ghost use Rattle.gl_graph.specs.View.{graph_of};
+ghost use Rattle.gl_header.specs.Header.{fits, front, holds, is_among_waiters, without_waiter};
+ghost use Rattle.gl_header.specs.State.{slot_limit};
+ghost use Rattle.gl_waits.specs.Sets.{has_slot};
+ghost use Rattle.gl_model.specs.declared.answers.Notice.TheVariants as notice;
+ghost use Rattle.gl_model.specs.Calls.{moved_to, stays};
+ghost use Rattle.gl_header.specs.Headers.{held_of, members_at, queue_of, with_waiters};
+ghost use Rattle.gl_model.specs.State.{intends_over, members};
+ghost use Rattle.indexmap.specs.IndexMap.{spare};
+ghost use Rattle.gl_modes.specs.Modes.{same_mode};
+ghost use Rattle.gl_listed.specs.Lists.{IsApart, count_of, is_listed, mode_of, unlisted};
+ghost use Rattle.gl_table.specs.inside.Ledger.{Agrees, AreSound, state_in};
+ghost use Rattle.gl_model.specs.Lawful.{IsOrderly};
+ghost use Rattle.gl_table.specs.inside.Slots.{AreKept, CanTell, WaitsEnd, as_left, books_of, counted_by, room_by, unlisted_by};
+ghost use Rattle.gl_model.specs.Tellings.{IsTold, notices_in};
+
+use crate::ledger::Ledger;
+use crate::ledger::leave::end_wait;
+use crate::rule::check_rule;
+use arrayvec::ArrayVec;
+use gl_graph::Graph;
+use gl_listed::LockList;
+use gl_model::{Notice, Told};
+use gl_modes::{Mode, NodeId};
+use gl_waits::set::{take_lowest, with};
+
+/// The parents of a node, of which there are at most 8. They are kept apart from the graph, and so
+/// outlive a change of it.
+pub(crate) fn parents_before(graph: &Graph, node: NodeId) -> ArrayVec<NodeId, 8>
+    ensures { result.items ≡ parents_of (graph_of graph.now) node }
+{
+    graph.law();
+    let mut parents = ArrayVec::new();
+    for parent in graph.parents(node) {
+        parents.push(*parent);
+    }
+    parents
+}
+
+/// Whether the rule of the graph lets the owner of a list have this mode on a node with these
+/// parents.
+fn is_allowed(list: &LockList, parents: &[NodeId], mode: Mode) -> bool
+    ensures { result ≡ intends_over (mode_of list.now) parents.now mode }
+{
+    check_rule(list, parents, mode).is_ok()
+}
+
+/// Where a node is held, one held child less is counted of each old parent, and one more of each new
+/// one, which the list has.
+fn recount(list: &mut LockList, node: NodeId, old: &[NodeId], new: &[NodeId])
+    requires apart { IsApart list.old }
+    requires counted { not (same_mode (mode_of list.old node) NL) ≡ true → (q : Node) → count_by (same_node q) old.now ≤ count_of list.old q }
+    requires listed { unlisted list.old new.now ≡ 0 }
+    requires few { (q : Node) → count_of list.old q + count_by (same_node q) new.now < 2 ^ 32 }
+    ensures listed { (q : Node) → is_listed list.new q ≡ is_listed list.old q }
+    ensures modes { (q : Node) → mode_of list.new q ≡ mode_of list.old q }
+    ensures counts { (q : Node) →
+        count_of list.new q + (if not (same_mode (mode_of list.old node) NL) then count_by (same_node q) old.now else 0)
+        ≡ count_of list.old q + (if not (same_mode (mode_of list.old node) NL) then count_by (same_node q) new.now else 0) }
+    ensures apart { IsApart list.new }
+    ensures room { spare list.old.loose ≤ spare list.new.loose }
+{
+    if list.holds(node) {
+        list.count_down(old);
+        list.count_up(new);
+    }
+}
+
+impl Ledger {
+    /// A node has moved. Where the slot that moved it holds it, one held child less is counted of each
+    /// old parent, and one more of each new one. Waits on the node that do not meet the rule of the
+    /// graph over its new parents are over. Puts who is told of that into an empty list, by rising
+    /// slot.
+    ///
+    /// Linear in the parents and the waiters. It takes no memory.
+    pub(crate) fn follow(
+        &mut self,
+        graph: &Graph,
+        slot: u8,
+        node: NodeId,
+        told: &mut Told,
+        old: &[NodeId],
+    )
+        requires empty { told.old.items ≡ [] }
+        requires sound { AreSound self.old }
+        requires orderly { IsOrderly (state_in graph.now self.old) }
+        requires agree { (u : ℕ) → Agrees (state_in graph.now self.old) self.old.lists.items u }
+        requires slot { slot < length self.old.lists.items }
+        requires newcomers { (u : ℕ) → is_among_waiters u ((state_in graph.now self.old).queue node) ≡ true → (state_in graph.now self.old).held u node ≡ NL }
+        requires stuck { list_all (λ w. not (fits slot_limit (members (state_in graph.now self.old) node) w.0 w.1)) ((state_in graph.now self.old).queue node) ≡ true }
+        requires counted { holds (members (state_in graph.now self.old) node) slot ≡ true → (q : Node) → count_by (same_node q) old.now ≤ counted_by self.old.lists.items slot q }
+        requires listed { unlisted_by self.old.lists.items slot (parents_of (graph_of graph.now) node) ≡ 0 }
+        requires few { (q : Node) → counted_by self.old.lists.items slot q + count_by (same_node q) (parents_of (graph_of graph.now) node) < 2 ^ 32 }
+        ensures sound { AreSound self.new }
+        ensures state { state_in graph.now self.new ≡ moved_to (state_in graph.now self.old) node (parents_of (graph_of graph.now) node) (graph_of graph.now) }
+        ensures agree { (u : ℕ) → Agrees (state_in graph.now self.new) self.new.lists.items u }
+        ensures counts { (u : ℕ) (q : Node) →
+            counted_by self.new.lists.items u q + (if (u == slot) && holds (members (state_in graph.now self.old) node) slot then count_by (same_node q) old.now else 0)
+            ≡ counted_by self.old.lists.items u q + (if (u == slot) && holds (members (state_in graph.now self.old) node) slot then count_by (same_node q) (parents_of (graph_of graph.now) node) else 0) }
+        ensures tells { IsTold (state_in graph.now self.old).txns
+            (λ u. is_among_waiters u (filter (λ w. not (stays (state_in graph.now self.old) (parents_of (graph_of graph.now) node) w)) ((state_in graph.now self.old).queue node)))
+            (λ u. notice.Moved) [] told.new.items }
+    {
+        let list = &mut self.lists[slot as usize];
+        recount(list, node, old, graph.parents(node));
+        self.turn_away(graph, node, told);
+    }
+
+    /// Ends the waits on a node that do not meet the rule of the graph: who waited so is active, and
+    /// told that the node moved. The others keep their order. No waiter fits, so nobody is granted.
+    fn turn_away(&mut self, graph: &Graph, node: NodeId, told: &mut Told)
+        requires sound { AreSound self.old }
+        requires orderly { IsOrderly (state_in graph.now self.old) }
+        requires agree { (u : ℕ) → Agrees (state_in graph.now self.old) self.old.lists.items u }
+        requires newcomers { (u : ℕ) → is_among_waiters u ((state_in graph.now self.old).queue node) ≡ true → (state_in graph.now self.old).held u node ≡ NL }
+        requires stuck { list_all (λ w. not (fits slot_limit (members (state_in graph.now self.old) node) w.0 w.1)) ((state_in graph.now self.old).queue node) ≡ true }
+        requires tell { CanTell told.old.items (λ u. is_among_waiters u ((state_in graph.now self.old).queue node)) }
+        ensures sound { AreSound self.new }
+        ensures state { state_in graph.now self.new ≡ moved_to (state_in graph.now self.old) node (parents_of (graph_of graph.now) node) (graph_of graph.now) }
+        ensures agree { (u : ℕ) → Agrees (state_in graph.now self.new) self.new.lists.items u }
+        ensures counts { (u : ℕ) (q : Node) → counted_by self.new.lists.items u q ≡ counted_by self.old.lists.items u q }
+        ensures tells { IsTold (state_in graph.now self.old).txns
+            (λ u. is_among_waiters u (filter (λ w. not (stays (state_in graph.now self.old) (parents_of (graph_of graph.now) node) w)) ((state_in graph.now self.old).queue node)))
+            (λ u. notice.Moved) told.old.items told.new.items }
+    {
+        let mut strays = self.strays(graph, node);
+        while strays != 0 {
+            let (slot, rest) = take_lowest(strays);
+            strays = rest;
+            self.turn_one_away(slot as u8, node, told);
+        }
+    }
+
+    /// The slots that wait on a node for a mode that does not meet the rule of the graph.
+    fn strays(&self, graph: &Graph, node: NodeId) -> u128
+        requires sound { AreSound self.now }
+        requires orderly { IsOrderly (state_in graph.now self.now) }
+        requires agree { (u : ℕ) → Agrees (state_in graph.now self.now) self.now.lists.items u }
+        ensures { (u : ℕ) → has_slot result u ≡ is_among_waiters u (filter (λ w. not (stays (state_in graph.now self.now) (parents_of (graph_of graph.now) node) w)) (queue_of self.now.headers.entries node)) }
+    {
+        let Some(header) = self.headers.get(node) else {
+            return 0;
+        };
+        let mut strays = 0;
+        for &(slot, wanted) in header.queue() {
+            let list = &self.lists[slot as usize];
+            if !is_allowed(list, graph.parents(node), wanted) {
+                strays = with(strays, slot as usize);
+            }
+        }
+        strays
+    }
+
+    /// Ends a wait of a slot that holds nothing on the node, where nobody at the front of what is left
+    /// can be granted. The slot is active, and told that the node moved.
+    fn turn_one_away(&mut self, slot: u8, node: NodeId, told: &mut Told)
+        requires kept { AreKept (books_of self.old.seats self.old.lists.items told.old.items) }
+        requires seated { slot < length self.old.seats.items }
+        requires waits { is_among_waiters slot (queue_of self.old.headers.entries node) ≡ true }
+        requires front_waits { front slot_limit (members_at self.old.headers.entries node) (without_waiter slot (queue_of self.old.headers.entries node)) ≡ [] }
+        requires room { 9 ≤ room_by self.old.lists.items slot }
+        requires untold { notices_in told.old.items slot ≡ None }
+        ensures held { held_of self.new.headers.entries ≡ held_of self.old.headers.entries }
+        ensures queue { queue_of self.new.headers.entries ≡ with_waiters (queue_of self.old.headers.entries) node (without_waiter slot (queue_of self.old.headers.entries node)) }
+        ensures ends { WaitsEnd (books_of self.old.seats self.old.lists.items told.old.items) node (λ u. u == slot) as_left (λ u. notice.Moved) (books_of self.new.seats self.new.lists.items told.new.items) }
+    {
+        self.headers.dismiss(slot, node);
+        end_wait(
+            &mut self.seats,
+            &mut self.lists,
+            told,
+            slot,
+            node,
+            Notice::Moved,
+        );
+    }
+}

@@ -1,0 +1,113 @@
+//! Locks on records that come and go.
+
+ghost use Rattle.std.specs.Prelude.{◌≡◌, ◌<◌, ◌==◌, ℕ, [], IfErr, IfOk, None, OnOk, Some, false, length, true};
+ghost use Rattle.gl_modes.specs.declared.mode.Mode.TheVariants.{NL, X};
+ghost use Rattle.gl_modes.specs.declared.refusal.Refusal.{Refusal as ARefusal};
+ghost use Rattle.gl_graph.specs.Changes.{without_node};
+ghost use Rattle.gl_graph.specs.Graph.{is_live, shape_of};
+ghost use Rattle.gl_graph.specs.Shapes.{is_record_shape};
+ghost use Rattle.gl_graph.specs.View.{graph_of};
+ghost use Rattle.gl_header.specs.Header.{holds, is_among_waiters};
+ghost use Rattle.gl_model.specs.Calls.{deleted};
+ghost use Rattle.gl_table.specs.inside.Slots.{CanEnd, CanTell, HasRoomAt, WaitsEnd, as_left, books_of, counted_by};
+ghost use Rattle.gl_model.specs.Tellings.{IsTold};
+ghost use Rattle.gl_table.specs.inside.Ledger.{Agrees, AreExact, AreSound, CountsHeld, KeepsLocks, state_in, state_on};
+ghost use Rattle.gl_model.specs.Lawful.{IsOrderly};
+ghost use Rattle.gl_header.specs.Headers.{IsOneHolder};
+ghost use Rattle.gl_model.specs.State.{members, status_of, with_grant};
+ghost use Rattle.gl_model.specs.declared.answers.Notice.TheVariants as notice;
+ghost use Rattle.gl_model.specs.declared.txn.Status.TheVariants.{Active};
+
+use crate::ledger::Ledger;
+use crate::ledger::ask::make_room;
+use crate::ledger::leave::{end_wait, strike};
+use crate::seats::Seats;
+use gl_graph::Graph;
+use gl_header::Prepared;
+use gl_listed::LockList;
+use gl_model::{Notice, Told};
+use gl_modes::{Mode, NodeId, Refusal};
+
+/// Those who wait for a node that goes wait no more: they are active, their lists have it no more,
+/// and they are told.
+fn free(
+    seats: &mut Seats,
+    lists: &mut Vec<LockList>,
+    told: &mut Told,
+    node: NodeId,
+    waiters: &[(u8, Mode)],
+)
+    requires can { CanEnd (books_of seats.old lists.old.items told.old.items) waiters.now }
+    requires childless { (u : ℕ) → is_among_waiters u waiters.now ≡ true → counted_by lists.old.items u node ≡ 0 }
+    ensures { WaitsEnd (books_of seats.old lists.old.items told.old.items) node (λ u. is_among_waiters u waiters.now) as_left (λ u. notice.Gone) (books_of seats.new lists.new.items told.new.items) }
+{
+    for waiter in waiters {
+        let (slot, _) = *waiter;
+        end_wait(seats, lists, told, slot, node, Notice::Gone);
+    }
+}
+
+impl Ledger {
+    /// Takes all locks on a record away that an active slot holds and nobody else. Those who wait for
+    /// it are active again, and are told that it is gone.
+    pub(crate) fn vacate(&mut self, graph: &Graph, slot: u8, rec: NodeId, told: &mut Told)
+        requires exact { AreExact graph.now self.old }
+        requires orderly { IsOrderly (state_in graph.now self.old) }
+        requires active { status_of (state_in graph.now self.old) slot ≡ Some Active }
+        requires record { is_record_shape (shape_of (graph_of graph.now) rec) ≡ true }
+        requires holds { holds (members (state_in graph.now self.old) rec) slot ≡ true }
+        requires alone { (u : ℕ) → (u == slot) ≡ false → (state_in graph.now self.old).held u rec ≡ NL }
+        requires tell { CanTell told.old.items (λ u. is_among_waiters u ((state_in graph.now self.old).queue rec)) }
+        ensures sound { AreSound self.new }
+        ensures state { state_on (without_node (graph_of graph.now) rec) self.new ≡ deleted (state_in graph.now self.old) rec }
+        ensures agree { (u : ℕ) → Agrees (deleted (state_in graph.now self.old) rec) self.new.lists.items u }
+        ensures count { (u : ℕ) → CountsHeld (deleted (state_in graph.now self.old) rec) self.new.lists.items u }
+        ensures tells { IsTold (state_in graph.now self.old).txns (λ u. is_among_waiters u ((state_in graph.now self.old).queue rec)) (λ u. notice.Gone) told.old.items told.new.items }
+    {
+        graph.law();
+        strike(&mut self.lists, slot, rec, graph.parents(rec));
+        let Some(header) = self.headers.take(rec) else {
+            unreachable!()
+        };
+        free(&mut self.seats, &mut self.lists, told, rec, header.queue());
+    }
+
+    /// Makes room for a node with this key that a slot comes to hold, and for the counts of its parents.
+    /// Answers the node's header, with the slot's X in it. The only refusal is `NoMemory`, and all
+    /// locks stay as they are.
+    pub(crate) fn prepare(&mut self, slot: u8, key: usize) -> Result<Prepared, Refusal>
+        requires slot { slot < length self.old.lists.items }
+        requires below { slot < 128 }
+        ensures header { IfOk result (λ prepared. IsOneHolder prepared slot X) }
+        ensures kept { KeepsLocks self.old self.new }
+        ensures headers_room { OnOk result (key < self.new.headers.room) }
+        ensures lists_room { OnOk result (HasRoomAt self.new.lists.items slot) }
+        ensures no_memory { IfErr result (λ refusal. refusal ≡ ARefusal.NoMemory) }
+    {
+        make_room(&mut self.lists, slot)?;
+        self.headers.prepare(key, slot, Mode::X)
+    }
+
+    /// An active slot comes to hold a node in X that nobody holds or waits for, by the header that was
+    /// prepared. It takes no memory: the room is there.
+    pub(crate) fn place(&mut self, graph: &Graph, slot: u8, node: NodeId, prepared: Prepared)
+        requires exact { AreExact graph.now self.old }
+        requires orderly { IsOrderly (state_in graph.now self.old) }
+        requires active { status_of (state_in graph.now self.old) slot ≡ Some Active }
+        requires live { is_live (graph_of graph.now) node ≡ true }
+        requires unheld { (u : ℕ) → (state_in graph.now self.old).held u node ≡ NL }
+        requires unawaited { (state_in graph.now self.old).queue node ≡ [] }
+        requires header { IsOneHolder prepared slot X }
+        requires headers_room { node.key < self.old.headers.room }
+        requires lists_room { HasRoomAt self.old.lists.items slot }
+        ensures exact { AreExact graph.now self.new }
+        ensures state { state_in graph.now self.new ≡ with_grant (state_in graph.now self.old) slot node X }
+    {
+        graph.law();
+        self.headers.law();
+        self.headers.put(node, prepared);
+        let list = &mut self.lists[slot as usize];
+        list.enter(node, Mode::X);
+        list.count_up(graph.parents(node));
+    }
+}

@@ -1,0 +1,53 @@
+//! A node is released, and a wait is taken back.
+
+ghost use Rattle.std.specs.Prelude.{◌≡◌, Some, true};
+ghost use Rattle.gl_header.specs.Header.{holds, is_among_waiters};
+ghost use Rattle.gl_model.specs.Calls.{held_children, unlocked};
+ghost use Rattle.gl_model.specs.State.{front_at, is_wait, is_waiting_at, members, pumped, status_of, with_grant, without_wait};
+ghost use Rattle.gl_model.specs.Tellings.{WakesTold};
+ghost use Rattle.gl_model.specs.declared.txn.Status.TheVariants.{Active, Waiting};
+ghost use Rattle.gl_modes.specs.declared.mode.Mode.{Mode as AMode};
+ghost use Rattle.gl_modes.specs.declared.mode.Mode.TheVariants.{NL};
+ghost use Rattle.gl_modes.specs.declared.node.NodeId.{NodeId as Node};
+ghost use Rattle.gl_table.specs.inside.Locks.{state_at};
+ghost use Rattle.gl_table.specs.inside.Slots.{CanTell};
+
+use crate::ledger::leave::strike;
+use crate::locks::Locks;
+use gl_header::GrantList;
+use gl_model::{Status, Told};
+use gl_modes::NodeId;
+
+impl Locks {
+    /// Releases a node of which the slot holds no child. The node grants from its front.
+    pub(crate) fn release(&mut self, slot: u8, node: NodeId, told: &mut Told)
+        requires active { status_of (state_at self.old) slot ≡ Some Active }
+        requires holds { holds (members (state_at self.old) node) slot ≡ true }
+        requires childless { held_children (state_at self.old) slot node ≡ 0 }
+        requires tell { CanTell told.old.items (λ u. is_among_waiters u ((state_at self.old).queue node)) }
+        ensures state { state_at self.new ≡ unlocked (state_at self.old) slot node }
+        ensures tells { WakesTold (state_at self.old).txns node (front_at (with_grant (state_at self.old) slot node NL) node) told.old.items told.new.items }
+    {
+        self.graph.law();
+        self.ledger
+            .drop_and_wake(&self.graph, slot, node, &mut GrantList::new(), told);
+        strike(&mut self.ledger.lists, slot, node, self.graph.parents(node));
+    }
+
+    /// Takes back the wait of a slot, which has this status then. Its node grants from its front.
+    pub(crate) fn withdraw(&mut self, slot: u8, node: NodeId, status: Status, told: &mut Told)
+        requires waits { is_waiting_at (state_at self.old) slot node ≡ true }
+        requires quiet { (q : Node) (m : AMode) → Some status ≡ Some (Waiting q m) → ⊥ }
+        requires tell { CanTell told.old.items (λ u. is_wait (status_of (state_at self.old) u)) }
+        ensures state { state_at self.new ≡ pumped (without_wait (state_at self.old) slot status) (is_waiting_at (state_at self.old) slot) }
+        ensures tells { WakesTold (state_at self.old).txns node (front_at (without_wait (state_at self.old) slot status) node) told.old.items told.new.items }
+    {
+        self.graph.law();
+        self.ledger
+            .leave_queue(&self.graph, slot, node, status, told);
+        let list = &mut self.ledger.lists[slot as usize];
+        if !list.holds(node) {
+            list.leave(node);
+        }
+    }
+}
