@@ -2,3 +2,4 @@ pub mod Rows
 pub mod Sound
 pub mod Lends
 pub mod Lists
+pub mod Apart

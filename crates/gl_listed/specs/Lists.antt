@@ -2,7 +2,7 @@
 use Rattle.std.specs.Prelude.{◌≡◌, ℕ, ◌≤◌, ◌<◌, Bool, true, not, List, Option, Some, None, is_some, false, ◌&&◌, ◌||◌, ◌==◌, slice_get}
 use Rattle.std.specs.List.{count_by, list_all}
 use Rattle.std.specs.Map.{lookup}
-use Rattle.indexmap.specs.IndexMap.{IsUnique, spare, keys}
+use Rattle.indexmap.specs.IndexMap.{spare, keys}
 use Rattle.gl_modes.specs.declared.mode.Mode.{Mode}
 use Rattle.gl_modes.specs.declared.mode.Mode.TheVariants.{NL, X}
 use Rattle.gl_modes.specs.declared.node.NodeId.{NodeId}
@@ -44,10 +44,6 @@ count_in None None = 0
 -- how many children of the node are held
 abbrev pub count_of : LockList → NodeId → ℕ
 count_of l n = count_in (entry_of l n) (loose_of l n)
-
--- each node stands once: none is listed twice, and none that is listed is also counted apart
-unfoldable pub IsApart : LockList → Type 0
-IsApart l = IsUnique same_node l.entries × ((n : NodeId) → is_listed l n ≡ true → loose_of l n ≡ None)
 
 -- how many of these are not listed
 abbrev pub unlisted : LockList → List NodeId → ℕ

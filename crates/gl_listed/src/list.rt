@@ -10,7 +10,7 @@ ghost use Rattle.gl_modes.specs.declared.mode.Mode.TheVariants.{IX, NL, X};
 ghost use Rattle.gl_graph.specs.Graph.{is_child, is_live, nodes, parents_of};
 ghost use Rattle.gl_graph.specs.View.{graph_of};
 ghost use Rattle.gl_modes.specs.declared.node.NodeId.{NodeId as Node};
-ghost use Rattle.gl_listed.specs.Lists.{NoneMarkedFrom, covered_in, HasRoom, IsApart, count_of, entry_of, is_listed, mode_of, unlisted};
+ghost use Rattle.gl_listed.specs.Apart.{IsApart, IsApart-prop};
 ghost use Rattle.indexmap.specs.IndexMap.{Updates, keys, swap_remove_entry};
 ghost use Rattle.std.specs.Map.{keys_of, lookup};
 ghost use Rattle.gl_modes.specs.Modes.{is_at_least, same_mode};
@@ -40,6 +40,7 @@ pub struct Entry {
 pub struct LockList {
     entries: NodeMap<Entry>,
     loose: IndexMap<NodeId, u32>,
+    pub ghost apart: { IsApart entries.entries loose.entries } by { IsApart-prop entries.entries loose.entries },
 }
 
 /// Takes out what is counted apart of a node. Most lists count nothing apart, and are not looked into.
@@ -78,11 +79,12 @@ fn count_loose_up(loose: &mut IndexMap<NodeId, u32>, n: NodeId)
 }
 
 impl LockList {
+    ghost use Rattle.gl_listed.specs.Lists.{NoneMarkedFrom, covered_in, HasRoom, count_of, entry_of, is_listed, mode_of, unlisted};
+
     /// A list of no nodes. It takes no memory.
     pub fn new(alloc: Global) -> Self
         ensures listed { (n : Node) → is_listed result n ≡ false }
         ensures counts { (n : Node) → count_of result n ≡ 0 }
-        ensures apart { IsApart result }
     {
         LockList {
             entries: NodeMap::new(alloc),
@@ -138,13 +140,11 @@ impl LockList {
     /// Lists a node, with the count of its held children.
     #[inline]
     pub fn enter(&mut self, n: NodeId, mode: Mode)
-        requires apart { IsApart self.old }
         requires new { is_listed self.old n ≡ false }
         requires room { 0 < spare self.old.entries }
         ensures listed { (q : Node) → is_listed self.new q ≡ (same_node q n || is_listed self.old q) }
         ensures modes { (q : Node) → mode_of self.new q ≡ (if same_node q n then mode else mode_of self.old q) }
         ensures counts { (q : Node) → count_of self.new q ≡ count_of self.old q }
-        ensures apart { IsApart self.new }
         ensures room { spare self.old.loose ≤ spare self.new.loose }
     {
         let children = take_loose(&mut self.loose, n);
@@ -167,12 +167,10 @@ impl LockList {
 
     /// Takes a node out. What is held of its children is still counted.
     pub fn leave(&mut self, n: NodeId)
-        requires apart { IsApart self.old }
         requires room { 0 < count_of self.old n → 0 < spare self.old.loose }
         ensures listed { (q : Node) → is_listed self.new q ≡ (is_listed self.old q && not (same_node q n)) }
         ensures modes { (q : Node) → mode_of self.new q ≡ (if same_node q n then NL else mode_of self.old q) }
         ensures counts { (q : Node) → count_of self.new q ≡ count_of self.old q }
-        ensures apart { IsApart self.new }
         ensures keys { keys self.new.entries ≡ keys_of (swap_remove_entry (same_node n) self.old.entries.entries) }
     {
         if let Some(entry) = self.entries.swap_remove(n) {
@@ -184,13 +182,11 @@ impl LockList {
 
     /// Counts one held child more of each of these nodes.
     pub fn count_up(&mut self, parents: &[NodeId])
-        requires apart { IsApart self.old }
         requires room { unlisted self.old parents.now ≤ spare self.old.loose }
         requires few { (q : Node) → list_any (same_node q) parents.now ≡ true → count_of self.old q + count_by (same_node q) parents.now < 2 ^ 32 }
         ensures listed { (q : Node) → is_listed self.new q ≡ is_listed self.old q }
         ensures modes { (q : Node) → mode_of self.new q ≡ mode_of self.old q }
         ensures counts { (q : Node) → count_of self.new q ≡ count_of self.old q + count_by (same_node q) parents.now }
-        ensures apart { IsApart self.new }
         ensures room { spare self.old.loose ≤ spare self.new.loose + unlisted self.old parents.now }
     {
         for parent in parents {
@@ -201,13 +197,11 @@ impl LockList {
     /// Counts one held child more of a node.
     #[inline]
     fn count_one_up(&mut self, n: NodeId)
-        requires apart { IsApart self.old }
         requires room { is_listed self.old n ≡ false → 0 < spare self.old.loose }
         requires few { count_of self.old n + 1 < 2 ^ 32 }
         ensures listed { (q : Node) → is_listed self.new q ≡ is_listed self.old q }
         ensures modes { (q : Node) → mode_of self.new q ≡ mode_of self.old q }
         ensures counts { (q : Node) → count_of self.new q ≡ count_of self.old q + (if same_node q n then 1 else 0) }
-        ensures apart { IsApart self.new }
         ensures room { spare self.old.loose ≤ spare self.new.loose + (if is_listed self.old n then 0 else 1) }
     {
         if let Some(entry) = self.entries.get_mut(n) {
@@ -219,12 +213,10 @@ impl LockList {
 
     /// Counts one held child less of each of these nodes.
     pub fn count_down(&mut self, parents: &[NodeId])
-        requires apart { IsApart self.old }
         requires some { (q : Node) → count_by (same_node q) parents.now ≤ count_of self.old q }
         ensures listed { (q : Node) → is_listed self.new q ≡ is_listed self.old q }
         ensures modes { (q : Node) → mode_of self.new q ≡ mode_of self.old q }
         ensures counts { (q : Node) → count_of self.new q + count_by (same_node q) parents.now ≡ count_of self.old q }
-        ensures apart { IsApart self.new }
         ensures room { spare self.old.loose ≤ spare self.new.loose }
         ensures keys { keys self.new.entries ≡ keys self.old.entries }
     {
@@ -235,12 +227,10 @@ impl LockList {
 
     /// Counts one held child less of a node. A node that is not listed is forgotten at 0.
     fn count_one_down(&mut self, n: NodeId)
-        requires apart { IsApart self.old }
         requires some { 0 < count_of self.old n }
         ensures listed { (q : Node) → is_listed self.new q ≡ is_listed self.old q }
         ensures modes { (q : Node) → mode_of self.new q ≡ mode_of self.old q }
         ensures counts { (q : Node) → count_of self.new q + (if same_node q n then 1 else 0) ≡ count_of self.old q }
-        ensures apart { IsApart self.new }
         ensures room { spare self.old.loose ≤ spare self.new.loose }
         ensures keys { keys self.new.entries ≡ keys self.old.entries }
     {
@@ -263,7 +253,6 @@ impl LockList {
         ensures listed { IfSome result (λ n. (q : Node) → is_listed self.new q ≡ (is_listed self.old q && not (same_node q n))) }
         ensures modes { IfSome result (λ n. (q : Node) → mode_of self.new q ≡ (if same_node q n then NL else mode_of self.old q)) }
         ensures loose { self.new.loose ≡ self.old.loose }
-        ensures apart { IsApart self.old → IsApart self.new }
         ensures shorter { IfSome result (λ n. length self.new.entries.entries + 1 ≡ length self.old.entries.entries) }
     {
         if self.entries.is_empty() {
@@ -277,7 +266,6 @@ impl LockList {
     pub fn clear(&mut self)
         ensures listed { (n : Node) → is_listed self.new n ≡ false }
         ensures counts { (n : Node) → count_of self.new n ≡ 0 }
-        ensures apart { IsApart self.new }
         ensures entries_room { spare self.old.entries ≤ spare self.new.entries }
         ensures loose_room { spare self.old.loose ≤ spare self.new.loose }
     {
@@ -414,11 +402,9 @@ impl LockList {
     /// The nodes further back are not marked.
     pub fn take_marked(&mut self, graph: &Graph, at: usize) -> Option<NodeId>
         requires within { at < length (keys self.old.entries) }
-        requires apart { IsApart self.old }
         requires childless { (c : Node) → is_listed self.old c ≡ true → mode_of self.old c ≡ NL → count_of self.old c ≡ 0 }
         requires counted { (c q : Node) → is_listed self.old c ≡ true → mode_of self.old c ≡ NL → count_by (same_node q) (parents_of (graph_of graph.now) c) ≤ count_of self.old q }
         requires passed { NoneMarkedFrom self.old (at + 1) }
-        ensures apart { IsApart self.new }
         ensures passed { NoneMarkedFrom self.new at }
         ensures len { at ≤ length (keys self.new.entries) }
         ensures none { IfNone result (self.new ≡ self.old) }

@@ -83,7 +83,7 @@ pub use Rattle.gl_model.specs.Calls.{unlocked, WaitSettles, wanted, would_block}
 pub use Rattle.gl_model.specs.Lawful.{effect_on, effective, HasNoConflict, is_read, IsLawful, IsOrderly, WaitWell}
 pub use Rattle.gl_table.specs.Table.{AreRowsOf, board_of, entry_at, is_row_of, ListsAgree, row_of, rows_of, shown, StandOnce, state_of, TableView}
 pub use Rattle.gl_model.specs.Deadlocks.{IsDeadlock, IsStuck, LocksKeeping, SettlesKeeping, SettlesKeepingWithin, WaitSettlesKeeping}
-pub use Rattle.gl_table.specs.inside.Slots.{AreApart, AreKept, as_held, as_left, Books, books_of, by_list, CanEnd, CanHold, CanStrike, CanTell, counted_by}
+pub use Rattle.gl_table.specs.inside.Slots.{AreKept, as_held, as_left, Books, books_of, by_list, CanEnd, CanHold, CanStrike, CanTell, counted_by}
 pub use Rattle.gl_table.specs.inside.Slots.{HasRoomAt, held_by, IsShedding, IsWritten, KeepsLists, listed_by, room_by, Strikes, TellsOthers, unlisted_by}
 pub use Rattle.gl_table.specs.inside.Slots.{WaitsEnd, Wakes, WakesLists, Writing}
 pub use Rattle.gl_model.specs.Tellings.{grant_notice, IsBySlot, IsTold, mode_given, notices_in, WakesTold}
@@ -93,7 +93,7 @@ pub use Rattle.gl_model.specs.State.{age_in, age_of, blocks, choosing, condemned
 pub use Rattle.gl_model.specs.State.{is_waiting_at, is_write, IsVictim, lives, members, no_parents, pumped, restatus, Settled, SettledWithin, slots, State}
 pub use Rattle.gl_model.specs.State.{status_in, status_of, Txn, waits_at, waits_for, with_grant, with_graph, with_txn, without_wait, woken}
 pub use Rattle.gl_listed.specs.Lists.{count_in, count_of, covered_in, entry_of, HasRoom, is_listed, loose_of, mode_in, mode_of, NoneMarkedFrom, unlisted}
-unfoldable pub use Rattle.gl_listed.specs.Lists.{IsApart}
+unfoldable pub use Rattle.gl_listed.specs.Apart.{IsApart}
 pub use Rattle.gl_table.specs.inside.Ledger.{Agrees, AreExact, AreNew, AreSound, CountsHeld, KeepsLocks, state_in, state_on}
 pub use Rattle.gl_table.specs.inside.Locks.{state_at}
 pub use Rattle.gl_table.specs.inside.Seating.{IsSeating}

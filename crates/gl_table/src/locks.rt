@@ -2,7 +2,7 @@
 
 ghost use Rattle.std.specs.Prelude.{ℕ};
 ghost use Rattle.gl_model.specs.Lawful.{IsOrderly};
-ghost use Rattle.gl_table.specs.inside.Ledger.{Agrees, AreSound, AreSound-prop, CountsHeld, state_in};
+ghost use Rattle.gl_table.specs.inside.Ledger.{Agrees, AreSound, CountsHeld, state_in};
 
 use crate::ledger::Ledger;
 use gl_graph::Graph;
@@ -22,7 +22,7 @@ pub(crate) struct Locks {
     pub(crate) graph: Graph,
     pub(crate) ledger: Ledger,
     ghost orderly: { IsOrderly (state_in graph ledger) },
-    ghost sound: { AreSound ledger } by { AreSound-prop ledger },
+    ghost sound: { AreSound ledger },
     ghost agree: { (u : ℕ) → Agrees (state_in graph ledger) ledger.lists.items u },
     ghost count: { (u : ℕ) → CountsHeld (state_in graph ledger) ledger.lists.items u },
 }

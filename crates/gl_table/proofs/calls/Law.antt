@@ -1,5 +1,5 @@
 -- What holds of a table's fields: of every table, of a new one, with new nodes and with one transaction more.
-use Rattle.gl_table.proofs.Words.{[], ◌+◌, ◌<◌, ◌==◌, ◌||◌, ◌∙◌, ◌∷◌, ◌≡◌, ◌≤◌, Active, ap, AreApart, AreDistinct, AreNew, arith, begin_tests, begun, Bool}
+use Rattle.gl_table.proofs.Words.{[], ◌+◌, ◌<◌, ◌==◌, ◌||◌, ◌∙◌, ◌∷◌, ◌≡◌, ◌≤◌, Active, ap, AreDistinct, AreNew, arith, begin_tests, begun, Bool}
 use Rattle.gl_table.proofs.Words.{by_list, children_that, choosing, clash, cond, count_in, counted_by, Detect, empty_state, Entry, entry_of, Err, false, find}
 use Rattle.gl_table.proofs.Words.{first_refusal, free_slot, get_or, graph_of, HasNoCycle, held_children, held_of, holds, IfOk, is_among_waiters, is_free}
 use Rattle.gl_table.proofs.Words.{is_live, is_none, is_some, is_wait, is_waiting_at, IsApart, IsDistinct, IsLawful, IsSafe, IsSound, IsUnique, keys_of, length}
@@ -8,7 +8,6 @@ use Rattle.gl_table.proofs.Words.{nat_tests, NodeId, None, not, Ok, OnErr, Optio
 use Rattle.gl_table.proofs.Words.{range_with_len, refl, Refusal, Refuses, replicate, Result, same_node, Seat, SeatList, slice_get, slice_get-get_or, slice_set}
 use Rattle.gl_table.proofs.Words.{Some, StandOnce, State, state_in, state_of, status_in, status_of, subst, suc, sym, TableView, too_many_txns, true, txn_in}
 use Rattle.gl_table.proofs.Words.{txns_of, unused-nobody, Victims, View, view_of, where_true, with_graph, zero, ℕ}
-use Rattle.gl_model.proofs.law.Keeps.{apart}
 use Rattle.gl_model.proofs.queues.Walks.{same}
 use Rattle.std.specs.Prelude.{◌^◌}
 use Rattle.gl_model.specs.State.{with_limits}
@@ -63,21 +62,21 @@ lists_agree i sound = record {
     ls : List LockList
     ls = i.locks.ledger.lists.items
 
-unique_in : (l : LockList) → IsApart l → IsUnique same_node l.entries
+unique_in : (l : LockList) → IsUnique same_node l.entries
 unfolding IsApart
-unique_in l apart = apart.0
+unique_in l = l.apart.0
 
 -- no list has a node twice
-lists_once : (ls : List LockList) → AreApart ls → (t : ℕ) (es : List (NodeId × Entry)) → slice_get (map (λ l. l.entries.entries) ls) t ≡ Some es
+lists_once : (ls : List LockList) (t : ℕ) (es : List (NodeId × Entry)) → slice_get (map (λ l. l.entries.entries) ls) t ≡ Some es
     → IsDistinct same_node (keys_of es)
-lists_once [] apart t es e = absurd (cc)
-lists_once (l ∷ ls) apart zero es e = let is : l.entries.entries ≡ es = cc in
-    subst (λ (xs : List (NodeId × Entry)). IsDistinct same_node (keys_of xs)) is (unique_in l (apart 0 l refl))
-lists_once (l ∷ ls) apart (suc t) es e = lists_once ls (λ u x h. apart (suc u) x h) t es e
+lists_once [] t es e = absurd (cc)
+lists_once (l ∷ ls) zero es e = let is : l.entries.entries ≡ es = cc in
+    subst (λ (xs : List (NodeId × Entry)). IsDistinct same_node (keys_of xs)) is (unique_in l)
+lists_once (l ∷ ls) (suc t) es e = lists_once ls t es e
 
 -- and no node has two headers, by their own word
 pub stand_once : (i : Inside) → IsSound i → AreDistinct i.locks.ledger.headers.entries → StandOnce (view_of i)
-stand_once i sound unique = record { headers = unique; lists = lists_once i.locks.ledger.lists.items i.locks.sound.apart }
+stand_once i sound unique = record { headers = unique; lists = lists_once i.locks.ledger.lists.items }
 
 -- A table in which nothing stands.
 
@@ -119,7 +118,6 @@ module _ (graph : View) (ledger : Ledger) (detect : Detect) (victims : Victims) 
     sound = record {
       few = subst (λ (k : ℕ). k ≤ 128) (sym (ap length new.seats ∙ length-replicate most)) few;
       lists = new.lists ∙ sym (ap length new.seats ∙ length-replicate most);
-      apart = new.apart;
     };
     agree = λ u. record {
       modes = λ q. new.modes u q ∙ sym (ap (λ (x : State). x.held u q) new_state);
@@ -273,7 +271,6 @@ module _ (i : Inside) (sound : IsSound i) (t : ℕ) (at : Some t ≡ position is
     sound = record {
       few = subst (λ (k : ℕ). k ≤ 128) (sym seats-same) i.locks.sound.few;
       lists = i.locks.sound.lists ∙ sym seats-same;
-      apart = i.locks.sound.apart;
     };
     agree = λ u. record {
       modes = (i.locks.agree u).modes;

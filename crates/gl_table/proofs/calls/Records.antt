@@ -122,7 +122,6 @@ module _ (i : Inside) (sound : IsSound i) (ledger : Ledger) (kept : KeepsLocks i
     sound = record {
       few = subst (λ (k : ℕ). k ≤ 128) (sym many) i.locks.sound.few;
       lists = kept.lists.len ∙ i.locks.sound.lists ∙ sym many;
-      apart = kept.lists.apart i.locks.sound.apart;
     };
     agree = λ u. subst (λ x. Agrees x ledger.lists.items u) (sym (same_on (graph_of i.locks.graph)))
         (keeps-agrees (state_at i.locks) i.locks.ledger.lists.items ledger.lists.items u kept.lists (i.locks.agree u));

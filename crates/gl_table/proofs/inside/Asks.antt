@@ -3,7 +3,7 @@ use Rattle.gl_table.proofs.Words.{[], ⊎_elim, ◌&&◌, ◌+◌, ◌<◌, ◌=
 use Rattle.gl_table.proofs.Words.{AreSound, arith, Asked, Bool, cases_of, children_that, clash, count_by, count_by-le-length, count_of, counted_by, CountsHeld}
 use Rattle.gl_table.proofs.Words.{enters, enters_at, Entries, false, fun_ext, granted, Graph, HasItsKey, HasRoom, HasRoomAt, header_at, header_or_new}
 use Rattle.gl_table.proofs.Words.{HeaderState, held_children, held_of, holds, if◌then◌else◌, is_among_waiters, is_empty, is_granted_at, is_listed, is_live}
-use Rattle.gl_table.proofs.Words.{is_wait, is_waiter, IsApart, IsFreeKey, IsLawfulGraph, IsOneHolder, IsOrderly, KeepsLists, length, List, list_any, LockList}
+use Rattle.gl_table.proofs.Words.{is_wait, is_waiter, IsFreeKey, IsLawfulGraph, IsOneHolder, IsOrderly, KeepsLists, length, List, list_any, LockList}
 use Rattle.gl_table.proofs.Words.{members, members_at, members_of, Mode, mode_of, nat_tests, NL, NodeId, not, not-true, not_NL, number_same, or-false, or_left}
 use Rattle.gl_table.proofs.Words.{parents_of, queue_of, refl, same_mode, same_node, same_node-equal, same_node-from_equal, same_node-refl, same_number}
 use Rattle.gl_table.proofs.Words.{slice_index_or, slot_limit, Some, spare, split, State, state_on, status_of, subst, supremum, supremum-not_NL, sym, true}
@@ -11,7 +11,7 @@ use Rattle.gl_table.proofs.Words.{unlisted, Waiter, wanted, with_grant, with_mem
 use Rattle.gl_table.specs.declared.ledger.Ledger.{Ledger}
 use Rattle.gl_header.specs.declared.header.Asked.TheVariants as asked
 use Rattle.gl_header.proofs.Changed.{nobody-enters, with_waiters-same}
-use Rattle.gl_table.proofs.inside.Slots.{by_list-at, HasNode, keeps-agrees, keeps-counts, slice_get-at}
+use Rattle.gl_table.proofs.inside.Slots.{by_list-at, HasNode, keeps-agrees, keeps-counts}
 use Rattle.gl_model.proofs.law.Keeps.{apart, txn_there, waiting_is}
 use Rattle.gl_model.proofs.queues.Counts.{children_few, children_up, few_parents}
 use Rattle.gl_model.proofs.telling.Fronts.{enters-most}
@@ -47,7 +47,6 @@ room-may_ask g l l' t wanted made may = record {
   sound = record {
     few = subst (λ (k : ℕ). k ≤ 128) (sym seats) may.sound.few;
     lists = made.lists.len ∙ may.sound.lists ∙ sym seats;
-    apart = made.lists.apart may.sound.apart;
   };
   orderly = subst IsOrderly (sym same) may.orderly;
   agree = λ u. subst (λ s. Agrees s l'.lists.items u) (sym same) (keeps-agrees (state_on g l) l.lists.items l'.lists.items u made.lists (may.agree u));
@@ -86,9 +85,6 @@ module _ (g : Graph) (l : Ledger) (t : ℕ) (may : MayAsk g l t) where
 
     pub own-count : (q : NodeId) → count_of x q ≡ held_children s t q
     own-count q = sym (by_list-at (λ y. count_of y q) 0 l.lists.items t x slot-listed at) ∙ may.count t q
-
-    pub own-apart : IsApart x
-    own-apart = may.sound.apart t x (slice_get-at l.lists.items t x slot-listed at)
 
     pub own-room : HasRoomAt l.lists.items t → HasRoom x
     own-room room = (
@@ -280,7 +276,6 @@ module _ {g : Graph} {l r : Ledger} (l' : Ledger) {t : ℕ} {n : NodeId} {m : Mo
     sound = record {
       few = subst (λ (k : ℕ). k ≤ 128) (ap (λ x. length x.items) (sym seats)) ready.may.sound.few;
       lists = has.len ∙ ready.may.sound.lists ∙ ap (λ x. length x.items) (sym seats);
-      apart = has.apart;
     };
     mode = mode ∙ ap (λ s. wanted s t n m) ready.same;
     state = state ∙ ap₂ (λ s x. with_grant s t n x) ready.same (mode ∙ ap (λ s. wanted s t n m) ready.same);

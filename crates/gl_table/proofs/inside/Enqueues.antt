@@ -1,10 +1,9 @@
 -- What an ask that waits leaves. For asks.
-use Rattle.gl_table.proofs.Words.{◌&&◌, ◌+◌, ◌<◌, ◌==◌, ◌||◌, ◌∙◌, ◌≡◌, ◌≤◌, Agrees, and_both, ap, ap₂, AreApart, AreSound, arith, Bool, count_of, counted_by}
-use Rattle.gl_table.proofs.Words.{CountsHeld, enqueued, enters, Entries, false, fun_ext, Graph, held_of, holds, if◌then◌else◌, is_among_waiters, is_listed}
-use Rattle.gl_table.proofs.Words.{is_wait, IsApart, length, List, LockList, members, members_at, Mode, mode_of, nat_tests, NodeId, number_same, Option}
-use Rattle.gl_table.proofs.Words.{other_number, placed, queue_of, refl, restatus, room_by, same_node, same_node-equal, same_number, Seat, slice_index_or}
-use Rattle.gl_table.proofs.Words.{slice_set, slot_limit, spare, split, State, state_on, status_in, subst, supremum, sym, true, txns_of, Waiting, wanted}
-use Rattle.gl_table.proofs.Words.{with_waiters, ℕ}
+use Rattle.gl_table.proofs.Words.{◌&&◌, ◌+◌, ◌<◌, ◌==◌, ◌||◌, ◌∙◌, ◌≡◌, ◌≤◌, Agrees, and_both, ap, ap₂, AreSound, arith, Bool, count_of, counted_by, CountsHeld}
+use Rattle.gl_table.proofs.Words.{enqueued, enters, Entries, false, fun_ext, Graph, held_of, holds, if◌then◌else◌, is_among_waiters, is_listed, is_wait, length}
+use Rattle.gl_table.proofs.Words.{List, LockList, members, members_at, Mode, mode_of, nat_tests, NodeId, number_same, Option, other_number, placed, queue_of}
+use Rattle.gl_table.proofs.Words.{refl, restatus, room_by, same_node, same_node-equal, same_number, Seat, slice_index_or, slice_set, slot_limit, spare, split}
+use Rattle.gl_table.proofs.Words.{State, state_on, status_in, subst, supremum, sym, true, txns_of, Waiting, wanted, with_waiters, ℕ}
 use Rattle.gl_table.specs.declared.ledger.Ledger.{Ledger}
 use Rattle.gl_table.proofs.inside.Asks.{active-waits_nowhere, IsReady}
 use Rattle.gl_table.proofs.inside.Slots.{by_list-set, counts-entered, has_node-set, HasNode, none_more}
@@ -58,12 +57,12 @@ pub record HasWait (ls ls' : List LockList) (t : ℕ) (n : NodeId) (held : Mode)
   pub counts : (u : ℕ) (q : NodeId) → counted_by ls' u q ≡ counted_by ls u q
   pub room : 9 ≤ room_by ls' t
 
-pub has_wait-set : (ls : List LockList) (t : ℕ) (x x' : LockList) → t < length ls → x ≡ slice_index_or ls t x → (n : NodeId) (held : Mode) → AreApart ls
-    → IsApart x' → ((q : NodeId) → mode_of x' q ≡ (if same_node q n then held else mode_of x q))
+pub has_wait-set : (ls : List LockList) (t : ℕ) (x x' : LockList) → t < length ls → x ≡ slice_index_or ls t x → (n : NodeId) (held : Mode)
+    → ((q : NodeId) → mode_of x' q ≡ (if same_node q n then held else mode_of x q))
     → ((q : NodeId) → is_listed x' q ≡ (same_node q n || is_listed x q)) → ((q : NodeId) → count_of x' q ≡ count_of x q) → 9 ≤ spare x'.loose
     → HasWait ls (slice_set ls t x') t n held
-has_wait-set ls t x x' lt at n held all_apart apart modes listed counts room = record {
-  node = has_node-set ls t x x' lt at n held all_apart apart modes listed;
+has_wait-set ls t x x' lt at n held modes listed counts room = record {
+  node = has_node-set ls t x x' lt at n held modes listed;
   counts = λ u q. counts-entered ls t x x' lt at (λ p. 0) (λ p. counts p ∙ none_more (count_of x p)) u q ∙ no_more (u == t) (counted_by ls u q);
   room = subst (λ (k : ℕ). 9 ≤ k) (sym (by_list-set ls t x' lt (λ y. spare y.loose) 0 t ∙ if-true _ (number_same t t refl))) room;
 }
@@ -94,7 +93,6 @@ module _ (g : Graph) (l r l' : Ledger) (t : ℕ) (n : NodeId) (m w : Mode) (held
     sound = record {
       few = subst (λ (k : ℕ). k ≤ 128) (sym count) ready.may.sound.few;
       lists = has.node.len ∙ ready.may.sound.lists ∙ sym count;
-      apart = has.node.apart;
     };
     state = state ∙ ap (λ s. enqueued s t n (wanted s t n m)) ready.same;
     agree = λ u. subst (λ s. Agrees s l'.lists.items u) (sym state)

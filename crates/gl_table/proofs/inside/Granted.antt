@@ -200,7 +200,7 @@ pub can_wake_front : (g : Graph) (l : Ledger) → IsLawfulGraph g → AreSound l
     × ((u : ℕ) → is_among_waiters u ws ≡ true → CanHold l.lists.items u n (parents_of g n))
 can_wake_front g l law sound o n b well stand agree count told by_slot untold ws front = (
   record {
-    kept = record { few = sound.few; len = sound.lists; apart = sound.apart; by_slot = by_slot };
+    kept = record { few = sound.few; len = sound.lists; by_slot = by_slot };
     distinct = ap is_distinct front ∙ front_distinct b n well;
     below = λ u h. below u (stand u (stands u h));
     untold = λ u h. untold u (stands u h);

@@ -1,6 +1,6 @@
 -- Lists in which nothing stands. For new locks.
-use Rattle.gl_table.proofs.Words.{[], ◌++◌, ◌+◌, ◌∷◌, ◌≡◌, AreApart, arith, by_list, count_of, counted_by, Entry, entry_of, false, held_by, is_listed, is_some}
-use Rattle.gl_table.proofs.Words.{IsApart, length, List, listed_by, LockList, mode_in, mode_of, NL, NodeId, None, Option, refl, Some, subst, suc, zero, ℕ, ⊤}
+use Rattle.gl_table.proofs.Words.{[], ◌++◌, ◌+◌, ◌∷◌, ◌≡◌, arith, by_list, count_of, counted_by, Entry, entry_of, false, held_by, is_listed, is_some}
+use Rattle.gl_table.proofs.Words.{length, List, listed_by, LockList, mode_in, mode_of, NL, NodeId, None, Option, refl, Some, suc, zero, ℕ, ⊤}
 
 -- Lists in which nothing stands.
 
@@ -8,7 +8,6 @@ use Rattle.gl_table.proofs.Words.{IsApart, length, List, listed_by, LockList, mo
 pub record IsBare (l : LockList) : Type 0 where
   pub listed : (n : NodeId) → is_listed l n ≡ false
   pub counts : (n : NodeId) → count_of l n ≡ 0
-  pub apart : IsApart l
 
 abbrev pub AreBare : List LockList → Type 0
 AreBare [] = ⊤
@@ -37,11 +36,6 @@ bare-modes ls h t n = bare_by (λ l. mode_of l n) NL (λ l b. no_mode (entry_of 
 
 pub bare-counts : (ls : List LockList) → AreBare ls → (t : ℕ) (n : NodeId) → counted_by ls t n ≡ 0
 bare-counts ls h t n = bare_by (λ l. count_of l n) 0 (λ l b. b.counts n) ls h t
-
-pub bare-apart : (ls : List LockList) → AreBare ls → AreApart ls
-bare-apart [] h t l e = absurd (cc)
-bare-apart (x ∷ ls) h zero l e = let is : x ≡ l = cc in subst IsApart is h.0.apart
-bare-apart (x ∷ ls) h (suc t) l e = bare-apart ls h.1 t l e
 
 pub length-more : {A : Type 0} (xs : List A) (x : A) → length (xs ++ x ∷ []) ≡ length xs + 1
 length-more [] x = refl

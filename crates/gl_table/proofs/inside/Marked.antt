@@ -1,14 +1,14 @@
 -- Marked children are released one after the other. For escalations.
-use Rattle.gl_table.proofs.Words.{[], ◌&&◌, ◌+◌, ◌<◌, ◌==◌, ◌||◌, ◌∙◌, ◌∷◌, ◌≡◌, ◌≤◌, Active, Agrees, and_both, any_counted, ap, ap₂, AreApart, AreSound, arith}
+use Rattle.gl_table.proofs.Words.{[], ◌&&◌, ◌+◌, ◌<◌, ◌==◌, ◌||◌, ◌∙◌, ◌∷◌, ◌≡◌, ◌≤◌, Active, Agrees, and_both, any_counted, ap, ap₂, AreSound, arith}
 use Rattle.gl_table.proofs.Words.{Bool, clash, cond, count_by, count_cons, count_of, CountsHeld, covered_in, false, front_at, fun_ext, Graph, holds}
-use Rattle.gl_table.proofs.Words.{holds_child, if◌then◌else◌, is_child, is_covered, is_listed, is_some, is_wait, IsApart, IsLawfulGraph, IsOrderly, IsShedding}
-use Rattle.gl_table.proofs.Words.{keys, length, List, list_all, list_any, listed, LockList, lookup, map, members, Mode, mode_of, nat_lt, nat_tests, NL, NodeId}
+use Rattle.gl_table.proofs.Words.{holds_child, if◌then◌else◌, is_child, is_covered, is_listed, is_some, is_wait, IsLawfulGraph, IsOrderly, IsShedding}
+use Rattle.gl_table.proofs.Words.{length, List, list_all, list_any, listed, LockList, lookup, map, members, Mode, mode_of, nat_lt, nat_tests, NL, NodeId}
 use Rattle.gl_table.proofs.Words.{nodes, NoneMarkedFrom, not, not-true, not_true, or-false, or_no, parents_of, pumped, refl, same_mode, same_node}
 use Rattle.gl_table.proofs.Words.{same_node-equal, same_number, shed, slice_get, slice_index_or, slice_set, Some, split, State, state_on, status_of, subst, suc}
 use Rattle.gl_table.proofs.Words.{sym, Told, true, unlocked, WakesLists, WakesTold, with_grant, woken, X, zero, ℕ}
 use Rattle.gl_table.specs.declared.ledger.Ledger.{Ledger}
 use Rattle.gl_table.proofs.inside.Departures.{fewer_held, held_after, holds_after, IsLeaving, leaving_one, left_by, taken_from}
-use Rattle.gl_table.proofs.inside.Slots.{agrees-set, by_list-at, counts-set, kept-apart, own_list}
+use Rattle.gl_table.proofs.inside.Slots.{agrees-set, by_list-at, counts-set, own_list}
 use Rattle.gl_model.proofs.law.Keeps.{txn_there}
 use Rattle.gl_listed.proofs.Children.{nl_is}
 use Rattle.gl_listed.proofs.Children.{one_found}
@@ -52,13 +52,12 @@ module _ {s now : State} {t : ℕ} {n : NodeId} {ls : List LockList} {l : LockLi
     marked_counted q = subst (λ (k : ℕ). count_by (same_node q) (parents_of now.graph c) ≤ k) (sym (is.marked.counts q))
         (let e = fewer_held is.leaving quiet c (marked_held c listed) law q in omega arith)
 
-    module _ (mark : mode_of l c ≡ NL) {l' : LockList} (apart' : IsApart l')
+    module _ (mark : mode_of l c ≡ NL) {l' : LockList}
         (listed' : (q : NodeId) → is_listed l' q ≡ (is_listed l q && not (same_node q c))) (modes' : (q : NodeId) → mode_of l' q ≡ mode_of l q)
         (counts' : (q : NodeId) → count_of l' q + count_by (same_node q) (parents_of now.graph c) ≡ count_of l q) where
       -- the list has all that is held still, and what is marked still
       marked_after : IsShedding s (unlocked now t c) t n l'
       marked_after = record {
-        apart = apart';
         listed = λ q. listed' q ∙ ap (λ b. b && not (same_node q c)) (is.marked.listed q) ∙ sym (holds_after is.leaving quiet c (marked_held c listed) q);
         modes = λ q. modes' q ∙ is.marked.modes q ∙ split (same_node q c)
             (λ e. let yes = ap (is_covered s t n) (same_node-equal q c e) ∙ marked_covered c listed mark in ap (λ b. if b then NL else now.held t q) yes
@@ -161,11 +160,10 @@ module _ (s : State) (o : IsOrderly s) (t : ℕ) (active : status_of s t ≡ Som
         && (not (same_mode (h c) X) || list_all (λ p. same_mode (h p) X) (parents_of s.graph c)))
         (fun_ext own_mode) (none_is (count_of l c) ∙ ap not (own_count c))
 
-    pub shedding_begins : (n : NodeId) → AreApart ls → (l' : LockList) → ((q : NodeId) → is_listed l' q ≡ is_listed l q)
+    pub shedding_begins : (n : NodeId) (l' : LockList) → ((q : NodeId) → is_listed l' q ≡ is_listed l q)
         → ((q : NodeId) → mode_of l' q ≡ (if covered_in s.graph l n q then NL else mode_of l q))
-        → ((q : NodeId) → count_of l' q ≡ count_of l q) → l'.loose ≡ l.loose → keys l'.entries ≡ keys l.entries → IsShedding s s t n l'
-    shedding_begins n apart l' listed' modes' counts' loose' keys' = record {
-      apart = kept-apart ls t l l' lt at apart listed' loose' keys';
+        → ((q : NodeId) → count_of l' q ≡ count_of l q) → IsShedding s s t n l'
+    shedding_begins n l' listed' modes' counts' = record {
       listed = λ q. listed' q ∙ sym (by_list-at (λ x. is_listed x q) false ls t l lt at) ∙ agree.listed q
           ∙ ap (λ b. holds (members s q) t || b) (in_no_queue s o t (ap is_wait active) q) ∙ held_alone q;
       modes = λ q. modes' q ∙ ap₂ (λ b m. if b then NL else m) (same_covered n q) (own_mode q);

@@ -1,11 +1,10 @@
 -- One list of many is written, gets room, a node or a mode. For all that writes lists.
-use Rattle.gl_table.proofs.Words.{[], ◌&&◌, ◌+◌, ◌<◌, ◌==◌, ◌^◌, ◌||◌, ◌∙◌, ◌∷◌, ◌≡◌, ◌≢◌, ◌≤◌, Agrees, and-false, ap, ap₂, AreApart, arith, as_left, Bool}
-use Rattle.gl_table.proofs.Words.{by_list, CanHold, count_by, count_in, count_of, counted_by, CountsHeld, Entry, false, fun_ext, HasRoom, HasRoomAt, held_by}
-use Rattle.gl_table.proofs.Words.{if◌then◌else◌, IndexMap, is_listed, is_some, IsApart, IsDistinct, IsWritten, KeepsLists, keys, keys_of, length, length-set}
-use Rattle.gl_table.proofs.Words.{List, list_any, listed_by, LockList, lookup, map-set_same, Mode, mode_in, mode_of, nat_tests, NL, NodeId, not, number_same}
-use Rattle.gl_table.proofs.Words.{option_map_or, refl, room_by, same_mode, same_mode-equal, same_node, same_node-equal, same_number, slice_get}
-use Rattle.gl_table.proofs.Words.{slice_get-get_or, slice_index_or, slice_set, Some, spare, split, State, Strikes, subst, suc, sym, true, unlisted, unlisted_by}
-use Rattle.gl_table.proofs.Words.{Writing, zero, ℕ}
+use Rattle.gl_table.proofs.Words.{[], ◌&&◌, ◌+◌, ◌<◌, ◌==◌, ◌^◌, ◌||◌, ◌∙◌, ◌∷◌, ◌≡◌, ◌≢◌, ◌≤◌, Agrees, and-false, ap, ap₂, arith, as_left, Bool, by_list}
+use Rattle.gl_table.proofs.Words.{CanHold, count_by, count_in, count_of, counted_by, CountsHeld, Entry, false, fun_ext, HasRoom, HasRoomAt, held_by}
+use Rattle.gl_table.proofs.Words.{if◌then◌else◌, is_listed, is_some, IsWritten, KeepsLists, length, length-set, List, list_any, listed_by, LockList, lookup}
+use Rattle.gl_table.proofs.Words.{map-set_same, Mode, mode_in, mode_of, nat_tests, NL, NodeId, not, number_same, option_map_or, refl, room_by, same_mode}
+use Rattle.gl_table.proofs.Words.{same_mode-equal, same_node, same_node-equal, same_number, slice_get, slice_get-get_or, slice_index_or, slice_set, Some, spare}
+use Rattle.gl_table.proofs.Words.{split, State, Strikes, subst, suc, sym, true, unlisted, unlisted_by, Writing, zero, ℕ}
 use Rattle.gl_model.proofs.queues.Waiters.{if-false, if-true}
 
 -- One list of many is written.
@@ -40,12 +39,6 @@ module _ (ls : List LockList) (t : ℕ) (new : LockList) (lt : t < length ls) wh
   by_list-set f none u = split (u == t) (λ e. ap (λ o. option_map_or f o none) (set_here u e) ∙ sym (if-true _ e))
       (λ e. ap (λ o. option_map_or f o none) (set_apart u e) ∙ sym (if-false _ e))
 
-  pub apart-set : AreApart ls → IsApart new → AreApart (slice_set ls t new)
-  apart-set apart here u l is = split (u == t) (λ e. subst IsApart (some_same (sym (set_here u e) ∙ is)) here) (λ e. apart u l (sym (set_apart u e) ∙ is))
-    where
-      some_same : {X : Type 0} {a b : X} → Some a ≡ Some b → a ≡ b
-      some_same e = cc
-
 -- what a list says that was looked up
 pub by_list-at : {A : Type 0} (f : LockList → A) (none : A) (ls : List LockList) (t : ℕ) (l : LockList) → t < length ls → l ≡ slice_index_or ls t l
     → by_list f none ls t ≡ f l
@@ -79,12 +72,11 @@ module _ (ls : List LockList) (t : ℕ) (l l' : LockList) (lt : t < length ls) (
       (λ e. if-true _ e ∙ here e (sym (by_list-here ls t l lt at u e f none)) ∙ ap want (sym e)) (λ e. if-false _ e ∙ there ∙ ap want (sym e))
 
   -- one list is written at one node
-  pub written : (n : NodeId) (is : Writing) → AreApart ls → IsApart l' → ((q : NodeId) → mode_of l' q ≡ (if same_node q n then is.mode t else mode_of l q))
+  pub written : (n : NodeId) (is : Writing) → ((q : NodeId) → mode_of l' q ≡ (if same_node q n then is.mode t else mode_of l q))
       → ((q : NodeId) → is_listed l' q ≡ (if is.gone && same_node q n then false else is_listed l q))
       → ((q : NodeId) → count_of l' q ≡ count_of l q + is.more t q) → IsWritten ls n (λ u. u == t) is (slice_set ls t l')
-  written n is apart here modes listed counts = record {
+  written n is modes listed counts = record {
     len = length-set ls t l';
-    apart = apart-set ls t l' lt apart here;
     modes = λ u q. by_slot (λ x. mode_of x q) NL u (λ k. if k && same_node q n then is.mode u else held_by ls u q)
         (λ e was. modes q ∙ ap₂ (λ v x. if same_node q n then is.mode v else x) (sym (same_number u t e)) was) refl;
     listed = λ u q. by_slot (λ x. is_listed x q) false u (λ k. if is.gone && (k && same_node q n) then false else listed_by ls u q)
@@ -96,10 +88,10 @@ module _ (ls : List LockList) (t : ℕ) (l l' : LockList) (lt : t < length ls) (
   }
 
   -- a node is taken out of one list, in which no child of it is counted
-  pub written-left : (n : NodeId) → AreApart ls → IsApart l' → ((q : NodeId) → mode_of l' q ≡ (if same_node q n then NL else mode_of l q))
+  pub written-left : (n : NodeId) → ((q : NodeId) → mode_of l' q ≡ (if same_node q n then NL else mode_of l q))
       → ((q : NodeId) → is_listed l' q ≡ (is_listed l q && not (same_node q n))) → ((q : NodeId) → count_of l' q ≡ count_of l q)
       → IsWritten ls n (λ u. u == t) as_left (slice_set ls t l')
-  written-left n apart here modes listed counts = written n as_left apart here modes (λ q. listed q ∙ but_not (is_listed l q) (same_node q n))
+  written-left n modes listed counts = written n as_left modes (λ q. listed q ∙ but_not (is_listed l q) (same_node q n))
       (λ q. counts q ∙ none_more (count_of l q))
 
 -- lists that have the same nodes lack the same of these
@@ -120,23 +112,12 @@ module _ (ls : List LockList) (t : ℕ) (n : NodeId) (ps : List NodeId) (l l' : 
       (subst (λ (k : ℕ). unlisted_by ls t ps ≤ k) (by_list-at (λ x. spare x.loose) 0 ls t l can.slot at ∙ ap spare (sym same))
       (can.room (by_list-at (λ x. mode_of x n) NL ls t l can.slot at ∙ same_mode-equal (mode_of l n) NL new)))
 
-pub kept-apart : (ls : List LockList) (t : ℕ) (l l' : LockList) → t < length ls → l ≡ slice_index_or ls t l → AreApart ls
-    → ((q : NodeId) → is_listed l' q ≡ is_listed l q) → l'.loose ≡ l.loose → keys l'.entries ≡ keys l.entries → IsApart l'
-unfolding IsApart
-kept-apart ls t l l' lt at apart listed same nodes =
-    let old = apart t l (slice_get-at ls t l lt at) in (
-      subst (IsDistinct same_node) (sym nodes) old.0,
-      λ n h. ap (λ (m : IndexMap NodeId ℕ _). lookup (same_node n) m.entries) same ∙ old.1 n (sym (listed n) ∙ h),
-    )
-
 -- a list is written whole, with these modes, nodes, counts and room
-pub struck-written : (ls : List LockList) (t : ℕ) (l l' : LockList) (n : NodeId) (ps : List NodeId) → t < length ls → l ≡ slice_index_or ls t l → AreApart ls
-    → IsApart l'
+pub struck-written : (ls : List LockList) (t : ℕ) (l l' : LockList) (n : NodeId) (ps : List NodeId) → t < length ls → l ≡ slice_index_or ls t l
     → ((q : NodeId) → mode_of l' q ≡ (if same_node q n then NL else mode_of l q)) → ((q : NodeId) → is_listed l' q ≡ (is_listed l q && not (same_node q n)))
     → ((q : NodeId) → count_of l' q + count_by (same_node q) ps ≡ count_of l q) → Strikes ls (slice_set ls t l') t n ps
-struck-written ls t l l' n ps lt at apart is modes listed counts = record {
+struck-written ls t l l' n ps lt at modes listed counts = record {
   len = length-set ls t l';
-  apart = apart-set ls t l' lt apart is;
   modes = λ u q. by_slot ls t l l' lt at (λ x. mode_of x q) NL u (λ k. if k && same_node q n then NL else held_by ls u q)
       (λ e was. modes q ∙ ap (λ x. if same_node q n then NL else x) was) refl;
   listed = λ u q. by_slot ls t l l' lt at (λ x. is_listed x q) false u (λ k. if k && same_node q n then false else listed_by ls u q)
@@ -207,16 +188,9 @@ module _ (ls : List LockList) (t : ℕ) (l l' : LockList) (lt : t < length ls) (
 module _ (ls : List LockList) (t : ℕ) (l l' : LockList) (lt : t < length ls) (at : l ≡ slice_index_or ls t l) where
   pub keeps-set : l'.entries.entries ≡ l.entries.entries → l'.loose.entries ≡ l.loose.entries → spare l.loose ≤ spare l'.loose
       → KeepsLists ls (slice_set ls t l')
-  unfolding IsApart
   keeps-set entries loose more = record {
     len = length-set ls t l';
     entries = map-set_same (λ x. x.entries.entries) ls t l' l (entries ∙ ap (λ x. x.entries.entries) at);
-    apart = λ apart.
-        let old = apart t l (slice_get-at ls t l lt at) in
-        apart-set ls t l' lt apart (
-          subst (λ (es : List (NodeId × Entry)). IsDistinct same_node (keys_of es)) (sym entries) old.0,
-          λ n h. ap (λ (es : List (NodeId × ℕ)). lookup (same_node n) es) loose ∙ old.1 n (sym (listed n) ∙ h),
-        );
     modes = λ u q. by_list-kept ls t l lt at l' (λ x. mode_of x q) NL (ap (λ (es : List (NodeId × Entry)). mode_in (lookup (same_node q) es)) entries) u;
     listed = λ u q. by_list-kept ls t l lt at l' (λ x. is_listed x q) false (listed q) u;
     counts = λ u q. by_list-kept ls t l lt at l' (λ x. count_of x q) 0
@@ -254,17 +228,15 @@ keeps-counts s ls ls' u keeps counts p = keeps.counts u p ∙ counts p
 -- the list of t has n, in this mode; what is said of other slots and nodes is as it was
 pub record HasNode (ls ls' : List LockList) (t : ℕ) (n : NodeId) (m : Mode) : Type 0 where
   pub len : length ls' ≡ length ls
-  pub apart : AreApart ls'
   pub modes : (u : ℕ) (q : NodeId) → held_by ls' u q ≡ (if (u == t) && same_node q n then m else held_by ls u q)
   pub listed : (u : ℕ) (q : NodeId) → listed_by ls' u q ≡ (((u == t) && same_node q n) || listed_by ls u q)
   pub rooms : (u : ℕ) → (u == t) ≡ false → room_by ls' u ≡ room_by ls u
 
 module _ (ls : List LockList) (t : ℕ) (l l' : LockList) (lt : t < length ls) (at : l ≡ slice_index_or ls t l) where
-  pub has_node-set : (n : NodeId) (m : Mode) → AreApart ls → IsApart l' → ((q : NodeId) → mode_of l' q ≡ (if same_node q n then m else mode_of l q))
+  pub has_node-set : (n : NodeId) (m : Mode) → ((q : NodeId) → mode_of l' q ≡ (if same_node q n then m else mode_of l q))
       → ((q : NodeId) → is_listed l' q ≡ (same_node q n || is_listed l q)) → HasNode ls (slice_set ls t l') t n m
-  has_node-set n m apart here modes listed = record {
+  has_node-set n m modes listed = record {
     len = length-set ls t l';
-    apart = apart-set ls t l' lt apart here;
     modes = λ u q. by_slot ls t l l' lt at (λ x. mode_of x q) NL u (λ k. if k && same_node q n then m else held_by ls u q)
         (λ e was. modes q ∙ ap (λ x. if same_node q n then m else x) was) refl;
     listed = λ u q. by_slot ls t l l' lt at (λ x. is_listed x q) false u (λ k. (k && same_node q n) || listed_by ls u q)

@@ -91,7 +91,7 @@ module _ {s : State} {t : ℕ} {r : NodeId} {ls : List LockList} (may : MayVacat
     pub can_free : (seats : List (Option Seat)) (told : Told) → length seats ≡ s.most → length seats ≤ 128 → length ls ≡ length seats → IsBySlot told
         → ((u : ℕ) → is_among_waiters u (s.queue r) ≡ true → notices_in told u ≡ None) → CanEnd (record { seats = seats; lists = mid; told = told }) (s.queue r)
     can_free seats told most few len by_slot untold = record {
-      kept = record { few = few; len = struck.len ∙ len; apart = struck.apart; by_slot = by_slot };
+      kept = record { few = few; len = struck.len ∙ len; by_slot = by_slot };
       distinct = distinct_once (s.queue r) (λ u h. let w = waits_there s may.orderly u r h in ((u, w.0), (may.orderly.one_wait u r w.0 w.1).0));
       below = λ u h. subst (λ (k : ℕ). u < k) (sym most) (waiters_below s may.orderly r u h);
       untold = untold;

@@ -1,14 +1,13 @@
 -- A wait is withdrawn: the lists agree, and fewer wait. For cancels and victims.
-use Rattle.gl_table.proofs.Words.{[], ◌&&◌, ◌<◌, ◌==◌, ◌||◌, ◌∙◌, ◌∷◌, ◌≡◌, ◌≤◌, Agrees, ap, ap₂, AreApart, arith, Bool, children_that, clash, cond, Condemned}
-use Rattle.gl_table.proofs.Words.{condemned, count_by, count_cons, count_of, counted_by, CountsHeld, Entry, false, front_at, fun_ext, granted_at, held_by}
-use Rattle.gl_table.proofs.Words.{held_children, holds, if◌then◌else◌, is_among_waiters, is_listed, is_live, is_some, is_wait, is_waiting_at, IsApart}
-use Rattle.gl_table.proofs.Words.{IsLawfulGraph, IsOrderly, length, length-set, List, list_any, listed_by, LockList, members, mode_given, mode_in, mode_of}
-use Rattle.gl_table.proofs.Words.{nat_tests, NL, NodeId, None, not, not_true, number_same, Option, or_elim, other_number, parents_of, pumped, refl, room_by}
-use Rattle.gl_table.proofs.Words.{same_mode, same_mode-equal, same_node, same_node-equal, same_node-sym, same_number, slice_index_or, slice_set, slots, Some}
-use Rattle.gl_table.proofs.Words.{spare, split, State, Status, status_in, status_of, subst, sym, true, Waiter, WaitWell, WakesLists, without_wait}
-use Rattle.gl_table.proofs.Words.{without_waiter, ℕ}
+use Rattle.gl_table.proofs.Words.{[], ◌&&◌, ◌<◌, ◌==◌, ◌||◌, ◌∙◌, ◌∷◌, ◌≡◌, ◌≤◌, Agrees, ap, ap₂, arith, Bool, children_that, clash, cond, Condemned, condemned}
+use Rattle.gl_table.proofs.Words.{count_by, count_cons, count_of, counted_by, CountsHeld, Entry, false, front_at, fun_ext, granted_at, held_by, held_children}
+use Rattle.gl_table.proofs.Words.{holds, if◌then◌else◌, is_among_waiters, is_listed, is_live, is_some, is_wait, is_waiting_at, IsLawfulGraph, IsOrderly, length}
+use Rattle.gl_table.proofs.Words.{length-set, List, list_any, listed_by, LockList, members, mode_given, mode_in, mode_of, nat_tests, NL, NodeId, None, not}
+use Rattle.gl_table.proofs.Words.{not_true, number_same, Option, or_elim, other_number, parents_of, pumped, refl, room_by, same_mode, same_mode-equal}
+use Rattle.gl_table.proofs.Words.{same_node, same_node-equal, same_node-sym, same_number, slice_index_or, slice_set, slots, Some, spare, split, State, Status}
+use Rattle.gl_table.proofs.Words.{status_in, status_of, subst, sym, true, Waiter, WaitWell, WakesLists, without_wait, without_waiter, ℕ}
 use Rattle.gl_table.proofs.inside.Granted.{agrees_pumped, counts_pumped}
-use Rattle.gl_table.proofs.inside.Slots.{apart-set, by_list-at, by_list-kept, by_list-set, none_more, slice_get-at}
+use Rattle.gl_table.proofs.inside.Slots.{by_list-at, by_list-kept, by_list-set, none_more}
 use Rattle.gl_model.proofs.law.Keeps.{txn_there, waiting_is, woken_waits}
 use Rattle.gl_model.proofs.law.Settle.{wait_is, waiting}
 use Rattle.gl_model.proofs.law.Takes.{IsQuiet, restatus_quiet}
@@ -24,7 +23,6 @@ use Rattle.gl_model.proofs.telling.Ways.{granted_stands, left_stands, without_wa
 -- the list of t has n only where t holds it; what the lists say else is as it was
 pub record Unlists (ls ls' : List LockList) (t : ℕ) (n : NodeId) : Type 0 where
   pub len : length ls' ≡ length ls
-  pub apart : AreApart ls'
   pub modes : (u : ℕ) (q : NodeId) → held_by ls' u q ≡ held_by ls u q
   pub listed : (u : ℕ) (q : NodeId) → listed_by ls' u q ≡ (if (u == t) && same_node q n then not (same_mode (held_by ls t n) NL) else listed_by ls u q)
   pub counts : (u : ℕ) (q : NodeId) → counted_by ls' u q ≡ counted_by ls u q
@@ -52,15 +50,14 @@ unheld_left l l' n h left q = left q ∙ by (is_listed l q) (same_node q n) ∙ 
 unheld_modes : (l : LockList) (n : NodeId) → same_mode (mode_of l n) NL ≡ true → (q : NodeId) → (if same_node q n then NL else mode_of l q) ≡ mode_of l q
 unheld_modes l n h q = grind (arith, nat_tests, same_mode-equal, same_node-equal)
 
-module _ (ls : List LockList) (t : ℕ) (n : NodeId) (l : LockList) (lt : t < length ls) (at : l ≡ slice_index_or ls t l) (apart : AreApart ls) where
+module _ (ls : List LockList) (t : ℕ) (n : NodeId) (l : LockList) (lt : t < length ls) (at : l ≡ slice_index_or ls t l) where
   module _ (l' : LockList) where
     -- a list is written that says the same, but has n only where it holds it
-    unlists_set : IsApart l' → ((q : NodeId) → mode_of l' q ≡ mode_of l q)
+    unlists_set : ((q : NodeId) → mode_of l' q ≡ mode_of l q)
         → ((q : NodeId) → is_listed l' q ≡ (if same_node q n then not (same_mode (mode_of l n) NL) else is_listed l q))
         → ((q : NodeId) → count_of l' q ≡ count_of l q) → Unlists ls (slice_set ls t l') t n
-    unlists_set here modes listed counts = record {
+    unlists_set modes listed counts = record {
       len = length-set ls t l';
-      apart = apart-set ls t l' lt apart here;
       modes = λ u q. by_list-kept ls t l lt at l' (λ x. mode_of x q) NL (modes q) u;
       listed = λ u q. by_list-set ls t l' lt (λ x. is_listed x q) false u ∙ split (u == t) (λ e. if-true _ e ∙ listed q
           ∙ ap₂ (λ m k. if same_node q n then not (same_mode m NL) else k) (sym (by_list-at (λ x. mode_of x n) NL ls t l lt at))
@@ -71,13 +68,13 @@ module _ (ls : List LockList) (t : ℕ) (n : NodeId) (l : LockList) (lt : t < le
       rooms = λ u e. by_list-set ls t l' lt (λ x. spare x.loose) 0 u ∙ ap (λ k. if k then spare l'.loose else room_by ls u) e;
     }
 
-    pub unlists_left : same_mode (mode_of l n) NL ≡ true → IsApart l' → ((q : NodeId) → mode_of l' q ≡ (if same_node q n then NL else mode_of l q))
+    pub unlists_left : same_mode (mode_of l n) NL ≡ true → ((q : NodeId) → mode_of l' q ≡ (if same_node q n then NL else mode_of l q))
         → ((q : NodeId) → is_listed l' q ≡ (is_listed l q && not (same_node q n))) → ((q : NodeId) → count_of l' q ≡ count_of l q)
         → Unlists ls (slice_set ls t l') t n
-    unlists_left h here modes listed counts = unlists_set here (λ q. modes q ∙ unheld_modes l n h q) (unheld_left l l' n h listed) counts
+    unlists_left h modes listed counts = unlists_set (λ q. modes q ∙ unheld_modes l n h q) (unheld_left l l' n h listed) counts
 
   pub unlists_held : same_mode (mode_of l n) NL ≡ false → Unlists ls (slice_set ls t l) t n
-  unlists_held h = unlists_set l (apart t l (slice_get-at ls t l lt at)) (λ q. refl) (only_held l n h) (λ q. refl)
+  unlists_held h = unlists_set l (λ q. refl) (only_held l n h) (λ q. refl)
 
 -- all others stand in the queue where they stood
 pub others_among : (t u : ℕ) (ws : List Waiter) → (u == t) ≡ false → is_among_waiters u (without_waiter t ws) ≡ is_among_waiters u ws

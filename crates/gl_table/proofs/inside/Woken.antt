@@ -83,7 +83,6 @@ pub kept_still : {b mid : Books} {n : NodeId} {who : ℕ → Bool} {is : Writing
 kept_still over kept = record {
   few = subst (λ (k : ℕ). k ≤ 128) (sym over.len) kept.few;
   len = over.lists.len ∙ kept.len ∙ sym over.len;
-  apart = over.lists.apart;
   by_slot = over.tells.by_slot;
 }
 
@@ -116,7 +115,6 @@ module _ {b mid : Books} {n : NodeId} {who : ℕ → Bool} {is : Writing} {says 
           (λ u e. ap (restatus Active) (own (λ v. txns_of mid.seats v ≡ txns_of b.seats v) txn_still u e)) over.txns ends.txns;
       lists = record {
         len = ends.lists.len ∙ over.lists.len;
-        apart = ends.lists.apart;
         modes = λ u q. one_more (λ v. who v && same_node q n) (λ v. (v == t) && same_node q n) (λ v. all v && same_node q n)
             (λ v. ap (λ c. c && same_node q n) (both v) ∙ or_and (who v) (v == t) (same_node q n))
             (λ v. held_by b.lists v q) (λ v. held_by mid.lists v q) (λ v. held_by b'.lists v q) is.mode is'.mode
@@ -205,7 +203,6 @@ ends_none {b} {n} {is} {says} who none kept =
       txns = λ u. refl;
       lists = record {
         len = refl;
-        apart = kept.apart;
         modes = λ u q. refl;
         listed = λ u q. sym (ap (λ c. if c then false else listed_by b.lists u q) (and-false is.gone));
         counts = λ u q. none_more (counted_by b.lists u q);

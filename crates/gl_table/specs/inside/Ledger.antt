@@ -13,11 +13,7 @@ use Rattle.gl_model.specs.Calls.{held_children}
 use Rattle.gl_header.specs.Headers.{held_of, queue_of}
 use Rattle.gl_model.specs.State.{State, members, status_of, is_wait}
 use Rattle.gl_table.specs.inside.Seats.{txns_of}
-use Rattle.std.specs.Coded.{×_prop, Π_prop, →_prop, Coded-set, coded_option, coded_ℕ, le_prop}
-use Rattle.std.specs.List.{IsDistinct-prop}
-use Rattle.gl_modes.specs.Nodes.{same_node}
-use Rattle.gl_listed.specs.Lists.{IsApart}
-use Rattle.gl_table.specs.inside.Slots.{KeepsLists, AreApart, counted_by, held_by, listed_by, room_by}
+use Rattle.gl_table.specs.inside.Slots.{KeepsLists, counted_by, held_by, listed_by, room_by}
 
 -- the state that a ledger is over a graph
 abbrev pub state_on : Graph → Ledger → State
@@ -52,15 +48,6 @@ CountsHeld s ls u = (p : NodeId) → counted_by ls u p ≡ held_children s u p
 pub record AreSound (l : Ledger) : Type 0 where
   pub few : length l.seats.items ≤ 128
   pub lists : length l.lists.items ≡ length l.seats.items
-  pub apart : AreApart l.lists.items
-
-IsApart-prop : (l : LockList) → IsProp (IsApart l)
-unfolding IsApart
-IsApart-prop l = ×_prop (IsDistinct-prop same_node _) (Π_prop (λ n. →_prop (Coded-set (coded_option coded_ℕ) _ _)))
-
--- it is a proposition, as a ghost field has to be
-pub AreSound-prop : (l : Ledger) → IsProp (AreSound l)
-AreSound-prop l = hlevel (IsApart-prop, le_prop, Coded-set coded_ℕ)
 
 -- the ledger is exact over a graph: its parts are in order, and each list has the modes and the counts of its slot
 pub record AreExact (g : View) (l : Ledger) : Type 0 where
@@ -79,7 +66,6 @@ pub record AreNew (l : Ledger) (most : ℕ) : Type 0 where
   pub headers : l.headers.entries ≡ []
   pub seats : l.seats.items ≡ replicate most None
   pub lists : length l.lists.items ≡ most
-  pub apart : AreApart l.lists.items
   pub listed : (t : ℕ) (n : NodeId) → listed_by l.lists.items t n ≡ false
   pub modes : (t : ℕ) (n : NodeId) → held_by l.lists.items t n ≡ NL
   pub counts : (t : ℕ) (n : NodeId) → counted_by l.lists.items t n ≡ 0

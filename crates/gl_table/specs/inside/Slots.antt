@@ -1,5 +1,5 @@
 -- The told list and the lists of all transactions by slot: what it is to wake and to free waiters.
-use Rattle.std.specs.Prelude.{ℕ, Bool, true, ◌&&◌, ◌==◌, ◌≡◌, Option, ◌+◌, ◌<◌, ◌≤◌, ◌^◌, false, map, List, length, Some, None, if◌then◌else◌}
+use Rattle.std.specs.Prelude.{ℕ, Bool, true, ◌&&◌, ◌==◌, ◌≡◌, Option, ◌+◌, ◌<◌, ◌≤◌, ◌^◌, false, map, List, length, None, if◌then◌else◌}
 use Rattle.std.specs.Prelude.{slice_get}
 use Rattle.std.specs.List.{count_by, list_any}
 use Rattle.std.specs.Option.{option_map_or}
@@ -16,7 +16,7 @@ use Rattle.gl_model.specs.Tellings.{IsOnWay, Told, told_to, IsBySlot, IsTold, mo
 use Rattle.gl_listed.specs.declared.list.LockList.{LockList}
 use Rattle.gl_table.specs.declared.seat.Seat.{Seat}
 use Rattle.gl_model.specs.declared.txn.Status.TheVariants.{Active}
-use Rattle.gl_listed.specs.Lists.{IsApart, count_of, is_listed, mode_of, unlisted}
+use Rattle.gl_listed.specs.Lists.{count_of, is_listed, mode_of, unlisted}
 use Rattle.gl_table.specs.inside.Seats.{SeatList, txns_of}
 use Rattle.gl_model.specs.Calls.{held_children, is_covered}
 use Rattle.gl_model.specs.State.{State, members, restatus}
@@ -62,10 +62,6 @@ room_by ls t = by_list (λ l. spare l.loose) 0 ls t
 abbrev pub unlisted_by : List LockList → ℕ → List NodeId → ℕ
 unlisted_by ls t ps = by_list (λ l. unlisted l ps) 0 ls t
 
--- in each list each node stands once
-abbrev pub AreApart : List LockList → Type 0
-AreApart ls = (t : ℕ) (l : LockList) → slice_get ls t ≡ Some l → IsApart l
-
 -- a slot may come to hold a node with these parents: its list has the node, and can count one child more of each parent
 pub record CanHold (ls : List LockList) (t : ℕ) (n : NodeId) (ps : List NodeId) : Type 0 where
   pub slot : t < length ls
@@ -82,7 +78,6 @@ pub record Writing : Type 0 where
 -- the lists once this is written in those of these slots; all else is as it was
 pub record IsWritten (ls : List LockList) (n : NodeId) (who : ℕ → Bool) (is : Writing) (ls' : List LockList) : Type 0 where
   pub len : length ls' ≡ length ls
-  pub apart : AreApart ls'
   pub modes : (u : ℕ) (q : NodeId) → held_by ls' u q ≡ (if who u && same_node q n then is.mode u else held_by ls u q)
   pub listed : (u : ℕ) (q : NodeId) → listed_by ls' u q ≡ (if is.gone && (who u && same_node q n) then false else listed_by ls u q)
   pub counts : (u : ℕ) (q : NodeId) → counted_by ls' u q ≡ counted_by ls u q + (if who u then is.more u q else 0)
@@ -112,11 +107,10 @@ pub record Books : Type 0 where
 abbrev pub books_of : SeatList → List LockList → Told → Books
 books_of seats lists told = record { seats = seats.items; lists = lists; told = told }
 
--- one for each slot, and each list in order
+-- one list for each slot
 pub record AreKept (b : Books) : Type 0 where
   pub few : length b.seats ≤ 128
   pub len : length b.lists ≡ length b.seats
-  pub apart : AreApart b.lists
   pub by_slot : IsBySlot b.told
 
 -- waiters of different slots that are there, who were told nothing yet
@@ -141,7 +135,6 @@ Wakes b n ps ws b' = WaitsEnd b n (λ u. is_among_waiters u ws) (as_held b.lists
 pub record KeepsLists (ls ls' : List LockList) : Type 0 where
   pub len : length ls' ≡ length ls
   pub entries : map (λ l. l.entries.entries) ls' ≡ map (λ l. l.entries.entries) ls
-  pub apart : AreApart ls → AreApart ls'
   pub modes : (u : ℕ) (q : NodeId) → held_by ls' u q ≡ held_by ls u q
   pub listed : (u : ℕ) (q : NodeId) → listed_by ls' u q ≡ listed_by ls u q
   pub counts : (u : ℕ) (q : NodeId) → counted_by ls' u q ≡ counted_by ls u q
@@ -161,7 +154,6 @@ pub record CanStrike (ls : List LockList) (t : ℕ) (n : NodeId) (ps : List Node
 -- the lists once the node is taken out of one; each parent has one held child less
 pub record Strikes (ls ls' : List LockList) (t : ℕ) (n : NodeId) (ps : List NodeId) : Type 0 where
   pub len : length ls' ≡ length ls
-  pub apart : AreApart ls'
   pub modes : (u : ℕ) (q : NodeId) → held_by ls' u q ≡ (if (u == t) && same_node q n then NL else held_by ls u q)
   pub listed : (u : ℕ) (q : NodeId) → listed_by ls' u q ≡ (if (u == t) && same_node q n then false else listed_by ls u q)
   pub counts : (u : ℕ) (q : NodeId) → counted_by ls' u q + (if u == t then count_by (same_node q) ps else 0) ≡ counted_by ls u q
@@ -169,7 +161,6 @@ pub record Strikes (ls ls' : List LockList) (t : ℕ) (n : NodeId) (ps : List No
 
 -- the list of t while the children of n that its lock covered in s are released: they are marked, and all else is as it is now
 pub record IsShedding (s now : State) (t : ℕ) (n : NodeId) (l : LockList) : Type 0 where
-  pub apart : IsApart l
   pub listed : (q : NodeId) → is_listed l q ≡ holds (members now q) t
   pub modes : (q : NodeId) → mode_of l q ≡ (if is_covered s t n q then NL else now.held t q)
   pub counts : (p : NodeId) → count_of l p ≡ held_children now t p

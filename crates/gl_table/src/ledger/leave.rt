@@ -11,7 +11,7 @@ ghost use Rattle.gl_model.specs.declared.txn.Status.TheVariants.{Active};
 ghost use Rattle.gl_modes.specs.declared.mode.Mode.TheVariants.{NL};
 ghost use Rattle.gl_modes.specs.declared.node.NodeId.{NodeId as Node};
 ghost use Rattle.gl_table.specs.inside.Ledger.{Agrees, AreExact, AreSound, CountsHeld, state_in};
-ghost use Rattle.gl_table.specs.inside.Slots.{AreApart, AreKept, CanStrike, CanTell, IsShedding, Strikes, TellsOthers, WaitsEnd, as_left, books_of, counted_by, room_by};
+ghost use Rattle.gl_table.specs.inside.Slots.{AreKept, CanStrike, CanTell, IsShedding, Strikes, TellsOthers, WaitsEnd, as_left, books_of, counted_by, room_by};
 
 use crate::ledger::Ledger;
 use crate::seats::Seats;
@@ -26,7 +26,6 @@ use gl_modes::NodeId;
 /// child less.
 pub(crate) fn strike(lists: &mut Vec<LockList>, slot: u8, node: NodeId, parents: &[NodeId])
     requires can { CanStrike lists.old.items slot node parents.now }
-    requires apart { AreApart lists.old.items }
     ensures { Strikes lists.old.items lists.new.items slot node parents.now }
 {
     let list = &mut lists[slot as usize];

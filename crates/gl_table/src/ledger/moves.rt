@@ -16,7 +16,7 @@ ghost use Rattle.gl_header.specs.Headers.{held_of, members_at, queue_of, with_wa
 ghost use Rattle.gl_model.specs.State.{intends_over, members};
 ghost use Rattle.indexmap.specs.IndexMap.{spare};
 ghost use Rattle.gl_modes.specs.Modes.{same_mode};
-ghost use Rattle.gl_listed.specs.Lists.{IsApart, count_of, is_listed, mode_of, unlisted};
+ghost use Rattle.gl_listed.specs.Lists.{count_of, is_listed, mode_of, unlisted};
 ghost use Rattle.gl_table.specs.inside.Ledger.{Agrees, AreSound, state_in};
 ghost use Rattle.gl_model.specs.Lawful.{IsOrderly};
 ghost use Rattle.gl_table.specs.inside.Slots.{AreKept, CanTell, WaitsEnd, as_left, books_of, counted_by, room_by, unlisted_by};
@@ -56,7 +56,6 @@ fn is_allowed(list: &LockList, parents: &[NodeId], mode: Mode) -> bool
 /// Where a node is held, one held child less is counted of each old parent, and one more of each new
 /// one, which the list has.
 fn recount(list: &mut LockList, node: NodeId, old: &[NodeId], new: &[NodeId])
-    requires apart { IsApart list.old }
     requires counted { not (same_mode (mode_of list.old node) NL) ≡ true → (q : Node) → count_by (same_node q) old.now ≤ count_of list.old q }
     requires listed { unlisted list.old new.now ≡ 0 }
     requires few { (q : Node) → count_of list.old q + count_by (same_node q) new.now < 2 ^ 32 }
@@ -65,7 +64,6 @@ fn recount(list: &mut LockList, node: NodeId, old: &[NodeId], new: &[NodeId])
     ensures counts { (q : Node) →
         count_of list.new q + (if not (same_mode (mode_of list.old node) NL) then count_by (same_node q) old.now else 0)
         ≡ count_of list.old q + (if not (same_mode (mode_of list.old node) NL) then count_by (same_node q) new.now else 0) }
-    ensures apart { IsApart list.new }
     ensures room { spare list.old.loose ≤ spare list.new.loose }
 {
     if list.holds(node) {

@@ -2,7 +2,7 @@
 
 ghost use Rattle.std.specs.Prelude.{◌≡◌, ◌==◌, ℕ, true};
 ghost use Rattle.gl_header.specs.Header.{is_among_waiters};
-ghost use Rattle.gl_table.specs.inside.Slots.{AreApart, CanEnd, CanHold, IsWritten, Wakes, as_held, books_of};
+ghost use Rattle.gl_table.specs.inside.Slots.{CanEnd, CanHold, IsWritten, Wakes, as_held, books_of};
 
 use crate::seats::Seats;
 use crate::told::tell;
@@ -20,7 +20,6 @@ pub(crate) fn hold(
     parents: &[NodeId],
 )
     requires can { CanHold lists.old.items slot node parents.now }
-    requires apart { AreApart lists.old.items }
     ensures { IsWritten lists.old.items node (λ u. u == slot) (as_held lists.old.items node parents.now (λ u. mode)) lists.new.items }
 {
     let list = &mut lists[slot as usize];

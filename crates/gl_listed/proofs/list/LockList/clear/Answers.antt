@@ -1,11 +1,15 @@
-use Rattle.gl_listed.specs.Lists.{IsApart}
+use Rattle.gl_listed.specs.Apart.{IsApart}
 use Rattle.std.proofs.Common.{rules}
 use Rattle.gl_listed.proofs.list.LockList.clear.Goals as goal
 
-pub returns-then-is_empty-clause-apart : goal.returns-then-is_empty-clause-apart
+pub invariant_of-self : goal.invariant_of-self
 unfolding IsApart
-returns-then-is_empty-clause-apart c = search rules
+invariant_of-self c = record {
+  apart = search rules;
+}
 
-pub returns-clause-apart : goal.returns-clause-apart
+pub invariant_of-self-2 : goal.invariant_of-self-2
 unfolding IsApart
-returns-clause-apart c = search rules
+invariant_of-self-2 c = record {
+  apart = search rules;
+}

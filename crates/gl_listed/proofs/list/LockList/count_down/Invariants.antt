@@ -1,4 +1,4 @@
-use Rattle.gl_listed.specs.Lists.{IsApart, count_of, is_listed, mode_of}
+use Rattle.gl_listed.specs.Lists.{count_of, is_listed, mode_of}
 use Rattle.gl_modes.specs.Nodes.{same_node}
 use Rattle.indexmap.specs.IndexMap.{keys, spare}
 use Rattle.std.specs.List.{count_by}
@@ -8,7 +8,6 @@ use Rattle.gl_listed.proofs.list.LockList.count_down.Given as goal
 
 abbrev pub invariant-loop-parent : goal.invariant-loop-parent
 invariant-loop-parent l = record {
-  apart : IsApart l.self;
   listed : (q : Node) → is_listed l.self q ≡ is_listed l.fn.self q;
   modes : (q : Node) → mode_of l.self q ≡ mode_of l.fn.self q;
   counts : (q : Node) → count_of l.self q + count_by (same_node q) (take l.parent-index l.parents) ≡ count_of l.fn.self q;

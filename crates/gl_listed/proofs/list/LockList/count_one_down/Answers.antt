@@ -1,4 +1,5 @@
-use Rattle.gl_listed.specs.Lists.{IsApart, mode_in}
+use Rattle.gl_listed.specs.Apart.{IsApart}
+use Rattle.gl_listed.specs.Lists.{mode_in}
 use Rattle.std.proofs.Common.{ap, arith, refl, rules, sym, ◌∙◌}
 use Rattle.std.proofs.lemmas.Bool.{false≢true}
 use Rattle.std.specs.Prelude.{is_some, ◌-◌}
@@ -15,14 +16,17 @@ returns-in-Some-clause-modes c =
     at_each SameMode c.args.n _ _ _ _ _ _ ((c.get_mut.follows.holds _).3 (search rules)).0
     (IsWritten-same c.args.n c.args.self.now.loose.entries) (ap mode_in c.in-Some.ensures.value) (λ x y. refl)
 
-pub returns-in-Some-clause-apart : goal.returns-in-Some-clause-apart
+pub invariant_of-self : goal.invariant_of-self
 unfolding IsApart
-returns-in-Some-clause-apart c = (
-  (c.get_mut.follows.holds _).4,
-  λ q.
-      at_each StaysApart c.args.n _ _ _ _ _ _ ((c.get_mut.follows.holds _).3 (search rules)).0
-      (IsWritten-same c.args.n c.args.self.now.loose.entries) (λ f _. f (ap is_some (sym c.in-Some.ensures.value))) (λ x y f. f) q (c.requires.apart.1 q),
-)
+invariant_of-self c = record {
+  apart = (
+    (c.get_mut.follows.holds _).4,
+    λ q.
+        at_each StaysApart c.args.n _ _ _ _ _ _ ((c.get_mut.follows.holds _).3 (search rules)).0
+        (IsWritten-same c.args.n c.args.self.now.loose.entries) (λ f _. f (ap is_some (sym c.in-Some.ensures.value))) (λ x y f. f) q
+        (c.args.self.now.apart.1 q),
+  );
+}
 
 pub returns-then-children-eq0-clause-counts : goal.returns-then-children-eq0-clause-counts
 returns-then-children-eq0-clause-counts c =
@@ -32,28 +36,32 @@ returns-then-children-eq0-clause-counts c =
     (IsWritten-twice c.args.n _ _ _ _ _ counted.0 c.swap_remove.ensures.updates.0)
     (CountsDown-last _ _ _ c.in_default.ensures.value c.in-Some-get_mut.ensures.value c.requires.some c.if-children-eq0.true) (λ x y. omega arith))
 
-pub returns-then-children-eq0-clause-apart : goal.returns-then-children-eq0-clause-apart
+pub invariant_of-self-then-children-eq0 : goal.invariant_of-self-then-children-eq0
 unfolding IsApart
-returns-then-children-eq0-clause-apart c =
-    let counted = (c.get_mut-in_default.follows.holds (c.in-Some-get_mut.children.now - 1)).3 (search rules) in
-    rw c.get_mut.follows.holds-at-none
-    ((
-      c.requires.apart.0,
-      λ q.
-          at_each StaysApart c.args.n _ _ _ _ _ _ (IsWritten-same c.args.n c.args.self.now.entries.entries)
-          (IsWritten-twice c.args.n _ _ _ _ _ counted.0 c.swap_remove.ensures.updates.0)
-          (λ _ _. refl) (λ x y f. f) q (c.requires.apart.1 q),
-    ))
+invariant_of-self-then-children-eq0 c = record {
+  apart =
+      let counted = (c.get_mut-in_default.follows.holds (c.in-Some-get_mut.children.now - 1)).3 (search rules) in
+      rw c.get_mut.follows.holds-at-none
+      ((
+        c.args.self.now.apart.0,
+        λ q.
+            at_each StaysApart c.args.n _ _ _ _ _ _ (IsWritten-same c.args.n c.args.self.now.entries.entries)
+            (IsWritten-twice c.args.n _ _ _ _ _ counted.0 c.swap_remove.ensures.updates.0)
+            (λ _ _. refl) (λ x y f. f) q (c.args.self.now.apart.1 q),
+      ));
+}
 
-pub returns-else-children-eq0-clause-apart : goal.returns-else-children-eq0-clause-apart
+pub invariant_of-self-else-children-eq0 : goal.invariant_of-self-else-children-eq0
 unfolding IsApart
-returns-else-children-eq0-clause-apart c =
-    let counted = (c.get_mut-in_default.follows.holds (c.in-Some-get_mut.children.now - 1)).3 (search rules) in
-    rw c.get_mut.follows.holds-at-none
-    ((
-      c.requires.apart.0,
-      λ q.
-          at_each StaysApart c.args.n _ _ _ _ _ _ (IsWritten-same c.args.n c.args.self.now.entries.entries)
-          counted.0
-          (λ _ h. absurd (false≢true (ap is_some c.in_default.ensures.value ∙ h))) (λ x y f. f) q (c.requires.apart.1 q),
-    ))
+invariant_of-self-else-children-eq0 c = record {
+  apart =
+      let counted = (c.get_mut-in_default.follows.holds (c.in-Some-get_mut.children.now - 1)).3 (search rules) in
+      rw c.get_mut.follows.holds-at-none
+      ((
+        c.args.self.now.apart.0,
+        λ q.
+            at_each StaysApart c.args.n _ _ _ _ _ _ (IsWritten-same c.args.n c.args.self.now.entries.entries)
+            counted.0
+            (λ _ h. absurd (false≢true (ap is_some c.in_default.ensures.value ∙ h))) (λ x y f. f) q (c.args.self.now.apart.1 q),
+      ));
+}

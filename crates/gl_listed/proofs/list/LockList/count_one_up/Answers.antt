@@ -1,4 +1,5 @@
-use Rattle.gl_listed.specs.Lists.{IsApart, mode_in}
+use Rattle.gl_listed.specs.Apart.{IsApart}
+use Rattle.gl_listed.specs.Lists.{mode_in}
 use Rattle.std.proofs.Common.{ap, refl, rules, sym, ◌∙◌}
 use Rattle.std.proofs.lemmas.Bool.{false≢true}
 use Rattle.std.specs.Prelude.{is_some}
@@ -15,21 +16,26 @@ returns-in-Some-clause-modes c =
     at_each SameMode c.args.n _ _ _ _ _ _ ((c.get_mut.follows.holds _).3 (search rules)).0
     (IsWritten-same c.args.n c.args.self.now.loose.entries) (ap mode_in c.in-Some.ensures.value) (λ x y. refl)
 
-pub returns-in-Some-clause-apart : goal.returns-in-Some-clause-apart
+pub invariant_of-self : goal.invariant_of-self
 unfolding IsApart
-returns-in-Some-clause-apart c = (
-  (c.get_mut.follows.holds _).4,
-  λ q.
-      at_each StaysApart c.args.n _ _ _ _ _ _ ((c.get_mut.follows.holds _).3 (search rules)).0
-      (IsWritten-same c.args.n c.args.self.now.loose.entries) (λ f _. f (ap is_some (sym c.in-Some.ensures.value))) (λ x y f. f) q (c.requires.apart.1 q),
-)
+invariant_of-self c = record {
+  apart = (
+    (c.get_mut.follows.holds _).4,
+    λ q.
+        at_each StaysApart c.args.n _ _ _ _ _ _ ((c.get_mut.follows.holds _).3 (search rules)).0
+        (IsWritten-same c.args.n c.args.self.now.loose.entries) (λ f _. f (ap is_some (sym c.in-Some.ensures.value))) (λ x y f. f) q
+        (c.args.self.now.apart.1 q),
+  );
+}
 
-pub returns-in_default-clause-apart : goal.returns-in_default-clause-apart
+pub invariant_of-self-in_default : goal.invariant_of-self-in_default
 unfolding IsApart
-returns-in_default-clause-apart c =
-    rw c.get_mut.follows.holds-at-none (
-      c.requires.apart.0,
-      λ q. at_each StaysApart c.args.n _ _ _ _ _ _ (IsWritten-same c.args.n c.args.self.now.entries.entries)
-          c.count_loose_up.ensures.updates.0
-          (λ _ h. absurd (false≢true (ap is_some c.in_default.ensures.value ∙ h))) (λ x y f. f) q (c.requires.apart.1 q),
-    )
+invariant_of-self-in_default c = record {
+  apart =
+      rw c.get_mut.follows.holds-at-none (
+        c.args.self.now.apart.0,
+        λ q. at_each StaysApart c.args.n _ _ _ _ _ _ (IsWritten-same c.args.n c.args.self.now.entries.entries)
+            c.count_loose_up.ensures.updates.0
+            (λ _ h. absurd (false≢true (ap is_some c.in_default.ensures.value ∙ h))) (λ x y f. f) q (c.args.self.now.apart.1 q),
+      );
+}

@@ -1,7 +1,9 @@
-use Rattle.gl_listed.specs.Lists.{IsApart}
+use Rattle.gl_listed.specs.Apart.{IsApart}
 use Rattle.std.proofs.Common.{rules}
 use Rattle.gl_listed.proofs.list.LockList.new.Goals as goal
 
-pub returns-clause-apart : goal.returns-clause-apart
+pub invariant_of-result : goal.invariant_of-result
 unfolding IsApart
-returns-clause-apart c = search rules
+invariant_of-result c = record {
+  apart = search rules;
+}

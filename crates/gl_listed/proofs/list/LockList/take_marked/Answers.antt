@@ -22,12 +22,14 @@ returns-then-holds-clause-passed c = λ i n le at.
     first_or_later c.args.self.now.entries.entries c.args.at (e.0.now, e.1.now) c.in_ok-node.ensures.entry (λ q. same_mode (mode_of c.args.self.now q) NL)
     (held_not (mode_of c.args.self.now e.0.now) (sym c.holds.ensures ∙ c.if-holds.true)) c.requires.passed i n le at
 
-pub count_down-requires-clause-some : goal.count_down-requires-clause-some
-count_down-requires-clause-some c = λ q.
-    let node = c.in_ok-node.field-0.0.now in
-    subst (λ (k : ℕ). count_by (same_node q) c.parents.result.now ≤ k) (sym (c.leave.ensures.counts q))
-    (subst (λ (ps : List NodeId). count_by (same_node q) ps ≤ count_of c.args.self.now q) (sym c.parents.ensures)
-    (c.requires.counted node q (ap is_some c.in_ok-node.ensures.value) (nl_is (mode_of c.args.self.now node) (sym c.holds.ensures ∙ c.if-holds.false))))
+pub count_down-requires : goal.count_down-requires
+count_down-requires c = record {
+  some = λ q.
+      let node = c.in_ok-node.field-0.0.now in
+      subst (λ (k : ℕ). count_by (same_node q) c.parents.result.now ≤ k) (sym (c.leave.ensures.counts q))
+      (subst (λ (ps : List NodeId). count_by (same_node q) ps ≤ count_of c.args.self.now q) (sym c.parents.ensures)
+      (c.requires.counted node q (ap is_some c.in_ok-node.ensures.value) (nl_is (mode_of c.args.self.now node) (sym c.holds.ensures ∙ c.if-holds.false))));
+}
 
 pub returns-clause-passed : goal.returns-clause-passed
 returns-clause-passed c =

@@ -4,11 +4,11 @@ use Rattle.gl_table.proofs.Words.{not-true, parents_of, refl, rules, same_mode, 
 use Rattle.gl_table.proofs.Words.{with_item, ℕ}
 use Rattle.gl_header.specs.declared.header.Asked.TheVariants as asked
 use Rattle.gl_table.specs.declared.ledger.Ledger.{Ledger}
-use Rattle.gl_table.proofs.inside.Asks.{answer-enters, answer-waits, is_granted, IsGranted, MayAsk, own-apart, own-few, own-listed, own-mode, own-room}
+use Rattle.gl_table.proofs.inside.Asks.{answer-enters, answer-waits, is_granted, IsGranted, MayAsk, own-few, own-listed, own-mode, own-room}
 use Rattle.gl_table.proofs.inside.Asks.{parents-room, roomy_may, roomy_ready, roomy_same, roomy_says, says_is, slot-listed, state-same}
 use Rattle.gl_table.proofs.inside.Enqueues.{has_wait-set, HasWait, is_enqueued, IsEnqueued}
 use Rattle.gl_table.proofs.inside.Asks.{its_key}
-use Rattle.gl_table.proofs.inside.Slots.{also_held, also_listed, counts-entered, has_node-set, kept-apart, none_more}
+use Rattle.gl_table.proofs.inside.Slots.{also_held, also_listed, counts-entered, has_node-set, none_more}
 use Rattle.gl_listed.proofs.Children.{nl_is}
 use Rattle.gl_table.proofs.ledger.Ledger.ask.Goals.{After-make_room_to_ask, After-count_up, After-set_mode, After-set_status, then-not-is_member}
 use Rattle.gl_table.proofs.ledger.Ledger.ask.Goals.{else-not-is_member}
@@ -76,7 +76,7 @@ returns-in_err-asked-clause-exact c =
     let m = may_now (goal.at.returns-in_err-asked-clause-exact c).After-make_room_to_ask in let l = c.make_room_to_ask.new.self in
     let same = sym (state-same (graph_of c.args.graph.now) l (record l { headers = c.ask.new.self }) c.in_err-asked.ensures.err refl) in
     record {
-      sound = record { few = m.sound.few; lists = m.sound.lists; apart = m.sound.apart };
+      sound = record { few = m.sound.few; lists = m.sound.lists };
       agree = λ u. subst (λ s. Agrees s l.lists.items u) same (m.agree u);
       count = λ u. subst (λ s. CountsHeld s l.lists.items u) same (m.count u);
     }
@@ -93,11 +93,6 @@ set_mode-requires c =
     let p = (goal.at.set_mode-requires c).After-make_room_to_ask in
     own-listed (graph_of c.args.graph.now) c.make_room_to_ask.new.self c.args.slot (may_now p) c.index_mut-list.result.now c.index_mut-list.ensures.value
     c.args.node ∙ member_now p ∙ c.if-is_member.true
-
-pub enter-requires-clause-apart : goal.enter-requires-clause-apart
-enter-requires-clause-apart c =
-    own-apart (graph_of c.args.graph.now) c.make_room_to_ask.new.self c.args.slot (may_now (goal.at.enter-requires-clause-apart c).After-make_room_to_ask)
-    c.index_mut-list.result.now c.index_mut-list.ensures.value
 
 pub enter-requires-clause-new : goal.enter-requires-clause-new
 enter-requires-clause-new c =
@@ -131,11 +126,6 @@ count_up-requires-clause-few c =
     (own-few (graph_of c.args.graph.now) c.make_room_to_ask.new.self c.args.slot (may_now p) c.index_mut-list.result.now c.index_mut-list.ensures.value
     c.law.ensures.lawful c.args.node q))
 
-pub enter-requires-then-not-is_member-clause-apart : goal.enter-requires-then-not-is_member-clause-apart
-enter-requires-then-not-is_member-clause-apart c =
-    own-apart (graph_of c.args.graph.now) c.make_room_to_ask.new.self c.args.slot
-    (may_now (goal.at.enter-requires-then-not-is_member-clause-apart c).After-make_room_to_ask) c.index_mut-list.result.now c.index_mut-list.ensures.value
-
 pub enter-requires-then-not-is_member-clause-new : goal.enter-requires-then-not-is_member-clause-new
 enter-requires-then-not-is_member-clause-new c =
     let p = (goal.at.enter-requires-then-not-is_member-clause-new c).After-make_room_to_ask in
@@ -164,9 +154,7 @@ put_raised c m held = let g = graph_of c.args.graph.now in let l = c.make_room_t
     let listed = slot-listed g l t r.may in
     is_granted _ r c.in_ok-asked.asked c.in-Granted.wanted c.law.ensures.lawful c.requires.live
     c.requires.lock c.in_ok-asked.ensures.answer c.in-Granted.is c.in_ok-asked.ensures.granted refl
-    (has_node-set l.lists.items t x x' listed c.index_mut-list.ensures.value n c.in-Granted.wanted r.may.sound.apart
-    (kept-apart l.lists.items t x x' listed c.index_mut-list.ensures.value r.may.sound.apart c.set_mode.ensures.listed c.set_mode.ensures.loose
-    c.set_mode.ensures.keys) c.set_mode.ensures.modes
+    (has_node-set l.lists.items t x x' listed c.index_mut-list.ensures.value n c.in-Granted.wanted c.set_mode.ensures.modes
     (λ q. c.set_mode.ensures.listed q ∙ also_listed x n (own-listed g l t r.may x c.index_mut-list.ensures.value n ∙ r.is_held ∙ c.if-is_member.true) q))
     (counts-entered l.lists.items t x x' listed c.index_mut-list.ensures.value
     (λ q. if same_mode (held_of l.headers.entries t n) NL then count_by (same_node q) (parents_of g n) else 0)
@@ -188,7 +176,7 @@ put_new c m held = let g = graph_of c.args.graph.now in let l = c.make_room_to_a
     let listed = slot-listed g l t r.may in
     is_granted _ r c.in_ok-asked.asked c.in-Granted-2.wanted c.law.ensures.lawful c.requires.live
     c.requires.lock c.in_ok-asked.ensures.answer c.in-Granted-2.is c.in_ok-asked.ensures.granted refl
-    (has_node-set l.lists.items t x x' listed c.index_mut-list.ensures.value n c.in-Granted-2.wanted r.may.sound.apart c.count_up.ensures.apart
+    (has_node-set l.lists.items t x x' listed c.index_mut-list.ensures.value n c.in-Granted-2.wanted
     (λ q. c.count_up.ensures.modes q ∙ c.enter.ensures.modes q) (λ q. c.count_up.ensures.listed q ∙ c.enter.ensures.listed q))
     (counts-entered l.lists.items t x x' listed c.index_mut-list.ensures.value
     (λ q. if same_mode (held_of l.headers.entries t n) NL then count_by (same_node q) (parents_of g n) else 0)
@@ -209,13 +197,13 @@ listed c m is blocked = let g = graph_of c.args.graph.now in let l = c.make_room
     ∙ and-false c.ne-is_member.result))).1 in
     elim c.if-not-is_member.branch [
       | then-not-is_member w ↦ subst (λ ls. HasWait l.lists.items ls.items t n held) (sym (ap (λ y. y.lists) w.self-is))
-          (has_wait-set l.lists.items t x w.enter-then-not-is_member.new.self there at n held m.sound.apart w.enter-then-not-is_member.ensures.apart
+          (has_wait-set l.lists.items t x w.enter-then-not-is_member.new.self there at n held
           (λ q. w.enter-then-not-is_member.ensures.modes q ∙ ap (λ k. if same_node q n then k else mode_of x q)
           (sym (nl_is held (is ∙ w.if-not-is_member.true))))
           w.enter-then-not-is_member.ensures.listed w.enter-then-not-is_member.ensures.counts (let kept = w.enter-then-not-is_member.ensures.room in
           omega arith))
       | else-not-is_member w ↦ subst (λ ls. HasWait l.lists.items ls.items t n held) (sym (ap (λ y. y.lists) w.self-is))
-          (has_wait-set l.lists.items t x x there at n held m.sound.apart (own-apart g l t m x at) (also_held x n held (own-mode g l t m x at n))
+          (has_wait-set l.lists.items t x x there at n held (also_held x n held (own-mode g l t m x at n))
           (also_listed x n (own-listed g l t m x at n ∙ is ∙ w.if-not-is_member.false)) (λ q. refl) room)
     ]
 

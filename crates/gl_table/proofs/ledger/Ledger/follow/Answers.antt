@@ -2,7 +2,7 @@ use Rattle.gl_table.proofs.Words.{◌&&◌, ◌+◌, ◌<◌, ◌==◌, ◌^◌,
 use Rattle.gl_table.proofs.Words.{length-set, List, mode_of, NL, NodeId, not, parents_of, same_mode, same_node, State, state_in, stays, subst, sym, unlisted, ℕ}
 use Rattle.gl_model.specs.declared.answers.Notice.TheVariants as notice
 use Rattle.gl_table.proofs.inside.TurnedAway.{is_lost}
-use Rattle.gl_table.proofs.inside.Slots.{agrees_recounted, apart-set, by_list-at, counts_recounted}
+use Rattle.gl_table.proofs.inside.Slots.{agrees_recounted, by_list-at, counts_recounted}
 use Rattle.gl_table.proofs.ledger.Ledger.follow.Goals as goal
 
 -- the mover's list says what it holds of the node
@@ -35,7 +35,6 @@ pub turn_away-requires-clause-sound : goal.turn_away-requires-clause-sound
 turn_away-requires-clause-sound c = record {
   few = c.requires.sound.few;
   lists = length-set c.args.self.now.lists.items c.args.slot c.recount.new.list ∙ c.requires.sound.lists;
-  apart = apart-set c.args.self.now.lists.items c.args.slot c.recount.new.list c.requires.slot c.requires.sound.apart c.recount.ensures.apart;
 }
 
 pub turn_away-requires-clause-agree : goal.turn_away-requires-clause-agree

@@ -2,7 +2,7 @@ use Rattle.gl_table.proofs.Words.{◌&&◌, ◌<◌, ◌==◌, ◌||◌, ◌∙�
 use Rattle.gl_table.proofs.Words.{is_wait, length, length-set, LockList, members, NodeId, nodes, not, or-false, same_node, slice_set, State, state_in}
 use Rattle.gl_table.proofs.Words.{status_in, subst, sym, true, ℕ}
 use Rattle.gl_table.proofs.inside.Departures.{holds_after, IsLeaving, leaving_begins, leaving_fewer, leaving_one, leaving_out, left_released}
-use Rattle.gl_table.proofs.inside.Slots.{agrees-set, apart-set, by_list-at, counts-set, popped-listed, slice_get-at}
+use Rattle.gl_table.proofs.inside.Slots.{agrees-set, by_list-at, counts-set, popped-listed}
 use Rattle.gl_listed.proofs.Children.{nl_is}
 use Rattle.gl_model.proofs.telling.Fronts.{in_no_queue, stands_other}
 use Rattle.gl_table.proofs.ledger.Ledger.leave_all.Goals.{After-index_mut}
@@ -50,8 +50,6 @@ drop_and_wake-requires-clause-sound c =
     record {
       few = is.few;
       lists = length-set ls c.args.slot c.pop.new.self ∙ is.lists;
-      apart = apart-set ls c.args.slot c.pop.new.self lt is.apart (c.in-Some.ensures.apart (is.apart c.args.slot c.index_mut.result.now
-          (slice_get-at ls c.args.slot c.index_mut.result.now lt c.index_mut.ensures.value)));
     }
 
 pub drop_and_wake-requires-clause-holds : goal.drop_and_wake-requires-clause-holds

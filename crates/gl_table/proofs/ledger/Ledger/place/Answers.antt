@@ -51,7 +51,7 @@ placed c m = let g = graph_of c.args.graph.now in let l = c.args.self.now in let
     let listed = slot-listed g l t m in
     is_placed g l t n X m c.requires.unheld c.requires.unawaited c.requires.lists_room c.law.ensures.lawful c.requires.live (λ e. cc) c.args.prepared
     c.requires.header (ap (λ y. supremum y X) (c.requires.unheld t)) _ c.put.ensures.held c.put.ensures.queue refl
-    (has_node-set l.lists.items t x x' listed c.index_mut-list.ensures.value n X c.requires.exact.sound.apart c.count_up.ensures.apart
+    (has_node-set l.lists.items t x x' listed c.index_mut-list.ensures.value n X
     (λ q. c.count_up.ensures.modes q ∙ c.enter.ensures.modes q) (λ q. c.count_up.ensures.listed q ∙ c.enter.ensures.listed q))
     (counts-entered l.lists.items t x x' listed c.index_mut-list.ensures.value
     (λ q. if same_mode (held_of l.headers.entries t n) NL then count_by (same_node q) (parents_of g n) else 0)

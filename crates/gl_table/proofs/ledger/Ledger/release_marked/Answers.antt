@@ -31,7 +31,7 @@ loop-at-preserved-in-Some c = record {
   releasing = subst (λ (x : State). IsReleasing (state_in c.args.graph.now c.args.self.now) x c.args.slot c.args.node c.drop_and_wake.new.self.lists.items
       c.take_marked.new.self c.args.told.now.items c.drop_and_wake.new.told.items) (sym c.drop_and_wake.ensures.state)
       (releasing_one c.loop-at.invariant.releasing (ap is_wait c.requires.active) c.law.ensures.lawful c.in-Some.child c.in-Some.ensures.was
-      c.in-Some.ensures.was_marked c.in-Some.ensures.apart c.in-Some.ensures.listed c.in-Some.ensures.modes c.in-Some.ensures.counts
+      c.in-Some.ensures.was_marked c.in-Some.ensures.listed c.in-Some.ensures.modes c.in-Some.ensures.counts
       c.drop_and_wake.ensures.lists c.drop_and_wake.ensures.tells);
 }
 

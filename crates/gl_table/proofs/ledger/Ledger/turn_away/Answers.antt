@@ -8,7 +8,7 @@ use Rattle.gl_table.proofs.ledger.Ledger.turn_away.Goals.{After-strays-strays}
 use Rattle.gl_table.proofs.ledger.Ledger.turn_away.Goals as goal
 
 kept : (c : After-strays-strays) → AreKept (books_of c.args.self.now.seats c.args.self.now.lists.items c.args.told.now.items)
-kept c = record { few = c.requires.sound.few; len = c.requires.sound.lists; apart = c.requires.sound.apart; by_slot = c.requires.tell.by_slot }
+kept c = record { few = c.requires.sound.few; len = c.requires.sound.lists; by_slot = c.requires.tell.by_slot }
 
 abbrev allowed : After-strays-strays → Waiter → Bool
 allowed c = stays (state_in c.args.graph.now c.args.self.now) (parents_of (graph_of c.args.graph.now) c.args.node)
@@ -58,7 +58,7 @@ none set is u = ap (λ k. has_slot k u) is ∙ has_slot-zero u
 
 pub returns-clause-sound : goal.returns-clause-sound
 returns-clause-sound c = let k = kept_still c.loop-strays.invariant.over (kept (goal.at.returns-clause-sound c).After-strays-strays) in
-    record { few = k.few; lists = k.len; apart = k.apart }
+    record { few = k.few; lists = k.len }
 
 pub returns-clause-state : goal.returns-clause-state
 returns-clause-state c = let p = (goal.at.returns-clause-state c).After-strays-strays in

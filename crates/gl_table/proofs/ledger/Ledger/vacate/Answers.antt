@@ -23,10 +23,13 @@ listed c = let s : State = state_in c.args.graph.now c.args.self.now in
     subst (λ (k : ℕ). c.args.slot < k) (sym c.requires.exact.sound.lists)
     (c.requires.orderly.below c.args.slot (txn_there (s.txns c.args.slot) _ c.requires.active))
 
-pub strike-requires-clause-can : goal.strike-requires-clause-can
-strike-requires-clause-can c =
-    subst (λ (ps : List NodeId). CanStrike c.args.self.now.lists.items c.args.slot c.args.rec ps) (sym c.parents.ensures) (can_strike
-    (may (goal.at.strike-requires-clause-can c).After-parents) (listed (goal.at.strike-requires-clause-can c).After-parents))
+pub strike-requires : goal.strike-requires
+strike-requires c =
+    record {
+      can =
+          subst (λ (ps : List NodeId). CanStrike c.args.self.now.lists.items c.args.slot c.args.rec ps) (sym c.parents.ensures) (can_strike
+          (may (goal.at.strike-requires c).After-parents) (listed (goal.at.strike-requires c).After-parents));
+    }
 
 struck : (c : After-strike) → Strikes c.args.self.now.lists.items c.strike.new.lists.items c.args.slot c.args.rec
     (parents_of (graph_of c.args.graph.now) c.args.rec)

@@ -1,8 +1,8 @@
 use Rattle.gl_table.proofs.Words.{◌∙◌, ◌≡◌, ap, arith, Bool, count_by, fun_ext, NodeId, not, sym, unlisted}
 use Rattle.gl_table.proofs.ledger.moves.recount.Goals as goal
 
-pub count_down-requires-clause-some : goal.count_down-requires-clause-some
-count_down-requires-clause-some c = c.requires.counted (sym c.if-holds.ensures)
+pub count_down-requires : goal.count_down-requires
+count_down-requires c = record { some = c.requires.counted (sym c.if-holds.ensures) }
 
 pub returns-then-holds-clause-room : goal.returns-then-holds-clause-room
 returns-then-holds-clause-room c =

@@ -21,9 +21,11 @@ pub set_status-age-requires : goal.set_status-age-requires
 set_status-age-requires c = let p = (goal.at.set_status-age-requires c).In-loop-waiter in
     seat_still c.loop-waiter.invariant _ (fresh p) (c.requires.can.below _ (among p))
 
-pub hold-requires-clause-can : goal.hold-requires-clause-can
-hold-requires-clause-can c = let p = (goal.at.hold-requires-clause-can c).In-loop-waiter in
-    may_hold c.args.parents.now c.loop-waiter.invariant _ (fresh p) (c.requires.hold _ (among p))
+pub hold-requires : goal.hold-requires
+hold-requires c = record {
+  can = let p = (goal.at.hold-requires c).In-loop-waiter in
+      may_hold c.args.parents.now c.loop-waiter.invariant _ (fresh p) (c.requires.hold _ (among p));
+}
 
 pub tell-requires-clause-absent : goal.tell-requires-clause-absent
 tell-requires-clause-absent c = let p = (goal.at.tell-requires-clause-absent c).In-loop-waiter in

@@ -1,7 +1,6 @@
 use Rattle.gl_table.proofs.Words.{◌<◌, ◌∙◌, ◌≡◌, ◌≤◌, Agrees, ap, if◌then◌else◌, IsOrderly, length, length-set, None, slice_set, State, state_in, subst, sym}
 use Rattle.gl_table.proofs.Words.{told_to, ℕ}
 use Rattle.gl_table.proofs.inside.Lists.{IsBare}
-use Rattle.gl_table.proofs.inside.Slots.{apart-set}
 use Rattle.gl_table.proofs.inside.Seats.{agrees-gone, counts-gone, orderly-gone, state-freed}
 use Rattle.gl_model.proofs.telling.Ways.{gone_tells}
 use Rattle.gl_table.proofs.locks.Locks.end.Goals as goal
@@ -14,7 +13,7 @@ invariant_of-self c =
     let seated : c.args.slot < length left.seats.items = subst (λ (k : ℕ). c.args.slot < k) (sym c.leave_all.ensures.len) c.requires.seated in
     let listed : c.args.slot < length left.lists.items = subst (λ (k : ℕ). c.args.slot < k) (sym was.lists) seated in
     let seats : length left.seats.items ≡ length c.leave.new.self.items = sym (ap length c.leave.ensures ∙ length-set left.seats.items c.args.slot None) in
-    let bare : IsBare c.clear.new.self = record { listed = c.clear.ensures.listed; counts = c.clear.ensures.counts; apart = c.clear.ensures.apart } in
+    let bare : IsBare c.clear.new.self = record { listed = c.clear.ensures.listed; counts = c.clear.ensures.counts } in
     let freed = sym (state-freed now left.seats.items c.leave.new.self.items c.args.slot seated c.leave.ensures) in
     record {
       orderly = subst IsOrderly freed (orderly-gone now c.args.slot c.leave_all.ensures.free c.leave_all.ensures.out left.lists.items c.clear.new.self listed
@@ -22,7 +21,6 @@ invariant_of-self c =
       sound = record {
         few = subst (λ (k : ℕ). k ≤ 128) seats was.few;
         lists = length-set left.lists.items c.args.slot c.clear.new.self ∙ was.lists ∙ seats;
-        apart = apart-set left.lists.items c.args.slot c.clear.new.self listed was.apart c.clear.ensures.apart;
       };
       agree = λ u. subst (λ (x : State). Agrees x (slice_set left.lists.items c.args.slot c.clear.new.self) u) freed
           (agrees-gone now c.args.slot c.leave_all.ensures.free c.leave_all.ensures.out left.lists.items c.clear.new.self listed bare c.leave_all.ensures.agree

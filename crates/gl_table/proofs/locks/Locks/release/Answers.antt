@@ -4,15 +4,18 @@ use Rattle.gl_model.proofs.law.Keeps.{txn_there}
 use Rattle.gl_model.proofs.telling.Fronts.{orderly_unlocked}
 use Rattle.gl_table.proofs.locks.Locks.release.Goals as goal
 
-pub strike-requires-clause-can : goal.strike-requires-clause-can
-strike-requires-clause-can c =
-    let s : State = state_at c.args.self.now in
-    let lt = c.args.self.now.orderly.below c.args.slot (txn_there (s.txns c.args.slot) _ c.requires.active) in
-    subst (λ (ps : List NodeId). CanStrike c.drop_and_wake.new.self.lists.items c.args.slot c.args.node ps) (sym c.parents.ensures)
-    (can_strike s c.args.self.now.orderly c.law.ensures.lawful c.args.slot c.args.node c.requires.active
-    (c.args.self.now.orderly.holders_live c.args.slot c.args.node c.requires.holds) c.requires.holds
-    c.args.self.now.ledger.lists.items c.drop_and_wake.new.self.lists.items c.args.self.now.agree c.args.self.now.count c.drop_and_wake.ensures.lists
-    (subst (λ (k : ℕ). c.args.slot < k) (sym (c.drop_and_wake.ensures.lists.len ∙ c.args.self.now.sound.lists)) lt) c.requires.childless)
+pub strike-requires : goal.strike-requires
+strike-requires c =
+    record {
+      can =
+          let s : State = state_at c.args.self.now in
+          let lt = c.args.self.now.orderly.below c.args.slot (txn_there (s.txns c.args.slot) _ c.requires.active) in
+          subst (λ (ps : List NodeId). CanStrike c.drop_and_wake.new.self.lists.items c.args.slot c.args.node ps) (sym c.parents.ensures)
+          (can_strike s c.args.self.now.orderly c.law.ensures.lawful c.args.slot c.args.node c.requires.active
+          (c.args.self.now.orderly.holders_live c.args.slot c.args.node c.requires.holds) c.requires.holds
+          c.args.self.now.ledger.lists.items c.drop_and_wake.new.self.lists.items c.args.self.now.agree c.args.self.now.count c.drop_and_wake.ensures.lists
+          (subst (λ (k : ℕ). c.args.slot < k) (sym (c.drop_and_wake.ensures.lists.len ∙ c.args.self.now.sound.lists)) lt) c.requires.childless);
+    }
 
 pub invariant_of-self : goal.invariant_of-self
 invariant_of-self c =
@@ -24,7 +27,7 @@ invariant_of-self c =
     c.parents.ensures c.strike.ensures in
     record {
       orderly = subst IsOrderly (sym woken.state) (orderly_unlocked s l.orderly c.args.slot c.args.node);
-      sound = record { few = woken.sound.few; lists = struck.len ∙ woken.sound.lists; apart = struck.apart };
+      sound = record { few = woken.sound.few; lists = struck.len ∙ woken.sound.lists };
       agree = λ u. subst (λ (x : State). Agrees x c.strike.new.lists.items u) (sym woken.state)
           (agrees_released s l.orderly c.law.ensures.lawful c.args.slot c.args.node c.requires.active live c.requires.holds l.ledger.lists.items
           c.drop_and_wake.new.self.lists.items l.agree l.count woken.lists c.strike.new.lists.items struck u);

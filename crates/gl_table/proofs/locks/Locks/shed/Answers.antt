@@ -1,6 +1,6 @@
-use Rattle.gl_table.proofs.Words.{◌∙◌, graph_of, IsApart, length-set, State, state_at, state_in, subst, sym}
+use Rattle.gl_table.proofs.Words.{◌∙◌, graph_of, length-set, State, state_at, state_in}
 use Rattle.gl_table.proofs.inside.Marked.{agrees-back, counts-back, list_there, parents_counted, shedding_begins, taken_out}
-use Rattle.gl_table.proofs.inside.Slots.{agrees-set, apart-set, counts-set}
+use Rattle.gl_table.proofs.inside.Slots.{agrees-set, counts-set}
 use Rattle.gl_table.proofs.locks.Locks.shed.Goals as goal
 
 pub mark_covered-requires : goal.mark_covered-requires
@@ -20,8 +20,6 @@ release_marked-requires-clause-sound c =
     record {
       few = l.sound.few;
       lists = length-set l.ledger.lists.items c.args.slot c.replace-list.new.dest ∙ l.sound.lists;
-      apart = apart-set l.ledger.lists.items c.args.slot c.replace-list.new.dest there l.sound.apart
-          (subst IsApart (sym c.replace-list.ensures.after) c.new-empty.ensures.apart);
     }
 
 pub release_marked-requires-clause-agree : goal.release_marked-requires-clause-agree
@@ -40,8 +38,8 @@ release_marked-requires-clause-marked c =
     let there = list_there l.ledger (graph_of l.graph) l.sound l.orderly c.args.slot c.requires.active in
     shedding_begins (state_at l) l.orderly c.args.slot c.requires.active c.law.ensures.lawful l.ledger.lists.items c.replace-list.result there
     (taken_out l.ledger.lists.items c.args.slot c.index_mut.result.now c.replace-list.result c.replace-list.ensures.value c.index_mut.ensures.value)
-    (l.agree c.args.slot) (l.count c.args.slot) c.args.node l.sound.apart c.mark_covered.new.self c.mark_covered.ensures.listed c.mark_covered.ensures.modes
-    c.mark_covered.ensures.counts c.mark_covered.ensures.loose c.mark_covered.ensures.keys
+    (l.agree c.args.slot) (l.count c.args.slot) c.args.node c.mark_covered.new.self c.mark_covered.ensures.listed c.mark_covered.ensures.modes
+    c.mark_covered.ensures.counts
 
 pub invariant_of-self : goal.invariant_of-self
 invariant_of-self c =
@@ -55,7 +53,6 @@ invariant_of-self c =
       sound = record {
         few = ends.sound.few;
         lists = length-set left.lists.items c.args.slot c.release_marked.new.list ∙ ends.sound.lists;
-        apart = apart-set left.lists.items c.args.slot c.release_marked.new.list there ends.sound.apart ends.marked.apart;
       };
       agree = agrees-back now ends.orderly c.args.slot ends.active before c.args.node left.lists.items c.release_marked.new.list there ends.marked ends.modes
           ends.agree;

@@ -1,4 +1,4 @@
-use Rattle.gl_table.proofs.Words.{◌&&◌, ◌<◌, ◌∙◌, ◌≡◌, Agrees, ap, count_of, CountsHeld, false, if◌then◌else◌, is_listed, is_waiting_at, IsApart, IsOrderly}
+use Rattle.gl_table.proofs.Words.{◌&&◌, ◌<◌, ◌∙◌, ◌≡◌, Agrees, ap, count_of, CountsHeld, false, if◌then◌else◌, is_listed, is_waiting_at, IsOrderly}
 use Rattle.gl_table.proofs.Words.{length, List, LockList, mode_of, NL, NodeId, not, not-false, not-true, pumped, same_node, slice_set, spare, State, state_at}
 use Rattle.gl_table.proofs.Words.{state_in, subst, sym, true, without_wait, ℕ}
 use Rattle.gl_table.proofs.inside.Slots.{by_list-at}
@@ -37,24 +37,26 @@ module _ (c : After-holds) (ls : List LockList) (unlists : Unlists (mid c) ls c.
       (counts_withdrawn (before c) c.args.self.now.orderly c.law.ensures.lawful c.args.slot c.args.node c.args.status c.requires.quiet c.requires.waits
       c.args.self.now.ledger.lists.items (mid c) c.args.self.now.agree c.args.self.now.count c.leave_queue.ensures.lists ls unlists u)
 
-pub leave-requires-clause-room : goal.leave-requires-clause-room
-leave-requires-clause-room c = let h = (goal.at.leave-requires-clause-room c).After-holds in λ _.
-    subst (λ (k : ℕ). 0 < k) (by_list-at (λ l. spare l.loose) 0 (mid h) c.args.slot c.index_mut-list.result.now (slot_there h) c.index_mut-list.ensures.value)
-    (room_left (before h) c.args.self.now.orderly c.law.ensures.lawful c.args.slot c.args.node c.args.status c.requires.quiet c.requires.waits
-    c.args.self.now.ledger.lists.items (mid h) c.args.self.now.agree c.args.self.now.count c.leave_queue.ensures.lists)
+pub leave-requires : goal.leave-requires
+leave-requires c = record {
+  room = let h = (goal.at.leave-requires c).After-holds in λ _.
+      subst (λ (k : ℕ). 0 < k) (by_list-at (λ l. spare l.loose) 0 (mid h) c.args.slot c.index_mut-list.result.now (slot_there h) c.index_mut-list.ensures.value)
+      (room_left (before h) c.args.self.now.orderly c.law.ensures.lawful c.args.slot c.args.node c.args.status c.requires.quiet c.requires.waits
+      c.args.self.now.ledger.lists.items (mid h) c.args.self.now.agree c.args.self.now.count c.leave_queue.ensures.lists);
+}
 
 -- the node was taken out of the list, which did not hold it
-left : (c : After-holds) (l' : LockList) → c.holds.result ≡ false → IsApart l'
+left : (c : After-holds) (l' : LockList) → c.holds.result ≡ false
     → ((q : NodeId) → mode_of l' q ≡ (if same_node q c.args.node then NL else mode_of c.index_mut-list.result.now q))
     → ((q : NodeId) → is_listed l' q ≡ (is_listed c.index_mut-list.result.now q && not (same_node q c.args.node)))
     → ((q : NodeId) → count_of l' q ≡ count_of c.index_mut-list.result.now q) → Unlists (mid c) (slice_set (mid c) c.args.slot l') c.args.slot c.args.node
 left c l' out = unlists_left (mid c) c.args.slot c.args.node c.index_mut-list.result.now (slot_there c) c.index_mut-list.ensures.value
-    c.leave_queue.ensures.sound.apart l' (not-false _ (sym c.holds.ensures ∙ out))
+    l' (not-false _ (sym c.holds.ensures ∙ out))
 
 -- or it holds it
 stays : (c : After-holds) → c.holds.result ≡ true → Unlists (mid c) (slice_set (mid c) c.args.slot c.index_mut-list.result.now) c.args.slot c.args.node
 stays c held = unlists_held (mid c) c.args.slot c.args.node c.index_mut-list.result.now (slot_there c) c.index_mut-list.ensures.value
-    c.leave_queue.ensures.sound.apart (not-true _ (sym c.holds.ensures ∙ held))
+    (not-true _ (sym c.holds.ensures ∙ held))
 
 orderly : (c : After-holds) → IsOrderly (state_in c.args.self.now.graph c.leave_queue.new.self)
 orderly c = subst IsOrderly (sym c.leave_queue.ensures.state)
@@ -63,10 +65,10 @@ orderly c = subst IsOrderly (sym c.leave_queue.ensures.state)
 pub invariant_of-self : goal.invariant_of-self
 invariant_of-self c = let h = (goal.at.invariant_of-self c).After-holds in
     let was = c.leave_queue.ensures.sound in
-    let now = left h c.leave.new.self c.if-not-holds.true c.leave.ensures.apart c.leave.ensures.modes c.leave.ensures.listed c.leave.ensures.counts in
+    let now = left h c.leave.new.self c.if-not-holds.true c.leave.ensures.modes c.leave.ensures.listed c.leave.ensures.counts in
     record {
       orderly = orderly h;
-      sound = record { few = was.few; lists = now.len ∙ was.lists; apart = now.apart };
+      sound = record { few = was.few; lists = now.len ∙ was.lists };
       agree = agrees h _ now;
       count = counts h _ now;
     }
@@ -77,7 +79,7 @@ invariant_of-self-else-not-holds c = let h = (goal.at.invariant_of-self-else-not
     let now = stays h c.if-not-holds.false in
     record {
       orderly = orderly h;
-      sound = record { few = was.few; lists = now.len ∙ was.lists; apart = now.apart };
+      sound = record { few = was.few; lists = now.len ∙ was.lists };
       agree = agrees h _ now;
       count = counts h _ now;
     }
