@@ -19,7 +19,9 @@ use Rattle.gl_model.specs.Lawful.{IsLawful, eff_x, EffX}
 use Rattle.gl_model.proofs.law.Effects.{no_conflict_law}
 use Rattle.gl_model.proofs.law.Effects.{ReadOn, read_on_eff, eff_x_any}
 use Rattle.gl_model.proofs.law.Searches.{GraphStep}
+use Rattle.gl_graph.proofs.Born.{old_below}
 use Rattle.gl_catalog.proofs.Keeps.{read_lives}
+use Rattle.gl_catalog.proofs.KeptKinds.{KeepsKind, KeepsKinds, kind_same}
 use Rattle.gl_modes.proofs.NodeLemmas.{same_node-equal}
 use Rattle.std.proofs.lemmas.Bool.{not-true}
 use Rattle.std.proofs.Math.Bool.{or-true}
@@ -114,6 +116,9 @@ module _ (s s' : State) (law : IsLawful s) (ns : List Node) (made : s'.graph ≡
   pub born_old : (c : NodeId) → c.birth ≤ s.graph.births → is_live s'.graph c ≡ true → is_live s.graph c ≡ true
   born_old c le live = ap is_some (sym (born_same c le)) ∙ live
 
+  pub born_kinds : KeepsKinds s.graph s'.graph
+  born_kinds n live _ = kind_same (node_at s.graph n) (node_at s'.graph n) (born_same n (old_below s.graph law.graph ns n live))
+
   -- new nodes, where the records among them are out of t's reach
   pub born_step_records : (t : ℕ) → ((c : NodeId) → s.graph.births < c.birth → is_record_shape (shape_of s'.graph c) ≡ true → ReadOn s'.graph (s.held t) c → ⊥) → GraphStep s.graph s'.graph (s.held t) (is_new s.graph)
   born_step_records t records = record {
@@ -164,6 +169,15 @@ module _ (s s' : State) (law : IsLawful s) (x : NodeId) (f : Option Node → Opt
 
   pub changed_old : (c : NodeId) → c.birth ≤ s.graph.births → is_live s'.graph c ≡ true → is_live s.graph c ≡ true
   changed_old c _ on = split (same_node c x) (λ e. ap (is_live s.graph) (same_node-equal c x e) ∙ live) (λ e. ap is_some (sym (at_same c e)) ∙ on)
+
+  -- all else is as it was, so kinds are kept where that of the node is
+  pub changed_kinds : (is_live s'.graph x ≡ true → KeepsKind (node_at s.graph x) (node_at s'.graph x)) → KeepsKinds s.graph s'.graph
+  changed_kinds here c _ live' =
+      split (same_node c x)
+      (λ e.
+      let is : x ≡ c = sym (same_node-equal c x e) in
+      subst (λ q. KeepsKind (node_at s.graph q) (node_at s'.graph q)) is (here (ap (is_live s'.graph) is ∙ live')))
+      (λ e. kind_same (node_at s.graph c) (node_at s'.graph c) (at_same c e))
 
   -- t has no effective S there, before and after
   pub changed_step : (t : ℕ) → (ReadOn s.graph (s.held t) x → ⊥) → (ReadOn s'.graph (s.held t) x → ⊥) → GraphStep s.graph s'.graph (s.held t) (λ c. same_node c x)

@@ -5,13 +5,13 @@ use Rattle.std.proofs.Common.{refl, sym, ap, ap₂, subst, ◌∙◌, arith, inl
 use Rattle.std.proofs.Math.Path.{fun_ext}
 use Rattle.std.proofs.lemmas.Bool.Decides.{nat_tests}
 use mathlib.Core.Bool.{true≢false}
-use Rattle.gl_modes.proofs.Words.{split, and_both}
+use Rattle.gl_modes.proofs.Words.{split, and_both, clash}
 use Rattle.gl_modes.specs.declared.mode.Mode.TheVariants.{NL, X}
 use Rattle.gl_modes.specs.declared.node.NodeId.{NodeId}
 use Rattle.gl_model.specs.declared.txn.TxnId.{TxnId}
 use Rattle.gl_graph.specs.Changes.{born_index, rekeyed, with_parents, born_node, born_nodes, interval_nodes, rekeyed_keys, rekeyed_parents, rekeyed_node, reparented}
 use Rattle.gl_graph.specs.Graph.{Graph, Node, node_at, parents_of, parents_in, shape_of, shape_in, with_key, is_live}
-use Rattle.gl_graph.specs.Shapes.{Inner, File, Index, Rec, is_record_shape}
+use Rattle.gl_graph.specs.Shapes.{Inner, File, Index, Rec, is_movable_shape, is_record_shape}
 use Rattle.gl_modes.specs.Nodes.{same_node}
 use Rattle.gl_graph.specs.Routes.{IsRoute}
 use Rattle.gl_modes.specs.Modes.{same_mode}
@@ -25,8 +25,11 @@ use Rattle.gl_model.proofs.telling.Follows.{SameGrants}
 use Rattle.gl_catalog.proofs.OtherChanges.{with_grant_same}
 use Rattle.gl_catalog.proofs.Made.{made, next_id}
 use Rattle.gl_catalog.proofs.Keeps.{Keeps, keeps_graph}
+use Rattle.gl_catalog.proofs.KeptKinds.{KeepsKind, kind_rekeyed, kind_reparented}
 use Rattle.gl_catalog.proofs.NotRefused.{OnParents, given_some, record_has_parents}
-use Rattle.gl_catalog.proofs.GraphChanges.{quiet_under, x_here, x_on_parents, beside_x, is_new, no_records, born_births, born_old, born_step, born_step_records, unborn_shape, KeepsKey, changed_at, changed_here, changed_births, changed_old, changed_step, gone_keeps, rekeyed_keeps, reparented_keeps, rekeyed_parents_in, reparented_parents_in}
+use Rattle.gl_catalog.proofs.GraphChanges.{quiet_under, x_here, x_on_parents, beside_x, is_new, no_records, born_births, born_old, born_kinds, born_step}
+use Rattle.gl_catalog.proofs.GraphChanges.{born_step_records, unborn_shape, KeepsKey, changed_at, changed_here, changed_births, changed_old, changed_kinds}
+use Rattle.gl_catalog.proofs.GraphChanges.{changed_step, gone_keeps, rekeyed_keeps, reparented_keeps, rekeyed_parents_in, reparented_parents_in}
 use Rattle.gl_modes.proofs.NodeLemmas.{same_node-equal}
 
 freed_lives : (n : NodeId) (age : ℕ) (x : Option Txn) → live_by age (freed n x) ≡ live_by age x
@@ -64,7 +67,9 @@ module _ (s : State) (law : IsLawful s) (t : TxnId) (alive : lives s t ≡ true)
   -- new nodes, none a record
   made_keeps : (ns : List Node) → next.graph ≡ born_nodes s.graph ns → no_records ns ≡ true → next.txns t.slot ≡ s.txns t.slot → SameGrants s next t.slot → Kept
   made_keeps ns is plain txn same =
-      keeps_graph s (accepted_once next) t told' (is_new s.graph) law law' (ap (live_by t.age) txn ∙ alive) (born_births s (accepted_once next) law ns is) (born_old s (accepted_once next) law ns is) same
+      keeps_graph s (accepted_once next) t told' (is_new s.graph) law law' (ap (live_by t.age) txn ∙ alive)
+      (born_births s (accepted_once next) law ns is) (born_old s (accepted_once next) law ns is)
+      (born_kinds s (accepted_once next) law ns is) same
       (born_step s (accepted_once next) law ns is t.slot plain)
 
   pub inner_keeps : (key : ℕ) (ps : List NodeId) → next ≡ made s (record { key = key; shape = Inner; parents = ps }) → Kept
@@ -81,7 +86,9 @@ module _ (s : State) (law : IsLawful s) (t : TxnId) (alive : lives s t ≡ true)
   -- a new record, which another holds in X
   pub insert_keeps : (u key : ℕ) (keys : List ℕ) (ps : List NodeId) → u ≢ t.slot → next ≡ with_grant (made s (new_record key keys ps)) u (next_id s key) X → Kept
   insert_keeps u key keys ps ne is =
-      keeps_graph s (accepted_once next) t told' (is_new s.graph) law law' (ap (λ x. live_by t.age (x.txns t.slot)) is ∙ alive) (born_births s (accepted_once next) law (new_record key keys ps ∷ []) graph) (born_old s (accepted_once next) law (new_record key keys ps ∷ []) graph) same
+      keeps_graph s (accepted_once next) t told' (is_new s.graph) law law' (ap (λ x. live_by t.age (x.txns t.slot)) is ∙ alive)
+      (born_births s (accepted_once next) law (new_record key keys ps ∷ []) graph) (born_old s (accepted_once next) law (new_record key keys ps ∷ []) graph)
+      (born_kinds s (accepted_once next) law (new_record key keys ps ∷ []) graph) same
       (born_step_records s (accepted_once next) law (new_record key keys ps ∷ []) graph t.slot (λ c new rec r. out c new rec (subst (λ h. ReadOn next.graph h c) (sym (fun_ext same)) r)))
     where
       graph : next.graph ≡ born_nodes s.graph (new_record key keys ps ∷ [])
@@ -108,7 +115,9 @@ module _ (s : State) (law : IsLawful s) (t : TxnId) (alive : lives s t ≡ true)
   pub delete_keeps : (u : ℕ) (x : NodeId) → u ≢ t.slot → is_live s.graph x ≡ true → same_mode (s.held u x) X ≡ true → next ≡ deleted s x → Kept
   delete_keeps u x ne live holds is =
       keeps_graph s (accepted_once next) t told' (λ c. same_node c x) law law' (ap (λ y. live_by t.age (y.txns t.slot)) is ∙ freed_lives x t.age (s.txns t.slot) ∙ alive)
-      (changed_births s (accepted_once next) law x (λ o. None) gone_keeps live graph) (changed_old s (accepted_once next) law x (λ o. None) gone_keeps live graph) same
+      (changed_births s (accepted_once next) law x (λ o. None) gone_keeps live graph)
+      (changed_old s (accepted_once next) law x (λ o. None) gone_keeps live graph)
+      (changed_kinds s (accepted_once next) law x (λ o. None) gone_keeps live graph (λ stands. clash stands (ap is_some absent))) same
       (changed_step s (accepted_once next) law x (λ o. None) gone_keeps live graph t.slot (quiet_under s law u t.slot ne x (x_here s u x holds)) gone)
     where
       graph : next.graph ≡ changed_at s.graph x (λ o. None)
@@ -132,20 +141,23 @@ module _ (s : State) (law : IsLawful s) (t : TxnId) (alive : lives s t ≡ true)
 
   -- a node with other parents, on which another has effective X before and after
   changed_keeps : (u : ℕ) (x : NodeId) (f : Option Node → Option Node) → KeepsKey f → u ≢ t.slot → is_live s.graph x ≡ true → next.graph ≡ changed_at s.graph x f → live_by t.age (next.txns t.slot) ≡ true
-      → SameGrants s next t.slot → EffX s u x → EffX (accepted_once next) u x → Kept
-  changed_keeps u x f keeps ne live graph lives' same before after =
-      keeps_graph s (accepted_once next) t told' (λ c. same_node c x) law law' lives' (changed_births s (accepted_once next) law x f keeps live graph) (changed_old s (accepted_once next) law x f keeps live graph) same
+      → KeepsKind (node_at s.graph x) (with_key x.key (f (s.graph.at x.birth))) → SameGrants s next t.slot → EffX s u x → EffX (accepted_once next) u x → Kept
+  changed_keeps u x f keeps ne live graph lives' kind same before after =
+      keeps_graph s (accepted_once next) t told' (λ c. same_node c x) law law' lives'
+      (changed_births s (accepted_once next) law x f keeps live graph) (changed_old s (accepted_once next) law x f keeps live graph)
+      (changed_kinds s (accepted_once next) law x f keeps live graph
+      (λ _. subst (KeepsKind (node_at s.graph x)) (sym (ap (λ y. node_at y x) graph ∙ changed_here s.graph x f)) kind)) same
       (changed_step s (accepted_once next) law x f keeps live graph t.slot (quiet_under s law u t.slot ne x before)
       (λ r. quiet_under (accepted_once next) law' u t.slot ne x after (subst (λ h. ReadOn next.graph h x) (sym (fun_ext same)) r)))
 
   -- the mover holds X on the node, or on all its parents before and after
   moved_keeps : (u : ℕ) (x : NodeId) (given : Bool) (ps : List NodeId) (f : Option Node → Option Node) (g : Graph) → KeepsKey f → u ≢ t.slot → is_live s.graph x ≡ true → g ≡ changed_at s.graph x f → next ≡ moved_to s x ps g
       → parents_in (with_key x.key (f (s.graph.at x.birth))) ≡ ps → (given ≡ true → not (no_parents (parents_of s.graph x)) ≡ true) → (given ≡ true → not (no_parents ps) ≡ true)
-      → (holds_x s u x ≡ true) ⊎ OnParents s u x given ps → Kept
-  moved_keeps u x given ps f g keeps ne live made is parents some some' x_held =
+      → KeepsKind (node_at s.graph x) (with_key x.key (f (s.graph.at x.birth))) → (holds_x s u x ≡ true) ⊎ OnParents s u x given ps → Kept
+  moved_keeps u x given ps f g keeps ne live made is parents some some' kind x_held =
       changed_keeps u x f keeps ne live graph
       (ap (λ y. live_by t.age (y.txns t.slot)) is ∙ freed_unless_lives (λ v. is_among_waiters v (filter (stays s ps) (s.queue x))) x t.slot t.age (s.txns t.slot) ∙ alive)
-      (λ q. ap (λ y. y.held t.slot q) is) (before x_held) (after x_held)
+      kind (λ q. ap (λ y. y.held t.slot q) is) (before x_held) (after x_held)
     where
       graph : next.graph ≡ changed_at s.graph x f
       graph = ap (λ y. y.graph) is ∙ made
@@ -167,10 +179,12 @@ module _ (s : State) (law : IsLawful s) (t : TxnId) (alive : lives s t ≡ true)
       → (holds_x s u r ≡ true) ⊎ OnParents s u r true (rekeyed_parents s.graph r i key) → next ≡ moved_to s r (rekeyed_parents s.graph r i key) (rekeyed s.graph r i key) → Kept
   rekey_keeps u r i key ne live rec x_held is =
       moved_keeps u r true (rekeyed_parents s.graph r i key) (rekeyed_node (rekeyed_keys s.graph r i key) (rekeyed_parents s.graph r i key)) (rekeyed s.graph r i key) (rekeyed_keeps _ _) ne live refl is
-      (rekeyed_parents_in _ _ r.key (s.graph.at r.birth) live) (λ _. record_has_parents s.graph law.graph r rec) (λ _. refl) x_held
+      (rekeyed_parents_in _ _ r.key (s.graph.at r.birth) live) (λ _. record_has_parents s.graph law.graph r rec) (λ _. refl)
+      (kind_rekeyed (rekeyed_keys s.graph r i key) (rekeyed_parents s.graph r i key) r.key (s.graph.at r.birth) rec refl) x_held
 
-  pub move_keeps : (u : ℕ) (x : NodeId) (ps : List NodeId) → u ≢ t.slot → is_live s.graph x ≡ true
+  pub move_keeps : (u : ℕ) (x : NodeId) (ps : List NodeId) → u ≢ t.slot → is_live s.graph x ≡ true → is_movable_shape (shape_of s.graph x) ≡ true
       → (holds_x s u x ≡ true) ⊎ OnParents s u x (some_given (parents_of s.graph x) && some_given ps) ps → next ≡ moved_to s x ps (with_parents s.graph x ps) → Kept
-  move_keeps u x ps ne live x_held is =
+  move_keeps u x ps ne live movable x_held is =
       moved_keeps u x (some_given (parents_of s.graph x) && some_given ps) ps (reparented ps) (with_parents s.graph x ps) (reparented_keeps ps) ne live refl is
-      (reparented_parents_in ps x.key (s.graph.at x.birth) live) (λ both. given_some _ (and_both _ _ both).0) (λ both. given_some _ (and_both _ _ both).1) x_held
+      (reparented_parents_in ps x.key (s.graph.at x.birth) live) (λ both. given_some _ (and_both _ _ both).0) (λ both. given_some _ (and_both _ _ both).1)
+      (kind_reparented ps x.key (s.graph.at x.birth) movable) x_held

@@ -20,8 +20,9 @@ use Rattle.gl_model.specs.State.{State, lives, no_parents}
 use Rattle.gl_model.specs.Lawful.{IsLawful, eff_s, eff_x, is_read, EffS, effective, is_at_least_effect, SameBelow}
 use Rattle.gl_model.specs.Tellings.{Told}
 use Rattle.gl_catalog.specs.Promises.{is_grant_to}
-use Rattle.gl_model.proofs.law.Effects.{all_from, ReadOn, eff_s_route, read_on_eff}
-use Rattle.gl_model.proofs.law.Searches.{GraphStep, reads_carry, effective_same, below_same}
+use Rattle.gl_model.proofs.law.Effects.{all_from, eff_s_route}
+use Rattle.gl_model.proofs.law.Searches.{GraphStep, effective_same, below_same}
+use Rattle.gl_catalog.proofs.KeptKinds.{KeepsKinds, kinds_same}
 use Rattle.gl_catalog.proofs.ToldGrants.{tells, tells_grant, any_weaker}
 use Rattle.gl_model.proofs.telling.Follows.{Follows, SameGrants, GrantedTo}
 use Rattle.gl_graph.proofs.Look.{all_at}
@@ -34,15 +35,15 @@ abbrev pub ToldGrant : State → State → TxnId → Told → Type 0
 ToldGrant s s' t told' = (g : GrantedTo s s' t.slot) × (list_any (tells t g.node g.mode) told' ≡ true)
 
 -- t lives on; its grants stay, or one for which it waited was given, and it was told; ids are not given again;
--- its effective modes stay, or rise where it was told; what lies below its effective S stays, where the step is not of rows
+-- what stands keeps its kind; its effective modes stay, or rise where it was told; what lies below its effective S stays, where the step is not of rows
 pub record Keeps (s s' : State) (t : TxnId) (told' : Told) (rows : Bool) : Type 0 where
   pub alive : lives s' t ≡ true
   pub grants : SameGrants s s' t.slot ⊎ ToldGrant s s' t told'
   pub births : s.graph.births ≤ s'.graph.births
   pub old : (n : NodeId) → n.birth ≤ s.graph.births → is_live s'.graph n ≡ true → is_live s.graph n ≡ true
+  pub kinds : KeepsKinds s.graph s'.graph
   pub same : list_any (is_grant_to t) told' ≡ false → (n : NodeId) → is_live s.graph n ≡ true → is_live s'.graph n ≡ true → effective s' t.slot n ≡ effective s t.slot n
   pub greater : (n : NodeId) → is_live s.graph n ≡ true → is_live s'.graph n ≡ true → is_at_least_effect (effective s' t.slot n) (effective s t.slot n) ≡ true
-  pub reads : rows ≡ false → (n : NodeId) → EffS s t.slot n → EffS s' t.slot n
   pub below : rows ≡ false → (n : NodeId) → EffS s t.slot n → SameBelow s.graph s'.graph n
 
 -- a greater mode reads too
@@ -83,7 +84,7 @@ module _ (g : Graph) (h h' : NodeId → Mode) (more : (q : NodeId) → is_at_lea
       (λ up. let both = and_both _ _ up in
       ap (λ b. same_mode (h' n) X || b) (ap₂ (λ a b. a && b) both.0 (all_from (eff_x k g h') (parents_of g n) (λ p on. more_x k p (all_at (eff_x k g h) (parents_of g n) p on both.1)))) ∙ or-true _)
 
-abbrev effect_of : Bool → Bool → Effect
+abbrev pub effect_of : Bool → Bool → Effect
 effect_of x r = if x then effect.X else (if r then effect.S else effect.None)
 
 -- the effective mode over this graph and these grants
@@ -114,11 +115,11 @@ keeps_follows s s' t told' alive f told = record {
   grants = told_of f.grants;
   births = let e : s'.graph.births ≡ s.graph.births = ap (λ g. g.births) f.graph in omega arith;
   old = λ n _ live. ap (λ g. is_live g n) (sym f.graph) ∙ live;
+  kinds = kinds_same s.graph s'.graph f.graph;
   same = λ quiet n _ _. ap (λ g. effect_over g (s'.held t.slot) n) f.graph ∙ ap (λ h. effect_over s.graph h n) (fun_ext (unmoved f.grants quiet));
   greater = λ n _ _. ap (λ g. is_at_least_effect (effect_over g (s'.held t.slot) n) (effective s t.slot n)) f.graph
       ∙ greater_effect _ _ _ _ (more_x s.graph (s.held t.slot) (s'.held t.slot) (grown s s' t.slot f.grants) (node_count s.graph) n)
       (more_s s.graph (s.held t.slot) (s'.held t.slot) (grown s s' t.slot f.grants) (node_count s.graph) n);
-  reads = λ _ n r. ap (λ g. eff_s (node_count g) g (s'.held t.slot) n) f.graph ∙ more_s s.graph (s.held t.slot) (s'.held t.slot) (grown s s' t.slot f.grants) (node_count s.graph) n r;
   below = λ _ n _. subst (λ g. SameBelow s.graph g n) (sym f.graph) (below_itself s.graph n);
 }
   where
@@ -142,17 +143,14 @@ read_lives s law t n m (p ∷ way) route read = parent_lives p (node_at s.graph 
 -- the slot's grants stay, and the graph makes a step
 pub keeps_graph : (s s' : State) (t : TxnId) (told' : Told) (changed : NodeId → Bool) → IsLawful s → IsLawful s' → lives s' t ≡ true → s.graph.births ≤ s'.graph.births
     → ((n : NodeId) → n.birth ≤ s.graph.births → is_live s'.graph n ≡ true → is_live s.graph n ≡ true)
-    → SameGrants s s' t.slot → GraphStep s.graph s'.graph (s.held t.slot) changed → {rows : Bool} → Keeps s s' t told' rows
-keeps_graph s s' t told' changed law law' alive births old same step = record {
+    → KeepsKinds s.graph s'.graph → SameGrants s s' t.slot → GraphStep s.graph s'.graph (s.held t.slot) changed → {rows : Bool} → Keeps s s' t told' rows
+keeps_graph s s' t told' changed law law' alive births old kinds same step = record {
   alive = alive;
   grants = inl same;
   births = births;
   old = old;
+  kinds = kinds;
   same = λ _ n a b. effective_same s s' t.slot changed law law' step (fun_ext same) n a b;
   greater = λ n a b. ap (λ e. is_at_least_effect e (effective s t.slot n)) (effective_same s s' t.slot changed law law' step (fun_ext same) n a b) ∙ effect_refl (effective s t.slot n);
-  reads = λ _ n r.
-      let on = reads_carry s.graph s'.graph (s.held t.slot) changed step law.graph.parents_live n (eff_s_route s.graph (s.held t.slot) (node_count s.graph) n r) in
-      let on' : ReadOn s'.graph (s'.held t.slot) n = subst (λ h. ReadOn s'.graph h n) (sym (fun_ext same)) on in
-      read_on_eff s'.graph law'.graph (s'.held t.slot) n (read_lives s' law' t.slot n on'.0 on'.1 on'.2 on'.3) on';
   below = λ _ n r. below_same s.graph s'.graph (s.held t.slot) changed step law.graph.parents_live n (eff_s_route s.graph (s.held t.slot) (node_count s.graph) n r);
 }

@@ -17,12 +17,16 @@ pub mod StepNoCycle
 pub mod OtherChanges
 pub mod ToldGrants
 pub mod Keeps
+pub mod KeptKinds
 pub mod GrantCommands
 pub mod GraphChanges
 pub mod GraphCommands
 pub mod RowSteps
 pub mod OneStep
 pub mod OthersKeep
+pub mod RowNames
+pub mod StepBelow
+pub mod OthersBelow
 -- what a mover's own commands leave it
 pub mod MoverEffects
 pub mod EscalateEffects
@@ -50,6 +54,7 @@ pub mod Managed
 pub mod Applied
 pub mod Completed
 pub mod Insertions
+pub mod Adopting
 pub mod Deletions
 pub mod Raising
 pub mod RunsOn

@@ -22,7 +22,7 @@ use Rattle.gl_catalog.proofs.NotRefused.{txn_lives, nodes_live, differ, exclusiv
 use Rattle.gl_catalog.proofs.GrantCommands.{lock_keeps, try_keeps, unlock_keeps, escalate_keeps, cancel_keeps, release_keeps, settle_keeps, begin_keeps, same_keeps}
 use Rattle.gl_catalog.proofs.GraphCommands.{inner_keeps, file_keeps, index_keeps, insert_keeps, delete_keeps, rekey_keeps, move_keeps}
 use Rattle.gl_catalog.proofs.RowSteps.{adopt_keeps, forget_keeps}
-use Rattle.gl_graph.proofs.Unrefused.{test_fails, not_false}
+use Rattle.gl_graph.proofs.Unrefused.{test_fails, not_false, or_no}
 
 -- each of these passed
 abbrev pub AllNone : List (Option Refusal) → Type 0
@@ -71,7 +71,7 @@ module _ (s : State) (law : IsLawful s) (t : TxnId) (alive : lives s t ≡ true)
       (and_both _ _ (not_false _ (test_fails _ no.BadParents passed.1.1.1.1.1.0))).0 (exclusive s u.slot r true _ passed.1.1.1.1.1.1.0) ans.1.2)
   accepted (command.Move u n ps) apart passed ans =
       finish ans.0 ans.2 (λ l. move_keeps s law t alive ans.0 l _ u.slot n ps.now (other_slot u apart passed.1.0) (and_both _ _ (nodes_live s (n ∷ ps.now) passed.1.1.1.1.0)).0
-      (exclusive s u.slot n _ ps.now passed.1.1.1.1.1.1.0) ans.1.2)
+      (not_false _ (or_no _ _ (test_fails _ no.BadParents passed.1.1.1.1.1.0)).0) (exclusive s u.slot n _ ps.now passed.1.1.1.1.1.1.0) ans.1.2)
   accepted (command.Group n) apart passed ans = same_keeps s law t alive s' told' s' ans.same
   accepted (command.Held u n) apart passed ans = same_keeps s law t alive s' told' s' ans.same
   accepted (command.Effective u n) apart passed ans = same_keeps s law t alive s' told' s' ans.same

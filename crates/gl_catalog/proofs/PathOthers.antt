@@ -13,7 +13,9 @@ use Rattle.gl_catalog.specs.Promises.{KeepsEffects, is_grant_to, is_of_rows, nam
 use Rattle.gl_catalog.specs.Replies.{Says}
 use Rattle.gl_catalog.specs.Step.{Run}
 use Rattle.gl_catalog.proofs.PathRuns.{told_nobody}
+use Rattle.gl_catalog.proofs.OthersBelow.{same_below}
 use Rattle.gl_catalog.proofs.RunsOn.{leaves_others}
+use Rattle.gl_catalog.proofs.StepsKeepLaw.{runs_keep_law}
 
 -- the run of a path: its commands are locks of its own transaction alone, and only its last reply tells anybody
 record RunsBy (t : TxnId) (m : ManagerView) (r : Says) (m' : ManagerView) : Type 0 where
@@ -53,4 +55,8 @@ pub path_leaves : (k : ℕ) (t : TxnId) (ask last : Ask) (m : ManagerView) (r : 
 path_leaves k t ask last m r m' law path u alive other =
     let all = path_runs k t ask last m r m' path in
     let left = leaves_others (state_of m) (state_of m') all.commands all.replies law all.run u alive (all.unnamed u other) in
-    record { effects = subst (KeepsEffects (state_of m) (state_of m') u) (all.tells u) left.effects; below = λ _. left.below all.no_rows }
+    let law' = runs_keep_law (state_of m) (state_of m') all.commands all.replies law all.run in
+    record {
+      effects = subst (KeepsEffects (state_of m) (state_of m') u) (all.tells u) left.effects;
+      below = λ n reads. same_below (state_of m) (state_of m') all.commands all.replies law law' n (left.below n reads) all.no_rows;
+    }

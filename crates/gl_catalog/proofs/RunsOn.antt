@@ -11,7 +11,8 @@ use Rattle.gl_catalog.specs.declared.command.Reply.{Reply}
 use Rattle.gl_catalog.specs.Promises.{LeavesOthers, StepLeavesOthers}
 use Rattle.gl_catalog.specs.Replies.{said_in}
 use Rattle.gl_catalog.specs.Step.{Run, Step}
-use Rattle.gl_catalog.proofs.OthersKeep.{others_keep_below, others_keep_effects}
+use Rattle.gl_catalog.proofs.OthersBelow.{others_leave_below}
+use Rattle.gl_catalog.proofs.OthersKeep.{others_keep_effects}
 
 -- one command more at the end
 pub run_snoc : (s mid s' : State) (cs : List Command) (rs : List (Answer × Told)) (c : Command) (a : Answer) (told : Told) → Run s cs rs mid → Step mid c a told s' → Run s (cs ++ c ∷ []) (rs ++ (a, told) ∷ []) s'
@@ -36,7 +37,7 @@ run_whole s s' cs i rs past run = subst (λ (xs : List Command). Run s xs rs s')
 pub leaves_others : (s s' : State) (cs : List Command) (rs : List (Answer × Told)) → IsLawful s → Run s cs rs s' → LeavesOthers s cs rs s'
 leaves_others s s' cs rs law run t alive unnamed = record {
   effects = others_keep_effects s s' cs rs t law run alive unnamed;
-  below = λ plain n reads. others_keep_below s s' cs rs t n law run alive unnamed plain reads;
+  below = λ n reads. others_leave_below s s' cs rs t n law run alive unnamed reads;
 }
 
 -- the same of one step

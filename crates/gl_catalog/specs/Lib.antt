@@ -8,3 +8,4 @@ pub mod Replies
 pub mod Completes
 pub mod Sound
 pub mod Paths
+pub mod Adopting

@@ -8,6 +8,7 @@ use Rattle.gl_modes.specs.declared.refusal.Refusal.TheVariants as no
 use Rattle.gl_modes.specs.Nodes.{same_node}
 use Rattle.gl_model.specs.declared.txn.TxnId.{TxnId}
 use Rattle.gl_model.specs.Calls.{active_on, bad_mode}
+use Rattle.gl_model.specs.Lawful.{EffS, SameBelow}
 use Rattle.gl_model.specs.State.{State, is_write, lives}
 use Rattle.gl_model.specs.Tellings.{Told}
 use Rattle.gl_catalog.specs.declared.command.Command.{Command}
@@ -16,7 +17,7 @@ use Rattle.gl_catalog.specs.declared.manager.paths.Reached.{Reached}
 use Rattle.gl_catalog.specs.Completes.{Completes}
 use Rattle.gl_catalog.specs.Counters.{grants, refuses}
 use Rattle.gl_catalog.specs.Manager.{ManagerView, state_of}
-use Rattle.gl_catalog.specs.Promises.{Leaves, same_txn}
+use Rattle.gl_catalog.specs.Promises.{KeepsEffects, same_txn, told_granted}
 use Rattle.gl_catalog.specs.Replies.{Says, asking, said}
 use Rattle.gl_catalog.specs.Step.{Step}
 use Rattle.gl_catalog.specs.Tests.{refusal_of, worn}
@@ -86,9 +87,14 @@ AsksOnce t ask m told result m' = (first : Ask) × AsksFirst t ask m first (said
 abbrev pub LocksPath : TxnId → Ask → ManagerView → Told → Result Reached Refusal → ManagerView → Type 0
 LocksPath t ask m told result m' = (k : ℕ) × (last : Ask) × IsPath k t ask m last (said (reaching told) result) m' × IfOk result (λ x. x.node ≡ last.0)
 
--- what a path with this last reply leaves to all living transactions but its own
+-- what a path with this last reply leaves a transaction: its effective modes, and the records below what it reads
+pub record PathLeaves (s : State) (r : Says) (s' : State) (t : TxnId) : Type 0 where
+  pub effects : KeepsEffects s s' t (told_granted t (r ∷ []))
+  pub below : (n : NodeId) → EffS s t.slot n → SameBelow s.graph s'.graph n
+
+-- it leaves that to all living transactions but its own
 abbrev pub LeavesAllBut : TxnId → State → Says → State → Type 0
-LeavesAllBut t s r s' = (u : TxnId) → lives s u ≡ true → same_txn u t ≡ false → Leaves s s' (r ∷ []) u false
+LeavesAllBut t s r s' = (u : TxnId) → lives s u ≡ true → same_txn u t ≡ false → PathLeaves s r s' u
 
 -- the ask that is next: for the last of the nodes above that a path keeps, or for its own node
 abbrev pub next_ask : Ask → List NodeId → Ask

@@ -9,14 +9,16 @@ use Rattle.gl_catalog.specs.declared.command.Answer.{Answer}
 use Rattle.gl_catalog.specs.declared.command.Command.{Command}
 use Rattle.gl_modes.specs.declared.mode.Mode.{Mode}
 use Rattle.gl_modes.specs.declared.node.NodeId.{NodeId}
+use Rattle.gl_modes.specs.Nodes.{same_node}
 use Rattle.gl_model.specs.declared.answers.Detect.TheVariants.{AtBlock}
 use Rattle.gl_model.specs.declared.answers.Notice.TheVariants as notice
 use Rattle.gl_catalog.specs.declared.command.Answer.TheVariants as answer
 use Rattle.gl_catalog.specs.declared.command.Command.TheVariants as command
 use Rattle.gl_catalog.specs.Tests.{refusal_of}
 use Rattle.gl_catalog.specs.Step.{Goes, Run, Step}
-use Rattle.gl_graph.specs.Graph.{is_live, parents_of, shape_of}
-use Rattle.gl_graph.specs.Shapes.{is_record_shape, keys_in}
+use Rattle.gl_graph.specs.Graph.{Graph, first_parent, is_live, parents_of, shape_of}
+use Rattle.gl_graph.specs.Routes.{IsBelow}
+use Rattle.gl_graph.specs.Shapes.{is_adopted, is_record_shape, keys_in}
 use Rattle.gl_model.specs.Calls.{accepted_once, is_idle}
 use Rattle.gl_model.specs.Lawful.{EffS, effective, is_at_least_effect, SameBelow, IsLawful}
 use Rattle.gl_model.specs.State.{is_waiting_at, State, lives, status_of, HasNoCycle, is_wait, waits_for}
@@ -77,14 +79,64 @@ abbrev pub OthersKeepBelow : Type 0
 OthersKeepBelow =
     (s s' : State) (cs : List Command) (rs : List (Answer × Told)) (t : TxnId) (n : NodeId) → IsLawful s → Run s cs rs s' → lives s t ≡ true → list_any (names t) cs ≡ false → list_any is_of_rows cs ≡ false → EffS s t.slot n → SameBelow s.graph s'.graph n
 
--- what a run leaves a transaction that it does not name: its effective modes, and, where no row is adopted or forgotten, the records below what it reads
-pub record Leaves (s s' : State) (rs : List (Answer × Told)) (t : TxnId) (rows : Bool) : Type 0 where
+-- the command adopts a record of the file f, or forgets one of the records of f in g
+abbrev pub is_of_rows_of : Graph → NodeId → Command → Bool
+is_of_rows_of g f (command.Adopt h keys) = same_node h f
+is_of_rows_of g f (command.Forget r) = same_node (first_parent g r) f
+is_of_rows_of g f c = false
+
+-- below n no record of the file f came, went, or changed a key
+pub record SameBelowOf (g g' : Graph) (f n : NodeId) : Type 0 where
+  pub kept : (r : NodeId) → first_parent g r ≡ f → IsBelow g n r → IsBelow g' n r × (keys_in (shape_of g' r) ≡ keys_in (shape_of g r))
+  pub no_more : (r : NodeId) → first_parent g' r ≡ f → IsBelow g' n r → IsBelow g n r
+
+-- the same of the records of one file, where no row of it is adopted or forgotten (own)
+abbrev pub OthersKeepFile : Type 0
+OthersKeepFile =
+    (s s' : State) (cs : List Command) (rs : List (Answer × Told)) (t : TxnId) (n f : NodeId) → IsLawful s → Run s cs rs s' → lives s t ≡ true
+    → list_any (names t) cs ≡ false → list_any (is_of_rows_of s.graph f) cs ≡ false → EffS s t.slot n → SameBelowOf s.graph s'.graph f n
+
+-- some step of a run from one state to the other is so
+abbrev pub SomeStep : (State → Command → Answer × Told → State → Type 0) → State → List Command → List (Answer × Told) → State → Type 0
+SomeStep IsSo s (c ∷ cs) (r ∷ rs) s' = (mid : State) × Step s c r.0 r.1 mid × ((IsSo s c r mid × Run mid cs rs s') ⊎ SomeStep IsSo mid cs rs s')
+SomeStep IsSo s cs rs s' = ⊥
+
+-- the step adopts r as a record of f: it is answered with its name, and behind it nobody holds it or waits for it
+abbrev pub Adopts : (f r : NodeId) → State → Command → Answer × Told → State → Type 0
+Adopts f r s (command.Adopt h keys) x s' = (h ≡ f) × (x.0 ≡ answer.Node r) × (is_idle s' r ≡ true)
+Adopts f r s c x s' = ⊥
+
+-- the step forgets r: it is done, and before it nobody held it or waited for it
+abbrev pub Forgets : (r : NodeId) → State → Command → Answer × Told → State → Type 0
+Forgets r s (command.Forget q) x s' = (q ≡ r) × (x.0 ≡ answer.Done) × (is_idle s r ≡ true)
+Forgets r s c x s' = ⊥
+
+-- a record that stands is below n just where it was, and one below n has its keys
+pub record StaysBelow (g g' : Graph) (n r : NodeId) : Type 0 where
+  pub kept : IsBelow g n r → IsBelow g' n r × (keys_in (shape_of g' r) ≡ keys_in (shape_of g r))
+  pub no_more : IsBelow g' n r → IsBelow g n r
+
+-- what a run leaves below n: what stands is there as it was; what came was adopted as a record of its file, of which rows were adopted; what went was forgotten
+pub record LeavesBelow (s : State) (cs : List Command) (rs : List (Answer × Told)) (s' : State) (n : NodeId) : Type 0 where
+  pub stays : (r : NodeId) → is_live s.graph r ≡ true → is_live s'.graph r ≡ true → StaysBelow s.graph s'.graph n r
+  pub came : (r : NodeId) → is_live s.graph r ≡ false → IsBelow s'.graph n r → SomeStep (Adopts (first_parent s'.graph r) r) s cs rs s'
+  pub unadopted : (r : NodeId) → is_adopted (shape_of s'.graph (first_parent s'.graph r)) ≡ false → IsBelow s'.graph n r → is_live s.graph r ≡ true
+  pub went : (r : NodeId) → IsBelow s.graph n r → is_live s'.graph r ≡ false → SomeStep (Forgets r) s cs rs s'
+
+-- over a run that does not name t, records come and go below a node that t reads by adopt and forget alone, while nobody holds them or waits for them (own)
+abbrev pub OthersLeaveBelow : Type 0
+OthersLeaveBelow =
+    (s s' : State) (cs : List Command) (rs : List (Answer × Told)) (t : TxnId) (n : NodeId) → IsLawful s → Run s cs rs s' → lives s t ≡ true
+    → list_any (names t) cs ≡ false → EffS s t.slot n → LeavesBelow s cs rs s' n
+
+-- what a run leaves a transaction that it does not name: its effective modes, and the records below what it reads, but for rows that are adopted and forgotten
+pub record Leaves (s : State) (cs : List Command) (rs : List (Answer × Told)) (s' : State) (t : TxnId) : Type 0 where
   pub effects : KeepsEffects s s' t (told_granted t rs)
-  pub below : rows ≡ false → (n : NodeId) → EffS s t.slot n → SameBelow s.graph s'.graph n
+  pub below : (n : NodeId) → EffS s t.slot n → LeavesBelow s cs rs s' n
 
 -- a run leaves that to every living transaction that it does not name
 abbrev pub LeavesOthers : State → List Command → List (Answer × Told) → State → Type 0
-LeavesOthers s cs rs s' = (t : TxnId) → lives s t ≡ true → list_any (names t) cs ≡ false → Leaves s s' rs t (list_any is_of_rows cs)
+LeavesOthers s cs rs s' = (t : TxnId) → lives s t ≡ true → list_any (names t) cs ≡ false → Leaves s cs rs s' t
 
 -- one step leaves that to every living transaction that its command does not name
 abbrev pub StepLeavesOthers : State → Command → Answer × Told → State → Type 0

@@ -1,7 +1,9 @@
 //! The laws of all commands, each the contract of a call that does nothing.
 
 ghost use Rattle.gl_model.specs.Lawful.{EmptyIsLawful, EmptyHasNoCycle};
-ghost use Rattle.gl_catalog.specs.Promises.{AlwaysAnswers, BeginsWaits, EndsWaits, EscalateLowersNone, MoveKeepsMover, OneOutcome, OthersKeepBelow, OthersKeepEffects, RekeyKeepsMover, RowsComeAndGo, RunsKeepLaw, RunsKeepNoCycle, SettlesNobody, StepsKeepLaw};
+ghost use Rattle.gl_catalog.specs.Promises.{AlwaysAnswers, BeginsWaits, EndsWaits, EscalateLowersNone, MoveKeepsMover, OneOutcome, RekeyKeepsMover};
+ghost use Rattle.gl_catalog.specs.Promises.{RowsComeAndGo, RunsKeepLaw, RunsKeepNoCycle, SettlesNobody, StepsKeepLaw};
+ghost use Rattle.gl_catalog.specs.Promises.{OthersKeepBelow, OthersKeepEffects, OthersKeepFile, OthersLeaveBelow};
 
 /// Each step of each command keeps the law; so does each run, and the empty state meets it.
 pub fn steps_keep_law()
@@ -16,10 +18,15 @@ pub fn others_keep_effects()
     ensures { OthersKeepEffects }
 {}
 
-/// Over a run that does not name it, and in which no row is adopted or forgotten, the records below
-/// what a transaction reads stay, with their keys.
+/// Over a run that does not name it, the records that stand stay below what a transaction reads, with
+/// their keys. One that came there was adopted, as a record of a file of which rows were then adopted,
+/// and right behind that command nobody held it or waited for it. One that went was forgotten, and
+/// right before that command nobody held it or waited for it. So where no row is adopted or forgotten,
+/// no record comes or goes there; and where none of a file is, none of that file does.
 pub fn others_keep_below()
-    ensures { OthersKeepBelow }
+    ensures rows { OthersLeaveBelow }
+    ensures file { OthersKeepFile }
+    ensures plain { OthersKeepBelow }
 {}
 
 /// What is adopted and what is forgotten are records of which there are no locks, and nothing else changes.

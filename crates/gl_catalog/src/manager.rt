@@ -4,7 +4,7 @@ ghost use Rattle.std.specs.Prelude.{◌≡◌, ◌≤◌, ◌^◌, ◌&&◌, ◌
 ghost use Rattle.gl_modes.specs.declared.refusal.Refusal.{Refusal as ARefusal};
 ghost use Rattle.gl_header.specs.Header.{holds};
 ghost use Rattle.gl_table.specs.Table.{board_of};
-ghost use Rattle.gl_model.specs.Calls.{held_children};
+ghost use Rattle.gl_model.specs.Calls.{held_children, is_idle};
 ghost use Rattle.gl_model.specs.Deadlocks.{no_deadlock};
 ghost use Rattle.gl_model.specs.State.{choosing, empty_state, lives, members, status_of, with_room};
 ghost use Rattle.gl_catalog.specs.Counters.{no_counts};
@@ -191,6 +191,13 @@ impl Manager {
         ensures { result ≡ (if lives (state_of self.now) t then Some ((state_of self.now).held t.slot n) else None) }
     {
         self.table.mode(t, n)
+    }
+
+    /// Whether nobody holds the node and nobody waits for it. It takes no memory.
+    pub fn is_idle(&self, n: NodeId) -> bool
+        ensures { result ≡ is_idle (state_of self.now) n }
+    {
+        self.table.is_idle(n)
     }
 
     /// How many children of a node a transaction holds; `None` where it does not live or does not

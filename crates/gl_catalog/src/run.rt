@@ -15,8 +15,11 @@ use std::alloc::Global;
 /// so that with `NoMemory`, the only refusal, nothing was carried out.
 ///
 /// To a transaction that lives before and that no command names, its effective mode on each record
-/// that stands before and after is left, or raised where a reply tells it of a grant; and where it
-/// reads a node, the records below that node are left, with their keys.
+/// that stands before and after is left, or raised where a reply tells it of a grant. Where it reads a
+/// node, a record that stands before and after is below that node just where it was, with its keys.
+/// One that came there was adopted by a command of the list, as a record of a file of which rows were
+/// then adopted, and right behind that command nobody held it or waited for it. One that went was
+/// forgotten by one, and right before that command nobody held it or waited for it.
 pub fn run_commands(
     alloc: Global,
     manager: &mut Manager,

@@ -7,3 +7,4 @@ pub mod Locking
 pub mod Ends
 pub mod Moves
 pub mod Records
+pub mod Adopting

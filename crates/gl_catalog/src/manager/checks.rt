@@ -6,6 +6,7 @@ ghost use Rattle.gl_graph.specs.Graph.{is_live};
 ghost use Rattle.gl_graph.specs.Refusals.{first_refusal, verdict};
 ghost use Rattle.gl_model.specs.Calls.{commit_tests, first_not_ix};
 ghost use Rattle.gl_model.specs.State.{lives};
+ghost use Rattle.gl_catalog.specs.Adopting.{worn_twice};
 ghost use Rattle.gl_catalog.specs.Manager.{state_of};
 ghost use Rattle.gl_catalog.specs.Tests.{worn};
 
@@ -19,6 +20,17 @@ impl Manager {
         ensures { result ≡ verdict (worn (state_of self.now)) }
     {
         if self.accepted == u64::MAX {
+            Err(Refusal::WornOut)
+        } else {
+            Ok(())
+        }
+    }
+
+    /// Whether two commands more can be counted.
+    pub(super) fn check_count_twice(&self) -> Result<(), Refusal>
+        ensures { result ≡ verdict (worn_twice (state_of self.now)) }
+    {
+        if self.accepted > u64::MAX - 2 {
             Err(Refusal::WornOut)
         } else {
             Ok(())

@@ -2,9 +2,10 @@
 
 ghost use Rattle.std.specs.Prelude.{◌≡◌, ◌+◌, [], IfOk, OnErr, OnOk};
 ghost use Rattle.gl_graph.specs.Graph.{record_parents};
-ghost use Rattle.gl_graph.specs.Refusals.{first_refusal, verdict};
+ghost use Rattle.gl_graph.specs.Refusals.{Refuses, first_refusal, record_refusal, verdict};
 ghost use Rattle.gl_model.specs.Calls.{RefusesOnly};
 ghost use Rattle.gl_catalog.specs.declared.command.Command.TheVariants as command;
+ghost use Rattle.gl_catalog.specs.Adopting.{AdoptsLocked, adopting_tests};
 ghost use Rattle.gl_catalog.specs.Completes.{Completes};
 ghost use Rattle.gl_catalog.specs.Deadlocks.{KeepsAccepted};
 ghost use Rattle.gl_catalog.specs.Counters.{counted};
@@ -98,6 +99,37 @@ impl Manager {
         Ok(rec)
     }
 
+    /// Makes a record as `adopt` does, and gives it to the transaction in this mode: a row of the
+    /// engine's gets its node and its lock in one call, which does both or nothing. It does what
+    /// `adopt` and then `lock` do, and counts as both. The lock is granted at once, since nobody else
+    /// can hold the new record or wait for it, and nobody is told.
+    ///
+    /// Refused, in this order, with `WornOut` (fewer than two commands can be counted any more),
+    /// `NoSuchTxn`, `TxnWaiting`, `TxnCondemned`, then as `adopt` with `WornOut`, `NoSuchNode`,
+    /// `BadParents`, `BadKeys` and `TooManyNodes`, then with `BadMode` (other than `S` and `X`),
+    /// `NeedParents` and `NoMemory`. A refused call changes nothing: the file is not marked either.
+    pub fn adopt_locked(
+        &mut self,
+        t: TxnId,
+        file: NodeId,
+        keys: &[u64],
+        mode: Mode,
+    ) -> Result<NodeId, Refusal>
+        ensures adopts { IfOk result (λ n. AdoptsLocked self.old t file keys.entry mode n self.new) }
+        ensures refuses { Refuses (first_refusal (adopting_tests (state_of self.old) t file keys.now mode)) result }
+        ensures err { OnErr result (self.new ≡ self.old) }
+    {
+        self.law();
+        let parents = self.check_adopting(t, file, keys, mode)?;
+        let rec = self
+            .table
+            .adopt_under(t, file, keys, parents.as_slice(), mode)?;
+        self.table.law();
+        self.accepted += 2;
+        self.counters.add_grant(false);
+        Ok(rec)
+    }
+
     /// Takes a record away that nobody holds or waits for. Nobody is told, and others are left what
     /// `apply` leaves them.
     ///
@@ -152,6 +184,51 @@ impl Manager {
             Ok(())
         } else {
             Err(Refusal::BadKeys)
+        }
+    }
+
+    /// The tests of `adopt_locked` but for memory. Where all are passed it answers the record's
+    /// parents.
+    fn check_adopting(
+        &self,
+        t: TxnId,
+        file: NodeId,
+        keys: &[u64],
+        mode: Mode,
+    ) -> Result<ArrayVec<NodeId, 8>, Refusal>
+        ensures parents { IfOk result (λ parents. parents.items ≡ record_parents (state_of self.now).graph file keys.now) }
+        ensures refuses { RefusesOnly (first_refusal (adopting_tests (state_of self.now) t file keys.now mode)) result }
+    {
+        self.check_count_twice()?;
+        self.check_active(t)?;
+        self.check_row(file, keys)?;
+        if !matches!(mode, Mode::S | Mode::X) {
+            return Err(Refusal::BadMode);
+        }
+        let parents = self.table.graph().record_parents(file, keys);
+        self.table.check_rule_over(t, parents.as_slice(), mode)?;
+        Ok(parents)
+    }
+
+    /// The tests of `adopt` but for the count and memory.
+    fn check_row(&self, file: NodeId, keys: &[u64]) -> Result<(), Refusal>
+        ensures { result ≡ verdict (record_refusal (state_of self.now).graph file keys.now) }
+    {
+        let graph = self.table.graph();
+        if graph.worn() {
+            return Err(Refusal::WornOut);
+        }
+        match graph.kind(file) {
+            Some(Kind::File) => {}
+            Some(_) => return Err(Refusal::BadParents),
+            None => return Err(Refusal::NoSuchNode),
+        }
+        if keys.len() != graph.indexes(file).len() {
+            Err(Refusal::BadKeys)
+        } else if graph.is_full() {
+            Err(Refusal::TooManyNodes)
+        } else {
+            Ok(())
         }
     }
 

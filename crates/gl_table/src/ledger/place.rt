@@ -1,7 +1,7 @@
 //! Locks on records that come and go.
 
-ghost use Rattle.std.specs.Prelude.{◌≡◌, ◌<◌, ◌==◌, ℕ, [], IfErr, IfOk, None, OnOk, Some, false, length, true};
-ghost use Rattle.gl_modes.specs.declared.mode.Mode.TheVariants.{NL, X};
+ghost use Rattle.std.specs.Prelude.{◌≡◌, ◌≢◌, ◌<◌, ◌==◌, ℕ, [], IfErr, IfOk, None, OnOk, Some, false, length, true};
+ghost use Rattle.gl_modes.specs.declared.mode.Mode.TheVariants.{NL};
 ghost use Rattle.gl_modes.specs.declared.refusal.Refusal.{Refusal as ARefusal};
 ghost use Rattle.gl_graph.specs.Changes.{without_node};
 ghost use Rattle.gl_graph.specs.Graph.{is_live, shape_of};
@@ -73,41 +73,50 @@ impl Ledger {
     }
 
     /// Makes room for a node with this key that a slot comes to hold, and for the counts of its parents.
-    /// Answers the node's header, with the slot's X in it. The only refusal is `NoMemory`, and all
-    /// locks stay as they are.
-    pub(crate) fn prepare(&mut self, slot: u8, key: usize) -> Result<Prepared, Refusal>
+    /// Answers the node's header, with the slot's grant of this mode in it. The only refusal is
+    /// `NoMemory`, and all locks stay as they are.
+    pub(crate) fn prepare(&mut self, slot: u8, key: usize, mode: Mode) -> Result<Prepared, Refusal>
         requires slot { slot < length self.old.lists.items }
         requires below { slot < 128 }
-        ensures header { IfOk result (λ prepared. IsOneHolder prepared slot X) }
+        requires lock { mode ≢ NL }
+        ensures header { IfOk result (λ prepared. IsOneHolder prepared slot mode) }
         ensures kept { KeepsLocks self.old self.new }
         ensures headers_room { OnOk result (key < self.new.headers.room) }
         ensures lists_room { OnOk result (HasRoomAt self.new.lists.items slot) }
         ensures no_memory { IfErr result (λ refusal. refusal ≡ ARefusal.NoMemory) }
     {
         make_room(&mut self.lists, slot)?;
-        self.headers.prepare(key, slot, Mode::X)
+        self.headers.prepare(key, slot, mode)
     }
 
-    /// An active slot comes to hold a node in X that nobody holds or waits for, by the header that was
-    /// prepared. It takes no memory: the room is there.
-    pub(crate) fn place(&mut self, graph: &Graph, slot: u8, node: NodeId, prepared: Prepared)
+    /// An active slot comes to hold a node in this mode that nobody holds or waits for, by the header
+    /// that was prepared. It takes no memory: the room is there.
+    pub(crate) fn place(
+        &mut self,
+        graph: &Graph,
+        slot: u8,
+        node: NodeId,
+        mode: Mode,
+        prepared: Prepared,
+    )
         requires exact { AreExact graph.now self.old }
         requires orderly { IsOrderly (state_in graph.now self.old) }
         requires active { status_of (state_in graph.now self.old) slot ≡ Some Active }
         requires live { is_live (graph_of graph.now) node ≡ true }
         requires unheld { (u : ℕ) → (state_in graph.now self.old).held u node ≡ NL }
         requires unawaited { (state_in graph.now self.old).queue node ≡ [] }
-        requires header { IsOneHolder prepared slot X }
+        requires lock { mode ≢ NL }
+        requires header { IsOneHolder prepared slot mode }
         requires headers_room { node.key < self.old.headers.room }
         requires lists_room { HasRoomAt self.old.lists.items slot }
         ensures exact { AreExact graph.now self.new }
-        ensures state { state_in graph.now self.new ≡ with_grant (state_in graph.now self.old) slot node X }
+        ensures state { state_in graph.now self.new ≡ with_grant (state_in graph.now self.old) slot node mode }
     {
         graph.law();
         self.headers.law();
         self.headers.put(node, prepared);
         let list = &mut self.lists[slot as usize];
-        list.enter(node, Mode::X);
+        list.enter(node, mode);
         list.count_up(graph.parents(node));
     }
 }

@@ -1,22 +1,23 @@
 //! Records come and go.
 
-ghost use Rattle.std.specs.Prelude.{◌≡◌, ◌∷◌, [], IfErr, IfOk, None, OnErr, OnOk, Some, length, true};
-ghost use Rattle.gl_modes.specs.declared.mode.Mode.TheVariants.{X};
+ghost use Rattle.std.specs.Prelude.{◌≡◌, ◌∷◌, ◌||◌, [], IfErr, IfOk, None, OnErr, OnOk, Some, length, true};
+ghost use Rattle.gl_modes.specs.declared.mode.Mode.TheVariants.{S, X};
 ghost use Rattle.gl_modes.specs.declared.refusal.Refusal.{Refusal as ARefusal};
 ghost use Rattle.gl_modes.specs.Modes.{same_mode};
 ghost use Rattle.gl_graph.specs.Changes.{IsAdopted, IsBorn, without_node};
 ghost use Rattle.gl_graph.specs.Graph.{indexes_of, record_parents, shape_of};
-ghost use Rattle.gl_graph.specs.Refusals.{Refuses, first_refusal, record_refusal, too_many_nodes, worn_births};
+ghost use Rattle.gl_graph.specs.Refusals.{Refuses, first_refusal, record_refusal, too_many_nodes, verdict, worn_births};
 ghost use Rattle.gl_graph.specs.Shapes.{Rec, is_file_shape, is_record_shape};
-ghost use Rattle.gl_model.specs.Calls.{deleted, first_not_ix, is_idle};
+ghost use Rattle.gl_model.specs.Calls.{deleted, first_not_ix, is_idle, rule_refusal};
 ghost use Rattle.gl_model.specs.State.{lives, status_of, with_grant, with_graph};
 ghost use Rattle.gl_table.specs.Table.{state_of};
 ghost use Rattle.gl_model.specs.Tellings.{told};
 ghost use Rattle.gl_model.specs.declared.txn.Status.TheVariants.{Active};
 
 use super::Table;
+use crate::rule::check_rule;
 use gl_model::{Told, TxnId};
-use gl_modes::{NodeId, Refusal};
+use gl_modes::{Mode, NodeId, Refusal};
 
 impl Table {
     /// Makes a record of a file, with a key for each of the file's indexes, in order of their making,
@@ -68,10 +69,25 @@ impl Table {
         ensures err { OnErr result (self.new ≡ self.old) }
     {
         let locks = &mut self.locks;
-        let prepared = locks.ledger.prepare(t.slot, locks.graph.next_key())?;
+        let prepared = locks
+            .ledger
+            .prepare(t.slot, locks.graph.next_key(), Mode::X)?;
         let rec = locks.graph.add_record_under(file, keys, parents)?;
-        locks.ledger.place(&locks.graph, t.slot, rec, prepared);
+        locks
+            .ledger
+            .place(&locks.graph, t.slot, rec, Mode::X, prepared);
         Ok(rec)
+    }
+
+    /// Whether the rule of the graph lets a living transaction have this mode on a node with these
+    /// parents, as `lock` tests it. Refused with `NeedParents`: to write, the first parent that is not
+    /// held in IX or greater; to read, where none is held in IS or greater, the first of all. It takes
+    /// no memory.
+    pub fn check_rule_over(&self, t: TxnId, parents: &[NodeId], mode: Mode) -> Result<(), Refusal>
+        requires txn { lives (state_of self.now) t ≡ true }
+        ensures { result ≡ verdict (rule_refusal ((state_of self.now).held t.slot) parents.now mode) }
+    {
+        check_rule(&self.locks.ledger.lists[t.slot as usize], parents, mode)
     }
 
     /// Makes a record of a file that nobody holds, with a key for each of the file's indexes, in order
@@ -88,6 +104,39 @@ impl Table {
         ensures err { OnErr result (self.new ≡ self.old) }
     {
         self.locks.graph.adopt_record(file, keys)
+    }
+
+    /// As `adopt`, and gives the record to an active transaction in a mode that its parents permit, where
+    /// nothing stands against it but memory, and its parents are known. The only refusal is `NoMemory`.
+    /// All room is made before anything changes.
+    pub fn adopt_under(
+        &mut self,
+        t: TxnId,
+        file: NodeId,
+        keys: &[u64],
+        parents: &[NodeId],
+        mode: Mode,
+    ) -> Result<NodeId, Refusal>
+        requires txn { lives (state_of self.old) t ≡ true }
+        requires active { status_of (state_of self.old) t.slot ≡ Some Active }
+        requires free { record_refusal (state_of self.old).graph file keys.now ≡ None }
+        requires parents { parents.now ≡ record_parents (state_of self.old).graph file keys.now }
+        requires fit { (same_mode mode S || same_mode mode X) ≡ true }
+        requires rule { rule_refusal ((state_of self.old).held t.slot) parents.now mode ≡ None }
+        ensures made { IfOk result (λ n. IsAdopted (state_of self.old).graph (state_of self.new).graph n file keys.now) }
+        ensures state { IfOk result (λ n. state_of self.new ≡ with_grant (with_graph (state_of self.old) (state_of self.new).graph) t.slot n mode) }
+        ensures deadlock { self.new.deadlock ≡ self.old.deadlock }
+        ensures memory { IfErr result (λ r. r ≡ ARefusal.NoMemory) }
+        ensures err { OnErr result (self.new ≡ self.old) }
+    {
+        let locks = &mut self.locks;
+        let prepared = locks.ledger.prepare(t.slot, locks.graph.next_key(), mode)?;
+        let rec = locks.graph.add_record_under(file, keys, parents)?;
+        locks.graph.mark_adopted(file);
+        locks
+            .ledger
+            .place(&locks.graph, t.slot, rec, mode, prepared);
+        Ok(rec)
     }
 
     /// Takes a record away that nobody holds or waits for. It takes no memory, and all locks stay as

@@ -1,5 +1,5 @@
 use Rattle.gl_table.proofs.Words.{◌+◌, ◌<◌, ◌^◌, ◌∙◌, ◌≤◌, ap, ap₂, arith, count_by, count_of, graph_of, held_of, if◌then◌else◌, NL, not, parents_of, refl}
-use Rattle.gl_table.proofs.Words.{same_mode, same_node, spare, State, state_in, subst, supremum, sym, unlisted, with_grant, with_item, X, ℕ}
+use Rattle.gl_table.proofs.Words.{same_mode, same_node, spare, State, state_in, subst, supremum, sym, unlisted, with_grant, with_item, ℕ}
 use Rattle.gl_table.proofs.inside.Asks.{is_placed, IsGranted, MayAsk, own-few, own-listed, own-room, parents-room, slot-listed}
 use Rattle.gl_table.proofs.inside.Asks.{free_key}
 use Rattle.gl_table.proofs.inside.Slots.{counts-entered, has_node-set}
@@ -45,13 +45,14 @@ count_up-requires-clause-few c = λ q h. subst (λ ps. count_of c.enter.new.self
     c.index_mut-list.ensures.value c.law.ensures.lawful c.args.node q))
 
 placed : (c : After-self-1) → MayAsk (graph_of c.args.graph.now) c.args.self.now c.args.slot → IsGranted (graph_of c.args.graph.now) c.args.self.now
-    (record c.args.self.now { headers = c.put.new.self; lists = with_item c.args.self.now.lists c.args.slot c.count_up.new.self }) c.args.slot c.args.node X X
+    (record c.args.self.now { headers = c.put.new.self; lists = with_item c.args.self.now.lists c.args.slot c.count_up.new.self }) c.args.slot c.args.node
+    c.args.mode c.args.mode
 placed c m = let g = graph_of c.args.graph.now in let l = c.args.self.now in let t = c.args.slot in let n = c.args.node in
     let x = c.index_mut-list.result.now in let x' = c.count_up.new.self in
     let listed = slot-listed g l t m in
-    is_placed g l t n X m c.requires.unheld c.requires.unawaited c.requires.lists_room c.law.ensures.lawful c.requires.live (λ e. cc) c.args.prepared
-    c.requires.header (ap (λ y. supremum y X) (c.requires.unheld t)) _ c.put.ensures.held c.put.ensures.queue refl
-    (has_node-set l.lists.items t x x' listed c.index_mut-list.ensures.value n X
+    is_placed g l t n c.args.mode m c.requires.unheld c.requires.unawaited c.requires.lists_room c.law.ensures.lawful c.requires.live c.requires.lock
+    c.args.prepared c.requires.header (ap (λ y. supremum y c.args.mode) (c.requires.unheld t)) _ c.put.ensures.held c.put.ensures.queue refl
+    (has_node-set l.lists.items t x x' listed c.index_mut-list.ensures.value n c.args.mode
     (λ q. c.count_up.ensures.modes q ∙ c.enter.ensures.modes q) (λ q. c.count_up.ensures.listed q ∙ c.enter.ensures.listed q))
     (counts-entered l.lists.items t x x' listed c.index_mut-list.ensures.value
     (λ q. if same_mode (held_of l.headers.entries t n) NL then count_by (same_node q) (parents_of g n) else 0)
@@ -65,4 +66,4 @@ pub returns-clause-state : goal.returns-clause-state
 returns-clause-state c =
     let s : State = state_in c.args.graph.now c.args.self.now in
     (placed c (may (goal.at.returns-clause-state c).After-law)).state
-    ∙ ap (λ y. with_grant s c.args.slot c.args.node (supremum y X)) (c.requires.unheld c.args.slot)
+    ∙ ap (λ y. with_grant s c.args.slot c.args.node (supremum y c.args.mode)) (c.requires.unheld c.args.slot)

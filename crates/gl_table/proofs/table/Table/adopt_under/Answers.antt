@@ -1,0 +1,120 @@
+use Rattle.gl_table.proofs.Words.{Active, ap, AreExact, graph_of, is_live, IsBorn, NodeId, None, Option, Rec, record_parents, record_refusal, Refusal}
+use Rattle.gl_table.proofs.Words.{Refuses, rule_refusal, Some, State, state_in, state_of, status_of, subst, sym, TableView, true, View, view_of, with_grant}
+use Rattle.gl_table.proofs.Words.{with_graph, ◌∙◌, ◌≡◌}
+use Rattle.gl_table.specs.declared.ledger.Ledger.{Ledger}
+use Rattle.gl_table.specs.declared.table.Table.TheInside.{Inside}
+use Rattle.gl_table.proofs.calls.Adopting.{adopted, adopted_lives, file_stands, stands_adopted, stands_locked, state_adopted}
+use Rattle.gl_table.proofs.calls.Records.{record_unawaited, record_unheld, same_state, stands_grown, stands_roomy}
+use Rattle.gl_table.proofs.calls.Stands.{MayStand, put, with_locks}
+use Rattle.gl_graph.specs.Changes.{marked}
+use Rattle.gl_table.proofs.table.Table.adopt_under.Goals.{After-add_record_under, After-prepare}
+use Rattle.gl_table.proofs.table.Table.adopt_under.Goals as goal
+
+-- room was made
+
+then : (c : After-prepare) → MayStand c.self.inside c.self.inside.locks.graph c.prepare.new.self
+then c = stands_roomy c.self.inside c.self.invariant c.prepare.new.self c.prepare.ensures.kept
+
+pub invariant_of-self : goal.invariant_of-self
+invariant_of-self c = (then (goal.at.invariant_of-self c).After-prepare).safe
+
+pub invariant_of-locks : goal.invariant_of-locks
+invariant_of-locks c = (then (goal.at.invariant_of-locks c).After-prepare).law
+
+ready : (c : After-add_record_under) → MayStand c.self.inside c.self.inside.locks.graph c.prepare.new.self
+ready c = stands_roomy c.self.inside c.self.invariant c.prepare.new.self c.prepare.ensures.kept
+
+abbrev roomy : After-add_record_under → Inside
+roomy c = put c.self.inside c.self.inside.locks.graph c.prepare.new.self (ready c).law
+
+same : (c : After-add_record_under) → state_of (view_of (roomy c)) ≡ state_of c.args.self.now
+same c = same_state c.self.inside c.self.invariant c.prepare.new.self c.prepare.ensures.kept ∙ ap (λ (v : TableView). state_of v) c.self.view_is
+
+-- memory alone stands against the record
+free : (c : After-add_record_under) → record_refusal (graph_of c.self.inside.locks.graph) c.args.file c.args.keys.now ≡ None
+free c = subst (λ (v : TableView). record_refusal (state_of v).graph c.args.file c.args.keys.now ≡ None) (sym c.self.view_is) c.requires.free
+
+-- the graph was asked for the record
+asked : (c : After-add_record_under) → MayStand (roomy c) c.add_record_under.new.self c.prepare.new.self
+asked c =
+    stands_grown (roomy c) (ready c).safe c.args.file c.args.keys.now (free c) c.add_record_under.new.self c.add_record_under.result
+    (subst (λ (o : Option Refusal). Refuses o c.add_record_under.result) (sym (free c)) c.add_record_under.ensures.memory) c.add_record_under.ensures.made
+    c.add_record_under.ensures.err
+
+pub invariant_of-locks-in-Break-branch-2 : goal.invariant_of-locks-in-Break-branch-2
+invariant_of-locks-in-Break-branch-2 c = (asked (goal.at.invariant_of-locks-in-Break-branch-2 c).After-add_record_under).law
+
+pub add_record_under-requires-clause-free : goal.add_record_under-requires-clause-free
+add_record_under-requires-clause-free c = subst (λ (v : TableView). record_refusal (state_of v).graph c.args.file c.args.keys.now ≡ None) (sym c.self.view_is)
+    c.requires.free
+
+pub add_record_under-requires-clause-parents : goal.add_record_under-requires-clause-parents
+add_record_under-requires-clause-parents c = c.requires.parents
+    ∙ ap (λ (v : TableView). record_parents (state_of v).graph c.args.file c.args.keys.now) (sym c.self.view_is)
+
+pub invariant_of-self-in_err-rec : goal.invariant_of-self-in_err-rec
+invariant_of-self-in_err-rec c = (asked (goal.at.invariant_of-self-in_err-rec c).After-add_record_under).safe
+
+pub mark_adopted-requires : goal.mark_adopted-requires
+mark_adopted-requires c = let at = (goal.at.mark_adopted-requires c).After-add_record_under in
+    file_stands (roomy at) (ready at).safe c.args.file c.args.keys.now (free at) c.add_record_under.new.self c.in_ok-rec.rec c.in_ok-rec.ensures.made
+
+-- the file was marked: the record is adopted
+module _ (c : After-add_record_under) (n : NodeId)
+    (born : IsBorn (graph_of c.self.inside.locks.graph) (graph_of c.add_record_under.new.self) n (Rec c.args.keys.now)
+    (record_parents (graph_of c.self.inside.locks.graph) c.args.file c.args.keys.now)) (v : View)
+    (after : graph_of v ≡ marked (graph_of c.add_record_under.new.self) c.args.file) where
+  adopts : MayStand (roomy c) v c.prepare.new.self
+  adopts = stands_adopted (roomy c) (ready c).safe c.args.file c.args.keys.now (free c) c.add_record_under.new.self n born v after
+
+  lives : is_live (graph_of v) n ≡ true
+  lives =
+      adopted_lives (graph_of c.self.inside.locks.graph) (graph_of v) n c.args.file c.args.keys.now
+      (adopted (roomy c) (ready c).safe c.args.file c.args.keys.now (free c) c.add_record_under.new.self n born v after)
+
+  -- the slot holds it
+  module _ (l : Ledger) (is : state_in v l ≡ with_grant (state_in v c.prepare.new.self) c.args.t.slot n c.args.mode) where
+    placed : AreExact v l → MayStand (roomy c) v l
+    placed exact =
+        stands_locked (roomy c) (ready c).safe c.args.file c.args.keys.now (free c) c.add_record_under.new.self n born v after c.args.t.slot c.args.mode l is
+        (subst (λ (s : State). status_of s c.args.t.slot ≡ Some Active) (sym (same c)) c.requires.active) c.requires.fit
+        (subst (λ (s : State). rule_refusal (s.held c.args.t.slot) (record_parents s.graph c.args.file c.args.keys.now) c.args.mode ≡ None) (sym (same c))
+        (ap (λ ps. rule_refusal ((state_of c.args.self.now).held c.args.t.slot) ps c.args.mode) (sym c.requires.parents) ∙ c.requires.rule)) exact
+
+    state_after : with_locks (roomy c) (state_in v l) ≡ with_grant (with_graph (state_of c.args.self.now) (graph_of v)) c.args.t.slot n c.args.mode
+    state_after =
+        state_adopted (roomy c) (ready c).safe c.args.file c.args.keys.now (free c) c.add_record_under.new.self n born v after c.args.t.slot c.args.mode l is
+        ∙ ap (λ (s : State). with_grant (with_graph s (graph_of v)) c.args.t.slot n c.args.mode) (same c)
+
+pub place-requires-clause-orderly : goal.place-requires-clause-orderly
+place-requires-clause-orderly c = let at = (goal.at.place-requires-clause-orderly c).After-add_record_under in
+    (adopts at c.in_ok-rec.rec c.in_ok-rec.ensures.made c.mark_adopted.new.self c.mark_adopted.ensures.marked).law.orderly
+
+pub place-requires-clause-exact : goal.place-requires-clause-exact
+place-requires-clause-exact c = let at = (goal.at.place-requires-clause-exact c).After-add_record_under in
+    let law = (adopts at c.in_ok-rec.rec c.in_ok-rec.ensures.made c.mark_adopted.new.self c.mark_adopted.ensures.marked).law in
+    record { sound = law.sound; agree = law.agree; count = law.count }
+
+pub place-requires-clause-live : goal.place-requires-clause-live
+place-requires-clause-live c = let at = (goal.at.place-requires-clause-live c).After-add_record_under in
+    lives at c.in_ok-rec.rec c.in_ok-rec.ensures.made c.mark_adopted.new.self c.mark_adopted.ensures.marked
+
+pub place-requires-clause-unheld : goal.place-requires-clause-unheld
+place-requires-clause-unheld c = let at = (goal.at.place-requires-clause-unheld c).After-add_record_under in
+    record_unheld (roomy at) (ready at).safe c.args.file c.args.keys.now (free at) c.add_record_under.new.self c.in_ok-rec.rec c.in_ok-rec.ensures.made
+
+pub place-requires-clause-unawaited : goal.place-requires-clause-unawaited
+place-requires-clause-unawaited c = let at = (goal.at.place-requires-clause-unawaited c).After-add_record_under in
+    record_unawaited (roomy at) (ready at).safe c.args.file c.args.keys.now (free at) c.add_record_under.new.self c.in_ok-rec.rec c.in_ok-rec.ensures.made
+
+pub invariant_of-self-2 : goal.invariant_of-self-2
+invariant_of-self-2 c = (placed (goal.at.invariant_of-self-2 c).After-add_record_under c.in_ok-rec.rec c.in_ok-rec.ensures.made c.mark_adopted.new.self
+    c.mark_adopted.ensures.marked c.place.new.self c.place.ensures.state c.place.ensures.exact).safe
+
+pub invariant_of-locks-2 : goal.invariant_of-locks-2
+invariant_of-locks-2 c = (placed (goal.at.invariant_of-locks-2 c).After-add_record_under c.in_ok-rec.rec c.in_ok-rec.ensures.made c.mark_adopted.new.self
+    c.mark_adopted.ensures.marked c.place.new.self c.place.ensures.state c.place.ensures.exact).law
+
+pub returns-clause-state : goal.returns-clause-state
+returns-clause-state c = state_after (goal.at.returns-clause-state c).After-add_record_under c.in_ok-rec.rec c.in_ok-rec.ensures.made c.mark_adopted.new.self
+    c.mark_adopted.ensures.marked c.place.new.self c.place.ensures.state
