@@ -1,10 +1,15 @@
 //! Whoever looks for deadlocks while the sessions of a crew work.
 
-ghost use Rattle.std.specs.Prelude.{◌≡◌, ◌↔◌, ℕ, IsNone, IfSome};
+ghost use Rattle.std.specs.Prelude.{◌≡◌, ◌↔◌, ◌+◌, ℕ, IsNone, IfNone, IfSome};
+ghost use Rattle.gl_model.specs.Tellings.{Told};
+ghost use Rattle.gl_catalog.specs.declared.command.Command.TheVariants.{Settle as Settling};
+ghost use Rattle.gl_boxes.specs.Served.{accepts};
+ghost use Rattle.gl_shared.specs.Batches.{one_if};
+ghost use Rattle.gl_shared.specs.Sessions.{IsServed};
 ghost use Rattle.gl_waits.specs.Boards.{age_in, board_edge};
 ghost use Rattle.gl_waits.specs.Waits.{IsLowestYoungest, IsOnCycle, IsOnNoCycle};
 
-use gl_catalog::Command;
+use gl_catalog::{Answer, Command};
 use gl_shared::{Naming, Session, Share, Shared, Watcher};
 use gl_table::TxnId;
 use gl_waits::{Board, suspects, youngest_of};
@@ -12,7 +17,8 @@ use std::sync::Wait;
 use std::sync::atomic::{AtomicBool, Ordering};
 use std::thread::yield_now;
 
-/// Looks until the sessions have ended, and asks for a settle wherever a board shows a cycle of waits.
+/// Looks until the sessions have ended, and settles deadlocks by each board that it sees. That it looks,
+/// and how often, tests alone show.
 pub(crate) fn look_out<N: Naming, R: Wait>(
     rt: &R,
     shared: &Shared<N>,
@@ -27,13 +33,32 @@ pub(crate) fn look_out<N: Naming, R: Wait>(
             break;
         }
         if let Some(board) = watcher.look() {
-            if let Some(txn) = youngest_suspect(&board) {
-                session.ask(rt, Command::Settle { txn });
-            }
+            settle_by(rt, &mut session, &board);
         }
         yield_now();
     }
     session.end()
+}
+
+/// Settles whoever is, on this board, the youngest of those on a cycle of waits, and says whom, and what
+/// was answered. Where nobody is, nothing is asked.
+fn settle_by<N: Naming, R: Wait>(
+    rt: &R,
+    session: &mut Session<'_, N>,
+    board: &Board,
+) -> Option<(TxnId, Answer)>
+    ensures none { IsNone result ↔ ((s : ℕ) → IsOnNoCycle (board_edge board.now) s) }
+    ensures some { IfSome result (λ t. IsLowestYoungest (IsOnCycle (board_edge board.now)) (age_in board.now) t.0.slot) }
+    ensures age { IfSome result (λ t. t.0.age ≡ age_in board.now t.0.slot) }
+    ensures settled { IfSome result (λ t. (told : Told) × IsServed (Settling t.0) t.1 told session.new.served_at) }
+    ensures share { IfSome result (λ t. session.new.share ≡ session.old.share + one_if (accepts (Settling t.0) t.1)) }
+    ensures idle { IfNone result (session.new ≡ session.old) }
+{
+    let Some(txn) = youngest_suspect(board) else {
+        return None;
+    };
+    let reply = session.ask(rt, Command::Settle { txn });
+    Some((txn, reply.answer))
 }
 
 /// The youngest of those who are on a cycle of waits, by slot and age; `None` exactly where nobody is.

@@ -1,5 +1,6 @@
 //! Tests alone: several sessions over a shared table, in threads that race, wait in rings, look on and
-//! wake each other: what no clause can say of a call that takes the latch.
+//! wake each other: what no clause can say of a call that takes the latch. Watchers of a window, and the
+//! rounds of a crew, beside them.
 #![tactic(auto)]
 
 #[cfg(test)]
@@ -9,6 +10,8 @@ mod races;
 #[cfg(test)]
 mod ring;
 #[cfg(test)]
+mod rounds;
+#[cfg(test)]
 mod stage;
 #[cfg(test)]
 mod story;
@@ -16,3 +19,5 @@ mod story;
 mod wakings;
 #[cfg(test)]
 mod wanted;
+#[cfg(test)]
+mod windows;

@@ -1,5 +1,7 @@
 -- What sessions are answered.
-use Rattle.std.specs.Prelude.{◌≡◌, ℕ, Some, Result, Ok, Err}
+use Rattle.std.specs.Prelude.{◌≡◌, ℕ, ◌<◌, ◌||◌, ◌==◌, Some, Result, Ok, Err}
+use Rattle.std.specs.List.{list_any}
+use Rattle.gl_waits.specs.Sets.{has_slot}
 use Rattle.gl_modes.specs.declared.mode.Mode.{Mode}
 use Rattle.gl_modes.specs.declared.node.NodeId.{NodeId}
 use Rattle.gl_model.specs.declared.txn.TxnId.{TxnId}
@@ -13,11 +15,16 @@ use Rattle.gl_boxes.specs.declared.grant.Grant.{Grant}
 use Rattle.gl_boxes.specs.declared.grant.Stop.{Stop}
 use Rattle.gl_boxes.specs.declared.grant.Stop.TheVariants as stop
 use Rattle.gl_boxes.specs.Boxes.{verdict_of}
+use Rattle.gl_boxes.specs.Served.{names_slot}
 use Rattle.gl_shared.specs.State.{GuardedView}
 
 -- the command was served: by a step from a lawful state, so answered and so told, behind which so many commands had been accepted
 abbrev pub IsServed : Command → Answer → Told → ℕ → Type 0
 IsServed c a told count = (s : ManagerView) × (t : ManagerView) × IsLawfulManager s × Step (state_of s) c a told (state_of t) × (count ≡ t.accepted)
+
+-- the set has just the slots that the command told, and that of whoever it cancelled or aborted by name
+abbrev pub AreWoken : Command → Told → ℕ → Type 0
+AreWoken c told slots = (u : ℕ) → u < 128 → has_slot slots u ≡ (names_slot c u || list_any (λ x. x.0.slot == u) told)
 
 -- some lawful state behind the latch gives this verdict
 abbrev pub IsVerdict : TxnId → NodeId → Mode → Result Grant Stop → Type 0

@@ -8,7 +8,7 @@ ghost use Rattle.gl_catalog.specs.declared.command.Command.TheVariants.{Lock};
 ghost use Rattle.gl_catalog.specs.Manager.{IsLawfulManager};
 ghost use Rattle.gl_boxes.specs.Boards.{last_epoch};
 ghost use Rattle.gl_boxes.specs.Served.{accepts, is_refused};
-ghost use Rattle.gl_shared.specs.Sessions.{Gives, IsServed, IsVerdict};
+ghost use Rattle.gl_shared.specs.Sessions.{AreWoken, Gives, IsServed, IsVerdict};
 ghost use Rattle.gl_boxes.specs.Boxes.{is_refusal};
 ghost use Rattle.gl_shared.specs.State.{GuardedView};
 
@@ -17,20 +17,22 @@ use crate::naming::Naming;
 use crate::note::Note;
 use crate::share::Share;
 use crate::shared::Shared;
-use gl_boxes::{Grant, Stop, ended_by, is_accepted};
+use crate::wakes::Woken;
+use gl_boxes::{Grant, Stop, is_accepted};
 use gl_catalog::{Answer, Command, Counters, Reply};
 use gl_modes::{Mode, NodeId};
 use gl_table::{Told, TxnId};
 use std::sync::{MutexGuard, Wait};
 
 /// Whoever asks the table. It keeps its share, the epoch of its last note, the count of accepted
-/// commands behind its last command, and a list for notices.
+/// commands behind its last command, and a list for notices; and for contracts, whom it woke last.
 pub struct Session<'a, N: Naming> {
     pub(crate) shared: &'a Shared<N>,
     pub(crate) share: Share<N>,
     pub(crate) last_epoch: u64,
     pub(crate) served_at: u64,
     pub(crate) notices: Told,
+    pub(crate) woken: Woken,
 }
 
 impl<'a, N: Naming> Session<'a, N> {
@@ -43,6 +45,7 @@ impl<'a, N: Naming> Session<'a, N> {
             last_epoch: 0,
             served_at: 0,
             notices: Told::new(),
+            woken: Woken::nobody(),
         }
     }
 
@@ -55,6 +58,7 @@ impl<'a, N: Naming> Session<'a, N> {
             last_epoch: _,
             served_at: _,
             notices: _,
+            woken: _,
         } = self;
         share
     }
@@ -76,6 +80,7 @@ impl<'a, N: Naming> Session<'a, N> {
         ensures refused { accepts command.entry result.answer ≡ false → self.new.share ≡ self.old.share }
         ensures noted { self.new.last_epoch ≡ self.old.last_epoch }
         ensures step { IsServed command.entry result.answer result.told.items self.new.served_at }
+        ensures woken { accepts command.entry result.answer ≡ true → AreWoken command.entry result.told.items self.new.woken }
         ensures count { N.opening + self.new.share ≤ self.new.served_at }
     {
         let mut told = Told::new();
@@ -90,6 +95,7 @@ impl<'a, N: Naming> Session<'a, N> {
         ensures refused { accepts command.entry result ≡ false → self.new.share ≡ self.old.share }
         ensures noted { self.new.last_epoch ≡ self.old.last_epoch }
         ensures step { IsServed command.entry result told.new.items self.new.served_at }
+        ensures woken { accepts command.entry result ≡ true → AreWoken command.entry told.new.items self.new.woken }
         ensures count { N.opening + self.new.share ≤ self.new.served_at }
     {
         let mut guard = self.shared.latch.lock(rt);
@@ -98,7 +104,8 @@ impl<'a, N: Naming> Session<'a, N> {
         self.served_at = guard.accepted_beside(&mut self.share);
         if is_accepted(&command, &answer) {
             let _ = guard.tell_if_due(rt);
-            self.shared.wakes.wake(ended_by(&command, told.as_slice()));
+            let told = told.as_slice();
+            self.woken = self.shared.wakes.wake_ended(&command, told);
         }
         MutexGuard::unlock(guard);
         answer
@@ -141,7 +148,7 @@ impl<'a, N: Naming> Session<'a, N> {
         ensures noted { self.new.last_epoch ≡ self.old.last_epoch }
         ensures share { MatchResult result (λ _. self.new.share ≡ self.old.share + 1) (λ s. MatchBool (is_refusal s) ((self.old.share ≤ self.new.share) × (self.new.share ≤ self.old.share + 1)) (self.new.share ≡ self.old.share + 1)) }
         ensures grant { IfOk result (λ g. (g.txn ≡ txn) × (g.node ≡ node) × (is_at_least g.mode mode ≡ true)) }
-        ensures step { (answer : AnAnswer) × (told : Notices) × IsServed (Lock txn node mode) answer told self.new.served_at × Gives txn node mode answer result }
+        ensures step { (answer : AnAnswer) × (told : Notices) × IsServed (Lock txn node mode) answer told self.new.served_at × Gives txn node mode answer result × (is_refused answer ≡ false → AreWoken (Lock txn node mode) told self.new.woken) }
         ensures count { N.opening + self.new.share ≤ self.new.served_at }
     {
         self.notices.clear();
@@ -155,9 +162,8 @@ impl<'a, N: Naming> Session<'a, N> {
         }
         let _ = guard.tell_if_due(rt);
         let asked = Command::Lock { txn, node, mode };
-        self.shared
-            .wakes
-            .wake(ended_by(&asked, self.notices.as_slice()));
+        let told = self.notices.as_slice();
+        self.woken = self.shared.wakes.wake_ended(&asked, told);
         match answer {
             Answer::Granted(held) => {
                 MutexGuard::unlock(guard);
@@ -196,7 +202,7 @@ pub(crate) fn await_verdict<'a, N: Naming, R: Wait>(
             MutexGuard::unlock(guard);
             return end;
         }
-        guard = shared.wakes.of(txn.slot).wait(rt, guard);
+        guard = shared.wakes.sleep(rt, guard, txn.slot);
     }
     unreachable!()
 }

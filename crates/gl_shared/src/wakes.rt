@@ -1,14 +1,47 @@
 //! Where sessions sleep, and how they are woken.
 
+ghost use Rattle.std.specs.Prelude.{◌≡◌, ◌<◌};
+ghost use Rattle.gl_boxes.specs.Served.{RisingTo};
+ghost use Rattle.gl_shared.specs.Sessions.{AreWoken};
+
+use gl_boxes::ended_by;
+use gl_catalog::Command;
+use gl_table::{Notice, TxnId};
 use gl_waits::SLOTS;
 use gl_waits::set::take_lowest;
 use std::array;
-use std::sync::Condvar;
+use std::marker::Model;
+use std::snapshot::Snapshot;
+use std::sync::{Condvar, MutexGuard, Wait};
 
 /// A place to wait for each slot.
 #[derive(Drop)]
 pub(crate) struct Wakes {
     slots: [Condvar; SLOTS],
+}
+
+/// Whom a session woke last. To a contract it is their slots, as the bits of a number; it has no bytes.
+#[derive(Drop)]
+pub struct Woken {
+    slots: Snapshot<u128>,
+}
+
+impl Model for Woken {
+    ghost use Rattle.std.specs.Prelude.{ℕ};
+
+    ghost Value = { ℕ };
+
+    ghost view = { λ w. w.slots.value };
+}
+
+impl Woken {
+    pub(crate) fn nobody() -> Woken
+        ensures { result ≡ 0 }
+    {
+        Woken {
+            slots: Snapshot::of(&0u128),
+        }
+    }
 }
 
 impl Wakes {
@@ -18,18 +51,45 @@ impl Wakes {
         }
     }
 
-    /// Where sessions wait for this slot's transaction.
-    pub(crate) fn of(&self, slot: u8) -> &Condvar {
-        &self.slots[slot as usize % SLOTS]
+    /// Sleeps at the place of this slot. That it does, tests alone show.
+    pub(crate) fn sleep<'b, R: Wait, T>(
+        &self,
+        rt: &R,
+        guard: MutexGuard<'b, T>,
+        slot: u8,
+    ) -> MutexGuard<'b, T> {
+        self.slots[place_of(slot)].wait(rt, guard)
     }
 
-    /// Wakes those who wait for these slots' transactions.
-    pub(crate) fn wake(&self, slots: u128) {
+    /// Wakes those whose wait a command may have ended that told these.
+    pub(crate) fn wake_ended(&self, command: &Command<'_>, told: &[(TxnId, Notice)]) -> Woken
+        requires { RisingTo 0 told.now 128 }
+        ensures { AreWoken command.now told.now result }
+    {
+        self.wake(ended_by(command, told))
+    }
+
+    /// Wakes those who sleep at the places of these slots. That each place is notified, tests alone show.
+    pub(crate) fn wake(&self, slots: u128) -> Woken
+        ensures { result ≡ slots }
+    {
+        let woken = Woken {
+            slots: Snapshot::of(&slots),
+        };
         let mut left = slots;
         while left != 0 {
             let (slot, rest) = take_lowest(left);
             left = rest;
             self.slots[slot].notify_all();
         }
+        woken
     }
+}
+
+/// The place of a slot.
+fn place_of(slot: u8) -> usize
+    ensures within { result < 128 }
+    ensures own { slot < 128 → result ≡ slot }
+{
+    slot as usize % SLOTS
 }

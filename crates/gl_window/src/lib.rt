@@ -2,6 +2,7 @@
 #![tactic(auto)]
 
 mod publisher;
+mod seats;
 mod watcher;
 mod window;
 

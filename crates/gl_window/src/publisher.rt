@@ -2,6 +2,8 @@
 
 ghost use Rattle.std.specs.Prelude.{◌≡◌, ◌≤◌, ◌⊎◌, ◌++◌, ◌∷◌, [], true, IfOk};
 ghost use Rattle.gl_boxes.specs.Boards.{Fine, last_epoch};
+ghost use Rattle.gl_boxes.specs.Rules.{head_of};
+ghost use Rattle.gl_window.specs.Window.{GoesOn};
 
 use crate::watcher::Watcher;
 use crate::window::Window;
@@ -41,7 +43,7 @@ impl Model for Publisher {
 
     ghost view = { λ p. p.line };
 
-    ghost invariant = { λ p. (p.head ≡ head_of p.line.book) × GoesOn (arc_value p.window) p.line };
+    ghost invariant = { λ p. (p.head ≡ head_of p.line.book) × GoesOn (arc_value p.window).first p.line };
 }
 
 impl Publisher {
@@ -64,7 +66,7 @@ impl Publisher {
 
     /// Whether there is a watcher.
     pub fn is_watched(&self) -> bool {
-        self.window.is_watched()
+        self.window.seats.find().any
     }
 
     /// Shows a board behind those before, whole, and says whether it did: always, where there was memory
@@ -76,14 +78,7 @@ impl Publisher {
         ensures list { (self.new.list ≡ self.old.list) ⊎ (self.new.list ≡ self.old.list ++ board ∷ []) }
         ensures of { (self.new.book ≡ self.old.book) × (self.new.detect ≡ self.old.detect) }
     {
-        let Ok(board) = Arc::new(self.alloc, board) else {
-            return false;
-        };
-        let Some(line) = self.line.add(&self.head, board) else {
-            return false;
-        };
-        self.line = line;
-        self.window.show(&self.line)
+        add_and_show(self.alloc, &self.window, &self.head, &mut self.line, board)
     }
 
     /// A watcher that knows all that was shown, and this board as the last of it. At most eight watch at
@@ -95,15 +90,42 @@ impl Publisher {
         ensures list { (self.new.list ≡ self.old.list) ⊎ (self.new.list ≡ self.old.list ++ board ∷ []) }
         ensures of { (self.new.book ≡ self.old.book) × (self.new.detect ≡ self.old.detect) }
     {
-        let Some(seat) = self.window.take_seat() else {
-            return Err(WatchFault::TooMany);
+        let chair = match self.window.seats.take() {
+            Ok(chair) => chair,
+            Err(_) => return Err(WatchFault::TooMany),
         };
-        if self.publish(board) {
+        let shown = add_and_show(self.alloc, &self.window, &self.head, &mut self.line, board);
+        if shown {
             if let (Ok(window), Ok(last)) = (Arc::try_clone(&self.window), self.line.again()) {
-                return Ok(Watcher { window, last, seat });
+                return Ok(Watcher {
+                    window,
+                    last,
+                    chair,
+                });
             }
         }
-        self.window.leave_seat(seat);
+        self.window.seats.leave(chair);
         Err(WatchFault::NoMemory)
     }
+}
+
+/// Adds a board to the list and shows that, and says whether it did. One that was not shown may be in the
+/// list.
+fn add_and_show(alloc: Global, window: &Window, head: &Head, line: &mut Line, board: Board) -> bool
+    requires of { (head.now ≡ head_of line.old.book) × GoesOn window.now.first line.old }
+    requires rises { last_epoch 0 line.old.list ≤ board.epoch }
+    requires fine { Fine line.old.detect board }
+    ensures shown { result ≡ true → line.new.list ≡ line.old.list ++ board ∷ [] }
+    ensures list { (line.new.list ≡ line.old.list) ⊎ (line.new.list ≡ line.old.list ++ board ∷ []) }
+    ensures of { (line.new.book ≡ line.old.book) × (line.new.detect ≡ line.old.detect) }
+    ensures goes_on { GoesOn window.now.first line.new }
+{
+    let Ok(board) = Arc::new(alloc, board) else {
+        return false;
+    };
+    let Some(next) = line.add(head, board) else {
+        return false;
+    };
+    *line = next;
+    window.show(line)
 }

@@ -4,6 +4,7 @@ ghost use Rattle.std.specs.Prelude.{◌≡◌, ◌≤◌};
 ghost use mathlib.Core.List.{IsPrefix};
 ghost use Rattle.gl_boxes.specs.Boards.{Ends, Fine, last_epoch};
 
+use crate::seats::Chair;
 use crate::window::Window;
 use gl_boxes::Line;
 use gl_waits::Board;
@@ -15,11 +16,11 @@ use std::sync::Arc;
 pub struct Watcher {
     pub(crate) window: Arc<Window>,
     pub(crate) last: Line,
-    pub(crate) seat: u32,
+    pub(crate) chair: Chair,
 }
 
 impl Model for Watcher {
-    ghost use Rattle.std.specs.Prelude.{◌<◌};
+    ghost use Rattle.std.specs.Prelude.{◌≡◌};
     ghost use Rattle.std.specs.Arc.{arc_value};
     ghost use Rattle.gl_boxes.specs.Strip.{Strip};
     ghost use Rattle.gl_window.specs.Window.{GoesOn};
@@ -28,7 +29,7 @@ impl Model for Watcher {
 
     ghost view = { λ w. w.last };
 
-    ghost invariant = { λ w. GoesOn (arc_value w.window) w.last × (w.seat < 8) };
+    ghost invariant = { λ w. GoesOn (arc_value w.window).first w.last × (w.chair.token.table_id ≡ (arc_value w.window).seats.table.shared.table_id) };
 }
 
 impl Watcher {
@@ -54,8 +55,8 @@ impl Drop for Watcher {
         let Watcher {
             window,
             last: _,
-            seat,
+            chair,
         } = self;
-        window.leave_seat(seat);
+        window.seats.leave(chair);
     }
 }

@@ -4,14 +4,11 @@ ghost use Rattle.std.specs.Prelude.{◌≡◌, ◌<◌, IfOk, IfSome};
 ghost use Rattle.std.specs.List.{All};
 ghost use Rattle.gl_window.specs.Window.{GoesOn};
 
+use crate::seats::Seats;
 use counted_slot::{Counted, Fits, MOST_READERS, ONE_READER, PRESENT, TAKEN};
 use gl_boxes::Line;
 use std::alloc::{AllocError, Global};
-use std::marker::Model;
 use std::sync::atomic::{AtomicU64, Ordering};
-
-/// How many watchers there can be at once.
-const MOST_WATCHERS: u32 = 8;
 
 /// How many lists there is room for: one for each watcher that looks, the one shown last, and one more.
 const PLACES: usize = 10;
@@ -33,46 +30,34 @@ impl Fits for Shot {
     ghost fits = { λ first shot. GoesOn first shot.line };
 }
 
-/// The places, and the seats of the watchers. To a contract it is the first list.
+/// The places, and the seats of the watchers.
 #[derive(Drop)]
 pub(crate) struct Window {
-    first: Line,
+    pub(crate) first: Line,
     places: Vec<Counted<Shot>>,
     /// The place of the list that was shown last.
     last: AtomicU64,
-    /// Bit s is set while a watcher has seat s.
-    seats: AtomicU64,
-}
-
-impl Model for Window {
-    ghost use Rattle.std.specs.Prelude.{◌≡◌};
-    ghost use Rattle.std.specs.List.{All};
-    ghost use Rattle.gl_boxes.specs.Strip.{Strip};
-
-    ghost Value = { Strip };
-
-    ghost view = { λ w. w.first };
-
-    ghost invariant = { λ w. All (λ tag. tag ≡ w.first) w.places.items };
+    pub(crate) seats: Seats,
+    ghost of_first: { All (λ tag. tag ≡ first) places.items },
 }
 
 impl Window {
     /// A window of lists that go on from this one, which shows none yet.
     pub(crate) fn new(alloc: Global, first: Line) -> Result<Window, AllocError>
-        ensures { IfOk result (λ w. w ≡ first) }
+        ensures { IfOk result (λ w. w.first ≡ first) }
     {
         let places = places_of(alloc, &first)?;
         Ok(Window {
             first,
             places,
             last: AtomicU64::new(0),
-            seats: AtomicU64::new(0),
+            seats: Seats::new(alloc)?,
         })
     }
 
     /// Shows a list, and says whether there was a place for it: always, where nobody else shows one.
     pub(crate) fn show(&self, line: &Line) -> bool
-        requires { GoesOn self.now line.now }
+        requires { GoesOn self.now.first line.now }
     {
         let last = self.last.load(Ordering::SeqCst);
         for at in 0..self.places.len() {
@@ -86,7 +71,7 @@ impl Window {
 
     /// The list that was shown last; none, where each try came behind a newer one.
     pub(crate) fn look(&self) -> Option<Line>
-        ensures { IfSome result (λ line. GoesOn self.now line) }
+        ensures { IfSome result (λ line. GoesOn self.now.first line) }
     {
         for _try in 0..TRIES {
             let last = self.last.load(Ordering::SeqCst) as usize;
@@ -97,32 +82,6 @@ impl Window {
             }
         }
         None
-    }
-
-    /// A seat that no watcher has, which is taken from now on; none, where eight are taken.
-    pub(crate) fn take_seat(&self) -> Option<u32>
-        ensures { IfSome result (λ seat. seat < 8) }
-    {
-        for seat in 0..MOST_WATCHERS {
-            let bit = 1u64 << seat;
-            if self.seats.fetch_or(bit, Ordering::SeqCst) & bit == 0 {
-                return Some(seat);
-            }
-        }
-        None
-    }
-
-    /// Gives a seat back.
-    pub(crate) fn leave_seat(&self, seat: u32)
-        requires { seat < 8 }
-    {
-        let bit = 1u64 << seat;
-        let _ = self.seats.fetch_and(!bit, Ordering::SeqCst);
-    }
-
-    /// Whether there is a watcher.
-    pub(crate) fn is_watched(&self) -> bool {
-        self.seats.load(Ordering::SeqCst) != 0
     }
 }
 

@@ -1,8 +1,9 @@
-use Rattle.std.proofs.Common.{arith, ◌∙◌, ap, refl, subst, sym, List}
-use Rattle.gl_model.specs.declared.answers.Notice.{Notice}
-use Rattle.gl_model.specs.declared.txn.TxnId.{TxnId}
+use Rattle.std.proofs.Common.{arith, ◌∙◌, ap, refl, subst, sym}
+use Rattle.gl_model.specs.Tellings.{Told as Notices}
+use Rattle.gl_catalog.specs.declared.command.Command.TheVariants.{Lock}
 use Rattle.gl_catalog.specs.Manager.{IsLawfulManager}
 use Rattle.gl_boxes.specs.Served.{RisingTo}
+use Rattle.gl_shared.specs.Sessions.{AreWoken}
 use Rattle.gl_shared.specs.State.{GuardedView}
 use Rattle.gl_shared.proofs.Locking.{gives_verdict, is_not_refused, shares_lock}
 use Rattle.gl_shared.proofs.session.Session.lock.Goals as goal
@@ -24,9 +25,10 @@ returns g c =
         served.new.told.items,
         (c.deref_mut.result.now.manager, served.new.self.manager, law, served.ensures.step, count.count ∙ ap (λ (g : GuardedView). g.manager.accepted) c.deref_mut-2.ensures.value),
         gives_verdict c.args.txn c.args.node c.args.mode served.result c.await_verdict.result c.in_default-answer.not-Granted c.in_default-answer.not-Victim c.in_default.not-Refused c.await_verdict.ensures.verdict,
+        λ _. subst (λ (l : Notices). AreWoken (Lock c.args.txn c.args.node c.args.mode) l c.wake_ended.result) c.as_slice-told.ensures.value c.wake_ended.ensures,
       );
       count = (omega (arith, bound, kept));
     }
 
-pub ended_by-requires : goal.ended_by-requires
-ended_by-requires g c = subst (λ (l : List (TxnId × Notice)). RisingTo 0 l 128) (sym c.as_slice.ensures.value) c.serve_lock-answer.ensures.rising
+pub wake_ended-requires : goal.wake_ended-requires
+wake_ended-requires g c = subst (λ (l : Notices). RisingTo 0 l 128) (sym c.as_slice-told.ensures.value) c.serve_lock-answer.ensures.rising
