@@ -54,7 +54,7 @@ may_be_forgotten s n counted live rec idle =
     (first_none _ _ (ap (λ b. where_true (not b) no.BadParents) rec)
     (first_none _ [] (ap (λ b. where_true (not b) no.RecordInUse) idle) refl)))
 
-not_worn : (s : State) → s.accepted < max_count → worn s ≡ None
+pub not_worn : (s : State) → s.accepted < max_count → worn s ≡ None
 not_worn s less = ap (λ b. where_true b no.WornOut) (number_other s.accepted max_count (λ e. absurd (omega (arith, e, less))))
 
 pub keyed : (k : ℕ) (o : Option Node) → is_some (with_key k o) ≡ true → is_some o ≡ true
@@ -78,7 +78,7 @@ adopted_live : (g : Graph) (law : IsLawfulGraph g) (n f : NodeId) (keys : List �
 adopted_live g law n f keys g' born =
     ap (λ x. is_live x n) born.after ∙ marked_live (born_node g (new_node g law n f keys born.birth)) f n ∙ ap is_some (new_at g law n f keys born.birth)
 
-node_is : {a b : NodeId} → answer.Node a ≡ answer.Node b → a ≡ b
+pub node_is : {a b : NodeId} → answer.Node a ≡ answer.Node b → a ≡ b
 node_is e = cc
 
 -- the node that adopt answers: it is new, it stands, and nobody has locks on it

@@ -1,34 +1,46 @@
 -- Each call about rows is one step of its own command, records being adopted and forgotten before and behind. For Registry.apply.
-use Rattle.std.specs.Prelude.{◌≡◌, ℕ, true, List, [], ◌∷◌, Option, Some, None, Result, Ok, Err, OnErr, cond, map, unwrap_or}
+use Rattle.std.specs.Prelude.{◌≡◌, ◌≢◌, ℕ, Bool, true, false, List, [], ◌∷◌, Option, Some, None, Result, Ok, Err, cond, map, unwrap_or}
 use Rattle.std.specs.List.{list_all}
 use Rattle.std.specs.Map.{lookup}
 use Rattle.std.proofs.Common.{refl, sym, ap, subst, ◌∙◌, inl, inr}
-use Rattle.gl_modes.specs.declared.mode.Mode.{Mode}
+use mathlib.Core.Bool.{true≢false}
+use denote.Bor.{Bor}
 use Rattle.gl_modes.specs.declared.node.NodeId.{NodeId}
 use Rattle.gl_modes.specs.declared.refusal.Refusal.{Refusal}
 use Rattle.gl_model.specs.declared.answers.Locked.{Locked}
 use Rattle.gl_model.specs.declared.answers.Locked.TheVariants as locked
 use Rattle.gl_model.specs.declared.txn.TxnId.{TxnId}
+use Rattle.gl_model.specs.Lawful.{IsLawful}
 use Rattle.gl_model.specs.State.{State}
 use Rattle.gl_model.specs.Tellings.{Told}
+use Rattle.gl_catalog.specs.declared.command.Escalated.{Escalated}
 use Rattle.gl_catalog.specs.declared.command.Answer.{Answer}
 use Rattle.gl_catalog.specs.declared.command.Answer.TheVariants as answer
 use Rattle.gl_catalog.specs.declared.command.Command.{Command}
 use Rattle.gl_catalog.specs.declared.command.Command.TheVariants as command
-use Rattle.gl_catalog.specs.Replies.{Says, asking, doing, made, rising, said}
-use Rattle.gl_catalog.specs.Step.{Step, answer_of_lock}
-use Rattle.gl_registry.specs.Applying.{AppliesRow, Came, CarriesOut, StepsAmid, Upkeep, is_upkeep, naming, own_command}
-use Rattle.gl_registry.specs.Locking.{Adopts, AdoptsAfter, Keys, LetsGo, LetsGoOf, LocksNamed, LocksUnless, Names, Registers, Runs}
-use Rattle.gl_registry.specs.Locking.{Wish, forgets, refused}
-use Rattle.gl_registry.specs.Records.{DeletesRow, InsertsAfter, InsertsUnless, RekeysRow}
-use Rattle.gl_registry.specs.Releasing.{EndsTxn, GivesBack, LetsEachGo, UnlocksRow, named_or_none}
-use Rattle.gl_registry.specs.Rows.{RegistryView, same_row}
+use Rattle.gl_catalog.specs.Adopting.{AdoptsLocked}
+use Rattle.gl_catalog.specs.Deadlocks.{KeepsAccepted, KeptBy}
+use Rattle.gl_catalog.specs.Manager.{ManagerView, state_of}
+use Rattle.gl_catalog.specs.Replies.{doing, made, rising, said}
+use Rattle.gl_catalog.specs.Step.{answer_of_lock}
+use Rattle.gl_registry.specs.declared.answer.RowAnswer.{RowAnswer}
+use Rattle.gl_registry.specs.declared.answer.RowLocked.{RowLocked}
+use Rattle.gl_registry.specs.declared.answer.RowRefusal.{RowRefusal}
+use Rattle.gl_registry.specs.declared.answer.RowRefusal.TheVariants as row_no
 use Rattle.gl_registry.specs.declared.call.RowCall.{RowCall}
 use Rattle.gl_registry.specs.declared.call.RowCall.TheVariants as call
 use Rattle.gl_registry.specs.declared.row.Row.{Row}
+use Rattle.gl_registry.specs.Answers.{done_said, lock_said}
+use Rattle.gl_registry.specs.Applying.{AppliesRow, CarriesOut, StepsAmid, Upkeep, answer_in, is_upkeep, naming, own_command, plainly}
+use Rattle.gl_registry.specs.Files.{MakesFile}
+use Rattle.gl_registry.specs.Locking.{Does, LetsGo, LetsGoOf, LocksBy, LocksRow, Names, NamesNew, Registers, SameAccount, Wish, forgets}
+use Rattle.gl_registry.specs.Locking.{refuses as refuses_line}
+use Rattle.gl_registry.specs.Releasing.{EndsTxn, GivesBack, LetsEachGo, LetsGoAsked, RekeysBy, RekeysRow, UnlocksBy, UnlocksRow, named_or_none, no_node, node_for, node_or_no}
+use Rattle.gl_registry.specs.Rows.{RowsView, has_rows, name_of, same_row}
+use Rattle.gl_registry.proofs.Forgets.{forget_account}
 use Rattle.gl_registry.proofs.LettingGo.{same_row-refl}
-use Rattle.gl_registry.proofs.NamesMade.{refused_same}
-use Rattle.gl_registry.proofs.Upkeep.{upkeep_none, upkeep_one, upkeep_then}
+use Rattle.gl_registry.proofs.LockedAtOnce.{enters_new}
+use Rattle.gl_registry.proofs.Upkeep.{upkeep_none, upkeep_one}
 
 -- a row is let go
 one_goes : (s s' : State) (ns ns' : Names) (row : Row) (result : Result (Unit {0}) Refusal) → LetsGo s ns row result s' ns' → Upkeep s s'
@@ -38,7 +50,7 @@ one_goes s s' ns ns' row result h = by (lookup (same_row row) ns) result h
     by None result h = upkeep_none s s' h.1
     by (Some n) (Ok u) (inl run, names) = upkeep_one s s' (forgets n) refl run
     by (Some n) (Ok u) (inr dead, names) = upkeep_none s s' dead.1
-    by (Some n) (Err r) (run, names) = upkeep_one s s' (command.Forget n, refused r) refl run.0
+    by (Some n) (Err r) (run, names) = upkeep_one s s' (refuses_line (command.Forget n) r) refl run.0
 
 all_forget : (gone : List NodeId) → list_all (λ l. is_upkeep l.0) (map forgets gone) ≡ true
 all_forget [] = refl
@@ -48,178 +60,213 @@ all_forget (n ∷ gone) = all_forget gone
 each_goes : (s s' : State) (ns ns' : Names) (rows : List Row) → LetsEachGo s ns rows s' ns' → Upkeep s s'
 each_goes s s' ns ns' rows lets = record { lines = map forgets lets.forgotten.0; run = lets.forgotten.1; kept = all_forget lets.forgotten.0 }
 
--- one command between such
-amid : (s ahead behind s' : State) (c : Command) (b a : Answer) (list told : Told) → Upkeep s ahead → Runs ahead ((c, (b, list)) ∷ []) behind → a ≡ b
-    → told ≡ list
-    → Upkeep behind s' → StepsAmid s c a told s'
-amid s ahead behind s' c b a list told before run same told_same after = record {
-  ahead = ahead;
-  behind = behind;
-  before = before;
-  step = coe 0 1 (i. Step ahead c (sym same i) (sym told_same i) (sym run.2 i)) run.1;
+-- what a command keeps of deadlocks, by its answer
+kept_by : (c : Command) (m m' : ManagerView) (a : Answer) → ((r : Refusal) → a ≢ answer.Refused r) → KeepsAccepted c m m'
+    → KeptBy c (state_of m) m.table.deadlock a (state_of m') m'.table.deadlock
+kept_by c m m' answer.Done said keeps = keeps
+kept_by c m m' (answer.Node n) said keeps = keeps
+kept_by c m m' (answer.Begun t) said keeps = keeps
+kept_by c m m' (answer.Granted mode) said keeps = keeps
+kept_by c m m' answer.Waiting said keeps = keeps
+kept_by c m m' answer.Victim said keeps = keeps
+kept_by c m m' (answer.Escalated x) said keeps = keeps
+kept_by c m m' (answer.Mode mode) said keeps = keeps
+kept_by c m m' (answer.Effect e) said keeps = keeps
+kept_by c m m' (answer.Refused r) said keeps = absurd (said r refl)
+
+-- a command of the manager, behind which rows may be let go
+done_amid : (m mid m' : ManagerView) (c : Command) (a : Answer) (told : Told) → ((r : Refusal) → a ≢ answer.Refused r) → Does m c (a, told) mid
+    → Upkeep (state_of mid) (state_of m') → SameAccount mid m' → StepsAmid m c a told m'
+done_amid m mid m' c a told said does after account = record {
+  ahead = state_of m;
+  behind = state_of mid;
+  before = upkeep_none (state_of m) (state_of m) refl;
+  step = does.step;
   after = after;
+  counters = account.0 ∙ does.completes.counters;
+  deadlock = subst (λ d. KeptBy c (state_of m) m.table.deadlock a (state_of mid) d) (sym account.1) (kept_by c m mid a said does.completes.deadlock);
 }
 
--- a lock that is refused leaves the state
-lock_never : (r : Refusal) (x : Locked) → answer.Refused r ≡ answer_of_lock x → ⊥
-lock_never r (locked.Granted m) e = cc e
-lock_never r locked.Waiting e = cc e
-lock_never r locked.Victim e = cc e
+-- alone
+done_alone : (m m' : ManagerView) (c : Command) (a : Answer) (told : Told) → ((r : Refusal) → a ≢ answer.Refused r) → Does m c (a, told) m' → StepsAmid m c a told m'
+done_alone m m' c a told said does = done_amid m m' m' c a told said does (upkeep_none (state_of m') (state_of m') refl) (refl, refl)
+
+-- a lock's answer is no refusal
+lock_never : (x : Locked) (r : Refusal) → answer_of_lock x ≢ answer.Refused r
+lock_never (locked.Granted m) r e = cc e
+lock_never locked.Waiting r e = cc e
+lock_never locked.Victim r e = cc e
+
+-- A row's lock.
 
 -- a row that is registered is named so
-named_now : (v v' : RegistryView) (slot : ℕ) (row : Row) (n : NodeId) → Registers v v' slot row n → named_or_none v' row ≡ n
+named_now : (v v' : RowsView) (slot : ℕ) (row : Row) (n : NodeId) → Registers v v' slot row n → named_or_none v' row ≡ n
 named_now v v' slot row n reg =
-    ap (λ o. unwrap_or o (record { key = 0; birth = 0 })) (reg.names row ∙ ap (λ b. cond b (Some n) (lookup (same_row row) v.names)) (same_row-refl row))
+    ap (λ o. unwrap_or o no_node) (reg.names row ∙ ap (λ b. cond b (Some n) (lookup (same_row row) v.names)) (same_row-refl row))
 
--- a refusal
-module _ (s s' : State) (c : Command) (a : Answer) (told : Told) where
-  no_more : {A : Type 0} (says : A → Says) (result : Result A Refusal) (r : Refusal) → a ≡ (said says result).0 → told ≡ (said says result).1
-      → result ≡ Err r → Upkeep s s'
-      → CarriesOut s c a told s'
-  no_more says result r answered told_so is kept =
-      inr (r, answered ∙ ap (λ x. (said says x).0) is, told_so ∙ ap (λ x. (said says x).1) is, kept)
+-- a record that was adopted is locked at once
+module _ (m m' : ManagerView) (law : IsLawful (state_of m)) (w : Wish) (n : NodeId) (h : AdoptsLocked m w.txn w.row.file w.keys w.mode n m') where
+  adopted_amid : (last : ManagerView) → Upkeep (state_of m') (state_of last) → SameAccount m' last
+      → StepsAmid m (command.Lock w.txn n w.mode) (answer.Granted w.mode) [] last
+  adopted_amid last after account = record {
+    ahead = h.mid;
+    behind = state_of m';
+    before = upkeep_one (state_of m) h.mid (command.Adopt w.row.file w.keys, made n) refl (h.mid, h.adopts, refl);
+    step = h.locks;
+    after = after;
+    counters = account.0 ∙ h.counters;
+    deadlock = record { at_once = λ e. account.1 ∙ h.deadlock; waits = λ e. absurd (true≢false (sym (enters_new m m' law w n h) ∙ e)) };
+  }
 
--- a row's lock
-module _ (s : State) (v : RegistryView) (t : TxnId) (row : Row) (keys : Keys) (m : Mode) (a : Answer) (told : Told) (s' : State) (v' : RegistryView)
-    (result : Result Locked Refusal) (answered : a ≡ (said (asking told) result).0) (told_so : told ≡ (said (asking told) result).1) where
-  abbrev w : Wish
-  w = record { txn = t; row = row; keys = keys; mode = m }
-
+module _ (m : ManagerView) (v : RowsView) (w : Wish) (m' : ManagerView) (v' : RowsView) (law : IsLawful (state_of m)) where
   abbrev own : Command
-  own = command.Lock t (named_or_none v' row) m
+  own = command.Lock w.txn (named_or_none v' w.row) w.mode
+
+  abbrev Out : RowAnswer → Told → Type 0
+  Out a told = CarriesOut m own (answer_in a) told m'
 
   -- of the node by which the row is named behind it
-  locked_amid : (ahead : State) (n : NodeId) (x : Locked) (u : RegistryView) → result ≡ Ok x → Upkeep s ahead → Registers u v' t.slot row n
-      → Runs ahead ((command.Lock t n m, asking told x) ∷ []) s' → CarriesOut s own a told s'
-  locked_amid ahead n x u is before reg run =
-      inl (subst (λ k. StepsAmid s (command.Lock t k m) a told s') (sym (named_now u v' t.slot row n reg))
-      (amid s ahead s' s' (command.Lock t n m) (answer_of_lock x) a told told before run (answered ∙ ap (λ r. (said (asking told) r).0) is) refl
-      (upkeep_none s' s' refl)))
+  of_node : (n : NodeId) (x : Locked) (told : Told) → Registers v v' w.txn.slot w.row n → StepsAmid m (command.Lock w.txn n w.mode) (answer_of_lock x) told m'
+      → CarriesOut m own (Some (answer_of_lock x)) told m'
+  of_node n x told reg amid =
+      inl (subst (λ k. StepsAmid m (command.Lock w.txn k w.mode) (answer_of_lock x) told m') (sym (named_now v v' w.txn.slot w.row n reg)) amid)
 
-  not_locked : (r : Refusal) → result ≡ Err r → Upkeep s s' → CarriesOut s own a told s'
-  not_locked r is kept = no_more s s' own a told (asking told) result r answered told_so is kept
+  new_out : (x : RowLocked) (told : Told) → NamesNew v w x told v' → StepsAmid m (command.Lock w.txn x.node w.mode) (answer.Granted w.mode) [] m'
+      → CarriesOut m own (Some (answer_of_lock x.locked)) told m'
+  new_out x told new amid =
+      subst (λ (y : RowLocked). CarriesOut m own (Some (answer_of_lock y.locked)) told m') (sym new.answer_is)
+      (subst (λ (l : Told). CarriesOut m own (Some (answer.Granted w.mode)) l m') (sym new.nobody_told)
+      (of_node x.node (locked.Granted w.mode) [] new.registers amid))
 
-  lock_same : (x y : State) (n : NodeId) (r : Refusal) → Step x (command.Lock t n m) (answer.Refused r) [] y → y ≡ x
-  lock_same x y n r step = refused_same x (command.Lock t n m) r [] y refl step (λ next acc. lock_never r _ acc.1)
+  by_name : (o : Option NodeId) (result : Result RowLocked RowRefusal) (told : Told) → LocksBy o m v w result told m' v' → Out (lock_said result) told
+  by_name None (Ok x) told (inl (none, h)) = absurd (cc h.answer_is)
+  by_name None (Err (row_no.Refused r)) told (inl (none, h)) = absurd (cc h.answer_is)
+  by_name None (Err row_no.NotRows) told (inl (none, h)) = (h.nobody_told, h.same_manager)
+  by_name None (Ok x) told (inr (of_rows, h)) =
+      new_out x told h.1 (adopted_amid m m' law w x.node h.0 m' (upkeep_none (state_of m') (state_of m') refl) (refl, refl))
+  by_name None (Err (row_no.Refused r)) told (inr (of_rows, h)) = inr (refl, (h.nobody_told, h.same_manager))
+  by_name None (Err row_no.NotRows) told (inr (of_rows, h)) = absurd h
+  by_name (Some n) (Ok x) told (inl (fresh, h)) =
+      of_node n x.locked told h.3 (done_alone m m' (command.Lock w.txn n w.mode) (answer_of_lock x.locked) told (lock_never x.locked) h.0)
+  by_name (Some n) (Err (row_no.Refused r)) told (inl (fresh, h)) = inr (refl, (h.nobody_told, h.same_manager))
+  by_name (Some n) (Err row_no.NotRows) told (inl (fresh, h)) = absurd h
+  by_name (Some n) (Ok x) told (inr (stale, h)) =
+      new_out x told h.1
+      (adopted_amid m h.0.mid law w x.node h.0.adopts m'
+      (upkeep_one (state_of h.0.mid) (state_of m') (forgets n) refl (state_of m', h.0.forgets.step, refl))
+      (forget_account h.0.mid m' n h.0.forgets.completes))
+  by_name (Some n) (Err (row_no.Refused r)) told (inr (stale, h)) = inr (refl, (h.nobody_told, h.same_manager))
+  by_name (Some n) (Err row_no.NotRows) told (inr (stale, h)) = absurd h
 
-  adopted : (mid : State) (u : RegistryView) → Upkeep s mid → (y : Result Locked Refusal) → result ≡ y → Adopts mid u w y told s' v'
-      → CarriesOut s own a told s'
-  adopted mid u before (Ok x) is (n, run, reg) =
-      locked_amid run.0 n x u is
-      (upkeep_then s mid run.0 before (upkeep_one mid run.0 (command.Adopt row.file keys, made n) refl (run.0, run.1, refl))) reg run.2
-  adopted mid u before (Err r) is (inl run, same) =
-      not_locked r is (upkeep_then s mid s' before (upkeep_one mid s' (command.Adopt row.file keys, refused r) refl run))
-  adopted mid u before (Err r) is (inr (n, run), same) =
-      let unlocked : run.2.0 ≡ run.0 = lock_same run.0 run.2.0 n r run.2.1 in
-      let first = upkeep_one mid run.0 (command.Adopt row.file keys, made n) refl (run.0, run.1, refl) in
-      let last : Upkeep run.0 s' = subst (λ (x : State). Upkeep x s') unlocked (upkeep_one run.2.0 s' (forgets n) refl run.2.2) in
-      not_locked r is (upkeep_then s mid s' before (upkeep_then mid run.0 s' first last))
+  lock_carried : (result : Result RowLocked RowRefusal) (told : Told) → LocksRow m v w result told m' v' → Out (lock_said result) told
+  lock_carried (Ok x) told (inl h) = absurd (cc h.answer_is)
+  lock_carried (Err (row_no.Refused r)) told (inl h) = inr (refl, (h.nobody_told, h.same_manager))
+  lock_carried (Err row_no.NotRows) told (inl h) = absurd (cc h.answer_is)
+  lock_carried result told (inr h) = by_name (name_of v w.row) result told h
 
-  adopted_after : (g : Result (Unit {0}) Refusal) (mid : State) (u : RegistryView) → Upkeep s mid → AdoptsAfter g mid u w result told s' v'
-      → CarriesOut s own a told s'
-  adopted_after (Ok x) mid u before h = adopted mid u before result refl h
-  adopted_after (Err r) mid u before h = not_locked r h.0 (upkeep_then s mid s' before (upkeep_none mid s' h.1))
+-- A row's release, and another key for it.
 
-  of_named : (n : NodeId) (y : Result Locked Refusal) → result ≡ y → LocksNamed n s v w y told s' v' → CarriesOut s own a told s'
-  of_named n (Ok x) is (run, reg) = locked_amid s n x v is (upkeep_none s s refl) reg run
-  of_named n (Err r) is (run, same) = not_locked r is (upkeep_none s s' (run.2 ∙ lock_same s run.0 n r run.1))
+-- one node
+abbrev node_ok : NodeId → Result NodeId RowRefusal
+node_ok n = Ok n
 
-  lock_carried : (o : Option Refusal) → LocksUnless o s v w result told s' v' → CarriesOut s own a told s'
-  lock_carried (Some r) h = not_locked r h.answer_is (upkeep_none s s' h.same_state)
-  lock_carried None (inl h) = not_locked _ h.answer_is (upkeep_none s s' h.same_state)
-  lock_carried None (inr (inl (n, is, h))) = of_named n result refl h
-  lock_carried None (inr (inr (none, h))) = adopted_after h.let_go h.mid h.unnamed (one_goes s h.mid v.names h.unnamed.names row h.let_go h.goes) h.adopted
+ok_is : {x y : NodeId} → node_ok x ≡ node_ok y → x ≡ y
+ok_is e = cc
 
--- a row's insert
-module _ (s : State) (v : RegistryView) (t : TxnId) (row : Row) (keys : Keys) (a : Answer) (told : Told) (s' : State) (v' : RegistryView) where
-  abbrev insert : Command
-  insert = command.Insert t row.file keys
+ok_never : {x : NodeId} {r : RowRefusal} → Err r ≡ node_ok x → ⊥
+ok_never e = cc
 
-  inserted : (g : Result (Unit {0}) Refusal) (mid : State) (u : RegistryView) (result : Result NodeId Refusal) → a ≡ (said made result).0
-      → told ≡ (said made result).1
-      → Upkeep s mid → InsertsAfter g mid u t row keys result s' v' → CarriesOut s insert a told s'
-  inserted (Ok x) mid u (Ok n) answered told_so before (run, reg) = inl
-      (amid s mid s' s' insert _ a _ told before run answered told_so (upkeep_none s' s' refl))
-  inserted (Ok x) mid u (Err r) answered told_so before (run, same) = inl
-      (amid s mid s' s' insert _ a _ told before run answered told_so (upkeep_none s' s' refl))
-  inserted (Err r) mid u result answered told_so before h =
-      no_more s s' insert a told made result r answered told_so h.0 (upkeep_then s mid s' before (upkeep_none mid s' h.1))
+done_never : (r : Refusal) → answer.Done ≢ answer.Refused r
+done_never r e = cc e
 
-  insert_carried : (result : Result NodeId Refusal) → a ≡ (said made result).0 → told ≡ (said made result).1 → (o : Option Refusal)
-      → InsertsUnless o s v t row keys result s' v' → CarriesOut s insert a told s'
-  insert_carried result answered told_so (Some r) h = no_more s s' insert a told made result r answered told_so h.answer_is (upkeep_none s s' h.same_state)
-  insert_carried result answered told_so None (inl h) = no_more s s' insert a told made result _ answered told_so h.answer_is (upkeep_none s s' h.same_state)
-  insert_carried result answered told_so None (inr h) =
-      inserted h.let_go h.mid h.unnamed result answered told_so (one_goes s h.mid v.names h.unnamed.names row h.let_go h.goes) h.inserted
+-- the node that a call is of is that of its own command
+same_node_for : (v : RowsView) (row : Row) (n : NodeId) → node_for v row ≡ Ok n → named_or_none v row ≡ n
+same_node_for v row n e = by (name_of v row) (has_rows v row.file) e
+  where
+    by : (o : Option NodeId) (b : Bool) → node_or_no o b ≡ Ok n → unwrap_or o no_node ≡ n
+    by (Some k) b e = ok_is e
+    by None true e = ok_is e
+    by None false e = absurd (ok_never e)
 
--- a command behind which rows may be let go
-module _ (s : State) (a : Answer) (told : Told) (s' : State) (c : Command) where
-  alone : (b : Answer) (list : Told) (behind : State) → Runs s ((c, (b, list)) ∷ []) behind → a ≡ b → told ≡ list → Upkeep behind s' → CarriesOut s c a told s'
-  alone b list behind run same told_same after = inl (amid s s behind s' c b a list told (upkeep_none s s refl) run same told_same after)
+module _ (m : ManagerView) (v : RowsView) (m' : ManagerView) (v' : RowsView) (t : TxnId) (row : Row) (told : Told) where
+  unlock_carried : (result : Result (Unit {0}) RowRefusal) → UnlocksRow m v t row result told m' v'
+      → CarriesOut m (command.Unlock t (named_or_none v row)) (answer_in (done_said result)) told m'
+  unlock_carried result h = by (node_for v row) refl result h
+    where
+      by : (o : Result NodeId RowRefusal) → node_for v row ≡ o → (result : Result (Unit {0}) RowRefusal) → UnlocksBy o m v t row result told m' v'
+          → CarriesOut m (command.Unlock t (named_or_none v row)) (answer_in (done_said result)) told m'
+      by (Err r) e (Ok u) h = absurd (cc h.answer_is)
+      by (Err r) e (Err (row_no.Refused q)) h = inr (refl, (h.nobody_told, h.same_manager))
+      by (Err r) e (Err row_no.NotRows) h = (h.nobody_told, h.same_manager)
+      by (Ok n) e (Ok u) h =
+          subst (λ k. CarriesOut m (command.Unlock t k) (Some answer.Done) told m') (sym (same_node_for v row n e))
+          (inl (done_amid m h.mid m' (command.Unlock t n) answer.Done told done_never h.unlocks
+          (one_goes (state_of h.mid) (state_of m') v.names v'.names row h.gone h.goes) h.account))
+      by (Ok n) e (Err (row_no.Refused r)) h = inr (refl, (h.nobody_told, h.same_manager))
+      by (Ok n) e (Err row_no.NotRows) h = absurd h
 
-  -- the end of a transaction
-  end_carried : (v v' : RegistryView) (slot : ℕ) (result : Result (Unit {0}) Refusal) → a ≡ (said (doing told) result).0 → told ≡ (said (doing told) result).1
-      → EndsTxn c s v slot result told s' v' → CarriesOut s c a told s'
-  end_carried v v' slot (Ok u) answered told_so h = alone _ _ h.0 h.1 answered told_so (each_goes h.0 s' v.names v'.names _ h.2)
-  end_carried v v' slot (Err r) answered told_so h = alone _ _ s' h.0 answered told_so (upkeep_none s' s' refl)
+  rekey_carried : (index : NodeId) (key : ℕ) (result : Result (Unit {0}) RowRefusal) → RekeysRow m v t row index key result told m' v'
+      → CarriesOut m (command.Rekey t (named_or_none v row) index key) (answer_in (done_said result)) told m'
+  rekey_carried index key result h = by (node_for v row) refl result h
+    where
+      by : (o : Result NodeId RowRefusal) → node_for v row ≡ o → (result : Result (Unit {0}) RowRefusal) → RekeysBy o m v t index key result told m' v'
+          → CarriesOut m (command.Rekey t (named_or_none v row) index key) (answer_in (done_said result)) told m'
+      by (Err r) e (Ok u) h = absurd (cc h.answer_is)
+      by (Err r) e (Err (row_no.Refused q)) h = inr (refl, (h.nobody_told, h.same_manager))
+      by (Err r) e (Err row_no.NotRows) h = (h.nobody_told, h.same_manager)
+      by (Ok n) e (Ok u) h =
+          subst (λ k. CarriesOut m (command.Rekey t k index key) (Some answer.Done) told m') (sym (same_node_for v row n e))
+          (inl (done_alone m m' (command.Rekey t n index key) answer.Done told done_never h.0))
+      by (Ok n) e (Err (row_no.Refused r)) h = inr (refl, (h.nobody_told, h.same_manager))
+      by (Ok n) e (Err row_no.NotRows) h = absurd h
 
-  -- what gives locks back
-  giving_carried : {A : Type 0} (says : A → Says) (v v' : RegistryView) (slot : ℕ) (result : Result A Refusal) → a ≡ (said says result).0
-      → told ≡ (said says result).1
-      → GivesBack says c s v slot result s' v' → CarriesOut s c a told s'
-  giving_carried says v v' slot (Ok x) answered told_so h = alone _ _ h.0 h.1 answered told_so (each_goes h.0 s' v.names v'.names _ h.2)
-  giving_carried says v v' slot (Err r) answered told_so h = alone _ _ s' h.0 answered told_so (upkeep_none s' s' refl)
+-- What ends a transaction or gives locks back.
 
-  -- what lets no row go
-  plain_carried : (result : Result (Unit {0}) Refusal) → a ≡ (said (doing told) result).0 → told ≡ (said (doing told) result).1
-      → Runs s ((c, said (doing told) result) ∷ []) s' → CarriesOut s c a told s'
-  plain_carried result answered told_so run = alone _ _ s' run answered told_so (upkeep_none s' s' refl)
+module _ (m : ManagerView) (v : RowsView) (m' : ManagerView) (v' : RowsView) (slot : ℕ) (told : Told) where
+  asked_amid : (mid : ManagerView) (c : Command) (a : Answer) (list : Told) → ((r : Refusal) → a ≢ answer.Refused r) → Does m c (a, list) mid → LetsGoAsked mid v slot m' v'
+      → StepsAmid m c a list m'
+  asked_amid mid c a list said does h =
+      done_amid m mid m' c a list said does (each_goes (state_of mid) (state_of m') v.names v'.names _ h.goes) h.account
 
-deletes_run : (s : State) (v : RegistryView) (t : TxnId) (row : Row) (result : Result (Unit {0}) Refusal) (told : Told) (s' : State) (v' : RegistryView)
-    → DeletesRow s v t row result told s' v' → Runs s ((command.Delete t (named_or_none v row), said (doing told) result) ∷ []) s'
-deletes_run s v t row (Ok u) told s' v' h = h.0
-deletes_run s v t row (Err r) told s' v' h = h.0
+  end_carried : (c : Command) (result : Result (Unit {0}) Refusal) → EndsTxn c m v slot result told m' v'
+      → CarriesOut m c (answer_in (plainly (doing []) result)) told m'
+  end_carried c (Ok u) h = inl (asked_amid h.0 c answer.Done told done_never h.1 h.2)
+  end_carried c (Err r) h = inr (refl, (h.nobody_told, h.same_manager))
 
-rekeys_run : (s : State) (v : RegistryView) (t : TxnId) (row : Row) (index : NodeId) (key : ℕ) (result : Result (Unit {0}) Refusal) (told : Told)
-    (s' : State) (v' : RegistryView)
-    → RekeysRow s v t row index key result told s' v' → Runs s ((command.Rekey t (named_or_none v row) index key, said (doing told) result) ∷ []) s'
-rekeys_run s v t row index key (Ok u) told s' v' h = h.0
-rekeys_run s v t row index key (Err r) told s' v' h = h.0
+  cancel_carried : (c : Command) (result : Result (Unit {0}) Refusal) → GivesBack (doing told) c m v slot result told m' v'
+      → CarriesOut m c (answer_in (plainly (doing []) result)) told m'
+  cancel_carried c (Ok u) h = inl (asked_amid h.0 c answer.Done told done_never h.1 h.2)
+  cancel_carried c (Err r) h = inr (refl, (h.nobody_told, h.same_manager))
 
-unlock_carried : (s : State) (v : RegistryView) (t : TxnId) (row : Row) (a : Answer) (told : Told) (s' : State) (v' : RegistryView)
-    (result : Result (Unit {0}) Refusal)
-    → a ≡ (said (doing told) result).0 → told ≡ (said (doing told) result).1 → UnlocksRow s v t row result told s' v'
-    → CarriesOut s (command.Unlock t (named_or_none v row)) a told s'
-unlock_carried s v t row a told s' v' (Ok u) answered told_so h =
-    alone s a told s' (command.Unlock t (named_or_none v row)) _ _ h.0 h.2 answered told_so (one_goes h.0 s' v.names v'.names row h.1 h.3)
-unlock_carried s v t row a told s' v' (Err r) answered told_so h =
-    alone s a told s' (command.Unlock t (named_or_none v row)) _ _ s' h.0 answered told_so (upkeep_none s' s' refl)
+  escalate_carried : (c : Command) (result : Result Escalated Refusal) → GivesBack (rising told) c m v slot result told m' v'
+      → CarriesOut m c (answer_in (plainly (rising []) result)) told m'
+  escalate_carried c (Ok x) h = inl (asked_amid h.0 c (answer.Escalated x) told (λ r e. cc e) h.1 h.2)
+  escalate_carried c (Err r) h = inr (refl, (h.nobody_told, h.same_manager))
 
-pub carried_out : (s : State) (v : RegistryView) (c : RowCall) (a : Answer) (told : Told) (s' : State) (v' : RegistryView) → AppliesRow s v c a told s' v'
-    → CarriesOut s (own_command (naming c v v') c) a told s'
-carried_out s v (call.Lock t row keys m) a told s' v' h = lock_carried s v t row keys m a told s' v' h.result h.answered h.told_so _ h.was_done
-carried_out s v (call.Unlock t row) a told s' v' h = unlock_carried s v t row a told s' v' h.result h.answered h.told_so h.was_done
-carried_out s v (call.Insert t row keys) a told s' v' h = insert_carried s v t row keys a told s' v' h.result h.answered h.told_so _ h.was_done
-carried_out s v (call.Delete t row) a told s' v' h =
-    plain_carried s a told s' (command.Delete t (named_or_none v row)) h.result h.answered h.told_so (deletes_run s v t row h.result told s' v' h.was_done)
-carried_out s v (call.Rekey t row index key) a told s' v' h =
-    plain_carried s a told s' (command.Rekey t (named_or_none v row) index key) h.result h.answered h.told_so
-    (rekeys_run s v t row index key h.result told s' v' h.was_done)
-carried_out s v (call.Commit t) a told s' v' h = end_carried s a told s' (command.Commit t) v v' t.slot h.result h.answered h.told_so h.was_done
-carried_out s v (call.Abort t) a told s' v' h = end_carried s a told s' (command.Abort t) v v' t.slot h.result h.answered h.told_so h.was_done
-carried_out s v (call.Cancel t) a told s' v' h = giving_carried s a told s' (command.Cancel t) (doing told) v v' t.slot h.result h.answered h.told_so h.was_done
-carried_out s v (call.Escalate t n) a told s' v' h = giving_carried s a told s' (command.Escalate t n)
-    (rising told) v v' t.slot h.result h.answered h.told_so h.was_done
+file_carried : (m : ManagerView) (v : RowsView) (m' : ManagerView) (v' : RowsView) (ps : Bor (List NodeId)) (told : Told) (result : Result NodeId Refusal)
+    → MakesFile m v ps result m' v' → told ≡ [] → CarriesOut m (command.File ps) (answer_in (plainly made result)) told m'
+file_carried m v m' v' ps told (Ok f) h none =
+    subst (λ (l : Told). CarriesOut m (command.File ps) (Some (answer.Node f)) l m') (sym none)
+    (inl (done_alone m m' (command.File ps) (answer.Node f) [] (λ r e. cc e) h.0))
+file_carried m v m' v' ps told (Err r) (inl h) none = inr (refl, (none, h.same_manager))
+file_carried m v m' v' ps told (Err r) (inr h) none = inr (refl, (none, h.same_manager))
 
--- what a call came to is answered, and told
-pub filled : {A : Type 0} (answers : A → Answer) (result : Result A Refusal) (a : Answer) (told : Told) (done : Result A Refusal → Type 0)
-    → a ≡ (said (λ x. (answers x, [])) result).0 → OnErr result (told ≡ []) → done result → Came (λ x. (answers x, told)) done a told
-filled answers (Ok x) a told done answered quiet was = record { result = Ok x; answered = answered; told_so = refl; was_done = was }
-filled answers (Err r) a told done answered quiet was = record { result = Err r; answered = answered; told_so = quiet; was_done = was }
+pub carried_out : (m : ManagerView) (v : RowsView) (c : RowCall) (a : RowAnswer) (told : Told) (m' : ManagerView) (v' : RowsView) → IsLawful (state_of m)
+    → AppliesRow m v c a told m' v' → CarriesOut m (own_command (naming c v v') c) (answer_in a) told m'
+carried_out m v c a told m' v' law h = by c h
+  where
+    said_as : {x : RowAnswer} (own : Command) → a ≡ x → CarriesOut m own (answer_in x) told m' → CarriesOut m own (answer_in a) told m'
+    said_as own e out = subst (λ (y : RowAnswer). CarriesOut m own (answer_in y) told m') (sym e) out
 
--- and of an insert, which tells nobody
-pub told_none : (result : Result NodeId Refusal) (a : Answer) (told : Told) (done : Result NodeId Refusal → Type 0) → a ≡ (said made result).0 → told ≡ []
-    → done result
-    → Came made done a told
-told_none (Ok n) a told done answered none was = record { result = Ok n; answered = answered; told_so = none; was_done = was }
-told_none (Err r) a told done answered none was = record { result = Err r; answered = answered; told_so = none; was_done = was }
+    by : (c : RowCall) → AppliesRow m v c a told m' v' → CarriesOut m (own_command (naming c v v') c) (answer_in a) told m'
+    by (call.File ps) h = said_as (command.File ps) h.answered (file_carried m v m' v' ps told h.result h.was_done.0 h.was_done.1)
+    by (call.Lock t row keys mode) h =
+        let w : Wish = record { txn = t; row = row; keys = keys; mode = mode } in
+        said_as (command.Lock t (named_or_none v' row) mode) h.answered (lock_carried m v w m' v' law h.result told h.was_done)
+    by (call.Unlock t row) h = said_as (command.Unlock t (named_or_none v row)) h.answered (unlock_carried m v m' v' t row told h.result h.was_done)
+    by (call.Rekey t row index key) h =
+        said_as (command.Rekey t (named_or_none v row) index key) h.answered (rekey_carried m v m' v' t row told index key h.result h.was_done)
+    by (call.Commit t) h = said_as (command.Commit t) h.answered (end_carried m v m' v' t.slot told (command.Commit t) h.result h.was_done)
+    by (call.Abort t) h = said_as (command.Abort t) h.answered (end_carried m v m' v' t.slot told (command.Abort t) h.result h.was_done)
+    by (call.Cancel t) h = said_as (command.Cancel t) h.answered (cancel_carried m v m' v' t.slot told (command.Cancel t) h.result h.was_done)
+    by (call.Escalate t n) h = said_as (command.Escalate t n) h.answered (escalate_carried m v m' v' t.slot told (command.Escalate t n) h.result h.was_done)

@@ -26,13 +26,13 @@ module _ (s s' : State) (law : IsLawful s) (law' : IsLawful s') (kept : KeepsInd
   live_after : OfEach parents (λ p. is_live s'.graph p ≡ true)
   live_after = subst (λ ps. OfEach ps (λ p. is_live s'.graph p ≡ true)) parents_same (row_parents_live s'.graph law'.graph f keys rows.1)
 
-  row_same : (t : ℕ) → ((p : NodeId) → is_live s.graph p ≡ true → is_live s'.graph p ≡ true → effective s' t p ≡ effective s t p)
+  pub row_same : (t : ℕ) → ((p : NodeId) → is_live s.graph p ≡ true → is_live s'.graph p ≡ true → effective s' t p ≡ effective s t p)
       → row_effect s' t f keys ≡ row_effect s t f keys
   row_same t same =
       ap (effect_under (effective s' t)) parents_same
       ∙ under_same (effective s' t) (effective s t) parents (λ p on. same p (live_before p on) (live_after p on))
 
-  row_more : (t : ℕ)
+  pub row_more : (t : ℕ)
       → ((p : NodeId) → is_live s.graph p ≡ true → is_live s'.graph p ≡ true → is_at_least_effect (effective s' t p) (effective s t p) ≡ true)
       → is_at_least_effect (row_effect s' t f keys) (row_effect s t f keys) ≡ true
   row_more t more =

@@ -1,14 +1,16 @@
 -- what the calls of a registry do
 mod Adopted
+mod CallsKeep
 mod LettingGo
+mod LockedAtOnce
 mod NameChanges
-mod NamesChanged
 mod NamesKept
 mod NamesMade
-mod RowInserts
 mod RowLocks
 mod RowNames
 mod SlotSets
+mod Touched
+mod Forgets
 -- what they are to those who wait: their own commands, among records that come and go
 pub mod Upkeep
 mod CarriedOut
@@ -19,3 +21,8 @@ pub mod RunsKeepIndexes
 pub mod RowEffects
 pub mod StandingRows
 pub mod KeptRows
+pub mod NodeRows
+-- what others leave of them, whatever a registry serves
+mod NamesStay
+mod KeptOnRows
+mod Served

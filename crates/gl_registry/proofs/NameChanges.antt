@@ -1,15 +1,16 @@
--- How names and the records of a graph change under the calls: they become fewer, or one more. What is said of names is kept by both.
--- For NamesKept, NamesMade and NamesChanged, which show that each call is a row of such changes.
-use Rattle.std.specs.Prelude.{◌≡◌, ◌⊎◌, ℕ, true, false, Option, Some, None, cond, is_some}
-use Rattle.std.specs.Map.{lookup}
+-- How names and the records of a graph change under the calls: they become fewer, or one more, or those of files of rows stay. The law of names
+-- is kept by each. For NamesKept, NamesMade and Touched, which show that each call is a row of such changes.
+use Rattle.std.specs.Prelude.{◌≡◌, ◌⊎◌, Bool, true, false, List, Option, Some, None, cond, is_some}
+use Rattle.std.specs.List.{list_any}
 use Rattle.std.proofs.Common.{refl, sym, ap, subst, ◌∙◌, ⊎_elim}
 use Rattle.gl_modes.proofs.Words.{clash, no as never, none_some, some_is, split}
+use Rattle.gl_modes.specs.Nodes.{same_node}
 use Rattle.gl_modes.specs.declared.node.NodeId.{NodeId}
 use Rattle.gl_graph.specs.Graph.{Graph, Node, first_parent, is_live, node_at, shape_in, shape_of}
 use Rattle.gl_graph.specs.Shapes.{is_record_shape}
-use Rattle.gl_registry.specs.Locking.{Names, Renames}
-use Rattle.gl_registry.specs.Names.{NameAllOf, NameWell, NoneIsLeftOut, NoneIsNamedWell}
-use Rattle.gl_registry.specs.Rows.{same_row}
+use Rattle.gl_catalog.proofs.KeptKinds.{KeepsKinds}
+use Rattle.gl_registry.specs.Names.{NameWell, NamesHold, NamesHoldIn, Naming}
+use Rattle.gl_registry.specs.Rows.{RowsView, has_rows, name_of, same_row}
 use Rattle.gl_registry.specs.declared.row.Row.{Row}
 use Rattle.gl_registry.proofs.LettingGo.{same_row-equal, same_row-refl}
 
@@ -20,6 +21,10 @@ shape_live (Some x) h = refl
 pub record_live : (g : Graph) (r : NodeId) → is_record_shape (shape_of g r) ≡ true → is_live g r ≡ true
 record_live g r h = shape_live (node_at g r) h
 
+-- the row has this name, or none, and all other rows have theirs
+abbrev pub RenamesTo : Naming → Naming → Row → Option NodeId → Type 0
+RenamesTo name name' row o = (q : Row) → name' q ≡ cond (same_row row q) o (name q)
+
 -- the node is a record in both graphs, of one file
 pub record IsStill (g g' : Graph) (r : NodeId) : Type 0 where
   pub was : is_record_shape (shape_of g r) ≡ true
@@ -27,10 +32,10 @@ pub record IsStill (g g' : Graph) (r : NodeId) : Type 0 where
   pub file : first_parent g' r ≡ first_parent g r
 
 -- no record came; a name that is left is of a record that is left; and a record that is left keeps its name
-pub record Fewer (ns ns' : Names) (g g' : Graph) : Type 0 where
+pub record Fewer (name name' : Naming) (g g' : Graph) : Type 0 where
   pub records : (r : NodeId) → is_record_shape (shape_of g' r) ≡ true → IsStill g g' r
-  pub names : (q : Row) (r : NodeId) → lookup (same_row q) ns' ≡ Some r → (lookup (same_row q) ns ≡ Some r) × (is_record_shape (shape_of g' r) ≡ true)
-  pub left : (q : Row) (r : NodeId) → lookup (same_row q) ns ≡ Some r → is_record_shape (shape_of g' r) ≡ true → lookup (same_row q) ns' ≡ Some r
+  pub names : (q : Row) (r : NodeId) → name' q ≡ Some r → (name q ≡ Some r) × (is_record_shape (shape_of g' r) ≡ true)
+  pub left : (q : Row) (r : NodeId) → name q ≡ Some r → is_record_shape (shape_of g' r) ≡ true → name' q ≡ Some r
 
 -- the nodes that stand go on to, as records of their files
 abbrev pub StandOn : Graph → Graph → Type 0
@@ -39,34 +44,51 @@ StandOn g g' = (k : NodeId) → is_live g k ≡ true → (is_record_shape (shape
 -- one record came, of this file
 pub record Comes (g g' : Graph) (n f : NodeId) : Type 0 where
   pub on : StandOn g g'
+  pub live : (k : NodeId) → is_live g k ≡ true → is_live g' k ≡ true
   pub new : is_live g n ≡ false
   pub rec : is_record_shape (shape_of g' n) ≡ true
   pub file : first_parent g' n ≡ f
   pub alone : (k : NodeId) → is_record_shape (shape_of g' k) ≡ true → (k ≡ n) ⊎ (is_live g k ≡ true)
 
--- what is said of names is kept where names become fewer, and where a row without a name gets a new record's
-pub record IsKept (Holds : Names → Graph → Type 0) : Type 0 where
-  pub well : (ns : Names) (g : Graph) → Holds ns g → NameWell ns g
-  pub fewer : (ns ns' : Names) (g g' : Graph) → Fewer ns ns' g g' → Holds ns g → Holds ns' g'
-  pub more : (ns ns' : Names) (g g' : Graph) (row : Row) (n : NodeId) → Comes g g' n row.file → lookup (same_row row) ns ≡ None → Renames ns ns' row (Some n)
-      → Holds ns g → Holds ns' g'
+-- records of these files stay, and none of them came
+pub record SameRecords (has : NodeId → Bool) (g g' : Graph) : Type 0 where
+  pub on : (r : NodeId) → is_record_shape (shape_of g r) ≡ true → has (first_parent g r) ≡ true
+      → (is_record_shape (shape_of g' r) ≡ true) × (first_parent g' r ≡ first_parent g r)
+  pub back : (r : NodeId) → is_record_shape (shape_of g' r) ≡ true → has (first_parent g' r) ≡ true
+      → (is_record_shape (shape_of g r) ≡ true) × (first_parent g' r ≡ first_parent g r)
 
--- That names are well is kept.
+-- a node that lives before and after names the same row, if any
+pub record KeepsNames (name name' : Naming) (g g' : Graph) : Type 0 where
+  pub on : (q : Row) (n : NodeId) → name q ≡ Some n → is_live g' n ≡ true → name' q ≡ Some n
+  pub back : (q : Row) (n : NodeId) → name' q ≡ Some n → is_live g n ≡ true → name q ≡ Some n
 
-fewer_well : (ns ns' : Names) (g g' : Graph) → Fewer ns ns' g g' → NameWell ns g → NameWell ns' g'
-fewer_well ns ns' g g' fewer well = record {
+-- Names become fewer.
+
+pub fewer_well : (name name' : Naming) (g g' : Graph) → Fewer name name' g g' → NameWell name g → NameWell name' g'
+fewer_well name name' g g' fewer well = record {
   stands = λ row n e. let was = fewer.names row n e in (was.1, (fewer.records n was.1).file ∙ (well.stands row n was.0).1);
   apart = λ p q n a b. well.apart p q n (fewer.names p n a).0 (fewer.names q n b).0;
 }
 
-module _ (ns ns' : Names) (g g' : Graph) (row : Row) (n : NodeId) (comes : Comes g g' n row.file) (renames : Renames ns ns' row (Some n)) where
-  own : (q : Row) → same_row row q ≡ true → {k : NodeId} → lookup (same_row q) ns' ≡ Some k → Some n ≡ Some k
-  own q same e = sym (renames q ∙ ap (λ b. cond b (Some n) (lookup (same_row q) ns)) same) ∙ e
+pub fewer_holds : (has : NodeId → Bool) (name name' : Naming) (g g' : Graph) → Fewer name name' g g' → NamesHoldIn has name g → NamesHoldIn has name' g'
+fewer_holds has name name' g g' fewer is = record {
+  well = fewer_well name name' g g' fewer is.well;
+  within = λ row n e. is.within row n (fewer.names row n e).0;
+  all = λ r rec file.
+      let was = fewer.records r rec in
+      let named = is.all r was.was (ap has (sym was.file) ∙ file) in (named.0, fewer.left named.0 r named.1 rec);
+}
 
-  other : (q : Row) → same_row row q ≡ false → lookup (same_row q) ns' ≡ lookup (same_row q) ns
-  other q apart = renames q ∙ ap (λ b. cond b (Some n) (lookup (same_row q) ns)) apart
+-- A row without a name gets a new record's.
 
-  more_well : NameWell ns g → NameWell ns' g'
+module _ (name name' : Naming) (g g' : Graph) (row : Row) (n : NodeId) (comes : Comes g g' n row.file) (renames : RenamesTo name name' row (Some n)) where
+  own : (q : Row) → same_row row q ≡ true → {k : NodeId} → name' q ≡ Some k → Some n ≡ Some k
+  own q same e = sym (renames q ∙ ap (λ b. cond b (Some n) (name q)) same) ∙ e
+
+  other : (q : Row) → same_row row q ≡ false → name' q ≡ name q
+  other q apart = renames q ∙ ap (λ b. cond b (Some n) (name q)) apart
+
+  more_well : NameWell name g → NameWell name' g'
   more_well well = record {
     stands = λ q k e.
         split (same_row row q)
@@ -86,59 +108,98 @@ module _ (ns ns' : Names) (g g' : Graph) (row : Row) (n : NodeId) (comes : Comes
         (λ there. well.apart p q k (sym (other p here) ∙ a) (sym (other q there) ∙ b)));
   }
     where
-      lives : (q : Row) (k : NodeId) → same_row row q ≡ false → lookup (same_row q) ns' ≡ Some k → n ≡ k → ⊥
+      lives : (q : Row) (k : NodeId) → same_row row q ≡ false → name' q ≡ Some k → n ≡ k → ⊥
       lives q k apart e is = clash (record_live g k (well.stands q k (sym (other q apart) ∙ e)).0) (ap (is_live g) (sym is) ∙ comes.new)
 
-  -- That each record of a file names a row of it is kept.
-
-  more_all : (f : NodeId) → lookup (same_row row) ns ≡ None → NameAllOf f ns g → NameAllOf f ns' g'
-  more_all f unnamed is = record {
+  pub more_holds : (has : NodeId → Bool) → has row.file ≡ true → name row ≡ None → NamesHoldIn has name g → NamesHoldIn has name' g'
+  more_holds has of_rows unnamed is = record {
     well = more_well is.well;
-    all = λ r rec file. ⊎_elim (new r file) (old r rec file) (comes.alone r rec);
+    within = λ q k e. split (same_row row q)
+        (λ same. ap (λ (x : Row). has x.file) (sym (same_row-equal row q same)) ∙ of_rows)
+        (λ apart. is.within q k (sym (other q apart) ∙ e));
+    all = λ r rec file. ⊎_elim (new r) (old r rec file) (comes.alone r rec);
   }
     where
       Named : NodeId → Type 0
-      Named r = (number : ℕ) × (lookup (same_row (record { file = f; number = number })) ns' ≡ Some r)
+      Named r = (q : Row) × (name' q ≡ Some r)
 
-      new : (r : NodeId) → first_parent g' r ≡ f → r ≡ n → Named r
-      new r file same =
-          let its : row.file ≡ f = sym comes.file ∙ ap (first_parent g') (sym same) ∙ file in
-          let here : lookup (same_row row) ns' ≡ Some r =
-          renames row ∙ ap (λ b. cond b (Some n) (lookup (same_row row) ns)) (same_row-refl row) ∙ ap Some (sym same) in
-          (row.number, subst (λ (x : NodeId). lookup (same_row (record { file = x; number = row.number })) ns' ≡ Some r) its here)
+      new : (r : NodeId) → r ≡ n → Named r
+      new r same = (row, renames row ∙ ap (λ b. cond b (Some n) (name row)) (same_row-refl row) ∙ ap Some (sym same))
 
-      old : (r : NodeId) → is_record_shape (shape_of g' r) ≡ true → first_parent g' r ≡ f → is_live g r ≡ true → Named r
+      old : (r : NodeId) → is_record_shape (shape_of g' r) ≡ true → has (first_parent g' r) ≡ true → is_live g r ≡ true → Named r
       old r rec file live =
           let on = comes.on r live in
-          let named = is.all r (sym on.0 ∙ rec) (sym on.1 ∙ file) in
-          let q : Row = record { file = f; number = named.0 } in (
+          let named = is.all r (sym on.0 ∙ rec) (ap has (sym on.1) ∙ file) in (
             named.0,
-            split (same_row row q)
-                (λ same. absurd (none_some (sym unnamed ∙ ap (λ x. lookup (same_row x) ns) (same_row-equal row q same) ∙ named.1)))
-                (λ apart. other q apart ∙ named.1),
+            split (same_row row named.0)
+                (λ same. absurd (none_some (sym unnamed ∙ ap name (same_row-equal row named.0 same) ∙ named.1)))
+                (λ apart. other named.0 apart ∙ named.1),
           )
 
-pub well_kept : IsKept NameWell
-well_kept = record { well = λ ns g h. h; fewer = fewer_well; more = λ ns ns' g g' row n comes unnamed renames. more_well ns ns' g g' row n comes renames }
+-- Records of files of rows stay.
 
-fewer_all : (f : NodeId) (ns ns' : Names) (g g' : Graph) → Fewer ns ns' g g' → NameAllOf f ns g → NameAllOf f ns' g'
-fewer_all f ns ns' g g' fewer is = record {
-  well = fewer_well ns ns' g g' fewer is.well;
-  all = λ r rec file.
-      let was = fewer.records r rec in
-      let named = is.all r was.was (sym was.file ∙ file) in (named.0, fewer.left (record { file = f; number = named.0 }) r named.1 rec);
+pub same_holds : (has : NodeId → Bool) (name : Naming) (g g' : Graph) → SameRecords has g g' → NamesHoldIn has name g → NamesHoldIn has name g'
+same_holds has name g g' same is = record {
+  well = record {
+    stands = λ row n e.
+        let was = is.well.stands row n e in
+        let on = same.on n was.0 (ap has was.1 ∙ is.within row n e) in (on.0, on.1 ∙ was.1);
+    apart = is.well.apart;
+  };
+  within = is.within;
+  all = λ r rec file. let was = same.back r rec file in is.all r was.0 (ap has (sym was.1) ∙ file);
 }
 
-pub all_kept : (f : NodeId) → IsKept (NameAllOf f)
-all_kept f = record { well = λ ns g is. is.well; fewer = fewer_all f; more = λ ns ns' g g' row n comes unnamed renames. more_all ns ns' g g' row n comes renames f unnamed }
+-- Nodes that stand keep their names.
 
--- Where no row is named.
+module _ (name name' : Naming) (g g' : Graph) where
+  pub same_names : ((q : Row) → name' q ≡ name q) → KeepsNames name name' g g'
+  same_names same = record { on = λ q n e live. same q ∙ e; back = λ q n e live. sym (same q) ∙ e }
 
-pub none_is_named_well : NoneIsNamedWell
-none_is_named_well v s none = record {
-  stands = λ row n e. absurd (none_some (sym (none row) ∙ e));
-  apart = λ p q n a b. absurd (none_some (sym (none p) ∙ a));
+  pub fewer_names : NameWell name g → KeepsKinds g g' → Fewer name name' g g' → KeepsNames name name' g g'
+  fewer_names well kinds fewer = record {
+    on = λ q n e live. let was = (well.stands q n e).0 in fewer.left q n e ((kinds n (record_live g n was) live).record_same ∙ was);
+    back = λ q n e live. (fewer.names q n e).0;
+  }
+
+  -- a row gets the name of a new node, and its old one goes
+  pub other_names : (row : Row) (x : NodeId) → RenamesTo name name' row (Some x) → is_live g x ≡ false
+      → ((n : NodeId) → name row ≡ Some n → is_live g' n ≡ false) → KeepsNames name name' g g'
+  other_names row x renames new gone = record {
+    on = λ q n e live. split (same_row row q)
+        (λ same. clash live (gone n (ap name (same_row-equal row q same) ∙ e)))
+        (λ apart. elsewhere q apart ∙ e);
+    back = λ q n e live. split (same_row row q)
+        (λ same. clash live (ap (is_live g) (sym (some_is (sym (here q same) ∙ e))) ∙ new))
+        (λ apart. sym (elsewhere q apart) ∙ e);
+  }
+    where
+      here : (q : Row) → same_row row q ≡ true → name' q ≡ Some x
+      here q same = renames q ∙ ap (λ b. cond b (Some x) (name q)) same
+
+      elsewhere : (q : Row) → same_row row q ≡ false → name' q ≡ name q
+      elsewhere q apart = renames q ∙ ap (λ b. cond b (Some x) (name q)) apart
+
+-- The same names by other means, and the same files.
+
+pub renamed : (has : NodeId → Bool) (name name' : Naming) (g : Graph) → ((q : Row) → name' q ≡ name q) → NamesHoldIn has name g → NamesHoldIn has name' g
+renamed has name name' g same is = fewer_holds has name name' g g (record {
+  records = λ r rec. record { was = rec; rec = rec; file = refl };
+  names = λ q r e. let was = sym (same q) ∙ e in (was, (is.well.stands q r was).0);
+  left = λ q r e rec. same q ∙ e;
+}) is
+
+pub refiled : (v v' : RowsView) (name : Naming) (g : Graph) → v'.files ≡ v.files → NamesHoldIn (has_rows v) name g → NamesHoldIn (has_rows v') name g
+refiled v v' name g same is = subst (λ (fs : List NodeId). NamesHoldIn (λ f. list_any (same_node f) fs) name g) (sym same) is
+
+-- Where no row is named and no file has rows.
+
+pub none_hold : (v : RowsView) (g : Graph) → ((f : NodeId) → has_rows v f ≡ false) → ((row : Row) → name_of v row ≡ None) → NamesHold v g
+none_hold v g fileless none = record {
+  well = record {
+    stands = λ row n e. absurd (none_some (sym (none row) ∙ e));
+    apart = λ p q n a b. absurd (none_some (sym (none p) ∙ a));
+  };
+  within = λ row n e. absurd (none_some (sym (none row) ∙ e));
+  all = λ r rec file. absurd (clash file (fileless (first_parent g r)));
 }
-
-pub none_is_left_out : NoneIsLeftOut
-none_is_left_out f v s none bare = record { well = none_is_named_well v s none; all = λ r rec file. absurd (bare r rec file) }

@@ -1,5 +1,5 @@
--- What is said of the names of rows (IsKept of NameChanges) is kept by the calls that give locks back. For the laws of names.
-use Rattle.std.specs.Prelude.{◌≡◌, ℕ, zero, suc, Bool, true, false, List, [], ◌∷◌, Option, Some, None, Result, Ok, Err, cond, map, is_some, if◌then◌else◌}
+-- The law of names is kept by the calls that give locks back.
+use Rattle.std.specs.Prelude.{◌≡◌, ℕ, zero, suc, Bool, true, false, List, [], ◌∷◌, Option, Some, None, Result, Ok, Err, get_or, map, is_some, if◌then◌else◌}
 use Rattle.std.specs.List.{list_any}
 use Rattle.std.specs.Map.{lookup}
 use Rattle.std.proofs.Common.{refl, sym, ap, subst, ◌∙◌}
@@ -16,6 +16,10 @@ use Rattle.gl_model.specs.declared.answers.Detect.{Detect}
 use Rattle.gl_model.specs.declared.answers.Detect.TheVariants.{AtBlock, ByWatcher}
 use Rattle.gl_model.specs.Calls.{WaitSettles, accepted_once, enqueued, enters_at, wanted}
 use Rattle.gl_model.specs.Lawful.{IsLawful}
+use Rattle.gl_model.specs.declared.txn.TxnId.{TxnId}
+use Rattle.gl_registry.specs.declared.answer.RowRefusal.{RowRefusal}
+use Rattle.gl_registry.specs.declared.answer.RowRefusal.TheVariants as row_no
+use Rattle.gl_catalog.specs.Manager.{ManagerView, state_of}
 use Rattle.gl_model.specs.State.{SettledWithin, State, condemned, with_graph}
 use Rattle.gl_model.specs.Tellings.{Told}
 use Rattle.gl_model.proofs.law.Rows.{gone_is, left_was}
@@ -28,14 +32,23 @@ use Rattle.gl_catalog.specs.declared.command.Command.{Command}
 use Rattle.gl_catalog.specs.declared.command.Command.TheVariants as command
 use Rattle.gl_catalog.specs.Replies.{Says}
 use Rattle.gl_catalog.specs.Step.{Accepts, Step}
-use Rattle.gl_registry.specs.Locking.{LetsGo, LetsGoOf, Names, Runs, forgets}
-use Rattle.gl_registry.specs.Names.{EndKeeps, GivingKeeps, HoldsOf, NameWell, UnlocksKeep}
-use Rattle.gl_registry.specs.Releasing.{AreNodesOf, LetsEachGo, is_among, living, named_or_none}
-use Rattle.gl_registry.specs.Rows.{RegistryView, same_row}
+use Rattle.gl_registry.specs.Locking.{IsRefused, LetsGo, Names, Refused, Runs, forgets}
+use Rattle.gl_registry.specs.Names.{NameWell, NamesHold, NamesHoldIn, Naming}
+use Rattle.gl_registry.specs.Releasing.{AreNodesOf, EndsTxn, GivesBack, LetsEachGo, LetsGoAsked, Unlocks, UnlocksBy, UnlocksRow, is_among, living, node_for}
+use Rattle.gl_registry.specs.Rows.{RowsView, has_rows, name_of, same_row}
 use Rattle.gl_registry.specs.declared.row.Row.{Row}
 use Rattle.gl_registry.proofs.Adopted.{accepted_of}
-use Rattle.gl_registry.proofs.LettingGo.{each_more, goes, none_go, same_row-refl}
-use Rattle.gl_registry.proofs.NameChanges.{Fewer, IsKept, IsStill, record_live}
+use Rattle.gl_registry.proofs.LettingGo.{each_more, goes, none_go}
+use Rattle.gl_registry.proofs.NameChanges.{Fewer, IsStill, fewer_holds, record_live, refiled}
+
+-- names, as a function
+abbrev pub named : Names → Naming
+named ns row = lookup (same_row row) ns
+
+-- nothing changed
+pub stays_keep : (m m' : ManagerView) (v v' : RowsView) → m' ≡ m → v' ≡ v → NamesHold v (state_of m).graph → NamesHold v' (state_of m').graph
+stays_keep m m' v v' manager rows holds =
+    subst (λ (x : RowsView). NamesHold x (state_of m').graph) (sym rows) (subst (λ (x : ManagerView). NamesHold v (state_of x).graph) (sym manager) holds)
 
 -- Commands about locks leave the graph.
 
@@ -120,7 +133,7 @@ living_some g (Some k) n e = split (is_live g k)
     (λ dead. absurd (none_some (sym (ap (λ b. if b then Some k else None) dead) ∙ e)))
 
 -- rows are let go: names and records become fewer
-pub each_fewer : (s s' : State) (ns ns' : Names) (rows : List Row) → IsLawful s → NameWell ns s.graph → LetsEachGo s ns rows s' ns' → Fewer ns ns' s.graph s'.graph
+pub each_fewer : (s s' : State) (ns ns' : Names) (rows : List Row) → IsLawful s → NameWell (named ns) s.graph → LetsEachGo s ns rows s' ns' → Fewer (named ns) (named ns') s.graph s'.graph
 each_fewer s s' ns ns' rows law well lets = record {
   records = λ r rec. still r rec;
   names = λ q n e.
@@ -161,52 +174,72 @@ each_fewer s s' ns ns' rows law well lets = record {
 pub one_lawful : (s s' : State) (ns ns' : Names) (row : Row) (result : Result (Unit {0}) Refusal) → IsLawful s → LetsGo s ns row result s' ns' → IsLawful s'
 one_lawful s s' ns ns' row result law lets = let it = goes s s' law ns ns' row result lets in (run_leaves s s' law it.run.0 it.run.1).law
 
--- a row that was let go has no name
-pub gone_unnamed : (s s' : State) (ns ns' : Names) (row : Row) (u : Unit {0}) → LetsGo s ns row (Ok u) s' ns' → lookup (same_row row) ns' ≡ None
-gone_unnamed s s' ns ns' row u h = by (lookup (same_row row) ns) refl h
-  where
-    by : (o : Option NodeId) → lookup (same_row row) ns ≡ o → LetsGoOf o s ns row (Ok u) s' ns' → lookup (same_row row) ns' ≡ None
-    by None e h = ap (lookup (same_row row)) h.2 ∙ e
-    by (Some n) e h = h.1 row ∙ ap (λ b. cond b None (lookup (same_row row) ns)) (same_row-refl row)
+-- a row that is let go is one of those that are
+pub one_of_each : (s s' : State) (ns ns' : Names) (row : Row) (result : Result (Unit {0}) Refusal) → IsLawful s → LetsGo s ns row result s' ns'
+    → LetsEachGo s ns (row ∷ []) s' ns'
+one_of_each s s' ns ns' row result law lets = each_more s s s' ns ns ns' [] row (none_go s ns) (goes s s' law ns ns' row result lets)
 
--- What is said of names is kept by each call that gives locks back.
+-- The law of names is kept.
 
-module _ (Holds : Names → Graph → Type 0) (kept : IsKept Holds) where
-  pub each_keeps : (s s' : State) (ns ns' : Names) (rows : List Row) → IsLawful s → Holds ns s.graph → LetsEachGo s ns rows s' ns' → Holds ns' s'.graph
+module _ (has : NodeId → Bool) where
+  pub each_keeps : (s s' : State) (ns ns' : Names) (rows : List Row) → IsLawful s → NamesHoldIn has (named ns) s.graph → LetsEachGo s ns rows s' ns'
+      → NamesHoldIn has (named ns') s'.graph
   each_keeps s s' ns ns' rows law holds lets =
-      kept.fewer ns ns' s.graph s'.graph (each_fewer s s' ns ns' rows law (kept.well ns s.graph holds) lets) holds
+      fewer_holds has (named ns) (named ns') s.graph s'.graph (each_fewer s s' ns ns' rows law holds.well lets) holds
 
-  pub one_keeps : (s s' : State) (ns ns' : Names) (row : Row) (result : Result (Unit {0}) Refusal) → IsLawful s → Holds ns s.graph → LetsGo s ns row result s' ns' → Holds ns' s'.graph
-  one_keeps s s' ns ns' row result law holds lets =
-      each_keeps s s' ns ns' (row ∷ []) law holds (each_more s s s' ns ns ns' [] row (none_go s ns) (goes s s' law ns ns' row result lets))
+  pub one_keeps : (s s' : State) (ns ns' : Names) (row : Row) (result : Result (Unit {0}) Refusal) → IsLawful s → NamesHoldIn has (named ns) s.graph
+      → LetsGo s ns row result s' ns' → NamesHoldIn has (named ns') s'.graph
+  one_keeps s s' ns ns' row result law holds lets = each_keeps s s' ns ns' (row ∷ []) law holds (one_of_each s s' ns ns' row result law lets)
 
-  -- nothing changed
-  pub same_keeps : (s s' : State) (v v' : RegistryView) → s' ≡ s → v' ≡ v → HoldsOf Holds v s → HoldsOf Holds v' s'
-  same_keeps s s' v v' state registry holds = subst (λ (x : RegistryView). HoldsOf Holds x s') (sym registry) (subst (HoldsOf Holds v) (sym state) holds)
+  -- a command about locks
+  pub locks_keep : (s mid : State) (c : Command) (a : Answer) (told : Told) (name : Naming) → is_of_locks c ≡ true → Step s c a told mid
+      → NamesHoldIn has name s.graph → NamesHoldIn has name mid.graph
+  locks_keep s mid c a told name of step holds = subst (NamesHoldIn has name) (sym (step_graph s c a told mid of step)) holds
 
-  -- a command about locks, alone
-  module _ (s mid : State) (c : Command) (a : Answer) (told : Told) (ns : Names) (law : IsLawful s) (holds : Holds ns s.graph) (of : is_of_locks c ≡ true) (run : Runs s ((c, (a, told)) ∷ []) mid) where
-    pub locks_keep : Holds ns mid.graph
-    locks_keep = subst (Holds ns) (sym (ap (λ (x : State). x.graph) run.2 ∙ step_graph s c a told run.0 of run.1)) holds
+-- a call that is refused
+pub refused_keeps : {A R : Type 0} (m m' : ManagerView) (v v' : RowsView) (r : R) (result : Result A R) (told : Told) → Refused m v r result told m' v'
+    → NamesHold v (state_of m).graph → NamesHold v' (state_of m').graph
+refused_keeps m m' v v' r result told is holds = stays_keep m m' v v' is.same_manager is.same_rows holds
 
-    pub locks_lawful : IsLawful mid
-    locks_lawful = subst IsLawful (sym run.2) (steps_keep_law s run.0 c a told law run.1)
+-- Each call that gives locks back.
 
-  pub unlocks_keep : UnlocksKeep Holds
-  unlocks_keep s s' v v' t row (Ok u) told law holds h =
-      let c : Command = command.Unlock t (named_or_none v row) in
-      one_keeps h.0 s' v.names v'.names row h.1 (locks_lawful s h.0 c _ _ v.names law holds refl h.2) (locks_keep s h.0 c _ _ v.names law holds refl h.2) h.3
-  unlocks_keep s s' v v' t row (Err r) told law holds h =
-      subst (λ (x : RegistryView). Holds x.names s'.graph) (sym h.1) (locks_keep s s' (command.Unlock t (named_or_none v row)) _ _ v.names law holds refl h.0)
+module _ (m m' : ManagerView) (v v' : RowsView) (law : IsLawful (state_of m)) (holds : NamesHold v (state_of m).graph) where
+  -- a command of the manager that is refused
+  pub unmoved : (c : Command) (r : Refusal) (told : Told) → IsRefused m v c r told m' v' → NamesHold v' (state_of m').graph
+  unmoved c r told is = stays_keep m m' v v' is.same_manager is.same_rows holds
 
-  pub end_keeps : (c : Command) → is_of_locks c ≡ true → EndKeeps Holds c
-  end_keeps c of s s' v v' slot (Ok u) told law holds h =
-      each_keeps h.0 s' v.names v'.names _ (locks_lawful s h.0 c _ _ v.names law holds of h.1) (locks_keep s h.0 c _ _ v.names law holds of h.1) h.2
-  end_keeps c of s s' v v' slot (Err r) told law holds h =
-      subst (λ (x : RegistryView). Holds x.names s'.graph) (sym h.1) (locks_keep s s' c _ _ v.names law holds of h.0)
+  unlocks_one : (t : TxnId) (row : Row) (n : NodeId) (told : Told) → Unlocks m v t row n told m' v' → NamesHold v' (state_of m').graph
+  unlocks_one t row n told h =
+      let c : Command = command.Unlock t n in
+      refiled v v' (name_of v') (state_of m').graph h.files
+      (one_keeps (has_rows v) (state_of h.mid) (state_of m') v.names v'.names row h.gone
+      (steps_keep_law (state_of m) (state_of h.mid) c answer.Done told law h.unlocks.step)
+      (locks_keep (has_rows v) (state_of m) (state_of h.mid) c answer.Done told (name_of v) refl h.unlocks.step holds) h.goes)
 
-  pub giving_keeps : {A : Type 0} (says : A → Says) (c : Command) → is_of_locks c ≡ true → GivingKeeps Holds says c
-  giving_keeps says c of s s' v v' slot (Ok x) law holds h =
-      each_keeps h.0 s' v.names v'.names _ (locks_lawful s h.0 c _ _ v.names law holds of h.1) (locks_keep s h.0 c _ _ v.names law holds of h.1) h.2
-  giving_keeps says c of s s' v v' slot (Err r) law holds h =
-      subst (λ (x : RegistryView). Holds x.names s'.graph) (sym h.1) (locks_keep s s' c _ _ v.names law holds of h.0)
+  pub unlocks_keep : (t : TxnId) (row : Row) (result : Result (Unit {0}) RowRefusal) (told : Told) → UnlocksRow m v t row result told m' v'
+      → NamesHold v' (state_of m').graph
+  unlocks_keep t row result told h = by (node_for v row) result h
+    where
+      by : (o : Result NodeId RowRefusal) (result : Result (Unit {0}) RowRefusal) → UnlocksBy o m v t row result told m' v' → NamesHold v' (state_of m').graph
+      by (Err r) result h = refused_keeps m m' v v' r result told h holds
+      by (Ok n) (Ok u) h = unlocks_one t row n told h
+      by (Ok n) (Err (row_no.Refused r)) h = unmoved (command.Unlock t n) r told h
+      by (Ok n) (Err row_no.NotRows) h = absurd h
+
+  asked_go : (mid : ManagerView) (c : Command) (a : Answer) (told : Told) (slot : ℕ) → is_of_locks c ≡ true → Step (state_of m) c a told (state_of mid)
+      → LetsGoAsked mid v slot m' v' → NamesHold v' (state_of m').graph
+  asked_go mid c a told slot of step h =
+      refiled v v' (name_of v') (state_of m').graph h.files
+      (each_keeps (has_rows v) (state_of mid) (state_of m') v.names v'.names (get_or v.asked slot [])
+      (steps_keep_law (state_of m) (state_of mid) c a told law step)
+      (locks_keep (has_rows v) (state_of m) (state_of mid) c a told (name_of v) of step holds) h.goes)
+
+  pub end_keeps : (c : Command) → is_of_locks c ≡ true → (slot : ℕ) (result : Result (Unit {0}) Refusal) (told : Told) → EndsTxn c m v slot result told m' v'
+      → NamesHold v' (state_of m').graph
+  end_keeps c of slot (Ok u) told h = asked_go h.0 c answer.Done told slot of h.1.step h.2
+  end_keeps c of slot (Err r) told h = unmoved c r told h
+
+  pub giving_keeps : {A : Type 0} (says : A → Says) (c : Command) → is_of_locks c ≡ true → (slot : ℕ) (result : Result A Refusal) (told : Told)
+      → GivesBack says c m v slot result told m' v' → NamesHold v' (state_of m').graph
+  giving_keeps says c of slot (Ok x) told h = asked_go h.0 c (says x).0 (says x).1 slot of h.1.step h.2
+  giving_keeps says c of slot (Err r) told h = unmoved c r told h

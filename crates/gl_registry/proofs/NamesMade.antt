@@ -1,67 +1,43 @@
--- What is said of the names of rows (IsKept of NameChanges) is kept where a row gets a node. For the laws of names.
-use Rattle.std.specs.Prelude.{◌≡◌, ◌+◌, ◌==◌, ◌⊎◌, ℕ, true, false, List, [], ◌∷◌, Option, Some, None, Result, Ok, Err, cond, is_some, if◌then◌else◌}
+-- The law of names is kept where a row gets a node.
+use Rattle.std.specs.Prelude.{◌≡◌, ◌≢◌, ◌+◌, ◌==◌, ◌⊎◌, ℕ, true, false, List, [], ◌∷◌, Option, Some, None, Result, Ok, Err, cond, is_some, if◌then◌else◌}
 use Rattle.std.specs.Map.{lookup}
 use Rattle.std.proofs.Common.{refl, sym, ap, subst, ◌∙◌, inl, inr, ⊎_elim}
 use Rattle.gl_modes.proofs.NodeLemmas.{same_node-equal}
-use Rattle.gl_modes.proofs.Words.{clash, no as never, or_elim, same_number, split}
+use Rattle.gl_modes.proofs.Words.{clash, no as never, none_some, number_same, or_elim, same_number, some_is, split}
 use Rattle.gl_modes.specs.Nodes.{same_node}
 use Rattle.gl_modes.specs.declared.node.NodeId.{NodeId}
 use Rattle.gl_modes.specs.declared.refusal.Refusal.{Refusal}
-use Rattle.gl_graph.specs.Changes.{born_node, marked}
-use Rattle.gl_graph.specs.Graph.{Graph, first_in, first_parent, is_live, node_at, parents_in, record_parents, shape_in, shape_of, with_key}
+use Rattle.gl_graph.specs.Changes.{born_node, marked, without_node}
+use Rattle.gl_graph.specs.Graph.{Graph, first_in, first_parent, is_live, node_at, parents_in, shape_in, shape_of, with_key}
 use Rattle.gl_graph.specs.Lawful.{IsLawfulGraph}
-use Rattle.gl_graph.specs.Refusals.{first_refusal}
-use Rattle.gl_graph.specs.Shapes.{Rec, is_record_shape}
+use Rattle.gl_graph.specs.Shapes.{is_record_shape}
 use Rattle.gl_graph.proofs.Born.{old_same}
-use Rattle.gl_graph.proofs.Marked.{marked_first_parent, marked_record}
-use Rattle.gl_model.specs.declared.answers.Locked.{Locked}
+use Rattle.gl_graph.proofs.Marked.{marked_first_parent, marked_live, marked_record}
+use Rattle.gl_graph.proofs.Removed.{was_live}
 use Rattle.gl_model.specs.Calls.{accepted_once}
 use Rattle.gl_model.specs.Lawful.{IsLawful}
 use Rattle.gl_model.specs.State.{State}
 use Rattle.gl_model.specs.Tellings.{Told}
+use Rattle.gl_model.proofs.law.Rows.{gone_is, left_was}
 use Rattle.gl_catalog.proofs.StepsKeepLaw.{steps_keep_law}
 use Rattle.gl_catalog.specs.declared.command.Answer.TheVariants as answer
 use Rattle.gl_catalog.specs.declared.command.Command.{Command}
 use Rattle.gl_catalog.specs.declared.command.Command.TheVariants as command
+use Rattle.gl_catalog.specs.Adopting.{AdoptsLocked}
+use Rattle.gl_catalog.specs.Manager.{ManagerView, state_of}
 use Rattle.gl_catalog.specs.Step.{Accepts, Answers, Goes, Step, query_answer}
 use Rattle.gl_catalog.specs.Tests.{refusal_of}
-use Rattle.gl_registry.specs.Locking.{Adopts, AdoptsAfter, IsNamed, LetsGo, LocksNamed, LocksUnless, Names, Wish, row_tests}
-use Rattle.gl_registry.specs.Names.{HoldsOf, InsertsKeep, LocksKeep, NameWell}
-use Rattle.gl_registry.specs.Records.{InsertsAfter, InsertsUnless}
-use Rattle.gl_registry.specs.Rows.{RegistryView, same_row}
+use Rattle.gl_registry.specs.declared.answer.RowLocked.{RowLocked}
+use Rattle.gl_registry.specs.declared.answer.RowRefusal.{RowRefusal}
+use Rattle.gl_registry.specs.declared.answer.RowRefusal.TheVariants as row_no
+use Rattle.gl_registry.specs.Locking.{LocksBy, LocksNamed, LocksRow, NamesNew, Replaces, Wish}
+use Rattle.gl_registry.specs.Names.{NameWell, NamesHold, Naming}
+use Rattle.gl_registry.specs.Rows.{RowsView, has_rows, name_of, same_row}
 use Rattle.gl_registry.specs.declared.row.Row.{Row}
 use Rattle.gl_registry.proofs.Adopted.{IsAdoptedNode, accepted_of, adopted_node, new_at, new_dead, new_node}
-use Rattle.gl_registry.proofs.LettingGo.{forgotten_dead, same_row-equal}
-use Rattle.gl_registry.proofs.NameChanges.{Comes, Fewer, IsKept, StandOn, record_live}
-use Rattle.gl_registry.proofs.NamesKept.{Leaves, forget_leaves, gone_unnamed, locks_keep, one_keeps, one_lawful, same_keeps, step_graph}
-
--- the same names, by other means
-renamed : (ns ns' : Names) (g : Graph) → ((q : Row) → lookup (same_row q) ns' ≡ lookup (same_row q) ns) → NameWell ns g → Fewer ns ns' g g
-renamed ns ns' g same well = record {
-  records = λ r rec. record { was = rec; rec = rec; file = refl };
-  names = λ q r e. let was = sym (same q) ∙ e in (was, (well.stands q r was).0);
-  left = λ q r e rec. same q ∙ e;
-}
-
--- a record came and went
-went : (g g₁ g' : Graph) (n f : NodeId) → Comes g g₁ n f → is_live g' n ≡ false → ((k : NodeId) → is_live g' k ≡ true → node_at g' k ≡ node_at g₁ k)
-    → ((k : NodeId) → is_live g₁ k ≡ true → is_live g' k ≡ false → k ≡ n) → (ns : Names) → NameWell ns g → Fewer ns ns g g'
-went g g₁ g' n f comes gone same lost ns well = record {
-  records = λ r rec.
-      let live = record_live g' r rec in
-      let at = same r live in
-      let rec₁ : is_record_shape (shape_of g₁ r) ≡ true = sym (ap (λ o. is_record_shape (shape_in o)) at) ∙ rec in
-      let old : is_live g r ≡ true = ⊎_elim (λ is. absurd (clash live (ap (is_live g') is ∙ gone))) (λ h. h) (comes.alone r rec₁) in
-      let on = comes.on r old in record { was = sym on.0 ∙ rec₁; rec = rec; file = ap (λ o. first_in (parents_in o)) at ∙ on.1 };
-  names = λ q r e.
-      let was = (well.stands q r e).0 in
-      let old = record_live g r was in
-      let rec₁ : is_record_shape (shape_of g₁ r) ≡ true = (comes.on r old).0 ∙ was in
-      let live : is_live g' r ≡ true = split (is_live g' r) (λ h. h)
-      (λ dead. absurd (clash old (ap (is_live g) (lost r (record_live g₁ r rec₁) dead) ∙ comes.new))) in
-      (e, ap (λ o. is_record_shape (shape_in o)) (same r live) ∙ rec₁);
-  left = λ q r e rec. e;
-}
+use Rattle.gl_registry.proofs.LettingGo.{forgotten_dead, same_row-equal, same_row-refl}
+use Rattle.gl_registry.proofs.NameChanges.{Comes, Fewer, RenamesTo, StandOn, fewer_holds, more_holds, record_live, refiled, renamed}
+use Rattle.gl_registry.proofs.NamesKept.{Leaves, forget_leaves, locks_keep, refused_keeps, stays_keep, step_graph}
 
 -- a record is born
 module _ (g : Graph) (law : IsLawfulGraph g) (n f : NodeId) (keys : List ℕ) (birth : n.birth ≡ g.births + 1) where
@@ -90,13 +66,17 @@ module _ (g : Graph) (law : IsLawfulGraph g) (n f : NodeId) (keys : List ℕ) (b
           (λ e. ap (λ x. record { key = x; birth = k.birth }) (sym (same_number n.key k.key e)) ∙ ap (λ x. record { key = n.key; birth = x }) births)
           (λ e. absurd (never (sym (ap (λ b. is_some (if b then Some (new_node g law n f keys birth) else None)) e) ∙ some)))
 
+  born_live : (k : NodeId) → is_live g k ≡ true → is_live grown k ≡ true
+  born_live k live = ap is_some (old_same g law (new_node g law n f keys birth ∷ []) k live) ∙ live
+
   pub born_comes : Comes g grown n f
-  born_comes = record { on = born_on; new = new_dead g law n f keys birth; rec = born_rec; file = born_file; alone = λ k rec. born_alone k (record_live grown k rec) }
+  born_comes = record { on = born_on; live = born_live; new = new_dead g law n f keys birth; rec = born_rec; file = born_file; alone = λ k rec. born_alone k (record_live grown k rec) }
 
   -- and its file is marked
   pub adopted_comes : Comes g (marked grown f) n f
   adopted_comes = record {
     on = λ k live. (marked_record grown f k ∙ (born_on k live).0, marked_first_parent grown f k ∙ (born_on k live).1);
+    live = λ k live. marked_live grown f k ∙ born_live k live;
     new = new_dead g law n f keys birth;
     rec = marked_record grown f n ∙ born_rec;
     file = marked_first_parent grown f n ∙ born_file;
@@ -118,97 +98,202 @@ refused_same s c r told s' plain (inl goes) never = by (refusal_of s c) goes
     by (Some x) same = same.same
     by None goes = let it = subst (λ q. Answers s c q (answer.Refused r) told s') plain goes in absurd (never it.0 it.1)
 
-node_refused : {n : NodeId} {r : Refusal} → answer.Refused r ≡ answer.Node n → ⊥
-node_refused e = cc
+-- A record is adopted and locked.
 
-node_is : {a b : NodeId} → answer.Node a ≡ answer.Node b → a ≡ b
-node_is e = cc
+module _ (m m' : ManagerView) (law : IsLawful (state_of m)) (w : Wish) (n : NodeId) (h : AdoptsLocked m w.txn w.row.file w.keys w.mode n m') where
+  pub is_adopted : IsAdoptedNode (state_of m) h.mid w.row.file n w.keys.now
+  is_adopted = adopted_node (state_of m) h.mid law w.row.file n w.keys h.adopts
 
--- the node that a refused lock leaves behind is forgotten
-forgotten : (s s' : State) (law : IsLawful s) (n : NodeId) → Step s (command.Forget n) answer.Done [] s' → is_live s'.graph n ≡ false
+  pub mid_lawful : IsLawful h.mid
+  mid_lawful = steps_keep_law (state_of m) h.mid (command.Adopt w.row.file w.keys) (answer.Node n) [] law h.adopts
+
+  pub behind_lawful : IsLawful (state_of m')
+  behind_lawful = steps_keep_law h.mid (state_of m') (command.Lock w.txn n w.mode) (answer.Granted w.mode) [] mid_lawful h.locks
+
+  pub same_mid : (state_of m').graph ≡ h.mid.graph
+  same_mid = step_graph h.mid (command.Lock w.txn n w.mode) (answer.Granted w.mode) [] (state_of m') refl h.locks
+
+  pub locked_comes : Comes (state_of m).graph (state_of m').graph n w.row.file
+  locked_comes = subst (λ g. Comes (state_of m).graph g n w.row.file) (sym same_mid)
+      (adopted_node_comes (state_of m) h.mid law w.row.file n w.keys.now is_adopted)
+
+-- A named record that was forgotten once another had come: it went, and then the other came.
+
+module _ (g g₂ g' : Graph) (law : IsLawfulGraph g) (old n f : NodeId) (rec : is_record_shape (shape_of g old) ≡ true) (comes : Comes g g₂ n f)
+    (dead : is_live g' old ≡ false) (same : (k : NodeId) → is_live g' k ≡ true → node_at g' k ≡ node_at g₂ k)
+    (lost : (k : NodeId) → is_live g₂ k ≡ true → is_live g' k ≡ false → k ≡ old) where
+  abbrev left : Graph
+  left = without_node g old
+
+  left_dead : is_live left old ≡ false
+  left_dead = ap (λ b. is_some (with_key old.key (if b then None else g.at old.birth))) (number_same old.birth old.birth refl)
+
+  still : (k : NodeId) → is_live g₂ k ≡ true → k ≢ old → is_live g' k ≡ true
+  still k live other = split (is_live g' k) (λ e. e) (λ e. absurd (other (lost k live e)))
+
+  -- what is left was there
+  was : (k : NodeId) → is_live left k ≡ true → is_live g k ≡ true
+  was k live = was_live g law old rec k live
+
+  not_old : (k : NodeId) → is_live left k ≡ true → k ≢ old
+  not_old k live e = clash live (ap (is_live left) e ∙ left_dead)
+
+  here : (k : NodeId) → is_live left k ≡ true → is_live g' k ≡ true
+  here k live = still k (comes.live k (was k live)) (not_old k live)
+
+  new_here : is_live g' n ≡ true
+  new_here = still n (record_live g₂ n comes.rec) (λ e. clash (ap (is_live g) e ∙ record_live g old rec) comes.new)
+
+  on : StandOn left g'
+  on k live =
+      let at = same k (here k live) in
+      let at_left = left_was g law old rec k live in
+      let c = comes.on k (was k live) in (
+        ap (λ o. is_record_shape (shape_in o)) at ∙ c.0 ∙ sym (ap (λ o. is_record_shape (shape_in o)) at_left),
+        ap (λ o. first_in (parents_in o)) at ∙ c.1 ∙ sym (ap (λ o. first_in (parents_in o)) at_left),
+      )
+
+  pub then_comes : Comes left g' n f
+  then_comes = record {
+    on = on;
+    live = here;
+    new = split (is_live left n) (λ live. absurd (clash (was n live) comes.new)) (λ e. e);
+    rec = ap (λ o. is_record_shape (shape_in o)) (same n new_here) ∙ comes.rec;
+    file = ap (λ o. first_in (parents_in o)) (same n new_here) ∙ comes.file;
+    alone = λ k r.
+        let live = record_live g' k r in
+        let r₂ : is_record_shape (shape_of g₂ k) ≡ true = sym (ap (λ o. is_record_shape (shape_in o)) (same k live)) ∙ r in
+        ⊎_elim inl (λ here. inr (left_live k here (λ e. clash live (ap (is_live g') e ∙ dead)))) (comes.alone k r₂);
+  }
+    where
+      left_live : (k : NodeId) → is_live g k ≡ true → k ≢ old → is_live left k ≡ true
+      left_live k here other = split (is_live left k) (λ e. e) (λ e. absurd (other (gone_is g law old rec k here e)))
+
+  -- and the row by which it was named has no name
+  module _ (name : Naming) (well : NameWell name g) (row : Row) (named : name row ≡ Some old) where
+    abbrev pub without : Naming
+    without q = if same_row row q then None else name q
+
+    kept : (q : Row) (k : NodeId) → without q ≡ Some k → (same_row row q ≡ false) × (name q ≡ Some k)
+    kept q k e = split (same_row row q)
+        (λ here. absurd (none_some (sym (ap (λ b. if b then None else name q) here) ∙ e)))
+        (λ there. (there, sym (ap (λ b. if b then None else name q) there) ∙ e))
+
+    shaped : (k : NodeId) → is_live left k ≡ true → is_record_shape (shape_of left k) ≡ is_record_shape (shape_of g k)
+    shaped k live = ap (λ o. is_record_shape (shape_in o)) (left_was g law old rec k live)
+
+    pub went_fewer : Fewer name without g left
+    went_fewer = record {
+      records = λ k r.
+          let live = record_live left k r in
+          let at = left_was g law old rec k live in
+          record { was = sym (shaped k live) ∙ r; rec = r; file = ap (λ o. first_in (parents_in o)) at };
+      names = λ q k e.
+          let it = kept q k e in
+          let r = (well.stands q k it.1).0 in
+          let live : is_live left k ≡ true = split (is_live left k) (λ h. h)
+          (λ gone. absurd (clash (same_row-refl row)
+          (ap (same_row row) (well.apart row q old named (it.1 ∙ ap Some (gone_is g law old rec k (record_live g k r) gone))) ∙ it.0))) in
+          (it.1, shaped k live ∙ r);
+      left = λ q k e r. split (same_row row q)
+          (λ here_.
+          let is : k ≡ old = some_is (sym e ∙ ap name (sym (same_row-equal row q here_)) ∙ named) in
+          absurd (clash (record_live left k r) (ap (is_live left) is ∙ left_dead)))
+          (λ there. ap (λ b. if b then None else name q) there ∙ e);
+    }
+
+-- a node that is forgotten does not live
+pub forgotten : (s s' : State) (law : IsLawful s) (n : NodeId) → Step s (command.Forget n) answer.Done [] s' → is_live s'.graph n ≡ false
 forgotten s s' law n step =
     let acc = accepted_of s (command.Forget n) answer.Done [] s' refl (λ r e. cc) step in forgotten_dead s s' law n acc.3 (acc.2 ∙ ap accepted_once acc.1.2)
 
--- What is said of names is kept by a row's lock, and by an insert.
+-- The law of names is kept by a row's lock.
 
-module _ (Holds : Names → Graph → Type 0) (kept : IsKept Holds) where
-  module _ (s s' : State) (v v' : RegistryView) (w : Wish) (told : Told) (law : IsLawful s) (holds : HoldsOf Holds v s) where
-    adopts_keep : lookup (same_row w.row) v.names ≡ None → (result : Result Locked Refusal) → Adopts s v w result told s' v' → HoldsOf Holds v' s'
-    adopts_keep unnamed (Ok locked) (n, run, reg) =
-        let is = adopted_node s run.0 law w.row.file n w.keys run.1 in
-        let more : Holds v'.names run.0.graph = kept.more v.names v'.names s.graph run.0.graph w.row n
-        (adopted_node_comes s run.0 law w.row.file n w.keys.now is) unnamed reg.names holds in
-        locks_keep Holds kept run.0 s' (command.Lock w.txn n w.mode) _ _ v'.names
-        (steps_keep_law s run.0 (command.Adopt w.row.file w.keys) _ [] law run.1) more refl run.2
-    adopts_keep unnamed (Err r) (inl run, same) =
-        same_keeps Holds kept s s' v v'
-        (run.2 ∙ refused_same s (command.Adopt w.row.file w.keys) r [] run.0 refl run.1 (λ next acc. node_refused acc.2)) same holds
-    adopts_keep unnamed (Err r) (inr (n, run), same) =
-        let is = adopted_node s run.0 law w.row.file n w.keys run.1 in
-        let law₁ = steps_keep_law s run.0 (command.Adopt w.row.file w.keys) _ [] law run.1 in
-        let law₂ = steps_keep_law run.0 run.2.0 (command.Lock w.txn n w.mode) _ [] law₁ run.2.1 in
-        let same₂ : run.2.0.graph ≡ run.0.graph = step_graph run.0 (command.Lock w.txn n w.mode) _ [] run.2.0 refl run.2.1 in
-        let comes : Comes s.graph run.2.0.graph n w.row.file = subst (λ g. Comes s.graph g n w.row.file) (sym same₂)
-        (adopted_node_comes s run.0 law w.row.file n w.keys.now is) in
-        let left : Leaves run.2.0 run.2.2.0 (n ∷ []) = forget_leaves run.2.0 run.2.2.0 law₂ n run.2.2.1 in
-        let back : Holds v.names run.2.2.0.graph = kept.fewer v.names v.names s.graph run.2.2.0.graph
-        (went s.graph run.2.0.graph run.2.2.0.graph n w.row.file comes (forgotten run.2.0 run.2.2.0 law₂ n run.2.2.1) left.same
-        (λ k live dead. same_node-equal k n (or_elim (same_node k n) false (left.lost k live dead) (λ h. h) (λ h. absurd (never h))))
-        v.names (kept.well v.names s.graph holds)) holds in
-        subst (λ (x : RegistryView). Holds x.names s'.graph) (sym same) (subst (λ (x : State). Holds v.names x.graph) (sym run.2.2.2) back)
+module _ (m m' : ManagerView) (v v' : RowsView) (law : IsLawful (state_of m)) (holds : NamesHold v (state_of m).graph) (w : Wish) where
+  -- a row without a name gets a node
+  adopts_keep : lookup (same_row w.row) v.names ≡ None → has_rows v w.row.file ≡ true → (x : RowLocked) (told : Told)
+      → AdoptsLocked m w.txn w.row.file w.keys w.mode x.node m' → NamesNew v w x told v' → NamesHold v' (state_of m').graph
+  adopts_keep unnamed of_rows x told adopts new =
+      refiled v v' (name_of v') (state_of m').graph new.registers.files
+      (more_holds (name_of v) (name_of v') (state_of m).graph (state_of m').graph w.row x.node (locked_comes m m' law w x.node adopts)
+      new.registers.names (has_rows v) of_rows unnamed holds)
 
-    named_keep : (n : NodeId) → IsNamed s v w.row w.keys.now n → (result : Result Locked Refusal) → LocksNamed n s v w result told s' v' → HoldsOf Holds v' s'
-    named_keep n is (Ok locked) (run, reg) =
-        let locked : Holds v.names s'.graph = locks_keep Holds kept s s' (command.Lock w.txn n w.mode) _ _ v.names law holds refl run in
-        kept.fewer v.names v'.names s'.graph s'.graph (renamed v.names v'.names s'.graph same (kept.well v.names s'.graph locked)) locked
-      where
-        same : (q : Row) → lookup (same_row q) v'.names ≡ lookup (same_row q) v.names
-        same q = reg.names q ∙ split (same_row w.row q)
-            (λ e. ap (λ b. cond b (Some n) (lookup (same_row q) v.names)) e ∙ sym is.0 ∙ ap (λ x. lookup (same_row x) v.names) (same_row-equal w.row q e))
-            (λ e. ap (λ b. cond b (Some n) (lookup (same_row q) v.names)) e)
-    named_keep n is (Err r) (run, same) =
-        subst (λ (x : RegistryView). Holds x.names s'.graph) (sym same)
-        (locks_keep Holds kept s s' (command.Lock w.txn n w.mode) _ _ v.names law holds refl run)
-
-  pub locks_row_keep : LocksKeep Holds
-  locks_row_keep s s' v v' w result told law holds h = by (first_refusal (row_tests s w.txn)) h
+  -- it keeps the node that it has
+  named_keep : (n : NodeId) → name_of v w.row ≡ Some n → (x : RowLocked) (told : Told) → LocksNamed n m v w (Ok x) told m' v' → NamesHold v' (state_of m').graph
+  named_keep n named x told h =
+      refiled v v' (name_of v') (state_of m').graph h.3.files
+      (renamed (has_rows v) (name_of v) (name_of v') (state_of m').graph same
+      (locks_keep (has_rows v) (state_of m) (state_of m') (command.Lock w.txn n w.mode) _ _ (name_of v) refl h.0.step holds))
     where
-      after : (g : Result (Unit {0}) Refusal) (mid : State) (u : RegistryView) → LetsGo s v.names w.row g mid u.names → IsLawful mid → HoldsOf Holds u mid
-          → AdoptsAfter g mid u w result told s' v' → HoldsOf Holds v' s'
-      after (Ok x) mid u goes law holds h = adopts_keep mid s' u v' w told law holds (gone_unnamed s mid v.names u.names w.row x goes) result h
-      after (Err r) mid u goes law holds h = same_keeps Holds kept mid s' u v' h.1 h.2 holds
+      same : (q : Row) → name_of v' q ≡ name_of v q
+      same q = h.3.names q ∙ split (same_row w.row q)
+          (λ e. ap (λ b. cond b (Some n) (name_of v q)) e ∙ sym named ∙ ap (name_of v) (same_row-equal w.row q e))
+          (λ e. ap (λ b. cond b (Some n) (name_of v q)) e)
 
-      by : (o : Option Refusal) → LocksUnless o s v w result told s' v' → HoldsOf Holds v' s'
-      by (Some r) h = same_keeps Holds kept s s' v v' h.same_state h.same_registry holds
-      by None (inl h) = same_keeps Holds kept s s' v v' h.same_state h.same_registry holds
-      by None (inr (inl (n, is, h))) = named_keep s s' v v' w told law holds n is result h
-      by None (inr (inr (none, h))) =
-          after h.let_go h.mid h.unnamed h.goes (one_lawful s h.mid v.names h.unnamed.names w.row h.let_go law h.goes)
-          (one_keeps Holds kept s h.mid v.names h.unnamed.names w.row h.let_go law holds h.goes) h.adopted
-
-  pub inserts_keep : InsertsKeep Holds
-  inserts_keep s s' v v' t row keys result law holds h = by (first_refusal (row_tests s t)) h
+  -- or gets another
+  renews_keep : (n : NodeId) → name_of v w.row ≡ Some n → (x : RowLocked) (told : Told) → Replaces m w.txn w.row.file w.keys w.mode n x.node m'
+      → NamesNew v w x told v' → NamesHold v' (state_of m').graph
+  renews_keep n named x told h new =
+      refiled v v' (name_of v') g' new.registers.files
+      (more_holds gone (name_of v') gone_graph g' w.row x.node went renames (has_rows v) (holds.within w.row n named)
+      (ap (λ b. if b then None else name_of v w.row) (same_row-refl w.row))
+      (fewer_holds (has_rows v) (name_of v) gone g gone_graph fewer holds))
     where
-      after : (g : Result (Unit {0}) Refusal) (result : Result NodeId Refusal) (mid : State) (u : RegistryView) → LetsGo s v.names row g mid u.names → IsLawful mid
-          → HoldsOf Holds u mid → InsertsAfter g mid u t row keys result s' v' → HoldsOf Holds v' s'
-      after (Ok x) (Ok n) mid u goes law holds (run, reg) =
-          let acc = accepted_of mid (command.Insert t row.file keys) (answer.Node n) [] run.0 refl (λ r e. cc) run.1 in
-          let birth = ap (λ (x : NodeId). x.birth) (node_is acc.1.2) ∙ acc.1.1.birth in
-          let same : s'.graph ≡ grown mid.graph law.graph n row.file keys.now birth =
-          ap (λ (x : State). x.graph) (run.2 ∙ acc.2) ∙ acc.1.1.after
-          ∙ ap (λ (x : NodeId). born_node mid.graph (record { key = x.key; shape = Rec keys.now; parents = record_parents mid.graph row.file keys.now }))
-          (sym (node_is acc.1.2)) in
-          subst (Holds v'.names) (sym same)
-          (kept.more u.names v'.names mid.graph (grown mid.graph law.graph n row.file keys.now birth) row n
-          (born_comes mid.graph law.graph n row.file keys.now birth) (gone_unnamed s mid v.names u.names row x goes) reg.names holds)
-      after (Ok x) (Err r) mid u goes law holds (run, same) =
-          same_keeps Holds kept mid s' u v'
-          (run.2 ∙ refused_same mid (command.Insert t row.file keys) r [] run.0 refl run.1 (λ next acc. node_refused acc.2)) same holds
-      after (Err r) result mid u goes law holds h = same_keeps Holds kept mid s' u v' h.1 h.2 holds
+      g : Graph
+      g = (state_of m).graph
 
-      by : (o : Option Refusal) → InsertsUnless o s v t row keys result s' v' → HoldsOf Holds v' s'
-      by (Some r) h = same_keeps Holds kept s s' v v' h.same_state h.same_registry holds
-      by None (inl h) = same_keeps Holds kept s s' v v' h.same_state h.same_registry holds
-      by None (inr h) =
-          after h.let_go result h.mid h.unnamed h.goes (one_lawful s h.mid v.names h.unnamed.names row h.let_go law h.goes)
-          (one_keeps Holds kept s h.mid v.names h.unnamed.names row h.let_go law holds h.goes) h.inserted
+      g₂ : Graph
+      g₂ = (state_of h.mid).graph
+
+      g' : Graph
+      g' = (state_of m').graph
+
+      rec : is_record_shape (shape_of g n) ≡ true
+      rec = (holds.well.stands w.row n named).0
+
+      comes : Comes g g₂ x.node w.row.file
+      comes = locked_comes m h.mid law w x.node h.adopts
+
+      leaves : Leaves (state_of h.mid) (state_of m') (n ∷ [])
+      leaves = forget_leaves (state_of h.mid) (state_of m') (behind_lawful m h.mid law w x.node h.adopts) n h.forgets.step
+
+      dead : is_live g' n ≡ false
+      dead = forgotten (state_of h.mid) (state_of m') (behind_lawful m h.mid law w x.node h.adopts) n h.forgets.step
+
+      lost : (k : NodeId) → is_live g₂ k ≡ true → is_live g' k ≡ false → k ≡ n
+      lost k live gone = same_node-equal k n (or_elim (same_node k n) false (leaves.lost k live gone) (λ e. e) (λ e. absurd (never e)))
+
+      gone : Naming
+      gone = without g g₂ g' law.graph n x.node w.row.file rec comes dead leaves.same lost (name_of v) holds.well w.row named
+
+      gone_graph : Graph
+      gone_graph = without_node g n
+
+      fewer : Fewer (name_of v) gone g gone_graph
+      fewer = went_fewer g g₂ g' law.graph n x.node w.row.file rec comes dead leaves.same lost (name_of v) holds.well w.row named
+
+      went : Comes gone_graph g' x.node w.row.file
+      went = then_comes g g₂ g' law.graph n x.node w.row.file rec comes dead leaves.same lost
+
+      renames : RenamesTo gone (name_of v') w.row (Some x.node)
+      renames q = new.registers.names q ∙ split (same_row w.row q)
+          (λ e. ap (λ b. cond b (Some x.node) (name_of v q)) e ∙ sym (ap (λ b. cond b (Some x.node) (gone q)) e))
+          (λ e. ap (λ b. cond b (Some x.node) (name_of v q)) e
+          ∙ sym (ap (λ b. cond b (Some x.node) (gone q)) e ∙ ap (λ b. if b then None else name_of v q) e))
+
+  lock_by : (o : Option NodeId) → name_of v w.row ≡ o → (result : Result RowLocked RowRefusal) (told : Told) → LocksBy o m v w result told m' v'
+      → NamesHold v' (state_of m').graph
+  lock_by None e result told (inl (none, refused)) = refused_keeps m m' v v' row_no.NotRows result told refused holds
+  lock_by None e (Ok x) told (inr (of_rows, h)) = adopts_keep e of_rows x told h.0 h.1
+  lock_by None e (Err (row_no.Refused r)) told (inr (of_rows, h)) = stays_keep m m' v v' h.same_manager h.same_rows holds
+  lock_by None e (Err row_no.NotRows) told (inr (of_rows, h)) = absurd h
+  lock_by (Some n) e (Ok x) told (inl (fresh, h)) = named_keep n e x told h
+  lock_by (Some n) e (Err (row_no.Refused r)) told (inl (fresh, h)) = stays_keep m m' v v' h.same_manager h.same_rows holds
+  lock_by (Some n) e (Err row_no.NotRows) told (inl (fresh, h)) = absurd h
+  lock_by (Some n) e (Ok x) told (inr (stale, h)) = renews_keep n e x told h.0 h.1
+  lock_by (Some n) e (Err (row_no.Refused r)) told (inr (stale, h)) = stays_keep m m' v v' h.same_manager h.same_rows holds
+  lock_by (Some n) e (Err row_no.NotRows) told (inr (stale, h)) = absurd h
+
+  pub locks_row_keep : (result : Result RowLocked RowRefusal) (told : Told) → LocksRow m v w result told m' v' → NamesHold v' (state_of m').graph
+  locks_row_keep result told (inl refused) = refused_keeps m m' v v' _ result told refused holds
+  locks_row_keep result told (inr h) = lock_by (name_of v w.row) refl result told h

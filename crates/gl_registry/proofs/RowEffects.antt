@@ -20,7 +20,7 @@ use Rattle.gl_catalog.proofs.Keeps.{effect_refl, greater_effect}
 use Rattle.gl_registry.specs.Promises.{IsRow, NoRowConflict, effect_of}
 
 -- the order of effective modes
-as_great : (a b e : Effect) → is_at_least_effect a b ≡ true → is_at_least_effect b e ≡ true → is_at_least_effect a e ≡ true
+pub as_great : (a b e : Effect) → is_at_least_effect a b ≡ true → is_at_least_effect b e ≡ true → is_at_least_effect a e ≡ true
 as_great a b e h k = search rules
 
 pub as_one : (a b : Effect) → is_at_least_effect a b ≡ true → is_at_least_effect b a ≡ true → a ≡ b

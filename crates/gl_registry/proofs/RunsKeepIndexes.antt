@@ -51,7 +51,7 @@ another : (t : ℕ) → t ≢ suc t
 another t e = absurd (omega arith)
 
 -- a wait that settles leaves the graph, as another slot sees it
-wait_graph : (s s' : State) → IsLawful s → (t : ℕ) (n : NodeId) (m : Mode) → WaitSettles s.detect s.victims (enqueued s t n m) t s' → s'.graph ≡ s.graph
+pub wait_graph : (s s' : State) → IsLawful s → (t : ℕ) (n : NodeId) (m : Mode) → WaitSettles s.detect s.victims (enqueued s t n m) t s' → s'.graph ≡ s.graph
 wait_graph s s' law t n m settles =
     let queued = enqueued_follows s t (suc t) n m (another t) (lawful_waits s law (suc t)) in
     (wait_settles_follows s.detect s.victims (enqueued s t n m) t s' (suc t) settles queued.well).graph ∙ queued.graph

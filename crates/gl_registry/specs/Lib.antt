@@ -1,9 +1,12 @@
 pub mod Rows
 pub mod Sound
+pub mod Answers
 pub mod Locking
 pub mod Releasing
-pub mod Records
+pub mod Files
 pub mod Naming
 pub mod Applying
+pub mod Serving
 pub mod Names
+pub mod Owned
 pub mod Promises

@@ -1,26 +1,32 @@
--- What the calls of a registry do: runs of commands, and how rows get and lose their names.
-use Rattle.std.specs.Prelude.{false, ◌≡◌, ◌⊎◌, ℕ, ◌-◌, true, ◌&&◌, ◌||◌, ◌==◌, nat_lt, List, [], ◌∷◌, Option, Some, None, Result, Ok, Err, cond, map}
+-- What a row's lock does, and how rows get and lose their nodes.
+use Rattle.std.specs.Prelude.{◌≡◌, ◌≢◌, ◌⊎◌, ◌↔◌, IsTrue, ℕ, ◌-◌, true, false, ◌||◌, ◌&&◌, ◌==◌, nat_lt, List, [], ◌∷◌, Option, Some, None, Result, Ok, Err, cond, map}
 use Rattle.std.specs.Map.{lookup}
 use denote.Bor.{Bor}
 use Rattle.gl_modes.specs.declared.mode.Mode.{Mode}
 use Rattle.gl_modes.specs.declared.node.NodeId.{NodeId}
 use Rattle.gl_modes.specs.declared.refusal.Refusal.{Refusal}
 use Rattle.gl_modes.specs.declared.refusal.Refusal.TheVariants as no
-use Rattle.gl_graph.specs.Graph.{Graph, first_parent, is_live, shape_of}
-use Rattle.gl_graph.specs.Refusals.{first_refusal, max_count, where_true}
-use Rattle.gl_graph.specs.Shapes.{is_record_shape, keys_in}
-use Rattle.gl_model.specs.declared.answers.Locked.{Locked}
+use Rattle.gl_graph.specs.Graph.{is_live, shape_of}
+use Rattle.gl_graph.specs.Refusals.{Refuses, first_refusal, max_count, where_true}
+use Rattle.gl_graph.specs.Shapes.{keys_in}
+use Rattle.gl_model.specs.declared.answers.Locked.TheVariants as locked
 use Rattle.gl_model.specs.declared.txn.TxnId.{TxnId}
-use Rattle.gl_model.specs.Calls.{commit_tests}
+use Rattle.gl_model.specs.Calls.{is_idle}
 use Rattle.gl_model.specs.State.{State}
 use Rattle.gl_model.specs.Tellings.{Told}
 use Rattle.gl_catalog.specs.declared.command.Answer.TheVariants as answer
 use Rattle.gl_catalog.specs.declared.command.Command.{Command}
 use Rattle.gl_catalog.specs.declared.command.Command.TheVariants as command
-use Rattle.gl_catalog.specs.Replies.{Says, asking, doing, made}
-use Rattle.gl_catalog.specs.Step.{Run}
+use Rattle.gl_catalog.specs.Adopting.{AdoptsLocked, adopting_tests}
+use Rattle.gl_catalog.specs.Completes.{Completes}
+use Rattle.gl_catalog.specs.Manager.{ManagerView, state_of}
+use Rattle.gl_catalog.specs.Replies.{Says, asking, doing}
+use Rattle.gl_catalog.specs.Step.{Run, Step}
+use Rattle.gl_registry.specs.declared.answer.RowLocked.{RowLocked}
+use Rattle.gl_registry.specs.declared.answer.RowRefusal.{RowRefusal}
+use Rattle.gl_registry.specs.declared.answer.RowRefusal.TheVariants as row_no
 use Rattle.gl_registry.specs.declared.row.Row.{Row}
-use Rattle.gl_registry.specs.Rows.{RegistryView, has_asked, name_of, same_row}
+use Rattle.gl_registry.specs.Rows.{RowsView, has_asked, has_rows, name_of, same_row}
 
 -- a command with its reply
 abbrev pub Line : Type 0
@@ -30,13 +36,9 @@ Line = Command × Says
 abbrev pub Runs : State → List Line → State → Type 0
 Runs s lines s' = Run s (map (λ l. l.0) lines) (map (λ l. l.1) lines) s'
 
--- what is said of a refused command
-abbrev pub refused : Refusal → Says
-refused r = (answer.Refused r, [])
-
 -- a command that is refused
 abbrev pub refuses : Command → Refusal → Line
-refuses c r = (c, refused r)
+refuses c r = (c, (answer.Refused r, []))
 
 -- a node is forgotten
 abbrev pub forgets : NodeId → Line
@@ -51,15 +53,33 @@ abbrev pub Renames : Names → Names → Row → Option NodeId → Type 0
 Renames ns ns' row o = (q : Row) → lookup (same_row q) ns' ≡ cond (same_row row q) o (lookup (same_row q) ns)
 
 -- the row is named, and among those that the transaction of this slot has asked for
-pub record Registers (v v' : RegistryView) (slot : ℕ) (row : Row) (n : NodeId) : Type 0 where
+pub record Registers (v v' : RowsView) (slot : ℕ) (row : Row) (n : NodeId) : Type 0 where
+  pub files : v'.files ≡ v.files
   pub names : Renames v.names v'.names row (Some n)
   pub asked : (u : ℕ) (q : Row) → has_asked v' u q ≡ (has_asked v u q || ((u == slot) && same_row q row))
 
--- the node lives as a record of the row's file, with these keys
-pub record StandsAs (g : Graph) (n : NodeId) (row : Row) (keys : List ℕ) : Type 0 where
-  pub is_record : is_record_shape (shape_of g n) ≡ true
-  pub file : first_parent g n ≡ row.file
-  pub same_keys : keys_in (shape_of g n) ≡ keys
+-- one command of the manager is done: one step, counted, with all that it is to keep
+pub record Does (m : ManagerView) (c : Command) (r : Says) (m' : ManagerView) : Type 0 where
+  pub step : Step (state_of m) c r.0 r.1 (state_of m')
+  pub completes : Completes c m r m'
+
+-- a call is refused so: nobody is told, and all is as it was
+pub record Refused {A : Type 0} {R : Type 0} (m : ManagerView) (v : RowsView) (r : R) (result : Result A R) (told : Told) (m' : ManagerView) (v' : RowsView) : Type 0 where
+  pub answer_is : result ≡ Err r
+  pub nobody_told : told ≡ []
+  pub same_manager : m' ≡ m
+  pub same_rows : v' ≡ v
+
+-- the manager refuses this command so, and nobody is told
+pub record IsRefused (m : ManagerView) (v : RowsView) (c : Command) (r : Refusal) (told : Told) (m' : ManagerView) (v' : RowsView) : Type 0 where
+  pub step : Step (state_of m) c (answer.Refused r) [] (state_of m)
+  pub nobody_told : told ≡ []
+  pub same_manager : m' ≡ m
+  pub same_rows : v' ≡ v
+
+-- the counters and the last deadlock are as they were
+abbrev pub SameAccount : ManagerView → ManagerView → Type 0
+SameAccount m m' = (m'.counters ≡ m.counters) × (m'.table.deadlock ≡ m.table.deadlock)
 
 -- a node is forgotten, if it still lives
 abbrev pub ForgetsLiving : State → NodeId → Result (Unit {0}) Refusal → State → Type 0
@@ -91,69 +111,82 @@ pub record Wish : Type 0 where
   pub keys : Keys
   pub mode : Mode
 
--- the row's node is adopted, with these keys
-abbrev pub adopts : Wish → Says → Line
-adopts w says = (command.Adopt w.row.file w.keys, says)
+-- it is locked by this node
+abbrev pub locks : Wish → NodeId → Command
+locks w n = command.Lock w.txn n w.mode
 
--- it is locked
-abbrev pub locks : Wish → NodeId → Says → Line
-locks w n says = (command.Lock w.txn n w.mode, says)
+-- the lock of a node that was adopted with the keys that were said
+abbrev pub first_locked : NodeId → Mode → RowLocked
+first_locked n mode = record { node = n; locked = locked.Granted mode; own_keys = true }
 
--- a row without a node gets one, which is locked; where that lock is refused the node is forgotten again
-abbrev pub AdoptsNode : State → Wish → Result (NodeId × Locked) Refusal → Told → State → Type 0
-AdoptsNode s w (Ok (n, locked)) told s' = Runs s (adopts w (made n) ∷ locks w n (asking told locked) ∷ []) s'
-AdoptsNode s w (Err r) told s' =
-    Runs s (adopts w (refused r) ∷ []) s' ⊎ ((n : NodeId) × Runs s (adopts w (made n) ∷ locks w n (refused r) ∷ forgets n ∷ []) s')
+-- the keys that were said are the node's own
+abbrev pub HasKeys : State → NodeId → Keys → Type 0
+HasKeys s n keys = keys_in (shape_of s.graph n) ≡ keys.now
 
--- then the row is named by it
-abbrev pub Adopts : State → RegistryView → Wish → Result Locked Refusal → Told → State → RegistryView → Type 0
-Adopts s v w (Ok locked) told s' v' = (n : NodeId) × AdoptsNode s w (Ok (n, locked)) told s' × Registers v v' w.txn.slot w.row n
-Adopts s v w (Err r) told s' v' = AdoptsNode s w (Err r) told s' × (v' ≡ v)
+-- the node by which the row is named is locked, and whether the keys that were said are its own is answered; or that lock is refused
+abbrev pub LocksNamed : NodeId → ManagerView → RowsView → Wish → Result RowLocked RowRefusal → Told → ManagerView → RowsView → Type 0
+LocksNamed n m v w (Ok x) told m' v' =
+    Does m (locks w n) (asking told x.locked) m' × (x.node ≡ n) × (IsTrue x.own_keys ↔ HasKeys (state_of m) n w.keys) × Registers v v' w.txn.slot w.row n
+LocksNamed n m v w (Err (row_no.Refused r)) told m' v' = IsRefused m v (locks w n) r told m' v'
+LocksNamed n m v w (Err row_no.NotRows) told m' v' = ⊥
 
--- once what the row was named by is let go, the row is adopted; where it is not, that is the refusal
-abbrev pub AdoptsAfter : Result (Unit {0}) Refusal → State → RegistryView → Wish → Result Locked Refusal → Told → State → RegistryView → Type 0
-AdoptsAfter (Ok u) s v w result told s' v' = Adopts s v w result told s' v'
-AdoptsAfter (Err r) s v w result told s' v' = (result ≡ Err r) × (s' ≡ s) × (v' ≡ v)
+-- the row is named by a node that was adopted and locked, and nobody is told
+pub record NamesNew (v : RowsView) (w : Wish) (x : RowLocked) (told : Told) (v' : RowsView) : Type 0 where
+  pub answer_is : x ≡ first_locked x.node w.mode
+  pub nobody_told : told ≡ []
+  pub registers : Registers v v' w.txn.slot w.row x.node
 
--- the node by which the row is named stands for it, and is locked
-abbrev pub LocksNamed : NodeId → State → RegistryView → Wish → Result Locked Refusal → Told → State → RegistryView → Type 0
-LocksNamed n s v w (Ok locked) told s' v' = Runs s (locks w n (asking told locked) ∷ []) s' × Registers v v' w.txn.slot w.row n
-LocksNamed n s v w (Err r) told s' v' = Runs s (locks w n (refused r) ∷ []) s' × (v' ≡ v)
+-- these tests refuse the row's lock so, or memory does; then nobody is told, and all is as it was
+pub record NoneNew (tests : List (Option Refusal)) (m : ManagerView) (v : RowsView) (r : Refusal) (told : Told) (m' : ManagerView) (v' : RowsView) : Type 0 where
+  pub refuses : Refuses {T = NodeId} (first_refusal tests) (Err r)
+  pub nobody_told : told ≡ []
+  pub same_manager : m' ≡ m
+  pub same_rows : v' ≡ v
 
--- a row's name stands for it with the keys that are wished
-abbrev pub IsNamed : State → RegistryView → Row → List ℕ → NodeId → Type 0
-IsNamed s v row keys n = (name_of v row ≡ Some n) × StandsAs s.graph n row keys
+-- why a wish finds no node of its own
+abbrev pub wish_tests : ManagerView → Wish → List (Option Refusal)
+wish_tests m w = adopting_tests (state_of m) w.txn w.row.file w.keys.now w.mode
 
--- a row that is not named by a node with these keys is let go and adopted anew
-pub record Renews (s : State) (v : RegistryView) (w : Wish) (result : Result Locked Refusal) (told : Told) (s' : State) (v' : RegistryView) : Type 0 where
-  pub let_go : Result (Unit {0}) Refusal
-  pub mid : State
-  pub unnamed : RegistryView
-  pub goes : LetsGo s v.names w.row let_go mid unnamed.names
-  pub same_asked : unnamed.asked ≡ v.asked
-  pub adopted : AdoptsAfter let_go mid unnamed w result told s' v'
+-- a row without a node gets one, which is locked
+abbrev pub Adopts : ManagerView → RowsView → Wish → Result RowLocked RowRefusal → Told → ManagerView → RowsView → Type 0
+Adopts m v w (Ok x) told m' v' = AdoptsLocked m w.txn w.row.file w.keys w.mode x.node m' × NamesNew v w x told v'
+Adopts m v w (Err (row_no.Refused r)) told m' v' = NoneNew (wish_tests m w) m v r told m' v'
+Adopts m v w (Err row_no.NotRows) told m' v' = ⊥
 
--- the tests of a row's lock before all: four commands can be counted still, and the transaction is active
-abbrev pub row_tests : State → TxnId → List (Option Refusal)
-row_tests s t = where_true (nat_lt (max_count - 4) s.accepted) no.WornOut ∷ commit_tests s t
+-- three commands can be counted still
+abbrev pub renewing_tests : ManagerView → List (Option Refusal) → List (Option Refusal)
+renewing_tests m tests = where_true (nat_lt (max_count - 3) m.accepted) no.WornOut ∷ tests
 
--- refused so, and all is as it was
-pub record Refused {A : Type 0} (s : State) (v : RegistryView) (r : Refusal) (result : Result A Refusal) (s' : State) (v' : RegistryView) : Type 0 where
-  pub answer_is : result ≡ Err r
-  pub same_state : s' ≡ s
-  pub same_registry : v' ≡ v
+-- a record is adopted and locked, and then another is forgotten
+pub record Replaces (m : ManagerView) (t : TxnId) (f : NodeId) (keys : Keys) (mode : Mode) (old new : NodeId) (m' : ManagerView) : Type 0 where
+  pub mid : ManagerView
+  pub adopts : AdoptsLocked m t f keys mode new mid
+  pub forgets : Does mid (command.Forget old) (doing [] tt) m'
 
--- past the tests: there is no room for its name, or the node by which it is named is locked, or it is adopted anew
-abbrev pub LocksActive : State → RegistryView → Wish → Result Locked Refusal → Told → State → RegistryView → Type 0
-LocksActive s v w result told s' v' =
-    Refused s v no.NoMemory result s' v' ⊎ ((n : NodeId) × IsNamed s v w.row w.keys.now n × LocksNamed n s v w result told s' v')
-    ⊎ (((n : NodeId) → IsNamed s v w.row w.keys.now n → ⊥) × Renews s v w result told s' v')
+-- so it is, or it is refused, and then all is as it was
+abbrev pub RenewsNode : ManagerView → TxnId → NodeId → Keys → Mode → NodeId → Result NodeId Refusal → ManagerView → Type 0
+RenewsNode m t f keys mode old (Ok n) m' = Replaces m t f keys mode old n m'
+RenewsNode m t f keys mode old (Err r) m' =
+    Refuses {T = NodeId} (first_refusal (renewing_tests m (adopting_tests (state_of m) t f keys.now mode))) (Err r) × (m' ≡ m)
 
--- a row's lock is refused by its first test that finds a reason; else it goes
-abbrev pub LocksUnless : Option Refusal → State → RegistryView → Wish → Result Locked Refusal → Told → State → RegistryView → Type 0
-LocksUnless (Some r) s v w result told s' v' = Refused s v r result s' v'
-LocksUnless None s v w result told s' v' = LocksActive s v w result told s' v'
+-- a row whose node nobody holds or waits for gets another
+abbrev pub Renews : NodeId → ManagerView → RowsView → Wish → Result RowLocked RowRefusal → Told → ManagerView → RowsView → Type 0
+Renews n m v w (Ok x) told m' v' = Replaces m w.txn w.row.file w.keys w.mode n x.node m' × NamesNew v w x told v'
+Renews n m v w (Err (row_no.Refused r)) told m' v' = NoneNew (renewing_tests m (wish_tests m w)) m v r told m' v'
+Renews n m v w (Err row_no.NotRows) told m' v' = ⊥
 
--- a row is locked
-abbrev pub LocksRow : State → RegistryView → Wish → Result Locked Refusal → Told → State → RegistryView → Type 0
-LocksRow s v w result told s' v' = LocksUnless (first_refusal (row_tests s w.txn)) s v w result told s' v'
+-- nobody holds the node or waits for it, and its keys are others than those that were said
+pub record IsStale (s : State) (n : NodeId) (keys : Keys) : Type 0 where
+  pub idle : is_idle s n ≡ true
+  pub others : keys_in (shape_of s.graph n) ≢ keys.now
+
+-- of a row by its name: one that is named is locked by its node, but gets another where that is stale; one without a name gets a node, if its file has rows
+abbrev pub LocksBy : Option NodeId → ManagerView → RowsView → Wish → Result RowLocked RowRefusal → Told → ManagerView → RowsView → Type 0
+LocksBy (Some n) m v w result told m' v' =
+    ((IsStale (state_of m) n w.keys → ⊥) × LocksNamed n m v w result told m' v') ⊎ (IsStale (state_of m) n w.keys × Renews n m v w result told m' v')
+LocksBy None m v w result told m' v' =
+    ((has_rows v w.row.file ≡ false) × Refused m v row_no.NotRows result told m' v') ⊎ ((has_rows v w.row.file ≡ true) × Adopts m v w result told m' v')
+
+-- a row is locked, or there is no room to note it
+abbrev pub LocksRow : ManagerView → RowsView → Wish → Result RowLocked RowRefusal → Told → ManagerView → RowsView → Type 0
+LocksRow m v w result told m' v' = Refused m v (row_no.Refused no.NoMemory) result told m' v' ⊎ LocksBy (name_of v w.row) m v w result told m' v'

@@ -1,8 +1,9 @@
 -- What is promised of rows: of a file and a key for each of its indexes, whether or not a record stands for them.
-use Rattle.std.specs.Prelude.{◌≡◌, ◌≢◌, ℕ, Bool, true, false, List, length, if◌then◌else◌}
+use Rattle.std.specs.Prelude.{◌≡◌, ◌≢◌, ◌||◌, ℕ, Bool, true, false, List, Option, Some, None, Result, length, if◌then◌else◌}
 use Rattle.std.specs.List.{list_all, list_any}
 use Rattle.gl_modes.specs.declared.mode.Mode.TheVariants.{NL}
 use Rattle.gl_modes.specs.declared.node.NodeId.{NodeId}
+use Rattle.gl_modes.specs.declared.refusal.Refusal.{Refusal}
 use Rattle.gl_graph.specs.Graph.{Graph, first_parent, indexes_of, record_parents, shape_of}
 use Rattle.gl_graph.specs.Shapes.{is_file_shape, is_record_shape, keys_in}
 use Rattle.gl_model.specs.declared.answers.Effect.{Effect}
@@ -13,8 +14,18 @@ use Rattle.gl_model.specs.State.{State, lives}
 use Rattle.gl_model.specs.Tellings.{Told}
 use Rattle.gl_catalog.specs.declared.command.Answer.{Answer}
 use Rattle.gl_catalog.specs.declared.command.Command.{Command}
-use Rattle.gl_catalog.specs.Promises.{names, told_granted}
+use Rattle.gl_catalog.specs.declared.manager.paths.Reached.{Reached}
+use Rattle.gl_catalog.specs.Promises.{is_grant_to, names, same_txn, told_granted}
+use Rattle.gl_catalog.specs.Manager.{state_of}
+use Rattle.gl_catalog.specs.Paths.{Ask}
 use Rattle.gl_catalog.specs.Step.{Run}
+use Rattle.gl_registry.specs.declared.answer.RowAnswer.{RowAnswer}
+use Rattle.gl_registry.specs.declared.call.RowCall.{RowCall}
+use Rattle.gl_registry.specs.declared.row.Row.{Row}
+use Rattle.gl_registry.specs.Applying.{AppliesCall, own_command, unnamed}
+use Rattle.gl_registry.specs.Names.{NamesHold}
+use Rattle.gl_registry.specs.Rows.{RegistryView, name_of}
+use Rattle.gl_registry.specs.Serving.{LocksWay, ServesBy, touches_rows}
 
 -- f is a file, and there is a key for each of its indexes
 pub record IsRow (g : Graph) (f : NodeId) (keys : List ℕ) : Type 0 where
@@ -41,6 +52,35 @@ row_effect s t f keys = effect_of (writes_row s t f keys) (reads_row s t f keys)
 abbrev pub NoRowConflict : Type 0
 NoRowConflict = (s : State) (t u : ℕ) (f : NodeId) (keys : List ℕ) → IsLawful s → t ≢ u → writes_row s t f keys ≡ true → reads_row s u f keys ≡ true → ⊥
 
+-- Rows of a registry, with the locks on their own nodes.
+
+-- so it is of the row's node, if it has one
+abbrev pub of_node : (NodeId → Bool) → Option NodeId → Bool
+of_node test None = false
+of_node test (Some n) = test n
+
+-- t may write the row: by a lock further up, as these keys say, or by one on its node
+abbrev pub may_write : RegistryView → ℕ → Row → List ℕ → Bool
+may_write v t row keys =
+    writes_row (state_of v.manager) t row.file keys || of_node (λ n. is_at_least_effect (effective (state_of v.manager) t n) effect.X) (name_of v.rows row)
+
+-- t may read it so
+abbrev pub may_read : RegistryView → ℕ → Row → List ℕ → Bool
+may_read v t row keys =
+    reads_row (state_of v.manager) t row.file keys || of_node (λ n. is_at_least_effect (effective (state_of v.manager) t n) effect.S) (name_of v.rows row)
+
+-- the keys are the row's own: where it has a node, that has them
+abbrev pub OwnKeys : RegistryView → Row → List ℕ → Type 0
+OwnKeys v row keys = (n : NodeId) → name_of v.rows row ≡ Some n → keys_in (shape_of (state_of v.manager).graph n) ≡ keys
+
+-- in a registry no row is written by one transaction and read by another, by whatever locks, where its keys are its own
+abbrev pub NoRowOfTwo : Type 0
+NoRowOfTwo =
+    (v : RegistryView) (t u : ℕ) (row : Row) (keys : List ℕ) → IsLawful (state_of v.manager) → NamesHold v.rows (state_of v.manager).graph
+    → OwnKeys v row keys → t ≢ u → may_write v t row keys ≡ true → may_read v u row keys ≡ true → ⊥
+
+-- Records and their rows.
+
 -- t's effective mode on a record is at least that on its row, and just that where t holds nothing on the record itself
 pub record HasRowEffect (s : State) (t : ℕ) (r : NodeId) (f : NodeId) (keys : List ℕ) : Type 0 where
   pub above : is_at_least_effect (effective s t r) (row_effect s t f keys) ≡ true
@@ -66,3 +106,51 @@ abbrev pub OthersKeepRowEffects : Type 0
 OthersKeepRowEffects =
     (s s' : State) (cs : List Command) (rs : List (Answer × Told)) (t : TxnId) → IsLawful s → Run s cs rs s' → lives s t ≡ true → list_any (names t) cs ≡ false
     → KeepsRowEffects s s' t (told_granted t rs)
+
+-- The same of rows of a registry, with the locks on their own nodes.
+
+-- t's effective mode on a row of a registry, by all its locks
+abbrev pub effect_on : RegistryView → ℕ → Row → List ℕ → Effect
+effect_on v t row keys = effect_of (may_write v t row keys) (may_read v t row keys)
+
+-- a row in both registries, whose keys are its own in both
+pub record IsOwnInBoth (v v' : RegistryView) (row : Row) (keys : List ℕ) : Type 0 where
+  pub rows : IsRowInBoth (state_of v.manager) (state_of v'.manager) row.file keys
+  pub own : OwnKeys v row keys
+  pub still_own : OwnKeys v' row keys
+
+-- t's effective mode on every such row is the same, or the same or greater where t was told of a grant
+pub record KeepsOnRows (v v' : RegistryView) (t : TxnId) (granted : Bool) : Type 0 where
+  pub same : granted ≡ false → (row : Row) (keys : List ℕ) → IsOwnInBoth v v' row keys → effect_on v' t.slot row keys ≡ effect_on v t.slot row keys
+  pub greater : (row : Row) (keys : List ℕ) → IsOwnInBoth v v' row keys → is_at_least_effect (effect_on v' t.slot row keys) (effect_on v t.slot row keys) ≡ true
+
+-- t is told of a grant
+abbrev pub is_granted : TxnId → Told → Bool
+is_granted t told = list_any (is_grant_to t) told
+
+-- what holds of every registry: its state is lawful, and its rows have their names
+pub record IsRegistry (v : RegistryView) : Type 0 where
+  pub law : IsLawful (state_of v.manager)
+  pub names : NamesHold v.rows (state_of v.manager).graph
+
+-- a registry that serves a command by its node leaves that to each living transaction that the command does not name (own)
+abbrev pub CommandsKeepOnRows : Type 0
+CommandsKeepOnRows =
+    (v v' : RegistryView) (c : Command) (result : Option Answer) (told : Told) (t : TxnId) → IsRegistry v → ServesBy (touches_rows v c) v c result told v'
+    → lives (state_of v.manager) t ≡ true → names t c ≡ false → KeepsOnRows v v' t (is_granted t told)
+
+-- one that locks a path leaves it to each other living transaction (own)
+abbrev pub PathsKeepOnRows : Type 0
+PathsKeepOnRows =
+    (v v' : RegistryView) (u : TxnId) (ask : Ask) (result : Result Reached Refusal) (told : Told) (t : TxnId) → IsRegistry v → LocksWay u ask v result told v'
+    → lives (state_of v.manager) t ≡ true → same_txn t u ≡ false → KeepsOnRows v v' t (is_granted t told)
+
+-- the call names t as its transaction: so does the command that it carries out, whatever its row's node
+abbrev pub names_in : TxnId → RowCall → Bool
+names_in t c = names t (own_command unnamed c)
+
+-- one that carries out a call about rows leaves it to each living transaction that the call does not name (own)
+abbrev pub CallsKeepOnRows : Type 0
+CallsKeepOnRows =
+    (v v' : RegistryView) (c : RowCall) (a : RowAnswer) (told : Told) (t : TxnId) → IsRegistry v → AppliesCall v c a told v'
+    → lives (state_of v.manager) t ≡ true → names_in t c ≡ false → KeepsOnRows v v' t (is_granted t told)

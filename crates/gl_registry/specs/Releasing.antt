@@ -1,4 +1,4 @@
--- What the calls do that give locks back: rows that nobody holds any more lose their nodes and their names.
+-- What the calls do that give locks back, or a row another key: rows that nobody holds any more lose their nodes and their names.
 use Rattle.std.specs.Prelude.{◌≡◌, ℕ, Bool, true, not, ◌&&◌, ◌==◌, List, [], ◌∷◌, Option, Some, None, Result, Ok, Err, map, is_some, get_or, unwrap_or, if◌then◌else◌}
 use Rattle.std.specs.List.{list_any}
 use Rattle.std.specs.Map.{lookup}
@@ -10,11 +10,14 @@ use Rattle.gl_model.specs.State.{State}
 use Rattle.gl_model.specs.Tellings.{Told}
 use Rattle.gl_catalog.specs.declared.command.Command.{Command}
 use Rattle.gl_catalog.specs.declared.command.Command.TheVariants as command
+use Rattle.gl_catalog.specs.Manager.{ManagerView, state_of}
 use Rattle.gl_catalog.specs.Replies.{Says, doing}
 use Rattle.gl_catalog.specs.Tests.{refusal_of}
+use Rattle.gl_registry.specs.declared.answer.RowRefusal.{RowRefusal}
+use Rattle.gl_registry.specs.declared.answer.RowRefusal.TheVariants as row_no
 use Rattle.gl_registry.specs.declared.row.Row.{Row}
-use Rattle.gl_registry.specs.Locking.{LetsGo, Names, Runs, forgets, refuses}
-use Rattle.gl_registry.specs.Rows.{RegistryView, has_asked, name_of, same_row}
+use Rattle.gl_registry.specs.Locking.{Does, IsRefused, LetsGo, Names, Refused, Runs, SameAccount, forgets}
+use Rattle.gl_registry.specs.Rows.{RowsView, has_asked, has_rows, name_of, same_row}
 
 -- the name, where its node lives
 abbrev pub living : Graph → Option NodeId → Option NodeId
@@ -36,26 +39,72 @@ pub record LetsEachGo (s : State) (ns : Names) (rows : List Row) (s' : State) (n
   pub names : (q : Row) → lookup (same_row q) ns' ≡ (if is_among rows q then living s'.graph (lookup (same_row q) ns) else lookup (same_row q) ns)
   pub kept : (q : Row) (n : NodeId) → is_among rows q ≡ true → lookup (same_row q) ns' ≡ Some n → is_some (refusal_of s' (command.Forget n)) ≡ true
 
+-- the name that names nothing
+abbrev pub no_node : NodeId
+no_node = record { key = 0; birth = 0 }
+
 -- the node by which a row is named; else the name that names nothing
-abbrev pub named_or_none : RegistryView → Row → NodeId
-named_or_none v row = unwrap_or (name_of v row) (record { key = 0; birth = 0 })
+abbrev pub named_or_none : RowsView → Row → NodeId
+named_or_none v row = unwrap_or (name_of v row) no_node
 
--- a row is unlocked: its node is, and is forgotten where it can be; the transaction of the slot asks for it no more
-abbrev pub UnlocksRow : State → RegistryView → TxnId → Row → Result (Unit {0}) Refusal → Told → State → RegistryView → Type 0
-UnlocksRow s v t row (Ok u) told s' v' =
-    (mid : State) × (gone : Result (Unit {0}) Refusal) × Runs s ((command.Unlock t (named_or_none v row), doing told tt) ∷ []) mid
-    × LetsGo mid v.names row gone s' v'.names × ((w : ℕ) (q : Row) → has_asked v' w q ≡ (has_asked v w q && not ((w == t.slot) && same_row row q)))
-UnlocksRow s v t row (Err r) told s' v' = Runs s (refuses (command.Unlock t (named_or_none v row)) r ∷ []) s' × (v' ≡ v)
+-- a row without a node is refused where its file has no rows
+abbrev pub node_or_no : Option NodeId → Bool → Result NodeId RowRefusal
+node_or_no (Some n) has = Ok n
+node_or_no None has = if has then Ok no_node else Err row_no.NotRows
 
--- a transaction ends by this command, and the rows that it has asked for are let go
-abbrev pub EndsTxn : Command → State → RegistryView → ℕ → Result (Unit {0}) Refusal → Told → State → RegistryView → Type 0
-EndsTxn c s v slot (Ok u) told s' v' =
-    (mid : State) × Runs s ((c, doing told tt) ∷ []) mid × LetsEachGo mid v.names (get_or v.asked slot []) s' v'.names
-    × ((w : ℕ) (q : Row) → has_asked v' w q ≡ (has_asked v w q && not (w == slot)))
-EndsTxn c s v slot (Err r) told s' v' = Runs s (refuses c r ∷ []) s' × (v' ≡ v)
+-- the node that a call about a row is of
+abbrev pub node_for : RowsView → Row → Result NodeId RowRefusal
+node_for v row = node_or_no (name_of v row) (has_rows v row.file)
+
+-- the transaction of the slot asks for the row no more
+abbrev pub Unasks : RowsView → RowsView → ℕ → Row → Type 0
+Unasks v v' slot row = (w : ℕ) (q : Row) → has_asked v' w q ≡ (has_asked v w q && not ((w == slot) && same_row row q))
+
+-- a node that stands for a row is unlocked, and is forgotten where it can be
+pub record Unlocks (m : ManagerView) (v : RowsView) (t : TxnId) (row : Row) (n : NodeId) (told : Told) (m' : ManagerView) (v' : RowsView) : Type 0 where
+  pub mid : ManagerView
+  pub gone : Result (Unit {0}) Refusal
+  pub unlocks : Does m (command.Unlock t n) (doing told tt) mid
+  pub goes : LetsGo (state_of mid) v.names row gone (state_of m') v'.names
+  pub account : SameAccount mid m'
+  pub files : v'.files ≡ v.files
+  pub asked : Unasks v v' t.slot row
+
+-- the same where it may be refused
+abbrev pub UnlocksBy : Result NodeId RowRefusal → ManagerView → RowsView → TxnId → Row → Result (Unit {0}) RowRefusal → Told → ManagerView → RowsView → Type 0
+UnlocksBy (Err r) m v t row result told m' v' = Refused m v r result told m' v'
+UnlocksBy (Ok n) m v t row (Ok u) told m' v' = Unlocks m v t row n told m' v'
+UnlocksBy (Ok n) m v t row (Err (row_no.Refused r)) told m' v' = IsRefused m v (command.Unlock t n) r told m' v'
+UnlocksBy (Ok n) m v t row (Err row_no.NotRows) told m' v' = ⊥
+
+-- a row is unlocked
+abbrev pub UnlocksRow : ManagerView → RowsView → TxnId → Row → Result (Unit {0}) RowRefusal → Told → ManagerView → RowsView → Type 0
+UnlocksRow m v t row result told m' v' = UnlocksBy (node_for v row) m v t row result told m' v'
+
+-- a node gets another key for one index, or that is refused
+abbrev pub RekeysBy : Result NodeId RowRefusal → ManagerView → RowsView → TxnId → NodeId → ℕ → Result (Unit {0}) RowRefusal → Told → ManagerView → RowsView → Type 0
+RekeysBy (Err r) m v t index key result told m' v' = Refused m v r result told m' v'
+RekeysBy (Ok n) m v t index key (Ok u) told m' v' = Does m (command.Rekey t n index key) (doing told tt) m' × (v' ≡ v)
+RekeysBy (Ok n) m v t index key (Err (row_no.Refused r)) told m' v' = IsRefused m v (command.Rekey t n index key) r told m' v'
+RekeysBy (Ok n) m v t index key (Err row_no.NotRows) told m' v' = ⊥
+
+-- a row's node gets another key for one index
+abbrev pub RekeysRow : ManagerView → RowsView → TxnId → Row → NodeId → ℕ → Result (Unit {0}) RowRefusal → Told → ManagerView → RowsView → Type 0
+RekeysRow m v t row index key result told m' v' = RekeysBy (node_for v row) m v t index key result told m' v'
+
+-- the rows that the transaction of a slot has asked for are let go
+pub record LetsGoAsked (m : ManagerView) (v : RowsView) (slot : ℕ) (m' : ManagerView) (v' : RowsView) : Type 0 where
+  pub goes : LetsEachGo (state_of m) v.names (get_or v.asked slot []) (state_of m') v'.names
+  pub account : SameAccount m m'
+  pub files : v'.files ≡ v.files
+
+-- a transaction ends by this command, and asks for nothing more; the rows that it has asked for are let go
+abbrev pub EndsTxn : Command → ManagerView → RowsView → ℕ → Result (Unit {0}) Refusal → Told → ManagerView → RowsView → Type 0
+EndsTxn c m v slot (Ok u) told m' v' =
+    (mid : ManagerView) × Does m c (doing told tt) mid × LetsGoAsked mid v slot m' v' × ((w : ℕ) (q : Row) → has_asked v' w q ≡ (has_asked v w q && not (w == slot)))
+EndsTxn c m v slot (Err r) told m' v' = IsRefused m v c r told m' v'
 
 -- locks are given back by this command, which says so, and the rows that the transaction has asked for are let go
-abbrev pub GivesBack : {A : Type 0} → (A → Says) → Command → State → RegistryView → ℕ → Result A Refusal → State → RegistryView → Type 0
-GivesBack says c s v slot (Ok x) s' v' =
-    (mid : State) × Runs s ((c, says x) ∷ []) mid × LetsEachGo mid v.names (get_or v.asked slot []) s' v'.names × (v'.asked ≡ v.asked)
-GivesBack says c s v slot (Err r) s' v' = Runs s (refuses c r ∷ []) s' × (v' ≡ v)
+abbrev pub GivesBack : {A : Type 0} → (A → Says) → Command → ManagerView → RowsView → ℕ → Result A Refusal → Told → ManagerView → RowsView → Type 0
+GivesBack says c m v slot (Ok x) told m' v' = (mid : ManagerView) × Does m c (says x) mid × LetsGoAsked mid v slot m' v' × (v'.asked ≡ v.asked)
+GivesBack says c m v slot (Err r) told m' v' = IsRefused m v c r told m' v'

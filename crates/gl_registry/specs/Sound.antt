@@ -1,11 +1,11 @@
--- What a contract sees of a registry's fields, and what holds of them always. For the crate.
+-- What a contract sees of the fields of rows, and what holds of them always. For the crate.
 use Rattle.std.specs.Prelude.{◌≡◌, ◌<◌, ℕ, Bool, List, [], Some, get_or, length, map, slice_get}
 use Rattle.std.specs.List.{list_any}
 use Rattle.indexmap.specs.IndexSet.{IndexSet, spare}
 use Rattle.gl_modes.specs.declared.node.NodeId.{NodeId}
-use Rattle.gl_registry.specs.Rows.{RegistryView, same_row}
+use Rattle.gl_registry.specs.Rows.{RowsView, same_row}
 use Rattle.gl_registry.specs.declared.row.Row.{Row}
-use Rattle.gl_registry.specs.declared.registry.Registry.TheInside.{Inside}
+use Rattle.gl_registry.specs.declared.rows.Rows.TheInside.{Inside}
 
 -- sets of rows, as they are kept
 abbrev pub Sets : Type 0 → Type 0
@@ -24,13 +24,13 @@ module _ {H : Type 0} (sets : Sets H) where
   abbrev pub HasRoom : ℕ → Type 0
   HasRoom slot = (set : IndexSet Row H) → slice_get sets slot ≡ Some set → 0 < spare set
 
--- names and sets as a contract sees them
-abbrev pub viewed : {H : Type 0} → List (Row × NodeId) → Sets H → RegistryView
-viewed names sets = record { names = names; asked = rows_of sets }
+-- files, names and sets as a contract sees them
+abbrev pub viewed : {H : Type 0} → List NodeId → List (Row × NodeId) → Sets H → RowsView
+viewed files names sets = record { files = files; names = names; asked = rows_of sets }
 
 -- what a contract sees
-abbrev pub view_of : Inside → RegistryView
-view_of m = viewed m.names.entries m.asked.items
+abbrev pub view_of : Inside → RowsView
+view_of m = viewed m.files.keys m.names.entries m.asked.items
 
 -- there is a set for each number that a slot may have
 abbrev pub IsSound : Inside → Type 0

@@ -8,11 +8,29 @@ use gl_catalog::Command;
 use gl_modes::{Mode, NodeId};
 use gl_table::TxnId;
 
-/// One call about rows, or one by which rows may lose their nodes. Each stands for the call of
-/// `Registry` with its name.
+/// One call about rows, or one by which rows may lose their nodes. A call that gives locks back lets
+/// go each row that its transaction has asked for and that nobody holds or waits for any more.
+///
+/// A call about a row of a file that is none of rows is refused with `NotRows` before all else. Others
+/// are refused as the command that they stand for, and a row's lock also as it says.
 #[derive(Clone, Copy)]
 pub enum RowCall<'a> {
-    /// Lock a row whose keys are these, one for each index of its file.
+    /// A new file, under 1 to 8 inner nodes, of which each record is a row by its number. No record of
+    /// it is made, taken away or changed by its node.
+    File {
+        parents: &'a [NodeId],
+    },
+    /// Lock a row whose keys are these, one for each index of its file in order of their making. A row
+    /// without a node gets one with these keys, and so does one whose node nobody holds or waits for.
+    /// Any other is locked by the node that it has, whatever its keys, and the answer says whether they
+    /// are those that were said.
+    ///
+    /// A row that has a node is refused as the lock of that node. One that gets a node is refused, in
+    /// this order, with `WornOut` (fewer than two commands can be counted any more, or three where it
+    /// loses another node), `NoSuchTxn`, `TxnWaiting`, `TxnCondemned`, as `Command::Adopt`, with
+    /// `BadMode` (other than `S` and `X`) and with `NeedParents`. `NoMemory` may come before all of
+    /// these. A row that is to be inserted is locked in `X` by its number, and so is one that is to be
+    /// deleted.
     Lock {
         txn: TxnId,
         row: Row,
@@ -21,17 +39,6 @@ pub enum RowCall<'a> {
     },
     /// Release a row.
     Unlock {
-        txn: TxnId,
-        row: Row,
-    },
-    /// A new row, with a key for each index of its file, held in X.
-    Insert {
-        txn: TxnId,
-        row: Row,
-        keys: &'a [u64],
-    },
-    /// Take a row away.
-    Delete {
         txn: TxnId,
         row: Row,
     },
@@ -68,6 +75,7 @@ impl<'a> RowCall<'a> {
         ensures { result ≡ own_command unnamed self.entry }
     {
         match self {
+            RowCall::File { parents } => Command::File { parents },
             RowCall::Lock { txn, mode, .. } => Command::Lock {
                 txn,
                 node: NodeId::NONE,
@@ -76,15 +84,6 @@ impl<'a> RowCall<'a> {
             RowCall::Unlock { txn, .. } => Command::Unlock {
                 txn,
                 node: NodeId::NONE,
-            },
-            RowCall::Insert { txn, row, keys } => Command::Insert {
-                txn,
-                file: row.file,
-                keys,
-            },
-            RowCall::Delete { txn, .. } => Command::Delete {
-                txn,
-                rec: NodeId::NONE,
             },
             RowCall::Rekey {
                 txn,

@@ -1,12 +1,14 @@
 //! The laws of rows, each the contract of a call that does nothing.
 
-ghost use Rattle.gl_registry.specs.Names.{EachCallKeeps, NameWell, NoneIsLeftOut, NoneIsNamedWell, RecordsStayNamed};
-ghost use Rattle.gl_registry.specs.Promises.{NoRowConflict, OthersKeepRowEffects, RecordsHaveRowEffects};
+ghost use Rattle.gl_registry.specs.Promises.{CallsKeepOnRows, CommandsKeepOnRows, PathsKeepOnRows};
+ghost use Rattle.gl_registry.specs.Promises.{NoRowConflict, NoRowOfTwo, OthersKeepRowEffects, RecordsHaveRowEffects};
 
-/// In a lawful state no row is written by one transaction and read by another, whether or not a
-/// record stands for it.
+/// No row is written by one transaction and read by another: by locks further up in any lawful state,
+/// whether or not a record stands for it; and in a registry by any locks, those on the row's own node
+/// included, where the keys are the row's own.
 pub fn no_row_conflict()
-    ensures { NoRowConflict }
+    ensures above { NoRowConflict }
+    ensures all { NoRowOfTwo }
 {}
 
 /// In a lawful state a transaction's effective mode on a record is at least that on its row, and just
@@ -15,22 +17,14 @@ pub fn records_have_row_effects()
     ensures { RecordsHaveRowEffects }
 {}
 
-/// Over a run that does not name it, a transaction's effective modes on rows stay, or grow where it
-/// was told of a grant, whether or not a record stands for the row.
+/// What does not name a transaction leaves its effective modes on rows as they are, or greater where
+/// it was told of a grant: over a run those by locks further up, whether or not a record stands for the
+/// row; and over a command by its node, a path, and a call about rows, each as a registry serves it,
+/// those by any locks, those on the row's own node included, where the keys are the row's own before
+/// and after, whether or not the row gets a node by it, or loses it, or gets another.
 pub fn others_keep_row_effects()
-    ensures { OthersKeepRowEffects }
-{}
-
-/// Each node that names a row lives as a record of the row's file, and no two rows have one node: where
-/// it is so before, it is so after each call; and it is so in a new registry.
-pub fn names_stay_well()
-    ensures start { NoneIsNamedWell }
-    ensures kept { EachCallKeeps NameWell }
-{}
-
-/// Each record of a file names a row of it: where it is so before, it is so after each call; and it is
-/// so in a new registry over a file without records.
-pub fn records_stay_named()
-    ensures start { NoneIsLeftOut }
-    ensures kept { RecordsStayNamed }
+    ensures above { OthersKeepRowEffects }
+    ensures by_command { CommandsKeepOnRows }
+    ensures by_path { PathsKeepOnRows }
+    ensures by_call { CallsKeepOnRows }
 {}

@@ -2,13 +2,16 @@
 //! the laws of rows, whether or not a node stands for them.
 #![tactic(auto)]
 
+mod answer;
 mod call;
 pub mod laws;
 mod names;
 mod registry;
 mod row;
+mod rows;
 mod sets;
 
+pub use answer::{RowAnswer, RowLocked, RowRefusal};
 pub use call::RowCall;
 pub use registry::Registry;
 pub use row::Row;

@@ -1,30 +1,39 @@
-//! The registry: which node stands for a row.
+//! The registry: a manager, and which node stands for a row.
 
-ghost use Rattle.std.specs.Prelude.{◌≡◌, ℕ, IfErr, IfOk, None, false, length};
+ghost use Rattle.std.specs.Prelude.{◌≡◌, ℕ, [], IfErr, IfOk, None, false, length, true};
+ghost use Rattle.gl_modes.specs.declared.node.NodeId.{NodeId as ANode};
 ghost use Rattle.gl_modes.specs.declared.refusal.Refusal.{Refusal as ARefusal};
+ghost use Rattle.gl_catalog.specs.Manager.{IsLawfulManager, state_of};
 ghost use Rattle.gl_registry.specs.declared.row.Row.{Row as ARow};
-ghost use Rattle.gl_registry.specs.Rows.{has_asked, name_of};
+ghost use Rattle.gl_graph.specs.Graph.{first_parent};
+ghost use Rattle.gl_graph.specs.View.{graph_of};
+ghost use Rattle.gl_registry.specs.Applying.{AppliesCall, AppliesRow, CarriesOut, answer_in, naming, own_command};
+ghost use Rattle.gl_registry.specs.Names.{NameWell, NamesHold};
+ghost use Rattle.gl_registry.specs.Rows.{has_asked, has_rows, name_of};
+ghost use Rattle.gl_registry.specs.Serving.{LocksWay, ServesBy, touches_rows};
 
+use crate::answer::{RowAnswer, done_row, lock_answer};
+use crate::call::RowCall;
 use crate::row::Row;
-use crate::sets::empty_sets;
-use gl_modes::{NodeId, Refusal};
-use indexmap::{IndexMap, IndexSet};
+use crate::rows::Rows;
+use gl_catalog::replies::{done_answer, escalate_answer, node_answer};
+use gl_catalog::{Answer, Command, Manager, Reached};
+use gl_graph::Graph;
+use gl_modes::{Mode, NodeId, Refusal};
+use gl_table::{Told, TxnId};
 use std::alloc::Global;
 use std::marker::Model;
 
-mod apply;
-mod lock;
-mod records;
-mod release;
-
-/// The node of each row that stands, and for each slot the rows that its transaction has asked for.
+/// A manager with files of rows, whose records come and go by the calls about rows alone.
 ///
 /// A row gets its node by the call that locks it, and loses it where nobody holds it or waits for it
-/// any more. Each call takes the manager whose nodes these are.
+/// any more. The registry owns the manager, lends it for questions, and serves every command: so each
+/// name stands for a living record of its file, no two rows have one node, and each record of a file of
+/// rows names a row of it.
 #[derive(Drop)]
 pub struct Registry {
-    names: IndexMap<Row, NodeId>,
-    asked: Vec<IndexSet<Row>>,
+    manager: Manager,
+    rows: Rows,
 }
 
 impl Model for Registry {
@@ -32,37 +41,167 @@ impl Model for Registry {
 
     ghost Value = { RegistryView };
 
-    ghost use Rattle.gl_registry.specs.Sound.{view_of, IsSound};
+    ghost use Rattle.gl_registry.specs.Owned.{registry_of, IsNamedWell};
 
-    ghost view = { view_of };
+    ghost view = { registry_of };
 
-    ghost invariant = { IsSound };
+    ghost invariant = { IsNamedWell };
 }
 
 impl Registry {
-    /// A registry of no rows. The only refusal is `NoMemory`.
-    pub fn new(alloc: Global) -> Result<Self, Refusal>
-        ensures unnamed { IfOk result (λ registry. (row : ARow) → name_of registry row ≡ None) }
-        ensures unasked { IfOk result (λ registry. (slot : ℕ) (row : ARow) → has_asked registry slot row ≡ false) }
+    /// A registry over this manager, in which no file has rows. The only refusal is `NoMemory`.
+    pub fn new(alloc: Global, manager: Manager) -> Result<Self, Refusal>
+        ensures manager { IfOk result (λ registry. registry.manager ≡ manager) }
+        ensures fileless { IfOk result (λ registry. (file : ANode) → has_rows registry.rows file ≡ false) }
+        ensures unnamed { IfOk result (λ registry. (row : ARow) → name_of registry.rows row ≡ None) }
+        ensures unasked { IfOk result (λ registry. (slot : ℕ) (row : ARow) → has_asked registry.rows slot row ≡ false) }
         ensures refused { IfErr result (λ refusal. refusal ≡ ARefusal.NoMemory) }
     {
-        Ok(Registry {
-            names: IndexMap::new(alloc),
-            asked: empty_sets(alloc)?,
-        })
+        let rows = Rows::new(alloc)?;
+        Ok(Registry { manager, rows })
+    }
+
+    /// The law of every registry, whatever it has served.
+    pub fn law(&self)
+        ensures names { NamesHold self.now.rows (state_of self.now.manager).graph }
+        ensures manager { IsLawfulManager self.now.manager }
+    {
+        self.manager.law();
+        let _ = &self.rows;
+    }
+
+    /// The manager, to be asked.
+    pub fn manager(&self) -> &Manager
+        ensures { result.now ≡ self.now.manager }
+    {
+        &self.manager
+    }
+
+    /// Whether the node is a file of rows.
+    pub fn has_rows(&self, file: NodeId) -> bool
+        ensures { result ≡ has_rows self.now.rows file }
+    {
+        self.rows.has(file)
     }
 
     /// The node by which a row is named; `None` where nobody holds it or waits for it.
     pub fn node(&self, row: Row) -> Option<NodeId>
-        ensures { result ≡ name_of self.now row }
+        ensures { result ≡ name_of self.now.rows row }
     {
-        self.names.get(&row).copied()
+        self.rows.node(row)
     }
 
     /// How many rows are named.
     pub fn len(&self) -> usize
-        ensures { result ≡ length self.now.names }
+        ensures { result ≡ length self.now.rows.names }
     {
-        self.names.len()
+        self.rows.len()
+    }
+
+    /// Carries out one command, and answers it as `Manager::apply_telling`. `None` where it would make,
+    /// take away or change a record of a file of rows by its node: then nothing has changed, whatever
+    /// else could be said against it. Notices are put into an empty list.
+    #[inline(always)]
+    pub fn serve(&mut self, command: Command<'_>, told: &mut Told) -> Option<Answer>
+        requires empty { told.old.items ≡ [] }
+        ensures { ServesBy (touches_rows self.old command.entry) self.old command.entry result told.new.items self.new }
+    {
+        if self.touches_rows(&command) {
+            return None;
+        }
+        self.manager.law();
+        Some(self.manager.apply_telling(command, told))
+    }
+
+    /// Locks a node with what has to be held above it, as `Manager::lock_path_telling`.
+    pub fn lock_path(
+        &mut self,
+        t: TxnId,
+        node: NodeId,
+        mode: Mode,
+        told: &mut Told,
+    ) -> Result<Reached, Refusal>
+        requires empty { told.old.items ≡ [] }
+        ensures { LocksWay t (node, mode) self.old result told.new.items self.new }
+    {
+        self.manager.lock_path_telling(t, node, mode, told)
+    }
+
+    /// Carries out one call about rows. Notices are put into an empty list.
+    ///
+    /// It is one step of the command that it stands for, on the node by which its row is named; before
+    /// and behind that, records that nobody holds are adopted and forgotten, which tells nobody and
+    /// ends nobody's wait. Where it is refused, nothing has changed.
+    ///
+    /// `RowCall` says of each call when it is refused, and with what.
+    pub fn apply(&mut self, call: RowCall<'_>, told: &mut Told) -> RowAnswer
+        requires empty { told.old.items ≡ [] }
+        ensures applies { AppliesCall self.old call.entry result told.new.items self.new }
+        ensures own { CarriesOut self.old.manager (own_command (naming call.entry self.old.rows self.new.rows) call.entry) (answer_in result) told.new.items self.new.manager }
+    {
+        self.manager.law();
+        carry_out(&mut self.manager, &mut self.rows, call, told)
+    }
+
+    /// Whether the command would make, take away or change a record of a file of rows.
+    #[inline(always)]
+    fn touches_rows(&self, command: &Command<'_>) -> bool
+        ensures { result ≡ touches_rows self.now command.now }
+    {
+        match *command {
+            Command::Insert { file, .. } | Command::Adopt { file, .. } => self.rows.has(file),
+            Command::Delete { rec, .. } | Command::Rekey { rec, .. } | Command::Forget { rec } => {
+                self.rows.has(first_parent(self.manager.graph(), rec))
+            }
+            _ => false,
+        }
+    }
+}
+
+/// The first parent of a node: of a record its file.
+fn first_parent(graph: &Graph, node: NodeId) -> NodeId
+    ensures { result ≡ first_parent (graph_of graph.now) node }
+{
+    graph.parents(node).first().copied().unwrap_or(NodeId::NONE)
+}
+
+/// Carries out one call by the call that does it.
+fn carry_out(
+    manager: &mut Manager,
+    rows: &mut Rows,
+    call: RowCall<'_>,
+    told: &mut Told,
+) -> RowAnswer
+    requires empty { told.old.items ≡ [] }
+    requires stands { NameWell (name_of rows.old) (state_of manager.old).graph }
+    ensures { AppliesRow manager.old rows.old call.entry result told.new.items manager.new rows.new }
+{
+    match call {
+        RowCall::File { parents } => RowAnswer::Answered(node_answer(rows.add_file(
+            manager, parents,
+        ))),
+        RowCall::Lock {
+            txn,
+            row,
+            keys,
+            mode,
+        } => lock_answer(rows.lock(manager, txn, row, keys, mode, told)),
+        RowCall::Unlock { txn, row } => done_row(rows.unlock(manager, txn, row, told)),
+        RowCall::Rekey {
+            txn,
+            row,
+            index,
+            key,
+        } => done_row(rows.rekey(manager, txn, row, index, key, told)),
+        RowCall::Commit { txn } => RowAnswer::Answered(done_answer(rows.commit(
+            manager, txn, told,
+        ))),
+        RowCall::Abort { txn } => RowAnswer::Answered(done_answer(rows.abort(manager, txn, told))),
+        RowCall::Cancel { txn } => RowAnswer::Answered(done_answer(rows.cancel(
+            manager, txn, told,
+        ))),
+        RowCall::Escalate { txn, node } => {
+            RowAnswer::Answered(escalate_answer(rows.escalate(manager, txn, node, told)))
+        }
     }
 }

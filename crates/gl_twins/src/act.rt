@@ -1,17 +1,15 @@
 //! What a transaction asks of either engine, and what it is answered.
 
 use crate::site::Line;
-use gl_catalog::{Answer, Command, Escalated, Reply};
+use gl_catalog::{Answer, Command};
 use gl_modes::{Mode, NodeId, Refusal};
-use gl_table::{Locked, Told, TxnId};
+use gl_table::TxnId;
 
 /// What a transaction asks for rows and for nodes that stand in both engines.
 #[derive(Clone, Copy)]
 pub enum Act {
     Lock(Line, Mode),
     Unlock(Line),
-    Insert(Line),
-    Delete(Line),
     Rekey(Line, NodeId, u64),
     Release(NodeId),
     Escalate(NodeId),
@@ -19,35 +17,6 @@ pub enum Act {
     Cancel,
     Commit,
     Abort,
-}
-
-/// The answer to a lock.
-pub fn locked(outcome: Result<Locked, Refusal>, told: Told) -> Reply {
-    let answer = match outcome {
-        Ok(Locked::Granted(mode)) => Answer::Granted(mode),
-        Ok(Locked::Waiting) => Answer::Waiting,
-        Ok(Locked::Victim) => Answer::Victim,
-        Err(refusal) => Answer::Refused(refusal),
-    };
-    Reply { answer, told }
-}
-
-/// The answer to what is done or refused.
-pub fn done(outcome: Result<(), Refusal>, told: Told) -> Reply {
-    let answer = match outcome {
-        Ok(()) => Answer::Done,
-        Err(refusal) => Answer::Refused(refusal),
-    };
-    Reply { answer, told }
-}
-
-/// The answer to an escalation.
-pub fn raised(outcome: Result<Escalated, Refusal>, told: Told) -> Reply {
-    let answer = match outcome {
-        Ok(escalated) => Answer::Escalated(escalated),
-        Err(refusal) => Answer::Refused(refusal),
-    };
-    Reply { answer, told }
 }
 
 /// The command of an act that names no row; a begin for any other.

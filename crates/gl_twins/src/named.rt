@@ -1,40 +1,79 @@
 //! The engine whose rows have nodes while they are locked.
 
-use crate::act::{Act, command, done, locked, raised};
+use crate::act::{Act, command};
 use crate::site::{Line, ROWS, Site};
 use gl_catalog::{Answer, Command, Manager, Reached, Reply};
 use gl_modes::{Mode, NodeId, Refusal};
-use gl_registry::{Registry, Row};
-use gl_table::{Detect, Effect, Told, TxnId};
+use gl_registry::{Registry, Row, RowAnswer, RowCall, RowLocked};
+use gl_table::{Detect, Effect, Locked, Told, TxnId};
 use std::alloc::Global;
 
-/// A manager, and the registry of the rows in it.
+/// A registry over the site, whose file is one of rows.
 #[derive(Drop)]
 pub struct Named {
-    pub manager: Manager,
     pub site: Site,
     pub registry: Registry,
 }
 
-/// A manager over the site, in which one transaction has ended.
-fn prepare(alloc: Global, detect: Detect) -> Result<(Manager, Site), Refusal> {
-    let mut manager = Manager::new(alloc, detect, 4)?;
-    let site = Site::make(&mut manager)?;
-    let t = manager.begin()?;
-    manager.commit_telling(t, &mut Told::new())?;
-    Ok((manager, site))
+/// A registry over a manager of four transactions.
+fn open_registry(alloc: Global, detect: Detect) -> Result<Registry, Refusal> {
+    let manager = Manager::new(alloc, detect, 4)?;
+    Registry::new(alloc, manager)
+}
+
+/// What a call about rows is answered, as a command is, and whether the keys are the row's own.
+fn as_command(answer: RowAnswer) -> (Answer, bool) {
+    match answer {
+        RowAnswer::Locked(
+            RowLocked {
+                locked,
+                own_keys,
+                ..
+            },
+        ) => {
+            let answer = match locked {
+                Locked::Granted(mode) => Answer::Granted(mode),
+                Locked::Waiting => Answer::Waiting,
+                Locked::Victim => Answer::Victim,
+            };
+            (answer, own_keys)
+        }
+        RowAnswer::Answered(answer) => (answer, true),
+        RowAnswer::NotRows => (Answer::Refused(Refusal::BadLine), true),
+    }
 }
 
 impl Named {
     /// No row has a node. One transaction ends before all others, as in the other engine.
     pub fn open(alloc: Global, detect: Detect) -> Result<Named, Refusal> {
-        let (manager, site) = prepare(alloc, detect)?;
-        let registry = Registry::new(alloc)?;
-        Ok(Named {
-            manager,
-            site,
-            registry,
-        })
+        let mut registry = open_registry(alloc, detect)?;
+        let site = Site::make_of_rows(&mut registry);
+        let mut named = Named { site, registry };
+        let t = named.begin();
+        named.commit(t);
+        Ok(named)
+    }
+
+    /// The manager, to be asked.
+    pub fn manager(&self) -> &Manager {
+        self.registry.manager()
+    }
+
+    /// Serves a command about nodes.
+    pub fn serve(&mut self, command: Command<'_>) -> Reply {
+        let mut told = Told::new();
+        let answer = self.registry.serve(command, &mut told);
+        Reply {
+            answer: answer.unwrap_or(Answer::Refused(Refusal::BadLine)),
+            told,
+        }
+    }
+
+    pub fn begin(&mut self) -> TxnId {
+        match self.serve(Command::Begin).answer {
+            Answer::Begun(txn) => txn,
+            _ => TxnId::NONE,
+        }
     }
 
     fn row(&self, line: Line) -> Row {
@@ -64,17 +103,13 @@ impl Named {
     /// The mode in which a transaction holds a row.
     pub fn mode(&self, t: TxnId, line: Line) -> Mode {
         let node = self.node(line).unwrap_or(NodeId::NONE);
-        self.manager.mode_on(t, node).unwrap_or(Mode::NL)
+        self.manager().mode_on(t, node).unwrap_or(Mode::NL)
     }
 
     /// What a transaction may do to a row that has a node.
     pub fn effect(&mut self, t: TxnId, line: Line) -> Option<Effect> {
         let node = self.node(line)?;
-        match self
-            .manager
-            .apply(Command::Effective { txn: t, node })
-            .answer
-        {
+        match self.serve(Command::Effective { txn: t, node }).answer {
             Answer::Effect(effect) => Some(effect),
             _ => None,
         }
@@ -88,100 +123,71 @@ impl Named {
         mode: Mode,
     ) -> (Result<Reached, Refusal>, Told) {
         let mut told = Told::new();
-        let reached = self.manager.lock_path_telling(t, node, mode, &mut told);
+        let reached = self.registry.lock_path(t, node, mode, &mut told);
         (reached, told)
     }
 
+    /// Whether the row has a node with other keys.
+    fn has_other_keys(&self, line: Line) -> bool {
+        match self.node(line) {
+            Some(node) => self.manager().graph().keys(node) != line.keys.as_slice(),
+            None => false,
+        }
+    }
+
+    /// Asks, and answers as a command is answered. A lock says whether the keys are the row's own, which
+    /// must be so.
     pub fn answer(&mut self, t: TxnId, act: &Act) -> Reply {
         match act {
             Act::Lock(line, mode) => self.lock(t, *line, *mode),
-            Act::Unlock(line) => self.unlock(t, *line),
-            Act::Insert(line) => self.insert(t, *line),
-            Act::Delete(line) => self.delete(t, *line),
-            Act::Rekey(line, index, key) => self.rekey(t, *line, *index, *key),
-            Act::Escalate(node) => self.escalate(t, *node),
-            Act::Cancel => self.cancel(t),
+            Act::Unlock(line) => self.apply(RowCall::Unlock {
+                txn: t,
+                row: self.row(*line),
+            }),
+            Act::Rekey(line, index, key) => self.apply(RowCall::Rekey {
+                txn: t,
+                row: self.row(*line),
+                index: *index,
+                key: *key,
+            }),
+            Act::Escalate(node) => self.apply(RowCall::Escalate {
+                txn: t,
+                node: *node,
+            }),
+            Act::Cancel => self.apply(RowCall::Cancel { txn: t }),
             Act::Commit => self.commit(t),
-            Act::Abort => self.abort(t),
-            Act::Release(_) | Act::Settle => self.manager.apply(command(t, act)),
+            Act::Abort => self.apply(RowCall::Abort { txn: t }),
+            Act::Release(_) | Act::Settle => self.serve(command(t, act)),
         }
+    }
+
+    fn apply(&mut self, call: RowCall<'_>) -> Reply {
+        let mut told = Told::new();
+        let (answer, _) = as_command(self.registry.apply(call, &mut told));
+        Reply { answer, told }
     }
 
     fn lock(&mut self, t: TxnId, line: Line, mode: Mode) -> Reply {
         let mut told = Told::new();
-        let row = self.row(line);
-        let keys = &line.keys;
-        let outcome = self
-            .registry
-            .lock_row(&mut self.manager, t, row, keys, mode, &mut told);
-        locked(outcome, told)
-    }
-
-    fn unlock(&mut self, t: TxnId, line: Line) -> Reply {
-        let mut told = Told::new();
-        let row = self.row(line);
-        let outcome = self
-            .registry
-            .unlock_row(&mut self.manager, t, row, &mut told);
-        done(outcome, told)
-    }
-
-    fn insert(&mut self, t: TxnId, line: Line) -> Reply {
-        let row = self.row(line);
-        let outcome = self
-            .registry
-            .insert_row(&mut self.manager, t, row, &line.keys);
-        let answer = match outcome {
-            Ok(node) => Answer::Node(node),
-            Err(refusal) => Answer::Refused(refusal),
+        let others = self.has_other_keys(line);
+        let call = RowCall::Lock {
+            txn: t,
+            row: self.row(line),
+            keys: &line.keys,
+            mode,
         };
-        Reply {
-            answer,
-            told: Told::new(),
+        let (answer, own) = as_command(self.registry.apply(call, &mut told));
+        let is_refused = matches!(answer, Answer::Refused(_));
+        if !is_refused && own == others {
+            return Reply {
+                answer: Answer::Refused(Refusal::BadKeys),
+                told,
+            };
         }
-    }
-
-    fn delete(&mut self, t: TxnId, line: Line) -> Reply {
-        let mut told = Told::new();
-        let row = self.row(line);
-        let outcome = self
-            .registry
-            .delete_row(&mut self.manager, t, row, &mut told);
-        done(outcome, told)
-    }
-
-    fn rekey(&mut self, t: TxnId, line: Line, index: NodeId, key: u64) -> Reply {
-        let mut told = Told::new();
-        let row = self.row(line);
-        let outcome = self
-            .registry
-            .rekey_row(&mut self.manager, t, row, index, key, &mut told);
-        done(outcome, told)
-    }
-
-    fn escalate(&mut self, t: TxnId, node: NodeId) -> Reply {
-        let mut told = Told::new();
-        let outcome = self
-            .registry
-            .escalate(&mut self.manager, t, node, &mut told);
-        raised(outcome, told)
-    }
-
-    fn cancel(&mut self, t: TxnId) -> Reply {
-        let mut told = Told::new();
-        let outcome = self.registry.cancel(&mut self.manager, t, &mut told);
-        done(outcome, told)
+        Reply { answer, told }
     }
 
     fn commit(&mut self, t: TxnId) -> Reply {
-        let mut told = Told::new();
-        let outcome = self.registry.commit(&mut self.manager, t, &mut told);
-        done(outcome, told)
-    }
-
-    fn abort(&mut self, t: TxnId) -> Reply {
-        let mut told = Told::new();
-        let outcome = self.registry.abort(&mut self.manager, t, &mut told);
-        done(outcome, told)
+        self.apply(RowCall::Commit { txn: t })
     }
 }

@@ -11,7 +11,7 @@ use gl_table::{Detect, Effect, Locked, Told, TxnId};
 use std::alloc::Global;
 use std::process::Abort;
 
-/// A reader of the first interval, a record in it that always stands, and another transaction.
+/// A reader of the first interval, a row in it that a third transaction reads, and another transaction.
 #[derive(Drop)]
 struct Scene {
     named: Named,
@@ -20,6 +20,12 @@ struct Scene {
     reader: TxnId,
     other: TxnId,
 }
+
+/// The row that the third transaction reads.
+const KEPT: Line = Line {
+    place: 40,
+    keys: [5, 5],
+};
 
 /// A row with one key in both indexes.
 fn line(key: u64) -> Line {
@@ -32,9 +38,8 @@ fn line(key: u64) -> Line {
 impl Scene {
     fn open(rt: &impl Abort, alloc: Global) -> Scene {
         let mut named = allowed(rt, Named::open(alloc, Detect::AtBlock));
-        let low = interval(&named.manager, named.site.first, 0);
-        let reader = allowed(rt, named.manager.begin());
-        let other = allowed(rt, named.manager.begin());
+        let low = interval(named.manager(), named.site.first, 0);
+        let (reader, other) = (named.begin(), named.begin());
         let mut scene = Scene {
             named,
             low,
@@ -42,18 +47,17 @@ impl Scene {
             reader,
             other,
         };
-        allowed(rt, scene.fill());
+        scene.fill(rt);
         scene
     }
 
-    /// Puts the record into its place, and ends who did.
-    fn fill(&mut self) -> Result<(), Refusal> {
-        let t = self.named.manager.begin()?;
-        for node in self.named.site.parents(&self.named.manager, [5, 5]) {
-            self.named.reach(t, node, IX).0?;
-        }
-        self.rec = self.named.manager.insert(t, self.named.site.file, &[5, 5])?;
-        self.named.manager.commit_telling(t, &mut Told::new())
+    /// The third transaction reads its row, and lives on.
+    fn fill(&mut self, rt: &impl Abort) {
+        let keeper = self.named.begin();
+        let file = self.named.site.file;
+        self.reaches(rt, keeper, file, IS);
+        self.asks(rt, keeper, Act::Lock(KEPT, S), Answer::Granted(S));
+        self.rec = self.named.node(KEPT).unwrap_or(NodeId::NONE);
     }
 
     /// Locks along the path to a node, which is granted.
@@ -71,7 +75,7 @@ impl Scene {
 
     fn may(&mut self, rt: &impl Abort, t: TxnId, node: NodeId, effect: Effect) {
         let asked = Command::Effective { txn: t, node };
-        let answer = self.named.manager.apply(asked).answer;
+        let answer = self.named.serve(asked).answer;
         same(rt, answer, Answer::Effect(effect));
     }
 
@@ -80,7 +84,7 @@ impl Scene {
         let (reader, low, rec) = (self.reader, self.low, self.rec);
         self.may(rt, reader, low, Effect::S);
         self.may(rt, reader, rec, Effect::S);
-        let graph = self.named.manager.graph();
+        let graph = self.named.manager().graph();
         assert!(rt; graph.parents(rec).contains(&low));
         assert!(rt; graph.keys(rec) == [5, 5].as_slice());
     }
@@ -119,7 +123,7 @@ fn rows_that_others_read_come_and_go_below_a_reader(rt: HostRuntime) {
         scene.locks(&rt, line(key), S, Effect::S);
         scene.unlocks(&rt, line(key));
     }
-    same(&rt, scene.named.registry.len(), 0);
+    same(&rt, scene.named.registry.len(), 1);
 }
 
 #[test]
@@ -127,14 +131,14 @@ fn rows_beside_a_reader_are_written_and_go(rt: HostRuntime) {
     let mut scene = open(&rt, rt.alloc());
     let (reader, other) = (scene.reader, scene.other);
     for key in 20..24u64 {
-        let parents = scene.named.site.parents(&scene.named.manager, [key, key]);
+        let parents = scene.named.site.parents(scene.named.manager(), [key, key]);
         for node in parents {
             scene.reaches(&rt, other, node, IX);
         }
         scene.locks(&rt, line(key), X, Effect::None);
     }
     scene.asks(&rt, other, Act::Commit, Answer::Done);
-    same(&rt, scene.named.registry.len(), 0);
+    same(&rt, scene.named.registry.len(), 1);
     scene.reads_on(&rt);
     scene.asks(&rt, reader, Act::Commit, Answer::Done);
 }

@@ -1,7 +1,9 @@
 //! A file with two indexes, which both engines have, and its rows.
 
-use gl_catalog::Manager;
+use gl_catalog::{Answer, Command, Manager};
 use gl_modes::{NodeId, Refusal};
+use gl_registry::{Registry, RowAnswer, RowCall};
+use gl_table::Told;
 
 /// How many rows there are.
 pub const ROWS: usize = 20;
@@ -40,6 +42,25 @@ impl Site {
         })
     }
 
+    /// Makes the same nodes in a registry, with a file of rows.
+    pub fn make_of_rows(registry: &mut Registry) -> Site {
+        let db = node_in(registry.serve(Command::Inner { parents: &[] }, &mut Told::new()));
+        let parents = [db];
+        let rows = RowCall::File { parents: &parents };
+        let file = match registry.apply(rows, &mut Told::new()) {
+            RowAnswer::Answered(answer) => node_in(Some(answer)),
+            _ => NodeId::NONE,
+        };
+        let first = index_by(registry, db, file, &[10, 20]);
+        let second = index_by(registry, db, file, &[15]);
+        Site {
+            db,
+            file,
+            first,
+            second,
+        }
+    }
+
     /// The parents of a record with these keys.
     pub fn parents(&self, manager: &Manager, keys: [u64; 2]) -> [NodeId; 3] {
         let [in_first, in_second] = keys;
@@ -57,6 +78,25 @@ impl Site {
             interval(manager, self.second, second),
         ]
     }
+}
+
+/// The node of an answer; none where there is none.
+fn node_in(answer: Option<Answer>) -> NodeId {
+    match answer {
+        Some(Answer::Node(node)) => node,
+        _ => NodeId::NONE,
+    }
+}
+
+/// An index with these bounds in a registry.
+fn index_by(registry: &mut Registry, db: NodeId, file: NodeId, bounds: &[u64]) -> NodeId {
+    let parents = [db];
+    let made = Command::Index {
+        parents: &parents,
+        file,
+        bounds,
+    };
+    node_in(registry.serve(made, &mut Told::new()))
 }
 
 /// An interval of an index, by its place.

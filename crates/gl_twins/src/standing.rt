@@ -61,7 +61,7 @@ impl Standing {
         Ok(())
     }
 
-    /// The node of a row; none where it was deleted.
+    /// The node of a row.
     fn node(&self, line: Line) -> NodeId {
         self.nodes[line.place % ROWS]
     }
@@ -69,11 +69,6 @@ impl Standing {
     /// The row of a node.
     pub fn place_of(&self, node: NodeId) -> Option<usize> {
         self.nodes.iter().position(|other| *other == node)
-    }
-
-    /// Whether a row stands.
-    pub fn has(&self, place: usize) -> bool {
-        self.nodes[place % ROWS] != NodeId::NONE
     }
 
     /// The mode in which a transaction holds a row.
@@ -108,14 +103,7 @@ impl Standing {
     }
 
     pub fn answer(&mut self, t: TxnId, act: &Act) -> Reply {
-        let command = self.command(t, act);
-        let reply = self.manager.apply(command);
-        match (act, reply.answer) {
-            (Act::Insert(line), Answer::Node(node)) => self.nodes[line.place % ROWS] = node,
-            (Act::Delete(line), Answer::Done) => self.nodes[line.place % ROWS] = NodeId::NONE,
-            _ => {}
-        }
-        reply
+        self.manager.apply(self.command(t, act))
     }
 
     fn command<'a>(&self, t: TxnId, act: &'a Act) -> Command<'a> {
@@ -128,15 +116,6 @@ impl Standing {
             Act::Unlock(line) => Command::Unlock {
                 txn: t,
                 node: self.node(*line),
-            },
-            Act::Insert(line) => Command::Insert {
-                txn: t,
-                file: self.site.file,
-                keys: &line.keys,
-            },
-            Act::Delete(line) => Command::Delete {
-                txn: t,
-                rec: self.node(*line),
             },
             Act::Rekey(line, index, key) => Command::Rekey {
                 txn: t,

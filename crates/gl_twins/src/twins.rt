@@ -32,8 +32,7 @@ fn nodeless(notice: Notice) -> Notice {
 /// What is answered to an act on a row that nobody holds or waits for, where that has no node.
 fn unnamed(act: &Act, wanted: Answer) -> Answer {
     match (act, wanted) {
-        (Act::Unlock(_), Answer::Refused(Refusal::NotHeld))
-        | (Act::Delete(_), Answer::Refused(Refusal::NeedExclusive)) => {
+        (Act::Unlock(_), Answer::Refused(Refusal::NotHeld)) => {
             Answer::Refused(Refusal::NoSuchNode)
         }
         _ => wanted,
@@ -66,9 +65,9 @@ impl Twins {
     /// Begins a transaction in both, by one name.
     pub fn begin(&mut self, rt: &impl Abort) -> TxnId {
         let wanted = self.standing.manager.begin();
-        let came = self.named.manager.begin();
-        same(rt, came, wanted);
-        came.unwrap_or(TxnId::NONE)
+        let came = self.named.begin();
+        same(rt, Ok(came), wanted);
+        came
     }
 
     /// Locks along the path to a node that stands in both. Whether it was granted.
@@ -101,10 +100,23 @@ impl Twins {
         reply.answer
     }
 
+    /// Locks a row by some keys. Where it has a node, both lock that, whatever the keys.
+    pub fn locks(&mut self, rt: &impl Abort, t: TxnId, line: Line, mode: Mode) -> Answer {
+        let own = self.line(line.place);
+        if self.named.node(own).is_none() {
+            return self.does(rt, t, Act::Lock(own, mode));
+        }
+        let answer = self.does(rt, t, Act::Lock(line, mode));
+        if line.keys != own.keys && matches!(answer, Answer::Granted(_)) {
+            self.seen.granted_elsewhere();
+        }
+        answer
+    }
+
     /// Whether an act is on a row that has no node.
     fn is_unnamed(&self, act: &Act) -> bool {
         match act {
-            Act::Unlock(line) | Act::Delete(line) => self.named.node(*line).is_none(),
+            Act::Unlock(line) => self.named.node(*line).is_none(),
             _ => false,
         }
     }

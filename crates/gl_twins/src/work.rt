@@ -4,7 +4,7 @@ ghost use Rattle.std.specs.Prelude.{◌<◌};
 
 use crate::act::Act;
 use crate::seen::ALL;
-use crate::site::{KEYS, Site, interval, with_key};
+use crate::site::{KEYS, Line, Site, interval, with_key};
 use crate::twins::Twins;
 use crate::wanted::same;
 use gl_catalog::Answer;
@@ -66,7 +66,7 @@ impl Work {
             1 | 2 | 3 => file,
             4 => first,
             5 => second,
-            place => interval(&self.twins.named.manager, first, place % 3),
+            place => interval(self.twins.named.manager(), first, place % 3),
         }
     }
 
@@ -79,10 +79,11 @@ impl Work {
     fn reads(&mut self, rt: &impl Abort, t: TxnId, place: usize) -> NodeId {
         let line = self.twins.line(place);
         let named = &self.twins.named;
-        let parents = named.site.parents(&named.manager, line.keys);
+        let parents = named.site.parents(named.manager(), line.keys);
         let above = parents[self.draw(3)];
-        if self.twins.standing.has(place) && self.twins.reaches(rt, t, above, IS) {
-            self.twins.does(rt, t, Act::Lock(line, S));
+        if self.twins.reaches(rt, t, above, IS) {
+            let line = self.said(line);
+            self.twins.locks(rt, t, line, S);
         }
         above
     }
@@ -90,7 +91,7 @@ impl Work {
     /// Locks all that is above a row with these keys in IX. Whether it was granted.
     fn may_write(&mut self, rt: &impl Abort, t: TxnId, keys: [u64; 2]) -> bool {
         let named = &self.twins.named;
-        let parents = named.site.parents(&named.manager, keys);
+        let parents = named.site.parents(named.manager(), keys);
         for above in parents {
             if !self.twins.reaches(rt, t, above, IX) {
                 return false;
@@ -99,30 +100,30 @@ impl Work {
         true
     }
 
-    /// Writes a row that is there. Whether it was granted.
-    fn writes(&mut self, rt: &impl Abort, t: TxnId, place: usize) -> bool {
-        let line = self.twins.line(place);
-        self.twins.standing.has(place)
-            && self.may_write(rt, t, line.keys)
-            && self.twins.does(rt, t, Act::Lock(line, X)) == Answer::Granted(X)
+    /// The row with the keys that are said of it: now and then others than its own.
+    fn said(&mut self, line: Line) -> Line {
+        let place = line.place;
+        let mut keys = line.keys;
+        if self.draw(4) == 0 {
+            let key = self.draw(KEYS) as u64;
+            keys = with_key(keys, self.draw(2) == 0, key);
+        }
+        Line { place, keys }
     }
 
-    /// Reads or writes a row that is there.
+    /// Writes a row. Whether it was granted.
+    fn writes(&mut self, rt: &impl Abort, t: TxnId, place: usize) -> bool {
+        let line = self.twins.line(place);
+        let said = self.said(line);
+        self.may_write(rt, t, line.keys) && self.twins.locks(rt, t, said, X) == Answer::Granted(X)
+    }
+
+    /// Reads or writes a row. One that comes or goes is written.
     fn locks(&mut self, rt: &impl Abort, t: TxnId, place: usize) {
         if self.draw(2) == 0 {
             self.reads(rt, t, place);
         } else {
             self.writes(rt, t, place);
-        }
-    }
-
-    /// Deletes a row that is there, and inserts one that is not.
-    fn comes_or_goes(&mut self, rt: &impl Abort, t: TxnId, place: usize) {
-        let line = self.twins.line(place);
-        if self.writes(rt, t, place) {
-            self.twins.does(rt, t, Act::Delete(line));
-        } else if !self.twins.standing.has(place) && self.may_write(rt, t, line.keys) {
-            self.twins.does(rt, t, Act::Insert(line));
         }
     }
 
@@ -163,14 +164,13 @@ impl Work {
         let who = self.draw(TXNS);
         let t = self.txns[who];
         let place = self.draw(SOUGHT);
-        if self.twins.named.manager.status(t) == Some(Status::Condemned) {
+        if self.twins.named.manager().status(t) == Some(Status::Condemned) {
             return self.ends(rt, who, Act::Abort);
         }
         match self.draw(16) {
             0 => self.ends(rt, who, Act::Abort),
             1 => self.ends(rt, who, Act::Commit),
-            2 => self.comes_or_goes(rt, t, place),
-            3 | 4 => self.rekeys(rt, t, place),
+            2 | 3 | 4 => self.rekeys(rt, t, place),
             5 => {
                 let (node, mode) = (self.node(), self.mode());
                 self.twins.reaches(rt, t, node, mode);
@@ -189,7 +189,7 @@ impl Work {
         }
         same(rt, self.twins.named.registry.len(), 0);
         // The root, the file, the indexes and their five intervals.
-        same(rt, self.twins.named.manager.graph().len(), 9);
+        same(rt, self.twins.named.manager().graph().len(), 9);
     }
 }
 

@@ -71,7 +71,7 @@ impl<'a> Bill<'a> {
             Some(mut store) => {
                 acts(&mut store);
                 store.names(0);
-                self.tell(play, store.scene.differs());
+                self.tell(play, store.watch.differs());
             }
             None => self.tell(play, Some(0)),
         }

@@ -13,7 +13,7 @@ pub(crate) fn play(bill: &mut Bill<'_>) {
     bill.store("registry: a row is named while it is locked", names_a_row);
     bill.store("registry: many rows are named", names_many);
     bill.store("registry: a row is locked by other keys", takes_other_keys);
-    bill.store("registry: a row comes and goes", inserts_and_deletes);
+    bill.store("registry: a row comes and goes", comes_and_goes);
     bill.store("registry: a row moves", rekeys);
     bill.store("registry: a row moves from its waiter", moves_a_waiter);
     bill.store("registry: rows are escalated", escalates);
@@ -78,38 +78,38 @@ fn names_many(store: &mut Store) {
     store.abort(b, done());
 }
 
-/// A row may be locked by other keys where nobody holds it by those it had.
+/// A row that is held is locked by its node, whatever keys are said; else by those that are said.
 fn takes_other_keys(store: &mut Store) {
     let (a, b) = store.writers();
     store.lock(a, Mode::S, LOW, granted(Mode::S));
-    store.lock(b, Mode::S, RISEN, refused(Refusal::RecordInUse));
+    store.lock_elsewhere(b, Mode::S, RISEN, granted(Mode::S));
     store.lock(b, Mode::S, LOW, granted(Mode::S));
-    store.unlock(a, LOW, done());
+    store.lock_elsewhere(b, Mode::X, RISEN, waits());
+    let node = store.node(LOW);
+    store.unlock(a, LOW, tells(b, Notice::Granted(node, Mode::X)));
     store.names(1);
     store.unlock(b, LOW, done());
     store.names(0);
     store.unlock(b, LOW, refused(Refusal::NoSuchNode));
     store.lock(b, Mode::X, RISEN, granted(Mode::X));
-    store.lock(a, Mode::S, LOW, refused(Refusal::RecordInUse));
-    store.commit(b, done());
+    store.lock_elsewhere(a, Mode::S, LOW, waits());
+    let node = store.node(RISEN);
+    store.commit(b, tells(a, Notice::Granted(node, Mode::S)));
     store.commit(a, done());
 }
 
-/// A row that goes takes its node and its waiter with it, and may come again.
-fn inserts_and_deletes(store: &mut Store) {
+/// A row that comes or goes is written by its number, which stays until the end.
+fn comes_and_goes(store: &mut Store) {
     let (a, b) = store.writers();
-    store.insert(a, LOW);
-    store.insert_refused(b, LOW, refused(Refusal::RecordInUse));
-    store.lock(b, Mode::S, LOW, waits());
-    store.insert_refused(b, MIDDLE, refused(Refusal::TxnWaiting));
-    store.delete(a, LOW, tells(b, Notice::Gone));
-    store.names(0);
-    store.delete(a, LOW, refused(Refusal::NoSuchNode));
-    store.insert(b, LOW);
-    store.insert(a, MIDDLE);
+    store.lock(a, Mode::X, LOW, granted(Mode::X));
+    store.lock(b, Mode::X, LOW, waits());
+    store.lock(b, Mode::X, MIDDLE, refused(Refusal::TxnWaiting));
+    store.names(1);
+    let node = store.node(LOW);
+    store.commit(a, tells(b, Notice::Granted(node, Mode::X)));
+    store.lock(b, Mode::X, MIDDLE, granted(Mode::X));
     store.names(2);
-    store.commit(b, done());
-    store.abort(a, done());
+    store.abort(b, done());
 }
 
 /// A reader waits on for a row that moves.
@@ -121,7 +121,7 @@ fn rekeys(store: &mut Store) {
     store.lock(a, Mode::X, LOW, granted(Mode::X));
     store.lock(b, Mode::S, LOW, waits());
     store.rekey(a, LOW, 150, done());
-    store.lock(a, Mode::X, LOW, refused(Refusal::RecordInUse));
+    store.lock_elsewhere(a, Mode::X, LOW, granted(Mode::X));
     store.lock(a, Mode::X, RISEN, granted(Mode::X));
     store.names(1);
     let node = store.node(RISEN);
@@ -159,7 +159,7 @@ fn escalates(store: &mut Store) {
     store.lock(a, Mode::X, MIDDLE, granted(Mode::X));
     store.lock(a, Mode::X, HIGH, granted(Mode::X));
     let third = store.interval(2);
-    store.scene.lock_all(a, Mode::X, &[third]);
+    store.take_nodes(a, Mode::X, &[third]);
     let rose = Escalated {
         mode: Mode::X,
         released: 2,
@@ -213,7 +213,6 @@ fn names_nothing(store: &mut Store) {
     store.may_write(a, 0);
     store.lock(a, Mode::X, LOW, need(first));
     store.lock(a, Mode::IX, LOW, refused(Refusal::BadMode));
-    store.insert_refused(a, LOW, need(first));
     store.names(0);
     store.lock(a, Mode::S, LOW, granted(Mode::S));
     store.lock(a, Mode::X, LOW, need(first));

@@ -18,6 +18,13 @@ pub(crate) struct Said {
     first: Option<(TxnId, Notice)>,
 }
 
+impl Said {
+    /// Whether a command is refused.
+    pub(crate) fn is_refused(&self) -> bool {
+        matches!(self.answer, Answer::Refused(_))
+    }
+}
+
 /// This is answered, and nobody is told.
 pub(crate) fn answered(answer: Answer) -> Said {
     Said {

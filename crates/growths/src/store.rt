@@ -1,11 +1,12 @@
-//! A registry of rows beside a manager, and calls about rows in few words, each with what is wanted of it.
+//! A registry that owns its manager, and calls about rows in few words, each with what is wanted of it.
 
-use crate::scene::{Said, Scene, answered, granted, refused, said_in};
+use crate::scene::{Said, refused, said_in};
 use crate::view::View;
-use gl_catalog::{Answer, Reply};
+use crate::watch::Watch;
+use gl_catalog::{Answer, Command, Manager, Reply};
 use gl_modes::{Mode, NodeId, Refusal};
-use gl_registry::{Registry, Row, RowCall};
-use gl_table::{Detect, Status, Told, TxnId};
+use gl_registry::{Registry, Row, RowAnswer, RowCall, RowLocked};
+use gl_table::{Detect, Locked, Status, Told, TxnId};
 use std::alloc::Global;
 
 /// How many rows a play may lock: their numbers are below it.
@@ -30,11 +31,11 @@ struct Seen {
     states: [Option<Status>; 2],
 }
 
-/// A registry over a file with one index of two bounds, and two transactions.
+/// A registry with a file of rows that has one index of two bounds, and two transactions.
 #[derive(Drop)]
 pub(crate) struct Store {
-    pub(crate) scene: Scene,
     registry: Registry,
+    pub(crate) watch: Watch,
     db: NodeId,
     pub(crate) file: NodeId,
     index: NodeId,
@@ -43,33 +44,119 @@ pub(crate) struct Store {
     pub(crate) txns: [TxnId; 2],
 }
 
+/// A new registry, asked for again where it is refused.
+fn open_registry(alloc: Global) -> Option<Registry> {
+    let manager = match Manager::new(alloc, Detect::AtBlock, 4) {
+        Ok(manager) => manager,
+        Err(_) => Manager::new(alloc, Detect::AtBlock, 4).ok()?,
+    };
+    match Registry::new(alloc, manager) {
+        Ok(registry) => Some(registry),
+        Err(_) => {
+            let manager = Manager::new(alloc, Detect::AtBlock, 4).ok()?;
+            Registry::new(alloc, manager).ok()
+        }
+    }
+}
+
+/// What a row's lock says where its node has the keys that were said, and what it says else.
+fn said_of(answer: RowAnswer) -> (Answer, bool) {
+    match answer {
+        RowAnswer::Locked(
+            RowLocked {
+                locked,
+                own_keys,
+                ..
+            },
+        ) => match locked {
+            Locked::Granted(mode) => (Answer::Granted(mode), own_keys),
+            Locked::Waiting => (Answer::Waiting, own_keys),
+            Locked::Victim => (Answer::Victim, own_keys),
+        },
+        RowAnswer::Answered(answer) => (answer, true),
+        RowAnswer::NotRows => (Answer::Refused(Refusal::BadLine), true),
+    }
+}
+
 impl Store {
-    /// A store of which nothing is locked, whose registry is asked for again where it is refused.
+    /// A store of which nothing is locked.
     pub(crate) fn open(alloc: Global) -> Option<Store> {
-        let mut scene = Scene::open(alloc, Detect::AtBlock, 4)?;
-        let registry = match Registry::new(alloc) {
-            Ok(registry) => registry,
-            Err(_) => Registry::new(alloc).ok()?,
-        };
-        let db = scene.inner(&[]);
-        let file = scene.file(&[db]);
-        let index = scene.index(&[db], file, &[100, 200]);
-        let standing = scene.manager.graph().len();
-        let txns = [scene.begin(), scene.begin()];
-        Some(Store {
-            scene,
+        let registry = open_registry(alloc)?;
+        let none = NodeId::NONE;
+        let mut store = Store {
             registry,
-            db,
-            file,
-            index,
-            standing,
-            txns,
-        })
+            watch: Watch::new(),
+            db: none,
+            file: none,
+            index: none,
+            standing: 0,
+            txns: [TxnId::NONE; 2],
+        };
+        store.db = store.made(Command::Inner { parents: &[] });
+        let parents = [store.db];
+        store.file = store.made_file(&parents);
+        store.index = store.made(Command::Index {
+            parents: &parents,
+            file: store.file,
+            bounds: &[100, 200],
+        });
+        store.standing = store.registry.manager().graph().len();
+        store.txns = [store.begin(), store.begin()];
+        Some(store)
+    }
+
+    /// Serves a command, which no file of rows refuses.
+    fn serve(&mut self, command: Command<'_>) -> Answer {
+        let answer = self.registry.serve(command, &mut Told::new());
+        answer.unwrap_or(Answer::Refused(Refusal::BadLine))
+    }
+
+    /// The node that a command makes, asked for again where memory was refused.
+    fn made(&mut self, command: Command<'_>) -> NodeId {
+        self.watch.step();
+        let mut answer = self.serve(command);
+        if answer == Answer::Refused(Refusal::NoMemory) {
+            answer = self.serve(command);
+        }
+        self.node_in(answer)
+    }
+
+    /// The file of rows.
+    fn made_file(&mut self, parents: &[NodeId]) -> NodeId {
+        self.watch.step();
+        let file = RowCall::File { parents };
+        let mut answer = said_of(self.registry.apply(file, &mut Told::new())).0;
+        if answer == Answer::Refused(Refusal::NoMemory) {
+            answer = said_of(self.registry.apply(file, &mut Told::new())).0;
+        }
+        self.node_in(answer)
+    }
+
+    fn node_in(&mut self, answer: Answer) -> NodeId {
+        match answer {
+            Answer::Node(node) => node,
+            _ => {
+                self.watch.holds(false);
+                NodeId::NONE
+            }
+        }
+    }
+
+    fn begin(&mut self) -> TxnId {
+        self.watch.step();
+        match self.serve(Command::Begin) {
+            Answer::Begun(txn) => txn,
+            _ => {
+                self.watch.holds(false);
+                TxnId::NONE
+            }
+        }
     }
 
     /// The interval of the index that has this place.
     pub(crate) fn interval(&self, place: usize) -> NodeId {
-        self.scene.interval(self.index, place)
+        let graph = self.registry.manager().graph();
+        graph.interval(self.index, place).unwrap_or(NodeId::NONE)
     }
 
     /// A row of the file.
@@ -88,20 +175,34 @@ impl Store {
 
     /// So many rows must be named, and no other record stand.
     pub(crate) fn names(&mut self, wanted: usize) {
-        self.scene.watch.step();
-        self.scene.watch.same(self.registry.len(), wanted);
-        let nodes = self.scene.manager.graph().len();
+        self.watch.step();
+        self.watch.same(self.registry.len(), wanted);
+        let nodes = self.registry.manager().graph().len();
         let records = nodes.saturating_sub(self.standing);
-        self.scene.watch.same(records, wanted);
+        self.watch.same(records, wanted);
+    }
+
+    /// A transaction locks nodes that stand, which nobody keeps from it.
+    pub(crate) fn take_nodes(&mut self, txn: TxnId, mode: Mode, nodes: &[NodeId]) {
+        for node in nodes {
+            self.watch.step();
+            let node = *node;
+            let lock = Command::Lock { txn, node, mode };
+            let mut answer = self.serve(lock);
+            if answer == Answer::Refused(Refusal::NoMemory) {
+                answer = self.serve(lock);
+            }
+            self.watch.same(answer, Answer::Granted(mode));
+        }
     }
 
     /// A transaction may write in the intervals before this place.
     pub(crate) fn may_write(&mut self, txn: TxnId, intervals: usize) {
         let above = [self.db, self.file, self.index];
-        self.scene.lock_all(txn, Mode::IX, &above);
+        self.take_nodes(txn, Mode::IX, &above);
         for place in 0..intervals {
-            let interval = self.interval(place);
-            self.scene.lock(txn, Mode::IX, interval, granted(Mode::IX));
+            let interval = [self.interval(place)];
+            self.take_nodes(txn, Mode::IX, &interval);
         }
     }
 
@@ -120,63 +221,77 @@ impl Store {
     fn see(&self, number: u64) -> RowSeen {
         let [a, b] = self.txns;
         let node = self.registry.node(self.row(number))?;
-        let manager = &self.scene.manager;
+        let manager = self.registry.manager();
         Some((node, manager.mode_on(a, node), manager.mode_on(b, node)))
     }
 
     /// All that can be asked now.
-    fn look(&mut self) -> Seen {
+    fn look(&self) -> Seen {
         let [a, b] = self.txns;
         let mut rows = [None; ROWS];
         for number in 0..ROWS {
             rows[number] = self.see(number as u64);
         }
+        let manager = self.registry.manager();
+        let nodes = [
+            self.db,
+            self.file,
+            self.index,
+            self.interval(0),
+            self.interval(1),
+            self.interval(2),
+        ];
         Seen {
-            view: self.scene.view(),
+            view: View::lent(manager, &nodes, &self.txns),
             rows,
             named: self.registry.len(),
-            states: [self.scene.manager.status(a), self.scene.manager.status(b)],
+            states: [manager.status(a), manager.status(b)],
         }
     }
 
-    /// All that can be asked must be as it was then, but for how many commands were accepted: a lock
-    /// that is refused may have given its row a node and taken it back.
+    /// All that can be asked must be as it was then.
     fn must_be(&mut self, before: &Seen) {
         let after = self.look();
-        let watch = &mut self.scene.watch;
-        watch.holds(after.view.is_as_but_counted(&before.view));
+        let watch = &mut self.watch;
+        watch.holds(after.view.is_as(&before.view));
         watch.same(after.rows, before.rows);
         watch.same(after.named, before.named);
         watch.same(after.states, before.states);
     }
 
-    /// Makes a call once.
-    fn apply(&mut self, call: RowCall<'_>) -> Said {
+    /// Makes a call once. Whether it is answered that the keys are the row's own.
+    fn apply(&mut self, call: RowCall<'_>) -> (Said, bool) {
         let mut told = Told::new();
-        let answer = self
-            .registry
-            .apply(&mut self.scene.manager, call, &mut told);
-        said_in(&Reply { answer, told })
+        let (answer, own) = said_of(self.registry.apply(call, &mut told));
+        (said_in(&Reply { answer, told }), own)
     }
 
-    /// Makes a call. Where a growth was refused nothing may have changed, and it is made again. Only
-    /// what gives a row a node may want memory.
-    fn take(&mut self, call: RowCall<'_>) -> Said {
-        let may_grow = matches!(call, RowCall::Lock { .. } | RowCall::Insert { .. });
+    /// Makes a call. Where it is refused nothing may have changed, and where a growth was refused it is
+    /// made again. Only a lock of a row may want memory.
+    fn take(&mut self, call: RowCall<'_>) -> (Said, bool) {
+        let may_grow = matches!(call, RowCall::Lock { .. });
         let before = self.look();
-        let said = self.apply(call);
-        if !may_grow || said != refused(Refusal::NoMemory) {
-            return said;
+        let (said, own) = self.apply(call);
+        if said.is_refused() {
+            self.must_be(&before);
         }
-        self.must_be(&before);
+        if !may_grow || said != refused(Refusal::NoMemory) {
+            return (said, own);
+        }
         self.apply(call)
     }
 
-    /// Makes a call, which must be answered so.
+    /// Makes a call, which must be answered so, by keys that are the row's own.
     fn ask(&mut self, call: RowCall<'_>, wanted: Said) {
-        self.scene.watch.step();
-        let said = self.take(call);
-        self.scene.watch.same(said, wanted);
+        self.asks_by(call, wanted, true);
+    }
+
+    /// Makes a call, which must be answered so, and whether the keys are the row's own.
+    fn asks_by(&mut self, call: RowCall<'_>, wanted: Said, own: bool) {
+        self.watch.step();
+        let (said, owns) = self.take(call);
+        self.watch.same(said, wanted);
+        self.watch.same(owns, own);
     }
 }
 
@@ -195,42 +310,23 @@ impl Store {
         self.ask(lock, wanted);
     }
 
+    /// A lock of a row that has another key.
+    pub(crate) fn lock_elsewhere(&mut self, txn: TxnId, mode: Mode, line: Line, wanted: Said) {
+        let row = self.row(line.number);
+        let keys = [line.key];
+        let lock = RowCall::Lock {
+            txn,
+            row,
+            keys: &keys,
+            mode,
+        };
+        self.asks_by(lock, wanted, false);
+    }
+
     /// A release of a row.
     pub(crate) fn unlock(&mut self, txn: TxnId, line: Line, wanted: Said) {
         let row = self.row(line.number);
         self.ask(RowCall::Unlock { txn, row }, wanted);
-    }
-
-    /// An insert, which must give the row its node.
-    pub(crate) fn insert(&mut self, txn: TxnId, line: Line) {
-        self.scene.watch.step();
-        let row = self.row(line.number);
-        let keys = [line.key];
-        let said = self.take(RowCall::Insert {
-            txn,
-            row,
-            keys: &keys,
-        });
-        let named = Answer::Node(self.node(line));
-        self.scene.watch.same(said, answered(named));
-    }
-
-    /// An insert that must be refused.
-    pub(crate) fn insert_refused(&mut self, txn: TxnId, line: Line, wanted: Said) {
-        let row = self.row(line.number);
-        let keys = [line.key];
-        let insert = RowCall::Insert {
-            txn,
-            row,
-            keys: &keys,
-        };
-        self.ask(insert, wanted);
-    }
-
-    /// A row that goes.
-    pub(crate) fn delete(&mut self, txn: TxnId, line: Line, wanted: Said) {
-        let row = self.row(line.number);
-        self.ask(RowCall::Delete { txn, row }, wanted);
     }
 
     /// Another key for a row.

@@ -31,8 +31,8 @@ pub(crate) struct View {
 }
 
 impl View {
-    /// Looks at these nodes and transactions.
-    pub(crate) fn of(manager: &mut Manager, nodes: &[NodeId], txns: &[TxnId]) -> View {
+    /// Looks at these transactions.
+    fn of_txns(manager: &Manager, txns: &[TxnId]) -> View {
         let mut view = View {
             board: manager.board(),
             accepted: manager.accepted(),
@@ -48,6 +48,12 @@ impl View {
         for txn in txns {
             let _ = view.waits.try_push(manager.waiting(*txn));
         }
+        view
+    }
+
+    /// Looks at these nodes and transactions.
+    pub(crate) fn of(manager: &mut Manager, nodes: &[NodeId], txns: &[TxnId]) -> View {
+        let mut view = View::of_txns(manager, txns);
         for node in nodes {
             view.add_node(manager, *node);
             view.add_graph(manager.graph(), *node);
@@ -56,16 +62,24 @@ impl View {
         view
     }
 
-    /// Whether both are the same, and every query was answered.
-    pub(crate) fn is_as(&self, other: &View) -> bool {
-        self.is_as_but_counted(other)
-            && self.board.epoch == other.board.epoch
-            && self.accepted == other.accepted
+    /// Looks at these nodes and transactions of a manager that is lent, without group modes.
+    pub(crate) fn lent(manager: &Manager, nodes: &[NodeId], txns: &[TxnId]) -> View {
+        let mut view = View::of_txns(manager, txns);
+        for node in nodes {
+            let graph = manager.graph();
+            let seen = (*node, graph.kind(*node), graph.place(*node), Mode::NL);
+            let _ = view.nodes.try_push(seen);
+            view.add_graph(graph, *node);
+            view.add_lent_holds(manager, *node, txns);
+        }
+        view
     }
 
-    /// The same, whatever number of commands was accepted.
-    pub(crate) fn is_as_but_counted(&self, other: &View) -> bool {
+    /// Whether both are the same, and every query was answered.
+    pub(crate) fn is_as(&self, other: &View) -> bool {
         self.is_as_of_nodes(other)
+            && self.board.epoch == other.board.epoch
+            && self.accepted == other.accepted
             && self.board.ages == other.board.ages
             && self.board.rows == other.board.rows
             && self.holds.as_slice() == other.holds.as_slice()
@@ -122,6 +136,14 @@ impl View {
             let held = self.ask(manager, Command::Held { txn, node });
             let children = manager.children(txn, node);
             let _ = self.holds.try_push((txn, node, held, children));
+        }
+    }
+
+    fn add_lent_holds(&mut self, manager: &Manager, node: NodeId, txns: &[TxnId]) {
+        for txn in txns {
+            let held = manager.mode_on(*txn, node).unwrap_or(Mode::NL);
+            let children = manager.children(*txn, node);
+            let _ = self.holds.try_push((*txn, node, held, children));
         }
     }
 }

@@ -1,5 +1,15 @@
 use Rattle.gl_registry.proofs.KeptRows.{others_keep_row_effects}
+use Rattle.gl_registry.proofs.Served.{calls_keep_on_rows, commands_keep_on_rows, paths_keep_on_rows}
 use Rattle.gl_registry.proofs.laws.others_keep_row_effects.Goals as goal
 
-pub returns : goal.returns
-returns c = others_keep_row_effects
+pub returns-clause-above : goal.returns-clause-above
+returns-clause-above c = others_keep_row_effects
+
+pub returns-clause-by_command : goal.returns-clause-by_command
+returns-clause-by_command c = commands_keep_on_rows
+
+pub returns-clause-by_path : goal.returns-clause-by_path
+returns-clause-by_path c = paths_keep_on_rows
+
+pub returns-clause-by_call : goal.returns-clause-by_call
+returns-clause-by_call c = calls_keep_on_rows

@@ -7,8 +7,8 @@ use Rattle.gl_registry.specs.Rows.{same_row}
 use Rattle.gl_registry.proofs.LettingGo.{gone_at}
 use Rattle.gl_registry.proofs.names.let_go.Goals as goal
 
-pub returns : goal.returns
-returns c =
+pub returns-clause-goes : goal.returns-clause-goes
+returns-clause-goes c =
     let key = c.in-Some.field-0-1.now in
     let out =
     MatchOption-at_some _ (λ p. Updates same_row c.args.names.now c.swap_remove_index.new.self p.0 None) (key, c.in-Some.node.now)

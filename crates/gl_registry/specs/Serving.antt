@@ -1,0 +1,53 @@
+-- What a registry does by commands about nodes.
+use Rattle.std.specs.Prelude.{◌≡◌, Bool, true, false, [], Option, Some, None, Result, Err, IfErr, OnErr}
+use Rattle.gl_modes.specs.declared.refusal.Refusal.{Refusal}
+use Rattle.gl_graph.specs.Graph.{first_parent}
+use Rattle.gl_graph.specs.Refusals.{first_refusal}
+use Rattle.gl_model.specs.declared.txn.TxnId.{TxnId}
+use Rattle.gl_model.specs.Tellings.{Told}
+use Rattle.gl_catalog.specs.declared.command.Answer.{Answer}
+use Rattle.gl_catalog.specs.declared.command.Command.{Command}
+use Rattle.gl_catalog.specs.declared.command.Command.TheVariants as command
+use Rattle.gl_catalog.specs.declared.manager.paths.Reached.{Reached}
+use Rattle.gl_catalog.specs.Counters.{counted}
+use Rattle.gl_catalog.specs.Deadlocks.{KeepsDeadlock}
+use Rattle.gl_catalog.specs.Manager.{ManagerView, state_of}
+use Rattle.gl_catalog.specs.Paths.{Ask, LeavesAllBut, LocksPath, missing_parent, path_tests, reaching}
+use Rattle.gl_catalog.specs.Promises.{KeepsCaller, SettlesIdle, StepLeavesOthers}
+use Rattle.gl_catalog.specs.Replies.{said}
+use Rattle.gl_catalog.specs.Step.{Step}
+use Rattle.gl_registry.specs.Rows.{RegistryView, has_rows}
+
+-- the command would make, take away or change a record of a file of rows
+abbrev pub touches_rows : RegistryView → Command → Bool
+touches_rows v (command.Insert t f keys) = has_rows v.rows f
+touches_rows v (command.Adopt f keys) = has_rows v.rows f
+touches_rows v (command.Delete t r) = has_rows v.rows (first_parent (state_of v.manager).graph r)
+touches_rows v (command.Rekey t r i key) = has_rows v.rows (first_parent (state_of v.manager).graph r)
+touches_rows v (command.Forget r) = has_rows v.rows (first_parent (state_of v.manager).graph r)
+touches_rows v c = false
+
+-- a command is one step of the model, leaves its caller and the others what the manager promises, keeps the last deadlock that it ends, and is
+-- counted by the law of the counters; where it is refused or only asks, all is as before
+pub record Applies (m : ManagerView) (c : Command) (a : Answer) (told : Told) (m' : ManagerView) : Type 0 where
+  pub step : Step (state_of m) c a told (state_of m')
+  pub caller : KeepsCaller c (state_of m) (state_of m')
+  pub others : StepLeavesOthers (state_of m) c (a, told) (state_of m')
+  pub settles : SettlesIdle (state_of m) c a told (state_of m')
+  pub deadlock : KeepsDeadlock c m a m'
+  pub counters : m'.counters ≡ counted (state_of m) c a told (state_of m') m.counters
+  pub same : m'.accepted ≡ m.accepted → m' ≡ m
+
+-- such a command is not made; any other is, and leaves the rows
+abbrev pub ServesBy : Bool → RegistryView → Command → Option Answer → Told → RegistryView → Type 0
+ServesBy true v c result told v' = (result ≡ None) × (told ≡ []) × (v' ≡ v)
+ServesBy false v c result told v' = (a : Answer) × (result ≡ Some a) × Applies v.manager c a told v'.manager × (v'.rows ≡ v.rows)
+
+-- a path is locked by the manager, and leaves the rows
+pub record LocksWay (t : TxnId) (ask : Ask) (v : RegistryView) (result : Result Reached Refusal) (told : Told) (v' : RegistryView) : Type 0 where
+  pub path : LocksPath t ask v.manager told result v'.manager
+  pub tests : (r : Refusal) → first_refusal (path_tests (state_of v.manager) t ask.0 ask.1) ≡ Some r → (result ≡ Err r) × (v'.manager ≡ v.manager)
+  pub others : LeavesAllBut t (state_of v.manager) (said (reaching told) result) (state_of v'.manager)
+  pub rule : IfErr result (λ r. missing_parent r ≡ None)
+  pub untold : OnErr result (told ≡ [])
+  pub rows : v'.rows ≡ v.rows

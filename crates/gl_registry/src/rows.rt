@@ -1,0 +1,109 @@
+//! The rows of a registry: which files have rows, and which node stands for a row.
+//!
+//! Each call takes the manager whose nodes these are.
+
+ghost use Rattle.std.specs.Prelude.{◌≡◌, ℕ, IfErr, IfOk, None, false, length};
+ghost use Rattle.gl_modes.specs.declared.node.NodeId.{NodeId as ANode};
+ghost use Rattle.gl_modes.specs.declared.refusal.Refusal.{Refusal as ARefusal};
+ghost use Rattle.gl_registry.specs.declared.row.Row.{Row as ARow};
+ghost use Rattle.gl_registry.specs.Files.{MakesFile};
+ghost use Rattle.gl_registry.specs.Releasing.{node_for};
+ghost use Rattle.gl_registry.specs.Rows.{has_asked, has_rows, name_of};
+
+use crate::answer::RowRefusal;
+use crate::row::Row;
+use crate::sets::empty_sets;
+use gl_catalog::Manager;
+use gl_modes::{NodeId, Refusal};
+use indexmap::{IndexMap, IndexSet};
+use std::alloc::Global;
+use std::marker::Model;
+
+mod lock;
+mod release;
+
+/// The files that have rows, the node of each row that stands, and for each slot the rows that its
+/// transaction has asked for.
+#[derive(Drop)]
+pub(crate) struct Rows {
+    files: IndexSet<NodeId>,
+    names: IndexMap<Row, NodeId>,
+    asked: Vec<IndexSet<Row>>,
+}
+
+impl Model for Rows {
+    ghost use Rattle.gl_registry.specs.Rows.{RowsView};
+
+    ghost Value = { RowsView };
+
+    ghost use Rattle.gl_registry.specs.Sound.{view_of, IsSound};
+
+    ghost view = { view_of };
+
+    ghost invariant = { IsSound };
+}
+
+impl Rows {
+    /// No file has rows. The only refusal is `NoMemory`.
+    pub(crate) fn new(alloc: Global) -> Result<Self, Refusal>
+        ensures fileless { IfOk result (λ rows. (file : ANode) → has_rows rows file ≡ false) }
+        ensures unnamed { IfOk result (λ rows. (row : ARow) → name_of rows row ≡ None) }
+        ensures unasked { IfOk result (λ rows. (slot : ℕ) (row : ARow) → has_asked rows slot row ≡ false) }
+        ensures refused { IfErr result (λ refusal. refusal ≡ ARefusal.NoMemory) }
+    {
+        Ok(Rows {
+            files: IndexSet::new(alloc),
+            names: IndexMap::new(alloc),
+            asked: empty_sets(alloc)?,
+        })
+    }
+
+    /// Whether the node is a file of rows. Where no file is, nothing is hashed.
+    pub(crate) fn has(&self, file: NodeId) -> bool
+        ensures { result ≡ has_rows self.now file }
+    {
+        !self.files.is_empty() && self.files.contains(&file)
+    }
+
+    /// The node by which a row is named.
+    pub(crate) fn node(&self, row: Row) -> Option<NodeId>
+        ensures { result ≡ name_of self.now row }
+    {
+        self.names.get(&row).copied()
+    }
+
+    /// How many rows are named.
+    pub(crate) fn len(&self) -> usize
+        ensures { result ≡ length self.now.names }
+    {
+        self.names.len()
+    }
+
+    /// The node by which a row is named; the name that names nothing where the row of a file of rows has
+    /// none. Refused with `NotRows`.
+    fn node_for(&self, row: Row) -> Result<NodeId, RowRefusal>
+        ensures { result ≡ node_for self.now row }
+    {
+        match self.names.get(&row) {
+            Some(node) => Ok(*node),
+            None if self.files.contains(&row.file) => Ok(NodeId::NONE),
+            None => Err(RowRefusal::NotRows),
+        }
+    }
+
+    /// Makes a file of rows. Refused as `Manager::add_file`, or with `NoMemory`.
+    pub(crate) fn add_file(
+        &mut self,
+        manager: &mut Manager,
+        parents: &[NodeId],
+    ) -> Result<NodeId, Refusal>
+        ensures { MakesFile manager.old self.old parents.entry result manager.new self.new }
+    {
+        if self.files.reserve(1).is_err() {
+            return Err(Refusal::NoMemory);
+        }
+        let file = manager.add_file(parents)?;
+        self.files.insert(file).unwrap();
+        Ok(file)
+    }
+}

@@ -1,0 +1,125 @@
+//! Rows are given back or get other keys, and rows that nobody holds or waits for any more lose their
+//! nodes.
+//!
+//! A row keeps its node where the manager would refuse to forget that: somebody else holds it or waits
+//! for it, or no command can be counted any more. Each call fills a list that is empty before. A refused
+//! call changes nothing.
+
+ghost use Rattle.std.specs.Prelude.{◌≡◌, []};
+ghost use Rattle.gl_catalog.specs.declared.command.Command.TheVariants as command;
+ghost use Rattle.gl_catalog.specs.Replies.{doing, rising};
+ghost use Rattle.gl_registry.specs.Releasing.{EndsTxn, GivesBack, RekeysRow, UnlocksRow};
+
+use super::Rows;
+use crate::answer::RowRefusal;
+use crate::names::{let_each_go, let_go};
+use crate::row::Row;
+use crate::sets::{clear, rows_in, take};
+use gl_catalog::{Escalated, Manager};
+use gl_modes::{NodeId, Refusal};
+use gl_table::{Told, TxnId};
+
+impl Rows {
+    /// Releases a row's node, which grants from its front. A row without a node has the name that names
+    /// nothing. Refused with `NotRows`, and then as `Manager::unlock_telling`.
+    pub(crate) fn unlock(
+        &mut self,
+        manager: &mut Manager,
+        t: TxnId,
+        row: Row,
+        told: &mut Told,
+    ) -> Result<(), RowRefusal>
+        requires empty { told.old.items ≡ [] }
+        ensures { UnlocksRow manager.old self.old t row result told.new.items manager.new self.new }
+    {
+        let node = self.node_for(row)?;
+        manager.unlock_telling(t, node, told)?;
+        let _ = let_go(&mut self.names, manager, row);
+        take(&mut self.asked, t.slot, row);
+        Ok(())
+    }
+
+    /// Gives a row's node another key for one index of its file. A row without a node has the name that
+    /// names nothing. Refused with `NotRows`, and then as `Manager::rekey_telling`.
+    pub(crate) fn rekey(
+        &mut self,
+        manager: &mut Manager,
+        t: TxnId,
+        row: Row,
+        index: NodeId,
+        key: u64,
+        told: &mut Told,
+    ) -> Result<(), RowRefusal>
+        requires empty { told.old.items ≡ [] }
+        ensures { RekeysRow manager.old self.old t row index key result told.new.items manager.new self.new }
+    {
+        let node = self.node_for(row)?;
+        manager.rekey_telling(t, node, index, key, told)?;
+        Ok(())
+    }
+
+    /// Ends an active transaction and releases everything. Refused as `Manager::commit_telling`.
+    pub(crate) fn commit(
+        &mut self,
+        manager: &mut Manager,
+        t: TxnId,
+        told: &mut Told,
+    ) -> Result<(), Refusal>
+        requires empty { told.old.items ≡ [] }
+        ensures { EndsTxn (command.Commit t) manager.old self.old t.slot result told.new.items manager.new self.new }
+    {
+        manager.commit_telling(t, told)?;
+        let_each_go(&mut self.names, manager, rows_in(&self.asked, t.slot));
+        clear(&mut self.asked, t.slot);
+        Ok(())
+    }
+
+    /// Ends a transaction whatever it is doing, and releases everything. Refused as
+    /// `Manager::abort_telling`.
+    pub(crate) fn abort(
+        &mut self,
+        manager: &mut Manager,
+        t: TxnId,
+        told: &mut Told,
+    ) -> Result<(), Refusal>
+        requires empty { told.old.items ≡ [] }
+        ensures { EndsTxn (command.Abort t) manager.old self.old t.slot result told.new.items manager.new self.new }
+    {
+        manager.abort_telling(t, told)?;
+        let_each_go(&mut self.names, manager, rows_in(&self.asked, t.slot));
+        clear(&mut self.asked, t.slot);
+        Ok(())
+    }
+
+    /// Takes back the wait of a transaction. Refused as `Manager::cancel_telling`.
+    pub(crate) fn cancel(
+        &mut self,
+        manager: &mut Manager,
+        t: TxnId,
+        told: &mut Told,
+    ) -> Result<(), Refusal>
+        requires empty { told.old.items ≡ [] }
+        ensures { GivesBack (doing told.new.items) (command.Cancel t) manager.old self.old t.slot result told.new.items manager.new self.new }
+    {
+        manager.cancel_telling(t, told)?;
+        let_each_go(&mut self.names, manager, rows_in(&self.asked, t.slot));
+        Ok(())
+    }
+
+    /// Raises the lock of a node, and releases the children whose locks it then implies. Refused as
+    /// `Manager::escalate_telling`.
+    pub(crate) fn escalate(
+        &mut self,
+        manager: &mut Manager,
+        t: TxnId,
+        node: NodeId,
+        told: &mut Told,
+    ) -> Result<Escalated, Refusal>
+        requires empty { told.old.items ≡ [] }
+        ensures { GivesBack (rising told.new.items) (command.Escalate t node) manager.old self.old t.slot result told.new.items manager.new self.new }
+    {
+        let escalated = manager.escalate_telling(t, node, told)?;
+        let_each_go(&mut self.names, manager, rows_in(&self.asked, t.slot));
+        Ok(escalated)
+    }
+}
