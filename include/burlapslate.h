@@ -24,12 +24,17 @@
  * any values at all: the name of a node that is gone, of a transaction that has ended, or one made up,
  * names nothing and is refused.
  *
- * WHAT A CALL ANSWERS. A bs_reply: its status is BS_DONE, BS_WAITING, BS_VICTIM, or says why the call was
- * refused; a refused call changed nothing, but that of bs_lock_row and bs_insert_row a node may be gone that
- * nobody held. All fields that a call does not speak of are zero. Where several refusals hold, the first in
- * the order of the call's list is answered. Before all others come BS_NULL_POINTER and then, but where a
- * call says that BS_BAD_NUMBER does, BS_NO_MANAGER; then BS_WORN_OUT, of every call but the questions; and
- * BS_NO_MEMORY, of each call that takes memory, comes last, but where a call says otherwise.
+ * WHAT A CALL ANSWERS. A bs_reply. Its status is BS_DONE, BS_WAITING, BS_VICTIM or another that the call speaks
+ * of; else it says why the call was refused. A refused call changed nothing. bs_lock_path is several locks, and says
+ * which of them may stay. All fields that a call does not speak of are zero. Where several refusals hold, the first
+ * of these is answered:
+ *   - BS_NULL_POINTER;
+ *   - BS_BAD_NUMBER, where the call says that it comes first of all;
+ *   - BS_NO_MANAGER;
+ *   - BS_ROWS_BY_NUMBER, BS_NOT_ROWS;
+ *   - BS_WORN_OUT, of every call but the questions;
+ *   - those in the call's list, in their order;
+ *   - BS_NO_MEMORY, of a call that takes memory, but where it says otherwise.
  *
  * NOTICES. A call with `told` fills it anew: whom it told what, at most one notice for each transaction, by
  * rising slot. It is empty where the call was refused. The transaction that a lock, a cancel or an abort
@@ -50,11 +55,11 @@
 extern "C" {
 #endif
 
-/* The version of what is declared here. The first number rises where a program has to be changed for it, the
- * second where something is added, the third where neither. */
+/* The version of what is declared here. The first number rises where a program has to be changed for it, or the second
+ * while the first is 0. The second rises where something is added, the third where neither. */
 #define BS_VERSION_MAJOR 0
-#define BS_VERSION_MINOR 9
-#define BS_VERSION_PATCH 1
+#define BS_VERSION_MINOR 10
+#define BS_VERSION_PATCH 0
 
 /* How many transactions can live at once, and so how many notices a call can have. */
 #define BS_SLOTS 128
@@ -65,7 +70,7 @@ extern "C" {
 /* How many watchers a manager can have at once. */
 #define BS_MOST_WATCHERS 8
 
-/* What a call comes to. Refusals are 1 to 22, of the manager, and 64 to 70, of this library. */
+/* What a call comes to. Refusals are 1 to 22, of the manager, and 64 to 72, of this library. */
 typedef uint32_t bs_status;
 enum bs_statuses {
   BS_DONE = 0,
@@ -85,25 +90,28 @@ enum bs_statuses {
   BS_NEED_EXCLUSIVE = 14, /* without the exclusive locks that a delete or a move needs */
   BS_NOT_WAITING = 15,    /* the transaction waits for nothing */
   BS_NAME_TAKEN = 16,     /* not answered here: names are the manager's own */
-  BS_FILE_IN_USE = 17,    /* an index cannot be added to a file that has records, or had rows adopted */
+  BS_FILE_IN_USE = 17,    /* an index cannot be added to a file that has records, or of which a row had a node */
   BS_BAD_KEYS = 18,       /* bounds that do not rise from above 0, too many, or not a key for each index */
   BS_WORN_OUT = 19,       /* a counter has come to its end */
   BS_BAD_LINE = 20,       /* not answered here */
   BS_CYCLE = 21,          /* the new parent `node` is the node itself or lies below it */
-  BS_RECORD_IN_USE = 22,  /* some transaction holds the record or waits for it */
+  BS_RECORD_IN_USE = 22,  /* of bs_forget: some transaction holds the record or waits for it */
   BS_WAITING = 32,        /* the lock is waited for */
   BS_VICTIM = 33,         /* the asker was condemned to end a deadlock, and can only abort */
   BS_MOVED = 34,          /* the node moved, and the wait is over */
   BS_GONE = 35,           /* the node is gone, and the wait is over */
   BS_TIMED_OUT = 36,      /* not answered here: the lock was not granted in time, and the wait was taken back */
   BS_ON_THE_WAY = 37,     /* a path is locked as far as `node`, and others are told: it is asked for again */
+  BS_OTHER_KEYS = 38,     /* the row is held, but its keys are others than was said: they are read again */
   BS_NULL_POINTER = 64,   /* a pointer is null */
   BS_NO_MANAGER = 65,     /* no manager was made at this place, or it was ended */
   BS_BAD_NUMBER = 66,     /* a number names no mode or way of detection, or a count is out of range */
   BS_IN_USE = 67,         /* there is a manager, or a watcher, at this place already */
   BS_NO_PLACE = 68,       /* there are fewer than that */
   BS_NO_WATCHER = 69,     /* no watcher was made at this place, or it was ended */
-  BS_TOO_MANY_WATCHERS = 70 /* as many watch already as may */
+  BS_TOO_MANY_WATCHERS = 70, /* as many watch already as may */
+  BS_ROWS_BY_NUMBER = 71, /* the file is one of rows: its records come, go and change by calls about rows alone */
+  BS_NOT_ROWS = 72        /* the file is none of rows */
 };
 
 /* Lock modes, from none to exclusive. Of what different transactions hold on one node, BS_IS goes with all
@@ -166,7 +174,7 @@ typedef struct bs_watcher {
 typedef struct bs_reply {
   bs_status status;
   bs_mode mode;      /* the mode that was granted, or that was asked after */
-  bs_node node;      /* the node that was made or asked after, or that the refusal names */
+  bs_node node;      /* the node that was made, asked for or asked after, or that the refusal names */
   bs_txn txn;        /* the transaction that began or was asked after */
   uint32_t released; /* of an escalation: how many children were released */
   uint32_t kept;     /* of an escalation: how many held children were kept */
@@ -249,6 +257,7 @@ bs_reply bs_call_make_with(bs_manager *manager, uint32_t detect, uint32_t victim
 bs_reply bs_call_end(bs_manager *manager);
 bs_reply bs_call_add_inner(bs_manager *manager, const bs_node *parents, size_t count);
 bs_reply bs_call_add_file(bs_manager *manager, const bs_node *parents, size_t count);
+bs_reply bs_call_row_file(bs_manager *manager, const bs_node *parents, size_t count);
 bs_reply bs_call_add_index(bs_manager *manager, const bs_node *parents, size_t count, bs_node file,
                            const uint64_t *bounds, size_t bound_count);
 bs_reply bs_call_begin(bs_manager *manager);
@@ -271,9 +280,6 @@ bs_reply bs_call_move(bs_manager *manager, bs_txn txn, bs_node node, const bs_no
 bs_reply bs_call_lock_row(bs_manager *manager, bs_txn txn, bs_node file, uint64_t number, const uint64_t *keys,
                           size_t count, bs_mode mode, bs_notices *told);
 bs_reply bs_call_unlock_row(bs_manager *manager, bs_txn txn, bs_node file, uint64_t number, bs_notices *told);
-bs_reply bs_call_insert_row(bs_manager *manager, bs_txn txn, bs_node file, uint64_t number, const uint64_t *keys,
-                            size_t count);
-bs_reply bs_call_delete_row(bs_manager *manager, bs_txn txn, bs_node file, uint64_t number, bs_notices *told);
 bs_reply bs_call_rekey_row(bs_manager *manager, bs_txn txn, bs_node file, uint64_t number, bs_node index, uint64_t key,
                            bs_notices *told);
 bs_reply bs_call_commit_rows(bs_manager *manager, bs_txn txn, bs_notices *told);
@@ -418,18 +424,27 @@ static inline bs_reply bs_add_inner(bs_manager *manager, const bs_node *parents,
   return bs_call_add_inner(manager, bs_nodes(parents), count);
 }
 
-/* A new file under 1 to 8 different inner nodes. Refused as bs_add_inner. */
+/* A new file of records, under 1 to 8 different inner nodes. Its records are named by their nodes. Refused as
+ * bs_add_inner. */
 static inline bs_reply bs_add_file(bs_manager *manager, const bs_node *parents, size_t count) {
   if (manager == NULL || (parents == NULL && count != 0)) return bs_null();
   return bs_call_add_file(manager, bs_nodes(parents), count);
 }
 
-/* A new index of a file that has no records and had no row adopted, under 1 to 8 different inner nodes, with up to
- * 256 bounds, or, where the manager was made by bs_make_with for another number of nodes than 65,536, up to as many bounds
- * as nodes may live. They rise from above 0: interval 0 has the keys below the first bound, interval i those
- * from bound i - 1 on. Each interval is a node. Refused with BS_NO_SUCH_NODE, BS_BAD_PARENTS (also where
- * the file has 7 indexes), BS_FILE_IN_USE, BS_BAD_KEYS, BS_TOO_MANY_NODES; with BS_BAD_NUMBER, first of all,
- * where there are more than 8 parents. Costs a step for each bound. */
+/* A new file of rows, under 1 to 8 different inner nodes. Each of its records is a row, which the engine names by a
+ * number of its own, and comes, goes and gets other keys by the calls about rows alone. A file is of records or of rows
+ * for good. Refused as bs_add_inner; BS_NO_MEMORY may come before all refusals but BS_BAD_NUMBER and BS_NO_MANAGER. */
+static inline bs_reply bs_add_row_file(bs_manager *manager, const bs_node *parents, size_t count) {
+  if (manager == NULL || (parents == NULL && count != 0)) return bs_null();
+  return bs_call_row_file(manager, bs_nodes(parents), count);
+}
+
+/* A new index of a file that has no records, and of which no row ever had a node by bs_adopt or bs_lock_row. It lies
+ * under 1 to 8 different inner nodes, and has up to 256 bounds, or, where the manager was made by bs_make_with for
+ * another number of nodes than 65,536, up to as many bounds as nodes may live. They rise from above 0: interval 0 has
+ * the keys below the first bound, interval i those from bound i - 1 on. Each interval is a node. Refused with
+ * BS_NO_SUCH_NODE, BS_BAD_PARENTS (also where the file has 7 indexes), BS_FILE_IN_USE, BS_BAD_KEYS, BS_TOO_MANY_NODES;
+ * with BS_BAD_NUMBER, first of all, where there are more than 8 parents. Costs a step for each bound. */
 static inline bs_reply bs_add_index(bs_manager *manager, const bs_node *parents, size_t count, bs_node file,
                                     const uint64_t *bounds, size_t bound_count) {
   if (manager == NULL || (parents == NULL && count != 0) || (bounds == NULL && bound_count != 0)) return bs_null();
@@ -470,8 +485,8 @@ static inline bs_reply bs_lock(bs_manager *manager, bs_txn txn, bs_node node, bs
  * `node` is the one for which it waits or fell, which is the node itself or one above it; once that is granted the
  * call is made again. BS_ON_THE_WAY: `node`, one above, was granted by the fall of others; make the call again, when
  * all in `told` have heard. Refused as bs_lock, but never with BS_NEED_PARENTS: nothing was locked then, but that
- * BS_NO_MEMORY and BS_WORN_OUT may come behind some of the locks. Costs its locks, and a look at each node above for
- * each of them. */
+ * BS_NO_MEMORY and BS_WORN_OUT may come behind some of the locks, which stay. Costs its locks, and a look at each node
+ * above for each of them. */
 static inline bs_reply bs_lock_path(bs_manager *manager, bs_txn txn, bs_node node, bs_mode mode, bs_notices *told) {
   return bs_lacks(manager, told) ? bs_null() : bs_call_lock_path(manager, txn, node, mode, told);
 }
@@ -527,7 +542,8 @@ static inline bs_reply bs_escalate(bs_manager *manager, bs_txn txn, bs_node node
 }
 
 /* ------------------------------------------------------------------------------------------------
- * Records, and nodes that move. Nodes that move tell waiters whose wait is over.
+ * Records, and nodes that move. Nodes that move tell waiters whose wait is over. An insert, delete, adopt, forget or
+ * rekey of a record of a file of rows is refused with BS_ROWS_BY_NUMBER.
  */
 
 /* A new record of a file, in `node`, with a key for each of the file's indexes, in order of their making. It
@@ -547,8 +563,9 @@ static inline bs_reply bs_delete(bs_manager *manager, bs_txn txn, bs_node record
 }
 
 /* A new record of a file, in `node`, as bs_insert makes one, but for no transaction: nobody holds it, and no locks
- * are asked for. So a row has a node only while it is locked. From then on no index of the file is made. Refused with
- * BS_NO_SUCH_NODE, BS_BAD_PARENTS (no file), BS_BAD_KEYS, BS_TOO_MANY_NODES. Takes memory. */
+ * are asked for. It is for an engine that itself gives its rows nodes while they are locked. From then on no index of
+ * the file is made. Refused with BS_NO_SUCH_NODE, BS_BAD_PARENTS (no file), BS_BAD_KEYS, BS_TOO_MANY_NODES. Takes
+ * memory. */
 static inline bs_reply bs_adopt(bs_manager *manager, bs_node file, const uint64_t *keys, size_t count) {
   if (manager == NULL || (keys == NULL && count != 0)) return bs_null();
   return bs_call_adopt(manager, file, bs_numbers(keys), count);
@@ -587,49 +604,49 @@ static inline bs_reply bs_move(bs_manager *manager, bs_txn txn, bs_node node, co
 }
 
 /* ------------------------------------------------------------------------------------------------
- * Rows by the engine's own numbers. A row is a number of a file's, any number at all. It has a node while some
- * transaction holds it or waits for it, and loses that with the last of them: bs_lock_row and bs_insert_row make the
- * node, and the other calls named `row` or `rows` take it away.
- * The keys are the row's own, one for each index of its file in the order of making. They are read when the row is
- * locked, and again behind each wait, since only the engine knows them.
+ * Rows by the engine's own numbers. A row is a file of bs_add_row_file and a number, any number at all. Of another
+ * file, or of a node that is none, calls about a row are refused with BS_NOT_ROWS.
+ *
+ * A row has a node while some transaction holds it or waits for it. bs_lock_row makes the node. The other calls named
+ * `row` or `rows` take it away behind the last who holds it or waits for it. No row has two nodes, and no two rows have
+ * one. By its node a row is locked and asked after as any record is.
+ *
+ * The keys are the row's own, one for each index of its file in the order of making. Only the engine knows them. It
+ * reads them before it locks the row, and looks at them again behind each grant. Where they are others by then it gives
+ * the row back by bs_unlock_row, and begins anew: with the keys of now, and with what has to be held above them.
+ *
+ * A row that is to be inserted is locked in BS_X by its number, with the keys that it will have. One that is to be
+ * deleted is locked in BS_X too, and keeps its lock, its node and its number until its transaction ends: nobody else
+ * gets the row, or its number, before the commit.
  *
  * bs_commit, bs_abort, bs_cancel, bs_escalate and bs_unlock let no row go: its node stands on then, and goes when the
- * row is next let go. A node that bs_forget or bs_delete took away is found gone when its row is next locked, and
- * another is adopted. Each call is one command, and each node that is adopted or forgotten is one more; where a call is
- * refused these may be counted all the same, and bs_ended has nobody then. A transaction that ends lets go all rows
- * that it asked for: a look-up for each, and a step for each node that is forgotten.
+ * row is next let go. Each call is one command, and each node that comes or goes by it is one more. A call named `rows`
+ * goes over all rows that its transaction asked for: a look-up for each, and a step for each node that goes.
  */
 
-/* Locks a row, as bs_lock locks its node, which is in `node` where it is granted, waited for, or fells its asker. The
- * intentions above it are the caller's. A row without a node gets one; so does one whose node has other keys, where
- * nobody holds that or waits for it. Refused with BS_WORN_OUT where fewer than four commands can be counted any more,
- * BS_NO_SUCH_TXN, BS_TXN_WAITING, BS_TXN_CONDEMNED, BS_NO_MEMORY; BS_RECORD_IN_USE where its node has other keys, and
- * somebody holds it or waits for it; where it needs a node, as bs_adopt; then as bs_lock, and a node that it got is
- * gone again; and with BS_BAD_NUMBER, first of all, where the mode is no number of enum bs_modes. Takes memory. */
+/* Locks a row by its node, as bs_lock locks a node. A row without a node gets one with these keys; so does one whose
+ * node has other keys, where nobody holds that or waits for it. Any other row is locked by the node that it has,
+ * whatever keys are said. What has to be held above that node is the caller's to lock: a parent that is wanting is
+ * named by BS_NEED_PARENTS in `node`.
+ * Where the lock is not refused `node` is the row's node. BS_DONE: the row is held in `mode`, and the keys that were
+ * said are the node's own. BS_OTHER_KEYS: the row is held in `mode` as well, but the node's keys are others.
+ * BS_WAITING: the transaction waits, as of bs_lock. Behind the grant the same call is made again: it waits for nothing
+ * then, and says whether the keys are the node's own. BS_VICTIM: as of bs_lock.
+ * A row that keeps its node is refused as the lock of that node. One that gets a node is refused with BS_WORN_OUT where
+ * fewer than two commands can be counted any more, or three where another node goes for it; BS_NO_SUCH_TXN,
+ * BS_TXN_WAITING, BS_TXN_CONDEMNED, BS_BAD_KEYS, BS_TOO_MANY_NODES, also where another node would go for it,
+ * BS_BAD_MODE, BS_NEED_PARENTS. Refused with BS_BAD_NUMBER, first of all, where the mode is no number of enum bs_modes.
+ * BS_NO_MEMORY may come before all refusals but BS_BAD_NUMBER and BS_NO_MANAGER. Takes memory. */
 static inline bs_reply bs_lock_row(bs_manager *manager, bs_txn txn, bs_node file, uint64_t number, const uint64_t *keys,
                                    size_t count, bs_mode mode, bs_notices *told) {
   if (bs_lacks(manager, told) || (keys == NULL && count != 0)) return bs_null();
   return bs_call_lock_row(manager, txn, file, number, bs_numbers(keys), count, mode, told);
 }
 
-/* Releases a row, as bs_unlock releases its node, which is forgotten where nobody else holds it or waits for it. A row
- * without a node is refused with BS_NO_SUCH_NODE here and in the two calls below. */
+/* Releases a row, as bs_unlock releases its node, which goes where nobody else holds it or waits for it. A row without
+ * a node is refused as a node that is gone, here and in the call below. */
 static inline bs_reply bs_unlock_row(bs_manager *manager, bs_txn txn, bs_node file, uint64_t number, bs_notices *told) {
   return bs_lacks(manager, told) ? bs_null() : bs_call_unlock_row(manager, txn, file, number, told);
-}
-
-/* A new row, with its node in `node`, as bs_insert makes one: held in X. Refused as bs_lock_row is, up to
- * BS_RECORD_IN_USE, which here says that somebody holds the row or waits for it; and then as bs_insert. Past
- * BS_RECORD_IN_USE a node that the row had is gone. Takes memory. */
-static inline bs_reply bs_insert_row(bs_manager *manager, bs_txn txn, bs_node file, uint64_t number,
-                                     const uint64_t *keys, size_t count) {
-  if (manager == NULL || (keys == NULL && count != 0)) return bs_null();
-  return bs_call_insert_row(manager, txn, file, number, bs_numbers(keys), count);
-}
-
-/* Takes a row away, which the transaction holds in X, as bs_delete does its node. */
-static inline bs_reply bs_delete_row(bs_manager *manager, bs_txn txn, bs_node file, uint64_t number, bs_notices *told) {
-  return bs_lacks(manager, told) ? bs_null() : bs_call_delete_row(manager, txn, file, number, told);
 }
 
 /* Gives a row another key for one index, as bs_rekey does its node. */
@@ -658,8 +675,8 @@ static inline bs_reply bs_escalate_rows(bs_manager *manager, bs_txn txn, bs_node
   return bs_lacks(manager, told) ? bs_null() : bs_call_escalate_rows(manager, txn, node, told);
 }
 
-/* The node of a row, in `node`, for questions and for bs_verdict; where that was taken away by bs_forget or bs_delete,
- * still its name. Refused with BS_NO_SUCH_NODE where it has none. It changes nothing and takes no memory. */
+/* The node of a row, in `node`, for questions and for bs_verdict. Refused with BS_NO_SUCH_NODE where it has none, also
+ * where its file is none of rows. It changes nothing and takes no memory. */
 static inline bs_reply bs_row_node(bs_manager *manager, bs_node file, uint64_t number) {
   return manager == NULL ? bs_null() : bs_call_row_node(manager, file, number);
 }
@@ -982,6 +999,7 @@ static inline const char *bs_text(bs_status status) {
     case BS_GONE: return "Gone";
     case BS_TIMED_OUT: return "TimedOut";
     case BS_ON_THE_WAY: return "OnTheWay";
+    case BS_OTHER_KEYS: return "OtherKeys";
     case BS_NULL_POINTER: return "NullPointer";
     case BS_NO_MANAGER: return "NoManager";
     case BS_BAD_NUMBER: return "BadNumber";
@@ -989,6 +1007,8 @@ static inline const char *bs_text(bs_status status) {
     case BS_NO_PLACE: return "NoPlace";
     case BS_NO_WATCHER: return "NoWatcher";
     case BS_TOO_MANY_WATCHERS: return "TooManyWatchers";
+    case BS_ROWS_BY_NUMBER: return "RowsByNumber";
+    case BS_NOT_ROWS: return "NotRows";
     default: return "?";
   }
 }

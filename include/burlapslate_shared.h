@@ -22,12 +22,13 @@
  *   - names of transactions and nodes are good with the table that gave them.
  *
  * WHAT A CALL ANSWERS. What the call of burlapslate.h answers that has its name without `table_`, with one more
- * status, BS_TIMED_OUT. Each call is one step of the manager, and what stands there of refusals, memory and costs
- * holds here too. A table that was never made or was ended answers BS_NO_MANAGER. A call with `told` fills it
- * where it is not null; those who sleep are woken, whether it is null or not.
+ * status, BS_TIMED_OUT. What stands there of refusals, memory and costs holds here too. A call is one hold of the
+ * latch, with nobody's steps between its own; where it sleeps, others use the table meanwhile. A table that was never
+ * made or was ended answers BS_NO_MANAGER. A call with `told` fills it where it is not null; those who sleep are woken,
+ * whether it is null or not.
  *
  * HOW A SLEEP ENDS. The one who sleeps for a lock is answered
- *   - BS_DONE: it was granted, and is held in `mode`;
+ *   - BS_DONE: it was granted, and is held in `mode`; of a row BS_OTHER_KEYS, where its keys are others than was said;
  *   - BS_VICTIM: the transaction was condemned to end a deadlock, by a lock or a settle, and can only abort;
  *   - BS_MOVED, BS_GONE: the node moved, or is gone, by another transaction's rekey, move or delete;
  *   - BS_TIMED_OUT: its time came first; the wait was taken back, and the transaction is active;
@@ -122,7 +123,8 @@ static inline void bs_table_wake_half(bs_table_inside *in, uint64_t half, size_t
  * watches is woken too. Who that is says bs_ended: it is not asked where there is nobody, since the command was
  * refused, or told nobody and is none that ends a wait by name, as a cancel and an abort are. */
 static inline void bs_table_wake(bs_table_inside *in, bs_status status, const bs_notices *told, bool by_name) {
-  bool is_accepted = status == BS_DONE || status == BS_WAITING || status == BS_VICTIM || status == BS_ON_THE_WAY;
+  bool is_accepted = status == BS_DONE || status == BS_WAITING || status == BS_VICTIM || status == BS_ON_THE_WAY ||
+                     status == BS_OTHER_KEYS;
   if (is_accepted && (by_name || told->count > 0)) {
     bs_slots ended = bs_ended(&in->manager).slots;
     bs_table_wake_half(in, ended.low, 0);
@@ -317,6 +319,10 @@ static inline bs_reply bs_table_add_file(bs_table *table, const bs_node *parents
   BS_TABLE_ASK(table, bs_add_file(&in->manager, parents, count));
 }
 
+static inline bs_reply bs_table_add_row_file(bs_table *table, const bs_node *parents, size_t count) {
+  BS_TABLE_ASK(table, bs_add_row_file(&in->manager, parents, count));
+}
+
 static inline bs_reply bs_table_add_index(bs_table *table, const bs_node *parents, size_t count, bs_node file,
                                           const uint64_t *bounds, size_t bound_count) {
   BS_TABLE_ASK(table, bs_add_index(&in->manager, parents, count, file, bounds, bound_count));
@@ -467,23 +473,37 @@ static inline bs_reply bs_table_move(bs_table *table, bs_txn txn, bs_node node, 
  * Rows by the engine's own numbers.
  */
 
+/* Asks for a row with the latch held. */
+static inline bs_reply bs_table_ask_row(bs_table_inside *in, bs_txn txn, bs_node file, uint64_t number,
+                                        const uint64_t *keys, size_t count, bs_mode mode) {
+  bs_reply reply = bs_lock_row(&in->manager, txn, file, number, keys, count, mode, &in->told);
+  bs_table_wake(in, reply.status, &in->told, false);
+  return reply;
+}
+
 /* As bs_lock_row, but it never answers BS_WAITING: a row that has to be waited for is slept for, to `until` at most
- * where that is not null. The intentions above it are the caller's: one that is wanting is refused with
- * BS_NEED_PARENTS, with the parent in `node`, which bs_table_lock_path locks. That may sleep, and behind a sleep the
- * keys are to be read again. A row whose time was over keeps its node until the transaction ends. */
+ * where that is not null. Behind a sleep that was granted the row is asked for again, in the same hold of the latch: so
+ * the answer is BS_DONE, or BS_OTHER_KEYS. It is BS_OTHER_KEYS too where that second call was refused, for want of
+ * memory or of numbers: the row is held, and its keys are looked at again.
+ * What has to be held above the row is the caller's to lock: a parent that is wanting is refused with BS_NEED_PARENTS,
+ * in `node`, and bs_table_lock_path locks it. That may sleep, and the keys may be others behind it. A row whose time
+ * was over keeps its node until the transaction ends. */
 static inline bs_reply bs_table_lock_row(bs_table *table, bs_txn txn, bs_node file, uint64_t number,
                                          const uint64_t *keys, size_t count, bs_mode mode,
                                          const struct timespec *until) {
   bs_table_inside *in = bs_table_enter(table);
   bs_reply reply;
-  bs_node row;
   if (in == NULL) return bs_no_table(table);
   if (!bs_is_time(until)) return bs_table_leave(table, bs_bad_number());
-  reply = bs_lock_row(&in->manager, txn, file, number, keys, count, mode, &in->told);
-  row = reply.node;
-  bs_table_wake(in, reply.status, &in->told, false);
-  if (reply.status == BS_WAITING) reply = bs_table_sleep(table, txn, row, mode, until);
-  if (reply.status == BS_DONE) reply.node = row;
+  reply = bs_table_ask_row(in, txn, file, number, keys, count, mode);
+  if (reply.status == BS_WAITING) {
+    bs_node row = reply.node;
+    reply = bs_table_sleep(table, txn, row, mode, until);
+    if (reply.status == BS_DONE) {
+      reply.node = row;
+      if (bs_table_ask_row(in, txn, file, number, keys, count, mode).status != BS_DONE) reply.status = BS_OTHER_KEYS;
+    }
+  }
   pthread_mutex_unlock(&table->latch);
   return reply;
 }
@@ -491,16 +511,6 @@ static inline bs_reply bs_table_lock_row(bs_table *table, bs_txn txn, bs_node fi
 static inline bs_reply bs_table_unlock_row(bs_table *table, bs_txn txn, bs_node file, uint64_t number,
                                            bs_notices *told) {
   BS_TABLE_TELL(table, told, false, bs_unlock_row(&in->manager, txn, file, number, list));
-}
-
-static inline bs_reply bs_table_insert_row(bs_table *table, bs_txn txn, bs_node file, uint64_t number,
-                                           const uint64_t *keys, size_t count) {
-  BS_TABLE_ASK(table, bs_insert_row(&in->manager, txn, file, number, keys, count));
-}
-
-static inline bs_reply bs_table_delete_row(bs_table *table, bs_txn txn, bs_node file, uint64_t number,
-                                           bs_notices *told) {
-  BS_TABLE_TELL(table, told, false, bs_delete_row(&in->manager, txn, file, number, list));
 }
 
 static inline bs_reply bs_table_rekey_row(bs_table *table, bs_txn txn, bs_node file, uint64_t number, bs_node index,
@@ -537,7 +547,7 @@ static inline bs_reply bs_table_row_node(bs_table *table, bs_node file, uint64_t
 enum bs_command_kinds {
   BS_DO_BEGIN = 1, BS_DO_LOCK, BS_DO_TRY, BS_DO_UNLOCK, BS_DO_ESCALATE, BS_DO_CANCEL, BS_DO_COMMIT, BS_DO_ABORT,
   BS_DO_SETTLE, BS_DO_INSERT, BS_DO_DELETE, BS_DO_REKEY, BS_DO_MOVE, BS_DO_ADD_INNER, BS_DO_ADD_FILE, BS_DO_ADD_INDEX,
-  BS_DO_ADOPT, BS_DO_FORGET
+  BS_DO_ADOPT, BS_DO_FORGET, BS_DO_ADD_ROW_FILE
 };
 
 /* A command, of enum bs_command_kinds, with what it is given: the fields that its maker below sets. */
@@ -636,6 +646,9 @@ static inline bs_command bs_do_add_inner(const bs_node *parents, size_t count) {
 static inline bs_command bs_do_add_file(const bs_node *parents, size_t count) {
   return bs_do_adding(BS_DO_ADD_FILE, parents, count);
 }
+static inline bs_command bs_do_add_row_file(const bs_node *parents, size_t count) {
+  return bs_do_adding(BS_DO_ADD_ROW_FILE, parents, count);
+}
 static inline bs_command bs_do_add_index(const bs_node *parents, size_t count, bs_node file, const uint64_t *bounds,
                                          size_t bound_count) {
   bs_command command = bs_do_adding(BS_DO_ADD_INDEX, parents, count);
@@ -665,6 +678,7 @@ static inline bs_reply bs_command_made(bs_manager *m, const bs_command *c, bs_tx
     case BS_DO_MOVE: return bs_move(m, txn, c->node, c->parents, c->parent_count, told);
     case BS_DO_ADD_INNER: return bs_add_inner(m, c->parents, c->parent_count);
     case BS_DO_ADD_FILE: return bs_add_file(m, c->parents, c->parent_count);
+    case BS_DO_ADD_ROW_FILE: return bs_add_row_file(m, c->parents, c->parent_count);
     case BS_DO_ADD_INDEX:
       return bs_add_index(m, c->parents, c->parent_count, c->other, c->numbers, c->number_count);
     default: return bs_bad_number();

@@ -1,13 +1,13 @@
 #!/usr/bin/env bash
 # run.sh [WORD..]: runs the tests of the crate `burlapslate` and the examples in its documentation, with
 # no network. The words go to `cargo test`. Ends with cargo's status; where there is no cargo it says so,
-# and ends with status 0. BURLAPSLATE_LIBS names other archives than those of tools/c_library.sh. What is
-# built goes to a temporary folder, or to CARGO_TARGET_DIR.
+# and ends with status 77: not tried. BURLAPSLATE_LIBS names other archives than those of tools/c_library.sh.
+# What is built goes to a temporary folder, or to CARGO_TARGET_DIR.
 set -uo pipefail
 top=$(cd "$(dirname "$0")/.." && pwd) || exit 2
 if ! command -v cargo >/dev/null; then
-  echo "rust: cargo is not found, so nothing was tried"
-  exit 0
+  echo "rust: not tried: cargo is not found"
+  exit 77
 fi
 work=$(mktemp -d) || exit 2
 trap 'rm -rf "$work"' EXIT

@@ -5,15 +5,22 @@
 
 #include <stdlib.h>
 
-enum { ABOVE = 4 };
+/* The root; a file of records and one of rows, each with an index of one interval. */
+enum { ABOVE = 7 };
 
 static bs_manager m = BS_NO_MANAGER_HERE;
 static bs_notices told;
-static bs_node db, file, by_key, below, *records;
+static bs_node db, file, below, row_file, row_below, *records;
 
 static bs_reply done(bs_reply reply) {
   if (reply.status != BS_DONE) fail("an answer of ours", __FILE__, __LINE__);
   return reply;
+}
+
+/* An index of a file, of one interval, which it answers. */
+static bs_node interval_of(bs_node of) {
+  bs_node index = done(bs_add_index(&m, &db, 1, of, NULL, 0)).node;
+  return done(bs_interval_of(&m, index, 0)).node;
 }
 
 static void set_up(const struct work *work) {
@@ -24,8 +31,9 @@ static void set_up(const struct work *work) {
   done(bs_make_with(&m, &options));
   db = done(bs_add_inner(&m, NULL, 0)).node;
   file = done(bs_add_file(&m, &db, 1)).node;
-  by_key = done(bs_add_index(&m, &db, 1, file, NULL, 0)).node;
-  below = done(bs_interval_of(&m, by_key, 0)).node;
+  below = interval_of(file);
+  row_file = done(bs_add_row_file(&m, &db, 1)).node;
+  row_below = interval_of(row_file);
 }
 
 static void tear_down(void) {
@@ -33,11 +41,15 @@ static void tear_down(void) {
   free(records);
 }
 
-static bs_txn begin(void) {
+static bs_txn begin_at(bs_node above, bs_node interval) {
   bs_txn t = done(bs_begin(&m)).txn;
-  done(bs_lock_path(&m, t, file, BS_IX, &told));
-  done(bs_lock_path(&m, t, below, BS_IX, &told));
+  done(bs_lock_path(&m, t, above, BS_IX, &told));
+  done(bs_lock_path(&m, t, interval, BS_IX, &told));
   return t;
+}
+
+static bs_txn begin(void) {
+  return begin_at(file, below);
 }
 
 static void commit(bs_txn t) {
@@ -92,11 +104,11 @@ static __attribute__((noinline)) void step_delete(const struct work *work) {
 }
 
 /* Goes over all records, a hundred in a transaction, by the places `from` up to `to`. */
-#define BY_TRANSACTIONS(work, from, to, t, what)                                                        \
+#define BY_TRANSACTIONS(work, from, to, t, begun, what)                                                 \
   do {                                                                                                  \
     uint32_t from, to;                                                                                  \
     for (from = 0; from < (work)->records; from = to) {                                                 \
-      bs_txn t = begin();                                                                               \
+      bs_txn t = begun;                                                                                 \
       to = (work)->records - from < PER_TRANSACTION ? (work)->records : from + PER_TRANSACTION;         \
       what;                                                                                             \
     }                                                                                                   \
@@ -105,7 +117,7 @@ static __attribute__((noinline)) void step_delete(const struct work *work) {
 /* Records that stand only while they are locked. */
 static __attribute__((noinline)) void step_adopt(const struct work *work) {
   uint32_t at;
-  BY_TRANSACTIONS(work, from, to, t, {
+  BY_TRANSACTIONS(work, from, to, t, begin(), {
     for (at = from; at < to; at++) {
       uint64_t key = work->order[at];
       records[key] = done(bs_adopt(&m, file, &key, 1)).node;
@@ -119,10 +131,10 @@ static __attribute__((noinline)) void step_adopt(const struct work *work) {
 /* The same by the rows' numbers: the library adopts and forgets. */
 static __attribute__((noinline)) void step_row(const struct work *work) {
   uint32_t at;
-  BY_TRANSACTIONS(work, from, to, t, {
+  BY_TRANSACTIONS(work, from, to, t, begin_at(row_file, row_below), {
     for (at = from; at < to; at++) {
       uint64_t key = work->order[at];
-      done(bs_lock_row(&m, t, file, key, &key, 1, BS_X, &told));
+      done(bs_lock_row(&m, t, row_file, key, &key, 1, BS_X, &told));
     }
     done(bs_commit_rows(&m, t, &told));
   });

@@ -1,15 +1,15 @@
 #!/usr/bin/env bash
 # run.sh: compiles the engine over the C library and runs it: with deadlocks found when a wait begins, with a
 # watcher, and with the planted fault, which it must refuse by the lost update that comes of it. Ends with
-# status 1 where something is not as wanted; where there is no C compiler it says so, and ends with status 0.
-# CC names another compiler than cc.
+# status 1 where something is not as wanted; where there is no C compiler it says so, and ends with status 77: not
+# tried. CC names another compiler than cc.
 set -uo pipefail
 here=$(cd "$(dirname "$0")" && pwd) || exit 2
 top=$here/../..
 compiler=${CC:-cc}
 if ! command -v "${compiler%% *}" >/dev/null; then
-  echo "examples/engine: no C compiler: $compiler is not found, so nothing was tried"
-  exit 0
+  echo "examples/engine: not tried: there is no C compiler $compiler"
+  exit 77
 fi
 work=$(mktemp -d) || exit 2
 trap 'rm -rf "$work"' EXIT

@@ -6,8 +6,9 @@
 enum action {
   GO_ON,      /* it is done, or it is an answer and no fault */
   SLEEP,      /* until a notice tells how the wait ended */
-  LOOK_AGAIN, /* the node moved or is gone: find the row anew, and lock it from the root down */
+  LOOK_AGAIN, /* the row may lie elsewhere or be gone: look at it anew, and lock it there from the root down */
   DO_WITHOUT, /* it would have to wait: go on with what is held, or ask by bs_lock */
+  ASK_LATER,  /* somebody uses the record: it stays, and is not to be forgotten yet */
   ROLL_BACK,  /* undo, bs_abort, and begin again */
   LEAVE,      /* another thread ended the transaction, and undid what it did */
   MAKE_ROOM,  /* as many live as may: wait until one ends, or roll back */
@@ -17,11 +18,12 @@ enum action {
 
 static enum action what_to_do(bs_status status) {
   switch ((enum bs_statuses)status) {
-    case BS_DONE: case BS_NO_PLACE: case BS_NOT_WAITING: case BS_RECORD_IN_USE: return GO_ON;
+    case BS_DONE: case BS_NO_PLACE: case BS_NOT_WAITING: return GO_ON;
     case BS_WAITING: return SLEEP;
     case BS_NEED_PARENTS: case BS_NO_SUCH_NODE: case BS_MOVED: case BS_GONE: return LOOK_AGAIN;
-    case BS_ON_THE_WAY: return LOOK_AGAIN;
+    case BS_ON_THE_WAY: case BS_OTHER_KEYS: return LOOK_AGAIN;
     case BS_WOULD_BLOCK: return DO_WITHOUT;
+    case BS_RECORD_IN_USE: return ASK_LATER;
     case BS_VICTIM: case BS_TXN_CONDEMNED: case BS_NO_MEMORY: case BS_TIMED_OUT: return ROLL_BACK;
     case BS_NO_SUCH_TXN: return LEAVE;
     case BS_TOO_MANY_TXNS: case BS_TOO_MANY_NODES: case BS_TOO_MANY_WATCHERS: return MAKE_ROOM;
@@ -29,7 +31,7 @@ static enum action what_to_do(bs_status status) {
     case BS_TXN_WAITING: case BS_BAD_MODE: case BS_NOT_HELD: case BS_HELD_CHILD: return MEND;
     case BS_BAD_PARENTS: case BS_NEED_EXCLUSIVE: case BS_FILE_IN_USE: case BS_BAD_KEYS: return MEND;
     case BS_CYCLE: case BS_NULL_POINTER: case BS_NO_MANAGER: case BS_BAD_NUMBER: case BS_IN_USE: return MEND;
-    case BS_NO_WATCHER: return MEND;
+    case BS_NO_WATCHER: case BS_ROWS_BY_NUMBER: case BS_NOT_ROWS: return MEND;
     case BS_NAME_TAKEN: case BS_BAD_LINE: return MEND; /* Not answered to C. */
   }
   return MEND;
@@ -73,6 +75,29 @@ static void of_locks(bs_manager *m, const struct shop *s) {
   DONE(bs_commit(m, a, &told));
 }
 
+static void of_rows(bs_manager *m, const struct shop *s) {
+  bs_node rows = DONE(bs_add_row_file(m, &s->tables, 1)).node;
+  bs_node by_day = DONE(bs_add_index(m, &s->indexes, 1, rows, NULL, 0)).node, record;
+  bs_txn a = begin(m), b = begin(m);
+  uint64_t day = 20, other = 30;
+  WANT(of(bs_insert(m, a, rows, &day, 1)) == MEND);
+  WANT(of(bs_lock_row(m, a, s->orders, 7, &day, 1, BS_X, &told)) == MEND);
+  WANT(of(bs_lock_row(m, a, rows, 7, &day, 1, BS_X, &told)) == LOOK_AGAIN);
+  DONE(bs_lock_path(m, a, rows, BS_IX, &told));
+  DONE(bs_lock_path(m, a, bs_interval(m, by_day, 0).node, BS_IX, &told));
+  DONE(bs_lock_path(m, b, rows, BS_IS, &told));
+  WANT(of(bs_lock_row(m, a, rows, 7, &day, 1, BS_X, &told)) == GO_ON);
+  WANT(of(bs_lock_row(m, b, rows, 7, &other, 1, BS_S, &told)) == SLEEP);
+  DONE(bs_commit_rows(m, a, &told));
+  WANT(of_notice(0, b) == GO_ON);
+  WANT(of(bs_lock_row(m, b, rows, 7, &other, 1, BS_S, &told)) == LOOK_AGAIN);
+  WANT(of(bs_unlock_row(m, b, rows, 7, &told)) == GO_ON);
+  record = DONE(bs_adopt(m, s->orders, &day, 1)).node;
+  DONE(bs_lock_path(m, b, record, BS_S, &told));
+  WANT(of(bs_forget(m, record)) == ASK_LATER);
+  DONE(bs_commit_rows(m, b, &told));
+}
+
 static void of_deadlocks(bs_manager *m, const struct shop *s) {
   bs_txn a = begin(m), b = begin(m);
   DONE(bs_lock(m, a, s->db, BS_S, &told));
@@ -98,6 +123,7 @@ void what_each_answer_asks(void) {
   open_manager(&m, BS_AT_BLOCK, BS_YOUNGEST);
   s = make_shop(&m);
   of_locks(&m, &s);
+  of_rows(&m, &s);
   of_deadlocks(&m, &s);
   of_limits(&m);
   DONE(bs_end(&m));

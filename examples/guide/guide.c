@@ -82,6 +82,9 @@ int main(void) {
   TELL(pages_as_records);
   TELL(rows_while_they_are_locked);
   TELL(a_locked_row_is_rekeyed);
+  TELL(a_row_moved_unseen);
+  TELL(a_row_moves_meanwhile);
+  TELL(rows_come_and_go);
   TELL(more_rows_than_nodes);
   TELL(false_conflicts);
   TELL(buckets_under_intervals);

@@ -48,6 +48,9 @@ void pages_as_records(void);
 /* rows.c */
 void rows_while_they_are_locked(void);
 void a_locked_row_is_rekeyed(void);
+void a_row_moved_unseen(void);
+void a_row_moves_meanwhile(void);
+void rows_come_and_go(void);
 
 /* buckets.c */
 void more_rows_than_nodes(void);

@@ -1,16 +1,16 @@
 #!/usr/bin/env bash
 # run.sh: looks whether each piece of C that docs/ENGINES.md shows stands in the examples, compiles the guide's
 # program over the C library, and runs it: it prints a line for each topic. Ends with status 1 where something
-# is not as wanted; where there is no C compiler it says so, and ends with status 0. CC names another compiler
-# than cc.
+# is not as wanted; where there is no C compiler it says so, and ends with status 77: not tried. CC names another
+# compiler than cc.
 set -uo pipefail
 cd "$(dirname "$0")/../.." || exit 2
 tools/pieces.sh docs/ENGINES.md examples/guide/*.[ch] examples/engine/*.[ch] || exit 1
 
 compiler=${CC:-cc}
 if ! command -v "${compiler%% *}" >/dev/null; then
-  echo "examples/guide: no C compiler: $compiler is not found, so nothing was tried"
-  exit 0
+  echo "examples/guide: not tried: there is no C compiler $compiler"
+  exit 77
 fi
 work=$(mktemp -d) || exit 2
 trap 'rm -rf "$work"' EXIT

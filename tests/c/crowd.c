@@ -7,8 +7,9 @@
  *
  * Each call that the table makes with its manager is written down with its answer, with the latch held. In the end a
  * manager of one thread is asked the same in the same order, and must answer the same. What each thread was answered
- * must be what was written down, or, where it slept, how its wait then ended. Those who hold BS_X on an account add
- * to it with nothing else to guard it, and no addition may be lost. Listings of one moment agree with each other.
+ * must be what was written down, or, where it slept, how its wait then ended. Those who hold BS_X on an account, or on
+ * a row that they insert or delete, add to it with nothing else to guard it, and no addition may be lost. Listings of
+ * one moment agree with each other.
  */
 #include "burlapslate.h"
 
@@ -22,7 +23,8 @@
 
 enum kind {
   BEGIN, LOCK, LOCK_PATH, LOCK_ROW, TRY, UNLOCK, UNLOCK_ROW, ESCALATE, ESCALATE_ROWS, CANCEL, CANCEL_ROWS, COMMIT,
-  COMMIT_ROWS, ABORT, ABORT_ROWS, SETTLE, INSERT, DELETE, REKEY, MOVE, ADD_INNER, ADD_FILE, ADD_INDEX, KINDS
+  COMMIT_ROWS, ABORT, ABORT_ROWS, SETTLE, INSERT, DELETE, REKEY, REKEY_ROW, MOVE, ADD_INNER, ADD_FILE, ADD_ROW_FILE,
+  ADD_INDEX, KINDS
 };
 
 enum { MOST_NUMBERS = 3, MOST_PARENTS = 2 };
@@ -32,6 +34,7 @@ struct call {
   enum kind kind;
   bs_txn txn;
   bs_node node;
+  uint64_t row;
   bs_mode mode;
   bs_node other;
   uint64_t key;
@@ -55,8 +58,8 @@ struct served {
 static struct served *log_of_calls;
 static size_t log_count, log_room;
 
-/* The last call that this thread had served. */
-static __thread size_t my_last;
+/* The last call that this thread had served, and the one before. */
+static __thread size_t my_last, my_last_but_one;
 
 static uint64_t mixed(uint64_t sum, uint64_t more) {
   return (sum ^ more) * UINT64_C(0x100000001b3);
@@ -80,6 +83,7 @@ static bs_reply write_down(bs_manager *m, const struct call *call, bs_reply repl
     log_of_calls = (struct served *)realloc(log_of_calls, log_room * sizeof *log_of_calls);
     if (log_of_calls == NULL) abort();
   }
+  my_last_but_one = my_last;
   my_last = log_count++;
   s = &log_of_calls[my_last];
   memset(s, 0, sizeof *s);
@@ -98,10 +102,10 @@ static bs_reply made(bs_manager *m, const struct call *c, bs_notices *told) {
     case BEGIN: return bs_begin(m);
     case LOCK: return bs_lock(m, c->txn, c->node, c->mode, told);
     case LOCK_PATH: return bs_lock_path(m, c->txn, c->node, c->mode, told);
-    case LOCK_ROW: return bs_lock_row(m, c->txn, c->node, c->key, c->numbers, c->number_count, c->mode, told);
+    case LOCK_ROW: return bs_lock_row(m, c->txn, c->node, c->row, c->numbers, c->number_count, c->mode, told);
     case TRY: return bs_try(m, c->txn, c->node, c->mode);
     case UNLOCK: return bs_unlock(m, c->txn, c->node, told);
-    case UNLOCK_ROW: return bs_unlock_row(m, c->txn, c->node, c->key, told);
+    case UNLOCK_ROW: return bs_unlock_row(m, c->txn, c->node, c->row, told);
     case ESCALATE: return bs_escalate(m, c->txn, c->node, told);
     case ESCALATE_ROWS: return bs_escalate_rows(m, c->txn, c->node, told);
     case CANCEL: return bs_cancel(m, c->txn, told);
@@ -114,9 +118,11 @@ static bs_reply made(bs_manager *m, const struct call *c, bs_notices *told) {
     case INSERT: return bs_insert(m, c->txn, c->node, c->numbers, c->number_count);
     case DELETE: return bs_delete(m, c->txn, c->node, told);
     case REKEY: return bs_rekey(m, c->txn, c->node, c->other, c->key, told);
+    case REKEY_ROW: return bs_rekey_row(m, c->txn, c->node, c->row, c->other, c->key, told);
     case MOVE: return bs_move(m, c->txn, c->node, c->parents, c->parent_count, told);
     case ADD_INNER: return bs_add_inner(m, c->parents, c->parent_count);
     case ADD_FILE: return bs_add_file(m, c->parents, c->parent_count);
+    case ADD_ROW_FILE: return bs_add_row_file(m, c->parents, c->parent_count);
     default: return bs_add_index(m, c->parents, c->parent_count, c->other, c->numbers, c->number_count);
   }
 }
@@ -166,7 +172,7 @@ static bs_reply served_lock(bs_manager *m, enum kind kind, bs_txn txn, bs_node n
 static bs_reply served_lock_row(bs_manager *m, bs_txn txn, bs_node file, uint64_t number, const uint64_t *keys,
                                 size_t count, bs_mode mode, bs_notices *told) {
   struct call call = call_of(LOCK_ROW, txn, file);
-  call.key = number;
+  call.row = number;
   call.mode = mode;
   give_numbers(&call, keys, count);
   return serve(m, call, told);
@@ -174,7 +180,16 @@ static bs_reply served_lock_row(bs_manager *m, bs_txn txn, bs_node file, uint64_
 
 static bs_reply served_unlock_row(bs_manager *m, bs_txn txn, bs_node file, uint64_t number, bs_notices *told) {
   struct call call = call_of(UNLOCK_ROW, txn, file);
-  call.key = number;
+  call.row = number;
+  return serve(m, call, told);
+}
+
+static bs_reply served_rekey_row(bs_manager *m, bs_txn txn, bs_node file, uint64_t number, bs_node index, uint64_t key,
+                                 bs_notices *told) {
+  struct call call = call_of(REKEY_ROW, txn, file);
+  call.row = number;
+  call.other = index;
+  call.key = key;
   return serve(m, call, told);
 }
 
@@ -246,6 +261,7 @@ static bs_reply served_add_index(bs_manager *m, const bs_node *parents, size_t c
 #define bs_lock_row(m, txn, file, row, keys, count, mode, told) \
   served_lock_row(m, txn, file, row, keys, count, mode, told)
 #define bs_unlock_row(m, txn, file, row, told) served_unlock_row(m, txn, file, row, told)
+#define bs_rekey_row(m, txn, file, row, index, key, told) served_rekey_row(m, txn, file, row, index, key, told)
 #define bs_escalate_rows(m, txn, node, told) served_escalate(m, ESCALATE_ROWS, txn, node, told)
 #define bs_cancel_rows(m, txn, told) served_end(m, CANCEL_ROWS, txn, told)
 #define bs_commit_rows(m, txn, told) served_end(m, COMMIT_ROWS, txn, told)
@@ -257,13 +273,15 @@ static bs_reply served_add_index(bs_manager *m, const bs_node *parents, size_t c
 #define bs_move(m, txn, node, parents, count, told) served_move(m, txn, node, parents, count, told)
 #define bs_add_inner(m, parents, count) served_add(m, ADD_INNER, parents, count)
 #define bs_add_file(m, parents, count) served_add(m, ADD_FILE, parents, count)
+#define bs_add_row_file(m, parents, count) served_add(m, ADD_ROW_FILE, parents, count)
 #define bs_add_index(m, parents, count, file, bounds, most) served_add_index(m, parents, count, file, bounds, most)
 
 #include "threads.h"
 
 /* ------------------------------------------------------------------------------------------------
- * The nodes: a root, two areas, four files with an index of three intervals each, six records in each file at first,
- * and eight accounts; and ten rows in each file, which have nodes while they are locked.
+ * The nodes: a root, two areas, four files of records with an index of three intervals each, six records in each at
+ * first, and eight accounts; and four files of rows with such an index, ten rows in each, which have nodes while they
+ * are locked.
  */
 
 enum { AREAS = 2, FILES = 4, INTERVALS = 3, RECORDS = 24, ROWS = 10, ACCOUNTS = 8, THREADS = 128, WATCHERS = 2 };
@@ -271,18 +289,29 @@ enum { AREAS = 2, FILES = 4, INTERVALS = 3, RECORDS = 24, ROWS = 10, ACCOUNTS = 
 static bs_table table = BS_NO_TABLE_HERE;
 static bs_node root, areas[AREAS], files[FILES], indexes[FILES], intervals[FILES][INTERVALS], accounts[ACCOUNTS];
 static bs_node records[RECORDS];
+static bs_node row_files[FILES], row_indexes[FILES], row_intervals[FILES][INTERVALS];
 static pthread_mutex_t names = PTHREAD_MUTEX_INITIALIZER; /* of records, and of those who may be ended by anybody */
 static bs_txn free_game[THREADS];
-static long added[ACCOUNTS]; /* by who holds the account in X */
-static bool is_over;         /* for those who watch, with `names` held */
+static long added[ACCOUNTS];      /* by who holds the account in X */
+static long changed[FILES][ROWS]; /* the same of rows, each of which is there or not */
+static bool is_over;              /* for those who watch, with `names` held */
+
+static const uint64_t bounds[INTERVALS - 1] = { 100, 200 };
+
+static void make_row_file(size_t i) {
+  bs_node area = areas[i % AREAS];
+  size_t j;
+  row_files[i] = DONE(bs_table_add_row_file(&table, &area, 1)).node;
+  row_indexes[i] = DONE(bs_table_add_index(&table, &area, 1, row_files[i], bounds, INTERVALS - 1)).node;
+  for (j = 0; j < INTERVALS; j++) row_intervals[i][j] = DONE(bs_table_interval(&table, row_indexes[i], j)).node;
+}
 
 static void make_file(size_t i) {
-  static const uint64_t bounds[2] = { 100, 200 };
   bs_node area = areas[i % AREAS];
   bs_txn t = DONE(bs_table_begin(&table)).txn;
   size_t j;
   files[i] = DONE(bs_table_add_file(&table, &area, 1)).node;
-  indexes[i] = DONE(bs_table_add_index(&table, &area, 1, files[i], bounds, 2)).node;
+  indexes[i] = DONE(bs_table_add_index(&table, &area, 1, files[i], bounds, INTERVALS - 1)).node;
   for (j = 0; j < INTERVALS; j++) {
     intervals[i][j] = DONE(bs_table_interval(&table, indexes[i], j)).node;
     DONE(bs_table_lock_path(&table, t, intervals[i][j], BS_IX, NULL));
@@ -299,12 +328,14 @@ static void set_up(uint32_t detect, uint32_t victims) {
   size_t i;
   log_count = 0;
   memset(added, 0, sizeof added);
+  memset(changed, 0, sizeof changed);
   memset(free_game, 0, sizeof free_game);
   is_over = false;
   DONE(bs_table_make(&table, detect, victims, BS_SLOTS));
   root = DONE(bs_table_add_inner(&table, NULL, 0)).node;
   for (i = 0; i < AREAS; i++) areas[i] = DONE(bs_table_add_inner(&table, &root, 1)).node;
   for (i = 0; i < FILES; i++) make_file(i);
+  for (i = 0; i < FILES; i++) make_row_file(i);
   for (i = 0; i < ACCOUNTS; i++) accounts[i] = DONE(bs_table_add_inner(&table, &root, 1)).node;
   if (detect == BS_BY_WATCHER) DONE(bs_table_watch_thread(&table, 0));
 }
@@ -318,7 +349,7 @@ struct session {
   uint64_t dice;
   bs_txn txn;
   bool is_game; /* anybody may end its transaction */
-  long adds[ACCOUNTS], victims, slept, late;
+  long adds[ACCOUNTS], changes[FILES][ROWS], victims, slept, late, others;
   pthread_t thread;
 };
 
@@ -339,7 +370,7 @@ static bs_node any_node(struct session *s) {
   switch (pick(s, 8)) {
     case 0: return root;
     case 1: return areas[i % AREAS];
-    case 2: return files[i];
+    case 2: return pick(s, 2) == 0 ? files[i] : row_files[i];
     case 3: return indexes[i];
     case 4: return intervals[i][pick(s, INTERVALS)];
     case 5: return accounts[pick(s, ACCOUNTS)];
@@ -379,6 +410,29 @@ static bs_reply as_slept(struct session *s, bs_reply reply) {
   return reply;
 }
 
+/* A wait for a row, and the call that asks for it again behind the grant. */
+static bool is_asked_again(const struct served *slept, const struct served *last) {
+  const struct call *a = &slept->call, *b = &last->call;
+  if (a->kind != LOCK_ROW || b->kind != LOCK_ROW || slept->reply.status != BS_WAITING || slept->has_slept) return false;
+  return same_txn(a->txn, b->txn) && same_node(a->node, b->node) && a->row == b->row && a->mode == b->mode &&
+         a->numbers[0] == b->numbers[0];
+}
+
+/* The same of a row's lock: the answer behind a grant is that of the call which asks again. */
+static bs_reply as_row_slept(struct session *s, bs_reply reply) {
+  struct served *slept;
+  pthread_mutex_lock(&table.latch);
+  slept = &log_of_calls[my_last_but_one];
+  if (is_asked_again(slept, &log_of_calls[my_last])) {
+    slept->has_slept = true;
+    slept->came = reply;
+    slept->came.status = BS_DONE;
+    s->slept++;
+  }
+  pthread_mutex_unlock(&table.latch);
+  return as_slept(s, reply);
+}
+
 static bs_reply ask(struct session *s, bs_node node, bs_mode mode) {
   struct timespec until = moment_in(200 + (long)pick(s, 2000));
   return as_slept(s, bs_table_lock_until(&table, s->txn, node, mode, pick(s, 4) == 0 ? &until : NULL));
@@ -389,15 +443,42 @@ static bs_reply ask_path(struct session *s, bs_node node, bs_mode mode) {
   return as_slept(s, bs_table_lock_path(&table, s->txn, node, mode, pick(s, 4) == 0 ? &until : NULL));
 }
 
-/* A row by its number, which has one key for good, with the intentions above it. */
-static bs_reply ask_row(struct session *s, bs_mode mode) {
+/* What is held above a row with this key, and then the row; what is wanting above a node with another key as well. */
+static bs_reply ask_row_by(struct session *s, size_t i, uint64_t row, uint64_t key, bs_mode mode) {
   struct timespec until = moment_in(200 + (long)pick(s, 2000));
+  const struct timespec *limit = pick(s, 4) == 0 ? &until : NULL;
+  size_t place = key / 100 < INTERVALS ? key / 100 : INTERVALS - 1;
+  bs_reply reply = ask_path(s, row_intervals[i][place], BS_IX);
+  if (reply.status == BS_DONE) reply = ask_path(s, row_files[i], BS_IX);
+  while (reply.status == BS_DONE) {
+    reply = as_row_slept(s, bs_table_lock_row(&table, s->txn, row_files[i], row, &key, 1, mode, limit));
+    if (reply.status != BS_NEED_PARENTS) return reply;
+    reply = ask_path(s, reply.node, BS_IX);
+  }
+  return reply;
+}
+
+/* A row that is held in X is inserted, or deleted, unless others may end the transaction meanwhile. */
+static void change(struct session *s, size_t i, uint64_t row) {
+  long before;
+  if (s->is_game) return;
+  before = changed[i][row];
+  sched_yield();
+  changed[i][row] = before + 1;
+  s->changes[i][row]++;
+}
+
+/* A row by its number, with one of two keys. Where its node has the other one the row is rekeyed, or given back where
+ * it is held to be read. */
+static bs_reply ask_row(struct session *s, bs_mode mode) {
   size_t i = pick(s, FILES);
-  uint64_t row = pick(s, ROWS), key = row * 29;
-  bs_reply reply = ask_path(s, intervals[i][key / 100], BS_IX);
-  if (reply.status == BS_DONE) reply = ask_path(s, files[i], BS_IX);
-  if (reply.status != BS_DONE) return reply;
-  return as_slept(s, bs_table_lock_row(&table, s->txn, files[i], row, &key, 1, mode, pick(s, 4) == 0 ? &until : NULL));
+  uint64_t row = pick(s, ROWS), key = row * 29 + (pick(s, 3) == 0 ? 100 : 0);
+  bs_reply reply = ask_row_by(s, i, row, key, mode);
+  if ((reply.status == BS_DONE || reply.status == BS_OTHER_KEYS) && reply.mode == BS_X) change(s, i, row);
+  if (reply.status != BS_OTHER_KEYS) return reply;
+  s->others++;
+  if (reply.mode == BS_S) return as_served(bs_table_unlock_row(&table, s->txn, row_files[i], row, NULL));
+  return as_served(bs_table_rekey_row(&table, s->txn, row_files[i], row, row_indexes[i], key, NULL));
 }
 
 static bs_mode any_mode(struct session *s) {
@@ -543,7 +624,7 @@ static bs_reply any_command(struct session *s) {
     case 18: return pick(s, 4) == 0 ? audit() : add(s);
     case 19: case 20: return ask_row(s, BS_X);
     case 21: case 22: return ask_row(s, BS_S);
-    case 23: return as_served(bs_table_unlock_row(&table, s->txn, files[pick(s, FILES)], pick(s, ROWS), NULL));
+    case 23: return as_served(bs_table_unlock_row(&table, s->txn, row_files[pick(s, FILES)], pick(s, ROWS), NULL));
     case 24: return as_served(bs_table_escalate_rows(&table, s->txn, any_node(s), NULL));
     default: return add(s);
   }
@@ -694,19 +775,27 @@ static void replay(uint32_t detect, uint32_t victims) {
   DONE(bs_end(&m));
 }
 
-static void compare_accounts(const struct session *sessions) {
-  size_t i, j;
+/* Else an addition is lost. */
+static void compare_additions(const struct session *sessions) {
+  size_t i, j, row;
   for (i = 0; i < ACCOUNTS; i++) {
     long sum = 0;
     for (j = 0; j < THREADS; j++) sum += sessions[j].adds[i];
-    WANT(sum == added[i]); /* Else an addition is lost. */
+    WANT(sum == added[i]);
+  }
+  for (i = 0; i < FILES; i++) {
+    for (row = 0; row < ROWS; row++) {
+      long sum = 0;
+      for (j = 0; j < THREADS; j++) sum += sessions[j].changes[i][row];
+      WANT(sum == changed[i][row]);
+    }
   }
 }
 
 static void crowd(const char *name, uint32_t detect, uint32_t victims, unsigned patience) {
   static struct session sessions[THREADS];
   struct looker lookers[WATCHERS];
-  long fell = 0, slept = 0, late = 0, looks = 0;
+  long fell = 0, slept = 0, late = 0, others = 0, looks = 0;
   size_t i;
   story = name;
   feed(patience);
@@ -732,12 +821,13 @@ static void crowd(const char *name, uint32_t detect, uint32_t victims, unsigned 
     fell += sessions[i].victims;
     slept += sessions[i].slept;
     late += sessions[i].late;
+    others += sessions[i].others;
   }
   replay(detect, victims);
-  compare_accounts(sessions);
+  compare_additions(sessions);
   DONE(bs_table_end(&table));
-  fprintf(stderr, "%s: %lu calls, %ld sleeps, %ld too late, %ld victims, %ld looks\n", name, (unsigned long)log_count,
-          slept, late, fell, looks);
+  fprintf(stderr, "%s: %lu calls, %ld sleeps, %ld too late, %ld victims, %ld other keys, %ld looks\n", name,
+          (unsigned long)log_count, slept, late, fell, others, looks);
   printf("%s\n", name);
 }
 

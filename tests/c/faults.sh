@@ -14,11 +14,13 @@ trap 'rm -rf "$work"' EXIT
 # The faults: a name, and an edit by sed that must change the header. The library may need more words (FAULT_LINKS).
 faults() {
   local call
-  for call in unlock cancel commit abort settle escalate delete rekey move; do
+  for call in unlock{,_row} {cancel,commit,abort,escalate}{,_rows} settle delete rekey{,_row} move; do
     printf '%s-forgets-to-wake\ts/BS_TABLE_TELL(table, told, [a-z]*, \\(bs_%s(.*\\)list))/BS_TABLE_ASK(table, \\1bs_table_list(in, told)))/\n' \
       "$call" "$call"
   done
   cat <<'FAULTS'
+row-is-not-asked-again	s/      if (bs_table_ask_row(.*//
+other-keys-wake-nobody	s/^ *status == BS_OTHER_KEYS;/false;/
 lock-forgets-to-wake	s/  bs_table_wake(in, reply.status, &in->told, false);//
 run-forgets-to-wake	s/    bs_table_wake(in, next->reply.status, told, by_name);//
 run-forgets-names	s/    by_name = next->kind .*/    by_name = false;/

@@ -240,7 +240,7 @@ static void a_record_goes(void) {
 }
 
 /* An escalation releases a child, for which a reader waits that came by another parent. */
-static void an_escalation_grants(void) {
+static void grants_by(bs_reply (*escalate)(bs_table *, bs_txn, bs_node, bs_notices *)) {
   struct asker one;
   bs_node parents[2], child;
   bs_reply reply;
@@ -253,10 +253,15 @@ static void an_escalation_grants(void) {
   DONE(bs_table_lock_path(&table, a, child, BS_IX, NULL));
   DONE(bs_table_lock_path(&table, b, parents[1], BS_IS, NULL));
   send(&one, b, child, BS_S);
-  reply = DONE(bs_table_escalate(&table, a, parents[0], NULL));
+  reply = DONE(escalate(&table, a, parents[0], NULL));
   WANT(reply.mode == BS_X && reply.released == 1);
   WANT(back(&one, BS_DONE).mode == BS_S);
   DONE(bs_table_end(&table));
+}
+
+static void an_escalation_grants(void) {
+  grants_by(bs_table_escalate);
+  grants_by(bs_table_escalate_rows);
 }
 
 /* Another thread takes the wait back: the transaction is active then. */
@@ -566,62 +571,167 @@ static void a_path_ends_early(void) {
  * Rows by the engine's own numbers.
  */
 
-/* One who asks for a row in a thread of its own. */
+/* A file of rows, with an index of two intervals, parted at 100. */
+static bs_node rows, by_row_key, rows_below, rows_above;
+
+/* The engine's own row with the number 7: its key stands in a page with a latch of its own, and the row's lock guards
+ * what else it has. */
+static pthread_mutex_t page = PTHREAD_MUTEX_INITIALIZER;
+static uint64_t page_key;
+static bool is_there;
+static long amount;
+
+enum { OLD_KEY = 70, NEW_KEY = 150, OLD_ROW = 7 };
+
+static uint64_t read_key(void) {
+  uint64_t key;
+  pthread_mutex_lock(&page);
+  key = page_key;
+  pthread_mutex_unlock(&page);
+  return key;
+}
+
+static void write_key(uint64_t key) {
+  pthread_mutex_lock(&page);
+  page_key = key;
+  pthread_mutex_unlock(&page);
+}
+
+static void set_up_rows(uint32_t detect) {
+  static const uint64_t bound = 100;
+  set_up(detect);
+  rows = DONE(bs_table_add_row_file(&table, &root, 1)).node;
+  by_row_key = DONE(bs_table_add_index(&table, &root, 1, rows, &bound, 1)).node;
+  rows_below = DONE(bs_table_interval(&table, by_row_key, 0)).node;
+  rows_above = DONE(bs_table_interval(&table, by_row_key, 1)).node;
+  page_key = OLD_KEY;
+  is_there = true;
+  amount = 0;
+  if (detect == BS_BY_WATCHER) DONE(bs_table_watch_thread(&table, 0));
+}
+
+/* What is held above a row that has this key. */
+static bs_reply lock_above(bs_txn t, uint64_t key) {
+  bs_reply reply = bs_table_lock_path(&table, t, rows, BS_IX, NULL);
+  bs_node interval = bs_table_interval_of(&table, by_row_key, key).node;
+  return reply.status == BS_DONE ? bs_table_lock_path(&table, t, interval, BS_IX, NULL) : reply;
+}
+
+static bs_txn begin_writer(uint64_t key) {
+  bs_txn t = begin();
+  DONE(lock_above(t, key));
+  return t;
+}
+
+static bs_reply ask_row(bs_txn t, uint64_t number, uint64_t key, const struct timespec *until) {
+  return bs_table_lock_row(&table, t, rows, number, &key, 1, BS_X, until);
+}
+
+/* Asks for a row by a key. Its node may have another: what is wanting above that is locked too. */
+static bs_reply ask_row_by(bs_txn t, uint64_t number, uint64_t key) {
+  bs_reply reply = lock_above(t, key);
+  while (reply.status == BS_DONE) {
+    reply = ask_row(t, number, key, NULL);
+    if (reply.status != BS_NEED_PARENTS) break;
+    reply = bs_table_lock_path(&table, t, reply.node, BS_IX, NULL);
+  }
+  return reply;
+}
+
+/* One who asks for a row in a thread of its own, and begins anew where its key is another behind the grant. */
 struct row_asker {
   bs_txn txn;
-  uint64_t number;
+  uint64_t number, key; /* of row 7 the key that the page has first */
   const struct timespec *until;
+  bool looks;           /* at the page, behind each grant */
+  size_t others;        /* how often it was told of other keys */
+  size_t anew;          /* how often it began anew */
   bs_reply reply;
   pthread_t thread;
 };
 
-static const uint64_t row_key = 70;
-
-static void *ask_row(void *arg) {
+static void *ask_for_row(void *arg) {
   struct row_asker *a = (struct row_asker *)arg;
-  a->reply = bs_table_lock_row(&table, a->txn, file, a->number, &row_key, 1, BS_X, a->until);
-  return NULL;
+  if (!a->looks) {
+    a->reply = ask_row(a->txn, a->number, a->key, a->until);
+    return NULL;
+  }
+  for (;;) {
+    a->key = read_key();
+    a->reply = ask_row_by(a->txn, OLD_ROW, a->key);
+    if (a->reply.status == BS_OTHER_KEYS) a->others++;
+    if ((a->reply.status != BS_DONE && a->reply.status != BS_OTHER_KEYS) || read_key() == a->key) return NULL;
+    a->anew++;
+    DONE(bs_table_unlock_row(&table, a->txn, rows, OLD_ROW, NULL));
+  }
 }
 
-static void send_for_row(struct row_asker *a, bs_txn txn, uint64_t number) {
+static void start_asking(struct row_asker *a, bs_txn txn, uint64_t number, uint64_t key, bool looks) {
   memset(a, 0, sizeof *a);
   a->txn = txn;
   a->number = number;
-  start(&a->thread, ask_row, a);
+  a->key = key;
+  a->looks = looks;
+  start(&a->thread, ask_for_row, a);
+}
+
+/* The same of one who comes to sleep. */
+static void send_for_row(struct row_asker *a, bs_txn txn, uint64_t number, uint64_t key) {
+  start_asking(a, txn, number, key, false);
   await_wait(txn);
 }
 
-/* A transaction that may write rows of the lower interval. */
-static bs_txn begin_writer(void) {
-  bs_txn t = begin();
-  DONE(bs_table_lock_path(&table, t, file, BS_IX, NULL));
-  DONE(bs_table_lock_path(&table, t, below, BS_IX, NULL));
-  return t;
+static bs_reply back_with_row(struct row_asker *a, bs_status status) {
+  join(a->thread);
+  return ANSWERS(status, a->reply);
 }
 
-static bs_node locked_row(bs_txn t, uint64_t number) {
-  return DONE(bs_table_lock_row(&table, t, file, number, &row_key, 1, BS_X, NULL)).node;
+static bs_node locked_row(bs_txn t, uint64_t number, uint64_t key) {
+  return DONE(ask_row(t, number, key, NULL)).node;
 }
 
 static bool has_node(uint64_t number) {
-  return bs_table_row_node(&table, file, number).status == BS_DONE;
+  return bs_table_row_node(&table, rows, number).status == BS_DONE;
+}
+
+static bool holds_row(bs_txn t, uint64_t number) {
+  bs_reply row = bs_table_row_node(&table, rows, number);
+  return row.status == BS_DONE && bs_table_held(&table, t, row.node).mode == BS_X;
 }
 
 static void a_row_is_slept_for(void) {
   struct row_asker one;
   bs_node row;
   bs_txn a, b;
-  set_up(BS_AT_BLOCK);
-  a = begin_writer(), b = begin_writer();
-  row = locked_row(a, 7);
-  send_for_row(&one, b, 7);
+  set_up_rows(BS_AT_BLOCK);
+  a = begin_writer(OLD_KEY), b = begin_writer(OLD_KEY);
+  row = locked_row(a, 7, OLD_KEY);
+  send_for_row(&one, b, 7, OLD_KEY);
   DONE(bs_table_commit_rows(&table, a, &told));
   WANT(told.count == 1 && is_told(0, b, BS_TOLD_GRANTED));
-  join(one.thread);
-  WANT(DONE(one.reply).mode == BS_X && same_node(one.reply.node, row));
+  back_with_row(&one, BS_DONE);
+  WANT(one.reply.mode == BS_X && same_node(one.reply.node, row));
   holds(b, row, BS_X);
-  DONE(bs_table_unlock_row(&table, b, file, 7, NULL));
+  DONE(bs_table_unlock_row(&table, b, rows, 7, NULL));
   WANT(!has_node(7));
+  DONE(bs_table_end(&table));
+}
+
+/* Who slept for a row by other keys than its node's holds it too, and hears so. */
+static void a_row_with_other_keys_is_slept_for(void) {
+  struct row_asker one;
+  bs_node row;
+  bs_txn a, b;
+  set_up_rows(BS_AT_BLOCK);
+  a = begin_writer(NEW_KEY), b = begin_writer(NEW_KEY);
+  row = locked_row(a, 7, NEW_KEY);
+  send_for_row(&one, b, 7, OLD_KEY);
+  DONE(bs_table_unlock_row(&table, a, rows, 7, NULL));
+  back_with_row(&one, BS_OTHER_KEYS);
+  WANT(one.reply.mode == BS_X && same_node(one.reply.node, row));
+  holds(b, row, BS_X);
+  ANSWERS(BS_OTHER_KEYS, ask_row(b, 7, OLD_KEY, NULL));
+  DONE(ask_row(b, 7, NEW_KEY, NULL));
   DONE(bs_table_end(&table));
 }
 
@@ -631,50 +741,297 @@ static void how_a_sleep_for_a_row_ends(void) {
   struct row_asker one;
   struct timespec until;
   bs_txn a, b, c;
-  set_up(BS_AT_BLOCK);
-  a = begin_writer(), b = begin_writer(), c = begin();
-  locked_row(a, 7);
-  ANSWERS(BS_BAD_NUMBER, bs_table_lock_row(&table, b, file, 7, &row_key, 1, BS_X, &wrong));
-  ANSWERS(BS_NEED_PARENTS, bs_table_lock_row(&table, c, file, 8, &row_key, 1, BS_X, NULL));
+  set_up_rows(BS_AT_BLOCK);
+  a = begin_writer(OLD_KEY), b = begin_writer(OLD_KEY), c = begin();
+  DONE(lock_above(a, NEW_KEY));
+  locked_row(a, 7, OLD_KEY);
+  ANSWERS(BS_BAD_NUMBER, ask_row(b, 7, OLD_KEY, &wrong));
+  ANSWERS(BS_NEED_PARENTS, ask_row(c, 8, OLD_KEY, NULL));
   until = moment_in(1000);
-  ANSWERS(BS_TIMED_OUT, bs_table_lock_row(&table, b, file, 7, &row_key, 1, BS_X, &until));
-  send_for_row(&one, b, 7);
+  ANSWERS(BS_TIMED_OUT, ask_row(b, 7, OLD_KEY, &until));
+  send_for_row(&one, b, 7, OLD_KEY);
   DONE(bs_table_cancel_rows(&table, b, NULL));
-  join(one.thread);
-  ANSWERS(BS_NOT_WAITING, one.reply);
-  send_for_row(&one, b, 7);
-  DONE(bs_table_delete_row(&table, a, file, 7, NULL));
-  join(one.thread);
-  ANSWERS(BS_GONE, one.reply);
-  locked_row(a, 7);
-  send_for_row(&one, b, 7);
+  back_with_row(&one, BS_NOT_WAITING);
+  send_for_row(&one, b, 7, OLD_KEY);
+  DONE(bs_table_rekey_row(&table, a, rows, 7, by_row_key, NEW_KEY, NULL));
+  back_with_row(&one, BS_MOVED);
+  DONE(lock_above(b, NEW_KEY));
+  send_for_row(&one, b, 7, NEW_KEY);
   DONE(bs_table_abort_rows(&table, b, NULL));
-  join(one.thread);
-  ANSWERS(BS_NO_SUCH_TXN, one.reply);
+  back_with_row(&one, BS_NO_SUCH_TXN);
   DONE(bs_table_commit_rows(&table, a, NULL));
   WANT(!has_node(7));
   DONE(bs_table_end(&table));
-  ANSWERS(BS_NO_MANAGER, bs_table_lock_row(&table, a, file, 7, &row_key, 1, BS_X, NULL));
+  ANSWERS(BS_NO_MANAGER, ask_row(a, 7, OLD_KEY, NULL));
+  ANSWERS(BS_NO_MANAGER, bs_table_add_row_file(&table, &root, 1));
 }
 
 static void rows_that_change(void) {
   bs_reply reply;
   bs_node row;
   bs_txn a;
-  set_up(BS_AT_BLOCK);
-  a = begin_writer();
-  DONE(bs_table_lock_path(&table, a, above, BS_IX, NULL));
-  row = DONE(bs_table_insert_row(&table, a, file, 7, &row_key, 1)).node;
-  WANT(same_node(bs_table_row_node(&table, file, 7).node, row));
-  DONE(bs_table_rekey_row(&table, a, file, 7, by_key, 150, &told));
-  WANT(bs_table_key(&table, row, 0).count == 150 && told.count == 0);
+  set_up_rows(BS_AT_BLOCK);
+  a = begin_writer(OLD_KEY);
+  DONE(lock_above(a, NEW_KEY));
+  row = locked_row(a, 7, OLD_KEY);
+  WANT(same_node(bs_table_row_node(&table, rows, 7).node, row));
+  DONE(bs_table_rekey_row(&table, a, rows, 7, by_row_key, NEW_KEY, &told));
+  WANT(bs_table_key(&table, row, 0).count == NEW_KEY && told.count == 0);
   DONE(bs_table_commit_rows(&table, a, NULL));
   WANT(!has_node(7));
   a = begin();
-  DONE(bs_table_lock_path(&table, a, file, BS_IS, NULL));
-  DONE(bs_table_lock_row(&table, a, file, 7, &row_key, 1, BS_S, NULL));
-  reply = DONE(bs_table_escalate_rows(&table, a, file, NULL));
+  DONE(bs_table_lock_path(&table, a, rows, BS_IS, NULL));
+  DONE(bs_table_lock_row(&table, a, rows, 7, &page_key, 1, BS_S, NULL));
+  reply = DONE(bs_table_escalate_rows(&table, a, rows, NULL));
   WANT(reply.mode == BS_S && reply.released == 1 && !has_node(7));
+  DONE(bs_table_end(&table));
+}
+
+/* Who falls sleeps for a row, and is woken though the asker by whom it fell is told of other keys. */
+static void other_keys_by_the_fall_of_another(void) {
+  struct row_asker one;
+  struct asker two;
+  uint64_t key = OLD_KEY;
+  bs_node other;
+  bs_txn a, b, c;
+  set_up_rows(BS_AT_BLOCK);
+  other = DONE(bs_table_add_inner(&table, NULL, 0)).node;
+  a = begin(), b = begin_writer(NEW_KEY), c = begin_writer(NEW_KEY);
+  DONE(bs_table_lock(&table, a, other, BS_X));
+  DONE(bs_table_lock_row(&table, b, rows, 7, &(uint64_t){ NEW_KEY }, 1, BS_S, NULL));
+  send_for_row(&one, c, 7, NEW_KEY);
+  send(&two, b, other, BS_S);
+  DONE(bs_table_lock_path(&table, a, rows, BS_IS, NULL));
+  ANSWERS(BS_OTHER_KEYS, bs_table_lock_row(&table, a, rows, 7, &key, 1, BS_S, NULL));
+  back_with_row(&one, BS_VICTIM);
+  DONE(bs_table_commit_rows(&table, a, NULL));
+  back(&two, BS_DONE);
+  DONE(bs_table_end(&table));
+}
+
+enum { TURNS = 200 };
+
+/* One side makes records of a file of rows by their nodes, and is refused each time, while the other locks its row. */
+static void *insert_by_node(void *arg) {
+  static const uint64_t key = OLD_KEY;
+  int i;
+  for (i = 0; i < TURNS; i++) {
+    bs_txn t = begin_writer(OLD_KEY);
+    bs_reply row = bs_table_row_node(&table, rows, 7);
+    ANSWERS(BS_ROWS_BY_NUMBER, bs_table_insert(&table, t, rows, &key, 1));
+    ANSWERS(BS_ROWS_BY_NUMBER, bs_table_adopt(&table, rows, &key, 1));
+    if (row.status == BS_DONE) {
+      row = bs_table_forget(&table, row.node);
+      WANT(row.status == BS_ROWS_BY_NUMBER || row.status == BS_NO_SUCH_NODE); /* It may be gone by then. */
+    }
+    DONE(bs_table_commit_rows(&table, t, NULL));
+  }
+  return arg;
+}
+
+static void *add_by_number(void *arg) {
+  int i;
+  for (i = 0; i < TURNS; i++) {
+    bs_txn t = begin_writer(OLD_KEY);
+    long before;
+    DONE(ask_row(t, 7, OLD_KEY, NULL));
+    before = amount;
+    WANT(bs_table_len(&table).count > 0);
+    amount = before + 1;
+    DONE(bs_table_commit_rows(&table, t, NULL));
+  }
+  return arg;
+}
+
+static void two_ways_to_one_row(void) {
+  pthread_t threads[4];
+  uint64_t nodes;
+  size_t i;
+  set_up_rows(BS_AT_BLOCK);
+  nodes = bs_table_len(&table).count;
+  for (i = 0; i < 4; i++) start(&threads[i], i < 2 ? insert_by_node : add_by_number, NULL);
+  for (i = 0; i < 4; i++) join(threads[i]);
+  WANT(amount == 2 * TURNS && !has_node(7) && bs_table_len(&table).count == nodes);
+  DONE(bs_table_end(&table));
+}
+
+/* One who deletes the row and has not ended yet: it ends once the other waits for the row. */
+struct deleter {
+  bs_txn txn, other;
+  bool commits;
+  pthread_t thread;
+};
+
+static void *delete_row(void *arg) {
+  struct deleter *d = (struct deleter *)arg;
+  locked_row(d->txn, 7, OLD_KEY);
+  is_there = false;
+  await_wait(d->other);
+  if (d->commits) {
+    DONE(bs_table_commit_rows(&table, d->txn, NULL));
+  } else {
+    is_there = true;
+    DONE(bs_table_abort_rows(&table, d->txn, NULL));
+  }
+  return NULL;
+}
+
+/* Nobody gets the row, or its number, before that. */
+static void a_row_is_deleted(bool commits) {
+  struct row_asker one;
+  struct deleter d;
+  set_up_rows(BS_AT_BLOCK);
+  d.txn = begin_writer(OLD_KEY), d.other = begin_writer(OLD_KEY);
+  d.commits = commits;
+  start(&d.thread, delete_row, &d);
+  while (!holds_row(d.txn, 7)) nap();
+  start_asking(&one, d.other, 7, OLD_KEY, false);
+  back_with_row(&one, BS_DONE);
+  WANT(is_there == !commits && holds_row(d.other, 7));
+  join(d.thread);
+  DONE(bs_table_end(&table));
+}
+
+static void a_delete_that_commits(void) {
+  a_row_is_deleted(true);
+}
+
+static void a_delete_that_aborts(void) {
+  a_row_is_deleted(false);
+}
+
+/* One who moves the row: between its rekey and the writing of the key another reads the page. */
+struct mover {
+  bs_txn txn, other;
+  bool asks; /* for row 8 too, which the other holds */
+  pthread_t thread;
+};
+
+static void *move_row(void *arg) {
+  struct mover *m = (struct mover *)arg;
+  DONE(ask_row_by(m->txn, OLD_ROW, OLD_KEY));
+  DONE(lock_above(m->txn, NEW_KEY));
+  DONE(bs_table_rekey_row(&table, m->txn, rows, OLD_ROW, by_row_key, NEW_KEY, NULL));
+  await_wait(m->other);
+  if (m->asks) DONE(ask_row_by(m->txn, 8, OLD_KEY));
+  write_key(NEW_KEY);
+  DONE(bs_table_commit_rows(&table, m->txn, NULL));
+  return NULL;
+}
+
+/* Whether the node of the row has the new key by now. */
+static bool is_rekeyed(void) {
+  bs_reply row = bs_table_row_node(&table, rows, OLD_ROW);
+  return row.status == BS_DONE && bs_table_key(&table, row.node, 0).count == NEW_KEY;
+}
+
+/* Who read the old key waits for the row, is told of other keys behind the grant, and begins anew. */
+static void a_mover_beside_an_old_key(void) {
+  struct row_asker one;
+  struct mover m;
+  set_up_rows(BS_AT_BLOCK);
+  m.txn = begin(), m.other = begin(), m.asks = false;
+  start(&m.thread, move_row, &m);
+  while (!is_rekeyed()) nap();
+  start_asking(&one, m.other, OLD_ROW, OLD_KEY, true);
+  back_with_row(&one, BS_DONE);
+  WANT(one.others == 1 && one.anew == 1 && one.key == NEW_KEY && holds_row(m.other, OLD_ROW));
+  join(m.thread);
+  DONE(bs_table_commit_rows(&table, m.other, NULL));
+  WANT(!has_node(OLD_ROW));
+  DONE(bs_table_end(&table));
+}
+
+/* The two wait for each other, and the younger falls. */
+static void a_mover_in_a_cycle(uint32_t detect) {
+  struct row_asker one;
+  struct mover m;
+  set_up_rows(detect);
+  m.txn = begin(), m.other = begin(), m.asks = true;
+  DONE(ask_row_by(m.other, 8, OLD_KEY));
+  start(&m.thread, move_row, &m);
+  while (!is_rekeyed()) nap();
+  start_asking(&one, m.other, OLD_ROW, OLD_KEY, true);
+  back_with_row(&one, BS_VICTIM);
+  DONE(bs_table_abort_rows(&table, m.other, NULL));
+  join(m.thread);
+  WANT(read_key() == NEW_KEY && !has_node(OLD_ROW) && !has_node(8));
+  DONE(bs_table_end(&table));
+}
+
+static void a_mover_in_a_cycle_at_block(void) {
+  a_mover_in_a_cycle(BS_AT_BLOCK);
+}
+
+static void a_mover_in_a_cycle_by_watcher(void) {
+  a_mover_in_a_cycle(BS_BY_WATCHER);
+}
+
+/* How far a story of several threads has come. */
+static int stage;
+
+static void reach(int next) {
+  pthread_mutex_lock(&page);
+  stage = next;
+  pthread_mutex_unlock(&page);
+}
+
+static void await_stage(int wanted_stage) {
+  int at = 0;
+  while (at < wanted_stage) {
+    nap();
+    pthread_mutex_lock(&page);
+    at = stage;
+    pthread_mutex_unlock(&page);
+  }
+}
+
+/* A writer that reads the key, and locks the row by it only when the row has moved and the move is committed. */
+static void *write_late(void *arg) {
+  struct row_asker *w = (struct row_asker *)arg;
+  uint64_t key = read_key();
+  reach(1);
+  await_stage(2);
+  DONE(ask_row_by(w->txn, OLD_ROW, key)); /* No node stood, so these were taken for the row's own. */
+  reach(3);
+  await_stage(4);
+  WANT(read_key() != key);
+  DONE(bs_table_unlock_row(&table, w->txn, rows, OLD_ROW, NULL));
+  w->looks = true;
+  ask_for_row(w);
+  amount++;
+  return NULL;
+}
+
+/* To look behind the grant keeps the writer from a row that lies in an interval which another reads. */
+static void a_row_that_moved_unseen(void) {
+  struct row_asker writer;
+  struct mover m;
+  bs_txn reader;
+  long before;
+  set_up_rows(BS_AT_BLOCK);
+  stage = 0;
+  memset(&writer, 0, sizeof writer);
+  writer.txn = begin(), m.txn = begin(), reader = begin();
+  start(&writer.thread, write_late, &writer);
+  await_stage(1);
+  DONE(ask_row_by(m.txn, OLD_ROW, OLD_KEY));
+  DONE(lock_above(m.txn, NEW_KEY));
+  DONE(bs_table_rekey_row(&table, m.txn, rows, OLD_ROW, by_row_key, NEW_KEY, NULL));
+  write_key(NEW_KEY);
+  DONE(bs_table_commit_rows(&table, m.txn, NULL));
+  DONE(bs_table_lock_path(&table, reader, rows_above, BS_S, NULL));
+  before = amount;
+  reach(2);
+  await_stage(3);
+  holds(reader, rows_above, BS_S);
+  WANT(holds_row(writer.txn, OLD_ROW)); /* The row lies in that interval: nothing but the look keeps the two apart. */
+  reach(4);
+  await_wait(writer.txn);
+  WANT(amount == before && same_node(bs_table_waiting(&table, writer.txn).node, rows_above));
+  DONE(bs_table_commit(&table, reader, NULL));
+  back_with_row(&writer, BS_DONE);
+  WANT(amount == before + 1 && writer.key == NEW_KEY && holds_row(writer.txn, OLD_ROW));
   DONE(bs_table_end(&table));
 }
 
@@ -796,6 +1153,9 @@ static void every_command(void) {
   list[2] = bs_do_move(t, table_node, &under, 1);
   list[3] = bs_do_cancel(t);
   WANT(bs_table_run(&table, list, 4) == 3 && list[3].reply.status == BS_NOT_WAITING);
+  list[0] = bs_do_add_row_file(&top, 1);
+  WANT(bs_table_run(&table, list, 1) == 1 && bs_table_kind(&table, list[0].reply.node).count == BS_FILE);
+  ANSWERS(BS_ROWS_BY_NUMBER, bs_table_adopt(&table, list[0].reply.node, NULL, 0));
   list[0] = bs_do(99, t, root);
   WANT(bs_table_run(&table, list, 1) == 0 && list[0].reply.status == BS_BAD_NUMBER);
   DONE(bs_table_end(&table));
@@ -848,6 +1208,87 @@ static void a_ninth_watcher(void) {
   ANSWERS(BS_IN_USE, bs_table_watch_thread(&table, 0));
   DONE(bs_table_end(&table));
   for (i = 0; i < 9; i++) bs_table_watch_end(&all[i]);
+}
+
+/* One of two watchers ends, and the other sees a wait that begins then. */
+static void one_of_two_watchers_goes_on(void) {
+  static bs_board board;
+  int ends;
+  for (ends = 0; ends < 2; ends++) {
+    static const bs_watcher none = BS_NO_WATCHER_HERE;
+    bs_watcher both[2];
+    struct asker one;
+    bs_txn a, b;
+    both[0] = both[1] = none;
+    set_up(BS_BY_WATCHER);
+    a = begin(), b = begin();
+    DONE(bs_table_lock(&table, a, root, BS_X));
+    DONE(bs_table_watch(&table, &both[0]));
+    DONE(bs_table_watch(&table, &both[1]));
+    DONE(bs_table_watch_end(&both[ends]));
+    send(&one, b, root, BS_S);
+    DONE(bs_table_look(&both[1 - ends], &board));
+    WANT(waits_on_board(&board, b, a));
+    DONE(bs_table_commit(&table, a, NULL));
+    back(&one, BS_DONE);
+    DONE(bs_table_watch_end(&both[1 - ends]));
+    DONE(bs_table_end(&table));
+  }
+}
+
+/* Nine come and go beside one that stays, and sees the wait that begins behind them. */
+static void watchers_come_and_go(void) {
+  static bs_board board;
+  bs_watcher stays = BS_NO_WATCHER_HERE;
+  struct asker one;
+  bs_txn a, b;
+  int i;
+  set_up(BS_BY_WATCHER);
+  DONE(bs_table_watch(&table, &stays));
+  for (i = 0; i < BS_MOST_WATCHERS + 1; i++) {
+    bs_watcher watcher = BS_NO_WATCHER_HERE;
+    DONE(bs_table_watch(&table, &watcher));
+    DONE(bs_table_look(&watcher, &board));
+    DONE(bs_table_watch_end(&watcher));
+  }
+  a = begin(), b = begin();
+  DONE(bs_table_lock(&table, a, root, BS_X));
+  send(&one, b, root, BS_S);
+  DONE(bs_table_look(&stays, &board));
+  WANT(waits_on_board(&board, b, a));
+  DONE(bs_table_commit(&table, a, NULL));
+  back(&one, BS_DONE);
+  DONE(bs_table_watch_end(&stays));
+  DONE(bs_table_end(&table));
+}
+
+/* Watchers for which there was no memory keep no seat: a growth of a watch is refused eight times, and then eight watch. */
+static void refused_watchers(void) {
+  static const bs_watcher none = BS_NO_WATCHER_HERE;
+  bs_watcher all[BS_MOST_WATCHERS + 1];
+  long n = 1;
+  int i;
+  bool refused = true;
+  for (; refused; n++) {
+    for (i = 0; i < BS_MOST_WATCHERS + 1; i++) all[i] = none;
+    set_up(BS_BY_WATCHER);
+    DONE(bs_table_watch(&table, &all[0])); /* What the first takes for all is there from now on. */
+    DONE(bs_table_watch_end(&all[0]));
+    for (i = 0; i < BS_MOST_WATCHERS && refused; i++) {
+      bs_reply reply;
+      refused_growth = n;
+      reply = bs_table_watch(&table, &all[0]);
+      refused = refused_growth == 0;
+      refused_growth = 0;
+      ANSWERS(refused ? BS_NO_MEMORY : BS_DONE, reply);
+      if (!refused) DONE(bs_table_watch_end(&all[0]));
+    }
+    for (i = 0; i < BS_MOST_WATCHERS; i++) DONE(bs_table_watch(&table, &all[i]));
+    ANSWERS(BS_TOO_MANY_WATCHERS, bs_table_watch(&table, &all[BS_MOST_WATCHERS]));
+    for (i = 0; i < BS_MOST_WATCHERS; i++) DONE(bs_table_watch_end(&all[i]));
+    DONE(bs_table_end(&table));
+  }
+  WANT(n > 2);
 }
 
 /* A pair that waits for each other comes to an end by the thread that watches, whenever it began. */
@@ -1153,14 +1594,26 @@ int main(int count, char **words) {
   TELL(a_path_moves);
   TELL(a_path_ends_early);
   TELL(a_row_is_slept_for);
+  TELL(a_row_with_other_keys_is_slept_for);
   TELL(how_a_sleep_for_a_row_ends);
   TELL(rows_that_change);
+  TELL(other_keys_by_the_fall_of_another);
+  TELL(two_ways_to_one_row);
+  TELL(a_delete_that_commits);
+  TELL(a_delete_that_aborts);
+  TELL(a_mover_beside_an_old_key);
+  TELL(a_mover_in_a_cycle_at_block);
+  TELL(a_mover_in_a_cycle_by_watcher);
+  TELL(a_row_that_moved_unseen);
   TELL(lists_of_commands);
   TELL(lists_that_begin);
   TELL(lists_that_name);
   TELL(every_command);
   TELL(a_watcher_looks);
   TELL(a_ninth_watcher);
+  TELL(one_of_two_watchers_goes_on);
+  TELL(watchers_come_and_go);
+  TELL(refused_watchers);
   TELL(a_thread_watches_without_rest);
   TELL(a_thread_watches_and_rests);
   TELL(a_thread_rests_long);

@@ -53,21 +53,31 @@ static bs_txn begin(bs_manager *m) {
   return DONE(bs_begin(m)).txn;
 }
 
-/* A file under a root with one index of two intervals, parted at 100, and a record in each. */
+/* A file under a root with one index of two intervals, parted at 100; in one of records a record in each. */
 struct file {
   bs_node root, file, index, below, above, low, high;
 };
 
-static struct file make_file(bs_manager *m, bs_node root) {
+static struct file with_index(bs_manager *m, bs_node root, bs_node file) {
   static const uint64_t bound = 100;
-  const uint64_t low = 50, high = 200;
   struct file f;
-  bs_txn t = begin(m);
+  memset(&f, 0, sizeof f);
   f.root = root;
-  f.file = DONE(bs_add_file(m, &root, 1)).node;
-  f.index = DONE(bs_add_index(m, &root, 1, f.file, &bound, 1)).node;
+  f.file = file;
+  f.index = DONE(bs_add_index(m, &root, 1, file, &bound, 1)).node;
   f.below = DONE(bs_interval(m, f.index, 0)).node;
   f.above = DONE(bs_interval(m, f.index, 1)).node;
+  return f;
+}
+
+static struct file make_row_file(bs_manager *m, bs_node root) {
+  return with_index(m, root, DONE(bs_add_row_file(m, &root, 1)).node);
+}
+
+static struct file make_file(bs_manager *m, bs_node root) {
+  const uint64_t low = 50, high = 200;
+  struct file f = with_index(m, root, DONE(bs_add_file(m, &root, 1)).node);
+  bs_txn t = begin(m);
   DONE(bs_lock(m, t, root, BS_IX, &told));
   DONE(bs_lock(m, t, f.file, BS_IX, &told));
   DONE(bs_lock(m, t, f.index, BS_IX, &told));
@@ -331,7 +341,7 @@ static void a_record_goes(void) {
   DONE(bs_end(&m));
 }
 
-static void a_row_is_adopted(void) {
+static void a_record_is_adopted(void) {
   static const uint64_t key = 70;
   bs_manager m = BS_NO_MANAGER_HERE;
   bs_node root = begin_manager(&m, BS_AT_BLOCK), row;
@@ -351,28 +361,77 @@ static void a_row_is_adopted(void) {
   DONE(bs_end(&m));
 }
 
+/* Behind the first row that had a node a file gets no index. */
 static void an_index_over_rows(void) {
   bs_manager m = BS_NO_MANAGER_HERE;
   bs_node root = begin_manager(&m, BS_AT_BLOCK), file = DONE(bs_add_file(&m, &root, 1)).node;
+  bs_node rows = DONE(bs_add_row_file(&m, &root, 1)).node;
+  bs_txn a = begin(&m);
   DONE(bs_forget(&m, DONE(bs_adopt(&m, file, NULL, 0)).node));
   WANT(bs_has_records(&m, file).count == 0 && bs_add_index(&m, &root, 1, file, NULL, 0).status == BS_FILE_IN_USE);
+  WANT(bs_lock_row(&m, a, rows, 7, NULL, 0, BS_X, &told).status == BS_NEED_PARENTS);
+  DONE(bs_add_index(&m, &root, 1, rows, NULL, 0));
+  DONE(bs_lock_path(&m, a, rows, BS_IX, &told));
+  DONE(bs_lock_path(&m, a, bs_interval(&m, bs_index(&m, rows, 0).node, 0).node, BS_IX, &told));
+  DONE(bs_lock_row(&m, a, rows, 7, &(uint64_t){ 1 }, 1, BS_X, &told));
+  DONE(bs_commit_rows(&m, a, &told));
+  WANT(bs_has_records(&m, rows).count == 0 && bs_add_index(&m, &root, 1, rows, NULL, 0).status == BS_FILE_IN_USE);
   DONE(bs_end(&m));
 }
 
-/* A row with its key, and with the intentions above it. */
-static bs_reply lock_row(bs_manager *m, bs_txn t, struct file f, uint64_t number, uint64_t key, bs_mode mode) {
+/* All that can be asked of a manager as a whole, to compare it. */
+struct seen {
+  uint64_t accepted, nodes;
+  bs_slots ended;
+  bs_counts counts;
+  bs_board board;
+};
+
+static struct seen see(bs_manager *m) {
+  struct seen s;
+  memset(&s, 0, sizeof s);
+  s.accepted = bs_accepted(m).count;
+  s.nodes = bs_len(m).count;
+  s.ended = bs_ended(m).slots;
+  DONE(bs_counters(m, &s.counts));
+  DONE(bs_read_board(m, &s.board));
+  return s;
+}
+
+/* Nothing has changed, and nobody was told. */
+static bool is_as(bs_manager *m, const struct seen *before) {
+  struct seen now = see(m);
+  return memcmp(&now, before, sizeof now) == 0 && told.count == 0;
+}
+
+/* What is held above a row that has this key. */
+static void lock_above(bs_manager *m, bs_txn t, struct file f, uint64_t key) {
   DONE(bs_lock_path(m, t, f.file, BS_IX, &told));
   DONE(bs_lock_path(m, t, key < 100 ? f.below : f.above, BS_IX, &told));
+}
+
+static bs_reply ask_row(bs_manager *m, bs_txn t, struct file f, uint64_t number, uint64_t key, bs_mode mode) {
   return bs_lock_row(m, t, f.file, number, &key, 1, mode, &told);
+}
+
+/* A row with its key, and with what is held above it. */
+static bs_reply lock_row(bs_manager *m, bs_txn t, struct file f, uint64_t number, uint64_t key, bs_mode mode) {
+  lock_above(m, t, f, key);
+  return ask_row(m, t, f, number, key, mode);
 }
 
 static bool has_node(bs_manager *m, struct file f, uint64_t number) {
   return bs_row_node(m, f.file, number).status == BS_DONE;
 }
 
+/* A manager with a file of rows. */
+static struct file begin_rows(bs_manager *m) {
+  return make_row_file(m, begin_manager(m, BS_AT_BLOCK));
+}
+
 static void a_row_by_its_number(void) {
   bs_manager m = BS_NO_MANAGER_HERE;
-  struct file f = make_file(&m, begin_manager(&m, BS_AT_BLOCK));
+  struct file f = begin_rows(&m);
   uint64_t nodes = bs_len(&m).count;
   bs_txn a = begin(&m), b = begin(&m);
   bs_node row = DONE(lock_row(&m, a, f, 7, 70, BS_S)).node;
@@ -391,9 +450,26 @@ static void a_row_by_its_number(void) {
   DONE(bs_end(&m));
 }
 
+/* By its node a row is locked and unlocked as any record. Then the node stands, and goes when the row is let go. */
+static void a_row_by_its_node(void) {
+  bs_manager m = BS_NO_MANAGER_HERE;
+  struct file f = begin_rows(&m);
+  bs_txn a = begin(&m), b = begin(&m);
+  bs_node row = DONE(lock_row(&m, a, f, 7, 70, BS_S)).node;
+  WANT(DONE(bs_lock(&m, a, row, BS_X, &told)).mode == BS_X);
+  WANT(bs_lock_path(&m, b, row, BS_S, &told).status == BS_WAITING);
+  DONE(bs_unlock(&m, a, row, &told));
+  WANT(is_told(0, b, BS_TOLD_GRANTED) && DONE(ask_row(&m, b, f, 7, 70, BS_S)).mode == BS_S);
+  DONE(bs_unlock(&m, b, row, &told));
+  WANT(same_node(row, DONE(bs_row_node(&m, f.file, 7)).node) && bs_group(&m, row).mode == BS_NL);
+  DONE(bs_commit_rows(&m, b, &told));
+  WANT(!has_node(&m, f, 7) && bs_kind(&m, row).status == BS_NO_SUCH_NODE);
+  DONE(bs_end(&m));
+}
+
 static void a_row_is_waited_for(void) {
   bs_manager m = BS_NO_MANAGER_HERE;
-  struct file f = make_file(&m, begin_manager(&m, BS_AT_BLOCK));
+  struct file f = begin_rows(&m);
   bs_txn a = begin(&m), b = begin(&m), c = begin(&m);
   bs_node row = DONE(lock_row(&m, a, f, 7, 70, BS_X)).node;
   bs_reply reply = lock_row(&m, b, f, 7, 70, BS_S);
@@ -405,66 +481,154 @@ static void a_row_is_waited_for(void) {
   DONE(bs_commit_rows(&m, a, &told));
   WANT(told.count == 1 && is_told(0, b, BS_TOLD_GRANTED) && same_node(told.at[0].node, row));
   WANT(bs_has(bs_ended(&m).slots, b.slot) && DONE(bs_verdict(&m, b, row, BS_S)).mode == BS_S);
-  WANT(has_node(&m, f, 7));
+  reply = DONE(ask_row(&m, b, f, 7, 70, BS_S));
+  WANT(reply.mode == BS_S && same_node(reply.node, row) && told.count == 0);
   DONE(bs_commit_rows(&m, b, &told));
   WANT(!has_node(&m, f, 7));
   DONE(bs_end(&m));
 }
 
+/* A row is locked by the node that it has, and whether the keys are the node's own is said behind the grant. */
 static void a_row_with_other_keys(void) {
   bs_manager m = BS_NO_MANAGER_HERE;
-  struct file f = make_file(&m, begin_manager(&m, BS_AT_BLOCK));
-  bs_txn a = begin(&m), b = begin(&m), c = begin(&m);
+  struct file f = begin_rows(&m);
+  bs_txn a = begin(&m), b = begin(&m);
+  bs_node row = DONE(lock_row(&m, a, f, 7, 150, BS_X)).node;
+  bs_reply reply = lock_row(&m, b, f, 7, 70, BS_X);
+  WANT(reply.status == BS_NEED_PARENTS && same_node(reply.node, f.above));
+  lock_above(&m, b, f, 150);
+  reply = ask_row(&m, b, f, 7, 70, BS_X);
+  WANT(reply.status == BS_WAITING && same_node(reply.node, row) && reply.mode == BS_NL);
+  WANT(ask_row(&m, a, f, 7, 70, BS_S).status == BS_OTHER_KEYS && bs_held(&m, a, row).mode == BS_X);
+  DONE(bs_commit_rows(&m, a, &told));
+  WANT(told.count == 1 && is_told(0, b, BS_TOLD_GRANTED) && bs_key(&m, row, 0).count == 150);
+  reply = ask_row(&m, b, f, 7, 70, BS_X);
+  WANT(reply.status == BS_OTHER_KEYS && reply.mode == BS_X && same_node(reply.node, row) && told.count == 0);
+  DONE(ask_row(&m, b, f, 7, 150, BS_X));
+  DONE(bs_rekey_row(&m, b, f.file, 7, f.index, 70, &told));
+  WANT(ask_row(&m, b, f, 7, 150, BS_X).status == BS_OTHER_KEYS && ask_row(&m, b, f, 7, 70, BS_X).status == BS_DONE);
+  WANT(bs_lock_row(&m, b, f.file, 7, NULL, 0, BS_X, &told).status == BS_OTHER_KEYS);
+  DONE(bs_unlock_row(&m, b, f.file, 7, &told));
+  WANT(!has_node(&m, f, 7) && !same_node(DONE(ask_row(&m, b, f, 7, 150, BS_X)).node, row));
+  DONE(bs_end(&m));
+}
+
+/* A node that nobody holds or waits for is another's where the keys are others. */
+static void a_row_whose_node_stands(void) {
+  bs_manager m = BS_NO_MANAGER_HERE;
+  struct file f = begin_rows(&m);
+  bs_txn a = begin(&m), b = begin(&m);
   bs_node row = DONE(lock_row(&m, a, f, 7, 70, BS_X)).node, other;
+  uint64_t accepted, nodes = bs_len(&m).count;
   DONE(bs_commit(&m, a, &told));
   WANT(has_node(&m, f, 7));
-  other = DONE(lock_row(&m, b, f, 7, 150, BS_X)).node;
+  lock_above(&m, b, f, 150);
+  accepted = bs_accepted(&m).count;
+  other = DONE(ask_row(&m, b, f, 7, 150, BS_X)).node;
+  WANT(bs_accepted(&m).count == accepted + 3 && bs_len(&m).count == nodes);
   WANT(!same_node(row, other) && bs_kind(&m, row).status == BS_NO_SUCH_NODE);
   WANT(bs_key(&m, other, 0).count == 150 && same_node(bs_parent(&m, other, 1).node, f.above));
-  WANT(lock_row(&m, c, f, 7, 70, BS_X).status == BS_RECORD_IN_USE && same_node(bs_row_node(&m, f.file, 7).node, other));
   DONE(bs_commit(&m, b, &told));
-  DONE(bs_forget(&m, other));
-  row = DONE(lock_row(&m, c, f, 7, 150, BS_X)).node;
-  WANT(!same_node(row, other) && same_node(bs_row_node(&m, f.file, 7).node, row));
-  DONE(bs_abort_rows(&m, c, &told));
+  b = begin(&m);
+  lock_above(&m, b, f, 150);
+  WANT(same_node(DONE(ask_row(&m, b, f, 7, 150, BS_X)).node, other));
+  DONE(bs_abort_rows(&m, b, &told));
   WANT(!has_node(&m, f, 7));
   DONE(bs_end(&m));
 }
 
+/* A file is of records or of rows. The other calls are refused before all else, whatever they are given. */
+static void files_of_two_kinds(void) {
+  static const uint64_t keys[2] = { 70, 80 };
+  bs_manager m = BS_NO_MANAGER_HERE;
+  bs_node root = begin_manager(&m, BS_AT_BLOCK), row, others[4];
+  struct file rows = make_row_file(&m, root), f = make_file(&m, root);
+  bs_txn a = begin(&m), gone = { 5, 0 }, txns[2];
+  struct seen before;
+  size_t i;
+  row = DONE(lock_row(&m, a, rows, 7, 70, BS_X)).node;
+  txns[0] = a, txns[1] = gone;
+  others[0] = f.file, others[1] = f.below, others[2] = root, others[3].key = 0, others[3].birth = 0;
+  before = see(&m);
+  for (i = 0; i < 2; i++) {
+    WANT(bs_insert(&m, txns[i], rows.file, keys, i).status == BS_ROWS_BY_NUMBER);
+    WANT(bs_delete(&m, txns[i], row, &told).status == BS_ROWS_BY_NUMBER);
+    WANT(bs_rekey(&m, txns[i], row, f.index, 150, &told).status == BS_ROWS_BY_NUMBER);
+  }
+  WANT(bs_adopt(&m, rows.file, keys, 2).status == BS_ROWS_BY_NUMBER && bs_forget(&m, row).status == BS_ROWS_BY_NUMBER);
+  for (i = 0; i < 4; i++) {
+    WANT(bs_lock_row(&m, gone, others[i], 7, keys, 2, BS_NL, &told).status == BS_NOT_ROWS);
+    WANT(bs_unlock_row(&m, gone, others[i], 7, &told).status == BS_NOT_ROWS);
+    WANT(bs_rekey_row(&m, gone, others[i], 7, root, 80, &told).status == BS_NOT_ROWS);
+    WANT(bs_row_node(&m, others[i], 7).status == BS_NO_SUCH_NODE);
+  }
+  WANT(is_as(&m, &before) && same_node(bs_row_node(&m, rows.file, 7).node, row));
+  WANT(bs_lock_row(&m, gone, f.file, 7, keys, 2, 6, &told).status == BS_BAD_NUMBER);
+  WANT(bs_add_row_file(&m, &rows.file, 1).status == BS_BAD_PARENTS && bs_kind(&m, rows.file).count == BS_FILE);
+  DONE(bs_lock_path(&m, a, f.low, BS_X, &told));
+  DONE(bs_delete(&m, a, f.low, &told));
+  DONE(bs_end(&m));
+}
+
+/* A refused call about a row changes nothing: no count, no board, no node, and not that its file may get an index. */
 static void rows_are_refused(void) {
   static const uint64_t key = 70;
   bs_manager m = BS_NO_MANAGER_HERE;
-  bs_node root = begin_manager(&m, BS_AT_BLOCK);
-  struct file f = make_file(&m, root);
+  struct file f = begin_rows(&m);
   bs_txn a = begin(&m), gone = { 5, 0 };
-  bs_reply reply = bs_lock_row(&m, a, f.file, 7, &key, 1, BS_X, &told);
-  uint64_t nodes = bs_len(&m).count;
-  WANT(reply.status == BS_NEED_PARENTS && same_node(reply.node, f.file) && !has_node(&m, f, 7));
-  WANT(bs_lock_row(&m, a, f.file, 7, &key, 1, 6, &told).status == BS_BAD_NUMBER);
-  WANT(bs_lock_row(&m, gone, f.file, 7, &key, 1, BS_X, &told).status == BS_NO_SUCH_TXN);
-  WANT(bs_lock_row(&m, a, f.file, 7, &key, 0, BS_X, &told).status == BS_BAD_KEYS);
-  WANT(bs_lock_row(&m, a, root, 7, &key, 1, BS_X, &told).status == BS_BAD_PARENTS);
-  WANT(lock_row(&m, a, f, 7, 70, BS_IX).status == BS_BAD_MODE && !has_node(&m, f, 7) && bs_len(&m).count == nodes);
+  struct seen before = see(&m);
+  bs_reply reply = ask_row(&m, a, f, 7, key, BS_X);
+  WANT(reply.status == BS_NEED_PARENTS && same_node(reply.node, f.file) && is_as(&m, &before));
+  WANT(ask_row(&m, a, f, 7, key, 6).status == BS_BAD_NUMBER);
+  WANT(bs_lock_row(&m, gone, f.file, 7, &key, 0, BS_NL, &told).status == BS_NO_SUCH_TXN);
+  WANT(bs_lock_row(&m, a, f.file, 7, &key, 0, BS_NL, &told).status == BS_BAD_KEYS);
+  WANT(ask_row(&m, a, f, 7, key, BS_IX).status == BS_BAD_MODE);
   WANT(bs_unlock_row(&m, a, f.file, 7, &told).status == BS_NO_SUCH_NODE);
-  WANT(bs_delete_row(&m, a, f.file, 7, &told).status == BS_NO_SUCH_NODE);
   WANT(bs_rekey_row(&m, a, f.file, 7, f.index, 80, &told).status == BS_NO_SUCH_NODE);
-  DONE(lock_row(&m, a, f, 7, 70, BS_S));
-  WANT(bs_delete_row(&m, a, f.file, 7, &told).status == BS_NEED_EXCLUSIVE && has_node(&m, f, 7));
   WANT(bs_cancel_rows(&m, a, &told).status == BS_NOT_WAITING);
   WANT(bs_commit_rows(&m, gone, &told).status == BS_NO_SUCH_TXN);
   WANT(bs_abort_rows(&m, gone, &told).status == BS_NO_SUCH_TXN);
-  WANT(bs_lock_row(&m, a, f.file, 7, NULL, 1, BS_X, &told).status == BS_NULL_POINTER);
-  WANT(bs_lock_row(NULL, a, f.file, 7, &key, 1, BS_X, &told).status == BS_NULL_POINTER && told.count == 0);
-  WANT(bs_insert_row(&m, a, f.file, 8, NULL, 1).status == BS_NULL_POINTER);
-  WANT(bs_commit_rows(&m, a, NULL).status == BS_NULL_POINTER && bs_row_node(NULL, f.file, 7).status == BS_NULL_POINTER);
+  WANT(bs_escalate_rows(&m, a, f.file, &told).status == BS_NOT_HELD);
+  WANT(is_as(&m, &before) && !has_node(&m, f, 7));
+  DONE(bs_add_index(&m, &f.root, 1, f.file, NULL, 0));
   DONE(bs_end(&m));
-  WANT(bs_lock_row(&m, a, f.file, 7, &key, 1, BS_X, &told).status == BS_NO_MANAGER);
-  WANT(bs_insert_row(&m, a, f.file, 7, &key, 1).status == BS_NO_MANAGER && !has_node(&m, f, 7));
+  WANT(ask_row(&m, a, f, 7, key, BS_X).status == BS_NO_MANAGER && !has_node(&m, f, 7));
+  WANT(bs_add_row_file(&m, &f.root, 1).status == BS_NO_MANAGER);
+}
+
+/* The same where the row has a node, which stays. */
+static void rows_with_nodes_are_refused(void) {
+  static const uint64_t key = 70;
+  bs_manager m = BS_NO_MANAGER_HERE;
+  struct file f = begin_rows(&m);
+  bs_txn a = begin(&m), b = begin(&m), c = begin(&m);
+  bs_node row = DONE(lock_row(&m, a, f, 7, 70, BS_S)).node;
+  struct seen before;
+  WANT(lock_row(&m, b, f, 7, 70, BS_X).status == BS_WAITING);
+  before = see(&m);
+  told.count = 0;
+  WANT(ask_row(&m, b, f, 7, 70, BS_X).status == BS_TXN_WAITING);
+  WANT(ask_row(&m, b, f, 8, 70, BS_X).status == BS_TXN_WAITING && !has_node(&m, f, 8));
+  WANT(ask_row(&m, c, f, 7, 70, BS_S).status == BS_NEED_PARENTS);
+  WANT(ask_row(&m, c, f, 7, 70, BS_NL).status == BS_BAD_MODE);
+  WANT(bs_unlock_row(&m, c, f.file, 7, &told).status == BS_NOT_HELD);
+  WANT(bs_rekey_row(&m, a, f.file, 7, f.index, 80, &told).status == BS_NEED_EXCLUSIVE);
+  WANT(bs_lock_row(&m, a, f.file, 7, NULL, 1, BS_X, &told).status == BS_NULL_POINTER);
+  WANT(bs_lock_row(NULL, a, f.file, 7, &key, 1, BS_X, &told).status == BS_NULL_POINTER);
+  WANT(bs_lock_row(&m, a, f.file, 7, &key, 1, BS_X, NULL).status == BS_NULL_POINTER);
+  WANT(bs_commit_rows(&m, a, NULL).status == BS_NULL_POINTER && bs_row_node(NULL, f.file, 7).status == BS_NULL_POINTER);
+  WANT(is_as(&m, &before) && same_node(bs_row_node(&m, f.file, 7).node, row));
+  DONE(bs_commit(&m, a, &told));
+  DONE(bs_commit(&m, b, &told));
+  before = see(&m);
+  WANT(ask_row(&m, c, f, 7, 150, BS_X).status == BS_NEED_PARENTS && is_as(&m, &before));
+  WANT(same_node(bs_row_node(&m, f.file, 7).node, row) && bs_key(&m, row, 0).count == 70);
+  DONE(bs_end(&m));
 }
 
 static void a_deadlock_over_rows(void) {
   bs_manager m = BS_NO_MANAGER_HERE;
-  struct file f = make_file(&m, begin_manager(&m, BS_AT_BLOCK));
+  struct file f = begin_rows(&m);
   bs_txn a = begin(&m), b = begin(&m);
   bs_node one = DONE(lock_row(&m, a, f, 1, 10, BS_X)).node, two = DONE(lock_row(&m, b, f, 2, 20, BS_X)).node;
   bs_reply reply;
@@ -479,40 +643,64 @@ static void a_deadlock_over_rows(void) {
   DONE(bs_end(&m));
 }
 
-static void rows_come_and_go(void) {
-  static const uint64_t key = 70;
+/* The asker is granted by the fall of another, who is told, and hears that the keys are others. */
+static void other_keys_by_the_fall_of_another(void) {
   bs_manager m = BS_NO_MANAGER_HERE;
-  struct file f = make_file(&m, begin_manager(&m, BS_AT_BLOCK));
-  bs_txn a = begin(&m), b = begin(&m);
-  bs_node row;
+  bs_node root = begin_manager(&m, BS_AT_BLOCK), other = DONE(bs_add_inner(&m, NULL, 0)).node, row;
+  struct file f = make_row_file(&m, root);
+  bs_txn a = begin(&m), b = begin(&m), c = begin(&m);
+  bs_reply reply;
+  DONE(bs_lock(&m, a, other, BS_X, &told));
+  row = DONE(lock_row(&m, b, f, 7, 150, BS_S)).node;
+  WANT(lock_row(&m, c, f, 7, 150, BS_X).status == BS_WAITING);
+  WANT(bs_lock(&m, b, other, BS_S, &told).status == BS_WAITING);
+  DONE(bs_lock_path(&m, a, f.file, BS_IS, &told));
+  WANT(ask_row(&m, a, f, 7, 70, BS_S).status == BS_OTHER_KEYS);
+  WANT(told.count == 1 && is_told(0, c, BS_TOLD_VICTIM));
+  WANT(bs_has(bs_ended(&m).slots, c.slot) && bs_held(&m, a, row).mode == BS_S);
+  DONE(bs_abort_rows(&m, c, &told));
+  reply = ask_row(&m, a, f, 7, 150, BS_S);
+  WANT(reply.status == BS_DONE && same_node(reply.node, row));
+  DONE(bs_end(&m));
+}
+
+/* A row that is inserted or deleted is locked in X until its transaction ends, so that nobody gets it or its number
+ * before, be that a commit or an abort. */
+static void rows_come_and_go(void) {
+  bs_manager m = BS_NO_MANAGER_HERE;
+  struct file f = begin_rows(&m);
+  bs_txn a = begin(&m), b = begin(&m), c = begin(&m);
+  bs_node row = DONE(lock_row(&m, a, f, 7, 70, BS_X)).node;
   DONE(lock_row(&m, a, f, 1, 70, BS_S));
-  DONE(lock_row(&m, a, f, 2, 150, BS_S));
   DONE(lock_row(&m, b, f, 3, 70, BS_S));
-  row = DONE(bs_insert_row(&m, a, f.file, 7, &key, 1)).node;
-  WANT(bs_held(&m, a, row).mode == BS_X && same_node(bs_row_node(&m, f.file, 7).node, row));
-  WANT(bs_insert_row(&m, b, f.file, 7, &key, 1).status == BS_RECORD_IN_USE);
+  WANT(lock_row(&m, b, f, 7, 80, BS_X).status == BS_WAITING);
+  lock_above(&m, a, f, 150);
   DONE(bs_rekey_row(&m, a, f.file, 7, f.index, 150, &told));
-  WANT(bs_key(&m, row, 0).count == 150 && same_node(bs_parent(&m, row, 1).node, f.above));
-  WANT(lock_row(&m, b, f, 7, 150, BS_S).status == BS_WAITING);
-  DONE(bs_delete_row(&m, a, f.file, 7, &told));
-  WANT(told.count == 1 && is_told(0, b, BS_TOLD_GONE) && bs_verdict(&m, b, row, BS_S).status == BS_GONE);
-  WANT(!has_node(&m, f, 7) && bs_kind(&m, row).status == BS_NO_SUCH_NODE);
+  WANT(told.count == 1 && is_told(0, b, BS_TOLD_MOVED) && same_node(bs_parent(&m, row, 1).node, f.above));
+  lock_above(&m, b, f, 150);
+  WANT(ask_row(&m, b, f, 7, 80, BS_X).status == BS_WAITING);
+  WANT(lock_row(&m, c, f, 7, 150, BS_X).status == BS_WAITING);
   DONE(bs_commit_rows(&m, a, &told));
-  WANT(!has_node(&m, f, 1) && !has_node(&m, f, 2) && has_node(&m, f, 3));
+  WANT(told.count == 1 && is_told(0, b, BS_TOLD_GRANTED) && !has_node(&m, f, 1));
+  WANT(ask_row(&m, b, f, 7, 80, BS_X).status == BS_OTHER_KEYS);
+  DONE(bs_abort_rows(&m, b, &told));
+  WANT(told.count == 1 && is_told(0, c, BS_TOLD_GRANTED) && !has_node(&m, f, 3));
+  DONE(ask_row(&m, c, f, 7, 150, BS_X));
+  DONE(bs_commit_rows(&m, c, &told));
+  WANT(!has_node(&m, f, 7) && bs_kind(&m, row).status == BS_NO_SUCH_NODE && bs_has_records(&m, f.file).count == 0);
   DONE(bs_end(&m));
 }
 
 /* A file is held whole: its rows go, but for one that somebody else reads. */
 static void an_escalation_of_rows(void) {
   bs_manager m = BS_NO_MANAGER_HERE;
-  struct file f = make_file(&m, begin_manager(&m, BS_AT_BLOCK));
+  struct file f = begin_rows(&m);
   bs_txn a = begin(&m), b = begin(&m);
-  uint64_t key = 20;
   bs_reply reply;
   DONE(lock_row(&m, a, f, 1, 10, BS_S));
-  DONE(lock_row(&m, a, f, 2, key, BS_S));
+  DONE(lock_row(&m, a, f, 2, 20, BS_S));
   DONE(bs_lock_path(&m, b, f.file, BS_IS, &told));
-  DONE(bs_lock_row(&m, b, f.file, 2, &key, 1, BS_S, &told));
+  DONE(ask_row(&m, b, f, 2, 20, BS_S));
   reply = DONE(bs_escalate_rows(&m, a, f.file, &told));
   WANT(reply.mode == BS_SIX && reply.released == 2 && !has_node(&m, f, 1) && has_node(&m, f, 2));
   DONE(bs_end(&m));
@@ -610,7 +798,7 @@ static void numbers_out_of_range(void) {
   WANT(bs_lock(&m, a, root, 6, &told).status == BS_BAD_NUMBER);
   WANT(bs_try(&m, a, root, UINT32_MAX).status == BS_BAD_NUMBER);
   WANT(bs_lock(&m, a, root, BS_NL, &told).status == BS_BAD_MODE);
-  WANT(bs_add_inner(&m, many, 9).status == BS_BAD_NUMBER);
+  WANT(bs_add_inner(&m, many, 9).status == BS_BAD_NUMBER && bs_add_row_file(&m, many, 9).status == BS_BAD_NUMBER);
   WANT(bs_move(&m, a, root, many, 9, &told).status == BS_BAD_NUMBER);
   DONE(bs_end(&m));
 }
@@ -676,6 +864,8 @@ static void null_pointers(void) {
   WANT(bs_commit(NULL, a, &told).status == BS_NULL_POINTER && told.count == 0);
   WANT(bs_commit(&m, a, NULL).status == BS_NULL_POINTER);
   WANT(bs_add_file(&m, NULL, 1).status == BS_NULL_POINTER && bs_add_file(&m, NULL, 0).status == BS_BAD_PARENTS);
+  WANT(bs_add_row_file(&m, NULL, 1).status == BS_NULL_POINTER && bs_add_row_file(&m, NULL, 0).status == BS_BAD_PARENTS);
+  WANT(bs_add_row_file(NULL, &root, 1).status == BS_NULL_POINTER);
   WANT(bs_add_index(&m, &root, 1, root, NULL, 1).status == BS_NULL_POINTER);
   WANT(bs_insert(&m, a, root, NULL, 1).status == BS_NULL_POINTER);
   WANT(bs_move(&m, a, root, NULL, 1, &told).status == BS_NULL_POINTER);
@@ -749,48 +939,82 @@ static void refused_growths(void) {
 /* A transaction that may write rows in the lower interval. */
 static bs_txn begin_writer(bs_manager *m, struct file f) {
   bs_txn t = begin(m);
-  DONE(bs_lock_path(m, t, f.file, BS_IX, &told));
-  DONE(bs_lock_path(m, t, f.below, BS_IX, &told));
+  lock_above(m, t, f, 70);
   return t;
 }
 
-/* A row that is locked, or inserted. */
-static bs_reply ask_for_row(bs_manager *m, bs_txn t, struct file f, uint64_t number) {
-  static const uint64_t key = 70;
-  if (number % 2 == 0) return bs_lock_row(m, t, f.file, number, &key, 1, BS_X, &told);
-  return bs_insert_row(m, t, f.file, number, &key, 1);
-}
-
-/* A row whose growth is refused has no node and no name, and is there when it is asked for again. */
-static void row_in_spite(bs_manager *m, bs_txn t, struct file f, uint64_t number) {
-  uint64_t nodes = bs_len(m).count;
-  bs_reply reply = ask_for_row(m, t, f, number);
+/* A row whose growth is refused is as it was, and so is all else; it is locked, or waited for, when it is asked for
+ * again. */
+static void row_in_spite(bs_manager *m, bs_txn t, struct file f, uint64_t number, uint64_t key, bs_mode mode,
+                         bs_status end) {
+  bs_node row = bs_row_node(m, f.file, number).node;
+  struct seen before = see(m);
+  bs_reply reply = ask_row(m, t, f, number, key, mode);
   if (reply.status == BS_NO_MEMORY) {
-    WANT(!has_node(m, f, number) && bs_len(m).count == nodes);
-    reply = ask_for_row(m, t, f, number);
+    WANT(is_as(m, &before) && same_node(bs_row_node(m, f.file, number).node, row));
+    reply = ask_row(m, t, f, number, key, mode);
   }
-  WANT(same_node(DONE(reply).node, bs_row_node(m, f.file, number).node) && bs_len(m).count == nodes + 1);
+  WANT(reply.status == end && same_node(reply.node, bs_row_node(m, f.file, number).node));
 }
 
-/* Whether there is an nth growth among these rows, which is refused. */
+/* Whether there is an nth growth among these rows, which is refused: rows that get a node, that get another one, that
+ * are held already, that two read, and that are waited for. */
 static bool refuses_row(long n) {
   bs_manager m = BS_NO_MANAGER_HERE;
-  struct file f = make_file(&m, begin_manager(&m, BS_AT_BLOCK));
-  bs_txn a = begin_writer(&m, f);
+  struct file f = begin_rows(&m);
+  bs_txn first = begin_writer(&m, f), a, b = begin_writer(&m, f), c = begin_writer(&m, f);
   uint64_t nodes = bs_len(&m).count, number;
   bool refused;
+  for (number = 0; number < 10; number++) DONE(ask_row(&m, first, f, number, 60, BS_S));
+  DONE(bs_commit(&m, first, &told));
+  a = begin_writer(&m, f);
+  told.count = 0;
   refused_growth = n;
-  for (number = 0; number < 40; number++) row_in_spite(&m, a, f, number);
+  for (number = 0; number < 40; number++) row_in_spite(&m, a, f, number, 70, number < 20 ? BS_S : BS_X, BS_DONE);
+  for (number = 0; number < 40; number++) row_in_spite(&m, a, f, number, 80, BS_S, BS_OTHER_KEYS);
+  for (number = 0; number < 20; number++) row_in_spite(&m, b, f, number, 70, BS_S, BS_DONE);
+  row_in_spite(&m, b, f, 30, 70, BS_X, BS_WAITING);
+  row_in_spite(&m, c, f, 19, 80, BS_X, BS_WAITING);
   refused = refused_growth == 0;
   refused_growth = 0;
   DONE(bs_commit_rows(&m, a, &told));
-  WANT(bs_len(&m).count == nodes && !has_node(&m, f, 0) && !has_node(&m, f, 1));
+  WANT(told.count == 1 && is_told(0, b, BS_TOLD_GRANTED));
+  DONE(bs_commit_rows(&m, b, &told));
+  DONE(bs_commit_rows(&m, c, &told));
+  WANT(bs_len(&m).count == nodes && !has_node(&m, f, 0) && !has_node(&m, f, 19));
   DONE(bs_end(&m));
   return refused;
 }
 
 static void refused_growths_of_rows(void) {
   WANT(growths_of(refuses_row) > 8);
+}
+
+/* The same of files of rows. */
+static bool refuses_row_file(long n) {
+  bs_manager m = BS_NO_MANAGER_HERE;
+  bs_node root = begin_manager(&m, BS_AT_BLOCK);
+  bool refused;
+  int i;
+  told.count = 0;
+  refused_growth = n;
+  for (i = 0; i < 20; i++) {
+    struct seen before = see(&m);
+    bs_reply made = bs_add_row_file(&m, &root, 1);
+    if (made.status == BS_NO_MEMORY) {
+      WANT(is_as(&m, &before));
+      made = bs_add_row_file(&m, &root, 1);
+    }
+    DONE(made);
+  }
+  refused = refused_growth == 0;
+  refused_growth = 0;
+  DONE(bs_end(&m));
+  return refused;
+}
+
+static void refused_growths_of_row_files(void) {
+  WANT(growths_of(refuses_row_file) > 2);
 }
 
 /* The bytes that are out once a thousand rows are locked from this one on; and they are released. */
@@ -811,7 +1035,7 @@ static long bytes_of_rows(bs_manager *m, struct file f, uint64_t from) {
  * from which names went may double once. */
 static void rows_that_nobody_locks(void) {
   bs_manager m = BS_NO_MANAGER_HERE;
-  struct file f = make_file(&m, begin_manager(&m, BS_AT_BLOCK));
+  struct file f = begin_rows(&m);
   long locked = bytes_of_rows(&m, f, 0), idle = bytes_out();
   uint64_t from;
   for (from = 1000; from < 100000; from += 1000) {
@@ -922,13 +1146,18 @@ int main(void) {
   TELL(a_path_by_the_fall_of_another);
   TELL(a_record_moves);
   TELL(a_record_goes);
-  TELL(a_row_is_adopted);
+  TELL(a_record_is_adopted);
   TELL(an_index_over_rows);
   TELL(a_row_by_its_number);
+  TELL(a_row_by_its_node);
   TELL(a_row_is_waited_for);
   TELL(a_row_with_other_keys);
+  TELL(a_row_whose_node_stands);
+  TELL(files_of_two_kinds);
   TELL(rows_are_refused);
+  TELL(rows_with_nodes_are_refused);
   TELL(a_deadlock_over_rows);
+  TELL(other_keys_by_the_fall_of_another);
   TELL(rows_come_and_go);
   TELL(an_escalation_of_rows);
   TELL(an_escalation);
@@ -942,6 +1171,7 @@ int main(void) {
   TELL(everybody_is_told);
   TELL(refused_growths);
   TELL(refused_growths_of_rows);
+  TELL(refused_growths_of_row_files);
   TELL(rows_that_nobody_locks);
   TELL(refused_managers);
   return 0;

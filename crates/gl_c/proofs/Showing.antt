@@ -1,16 +1,20 @@
 -- What watchers are shown, for whoever shows: epochs, the way of detection, and lists that go on.
-use Rattle.std.specs.Prelude.{◌≡◌, ◌⊎◌, ◌≤◌, ℕ, List, [], ◌∷◌, ◌++◌, Option, Some, None, Result, Ok, Err, IfSome, IfOk, Bool, true}
+use Rattle.std.specs.Prelude.{◌≡◌, ◌⊎◌, ◌≤◌, ℕ, List, [], ◌∷◌, ◌++◌, Option, Some, None, Result, Ok, Err, IfSome, IfOk, Bool, true, false}
 use Rattle.std.proofs.Common.{refl, sym, ap, subst, ◌∙◌, inl, inr, le_trans, ⊎_elim}
 use mathlib.Core.List.{IsPrefix}
 use Rattle.gl_waits.specs.declared.board.Board.{Board}
-use Rattle.gl_boxes.specs.Boards.{Ends, last_epoch}
+use Rattle.gl_table.specs.Table.{board_of}
+use Rattle.gl_catalog.specs.Manager.{IsLawfulManager, ManagerView, state_of}
+use Rattle.gl_boxes.specs.Boards.{Ends, ShowsNobody, last_epoch}
 use Rattle.gl_boxes.specs.Strip.{Strip}
 use Rattle.gl_boxes.proofs.Fronts.{prefix_self, prefix_trans}
+use Rattle.gl_boxes.proofs.Idle.{nobody_shown}
 use Rattle.gl_boxes.proofs.Lists.{told_epoch}
 use Rattle.gl_window.specs.Window.{GoesOn}
 use Rattle.gl_window.specs.declared.publisher.WatchFault.{WatchFault}
 use Rattle.gl_c.specs.Serving.{ShowsOn}
 use Rattle.gl_c.specs.Watching.{Continues}
+use Rattle.gl_c.proofs.Serving.{IsQuiet}
 
 -- a manager that accepted more
 pub later_epoch : (o : Option Strip) (n m : ℕ) → n ≤ m → IfSome o (λ p. last_epoch 0 p.list ≤ n) → IfSome o (λ p. last_epoch 0 p.list ≤ m)
@@ -24,6 +28,17 @@ either_epoch list after board n is low at = ⊎_elim
     (λ (t : after ≡ list). subst (λ (l : List Board). last_epoch 0 l ≤ n) (sym t) low)
     (λ (t : after ≡ list ++ board ∷ []). told_epoch true list after board n t low at)
     is
+
+-- what a show leaves of a list
+abbrev pub ShowsBoard : List Board → ManagerView → List Board → Type 0
+ShowsBoard list m after = (after ≡ list) ⊎ (after ≡ list ++ board_of (state_of m) ∷ [])
+
+-- what is known where the board that was shown last shows nobody
+pub quiet_now : (m n : ManagerView) (list : List Board) (p : Strip) (waits : Bool) → n ≡ m → IsLawfulManager n
+    → (p.list ≡ list ++ board_of (state_of n) ∷ []) × (waits ≡ false → ShowsNobody (board_of (state_of n))) → IsQuiet m (Some p) waits
+quiet_now m n list p waits same law shown =
+    subst (λ (x : ManagerView). IsQuiet x (Some p) waits) same
+    (λ e. (nobody_shown n law (shown.1 e), (board_of (state_of n), (list, shown.0), shown.1 e)))
 
 -- the same board by another name
 pub either_board : (list after : List Board) (b c : Board) → (after ≡ list) ⊎ (after ≡ list ++ b ∷ []) → b ≡ c → (after ≡ list) ⊎ (after ≡ list ++ c ∷ [])

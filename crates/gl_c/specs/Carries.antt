@@ -12,23 +12,23 @@ use Rattle.gl_c.specs.Guarded.{GuardedView}
 use Rattle.gl_c.specs.Names.{node_id}
 use Rattle.gl_c.specs.Notices.{Tells}
 use Rattle.gl_c.specs.Numbers.{no_manager}
-use Rattle.gl_c.specs.Replies.{reply_of, status_reply}
-use Rattle.gl_c.specs.Serving.{Serves}
+use Rattle.gl_c.specs.Replies.{served_reply, status_reply}
+use Rattle.gl_c.specs.Serving.{ServesNodes}
 
--- a command is carried out, and C is answered its answer, and told whom it tells
+-- a command is carried out, if it is one to be made by nodes, and C is answered its answer, and told whom it tells
 pub record Replies (g : GuardedView) (c : Command) (r : Reply) (notices : Notices) (g' : GuardedView) : Type 0 where
-  pub answer : Answer
+  pub answer : Option Answer
   pub told : Told
-  pub serves : Serves g c answer told g'
-  pub replied : r ≡ reply_of answer
+  pub serves : ServesNodes g c answer told g'
+  pub replied : r ≡ served_reply answer
   pub tells : Tells notices told
 
 -- the same of a command that tells nobody, so that nothing is left out
 pub record Answers (g : GuardedView) (c : Command) (r : Reply) (g' : GuardedView) : Type 0 where
-  pub answer : Answer
+  pub answer : Option Answer
   pub told : Told
-  pub serves : Serves g c answer told g'
-  pub replied : r ≡ reply_of answer
+  pub serves : ServesNodes g c answer told g'
+  pub replied : r ≡ served_reply answer
 
 -- nothing changed: there is no manager, or a number names nothing
 pub record Declines (s : Option GuardedView) (status : ℕ) (r : Reply) (s' : Option GuardedView) : Type 0 where

@@ -1,16 +1,20 @@
 -- What a contract sees of all that C's mutex guards.
 use Rattle.std.specs.Prelude.{ℕ, Bool, List, Option}
 use Rattle.gl_catalog.specs.Manager.{ManagerView}
-use Rattle.gl_registry.specs.Rows.{RegistryView}
+use Rattle.gl_registry.specs.Rows.{RegistryView, RowsView}
 use Rattle.gl_boxes.specs.Boxes.{Slot}
 use Rattle.gl_boxes.specs.Strip.{Strip}
 
 -- the manager, one notice box a slot, the slots whose wait the last accepted command may have ended, the boards that watchers were shown, if there
--- ever was a watcher, whether somebody waited when the last was or a lock was left waiting since, and the rows that are locked
+-- ever was a watcher, whether somebody waited when the last was or a lock was left waiting since, and the files of rows with the rows that are locked
 pub record GuardedView : Type 0 where
   pub manager : ManagerView
   pub boxes : List Slot
   pub ended : ℕ
   pub shown : Option Strip
   pub waited : Bool
-  pub rows : RegistryView
+  pub rows : RowsView
+
+-- the registry: the manager, and its rows
+abbrev pub registry_in : GuardedView → RegistryView
+registry_in g = record { manager = g.manager; rows = g.rows }

@@ -1,11 +1,12 @@
 -- Managers come and go.
 use Rattle.std.specs.Prelude.{◌≡◌, ◌⊎◌, ℕ, Bool, false, ◌&&◌, ◌==◌, Option, Some, None, if◌then◌else◌, nat_lt, replicate}
+use Rattle.gl_modes.specs.declared.node.NodeId.{NodeId}
 use Rattle.gl_modes.specs.declared.refusal.Refusal.TheVariants as no
 use Rattle.gl_model.specs.declared.answers.Detect.{Detect}
 use Rattle.gl_waits.specs.declared.victims.Victims.{Victims}
 use Rattle.gl_model.specs.State.{State, choosing, empty_state, with_room}
 use Rattle.gl_catalog.specs.Manager.{state_of}
-use Rattle.gl_registry.specs.Rows.{has_asked, name_of}
+use Rattle.gl_registry.specs.Rows.{has_asked, has_rows, name_of}
 use Rattle.gl_registry.specs.declared.row.Row.{Row}
 use Rattle.gl_c.specs.declared.reply.Reply.{Reply}
 use Rattle.gl_c.specs.Carries.{Declines, Where}
@@ -21,12 +22,13 @@ can_have most nodes = (nat_lt 0 most && nat_lt most 129) && (nat_lt 0 nodes && n
 abbrev pub made_for : ℕ → State → State
 made_for nodes s = if nodes == 65536 then s else with_room nodes s
 
--- a manager without nodes and transactions, with empty boxes, that no watcher was shown, and no row named or asked for
+-- a manager without nodes and transactions, with empty boxes, that no watcher was shown, and no file of rows, and no row named or asked for
 pub record IsNew (detect : Detect) (victims : Victims) (most nodes : ℕ) (g : GuardedView) : Type 0 where
   pub manager : state_of g.manager ≡ made_for nodes (choosing victims (empty_state detect most))
   pub boxes : g.boxes ≡ replicate 128 None
   pub ended : g.ended ≡ 0
   pub shown : g.shown ≡ None
+  pub fileless : (file : NodeId) → has_rows g.rows file ≡ false
   pub unnamed : (row : Row) → name_of g.rows row ≡ None
   pub unasked : (slot : ℕ) (row : Row) → has_asked g.rows slot row ≡ false
 

@@ -70,6 +70,10 @@ gone = 35
 abbrev pub on_the_way : ℕ
 on_the_way = 37
 
+-- a row is held, by a node whose keys are others than those that were said
+abbrev pub other_keys : ℕ
+other_keys = 38
+
 -- there is no manager at this place; 64 is the null pointer of the header's functions
 abbrev pub no_manager : ℕ
 no_manager = 65
@@ -93,3 +97,11 @@ no_watcher = 69
 -- as many watch already as may
 abbrev pub too_many_watchers : ℕ
 too_many_watchers = 70
+
+-- a record of a file of rows comes, goes and changes by the calls about rows alone
+abbrev pub rows_by_number : ℕ
+rows_by_number = 71
+
+-- the file is none of rows
+abbrev pub not_rows : ℕ
+not_rows = 72

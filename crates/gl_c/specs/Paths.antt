@@ -11,13 +11,14 @@ use Rattle.gl_model.specs.Tellings.{Told}
 use Rattle.gl_catalog.specs.declared.command.Answer.TheVariants as answer
 use Rattle.gl_catalog.specs.declared.manager.paths.Reached.{Reached}
 use Rattle.gl_catalog.specs.Manager.{state_of}
-use Rattle.gl_catalog.specs.Paths.{Ask, LocksPath, lock_of}
+use Rattle.gl_catalog.specs.Paths.{Ask, lock_of}
 use Rattle.gl_catalog.specs.Promises.{NobodyWaits}
+use Rattle.gl_registry.specs.Serving.{LocksWay}
 use Rattle.gl_boxes.specs.Boxes.{Delivers, Slot, emptied}
 use Rattle.gl_c.specs.declared.notices.Notices.{Notices}
 use Rattle.gl_c.specs.declared.reply.Reply.{Reply}
 use Rattle.gl_c.specs.Carries.{Declines}
-use Rattle.gl_c.specs.Guarded.{GuardedView}
+use Rattle.gl_c.specs.Guarded.{GuardedView, registry_in}
 use Rattle.gl_c.specs.Names.{node_of}
 use Rattle.gl_c.specs.Notices.{Tells}
 use Rattle.gl_c.specs.Numbers.{no_manager, on_the_way, victim, waiting}
@@ -52,13 +53,12 @@ ends_waiting (Err r) = false
 -- a path is locked, as one command after the other; the notices stand in their boxes, but that the transaction's own is empty; whose wait was ended
 -- is known; watchers are shown the board behind it, whole, or nothing; where no ask was accepted nothing changed
 pub record ServesPath (g : GuardedView) (t : TxnId) (ask : Ask) (result : Result Reached Refusal) (told : Told) (g' : GuardedView) : Type 0 where
-  pub path : LocksPath t ask g.manager told result g'.manager
+  pub way : LocksWay t ask (registry_in g) result told (registry_in g')
   pub none_accepted : g'.manager.accepted ≡ g.manager.accepted → (g' ≡ g) × (told ≡ [])
   pub boxes : g.manager.accepted < g'.manager.accepted → (mid : List Slot) × Delivers g.boxes told mid × (g'.boxes ≡ emptied (lock_of t ask) mid)
   pub wakes : g.manager.accepted < g'.manager.accepted → Wakes (lock_of t ask) g.manager told g'.manager g'.ended
   pub shown : ShowsOn (g.waited || ends_waiting result) (board_of (state_of g'.manager)) g.shown g'.shown
   pub quiet : g'.waited ≡ false → NobodyWaits (state_of g'.manager) × ShowsNobodyLast g'.shown
-  pub rows : g'.rows ≡ g.rows
 
 -- a path is locked, and C is answered how far it came, and told whom it tells
 pub record RepliesPath (g : GuardedView) (t : TxnId) (ask : Ask) (r : Reply) (notices : Notices) (g' : GuardedView) : Type 0 where

@@ -1,5 +1,5 @@
 -- What C is answered.
-use Rattle.std.specs.Prelude.{ℕ}
+use Rattle.std.specs.Prelude.{ℕ, Option, Some, None}
 use Rattle.gl_modes.specs.declared.refusal.Refusal.{Refusal}
 use Rattle.gl_modes.specs.declared.refusal.Refusal.TheVariants as no
 use Rattle.gl_modes.specs.Refusals.{refusal_number}
@@ -8,7 +8,7 @@ use Rattle.gl_catalog.specs.declared.command.Answer.TheVariants as answer
 use Rattle.gl_c.specs.declared.names.Node.{Node}
 use Rattle.gl_c.specs.declared.reply.Reply.{Reply}
 use Rattle.gl_c.specs.Names.{node_of, txn_of}
-use Rattle.gl_c.specs.Numbers.{done, effect_number, mode_number, victim, waiting}
+use Rattle.gl_c.specs.Numbers.{done, effect_number, mode_number, rows_by_number, victim, waiting}
 
 -- no node's name
 abbrev pub nobody : Node
@@ -45,3 +45,8 @@ reply_of (answer.Escalated e) = record (status_reply done) { mode = mode_number 
 reply_of (answer.Mode m) = record (status_reply done) { mode = mode_number m }
 reply_of (answer.Effect e) = record (status_reply done) { mode = effect_number e }
 reply_of (answer.Refused r) = refused_reply r
+
+-- the same where the command may be one that is not made, since it would make, take away or change a record of a file of rows
+abbrev pub served_reply : Option Answer → Reply
+served_reply None = status_reply rows_by_number
+served_reply (Some a) = reply_of a

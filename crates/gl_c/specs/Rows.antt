@@ -1,69 +1,87 @@
 -- What a call about rows does to all that C's mutex guards.
-use Rattle.std.specs.Prelude.{◌≡◌, ◌<◌, ◌||◌, false, [], List, Option, Some, None, if◌then◌else◌}
+use Rattle.std.specs.Prelude.{◌≡◌, ◌<◌, ◌||◌, Bool, true, false, [], List, Option, Some, None}
 use Rattle.gl_modes.specs.declared.node.NodeId.{NodeId}
 use Rattle.gl_modes.specs.declared.refusal.Refusal.TheVariants as no
+use Rattle.gl_model.specs.declared.answers.Locked.{Locked}
+use Rattle.gl_model.specs.declared.answers.Locked.TheVariants as locked
 use Rattle.gl_table.specs.Table.{board_of}
 use Rattle.gl_model.specs.Tellings.{Told}
 use Rattle.gl_catalog.specs.declared.command.Answer.{Answer}
 use Rattle.gl_catalog.specs.declared.command.Answer.TheVariants as answer
+use Rattle.gl_catalog.specs.declared.command.Command.{Command}
 use Rattle.gl_catalog.specs.Manager.{state_of}
 use Rattle.gl_catalog.specs.Promises.{NobodyWaits}
-use Rattle.gl_registry.specs.Applying.{AppliesRow, naming, own_command}
-use Rattle.gl_registry.specs.Releasing.{named_or_none}
-use Rattle.gl_registry.specs.Rows.{RegistryView, name_of}
+use Rattle.gl_registry.specs.Applying.{AppliesCall, CarriesOut, answer_in, naming, own_command}
+use Rattle.gl_registry.specs.Rows.{name_of}
+use Rattle.gl_registry.specs.declared.answer.RowAnswer.{RowAnswer}
+use Rattle.gl_registry.specs.declared.answer.RowAnswer.TheVariants as row_answer
 use Rattle.gl_registry.specs.declared.call.RowCall.{RowCall}
-use Rattle.gl_registry.specs.declared.call.RowCall.TheVariants as call
 use Rattle.gl_registry.specs.declared.row.Row.{Row}
-use Rattle.gl_boxes.specs.Boxes.{Delivers, Slot, cleared}
+use Rattle.gl_boxes.specs.Boxes.{Delivers, Slot, emptied}
 use Rattle.gl_boxes.specs.Served.{is_refused, leaves_waiting}
 use Rattle.gl_c.specs.declared.notices.Notices.{Notices}
 use Rattle.gl_c.specs.declared.reply.Reply.{Reply}
 use Rattle.gl_c.specs.Carries.{Declines}
-use Rattle.gl_c.specs.Guarded.{GuardedView}
+use Rattle.gl_c.specs.Guarded.{GuardedView, registry_in}
 use Rattle.gl_c.specs.Notices.{Tells}
-use Rattle.gl_c.specs.Numbers.{no_manager}
+use Rattle.gl_c.specs.Numbers.{no_manager, not_rows, other_keys, victim, waiting}
 use Rattle.gl_c.specs.Paths.{reply_at}
-use Rattle.gl_c.specs.Replies.{refused_reply, reply_of}
+use Rattle.gl_c.specs.Replies.{refused_reply, reply_of, status_reply}
 use Rattle.gl_c.specs.Serving.{ShowsNobodyLast, ShowsOn, Wakes}
 
--- no command was accepted: but for the names of rows all is as before, and nobody is told
-pub record IsAsBefore (g : GuardedView) (told : Told) (g' : GuardedView) : Type 0 where
-  pub state : state_of g'.manager ≡ state_of g.manager
-  pub boxes : g'.boxes ≡ g.boxes
-  pub ended : g'.ended ≡ g.ended
-  pub shown : g'.shown ≡ g.shown
-  pub waited : g'.waited ≡ g.waited
-  pub nobody_told : told ≡ []
+-- why a call comes to nothing: its command is refused, or its file is none of rows
+abbrev pub comes_to_nothing : Option Answer → Bool
+comes_to_nothing None = true
+comes_to_nothing (Some a) = is_refused a
 
--- a call about rows is carried out; its notices stand in their boxes, but that a lock that is not refused empties its own slot's; whose wait was ended
--- is known; watchers are shown the board behind it, whole, or nothing
-pub record ServesRow (g : GuardedView) (c : RowCall) (a : Answer) (told : Told) (g' : GuardedView) : Type 0 where
-  pub applies : AppliesRow (state_of g.manager) g.rows c a told (state_of g'.manager) g'.rows
-  pub none_accepted : g'.manager.accepted ≡ g.manager.accepted → IsAsBefore g told g'
-  pub boxes : g.manager.accepted < g'.manager.accepted → (mid : List Slot) × Delivers g.boxes told mid × (g'.boxes ≡ cleared (own_command (naming c g.rows g'.rows) c) a mid)
-  pub wakes : g.manager.accepted < g'.manager.accepted → Wakes (own_command (naming c g.rows g'.rows) c) g.manager told g'.manager g'.ended
-  pub shown : ShowsOn (g.waited || leaves_waiting a) (board_of (state_of g'.manager)) g.shown g'.shown
+-- a call that leaves its transaction waiting
+abbrev pub is_waited_for : Option Answer → Bool
+is_waited_for None = false
+is_waited_for (Some a) = leaves_waiting a
+
+-- the command that a call carries out, by the names behind it
+abbrev pub own_of : GuardedView → RowCall → GuardedView → Command
+own_of g c g' = own_command (naming c g.rows g'.rows) c
+
+-- a call about rows is carried out, by one step of its own command; its notices stand in their boxes, but that a lock empties its own slot's; whose wait
+-- was ended is known; watchers are shown the board behind it, whole, or nothing; one that comes to nothing changes nothing, any other is counted
+pub record ServesRow (g : GuardedView) (c : RowCall) (a : RowAnswer) (told : Told) (g' : GuardedView) : Type 0 where
+  pub applies : AppliesCall (registry_in g) c a told (registry_in g')
+  pub own : CarriesOut g.manager (own_of g c g') (answer_in a) told g'.manager
+  pub nothing : comes_to_nothing (answer_in a) ≡ true → (g' ≡ g) × (told ≡ [])
+  pub counted : comes_to_nothing (answer_in a) ≡ false → g.manager.accepted < g'.manager.accepted
+  pub boxes : comes_to_nothing (answer_in a) ≡ false → (mid : List Slot) × Delivers g.boxes told mid × (g'.boxes ≡ emptied (own_of g c g') mid)
+  pub wakes : comes_to_nothing (answer_in a) ≡ false → Wakes (own_of g c g') g.manager told g'.manager g'.ended
+  pub shown : ShowsOn (g.waited || is_waited_for (answer_in a)) (board_of (state_of g'.manager)) g.shown g'.shown
   pub quiet : g'.waited ≡ false → NobodyWaits (state_of g'.manager) × ShowsNobodyLast g'.shown
 
--- what C is answered: the answer, and of a lock that is not refused the node by which its row is named
-abbrev pub call_reply : RegistryView → RowCall → Answer → Reply
-call_reply v (call.Lock t row keys m) a = if is_refused a then reply_of a else reply_at (named_or_none v row) (reply_of a)
-call_reply v c a = reply_of a
+-- what C is answered for the lock of a row's node: one that is granted is held, also where the node's keys are others than those that were said
+abbrev pub row_lock_status : Locked → Bool → Reply
+row_lock_status (locked.Granted m) true = reply_of (answer.Granted m)
+row_lock_status (locked.Granted m) false = record (reply_of (answer.Granted m)) { status = other_keys }
+row_lock_status locked.Waiting own = status_reply waiting
+row_lock_status locked.Victim own = status_reply victim
+
+-- what C is answered for a call about rows: of a lock that is not refused also the node by which its row is named
+abbrev pub call_reply : RowAnswer → Reply
+call_reply (row_answer.Locked x) = reply_at x.node (row_lock_status x.locked x.own_keys)
+call_reply (row_answer.Answered a) = reply_of a
+call_reply row_answer.NotRows = status_reply not_rows
 
 -- a call about rows is carried out, and C is answered, and told whom it tells
 pub record RepliesRow (g : GuardedView) (c : RowCall) (r : Reply) (notices : Notices) (g' : GuardedView) : Type 0 where
-  pub answer : Answer
+  pub answer : RowAnswer
   pub told : Told
   pub serves : ServesRow g c answer told g'
-  pub replied : r ≡ call_reply g'.rows c answer
+  pub replied : r ≡ call_reply answer
   pub tells : Tells notices told
 
 -- the same of a call that tells nobody, so that nothing is left out
 pub record AnswersRow (g : GuardedView) (c : RowCall) (r : Reply) (g' : GuardedView) : Type 0 where
-  pub answer : Answer
+  pub answer : RowAnswer
   pub told : Told
   pub serves : ServesRow g c answer told g'
-  pub replied : r ≡ call_reply g'.rows c answer
+  pub replied : r ≡ call_reply answer
 
 -- a call from C about rows: it is carried out where there is a manager
 abbrev pub CarriesRow : Option GuardedView → RowCall → Reply → Notices → Option GuardedView → Type 0

@@ -7,28 +7,15 @@ use Rattle.gl_table.specs.Table.{board_of}
 use Rattle.gl_model.specs.Tellings.{Told}
 use Rattle.gl_catalog.specs.declared.command.Answer.{Answer}
 use Rattle.gl_catalog.specs.declared.command.Command.{Command}
-use Rattle.gl_catalog.specs.Counters.{counted}
-use Rattle.gl_catalog.specs.Deadlocks.{KeepsDeadlock}
 use Rattle.gl_catalog.specs.Manager.{ManagerView, state_of}
-use Rattle.gl_catalog.specs.Promises.{KeepsCaller, NobodyWaits, SettlesIdle, StepLeavesOthers}
-use Rattle.gl_catalog.specs.Step.{Step}
+use Rattle.gl_catalog.specs.Promises.{NobodyWaits}
+use Rattle.gl_registry.specs.Serving.{Applies, touches_rows}
 use Rattle.gl_boxes.specs.Boards.{EndsIdle}
 use Rattle.gl_boxes.specs.Boxes.{Delivers, Slot, cleared}
 use Rattle.gl_boxes.specs.Served.{accepts, leaves_waiting, names_slot}
 use Rattle.gl_boxes.specs.Strip.{Strip}
 use Rattle.gl_boxes.specs.Wakes.{HasEnded}
-use Rattle.gl_c.specs.Guarded.{GuardedView}
-
--- a command is one step of the model, leaves its caller and the others what the manager promises, keeps the last deadlock that it ends, and is
--- counted by the law of the counters; where it is refused or only asks, all is as before
-pub record Applies (m : ManagerView) (c : Command) (a : Answer) (told : Told) (m' : ManagerView) : Type 0 where
-  pub step : Step (state_of m) c a told (state_of m')
-  pub caller : KeepsCaller c (state_of m) (state_of m')
-  pub others : StepLeavesOthers (state_of m) c (a, told) (state_of m')
-  pub settles : SettlesIdle (state_of m) c a told (state_of m')
-  pub deadlock : KeepsDeadlock c m a m'
-  pub counters : m'.counters ≡ counted (state_of m) c a told (state_of m') m.counters
-  pub same : m'.accepted ≡ m.accepted → m' ≡ m
+use Rattle.gl_c.specs.Guarded.{GuardedView, registry_in}
 
 -- nobody waits on the last board that was shown, if one was
 abbrev pub ShowsNobodyLast : Option Strip → Type 0
@@ -45,6 +32,11 @@ abbrev pub ShowsOn : Bool → Board → Option Strip → Option Strip → Type 0
 ShowsOn waited board None after = after ≡ None
 ShowsOn waited board (Some before) after = (s : Strip) × (after ≡ Some s) × GoesOnBy waited board before s
 
+-- the board was shown behind all that was, if there ever was a watcher
+abbrev pub HasShown : Board → Option Strip → Option Strip → Type 0
+HasShown board None after = Unit {0}
+HasShown board (Some before) after = IfSome after (λ s. s.list ≡ before.list ++ board ∷ [])
+
 -- whose wait the command ended is in the set: exactly whom it told, and whom a cancel or an abort names
 pub record Wakes (c : Command) (m : ManagerView) (told : Told) (m' : ManagerView) (ended : ℕ) : Type 0 where
   pub all : HasEnded (state_of m) (state_of m') ended
@@ -60,3 +52,12 @@ pub record Serves (g : GuardedView) (c : Command) (a : Answer) (told : Told) (g'
   pub shown : ShowsOn (g.waited || leaves_waiting a) (board_of (state_of g'.manager)) g.shown g'.shown
   pub quiet : g'.waited ≡ false → NobodyWaits (state_of g'.manager) × ShowsNobodyLast g'.shown
   pub rows : g'.rows ≡ g.rows
+
+-- one that would make, take away or change a record of a file of rows is not made: nobody is told, and nothing changes; any other is carried out
+abbrev pub ServesUnless : Bool → GuardedView → Command → Option Answer → Told → GuardedView → Type 0
+ServesUnless true g c result told g' = (result ≡ None) × (told ≡ []) × (g' ≡ g)
+ServesUnless false g c result told g' = (a : Answer) × (result ≡ Some a) × Serves g c a told g'
+
+-- so it is with each command
+abbrev pub ServesNodes : GuardedView → Command → Option Answer → Told → GuardedView → Type 0
+ServesNodes g c result told g' = ServesUnless (touches_rows (registry_in g) c) g c result told g'

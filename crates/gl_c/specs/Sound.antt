@@ -9,11 +9,11 @@ use Rattle.gl_c.specs.Serving.{ShowsNobodyLast}
 
 -- what a contract sees
 abbrev pub view_of : Inside → GuardedView
-view_of g = record { manager = g.manager; boxes = g.boxes; ended = g.ended; shown = g.publisher; waited = g.waited; rows = g.rows }
+view_of g = record { manager = g.registry.manager; boxes = g.boxes; ended = g.ended; shown = g.publisher; waited = g.waited; rows = g.registry.rows }
 
 -- what is shown is no newer than the manager, and of its way of detection; where nobody is noted to have waited, nobody waits, and the last board
 -- that was shown shows nobody
 pub record IsSound (g : Inside) : Type 0 where
-  pub epoch : IfSome g.publisher (λ p. last_epoch 0 p.list ≤ g.manager.accepted)
-  pub detect : IfSome g.publisher (λ p. p.detect ≡ g.manager.table.detect)
-  pub quiet : g.waited ≡ false → NobodyWaits (state_of g.manager) × ShowsNobodyLast g.publisher
+  pub epoch : IfSome g.publisher (λ p. last_epoch 0 p.list ≤ g.registry.manager.accepted)
+  pub detect : IfSome g.publisher (λ p. p.detect ≡ g.registry.manager.table.detect)
+  pub quiet : g.waited ≡ false → NobodyWaits (state_of g.registry.manager) × ShowsNobodyLast g.publisher

@@ -1,18 +1,19 @@
 //! All that C's mutex guards.
 
-ghost use Rattle.std.specs.Prelude.{◌≡◌, ◌≤◌, ◌^◌, ◌⊎◌, ◌∷◌, ◌++◌, false, true, List, [], IfErr, IfNone, IfOk, IfSome, None, Ok, Some, replicate};
+ghost use Rattle.std.specs.Prelude.{◌≡◌, ◌≤◌, ◌^◌, ◌⊎◌, ◌∷◌, ◌++◌, false, true, [], IfErr, IfNone, IfOk, IfSome, None, Ok, Some, replicate};
 ghost use Rattle.gl_modes.specs.declared.refusal.Refusal.{Refusal as ARefusal};
 ghost use Rattle.gl_table.specs.Table.{board_of};
 ghost use Rattle.gl_model.specs.State.{choosing, empty_state};
 ghost use Rattle.gl_catalog.specs.Manager.{IsLawfulManager, state_of};
 ghost use Rattle.gl_catalog.specs.Promises.{NobodyWaits};
 ghost use Rattle.gl_boxes.specs.Boards.{Ends, Fine, ShowsNobody, last_epoch};
-ghost use Rattle.gl_boxes.specs.Boxes.{Delivers, Slot as ASlot, cleared, verdict_of};
-ghost use Rattle.gl_boxes.specs.Served.{RisingTo, is_refused};
+ghost use Rattle.gl_registry.specs.Applying.{answer_in};
+ghost use Rattle.gl_registry.specs.Rows.{name_of};
+ghost use Rattle.gl_boxes.specs.Boxes.{verdict_of};
 ghost use Rattle.gl_c.specs.Managing.{IsNew, made_for};
 ghost use Rattle.gl_c.specs.Paths.{ServesPath, ends_waiting};
-ghost use Rattle.gl_c.specs.Rows.{ServesRow};
-ghost use Rattle.gl_c.specs.Serving.{Serves, ShowsNobodyLast, ShowsOn};
+ghost use Rattle.gl_c.specs.Rows.{ServesRow, comes_to_nothing, is_waited_for};
+ghost use Rattle.gl_c.specs.Serving.{HasShown, ServesNodes, ShowsNobodyLast, ShowsOn};
 ghost use Rattle.gl_c.specs.Watching.{OnlyShows};
 
 use crate::managing::USUAL_NODES;
@@ -22,8 +23,8 @@ use gl_boxes::{
 };
 use gl_catalog::{Answer, Command, Manager, Reached};
 use gl_modes::{Mode, NodeId, Refusal};
-use gl_registry::{Registry, RowCall};
-use gl_table::{Detect, Locked, Notice, Told, TxnId};
+use gl_registry::{Registry, Row, RowAnswer, RowCall};
+use gl_table::{Detect, Locked, Told, TxnId};
 use gl_waits::{Board, Victims};
 use gl_window::{Publisher, WatchFault, Watcher};
 use std::alloc::{AllocError, Global};
@@ -51,17 +52,16 @@ fn manager_for(
     }
 }
 
-/// The manager, a notice box for each slot, the slots whose wait the last accepted command may have
-/// ended, once there was a watcher, the side that shows boards, and the rows that are locked.
+/// The manager with its files of rows, a notice box for each slot, the slots whose wait the last accepted
+/// command may have ended, once there was a watcher, the side that shows boards.
 #[derive(Drop)]
 pub(crate) struct Guarded {
-    manager: Manager,
+    registry: Registry,
     boxes: Boxes,
     ended: u128,
     publisher: Option<Publisher>,
     /// Whether somebody waited when watchers were last shown a board, or a lock was left waiting since.
     waited: bool,
-    rows: Registry,
 }
 
 impl Model for Guarded {
@@ -92,14 +92,13 @@ impl Guarded {
         ensures refused { IfErr result (λ refusal. refusal ≡ ARefusal.NoMemory) }
     {
         let manager = manager_for(alloc, detect, victims, most, nodes)?;
-        let rows = Registry::new(alloc)?;
+        let registry = Registry::new(alloc, manager)?;
         Ok(Guarded {
-            manager,
+            registry,
             boxes: Boxes::new(),
             ended: 0,
             publisher: None,
             waited: true,
-            rows,
         })
     }
 
@@ -107,14 +106,14 @@ impl Guarded {
     pub(crate) fn manager(&self) -> &Manager
         ensures { result.now ≡ self.now.manager }
     {
-        &self.manager
+        self.registry.manager()
     }
 
-    /// The rows that are locked, each with its node.
-    pub(crate) fn rows(&self) -> &Registry
-        ensures { result.now ≡ self.now.rows }
+    /// The node by which a row is named; `None` where nobody holds it or waits for it.
+    pub(crate) fn node(&self, row: Row) -> Option<NodeId>
+        ensures { result ≡ name_of self.now.rows row }
     {
-        &self.rows
+        self.registry.node(row)
     }
 
     /// The slots whose wait the last accepted command may have ended.
@@ -133,25 +132,29 @@ impl Guarded {
     ) -> Option<Result<Grant, Stop>>
         ensures { result ≡ verdict_of (state_of self.now.manager) self.now.boxes txn node mode }
     {
-        self.boxes.verdict(&self.manager, txn, node, mode)
+        self.boxes.verdict(self.registry.manager(), txn, node, mode)
     }
 
-    /// Carries out a command, with its notices put into an empty list.
+    /// Carries out a command, with its notices put into an empty list. `None` where it would make, take
+    /// away or change a record of a file of rows by its node: then nothing has changed.
     #[inline(always)]
-    pub(crate) fn serve(&mut self, command: Command<'_>, told: &mut Told) -> Answer
+    pub(crate) fn serve(&mut self, command: Command<'_>, told: &mut Told) -> Option<Answer>
         requires empty { told.old.items ≡ [] }
-        ensures { Serves self.old command.entry result told.new.items self.new }
+        ensures { ServesNodes self.old command.entry result told.new.items self.new }
     {
-        self.manager.law();
-        let answer = self.manager.apply_telling(command, told);
+        self.registry.law();
+        let Some(answer) = self.registry.serve(command, told) else {
+            return None;
+        };
         if !is_accepted(&command, &answer) {
-            return answer;
+            return Some(answer);
         }
         self.boxes.deliver(&command, told.as_slice());
         self.ended = ended_by(&command, told.as_slice());
         self.waited |= leaves_waiting(&answer);
-        self.show_if_due();
-        answer
+        let due = self.is_board_due();
+        let _ = self.show_if(due);
+        Some(answer)
     }
 
     /// Locks a node with what has to be held above it, with the notices put into an empty list.
@@ -166,56 +169,73 @@ impl Guarded {
         requires empty { told.old.items ≡ [] }
         ensures { ServesPath self.old txn (node, mode) result told.new.items self.new }
     {
-        self.manager.law();
-        let before = self.manager.accepted();
-        let reached = self.manager.lock_path_telling(txn, node, mode, told);
-        if self.manager.accepted() == before {
+        self.registry.law();
+        let before = self.registry.manager().accepted();
+        let reached = self.registry.lock_path(txn, node, mode, told);
+        if self.registry.manager().accepted() == before {
             return reached;
         }
         let asked = Command::Lock { txn, node, mode };
         self.boxes.deliver(&asked, told.as_slice());
         self.ended = ended_by(&asked, told.as_slice());
         self.waited |= ends_waiting(reached);
-        self.show_if_due();
+        let due = self.is_board_due();
+        let _ = self.show_if(due);
         reached
     }
 
     /// Carries out a call about rows, with its notices put into an empty list. Watchers are shown one
     /// board behind all of it.
-    pub(crate) fn serve_row(&mut self, call: RowCall<'_>, told: &mut Told) -> Answer
+    pub(crate) fn serve_row(&mut self, call: RowCall<'_>, told: &mut Told) -> RowAnswer
         requires empty { told.old.items ≡ [] }
         ensures { ServesRow self.old call.entry result told.new.items self.new }
     {
-        self.manager.law();
-        let counted = self.manager.accepted();
-        let answer = self.rows.apply(&mut self.manager, call, told);
-        if self.manager.accepted() == counted {
+        self.registry.law();
+        let answer = self.registry.apply(call, told);
+        if comes_to_nothing(answer) {
             return answer;
         }
         let own = call.command();
-        deliver_called(&mut self.boxes, &own, &answer, told.as_slice());
+        self.boxes.deliver(&own, told.as_slice());
         self.ended = ended_by(&own, told.as_slice());
-        self.waited |= leaves_waiting(&answer);
-        self.show_if_due();
+        self.waited |= is_waited_for(answer);
+        let due = self.is_board_due();
+        let _ = self.show_if(due);
         answer
     }
 
-    /// Shows watchers the board of now, where there is one, and somebody waits or waited when they were
+    /// Whether the board of now is due: somebody watches, and somebody waits or waited when watchers were
     /// last shown a board.
-    fn show_if_due(&mut self)
+    fn is_board_due(&self) -> bool
+        ensures { result ≡ true → self.now.waited ≡ true }
+    {
+        match &self.publisher {
+            Some(publisher) => {
+                is_due(Telling::WhileWaiting, self.waited) && publisher.is_watched()
+            }
+            None => false,
+        }
+    }
+
+    /// Shows watchers the board of now where it is due, and says whether there was memory for that.
+    fn show_if(&mut self, due: bool) -> bool
+        requires { due ≡ true → self.old.waited ≡ true }
         ensures kept { (self.new.manager ≡ self.old.manager) × (self.new.boxes ≡ self.old.boxes) × (self.new.ended ≡ self.old.ended) × (self.new.rows ≡ self.old.rows) }
         ensures shown { ShowsOn self.old.waited (board_of (state_of self.old.manager)) self.old.shown self.new.shown }
+        ensures due { due ≡ true → result ≡ true → HasShown (board_of (state_of self.old.manager)) self.old.shown self.new.shown }
         ensures quiet { self.new.waited ≡ false → NobodyWaits (state_of self.new.manager) × ShowsNobodyLast self.new.shown }
     {
         let Some(publisher) = &mut self.publisher else {
-            return;
+            return true;
         };
-        if !is_due(Telling::WhileWaiting, self.waited) || !publisher.is_watched() {
-            return;
+        if !due {
+            return true;
         }
-        if let Some(waits) = show(&self.manager, publisher) {
-            self.waited = waits;
-        }
+        let Some(waits) = show(self.registry.manager(), publisher) else {
+            return false;
+        };
+        self.waited = waits;
+        true
     }
 
     /// A watcher that knows the board of now.
@@ -223,8 +243,9 @@ impl Guarded {
         ensures kept { OnlyShows self.old self.new }
         ensures watcher { IfOk result (λ watcher. (self.new.shown ≡ Some watcher) × Ends watcher.list (board_of (state_of self.old.manager))) }
     {
-        let now = board_now(&self.manager);
-        let detect = self.manager.detect();
+        let manager = self.registry.manager();
+        let now = board_now(manager);
+        let detect = manager.detect();
         self.waited = true;
         let Ok(mut publisher) = publisher_of(self.publisher.take(), alloc, now, detect) else {
             return Err(WatchFault::NoMemory);
@@ -235,20 +256,25 @@ impl Guarded {
     }
 }
 
-/// Puts the notices of a call about rows into their boxes. One that is refused tells nobody and empties
-/// no box, also where its row's node was adopted and forgotten again.
-fn deliver_called(
-    boxes: &mut Boxes,
-    command: &Command<'_>,
-    answer: &Answer,
-    told: &[(TxnId, Notice)],
-)
-    requires rises { RisingTo 0 told.now 128 }
-    requires untold { is_refused answer.now ≡ true → told.now ≡ [] }
-    ensures { (mid : List ASlot) × Delivers boxes.old told.now mid × (boxes.new ≡ cleared command.now answer.now mid) }
+/// Whether a call about rows comes to nothing: its command is refused, or its file is none of rows.
+fn comes_to_nothing(answer: RowAnswer) -> bool
+    ensures { result ≡ comes_to_nothing (answer_in answer) }
 {
-    if !is_refused(answer) {
-        boxes.deliver(command, told);
+    match answer {
+        RowAnswer::Locked(_) => false,
+        RowAnswer::Answered(answer) => is_refused(&answer),
+        RowAnswer::NotRows => true,
+    }
+}
+
+/// Whether a call about rows leaves its transaction waiting.
+fn is_waited_for(answer: RowAnswer) -> bool
+    ensures { result ≡ is_waited_for (answer_in answer) }
+{
+    match answer {
+        RowAnswer::Locked(x) => matches!(x.locked, Locked::Waiting),
+        RowAnswer::Answered(answer) => leaves_waiting(&answer),
+        RowAnswer::NotRows => false,
     }
 }
 
@@ -265,7 +291,7 @@ fn ends_waiting(reached: Result<Reached, Refusal>) -> bool
     )
 }
 
-/// Shows the board of a manager, and says whether somebody may wait on it; `None` where it was not shown.
+/// Shows the board of a manager, and says whether somebody may wait on it; `None` for want of memory.
 /// A command that shows nothing is not to pay for the room that a board takes, so it is not inlined.
 #[inline(never)]
 fn show(manager: &Manager, publisher: &mut Publisher) -> Option<bool>

@@ -1,10 +1,12 @@
 //! New nodes of the graph.
 
 ghost use Rattle.gl_catalog.specs.declared.command.Command.TheVariants as command;
+ghost use Rattle.gl_registry.specs.declared.call.RowCall.TheVariants as call;
 ghost use Rattle.gl_c.specs.Carries.{Asks, Declines, Under};
 ghost use Rattle.gl_c.specs.Handle.{guarded_in};
 ghost use Rattle.gl_c.specs.Names.{node_id};
 ghost use Rattle.gl_c.specs.Numbers.{bad_number};
+ghost use Rattle.gl_c.specs.Rows.{AsksRow};
 
 use crate::handle::Handle;
 use crate::names::Node;
@@ -12,6 +14,7 @@ use crate::numbers::BAD_NUMBER;
 use crate::parents::parent_ids;
 use crate::reply::Reply;
 use gl_catalog::Command;
+use gl_registry::RowCall;
 
 /// A new inner node, under 0 to 8 inner nodes; without parents it is a root.
 #[unsafe(no_mangle)]
@@ -33,6 +36,20 @@ pub extern "C" fn bs_call_add_file(manager: &mut Handle, parents: &[Node]) -> Re
 {
     match parent_ids(parents) {
         Some(ids) => manager.ask(Command::File {
+            parents: ids.as_slice(),
+        }),
+        None => Reply::with_status(BAD_NUMBER),
+    }
+}
+
+/// A new file of rows, under 1 to 8 inner nodes. Its records come, go and change by the calls about rows
+/// alone.
+#[unsafe(no_mangle)]
+pub extern "C" fn bs_call_row_file(manager: &mut Handle, parents: &[Node]) -> Reply
+    ensures { Under parents.now (λ ids. AsksRow (guarded_in manager.old) (call.File ids) result (guarded_in manager.new)) (Declines (guarded_in manager.old) bad_number result (guarded_in manager.new)) }
+{
+    match parent_ids(parents) {
+        Some(ids) => manager.ask_row(RowCall::File {
             parents: ids.as_slice(),
         }),
         None => Reply::with_status(BAD_NUMBER),

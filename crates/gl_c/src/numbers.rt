@@ -25,6 +25,9 @@ pub(crate) const GONE: u32 = 35;
 /// A path is locked as far as a node above, and others are told.
 pub(crate) const ON_THE_WAY: u32 = 37;
 
+/// A row is held, by a node whose keys are others than those that were said.
+pub(crate) const OTHER_KEYS: u32 = 38;
+
 /// There is no manager at this place: none was made, or it was ended.
 pub(crate) const NO_MANAGER: u32 = 65;
 
@@ -42,6 +45,12 @@ pub(crate) const NO_WATCHER: u32 = 69;
 
 /// As many watch already as may.
 pub(crate) const TOO_MANY_WATCHERS: u32 = 70;
+
+/// A record of a file of rows comes, goes and changes by the calls about rows alone.
+pub(crate) const ROWS_BY_NUMBER: u32 = 71;
+
+/// The file is none of rows.
+pub(crate) const NOT_ROWS: u32 = 72;
 
 /// A mode's number.
 pub(crate) fn mode_number(mode: Mode) -> u32

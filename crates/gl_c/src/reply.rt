@@ -3,16 +3,19 @@
 ghost use Rattle.std.specs.Prelude.{◌≡◌};
 ghost use Rattle.gl_catalog.specs.declared.command.Answer.TheVariants as answer;
 ghost use Rattle.gl_c.specs.Paths.{path_reply, reached_reply, reply_at};
-ghost use Rattle.gl_c.specs.Replies.{count_reply, refused_at, refused_reply, reply_of, status_reply};
-ghost use Rattle.gl_c.specs.Rows.{call_reply};
+ghost use Rattle.gl_c.specs.Replies.{count_reply, refused_at, refused_reply, reply_of, served_reply, status_reply};
+ghost use Rattle.gl_c.specs.Rows.{call_reply, row_lock_status};
 ghost use Rattle.gl_c.specs.Verdicts.{verdict_reply};
 
 use crate::names::{Node, Txn};
-use crate::numbers::{DONE, GONE, MOVED, ON_THE_WAY, VICTIM, WAITING, effect_number, mode_number};
-use gl_boxes::{Grant, Stop, is_refused};
+use crate::numbers::{
+    DONE, GONE, MOVED, NOT_ROWS, ON_THE_WAY, OTHER_KEYS, ROWS_BY_NUMBER, VICTIM, WAITING,
+    effect_number, mode_number,
+};
+use gl_boxes::{Grant, Stop};
 use gl_catalog::{Answer, Reached};
 use gl_modes::{Mode, NodeId, Refusal};
-use gl_registry::{Registry, RowCall};
+use gl_registry::RowAnswer;
 use gl_table::{Locked, TxnId};
 
 /// An answer. Beside the status it has what the call answers, and zero in all other fields.
@@ -82,6 +85,18 @@ impl Reply {
         }
     }
 
+    /// What C is answered where a command may be one that is not made by nodes. Inlined, so that a call
+    /// for one kind of command makes no choice.
+    #[inline(always)]
+    pub(crate) fn of_served(answer: Option<Answer>) -> Reply
+        ensures { result ≡ served_reply answer }
+    {
+        match answer {
+            Some(answer) => Reply::of(answer),
+            None => Reply::with_status(ROWS_BY_NUMBER),
+        }
+    }
+
     /// What C is answered for a verdict.
     pub(crate) fn of_verdict(verdict: Option<Result<Grant, Stop>>) -> Reply
         ensures { result ≡ verdict_reply verdict }
@@ -119,15 +134,28 @@ impl Reply {
     }
 
     /// What C is answered for a call about rows: of a lock that is not refused also its row's node.
-    pub(crate) fn of_row_call(rows: &Registry, call: RowCall<'_>, answer: Answer) -> Reply
-        ensures { result ≡ call_reply rows.now call.entry answer }
+    pub(crate) fn of_row_call(answer: RowAnswer) -> Reply
+        ensures { result ≡ call_reply answer }
     {
-        let reply = Reply::of(answer);
-        match call {
-            RowCall::Lock { row, .. } if !is_refused(&answer) => {
-                reply.at(rows.node(row).unwrap_or(NodeId::NONE))
-            }
-            _ => reply,
+        match answer {
+            RowAnswer::Locked(x) => Reply::of_row_lock(x.locked, x.own_keys).at(x.node),
+            RowAnswer::Answered(answer) => Reply::of(answer),
+            RowAnswer::NotRows => Reply::with_status(NOT_ROWS),
+        }
+    }
+
+    /// What C is answered for the lock of a row's node, the node aside.
+    fn of_row_lock(locked: Locked, own_keys: bool) -> Reply
+        ensures { result ≡ row_lock_status locked own_keys }
+    {
+        match locked {
+            Locked::Granted(mode) if own_keys => Reply::with_mode(mode),
+            Locked::Granted(mode) => Reply {
+                status: OTHER_KEYS,
+                ..Reply::with_mode(mode)
+            },
+            Locked::Waiting => Reply::with_status(WAITING),
+            Locked::Victim => Reply::with_status(VICTIM),
         }
     }
 

@@ -8,7 +8,7 @@ ghost use Rattle.gl_c.specs.Handle.{guarded_in};
 ghost use Rattle.gl_c.specs.Names.{node_id, row_at, txn_id};
 ghost use Rattle.gl_c.specs.Notices.{Tells};
 ghost use Rattle.gl_c.specs.Numbers.{bad_number, mode_at};
-ghost use Rattle.gl_c.specs.Rows.{AsksRow, CarriesRow, FindsRow};
+ghost use Rattle.gl_c.specs.Rows.{CarriesRow, FindsRow};
 
 use crate::handle::Handle;
 use crate::names::{Node, Txn};
@@ -17,7 +17,9 @@ use crate::numbers::{BAD_NUMBER, mode_at};
 use crate::reply::Reply;
 use gl_registry::RowCall;
 
-/// Locks a row whose keys are these, one for each index of its file.
+/// Locks a row whose keys are these, one for each index of its file in order of their making. A row that
+/// is to be inserted or taken away is locked in X. Where the row's node has other keys the lock is held
+/// as well, and the status says so.
 #[unsafe(no_mangle)]
 pub extern "C" fn bs_call_lock_row(
     manager: &mut Handle,
@@ -55,42 +57,6 @@ pub extern "C" fn bs_call_unlock_row(
     ensures { CarriesRow (guarded_in manager.old) (call.Unlock (txn_id txn) (row_at file number)) result told.new (guarded_in manager.new) }
 {
     let call = RowCall::Unlock {
-        txn: txn.id(),
-        row: file.row(number),
-    };
-    manager.carry_out_row(call, told)
-}
-
-/// A new row, with a key for each index of its file, held in X.
-#[unsafe(no_mangle)]
-pub extern "C" fn bs_call_insert_row(
-    manager: &mut Handle,
-    txn: Txn,
-    file: Node,
-    number: u64,
-    keys: &[u64],
-) -> Reply
-    ensures { AsksRow (guarded_in manager.old) (call.Insert (txn_id txn) (row_at file number) keys.entry) result (guarded_in manager.new) }
-{
-    manager.ask_row(RowCall::Insert {
-        txn: txn.id(),
-        row: file.row(number),
-        keys,
-    })
-}
-
-/// Takes a row away, which the transaction holds in X.
-#[unsafe(no_mangle)]
-pub extern "C" fn bs_call_delete_row(
-    manager: &mut Handle,
-    txn: Txn,
-    file: Node,
-    number: u64,
-    told: &mut Notices,
-) -> Reply
-    ensures { CarriesRow (guarded_in manager.old) (call.Delete (txn_id txn) (row_at file number)) result told.new (guarded_in manager.new) }
-{
-    let call = RowCall::Delete {
         txn: txn.id(),
         row: file.row(number),
     };

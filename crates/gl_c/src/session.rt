@@ -79,7 +79,7 @@ impl Session {
         let answer = self.guarded.serve(command, &mut self.told);
         notices.put(self.told.as_slice());
         self.told.clear();
-        Reply::of(answer)
+        Reply::of_served(answer)
     }
 
     /// Locks a node with what has to be held above it, and writes down whom it tells.
@@ -105,7 +105,7 @@ impl Session {
         let answer = self.guarded.serve_row(call, &mut self.told);
         notices.put(self.told.as_slice());
         self.told.clear();
-        Reply::of_row_call(self.guarded.rows(), call, answer)
+        Reply::of_row_call(answer)
     }
 
     /// Carries out a call about rows of which nobody is to be told.
@@ -114,7 +114,7 @@ impl Session {
     {
         let answer = self.guarded.serve_row(call, &mut self.told);
         self.told.clear();
-        Reply::of_row_call(self.guarded.rows(), call, answer)
+        Reply::of_row_call(answer)
     }
 
     /// Carries out a command of which nobody is to be told.
@@ -124,14 +124,14 @@ impl Session {
     {
         let answer = self.guarded.serve(command, &mut self.told);
         self.told.clear();
-        Reply::of(answer)
+        Reply::of_served(answer)
     }
 
     /// The node by which a row is named.
     pub(crate) fn row_node(&self, row: Row) -> Reply
         ensures { result ≡ named_reply (name_of self.now.rows row) }
     {
-        match self.guarded.rows().node(row) {
+        match self.guarded.node(row) {
             Some(node) => Reply::with_node(node),
             None => Reply::refused(Refusal::NoSuchNode),
         }

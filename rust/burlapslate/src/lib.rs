@@ -65,9 +65,9 @@
 //!
 //! # Refusals
 //!
-//! A call that is refused changed nothing, but that [`lock_row`](Manager::lock_row) and
-//! [`insert_row`](Manager::insert_row) may have let a node go. Where several refusals hold, the first in
-//! the order of the call's list is answered ([`Refusal`]).
+//! A call that is refused changed nothing. [`lock_path`](Manager::lock_path) is several locks, and says
+//! which of them may stay. Where several refusals hold, the first in the order of the call's list is
+//! answered ([`Refusal`]).
 //!
 //! # Memory
 //!
@@ -97,12 +97,12 @@ mod watcher;
 
 pub use board::{Board, SlotIter, Slots};
 pub use listing::{Counters, Deadlock, Doing, Listing, LockRow, Stuck, TxnRow, Waiter};
-pub use manager::{Asked, Escalated, Manager, Options, Reached, Wait};
+pub use manager::{Asked, Escalated, Manager, Options, Reached, RowAsked, Wait};
 pub use mode::{Detect, Kind, Mode, Victims};
 pub use names::{Node, Row, Txn};
 pub use notices::{Notice, Notices};
 pub use refusal::Refusal;
-pub use session::{Session, Stop};
+pub use session::{RowLocked, Session, Stop};
 pub use table::Table;
 pub use watcher::Watcher;
 

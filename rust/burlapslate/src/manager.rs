@@ -39,6 +39,36 @@ impl Asked {
     }
 }
 
+/// What an ask for a row's lock comes to.
+#[must_use = "a row that is waited for is not held, and one with other keys lies elsewhere"]
+#[derive(Clone, Copy, PartialEq, Eq, Hash, Debug)]
+pub enum RowAsked {
+    /// It was granted: the transaction holds the row in this mode, and the keys that were said are
+    /// those of the row's node.
+    Granted(Mode),
+    /// It was granted as well, but the row's node has other keys than were said. The engine looks at
+    /// the row's keys again. Where they are others, it unlocks the row and begins anew.
+    OtherKeys(Mode),
+    /// The transaction waits, as with [`Asked::Waiting`]. Behind the grant the row is asked for again,
+    /// which waits for nothing and says whether the keys are those of the row's node.
+    Waiting,
+    /// The asker is condemned, as with [`Asked::Victim`].
+    Victim,
+}
+
+impl RowAsked {
+    /// By what a row's lock was answered.
+    fn of(reply: &Reply) -> Result<RowAsked, Refusal> {
+        match reply.status {
+            sys::DONE => Ok(RowAsked::Granted(Mode::of(reply.mode))),
+            sys::OTHER_KEYS => Ok(RowAsked::OtherKeys(Mode::of(reply.mode))),
+            sys::WAITING => Ok(RowAsked::Waiting),
+            sys::VICTIM => Ok(RowAsked::Victim),
+            _ => Err(Refusal::of(reply)),
+        }
+    }
+}
+
 /// How far a path was locked.
 #[must_use = "a path may be locked in part"]
 #[derive(Clone, Copy, PartialEq, Eq, Hash, Debug)]
@@ -217,17 +247,41 @@ impl Manager {
         accepted(sys::add_inner(&mut self.pinned.place, parents)).map(|reply| reply.node)
     }
 
-    /// A new file under 1 to 8 different inner nodes.
+    /// A new file of records, under 1 to 8 different inner nodes. Its records are named by their nodes.
     ///
     /// Refused as [`add_inner`](Manager::add_inner).
     pub fn add_file(&mut self, parents: &[Node]) -> Result<Node, Refusal> {
         accepted(sys::add_file(&mut self.pinned.place, parents)).map(|reply| reply.node)
     }
 
-    /// A new index of a file that has no records, under 1 to 8 different inner nodes, with up to
-    /// 256 bounds, or, where the manager was made for another number of [`nodes`](Options::nodes)
-    /// than 65,536, up to as many bounds as nodes may live. They rise from above 0: interval 0 has
-    /// the keys below the first bound, interval i those from bound i - 1 on. Each interval is a node.
+    /// A new file of rows, under 1 to 8 different inner nodes. Each of its records is a [`Row`], which
+    /// the engine names by a number of its own, and comes, goes and gets other keys by the calls about
+    /// rows alone. A file is of records or of rows for good.
+    ///
+    /// Refused as [`add_inner`](Manager::add_inner), but that [`NoMemory`](Refusal::NoMemory) may come
+    /// before all but [`BadNumber`](Refusal::BadNumber).
+    ///
+    /// ```
+    /// # use burlapslate::{Detect, Manager, Refusal, Row, SLOTS};
+    /// # let mut m = Manager::new(Detect::AtBlock, SLOTS)?;
+    /// # let db = m.add_inner(&[])?;
+    /// # let txn = m.begin()?;
+    /// let (records, rows) = (m.add_file(&[db])?, m.add_row_file(&[db])?);
+    /// let row = Row { file: records, number: 7 };
+    /// assert_eq!(m.unlock_row(txn, row).unwrap_err(), Refusal::NotRows);
+    /// assert_eq!(m.insert(txn, rows, &[]), Err(Refusal::RowsByNumber));
+    /// # Ok::<(), burlapslate::Refusal>(())
+    /// ```
+    pub fn add_row_file(&mut self, parents: &[Node]) -> Result<Node, Refusal> {
+        accepted(sys::add_row_file(&mut self.pinned.place, parents)).map(|reply| reply.node)
+    }
+
+    /// A new index of a file that has no records, and of which no row ever had a node by
+    /// [`adopt`](Manager::adopt) or [`lock_row`](Manager::lock_row). It lies under 1 to 8 different inner
+    /// nodes, and has up to 256 bounds, or, where the manager was made for another number of
+    /// [`nodes`](Options::nodes) than 65,536, up to as many bounds as nodes may live. They rise from
+    /// above 0: interval 0 has the keys below the first bound, interval i those from bound i - 1 on. Each
+    /// interval is a node.
     ///
     /// Refused with [`BadNumber`](Refusal::BadNumber), [`WornOut`](Refusal::WornOut),
     /// [`NoSuchNode`](Refusal::NoSuchNode), [`BadParents`](Refusal::BadParents) (also where the
@@ -320,7 +374,7 @@ impl Manager {
     ///
     /// Refused as [`lock`](Manager::lock), but never with [`NeedParents`](Refusal::NeedParents).
     /// Nothing was locked then, but that [`NoMemory`](Refusal::NoMemory) and
-    /// [`WornOut`](Refusal::WornOut) may come behind some of the locks.
+    /// [`WornOut`](Refusal::WornOut) may come behind some of the locks, which stay.
     ///
     /// ```
     /// # use burlapslate::{Detect, Manager, Mode, Reached, SLOTS};
@@ -451,7 +505,8 @@ impl Manager {
 
 /// # Records, and nodes that move
 ///
-/// Nodes that move tell waiters whose wait is over.
+/// Nodes that move tell waiters whose wait is over. An insert, delete, adopt, forget or rekey of a record
+/// of a file of rows is refused with [`RowsByNumber`](Refusal::RowsByNumber), before all else.
 impl Manager {
     /// A new record of a file, with a key for each of the file's indexes, in order of their making.
     /// It lies under the file and, for each index, the interval of its key, and is held in
@@ -468,8 +523,8 @@ impl Manager {
     }
 
     /// A new record of a file, as [`insert`](Manager::insert) makes one, but for no transaction: nobody
-    /// holds it, and no locks are asked for. So a row has a node only while it is locked. From then on
-    /// no index of the file is made.
+    /// holds it, and no locks are asked for. It is for an engine that itself gives its rows nodes while
+    /// they are locked. From then on no index of the file is made.
     ///
     /// Refused with [`WornOut`](Refusal::WornOut), [`NoSuchNode`](Refusal::NoSuchNode),
     /// [`BadParents`](Refusal::BadParents) (no file), [`BadKeys`](Refusal::BadKeys),
@@ -549,40 +604,50 @@ impl Manager {
 
 /// # Rows by the engine's own numbers
 ///
-/// A [`Row`] has a node while some transaction holds it or waits for it, and loses that with the last
-/// of them: [`lock_row`](Manager::lock_row) and [`insert_row`](Manager::insert_row) make the node, and the
-/// other calls with `row` in their names take it away. The keys are the row's own, one for each index of
-/// its file in the order of making. They are read when the row is locked, and again behind each wait,
-/// since only the engine knows them.
+/// A [`Row`] of a file of rows ([`add_row_file`](Manager::add_row_file)) has a node while some transaction
+/// holds it or waits for it: [`lock_row`](Manager::lock_row) makes the node, and the other calls with `row`
+/// in their names take it away behind the last of these. No row has two nodes, and no two rows have one.
+///
+/// The keys are the row's own, one for each index of its file in the order of making. Only the engine knows
+/// them. It reads them before it locks the row, and looks at them again behind each grant. Where they are
+/// others by then it gives the row back by [`unlock_row`](Manager::unlock_row), and begins anew: with the
+/// keys of now, and with what has to be held above them.
+///
+/// A row that is to be inserted is locked in [`X`](Mode::X) by its number, with the keys that it will have.
+/// One that is to be deleted is locked in `X` too, and keeps its lock, its node and its number until its
+/// transaction ends.
 ///
 /// [`commit`](Manager::commit), [`abort`](Manager::abort), [`cancel`](Manager::cancel),
 /// [`escalate`](Manager::escalate) and [`unlock`](Manager::unlock) let no row go: its node stands on
-/// then, and goes when the row is next let go. Each call is one command, and each node that is adopted
-/// or forgotten is one more; where a call is refused these may be counted all the same, and
-/// [`ended`](Manager::ended) has nobody then. A transaction that ends lets go all rows that it asked for: a
-/// look-up for each, and a step for each node that is forgotten.
+/// then, and goes when the row is next let go. Each call is one command, and each node that comes or goes
+/// by it is one more. A call with `rows` in its name goes over all rows that its transaction asked for: a
+/// look-up for each, and a step for each node that goes.
 impl Manager {
-    /// Locks a row, as [`lock`](Manager::lock) locks its node, which is answered too. The intentions
-    /// above it are the caller's. A row without a node gets one; so does one whose node has other keys,
-    /// where nobody holds that or waits for it.
+    /// Locks a row by its node, which is answered too, as [`lock`](Manager::lock) locks a node. A row
+    /// without a node gets one with these keys; so does one whose node has other keys, where nobody
+    /// holds that or waits for it. Any other row is locked by the node that it has, whatever keys are
+    /// said. What has to be held above that node is the caller's to lock: a parent that is wanting is
+    /// named by [`NeedParents`](Refusal::NeedParents).
     ///
-    /// Refused with [`WornOut`](Refusal::WornOut) where fewer than four commands can be counted any
-    /// more, [`NoSuchTxn`](Refusal::NoSuchTxn), [`TxnWaiting`](Refusal::TxnWaiting),
-    /// [`TxnCondemned`](Refusal::TxnCondemned), [`NoMemory`](Refusal::NoMemory);
-    /// [`RecordInUse`](Refusal::RecordInUse) where its node has other keys, and somebody holds it or
-    /// waits for it; where it needs a node, as [`adopt`](Manager::adopt); then as
-    /// [`lock`](Manager::lock), and a node that it got is gone again. Takes memory.
+    /// Refused with [`NotRows`](Refusal::NotRows). Else a row that keeps its node is refused as
+    /// [`lock`](Manager::lock) of that node. One that gets a node is refused with
+    /// [`WornOut`](Refusal::WornOut) where fewer than two commands can be counted any more, or three
+    /// where another node goes for it; [`NoSuchTxn`](Refusal::NoSuchTxn),
+    /// [`TxnWaiting`](Refusal::TxnWaiting), [`TxnCondemned`](Refusal::TxnCondemned),
+    /// [`BadKeys`](Refusal::BadKeys), [`TooManyNodes`](Refusal::TooManyNodes), also where another node
+    /// would go for it, [`BadMode`](Refusal::BadMode), [`NeedParents`](Refusal::NeedParents).
+    /// [`NoMemory`](Refusal::NoMemory) may come before all of these. Takes memory.
     ///
     /// ```
-    /// # use burlapslate::{Asked, Detect, Manager, Mode, Row, SLOTS};
+    /// # use burlapslate::{Detect, Manager, Mode, Row, RowAsked, SLOTS};
     /// # let mut m = Manager::new(Detect::AtBlock, SLOTS)?;
     /// # let db = m.add_inner(&[])?;
-    /// # let file = m.add_file(&[db])?;
+    /// let file = m.add_row_file(&[db])?;
     /// let txn = m.begin()?;
     /// let _ = m.lock_path(txn, file, Mode::IX)?;
     /// let row = Row { file, number: 1 << 40 };
     /// let (asked, node, _) = m.lock_row(txn, row, &[], Mode::X)?;
-    /// assert_eq!((asked, m.row_node(row)), (Asked::Granted(Mode::X), Some(node)));
+    /// assert_eq!((asked, m.row_node(row)), (RowAsked::Granted(Mode::X), Some(node)));
     /// let _ = m.commit_rows(txn)?;
     /// assert_eq!(m.row_node(row), None);
     /// # Ok::<(), burlapslate::Refusal>(())
@@ -593,17 +658,17 @@ impl Manager {
         row: Row,
         keys: &[u64],
         mode: Mode,
-    ) -> Result<(Asked, Node, Notices<'_>), Refusal> {
+    ) -> Result<(RowAsked, Node, Notices<'_>), Refusal> {
         let Pinned { place, told } = &mut *self.pinned;
         let reply = sys::lock_row(place, txn, row, keys, mode as u32, told);
-        Ok((Asked::of(&reply)?, reply.node, Notices::of(told)))
+        Ok((RowAsked::of(&reply)?, reply.node, Notices::of(told)))
     }
 
-    /// Releases a row, as [`unlock`](Manager::unlock) releases its node, which is forgotten where nobody
-    /// else holds it or waits for it.
+    /// Releases a row, as [`unlock`](Manager::unlock) releases its node, which goes where nobody else
+    /// holds it or waits for it.
     ///
-    /// Refused as [`unlock`](Manager::unlock); a row without a node with
-    /// [`NoSuchNode`](Refusal::NoSuchNode). Takes no memory.
+    /// Refused with [`NotRows`](Refusal::NotRows), and then as [`unlock`](Manager::unlock); a row without
+    /// a node is refused as a node that is gone. Takes no memory.
     pub fn unlock_row(&mut self, txn: Txn, row: Row) -> Result<Notices<'_>, Refusal> {
         let Pinned { place, told } = &mut *self.pinned;
         accepted(sys::bs_call_unlock_row(
@@ -612,34 +677,10 @@ impl Manager {
         Ok(Notices::of(told))
     }
 
-    /// A new row, whose node is answered, as [`insert`](Manager::insert) makes one: held in
-    /// [`X`](Mode::X).
-    ///
-    /// Refused as [`lock_row`](Manager::lock_row) up to [`RecordInUse`](Refusal::RecordInUse), which here
-    /// says that somebody holds the row or waits for it; and then as [`insert`](Manager::insert). Past
-    /// [`RecordInUse`](Refusal::RecordInUse) a node that the row had is gone. Takes memory. It tells
-    /// nobody.
-    pub fn insert_row(&mut self, txn: Txn, row: Row, keys: &[u64]) -> Result<Node, Refusal> {
-        accepted(sys::insert_row(&mut self.pinned.place, txn, row, keys)).map(|reply| reply.node)
-    }
-
-    /// Takes a row away, which the transaction holds in [`X`](Mode::X), as [`delete`](Manager::delete)
-    /// does its node.
-    ///
-    /// Refused as [`delete`](Manager::delete); a row without a node with
-    /// [`NoSuchNode`](Refusal::NoSuchNode). Takes no memory.
-    pub fn delete_row(&mut self, txn: Txn, row: Row) -> Result<Notices<'_>, Refusal> {
-        let Pinned { place, told } = &mut *self.pinned;
-        accepted(sys::bs_call_delete_row(
-            place, txn, row.file, row.number, told,
-        ))?;
-        Ok(Notices::of(told))
-    }
-
     /// Gives a row another key for one index, as [`rekey`](Manager::rekey) does its node.
     ///
-    /// Refused as [`rekey`](Manager::rekey); a row without a node with
-    /// [`NoSuchNode`](Refusal::NoSuchNode). Takes no memory.
+    /// Refused with [`NotRows`](Refusal::NotRows), and then as [`rekey`](Manager::rekey); a row without a
+    /// node is refused as a node that is gone. Takes no memory.
     pub fn rekey_row(
         &mut self,
         txn: Txn,
@@ -686,9 +727,8 @@ impl Manager {
         Ok((Escalated::of(&reply), Notices::of(told)))
     }
 
-    /// The node of a row, for questions and for [`verdict`](Manager::verdict); where that was taken away
-    /// by [`forget`](Manager::forget) or [`delete`](Manager::delete), still its name. `None` where it has
-    /// none.
+    /// The node of a row, for questions and for [`verdict`](Manager::verdict). `None` where it has none,
+    /// also where its file is none of rows.
     pub fn row_node(&self, row: Row) -> Option<Node> {
         let reply = sys::bs_call_row_node(&self.pinned.place, row.file, row.number);
         (reply.status == sys::DONE).then_some(reply.node)

@@ -20,10 +20,12 @@ impl Node {
     pub const NONE: Node = Node { key: 0, birth: 0 };
 }
 
-/// A row of a file, by the number that the engine has for it there: any number at all.
+/// A row of a file of rows ([`Manager::add_row_file`]), by the number that the engine has for it there:
+/// any number at all.
 ///
 /// It has a node while some transaction holds it or waits for it ([`Manager::lock_row`]).
 ///
+/// [`Manager::add_row_file`]: crate::Manager::add_row_file
 /// [`Manager::lock_row`]: crate::Manager::lock_row
 #[derive(Clone, Copy, PartialEq, Eq, Hash, Debug)]
 pub struct Row {

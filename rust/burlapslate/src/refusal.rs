@@ -9,7 +9,8 @@ use std::fmt;
 /// hold, the first in the order of the call's list is answered.
 #[derive(Clone, Copy, PartialEq, Eq, Hash, Debug)]
 pub enum Refusal {
-    /// The allocator refused. It comes last of all, and only to calls that take memory.
+    /// The allocator refused. It comes to calls that take memory, and last of all, but where one says
+    /// otherwise.
     NoMemory,
     /// A name names no node.
     NoSuchNode,
@@ -39,17 +40,22 @@ pub enum Refusal {
     NeedExclusive,
     /// The transaction waits for nothing.
     NotWaiting,
-    /// An index cannot be added to a file that has records, or had rows adopted.
+    /// An index cannot be added to a file that has records, or of which a row had a node.
     FileInUse,
     /// Bounds that do not rise from above 0, too many of them, or not a key for each index.
     BadKeys,
     /// A counter has come to its end, near 2^64. It comes first of all but [`Refusal::BadNumber`],
-    /// and to all calls but questions.
+    /// [`Refusal::RowsByNumber`] and [`Refusal::NotRows`], and to all calls but questions.
     WornOut,
     /// The new parent is the node itself or lies below it; this is that parent.
     Cycle(Node),
-    /// Some transaction holds the record or waits for it.
+    /// A record is not forgotten while some transaction holds it or waits for it.
     RecordInUse,
+    /// The file is one of rows: its records come, go and change by calls about rows alone. It comes
+    /// first of all.
+    RowsByNumber,
+    /// The file is none of rows. It comes first of all, but that want of memory may come before it.
+    NotRows,
     /// As many watch already as may: [`MOST_WATCHERS`](crate::MOST_WATCHERS).
     TooManyWatchers,
     /// More than 8 parents, or a manager for none or more than 128 transactions. It comes first of
@@ -82,6 +88,8 @@ impl Refusal {
             sys::CYCLE => Refusal::Cycle(reply.node),
             sys::RECORD_IN_USE => Refusal::RecordInUse,
             sys::TOO_MANY_WATCHERS => Refusal::TooManyWatchers,
+            sys::ROWS_BY_NUMBER => Refusal::RowsByNumber,
+            sys::NOT_ROWS => Refusal::NotRows,
             sys::BAD_NUMBER => Refusal::BadNumber,
             // Null pointers, places without a manager and the like cannot come from these types.
             status => unreachable!("the library answered with status {status}"),
@@ -111,6 +119,8 @@ impl Refusal {
             Refusal::WornOut => "WornOut",
             Refusal::Cycle(_) => "Cycle",
             Refusal::RecordInUse => "RecordInUse",
+            Refusal::RowsByNumber => "RowsByNumber",
+            Refusal::NotRows => "NotRows",
             Refusal::TooManyWatchers => "TooManyWatchers",
             Refusal::BadNumber => "BadNumber",
         }
@@ -147,7 +157,7 @@ mod tests {
     }
 
     /// The names of the statuses by number, those that the safe calls never answer left out.
-    const TEXTS: [(u32, &str); 22] = [
+    const TEXTS: [(u32, &str); 24] = [
         (1, "NoMemory"),
         (2, "NoSuchNode"),
         (3, "NoSuchTxn"),
@@ -170,6 +180,8 @@ mod tests {
         (22, "RecordInUse"),
         (66, "BadNumber"),
         (70, "TooManyWatchers"),
+        (71, "RowsByNumber"),
+        (72, "NotRows"),
     ];
 
     #[test]

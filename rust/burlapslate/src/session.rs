@@ -49,6 +49,18 @@ impl From<Refusal> for Stop {
     }
 }
 
+/// How a row is held by a session.
+#[must_use = "a row with other keys lies elsewhere than was said"]
+#[derive(Clone, Copy, PartialEq, Eq, Hash, Debug)]
+pub enum RowLocked {
+    /// In this mode, and the keys that were said are those of the row's node.
+    Own(Mode),
+    /// In this mode, but the row's node has other keys than were said, or was not asked for want of
+    /// memory. The engine looks at the row's keys again. Where they are others, it unlocks the row and
+    /// begins anew.
+    OtherKeys(Mode),
+}
+
 /// A transaction of a [`Table`], which one thread drives. Its locks sleep until they are granted. One
 /// that is dropped without a commit is aborted, so that its locks never outlive it: undo first what
 /// it wrote.
@@ -145,24 +157,26 @@ impl<'t> Session<'t> {
     }
 
     /// As [`Manager::lock_row`](crate::Manager::lock_row), but it sleeps until the row is granted, or never
-    /// will be. The intentions above it are the caller's: one that is wanting is refused with
-    /// [`NeedParents`](Refusal::NeedParents), and [`lock_path`](Session::lock_path) locks it. That may
-    /// sleep, and behind a sleep the keys are to be read again. The end of the session lets its rows go.
+    /// will be. What has to be held above it is the caller's to lock: a parent that is wanting is refused
+    /// with [`NeedParents`](Refusal::NeedParents), and [`lock_path`](Session::lock_path) locks it. That may
+    /// sleep, and the keys may be others behind it. Behind each grant the engine looks at the row's keys
+    /// again; where they are others than were said, it unlocks the row and begins anew. The end of the
+    /// session lets its rows go.
     ///
     /// ```
-    /// # use burlapslate::{Detect, Mode, Row, Table, SLOTS};
+    /// # use burlapslate::{Detect, Mode, Row, RowLocked, Table, SLOTS};
     /// # let table = Table::new(Detect::AtBlock, SLOTS)?;
     /// # let db = table.add_inner(&[])?;
-    /// # let file = table.add_file(&[db])?;
+    /// let file = table.add_row_file(&[db])?;
     /// let row = Row { file, number: 7 };
     /// let mut session = table.begin()?;
     /// assert_eq!(session.lock_path(file, Mode::IX), Ok(Mode::IX));
-    /// assert_eq!(session.lock_row(row, &[], Mode::X), Ok(Mode::X));
+    /// assert_eq!(session.lock_row(row, &[], Mode::X), Ok(RowLocked::Own(Mode::X)));
     /// session.commit()?;
     /// assert_eq!(table.row_node(row), None);
     /// # Ok::<(), burlapslate::Refusal>(())
     /// ```
-    pub fn lock_row(&mut self, row: Row, keys: &[u64], mode: Mode) -> Result<Mode, Stop> {
+    pub fn lock_row(&mut self, row: Row, keys: &[u64], mode: Mode) -> Result<RowLocked, Stop> {
         self.has_rows = true;
         self.table.lock_row(self.txn, row, keys, mode, None)
     }
@@ -175,7 +189,7 @@ impl<'t> Session<'t> {
         keys: &[u64],
         mode: Mode,
         time: Duration,
-    ) -> Result<Mode, Stop> {
+    ) -> Result<RowLocked, Stop> {
         self.has_rows = true;
         self.table
             .lock_row(self.txn, row, keys, mode, deadline(time))
@@ -184,17 +198,6 @@ impl<'t> Session<'t> {
     /// As [`Manager::unlock_row`](crate::Manager::unlock_row).
     pub fn unlock_row(&mut self, row: Row) -> Result<(), Refusal> {
         self.table.serve(|m| m.unlock_row(self.txn, row).map(drop))
-    }
-
-    /// As [`Manager::insert_row`](crate::Manager::insert_row).
-    pub fn insert_row(&mut self, row: Row, keys: &[u64]) -> Result<Node, Refusal> {
-        self.has_rows = true;
-        self.table.ask(|m| m.insert_row(self.txn, row, keys))
-    }
-
-    /// As [`Manager::delete_row`](crate::Manager::delete_row). Who sleeps for the row is woken.
-    pub fn delete_row(&mut self, row: Row) -> Result<(), Refusal> {
-        self.table.serve(|m| m.delete_row(self.txn, row).map(drop))
     }
 
     /// As [`Manager::rekey_row`](crate::Manager::rekey_row).

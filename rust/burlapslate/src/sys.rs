@@ -45,9 +45,12 @@ pub(crate) const VICTIM: u32 = 33;
 pub(crate) const MOVED: u32 = 34;
 pub(crate) const GONE: u32 = 35;
 pub(crate) const ON_THE_WAY: u32 = 37;
+pub(crate) const OTHER_KEYS: u32 = 38;
 pub(crate) const BAD_NUMBER: u32 = 66;
 pub(crate) const NO_PLACE: u32 = 68;
 pub(crate) const TOO_MANY_WATCHERS: u32 = 70;
+pub(crate) const ROWS_BY_NUMBER: u32 = 71;
+pub(crate) const NOT_ROWS: u32 = 72;
 
 pub(crate) const ACTIVE: u64 = 1;
 pub(crate) const WAITS: u64 = 2;
@@ -227,6 +230,7 @@ unsafe extern "C" {
 
     fn bs_call_add_inner(manager: &mut Place, parents: *const Node, count: usize) -> Reply;
     fn bs_call_add_file(manager: &mut Place, parents: *const Node, count: usize) -> Reply;
+    fn bs_call_row_file(manager: &mut Place, parents: *const Node, count: usize) -> Reply;
     fn bs_call_add_index(
         manager: &mut Place,
         parents: *const Node,
@@ -312,21 +316,6 @@ unsafe extern "C" {
         told: &mut Notices,
     ) -> Reply;
     pub(crate) safe fn bs_call_unlock_row(
-        manager: &mut Place,
-        txn: Txn,
-        file: Node,
-        number: u64,
-        told: &mut Notices,
-    ) -> Reply;
-    fn bs_call_insert_row(
-        manager: &mut Place,
-        txn: Txn,
-        file: Node,
-        number: u64,
-        keys: *const u64,
-        count: usize,
-    ) -> Reply;
-    pub(crate) safe fn bs_call_delete_row(
         manager: &mut Place,
         txn: Txn,
         file: Node,
@@ -437,6 +426,11 @@ pub(crate) fn add_file(manager: &mut Place, parents: &[Node]) -> Reply {
     unsafe { bs_call_add_file(manager, nodes(parents), parents.len()) }
 }
 
+pub(crate) fn add_row_file(manager: &mut Place, parents: &[Node]) -> Reply {
+    // SAFETY: the count is the list's own.
+    unsafe { bs_call_row_file(manager, nodes(parents), parents.len()) }
+}
+
 pub(crate) fn add_index(
     manager: &mut Place,
     parents: &[Node],
@@ -469,12 +463,6 @@ pub(crate) fn lock_row(
     let (start, count) = (numbers(keys), keys.len());
     // SAFETY: the count is the list's own.
     unsafe { bs_call_lock_row(manager, txn, row.file, row.number, start, count, mode, told) }
-}
-
-pub(crate) fn insert_row(manager: &mut Place, txn: Txn, row: Row, keys: &[u64]) -> Reply {
-    let (start, count) = (numbers(keys), keys.len());
-    // SAFETY: the count is the list's own.
-    unsafe { bs_call_insert_row(manager, txn, row.file, row.number, start, count) }
 }
 
 pub(crate) fn move_node(

@@ -1,11 +1,11 @@
 //! A table that threads share.
 
 use crate::board::{Board, Slots};
-use crate::manager::{Asked, Manager, Options, Reached};
+use crate::manager::{Asked, Manager, Options, Reached, RowAsked};
 use crate::mode::{Detect, Mode, Victims};
 use crate::names::{Node, Row, Txn};
 use crate::refusal::Refusal;
-use crate::session::{Session, Stop};
+use crate::session::{RowLocked, Session, Stop};
 use crate::watcher::Watcher;
 use crate::SLOTS;
 use std::fmt;
@@ -102,6 +102,11 @@ impl Table {
     /// As [`Manager::add_file`].
     pub fn add_file(&self, parents: &[Node]) -> Result<Node, Refusal> {
         self.ask(|m| m.add_file(parents))
+    }
+
+    /// As [`Manager::add_row_file`].
+    pub fn add_row_file(&self, parents: &[Node]) -> Result<Node, Refusal> {
+        self.ask(|m| m.add_row_file(parents))
     }
 
     /// As [`Manager::add_index`].
@@ -283,13 +288,20 @@ impl Table {
         mode: Mode,
         until: Option<Instant>,
     ) -> Result<Mode, Stop> {
-        self.lock_by(txn, mode, until, |m| {
-            let (asked, told) = m.lock(txn, node, mode)?;
-            Ok((asked, node, !told.is_empty()))
-        })
+        let mut guarded = self.guarded();
+        let (asked, told) = guarded.manager.lock(txn, node, mode)?;
+        let tells = !told.is_empty();
+        self.wake_behind(&mut guarded, tells, asked == Asked::Waiting);
+        match asked {
+            Asked::Granted(mode) => Ok(mode),
+            Asked::Victim => Err(Stop::Victim),
+            Asked::Waiting => self.sleep(guarded, txn, node, mode, until).1,
+        }
     }
 
-    /// A row's lock, of the intentions above which the session takes care.
+    /// A row's lock; what has to be held above it is the session's to lock. Behind a sleep that was
+    /// granted the row is asked for again, in the same hold of the latch. Where that is refused, for want
+    /// of memory or of numbers, its keys may be others: the row is held, and they are looked at again.
     pub(crate) fn lock_row(
         &self,
         txn: Txn,
@@ -297,30 +309,37 @@ impl Table {
         keys: &[u64],
         mode: Mode,
         until: Option<Instant>,
-    ) -> Result<Mode, Stop> {
-        self.lock_by(txn, mode, until, |m| {
-            let (asked, node, told) = m.lock_row(txn, row, keys, mode)?;
-            Ok((asked, node, !told.is_empty()))
-        })
+    ) -> Result<RowLocked, Stop> {
+        let mut guarded = self.guarded();
+        let (asked, node) = self.ask_row(&mut guarded, txn, row, keys, mode)?;
+        match asked {
+            RowAsked::Granted(mode) => Ok(RowLocked::Own(mode)),
+            RowAsked::OtherKeys(mode) => Ok(RowLocked::OtherKeys(mode)),
+            RowAsked::Victim => Err(Stop::Victim),
+            RowAsked::Waiting => {
+                let (mut guarded, end) = self.sleep(guarded, txn, node, mode, until);
+                let held = end?;
+                match self.ask_row(&mut guarded, txn, row, keys, mode) {
+                    Ok((RowAsked::Granted(_), _)) => Ok(RowLocked::Own(held)),
+                    _ => Ok(RowLocked::OtherKeys(held)),
+                }
+            }
+        }
     }
 
-    /// Asks for a lock, which answers its node and whether somebody is told. Wakes whom it tells, and
-    /// sleeps where it has to be waited for.
-    fn lock_by(
+    /// Asks for a row, and wakes whom that tells.
+    fn ask_row(
         &self,
+        guarded: &mut Guarded,
         txn: Txn,
+        row: Row,
+        keys: &[u64],
         mode: Mode,
-        until: Option<Instant>,
-        ask: impl FnOnce(&mut Manager) -> Result<(Asked, Node, bool), Refusal>,
-    ) -> Result<Mode, Stop> {
-        let mut guarded = self.guarded();
-        let (asked, node, tells) = ask(&mut guarded.manager)?;
-        self.wake_behind(&mut guarded, tells, asked == Asked::Waiting);
-        match asked {
-            Asked::Granted(mode) => Ok(mode),
-            Asked::Victim => Err(Stop::Victim),
-            Asked::Waiting => self.sleep(guarded, txn, node, mode, until).1,
-        }
+    ) -> Result<(RowAsked, Node), Refusal> {
+        let (asked, node, told) = guarded.manager.lock_row(txn, row, keys, mode)?;
+        let tells = !told.is_empty();
+        self.wake_behind(guarded, tells, asked == RowAsked::Waiting);
+        Ok((asked, node))
     }
 
     /// A path in one hold of the latch, but for the sleeps.

@@ -4,7 +4,7 @@
 use burlapslate::{
     Asked, Counters, Detect, Escalated, Manager, Mode, Node, Notice, Notices, Refusal,
 };
-use burlapslate::{Options, Reached, Row, Txn, Victims};
+use burlapslate::{Options, Reached, Row, RowAsked, Txn, Victims};
 use std::fmt::Debug;
 
 const ROWS: usize = 10;
@@ -12,7 +12,7 @@ const TXNS: usize = 6;
 const STEPS: usize = 1000;
 const BOUNDS: [u64; 3] = [60, 120, 180];
 
-/// A file with an index, made the same way for both engines.
+/// A file with an index, made the same way for both engines, but that it is one of rows or of records.
 struct Store {
     manager: Manager,
     file: Node,
@@ -23,10 +23,13 @@ struct Store {
 }
 
 impl Store {
-    fn new(options: Options) -> Store {
+    fn new(
+        options: Options,
+        add_file: fn(&mut Manager, &[Node]) -> Result<Node, Refusal>,
+    ) -> Store {
         let mut manager = Manager::with_options(options).unwrap();
         let root = manager.add_inner(&[]).unwrap();
-        let file = manager.add_file(&[root]).unwrap();
+        let file = add_file(&mut manager, &[root]).unwrap();
         let index = manager.add_index(&[root], file, &BOUNDS).unwrap();
         let intervals = (0..=BOUNDS.len()).map(|i| manager.interval(index, i).unwrap());
         let frame = [root, file, index].into_iter().chain(intervals).collect();
@@ -89,6 +92,12 @@ impl Engine for Numbers {
     fn lock(&mut self, txn: Txn, row: usize, mode: Mode) -> Came<Asked> {
         let (name, keys) = (self.row(row), [self.0.keys[row]]);
         let (asked, _, told) = self.0.manager.lock_row(txn, name, &keys, mode)?;
+        let asked = match asked {
+            RowAsked::Granted(mode) => Asked::Granted(mode),
+            RowAsked::Waiting => Asked::Waiting,
+            RowAsked::Victim => Asked::Victim,
+            RowAsked::OtherKeys(_) => panic!("the keys are the row's own"),
+        };
         with(asked, told)
     }
 
@@ -366,8 +375,8 @@ impl Dice {
 
 /// Plays with these dice, and answers what the engines counted.
 fn play(options: Options, seed: u64) -> Counters {
-    let mut numbers = Numbers(Store::new(options));
-    let mut nodes = Nodes::new(Store::new(options));
+    let mut numbers = Numbers(Store::new(options, Manager::add_row_file));
+    let mut nodes = Nodes::new(Store::new(options, Manager::add_file));
     let first = frame_in_ix(&mut numbers.0); // As the other has it, so that both count the same.
     let _ = numbers.0.manager.commit(first).unwrap();
     let mut dice = Dice(seed);

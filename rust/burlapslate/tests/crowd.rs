@@ -4,7 +4,7 @@
 //! back.
 
 use burlapslate::{
-    Board, Detect, Mode, Node, Refusal, Row, Session, Stop, Table, Txn, Victims, SLOTS,
+    Board, Detect, Mode, Node, Refusal, Row, RowLocked, Session, Stop, Table, Txn, Victims, SLOTS,
 };
 use std::sync::atomic::{AtomicBool, AtomicU64, Ordering};
 use std::sync::Mutex;
@@ -23,6 +23,9 @@ struct Crowd {
     areas: [Node; 2],
     files: [Node; 2],
     indexes: [Node; 2],
+    /// Files of rows, with an index each.
+    row_files: [Node; 2],
+    row_indexes: [Node; 2],
     accounts: [Node; ACCOUNTS],
     /// What was added, by those who held the account in X.
     added: [AtomicU64; ACCOUNTS],
@@ -37,9 +40,12 @@ impl Crowd {
         let root = table.add_inner(&[])?;
         let areas = [table.add_inner(&[root])?, table.add_inner(&[root])?];
         let files = [table.add_file(&[areas[0]])?, table.add_file(&[areas[1]])?];
-        let mut indexes = [root; 2];
+        let mut row_files = [root; 2];
+        let (mut indexes, mut row_indexes) = ([root; 2], [root; 2]);
         for i in 0..2 {
             indexes[i] = table.add_index(&[areas[i]], files[i], &[100, 200])?;
+            row_files[i] = table.add_row_file(&[areas[i]])?;
+            row_indexes[i] = table.add_index(&[areas[i]], row_files[i], &[100, 200])?;
         }
         let mut accounts = [root; ACCOUNTS];
         for account in &mut accounts {
@@ -61,6 +67,8 @@ impl Crowd {
             areas,
             files,
             indexes,
+            row_files,
+            row_indexes,
             accounts,
             added: [const { AtomicU64::new(0) }; ACCOUNTS],
             records: Mutex::new(records),
@@ -95,12 +103,13 @@ impl Member<'_> {
 
     fn node(&mut self) -> Node {
         let (i, account) = (self.pick(2), self.pick(ACCOUNTS));
-        match self.pick(6) {
+        match self.pick(7) {
             0 => self.crowd.root,
             1 => self.crowd.areas[i],
             2 => self.crowd.files[i],
             3 => self.crowd.indexes[i],
             4 => self.crowd.accounts[account],
+            5 => self.crowd.row_files[i],
             _ => self.record(),
         }
     }
@@ -143,20 +152,38 @@ impl Member<'_> {
         Ok(())
     }
 
-    /// A row by its number, whose key is the same for good, with the intentions above it.
-    fn row(&mut self, session: &mut Session<'_>, mode: Mode) -> Result<(), Stop> {
-        let (i, number) = (self.pick(2), self.pick(ROWS) as u64);
-        let (file, key) = (self.crowd.files[i], number * 29);
-        let index = self.crowd.indexes[i];
+    /// What is held above a row with this key, and above the row's node where that has another.
+    fn above_row(&mut self, session: &mut Session<'_>, i: usize, key: u64) -> Result<(), Stop> {
+        let index = self.crowd.row_indexes[i];
         let interval = self.crowd.table.with(|m| m.interval_of(index, key))?;
         self.path(session, interval, Mode::IX)?;
-        self.path(session, file, Mode::IX)?;
-        let row = Row { file, number };
-        if self.pick(4) != 0 {
-            return session.lock_row(row, &[key], mode).map(drop);
+        self.path(session, self.crowd.row_files[i], Mode::IX)?;
+        Ok(())
+    }
+
+    /// A row by its number, with one of two keys. Where its node has the other one the row is rekeyed, or
+    /// given back where it is held to be read.
+    fn row(&mut self, session: &mut Session<'_>, mode: Mode) -> Result<(), Stop> {
+        let (i, number) = (self.pick(2), self.pick(ROWS) as u64);
+        let key = number * 29 + [0, 0, 100][self.pick(3)];
+        let row = Row {
+            file: self.crowd.row_files[i],
+            number,
+        };
+        self.above_row(session, i, key)?;
+        let locked = if self.pick(4) != 0 {
+            session.lock_row(row, &[key], mode)
+        } else {
+            let time = Duration::from_micros(200 + self.pick(2000) as u64);
+            session.lock_row_timeout(row, &[key], mode, time)
+        };
+        match locked? {
+            RowLocked::Own(_) => Ok(()),
+            RowLocked::OtherKeys(Mode::X) => {
+                Ok(session.rekey_row(row, self.crowd.row_indexes[i], key)?)
+            }
+            RowLocked::OtherKeys(_) => Ok(session.unlock_row(row)?),
         }
-        let time = Duration::from_micros(200 + self.pick(2000) as u64);
-        session.lock_row_timeout(row, &[key], mode, time).map(drop)
     }
 
     fn rekey(&mut self, session: &mut Session<'_>) -> Result<(), Stop> {
@@ -210,7 +237,7 @@ impl Member<'_> {
             16 | 17 => self.row(session, mode)?,
             18 => {
                 let (i, number) = (self.pick(2), self.pick(ROWS) as u64);
-                let file = self.crowd.files[i];
+                let file = self.crowd.row_files[i];
                 session.unlock_row(Row { file, number })?;
             }
             9 | 10 => {
@@ -311,7 +338,7 @@ fn play(detect: Detect, victims: Victims) {
         assert_eq!(m.transactions().count(), 0);
         assert_eq!(m.group(crowd.root), Ok(Mode::NL));
         for (file, number) in crowd
-            .files
+            .row_files
             .iter()
             .flat_map(|file| (0..ROWS).map(move |i| (*file, i)))
         {

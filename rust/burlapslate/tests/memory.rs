@@ -8,7 +8,7 @@
 
 mod common;
 
-use burlapslate::{Detect, Manager, Mode, Node, Notice, Refusal, Txn, SLOTS};
+use burlapslate::{Detect, Manager, Mode, Node, Notice, Refusal, Row, RowAsked, Txn, SLOTS};
 use common::{at_block, begin, grant, manager, store, wait};
 use std::cell::Cell;
 use std::ffi::c_void;
@@ -206,6 +206,14 @@ fn play(n: usize) -> bool {
             m.move_node(txn, inner, &[root]).map(|_| ())
         });
     }
+    let file = in_spite(&mut m, left, |m| m.add_row_file(&[root]));
+    in_spite(&mut m, left, |m| m.try_lock(txn, file, Mode::IX));
+    for number in 0..10 {
+        let row = Row { file, number };
+        in_spite(&mut m, left, |m| {
+            m.lock_row(txn, row, &[], Mode::X).map(|_| ())
+        });
+    }
     *left == Refused::None
 }
 
@@ -264,6 +272,30 @@ fn a_settle_takes_none() {
     );
     let settled = without_memory(|| m.settle(a).map(told));
     assert_eq!(settled, Ok([Some(Notice::Victim { txn: b }), None, None]));
+}
+
+#[test]
+fn rows_take_none_but_to_be_locked() {
+    let (mut m, root) = at_block();
+    let file = m.add_row_file(&[root]).unwrap();
+    let index = m.add_index(&[root], file, &[]).unwrap();
+    let [a, b] = begin(&mut m);
+    let interval = m.interval(index, 0).unwrap();
+    for txn in [a, b] {
+        grant(&mut m, txn, &[root, file, index, interval], Mode::IX);
+    }
+    let row = Row { file, number: 7 };
+    let (asked, node, _) = m.lock_row(a, row, &[1], Mode::X).unwrap();
+    assert_eq!(asked, RowAsked::Granted(Mode::X));
+    let rekeyed = without_memory(|| m.rekey_row(a, row, index, 2).map(told));
+    assert_eq!(rekeyed, Ok([None; 3]));
+    let (asked, ..) = m.lock_row(b, row, &[2], Mode::X).unwrap();
+    assert_eq!(asked, RowAsked::Waiting);
+    let committed = without_memory(|| m.commit_rows(a).map(told));
+    assert_eq!(committed, Ok(granted(b, node, Mode::X)));
+    let unlocked = without_memory(|| m.unlock_row(b, row).map(told));
+    assert_eq!(unlocked, Ok([None; 3]));
+    assert_eq!(m.row_node(row), None);
 }
 
 #[test]

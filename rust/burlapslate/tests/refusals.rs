@@ -3,7 +3,7 @@
 
 mod common;
 
-use burlapslate::{Asked, Detect, Manager, Mode, Node, Refusal, Txn, SLOTS};
+use burlapslate::{Asked, Detect, Manager, Mode, Node, Refusal, Row, RowAsked, Txn, SLOTS};
 use common::{ask, at_block, begin, grant, refused_lock, store, wait, Store};
 
 /// What each command of a transaction on a node is refused with.
@@ -219,8 +219,61 @@ fn keys() {
     assert_eq!(m.insert(a, s.file, &[1, 2]), Err(Refusal::BadKeys));
 }
 
+/// On a file of rows nothing is done by nodes, and on no other node anything by numbers.
 #[test]
-fn rows() {
+fn files_of_rows() {
+    let (mut m, root) = at_block();
+    let s = store(&mut m, root);
+    let file = m.add_row_file(&[root]).unwrap();
+    let [a] = begin(&mut m);
+    grant(&mut m, a, &[root, file], Mode::IX);
+    let row = Row { file, number: 7 };
+    let (asked, node, _) = m.lock_row(a, row, &[], Mode::X).unwrap();
+    assert_eq!(asked, RowAsked::Granted(Mode::X));
+    let accepted = m.accepted();
+    for txn in [a, Txn::NONE] {
+        assert_eq!(m.insert(txn, file, &[]), Err(Refusal::RowsByNumber));
+        assert_eq!(m.delete(txn, node).unwrap_err(), Refusal::RowsByNumber);
+        let rekeyed = m.rekey(txn, node, s.index, 1).map(drop);
+        assert_eq!(rekeyed, Err(Refusal::RowsByNumber));
+    }
+    assert_eq!(m.adopt(file, &[]), Err(Refusal::RowsByNumber));
+    assert_eq!(m.forget(node), Err(Refusal::RowsByNumber));
+    for file in [s.file, s.below, root, Node::NONE] {
+        let other = Row { file, number: 7 };
+        let asked = m.lock_row(Txn::NONE, other, &[1, 2], Mode::NL).map(drop);
+        assert_eq!(asked, Err(Refusal::NotRows));
+        assert_eq!(m.unlock_row(a, other).unwrap_err(), Refusal::NotRows);
+        let rekeyed = m.rekey_row(a, other, s.index, 1).map(drop);
+        assert_eq!(rekeyed, Err(Refusal::NotRows));
+        assert_eq!(m.row_node(other), None);
+    }
+    assert_eq!((m.accepted(), m.row_node(row)), (accepted, Some(node)));
+}
+
+/// A row that gets a node is refused in this order, and a refusal changes nothing: not even that the file
+/// may get an index.
+#[test]
+fn locks_of_rows() {
+    let (mut m, root) = at_block();
+    let file = m.add_row_file(&[root]).unwrap();
+    let [a] = begin(&mut m);
+    let row = Row { file, number: 7 };
+    let before = (m.accepted(), m.counters());
+    let mut refused = |txn, keys: &[u64], mode| m.lock_row(txn, row, keys, mode).unwrap_err();
+    assert_eq!(refused(Txn::NONE, &[1], Mode::NL), Refusal::NoSuchTxn);
+    assert_eq!(refused(a, &[1], Mode::NL), Refusal::BadKeys);
+    assert_eq!(refused(a, &[], Mode::IX), Refusal::BadMode);
+    assert_eq!(refused(a, &[], Mode::X), Refusal::NeedParents(file));
+    assert_eq!((m.accepted(), m.counters()), before);
+    assert_eq!(m.unlock_row(a, row).unwrap_err(), Refusal::NoSuchNode);
+    let rekeyed = m.rekey_row(a, row, file, 1).map(drop);
+    assert_eq!(rekeyed, Err(Refusal::NoSuchNode));
+    assert!(m.add_index(&[root], file, &[]).is_ok());
+}
+
+#[test]
+fn adopted_records() {
     let (mut m, root) = at_block();
     let file = m.add_file(&[root]).unwrap();
     let [a] = begin(&mut m);

@@ -2,8 +2,8 @@
 //! watchers and listings.
 
 use burlapslate::{
-    Board, Detect, Doing, Mode, Node, Refusal, Session, Stop, Table, Txn, Victims, Wait, Watcher,
-    MOST_WATCHERS, SLOTS,
+    Board, Detect, Doing, Mode, Node, Refusal, Row, RowLocked, Session, Stop, Table, Txn, Victims,
+    Wait, Watcher, MOST_WATCHERS, SLOTS,
 };
 use std::sync::mpsc;
 use std::thread;
@@ -449,4 +449,67 @@ fn what_threads_may_do() {
     fn is_shared<T: Sync>() {}
     goes::<(Table, Session<'_>, Watcher, Stop)>();
     is_shared::<(Table, Session<'_>, Watcher, Stop)>();
+}
+
+/// A file of rows under a root, with an index of two intervals, parted at 100.
+struct Rows {
+    table: Table,
+    row: Row,
+    index: Node,
+}
+
+impl Rows {
+    fn new() -> Rows {
+        let table = Table::new(Detect::AtBlock, SLOTS).unwrap();
+        let root = table.add_inner(&[]).unwrap();
+        let file = table.add_row_file(&[root]).unwrap();
+        let index = table.add_index(&[root], file, &[100]).unwrap();
+        let row = Row { file, number: 7 };
+        Rows { table, row, index }
+    }
+
+    /// A session that may write rows in both intervals.
+    fn begin(&self) -> Session<'_> {
+        let mut session = self.table.begin().unwrap();
+        for key in [50, 150] {
+            let interval = self.table.with(|m| m.interval_of(self.index, key)).unwrap();
+            assert_eq!(session.lock_path(interval, Mode::IX), Ok(Mode::IX));
+        }
+        assert_eq!(session.lock_path(self.row.file, Mode::IX), Ok(Mode::IX));
+        session
+    }
+
+    /// What one who asks for the row by this key in a thread is answered, once the first has ended.
+    fn behind(&self, key: u64, end: impl FnOnce(Session<'_>)) -> RowLocked {
+        let (mut first, mut other) = (self.begin(), self.begin());
+        let held = first.lock_row(self.row, &[50], Mode::X);
+        assert_eq!(held, Ok(RowLocked::Own(Mode::X)));
+        let name = other.txn();
+        thread::scope(|scope| {
+            let asked = scope.spawn(move || other.lock_row(self.row, &[key], Mode::X));
+            while self.table.with(|m| m.waiting(name)).is_none() {
+                thread::sleep(Duration::from_micros(50));
+            }
+            end(first);
+            asked.join().unwrap().unwrap()
+        })
+    }
+}
+
+/// Who waits for a row hears behind its sleep whether the keys are those of the row's node.
+#[test]
+fn rows_that_are_slept_for() {
+    let rows = Rows::new();
+    let (own, others) = (RowLocked::Own(Mode::X), RowLocked::OtherKeys(Mode::X));
+    assert_eq!(rows.behind(50, |first| first.commit().unwrap()), own);
+    assert_eq!(rows.behind(50, |first| first.abort()), own);
+    assert_eq!(rows.behind(150, |first| first.abort()), others);
+    for (key, answer) in [(50, others), (150, own)] {
+        let moved = rows.behind(key, |mut first| {
+            first.rekey_row(rows.row, rows.index, 150).unwrap();
+            first.commit().unwrap();
+        });
+        assert_eq!(moved, answer);
+    }
+    assert_eq!(rows.table.row_node(rows.row), None);
 }

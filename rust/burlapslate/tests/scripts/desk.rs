@@ -435,5 +435,6 @@ fn number(refusal: Refusal) -> u32 {
         Refusal::BadNumber => panic!("a script with more than eight parents is not played here"),
         Refusal::TooManyWatchers => panic!("a script has no watcher"),
         Refusal::RecordInUse => panic!("a script forgets no row"),
+        Refusal::RowsByNumber | Refusal::NotRows => panic!("a script has no file of rows"),
     }
 }

@@ -1,6 +1,6 @@
-use Rattle.std.proofs.Common.{rules, arith, ◌≡◌, ◌≤◌, ◌<◌, ◌||◌, ◌==◌, ℕ, Bool, true, false, ap, subst, sym, List}
+use Rattle.std.proofs.Common.{arith, ◌≡◌, ◌≤◌, ◌<◌, ◌||◌, ◌==◌, ℕ, Bool, true, false, ap, subst, sym, ◌∙◌, List}
 use Rattle.std.specs.List.{list_any}
-use Rattle.std.specs.Prelude.{IfSome}
+use Rattle.std.specs.Prelude.{IfSome, Some}
 use Rattle.gl_waits.specs.Sets.{has_slot}
 use Rattle.gl_model.specs.declared.answers.Detect.{Detect}
 use Rattle.gl_model.specs.declared.answers.Notice.{Notice}
@@ -10,6 +10,8 @@ use Rattle.gl_model.specs.State.{State}
 use Rattle.gl_model.specs.Tellings.{Told}
 use Rattle.gl_catalog.specs.Manager.{state_of}
 use Rattle.gl_catalog.proofs.Detection.{steps_keep_detect}
+use Rattle.gl_registry.specs.Rows.{RegistryView}
+use Rattle.gl_registry.specs.Serving.{touches_rows}
 use Rattle.gl_boxes.specs.Boxes.{Delivers, Slot, emptied}
 use Rattle.gl_boxes.specs.Served.{RisingTo, accepts, names_slot}
 use Rattle.gl_boxes.specs.Strip.{Strip}
@@ -19,52 +21,69 @@ use Rattle.gl_boxes.proofs.Rising.{step_rises}
 use Rattle.gl_boxes.proofs.Serving.{step_counts}
 use Rattle.gl_boxes.proofs.Waking.{wakes_told}
 use Rattle.gl_c.specs.Guarded.{GuardedView}
-use Rattle.gl_c.specs.Serving.{Applies, Serves, ShowsOn}
-use Rattle.gl_c.specs.Sound.{view_of}
-use Rattle.gl_c.proofs.Serving.{serves_not, serves_yes}
+use Rattle.gl_c.specs.Serving.{ServesNodes, ShowsOn}
+use Rattle.gl_c.specs.Sound.{IsSound, view_of}
+use Rattle.gl_c.proofs.Serving.{Made, made, same_registry, serves_not, serves_some, serves_yes}
 use Rattle.gl_c.proofs.Showing.{later_epoch}
 use Rattle.gl_c.proofs.guarded.Guarded.serve.Goals as goal
 
-pub invariant_of-self : goal.invariant_of-self
-invariant_of-self c =
-    let not_so : accepts c.args.command c.apply_telling-answer.result ≡ false = search rules in
-    let same = c.apply_telling-answer.ensures.same (ap (λ (s : State). s.accepted)
-    ((step_counts _ _ _ _ _ c.apply_telling-answer.ensures.step).not_accepted not_so).0) in
-    rw same c.self.invariant
+-- it is not accepted
+
+unaccepted : (c : goal.Then-not-is_accepted) → accepts c.args.command c.in-Some.answer ≡ false
+unaccepted c = sym c.is_accepted.ensures ∙ c.if-not-is_accepted.true
+
+made_not : (c : goal.Then-not-is_accepted) → Made c.self.inside.registry c.args.command c.in-Some.answer c.serve.new.told.items c.serve.new.self
+made_not c =
+    made c.self.inside.registry c.serve.new.self c.args.command c.in-Some.answer c.serve.new.told.items
+    c.in-Some.ensures
+
+same : (c : goal.Then-not-is_accepted) → c.serve.new.self.manager ≡ c.self.inside.registry.manager
+same c =
+    let applies = (made_not c).applies in
+    applies.same (ap (λ (s : State). s.accepted) ((step_counts _ _ _ _ _ applies.step).not_accepted (unaccepted c)).0)
+
+pub invariant_of-self-then-not-is_accepted : goal.invariant_of-self-then-not-is_accepted
+invariant_of-self-then-not-is_accepted c =
+    subst (λ (v : RegistryView). IsSound (record c.self.inside { registry = v }))
+    (same_registry c.serve.new.self c.self.inside.registry (same c) (made_not c).rows) c.self.invariant
 
 pub returns-then-not-is_accepted : goal.returns-then-not-is_accepted
 returns-then-not-is_accepted c =
-    let e = c.apply_telling-answer.ensures in
-    let not_so : accepts c.args.command c.apply_telling-answer.result ≡ false = search rules in
-    let still = (step_counts _ _ _ _ _ e.step).not_accepted not_so in
-    let same = e.same (ap (λ (s : State). s.accepted) still.0) in
-    let applies : Applies c.self.inside.manager c.args.command c.apply_telling-answer.result c.apply_telling-answer.new.told.items
-    c.apply_telling-answer.new.self =
-    record { step = e.step; caller = e.caller; others = e.others; settles = e.settles; deadlock = e.deadlock; counters = e.counters; same = e.same } in
-    subst (λ (v : GuardedView). Serves v c.args.command c.apply_telling-answer.result c.apply_telling-answer.new.told.items
-    (record (view_of c.self.inside) { manager = c.apply_telling-answer.new.self })) c.self.view_is
-    (serves_not (view_of c.self.inside) c.args.command c.apply_telling-answer.result c.apply_telling-answer.new.told.items c.apply_telling-answer.new.self
-    applies not_so still.1 same c.self.invariant.quiet)
+    let h = made_not c in
+    let told = c.serve.new.told.items in
+    let still = (step_counts _ _ _ _ _ h.applies.step).not_accepted (unaccepted c) in
+    subst (λ (v : GuardedView). ServesNodes v c.args.command (Some c.in-Some.answer) told
+    (record (view_of c.self.inside) { manager = c.serve.new.self.manager; rows = c.serve.new.self.rows })) c.self.view_is
+    (serves_some (touches_rows c.self.inside.registry c.args.command) (view_of c.self.inside)
+    (record (view_of c.self.inside) { manager = c.serve.new.self.manager; rows = c.serve.new.self.rows }) c.args.command c.in-Some.answer told h.untouched
+    (serves_not (view_of c.self.inside) c.args.command c.in-Some.answer told c.serve.new.self h.applies (unaccepted c) still.1 (same c) h.rows
+    c.self.invariant.quiet))
+
+-- it is
 
 pub deliver-requires : goal.deliver-requires
 deliver-requires c =
-    subst (λ (l : List (TxnId × Notice)). RisingTo 0 l 128) (sym c.as_slice.ensures.value)
-    (step_rises _ _ _ _ _ c.law.ensures.few c.apply_telling-answer.ensures.step)
+    let h = made c.self.inside.registry c.serve.new.self c.args.command c.in-Some.answer
+    c.serve.new.told.items c.in-Some.ensures in
+    subst (λ (l : List (TxnId × Notice)). RisingTo 0 l 128) (sym c.as_slice.ensures.value) (step_rises _ _ _ _ _ c.law.ensures.manager.few h.applies.step)
 
 pub ended_by-self-inside-requires : goal.ended_by-self-inside-requires
 ended_by-self-inside-requires c =
-    subst (λ (l : List (TxnId × Notice)). RisingTo 0 l 128) (sym c.as_slice-2.ensures.value)
-    (step_rises _ _ _ _ _ c.law.ensures.few c.apply_telling-answer.ensures.step)
+    let h = made c.self.inside.registry c.serve.new.self c.args.command c.in-Some.answer
+    c.serve.new.told.items c.in-Some.ensures in
+    subst (λ (l : List (TxnId × Notice)). RisingTo 0 l 128) (sym c.as_slice-2.ensures.value) (step_rises _ _ _ _ _ c.law.ensures.manager.few h.applies.step)
 
 pub invariant_of-self-2 : goal.invariant_of-self-2
 invariant_of-self-2 c =
-    let so : accepts c.args.command c.apply_telling-answer.result ≡ true = search rules in
-    let step = c.apply_telling-answer.ensures.step in
+    let h = made c.self.inside.registry c.serve.new.self c.args.command c.in-Some.answer
+    c.serve.new.told.items c.in-Some.ensures in
+    let so : accepts c.args.command c.in-Some.answer ≡ true = sym c.is_accepted.ensures ∙ c.if-not-is_accepted.false in
+    let step = h.applies.step in
     let more = (step_counts _ _ _ _ _ step).accepted so in
-    let low : c.self.inside.manager.accepted ≤ c.apply_telling-answer.new.self.accepted = omega (arith, more) in
-    let way : c.apply_telling-answer.new.self.table.detect ≡ c.self.inside.manager.table.detect = steps_keep_detect _ _ _ _ _ step in
+    let low : c.self.inside.registry.manager.accepted ≤ c.serve.new.self.manager.accepted = omega (arith, more) in
+    let way : c.serve.new.self.manager.table.detect ≡ c.self.inside.registry.manager.table.detect = steps_keep_detect _ _ _ _ _ step in
     record {
-      epoch = later_epoch c.self.inside.publisher c.self.inside.manager.accepted c.apply_telling-answer.new.self.accepted low c.self.invariant.epoch;
+      epoch = later_epoch c.self.inside.publisher c.self.inside.registry.manager.accepted c.serve.new.self.manager.accepted low c.self.invariant.epoch;
       detect = subst (λ (d : Detect). IfSome c.self.inside.publisher (λ (p : Strip). p.detect ≡ d)) (sym way) c.self.invariant.detect;
       quiet = λ e. (
         nobody_on _ _ c.self.inside.waited c.leaves_waiting.result _ _ _ c.leaves_waiting.ensures (λ is. (c.self.invariant.quiet is).0) step e,
@@ -74,26 +93,25 @@ invariant_of-self-2 c =
 
 pub returns : goal.returns
 returns c =
-    let e = c.apply_telling-answer.ensures in
-    let told = c.apply_telling-answer.new.told.items in
-    let answer = c.apply_telling-answer.result in
-    let so : accepts c.args.command answer ≡ true = search rules in
-    let applies : Applies c.self.inside.manager c.args.command answer told c.apply_telling-answer.new.self =
-    record { step = e.step; caller = e.caller; others = e.others; settles = e.settles; deadlock = e.deadlock; counters = e.counters; same = e.same } in
+    let told = c.serve.new.told.items in
+    let answer = c.in-Some.answer in
+    let m = c.serve.new.self.manager in
+    let h = made c.self.inside.registry c.serve.new.self c.args.command answer told c.in-Some.ensures in
+    let so : accepts c.args.command answer ≡ true = sym c.is_accepted.ensures ∙ c.if-not-is_accepted.false in
     let ended = c.ended_by-self-inside.result in
-    subst (λ (v : GuardedView). Serves v c.args.command answer told c.show_if_due.new.self) c.self.view_is
-    (serves_yes (view_of c.self.inside) c.show_if_due.new.self c.args.command answer told c.apply_telling-answer.new.self c.deliver.new.self ended applies so
+    subst (λ (v : GuardedView). ServesNodes v c.args.command (Some answer) told c.show_if.new.self) c.self.view_is
+    (serves_some (touches_rows c.self.inside.registry c.args.command) (view_of c.self.inside) c.show_if.new.self c.args.command answer told h.untouched
+    (serves_yes (view_of c.self.inside) c.show_if.new.self c.args.command answer told c.serve.new.self c.deliver.new.self ended h.applies so h.rows
     (cleared_yes c.args.command answer told c.self.inside.boxes c.deliver.new.self so
     (subst (λ (l : Told). (mid : List Slot) × Delivers c.self.inside.boxes l mid × (c.deliver.new.self ≡ emptied c.args.command mid))
     c.as_slice.ensures.value c.deliver.ensures.told))
-    c.show_if_due.ensures.kept
+    c.show_if.ensures.kept
     (record {
-      all = wakes_told c.args.command _ told ended c.as_slice-2.ensures.value c.ended_by-self-inside.ensures.all _ _ answer e.step;
+      all = wakes_told c.args.command _ told ended c.as_slice-2.ensures.value c.ended_by-self-inside.ensures.all _ _ answer h.applies.step;
       slots = subst (λ (l : List (TxnId × Notice)). (u : ℕ) → u < 128
           → has_slot ended u ≡ (names_slot c.args.command u || list_any (λ (x : TxnId × Notice). x.0.slot == u) l))
           c.as_slice-2.ensures.value c.ended_by-self-inside.ensures.slots;
     })
-    (subst (λ (b : Bool).
-    ShowsOn (c.self.inside.waited || b) (board_of (state_of c.apply_telling-answer.new.self)) c.self.inside.publisher c.show_if_due.new.self.shown)
-    c.leaves_waiting.ensures c.show_if_due.ensures.shown)
-    c.show_if_due.ensures.quiet)
+    (subst (λ (b : Bool). ShowsOn (c.self.inside.waited || b) (board_of (state_of m)) c.self.inside.publisher c.show_if.new.self.shown)
+    c.leaves_waiting.ensures c.show_if.ensures.shown)
+    c.show_if.ensures.quiet))
