@@ -1,18 +1,25 @@
 #!/usr/bin/env python3
-"""wrong_bodies.py [--jobs N] [--share K/N] [--named] [CRATE | CRATE/NAME]..: tries wrong bodies, those in must-fail/ and
-those in wrong/.
+"""wrong_bodies.py [--jobs N] [--named] [--by-turns] [--share K/N] [CRATE | CRATE/NAME]..: tries wrong bodies, those in
+must-fail/ and those in wrong/.
 
-Each is an edit of code that the crate's contracts must refuse. It is applied to a copy of the crate, and the functions
-that it changes are checked over the proved libraries that `rt ci` has left; where they pass, the whole crate is. Prints
-a line for each: `refused` with the function that is not proved, `not refused`, or `bad` where it cannot be applied or
-read. The last line is 'N refused, M not refused, of K'; M counts all that were not refused. The status is 1 unless M is 0.
+Each is an edit of code that the crate's contracts must refuse. Edits of different functions are applied to one copy of
+their crate, and the functions that they change are checked over the proved libraries that `rt ci` has left. Where these
+pass, their callers are checked, and then the whole crate, with one edit at a time. Prints a line for each: `refused`
+with the function that is not proved, `not refused`, or `bad` where it cannot be applied or read. The last line is 'N
+refused, M not refused, of K'; M counts all that were tried and not refused. The status is 1 unless M is 0.
 
-With --share K/N only those are tried whose names have the K-th of N shares, by their checksums: N runs with each K try
-all. With --named those alone that docs/PROMISES.md names and that `rt ci` does not try, since they stand in wrong/.
+Without a choice all are tried. Choices add up, and leave out what stands in must-fail/, which `rt ci` tries:
+--named     those that docs/PROMISES.md names;
+--by-turns  a tenth, chosen by the sum of all crates' files; and those of crates whose code or specs differ from the last
+            tag, or where there is none from the commit before;
+--share K/N the K-th of N shares: N runs try all.
 Proofs run side by side, one a processor where 3 GB are free for each."""
 import concurrent.futures, hashlib, os, re, shutil, subprocess, sys, tempfile
 
 TOP = os.path.dirname(os.path.dirname(os.path.abspath(__file__)))
+# As many edits at most stand in one copy: more save little, and fewer end sooner side by side.
+TOGETHER = 8
+TURNS = 10
 
 
 def kit():
@@ -40,10 +47,40 @@ def crates():
 CRATES = crates()
 
 
-def read_edit(file):
-    """The pairs (file, old, new) of an edit."""
+# Edits.
+
+
+class Edit:
+    """A wrong body: its crate, its name, where it stands, and its pairs (file, old, new). `why` says what is bad."""
+
+    def __init__(self, crate, path):
+        self.crate, self.name, self.path = crate, f"{crate}/{os.path.basename(path)[:-5]}", path
+        self.pairs, self.why, self.functions = pairs_of(path), None, []
+        if not self.pairs:
+            self.why = "it cannot be read"
+            return
+        for file, old, _ in self.pairs:
+            text = open(f"{TOP}/crates/{crate}/{file}", encoding="utf-8").read()
+            if text.count(old) != 1:
+                self.why = f"its text stands {text.count(old)} times in {file}"
+                return
+            self.functions.append(function_at(file, text, text.index(old)))
+        # (what is no function, or a trait's, has no name to check by: the whole crate is)
+        self.functions = [] if None in self.functions else sorted(set(self.functions))
+
+    def apply(self, folder):
+        """Changes the crate's copy; False where its text is not there once, since another edit changed it."""
+        for file, old, new in self.pairs:
+            text = open(f"{folder}/{file}", encoding="utf-8").read()
+            if text.count(old) != 1:
+                return False
+            open(f"{folder}/{file}", "w", encoding="utf-8").write(text.replace(old, new))
+        return True
+
+
+def pairs_of(path):
     pairs, at, old = [], None, None
-    for line in open(file, encoding="utf-8").read().split("\n"):
+    for line in open(path, encoding="utf-8").read().split("\n"):
         if line.startswith("file: "):
             at = line[6:]
         elif line.startswith("old: "):
@@ -52,7 +89,7 @@ def read_edit(file):
             pairs.append((at, old, line[5:]))
         elif line:
             return None
-    return pairs or None
+    return pairs
 
 
 def function_at(file, text, place):
@@ -69,8 +106,23 @@ def function_at(file, text, place):
             return None
         kind = re.sub(r"<[^<>]*>", "", re.sub(r"<[^<>]*>", "", impls[-1].group(0)))
         return f"{kind.split()[-1]}::{head.group(1)}"
-    module = file[:-len(".rt")].split("/")[-1]
+    module = file[: -len(".rt")].split("/")[-1]
     return head.group(1) if module in ("lib", "main") else f"{module}::{head.group(1)}"
+
+
+def callers_of(crate, functions):
+    """The functions of a crate whose text calls one of these by its last name."""
+    call = re.compile(r"\b(?:" + "|".join(it.split("::")[-1] for it in functions) + r")\(")
+    found = set()
+    for folder, _, files in os.walk(f"{TOP}/crates/{crate}/src"):
+        for name in files:
+            file = f"{folder}/{name}"
+            text = open(file, encoding="utf-8").read() if name.endswith(".rt") else ""
+            found |= {function_at(file, text, it.start()) for it in call.finditer(text)}
+    return sorted(found - {None} - set(functions))
+
+
+# Proofs.
 
 
 def words_of(name, folder):
@@ -90,59 +142,83 @@ def words_of(name, folder):
     return words + (["--crate-type", "staticlib"] if "staticlib" in options else [])
 
 
-def check(name, folder, only):
-    words = [f"{KIT}/bin/rattle", "check", *words_of(name, folder)]
-    for path in only:
+def verdicts(crate, folder, functions):
+    """Whether each function of the crate's copy is proved, of these or of all; and the last of what was said."""
+    words = [f"{KIT}/bin/rattle", "check", *words_of(crate, folder)]
+    for path in functions:
         words += ["--only", path]
-    ran = subprocess.run(words, cwd=folder, stdout=subprocess.PIPE, stderr=subprocess.STDOUT, errors="replace", text=True)
-    return ran.stdout
+    ran = subprocess.run(words, cwd=folder, capture_output=True, errors="replace", text=True)
+    said = ran.stdout + ran.stderr
+    broken = re.search(r"^\S+\.rt:\d+:\d+: error\[.*", said, re.M)
+    last = broken.group(0) if broken else (said.strip().splitlines() or ["nothing said"])[-1][:200]
+    lines = [] if broken else re.findall(r"^fn (\S+): (proved|not proved|no proof)", said, re.M)
+    return [(name, what == "proved") for name, what in lines], last
 
 
-def verdict(said):
-    """The first function that is not proved; '' where all are; None where there is no verdict."""
-    lines = re.findall(r"^fn (\S+): (proved|not proved|no proof)", said, re.M)
-    if not lines:
-        return None
-    return next((function for function, what in lines if what != "proved"), "")
-
-
-def attempt(name, edit):
-    """What becomes of a wrong body."""
-    pairs = read_edit(edit)
-    if pairs is None:
-        return "bad", "it cannot be read"
+def in_copy(edits, work):
+    """What work says of a copy of the edits' crate with all of them; None where they do not stand beside each other."""
+    crate = edits[0].crate
     with tempfile.TemporaryDirectory() as scratch:
-        folder = f"{scratch}/{name}"
-        shutil.copytree(f"{TOP}/crates/{name}", folder, ignore=shutil.ignore_patterns("out", "must-fail", "wrong"))
-        paths = []
-        for file, old, new in pairs:
-            text = open(f"{folder}/{file}", encoding="utf-8").read()
-            if text.count(old) != 1:
-                return "bad", f"its text stands {text.count(old)} times in {file}"
-            paths.append(function_at(file, text, text.index(old)))
-            open(f"{folder}/{file}", "w", encoding="utf-8").write(text.replace(old, new))
-        only = [] if None in paths else sorted(set(paths))
-        said = check(name, folder, only)
-        broken = re.search(r"^\S+\.rt:\d+:\d+: error\[.*", said, re.M)
-        if broken:
-            return "bad", broken.group(0)
-        refused = verdict(said)
-        if refused is None:
-            return "bad", f"no verdict on {', '.join(only)}: {(said.strip().splitlines() or ['nothing said'])[-1][:200]}"
-        if not refused and only:
-            refused = verdict(check(name, folder, []))
-        if refused:
-            return "refused", refused
-        return "not refused", ", ".join(only)
+        folder = f"{scratch}/{crate}"
+        shutil.copytree(f"{TOP}/crates/{crate}", folder, ignore=shutil.ignore_patterns("out", "must-fail", "wrong"))
+        return work(folder) if all(it.apply(folder) for it in edits) else None
 
 
-def edits(asked):
-    for name in CRATES:
+def attempt(edit):
+    """What becomes of one wrong body."""
+
+    def by_steps(folder):
+        callers = callers_of(edit.crate, edit.functions) if edit.functions else []
+        for functions in [edit.functions, callers, []] if edit.functions else [[]]:
+            said, last = verdicts(edit.crate, folder, functions)
+            if not said and functions is not callers:
+                return "bad", f"no verdict on {', '.join(functions) or 'the crate'}: {last}"
+            refused = next((name for name, is_proved in said if not is_proved), None)
+            if refused:
+                return "refused", refused
+        return "not refused", ", ".join(edit.functions)
+
+    return in_copy([edit], by_steps)
+
+
+def attempt_all(edits):
+    """What becomes of wrong bodies of one crate that change different functions: together where each is refused so."""
+
+    def at_once(folder):
+        said, _ = verdicts(edits[0].crate, folder, sorted(path for it in edits for path in it.functions))
+        found = {}
+        for it in edits:
+            changes = lambda name, it=it: any(f"::{name}".endswith(f"::{end}") for end in it.functions)
+            lacks = [name for name, is_proved in said if not is_proved and changes(name)]
+            if lacks:
+                found[it] = "refused", lacks[0]
+        return found
+
+    found = (in_copy(edits, at_once) or {}) if len(edits) > 1 else {}
+    return [(it, *(found[it] if it in found else attempt(it))) for it in edits]
+
+
+def grouped(edits):
+    """The edits in groups of one crate whose functions differ."""
+    groups = []
+    for edit in edits:
+        fits = lambda group: group[0].crate == edit.crate and len(group) < TOGETHER and group[0].functions and all(
+            not set(it.functions) & set(edit.functions) for it in group)
+        group = next((it for it in groups if edit.functions and fits(it)), None)
+        group.append(edit) if group else groups.append([edit])
+    return groups
+
+
+# Choices.
+
+
+def every_edit():
+    for crate in CRATES:
         for kind in ("must-fail", "wrong"):
-            folder = f"{TOP}/crates/{name}/{kind}"
+            folder = f"{TOP}/crates/{crate}/{kind}"
             for file in sorted(os.listdir(folder)) if os.path.isdir(folder) else []:
-                if file.endswith(".edit") and (not asked or name in asked or f"{name}/{file[:-5]}" in asked):
-                    yield name, f"{folder}/{file}"
+                if file.endswith(".edit"):
+                    yield Edit(crate, f"{folder}/{file}")
 
 
 def named():
@@ -157,47 +233,80 @@ def named():
     return found
 
 
+def sum_of(words):
+    sum = hashlib.sha256()
+    for it in words:
+        sum.update(it)
+    return int(sum.hexdigest(), 16)
+
+
+def tree():
+    """The sum of all crates' files, out/ aside."""
+    files = [f"{at}/{name}" for at, _, names in os.walk(f"{TOP}/crates") if "/out/" not in f"{at}/" for name in names]
+    return sum_of(word for it in sorted(files) for word in (os.path.relpath(it, TOP).encode(), open(it, "rb").read()))
+
+
+def changed():
+    """The crates whose code or specs differ from the last tag, or else from the commit before."""
+    git = lambda *words: subprocess.run(["git", "-C", TOP, *words], capture_output=True, text=True).stdout
+    tag = git("describe", "--tags", "--abbrev=0").strip()
+    files = git("diff", "--name-only", tag or "HEAD~1", "--", "crates").split("\n")
+    return {it.split("/")[1] for it in files if it.count("/") > 2 and it.split("/")[2] in ("src", "specs")}
+
+
+def is_in_share(edit, turn, turns):
+    return sum_of([edit.name.encode()]) % turns == turn % turns
+
+
+def chosen(every, words):
+    """The edits that the words ask for."""
+    wants, is_gates = [], False
+    while words:
+        word = words.pop(0)
+        if word == "--named":
+            names, is_gates = set(named()), True
+            gone = names - {it.name for it in every}
+            if gone:
+                sys.exit(f"wrong_bodies.py: docs/PROMISES.md names {', '.join(sorted(gone))}, which are not there")
+            wants.append(lambda it, names=names: it.name in names)
+        elif word == "--by-turns":
+            turn, anew, is_gates = tree() % TURNS, changed(), True
+            print(f"wrong_bodies.py: turn {turn} of {TURNS}; changed: {', '.join(sorted(anew)) or 'none'}", flush=True)
+            wants.append(lambda it, turn=turn, anew=anew: is_in_share(it, turn, TURNS) or it.crate in anew)
+        elif word == "--share":
+            turn, turns = (int(it) for it in words.pop(0).split("/"))
+            wants.append(lambda it, turn=turn, turns=turns: is_in_share(it, turn, turns))
+        elif word.startswith("-") or word.split("/")[0] not in CRATES:
+            sys.exit(__doc__)
+        else:
+            wants.append(lambda it, word=word: word in (it.crate, it.name))
+    others = [it for it in every if not (is_gates and "/must-fail/" in it.path)]
+    return [it for it in others if not wants or any(want(it) for want in wants)]
+
+
 def jobs():
     said = subprocess.run([f"{TOP}/tools/jobs.sh"], stdout=subprocess.PIPE, text=True).stdout.strip()
     return int(said) if said else 1
 
 
 def main(words):
-    at_once, share, asked = None, None, []
-    while words:
-        word = words.pop(0)
-        if word == "--jobs":
-            at_once = int(words.pop(0))
-        elif word == "--share":
-            share = tuple(int(it) for it in words.pop(0).split("/"))
-        elif word == "--named":
-            at_hand = {f"{name}/{os.path.basename(file)[:-5]}": file for name, file in edits([])}
-            gone = [it for it in named() if it not in at_hand]
-            if gone:
-                sys.exit(f"wrong_bodies.py: docs/PROMISES.md names {', '.join(gone)}, which are not there")
-            asked += [it for it in named() if "/wrong/" in at_hand[it]]
-        elif word.startswith("-"):
-            sys.exit(__doc__)
-        else:
-            asked.append(word)
-    for it in asked:
-        if it.split("/")[0] not in CRATES:
-            sys.exit(f"wrong_bodies.py: no crate {it.split('/')[0]}")
-    every = list(edits(asked))
-    todo = every
-    if share is not None:
-        number = lambda name, file: int(hashlib.sha256(f"{name}/{os.path.basename(file)}".encode()).hexdigest(), 16)
-        todo = [it for it in every if number(*it) % share[1] == share[0] % share[1]]
+    at_once = None
+    if "--jobs" in words:
+        at = words.index("--jobs")
+        at_once = int(words[at + 1])
+        words = words[:at] + words[at + 2 :]
+    every = list(every_edit())
+    todo = chosen(every, words)
+    ended = [(it, "bad", it.why) for it in todo if it.why]
     refused = 0
     with concurrent.futures.ThreadPoolExecutor(at_once or jobs()) as pool:
-        tries = {pool.submit(attempt, *it): it for it in todo}
-        for ended in concurrent.futures.as_completed(tries):
-            name, file = tries[ended]
-            what, why = ended.result()
-            refused += what == "refused"
-            print(f"{what} {name}/{os.path.basename(file)[:-5]}: {why}", flush=True)
+        groups = [pool.submit(attempt_all, it) for it in grouped([it for it in todo if not it.why])]
+        for group in [ended, *(it.result() for it in concurrent.futures.as_completed(groups))]:
+            for edit, what, why in group:
+                refused += what == "refused"
+                print(f"{what} {edit.name}: {why}", flush=True)
     print(f"{refused} refused, {len(todo) - refused} not refused, of {len(every)}")
-    return 0 if todo and refused == len(todo) or (share is not None and refused == len(todo)) else 1
+    return 0 if refused == len(todo) else 1
 
 
 sys.exit(main(sys.argv[1:]))
