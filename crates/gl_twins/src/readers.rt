@@ -131,7 +131,8 @@ fn rows_beside_a_reader_are_written_and_go(rt: HostRuntime) {
     let mut scene = open(&rt, rt.alloc());
     let (reader, other) = (scene.reader, scene.other);
     for key in 20..24u64 {
-        let parents = scene.named.site.parents(scene.named.manager(), [key, key]);
+        let named = &scene.named;
+        let parents = named.site.parents(named.manager(), [key, key]);
         for node in parents {
             scene.reaches(&rt, other, node, IX);
         }

@@ -103,7 +103,8 @@ impl Standing {
     }
 
     pub fn answer(&mut self, t: TxnId, act: &Act) -> Reply {
-        self.manager.apply(self.command(t, act))
+        let command = self.command(t, act);
+        self.manager.apply(command)
     }
 
     fn command<'a>(&self, t: TxnId, act: &'a Act) -> Command<'a> {

@@ -102,13 +102,15 @@ impl Work {
 
     /// The row with the keys that are said of it: now and then others than its own.
     fn said(&mut self, line: Line) -> Line {
-        let place = line.place;
-        let mut keys = line.keys;
-        if self.draw(4) == 0 {
-            let key = self.draw(KEYS) as u64;
-            keys = with_key(keys, self.draw(2) == 0, key);
+        if self.draw(4) != 0 {
+            return line;
         }
-        Line { place, keys }
+        let key = self.draw(KEYS) as u64;
+        let keys = with_key(line.keys, self.draw(2) == 0, key);
+        Line {
+            place: line.place,
+            keys,
+        }
     }
 
     /// Writes a row. Whether it was granted.

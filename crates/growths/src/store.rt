@@ -94,10 +94,11 @@ impl Store {
         };
         store.db = store.made(Command::Inner { parents: &[] });
         let parents = [store.db];
-        store.file = store.made_file(&parents);
+        let file = store.made_file(&parents);
+        store.file = file;
         store.index = store.made(Command::Index {
             parents: &parents,
-            file: store.file,
+            file,
             bounds: &[100, 200],
         });
         store.standing = store.registry.manager().graph().len();
