@@ -1,12 +1,12 @@
 -- Bits of numbers: union, intersection, one bit more or less, the lowest bit.
-use Rattle.std.proofs.Common.{◌≡◌, ◌≢◌, ℕ, zero, suc, ◌+◌, ◌-◌, ◌*◌, ◌/◌, ◌%◌, ◌^◌, ◌<◌, ◌≤◌, Bool, true, false, not, min, ◌&&◌, ◌||◌, ◌==◌, bit_and, bit_or, ◌⊎◌, ⊎_elim, inl, inr, sym, ap, ◌∙◌, mod-lt, arith}
+use Rattle.std.proofs.Common.{◌≡◌, ◌≢◌, ℕ, zero, suc, ◌+◌, ◌-◌, ◌*◌, ◌/◌, ◌%◌, ◌^◌, ◌<◌, ◌≤◌, Bool, true, false, cond, not, min, ltb, ◌&&◌, ◌||◌, ◌==◌, bit_and, bit_or, ◌⊎◌, ⊎_elim, inl, inr, sym, ap, ◌∙◌, pow-suc, mod-lt, arith}
 use Rattle.std.specs.Int.{bit_at, bit_not, w128}
 use Rattle.std.proofs.Math.Pow.{pow-lt}
 use Rattle.std.proofs.lemmas.Nat.{and_le_l, div-add-mod', one_shl, pow_pos}
-use Rattle.std.proofs.lemmas.Nat.Bits.{bit_at-zero, bit_at-lt, bit_at_and, bit_at_or, bit_at_above, bit_at_set_same, bit_at_set_other, bit_at_clear_same, bit_at_clear_other, bit_at_ones, bit_at_ones_above, bit_at-pow_same, bit_at-pow_other, bit_at_cat_low, bit_at_cat_high, and_pow, same_from_bits, same_from_bits_below}
+use Rattle.std.proofs.lemmas.Nat.Bits.{bit_at-suc, bit_at_lowest, bit_at_not, bit_at-zero, bit_at-lt, bit_at_and, bit_at_or, bit_at_above, bit_at_set_same, bit_at_set_other, bit_at_clear_same, bit_at_clear_other, bit_at_ones, bit_at_ones_above, bit_at-pow_same, bit_at-pow_other, bit_at_cat_low, bit_at_cat_high, and_pow, same_from_bits, same_from_bits_below}
 use Rattle.std.proofs.lemmas.Bool.{cases_lt, cases_order}
 use Rattle.std.proofs.lemmas.Bool.Decides.{nat_tests}
-use Rattle.gl_slots.specs.Bits.{in_bits}
+use Rattle.gl_slots.specs.Bits.{in_bits, bits_below}
 
 pub in_bits-zero : (u : ℕ) → in_bits 0 u ≡ false
 in_bits-zero u = let e = bit_at-zero u in grind (arith, nat_tests)
@@ -166,3 +166,45 @@ module _ (set k : ℕ) (has : in_bits set k ≡ true) (none : (u : ℕ) → u < 
       by (inl is) = at _ _ (ap (in_bits (set - 1)) is ∙ gone) is
       by (inr (inl below)) = absent _ _ _ (none u below)
       by (inr (inr above)) = beyond _ _ (kept u above) above
+
+-- what `!set` computes
+pub in_bits-not : (set u : ℕ) → set < 2 ^ 128 → in_bits (bit_not w128 set) u ≡ (ltb u 128 && not (in_bits set u))
+in_bits-not set u small = ⊎_elim inside outside (cases_lt u 128)
+  where
+    inside : u < 128 → in_bits (bit_not w128 set) u ≡ (ltb u 128 && not (in_bits set u))
+    inside low =
+        let e = bit_at_not w128 set u small low in
+        let x = bit_at-lt set u in
+        grind (arith, nat_tests)
+
+    outside : 128 ≤ u → in_bits (bit_not w128 set) u ≡ (ltb u 128 && not (in_bits set u))
+    outside above =
+        let e = in_bits-above (bit_not w128 set) 128 u (omega arith) above in
+        grind (arith, nat_tests)
+
+-- the number of a test
+
+halved : (b : Bool) (x : ℕ) → (cond b 1 0 + 2 * x) / 2 ≡ x
+halved true x = omega arith
+halved false x = omega arith
+
+odd : (b : Bool) (x : ℕ) → ((cond b 1 0 + 2 * x) % 2 == 1) ≡ b
+odd true x = let e : (1 + 2 * x) % 2 ≡ 1 = omega arith in ap (λ n. n == 1) e
+odd false x = let e : (0 + 2 * x) % 2 ≡ 0 = omega arith in ap (λ n. n == 1) e
+
+-- below n the bits are those that pass
+pub in_bits-bits_below : (n : ℕ) (member : ℕ → Bool) (u : ℕ) → u < n → in_bits (bits_below n member) u ≡ member u
+in_bits-bits_below zero member u low = absurd (omega arith)
+in_bits-bits_below (suc n) member zero low =
+    ap (λ x. x == 1) (bit_at_lowest (bits_below (suc n) member)) ∙ odd (member 0) (bits_below n (λ u. member (suc u)))
+in_bits-bits_below (suc n) member (suc u) low =
+    ap (λ x. x == 1) (bit_at-suc (bits_below (suc n) member) u ∙ ap (λ m. bit_at m u) (halved (member 0) (bits_below n (λ u. member (suc u)))))
+    ∙ in_bits-bits_below n (λ u. member (suc u)) u (omega arith)
+
+pub bits_below-lt : (n : ℕ) (member : ℕ → Bool) → bits_below n member < 2 ^ n
+bits_below-lt zero member = omega arith
+bits_below-lt (suc n) member = by (member 0) (bits_below n (λ u. member (suc u))) (bits_below-lt n (λ u. member (suc u)))
+  where
+    by : (b : Bool) (x : ℕ) → x < 2 ^ n → cond b 1 0 + 2 * x < 2 ^ suc n
+    by true x h = rw pow-suc (omega arith)
+    by false x h = rw pow-suc (omega arith)

@@ -1,12 +1,13 @@
 -- Sets with the same slots are one, and the list of a set's slots.
-use Rattle.std.proofs.Common.{◌≡◌, ◌≢◌, ℕ, zero, suc, ◌+◌, ◌<◌, ◌≤◌, Bool, true, false, not, ◌&&◌, ◌==◌, [], ◌∷◌, refl, sym, ap, ◌∙◌, ⊎_elim, arith}
+use Rattle.std.proofs.Common.{◌≡◌, ◌≢◌, ℕ, zero, suc, ◌+◌, ◌^◌, ◌<◌, ◌≤◌, Bool, true, false, not, ◌&&◌, ◌==◌, [], ◌∷◌, refl, sym, ap, ◌∙◌, ⊎_elim, arith}
 use Rattle.std.specs.List.{filter, range_with_len}
-use Rattle.std.proofs.lemmas.Bool.{cases_eq}
+use Rattle.std.proofs.lemmas.Bool.{cases_eq, cases_lt}
 use Rattle.std.proofs.lemmas.Bool.Decides.{nat_tests}
 use Rattle.gl_slots.specs.declared.slots.Slots.{Slots}
-use Rattle.gl_slots.specs.Bits.{in_bits}
-use Rattle.gl_slots.specs.Slots.{HasNoSlot, IsLowest, has_none, has_slot, no_slots, slot_limit, slots_of}
-use Rattle.gl_slots.proofs.BitLemmas.{in_bits-zero, same_slots as same_numbers}
+use Rattle.gl_slots.specs.Limit.{most_slots}
+use Rattle.gl_slots.specs.Bits.{in_bits, bits_below}
+use Rattle.gl_slots.specs.Slots.{Bits, HasNoSlot, IsLowest, bits_of, has_bit, has_none, has_slot, no_bits, no_slots, slot_limit, slots_of}
+use Rattle.gl_slots.proofs.BitLemmas.{in_bits-zero, in_bits-above, in_bits-bits_below, bits_below-lt, same_slots as same_numbers}
 
 -- sets with the same slots are one
 pub same_sets : (a b : Slots) → ((u : ℕ) → has_slot a u ≡ has_slot b u) → a ≡ b
@@ -24,8 +25,12 @@ test-none s e u = ap (λ n. in_bits n u) (is-zero s.bits e) ∙ in_bits-zero u
     is-zero : (n : ℕ) → (n == 0) ≡ true → n ≡ 0
     is-zero n e = grind (arith, nat_tests)
 
--- the limit of slots is 128
-pub slot_limit-is : slot_limit ≡ 128
+-- no slot is in the set without slots
+pub no_slots-none : HasNoSlot no_slots
+no_slots-none u = in_bits-zero u
+
+-- the limit of slots, unfolded
+pub slot_limit-is : slot_limit ≡ most_slots
 unfolding slot_limit
 slot_limit-is = refl
 
@@ -76,3 +81,34 @@ pub slots_of-lowest : (s t : Slots) (k : ℕ) → IsLowest s k → ((u : ℕ) �
 slots_of-lowest s t k l left =
     let high : k < slot_limit = rw slot_limit-is l.within in
     first-filtered (has_slot s) (has_slot t) 0 slot_limit k (omega arith) (omega arith) l.member l.none_below left
+
+-- what boards show
+
+pub no_bits-none : (u : ℕ) → has_bit no_bits u ≡ false
+no_bits-none u = in_bits-zero u
+
+-- below the limit the slots that are shown are those that pass
+pub has_bit-bits_of : (member : ℕ → Bool) (u : ℕ) → u < most_slots → has_bit (bits_of member) u ≡ member u
+unfolding bits_of
+has_bit-bits_of member u low = in_bits-bits_below most_slots member u low
+
+-- from the limit on none is shown
+pub bits_of-above : (member : ℕ → Bool) (u : ℕ) → most_slots ≤ u → has_bit (bits_of member) u ≡ false
+unfolding bits_of
+bits_of-above member u above = in_bits-above (bits_below most_slots member) most_slots u (bits_below-lt most_slots member) above
+
+-- what passes below the limit decides what is shown
+pub bits_of-same : (p q : ℕ → Bool) → ((u : ℕ) → u < most_slots → p u ≡ q u) → bits_of p ≡ bits_of q
+bits_of-same p q same = same_numbers (bits_of p) (bits_of q)
+    (λ u. ⊎_elim
+    (λ low. has_bit-bits_of p u low ∙ same u low ∙ sym (has_bit-bits_of q u low))
+    (λ above. bits_of-above p u above ∙ sym (bits_of-above q u above))
+    (cases_lt u most_slots))
+
+-- a set is shown as its number
+pub bits_of-is : (bits : ℕ) → bits < 2 ^ 128 → bits ≡ bits_of (has_bit bits)
+bits_of-is bits small = same_numbers bits (bits_of (has_bit bits))
+    (λ u. ⊎_elim
+    (λ low. sym (has_bit-bits_of (has_bit bits) u low))
+    (λ above. in_bits-above bits 128 u small above ∙ sym (bits_of-above (has_bit bits) u above))
+    (cases_lt u most_slots))

@@ -1,2 +1,3 @@
+pub mod Limit
 pub mod Bits
 pub mod Slots

@@ -1,12 +1,13 @@
 -- Sets of slots: which slots are in one.
 use Rattle.std.specs.Prelude.{◌≡◌, ℕ, ◌<◌, ◌==◌, Bool, true, false, List}
 use Rattle.std.specs.List.{filter, range_with_len}
-use Rattle.gl_slots.specs.Bits.{in_bits}
+use Rattle.gl_slots.specs.Limit.{most_slots}
+use Rattle.gl_slots.specs.Bits.{in_bits, bits_below}
 use Rattle.gl_slots.specs.declared.slots.Slots.{Slots}
 
--- slots are below this: 128, kept from unfolding so that no proof walks over every slot
+-- the same as most_slots, kept from unfolding so that no proof walks over every slot
 unfoldable pub slot_limit : ℕ
-slot_limit = 128
+slot_limit = most_slots
 
 -- slot u is in the set
 abbrev pub has_slot : Slots → ℕ → Bool
@@ -22,7 +23,7 @@ no_slots = record { bits = 0 }
 
 -- k is the lowest slot of the set
 pub record IsLowest (s : Slots) (k : ℕ) : Type 0 where
-  pub within : k < 128
+  pub within : k < most_slots
   pub member : has_slot s k ≡ true
   pub none_below : (u : ℕ) → u < k → has_slot s u ≡ false
 
@@ -30,10 +31,30 @@ pub record IsLowest (s : Slots) (k : ℕ) : Type 0 where
 abbrev pub slots_of : Slots → List ℕ
 slots_of s = filter (has_slot s) (range_with_len 0 slot_limit)
 
--- the set as a number, which falls as slots are taken out
+-- a number that falls as slots are taken out
 abbrev pub number_of : Slots → ℕ
 number_of s = s.bits
 
 -- the same as HasNoSlot, as a test
 abbrev pub has_none : Slots → Bool
 has_none s = number_of s == 0
+
+-- a set of slots as boards show it
+abbrev pub Bits : Type 0
+Bits = ℕ
+
+-- slot u is in the set that a board shows so
+abbrev pub has_bit : Bits → ℕ → Bool
+has_bit bits u = in_bits bits u
+
+-- no slot is in the set that a board shows so
+abbrev pub HasNoBit : Bits → Type 0
+HasNoBit bits = (u : ℕ) → has_bit bits u ≡ false
+
+-- how boards show the set without slots
+abbrev pub no_bits : Bits
+no_bits = 0
+
+-- how boards show the set of the slots that pass
+unfoldable pub bits_of : (ℕ → Bool) → Bits
+bits_of member = bits_below most_slots member

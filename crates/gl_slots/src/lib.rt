@@ -1,7 +1,8 @@
-//! Sets of slots: the numbers from 0 to 127, as the bits of one number.
+//! Slots, of which each living transaction has one, and sets of them. This crate alone knows how many slots there are,
+//! and how wide a set is: here 128, as the bits of one number.
 #![tactic(auto)]
 
 mod bits;
 mod slots;
 
-pub use slots::{Iter, SLOTS, Slots};
+pub use slots::{Bits, Iter, SLOTS, Slot, Slots};

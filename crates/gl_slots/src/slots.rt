@@ -4,6 +4,7 @@ ghost use Rattle.std.specs.Prelude.{
   ◌≡◌,
   ℕ,
   ◌<◌,
+  ◌≤◌,
   ◌==◌,
   ◌&&◌,
   ◌||◌,
@@ -17,12 +18,28 @@ ghost use Rattle.std.specs.Prelude.{
   ltb,
 };
 ghost use Rattle.std.specs.Iterator.{YieldsFirst, item_count};
-ghost use Rattle.gl_slots.specs.Slots.{HasNoSlot, IsLowest, has_slot, no_slots, number_of, slots_of};
+ghost use Rattle.gl_slots.specs.Limit.{most_slots};
+ghost use Rattle.gl_slots.specs.Slots.{
+  HasNoSlot,
+  IsLowest,
+  bits_of,
+  has_bit,
+  has_slot,
+  no_slots,
+  number_of,
+  slots_of,
+};
 
-use crate::bits::{has, lowest, without};
+use crate::bits::{above, complement, has, lowest, shown, without};
 
 /// How many slots there are, so how many transactions live at once. A slot is a number below this.
 pub const SLOTS: usize = 128;
+
+/// A slot.
+pub type Slot = u8;
+
+/// A set of slots as boards show it: a number of which bit `u` stands for slot `u`.
+pub type Bits = u128;
 
 /// A set of slots.
 #[derive(Clone, Copy, PartialEq, Eq, Debug, Default)]
@@ -41,7 +58,7 @@ impl Slots {
 
     /// The set of all slots.
     pub fn all() -> Self
-        ensures { (u : ℕ) → has_slot result u ≡ ltb u 128 }
+        ensures { (u : ℕ) → has_slot result u ≡ ltb u most_slots }
     {
         Slots { bits: u128::MAX }
     }
@@ -53,24 +70,25 @@ impl Slots {
         self.bits == 0
     }
 
-    /// Whether `slot` is in the set; none from 128 on is.
-    pub fn contains(self, slot: u8) -> bool
+    /// Whether `slot` is in the set; none from `SLOTS` on is.
+    pub fn contains(self, slot: Slot) -> bool
         ensures { result ≡ has_slot self slot }
     {
         has(self.bits, slot)
     }
 
     /// Adds `slot`.
-    pub fn insert(&mut self, slot: u8)
-        requires { slot < 128 }
+    pub fn insert(&mut self, slot: Slot)
+        requires { slot < most_slots }
         ensures { (u : ℕ) → has_slot self.new u ≡ (has_slot self.old u || (u == slot)) }
     {
         self.bits |= 1 << slot;
     }
 
     /// Takes `slot` out.
-    pub fn remove(&mut self, slot: u8)
-        ensures { (u : ℕ) → has_slot self.new u ≡ (has_slot self.old u && not (u == slot)) }
+    pub fn remove(&mut self, slot: Slot)
+        ensures left { (u : ℕ) → has_slot self.new u ≡ (has_slot self.old u && not (u == slot)) }
+        ensures fewer { has_slot self.old slot ≡ true → number_of self.new < number_of self.old }
     {
         self.bits = without(self.bits, slot);
     }
@@ -86,16 +104,27 @@ impl Slots {
 
     /// The slots that are in both sets.
     pub fn intersection(self, other: Self) -> Self
-        ensures { (u : ℕ) → has_slot result u ≡ (has_slot self u && has_slot other u) }
+        ensures both { (u : ℕ) → has_slot result u ≡ (has_slot self u && has_slot other u) }
+        ensures no_more { number_of result ≤ number_of self }
     {
         Slots {
             bits: self.bits & other.bits,
         }
     }
 
+    /// The slots that are not in the set.
+    pub fn complement(self) -> Self
+        ensures { (u : ℕ) → has_slot result u ≡ (ltb u most_slots && not (has_slot self u)) }
+    {
+        Slots {
+            bits: complement(self.bits),
+        }
+    }
+
     /// The set without `slot`.
-    pub fn without(self, slot: u8) -> Self
-        ensures { (u : ℕ) → has_slot result u ≡ (has_slot self u && not (u == slot)) }
+    pub fn without(self, slot: Slot) -> Self
+        ensures left { (u : ℕ) → has_slot result u ≡ (has_slot self u && not (u == slot)) }
+        ensures fewer { has_slot self slot ≡ true → number_of result < number_of self }
     {
         Slots {
             bits: without(self.bits, slot),
@@ -103,7 +132,7 @@ impl Slots {
     }
 
     /// The lowest slot, `None` where there is none.
-    pub fn lowest(self) -> Option<u8>
+    pub fn lowest(self) -> Option<Slot>
         ensures some { IfSome result (IsLowest self) }
         ensures none { IfNone result (HasNoSlot self) }
     {
@@ -114,23 +143,31 @@ impl Slots {
         }
     }
 
-    /// The set that a number stands for, as `bits` answers it.
-    pub fn from_bits(bits: u128) -> Self
-        ensures { number_of result ≡ bits }
+    /// No slot from `SLOTS` on is in a set.
+    pub fn law(self)
+        ensures { (u : ℕ) → most_slots ≤ u → has_slot self u ≡ false }
+    {
+        above(self.bits);
+    }
+
+    /// The set that a board shows so.
+    pub fn from_bits(bits: Bits) -> Self
+        ensures { (u : ℕ) → has_slot result u ≡ has_bit bits u }
     {
         Slots { bits }
     }
 
-    /// The set as a number: bit `u` stands for slot `u`.
-    pub fn bits(self) -> u128
-        ensures { result ≡ number_of self }
+    /// The set as boards show it.
+    pub fn bits(self) -> Bits
+        ensures is { result ≡ bits_of (has_slot self) }
+        ensures shows { (u : ℕ) → has_bit result u ≡ has_slot self u }
     {
-        self.bits
+        shown(self.bits)
     }
 
     /// Takes the lowest slot out, and answers it: `None` where the set has none. A set gives its
     /// slots from the lowest on.
-    pub fn take_lowest(&mut self) -> Option<u8>
+    pub fn take_lowest(&mut self) -> Option<Slot>
         ensures some { IfSome result (IsLowest self.old) }
         ensures left { IfSome result (λ slot. (u : ℕ) → has_slot self.new u ≡ (has_slot self.old u && not (u == slot))) }
         ensures fewer { IfSome result (λ slot. number_of self.new < number_of self.old) }
@@ -157,14 +194,14 @@ pub struct Iter {
 }
 
 impl Iterator for Iter {
-    type Item = u8;
+    type Item = Slot;
 
     ghost next_gives = { YieldsFirst (λ s. slots_of s.left) };
 
     ghost remaining = { item_count (λ s. slots_of s.left) };
 
     #[tactic(auto, using(crate::proofs::Steps::next_steps))]
-    fn next(&mut self) -> Option<u8> {
+    fn next(&mut self) -> Option<Slot> {
         self.left.take_lowest()
     }
 }
