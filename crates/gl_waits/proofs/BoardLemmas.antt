@@ -1,43 +1,59 @@
 -- Rows of a board.
-use Rattle.std.proofs.Common.{◌≡◌, ℕ, ◌<◌, ⊎_elim, Bool, true, false, List, length, get_or, map, replicate, sym, ap, ◌∙◌, arith}
+use Rattle.std.proofs.Common.{◌≡◌, ◌≢◌, ℕ, ◌<◌, ◌≤◌, ⊎_elim, Bool, true, false, List, length, get_or, map, replicate, set, sym, ap, ◌∙◌, arith}
 use Rattle.std.specs.List.{range_with_len}
 use Rattle.std.proofs.lemmas.Bool.{cases_lt, false_from_ne_true}
 use Rattle.std.proofs.lemmas.List.FromFn.{get_or-map-range_with_len, length-map-range_with_len}
-use Rattle.std.proofs.lemmas.List.{get_or_past, get_or-replicate, length-replicate}
-use Rattle.gl_waits.specs.Sets.{has_slot, bits_of}
+use Rattle.std.proofs.lemmas.List.{get_or_past, get_or-replicate, get_or-set_other, get_or-set_same, length-replicate}
+use Rattle.gl_slots.specs.declared.slots.Slots.{Slots}
+use Rattle.gl_slots.specs.Limit.{most_slots}
+use Rattle.gl_slots.specs.Slots.{Bits, bits_of, has_bit, has_slot, no_bits, no_slots}
+use Rattle.gl_slots.proofs.SlotLemmas.{bits_of-above, has_bit-bits_of, no_bits-none, no_slots-none}
 use Rattle.gl_waits.specs.Boards.{row_edge}
-use Rattle.gl_waits.proofs.SetLemmas.{has_slot-zero, has_slot-above, has_slot-bits_of, bits_of-lt}
 
-empty_row : (rows : List ℕ) (s u : ℕ) → get_or rows s 0 ≡ 0 → row_edge rows s u ≡ false
-empty_row rows s u e = ap (λ set. has_slot set u) e ∙ has_slot-zero u
+empty_row : (rows : List Slots) (s u : ℕ) → get_or rows s no_slots ≡ no_slots → row_edge rows s u ≡ false
+empty_row rows s u e = ap (λ set. has_slot set u) e ∙ no_slots-none u
 
 -- a slot that has a row with a slot in it is below the number of rows
-pub row_edge-inside : (rows : List ℕ) (s u : ℕ) → row_edge rows s u ≡ true → s < length rows
-row_edge-inside rows s u h = ⊎_elim (λ low. low) (λ past. cc (empty_row rows s u (get_or_past rows s 0 past))) (cases_lt s (length rows))
+pub row_edge-inside : (rows : List Slots) (s u : ℕ) → row_edge rows s u ≡ true → s < length rows
+row_edge-inside rows s u h = ⊎_elim (λ low. low) (λ past. cc (empty_row rows s u (get_or_past rows s no_slots past))) (cases_lt s (length rows))
 
 -- empty rows have no slot
-pub empty_rows : (rows : List ℕ) → ((s : ℕ) → s < length rows → get_or rows s 0 ≡ 0) → (s u : ℕ) → row_edge rows s u ≡ false
-empty_rows rows empty s u = false_from_ne_true (row_edge rows s u) (λ h. cc (empty_row rows s u (empty s (row_edge-inside rows s u h))))
+pub empty_rows : (rows : List Slots) → ((s u : ℕ) → s < length rows → row_edge rows s u ≡ false) → (s u : ℕ) → row_edge rows s u ≡ false
+empty_rows rows empty s u = false_from_ne_true (row_edge rows s u) (λ h. cc (empty s u (row_edge-inside rows s u h)))
 
-pub row_edge-replicate : (n s u : ℕ) → row_edge (replicate n 0) s u ≡ false
-row_edge-replicate n = empty_rows (replicate n 0) (λ s low. let e = length-replicate {A = ℕ} n 0 in let inside : s < n = omega arith in get_or-replicate n s 0 0 inside)
+pub row_edge-replicate : (n s u : ℕ) → row_edge (replicate n no_slots) s u ≡ false
+row_edge-replicate n = empty_rows (replicate n no_slots) (λ s u low. let e = length-replicate {A = Slots} n no_slots in let inside : s < n = omega arith in empty_row (replicate n no_slots) s u (get_or-replicate n s no_slots no_slots inside))
 
--- the rows that a relation of slots makes, for each slot below n the set of those below m, have its steps
-module _ (n m : ℕ) (edge : ℕ → ℕ → Bool) (low : (s u : ℕ) → edge s u ≡ true → (s < n) × (u < m)) where
-  rows : List ℕ
-  rows = map (λ t. bits_of m (edge t)) (range_with_len 0 n)
+-- a row that is written, and the others
+pub row_edge-set_same : (rows : List Slots) (i u : ℕ) (row : Slots) → i < length rows → row_edge (set rows i row) i u ≡ has_slot row u
+row_edge-set_same rows i u row inside = ap (λ n. has_slot n u) (get_or-set_same rows i row no_slots inside)
 
-  inside : (s u : ℕ) → s < n → row_edge rows s u ≡ has_slot (bits_of m (edge s)) u
-  unfolding rows
-  inside s u h = ap (λ set. has_slot set u) (get_or-map-range_with_len (λ t. bits_of m (edge t)) 0 n s s 0 h (omega arith))
+pub row_edge-set_other : (rows : List Slots) (i s u : ℕ) (row : Slots) → s ≢ i → row_edge (set rows i row) s u ≡ row_edge rows s u
+row_edge-set_other rows i s u row ne = ap (λ n. has_slot n u) (get_or-set_other rows i s row no_slots ne)
 
-  outside : (s u : ℕ) → row_edge rows s u ≡ false → ((s < n) × (u < m) → ⊥) → row_edge rows s u ≡ edge s u
+-- the rows that a relation of slots makes, for each slot below n, have its steps
+module _ (n : ℕ) (edge : ℕ → ℕ → Bool) (low : (s u : ℕ) → edge s u ≡ true → (s < n) × (u < most_slots)) where
+  rows : List Bits
+  rows = map (λ t. bits_of (edge t)) (range_with_len 0 n)
+
+  row : ℕ → ℕ → Bool
+  row s u = has_bit (get_or rows s no_bits) u
+
+  inside : (s u : ℕ) → s < n → row s u ≡ has_bit (bits_of (edge s)) u
+  unfolding row rows
+  inside s u h = ap (λ set. has_bit set u) (get_or-map-range_with_len (λ t. bits_of (edge t)) 0 n s s no_bits h (omega arith))
+
+  outside : (s u : ℕ) → row s u ≡ false → ((s < n) × (u < most_slots) → ⊥) → row s u ≡ edge s u
   outside s u e far = e ∙ sym (false_from_ne_true (edge s u) (λ h. far (low s u h)))
 
-  pub row_edge-bits_of : (s u : ℕ) → row_edge (map (λ t. bits_of m (edge t)) (range_with_len 0 n)) s u ≡ edge s u
-  unfolding rows
-  row_edge-bits_of s u =
+  past : (s u : ℕ) → n ≤ s → row s u ≡ false
+  unfolding row rows
+  past s u far = ap (λ set. has_bit set u) (get_or_past rows s no_bits (let e = length-map-range_with_len (λ t. bits_of (edge t)) 0 n in omega arith)) ∙ no_bits-none u
+
+  pub shown_rows-edge : (s u : ℕ) → has_bit (get_or (map (λ t. bits_of (edge t)) (range_with_len 0 n)) s no_bits) u ≡ edge s u
+  unfolding row rows
+  shown_rows-edge s u =
       ⊎_elim
-      (λ h. ⊎_elim (λ k. inside s u h ∙ has_slot-bits_of m (edge s) u k) (λ far. outside s u (inside s u h ∙ has_slot-above (bits_of m (edge s)) m u (bits_of-lt m (edge s)) far) (λ near. let k = near.1 in omega arith)) (cases_lt u m))
-      (λ far. outside s u (empty_row rows s u (get_or_past rows s 0 (let e = length-map-range_with_len (λ t. bits_of m (edge t)) 0 n in omega arith))) (λ near. let k = near.0 in omega arith))
+      (λ h. ⊎_elim (λ k. inside s u h ∙ has_bit-bits_of (edge s) u k) (λ far. outside s u (inside s u h ∙ bits_of-above (edge s) u far) (λ near. let k = near.1 in omega arith)) (cases_lt u most_slots))
+      (λ far. outside s u (past s u far) (λ near. let k = near.0 in omega arith))
       (cases_lt s n)

@@ -1,33 +1,31 @@
 -- Cycles: what a set of slots that was read from a board says of them, and cycles of a relation that changed.
-use Rattle.std.proofs.Common.{◌≡◌, ◌≢◌, ◌⊎◌, ℕ, ◌↔◌, Bool, true, List, [], ◌∷◌, IsTrue, ap, subst, ⊎_elim, inl, inr}
+use Rattle.std.proofs.Common.{◌≡◌, ◌≢◌, ◌⊎◌, ℕ, ◌↔◌, Bool, true, false, List, [], ◌∷◌, IsTrue, subst, ⊎_elim, inl, inr}
 use Rattle.std.proofs.lemmas.Bool.{and_from, cases_eq, false_from_ne_true}
 use Rattle.gl_waits.specs.Waits.{IsWalk, Reaches, IsOnCycleOf, IsOnCycle, IsOnNoCycle, IsYoungest, IsLowestYoungest, waits_of}
-use Rattle.gl_waits.specs.Sets.{has_slot}
-use Rattle.gl_waits.proofs.SetLemmas.{has_slot-zero, no_slot-zero}
 use Rattle.gl_waits.proofs.WalkLemmas.{reaches_join, reaches_among, reaches_more, reaches_of}
 
 -- a set with exactly the slots on a cycle with t, as `on_cycle` answers
-module _ (edge : ℕ → ℕ → Bool) (t set : ℕ) (exact : (u : ℕ) → IsTrue (has_slot set u) ↔ IsOnCycleOf edge t u) where
-  pub empty-no_cycle : set ≡ 0 → IsOnNoCycle edge t
-  empty-no_cycle e v on = cc ((exact v).1 on, ap (λ n. has_slot n v) e, has_slot-zero v)
+module _ (edge : ℕ → ℕ → Bool) (t : ℕ) (member : ℕ → Bool) (exact : (u : ℕ) → IsTrue (member u) ↔ IsOnCycleOf edge t u) where
+  pub empty-no_cycle : ((u : ℕ) → member u ≡ false) → IsOnNoCycle edge t
+  empty-no_cycle none v on = cc ((exact v).1 on, none v)
 
-  pub no_cycle-empty : IsOnNoCycle edge t → set ≡ 0
-  no_cycle-empty none = no_slot-zero set (λ u. false_from_ne_true (has_slot set u) (λ h. none u ((exact u).0 h)))
+  pub no_cycle-empty : IsOnNoCycle edge t → (u : ℕ) → member u ≡ false
+  no_cycle-empty none u = false_from_ne_true (member u) (λ h. none u ((exact u).0 h))
 
   -- the one that `youngest` answers for it is the youngest on the cycle
-  pub youngest-on_cycle : (age : ℕ → ℕ) (v : ℕ) → IsLowestYoungest (λ u. IsTrue (has_slot set u)) age v → IsYoungest (IsOnCycleOf edge t) age v
+  pub youngest-on_cycle : (age : ℕ → ℕ) (v : ℕ) → IsLowestYoungest (λ u. IsTrue (member u)) age v → IsYoungest (IsOnCycleOf edge t) age v
   youngest-on_cycle age v best = record {
     is_member = (exact v).0 best.youngest.is_member;
     greatest = λ u on. best.youngest.greatest u ((exact u).1 on);
   }
 
 -- a set with exactly the slots on some cycle, as `suspects` answers
-module _ (edge : ℕ → ℕ → Bool) (set : ℕ) (exact : (s : ℕ) → IsTrue (has_slot set s) ↔ IsOnCycle edge s) where
-  pub no_suspect-no_cycle : set ≡ 0 → (t : ℕ) → IsOnNoCycle edge t
-  no_suspect-no_cycle e t v on = cc ((exact t).1 (v, on), ap (λ n. has_slot n t) e, has_slot-zero t)
+module _ (edge : ℕ → ℕ → Bool) (member : ℕ → Bool) (exact : (s : ℕ) → IsTrue (member s) ↔ IsOnCycle edge s) where
+  pub no_suspect-no_cycle : ((u : ℕ) → member u ≡ false) → (t : ℕ) → IsOnNoCycle edge t
+  no_suspect-no_cycle none t v on = cc ((exact t).1 (v, on), none t)
 
-  pub no_cycle-no_suspect : ((t : ℕ) → IsOnNoCycle edge t) → set ≡ 0
-  no_cycle-no_suspect none = no_slot-zero set (λ s. false_from_ne_true (has_slot set s) (λ h. let on = (exact s).0 h in none s on.0 on.1))
+  pub no_cycle-no_suspect : ((t : ℕ) → IsOnNoCycle edge t) → (u : ℕ) → member u ≡ false
+  no_cycle-no_suspect none s = false_from_ne_true (member s) (λ h. let on = (exact s).0 h in none s on.0 on.1)
 
 -- with more steps a cycle stays, so with fewer none appears
 pub cycle-more : (edge more : ℕ → ℕ → Bool) → ((x y : ℕ) → edge x y ≡ true → more x y ≡ true) → (t v : ℕ) → IsOnCycleOf edge t v → IsOnCycleOf more t v

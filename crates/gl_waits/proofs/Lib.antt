@@ -1,4 +1,3 @@
-pub mod SetLemmas
 pub mod WalkLemmas
 pub mod CycleLemmas
 pub mod VictimLemmas

@@ -1,15 +1,16 @@
 -- What a board says.
-use Rattle.std.specs.Prelude.{ℕ, Bool, List, slice_index}
+use Rattle.std.specs.Prelude.{ℕ, Bool, List, get_or, slice_index}
+use Rattle.gl_slots.specs.declared.slots.Slots.{Slots}
+use Rattle.gl_slots.specs.Slots.{has_bit, has_slot, no_bits, no_slots}
 use Rattle.gl_waits.specs.declared.board.Board.{Board}
-use Rattle.gl_waits.specs.Sets.{has_slot}
 
 -- row s, a set of slots, has slot u
-abbrev pub row_edge : List ℕ → ℕ → ℕ → Bool
-row_edge rows s u = has_slot (slice_index rows s) u
+abbrev pub row_edge : List Slots → ℕ → ℕ → Bool
+row_edge rows s u = has_slot (get_or rows s no_slots) u
 
 -- slot s waits for slot u
 abbrev pub board_edge : Board → ℕ → ℕ → Bool
-board_edge b = row_edge b.rows
+board_edge b s u = has_bit (get_or b.rows s no_bits) u
 
 -- the age of the transaction in slot s
 abbrev pub age_in : Board → ℕ → ℕ

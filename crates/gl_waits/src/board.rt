@@ -1,6 +1,6 @@
 //! The board.
 
-use gl_slots::SLOTS;
+use gl_slots::{Bits, SLOTS};
 
 /// Who waits for whom at one moment.
 #[derive(Clone, Copy, PartialEq, Eq, Debug)]
@@ -10,6 +10,6 @@ pub struct Board {
     /// By slot, the age of its transaction: its number in the order of begins, so that the
     /// greatest is the youngest. A free slot has age 0.
     pub ages: [u64; SLOTS],
-    /// Bit `u` of `rows[s]` says that slot `s` waits for slot `u`. A free slot has row 0.
-    pub rows: [u128; SLOTS],
+    /// Bit `u` of `rows[s]` says that slot `s` waits for slot `u`. A free slot has an empty row.
+    pub rows: [Bits; SLOTS],
 }

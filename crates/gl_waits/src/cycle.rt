@@ -1,43 +1,42 @@
 //! Who is deadlocked with a slot.
 
 ghost use Rattle.std.specs.Prelude.{ℕ, ◌<◌, ◌↔◌, IsTrue};
-ghost use Rattle.gl_waits.specs.Sets.{has_slot};
+ghost use Rattle.gl_slots.specs.Slots.{has_bit, has_slot};
 ghost use Rattle.gl_waits.specs.Boards.{board_edge};
 ghost use Rattle.gl_waits.specs.Waits.{IsOnCycleOf, Reaches, waits_of};
 
 use crate::board::Board;
 use crate::reach::{columns, reached_from};
-use crate::set::has;
 use crate::waits_for::WaitsFor;
-use gl_slots::SLOTS;
+use gl_slots::{Bits, SLOTS, Slot, Slots};
 
 /// The slots on a cycle with `slot`: those that it reaches by one or more steps and that reach it.
 /// A slot that waits for itself is on a cycle with itself.
-pub fn on_cycle(board: &Board, slot: usize) -> u128
+pub fn on_cycle(board: &Board, slot: usize) -> Bits
     requires { slot < SLOTS }
-    ensures { (u : ℕ) → IsTrue (has_slot result u) ↔ IsOnCycleOf (board_edge board.now) slot u }
+    ensures { (u : ℕ) → IsTrue (has_bit result u) ↔ IsOnCycleOf (board_edge board.now) slot u }
 {
-    on_cycle_in(board, slot)
+    on_cycle_in(board, slot).bits()
 }
 
 /// The slots on a cycle with `slot`, as `on_cycle` answers them, of whoever can say who waits for whom.
 ///
 /// Where `slot` is on no cycle this reads its row and each row that it reaches once, and no other;
-/// where it is on one, these rows are read once more, bit by bit, into an array of columns.
-pub fn on_cycle_in<T: WaitsFor>(waits: &T, slot: usize) -> u128
+/// where it is on one, these rows are read once more, slot by slot, into an array of columns.
+pub fn on_cycle_in<T: WaitsFor>(waits: &T, slot: usize) -> Slots
     requires { slot < SLOTS }
     ensures { (u : ℕ) → IsTrue (has_slot result u) ↔ IsOnCycleOf (T.edge waits.now) slot u }
 {
     let reached = reached_from(waits, slot);
-    if has(reached, slot) {
-        reached & reaching(waits, reached, slot)
+    if reached.contains(slot as Slot) {
+        reached.intersection(reaching(waits, reached, slot))
     } else {
-        0
+        Slots::empty()
     }
 }
 
 /// Who reaches `slot` by the waits of the slots in `within` alone, whose rows are read once each.
-fn reaching<T: WaitsFor>(waits: &T, within: u128, slot: usize) -> u128
+fn reaching<T: WaitsFor>(waits: &T, within: Slots, slot: usize) -> Slots
     requires { slot < SLOTS }
     ensures { (u : ℕ) → IsTrue (has_slot result u)
         ↔ Reaches (waits_of (has_slot within) (T.edge waits.now)) u slot }

@@ -1,37 +1,54 @@
 //! Who is deadlocked at all.
 
-ghost use Rattle.std.specs.Prelude.{◌≡◌, ℕ, ◌<◌, ◌↔◌, ◌&&◌, ◌||◌, IsTrue, EachIndex, slice_index};
-ghost use Rattle.gl_waits.specs.Sets.{has_slot};
+ghost use Rattle.std.specs.Prelude.{◌≡◌, ℕ, ◌<◌, ◌↔◌, ◌&&◌, ◌||◌, IsTrue, true, false, get_or, length};
+ghost use Rattle.gl_slots.specs.Slots.{HasNoSlot, has_bit, has_slot, no_slots};
 ghost use Rattle.gl_waits.specs.Boards.{board_edge, row_edge};
 ghost use Rattle.gl_waits.specs.Waits.{IsOnCycle, Reaches};
 
 use crate::board::Board;
-use crate::set::{has, with};
-use gl_slots::SLOTS;
+use crate::reach::empty_rows;
+use gl_slots::{Bits, SLOTS, Slot, Slots};
 
 /// The slots that are on a cycle with some slot, so those whose `on_cycle` is not empty.
 ///
 /// Reads each row once where nobody waits; else it takes a row operation for each slot and each
 /// slot that waits, whoever they wait for (Warshall 1962).
-pub fn suspects(board: &Board) -> u128
-    ensures { (s : ℕ) → IsTrue (has_slot result s) ↔ IsOnCycle (board_edge board.now) s }
+pub fn suspects(board: &Board) -> Bits
+    ensures { (s : ℕ) → IsTrue (has_bit result s) ↔ IsOnCycle (board_edge board.now) s }
 {
-    if nobody_waits(&board.rows) {
-        0
+    let rows = rows_in(board);
+    if nobody_waits(&rows) {
+        Slots::empty().bits()
     } else {
-        diagonal(&reaches_of_all(&board.rows))
+        diagonal(&reaches_of_all(&rows)).bits()
     }
 }
 
-/// Whether all rows are empty.
-fn nobody_waits(rows: &[u128; SLOTS]) -> bool
-    ensures { IsTrue result ↔ EachIndex rows.now (λ s. slice_index rows.now s ≡ 0) }
+/// The rows of a board, as sets.
+fn rows_in(board: &Board) -> [Slots; SLOTS]
+    ensures { (s u : ℕ) → row_edge result s u ≡ board_edge board.now s u }
 {
-    rows.iter().all(|row| *row == 0)
+    let mut rows = empty_rows();
+    for slot in 0..SLOTS {
+        rows[slot] = Slots::from_bits(board.rows[slot]);
+    }
+    rows
+}
+
+/// Whether all rows are empty.
+fn nobody_waits(rows: &[Slots; SLOTS]) -> bool
+    ensures { result ≡ true → (s u : ℕ) → row_edge rows.now s u ≡ false }
+{
+    for row in rows {
+        if !row.is_empty() {
+            return false;
+        }
+    }
+    true
 }
 
 /// By slot, what it reaches by one or more steps.
-fn reaches_of_all(rows: &[u128; SLOTS]) -> [u128; SLOTS]
+fn reaches_of_all(rows: &[Slots; SLOTS]) -> [Slots; SLOTS]
     ensures { (s u : ℕ) → IsTrue (row_edge result s u) ↔ Reaches (row_edge rows.now) s u }
 {
     let mut reaches = *rows;
@@ -42,31 +59,32 @@ fn reaches_of_all(rows: &[u128; SLOTS]) -> [u128; SLOTS]
 }
 
 /// Adds what `middle` reaches to each row that has `middle`.
-fn pass_through(reaches: &mut [u128; SLOTS], middle: usize)
+fn pass_through(reaches: &mut [Slots; SLOTS], middle: usize)
     requires { middle < SLOTS }
     ensures { (s u : ℕ) → row_edge reaches.new s u ≡
         (row_edge reaches.old s u
         || (row_edge reaches.old s middle && row_edge reaches.old middle u)) }
 {
     let beyond = reaches[middle];
-    if beyond == 0 {
+    if beyond.is_empty() {
         return;
     }
-    for row in reaches.iter_mut() {
-        if has(*row, middle) {
-            *row |= beyond;
+    for slot in 0..SLOTS {
+        let row = reaches[slot];
+        if row.contains(middle as Slot) {
+            reaches[slot] = row.union(beyond);
         }
     }
 }
 
 /// The slots whose row has themselves.
-fn diagonal(rows: &[u128; SLOTS]) -> u128
+fn diagonal(rows: &[Slots; SLOTS]) -> Slots
     ensures { (s : ℕ) → has_slot result s ≡ row_edge rows.now s s }
 {
-    let mut found = 0;
+    let mut found = Slots::empty();
     for slot in 0..SLOTS {
-        if has(rows[slot], slot) {
-            found = with(found, slot);
+        if rows[slot].contains(slot as Slot) {
+            found.insert(slot as Slot);
         }
     }
     found

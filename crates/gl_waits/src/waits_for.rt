@@ -1,30 +1,30 @@
 //! Whoever can say who waits for whom.
 
 use crate::board::Board;
-use gl_slots::SLOTS;
+use gl_slots::{SLOTS, Slots};
 
 /// Who waits for whom, told slot by slot. By the contract of `row`, whom a slot waits for is below
 /// `SLOTS` too.
 pub trait WaitsFor {
     ghost use Rattle.std.specs.Prelude.{◌≡◌, ℕ, ◌<◌, Bool};
-    ghost use Rattle.gl_waits.specs.Sets.{has_slot};
+    ghost use Rattle.gl_slots.specs.Slots.{has_slot};
 
     /// Whether the first slot waits for the second.
     ghost edge: { Self → ℕ → ℕ → Bool };
 
     /// The slots that `slot` waits for.
-    fn row(&self, slot: usize) -> u128
+    fn row(&self, slot: usize) -> Slots
         requires { slot < SLOTS }
         ensures { (u : ℕ) → has_slot result u ≡ edge self.now slot u };
 }
 
 /// Rows by slot.
-impl WaitsFor for [u128; SLOTS] {
+impl WaitsFor for [Slots; SLOTS] {
     ghost use Rattle.gl_waits.specs.Boards.{row_edge};
 
     ghost edge = { row_edge };
 
-    fn row(&self, slot: usize) -> u128 {
+    fn row(&self, slot: usize) -> Slots {
         self[slot]
     }
 }
@@ -34,7 +34,7 @@ impl WaitsFor for Board {
 
     ghost edge = { board_edge };
 
-    fn row(&self, slot: usize) -> u128 {
-        self.rows[slot]
+    fn row(&self, slot: usize) -> Slots {
+        Slots::from_bits(self.rows[slot])
     }
 }

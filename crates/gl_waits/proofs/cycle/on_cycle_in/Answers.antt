@@ -1,26 +1,25 @@
 use Rattle.std.proofs.Common.{sym, ◌∙◌}
 use Rattle.std.proofs.lemmas.Bool.{and_parts, and_from}
-use Rattle.gl_waits.specs.Sets.{has_slot}
-use Rattle.gl_waits.proofs.SetLemmas.{has_slot-zero, has_slot-and}
+use Rattle.gl_slots.specs.Slots.{has_slot}
 use Rattle.gl_waits.proofs.WalkLemmas.{reaches_join}
 use Rattle.gl_waits.proofs.CycleLemmas.{meets-cycle, cycle-meets}
 use Rattle.gl_waits.proofs.cycle.on_cycle_in.Goals as goal
 
-pub returns-then-has : goal.returns-then-has
-returns-then-has g c =
+pub returns-then-contains : goal.returns-then-contains
+returns-then-contains g c =
     let edge = g.T.WaitsFor.edge c.args.waits.now in
     let member = has_slot c.reached_from-reached.result in
     λ u. (
       (λ h.
-          let both = and_parts _ _ (sym (has_slot-and c.reached_from-reached.result c.reaching.result u) ∙ h) in
+          let both = and_parts _ _ (sym (c.intersection.ensures.both u) ∙ h) in
           meets-cycle edge member c.args.slot c.reached_from-reached.ensures u both.0 ((c.reaching.ensures u).0 both.1)),
       (λ on.
           let both = cycle-meets edge member c.args.slot c.reached_from-reached.ensures u on in
-          has_slot-and c.reached_from-reached.result c.reaching.result u ∙ and_from _ _ both.0 ((c.reaching.ensures u).1 both.1)),
+          c.intersection.ensures.both u ∙ and_from _ _ both.0 ((c.reaching.ensures u).1 both.1)),
     )
 
-pub returns-else-has : goal.returns-else-has
-returns-else-has g c = λ u. (
-  (λ h. cc (has_slot-zero u)),
+pub returns-else-contains : goal.returns-else-contains
+returns-else-contains g c = λ u. (
+  (λ h. cc (c.empty.ensures.none u)),
   (λ on. let round = (c.reached_from-reached.ensures c.args.slot).1 (reaches_join (g.T.WaitsFor.edge c.args.waits.now) c.args.slot u c.args.slot on.there on.back) in cc),
 )

@@ -1,5 +1,5 @@
 use Rattle.std.proofs.Common.{ℕ, Bool, true, refl, sym, ◌∙◌}
-use Rattle.gl_waits.specs.Sets.{has_slot}
+use Rattle.gl_slots.specs.Slots.{has_slot}
 use Rattle.gl_waits.specs.Boards.{row_edge}
 use Rattle.gl_waits.specs.Waits.{waits_of}
 use Rattle.gl_waits.proofs.WalkLemmas.{reaches_back}

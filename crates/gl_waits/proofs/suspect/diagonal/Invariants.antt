@@ -1,5 +1,5 @@
 use Rattle.std.proofs.Common.{◌≡◌, ℕ, ◌&&◌, nat_lt}
-use Rattle.gl_waits.specs.Sets.{has_slot}
+use Rattle.gl_slots.specs.Slots.{has_slot}
 use Rattle.gl_waits.specs.Boards.{row_edge}
 use Rattle.gl_waits.proofs.suspect.diagonal.Given as goal
 

@@ -1,16 +1,16 @@
-use Rattle.std.proofs.Common.{◌≡◌, ◌≢◌, ℕ, ◌+◌, ⊎_elim, Bool, true, false, ◌&&◌, ◌||◌, nat_lt, List, get_or, set, bit_or, sym, ap, ◌∙◌, subst, arith}
+use Rattle.std.proofs.Common.{◌≡◌, ◌≢◌, ℕ, ◌+◌, ⊎_elim, Bool, true, false, ◌&&◌, ◌||◌, nat_lt, List, length, get_or, set, ◌<◌, sym, ap, ◌∙◌, subst, arith}
 use Rattle.std.proofs.lemmas.Bool.{cases_eq}
 use Rattle.std.proofs.lemmas.Bool.Decides.{nat_tests}
 use Rattle.std.proofs.lemmas.List.{get_or-set_same, get_or-set_other, set-get_or}
-use Rattle.gl_waits.specs.Sets.{has_slot}
+use Rattle.gl_slots.specs.declared.slots.Slots.{Slots}
+use Rattle.gl_slots.specs.Slots.{has_slot, no_slots}
 use Rattle.gl_waits.specs.Boards.{row_edge}
-use Rattle.gl_waits.proofs.SetLemmas.{has_slot-or}
 use Rattle.gl_waits.proofs.BoardLemmas.{row_edge-inside}
 use Rattle.gl_waits.proofs.suspect.pass_through.Goals as goal
-use Rattle.gl_waits.proofs.suspect.pass_through.Goals.{then-has, else-has}
+use Rattle.gl_waits.proofs.suspect.pass_through.Goals.{then-contains, else-contains}
 
 -- the rows below i have what lies beyond the middle, where they have the middle
-abbrev IsPassed : List ℕ → List ℕ → ℕ → ℕ → ℕ → Type 0
+abbrev IsPassed : List Slots → List Slots → ℕ → Slots → ℕ → Type 0
 IsPassed before now middle beyond i = (s u : ℕ) → row_edge now s u ≡ (row_edge before s u || (nat_lt s i && (row_edge before s middle && has_slot beyond u)))
 
 same_row : (a b now : Bool) (s i : ℕ) → s ≢ i → now ≡ (a || (nat_lt s i && b)) → now ≡ (a || (nat_lt s (i + 1) && b))
@@ -22,7 +22,7 @@ this_row a now has beyond i h = grind (arith, nat_tests)
 untouched : (a now : Bool) (b : Bool) (i : ℕ) → now ≡ (a || (nat_lt i i && b)) → now ≡ a
 untouched a now b i h = grind (arith, nat_tests)
 
-passed_row : (before now after : List ℕ) (middle beyond i : ℕ) → IsPassed before now middle beyond i → ((s u : ℕ) → s ≢ i → row_edge after s u ≡ row_edge now s u)
+passed_row : (before now after : List Slots) (middle : ℕ) (beyond : Slots) (i : ℕ) → IsPassed before now middle beyond i → ((s u : ℕ) → s ≢ i → row_edge after s u ≡ row_edge now s u)
     → ((u : ℕ) → row_edge after i u ≡ (row_edge now i u || (row_edge now i middle && has_slot beyond u))) → IsPassed before after middle beyond (i + 1)
 passed_row before now after middle beyond i passed others this s u =
     ⊎_elim
@@ -31,22 +31,16 @@ passed_row before now after middle beyond i passed others this s u =
     (λ ne. others s u ne ∙ same_row _ _ _ s i ne (passed s u))
     (cases_eq s i)
 
-written : (now : List ℕ) (middle beyond i : ℕ) → row_edge now i middle ≡ true → (u : ℕ) → row_edge (set now i (bit_or (get_or now i 0) beyond)) i u ≡ (row_edge now i u || (row_edge now i middle && has_slot beyond u))
-written now middle beyond i has u =
-    let inside = row_edge-inside now i middle has in
-    ap (λ n. has_slot n u) (get_or-set_same now i (bit_or (get_or now i 0) beyond) 0 inside)
-    ∙ has_slot-or (get_or now i 0) beyond u
-    ∙ ap (λ b. row_edge now i u || (b && has_slot beyond u)) (sym has)
-
 -- the row has the middle, and what lies beyond is added
-passed_write : (before now after : List ℕ) (middle beyond i : ℕ) → IsPassed before now middle beyond i → row_edge now i middle ≡ true → after ≡ set now i (bit_or (get_or now i 0) beyond) → IsPassed before after middle beyond (i + 1)
-passed_write before now after middle beyond i passed has is =
+passed_write : (before now after : List Slots) (middle : ℕ) (beyond row : Slots) (i : ℕ) → IsPassed before now middle beyond i → row_edge now i middle ≡ true → i < length now
+    → ((u : ℕ) → has_slot row u ≡ (has_slot (get_or now i no_slots) u || has_slot beyond u)) → after ≡ set now i row → IsPassed before after middle beyond (i + 1)
+passed_write before now after middle beyond row i passed has inside grown is =
     passed_row before now after middle beyond i passed
-    (λ s u ne. ap (λ xs. row_edge xs s u) is ∙ ap (λ n. has_slot n u) (get_or-set_other now i s (bit_or (get_or now i 0) beyond) 0 ne))
-    (λ u. ap (λ xs. row_edge xs i u) is ∙ written now middle beyond i has u)
+    (λ s u ne. ap (λ xs. row_edge xs s u) is ∙ ap (λ n. has_slot n u) (get_or-set_other now i s row no_slots ne))
+    (λ u. ap (λ xs. row_edge xs i u) is ∙ ap (λ n. has_slot n u) (get_or-set_same now i row no_slots inside) ∙ grown u ∙ ap (λ b. row_edge now i u || (b && has_slot beyond u)) (sym has))
 
 -- the row has it not, and stays
-passed_skip : (before now after : List ℕ) (middle beyond i : ℕ) → IsPassed before now middle beyond i → row_edge now i middle ≡ false → after ≡ now → IsPassed before after middle beyond (i + 1)
+passed_skip : (before now after : List Slots) (middle : ℕ) (beyond : Slots) (i : ℕ) → IsPassed before now middle beyond i → row_edge now i middle ≡ false → after ≡ now → IsPassed before after middle beyond (i + 1)
 passed_skip before now after middle beyond i passed has is =
     passed_row before now after middle beyond i passed
     (λ s u ne. ap (λ xs. row_edge xs s u) is)
@@ -55,9 +49,14 @@ passed_skip before now after middle beyond i passed has is =
     same : (a b has : Bool) → has ≡ false → a ≡ (a || (has && b))
     same a b has e = grind (arith, nat_tests)
 
-pub loop-row-preserved : goal.loop-row-preserved
-loop-row-preserved c =
-    elim c.if-has.branch [
-      | then-has w ↦ passed_write c.args.reaches.now c.loop-row.reaches c.if-has.reaches c.args.middle _ c.loop-row.row-index c.loop-row.invariant (sym c.has.ensures ∙ w.if-has.true) w.reaches-is
-      | else-has w ↦ passed_skip c.args.reaches.now c.loop-row.reaches c.if-has.reaches c.args.middle _ c.loop-row.row-index c.loop-row.invariant (sym c.has.ensures ∙ w.if-has.false) (w.reaches-is ∙ set-get_or c.loop-row.reaches c.loop-row.row-index 0)
-    ]
+pub loop-slot-preserved : goal.loop-slot-preserved
+loop-slot-preserved c = (
+  c.if-contains.array_long,
+  elim c.if-contains.branch [
+    | then-contains w ↦ passed_write c.args.reaches.now c.loop-slot.reaches c.if-contains.reaches c.args.middle _ w.union.result c.loop-slot.slot c.loop-slot.invariant.1 (sym c.contains.ensures ∙ w.if-contains.true) inside w.union.ensures w.reaches-is
+    | else-contains w ↦ passed_skip c.args.reaches.now c.loop-slot.reaches c.if-contains.reaches c.args.middle _ c.loop-slot.slot c.loop-slot.invariant.1 (sym c.contains.ensures ∙ w.if-contains.false) w.reaches-is
+  ],
+)
+  where
+    inside : c.loop-slot.slot < length c.loop-slot.reaches
+    inside = let h = c.loop-slot-test.true in let many = c.loop-slot.invariant.0 in omega arith

@@ -1,7 +1,8 @@
 use Rattle.std.proofs.Common.{◌≡◌, length}
+use Rattle.gl_slots.specs.Limit.{most_slots}
 use Rattle.gl_waits.specs.Boards.{row_edge}
 use Rattle.gl_waits.proofs.Closing.{IsClosedBelow}
 use Rattle.gl_waits.proofs.suspect.reaches_of_all.Given as goal
 
 abbrev pub invariant-loop-middle : goal.invariant-loop-middle
-invariant-loop-middle l = IsClosedBelow (row_edge l.fn.rows) (row_edge l.reaches) l.middle × (length l.reaches ≡ 128)
+invariant-loop-middle l = IsClosedBelow (row_edge l.fn.rows) (row_edge l.reaches) l.middle × (length l.reaches ≡ most_slots)

@@ -3,4 +3,4 @@ use Rattle.gl_waits.proofs.Chosen.{chosen-none}
 use Rattle.gl_waits.proofs.victim.youngest_of.Goals as goal
 
 pub returns-clause-none : goal.returns-clause-none
-returns-clause-none c = chosen-none c.args.set (slice_index c.args.ages.now) c.loop-slot.slot c.loop-slot.chosen c.ranges.set.fits c.loop-slot-test.false c.loop-slot.invariant
+returns-clause-none c = chosen-none c.args.set (slice_index c.args.ages.now) c.loop-slot.slot c.loop-slot.chosen c.law.ensures c.loop-slot-test.false c.loop-slot.invariant

@@ -1,5 +1,5 @@
 use Rattle.std.proofs.Common.{slice_index}
-use Rattle.gl_waits.specs.Sets.{has_slot}
+use Rattle.gl_slots.specs.Slots.{has_slot}
 use Rattle.gl_waits.proofs.Chosen.{IsChosenBelow}
 use Rattle.gl_waits.proofs.victim.youngest_of.Given as goal
 

@@ -1,5 +1,5 @@
 use Rattle.std.proofs.Common.{ℕ, Bool, IsTrue, IfSome, slice_index, sym, subst}
-use Rattle.gl_waits.specs.Sets.{has_slot}
+use Rattle.gl_slots.specs.Slots.{has_slot}
 use Rattle.gl_waits.specs.Waits.{IsLowestYoungest, IsOnCycleOf}
 use Rattle.gl_waits.specs.Victims.{IsCandidate}
 use Rattle.gl_waits.specs.declared.victims.Victims.{Victims}
@@ -9,8 +9,8 @@ use Rattle.gl_waits.proofs.victims.victim_for.Goals as goal
 
 pub returns-in-Youngest-clause-none : goal.returns-in-Youngest-clause-none
 returns-in-Youngest-clause-none g c = (
-  λ e. empty-no_cycle edge c.args.slot c.on_cycle_in.result c.on_cycle_in.ensures (c.youngest_of.ensures.none.0 e),
-  λ none. c.youngest_of.ensures.none.1 (no_cycle-empty edge c.args.slot c.on_cycle_in.result c.on_cycle_in.ensures none),
+  λ e. empty-no_cycle edge c.args.slot (has_slot c.on_cycle_in.result) c.on_cycle_in.ensures (c.youngest_of.ensures.none.0 e),
+  λ none. c.youngest_of.ensures.none.1 (no_cycle-empty edge c.args.slot (has_slot c.on_cycle_in.result) c.on_cycle_in.ensures none),
 )
   where
     edge : ℕ → ℕ → Bool
