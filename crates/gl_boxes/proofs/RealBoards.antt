@@ -1,4 +1,5 @@
 -- The board of every manager is fine: its steps are the waits of the state.
+use Rattle.gl_slots.specs.Limit.{most_slots}
 use Rattle.std.specs.Prelude.{◌≡◌, ℕ, ◌<◌, ◌≤◌, Bool, true, false, not, ◌&&◌, is_some}
 use Rattle.std.proofs.Common.{refl, sym, ap, subst, ◌∙◌, arith}
 use Rattle.std.proofs.Math.Path.{fun_ext}
@@ -24,7 +25,7 @@ use Rattle.gl_table.proofs.calls.Stands.{lawful_orderly}
 use Rattle.gl_catalog.specs.Manager.{IsLawfulManager, ManagerView, state_of}
 use Rattle.gl_boxes.specs.Boards.{Fine}
 
-module _ (s : State) (law : IsLawful s) (few : s.most ≤ 128) where
+module _ (s : State) (law : IsLawful s) (few : s.most ≤ most_slots) where
   -- who waits lives, and so does who is waited for
   waiter_lives : (x y : ℕ) → waits_for s x y ≡ true → is_some (s.txns x) ≡ true
   waiter_lives x y h = txn_there (s.txns x) _ (step_is s x y h).2.waits
@@ -40,23 +41,23 @@ module _ (s : State) (law : IsLawful s) (few : s.most ≤ 128) where
       (λ b. txn_there (s.txns y) _ (waits_there s o y n (ahead_second (s.queue n) x y (sym (ahead_is (s.queue n) x y) ∙ b))).1)
 
   -- so both are seated
-  low : (x y : ℕ) → waits_for s x y ≡ true → (x < 128) × (y < 128)
+  low : (x y : ℕ) → waits_for s x y ≡ true → (x < most_slots) × (y < most_slots)
   low x y h =
       let o = lawful_orderly s law in
       let a = o.below x (waiter_lives x y h) in let b = o.below y (awaited_lives x y h) in (omega (arith, a, few), omega (arith, b, few))
 
   -- the steps of the board are the waits
   edges : (x y : ℕ) → board_edge (board_of s) x y ≡ waits_for s x y
-  edges x y = row_edge-bits_of 128 128 (waits_for s) low x y
+  edges x y = row_edge-bits_of most_slots most_slots (waits_for s) low x y
 
   pub edges_are : board_edge (board_of s) ≡ waits_for s
   edges_are = fun_ext (λ x. fun_ext (λ y. edges x y))
 
   -- the board shows the age of each slot that it has
-  age_shown : (x : ℕ) → x < 128 → age_in (board_of s) x ≡ age_of s x
-  age_shown x inside = get_or-map-range_with_len (age_of s) 0 128 x x 0 inside (omega arith)
+  age_shown : (x : ℕ) → x < most_slots → age_in (board_of s) x ≡ age_of s x
+  age_shown x inside = get_or-map-range_with_len (age_of s) 0 most_slots x x 0 inside (omega arith)
 
-  aged : (x : ℕ) → x < 128 → is_some (s.txns x) ≡ true → 0 < age_in (board_of s) x
+  aged : (x : ℕ) → x < most_slots → is_some (s.txns x) ≡ true → 0 < age_in (board_of s) x
   aged x inside there = let a = (law.ages x there).0 in let e = age_shown x inside in omega (arith, a, e)
 
   none_self : (x : ℕ) → waits_for s x x ≡ false

@@ -1,4 +1,5 @@
 -- What is told stands by rising slot.
+use Rattle.gl_slots.specs.Limit.{most_slots}
 use Rattle.std.specs.Prelude.{◌≡◌, ℕ, zero, suc, ◌+◌, ◌<◌, ◌≤◌, Bool, true, false, not, ◌==◌, List, [], ◌∷◌, Option, Some, None, if◌then◌else◌}
 use Rattle.std.specs.List.{cons_option, filter, filter_map, range_with_len}
 use Rattle.std.proofs.Common.{refl, sym, ap, subst, arith, le_trans}
@@ -50,15 +51,15 @@ named : (u k : ℕ) (o : Option Notice) (x : TxnId × Notice) → addressed (rec
 named u k None x e = absurd (cc e)
 named u k (Some y) x e = let is : (record { slot = u; age = k }, y) ≡ x = cc e in ap (λ (z : TxnId × Notice). z.0.slot) (sym is)
 
-told_rises : (s s' : State) → s.most ≤ 128 → RisingTo 0 (told s s') 128
+told_rises : (s s' : State) → s.most ≤ most_slots → RisingTo 0 (told s s') most_slots
 told_rises s s' few =
-    rising_on 0 (0 + s.most) 128 (told s s')
+    rising_on 0 (0 + s.most) most_slots (told s s')
     (each_slot (λ t. addressed (record { slot = t; age = age_of s t }) (told_from s' t (status_of s t)))
     (λ u x e. named u (age_of s u) (told_from s' u (status_of s u)) x e) s.most 0)
     (omega (arith, few))
 
 -- whatever the command is, who is told stands by rising slot
-pub step_rises : (s : State) (c : Command) (a : Answer) (list : List (TxnId × Notice)) (s' : State) → s.most ≤ 128 → Step s c a list s' → RisingTo 0 list 128
+pub step_rises : (s : State) (c : Command) (a : Answer) (list : List (TxnId × Notice)) (s' : State) → s.most ≤ most_slots → Step s c a list s' → RisingTo 0 list most_slots
 step_rises s c a list s' few step =
-    each_told (λ xs. RisingTo 0 xs 128) s c a list s' (omega arith) (λ now. told_rises s now few)
-    (λ t now. kept (λ x. not (x.0.slot == t)) 0 128 (told s now) (told_rises s now few)) step
+    each_told (λ xs. RisingTo 0 xs most_slots) s c a list s' (omega arith) (λ now. told_rises s now few)
+    (λ t now. kept (λ x. not (x.0.slot == t)) 0 most_slots (told s now) (told_rises s now few)) step

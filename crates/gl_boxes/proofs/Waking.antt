@@ -1,4 +1,5 @@
 -- Whoever has to be woken is named, or told.
+use Rattle.gl_slots.specs.Limit.{most_slots}
 use Rattle.std.specs.Prelude.{◌≡◌, ℕ, ◌<◌, Bool, true, false, ◌||◌, ◌==◌, bit_or}
 use Rattle.std.specs.List.{list_any}
 use Rattle.std.proofs.Common.{refl, ap, arith, subst, ◌∙◌}
@@ -52,7 +53,7 @@ names_its_slot (command.Adopt f keys) t h = h
 names_its_slot (command.Forget r) t h = h
 
 -- a set of the slots that are told, and of the one that is named, has everybody whose wait was ended
-pub wakes_ended : (c : Command) (told : Told) (slots : ℕ) → ((u : ℕ) → u < 128 → has_slot slots u ≡ (names_slot c u || list_any (λ x. x.0.slot == u) told))
+pub wakes_ended : (c : Command) (told : Told) (slots : ℕ) → ((u : ℕ) → u < most_slots → has_slot slots u ≡ (names_slot c u || list_any (λ x. x.0.slot == u) told))
     → WakesEnded c told slots
 wakes_ended c told slots is s s' a step law t n below was gone =
     is t.slot below

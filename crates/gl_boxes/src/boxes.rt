@@ -1,5 +1,6 @@
 //! The boxes of slots: what each transaction was told last, and what became of its wait.
 
+ghost use Rattle.gl_slots.specs.Limit.{most_slots};
 ghost use Rattle.std.specs.Prelude.{◌≡◌, [], true, false, None, Some, Ok, List, slice_set, replicate};
 ghost use Rattle.gl_modes.specs.Modes.{is_at_least};
 ghost use Rattle.gl_model.specs.State.{is_waiting_at, lives};
@@ -36,7 +37,7 @@ impl Model for Boxes {
 impl Boxes {
     /// Boxes that are empty.
     pub fn new() -> Boxes
-        ensures { result ≡ replicate 128 None }
+        ensures { result ≡ replicate most_slots None }
     {
         Boxes {
             slots: [None; SLOTS],
@@ -46,7 +47,7 @@ impl Boxes {
     /// Puts the notices of an accepted command into their slots' boxes. Behind a lock its own slot's is
     /// empty, so that what stands there later is its own verdict.
     pub fn deliver(&mut self, command: &Command<'_>, told: &[(TxnId, Notice)])
-        requires { RisingTo 0 told.now 128 }
+        requires { RisingTo 0 told.now most_slots }
         ensures told { (mid : List ASlot) × Delivers self.old told.now mid × (self.new ≡ emptied command.now mid) }
         ensures none { told.now ≡ [] → self.new ≡ emptied command.now self.old }
     {
@@ -99,7 +100,7 @@ impl Boxes {
 
 /// Puts each notice into its slot's box.
 fn deliver(boxes: &mut [Slot; SLOTS], told: &[(TxnId, Notice)])
-    requires { RisingTo 0 told.now 128 }
+    requires { RisingTo 0 told.now most_slots }
     ensures told { Delivers boxes.old told.now boxes.new }
     ensures none { told.now ≡ [] → boxes.new ≡ boxes.old }
 {

@@ -1,6 +1,7 @@
 //! Who is woken. A wait of a transaction ends only by a command that tells it, or by one that takes
 //! its wait back or ends it by name: so no other sleeper has to look.
 
+ghost use Rattle.gl_slots.specs.Limit.{most_slots};
 ghost use Rattle.std.specs.Prelude.{◌≡◌, ◌<◌, ◌||◌, ◌==◌, ℕ};
 ghost use Rattle.std.specs.List.{list_any};
 ghost use Rattle.gl_waits.specs.Sets.{has_slot};
@@ -15,8 +16,8 @@ use gl_waits::set::with;
 /// The slots whose wait a command may have ended that told these: who is told, and whose wait it
 /// cancelled or aborted by name.
 pub fn ended_by(command: &Command<'_>, told: &[(TxnId, Notice)]) -> u128
-    requires { RisingTo 0 told.now 128 }
-    ensures slots { (u : ℕ) → u < 128 → has_slot result u ≡ (names_slot command.now u || list_any (λ x. x.0.slot == u) told.now) }
+    requires { RisingTo 0 told.now most_slots }
+    ensures slots { (u : ℕ) → u < most_slots → has_slot result u ≡ (names_slot command.now u || list_any (λ x. x.0.slot == u) told.now) }
     ensures all { WakesEnded command.now told.now result }
 {
     let mut slots = named_by(command);
@@ -28,7 +29,7 @@ pub fn ended_by(command: &Command<'_>, told: &[(TxnId, Notice)]) -> u128
 
 /// The slot whose transaction a cancel or an abort names; none for any other command.
 fn named_by(command: &Command<'_>) -> u128
-    ensures { (u : ℕ) → u < 128 → has_slot result u ≡ names_slot command.now u }
+    ensures { (u : ℕ) → u < most_slots → has_slot result u ≡ names_slot command.now u }
 {
     match command {
         Command::Cancel { txn } | Command::Abort { txn } if (txn.slot as usize) < SLOTS => {

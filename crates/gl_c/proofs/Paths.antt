@@ -1,4 +1,5 @@
 -- What a path is to those who are told, who wait and who watch. For Guarded.serve_path.
+use Rattle.gl_slots.specs.Limit.{most_slots}
 use Rattle.std.specs.Prelude.{◌≡◌, ◌⊎◌, ℕ, zero, suc, ◌+◌, ◌<◌, ◌≤◌, ◌==◌, ◌||◌, not, Bool, true, false, [], ◌∷◌, length, OnErr, Result, Ok, Err}
 use Rattle.std.specs.List.{list_any}
 use Rattle.std.proofs.lemmas.Bool.Decides.{nat_tests}
@@ -131,11 +132,11 @@ module _ (t : TxnId) (ask last : Ask) (r : Says) (m' : ManagerView) where
   path_detect (suc k) m path = path_detect k path.2 path.5 ∙ steps_keep_detect (state_of m) (state_of path.2) (lock_of t path.0) path.1.0 path.1.1 path.3.step
 
   -- who is told stands by rising slot
-  pub path_rises : (k : ℕ) (m : ManagerView) → (state_of m).most ≤ 128 → IsPath k t ask m last r m' → RisingTo 0 r.1 128
+  pub path_rises : (k : ℕ) (m : ManagerView) → (state_of m).most ≤ most_slots → IsPath k t ask m last r m' → RisingTo 0 r.1 most_slots
   path_rises zero m few path = step_rises (state_of m) (lock_of t last) r.0 r.1 (state_of m') few path.0.step
   path_rises (suc k) m few path =
       path_rises k path.2
-      (subst (λ n. n ≤ 128) (sym (lock_most t path.0 (state_of m) (state_of path.2) path.1.0 path.1.1 path.3.step)) few) path.5
+      (subst (λ n. n ≤ most_slots) (sym (lock_most t path.0 (state_of m) (state_of path.2) path.1.0 path.1.1 path.3.step)) few) path.5
 
   -- where nobody waits and it leaves nobody waiting, nobody waits behind it
   pub path_quiet : (k : ℕ) (m : ManagerView) → NobodyWaits (state_of m) → (r.0 ≡ answer.Waiting → ⊥) → IsPath k t ask m last r m' → NobodyWaits (state_of m')
@@ -146,7 +147,7 @@ module _ (t : TxnId) (ask last : Ask) (r : Says) (m' : ManagerView) where
       (nobody_waits_on (state_of m) (state_of path.2) (lock_of t path.0) path.1.0 path.1.1 idle (λ is. absurd (cc (is, yes.1))) path.3.step) goes path.5
 
   -- whose wait it ends is told by its last ask
-  pub path_ended : (k : ℕ) (m : ManagerView) (slots : ℕ) → ((u : ℕ) → u < 128 → has_slot slots u ≡ (false || list_any (λ x. x.0.slot == u) r.1))
+  pub path_ended : (k : ℕ) (m : ManagerView) (slots : ℕ) → ((u : ℕ) → u < most_slots → has_slot slots u ≡ (false || list_any (λ x. x.0.slot == u) r.1))
       → IsPath k t ask m last r m' → HasEnded (state_of m) (state_of m') slots
   path_ended zero m slots is path law u n below was gone =
       wakes_ended (lock_of t last) r.1 slots is (state_of m) (state_of m') r.0 path.0.step law u n below was gone
@@ -203,15 +204,15 @@ module _ (t : TxnId) (ask : Ask) (m m' : ManagerView) (told : Told) where
     pub keeps_detect : (state_of m').detect ≡ (state_of m).detect
     keeps_detect = path_detect t ask path.1 says m' path.0 m path.2
 
-    pub told_rises : (state_of m).most ≤ 128 → RisingTo 0 told 128
-    told_rises few = subst (λ (l : Told). RisingTo 0 l 128) (told_is result none) (path_rises t ask path.1 says m' path.0 m few path.2)
+    pub told_rises : (state_of m).most ≤ most_slots → RisingTo 0 told most_slots
+    told_rises few = subst (λ (l : Told). RisingTo 0 l most_slots) (told_is result none) (path_rises t ask path.1 says m' path.0 m few path.2)
 
     pub stays_quiet : (waited : Bool) → (waited ≡ false → NobodyWaits (state_of m)) → (waited || ends_waiting result) ≡ false → NobodyWaits (state_of m')
     stays_quiet waited quiet e =
         let both = neither waited (ends_waiting result) e in
         path_quiet t ask path.1 says m' path.0 m (quiet both.0) (none_waiting result both.1) path.2
 
-    pub ended_told : (slots : ℕ) → ((u : ℕ) → u < 128 → has_slot slots u ≡ (false || list_any (λ x. x.0.slot == u) told))
+    pub ended_told : (slots : ℕ) → ((u : ℕ) → u < most_slots → has_slot slots u ≡ (false || list_any (λ x. x.0.slot == u) told))
         → HasEnded (state_of m) (state_of m') slots
     ended_told slots is =
         path_ended t ask path.1 says m' path.0 m slots

@@ -1,4 +1,5 @@
 -- What a call about rows is to those who are told, who wait and who watch. For Guarded.serve_row.
+use Rattle.gl_slots.specs.Limit.{most_slots}
 use Rattle.std.specs.Prelude.{◌≡◌, ◌⊎◌, ℕ, ◌<◌, ◌≤◌, ◌==◌, ◌||◌, ◌&&◌, not, Bool, true, false, List, [], Option, Some, None, Result, Ok, Err}
 use Rattle.std.specs.List.{list_any}
 use Rattle.std.proofs.Common.{refl, sym, ap, subst, ◌∙◌, inl, inr, arith}
@@ -208,9 +209,9 @@ module _ (m : ManagerView) (c : Command) (told : Told) (m' : ManagerView) where
     keeps_detect =
         ap (λ (x : State). x.detect) left_after.is ∙ steps_keep_detect h.ahead h.behind c done.answer told h.step ∙ ap (λ (x : State). x.detect) left_before.is
 
-    told_rises : (state_of m).most ≤ 128 → RisingTo 0 told 128
+    told_rises : (state_of m).most ≤ most_slots → RisingTo 0 told most_slots
     told_rises few =
-        step_rises h.ahead c done.answer told h.behind (subst (λ n. n ≤ 128) (sym (ap (λ (x : State). x.most) left_before.is)) few) h.step
+        step_rises h.ahead c done.answer told h.behind (subst (λ n. n ≤ most_slots) (sym (ap (λ (x : State). x.most) left_before.is)) few) h.step
 
     stays_quiet : (waited waits : Bool) → waits ≡ is_waited_for o → (waited ≡ false → NobodyWaits (state_of m)) → (waited || waits) ≡ false
         → NobodyWaits (state_of m')
@@ -220,7 +221,7 @@ module _ (m : ManagerView) (c : Command) (told : Told) (m' : ManagerView) where
         (nobody_waits_on h.ahead h.behind c done.answer told (leaves_idle (state_of m) h.ahead left_before (quiet both.0))
         (λ is. true≢false (sym (so ∙ ap is_waited_for done.is ∙ ap leaves_waiting is) ∙ both.1)) h.step)
 
-    ends : (slots : ℕ) → ((u : ℕ) → u < 128 → has_slot slots u ≡ (names_slot c u || list_any (λ x. x.0.slot == u) told))
+    ends : (slots : ℕ) → ((u : ℕ) → u < most_slots → has_slot slots u ≡ (names_slot c u || list_any (λ x. x.0.slot == u) told))
         → HasEnded (state_of m) (state_of m') slots
     ends slots is law u n below was gone =
         wakes_ended c told slots is h.ahead h.behind done.answer h.step (upkeep_law (state_of m) h.ahead law h.before) u n below
@@ -241,14 +242,14 @@ module _ (g : RegistryView) (c : RowCall) (a : RowAnswer) (told : Told) (v : Reg
   pub row_detect : (state_of v.manager).detect ≡ (state_of g.manager).detect
   row_detect = keeps_detect g.manager command told v.manager (answer_in a) done
 
-  pub row_rises : (state_of g.manager).most ≤ 128 → RisingTo 0 told 128
+  pub row_rises : (state_of g.manager).most ≤ most_slots → RisingTo 0 told most_slots
   row_rises = told_rises g.manager command told v.manager (answer_in a) done
 
   pub row_quiet : (waited waits : Bool) → waits ≡ is_waited_for (answer_in a) → (waited ≡ false → NobodyWaits (state_of g.manager)) → (waited || waits) ≡ false
       → NobodyWaits (state_of v.manager)
   row_quiet = stays_quiet g.manager command told v.manager (answer_in a) done
 
-  row_ends : (slots : ℕ) → ((u : ℕ) → u < 128 → has_slot slots u ≡ (names_slot command u || list_any (λ x. x.0.slot == u) told))
+  row_ends : (slots : ℕ) → ((u : ℕ) → u < most_slots → has_slot slots u ≡ (names_slot command u || list_any (λ x. x.0.slot == u) told))
       → HasEnded (state_of g.manager) (state_of v.manager) slots
   row_ends = ends g.manager command told v.manager (answer_in a) done
 
@@ -276,12 +277,12 @@ pub row_some : (g after : GuardedView) (c : RowCall) (a : RowAnswer) (told : Tol
     → comes_to_nothing (answer_in a) ≡ false
     → ((mid : List Slot) × Delivers g.boxes told mid × (boxes ≡ emptied (own_command unnamed c) mid))
     → (after.manager ≡ v.manager) × (after.boxes ≡ boxes) × (after.ended ≡ ended) × (after.rows ≡ v.rows)
-    → ((u : ℕ) → u < 128 → has_slot ended u ≡ (names_slot (own_command unnamed c) u || list_any (λ x. x.0.slot == u) told))
+    → ((u : ℕ) → u < most_slots → has_slot ended u ≡ (names_slot (own_command unnamed c) u || list_any (λ x. x.0.slot == u) told))
     → ShowsOn (g.waited || is_waited_for (answer_in a)) (board_of (state_of v.manager)) g.shown after.shown → IsQuiet after.manager after.shown after.waited
     → ServesRow g c a told after
 row_some g after c a told v boxes ended applies own came delivered kept slots shown quiet =
     let same : registry_in after ≡ v = λ i. record { manager = kept.0 i; rows = kept.3 i } in
-    let named : (u : ℕ) → u < 128 → has_slot ended u ≡ (names_slot (own_command (naming c g.rows v.rows) c) u || list_any (λ x. x.0.slot == u) told) =
+    let named : (u : ℕ) → u < most_slots → has_slot ended u ≡ (names_slot (own_command (naming c g.rows v.rows) c) u || list_any (λ x. x.0.slot == u) told) =
     λ u below. slots u below ∙ ap (λ b. b || list_any (λ x. x.0.slot == u) told) (names_as unnamed (naming c g.rows v.rows) c u) in
     record {
       applies = subst (λ (x : RegistryView). AppliesCall (registry_in g) c a told x) (sym same) applies;

@@ -1,4 +1,5 @@
 -- Boards in C's memory, and what is found on them.
+use Rattle.gl_slots.specs.Limit.{most_slots}
 use Rattle.std.specs.Prelude.{◌≡◌, ℕ, ◌+◌, ◌*◌, ◌/◌, ◌%◌, ◌^◌, ◌<◌, ◌≤◌, ◌↔◌, IsTrue, Option, Some, None, map}
 use Rattle.gl_waits.specs.declared.board.Board.{Board as TheBoard}
 use Rattle.gl_waits.specs.Boards.{age_in, board_edge}
@@ -33,8 +34,8 @@ Shows (Some g) r board board' s' = (r ≡ status_reply done) × (board_in board'
 
 -- the slots on a cycle with a slot of the board; a greater number is refused
 pub record FindsCycle (b : Board) (slot : ℕ) (f : Found) : Type 0 where
-  pub known : slot < 128 → (f.status ≡ done) × ((u : ℕ) → IsTrue (has_slot (set_of f.slots) u) ↔ IsOnCycleOf (board_edge (board_in b)) slot u)
-  pub other : 128 ≤ slot → (f.status ≡ bad_number) × (set_of f.slots ≡ 0)
+  pub known : slot < most_slots → (f.status ≡ done) × ((u : ℕ) → IsTrue (has_slot (set_of f.slots) u) ↔ IsOnCycleOf (board_edge (board_in b)) slot u)
+  pub other : most_slots ≤ slot → (f.status ≡ bad_number) × (set_of f.slots ≡ 0)
 
 -- the slots that are on some cycle
 pub record FindsSuspects (b : Board) (f : Found) : Type 0 where

@@ -1,4 +1,5 @@
 -- The numbers by which C names modes, ways of detection, choices of victims and kinds of notices, and the statuses that are no refusals.
+use Rattle.gl_slots.specs.Limit.{most_slots}
 use Rattle.std.specs.Prelude.{ℕ, Option, Some, None, ◌==◌, if◌then◌else◌, nat_lt}
 use Rattle.gl_modes.specs.declared.mode.Mode.{Mode}
 use Rattle.gl_modes.specs.declared.mode.Mode.TheVariants.{NL, IS, IX, S, SIX, X}
@@ -44,7 +45,7 @@ victims_at n = if n == 0 then Some Youngest else if n == 1 then Some Fewest else
 
 -- the slot of a number, if it is one's
 abbrev pub slot_at : ℕ → Option ℕ
-slot_at n = if nat_lt n 128 then Some n else None
+slot_at n = if nat_lt n most_slots then Some n else None
 
 -- it was done; refusals have their own numbers, 1 to 22
 abbrev pub done : ℕ

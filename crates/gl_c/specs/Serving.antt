@@ -1,4 +1,5 @@
 -- What a command does to all that C's mutex guards.
+use Rattle.gl_slots.specs.Limit.{most_slots}
 use Rattle.std.specs.Prelude.{◌≡◌, ◌⊎◌, ℕ, ◌<◌, ◌||◌, ◌==◌, Bool, true, false, List, [], ◌∷◌, ◌++◌, Option, Some, None, IfSome}
 use Rattle.std.specs.List.{list_any}
 use Rattle.gl_waits.specs.declared.board.Board.{Board}
@@ -40,7 +41,7 @@ HasShown board (Some before) after = IfSome after (λ s. s.list ≡ before.list 
 -- whose wait the command ended is in the set: exactly whom it told, and whom a cancel or an abort names
 pub record Wakes (c : Command) (m : ManagerView) (told : Told) (m' : ManagerView) (ended : ℕ) : Type 0 where
   pub all : HasEnded (state_of m) (state_of m') ended
-  pub slots : (u : ℕ) → u < 128 → has_slot ended u ≡ (names_slot c u || list_any (λ x. x.0.slot == u) told)
+  pub slots : (u : ℕ) → u < most_slots → has_slot ended u ≡ (names_slot c u || list_any (λ x. x.0.slot == u) told)
 
 -- a command is carried out; its notices stand in their boxes, but that an accepted lock empties its own slot's; whose wait it ended is known;
 -- watchers are shown the board behind it, whole, or nothing; one that is not accepted changes nothing; no row gets or loses its node

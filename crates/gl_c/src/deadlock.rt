@@ -1,5 +1,6 @@
 //! A deadlock in the caller's memory.
 
+ghost use Rattle.gl_slots.specs.Limit.{most_slots};
 ghost use Rattle.std.specs.Prelude.{◌≡◌, ◌≤◌, length, map, take};
 ghost use Rattle.gl_c.specs.Deadlocks.{RecallsLast, Says, stuck_of};
 
@@ -59,7 +60,7 @@ impl Deadlock {
 
     /// Has these places, and no more.
     fn put_all(&mut self, cycle: &[gl_table::Stuck])
-        requires { length cycle.now ≤ 128 }
+        requires { length cycle.now ≤ most_slots }
         ensures victim { self.new.victim ≡ self.old.victim }
         ensures counted { self.new.count ≡ length cycle.now }
         ensures listed { take (length cycle.now) self.new.at ≡ map stuck_of cycle.now }

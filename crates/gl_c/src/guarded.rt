@@ -1,5 +1,6 @@
 //! All that C's mutex guards.
 
+ghost use Rattle.gl_slots.specs.Limit.{most_slots};
 ghost use Rattle.std.specs.Prelude.{◌≡◌, ◌≤◌, ◌^◌, ◌⊎◌, ◌∷◌, ◌++◌, false, true, [], IfErr, IfNone, IfOk, IfSome, None, Ok, Some, replicate};
 ghost use Rattle.gl_modes.specs.declared.refusal.Refusal.{Refusal as ARefusal};
 ghost use Rattle.gl_table.specs.Table.{board_of};
@@ -40,7 +41,7 @@ fn manager_for(
     nodes: u32,
 ) -> Result<Manager, Refusal>
     requires some { 1 ≤ most }
-    requires few { most ≤ 128 }
+    requires few { most ≤ most_slots }
     requires low { nodes ≤ 2 ^ 31 }
     ensures made { IfOk result (λ manager. state_of manager ≡ made_for nodes (choosing victims (empty_state detect most))) }
     ensures refused { IfErr result (λ refusal. refusal ≡ ARefusal.NoMemory) }
@@ -86,7 +87,7 @@ impl Guarded {
         nodes: u32,
     ) -> Result<Self, Refusal>
         requires some { 1 ≤ most }
-        requires few { most ≤ 128 }
+        requires few { most ≤ most_slots }
         requires low { nodes ≤ 2 ^ 31 }
         ensures made { IfOk result (λ guarded. IsNew detect victims most nodes guarded) }
         ensures refused { IfErr result (λ refusal. refusal ≡ ARefusal.NoMemory) }

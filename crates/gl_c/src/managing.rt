@@ -1,5 +1,6 @@
 //! Managers come and go.
 
+ghost use Rattle.gl_slots.specs.Limit.{most_slots};
 ghost use Rattle.std.specs.Prelude.{◌≡◌, ◌≤◌, ◌^◌, None};
 ghost use Rattle.gl_c.specs.Handle.{guarded_in};
 ghost use Rattle.gl_c.specs.Managing.{Begins, Makes, can_have, ended};
@@ -97,7 +98,7 @@ fn make(
 ) -> Reply
     requires none { guarded_in manager.old ≡ None }
     requires some { 1 ≤ most }
-    requires few { most ≤ 128 }
+    requires few { most ≤ most_slots }
     requires low { nodes ≤ 2 ^ 31 }
     ensures { Begins detect victims most nodes result (guarded_in manager.new) }
 {

@@ -1,5 +1,6 @@
 //! What is told to C.
 
+ghost use Rattle.gl_slots.specs.Limit.{most_slots};
 ghost use Rattle.std.specs.Prelude.{◌≡◌, ◌≤◌, [], length};
 ghost use Rattle.gl_c.specs.Notices.{Tells, bare_notice, notice_of};
 
@@ -71,7 +72,7 @@ impl Notices {
 
     /// Has these, and nothing that it had before.
     pub(crate) fn put(&mut self, told: &[(TxnId, TableNotice)])
-        requires { length told.now ≤ 128 }
+        requires { length told.now ≤ most_slots }
         ensures { Tells self.new told.now }
     {
         for (place, (txn, notice)) in told.iter().enumerate() {

@@ -1,5 +1,6 @@
 //! A manager with its list of notices.
 
+ghost use Rattle.gl_slots.specs.Limit.{most_slots};
 ghost use Rattle.std.specs.Prelude.{◌≡◌, ◌≤◌, ◌^◌, IfErr, IfOk, Some};
 ghost use Rattle.gl_modes.specs.declared.refusal.Refusal.{Refusal as ARefusal};
 ghost use Rattle.gl_table.specs.Table.{board_of};
@@ -59,7 +60,7 @@ impl Session {
         nodes: u32,
     ) -> Result<Self, Refusal>
         requires some { 1 ≤ most }
-        requires few { most ≤ 128 }
+        requires few { most ≤ most_slots }
         requires low { nodes ≤ 2 ^ 31 }
         ensures made { IfOk result (λ session. IsNew detect victims most nodes session) }
         ensures refused { IfErr result (λ refusal. refusal ≡ ARefusal.NoMemory) }

@@ -1,4 +1,5 @@
 -- No definition of the table asks for the count of accepted commands.
+use Rattle.gl_slots.specs.Limit.{most_slots}
 use Rattle.gl_waits.specs.declared.victims.Victims.{Victims}
 use Rattle.std.specs.Prelude.{◌≡◌, ◌≤◌, ℕ, zero, suc}
 use Rattle.std.proofs.Common.{refl, ap, get_or}
@@ -96,7 +97,7 @@ module _ (k : ℕ) where
   }
 
   -- a lawful table with this count is a lawful manager
-  pub lawful_manager : (v : TableView) (counts : Counters) → IsLawful (table_state v) → AreHeaders v.headers → ListsAgree v → StandOnce v → HasNoConflict (table_state v) → (v.detect ≡ AtBlock → HasNoCycle (table_state v)) → (table_state v).most ≤ 128
+  pub lawful_manager : (v : TableView) (counts : Counters) → IsLawful (table_state v) → AreHeaders v.headers → ListsAgree v → StandOnce v → HasNoConflict (table_state v) → (v.detect ≡ AtBlock → HasNoCycle (table_state v)) → (table_state v).most ≤ most_slots
       → IsLawfulManager (record { table = v; accepted = k; counters = counts })
   lawful_manager v counts law headers lists unique conflict cycle few = record {
     lawful = lawful_counting (table_state v) law;

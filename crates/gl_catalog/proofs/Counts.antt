@@ -1,4 +1,5 @@
 -- What counting a command comes to.
+use Rattle.gl_slots.specs.Limit.{most_slots}
 use Rattle.std.specs.Prelude.{◌≡◌, ℕ, zero, suc, ◌+◌, ◌-◌, ◌<◌, ◌≤◌, Bool, true, false, not, List, [], ◌∷◌, ◌++◌, cond, get_or, is_some, length, max, take, Err, Option, Some, None}
 use Rattle.std.specs.List.{count_by, range_with_len}
 use Rattle.std.proofs.Common.{refl, ap, sym, ◌∙◌, arith}
@@ -108,16 +109,16 @@ past_most s law t past = by (s.txns t) refl
     by (Some x) e = let below = law.slots_below t (ap is_some e) in absurd (omega (arith, below, past))
 
 -- a set of the slots of those who wait has as many as wait
-pub waiting_slots : (s : State) (w : Slots) → IsLawful s → s.most ≤ 128 → ((u : ℕ) → has_slot w u ≡ is_wait (status_of s u)) → length (slots_of w) ≡ waiting_below s s.most
+pub waiting_slots : (s : State) (w : Slots) → IsLawful s → s.most ≤ most_slots → ((u : ℕ) → has_slot w u ≡ is_wait (status_of s u)) → length (slots_of w) ≡ waiting_below s s.most
 waiting_slots s w law few is =
-    let limit : 128 ≡ s.most + (128 - s.most) = omega (arith, few) in
+    let limit : most_slots ≡ s.most + (most_slots - s.most) = omega (arith, few) in
     length-filter (has_slot w) (range_with_len 0 slot_limit)
     ∙ ap (λ p. count_by p (range_with_len 0 slot_limit)) (fun_ext is)
     ∙ ap (waiting_below s) (slot_limit-is ∙ limit)
-    ∙ none_above s s.most (128 - s.most) (past_most s law)
+    ∙ none_above s s.most (most_slots - s.most) (past_most s law)
 
 -- no more wait than there are slots
-pub few_wait : (s : State) → s.most ≤ 128 → waiting_below s s.most ≤ 128
+pub few_wait : (s : State) → s.most ≤ most_slots → waiting_below s s.most ≤ most_slots
 few_wait s few =
     let some = count_by-le-length (λ t. is_wait (status_of s t)) (range_with_len 0 s.most) in
     let all = length-range_with_len 0 s.most in

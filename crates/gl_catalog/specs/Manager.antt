@@ -1,4 +1,5 @@
 -- What a contract sees of a manager, the state of the model that it stands for, and what holds of every manager.
+use Rattle.gl_slots.specs.Limit.{most_slots}
 use Rattle.std.specs.Prelude.{◌≡◌, ◌≤◌, ℕ}
 use Rattle.gl_model.specs.declared.answers.Detect.TheVariants.{AtBlock}
 use Rattle.gl_model.specs.Lawful.{HasNoConflict, IsLawful}
@@ -29,4 +30,4 @@ pub record IsLawfulManager (m : ManagerView) : Type 0 where
   pub unique : StandOnce m.table
   pub no_conflict : HasNoConflict (state_of m)
   pub no_cycle : m.table.detect ≡ AtBlock → HasNoCycle (state_of m)
-  pub few : (state_of m).most ≤ 128
+  pub few : (state_of m).most ≤ most_slots

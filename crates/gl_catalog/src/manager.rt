@@ -1,5 +1,6 @@
 //! The manager of locks: a table, the count of accepted commands, and what else is counted.
 
+ghost use Rattle.gl_slots.specs.Limit.{most_slots};
 ghost use Rattle.std.specs.Prelude.{◌≡◌, ◌≤◌, ◌^◌, ◌&&◌, ◌↔◌, [], IfErr, IfOk, IfSome, IsNone, None, Some, if◌then◌else◌};
 ghost use Rattle.gl_modes.specs.declared.refusal.Refusal.{Refusal as ARefusal};
 ghost use Rattle.gl_header.specs.Header.{holds};
@@ -58,7 +59,7 @@ impl Manager {
     /// a deadlock the youngest falls. The only refusal is `NoMemory`.
     pub fn new(alloc: Global, detect: Detect, most: usize) -> Result<Self, Refusal>
         requires some { 1 ≤ most }
-        requires few { most ≤ 128 }
+        requires few { most ≤ most_slots }
         ensures made { IfOk result (λ manager. state_of manager ≡ empty_state detect most) }
         ensures deadlock { IfOk result (λ manager. manager.table.deadlock ≡ no_deadlock) }
         ensures uncounted { IfOk result (λ manager. manager.counters ≡ no_counts) }
@@ -75,7 +76,7 @@ impl Manager {
         most: usize,
     ) -> Result<Self, Refusal>
         requires some { 1 ≤ most }
-        requires few { most ≤ 128 }
+        requires few { most ≤ most_slots }
         ensures made { IfOk result (λ manager. state_of manager ≡ choosing victims (empty_state detect most)) }
         ensures deadlock { IfOk result (λ manager. manager.table.deadlock ≡ no_deadlock) }
         ensures uncounted { IfOk result (λ manager. manager.counters ≡ no_counts) }
@@ -95,7 +96,7 @@ impl Manager {
         nodes: u32,
     ) -> Result<Self, Refusal>
         requires some { 1 ≤ most }
-        requires few { most ≤ 128 }
+        requires few { most ≤ most_slots }
         requires low { nodes ≤ 2 ^ 31 }
         ensures made { IfOk result (λ manager. state_of manager ≡ with_room nodes (choosing victims (empty_state detect most))) }
         ensures deadlock { IfOk result (λ manager. manager.table.deadlock ≡ no_deadlock) }

@@ -1,4 +1,5 @@
 -- Who stands ahead of whom, read from the front.
+use Rattle.gl_slots.specs.Limit.{most_slots}
 use Rattle.std.proofs.Common.{◌≡◌, ℕ, zero, suc, ◌<◌, true, false, ◌&&◌, not, List, [], ◌∷◌, length, take, get_or, ap, ap₂, arith}
 use Rattle.std.specs.List.{list_all, prefix_len}
 use Rattle.std.proofs.lemmas.Bool.Decides.{nat_tests}
@@ -21,8 +22,8 @@ ahead-first q t u i d low at none =
     before (w ∷ q) (suc i) low at none =
         let r = before q i (omega arith) at in grind (arith, nat_tests)
 
--- a waiter's slot is below 128
-pub entry-below : (q : List Waiter) (i : ℕ) (d : Waiter) → list_all is_entry q ≡ true → i < length q → (get_or q i d).0 < 128
+-- a waiter's slot is below the limit
+pub entry-below : (q : List Waiter) (i : ℕ) (d : Waiter) → list_all is_entry q ≡ true → i < length q → (get_or q i d).0 < most_slots
 entry-below [] i d v low = absurd (omega arith)
 entry-below (w ∷ q) zero d v low = grind (arith, nat_tests)
 entry-below (w ∷ q) (suc i) d v low = entry-below q i d (grind arith) (omega arith)

@@ -1,4 +1,5 @@
 -- What an ask, a drop and a dismissal leave.
+use Rattle.gl_slots.specs.Limit.{most_slots}
 use Rattle.std.proofs.Common.{◌≡◌, ℕ, ◌<◌, Bool, true, false, ◌||◌, List, refl, ap, ◌∙◌}
 use Rattle.std.specs.Prelude.{◌≢◌, if◌then◌else◌}
 use Rattle.gl_modes.proofs.Words.{and_both}
@@ -23,7 +24,7 @@ pub lawful-by : (g g' : Members) (q q' : List Waiter) → g ≡ g' → q ≡ q' 
 lawful-by g g' q q' e f l = rw (e, f) l
 
 -- a grant at once
-pub lawful-granted : (h : HeaderState) (s : ℕ) (m w : Mode) (g : Members) → IsLawful (held_by h.granted) h.queue → is_among_waiters s h.queue ≡ false → s < 128 → is_granted h s m ≡ true → w ≡ wanted h s m → g ≡ with_mode (held_by h.granted) s w → IsLawful g h.queue
+pub lawful-granted : (h : HeaderState) (s : ℕ) (m w : Mode) (g : Members) → IsLawful (held_by h.granted) h.queue → is_among_waiters s h.queue ≡ false → s < most_slots → is_granted h s m ≡ true → w ≡ wanted h s m → g ≡ with_mode (held_by h.granted) s w → IsLawful g h.queue
 lawful-granted h s m w g l q b k e f =
     let fit : fits slot_limit (held_by h.granted) s (wanted h s m) ≡ true = (and_both (fits slot_limit (members_of h) s (wanted h s m)) (holds (members_of h) s || is_empty h.queue) k).0 in
     lawful-by g (with_mode (held_by h.granted) s (wanted h s m)) h.queue h.queue (f ∙ ap (with_mode (held_by h.granted) s) e) refl
@@ -33,7 +34,7 @@ lawful-granted h s m w g l q b k e f =
     })
 
 -- a wait
-pub lawful-waiting : (h : HeaderState) (s : ℕ) (m w : Mode) (q : List Waiter) → IsLawful (held_by h.granted) h.queue → is_among_waiters s h.queue ≡ false → s < 128 → m ≢ NL → is_granted h s m ≡ false → w ≡ wanted h s m → q ≡ placed_in (held_by h.granted) h.queue (s, w) → IsLawful (held_by h.granted) q
+pub lawful-waiting : (h : HeaderState) (s : ℕ) (m w : Mode) (q : List Waiter) → IsLawful (held_by h.granted) h.queue → is_among_waiters s h.queue ≡ false → s < most_slots → m ≢ NL → is_granted h s m ≡ false → w ≡ wanted h s m → q ≡ placed_in (held_by h.granted) h.queue (s, w) → IsLawful (held_by h.granted) q
 lawful-waiting h s m w q l none b n k e f =
     lawful-by (held_by h.granted) (held_by h.granted) q (placed_in (held_by h.granted) h.queue (s, wanted h s m)) refl (f ∙ ap (λ x. placed_in (held_by h.granted) h.queue (s, x)) e)
     (record {

@@ -1,4 +1,5 @@
 -- What fits, below any limit under which all members lie.
+use Rattle.gl_slots.specs.Limit.{most_slots}
 use Rattle.std.proofs.Common.{◌≡◌, ℕ, ◌<◌, ◌≤◌, Bool, true, ◌&&◌, ◌||◌, List, refl, sym, ap, ap₂, ◌∙◌, ⊎_elim, arith}
 use Rattle.std.specs.Prelude.{◌==◌, ◌≢◌}
 use Rattle.std.proofs.lemmas.Bool.{cases_eq}
@@ -21,8 +22,8 @@ use Rattle.gl_header.specs.Header.{
 use Rattle.gl_header.specs.State.{slot_limit}
 use Rattle.gl_header.proofs.Ranges.{equal_tests, range-each, range-from_each, below_or_not}
 
--- the limit of slots is 128
-pub slot_limit-is : slot_limit ≡ 128
+-- the limit of slots, unfolded
+pub slot_limit-is : slot_limit ≡ most_slots
 unfolding slot_limit
 slot_limit-is = refl
 
@@ -59,14 +60,14 @@ fits-limits a b g t m w v =
 pub enters-limits : (a b : ℕ) (g : Members) (q : List Waiter) (t : ℕ) (m : Mode) → IsWithin a g → IsWithin b g → enters a g q t m ≡ enters b g q t m
 enters-limits a b g q t m w v = ap (λ x. x && (holds g t || is_empty q)) (fits-limits a b g t m w v)
 
--- a limit of at most 128 and the limit of slots
-pub within-limit : (most : ℕ) (g : Members) → most ≤ 128 → IsWithin most g → IsWithin slot_limit g
+-- a limit of at most so many slots and the limit of slots
+pub within-limit : (most : ℕ) (g : Members) → most ≤ most_slots → IsWithin most g → IsWithin slot_limit g
 within-limit most g le w = within-more most slot_limit g (rw slot_limit-is le) w
 
-pub fits-limit : (most : ℕ) (g : Members) (t : ℕ) (m : Mode) → most ≤ 128 → IsWithin most g → fits most g t m ≡ fits slot_limit g t m
+pub fits-limit : (most : ℕ) (g : Members) (t : ℕ) (m : Mode) → most ≤ most_slots → IsWithin most g → fits most g t m ≡ fits slot_limit g t m
 fits-limit most g t m le w = fits-limits most slot_limit g t m w (within-limit most g le w)
 
-pub enters-limit : (most : ℕ) (g : Members) (q : List Waiter) (t : ℕ) (m : Mode) → most ≤ 128 → IsWithin most g → enters most g q t m ≡ enters slot_limit g q t m
+pub enters-limit : (most : ℕ) (g : Members) (q : List Waiter) (t : ℕ) (m : Mode) → most ≤ most_slots → IsWithin most g → enters most g q t m ≡ enters slot_limit g q t m
 enters-limit most g q t m le w = enters-limits most slot_limit g q t m w (within-limit most g le w)
 
 -- a mode that fits is granted: what is held stays compatible

@@ -1,4 +1,5 @@
 -- What granting from a front leaves.
+use Rattle.gl_slots.specs.Limit.{most_slots}
 use Rattle.std.proofs.Common.{◌≡◌, ℕ, ◌<◌, ◌≤◌, Bool, true, false, List, [], ◌∷◌, ◌++◌, length, drop, refl, ap, ap₂, arith}
 use Rattle.std.specs.Prelude.{if◌then◌else◌}
 use Rattle.std.proofs.lemmas.Bool.Decides.{nat_tests}
@@ -72,9 +73,9 @@ front-limits a b g (e ∷ q) w v x y =
     (below-rest a e q x)
     (below-rest b e q y))
 
-pub below-limit : (most : ℕ) (q : List Waiter) → most ≤ 128 → AreBelow most q → AreBelow slot_limit q
+pub below-limit : (most : ℕ) (q : List Waiter) → most ≤ most_slots → AreBelow most q → AreBelow slot_limit q
 below-limit most q le b t h = let lt = b t h in rw slot_limit-is (omega arith)
 
-pub front-limit : (most : ℕ) (g : Members) (q : List Waiter) → most ≤ 128 → IsWithin most g → AreBelow most q → front most g q ≡ front slot_limit g q
+pub front-limit : (most : ℕ) (g : Members) (q : List Waiter) → most ≤ most_slots → IsWithin most g → AreBelow most q → front most g q ≡ front slot_limit g q
 front-limit most g q le w b =
     front-limits most slot_limit g q w (within-limit most g le w) b (below-limit most q le b)

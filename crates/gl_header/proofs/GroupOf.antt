@@ -1,4 +1,5 @@
 -- The group mode is the least mode that is each member's or greater.
+use Rattle.gl_slots.specs.Limit.{most_slots}
 use Rattle.std.proofs.Common.{◌≡◌, ℕ, zero, suc, ◌+◌, ◌<◌, ◌≤◌, true, ◌&&◌, List, [], ◌∷◌, refl, ap, ap₂, ◌∙◌, ⊎_elim, arith}
 use Rattle.std.specs.List.{fold, range_with_len}
 use Rattle.std.proofs.lemmas.Bool.{cases_eq}
@@ -69,5 +70,5 @@ group_of-unique most g n w above least =
 pub group_of-limits : (a b : ℕ) (g : Members) → IsWithin a g → IsWithin b g → group_of a g ≡ group_of b g
 group_of-limits a b g w v = group_of-unique b g (group_of a g) v (group_of-above a g w) (group_of-least a g)
 
-pub group_of-limit : (most : ℕ) (g : Members) → most ≤ 128 → IsWithin most g → group_of most g ≡ group_of slot_limit g
+pub group_of-limit : (most : ℕ) (g : Members) → most ≤ most_slots → IsWithin most g → group_of most g ≡ group_of slot_limit g
 group_of-limit most g le w = group_of-limits most slot_limit g w (within-limit most g le w)

@@ -1,4 +1,5 @@
 -- A granted group, in the words of members: its parts, what fits beside it, its supremum, and what a grant leaves.
+use Rattle.gl_slots.specs.Limit.{most_slots}
 use Rattle.std.proofs.Common.{◌≡◌, ◌≢◌, ℕ, ◌<◌, ◌≤◌, Bool, true, false, cond, ◌&&◌, ◌||◌, not, refl, sym, ap, ap₂, ◌∙◌, arith}
 use Rattle.std.specs.Prelude.{◌==◌}
 use Rattle.std.proofs.Common.{inl, inr}
@@ -59,7 +60,7 @@ no-intent g u k n =
     differ e = cc
 
 pub within-group : (g : Group) → IsGroup g → IsWithin slot_limit (held_by g)
-within-group g k = within-more 128 slot_limit (held_by g) (rw slot_limit-is (omega arith)) (λ u le. other-mode g u (k.holders_below u le) (k.intents_below u le))
+within-group g k = within-more most_slots slot_limit (held_by g) (rw slot_limit-is (omega arith)) (λ u le. other-mode g u (k.holders_below u le) (k.intents_below u le))
 
 -- beside IS one mode at most is held
 pub two-modes : (g : Group) → HoldsTwoModes (held_by g)
@@ -160,7 +161,7 @@ at-other a b u s h e = grind (arith, nat_tests)
 same-slot : (u s : ℕ) → (u == s) ≡ true → u ≡ s
 same-slot u s e = grind (arith, nat_tests)
 
-above-slot : (u s : ℕ) → 128 ≤ u → s < 128 → (u == s) ≡ false
+above-slot : (u s : ℕ) → most_slots ≤ u → s < most_slots → (u == s) ≡ false
 above-slot u s h b = grind (arith, nat_tests)
 
 here : (g : Members) (s : ℕ) (m : Mode) (u : ℕ) → (u == s) ≡ true → with_mode g s m u ≡ m
@@ -169,7 +170,7 @@ here g s m u e = grind arith
 there : (g : Members) (s : ℕ) (m : Mode) (u : ℕ) → (u == s) ≡ false → with_mode g s m u ≡ g u
 there g s m u e = grind arith
 
-module _ (old : Members) (r : Group) (s : ℕ) (k : IsGroup r) (e : held_by r ≡ with_mode old s NL) (below : s < 128) where
+module _ (old : Members) (r : Group) (s : ℕ) (k : IsGroup r) (e : held_by r ≡ with_mode old s NL) (below : s < most_slots) where
   free-slot : held_by r s ≡ NL
   free-slot = ap (λ (g : Members). g s) e ∙ here old s NL s (grind (arith, nat_tests))
 

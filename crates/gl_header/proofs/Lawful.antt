@@ -1,4 +1,5 @@
 -- The law of a header, from what holds of its fields.
+use Rattle.gl_slots.specs.Limit.{most_slots}
 use Rattle.std.proofs.Common.{◌≡◌, ℕ, true, false, ◌&&◌, ◌||◌, not, Some, List, [], ◌∷◌, refl, sym, ap, ◌∙◌, arith}
 use Rattle.std.specs.Prelude.{◌==◌, ◌≢◌}
 use Rattle.std.specs.List.{filter, list_all, before_first}
@@ -15,7 +16,7 @@ use Rattle.gl_header.proofs.Fits.{slot_limit-is}
 use Rattle.gl_header.proofs.Groups.{group_mode-is, listed, two-modes}
 use Rattle.gl_header.proofs.Pumped.{stuck-front}
 
-waiters-below : (q : List Waiter) → list_all is_entry q ≡ true → AreBelow 128 q
+waiters-below : (q : List Waiter) → list_all is_entry q ≡ true → AreBelow most_slots q
 waiters-below [] v t h = cc
 waiters-below (w ∷ q) v t h =
     split (w.0 == t)
@@ -87,7 +88,7 @@ holders-first g (w ∷ q) t u o h a =
     (λ k. let b = s.ahead in holders-first g q t u (grind arith) h (grind arith)))
     (λ e. let n : holds g t ≡ false = new-not_held g q t (grind arith) s.waits in cc)
 
-limit-within : (g : Members) → IsWithin slot_limit g → IsWithin 128 g
+limit-within : (g : Members) → IsWithin slot_limit g → IsWithin most_slots g
 limit-within g w u le = w u (rw slot_limit-is le)
 
 pub lawful : (h : HeaderState) → IsGroup h.granted → IsLawful (held_by h.granted) h.queue → IsLawfulHeader h

@@ -1,4 +1,5 @@
 -- Members and queue stay orderly under each change.
+use Rattle.gl_slots.specs.Limit.{most_slots}
 use Rattle.std.proofs.Common.{◌≡◌, ℕ, ◌<◌, Bool, true, false, ◌&&◌, ◌||◌, not, List, [], ◌∷◌, refl, sym, ap, ◌∙◌, arith, ltb}
 use Rattle.std.specs.Prelude.{◌==◌}
 use Rattle.std.proofs.lemmas.Bool.Decides.{nat_tests}
@@ -25,11 +26,11 @@ rise-with_mode : (g : Members) (q : List Waiter) (s : ℕ) (m : Mode) → is_amo
 rise-with_mode g [] s m h = refl
 rise-with_mode g (w ∷ ws) s m h = grind (arith, nat_tests, rise-with_mode g ws s m)
 
-below-limit : (s : ℕ) → s < 128 → s < slot_limit
+below-limit : (s : ℕ) → s < most_slots → s < slot_limit
 below-limit s b = rw slot_limit-is b
 
 -- a mode that fits is granted to one who does not wait
-pub orderly-with_mode : (g : Members) (q : List Waiter) (s : ℕ) (m : Mode) → IsOrderly g q → is_among_waiters s q ≡ false → fits slot_limit g s m ≡ true → s < 128 → IsOrderly (with_mode g s m) q
+pub orderly-with_mode : (g : Members) (q : List Waiter) (s : ℕ) (m : Mode) → IsOrderly g q → is_among_waiters s q ≡ false → fits slot_limit g s m ≡ true → s < most_slots → IsOrderly (with_mode g s m) q
 orderly-with_mode g q s m o h f b = record {
   within = within-with_mode slot_limit g s m (below-limit s b) o.within;
   compatible = compatible-with_mode g s m o.compatible (fits-all slot_limit g s m o.within f);
@@ -40,14 +41,14 @@ orderly-with_mode g q s m o h f b = record {
 }
 
 -- a member is gone
-pub orderly-member_gone : (g : Members) (q : List Waiter) (s : ℕ) → IsOrderly g q → is_among_waiters s q ≡ false → s < 128 → IsOrderly (with_mode g s NL) q
+pub orderly-member_gone : (g : Members) (q : List Waiter) (s : ℕ) → IsOrderly g q → is_among_waiters s q ≡ false → s < most_slots → IsOrderly (with_mode g s NL) q
 orderly-member_gone g q s o h b =
     orderly-with_mode g q s NL o h (fits-from_all slot_limit g s NL (λ u ne. compatible-symmetric NL (g u) ∙ NL-compatible (g u))) b
 
--- a member's slot is below 128
-pub member-below : (g : Members) (s : ℕ) → IsWithin slot_limit g → holds g s ≡ true → s < 128
+-- a member's slot is below the limit
+pub member-below : (g : Members) (s : ℕ) → IsWithin slot_limit g → holds g s ≡ true → s < most_slots
 member-below g s w h =
-    split (ltb s 128)
+    split (ltb s most_slots)
     (λ e. grind (arith, nat_tests))
     (λ e. absurd (clash (same_mode (g s) NL) (ap (λ m. same_mode m NL) (w s (rw slot_limit-is (grind (arith, nat_tests))))) h))
   where
@@ -81,7 +82,7 @@ orderly-front g w ws o f =
 lesser-fits : (x m a : Mode) → is_at_least m a ≡ true → are_compatible x m ≡ true → are_compatible x a ≡ true
 lesser-fits x m a h f = compatible-symmetric x a ∙ lesser-compatible m a x h (compatible-symmetric m x ∙ f)
 
-fits-weaker : (g : Members) (s : ℕ) (m : Mode) (t : ℕ) (x : Mode) → IsWithin slot_limit g → s < 128 → is_at_least m (g s) ≡ true → fits slot_limit (with_mode g s m) t x ≡ true → fits slot_limit g t x ≡ true
+fits-weaker : (g : Members) (s : ℕ) (m : Mode) (t : ℕ) (x : Mode) → IsWithin slot_limit g → s < most_slots → is_at_least m (g s) ≡ true → fits slot_limit (with_mode g s m) t x ≡ true → fits slot_limit g t x ≡ true
 fits-weaker g s m t x w b h f =
     let all : Fits (with_mode g s m) t x = fits-all slot_limit (with_mode g s m) t x (within-with_mode slot_limit g s m (below-limit s b) w) f in
     fits-from_all slot_limit g t x (λ u ne.
@@ -95,7 +96,7 @@ fits-weaker g s m t x w b h f =
     there : (g : Members) (s : ℕ) (m : Mode) (u : ℕ) → (u == s) ≡ false → with_mode g s m u ≡ g u
     there g s m u e = grind arith
 
-pub stuck-with_mode : (g : Members) (q : List Waiter) (s : ℕ) (m : Mode) → IsWithin slot_limit g → s < 128 → is_stuck g q ≡ true → is_at_least m (g s) ≡ true → is_stuck (with_mode g s m) q ≡ true
+pub stuck-with_mode : (g : Members) (q : List Waiter) (s : ℕ) (m : Mode) → IsWithin slot_limit g → s < most_slots → is_stuck g q ≡ true → is_at_least m (g s) ≡ true → is_stuck (with_mode g s m) q ≡ true
 stuck-with_mode g [] s m i b k r = refl
 stuck-with_mode g (w ∷ ws) s m i b k r =
     ap not (not_true (fits slot_limit (with_mode g s m) w.0 w.1) (λ f. clash (fits slot_limit g w.0 w.1) (fits-weaker g s m w.0 w.1 i b r f) k))

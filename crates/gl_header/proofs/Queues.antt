@@ -1,4 +1,5 @@
 -- What a removal leaves of a queue, and where entries stand in it.
+use Rattle.gl_slots.specs.Limit.{most_slots}
 use Rattle.std.proofs.Common.{◌≡◌, ℕ, ◌+◌, ◌<◌, ◌≤◌, Bool, true, false, cond, ◌&&◌, not, Option, Some, None, MatchOption, List, [], ◌∷◌, length, position, refl, sym, subst, ◌∙◌, arith, suc, ltb, map}
 use Rattle.std.specs.Prelude.{◌==◌}
 use Rattle.std.specs.List.{list_all, list_any, remove, position_or_len, IsDistinct, AllByRecursion}
@@ -69,7 +70,7 @@ place-cases es s r e =
       | false ↦ λ t. f ∙ t
     ] refl)
 
--- slots below 128, no two the same, are at most 128
+-- slots below the limit, no two the same, are no more than that
 
 slots : List Waiter → List ℕ
 slots es = map (λ e. e.0) es
@@ -84,7 +85,7 @@ unfolding slots IsDistinct
 distinct-slots [] d = tt
 distinct-slots (e ∷ es) d = (absent es e.0 (grind arith), distinct-slots es (grind arith))
 
-slot-below : (es : List Waiter) (s : ℕ) → list_all is_entry es ≡ true → list_any (λ y. s == y) (slots es) ≡ true → s < 128
+slot-below : (es : List Waiter) (s : ℕ) → list_all is_entry es ≡ true → list_any (λ y. s == y) (slots es) ≡ true → s < most_slots
 unfolding slots
 slot-below [] s v h = grind arith
 slot-below (e ∷ es) s v h = grind (arith, nat_tests, slot-below es s)
@@ -94,13 +95,13 @@ unfolding slots
 length-slots [] = refl
 length-slots (e ∷ es) = grind (arith, length-slots es)
 
-pub length-le_128 : (es : List Waiter) → is_distinct es ≡ true → list_all is_entry es ≡ true → length es ≤ 128
+pub length-le_128 : (es : List Waiter) → is_distinct es ≡ true → list_all is_entry es ≡ true → length es ≤ most_slots
 length-le_128 es d v =
-    rw (← length-slots es) (length-le_from_distinct_below (slots es) 128 (distinct-slots es d) (λ q h. slot-below es q v h))
+    rw (← length-slots es) (length-le_from_distinct_below (slots es) most_slots (distinct-slots es d) (λ q h. slot-below es q v h))
 
--- a lock of a slot below 128
-pub is_entry-from : (s : ℕ) (m : Mode) → s < 128 → (m ≡ NL → ⊥) → is_entry (s, m) ≡ true
-is_entry-from s m b n = let k = not_NL m n in let t : ltb s 128 ≡ true = grind (arith, nat_tests) in grind arith
+-- a lock of a slot below the limit
+pub is_entry-from : (s : ℕ) (m : Mode) → s < most_slots → (m ≡ NL → ⊥) → is_entry (s, m) ≡ true
+is_entry-from s m b n = let k = not_NL m n in let t : ltb s most_slots ≡ true = grind (arith, nat_tests) in grind arith
 
 pub empty-length : (q : List Waiter) → is_empty q ≡ (length q == 0)
 empty-length [] = refl

@@ -1,4 +1,5 @@
 -- A header that nobody uses, both ways.
+use Rattle.gl_slots.specs.Limit.{most_slots}
 use Rattle.std.proofs.Common.{◌≡◌, ℕ, Bool, true, false, ◌&&◌, not, cond, List, [], ◌∷◌, ◌∙◌, refl, ap, ap₂, arith}
 use Rattle.std.proofs.Math.Path.{fun_ext}
 use Rattle.gl_slots.proofs.BitLemmas.{in_bits-zero}
@@ -34,7 +35,7 @@ nobody_holds-all most g w h t =
 pub unused-true : (h : HeaderState) → IsLawfulHeader h → is_unused h ≡ true → ((t : ℕ) → members_of h t ≡ NL) × (h.queue ≡ [])
 unused-true h l u =
     let b = and_both (nobody_holds slot_limit (members_of h)) (is_empty h.queue) u in
-    (nobody_holds-all slot_limit (members_of h) (within-limit 128 (members_of h) (omega arith) l.members_below) b.0, empty-list h.queue b.1)
+    (nobody_holds-all slot_limit (members_of h) (within-limit most_slots (members_of h) (omega arith) l.members_below) b.0, empty-list h.queue b.1)
 
 held-by : (b : Bool) → not b ≡ false → b ≡ true
 held-by true h = refl

@@ -1,4 +1,5 @@
 -- The granted group: by two sets of slots, who holds which mode.
+use Rattle.gl_slots.specs.Limit.{most_slots}
 use Rattle.std.specs.Prelude.{◌≡◌, ◌≢◌, ℕ, ◌≤◌, true, false, cond, ◌⊎◌}
 use Rattle.gl_modes.specs.declared.mode.Mode.{Mode}
 use Rattle.gl_modes.specs.declared.mode.Mode.TheVariants.{NL, IS}
@@ -37,9 +38,9 @@ pub record IsGroup (g : Group) : Type 0 where
   -- the mode is a lock exactly where somebody holds it
   pub idle : HasNoSlot g.holders → g.mode ≡ NL
   pub free : g.mode ≡ NL → HasNoSlot g.holders
-  -- slots are below 128
-  pub holders_below : (u : ℕ) → 128 ≤ u → has_slot g.holders u ≡ false
-  pub intents_below : (u : ℕ) → 128 ≤ u → has_slot g.intents u ≡ false
+  -- slots are below the limit
+  pub holders_below : (u : ℕ) → most_slots ≤ u → has_slot g.holders u ≡ false
+  pub intents_below : (u : ℕ) → most_slots ≤ u → has_slot g.intents u ≡ false
 
 -- beside IS one mode at most is held
 abbrev pub HoldsTwoModes : Members → Type 0

@@ -1,4 +1,5 @@
 -- Inside the crate: the law in words that compute over the queue, and what holds of a header's fields.
+use Rattle.gl_slots.specs.Limit.{most_slots}
 use Rattle.std.specs.Prelude.{◌≡◌, Bool, true, cond, ◌&&◌, not, List, [], ◌∷◌, ltb}
 use Rattle.std.specs.List.{list_all}
 use Rattle.gl_modes.specs.declared.mode.Mode.TheVariants.{NL}
@@ -21,9 +22,9 @@ abbrev pub is_distinct : List Waiter → Bool
 is_distinct [] = true
 is_distinct (e ∷ es) = not (is_among_waiters e.0 es) && is_distinct es
 
--- a slot is below 128 and its mode is a lock
+-- a slot is below the limit and its mode is a lock
 abbrev pub is_entry : Waiter → Bool
-is_entry e = ltb e.0 128 && not (same_mode e.1 NL)
+is_entry e = ltb e.0 most_slots && not (same_mode e.1 NL)
 
 -- nobody in the queue is a member
 abbrev pub all_new : Members → List Waiter → Bool

@@ -1,4 +1,5 @@
 -- What a contract sees of a header, and the law of every header.
+use Rattle.gl_slots.specs.Limit.{most_slots}
 use Rattle.std.specs.Prelude.{◌≡◌, ◌≢◌, ℕ, Bool, true, not, ◌&&◌, ◌||◌, List, [], ◌∷◌, Some}
 use Rattle.std.specs.List.{filter, list_all, range_with_len}
 use Rattle.gl_modes.specs.declared.mode.Mode.{Mode}
@@ -61,9 +62,9 @@ pub record IsLawfulHeader (h : HeaderState) : Type 0 where
   pub two_modes : HoldsTwoModes (members_of h)
   -- the two sets have each member and nobody else
   pub listed : (t : ℕ) → (has_slot h.granted.holders t || has_slot h.granted.intents t) ≡ holds (members_of h) t
-  -- slots are below 128
-  pub members_below : IsWithin 128 (members_of h)
-  pub waiters_below : AreBelow 128 h.queue
+  -- slots are below the limit
+  pub members_below : IsWithin most_slots (members_of h)
+  pub waiters_below : AreBelow most_slots h.queue
   -- nobody waits twice
   pub one_wait : (t : ℕ) (m : Mode) → wanted_by h.queue t ≡ Some m → filter (is_waiter t) h.queue ≡ (t, m) ∷ []
   -- a wanted mode is a lock, and the held mode or greater

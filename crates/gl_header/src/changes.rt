@@ -11,7 +11,7 @@ use crate::entries::{Entry, place_of, waiting_members};
 use crate::group::Group;
 use arrayvec::ArrayVec;
 use gl_modes::Mode;
-use gl_slots::SLOTS;
+use gl_slots::{SLOTS, Slot};
 use smallvec::SmallVec;
 use std::alloc::AllocError;
 
@@ -22,14 +22,14 @@ const INLINE: usize = 4;
 pub(crate) type Queue = SmallVec<Entry, INLINE>;
 
 /// Whom a release granted, in the queue's order, each with the mode that it holds now.
-pub type GrantList = ArrayVec<(u8, Mode), SLOTS>;
+pub type GrantList = ArrayVec<(Slot, Mode), SLOTS>;
 
 /// Puts a wait into its place: a member's behind the waiting members, a newcomer's last.
 #[tactic(auto, using(crate::proofs::Steps::placed_steps))]
 pub(crate) fn enqueue(
     group: &Group,
     queue: &mut Queue,
-    slot: u8,
+    slot: Slot,
     wanted: Mode,
 ) -> Result<(), AllocError>
     requires { IsGroup group.now }
@@ -47,7 +47,7 @@ pub(crate) fn enqueue(
 
 /// Takes out the entry of `slot`.
 #[tactic(auto, using(crate::proofs::Steps::list_steps))]
-pub(crate) fn take_out(queue: &mut Queue, slot: u8)
+pub(crate) fn take_out(queue: &mut Queue, slot: Slot)
     ensures { queue.new.items ≡ without queue.old.items slot }
 {
     if let Some(place) = place_of(queue, slot) {

@@ -10,20 +10,20 @@ ghost use Rattle.gl_header.specs.Header.{holds, is_ahead, is_among_waiters, is_w
 
 use crate::group::Group;
 use gl_modes::Mode;
-use gl_slots::Slots;
+use gl_slots::{Slot, Slots};
 
 /// A slot with the mode that it waits for.
-pub(crate) type Entry = (u8, Mode);
+pub(crate) type Entry = (Slot, Mode);
 
 /// Whether `slot` has an entry.
-pub(crate) fn has_entry(entries: &[Entry], slot: u8) -> bool
+pub(crate) fn has_entry(entries: &[Entry], slot: Slot) -> bool
     ensures { result ≡ is_among_waiters slot entries.now }
 {
     entries.iter().any(|entry| entry.0 == slot)
 }
 
 /// The mode in the first entry of `slot`.
-pub(crate) fn mode_in(entries: &[Entry], slot: u8) -> Option<Mode>
+pub(crate) fn mode_in(entries: &[Entry], slot: Slot) -> Option<Mode>
     ensures { result ≡ wanted_by entries.now slot }
 {
     for entry in entries {
@@ -35,14 +35,14 @@ pub(crate) fn mode_in(entries: &[Entry], slot: u8) -> Option<Mode>
 }
 
 // Where the first entry of `slot` stands, as a place alone.
-fn first_of(entries: &[Entry], slot: u8) -> Option<usize>
+fn first_of(entries: &[Entry], slot: Slot) -> Option<usize>
     ensures { result ≡ position (is_waiter slot) entries.now }
 {
     entries.iter().position(|entry| entry.0 == slot)
 }
 
 /// Where the first entry of `slot` stands, and what a removal there makes of the list.
-pub(crate) fn place_of(entries: &[Entry], slot: u8) -> Option<usize>
+pub(crate) fn place_of(entries: &[Entry], slot: Slot) -> Option<usize>
     ensures { MatchOption result (is_among_waiters slot entries.now ≡ false) (IsPlaceOf entries.now slot) }
 {
     first_of(entries, slot)
@@ -60,7 +60,7 @@ pub(crate) fn waiting_members(group: &Group, queue: &[Entry]) -> usize
 }
 
 /// The slots that stand ahead of this one in a queue; none where it does not stand there.
-pub(crate) fn ahead_of(queue: &[Entry], slot: u8) -> Slots
+pub(crate) fn ahead_of(queue: &[Entry], slot: Slot) -> Slots
     requires { list_all is_entry queue.now ≡ true }
     ensures { (u : ℕ) → has_slot result u ≡ is_ahead queue.now slot u }
 {

@@ -1,5 +1,6 @@
 //! The granted group of one node: who holds it, by modes.
 
+ghost use Rattle.gl_slots.specs.Limit.{most_slots};
 ghost use Rattle.std.specs.Prelude.{◌≡◌, ◌≢◌, ℕ, ◌<◌, ◌↔◌, ◌&&◌, IsTrue, not, true};
 ghost use Rattle.gl_modes.specs.Modes.{are_compatible};
 ghost use Rattle.gl_modes.specs.declared.mode.Mode.TheVariants.{NL};
@@ -9,7 +10,7 @@ ghost use Rattle.gl_header.specs.Header.{fits, holds, with_mode};
 ghost use Rattle.gl_header.specs.State.{nobody_holds, slot_limit};
 
 use gl_modes::{Mode, compatible, sup};
-use gl_slots::Slots;
+use gl_slots::{Slot, Slots};
 
 /// Who holds one node. What different slots hold is compatible, so beside `IS` at most one mode is
 /// held, and two sets of slots say it all.
@@ -37,8 +38,8 @@ impl Group {
     }
 
     /// A slot holds this mode, and nobody else holds.
-    pub(crate) fn of(slot: u8, mode: Mode) -> Self
-        requires below { slot < 128 }
+    pub(crate) fn of(slot: Slot, mode: Mode) -> Self
+        requires below { slot < most_slots }
         requires lock { mode ≢ NL }
         ensures group { IsGroup result }
         ensures held { held_by result ≡ with_mode nobody slot mode }
@@ -49,7 +50,7 @@ impl Group {
     }
 
     /// The mode that a slot holds, `NL` where it holds none.
-    pub(crate) fn mode_of(&self, slot: u8) -> Mode
+    pub(crate) fn mode_of(&self, slot: Slot) -> Mode
         ensures { result ≡ held_by self.now slot }
     {
         if self.holders.contains(slot) {
@@ -62,7 +63,7 @@ impl Group {
     }
 
     /// Whether a slot holds a lock.
-    pub(crate) fn has(&self, slot: u8) -> bool
+    pub(crate) fn has(&self, slot: Slot) -> bool
         requires { IsGroup self.now }
         ensures { result ≡ holds (held_by self.now) slot }
     {
@@ -89,7 +90,7 @@ impl Group {
     }
 
     /// Whether `mode` is compatible with what every slot but this one holds.
-    pub(crate) fn fits_others(&self, slot: u8, mode: Mode) -> bool
+    pub(crate) fn fits_others(&self, slot: Slot, mode: Mode) -> bool
         requires { IsGroup self.now }
         ensures { result ≡ fits slot_limit (held_by self.now) slot mode }
     {
@@ -107,9 +108,9 @@ impl Group {
 
     /// Gives `slot` the mode in place of what it held. It takes no memory.
     #[inline]
-    pub(crate) fn hold(&mut self, slot: u8, mode: Mode)
+    pub(crate) fn hold(&mut self, slot: Slot, mode: Mode)
         requires group { IsGroup self.old }
-        requires below { slot < 128 }
+        requires below { slot < most_slots }
         requires lock { mode ≢ NL }
         requires fits { fits slot_limit (held_by self.old) slot mode ≡ true }
         ensures group { IsGroup self.new }
@@ -125,7 +126,7 @@ impl Group {
     }
 
     /// Takes away what `slot` holds.
-    pub(crate) fn release(&mut self, slot: u8)
+    pub(crate) fn release(&mut self, slot: Slot)
         requires { IsGroup self.old }
         ensures group { IsGroup self.new }
         ensures held { held_by self.new ≡ with_mode (held_by self.old) slot NL }
@@ -139,7 +140,7 @@ impl Group {
 }
 
 /// Whether `mode` goes with `held`, or nobody but `slot` is in the set of those that hold it.
-fn goes_beside(set: Slots, held: Mode, slot: u8, mode: Mode) -> bool
+fn goes_beside(set: Slots, held: Mode, slot: Slot, mode: Mode) -> bool
     ensures { IsTrue result ↔ GoesBeside set held slot mode }
 {
     compatible(mode, held) || set.without(slot).is_empty()

@@ -1,5 +1,6 @@
 //! The header of one node.
 
+ghost use Rattle.gl_slots.specs.Limit.{most_slots};
 ghost use Rattle.std.specs.Prelude.{◌≡◌, ◌≢◌, ◌<◌, ◌==◌, ◌&&◌, ◌||◌, ℕ, [], IfErr, IfOk, IsOk, OnErr, OnOk, false, not, true};
 ghost use Rattle.gl_modes.specs.declared.mode.Mode.TheVariants.{NL};
 ghost use Rattle.gl_modes.specs.Modes.{are_compatible};
@@ -33,7 +34,7 @@ use crate::changes::{GrantList, Queue, enqueue, pump, take_out};
 use crate::entries::{ahead_of, has_entry, mode_in, place_of};
 use crate::group::Group;
 use gl_modes::{Mode, Refusal, sup};
-use gl_slots::Slots;
+use gl_slots::{Slot, Slots};
 use smallvec::SmallVec;
 use std::alloc::Global;
 use std::marker::Model;
@@ -111,14 +112,14 @@ impl Header {
     }
 
     /// The waiters from the front on, each with the mode that it waits for.
-    pub fn queue(&self) -> &[(u8, Mode)]
+    pub fn queue(&self) -> &[(Slot, Mode)]
         ensures { result.now ≡ self.now.queue }
     {
         self.queue.as_slice()
     }
 
     /// The mode that a slot holds, `NL` where it holds none.
-    pub fn mode_of(&self, slot: u8) -> Mode
+    pub fn mode_of(&self, slot: Slot) -> Mode
         ensures { result ≡ members_of self.now slot }
     {
         self.granted.mode_of(slot)
@@ -132,7 +133,7 @@ impl Header {
     }
 
     /// The mode that a slot waits for, `None` where it does not wait.
-    pub fn wanted_by(&self, slot: u8) -> Option<Mode>
+    pub fn wanted_by(&self, slot: Slot) -> Option<Mode>
         ensures { result ≡ wanted_by self.now.queue slot }
     {
         mode_in(&self.queue, slot)
@@ -146,7 +147,7 @@ impl Header {
     }
 
     /// Whether both slots wait, and `other` stands ahead of `slot`.
-    pub fn ahead(&self, slot: u8, other: u8) -> bool
+    pub fn ahead(&self, slot: Slot, other: Slot) -> bool
         ensures { result ≡ is_ahead self.now.queue slot other }
     {
         match place_of(&self.queue, slot) {
@@ -157,7 +158,7 @@ impl Header {
 
     /// The slots for which a slot waits that waits here for `wanted`: those that hold a mode with which
     /// it does not go, and those that stand ahead of the slot.
-    pub fn waits_for(&self, slot: u8, wanted: Mode) -> Slots
+    pub fn waits_for(&self, slot: Slot, wanted: Mode) -> Slots
         ensures { (u : ℕ) → has_slot result u ≡
             (not (slot == u) && (not (are_compatible wanted (members_of self.now u)) || is_ahead self.now.queue slot u)) }
     {
@@ -167,7 +168,7 @@ impl Header {
 
     /// Whether `ask` would grant at once: a mode that fits beside the other members, where the slot
     /// is a member or nobody waits.
-    pub fn would_grant(&self, slot: u8, mode: Mode) -> bool
+    pub fn would_grant(&self, slot: Slot, mode: Mode) -> bool
         ensures { result ≡ is_granted self.now slot mode }
     {
         let held = self.mode_of(slot);
@@ -175,7 +176,7 @@ impl Header {
     }
 
     /// Whether a slot that holds the mode `held` is granted `wanted` at once.
-    fn enters(&self, slot: u8, held: Mode, wanted: Mode) -> bool
+    fn enters(&self, slot: Slot, held: Mode, wanted: Mode) -> bool
         requires held { held ≡ members_of self.now slot }
         ensures { result ≡ enters slot_limit (members_of self.now) self.now.queue slot wanted }
     {
@@ -186,8 +187,8 @@ impl Header {
     /// or later, is the supremum of the held and the asked mode.
     ///
     /// The only refusal is `NoMemory`; who is granted at once never meets it.
-    pub fn ask(&mut self, slot: u8, mode: Mode) -> Result<Asked, Refusal>
-        requires below { slot < 128 }
+    pub fn ask(&mut self, slot: Slot, mode: Mode) -> Result<Asked, Refusal>
+        requires below { slot < most_slots }
         requires not_waiting { is_among_waiters slot self.old.queue ≡ false }
         requires lock { mode ≢ Mode.NL }
         ensures answer { IfOk result (λ answer. answer ≡ asked self.old slot mode) }
@@ -213,8 +214,8 @@ impl Header {
 
     /// As `ask`, where nobody holds and nobody waits: the mode is granted. It takes no memory.
     #[inline]
-    pub(crate) fn ask_first(&mut self, slot: u8, mode: Mode) -> Asked
-        requires below { slot < 128 }
+    pub(crate) fn ask_first(&mut self, slot: Slot, mode: Mode) -> Asked
+        requires below { slot < most_slots }
         requires lock { mode ≢ Mode.NL }
         requires unused { is_unused self.old ≡ true }
         ensures answer { result ≡ asked self.old slot mode }
@@ -227,8 +228,8 @@ impl Header {
     }
 
     /// Asks for a mode that is granted at once, or not at all. It takes no memory.
-    pub fn try_ask(&mut self, slot: u8, mode: Mode) -> Try
-        requires below { slot < 128 }
+    pub fn try_ask(&mut self, slot: Slot, mode: Mode) -> Try
+        requires below { slot < most_slots }
         requires not_waiting { is_among_waiters slot self.old.queue ≡ false }
         requires lock { mode ≢ Mode.NL }
         ensures answer { result ≡ tried self.old slot mode }
@@ -250,7 +251,7 @@ impl Header {
     /// with those whom it granted, in the queue's order.
     ///
     /// The cost is that of the waiters who are granted, and of moving up the others where any is.
-    pub fn drop_grant(&mut self, slot: u8, granted: &mut GrantList)
+    pub fn drop_grant(&mut self, slot: Slot, granted: &mut GrantList)
         requires holds { holds (members_of self.old) slot ≡ true }
         requires not_waiting { is_among_waiters slot self.old.queue ≡ false }
         ensures granted { granted.new.items ≡ front slot_limit (with_mode (members_of self.old) slot NL) self.old.queue }
@@ -264,7 +265,7 @@ impl Header {
 
     /// Takes a slot's wait away, and grants from the front of the queue. The list is filled anew with
     /// those whom it granted, in the queue's order.
-    pub fn drop_wait(&mut self, slot: u8, granted: &mut GrantList)
+    pub fn drop_wait(&mut self, slot: Slot, granted: &mut GrantList)
         requires { is_among_waiters slot self.old.queue ≡ true }
         ensures granted { granted.new.items ≡ front slot_limit (members_of self.old) (without_waiter slot self.old.queue) }
         ensures members { members_of self.new ≡ pumped_members slot_limit (members_of self.old) (without_waiter slot self.old.queue) }
@@ -277,7 +278,7 @@ impl Header {
 
     /// Takes a slot's wait away where the front of the queue that is left cannot be granted, and
     /// grants nobody.
-    pub fn dismiss(&mut self, slot: u8)
+    pub fn dismiss(&mut self, slot: Slot)
         requires waits { is_among_waiters slot self.old.queue ≡ true }
         requires front_waits { front slot_limit (members_of self.old) (without_waiter slot self.old.queue) ≡ [] }
         ensures after { self.new ≡ record self.old { queue = without_waiter slot self.old.queue } }

@@ -1,5 +1,6 @@
 //! The headers of all nodes: one for each node that somebody holds or waits for, and no other.
 
+ghost use Rattle.gl_slots.specs.Limit.{most_slots};
 ghost use Rattle.std.specs.Prelude.{◌≡◌, ◌≢◌, ◌<◌, ◌≤◌, ◌==◌, ◌&&◌, ◌||◌, ◌↔◌, ℕ, [], IfErr, IfOk, IsOk, IsTrue, OnErr, OnOk, false, not, option_copied, true};
 ghost use Rattle.gl_modes.specs.declared.mode.Mode.TheVariants.{NL};
 ghost use Rattle.gl_modes.specs.declared.refusal.Refusal.{Refusal as ARefusal};
@@ -41,7 +42,7 @@ use crate::changes::GrantList;
 use crate::header::{Asked, Header};
 use crate::places::{Place, ask_at, grow, header_in, put_back, take_box};
 use gl_modes::{Mode, NodeId, Refusal};
-use gl_slots::Slots;
+use gl_slots::{Slot, Slots};
 use std::alloc::{AllocError, Global};
 use std::marker::Model;
 
@@ -155,7 +156,7 @@ impl Headers {
     }
 
     /// Who waits for a node, in the queue's order, with the wanted modes.
-    pub fn queue(&self, node: NodeId) -> &[(u8, Mode)]
+    pub fn queue(&self, node: NodeId) -> &[(Slot, Mode)]
         ensures { result.now ≡ queue_of self.now.entries node }
     {
         match self.get(node) {
@@ -166,8 +167,8 @@ impl Headers {
 
     /// Whom a slot waits for that waits on this node for this mode: who holds the node in a mode that
     /// does not go with it, and who stands ahead in the queue.
-    pub fn waits_for(&self, slot: u8, node: NodeId, wanted: Mode) -> Slots
-        requires { slot < 128 }
+    pub fn waits_for(&self, slot: Slot, node: NodeId, wanted: Mode) -> Slots
+        requires { slot < most_slots }
         ensures { (u : ℕ) → has_slot result u ≡ (not (slot == u) && (not (are_compatible wanted (held_of self.now.entries u node)) || is_ahead (queue_of self.now.entries node) slot u)) }
     {
         match self.get(node) {
@@ -177,7 +178,7 @@ impl Headers {
     }
 
     /// Whether `ask` would grant at once.
-    pub fn would_grant(&self, slot: u8, node: NodeId, mode: Mode) -> bool
+    pub fn would_grant(&self, slot: Slot, node: NodeId, mode: Mode) -> bool
         ensures { result ≡ is_granted_at self.now.entries slot node mode }
     {
         match self.get(node) {
@@ -188,8 +189,8 @@ impl Headers {
 
     /// Asks for a mode: it is granted at once, or the slot waits in its place. The only refusal is
     /// `NoMemory`; a member that is granted at once never meets it.
-    pub fn ask(&mut self, slot: u8, node: NodeId, mode: Mode) -> Result<Asked, Refusal>
-        requires below { slot < 128 }
+    pub fn ask(&mut self, slot: Slot, node: NodeId, mode: Mode) -> Result<Asked, Refusal>
+        requires below { slot < most_slots }
         requires not_waiting { is_among_waiters slot (queue_of self.old.entries node) ≡ false }
         requires lock { mode ≢ Mode.NL }
         requires alone { HasItsKey self.old.entries node }
@@ -222,7 +223,7 @@ impl Headers {
 
     /// Takes a grant away, and grants from the front of the node's queue. The list is filled anew with
     /// those whom it granted, in the queue's order. It takes no memory.
-    pub fn drop_grant(&mut self, slot: u8, node: NodeId, granted: &mut GrantList)
+    pub fn drop_grant(&mut self, slot: Slot, node: NodeId, granted: &mut GrantList)
         requires holds { holds (members_at self.old.entries node) slot ≡ true }
         requires not_waiting { is_among_waiters slot (queue_of self.old.entries node) ≡ false }
         ensures granted { granted.new.items ≡ front slot_limit (with_mode (members_at self.old.entries node) slot NL) (queue_of self.old.entries node) }
@@ -240,7 +241,7 @@ impl Headers {
 
     /// Takes a wait away, and grants from the front of the node's queue. The list is filled anew with
     /// those whom it granted, in the queue's order. It takes no memory.
-    pub fn drop_wait(&mut self, slot: u8, node: NodeId, granted: &mut GrantList)
+    pub fn drop_wait(&mut self, slot: Slot, node: NodeId, granted: &mut GrantList)
         requires { is_among_waiters slot (queue_of self.old.entries node) ≡ true }
         ensures granted { granted.new.items ≡ front slot_limit (members_at self.old.entries node) (without_waiter slot (queue_of self.old.entries node)) }
         ensures held { held_of self.new.entries ≡ with_members (held_of self.old.entries) node (pumped_members slot_limit (members_at self.old.entries node) (without_waiter slot (queue_of self.old.entries node))) }
@@ -257,7 +258,7 @@ impl Headers {
 
     /// Takes a wait away and grants nobody, where nobody at the front of what is left can be granted.
     /// It takes no memory.
-    pub fn dismiss(&mut self, slot: u8, node: NodeId)
+    pub fn dismiss(&mut self, slot: Slot, node: NodeId)
         requires waits { is_among_waiters slot (queue_of self.old.entries node) ≡ true }
         requires front_waits { front slot_limit (members_at self.old.entries node) (without_waiter slot (queue_of self.old.entries node)) ≡ [] }
         ensures held { held_of self.new.entries ≡ held_of self.old.entries }
@@ -286,8 +287,8 @@ impl Headers {
 
     /// Makes room for a node with this key, and a header with one grant, by which a slot comes to hold
     /// it. The only refusal is `NoMemory`, and what is held stays as it is.
-    pub fn prepare(&mut self, key: usize, slot: u8, mode: Mode) -> Result<Prepared, Refusal>
-        requires below { slot < 128 }
+    pub fn prepare(&mut self, key: usize, slot: Slot, mode: Mode) -> Result<Prepared, Refusal>
+        requires below { slot < most_slots }
         requires lock { mode ≢ Mode.NL }
         ensures entries { self.new.entries ≡ self.old.entries }
         ensures room { OnOk result (key < self.new.room) }

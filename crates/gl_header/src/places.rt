@@ -1,5 +1,6 @@
 //! One place: the header of a node in a box, and the boxes that wait for a node.
 
+ghost use Rattle.gl_slots.specs.Limit.{most_slots};
 ghost use Rattle.std.specs.Prelude.{◌≡◌, ◌≢◌, ◌<◌, ◌≤◌, ℕ, IfErr, IfOk, IsOk, IsSomeAnd, None, OnErr, OnOk, Some, false, is_some, length, option_copied, true};
 ghost use Rattle.std.specs.List.{All};
 ghost use Rattle.gl_modes.specs.declared.refusal.Refusal.{Refusal as ARefusal};
@@ -10,6 +11,7 @@ ghost use Rattle.gl_header.specs.Places.{IsAskedBox, IsIdle, entries_in, header_
 
 use crate::header::{Asked, Header};
 use gl_modes::{Mode, NodeId, Refusal};
+use gl_slots::Slot;
 use std::alloc::Global;
 
 /// The header of a node, with the node whose header it is.
@@ -96,11 +98,11 @@ pub(crate) fn ask_at(
     alloc: Global,
     spare: &mut Vec<Box<Place>>,
     node: NodeId,
-    slot: u8,
+    slot: Slot,
     mode: Mode,
 ) -> Result<Asked, Refusal>
     requires spare { All IsIdle spare.old.items }
-    requires below { slot < 128 }
+    requires below { slot < most_slots }
     requires not_waiting { is_among_waiters slot (header_of place.old).queue ≡ false }
     requires lock { mode ≢ Mode.NL }
     ensures spare { All IsIdle spare.new.items }

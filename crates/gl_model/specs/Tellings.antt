@@ -1,4 +1,5 @@
 -- What others are told of a command (own), a function of the states before and after; and the same step by step.
+use Rattle.gl_slots.specs.Limit.{most_slots}
 use Rattle.std.specs.Prelude.{◌&&◌, ◌==◌, [], Bool, if◌then◌else◌, List, nat_lt, None, not, Option, Some, true, ℕ, ◌∷◌, ◌≡◌}
 use Rattle.std.specs.List.{count_by, filter, filter_map, find, list_all}
 use Rattle.gl_modes.specs.declared.mode.Mode.{Mode}
@@ -83,10 +84,10 @@ abbrev pub is_rising : Told → Bool
 is_rising [] = true
 is_rising (x ∷ xs) = list_all (λ y. nat_lt x.0.slot y.0.slot) xs && is_rising xs
 
--- the notices stand by rising slot, and slots are below 128
+-- the notices stand by rising slot, and slots are below the limit
 pub record IsBySlot (told : Told) : Type 0 where
   pub rising : is_rising told ≡ true
-  pub below : list_all (λ x. nat_lt x.0.slot 128) told ≡ true
+  pub below : list_all (λ x. nat_lt x.0.slot most_slots) told ≡ true
 
 -- what is told to a slot
 abbrev pub notices_in : Told → ℕ → Option (TxnId × Notice)

@@ -8,6 +8,7 @@ ghost use Rattle.gl_registry.specs.Sound.{HasRoom, is_in, rows_of};
 
 use crate::row::Row;
 use gl_modes::Refusal;
+use gl_slots::Slot;
 use indexmap::IndexSet;
 use std::alloc::Global;
 
@@ -30,7 +31,7 @@ pub(crate) fn empty_sets(alloc: Global) -> Result<Vec<IndexSet<Row>>, Refusal>
 }
 
 /// Makes room for one row more in the set of a slot.
-pub(crate) fn make_room(sets: &mut Vec<IndexSet<Row>>, slot: u8) -> Result<(), Refusal>
+pub(crate) fn make_room(sets: &mut Vec<IndexSet<Row>>, slot: Slot) -> Result<(), Refusal>
     requires sets { length sets.old.items ≡ 256 }
     ensures sets { length sets.new.items ≡ 256 }
     ensures same { rows_of sets.new.items ≡ rows_of sets.old.items }
@@ -44,7 +45,7 @@ pub(crate) fn make_room(sets: &mut Vec<IndexSet<Row>>, slot: u8) -> Result<(), R
 }
 
 /// Puts a row into the set of a slot.
-pub(crate) fn put(sets: &mut Vec<IndexSet<Row>>, slot: u8, row: Row)
+pub(crate) fn put(sets: &mut Vec<IndexSet<Row>>, slot: Slot, row: Row)
     requires sets { length sets.old.items ≡ 256 }
     requires room { HasRoom sets.old.items slot }
     ensures sets { length sets.new.items ≡ 256 }
@@ -54,7 +55,7 @@ pub(crate) fn put(sets: &mut Vec<IndexSet<Row>>, slot: u8, row: Row)
 }
 
 /// The rows in the set of a slot.
-pub(crate) fn rows_in(sets: &Vec<IndexSet<Row>>, slot: u8) -> &[Row]
+pub(crate) fn rows_in(sets: &Vec<IndexSet<Row>>, slot: Slot) -> &[Row]
     requires sets { length sets.now.items ≡ 256 }
     ensures rows { result.now ≡ get_or (rows_of sets.now.items) slot [] }
 {
@@ -62,7 +63,7 @@ pub(crate) fn rows_in(sets: &Vec<IndexSet<Row>>, slot: u8) -> &[Row]
 }
 
 /// Takes a row out of the set of a slot.
-pub(crate) fn take(sets: &mut Vec<IndexSet<Row>>, slot: u8, row: Row)
+pub(crate) fn take(sets: &mut Vec<IndexSet<Row>>, slot: Slot, row: Row)
     requires sets { length sets.old.items ≡ 256 }
     ensures sets { length sets.new.items ≡ 256 }
     ensures has { (u : ℕ) (q : ARow) → is_in sets.new.items u q ≡ (is_in sets.old.items u q && not ((u == slot) && same_row row q)) }
@@ -72,7 +73,7 @@ pub(crate) fn take(sets: &mut Vec<IndexSet<Row>>, slot: u8, row: Row)
 
 /// Takes all rows out of the set of a slot. To clear a set writes all its room; where that is far more
 /// than its rows they are taken out one by one.
-pub(crate) fn clear(sets: &mut Vec<IndexSet<Row>>, slot: u8)
+pub(crate) fn clear(sets: &mut Vec<IndexSet<Row>>, slot: Slot)
     requires sets { length sets.old.items ≡ 256 }
     ensures sets { length sets.new.items ≡ 256 }
     ensures has { (u : ℕ) (q : ARow) → is_in sets.new.items u q ≡ (is_in sets.old.items u q && not (u == slot)) }

@@ -1,4 +1,5 @@
 -- Boards on which nobody waits, and lists of boards of rising epochs.
+use Rattle.gl_slots.specs.Limit.{most_slots}
 use Rattle.std.proofs.Common.{◌≡◌, ◌≤◌, ◌⊎◌, ⊎_elim, ℕ, zero, suc, Bool, true, false, List, [], ◌∷◌, ◌++◌, replicate, get_or, ap, sym, ◌∙◌, refl, subst, arith, le_trans}
 use Rattle.gl_waits.specs.declared.board.Board.{Board}
 use Rattle.gl_waits.specs.Boards.{board_edge}
@@ -19,10 +20,10 @@ no_walk edge none s [] u w = cc (none s u, w)
 no_walk edge none s (v ∷ way) u w = cc (none s v, w.0)
 
 -- a board of any epoch, on which nobody lives
-pub empty_is_fine : (epoch : ℕ) → Fine AtBlock (record { epoch = epoch; ages = replicate 128 0; rows = replicate 128 0 })
+pub empty_is_fine : (epoch : ℕ) → Fine AtBlock (record { epoch = epoch; ages = replicate most_slots 0; rows = replicate most_slots 0 })
 empty_is_fine epoch =
-    let b : Board = record { epoch = epoch; ages = replicate 128 0; rows = replicate 128 0 } in
-    let none : (s u : ℕ) → board_edge b s u ≡ false = λ s u. ap (λ (set : ℕ). has_slot set u) (zero_at 128 s) ∙ has_slot-zero u in
+    let b : Board = record { epoch = epoch; ages = replicate most_slots 0; rows = replicate most_slots 0 } in
+    let none : (s u : ℕ) → board_edge b s u ≡ false = λ s u. ap (λ (set : ℕ). has_slot set u) (zero_at most_slots s) ∙ has_slot-zero u in
     record {
       self = λ s. none s s;
       free = λ s u on. absurd (cc (none s u, on));

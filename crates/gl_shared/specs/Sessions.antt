@@ -1,4 +1,5 @@
 -- What sessions are answered.
+use Rattle.gl_slots.specs.Limit.{most_slots}
 use Rattle.std.specs.Prelude.{◌≡◌, ℕ, ◌<◌, ◌||◌, ◌==◌, Some, Result, Ok, Err}
 use Rattle.std.specs.List.{list_any}
 use Rattle.gl_waits.specs.Sets.{has_slot}
@@ -24,7 +25,7 @@ IsServed c a told count = (s : ManagerView) × (t : ManagerView) × IsLawfulMana
 
 -- the set has just the slots that the command told, and that of whoever it cancelled or aborted by name
 abbrev pub AreWoken : Command → Told → ℕ → Type 0
-AreWoken c told slots = (u : ℕ) → u < 128 → has_slot slots u ≡ (names_slot c u || list_any (λ x. x.0.slot == u) told)
+AreWoken c told slots = (u : ℕ) → u < most_slots → has_slot slots u ≡ (names_slot c u || list_any (λ x. x.0.slot == u) told)
 
 -- some lawful state behind the latch gives this verdict
 abbrev pub IsVerdict : TxnId → NodeId → Mode → Result Grant Stop → Type 0

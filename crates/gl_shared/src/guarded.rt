@@ -1,5 +1,6 @@
 //! What stands behind the latch.
 
+ghost use Rattle.gl_slots.specs.Limit.{most_slots};
 ghost use Rattle.std.specs.Prelude.{◌≡◌, ◌+◌, ◌++◌, ◌∷◌, ◌≤◌, ◌<◌, ◌⊎◌, ◌||◌, [], true, false, None, Some, Ok, List, replicate, IfSome, is_some};
 ghost use Rattle.gl_modes.specs.declared.mode.Mode.{Mode as AMode};
 ghost use Rattle.gl_modes.specs.Modes.{is_at_least};
@@ -118,7 +119,7 @@ impl<N: Naming> Guarded<N> {
         requires opening { (manager.accepted ≡ N.opening) × (manager.table.detect ≡ N.detect) }
         requires told { publisher ≡ board_of (state_of manager) ∷ [] }
         ensures start { (result.manager ≡ manager) × (result.book ≡ 0) × (result.list ≡ board_of (state_of manager) ∷ []) }
-        ensures boxes { result.boxes ≡ replicate 128 None }
+        ensures boxes { result.boxes ≡ replicate most_slots None }
         ensures telling { (result.telling ≡ telling) × (result.waited ≡ true) }
     {
         Guarded {
@@ -215,7 +216,7 @@ impl<N: Naming> Guarded<N> {
         ensures refused { accepts command.entry result ≡ false → (self.new ≡ self.old) × (share.new ≡ share.old) × (told.new.items ≡ []) }
         ensures accepted { accepts command.entry result ≡ true → (self.new.book ≡ self.old.book + 1) × (share.new ≡ share.old + 1) }
         ensures boxes { (mid : List Slot) × Delivers self.old.boxes told.new.items mid × (self.new.boxes ≡ cleared command.entry result mid) }
-        ensures rising { RisingTo 0 told.new.items 128 }
+        ensures rising { RisingTo 0 told.new.items most_slots }
         ensures waited { accepts command.entry result ≡ true → self.new.waited ≡ (self.old.waited || leaves_waiting result) }
         ensures list { (self.new.list ≡ self.old.list) × (self.new.telling ≡ self.old.telling) }
     {
@@ -245,7 +246,7 @@ impl<N: Naming> Guarded<N> {
         ensures step { Step (state_of self.old.manager) (Lock txn node mode) result told.new.items (state_of self.new.manager) }
         ensures refused { is_refused result ≡ true → (self.new ≡ self.old) × (share.new ≡ share.old) × (told.new.items ≡ []) }
         ensures accepted { is_refused result ≡ false → (self.new.book ≡ self.old.book + 1) × (share.new ≡ share.old + 1) }
-        ensures rising { RisingTo 0 told.new.items 128 }
+        ensures rising { RisingTo 0 told.new.items most_slots }
         ensures covers { (held : AMode) → result ≡ Granted held → is_at_least held mode ≡ true }
         ensures boxes { (mid : List Slot) × Delivers self.old.boxes told.new.items mid × (self.new.boxes ≡ cleared (Lock txn node mode) result mid) }
         ensures waited { is_refused result ≡ false → self.new.waited ≡ (self.old.waited || leaves_waiting result) }

@@ -1,11 +1,13 @@
 //! Where sessions sleep, and how they are woken.
 
+ghost use Rattle.gl_slots.specs.Limit.{most_slots};
 ghost use Rattle.std.specs.Prelude.{◌≡◌, ◌<◌};
 ghost use Rattle.gl_boxes.specs.Served.{RisingTo};
 ghost use Rattle.gl_shared.specs.Sessions.{AreWoken};
 
 use gl_boxes::ended_by;
 use gl_catalog::Command;
+use gl_slots::Slot;
 use gl_table::{Notice, TxnId};
 use gl_waits::SLOTS;
 use gl_waits::set::take_lowest;
@@ -56,14 +58,14 @@ impl Wakes {
         &self,
         rt: &R,
         guard: MutexGuard<'b, T>,
-        slot: u8,
+        slot: Slot,
     ) -> MutexGuard<'b, T> {
         self.slots[place_of(slot)].wait(rt, guard)
     }
 
     /// Wakes those whose wait a command may have ended that told these.
     pub(crate) fn wake_ended(&self, command: &Command<'_>, told: &[(TxnId, Notice)]) -> Woken
-        requires { RisingTo 0 told.now 128 }
+        requires { RisingTo 0 told.now most_slots }
         ensures { AreWoken command.now told.now result }
     {
         self.wake(ended_by(command, told))
@@ -87,9 +89,9 @@ impl Wakes {
 }
 
 /// The place of a slot.
-fn place_of(slot: u8) -> usize
-    ensures within { result < 128 }
-    ensures own { slot < 128 → result ≡ slot }
+fn place_of(slot: Slot) -> usize
+    ensures within { result < most_slots }
+    ensures own { slot < most_slots → result ≡ slot }
 {
     slot as usize % SLOTS
 }

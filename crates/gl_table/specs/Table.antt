@@ -1,4 +1,5 @@
 -- What a contract sees of a table, the state of the model that it stands for, what holds of every table, and what a listing and a board have.
+use Rattle.gl_slots.specs.Limit.{most_slots}
 use Rattle.std.specs.Prelude.{◌≡◌, ℕ, ◌||◌, List, length, Option, Some, None, is_some, slice_get, Bool, [], map, get_or}
 use Rattle.std.specs.List.{IsDistinct, All, list_any, range_with_len}
 use Rattle.std.specs.Map.{keys_of, lookup}
@@ -96,13 +97,13 @@ pub record AreRowsOf (s : State) (t : ℕ) (rows : List LockRow) : Type 0 where
 
 -- The board of a state: who waits for whom, in one value.
 
--- the board of this moment: the count of accepted commands, the ages, and a bit for each wait; it has 128 places whatever the limit is (own)
+-- the board of this moment: the count of accepted commands, the ages, and a bit for each wait; it has a place for each slot whatever the limit is (own)
 abbrev pub board_of : State → Board
 board_of s =
     record {
       epoch = s.accepted;
-      ages = map (age_of s) (range_with_len 0 128);
-      rows = map (λ t. bits_of 128 (waits_for s t)) (range_with_len 0 128);
+      ages = map (age_of s) (range_with_len 0 most_slots);
+      rows = map (λ t. bits_of most_slots (waits_for s t)) (range_with_len 0 most_slots);
     }
 
 -- what headers and seats show of a state: who lives and waits, who holds what, and the queues

@@ -1,5 +1,6 @@
 //! The board of a moment.
 
+ghost use Rattle.gl_slots.specs.Limit.{most_slots};
 ghost use Rattle.std.specs.Prelude.{◌≡◌, ◌≤◌, ◌==◌, ◌&&◌, ◌||◌, ◌⊎◌, ℕ, ◌<◌, IfSome, Some, get_or, length, not};
 ghost use Rattle.gl_modes.specs.Modes.{are_compatible};
 ghost use Rattle.gl_header.specs.Header.{is_ahead};
@@ -17,12 +18,12 @@ use crate::seats::Seats;
 use gl_header::{Header, Headers};
 use gl_model::Status;
 use gl_modes::{Mode, NodeId};
-use gl_slots::Slots;
+use gl_slots::{Slot, Slots};
 use gl_waits::{Board, SLOTS, WaitsFor};
 
 /// The board of this moment, in which only the slots of those who live and wait are written.
 pub(crate) fn board(headers: &Headers, seats: &Seats, epoch: u64) -> Board
-    requires few { length seats.now.items ≤ 128 }
+    requires few { length seats.now.items ≤ most_slots }
     ensures { result ≡ board_of (shown headers.now.entries seats.now.items epoch) }
 {
     headers.law();
@@ -75,8 +76,8 @@ fn write_rows(headers: &Headers, seats: &Seats, rows: &mut [u128; SLOTS])
 }
 
 /// Writes the row of a slot, and those of all who wait for the same node.
-fn show_waiter(headers: &Headers, seats: &Seats, slot: u8, rows: &mut [u128; SLOTS])
-    requires below { slot < 128 }
+fn show_waiter(headers: &Headers, seats: &Seats, slot: Slot, rows: &mut [u128; SLOTS])
+    requires below { slot < most_slots }
     requires none { get_or rows.old slot 0 ≡ 0 }
     ensures len { length rows.new ≡ length rows.old }
     ensures own { (u : ℕ) → has_slot (get_or rows.new slot 0) u ≡ waits_for (shown headers.now.entries seats.now.items 0) slot u }
@@ -119,7 +120,7 @@ fn show_queue(headers: &Headers, seats: &[Option<Seat>], node: NodeId, rows: &mu
 }
 
 /// The mode in which a slot waits for a node.
-fn wanted_on(seats: &[Option<Seat>], slot: u8, node: NodeId) -> Option<Mode>
+fn wanted_on(seats: &[Option<Seat>], slot: Slot, node: NodeId) -> Option<Mode>
     ensures { IfSome result (λ m. status_in (txns_of seats.now slot) ≡ Some (Waiting node m)) }
 {
     let Seat { status, .. } = (*seats.get(slot as usize)?)?;
@@ -151,22 +152,22 @@ impl WaitsFor for Waits<'_> {
                         ..
                     },
                 ),
-            ) => row(self.headers, slot as u8, *node, *wanted),
+            ) => row(self.headers, slot as Slot, *node, *wanted),
             _ => 0,
         }
     }
 }
 
 /// Whom a slot waits for that waits on this node for this mode, as a row of a board.
-fn row(headers: &Headers, slot: u8, node: NodeId, wanted: Mode) -> u128
-    requires below { slot < 128 }
+fn row(headers: &Headers, slot: Slot, node: NodeId, wanted: Mode) -> u128
+    requires below { slot < most_slots }
     ensures { (u : ℕ) → has_slot result u ≡ (not (slot == u) && (not (are_compatible wanted (held_of headers.now.entries u node)) || is_ahead (queue_of headers.now.entries node) slot u)) }
 {
     headers.waits_for(slot, node, wanted).bits()
 }
 
 /// Whom a slot waits for with these ahead of it.
-fn row_behind(header: &Header, ahead: Slots, slot: u8, wanted: Mode) -> u128
+fn row_behind(header: &Header, ahead: Slots, slot: Slot, wanted: Mode) -> u128
     ensures { (u : ℕ) → has_slot result u ≡ (not (slot == u) && (not (are_compatible wanted (members_of header.now u)) || is_in ahead u)) }
 {
     header.opposed(wanted).union(ahead).without(slot).bits()

@@ -1,5 +1,6 @@
 //! The ledger of locks: the headers of all nodes, and by slot the transactions with their lists.
 
+ghost use Rattle.gl_slots.specs.Limit.{most_slots};
 ghost use Rattle.std.specs.Prelude.{◌≡◌, ◌<◌, ◌≤◌, ◌==◌, ℕ, IfOk, None, Some, false, length, not, slice_get, true, if◌then◌else◌};
 ghost use Rattle.std.specs.Option.{option_map};
 ghost use Rattle.indexmap.specs.IndexMap.{keys};
@@ -27,6 +28,7 @@ use gl_header::{GrantList, Headers};
 use gl_listed::{Entry, LockList};
 use gl_model::{Effect, LockRow, Status, Told};
 use gl_modes::{Mode, NodeId};
+use gl_slots::Slot;
 use std::alloc::{AllocError, Global};
 
 mod ask;
@@ -51,7 +53,7 @@ pub(crate) struct Ledger {
 impl Ledger {
     /// No locks, and so many free slots.
     pub(crate) fn new(alloc: Global, most: usize) -> Result<Self, AllocError>
-        requires { most ≤ 128 }
+        requires { most ≤ most_slots }
         ensures { IfOk result (λ ledger. AreNew ledger most) }
     {
         let headers = Headers::new(alloc)?;
@@ -70,14 +72,14 @@ impl Ledger {
 
     /// The transaction in a slot.
     #[inline]
-    pub(crate) fn seat(&self, slot: u8) -> Option<Seat>
+    pub(crate) fn seat(&self, slot: Slot) -> Option<Seat>
         ensures { txn_in (Some result) ≡ txns_of self.now.seats.items slot }
     {
         self.seats.get(slot)
     }
 
     /// The mode in which a slot holds a node, `NL` for none.
-    pub(crate) fn mode(&self, slot: u8, node: NodeId) -> Mode
+    pub(crate) fn mode(&self, slot: Slot, node: NodeId) -> Mode
         ensures { result ≡ held_by self.now.lists.items slot node }
     {
         match self.lists.get(slot as usize) {
@@ -87,7 +89,7 @@ impl Ledger {
     }
 
     /// How many children of a node a slot holds, where it holds the node.
-    pub(crate) fn children(&self, slot: u8, node: NodeId) -> Option<u32>
+    pub(crate) fn children(&self, slot: Slot, node: NodeId) -> Option<u32>
         ensures { result ≡ (if holds (λ t. held_by self.now.lists.items t node) slot then Some (counted_by self.now.lists.items slot node) else None) }
     {
         let entry = self.lists.get(slot as usize)?.entry(node)?;
@@ -99,7 +101,7 @@ impl Ledger {
     }
 
     /// How many nodes a slot holds or waits for.
-    pub(crate) fn rows(&self, slot: u8) -> usize
+    pub(crate) fn rows(&self, slot: Slot) -> usize
         ensures { result ≡ by_list (λ l. length (keys l.entries)) 0 self.now.lists.items slot }
     {
         match self.lists.get(slot as usize) {
@@ -109,7 +111,7 @@ impl Ledger {
     }
 
     /// The row at a place in the list of a slot.
-    pub(crate) fn row(&self, slot: u8, place: usize) -> Option<LockRow>
+    pub(crate) fn row(&self, slot: Slot, place: usize) -> Option<LockRow>
         ensures { result ≡ by_list (λ l. option_map row_of (slice_get l.entries.entries place)) None self.now.lists.items slot }
     {
         let (node, Entry { mode, children }) = self.lists.get(slot as usize)?.at(place)?;
@@ -121,7 +123,7 @@ impl Ledger {
     }
 
     /// The held child of a node that was born first.
-    pub(crate) fn first_child(&self, graph: &Graph, slot: u8, node: NodeId) -> Option<NodeId>
+    pub(crate) fn first_child(&self, graph: &Graph, slot: Slot, node: NodeId) -> Option<NodeId>
         requires live { (c : Node) → holds (λ t. held_by self.now.lists.items t c) slot ≡ true → is_live (graph_of graph.now) c ≡ true }
         ensures { result ≡ find (λ c. is_child (graph_of graph.now) node c && holds (λ t. held_by self.now.lists.items t c) slot) (nodes (graph_of graph.now)) }
     {
@@ -132,7 +134,7 @@ impl Ledger {
     }
 
     /// Whether a slot holds some child of a node in `IX`, `SIX` or `X`.
-    pub(crate) fn writes_below(&self, graph: &Graph, slot: u8, node: NodeId) -> bool
+    pub(crate) fn writes_below(&self, graph: &Graph, slot: Slot, node: NodeId) -> bool
         requires live { (c : Node) → holds (λ t. held_by self.now.lists.items t c) slot ≡ true → is_live (graph_of graph.now) c ≡ true }
         ensures { result ≡ list_any (λ c. is_child (graph_of graph.now) node c && is_write (held_by self.now.lists.items slot c)) (nodes (graph_of graph.now)) }
     {
@@ -146,7 +148,7 @@ impl Ledger {
     pub(crate) fn effective(
         &self,
         graph: &Graph,
-        slot: u8,
+        slot: Slot,
         node: NodeId,
     ) -> Result<Effect, AllocError>
         requires slot { slot < length self.now.lists.items }
@@ -162,7 +164,7 @@ impl Ledger {
     pub(crate) fn drop_and_wake(
         &mut self,
         graph: &Graph,
-        slot: u8,
+        slot: Slot,
         node: NodeId,
         granted: &mut GrantList,
         told: &mut Told,
@@ -189,7 +191,7 @@ impl Ledger {
     pub(crate) fn leave_queue(
         &mut self,
         graph: &Graph,
-        slot: u8,
+        slot: Slot,
         node: NodeId,
         status: Status,
         told: &mut Told,
@@ -215,7 +217,7 @@ impl Ledger {
 
     /// Those whose waits on a node were granted hold it, are active, and are told.
     #[inline]
-    fn wake_granted(&mut self, graph: &Graph, node: NodeId, granted: &[(u8, Mode)], told: &mut Told)
+    fn wake_granted(&mut self, graph: &Graph, node: NodeId, granted: &[(Slot, Mode)], told: &mut Told)
         requires can { CanEnd (books_of self.old.seats self.old.lists.items told.old.items) granted.now }
         requires hold { (u : ℕ) → is_among_waiters u granted.now ≡ true → CanHold self.old.lists.items u node (parents_of (graph_of graph.now) node) }
         ensures headers { self.new.headers.entries ≡ self.old.headers.entries }

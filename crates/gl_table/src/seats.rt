@@ -1,5 +1,6 @@
 //! The seats of all transactions, by slot.
 
+ghost use Rattle.gl_slots.specs.Limit.{most_slots};
 ghost use Rattle.std.specs.Prelude.{◌≡◌, ◌<◌, ◌≤◌, ◌==◌, ℕ, IfOk, None, Some, if◌then◌else◌, length, position, replicate, slice_set};
 ghost use Rattle.gl_slots.specs.Slots.{has_slot};
 ghost use Rattle.gl_model.specs.State.{age_in, is_wait, restatus};
@@ -7,7 +8,7 @@ ghost use Rattle.gl_table.specs.inside.Seats.{is_free, lives_at, txn_in, txns_of
 
 use crate::seat::Seat;
 use gl_model::Status;
-use gl_slots::Slots;
+use gl_slots::{Slot, Slots};
 use std::alloc::{AllocError, Global};
 use std::marker::Model;
 
@@ -36,14 +37,14 @@ impl Model for Seats {
 impl Seats {
     /// So many free seats.
     pub(crate) fn new(alloc: Global, most: usize) -> Result<Self, AllocError>
-        requires { most ≤ 128 }
+        requires { most ≤ most_slots }
         ensures { IfOk result (λ seats. seats.items ≡ replicate most None) }
     {
         let mut list = Vec::new(alloc);
         let mut free = Slots::empty();
         for slot in 0..most {
             list.push(None)?;
-            free.insert(slot as u8);
+            free.insert(slot as Slot);
         }
         Ok(Seats {
             list,
@@ -55,7 +56,7 @@ impl Seats {
 
     /// The transaction in a slot.
     #[inline]
-    pub(crate) fn get(&self, slot: u8) -> Option<Seat>
+    pub(crate) fn get(&self, slot: Slot) -> Option<Seat>
         ensures { txn_in (Some result) ≡ txns_of self.now.items slot }
     {
         match self.list.get(slot as usize) {
@@ -72,7 +73,7 @@ impl Seats {
     }
 
     /// The lowest free slot.
-    pub(crate) fn first_free(&self) -> Option<u8>
+    pub(crate) fn first_free(&self) -> Option<Slot>
         ensures { result ≡ position is_free self.now.items }
     {
         self.free.lowest()
@@ -93,7 +94,7 @@ impl Seats {
     }
 
     /// Seats a transaction.
-    pub(crate) fn take(&mut self, slot: u8, seat: Seat)
+    pub(crate) fn take(&mut self, slot: Slot, seat: Seat)
         requires { slot < length self.old.items }
         ensures { self.new.items ≡ slice_set self.old.items slot (Some seat) }
     {
@@ -104,7 +105,7 @@ impl Seats {
     }
 
     /// Frees a slot.
-    pub(crate) fn leave(&mut self, slot: u8)
+    pub(crate) fn leave(&mut self, slot: Slot)
         requires { slot < length self.old.items }
         ensures { self.new.items ≡ slice_set self.old.items slot None }
     {
@@ -115,7 +116,7 @@ impl Seats {
     }
 
     /// Writes what the transaction in a slot is doing. Answers its age, 0 for a free slot.
-    pub(crate) fn set_status(&mut self, slot: u8, status: Status) -> u64
+    pub(crate) fn set_status(&mut self, slot: Slot, status: Status) -> u64
         requires { slot < length self.old.items }
         ensures age { result ≡ age_in (txns_of self.old.items slot) }
         ensures len { length self.new.items ≡ length self.old.items }
@@ -135,8 +136,8 @@ impl Seats {
 }
 
 /// Puts a slot into the set of those who wait, or takes it out, by what its transaction is doing.
-fn note(waiting: &mut Slots, slot: u8, status: Status)
-    requires { slot < 128 }
+fn note(waiting: &mut Slots, slot: Slot, status: Status)
+    requires { slot < most_slots }
     ensures { (u : ℕ) → has_slot waiting.new u ≡ (if u == slot then is_wait (Some status) else has_slot waiting.old u) }
 {
     match status {

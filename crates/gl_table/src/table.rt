@@ -1,5 +1,6 @@
 //! The table of locks.
 
+ghost use Rattle.gl_slots.specs.Limit.{most_slots};
 ghost use Rattle.std.specs.Prelude.{◌≡◌, ◌≤◌, ◌<◌, ◌+◌, ◌^◌, ◌&&◌, ◌↔◌, ℕ, [], IfErr, IfOk, IfSome, IsNone, None, OnErr, OnOk, Some, if◌then◌else◌};
 ghost use Rattle.gl_modes.specs.declared.refusal.Refusal.{Refusal as ARefusal};
 ghost use Rattle.gl_graph.specs.View.{graph_of};
@@ -59,7 +60,7 @@ impl Table {
     /// deadlock the youngest falls. The only refusal is `NoMemory`.
     pub fn new(alloc: Global, detect: Detect, most: usize) -> Result<Self, Refusal>
         requires some { 1 ≤ most }
-        requires few { most ≤ 128 }
+        requires few { most ≤ most_slots }
         ensures made { IfOk result (λ table. state_of table ≡ empty_state detect most) }
         ensures deadlock { IfOk result (λ table. table.deadlock ≡ no_deadlock) }
         ensures refused { IfErr result (λ refusal. refusal ≡ ARefusal.NoMemory) }
@@ -75,7 +76,7 @@ impl Table {
         most: usize,
     ) -> Result<Self, Refusal>
         requires some { 1 ≤ most }
-        requires few { most ≤ 128 }
+        requires few { most ≤ most_slots }
         ensures made { IfOk result (λ table. state_of table ≡ choosing victims (empty_state detect most)) }
         ensures deadlock { IfOk result (λ table. table.deadlock ≡ no_deadlock) }
         ensures refused { IfErr result (λ refusal. refusal ≡ ARefusal.NoMemory) }
@@ -93,7 +94,7 @@ impl Table {
         nodes: u32,
     ) -> Result<Self, Refusal>
         requires some { 1 ≤ most }
-        requires few { most ≤ 128 }
+        requires few { most ≤ most_slots }
         requires low { nodes ≤ 2 ^ 31 }
         ensures made { IfOk result (λ table. state_of table ≡ with_room nodes (choosing victims (empty_state detect most))) }
         ensures deadlock { IfOk result (λ table. table.deadlock ≡ no_deadlock) }
@@ -111,7 +112,7 @@ impl Table {
         most: usize,
     ) -> Result<Self, Refusal>
         requires some { 1 ≤ most }
-        requires few { most ≤ 128 }
+        requires few { most ≤ most_slots }
         requires empty { (birth : ℕ) → (graph_of graph).at birth ≡ None }
         requires births { graph.births ≡ 0 }
         requires low { graph.most ≤ 2 ^ 31 }
@@ -142,7 +143,7 @@ impl Table {
         ensures unique { StandOnce self.now }
         ensures no_conflict { HasNoConflict (state_of self.now) }
         ensures no_cycle { self.now.detect ≡ AtBlock → HasNoCycle (state_of self.now) }
-        ensures few { (state_of self.now).most ≤ 128 }
+        ensures few { (state_of self.now).most ≤ most_slots }
     {
         self.locks.ledger.headers.law();
     }

@@ -12,7 +12,7 @@ ghost use Rattle.gl_catalog.specs.Manager.{state_of};
 
 use super::Manager;
 use gl_modes::{Mode, NodeId, Refusal};
-use gl_slots::Slots;
+use gl_slots::{Slot, Slots};
 use gl_table::{LockRow, Status, TxnId};
 
 impl Manager {
@@ -24,7 +24,7 @@ impl Manager {
     }
 
     /// The transaction in a slot, and what it is doing; `None` for a free slot.
-    pub fn living(&self, slot: u8) -> Option<(TxnId, Status)>
+    pub fn living(&self, slot: Slot) -> Option<(TxnId, Status)>
         ensures { result ≡ living_in (state_of self.now) slot }
     {
         self.table.living(slot)
@@ -62,7 +62,7 @@ impl Manager {
     }
 
     /// The mode in which the transaction of a slot holds a node, `NL` for none.
-    pub fn mode_at(&self, slot: u8, n: NodeId) -> Mode
+    pub fn mode_at(&self, slot: Slot, n: NodeId) -> Mode
         ensures { result ≡ (state_of self.now).held slot n }
     {
         self.table.mode_at(slot, n)
@@ -70,7 +70,7 @@ impl Manager {
 
     /// Who waits for a node, by slot, with the wanted modes, in the queue's order. Refused with
     /// `NoSuchNode`.
-    pub fn queue(&self, n: NodeId) -> Result<&[(u8, Mode)], Refusal>
+    pub fn queue(&self, n: NodeId) -> Result<&[(Slot, Mode)], Refusal>
         ensures queue { IfOk result (λ waiters. waiters.now ≡ (state_of self.now).queue n) }
         ensures refused { RefusesOnly (first_refusal (group_tests (state_of self.now) n)) result }
     {

@@ -1,4 +1,5 @@
 -- Queues of waiters: who stands where, what a front takes, and what granting gives one slot. For all that speaks of queues.
+use Rattle.gl_slots.specs.Limit.{most_slots}
 use Rattle.gl_model.proofs.Words.{[], ◌&&◌, ◌++◌, ◌+◌, ◌<◌, ◌==◌, ◌||◌, ◌∙◌, ◌∷◌, ◌≡◌, ◌≢◌, ◌⊎◌, after_grants, All-same, and_both, ap, append-nil, ap₂, arith}
 use Rattle.gl_model.proofs.Words.{before_first, Bool, both, clash, differ-false, false, filter, filter-append, get_or, HeaderState, holds, if◌then◌else◌, inl}
 use Rattle.gl_model.proofs.Words.{inr, is_ahead, is_among_waiters, is_waiter, IsLawfulHeader, length, List, list_all, list_any, list_any-append, list_any_at}
@@ -178,8 +179,8 @@ ahead-first q t u i d low at none = ahead_is q t u ∙ by q i low at none
         step a b c r x y h e k = grind (arith, nat_tests)
 
 -- the slots of waiters are below 128
-pub queue-below : (h : HeaderState) (q : List Waiter) (k : ℕ) (d : Waiter) → IsLawfulHeader h → q ≡ h.queue → k < length q → (get_or q k d).0 < 128
-queue-below h q k d law is low = All-same (λ (e : Waiter). e.0 < 128) q h.queue is
+pub queue-below : (h : HeaderState) (q : List Waiter) (k : ℕ) (d : Waiter) → IsLawfulHeader h → q ≡ h.queue → k < length q → (get_or q k d).0 < most_slots
+queue-below h q k d law is low = All-same (λ (e : Waiter). e.0 < most_slots) q h.queue is
     (λ j e lt. law.waiters_below (get_or h.queue j e).0 (list_any_at (is_waiter (get_or h.queue j e).0) h.queue j e lt (number_same _ _ refl))) k d low
 
 -- one more of a queue

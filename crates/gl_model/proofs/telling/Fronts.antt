@@ -1,4 +1,5 @@
 -- Where who stands in a queue waits there, once: the front that its node grants, and that order is kept. For wakes.
+use Rattle.gl_slots.specs.Limit.{most_slots}
 use Rattle.gl_model.proofs.Words.{[], ◌++◌, ◌==◌, ◌∙◌, ◌∷◌, ◌≡◌, ◌≤◌, Active, ap, AreBelow, arith, Bool, both, clash, enters, enters-limit, false}
 use Rattle.gl_model.proofs.Words.{filter-append, front-and_rest, front-waited, front_at, granted, granted_at, holds, if◌then◌else◌, is_among_waiters}
 use Rattle.gl_model.proofs.Words.{is_distinct, is_wait, is_waiter, is_waiting_at, IsOnWay, IsOrderly, IsWithin, List, members, Mode, nat_tests, NL, NodeId, not}
@@ -106,7 +107,7 @@ module _ (b : State) (n : NodeId) (well : WaitWell b n) where
 
 -- Slots with a transaction are below the limit of the state, and so are all who hold: the limit of slots serves as well.
 
-pub enters-most : (s : State) → IsOrderly s → s.most ≤ 128 → (t : ℕ) (n : NodeId) (m : Mode)
+pub enters-most : (s : State) → IsOrderly s → s.most ≤ most_slots → (t : ℕ) (n : NodeId) (m : Mode)
     → enters s.most (members s n) (s.queue n) t m ≡ enters slot_limit (members s n) (s.queue n) t m
 enters-most s orderly few t n m = enters-limit s.most (members s n) (s.queue n) t m few (members_within s orderly n)
 

@@ -1,4 +1,5 @@
 -- Notices by rising slot, and that they are what is told. For told lists.
+use Rattle.gl_slots.specs.Limit.{most_slots}
 use Rattle.gl_model.proofs.Words.{[], ◌&&◌, ◌+◌, ◌<◌, ◌==◌, ◌∙◌, ◌∷◌, ◌≡◌, ◌≤◌, addressed, age_of, and_both, ap, ap₂, arith, Bool, both, candidate-on_cycle}
 use Rattle.gl_model.proofs.Words.{clash, cond, cons_option, false, filter, filter_map, fun_ext, get_or, if◌then◌else◌, insert, is_rising, is_some, IsBySlot}
 use Rattle.gl_model.proofs.Words.{IsLawful, IsNonDecreasingBy, IsOnNoCycle, IsPartitionedBy, IsPartitionedBy-ltb, IsPartitionPoint, length, List, list_all}
@@ -74,10 +75,10 @@ module _ (x : Named) where
       ap is_rising (inserted_cons y ys false e) ∙ ap₂ (λ a b. (a && b) && (list_all (λ z. nat_lt y.0.slot z.0.slot) ys && is_rising ys)) lower
       (all_above x.0.slot y.0.slot ys low both.0) ∙ h)
 
-  pub by_slot_inserted : (xs : Told) → IsBySlot xs → notices_in xs x.0.slot ≡ None → x.0.slot < 128 → IsBySlot (inserted xs)
+  pub by_slot_inserted : (xs : Told) → IsBySlot xs → notices_in xs x.0.slot ≡ None → x.0.slot < most_slots → IsBySlot (inserted xs)
   by_slot_inserted xs is absent low = record {
     rising = rising_inserted xs is.rising absent;
-    below = all_inserted (λ z. nat_lt z.0.slot 128) xs (place xs x.0.slot) x (place_within xs x.0.slot) (grind (arith, nat_tests)) is.below;
+    below = all_inserted (λ z. nat_lt z.0.slot most_slots) xs (place xs x.0.slot) x (place_within xs x.0.slot) (grind (arith, nat_tests)) is.below;
   }
 
   pub notices_inserted : (xs : Told) → notices_in xs x.0.slot ≡ None → (u : ℕ)
@@ -102,8 +103,8 @@ rising_few lo k (x ∷ xs) h up from below =
     omega arith
 
 -- there is room for one more slot
-pub few_told : (xs : Told) → IsBySlot xs → length xs ≤ 128
-few_told xs is = let h = rising_few 0 128 xs (omega arith) is.rising (all_weaker (λ (x : Named). nat_lt x.0.slot 128) (λ (x : Named). nat_le 0 x.0.slot) xs
+pub few_told : (xs : Told) → IsBySlot xs → length xs ≤ most_slots
+few_told xs is = let h = rising_few 0 most_slots xs (omega arith) is.rising (all_weaker (λ (x : Named). nat_lt x.0.slot most_slots) (λ (x : Named). nat_le 0 x.0.slot) xs
     (λ x e. grind (arith, nat_tests)) is.below) is.below in omega arith
 
 length-inserted : (xs : Told) (i : ℕ) (x : Named) → i ≤ length xs → length (insert xs i x) ≡ length xs + 1
@@ -111,7 +112,7 @@ length-inserted xs zero x h = omega arith
 length-inserted [] (suc i) x h = absurd (omega arith)
 length-inserted (y ∷ ys) (suc i) x h = let r = length-inserted ys i x (omega arith) in omega arith
 
-pub room_to_tell : (xs : Told) (x : Named) → IsBySlot xs → notices_in xs x.0.slot ≡ None → x.0.slot < 128 → length xs < 128
+pub room_to_tell : (xs : Told) (x : Named) → IsBySlot xs → notices_in xs x.0.slot ≡ None → x.0.slot < most_slots → length xs < most_slots
 room_to_tell xs x is absent low =
     let few = few_told (inserted x xs) (by_slot_inserted x xs is absent low) in
     let more = length-inserted xs (place xs x.0.slot) x (place_within xs x.0.slot) in
@@ -185,7 +186,7 @@ pub told_in_order : (s now : State) → ((u : ℕ) → is_some (s.txns u) ≡ tr
 told_in_order s now below xs sorted each = rising_all (told_to s now) s.most xs sorted.rising each (λ u h. below u (told_lives s now u h))
 
 -- notices by rising slot that are those of each slot are what is told
-pub told_is : (s now : State) (xs : Told) → IsLawful s → s.most ≤ 128 → IsBySlot xs → ((u : ℕ) → notices_in xs u ≡ told_to s now u) → xs ≡ told s now
+pub told_is : (s now : State) (xs : Told) → IsLawful s → s.most ≤ most_slots → IsBySlot xs → ((u : ℕ) → notices_in xs u ≡ told_to s now u) → xs ≡ told s now
 told_is s now xs law most sorted each = told_in_order s now law.slots_below xs sorted each
 
 -- a name is left out by its slot
@@ -203,7 +204,7 @@ told_but_same s s' now t most same =
     but_each s' now t ∙ ap₂ filter_map (fun_ext (λ u. grind (arith, nat_tests, u == t, same u))) (ap (range_with_len 0) most) ∙ sym (but_each s now t)
 
 -- the same with the caller left out
-pub told_but_is : (s now : State) (t : ℕ) (xs : Told) → IsLawful s → s.most ≤ 128 → IsBySlot xs
+pub told_but_is : (s now : State) (t : ℕ) (xs : Told) → IsLawful s → s.most ≤ most_slots → IsBySlot xs
     → ((u : ℕ) → notices_in xs u ≡ (if u == t then None else told_to s now u)) → xs ≡ told_but t s now
 told_but_is s now t xs law most sorted each =
     rising_all (λ u. if u == t then None else told_to s now u) s.most xs sorted.rising each

@@ -1,4 +1,5 @@
 -- What holds of a table's fields: of every table, of a new one, with new nodes and with one transaction more.
+use Rattle.gl_slots.specs.Limit.{most_slots}
 use Rattle.gl_table.proofs.Words.{[], ◌+◌, ◌<◌, ◌==◌, ◌||◌, ◌∙◌, ◌∷◌, ◌≡◌, ◌≤◌, Active, ap, AreDistinct, AreNew, arith, begin_tests, begun, Bool}
 use Rattle.gl_table.proofs.Words.{by_list, children_that, choosing, clash, cond, count_in, counted_by, Detect, empty_state, Entry, entry_of, Err, false, find}
 use Rattle.gl_table.proofs.Words.{first_refusal, free_slot, get_or, graph_of, HasNoCycle, held_children, held_of, holds, IfOk, is_among_waiters, is_free}
@@ -89,7 +90,7 @@ free_seats zero t = refl
 free_seats (suc k) zero = refl
 free_seats (suc k) (suc t) = free_seats k t
 
-module _ (graph : View) (ledger : Ledger) (detect : Detect) (victims : Victims) (most : ℕ) (few : most ≤ 128) (low : graph.most ≤ 2 ^ 31)
+module _ (graph : View) (ledger : Ledger) (detect : Detect) (victims : Victims) (most : ℕ) (few : most ≤ most_slots) (low : graph.most ≤ 2 ^ 31)
     (none : (birth : ℕ) → (graph_of graph).at birth ≡ None) (births : graph.births ≡ 0) (new : AreNew ledger most) where
   abbrev l : State
   l = state_in graph ledger
@@ -116,7 +117,7 @@ module _ (graph : View) (ledger : Ledger) (detect : Detect) (victims : Victims) 
   new_law = record {
     orderly = orderly_over l detect victims 0 new_safe.lawful;
     sound = record {
-      few = subst (λ (k : ℕ). k ≤ 128) (sym (ap length new.seats ∙ length-replicate most)) few;
+      few = subst (λ (k : ℕ). k ≤ most_slots) (sym (ap length new.seats ∙ length-replicate most)) few;
       lists = new.lists ∙ sym (ap length new.seats ∙ length-replicate most);
     };
     agree = λ u. record {
@@ -269,7 +270,7 @@ module _ (i : Inside) (sound : IsSound i) (t : ℕ) (at : Some t ≡ position is
   begun-law = record {
     orderly = orderly_over (state_in i.locks.graph ledger) i.detect i.victims (i.begins + 1) begun-safe.lawful;
     sound = record {
-      few = subst (λ (k : ℕ). k ≤ 128) (sym seats-same) i.locks.sound.few;
+      few = subst (λ (k : ℕ). k ≤ most_slots) (sym seats-same) i.locks.sound.few;
       lists = i.locks.sound.lists ∙ sym seats-same;
     };
     agree = λ u. record {

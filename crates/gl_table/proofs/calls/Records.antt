@@ -1,4 +1,5 @@
 -- Records come and go, and children are shed: what it makes of a table. For those calls.
+use Rattle.gl_slots.specs.Limit.{most_slots}
 use Rattle.gl_table.proofs.Words.{[], ◌&&◌, ◌+◌, ◌-◌, ◌==◌, ◌||◌, ◌∙◌, ◌∷◌, ◌≡◌, ◌≤◌, Active, addressed, age_in, age_of, Agrees, and_both, ap, are_compatible}
 use Rattle.gl_table.proofs.Words.{AreExact, AreSound, arith, Bool, children_that, clash, cond, count_by, count_cons, CountsHeld, covered_children, deleted}
 use Rattle.gl_table.proofs.Words.{false, first_not_ix, freed, granted_at, Graph, graph_of, HasNoCycle, held_children, holds, holds_child, IfOk, if◌then◌else◌}
@@ -120,7 +121,7 @@ module _ (i : Inside) (sound : IsSound i) (ledger : Ledger) (kept : KeepsLocks i
     no_cycle = λ at. subst HasNoCycle (sym same_state) (sound.no_cycle at);
   }) (record {
     sound = record {
-      few = subst (λ (k : ℕ). k ≤ 128) (sym many) i.locks.sound.few;
+      few = subst (λ (k : ℕ). k ≤ most_slots) (sym many) i.locks.sound.few;
       lists = kept.lists.len ∙ i.locks.sound.lists ∙ sym many;
     };
     agree = λ u. subst (λ x. Agrees x ledger.lists.items u) (sym (same_on (graph_of i.locks.graph)))

@@ -1,4 +1,5 @@
 -- What an ask that is granted leaves, also of a node that nobody held, and that a node has its key alone. For asks and new records.
+use Rattle.gl_slots.specs.Limit.{most_slots}
 use Rattle.gl_table.proofs.Words.{[], ⊎_elim, ◌&&◌, ◌+◌, ◌<◌, ◌==◌, ◌^◌, ◌||◌, ◌∙◌, ◌∷◌, ◌≡◌, ◌≢◌, ◌≤◌, Active, Agrees, and-false, ap, ap₂, AreHeaders}
 use Rattle.gl_table.proofs.Words.{AreSound, arith, Asked, Bool, cases_of, children_that, clash, count_by, count_by-le-length, count_of, counted_by, CountsHeld}
 use Rattle.gl_table.proofs.Words.{enters, enters_at, Entries, false, fun_ext, granted, Graph, HasItsKey, HasRoom, HasRoomAt, header_at, header_or_new}
@@ -45,7 +46,7 @@ room-state g l l' t wanted made = state-same g l l' (ap (λ h. h.entries) made.h
 pub room-may_ask : (g : Graph) (l l' : Ledger) (t : ℕ) (wanted : Bool) → HasMadeRoom l l' t wanted → MayAsk g l t → MayAsk g l' t
 room-may_ask g l l' t wanted made may = record {
   sound = record {
-    few = subst (λ (k : ℕ). k ≤ 128) (sym seats) may.sound.few;
+    few = subst (λ (k : ℕ). k ≤ most_slots) (sym seats) may.sound.few;
     lists = made.lists.len ∙ may.sound.lists ∙ sym seats;
   };
   orderly = subst IsOrderly (sym same) may.orderly;
@@ -274,7 +275,7 @@ module _ {g : Graph} {l r : Ledger} (l' : Ledger) {t : ℕ} {n : NodeId} {m : Mo
       → l'.seats ≡ r.seats → HasNode r.lists.items l'.lists.items t n w → CountsGrant (state_on g r) r.lists.items l'.lists.items t n → IsGranted g l l' t n m w
   is_granted law live lock answer is changed seats has counts = record {
     sound = record {
-      few = subst (λ (k : ℕ). k ≤ 128) (ap (λ x. length x.items) (sym seats)) ready.may.sound.few;
+      few = subst (λ (k : ℕ). k ≤ most_slots) (ap (λ x. length x.items) (sym seats)) ready.may.sound.few;
       lists = has.len ∙ ready.may.sound.lists ∙ ap (λ x. length x.items) (sym seats);
     };
     mode = mode ∙ ap (λ s. wanted s t n m) ready.same;

@@ -1,4 +1,5 @@
 -- The board of a moment, written slot by slot, and who is a victim. For boards and detection.
+use Rattle.gl_slots.specs.Limit.{most_slots}
 use Rattle.gl_table.proofs.Words.{[], ⊎_elim, ◌&&◌, ◌<◌, ◌==◌, ◌||◌, ◌∙◌, ◌∷◌, ◌≡◌, ◌≢◌, ◌≤◌, ◌⊎◌, age_in, age_of, and-false, and-true, ap, are_compatible}
 use Rattle.gl_table.proofs.Words.{AreHeaders, arith, bits_of, blocks, Board, board_of, Bool, candidate-on_cycle, cases_eq, cases_lt, clash, cond, Entries}
 use Rattle.gl_table.proofs.Words.{false, fill_by_all, front, fun_ext, get_or, get_or-map-range_with_len, get_or-replicate, get_or-set_other, get_or-set_same}
@@ -145,21 +146,21 @@ rows-all edge n m xs size low right =
     fill_by_all (λ t. bits_of m (edge t)) xs n 0 size (λ k inside. same_slots _ _ (λ u. right k u ∙ sym (row_edge-bits_of n m edge low k u))
     ∙ get_or-map-range_with_len (λ t. bits_of m (edge t)) 0 n k k 0 inside (omega arith))
 
--- whom somebody waits for is below 128
+-- whom somebody waits for is below the limit
 
 blocker-below : (o : Option HeaderState) → ((h : HeaderState) → o ≡ Some h → IsLawfulHeader h) → (w : Mode) (t u : ℕ)
-    → (not (are_compatible w (members_of (header_or_new o) u)) || is_ahead (header_or_new o).queue t u) ≡ true → u < 128
+    → (not (are_compatible w (members_of (header_or_new o) u)) || is_ahead (header_or_new o).queue t u) ≡ true → u < most_slots
 blocker-below None lawful w t u h =
     or_elim _ _ h (λ k. clash (ap (λ g. are_compatible w (g u)) unused-nobody ∙ NL-compatible w) (not-true _ k)) (λ k. clash k refl)
 blocker-below (Some x) lawful w t u h =
     or_elim _ _ h
-    (λ k. ⊎_elim (λ low. low) (λ past. clash (ap (are_compatible w) (law.members_below u past) ∙ NL-compatible w) (not-true _ k)) (cases_lt u 128))
+    (λ k. ⊎_elim (λ low. low) (λ past. clash (ap (are_compatible w) (law.members_below u past) ∙ NL-compatible w) (not-true _ k)) (cases_lt u most_slots))
     (λ k. law.waiters_below u (ahead_second x.queue t u (sym (ahead_is x.queue t u) ∙ k)))
   where
     law : IsLawfulHeader x
     law = lawful x refl
 
-awaited-below : (hs : Entries) (seats : List (Option Seat)) (epoch : ℕ) → AreHeaders hs → (t u : ℕ) → waits_for (shown hs seats epoch) t u ≡ true → u < 128
+awaited-below : (hs : Entries) (seats : List (Option Seat)) (epoch : ℕ) → AreHeaders hs → (t u : ℕ) → waits_for (shown hs seats epoch) t u ≡ true → u < most_slots
 awaited-below hs seats epoch law t u h =
     let st = step_is (shown hs seats epoch) t u h in let n = st.0 in blocker-below (header_at hs n) (law.lawful n) st.1 t u st.2.blocked
 
@@ -168,12 +169,12 @@ board-is : (b : Board) (epoch : ℕ) (ages rows : List ℕ) → b.epoch ≡ epoc
 board-is b epoch ages rows e a r = λ j. record { epoch = e j; ages = a j; rows = r j }
 
 -- each age and each row is right
-pub board-all : (hs : Entries) (seats : List (Option Seat)) (epoch : ℕ) (b : Board) → AreHeaders hs → length seats ≤ 128 → b.epoch ≡ epoch
-    → length b.ages ≡ 128 → length b.rows ≡ 128 → ((u : ℕ) → get_or b.ages u 0 ≡ age_at seats u) → ((t : ℕ) → IsRow (waits_for (shown hs seats 0)) b.rows t)
+pub board-all : (hs : Entries) (seats : List (Option Seat)) (epoch : ℕ) (b : Board) → AreHeaders hs → length seats ≤ most_slots → b.epoch ≡ epoch
+    → length b.ages ≡ most_slots → length b.rows ≡ most_slots → ((u : ℕ) → get_or b.ages u 0 ≡ age_at seats u) → ((t : ℕ) → IsRow (waits_for (shown hs seats 0)) b.rows t)
     → b ≡ board_of (shown hs seats epoch)
 board-all hs seats epoch b law few at ages_len rows_len ages rows =
-    board-is b _ _ _ at (ages-all (age_at seats) 128 b.ages ages_len ages)
-    (rows-all (waits_for s) 128 128 b.rows rows_len (λ t u w. (taken t u w, awaited-below hs seats 0 law t u w)) rows)
+    board-is b _ _ _ at (ages-all (age_at seats) most_slots b.ages ages_len ages)
+    (rows-all (waits_for s) most_slots most_slots b.rows rows_len (λ t u w. (taken t u w, awaited-below hs seats 0 law t u w)) rows)
   where
     s : State
     s = shown hs seats 0
@@ -181,7 +182,7 @@ board-all hs seats epoch b law few at ages_len rows_len ages rows =
     past : (t : ℕ) → length seats ≤ t → txns_of seats t ≡ None
     past t k = ap txn_in (slice_get_past seats t k)
 
-    taken : (t u : ℕ) → waits_for s t u ≡ true → t < 128
+    taken : (t u : ℕ) → waits_for s t u ≡ true → t < most_slots
     taken t u w = ⊎_elim (λ below. omega (arith, few, below))
         (λ k. clash w (idle_no_step s t (λ n m e. none_some (sym (ap status_in (past t k)) ∙ e)) u)) (cases_lt t (length seats))
 

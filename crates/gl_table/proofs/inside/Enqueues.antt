@@ -1,4 +1,5 @@
 -- What an ask that waits leaves. For asks.
+use Rattle.gl_slots.specs.Limit.{most_slots}
 use Rattle.gl_table.proofs.Words.{◌&&◌, ◌+◌, ◌<◌, ◌==◌, ◌||◌, ◌∙◌, ◌≡◌, ◌≤◌, Agrees, and_both, ap, ap₂, AreSound, arith, Bool, count_of, counted_by, CountsHeld}
 use Rattle.gl_table.proofs.Words.{enqueued, enters, Entries, false, fun_ext, Graph, held_of, holds, if◌then◌else◌, is_among_waiters, is_listed, is_wait, length}
 use Rattle.gl_table.proofs.Words.{List, LockList, members, members_at, Mode, mode_of, nat_tests, NodeId, number_same, Option, other_number, placed, queue_of}
@@ -91,7 +92,7 @@ module _ (g : Graph) (l r l' : Ledger) (t : ℕ) (n : NodeId) (m w : Mode) (held
       → HasWait r.lists.items l'.lists.items t n (held_of r.headers.entries t n) → IsEnqueued g l l' t n m
   is_enqueued entries changed same len txns wants has = record {
     sound = record {
-      few = subst (λ (k : ℕ). k ≤ 128) (sym count) ready.may.sound.few;
+      few = subst (λ (k : ℕ). k ≤ most_slots) (sym count) ready.may.sound.few;
       lists = has.node.len ∙ ready.may.sound.lists ∙ sym count;
     };
     state = state ∙ ap (λ s. enqueued s t n (wanted s t n m)) ready.same;

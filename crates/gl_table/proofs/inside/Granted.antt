@@ -1,4 +1,5 @@
 -- Headers, seats and lists once a node granted from its front. For releases and withdrawn waits.
+use Rattle.gl_slots.specs.Limit.{most_slots}
 use Rattle.gl_table.proofs.Words.{[], ◌&&◌, ◌+◌, ◌<◌, ◌==◌, ◌||◌, ◌∙◌, ◌≡◌, ◌≢◌, ◌≤◌, Active, after_grants, Agrees, and-false, and_both, ap, ap₂, AreSound}
 use Rattle.gl_table.proofs.Words.{arith, books_of, Bool, CanEnd, CanHold, children_that, clash, count_by, count_by-le-length, CountsHeld, drop, false, front}
 use Rattle.gl_table.proofs.Words.{front-limit, front_at, fun_ext, granted_at, Graph, held_by, held_children, holds, if◌then◌else◌, is_among_waiters}
@@ -126,7 +127,7 @@ members-with_grant s t n m = fun_ext (λ u. by u (u == t))
     by : (u : ℕ) (b : Bool) → (if b then m else s.held u n) ≡ (if b && same_node n n then m else s.held u n)
     by u b = grind (arith, nat_tests)
 
-module _ (s : State) (o : IsOrderly s) (few : s.most ≤ 128) (t : ℕ) (n : NodeId) where
+module _ (s : State) (o : IsOrderly s) (few : s.most ≤ most_slots) (t : ℕ) (n : NodeId) where
   -- the front by the limit of slots, once a grant is gone, is that by the number of seats
   pub released_front : front slot_limit (with_mode (members s n) t NL) (s.queue n) ≡ front_at (with_grant s t n NL) n
   released_front =

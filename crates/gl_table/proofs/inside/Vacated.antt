@@ -1,4 +1,5 @@
 -- A record goes with its locks: the lists agree. For removed records.
+use Rattle.gl_slots.specs.Limit.{most_slots}
 use Rattle.gl_table.proofs.Words.{[], ◌&&◌, ◌+◌, ◌<◌, ◌==◌, ◌||◌, ◌∙◌, ◌≡◌, ◌≤◌, Active, Agrees, and-false, and_both, ap, ap₂, arith, as_left, Bool, CanEnd}
 use Rattle.gl_table.proofs.Words.{CanStrike, children_that, clash, cond, count_by, count_none, count_same, count_there, counted_by, CountsHeld, deleted, false}
 use Rattle.gl_table.proofs.Words.{freed, fun_ext, Graph, held_children, holds, if◌then◌else◌, is_among_waiters, is_child, is_live, is_record_shape, is_wait}
@@ -88,7 +89,7 @@ module _ {s : State} {t : ℕ} {r : NodeId} {ls : List LockList} (may : MayVacat
   waiter_other u h = stands_other s may.orderly t (ap is_wait may.active) u r h
 
   module _ {mid : List LockList} (struck : Strikes ls mid t r (parents_of s.graph r)) where
-    pub can_free : (seats : List (Option Seat)) (told : Told) → length seats ≡ s.most → length seats ≤ 128 → length ls ≡ length seats → IsBySlot told
+    pub can_free : (seats : List (Option Seat)) (told : Told) → length seats ≡ s.most → length seats ≤ most_slots → length ls ≡ length seats → IsBySlot told
         → ((u : ℕ) → is_among_waiters u (s.queue r) ≡ true → notices_in told u ≡ None) → CanEnd (record { seats = seats; lists = mid; told = told }) (s.queue r)
     can_free seats told most few len by_slot untold = record {
       kept = record { few = few; len = struck.len ∙ len; by_slot = by_slot };

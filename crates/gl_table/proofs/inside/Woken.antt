@@ -1,4 +1,5 @@
 -- Waits on a node that end one after the other, by a grant or without one. For `wake`, `free` and `turn_away`.
+use Rattle.gl_slots.specs.Limit.{most_slots}
 use Rattle.gl_table.proofs.Words.{[], ◌&&◌, ◌+◌, ◌<◌, ◌==◌, ◌^◌, ◌||◌, ◌∙◌, ◌∷◌, ◌≡◌, ◌≤◌, Active, after_grants, age_in, Agrees, and-false, and_both, ap, ap₂}
 use Rattle.gl_table.proofs.Words.{AreKept, arith, as_held, as_left, Books, Bool, CanHold, clash, count_by, counted_by, false, fun_ext, held_by, if◌then◌else◌}
 use Rattle.gl_table.proofs.Words.{is_among_waiters, is_distinct, is_wait, is_waiter, IsBySlot, IsWritten, length, List, list_any_at, list_any_more, listed_by}
@@ -81,7 +82,7 @@ either_more a b k x y h1 = grind (arith, nat_tests)
 -- what is kept in order still is
 pub kept_still : {b mid : Books} {n : NodeId} {who : ℕ → Bool} {is : Writing} {says : ℕ → Notice} → WaitsEnd b n who is says mid → AreKept b → AreKept mid
 kept_still over kept = record {
-  few = subst (λ (k : ℕ). k ≤ 128) (sym over.len) kept.few;
+  few = subst (λ (k : ℕ). k ≤ most_slots) (sym over.len) kept.few;
   len = over.lists.len ∙ kept.len ∙ sym over.len;
   by_slot = over.tells.by_slot;
 }

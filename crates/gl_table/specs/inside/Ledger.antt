@@ -1,4 +1,5 @@
 -- The ledger that the code keeps beside the graph: as a state of the model, and what agrees with it.
+use Rattle.gl_slots.specs.Limit.{most_slots}
 use Rattle.std.specs.Prelude.{◌≡◌, ◌≤◌, ◌||◌, ℕ, true, false, List, [], length, None, replicate}
 use Rattle.gl_modes.specs.declared.mode.Mode.TheVariants.{NL}
 use Rattle.gl_modes.specs.declared.node.NodeId.{NodeId}
@@ -46,7 +47,7 @@ CountsHeld s ls u = (p : NodeId) → counted_by ls u p ≡ held_children s u p
 
 -- what the ledger is made of is in order
 pub record AreSound (l : Ledger) : Type 0 where
-  pub few : length l.seats.items ≤ 128
+  pub few : length l.seats.items ≤ most_slots
   pub lists : length l.lists.items ≡ length l.seats.items
 
 -- the ledger is exact over a graph: its parts are in order, and each list has the modes and the counts of its slot

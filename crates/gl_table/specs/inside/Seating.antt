@@ -1,4 +1,5 @@
 -- What holds of the fields of the seats.
+use Rattle.gl_slots.specs.Limit.{most_slots}
 use Rattle.std.specs.Prelude.{◌≡◌, ◌≤◌, ℕ, length}
 use Rattle.gl_slots.specs.Slots.{has_slot}
 use Rattle.gl_table.specs.declared.seats.Seats.TheInside.{Inside}
@@ -10,7 +11,7 @@ seats_of s = record { items = s.list.items }
 
 -- the sets are those of the seats in which nobody sits, of those in which somebody lives, and of those who wait
 pub record IsSeating (s : Inside) : Type 0 where
-  pub few : length s.list.items ≤ 128
+  pub few : length s.list.items ≤ most_slots
   pub free : (u : ℕ) → has_slot s.free u ≡ is_free_at s.list.items u
   pub living : (u : ℕ) → has_slot s.living u ≡ lives_at s.list.items u
   pub waiting : (u : ℕ) → has_slot s.waiting u ≡ waits_at s.list.items u

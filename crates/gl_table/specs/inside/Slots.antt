@@ -1,4 +1,5 @@
 -- The told list and the lists of all transactions by slot: what it is to wake and to free waiters.
+use Rattle.gl_slots.specs.Limit.{most_slots}
 use Rattle.std.specs.Prelude.{ℕ, Bool, true, ◌&&◌, ◌==◌, ◌≡◌, Option, ◌+◌, ◌<◌, ◌≤◌, ◌^◌, false, map, List, length, None, if◌then◌else◌}
 use Rattle.std.specs.Prelude.{slice_get}
 use Rattle.std.specs.List.{count_by, list_any}
@@ -109,7 +110,7 @@ books_of seats lists told = record { seats = seats.items; lists = lists; told = 
 
 -- one list for each slot
 pub record AreKept (b : Books) : Type 0 where
-  pub few : length b.seats ≤ 128
+  pub few : length b.seats ≤ most_slots
   pub len : length b.lists ≡ length b.seats
   pub by_slot : IsBySlot b.told
 

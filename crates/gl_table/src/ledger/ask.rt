@@ -21,10 +21,11 @@ use gl_header::Asked;
 use gl_listed::LockList;
 use gl_model::{Locked, Status};
 use gl_modes::{Mode, NodeId, Refusal, sup};
+use gl_slots::Slot;
 
 /// Makes room in the list of a slot for one node more, and for the counts of its parents.
 #[inline]
-pub(crate) fn make_room(lists: &mut Vec<LockList>, slot: u8) -> Result<(), Refusal>
+pub(crate) fn make_room(lists: &mut Vec<LockList>, slot: Slot) -> Result<(), Refusal>
     requires { slot < length lists.old.items }
     ensures kept { KeepsLists lists.old.items lists.new.items }
     ensures ok { OnOk result (HasRoomAt lists.new.items slot) }
@@ -42,7 +43,7 @@ impl Ledger {
     #[inline]
     fn make_room_to_ask(
         &mut self,
-        slot: u8,
+        slot: Slot,
         node: NodeId,
         mode: Mode,
         is_member: bool,
@@ -75,7 +76,7 @@ impl Ledger {
     pub(crate) fn ask(
         &mut self,
         graph: &Graph,
-        slot: u8,
+        slot: Slot,
         node: NodeId,
         mode: Mode,
         held: Mode,
@@ -129,7 +130,7 @@ impl Ledger {
     pub(crate) fn grant(
         &mut self,
         graph: &Graph,
-        slot: u8,
+        slot: Slot,
         node: NodeId,
         mode: Mode,
         held: Mode,

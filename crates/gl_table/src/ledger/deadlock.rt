@@ -1,5 +1,6 @@
 //! Who falls for a deadlock, and what is kept of it before.
 
+ghost use Rattle.gl_slots.specs.Limit.{most_slots};
 ghost use Rattle.std.specs.Prelude.{ℕ, ◌&&◌, ◌<◌, ◌↔◌, ◌≡◌, IfNone, IfSome, IsTrue, Some, length, true};
 ghost use Rattle.gl_graph.specs.Graph.{Graph as AGraph};
 ghost use Rattle.gl_model.specs.Deadlocks.{IsDeadlock, name_at};
@@ -15,12 +16,12 @@ use crate::boards::{Waits, ages};
 use crate::ledger::Ledger;
 use crate::seat::Seat;
 use gl_model::{Deadlock, Status, Stuck, TxnId};
-use gl_slots::Slots;
+use gl_slots::{Slot, Slots};
 use gl_waits::{Victims, on_cycle_in, victim_for};
 
 impl Ledger {
     /// Who is to be condemned next for a slot; `None` where it is on no cycle.
-    pub(crate) fn victim(&self, victims: Victims, slot: u8) -> Option<u8>
+    pub(crate) fn victim(&self, victims: Victims, slot: Slot) -> Option<Slot>
         requires sound { AreSound self.now }
         requires seated { slot < length self.now.seats.items }
         ensures none { IfNone result ((g : AGraph) → IsOrderly (state_on g self.now) → IsOnNoCycle (waits_for (state_on g self.now)) slot) }
@@ -32,11 +33,11 @@ impl Ledger {
             seats: self.seats.as_slice(),
         };
         let victim = victim_for(&waits, &ages(&self.seats), slot as usize, victims)?;
-        Some(victim as u8)
+        Some(victim as Slot)
     }
 
     /// Keeps, in place of the last deadlock, that of a slot, of which this victim is to fall.
-    pub(crate) fn keep_deadlock(&self, slot: u8, victim: u8, deadlock: &mut Deadlock)
+    pub(crate) fn keep_deadlock(&self, slot: Slot, victim: Slot, deadlock: &mut Deadlock)
         requires sound { AreSound self.now }
         requires seated { slot < length self.now.seats.items }
         ensures { (g : AGraph) → IsDeadlock (state_on g self.now) slot victim deadlock.new }
@@ -52,8 +53,8 @@ impl Ledger {
     }
 
     /// The slots on a cycle with a slot.
-    fn cycle(&self, slot: u8) -> Slots
-        requires below { slot < 128 }
+    fn cycle(&self, slot: Slot) -> Slots
+        requires below { slot < most_slots }
         ensures { (g : AGraph) (u : ℕ) → IsTrue (has_slot result u) ↔ IsOnCycleOf (waits_for (state_on g self.now)) slot u }
     {
         let waits = Waits {
@@ -64,8 +65,8 @@ impl Ledger {
     }
 
     /// A slot that waits: its name, what it waits for, and for whom of these slots.
-    fn stuck(&self, slot: u8, cycle: Slots) -> Stuck
-        requires below { slot < 128 }
+    fn stuck(&self, slot: Slot, cycle: Slots) -> Stuck
+        requires below { slot < most_slots }
         requires waits { is_wait (status_in (txns_of self.now.seats.items slot)) ≡ true }
         ensures name { (g : AGraph) → result.txn ≡ name_at (state_on g self.now) slot }
         ensures waits { (g : AGraph) → status_of (state_on g self.now) slot ≡ Some (Waiting result.node result.wanted) }
@@ -92,7 +93,7 @@ impl Ledger {
     }
 
     /// The name of the transaction in a slot, with age 0 for a free one.
-    fn name(&self, slot: u8) -> TxnId
+    fn name(&self, slot: Slot) -> TxnId
         ensures { (g : AGraph) → result ≡ name_at (state_on g self.now) slot }
     {
         let age = match self.seat(slot) {

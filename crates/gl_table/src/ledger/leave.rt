@@ -21,10 +21,11 @@ use gl_header::GrantList;
 use gl_listed::LockList;
 use gl_model::{Notice, Status, Told, TxnId};
 use gl_modes::NodeId;
+use gl_slots::Slot;
 
 /// Takes a node, of which no child is held, out of the list of a slot; each parent has one held
 /// child less.
-pub(crate) fn strike(lists: &mut Vec<LockList>, slot: u8, node: NodeId, parents: &[NodeId])
+pub(crate) fn strike(lists: &mut Vec<LockList>, slot: Slot, node: NodeId, parents: &[NodeId])
     requires can { CanStrike lists.old.items slot node parents.now }
     ensures { Strikes lists.old.items lists.new.items slot node parents.now }
 {
@@ -39,7 +40,7 @@ pub(crate) fn end_wait(
     seats: &mut Seats,
     lists: &mut Vec<LockList>,
     told: &mut Told,
-    slot: u8,
+    slot: Slot,
     node: NodeId,
     why: Notice,
 )
@@ -56,7 +57,7 @@ pub(crate) fn end_wait(
 
 impl Ledger {
     /// Releases one node after the other, until the slot's list is empty.
-    pub(crate) fn leave_all(&mut self, graph: &Graph, slot: u8, told: &mut Told)
+    pub(crate) fn leave_all(&mut self, graph: &Graph, slot: Slot, told: &mut Told)
         requires exact { AreExact graph.now self.old }
         requires orderly { IsOrderly (state_in graph.now self.old) }
         requires seated { slot < length self.old.seats.items }
@@ -83,7 +84,7 @@ impl Ledger {
     pub(crate) fn release_marked(
         &mut self,
         graph: &Graph,
-        slot: u8,
+        slot: Slot,
         node: NodeId,
         list: &mut LockList,
         told: &mut Told,

@@ -30,6 +30,7 @@ use gl_graph::Graph;
 use gl_listed::LockList;
 use gl_model::{Notice, Told};
 use gl_modes::{Mode, NodeId};
+use gl_slots::Slot;
 use gl_waits::set::{take_lowest, with};
 
 /// The parents of a node, of which there are at most 8. They are kept apart from the graph, and so
@@ -82,7 +83,7 @@ impl Ledger {
     pub(crate) fn follow(
         &mut self,
         graph: &Graph,
-        slot: u8,
+        slot: Slot,
         node: NodeId,
         told: &mut Told,
         old: &[NodeId],
@@ -133,7 +134,7 @@ impl Ledger {
         while strays != 0 {
             let (slot, rest) = take_lowest(strays);
             strays = rest;
-            self.turn_one_away(slot as u8, node, told);
+            self.turn_one_away(slot as Slot, node, told);
         }
     }
 
@@ -159,7 +160,7 @@ impl Ledger {
 
     /// Ends a wait of a slot that holds nothing on the node, where nobody at the front of what is left
     /// can be granted. The slot is active, and told that the node moved.
-    fn turn_one_away(&mut self, slot: u8, node: NodeId, told: &mut Told)
+    fn turn_one_away(&mut self, slot: Slot, node: NodeId, told: &mut Told)
         requires kept { AreKept (books_of self.old.seats self.old.lists.items told.old.items) }
         requires seated { slot < length self.old.seats.items }
         requires waits { is_among_waiters slot (queue_of self.old.headers.entries node) ≡ true }

@@ -1,5 +1,6 @@
 //! Locks on records that come and go.
 
+ghost use Rattle.gl_slots.specs.Limit.{most_slots};
 ghost use Rattle.std.specs.Prelude.{◌≡◌, ◌≢◌, ◌<◌, ◌==◌, ℕ, [], IfErr, IfOk, None, OnOk, Some, false, length, true};
 ghost use Rattle.gl_modes.specs.declared.mode.Mode.TheVariants.{NL};
 ghost use Rattle.gl_modes.specs.declared.refusal.Refusal.{Refusal as ARefusal};
@@ -27,6 +28,7 @@ use gl_header::Prepared;
 use gl_listed::LockList;
 use gl_model::{Notice, Told};
 use gl_modes::{Mode, NodeId, Refusal};
+use gl_slots::Slot;
 
 /// Those who wait for a node that goes wait no more: they are active, their lists have it no more,
 /// and they are told.
@@ -35,7 +37,7 @@ fn free(
     lists: &mut Vec<LockList>,
     told: &mut Told,
     node: NodeId,
-    waiters: &[(u8, Mode)],
+    waiters: &[(Slot, Mode)],
 )
     requires can { CanEnd (books_of seats.old lists.old.items told.old.items) waiters.now }
     requires childless { (u : ℕ) → is_among_waiters u waiters.now ≡ true → counted_by lists.old.items u node ≡ 0 }
@@ -50,7 +52,7 @@ fn free(
 impl Ledger {
     /// Takes all locks on a record away that an active slot holds and nobody else. Those who wait for
     /// it are active again, and are told that it is gone.
-    pub(crate) fn vacate(&mut self, graph: &Graph, slot: u8, rec: NodeId, told: &mut Told)
+    pub(crate) fn vacate(&mut self, graph: &Graph, slot: Slot, rec: NodeId, told: &mut Told)
         requires exact { AreExact graph.now self.old }
         requires orderly { IsOrderly (state_in graph.now self.old) }
         requires active { status_of (state_in graph.now self.old) slot ≡ Some Active }
@@ -75,9 +77,9 @@ impl Ledger {
     /// Makes room for a node with this key that a slot comes to hold, and for the counts of its parents.
     /// Answers the node's header, with the slot's grant of this mode in it. The only refusal is
     /// `NoMemory`, and all locks stay as they are.
-    pub(crate) fn prepare(&mut self, slot: u8, key: usize, mode: Mode) -> Result<Prepared, Refusal>
+    pub(crate) fn prepare(&mut self, slot: Slot, key: usize, mode: Mode) -> Result<Prepared, Refusal>
         requires slot { slot < length self.old.lists.items }
-        requires below { slot < 128 }
+        requires below { slot < most_slots }
         requires lock { mode ≢ NL }
         ensures header { IfOk result (λ prepared. IsOneHolder prepared slot mode) }
         ensures kept { KeepsLocks self.old self.new }
@@ -94,7 +96,7 @@ impl Ledger {
     pub(crate) fn place(
         &mut self,
         graph: &Graph,
-        slot: u8,
+        slot: Slot,
         node: NodeId,
         mode: Mode,
         prepared: Prepared,

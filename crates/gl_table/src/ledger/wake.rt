@@ -9,12 +9,13 @@ use crate::told::tell;
 use gl_listed::LockList;
 use gl_model::{Notice, Status, Told, TxnId};
 use gl_modes::{Mode, NodeId};
+use gl_slots::Slot;
 
 /// A slot, whose list has the node, holds it in this mode. Where it did not hold it before, each
 /// parent has one held child more.
 pub(crate) fn hold(
     lists: &mut Vec<LockList>,
-    slot: u8,
+    slot: Slot,
     node: NodeId,
     mode: Mode,
     parents: &[NodeId],
@@ -39,7 +40,7 @@ pub(crate) fn wake(
     told: &mut Told,
     node: NodeId,
     parents: &[NodeId],
-    granted: &[(u8, Mode)],
+    granted: &[(Slot, Mode)],
 )
     requires can { CanEnd (books_of seats.old lists.old.items told.old.items) granted.now }
     requires hold { (u : ℕ) → is_among_waiters u granted.now ≡ true → CanHold lists.old.items u node parents.now }

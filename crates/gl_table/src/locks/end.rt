@@ -9,11 +9,12 @@ ghost use Rattle.gl_table.specs.inside.Slots.{CanTell, TellsOthers};
 use crate::locks::Locks;
 use crate::seat::Seat;
 use gl_model::{Status, Told};
+use gl_slots::Slot;
 
 impl Locks {
     /// Takes back the wait of a slot, if it has one, releases all that it holds, and frees it. Each
     /// node grants from its front.
-    pub(crate) fn abort(&mut self, slot: u8, told: &mut Told)
+    pub(crate) fn abort(&mut self, slot: Slot, told: &mut Told)
         requires seated { slot < (state_at self.old).most }
         requires tell { CanTell told.old.items (λ u. is_wait (status_of (state_at self.old) u)) }
         ensures state { state_at self.new ≡ released (state_at self.old) slot }
@@ -33,7 +34,7 @@ impl Locks {
 
     /// Releases all that a slot holds, which waits for nothing, and frees the slot. Each node grants
     /// from its front.
-    pub(crate) fn end(&mut self, slot: u8, told: &mut Told)
+    pub(crate) fn end(&mut self, slot: Slot, told: &mut Told)
         requires seated { slot < (state_at self.old).most }
         requires quiet { is_wait (status_of (state_at self.old) slot) ≡ false }
         requires tell { CanTell told.old.items (λ u. is_wait (status_of (state_at self.old) u)) }

@@ -13,12 +13,13 @@ use crate::locks::Locks;
 use crate::seat::Seat;
 use gl_model::{Effect, Locked, Status};
 use gl_modes::{Mode, NodeId};
+use gl_slots::Slot;
 use std::alloc::AllocError;
 
 impl Locks {
     /// The mode in which a slot holds a node, `NL` for none.
     #[inline]
-    pub(crate) fn mode(&self, slot: u8, node: NodeId) -> Mode
+    pub(crate) fn mode(&self, slot: Slot, node: NodeId) -> Mode
         ensures { result ≡ (state_at self.now).held slot node }
     {
         self.ledger.mode(slot, node)
@@ -26,7 +27,7 @@ impl Locks {
 
     /// How many children of a node a slot holds, where it holds the node.
     #[inline]
-    pub(crate) fn children(&self, slot: u8, node: NodeId) -> Option<u32>
+    pub(crate) fn children(&self, slot: Slot, node: NodeId) -> Option<u32>
         ensures { result ≡ (if holds (members (state_at self.now) node) slot then Some (held_children (state_at self.now) slot node) else None) }
     {
         self.ledger.children(slot, node)
@@ -34,7 +35,7 @@ impl Locks {
 
     /// The held child of a node that was born first.
     #[inline]
-    pub(crate) fn first_child(&self, slot: u8, node: NodeId) -> Option<NodeId>
+    pub(crate) fn first_child(&self, slot: Slot, node: NodeId) -> Option<NodeId>
         ensures { result ≡ find (λ c. is_child (state_at self.now).graph node c && holds (members (state_at self.now) c) slot) (nodes (state_at self.now).graph) }
     {
         self.ledger.first_child(&self.graph, slot, node)
@@ -42,7 +43,7 @@ impl Locks {
 
     /// Whether a slot holds some child of a node in `IX`, `SIX` or `X`.
     #[inline]
-    pub(crate) fn writes_below(&self, slot: u8, node: NodeId) -> bool
+    pub(crate) fn writes_below(&self, slot: Slot, node: NodeId) -> bool
         ensures { result ≡ list_any (λ c. is_child (state_at self.now).graph node c && is_write ((state_at self.now).held slot c)) (nodes (state_at self.now).graph) }
     {
         self.ledger.writes_below(&self.graph, slot, node)
@@ -50,7 +51,7 @@ impl Locks {
 
     /// The effective mode of a slot on a node.
     #[inline]
-    pub(crate) fn effective(&self, slot: u8, node: NodeId) -> Result<Effect, AllocError>
+    pub(crate) fn effective(&self, slot: Slot, node: NodeId) -> Result<Effect, AllocError>
         requires slot { slot < (state_at self.now).most }
         requires live { is_live (state_at self.now).graph node ≡ true }
         ensures { IfOk result (λ effect. effect ≡ effective (state_at self.now) slot node) }
@@ -59,7 +60,7 @@ impl Locks {
     }
 
     /// What an ask of a slot for a node came to.
-    pub(crate) fn outcome(&self, slot: u8, node: NodeId) -> Locked
+    pub(crate) fn outcome(&self, slot: Slot, node: NodeId) -> Locked
         ensures { result ≡ locked_as ((state_at self.now).held slot node) (status_of (state_at self.now) slot) }
     {
         match self.ledger.seat(slot) {

@@ -17,10 +17,11 @@ use crate::locks::Locks;
 use gl_header::GrantList;
 use gl_model::{Status, Told};
 use gl_modes::NodeId;
+use gl_slots::Slot;
 
 impl Locks {
     /// Releases a node of which the slot holds no child. The node grants from its front.
-    pub(crate) fn release(&mut self, slot: u8, node: NodeId, told: &mut Told)
+    pub(crate) fn release(&mut self, slot: Slot, node: NodeId, told: &mut Told)
         requires active { status_of (state_at self.old) slot ≡ Some Active }
         requires holds { holds (members (state_at self.old) node) slot ≡ true }
         requires childless { held_children (state_at self.old) slot node ≡ 0 }
@@ -35,7 +36,7 @@ impl Locks {
     }
 
     /// Takes back the wait of a slot, which has this status then. Its node grants from its front.
-    pub(crate) fn withdraw(&mut self, slot: u8, node: NodeId, status: Status, told: &mut Told)
+    pub(crate) fn withdraw(&mut self, slot: Slot, node: NodeId, status: Status, told: &mut Told)
         requires waits { is_waiting_at (state_at self.old) slot node ≡ true }
         requires quiet { (q : Node) (m : AMode) → Some status ≡ Some (Waiting q m) → ⊥ }
         requires tell { CanTell told.old.items (λ u. is_wait (status_of (state_at self.old) u)) }

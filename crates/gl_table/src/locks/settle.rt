@@ -12,6 +12,7 @@ use crate::locks::Locks;
 use crate::seat::Seat;
 use crate::told::tell;
 use gl_model::{Deadlock, Detect, Notice, Status, Told, TxnId};
+use gl_slots::Slot;
 use gl_waits::Victims;
 
 impl Locks {
@@ -22,7 +23,7 @@ impl Locks {
         &mut self,
         detect: Detect,
         victims: Victims,
-        slot: u8,
+        slot: Slot,
         deadlock: &mut Deadlock,
         told: &mut Told,
     )
@@ -43,7 +44,7 @@ impl Locks {
     pub(crate) fn settle(
         &mut self,
         victims: Victims,
-        slot: u8,
+        slot: Slot,
         deadlock: &mut Deadlock,
         told: &mut Told,
     )
@@ -64,7 +65,7 @@ impl Locks {
     }
 
     /// Gives up the wait of a slot, which is condemned and told so. Its node grants from its front.
-    fn condemn(&mut self, slot: u8, told: &mut Told)
+    fn condemn(&mut self, slot: Slot, told: &mut Told)
         requires waits { is_wait (status_of (state_at self.old) slot) ≡ true }
         requires tell { CanTell told.old.items (λ u. is_wait (status_of (state_at self.old) u)) }
         ensures state { state_at self.new ≡ condemned (state_at self.old) slot }

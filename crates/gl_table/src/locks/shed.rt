@@ -11,6 +11,7 @@ use crate::locks::Locks;
 use gl_listed::LockList;
 use gl_model::Told;
 use gl_modes::NodeId;
+use gl_slots::Slot;
 
 impl Locks {
     /// Releases the children of a node that an active slot's lock on it covers. Each of them grants
@@ -18,7 +19,7 @@ impl Locks {
     ///
     /// What is covered is judged before any of it is released, and marked in the slot's list, which
     /// is out of its place meanwhile.
-    pub(crate) fn shed(&mut self, slot: u8, node: NodeId, told: &mut Told)
+    pub(crate) fn shed(&mut self, slot: Slot, node: NodeId, told: &mut Told)
         requires active { status_of (state_at self.old) slot ≡ Some Active }
         requires tell { CanTell told.old.items (λ u. is_wait (status_of (state_at self.old) u)) }
         ensures state { state_at self.new ≡ shed (state_at self.old) slot node }

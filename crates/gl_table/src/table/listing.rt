@@ -12,7 +12,7 @@ ghost use Rattle.gl_model.specs.State.{is_wait, lives, members, status_of, waits
 use super::Table;
 use gl_model::{LockRow, Status, TxnId};
 use gl_modes::{Mode, NodeId, Refusal};
-use gl_slots::Slots;
+use gl_slots::{Slot, Slots};
 
 impl Table {
     /// How many transactions may live at once: their slots are those below.
@@ -30,7 +30,7 @@ impl Table {
     }
 
     /// The transaction in a slot, and what it is doing; `None` for a free slot.
-    pub fn living(&self, slot: u8) -> Option<(TxnId, Status)>
+    pub fn living(&self, slot: Slot) -> Option<(TxnId, Status)>
         ensures { result ≡ living_in (state_of self.now) slot }
     {
         let seat = self.locks.ledger.seat(slot)?;
@@ -76,7 +76,7 @@ impl Table {
     }
 
     /// The mode in which the transaction of a slot holds a node, `NL` for none.
-    pub fn mode_at(&self, slot: u8, n: NodeId) -> Mode
+    pub fn mode_at(&self, slot: Slot, n: NodeId) -> Mode
         ensures { result ≡ (state_of self.now).held slot n }
     {
         self.locks.mode(slot, n)
@@ -84,7 +84,7 @@ impl Table {
 
     /// Who waits for a node, by slot, with the wanted modes, in the queue's order. Refused with
     /// `NoSuchNode`.
-    pub fn queue(&self, n: NodeId) -> Result<&[(u8, Mode)], Refusal>
+    pub fn queue(&self, n: NodeId) -> Result<&[(Slot, Mode)], Refusal>
         ensures queue { IfOk result (λ waiters. waiters.now ≡ (state_of self.now).queue n) }
         ensures refused { RefusesOnly (first_refusal (group_tests (state_of self.now) n)) result }
     {

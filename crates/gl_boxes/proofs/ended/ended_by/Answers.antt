@@ -1,3 +1,4 @@
+use Rattle.gl_slots.specs.Limit.{most_slots}
 use Rattle.std.specs.List.{list_any}
 use Rattle.std.proofs.Common.{arith, ◌≤◌, ◌∙◌, ◌||◌, ◌==◌, ap, length, List}
 use Rattle.std.proofs.lemmas.List.{take_all}
@@ -9,7 +10,7 @@ use Rattle.gl_boxes.proofs.Waking.{wakes_ended}
 use Rattle.gl_boxes.proofs.ended.ended_by.Goals as goal
 
 pub with-slots-requires : goal.with-slots-requires
-with-slots-requires c = slot_below 128 c.loop-txn.txn-index c.args.told.now _ c.requires (omega arith)
+with-slots-requires c = slot_below most_slots c.loop-txn.txn-index c.args.told.now _ c.requires (omega arith)
 
 pub returns-clause-all : goal.returns-clause-all
 returns-clause-all c =

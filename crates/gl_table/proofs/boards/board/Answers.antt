@@ -1,12 +1,13 @@
+use Rattle.gl_slots.specs.Limit.{most_slots}
 use Rattle.gl_table.proofs.Words.{refl}
 use Rattle.gl_table.proofs.inside.Boards.{board-all, zeros}
 use Rattle.gl_table.proofs.boards.board.Goals as goal
 
 pub write_ages-requires : goal.write_ages-requires
-write_ages-requires c = record { none = zeros 128 }
+write_ages-requires c = record { none = zeros most_slots }
 
 pub write_rows-requires : goal.write_rows-requires
-write_rows-requires c = record { none = zeros 128 }
+write_rows-requires c = record { none = zeros most_slots }
 
 pub returns : goal.returns
 returns c =

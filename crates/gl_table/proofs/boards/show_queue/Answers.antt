@@ -1,3 +1,4 @@
+use Rattle.gl_slots.specs.Limit.{most_slots}
 use Rattle.gl_table.proofs.Words.{◌<◌, ◌==◌, ◌||◌, ◌∙◌, ◌≡◌, ap, arith, Bool, get_or, header_or_new, length, NL, refl, shown, subst, sym, waits_for, ℕ}
 use Rattle.std.proofs.lemmas.List.{length-set}
 use Rattle.gl_table.proofs.inside.Boards.{AreRowsShown, reached-row, rows-shown}
@@ -20,7 +21,7 @@ loop-slot-preserved c =
     let i = c.loop-slot.slot-index in
     let so = c.loop-slot.invariant in
     let t = (get_or q i (0, NL)).0 in
-    let low : t < 128 = queue-below h q i (0, NL) c.law.ensures.lawful c.queue-slot-items.ensures c.loop-slot-test.true in
+    let low : t < most_slots = queue-below h q i (0, NL) c.law.ensures.lawful c.queue-slot-items.ensures c.loop-slot-test.true in
     let edge : ℕ → ℕ → Bool = waits_for (shown c.args.headers.now.entries c.args.seats.now 0) in
     let both : (length c.match-wanted_on.rows ≡ length c.args.rows.now)
     × AreRowsShown edge c.args.rows.now c.match-wanted_on.rows = elim c.match-wanted_on.branch [

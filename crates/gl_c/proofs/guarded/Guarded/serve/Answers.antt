@@ -1,3 +1,4 @@
+use Rattle.gl_slots.specs.Limit.{most_slots}
 use Rattle.std.proofs.Common.{arith, ◌≡◌, ◌≤◌, ◌<◌, ◌||◌, ◌==◌, ℕ, Bool, true, false, ap, subst, sym, ◌∙◌, List}
 use Rattle.std.specs.List.{list_any}
 use Rattle.std.specs.Prelude.{IfSome, Some}
@@ -65,13 +66,13 @@ pub deliver-requires : goal.deliver-requires
 deliver-requires c =
     let h = made c.self.inside.registry c.serve.new.self c.args.command c.in-Some.answer
     c.serve.new.told.items c.in-Some.ensures in
-    subst (λ (l : List (TxnId × Notice)). RisingTo 0 l 128) (sym c.as_slice.ensures.value) (step_rises _ _ _ _ _ c.law.ensures.manager.few h.applies.step)
+    subst (λ (l : List (TxnId × Notice)). RisingTo 0 l most_slots) (sym c.as_slice.ensures.value) (step_rises _ _ _ _ _ c.law.ensures.manager.few h.applies.step)
 
 pub ended_by-self-inside-requires : goal.ended_by-self-inside-requires
 ended_by-self-inside-requires c =
     let h = made c.self.inside.registry c.serve.new.self c.args.command c.in-Some.answer
     c.serve.new.told.items c.in-Some.ensures in
-    subst (λ (l : List (TxnId × Notice)). RisingTo 0 l 128) (sym c.as_slice-2.ensures.value) (step_rises _ _ _ _ _ c.law.ensures.manager.few h.applies.step)
+    subst (λ (l : List (TxnId × Notice)). RisingTo 0 l most_slots) (sym c.as_slice-2.ensures.value) (step_rises _ _ _ _ _ c.law.ensures.manager.few h.applies.step)
 
 pub invariant_of-self-2 : goal.invariant_of-self-2
 invariant_of-self-2 c =
@@ -108,7 +109,7 @@ returns c =
     c.show_if.ensures.kept
     (record {
       all = wakes_told c.args.command _ told ended c.as_slice-2.ensures.value c.ended_by-self-inside.ensures.all _ _ answer h.applies.step;
-      slots = subst (λ (l : List (TxnId × Notice)). (u : ℕ) → u < 128
+      slots = subst (λ (l : List (TxnId × Notice)). (u : ℕ) → u < most_slots
           → has_slot ended u ≡ (names_slot c.args.command u || list_any (λ (x : TxnId × Notice). x.0.slot == u) l))
           c.as_slice-2.ensures.value c.ended_by-self-inside.ensures.slots;
     })

@@ -1,3 +1,4 @@
+use Rattle.gl_slots.specs.Limit.{most_slots}
 use Rattle.std.proofs.Common.{arith, ◌≡◌, ◌≤◌, ◌<◌, ◌||◌, ◌==◌, ℕ, Bool, [], List, ap, subst, sym, ◌∙◌}
 use Rattle.std.specs.List.{list_any}
 use Rattle.std.specs.Prelude.{IfSome}
@@ -49,13 +50,13 @@ returns-then-accepted-before c =
 
 pub deliver-requires : goal.deliver-requires
 deliver-requires c =
-    subst (λ (l : List (TxnId × Notice)). RisingTo 0 l 128) (sym c.as_slice.ensures.value)
+    subst (λ (l : List (TxnId × Notice)). RisingTo 0 l most_slots) (sym c.as_slice.ensures.value)
     (told_rises c.args.txn (c.args.node, c.args.mode) c.self.inside.registry.manager c.lock_path-reached.new.self.manager c.lock_path-reached.new.told.items
     c.lock_path-reached.result c.lock_path-reached.ensures.untold c.lock_path-reached.ensures.path c.law.ensures.manager.few)
 
 pub ended_by-self-inside-requires : goal.ended_by-self-inside-requires
 ended_by-self-inside-requires c =
-    subst (λ (l : List (TxnId × Notice)). RisingTo 0 l 128) (sym c.as_slice-2.ensures.value)
+    subst (λ (l : List (TxnId × Notice)). RisingTo 0 l most_slots) (sym c.as_slice-2.ensures.value)
     (told_rises c.args.txn (c.args.node, c.args.mode) c.self.inside.registry.manager c.lock_path-reached.new.self.manager c.lock_path-reached.new.told.items
     c.lock_path-reached.result c.lock_path-reached.ensures.untold c.lock_path-reached.ensures.path c.law.ensures.manager.few)
 
@@ -92,7 +93,7 @@ returns c =
     c.lock_path-reached.new.told.items c.lock_path-reached.result c.lock_path-reached.ensures.untold
     c.lock_path-reached.ensures.path c.accepted-before.result c.accepted.result (counted_as _ _ _ c.accepted-before.ensures c.manager.ensures)
     (counted_as _ _ _ c.accepted.ensures c.manager-2.ensures) c.if-accepted-before.false in
-    let slots = subst (λ (l : List (TxnId × Notice)). (u : ℕ) → u < 128
+    let slots = subst (λ (l : List (TxnId × Notice)). (u : ℕ) → u < most_slots
     → has_slot ended u ≡ (names_slot asked u || list_any (λ (x : TxnId × Notice). x.0.slot == u) l))
     c.as_slice-2.ensures.value c.ended_by-self-inside.ensures.slots in
     subst

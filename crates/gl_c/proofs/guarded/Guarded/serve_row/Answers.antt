@@ -1,3 +1,4 @@
+use Rattle.gl_slots.specs.Limit.{most_slots}
 use Rattle.std.proofs.Common.{arith, ◌≡◌, ◌≤◌, ◌<◌, ◌||◌, ◌==◌, ℕ, Bool, false, List, subst, sym, ◌∙◌}
 use Rattle.std.specs.List.{list_any}
 use Rattle.std.specs.Prelude.{IfSome}
@@ -32,13 +33,13 @@ returns-then-comes_to_nothing c =
 
 pub deliver-requires : goal.deliver-requires
 deliver-requires c =
-    subst (λ (l : List (TxnId × Notice)). RisingTo 0 l 128) (sym c.as_slice.ensures.value)
+    subst (λ (l : List (TxnId × Notice)). RisingTo 0 l most_slots) (sym c.as_slice.ensures.value)
     (row_rises c.self.inside.registry c.args.call c.apply-answer.result c.apply-answer.new.told.items c.apply-answer.new.self c.apply-answer.ensures.own
     (sym c.comes_to_nothing.ensures ∙ c.if-comes_to_nothing.false) c.law.ensures.manager.few)
 
 pub ended_by-self-inside-requires : goal.ended_by-self-inside-requires
 ended_by-self-inside-requires c =
-    subst (λ (l : List (TxnId × Notice)). RisingTo 0 l 128) (sym c.as_slice-2.ensures.value)
+    subst (λ (l : List (TxnId × Notice)). RisingTo 0 l most_slots) (sym c.as_slice-2.ensures.value)
     (row_rises c.self.inside.registry c.args.call c.apply-answer.result c.apply-answer.new.told.items c.apply-answer.new.self c.apply-answer.ensures.own
     (sym c.comes_to_nothing.ensures ∙ c.if-comes_to_nothing.false) c.law.ensures.manager.few)
 
@@ -66,9 +67,9 @@ returns c =
     let told = c.apply-answer.new.told.items in
     let came : comes_to_nothing (answer_in c.apply-answer.result) ≡ false = sym c.comes_to_nothing.ensures ∙ c.if-comes_to_nothing.false in
     let ended = c.ended_by-self-inside.result in
-    let slots = subst (λ (l : List (TxnId × Notice)). (u : ℕ) → u < 128
+    let slots = subst (λ (l : List (TxnId × Notice)). (u : ℕ) → u < most_slots
     → has_slot ended u ≡ (names_slot (own_command unnamed c.args.call) u || list_any (λ (x : TxnId × Notice). x.0.slot == u) l))
-    c.as_slice-2.ensures.value (subst (λ (d : Command). (u : ℕ) → u < 128
+    c.as_slice-2.ensures.value (subst (λ (d : Command). (u : ℕ) → u < most_slots
     → has_slot ended u ≡ (names_slot d u || list_any (λ (x : TxnId × Notice). x.0.slot == u) c.as_slice-2.result.now))
     c.command-own.ensures c.ended_by-self-inside.ensures.slots) in
     let delivered = subst (λ (l : Told). (mid : List Slot) × Delivers c.self.inside.boxes l mid

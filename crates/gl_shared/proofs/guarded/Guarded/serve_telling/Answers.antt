@@ -1,3 +1,4 @@
+use Rattle.gl_slots.specs.Limit.{most_slots}
 use Rattle.std.proofs.Common.{rules, arith, ◌≡◌, ◌<◌, ◌^◌, ◌∙◌, true, false, ap, refl, subst, sym, List}
 use Rattle.gl_model.specs.declared.answers.Notice.{Notice}
 use Rattle.gl_model.specs.declared.txn.TxnId.{TxnId}
@@ -26,7 +27,7 @@ overflow_add-self g c =
 
 pub deliver-requires : goal.deliver-requires
 deliver-requires g c =
-    subst (λ (l : List (TxnId × Notice)). RisingTo 0 l 128) (sym c.as_slice.ensures.value)
+    subst (λ (l : List (TxnId × Notice)). RisingTo 0 l most_slots) (sym c.as_slice.ensures.value)
     (step_rises _ _ _ _ _ c.law.ensures.few c.apply_telling-answer.ensures.step)
 
 pub invariant_of-self : goal.invariant_of-self

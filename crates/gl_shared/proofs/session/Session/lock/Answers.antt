@@ -1,3 +1,4 @@
+use Rattle.gl_slots.specs.Limit.{most_slots}
 use Rattle.std.proofs.Common.{arith, ◌∙◌, ap, refl, subst, sym}
 use Rattle.gl_model.specs.Tellings.{Told as Notices}
 use Rattle.gl_catalog.specs.declared.command.Command.TheVariants.{Lock}
@@ -31,4 +32,4 @@ returns g c =
     }
 
 pub wake_ended-requires : goal.wake_ended-requires
-wake_ended-requires g c = subst (λ (l : Notices). RisingTo 0 l 128) (sym c.as_slice-told.ensures.value) c.serve_lock-answer.ensures.rising
+wake_ended-requires g c = subst (λ (l : Notices). RisingTo 0 l most_slots) (sym c.as_slice-told.ensures.value) c.serve_lock-answer.ensures.rising

@@ -1,3 +1,4 @@
+use Rattle.gl_slots.specs.Limit.{most_slots}
 use Rattle.gl_table.proofs.Words.{◌<◌, ◌∙◌, ◌≡◌, ◌≤◌, Agrees, ap, if◌then◌else◌, IsOrderly, length, length-set, None, slice_set, State, state_in, subst, sym}
 use Rattle.gl_table.proofs.Words.{told_to, ℕ}
 use Rattle.gl_table.proofs.inside.Lists.{IsBare}
@@ -19,7 +20,7 @@ invariant_of-self c =
       orderly = subst IsOrderly freed (orderly-gone now c.args.slot c.leave_all.ensures.free c.leave_all.ensures.out left.lists.items c.clear.new.self listed
           bare c.leave_all.ensures.orderly);
       sound = record {
-        few = subst (λ (k : ℕ). k ≤ 128) seats was.few;
+        few = subst (λ (k : ℕ). k ≤ most_slots) seats was.few;
         lists = length-set left.lists.items c.args.slot c.clear.new.self ∙ was.lists ∙ seats;
       };
       agree = λ u. subst (λ (x : State). Agrees x (slice_set left.lists.items c.args.slot c.clear.new.self) u) freed
