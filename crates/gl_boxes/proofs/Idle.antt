@@ -1,10 +1,7 @@
 -- A table where nobody waits, and its board: for when watchers need not be told.
-use Rattle.std.specs.Prelude.{◌≡◌, ◌||◌, ◌==◌, not, ℕ, suc, Bool, true, false, List, ◌∷◌, [], Option, Some, None}
+use Rattle.std.specs.Prelude.{◌≡◌, ◌||◌, Bool, true, false, Option, Some, None}
 use Rattle.std.proofs.Common.{refl, sym, ap, ◌∙◌}
 use mathlib.Core.Bool.{true≢false}
-use Rattle.std.specs.List.{list_any}
-use Rattle.gl_waits.specs.Boards.{row_edge}
-use Rattle.gl_waits.proofs.SetLemmas.{no_slot-zero}
 use Rattle.gl_model.specs.declared.txn.Status.{Status}
 use Rattle.gl_model.specs.declared.txn.Status.TheVariants.{Active, Waiting, Condemned}
 use Rattle.gl_table.specs.Table.{board_of}
@@ -17,7 +14,7 @@ use Rattle.gl_catalog.specs.Manager.{IsLawfulManager, ManagerView, state_of}
 use Rattle.gl_catalog.specs.Promises.{NobodyWaits}
 use Rattle.gl_catalog.specs.Step.{Step}
 use Rattle.gl_catalog.proofs.WaitsBegin.{nobody_waits_on}
-use Rattle.gl_boxes.specs.Boards.{ShowsNobody}
+use Rattle.gl_waits.specs.Boards.{ShowsNobody}
 use Rattle.gl_boxes.specs.Served.{leaves_waiting}
 use Rattle.gl_boxes.specs.Tellings.{is_due}
 use Rattle.gl_boxes.specs.declared.telling.Telling.{Telling}
@@ -43,12 +40,6 @@ nobody_shown m law none t = by (status_of s t) refl
 pub not_due : (t : Telling) (waited : Bool) → is_due t waited ≡ false → (t ≡ WhileWaiting) × (waited ≡ false)
 not_due Always waited e = absurd (cc e)
 not_due WhileWaiting waited e = (refl, e)
-
--- a board without steps has no row that is not empty
-pub no_row : (rows : List ℕ) → ((s u : ℕ) → row_edge rows s u ≡ false) → list_any (λ row. not (row == 0)) rows ≡ false
-no_row [] none = refl
-no_row (row ∷ rows) none = ap (λ (r : ℕ). not (r == 0) || list_any (λ x. not (x == 0)) rows) (no_slot-zero row (λ u. none 0 u)) ∙
-    no_row rows (λ s u. none (suc s) u)
 
 -- neither of two
 pub neither : (a b : Bool) → (a || b) ≡ false → (a ≡ false) × (b ≡ false)

@@ -11,7 +11,7 @@ use Rattle.gl_modes.proofs.Words.{number_same, or_elim, split, clash}
 use Rattle.gl_header.specs.Header.{holds}
 use Rattle.gl_waits.specs.Boards.{age_in, board_edge}
 use Rattle.gl_waits.specs.Waits.{IsOnNoCycle}
-use Rattle.gl_waits.proofs.BoardLemmas.{row_edge-bits_of}
+use Rattle.gl_waits.proofs.BoardLemmas.{shown_rows-edge}
 use Rattle.gl_model.specs.declared.answers.Detect.TheVariants.{AtBlock}
 use Rattle.gl_table.specs.Table.{board_of}
 use Rattle.gl_model.specs.Lawful.{IsLawful}
@@ -48,7 +48,7 @@ module _ (s : State) (law : IsLawful s) (few : s.most ≤ most_slots) where
 
   -- the steps of the board are the waits
   edges : (x y : ℕ) → board_edge (board_of s) x y ≡ waits_for s x y
-  edges x y = row_edge-bits_of most_slots most_slots (waits_for s) low x y
+  edges x y = shown_rows-edge most_slots (waits_for s) low x y
 
   pub edges_are : board_edge (board_of s) ≡ waits_for s
   edges_are = fun_ext (λ x. fun_ext (λ y. edges x y))

@@ -1,13 +1,13 @@
 -- Whoever has to be woken is named, or told.
 use Rattle.gl_slots.specs.Limit.{most_slots}
-use Rattle.std.specs.Prelude.{◌≡◌, ℕ, ◌<◌, Bool, true, false, ◌||◌, ◌==◌, bit_or}
+use Rattle.std.specs.Prelude.{◌≡◌, ℕ, ◌<◌, Bool, true, false, ◌||◌, ◌==◌}
 use Rattle.std.specs.List.{list_any}
 use Rattle.std.proofs.Common.{refl, ap, arith, subst, ◌∙◌}
 use Rattle.std.proofs.Math.Bool.{or-true}
 use Rattle.std.proofs.lemmas.Bool.Decides.{nat_tests}
 use Rattle.gl_modes.proofs.Words.{and_both, or_elim}
-use Rattle.gl_waits.specs.Sets.{has_slot}
-use Rattle.gl_waits.proofs.SetLemmas.{has_slot-or}
+use Rattle.gl_slots.specs.declared.slots.Slots.{Slots}
+use Rattle.gl_slots.specs.Slots.{has_slot}
 use Rattle.gl_model.specs.declared.txn.TxnId.{TxnId}
 use Rattle.gl_model.specs.Lawful.{IsLawful}
 use Rattle.gl_model.specs.State.{State}
@@ -53,7 +53,7 @@ names_its_slot (command.Adopt f keys) t h = h
 names_its_slot (command.Forget r) t h = h
 
 -- a set of the slots that are told, and of the one that is named, has everybody whose wait was ended
-pub wakes_ended : (c : Command) (told : Told) (slots : ℕ) → ((u : ℕ) → u < most_slots → has_slot slots u ≡ (names_slot c u || list_any (λ x. x.0.slot == u) told))
+pub wakes_ended : (c : Command) (told : Told) (slots : Slots) → ((u : ℕ) → u < most_slots → has_slot slots u ≡ (names_slot c u || list_any (λ x. x.0.slot == u) told))
     → WakesEnded c told slots
 wakes_ended c told slots is s s' a step law t n below was gone =
     is t.slot below
@@ -63,17 +63,17 @@ wakes_ended c told slots is s s' a step law t n below was gone =
     (λ so. ap (λ b. b || list_any (λ x. x.0.slot == t.slot) told) (names_its_slot c t so))
 
 -- the same list
-pub wakes_told : (c : Command) (told told' : Told) (slots : ℕ) → told ≡ told' → WakesEnded c told slots → WakesEnded c told' slots
+pub wakes_told : (c : Command) (told told' : Told) (slots : Slots) → told ≡ told' → WakesEnded c told slots → WakesEnded c told' slots
 wakes_told c told told' slots same wakes = subst (λ (l : Told). WakesEnded c l slots) same wakes
 
 -- from a state to itself no wait ends
-pub ended_none : (s : State) (slots : ℕ) → HasEnded s s slots
+pub ended_none : (s : State) (slots : Slots) → HasEnded s s slots
 ended_none s slots law t n below was gone = absurd (cc (was, gone))
 
 -- with one step more, whose wait either ended
-pub ended_more : (s mid s' : State) (c : Command) (a : Answer) (told : Told) (before more : ℕ) → (IsLawful s → IsLawful mid) → HasEnded s mid before
-    → WakesEnded c told more → Step mid c a told s' → HasEnded s s' (bit_or before more)
-ended_more s mid s' c a told before more keeps so_far wakes step law t n below was gone = has_slot-or before more t.slot ∙ by (waits_on mid t n) refl
+pub ended_more : (s mid s' : State) (c : Command) (a : Answer) (told : Told) (before more both : Slots) → ((u : ℕ) → has_slot both u ≡ (has_slot before u || has_slot more u)) → (IsLawful s → IsLawful mid) → HasEnded s mid before
+    → WakesEnded c told more → Step mid c a told s' → HasEnded s s' both
+ended_more s mid s' c a told before more both joined keeps so_far wakes step law t n below was gone = joined t.slot ∙ by (waits_on mid t n) refl
   where
     by : (b : Bool) → waits_on mid t n ≡ b → (has_slot before t.slot || has_slot more t.slot) ≡ true
     by true e = ap (λ b. has_slot before t.slot || b) (wakes mid s' a step (keeps law) t n below e gone) ∙ or-true (has_slot before t.slot)

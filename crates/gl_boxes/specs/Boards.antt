@@ -1,8 +1,8 @@
 -- Lists of published boards.
-use Rattle.std.specs.Prelude.{◌≡◌, ℕ, ◌≤◌, ◌<◌, true, false, List, [], ◌∷◌, ◌++◌}
+use Rattle.std.specs.Prelude.{◌≡◌, ℕ, ◌≤◌, ◌<◌, true, List, [], ◌∷◌, ◌++◌}
 use mathlib.Core.List.{IsPrefix}
 use Rattle.gl_waits.specs.declared.board.Board.{Board}
-use Rattle.gl_waits.specs.Boards.{age_in, board_edge}
+use Rattle.gl_waits.specs.Boards.{age_in, board_edge, ShowsNobody}
 use Rattle.gl_waits.specs.Waits.{IsOnNoCycle}
 use Rattle.gl_model.specs.declared.answers.Detect.{Detect}
 use Rattle.gl_model.specs.declared.answers.Detect.TheVariants.{AtBlock}
@@ -30,10 +30,6 @@ AllFine detect (b ∷ bs) = Fine detect b × AllFine detect bs
 -- the list ends with this board
 abbrev pub Ends : List Board → Board → Type 0
 Ends list board = (front : List Board) × (list ≡ front ++ board ∷ [])
-
--- nobody waits on this board
-abbrev pub ShowsNobody : Board → Type 0
-ShowsNobody b = (s u : ℕ) → board_edge b s u ≡ false
 
 -- nobody waits on the last board of the list
 abbrev pub EndsIdle : List Board → Type 0

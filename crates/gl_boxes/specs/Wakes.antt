@@ -2,7 +2,8 @@
 use Rattle.gl_slots.specs.Limit.{most_slots}
 use Rattle.std.specs.Prelude.{◌≡◌, ℕ, ◌<◌, true, false}
 use Rattle.gl_modes.specs.declared.node.NodeId.{NodeId}
-use Rattle.gl_waits.specs.Sets.{has_slot}
+use Rattle.gl_slots.specs.declared.slots.Slots.{Slots}
+use Rattle.gl_slots.specs.Slots.{has_slot}
 use Rattle.gl_model.specs.declared.txn.TxnId.{TxnId}
 use Rattle.gl_model.specs.Lawful.{IsLawful}
 use Rattle.gl_model.specs.State.{State}
@@ -13,9 +14,9 @@ use Rattle.gl_catalog.specs.Promises.{waits_on}
 use Rattle.gl_catalog.specs.Step.{Step}
 
 -- whoever waits in the one state and no more in the other has its slot in the set
-abbrev pub HasEnded : State → State → ℕ → Type 0
+abbrev pub HasEnded : State → State → Slots → Type 0
 HasEnded s s' slots = IsLawful s → (t : TxnId) (n : NodeId) → t.slot < most_slots → waits_on s t n ≡ true → waits_on s' t n ≡ false → has_slot slots t.slot ≡ true
 
 -- each step of the command that tells these has in the set whoever waits no more behind it (own): so no sleeper is left whose wait is over
-abbrev pub WakesEnded : Command → Told → ℕ → Type 0
+abbrev pub WakesEnded : Command → Told → Slots → Type 0
 WakesEnded c told slots = (s s' : State) (a : Answer) → Step s c a told s' → HasEnded s s' slots

@@ -1,7 +1,7 @@
 //! When watchers are told, and whether a board shows that somebody waits.
 
 ghost use Rattle.std.specs.Prelude.{◌≡◌, false};
-ghost use Rattle.gl_boxes.specs.Boards.{ShowsNobody};
+ghost use Rattle.gl_waits.specs.Boards.{ShowsNobody};
 ghost use Rattle.gl_boxes.specs.Tellings.{is_due};
 ghost use Rattle.gl_boxes.specs.declared.telling.Telling.TheVariants.{WhileWaiting};
 
@@ -33,13 +33,5 @@ pub fn may_show_waits(telling: Telling, board: &Board) -> bool
     ensures none { result ≡ false → ShowsNobody board.now }
     ensures some { telling ≡ WhileWaiting → ShowsNobody board.now → result ≡ false }
 {
-    telling == Telling::Always || shows_waits(board)
-}
-
-/// Whether somebody waits on the board.
-fn shows_waits(board: &Board) -> bool
-    ensures none { result ≡ false → ShowsNobody board.now }
-    ensures some { ShowsNobody board.now → result ≡ false }
-{
-    board.rows.iter().any(|row| *row != 0)
+    telling == Telling::Always || !board.shows_nobody()
 }

@@ -12,7 +12,7 @@ ghost use Rattle.gl_waits.specs.Waits.{IsLowestYoungest, IsOnCycle, IsOnNoCycle}
 use gl_catalog::{Answer, Command};
 use gl_shared::{Naming, Session, Share, Shared, Watcher};
 use gl_table::TxnId;
-use gl_waits::{Board, suspects, youngest_of};
+use gl_waits::{Board, Slots, suspects, youngest_of};
 use std::sync::Wait;
 use std::sync::atomic::{AtomicBool, Ordering};
 use std::thread::yield_now;
@@ -67,7 +67,8 @@ fn youngest_suspect(board: &Board) -> Option<TxnId>
     ensures some { IfSome result (λ txn. IsLowestYoungest (IsOnCycle (board_edge board.now)) (age_in board.now) txn.slot) }
     ensures age { IfSome result (λ txn. txn.age ≡ age_in board.now txn.slot) }
 {
-    let at = youngest_of(&board.ages, suspects(board))?;
+    let suspects = Slots::from_bits(suspects(board));
+    let at = youngest_of(&board.ages, suspects)?;
     Some(TxnId {
         slot: at as u8,
         age: board.ages[at],

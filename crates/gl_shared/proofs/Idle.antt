@@ -10,7 +10,8 @@ use Rattle.gl_catalog.specs.declared.command.Command.{Command}
 use Rattle.gl_catalog.specs.Manager.{IsLawfulManager, ManagerView, state_of}
 use Rattle.gl_catalog.specs.Promises.{NobodyWaits}
 use Rattle.gl_catalog.specs.Step.{Step}
-use Rattle.gl_boxes.specs.Boards.{ShowsNobody, EndsIdle}
+use Rattle.gl_boxes.specs.Boards.{EndsIdle}
+use Rattle.gl_waits.specs.Boards.{ShowsNobody}
 use Rattle.gl_boxes.specs.Served.{leaves_waiting}
 use Rattle.gl_boxes.proofs.Idle.{neither, nobody_on, nobody_shown}
 

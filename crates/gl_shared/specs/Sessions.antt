@@ -2,7 +2,8 @@
 use Rattle.gl_slots.specs.Limit.{most_slots}
 use Rattle.std.specs.Prelude.{◌≡◌, ℕ, ◌<◌, ◌||◌, ◌==◌, Some, Result, Ok, Err}
 use Rattle.std.specs.List.{list_any}
-use Rattle.gl_waits.specs.Sets.{has_slot}
+use Rattle.gl_slots.specs.declared.slots.Slots.{Slots}
+use Rattle.gl_slots.specs.Slots.{has_slot}
 use Rattle.gl_modes.specs.declared.mode.Mode.{Mode}
 use Rattle.gl_modes.specs.declared.node.NodeId.{NodeId}
 use Rattle.gl_model.specs.declared.txn.TxnId.{TxnId}
@@ -24,7 +25,7 @@ abbrev pub IsServed : Command → Answer → Told → ℕ → Type 0
 IsServed c a told count = (s : ManagerView) × (t : ManagerView) × IsLawfulManager s × Step (state_of s) c a told (state_of t) × (count ≡ t.accepted)
 
 -- the set has just the slots that the command told, and that of whoever it cancelled or aborted by name
-abbrev pub AreWoken : Command → Told → ℕ → Type 0
+abbrev pub AreWoken : Command → Told → Slots → Type 0
 AreWoken c told slots = (u : ℕ) → u < most_slots → has_slot slots u ≡ (names_slot c u || list_any (λ x. x.0.slot == u) told)
 
 -- some lawful state behind the latch gives this verdict

@@ -4,7 +4,8 @@ use Rattle.gl_waits.specs.declared.board.Board.{Board}
 use Rattle.gl_model.specs.State.{State}
 use Rattle.gl_catalog.specs.Manager.{ManagerView}
 use Rattle.gl_catalog.specs.Promises.{NobodyWaits}
-use Rattle.gl_boxes.specs.Boards.{ShowsNobody, EndsIdle}
+use Rattle.gl_boxes.specs.Boards.{EndsIdle}
+use Rattle.gl_waits.specs.Boards.{ShowsNobody}
 use Rattle.gl_boxes.specs.Boxes.{Slot}
 use Rattle.gl_boxes.specs.declared.telling.Telling.{Telling}
 use Rattle.gl_boxes.specs.declared.telling.Telling.TheVariants.{WhileWaiting}

@@ -15,6 +15,7 @@ use crate::share::Share;
 use gl_boxes::{Grant, Stop, ended_by};
 use gl_catalog::{Answer, Command};
 use gl_modes::{Mode, NodeId, Refusal};
+use gl_slots::Slots;
 use gl_table::{Told, TxnId};
 use std::alloc::Global;
 use std::sync::{MutexGuard, Wait};
@@ -37,7 +38,7 @@ fn serve_all<N: Naming>(
     commands: &[Command<'_>],
     told: &mut Told,
     answers: &mut Vec<Answer>,
-) -> u128
+) -> Slots
     requires none { answers.old.items ≡ [] }
     requires room { vec_capacity answers.old ≡ length commands.now }
     ensures run { Serves guarded.old commands.now answers.new.items guarded.new }
@@ -47,11 +48,11 @@ fn serve_all<N: Naming>(
     ensures list { guarded.new.list ≡ guarded.old.list }
     ensures ended { HasEnded (state_of guarded.old.manager) (state_of guarded.new.manager) result }
 {
-    let mut ended = 0;
+    let mut ended = Slots::empty();
     for command in commands {
         told.clear();
         let answer = guarded.serve_telling(share, *command, told);
-        ended |= ended_by(command, told.as_slice());
+        ended = ended.union(ended_by(command, told.as_slice()));
         let last = !goes_on(&answer);
         answers.push_reserved(answer);
         if last {

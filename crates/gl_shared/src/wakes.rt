@@ -2,15 +2,14 @@
 
 ghost use Rattle.gl_slots.specs.Limit.{most_slots};
 ghost use Rattle.std.specs.Prelude.{◌≡◌, ◌<◌};
+ghost use Rattle.gl_slots.specs.Slots.{no_slots};
 ghost use Rattle.gl_boxes.specs.Served.{RisingTo};
 ghost use Rattle.gl_shared.specs.Sessions.{AreWoken};
 
 use gl_boxes::ended_by;
 use gl_catalog::Command;
-use gl_slots::Slot;
+use gl_slots::{SLOTS, Slot, Slots};
 use gl_table::{Notice, TxnId};
-use gl_waits::SLOTS;
-use gl_waits::set::take_lowest;
 use std::array;
 use std::marker::Model;
 use std::snapshot::Snapshot;
@@ -22,26 +21,26 @@ pub(crate) struct Wakes {
     slots: [Condvar; SLOTS],
 }
 
-/// Whom a session woke last. To a contract it is their slots, as the bits of a number; it has no bytes.
+/// Whom a session woke last. To a contract it is their slots, as a set; it has no bytes.
 #[derive(Drop)]
 pub struct Woken {
-    slots: Snapshot<u128>,
+    slots: Snapshot<Slots>,
 }
 
 impl Model for Woken {
-    ghost use Rattle.std.specs.Prelude.{ℕ};
+    ghost use Rattle.gl_slots.specs.declared.slots.Slots.{Slots};
 
-    ghost Value = { ℕ };
+    ghost Value = { Slots };
 
     ghost view = { λ w. w.slots.value };
 }
 
 impl Woken {
     pub(crate) fn nobody() -> Woken
-        ensures { result ≡ 0 }
+        ensures { result ≡ no_slots }
     {
         Woken {
-            slots: Snapshot::of(&0u128),
+            slots: Snapshot::of(&Slots::empty()),
         }
     }
 }
@@ -72,17 +71,15 @@ impl Wakes {
     }
 
     /// Wakes those who sleep at the places of these slots. That each place is notified, tests alone show.
-    pub(crate) fn wake(&self, slots: u128) -> Woken
+    pub(crate) fn wake(&self, slots: Slots) -> Woken
         ensures { result ≡ slots }
     {
         let woken = Woken {
             slots: Snapshot::of(&slots),
         };
         let mut left = slots;
-        while left != 0 {
-            let (slot, rest) = take_lowest(left);
-            left = rest;
-            self.slots[slot].notify_all();
+        while let Some(slot) = left.take_lowest() {
+            self.slots[slot as usize].notify_all();
         }
         woken
     }

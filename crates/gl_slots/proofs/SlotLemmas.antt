@@ -105,6 +105,14 @@ bits_of-same p q same = same_numbers (bits_of p) (bits_of q)
     (λ above. bits_of-above p u above ∙ sym (bits_of-above q u above))
     (cases_lt u most_slots))
 
+-- where none passes, the set without slots is shown
+pub bits_of-none : (p : ℕ → Bool) → ((u : ℕ) → u < most_slots → p u ≡ false) → bits_of p ≡ no_bits
+bits_of-none p none = same_numbers (bits_of p) no_bits
+    (λ u. ⊎_elim
+    (λ low. has_bit-bits_of p u low ∙ none u low ∙ sym (no_bits-none u))
+    (λ above. bits_of-above p u above ∙ sym (no_bits-none u))
+    (cases_lt u most_slots))
+
 -- a set is shown as its number
 pub bits_of-is : (bits : ℕ) → bits < 2 ^ 128 → bits ≡ bits_of (has_bit bits)
 bits_of-is bits small = same_numbers bits (bits_of (has_bit bits))

@@ -41,6 +41,9 @@ pub type Slot = u8;
 /// A set of slots as boards show it: a number of which bit `u` stands for slot `u`.
 pub type Bits = u128;
 
+/// How boards show the set without slots.
+pub const NO_BITS: Bits = 0;
+
 /// A set of slots.
 #[derive(Clone, Copy, PartialEq, Eq, Debug, Default)]
 pub struct Slots {

@@ -66,11 +66,7 @@ pub use Rattle.gl_header.specs.Header.{placed, Waiter, with_mode, without_waiter
 pub use Rattle.gl_header.specs.Sound.{is_distinct}
 pub use Rattle.gl_header.specs.State.{HeaderState, IsLawfulHeader, members_of, slot_limit}
 pub use Rattle.gl_header.specs.declared.header.Asked.{Asked}
-pub use Rattle.gl_waits.proofs.BoardLemmas.{row_edge-bits_of}
-pub use Rattle.gl_waits.proofs.SetLemmas.{has_slot-zero, same_slots}
 pub use Rattle.gl_waits.proofs.VictimLemmas.{candidate-on_cycle}
-pub use Rattle.gl_waits.specs.Boards.{row_edge}
-pub use Rattle.gl_waits.specs.Sets.{bits_of}
 pub use Rattle.gl_waits.specs.Victims.{IsCandidate}
 pub use Rattle.gl_waits.specs.Waits.{IsLowestYoungest, IsOnCycleOf, IsOnNoCycle, IsWalk, IsYoungest, Reaches}
 pub use Rattle.gl_waits.specs.declared.board.Board.{Board}

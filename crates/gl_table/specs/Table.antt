@@ -10,7 +10,7 @@ use Rattle.gl_graph.specs.View.{View, graph_of}
 use Rattle.gl_header.specs.Header.{holds}
 use Rattle.gl_waits.specs.declared.victims.Victims.{Victims}
 use Rattle.gl_waits.specs.declared.board.Board.{Board}
-use Rattle.gl_waits.specs.Sets.{bits_of}
+use Rattle.gl_slots.specs.Slots.{bits_of}
 use Rattle.gl_model.specs.declared.deadlock.Deadlock.{Deadlock}
 use Rattle.gl_model.specs.declared.answers.Detect.{Detect}
 use Rattle.gl_listed.specs.declared.list.Entry.{Entry}
@@ -103,7 +103,7 @@ board_of s =
     record {
       epoch = s.accepted;
       ages = map (age_of s) (range_with_len 0 most_slots);
-      rows = map (λ t. bits_of most_slots (waits_for s t)) (range_with_len 0 most_slots);
+      rows = map (λ t. bits_of (waits_for s t)) (range_with_len 0 most_slots);
     }
 
 -- what headers and seats show of a state: who lives and waits, who holds what, and the queues

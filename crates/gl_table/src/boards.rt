@@ -1,37 +1,31 @@
 //! The board of a moment.
 
 ghost use Rattle.gl_slots.specs.Limit.{most_slots};
-ghost use Rattle.std.specs.Prelude.{◌≡◌, ◌≤◌, ◌==◌, ◌&&◌, ◌||◌, ◌⊎◌, ℕ, ◌<◌, IfSome, Some, get_or, length, not};
+ghost use Rattle.std.specs.Prelude.{◌≡◌, ◌≤◌, ◌==◌, ◌&&◌, ◌||◌, ◌⊎◌, ◌↔◌, ℕ, IsTrue, ◌<◌, IfSome, MatchOption, Some, false, get_or, length, not};
 ghost use Rattle.gl_modes.specs.Modes.{are_compatible};
 ghost use Rattle.gl_header.specs.Header.{is_ahead};
 ghost use Rattle.gl_header.specs.State.{members_of};
-ghost use Rattle.gl_slots.specs.Slots.{has_slot as is_in};
-ghost use Rattle.gl_waits.specs.Sets.{has_slot};
+ghost use Rattle.gl_slots.specs.Slots.{HasNoBit, bits_of, has_slot, no_bits};
 ghost use Rattle.gl_table.specs.Table.{board_of, shown};
 ghost use Rattle.gl_model.specs.declared.txn.Status.TheVariants.{Waiting};
 ghost use Rattle.gl_header.specs.Headers.{held_of, queue_of};
 ghost use Rattle.gl_table.specs.inside.Seats.{txns_of};
-ghost use Rattle.gl_model.specs.State.{age_in, status_in, waits_for};
+ghost use Rattle.gl_model.specs.State.{age_in, is_wait, status_in, waits_for};
 
 use crate::seat::Seat;
 use crate::seats::Seats;
 use gl_header::{Header, Headers};
 use gl_model::Status;
 use gl_modes::{Mode, NodeId};
-use gl_slots::{Slot, Slots};
-use gl_waits::{Board, SLOTS, WaitsFor};
+use gl_slots::{Bits, SLOTS, Slot, Slots};
+use gl_waits::{Board, WaitsFor};
 
 /// The board of this moment, in which only the slots of those who live and wait are written.
 pub(crate) fn board(headers: &Headers, seats: &Seats, epoch: u64) -> Board
     requires few { length seats.now.items ≤ most_slots }
     ensures { result ≡ board_of (shown headers.now.entries seats.now.items epoch) }
 {
-    headers.law();
-    let mut board = Board {
-        epoch,
-        ages: [0; SLOTS],
-        rows: [0; SLOTS],
-    };
+    let mut board = Board::idle(epoch);
     write_ages(seats, &mut board.ages);
     write_rows(headers, seats, &mut board.rows);
     board
@@ -60,49 +54,63 @@ fn write_ages(seats: &Seats, ages: &mut [u64; SLOTS])
     }
 }
 
-/// Writes the row of each slot that waits, where all are 0 before. Each queue in which somebody waits is
+/// Writes the row of each slot that waits, where all are empty before. Each queue in which somebody waits is
 /// read once, however many wait in it.
-fn write_rows(headers: &Headers, seats: &Seats, rows: &mut [u128; SLOTS])
-    requires none { (t : ℕ) → get_or rows.old t 0 ≡ 0 }
+fn write_rows(headers: &Headers, seats: &Seats, rows: &mut [Bits; SLOTS])
+    requires none { (t : ℕ) → get_or rows.old t no_bits ≡ no_bits }
     ensures len { length rows.new ≡ length rows.old }
-    ensures rows { (t u : ℕ) → has_slot (get_or rows.new t 0) u ≡ waits_for (shown headers.now.entries seats.now.items 0) t u }
+    ensures rows { (t : ℕ) → get_or rows.new t no_bits ≡ bits_of (waits_for (shown headers.now.entries seats.now.items 0) t) }
 {
     let mut left = seats.waiting();
     while let Some(slot) = left.take_lowest() {
-        if rows[slot as usize] == 0 {
+        if is_unwritten(rows, slot) {
             show_waiter(headers, seats, slot, rows);
         }
     }
 }
 
-/// Writes the row of a slot, and those of all who wait for the same node.
-fn show_waiter(headers: &Headers, seats: &Seats, slot: Slot, rows: &mut [u128; SLOTS])
-    requires below { slot < most_slots }
-    requires none { get_or rows.old slot 0 ≡ 0 }
-    ensures len { length rows.new ≡ length rows.old }
-    ensures own { (u : ℕ) → has_slot (get_or rows.new slot 0) u ≡ waits_for (shown headers.now.entries seats.now.items 0) slot u }
-    ensures rows { (t : ℕ) → (get_or rows.new t 0 ≡ get_or rows.old t 0) ⊎ ((u : ℕ) → has_slot (get_or rows.new t 0) u ≡ waits_for (shown headers.now.entries seats.now.items 0) t u) }
+/// Whether the row of a slot is empty.
+fn is_unwritten(rows: &[Bits; SLOTS], slot: Slot) -> bool
+    requires { slot < most_slots }
+    ensures { IsTrue result ↔ HasNoBit (get_or rows.now slot no_bits) }
 {
-    if let Some(
-        Seat {
-            status: Status::Waiting { node, wanted },
-            ..
-        },
-    ) = seats.get(slot)
-    {
-        show_queue(headers, seats.as_slice(), node, rows);
-        // A waiter stands in the queue, so its row is there by now.
-        if rows[slot as usize] == 0 {
-            rows[slot as usize] = row(headers, slot, node, wanted);
-        }
+    Slots::from_bits(rows[slot as usize]).is_empty()
+}
+
+/// Writes the row of a slot, and those of all who wait for the same node.
+fn show_waiter(headers: &Headers, seats: &Seats, slot: Slot, rows: &mut [Bits; SLOTS])
+    requires below { slot < most_slots }
+    requires none { get_or rows.old slot no_bits ≡ no_bits }
+    ensures len { length rows.new ≡ length rows.old }
+    ensures own { get_or rows.new slot no_bits ≡ bits_of (waits_for (shown headers.now.entries seats.now.items 0) slot) }
+    ensures rows { (t : ℕ) → (get_or rows.new t no_bits ≡ get_or rows.old t no_bits) ⊎ (get_or rows.new t no_bits ≡ bits_of (waits_for (shown headers.now.entries seats.now.items 0) t)) }
+{
+    let Some((node, wanted)) = wait_of(seats, slot) else {
+        return;
+    };
+    show_queue(headers, seats.as_slice(), node, rows);
+    // A waiter stands in the queue, so its row is there by now.
+    if is_unwritten(rows, slot) {
+        rows[slot as usize] = row(headers, slot, node, wanted).bits();
+    }
+}
+
+/// For what a slot waits, and in which mode; `None` where it does not wait.
+fn wait_of(seats: &Seats, slot: Slot) -> Option<(NodeId, Mode)>
+    ensures { MatchOption result (is_wait (status_in (txns_of seats.now.items slot)) ≡ false)
+        (λ wait. status_in (txns_of seats.now.items slot) ≡ Some (Waiting wait.0 wait.1)) }
+{
+    match seats.get(slot)?.status {
+        Status::Waiting { node, wanted } => Some((node, wanted)),
+        _ => None,
     }
 }
 
 /// Writes the rows of those who wait for a node, in one pass over its queue: ahead of each are those
 /// who were passed. A slot's first place counts.
-fn show_queue(headers: &Headers, seats: &[Option<Seat>], node: NodeId, rows: &mut [u128; SLOTS])
+fn show_queue(headers: &Headers, seats: &[Option<Seat>], node: NodeId, rows: &mut [Bits; SLOTS])
     ensures len { length rows.new ≡ length rows.old }
-    ensures rows { (t : ℕ) → (get_or rows.new t 0 ≡ get_or rows.old t 0) ⊎ ((u : ℕ) → has_slot (get_or rows.new t 0) u ≡ waits_for (shown headers.now.entries seats.now 0) t u) }
+    ensures rows { (t : ℕ) → (get_or rows.new t no_bits ≡ get_or rows.old t no_bits) ⊎ (get_or rows.new t no_bits ≡ bits_of (waits_for (shown headers.now.entries seats.now 0) t)) }
 {
     let Some(header) = headers.get(node) else {
         return;
@@ -112,7 +120,7 @@ fn show_queue(headers: &Headers, seats: &[Option<Seat>], node: NodeId, rows: &mu
     for &(slot, _) in header.queue() {
         if let Some(wanted) = wanted_on(seats, slot, node) {
             if !passed.contains(slot) {
-                rows[slot as usize] = row_behind(header, passed, slot, wanted);
+                rows[slot as usize] = row_behind(header, passed, slot, wanted).bits();
             }
         }
         passed.insert(slot);
@@ -143,7 +151,7 @@ impl WaitsFor for Waits<'_> {
 
     ghost edge = { λ it. waits_for (shown it.headers.now.entries it.seats.now 0) };
 
-    fn row(&self, slot: usize) -> u128 {
+    fn row(&self, slot: usize) -> Slots {
         match self.seats.get(slot) {
             Some(
                 Some(
@@ -153,22 +161,22 @@ impl WaitsFor for Waits<'_> {
                     },
                 ),
             ) => row(self.headers, slot as Slot, *node, *wanted),
-            _ => 0,
+            _ => Slots::empty(),
         }
     }
 }
 
-/// Whom a slot waits for that waits on this node for this mode, as a row of a board.
-fn row(headers: &Headers, slot: Slot, node: NodeId, wanted: Mode) -> u128
+/// Whom a slot waits for that waits on this node for this mode.
+fn row(headers: &Headers, slot: Slot, node: NodeId, wanted: Mode) -> Slots
     requires below { slot < most_slots }
     ensures { (u : ℕ) → has_slot result u ≡ (not (slot == u) && (not (are_compatible wanted (held_of headers.now.entries u node)) || is_ahead (queue_of headers.now.entries node) slot u)) }
 {
-    headers.waits_for(slot, node, wanted).bits()
+    headers.waits_for(slot, node, wanted)
 }
 
 /// Whom a slot waits for with these ahead of it.
-fn row_behind(header: &Header, ahead: Slots, slot: Slot, wanted: Mode) -> u128
-    ensures { (u : ℕ) → has_slot result u ≡ (not (slot == u) && (not (are_compatible wanted (members_of header.now u)) || is_in ahead u)) }
+fn row_behind(header: &Header, ahead: Slots, slot: Slot, wanted: Mode) -> Slots
+    ensures { (u : ℕ) → has_slot result u ≡ (not (slot == u) && (not (are_compatible wanted (members_of header.now u)) || has_slot ahead u)) }
 {
-    header.opposed(wanted).union(ahead).without(slot).bits()
+    header.opposed(wanted).union(ahead).without(slot)
 }

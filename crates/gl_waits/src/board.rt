@@ -1,6 +1,9 @@
 //! The board.
 
-use gl_slots::{Bits, SLOTS};
+ghost use Rattle.std.specs.Prelude.{◌≡◌, ℕ, ◌↔◌, IsTrue, false};
+ghost use Rattle.gl_waits.specs.Boards.{ShowsNobody, idle_board};
+
+use gl_slots::{Bits, NO_BITS, SLOTS, Slots};
 
 /// Who waits for whom at one moment.
 #[derive(Clone, Copy, PartialEq, Eq, Debug)]
@@ -12,4 +15,29 @@ pub struct Board {
     pub ages: [u64; SLOTS],
     /// Bit `u` of `rows[s]` says that slot `s` waits for slot `u`. A free slot has an empty row.
     pub rows: [Bits; SLOTS],
+}
+
+impl Board {
+    /// The board on which nobody lives.
+    pub fn idle(epoch: u64) -> Self
+        ensures { result ≡ idle_board epoch }
+    {
+        Board {
+            epoch,
+            ages: [0; SLOTS],
+            rows: [NO_BITS; SLOTS],
+        }
+    }
+
+    /// Whether nobody waits.
+    pub fn shows_nobody(&self) -> bool
+        ensures { IsTrue result ↔ ShowsNobody self.now }
+    {
+        for row in &self.rows {
+            if !Slots::from_bits(*row).is_empty() {
+                return false;
+            }
+        }
+        true
+    }
 }

@@ -16,11 +16,10 @@ use gl_slots::{Bits, SLOTS, Slot, Slots};
 pub fn suspects(board: &Board) -> Bits
     ensures { (s : ℕ) → IsTrue (has_bit result s) ↔ IsOnCycle (board_edge board.now) s }
 {
-    let rows = rows_in(board);
-    if nobody_waits(&rows) {
+    if board.shows_nobody() {
         Slots::empty().bits()
     } else {
-        diagonal(&reaches_of_all(&rows)).bits()
+        diagonal(&reaches_of_all(&rows_in(board))).bits()
     }
 }
 
@@ -33,18 +32,6 @@ fn rows_in(board: &Board) -> [Slots; SLOTS]
         rows[slot] = Slots::from_bits(board.rows[slot]);
     }
     rows
-}
-
-/// Whether all rows are empty.
-fn nobody_waits(rows: &[Slots; SLOTS]) -> bool
-    ensures { result ≡ true → (s u : ℕ) → row_edge rows.now s u ≡ false }
-{
-    for row in rows {
-        if !row.is_empty() {
-            return false;
-        }
-    }
-    true
 }
 
 /// By slot, what it reaches by one or more steps.

@@ -3,7 +3,8 @@ use Rattle.gl_model.proofs.Words.{[], ◌&&◌, ◌+◌, ◌<◌, ◌==◌, ◌|
 use Rattle.gl_model.proofs.Words.{filter-append, fits, front, get_or, intends_over, is_among_waiters, is_none, is_waiter, length, List, list_all, list_any_at}
 use Rattle.gl_model.proofs.Words.{Members, Mode, nat_tests, NodeId, not, not-true, number_same, or_left, or_right, refl, rule_refusal, split, sym, take}
 use Rattle.gl_model.proofs.Words.{take_more, true, Waiter, without_waiter, ℕ}
-use Rattle.gl_waits.specs.Sets.{has_slot}
+use Rattle.gl_slots.specs.declared.slots.Slots.{Slots}
+use Rattle.gl_slots.specs.Slots.{has_slot}
 use Rattle.gl_model.proofs.law.Tests.{rule_met}
 use Rattle.gl_model.proofs.queues.Edits.{filter_no, filter_yes}
 use Rattle.gl_model.proofs.queues.Waiters.{among_append, if-false, if-true}
@@ -24,13 +25,13 @@ among_more f q i d low u =
     one w = grind (arith, nat_tests, f w)
 
 -- the set of those so far who pass the test
-abbrev pub IsSetOf : (Waiter → Bool) → List Waiter → ℕ → Type 0
+abbrev pub IsSetOf : (Waiter → Bool) → List Waiter → Slots → Type 0
 IsSetOf f q set = (u : ℕ) → has_slot set u ≡ is_among_waiters u (filter f q)
 
-module _ (f : Waiter → Bool) (q : List Waiter) (i : ℕ) (d w : Waiter) (low : i < length q) (here : w ≡ get_or q i d) (set : ℕ)
+module _ (f : Waiter → Bool) (q : List Waiter) (i : ℕ) (d w : Waiter) (low : i < length q) (here : w ≡ get_or q i d) (set : Slots)
     (so_far : IsSetOf f (take i q) set) where
   -- one waiter more passes
-  pub set-with : (after : ℕ) → f w ≡ true → ((u : ℕ) → has_slot after u ≡ (has_slot set u || (u == w.0))) → IsSetOf f (take (i + 1) q) after
+  pub set-with : (after : Slots) → f w ≡ true → ((u : ℕ) → has_slot after u ≡ (has_slot set u || (u == w.0))) → IsSetOf f (take (i + 1) q) after
   set-with after passes added u = added u ∙ ap₂ (λ a b. a || b) (so_far u) (turned u ∙ ap (λ b. b && (w.0 == u)) (sym passes))
       ∙ sym (among_more f q i d low u ∙ ap (λ v. is_among_waiters u (filter f (take i q)) || (f v && (v.0 == u))) (sym here))
     where

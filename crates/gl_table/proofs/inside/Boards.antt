@@ -1,16 +1,16 @@
 -- The board of a moment, written slot by slot, and who is a victim. For boards and detection.
 use Rattle.gl_slots.specs.Limit.{most_slots}
 use Rattle.gl_table.proofs.Words.{[], ⊎_elim, ◌&&◌, ◌<◌, ◌==◌, ◌||◌, ◌∙◌, ◌∷◌, ◌≡◌, ◌≢◌, ◌≤◌, ◌⊎◌, age_in, age_of, and-false, and-true, ap, are_compatible}
-use Rattle.gl_table.proofs.Words.{AreHeaders, arith, bits_of, blocks, Board, board_of, Bool, candidate-on_cycle, cases_eq, cases_lt, clash, cond, Entries}
+use Rattle.gl_table.proofs.Words.{AreHeaders, arith, blocks, Board, board_of, Bool, candidate-on_cycle, cases_eq, cases_lt, clash, cond, Entries}
 use Rattle.gl_table.proofs.Words.{false, fill_by_all, front, fun_ext, get_or, get_or-map-range_with_len, get_or-replicate, get_or-set_other, get_or-set_same}
-use Rattle.gl_table.proofs.Words.{get_or_past, has_slot-zero, HasNoSlot, header_at, header_or_new, HeaderState, inl, inr, is_ahead, is_among_waiters, is_wait}
+use Rattle.gl_table.proofs.Words.{get_or_past, HasNoSlot, header_at, header_or_new, HeaderState, inl, inr, is_ahead, is_among_waiters, is_wait}
 use Rattle.gl_table.proofs.Words.{IsCandidate, IsLawfulHeader, IsLowestYoungest, IsOnCycleOf, IsVictim, IsWalk, IsYoungest, length, length-replicate, List, map}
 use Rattle.gl_table.proofs.Words.{members_of, Mode, nat_tests, NL-compatible, NodeId, None, none_some, not, not-true, number_other, number_same, Option}
-use Rattle.gl_table.proofs.Words.{or_elim, range_with_len, Reaches, refl, replicate, row_edge, row_edge-bits_of, same_slots, Seat, set, shown, slice_get_past}
-use Rattle.gl_table.proofs.Words.{Slots, Some, split, State, status_in, status_of, subst, sym, take, true, txn_in, txns_of, unused-nobody, Victims, Waiter}
+use Rattle.gl_table.proofs.Words.{or_elim, range_with_len, Reaches, refl, replicate, Seat, set, shown, slice_get_past}
+use Rattle.gl_table.proofs.Words.{Slots, Some, split, State, status_in, status_of, subst, sym, take, true, txn_in, txns_of, Victims, Waiter}
 use Rattle.gl_table.proofs.Words.{Waiting, waits_for, ℕ}
-use Rattle.gl_waits.specs.Sets.{has_slot}
-use Rattle.gl_slots.specs.Slots.{has_slot as is_in}
+use Rattle.gl_slots.specs.Slots.{Bits, HasNoBit, bits_of, has_bit, has_slot, no_bits}
+use Rattle.gl_slots.proofs.SlotLemmas.{bits_of-none, has_bit-bits_of, no_bits-none}
 use Rattle.gl_table.specs.inside.Seats.{lives_at}
 use Rattle.gl_model.proofs.law.Edges.{idle_no_step, step_is}
 use Rattle.gl_model.proofs.queues.Waiters.{ahead-first, ahead_is, ahead_second}
@@ -21,21 +21,26 @@ use Rattle.gl_model.proofs.queues.Waiters.{ahead-first, ahead_is, ahead_second}
 
 -- the set is the other one without slot k
 abbrev pub IsWithout : Slots → ℕ → Slots → Type 0
-IsWithout left k after = (u : ℕ) → is_in after u ≡ (is_in left u && not (u == k))
+IsWithout left k after = (u : ℕ) → has_slot after u ≡ (has_slot left u && not (u == k))
 
 -- slot k is not in it
-taken_out : (left after : Slots) (k : ℕ) → IsWithout left k after → is_in after k ≡ false
-taken_out left after k less = less k ∙ ap (λ b. is_in left k && not b) (number_same k k refl) ∙ and-false (is_in left k)
+taken_out : (left after : Slots) (k : ℕ) → IsWithout left k after → has_slot after k ≡ false
+taken_out left after k less = less k ∙ ap (λ b. has_slot left k && not b) (number_same k k refl) ∙ and-false (has_slot left k)
 
 -- of the others nothing changes
-still_in : (left after : Slots) (k t : ℕ) → t ≢ k → IsWithout left k after → is_in after t ≡ is_in left t
-still_in left after k t ne less = less t ∙ ap (λ b. is_in left t && not b) (number_other t k ne) ∙ and-true (is_in left t)
+still_in : (left after : Slots) (k t : ℕ) → t ≢ k → IsWithout left k after → has_slot after t ≡ has_slot left t
+still_in left after k t ne less = less t ∙ ap (λ b. has_slot left t && not b) (number_other t k ne) ∙ and-true (has_slot left t)
 
 -- nothing is written yet
 pub zeros : (n u : ℕ) → ◌≡◌ {A = ℕ} (get_or (replicate n 0) u 0) 0
 zeros n u =
     ⊎_elim (λ low. get_or-replicate {A = ℕ} n u 0 0 low) (λ past. get_or_past (replicate n 0) u 0 (let e = length-replicate {A = ℕ} n 0 in omega arith))
     (cases_lt u n)
+
+pub empty_row : (n t : ℕ) → get_or (replicate n no_bits) t no_bits ≡ no_bits
+empty_row n t =
+    ⊎_elim (λ low. get_or-replicate {A = Bits} n t no_bits no_bits low)
+    (λ past. get_or_past (replicate n no_bits) t no_bits (let e = length-replicate {A = Bits} n no_bits in omega arith)) (cases_lt t n)
 
 -- The ages.
 
@@ -45,18 +50,18 @@ age_at seats t = age_in (txns_of seats t)
 
 -- the ages are written but those of the slots that are left, which are 0
 abbrev pub AreAgesBut : (ℕ → ℕ) → Slots → List ℕ → Type 0
-AreAgesBut age left xs = (t : ℕ) → get_or xs t 0 ≡ cond (is_in left t) 0 (age t)
+AreAgesBut age left xs = (t : ℕ) → get_or xs t 0 ≡ cond (has_slot left t) 0 (age t)
 
 -- nothing is written yet
-pub ages-begin : (seats : List (Option Seat)) (living : Slots) (xs : List ℕ) → ((u : ℕ) → is_in living u ≡ lives_at seats u) → ((u : ℕ) → get_or xs u 0 ≡ 0)
+pub ages-begin : (seats : List (Option Seat)) (living : Slots) (xs : List ℕ) → ((u : ℕ) → has_slot living u ≡ lives_at seats u) → ((u : ℕ) → get_or xs u 0 ≡ 0)
     → AreAgesBut (age_at seats) living xs
-ages-begin seats living xs is none t = none t ∙ grind (arith, nat_tests, is_in living t, txns_of seats t, is t)
+ages-begin seats living xs is none t = none t ∙ grind (arith, nat_tests, has_slot living t, txns_of seats t, is t)
 
 -- slot k is written
 pub ages-written : (age : ℕ → ℕ) (left after : Slots) (k a : ℕ) (xs : List ℕ) → k < length xs → a ≡ age k → IsWithout left k after → AreAgesBut age left xs
     → AreAgesBut age after (set xs k a)
 ages-written age left after k a xs low is less ages t =
-    ⊎_elim (λ e. subst (λ x. get_or (set xs k a) x 0 ≡ cond (is_in after x) 0 (age x)) (sym e)
+    ⊎_elim (λ e. subst (λ x. get_or (set xs k a) x 0 ≡ cond (has_slot after x) 0 (age x)) (sym e)
     (get_or-set_same xs k a 0 low ∙ is ∙ sym (ap (λ b. cond b 0 (age k)) (taken_out left after k less))))
     (λ ne. get_or-set_other xs k t a 0 ne ∙ ages t ∙ sym (ap (λ b. cond b 0 (age t)) (still_in left after k t ne less))) (cases_eq t k)
 
@@ -64,7 +69,7 @@ ages-written age left after k a xs low is less ages t =
 pub ages-passed : (age : ℕ → ℕ) (left after : Slots) (k : ℕ) (xs : List ℕ) → age k ≡ 0 → IsWithout left k after → AreAgesBut age left xs
     → AreAgesBut age after xs
 ages-passed age left after k xs free less ages t =
-    ages t ∙ ⊎_elim (λ e. by (is_in left t) (is_in after t) (ap age e ∙ free)) (λ ne. sym (ap (λ b. cond b 0 (age t)) (still_in left after k t ne less)))
+    ages t ∙ ⊎_elim (λ e. by (has_slot left t) (has_slot after t) (ap age e ∙ free)) (λ ne. sym (ap (λ b. cond b 0 (age t)) (still_in left after k t ne less)))
     (cases_eq t k)
   where
     by : (a b : Bool) → age t ≡ 0 → cond a 0 (age t) ≡ cond b 0 (age t)
@@ -76,55 +81,61 @@ ages-read age left xs empty ages u = ages u ∙ ap (λ b. cond b 0 (age u)) (emp
 
 -- The rows.
 
--- a row has the relation's steps
-abbrev pub IsRow : (ℕ → ℕ → Bool) → List ℕ → ℕ → Type 0
-IsRow edge xs t = (u : ℕ) → row_edge xs t u ≡ edge t u
+-- a row shows the relation's steps
+abbrev pub IsRow : (ℕ → ℕ → Bool) → List Bits → ℕ → Type 0
+IsRow edge xs t = get_or xs t no_bits ≡ bits_of (edge t)
 
--- each row is right, or its slot is left and it is 0
-abbrev pub AreRowsBut : (ℕ → ℕ → Bool) → Slots → List ℕ → Type 0
-AreRowsBut edge left xs = (t : ℕ) → IsRow edge xs t ⊎ ((is_in left t ≡ true) × (get_or xs t 0 ≡ 0))
+-- each row is right, or its slot is left and it is empty
+abbrev pub AreRowsBut : (ℕ → ℕ → Bool) → Slots → List Bits → Type 0
+AreRowsBut edge left xs = (t : ℕ) → IsRow edge xs t ⊎ ((has_slot left t ≡ true) × (get_or xs t no_bits ≡ no_bits))
 
 -- each row is as it was, or right
-abbrev pub AreRowsShown : (ℕ → ℕ → Bool) → List ℕ → List ℕ → Type 0
-AreRowsShown edge old xs = (t : ℕ) → (get_or xs t 0 ≡ get_or old t 0) ⊎ IsRow edge xs t
+abbrev pub AreRowsShown : (ℕ → ℕ → Bool) → List Bits → List Bits → Type 0
+AreRowsShown edge old xs = (t : ℕ) → (get_or xs t no_bits ≡ get_or old t no_bits) ⊎ IsRow edge xs t
 
 -- a row that is right is written
-pub rows-shown : (edge : ℕ → ℕ → Bool) (i r : ℕ) (old xs : List ℕ) → i < length xs → ((u : ℕ) → has_slot r u ≡ edge i u) → AreRowsShown edge old xs
+pub rows-shown : (edge : ℕ → ℕ → Bool) (i : ℕ) (r : Bits) (old xs : List Bits) → i < length xs → r ≡ bits_of (edge i) → AreRowsShown edge old xs
     → AreRowsShown edge old (set xs i r)
 rows-shown edge i r old xs low is rows t =
-    ⊎_elim (λ e. inr (subst (IsRow edge (set xs i r)) (sym e) (λ u. ap (λ n. has_slot n u) (get_or-set_same xs i r 0 low) ∙ is u)))
-    (λ ne. let other = get_or-set_other xs i t r 0 ne in
-    ⊎_elim (λ same. inl (other ∙ same)) (λ right. inr (λ u. ap (λ n. has_slot n u) other ∙ right u)) (rows t)) (cases_eq t i)
+    ⊎_elim (λ e. inr (subst (IsRow edge (set xs i r)) (sym e) (get_or-set_same xs i r no_bits low ∙ is)))
+    (λ ne. let other = get_or-set_other xs i t r no_bits ne in
+    ⊎_elim (λ same. inl (other ∙ same)) (λ right. inr (other ∙ right)) (rows t)) (cases_eq t i)
 
--- the row of a slot that does not wait is 0
-pub rows-idle : (s : State) (t : ℕ) (xs : List ℕ) → is_wait (status_of s t) ≡ false → get_or xs t 0 ≡ 0 → IsRow (waits_for s) xs t
-rows-idle s t xs idle none u = grind (arith, nat_tests, none, has_slot-zero u, idle_no_step s t (λ n m e. clash (ap is_wait e) idle) u)
+-- the row of a slot that does not wait is empty
+pub rows-idle : (s : State) (t : ℕ) (xs : List Bits) → is_wait (status_of s t) ≡ false → get_or xs t no_bits ≡ no_bits → IsRow (waits_for s) xs t
+rows-idle s t xs idle none = none ∙ sym (bits_of-none (waits_for s t) (λ u low. idle_no_step s t (λ n m e. clash (ap is_wait e) idle) u))
 
 -- nothing is written yet
-pub rows-begin : (s : State) (waiting : Slots) (xs : List ℕ) → ((u : ℕ) → is_in waiting u ≡ is_wait (status_of s u)) → ((t : ℕ) → get_or xs t 0 ≡ 0)
+pub rows-begin : (s : State) (waiting : Slots) (xs : List Bits) → ((u : ℕ) → has_slot waiting u ≡ is_wait (status_of s u)) → ((t : ℕ) → get_or xs t no_bits ≡ no_bits)
     → AreRowsBut (waits_for s) waiting xs
-rows-begin s waiting xs is none t = split (is_in waiting t) (λ h. inr (h, none t)) (λ h. inl (rows-idle s t xs (sym (is t) ∙ h) (none t)))
+rows-begin s waiting xs is none t = split (has_slot waiting t) (λ h. inr (h, none t)) (λ h. inl (rows-idle s t xs (sym (is t) ∙ h) (none t)))
 
 -- the row of slot k is right too, and others may be
-pub rows-next : (edge : ℕ → ℕ → Bool) (left after : Slots) (k : ℕ) (old xs : List ℕ) → IsWithout left k after → IsRow edge xs k → AreRowsShown edge old xs
+pub rows-next : (edge : ℕ → ℕ → Bool) (left after : Slots) (k : ℕ) (old xs : List Bits) → IsWithout left k after → IsRow edge xs k → AreRowsShown edge old xs
     → AreRowsBut edge left old → AreRowsBut edge after xs
 rows-next edge left after k old xs less own kept rows t =
     ⊎_elim (λ e. inl (subst (IsRow edge xs) (sym e) own)) (λ ne. ⊎_elim
-    (λ same. ⊎_elim (λ right. inl (λ u. ap (λ n. has_slot n u) same ∙ right u)) (λ none. inr (still_in left after k t ne less ∙ none.0, same ∙ none.1))
+    (λ same. ⊎_elim (λ right. inl (same ∙ right)) (λ none. inr (still_in left after k t ne less ∙ none.0, same ∙ none.1))
     (rows t)) inl (kept t)) (cases_eq t k)
 
--- a row that is not 0 was right
-pub rows-there : (edge : ℕ → ℕ → Bool) (left after : Slots) (k : ℕ) (xs : List ℕ) → IsWithout left k after → (get_or xs k 0 ≡ 0 → ⊥) → AreRowsBut edge left xs
+-- a row that is not empty was right
+pub rows-there : (edge : ℕ → ℕ → Bool) (left after : Slots) (k : ℕ) (xs : List Bits) → IsWithout left k after → (HasNoBit (get_or xs k no_bits) → ⊥) → AreRowsBut edge left xs
     → AreRowsBut edge after xs
 rows-there edge left after k xs less some rows =
-    rows-next edge left after k xs xs less (⊎_elim (λ right. right) (λ none. absurd (some none.1)) (rows k)) (λ t. inl refl) rows
+    rows-next edge left after k xs xs less (⊎_elim (λ right. right) (λ none. absurd (some (λ u. subst (λ (b : Bits). has_bit b u ≡ false) (sym none.1) (no_bits-none u)))) (rows k)) (λ t. inl refl) rows
+
+-- a row without slots is empty, also where it is right
+pub rows-unwritten : (edge : ℕ → ℕ → Bool) (left : Slots) (k : ℕ) (xs : List Bits) → HasNoBit (get_or xs k no_bits) → AreRowsBut edge left xs → get_or xs k no_bits ≡ no_bits
+rows-unwritten edge left k xs none rows = ⊎_elim
+    (λ right. right ∙ bits_of-none (edge k) (λ u low. sym (has_bit-bits_of (edge k) u low) ∙ subst (λ (b : Bits). has_bit b u ≡ false) right (none u)))
+    (λ empty. empty.1) (rows k)
 
 -- no slot is left
-pub rows-read : (edge : ℕ → ℕ → Bool) (left : Slots) (xs : List ℕ) → HasNoSlot left → AreRowsBut edge left xs → (t : ℕ) → IsRow edge xs t
+pub rows-read : (edge : ℕ → ℕ → Bool) (left : Slots) (xs : List Bits) → HasNoSlot left → AreRowsBut edge left xs → (t : ℕ) → IsRow edge xs t
 rows-read edge left xs empty rows t = ⊎_elim (λ right. right) (λ none. clash none.0 (empty t)) (rows t)
 
 -- the row of a slot whose place in a queue is reached, where those passed are known
-pub reached-row : (hs : Entries) (seats : List (Option Seat)) (node : NodeId) (h : HeaderState) (q : List Waiter) (t i : ℕ) (w : Mode) (passed r : ℕ)
+pub reached-row : (hs : Entries) (seats : List (Option Seat)) (node : NodeId) (h : HeaderState) (q : List Waiter) (t i : ℕ) (w : Mode) (passed r : Slots)
     (d : Waiter) → h ≡ header_or_new (header_at hs node) → q ≡ h.queue
     → status_in (txns_of seats t) ≡ Some (Waiting node w) → i < length q → (get_or q i d).0 ≡ t
     → ((u : ℕ) → has_slot passed u ≡ is_among_waiters u (take i q)) → has_slot passed t ≡ false
@@ -140,51 +151,18 @@ reached-row hs seats node h q t i w passed r d is same st low at front out row u
 ages-all : (age : ℕ → ℕ) (n : ℕ) (xs : List ℕ) → length xs ≡ n → ((u : ℕ) → get_or xs u 0 ≡ age u) → xs ≡ map age (range_with_len 0 n)
 ages-all age n xs size ages = fill_by_all age xs n 0 size (λ k low. ages k)
 
-rows-all : (edge : ℕ → ℕ → Bool) (n m : ℕ) (xs : List ℕ) → length xs ≡ n → ((t u : ℕ) → edge t u ≡ true → (t < n) × (u < m)) → ((t : ℕ) → IsRow edge xs t)
-    → xs ≡ map (λ t. bits_of m (edge t)) (range_with_len 0 n)
-rows-all edge n m xs size low right =
-    fill_by_all (λ t. bits_of m (edge t)) xs n 0 size (λ k inside. same_slots _ _ (λ u. right k u ∙ sym (row_edge-bits_of n m edge low k u))
-    ∙ get_or-map-range_with_len (λ t. bits_of m (edge t)) 0 n k k 0 inside (omega arith))
+rows-all : (edge : ℕ → ℕ → Bool) (n : ℕ) (xs : List Bits) → length xs ≡ n → ((t : ℕ) → IsRow edge xs t) → xs ≡ map (λ t. bits_of (edge t)) (range_with_len 0 n)
+rows-all edge n xs size right = fill_by_all (λ t. bits_of (edge t)) xs n no_bits size (λ k low. right k)
 
--- whom somebody waits for is below the limit
-
-blocker-below : (o : Option HeaderState) → ((h : HeaderState) → o ≡ Some h → IsLawfulHeader h) → (w : Mode) (t u : ℕ)
-    → (not (are_compatible w (members_of (header_or_new o) u)) || is_ahead (header_or_new o).queue t u) ≡ true → u < most_slots
-blocker-below None lawful w t u h =
-    or_elim _ _ h (λ k. clash (ap (λ g. are_compatible w (g u)) unused-nobody ∙ NL-compatible w) (not-true _ k)) (λ k. clash k refl)
-blocker-below (Some x) lawful w t u h =
-    or_elim _ _ h
-    (λ k. ⊎_elim (λ low. low) (λ past. clash (ap (are_compatible w) (law.members_below u past) ∙ NL-compatible w) (not-true _ k)) (cases_lt u most_slots))
-    (λ k. law.waiters_below u (ahead_second x.queue t u (sym (ahead_is x.queue t u) ∙ k)))
-  where
-    law : IsLawfulHeader x
-    law = lawful x refl
-
-awaited-below : (hs : Entries) (seats : List (Option Seat)) (epoch : ℕ) → AreHeaders hs → (t u : ℕ) → waits_for (shown hs seats epoch) t u ≡ true → u < most_slots
-awaited-below hs seats epoch law t u h =
-    let st = step_is (shown hs seats epoch) t u h in let n = st.0 in blocker-below (header_at hs n) (law.lawful n) st.1 t u st.2.blocked
-
-board-is : (b : Board) (epoch : ℕ) (ages rows : List ℕ) → b.epoch ≡ epoch → b.ages ≡ ages → b.rows ≡ rows
+board-is : (b : Board) (epoch : ℕ) (ages : List ℕ) (rows : List Bits) → b.epoch ≡ epoch → b.ages ≡ ages → b.rows ≡ rows
     → b ≡ record { epoch = epoch; ages = ages; rows = rows }
 board-is b epoch ages rows e a r = λ j. record { epoch = e j; ages = a j; rows = r j }
 
 -- each age and each row is right
-pub board-all : (hs : Entries) (seats : List (Option Seat)) (epoch : ℕ) (b : Board) → AreHeaders hs → length seats ≤ most_slots → b.epoch ≡ epoch
-    → length b.ages ≡ most_slots → length b.rows ≡ most_slots → ((u : ℕ) → get_or b.ages u 0 ≡ age_at seats u) → ((t : ℕ) → IsRow (waits_for (shown hs seats 0)) b.rows t)
-    → b ≡ board_of (shown hs seats epoch)
-board-all hs seats epoch b law few at ages_len rows_len ages rows =
-    board-is b _ _ _ at (ages-all (age_at seats) most_slots b.ages ages_len ages)
-    (rows-all (waits_for s) most_slots most_slots b.rows rows_len (λ t u w. (taken t u w, awaited-below hs seats 0 law t u w)) rows)
-  where
-    s : State
-    s = shown hs seats 0
-
-    past : (t : ℕ) → length seats ≤ t → txns_of seats t ≡ None
-    past t k = ap txn_in (slice_get_past seats t k)
-
-    taken : (t u : ℕ) → waits_for s t u ≡ true → t < most_slots
-    taken t u w = ⊎_elim (λ below. omega (arith, few, below))
-        (λ k. clash w (idle_no_step s t (λ n m e. none_some (sym (ap status_in (past t k)) ∙ e)) u)) (cases_lt t (length seats))
+pub board-all : (hs : Entries) (seats : List (Option Seat)) (epoch : ℕ) (b : Board) → b.epoch ≡ epoch → length b.ages ≡ most_slots → length b.rows ≡ most_slots
+    → ((u : ℕ) → get_or b.ages u 0 ≡ age_at seats u) → ((t : ℕ) → IsRow (waits_for (shown hs seats 0)) b.rows t) → b ≡ board_of (shown hs seats epoch)
+board-all hs seats epoch b at ages_len rows_len ages rows =
+    board-is b _ _ _ at (ages-all (age_at seats) most_slots b.ages ages_len ages) (rows-all (waits_for (shown hs seats 0)) most_slots b.rows rows_len rows)
 
 -- The victim: what is read from the locks is what their state says.
 

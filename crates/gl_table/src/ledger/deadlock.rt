@@ -61,7 +61,7 @@ impl Ledger {
             headers: &self.headers,
             seats: self.seats.as_slice(),
         };
-        Slots::from_bits(on_cycle_in(&waits, slot as usize))
+        on_cycle_in(&waits, slot as usize)
     }
 
     /// A slot that waits: its name, what it waits for, and for whom of these slots.

@@ -9,7 +9,7 @@ ghost use Rattle.gl_graph.specs.Graph.{parents_of};
 ghost use Rattle.gl_graph.specs.View.{graph_of};
 ghost use Rattle.gl_header.specs.Header.{fits, front, holds, is_among_waiters, without_waiter};
 ghost use Rattle.gl_header.specs.State.{slot_limit};
-ghost use Rattle.gl_waits.specs.Sets.{has_slot};
+ghost use Rattle.gl_slots.specs.Slots.{has_slot};
 ghost use Rattle.gl_model.specs.declared.answers.Notice.TheVariants as notice;
 ghost use Rattle.gl_model.specs.Calls.{moved_to, stays};
 ghost use Rattle.gl_header.specs.Headers.{held_of, members_at, queue_of, with_waiters};
@@ -30,8 +30,7 @@ use gl_graph::Graph;
 use gl_listed::LockList;
 use gl_model::{Notice, Told};
 use gl_modes::{Mode, NodeId};
-use gl_slots::Slot;
-use gl_waits::set::{take_lowest, with};
+use gl_slots::{Slot, Slots};
 
 /// The parents of a node, of which there are at most 8. They are kept apart from the graph, and so
 /// outlive a change of it.
@@ -131,28 +130,26 @@ impl Ledger {
             (λ u. notice.Moved) told.old.items told.new.items }
     {
         let mut strays = self.strays(graph, node);
-        while strays != 0 {
-            let (slot, rest) = take_lowest(strays);
-            strays = rest;
-            self.turn_one_away(slot as Slot, node, told);
+        while let Some(slot) = strays.take_lowest() {
+            self.turn_one_away(slot, node, told);
         }
     }
 
     /// The slots that wait on a node for a mode that does not meet the rule of the graph.
-    fn strays(&self, graph: &Graph, node: NodeId) -> u128
+    fn strays(&self, graph: &Graph, node: NodeId) -> Slots
         requires sound { AreSound self.now }
         requires orderly { IsOrderly (state_in graph.now self.now) }
         requires agree { (u : ℕ) → Agrees (state_in graph.now self.now) self.now.lists.items u }
         ensures { (u : ℕ) → has_slot result u ≡ is_among_waiters u (filter (λ w. not (stays (state_in graph.now self.now) (parents_of (graph_of graph.now) node) w)) (queue_of self.now.headers.entries node)) }
     {
         let Some(header) = self.headers.get(node) else {
-            return 0;
+            return Slots::empty();
         };
-        let mut strays = 0;
+        let mut strays = Slots::empty();
         for &(slot, wanted) in header.queue() {
             let list = &self.lists[slot as usize];
             if !is_allowed(list, graph.parents(node), wanted) {
-                strays = with(strays, slot as usize);
+                strays.insert(slot);
             }
         }
         strays

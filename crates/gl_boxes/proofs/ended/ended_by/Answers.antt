@@ -9,8 +9,8 @@ use Rattle.gl_boxes.proofs.Notices.{slot_below}
 use Rattle.gl_boxes.proofs.Waking.{wakes_ended}
 use Rattle.gl_boxes.proofs.ended.ended_by.Goals as goal
 
-pub with-slots-requires : goal.with-slots-requires
-with-slots-requires c = slot_below most_slots c.loop-txn.txn-index c.args.told.now _ c.requires (omega arith)
+pub insert-requires : goal.insert-requires
+insert-requires c = slot_below most_slots c.loop-txn.txn-index c.args.told.now _ c.requires (omega arith)
 
 pub returns-clause-all : goal.returns-clause-all
 returns-clause-all c =

@@ -1,7 +1,7 @@
 use Rattle.gl_slots.specs.Limit.{most_slots}
 use Rattle.std.specs.Prelude.{◌≡◌, ◌<◌, ◌||◌, ◌==◌, ℕ, take}
 use Rattle.std.specs.List.{list_any}
-use Rattle.gl_waits.specs.Sets.{has_slot}
+use Rattle.gl_slots.specs.Slots.{has_slot}
 use Rattle.gl_boxes.specs.Served.{names_slot}
 use Rattle.gl_boxes.proofs.ended.ended_by.Given as goal
 

@@ -1,4 +1,5 @@
 use Rattle.gl_slots.specs.Limit.{most_slots}
+use Rattle.gl_slots.proofs.SlotLemmas.{bits_of-same}
 use Rattle.gl_table.proofs.Words.{◌<◌, ◌==◌, ◌||◌, ◌∙◌, ◌≡◌, ap, arith, Bool, get_or, header_or_new, length, NL, refl, shown, subst, sym, waits_for, ℕ}
 use Rattle.std.proofs.lemmas.List.{length-set}
 use Rattle.gl_table.proofs.inside.Boards.{AreRowsShown, reached-row, rows-shown}
@@ -26,12 +27,12 @@ loop-slot-preserved c =
     let both : (length c.match-wanted_on.rows ≡ length c.args.rows.now)
     × AreRowsShown edge c.args.rows.now c.match-wanted_on.rows = elim c.match-wanted_on.branch [
       | in-Some-wanted_on+then-not-contains w ↦ (
-        ap length w.rows-is ∙ length-set c.loop-slot.rows t w.row_behind.result ∙ so.len,
-        subst (AreRowsShown edge c.args.rows.now) (sym w.rows-is) (rows-shown edge t w.row_behind.result c.args.rows.now c.loop-slot.rows
+        ap length w.rows-is ∙ length-set c.loop-slot.rows t w.bits.result ∙ so.len,
+        subst (AreRowsShown edge c.args.rows.now) (sym w.rows-is) (rows-shown edge t w.bits.result c.args.rows.now c.loop-slot.rows
             (omega (arith, low, so.len, c.told-rows))
-            (reached-row c.args.headers.now.entries c.args.seats.now c.args.node h q t i w.in-Some-wanted_on.wanted c.loop-slot.passed.bits w.row_behind.result
+            (w.bits.ensures.is ∙ bits_of-same _ _ (λ u low. reached-row c.args.headers.now.entries c.args.seats.now c.args.node h q t i w.in-Some-wanted_on.wanted c.loop-slot.passed w.row_behind.result
             (0, NL) (ap header_or_new c.in-Some.ensures) c.queue-slot-items.ensures w.in-Some-wanted_on.ensures c.loop-slot-test.true refl so.passed
-            (sym w.contains.ensures ∙ w.if-not-contains.true) w.row_behind.ensures) so.rows),
+            (sym w.contains.ensures ∙ w.if-not-contains.true) w.row_behind.ensures u)) so.rows),
       )
       | in-Some-wanted_on+else-not-contains w ↦ (ap length w.rows-is ∙ so.len, subst (AreRowsShown edge c.args.rows.now) (sym w.rows-is) so.rows)
       | in_default-wanted_on w ↦ (ap length w.rows-is ∙ so.len, subst (AreRowsShown edge c.args.rows.now) (sym w.rows-is) so.rows)

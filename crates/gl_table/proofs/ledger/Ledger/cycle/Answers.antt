@@ -1,9 +1,8 @@
-use Rattle.gl_table.proofs.Words.{◌↔◌, IsOnCycleOf, IsTrue, List, Option, Seat, shown, subst, sym, waits_for, ℕ}
-use Rattle.gl_waits.specs.Sets.{has_slot}
+use Rattle.gl_table.proofs.Words.{◌↔◌, IsOnCycleOf, IsTrue, List, Option, Seat, shown, subst, waits_for, ℕ}
+use Rattle.gl_slots.specs.Slots.{has_slot}
 use Rattle.gl_table.proofs.ledger.Ledger.cycle.Goals as goal
 
 pub returns : goal.returns
 returns c = λ g u.
-    subst (λ (set : ℕ). IsTrue (has_slot set u) ↔ IsOnCycleOf (waits_for (shown c.args.self.now.headers.entries c.args.self.now.seats.items 0)) c.args.slot u)
-    (sym c.from_bits.ensures) (subst (λ (seats : List (Option Seat)). IsTrue (has_slot c.on_cycle_in.result u)
-    ↔ IsOnCycleOf (waits_for (shown c.args.self.now.headers.entries seats 0)) c.args.slot u) c.as_slice.ensures (c.on_cycle_in.ensures u))
+    subst (λ (seats : List (Option Seat)). IsTrue (has_slot c.on_cycle_in.result u) ↔ IsOnCycleOf (waits_for (shown c.args.self.now.headers.entries seats 0)) c.args.slot u)
+    c.as_slice.ensures (c.on_cycle_in.ensures u)

@@ -14,8 +14,8 @@ index-list-requires c =
     (among_at _ (queue_of c.args.self.now.headers.entries c.args.node) c.loop-slot.slot-index (0, NL) queue c.loop-slot-test.true) in
     omega (arith, c.requires.sound.lists, c.args.self.now.lists.ok.0)
 
-pub with-strays-requires : goal.with-strays-requires
-with-strays-requires c =
+pub insert-requires : goal.insert-requires
+insert-requires c =
     let s : State = state_in c.args.graph.now c.args.self.now in
     let queue = c.queue-slot-items.ensures ∙ ap (λ (h : HeaderState). h.queue) (ap header_or_new c.in-Some.ensures) in
     let low = waiters_below s c.requires.orderly c.args.node _
@@ -40,8 +40,8 @@ loop-slot-preserved c =
     elim c.if-not-is_allowed.branch [
       | then-not-is_allowed b ↦
           subst (IsSetOf f (take (i + 1) q)) (sym b.strays-is)
-          (set-with f q i (0, NL) w c.loop-slot-test.true refl c.loop-slot.strays c.loop-slot.invariant b.with-strays.result
-          (ap not (sym (b.if-not-is_allowed.ensures ∙ allowed))) b.with-strays.ensures)
+          (set-with f q i (0, NL) w c.loop-slot-test.true refl c.loop-slot.strays c.loop-slot.invariant b.insert.new.self
+          (ap not (sym (b.if-not-is_allowed.ensures ∙ allowed))) b.insert.ensures)
       | else-not-is_allowed b ↦
           subst (IsSetOf f (take (i + 1) q)) (sym b.strays-is) (set-without f q i (0, NL) w c.loop-slot-test.true refl c.loop-slot.strays c.loop-slot.invariant
           (ap not (sym (b.if-not-is_allowed.ensures ∙ allowed))))

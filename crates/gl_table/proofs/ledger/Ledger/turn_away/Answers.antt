@@ -1,5 +1,4 @@
-use Rattle.gl_table.proofs.Words.{◌∙◌, ◌≡◌, ap, AreKept, books_of, Bool, false, graph_of, has_slot-zero, parents_of, state_in, stays, Waiter, ℕ}
-use Rattle.gl_waits.specs.Sets.{has_slot}
+use Rattle.gl_table.proofs.Words.{◌∙◌, ◌≡◌, ap, AreKept, books_of, Bool, false, graph_of, parents_of, state_in, stays, Waiter, ℕ}
 use Rattle.gl_table.proofs.inside.Slots.{none_if}
 use Rattle.gl_table.proofs.inside.TurnedAway.{turned_agrees, turned_below, turned_front, turned_over, turned_room, turned_untold, turned_waits, turning_begins}
 use Rattle.gl_table.proofs.inside.TurnedAway.{turning_ends, turning_one}
@@ -13,67 +12,63 @@ kept c = record { few = c.requires.sound.few; len = c.requires.sound.lists; by_s
 abbrev allowed : After-strays-strays → Waiter → Bool
 allowed c = stays (state_in c.args.graph.now c.args.self.now) (parents_of (graph_of c.args.graph.now) c.args.node)
 
-pub loop-strays-init : goal.loop-strays-init
-loop-strays-init c = let p = (goal.at.loop-strays-init c).After-strays-strays in
+pub loop-slot-init : goal.loop-slot-init
+loop-slot-init c = let p = (goal.at.loop-slot-init c).After-strays-strays in
     turning_begins (graph_of c.args.graph.now) c.args.self.now c.requires.orderly c.args.node (allowed p) c.args.told.now.items (kept p) _
     c.strays-strays.ensures
 
 pub turn_one_away-requires-clause-kept : goal.turn_one_away-requires-clause-kept
-turn_one_away-requires-clause-kept c = kept_still c.loop-strays.invariant.over (kept (goal.at.turn_one_away-requires-clause-kept c).After-strays-strays)
+turn_one_away-requires-clause-kept c = kept_still c.loop-slot.invariant.over (kept (goal.at.turn_one_away-requires-clause-kept c).After-strays-strays)
 
 pub turn_one_away-requires-clause-seated : goal.turn_one_away-requires-clause-seated
 turn_one_away-requires-clause-seated c = let p = (goal.at.turn_one_away-requires-clause-seated c).After-strays-strays in
     turned_below (graph_of c.args.graph.now) c.args.self.now c.requires.orderly c.args.node (allowed p) c.args.told.now.items (kept p)
-    c.loop-strays.invariant _ c.take_lowest-slot.ensures.member
+    c.loop-slot.invariant _ c.in-Some.ensures.some.member
 
 pub turn_one_away-requires-clause-waits : goal.turn_one_away-requires-clause-waits
 turn_one_away-requires-clause-waits c = let p = (goal.at.turn_one_away-requires-clause-waits c).After-strays-strays in
     turned_waits (graph_of c.args.graph.now) c.args.self.now c.requires.orderly c.args.node (allowed p) c.args.told.now.items (kept p)
-    c.loop-strays.invariant _ c.take_lowest-slot.ensures.member
+    c.loop-slot.invariant _ c.in-Some.ensures.some.member
 
 pub turn_one_away-requires-clause-front_waits : goal.turn_one_away-requires-clause-front_waits
 turn_one_away-requires-clause-front_waits c = let p = (goal.at.turn_one_away-requires-clause-front_waits c).After-strays-strays in
     turned_front (graph_of c.args.graph.now) c.args.self.now c.requires.orderly c.args.node (allowed p) c.args.told.now.items (kept p)
-    c.loop-strays.invariant _ c.take_lowest-slot.ensures.member c.requires.stuck
+    c.loop-slot.invariant _ c.in-Some.ensures.some.member c.requires.stuck
 
 pub turn_one_away-requires-clause-room : goal.turn_one_away-requires-clause-room
 turn_one_away-requires-clause-room c = let p = (goal.at.turn_one_away-requires-clause-room c).After-strays-strays in
     turned_room (graph_of c.args.graph.now) c.args.self.now c.requires.orderly c.args.node (allowed p) c.args.told.now.items (kept p)
-    c.loop-strays.invariant _ c.take_lowest-slot.ensures.member (c.requires.agree _)
+    c.loop-slot.invariant _ c.in-Some.ensures.some.member (c.requires.agree _)
 
 pub turn_one_away-requires-clause-untold : goal.turn_one_away-requires-clause-untold
 turn_one_away-requires-clause-untold c = let p = (goal.at.turn_one_away-requires-clause-untold c).After-strays-strays in
     turned_untold (graph_of c.args.graph.now) c.args.self.now c.requires.orderly c.args.node (allowed p) c.args.told.now.items (kept p)
-    c.loop-strays.invariant _ c.take_lowest-slot.ensures.member c.requires.tell.untold
+    c.loop-slot.invariant _ c.in-Some.ensures.some.member c.requires.tell.untold
 
-pub loop-strays-preserved : goal.loop-strays-preserved
-loop-strays-preserved c = let p = (goal.at.loop-strays-preserved c).After-strays-strays in
+pub loop-slot-preserved : goal.loop-slot-preserved
+loop-slot-preserved c = let p = (goal.at.loop-slot-preserved c).After-strays-strays in
     turning_one (graph_of c.args.graph.now) c.args.self.now c.requires.orderly c.args.node (allowed p) c.args.told.now.items (kept p)
-    c.loop-strays.invariant _ c.take_lowest-slot.ensures.member _ c.take_lowest-slot.ensures.left
+    c.loop-slot.invariant _ c.in-Some.ensures.some.member _ c.in-Some.ensures.left
     c.turn_one_away.ensures.held c.turn_one_away.ensures.queue c.turn_one_away.ensures.ends
 
--- in the end no stray is left
-none : (set : ℕ) → set ≡ 0 → (u : ℕ) → has_slot set u ≡ false
-none set is u = ap (λ k. has_slot k u) is ∙ has_slot-zero u
-
 pub returns-clause-sound : goal.returns-clause-sound
-returns-clause-sound c = let k = kept_still c.loop-strays.invariant.over (kept (goal.at.returns-clause-sound c).After-strays-strays) in
+returns-clause-sound c = let k = kept_still c.loop-slot.invariant.over (kept (goal.at.returns-clause-sound c).After-strays-strays) in
     record { few = k.few; lists = k.len }
 
 pub returns-clause-state : goal.returns-clause-state
 returns-clause-state c = let p = (goal.at.returns-clause-state c).After-strays-strays in
     turning_ends (graph_of c.args.graph.now) c.args.self.now c.requires.orderly c.args.node (allowed p) c.args.told.now.items (kept p)
-    c.loop-strays.invariant (none _ c.loop-strays-test.false)
+    c.loop-slot.invariant c.in_default.ensures.none
 
 pub returns-clause-agree : goal.returns-clause-agree
 returns-clause-agree c = let p = (goal.at.returns-clause-agree c).After-strays-strays in
     λ u. turned_agrees (graph_of c.args.graph.now) c.args.self.now c.requires.orderly c.args.node (allowed p) c.args.told.now.items (kept p)
-    c.loop-strays.invariant (none _ c.loop-strays-test.false) c.requires.newcomers u (c.requires.agree u)
+    c.loop-slot.invariant c.in_default.ensures.none c.requires.newcomers u (c.requires.agree u)
 
 pub returns-clause-counts : goal.returns-clause-counts
-returns-clause-counts c = λ u q. c.loop-strays.invariant.over.lists.counts u q ∙ none_if _ _
+returns-clause-counts c = λ u q. c.loop-slot.invariant.over.lists.counts u q ∙ none_if _ _
 
 pub returns-clause-tells : goal.returns-clause-tells
 returns-clause-tells c = let p = (goal.at.returns-clause-tells c).After-strays-strays in
     (turned_over (graph_of c.args.graph.now) c.args.self.now c.requires.orderly c.args.node (allowed p) c.args.told.now.items (kept p)
-    c.loop-strays.invariant (none _ c.loop-strays-test.false)).tells
+    c.loop-slot.invariant c.in_default.ensures.none).tells

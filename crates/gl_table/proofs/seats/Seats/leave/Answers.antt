@@ -16,8 +16,8 @@ invariant_of-self c =
     record {
       few = grind (arith, common_steps, gets, nat_tests, c.self.invariant.few);
       free = λ u. grind (arith, common_steps, gets, nat_tests, c.insert.ensures u, c.self.invariant.free u, c.requires);
-      living = λ u. c.remove.ensures u ∙ ap (λ b. b && not (u == c.args.slot)) (c.self.invariant.living u)
+      living = λ u. c.remove.ensures.left u ∙ ap (λ b. b && not (u == c.args.slot)) (c.self.invariant.living u)
           ∙ without (u == c.args.slot) _ ∙ sym (lives-set c.self.inside.list.items c.args.slot None lt u);
-      waiting = λ u. c.remove-2.ensures u ∙ ap (λ b. b && not (u == c.args.slot)) (c.self.invariant.waiting u)
+      waiting = λ u. c.remove-2.ensures.left u ∙ ap (λ b. b && not (u == c.args.slot)) (c.self.invariant.waiting u)
           ∙ without (u == c.args.slot) _ ∙ sym (waits-set c.self.inside.list.items c.args.slot None lt u);
     }

@@ -15,7 +15,7 @@ invariant_of-self c =
     let lt : c.args.slot < length c.self.inside.list.items = grind (arith, common_steps, c.requires, c.self.view_is) in
     record {
       few = grind (arith, common_steps, gets, nat_tests, c.self.invariant.few);
-      free = λ u. grind (arith, common_steps, gets, nat_tests, c.remove.ensures u, c.self.invariant.free u, c.requires);
+      free = λ u. grind (arith, common_steps, gets, nat_tests, c.remove.ensures.left u, c.self.invariant.free u, c.requires);
       living = λ u. c.insert.ensures u ∙ ap (λ b. b || (u == c.args.slot)) (c.self.invariant.living u)
           ∙ with_one (u == c.args.slot) _ ∙ sym (lives-set c.self.inside.list.items c.args.slot (Some c.args.seat) lt u);
       waiting = λ u. c.note.ensures u ∙ ap (λ b. if u == c.args.slot then is_wait (Some c.args.seat.status) else b) (c.self.invariant.waiting u)
