@@ -1,5 +1,5 @@
 -- A table where nobody waits, and its board: for when watchers need not be told.
-use Rattle.std.specs.Prelude.{◌≡◌, ◌||◌, Bool, true, false, Option, Some, None}
+use Rattle.std.specs.Prelude.{◌≡◌, ◌||◌, ℕ, Bool, true, false, Option, Some, None}
 use Rattle.std.proofs.Common.{refl, sym, ap, ◌∙◌}
 use mathlib.Core.Bool.{true≢false}
 use Rattle.gl_model.specs.declared.txn.Status.{Status}

@@ -12,17 +12,17 @@ ghost use Rattle.gl_boxes.specs.declared.grant.Grant.{Grant};
 use crate::grant::{Grant, Stop};
 use gl_catalog::{Command, Manager};
 use gl_modes::{Mode, NodeId, Refusal, covers};
-use gl_slots::{SLOTS, Slot};
+use gl_slots::SLOTS;
 use gl_table::{Notice, TxnId};
 use std::marker::Model;
 
 /// A slot's last notice.
-pub type Notified = Option<(TxnId, Notice)>;
+pub type Slot = Option<(TxnId, Notice)>;
 
 /// A box for each slot, where its last notice lies. To a contract it is the list of what they have.
 #[derive(Drop)]
 pub struct Boxes {
-    slots: [Notified; SLOTS],
+    slots: [Slot; SLOTS],
 }
 
 impl Model for Boxes {
@@ -99,7 +99,7 @@ impl Boxes {
 }
 
 /// Puts each notice into its slot's box.
-fn deliver(boxes: &mut [Notified; SLOTS], told: &[(TxnId, Notice)])
+fn deliver(boxes: &mut [Slot; SLOTS], told: &[(TxnId, Notice)])
     requires { RisingTo 0 told.now most_slots }
     ensures told { Delivers boxes.old told.now boxes.new }
     ensures none { told.now ≡ [] → boxes.new ≡ boxes.old }
@@ -110,7 +110,7 @@ fn deliver(boxes: &mut [Notified; SLOTS], told: &[(TxnId, Notice)])
 }
 
 /// Empties the box of a slot, where there is one.
-fn empty_box(boxes: &mut [Notified; SLOTS], slot: Slot)
+fn empty_box(boxes: &mut [Slot; SLOTS], slot: gl_slots::Slot)
     ensures { boxes.new ≡ slice_set boxes.old slot None }
 {
     if (slot as usize) < SLOTS {
@@ -119,7 +119,7 @@ fn empty_box(boxes: &mut [Notified; SLOTS], slot: Slot)
 }
 
 /// What the box of a transaction's slot has for it.
-fn notice_for(boxes: &[Notified; SLOTS], txn: TxnId) -> Option<Notice>
+fn notice_for(boxes: &[Slot; SLOTS], txn: TxnId) -> Option<Notice>
     ensures { result ≡ named txn (box_at boxes.now txn.slot) }
 {
     match boxes.get(txn.slot as usize) {

@@ -1,4 +1,5 @@
 -- What a path is to those who are told, who wait and who watch. For Guarded.serve_path.
+use Rattle.gl_slots.specs.declared.slots.Slots.{Slots}
 use Rattle.gl_slots.specs.Limit.{most_slots}
 use Rattle.std.specs.Prelude.{◌≡◌, ◌⊎◌, ℕ, zero, suc, ◌+◌, ◌<◌, ◌≤◌, ◌==◌, ◌||◌, not, Bool, true, false, [], ◌∷◌, length, OnErr, Result, Ok, Err}
 use Rattle.std.specs.List.{list_any}
@@ -8,7 +9,7 @@ use mathlib.Core.Bool.{true≢false}
 use Rattle.gl_modes.proofs.Words.{and_both, split}
 use Rattle.gl_modes.specs.declared.mode.Mode.{Mode}
 use Rattle.gl_modes.specs.declared.node.NodeId.{NodeId}
-use Rattle.gl_waits.specs.Sets.{has_slot}
+use Rattle.gl_slots.specs.Slots.{has_slot}
 use Rattle.gl_waits.specs.declared.victims.Victims.{Victims}
 use Rattle.gl_model.specs.declared.answers.Detect.{Detect}
 use Rattle.gl_model.specs.declared.answers.Detect.TheVariants.{AtBlock, ByWatcher}
@@ -147,7 +148,7 @@ module _ (t : TxnId) (ask last : Ask) (r : Says) (m' : ManagerView) where
       (nobody_waits_on (state_of m) (state_of path.2) (lock_of t path.0) path.1.0 path.1.1 idle (λ is. absurd (cc (is, yes.1))) path.3.step) goes path.5
 
   -- whose wait it ends is told by its last ask
-  pub path_ended : (k : ℕ) (m : ManagerView) (slots : ℕ) → ((u : ℕ) → u < most_slots → has_slot slots u ≡ (false || list_any (λ x. x.0.slot == u) r.1))
+  pub path_ended : (k : ℕ) (m : ManagerView) (slots : Slots) → ((u : ℕ) → u < most_slots → has_slot slots u ≡ (false || list_any (λ x. x.0.slot == u) r.1))
       → IsPath k t ask m last r m' → HasEnded (state_of m) (state_of m') slots
   path_ended zero m slots is path law u n below was gone =
       wakes_ended (lock_of t last) r.1 slots is (state_of m) (state_of m') r.0 path.0.step law u n below was gone
@@ -212,7 +213,7 @@ module _ (t : TxnId) (ask : Ask) (m m' : ManagerView) (told : Told) where
         let both = neither waited (ends_waiting result) e in
         path_quiet t ask path.1 says m' path.0 m (quiet both.0) (none_waiting result both.1) path.2
 
-    pub ended_told : (slots : ℕ) → ((u : ℕ) → u < most_slots → has_slot slots u ≡ (false || list_any (λ x. x.0.slot == u) told))
+    pub ended_told : (slots : Slots) → ((u : ℕ) → u < most_slots → has_slot slots u ≡ (false || list_any (λ x. x.0.slot == u) told))
         → HasEnded (state_of m) (state_of m') slots
     ended_told slots is =
         path_ended t ask path.1 says m' path.0 m slots

@@ -1,4 +1,5 @@
 -- What a call about rows is to those who are told, who wait and who watch. For Guarded.serve_row.
+use Rattle.gl_slots.specs.declared.slots.Slots.{Slots}
 use Rattle.gl_slots.specs.Limit.{most_slots}
 use Rattle.std.specs.Prelude.{◌≡◌, ◌⊎◌, ℕ, ◌<◌, ◌≤◌, ◌==◌, ◌||◌, ◌&&◌, not, Bool, true, false, List, [], Option, Some, None, Result, Ok, Err}
 use Rattle.std.specs.List.{list_any}
@@ -7,7 +8,7 @@ use mathlib.Core.Bool.{true≢false}
 use denote.Bor.{Bor}
 use Rattle.gl_modes.specs.declared.node.NodeId.{NodeId}
 use Rattle.gl_modes.specs.declared.refusal.Refusal.{Refusal}
-use Rattle.gl_waits.specs.Sets.{has_slot}
+use Rattle.gl_slots.specs.Slots.{has_slot}
 use Rattle.gl_model.specs.declared.answers.Locked.{Locked}
 use Rattle.gl_model.specs.declared.answers.Locked.TheVariants as locked
 use Rattle.gl_model.specs.declared.txn.TxnId.{TxnId}
@@ -221,7 +222,7 @@ module _ (m : ManagerView) (c : Command) (told : Told) (m' : ManagerView) where
         (nobody_waits_on h.ahead h.behind c done.answer told (leaves_idle (state_of m) h.ahead left_before (quiet both.0))
         (λ is. true≢false (sym (so ∙ ap is_waited_for done.is ∙ ap leaves_waiting is) ∙ both.1)) h.step)
 
-    ends : (slots : ℕ) → ((u : ℕ) → u < most_slots → has_slot slots u ≡ (names_slot c u || list_any (λ x. x.0.slot == u) told))
+    ends : (slots : Slots) → ((u : ℕ) → u < most_slots → has_slot slots u ≡ (names_slot c u || list_any (λ x. x.0.slot == u) told))
         → HasEnded (state_of m) (state_of m') slots
     ends slots is law u n below was gone =
         wakes_ended c told slots is h.ahead h.behind done.answer h.step (upkeep_law (state_of m) h.ahead law h.before) u n below
@@ -249,7 +250,7 @@ module _ (g : RegistryView) (c : RowCall) (a : RowAnswer) (told : Told) (v : Reg
       → NobodyWaits (state_of v.manager)
   row_quiet = stays_quiet g.manager command told v.manager (answer_in a) done
 
-  row_ends : (slots : ℕ) → ((u : ℕ) → u < most_slots → has_slot slots u ≡ (names_slot command u || list_any (λ x. x.0.slot == u) told))
+  row_ends : (slots : Slots) → ((u : ℕ) → u < most_slots → has_slot slots u ≡ (names_slot command u || list_any (λ x. x.0.slot == u) told))
       → HasEnded (state_of g.manager) (state_of v.manager) slots
   row_ends = ends g.manager command told v.manager (answer_in a) done
 
@@ -272,7 +273,7 @@ row_none g c a told v applies own so quiet =
     }
 
 -- One that came to something. Its notices went by the command that names no node.
-pub row_some : (g after : GuardedView) (c : RowCall) (a : RowAnswer) (told : Told) (v : RegistryView) (boxes : List Slot) (ended : ℕ)
+pub row_some : (g after : GuardedView) (c : RowCall) (a : RowAnswer) (told : Told) (v : RegistryView) (boxes : List Slot) (ended : Slots)
     → AppliesCall (registry_in g) c a told v → CarriesOut g.manager (own_command (naming c g.rows v.rows) c) (answer_in a) told v.manager
     → comes_to_nothing (answer_in a) ≡ false
     → ((mid : List Slot) × Delivers g.boxes told mid × (boxes ≡ emptied (own_command unnamed c) mid))

@@ -1,4 +1,5 @@
 -- What a command does, put together: of one that is not accepted, and of one that is; and what a path does.
+use Rattle.gl_slots.specs.declared.slots.Slots.{Slots}
 use Rattle.std.specs.Prelude.{◌≡◌, ℕ, ◌<◌, ◌||◌, Bool, true, false, List, [], Option, Some, None, Result}
 use Rattle.std.proofs.Common.{refl, sym, ap, subst, ◌∙◌, inl, arith}
 use mathlib.Core.Bool.{true≢false}
@@ -83,7 +84,7 @@ serves_not g c a told v applies not_so none same rows quiet = record {
 }
 
 -- an accepted command
-pub serves_yes : (g after : GuardedView) (c : Command) (a : Answer) (told : Told) (v : RegistryView) (boxes : List Slot) (ended : ℕ)
+pub serves_yes : (g after : GuardedView) (c : Command) (a : Answer) (told : Told) (v : RegistryView) (boxes : List Slot) (ended : Slots)
     → Applies g.manager c a told v.manager → accepts c a ≡ true → v.rows ≡ g.rows
     → ((mid : List Slot) × Delivers g.boxes told mid × (boxes ≡ cleared c a mid))
     → (after.manager ≡ v.manager) × (after.boxes ≡ boxes) × (after.ended ≡ ended) × (after.rows ≡ v.rows)
@@ -118,7 +119,7 @@ path_none g t ask result told v way same none quiet =
 
 -- a path of which some was
 pub path_some : (g after : GuardedView) (t : TxnId) (ask : Ask) (result : Result Reached Refusal) (told : Told) (v : RegistryView)
-    (boxes : List Slot) (ended : ℕ) → LocksWay t ask (registry_in g) result told v → g.manager.accepted < v.manager.accepted
+    (boxes : List Slot) (ended : Slots) → LocksWay t ask (registry_in g) result told v → g.manager.accepted < v.manager.accepted
     → ((mid : List Slot) × Delivers g.boxes told mid × (boxes ≡ emptied (lock_of t ask) mid))
     → (after.manager ≡ v.manager) × (after.boxes ≡ boxes) × (after.ended ≡ ended) × (after.rows ≡ v.rows)
     → Wakes (lock_of t ask) g.manager told v.manager ended

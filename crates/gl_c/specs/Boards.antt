@@ -3,7 +3,7 @@ use Rattle.gl_slots.specs.Limit.{most_slots}
 use Rattle.std.specs.Prelude.{◌≡◌, ℕ, ◌+◌, ◌*◌, ◌/◌, ◌%◌, ◌^◌, ◌<◌, ◌≤◌, ◌↔◌, IsTrue, Option, Some, None, map}
 use Rattle.gl_waits.specs.declared.board.Board.{Board as TheBoard}
 use Rattle.gl_waits.specs.Boards.{age_in, board_edge}
-use Rattle.gl_waits.specs.Sets.{has_slot}
+use Rattle.gl_slots.specs.Slots.{Bits, HasNoBit, has_bit}
 use Rattle.gl_waits.specs.Waits.{IsLowestYoungest, IsOnCycle, IsOnCycleOf}
 use Rattle.gl_table.specs.Table.{board_of}
 use Rattle.gl_catalog.specs.Manager.{state_of}
@@ -17,10 +17,10 @@ use Rattle.gl_c.specs.Numbers.{bad_number, done, no_manager, no_place}
 use Rattle.gl_c.specs.Replies.{count_reply, status_reply}
 
 -- a set of slots as one number, and back
-abbrev pub set_of : Slots → ℕ
+abbrev pub set_of : Slots → Bits
 set_of s = 2 ^ 64 * s.high + s.low
 
-abbrev pub slots_of : ℕ → Slots
+abbrev pub slots_of : Bits → Slots
 slots_of n = record { low = n % 2 ^ 64; high = n / 2 ^ 64 }
 
 -- what a board in C's memory says
@@ -34,18 +34,18 @@ Shows (Some g) r board board' s' = (r ≡ status_reply done) × (board_in board'
 
 -- the slots on a cycle with a slot of the board; a greater number is refused
 pub record FindsCycle (b : Board) (slot : ℕ) (f : Found) : Type 0 where
-  pub known : slot < most_slots → (f.status ≡ done) × ((u : ℕ) → IsTrue (has_slot (set_of f.slots) u) ↔ IsOnCycleOf (board_edge (board_in b)) slot u)
+  pub known : slot < most_slots → (f.status ≡ done) × ((u : ℕ) → IsTrue (has_bit (set_of f.slots) u) ↔ IsOnCycleOf (board_edge (board_in b)) slot u)
   pub other : most_slots ≤ slot → (f.status ≡ bad_number) × (set_of f.slots ≡ 0)
 
 -- the slots that are on some cycle
 pub record FindsSuspects (b : Board) (f : Found) : Type 0 where
   pub status : f.status ≡ done
-  pub slots : (s : ℕ) → IsTrue (has_slot (set_of f.slots) s) ↔ IsOnCycle (board_edge (board_in b)) s
+  pub slots : (s : ℕ) → IsTrue (has_bit (set_of f.slots) s) ↔ IsOnCycle (board_edge (board_in b)) s
 
 -- the youngest of a set, if the set has any slot
 abbrev pub Picks : Board → Slots → Option ℕ → Type 0
-Picks b set None = set_of set ≡ 0
-Picks b set (Some slot) = IsLowestYoungest (λ u. IsTrue (has_slot (set_of set) u)) (age_in (board_in b)) slot
+Picks b set None = HasNoBit (set_of set)
+Picks b set (Some slot) = IsLowestYoungest (λ u. IsTrue (has_bit (set_of set) u)) (age_in (board_in b)) slot
 
 -- what C is answered then
 abbrev pub picked_reply : Option ℕ → Reply

@@ -1,6 +1,6 @@
 -- The last deadlock, as C is told.
 use Rattle.std.specs.Prelude.{◌≡◌, ◌≢◌, ◌⊎◌, [], Option, Some, None, length, map, take}
-use Rattle.gl_slots.specs.Slots.{number_of}
+use Rattle.gl_slots.specs.Slots.{bits_of, has_slot}
 use Rattle.gl_model.specs.declared.deadlock.Deadlock.{Deadlock as TheDeadlock}
 use Rattle.gl_model.specs.declared.deadlock.Stuck.{Stuck as TheStuck}
 use Rattle.gl_c.specs.declared.deadlock.Deadlock.{Deadlock}
@@ -15,7 +15,7 @@ use Rattle.gl_c.specs.Replies.{status_reply}
 
 -- one who waits on a cycle
 abbrev pub stuck_of : TheStuck → Stuck
-stuck_of s = record { txn = txn_of s.txn; node = node_of s.node; mode = mode_number s.wanted; waits_for = slots_of (number_of s.waits_for) }
+stuck_of s = record { txn = txn_of s.txn; node = node_of s.node; mode = mode_number s.wanted; waits_for = slots_of (bits_of (has_slot s.waits_for)) }
 
 -- the victim, and in the places up to the count all who were on the cycle, in their order
 pub record Says (d : Deadlock) (e : TheDeadlock) : Type 0 where

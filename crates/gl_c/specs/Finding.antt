@@ -2,7 +2,7 @@
 use Rattle.std.specs.Prelude.{◌≡◌, ℕ, Bool, Option, Some, None}
 use Rattle.gl_modes.specs.declared.refusal.Refusal.{Refusal}
 use Rattle.gl_modes.specs.Refusals.{refusal_number}
-use Rattle.gl_waits.specs.Sets.{has_slot}
+use Rattle.gl_slots.specs.Slots.{has_bit, has_slot}
 use Rattle.gl_model.specs.State.{State}
 use Rattle.gl_catalog.specs.Manager.{state_of}
 use Rattle.gl_c.specs.declared.found.Found.{Found}
@@ -17,11 +17,11 @@ none_found status = record { status = status; slots = slots_of 0 }
 -- a call that asks whose wait the last accepted command may have ended: nothing changes
 abbrev pub FindsEnded : Option GuardedView → Found → Option GuardedView → Type 0
 FindsEnded None f s' = (f ≡ none_found no_manager) × (s' ≡ None)
-FindsEnded (Some g) f s' = (f.status ≡ done) × (set_of f.slots ≡ g.ended) × (s' ≡ Some g)
+FindsEnded (Some g) f s' = (f.status ≡ done) × ((u : ℕ) → has_bit (set_of f.slots) u ≡ has_slot g.ended u) × (s' ≡ Some g)
 
 -- these slots are found, or why they are not
 abbrev pub Finds : Option Refusal → (ℕ → Bool) → Found → Type 0
-Finds None set f = (f.status ≡ done) × ((u : ℕ) → has_slot (set_of f.slots) u ≡ set u)
+Finds None set f = (f.status ≡ done) × ((u : ℕ) → has_bit (set_of f.slots) u ≡ set u)
 Finds (Some r) set f = f ≡ none_found (refusal_number r)
 
 -- a call that asks after slots of a state: nothing changes

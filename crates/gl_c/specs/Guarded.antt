@@ -1,5 +1,6 @@
 -- What a contract sees of all that C's mutex guards.
-use Rattle.std.specs.Prelude.{ℕ, Bool, List, Option}
+use Rattle.std.specs.Prelude.{Bool, List, Option}
+use Rattle.gl_slots.specs.declared.slots.Slots.{Slots}
 use Rattle.gl_catalog.specs.Manager.{ManagerView}
 use Rattle.gl_registry.specs.Rows.{RegistryView, RowsView}
 use Rattle.gl_boxes.specs.Boxes.{Slot}
@@ -10,7 +11,7 @@ use Rattle.gl_boxes.specs.Strip.{Strip}
 pub record GuardedView : Type 0 where
   pub manager : ManagerView
   pub boxes : List Slot
-  pub ended : ℕ
+  pub ended : Slots
   pub shown : Option Strip
   pub waited : Bool
   pub rows : RowsView

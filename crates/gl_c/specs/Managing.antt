@@ -1,4 +1,5 @@
 -- Managers come and go.
+use Rattle.gl_slots.specs.Slots.{no_slots}
 use Rattle.gl_slots.specs.Limit.{most_slots}
 use Rattle.std.specs.Prelude.{◌≡◌, ◌⊎◌, ℕ, Bool, false, ◌&&◌, ◌==◌, Option, Some, None, if◌then◌else◌, nat_lt, replicate}
 use Rattle.gl_modes.specs.declared.node.NodeId.{NodeId}
@@ -27,7 +28,7 @@ made_for nodes s = if nodes == 65536 then s else with_room nodes s
 pub record IsNew (detect : Detect) (victims : Victims) (most nodes : ℕ) (g : GuardedView) : Type 0 where
   pub manager : state_of g.manager ≡ made_for nodes (choosing victims (empty_state detect most))
   pub boxes : g.boxes ≡ replicate most_slots None
-  pub ended : g.ended ≡ 0
+  pub ended : g.ended ≡ no_slots
   pub shown : g.shown ≡ None
   pub fileless : (file : NodeId) → has_rows g.rows file ≡ false
   pub unnamed : (row : Row) → name_of g.rows row ≡ None

@@ -3,7 +3,8 @@ use Rattle.gl_slots.specs.Limit.{most_slots}
 use Rattle.std.specs.Prelude.{◌≡◌, ◌⊎◌, ℕ, ◌<◌, ◌||◌, ◌==◌, Bool, true, false, List, [], ◌∷◌, ◌++◌, Option, Some, None, IfSome}
 use Rattle.std.specs.List.{list_any}
 use Rattle.gl_waits.specs.declared.board.Board.{Board}
-use Rattle.gl_waits.specs.Sets.{has_slot}
+use Rattle.gl_slots.specs.declared.slots.Slots.{Slots}
+use Rattle.gl_slots.specs.Slots.{has_slot}
 use Rattle.gl_table.specs.Table.{board_of}
 use Rattle.gl_model.specs.Tellings.{Told}
 use Rattle.gl_catalog.specs.declared.command.Answer.{Answer}
@@ -39,7 +40,7 @@ HasShown board None after = Unit {0}
 HasShown board (Some before) after = IfSome after (λ s. s.list ≡ before.list ++ board ∷ [])
 
 -- whose wait the command ended is in the set: exactly whom it told, and whom a cancel or an abort names
-pub record Wakes (c : Command) (m : ManagerView) (told : Told) (m' : ManagerView) (ended : ℕ) : Type 0 where
+pub record Wakes (c : Command) (m : ManagerView) (told : Told) (m' : ManagerView) (ended : Slots) : Type 0 where
   pub all : HasEnded (state_of m) (state_of m') ended
   pub slots : (u : ℕ) → u < most_slots → has_slot ended u ≡ (names_slot c u || list_any (λ x. x.0.slot == u) told)
 

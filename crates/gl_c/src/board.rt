@@ -3,10 +3,10 @@
 ghost use Rattle.std.specs.Prelude.{◌≡◌, ◌^◌, ◌<◌, ℕ, get_or};
 ghost use Rattle.gl_c.specs.Boards.{board_in, set_of, slots_of};
 
-use gl_waits::SLOTS;
+use gl_slots::{Bits, NO_BITS, SLOTS};
 
 /// The first number that is not below 64 bits.
-const HALF: u128 = 1 << 64;
+const HALF: Bits = 1 << 64;
 
 /// A set of slots: bit `s` of `low` stands for slot `s`, that of `high` for slot 64 + `s`.
 #[repr(C)]
@@ -17,7 +17,7 @@ pub struct Slots {
 }
 
 impl Slots {
-    pub(crate) fn of(set: u128) -> Slots
+    pub(crate) fn of(set: Bits) -> Slots
         ensures { result ≡ slots_of set }
     {
         Slots {
@@ -26,10 +26,10 @@ impl Slots {
         }
     }
 
-    pub(crate) fn set(self) -> u128
+    pub(crate) fn set(self) -> Bits
         ensures { result ≡ set_of self }
     {
-        HALF * u128::from(self.high) + u128::from(self.low)
+        HALF * Bits::from(self.high) + Bits::from(self.low)
     }
 }
 
@@ -63,7 +63,7 @@ impl Board {
     pub(crate) fn read(&self) -> gl_waits::Board
         ensures { result ≡ board_in self.now }
     {
-        let mut rows = [0; SLOTS];
+        let mut rows = [NO_BITS; SLOTS];
         for slot in 0..SLOTS {
             rows[slot] = self.rows[slot].set();
         }

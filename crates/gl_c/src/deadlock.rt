@@ -9,7 +9,7 @@ use crate::names::{Node, Txn};
 use crate::numbers::{DONE, NO_PLACE, mode_number};
 use crate::reply::Reply;
 use gl_catalog::Manager;
-use gl_waits::SLOTS;
+use gl_slots::SLOTS;
 
 /// One who waits on a cycle.
 #[repr(C)]

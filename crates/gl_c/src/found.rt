@@ -1,6 +1,6 @@
 //! Slots that were asked after.
 
-ghost use Rattle.std.specs.Prelude.{◌≡◌, MatchResult};
+ghost use Rattle.std.specs.Prelude.{◌≡◌, ℕ, MatchResult};
 ghost use Rattle.gl_c.specs.Boards.{set_of};
 ghost use Rattle.gl_graph.specs.Refusals.{first_refusal};
 ghost use Rattle.gl_header.specs.Header.{holds};
@@ -9,13 +9,14 @@ ghost use Rattle.gl_model.specs.State.{members, waits_for};
 ghost use Rattle.gl_catalog.specs.Manager.{state_of};
 ghost use Rattle.gl_c.specs.Finding.{Finds, none_found};
 ghost use Rattle.gl_c.specs.Numbers.{done};
-ghost use Rattle.gl_slots.specs.Slots.{number_of};
+ghost use Rattle.gl_slots.specs.Slots.{has_bit, has_slot};
 ghost use Rattle.gl_modes.specs.Refusals.{refusal_number};
 
 use crate::board::Slots;
 use crate::numbers::DONE;
 use gl_catalog::Manager;
 use gl_modes::{NodeId, Refusal};
+use gl_slots::{Bits, NO_BITS};
 use gl_table::TxnId;
 
 /// Slots that were asked after; none, where the status refuses.
@@ -29,7 +30,7 @@ pub struct Found {
 impl Found {
     /// These slots.
     #[tactic(auto, using(crate::proofs::Halves::set_of_slots))]
-    pub(crate) fn of(set: u128) -> Found
+    pub(crate) fn of(set: Bits) -> Found
         ensures status { result.status ≡ done }
         ensures slots { set_of result.slots ≡ set }
     {
@@ -45,13 +46,13 @@ impl Found {
     {
         Found {
             status,
-            slots: Slots::of(0),
+            slots: Slots::of(NO_BITS),
         }
     }
 
     /// These slots, or why they are not found.
     pub(crate) fn of_result(slots: Result<gl_slots::Slots, Refusal>) -> Found
-        ensures { MatchResult slots (λ s. (result.status ≡ done) × (set_of result.slots ≡ number_of s)) (λ refusal. result ≡ none_found (refusal_number refusal)) }
+        ensures { MatchResult slots (λ s. (result.status ≡ done) × ((u : ℕ) → has_bit (set_of result.slots) u ≡ has_slot s u)) (λ refusal. result ≡ none_found (refusal_number refusal)) }
     {
         match slots {
             Ok(slots) => Found::of(slots.bits()),

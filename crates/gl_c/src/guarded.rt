@@ -26,6 +26,7 @@ use gl_boxes::{
 use gl_catalog::{Answer, Command, Manager, Reached};
 use gl_modes::{Mode, NodeId, Refusal};
 use gl_registry::{Registry, Row, RowAnswer, RowCall};
+use gl_slots::Slots;
 use gl_table::{Detect, Locked, Told, TxnId};
 use gl_waits::{Board, Victims};
 use gl_window::{Publisher, WatchFault, Watcher};
@@ -60,7 +61,7 @@ fn manager_for(
 pub(crate) struct Guarded {
     registry: Registry,
     boxes: Boxes,
-    ended: u128,
+    ended: Slots,
     publisher: Option<Publisher>,
     /// Whether somebody waited when watchers were last shown a board, or a lock was left waiting since.
     waited: bool,
@@ -98,7 +99,7 @@ impl Guarded {
         Ok(Guarded {
             registry,
             boxes: Boxes::new(),
-            ended: 0,
+            ended: Slots::empty(),
             publisher: None,
             waited: true,
         })
@@ -119,7 +120,7 @@ impl Guarded {
     }
 
     /// The slots whose wait the last accepted command may have ended.
-    pub(crate) fn ended(&self) -> u128
+    pub(crate) fn ended(&self) -> Slots
         ensures { result ≡ self.now.ended }
     {
         self.ended

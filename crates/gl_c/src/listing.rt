@@ -14,6 +14,7 @@ use crate::numbers::{DONE, NO_PLACE, mode_number};
 use crate::reply::Reply;
 use gl_catalog::Manager;
 use gl_modes::{Mode, NodeId, Refusal};
+use gl_slots::Slot;
 use gl_table::{LockRow, Status, TxnId};
 
 /// Who lives in a slot.
@@ -81,7 +82,7 @@ fn wanted_on(wait: Option<(NodeId, Mode)>, node: NodeId) -> Mode
 }
 
 /// How many wait for a node.
-pub(crate) fn queue_len_reply(queue: Result<&[(u8, Mode)], Refusal>) -> Reply
+pub(crate) fn queue_len_reply(queue: Result<&[(Slot, Mode)], Refusal>) -> Reply
     ensures { MatchResult queue.entry (λ waiters. result ≡ count_reply (length waiters.now)) (λ refusal. result ≡ refused_reply refusal) }
 {
     match queue {
@@ -93,7 +94,7 @@ pub(crate) fn queue_len_reply(queue: Result<&[(u8, Mode)], Refusal>) -> Reply
 /// Who waits for a node, by its place in the queue.
 pub(crate) fn queue_at_reply(
     manager: &Manager,
-    queue: Result<&[(u8, Mode)], Refusal>,
+    queue: Result<&[(Slot, Mode)], Refusal>,
     place: usize,
 ) -> Reply
     ensures { MatchResult queue.entry (λ waiters. result ≡ waiter_reply (state_of manager.now) (slice_get waiters.now place)) (λ refusal. result ≡ refused_reply refusal) }
@@ -104,7 +105,7 @@ pub(crate) fn queue_at_reply(
     }
 }
 
-fn waiter_reply(manager: &Manager, waiter: Option<(u8, Mode)>) -> Reply
+fn waiter_reply(manager: &Manager, waiter: Option<(Slot, Mode)>) -> Reply
     ensures { result ≡ waiter_reply (state_of manager.now) waiter }
 {
     match waiter {
@@ -118,7 +119,7 @@ fn waiter_reply(manager: &Manager, waiter: Option<(u8, Mode)>) -> Reply
 }
 
 /// The name of the transaction in a slot, of age 0 where the slot is free.
-fn name_at(manager: &Manager, slot: u8) -> TxnId
+fn name_at(manager: &Manager, slot: Slot) -> TxnId
     ensures { result ≡ name_at (state_of manager.now) slot }
 {
     match manager.living(slot) {

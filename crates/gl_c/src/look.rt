@@ -17,6 +17,7 @@ use crate::reply::Reply;
 use gl_catalog::Manager;
 use gl_graph::{Graph, Kind};
 use gl_modes::{Mode, NodeId, Refusal};
+use gl_slots::Slot;
 use gl_table::{Detect, TxnId};
 use gl_waits::Victims;
 
@@ -56,7 +57,7 @@ pub(crate) enum Query {
     /// How many nodes may live at once.
     MostNodes,
     /// Who lives in a slot.
-    Living { slot: u8 },
+    Living { slot: Slot },
     /// What a transaction is doing.
     Doing { txn: TxnId },
     /// How many nodes a transaction holds or waits for.
@@ -64,7 +65,7 @@ pub(crate) enum Query {
     /// A node that a transaction holds or waits for.
     LockAt { txn: TxnId, place: usize },
     /// The mode in which the transaction of a slot holds a node.
-    ModeAt { slot: u8, node: NodeId },
+    ModeAt { slot: Slot, node: NodeId },
     /// How many wait for a node.
     QueueLen { node: NodeId },
     /// Who waits for a node.

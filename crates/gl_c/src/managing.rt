@@ -10,8 +10,9 @@ use crate::numbers::{BAD_NUMBER, DONE, IN_USE, NO_MANAGER, detect_at, victims_at
 use crate::reply::Reply;
 use crate::session::Session;
 use gl_modes::Refusal;
+use gl_slots::SLOTS;
 use gl_table::Detect;
-use gl_waits::{SLOTS, Victims};
+use gl_waits::Victims;
 use std::alloc::Global;
 
 /// How many nodes may live at once where no number is given.
@@ -20,7 +21,7 @@ pub(crate) const USUAL_NODES: u32 = 65_536;
 /// How many nodes a manager may be made for at most.
 const MOST_NODES: u32 = 2_147_483_648;
 
-/// Makes a manager at a place that has none, for `most` transactions at once, 1 to 128, with the way
+/// Makes a manager at a place that has none, for `most` transactions at once, 1 to `SLOTS`, with the way
 /// of detection of this number. Of those in a deadlock the youngest falls. It takes memory.
 #[unsafe(no_mangle)]
 pub extern "C" fn bs_call_make(manager: &mut Handle, alloc: Global, detect: u32, most: u32) -> Reply

@@ -5,6 +5,7 @@ ghost use Rattle.gl_c.specs.Names.{node_id, node_of, row_at, txn_id, txn_of};
 
 use gl_modes::NodeId;
 use gl_registry::Row;
+use gl_slots::Slot;
 use gl_table::TxnId;
 
 /// A node's name. The name of a node that is gone names nothing, whatever was made since; zero in
@@ -50,7 +51,7 @@ impl Node {
 #[repr(C)]
 #[derive(Clone, Copy)]
 pub struct Txn {
-    pub slot: u8,
+    pub slot: Slot,
     pub age: u64,
 }
 

@@ -7,8 +7,8 @@ ghost use Rattle.gl_c.specs.Notices.{Tells, bare_notice, notice_of};
 use crate::names::{Node, Txn};
 use crate::numbers::mode_number;
 use gl_modes::NodeId;
+use gl_slots::SLOTS;
 use gl_table::{Notice as TableNotice, TxnId};
-use gl_waits::SLOTS;
 
 /// What a transaction is told of another's command.
 #[repr(C)]

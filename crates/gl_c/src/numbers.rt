@@ -4,6 +4,7 @@ ghost use Rattle.std.specs.Prelude.{◌≡◌};
 ghost use Rattle.gl_c.specs.Numbers.{detect_at, effect_number, mode_at, mode_number, slot_at, victims_at};
 
 use gl_modes::Mode;
+use gl_slots::{SLOTS, Slot};
 use gl_table::{Detect, Effect};
 use gl_waits::Victims;
 
@@ -115,11 +116,11 @@ pub(crate) fn detect_at(number: u32) -> Option<Detect>
 }
 
 /// The slot of a number; `None` where it is no slot's.
-pub(crate) fn slot_at(number: u32) -> Option<u8>
+pub(crate) fn slot_at(number: u32) -> Option<Slot>
     ensures { result ≡ slot_at number }
 {
-    if number < 128 {
-        Some(number as u8)
+    if number < SLOTS as u32 {
+        Some(number as Slot)
     } else {
         None
     }

@@ -9,7 +9,8 @@ use crate::found::Found;
 use crate::handle::Handle;
 use crate::numbers::{BAD_NUMBER, NO_PLACE};
 use crate::reply::Reply;
-use gl_waits::{SLOTS, on_cycle, suspects, youngest};
+use gl_slots::SLOTS;
+use gl_waits::{on_cycle, suspects, youngest};
 
 /// Writes down who waits for whom at this moment; the epoch is the count of accepted commands.
 #[unsafe(no_mangle)]

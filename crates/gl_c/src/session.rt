@@ -23,6 +23,7 @@ use crate::reply::Reply;
 use gl_catalog::{Command, Manager};
 use gl_modes::{Mode, NodeId, Refusal};
 use gl_registry::{Row, RowCall};
+use gl_slots::Slots;
 use gl_table::{Detect, Told, TxnId};
 use gl_waits::Victims;
 use gl_window::{WatchFault, Watcher};
@@ -163,7 +164,7 @@ impl Session {
     }
 
     /// The slots whose wait the last accepted command may have ended.
-    pub(crate) fn ended(&self) -> u128
+    pub(crate) fn ended(&self) -> Slots
         ensures { result ≡ self.now.ended }
     {
         self.guarded.ended()

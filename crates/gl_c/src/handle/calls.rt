@@ -229,7 +229,7 @@ impl Handle {
         let Some(session) = self.take() else {
             return Found::none(NO_MANAGER);
         };
-        let found = Found::of(session.ended());
+        let found = Found::of(session.ended().bits());
         *self = Handle::of(alloc, session);
         found
     }

@@ -2,7 +2,7 @@ use Rattle.gl_slots.specs.Limit.{most_slots}
 use Rattle.std.proofs.Common.{arith, ◌≡◌, ◌≤◌, ◌<◌, ◌||◌, ◌==◌, ℕ, Bool, true, false, ap, subst, sym, ◌∙◌, List}
 use Rattle.std.specs.List.{list_any}
 use Rattle.std.specs.Prelude.{IfSome, Some}
-use Rattle.gl_waits.specs.Sets.{has_slot}
+use Rattle.gl_slots.specs.Slots.{has_slot}
 use Rattle.gl_model.specs.declared.answers.Detect.{Detect}
 use Rattle.gl_model.specs.declared.answers.Notice.{Notice}
 use Rattle.gl_model.specs.declared.txn.TxnId.{TxnId}
