@@ -3,11 +3,11 @@
 #
 #     bench/sessions.sh [ROUNDS]
 #
-# It prints a line for each piece of work, of instructions and nanoseconds, as bench/locks.sh does; ROUNDS is 100000 where
-# none is given.
+# It prints a line for each piece of work, of instructions and nanoseconds, as bench/locks.sh does; ROUNDS is 10000
+# where none is given.
 #
-# - A round is the seven calls of bench/locks.sh. `manager` makes them by calls of burlapslate.h, and `calls` by those of
-#   burlapslate_shared.h, so that the difference is the latch; `lists` by one bs_table_run of all seven.
+# - A round is the seven calls of bench/locks.sh. `manager` makes them by calls of burlapslate.h, and `calls` by those
+#   of burlapslate_shared.h, so that the difference is the latch; `lists` by one bs_table_run of all seven.
 # - `watched` is the same with a watcher. It is shown the board behind each command while somebody waits, so the
 #   difference to the same unwatched is what telling it seven boards costs; while nobody waits it is told nothing.
 # - `boards`, `questions` and `looks` are one call each: bs_table_read_board, bs_table_group, and bs_table_look.
@@ -16,9 +16,15 @@
 # - With 1, 4 and 16 threads a round is one of any of them, on records of their own with nothing in common, and its time
 #   is the median of the turns, since several threads have lucky ones. Their instructions are counted together.
 #
-# Watchers that are told each command, the notes that sessions give them, and replies with a list of notices each are
-# there for programs in Rattle alone.
+# Watchers that are told every command, the notes that sessions give them, and replies with a list of notices each no
+# program in C can reach: they are not measured.
+#
+# What was counted in November 2026, in instructions: a round 3734 by the manager, 4291 by calls and 4206 by a list,
+# whoever waits elsewhere, and by calls 14 more with a watcher while nobody waits; a board 1790 alone, 12692 beside 100
+# elsewhere and 18512 beside a queue of 126; to show one 13130 and 18960 beside these, for each command; a question 140,
+# a look 1200. In time, the best of nine on a core of an Intel Xeon at 2.5 GHz that other work shares: a round 0.41,
+# 0.48 and 0.57 microseconds, a board 0.24, 1.4 and 2.0, a look 0.17.
 
 # shellcheck source-path=SCRIPTDIR source=frame/frame.sh
 . "$(dirname "$0")/frame/frame.sh" || exit 2
-costs sessions "${1:-100000}"
+costs sessions "${1:-10000}"
