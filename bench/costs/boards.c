@@ -3,8 +3,6 @@
  */
 #include "costs.h"
 
-#include <string.h>
-
 static bs_board board;
 
 static bs_slots slot_set(size_t slot) {

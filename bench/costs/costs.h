@@ -49,7 +49,7 @@ extern bs_notices told;
 extern bs_table table;
 extern bs_watcher watcher;
 
-/* The name of a node or a transaction that a manager made. */
+/* A node and a transaction of the manager. */
 static inline bs_node new_root(void) { return DONE(bs_add_inner(&manager, NULL, 0)).node; }
 static inline bs_txn begun(void) { return DONE(bs_begin(&manager)).txn; }
 
@@ -77,7 +77,7 @@ piece boards, questions, looks;
  * many of 127; and one that grants none of 63. */
 piece waits_and_grants, inserts_and_deletes, releases, vain_releases;
 
-/* What is read of a board that has this number, of enum shapes. */
+/* What is read of a board of the shape that has this number. */
 enum shapes { IDLE, CHAIN, RING, QUEUE, CLOSED_QUEUE };
 piece cycles, victims, suspects;
 

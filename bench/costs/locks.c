@@ -7,9 +7,6 @@
 /* How many can wait for one: all who may live but that one. */
 enum { WAITERS = BS_SLOTS - 1, INDEXES = 3 };
 
-static void open_manager(void) { by_manager.open(); }
-static void close_manager(void) { by_manager.close(); }
-
 /* ------------------------------------------------------------------------------------------------
  * Waits.
  */
@@ -41,7 +38,7 @@ uint64_t waits_and_grants(size_t number, long rounds) {
   uint64_t start, taken = 0;
   bs_node root;
   (void)number;
-  open_manager();
+  by_manager.open();
   root = new_root();
   holder = begun();
   tells(bs_lock(&manager, holder, root, BS_X, &told), 0);
@@ -55,7 +52,7 @@ uint64_t waits_and_grants(size_t number, long rounds) {
     taken += now() - start;
     rounds -= (long)turns;
   }
-  close_manager();
+  by_manager.close();
   return taken;
 }
 
@@ -78,7 +75,7 @@ uint64_t inserts_and_deletes(size_t number, long rounds) {
   bs_txn txn;
   size_t i;
   (void)number;
-  open_manager();
+  by_manager.open();
   root = new_root();
   file = DONE(bs_add_file(&manager, &root, 1)).node;
   txn = begun();
@@ -90,7 +87,7 @@ uint64_t inserts_and_deletes(size_t number, long rounds) {
   start = now();
   measured_inserts(txn, file, rounds);
   start = now() - start;
-  close_manager();
+  by_manager.close();
   return start;
 }
 
@@ -126,9 +123,9 @@ uint64_t releases(size_t number, long rounds) {
   uint64_t taken = 0;
   while (rounds-- > 0) {
     bs_txn first;
-    open_manager();
+    by_manager.open();
     taken += timed_commit(lay_conversions(number, &first), number);
-    close_manager();
+    by_manager.close();
   }
   return taken;
 }
@@ -138,10 +135,10 @@ uint64_t vain_releases(size_t number, long rounds) {
   uint64_t taken = 0;
   while (rounds-- > 0) {
     bs_txn first;
-    open_manager();
+    by_manager.open();
     tells(bs_commit(&manager, lay_conversions(number, &first), &told), number);
     taken += timed_commit(first, 0);
-    close_manager();
+    by_manager.close();
   }
   return taken;
 }

@@ -4,8 +4,6 @@
  */
 #include "costs.h"
 
-#include <string.h>
-
 /* How many commands a round has. */
 enum { ALL = ABOVE + 3 };
 
