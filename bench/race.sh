@@ -41,60 +41,33 @@
 # - The four threads do short transactions on records of their own; a round is one transaction of any of
 #   them. Ours has one mutex, held round each call. Theirs is measured likewise, without DB_THREAD, and with
 #   DB_THREAD and no mutex, with one partition and with as many as it takes by itself.
-set -uo pipefail
-top=$(cd "$(dirname "$0")/.." && pwd) || exit 2
+
+# shellcheck source-path=SCRIPTDIR source=frame/frame.sh
+. "$(dirname "$0")/frame/frame.sh" || exit 2
 rounds=${1:-50000}
-compiler=${CC:-cc}
-if ! command -v "${compiler%% *}" >/dev/null; then
-  echo "race.sh: no C compiler: $compiler is not found" >&2
-  exit 2
-fi
-work=$(mktemp -d) || exit 2
-trap 'rm -rf "$work"' EXIT
-unrepeated=glibc.cpu.x86_rep_stosb_threshold=1000000:glibc.cpu.x86_rep_movsb_threshold=1000000
 
 # build: the program, with the side of Berkeley DB where a program over it can be linked.
 build() {
-  local sources=("$top"/bench/race/{main,ours,table,together}.c) with=()
-  mapfile -t libraries < <("$top/tools/c_library.sh" 2>"$work/log")
-  [ "${#libraries[@]}" -eq 2 ] || { cat "$work/log" >&2; return 1; }
-  printf '#include <db.h>\nint main(void) { return db_env_create(0, 0); }\n' >"$work/db.c"
-  # shellcheck disable=SC2086 # CC may have words behind the name.
-  if $compiler -o "$work/db" "$work/db.c" -ldb 2>/dev/null; then
-    sources+=("$top/bench/race/theirs.c")
-    with=(-DHAVE_DB -ldb)
-  else
-    echo "Berkeley DB is not at hand (db.h and -ldb): ours alone"
-  fi
-  # shellcheck disable=SC2086 # The same.
-  $compiler -std=c99 -Wall -Wextra -Werror -O2 -I"$top/include" -o "$work/race" "${sources[@]}" \
-    "${libraries[@]}" "${with[@]}" -pthread
+  local sources=("$top"/bench/race/{main,ours,table}.c)
+  ! has_db || sources+=(-DHAVE_DB "$top/bench/race/theirs.c" -ldb)
+  compile race "${sources[@]}"
 }
 
-# instructions WORD WAY ROUNDS: of one whole run; of the commit, and of one thread with a table, of what is measured in it.
-instructions() {
-  local measured=()
+# count WORD WAY: the instructions of a round; of the commit, and of one thread with a table, of what is measured in it.
+count() {
+  local few=1000 many=3000 measured=()
+  [ "$1" != commit ] || { few=2 many=6; }
   case $1.$2 in
     commit.* | table.ours | table-watched.ours) measured=(--toggle-collect='measured*') ;;
   esac
-  GLIBC_TUNABLES=$unrepeated timeout 300 valgrind --tool=callgrind --callgrind-out-file=/dev/null \
-    "${measured[@]}" "$work/race" play "$@" >"$work/log" 2>&1 || { cat "$work/log" >&2; return 1; }
-  sed -n 's/.*Collected : //p' "$work/log"
-}
-
-# each WORD WAY: the instructions of a round.
-each() {
-  local few=1000 many=3000 less more
-  [ "$1" != commit ] || { few=2 many=6; }
-  less=$(instructions "$1" "$2" "$few") && more=$(instructions "$1" "$2" "$many") || return 1
-  echo $(((more - less) / (many - few)))
+  each "$few" "$many" "${measured[@]}" "$work/race" play "$1" "$2"
 }
 
 # least WORD WAYS: the instructions of a round by theirs, in the way that takes fewest; "-" for no ways.
 least() {
   local way count best=-
   for ((way = 0; way < $2; way++)); do
-    count=$(each "$1" "$way") || return 1
+    count=$(count "$1" "$way") || return 1
     [ "$best" != - ] && [ "$best" -le "$count" ] || best=$count
   done
   echo "$best"
@@ -108,19 +81,10 @@ ratio() {
   esac
 }
 
-# row TITLE OURS THEIRS RATIO [OURS THEIRS RATIO]
-row() {
-  local title=$1
-  shift
-  printf '%-42s' "$title"
-  printf '%9s' "$@"
-  echo
-}
-
 build || exit 1
 timeout 600 "$work/race" times "$rounds" >"$work/times" || exit 1
 "$work/race" lines >"$work/lines" || exit 1
-if command -v valgrind >/dev/null; then
+if has_callgrind; then
   row "" "" ns "" "" instr. ""
   row "" ours theirs ratio ours theirs ratio
 else
@@ -129,8 +93,8 @@ else
 fi
 while IFS=$'\t' read -r word ways title <&3 && IFS=$'\t' read -r _ ours theirs <&4; do
   columns=("$ours" "$theirs" "$(ratio "$ours" "$theirs")")
-  if command -v valgrind >/dev/null; then
-    ours=$(each "$word" ours) && theirs=$(least "$word" "$ways") || exit 1
+  if has_callgrind; then
+    ours=$(count "$word" ours) && theirs=$(least "$word" "$ways") || exit 1
     columns+=("$ours" "$theirs" "$(ratio "$ours" "$theirs")")
   fi
   row "$title" "${columns[@]}"

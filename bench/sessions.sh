@@ -1,61 +1,30 @@
-#!/bin/sh
-# What a command costs behind the latch, and what telling watchers costs. Run from the top of the
-# repository:
+#!/usr/bin/env bash
+# sessions.sh: what a table costs that threads share, and what its watchers cost. Run from anywhere:
 #
-#     sh bench/sessions.sh [ROUNDS]
+#     bench/sessions.sh [ROUNDS]
 #
-# One round is seven commands: begin, IX on a root, a file, an index and an interval, X on a record of the
-# interval, commit. `manager` makes them by `apply_telling`; the others through a session over a shared
-# table: `always` where each accepted command is told, `while-waiting` where only waits are. So the second
-# is what serving costs behind the latch, and the difference between the two what telling costs. `lists`
-# puts the six commands behind the begin into one list, `replies` makes a reply with a told list for each.
-# `boards` makes boards and publishes none. `queries`, `notes` and `looks` are one call each.
+# It prints a line for each piece of work, of instructions and nanoseconds, as bench/locks.sh does; ROUNDS is 10000
+# where none is given.
 #
-# The first table is of instructions a round, where valgrind is at hand: the difference between a run of
-# 1,100 rounds and one of 100, by a thousand. The second is of nanoseconds, the best of five by turns, over
-# ROUNDS rounds (100000 where none is given): each piece alone, beside 100 other transactions of which 50
-# hold a root each and 50 wait for it (`crowd`), in 1, 4 and 16 threads on records of their own (the mean
-# over all their rounds together), and while 126 sessions sleep in `lock` on one node.
-rounds=${1:-100000}
-parts="manager boards while-waiting always lists-while-waiting lists replies queries notes looks"
-threads="1-thread 4-threads 16-threads waiters"
-cd "$(dirname "$0")/../crates/benches" || exit 2
-rt run -- shared >/dev/null 2>&1 || { echo "sessions.sh: the program does not build; see rt run in crates/benches" >&2; exit 1; }
-program=out/benches
-[ -x "$program" ] || { echo "sessions.sh: no program $program" >&2; exit 1; }
+# - A round is the seven calls of bench/locks.sh. `manager` makes them by calls of burlapslate.h, and `calls` by those
+#   of burlapslate_shared.h, so that the difference is the latch; `lists` by one bs_table_run of all seven.
+# - `watched` is the same with a watcher. It is shown the board behind each command while somebody waits, so the
+#   difference to the same unwatched is what telling it seven boards costs; while nobody waits it is told nothing.
+# - `boards`, `questions` and `looks` are one call each: bs_table_read_board, bs_table_group, and bs_table_look.
+# - Each is measured alone; beside 100 other transactions, of which 50 hold a root each and 50 wait for it; and beside
+#   126 that wait for one root in a queue, and one who holds it. Nobody sleeps for these waits.
+# - With 1, 4 and 16 threads a round is one of any of them, on records of their own with nothing in common, and its time
+#   is the median of the turns, since several threads have lucky ones. Their instructions are counted together.
+#
+# Watchers that are told every command, the notes that sessions give them, and replies with a list of notices each no
+# program in C can reach: they are not measured.
+#
+# What was counted in November 2026, in instructions: a round 3734 by the manager, 4291 by calls and 4206 by a list,
+# whoever waits elsewhere, and by calls 14 more with a watcher while nobody waits; a board 1790 alone, 12692 beside 100
+# elsewhere and 18512 beside a queue of 126; to show one 13130 and 18960 beside these, for each command; a question 140,
+# a look 1200. In time, the best of nine on a core of an Intel Xeon at 2.5 GHz that other work shares: a round 0.41,
+# 0.48 and 0.57 microseconds, a board 0.24, 1.4 and 2.0, a look 0.17.
 
-# instructions ROUNDS WORD..: of one whole run.
-instructions() {
-  valgrind --tool=callgrind --callgrind-out-file=/dev/null "$program" shared "$@" 2>&1 |
-    sed -n 's/.*Collected : //p'
-}
-
-# best NAME: the least of the times that a piece took.
-best() {
-  sort -n "$times/$1" | head -1
-}
-
-if command -v valgrind >/dev/null; then
-  echo "instructions a round"
-  for part in $parts; do
-    few=$(instructions 100 "$part") && many=$(instructions 1100 "$part") &&
-      echo "$part: $(((many - few) / 1000))"
-  done
-fi
-times=$(mktemp -d) || exit 2
-trap 'rm -rf "$times"' EXIT
-for _ in 1 2 3 4 5; do
-  for part in $parts $threads; do
-    "$program" shared "$rounds" "$part" 2>&1 | sed -n 's/ ns.*//p' >>"$times/$part"
-  done
-  for part in $parts; do
-    "$program" shared "$rounds" "$part" crowd 2>&1 | sed -n 's/ ns.*//p' >>"$times/$part.crowd"
-  done
-done
-echo "nanoseconds a round"
-for part in $parts; do
-  echo "$part: $(best "$part") alone, $(best "$part.crowd") crowd"
-done
-for part in $threads; do
-  echo "$part: $(best "$part")"
-done
+# shellcheck source-path=SCRIPTDIR source=frame/frame.sh
+. "$(dirname "$0")/frame/frame.sh" || exit 2
+costs sessions "${1:-10000}"

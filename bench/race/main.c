@@ -22,11 +22,7 @@
 #define THEIRS(play) NULL
 #endif
 
-enum { MOST_WAYS = 4, TURNS = 9 };
-
-/* Which of the turns counts, from the shortest on. What else the machine does only adds to the time of one
- * thread, so that its best turn counts; several have lucky turns, in which they come one after the other. */
-enum turns { BEST = 0, MEDIAN = TURNS / 2 };
+enum { MOST_WAYS = 4 };
 
 /* A line of the table. */
 struct line {
@@ -121,17 +117,6 @@ static uint64_t theirs_played(const struct line *line, size_t way, long rounds) 
   fail("Berkeley DB is there", __FILE__, __LINE__);
   return 0;
 #endif
-}
-
-static int by_size(const void *a, const void *b) {
-  const uint64_t *first = a, *second = b;
-  return (*first > *second) - (*first < *second);
-}
-
-/* The time of a round in the turn that counts. */
-static double of_round(uint64_t *times, enum turns turn, long rounds) {
-  qsort(times, TURNS, sizeof times[0], by_size);
-  return (double)times[turn] / (double)rounds;
 }
 
 /* The sides play by turns, so that what else the machine does meets both. */

@@ -3,8 +3,7 @@
  * at, as a caller has to.
  */
 #include "race.h"
-
-#include "burlapslate.h"
+#include "ours.h"
 
 #include <pthread.h>
 
@@ -28,30 +27,19 @@ static struct session sessions[CREW];
 static struct session *by_slot[BS_SLOTS];
 static long rounds_each;
 
-static inline void done(bs_status status) {
-  if (status != BS_DONE) fail(bs_text(status), __FILE__, __LINE__);
-}
-
 /* A call that must be done at once, and tell nobody. */
-static inline void quiet(bs_status status, const bs_notices *told) {
-  done(status);
+static inline void quiet(bs_reply reply, const bs_notices *told) {
+  DONE(reply);
   WANT(told->count == 0);
 }
 
 static inline bs_txn begun(void) {
-  bs_reply reply = bs_begin(&manager);
-  done(reply.status);
-  return reply.txn;
-}
-
-static bs_node made(bs_reply reply) {
-  done(reply.status);
-  return reply.node;
+  return DONE(bs_begin(&manager)).txn;
 }
 
 static void lock_path(bs_txn txn, bs_mode mode, bs_notices *told) {
   size_t i;
-  for (i = 0; i < INNER_NODES; i++) quiet(bs_lock(&manager, txn, inner[i], mode, told).status, told);
+  for (i = 0; i < INNER_NODES; i++) quiet(bs_lock(&manager, txn, inner[i], mode, told), told);
 }
 
 static void make_records(size_t count) {
@@ -60,18 +48,18 @@ static void make_records(size_t count) {
   size_t i;
   WANT(count <= MOST_RECORDS);
   lock_path(txn, BS_IX, told);
-  for (i = 0; i < count; i++) records[i] = made(bs_insert(&manager, txn, inner[2], NULL, 0));
-  quiet(bs_commit(&manager, txn, told).status, told);
+  for (i = 0; i < count; i++) records[i] = DONE(bs_insert(&manager, txn, inner[2], NULL, 0)).node;
+  quiet(bs_commit(&manager, txn, told), told);
   record_count = count;
 }
 
 static void set_up(const struct scene *scene) {
   size_t i;
-  done(bs_make(&manager, BS_AT_BLOCK, BS_SLOTS).status);
-  inner[0] = made(bs_add_inner(&manager, NULL, 0));
-  inner[1] = made(bs_add_inner(&manager, &inner[0], 1));
-  inner[2] = made(bs_add_file(&manager, &inner[1], 1));
-  other_root = made(bs_add_inner(&manager, NULL, 0));
+  DONE(bs_make(&manager, BS_AT_BLOCK, BS_SLOTS));
+  inner[0] = DONE(bs_add_inner(&manager, NULL, 0)).node;
+  inner[1] = DONE(bs_add_inner(&manager, &inner[0], 1)).node;
+  inner[2] = DONE(bs_add_file(&manager, &inner[1], 1)).node;
+  other_root = DONE(bs_add_inner(&manager, NULL, 0)).node;
   make_records(scene->records);
   for (i = 0; i < scene->others; i++) lock_path(begun(), BS_IX, &sessions[0].notices);
   WANT(bs_group(&manager, inner[2]).mode == (scene->others == 0 ? BS_NL : BS_IX));
@@ -82,7 +70,7 @@ static void tear_down(void) {
   size_t i;
   for (i = 0; i < record_count; i++) WANT(bs_group(&manager, records[i]).mode == BS_NL);
   for (i = 0; i < CREW; i++) WANT(pthread_cond_destroy(&sessions[i].woken) == 0);
-  done(bs_end(&manager).status);
+  DONE(bs_end(&manager));
 }
 
 const struct side ours = { set_up, tear_down };
@@ -95,8 +83,8 @@ static void short_transaction(bs_mode intention, bs_mode mode) {
   bs_notices *told = &sessions[0].notices;
   bs_txn txn = begun();
   lock_path(txn, intention, told);
-  quiet(bs_lock(&manager, txn, records[0], mode, told).status, told);
-  quiet(bs_commit(&manager, txn, told).status, told);
+  quiet(bs_lock(&manager, txn, records[0], mode, told), told);
+  quiet(bs_commit(&manager, txn, told), told);
 }
 
 uint64_t ours_write(long rounds) {
@@ -109,8 +97,8 @@ uint64_t ours_write(long rounds) {
 static void short_path(void) {
   bs_notices *told = &sessions[0].notices;
   bs_txn txn = begun();
-  quiet(bs_lock_path(&manager, txn, records[0], BS_X, told).status, told);
-  quiet(bs_commit(&manager, txn, told).status, told);
+  quiet(bs_lock_path(&manager, txn, records[0], BS_X, told), told);
+  quiet(bs_commit(&manager, txn, told), told);
 }
 
 uint64_t ours_write_path(long rounds) {
@@ -126,7 +114,7 @@ uint64_t ours_read(long rounds) {
 }
 
 static MEASURED void measured_commit(bs_txn txn, bs_notices *told) {
-  quiet(bs_commit(&manager, txn, told).status, told);
+  quiet(bs_commit(&manager, txn, told), told);
 }
 
 uint64_t ours_commit(long rounds) {
@@ -137,7 +125,7 @@ uint64_t ours_commit(long rounds) {
     uint64_t start;
     size_t i;
     lock_path(txn, BS_IX, told);
-    for (i = 0; i < record_count; i++) quiet(bs_lock(&manager, txn, records[i], BS_X, told).status, told);
+    for (i = 0; i < record_count; i++) quiet(bs_lock(&manager, txn, records[i], BS_X, told), told);
     WANT(bs_children(&manager, txn, inner[2]).count == record_count);
     start = now();
     measured_commit(txn, told);
@@ -158,30 +146,30 @@ uint64_t ours_wait(long rounds) {
   bs_notices *told = &sessions[0].notices;
   bs_txn holder = begun();
   uint64_t start;
-  quiet(bs_lock(&manager, holder, inner[0], BS_X, told).status, told);
+  quiet(bs_lock(&manager, holder, inner[0], BS_X, told), told);
   start = now();
   while (rounds-- > 0) {
     bs_txn waiter = begun();
     WANT(bs_lock(&manager, waiter, inner[0], BS_X, told).status == BS_WAITING && told->count == 0);
-    done(bs_commit(&manager, holder, told).status);
+    DONE(bs_commit(&manager, holder, told));
     WANT(is_told(told, waiter, BS_TOLD_GRANTED));
     holder = waiter;
   }
   start = now() - start;
-  quiet(bs_commit(&manager, holder, told).status, told);
+  quiet(bs_commit(&manager, holder, told), told);
   return start;
 }
 
 static void deadlock(void) {
   bs_notices *told = &sessions[0].notices;
   bs_txn older = begun(), younger = begun();
-  quiet(bs_lock(&manager, older, inner[0], BS_X, told).status, told);
-  quiet(bs_lock(&manager, younger, other_root, BS_X, told).status, told);
+  quiet(bs_lock(&manager, older, inner[0], BS_X, told), told);
+  quiet(bs_lock(&manager, younger, other_root, BS_X, told), told);
   WANT(bs_lock(&manager, older, other_root, BS_X, told).status == BS_WAITING && told->count == 0);
   WANT(bs_lock(&manager, younger, inner[0], BS_X, told).status == BS_VICTIM && told->count == 0);
-  done(bs_abort(&manager, younger, told).status);
+  DONE(bs_abort(&manager, younger, told));
   WANT(is_told(told, older, BS_TOLD_GRANTED));
-  quiet(bs_commit(&manager, older, told).status, told);
+  quiet(bs_commit(&manager, older, told), told);
 }
 
 uint64_t ours_deadlock(long rounds) {
@@ -219,7 +207,7 @@ static void wake(const bs_notices *told) {
 }
 
 static void commit(struct session *me) {
-  done(bs_commit(&manager, me->txn, &me->notices).status);
+  DONE(bs_commit(&manager, me->txn, &me->notices));
   wake(&me->notices);
 }
 
@@ -252,7 +240,7 @@ uint64_t ours_wait_paired(long rounds) {
   rounds_each = rounds / 2;
   begin(&sessions[0]);
   begin(&sessions[1]);
-  quiet(bs_lock(&manager, sessions[0].txn, inner[0], BS_X, told).status, told);
+  quiet(bs_lock(&manager, sessions[0].txn, inner[0], BS_X, told), told);
   WANT(bs_lock(&manager, sessions[1].txn, inner[0], BS_X, told).status == BS_WAITING && told->count == 0);
   return together(2, take_turns);
 }
@@ -265,7 +253,7 @@ static void fall_out(size_t number) {
   while (left-- > 0) {
     latch_on();
     begin(me);
-    quiet(bs_lock(&manager, me->txn, first, BS_X, &me->notices).status, &me->notices);
+    quiet(bs_lock(&manager, me->txn, first, BS_X, &me->notices), &me->notices);
     latch_off();
     meet();
     latch_on();
@@ -274,7 +262,7 @@ static void fall_out(size_t number) {
       commit(me);
     } else {
       WANT(me->txn.age > other->txn.age);
-      done(bs_abort(&manager, me->txn, &me->notices).status);
+      DONE(bs_abort(&manager, me->txn, &me->notices));
       WANT(is_told(&me->notices, other->txn, BS_TOLD_GRANTED));
       wake(&me->notices);
     }
@@ -297,7 +285,7 @@ static void latched_lock(struct session *me, bs_node node, bs_mode mode) {
   latch_on();
   reply = bs_lock(&manager, me->txn, node, mode, &me->notices);
   latch_off();
-  quiet(reply.status, &me->notices);
+  quiet(reply, &me->notices);
 }
 
 static void work(size_t number) {
@@ -309,14 +297,14 @@ static void work(size_t number) {
     latch_on();
     reply = bs_begin(&manager);
     latch_off();
-    done(reply.status);
+    DONE(reply);
     me->txn = reply.txn;
     for (i = 0; i < INNER_NODES; i++) latched_lock(me, inner[i], BS_IX);
     latched_lock(me, records[number], BS_X);
     latch_on();
     reply = bs_commit(&manager, me->txn, &me->notices);
     latch_off();
-    quiet(reply.status, &me->notices);
+    quiet(reply, &me->notices);
   }
 }
 

@@ -1,21 +1,18 @@
 /*
- * What the two sides of the race share: the plays, the clock, threads, and how an answer that is not as it
- * should be ends the program.
+ * What the two sides of the race share: the plays.
  */
 #ifndef RACE_H
 #define RACE_H
 
-#define _DEFAULT_SOURCE
+#include "frame.h"
 
 #include <stdbool.h>
-#include <stddef.h>
-#include <stdint.h>
 
 enum {
-  INNER_NODES = 3,     /* a data base, an area, a file: the path to the records */
-  MOST_RECORDS = 1000, /* how many records a play can have */
-  CREW = 4,            /* how many threads the crew has, where nothing else is said */
-  MOST_CREW = 16       /* and how many a crew can have */
+  INNER_NODES = 3,          /* a data base, an area, a file: the path to the records */
+  MOST_RECORDS = 1000,      /* how many records a play can have */
+  CREW = 4,                 /* how many threads the crew has, where nothing else is said */
+  MOST_CREW = MOST_TOGETHER /* and how many a crew can have */
 };
 
 /* How Berkeley DB is used. Where a line has several ways, its fastest is taken. */
@@ -47,11 +44,8 @@ extern const struct side ours, theirs;
 play ours_write, ours_write_path, theirs_write;
 play ours_read, theirs_read;
 
-/* The commit of all records and the path to them. What leads to it is not timed; a count takes what
- * is in functions whose names begin with `measured`. */
+/* The commit of all records and the path to them. What leads to it is neither timed nor counted. */
 play ours_commit, theirs_commit;
-
-#define MEASURED __attribute__((noinline)) /* a function that callgrind sees */
 
 /* A lock that waits, and the commit that grants it. */
 play ours_wait, ours_wait_paired, theirs_wait_paired;
@@ -68,20 +62,5 @@ play table_write, table_watched, table_wait, table_crew_1, table_crew_4, table_c
 
 /* And with all of it in one call. */
 play table_once_4, table_once_16;
-
-/* Ends the program with status 1. */
-void fail(const char *what, const char *file, int line);
-
-#define WANT(condition) ((condition) ? (void)0 : fail(#condition, __FILE__, __LINE__))
-
-/* The time, in nanoseconds from some moment on. */
-uint64_t now(void);
-
-/* Runs a body in so many threads, each with its number, and answers the time from when all have come to the
- * start until all have ended. */
-uint64_t together(size_t count, void (*body)(size_t number));
-
-/* Waits until two threads have come here. */
-void meet(void);
 
 #endif

@@ -2,6 +2,7 @@
  * The plays through a shared table of this repository: every answer is looked at.
  */
 #include "race.h"
+#include "ours.h"
 
 #include "burlapslate_shared.h"
 
@@ -12,27 +13,22 @@ static bs_node path[INNER_NODES];
 static bs_node own[MOST_CREW]; /* a record for each thread */
 static long rounds_each;
 
-static inline bs_reply done(bs_reply reply) {
-  if (reply.status != BS_DONE) fail(bs_text(reply.status), __FILE__, __LINE__);
-  return reply;
-}
-
 static void open_table(void) {
   bs_txn txn;
   size_t i;
-  done(bs_table_make(&table, BS_AT_BLOCK, BS_YOUNGEST, BS_SLOTS));
-  path[0] = done(bs_table_add_inner(&table, NULL, 0)).node;
-  path[1] = done(bs_table_add_inner(&table, &path[0], 1)).node;
-  path[2] = done(bs_table_add_file(&table, &path[1], 1)).node;
-  txn = done(bs_table_begin(&table)).txn;
-  done(bs_table_lock_path(&table, txn, path[2], BS_IX, NULL));
-  for (i = 0; i < MOST_CREW; i++) own[i] = done(bs_table_insert(&table, txn, path[2], NULL, 0)).node;
-  done(bs_table_commit(&table, txn, NULL));
+  DONE(bs_table_make(&table, BS_AT_BLOCK, BS_YOUNGEST, BS_SLOTS));
+  path[0] = DONE(bs_table_add_inner(&table, NULL, 0)).node;
+  path[1] = DONE(bs_table_add_inner(&table, &path[0], 1)).node;
+  path[2] = DONE(bs_table_add_file(&table, &path[1], 1)).node;
+  txn = DONE(bs_table_begin(&table)).txn;
+  DONE(bs_table_lock_path(&table, txn, path[2], BS_IX, NULL));
+  for (i = 0; i < MOST_CREW; i++) own[i] = DONE(bs_table_insert(&table, txn, path[2], NULL, 0)).node;
+  DONE(bs_table_commit(&table, txn, NULL));
 }
 
 static void close_table(void) {
   WANT(bs_table_group(&table, path[0]).mode == BS_NL);
-  done(bs_table_end(&table));
+  DONE(bs_table_end(&table));
 }
 
 enum { ALL = INNER_NODES + 3 };
@@ -47,11 +43,11 @@ static void fill_list(bs_command *list, size_t number) {
 }
 
 static void short_transaction(size_t number) {
-  bs_txn txn = done(bs_table_begin(&table)).txn;
+  bs_txn txn = DONE(bs_table_begin(&table)).txn;
   size_t i;
-  for (i = 0; i < INNER_NODES; i++) done(bs_table_lock(&table, txn, path[i], BS_IX));
-  done(bs_table_lock(&table, txn, own[number], BS_X));
-  done(bs_table_commit(&table, txn, NULL));
+  for (i = 0; i < INNER_NODES; i++) DONE(bs_table_lock(&table, txn, path[i], BS_IX));
+  DONE(bs_table_lock(&table, txn, own[number], BS_X));
+  DONE(bs_table_commit(&table, txn, NULL));
 }
 
 /* ------------------------------------------------------------------------------------------------
@@ -92,7 +88,7 @@ static void *look_on(void *arg) {
   WANT(board != NULL);
   while (goes_on()) {
     for (i = 0; i < 1000; i++) {
-      done(bs_table_look(watcher, board));
+      DONE(bs_table_look(watcher, board));
       WANT(board->epoch >= epoch);
       epoch = board->epoch;
     }
@@ -112,13 +108,13 @@ uint64_t table_watched(long rounds) {
   pthread_t thread;
   uint64_t taken;
   open_table();
-  done(bs_table_watch(&table, &watcher));
+  DONE(bs_table_watch(&table, &watcher));
   set_over(false);
   WANT(pthread_create(&thread, NULL, look_on, &watcher) == 0);
   taken = measured_rounds(rounds);
   set_over(true);
   WANT(pthread_join(thread, NULL) == 0);
-  done(bs_table_watch_end(&watcher));
+  DONE(bs_table_watch_end(&watcher));
   close_table();
   return taken;
 }
@@ -178,17 +174,17 @@ static bs_txn first[2];
 static void take_turns(size_t number) {
   bs_txn mine = first[number];
   long left = rounds_each;
-  if (number == 1) done(bs_table_await(&table, mine, path[0], BS_X, NULL));
+  if (number == 1) DONE(bs_table_await(&table, mine, path[0], BS_X, NULL));
   while (left-- > 0) {
-    bs_txn next = done(bs_table_begin(&table)).txn;
+    bs_txn next = DONE(bs_table_begin(&table)).txn;
     bs_command list[2];
     list[0] = bs_do_commit(mine);
     list[1] = bs_do_lock(next, path[0], BS_X);
     WANT(bs_table_run(&table, list, 2) == 1 && list[1].reply.status == BS_WAITING);
-    done(bs_table_await(&table, next, path[0], BS_X, NULL));
+    DONE(bs_table_await(&table, next, path[0], BS_X, NULL));
     mine = next;
   }
-  done(bs_table_commit(&table, mine, NULL));
+  DONE(bs_table_commit(&table, mine, NULL));
 }
 
 uint64_t table_wait(long rounds) {
@@ -196,9 +192,9 @@ uint64_t table_wait(long rounds) {
   uint64_t taken;
   open_table();
   rounds_each = rounds / 2;
-  first[0] = done(bs_table_begin(&table)).txn;
-  first[1] = done(bs_table_begin(&table)).txn;
-  done(bs_table_lock(&table, first[0], path[0], BS_X));
+  first[0] = DONE(bs_table_begin(&table)).txn;
+  first[1] = DONE(bs_table_begin(&table)).txn;
+  DONE(bs_table_lock(&table, first[0], path[0], BS_X));
   wait = bs_do_lock(first[1], path[0], BS_X);
   WANT(bs_table_run(&table, &wait, 1) == 0 && wait.reply.status == BS_WAITING);
   taken = together(2, take_turns);

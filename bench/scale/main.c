@@ -8,18 +8,6 @@
 #include <stdio.h>
 #include <stdlib.h>
 #include <string.h>
-#include <time.h>
-
-void fail(const char *what, const char *file, int line) {
-  fprintf(stderr, "%s:%d: %s\n", file, line, what);
-  exit(1);
-}
-
-static double now(void) {
-  struct timespec t;
-  clock_gettime(CLOCK_MONOTONIC, &t);
-  return (double)t.tv_sec * 1e9 + (double)t.tv_nsec;
-}
 
 /* A permutation, the same in each run. */
 static void shuffle(uint32_t *order, uint32_t count) {
@@ -53,9 +41,9 @@ int main(int count, char **words) {
   work.order = order;
   side->set_up(&work);
   for (step = 0; step < side->count; step++) {
-    double begun = now();
+    uint64_t begun = now();
     side->steps[step].run(&work);
-    printf("%.1f\t%s\n", (now() - begun) / work.records, side->steps[step].title);
+    printf("%.1f\t%s\n", (double)(now() - begun) / work.records, side->steps[step].title);
   }
   side->tear_down();
   free(order);

@@ -1,7 +1,6 @@
 /* The steps through the library, in a manager whose limit is what they need. */
 #include "scale.h"
-
-#include "burlapslate.h"
+#include "ours.h"
 
 #include <stdlib.h>
 
@@ -12,15 +11,10 @@ static bs_manager m = BS_NO_MANAGER_HERE;
 static bs_notices told;
 static bs_node db, file, below, row_file, row_below, *records;
 
-static bs_reply done(bs_reply reply) {
-  if (reply.status != BS_DONE) fail("an answer of ours", __FILE__, __LINE__);
-  return reply;
-}
-
 /* An index of a file, of one interval, which it answers. */
 static bs_node interval_of(bs_node of) {
-  bs_node index = done(bs_add_index(&m, &db, 1, of, NULL, 0)).node;
-  return done(bs_interval_of(&m, index, 0)).node;
+  bs_node index = DONE(bs_add_index(&m, &db, 1, of, NULL, 0)).node;
+  return DONE(bs_interval_of(&m, index, 0)).node;
 }
 
 static void set_up(const struct work *work) {
@@ -28,23 +22,23 @@ static void set_up(const struct work *work) {
   options.nodes = work->records + ABOVE;
   records = malloc(work->records * sizeof *records);
   if (records == NULL) fail("no memory", __FILE__, __LINE__);
-  done(bs_make_with(&m, &options));
-  db = done(bs_add_inner(&m, NULL, 0)).node;
-  file = done(bs_add_file(&m, &db, 1)).node;
+  DONE(bs_make_with(&m, &options));
+  db = DONE(bs_add_inner(&m, NULL, 0)).node;
+  file = DONE(bs_add_file(&m, &db, 1)).node;
   below = interval_of(file);
-  row_file = done(bs_add_row_file(&m, &db, 1)).node;
+  row_file = DONE(bs_add_row_file(&m, &db, 1)).node;
   row_below = interval_of(row_file);
 }
 
 static void tear_down(void) {
-  done(bs_end(&m));
+  DONE(bs_end(&m));
   free(records);
 }
 
 static bs_txn begin_at(bs_node above, bs_node interval) {
-  bs_txn t = done(bs_begin(&m)).txn;
-  done(bs_lock_path(&m, t, above, BS_IX, &told));
-  done(bs_lock_path(&m, t, interval, BS_IX, &told));
+  bs_txn t = DONE(bs_begin(&m)).txn;
+  DONE(bs_lock_path(&m, t, above, BS_IX, &told));
+  DONE(bs_lock_path(&m, t, interval, BS_IX, &told));
   return t;
 }
 
@@ -53,7 +47,7 @@ static bs_txn begin(void) {
 }
 
 static void commit(bs_txn t) {
-  done(bs_commit(&m, t, &told));
+  DONE(bs_commit(&m, t, &told));
 }
 
 /* Goes over all records, a hundred in a transaction. */
@@ -73,33 +67,33 @@ static void commit(bs_txn t) {
 static __attribute__((noinline)) void step_insert(const struct work *work) {
   IN_TRANSACTIONS(work, at, t, {
     uint64_t key = work->order[at];
-    records[work->order[at]] = done(bs_insert(&m, t, file, &key, 1)).node;
+    records[work->order[at]] = DONE(bs_insert(&m, t, file, &key, 1)).node;
   });
 }
 
 static __attribute__((noinline)) void step_lock(const struct work *work) {
-  IN_TRANSACTIONS(work, at, t, done(bs_lock(&m, t, records[work->order[at]], BS_X, &told)));
+  IN_TRANSACTIONS(work, at, t, DONE(bs_lock(&m, t, records[work->order[at]], BS_X, &told)));
 }
 
 static __attribute__((noinline)) void step_lock_all(const struct work *work) {
   uint32_t at;
   bs_txn t = begin();
-  for (at = 0; at < work->records; at++) done(bs_lock(&m, t, records[work->order[at]], BS_X, &told));
+  for (at = 0; at < work->records; at++) DONE(bs_lock(&m, t, records[work->order[at]], BS_X, &told));
   commit(t);
 }
 
 static __attribute__((noinline)) void step_escalate(const struct work *work) {
   uint32_t at;
   bs_txn t = begin();
-  for (at = 0; at < work->records; at++) done(bs_lock(&m, t, records[work->order[at]], BS_X, &told));
-  done(bs_escalate(&m, t, below, &told));
+  for (at = 0; at < work->records; at++) DONE(bs_lock(&m, t, records[work->order[at]], BS_X, &told));
+  DONE(bs_escalate(&m, t, below, &told));
   commit(t);
 }
 
 static __attribute__((noinline)) void step_delete(const struct work *work) {
   IN_TRANSACTIONS(work, at, t, {
-    done(bs_lock(&m, t, records[work->order[at]], BS_X, &told));
-    done(bs_delete(&m, t, records[work->order[at]], &told));
+    DONE(bs_lock(&m, t, records[work->order[at]], BS_X, &told));
+    DONE(bs_delete(&m, t, records[work->order[at]], &told));
   });
 }
 
@@ -120,11 +114,11 @@ static __attribute__((noinline)) void step_adopt(const struct work *work) {
   BY_TRANSACTIONS(work, from, to, t, begin(), {
     for (at = from; at < to; at++) {
       uint64_t key = work->order[at];
-      records[key] = done(bs_adopt(&m, file, &key, 1)).node;
-      done(bs_lock(&m, t, records[key], BS_X, &told));
+      records[key] = DONE(bs_adopt(&m, file, &key, 1)).node;
+      DONE(bs_lock(&m, t, records[key], BS_X, &told));
     }
     commit(t);
-    for (at = from; at < to; at++) done(bs_forget(&m, records[work->order[at]]));
+    for (at = from; at < to; at++) DONE(bs_forget(&m, records[work->order[at]]));
   });
 }
 
@@ -134,9 +128,9 @@ static __attribute__((noinline)) void step_row(const struct work *work) {
   BY_TRANSACTIONS(work, from, to, t, begin_at(row_file, row_below), {
     for (at = from; at < to; at++) {
       uint64_t key = work->order[at];
-      done(bs_lock_row(&m, t, row_file, key, &key, 1, BS_X, &told));
+      DONE(bs_lock_row(&m, t, row_file, key, &key, 1, BS_X, &told));
     }
-    done(bs_commit_rows(&m, t, &told));
+    DONE(bs_commit_rows(&m, t, &told));
   });
 }
 

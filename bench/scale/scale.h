@@ -2,8 +2,7 @@
 #ifndef SCALE_H
 #define SCALE_H
 
-#include <stddef.h>
-#include <stdint.h>
+#include "frame.h"
 
 enum { PER_TRANSACTION = 100 };
 
@@ -30,7 +29,5 @@ extern const struct side ours;
 #ifdef HAVE_DB
 extern const struct side theirs;
 #endif
-
-void fail(const char *what, const char *file, int line);
 
 #endif

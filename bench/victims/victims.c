@@ -2,48 +2,26 @@
  * What the choice of victims does in a random mix, and what the block costs that closes a large cycle.
  * Every answer is looked at, as a caller has to.
  */
-#define _POSIX_C_SOURCE 199309L
-#include "burlapslate.h"
+#include "ours.h"
 
 #include <stdio.h>
 #include <stdlib.h>
 #include <string.h>
-#include <time.h>
 
 enum { NODES = 48, COMMIT_ONE_OF = 4 };
 
 static bs_notices told;
-
-static void done(bs_reply reply, int line) {
-  if (reply.status == BS_DONE) return;
-  fprintf(stderr, "victims.c:%d: %s\n", line, bs_text(reply.status));
-  exit(1);
-}
-
-#define DONE(call) done((call), __LINE__)
-
-static void wanted(bool holds, const char *what, int line) {
-  if (holds) return;
-  fprintf(stderr, "victims.c:%d: not so: %s\n", line, what);
-  exit(1);
-}
-
-#define WANT(condition) wanted((condition), #condition, __LINE__)
 
 static const char *name_of(uint32_t choice) {
   return choice == BS_YOUNGEST ? "youngest" : "fewest";
 }
 
 static bs_node made_root(bs_manager *m) {
-  bs_reply reply = bs_add_inner(m, NULL, 0);
-  done(reply, __LINE__);
-  return reply.node;
+  return DONE(bs_add_inner(m, NULL, 0)).node;
 }
 
 static bs_txn begun(bs_manager *m) {
-  bs_reply reply = bs_begin(m);
-  done(reply, __LINE__);
-  return reply.txn;
+  return DONE(bs_begin(m)).txn;
 }
 
 /* ------------------------------------------------------------------------------------------------
@@ -211,15 +189,14 @@ static void lay_queue(struct cycle *c) {
   }
 }
 
-/* What is measured. */
-static bs_status __attribute__((noinline)) closing_lock(struct cycle *c) {
+static MEASURED bs_status measured_lock(struct cycle *c) {
   return bs_lock(&c->manager, c->asker, c->node, BS_X, &told).status;
 }
 
 /* The nanoseconds of one closing block. */
-static double close_cycle(enum shape shape, uint32_t choice) {
+static uint64_t close_cycle(enum shape shape, uint32_t choice) {
   struct cycle c = { BS_NO_MANAGER_HERE, { 0, 0 }, { 0, 0 } };
-  struct timespec from, to;
+  uint64_t start, taken;
   bs_status status;
   DONE(bs_make_choosing(&c.manager, BS_AT_BLOCK, choice, BS_SLOTS));
   if (shape == RING) {
@@ -227,28 +204,26 @@ static double close_cycle(enum shape shape, uint32_t choice) {
   } else {
     lay_queue(&c);
   }
-  clock_gettime(CLOCK_MONOTONIC, &from);
-  status = closing_lock(&c);
-  clock_gettime(CLOCK_MONOTONIC, &to);
+  start = now();
+  status = measured_lock(&c);
+  taken = now() - start;
   WANT(status == BS_VICTIM || (status == BS_WAITING && told.count > 0));
   DONE(bs_end(&c.manager));
-  return (double)(to.tv_sec - from.tv_sec) * 1e9 + (double)(to.tv_nsec - from.tv_nsec);
+  return taken;
 }
 
-/* The best of nine turns. */
+/* The choices play by turns. */
 static void time_all(void) {
+  uint64_t times[BS_FEWEST + 1][TURNS];
   enum shape shape;
   uint32_t choice;
   int turn;
   for (shape = RING; shape <= QUEUE; shape++) {
-    double best[2] = { 1e18, 1e18 };
-    for (turn = 0; turn < 9; turn++) {
-      for (choice = BS_YOUNGEST; choice <= BS_FEWEST; choice++) {
-        double now = close_cycle(shape, choice);
-        if (now < best[choice]) best[choice] = now;
-      }
+    for (turn = 0; turn < TURNS; turn++) {
+      for (choice = BS_YOUNGEST; choice <= BS_FEWEST; choice++) times[choice][turn] = close_cycle(shape, choice);
     }
-    printf("%s: youngest %.0f ns, fewest %.0f ns\n", shape == RING ? "ring" : "queue", best[0], best[1]);
+    printf("%s: youngest %.0f ns, fewest %.0f ns\n", shape == RING ? "ring" : "queue",
+           of_round(times[BS_YOUNGEST], BEST, 1), of_round(times[BS_FEWEST], BEST, 1));
   }
 }
 

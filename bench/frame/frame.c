@@ -1,7 +1,4 @@
-/*
- * The clock and the threads of the race.
- */
-#include "race.h"
+#include "frame.h"
 
 #include <pthread.h>
 #include <stdio.h>
@@ -27,6 +24,16 @@ uint64_t now(void) {
   return (uint64_t)time.tv_sec * 1000000000u + (uint64_t)time.tv_nsec;
 }
 
+static int by_size(const void *a, const void *b) {
+  const uint64_t *first = a, *second = b;
+  return (*first > *second) - (*first < *second);
+}
+
+double of_round(uint64_t times[TURNS], enum turns turn, long rounds) {
+  qsort(times, TURNS, sizeof times[0], by_size);
+  return (double)times[turn] / (double)rounds;
+}
+
 static void come_to(pthread_barrier_t *barrier) {
   int answer = pthread_barrier_wait(barrier);
   WANT(answer == 0 || answer == PTHREAD_BARRIER_SERIAL_THREAD);
@@ -40,10 +47,10 @@ static void *run(void *argument) {
 }
 
 uint64_t together(size_t count, void (*body)(size_t number)) {
-  struct member members[MOST_CREW];
+  struct member members[MOST_TOGETHER];
   uint64_t start;
   size_t i;
-  WANT(count <= MOST_CREW);
+  WANT(count <= MOST_TOGETHER);
   WANT(pthread_barrier_init(&all, NULL, (unsigned)count + 1) == 0);
   WANT(pthread_barrier_init(&both, NULL, 2) == 0);
   for (i = 0; i < count; i++) {

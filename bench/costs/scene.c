@@ -1,0 +1,101 @@
+/*
+ * The scene: the ways of the rounds, and the others beside them. It is made by commands, so that a manager and a table
+ * get the same.
+ */
+#include "costs.h"
+
+struct way ways[MOST_TOGETHER];
+bs_manager manager = BS_NO_MANAGER_HERE;
+bs_notices told;
+bs_table table = BS_NO_TABLE_HERE;
+bs_watcher watcher = BS_NO_WATCHER_HERE;
+
+/* ------------------------------------------------------------------------------------------------
+ * The doors.
+ */
+
+static void open_manager(void) { DONE(bs_make(&manager, BS_AT_BLOCK, BS_SLOTS)); }
+static void close_manager(void) { DONE(bs_end(&manager)); }
+static bs_reply served_by_manager(bs_command c) { return bs_command_made(&manager, &c, c.txn, &told); }
+static bs_reply interval_by_manager(bs_node index, size_t place) { return bs_interval(&manager, index, place); }
+
+const struct door by_manager = { open_manager, served_by_manager, interval_by_manager, close_manager };
+
+static void open_table(void) { DONE(bs_table_make(&table, BS_AT_BLOCK, BS_YOUNGEST, BS_SLOTS)); }
+static void close_table(void) { DONE(bs_table_end(&table)); }
+static bs_reply interval_by_table(bs_node index, size_t place) { return bs_table_interval(&table, index, place); }
+
+/* A lock that waits is left waiting: nobody sleeps. */
+static bs_reply served_by_table(bs_command c) {
+  bs_table_run(&table, &c, 1);
+  return c.reply;
+}
+
+const struct door by_table = { open_table, served_by_table, interval_by_table, close_table };
+
+/* ------------------------------------------------------------------------------------------------
+ * The scene.
+ */
+
+static bs_node made(const struct door *door, bs_command command) { return DONE(door->serve(command)).node; }
+
+static bs_txn begun_by(const struct door *door) { return DONE(door->serve(bs_do_begin())).txn; }
+
+static void lock(const struct door *door, bs_txn txn, bs_node node, bs_mode mode) {
+  DONE(door->serve(bs_do_lock(txn, node, mode)));
+}
+
+static void lock_above(const struct door *door, bs_txn txn, const struct way *way) {
+  size_t i;
+  for (i = 0; i < ABOVE; i++) lock(door, txn, way->above[i], BS_IX);
+}
+
+/* Makes the nodes of a way, and holds none of them. The index has two intervals. */
+static void make_way(const struct door *door, struct way *way) {
+  static const uint64_t bound = 100, key = 50;
+  bs_node *above = way->above;
+  bs_txn txn = begun_by(door);
+  above[0] = made(door, bs_do_add_inner(NULL, 0));
+  above[1] = made(door, bs_do_add_file(&above[0], 1));
+  above[2] = made(door, bs_do_add_index(&above[0], 1, above[1], &bound, 1));
+  above[3] = DONE(door->interval(above[2], 0)).node;
+  lock_above(door, txn, way);
+  way->record = made(door, bs_do_insert(txn, above[1], &key, 1));
+  DONE(door->serve(bs_do_commit(txn)));
+}
+
+/* One who holds a new root, and so many who wait for it. */
+static void queue_up(const struct door *door, size_t waiters) {
+  bs_node root = made(door, bs_do_add_inner(NULL, 0));
+  lock(door, begun_by(door), root, BS_X);
+  while (waiters-- > 0) waits(door->serve(bs_do_lock(begun_by(door), root, BS_X)));
+}
+
+static void join(const struct scene *scene) {
+  size_t i;
+  switch (scene->crowd) {
+    case ON_THE_WAY:
+      for (i = 0; i < scene->others; i++) lock_above(scene->door, begun_by(scene->door), &ways[0]);
+      break;
+    case ELSEWHERE:
+      for (i = 0; i < scene->others; i += 2) queue_up(scene->door, 1);
+      break;
+    case QUEUED:
+      queue_up(scene->door, scene->others);
+      break;
+  }
+}
+
+void open_scene(const struct scene *scene) {
+  size_t i;
+  if (scene->door == NULL) return;
+  scene->door->open();
+  for (i = 0; i < MOST_TOGETHER; i++) make_way(scene->door, &ways[i]);
+  join(scene);
+  if (scene->is_watched) DONE(bs_table_watch(&table, &watcher));
+}
+
+void close_scene(const struct scene *scene) {
+  if (scene->is_watched) DONE(bs_table_watch_end(&watcher));
+  if (scene->door != NULL) scene->door->close();
+}
