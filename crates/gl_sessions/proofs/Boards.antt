@@ -2,28 +2,30 @@
 use Rattle.gl_slots.specs.Limit.{most_slots}
 use Rattle.std.proofs.Common.{◌≡◌, ◌≤◌, ◌⊎◌, ⊎_elim, ℕ, zero, suc, Bool, true, false, List, [], ◌∷◌, ◌++◌, replicate, get_or, ap, sym, ◌∙◌, refl, subst, arith, le_trans}
 use Rattle.gl_waits.specs.declared.board.Board.{Board}
-use Rattle.gl_waits.specs.Boards.{board_edge}
-use Rattle.gl_waits.specs.Sets.{has_slot}
+use Rattle.gl_waits.specs.Boards.{board_edge, idle_board}
+use Rattle.gl_slots.specs.Slots.{Bits, has_bit, no_bits}
 use Rattle.gl_waits.specs.Waits.{IsWalk}
-use Rattle.gl_waits.proofs.SetLemmas.{has_slot-zero}
+use Rattle.gl_slots.proofs.SlotLemmas.{no_bits-none}
+use Rattle.std.proofs.lemmas.Bool.{cases_lt}
+use Rattle.std.proofs.lemmas.List.{get_or_past, get_or-replicate, length-replicate}
 use Rattle.gl_model.specs.declared.answers.Detect.TheVariants.{AtBlock}
 use Rattle.gl_boxes.specs.Boards.{Fine, last_epoch}
 use Rattle.gl_boxes.proofs.Lists.{last_ends}
 
-zero_at : (n s : ℕ) → let x : ℕ = get_or (replicate n 0) s 0 in x ≡ 0
-zero_at zero s = refl
-zero_at (suc n) zero = refl
-zero_at (suc n) (suc s) = zero_at n s
+empty_row : (s : ℕ) → get_or (replicate most_slots no_bits) s no_bits ≡ no_bits
+empty_row s = ⊎_elim
+    (λ low. get_or-replicate {A = Bits} most_slots s no_bits no_bits low)
+    (λ past. get_or_past (replicate most_slots no_bits) s no_bits (let e = length-replicate {A = Bits} most_slots no_bits in omega arith)) (cases_lt s most_slots)
 
 no_walk : (edge : ℕ → ℕ → Bool) → ((s u : ℕ) → edge s u ≡ false) → (s : ℕ) (way : List ℕ) (u : ℕ) → IsWalk edge s way u → ⊥
 no_walk edge none s [] u w = cc (none s u, w)
 no_walk edge none s (v ∷ way) u w = cc (none s v, w.0)
 
 -- a board of any epoch, on which nobody lives
-pub empty_is_fine : (epoch : ℕ) → Fine AtBlock (record { epoch = epoch; ages = replicate most_slots 0; rows = replicate most_slots 0 })
+pub empty_is_fine : (epoch : ℕ) → Fine AtBlock (idle_board epoch)
 empty_is_fine epoch =
-    let b : Board = record { epoch = epoch; ages = replicate most_slots 0; rows = replicate most_slots 0 } in
-    let none : (s u : ℕ) → board_edge b s u ≡ false = λ s u. ap (λ (set : ℕ). has_slot set u) (zero_at most_slots s) ∙ has_slot-zero u in
+    let b : Board = idle_board epoch in
+    let none : (s u : ℕ) → board_edge b s u ≡ false = λ s u. ap (λ (set : Bits). has_bit set u) (empty_row s) ∙ no_bits-none u in
     record {
       self = λ s. none s s;
       free = λ s u on. absurd (cc (none s u, on));

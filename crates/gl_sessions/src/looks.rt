@@ -8,8 +8,8 @@ use gl_modes::Mode::X;
 use gl_modes::NodeId;
 use gl_shared::{Grant, Naming, Session, Share, Shared, Watcher};
 use gl_table::{Detect, TxnId};
-use gl_waits::set::{has, with};
-use gl_waits::{Board, SLOTS};
+use gl_slots::{SLOTS, Slot, Slots};
+use gl_waits::Board;
 use std::alloc::{AllocError, Global};
 use std::process::Abort;
 use std::rt::Clock;
@@ -35,11 +35,11 @@ struct Player<N: Naming> {
 }
 
 /// The slots in which nobody lives.
-fn free_slots(board: &Board) -> u128 {
-    let mut free = 0;
+fn free_slots(board: &Board) -> Slots {
+    let mut free = Slots::empty();
     for slot in 0..SLOTS {
         if board.ages[slot] == 0 {
-            free = with(free, slot);
+            free.insert(slot as Slot);
         }
     }
     free
@@ -49,9 +49,9 @@ fn free_slots(board: &Board) -> u128 {
 fn checks<R: Abort>(rt: &R, board: &Board) {
     let free = free_slots(board);
     for slot in 0..SLOTS {
-        let row = board.rows[slot];
-        assert!(rt; !has(row, slot) && row & free == 0);
-        assert!(rt; row == 0 || !has(free, slot));
+        let row = Slots::from_bits(board.rows[slot]);
+        assert!(rt; !row.contains(slot as Slot) && row.intersection(free).is_empty());
+        assert!(rt; row.is_empty() || !free.contains(slot as Slot));
     }
 }
 

@@ -18,11 +18,7 @@ fn board_of(epoch: u64) -> Board
     ensures epoch { result.epoch ≡ epoch }
     ensures fine { Fine AtBlock result }
 {
-    Board {
-        epoch,
-        ages: [0; SLOTS],
-        rows: [0; SLOTS],
-    }
+    Board::idle(epoch)
 }
 
 /// Shows boards of rising epochs.

@@ -25,6 +25,8 @@ fn a_set_has_what_was_put_in(rt: HostRuntime) {
         Some(9),
     );
     assert!(rt; Slots::all().contains(127) && !Slots::all().contains(128));
+    same(&rt, set.complement().lowest(), Some(1));
+    same(&rt, set.union(set.complement()), Slots::all());
 }
 
 #[test]
