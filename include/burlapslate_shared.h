@@ -3,7 +3,7 @@
  *
  * A bs_table is a manager of burlapslate.h behind one mutex, its latch, with a condition for each slot. Any
  * thread calls it. A lock that has to wait sleeps until it is granted, or until it never will be; each call that
- * ends the wait of somebody wakes who sleeps for it.
+ * ends the wait of somebody wakes who sleeps for it. Where there are more threads than slots a begin can sleep too.
  *
  * It is this header alone, over burlapslate.h and POSIX threads. Where the compiler keeps to ISO C (-std=c99),
  * _POSIX_C_SOURCE is to be 200809L before the first header of the program.
@@ -35,13 +35,15 @@
  *   - BS_NOT_WAITING: another thread took the wait back by bs_table_cancel; the transaction is active;
  *   - BS_NO_SUCH_TXN: another thread ended the transaction by bs_table_abort;
  *   - BS_NO_MANAGER: bs_table_end was called.
- * A grant that came before the one who sleeps got the latch is a grant, also where its time was over by then.
+ * A grant that came before the one who sleeps got the latch is a grant, also where its time was over by then. One who
+ * sleeps for a slot is answered as bs_table_begin_until says, and BS_NO_MANAGER where the table ends.
  *
  * WHAT IS PROVED, AND WHAT IS NOT. The library is proved: what each command does and whom it tells, what became of
  * a wait (bs_verdict), whose sleepers are to be woken (bs_ended), that a look gives a whole board and never an older
- * one. Written in C here, and tested: the mutex and the conditions. They are in bs_table_enter, round each call;
- * bs_table_wake, behind each command; bs_table_sleep, where a lock waits; bs_table_end; and bs_table_watches, the
- * thread that watches. The rest of this header makes calls of burlapslate.h between these.
+ * one. Written in C here, and tested: the mutex and the conditions, and the line of those who sleep for a slot. They are
+ * in bs_table_enter, round each call; bs_table_wake, behind each command; bs_table_hand_on, behind what may have ended
+ * a transaction; bs_table_sleep, where a lock waits; bs_table_sleep_in_line, where a begin does; bs_table_end; and
+ * bs_table_watches, the thread that watches. The rest of this header makes calls of burlapslate.h between these.
  */
 #ifndef BURLAPSLATE_SHARED_H
 #define BURLAPSLATE_SHARED_H
@@ -59,13 +61,21 @@
 extern "C" {
 #endif
 
+/* One who sleeps for a slot, in the frame of its own call: its place in the line, and what its begin was answered. */
+typedef struct bs_turn {
+  struct bs_turn *ahead, *behind;
+  bs_reply begun;      /* BS_WAITING: its turn has not come */
+  pthread_cond_t came;
+} bs_turn;
+
 /* What is made with a table, and ends with it. Its fields are this header's own: they are read and written with
  * the latch held. */
 typedef struct bs_table_inside {
   bs_manager manager;
   bs_notices told;                /* by the last command whose caller wanted no list */
   pthread_cond_t ended[BS_SLOTS]; /* by slot: a wait may be over */
-  size_t sleepers;                /* how many threads sleep for a lock */
+  bs_turn *first, *last;          /* the line of those who sleep for a slot, by their arrival */
+  size_t sleepers;                /* how many threads sleep, for a lock or for a slot */
   uint64_t waited;                /* how many commands had been accepted when the last lock was left waiting */
   bool is_ending;
   pthread_cond_t left;            /* the last who slept has left an ending table */
@@ -136,6 +146,18 @@ static inline void bs_table_wake(bs_table_inside *in, bs_status status, const bs
   }
 }
 
+/* Sleeps on a condition, with the latch held before and behind it, to a time at most where that is not null: whether
+ * that is over, by ETIMEDOUT. */
+static inline int bs_table_doze(bs_table *table, pthread_cond_t *on, const struct timespec *until) {
+  return until == NULL ? pthread_cond_wait(on, &table->latch) : pthread_cond_timedwait(on, &table->latch, until);
+}
+
+/* One who slept has the latch again, and leaves. */
+static inline void bs_table_woken(bs_table_inside *in) {
+  in->sleepers--;
+  if (in->is_ending && in->sleepers == 0) pthread_cond_signal(&in->left);
+}
+
 /* Takes back the wait of one whose time is over, and answers so. */
 static inline bs_reply bs_table_late(bs_table_inside *in, bs_txn txn) {
   bs_reply reply = bs_cancel(&in->manager, txn, &in->told);
@@ -158,12 +180,10 @@ static inline bs_reply bs_table_sleep(bs_table *table, bs_txn txn, bs_node node,
       reply = bs_table_late(in, txn);
       break;
     }
-    late = until == NULL ? pthread_cond_wait(&in->ended[txn.slot], &table->latch)
-                         : pthread_cond_timedwait(&in->ended[txn.slot], &table->latch, until);
+    late = bs_table_doze(table, &in->ended[txn.slot], until);
     reply = in->is_ending ? bs_no_table(table) : bs_verdict(&in->manager, txn, node, mode);
   }
-  in->sleepers--;
-  if (in->is_ending && in->sleepers == 0) pthread_cond_signal(&in->left);
+  bs_table_woken(in);
   return reply;
 }
 
@@ -175,6 +195,80 @@ static inline bs_reply bs_table_lock_inside(bs_table *table, bs_txn txn, bs_node
   bs_table_wake(in, reply.status, &in->told, false);
   if (reply.status == BS_WAITING) reply = bs_table_sleep(table, txn, node, mode, until);
   return reply;
+}
+
+/* ------------------------------------------------------------------------------------------------
+ * The line of those who sleep for a slot.
+ */
+
+/* A condition whose times are of the clock that is never set. */
+static inline void bs_steady_cond(pthread_cond_t *cond) {
+  pthread_condattr_t steady;
+  pthread_condattr_init(&steady);
+  pthread_condattr_setclock(&steady, CLOCK_MONOTONIC);
+  pthread_cond_init(cond, &steady);
+  pthread_condattr_destroy(&steady);
+}
+
+static inline void bs_table_join_line(bs_table_inside *in, bs_turn *turn) {
+  turn->ahead = in->last;
+  turn->behind = NULL;
+  if (in->last == NULL) in->first = turn;
+  else in->last->behind = turn;
+  in->last = turn;
+}
+
+static inline void bs_table_leave_line(bs_table_inside *in, bs_turn *turn) {
+  if (turn->ahead == NULL) in->first = turn->behind;
+  else turn->ahead->behind = turn->behind;
+  if (turn->behind == NULL) in->last = turn->ahead;
+  else turn->behind->ahead = turn->ahead;
+}
+
+/* Behind what may have ended a transaction: begins for those who sleep for a slot, in their order, while one is free.
+ * So no hold of the latch leaves a slot free while somebody sleeps for one, and there is no turn that could be lost:
+ * one whose time is over has begun by then, or stands in the line still. */
+static inline void bs_table_hand_on(bs_table_inside *in) {
+  while (in->first != NULL) {
+    bs_turn *turn = in->first;
+    bs_reply begun = bs_begin(&in->manager);
+    if (begun.status == BS_TOO_MANY_TXNS) return;
+    turn->begun = begun;
+    bs_table_leave_line(in, turn);
+    pthread_cond_signal(&turn->came);
+  }
+}
+
+/* Begins a transaction, but where somebody sleeps for a slot: one that a list has freed is for these. */
+static inline bs_reply bs_table_begin_inside(bs_table_inside *in) {
+  bs_reply reply = bs_null();
+  if (in->first == NULL) return bs_begin(&in->manager);
+  reply.status = BS_TOO_MANY_TXNS;
+  return reply;
+}
+
+/* Sleeps for a slot, with the latch held before and behind it, until somebody has begun for the one who sleeps, or the
+ * time is over, or the table ends. Whether it has begun is asked before the clock. */
+static inline bs_reply bs_table_sleep_in_line(bs_table *table, const struct timespec *until) {
+  bs_table_inside *in = table->in;
+  bs_turn turn;
+  int late = 0;
+  memset(&turn, 0, sizeof turn);
+  turn.begun.status = BS_WAITING;
+  bs_steady_cond(&turn.came);
+  bs_table_join_line(in, &turn);
+  in->sleepers++;
+  while (turn.begun.status == BS_WAITING && late != ETIMEDOUT && !in->is_ending) {
+    late = bs_table_doze(table, &turn.came, until);
+  }
+  if (turn.begun.status == BS_WAITING) {
+    bs_table_leave_line(in, &turn);
+    turn.begun.status = BS_TIMED_OUT;
+  }
+  if (in->is_ending) turn.begun = bs_no_table(table);
+  bs_table_woken(in);
+  pthread_cond_destroy(&turn.came);
+  return turn.begun;
 }
 
 /* Whether this is a time: null, or with nanoseconds below a second. */
@@ -217,6 +311,7 @@ static inline bs_reply bs_table_tells_none(const bs_table *table, bs_notices *to
   list = bs_table_list(in, told);                            \
   reply = call;                                              \
   bs_table_wake(in, reply.status, list, by_name);            \
+  bs_table_hand_on(in);                                      \
   pthread_mutex_unlock(&(table)->latch);                     \
   return reply
 
@@ -227,17 +322,13 @@ static inline bs_reply bs_table_tells_none(const bs_table *table, bs_notices *to
 /* What is inside a new table, with no manager yet; null where memory is refused. */
 static inline bs_table_inside *bs_table_new_inside(void) {
   bs_table_inside *in = (bs_table_inside *)malloc(sizeof *in);
-  pthread_condattr_t steady;
   size_t slot;
   if (in == NULL) return NULL;
   memset(in, 0, sizeof *in);
-  pthread_condattr_init(&steady);
-  pthread_condattr_setclock(&steady, CLOCK_MONOTONIC);
-  for (slot = 0; slot < BS_SLOTS; slot++) pthread_cond_init(&in->ended[slot], &steady);
-  pthread_cond_init(&in->left, &steady);
-  pthread_cond_init(&in->began, &steady);
-  pthread_cond_init(&in->over, &steady);
-  pthread_condattr_destroy(&steady);
+  for (slot = 0; slot < BS_SLOTS; slot++) bs_steady_cond(&in->ended[slot]);
+  bs_steady_cond(&in->left);
+  bs_steady_cond(&in->began);
+  bs_steady_cond(&in->over);
   return in;
 }
 
@@ -279,8 +370,10 @@ static inline bs_reply bs_table_make(bs_table *table, uint32_t detect, uint32_t 
 
 /* Wakes all who sleep with a table that ends. */
 static inline void bs_table_wake_all(bs_table_inside *in) {
+  bs_turn *turn;
   bs_table_wake_half(in, UINT64_MAX, 0);
   bs_table_wake_half(in, UINT64_MAX, 64);
+  for (turn = in->first; turn != NULL; turn = turn->behind) pthread_cond_signal(&turn->came);
   pthread_cond_broadcast(&in->began);
   pthread_cond_broadcast(&in->over);
 }
@@ -332,8 +425,28 @@ static inline bs_reply bs_table_add_index(bs_table *table, const bs_node *parent
  * Transactions and locks.
  */
 
+/* As bs_begin. While somebody sleeps in bs_table_begin_until it is refused with BS_TOO_MANY_TXNS. */
 static inline bs_reply bs_table_begin(bs_table *table) {
-  BS_TABLE_ASK(table, bs_begin(&in->manager));
+  BS_TABLE_ASK(table, bs_table_begin_inside(in));
+}
+
+/* As bs_begin, but it never answers BS_TOO_MANY_TXNS: where all slots are taken it sleeps until one is its own, or, where
+ * `until` is not null, until that time by CLOCK_MONOTONIC. Those who sleep for a slot are served in the order in which
+ * they came. Whoever ends a transaction begins the next for the first of them, in the same hold of the latch: so nobody
+ * who came later is served before, and a slot that is free by the time at which a sleep ends is a begin. One who
+ * sleeps has no transaction, so it is on no cycle of waits: a thread that has one still, and sleeps for another, may wait
+ * for itself, and nobody finds that.
+ * BS_TIMED_OUT: its time came first, and nothing has begun. BS_NO_MEMORY may also come behind a sleep. Refused with
+ * BS_BAD_NUMBER also where `until` is no time. */
+static inline bs_reply bs_table_begin_until(bs_table *table, const struct timespec *until) {
+  bs_table_inside *in = bs_table_enter(table);
+  bs_reply reply;
+  if (in == NULL) return bs_no_table(table);
+  if (!bs_is_time(until)) return bs_table_leave(table, bs_bad_number());
+  reply = bs_table_begin_inside(in);
+  if (reply.status == BS_TOO_MANY_TXNS) reply = bs_table_sleep_in_line(table, until);
+  pthread_mutex_unlock(&table->latch);
+  return reply;
 }
 
 /* As bs_lock, but it never answers BS_WAITING: a lock that has to wait sleeps until its end, or, where `until` is
@@ -658,10 +771,11 @@ static inline bs_command bs_do_add_index(const bs_node *parents, size_t count, b
   return command;
 }
 
-/* Makes a command with a manager, for this transaction. */
-static inline bs_reply bs_command_made(bs_manager *m, const bs_command *c, bs_txn txn, bs_notices *told) {
+/* Makes a command with the manager of a table, for this transaction. */
+static inline bs_reply bs_command_made(bs_table_inside *in, const bs_command *c, bs_txn txn, bs_notices *told) {
+  bs_manager *m = &in->manager;
   switch (c->kind) {
-    case BS_DO_BEGIN: return bs_begin(m);
+    case BS_DO_BEGIN: return bs_table_begin_inside(in);
     case BS_DO_LOCK: return bs_lock(m, txn, c->node, c->mode, told);
     case BS_DO_TRY: return bs_try(m, txn, c->node, c->mode);
     case BS_DO_UNLOCK: return bs_unlock(m, txn, c->node, told);
@@ -707,12 +821,13 @@ static inline size_t bs_table_run(bs_table *table, bs_command *commands, size_t 
     bool by_name;
     told->count = 0;
     by_name = next->kind == BS_DO_CANCEL || next->kind == BS_DO_ABORT;
-    next->reply = bs_command_made(&in->manager, next, txn, told);
+    next->reply = bs_command_made(in, next, txn, told);
     bs_table_wake(in, next->reply.status, told, by_name);
     if (next->reply.status != BS_DONE) break;
     if (next->kind == BS_DO_BEGIN) begun = next->reply.txn;
     done++;
   }
+  bs_table_hand_on(in);
   pthread_mutex_unlock(&table->latch);
   return done;
 }
@@ -730,7 +845,10 @@ static inline bs_manager *bs_table_hold(bs_table *table) {
   return in == NULL ? NULL : &in->manager;
 }
 
-static inline void bs_table_let_go(bs_table *table) { pthread_mutex_unlock(&table->latch); }
+static inline void bs_table_let_go(bs_table *table) {
+  bs_table_hand_on(table->in);
+  pthread_mutex_unlock(&table->latch);
+}
 
 static inline bs_reply bs_table_group(bs_table *table, bs_node node) {
   BS_TABLE_ASK(table, bs_group(&in->manager, node));

@@ -34,6 +34,15 @@ watch-forgets-to-wake	s/  bs_table_wake(in, \(bs_settle(.*)\).status, &in->told,
 early-return	s/    reply = in->is_ending ? .*/    reply.status = BS_DONE, reply.mode = mode;/
 time-before-grant	s/    reply = in->is_ending ? /    if (late == 0) &/
 end-leaves-sleepers	s/  bs_table_wake_half(in, UINT64_MAX, 0);//
+begin-passes-the-line	s/  if (in->first == NULL) return bs_begin/  return bs_begin/
+last-comes-first	s/    bs_turn \*turn = in->first;/    bs_turn *turn = in->last;/
+call-keeps-the-slot	s/  bs_table_hand_on(in);  *\\$/ \\/
+run-keeps-the-slot	s/^  bs_table_hand_on(in);$//
+hold-keeps-the-slot	s/  bs_table_hand_on(table->in);//
+one-slot-is-handed-on	s/  while (in->first != NULL) {/  if (in->first != NULL) {/
+time-before-turn	s/  if (turn.begun.status == BS_WAITING) {/  if (late == ETIMEDOUT) {/
+turn-wakes-nobody	s/    pthread_cond_signal(&turn->came);//
+end-leaves-the-line	s/  for (turn = in->first; turn != NULL; .*//
 FAULTS
 }
 

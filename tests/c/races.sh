@@ -56,7 +56,8 @@ for tool in "$@"; do
         continue
       fi
       compile shared shared && compile crowd crowd || exit 1
-      watched=(valgrind "--tool=$tool" -q --fair-sched=yes "--suppressions=$top/tests/c/races.supp" --error-exitcode=66)
+      watched=(valgrind "--tool=$tool" -q --fair-sched=yes --max-threads=1200 "--suppressions=$top/tests/c/races.supp"
+        --error-exitcode=66)
       quiet "$tool, the stories" "${watched[@]}" "$work/shared" 900 || status=1
       quiet "$tool, the crowd" "${watched[@]}" "$work/crowd" 1 900 || status=1
       ;;

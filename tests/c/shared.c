@@ -6,7 +6,34 @@
  *
  * It is linked with the calls for memory of memory.h.
  */
+#include "burlapslate.h"
 #include "memory.h"
+
+/* So many begins of the header are refused memory. */
+static int refused_begins;
+
+static bs_reply noted_begin(bs_manager *m) {
+  bs_reply refused = bs_null();
+  refused.status = BS_NO_MEMORY;
+  if (refused_begins == 0) return bs_begin(m);
+  refused_begins--;
+  return refused;
+}
+
+#define bs_begin(m) noted_begin(m)
+
+/* Where the header makes a condition for one who comes to sleep for a slot, with the latch held, the number of its
+ * arrival is noted. */
+static __thread long my_arrival;
+static long arrivals;
+
+static int noted_cond_init(pthread_cond_t *cond, const pthread_condattr_t *attributes) {
+  my_arrival = ++arrivals;
+  return pthread_cond_init(cond, attributes);
+}
+
+#define pthread_cond_init noted_cond_init
+
 #include "threads.h"
 
 /* ------------------------------------------------------------------------------------------------
@@ -483,6 +510,345 @@ static void times_and_grants(void) {
   }
   WANT(granted + late == 200);
   DONE(bs_table_end(&table));
+}
+
+/* ------------------------------------------------------------------------------------------------
+ * Begins that sleep for a slot.
+ */
+
+/* A table with so many slots, and a root alone. */
+static void set_up_slots(uint32_t most) {
+  DONE(bs_table_make(&table, BS_AT_BLOCK, BS_YOUNGEST, most));
+  root = DONE(bs_table_add_inner(&table, NULL, 0)).node;
+}
+
+/* One who begins in a thread of its own. */
+struct beginner {
+  const struct timespec *until;
+  bs_reply reply;
+  pthread_t thread;
+};
+
+static void *begin_in_turn(void *arg) {
+  struct beginner *b = (struct beginner *)arg;
+  b->reply = bs_table_begin_until(&table, b->until);
+  return NULL;
+}
+
+static void await_sleepers(size_t count) {
+  size_t sleepers = 0;
+  while (sleepers != count) {
+    nap();
+    pthread_mutex_lock(&table.latch);
+    sleepers = table.in->sleepers;
+    pthread_mutex_unlock(&table.latch);
+  }
+}
+
+static void start_to_begin(struct beginner *b, const struct timespec *until) {
+  memset(b, 0, sizeof *b);
+  b->until = until;
+  start(&b->thread, begin_in_turn, b);
+}
+
+/* Has a thread come into the line, the last of so many. */
+static void line_up(struct beginner *b, size_t count) {
+  start_to_begin(b, NULL);
+  await_sleepers(count);
+}
+
+static bs_txn begun(struct beginner *b) {
+  join(b->thread);
+  return DONE(b->reply).txn;
+}
+
+/* The calls that end a transaction, by their numbers: each hands its slot on. */
+enum { WAYS_TO_END = 7 };
+
+static void end_by(int way, bs_txn txn) {
+  bs_command list[1];
+  bs_manager *m;
+  switch (way) {
+    case 0: DONE(bs_table_commit(&table, txn, NULL)); break;
+    case 1: DONE(bs_table_abort(&table, txn, NULL)); break;
+    case 2: DONE(bs_table_commit_rows(&table, txn, NULL)); break;
+    case 3: DONE(bs_table_abort_rows(&table, txn, NULL)); break;
+    case 4:
+    case 5:
+      list[0] = way == 4 ? bs_do_commit(txn) : bs_do_abort(txn);
+      WANT(bs_table_run(&table, list, 1) == 1);
+      break;
+    default:
+      m = bs_table_hold(&table);
+      DONE(bs_commit(m, txn, &told));
+      bs_table_let_go(&table);
+  }
+}
+
+static void a_begin_sleeps_for_a_slot(void) {
+  static const struct timespec wrong = { 0, 1000000000 };
+  struct timespec past = moment_in(0);
+  struct beginner one;
+  bs_txn holder, next;
+  int way;
+  set_up_slots(1);
+  holder = DONE(bs_table_begin_until(&table, NULL)).txn;
+  for (way = 0; way < WAYS_TO_END; way++) {
+    line_up(&one, 1);
+    end_by(way, holder);
+    next = begun(&one);
+    WANT(next.slot == holder.slot && next.age == holder.age + 1);
+    holder = next;
+  }
+  ANSWERS(BS_TIMED_OUT, bs_table_begin_until(&table, &past));
+  ANSWERS(BS_BAD_NUMBER, bs_table_begin_until(&table, &wrong));
+  DONE(bs_table_commit(&table, holder, NULL));
+  holder = DONE(bs_table_begin_until(&table, &past)).txn;
+  DONE(bs_table_end(&table));
+  ANSWERS(BS_NO_MANAGER, bs_table_begin_until(&table, NULL));
+  ANSWERS(BS_NULL_POINTER, bs_table_begin_until(NULL, NULL));
+}
+
+enum { BEGINNERS = 1000, HALF = BEGINNERS / 2 };
+
+/* One who does some work in a transaction: when it came to sleep for its slot, 0 where it did not, and when it began. */
+struct worker {
+  long arrival;
+  uint64_t age;
+  pthread_t thread;
+};
+
+/* How many have done their work, which the root's lock guards. */
+static long worked;
+
+static void *work_in_turn(void *arg) {
+  struct worker *w = (struct worker *)arg;
+  bs_txn txn = DONE(bs_table_begin_until(&table, NULL)).txn;
+  w->arrival = my_arrival;
+  w->age = txn.age;
+  DONE(bs_table_lock(&table, txn, root, BS_X));
+  worked++;
+  DONE(bs_table_commit(&table, txn, NULL));
+  return NULL;
+}
+
+static int by_age(const void *one, const void *other) {
+  uint64_t a = ((const struct worker *)one)->age, b = ((const struct worker *)other)->age;
+  return (a > b) - (a < b);
+}
+
+/* A thousand threads over fewer slots do their work once each. Half of them come to sleep, and while the others come one
+ * slot after the other is freed. Those who slept began in the order in which they came, and nobody had the age of
+ * another. */
+static void turns_over(uint32_t most) {
+  static struct worker all[BEGINNERS];
+  bs_txn held[BS_SLOTS];
+  long before = 0, slept = 0;
+  size_t i, freed = 0;
+  set_up_slots(most);
+  worked = 0;
+  for (i = 0; i < most; i++) held[i] = begin();
+  for (i = 1; i <= BEGINNERS; i++) {
+    start(&all[i - 1].thread, work_in_turn, &all[i - 1]);
+    if (i == HALF) await_sleepers(HALF);
+    if (i > HALF && (i - HALF) * most >= (freed + 1) * HALF) DONE(bs_table_commit(&table, held[freed++], NULL));
+  }
+  for (i = 0; i < BEGINNERS; i++) join(all[i].thread);
+  qsort(all, BEGINNERS, sizeof all[0], by_age);
+  for (i = 0; i < BEGINNERS; i++) {
+    WANT(all[i].age == held[most - 1].age + i + 1);
+    if (all[i].arrival == 0) continue;
+    WANT(all[i].arrival > before);
+    before = all[i].arrival;
+    slept++;
+  }
+  WANT(freed == most && worked == BEGINNERS && slept >= HALF && bs_table_living(&table, 0).status == BS_NO_PLACE);
+  DONE(bs_table_end(&table));
+}
+
+static void turns_over_all_slots(void) {
+  turns_over(BS_SLOTS);
+}
+
+static void turns_over_four_slots(void) {
+  turns_over(4);
+}
+
+/* Not even while the one who came earlier is still asleep over its slot. */
+static void a_later_begin_does_not_pass(void) {
+  struct timespec past = moment_in(0);
+  struct beginner one, two;
+  bs_command list[2];
+  bs_txn a, b, first;
+  int i;
+  set_up_slots(2);
+  a = begin(), b = begin();
+  line_up(&one, 1);
+  line_up(&two, 2);
+  ANSWERS(BS_TOO_MANY_TXNS, bs_table_begin(&table));
+  list[0] = bs_do_commit(a), list[1] = bs_do_begin();
+  WANT(bs_table_run(&table, list, 2) == 1 && list[1].reply.status == BS_TOO_MANY_TXNS);
+  ANSWERS(BS_TOO_MANY_TXNS, bs_table_begin(&table));
+  ANSWERS(BS_TIMED_OUT, bs_table_begin_until(&table, &past));
+  first = begun(&one);
+  WANT(first.age == b.age + 1);
+  DONE(bs_table_commit(&table, b, NULL));
+  ANSWERS(BS_TOO_MANY_TXNS, bs_table_begin(&table));
+  WANT(begun(&two).age == first.age + 1);
+  list[0] = bs_do_commit(first);
+  for (i = 0; i < 3; i++) {
+    WANT(bs_table_run(&table, list, 2) == 2); /* Nobody sleeps for the slot any more. */
+    list[0] = bs_do_commit(list[1].reply.txn);
+  }
+  DONE(bs_table_end(&table));
+}
+
+/* A list may free several slots: each is handed on behind its last command. */
+static void a_list_frees_slots(void) {
+  struct beginner one, two;
+  bs_command list[2];
+  bs_txn a, b;
+  set_up_slots(2);
+  a = begin(), b = begin();
+  line_up(&one, 1);
+  line_up(&two, 2);
+  list[0] = bs_do_commit(a), list[1] = bs_do_abort(b);
+  WANT(bs_table_run(&table, list, 2) == 2);
+  a = begun(&one);
+  WANT(begun(&two).age == a.age + 1);
+  DONE(bs_table_end(&table));
+}
+
+/* Whether the last of so many has come into the line before a time. */
+static bool comes_into_line(size_t count, const struct timespec *until) {
+  size_t sleepers = 0;
+  while (sleepers != count && !is_over(until)) {
+    nap();
+    pthread_mutex_lock(&table.latch);
+    sleepers = table.in->sleepers;
+    pthread_mutex_unlock(&table.latch);
+  }
+  return sleepers == count;
+}
+
+/* Of five the first, the third and the last have this much time. False: this machine was too slow for that. */
+static bool some_leave_the_line_in(long microseconds) {
+  struct timespec until;
+  struct beginner all[5];
+  bool is_in_time = true;
+  bs_txn holder, next;
+  size_t i;
+  set_up_slots(1);
+  holder = begin();
+  until = moment_in(microseconds);
+  for (i = 0; i < 5; i++) {
+    start_to_begin(&all[i], i % 2 == 0 ? &until : NULL);
+    is_in_time = comes_into_line(i + 1, &until) && is_in_time;
+  }
+  for (i = 0; i < 5; i += 2) {
+    join(all[i].thread);
+    ANSWERS(BS_TIMED_OUT, all[i].reply);
+  }
+  WANT(is_over(&until));
+  await_sleepers(2);
+  for (i = 1; i < 5 && is_in_time; i += 2) {
+    DONE(bs_table_commit(&table, holder, NULL));
+    next = begun(&all[i]);
+    WANT(next.age == holder.age + 1);
+    holder = next;
+  }
+  if (is_in_time) {
+    DONE(bs_table_commit(&table, holder, NULL));
+    begin();
+  }
+  DONE(bs_table_end(&table));
+  for (i = 1; i < 5 && !is_in_time; i += 2) join(all[i].thread);
+  return is_in_time;
+}
+
+/* Those whose time comes leave the line from its head, from between and from its end; the others keep their order. */
+static void some_leave_the_line(void) {
+  long microseconds = 50000;
+  while (!some_leave_the_line_in(microseconds)) microseconds *= 2;
+}
+
+/* The time is over, and then, before the one who sleeps has the latch again, a slot is free. False: this machine was too
+ * slow to see it in the line. */
+static bool begins_behind_the_time(long microseconds) {
+  struct timespec until;
+  struct beginner one;
+  bool is_in_line = false;
+  bs_manager *m = NULL;
+  bs_txn a;
+  set_up_slots(1);
+  a = begin();
+  until = moment_in(microseconds);
+  start_to_begin(&one, &until);
+  while (!is_in_line && !is_over(&until)) {
+    nap();
+    m = bs_table_hold(&table);
+    is_in_line = table.in->first != NULL;
+    if (!is_in_line) bs_table_let_go(&table);
+  }
+  if (is_in_line) {
+    while (!is_over(&until)) nap();
+    nap();
+    DONE(bs_commit(m, a, &told));
+    bs_table_let_go(&table);
+  }
+  join(one.thread);
+  WANT(one.reply.status == (is_in_line ? BS_DONE : BS_TIMED_OUT));
+  DONE(bs_table_end(&table));
+  return is_in_line;
+}
+
+static void a_turn_behind_the_time(void) {
+  long microseconds = 20000;
+  while (!begins_behind_the_time(microseconds)) microseconds *= 2;
+}
+
+/* Times and turns at the same moment, again and again: one has begun, or its slot is free. */
+static void times_and_turns(void) {
+  uint64_t dice = 88172645463325252u;
+  int i;
+  set_up_slots(1);
+  for (i = 0; i < 200; i++) {
+    bs_txn a = begin();
+    struct timespec until = moment_in(60 + (long)roll(&dice, 60)), pause = { 0, 0 };
+    struct beginner one;
+    start_to_begin(&one, &until);
+    pause.tv_nsec = (long)roll(&dice, 80000);
+    nanosleep(&pause, NULL);
+    DONE(bs_table_commit(&table, a, NULL));
+    join(one.thread);
+    WANT(one.reply.status == BS_DONE || one.reply.status == BS_TIMED_OUT);
+    if (one.reply.status == BS_DONE) {
+      ANSWERS(BS_TOO_MANY_TXNS, bs_table_begin(&table));
+      DONE(bs_table_commit(&table, one.reply.txn, NULL));
+    }
+  }
+  DONE(bs_table_end(&table));
+}
+
+/* A table that ends wakes the line, and those who sleep for locks, and waits until all have left. */
+static void an_end_with_a_line(void) {
+  static struct beginner line[200];
+  struct timespec until = moment_in(60000000);
+  struct asker asker;
+  bs_txn a, b;
+  size_t i;
+  set_up_slots(2);
+  a = begin(), b = begin();
+  DONE(bs_table_lock(&table, a, root, BS_X));
+  send(&asker, b, root, BS_X);
+  for (i = 0; i < 200; i++) start_to_begin(&line[i], i % 2 == 0 ? &until : NULL);
+  await_sleepers(201);
+  DONE(bs_table_end(&table));
+  back(&asker, BS_NO_MANAGER);
+  for (i = 0; i < 200; i++) {
+    join(line[i].thread);
+    ANSWERS(BS_NO_MANAGER, line[i].reply);
+  }
 }
 
 /* ------------------------------------------------------------------------------------------------
@@ -1550,6 +1916,34 @@ static void refused_growths(void) {
   WANT(n > 2);
 }
 
+/* A begin for those who sleep is refused memory, in the thread that ends a transaction: they are told, and the next in
+ * the line has the slot. Where there is none the slot is free. */
+static void refused_turns(void) {
+  struct beginner line[3];
+  bs_txn holder;
+  size_t i;
+  set_up_slots(1);
+  holder = begin();
+  for (i = 0; i < 3; i++) line_up(&line[i], i + 1);
+  refused_begins = 2;
+  DONE(bs_table_commit(&table, holder, NULL));
+  for (i = 0; i < 2; i++) {
+    join(line[i].thread);
+    ANSWERS(BS_NO_MEMORY, line[i].reply);
+  }
+  holder = begun(&line[2]);
+  ANSWERS(BS_TOO_MANY_TXNS, bs_table_begin(&table));
+  line_up(&line[0], 1);
+  refused_begins = 1;
+  DONE(bs_table_commit(&table, holder, NULL));
+  join(line[0].thread);
+  ANSWERS(BS_NO_MEMORY, line[0].reply);
+  refused_begins = 1;
+  ANSWERS(BS_NO_MEMORY, bs_table_begin_until(&table, NULL));
+  begin();
+  DONE(bs_table_end(&table));
+}
+
 /* ------------------------------------------------------------------------------------------------
  * The whole.
  */
@@ -1589,6 +1983,15 @@ int main(int count, char **words) {
   TELL(a_time_comes_and_grants);
   TELL(a_grant_behind_the_time);
   TELL(times_and_grants);
+  TELL(a_begin_sleeps_for_a_slot);
+  TELL(turns_over_all_slots);
+  TELL(turns_over_four_slots);
+  TELL(a_later_begin_does_not_pass);
+  TELL(a_list_frees_slots);
+  TELL(some_leave_the_line);
+  TELL(a_turn_behind_the_time);
+  TELL(times_and_turns);
+  TELL(an_end_with_a_line);
   TELL(paths);
   TELL(a_path_waits_twice);
   TELL(a_path_moves);
@@ -1624,5 +2027,6 @@ int main(int count, char **words) {
   TELL(places_without_a_table);
   TELL(refused_tables);
   TELL(refused_growths);
+  TELL(refused_turns);
   return 0;
 }

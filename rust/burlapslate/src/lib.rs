@@ -93,6 +93,7 @@ mod session;
 #[allow(unsafe_code)]
 mod sys;
 mod table;
+mod turns;
 mod watcher;
 
 pub use board::{Board, SlotIter, Slots};

@@ -5,11 +5,13 @@ use crate::manager::{Asked, Manager, Options, Reached, RowAsked};
 use crate::mode::{Detect, Mode, Victims};
 use crate::names::{Node, Row, Txn};
 use crate::refusal::Refusal;
-use crate::session::{RowLocked, Session, Stop};
+use crate::session::{deadline, RowLocked, Session, Stop};
+use crate::turns::Turns;
 use crate::watcher::Watcher;
 use crate::SLOTS;
 use std::fmt;
 use std::sync::{Condvar, Mutex, MutexGuard, PoisonError};
+use std::thread;
 use std::time::{Duration, Instant};
 
 /// A table of granular locks that threads share: a [`Manager`] behind one mutex, its latch, with a
@@ -54,6 +56,8 @@ struct Guarded {
     waited: u64,
     /// Whether those who watch over the table are to end.
     is_unwatched: bool,
+    /// Those who sleep for a slot: none is free while there is one.
+    turns: Turns,
 }
 
 impl Table {
@@ -78,6 +82,7 @@ impl Table {
             manager: Manager::with_options(options)?,
             waited: 0,
             is_unwatched: false,
+            turns: Turns::new(),
         };
         Ok(Table {
             latch: Mutex::new(guarded),
@@ -86,12 +91,53 @@ impl Table {
         })
     }
 
-    /// A new transaction, in the hands of this thread.
+    /// A new transaction, in the hands of this thread. While somebody sleeps for a slot
+    /// ([`begin_in_turn`](Table::begin_in_turn)) none is free, and it is refused with
+    /// [`TooManyTxns`](Refusal::TooManyTxns).
     ///
     /// Refused as [`Manager::begin`].
     pub fn begin(&self) -> Result<Session<'_>, Refusal> {
         let txn = self.ask(|m| m.begin())?;
         Ok(Session::of(self, txn))
+    }
+
+    /// As [`begin`](Table::begin), but where all slots are taken it sleeps until one is its own. Those
+    /// who sleep for a slot are served in the order in which they came: whoever ends a transaction
+    /// begins the next for the first of them. So nobody who came later is served before.
+    ///
+    /// One who sleeps has no transaction, so it is on no cycle of waits. A thread that has a session
+    /// still, and sleeps for another, may wait for itself, and nobody finds that.
+    ///
+    /// Refused as [`Manager::begin`], but never with [`TooManyTxns`](Refusal::TooManyTxns). To sleep takes
+    /// memory.
+    ///
+    /// ```
+    /// use burlapslate::{Detect, Mode, Stop, Table};
+    /// use std::thread;
+    ///
+    /// let table = Table::new(Detect::AtBlock, 2)?; // Two slots, for eight threads.
+    /// let db = table.add_inner(&[])?;
+    /// thread::scope(|scope| {
+    ///     for _ in 0..8 {
+    ///         scope.spawn(|| {
+    ///             let mut session = table.begin_in_turn()?;
+    ///             session.lock(db, Mode::X)?;
+    ///             session.commit()?;
+    ///             Ok::<(), Stop>(())
+    ///         });
+    ///     }
+    /// });
+    /// # Ok::<(), burlapslate::Refusal>(())
+    /// ```
+    pub fn begin_in_turn(&self) -> Result<Session<'_>, Refusal> {
+        let begun = self.begin_until(None)?;
+        begun.ok_or(Refusal::TooManyTxns) // But no time comes first.
+    }
+
+    /// As [`begin_in_turn`](Table::begin_in_turn), but it sleeps no longer than this time, and is
+    /// answered [`Stop::TimedOut`] then. A slot that is free at the same moment is a begin.
+    pub fn begin_timeout(&self, time: Duration) -> Result<Session<'_>, Stop> {
+        self.begin_until(deadline(time))?.ok_or(Stop::TimedOut)
     }
 
     /// As [`Manager::add_inner`].
@@ -278,7 +324,31 @@ impl Table {
         let mut guarded = self.guarded();
         let answer = command(&mut guarded.manager)?;
         self.wake(&guarded);
+        hand_on(&mut guarded);
         Ok(answer)
+    }
+
+    /// Begins, or sleeps for a slot; `None`, where its time came first. Whether its turn has come is asked
+    /// before the clock.
+    fn begin_until(&self, until: Option<Instant>) -> Result<Option<Session<'_>>, Refusal> {
+        let mut guarded = self.guarded();
+        match guarded.manager.begin() {
+            Err(Refusal::TooManyTxns) => {}
+            begun => return Ok(Some(Session::of(self, begun?))),
+        }
+        let place = guarded.turns.join()?;
+        loop {
+            drop(guarded);
+            park_until(until);
+            guarded = self.guarded();
+            if let Some(begun) = guarded.turns.take(place) {
+                return Ok(Some(Session::of(self, begun?)));
+            }
+            if until.is_some_and(|until| Instant::now() >= until) {
+                guarded.turns.leave(place);
+                return Ok(None);
+            }
+        }
     }
 
     pub(crate) fn lock(
@@ -458,6 +528,26 @@ impl Table {
     }
 }
 
+/// Behind what may have ended a transaction: begins for those who sleep for a slot, while one is free. So
+/// no hold of the latch leaves a slot free while somebody sleeps for one.
+fn hand_on(guarded: &mut Guarded) {
+    let Guarded { manager, turns, .. } = guarded;
+    while turns.has_next() {
+        match manager.begin() {
+            Err(Refusal::TooManyTxns) => return,
+            begun => turns.serve(begun),
+        }
+    }
+}
+
+/// Sleeps until somebody wakes this thread, but no longer than to a moment.
+fn park_until(until: Option<Instant>) {
+    match until {
+        None => thread::park(),
+        Some(until) => thread::park_timeout(until.saturating_duration_since(Instant::now())),
+    }
+}
+
 fn wait<'t>(on: &Condvar, guarded: MutexGuard<'t, Guarded>) -> MutexGuard<'t, Guarded> {
     on.wait(guarded).unwrap_or_else(PoisonError::into_inner)
 }
@@ -481,3 +571,6 @@ impl fmt::Debug for Table {
         self.with(|manager| f.debug_struct("Table").field("manager", manager).finish())
     }
 }
+
+#[cfg(test)]
+mod tests;
