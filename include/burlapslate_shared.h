@@ -1024,31 +1024,36 @@ static inline void bs_table_rest(bs_table *table, bs_table_inside *in, uint64_t 
   while (!in->is_ending && pthread_cond_timedwait(&in->over, &table->latch, &until) != ETIMEDOUT) continue;
 }
 
-/* Settles the youngest suspect of a board, with the latch held: whether there was one. */
-static inline bool bs_table_settles(bs_table_inside *in, const bs_board *board) {
+/* Settles every suspect of a board, the youngest first, with the latch held. Who is settled, and who is told, is taken
+ * off the board: so nobody is settled whose cycles are open by then. */
+static inline void bs_table_settle_all(bs_table_inside *in, bs_board *board) {
+  static const bs_slots none = { 0, 0 };
   bs_reply youngest = bs_youngest(board, bs_suspects(board).slots);
-  bs_txn suspect;
-  if (youngest.status != BS_DONE) return false;
-  suspect.slot = (uint8_t)youngest.count;
-  suspect.age = board->ages[youngest.count];
-  bs_table_wake(in, bs_settle(&in->manager, suspect, &in->told).status, &in->told, false);
-  return true;
+  while (youngest.status == BS_DONE) {
+    bs_txn suspect;
+    size_t i;
+    suspect.slot = (uint8_t)youngest.count;
+    suspect.age = board->ages[youngest.count];
+    bs_table_wake(in, bs_settle(&in->manager, suspect, &in->told).status, &in->told, false);
+    board->rows[suspect.slot] = none;
+    for (i = 0; i < in->told.count; i++) board->rows[in->told.at[i].txn.slot] = none;
+    youngest = bs_youngest(board, bs_suspects(board).slots);
+  }
 }
 
-/* The thread that watches. No cycle of waits closes but by a lock that is left waiting: so it sleeps until there was
- * one since it last looked and found no suspect. A board that is older than the last of these could not be shown, for
- * want of memory: then it is read with the latch, which takes none. */
+/* The thread that watches. No cycle of waits closes but by a lock that is left waiting: so it sleeps until there was one
+ * since the last board that it settled. A board that is older than the last of these could not be shown, for want of
+ * memory: then it is read with the latch, which takes none. */
 static inline void *bs_table_watches(void *place) {
   bs_table *table = (bs_table *)place;
   bs_table_inside *in;
   bs_board board;
-  uint64_t seen = 0;
-  bool is_clear = true;
+  uint64_t seen = 0; /* it never falls: all waits up to this count of commands are settled */
   memset(&board, 0, sizeof board);
   pthread_mutex_lock(&table->latch);
   in = table->in;
   while (!in->is_ending) {
-    if (is_clear && in->waited == seen) {
+    if (in->waited <= seen) {
       pthread_cond_wait(&in->began, &table->latch);
       continue;
     }
@@ -1058,7 +1063,8 @@ static inline void *bs_table_watches(void *place) {
     pthread_mutex_lock(&table->latch);
     if (in->is_ending) break;
     if (board.epoch < seen) bs_read_board(&in->manager, &board);
-    is_clear = !bs_table_settles(in, &board);
+    seen = board.epoch;
+    bs_table_settle_all(in, &board);
     bs_table_rest(table, in, in->pace);
   }
   pthread_mutex_unlock(&table->latch);
@@ -1067,8 +1073,8 @@ static inline void *bs_table_watches(void *place) {
 }
 
 /* Starts a thread that ends deadlocks, for a table that was made with BS_BY_WATCHER: it looks as a watcher does,
- * settles the youngest suspect, and rests for `pace` nanoseconds behind each look. While no lock has been left
- * waiting since it saw no suspect it sleeps. It ends with the table, and counts as a watcher. Refused with
+ * settles every suspect, the youngest first, and rests for `pace` nanoseconds behind each look. While no lock has been
+ * left waiting since it looked it sleeps. It ends with the table, and counts as a watcher. Refused with
  * BS_NULL_POINTER, BS_NO_MANAGER, BS_IN_USE where the table has such a thread, BS_TOO_MANY_WATCHERS, and with
  * BS_NO_MEMORY also where no thread can be started. */
 static inline bs_reply bs_table_watch_thread(bs_table *table, uint64_t pace) {

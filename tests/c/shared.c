@@ -88,13 +88,18 @@ static void await_wait(bs_txn txn) {
   while (bs_table_waiting(&table, txn).status != BS_WAITING) nap();
 }
 
-/* Has a transaction ask in a thread, which comes to sleep. */
-static void send(struct asker *a, bs_txn txn, bs_node node, bs_mode mode) {
+/* Has a transaction ask in a thread. */
+static void start_asking_for(struct asker *a, bs_txn txn, bs_node node, bs_mode mode) {
   memset(a, 0, sizeof *a);
   a->txn = txn;
   a->node = node;
   a->mode = mode;
   start(&a->thread, ask, a);
+}
+
+/* The same of a thread that comes to sleep. */
+static void send(struct asker *a, bs_txn txn, bs_node node, bs_mode mode) {
+  start_asking_for(a, txn, node, mode);
   await_wait(txn);
 }
 
@@ -1703,6 +1708,56 @@ static void a_thread_rests_long(void) {
   back(&one, BS_NO_MANAGER);
 }
 
+/* It is refused the memory to show what it did itself: it settles once, and sleeps. */
+static void a_thread_watches_without_memory(void) {
+  struct timespec pause = { 0, 20000000 };
+  struct asker one, two;
+  uint64_t accepted;
+  bs_txn a, b;
+  set_up(BS_BY_WATCHER);
+  DONE(bs_table_watch_thread(&table, 0));
+  refuse_thread(table.in->watch);
+  a = begin(), b = begin();
+  DONE(bs_table_lock(&table, a, root, BS_S));
+  DONE(bs_table_lock(&table, b, root, BS_S));
+  send(&one, a, root, BS_X);
+  start_asking_for(&two, b, root, BS_X);
+  back(&two, BS_VICTIM);
+  accepted = bs_table_accepted(&table).count;
+  nanosleep(&pause, NULL);
+  WANT(bs_table_accepted(&table).count == accepted);
+  DONE(bs_table_abort(&table, b, NULL));
+  back(&one, BS_DONE);
+  DONE(bs_table_end(&table));
+  refuse_no_thread();
+}
+
+/* Two deadlocks stand on one board: both are ended before it rests, for an hour. */
+static void a_thread_ends_all_it_sees(void) {
+  bs_node both[2];
+  bs_manager *m;
+  bs_txn t[4];
+  size_t i;
+  set_up(BS_BY_WATCHER);
+  both[0] = DONE(bs_table_add_inner(&table, NULL, 0)).node;
+  both[1] = DONE(bs_table_add_inner(&table, NULL, 0)).node;
+  for (i = 0; i < 4; i++) {
+    t[i] = begin();
+    DONE(bs_table_lock(&table, t[i], both[i % 2], BS_S));
+  }
+  DONE(bs_table_watch_thread(&table, UINT64_C(3600000000000)));
+  m = bs_table_hold(&table);
+  for (i = 0; i < 4; i++) ANSWERS(BS_WAITING, bs_lock(m, t[i], both[i % 2], BS_X, &told));
+  table.in->waited = bs_accepted(m).count;
+  pthread_cond_signal(&table.in->began);
+  bs_table_let_go(&table);
+  for (i = 2; i < 4; i++) {
+    while (bs_table_doing(&table, t[i]).count != BS_CONDEMNED) nap();
+  }
+  WANT(bs_table_doing(&table, t[0]).count == BS_WAITS && bs_table_doing(&table, t[1]).count == BS_WAITS);
+  DONE(bs_table_end(&table));
+}
+
 /* ------------------------------------------------------------------------------------------------
  * Listings.
  */
@@ -2020,6 +2075,8 @@ int main(int count, char **words) {
   TELL(a_thread_watches_without_rest);
   TELL(a_thread_watches_and_rests);
   TELL(a_thread_rests_long);
+  TELL(a_thread_watches_without_memory);
+  TELL(a_thread_ends_all_it_sees);
   TELL(listings);
   TELL(a_dump);
   TELL(an_end_with_sleepers);

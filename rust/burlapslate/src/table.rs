@@ -1,6 +1,6 @@
 //! A table that threads share.
 
-use crate::board::{Board, Slots};
+use crate::board::Board;
 use crate::manager::{Asked, Manager, Options, Reached, RowAsked};
 use crate::mode::{Detect, Mode, Victims};
 use crate::names::{Node, Row, Txn};
@@ -245,9 +245,9 @@ impl Table {
     }
 
     /// Ends deadlocks, for a table with [`Detect::ByWatcher`], until
-    /// [`end_watch`](Table::end_watch) is called: looks as a watcher does, settles the youngest
-    /// suspect, and rests for this time behind each look. While no lock has been left waiting since
-    /// it saw no suspect it sleeps. It counts as a watcher.
+    /// [`end_watch`](Table::end_watch) is called: looks as a watcher does, settles every suspect, the
+    /// youngest first, and rests for this time behind each look. While no lock has been left waiting
+    /// since it looked it sleeps. It counts as a watcher.
     ///
     /// Refused as [`Manager::watch`].
     ///
@@ -278,11 +278,10 @@ impl Table {
     pub fn watch_over(&self, rest: Duration) -> Result<(), Refusal> {
         let mut watcher = self.watch()?;
         let mut board = Board::new();
-        let mut seen = 0;
-        let mut is_clear = true;
+        let mut seen = 0; // It never falls: all waits up to this count of commands are settled.
         let mut guarded = self.guarded();
         while !guarded.is_unwatched {
-            if is_clear && guarded.waited == seen {
+            if guarded.waited <= seen {
                 guarded = wait(&self.began, guarded);
                 continue;
             }
@@ -293,7 +292,8 @@ impl Table {
             if board.epoch() < seen {
                 guarded.manager.read_board(&mut board); // It could not be shown, for want of memory.
             }
-            is_clear = !self.settle_youngest(&mut guarded, &board);
+            seen = board.epoch();
+            self.settle_all(&mut guarded, &mut board);
             guarded = self.rest(guarded, rest);
         }
         Ok(())
@@ -493,16 +493,21 @@ impl Table {
         }
     }
 
-    /// Settles the youngest suspect of a board, with the latch held: whether there was one.
-    fn settle_youngest(&self, guarded: &mut Guarded, board: &Board) -> bool {
-        let suspects: Slots = board.suspects();
-        let Some(suspect) = board.youngest(suspects).and_then(|slot| board.txn(slot)) else {
-            return false;
-        };
-        if guarded.manager.settle(suspect).map(drop).is_ok() {
-            self.wake(guarded);
+    /// Settles every suspect of a board, the youngest first, with the latch held. Who is settled, and
+    /// who is told, is taken off the board: so nobody is settled whose cycles are open by then.
+    fn settle_all(&self, guarded: &mut Guarded, board: &mut Board) {
+        while let Some(slot) = board.youngest(board.suspects()) {
+            let settled = board
+                .txn(slot)
+                .map(|suspect| guarded.manager.settle(suspect).map(drop));
+            board.clear_row(slot);
+            if let Some(Ok(())) = settled {
+                self.wake(guarded);
+                for told in guarded.manager.ended() {
+                    board.clear_row(told);
+                }
+            }
         }
-        true
     }
 
     /// Lets some time go by, but no longer than somebody is to watch.
