@@ -6,7 +6,8 @@
  * ends the wait of somebody wakes who sleeps for it. Where there are more threads than slots a begin can sleep too.
  *
  * It is this header alone, over burlapslate.h and POSIX threads. Where the compiler keeps to ISO C (-std=c99),
- * _POSIX_C_SOURCE is to be 200809L before the first header of the program.
+ * _POSIX_C_SOURCE is to be 200809L before the first header of the program, or _DEFAULT_SOURCE is to be defined: what
+ * pkg-config says has that word.
  *
  * WHO MAY CALL WHEN. Any thread may make any call with a table at any time, but for bs_table_hold. The calls of
  * one transaction are one thread's at a time, as of any transaction; what another may do to it is said below. A
@@ -56,6 +57,11 @@
 #include <stdlib.h>
 #include <string.h>
 #include <time.h>
+
+/* Else functions that are not declared would be taken for such as answer an int. */
+#if !defined(CLOCK_MONOTONIC) || (defined(__GLIBC__) && !defined(__USE_XOPEN2K8))
+#error "burlapslate_shared.h takes POSIX of 2008: define _DEFAULT_SOURCE, or _POSIX_C_SOURCE as 200809L, ahead of all headers"
+#endif
 
 #ifdef __cplusplus
 extern "C" {
