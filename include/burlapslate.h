@@ -339,9 +339,10 @@ static inline bs_found bs_none_found(void) {
   return found;
 }
 
-/* Whether one of these is null; where the notices are not, they are emptied then. */
+/* Whether one of these is null. The notices are emptied ahead of all else, so that none of an earlier call is left where
+ * this one is refused. */
 static inline bool bs_lacks(const bs_manager *manager, bs_notices *told) {
-  if (told != NULL && manager == NULL) told->count = 0;
+  if (told != NULL) told->count = 0;
   return told == NULL || manager == NULL;
 }
 
@@ -595,11 +596,7 @@ static inline bs_reply bs_rekey(bs_manager *manager, bs_txn txn, bs_node record,
  * parents. */
 static inline bs_reply bs_move(bs_manager *manager, bs_txn txn, bs_node node, const bs_node *parents, size_t count,
                                bs_notices *told) {
-  if (bs_lacks(manager, told)) return bs_null();
-  if (parents == NULL && count != 0) {
-    told->count = 0;
-    return bs_null();
-  }
+  if (bs_lacks(manager, told) || (parents == NULL && count != 0)) return bs_null();
   return bs_call_move(manager, txn, node, bs_nodes(parents), count, told);
 }
 
