@@ -32,9 +32,24 @@ static int noted_cond_init(pthread_cond_t *cond, const pthread_condattr_t *attri
   return pthread_cond_init(cond, attributes);
 }
 
+static int noted_cond_destroy(pthread_cond_t *cond);
+
 #define pthread_cond_init noted_cond_init
+#define pthread_cond_destroy noted_cond_destroy
 
 #include "threads.h"
+
+#undef pthread_cond_init
+#undef pthread_cond_destroy
+
+/* Where the inside of an ending table goes, it is noted how many sleep on it still. */
+static const bs_table_inside *ending;
+static size_t asleep_at_end;
+
+static int noted_cond_destroy(pthread_cond_t *cond) {
+  if (ending != NULL && cond == &ending->ended[0]) asleep_at_end = ending->sleepers;
+  return pthread_cond_destroy(cond);
+}
 
 /* ------------------------------------------------------------------------------------------------
  * A table with a store, and one who asks in a thread of its own.
@@ -185,6 +200,22 @@ static void a_lock_condemns(void) {
   send(&two, a, root, BS_X);
   back(&one, BS_VICTIM);
   ANSWERS(BS_TXN_CONDEMNED, bs_table_lock(&table, b, root, BS_S));
+  DONE(bs_table_abort(&table, b, NULL));
+  WANT(back(&two, BS_DONE).mode == BS_X);
+  DONE(bs_table_end(&table));
+}
+
+/* The same by a path. */
+static void a_path_condemns(void) {
+  struct asker one, two;
+  bs_txn a, b;
+  set_up(BS_AT_BLOCK);
+  a = begin(), b = begin();
+  DONE(bs_table_lock(&table, a, root, BS_S));
+  DONE(bs_table_lock(&table, b, root, BS_S));
+  send(&one, b, root, BS_X);
+  send_by_path(&two, a, root, BS_X);
+  back(&one, BS_VICTIM);
   DONE(bs_table_abort(&table, b, NULL));
   WANT(back(&two, BS_DONE).mode == BS_X);
   DONE(bs_table_end(&table));
@@ -848,7 +879,10 @@ static void an_end_with_a_line(void) {
   send(&asker, b, root, BS_X);
   for (i = 0; i < 200; i++) start_to_begin(&line[i], i % 2 == 0 ? &until : NULL);
   await_sleepers(201);
+  ending = table.in;
   DONE(bs_table_end(&table));
+  ending = NULL;
+  WANT(asleep_at_end == 0);
   back(&asker, BS_NO_MANAGER);
   for (i = 0; i < 200; i++) {
     join(line[i].thread);
@@ -1673,7 +1707,7 @@ static void a_thread_watches(uint64_t pace) {
     DONE(bs_table_lock(&table, a, root, BS_S));
     DONE(bs_table_lock(&table, b, root, BS_S));
     memset(&one, 0, sizeof one);
-    one.txn = a, one.node = root, one.mode = BS_X;
+    one.txn = a, one.node = root, one.mode = BS_X, one.by_path = i % 4 < 2;
     two = one;
     two.txn = b;
     start(&one.thread, ask, &one);
@@ -1732,11 +1766,13 @@ static void a_thread_watches_without_memory(void) {
   refuse_no_thread();
 }
 
-/* Two deadlocks stand on one board: both are ended before it rests, for an hour. */
+/* Two deadlocks stand on one board: both are ended before it rests, for an hour. A third that closes then stands. */
 static void a_thread_ends_all_it_sees(void) {
+  struct timespec pause = { 0, 5000000 };
+  struct asker one, two;
   bs_node both[2];
   bs_manager *m;
-  bs_txn t[4];
+  bs_txn t[4], a, b;
   size_t i;
   set_up(BS_BY_WATCHER);
   both[0] = DONE(bs_table_add_inner(&table, NULL, 0)).node;
@@ -1755,7 +1791,16 @@ static void a_thread_ends_all_it_sees(void) {
     while (bs_table_doing(&table, t[i]).count != BS_CONDEMNED) nap();
   }
   WANT(bs_table_doing(&table, t[0]).count == BS_WAITS && bs_table_doing(&table, t[1]).count == BS_WAITS);
+  a = begin(), b = begin();
+  DONE(bs_table_lock(&table, a, root, BS_S));
+  DONE(bs_table_lock(&table, b, root, BS_S));
+  send(&one, a, root, BS_X);
+  send(&two, b, root, BS_X);
+  nanosleep(&pause, NULL);
+  WANT(bs_table_doing(&table, a).count == BS_WAITS && bs_table_doing(&table, b).count == BS_WAITS);
   DONE(bs_table_end(&table));
+  back(&one, BS_NO_MANAGER);
+  back(&two, BS_NO_MANAGER);
 }
 
 /* ------------------------------------------------------------------------------------------------
@@ -1856,7 +1901,10 @@ static void an_end_with_sleepers(void) {
   a = begin();
   DONE(bs_table_lock(&table, a, root, BS_X));
   for (i = 0; i < SLEEPERS; i++) send_by_path(&askers[i], begin(), i % 2 == 0 ? low : high, BS_X);
+  ending = table.in;
   DONE(bs_table_end(&table));
+  ending = NULL;
+  WANT(asleep_at_end == 0);
   for (i = 0; i < SLEEPERS; i++) back(&askers[i], BS_NO_MANAGER);
   for (i = 0; i < SLEEPERS; i++) ANSWERS(BS_NO_MANAGER, bs_table_abort(&table, askers[i].txn, NULL));
 }
@@ -2023,6 +2071,7 @@ int main(int count, char **words) {
   TELL(an_unlock_grants);
   TELL(a_commit_wakes_all);
   TELL(a_lock_condemns);
+  TELL(a_path_condemns);
   TELL(an_asker_falls);
   TELL(a_settle_condemns);
   TELL(a_rekey_moves);
