@@ -103,6 +103,7 @@ enum bs_statuses {
   BS_TIMED_OUT = 36,      /* not answered here: the lock was not granted in time, and the wait was taken back */
   BS_ON_THE_WAY = 37,     /* a path is locked as far as `node`, and others are told: it is asked for again */
   BS_OTHER_KEYS = 38,     /* the row is held, but its keys are others than was said: they are read again */
+  BS_NOT_MADE = 39,       /* not answered here: of a command in a list, it was not made */
   BS_NULL_POINTER = 64,   /* a pointer is null */
   BS_NO_MANAGER = 65,     /* no manager was made at this place, or it was ended */
   BS_BAD_NUMBER = 66,     /* a number names no mode or way of detection, or a count is out of range */
@@ -997,6 +998,7 @@ static inline const char *bs_text(bs_status status) {
     case BS_TIMED_OUT: return "TimedOut";
     case BS_ON_THE_WAY: return "OnTheWay";
     case BS_OTHER_KEYS: return "OtherKeys";
+    case BS_NOT_MADE: return "NotMade";
     case BS_NULL_POINTER: return "NullPointer";
     case BS_NO_MANAGER: return "NoManager";
     case BS_BAD_NUMBER: return "BadNumber";

@@ -23,7 +23,7 @@
  *   - names of transactions and nodes are good with the table that gave them.
  *
  * WHAT A CALL ANSWERS. What the call of burlapslate.h answers that has its name without `table_`, with one more
- * status, BS_TIMED_OUT. What stands there of refusals, memory and costs holds here too. A call is one hold of the
+ * status, BS_TIMED_OUT; and BS_NOT_MADE of a command in a list that was not made. What stands there of refusals, memory and costs holds here too. A call is one hold of the
  * latch, with nobody's steps between its own; where it sleeps, others use the table meanwhile. A table that was never
  * made or was ended answers BS_NO_MANAGER. A call with `told` fills it where it is not null; those who sleep are woken,
  * whether it is null or not.
@@ -74,12 +74,22 @@ typedef struct bs_turn {
   pthread_cond_t came;
 } bs_turn;
 
+/* One who sleeps on a path, in the frame of its own call. */
+typedef struct bs_path {
+  bs_txn txn;
+  bs_node at;        /* the node that it waits for: that of the path, or one above it */
+  bs_mode mode;      /* the mode in which it wants that */
+  bool is_last;      /* it is that of the path */
+  bool is_cancelled;
+} bs_path;
+
 /* What is made with a table, and ends with it. Its fields are this header's own: they are read and written with
  * the latch held. */
 typedef struct bs_table_inside {
   bs_manager manager;
   bs_notices told;                /* by the last command whose caller wanted no list */
   pthread_cond_t ended[BS_SLOTS]; /* by slot: a wait may be over */
+  bs_path *paths[BS_SLOTS];       /* by slot: who sleeps on a path */
   bs_turn *first, *last;          /* the line of those who sleep for a slot, by their arrival */
   size_t sleepers;                /* how many threads sleep, for a lock or for a slot */
   uint64_t waited;                /* how many commands had been accepted when the last lock was left waiting */
@@ -120,11 +130,16 @@ static inline bs_reply bs_table_leave(bs_table *table, bs_reply reply) {
   return reply;
 }
 
+/* A reply that says no more than this. */
+static inline bs_reply bs_only(bs_status status) {
+  bs_reply reply = bs_null();
+  reply.status = status;
+  return reply;
+}
+
 /* The reply where there is no table. */
 static inline bs_reply bs_no_table(const bs_table *table) {
-  bs_reply reply = bs_null();
-  if (table != NULL) reply.status = BS_NO_MANAGER;
-  return reply;
+  return bs_only(table == NULL ? BS_NULL_POINTER : BS_NO_MANAGER);
 }
 
 /* Wakes who sleeps for a slot of these, of which the first is `first`. */
@@ -247,10 +262,7 @@ static inline void bs_table_hand_on(bs_table_inside *in) {
 
 /* Begins a transaction, but where somebody sleeps for a slot: one that a list has freed is for these. */
 static inline bs_reply bs_table_begin_inside(bs_table_inside *in) {
-  bs_reply reply = bs_null();
-  if (in->first == NULL) return bs_begin(&in->manager);
-  reply.status = BS_TOO_MANY_TXNS;
-  return reply;
+  return in->first == NULL ? bs_begin(&in->manager) : bs_only(BS_TOO_MANY_TXNS);
 }
 
 /* Sleeps for a slot, with the latch held before and behind it, until somebody has begun for the one who sleeps, or the
@@ -284,9 +296,7 @@ static inline bool bs_is_time(const struct timespec *until) {
 
 /* The refusal of what is none of its kind. */
 static inline bs_reply bs_bad_number(void) {
-  bs_reply reply = bs_null();
-  reply.status = BS_BAD_NUMBER;
-  return reply;
+  return bs_only(BS_BAD_NUMBER);
 }
 
 /* The list that a command fills: the caller's, or else the table's own. */
@@ -499,9 +509,23 @@ static inline bs_reply bs_table_unlock(bs_table *table, bs_txn txn, bs_node node
   BS_TABLE_TELL(table, told, false, bs_unlock(&in->manager, txn, node, list));
 }
 
-/* Takes a wait back, and wakes who sleeps for it: that one is answered BS_NOT_WAITING. */
+/* Behind a cancel: where the wait was over by then, but its sleeper would wake to wait for the next node of its path,
+ * the path is to end in place of that. */
+static inline bs_reply bs_table_cancel_path(bs_table_inside *in, bs_txn txn, bs_reply cancelled) {
+  bs_path *path = cancelled.status == BS_NOT_WAITING && txn.slot < BS_SLOTS ? in->paths[txn.slot] : NULL;
+  bs_status end;
+  if (path == NULL || path->txn.age != txn.age) return cancelled;
+  end = bs_verdict(&in->manager, txn, path->at, path->mode).status;
+  if (end != BS_MOVED && (end != BS_DONE || path->is_last)) return cancelled;
+  path->is_cancelled = true;
+  cancelled.status = BS_DONE;
+  return cancelled;
+}
+
+/* Takes a wait back, and wakes who sleeps for it: that one is answered BS_NOT_WAITING. So is one whose wait on the way of
+ * a path was granted, and that is not awake yet: its path ends there. */
 static inline bs_reply bs_table_cancel(bs_table *table, bs_txn txn, bs_notices *told) {
-  BS_TABLE_TELL(table, told, true, bs_cancel(&in->manager, txn, list));
+  BS_TABLE_TELL(table, told, true, bs_table_cancel_path(in, txn, bs_cancel(&in->manager, txn, list)));
 }
 
 static inline bs_reply bs_table_commit(bs_table *table, bs_txn txn, bs_notices *told) {
@@ -531,12 +555,19 @@ static inline bs_reply bs_table_path_inside(bs_table *table, bs_txn txn, bs_node
                                             const struct timespec *until) {
   bs_table_inside *in = table->in;
   bs_reply reply = bs_lock_path(&in->manager, txn, node, mode, &in->told);
-  bs_node at = reply.node;
+  bs_path path;
   bs_table_wake(in, reply.status, &in->told, false);
   if (reply.status != BS_WAITING) return reply;
-  reply = bs_table_sleep(table, txn, at, bs_waiting(&in->manager, txn).mode, until);
-  if (reply.status == BS_MOVED || (reply.status == BS_DONE && !bs_is_same_node(at, node))) reply.status = BS_ON_THE_WAY;
-  return reply;
+  path.txn = txn;
+  path.at = reply.node;
+  path.mode = bs_waiting(&in->manager, txn).mode;
+  path.is_last = bs_is_same_node(path.at, node);
+  path.is_cancelled = false;
+  in->paths[txn.slot] = &path;
+  reply = bs_table_sleep(table, txn, path.at, path.mode, until);
+  if (in->paths[txn.slot] == &path) in->paths[txn.slot] = NULL;
+  if (reply.status != BS_MOVED && (reply.status != BS_DONE || path.is_last)) return reply;
+  return bs_only(path.is_cancelled ? BS_NOT_WAITING : BS_ON_THE_WAY);
 }
 
 /* Locks a node with what has to be held above it, as bs_lock_path does, and sleeps for each lock that has to wait, to
@@ -648,7 +679,7 @@ static inline bs_reply bs_table_abort_rows(bs_table *table, bs_txn txn, bs_notic
 
 /* Wakes who sleeps for the wait, as bs_table_cancel does. */
 static inline bs_reply bs_table_cancel_rows(bs_table *table, bs_txn txn, bs_notices *told) {
-  BS_TABLE_TELL(table, told, true, bs_cancel_rows(&in->manager, txn, list));
+  BS_TABLE_TELL(table, told, true, bs_table_cancel_path(in, txn, bs_cancel_rows(&in->manager, txn, list)));
 }
 
 static inline bs_reply bs_table_escalate_rows(bs_table *table, bs_txn txn, bs_node node, bs_notices *told) {
@@ -682,7 +713,7 @@ typedef struct bs_command {
   const uint64_t *numbers; /* keys of an insert, bounds of an index */
   size_t number_count;
   bs_notices *told;        /* may be null */
-  bs_reply reply;          /* what it was answered, where it was made */
+  bs_reply reply;          /* what it was answered; BS_NOT_MADE where it was not made */
 } bs_command;
 
 static inline bs_command bs_do(uint32_t kind, bs_txn txn, bs_node node) {
@@ -691,6 +722,7 @@ static inline bs_command bs_do(uint32_t kind, bs_txn txn, bs_node node) {
   command.kind = kind;
   command.txn = txn;
   command.node = node;
+  command.reply.status = BS_NOT_MADE;
   return command;
 }
 
@@ -786,7 +818,7 @@ static inline bs_reply bs_command_made(bs_table_inside *in, const bs_command *c,
     case BS_DO_TRY: return bs_try(m, txn, c->node, c->mode);
     case BS_DO_UNLOCK: return bs_unlock(m, txn, c->node, told);
     case BS_DO_ESCALATE: return bs_escalate(m, txn, c->node, told);
-    case BS_DO_CANCEL: return bs_cancel(m, txn, told);
+    case BS_DO_CANCEL: return bs_table_cancel_path(in, txn, bs_cancel(m, txn, told));
     case BS_DO_COMMIT: return bs_commit(m, txn, told);
     case BS_DO_ABORT: return bs_abort(m, txn, told);
     case BS_DO_SETTLE: return bs_settle(m, txn, told);
@@ -805,10 +837,16 @@ static inline bs_reply bs_command_made(bs_table_inside *in, const bs_command *c,
   }
 }
 
+/* Of those behind the first that was not done. */
+static inline void bs_not_made(bs_command *commands, size_t count) {
+  size_t i;
+  for (i = 0; i < count; i++) commands[i].reply = bs_only(BS_NOT_MADE);
+}
+
 /* Makes commands one behind the other in one hold of the latch, up to the first that is not done, and writes into
  * each that was made its reply: how many were done. Where that is fewer than `count`, the reply of the next says
  * why: it was refused; or it is BS_VICTIM; or a lock that is BS_WAITING, which bs_table_await awaits. Those behind
- * it were not made. Whom they tell is woken, be it by the first or by the last. Where there is no table the first
+ * it were not made, and their replies are BS_NOT_MADE. Whom they tell is woken, be it by the first or by the last. Where there is no table the first
  * is answered so. A kind that is none is refused with BS_BAD_NUMBER. */
 static inline size_t bs_table_run(bs_table *table, bs_command *commands, size_t count) {
   bs_table_inside *in;
@@ -818,6 +856,7 @@ static inline size_t bs_table_run(bs_table *table, bs_command *commands, size_t 
   in = bs_table_enter(table);
   if (in == NULL) {
     commands[0].reply = bs_table_tells_none(table, commands[0].told);
+    bs_not_made(commands + 1, count - 1);
     return 0;
   }
   while (done < count) {
@@ -835,6 +874,7 @@ static inline size_t bs_table_run(bs_table *table, bs_command *commands, size_t 
   }
   bs_table_hand_on(in);
   pthread_mutex_unlock(&table->latch);
+  if (done < count) bs_not_made(commands + done + 1, count - done - 1);
   return done;
 }
 
@@ -852,6 +892,7 @@ static inline bs_manager *bs_table_hold(bs_table *table) {
 }
 
 static inline void bs_table_let_go(bs_table *table) {
+  if (table == NULL || table->in == NULL) return; /* Nothing was held. */
   bs_table_hand_on(table->in);
   pthread_mutex_unlock(&table->latch);
 }

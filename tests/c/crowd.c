@@ -403,6 +403,16 @@ static bs_reply as_served(bs_reply reply) {
   return reply;
 }
 
+/* A cancel that finds no wait may end a path all the same. */
+static bs_reply as_cancelled(bs_reply reply) {
+  bs_reply served = reply;
+  pthread_mutex_lock(&table.latch);
+  if (log_of_calls[my_last].reply.status == BS_NOT_WAITING && reply.status == BS_DONE) served.status = BS_NOT_WAITING;
+  pthread_mutex_unlock(&table.latch);
+  as_served(served);
+  return reply;
+}
+
 /* A begin may have been served in another thread. */
 static bs_reply as_begun(bs_reply reply) {
   size_t i;
@@ -568,8 +578,8 @@ static bs_reply meddle(struct session *s) {
   switch (pick(s, 6)) {
     case 0: return as_served(bs_table_abort(&table, whom, NULL));
     case 1: return as_served(bs_table_abort_rows(&table, whom, NULL));
-    case 2: return as_served(bs_table_cancel_rows(&table, whom, NULL));
-    default: return as_served(bs_table_cancel(&table, whom, NULL));
+    case 2: return as_cancelled(bs_table_cancel_rows(&table, whom, NULL));
+    default: return as_cancelled(bs_table_cancel(&table, whom, NULL));
   }
 }
 
@@ -752,6 +762,7 @@ static void compare_end(const bs_notice *n) {
   const struct served *s = &log_of_calls[waiting_at[n->txn.slot]];
   if (!s->has_slept) return; /* A path that was begun anew, or a wait that was taken back later. */
   if (s->came.status == BS_NO_SUCH_TXN) return;
+  if (s->came.status == BS_NOT_WAITING && s->call.kind == LOCK_PATH) return; /* It was cancelled on its way. */
   WANT(s->came.status == ends[n->kind]);
   if (n->kind == BS_TOLD_GRANTED) WANT(s->came.mode == n->mode && same_node(awaited(s), n->node));
 }

@@ -37,6 +37,7 @@ first-half-sleeps-on	s/  bs_table_wake_half(in, ended.low, 0);//
 second-half-sleeps-on	s/  bs_table_wake_half(in, ended.high, 64);//
 watch-is-not-woken	s/    pthread_cond_signal(&in->began);//
 watch-forgets-to-wake	s/  bs_table_wake(in, \(bs_settle(.*)\).status, &in->told, false);/  \1;/
+path-forgets-a-cancel	s/  path->is_cancelled = true;//
 early-return	s/    reply = in->is_ending ? .*/    reply.status = BS_DONE, reply.mode = mode;/
 time-before-grant	s/    reply = in->is_ending ? /    if (late == 0) &/
 watch-sees-one-deadlock	s/  while (youngest.status == BS_DONE) {/  if (youngest.status == BS_DONE) {/
@@ -46,7 +47,7 @@ end-leaves-the-watch	s/  pthread_cond_broadcast(&in->began);//
 end-leaves-the-rest	s/  pthread_cond_broadcast(&in->over);//
 end-does-not-wait	s/  while (in->sleepers > 0) .*//
 last-sleeper-says-nothing	s/  if (in->is_ending && in->sleepers == 0) .*//
-begin-passes-the-line	s/  if (in->first == NULL) return bs_begin/  return bs_begin/
+begin-passes-the-line	s/  return in->first == NULL ? bs_begin/  return true ? bs_begin/
 last-comes-first	s/    bs_turn \*turn = in->first;/    bs_turn *turn = in->last;/
 call-keeps-the-slot	s/  bs_table_hand_on(in);  *\\$/ \\/
 run-keeps-the-slot	s/^  bs_table_hand_on(in);$//

@@ -957,6 +957,58 @@ static void a_path_moves(void) {
   DONE(bs_table_end(&table));
 }
 
+/* A cancel that comes when a lock on the way was granted, and its sleeper is not awake yet, is not lost: the path ends. */
+static void a_path_is_cancelled_on_its_way(void) {
+  struct asker one;
+  bs_command list[3];
+  bs_txn a, b, c;
+  set_up(BS_AT_BLOCK);
+  a = begin(), b = begin(), c = begin();
+  DONE(bs_table_lock_path(&table, c, low, BS_S, NULL));
+  DONE(bs_table_lock(&table, a, root, BS_S));
+  send_by_path(&one, b, low, BS_X);
+  list[0] = bs_do_commit(a), list[1] = bs_do_cancel(b), list[2] = bs_do_cancel(b);
+  WANT(bs_table_run(&table, list, 3) == 3);
+  back(&one, BS_NOT_WAITING);
+  WANT(one.reply.mode == BS_NL);
+  holds(b, root, BS_IX), holds(b, file, BS_NL);
+  ANSWERS(BS_NOT_WAITING, bs_table_cancel(&table, b, NULL));
+  DONE(bs_table_commit(&table, b, NULL));
+  DONE(bs_table_end(&table));
+}
+
+/* Where it was the last lock of the path, the path is done, and there is nothing to cancel. */
+static void a_path_is_cancelled_at_its_end(void) {
+  struct asker one;
+  bs_command list[2];
+  bs_txn a, b;
+  set_up(BS_AT_BLOCK);
+  a = begin(), b = begin();
+  DONE(bs_table_lock_path(&table, a, low, BS_S, NULL));
+  send_by_path(&one, b, low, BS_X);
+  list[0] = bs_do_commit(a), list[1] = bs_do_cancel(b);
+  WANT(bs_table_run(&table, list, 2) == 1 && list[1].reply.status == BS_NOT_WAITING);
+  WANT(back(&one, BS_DONE).mode == BS_X);
+  DONE(bs_table_end(&table));
+}
+
+/* The record of a path has moved, and its sleeper would begin anew. */
+static void a_path_that_moved_is_cancelled(void) {
+  struct asker one;
+  bs_command list[2];
+  bs_txn a, b;
+  set_up(BS_AT_BLOCK);
+  a = begin(), b = begin();
+  DONE(bs_table_lock_path(&table, a, low, BS_X, NULL));
+  DONE(bs_table_lock_path(&table, a, above, BS_IX, NULL));
+  send_by_path(&one, b, low, BS_X);
+  list[0] = bs_do_rekey(a, low, by_key, 150), list[1] = bs_do_cancel(b);
+  WANT(bs_table_run(&table, list, 2) == 2);
+  back(&one, BS_NOT_WAITING);
+  holds(b, low, BS_NL);
+  DONE(bs_table_end(&table));
+}
+
 /* It ends at the first lock that comes to nothing, and what is above stays. */
 static void a_path_ends_early(void) {
   struct timespec until;
@@ -1464,20 +1516,24 @@ static void lists_of_commands(void) {
   list[4] = bs_do_begin();
   list[4].reply.status = 99;
   WANT(bs_table_run(&table, list, 5) == 3);
-  WANT(list[3].reply.status == BS_NO_SUCH_TXN && list[4].reply.status == 99);
+  WANT(list[3].reply.status == BS_NO_SUCH_TXN && list[4].reply.status == BS_NOT_MADE);
   WANT(first.count == 1 && same_txn(first.at[0].txn, b));
   back(&one, BS_DONE);
   a = list[2].reply.txn;
   list[0] = bs_do_lock(a, root, BS_IX);
   list[1] = bs_do_lock(a, file, BS_X);
+  WANT(list[1].reply.status == BS_NOT_MADE);
   WANT(bs_table_run(&table, list, 2) == 0 && list[0].reply.status == BS_WAITING);
+  WANT(list[1].reply.status == BS_NOT_MADE);
   ANSWERS(BS_WAITING, bs_table_verdict(&table, a, root, BS_IX));
   DONE(bs_table_commit(&table, b, NULL));
   DONE(bs_table_verdict(&table, a, root, BS_IX));
   WANT(DONE(bs_table_await(&table, a, root, BS_IX, NULL)).mode == BS_IX);
   ANSWERS(BS_NOT_WAITING, bs_table_await(&table, a, file, BS_X, NULL));
   DONE(bs_table_end(&table));
+  list[1].reply.status = BS_DONE;
   WANT(bs_table_run(&table, list, 2) == 0 && list[0].reply.status == BS_NO_MANAGER);
+  WANT(list[1].reply.status == BS_NOT_MADE);
   WANT(bs_table_run(NULL, list, 2) == 0 && list[0].reply.status == BS_NULL_POINTER);
   WANT(bs_table_run(&table, NULL, 2) == 0 && bs_table_run(&table, list, 0) == 0);
 }
@@ -1962,6 +2018,9 @@ static void places_without_a_table(void) {
   told.count = 1;
   ANSWERS(BS_NULL_POINTER, bs_table_commit(NULL, t, &told));
   WANT(told.count == 0 && bs_table_waits_for(NULL, t).status == BS_NULL_POINTER);
+  bs_table_let_go(NULL);
+  bs_table_let_go(&never);
+  WANT(bs_table_hold(NULL) == NULL);
   ANSWERS(BS_NULL_POINTER, bs_table_lock(NULL, t, root, BS_X));
   ANSWERS(BS_NULL_POINTER, bs_table_lock_path(NULL, t, root, BS_X, NULL));
 }
@@ -2099,6 +2158,9 @@ int main(int count, char **words) {
   TELL(paths);
   TELL(a_path_waits_twice);
   TELL(a_path_moves);
+  TELL(a_path_is_cancelled_on_its_way);
+  TELL(a_path_is_cancelled_at_its_end);
+  TELL(a_path_that_moved_is_cancelled);
   TELL(a_path_ends_early);
   TELL(a_row_is_slept_for);
   TELL(a_row_with_other_keys_is_slept_for);

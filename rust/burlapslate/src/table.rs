@@ -1,7 +1,7 @@
 //! A table that threads share.
 
 use crate::board::Board;
-use crate::manager::{Asked, Manager, Options, Reached, RowAsked};
+use crate::manager::{Asked, Manager, Options, Reached, RowAsked, Wait};
 use crate::mode::{Detect, Mode, Victims};
 use crate::names::{Node, Row, Txn};
 use crate::refusal::Refusal;
@@ -58,6 +58,19 @@ struct Guarded {
     is_unwatched: bool,
     /// Those who sleep for a slot: none is free while there is one.
     turns: Turns,
+    /// By slot, who sleeps on a path.
+    paths: Box<[Option<Path>]>,
+}
+
+/// One who sleeps on a path.
+#[derive(Clone, Copy)]
+struct Path {
+    txn: Txn,
+    /// For what it waits: the node of the path, or one above it.
+    wait: Wait,
+    /// It is the node of the path.
+    is_last: bool,
+    is_cancelled: bool,
 }
 
 impl Table {
@@ -83,6 +96,7 @@ impl Table {
             waited: 0,
             is_unwatched: false,
             turns: Turns::new(),
+            paths: no_paths()?,
         };
         Ok(Table {
             latch: Mutex::new(guarded),
@@ -192,11 +206,12 @@ impl Table {
     }
 
     /// Takes the wait of a transaction back, from any thread. Whoever sleeps for it is woken, and
-    /// answered [`Stop::Cancelled`]. A row that only it waited for is let go.
+    /// answered [`Stop::Cancelled`]. A row that only it waited for is let go. One whose wait on the way of
+    /// a path was granted, and that is not awake yet, is answered so too: its path ends there.
     ///
     /// Refused as [`Manager::cancel`].
     pub fn cancel(&self, txn: Txn) -> Result<(), Refusal> {
-        self.serve(|m| m.cancel_rows(txn).map(drop))
+        self.cancel_held(&mut self.guarded(), txn)
     }
 
     /// Condemns victims until a transaction is on no cycle of waits, and wakes them; how many.
@@ -351,6 +366,16 @@ impl Table {
         }
     }
 
+    /// A cancel, with the latch held.
+    fn cancel_held(&self, guarded: &mut Guarded, txn: Txn) -> Result<(), Refusal> {
+        match guarded.manager.cancel_rows(txn).map(drop) {
+            Ok(()) => self.wake(guarded),
+            Err(Refusal::NotWaiting) if guarded.cancels_path(txn) => {}
+            Err(refusal) => return Err(refusal),
+        }
+        Ok(())
+    }
+
     pub(crate) fn lock(
         &self,
         txn: Txn,
@@ -431,10 +456,13 @@ impl Table {
                 Reached::Above(_) => {}
                 Reached::Waiting(at) => {
                     let wanted = guarded.manager.waiting(txn).map_or(mode, |wait| wait.mode);
+                    guarded.paths[txn.slot()] = Some(Path::new(txn, at, wanted, at == node));
                     let (held, end) = self.sleep(guarded, txn, at, wanted, until);
                     guarded = held;
+                    let is_cancelled = guarded.leaves_path(txn);
                     match end {
                         Ok(mode) if at == node => return Ok(mode),
+                        Ok(_) | Err(Stop::Moved) if is_cancelled => return Err(Stop::Cancelled),
                         Ok(_) | Err(Stop::Moved) => {} // The rest of the path is asked for.
                         Err(stop) => return Err(stop),
                     }
@@ -531,6 +559,53 @@ impl Table {
     fn guarded(&self) -> MutexGuard<'_, Guarded> {
         self.latch.lock().unwrap_or_else(PoisonError::into_inner)
     }
+}
+
+impl Path {
+    fn new(txn: Txn, node: Node, mode: Mode, is_last: bool) -> Path {
+        Path {
+            txn,
+            wait: Wait { node, mode },
+            is_last,
+            is_cancelled: false,
+        }
+    }
+}
+
+impl Guarded {
+    /// Ends the path of one whose wait is over, but that would wake to wait for the next node: whether
+    /// there is one.
+    fn cancels_path(&mut self, txn: Txn) -> bool {
+        let Some(path) = &mut self.paths[txn.slot()] else {
+            return false;
+        };
+        let Wait { node, mode } = path.wait;
+        let goes_on = path.txn == txn
+            && match self.manager.verdict(txn, node, mode) {
+                Some(Ok(_)) => !path.is_last,
+                Some(Err(stop)) => stop == Stop::Moved,
+                None => false,
+            };
+        path.is_cancelled |= goes_on;
+        goes_on
+    }
+
+    /// One who slept on a path is awake: whether that was cancelled.
+    fn leaves_path(&mut self, txn: Txn) -> bool {
+        let place = &mut self.paths[txn.slot()];
+        let own = place.take_if(|path| path.txn == txn);
+        own.is_some_and(|path| path.is_cancelled)
+    }
+}
+
+/// A place for each slot, with nobody on a path.
+fn no_paths() -> Result<Box<[Option<Path>]>, Refusal> {
+    let mut paths = Vec::new();
+    paths
+        .try_reserve_exact(SLOTS)
+        .map_err(|_refused| Refusal::NoMemory)?;
+    paths.resize(SLOTS, None);
+    Ok(paths.into_boxed_slice())
 }
 
 /// Behind what may have ended a transaction: begins for those who sleep for a slot, while one is free. So

@@ -1,4 +1,4 @@
-//! Begins that sleep for a slot. The stories look into the line, to know who has come.
+//! Stories that look into the table: begins that sleep for a slot, and a path that is cancelled on its way.
 
 use super::{hand_on, Table};
 use crate::mode::{Detect, Mode};
@@ -218,5 +218,44 @@ fn times_and_turns() {
                 Err(stop) => assert_eq!(stop, Stop::TimedOut),
             }
         });
+    }
+}
+
+/// A cancel that comes when a lock on the way was granted, and its sleeper is not awake yet, is not lost:
+/// the path ends. Where the lock was the last of the path, there is nothing to cancel.
+#[test]
+fn a_path_is_cancelled_on_its_way() {
+    for (last, answer) in [(false, Ok(())), (true, Err(Refusal::NotWaiting))] {
+        let (table, root) = table_of(4);
+        let below = table.add_inner(&[root]).unwrap();
+        let (mut a, mut b, mut c) = (
+            table.begin().unwrap(),
+            table.begin().unwrap(),
+            table.begin().unwrap(),
+        );
+        c.lock_path(below, Mode::S).unwrap();
+        let node = if last { root } else { below };
+        a.lock(root, Mode::S).unwrap();
+        let (holder, name) = (a.leave(), b.txn());
+        let (end, b) = thread::scope(|scope| {
+            let goes = scope.spawn(move || (b.lock_path(node, Mode::IX), b));
+            while table.with(|m| m.waiting(name)).is_none() {
+                thread::sleep(Duration::from_micros(50));
+            }
+            let mut guarded = table.guarded();
+            guarded.manager.commit(holder).map(drop).unwrap();
+            table.wake(&guarded);
+            assert_eq!(table.cancel_held(&mut guarded, name), answer);
+            drop(guarded);
+            goes.join().unwrap()
+        });
+        let granted = if last {
+            Ok(Mode::IX)
+        } else {
+            Err(Stop::Cancelled)
+        };
+        assert_eq!(end, granted);
+        assert_eq!(table.with(|m| m.held(b.txn(), root)), Ok(Mode::IX));
+        assert_eq!(table.cancel(name), Err(Refusal::NotWaiting));
     }
 }
