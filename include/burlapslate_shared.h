@@ -12,8 +12,8 @@
  * WHO MAY CALL WHEN. Any thread may make any call with a table at any time, but for bs_table_hold. The calls of
  * one transaction are one thread's at a time, as of any transaction; what another may do to it is said below. A
  * call holds the latch for as long as it takes, and never in a sleep. No call may be made from a signal handler,
- * or from the forked child of a process with threads, and nothing may end a thread within a call, as
- * pthread_cancel would.
+ * or from the forked child of a process with threads, and nothing may end a thread within a call. A pthread_cancel
+ * that is deferred, as it is as usual, does not: one who sleeps in a call sleeps on, and ends behind the call.
  *
  * WHAT YOU KEEP. What burlapslate.h asks of pointers, lists and the allocator, and beside it:
  *   - a bs_table is BS_NO_TABLE_HERE before the first call with it; from then on it is neither copied, moved, read
@@ -53,6 +53,7 @@
 
 #include <errno.h>
 #include <pthread.h>
+#include <signal.h>
 #include <stdio.h>
 #include <stdlib.h>
 #include <string.h>
@@ -168,9 +169,13 @@ static inline void bs_table_wake(bs_table_inside *in, bs_status status, const bs
 }
 
 /* Sleeps on a condition, with the latch held before and behind it, to a time at most where that is not null: whether
- * that is over, by ETIMEDOUT. */
+ * that is over, by ETIMEDOUT. The thread's cancellation is held off: it would keep the latch. */
 static inline int bs_table_doze(bs_table *table, pthread_cond_t *on, const struct timespec *until) {
-  return until == NULL ? pthread_cond_wait(on, &table->latch) : pthread_cond_timedwait(on, &table->latch, until);
+  int state, late;
+  pthread_setcancelstate(PTHREAD_CANCEL_DISABLE, &state);
+  late = until == NULL ? pthread_cond_wait(on, &table->latch) : pthread_cond_timedwait(on, &table->latch, until);
+  pthread_setcancelstate(state, &state);
+  return late;
 }
 
 /* One who slept has the latch again, and leaves. */
@@ -402,17 +407,20 @@ static inline void bs_table_wake_all(bs_table_inside *in) {
 static inline bs_reply bs_table_end(bs_table *table) {
   bs_table_inside *in = bs_table_enter(table);
   bs_reply reply;
+  int state;
   if (in == NULL) return bs_no_table(table);
+  pthread_setcancelstate(PTHREAD_CANCEL_DISABLE, &state);
   in->is_ending = true;
   bs_table_wake_all(in);
   pthread_mutex_unlock(&table->latch);
   if (in->is_watched) pthread_join(in->watch, NULL);
   pthread_mutex_lock(&table->latch);
-  while (in->sleepers > 0) pthread_cond_wait(&in->left, &table->latch);
+  while (in->sleepers > 0) bs_table_doze(table, &in->left, NULL);
   reply = bs_end(&in->manager);
   table->in = NULL;
   pthread_mutex_unlock(&table->latch);
   bs_table_free_inside(in);
+  pthread_setcancelstate(state, &state);
   return reply;
 }
 
@@ -1119,9 +1127,24 @@ static inline void *bs_table_watches(void *place) {
   return NULL;
 }
 
+/* Starts the thread that watches, whether it could be. It takes no signals that are the process's, but for those that a
+ * fault of its own raises: these cannot wait. */
+static inline bool bs_table_start_watch(bs_table *table, bs_table_inside *in) {
+  static const int faults[] = { SIGSEGV, SIGBUS, SIGFPE, SIGILL, SIGTRAP };
+  sigset_t blocked, before;
+  size_t i;
+  bool is_started;
+  sigfillset(&blocked);
+  for (i = 0; i < sizeof faults / sizeof faults[0]; i++) sigdelset(&blocked, faults[i]);
+  pthread_sigmask(SIG_SETMASK, &blocked, &before);
+  is_started = pthread_create(&in->watch, NULL, bs_table_watches, table) == 0;
+  pthread_sigmask(SIG_SETMASK, &before, NULL);
+  return is_started;
+}
+
 /* Starts a thread that ends deadlocks, for a table that was made with BS_BY_WATCHER: it looks as a watcher does,
  * settles every suspect, the youngest first, and rests for `pace` nanoseconds behind each look. While no lock has been
- * left waiting since it looked it sleeps. It ends with the table, and counts as a watcher. Refused with
+ * left waiting since it looked it sleeps. It ends with the table, counts as a watcher, and takes no signals. Refused with
  * BS_NULL_POINTER, BS_NO_MANAGER, BS_IN_USE where the table has such a thread, BS_TOO_MANY_WATCHERS, and with
  * BS_NO_MEMORY also where no thread can be started. */
 static inline bs_reply bs_table_watch_thread(bs_table *table, uint64_t pace) {
@@ -1131,7 +1154,7 @@ static inline bs_reply bs_table_watch_thread(bs_table *table, uint64_t pace) {
   reply = bs_watch(&in->manager, &in->eye);
   if (reply.status != BS_DONE) return bs_table_leave(table, reply);
   in->pace = pace;
-  in->is_watched = pthread_create(&in->watch, NULL, bs_table_watches, table) == 0;
+  in->is_watched = bs_table_start_watch(table, in);
   if (!in->is_watched) {
     bs_watch_end(&in->eye);
     reply.status = BS_NO_MEMORY;
@@ -1154,10 +1177,98 @@ static inline const char *bs_kind_text(uint64_t kind) {
   return kind <= BS_RECORD ? texts[kind] : "?";
 }
 
-/* A node: what it is, and its name, as KEY/BIRTH. */
-static inline void bs_dump_node(bs_manager *m, bs_node node, FILE *out) {
+enum { BS_DUMP_LOCKS = 256 };
+
+/* A transaction in a dump; what it waits for, and whom. */
+typedef struct bs_dumped_txn {
+  bs_txn txn;
+  bs_reply doing;
+  uint64_t kind; /* of the node that it waits for; 0: it is gone */
+  bs_slots waits_for;
+} bs_dumped_txn;
+
+/* What a dump has copied with the latch held: a part at a time. */
+typedef struct bs_dumped {
+  bs_counts counts; /* these are of one moment, with the last deadlock */
+  uint64_t nodes, most;
+  size_t txn_count;
+  bs_dumped_txn txns[BS_SLOTS];
+  bool has_deadlock;
+  bs_deadlock last;
+  uint64_t last_kinds[BS_SLOTS];
+  size_t lock_count; /* some locks of a transaction */
+  bs_reply locks[BS_DUMP_LOCKS];
+  uint64_t lock_kinds[BS_DUMP_LOCKS];
+  bs_slots holders; /* who holds a node, in which modes, and its queue */
+  bs_mode held[BS_SLOTS];
+  size_t waiter_count;
+  bs_reply waiters[BS_SLOTS];
+} bs_dumped;
+
+/* What a node is; 0: it is gone. */
+static inline uint64_t bs_kind_or_gone(bs_manager *m, bs_node node) {
   bs_reply kind = bs_kind(m, node);
-  fprintf(out, "%s %llu/%llu", kind.status == BS_DONE ? bs_kind_text(kind.count) : "gone", (unsigned long long)node.key,
+  return kind.status == BS_DONE ? kind.count : 0;
+}
+
+static inline void bs_copy_txns(bs_manager *m, bs_dumped *copy) {
+  uint32_t slot;
+  copy->txn_count = 0;
+  for (slot = 0; slot < BS_SLOTS; slot++) {
+    bs_reply living = bs_living(m, slot);
+    bs_dumped_txn *to = &copy->txns[copy->txn_count];
+    if (living.status != BS_DONE) continue;
+    to->txn = living.txn;
+    to->doing = bs_doing(m, to->txn);
+    to->kind = bs_kind_or_gone(m, to->doing.node);
+    to->waits_for = bs_waits_for(m, to->txn).slots;
+    copy->txn_count++;
+  }
+}
+
+/* The part that is of one moment. */
+static inline void bs_copy_first(bs_manager *m, bs_dumped *copy) {
+  size_t i;
+  bs_counters(m, &copy->counts);
+  copy->nodes = bs_len(m).count;
+  copy->most = bs_most(m).count;
+  bs_copy_txns(m, copy);
+  copy->has_deadlock = bs_last_deadlock(m, &copy->last).status == BS_DONE;
+  if (!copy->has_deadlock) return;
+  for (i = 0; i < copy->last.count; i++) copy->last_kinds[i] = bs_kind_or_gone(m, copy->last.at[i].node);
+}
+
+/* Some locks of a transaction, from a place on. */
+static inline void bs_copy_locks(bs_manager *m, bs_txn txn, size_t place, bs_dumped *copy) {
+  size_t i;
+  for (i = 0; i < BS_DUMP_LOCKS; i++) {
+    copy->locks[i] = bs_lock_at(m, txn, place + i);
+    if (copy->locks[i].status != BS_DONE) break;
+    copy->lock_kinds[i] = bs_kind_or_gone(m, copy->locks[i].node);
+  }
+  copy->lock_count = i;
+}
+
+/* The queue in which a transaction is the first; none where it is in none, or behind others. */
+static inline void bs_copy_queue(bs_manager *m, bs_dumped_txn *of, bs_dumped *copy) {
+  uint32_t slot;
+  copy->waiter_count = 0;
+  of->doing = bs_doing(m, of->txn);
+  if (of->doing.status != BS_DONE || of->doing.count != BS_WAITS) return;
+  if (bs_queue_at(m, of->doing.node, 0).txn.slot != of->txn.slot) return;
+  of->kind = bs_kind_or_gone(m, of->doing.node);
+  copy->holders = bs_holders(m, of->doing.node).slots;
+  for (slot = 0; slot < BS_SLOTS; slot++) copy->held[slot] = bs_mode_at(m, slot, of->doing.node).mode;
+  while (copy->waiter_count < BS_SLOTS) {
+    bs_reply waiter = bs_queue_at(m, of->doing.node, copy->waiter_count);
+    if (waiter.status != BS_DONE) break;
+    copy->waiters[copy->waiter_count++] = waiter;
+  }
+}
+
+/* A node: what it is, and its name, as KEY/BIRTH. */
+static inline void bs_dump_node(bs_node node, uint64_t kind, FILE *out) {
+  fprintf(out, "%s %llu/%llu", kind == 0 ? "gone" : bs_kind_text(kind), (unsigned long long)node.key,
           (unsigned long long)node.birth);
 }
 
@@ -1172,25 +1283,23 @@ static inline void bs_dump_count(uint64_t count, const char *what, FILE *out) {
   fprintf(out, "%-12llu %s\n", (unsigned long long)count, what);
 }
 
-static inline void bs_dump_counters(bs_manager *m, FILE *out) {
-  bs_counts counts;
-  memset(&counts, 0, sizeof counts);
-  bs_counters(m, &counts);
+static inline void bs_dump_counters(const bs_dumped *copy, FILE *out) {
+  const bs_counts *counts = &copy->counts;
   fprintf(out, "Counters, since the table was made:\n");
-  bs_dump_count(counts.accepted, "commands were accepted", out);
-  bs_dump_count(counts.granted, "locks were granted at once", out);
-  bs_dump_count(counts.waited, "locks were left waiting", out);
-  bs_dump_count(counts.conversions, "locks were of a node that was held already", out);
-  bs_dump_count(counts.granted_later, "waits ended with a grant", out);
-  bs_dump_count(counts.victims, "transactions were condemned to end a deadlock", out);
-  bs_dump_count(counts.moved, "waits ended since the node moved", out);
-  bs_dump_count(counts.gone, "waits ended since the node was gone", out);
-  bs_dump_count(counts.escalations, "escalations were done", out);
-  bs_dump_count(counts.released_children, "locks were released by them", out);
-  bs_dump_count(counts.most_waiting, "transactions waited at once, at most", out);
-  bs_dump_count(counts.longest_queue, "waited for one node at once, at most", out);
-  bs_dump_count(bs_len(m).count, "nodes live", out);
-  bs_dump_count(bs_most(m).count, "transactions may live at once", out);
+  bs_dump_count(counts->accepted, "commands were accepted", out);
+  bs_dump_count(counts->granted, "locks were granted at once", out);
+  bs_dump_count(counts->waited, "locks were left waiting", out);
+  bs_dump_count(counts->conversions, "locks were of a node that was held already", out);
+  bs_dump_count(counts->granted_later, "waits ended with a grant", out);
+  bs_dump_count(counts->victims, "transactions were condemned to end a deadlock", out);
+  bs_dump_count(counts->moved, "waits ended since the node moved", out);
+  bs_dump_count(counts->gone, "waits ended since the node was gone", out);
+  bs_dump_count(counts->escalations, "escalations were done", out);
+  bs_dump_count(counts->released_children, "locks were released by them", out);
+  bs_dump_count(counts->most_waiting, "transactions waited at once, at most", out);
+  bs_dump_count(counts->longest_queue, "waited for one node at once, at most", out);
+  bs_dump_count(copy->nodes, "nodes live", out);
+  bs_dump_count(copy->most, "transactions may live at once", out);
 }
 
 /* The name of what a transaction does, of enum bs_doings. */
@@ -1199,117 +1308,128 @@ static inline const char *bs_doing_text(uint64_t doing) {
   return doing <= BS_CONDEMNED ? texts[doing] : "?";
 }
 
-static inline void bs_dump_txn(bs_manager *m, bs_txn txn, FILE *out) {
-  bs_reply doing = bs_doing(m, txn);
-  fprintf(out, "%4u %12llu %s", (unsigned)txn.slot, (unsigned long long)txn.age, bs_doing_text(doing.count));
-  if (doing.count == BS_WAITS) {
-    fprintf(out, "     %-4s ", bs_mode_text(doing.mode));
-    bs_dump_node(m, doing.node, out);
+static inline void bs_dump_txn(const bs_dumped_txn *of, FILE *out) {
+  fprintf(out, "%4u %12llu %s", (unsigned)of->txn.slot, (unsigned long long)of->txn.age,
+          bs_doing_text(of->doing.count));
+  if (of->doing.count == BS_WAITS) {
+    fprintf(out, "     %-4s ", bs_mode_text(of->doing.mode));
+    bs_dump_node(of->doing.node, of->kind, out);
     fprintf(out, ", behind");
-    bs_dump_slots(bs_waits_for(m, txn).slots, out);
+    bs_dump_slots(of->waits_for, out);
   }
   fprintf(out, "\n");
 }
 
-/* The locks of a transaction: what it holds, and in the column behind it what it waits for. */
-static inline void bs_dump_locks(bs_manager *m, bs_txn txn, FILE *out) {
-  bs_reply row;
-  size_t place;
-  for (place = 0; (row = bs_lock_at(m, txn, place)).status == BS_DONE; place++) {
-    fprintf(out, "%4u %12llu %-4s %-5s %8llu ", (unsigned)txn.slot, (unsigned long long)txn.age, bs_mode_text(row.mode),
-            row.wanted == BS_NL ? "-" : bs_mode_text(row.wanted), (unsigned long long)row.count);
-    bs_dump_node(m, row.node, out);
+/* Locks of a transaction: what it holds, and in the column behind it what it waits for. */
+static inline void bs_dump_locks(bs_txn txn, const bs_dumped *copy, FILE *out) {
+  size_t i;
+  for (i = 0; i < copy->lock_count; i++) {
+    const bs_reply *lock = &copy->locks[i];
+    fprintf(out, "%4u %12llu %-4s %-5s %8llu ", (unsigned)txn.slot, (unsigned long long)txn.age,
+            bs_mode_text(lock->mode), lock->wanted == BS_NL ? "-" : bs_mode_text(lock->wanted),
+            (unsigned long long)lock->count);
+    bs_dump_node(lock->node, copy->lock_kinds[i], out);
     fprintf(out, "\n");
   }
 }
 
-/* The queue in which a transaction is the first: who holds its node, and who waits for it. */
-static inline void bs_dump_queue(bs_manager *m, bs_txn txn, FILE *out) {
-  bs_reply doing = bs_doing(m, txn), waiter;
-  bs_slots holders;
+/* A queue: who holds its node, and who waits for it. */
+static inline void bs_dump_queue(const bs_dumped_txn *first, const bs_dumped *copy, FILE *out) {
   uint32_t slot;
   size_t place;
-  if (doing.count != BS_WAITS || bs_queue_at(m, doing.node, 0).txn.slot != txn.slot) return;
-  holders = bs_holders(m, doing.node).slots;
-  bs_dump_node(m, doing.node, out);
+  if (copy->waiter_count == 0) return;
+  bs_dump_node(first->doing.node, first->kind, out);
   fprintf(out, "\n");
   for (slot = 0; slot < BS_SLOTS; slot++) {
-    if (bs_has(holders, slot)) {
-      fprintf(out, "    held %9lu %s\n", (unsigned long)slot, bs_mode_text(bs_mode_at(m, slot, doing.node).mode));
-    }
+    if (!bs_has(copy->holders, slot)) continue;
+    fprintf(out, "    held %9lu %s\n", (unsigned long)slot, bs_mode_text(copy->held[slot]));
   }
-  for (place = 0; (waiter = bs_queue_at(m, doing.node, place)).status == BS_DONE; place++) {
-    fprintf(out, "%8lu. %8u %s\n", (unsigned long)place + 1, (unsigned)waiter.txn.slot, bs_mode_text(waiter.mode));
+  for (place = 0; place < copy->waiter_count; place++) {
+    const bs_reply *waiter = &copy->waiters[place];
+    fprintf(out, "%8lu. %8u %s\n", (unsigned long)place + 1, (unsigned)waiter->txn.slot, bs_mode_text(waiter->mode));
   }
 }
 
-static inline void bs_dump_deadlock(bs_manager *m, FILE *out) {
-  bs_deadlock last;
+static inline void bs_dump_deadlock(const bs_dumped *copy, FILE *out) {
+  const bs_deadlock *last = &copy->last;
   size_t i;
-  memset(&last, 0, sizeof last);
   fprintf(out, "\nLast deadlock:\n");
-  if (bs_last_deadlock(m, &last).status != BS_DONE) {
+  if (!copy->has_deadlock) {
     fprintf(out, "none\n");
     return;
   }
-  fprintf(out, "victim: slot %u, age %llu\nslot          age wants waits for\n", (unsigned)last.victim.slot,
-          (unsigned long long)last.victim.age);
-  for (i = 0; i < last.count; i++) {
-    fprintf(out, "%4u %12llu %-5s ", (unsigned)last.at[i].txn.slot, (unsigned long long)last.at[i].txn.age,
-            bs_mode_text(last.at[i].mode));
-    bs_dump_node(m, last.at[i].node, out);
+  fprintf(out, "victim: slot %u, age %llu\nslot          age wants waits for\n", (unsigned)last->victim.slot,
+          (unsigned long long)last->victim.age);
+  for (i = 0; i < last->count; i++) {
+    fprintf(out, "%4u %12llu %-5s ", (unsigned)last->at[i].txn.slot, (unsigned long long)last->at[i].txn.age,
+            bs_mode_text(last->at[i].mode));
+    bs_dump_node(last->at[i].node, copy->last_kinds[i], out);
     fprintf(out, ", behind");
-    bs_dump_slots(last.at[i].waits_for, out);
+    bs_dump_slots(last->at[i].waits_for, out);
     fprintf(out, "\n");
   }
 }
 
-/* For each transaction that lives, in the order of the slots. */
-static inline void bs_dump_each(bs_manager *m, void (*dump)(bs_manager *m, bs_txn txn, FILE *out), FILE *out) {
-  uint32_t slot;
-  for (slot = 0; slot < BS_SLOTS; slot++) {
-    bs_reply living = bs_living(m, slot);
-    if (living.status == BS_DONE) dump(m, living.txn, out);
-  }
+/* The locks of a transaction, a part at a time. False: the table was ended. */
+static inline bool bs_table_dump_locks(bs_table *table, bs_txn txn, bs_dumped *copy, FILE *out) {
+  size_t place = 0;
+  do {
+    bs_manager *m = bs_table_hold(table);
+    if (m == NULL) return false;
+    bs_copy_locks(m, txn, place, copy);
+    bs_table_let_go(table);
+    bs_dump_locks(txn, copy, out);
+    place += copy->lock_count;
+  } while (copy->lock_count == BS_DUMP_LOCKS);
+  return true;
 }
 
-static inline void bs_dump(bs_manager *m, FILE *out) {
-  bs_dump_counters(m, out);
+static inline bool bs_table_dump_queue(bs_table *table, bs_dumped_txn *first, bs_dumped *copy, FILE *out) {
+  bs_manager *m = bs_table_hold(table);
+  if (m == NULL) return false;
+  bs_copy_queue(m, first, copy);
+  bs_table_let_go(table);
+  bs_dump_queue(first, copy, out);
+  return true;
+}
+
+/* Each part is copied with the latch held, and written without it. False: the table was ended. */
+static inline bool bs_table_dump_parts(bs_table *table, bs_dumped *copy, FILE *out) {
+  bs_manager *m = bs_table_hold(table);
+  size_t i;
+  if (m == NULL) return false;
+  bs_copy_first(m, copy);
+  bs_table_let_go(table);
+  bs_dump_counters(copy, out);
   fprintf(out, "\nTransactions:\nslot          age doing     waits for\n");
-  bs_dump_each(m, bs_dump_txn, out);
+  for (i = 0; i < copy->txn_count; i++) bs_dump_txn(&copy->txns[i], out);
   fprintf(out, "\nLocks by transaction:\nslot          age mode wants children node\n");
-  bs_dump_each(m, bs_dump_locks, out);
+  for (i = 0; i < copy->txn_count; i++) {
+    if (!bs_table_dump_locks(table, copy->txns[i].txn, copy, out)) return false;
+  }
   fprintf(out, "\nQueues:\n   place     slot mode\n");
-  bs_dump_each(m, bs_dump_queue, out);
-  bs_dump_deadlock(m, out);
+  for (i = 0; i < copy->txn_count; i++) {
+    if (!bs_table_dump_queue(table, &copy->txns[i], copy, out)) return false;
+  }
+  bs_dump_deadlock(copy, out);
+  return true;
 }
 
 /* Writes all that there is to a file, as text in columns: counters, transactions, the locks of each, queues and the
- * last deadlock, all of one moment. The text is made with the latch held, and written without it. Refused with
- * BS_NULL_POINTER, BS_NO_MANAGER, BS_NO_MEMORY; what the file says of faults, ferror tells. Takes memory. */
+ * last deadlock. The counters, the transactions and the deadlock are of one moment, and so is each queue, and each part
+ * of 256 locks of a transaction: between these the latch is given up, and nothing is written with it. So a lock may be
+ * missed, or stand twice, where its transaction changes its locks meanwhile. Refused with BS_NULL_POINTER,
+ * BS_NO_MANAGER, also where the table is ended meanwhile, BS_NO_MEMORY; what the file says of faults, ferror tells. Takes
+ * memory, some sixty kilobytes however much there is. */
 static inline bs_reply bs_table_dump(bs_table *table, FILE *file) {
-  bs_reply reply = bs_null();
-  bs_manager *manager;
-  char *text = NULL;
-  size_t size = 0;
+  bs_dumped *copy;
   bool is_whole;
-  FILE *out;
-  if (table == NULL || file == NULL) return reply;
-  reply.status = BS_NO_MEMORY;
-  out = open_memstream(&text, &size);
-  if (out == NULL) return reply;
-  manager = bs_table_hold(table);
-  if (manager != NULL) {
-    bs_dump(manager, out);
-    bs_table_let_go(table);
-  }
-  is_whole = ferror(out) == 0;
-  is_whole = fclose(out) == 0 && is_whole;
-  if (is_whole && manager != NULL) fwrite(text, 1, size, file);
-  free(text);
-  if (manager == NULL) reply.status = BS_NO_MANAGER;
-  else if (is_whole) reply.status = BS_DONE;
-  return reply;
+  if (table == NULL || file == NULL) return bs_null();
+  copy = (bs_dumped *)malloc(sizeof *copy);
+  if (copy == NULL) return bs_only(bs_table_len(table).status == BS_DONE ? BS_NO_MEMORY : BS_NO_MANAGER);
+  is_whole = bs_table_dump_parts(table, copy, file);
+  free(copy);
+  return bs_only(is_whole ? BS_DONE : BS_NO_MANAGER);
 }
 
 #undef BS_TABLE_ASK

@@ -9,6 +9,9 @@
 #include "burlapslate.h"
 #include "memory.h"
 
+#include <stdarg.h>
+#include <stdio.h>
+
 /* So many begins of the header are refused memory. */
 static int refused_begins;
 
@@ -33,14 +36,20 @@ static int noted_cond_init(pthread_cond_t *cond, const pthread_condattr_t *attri
 }
 
 static int noted_cond_destroy(pthread_cond_t *cond);
+static int noted_fprintf(FILE *out, const char *format, ...) __attribute__((format(printf, 2, 3)));
 
 #define pthread_cond_init noted_cond_init
 #define pthread_cond_destroy noted_cond_destroy
+#define fprintf noted_fprintf
 
-#include "threads.h"
+#include "burlapslate_shared.h"
 
 #undef pthread_cond_init
 #undef pthread_cond_destroy
+#undef fprintf
+#undef bs_begin
+
+#include "threads.h"
 
 /* Where the inside of an ending table goes, it is noted how many sleep on it still. */
 static const bs_table_inside *ending;
@@ -57,6 +66,22 @@ static int noted_cond_destroy(pthread_cond_t *cond) {
 
 /* A file under a root, with an index of two intervals, parted at 100, and a record in each. */
 static bs_table table = BS_NO_TABLE_HERE;
+
+/* Where the header makes text, nobody else uses the table: so its latch is free. */
+static size_t texts;
+
+static int noted_fprintf(FILE *out, const char *format, ...) {
+  va_list words;
+  int written;
+  WANT(pthread_mutex_trylock(&table.latch) == 0);
+  pthread_mutex_unlock(&table.latch);
+  texts++;
+  va_start(words, format);
+  written = vfprintf(out, format, words);
+  va_end(words);
+  return written;
+}
+
 static bs_node root, file, by_key, below, above, low, high;
 static bs_notices told;
 
@@ -97,6 +122,15 @@ static void *ask(void *arg) {
   if (a->by_path) a->reply = bs_table_lock_path(&table, a->txn, a->node, a->mode, a->until);
   else a->reply = bs_table_lock_until(&table, a->txn, a->node, a->mode, a->until);
   return NULL;
+}
+
+/* How many threads sleep in the table. */
+static size_t sleepers(void) {
+  size_t count;
+  pthread_mutex_lock(&table.latch);
+  count = table.in->sleepers;
+  pthread_mutex_unlock(&table.latch);
+  return count;
 }
 
 static void await_wait(bs_txn txn) {
@@ -419,6 +453,47 @@ static void an_idle_wake(void) {
   DONE(bs_table_end(&table));
 }
 
+/* A thread that is cancelled in its sleep sleeps on, and ends behind its call. */
+struct cancelled {
+  bs_txn txn; /* it waits for the root, and with none for a slot */
+  bool begins;
+  bs_reply reply;
+  pthread_t thread;
+};
+
+static void *sleep_to_the_end(void *arg) {
+  struct cancelled *c = (struct cancelled *)arg;
+  c->reply = c->begins ? bs_table_begin_until(&table, NULL) : bs_table_lock(&table, c->txn, root, BS_X);
+  pthread_testcancel();
+  return NULL;
+}
+
+static void a_thread_is_cancelled(bool begins) {
+  struct cancelled c;
+  void *came = NULL;
+  bs_txn a;
+  memset(&c, 0, sizeof c);
+  DONE(bs_table_make(&table, BS_AT_BLOCK, BS_YOUNGEST, 2));
+  root = DONE(bs_table_add_inner(&table, NULL, 0)).node;
+  a = begin(), c.txn = begin();
+  c.begins = begins;
+  DONE(bs_table_lock(&table, a, root, BS_X));
+  start(&c.thread, sleep_to_the_end, &c);
+  while (sleepers() != 1) nap();
+  WANT(pthread_cancel(c.thread) == 0);
+  nap();
+  WANT(sleepers() == 1);
+  DONE(bs_table_commit(&table, a, NULL));
+  WANT(pthread_join(c.thread, &came) == 0 && came == PTHREAD_CANCELED);
+  DONE(c.reply);
+  DONE(bs_table_end(&table));
+}
+
+static void a_thread_is_cancelled_in_its_sleep(void) {
+  a_thread_is_cancelled(false);
+  a_thread_is_cancelled(true);
+}
+
 /* ------------------------------------------------------------------------------------------------
  * Times.
  */
@@ -572,13 +647,7 @@ static void *begin_in_turn(void *arg) {
 }
 
 static void await_sleepers(size_t count) {
-  size_t sleepers = 0;
-  while (sleepers != count) {
-    nap();
-    pthread_mutex_lock(&table.latch);
-    sleepers = table.in->sleepers;
-    pthread_mutex_unlock(&table.latch);
-  }
+  while (sleepers() != count) nap();
 }
 
 static void start_to_begin(struct beginner *b, const struct timespec *until) {
@@ -757,14 +826,8 @@ static void a_list_frees_slots(void) {
 
 /* Whether the last of so many has come into the line before a time. */
 static bool comes_into_line(size_t count, const struct timespec *until) {
-  size_t sleepers = 0;
-  while (sleepers != count && !is_over(until)) {
-    nap();
-    pthread_mutex_lock(&table.latch);
-    sleepers = table.in->sleepers;
-    pthread_mutex_unlock(&table.latch);
-  }
-  return sleepers == count;
+  while (sleepers() != count && !is_over(until)) nap();
+  return sleepers() == count;
 }
 
 /* Of five the first, the third and the last have this much time. False: this machine was too slow for that. */
@@ -1798,6 +1861,35 @@ static void a_thread_rests_long(void) {
   back(&one, BS_NO_MANAGER);
 }
 
+static volatile sig_atomic_t handled;
+
+static void handle(int number) {
+  handled = number;
+}
+
+/* It takes no signal of the process: this thread blocks it, and so it is pending. */
+static void a_thread_watches_without_signals(void) {
+  struct timespec pause = { 0, 5000000 };
+  struct sigaction action, before;
+  sigset_t mine;
+  memset(&action, 0, sizeof action);
+  action.sa_handler = handle;
+  handled = 0;
+  set_up(BS_BY_WATCHER);
+  WANT(sigaction(SIGUSR1, &action, &before) == 0);
+  DONE(bs_table_watch_thread(&table, 0));
+  sigemptyset(&mine);
+  sigaddset(&mine, SIGUSR1);
+  WANT(pthread_sigmask(SIG_BLOCK, &mine, NULL) == 0);
+  WANT(kill(getpid(), SIGUSR1) == 0);
+  nanosleep(&pause, NULL);
+  WANT(handled == 0);
+  WANT(pthread_sigmask(SIG_UNBLOCK, &mine, NULL) == 0);
+  WANT(handled == SIGUSR1);
+  DONE(bs_table_end(&table));
+  WANT(sigaction(SIGUSR1, &before, NULL) == 0);
+}
+
 /* It is refused the memory to show what it did itself: it settles once, and sleeps. */
 static void a_thread_watches_without_memory(void) {
   struct timespec pause = { 0, 20000000 };
@@ -1940,7 +2032,32 @@ static void a_dump(void) {
   DONE(bs_table_end(&table));
   ANSWERS(BS_NO_MANAGER, bs_table_dump(&table, text));
   fclose(text);
-  count_out(2, 0); /* The texts of two dumps were blocks of the C library. */
+  WANT(texts > 0);
+}
+
+enum { MANY_LOCKS = 2 * BS_DUMP_LOCKS + 7 };
+
+/* Its locks are copied in several parts. */
+static void a_long_dump(void) {
+  FILE *text = tmpfile();
+  bs_txn a, b;
+  size_t i;
+  WANT(text != NULL);
+  set_up(BS_AT_BLOCK);
+  a = begin(), b = begin();
+  for (i = 1; i < MANY_LOCKS; i++) {
+    bs_node node = DONE(bs_table_add_inner(&table, &root, 1)).node;
+    DONE(bs_table_lock_path(&table, a, node, BS_X, NULL));
+    if (i < BS_DUMP_LOCKS) DONE(bs_table_lock_path(&table, b, DONE(bs_table_add_inner(&table, &root, 1)).node, BS_X, NULL));
+  }
+  DONE(bs_table_dump(&table, text));
+  WANT(lines_with(text, "   0 ") == 1 + MANY_LOCKS && lines_with(text, "   1 ") == 1 + BS_DUMP_LOCKS);
+  refused_growth = 1;
+  ANSWERS(BS_NO_MEMORY, bs_table_dump(&table, text));
+  DONE(bs_table_end(&table));
+  refused_growth = 1;
+  ANSWERS(BS_NO_MANAGER, bs_table_dump(&table, text));
+  fclose(text);
 }
 
 /* ------------------------------------------------------------------------------------------------
@@ -2142,6 +2259,7 @@ int main(int count, char **words) {
   TELL(an_abort_ends_a_sleep);
   TELL(a_thread_dies);
   TELL(an_idle_wake);
+  TELL(a_thread_is_cancelled_in_its_sleep);
   TELL(a_time_comes);
   TELL(a_time_comes_and_grants);
   TELL(a_grant_behind_the_time);
@@ -2186,10 +2304,12 @@ int main(int count, char **words) {
   TELL(a_thread_watches_without_rest);
   TELL(a_thread_watches_and_rests);
   TELL(a_thread_rests_long);
+  TELL(a_thread_watches_without_signals);
   TELL(a_thread_watches_without_memory);
   TELL(a_thread_ends_all_it_sees);
   TELL(listings);
   TELL(a_dump);
+  TELL(a_long_dump);
   TELL(an_end_with_sleepers);
   TELL(an_end_in_the_middle);
   TELL(places_without_a_table);
