@@ -21,7 +21,7 @@ faults() {
       "$call" "$call"
   done
   for call in unlock{,_row} {cancel,commit,abort,escalate}{,_rows} settle delete rekey{,_row} move; do
-    printf '%s-forgets-to-wake\ts/BS_TABLE_TELL(table, told, [a-z]*, \\(bs_%s(.*\\)list))/BS_TABLE_ASK(table, \\1bs_table_list(in, told)))/\n' \
+    printf '%s-forgets-to-wake\ts/BS_TABLE_TELL(table, told, [a-z]*, \\(.*bs_%s(.*\\)list))/BS_TABLE_ASK(table, \\1bs_table_list(in, told)))/\n' \
       "$call" "$call"
   done
   cat <<'FAULTS'
@@ -30,7 +30,7 @@ other-keys-wake-nobody	s/^ *status == BS_OTHER_KEYS;/false;/
 run-forgets-to-wake	s/    bs_table_wake(in, next->reply.status, told, by_name);//
 run-forgets-names	s/    by_name = next->kind .*/    by_name = false;/
 late-forgets-to-wake	s/  bs_table_wake(in, reply.status, &in->told, true);//
-path-ends-above	s/  if (reply.status == BS_MOVED || (reply.status == BS_DONE .*//
+path-ends-above	s/ && (reply.status != BS_DONE || path.is_last)) return reply;/) return reply;/
 nobody-is-named	s/by_name || told->count/told->count/
 nobody-is-told	s/by_name || told->count > 0/by_name/
 first-half-sleeps-on	s/  bs_table_wake_half(in, ended.low, 0);//
@@ -40,6 +40,11 @@ watch-forgets-to-wake	s/  bs_table_wake(in, \(bs_settle(.*)\).status, &in->told,
 path-forgets-a-cancel	s/  path->is_cancelled = true;//
 early-return	s/    reply = in->is_ending ? .*/    reply.status = BS_DONE, reply.mode = mode;/
 time-before-grant	s/    reply = in->is_ending ? /    if (late == 0) &/
+sleeper-is-cancelled	/bs_table_doze(/,/^}/s/  pthread_setcancelstate(PTHREAD_CANCEL_DISABLE, &state);/  state = PTHREAD_CANCEL_ENABLE;/
+list-keeps-replies	s/  if (done < count) bs_not_made(.*//
+dump-keeps-the-latch	s/  if (copy->manager == NULL) bs_table_let_go(copy->table);//
+watch-takes-signals	s/  pthread_sigmask(SIG_SETMASK, &blocked, &before);/  pthread_sigmask(SIG_SETMASK, NULL, \&before);/
+watch-forgets-what-it-saw	s/    seen = board.epoch;/    seen = 0;/
 watch-sees-one-deadlock	s/  while (youngest.status == BS_DONE) {/  if (youngest.status == BS_DONE) {/
 watch-does-not-rest	s/    bs_table_rest(table, in, in->pace);//
 end-leaves-sleepers	s/  bs_table_wake_half(in, UINT64_MAX, 0);//
