@@ -1187,8 +1187,11 @@ typedef struct bs_dumped_txn {
   bs_slots waits_for;
 } bs_dumped_txn;
 
-/* What a dump has copied with the latch held: a part at a time. */
+/* What a dump has copied, a part at a time: of a manager that its caller holds, or of that of a table, whose latch is
+ * held for each part. */
 typedef struct bs_dumped {
+  bs_manager *manager; /* null where it is a table's */
+  bs_table *table;
   bs_counts counts; /* these are of one moment, with the last deadlock */
   uint64_t nodes, most;
   size_t txn_count;
@@ -1204,6 +1207,15 @@ typedef struct bs_dumped {
   size_t waiter_count;
   bs_reply waiters[BS_SLOTS];
 } bs_dumped;
+
+/* The manager, for a part; null where the table was ended. */
+static inline bs_manager *bs_dump_hold(bs_dumped *copy) {
+  return copy->manager != NULL ? copy->manager : bs_table_hold(copy->table);
+}
+
+static inline void bs_dump_let_go(bs_dumped *copy) {
+  if (copy->manager == NULL) bs_table_let_go(copy->table);
+}
 
 /* What a node is; 0: it is gone. */
 static inline uint64_t bs_kind_or_gone(bs_manager *m, bs_node node) {
@@ -1321,7 +1333,7 @@ static inline void bs_dump_txn(const bs_dumped_txn *of, FILE *out) {
 }
 
 /* Locks of a transaction: what it holds, and in the column behind it what it waits for. */
-static inline void bs_dump_locks(bs_txn txn, const bs_dumped *copy, FILE *out) {
+static inline void bs_dump_some_locks(bs_txn txn, const bs_dumped *copy, FILE *out) {
   size_t i;
   for (i = 0; i < copy->lock_count; i++) {
     const bs_reply *lock = &copy->locks[i];
@@ -1334,7 +1346,7 @@ static inline void bs_dump_locks(bs_txn txn, const bs_dumped *copy, FILE *out) {
 }
 
 /* A queue: who holds its node, and who waits for it. */
-static inline void bs_dump_queue(const bs_dumped_txn *first, const bs_dumped *copy, FILE *out) {
+static inline void bs_dump_one_queue(const bs_dumped_txn *first, const bs_dumped *copy, FILE *out) {
   uint32_t slot;
   size_t place;
   if (copy->waiter_count == 0) return;
@@ -1371,48 +1383,59 @@ static inline void bs_dump_deadlock(const bs_dumped *copy, FILE *out) {
 }
 
 /* The locks of a transaction, a part at a time. False: the table was ended. */
-static inline bool bs_table_dump_locks(bs_table *table, bs_txn txn, bs_dumped *copy, FILE *out) {
+static inline bool bs_dump_locks(bs_txn txn, bs_dumped *copy, FILE *out) {
   size_t place = 0;
   do {
-    bs_manager *m = bs_table_hold(table);
+    bs_manager *m = bs_dump_hold(copy);
     if (m == NULL) return false;
     bs_copy_locks(m, txn, place, copy);
-    bs_table_let_go(table);
-    bs_dump_locks(txn, copy, out);
+    bs_dump_let_go(copy);
+    bs_dump_some_locks(txn, copy, out);
     place += copy->lock_count;
   } while (copy->lock_count == BS_DUMP_LOCKS);
   return true;
 }
 
-static inline bool bs_table_dump_queue(bs_table *table, bs_dumped_txn *first, bs_dumped *copy, FILE *out) {
-  bs_manager *m = bs_table_hold(table);
+static inline bool bs_dump_queue(bs_dumped_txn *first, bs_dumped *copy, FILE *out) {
+  bs_manager *m = bs_dump_hold(copy);
   if (m == NULL) return false;
   bs_copy_queue(m, first, copy);
-  bs_table_let_go(table);
-  bs_dump_queue(first, copy, out);
+  bs_dump_let_go(copy);
+  bs_dump_one_queue(first, copy, out);
   return true;
 }
 
-/* Each part is copied with the latch held, and written without it. False: the table was ended. */
-static inline bool bs_table_dump_parts(bs_table *table, bs_dumped *copy, FILE *out) {
-  bs_manager *m = bs_table_hold(table);
+/* Each part is copied, and then written. False: the table was ended. */
+static inline bool bs_dump_parts(bs_dumped *copy, FILE *out) {
+  bs_manager *m = bs_dump_hold(copy);
   size_t i;
   if (m == NULL) return false;
   bs_copy_first(m, copy);
-  bs_table_let_go(table);
+  bs_dump_let_go(copy);
   bs_dump_counters(copy, out);
   fprintf(out, "\nTransactions:\nslot          age doing     waits for\n");
   for (i = 0; i < copy->txn_count; i++) bs_dump_txn(&copy->txns[i], out);
   fprintf(out, "\nLocks by transaction:\nslot          age mode wants children node\n");
   for (i = 0; i < copy->txn_count; i++) {
-    if (!bs_table_dump_locks(table, copy->txns[i].txn, copy, out)) return false;
+    if (!bs_dump_locks(copy->txns[i].txn, copy, out)) return false;
   }
   fprintf(out, "\nQueues:\n   place     slot mode\n");
   for (i = 0; i < copy->txn_count; i++) {
-    if (!bs_table_dump_queue(table, &copy->txns[i], copy, out)) return false;
+    if (!bs_dump_queue(&copy->txns[i], copy, out)) return false;
   }
   bs_dump_deadlock(copy, out);
   return true;
+}
+
+static inline bs_reply bs_dump_of(bs_manager *held, bs_table *table, FILE *out) {
+  bs_dumped *copy = (bs_dumped *)malloc(sizeof *copy);
+  bool is_whole;
+  if (copy == NULL) return bs_only(BS_NO_MEMORY);
+  copy->manager = held;
+  copy->table = table;
+  is_whole = bs_dump_parts(copy, out);
+  free(copy);
+  return bs_only(is_whole ? BS_DONE : BS_NO_MANAGER);
 }
 
 /* Writes all that there is to a file, as text in columns: counters, transactions, the locks of each, queues and the
@@ -1422,14 +1445,16 @@ static inline bool bs_table_dump_parts(bs_table *table, bs_dumped *copy, FILE *o
  * BS_NO_MANAGER, also where the table is ended meanwhile, BS_NO_MEMORY; what the file says of faults, ferror tells. Takes
  * memory, some sixty kilobytes however much there is. */
 static inline bs_reply bs_table_dump(bs_table *table, FILE *file) {
-  bs_dumped *copy;
-  bool is_whole;
   if (table == NULL || file == NULL) return bs_null();
-  copy = (bs_dumped *)malloc(sizeof *copy);
-  if (copy == NULL) return bs_only(bs_table_len(table).status == BS_DONE ? BS_NO_MEMORY : BS_NO_MANAGER);
-  is_whole = bs_table_dump_parts(table, copy, file);
-  free(copy);
-  return bs_only(is_whole ? BS_DONE : BS_NO_MANAGER);
+  if (bs_table_len(table).status != BS_DONE) return bs_only(BS_NO_MANAGER);
+  return bs_dump_of(NULL, table, file);
+}
+
+/* The same of a manager that the caller holds, as of bs_table_hold, and so all of one moment. */
+static inline bs_reply bs_dump(bs_manager *manager, FILE *file) {
+  if (manager == NULL || file == NULL) return bs_null();
+  if (bs_len(manager).status != BS_DONE) return bs_only(BS_NO_MANAGER);
+  return bs_dump_of(manager, NULL, file);
 }
 
 #undef BS_TABLE_ASK

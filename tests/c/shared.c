@@ -69,12 +69,15 @@ static bs_table table = BS_NO_TABLE_HERE;
 
 /* Where the header makes text, nobody else uses the table: so its latch is free. */
 static size_t texts;
+static bool is_held; /* but where the story holds it */
 
 static int noted_fprintf(FILE *out, const char *format, ...) {
   va_list words;
   int written;
-  WANT(pthread_mutex_trylock(&table.latch) == 0);
-  pthread_mutex_unlock(&table.latch);
+  if (!is_held) {
+    WANT(pthread_mutex_trylock(&table.latch) == 0);
+    pthread_mutex_unlock(&table.latch);
+  }
   texts++;
   va_start(words, format);
   written = vfprintf(out, format, words);
@@ -2035,14 +2038,25 @@ static void a_dump(void) {
   WANT(texts > 0);
 }
 
+static bool same_text(FILE *one, FILE *other) {
+  int a, b;
+  rewind(one);
+  rewind(other);
+  do {
+    a = getc(one);
+    b = getc(other);
+  } while (a == b && a != EOF);
+  return a == b;
+}
+
 enum { MANY_LOCKS = 2 * BS_DUMP_LOCKS + 7 };
 
 /* Its locks are copied in several parts. */
 static void a_long_dump(void) {
-  FILE *text = tmpfile();
+  FILE *text = tmpfile(), *whole = tmpfile();
   bs_txn a, b;
   size_t i;
-  WANT(text != NULL);
+  WANT(text != NULL && whole != NULL);
   set_up(BS_AT_BLOCK);
   a = begin(), b = begin();
   for (i = 1; i < MANY_LOCKS; i++) {
@@ -2051,13 +2065,19 @@ static void a_long_dump(void) {
     if (i < BS_DUMP_LOCKS) DONE(bs_table_lock_path(&table, b, DONE(bs_table_add_inner(&table, &root, 1)).node, BS_X, NULL));
   }
   DONE(bs_table_dump(&table, text));
+  is_held = true;
+  DONE(bs_dump(bs_table_hold(&table), whole));
+  bs_table_let_go(&table);
+  is_held = false;
+  WANT(same_text(text, whole));
   WANT(lines_with(text, "   0 ") == 1 + MANY_LOCKS && lines_with(text, "   1 ") == 1 + BS_DUMP_LOCKS);
   refused_growth = 1;
   ANSWERS(BS_NO_MEMORY, bs_table_dump(&table, text));
   DONE(bs_table_end(&table));
-  refused_growth = 1;
   ANSWERS(BS_NO_MANAGER, bs_table_dump(&table, text));
+  ANSWERS(BS_NULL_POINTER, bs_dump(NULL, text));
   fclose(text);
+  fclose(whole);
 }
 
 /* ------------------------------------------------------------------------------------------------
