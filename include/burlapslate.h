@@ -103,6 +103,7 @@ enum bs_statuses {
   BS_TIMED_OUT = 36,      /* not answered here: the lock was not granted in time, and the wait was taken back */
   BS_ON_THE_WAY = 37,     /* a path is locked as far as `node`, and others are told: it is asked for again */
   BS_OTHER_KEYS = 38,     /* the row is held, but its keys are others than was said: they are read again */
+  BS_NOT_MADE = 39,       /* not answered here: of a command in a list, it was not made */
   BS_NULL_POINTER = 64,   /* a pointer is null */
   BS_NO_MANAGER = 65,     /* no manager was made at this place, or it was ended */
   BS_BAD_NUMBER = 66,     /* a number names no mode or way of detection, or a count is out of range */
@@ -339,9 +340,10 @@ static inline bs_found bs_none_found(void) {
   return found;
 }
 
-/* Whether one of these is null; where the notices are not, they are emptied then. */
+/* Whether one of these is null. The notices are emptied ahead of all else, so that none of an earlier call is left where
+ * this one is refused. */
 static inline bool bs_lacks(const bs_manager *manager, bs_notices *told) {
-  if (told != NULL && manager == NULL) told->count = 0;
+  if (told != NULL) told->count = 0;
   return told == NULL || manager == NULL;
 }
 
@@ -595,11 +597,7 @@ static inline bs_reply bs_rekey(bs_manager *manager, bs_txn txn, bs_node record,
  * parents. */
 static inline bs_reply bs_move(bs_manager *manager, bs_txn txn, bs_node node, const bs_node *parents, size_t count,
                                bs_notices *told) {
-  if (bs_lacks(manager, told)) return bs_null();
-  if (parents == NULL && count != 0) {
-    told->count = 0;
-    return bs_null();
-  }
+  if (bs_lacks(manager, told) || (parents == NULL && count != 0)) return bs_null();
   return bs_call_move(manager, txn, node, bs_nodes(parents), count, told);
 }
 
@@ -1000,6 +998,7 @@ static inline const char *bs_text(bs_status status) {
     case BS_TIMED_OUT: return "TimedOut";
     case BS_ON_THE_WAY: return "OnTheWay";
     case BS_OTHER_KEYS: return "OtherKeys";
+    case BS_NOT_MADE: return "NotMade";
     case BS_NULL_POINTER: return "NullPointer";
     case BS_NO_MANAGER: return "NoManager";
     case BS_BAD_NUMBER: return "BadNumber";

@@ -3,16 +3,17 @@
  *
  * A bs_table is a manager of burlapslate.h behind one mutex, its latch, with a condition for each slot. Any
  * thread calls it. A lock that has to wait sleeps until it is granted, or until it never will be; each call that
- * ends the wait of somebody wakes who sleeps for it.
+ * ends the wait of somebody wakes who sleeps for it. Where there are more threads than slots a begin can sleep too.
  *
  * It is this header alone, over burlapslate.h and POSIX threads. Where the compiler keeps to ISO C (-std=c99),
- * _POSIX_C_SOURCE is to be 200809L before the first header of the program.
+ * _POSIX_C_SOURCE is to be 200809L before the first header of the program, or _DEFAULT_SOURCE is to be defined: what
+ * pkg-config says has that word.
  *
  * WHO MAY CALL WHEN. Any thread may make any call with a table at any time, but for bs_table_hold. The calls of
  * one transaction are one thread's at a time, as of any transaction; what another may do to it is said below. A
  * call holds the latch for as long as it takes, and never in a sleep. No call may be made from a signal handler,
- * or from the forked child of a process with threads, and nothing may end a thread within a call, as
- * pthread_cancel would.
+ * or from the forked child of a process with threads, and nothing may end a thread within a call. A pthread_cancel
+ * that is deferred, as it is as usual, does not: one who sleeps in a call sleeps on, and ends behind the call.
  *
  * WHAT YOU KEEP. What burlapslate.h asks of pointers, lists and the allocator, and beside it:
  *   - a bs_table is BS_NO_TABLE_HERE before the first call with it; from then on it is neither copied, moved, read
@@ -22,10 +23,10 @@
  *   - names of transactions and nodes are good with the table that gave them.
  *
  * WHAT A CALL ANSWERS. What the call of burlapslate.h answers that has its name without `table_`, with one more
- * status, BS_TIMED_OUT. What stands there of refusals, memory and costs holds here too. A call is one hold of the
- * latch, with nobody's steps between its own; where it sleeps, others use the table meanwhile. A table that was never
- * made or was ended answers BS_NO_MANAGER. A call with `told` fills it where it is not null; those who sleep are woken,
- * whether it is null or not.
+ * status, BS_TIMED_OUT; and BS_NOT_MADE of a command in a list that was not made. What stands there of refusals, memory
+ * and costs holds here too. A call is one hold of the latch, with nobody's steps between its own; where it sleeps, others
+ * use the table meanwhile. A table that was never made or was ended answers BS_NO_MANAGER. A call with `told` fills it
+ * where it is not null; those who sleep are woken, whether it is null or not.
  *
  * HOW A SLEEP ENDS. The one who sleeps for a lock is answered
  *   - BS_DONE: it was granted, and is held in `mode`; of a row BS_OTHER_KEYS, where its keys are others than was said;
@@ -35,13 +36,15 @@
  *   - BS_NOT_WAITING: another thread took the wait back by bs_table_cancel; the transaction is active;
  *   - BS_NO_SUCH_TXN: another thread ended the transaction by bs_table_abort;
  *   - BS_NO_MANAGER: bs_table_end was called.
- * A grant that came before the one who sleeps got the latch is a grant, also where its time was over by then.
+ * A grant that came before the one who sleeps got the latch is a grant, also where its time was over by then. One who
+ * sleeps for a slot is answered as bs_table_begin_until says, and BS_NO_MANAGER where the table ends.
  *
  * WHAT IS PROVED, AND WHAT IS NOT. The library is proved: what each command does and whom it tells, what became of
  * a wait (bs_verdict), whose sleepers are to be woken (bs_ended), that a look gives a whole board and never an older
- * one. Written in C here, and tested: the mutex and the conditions. They are in bs_table_enter, round each call;
- * bs_table_wake, behind each command; bs_table_sleep, where a lock waits; bs_table_end; and bs_table_watches, the
- * thread that watches. The rest of this header makes calls of burlapslate.h between these.
+ * one. Written in C here, and tested: the mutex and the conditions, and the line of those who sleep for a slot. They
+ * are in bs_table_enter, round each call; bs_table_wake, behind each command; bs_table_hand_on, behind what may have
+ * ended a transaction; bs_table_sleep, where a lock waits; bs_table_sleep_in_line, where a begin does; bs_table_end; and
+ * bs_table_watches, the thread that watches. The rest of this header makes calls of burlapslate.h between these.
  */
 #ifndef BURLAPSLATE_SHARED_H
 #define BURLAPSLATE_SHARED_H
@@ -50,14 +53,36 @@
 
 #include <errno.h>
 #include <pthread.h>
+#include <signal.h>
 #include <stdio.h>
 #include <stdlib.h>
 #include <string.h>
 #include <time.h>
 
+/* Else functions that are not declared would be taken for such as answer an int. */
+#if !defined(CLOCK_MONOTONIC) || (defined(__GLIBC__) && !defined(__USE_XOPEN2K8))
+#error "burlapslate_shared.h takes POSIX: define _DEFAULT_SOURCE, or _POSIX_C_SOURCE as 200809L, ahead of all headers"
+#endif
+
 #ifdef __cplusplus
 extern "C" {
 #endif
+
+/* One who sleeps for a slot, in the frame of its own call: its place in the line, and what its begin was answered. */
+typedef struct bs_turn {
+  struct bs_turn *ahead, *behind;
+  bs_reply begun;      /* BS_WAITING: its turn has not come */
+  pthread_cond_t came;
+} bs_turn;
+
+/* One who sleeps on a path, in the frame of its own call. */
+typedef struct bs_path {
+  bs_txn txn;
+  bs_node at;        /* the node that it waits for: that of the path, or one above it */
+  bs_mode mode;      /* the mode in which it wants that */
+  bool is_last;      /* it is that of the path */
+  bool is_cancelled;
+} bs_path;
 
 /* What is made with a table, and ends with it. Its fields are this header's own: they are read and written with
  * the latch held. */
@@ -65,7 +90,9 @@ typedef struct bs_table_inside {
   bs_manager manager;
   bs_notices told;                /* by the last command whose caller wanted no list */
   pthread_cond_t ended[BS_SLOTS]; /* by slot: a wait may be over */
-  size_t sleepers;                /* how many threads sleep for a lock */
+  bs_path *paths[BS_SLOTS];       /* by slot: who sleeps on a path */
+  bs_turn *first, *last;          /* the line of those who sleep for a slot, by their arrival */
+  size_t sleepers;                /* how many threads sleep, for a lock or for a slot */
   uint64_t waited;                /* how many commands had been accepted when the last lock was left waiting */
   bool is_ending;
   pthread_cond_t left;            /* the last who slept has left an ending table */
@@ -104,11 +131,16 @@ static inline bs_reply bs_table_leave(bs_table *table, bs_reply reply) {
   return reply;
 }
 
+/* A reply that says no more than this. */
+static inline bs_reply bs_only(bs_status status) {
+  bs_reply reply = bs_null();
+  reply.status = status;
+  return reply;
+}
+
 /* The reply where there is no table. */
 static inline bs_reply bs_no_table(const bs_table *table) {
-  bs_reply reply = bs_null();
-  if (table != NULL) reply.status = BS_NO_MANAGER;
-  return reply;
+  return bs_only(table == NULL ? BS_NULL_POINTER : BS_NO_MANAGER);
 }
 
 /* Wakes who sleeps for a slot of these, of which the first is `first`. */
@@ -136,6 +168,22 @@ static inline void bs_table_wake(bs_table_inside *in, bs_status status, const bs
   }
 }
 
+/* Sleeps on a condition, with the latch held before and behind it, to a time at most where that is not null: whether
+ * that is over, by ETIMEDOUT. The thread's cancellation is held off: it would keep the latch. */
+static inline int bs_table_doze(bs_table *table, pthread_cond_t *on, const struct timespec *until) {
+  int state, late;
+  pthread_setcancelstate(PTHREAD_CANCEL_DISABLE, &state);
+  late = until == NULL ? pthread_cond_wait(on, &table->latch) : pthread_cond_timedwait(on, &table->latch, until);
+  pthread_setcancelstate(state, &state);
+  return late;
+}
+
+/* One who slept has the latch again, and leaves. */
+static inline void bs_table_woken(bs_table_inside *in) {
+  in->sleepers--;
+  if (in->is_ending && in->sleepers == 0) pthread_cond_signal(&in->left);
+}
+
 /* Takes back the wait of one whose time is over, and answers so. */
 static inline bs_reply bs_table_late(bs_table_inside *in, bs_txn txn) {
   bs_reply reply = bs_cancel(&in->manager, txn, &in->told);
@@ -158,12 +206,10 @@ static inline bs_reply bs_table_sleep(bs_table *table, bs_txn txn, bs_node node,
       reply = bs_table_late(in, txn);
       break;
     }
-    late = until == NULL ? pthread_cond_wait(&in->ended[txn.slot], &table->latch)
-                         : pthread_cond_timedwait(&in->ended[txn.slot], &table->latch, until);
+    late = bs_table_doze(table, &in->ended[txn.slot], until);
     reply = in->is_ending ? bs_no_table(table) : bs_verdict(&in->manager, txn, node, mode);
   }
-  in->sleepers--;
-  if (in->is_ending && in->sleepers == 0) pthread_cond_signal(&in->left);
+  bs_table_woken(in);
   return reply;
 }
 
@@ -177,6 +223,77 @@ static inline bs_reply bs_table_lock_inside(bs_table *table, bs_txn txn, bs_node
   return reply;
 }
 
+/* ------------------------------------------------------------------------------------------------
+ * The line of those who sleep for a slot.
+ */
+
+/* A condition whose times are of the clock that is never set. */
+static inline void bs_steady_cond(pthread_cond_t *cond) {
+  pthread_condattr_t steady;
+  pthread_condattr_init(&steady);
+  pthread_condattr_setclock(&steady, CLOCK_MONOTONIC);
+  pthread_cond_init(cond, &steady);
+  pthread_condattr_destroy(&steady);
+}
+
+static inline void bs_table_join_line(bs_table_inside *in, bs_turn *turn) {
+  turn->ahead = in->last;
+  turn->behind = NULL;
+  if (in->last == NULL) in->first = turn;
+  else in->last->behind = turn;
+  in->last = turn;
+}
+
+static inline void bs_table_leave_line(bs_table_inside *in, bs_turn *turn) {
+  if (turn->ahead == NULL) in->first = turn->behind;
+  else turn->ahead->behind = turn->behind;
+  if (turn->behind == NULL) in->last = turn->ahead;
+  else turn->behind->ahead = turn->ahead;
+}
+
+/* Behind what may have ended a transaction: begins for those who sleep for a slot, in their order, while one is free.
+ * So no hold of the latch leaves a slot free while somebody sleeps for one, and there is no turn that could be lost:
+ * one whose time is over has begun by then, or stands in the line still. */
+static inline void bs_table_hand_on(bs_table_inside *in) {
+  while (in->first != NULL) {
+    bs_turn *turn = in->first;
+    bs_reply begun = bs_begin(&in->manager);
+    if (begun.status == BS_TOO_MANY_TXNS) return;
+    turn->begun = begun;
+    bs_table_leave_line(in, turn);
+    pthread_cond_signal(&turn->came);
+  }
+}
+
+/* Begins a transaction, but where somebody sleeps for a slot: one that a list has freed is for these. */
+static inline bs_reply bs_table_begin_inside(bs_table_inside *in) {
+  return in->first == NULL ? bs_begin(&in->manager) : bs_only(BS_TOO_MANY_TXNS);
+}
+
+/* Sleeps for a slot, with the latch held before and behind it, until somebody has begun for the one who sleeps, or the
+ * time is over, or the table ends. Whether it has begun is asked before the clock. */
+static inline bs_reply bs_table_sleep_in_line(bs_table *table, const struct timespec *until) {
+  bs_table_inside *in = table->in;
+  bs_turn turn;
+  int late = 0;
+  memset(&turn, 0, sizeof turn);
+  turn.begun.status = BS_WAITING;
+  bs_steady_cond(&turn.came);
+  bs_table_join_line(in, &turn);
+  in->sleepers++;
+  while (turn.begun.status == BS_WAITING && late != ETIMEDOUT && !in->is_ending) {
+    late = bs_table_doze(table, &turn.came, until);
+  }
+  if (turn.begun.status == BS_WAITING) {
+    bs_table_leave_line(in, &turn);
+    turn.begun.status = BS_TIMED_OUT;
+  }
+  if (in->is_ending) turn.begun = bs_no_table(table);
+  bs_table_woken(in);
+  pthread_cond_destroy(&turn.came);
+  return turn.begun;
+}
+
 /* Whether this is a time: null, or with nanoseconds below a second. */
 static inline bool bs_is_time(const struct timespec *until) {
   return until == NULL || (until->tv_nsec >= 0 && until->tv_nsec < 1000000000L);
@@ -184,9 +301,7 @@ static inline bool bs_is_time(const struct timespec *until) {
 
 /* The refusal of what is none of its kind. */
 static inline bs_reply bs_bad_number(void) {
-  bs_reply reply = bs_null();
-  reply.status = BS_BAD_NUMBER;
-  return reply;
+  return bs_only(BS_BAD_NUMBER);
 }
 
 /* The list that a command fills: the caller's, or else the table's own. */
@@ -217,6 +332,7 @@ static inline bs_reply bs_table_tells_none(const bs_table *table, bs_notices *to
   list = bs_table_list(in, told);                            \
   reply = call;                                              \
   bs_table_wake(in, reply.status, list, by_name);            \
+  bs_table_hand_on(in);                                      \
   pthread_mutex_unlock(&(table)->latch);                     \
   return reply
 
@@ -227,17 +343,13 @@ static inline bs_reply bs_table_tells_none(const bs_table *table, bs_notices *to
 /* What is inside a new table, with no manager yet; null where memory is refused. */
 static inline bs_table_inside *bs_table_new_inside(void) {
   bs_table_inside *in = (bs_table_inside *)malloc(sizeof *in);
-  pthread_condattr_t steady;
   size_t slot;
   if (in == NULL) return NULL;
   memset(in, 0, sizeof *in);
-  pthread_condattr_init(&steady);
-  pthread_condattr_setclock(&steady, CLOCK_MONOTONIC);
-  for (slot = 0; slot < BS_SLOTS; slot++) pthread_cond_init(&in->ended[slot], &steady);
-  pthread_cond_init(&in->left, &steady);
-  pthread_cond_init(&in->began, &steady);
-  pthread_cond_init(&in->over, &steady);
-  pthread_condattr_destroy(&steady);
+  for (slot = 0; slot < BS_SLOTS; slot++) bs_steady_cond(&in->ended[slot]);
+  bs_steady_cond(&in->left);
+  bs_steady_cond(&in->began);
+  bs_steady_cond(&in->over);
   return in;
 }
 
@@ -279,8 +391,10 @@ static inline bs_reply bs_table_make(bs_table *table, uint32_t detect, uint32_t 
 
 /* Wakes all who sleep with a table that ends. */
 static inline void bs_table_wake_all(bs_table_inside *in) {
+  bs_turn *turn;
   bs_table_wake_half(in, UINT64_MAX, 0);
   bs_table_wake_half(in, UINT64_MAX, 64);
+  for (turn = in->first; turn != NULL; turn = turn->behind) pthread_cond_signal(&turn->came);
   pthread_cond_broadcast(&in->began);
   pthread_cond_broadcast(&in->over);
 }
@@ -293,17 +407,20 @@ static inline void bs_table_wake_all(bs_table_inside *in) {
 static inline bs_reply bs_table_end(bs_table *table) {
   bs_table_inside *in = bs_table_enter(table);
   bs_reply reply;
+  int state;
   if (in == NULL) return bs_no_table(table);
+  pthread_setcancelstate(PTHREAD_CANCEL_DISABLE, &state);
   in->is_ending = true;
   bs_table_wake_all(in);
   pthread_mutex_unlock(&table->latch);
   if (in->is_watched) pthread_join(in->watch, NULL);
   pthread_mutex_lock(&table->latch);
-  while (in->sleepers > 0) pthread_cond_wait(&in->left, &table->latch);
+  while (in->sleepers > 0) bs_table_doze(table, &in->left, NULL);
   reply = bs_end(&in->manager);
   table->in = NULL;
   pthread_mutex_unlock(&table->latch);
   bs_table_free_inside(in);
+  pthread_setcancelstate(state, &state);
   return reply;
 }
 
@@ -332,8 +449,28 @@ static inline bs_reply bs_table_add_index(bs_table *table, const bs_node *parent
  * Transactions and locks.
  */
 
+/* As bs_begin. While somebody sleeps in bs_table_begin_until it is refused with BS_TOO_MANY_TXNS. */
 static inline bs_reply bs_table_begin(bs_table *table) {
-  BS_TABLE_ASK(table, bs_begin(&in->manager));
+  BS_TABLE_ASK(table, bs_table_begin_inside(in));
+}
+
+/* As bs_begin, but it never answers BS_TOO_MANY_TXNS: where all slots are taken it sleeps until one is its own, or,
+ * where `until` is not null, until that time by CLOCK_MONOTONIC. Those who sleep for a slot are served in the order in
+ * which they came. Whoever ends a transaction begins the next for the first of them, in the same hold of the latch: so
+ * nobody who came later is served before. A slot that is free before the one who sleeps got the latch is a begin, also
+ * where its time was over by then. One who sleeps has no transaction, so it is on no cycle of waits. A thread that has
+ * one still, and sleeps for another, may wait for itself, and nobody finds that.
+ * BS_TIMED_OUT: its time came first, and nothing has begun. BS_NO_MEMORY may also come behind a sleep. Refused with
+ * BS_BAD_NUMBER also where `until` is no time. */
+static inline bs_reply bs_table_begin_until(bs_table *table, const struct timespec *until) {
+  bs_table_inside *in = bs_table_enter(table);
+  bs_reply reply;
+  if (in == NULL) return bs_no_table(table);
+  if (!bs_is_time(until)) return bs_table_leave(table, bs_bad_number());
+  reply = bs_table_begin_inside(in);
+  if (reply.status == BS_TOO_MANY_TXNS) reply = bs_table_sleep_in_line(table, until);
+  pthread_mutex_unlock(&table->latch);
+  return reply;
 }
 
 /* As bs_lock, but it never answers BS_WAITING: a lock that has to wait sleeps until its end, or, where `until` is
@@ -380,9 +517,23 @@ static inline bs_reply bs_table_unlock(bs_table *table, bs_txn txn, bs_node node
   BS_TABLE_TELL(table, told, false, bs_unlock(&in->manager, txn, node, list));
 }
 
-/* Takes a wait back, and wakes who sleeps for it: that one is answered BS_NOT_WAITING. */
+/* Behind a cancel: where the wait was over by then, but its sleeper would wake to wait for the next node of its path,
+ * the path is to end in place of that. */
+static inline bs_reply bs_table_cancel_path(bs_table_inside *in, bs_txn txn, bs_reply cancelled) {
+  bs_path *path = cancelled.status == BS_NOT_WAITING && txn.slot < BS_SLOTS ? in->paths[txn.slot] : NULL;
+  bs_status end;
+  if (path == NULL || path->txn.age != txn.age) return cancelled;
+  end = bs_verdict(&in->manager, txn, path->at, path->mode).status;
+  if (end != BS_MOVED && (end != BS_DONE || path->is_last)) return cancelled;
+  path->is_cancelled = true;
+  cancelled.status = BS_DONE;
+  return cancelled;
+}
+
+/* Takes a wait back, and wakes who sleeps for it: that one is answered BS_NOT_WAITING. So is one whose wait on the way
+ * of a path was granted, and that is not awake yet: its path ends there. */
 static inline bs_reply bs_table_cancel(bs_table *table, bs_txn txn, bs_notices *told) {
-  BS_TABLE_TELL(table, told, true, bs_cancel(&in->manager, txn, list));
+  BS_TABLE_TELL(table, told, true, bs_table_cancel_path(in, txn, bs_cancel(&in->manager, txn, list)));
 }
 
 static inline bs_reply bs_table_commit(bs_table *table, bs_txn txn, bs_notices *told) {
@@ -412,12 +563,19 @@ static inline bs_reply bs_table_path_inside(bs_table *table, bs_txn txn, bs_node
                                             const struct timespec *until) {
   bs_table_inside *in = table->in;
   bs_reply reply = bs_lock_path(&in->manager, txn, node, mode, &in->told);
-  bs_node at = reply.node;
+  bs_path path;
   bs_table_wake(in, reply.status, &in->told, false);
   if (reply.status != BS_WAITING) return reply;
-  reply = bs_table_sleep(table, txn, at, bs_waiting(&in->manager, txn).mode, until);
-  if (reply.status == BS_MOVED || (reply.status == BS_DONE && !bs_is_same_node(at, node))) reply.status = BS_ON_THE_WAY;
-  return reply;
+  path.txn = txn;
+  path.at = reply.node;
+  path.mode = bs_waiting(&in->manager, txn).mode;
+  path.is_last = bs_is_same_node(path.at, node);
+  path.is_cancelled = false;
+  in->paths[txn.slot] = &path;
+  reply = bs_table_sleep(table, txn, path.at, path.mode, until);
+  if (in->paths[txn.slot] == &path) in->paths[txn.slot] = NULL;
+  if (reply.status != BS_MOVED && (reply.status != BS_DONE || path.is_last)) return reply;
+  return bs_only(path.is_cancelled ? BS_NOT_WAITING : BS_ON_THE_WAY);
 }
 
 /* Locks a node with what has to be held above it, as bs_lock_path does, and sleeps for each lock that has to wait, to
@@ -529,7 +687,7 @@ static inline bs_reply bs_table_abort_rows(bs_table *table, bs_txn txn, bs_notic
 
 /* Wakes who sleeps for the wait, as bs_table_cancel does. */
 static inline bs_reply bs_table_cancel_rows(bs_table *table, bs_txn txn, bs_notices *told) {
-  BS_TABLE_TELL(table, told, true, bs_cancel_rows(&in->manager, txn, list));
+  BS_TABLE_TELL(table, told, true, bs_table_cancel_path(in, txn, bs_cancel_rows(&in->manager, txn, list)));
 }
 
 static inline bs_reply bs_table_escalate_rows(bs_table *table, bs_txn txn, bs_node node, bs_notices *told) {
@@ -563,7 +721,7 @@ typedef struct bs_command {
   const uint64_t *numbers; /* keys of an insert, bounds of an index */
   size_t number_count;
   bs_notices *told;        /* may be null */
-  bs_reply reply;          /* what it was answered, where it was made */
+  bs_reply reply;          /* what it was answered; BS_NOT_MADE where it was not made */
 } bs_command;
 
 static inline bs_command bs_do(uint32_t kind, bs_txn txn, bs_node node) {
@@ -572,6 +730,7 @@ static inline bs_command bs_do(uint32_t kind, bs_txn txn, bs_node node) {
   command.kind = kind;
   command.txn = txn;
   command.node = node;
+  command.reply.status = BS_NOT_MADE;
   return command;
 }
 
@@ -658,15 +817,16 @@ static inline bs_command bs_do_add_index(const bs_node *parents, size_t count, b
   return command;
 }
 
-/* Makes a command with a manager, for this transaction. */
-static inline bs_reply bs_command_made(bs_manager *m, const bs_command *c, bs_txn txn, bs_notices *told) {
+/* Makes a command with the manager of a table, for this transaction. */
+static inline bs_reply bs_command_made(bs_table_inside *in, const bs_command *c, bs_txn txn, bs_notices *told) {
+  bs_manager *m = &in->manager;
   switch (c->kind) {
-    case BS_DO_BEGIN: return bs_begin(m);
+    case BS_DO_BEGIN: return bs_table_begin_inside(in);
     case BS_DO_LOCK: return bs_lock(m, txn, c->node, c->mode, told);
     case BS_DO_TRY: return bs_try(m, txn, c->node, c->mode);
     case BS_DO_UNLOCK: return bs_unlock(m, txn, c->node, told);
     case BS_DO_ESCALATE: return bs_escalate(m, txn, c->node, told);
-    case BS_DO_CANCEL: return bs_cancel(m, txn, told);
+    case BS_DO_CANCEL: return bs_table_cancel_path(in, txn, bs_cancel(m, txn, told));
     case BS_DO_COMMIT: return bs_commit(m, txn, told);
     case BS_DO_ABORT: return bs_abort(m, txn, told);
     case BS_DO_SETTLE: return bs_settle(m, txn, told);
@@ -685,11 +845,19 @@ static inline bs_reply bs_command_made(bs_manager *m, const bs_command *c, bs_tx
   }
 }
 
+/* Of those behind the first that was not done. */
+static inline void bs_not_made(bs_command *commands, size_t count) {
+  size_t i;
+  for (i = 0; i < count; i++) commands[i].reply = bs_only(BS_NOT_MADE);
+}
+
 /* Makes commands one behind the other in one hold of the latch, up to the first that is not done, and writes into
  * each that was made its reply: how many were done. Where that is fewer than `count`, the reply of the next says
  * why: it was refused; or it is BS_VICTIM; or a lock that is BS_WAITING, which bs_table_await awaits. Those behind
- * it were not made. Whom they tell is woken, be it by the first or by the last. Where there is no table the first
- * is answered so. A kind that is none is refused with BS_BAD_NUMBER. */
+ * it were not made, and their replies are BS_NOT_MADE. Whom they tell is woken, be it by the first or by the last.
+ * Where there is no table the first is answered so. A kind that is none is refused with BS_BAD_NUMBER. A begin is
+ * refused with BS_TOO_MANY_TXNS while somebody sleeps in bs_table_begin_until: a slot that the list has freed goes to
+ * that one, behind its last command. */
 static inline size_t bs_table_run(bs_table *table, bs_command *commands, size_t count) {
   bs_table_inside *in;
   bs_txn begun = bs_begun();
@@ -698,6 +866,7 @@ static inline size_t bs_table_run(bs_table *table, bs_command *commands, size_t 
   in = bs_table_enter(table);
   if (in == NULL) {
     commands[0].reply = bs_table_tells_none(table, commands[0].told);
+    bs_not_made(commands + 1, count - 1);
     return 0;
   }
   while (done < count) {
@@ -707,13 +876,15 @@ static inline size_t bs_table_run(bs_table *table, bs_command *commands, size_t 
     bool by_name;
     told->count = 0;
     by_name = next->kind == BS_DO_CANCEL || next->kind == BS_DO_ABORT;
-    next->reply = bs_command_made(&in->manager, next, txn, told);
+    next->reply = bs_command_made(in, next, txn, told);
     bs_table_wake(in, next->reply.status, told, by_name);
     if (next->reply.status != BS_DONE) break;
     if (next->kind == BS_DO_BEGIN) begun = next->reply.txn;
     done++;
   }
+  bs_table_hand_on(in);
   pthread_mutex_unlock(&table->latch);
+  if (done < count) bs_not_made(commands + done + 1, count - done - 1);
   return done;
 }
 
@@ -730,7 +901,11 @@ static inline bs_manager *bs_table_hold(bs_table *table) {
   return in == NULL ? NULL : &in->manager;
 }
 
-static inline void bs_table_let_go(bs_table *table) { pthread_mutex_unlock(&table->latch); }
+static inline void bs_table_let_go(bs_table *table) {
+  if (table == NULL || table->in == NULL) return; /* Nothing was held. */
+  bs_table_hand_on(table->in);
+  pthread_mutex_unlock(&table->latch);
+}
 
 static inline bs_reply bs_table_group(bs_table *table, bs_node node) {
   BS_TABLE_ASK(table, bs_group(&in->manager, node));
@@ -906,31 +1081,36 @@ static inline void bs_table_rest(bs_table *table, bs_table_inside *in, uint64_t 
   while (!in->is_ending && pthread_cond_timedwait(&in->over, &table->latch, &until) != ETIMEDOUT) continue;
 }
 
-/* Settles the youngest suspect of a board, with the latch held: whether there was one. */
-static inline bool bs_table_settles(bs_table_inside *in, const bs_board *board) {
+/* Settles every suspect of a board, the youngest first, with the latch held. Who is settled, and who is told, is taken
+ * off the board: so nobody is settled whose cycles are open by then. */
+static inline void bs_table_settle_all(bs_table_inside *in, bs_board *board) {
+  static const bs_slots none = { 0, 0 };
   bs_reply youngest = bs_youngest(board, bs_suspects(board).slots);
-  bs_txn suspect;
-  if (youngest.status != BS_DONE) return false;
-  suspect.slot = (uint8_t)youngest.count;
-  suspect.age = board->ages[youngest.count];
-  bs_table_wake(in, bs_settle(&in->manager, suspect, &in->told).status, &in->told, false);
-  return true;
+  while (youngest.status == BS_DONE) {
+    bs_txn suspect;
+    size_t i;
+    suspect.slot = (uint8_t)youngest.count;
+    suspect.age = board->ages[youngest.count];
+    bs_table_wake(in, bs_settle(&in->manager, suspect, &in->told).status, &in->told, false);
+    board->rows[suspect.slot] = none;
+    for (i = 0; i < in->told.count; i++) board->rows[in->told.at[i].txn.slot] = none;
+    youngest = bs_youngest(board, bs_suspects(board).slots);
+  }
 }
 
 /* The thread that watches. No cycle of waits closes but by a lock that is left waiting: so it sleeps until there was
- * one since it last looked and found no suspect. A board that is older than the last of these could not be shown, for
- * want of memory: then it is read with the latch, which takes none. */
+ * one since the last board that it settled. A board that is older than the last of these could not be shown, for want
+ * of memory: then it is read with the latch, which takes none. */
 static inline void *bs_table_watches(void *place) {
   bs_table *table = (bs_table *)place;
   bs_table_inside *in;
   bs_board board;
-  uint64_t seen = 0;
-  bool is_clear = true;
+  uint64_t seen = 0; /* it never falls: all waits up to this count of commands are settled */
   memset(&board, 0, sizeof board);
   pthread_mutex_lock(&table->latch);
   in = table->in;
   while (!in->is_ending) {
-    if (is_clear && in->waited == seen) {
+    if (in->waited <= seen) {
       pthread_cond_wait(&in->began, &table->latch);
       continue;
     }
@@ -940,7 +1120,8 @@ static inline void *bs_table_watches(void *place) {
     pthread_mutex_lock(&table->latch);
     if (in->is_ending) break;
     if (board.epoch < seen) bs_read_board(&in->manager, &board);
-    is_clear = !bs_table_settles(in, &board);
+    seen = board.epoch;
+    bs_table_settle_all(in, &board);
     bs_table_rest(table, in, in->pace);
   }
   pthread_mutex_unlock(&table->latch);
@@ -948,9 +1129,24 @@ static inline void *bs_table_watches(void *place) {
   return NULL;
 }
 
+/* Starts the thread that watches, whether it could be. It takes no signals that are the process's, but for those that a
+ * fault of its own raises: these cannot wait. */
+static inline bool bs_table_start_watch(bs_table *table, bs_table_inside *in) {
+  static const int faults[] = { SIGSEGV, SIGBUS, SIGFPE, SIGILL, SIGTRAP };
+  sigset_t blocked, before;
+  size_t i;
+  bool is_started;
+  sigfillset(&blocked);
+  for (i = 0; i < sizeof faults / sizeof faults[0]; i++) sigdelset(&blocked, faults[i]);
+  pthread_sigmask(SIG_SETMASK, &blocked, &before);
+  is_started = pthread_create(&in->watch, NULL, bs_table_watches, table) == 0;
+  pthread_sigmask(SIG_SETMASK, &before, NULL);
+  return is_started;
+}
+
 /* Starts a thread that ends deadlocks, for a table that was made with BS_BY_WATCHER: it looks as a watcher does,
- * settles the youngest suspect, and rests for `pace` nanoseconds behind each look. While no lock has been left
- * waiting since it saw no suspect it sleeps. It ends with the table, and counts as a watcher. Refused with
+ * settles every suspect, the youngest first, and rests for `pace` nanoseconds behind each look. While no lock has been
+ * left waiting since it looked it sleeps. It ends with the table, counts as a watcher, and takes no signals. Refused with
  * BS_NULL_POINTER, BS_NO_MANAGER, BS_IN_USE where the table has such a thread, BS_TOO_MANY_WATCHERS, and with
  * BS_NO_MEMORY also where no thread can be started. */
 static inline bs_reply bs_table_watch_thread(bs_table *table, uint64_t pace) {
@@ -960,7 +1156,7 @@ static inline bs_reply bs_table_watch_thread(bs_table *table, uint64_t pace) {
   reply = bs_watch(&in->manager, &in->eye);
   if (reply.status != BS_DONE) return bs_table_leave(table, reply);
   in->pace = pace;
-  in->is_watched = pthread_create(&in->watch, NULL, bs_table_watches, table) == 0;
+  in->is_watched = bs_table_start_watch(table, in);
   if (!in->is_watched) {
     bs_watch_end(&in->eye);
     reply.status = BS_NO_MEMORY;
@@ -983,10 +1179,110 @@ static inline const char *bs_kind_text(uint64_t kind) {
   return kind <= BS_RECORD ? texts[kind] : "?";
 }
 
-/* A node: what it is, and its name, as KEY/BIRTH. */
-static inline void bs_dump_node(bs_manager *m, bs_node node, FILE *out) {
+enum { BS_DUMP_LOCKS = 256 };
+
+/* A transaction in a dump; what it waits for, and whom. */
+typedef struct bs_dumped_txn {
+  bs_txn txn;
+  bs_reply doing;
+  uint64_t kind; /* of the node that it waits for; 0: it is gone */
+  bs_slots waits_for;
+} bs_dumped_txn;
+
+/* What a dump has copied, a part at a time: of a manager that its caller holds, or of that of a table, whose latch is
+ * held for each part. */
+typedef struct bs_dumped {
+  bs_manager *manager; /* null where it is a table's */
+  bs_table *table;
+  bs_counts counts; /* these are of one moment, with the last deadlock */
+  uint64_t nodes, most;
+  size_t txn_count;
+  bs_dumped_txn txns[BS_SLOTS];
+  bool has_deadlock;
+  bs_deadlock last;
+  uint64_t last_kinds[BS_SLOTS];
+  size_t lock_count; /* some locks of a transaction */
+  bs_reply locks[BS_DUMP_LOCKS];
+  uint64_t lock_kinds[BS_DUMP_LOCKS];
+  bs_slots holders; /* who holds a node, in which modes, and its queue */
+  bs_mode held[BS_SLOTS];
+  size_t waiter_count;
+  bs_reply waiters[BS_SLOTS];
+} bs_dumped;
+
+/* The manager, for a part; null where the table was ended. */
+static inline bs_manager *bs_dump_hold(bs_dumped *copy) {
+  return copy->manager != NULL ? copy->manager : bs_table_hold(copy->table);
+}
+
+static inline void bs_dump_let_go(bs_dumped *copy) {
+  if (copy->manager == NULL) bs_table_let_go(copy->table);
+}
+
+/* What a node is; 0: it is gone. */
+static inline uint64_t bs_kind_or_gone(bs_manager *m, bs_node node) {
   bs_reply kind = bs_kind(m, node);
-  fprintf(out, "%s %llu/%llu", kind.status == BS_DONE ? bs_kind_text(kind.count) : "gone", (unsigned long long)node.key,
+  return kind.status == BS_DONE ? kind.count : 0;
+}
+
+static inline void bs_copy_txns(bs_manager *m, bs_dumped *copy) {
+  uint32_t slot;
+  copy->txn_count = 0;
+  for (slot = 0; slot < BS_SLOTS; slot++) {
+    bs_reply living = bs_living(m, slot);
+    bs_dumped_txn *to = &copy->txns[copy->txn_count];
+    if (living.status != BS_DONE) continue;
+    to->txn = living.txn;
+    to->doing = bs_doing(m, to->txn);
+    to->kind = bs_kind_or_gone(m, to->doing.node);
+    to->waits_for = bs_waits_for(m, to->txn).slots;
+    copy->txn_count++;
+  }
+}
+
+/* The part that is of one moment. */
+static inline void bs_copy_first(bs_manager *m, bs_dumped *copy) {
+  size_t i;
+  bs_counters(m, &copy->counts);
+  copy->nodes = bs_len(m).count;
+  copy->most = bs_most(m).count;
+  bs_copy_txns(m, copy);
+  copy->has_deadlock = bs_last_deadlock(m, &copy->last).status == BS_DONE;
+  if (!copy->has_deadlock) return;
+  for (i = 0; i < copy->last.count; i++) copy->last_kinds[i] = bs_kind_or_gone(m, copy->last.at[i].node);
+}
+
+/* Some locks of a transaction, from a place on. */
+static inline void bs_copy_locks(bs_manager *m, bs_txn txn, size_t place, bs_dumped *copy) {
+  size_t i;
+  for (i = 0; i < BS_DUMP_LOCKS; i++) {
+    copy->locks[i] = bs_lock_at(m, txn, place + i);
+    if (copy->locks[i].status != BS_DONE) break;
+    copy->lock_kinds[i] = bs_kind_or_gone(m, copy->locks[i].node);
+  }
+  copy->lock_count = i;
+}
+
+/* The queue in which a transaction is the first; none where it is in none, or behind others. */
+static inline void bs_copy_queue(bs_manager *m, bs_dumped_txn *of, bs_dumped *copy) {
+  uint32_t slot;
+  copy->waiter_count = 0;
+  of->doing = bs_doing(m, of->txn);
+  if (of->doing.status != BS_DONE || of->doing.count != BS_WAITS) return;
+  if (bs_queue_at(m, of->doing.node, 0).txn.slot != of->txn.slot) return;
+  of->kind = bs_kind_or_gone(m, of->doing.node);
+  copy->holders = bs_holders(m, of->doing.node).slots;
+  for (slot = 0; slot < BS_SLOTS; slot++) copy->held[slot] = bs_mode_at(m, slot, of->doing.node).mode;
+  while (copy->waiter_count < BS_SLOTS) {
+    bs_reply waiter = bs_queue_at(m, of->doing.node, copy->waiter_count);
+    if (waiter.status != BS_DONE) break;
+    copy->waiters[copy->waiter_count++] = waiter;
+  }
+}
+
+/* A node: what it is, and its name, as KEY/BIRTH. */
+static inline void bs_dump_node(bs_node node, uint64_t kind, FILE *out) {
+  fprintf(out, "%s %llu/%llu", kind == 0 ? "gone" : bs_kind_text(kind), (unsigned long long)node.key,
           (unsigned long long)node.birth);
 }
 
@@ -1001,25 +1297,23 @@ static inline void bs_dump_count(uint64_t count, const char *what, FILE *out) {
   fprintf(out, "%-12llu %s\n", (unsigned long long)count, what);
 }
 
-static inline void bs_dump_counters(bs_manager *m, FILE *out) {
-  bs_counts counts;
-  memset(&counts, 0, sizeof counts);
-  bs_counters(m, &counts);
+static inline void bs_dump_counters(const bs_dumped *copy, FILE *out) {
+  const bs_counts *counts = &copy->counts;
   fprintf(out, "Counters, since the table was made:\n");
-  bs_dump_count(counts.accepted, "commands were accepted", out);
-  bs_dump_count(counts.granted, "locks were granted at once", out);
-  bs_dump_count(counts.waited, "locks were left waiting", out);
-  bs_dump_count(counts.conversions, "locks were of a node that was held already", out);
-  bs_dump_count(counts.granted_later, "waits ended with a grant", out);
-  bs_dump_count(counts.victims, "transactions were condemned to end a deadlock", out);
-  bs_dump_count(counts.moved, "waits ended since the node moved", out);
-  bs_dump_count(counts.gone, "waits ended since the node was gone", out);
-  bs_dump_count(counts.escalations, "escalations were done", out);
-  bs_dump_count(counts.released_children, "locks were released by them", out);
-  bs_dump_count(counts.most_waiting, "transactions waited at once, at most", out);
-  bs_dump_count(counts.longest_queue, "waited for one node at once, at most", out);
-  bs_dump_count(bs_len(m).count, "nodes live", out);
-  bs_dump_count(bs_most(m).count, "transactions may live at once", out);
+  bs_dump_count(counts->accepted, "commands were accepted", out);
+  bs_dump_count(counts->granted, "locks were granted at once", out);
+  bs_dump_count(counts->waited, "locks were left waiting", out);
+  bs_dump_count(counts->conversions, "locks were of a node that was held already", out);
+  bs_dump_count(counts->granted_later, "waits ended with a grant", out);
+  bs_dump_count(counts->victims, "transactions were condemned to end a deadlock", out);
+  bs_dump_count(counts->moved, "waits ended since the node moved", out);
+  bs_dump_count(counts->gone, "waits ended since the node was gone", out);
+  bs_dump_count(counts->escalations, "escalations were done", out);
+  bs_dump_count(counts->released_children, "locks were released by them", out);
+  bs_dump_count(counts->most_waiting, "transactions waited at once, at most", out);
+  bs_dump_count(counts->longest_queue, "waited for one node at once, at most", out);
+  bs_dump_count(copy->nodes, "nodes live", out);
+  bs_dump_count(copy->most, "transactions may live at once", out);
 }
 
 /* The name of what a transaction does, of enum bs_doings. */
@@ -1028,117 +1322,141 @@ static inline const char *bs_doing_text(uint64_t doing) {
   return doing <= BS_CONDEMNED ? texts[doing] : "?";
 }
 
-static inline void bs_dump_txn(bs_manager *m, bs_txn txn, FILE *out) {
-  bs_reply doing = bs_doing(m, txn);
-  fprintf(out, "%4u %12llu %s", (unsigned)txn.slot, (unsigned long long)txn.age, bs_doing_text(doing.count));
-  if (doing.count == BS_WAITS) {
-    fprintf(out, "     %-4s ", bs_mode_text(doing.mode));
-    bs_dump_node(m, doing.node, out);
+static inline void bs_dump_txn(const bs_dumped_txn *of, FILE *out) {
+  fprintf(out, "%4u %12llu %s", (unsigned)of->txn.slot, (unsigned long long)of->txn.age,
+          bs_doing_text(of->doing.count));
+  if (of->doing.count == BS_WAITS) {
+    fprintf(out, "     %-4s ", bs_mode_text(of->doing.mode));
+    bs_dump_node(of->doing.node, of->kind, out);
     fprintf(out, ", behind");
-    bs_dump_slots(bs_waits_for(m, txn).slots, out);
+    bs_dump_slots(of->waits_for, out);
   }
   fprintf(out, "\n");
 }
 
-/* The locks of a transaction: what it holds, and in the column behind it what it waits for. */
-static inline void bs_dump_locks(bs_manager *m, bs_txn txn, FILE *out) {
-  bs_reply row;
-  size_t place;
-  for (place = 0; (row = bs_lock_at(m, txn, place)).status == BS_DONE; place++) {
-    fprintf(out, "%4u %12llu %-4s %-5s %8llu ", (unsigned)txn.slot, (unsigned long long)txn.age, bs_mode_text(row.mode),
-            row.wanted == BS_NL ? "-" : bs_mode_text(row.wanted), (unsigned long long)row.count);
-    bs_dump_node(m, row.node, out);
+/* Locks of a transaction: what it holds, and in the column behind it what it waits for. */
+static inline void bs_dump_some_locks(bs_txn txn, const bs_dumped *copy, FILE *out) {
+  size_t i;
+  for (i = 0; i < copy->lock_count; i++) {
+    const bs_reply *lock = &copy->locks[i];
+    fprintf(out, "%4u %12llu %-4s %-5s %8llu ", (unsigned)txn.slot, (unsigned long long)txn.age,
+            bs_mode_text(lock->mode), lock->wanted == BS_NL ? "-" : bs_mode_text(lock->wanted),
+            (unsigned long long)lock->count);
+    bs_dump_node(lock->node, copy->lock_kinds[i], out);
     fprintf(out, "\n");
   }
 }
 
-/* The queue in which a transaction is the first: who holds its node, and who waits for it. */
-static inline void bs_dump_queue(bs_manager *m, bs_txn txn, FILE *out) {
-  bs_reply doing = bs_doing(m, txn), waiter;
-  bs_slots holders;
+/* A queue: who holds its node, and who waits for it. */
+static inline void bs_dump_one_queue(const bs_dumped_txn *first, const bs_dumped *copy, FILE *out) {
   uint32_t slot;
   size_t place;
-  if (doing.count != BS_WAITS || bs_queue_at(m, doing.node, 0).txn.slot != txn.slot) return;
-  holders = bs_holders(m, doing.node).slots;
-  bs_dump_node(m, doing.node, out);
+  if (copy->waiter_count == 0) return;
+  bs_dump_node(first->doing.node, first->kind, out);
   fprintf(out, "\n");
   for (slot = 0; slot < BS_SLOTS; slot++) {
-    if (bs_has(holders, slot)) {
-      fprintf(out, "    held %9lu %s\n", (unsigned long)slot, bs_mode_text(bs_mode_at(m, slot, doing.node).mode));
-    }
+    if (!bs_has(copy->holders, slot)) continue;
+    fprintf(out, "    held %9lu %s\n", (unsigned long)slot, bs_mode_text(copy->held[slot]));
   }
-  for (place = 0; (waiter = bs_queue_at(m, doing.node, place)).status == BS_DONE; place++) {
-    fprintf(out, "%8lu. %8u %s\n", (unsigned long)place + 1, (unsigned)waiter.txn.slot, bs_mode_text(waiter.mode));
+  for (place = 0; place < copy->waiter_count; place++) {
+    const bs_reply *waiter = &copy->waiters[place];
+    fprintf(out, "%8lu. %8u %s\n", (unsigned long)place + 1, (unsigned)waiter->txn.slot, bs_mode_text(waiter->mode));
   }
 }
 
-static inline void bs_dump_deadlock(bs_manager *m, FILE *out) {
-  bs_deadlock last;
+static inline void bs_dump_deadlock(const bs_dumped *copy, FILE *out) {
+  const bs_deadlock *last = &copy->last;
   size_t i;
-  memset(&last, 0, sizeof last);
   fprintf(out, "\nLast deadlock:\n");
-  if (bs_last_deadlock(m, &last).status != BS_DONE) {
+  if (!copy->has_deadlock) {
     fprintf(out, "none\n");
     return;
   }
-  fprintf(out, "victim: slot %u, age %llu\nslot          age wants waits for\n", (unsigned)last.victim.slot,
-          (unsigned long long)last.victim.age);
-  for (i = 0; i < last.count; i++) {
-    fprintf(out, "%4u %12llu %-5s ", (unsigned)last.at[i].txn.slot, (unsigned long long)last.at[i].txn.age,
-            bs_mode_text(last.at[i].mode));
-    bs_dump_node(m, last.at[i].node, out);
+  fprintf(out, "victim: slot %u, age %llu\nslot          age wants waits for\n", (unsigned)last->victim.slot,
+          (unsigned long long)last->victim.age);
+  for (i = 0; i < last->count; i++) {
+    fprintf(out, "%4u %12llu %-5s ", (unsigned)last->at[i].txn.slot, (unsigned long long)last->at[i].txn.age,
+            bs_mode_text(last->at[i].mode));
+    bs_dump_node(last->at[i].node, copy->last_kinds[i], out);
     fprintf(out, ", behind");
-    bs_dump_slots(last.at[i].waits_for, out);
+    bs_dump_slots(last->at[i].waits_for, out);
     fprintf(out, "\n");
   }
 }
 
-/* For each transaction that lives, in the order of the slots. */
-static inline void bs_dump_each(bs_manager *m, void (*dump)(bs_manager *m, bs_txn txn, FILE *out), FILE *out) {
-  uint32_t slot;
-  for (slot = 0; slot < BS_SLOTS; slot++) {
-    bs_reply living = bs_living(m, slot);
-    if (living.status == BS_DONE) dump(m, living.txn, out);
-  }
+/* The locks of a transaction, a part at a time. False: the table was ended. */
+static inline bool bs_dump_locks(bs_txn txn, bs_dumped *copy, FILE *out) {
+  size_t place = 0;
+  do {
+    bs_manager *m = bs_dump_hold(copy);
+    if (m == NULL) return false;
+    bs_copy_locks(m, txn, place, copy);
+    bs_dump_let_go(copy);
+    bs_dump_some_locks(txn, copy, out);
+    place += copy->lock_count;
+  } while (copy->lock_count == BS_DUMP_LOCKS);
+  return true;
 }
 
-static inline void bs_dump(bs_manager *m, FILE *out) {
-  bs_dump_counters(m, out);
+static inline bool bs_dump_queue(bs_dumped_txn *first, bs_dumped *copy, FILE *out) {
+  bs_manager *m = bs_dump_hold(copy);
+  if (m == NULL) return false;
+  bs_copy_queue(m, first, copy);
+  bs_dump_let_go(copy);
+  bs_dump_one_queue(first, copy, out);
+  return true;
+}
+
+/* Each part is copied, and then written. False: the table was ended. */
+static inline bool bs_dump_parts(bs_dumped *copy, FILE *out) {
+  bs_manager *m = bs_dump_hold(copy);
+  size_t i;
+  if (m == NULL) return false;
+  bs_copy_first(m, copy);
+  bs_dump_let_go(copy);
+  bs_dump_counters(copy, out);
   fprintf(out, "\nTransactions:\nslot          age doing     waits for\n");
-  bs_dump_each(m, bs_dump_txn, out);
+  for (i = 0; i < copy->txn_count; i++) bs_dump_txn(&copy->txns[i], out);
   fprintf(out, "\nLocks by transaction:\nslot          age mode wants children node\n");
-  bs_dump_each(m, bs_dump_locks, out);
+  for (i = 0; i < copy->txn_count; i++) {
+    if (!bs_dump_locks(copy->txns[i].txn, copy, out)) return false;
+  }
   fprintf(out, "\nQueues:\n   place     slot mode\n");
-  bs_dump_each(m, bs_dump_queue, out);
-  bs_dump_deadlock(m, out);
+  for (i = 0; i < copy->txn_count; i++) {
+    if (!bs_dump_queue(&copy->txns[i], copy, out)) return false;
+  }
+  bs_dump_deadlock(copy, out);
+  return true;
+}
+
+static inline bs_reply bs_dump_of(bs_manager *held, bs_table *table, FILE *out) {
+  bs_dumped *copy = (bs_dumped *)malloc(sizeof *copy);
+  bool is_whole;
+  if (copy == NULL) return bs_only(BS_NO_MEMORY);
+  copy->manager = held;
+  copy->table = table;
+  is_whole = bs_dump_parts(copy, out);
+  free(copy);
+  return bs_only(is_whole ? BS_DONE : BS_NO_MANAGER);
 }
 
 /* Writes all that there is to a file, as text in columns: counters, transactions, the locks of each, queues and the
- * last deadlock, all of one moment. The text is made with the latch held, and written without it. Refused with
- * BS_NULL_POINTER, BS_NO_MANAGER, BS_NO_MEMORY; what the file says of faults, ferror tells. Takes memory. */
+ * last deadlock. The counters, the transactions and the deadlock are of one moment, and so is each queue, and each part
+ * of 256 locks of a transaction: between these the latch is given up, and nothing is written with it. So a lock may be
+ * missed, or stand twice, where its transaction changes its locks meanwhile. Refused with BS_NULL_POINTER,
+ * BS_NO_MANAGER, also where the table is ended meanwhile, BS_NO_MEMORY; what the file says of faults, ferror tells. Takes
+ * memory, some sixty kilobytes however much there is. */
 static inline bs_reply bs_table_dump(bs_table *table, FILE *file) {
-  bs_reply reply = bs_null();
-  bs_manager *manager;
-  char *text = NULL;
-  size_t size = 0;
-  bool is_whole;
-  FILE *out;
-  if (table == NULL || file == NULL) return reply;
-  reply.status = BS_NO_MEMORY;
-  out = open_memstream(&text, &size);
-  if (out == NULL) return reply;
-  manager = bs_table_hold(table);
-  if (manager != NULL) {
-    bs_dump(manager, out);
-    bs_table_let_go(table);
-  }
-  is_whole = ferror(out) == 0;
-  is_whole = fclose(out) == 0 && is_whole;
-  if (is_whole && manager != NULL) fwrite(text, 1, size, file);
-  free(text);
-  if (manager == NULL) reply.status = BS_NO_MANAGER;
-  else if (is_whole) reply.status = BS_DONE;
-  return reply;
+  if (table == NULL || file == NULL) return bs_null();
+  if (bs_table_len(table).status != BS_DONE) return bs_only(BS_NO_MANAGER);
+  return bs_dump_of(NULL, table, file);
+}
+
+/* The same of a manager that the caller holds, as of bs_table_hold, and so all of one moment. */
+static inline bs_reply bs_dump(bs_manager *manager, FILE *file) {
+  if (manager == NULL || file == NULL) return bs_null();
+  if (bs_len(manager).status != BS_DONE) return bs_only(BS_NO_MANAGER);
+  return bs_dump_of(manager, NULL, file);
 }
 
 #undef BS_TABLE_ASK

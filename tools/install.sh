@@ -25,6 +25,7 @@ cp "${libraries[0]}" "$work/first.a" && cp "${libraries[1]}" "$work/second.a" ||
 (cd "$work" && printf 'create whole.a\naddlib first.a\naddlib second.a\nsave\nend\n' | ${AR:-ar} -M) || exit 1
 cp "$work/whole.a" "$prefix/lib/libburlapslate.a" || exit 1
 
+# _DEFAULT_SOURCE adds POSIX where a compiler keeps to ISO C, and takes nothing from others, as _POSIX_C_SOURCE would.
 cat >"$prefix/lib/pkgconfig/burlapslate.pc" <<END_OF_FILE || exit 1
 prefix=$prefix
 includedir=\${prefix}/include
@@ -33,6 +34,6 @@ libdir=\${prefix}/lib
 Name: burlapslate
 Description: A lock manager of granular locks
 Version: $(number MAJOR).$(number MINOR).$(number PATCH)
-Cflags: -I\${includedir} -pthread
+Cflags: -I\${includedir} -D_DEFAULT_SOURCE -pthread
 Libs: -L\${libdir} -lburlapslate -pthread
 END_OF_FILE

@@ -158,7 +158,7 @@ static void roll_back(struct txn *t) {
 
 struct txn txn_begin(struct bank *b, unsigned patience) {
   struct txn t = { .bank = b, .patience = patience };
-  t.name = MUST(bs_table_begin(&b->locks)).txn;
+  t.name = MUST(bs_table_begin_until(&b->locks, NULL)).txn; /* It sleeps where all slots are taken. */
   return t;
 }
 

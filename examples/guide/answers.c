@@ -19,6 +19,7 @@ enum action {
 static enum action what_to_do(bs_status status) {
   switch ((enum bs_statuses)status) {
     case BS_DONE: case BS_NO_PLACE: case BS_NOT_WAITING: return GO_ON;
+    case BS_NOT_MADE: return GO_ON; /* By the answer of the command that ended the list. */
     case BS_WAITING: return SLEEP;
     case BS_NEED_PARENTS: case BS_NO_SUCH_NODE: case BS_MOVED: case BS_GONE: return LOOK_AGAIN;
     case BS_ON_THE_WAY: case BS_OTHER_KEYS: return LOOK_AGAIN;

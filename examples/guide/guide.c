@@ -78,6 +78,7 @@ int main(void) {
   setvbuf(stdout, NULL, _IONBF, 0);
   TELL(sessions_in_threads);
   TELL(several_in_one_hold);
+  TELL(more_clients_than_slots);
   TELL(which_node_for_what);
   TELL(pages_as_records);
   TELL(rows_while_they_are_locked);

@@ -40,6 +40,7 @@ uint64_t roll(uint64_t *dice);
 /* tables.c */
 void sessions_in_threads(void);
 void several_in_one_hold(void);
+void more_clients_than_slots(void);
 
 /* nodes.c */
 void which_node_for_what(void);

@@ -1,5 +1,6 @@
 /*
- * A shared table: sessions in threads, several commands in one hold, and a thread that ends deadlocks.
+ * A shared table: sessions in threads, several commands in one hold, a thread that ends deadlocks, and more clients than
+ * slots.
  */
 #include "guide.h"
 
@@ -9,10 +10,10 @@ static bs_table table = BS_NO_TABLE_HERE;
 static struct { bs_node db, orders, rows[2]; } shop;
 static uint64_t amounts[2];
 
-static void open_table(uint32_t detect) {
+static void open_table(uint32_t detect, uint32_t slots) {
   bs_txn t;
   size_t i;
-  DONE(bs_table_make(&table, detect, BS_YOUNGEST, BS_SLOTS));
+  DONE(bs_table_make(&table, detect, BS_YOUNGEST, slots));
   if (detect == BS_BY_WATCHER) DONE(bs_table_watch_thread(&table, 1000000)); /* It rests a millisecond between looks. */
   shop.db = DONE(bs_table_add_inner(&table, NULL, 0)).node;
   shop.orders = DONE(bs_table_add_file(&table, &shop.db, 1)).node;
@@ -49,7 +50,7 @@ static void *move_many(void *arg) {
 static void move_to_and_fro(uint32_t detect) {
   size_t from[2] = { 0, 1 }, i;
   pthread_t threads[2];
-  open_table(detect);
+  open_table(detect, BS_SLOTS);
   for (i = 0; i < 2; i++) WANT(pthread_create(&threads[i], NULL, move_many, &from[i]) == 0);
   for (i = 0; i < 2; i++) WANT(pthread_join(threads[i], NULL) == 0);
   WANT(amounts[0] == 0 && amounts[1] == 0);
@@ -65,12 +66,53 @@ void sessions_in_threads(void) {
 void several_in_one_hold(void) {
   bs_command list[3];
   bs_txn t;
-  open_table(BS_AT_BLOCK);
+  open_table(BS_AT_BLOCK, BS_SLOTS);
   t = DONE(bs_table_begin(&table)).txn;
   list[0] = bs_do_lock(t, shop.db, BS_IX);
   list[1] = bs_do_lock(t, shop.orders, BS_IX);
   list[2] = bs_do_lock(t, shop.rows[0], BS_X);
   WANT(bs_table_run(&table, list, 3) == 3);
   WANT(list[2].reply.mode == BS_X);
+  DONE(bs_table_end(&table));
+}
+
+enum { CLIENTS = 40, FEW_SLOTS = 4 };
+
+/* A client of a server. It has a transaction from its first lock on. */
+struct client {
+  bool has_begun;
+  bs_txn txn;
+  pthread_t thread;
+};
+
+static bs_status client_locks(struct client *c, bs_node node, bs_mode mode, const struct timespec *until) {
+  if (!c->has_begun) {
+    bs_reply begun = bs_table_begin_until(&table, until);
+    if (begun.status != BS_DONE) return begun.status;
+    c->txn = begun.txn;
+    c->has_begun = true;
+  }
+  return bs_table_lock_path(&table, c->txn, node, mode, until).status;
+}
+
+static void *serve_client(void *arg) {
+  struct client *c = arg;
+  WANT(client_locks(c, shop.rows[0], BS_X, NULL) == BS_DONE);
+  amounts[0]++;
+  WANT(client_locks(c, shop.rows[1], BS_X, NULL) == BS_DONE);
+  amounts[1]++;
+  DONE(bs_table_commit(&table, c->txn, NULL));
+  c->has_begun = false;
+  return NULL;
+}
+
+void more_clients_than_slots(void) {
+  static struct client clients[CLIENTS];
+  size_t i;
+  amounts[0] = amounts[1] = 0;
+  open_table(BS_AT_BLOCK, FEW_SLOTS);
+  for (i = 0; i < CLIENTS; i++) WANT(pthread_create(&clients[i].thread, NULL, serve_client, &clients[i]) == 0);
+  for (i = 0; i < CLIENTS; i++) WANT(pthread_join(clients[i].thread, NULL) == 0);
+  WANT(amounts[0] == CLIENTS && amounts[1] == CLIENTS);
   DONE(bs_table_end(&table));
 }

@@ -1,50 +1,106 @@
-//! Names the two archives that the crate is linked with: the library for C, and the toolchain's
-//! calls for memory. `BURLAPSLATE_LIBS` has their paths, with the separator of PATH between them;
-//! where it is not set, `tools/c_library.sh` prints them, and builds the library first where it is
-//! missing or old.
+//! Finds the library for C that the crate is linked with, in the first of these places:
+//!
+//! - the archives that `BURLAPSLATE_LIBS` names, with the separator of PATH between them;
+//! - the folder that `BURLAPSLATE_DIR` names: the PREFIX of `tools/install.sh`, or its `lib`;
+//! - the installation that `pkg-config` knows, of this crate's version;
+//! - the repository, where the crate stands in it: `tools/c_library.sh` builds the library where it is
+//!   missing or old.
 
 use std::env;
+use std::ffi::OsString;
 use std::fs;
 use std::path::{Path, PathBuf};
 use std::process::{Command, Stdio};
 
-const NAMED_BY: &str = "BURLAPSLATE_LIBS";
+const ARCHIVES: &str = "BURLAPSLATE_LIBS";
+const FOLDER: &str = "BURLAPSLATE_DIR";
+
+/// What `tools/install.sh` calls the archive.
+const INSTALLED: &str = "libburlapslate.a";
 
 fn main() {
     println!("cargo:rerun-if-changed=build.rs");
-    println!("cargo:rerun-if-env-changed={NAMED_BY}");
-    let archives = match env::var_os(NAMED_BY) {
-        Some(paths) if !paths.is_empty() => env::split_paths(&paths).collect(),
-        _ => archives_of_repository(),
-    };
-    assert!(
-        archives.len() == 2,
-        "two archives are wanted, not {archives:?}: name them in {NAMED_BY}"
-    );
+    let archives = named_archives()
+        .or_else(archive_of_folder)
+        .or_else(archive_of_installation)
+        .or_else(archives_of_repository)
+        .unwrap_or_else(|| {
+            panic!(
+                "the library for C is not found: name its archives in {ARCHIVES}, or the folder of its \
+                 installation in {FOLDER}, or let pkg-config find burlapslate.pc"
+            )
+        });
     for archive in &archives {
         link(archive);
     }
 }
 
+/// A word of the environment, where it is set and not empty.
+fn word(name: &str) -> Option<OsString> {
+    println!("cargo:rerun-if-env-changed={name}");
+    env::var_os(name).filter(|value| !value.is_empty())
+}
+
+fn named_archives() -> Option<Vec<PathBuf>> {
+    word(ARCHIVES).map(|paths| env::split_paths(&paths).collect())
+}
+
+fn archive_of_folder() -> Option<Vec<PathBuf>> {
+    let folder = PathBuf::from(word(FOLDER)?);
+    let below = folder.join("lib").join(INSTALLED);
+    let archive = if below.is_file() {
+        below
+    } else {
+        folder.join(INSTALLED)
+    };
+    Some(vec![archive])
+}
+
+/// What `pkg-config` says, where there is one and it knows this version.
+fn archive_of_installation() -> Option<Vec<PathBuf>> {
+    for name in [
+        "PKG_CONFIG_PATH",
+        "PKG_CONFIG_LIBDIR",
+        "PKG_CONFIG_SYSROOT_DIR",
+    ] {
+        word(name);
+    }
+    if env::var_os("HOST") != env::var_os("TARGET") {
+        return None; // It speaks of this machine.
+    }
+    let program = word("PKG_CONFIG").unwrap_or_else(|| "pkg-config".into());
+    let wanted = format!("burlapslate = {}", env!("CARGO_PKG_VERSION"));
+    let output = Command::new(program)
+        .args(["--variable=libdir", &wanted])
+        .stderr(Stdio::null())
+        .output()
+        .ok()
+        .filter(|output| output.status.success())?;
+    let folder = String::from_utf8(output.stdout).ok()?;
+    let archive = Path::new(folder.trim_end()).join(INSTALLED);
+    archive.is_file().then(|| vec![archive])
+}
+
 /// What the script of the repository prints, a path a line.
-fn archives_of_repository() -> Vec<PathBuf> {
+fn archives_of_repository() -> Option<Vec<PathBuf>> {
     let top = Path::new("../..");
     let script = top.join("tools/c_library.sh");
+    if !script.is_file() {
+        return None;
+    }
     println!("cargo:rerun-if-changed={}", script.display());
     println!("cargo:rerun-if-changed={}", top.join("crates").display());
     let output = Command::new(&script)
         .stderr(Stdio::inherit())
         .output()
-        .unwrap_or_else(|error| {
-            panic!("{} does not run: {error}; set {NAMED_BY}", script.display())
-        });
+        .unwrap_or_else(|error| panic!("{} does not run: {error}", script.display()));
     assert!(
         output.status.success(),
-        "{} failed; see above, or set {NAMED_BY}",
+        "{} failed; see above, or name the library in {ARCHIVES} or {FOLDER}",
         script.display()
     );
     let printed = String::from_utf8(output.stdout).expect("a path is not UTF-8");
-    printed.lines().map(PathBuf::from).collect()
+    Some(printed.lines().map(PathBuf::from).collect())
 }
 
 /// Links an archive `libNAME.a`, which is made part of the crate.

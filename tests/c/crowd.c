@@ -1,6 +1,6 @@
 /*
  * A crowd over one shared table: 128 threads make random commands of every kind, by both ways of detection and both
- * choices of victims.
+ * choices of victims, and over fewer slots than there are threads.
  *
  *   crowd [ROUNDS [SECONDS]]   how many transactions each thread begins, 4 where none is given; and the time that a
  *                              setting may take before it is said to hang, 20 where none is given
@@ -159,8 +159,14 @@ static bs_reply serve(bs_manager *m, struct call call, bs_notices *told) {
   return write_down(m, &call, reply, told);
 }
 
+/* Whether the begin is for one who sleeps for a slot: then it is not this thread's. */
+static bool is_handed_on(void);
+
 static bs_reply served_begin(bs_manager *m) {
-  return serve(m, adding(BEGIN, NULL, 0), NULL);
+  size_t last = my_last, last_but_one = my_last_but_one;
+  bs_reply reply = serve(m, adding(BEGIN, NULL, 0), NULL);
+  if (is_handed_on()) my_last = last, my_last_but_one = last_but_one;
+  return reply;
 }
 
 static bs_reply served_lock(bs_manager *m, enum kind kind, bs_txn txn, bs_node node, bs_mode mode, bs_notices *told) {
@@ -284,9 +290,15 @@ static bs_reply served_add_index(bs_manager *m, const bs_node *parents, size_t c
  * are locked.
  */
 
-enum { AREAS = 2, FILES = 4, INTERVALS = 3, RECORDS = 24, ROWS = 10, ACCOUNTS = 8, THREADS = 128, WATCHERS = 2 };
+enum { AREAS = 2, FILES = 4, INTERVALS = 3, RECORDS = 24, ROWS = 10, ACCOUNTS = 8, THREADS = 128, WATCHERS = 2,
+       FEW_SLOTS = 16 };
 
 static bs_table table = BS_NO_TABLE_HERE;
+
+static bool is_handed_on(void) {
+  return table.in != NULL && table.in->first != NULL;
+}
+
 static bs_node root, areas[AREAS], files[FILES], indexes[FILES], intervals[FILES][INTERVALS], accounts[ACCOUNTS];
 static bs_node records[RECORDS];
 static bs_node row_files[FILES], row_indexes[FILES], row_intervals[FILES][INTERVALS];
@@ -324,14 +336,14 @@ static void make_file(size_t i) {
   DONE(bs_table_commit(&table, t, NULL));
 }
 
-static void set_up(uint32_t detect, uint32_t victims) {
+static void set_up(uint32_t detect, uint32_t victims, uint32_t most) {
   size_t i;
   log_count = 0;
   memset(added, 0, sizeof added);
   memset(changed, 0, sizeof changed);
   memset(free_game, 0, sizeof free_game);
   is_over = false;
-  DONE(bs_table_make(&table, detect, victims, BS_SLOTS));
+  DONE(bs_table_make(&table, detect, victims, most));
   root = DONE(bs_table_add_inner(&table, NULL, 0)).node;
   for (i = 0; i < AREAS; i++) areas[i] = DONE(bs_table_add_inner(&table, &root, 1)).node;
   for (i = 0; i < FILES; i++) make_file(i);
@@ -387,6 +399,27 @@ static bool same_reply(bs_reply a, bs_reply b) {
 static bs_reply as_served(bs_reply reply) {
   pthread_mutex_lock(&table.latch);
   WANT(same_reply(reply, log_of_calls[my_last].reply));
+  pthread_mutex_unlock(&table.latch);
+  return reply;
+}
+
+/* A cancel that finds no wait may end a path all the same. */
+static bs_reply as_cancelled(bs_reply reply) {
+  bs_reply served = reply;
+  pthread_mutex_lock(&table.latch);
+  if (log_of_calls[my_last].reply.status == BS_NOT_WAITING && reply.status == BS_DONE) served.status = BS_NOT_WAITING;
+  pthread_mutex_unlock(&table.latch);
+  as_served(served);
+  return reply;
+}
+
+/* A begin may have been served in another thread. */
+static bs_reply as_begun(bs_reply reply) {
+  size_t i;
+  pthread_mutex_lock(&table.latch);
+  i = log_count;
+  while (i > 0 && (log_of_calls[i - 1].call.kind != BEGIN || !same_reply(reply, log_of_calls[i - 1].reply))) i--;
+  WANT(i > 0);
   pthread_mutex_unlock(&table.latch);
   return reply;
 }
@@ -545,8 +578,8 @@ static bs_reply meddle(struct session *s) {
   switch (pick(s, 6)) {
     case 0: return as_served(bs_table_abort(&table, whom, NULL));
     case 1: return as_served(bs_table_abort_rows(&table, whom, NULL));
-    case 2: return as_served(bs_table_cancel_rows(&table, whom, NULL));
-    default: return as_served(bs_table_cancel(&table, whom, NULL));
+    case 2: return as_cancelled(bs_table_cancel_rows(&table, whom, NULL));
+    default: return as_cancelled(bs_table_cancel(&table, whom, NULL));
   }
 }
 
@@ -640,7 +673,7 @@ static void name_game(struct session *s, bool is_game) {
 static void one_transaction(struct session *s) {
   bs_status status = BS_DONE;
   size_t i, count = 1 + pick(s, 6);
-  s->txn = as_served(DONE(bs_table_begin(&table))).txn;
+  s->txn = as_begun(DONE(bs_table_begin_until(&table, NULL))).txn;
   s->is_game = pick(s, 6) == 0;
   name_game(s, s->is_game);
   for (i = 0; i < count && status != BS_VICTIM && status != BS_TXN_CONDEMNED; i++) status = any_command(s).status;
@@ -729,6 +762,7 @@ static void compare_end(const bs_notice *n) {
   const struct served *s = &log_of_calls[waiting_at[n->txn.slot]];
   if (!s->has_slept) return; /* A path that was begun anew, or a wait that was taken back later. */
   if (s->came.status == BS_NO_SUCH_TXN) return;
+  if (s->came.status == BS_NOT_WAITING && s->call.kind == LOCK_PATH) return; /* It was cancelled on its way. */
   WANT(s->came.status == ends[n->kind]);
   if (n->kind == BS_TOLD_GRANTED) WANT(s->came.mode == n->mode && same_node(awaited(s), n->node));
 }
@@ -755,7 +789,7 @@ static void replay_one(bs_manager *m, size_t at, bs_notices *told) {
 }
 
 /* Behind all sessions: a manager of one thread, asked the same, is the same. */
-static void replay(uint32_t detect, uint32_t victims) {
+static void replay(uint32_t detect, uint32_t victims, uint32_t most) {
   static bs_notices told;
   static bs_board ours, theirs;
   bs_manager m = BS_NO_MANAGER_HERE;
@@ -763,7 +797,7 @@ static void replay(uint32_t detect, uint32_t victims) {
   size_t i;
   memset(&counts, 0, sizeof counts);
   memset(&their_counts, 0, sizeof their_counts);
-  DONE(bs_make_choosing(&m, detect, victims, BS_SLOTS));
+  DONE(bs_make_choosing(&m, detect, victims, most));
   for (i = 0; i < log_count; i++) replay_one(&m, i, &told);
   DONE(bs_table_read_board(&table, &ours));
   DONE(bs_read_board(&m, &theirs));
@@ -792,14 +826,14 @@ static void compare_additions(const struct session *sessions) {
   }
 }
 
-static void crowd(const char *name, uint32_t detect, uint32_t victims, unsigned patience) {
+static void crowd(const char *name, uint32_t detect, uint32_t victims, uint32_t most, unsigned patience) {
   static struct session sessions[THREADS];
   struct looker lookers[WATCHERS];
   long fell = 0, slept = 0, late = 0, others = 0, looks = 0;
   size_t i;
   story = name;
   feed(patience);
-  set_up(detect, victims);
+  set_up(detect, victims, most);
   memset(sessions, 0, sizeof sessions);
   memset(lookers, 0, sizeof lookers);
   for (i = 0; i < WATCHERS; i++) {
@@ -823,7 +857,7 @@ static void crowd(const char *name, uint32_t detect, uint32_t victims, unsigned 
     late += sessions[i].late;
     others += sessions[i].others;
   }
-  replay(detect, victims);
+  replay(detect, victims, most);
   compare_additions(sessions);
   DONE(bs_table_end(&table));
   fprintf(stderr, "%s: %lu calls, %ld sleeps, %ld too late, %ld victims, %ld other keys, %ld looks\n", name,
@@ -835,10 +869,11 @@ int main(int count, char **words) {
   unsigned patience = count > 2 ? (unsigned)atoi(words[2]) : 20;
   setvbuf(stdout, NULL, _IONBF, 0);
   if (count > 1) rounds = atol(words[1]);
-  crowd("a_crowd_at_block_the_youngest", BS_AT_BLOCK, BS_YOUNGEST, patience);
-  crowd("a_crowd_at_block_the_fewest", BS_AT_BLOCK, BS_FEWEST, patience);
-  crowd("a_crowd_by_watcher_the_youngest", BS_BY_WATCHER, BS_YOUNGEST, patience);
-  crowd("a_crowd_by_watcher_the_fewest", BS_BY_WATCHER, BS_FEWEST, patience);
+  crowd("a_crowd_at_block_the_youngest", BS_AT_BLOCK, BS_YOUNGEST, BS_SLOTS, patience);
+  crowd("a_crowd_at_block_the_fewest", BS_AT_BLOCK, BS_FEWEST, BS_SLOTS, patience);
+  crowd("a_crowd_by_watcher_the_youngest", BS_BY_WATCHER, BS_YOUNGEST, BS_SLOTS, patience);
+  crowd("a_crowd_by_watcher_the_fewest", BS_BY_WATCHER, BS_FEWEST, BS_SLOTS, patience);
+  crowd("a_crowd_over_fewer_slots", BS_AT_BLOCK, BS_YOUNGEST, FEW_SLOTS, patience);
   free(log_of_calls);
   return 0;
 }

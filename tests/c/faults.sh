@@ -11,29 +11,56 @@ libraries=("${@:$#-1:2}")
 work=$(mktemp -d) || exit 2
 trap 'rm -rf "$work"' EXIT
 
-# The faults: a name, and an edit by sed that must change the header. The library may need more words (FAULT_LINKS).
+# The faults: a name, and an edit by sed that must change the header. There is one for each call that wakes somebody, and
+# for each condition. The library may need more words (FAULT_LINKS).
 faults() {
   local call
+  for call in lock_inside path_inside ask_row; do
+    printf '%s-forgets-to-wake\t/bs_table_%s(/,/^}/s/  bs_table_wake(in, reply.status, &in->told, false);//\n' "$call" "$call"
+    printf '%s-is-not-watched\t/bs_table_%s(/,/^}/s/wake(in, reply.status,/wake(in, reply.status == BS_WAITING ? BS_DONE : reply.status,/\n' \
+      "$call" "$call"
+  done
   for call in unlock{,_row} {cancel,commit,abort,escalate}{,_rows} settle delete rekey{,_row} move; do
-    printf '%s-forgets-to-wake\ts/BS_TABLE_TELL(table, told, [a-z]*, \\(bs_%s(.*\\)list))/BS_TABLE_ASK(table, \\1bs_table_list(in, told)))/\n' \
+    printf '%s-forgets-to-wake\ts/BS_TABLE_TELL(table, told, [a-z]*, \\(.*bs_%s(.*\\)list))/BS_TABLE_ASK(table, \\1bs_table_list(in, told)))/\n' \
       "$call" "$call"
   done
   cat <<'FAULTS'
 row-is-not-asked-again	s/      if (bs_table_ask_row(.*//
 other-keys-wake-nobody	s/^ *status == BS_OTHER_KEYS;/false;/
-lock-forgets-to-wake	s/  bs_table_wake(in, reply.status, &in->told, false);//
 run-forgets-to-wake	s/    bs_table_wake(in, next->reply.status, told, by_name);//
 run-forgets-names	s/    by_name = next->kind .*/    by_name = false;/
 late-forgets-to-wake	s/  bs_table_wake(in, reply.status, &in->told, true);//
-path-ends-above	s/  if (reply.status == BS_MOVED || (reply.status == BS_DONE .*//
+path-ends-above	s/ && (reply.status != BS_DONE || path.is_last)) return reply;/) return reply;/
 nobody-is-named	s/by_name || told->count/told->count/
 nobody-is-told	s/by_name || told->count > 0/by_name/
+first-half-sleeps-on	s/  bs_table_wake_half(in, ended.low, 0);//
 second-half-sleeps-on	s/  bs_table_wake_half(in, ended.high, 64);//
 watch-is-not-woken	s/    pthread_cond_signal(&in->began);//
 watch-forgets-to-wake	s/  bs_table_wake(in, \(bs_settle(.*)\).status, &in->told, false);/  \1;/
+path-forgets-a-cancel	s/  path->is_cancelled = true;//
 early-return	s/    reply = in->is_ending ? .*/    reply.status = BS_DONE, reply.mode = mode;/
 time-before-grant	s/    reply = in->is_ending ? /    if (late == 0) &/
+sleeper-is-cancelled	/bs_table_doze(/,/^}/s/  pthread_setcancelstate(PTHREAD_CANCEL_DISABLE, &state);/  state = PTHREAD_CANCEL_ENABLE;/
+list-keeps-replies	s/  if (done < count) bs_not_made(.*//
+dump-keeps-the-latch	s/  if (copy->manager == NULL) bs_table_let_go(copy->table);//
+watch-takes-signals	s/  pthread_sigmask(SIG_SETMASK, &blocked, &before);/  pthread_sigmask(SIG_SETMASK, NULL, \&before);/
+watch-forgets-what-it-saw	s/    seen = board.epoch;/    seen = 0;/
+watch-sees-one-deadlock	s/  while (youngest.status == BS_DONE) {/  if (youngest.status == BS_DONE) {/
+watch-does-not-rest	s/    bs_table_rest(table, in, in->pace);//
 end-leaves-sleepers	s/  bs_table_wake_half(in, UINT64_MAX, 0);//
+end-leaves-the-watch	s/  pthread_cond_broadcast(&in->began);//
+end-leaves-the-rest	s/  pthread_cond_broadcast(&in->over);//
+end-does-not-wait	s/  while (in->sleepers > 0) .*//
+last-sleeper-says-nothing	s/  if (in->is_ending && in->sleepers == 0) .*//
+begin-passes-the-line	s/  return in->first == NULL ? bs_begin/  return true ? bs_begin/
+last-comes-first	s/    bs_turn \*turn = in->first;/    bs_turn *turn = in->last;/
+call-keeps-the-slot	s/  bs_table_hand_on(in);  *\\$/ \\/
+run-keeps-the-slot	s/^  bs_table_hand_on(in);$//
+hold-keeps-the-slot	s/  bs_table_hand_on(table->in);//
+one-slot-is-handed-on	s/  while (in->first != NULL) {/  if (in->first != NULL) {/
+time-before-turn	s/  if (turn.begun.status == BS_WAITING) {/  if (late == ETIMEDOUT) {/
+turn-wakes-nobody	s/    pthread_cond_signal(&turn->came);//
+end-leaves-the-line	s/  for (turn = in->first; turn != NULL; .*//
 FAULTS
 }
 

@@ -1,8 +1,8 @@
 #!/usr/bin/env bash
 # install.sh: installs the library into a temporary folder, compiles the first program of README.md with what
-# pkg-config says, and runs it. Ends with status 1 where something is not as wanted. Where there is no pkg-config it
-# says so, compiles with the same words of its own, and ends with status 77: not tried to its end. CC names another
-# compiler than cc.
+# pkg-config says, and runs it; also where the compiler keeps to ISO C, which without these words is refused by the
+# header. Ends with status 1 where something is not as wanted. Where there is no pkg-config it says so, compiles with
+# the same words of its own, and ends with status 77: not tried to its end. CC names another compiler than cc.
 set -uo pipefail
 top=$(cd "$(dirname "$0")/../.." && pwd) || exit 2
 work=$(mktemp -d) || exit 2
@@ -10,7 +10,7 @@ trap 'rm -rf "$work"' EXIT
 "$top/tools/install.sh" "$work/there" || exit 1
 awk '$0 == "```c" { inside = 1; next } inside && $0 == "```" { exit } inside' "$top/README.md" >"$work/first.c"
 [ -s "$work/first.c" ] || { echo "tests/c: no program in README.md" >&2; exit 1; }
-words="-I$work/there/include -pthread -L$work/there/lib -lburlapslate"
+words="-I$work/there/include -D_DEFAULT_SOURCE -pthread -L$work/there/lib -lburlapslate"
 status=0
 if command -v pkg-config >/dev/null; then
   words=$(PKG_CONFIG_PATH=$work/there/lib/pkgconfig pkg-config --cflags --libs burlapslate) || exit 1
@@ -18,8 +18,16 @@ else
   echo "tests/c: burlapslate.pc: not tried: pkg-config is not found"
   status=77
 fi
-# shellcheck disable=SC2086 # CC may have words behind the name, and pkg-config says several.
-${CC:-cc} -Wall -Wextra -Werror -o "$work/first" "$work/first.c" $words || exit 1
-timeout 60 "$work/first" || exit 1
+for standard in gnu11 c99 c11; do
+  # shellcheck disable=SC2086 # CC may have words behind the name, and pkg-config says several.
+  ${CC:-cc} "-std=$standard" -Wall -Wextra -Werror -o "$work/first" "$work/first.c" $words || exit 1
+  timeout 60 "$work/first" || exit 1
+done
+# shellcheck disable=SC2086 # The same.
+if ${CC:-cc} -std=c11 -pthread "-I$work/there/include" -c -o "$work/first.o" "$work/first.c" 2>"$work/log" ||
+  ! grep -q 'define _DEFAULT_SOURCE' "$work/log"; then
+  echo "tests/c: the header does not refuse ISO C without POSIX" >&2
+  exit 1
+fi
 echo "the_first_program"
 exit "$status"

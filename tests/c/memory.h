@@ -16,6 +16,10 @@ static __thread long refused_growth;
 static long blocks, bytes;
 static pthread_mutex_t count_latch = PTHREAD_MUTEX_INITIALIZER;
 
+/* One thread may be refused all memory. */
+static bool has_refused_thread;
+static pthread_t refused_thread;
+
 void *__real_malloc(size_t size);
 void *__real_realloc(void *old, size_t size);
 void __real_free(void *block);
@@ -24,7 +28,24 @@ void *__wrap_realloc(void *old, size_t size);
 void __wrap_free(void *block);
 
 static bool is_refused(void) {
-  return refused_growth > 0 && --refused_growth == 0;
+  bool all;
+  pthread_mutex_lock(&count_latch);
+  all = has_refused_thread && pthread_equal(pthread_self(), refused_thread);
+  pthread_mutex_unlock(&count_latch);
+  return all || (refused_growth > 0 && --refused_growth == 0);
+}
+
+static __attribute__((unused)) void refuse_thread(pthread_t thread) {
+  pthread_mutex_lock(&count_latch);
+  has_refused_thread = true;
+  refused_thread = thread;
+  pthread_mutex_unlock(&count_latch);
+}
+
+static __attribute__((unused)) void refuse_no_thread(void) {
+  pthread_mutex_lock(&count_latch);
+  has_refused_thread = false;
+  pthread_mutex_unlock(&count_latch);
 }
 
 static void count_out(long more_blocks, long more_bytes) {

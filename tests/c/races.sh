@@ -1,9 +1,10 @@
 #!/usr/bin/env bash
 # races.sh [TOOL..]: runs the stories of a shared table and a small crowd under tools that look for races: `tsan`
 # (ThreadSanitizer, which sees what is compiled here: the header and the programs), `helgrind` and `drd` (valgrind's,
-# which see the library too); all three where none is named. races.supp says what is no race. Prints a line for each
-# run. Ends with status 1 where one reports anything or a program fails; a tool that is not found is passed over.
-# RACES_LIBS names other archives than those of tools/c_library.sh, with a space between. CC names another compiler.
+# which see the library too); all three where none is named. `short` stands for the stories alone, under the first of
+# them that is found, which takes seconds: where none is, it ends with status 77, not tried. races.supp says what is no
+# race. Prints a line for each run. Ends with status 1 where one reports anything or a program fails; a tool that is not
+# found is passed over. RACES_LIBS names other archives than those of tools/c_library.sh, with a space between. CC names another compiler.
 set -uo pipefail
 top=$(cd "$(dirname "$0")/../.." && pwd) || exit 2
 work=$(mktemp -d) || exit 2
@@ -41,7 +42,21 @@ export TSAN_OPTIONS="exitcode=66 suppressions=$work/seen"
 
 status=0
 for tool in "$@"; do
+  watched=(valgrind "--tool=$tool" -q --fair-sched=yes --max-threads=1200 "--suppressions=$top/tests/c/races.supp"
+    --error-exitcode=66)
   case $tool in
+    short)
+      if compile shared-tsan shared -fsanitize=thread 2>/dev/null; then
+        quiet "tsan, the stories" "$work/shared-tsan" 60 || status=1
+      elif command -v valgrind >/dev/null; then
+        compile shared shared || exit 1
+        watched[1]=--tool=helgrind
+        quiet "helgrind, the stories" "${watched[@]}" "$work/shared" 300 || status=1
+      else
+        echo "races.sh: not tried: neither ThreadSanitizer nor valgrind is found"
+        exit 77
+      fi
+      ;;
     tsan)
       if ! compile shared-tsan shared -fsanitize=thread || ! compile crowd-tsan crowd -fsanitize=thread; then
         echo "tsan: this compiler has none, so nothing was tried"
@@ -56,7 +71,6 @@ for tool in "$@"; do
         continue
       fi
       compile shared shared && compile crowd crowd || exit 1
-      watched=(valgrind "--tool=$tool" -q --fair-sched=yes "--suppressions=$top/tests/c/races.supp" --error-exitcode=66)
       quiet "$tool, the stories" "${watched[@]}" "$work/shared" 900 || status=1
       quiet "$tool, the crowd" "${watched[@]}" "$work/crowd" 1 900 || status=1
       ;;

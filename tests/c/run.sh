@@ -1,6 +1,6 @@
 #!/usr/bin/env bash
 # run.sh: compiles the stories over the C library, and runs them. Prints a line for each story, of one thread and of a
-# shared table, and for each setting of a crowd. Then it plants three faults in the header of the shared table, which the
+# shared table, and for each setting of a crowd. Then it plants four faults in the header of the shared table, which the
 # stories must find. Ends with status 1 where something is not as wanted; where there is no C compiler it says so, and
 # ends with status 77: not tried. CC names another compiler than cc.
 set -uo pipefail
@@ -41,4 +41,5 @@ compile shared -Wl,--wrap=malloc,--wrap=realloc,--wrap=free || exit 1
 timeout 60 "$work/shared" || exit 1
 compile crowd || exit 1
 timeout 100 "$work/crowd" 2>"$work/log" || { cat "$work/log" >&2; exit 1; }
-"$top/tests/c/faults.sh" commit-forgets-to-wake early-return row-is-not-asked-again "${libraries[@]}" || exit 1
+"$top/tests/c/faults.sh" commit-forgets-to-wake early-return row-is-not-asked-again begin-passes-the-line \
+  "${libraries[@]}" || exit 1

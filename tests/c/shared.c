@@ -6,8 +6,59 @@
  *
  * It is linked with the calls for memory of memory.h.
  */
+#include "burlapslate.h"
 #include "memory.h"
+
+#include <stdarg.h>
+#include <stdio.h>
+
+/* So many begins of the header are refused memory. */
+static int refused_begins;
+
+static bs_reply noted_begin(bs_manager *m) {
+  bs_reply refused = bs_null();
+  refused.status = BS_NO_MEMORY;
+  if (refused_begins == 0) return bs_begin(m);
+  refused_begins--;
+  return refused;
+}
+
+#define bs_begin(m) noted_begin(m)
+
+/* Where the header makes a condition for one who comes to sleep for a slot, with the latch held, the number of its
+ * arrival is noted. */
+static __thread long my_arrival;
+static long arrivals;
+
+static int noted_cond_init(pthread_cond_t *cond, const pthread_condattr_t *attributes) {
+  my_arrival = ++arrivals;
+  return pthread_cond_init(cond, attributes);
+}
+
+static int noted_cond_destroy(pthread_cond_t *cond);
+static int noted_fprintf(FILE *out, const char *format, ...) __attribute__((format(printf, 2, 3)));
+
+#define pthread_cond_init noted_cond_init
+#define pthread_cond_destroy noted_cond_destroy
+#define fprintf noted_fprintf
+
+#include "burlapslate_shared.h"
+
+#undef pthread_cond_init
+#undef pthread_cond_destroy
+#undef fprintf
+#undef bs_begin
+
 #include "threads.h"
+
+/* Where the inside of an ending table goes, it is noted how many sleep on it still. */
+static const bs_table_inside *ending;
+static size_t asleep_at_end;
+
+static int noted_cond_destroy(pthread_cond_t *cond) {
+  if (ending != NULL && cond == &ending->ended[0]) asleep_at_end = ending->sleepers;
+  return pthread_cond_destroy(cond);
+}
 
 /* ------------------------------------------------------------------------------------------------
  * A table with a store, and one who asks in a thread of its own.
@@ -15,6 +66,25 @@
 
 /* A file under a root, with an index of two intervals, parted at 100, and a record in each. */
 static bs_table table = BS_NO_TABLE_HERE;
+
+/* Where the header makes text, nobody else uses the table: so its latch is free. */
+static size_t texts;
+static bool is_held; /* but where the story holds it */
+
+static int noted_fprintf(FILE *out, const char *format, ...) {
+  va_list words;
+  int written;
+  if (!is_held) {
+    WANT(pthread_mutex_trylock(&table.latch) == 0);
+    pthread_mutex_unlock(&table.latch);
+  }
+  texts++;
+  va_start(words, format);
+  written = vfprintf(out, format, words);
+  va_end(words);
+  return written;
+}
+
 static bs_node root, file, by_key, below, above, low, high;
 static bs_notices told;
 
@@ -57,17 +127,31 @@ static void *ask(void *arg) {
   return NULL;
 }
 
+/* How many threads sleep in the table. */
+static size_t sleepers(void) {
+  size_t count;
+  pthread_mutex_lock(&table.latch);
+  count = table.in->sleepers;
+  pthread_mutex_unlock(&table.latch);
+  return count;
+}
+
 static void await_wait(bs_txn txn) {
   while (bs_table_waiting(&table, txn).status != BS_WAITING) nap();
 }
 
-/* Has a transaction ask in a thread, which comes to sleep. */
-static void send(struct asker *a, bs_txn txn, bs_node node, bs_mode mode) {
+/* Has a transaction ask in a thread. */
+static void start_asking_for(struct asker *a, bs_txn txn, bs_node node, bs_mode mode) {
   memset(a, 0, sizeof *a);
   a->txn = txn;
   a->node = node;
   a->mode = mode;
   start(&a->thread, ask, a);
+}
+
+/* The same of a thread that comes to sleep. */
+static void send(struct asker *a, bs_txn txn, bs_node node, bs_mode mode) {
+  start_asking_for(a, txn, node, mode);
   await_wait(txn);
 }
 
@@ -153,6 +237,22 @@ static void a_lock_condemns(void) {
   send(&two, a, root, BS_X);
   back(&one, BS_VICTIM);
   ANSWERS(BS_TXN_CONDEMNED, bs_table_lock(&table, b, root, BS_S));
+  DONE(bs_table_abort(&table, b, NULL));
+  WANT(back(&two, BS_DONE).mode == BS_X);
+  DONE(bs_table_end(&table));
+}
+
+/* The same by a path. */
+static void a_path_condemns(void) {
+  struct asker one, two;
+  bs_txn a, b;
+  set_up(BS_AT_BLOCK);
+  a = begin(), b = begin();
+  DONE(bs_table_lock(&table, a, root, BS_S));
+  DONE(bs_table_lock(&table, b, root, BS_S));
+  send(&one, b, root, BS_X);
+  send_by_path(&two, a, root, BS_X);
+  back(&one, BS_VICTIM);
   DONE(bs_table_abort(&table, b, NULL));
   WANT(back(&two, BS_DONE).mode == BS_X);
   DONE(bs_table_end(&table));
@@ -356,6 +456,47 @@ static void an_idle_wake(void) {
   DONE(bs_table_end(&table));
 }
 
+/* A thread that is cancelled in its sleep sleeps on, and ends behind its call. */
+struct cancelled {
+  bs_txn txn; /* it waits for the root, and with none for a slot */
+  bool begins;
+  bs_reply reply;
+  pthread_t thread;
+};
+
+static void *sleep_to_the_end(void *arg) {
+  struct cancelled *c = (struct cancelled *)arg;
+  c->reply = c->begins ? bs_table_begin_until(&table, NULL) : bs_table_lock(&table, c->txn, root, BS_X);
+  pthread_testcancel();
+  return NULL;
+}
+
+static void a_thread_is_cancelled(bool begins) {
+  struct cancelled c;
+  void *came = NULL;
+  bs_txn a;
+  memset(&c, 0, sizeof c);
+  DONE(bs_table_make(&table, BS_AT_BLOCK, BS_YOUNGEST, 2));
+  root = DONE(bs_table_add_inner(&table, NULL, 0)).node;
+  a = begin(), c.txn = begin();
+  c.begins = begins;
+  DONE(bs_table_lock(&table, a, root, BS_X));
+  start(&c.thread, sleep_to_the_end, &c);
+  while (sleepers() != 1) nap();
+  WANT(pthread_cancel(c.thread) == 0);
+  nap();
+  WANT(sleepers() == 1);
+  DONE(bs_table_commit(&table, a, NULL));
+  WANT(pthread_join(c.thread, &came) == 0 && came == PTHREAD_CANCELED);
+  DONE(c.reply);
+  DONE(bs_table_end(&table));
+}
+
+static void a_thread_is_cancelled_in_its_sleep(void) {
+  a_thread_is_cancelled(false);
+  a_thread_is_cancelled(true);
+}
+
 /* ------------------------------------------------------------------------------------------------
  * Times.
  */
@@ -486,6 +627,336 @@ static void times_and_grants(void) {
 }
 
 /* ------------------------------------------------------------------------------------------------
+ * Begins that sleep for a slot.
+ */
+
+/* A table with so many slots, and a root alone. */
+static void set_up_slots(uint32_t most) {
+  DONE(bs_table_make(&table, BS_AT_BLOCK, BS_YOUNGEST, most));
+  root = DONE(bs_table_add_inner(&table, NULL, 0)).node;
+}
+
+/* One who begins in a thread of its own. */
+struct beginner {
+  const struct timespec *until;
+  bs_reply reply;
+  pthread_t thread;
+};
+
+static void *begin_in_turn(void *arg) {
+  struct beginner *b = (struct beginner *)arg;
+  b->reply = bs_table_begin_until(&table, b->until);
+  return NULL;
+}
+
+static void await_sleepers(size_t count) {
+  while (sleepers() != count) nap();
+}
+
+static void start_to_begin(struct beginner *b, const struct timespec *until) {
+  memset(b, 0, sizeof *b);
+  b->until = until;
+  start(&b->thread, begin_in_turn, b);
+}
+
+/* Has a thread come into the line, the last of so many. */
+static void line_up(struct beginner *b, size_t count) {
+  start_to_begin(b, NULL);
+  await_sleepers(count);
+}
+
+static bs_txn begun(struct beginner *b) {
+  join(b->thread);
+  return DONE(b->reply).txn;
+}
+
+/* The calls that end a transaction, by their numbers: each hands its slot on. */
+enum { WAYS_TO_END = 7 };
+
+static void end_by(int way, bs_txn txn) {
+  bs_command list[1];
+  bs_manager *m;
+  switch (way) {
+    case 0: DONE(bs_table_commit(&table, txn, NULL)); break;
+    case 1: DONE(bs_table_abort(&table, txn, NULL)); break;
+    case 2: DONE(bs_table_commit_rows(&table, txn, NULL)); break;
+    case 3: DONE(bs_table_abort_rows(&table, txn, NULL)); break;
+    case 4:
+    case 5:
+      list[0] = way == 4 ? bs_do_commit(txn) : bs_do_abort(txn);
+      WANT(bs_table_run(&table, list, 1) == 1);
+      break;
+    default:
+      m = bs_table_hold(&table);
+      DONE(bs_commit(m, txn, &told));
+      bs_table_let_go(&table);
+  }
+}
+
+static void a_begin_sleeps_for_a_slot(void) {
+  static const struct timespec wrong = { 0, 1000000000 };
+  struct timespec past = moment_in(0);
+  struct beginner one;
+  bs_txn holder, next;
+  int way;
+  set_up_slots(1);
+  holder = DONE(bs_table_begin_until(&table, NULL)).txn;
+  for (way = 0; way < WAYS_TO_END; way++) {
+    line_up(&one, 1);
+    end_by(way, holder);
+    next = begun(&one);
+    WANT(next.slot == holder.slot && next.age == holder.age + 1);
+    holder = next;
+  }
+  ANSWERS(BS_TIMED_OUT, bs_table_begin_until(&table, &past));
+  ANSWERS(BS_BAD_NUMBER, bs_table_begin_until(&table, &wrong));
+  DONE(bs_table_commit(&table, holder, NULL));
+  holder = DONE(bs_table_begin_until(&table, &past)).txn;
+  DONE(bs_table_end(&table));
+  ANSWERS(BS_NO_MANAGER, bs_table_begin_until(&table, NULL));
+  ANSWERS(BS_NULL_POINTER, bs_table_begin_until(NULL, NULL));
+}
+
+enum { BEGINNERS = 1000, HALF = BEGINNERS / 2 };
+
+/* One who works in a transaction: when it came to sleep for its slot, 0 where it did not, and when it began. */
+struct worker {
+  long arrival;
+  uint64_t age;
+  pthread_t thread;
+};
+
+/* How many have done their work, which the root's lock guards. */
+static long worked;
+
+static void *work_in_turn(void *arg) {
+  struct worker *w = (struct worker *)arg;
+  bs_txn txn = DONE(bs_table_begin_until(&table, NULL)).txn;
+  w->arrival = my_arrival;
+  w->age = txn.age;
+  DONE(bs_table_lock(&table, txn, root, BS_X));
+  worked++;
+  DONE(bs_table_commit(&table, txn, NULL));
+  return NULL;
+}
+
+static int by_age(const void *one, const void *other) {
+  uint64_t a = ((const struct worker *)one)->age, b = ((const struct worker *)other)->age;
+  return (a > b) - (a < b);
+}
+
+/* A thousand threads over fewer slots do their work once each. Half of them come to sleep, and while the others come
+ * one slot after the other is freed. Those who slept began in the order in which they came, and nobody had the age of
+ * another. */
+static void turns_over(uint32_t most) {
+  static struct worker all[BEGINNERS];
+  bs_txn held[BS_SLOTS];
+  long before = 0, slept = 0;
+  size_t i, freed = 0;
+  set_up_slots(most);
+  worked = 0;
+  for (i = 0; i < most; i++) held[i] = begin();
+  for (i = 1; i <= BEGINNERS; i++) {
+    start(&all[i - 1].thread, work_in_turn, &all[i - 1]);
+    if (i == HALF) await_sleepers(HALF);
+    if (i > HALF && (i - HALF) * most >= (freed + 1) * HALF) DONE(bs_table_commit(&table, held[freed++], NULL));
+  }
+  for (i = 0; i < BEGINNERS; i++) join(all[i].thread);
+  qsort(all, BEGINNERS, sizeof all[0], by_age);
+  for (i = 0; i < BEGINNERS; i++) {
+    WANT(all[i].age == held[most - 1].age + i + 1);
+    if (all[i].arrival == 0) continue;
+    WANT(all[i].arrival > before);
+    before = all[i].arrival;
+    slept++;
+  }
+  WANT(freed == most && worked == BEGINNERS && slept >= HALF && bs_table_living(&table, 0).status == BS_NO_PLACE);
+  DONE(bs_table_end(&table));
+}
+
+static void turns_over_all_slots(void) {
+  turns_over(BS_SLOTS);
+}
+
+static void turns_over_four_slots(void) {
+  turns_over(4);
+}
+
+/* Not even while the one who came earlier is still asleep over its slot. */
+static void a_later_begin_does_not_pass(void) {
+  struct timespec past = moment_in(0);
+  struct beginner one, two;
+  bs_command list[2];
+  bs_txn a, b, first;
+  int i;
+  set_up_slots(2);
+  a = begin(), b = begin();
+  line_up(&one, 1);
+  line_up(&two, 2);
+  ANSWERS(BS_TOO_MANY_TXNS, bs_table_begin(&table));
+  list[0] = bs_do_commit(a), list[1] = bs_do_begin();
+  WANT(bs_table_run(&table, list, 2) == 1 && list[1].reply.status == BS_TOO_MANY_TXNS);
+  ANSWERS(BS_TOO_MANY_TXNS, bs_table_begin(&table));
+  ANSWERS(BS_TIMED_OUT, bs_table_begin_until(&table, &past));
+  first = begun(&one);
+  WANT(first.age == b.age + 1);
+  DONE(bs_table_commit(&table, b, NULL));
+  ANSWERS(BS_TOO_MANY_TXNS, bs_table_begin(&table));
+  WANT(begun(&two).age == first.age + 1);
+  list[0] = bs_do_commit(first);
+  for (i = 0; i < 3; i++) {
+    WANT(bs_table_run(&table, list, 2) == 2); /* Nobody sleeps for the slot any more. */
+    list[0] = bs_do_commit(list[1].reply.txn);
+  }
+  DONE(bs_table_end(&table));
+}
+
+/* A list may free several slots: each is handed on behind its last command. */
+static void a_list_frees_slots(void) {
+  struct beginner one, two;
+  bs_command list[2];
+  bs_txn a, b;
+  set_up_slots(2);
+  a = begin(), b = begin();
+  line_up(&one, 1);
+  line_up(&two, 2);
+  list[0] = bs_do_commit(a), list[1] = bs_do_abort(b);
+  WANT(bs_table_run(&table, list, 2) == 2);
+  a = begun(&one);
+  WANT(begun(&two).age == a.age + 1);
+  DONE(bs_table_end(&table));
+}
+
+/* Whether the last of so many has come into the line before a time. */
+static bool comes_into_line(size_t count, const struct timespec *until) {
+  while (sleepers() != count && !is_over(until)) nap();
+  return sleepers() == count;
+}
+
+/* Of five the first, the third and the last have this much time. False: this machine was too slow for that. */
+static bool some_leave_the_line_in(long microseconds) {
+  struct timespec until;
+  struct beginner all[5];
+  bool is_in_time = true;
+  bs_txn holder, next;
+  size_t i;
+  set_up_slots(1);
+  holder = begin();
+  until = moment_in(microseconds);
+  for (i = 0; i < 5; i++) {
+    start_to_begin(&all[i], i % 2 == 0 ? &until : NULL);
+    is_in_time = comes_into_line(i + 1, &until) && is_in_time;
+  }
+  for (i = 0; i < 5; i += 2) {
+    join(all[i].thread);
+    ANSWERS(BS_TIMED_OUT, all[i].reply);
+  }
+  WANT(is_over(&until));
+  await_sleepers(2);
+  for (i = 1; i < 5 && is_in_time; i += 2) {
+    DONE(bs_table_commit(&table, holder, NULL));
+    next = begun(&all[i]);
+    WANT(next.age == holder.age + 1);
+    holder = next;
+  }
+  if (is_in_time) {
+    DONE(bs_table_commit(&table, holder, NULL));
+    begin();
+  }
+  DONE(bs_table_end(&table));
+  for (i = 1; i < 5 && !is_in_time; i += 2) join(all[i].thread);
+  return is_in_time;
+}
+
+/* Those whose time comes leave the line from its head, from between and from its end; the others keep their order. */
+static void some_leave_the_line(void) {
+  long microseconds = 50000;
+  while (!some_leave_the_line_in(microseconds)) microseconds *= 2;
+}
+
+/* The time is over, and then, before the one who sleeps has the latch again, a slot is free. False: this machine was
+ * too slow to see it in the line. */
+static bool begins_behind_the_time(long microseconds) {
+  struct timespec until;
+  struct beginner one;
+  bool is_in_line = false;
+  bs_manager *m = NULL;
+  bs_txn a;
+  set_up_slots(1);
+  a = begin();
+  until = moment_in(microseconds);
+  start_to_begin(&one, &until);
+  while (!is_in_line && !is_over(&until)) {
+    nap();
+    m = bs_table_hold(&table);
+    is_in_line = table.in->first != NULL;
+    if (!is_in_line) bs_table_let_go(&table);
+  }
+  if (is_in_line) {
+    while (!is_over(&until)) nap();
+    nap();
+    DONE(bs_commit(m, a, &told));
+    bs_table_let_go(&table);
+  }
+  join(one.thread);
+  WANT(one.reply.status == (is_in_line ? BS_DONE : BS_TIMED_OUT));
+  DONE(bs_table_end(&table));
+  return is_in_line;
+}
+
+static void a_turn_behind_the_time(void) {
+  long microseconds = 20000;
+  while (!begins_behind_the_time(microseconds)) microseconds *= 2;
+}
+
+/* Times and turns at the same moment, again and again: one has begun, or its slot is free. */
+static void times_and_turns(void) {
+  uint64_t dice = 88172645463325252u;
+  int i;
+  set_up_slots(1);
+  for (i = 0; i < 200; i++) {
+    bs_txn a = begin();
+    struct timespec until = moment_in(60 + (long)roll(&dice, 60)), pause = { 0, 0 };
+    struct beginner one;
+    start_to_begin(&one, &until);
+    pause.tv_nsec = (long)roll(&dice, 80000);
+    nanosleep(&pause, NULL);
+    DONE(bs_table_commit(&table, a, NULL));
+    join(one.thread);
+    WANT(one.reply.status == BS_DONE || one.reply.status == BS_TIMED_OUT);
+    if (one.reply.status == BS_DONE) {
+      ANSWERS(BS_TOO_MANY_TXNS, bs_table_begin(&table));
+      DONE(bs_table_commit(&table, one.reply.txn, NULL));
+    }
+  }
+  DONE(bs_table_end(&table));
+}
+
+/* A table that ends wakes the line, and those who sleep for locks, and waits until all have left. */
+static void an_end_with_a_line(void) {
+  static struct beginner line[200];
+  struct timespec until = moment_in(60000000);
+  struct asker asker;
+  bs_txn a, b;
+  size_t i;
+  set_up_slots(2);
+  a = begin(), b = begin();
+  DONE(bs_table_lock(&table, a, root, BS_X));
+  send(&asker, b, root, BS_X);
+  for (i = 0; i < 200; i++) start_to_begin(&line[i], i % 2 == 0 ? &until : NULL);
+  await_sleepers(201);
+  ending = table.in;
+  DONE(bs_table_end(&table));
+  ending = NULL;
+  WANT(asleep_at_end == 0);
+  back(&asker, BS_NO_MANAGER);
+  for (i = 0; i < 200; i++) {
+    join(line[i].thread);
+    ANSWERS(BS_NO_MANAGER, line[i].reply);
+  }
+}
+
+/* ------------------------------------------------------------------------------------------------
  * Paths.
  */
 
@@ -549,6 +1020,59 @@ static void a_path_moves(void) {
   DONE(bs_table_commit(&table, a, NULL));
   WANT(back(&one, BS_DONE).mode == BS_X);
   holds(b, above, BS_IX), holds(b, below, BS_IX);
+  DONE(bs_table_end(&table));
+}
+
+/* A cancel that comes when a lock on the way was granted, and its sleeper is not awake yet, is not lost: the path
+ * ends. */
+static void a_path_is_cancelled_on_its_way(void) {
+  struct asker one;
+  bs_command list[3];
+  bs_txn a, b, c;
+  set_up(BS_AT_BLOCK);
+  a = begin(), b = begin(), c = begin();
+  DONE(bs_table_lock_path(&table, c, low, BS_S, NULL));
+  DONE(bs_table_lock(&table, a, root, BS_S));
+  send_by_path(&one, b, low, BS_X);
+  list[0] = bs_do_commit(a), list[1] = bs_do_cancel(b), list[2] = bs_do_cancel(b);
+  WANT(bs_table_run(&table, list, 3) == 3);
+  back(&one, BS_NOT_WAITING);
+  WANT(one.reply.mode == BS_NL);
+  holds(b, root, BS_IX), holds(b, file, BS_NL);
+  ANSWERS(BS_NOT_WAITING, bs_table_cancel(&table, b, NULL));
+  DONE(bs_table_commit(&table, b, NULL));
+  DONE(bs_table_end(&table));
+}
+
+/* Where it was the last lock of the path, the path is done, and there is nothing to cancel. */
+static void a_path_is_cancelled_at_its_end(void) {
+  struct asker one;
+  bs_command list[2];
+  bs_txn a, b;
+  set_up(BS_AT_BLOCK);
+  a = begin(), b = begin();
+  DONE(bs_table_lock_path(&table, a, low, BS_S, NULL));
+  send_by_path(&one, b, low, BS_X);
+  list[0] = bs_do_commit(a), list[1] = bs_do_cancel(b);
+  WANT(bs_table_run(&table, list, 2) == 1 && list[1].reply.status == BS_NOT_WAITING);
+  WANT(back(&one, BS_DONE).mode == BS_X);
+  DONE(bs_table_end(&table));
+}
+
+/* The record of a path has moved, and its sleeper would begin anew. */
+static void a_path_that_moved_is_cancelled(void) {
+  struct asker one;
+  bs_command list[2];
+  bs_txn a, b;
+  set_up(BS_AT_BLOCK);
+  a = begin(), b = begin();
+  DONE(bs_table_lock_path(&table, a, low, BS_X, NULL));
+  DONE(bs_table_lock_path(&table, a, above, BS_IX, NULL));
+  send_by_path(&one, b, low, BS_X);
+  list[0] = bs_do_rekey(a, low, by_key, 150), list[1] = bs_do_cancel(b);
+  WANT(bs_table_run(&table, list, 2) == 2);
+  back(&one, BS_NOT_WAITING);
+  holds(b, low, BS_NL);
   DONE(bs_table_end(&table));
 }
 
@@ -1059,20 +1583,24 @@ static void lists_of_commands(void) {
   list[4] = bs_do_begin();
   list[4].reply.status = 99;
   WANT(bs_table_run(&table, list, 5) == 3);
-  WANT(list[3].reply.status == BS_NO_SUCH_TXN && list[4].reply.status == 99);
+  WANT(list[3].reply.status == BS_NO_SUCH_TXN && list[4].reply.status == BS_NOT_MADE);
   WANT(first.count == 1 && same_txn(first.at[0].txn, b));
   back(&one, BS_DONE);
   a = list[2].reply.txn;
   list[0] = bs_do_lock(a, root, BS_IX);
   list[1] = bs_do_lock(a, file, BS_X);
+  WANT(list[1].reply.status == BS_NOT_MADE);
   WANT(bs_table_run(&table, list, 2) == 0 && list[0].reply.status == BS_WAITING);
+  WANT(list[1].reply.status == BS_NOT_MADE);
   ANSWERS(BS_WAITING, bs_table_verdict(&table, a, root, BS_IX));
   DONE(bs_table_commit(&table, b, NULL));
   DONE(bs_table_verdict(&table, a, root, BS_IX));
   WANT(DONE(bs_table_await(&table, a, root, BS_IX, NULL)).mode == BS_IX);
   ANSWERS(BS_NOT_WAITING, bs_table_await(&table, a, file, BS_X, NULL));
   DONE(bs_table_end(&table));
+  list[1].reply.status = BS_DONE;
   WANT(bs_table_run(&table, list, 2) == 0 && list[0].reply.status == BS_NO_MANAGER);
+  WANT(list[1].reply.status == BS_NOT_MADE);
   WANT(bs_table_run(NULL, list, 2) == 0 && list[0].reply.status == BS_NULL_POINTER);
   WANT(bs_table_run(&table, NULL, 2) == 0 && bs_table_run(&table, list, 0) == 0);
 }
@@ -1302,7 +1830,7 @@ static void a_thread_watches(uint64_t pace) {
     DONE(bs_table_lock(&table, a, root, BS_S));
     DONE(bs_table_lock(&table, b, root, BS_S));
     memset(&one, 0, sizeof one);
-    one.txn = a, one.node = root, one.mode = BS_X;
+    one.txn = a, one.node = root, one.mode = BS_X, one.by_path = i % 4 < 2;
     two = one;
     two.txn = b;
     start(&one.thread, ask, &one);
@@ -1335,6 +1863,96 @@ static void a_thread_rests_long(void) {
   send(&one, b, root, BS_X);
   DONE(bs_table_end(&table));
   back(&one, BS_NO_MANAGER);
+}
+
+static volatile sig_atomic_t handled;
+
+static void handle(int number) {
+  handled = number;
+}
+
+/* It takes no signal of the process: this thread blocks it, and so it is pending. */
+static void a_thread_watches_without_signals(void) {
+  struct timespec pause = { 0, 5000000 };
+  struct sigaction action, before;
+  sigset_t mine;
+  memset(&action, 0, sizeof action);
+  action.sa_handler = handle;
+  handled = 0;
+  set_up(BS_BY_WATCHER);
+  WANT(sigaction(SIGUSR1, &action, &before) == 0);
+  DONE(bs_table_watch_thread(&table, 0));
+  sigemptyset(&mine);
+  sigaddset(&mine, SIGUSR1);
+  WANT(pthread_sigmask(SIG_BLOCK, &mine, NULL) == 0);
+  WANT(kill(getpid(), SIGUSR1) == 0);
+  nanosleep(&pause, NULL);
+  WANT(handled == 0);
+  WANT(pthread_sigmask(SIG_UNBLOCK, &mine, NULL) == 0);
+  WANT(handled == SIGUSR1);
+  DONE(bs_table_end(&table));
+  WANT(sigaction(SIGUSR1, &before, NULL) == 0);
+}
+
+/* It is refused the memory to show what it did itself: it settles once, and sleeps. */
+static void a_thread_watches_without_memory(void) {
+  struct timespec pause = { 0, 20000000 };
+  struct asker one, two;
+  uint64_t accepted;
+  bs_txn a, b;
+  set_up(BS_BY_WATCHER);
+  DONE(bs_table_watch_thread(&table, 0));
+  refuse_thread(table.in->watch);
+  a = begin(), b = begin();
+  DONE(bs_table_lock(&table, a, root, BS_S));
+  DONE(bs_table_lock(&table, b, root, BS_S));
+  send(&one, a, root, BS_X);
+  start_asking_for(&two, b, root, BS_X);
+  back(&two, BS_VICTIM);
+  accepted = bs_table_accepted(&table).count;
+  nanosleep(&pause, NULL);
+  WANT(bs_table_accepted(&table).count == accepted);
+  DONE(bs_table_abort(&table, b, NULL));
+  back(&one, BS_DONE);
+  DONE(bs_table_end(&table));
+  refuse_no_thread();
+}
+
+/* Two deadlocks stand on one board: both are ended before it rests, for an hour. A third that closes then stands. */
+static void a_thread_ends_all_it_sees(void) {
+  struct timespec pause = { 0, 5000000 };
+  struct asker one, two;
+  bs_node both[2];
+  bs_manager *m;
+  bs_txn t[4], a, b;
+  size_t i;
+  set_up(BS_BY_WATCHER);
+  both[0] = DONE(bs_table_add_inner(&table, NULL, 0)).node;
+  both[1] = DONE(bs_table_add_inner(&table, NULL, 0)).node;
+  for (i = 0; i < 4; i++) {
+    t[i] = begin();
+    DONE(bs_table_lock(&table, t[i], both[i % 2], BS_S));
+  }
+  DONE(bs_table_watch_thread(&table, UINT64_C(3600000000000)));
+  m = bs_table_hold(&table);
+  for (i = 0; i < 4; i++) ANSWERS(BS_WAITING, bs_lock(m, t[i], both[i % 2], BS_X, &told));
+  table.in->waited = bs_accepted(m).count;
+  pthread_cond_signal(&table.in->began);
+  bs_table_let_go(&table);
+  for (i = 2; i < 4; i++) {
+    while (bs_table_doing(&table, t[i]).count != BS_CONDEMNED) nap();
+  }
+  WANT(bs_table_doing(&table, t[0]).count == BS_WAITS && bs_table_doing(&table, t[1]).count == BS_WAITS);
+  a = begin(), b = begin();
+  DONE(bs_table_lock(&table, a, root, BS_S));
+  DONE(bs_table_lock(&table, b, root, BS_S));
+  send(&one, a, root, BS_X);
+  send(&two, b, root, BS_X);
+  nanosleep(&pause, NULL);
+  WANT(bs_table_doing(&table, a).count == BS_WAITS && bs_table_doing(&table, b).count == BS_WAITS);
+  DONE(bs_table_end(&table));
+  back(&one, BS_NO_MANAGER);
+  back(&two, BS_NO_MANAGER);
 }
 
 /* ------------------------------------------------------------------------------------------------
@@ -1418,7 +2036,49 @@ static void a_dump(void) {
   DONE(bs_table_end(&table));
   ANSWERS(BS_NO_MANAGER, bs_table_dump(&table, text));
   fclose(text);
-  count_out(2, 0); /* The texts of two dumps were blocks of the C library. */
+  WANT(texts > 0);
+}
+
+static bool same_text(FILE *one, FILE *other) {
+  int a, b;
+  rewind(one);
+  rewind(other);
+  do {
+    a = getc(one);
+    b = getc(other);
+  } while (a == b && a != EOF);
+  return a == b;
+}
+
+enum { MANY_LOCKS = 2 * BS_DUMP_LOCKS + 7 };
+
+/* Its locks are copied in several parts. */
+static void a_long_dump(void) {
+  FILE *text = tmpfile(), *whole = tmpfile();
+  bs_txn a, b;
+  size_t i;
+  WANT(text != NULL && whole != NULL);
+  set_up(BS_AT_BLOCK);
+  a = begin(), b = begin();
+  for (i = 1; i < MANY_LOCKS; i++) {
+    DONE(bs_table_lock_path(&table, a, DONE(bs_table_add_inner(&table, &root, 1)).node, BS_X, NULL));
+    if (i >= BS_DUMP_LOCKS) continue;
+    DONE(bs_table_lock_path(&table, b, DONE(bs_table_add_inner(&table, &root, 1)).node, BS_X, NULL));
+  }
+  DONE(bs_table_dump(&table, text));
+  is_held = true;
+  DONE(bs_dump(bs_table_hold(&table), whole));
+  bs_table_let_go(&table);
+  is_held = false;
+  WANT(same_text(text, whole));
+  WANT(lines_with(text, "   0 ") == 1 + MANY_LOCKS && lines_with(text, "   1 ") == 1 + BS_DUMP_LOCKS);
+  refused_growth = 1;
+  ANSWERS(BS_NO_MEMORY, bs_table_dump(&table, text));
+  DONE(bs_table_end(&table));
+  ANSWERS(BS_NO_MANAGER, bs_table_dump(&table, text));
+  ANSWERS(BS_NULL_POINTER, bs_dump(NULL, text));
+  fclose(text);
+  fclose(whole);
 }
 
 /* ------------------------------------------------------------------------------------------------
@@ -1435,7 +2095,10 @@ static void an_end_with_sleepers(void) {
   a = begin();
   DONE(bs_table_lock(&table, a, root, BS_X));
   for (i = 0; i < SLEEPERS; i++) send_by_path(&askers[i], begin(), i % 2 == 0 ? low : high, BS_X);
+  ending = table.in;
   DONE(bs_table_end(&table));
+  ending = NULL;
+  WANT(asleep_at_end == 0);
   for (i = 0; i < SLEEPERS; i++) back(&askers[i], BS_NO_MANAGER);
   for (i = 0; i < SLEEPERS; i++) ANSWERS(BS_NO_MANAGER, bs_table_abort(&table, askers[i].txn, NULL));
 }
@@ -1493,6 +2156,9 @@ static void places_without_a_table(void) {
   told.count = 1;
   ANSWERS(BS_NULL_POINTER, bs_table_commit(NULL, t, &told));
   WANT(told.count == 0 && bs_table_waits_for(NULL, t).status == BS_NULL_POINTER);
+  bs_table_let_go(NULL);
+  bs_table_let_go(&never);
+  WANT(bs_table_hold(NULL) == NULL);
   ANSWERS(BS_NULL_POINTER, bs_table_lock(NULL, t, root, BS_X));
   ANSWERS(BS_NULL_POINTER, bs_table_lock_path(NULL, t, root, BS_X, NULL));
 }
@@ -1550,6 +2216,34 @@ static void refused_growths(void) {
   WANT(n > 2);
 }
 
+/* A begin for those who sleep is refused memory, in the thread that ends a transaction: they are told, and the next in
+ * the line has the slot. Where there is none the slot is free. */
+static void refused_turns(void) {
+  struct beginner line[3];
+  bs_txn holder;
+  size_t i;
+  set_up_slots(1);
+  holder = begin();
+  for (i = 0; i < 3; i++) line_up(&line[i], i + 1);
+  refused_begins = 2;
+  DONE(bs_table_commit(&table, holder, NULL));
+  for (i = 0; i < 2; i++) {
+    join(line[i].thread);
+    ANSWERS(BS_NO_MEMORY, line[i].reply);
+  }
+  holder = begun(&line[2]);
+  ANSWERS(BS_TOO_MANY_TXNS, bs_table_begin(&table));
+  line_up(&line[0], 1);
+  refused_begins = 1;
+  DONE(bs_table_commit(&table, holder, NULL));
+  join(line[0].thread);
+  ANSWERS(BS_NO_MEMORY, line[0].reply);
+  refused_begins = 1;
+  ANSWERS(BS_NO_MEMORY, bs_table_begin_until(&table, NULL));
+  begin();
+  DONE(bs_table_end(&table));
+}
+
 /* ------------------------------------------------------------------------------------------------
  * The whole.
  */
@@ -1574,6 +2268,7 @@ int main(int count, char **words) {
   TELL(an_unlock_grants);
   TELL(a_commit_wakes_all);
   TELL(a_lock_condemns);
+  TELL(a_path_condemns);
   TELL(an_asker_falls);
   TELL(a_settle_condemns);
   TELL(a_rekey_moves);
@@ -1585,13 +2280,26 @@ int main(int count, char **words) {
   TELL(an_abort_ends_a_sleep);
   TELL(a_thread_dies);
   TELL(an_idle_wake);
+  TELL(a_thread_is_cancelled_in_its_sleep);
   TELL(a_time_comes);
   TELL(a_time_comes_and_grants);
   TELL(a_grant_behind_the_time);
   TELL(times_and_grants);
+  TELL(a_begin_sleeps_for_a_slot);
+  TELL(turns_over_all_slots);
+  TELL(turns_over_four_slots);
+  TELL(a_later_begin_does_not_pass);
+  TELL(a_list_frees_slots);
+  TELL(some_leave_the_line);
+  TELL(a_turn_behind_the_time);
+  TELL(times_and_turns);
+  TELL(an_end_with_a_line);
   TELL(paths);
   TELL(a_path_waits_twice);
   TELL(a_path_moves);
+  TELL(a_path_is_cancelled_on_its_way);
+  TELL(a_path_is_cancelled_at_its_end);
+  TELL(a_path_that_moved_is_cancelled);
   TELL(a_path_ends_early);
   TELL(a_row_is_slept_for);
   TELL(a_row_with_other_keys_is_slept_for);
@@ -1617,12 +2325,17 @@ int main(int count, char **words) {
   TELL(a_thread_watches_without_rest);
   TELL(a_thread_watches_and_rests);
   TELL(a_thread_rests_long);
+  TELL(a_thread_watches_without_signals);
+  TELL(a_thread_watches_without_memory);
+  TELL(a_thread_ends_all_it_sees);
   TELL(listings);
   TELL(a_dump);
+  TELL(a_long_dump);
   TELL(an_end_with_sleepers);
   TELL(an_end_in_the_middle);
   TELL(places_without_a_table);
   TELL(refused_tables);
   TELL(refused_growths);
+  TELL(refused_turns);
   return 0;
 }

@@ -851,6 +851,29 @@ static void places_without_a_manager(void) {
   DONE(bs_end(&m));
 }
 
+/* What an earlier call told is not told again by one that the header refuses. */
+static bool is_refused_and_empty(bs_reply reply) {
+  bool is_empty = told.count == 0;
+  told.count = 1;
+  return reply.status == BS_NULL_POINTER && is_empty;
+}
+
+static void a_refused_call_tells_nobody(void) {
+  static const uint64_t key = 7;
+  bs_manager m = BS_NO_MANAGER_HERE;
+  bs_node root = begin_manager(&m, BS_AT_BLOCK);
+  bs_txn a = begin(&m);
+  told.count = 1;
+  WANT(is_refused_and_empty(bs_lock_row(&m, a, root, 7, NULL, 1, BS_X, &told)));
+  WANT(is_refused_and_empty(bs_lock_row(NULL, a, root, 7, &key, 1, BS_X, &told)));
+  WANT(is_refused_and_empty(bs_move(&m, a, root, NULL, 1, &told)));
+  WANT(is_refused_and_empty(bs_move(NULL, a, root, &root, 1, &told)));
+  WANT(is_refused_and_empty(bs_lock(NULL, a, root, BS_X, &told)));
+  WANT(is_refused_and_empty(bs_lock_path(NULL, a, root, BS_X, &told)));
+  WANT(is_refused_and_empty(bs_commit_rows(NULL, a, &told)));
+  DONE(bs_end(&m));
+}
+
 static void null_pointers(void) {
   bs_manager m = BS_NO_MANAGER_HERE;
   bs_node root = begin_manager(&m, BS_AT_BLOCK);
@@ -1167,6 +1190,7 @@ int main(void) {
   TELL(numbers_out_of_range);
   TELL(options_are_taken);
   TELL(places_without_a_manager);
+  TELL(a_refused_call_tells_nobody);
   TELL(null_pointers);
   TELL(everybody_is_told);
   TELL(refused_growths);

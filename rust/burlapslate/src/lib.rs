@@ -27,7 +27,8 @@
 //! # Threads
 //!
 //! A [`Table`] is what threads share: each begins a [`Session`], whose locks sleep until they are
-//! granted, and which is aborted where it is dropped without a commit. A [`Watcher`] looks at who
+//! granted, and which is aborted where it is dropped without a commit. Where there are more threads than
+//! slots they [begin in turn](Table::begin_in_turn). A [`Watcher`] looks at who
 //! waits for whom without its mutex.
 //!
 //! ```
@@ -78,6 +79,13 @@
 //! refused with [`Refusal::NoMemory`] where the allocator refuses, and can be asked again. Beside the library's
 //! memory a manager takes five kilobytes when it is made, for the notices, and none afterwards.
 
+//!
+//! # The library
+//!
+//! The crate is linked with the library for C, of its own version. The build takes the archives that
+//! `BURLAPSLATE_LIBS` names; or else the folder of an installation that `BURLAPSLATE_DIR` names; or else the
+//! installation that `pkg-config` knows; or else, within the repository, what `tools/c_library.sh` builds.
+
 #![deny(missing_docs)]
 #![deny(unsafe_code)] // But for `sys`.
 #![deny(clippy::undocumented_unsafe_blocks)]
@@ -93,6 +101,7 @@ mod session;
 #[allow(unsafe_code)]
 mod sys;
 mod table;
+mod turns;
 mod watcher;
 
 pub use board::{Board, SlotIter, Slots};

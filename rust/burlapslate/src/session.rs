@@ -286,6 +286,6 @@ impl fmt::Debug for Session<'_> {
 }
 
 /// When so much time will be over; `None` where that is beyond the clock.
-fn deadline(time: Duration) -> Option<Instant> {
+pub(crate) fn deadline(time: Duration) -> Option<Instant> {
     Instant::now().checked_add(time)
 }

@@ -1,15 +1,17 @@
 //! A table that threads share.
 
-use crate::board::{Board, Slots};
-use crate::manager::{Asked, Manager, Options, Reached, RowAsked};
+use crate::board::Board;
+use crate::manager::{Asked, Manager, Options, Reached, RowAsked, Wait};
 use crate::mode::{Detect, Mode, Victims};
 use crate::names::{Node, Row, Txn};
 use crate::refusal::Refusal;
-use crate::session::{RowLocked, Session, Stop};
+use crate::session::{deadline, RowLocked, Session, Stop};
+use crate::turns::Turns;
 use crate::watcher::Watcher;
 use crate::SLOTS;
 use std::fmt;
 use std::sync::{Condvar, Mutex, MutexGuard, PoisonError};
+use std::thread;
 use std::time::{Duration, Instant};
 
 /// A table of granular locks that threads share: a [`Manager`] behind one mutex, its latch, with a
@@ -54,6 +56,21 @@ struct Guarded {
     waited: u64,
     /// Whether those who watch over the table are to end.
     is_unwatched: bool,
+    /// Those who sleep for a slot: none is free while there is one.
+    turns: Turns,
+    /// By slot, who sleeps on a path.
+    paths: Box<[Option<Path>]>,
+}
+
+/// One who sleeps on a path.
+#[derive(Clone, Copy)]
+struct Path {
+    txn: Txn,
+    /// For what it waits: the node of the path, or one above it.
+    wait: Wait,
+    /// It is the node of the path.
+    is_last: bool,
+    is_cancelled: bool,
 }
 
 impl Table {
@@ -78,6 +95,8 @@ impl Table {
             manager: Manager::with_options(options)?,
             waited: 0,
             is_unwatched: false,
+            turns: Turns::new(),
+            paths: no_paths()?,
         };
         Ok(Table {
             latch: Mutex::new(guarded),
@@ -86,12 +105,53 @@ impl Table {
         })
     }
 
-    /// A new transaction, in the hands of this thread.
+    /// A new transaction, in the hands of this thread. While somebody sleeps for a slot
+    /// ([`begin_in_turn`](Table::begin_in_turn)) none is free, and it is refused with
+    /// [`TooManyTxns`](Refusal::TooManyTxns).
     ///
     /// Refused as [`Manager::begin`].
     pub fn begin(&self) -> Result<Session<'_>, Refusal> {
         let txn = self.ask(|m| m.begin())?;
         Ok(Session::of(self, txn))
+    }
+
+    /// As [`begin`](Table::begin), but where all slots are taken it sleeps until one is its own. Those
+    /// who sleep for a slot are served in the order in which they came: whoever ends a transaction
+    /// begins the next for the first of them. So nobody who came later is served before.
+    ///
+    /// One who sleeps has no transaction, so it is on no cycle of waits. A thread that has a session
+    /// still, and sleeps for another, may wait for itself, and nobody finds that.
+    ///
+    /// Refused as [`Manager::begin`], but never with [`TooManyTxns`](Refusal::TooManyTxns). To sleep takes
+    /// memory.
+    ///
+    /// ```
+    /// use burlapslate::{Detect, Mode, Stop, Table};
+    /// use std::thread;
+    ///
+    /// let table = Table::new(Detect::AtBlock, 2)?; // Two slots, for eight threads.
+    /// let db = table.add_inner(&[])?;
+    /// thread::scope(|scope| {
+    ///     for _ in 0..8 {
+    ///         scope.spawn(|| {
+    ///             let mut session = table.begin_in_turn()?;
+    ///             session.lock(db, Mode::X)?;
+    ///             session.commit()?;
+    ///             Ok::<(), Stop>(())
+    ///         });
+    ///     }
+    /// });
+    /// # Ok::<(), burlapslate::Refusal>(())
+    /// ```
+    pub fn begin_in_turn(&self) -> Result<Session<'_>, Refusal> {
+        let begun = self.begin_until(None)?;
+        begun.ok_or(Refusal::TooManyTxns) // But no time comes first.
+    }
+
+    /// As [`begin_in_turn`](Table::begin_in_turn), but it sleeps no longer than this time, and is
+    /// answered [`Stop::TimedOut`] then. A slot that is free at the same moment is a begin.
+    pub fn begin_timeout(&self, time: Duration) -> Result<Session<'_>, Stop> {
+        self.begin_until(deadline(time))?.ok_or(Stop::TimedOut)
     }
 
     /// As [`Manager::add_inner`].
@@ -146,11 +206,12 @@ impl Table {
     }
 
     /// Takes the wait of a transaction back, from any thread. Whoever sleeps for it is woken, and
-    /// answered [`Stop::Cancelled`]. A row that only it waited for is let go.
+    /// answered [`Stop::Cancelled`]. A row that only it waited for is let go. One whose wait on the way of
+    /// a path was granted, and that is not awake yet, is answered so too: its path ends there.
     ///
     /// Refused as [`Manager::cancel`].
     pub fn cancel(&self, txn: Txn) -> Result<(), Refusal> {
-        self.serve(|m| m.cancel_rows(txn).map(drop))
+        self.cancel_held(&mut self.guarded(), txn)
     }
 
     /// Condemns victims until a transaction is on no cycle of waits, and wakes them; how many.
@@ -199,9 +260,9 @@ impl Table {
     }
 
     /// Ends deadlocks, for a table with [`Detect::ByWatcher`], until
-    /// [`end_watch`](Table::end_watch) is called: looks as a watcher does, settles the youngest
-    /// suspect, and rests for this time behind each look. While no lock has been left waiting since
-    /// it saw no suspect it sleeps. It counts as a watcher.
+    /// [`end_watch`](Table::end_watch) is called: looks as a watcher does, settles every suspect, the
+    /// youngest first, and rests for this time behind each look. While no lock has been left waiting
+    /// since it looked it sleeps. It counts as a watcher.
     ///
     /// Refused as [`Manager::watch`].
     ///
@@ -232,11 +293,10 @@ impl Table {
     pub fn watch_over(&self, rest: Duration) -> Result<(), Refusal> {
         let mut watcher = self.watch()?;
         let mut board = Board::new();
-        let mut seen = 0;
-        let mut is_clear = true;
+        let mut seen = 0; // It never falls: all waits up to this count of commands are settled.
         let mut guarded = self.guarded();
         while !guarded.is_unwatched {
-            if is_clear && guarded.waited == seen {
+            if guarded.waited <= seen {
                 guarded = wait(&self.began, guarded);
                 continue;
             }
@@ -247,7 +307,8 @@ impl Table {
             if board.epoch() < seen {
                 guarded.manager.read_board(&mut board); // It could not be shown, for want of memory.
             }
-            is_clear = !self.settle_youngest(&mut guarded, &board);
+            seen = board.epoch();
+            self.settle_all(&mut guarded, &mut board);
             guarded = self.rest(guarded, rest);
         }
         Ok(())
@@ -278,7 +339,41 @@ impl Table {
         let mut guarded = self.guarded();
         let answer = command(&mut guarded.manager)?;
         self.wake(&guarded);
+        hand_on(&mut guarded);
         Ok(answer)
+    }
+
+    /// Begins, or sleeps for a slot; `None`, where its time came first. Whether its turn has come is asked
+    /// before the clock.
+    fn begin_until(&self, until: Option<Instant>) -> Result<Option<Session<'_>>, Refusal> {
+        let mut guarded = self.guarded();
+        match guarded.manager.begin() {
+            Err(Refusal::TooManyTxns) => {}
+            begun => return Ok(Some(Session::of(self, begun?))),
+        }
+        let place = guarded.turns.join()?;
+        loop {
+            drop(guarded);
+            park_until(until);
+            guarded = self.guarded();
+            if let Some(begun) = guarded.turns.take(place) {
+                return Ok(Some(Session::of(self, begun?)));
+            }
+            if until.is_some_and(|until| Instant::now() >= until) {
+                guarded.turns.leave(place);
+                return Ok(None);
+            }
+        }
+    }
+
+    /// A cancel, with the latch held.
+    fn cancel_held(&self, guarded: &mut Guarded, txn: Txn) -> Result<(), Refusal> {
+        match guarded.manager.cancel_rows(txn).map(drop) {
+            Ok(()) => self.wake(guarded),
+            Err(Refusal::NotWaiting) if guarded.cancels_path(txn) => {}
+            Err(refusal) => return Err(refusal),
+        }
+        Ok(())
     }
 
     pub(crate) fn lock(
@@ -361,10 +456,13 @@ impl Table {
                 Reached::Above(_) => {}
                 Reached::Waiting(at) => {
                     let wanted = guarded.manager.waiting(txn).map_or(mode, |wait| wait.mode);
+                    guarded.paths[txn.slot()] = Some(Path::new(txn, at, wanted, at == node));
                     let (held, end) = self.sleep(guarded, txn, at, wanted, until);
                     guarded = held;
+                    let is_cancelled = guarded.leaves_path(txn);
                     match end {
                         Ok(mode) if at == node => return Ok(mode),
+                        Ok(_) | Err(Stop::Moved) if is_cancelled => return Err(Stop::Cancelled),
                         Ok(_) | Err(Stop::Moved) => {} // The rest of the path is asked for.
                         Err(stop) => return Err(stop),
                     }
@@ -423,16 +521,21 @@ impl Table {
         }
     }
 
-    /// Settles the youngest suspect of a board, with the latch held: whether there was one.
-    fn settle_youngest(&self, guarded: &mut Guarded, board: &Board) -> bool {
-        let suspects: Slots = board.suspects();
-        let Some(suspect) = board.youngest(suspects).and_then(|slot| board.txn(slot)) else {
-            return false;
-        };
-        if guarded.manager.settle(suspect).map(drop).is_ok() {
-            self.wake(guarded);
+    /// Settles every suspect of a board, the youngest first, with the latch held. Who is settled, and
+    /// who is told, is taken off the board: so nobody is settled whose cycles are open by then.
+    fn settle_all(&self, guarded: &mut Guarded, board: &mut Board) {
+        while let Some(slot) = board.youngest(board.suspects()) {
+            let settled = board
+                .txn(slot)
+                .map(|suspect| guarded.manager.settle(suspect).map(drop));
+            board.clear_row(slot);
+            if let Some(Ok(())) = settled {
+                self.wake(guarded);
+                for told in guarded.manager.ended() {
+                    board.clear_row(told);
+                }
+            }
         }
-        true
     }
 
     /// Lets some time go by, but no longer than somebody is to watch.
@@ -455,6 +558,73 @@ impl Table {
     /// changes nothing: so what is guarded is whole also then.
     fn guarded(&self) -> MutexGuard<'_, Guarded> {
         self.latch.lock().unwrap_or_else(PoisonError::into_inner)
+    }
+}
+
+impl Path {
+    fn new(txn: Txn, node: Node, mode: Mode, is_last: bool) -> Path {
+        Path {
+            txn,
+            wait: Wait { node, mode },
+            is_last,
+            is_cancelled: false,
+        }
+    }
+}
+
+impl Guarded {
+    /// Ends the path of one whose wait is over, but that would wake to wait for the next node: whether
+    /// there is one.
+    fn cancels_path(&mut self, txn: Txn) -> bool {
+        let Some(path) = &mut self.paths[txn.slot()] else {
+            return false;
+        };
+        let Wait { node, mode } = path.wait;
+        let goes_on = path.txn == txn
+            && match self.manager.verdict(txn, node, mode) {
+                Some(Ok(_)) => !path.is_last,
+                Some(Err(stop)) => stop == Stop::Moved,
+                None => false,
+            };
+        path.is_cancelled |= goes_on;
+        goes_on
+    }
+
+    /// One who slept on a path is awake: whether that was cancelled.
+    fn leaves_path(&mut self, txn: Txn) -> bool {
+        let place = &mut self.paths[txn.slot()];
+        let own = place.take_if(|path| path.txn == txn);
+        own.is_some_and(|path| path.is_cancelled)
+    }
+}
+
+/// A place for each slot, with nobody on a path.
+fn no_paths() -> Result<Box<[Option<Path>]>, Refusal> {
+    let mut paths = Vec::new();
+    paths
+        .try_reserve_exact(SLOTS)
+        .map_err(|_refused| Refusal::NoMemory)?;
+    paths.resize(SLOTS, None);
+    Ok(paths.into_boxed_slice())
+}
+
+/// Behind what may have ended a transaction: begins for those who sleep for a slot, while one is free. So
+/// no hold of the latch leaves a slot free while somebody sleeps for one.
+fn hand_on(guarded: &mut Guarded) {
+    let Guarded { manager, turns, .. } = guarded;
+    while turns.has_next() {
+        match manager.begin() {
+            Err(Refusal::TooManyTxns) => return,
+            begun => turns.serve(begun),
+        }
+    }
+}
+
+/// Sleeps until somebody wakes this thread, but no longer than to a moment.
+fn park_until(until: Option<Instant>) {
+    match until {
+        None => thread::park(),
+        Some(until) => thread::park_timeout(until.saturating_duration_since(Instant::now())),
     }
 }
 
@@ -481,3 +651,6 @@ impl fmt::Debug for Table {
         self.with(|manager| f.debug_struct("Table").field("manager", manager).finish())
     }
 }
+
+#[cfg(test)]
+mod tests;

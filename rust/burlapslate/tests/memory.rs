@@ -8,11 +8,16 @@
 
 mod common;
 
-use burlapslate::{Detect, Manager, Mode, Node, Notice, Refusal, Row, RowAsked, Txn, SLOTS};
+use burlapslate::{
+    Detect, Manager, Mode, Node, Notice, Refusal, Row, RowAsked, Stop, Table, Txn, SLOTS,
+};
 use common::{at_block, begin, grant, manager, store, wait};
 use std::cell::Cell;
 use std::ffi::c_void;
 use std::ptr::null_mut;
+use std::sync::atomic::{AtomicBool, Ordering};
+use std::thread;
+use std::time::Duration;
 
 /// Which growths of a thread are refused.
 #[derive(Clone, Copy, PartialEq, Debug)]
@@ -21,7 +26,11 @@ enum Refused {
     /// One, counted from 1 on.
     Nth(usize),
     All,
+    /// All, once [`IS_TOLD`] says so.
+    WhenTold,
 }
+
+static IS_TOLD: AtomicBool = AtomicBool::new(false);
 
 thread_local! {
     static REFUSED: Cell<Refused> = const { Cell::new(Refused::None) };
@@ -41,6 +50,7 @@ fn is_refused() -> bool {
             false
         }
         Refused::All => true,
+        Refused::WhenTold => IS_TOLD.load(Ordering::SeqCst),
     }
 }
 
@@ -272,6 +282,40 @@ fn a_settle_takes_none() {
     );
     let settled = without_memory(|| m.settle(a).map(told));
     assert_eq!(settled, Ok([Some(Notice::Victim { txn: b }), None, None]));
+}
+
+/// Of two that hold S and ask for X the younger falls by whoever watches over the table.
+fn one_falls(table: &Table, root: Node) {
+    let (mut older, mut younger) = (table.begin().unwrap(), table.begin().unwrap());
+    older.lock(root, Mode::S).unwrap();
+    younger.lock(root, Mode::S).unwrap();
+    thread::scope(|scope| {
+        let waits = scope.spawn(move || older.lock(root, Mode::X));
+        assert_eq!(younger.lock(root, Mode::X), Err(Stop::Victim));
+        let accepted = table.with(|m| m.accepted());
+        thread::sleep(Duration::from_millis(20));
+        assert_eq!(table.with(|m| m.accepted()), accepted);
+        younger.abort();
+        assert_eq!(waits.join().unwrap(), Ok(Mode::X));
+    });
+}
+
+/// Who watches without the memory to show what it did itself settles once, and sleeps.
+#[test]
+fn who_watches_without_memory_settles_once() {
+    let table = &Table::new(Detect::ByWatcher, SLOTS).unwrap();
+    let root = table.add_inner(&[]).unwrap();
+    thread::scope(|scope| {
+        scope.spawn(|| {
+            REFUSED.set(Refused::WhenTold);
+            table.watch_over(Duration::ZERO).unwrap();
+            REFUSED.set(Refused::None);
+        });
+        one_falls(table, root);
+        IS_TOLD.store(true, Ordering::SeqCst); // It has what a watcher takes at its beginning.
+        one_falls(table, root);
+        table.end_watch();
+    });
 }
 
 #[test]

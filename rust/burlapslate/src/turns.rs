@@ -1,0 +1,99 @@
+//! The line of those who sleep for a slot.
+
+use crate::names::Txn;
+use crate::refusal::Refusal;
+use std::collections::VecDeque;
+use std::thread::{self, Thread};
+
+/// Those who sleep for a slot, by their arrival, and in front of them those whose turn has come, but who
+/// have not been at the latch since.
+pub(crate) struct Turns {
+    line: VecDeque<Turn>,
+    /// How many ever came.
+    arrivals: u64,
+    /// How many in front have had their turn.
+    served: usize,
+}
+
+struct Turn {
+    place: Place,
+    sleeper: Thread,
+    /// What its begin was answered; of those in front alone.
+    begun: Option<Result<Txn, Refusal>>,
+}
+
+#[cfg(test)]
+std::thread_local! {
+    /// When this thread last came into a line; 0, where it never did.
+    pub(crate) static MY_ARRIVAL: std::cell::Cell<u64> = const { std::cell::Cell::new(0) };
+}
+
+/// A place in the line, by the number of its arrival.
+#[derive(Clone, Copy, PartialEq, Eq, PartialOrd, Ord)]
+pub(crate) struct Place(u64);
+
+impl Turns {
+    pub(crate) fn new() -> Turns {
+        Turns {
+            line: VecDeque::new(),
+            arrivals: 0,
+            served: 0,
+        }
+    }
+
+    /// This thread comes into the line.
+    pub(crate) fn join(&mut self) -> Result<Place, Refusal> {
+        self.line
+            .try_reserve(1)
+            .map_err(|_refused| Refusal::NoMemory)?;
+        self.arrivals += 1;
+        let place = Place(self.arrivals);
+        #[cfg(test)]
+        MY_ARRIVAL.set(self.arrivals);
+        self.line.push_back(Turn {
+            place,
+            sleeper: thread::current(),
+            begun: None,
+        });
+        Ok(place)
+    }
+
+    /// Whether somebody sleeps whose turn has not come.
+    pub(crate) fn has_next(&self) -> bool {
+        self.served < self.line.len()
+    }
+
+    /// How many sleep whose turn has not come.
+    #[cfg(test)]
+    pub(crate) fn sleepers(&self) -> usize {
+        self.line.len() - self.served
+    }
+
+    /// The next has its turn, and is woken.
+    pub(crate) fn serve(&mut self, begun: Result<Txn, Refusal>) {
+        let next = &mut self.line[self.served];
+        next.begun = Some(begun);
+        next.sleeper.unpark();
+        self.served += 1;
+    }
+
+    /// What the begin of this one was answered; it has left the line then. `None`: its turn has not come.
+    pub(crate) fn take(&mut self, place: Place) -> Option<Result<Txn, Refusal>> {
+        let at = self.at(place);
+        let begun = self.line[at].begun?;
+        self.line.remove(at);
+        self.served -= 1;
+        Some(begun)
+    }
+
+    /// One whose turn has not come leaves the line.
+    pub(crate) fn leave(&mut self, place: Place) {
+        let at = self.at(place);
+        self.line.remove(at);
+    }
+
+    /// Where a place is: they rise from the front.
+    fn at(&self, place: Place) -> usize {
+        self.line.partition_point(|turn| turn.place < place)
+    }
+}
