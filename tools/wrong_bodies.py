@@ -1,20 +1,22 @@
 #!/usr/bin/env python3
-"""wrong_bodies.py [--jobs N] [--named] [--by-turns] [--share K/N] [CRATE | CRATE/NAME]..: tries wrong bodies, those in
-must-fail/ and those in wrong/.
+"""wrong_bodies.py [--jobs N] [--named] [--by-turns] [--minutes M] [--share K/N] [CRATE | CRATE/NAME]..: tries wrong
+bodies, those in must-fail/ and those in wrong/.
 
 Each is an edit of code that the crate's contracts must refuse. Edits of different functions are applied to one copy of
 their crate, and the functions that they change are checked over the proved libraries that `rt ci` has left. Where these
 pass, their callers are checked, and then the whole crate, with one edit at a time. Prints a line for each: `refused`
 with the function that is not proved, `not refused`, or `bad` where it cannot be applied or read. The last line is 'N
-refused, M not refused, of K'; M counts all that were tried and not refused. The status is 1 unless M is 0.
+refused, M not refused, of K'; M counts all that were tried and not refused, and 'L left' is said where time was over. The
+status is 1 unless M is 0.
 
 Without a choice all are tried. Choices add up, and leave out what stands in must-fail/, which `rt ci` tries:
 --named     those that docs/PROMISES.md names;
 --by-turns  a tenth, chosen by the sum of all crates' files; and those of crates whose code or specs differ from the last
-            tag, or where there is none from the commit before;
+            tag, or where there is none from the commit before, up to the minutes;
+--minutes M of the processor, behind which no more is begun of what has just changed (none is said: all of it);
 --share K/N the K-th of N shares: N runs try all.
 Proofs run side by side, one a processor where 3 GB are free for each."""
-import concurrent.futures, hashlib, os, re, shutil, subprocess, sys, tempfile
+import concurrent.futures, hashlib, os, re, resource, shutil, subprocess, sys, tempfile
 
 TOP = os.path.dirname(os.path.dirname(os.path.abspath(__file__)))
 # As many edits at most stand in one copy: more save little, and fewer end sooner side by side.
@@ -64,8 +66,9 @@ class Edit:
             if text.count(old) != 1:
                 self.why = f"its text stands {text.count(old)} times in {file}"
                 return
-            self.functions.append(function_at(file, text, text.index(old)))
-        # (what is no function, or a trait's, has no name to check by: the whole crate is)
+            constant = re.match(r"(?:pub(?:\([a-z]+\))? )?const (\w+):", old.strip())
+            self.functions += citing(crate, constant.group(1)) if constant else [function_at(file, text, text.index(old))]
+        # (what is no function has no name to check by: the whole crate is)
         self.functions = [] if None in self.functions else sorted(set(self.functions))
 
     def apply(self, folder):
@@ -93,8 +96,8 @@ def pairs_of(path):
 
 
 def function_at(file, text, place):
-    """The end of the name of the function around a place of a file's text: `Type::name`, or `module::name`. None where
-    that is a trait's, or where there is none around it."""
+    """The end of the name of the function around a place of a file's text: `Type::name`, `TypeTrait::name` of a trait's,
+    or `module::name`. None where there is none around it, or where the type that a trait is written for has no name."""
     before = text[:place]
     heads = list(re.finditer(r"^[ ]*(?:pub(?:\([a-z]+\))? )?(?:unsafe )?(?:extern \"C\" )?fn (\w+)", before, re.M))
     if not heads:
@@ -102,24 +105,37 @@ def function_at(file, text, place):
     head = heads[-1]
     if head.group(0).startswith("    "):
         impls = list(re.finditer(r"^impl\b[^\n{]*", before[: head.start()], re.M))
-        if not impls or " for " in impls[-1].group(0):
+        if not impls:
             return None
-        kind = re.sub(r"<[^<>]*>", "", re.sub(r"<[^<>]*>", "", impls[-1].group(0)))
-        return f"{kind.split()[-1]}::{head.group(1)}"
+        kind = re.sub(r"<[^<>]*>", "", re.sub(r"<[^<>]*>", "", impls[-1].group(0))).split(" where ")[0]
+        of_trait = re.search(r"([\w:]+) for (\w+)\s*$", kind.strip())
+        if " for " in kind and not of_trait:
+            return None
+        name = of_trait.group(2) + of_trait.group(1).split("::")[-1] if of_trait else kind.split()[-1]
+        return f"{name}::{head.group(1)}"
     module = file[: -len(".rt")].split("/")[-1]
     return head.group(1) if module in ("lib", "main") else f"{module}::{head.group(1)}"
 
 
 def callers_of(crate, functions):
     """The functions of a crate whose text calls one of these by its last name."""
-    call = re.compile(r"\b(?:" + "|".join(it.split("::")[-1] for it in functions) + r")\(")
-    found = set()
+    return sorted(naming(crate, r"\b(?:" + "|".join(it.split("::")[-1] for it in functions) + r")\(") - {None} - set(functions))
+
+
+def citing(crate, constant):
+    """The functions of a crate that name a constant."""
+    return sorted(naming(crate, rf"\b{constant}\b") - {None})
+
+
+def naming(crate, pattern):
+    """The functions of a crate in whose text a pattern is found; None among them where it stands in no function."""
+    call, found = re.compile(pattern), set()
     for folder, _, files in os.walk(f"{TOP}/crates/{crate}/src"):
         for name in files:
             file = f"{folder}/{name}"
             text = open(file, encoding="utf-8").read() if name.endswith(".rt") else ""
             found |= {function_at(file, text, it.start()) for it in call.finditer(text)}
-    return sorted(found - {None} - set(functions))
+    return found
 
 
 # Proofs.
@@ -171,7 +187,8 @@ def attempt(edit):
         callers = callers_of(edit.crate, edit.functions) if edit.functions else []
         for functions in [edit.functions, callers, []] if edit.functions else [[]]:
             said, last = verdicts(edit.crate, folder, functions)
-            if not said and functions is not callers:
+            # (a name that is not the prover's is none of a function: then the whole crate is checked)
+            if not said and not functions:
                 return "bad", f"no verdict on {', '.join(functions) or 'the crate'}: {last}"
             refused = next((name for name, is_proved in said if not is_proved), None)
             if refused:
@@ -259,8 +276,8 @@ def is_in_share(edit, turn, turns):
 
 
 def chosen(every, words):
-    """The edits that the words ask for."""
-    wants, is_gates = [], False
+    """The edits that the words ask for, and of these those that are asked for since their crates have just changed."""
+    wants, anew, is_gates = [], set(), False
     while words:
         word = words.pop(0)
         if word == "--named":
@@ -272,7 +289,7 @@ def chosen(every, words):
         elif word == "--by-turns":
             turn, anew, is_gates = tree() % TURNS, changed(), True
             print(f"wrong_bodies.py: turn {turn} of {TURNS}; changed: {', '.join(sorted(anew)) or 'none'}", flush=True)
-            wants.append(lambda it, turn=turn, anew=anew: is_in_share(it, turn, TURNS) or it.crate in anew)
+            wants.append(lambda it, turn=turn: is_in_share(it, turn, TURNS))
         elif word == "--share":
             turn, turns = (int(it) for it in words.pop(0).split("/"))
             wants.append(lambda it, turn=turn, turns=turns: is_in_share(it, turn, turns))
@@ -281,7 +298,8 @@ def chosen(every, words):
         else:
             wants.append(lambda it, word=word: word in (it.crate, it.name))
     others = [it for it in every if not (is_gates and "/must-fail/" in it.path)]
-    return [it for it in others if not wants or any(want(it) for want in wants)]
+    asked = [it for it in others if not wants or any(want(it) for want in wants)]
+    return asked, [it for it in others if it.crate in anew and it not in asked]
 
 
 def jobs():
@@ -289,24 +307,42 @@ def jobs():
     return int(said) if said else 1
 
 
+def number_behind(word, words):
+    """The number behind a word, which are taken out; None where the word is not there."""
+    if word not in words:
+        return None
+    at = words.index(word)
+    number = int(words[at + 1])
+    del words[at : at + 2]
+    return number
+
+
+def minutes_spent():
+    """The processor minutes of all proofs that have ended."""
+    used = resource.getrusage(resource.RUSAGE_CHILDREN)
+    return (used.ru_utime + used.ru_stime) / 60
+
+
 def main(words):
-    at_once = None
-    if "--jobs" in words:
-        at = words.index("--jobs")
-        at_once = int(words[at + 1])
-        words = words[:at] + words[at + 2 :]
+    at_once, minutes = number_behind("--jobs", words), number_behind("--minutes", words)
     every = list(every_edit())
-    todo = chosen(every, words)
-    ended = [(it, "bad", it.why) for it in todo if it.why]
-    refused = 0
+    asked, anew = chosen(every, words)
+    refused, lacking, left = 0, 0, 0
+
+    def unless_late(group):
+        is_late = minutes is not None and minutes_spent() >= minutes
+        return [(it, "left", "") for it in group] if is_late else attempt_all(group)
+
     with concurrent.futures.ThreadPoolExecutor(at_once or jobs()) as pool:
-        groups = [pool.submit(attempt_all, it) for it in grouped([it for it in todo if not it.why])]
-        for group in [ended, *(it.result() for it in concurrent.futures.as_completed(groups))]:
-            for edit, what, why in group:
-                refused += what == "refused"
+        tried = [pool.submit(attempt_all, it) for it in grouped([it for it in asked if not it.why])]
+        tried += [pool.submit(unless_late, it) for it in grouped([it for it in anew if not it.why])]
+        bad = [(it, "bad", it.why) for it in asked + anew if it.why]
+        for edit, what, why in (one for group in [bad, *(it.result() for it in concurrent.futures.as_completed(tried))] for one in group):
+            refused, lacking, left = refused + (what == "refused"), lacking + (what not in ("refused", "left")), left + (what == "left")
+            if what != "left":
                 print(f"{what} {edit.name}: {why}", flush=True)
-    print(f"{refused} refused, {len(todo) - refused} not refused, of {len(every)}")
-    return 0 if refused == len(todo) else 1
+    print(f"{refused} refused, {lacking} not refused, of {len(every)}" + (f"; {left} left" if left else ""))
+    return 0 if lacking == 0 else 1
 
 
 sys.exit(main(sys.argv[1:]))
