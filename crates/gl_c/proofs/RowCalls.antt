@@ -292,7 +292,7 @@ row_some g after c a told v boxes ended applies own came delivered kept slots sh
       counted = λ _. subst (λ (x : RegistryView). g.manager.accepted < x.manager.accepted) (sym same) (row_counts (registry_in g) c a told v own came);
       boxes = λ _. (delivered.0, delivered.1, kept.1 ∙ delivered.2 ∙ emptied_as unnamed (naming c g.rows after.rows) c delivered.0);
       wakes = λ _. record {
-        all = subst (λ (k : ℕ). HasEnded (state_of g.manager) (state_of after.manager) k) (sym kept.2)
+        all = subst (λ (k : Slots). HasEnded (state_of g.manager) (state_of after.manager) k) (sym kept.2)
             (subst (λ (x : ManagerView). HasEnded (state_of g.manager) (state_of x) ended) (sym kept.0)
             (row_ends (registry_in g) c a told v own came ended named));
         slots = λ u below. ap (λ k. has_slot k u) kept.2 ∙ slots u below

@@ -95,7 +95,7 @@ serves_yes g after c a told v boxes ended applies so rows delivered kept wakes s
   applies = subst (λ (x : ManagerView). Applies g.manager c a told x) (sym kept.0) applies;
   boxes = (delivered.0, delivered.1, kept.1 ∙ delivered.2);
   not_accepted = λ not_so. absurd (true≢false (sym so ∙ not_so));
-  wakes = λ _. subst (λ (n : ℕ). Wakes c g.manager told after.manager n) (sym kept.2)
+  wakes = λ _. subst (λ (n : Slots). Wakes c g.manager told after.manager n) (sym kept.2)
       (subst (λ (x : ManagerView). Wakes c g.manager told x ended) (sym kept.0) wakes);
   shown = subst (λ (x : ManagerView). ShowsOn (g.waited || leaves_waiting a) (board_of (state_of x)) g.shown after.shown) (sym kept.0) shown;
   quiet = quiet;
@@ -132,7 +132,7 @@ path_some g after t ask result told v boxes ended way more delivered kept wakes 
       way = subst (λ (x : RegistryView). LocksWay t ask (registry_in g) result told x) (sym same) way;
       none_accepted = λ same. absurd (omega (arith, same, more, as_many));
       boxes = λ _. (delivered.0, delivered.1, kept.1 ∙ delivered.2);
-      wakes = λ _. subst (λ (n : ℕ). Wakes (lock_of t ask) g.manager told after.manager n) (sym kept.2)
+      wakes = λ _. subst (λ (n : Slots). Wakes (lock_of t ask) g.manager told after.manager n) (sym kept.2)
           (subst (λ (x : ManagerView). Wakes (lock_of t ask) g.manager told x ended) (sym kept.0) wakes);
       shown = subst (λ (x : ManagerView). ShowsOn (g.waited || ends_waiting result) (board_of (state_of x)) g.shown after.shown) (sym kept.0) shown;
       quiet = quiet;
