@@ -2,7 +2,6 @@
 //! function: a proof's length grows with the steps of a function times its variables, and so a story
 //! has little more than a call for each answer.
 
-ghost use Rattle.gl_slots.specs.Limit.{most_slots};
 ghost use Rattle.std.specs.Prelude.{◌≤◌};
 
 use gl_modes::{Mode, NodeId, Refusal};
@@ -103,7 +102,7 @@ pub struct Story {
 impl Story {
     pub fn new(alloc: Global, detect: Detect, most: usize) -> Result<Story, Refusal>
         requires some { 1 ≤ most }
-        requires few { most ≤ most_slots }
+        requires few { most ≤ 128 }
     {
         let table = Table::new(alloc, detect, most)?;
         Ok(Story { table })

@@ -1,6 +1,5 @@
 //! What is printed of the plays. Printing takes no memory.
 
-ghost use Rattle.gl_slots.specs.Limit.{most_slots};
 ghost use Rattle.std.specs.Prelude.{◌≤◌};
 
 use crate::scene::Scene;
@@ -52,7 +51,7 @@ impl<'a> Bill<'a> {
         acts: F,
     )
         requires some { 1 ≤ most }
-        requires few { most ≤ most_slots }
+        requires few { most ≤ 128 }
         requires callable { F.IsAlwaysCallable acts }
     {
         match Scene::open(self.alloc(), detect, most) {

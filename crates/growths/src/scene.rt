@@ -1,6 +1,5 @@
 //! A manager with all that was made in it, and commands in few words, each with what is wanted of it.
 
-ghost use Rattle.gl_slots.specs.Limit.{most_slots};
 ghost use Rattle.std.specs.Prelude.{◌≤◌};
 
 use crate::view::View;
@@ -102,7 +101,7 @@ impl Scene {
     /// A new manager, asked for again where it is refused.
     pub(crate) fn open(alloc: Global, detect: Detect, most: usize) -> Option<Scene>
         requires some { 1 ≤ most }
-        requires few { most ≤ most_slots }
+        requires few { most ≤ 128 }
     {
         let manager = match Manager::new(alloc, detect, most) {
             Ok(manager) => manager,
