@@ -12,7 +12,7 @@ ghost use Rattle.gl_waits.specs.Waits.{IsLowestYoungest, IsOnCycle, IsOnNoCycle}
 use gl_catalog::{Answer, Command};
 use gl_shared::{Naming, Session, Share, Shared, Watcher};
 use gl_table::TxnId;
-use gl_waits::{Board, Slots, suspects, youngest_of};
+use gl_waits::{Board, Slot, Slots, suspects, youngest_of};
 use std::sync::Wait;
 use std::sync::atomic::{AtomicBool, Ordering};
 use std::thread::yield_now;
@@ -70,7 +70,7 @@ fn youngest_suspect(board: &Board) -> Option<TxnId>
     let suspects = Slots::from_bits(suspects(board));
     let at = youngest_of(&board.ages, suspects)?;
     Some(TxnId {
-        slot: at as u8,
+        slot: at as Slot,
         age: board.ages[at],
     })
 }
