@@ -23,10 +23,10 @@
  *   - names of transactions and nodes are good with the table that gave them.
  *
  * WHAT A CALL ANSWERS. What the call of burlapslate.h answers that has its name without `table_`, with one more
- * status, BS_TIMED_OUT; and BS_NOT_MADE of a command in a list that was not made. What stands there of refusals, memory and costs holds here too. A call is one hold of the
- * latch, with nobody's steps between its own; where it sleeps, others use the table meanwhile. A table that was never
- * made or was ended answers BS_NO_MANAGER. A call with `told` fills it where it is not null; those who sleep are woken,
- * whether it is null or not.
+ * status, BS_TIMED_OUT; and BS_NOT_MADE of a command in a list that was not made. What stands there of refusals,
+ * memory and costs holds here too. A call is one hold of the latch, with nobody's steps between its own; where it
+ * sleeps, others use the table meanwhile. A table that was never made or was ended answers BS_NO_MANAGER. A call with
+ * `told` fills it where it is not null; those who sleep are woken, whether it is null or not.
  *
  * HOW A SLEEP ENDS. The one who sleeps for a lock is answered
  *   - BS_DONE: it was granted, and is held in `mode`; of a row BS_OTHER_KEYS, where its keys are others than was said;
@@ -41,10 +41,10 @@
  *
  * WHAT IS PROVED, AND WHAT IS NOT. The library is proved: what each command does and whom it tells, what became of
  * a wait (bs_verdict), whose sleepers are to be woken (bs_ended), that a look gives a whole board and never an older
- * one. Written in C here, and tested: the mutex and the conditions, and the line of those who sleep for a slot. They are
- * in bs_table_enter, round each call; bs_table_wake, behind each command; bs_table_hand_on, behind what may have ended
- * a transaction; bs_table_sleep, where a lock waits; bs_table_sleep_in_line, where a begin does; bs_table_end; and
- * bs_table_watches, the thread that watches. The rest of this header makes calls of burlapslate.h between these.
+ * one. Written in C here, and tested: the mutex and the conditions, and the line of those who sleep for a slot. They
+ * are in bs_table_enter, round each call; bs_table_wake, behind each command; bs_table_hand_on, behind what may have
+ * ended a transaction; bs_table_sleep, where a lock waits; bs_table_sleep_in_line, where a begin does; bs_table_end;
+ * and bs_table_watches, the thread that watches. The rest of this header makes calls of burlapslate.h between these.
  */
 #ifndef BURLAPSLATE_SHARED_H
 #define BURLAPSLATE_SHARED_H
@@ -61,7 +61,7 @@
 
 /* Else functions that are not declared would be taken for such as answer an int. */
 #if !defined(CLOCK_MONOTONIC) || (defined(__GLIBC__) && !defined(__USE_XOPEN2K8))
-#error "burlapslate_shared.h takes POSIX of 2008: define _DEFAULT_SOURCE, or _POSIX_C_SOURCE as 200809L, ahead of all headers"
+#error "burlapslate_shared.h takes POSIX: define _DEFAULT_SOURCE, or _POSIX_C_SOURCE as 200809L, ahead of all headers"
 #endif
 
 #ifdef __cplusplus
@@ -454,12 +454,12 @@ static inline bs_reply bs_table_begin(bs_table *table) {
   BS_TABLE_ASK(table, bs_table_begin_inside(in));
 }
 
-/* As bs_begin, but it never answers BS_TOO_MANY_TXNS: where all slots are taken it sleeps until one is its own, or, where
- * `until` is not null, until that time by CLOCK_MONOTONIC. Those who sleep for a slot are served in the order in which
- * they came. Whoever ends a transaction begins the next for the first of them, in the same hold of the latch: so nobody
- * who came later is served before, and a slot that is free by the time at which a sleep ends is a begin. One who
- * sleeps has no transaction, so it is on no cycle of waits: a thread that has one still, and sleeps for another, may wait
- * for itself, and nobody finds that.
+/* As bs_begin, but it never answers BS_TOO_MANY_TXNS: where all slots are taken it sleeps until one is its own, or,
+ * where `until` is not null, until that time by CLOCK_MONOTONIC. Those who sleep for a slot are served in the order in
+ * which they came. Whoever ends a transaction begins the next for the first of them, in the same hold of the latch: so
+ * nobody who came later is served before. A slot that is free before the one who sleeps got the latch is a begin, also
+ * where its time was over by then. One who sleeps has no transaction, so it is on no cycle of waits. A thread that has
+ * one still, and sleeps for another, may wait for itself, and nobody finds that.
  * BS_TIMED_OUT: its time came first, and nothing has begun. BS_NO_MEMORY may also come behind a sleep. Refused with
  * BS_BAD_NUMBER also where `until` is no time. */
 static inline bs_reply bs_table_begin_until(bs_table *table, const struct timespec *until) {
@@ -530,8 +530,8 @@ static inline bs_reply bs_table_cancel_path(bs_table_inside *in, bs_txn txn, bs_
   return cancelled;
 }
 
-/* Takes a wait back, and wakes who sleeps for it: that one is answered BS_NOT_WAITING. So is one whose wait on the way of
- * a path was granted, and that is not awake yet: its path ends there. */
+/* Takes a wait back, and wakes who sleeps for it: that one is answered BS_NOT_WAITING. So is one whose wait on the way
+ * of a path was granted, and that is not awake yet: its path ends there. */
 static inline bs_reply bs_table_cancel(bs_table *table, bs_txn txn, bs_notices *told) {
   BS_TABLE_TELL(table, told, true, bs_table_cancel_path(in, txn, bs_cancel(&in->manager, txn, list)));
 }
@@ -854,8 +854,10 @@ static inline void bs_not_made(bs_command *commands, size_t count) {
 /* Makes commands one behind the other in one hold of the latch, up to the first that is not done, and writes into
  * each that was made its reply: how many were done. Where that is fewer than `count`, the reply of the next says
  * why: it was refused; or it is BS_VICTIM; or a lock that is BS_WAITING, which bs_table_await awaits. Those behind
- * it were not made, and their replies are BS_NOT_MADE. Whom they tell is woken, be it by the first or by the last. Where there is no table the first
- * is answered so. A kind that is none is refused with BS_BAD_NUMBER. */
+ * it were not made, and their replies are BS_NOT_MADE. Whom they tell is woken, be it by the first or by the last.
+ * Where there is no table the first is answered so. A kind that is none is refused with BS_BAD_NUMBER. A begin is
+ * refused with BS_TOO_MANY_TXNS while somebody sleeps in bs_table_begin_until: a slot that the list has freed goes to
+ * that one, behind its last command. */
 static inline size_t bs_table_run(bs_table *table, bs_command *commands, size_t count) {
   bs_table_inside *in;
   bs_txn begun = bs_begun();
@@ -1096,9 +1098,9 @@ static inline void bs_table_settle_all(bs_table_inside *in, bs_board *board) {
   }
 }
 
-/* The thread that watches. No cycle of waits closes but by a lock that is left waiting: so it sleeps until there was one
- * since the last board that it settled. A board that is older than the last of these could not be shown, for want of
- * memory: then it is read with the latch, which takes none. */
+/* The thread that watches. No cycle of waits closes but by a lock that is left waiting: so it sleeps until there was
+ * one since the last board that it settled. A board that is older than the last of these could not be shown, for want
+ * of memory: then it is read with the latch, which takes none. */
 static inline void *bs_table_watches(void *place) {
   bs_table *table = (bs_table *)place;
   bs_table_inside *in;
@@ -1144,8 +1146,8 @@ static inline bool bs_table_start_watch(bs_table *table, bs_table_inside *in) {
 
 /* Starts a thread that ends deadlocks, for a table that was made with BS_BY_WATCHER: it looks as a watcher does,
  * settles every suspect, the youngest first, and rests for `pace` nanoseconds behind each look. While no lock has been
- * left waiting since it looked it sleeps. It ends with the table, counts as a watcher, and takes no signals. Refused with
- * BS_NULL_POINTER, BS_NO_MANAGER, BS_IN_USE where the table has such a thread, BS_TOO_MANY_WATCHERS, and with
+ * left waiting since it looked it sleeps. It ends with the table, counts as a watcher, and takes no signals. Refused
+ * with BS_NULL_POINTER, BS_NO_MANAGER, BS_IN_USE where the table has such a thread, BS_TOO_MANY_WATCHERS, and with
  * BS_NO_MEMORY also where no thread can be started. */
 static inline bs_reply bs_table_watch_thread(bs_table *table, uint64_t pace) {
   bs_table_inside *in = bs_table_enter(table);
@@ -1442,8 +1444,8 @@ static inline bs_reply bs_dump_of(bs_manager *held, bs_table *table, FILE *out) 
  * last deadlock. The counters, the transactions and the deadlock are of one moment, and so is each queue, and each part
  * of 256 locks of a transaction: between these the latch is given up, and nothing is written with it. So a lock may be
  * missed, or stand twice, where its transaction changes its locks meanwhile. Refused with BS_NULL_POINTER,
- * BS_NO_MANAGER, also where the table is ended meanwhile, BS_NO_MEMORY; what the file says of faults, ferror tells. Takes
- * memory, some sixty kilobytes however much there is. */
+ * BS_NO_MANAGER, also where the table is ended meanwhile, BS_NO_MEMORY; what the file says of faults, ferror tells.
+ * Takes memory, some sixty kilobytes however much there is. */
 static inline bs_reply bs_table_dump(bs_table *table, FILE *file) {
   if (table == NULL || file == NULL) return bs_null();
   if (bs_table_len(table).status != BS_DONE) return bs_only(BS_NO_MANAGER);

@@ -719,7 +719,7 @@ static void a_begin_sleeps_for_a_slot(void) {
 
 enum { BEGINNERS = 1000, HALF = BEGINNERS / 2 };
 
-/* One who does some work in a transaction: when it came to sleep for its slot, 0 where it did not, and when it began. */
+/* One who works in a transaction: when it came to sleep for its slot, 0 where it did not, and when it began. */
 struct worker {
   long arrival;
   uint64_t age;
@@ -745,8 +745,8 @@ static int by_age(const void *one, const void *other) {
   return (a > b) - (a < b);
 }
 
-/* A thousand threads over fewer slots do their work once each. Half of them come to sleep, and while the others come one
- * slot after the other is freed. Those who slept began in the order in which they came, and nobody had the age of
+/* A thousand threads over fewer slots do their work once each. Half of them come to sleep, and while the others come
+ * one slot after the other is freed. Those who slept began in the order in which they came, and nobody had the age of
  * another. */
 static void turns_over(uint32_t most) {
   static struct worker all[BEGINNERS];
@@ -874,8 +874,8 @@ static void some_leave_the_line(void) {
   while (!some_leave_the_line_in(microseconds)) microseconds *= 2;
 }
 
-/* The time is over, and then, before the one who sleeps has the latch again, a slot is free. False: this machine was too
- * slow to see it in the line. */
+/* The time is over, and then, before the one who sleeps has the latch again, a slot is free. False: this machine was
+ * too slow to see it in the line. */
 static bool begins_behind_the_time(long microseconds) {
   struct timespec until;
   struct beginner one;
@@ -1023,7 +1023,8 @@ static void a_path_moves(void) {
   DONE(bs_table_end(&table));
 }
 
-/* A cancel that comes when a lock on the way was granted, and its sleeper is not awake yet, is not lost: the path ends. */
+/* A cancel that comes when a lock on the way was granted, and its sleeper is not awake yet, is not lost: the path
+ * ends. */
 static void a_path_is_cancelled_on_its_way(void) {
   struct asker one;
   bs_command list[3];
@@ -2060,9 +2061,9 @@ static void a_long_dump(void) {
   set_up(BS_AT_BLOCK);
   a = begin(), b = begin();
   for (i = 1; i < MANY_LOCKS; i++) {
-    bs_node node = DONE(bs_table_add_inner(&table, &root, 1)).node;
-    DONE(bs_table_lock_path(&table, a, node, BS_X, NULL));
-    if (i < BS_DUMP_LOCKS) DONE(bs_table_lock_path(&table, b, DONE(bs_table_add_inner(&table, &root, 1)).node, BS_X, NULL));
+    DONE(bs_table_lock_path(&table, a, DONE(bs_table_add_inner(&table, &root, 1)).node, BS_X, NULL));
+    if (i >= BS_DUMP_LOCKS) continue;
+    DONE(bs_table_lock_path(&table, b, DONE(bs_table_add_inner(&table, &root, 1)).node, BS_X, NULL));
   }
   DONE(bs_table_dump(&table, text));
   is_held = true;
