@@ -1445,7 +1445,7 @@ static inline bs_reply bs_dump_of(bs_manager *held, bs_table *table, FILE *out) 
  * of 256 locks of a transaction: between these the latch is given up, and nothing is written with it. So a lock may be
  * missed, or stand twice, where its transaction changes its locks meanwhile. Refused with BS_NULL_POINTER,
  * BS_NO_MANAGER, also where the table is ended meanwhile, BS_NO_MEMORY; what the file says of faults, ferror tells.
- * Takes memory, some sixty kilobytes however much there is. */
+ * Takes memory, some fifty kilobytes however much there is. */
 static inline bs_reply bs_table_dump(bs_table *table, FILE *file) {
   if (table == NULL || file == NULL) return bs_null();
   if (bs_table_len(table).status != BS_DONE) return bs_only(BS_NO_MANAGER);
