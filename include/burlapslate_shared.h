@@ -265,11 +265,6 @@ static inline void bs_table_hand_on(bs_table_inside *in) {
   }
 }
 
-/* Begins a transaction, but where somebody sleeps for a slot: one that a list has freed is for these. */
-static inline bs_reply bs_table_begin_inside(bs_table_inside *in) {
-  return in->first == NULL ? bs_begin(&in->manager) : bs_only(BS_TOO_MANY_TXNS);
-}
-
 /* Sleeps for a slot, with the latch held before and behind it, until somebody has begun for the one who sleeps, or the
  * time is over, or the table ends. Whether it has begun is asked before the clock. */
 static inline bs_reply bs_table_sleep_in_line(bs_table *table, const struct timespec *until) {
@@ -449,9 +444,10 @@ static inline bs_reply bs_table_add_index(bs_table *table, const bs_node *parent
  * Transactions and locks.
  */
 
-/* As bs_begin. While somebody sleeps in bs_table_begin_until it is refused with BS_TOO_MANY_TXNS. */
+/* As bs_begin. While somebody sleeps in bs_table_begin_until no slot is free, and it is refused with
+ * BS_TOO_MANY_TXNS. */
 static inline bs_reply bs_table_begin(bs_table *table) {
-  BS_TABLE_ASK(table, bs_table_begin_inside(in));
+  BS_TABLE_ASK(table, bs_begin(&in->manager));
 }
 
 /* As bs_begin, but it never answers BS_TOO_MANY_TXNS: where all slots are taken it sleeps until one is its own, or,
@@ -467,7 +463,7 @@ static inline bs_reply bs_table_begin_until(bs_table *table, const struct timesp
   bs_reply reply;
   if (in == NULL) return bs_no_table(table);
   if (!bs_is_time(until)) return bs_table_leave(table, bs_bad_number());
-  reply = bs_table_begin_inside(in);
+  reply = bs_begin(&in->manager);
   if (reply.status == BS_TOO_MANY_TXNS) reply = bs_table_sleep_in_line(table, until);
   pthread_mutex_unlock(&table->latch);
   return reply;
@@ -817,16 +813,15 @@ static inline bs_command bs_do_add_index(const bs_node *parents, size_t count, b
   return command;
 }
 
-/* Makes a command with the manager of a table, for this transaction. */
-static inline bs_reply bs_command_made(bs_table_inside *in, const bs_command *c, bs_txn txn, bs_notices *told) {
-  bs_manager *m = &in->manager;
+/* Makes a command with a manager, for this transaction. */
+static inline bs_reply bs_command_made(bs_manager *m, const bs_command *c, bs_txn txn, bs_notices *told) {
   switch (c->kind) {
-    case BS_DO_BEGIN: return bs_table_begin_inside(in);
+    case BS_DO_BEGIN: return bs_begin(m);
     case BS_DO_LOCK: return bs_lock(m, txn, c->node, c->mode, told);
     case BS_DO_TRY: return bs_try(m, txn, c->node, c->mode);
     case BS_DO_UNLOCK: return bs_unlock(m, txn, c->node, told);
     case BS_DO_ESCALATE: return bs_escalate(m, txn, c->node, told);
-    case BS_DO_CANCEL: return bs_table_cancel_path(in, txn, bs_cancel(m, txn, told));
+    case BS_DO_CANCEL: return bs_cancel(m, txn, told);
     case BS_DO_COMMIT: return bs_commit(m, txn, told);
     case BS_DO_ABORT: return bs_abort(m, txn, told);
     case BS_DO_SETTLE: return bs_settle(m, txn, told);
@@ -843,6 +838,15 @@ static inline bs_reply bs_command_made(bs_table_inside *in, const bs_command *c,
       return bs_add_index(m, c->parents, c->parent_count, c->other, c->numbers, c->number_count);
     default: return bs_bad_number();
   }
+}
+
+/* The same with the manager of a table. A slot that the list has freed is for those who sleep for one, and a cancel may
+ * end a path. */
+static inline bs_reply bs_table_made(bs_table_inside *in, const bs_command *c, bs_txn txn, bs_notices *told) {
+  bs_reply reply;
+  if (c->kind == BS_DO_BEGIN && in->first != NULL) return bs_only(BS_TOO_MANY_TXNS);
+  reply = bs_command_made(&in->manager, c, txn, told);
+  return c->kind == BS_DO_CANCEL ? bs_table_cancel_path(in, txn, reply) : reply;
 }
 
 /* Of those behind the first that was not done. */
@@ -876,7 +880,7 @@ static inline size_t bs_table_run(bs_table *table, bs_command *commands, size_t 
     bool by_name;
     told->count = 0;
     by_name = next->kind == BS_DO_CANCEL || next->kind == BS_DO_ABORT;
-    next->reply = bs_command_made(in, next, txn, told);
+    next->reply = bs_table_made(in, next, txn, told);
     bs_table_wake(in, next->reply.status, told, by_name);
     if (next->reply.status != BS_DONE) break;
     if (next->kind == BS_DO_BEGIN) begun = next->reply.txn;
