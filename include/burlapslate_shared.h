@@ -23,10 +23,10 @@
  *   - names of transactions and nodes are good with the table that gave them.
  *
  * WHAT A CALL ANSWERS. What the call of burlapslate.h answers that has its name without `table_`, with one more
- * status, BS_TIMED_OUT; and BS_NOT_MADE of a command in a list that was not made. What stands there of refusals, memory
- * and costs holds here too. A call is one hold of the latch, with nobody's steps between its own; where it sleeps, others
- * use the table meanwhile. A table that was never made or was ended answers BS_NO_MANAGER. A call with `told` fills it
- * where it is not null; those who sleep are woken, whether it is null or not.
+ * status, BS_TIMED_OUT; and BS_NOT_MADE of a command in a list that was not made. What stands there of refusals,
+ * memory and costs holds here too. A call is one hold of the latch, with nobody's steps between its own; where it
+ * sleeps, others use the table meanwhile. A table that was never made or was ended answers BS_NO_MANAGER. A call with
+ * `told` fills it where it is not null; those who sleep are woken, whether it is null or not.
  *
  * HOW A SLEEP ENDS. The one who sleeps for a lock is answered
  *   - BS_DONE: it was granted, and is held in `mode`; of a row BS_OTHER_KEYS, where its keys are others than was said;
@@ -43,8 +43,8 @@
  * a wait (bs_verdict), whose sleepers are to be woken (bs_ended), that a look gives a whole board and never an older
  * one. Written in C here, and tested: the mutex and the conditions, and the line of those who sleep for a slot. They
  * are in bs_table_enter, round each call; bs_table_wake, behind each command; bs_table_hand_on, behind what may have
- * ended a transaction; bs_table_sleep, where a lock waits; bs_table_sleep_in_line, where a begin does; bs_table_end; and
- * bs_table_watches, the thread that watches. The rest of this header makes calls of burlapslate.h between these.
+ * ended a transaction; bs_table_sleep, where a lock waits; bs_table_sleep_in_line, where a begin does; bs_table_end;
+ * and bs_table_watches, the thread that watches. The rest of this header makes calls of burlapslate.h between these.
  */
 #ifndef BURLAPSLATE_SHARED_H
 #define BURLAPSLATE_SHARED_H
@@ -265,11 +265,6 @@ static inline void bs_table_hand_on(bs_table_inside *in) {
   }
 }
 
-/* Begins a transaction, but where somebody sleeps for a slot: one that a list has freed is for these. */
-static inline bs_reply bs_table_begin_inside(bs_table_inside *in) {
-  return in->first == NULL ? bs_begin(&in->manager) : bs_only(BS_TOO_MANY_TXNS);
-}
-
 /* Sleeps for a slot, with the latch held before and behind it, until somebody has begun for the one who sleeps, or the
  * time is over, or the table ends. Whether it has begun is asked before the clock. */
 static inline bs_reply bs_table_sleep_in_line(bs_table *table, const struct timespec *until) {
@@ -449,9 +444,10 @@ static inline bs_reply bs_table_add_index(bs_table *table, const bs_node *parent
  * Transactions and locks.
  */
 
-/* As bs_begin. While somebody sleeps in bs_table_begin_until it is refused with BS_TOO_MANY_TXNS. */
+/* As bs_begin. While somebody sleeps in bs_table_begin_until no slot is free, and it is refused with
+ * BS_TOO_MANY_TXNS. */
 static inline bs_reply bs_table_begin(bs_table *table) {
-  BS_TABLE_ASK(table, bs_table_begin_inside(in));
+  BS_TABLE_ASK(table, bs_begin(&in->manager));
 }
 
 /* As bs_begin, but it never answers BS_TOO_MANY_TXNS: where all slots are taken it sleeps until one is its own, or,
@@ -467,7 +463,7 @@ static inline bs_reply bs_table_begin_until(bs_table *table, const struct timesp
   bs_reply reply;
   if (in == NULL) return bs_no_table(table);
   if (!bs_is_time(until)) return bs_table_leave(table, bs_bad_number());
-  reply = bs_table_begin_inside(in);
+  reply = bs_begin(&in->manager);
   if (reply.status == BS_TOO_MANY_TXNS) reply = bs_table_sleep_in_line(table, until);
   pthread_mutex_unlock(&table->latch);
   return reply;
@@ -817,16 +813,15 @@ static inline bs_command bs_do_add_index(const bs_node *parents, size_t count, b
   return command;
 }
 
-/* Makes a command with the manager of a table, for this transaction. */
-static inline bs_reply bs_command_made(bs_table_inside *in, const bs_command *c, bs_txn txn, bs_notices *told) {
-  bs_manager *m = &in->manager;
+/* Makes a command with a manager, for this transaction. */
+static inline bs_reply bs_command_made(bs_manager *m, const bs_command *c, bs_txn txn, bs_notices *told) {
   switch (c->kind) {
-    case BS_DO_BEGIN: return bs_table_begin_inside(in);
+    case BS_DO_BEGIN: return bs_begin(m);
     case BS_DO_LOCK: return bs_lock(m, txn, c->node, c->mode, told);
     case BS_DO_TRY: return bs_try(m, txn, c->node, c->mode);
     case BS_DO_UNLOCK: return bs_unlock(m, txn, c->node, told);
     case BS_DO_ESCALATE: return bs_escalate(m, txn, c->node, told);
-    case BS_DO_CANCEL: return bs_table_cancel_path(in, txn, bs_cancel(m, txn, told));
+    case BS_DO_CANCEL: return bs_cancel(m, txn, told);
     case BS_DO_COMMIT: return bs_commit(m, txn, told);
     case BS_DO_ABORT: return bs_abort(m, txn, told);
     case BS_DO_SETTLE: return bs_settle(m, txn, told);
@@ -843,6 +838,15 @@ static inline bs_reply bs_command_made(bs_table_inside *in, const bs_command *c,
       return bs_add_index(m, c->parents, c->parent_count, c->other, c->numbers, c->number_count);
     default: return bs_bad_number();
   }
+}
+
+/* The same with the manager of a table. A slot that the list has freed is for those who sleep for one, and a cancel may
+ * end a path. */
+static inline bs_reply bs_table_made(bs_table_inside *in, const bs_command *c, bs_txn txn, bs_notices *told) {
+  bs_reply reply;
+  if (c->kind == BS_DO_BEGIN && in->first != NULL) return bs_only(BS_TOO_MANY_TXNS);
+  reply = bs_command_made(&in->manager, c, txn, told);
+  return c->kind == BS_DO_CANCEL ? bs_table_cancel_path(in, txn, reply) : reply;
 }
 
 /* Of those behind the first that was not done. */
@@ -876,7 +880,7 @@ static inline size_t bs_table_run(bs_table *table, bs_command *commands, size_t 
     bool by_name;
     told->count = 0;
     by_name = next->kind == BS_DO_CANCEL || next->kind == BS_DO_ABORT;
-    next->reply = bs_command_made(in, next, txn, told);
+    next->reply = bs_table_made(in, next, txn, told);
     bs_table_wake(in, next->reply.status, told, by_name);
     if (next->reply.status != BS_DONE) break;
     if (next->kind == BS_DO_BEGIN) begun = next->reply.txn;
@@ -1146,8 +1150,8 @@ static inline bool bs_table_start_watch(bs_table *table, bs_table_inside *in) {
 
 /* Starts a thread that ends deadlocks, for a table that was made with BS_BY_WATCHER: it looks as a watcher does,
  * settles every suspect, the youngest first, and rests for `pace` nanoseconds behind each look. While no lock has been
- * left waiting since it looked it sleeps. It ends with the table, counts as a watcher, and takes no signals. Refused with
- * BS_NULL_POINTER, BS_NO_MANAGER, BS_IN_USE where the table has such a thread, BS_TOO_MANY_WATCHERS, and with
+ * left waiting since it looked it sleeps. It ends with the table, counts as a watcher, and takes no signals. Refused
+ * with BS_NULL_POINTER, BS_NO_MANAGER, BS_IN_USE where the table has such a thread, BS_TOO_MANY_WATCHERS, and with
  * BS_NO_MEMORY also where no thread can be started. */
 static inline bs_reply bs_table_watch_thread(bs_table *table, uint64_t pace) {
   bs_table_inside *in = bs_table_enter(table);
@@ -1444,8 +1448,8 @@ static inline bs_reply bs_dump_of(bs_manager *held, bs_table *table, FILE *out) 
  * last deadlock. The counters, the transactions and the deadlock are of one moment, and so is each queue, and each part
  * of 256 locks of a transaction: between these the latch is given up, and nothing is written with it. So a lock may be
  * missed, or stand twice, where its transaction changes its locks meanwhile. Refused with BS_NULL_POINTER,
- * BS_NO_MANAGER, also where the table is ended meanwhile, BS_NO_MEMORY; what the file says of faults, ferror tells. Takes
- * memory, some sixty kilobytes however much there is. */
+ * BS_NO_MANAGER, also where the table is ended meanwhile, BS_NO_MEMORY; what the file says of faults, ferror tells.
+ * Takes memory, some fifty kilobytes however much there is. */
 static inline bs_reply bs_table_dump(bs_table *table, FILE *file) {
   if (table == NULL || file == NULL) return bs_null();
   if (bs_table_len(table).status != BS_DONE) return bs_only(BS_NO_MANAGER);

@@ -52,7 +52,7 @@ end-leaves-the-watch	s/  pthread_cond_broadcast(&in->began);//
 end-leaves-the-rest	s/  pthread_cond_broadcast(&in->over);//
 end-does-not-wait	s/  while (in->sleepers > 0) .*//
 last-sleeper-says-nothing	s/  if (in->is_ending && in->sleepers == 0) .*//
-begin-passes-the-line	s/  return in->first == NULL ? bs_begin/  return true ? bs_begin/
+begin-passes-the-line	s/  if (c->kind == BS_DO_BEGIN && in->first != NULL) return .*//
 last-comes-first	s/    bs_turn \*turn = in->first;/    bs_turn *turn = in->last;/
 call-keeps-the-slot	s/  bs_table_hand_on(in);  *\\$/ \\/
 run-keeps-the-slot	s/^  bs_table_hand_on(in);$//

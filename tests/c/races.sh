@@ -42,16 +42,15 @@ export TSAN_OPTIONS="exitcode=66 suppressions=$work/seen"
 
 status=0
 for tool in "$@"; do
-  watched=(valgrind "--tool=$tool" -q --fair-sched=yes --max-threads=1200 "--suppressions=$top/tests/c/races.supp"
-    --error-exitcode=66)
+  watched=(valgrind "--tool=$tool" -q --fair-sched=yes "--suppressions=$top/tests/c/races.supp" --error-exitcode=66)
   case $tool in
     short)
       if compile shared-tsan shared -fsanitize=thread 2>/dev/null; then
-        quiet "tsan, the stories" "$work/shared-tsan" 60 || status=1
+        quiet "tsan, the stories" "$work/shared-tsan" 60 256 || status=1
       elif command -v valgrind >/dev/null; then
         compile shared shared || exit 1
         watched[1]=--tool=helgrind
-        quiet "helgrind, the stories" "${watched[@]}" "$work/shared" 300 || status=1
+        quiet "helgrind, the stories" "${watched[@]}" "$work/shared" 300 256 || status=1
       else
         echo "races.sh: not tried: neither ThreadSanitizer nor valgrind is found"
         exit 77
@@ -71,7 +70,7 @@ for tool in "$@"; do
         continue
       fi
       compile shared shared && compile crowd crowd || exit 1
-      quiet "$tool, the stories" "${watched[@]}" "$work/shared" 900 || status=1
+      quiet "$tool, the stories" "${watched[@]}" "$work/shared" 900 256 || status=1
       quiet "$tool, the crowd" "${watched[@]}" "$work/crowd" 1 900 || status=1
       ;;
     *)

@@ -2,7 +2,8 @@
  * Stories of a table that threads share: each is a function that ends the program with status 1 at the first answer
  * that is not as wanted, and else prints its name.
  *
- *   shared [SECONDS]   the time that a story may take before it is said to hang; 20 where none is given
+ *   shared [SECONDS [THREADS]]   the time that a story may take before it is said to hang, 20 where none is given; and
+ *                                how many threads take turns over fewer slots, at least 256, 1000 where none is given
  *
  * It is linked with the calls for memory of memory.h.
  */
@@ -717,7 +718,9 @@ static void a_begin_sleeps_for_a_slot(void) {
   ANSWERS(BS_NULL_POINTER, bs_table_begin_until(NULL, NULL));
 }
 
-enum { BEGINNERS = 1000, HALF = BEGINNERS / 2 };
+enum { MOST_BEGINNERS = 1000 };
+
+static size_t beginners = MOST_BEGINNERS;
 
 /* One who works in a transaction: when it came to sleep for its slot, 0 where it did not, and when it began. */
 struct worker {
@@ -745,32 +748,32 @@ static int by_age(const void *one, const void *other) {
   return (a > b) - (a < b);
 }
 
-/* A thousand threads over fewer slots do their work once each. Half of them come to sleep, and while the others come
+/* Many threads over fewer slots do their work once each. Half of them come to sleep, and while the others come
  * one slot after the other is freed. Those who slept began in the order in which they came, and nobody had the age of
  * another. */
 static void turns_over(uint32_t most) {
-  static struct worker all[BEGINNERS];
+  static struct worker all[MOST_BEGINNERS];
   bs_txn held[BS_SLOTS];
-  long before = 0, slept = 0;
-  size_t i, freed = 0;
+  long before = 0;
+  size_t i, freed = 0, slept = 0, half = beginners / 2;
   set_up_slots(most);
   worked = 0;
   for (i = 0; i < most; i++) held[i] = begin();
-  for (i = 1; i <= BEGINNERS; i++) {
+  for (i = 1; i <= 2 * half; i++) {
     start(&all[i - 1].thread, work_in_turn, &all[i - 1]);
-    if (i == HALF) await_sleepers(HALF);
-    if (i > HALF && (i - HALF) * most >= (freed + 1) * HALF) DONE(bs_table_commit(&table, held[freed++], NULL));
+    if (i == half) await_sleepers(half);
+    if (i > half && (i - half) * most >= (freed + 1) * half) DONE(bs_table_commit(&table, held[freed++], NULL));
   }
-  for (i = 0; i < BEGINNERS; i++) join(all[i].thread);
-  qsort(all, BEGINNERS, sizeof all[0], by_age);
-  for (i = 0; i < BEGINNERS; i++) {
+  for (i = 0; i < 2 * half; i++) join(all[i].thread);
+  qsort(all, 2 * half, sizeof all[0], by_age);
+  for (i = 0; i < 2 * half; i++) {
     WANT(all[i].age == held[most - 1].age + i + 1);
     if (all[i].arrival == 0) continue;
     WANT(all[i].arrival > before);
     before = all[i].arrival;
     slept++;
   }
-  WANT(freed == most && worked == BEGINNERS && slept >= HALF && bs_table_living(&table, 0).status == BS_NO_PLACE);
+  WANT(freed == most && worked == (long)(2 * half) && slept >= half && bs_table_living(&table, 0).status == BS_NO_PLACE);
   DONE(bs_table_end(&table));
 }
 
@@ -2264,6 +2267,8 @@ static void tell(const char *name, void (*play)(void)) {
 int main(int count, char **words) {
   setvbuf(stdout, NULL, _IONBF, 0);
   if (count > 1) patience = (unsigned)atoi(words[1]);
+  if (count > 2) beginners = (size_t)atoi(words[2]);
+  WANT(beginners >= 2 * BS_SLOTS && beginners <= MOST_BEGINNERS);
   TELL(a_commit_grants);
   TELL(an_unlock_grants);
   TELL(a_commit_wakes_all);

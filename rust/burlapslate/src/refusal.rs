@@ -32,7 +32,8 @@ pub enum Refusal {
     WouldBlock,
     /// As many transactions live as may.
     TooManyTxns,
-    /// As many nodes live as may: 65,536, intervals and records among them.
+    /// As many nodes live as may, intervals and records among them: 65,536, where no other number was
+    /// chosen.
     TooManyNodes,
     /// A node of the wrong kind for its place, one parent twice, or too few parents.
     BadParents,

@@ -21,7 +21,8 @@ pub enum Stop {
     Moved,
     /// The node is gone.
     Gone,
-    /// Its time came first. The wait was taken back, and the transaction is active.
+    /// Its time came first. The wait was taken back, and the transaction is active; of a begin, nothing has
+    /// begun.
     TimedOut,
     /// Another thread took the wait back, and the transaction is active.
     Cancelled,

@@ -544,12 +544,13 @@ impl Table {
         mut guarded: MutexGuard<'t, Guarded>,
         time: Duration,
     ) -> MutexGuard<'t, Guarded> {
-        let Some(until) = Instant::now().checked_add(time) else {
-            return guarded;
-        };
+        let until = deadline(time);
         let mut is_late = time.is_zero();
         while !is_late && !guarded.is_unwatched {
-            (guarded, is_late) = wait_until(&self.began, guarded, until);
+            (guarded, is_late) = match until {
+                None => (wait(&self.began, guarded), false),
+                Some(until) => wait_until(&self.began, guarded, until),
+            };
         }
         guarded
     }

@@ -35,8 +35,8 @@ struct Crowd {
 }
 
 impl Crowd {
-    fn new(detect: Detect, victims: Victims) -> Result<Crowd, Stop> {
-        let table = Table::choosing(detect, victims, SLOTS)?;
+    fn new(detect: Detect, victims: Victims, slots: usize) -> Result<Crowd, Stop> {
+        let table = Table::choosing(detect, victims, slots)?;
         let root = table.add_inner(&[])?;
         let areas = [table.add_inner(&[root])?, table.add_inner(&[root])?];
         let files = [table.add_file(&[areas[0]])?, table.add_file(&[areas[1]])?];
@@ -250,7 +250,7 @@ impl Member<'_> {
     }
 
     fn transaction(&mut self) {
-        let mut session = self.crowd.table.begin().unwrap();
+        let mut session = self.crowd.table.begin_in_turn().unwrap();
         self.is_game = self.pick(6) == 0;
         let name = if self.is_game {
             session.txn()
@@ -294,8 +294,8 @@ fn look_on(crowd: &Crowd, detect: Detect, is_over: &AtomicBool) {
     }
 }
 
-fn play(detect: Detect, victims: Victims) {
-    let crowd = Crowd::new(detect, victims).unwrap();
+fn play(detect: Detect, victims: Victims, slots: usize) {
+    let crowd = Crowd::new(detect, victims, slots).unwrap();
     let is_over = AtomicBool::new(false);
     let members = thread::scope(|scope| {
         scope.spawn(|| look_on(&crowd, detect, &is_over));
@@ -352,12 +352,18 @@ fn play(detect: Detect, victims: Victims) {
 
 #[test]
 fn a_crowd_at_block() {
-    play(Detect::AtBlock, Victims::Youngest);
-    play(Detect::AtBlock, Victims::Fewest);
+    play(Detect::AtBlock, Victims::Youngest, SLOTS);
+    play(Detect::AtBlock, Victims::Fewest, SLOTS);
 }
 
 #[test]
 fn a_crowd_by_watcher() {
-    play(Detect::ByWatcher, Victims::Youngest);
-    play(Detect::ByWatcher, Victims::Fewest);
+    play(Detect::ByWatcher, Victims::Youngest, SLOTS);
+    play(Detect::ByWatcher, Victims::Fewest, SLOTS);
+}
+
+#[test]
+fn a_crowd_over_fewer_slots() {
+    play(Detect::AtBlock, Victims::Youngest, 16);
+    play(Detect::ByWatcher, Victims::Youngest, 16);
 }

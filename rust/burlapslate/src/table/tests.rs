@@ -1,8 +1,11 @@
-//! Stories that look into the table: begins that sleep for a slot, and a path that is cancelled on its way.
+//! Stories that look into the table: begins that sleep for a slot, a path that is cancelled on its way, and
+//! one who watches and rests long.
 
 use super::{hand_on, Table};
+use crate::listing::Doing;
+use crate::manager::{Asked, Manager};
 use crate::mode::{Detect, Mode};
-use crate::names::Node;
+use crate::names::{Node, Txn};
 use crate::refusal::Refusal;
 use crate::session::{Session, Stop};
 use crate::turns::MY_ARRIVAL;
@@ -257,5 +260,55 @@ fn a_path_is_cancelled_on_its_way() {
         assert_eq!(end, granted);
         assert_eq!(table.with(|m| m.held(b.txn(), root)), Ok(Mode::IX));
         assert_eq!(table.cancel(name), Err(Refusal::NotWaiting));
+    }
+}
+
+/// Two that hold S and wait for X, both at once for whoever watches.
+fn deadlock(table: &Table, root: Node) -> [Txn; 2] {
+    let both = [(); 2].map(|()| {
+        let mut session = table.begin().unwrap();
+        session.lock(root, Mode::S).unwrap();
+        session.leave()
+    });
+    let mut guarded = table.guarded();
+    for txn in both {
+        let (asked, told) = guarded.manager.lock(txn, root, Mode::X).unwrap();
+        assert!(asked == Asked::Waiting && told.is_empty());
+    }
+    table.wake_behind(&mut guarded, false, true);
+    both
+}
+
+fn is_condemned(table: &Table, txn: Txn) -> bool {
+    let doing = |m: &Manager| {
+        m.transactions()
+            .find(|row| row.txn == txn)
+            .map(|row| row.doing)
+    };
+    table.with(doing) == Some(Doing::Condemned)
+}
+
+/// It ends all deadlocks that it sees before it rests. However long it rests, it ends when it is to, and ends
+/// no deadlock that closes meanwhile.
+#[test]
+fn who_watches_rests_long() {
+    for rest in [Duration::from_secs(3600), Duration::MAX] {
+        let table = &Table::new(Detect::ByWatcher, 8).unwrap();
+        let roots = [(); 3].map(|()| table.add_inner(&[]).unwrap());
+        thread::scope(|scope| {
+            let seen = [0, 1].map(|i| deadlock(table, roots[i]));
+            let watches = scope.spawn(move || table.watch_over(rest).unwrap());
+            while !seen
+                .iter()
+                .all(|&[_, younger]| is_condemned(table, younger))
+            {
+                thread::sleep(Duration::from_micros(50));
+            }
+            let [_, younger] = deadlock(table, roots[2]);
+            thread::sleep(Duration::from_millis(5));
+            assert!(!is_condemned(table, younger));
+            table.end_watch();
+            watches.join().unwrap();
+        });
     }
 }
