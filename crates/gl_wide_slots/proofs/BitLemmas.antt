@@ -1,8 +1,56 @@
 -- Bits of numbers: union, intersection, one bit more or less, the lowest bit.
-use Rattle.std.proofs.Common.{◌≡◌, ◌≢◌, ℕ, zero, suc, ◌+◌, ◌-◌, ◌*◌, ◌/◌, ◌%◌, ◌^◌, ◌<◌, ◌≤◌, Bool, true, false, cond, ltb, not, ◌&&◌, ◌||◌, ◌==◌, bit_and, bit_or, ⊎_elim, sym, ap, ◌∙◌, pow-suc, arith}
+use Rattle.std.proofs.Common.{
+  ◌≡◌,
+  ◌≢◌,
+  ℕ,
+  zero,
+  suc,
+  ◌+◌,
+  ◌-◌,
+  ◌*◌,
+  ◌/◌,
+  ◌%◌,
+  ◌^◌,
+  ◌<◌,
+  ◌≤◌,
+  Bool,
+  true,
+  false,
+  cond,
+  ltb,
+  not,
+  ◌&&◌,
+  ◌||◌,
+  ◌==◌,
+  bit_and,
+  bit_or,
+  ⊎_elim,
+  sym,
+  ap,
+  ◌∙◌,
+  pow-suc,
+  arith,
+}
 use Rattle.std.specs.Int.{bit_at, bit_not, w64}
 use Rattle.std.proofs.lemmas.Nat.{one_shl, pow_pos}
-use Rattle.std.proofs.lemmas.Nat.Bits.{bit_at-zero, bit_at-suc, bit_at_lowest, bit_at_not, bit_at-lt, bit_at_and, bit_at_or, bit_at_above, bit_at_set_same, bit_at_set_other, bit_at_clear_same, bit_at_clear_other, bit_at_ones, and_pow, same_from_bits, same_from_bits_below}
+use Rattle.std.proofs.lemmas.Nat.Bits.{
+  bit_at-zero,
+  bit_at-suc,
+  bit_at_lowest,
+  bit_at_not,
+  bit_at-lt,
+  bit_at_and,
+  bit_at_or,
+  bit_at_above,
+  bit_at_set_same,
+  bit_at_set_other,
+  bit_at_clear_same,
+  bit_at_clear_other,
+  bit_at_ones,
+  and_pow,
+  same_from_bits,
+  same_from_bits_below,
+}
 use Rattle.std.proofs.lemmas.Bool.{cases_lt}
 use Rattle.std.proofs.lemmas.Bool.Decides.{nat_tests}
 use Rattle.gl_wide_slots.specs.Bits.{in_bits, bits_below}
@@ -74,7 +122,10 @@ in_bits-ones k u low = ap (λ x. x == 1) (bit_at_ones k u low)
 
 -- what `set & (1 << k) != 0` tests
 pub in_bits-test : (set k : ℕ) → k < 64 → not (bit_and set (1 * 2 ^ k % 2 ^ 64) == 0) ≡ in_bits set k
-in_bits-test set k low = ap (λ p. not (bit_and set p == 0)) (one_shl k 64 low) ∙ ap (λ n. not (n == 0)) (and_pow set k) ∙ by (bit_at set k) (2 ^ k) (bit_at-lt set k) (pow_pos k)
+in_bits-test set k low =
+    ap (λ p. not (bit_and set p == 0)) (one_shl k 64 low)
+    ∙ ap (λ n. not (n == 0)) (and_pow set k)
+    ∙ by (bit_at set k) (2 ^ k) (bit_at-lt set k) (pow_pos k)
   where
     by : (b p : ℕ) → b < 2 → 0 < p → not (b * p == 0) ≡ (b == 1)
     by zero p small above = let e : 0 * p ≡ 0 = omega arith in ap (λ n. not (n == 0)) e

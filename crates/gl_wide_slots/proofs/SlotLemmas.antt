@@ -1,5 +1,31 @@
 -- The list of a set's slots.
-use Rattle.std.proofs.Common.{◌≡◌, ◌≢◌, ℕ, zero, suc, ◌+◌, ◌^◌, ◌<◌, ◌≤◌, Bool, true, false, not, ◌&&◌, ◌==◌, [], ◌∷◌, refl, ap, ◌∙◌, ⊎_elim, List, length, get_or, arith}
+use Rattle.std.proofs.Common.{
+  ◌≡◌,
+  ◌≢◌,
+  ℕ,
+  zero,
+  suc,
+  ◌+◌,
+  ◌^◌,
+  ◌<◌,
+  ◌≤◌,
+  Bool,
+  true,
+  false,
+  not,
+  ◌&&◌,
+  ◌==◌,
+  [],
+  ◌∷◌,
+  refl,
+  ap,
+  ◌∙◌,
+  ⊎_elim,
+  List,
+  length,
+  get_or,
+  arith,
+}
 use Rattle.std.specs.List.{filter, range_with_len}
 use Rattle.std.proofs.lemmas.Bool.{cases_eq}
 use Rattle.std.proofs.lemmas.Bool.Decides.{nat_tests}
@@ -7,7 +33,17 @@ use Rattle.gl_wide_slots.specs.declared.slots.Slots.{Slots}
 use Rattle.gl_wide_slots.specs.Words.{words_below}
 use Rattle.gl_wide_slots.specs.Slots.{HasNoSlot, IsLowest, bits_of, has_bit, has_none, has_slot, no_bits, no_slots, number_of, slot_limit, slots_of}
 use Rattle.gl_wide_slots.specs.Limit.{most_slots, most_words}
-use Rattle.gl_wide_slots.proofs.WordLemmas.{idle-none, in_words-past, in_words-words_below, in_words-zeros, length-words_below, none-idle, words_below-is, words_below-none, words_below-same}
+use Rattle.gl_wide_slots.proofs.WordLemmas.{
+  idle-none,
+  in_words-past,
+  in_words-words_below,
+  in_words-zeros,
+  length-words_below,
+  none-idle,
+  words_below-is,
+  words_below-none,
+  words_below-same,
+}
 
 -- the limit of slots is their number
 pub slot_limit-is : slot_limit ≡ most_slots
@@ -27,19 +63,22 @@ same-filtered p p' a (suc n) same =
     let r : filter p (range_with_len (a + 1) n) ≡ filter p' (range_with_len (a + 1) n) = same-filtered p p' (a + 1) n (λ u le. same u (omega arith)) in
     grind arith
 
-first-filtered : (p p' : ℕ → Bool) (a n k : ℕ) → a ≤ k → k < a + n → p k ≡ true → ((u : ℕ) → u < k → p u ≡ false) → ((u : ℕ) → p' u ≡ (p u && not (u == k))) → filter p (range_with_len a n) ≡ k ∷ filter p' (range_with_len a n)
+first-filtered : (p p' : ℕ → Bool) (a n k : ℕ) → a ≤ k → k < a + n → p k ≡ true → ((u : ℕ) → u < k → p u ≡ false)
+    → ((u : ℕ) → p' u ≡ (p u && not (u == k))) → filter p (range_with_len a n) ≡ k ∷ filter p' (range_with_len a n)
 first-filtered p p' a zero k low high has none left = absurd (omega arith)
 first-filtered p p' a (suc n) k low high has none left =
     ⊎_elim
     (λ e.
     let h : p a ≡ true = ap p e ∙ has in
     let g : p' a ≡ false = gone a k (p a) (p' a) (left a) e in
-    let r : filter p (range_with_len (a + 1) n) ≡ filter p' (range_with_len (a + 1) n) = same-filtered p p' (a + 1) n (λ u le. kept u k (p u) (p' u) (left u) (omega arith)) in
+    let r : filter p (range_with_len (a + 1) n) ≡ filter p' (range_with_len (a + 1) n) =
+        same-filtered p p' (a + 1) n (λ u le. kept u k (p u) (p' u) (left u) (omega arith)) in
     grind arith)
     (λ ne.
     let h : p a ≡ false = none a (omega arith) in
     let g : p' a ≡ false = absent (p a) (p' a) (a == k) (left a) h in
-    let r : filter p (range_with_len (a + 1) n) ≡ k ∷ filter p' (range_with_len (a + 1) n) = first-filtered p p' (a + 1) n k (omega arith) (omega arith) has none left in
+    let r : filter p (range_with_len (a + 1) n) ≡ k ∷ filter p' (range_with_len (a + 1) n) =
+        first-filtered p p' (a + 1) n k (omega arith) (omega arith) has none left in
     grind arith)
     (cases_eq a k)
   where
@@ -64,16 +103,19 @@ slots_of-lowest s t k l left =
 
 -- how long they are
 
-no_longer-filtered : (p q : ℕ → Bool) (a n : ℕ) → ((u : ℕ) → q u ≡ true → p u ≡ true) → length (filter q (range_with_len a n)) ≤ length (filter p (range_with_len a n))
+no_longer-filtered : (p q : ℕ → Bool) (a n : ℕ) → ((u : ℕ) → q u ≡ true → p u ≡ true)
+    → length (filter q (range_with_len a n)) ≤ length (filter p (range_with_len a n))
 no_longer-filtered p q a zero some = omega arith
 no_longer-filtered p q a (suc n) some = by (p a) (q a) refl refl (no_longer-filtered p q (a + 1) n some)
   where
-    by : (b c : Bool) → p a ≡ b → q a ≡ c → length (filter q (range_with_len (a + 1) n)) ≤ length (filter p (range_with_len (a + 1) n)) → length (filter q (range_with_len a (suc n))) ≤ length (filter p (range_with_len a (suc n)))
+    by : (b c : Bool) → p a ≡ b → q a ≡ c → length (filter q (range_with_len (a + 1) n)) ≤ length (filter p (range_with_len (a + 1) n))
+        → length (filter q (range_with_len a (suc n))) ≤ length (filter p (range_with_len a (suc n)))
     by b true e f rest = let g : p a ≡ true = some a f in grind arith
     by true false e f rest = grind arith
     by false false e f rest = grind arith
 
-shorter-filtered : (p q : ℕ → Bool) (a n k : ℕ) → a ≤ k → k < a + n → p k ≡ true → ((u : ℕ) → q u ≡ (p u && not (u == k))) → length (filter q (range_with_len a n)) < length (filter p (range_with_len a n))
+shorter-filtered : (p q : ℕ → Bool) (a n k : ℕ) → a ≤ k → k < a + n → p k ≡ true → ((u : ℕ) → q u ≡ (p u && not (u == k)))
+    → length (filter q (range_with_len a n)) < length (filter p (range_with_len a n))
 shorter-filtered p q a zero k low high has left = absurd (omega arith)
 shorter-filtered p q a (suc n) k low high has left =
     ⊎_elim here (λ ne. there ne (p a) refl (shorter-filtered p q (a + 1) n k (omega arith) (omega arith) has left)) (cases_eq a k)
@@ -94,7 +136,8 @@ shorter-filtered p q a (suc n) k low high has left =
         let r = no_longer-filtered p q (a + 1) n (λ u. less (p u) (q u) (not (u == k)) (left u)) in
         grind arith
 
-    there : a ≢ k → (b : Bool) → p a ≡ b → length (filter q (range_with_len (a + 1) n)) < length (filter p (range_with_len (a + 1) n)) → length (filter q (range_with_len a (suc n))) < length (filter p (range_with_len a (suc n)))
+    there : a ≢ k → (b : Bool) → p a ≡ b → length (filter q (range_with_len (a + 1) n)) < length (filter p (range_with_len (a + 1) n))
+        → length (filter q (range_with_len a (suc n))) < length (filter p (range_with_len a (suc n)))
     there ne true e rest = let g : q a ≡ true = kept (p a) (q a) (left a) ne ∙ e in grind arith
     there ne false e rest = let g : q a ≡ false = kept (p a) (q a) (left a) ne ∙ e in grind arith
 

@@ -1,5 +1,50 @@
 -- Bits of words: one bit more or less, union, intersection, the lowest bit.
-use Rattle.std.proofs.Common.{◌≡◌, ◌≢◌, ℕ, zero, suc, ◌+◌, ◌-◌, ◌*◌, ◌/◌, ◌%◌, ◌^◌, ◌<◌, ◌≤◌, Bool, true, false, not, ◌&&◌, ◌||◌, ◌==◌, bit_and, bit_or, ⊎_elim, sym, ap, ap₂, ◌∙◌, List, length, get_or, set, replicate, [], ◌∷◌, Option, Some, None, IfSome, IfNone, IsTrue, is_some, refl, mod-lt, arith}
+use Rattle.std.proofs.Common.{
+  ◌≡◌,
+  ◌≢◌,
+  ℕ,
+  zero,
+  suc,
+  ◌+◌,
+  ◌-◌,
+  ◌*◌,
+  ◌/◌,
+  ◌%◌,
+  ◌^◌,
+  ◌<◌,
+  ◌≤◌,
+  Bool,
+  true,
+  false,
+  not,
+  ◌&&◌,
+  ◌||◌,
+  ◌==◌,
+  bit_and,
+  bit_or,
+  ⊎_elim,
+  sym,
+  ap,
+  ap₂,
+  ◌∙◌,
+  List,
+  length,
+  get_or,
+  set,
+  replicate,
+  [],
+  ◌∷◌,
+  Option,
+  Some,
+  None,
+  IfSome,
+  IfNone,
+  IsTrue,
+  is_some,
+  refl,
+  mod-lt,
+  arith,
+}
 use Rattle.std.specs.Int.{bit_at, bit_not, trailing_zeros, w64}
 use Rattle.std.proofs.lemmas.List.{get_or-set_same, get_or-set_other, get_or_past, get_or-replicate, length-replicate}
 use Rattle.std.specs.List.{list_all}
@@ -11,7 +56,20 @@ use Rattle.std.proofs.lemmas.Bool.Decides.{nat_tests}
 use Rattle.gl_wide_slots.specs.Bits.{in_bits, bits_below}
 use Rattle.gl_wide_slots.specs.Limit.{most_slots, most_words}
 use Rattle.gl_wide_slots.specs.Words.{IsFirstWord, in_words, words_below}
-use Rattle.gl_wide_slots.proofs.BitLemmas.{in_bits-zero, in_bits-or, in_bits-and, in_bits-set, in_bits-clear, in_bits-test, in_bits-ones, in_bits-not, in_bits-bits_below, bits_below-lt, bits_below-is, same_slots_below}
+use Rattle.gl_wide_slots.proofs.BitLemmas.{
+  in_bits-zero,
+  in_bits-or,
+  in_bits-and,
+  in_bits-set,
+  in_bits-clear,
+  in_bits-test,
+  in_bits-ones,
+  in_bits-not,
+  in_bits-bits_below,
+  bits_below-lt,
+  bits_below-is,
+  same_slots_below,
+}
 
 -- words that are 0 have no bit
 pub in_words-none : (ws : List ℕ) (u : ℕ) → get_or ws (u / 64) 0 ≡ 0 → in_words ws u ≡ false
@@ -33,7 +91,8 @@ other-slot u k ne = let d : u ≢ k = (λ e. ne (ap (λ n. n / 64) e)) in grind 
 
 -- one word is written, in which one bit changes
 changed : (f : Bool → Bool → Bool) → ((b : Bool) → f b false ≡ b) → (ws : List ℕ) (k n : ℕ) → k / 64 < length ws
-    → ((v : ℕ) → v < 64 → in_bits n v ≡ f (in_bits (get_or ws (k / 64) 0) v) (v == k % 64)) → (u : ℕ) → in_words (set ws (k / 64) n) u ≡ f (in_words ws u) (u == k)
+    → ((v : ℕ) → v < 64 → in_bits n v ≡ f (in_bits (get_or ws (k / 64) 0) v) (v == k % 64)) → (u : ℕ)
+    → in_words (set ws (k / 64) n) u ≡ f (in_words ws u) (u == k)
 changed f rest ws k n low bits u = ⊎_elim here there (cases_eq (u / 64) (k / 64))
   where
     here : u / 64 ≡ k / 64 → in_words (set ws (k / 64) n) u ≡ f (in_words ws u) (u == k)
@@ -50,13 +109,15 @@ changed f rest ws k n low bits u = ⊎_elim here there (cases_eq (u / 64) (k / 6
         ∙ sym (rest (in_words ws u))
         ∙ ap (f (in_words ws u)) (sym (other-slot u k ne))
 
-pub in_words-set : (ws : List ℕ) (k : ℕ) → k / 64 < length ws → (u : ℕ) → in_words (set ws (k / 64) (bit_or (get_or ws (k / 64) 0) (1 * 2 ^ (k % 64) % 2 ^ 64))) u ≡ (in_words ws u || (u == k))
+pub in_words-set : (ws : List ℕ) (k : ℕ) → k / 64 < length ws → (u : ℕ)
+    → in_words (set ws (k / 64) (bit_or (get_or ws (k / 64) 0) (1 * 2 ^ (k % 64) % 2 ^ 64))) u ≡ (in_words ws u || (u == k))
 in_words-set ws k low = changed (λ a b. a || b) (λ b. plain b) ws k _ low (λ v _. in_bits-set (get_or ws (k / 64) 0) (k % 64) (mod-lt k (omega arith)) v)
   where
     plain : (b : Bool) → (b || false) ≡ b
     plain b = grind arith
 
-pub in_words-clear : (ws : List ℕ) (k : ℕ) → k / 64 < length ws → (u : ℕ) → in_words (set ws (k / 64) (bit_and (get_or ws (k / 64) 0) (bit_not w64 (1 * 2 ^ (k % 64) % 2 ^ 64)))) u ≡ (in_words ws u && not (u == k))
+pub in_words-clear : (ws : List ℕ) (k : ℕ) → k / 64 < length ws → (u : ℕ)
+    → in_words (set ws (k / 64) (bit_and (get_or ws (k / 64) 0) (bit_not w64 (1 * 2 ^ (k % 64) % 2 ^ 64)))) u ≡ (in_words ws u && not (u == k))
 in_words-clear ws k low = changed (λ a b. a && not b) (λ b. plain b) ws k _ low (in_bits-clear (get_or ws (k / 64) 0) (k % 64) (mod-lt k (omega arith)))
   where
     plain : (b : Bool) → (b && not false) ≡ b
@@ -124,14 +185,16 @@ module _ (ws : List ℕ) (w : ℕ) (f : IsFirstWord ws w) where
           ap (λ v. in_bits (get_or ws v 0) (u % 64)) e ∙ ap (λ n. n == 1) (below_lowest (u % 64) lt)
 
 -- what `first(words).is_none()` tests
-pub none_first : (ws : List ℕ) (o : Option ℕ) (b : Bool) → IfSome o (IsFirstWord ws) → IfNone o ((w : ℕ) → get_or ws w 0 ≡ 0) → is_some o ≡ not b → IsTrue b → (u : ℕ) → in_words ws u ≡ false
+pub none_first : (ws : List ℕ) (o : Option ℕ) (b : Bool) → IfSome o (IsFirstWord ws) → IfNone o ((w : ℕ) → get_or ws w 0 ≡ 0) → is_some o ≡ not b
+    → IsTrue b → (u : ℕ) → in_words ws u ≡ false
 none_first ws None b some none is e u = in_words-none ws u (none (u / 64))
 none_first ws (Some w) b some none is e u = absurd (clash b is e)
   where
     clash : (b : Bool) → true ≡ not b → b ≡ true → ⊥
     clash b is e = grind arith
 
-pub first_none : (ws : List ℕ) (o : Option ℕ) (b : Bool) → IfSome o (IsFirstWord ws) → IfNone o ((w : ℕ) → get_or ws w 0 ≡ 0) → is_some o ≡ not b → ((u : ℕ) → in_words ws u ≡ false) → IsTrue b
+pub first_none : (ws : List ℕ) (o : Option ℕ) (b : Bool) → IfSome o (IsFirstWord ws) → IfNone o ((w : ℕ) → get_or ws w 0 ≡ 0) → is_some o ≡ not b
+    → ((u : ℕ) → in_words ws u ≡ false) → IsTrue b
 first_none ws None b some none is empty = set_of b is
   where
     set_of : (b : Bool) → false ≡ not b → b ≡ true
@@ -161,7 +224,11 @@ is_idle w = w % 2 ^ 64 == 0
 
 -- words are all idle where no bit is set
 pub idle-none : (ws : List ℕ) → list_all is_idle ws ≡ true → (u : ℕ) → in_words ws u ≡ false
-idle-none ws all u = ⊎_elim (λ inside. none-word (get_or ws (u / 64) 0) (at (u / 64) inside) (u % 64) (mod-lt u (omega arith))) (λ past. in_words-past ws u past) (cases_lt (u / 64) (length ws))
+idle-none ws all u =
+    ⊎_elim
+    (λ inside. none-word (get_or ws (u / 64) 0) (at (u / 64) inside) (u % 64) (mod-lt u (omega arith)))
+    (λ past. in_words-past ws u past)
+    (cases_lt (u / 64) (length ws))
   where
     at : (i : ℕ) → i < length ws → is_idle (get_or ws i 0) ≡ true
     at i inside = by (is_idle (get_or ws i 0)) (list_all is_idle ws) (list_all_at is_idle ws i 0 inside) all
@@ -181,11 +248,18 @@ pub in_words-zeros : (n u : ℕ) → in_words (replicate n 0) u ≡ false
 in_words-zeros n u = in_words-none (replicate n 0) u (each n (u / 64) 0)
   where
     each : (n i d : ℕ) → get_or (replicate n d) i d ≡ d
-    each n i d = ⊎_elim (λ inside. get_or-replicate n i d d inside) (λ past. get_or_past (replicate n d) i d (let e = length-replicate n d in omega arith)) (cases_lt i n)
+    each n i d =
+        ⊎_elim
+        (λ inside. get_or-replicate n i d d inside)
+        (λ past. get_or_past (replicate n d) i d (let e = length-replicate n d in omega arith))
+        (cases_lt i n)
 
 -- what `!word` computes, word by word
-pub in_words-not : (n : ℕ) (a b : List ℕ) → ((w : ℕ) → w < n → get_or b w 0 ≡ bit_not w64 (get_or a w 0)) → ((w : ℕ) → w < n → get_or a w 0 < 2 ^ 64) → (u : ℕ) → u / 64 < n → in_words b u ≡ not (in_words a u)
-in_words-not n a b turned fits u low = ap (λ m. in_bits m (u % 64)) (turned (u / 64) low) ∙ in_bits-not (get_or a (u / 64) 0) (u % 64) (fits (u / 64) low) (mod-lt u (omega arith))
+pub in_words-not : (n : ℕ) (a b : List ℕ) → ((w : ℕ) → w < n → get_or b w 0 ≡ bit_not w64 (get_or a w 0)) → ((w : ℕ) → w < n → get_or a w 0 < 2 ^ 64)
+    → (u : ℕ) → u / 64 < n → in_words b u ≡ not (in_words a u)
+in_words-not n a b turned fits u low =
+    ap (λ m. in_bits m (u % 64)) (turned (u / 64) low)
+    ∙ in_bits-not (get_or a (u / 64) 0) (u % 64) (fits (u / 64) low) (mod-lt u (omega arith))
 
 -- the words of a test
 
@@ -208,7 +282,8 @@ length-words_below (suc n) member = let e = length-words_below n (λ u. member (
 -- below the end the bits are those that pass
 pub in_words-words_below : (n : ℕ) (member : ℕ → Bool) (u : ℕ) → u < n * 64 → in_words (words_below n member) u ≡ member u
 in_words-words_below zero member u within = absurd (omega arith)
-in_words-words_below (suc n) member u within = ⊎_elim here (λ le. there le (in_words-words_below n (λ v. member (64 + v)) (u - 64) (omega arith))) (cases_lt u 64)
+in_words-words_below (suc n) member u within =
+    ⊎_elim here (λ le. there le (in_words-words_below n (λ v. member (64 + v)) (u - 64) (omega arith))) (cases_lt u 64)
   where
     here : u < 64 → in_words (words_below (suc n) member) u ≡ member u
     here lt = in_words-first (bits_below 64 member) (words_below n (λ v. member (64 + v))) u lt ∙ in_bits-bits_below 64 member u lt
@@ -222,7 +297,8 @@ in_words-words_below (suc n) member u within = ⊎_elim here (λ le. there le (i
         ∙ ap member (sym e)
 
 -- words below 2 ^ 64 are those of their bits
-pub words_below-is : (ws : List ℕ) (member : ℕ → Bool) → ((w : ℕ) → w < length ws → get_or ws w 0 < 2 ^ 64) → ((u : ℕ) → u < length ws * 64 → in_words ws u ≡ member u) → ws ≡ words_below (length ws) member
+pub words_below-is : (ws : List ℕ) (member : ℕ → Bool) → ((w : ℕ) → w < length ws → get_or ws w 0 < 2 ^ 64)
+    → ((u : ℕ) → u < length ws * 64 → in_words ws u ≡ member u) → ws ≡ words_below (length ws) member
 words_below-is [] member fits same = refl
 words_below-is (x ∷ xs) member fits same =
     ap₂ (λ y ys. y ∷ ys)

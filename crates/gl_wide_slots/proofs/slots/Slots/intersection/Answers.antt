@@ -9,8 +9,10 @@ returns-clause-both c = in_words-and c.args.self.words c.args.other.words c.keep
 
 pub returns-clause-no_more : goal.returns-clause-no_more
 returns-clause-no_more c =
-    no_more c.args.self (record { words = c.keep.new.words })
-    (λ u has. left (in_words c.args.self.words u) (in_words c.args.other.words u) (sym (in_words-and c.args.self.words c.args.other.words c.keep.new.words c.keep.ensures u) ∙ has))
+    no_more c.args.self (record { words = c.keep.new.words }) (λ u has. left _ (in_words c.args.other.words u) (sym (both u) ∙ has))
   where
+    both : (u : ℕ) → in_words c.keep.new.words u ≡ (in_words c.args.self.words u && in_words c.args.other.words u)
+    both = in_words-and c.args.self.words c.args.other.words c.keep.new.words c.keep.ensures
+
     left : (a b : Bool) → (a && b) ≡ true → a ≡ true
     left a b e = grind arith
