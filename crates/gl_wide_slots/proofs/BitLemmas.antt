@@ -1,36 +1,5 @@
 -- Bits of numbers: union, intersection, one bit more or less, the lowest bit.
-use Rattle.std.proofs.Common.{
-  ◌≡◌,
-  ◌≢◌,
-  ℕ,
-  zero,
-  suc,
-  ◌+◌,
-  ◌-◌,
-  ◌*◌,
-  ◌/◌,
-  ◌%◌,
-  ◌^◌,
-  ◌<◌,
-  ◌≤◌,
-  Bool,
-  true,
-  false,
-  cond,
-  ltb,
-  not,
-  ◌&&◌,
-  ◌||◌,
-  ◌==◌,
-  bit_and,
-  bit_or,
-  ⊎_elim,
-  sym,
-  ap,
-  ◌∙◌,
-  pow-suc,
-  arith,
-}
+use Rattle.std.proofs.Common.{◌≡◌, ◌≢◌, ℕ, zero, suc, ◌+◌, ◌-◌, ◌*◌, ◌/◌, ◌%◌, ◌^◌, ◌<◌, ◌≤◌, Bool, true, false, cond, not, ◌&&◌, ◌||◌, ◌==◌, bit_and, bit_or, sym, ap, ◌∙◌, pow-suc, arith}
 use Rattle.std.specs.Int.{bit_at, bit_not, w64}
 use Rattle.std.proofs.lemmas.Nat.{one_shl, pow_pos}
 use Rattle.std.proofs.lemmas.Nat.Bits.{
@@ -51,7 +20,6 @@ use Rattle.std.proofs.lemmas.Nat.Bits.{
   same_from_bits,
   same_from_bits_below,
 }
-use Rattle.std.proofs.lemmas.Bool.{cases_lt}
 use Rattle.std.proofs.lemmas.Bool.Decides.{nat_tests}
 use Rattle.gl_wide_slots.specs.Bits.{in_bits, bits_below}
 

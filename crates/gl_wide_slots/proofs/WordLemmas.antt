@@ -54,7 +54,7 @@ use Rattle.std.proofs.lemmas.Nat.{div-add-mod'}
 use Rattle.std.proofs.lemmas.Bool.{cases_lt, cases_eq}
 use Rattle.std.proofs.lemmas.Bool.Decides.{nat_tests}
 use Rattle.gl_wide_slots.specs.Bits.{in_bits, bits_below}
-use Rattle.gl_wide_slots.specs.Limit.{most_slots, most_words}
+use Rattle.gl_wide_slots.specs.Limit.{most_slots}
 use Rattle.gl_wide_slots.specs.Words.{IsFirstWord, in_words, words_below}
 use Rattle.gl_wide_slots.proofs.BitLemmas.{
   in_bits-zero,
