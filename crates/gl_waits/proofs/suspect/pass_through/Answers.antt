@@ -1,4 +1,4 @@
-use Rattle.std.proofs.Common.{◌≡◌, ◌≢◌, ℕ, ◌+◌, ⊎_elim, Bool, true, false, ◌&&◌, ◌||◌, nat_lt, List, length, get_or, set, ◌<◌, sym, ap, ap₂, ◌∙◌, subst, arith}
+use Rattle.std.proofs.Common.{◌≡◌, ◌≢◌, ℕ, ◌+◌, ⊎_elim, Bool, true, false, ◌&&◌, ◌||◌, nat_lt, List, length, get_or, set, ◌<◌, ◌≤◌, refl, sym, ap, ap₂, ◌∙◌, subst, arith}
 use Rattle.std.proofs.lemmas.Bool.{cases_eq}
 use Rattle.std.proofs.lemmas.Bool.Decides.{nat_tests}
 use Rattle.std.proofs.lemmas.List.{get_or-set_same, get_or-set_other, set-get_or}
@@ -49,6 +49,21 @@ passed_skip before now after middle beyond d i passed has inside is =
   where
     same : (a b has : Bool) → has ≡ false → a ≡ (a || (has && b))
     same a b has e = grind (arith, nat_tests)
+
+-- all rows have it
+passed_all : (before now : List Slots) (middle : ℕ) (d : Slots) (i : ℕ) → IsPassed before now middle (get_or before middle d) i → length before ≤ i → middle < length before
+    → (s u : ℕ) → row_edge now s u ≡ (row_edge before s u || (row_edge before s middle && row_edge before middle u))
+passed_all before now middle d i passed all inside s u =
+    passed s u
+    ∙ ap (λ b. row_edge before s u || (nat_lt s i && (row_edge before s middle && b))) (row_edge-read before middle u d inside)
+    ∙ by (row_edge before s u) (row_edge before s middle) (row_edge before middle u) (row_edge-inside before s middle)
+  where
+    by : (a h b : Bool) → (h ≡ true → s < length before) → (a || (nat_lt s i && (h && b))) ≡ (a || (h && b))
+    by a true b low = let k = low refl in let j : s < i = omega arith in grind (arith, nat_tests)
+    by a false b low = grind (arith, nat_tests)
+
+pub returns : goal.returns
+returns c = passed_all c.args.reaches.now c.loop-slot.reaches c.args.middle _ c.loop-slot.slot c.loop-slot.invariant.1 (omega arith) (omega arith)
 
 pub loop-slot-preserved : goal.loop-slot-preserved
 loop-slot-preserved c = (
