@@ -51,11 +51,13 @@ copy_sources() {
 copy_sources || { echo "wide.sh: the crates could not be copied to $scratch" >&2; exit 2; }
 
 if [ "$#" -gt 0 ]; then crates=("$@"); else mapfile -t crates < <(below gl_c); fi
-for name in "${crates[@]}"; do
-  # What stands on no slots was mostly proved before: it is the same there.
+# What stands on no slots is the same there: what was proved of it is taken along.
+for name in $(for each in "${crates[@]}"; do below "$each"; done | sort -u); do
   if ! below "$name" | grep -qx gl_slots && [ -d "$top/crates/$name/out" ] && [ ! -e "$scratch/crates/$name/out" ]; then
     cp -a "$top/crates/$name/out" "$scratch/crates/$name/out" || exit 2
   fi
+done
+for name in "${crates[@]}"; do
   log=$scratch/$name.log
   if (cd "$scratch/crates/$name" && rt check) >"$log" 2>&1; then
     echo "wide.sh: $name proved"

@@ -10,14 +10,12 @@ use Rattle.std.proofs.lemmas.Nat.Bits.{
   bit_at-lt,
   bit_at_and,
   bit_at_or,
-  bit_at_above,
   bit_at_set_same,
   bit_at_set_other,
   bit_at_clear_same,
   bit_at_clear_other,
   bit_at_ones,
   and_pow,
-  same_from_bits,
   same_from_bits_below,
 }
 use Rattle.std.proofs.lemmas.Bool.Decides.{nat_tests}
@@ -25,10 +23,6 @@ use Rattle.gl_wide_slots.specs.Bits.{in_bits, bits_below}
 
 pub in_bits-zero : (u : ℕ) → in_bits 0 u ≡ false
 in_bits-zero u = let e = bit_at-zero u in grind (arith, nat_tests)
-
--- a set of slots below n has no slot from n on
-pub in_bits-above : (set n u : ℕ) → set < 2 ^ n → n ≤ u → in_bits set u ≡ false
-in_bits-above set n u small above = let e = bit_at_above set n u small above in grind (arith, nat_tests)
 
 pub in_bits-or : (a b u : ℕ) → in_bits (bit_or a b) u ≡ (in_bits a u || in_bits b u)
 in_bits-or a b u =
@@ -44,17 +38,7 @@ in_bits-and a b u =
     let y = bit_at-lt b u in
     grind (arith, nat_tests)
 
--- sets with the same slots are one number
-pub same_slots : (a b : ℕ) → ((u : ℕ) → in_bits a u ≡ in_bits b u) → a ≡ b
-same_slots a b same = same_from_bits a b each
-  where
-    each : (u : ℕ) → bit_at a u ≡ bit_at b u
-    each u =
-        let e = same u in
-        let x = bit_at-lt a u in
-        let y = bit_at-lt b u in
-        grind (arith, nat_tests)
-
+-- numbers with the same bits are one
 pub same_slots_below : (n a b : ℕ) → a < 2 ^ n → b < 2 ^ n → ((u : ℕ) → u < n → in_bits a u ≡ in_bits b u) → a ≡ b
 same_slots_below n a b small_a small_b same = same_from_bits_below n a b small_a small_b each
   where
@@ -64,10 +48,6 @@ same_slots_below n a b small_a small_b same = same_from_bits_below n a b small_a
         let x = bit_at-lt a u in
         let y = bit_at-lt b u in
         grind (arith, nat_tests)
-
--- a set without slots is 0
-pub no_bit-zero : (set : ℕ) → ((u : ℕ) → in_bits set u ≡ false) → set ≡ 0
-no_bit-zero set none = same_slots set 0 (λ u. none u ∙ sym (in_bits-zero u))
 
 -- one slot more, one slot less
 
