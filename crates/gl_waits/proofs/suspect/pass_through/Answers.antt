@@ -32,7 +32,8 @@ passed_row before now after middle beyond i passed others this s u =
     (cases_eq s i)
 
 -- the row has the middle, and what lies beyond is added
-passed_write : (before now after : List Slots) (middle : ℕ) (beyond row d : Slots) (i : ℕ) → IsPassed before now middle beyond i → has_slot (get_or now i d) middle ≡ true → i < length now
+passed_write : (before now after : List Slots) (middle : ℕ) (beyond row d : Slots) (i : ℕ) → IsPassed before now middle beyond i
+    → has_slot (get_or now i d) middle ≡ true → i < length now
     → ((u : ℕ) → has_slot row u ≡ (has_slot (get_or now i d) u || has_slot beyond u)) → after ≡ set now i row → IsPassed before after middle beyond (i + 1)
 passed_write before now after middle beyond row d i passed has inside grown is =
     passed_row before now after middle beyond i passed
@@ -41,7 +42,8 @@ passed_write before now after middle beyond row d i passed has inside grown is =
     ∙ ap₂ (λ a b. a || (b && has_slot beyond u)) (row_edge-read now i u d inside) (sym has ∙ row_edge-read now i middle d inside))
 
 -- the row has it not, and stays
-passed_skip : (before now after : List Slots) (middle : ℕ) (beyond d : Slots) (i : ℕ) → IsPassed before now middle beyond i → has_slot (get_or now i d) middle ≡ false → i < length now → after ≡ now → IsPassed before after middle beyond (i + 1)
+passed_skip : (before now after : List Slots) (middle : ℕ) (beyond d : Slots) (i : ℕ) → IsPassed before now middle beyond i
+    → has_slot (get_or now i d) middle ≡ false → i < length now → after ≡ now → IsPassed before after middle beyond (i + 1)
 passed_skip before now after middle beyond d i passed has inside is =
     passed_row before now after middle beyond i passed
     (λ s u ne. ap (λ xs. row_edge xs s u) is)
@@ -51,7 +53,8 @@ passed_skip before now after middle beyond d i passed has inside is =
     same a b has e = grind (arith, nat_tests)
 
 -- all rows have it
-passed_all : (before now : List Slots) (middle : ℕ) (d : Slots) (i : ℕ) → IsPassed before now middle (get_or before middle d) i → length before ≤ i → middle < length before
+passed_all : (before now : List Slots) (middle : ℕ) (d : Slots) (i : ℕ) → IsPassed before now middle (get_or before middle d) i
+    → length before ≤ i → middle < length before
     → (s u : ℕ) → row_edge now s u ≡ (row_edge before s u || (row_edge before s middle && row_edge before middle u))
 passed_all before now middle d i passed all inside s u =
     passed s u
@@ -69,8 +72,10 @@ pub loop-slot-preserved : goal.loop-slot-preserved
 loop-slot-preserved c = (
   c.if-contains.array_long,
   elim c.if-contains.branch [
-    | then-contains w ↦ passed_write c.args.reaches.now c.loop-slot.reaches c.if-contains.reaches c.args.middle _ w.union.result _ c.loop-slot.slot c.loop-slot.invariant.1 (sym c.contains.ensures ∙ w.if-contains.true) inside w.union.ensures w.reaches-is
-    | else-contains w ↦ passed_skip c.args.reaches.now c.loop-slot.reaches c.if-contains.reaches c.args.middle _ _ c.loop-slot.slot c.loop-slot.invariant.1 (sym c.contains.ensures ∙ w.if-contains.false) inside w.reaches-is
+    | then-contains w ↦ passed_write c.args.reaches.now c.loop-slot.reaches c.if-contains.reaches c.args.middle _ w.union.result _ c.loop-slot.slot
+        c.loop-slot.invariant.1 (sym c.contains.ensures ∙ w.if-contains.true) inside w.union.ensures w.reaches-is
+    | else-contains w ↦ passed_skip c.args.reaches.now c.loop-slot.reaches c.if-contains.reaches c.args.middle _ _ c.loop-slot.slot c.loop-slot.invariant.1
+        (sym c.contains.ensures ∙ w.if-contains.false) inside w.reaches-is
   ],
 )
   where

@@ -34,4 +34,7 @@ loop-slot-preserved c = (
 
     at : (s u : ℕ) → s ≡ c.loop-slot.slot → row_edge (set c.loop-slot.rows c.loop-slot.slot c.from_bits.result) s u ≡ (nat_lt s (c.loop-slot.slot + 1) && board_edge c.args.board.now s u)
     at s u is = subst (λ x. row_edge (set c.loop-slot.rows c.loop-slot.slot c.from_bits.result) x u ≡ (nat_lt x (c.loop-slot.slot + 1) && board_edge c.args.board.now x u)) (sym is)
-        (row_edge-set_same c.loop-slot.rows c.loop-slot.slot u c.from_bits.result inside ∙ c.from_bits.ensures u ∙ bit_edge-read c.args.board.now.rows c.loop-slot.slot u _ (omega arith) ∙ this c.loop-slot.slot (board_edge c.args.board.now c.loop-slot.slot u))
+        (row_edge-set_same c.loop-slot.rows c.loop-slot.slot u c.from_bits.result inside
+        ∙ c.from_bits.ensures u
+        ∙ bit_edge-read c.args.board.now.rows c.loop-slot.slot u _ (omega arith)
+        ∙ this c.loop-slot.slot (board_edge c.args.board.now c.loop-slot.slot u))

@@ -11,8 +11,13 @@ turned b u s = grind (arith, nat_tests)
 
 pub returns : goal.returns
 returns c u =
-    subst (λ (x : HeaderState). has_slot c.without.result u ≡ (not (c.args.slot == u) && (not (are_compatible c.args.wanted (members_of x u)) || is_ahead x.queue c.args.slot u)))
+    subst
+    (λ (x : HeaderState).
+        has_slot c.without.result u
+        ≡ (not (c.args.slot == u) && (not (are_compatible c.args.wanted (members_of x u)) || is_ahead x.queue c.args.slot u)))
     c.self.view_is
     (c.without.ensures.left u
-    ∙ ap (λ b. b && not (u == c.args.slot)) (c.union.ensures u ∙ ap₂ (λ a b. a || b) (c.opposed-opposed.ensures u) (c.ahead_of.ensures u ∙ ap (λ q. is_ahead q c.args.slot u) c.deref.ensures))
+    ∙ ap (λ b. b && not (u == c.args.slot))
+    (c.union.ensures u
+    ∙ ap₂ (λ a b. a || b) (c.opposed-opposed.ensures u) (c.ahead_of.ensures u ∙ ap (λ q. is_ahead q c.args.slot u) c.deref.ensures))
     ∙ turned _ u c.args.slot)
