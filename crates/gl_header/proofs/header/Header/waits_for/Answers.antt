@@ -13,8 +13,8 @@ pub returns : goal.returns
 returns c u =
     subst
     (λ (x : HeaderState).
-        has_slot c.without.result u
-        ≡ (not (c.args.slot == u) && (not (are_compatible c.args.wanted (members_of x u)) || is_ahead x.queue c.args.slot u)))
+    has_slot c.without.result u
+    ≡ (not (c.args.slot == u) && (not (are_compatible c.args.wanted (members_of x u)) || is_ahead x.queue c.args.slot u)))
     c.self.view_is
     (c.without.ensures.left u
     ∙ ap (λ b. b && not (u == c.args.slot))
