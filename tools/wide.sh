@@ -10,7 +10,9 @@ scratch=
 if [ "${1:-}" = --in ]; then
   [ "$#" -ge 2 ] || { echo "usage: tools/wide.sh [--in FOLDER] [CRATE..]" >&2; exit 2; }
   mkdir -p "$2" && scratch=$(cd "$2" && pwd) || exit 2
-  [ "$scratch" != "$top" ] || { echo "wide.sh: FOLDER is the repository itself" >&2; exit 2; }
+  # What stands there is overwritten, so it must be new or of an earlier run.
+  [ -e "$scratch/.wide" ] || [ -z "$(ls -A "$scratch")" ] || { echo "wide.sh: $2 has files, and none of this script" >&2; exit 2; }
+  touch "$scratch/.wide" || exit 2
   shift 2
 fi
 for name in "$@"; do
