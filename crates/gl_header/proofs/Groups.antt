@@ -229,3 +229,47 @@ module _ (old : Members) (r : Group) (s : ℕ) (k : IsGroup r) (e : held_by r �
       (λ t. split (has_slot r.holders u)
       (λ h. holder-mode (record { mode = m; holders = j; intents = r.intents }) u (at-other _ _ u s (w u) t ∙ h) ∙ (sym (one-mode m other lock f in_range u h) ∙ (sym (holder-mode r u h) ∙ (ap (λ (g : Members). g u) e ∙ (there old s NL u t ∙ sym (there old s m u t))))))
       (λ h. ap (λ b. cond b m (cond (has_slot r.intents u) IS NL)) (at-other _ _ u s (w u) t ∙ h) ∙ (sym (ap (λ b. cond b r.mode (cond (has_slot r.intents u) IS NL)) h) ∙ (ap (λ (g : Members). g u) e ∙ (there old s NL u t ∙ sym (there old s m u t)))))))
+
+-- a release: g is the group before it
+
+-- j is the set i without s
+abbrev pub IsWithoutSlot : Slots → ℕ → Slots → Type 0
+IsWithoutSlot i s j = (u : ℕ) → has_slot j u ≡ (has_slot i u && not (u == s))
+
+left-at : (a b t : Bool) → b ≡ (a && not t) → t ≡ true → b ≡ false
+left-at a b t h e = grind arith
+
+left-other : (a b t : Bool) → b ≡ (a && not t) → t ≡ false → b ≡ a
+left-other a b t h e = grind arith
+
+left-none : (a b t : Bool) → b ≡ (a && not t) → a ≡ false → b ≡ false
+left-none a b t h e = grind arith
+
+left-from : (a b t : Bool) → b ≡ (a && not t) → b ≡ true → a ≡ true
+left-from a b t h e = grind arith
+
+pub released-group : (g : Group) (s : ℕ) (h i : Slots) → IsGroup g → IsWithoutSlot g.holders s h → IsWithoutSlot g.intents s i → (HasNoSlot h → ⊥)
+    → IsGroup (record { mode = g.mode; holders = h; intents = i })
+released-group g s h i k wh wi some = record {
+  apart = λ u x. left-none _ _ _ (wi u) (k.apart u (left-from _ _ _ (wh u) x));
+  not_IS = k.not_IS;
+  idle = λ none. absurd (some none);
+  free = λ n u. left-none _ _ _ (wh u) (k.free n u);
+  holders_below = λ u le. left-none _ _ _ (wh u) (k.holders_below u le);
+  intents_below = λ u le. left-none _ _ _ (wi u) (k.intents_below u le);
+}
+
+-- who holds the group's mode still, holds what it held
+pub released-held : (g : Group) (s : ℕ) (m : Mode) (h i : Slots) → IsWithoutSlot g.holders s h → IsWithoutSlot g.intents s i
+    → ((u : ℕ) → has_slot h u ≡ true → m ≡ g.mode) → held_by (record { mode = m; holders = h; intents = i }) ≡ with_mode (held_by g) s NL
+released-held g s m h i wh wi same = fun_ext (λ u.
+    split (u == s)
+    (λ t. ap₂ (λ a b. cond a m (cond b IS NL)) (left-at _ _ _ (wh u) t) (left-at _ _ _ (wi u) t) ∙ sym (here (held_by g) s NL u t))
+    (λ t. split (has_slot g.holders u)
+    (λ a. ap (λ b. cond b m (cond (has_slot i u) IS NL)) (left-other _ _ _ (wh u) t ∙ a)
+    ∙ same u (left-other _ _ _ (wh u) t ∙ a)
+    ∙ sym (holder-mode g u a)
+    ∙ sym (there (held_by g) s NL u t))
+    (λ a. ap₂ (λ x y. cond x m (cond y IS NL)) (left-other _ _ _ (wh u) t ∙ a) (left-other _ _ _ (wi u) t)
+    ∙ sym (ap (λ b. cond b g.mode (cond (has_slot g.intents u) IS NL)) a)
+    ∙ sym (there (held_by g) s NL u t))))

@@ -2,7 +2,7 @@
 use Rattle.gl_slots.specs.Limit.{most_slots}
 use Rattle.std.proofs.Common.{◌≡◌, ℕ, Bool, true, false, ◌&&◌, not, cond, List, [], ◌∷◌, ◌∙◌, refl, ap, ap₂, arith}
 use Rattle.std.proofs.Math.Path.{fun_ext}
-use Rattle.gl_slots.proofs.BitLemmas.{in_bits-zero}
+use Rattle.gl_slots.proofs.SlotLemmas.{no_slots-none}
 use Rattle.std.specs.Prelude.{◌⊎◌}
 use Rattle.std.proofs.Common.{inl, inr, ⊎_elim}
 use Rattle.gl_modes.specs.declared.mode.Mode.{Mode}
@@ -57,7 +57,7 @@ unused-false h u =
 
 -- nobody holds an unused header
 pub unused-nobody : members_of unused_header ≡ (λ _. NL)
-unused-nobody = fun_ext (λ t. ap₂ (λ a b. cond a NL (cond b IS NL)) (in_bits-zero t) (in_bits-zero t))
+unused-nobody = fun_ext (λ t. ap₂ (λ a b. cond a NL (cond b IS NL)) (no_slots-none t) (no_slots-none t))
 
 -- an unused header is not needed
 pub unused-unused : is_unused unused_header ≡ true

@@ -3,7 +3,7 @@ use Rattle.std.proofs.Common.{◌≡◌, ◌≢◌, ℕ, ◌<◌, ◌≤◌, ⊎
 use Rattle.std.specs.List.{range_with_len}
 use Rattle.std.proofs.lemmas.Bool.{cases_lt, false_from_ne_true}
 use Rattle.std.proofs.lemmas.List.FromFn.{get_or-map-range_with_len, length-map-range_with_len}
-use Rattle.std.proofs.lemmas.List.{get_or_past, get_or-replicate, get_or-set_other, get_or-set_same, length-replicate}
+use Rattle.std.proofs.lemmas.List.{get_or_default, get_or_past, get_or-replicate, get_or-set_other, get_or-set_same, length-replicate}
 use Rattle.gl_slots.specs.declared.slots.Slots.{Slots}
 use Rattle.gl_slots.specs.Limit.{most_slots}
 use Rattle.gl_slots.specs.Slots.{Bits, bits_of, has_bit, has_slot, no_bits, no_slots}
@@ -23,6 +23,13 @@ empty_rows rows empty s u = false_from_ne_true (row_edge rows s u) (λ h. cc (em
 
 pub row_edge-replicate : (n s u : ℕ) → row_edge (replicate n no_slots) s u ≡ false
 row_edge-replicate n = empty_rows (replicate n no_slots) (λ s u low. let e = length-replicate {A = Slots} n no_slots in let inside : s < n = omega arith in empty_row (replicate n no_slots) s u (get_or-replicate n s no_slots no_slots inside))
+
+-- a row that is read, whatever a read past the end would give
+pub row_edge-read : (rows : List Slots) (i u : ℕ) (d : Slots) → i < length rows → has_slot (get_or rows i d) u ≡ row_edge rows i u
+row_edge-read rows i u d inside = ap (λ set. has_slot set u) (get_or_default rows i d no_slots inside)
+
+pub bit_edge-read : (rows : List Bits) (i u : ℕ) (d : Bits) → i < length rows → has_bit (get_or rows i d) u ≡ has_bit (get_or rows i no_bits) u
+bit_edge-read rows i u d inside = ap (λ bits. has_bit bits u) (get_or_default rows i d no_bits inside)
 
 -- a row that is written, and the others
 pub row_edge-set_same : (rows : List Slots) (i u : ℕ) (row : Slots) → i < length rows → row_edge (set rows i row) i u ≡ has_slot row u

@@ -5,7 +5,7 @@ use Rattle.std.proofs.lemmas.List.{length-replicate, length-set}
 use Rattle.gl_slots.specs.Limit.{most_slots}
 use Rattle.gl_slots.specs.Slots.{no_slots}
 use Rattle.gl_waits.specs.Boards.{board_edge, row_edge}
-use Rattle.gl_waits.proofs.BoardLemmas.{row_edge-replicate, row_edge-set_same, row_edge-set_other}
+use Rattle.gl_waits.proofs.BoardLemmas.{bit_edge-read, row_edge-replicate, row_edge-set_same, row_edge-set_other}
 use Rattle.gl_waits.proofs.suspect.rows_in.Goals as goal
 
 none-below : (s : ℕ) (b : Bool) → (nat_lt s 0 && b) ≡ false
@@ -34,4 +34,7 @@ loop-slot-preserved c = (
 
     at : (s u : ℕ) → s ≡ c.loop-slot.slot → row_edge (set c.loop-slot.rows c.loop-slot.slot c.from_bits.result) s u ≡ (nat_lt s (c.loop-slot.slot + 1) && board_edge c.args.board.now s u)
     at s u is = subst (λ x. row_edge (set c.loop-slot.rows c.loop-slot.slot c.from_bits.result) x u ≡ (nat_lt x (c.loop-slot.slot + 1) && board_edge c.args.board.now x u)) (sym is)
-        (row_edge-set_same c.loop-slot.rows c.loop-slot.slot u c.from_bits.result inside ∙ c.from_bits.ensures u ∙ this c.loop-slot.slot (board_edge c.args.board.now c.loop-slot.slot u))
+        (row_edge-set_same c.loop-slot.rows c.loop-slot.slot u c.from_bits.result inside
+        ∙ c.from_bits.ensures u
+        ∙ bit_edge-read c.args.board.now.rows c.loop-slot.slot u _ (omega arith)
+        ∙ this c.loop-slot.slot (board_edge c.args.board.now c.loop-slot.slot u))

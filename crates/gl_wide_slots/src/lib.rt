@@ -1,0 +1,8 @@
+//! Slots, of which each living transaction has one, and sets of them. This crate alone knows how many slots there are,
+//! and how wide a set is: here 1,024, as the bits of words.
+#![tactic(auto)]
+
+mod slots;
+mod words;
+
+pub use slots::{Bits, Iter, NO_BITS, SLOTS, Slot, Slots};
