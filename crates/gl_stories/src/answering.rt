@@ -84,7 +84,11 @@ pub fn shed(table: &mut Table, t: TxnId, n: NodeId) -> Came {
         return Came::Unasked;
     }
     let (released, kept, told) = table.shed(t, n);
-    Came::Shed(released, kept, told.as_slice().first().copied())
+    match told.as_slice() {
+        [] => Came::Shed(released, kept, None),
+        [one] => Came::Shed(released, kept, Some(*one)),
+        more => Came::TellsMany(more.len()),
+    }
 }
 
 const DB: NodeId = N1;
