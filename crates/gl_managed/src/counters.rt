@@ -1,326 +1,273 @@
 //! What a manager counts: each counter rises, and refused commands and queries leave them all, but for
 //! what would have had to wait.
 
-use crate::wanted::{allowed, same};
-use gl_catalog::{Answer, Command, Counters, Escalated, Manager};
-use gl_modes::{Mode, NodeId, Refusal};
-use gl_table::{Detect, TxnId};
-use std::alloc::Global;
-use std::process::Abort;
+use crate::story::{A, Ask, B, C, N1, N2, N3, N4, N5, N6, NOTHING, Step, play};
+use gl_catalog::{Answer, Counters, Escalated};
+use gl_modes::Mode::{IS, IX, S, X};
+use gl_modes::{NodeId, Refusal};
+use gl_table::TxnId;
 
-/// A manager that stories are told of.
-#[derive(Drop)]
-struct Desk {
-    manager: Manager,
-}
+const DB: NodeId = N1;
 
-impl Desk {
-    fn open(alloc: Global) -> Result<Desk, Refusal> {
-        let manager = Manager::new(alloc, Detect::AtBlock, 4)?;
-        Ok(Desk { manager })
-    }
+const FILE: NodeId = N2;
 
-    fn ask(&mut self, command: Command<'_>) -> Answer {
-        self.manager.apply(command).answer
-    }
+/// A root.
+const ROOT: &[Step] = &[Step::Ask(Ask::Inner(&[]), Answer::Node(DB))];
 
-    fn root(&mut self) -> NodeId {
-        self.node(Command::Inner { parents: &[] })
-    }
+/// A file under it.
+const FILED: &[Step] = &[Step::Ask(Ask::File(&[DB]), Answer::Node(FILE))];
 
-    fn file(&mut self, parent: NodeId) -> NodeId {
-        self.node(Command::File { parents: &[parent] })
-    }
-
-    fn node(&mut self, command: Command<'_>) -> NodeId {
-        match self.ask(command) {
-            Answer::Node(node) => node,
-            _ => NodeId::NONE,
-        }
-    }
-
-    /// An index of a file, with two intervals that this key parts.
-    fn index(&mut self, parent: NodeId, file: NodeId, key: u64) -> NodeId {
-        self.node(Command::Index {
-            parents: &[parent],
-            file,
-            bounds: &[key],
-        })
-    }
-
-    fn interval(&self, index: NodeId, place: usize) -> NodeId {
-        self.manager
-            .graph()
-            .interval(index, place)
-            .unwrap_or(NodeId::NONE)
-    }
-
-    fn begin(&mut self) -> TxnId {
-        match self.ask(Command::Begin) {
-            Answer::Begun(txn) => txn,
-            _ => TxnId::NONE,
-        }
-    }
-
-    fn lock(&mut self, txn: TxnId, node: NodeId, mode: Mode) -> Answer {
-        self.ask(Command::Lock { txn, node, mode })
-    }
-
-    fn try_lock(&mut self, txn: TxnId, node: NodeId, mode: Mode) -> Answer {
-        self.ask(Command::Try { txn, node, mode })
-    }
-
-    /// Locks that are granted at once in the asked mode.
-    fn take(&mut self, rt: &impl Abort, txn: TxnId, node: NodeId, mode: Mode) {
-        same(rt, self.lock(txn, node, mode), Answer::Granted(mode));
-    }
-
-    fn has_counted(&self, rt: &impl Abort, wanted: Counters) {
-        same(rt, self.manager.counters(), wanted);
-    }
-}
+/// Two transactions, the older first.
+const PAIR: &[Step] = &[
+    Step::Ask(Ask::Begin, Answer::Begun(A)),
+    Step::Ask(Ask::Begin, Answer::Begun(B)),
+];
 
 /// A file under a root that one transaction holds in X, and two others that only read the root.
-fn held_file(rt: &impl Abort, desk: &mut Desk) -> (NodeId, TxnId, TxnId, TxnId) {
-    let db = desk.root();
-    let file = desk.file(db);
-    let a = desk.begin();
-    let b = desk.begin();
-    let c = desk.begin();
-    desk.take(rt, a, db, Mode::IX);
-    desk.take(rt, a, db, Mode::IX);
-    desk.take(rt, a, file, Mode::X);
-    desk.take(rt, b, db, Mode::IS);
-    same(
-        rt,
-        desk.try_lock(c, db, Mode::IS),
-        Answer::Granted(Mode::IS),
-    );
-    (file, a, b, c)
-}
+const HELD_FILE: &[Step] = &[
+    Step::Ask(Ask::Begin, Answer::Begun(C)),
+    Step::Ask(Ask::Lock(A, IX, DB), Answer::Granted(IX)),
+    Step::Ask(Ask::Lock(A, IX, DB), Answer::Granted(IX)),
+    Step::Ask(Ask::Lock(A, X, FILE), Answer::Granted(X)),
+    Step::Ask(Ask::Lock(B, IS, DB), Answer::Granted(IS)),
+    Step::Ask(Ask::Try(C, IS, DB), Answer::Granted(IS)),
+];
 
 #[test]
 fn a_new_manager_has_counted_nothing(rt: HostRuntime) {
-    let desk = allowed(&rt, Desk::open(rt.alloc()));
-    desk.has_counted(&rt, Counters::default());
+    play(&rt, rt.alloc(), &[&[Step::Counted(NOTHING)]]);
 }
+
+/// Two have waited for the file at once.
+const TWO_WAIT: Counters = Counters {
+    granted: 5,
+    waited: 2,
+    conversions: 1,
+    most_waiting: 2,
+    longest_queue: 2,
+    ..NOTHING
+};
 
 #[test]
 fn asks_and_waits_are_counted(rt: HostRuntime) {
-    let mut desk = allowed(&rt, Desk::open(rt.alloc()));
-    let (file, a, b, c) = held_file(&rt, &mut desk);
-    let blocked = desk.try_lock(c, file, Mode::S);
-    same(&rt, blocked, Answer::Refused(Refusal::WouldBlock));
-    same(&rt, desk.lock(b, file, Mode::S), Answer::Waiting);
-    same(&rt, desk.lock(c, file, Mode::S), Answer::Waiting);
-    let mut wanted = Counters {
-        granted: 5,
-        waited: 2,
-        conversions: 1,
-        most_waiting: 2,
-        longest_queue: 2,
-        ..Counters::default()
+    const WOULD_BLOCK: Answer = Answer::Refused(Refusal::WouldBlock);
+    const LATER: Counters = Counters {
+        granted_later: 2,
+        ..TWO_WAIT
     };
-    desk.has_counted(&rt, wanted);
-    same(&rt, desk.ask(Command::Commit { txn: a }), Answer::Done);
-    wanted.granted_later = 2;
-    desk.has_counted(&rt, wanted);
+    const WAITS: &[Step] = &[
+        Step::Ask(Ask::Try(C, S, FILE), WOULD_BLOCK),
+        Step::Ask(Ask::Lock(B, S, FILE), Answer::Waiting),
+        Step::Ask(Ask::Lock(C, S, FILE), Answer::Waiting),
+        Step::Counted(TWO_WAIT),
+        Step::Tells(Ask::Commit(A), Answer::Done, 2),
+        Step::Counted(LATER),
+    ];
+    play(&rt, rt.alloc(), &[ROOT, FILED, PAIR, HELD_FILE, WAITS]);
 }
+
+/// One waits for the file.
+const ONE_WAITS: Counters = Counters {
+    granted: 5,
+    waited: 1,
+    conversions: 1,
+    most_waiting: 1,
+    longest_queue: 1,
+    ..NOTHING
+};
 
 #[test]
 fn refusals_and_queries_are_not_counted(rt: HostRuntime) {
-    let mut desk = allowed(&rt, Desk::open(rt.alloc()));
-    let (file, a, b, _) = held_file(&rt, &mut desk);
-    same(&rt, desk.lock(b, file, Mode::S), Answer::Waiting);
-    let before = desk.manager.counters();
-    let waiting = Answer::Refused(Refusal::TxnWaiting);
-    same(&rt, desk.lock(b, file, Mode::S), waiting);
-    same(&rt, desk.ask(Command::Commit { txn: b }), waiting);
-    let nowhere = desk.lock(a, NodeId::NONE, Mode::S);
-    same(&rt, nowhere, Answer::Refused(Refusal::NoSuchNode));
-    let nobody = desk.try_lock(TxnId::NONE, file, Mode::S);
-    same(&rt, nobody, Answer::Refused(Refusal::NoSuchTxn));
-    let held = desk.ask(Command::Held { txn: a, node: file });
-    same(&rt, held, Answer::Mode(Mode::X));
-    let group = desk.ask(Command::Group { node: file });
-    same(&rt, group, Answer::Mode(Mode::X));
-    desk.has_counted(&rt, before);
+    const WAITING: Answer = Answer::Refused(Refusal::TxnWaiting);
+    const NOWHERE: Answer = Answer::Refused(Refusal::NoSuchNode);
+    const NOBODY: Answer = Answer::Refused(Refusal::NoSuchTxn);
+    const REFUSED: &[Step] = &[
+        Step::Ask(Ask::Lock(B, S, FILE), Answer::Waiting),
+        Step::Counted(ONE_WAITS),
+        Step::Ask(Ask::Lock(B, S, FILE), WAITING),
+        Step::Ask(Ask::Commit(B), WAITING),
+        Step::Ask(Ask::Lock(A, S, NodeId::NONE), NOWHERE),
+        Step::Ask(Ask::Try(TxnId::NONE, S, FILE), NOBODY),
+        Step::Ask(Ask::Held(A, FILE), Answer::Mode(X)),
+        Step::Ask(Ask::Group(FILE), Answer::Mode(X)),
+        Step::Counted(ONE_WAITS),
+    ];
+    play(&rt, rt.alloc(), &[ROOT, FILED, PAIR, HELD_FILE, REFUSED]);
 }
 
-/// Two transactions that hold a root in S.
-fn readers(rt: &impl Abort, desk: &mut Desk, root: NodeId) -> (TxnId, TxnId) {
-    let older = desk.begin();
-    let younger = desk.begin();
-    desk.take(rt, older, root, Mode::S);
-    desk.take(rt, younger, root, Mode::S);
-    (older, younger)
-}
+/// Both hold a root in S.
+const READERS: &[Step] = &[
+    Step::Ask(Ask::Lock(A, S, DB), Answer::Granted(S)),
+    Step::Ask(Ask::Lock(B, S, DB), Answer::Granted(S)),
+];
+
+/// One waited, and the other fell at once.
+const ONE_FELL: Counters = Counters {
+    granted: 2,
+    waited: 1,
+    conversions: 2,
+    victims: 1,
+    most_waiting: 1,
+    longest_queue: 1,
+    ..NOTHING
+};
 
 #[test]
 fn victims_are_counted(rt: HostRuntime) {
-    let mut desk = allowed(&rt, Desk::open(rt.alloc()));
-    let db = desk.root();
-    let (a, b) = readers(&rt, &mut desk, db);
-    same(&rt, desk.lock(a, db, Mode::X), Answer::Waiting);
-    same(&rt, desk.lock(b, db, Mode::X), Answer::Victim);
-    let mut wanted = Counters {
-        granted: 2,
-        waited: 1,
-        conversions: 2,
-        victims: 1,
-        most_waiting: 1,
-        longest_queue: 1,
-        ..Counters::default()
+    const LATER: Counters = Counters {
+        granted_later: 1,
+        ..ONE_FELL
     };
-    desk.has_counted(&rt, wanted);
-    same(&rt, desk.ask(Command::Abort { txn: b }), Answer::Done);
-    same(&rt, desk.ask(Command::Commit { txn: a }), Answer::Done);
-    wanted.granted_later = 1;
-    desk.has_counted(&rt, wanted);
+    const FALLS: &[Step] = &[
+        Step::Ask(Ask::Lock(A, X, DB), Answer::Waiting),
+        Step::Ask(Ask::Lock(B, X, DB), Answer::Victim),
+        Step::Counted(ONE_FELL),
+        Step::Tells(Ask::Abort(B), Answer::Done, 1),
+        Step::Ask(Ask::Commit(A), Answer::Done),
+        Step::Counted(LATER),
+    ];
+    play(&rt, rt.alloc(), &[ROOT, PAIR, READERS, FALLS]);
 }
 
 #[test]
 fn a_victim_that_is_told_is_counted(rt: HostRuntime) {
-    let mut desk = allowed(&rt, Desk::open(rt.alloc()));
-    let db = desk.root();
-    let (a, b) = readers(&rt, &mut desk, db);
-    same(&rt, desk.lock(b, db, Mode::X), Answer::Waiting);
-    same(&rt, desk.lock(a, db, Mode::X), Answer::Waiting);
-    let wanted = Counters {
+    const COUNTED: Counters = Counters {
         granted: 2,
         waited: 2,
         conversions: 2,
         victims: 1,
         most_waiting: 1,
         longest_queue: 1,
-        ..Counters::default()
+        ..NOTHING
     };
-    desk.has_counted(&rt, wanted);
+    const FALLS: &[Step] = &[
+        Step::Ask(Ask::Lock(B, X, DB), Answer::Waiting),
+        Step::Tells(Ask::Lock(A, X, DB), Answer::Waiting, 1),
+        Step::Counted(COUNTED),
+    ];
+    play(&rt, rt.alloc(), &[ROOT, PAIR, READERS, FALLS]);
 }
+
+/// A file under the first of two roots.
+const MOVER: NodeId = N3;
 
 #[test]
 fn a_wait_for_what_moves_is_counted(rt: HostRuntime) {
-    let mut desk = allowed(&rt, Desk::open(rt.alloc()));
-    let db = desk.root();
-    let other = desk.root();
-    let file = desk.file(db);
-    let a = desk.begin();
-    let b = desk.begin();
-    desk.take(&rt, a, db, Mode::IX);
-    desk.take(&rt, a, other, Mode::IX);
-    desk.take(&rt, a, file, Mode::X);
-    desk.take(&rt, b, db, Mode::IS);
-    same(&rt, desk.lock(b, file, Mode::S), Answer::Waiting);
-    let told = allowed(&rt, desk.manager.relocate(a, file, &[other]));
-    same(&rt, told.len(), 1);
-    let wanted = Counters {
+    const COUNTED: Counters = Counters {
         granted: 4,
         waited: 1,
         moved: 1,
         most_waiting: 1,
         longest_queue: 1,
-        ..Counters::default()
+        ..NOTHING
     };
-    desk.has_counted(&rt, wanted);
+    const MOVES: &[Step] = &[
+        Step::Ask(Ask::Inner(&[]), Answer::Node(N2)),
+        Step::Ask(Ask::File(&[DB]), Answer::Node(MOVER)),
+        Step::Ask(Ask::Lock(A, IX, DB), Answer::Granted(IX)),
+        Step::Ask(Ask::Lock(A, IX, N2), Answer::Granted(IX)),
+        Step::Ask(Ask::Lock(A, X, MOVER), Answer::Granted(X)),
+        Step::Ask(Ask::Lock(B, IS, DB), Answer::Granted(IS)),
+        Step::Ask(Ask::Lock(B, S, MOVER), Answer::Waiting),
+        Step::Move(A, MOVER, N2, 1),
+        Step::Counted(COUNTED),
+    ];
+    play(&rt, rt.alloc(), &[ROOT, PAIR, MOVES]);
 }
+
+const INDEX: NodeId = N3;
+
+const LOW: NodeId = N4;
+
+const HIGH: NodeId = N5;
+
+const REC: NodeId = N6;
+
+/// An index with two intervals, both of which one writes; the other reads the low one. A record lies in
+/// it.
+const KEYED: &[Step] = &[
+    Step::Ask(Ask::Index(&[DB], FILE, &[100]), Answer::Node(INDEX)),
+    Step::Ask(Ask::Lock(A, IX, DB), Answer::Granted(IX)),
+    Step::Ask(Ask::Lock(A, IX, FILE), Answer::Granted(IX)),
+    Step::Ask(Ask::Lock(A, IX, INDEX), Answer::Granted(IX)),
+    Step::Ask(Ask::Lock(A, IX, LOW), Answer::Granted(IX)),
+    Step::Ask(Ask::Lock(A, IX, HIGH), Answer::Granted(IX)),
+    Step::Ask(Ask::Lock(B, IS, DB), Answer::Granted(IS)),
+    Step::Ask(Ask::Lock(B, IS, INDEX), Answer::Granted(IS)),
+    Step::Ask(Ask::Lock(B, IS, LOW), Answer::Granted(IS)),
+    Step::Ask(Ask::Insert(A, FILE, &[50]), Answer::Node(REC)),
+];
 
 #[test]
 fn a_wait_for_what_is_rekeyed_is_counted(rt: HostRuntime) {
-    let mut desk = allowed(&rt, Desk::open(rt.alloc()));
-    let db = desk.root();
-    let file = desk.file(db);
-    let index = desk.index(db, file, 100);
-    let low = desk.interval(index, 0);
-    let high = desk.interval(index, 1);
-    let a = desk.begin();
-    let b = desk.begin();
-    for node in [db, file, index, low, high] {
-        desk.take(&rt, a, node, Mode::IX);
-    }
-    for node in [db, index, low] {
-        desk.take(&rt, b, node, Mode::IS);
-    }
-    let rec = allowed(&rt, desk.manager.insert(a, file, &[50]));
-    same(&rt, desk.lock(b, rec, Mode::S), Answer::Waiting);
-    let told = allowed(&rt, desk.manager.rekey(a, rec, index, 60));
-    same(&rt, told.len(), 0);
-    let told = allowed(&rt, desk.manager.rekey(a, rec, index, 150));
-    same(&rt, told.len(), 1);
-    let wanted = Counters {
+    const COUNTED: Counters = Counters {
         granted: 8,
         waited: 1,
         moved: 1,
         most_waiting: 1,
         longest_queue: 1,
-        ..Counters::default()
+        ..NOTHING
     };
-    desk.has_counted(&rt, wanted);
+    const MOVES: &[Step] = &[
+        Step::Ask(Ask::Lock(B, S, REC), Answer::Waiting),
+        Step::Rekey(A, REC, INDEX, 60, 0),
+        Step::Rekey(A, REC, INDEX, 150, 1),
+        Step::Counted(COUNTED),
+    ];
+    play(&rt, rt.alloc(), &[ROOT, FILED, PAIR, KEYED, MOVES]);
 }
 
 /// A writer of a file and a reader beside it.
-fn writer_and_reader(rt: &impl Abort, desk: &mut Desk) -> (NodeId, TxnId, TxnId) {
-    let db = desk.root();
-    let file = desk.file(db);
-    let a = desk.begin();
-    let b = desk.begin();
-    desk.take(rt, a, db, Mode::IX);
-    desk.take(rt, a, file, Mode::IX);
-    desk.take(rt, b, db, Mode::IS);
-    desk.take(rt, b, file, Mode::IS);
-    (file, a, b)
-}
+const BESIDE: &[Step] = &[
+    Step::Ask(Ask::Lock(A, IX, DB), Answer::Granted(IX)),
+    Step::Ask(Ask::Lock(A, IX, FILE), Answer::Granted(IX)),
+    Step::Ask(Ask::Lock(B, IS, DB), Answer::Granted(IS)),
+    Step::Ask(Ask::Lock(B, IS, FILE), Answer::Granted(IS)),
+];
 
 #[test]
 fn a_wait_for_what_is_gone_is_counted(rt: HostRuntime) {
-    let mut desk = allowed(&rt, Desk::open(rt.alloc()));
-    let (file, a, b) = writer_and_reader(&rt, &mut desk);
-    let rec = allowed(&rt, desk.manager.insert(a, file, &[]));
-    same(&rt, desk.lock(b, rec, Mode::S), Answer::Waiting);
-    let told = allowed(&rt, desk.manager.delete(a, rec));
-    same(&rt, told.len(), 1);
-    let wanted = Counters {
+    const COUNTED: Counters = Counters {
         granted: 4,
         waited: 1,
         gone: 1,
         most_waiting: 1,
         longest_queue: 1,
-        ..Counters::default()
+        ..NOTHING
     };
-    desk.has_counted(&rt, wanted);
-}
-
-/// Escalates, and leaves out who is told.
-fn escalate(desk: &mut Desk, txn: TxnId, node: NodeId) -> Result<Escalated, Refusal> {
-    match desk.manager.escalate(txn, node) {
-        Ok((escalated, _)) => Ok(escalated),
-        Err(refusal) => Err(refusal),
-    }
+    const GOES: &[Step] = &[
+        Step::Ask(Ask::Insert(A, FILE, &[]), Answer::Node(N3)),
+        Step::Ask(Ask::Lock(B, S, N3), Answer::Waiting),
+        Step::Delete(A, N3, 1),
+        Step::Counted(COUNTED),
+    ];
+    play(&rt, rt.alloc(), &[ROOT, FILED, PAIR, BESIDE, GOES]);
 }
 
 #[test]
 fn escalations_are_counted(rt: HostRuntime) {
-    let mut desk = allowed(&rt, Desk::open(rt.alloc()));
-    let (file, a, b) = writer_and_reader(&rt, &mut desk);
-    allowed(&rt, desk.manager.insert(a, file, &[]));
-    let rec = allowed(&rt, desk.manager.insert(a, file, &[]));
-    let command = Command::Escalate { txn: a, node: file };
-    same(&rt, desk.ask(command), Answer::Refused(Refusal::WouldBlock));
-    let refused = escalate(&mut desk, a, file);
-    same(&rt, refused, Err(Refusal::WouldBlock));
-    let refused = escalate(&mut desk, a, rec);
-    same(&rt, refused, Err(Refusal::BadParents));
-    same(&rt, desk.ask(Command::Commit { txn: b }), Answer::Done);
-    let escalated = Escalated {
-        mode: Mode::X,
+    const WOULD_BLOCK: Answer = Answer::Refused(Refusal::WouldBlock);
+    const BAD_PARENTS: Answer = Answer::Refused(Refusal::BadParents);
+    const ESCALATED: Answer = Answer::Escalated(Escalated {
+        mode: X,
         released: 2,
         kept: 0,
-    };
-    same(&rt, escalate(&mut desk, a, file), Ok(escalated));
-    let wanted = Counters {
+    });
+    const COUNTED: Counters = Counters {
         granted: 4,
         escalations: 1,
         released_children: 2,
-        ..Counters::default()
+        ..NOTHING
     };
-    desk.has_counted(&rt, wanted);
+    const ESCALATES: &[Step] = &[
+        Step::Ask(Ask::Insert(A, FILE, &[]), Answer::Node(N3)),
+        Step::Ask(Ask::Insert(A, FILE, &[]), Answer::Node(N4)),
+        Step::Ask(Ask::Escalate(A, FILE), WOULD_BLOCK),
+        Step::Escalates(A, FILE, WOULD_BLOCK),
+        Step::Escalates(A, N4, BAD_PARENTS),
+        Step::Ask(Ask::Commit(B), Answer::Done),
+        Step::Escalates(A, FILE, ESCALATED),
+        Step::Counted(COUNTED),
+    ];
+    play(&rt, rt.alloc(), &[ROOT, FILED, PAIR, BESIDE, ESCALATES]);
 }

@@ -11,4 +11,6 @@ mod registry;
 #[cfg(test)]
 mod rows;
 #[cfg(test)]
+mod story;
+#[cfg(test)]
 mod wanted;

@@ -1,308 +1,319 @@
 //! Rows by the engine's own numbers, whose nodes come and go with their locks.
 
+use crate::story::{A, Ask, B, N1, N2, N3, N4, N5, N6, N7, command_of};
 use crate::wanted::{allowed, same};
-use gl_catalog::{Answer, Command, Manager};
+use gl_catalog::{Answer, Manager};
+use gl_modes::Mode::{IX, S, X};
 use gl_modes::{Mode, NodeId, Refusal};
 use gl_registry::{Registry, Row, RowAnswer, RowCall, RowLocked};
 use gl_table::{Detect, Locked, Told, TxnId};
 use std::alloc::Global;
 use std::process::Abort;
 
-/// A registry with a file of rows that has one index, and a file of records, under one root.
-#[derive(Drop)]
-struct Store {
-    registry: Registry,
-    db: NodeId,
-    file: NodeId,
-    index: NodeId,
-    records: NodeId,
+const DB: NodeId = N1;
+/// A file of records.
+const RECORDS: NodeId = N2;
+/// A file of rows, with one index of two intervals.
+const FILE: NodeId = N3;
+
+const INDEX: NodeId = N4;
+
+const LOW: NodeId = N5;
+
+const HIGH: NodeId = N6;
+/// The first node that a row gets.
+const FIRST: NodeId = N7;
+/// The one that it gets next: where the first stood, or beside it where that still stands.
+const NEXT: NodeId = NodeId { key: 6, birth: 8 };
+
+const BESIDE: NodeId = NodeId { key: 7, birth: 8 };
+
+/// A call about rows, of which there is one, the seventh of the file.
+#[derive(Clone, Copy)]
+enum Call {
+    File(&'static [NodeId]),
+    Lock(TxnId, Mode, &'static [u64]),
+    Unlock(TxnId),
+    Commit(TxnId),
+    Cancel(TxnId),
+    /// The same three about the seventh row of the file of records.
+    LockRecord(TxnId),
+    UnlockRecord(TxnId),
+    RekeyRecord(TxnId),
 }
 
-/// The node of an answer, or the name that names nothing.
-fn node_in(answer: RowAnswer) -> NodeId {
-    match answer {
-        RowAnswer::Answered(Answer::Node(node)) => node,
-        _ => NodeId::NONE,
-    }
+/// A step of a story, and what it is to come to.
+#[derive(Clone, Copy)]
+enum Step {
+    /// A command is answered so, or is none for a file of rows.
+    Serve(Ask, Option<Answer>),
+    /// A call about rows is answered so.
+    Apply(Call, RowAnswer),
+    /// A lock of the row comes to this on this node, and the keys that were said are its own or not.
+    Lock(TxnId, &'static [u64], Mode, NodeId, Locked, bool),
+    /// How many rows are named, how many nodes stand, and how much was accepted.
+    Named(usize),
+    Stand(usize),
+    Accepted(u64),
+    /// The row's node.
+    Node(Option<NodeId>),
+    /// Whether a file has rows.
+    HasRows(NodeId, bool),
 }
 
-/// A call that the manager refuses.
-fn refused(refusal: Refusal) -> RowAnswer {
-    RowAnswer::Answered(Answer::Refused(refusal))
-}
+const ROW: Row = Row {
+    file: FILE,
+    number: 7,
+};
 
-/// A call that is done.
-fn done() -> RowAnswer {
-    RowAnswer::Answered(Answer::Done)
-}
+const RECORD: Row = Row {
+    file: RECORDS,
+    number: 7,
+};
 
-impl Store {
-    fn open(alloc: Global) -> Result<Store, Refusal> {
-        let mut manager = Manager::new(alloc, Detect::AtBlock, 4)?;
-        let db = manager.add_inner(&[])?;
-        let records = manager.add_file(&[db])?;
-        let mut registry = Registry::new(alloc, manager)?;
-        let file = node_in(registry.apply(RowCall::File { parents: &[db] }, &mut Told::new()));
-        let mut store = Store {
-            registry,
-            db,
-            file,
-            index: NodeId::NONE,
-            records,
-        };
-        let made = store.serve(Command::Index {
-            parents: &[db],
-            file,
-            bounds: &[10],
-        });
-        if let Some(Answer::Node(index)) = made {
-            store.index = index;
-        }
-        Ok(store)
-    }
-
-    fn serve(&mut self, command: Command<'_>) -> Option<Answer> {
-        self.registry.serve(command, &mut Told::new())
-    }
-
-    fn apply(&mut self, call: RowCall<'_>) -> RowAnswer {
-        self.registry.apply(call, &mut Told::new())
-    }
-
-    fn begin(&mut self) -> TxnId {
-        match self.serve(Command::Begin) {
-            Some(Answer::Begun(txn)) => txn,
-            _ => TxnId::NONE,
-        }
-    }
-
-    /// A transaction that may write rows: it holds IX on the root, both files, the index and its
-    /// intervals.
-    fn writer(&mut self) -> TxnId {
-        let txn = self.begin();
-        for node in [
-            self.db,
-            self.file,
-            self.records,
-            self.index,
-            self.interval(0),
-            self.interval(1),
-        ] {
-            let mode = Mode::IX;
-            self.serve(Command::Try { txn, node, mode });
-        }
-        txn
-    }
-
-    fn interval(&self, place: usize) -> NodeId {
-        self.registry
-            .manager()
-            .graph()
-            .interval(self.index, place)
-            .unwrap_or(NodeId::NONE)
-    }
-
-    fn nodes(&self) -> usize {
-        self.registry.manager().graph().len()
-    }
-
-    /// Locks the seventh row by this key.
-    fn lock(&mut self, txn: TxnId, key: u64, mode: Mode) -> RowAnswer {
-        let (row, keys) = (self.row(), [key]);
-        self.apply(RowCall::Lock {
+/// The call that is made.
+fn call_of(call: Call) -> RowCall<'static> {
+    match call {
+        Call::File(parents) => RowCall::File { parents },
+        Call::Lock(txn, mode, keys) => RowCall::Lock {
             txn,
-            row,
-            keys: &keys,
+            row: ROW,
+            keys,
             mode,
-        })
-    }
-
-    /// What a lock of the seventh row comes to, which has a node.
-    fn came(&self, locked: Locked, own_keys: bool) -> RowAnswer {
-        let node = self.registry.node(self.row()).unwrap_or(NodeId::NONE);
-        RowAnswer::Locked(RowLocked {
-            node,
-            locked,
-            own_keys,
-        })
-    }
-
-    /// Locks the seventh row by a key that is its node's own.
-    fn locks(&mut self, rt: &impl Abort, txn: TxnId, key: u64, mode: Mode, locked: Locked) {
-        let answer = self.lock(txn, key, mode);
-        same(rt, answer, self.came(locked, true));
-    }
-
-    fn row(&self) -> Row {
-        Row {
-            file: self.file,
-            number: 7,
-        }
-    }
-
-    fn unlock(&mut self, txn: TxnId) -> RowAnswer {
-        let row = self.row();
-        self.apply(RowCall::Unlock { txn, row })
-    }
-
-    /// Ends a transaction, behind which so many rows are named.
-    fn commit(&mut self, rt: &impl Abort, txn: TxnId, named: usize) {
-        same(rt, self.apply(RowCall::Commit { txn }), done());
-        same(rt, self.registry.len(), named);
+        },
+        Call::Unlock(txn) => RowCall::Unlock { txn, row: ROW },
+        Call::Commit(txn) => RowCall::Commit { txn },
+        Call::Cancel(txn) => RowCall::Cancel { txn },
+        Call::LockRecord(txn) => RowCall::Lock {
+            txn,
+            row: RECORD,
+            keys: &[],
+            mode: X,
+        },
+        Call::UnlockRecord(txn) => RowCall::Unlock { txn, row: RECORD },
+        Call::RekeyRecord(txn) => RowCall::Rekey {
+            txn,
+            row: RECORD,
+            index: INDEX,
+            key: 5,
+        },
     }
 }
 
-const READ: Locked = Locked::Granted(Mode::S);
+/// Takes one step.
+fn take(rt: &impl Abort, registry: &mut Registry, place: usize, step: Step) {
+    match step {
+        Step::Serve(ask, wanted) => {
+            let answer = registry.serve(command_of(ask), &mut Told::new());
+            same(rt, (place, answer), (place, wanted));
+        }
+        Step::Apply(call, wanted) => applies(rt, registry, place, call, wanted),
+        Step::Lock(txn, keys, mode, node, locked, own_keys) => {
+            let wanted = RowLocked {
+                node,
+                locked,
+                own_keys,
+            };
+            let call = Call::Lock(txn, mode, keys);
+            applies(rt, registry, place, call, RowAnswer::Locked(wanted));
+        }
+        Step::Named(rows) => same(rt, (place, registry.len()), (place, rows)),
+        Step::Node(node) => same(rt, (place, registry.node(ROW)), (place, node)),
+        Step::HasRows(file, has) => same(rt, (place, registry.has_rows(file)), (place, has)),
+        Step::Stand(nodes) => same(
+            rt,
+            (place, registry.manager().graph().len()),
+            (place, nodes),
+        ),
+        Step::Accepted(count) => {
+            same(rt, (place, registry.manager().accepted()), (place, count))
+        }
+    }
+}
 
-const WRITTEN: Locked = Locked::Granted(Mode::X);
+/// Makes a call, and compares its answer.
+fn applies(rt: &impl Abort, registry: &mut Registry, place: usize, call: Call, wanted: RowAnswer) {
+    let answer = registry.apply(call_of(call), &mut Told::new());
+    same(rt, (place, answer), (place, wanted));
+}
+
+/// A registry over a root with a file of records.
+fn open(alloc: Global) -> Result<Registry, Refusal> {
+    let mut manager = Manager::new(alloc, Detect::AtBlock, 4)?;
+    let db = manager.add_inner(&[])?;
+    manager.add_file(&[db])?;
+    Registry::new(alloc, manager)
+}
+
+/// Plays a story, in parts, over a new registry.
+fn play(rt: &impl Abort, alloc: Global, parts: &[&[Step]]) {
+    let mut registry = allowed(rt, open(alloc));
+    for steps in parts {
+        for (place, step) in steps.iter().enumerate() {
+            take(rt, &mut registry, place, *step);
+        }
+    }
+}
+
+/// A call or a command that is done.
+const DONE: RowAnswer = RowAnswer::Answered(Answer::Done);
+
+const GRANTED: Option<Answer> = Some(Answer::Granted(IX));
+
+/// A file of rows and its index.
+const OPEN: &[Step] = &[
+    Step::Apply(Call::File(&[DB]), RowAnswer::Answered(Answer::Node(FILE))),
+    Step::Serve(Ask::Index(&[DB], FILE, &[10]), Some(Answer::Node(INDEX))),
+];
+
+/// A transaction.
+const BEGIN: &[Step] = &[Step::Serve(Ask::Begin, Some(Answer::Begun(A)))];
+
+/// It may write rows: it holds IX on the root, both files, the index and its intervals.
+const WRITER: &[Step] = &[
+    Step::Serve(Ask::Begin, Some(Answer::Begun(A))),
+    Step::Serve(Ask::Try(A, IX, DB), GRANTED),
+    Step::Serve(Ask::Try(A, IX, FILE), GRANTED),
+    Step::Serve(Ask::Try(A, IX, RECORDS), GRANTED),
+    Step::Serve(Ask::Try(A, IX, INDEX), GRANTED),
+    Step::Serve(Ask::Try(A, IX, LOW), GRANTED),
+    Step::Serve(Ask::Try(A, IX, HIGH), GRANTED),
+];
+
+/// Another one.
+const SECOND: &[Step] = &[
+    Step::Serve(Ask::Begin, Some(Answer::Begun(B))),
+    Step::Serve(Ask::Try(B, IX, DB), GRANTED),
+    Step::Serve(Ask::Try(B, IX, FILE), GRANTED),
+    Step::Serve(Ask::Try(B, IX, RECORDS), GRANTED),
+    Step::Serve(Ask::Try(B, IX, INDEX), GRANTED),
+    Step::Serve(Ask::Try(B, IX, LOW), GRANTED),
+    Step::Serve(Ask::Try(B, IX, HIGH), GRANTED),
+];
+
+const READ: Locked = Locked::Granted(S);
+
+const WRITTEN: Locked = Locked::Granted(X);
 
 #[test]
 fn a_row_has_a_node_while_it_is_locked(rt: HostRuntime) {
-    let mut store = allowed(&rt, Store::open(rt.alloc()));
-    let (a, b) = (store.writer(), store.writer());
-    let nodes = store.nodes();
-    store.locks(&rt, a, 5, Mode::X, WRITTEN);
-    store.locks(&rt, b, 5, Mode::S, Locked::Waiting);
-    same(&rt, store.registry.len(), 1);
-    store.commit(&rt, a, 1);
-    store.commit(&rt, b, 0);
-    same(&rt, store.nodes(), nodes);
+    const STORY: &[Step] = &[
+        Step::Stand(6),
+        Step::Lock(A, &[5], X, FIRST, WRITTEN, true),
+        Step::Lock(B, &[5], S, FIRST, Locked::Waiting, true),
+        Step::Named(1),
+        Step::Apply(Call::Commit(A), DONE),
+        Step::Named(1),
+        Step::Apply(Call::Commit(B), DONE),
+        Step::Named(0),
+        Step::Stand(6),
+    ];
+    play(&rt, rt.alloc(), &[OPEN, WRITER, SECOND, STORY]);
 }
 
 /// Whoever says other keys than a held row's node has is locked by that node, and hears it.
 #[test]
 fn a_row_is_locked_by_the_node_that_it_has(rt: HostRuntime) {
-    let mut store = allowed(&rt, Store::open(rt.alloc()));
-    let (a, b) = (store.writer(), store.writer());
-    store.locks(&rt, a, 5, Mode::S, READ);
-    let other = store.lock(b, 50, Mode::S);
-    same(&rt, other, store.came(READ, false));
-    let waits = store.lock(b, 50, Mode::X);
-    same(&rt, waits, store.came(Locked::Waiting, false));
-    store.commit(&rt, a, 1);
-    let again = store.lock(b, 50, Mode::X);
-    same(&rt, again, store.came(WRITTEN, false));
-    same(&rt, store.unlock(b), done());
-    store.locks(&rt, b, 50, Mode::X, WRITTEN);
+    const STORY: &[Step] = &[
+        Step::Lock(A, &[5], S, FIRST, READ, true),
+        Step::Lock(B, &[50], S, FIRST, READ, false),
+        Step::Lock(B, &[50], X, FIRST, Locked::Waiting, false),
+        Step::Apply(Call::Commit(A), DONE),
+        Step::Named(1),
+        Step::Lock(B, &[50], X, FIRST, WRITTEN, false),
+        Step::Apply(Call::Unlock(B), DONE),
+        Step::Lock(B, &[50], X, NEXT, WRITTEN, true),
+    ];
+    play(&rt, rt.alloc(), &[OPEN, WRITER, SECOND, STORY]);
 }
 
 /// A row that is released by its node keeps that, and gets another where other keys are said.
 #[test]
 fn a_row_whose_node_nobody_has_gets_another(rt: HostRuntime) {
-    let mut store = allowed(&rt, Store::open(rt.alloc()));
-    let (a, b) = (store.writer(), store.writer());
-    store.locks(&rt, a, 5, Mode::S, READ);
-    let nodes = store.nodes();
-    let first = store.registry.node(store.row());
-    same(
-        &rt,
-        store.serve(Command::Commit { txn: a }),
-        Some(Answer::Done),
-    );
-    same(&rt, store.registry.len(), 1);
-    store.locks(&rt, b, 50, Mode::X, WRITTEN);
-    same(&rt, store.registry.node(store.row()) == first, false);
-    same(&rt, store.nodes(), nodes);
-    store.commit(&rt, b, 0);
+    const STORY: &[Step] = &[
+        Step::Lock(A, &[5], S, FIRST, READ, true),
+        Step::Stand(7),
+        Step::Node(Some(FIRST)),
+        Step::Serve(Ask::Commit(A), Some(Answer::Done)),
+        Step::Named(1),
+        Step::Lock(B, &[50], X, BESIDE, WRITTEN, true),
+        Step::Node(Some(BESIDE)),
+        Step::Stand(7),
+        Step::Apply(Call::Commit(B), DONE),
+        Step::Named(0),
+    ];
+    play(&rt, rt.alloc(), &[OPEN, WRITER, SECOND, STORY]);
 }
 
 /// A refused lock of a row changes nothing: no node, no count, and an index can still be made.
 #[test]
 fn a_refused_lock_changes_nothing(rt: HostRuntime) {
-    let mut store = allowed(&rt, Store::open(rt.alloc()));
-    let txn = store.begin();
-    let (nodes, counted) = (store.nodes(), store.registry.manager().accepted());
-    let (db, file) = (store.db, store.file);
-    let need = refused(Refusal::NeedParents { node: file });
-    same(&rt, store.lock(txn, 5, Mode::X), need);
-    same(&rt, store.lock(txn, 5, Mode::IX), refused(Refusal::BadMode));
-    same(
-        &rt,
-        store.lock(TxnId::NONE, 5, Mode::X),
-        refused(Refusal::NoSuchTxn),
-    );
-    same(&rt, store.unlock(txn), refused(Refusal::NoSuchNode));
-    same(&rt, store.registry.len(), 0);
-    same(&rt, store.nodes(), nodes);
-    same(&rt, store.registry.manager().accepted(), counted);
-    let index = store.serve(Command::Index {
-        parents: &[db],
-        file,
-        bounds: &[],
-    });
-    same(&rt, matches!(index, Some(Answer::Node(_))), true);
+    const NEED: RowAnswer = RowAnswer::Answered(Answer::Refused(Refusal::NeedParents {
+        node: FILE,
+    }));
+    const BAD_MODE: RowAnswer = RowAnswer::Answered(Answer::Refused(Refusal::BadMode));
+    const NO_TXN: RowAnswer = RowAnswer::Answered(Answer::Refused(Refusal::NoSuchTxn));
+    const NO_NODE: RowAnswer = RowAnswer::Answered(Answer::Refused(Refusal::NoSuchNode));
+    const STORY: &[Step] = &[
+        Step::Stand(6),
+        Step::Accepted(5),
+        Step::Apply(Call::Lock(A, X, &[5]), NEED),
+        Step::Apply(Call::Lock(A, IX, &[5]), BAD_MODE),
+        Step::Apply(Call::Lock(TxnId::NONE, X, &[5]), NO_TXN),
+        Step::Apply(Call::Unlock(A), NO_NODE),
+        Step::Named(0),
+        Step::Stand(6),
+        Step::Accepted(5),
+        Step::Serve(Ask::Index(&[DB], FILE, &[]), Some(Answer::Node(N7))),
+    ];
+    play(&rt, rt.alloc(), &[OPEN, BEGIN, STORY]);
 }
 
 /// No record of a file of rows is made, taken away or changed by its node.
 #[test]
 fn a_file_of_rows_has_no_other_records(rt: HostRuntime) {
-    let mut store = allowed(&rt, Store::open(rt.alloc()));
-    let txn = store.writer();
-    let (file, index, keys) = (store.file, store.index, [5]);
-    let keys = keys.as_slice();
-    same(&rt, store.serve(Command::Insert { txn, file, keys }), None);
-    same(&rt, store.serve(Command::Adopt { file, keys }), None);
-    store.locks(&rt, txn, 5, Mode::X, WRITTEN);
-    let rec = store.registry.node(store.row()).unwrap_or(NodeId::NONE);
-    same(&rt, store.serve(Command::Delete { txn, rec }), None);
-    same(&rt, store.serve(Command::Forget { rec }), None);
-    let key = 50;
-    let rekey = Command::Rekey {
-        txn,
-        rec,
-        index,
-        key,
-    };
-    same(&rt, store.serve(rekey), None);
-    store.locks(&rt, txn, 5, Mode::X, WRITTEN);
+    const STORY: &[Step] = &[
+        Step::Serve(Ask::Insert(A, FILE, &[5]), None),
+        Step::Serve(Ask::Adopt(FILE, &[5]), None),
+        Step::Lock(A, &[5], X, FIRST, WRITTEN, true),
+        Step::Serve(Ask::Delete(A, FIRST), None),
+        Step::Serve(Ask::Forget(FIRST), None),
+        Step::Serve(Ask::Rekey(A, FIRST, INDEX, 50), None),
+        Step::Lock(A, &[5], X, FIRST, WRITTEN, true),
+    ];
+    play(&rt, rt.alloc(), &[OPEN, WRITER, STORY]);
 }
 
 /// A file of records has no rows by number.
 #[test]
 fn a_file_of_records_has_no_rows(rt: HostRuntime) {
-    let mut store = allowed(&rt, Store::open(rt.alloc()));
-    let (txn, index) = (store.writer(), store.index);
-    let file = store.records;
-    let row = Row { file, number: 7 };
-    let (keys, mode, key) = (&[], Mode::X, 5);
-    let lock = RowCall::Lock {
-        txn,
-        row,
-        keys,
-        mode,
-    };
-    same(&rt, store.apply(lock), RowAnswer::NotRows);
-    same(
-        &rt,
-        store.apply(RowCall::Unlock { txn, row }),
-        RowAnswer::NotRows,
-    );
-    let rekey = RowCall::Rekey {
-        txn,
-        row,
-        index,
-        key,
-    };
-    same(&rt, store.apply(rekey), RowAnswer::NotRows);
-    let made = store.serve(Command::Insert { txn, file, keys });
-    same(&rt, matches!(made, Some(Answer::Node(_))), true);
-    same(&rt, store.registry.has_rows(file), false);
-    same(&rt, store.registry.has_rows(store.file), true);
+    const STORY: &[Step] = &[
+        Step::Apply(Call::LockRecord(A), RowAnswer::NotRows),
+        Step::Apply(Call::UnlockRecord(A), RowAnswer::NotRows),
+        Step::Apply(Call::RekeyRecord(A), RowAnswer::NotRows),
+        Step::Serve(Ask::Insert(A, RECORDS, &[]), Some(Answer::Node(N7))),
+        Step::HasRows(RECORDS, false),
+        Step::HasRows(FILE, true),
+    ];
+    play(&rt, rt.alloc(), &[OPEN, WRITER, STORY]);
 }
 
 /// The number of a row that is locked in X stays until its transaction ends: so it is deleted.
 #[test]
 fn a_number_is_free_at_the_commit(rt: HostRuntime) {
-    let mut store = allowed(&rt, Store::open(rt.alloc()));
-    let (a, b) = (store.writer(), store.writer());
-    store.locks(&rt, a, 5, Mode::X, WRITTEN);
-    store.locks(&rt, b, 5, Mode::X, Locked::Waiting);
-    same(&rt, store.apply(RowCall::Cancel { txn: b }), done());
-    same(&rt, store.registry.len(), 1);
-    store.locks(&rt, b, 5, Mode::X, Locked::Waiting);
-    store.commit(&rt, a, 1);
-    store.locks(&rt, b, 5, Mode::X, WRITTEN);
-    let cancel = store.apply(RowCall::Cancel { txn: b });
-    same(&rt, cancel, refused(Refusal::NotWaiting));
-    store.commit(&rt, b, 0);
+    const NOT_WAITING: RowAnswer = RowAnswer::Answered(Answer::Refused(Refusal::NotWaiting));
+    const STORY: &[Step] = &[
+        Step::Lock(A, &[5], X, FIRST, WRITTEN, true),
+        Step::Lock(B, &[5], X, FIRST, Locked::Waiting, true),
+        Step::Apply(Call::Cancel(B), DONE),
+        Step::Named(1),
+        Step::Lock(B, &[5], X, FIRST, Locked::Waiting, true),
+        Step::Apply(Call::Commit(A), DONE),
+        Step::Named(1),
+        Step::Lock(B, &[5], X, FIRST, WRITTEN, true),
+        Step::Apply(Call::Cancel(B), NOT_WAITING),
+        Step::Apply(Call::Commit(B), DONE),
+        Step::Named(0),
+    ];
+    play(&rt, rt.alloc(), &[OPEN, WRITER, SECOND, STORY]);
 }

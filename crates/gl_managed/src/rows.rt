@@ -1,126 +1,107 @@
 //! Rows that stand only while they are locked: adopted and forgotten.
 
-use crate::wanted::{allowed, same};
-use gl_catalog::{Answer, Command, Manager};
-use gl_modes::{Mode, NodeId, Refusal};
-use gl_table::{Detect, Effect, Locked, Told, TxnId};
-use std::alloc::Global;
-use std::process::Abort;
+use crate::story::{A, Ask, B, N1, N2, N3, N4, N6, Step, play};
+use gl_catalog::{Answer, Reached};
+use gl_modes::Mode::{IX, NL, S, X};
+use gl_modes::{NodeId, Refusal};
+use gl_table::{Effect, Locked};
 
-/// A manager over a file with one index under one root.
-#[derive(Drop)]
-struct Desk {
-    manager: Manager,
-    db: NodeId,
-    file: NodeId,
-    index: NodeId,
-}
+const DB: NodeId = N1;
 
-impl Desk {
-    fn open(alloc: Global) -> Result<Desk, Refusal> {
-        let mut manager = Manager::new(alloc, Detect::AtBlock, 4)?;
-        let db = manager.add_inner(&[])?;
-        let file = manager.add_file(&[db])?;
-        let index = manager.add_index(&[db], file, &[10])?;
-        Ok(Desk {
-            manager,
-            db,
-            file,
-            index,
-        })
-    }
+const FILE: NodeId = N2;
 
-    fn begin(&mut self) -> TxnId {
-        self.manager.begin().unwrap_or(TxnId::NONE)
-    }
+const INDEX: NodeId = N3;
 
-    /// The interval in which a row with this key lies.
-    fn interval(&self, place: usize) -> NodeId {
-        self.manager
-            .graph()
-            .interval(self.index, place)
-            .unwrap_or(NodeId::NONE)
-    }
+const INTERVAL: NodeId = N4;
 
-    /// Locks along the path, and answers the node and what its ask came to.
-    fn lock(&mut self, t: TxnId, node: NodeId, mode: Mode) -> Result<(NodeId, Locked), Refusal> {
-        let mut told = Told::new();
-        let reached = self.manager.lock_path_telling(t, node, mode, &mut told)?;
-        Ok((reached.node, reached.locked))
-    }
+const ROW: NodeId = N6;
 
-    fn take(&mut self, rt: &impl Abort, t: TxnId, node: NodeId, mode: Mode) {
-        let came = self.lock(t, node, mode);
-        same(rt, came, Ok((node, Locked::Granted(mode))));
-    }
+/// A file with one index of two intervals under one root, of which `INTERVAL` is the first.
+const OPEN: &[Step] = &[
+    Step::Ask(Ask::Inner(&[]), Answer::Node(DB)),
+    Step::Ask(Ask::File(&[DB]), Answer::Node(FILE)),
+    Step::Ask(Ask::Index(&[DB], FILE, &[10]), Answer::Node(INDEX)),
+];
 
-    fn commit(&mut self, rt: &impl Abort, t: TxnId) {
-        let mut told = Told::new();
-        allowed(rt, self.manager.commit_telling(t, &mut told));
-    }
-}
+/// Two transactions.
+const PAIR: &[Step] = &[
+    Step::Ask(Ask::Begin, Answer::Begun(A)),
+    Step::Ask(Ask::Begin, Answer::Begun(B)),
+];
+
+const IN_USE: Answer = Answer::Refused(Refusal::RecordInUse);
+
+const NO_SUCH_NODE: Answer = Answer::Refused(Refusal::NoSuchNode);
 
 #[test]
 fn a_row_stands_only_while_it_is_locked(rt: HostRuntime) {
-    let mut desk = allowed(&rt, Desk::open(rt.alloc()));
-    let (a, b) = (desk.begin(), desk.begin());
-    let row = allowed(&rt, desk.manager.adopt(desk.file, &[7]));
-    same(&rt, desk.manager.mode_on(a, row), Some(Mode::NL));
-    desk.take(&rt, a, row, Mode::X);
-    same(&rt, desk.lock(b, row, Mode::S), Ok((row, Locked::Waiting)));
-    same(&rt, desk.manager.forget(row), Err(Refusal::RecordInUse));
-    desk.commit(&rt, a);
-    same(&rt, desk.manager.mode_on(b, row), Some(Mode::S));
-    same(&rt, desk.manager.forget(row), Err(Refusal::RecordInUse));
-    desk.commit(&rt, b);
-    same(&rt, desk.manager.forget(row), Ok(()));
-    same(&rt, desk.manager.forget(row), Err(Refusal::NoSuchNode));
+    const WAITS: Result<Reached, Refusal> = Ok(Reached {
+        node: ROW,
+        locked: Locked::Waiting,
+    });
+    const STANDS: &[Step] = &[
+        Step::Ask(Ask::Adopt(FILE, &[7]), Answer::Node(ROW)),
+        Step::Holds(A, ROW, NL),
+        Step::Takes(A, X, ROW),
+        Step::Path(B, S, ROW, WAITS, 0),
+        Step::Ask(Ask::Forget(ROW), IN_USE),
+        Step::Tells(Ask::Commit(A), Answer::Done, 1),
+        Step::Holds(B, ROW, S),
+        Step::Ask(Ask::Forget(ROW), IN_USE),
+        Step::Ask(Ask::Commit(B), Answer::Done),
+        Step::Ask(Ask::Forget(ROW), Answer::Done),
+        Step::Ask(Ask::Forget(ROW), NO_SUCH_NODE),
+    ];
+    play(&rt, rt.alloc(), &[OPEN, PAIR, STANDS]);
 }
+
+/// A file that is made where the row stood, and an index of it.
+const OTHER: NodeId = NodeId { key: 5, birth: 7 };
+
+const OTHERS: NodeId = NodeId { key: 6, birth: 8 };
 
 #[test]
 fn no_index_is_made_over_rows_that_do_not_stand(rt: HostRuntime) {
-    let mut desk = allowed(&rt, Desk::open(rt.alloc()));
-    let (db, file) = (desk.db, desk.file);
-    let row = allowed(&rt, desk.manager.adopt(file, &[7]));
-    same(&rt, desk.manager.forget(row), Ok(()));
-    let more = desk.manager.add_index(&[db], file, &[]);
-    same(&rt, more, Err(Refusal::FileInUse));
-    let other = allowed(&rt, desk.manager.add_file(&[db]));
-    same(&rt, desk.manager.add_index(&[db], other, &[]).is_ok(), true);
+    const IN_USE: Answer = Answer::Refused(Refusal::FileInUse);
+    const REFUSED: &[Step] = &[
+        Step::Ask(Ask::Adopt(FILE, &[7]), Answer::Node(ROW)),
+        Step::Ask(Ask::Forget(ROW), Answer::Done),
+        Step::Ask(Ask::Index(&[DB], FILE, &[]), IN_USE),
+        Step::Ask(Ask::File(&[DB]), Answer::Node(OTHER)),
+        Step::Ask(Ask::Index(&[DB], OTHER, &[]), Answer::Node(OTHERS)),
+    ];
+    play(&rt, rt.alloc(), &[OPEN, REFUSED]);
 }
 
 #[test]
 fn a_row_is_adopted_where_a_record_could_be(rt: HostRuntime) {
-    let mut desk = allowed(&rt, Desk::open(rt.alloc()));
-    let (db, file) = (desk.db, desk.file);
-    let none = NodeId::NONE;
-    same(
-        &rt,
-        desk.manager.adopt(none, &[7]),
-        Err(Refusal::NoSuchNode),
-    );
-    same(&rt, desk.manager.adopt(db, &[7]), Err(Refusal::BadParents));
-    same(&rt, desk.manager.adopt(file, &[]), Err(Refusal::BadKeys));
-    same(&rt, desk.manager.forget(none), Err(Refusal::NoSuchNode));
-    same(&rt, desk.manager.forget(file), Err(Refusal::BadParents));
+    const BAD_PARENTS: Answer = Answer::Refused(Refusal::BadParents);
+    const BAD_KEYS: Answer = Answer::Refused(Refusal::BadKeys);
+    const REFUSED: &[Step] = &[
+        Step::Ask(Ask::Adopt(NodeId::NONE, &[7]), NO_SUCH_NODE),
+        Step::Ask(Ask::Adopt(DB, &[7]), BAD_PARENTS),
+        Step::Ask(Ask::Adopt(FILE, &[]), BAD_KEYS),
+        Step::Ask(Ask::Forget(NodeId::NONE), NO_SUCH_NODE),
+        Step::Ask(Ask::Forget(FILE), BAD_PARENTS),
+    ];
+    play(&rt, rt.alloc(), &[OPEN, REFUSED]);
 }
 
 /// A reader of an interval reads what is adopted below it, and keeps writers from it.
 #[test]
 fn a_row_that_is_adopted_is_read_by_who_reads_above(rt: HostRuntime) {
-    let mut desk = allowed(&rt, Desk::open(rt.alloc()));
-    let (a, b) = (desk.begin(), desk.begin());
-    let interval = desk.interval(0);
-    desk.take(&rt, a, interval, Mode::S);
-    let row = allowed(&rt, desk.manager.adopt(desk.file, &[7]));
-    let effect = desk.manager.apply(Command::Effective { txn: a, node: row });
-    same(&rt, effect.answer, Answer::Effect(Effect::S));
-    same(
-        &rt,
-        desk.lock(b, row, Mode::X),
-        Ok((interval, Locked::Waiting)),
-    );
-    same(&rt, desk.manager.forget(row), Ok(()));
-    desk.commit(&rt, a);
-    same(&rt, desk.manager.mode_on(b, interval), Some(Mode::IX));
+    const WAITS: Result<Reached, Refusal> = Ok(Reached {
+        node: INTERVAL,
+        locked: Locked::Waiting,
+    });
+    const READS: &[Step] = &[
+        Step::Takes(A, S, INTERVAL),
+        Step::Ask(Ask::Adopt(FILE, &[7]), Answer::Node(ROW)),
+        Step::Ask(Ask::Effective(A, ROW), Answer::Effect(Effect::S)),
+        Step::Path(B, X, ROW, WAITS, 0),
+        Step::Ask(Ask::Forget(ROW), Answer::Done),
+        Step::Tells(Ask::Commit(A), Answer::Done, 1),
+        Step::Holds(B, INTERVAL, IX),
+    ];
+    play(&rt, rt.alloc(), &[OPEN, PAIR, READS]);
 }

@@ -1,7 +1,11 @@
-//! Steps put to a session of a shared table, and the same to a manager beside it: what both answer, and
-//! what becomes of waits.
+//! Steps put to a session of a shared table, and the same to a manager beside it: what both answer, what
+//! becomes of waits, what is served of a list, and when a table can be closed.
 #![tactic(auto)]
 
+#[cfg(test)]
+mod gathers;
+#[cfg(test)]
+mod lists;
 #[cfg(test)]
 mod rows;
 #[cfg(test)]

@@ -1,5 +1,5 @@
-//! A table that tells while somebody waits: a look shows each wait and its end, and else the board that
-//! was told last.
+//! What looks show: of a table that tells while somebody waits each wait and its end, and else the board
+//! that was told last; and what notes show that a watcher learns.
 
 ghost use Rattle.std.specs.Prelude.{◌≡◌};
 ghost use Rattle.gl_table.specs.Table.{board_of};
@@ -7,10 +7,12 @@ ghost use Rattle.gl_catalog.specs.Manager.{state_of};
 
 use crate::steps::{Made, Step, Through, take};
 use crate::wanted::same;
-use gl_catalog::Manager;
-use gl_modes::Mode::X;
+use gl_catalog::{Answer, Manager};
+use gl_modes::Mode::{S, X};
+use gl_modes::{NodeId, Refusal};
 use gl_shared::{Naming, NotAll, Parts, Session, Share, Shared, Telling, Watcher, gather};
-use gl_table::Detect;
+use gl_table::{Detect, TxnId};
+use gl_waits::{Board, SLOTS};
 use std::alloc::Global;
 use std::marker::Brand;
 use std::process::Abort;
@@ -57,11 +59,115 @@ fn look_behind_each<N: Naming, R: Wait + Abort>(
     session.end()
 }
 
+/// A board of this epoch, with the ages of the first two slots and for whom the second waits; all else is 0.
+fn board_of_two(epoch: u64, first: u64, second: u64, waits_for: u128) -> Board {
+    let mut board = Board {
+        epoch,
+        ages: [0; SLOTS],
+        rows: [0; SLOTS],
+    };
+    board.ages[0] = first;
+    board.ages[1] = second;
+    board.rows[1] = waits_for;
+    board
+}
+
+/// Takes steps, each of which is answered, and answers how many the last one told.
+fn takes<N: Naming, R: Wait>(
+    through: &mut Through<'_, '_, N, R>,
+    made: &mut Made,
+    steps: &[(Step, Answer)],
+    rt: &impl Abort,
+) -> usize {
+    let mut told = 0;
+    for (place, (step, wanted)) in steps.iter().enumerate() {
+        let reply = take(through, made, *step);
+        same(rt, (place, reply.answer), (place, *wanted));
+        made.keep(reply.answer);
+        told = reply.told.len();
+    }
+    told
+}
+
+const ROOT: NodeId = NodeId { key: 0, birth: 1 };
+
+const FIRST: TxnId = TxnId { slot: 0, age: 1 };
+
+const SECOND: TxnId = TxnId { slot: 1, age: 2 };
+
+/// The first of two transactions holds S on a root, and the second waits for X on it.
+const HOLDS_AND_WAITS: &[(Step, Answer)] = &[
+    (Step::Root, Answer::Node(ROOT)),
+    (Step::Begin, Answer::Begun(FIRST)),
+    (Step::Begin, Answer::Begun(SECOND)),
+    (Step::Lock(0, S, 0), Answer::Granted(S)),
+    (Step::Lock(1, X, 0), Answer::Waiting),
+];
+
+const COMMITS: &[(Step, Answer)] = &[(Step::Commit(0), Answer::Done)];
+
+/// The first is gone then.
+const GONE: &[(Step, Answer)] = &[(Step::Commit(0), Answer::Refused(Refusal::NoSuchTxn))];
+
+/// What two watchers see of notes that a session hands them.
+fn learn_notes<N: Naming, R: Wait + Abort>(
+    rt: &R,
+    table: &Shared<N>,
+    share: Share<N>,
+    watcher: &mut Watcher<N>,
+    other: &mut Watcher<N>,
+) -> Share<N> {
+    let session = Session::new(table, share);
+    let mut through = Through { rt, session };
+    let mut made = Made::new();
+    same(rt, watcher.look().map(|board| board.epoch), Some(0));
+    let early = through.session.note(rt);
+    same(rt, early.epoch(), 0);
+    takes(&mut through, &mut made, HOLDS_AND_WAITS, rt);
+    learns(rt, &mut through.session, other, board_of_two(5, 1, 2, 1));
+    same(rt, takes(&mut through, &mut made, COMMITS, rt), 1);
+    counts_one_wait(rt, &mut through.session);
+    learns(rt, &mut through.session, watcher, board_of_two(6, 0, 2, 0));
+    watcher.learn(early);
+    assert!(rt; watcher.look() == Some(board_of_two(6, 0, 2, 0)));
+    takes(&mut through, &mut made, GONE, rt);
+    let Through { rt: _, session } = through;
+    session.end()
+}
+
+/// A watcher learns a note, and sees this board then.
+fn learns<N: Naming, R: Wait + Abort>(
+    rt: &R,
+    session: &mut Session<'_, N>,
+    watcher: &mut Watcher<N>,
+    board: Board,
+) {
+    let note = session.note(rt);
+    same(rt, note.epoch(), board.epoch);
+    watcher.learn(note);
+    assert!(rt; watcher.look() == Some(board));
+}
+
+/// The counters say how the asks went: one was granted, and one waited and was granted later.
+fn counts_one_wait<N: Naming, R: Wait + Abort>(rt: &R, session: &mut Session<'_, N>) {
+    let counters = session.counters(rt);
+    let asks = (counters.granted, counters.waited, counters.granted_later);
+    same(rt, asks, (1, 1, 1));
+}
+
+/// What is looked at.
+#[derive(Clone, Copy)]
+enum Looks {
+    BehindEach,
+    Notes,
+}
+
 /// The same over a table with its name.
 fn look_under_name<N: Naming, R: Wait + Abort>(
     rt: &R,
     alloc: Global,
     parts: Parts,
+    looks: Looks,
 ) -> Result<(), Fail>
     requires name { parts.blank.name ≡ N.name }
     requires parts { parts.blank.parts ≡ N.parts }
@@ -72,12 +178,22 @@ fn look_under_name<N: Naming, R: Wait + Abort>(
     let Ok((shared, mut shares, mut watchers)) = Shared::<N>::new(rt, alloc, parts) else {
         return Err(Fail::from("no memory"));
     };
-    if let (Some(share), Some(mut watcher)) = (shares.pop(), watchers.pop()) {
-        let back = look_behind_each(rt, &shared, share, &mut watcher);
+    if let (Some(share), Some(mut watcher), Some(mut other)) = (
+        shares.pop(),
+        watchers.pop(),
+        watchers.pop(),
+    ) {
+        let back = match looks {
+            Looks::BehindEach => look_behind_each(rt, &shared, share, &mut watcher),
+            Looks::Notes => learn_notes(rt, &shared, share, &mut watcher, &mut other),
+        };
         let _ = shares.push(back);
     }
     match gather(rt, shared, shares) {
-        Ok(_) => Ok(()),
+        Ok(closed) => {
+            same(rt, closed.book, closed.manager.accepted());
+            Ok(())
+        }
         Err(NotAll { shared, shares: _ }) => {
             shared.abandon(rt);
             Err(Fail::from("a share is missing"))
@@ -85,15 +201,21 @@ fn look_under_name<N: Naming, R: Wait + Abort>(
     }
 }
 
-/// And with deadlocks found one way.
-fn look_by<R: Wait + Abort>(rt: &R, alloc: Global, detect: Detect) -> Result<(), Fail> {
+/// And with deadlocks found and watchers told one way.
+fn look_by<R: Wait + Abort>(
+    rt: &R,
+    alloc: Global,
+    detect: Detect,
+    telling: Telling,
+    looks: Looks,
+) -> Result<(), Fail> {
     let Ok(manager) = Manager::new(alloc, detect, 128) else {
         return Err(Fail::from("no memory"));
     };
-    match Parts::new(rt, alloc, manager, 1, 1) {
+    match Parts::new(rt, alloc, manager, 1, 2) {
         Ok(parts) => {
-            let parts = parts.with_telling(Telling::WhileWaiting);
-            look_under_name::<Brand, R>(rt, alloc, parts)
+            let parts = parts.with_telling(telling);
+            look_under_name::<Brand, R>(rt, alloc, parts, looks)
         }
         Err(_) => Err(Fail::from("no memory")),
     }
@@ -101,6 +223,13 @@ fn look_by<R: Wait + Abort>(rt: &R, alloc: Global, detect: Detect) -> Result<(),
 
 #[test]
 fn waits_and_their_ends_are_told(rt: HostRuntime) -> Result<(), Fail> {
-    look_by(&rt, rt.alloc(), Detect::AtBlock)?;
-    look_by(&rt, rt.alloc(), Detect::ByWatcher)
+    let (telling, looks) = (Telling::WhileWaiting, Looks::BehindEach);
+    look_by(&rt, rt.alloc(), Detect::AtBlock, telling, looks)?;
+    look_by(&rt, rt.alloc(), Detect::ByWatcher, telling, looks)
+}
+
+#[test]
+fn notes_are_seen(rt: HostRuntime) -> Result<(), Fail> {
+    let (telling, looks) = (Telling::Always, Looks::Notes);
+    look_by(&rt, rt.alloc(), Detect::AtBlock, telling, looks)
 }

@@ -16,6 +16,7 @@ use gl_shared::{
     Grant, Naming, NotAll, Parts, Session, Share, Shared, Stop, Telling, Watcher, gather,
 };
 use gl_table::{Detect, TxnId};
+use gl_waits::suspects;
 use std::alloc::Global;
 use std::marker::Brand;
 use std::process::Abort;
@@ -36,6 +37,10 @@ struct Tale {
     refused: &'static [Step],
     /// What is done then.
     done: &'static [Step],
+    /// Whom the other session settles then, once a board has suspects.
+    settles: Option<usize>,
+    /// Which transaction locks which node in which mode then, and waits for it until it is granted.
+    locks: Option<(usize, Mode, usize)>,
     /// What the wait comes to; a grant of the mode for `None`.
     came: Option<Stop>,
 }
@@ -51,6 +56,15 @@ struct Asked {
 /// Transaction 0 holds a root, for which 1 is to wait.
 const HELD: &[Step] = &[Step::Root, Step::Begin, Step::Begin, Step::Lock(0, X, 0)];
 
+/// Both hold the root in S, and 1 is to wait for X.
+const BOTH_READ: &[Step] = &[
+    Step::Root,
+    Step::Begin,
+    Step::Begin,
+    Step::Lock(0, S, 0),
+    Step::Lock(1, S, 0),
+];
+
 /// A wait for X on that root.
 const PLAIN: Tale = Tale {
     before: &[HELD],
@@ -58,6 +72,8 @@ const PLAIN: Tale = Tale {
     elsewhere: 0,
     refused: &[],
     done: &[],
+    settles: None,
+    locks: None,
     came: None,
 };
 
@@ -86,7 +102,12 @@ fn sleeps<N: Naming, R: Wait + Abort>(
     let mut session = Session::new(table, share);
     let came = session.lock(rt, txn, node, mode);
     match wanted {
-        Some(stop) => same(rt, came, Err(stop)),
+        Some(stop) => {
+            same(rt, came, Err(stop));
+            if stop == Stop::Victim {
+                session.ask(rt, Command::Abort { txn });
+            }
+        }
         None => {
             same(rt, came, Ok(Grant { txn, node, mode }));
             let held = session.ask(rt, Command::Held { txn, node }).answer;
@@ -138,17 +159,52 @@ fn ends<N: Naming, R: Wait + Abort>(
     let mut through = Through { rt, session };
     take_each(rt, &mut through, &mut made, tale.refused, true);
     take_each(rt, &mut through, &mut made, tale.done, false);
-    let Through { rt: _, session } = through;
+    let Through { rt: _, mut session } = through;
+    if let Some(txn) = tale.settles {
+        settles(rt, &mut session, watcher, made.txn(txn));
+    }
+    if let Some((txn, mode, node)) = tale.locks {
+        gets(rt, &mut session, made.txn(txn), mode, made.node(node));
+    }
     session.end()
 }
 
-/// The tale over a table with its name.
+/// Settles a transaction once a board has suspects.
+fn settles<N: Naming, R: Wait + Abort>(
+    rt: &R,
+    session: &mut Session<'_, N>,
+    watcher: &mut Watcher<N>,
+    txn: TxnId,
+) {
+    let has_suspects = match watcher.look() {
+        Some(board) => suspects(&board) != 0,
+        None => false,
+    };
+    assert!(rt; has_suspects);
+    let answer = session.ask(rt, Command::Settle { txn }).answer;
+    same(rt, answer, Answer::Done);
+}
+
+/// Waits for a lock, which is granted.
+fn gets<N: Naming, R: Wait + Abort>(
+    rt: &R,
+    session: &mut Session<'_, N>,
+    txn: TxnId,
+    mode: Mode,
+    node: NodeId,
+) {
+    let came = session.lock(rt, txn, node, mode);
+    same(rt, came, Ok(Grant { txn, node, mode }));
+}
+
+/// The tale over a table with its name, whose manager had accepted so many commands before.
 fn tell_under_name<N: Naming + Send + Sync, R: Threads + Wait + Abort + Sync>(
     rt: &R,
     alloc: Global,
     parts: Parts,
     made: Made,
     tale: Tale,
+    before: u64,
 ) -> Result<(), Fail>
     requires name { parts.blank.name ≡ N.name }
     requires parts { parts.blank.parts ≡ N.parts }
@@ -180,7 +236,11 @@ fn tell_under_name<N: Naming + Send + Sync, R: Threads + Wait + Abort + Sync>(
         let _ = shares.push(second);
     }
     match gather(rt, shared, shares) {
-        Ok(_) => Ok(()),
+        Ok(closed) => {
+            let accepted = closed.manager.accepted();
+            same(rt, accepted.checked_sub(before), Some(closed.book));
+            Ok(())
+        }
         Err(NotAll { shared, shares: _ }) => {
             shared.abandon(rt);
             Err(Fail::from("a share is missing"))
@@ -212,10 +272,11 @@ fn tell_by<R: Threads + Wait + Abort + Sync>(
     for steps in tale.before {
         prepare(&mut manager, &mut made, steps);
     }
+    let before = manager.accepted();
     match Parts::new(rt, alloc, manager, 2, 1) {
         Ok(parts) => {
             let parts = parts.with_telling(telling);
-            tell_under_name::<Brand, R>(rt, alloc, parts, made, tale)
+            tell_under_name::<Brand, R>(rt, alloc, parts, made, tale, before)
         }
         Err(_) => Err(Fail::from("no memory")),
     }
@@ -368,4 +429,35 @@ fn it_is_granted_after_much_else(rt: HostRuntime) -> Result<(), Fail> {
         ..PLAIN
     };
     tell(&rt, rt.alloc(), tale)
+}
+
+#[test]
+fn a_waiter_is_granted(rt: HostRuntime) -> Result<(), Fail> {
+    let tale = Tale {
+        before: &[&[Step::Root, Step::Begin, Step::Begin, Step::Lock(0, S, 0)]],
+        done: &[Step::Commit(0)],
+        ..PLAIN
+    };
+    tell(&rt, rt.alloc(), tale)
+}
+
+#[test]
+fn a_waiter_is_the_victim(rt: HostRuntime) -> Result<(), Fail> {
+    let condemned = Tale {
+        before: &[BOTH_READ],
+        came: Some(Stop::Victim),
+        ..PLAIN
+    };
+    let by_lock = Tale {
+        locks: Some((0, X, 0)),
+        ..condemned
+    };
+    let by_settle = Tale {
+        done: &[Step::Lock(0, X, 0)],
+        settles: Some(1),
+        ..condemned
+    };
+    let always = Telling::Always;
+    tell_by(&rt, rt.alloc(), Detect::AtBlock, always, by_lock)?;
+    tell_by(&rt, rt.alloc(), Detect::ByWatcher, always, by_settle)
 }

@@ -7,41 +7,37 @@ ghost use Rattle.gl_graph.specs.Graph.{first_parent, shape_of};
 ghost use Rattle.gl_graph.specs.Shapes.{is_index_of_shape, is_record_shape};
 ghost use Rattle.gl_graph.specs.View.{graph_of};
 
-use crate::story::{
-    Heard, NOBODY, Released, Story, allowed, alone, granted, hear, nobody, same, tells, waits,
-};
+use crate::story::{A, Ask, B, Came, N1, N2, N3, N4, N5, N6, Part, hear, tell};
 use gl_graph::{Graph, Kind};
+use gl_modes::Mode::{IS, IX, NL, S, X};
 use gl_modes::{Mode, NodeId, Refusal};
 use gl_table::{Detect, Notice, Status, Table, TxnId};
-use std::alloc::Global;
-use std::process::Abort;
 
-/// Removes a record that an active transaction holds in X; `None` where it is none.
-fn remove(table: &mut Table, t: TxnId, rec: NodeId) -> Option<Heard> {
+/// Removes a record that an active transaction holds in X.
+pub fn remove(table: &mut Table, t: TxnId, rec: NodeId) -> Came {
     if table.status(t) != Some(Status::Active) || table.mode(t, rec) != Some(Mode::X) {
-        return None;
+        return Came::Unasked;
     }
     match table.graph().kind(rec) {
-        Some(Kind::Rec) => Some(hear(&table.remove(t, rec))),
-        _ => None,
+        Some(Kind::Rec) => hear(&table.remove(t, rec)),
+        _ => Came::Unasked,
     }
 }
 
-/// Moves an inner node that an active transaction holds in X under one that it holds in IX; `None` where
-/// they are none.
-fn move_under(table: &mut Table, t: TxnId, n: NodeId, parent: NodeId) -> Option<Released> {
+/// Moves an inner node that an active transaction holds in X under one that it holds in IX.
+pub fn move_under(table: &mut Table, t: TxnId, n: NodeId, parent: NodeId) -> Came {
     if table.status(t) != Some(Status::Active)
         || table.mode(t, n) != Some(Mode::X)
         || table.mode(t, parent) != Some(Mode::IX)
     {
-        return None;
+        return Came::Unasked;
     }
     match (table.graph().kind(n), table.graph().kind(parent)) {
         (Some(Kind::Inner), Some(Kind::Inner)) => match table.regraft(t, n, &[parent]) {
-            Ok(told) => Some(Ok(hear(&told))),
-            Err(refusal) => Some(Err(refusal)),
+            Ok(told) => hear(&told),
+            Err(refusal) => Came::Refused(refusal),
         },
-        _ => None,
+        _ => Came::Unasked,
     }
 }
 
@@ -68,153 +64,165 @@ fn parents_with(graph: &Graph, rec: NodeId, index: NodeId, key: u64) -> Option<(
 }
 
 /// Gives a record another key, where an active transaction holds it in X, and its file and the interval
-/// of that key in IX; `None` where it does not, or where the file has other indexes.
-fn give_key(table: &mut Table, t: TxnId, rec: NodeId, index: NodeId, key: u64) -> Option<Heard> {
+/// of that key in IX, and the file has no other indexes.
+pub fn give_key(table: &mut Table, t: TxnId, rec: NodeId, index: NodeId, key: u64) -> Came {
     if table.status(t) != Some(Status::Active) || table.mode(t, rec) != Some(Mode::X) {
-        return None;
+        return Came::Unasked;
     }
-    let (file, interval) = parents_with(table.graph(), rec, index, key)?;
+    let Some((file, interval)) = parents_with(table.graph(), rec, index, key) else {
+        return Came::Unasked;
+    };
     if table.mode(t, file) != Some(Mode::IX) || table.mode(t, interval) != Some(Mode::IX) {
-        return None;
+        return Came::Unasked;
     }
-    Some(hear(&table.reparent(t, rec, index, key)))
+    hear(&table.reparent(t, rec, index, key))
 }
 
-/// Sheds the children of a node that an active transaction holds in X; `None` where it is none.
-fn shed(table: &mut Table, t: TxnId, n: NodeId) -> Option<(u32, u32, Heard)> {
+/// Sheds the children of a node that an active transaction holds in X.
+pub fn shed(table: &mut Table, t: TxnId, n: NodeId) -> Came {
     if table.status(t) != Some(Status::Active) || table.mode(t, n) != Some(Mode::X) {
-        return None;
+        return Came::Unasked;
     }
     let (released, kept, told) = table.shed(t, n);
-    Some((released, kept, hear(&told)))
+    match told.as_slice() {
+        [] => Came::Shed(released, kept, None),
+        [one] => Came::Shed(released, kept, Some(*one)),
+        more => Came::TellsMany(more.len()),
+    }
 }
 
-/// A table for two transactions, both of them, and a root.
-fn open(rt: &impl Abort, alloc: Global) -> (Story, TxnId, TxnId, NodeId) {
-    let mut story = allowed(rt, Story::new(alloc, Detect::AtBlock, 2));
-    let a = allowed(rt, story.begin());
-    let b = allowed(rt, story.begin());
-    let db = allowed(rt, story.add_inner(&[]));
-    (story, a, b, db)
-}
+const DB: NodeId = N1;
 
-/// A lock that is granted as it was asked for.
-fn takes(rt: &impl Abort, story: &mut Story, t: TxnId, n: NodeId, mode: Mode) {
-    same(rt, story.lock(t, n, mode), granted(mode));
-}
+/// A root, and two transactions.
+const OPEN: Part = &[
+    (Ask::Begin, Came::Txn(A)),
+    (Ask::Begin, Came::Txn(B)),
+    (Ask::Inner(&[]), Came::Node(DB)),
+];
 
 #[test]
 fn who_waits_for_a_removed_record_is_told(rt: HostRuntime) {
-    let (mut story, a, b, db) = open(&rt, rt.alloc());
-    let file = allowed(&rt, story.add_file(&[db]));
-    let rec = allowed(&rt, story.table.adopt(file, &[]));
-    takes(&rt, &mut story, a, db, Mode::IX);
-    takes(&rt, &mut story, a, file, Mode::IX);
-    same(&rt, remove(&mut story.table, a, rec), None);
-    takes(&rt, &mut story, a, rec, Mode::X);
-    takes(&rt, &mut story, b, db, Mode::IS);
-    takes(&rt, &mut story, b, file, Mode::IS);
-    same(&rt, story.lock(b, rec, Mode::S), waits());
-    let gone = alone(b, Notice::Gone);
-    same(&rt, remove(&mut story.table, a, rec), Some(gone));
-    same(&rt, story.status(b), Some(Status::Active));
-    same(&rt, story.held(a, rec), Err(Refusal::NoSuchNode));
+    const FILE: NodeId = N2;
+    const REC: NodeId = N3;
+    const GOES: Part = &[
+        (Ask::File(DB), Came::Node(FILE)),
+        (Ask::Adopt(FILE, &[]), Came::Node(REC)),
+        (Ask::Lock(A, IX, DB), Came::Granted(IX)),
+        (Ask::Lock(A, IX, FILE), Came::Granted(IX)),
+        (Ask::Remove(A, REC), Came::Unasked),
+        (Ask::Lock(A, X, REC), Came::Granted(X)),
+        (Ask::Lock(B, IS, DB), Came::Granted(IS)),
+        (Ask::Lock(B, IS, FILE), Came::Granted(IS)),
+        (Ask::Lock(B, S, REC), Came::Waits),
+        (Ask::Remove(A, REC), Came::Tells(B, Notice::Gone)),
+        (Ask::Status(B), Came::Status(Some(Status::Active))),
+        (Ask::Held(A, REC), Came::Refused(Refusal::NoSuchNode)),
+    ];
+    tell(&rt, rt.alloc(), Detect::AtBlock, 2, &[OPEN, GOES]);
 }
 
-/// A root, two inner nodes under it, and one under the second of these. One transaction may write the
-/// second, and holds the first in X.
-fn tree(rt: &impl Abort, story: &mut Story, a: TxnId, db: NodeId) -> (NodeId, NodeId, NodeId) {
-    let x = allowed(rt, story.add_inner(&[db]));
-    let y = allowed(rt, story.add_inner(&[db]));
-    let z = allowed(rt, story.add_inner(&[x]));
-    takes(rt, story, a, db, Mode::IX);
-    takes(rt, story, a, x, Mode::X);
-    takes(rt, story, a, y, Mode::IX);
-    (x, y, z)
-}
+/// Two inner nodes under the root, and one under the first of these.
+const LEFT: NodeId = N2;
+
+const RIGHT: NodeId = N3;
+
+const BELOW: NodeId = N4;
+
+/// The first transaction may write the second of them, and holds the first in X.
+const TREE: Part = &[
+    (Ask::Inner(&[DB]), Came::Node(LEFT)),
+    (Ask::Inner(&[DB]), Came::Node(RIGHT)),
+    (Ask::Inner(&[LEFT]), Came::Node(BELOW)),
+    (Ask::Lock(A, IX, DB), Came::Granted(IX)),
+    (Ask::Lock(A, X, LEFT), Came::Granted(X)),
+    (Ask::Lock(A, IX, RIGHT), Came::Granted(IX)),
+];
 
 #[test]
 fn who_waits_for_a_moved_node_is_told(rt: HostRuntime) {
-    let (mut story, a, b, db) = open(&rt, rt.alloc());
-    let (x, y, _) = tree(&rt, &mut story, a, db);
-    takes(&rt, &mut story, b, db, Mode::IX);
-    same(&rt, story.lock(b, x, Mode::IX), waits());
-    let moved = tells(b, Notice::Moved);
-    same(&rt, move_under(&mut story.table, a, x, y), Some(moved));
-    same(&rt, story.children(a, y), Some(1));
-    let held = Err(Refusal::HeldChild { node: x });
-    same(&rt, story.unlock(a, y), held);
-    same(&rt, move_under(&mut story.table, b, x, y), None);
-}
-
-/// A file with one index of two intervals, in the lower of which two transactions may write: the index,
-/// and both intervals.
-fn keyed_file(
-    rt: &impl Abort,
-    story: &mut Story,
-    txns: [TxnId; 2],
-    db: NodeId,
-) -> (NodeId, NodeId, NodeId, NodeId) {
-    let file = allowed(rt, story.add_file(&[db]));
-    let index = allowed(rt, story.table.add_index(&[db], file, &[100]));
-    let graph = story.table.graph();
-    let low = graph
-        .interval(index, 0)
-        .expect(rt, "there are two intervals");
-    let high = graph
-        .interval(index, 1)
-        .expect(rt, "there are two intervals");
-    for t in txns {
-        takes(rt, story, t, db, Mode::IX);
-        takes(rt, story, t, file, Mode::IX);
-        takes(rt, story, t, index, Mode::IX);
-        takes(rt, story, t, low, Mode::IX);
-    }
-    (file, index, low, high)
+    const MOVES: Part = &[
+        (Ask::Lock(B, IX, DB), Came::Granted(IX)),
+        (Ask::Lock(B, IX, LEFT), Came::Waits),
+        (
+            Ask::MoveUnder(A, LEFT, RIGHT),
+            Came::Tells(B, Notice::Moved),
+        ),
+        (Ask::Children(A, RIGHT), Came::Children(Some(1))),
+        (
+            Ask::Unlock(A, RIGHT),
+            Came::Refused(Refusal::HeldChild { node: LEFT }),
+        ),
+        (Ask::MoveUnder(B, LEFT, RIGHT), Came::Unasked),
+    ];
+    tell(&rt, rt.alloc(), Detect::AtBlock, 2, &[OPEN, TREE, MOVES]);
 }
 
 #[test]
 fn who_waits_for_a_record_that_moves_is_told(rt: HostRuntime) {
-    let (mut story, a, b, db) = open(&rt, rt.alloc());
-    let (file, index, low, high) = keyed_file(&rt, &mut story, [a, b], db);
-    let rec = allowed(&rt, story.table.adopt(file, &[50]));
-    takes(&rt, &mut story, a, rec, Mode::X);
-    same(&rt, story.lock(b, rec, Mode::X), waits());
-    same(&rt, give_key(&mut story.table, a, rec, index, 150), None);
-    takes(&rt, &mut story, a, high, Mode::IX);
-    let moved = alone(b, Notice::Moved);
-    same(
-        &rt,
-        give_key(&mut story.table, a, rec, index, 150),
-        Some(moved),
-    );
-    same(&rt, story.children(a, low), Some(0));
-    same(&rt, story.children(a, high), Some(1));
+    const FILE: NodeId = N2;
+    const INDEX: NodeId = N3;
+    const LOW: NodeId = N4;
+    const HIGH: NodeId = N5;
+    const REC: NodeId = N6;
+    // A file with one index of two intervals, in the lower of which both may write.
+    const KEYED: Part = &[
+        (Ask::File(DB), Came::Node(FILE)),
+        (Ask::Index(DB, FILE, 100), Came::Node(INDEX)),
+        (Ask::Lock(A, IX, DB), Came::Granted(IX)),
+        (Ask::Lock(A, IX, FILE), Came::Granted(IX)),
+        (Ask::Lock(A, IX, INDEX), Came::Granted(IX)),
+        (Ask::Lock(A, IX, LOW), Came::Granted(IX)),
+        (Ask::Lock(B, IX, DB), Came::Granted(IX)),
+        (Ask::Lock(B, IX, FILE), Came::Granted(IX)),
+        (Ask::Lock(B, IX, INDEX), Came::Granted(IX)),
+        (Ask::Lock(B, IX, LOW), Came::Granted(IX)),
+    ];
+    const MOVES: Part = &[
+        (Ask::Adopt(FILE, &[50]), Came::Node(REC)),
+        (Ask::Lock(A, X, REC), Came::Granted(X)),
+        (Ask::Lock(B, X, REC), Came::Waits),
+        (Ask::GiveKey(A, REC, INDEX, 150), Came::Unasked),
+        (Ask::Lock(A, IX, HIGH), Came::Granted(IX)),
+        (
+            Ask::GiveKey(A, REC, INDEX, 150),
+            Came::Tells(B, Notice::Moved),
+        ),
+        (Ask::Children(A, LOW), Came::Children(Some(0))),
+        (Ask::Children(A, HIGH), Came::Children(Some(1))),
+    ];
+    tell(&rt, rt.alloc(), Detect::AtBlock, 2, &[OPEN, KEYED, MOVES]);
 }
 
 #[test]
 fn a_move_that_closes_a_path_is_refused(rt: HostRuntime) {
-    let (mut story, a, _, db) = open(&rt, rt.alloc());
-    let (x, _, z) = tree(&rt, &mut story, a, db);
-    takes(&rt, &mut story, a, z, Mode::IX);
-    let refused = Err(Refusal::Cycle { node: z });
-    same(&rt, move_under(&mut story.table, a, x, z), Some(refused));
-    same(&rt, story.unlock(a, z), nobody());
+    const CLOSES: Part = &[
+        (Ask::Lock(A, IX, BELOW), Came::Granted(IX)),
+        (
+            Ask::MoveUnder(A, LEFT, BELOW),
+            Came::Refused(Refusal::Cycle { node: BELOW }),
+        ),
+        (Ask::Unlock(A, BELOW), Came::Done),
+    ];
+    tell(&rt, rt.alloc(), Detect::AtBlock, 2, &[OPEN, TREE, CLOSES]);
 }
 
 #[test]
 fn who_waits_for_a_shed_child_is_granted(rt: HostRuntime) {
-    let (mut story, a, b, db) = open(&rt, rt.alloc());
-    let other = allowed(&rt, story.add_inner(&[]));
-    let child = allowed(&rt, story.add_inner(&[db, other]));
-    takes(&rt, &mut story, a, db, Mode::X);
-    takes(&rt, &mut story, a, other, Mode::IX);
-    takes(&rt, &mut story, a, child, Mode::IX);
-    takes(&rt, &mut story, b, other, Mode::IS);
-    same(&rt, story.lock(b, child, Mode::S), waits());
-    same(&rt, shed(&mut story.table, b, other), None);
-    let grant = alone(b, Notice::Granted(child, Mode::S));
-    same(&rt, shed(&mut story.table, a, db), Some((1, 0, grant)));
-    same(&rt, story.held(a, child), Ok(Mode::NL));
-    same(&rt, shed(&mut story.table, a, db), Some((0, 0, NOBODY)));
+    const OTHER: NodeId = N2;
+    const CHILD: NodeId = N3;
+    const GRANT: (TxnId, Notice) = (B, Notice::Granted(CHILD, S));
+    const SHEDS: Part = &[
+        (Ask::Inner(&[]), Came::Node(OTHER)),
+        (Ask::Inner(&[DB, OTHER]), Came::Node(CHILD)),
+        (Ask::Lock(A, X, DB), Came::Granted(X)),
+        (Ask::Lock(A, IX, OTHER), Came::Granted(IX)),
+        (Ask::Lock(A, IX, CHILD), Came::Granted(IX)),
+        (Ask::Lock(B, IS, OTHER), Came::Granted(IS)),
+        (Ask::Lock(B, S, CHILD), Came::Waits),
+        (Ask::Shed(B, OTHER), Came::Unasked),
+        (Ask::Shed(A, DB), Came::Shed(1, 0, Some(GRANT))),
+        (Ask::Held(A, CHILD), Came::Mode(NL)),
+        (Ask::Shed(A, DB), Came::Shed(0, 0, None)),
+    ];
+    tell(&rt, rt.alloc(), Detect::AtBlock, 2, &[OPEN, SHEDS]);
 }

@@ -1,123 +1,164 @@
 //! Transactions that try and release locks, and what they are answered.
 
-use crate::story::{Story, allowed, nobody, same};
-use gl_modes::{Mode, NodeId, Refusal};
-use gl_table::{Detect, Effect, TxnId};
-use std::alloc::Global;
-use std::process::Abort;
+use crate::story::{A, Ask, B, Came, N1, N2, N3, Part, allowed, asks, same, tell};
+use gl_modes::Mode::{IS, IX, NL, S, SIX, X};
+use gl_modes::{NodeId, Refusal};
+use gl_table::{Detect, Effect, Table, TxnId};
 
-/// A table for four transactions with a root and a file under it.
-fn small(rt: &impl Abort, alloc: Global) -> (Story, NodeId, NodeId) {
-    let mut table = allowed(rt, Story::new(alloc, Detect::AtBlock, 4));
-    let db = allowed(rt, table.add_inner(&[]));
-    let file = allowed(rt, table.add_file(&[db]));
-    (table, db, file)
-}
+const DB: NodeId = N1;
+
+const FILE: NodeId = N2;
+
+/// A root and a file under it, and a transaction.
+const SMALL: Part = &[
+    (Ask::Inner(&[]), Came::Node(DB)),
+    (Ask::File(DB), Came::Node(FILE)),
+    (Ask::Begin, Came::Txn(A)),
+];
 
 #[test]
 fn children_are_released_first(rt: HostRuntime) {
-    let (mut table, db, file) = small(&rt, rt.alloc());
-    let a = allowed(&rt, table.begin());
-    same(&rt, table.try_lock(a, db, Mode::IX), Ok(Mode::IX));
-    same(&rt, table.try_lock(a, file, Mode::X), Ok(Mode::X));
-    same(&rt, table.children(a, db), Some(1));
-    let refused = table.unlock(a, db);
-    same(&rt, refused, Err(Refusal::HeldChild { node: file }));
-    same(&rt, table.unlock(a, file), nobody());
-    same(&rt, table.children(a, db), Some(0));
-    same(&rt, table.unlock(a, db), nobody());
-    same(&rt, table.children(a, db), None);
-    same(&rt, table.unlock(a, db), Err(Refusal::NotHeld));
+    const RELEASES: Part = &[
+        (Ask::Try(A, IX, DB), Came::Mode(IX)),
+        (Ask::Try(A, X, FILE), Came::Mode(X)),
+        (Ask::Children(A, DB), Came::Children(Some(1))),
+        (
+            Ask::Unlock(A, DB),
+            Came::Refused(Refusal::HeldChild { node: FILE }),
+        ),
+        (Ask::Unlock(A, FILE), Came::Done),
+        (Ask::Children(A, DB), Came::Children(Some(0))),
+        (Ask::Unlock(A, DB), Came::Done),
+        (Ask::Children(A, DB), Came::Children(None)),
+        (Ask::Unlock(A, DB), Came::Refused(Refusal::NotHeld)),
+    ];
+    tell(&rt, rt.alloc(), Detect::AtBlock, 4, &[SMALL, RELEASES]);
 }
 
 #[test]
 fn a_conversion_raises_to_the_supremum(rt: HostRuntime) {
-    let (mut table, db, _) = small(&rt, rt.alloc());
-    let a = allowed(&rt, table.begin());
-    same(&rt, table.try_lock(a, db, Mode::IX), Ok(Mode::IX));
-    same(&rt, table.try_lock(a, db, Mode::S), Ok(Mode::SIX));
-    same(&rt, table.group(db), Ok(Mode::SIX));
-    same(&rt, table.commit(a), nobody());
-    same(&rt, table.group(db), Ok(Mode::NL));
-    same(&rt, table.commit(a), Err(Refusal::NoSuchTxn));
+    const RAISES: Part = &[
+        (Ask::Try(A, IX, DB), Came::Mode(IX)),
+        (Ask::Try(A, S, DB), Came::Mode(SIX)),
+        (Ask::Group(DB), Came::Mode(SIX)),
+        (Ask::Commit(A), Came::Done),
+        (Ask::Group(DB), Came::Mode(NL)),
+        (Ask::Commit(A), Came::Refused(Refusal::NoSuchTxn)),
+    ];
+    tell(&rt, rt.alloc(), Detect::AtBlock, 4, &[SMALL, RAISES]);
 }
 
 #[test]
 fn a_try_that_would_wait_is_refused(rt: HostRuntime) {
-    let (mut table, db, file) = small(&rt, rt.alloc());
-    let a = allowed(&rt, table.begin());
-    let b = allowed(&rt, table.begin());
-    same(&rt, table.try_lock(a, db, Mode::S), Ok(Mode::S));
-    let refused = table.try_lock(b, db, Mode::IX);
-    same(&rt, refused, Err(Refusal::WouldBlock));
-    same(&rt, table.held(b, db), Ok(Mode::NL));
-    same(&rt, table.try_lock(b, db, Mode::IS), Ok(Mode::IS));
-    let refused = table.try_lock(b, file, Mode::X);
-    same(&rt, refused, Err(Refusal::NeedParents { node: db }));
-    let refused = table.try_lock(b, file, Mode::NL);
-    same(&rt, refused, Err(Refusal::BadMode));
-    let refused = table.try_lock(b, NodeId::NONE, Mode::S);
-    same(&rt, refused, Err(Refusal::NoSuchNode));
-    let refused = table.try_lock(TxnId::NONE, db, Mode::S);
-    same(&rt, refused, Err(Refusal::NoSuchTxn));
+    const REFUSED: Part = &[
+        (Ask::Begin, Came::Txn(B)),
+        (Ask::Try(A, S, DB), Came::Mode(S)),
+        (Ask::Try(B, IX, DB), Came::Refused(Refusal::WouldBlock)),
+        (Ask::Held(B, DB), Came::Mode(NL)),
+        (Ask::Try(B, IS, DB), Came::Mode(IS)),
+        (
+            Ask::Try(B, X, FILE),
+            Came::Refused(Refusal::NeedParents { node: DB }),
+        ),
+        (Ask::Try(B, NL, FILE), Came::Refused(Refusal::BadMode)),
+        (
+            Ask::Try(B, S, NodeId::NONE),
+            Came::Refused(Refusal::NoSuchNode),
+        ),
+        (
+            Ask::Try(TxnId::NONE, S, DB),
+            Came::Refused(Refusal::NoSuchTxn),
+        ),
+    ];
+    tell(&rt, rt.alloc(), Detect::AtBlock, 4, &[SMALL, REFUSED]);
 }
+
+const G: NodeId = N1;
+
+const H: NodeId = N2;
+
+const K: NodeId = N3;
+
+/// Two roots and a child of both, and a transaction.
+const TWO_ROOTS: Part = &[
+    (Ask::Inner(&[]), Came::Node(G)),
+    (Ask::Inner(&[]), Came::Node(H)),
+    (Ask::Inner(&[G, H]), Came::Node(K)),
+    (Ask::Begin, Came::Txn(A)),
+];
 
 #[test]
 fn locks_further_up_imply_locks(rt: HostRuntime) {
-    let mut table = allowed(&rt, Story::new(rt.alloc(), Detect::AtBlock, 1));
-    let g = allowed(&rt, table.add_inner(&[]));
-    let h = allowed(&rt, table.add_inner(&[]));
-    let k = allowed(&rt, table.add_inner(&[g, h]));
-    let a = allowed(&rt, table.begin());
-    same(&rt, table.effective(a, k), Ok(Effect::None));
-    same(&rt, table.try_lock(a, g, Mode::X), Ok(Mode::X));
-    same(&rt, table.effective(a, k), Ok(Effect::S));
-    same(&rt, table.try_lock(a, h, Mode::X), Ok(Mode::X));
-    same(&rt, table.effective(a, k), Ok(Effect::X));
-    same(&rt, table.held(a, k), Ok(Mode::NL));
-    same(&rt, table.try_lock(a, k, Mode::SIX), Ok(Mode::SIX));
-    let refused = table.unlock(a, g);
-    same(&rt, refused, Err(Refusal::HeldChild { node: k }));
+    const IMPLIES: Part = &[
+        (Ask::Effective(A, K), Came::Effect(Effect::None)),
+        (Ask::Try(A, X, G), Came::Mode(X)),
+        (Ask::Effective(A, K), Came::Effect(Effect::S)),
+        (Ask::Try(A, X, H), Came::Mode(X)),
+        (Ask::Effective(A, K), Came::Effect(Effect::X)),
+        (Ask::Held(A, K), Came::Mode(NL)),
+        (Ask::Try(A, SIX, K), Came::Mode(SIX)),
+        (
+            Ask::Unlock(A, G),
+            Came::Refused(Refusal::HeldChild { node: K }),
+        ),
+    ];
+    tell(&rt, rt.alloc(), Detect::AtBlock, 1, &[TWO_ROOTS, IMPLIES]);
 }
 
 #[test]
 fn a_child_may_be_held_before_its_second_parent(rt: HostRuntime) {
-    let mut table = allowed(&rt, Story::new(rt.alloc(), Detect::ByWatcher, 1));
-    let g = allowed(&rt, table.add_inner(&[]));
-    let h = allowed(&rt, table.add_inner(&[]));
-    let k = allowed(&rt, table.add_inner(&[g, h]));
-    let a = allowed(&rt, table.begin());
-    allowed(&rt, table.try_lock(a, g, Mode::IS));
-    allowed(&rt, table.try_lock(a, k, Mode::S));
-    same(&rt, table.children(a, h), None);
-    allowed(&rt, table.try_lock(a, h, Mode::IS));
-    same(&rt, table.children(a, h), Some(1));
-    let refused = table.unlock(a, h);
-    same(&rt, refused, Err(Refusal::HeldChild { node: k }));
-    allowed(&rt, table.unlock(a, k));
-    same(&rt, table.children(a, h), Some(0));
+    const HELD_FIRST: Part = &[
+        (Ask::Try(A, IS, G), Came::Mode(IS)),
+        (Ask::Try(A, S, K), Came::Mode(S)),
+        (Ask::Children(A, H), Came::Children(None)),
+        (Ask::Try(A, IS, H), Came::Mode(IS)),
+        (Ask::Children(A, H), Came::Children(Some(1))),
+        (
+            Ask::Unlock(A, H),
+            Came::Refused(Refusal::HeldChild { node: K }),
+        ),
+        (Ask::Unlock(A, K), Came::Done),
+        (Ask::Children(A, H), Came::Children(Some(0))),
+    ];
+    tell(
+        &rt,
+        rt.alloc(),
+        Detect::ByWatcher,
+        1,
+        &[TWO_ROOTS, HELD_FIRST],
+    );
 }
 
 #[test]
 fn the_lowest_free_slot_is_taken(rt: HostRuntime) {
-    let mut table = allowed(&rt, Story::new(rt.alloc(), Detect::AtBlock, 128));
-    let mut names = [TxnId::NONE; 128];
-    for slot in 0..128usize {
-        names[slot] = allowed(&rt, table.begin());
-        same(&rt, names[slot].slot as usize, slot);
+    const FIFTH: TxnId = TxnId { slot: 5, age: 6 };
+    const NEXT: TxnId = TxnId { slot: 5, age: 129 };
+    const REFUSED: (Ask, Came) = (Ask::Begin, Came::Refused(Refusal::TooManyTxns));
+    let mut table = allowed(&rt, Table::new(rt.alloc(), Detect::AtBlock, 128));
+    for slot in 0..128u8 {
+        let age = u64::from(slot) + 1;
+        let begun = (Ask::Begin, Came::Txn(TxnId { slot, age }));
+        asks(&rt, &mut table, slot as usize, begun);
     }
-    same(&rt, table.begin(), Err(Refusal::TooManyTxns));
-    allowed(&rt, table.commit(names[5]));
-    same(&rt, table.begin(), Ok(TxnId { slot: 5, age: 129 }));
-    same(&rt, table.status(names[5]), None);
+    asks(&rt, &mut table, 128, REFUSED);
+    asks(&rt, &mut table, 129, (Ask::Commit(FIFTH), Came::Done));
+    asks(&rt, &mut table, 130, (Ask::Begin, Came::Txn(NEXT)));
+    asks(
+        &rt,
+        &mut table,
+        131,
+        (Ask::Status(FIFTH), Came::Status(None)),
+    );
 }
 
 #[test]
 fn a_board_shows_who_lives(rt: HostRuntime) {
-    let mut table = allowed(&rt, Story::new(rt.alloc(), Detect::AtBlock, 2));
-    let a = allowed(&rt, table.begin());
-    allowed(&rt, table.begin());
-    allowed(&rt, table.commit(a));
+    const LIVES: Part = &[
+        (Ask::Begin, Came::Txn(A)),
+        (Ask::Begin, Came::Txn(B)),
+        (Ask::Commit(A), Came::Done),
+    ];
+    let table = tell(&rt, rt.alloc(), Detect::AtBlock, 2, &[LIVES]);
     let board = table.board(7);
     same(&rt, board.epoch, 7);
     let ages = (board.ages[0], board.ages[1], board.ages[2]);

@@ -1,89 +1,125 @@
 //! Deadlocks: what is kept of the last of which a victim fell.
 
-use crate::story::{Story, allowed, condemned, granted, nobody, same, tells, waits};
-use gl_modes::{Mode, NodeId};
+use crate::story::{A, Ask, B, C, Came, D, N1, N2, N3, Part, tell};
+use gl_modes::Mode::{IX, S, X};
+use gl_modes::NodeId;
 use gl_table::{Detect, Notice, TxnId};
-use std::process::Abort;
 
-/// Two transactions share a root, and each waits for the other to have it in X. The second is
-/// condemned; it aborts, and the first commits. Answers both.
-fn one_deadlock(rt: &impl Abort, table: &mut Story, db: NodeId) -> (TxnId, TxnId) {
-    let a = allowed(rt, table.begin());
-    let b = allowed(rt, table.begin());
-    same(rt, table.lock(a, db, Mode::S), granted(Mode::S));
-    same(rt, table.lock(b, db, Mode::S), granted(Mode::S));
-    same(rt, table.lock(a, db, Mode::X), waits());
-    same(rt, table.lock(b, db, Mode::X), condemned());
-    let told = tells(a, Notice::Granted(db, Mode::X));
-    same(rt, table.abort(b), told);
-    same(rt, table.commit(a), nobody());
-    (a, b)
-}
+const DB: NodeId = N1;
+
+/// A root.
+const ROOT: Part = &[(Ask::Inner(&[]), Came::Node(DB))];
+
+/// Two transactions share it.
+const PAIR: Part = &[
+    (Ask::Begin, Came::Txn(A)),
+    (Ask::Begin, Came::Txn(B)),
+    (Ask::Lock(A, S, DB), Came::Granted(S)),
+    (Ask::Lock(B, S, DB), Came::Granted(S)),
+];
+
+/// Each waits for the other to have it in X. The second is condemned; it aborts, and the first commits.
+const FALLS: Part = &[
+    (Ask::Lock(A, X, DB), Came::Waits),
+    (Ask::Lock(B, X, DB), Came::Victim),
+    (Ask::Abort(B), Came::Tells(A, Notice::Granted(DB, X))),
+    (Ask::Commit(A), Came::Done),
+];
 
 /// The kept deadlock is of two in the first two slots, who wait for each other to have a node in X;
 /// the second is its victim.
-fn two_are_kept(rt: &impl Abort, table: &Story, db: NodeId, a: TxnId, b: TxnId) {
-    same(rt, table.last_victim(), Some(b));
-    same(rt, table.stuck(0), Some((a, db, Mode::X, 0b10)));
-    same(rt, table.stuck(1), Some((b, db, Mode::X, 0b01)));
-    same(rt, table.stuck(2), None);
-}
+const KEPT: Part = &[
+    (Ask::Victim, Came::Fell(Some(B))),
+    (Ask::Stuck(0), Came::Stuck(Some((A, DB, X, 0b10)))),
+    (Ask::Stuck(1), Came::Stuck(Some((B, DB, X, 0b01)))),
+    (Ask::Stuck(2), Came::Stuck(None)),
+];
 
 #[test]
 fn a_ring_of_three_is_kept(rt: HostRuntime) {
-    let mut table = allowed(&rt, Story::new(rt.alloc(), Detect::AtBlock, 4));
-    let f = allowed(&rt, table.add_inner(&[]));
-    let g = allowed(&rt, table.add_inner(&[]));
-    let h = allowed(&rt, table.add_inner(&[]));
-    let a = allowed(&rt, table.begin());
-    let b = allowed(&rt, table.begin());
-    let c = allowed(&rt, table.begin());
-    let d = allowed(&rt, table.begin());
-    same(&rt, table.lock(a, f, Mode::X), granted(Mode::X));
-    same(&rt, table.lock(b, g, Mode::S), granted(Mode::S));
-    same(&rt, table.lock(c, h, Mode::X), granted(Mode::X));
-    same(&rt, table.lock(d, g, Mode::S), granted(Mode::S));
-    same(&rt, table.lock(a, g, Mode::X), waits());
-    same(&rt, table.lock(b, h, Mode::S), waits());
-    same(&rt, table.last_victim(), None);
-    same(&rt, table.lock(c, f, Mode::IX), condemned());
-    same(&rt, table.last_victim(), Some(c));
-    // The first waits for the last too, which waits for nobody and so is on no cycle.
-    same(&rt, table.stuck(0), Some((a, g, Mode::X, 0b0010)));
-    same(&rt, table.stuck(1), Some((b, h, Mode::S, 0b0100)));
-    same(&rt, table.stuck(2), Some((c, f, Mode::IX, 0b0001)));
-    same(&rt, table.stuck(3), None);
+    const F: NodeId = N1;
+    const G: NodeId = N2;
+    const H: NodeId = N3;
+    const RING: Part = &[
+        (Ask::Inner(&[]), Came::Node(F)),
+        (Ask::Inner(&[]), Came::Node(G)),
+        (Ask::Inner(&[]), Came::Node(H)),
+        (Ask::Begin, Came::Txn(A)),
+        (Ask::Begin, Came::Txn(B)),
+        (Ask::Begin, Came::Txn(C)),
+        (Ask::Begin, Came::Txn(D)),
+        (Ask::Lock(A, X, F), Came::Granted(X)),
+        (Ask::Lock(B, S, G), Came::Granted(S)),
+        (Ask::Lock(C, X, H), Came::Granted(X)),
+        (Ask::Lock(D, S, G), Came::Granted(S)),
+        (Ask::Lock(A, X, G), Came::Waits),
+        (Ask::Lock(B, S, H), Came::Waits),
+        (Ask::Victim, Came::Fell(None)),
+        (Ask::Lock(C, IX, F), Came::Victim),
+        (Ask::Victim, Came::Fell(Some(C))),
+        // The first waits for the last too, which waits for nobody and so is on no cycle.
+        (Ask::Stuck(0), Came::Stuck(Some((A, G, X, 0b0010)))),
+        (Ask::Stuck(1), Came::Stuck(Some((B, H, S, 0b0100)))),
+        (Ask::Stuck(2), Came::Stuck(Some((C, F, IX, 0b0001)))),
+        (Ask::Stuck(3), Came::Stuck(None)),
+    ];
+    tell(&rt, rt.alloc(), Detect::AtBlock, 4, &[RING]);
 }
 
 #[test]
 fn an_abort_and_a_commit_leave_the_deadlock(rt: HostRuntime) {
-    let mut table = allowed(&rt, Story::new(rt.alloc(), Detect::AtBlock, 2));
-    let db = allowed(&rt, table.add_inner(&[]));
-    let (a, b) = one_deadlock(&rt, &mut table, db);
-    two_are_kept(&rt, &table, db, a, b);
+    tell(
+        &rt,
+        rt.alloc(),
+        Detect::AtBlock,
+        2,
+        &[ROOT, PAIR, FALLS, KEPT],
+    );
 }
 
 #[test]
 fn a_second_deadlock_replaces_the_first(rt: HostRuntime) {
-    let mut table = allowed(&rt, Story::new(rt.alloc(), Detect::AtBlock, 2));
-    let db = allowed(&rt, table.add_inner(&[]));
-    let _ = one_deadlock(&rt, &mut table, db);
-    let (c, d) = one_deadlock(&rt, &mut table, db);
-    same(&rt, d.age, 4);
-    two_are_kept(&rt, &table, db, c, d);
+    const OLDER: TxnId = TxnId { slot: 0, age: 3 };
+    const YOUNGER: TxnId = TxnId { slot: 1, age: 4 };
+    const AGAIN: Part = &[
+        (Ask::Begin, Came::Txn(OLDER)),
+        (Ask::Begin, Came::Txn(YOUNGER)),
+        (Ask::Lock(OLDER, S, DB), Came::Granted(S)),
+        (Ask::Lock(YOUNGER, S, DB), Came::Granted(S)),
+        (Ask::Lock(OLDER, X, DB), Came::Waits),
+        (Ask::Lock(YOUNGER, X, DB), Came::Victim),
+        (
+            Ask::Abort(YOUNGER),
+            Came::Tells(OLDER, Notice::Granted(DB, X)),
+        ),
+        (Ask::Commit(OLDER), Came::Done),
+        (Ask::Victim, Came::Fell(Some(YOUNGER))),
+        (Ask::Stuck(0), Came::Stuck(Some((OLDER, DB, X, 0b10)))),
+        (Ask::Stuck(1), Came::Stuck(Some((YOUNGER, DB, X, 0b01)))),
+        (Ask::Stuck(2), Came::Stuck(None)),
+    ];
+    tell(
+        &rt,
+        rt.alloc(),
+        Detect::AtBlock,
+        2,
+        &[ROOT, PAIR, FALLS, AGAIN],
+    );
 }
 
 #[test]
 fn a_watcher_keeps_the_deadlock(rt: HostRuntime) {
-    let mut table = allowed(&rt, Story::new(rt.alloc(), Detect::ByWatcher, 2));
-    let db = allowed(&rt, table.add_inner(&[]));
-    let a = allowed(&rt, table.begin());
-    let b = allowed(&rt, table.begin());
-    same(&rt, table.lock(a, db, Mode::S), granted(Mode::S));
-    same(&rt, table.lock(b, db, Mode::S), granted(Mode::S));
-    same(&rt, table.lock(a, db, Mode::X), waits());
-    same(&rt, table.lock(b, db, Mode::X), waits());
-    same(&rt, table.last_victim(), None);
-    same(&rt, table.settle(a), tells(b, Notice::Victim));
-    two_are_kept(&rt, &table, db, a, b);
+    const SETTLES: Part = &[
+        (Ask::Lock(A, X, DB), Came::Waits),
+        (Ask::Lock(B, X, DB), Came::Waits),
+        (Ask::Victim, Came::Fell(None)),
+        (Ask::Settle(A), Came::Tells(B, Notice::Victim)),
+    ];
+    tell(
+        &rt,
+        rt.alloc(),
+        Detect::ByWatcher,
+        2,
+        &[ROOT, PAIR, SETTLES, KEPT],
+    );
 }

@@ -1,58 +1,100 @@
-//! A table that stories are told of. Its calls promise nothing, and what is wanted is compared in one
-//! function: a proof's length grows with the steps of a function times its variables, and so a story
-//! has little more than a call for each answer.
+//! Stories over a table, told through its public calls, as tables: what is asked in turn, and what each
+//! ask is to come to. So a test is data, and what plays it is proved once. The names are those that a
+//! table gives: nodes are born and transactions begin in the order of their numbers.
 
 ghost use Rattle.std.specs.Prelude.{◌≤◌};
 
+use crate::answering::{give_key, move_under, remove, shed};
 use gl_modes::{Mode, NodeId, Refusal};
 use gl_table::{Detect, Effect, Locked, Notice, Status, Table, Told, TxnId};
-use gl_waits::Board;
 use std::alloc::Global;
 use std::fmt::Debug;
 use std::process::Abort;
 
-/// Who is told: how many, and what is told to the first of them.
+pub const A: TxnId = TxnId { slot: 0, age: 1 };
+
+pub const B: TxnId = TxnId { slot: 1, age: 2 };
+
+pub const C: TxnId = TxnId { slot: 2, age: 3 };
+
+pub const D: TxnId = TxnId { slot: 3, age: 4 };
+
+pub const N1: NodeId = NodeId { key: 0, birth: 1 };
+
+pub const N2: NodeId = NodeId { key: 1, birth: 2 };
+
+pub const N3: NodeId = NodeId { key: 2, birth: 3 };
+
+pub const N4: NodeId = NodeId { key: 3, birth: 4 };
+
+pub const N5: NodeId = NodeId { key: 4, birth: 5 };
+
+pub const N6: NodeId = NodeId { key: 5, birth: 6 };
+
+/// What is asked of a table.
+#[derive(Clone, Copy)]
+pub enum Ask {
+    Inner(&'static [NodeId]),
+    File(NodeId),
+    Index(NodeId, NodeId, u64),
+    Adopt(NodeId, &'static [u64]),
+    Begin,
+    Lock(TxnId, Mode, NodeId),
+    Try(TxnId, Mode, NodeId),
+    Unlock(TxnId, NodeId),
+    Cancel(TxnId),
+    Commit(TxnId),
+    Abort(TxnId),
+    Settle(TxnId),
+    Held(TxnId, NodeId),
+    Group(NodeId),
+    Children(TxnId, NodeId),
+    Effective(TxnId, NodeId),
+    Status(TxnId),
+    /// For whom the first two slots wait.
+    Rows,
+    /// Who was condemned last, and a row of the last deadlock.
+    Victim,
+    Stuck(usize),
+    /// What is asked where its conditions hold.
+    Remove(TxnId, NodeId),
+    MoveUnder(TxnId, NodeId, NodeId),
+    GiveKey(TxnId, NodeId, NodeId, u64),
+    Shed(TxnId, NodeId),
+}
+
+/// What an ask comes to.
 #[derive(Clone, Copy, PartialEq, Eq, Debug)]
-pub struct Heard {
-    pub count: usize,
-    first: Option<(TxnId, Notice)>,
+pub enum Came {
+    Node(NodeId),
+    Txn(TxnId),
+    /// It is done, and nobody is told; or one, or so many.
+    Done,
+    Tells(TxnId, Notice),
+    TellsMany(usize),
+    /// What a lock comes to where nobody else is told.
+    Granted(Mode),
+    Waits,
+    Victim,
+    /// The lock is waited for, and one other transaction is told.
+    WaitsTelling(TxnId, Notice),
+    Mode(Mode),
+    Children(Option<u32>),
+    Effect(Effect),
+    Status(Option<Status>),
+    Rows(u128, u128),
+    Fell(Option<TxnId>),
+    /// Who waits, for which node and mode, and for whom, as bits.
+    Stuck(Option<(TxnId, NodeId, Mode, u128)>),
+    /// How many children are released, how many are kept, and who alone is told.
+    Shed(u32, u32, Option<(TxnId, Notice)>),
+    Refused(Refusal),
+    /// Its conditions do not hold.
+    Unasked,
 }
 
-/// What a release is answered.
-pub type Released = Result<Heard, Refusal>;
-
-/// What a lock is answered.
-pub type Asked = Result<(Locked, Heard), Refusal>;
-
-/// It was done, and nobody is told.
-pub fn nobody() -> Released {
-    Ok(NOBODY)
-}
-
-/// It was done, and one transaction is told.
-pub fn tells(txn: TxnId, notice: Notice) -> Released {
-    Ok(alone(txn, notice))
-}
-
-/// A mode was granted, and nobody else is told.
-pub fn granted(mode: Mode) -> Asked {
-    Ok((Locked::Granted(mode), NOBODY))
-}
-
-/// The lock is waited for, and nobody else is told.
-pub fn waits() -> Asked {
-    Ok((Locked::Waiting, NOBODY))
-}
-
-/// The lock is waited for, and one other transaction is told.
-pub fn waits_telling(txn: TxnId, notice: Notice) -> Asked {
-    Ok((Locked::Waiting, alone(txn, notice)))
-}
-
-/// The asker is condemned, and nobody else is told.
-pub fn condemned() -> Asked {
-    Ok((Locked::Victim, NOBODY))
-}
+/// Asks one after the other, each with what it is to come to.
+pub type Part = &'static [(Ask, Came)];
 
 /// What came must be what is wanted.
 pub fn same<T: PartialEq + Debug + Drop>(rt: &impl Abort, came: T, wanted: T) {
@@ -64,126 +106,141 @@ pub fn allowed<T: Drop>(rt: &impl Abort, answer: Result<T, Refusal>) -> T {
     answer.expect(rt, "a call is refused")
 }
 
-/// Nobody is told.
-pub const NOBODY: Heard = Heard {
-    count: 0,
-    first: None,
-};
-
-/// One transaction is told.
-pub fn alone(txn: TxnId, notice: Notice) -> Heard {
-    Heard {
-        count: 1,
-        first: Some((txn, notice)),
-    }
-}
-
 /// Who is told in a list.
-pub fn hear(told: &Told) -> Heard {
-    Heard {
-        count: told.len(),
-        first: told.as_slice().first().copied(),
+pub fn hear(told: &Told) -> Came {
+    match told.as_slice() {
+        [] => Came::Done,
+        [(txn, notice)] => Came::Tells(*txn, *notice),
+        more => Came::TellsMany(more.len()),
     }
 }
 
-fn freed(answer: Result<Told, Refusal>) -> Released {
+fn freed(answer: Result<Told, Refusal>) -> Came {
     match answer {
-        Ok(told) => Ok(hear(&told)),
-        Err(refusal) => Err(refusal),
+        Ok(told) => hear(&told),
+        Err(refusal) => Came::Refused(refusal),
     }
 }
 
-/// A table, asked by the calls of its own names.
-#[derive(Drop)]
-pub struct Story {
-    pub table: Table,
+fn made(answer: Result<NodeId, Refusal>) -> Came {
+    match answer {
+        Ok(node) => Came::Node(node),
+        Err(refusal) => Came::Refused(refusal),
+    }
 }
 
-impl Story {
-    pub fn new(alloc: Global, detect: Detect, most: usize) -> Result<Story, Refusal>
-        requires some { 1 ≤ most }
-        requires few { most ≤ 128 }
-    {
-        let table = Table::new(alloc, detect, most)?;
-        Ok(Story { table })
+fn mode_in(answer: Result<Mode, Refusal>) -> Came {
+    match answer {
+        Ok(mode) => Came::Mode(mode),
+        Err(refusal) => Came::Refused(refusal),
     }
+}
 
-    pub fn status(&self, t: TxnId) -> Option<Status> {
-        self.table.status(t)
+fn begin(table: &mut Table) -> Came {
+    match table.begin() {
+        Ok(txn) => Came::Txn(txn),
+        Err(refusal) => Came::Refused(refusal),
     }
+}
 
-    pub fn add_inner(&mut self, parents: &[NodeId]) -> Result<NodeId, Refusal> {
-        self.table.add_inner(parents)
+fn lock(table: &mut Table, t: TxnId, n: NodeId, mode: Mode) -> Came {
+    match table.lock(t, n, mode) {
+        Ok((locked, told)) => locks(locked, hear(&told)),
+        Err(refusal) => Came::Refused(refusal),
     }
+}
 
-    pub fn add_file(&mut self, parents: &[NodeId]) -> Result<NodeId, Refusal> {
-        self.table.add_file(parents)
+/// What a lock comes to, and who else is told.
+fn locks(locked: Locked, heard: Came) -> Came {
+    match (locked, heard) {
+        (Locked::Granted(mode), Came::Done) => Came::Granted(mode),
+        (Locked::Waiting, Came::Done) => Came::Waits,
+        (Locked::Victim, Came::Done) => Came::Victim,
+        (Locked::Waiting, Came::Tells(txn, notice)) => Came::WaitsTelling(txn, notice),
+        _ => heard,
     }
+}
 
-    pub fn begin(&mut self) -> Result<TxnId, Refusal> {
-        self.table.begin()
+fn effective(table: &Table, t: TxnId, n: NodeId) -> Came {
+    match table.effective(t, n) {
+        Ok(effect) => Came::Effect(effect),
+        Err(refusal) => Came::Refused(refusal),
     }
+}
 
-    pub fn lock(&mut self, t: TxnId, n: NodeId, mode: Mode) -> Asked {
-        match self.table.lock(t, n, mode) {
-            Ok((locked, told)) => Ok((locked, hear(&told))),
-            Err(refusal) => Err(refusal),
+/// A row of the last deadlock.
+fn stuck(table: &Table, place: usize) -> Option<(TxnId, NodeId, Mode, u128)> {
+    let deadlock = table.last_deadlock()?;
+    let row = deadlock.cycle.as_slice().get(place)?;
+    Some((row.txn, row.node, row.wanted, row.waits_for.bits()))
+}
+
+fn rows(table: &Table) -> Came {
+    let board = table.board(0);
+    Came::Rows(board.rows[0], board.rows[1])
+}
+
+/// Asks what makes something or locks.
+fn answer(table: &mut Table, ask: Ask) -> Came {
+    match ask {
+        Ask::Inner(parents) => made(table.add_inner(parents)),
+        Ask::File(parent) => made(table.add_file(&[parent])),
+        Ask::Index(parent, file, bound) => made(table.add_index(&[parent], file, &[bound])),
+        Ask::Adopt(file, keys) => made(table.adopt(file, keys)),
+        Ask::Begin => begin(table),
+        Ask::Lock(t, mode, n) => lock(table, t, n, mode),
+        Ask::Try(t, mode, n) => mode_in(table.try_lock(t, n, mode)),
+        Ask::Remove(t, rec) => remove(table, t, rec),
+        Ask::MoveUnder(t, n, parent) => move_under(table, t, n, parent),
+        Ask::GiveKey(t, rec, index, key) => give_key(table, t, rec, index, key),
+        Ask::Shed(t, n) => shed(table, t, n),
+        _ => end(table, ask),
+    }
+}
+
+/// Asks what ends something.
+fn end(table: &mut Table, ask: Ask) -> Came {
+    match ask {
+        Ask::Unlock(t, n) => freed(table.unlock(t, n)),
+        Ask::Cancel(t) => freed(table.cancel(t)),
+        Ask::Commit(t) => freed(table.commit(t)),
+        Ask::Abort(t) => freed(table.abort(t)),
+        Ask::Settle(t) => freed(table.settle(t)),
+        _ => query(table, ask),
+    }
+}
+
+/// Asks what changes nothing.
+fn query(table: &Table, ask: Ask) -> Came {
+    match ask {
+        Ask::Held(t, n) => mode_in(table.held(t, n)),
+        Ask::Group(n) => mode_in(table.group(n)),
+        Ask::Children(t, n) => Came::Children(table.children(t, n)),
+        Ask::Effective(t, n) => effective(table, t, n),
+        Ask::Status(t) => Came::Status(table.status(t)),
+        Ask::Rows => rows(table),
+        Ask::Victim => Came::Fell(table.last_deadlock().map(|deadlock| deadlock.victim)),
+        Ask::Stuck(place) => Came::Stuck(stuck(table, place)),
+        _ => Came::Unasked,
+    }
+}
+
+/// An ask that comes to this, in a place of a story.
+pub fn asks(rt: &impl Abort, table: &mut Table, place: usize, step: (Ask, Came)) {
+    let (asked, wanted) = step;
+    same(rt, (place, answer(table, asked)), (place, wanted));
+}
+
+/// Tells a story, in parts, of a new table.
+pub fn tell(rt: &impl Abort, alloc: Global, detect: Detect, most: usize, parts: &[Part]) -> Table
+    requires some { 1 ≤ most }
+    requires few { most ≤ 128 }
+{
+    let mut table = allowed(rt, Table::new(alloc, detect, most));
+    for steps in parts {
+        for (place, step) in steps.iter().enumerate() {
+            asks(rt, &mut table, place, *step);
         }
     }
-
-    pub fn try_lock(&mut self, t: TxnId, n: NodeId, mode: Mode) -> Result<Mode, Refusal> {
-        self.table.try_lock(t, n, mode)
-    }
-
-    pub fn unlock(&mut self, t: TxnId, n: NodeId) -> Released {
-        freed(self.table.unlock(t, n))
-    }
-
-    pub fn cancel(&mut self, t: TxnId) -> Released {
-        freed(self.table.cancel(t))
-    }
-
-    pub fn commit(&mut self, t: TxnId) -> Released {
-        freed(self.table.commit(t))
-    }
-
-    pub fn abort(&mut self, t: TxnId) -> Released {
-        freed(self.table.abort(t))
-    }
-
-    pub fn settle(&mut self, t: TxnId) -> Released {
-        freed(self.table.settle(t))
-    }
-
-    pub fn held(&self, t: TxnId, n: NodeId) -> Result<Mode, Refusal> {
-        self.table.held(t, n)
-    }
-
-    pub fn group(&self, n: NodeId) -> Result<Mode, Refusal> {
-        self.table.group(n)
-    }
-
-    pub fn children(&self, t: TxnId, n: NodeId) -> Option<u32> {
-        self.table.children(t, n)
-    }
-
-    pub fn effective(&self, t: TxnId, n: NodeId) -> Result<Effect, Refusal> {
-        self.table.effective(t, n)
-    }
-
-    pub fn board(&self, epoch: u64) -> Board {
-        self.table.board(epoch)
-    }
-
-    /// Who was condemned last.
-    pub fn last_victim(&self) -> Option<TxnId> {
-        Some(self.table.last_deadlock()?.victim)
-    }
-
-    /// A row of the last deadlock: who waits, for which node and mode, and for whom, as bits.
-    pub fn stuck(&self, place: usize) -> Option<(TxnId, NodeId, Mode, u128)> {
-        let deadlock = self.table.last_deadlock()?;
-        let row = deadlock.cycle.as_slice().get(place)?;
-        Some((row.txn, row.node, row.wanted, row.waits_for.bits()))
-    }
+    table
 }

@@ -1,132 +1,143 @@
 //! Waits: who is granted, who is condemned, and who is told.
 
-use crate::story::{Story, allowed, condemned, granted, nobody, same, tells, waits, waits_telling};
-use gl_modes::{Mode, NodeId, Refusal};
-use gl_table::{Detect, Notice, Status, TxnId};
-use std::alloc::Global;
-use std::process::Abort;
+use crate::story::{A, Ask, B, C, Came, N1, N2, Part, tell};
+use gl_modes::Mode::{IX, NL, S, X};
+use gl_modes::{NodeId, Refusal};
+use gl_table::{Detect, Notice, Status};
 
-/// A table with one root, and two transactions that hold it in S.
-fn shared_root(rt: &impl Abort, alloc: Global, detect: Detect) -> (Story, NodeId, TxnId, TxnId) {
-    let mut table = allowed(rt, Story::new(alloc, detect, 4));
-    let db = allowed(rt, table.add_inner(&[]));
-    let a = allowed(rt, table.begin());
-    let b = allowed(rt, table.begin());
-    allowed(rt, table.try_lock(a, db, Mode::S));
-    allowed(rt, table.try_lock(b, db, Mode::S));
-    (table, db, a, b)
-}
+const DB: NodeId = N1;
+
+/// A root, and two transactions.
+const ROOT: Part = &[
+    (Ask::Inner(&[]), Came::Node(DB)),
+    (Ask::Begin, Came::Txn(A)),
+    (Ask::Begin, Came::Txn(B)),
+];
+
+/// Both hold the root in S.
+const SHARED: Part = &[
+    (Ask::Try(A, S, DB), Came::Mode(S)),
+    (Ask::Try(B, S, DB), Came::Mode(S)),
+];
 
 #[test]
 fn a_commit_grants_who_waits(rt: HostRuntime) {
-    let mut table = allowed(&rt, Story::new(rt.alloc(), Detect::AtBlock, 4));
-    let db = allowed(&rt, table.add_inner(&[]));
-    let a = allowed(&rt, table.begin());
-    let b = allowed(&rt, table.begin());
-    same(&rt, table.lock(a, db, Mode::S), granted(Mode::S));
-    same(&rt, table.lock(b, db, Mode::IX), waits());
-    let waiting = Status::Waiting {
-        node: db,
-        wanted: Mode::IX,
+    const WAITING: Status = Status::Waiting {
+        node: DB,
+        wanted: IX,
     };
-    same(&rt, table.status(b), Some(waiting));
-    let told = tells(b, Notice::Granted(db, Mode::IX));
-    same(&rt, table.commit(a), told);
-    same(&rt, table.group(db), Ok(Mode::IX));
-    same(&rt, table.status(b), Some(Status::Active));
+    const GRANTS: Part = &[
+        (Ask::Lock(A, S, DB), Came::Granted(S)),
+        (Ask::Lock(B, IX, DB), Came::Waits),
+        (Ask::Status(B), Came::Status(Some(WAITING))),
+        (Ask::Commit(A), Came::Tells(B, Notice::Granted(DB, IX))),
+        (Ask::Group(DB), Came::Mode(IX)),
+        (Ask::Status(B), Came::Status(Some(Status::Active))),
+    ];
+    tell(&rt, rt.alloc(), Detect::AtBlock, 4, &[ROOT, GRANTS]);
 }
 
 #[test]
 fn a_newcomer_waits_behind_the_queue(rt: HostRuntime) {
-    let mut table = allowed(&rt, Story::new(rt.alloc(), Detect::AtBlock, 4));
-    let db = allowed(&rt, table.add_inner(&[]));
-    let a = allowed(&rt, table.begin());
-    let b = allowed(&rt, table.begin());
-    let c = allowed(&rt, table.begin());
-    allowed(&rt, table.lock(a, db, Mode::S));
-    same(&rt, table.lock(b, db, Mode::X), waits());
-    same(&rt, table.lock(c, db, Mode::S), waits());
-    let told = tells(b, Notice::Granted(db, Mode::X));
-    same(&rt, table.commit(a), told);
-    let told = tells(c, Notice::Granted(db, Mode::S));
-    same(&rt, table.commit(b), told);
+    const QUEUES: Part = &[
+        (Ask::Begin, Came::Txn(C)),
+        (Ask::Lock(A, S, DB), Came::Granted(S)),
+        (Ask::Lock(B, X, DB), Came::Waits),
+        (Ask::Lock(C, S, DB), Came::Waits),
+        (Ask::Commit(A), Came::Tells(B, Notice::Granted(DB, X))),
+        (Ask::Commit(B), Came::Tells(C, Notice::Granted(DB, S))),
+    ];
+    tell(&rt, rt.alloc(), Detect::AtBlock, 4, &[ROOT, QUEUES]);
 }
 
 #[test]
 fn a_conversion_goes_ahead(rt: HostRuntime) {
-    let (mut table, db, a, b) = shared_root(&rt, rt.alloc(), Detect::AtBlock);
-    let c = allowed(&rt, table.begin());
-    same(&rt, table.lock(c, db, Mode::X), waits());
-    same(&rt, table.lock(a, db, Mode::X), waits());
-    let told = tells(a, Notice::Granted(db, Mode::X));
-    same(&rt, table.commit(b), told);
-    same(&rt, table.held(c, db), Ok(Mode::NL));
+    const GOES_AHEAD: Part = &[
+        (Ask::Begin, Came::Txn(C)),
+        (Ask::Lock(C, X, DB), Came::Waits),
+        (Ask::Lock(A, X, DB), Came::Waits),
+        (Ask::Commit(B), Came::Tells(A, Notice::Granted(DB, X))),
+        (Ask::Held(C, DB), Came::Mode(NL)),
+    ];
+    tell(
+        &rt,
+        rt.alloc(),
+        Detect::AtBlock,
+        4,
+        &[ROOT, SHARED, GOES_AHEAD],
+    );
 }
 
 #[test]
 fn the_asker_is_the_victim(rt: HostRuntime) {
-    let (mut table, db, a, b) = shared_root(&rt, rt.alloc(), Detect::AtBlock);
-    same(&rt, table.lock(a, db, Mode::X), waits());
-    same(&rt, table.lock(b, db, Mode::X), condemned());
-    same(&rt, table.commit(b), Err(Refusal::TxnCondemned));
-    let told = tells(a, Notice::Granted(db, Mode::X));
-    same(&rt, table.abort(b), told);
+    const FALLS: Part = &[
+        (Ask::Lock(A, X, DB), Came::Waits),
+        (Ask::Lock(B, X, DB), Came::Victim),
+        (Ask::Commit(B), Came::Refused(Refusal::TxnCondemned)),
+        (Ask::Abort(B), Came::Tells(A, Notice::Granted(DB, X))),
+    ];
+    tell(&rt, rt.alloc(), Detect::AtBlock, 4, &[ROOT, SHARED, FALLS]);
 }
 
 #[test]
 fn another_is_the_victim(rt: HostRuntime) {
-    let (mut table, db, a, b) = shared_root(&rt, rt.alloc(), Detect::AtBlock);
-    same(&rt, table.lock(b, db, Mode::X), waits());
-    let told = waits_telling(b, Notice::Victim);
-    same(&rt, table.lock(a, db, Mode::X), told);
-    let told = tells(a, Notice::Granted(db, Mode::X));
-    same(&rt, table.abort(b), told);
+    const FALLS: Part = &[
+        (Ask::Lock(B, X, DB), Came::Waits),
+        (Ask::Lock(A, X, DB), Came::WaitsTelling(B, Notice::Victim)),
+        (Ask::Abort(B), Came::Tells(A, Notice::Granted(DB, X))),
+    ];
+    tell(&rt, rt.alloc(), Detect::AtBlock, 4, &[ROOT, SHARED, FALLS]);
 }
 
 #[test]
 fn a_cycle_goes_through_a_waiter_ahead(rt: HostRuntime) {
-    let mut table = allowed(&rt, Story::new(rt.alloc(), Detect::AtBlock, 3));
-    let g = allowed(&rt, table.add_inner(&[]));
-    let h = allowed(&rt, table.add_inner(&[]));
-    let a = allowed(&rt, table.begin());
-    let b = allowed(&rt, table.begin());
-    let c = allowed(&rt, table.begin());
-    allowed(&rt, table.lock(a, g, Mode::S));
-    allowed(&rt, table.lock(c, h, Mode::X));
-    same(&rt, table.lock(b, g, Mode::X), waits());
-    same(&rt, table.lock(c, g, Mode::S), waits());
-    let told = waits_telling(c, Notice::Victim);
-    same(&rt, table.lock(a, h, Mode::S), told);
-    let told = tells(a, Notice::Granted(h, Mode::S));
-    same(&rt, table.abort(c), told);
+    const OTHER: NodeId = N2;
+    const CLOSES: Part = &[
+        (Ask::Inner(&[]), Came::Node(OTHER)),
+        (Ask::Begin, Came::Txn(C)),
+        (Ask::Lock(A, S, DB), Came::Granted(S)),
+        (Ask::Lock(C, X, OTHER), Came::Granted(X)),
+        (Ask::Lock(B, X, DB), Came::Waits),
+        (Ask::Lock(C, S, DB), Came::Waits),
+        (
+            Ask::Lock(A, S, OTHER),
+            Came::WaitsTelling(C, Notice::Victim),
+        ),
+        (Ask::Abort(C), Came::Tells(A, Notice::Granted(OTHER, S))),
+    ];
+    tell(&rt, rt.alloc(), Detect::AtBlock, 3, &[ROOT, CLOSES]);
 }
 
 #[test]
 fn a_wait_is_taken_back(rt: HostRuntime) {
-    let mut table = allowed(&rt, Story::new(rt.alloc(), Detect::AtBlock, 2));
-    let db = allowed(&rt, table.add_inner(&[]));
-    let a = allowed(&rt, table.begin());
-    let b = allowed(&rt, table.begin());
-    allowed(&rt, table.lock(a, db, Mode::S));
-    let blocked = table.try_lock(b, db, Mode::IX);
-    same(&rt, blocked, Err(Refusal::WouldBlock));
-    same(&rt, table.held(b, db), Ok(Mode::NL));
-    same(&rt, table.cancel(b), Err(Refusal::NotWaiting));
-    same(&rt, table.lock(b, db, Mode::IX), waits());
-    same(&rt, table.commit(b), Err(Refusal::TxnWaiting));
-    same(&rt, table.cancel(b), nobody());
-    same(&rt, table.commit(b), nobody());
+    const TAKES_BACK: Part = &[
+        (Ask::Lock(A, S, DB), Came::Granted(S)),
+        (Ask::Try(B, IX, DB), Came::Refused(Refusal::WouldBlock)),
+        (Ask::Held(B, DB), Came::Mode(NL)),
+        (Ask::Cancel(B), Came::Refused(Refusal::NotWaiting)),
+        (Ask::Lock(B, IX, DB), Came::Waits),
+        (Ask::Commit(B), Came::Refused(Refusal::TxnWaiting)),
+        (Ask::Cancel(B), Came::Done),
+        (Ask::Commit(B), Came::Done),
+    ];
+    tell(&rt, rt.alloc(), Detect::AtBlock, 2, &[ROOT, TAKES_BACK]);
 }
 
 #[test]
 fn a_watcher_asks_for_a_victim(rt: HostRuntime) {
-    let (mut table, db, a, b) = shared_root(&rt, rt.alloc(), Detect::ByWatcher);
-    same(&rt, table.lock(a, db, Mode::X), waits());
-    same(&rt, table.settle(a), nobody());
-    same(&rt, table.lock(b, db, Mode::X), waits());
-    let board = table.board(0);
-    same(&rt, (board.rows[0], board.rows[1]), (2, 1));
-    same(&rt, table.settle(a), tells(b, Notice::Victim));
-    let told = tells(a, Notice::Granted(db, Mode::X));
-    same(&rt, table.abort(b), told);
+    const SETTLES: Part = &[
+        (Ask::Lock(A, X, DB), Came::Waits),
+        (Ask::Settle(A), Came::Done),
+        (Ask::Lock(B, X, DB), Came::Waits),
+        (Ask::Rows, Came::Rows(2, 1)),
+        (Ask::Settle(A), Came::Tells(B, Notice::Victim)),
+        (Ask::Abort(B), Came::Tells(A, Notice::Granted(DB, X))),
+    ];
+    tell(
+        &rt,
+        rt.alloc(),
+        Detect::ByWatcher,
+        4,
+        &[ROOT, SHARED, SETTLES],
+    );
 }

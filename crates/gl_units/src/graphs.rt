@@ -1,43 +1,92 @@
-//! Values from outside, and limits.
+//! Values from outside, and limits, as tables. Nodes are born in the order of their numbers.
 
 use crate::wanted::same;
 use gl_graph::laws::root_path_laws;
 use gl_graph::{Graph, Kind};
 use gl_modes::{NodeId, Refusal};
-use std::alloc::{AllocError, Global};
-use std::test::Fail;
+use std::alloc::Global;
+use std::process::Abort;
 
-/// A root, a file under it, and an index of the file with these bounds.
-fn small(alloc: Global, bounds: &[u64]) -> Result<(Graph, NodeId, NodeId, NodeId), Refusal> {
-    let mut graph = Graph::new(alloc);
-    let db = graph.add_inner(&[])?;
-    let file = graph.add_file(&[db])?;
-    let index = graph.add_index(&[db], file, bounds)?;
-    Ok((graph, db, file, index))
+const N1: NodeId = NodeId { key: 0, birth: 1 };
+
+const N2: NodeId = NodeId { key: 1, birth: 2 };
+
+const N3: NodeId = NodeId { key: 2, birth: 3 };
+
+const N4: NodeId = NodeId { key: 3, birth: 4 };
+
+const N5: NodeId = NodeId { key: 4, birth: 5 };
+
+const N6: NodeId = NodeId { key: 5, birth: 6 };
+
+const N7: NodeId = NodeId { key: 6, birth: 7 };
+
+const N8: NodeId = NodeId { key: 7, birth: 8 };
+
+const N9: NodeId = NodeId { key: 8, birth: 9 };
+
+const N10: NodeId = NodeId { key: 9, birth: 10 };
+
+/// A call that makes a node.
+#[derive(Clone, Copy)]
+enum Make {
+    Inner(&'static [NodeId]),
+    File(NodeId),
+    Index(NodeId, NodeId, &'static [u64]),
+    /// An index with the bounds from 1 to this one.
+    Wide(NodeId, NodeId, u64),
+    Record(NodeId, &'static [u64]),
 }
 
-/// Whether the call was refused so; want of memory is handed on.
-fn is_refused(answer: Result<NodeId, Refusal>, want: Refusal) -> Result<bool, Refusal> {
-    match answer {
-        Err(Refusal::NoMemory) => Err(Refusal::NoMemory),
-        Err(refusal) => Ok(refusal == want),
-        Ok(_) => Ok(false),
-    }
+/// What is done, and what it comes to.
+#[derive(Clone, Copy)]
+enum Step {
+    Makes(Make, Result<NodeId, Refusal>),
+    /// So many are made.
+    Many(u32, Make),
+    Removes(NodeId),
+    /// So many records of a file with one index are made and removed.
+    ComeAndGo(u32, NodeId),
+    Moves(NodeId, NodeId, Result<(), Refusal>),
+    Len(usize),
+    Most(u32),
+    MostBounds(u32),
+    NextKey(usize),
+    IsWorn(bool),
+    Kind(NodeId, Option<Kind>),
+    Keys(NodeId, &'static [u64]),
+    Parents(NodeId, &'static [NodeId]),
+    Interval(NodeId, usize, Option<NodeId>),
+    /// The interval of an index in which a key lies.
+    Lies(NodeId, u64, NodeId),
+    /// Whether a file has records, and how many indexes.
+    File(NodeId, bool, usize),
 }
 
-/// The bounds from 1 to this one.
-fn bounds_up_to(alloc: Global, last: u64) -> Result<Vec<u64>, AllocError> {
+/// An index with the bounds from 1 to this one.
+fn add_wide(
+    graph: &mut Graph,
+    alloc: Global,
+    parent: NodeId,
+    file: NodeId,
+    last: u64,
+) -> Result<NodeId, Refusal> {
     let mut bounds = Vec::new(alloc);
     for bound in 1..=last {
-        bounds.push(bound)?;
+        let Ok(()) = bounds.push(bound) else {
+            return Err(Refusal::NoMemory);
+        };
     }
-    Ok(bounds)
+    graph.add_index(&[parent], file, &bounds)
 }
 
-fn interval_with(graph: &Graph, index: NodeId, key: u64) -> Option<NodeId> {
-    match graph.kind(index) {
-        Some(Kind::Index) => Some(graph.interval_of(index, key)),
-        _ => None,
+fn made(graph: &mut Graph, alloc: Global, make: Make) -> Result<NodeId, Refusal> {
+    match make {
+        Make::Inner(parents) => graph.add_inner(parents),
+        Make::File(parent) => graph.add_file(&[parent]),
+        Make::Index(parent, file, bounds) => graph.add_index(&[parent], file, bounds),
+        Make::Wide(parent, file, last) => add_wide(graph, alloc, parent, file, last),
+        Make::Record(file, keys) => graph.add_record(file, keys),
     }
 }
 
@@ -47,227 +96,335 @@ fn remove(graph: &mut Graph, rec: NodeId) {
     }
 }
 
+/// Moves an inner node under another.
 fn move_under(graph: &mut Graph, n: NodeId, parent: NodeId) -> Result<(), Refusal> {
     match (graph.kind(n), graph.kind(parent)) {
         (Some(Kind::Inner), Some(Kind::Inner)) => graph.set_parents(n, &[parent]),
-        _ => Ok(()),
+        _ => Err(Refusal::BadParents),
     }
 }
 
-#[test]
-fn a_key_lies_below_a_bound_or_from_it_on(rt: HostRuntime) -> Result<(), Fail> {
-    let (graph, _, _, index) = small(rt.alloc(), &[100])?;
-    for (key, place) in [(0, 0), (99, 0), (100, 1), (u64::MAX, 1)] {
-        let interval = interval_with(&graph, index, key);
-        same(&rt, (key, interval), (key, graph.interval(index, place)));
-    }
-    Ok(())
-}
-
-#[test]
-fn one_bound_makes_two_intervals(rt: HostRuntime) -> Result<(), Fail> {
-    let (graph, _, _, index) = small(rt.alloc(), &[100])?;
-    assert!(rt; graph.interval(index, 1).is_some());
-    assert!(rt; graph.interval(index, 2).is_none());
-    Ok(())
-}
-
-#[test]
-fn without_bounds_all_keys_lie_together(rt: HostRuntime) -> Result<(), Fail> {
-    let (graph, _, _, index) = small(rt.alloc(), &[])?;
-    for key in [0, 99, 100, u64::MAX] {
-        let interval = interval_with(&graph, index, key);
-        same(&rt, (key, interval), (key, graph.interval(index, 0)));
-    }
-    Ok(())
-}
-
-#[test]
-fn an_index_has_at_most_256_bounds(rt: HostRuntime) -> Result<(), Fail> {
-    let (mut graph, db, file, _) = small(rt.alloc(), &[])?;
-    let mut bounds = bounds_up_to(rt.alloc(), 256)?;
-    graph.add_index(&[db], file, &bounds)?;
-    bounds.push(257)?;
-    assert!(rt; is_refused(graph.add_index(&[db], file, &bounds), Refusal::BadKeys)?);
-    same(&rt, graph.most_bounds(), 256);
-    Ok(())
-}
-
-/// A graph for 70,000 nodes, and a root and a file in it.
-fn roomy(alloc: Global) -> Result<(Graph, NodeId, NodeId), Refusal> {
-    let mut graph = Graph::with_most(alloc, 70_000);
-    let db = graph.add_inner(&[])?;
-    let file = graph.add_file(&[db])?;
-    Ok((graph, db, file))
-}
-
-/// The same with an index of so many bounds.
-fn wide(alloc: Global, last: u64) -> Result<(Graph, NodeId, NodeId), Refusal> {
-    let (mut graph, db, file) = roomy(alloc)?;
-    let Ok(bounds) = bounds_up_to(alloc, last) else {
-        return Err(Refusal::NoMemory);
-    };
-    let index = graph.add_index(&[db], file, &bounds)?;
-    Ok((graph, file, index))
-}
-
-#[test]
-fn an_index_has_no_more_bounds_than_nodes_may_live(rt: HostRuntime) -> Result<(), Fail> {
-    let answer = wide(rt.alloc(), 69_997);
-    assert!(rt; matches!(answer, Err(Refusal::TooManyNodes)));
-    let (graph, _, _) = roomy(rt.alloc())?;
-    same(&rt, graph.most_bounds(), 70_000);
-    Ok(())
-}
-
-#[test]
-fn a_chosen_limit_of_nodes_is_the_limit_of_bounds(rt: HostRuntime) -> Result<(), Fail> {
-    let (mut graph, file, index) = wide(rt.alloc(), 60_000)?;
-    for (key, place) in [
-        (0, 0),
-        (1, 1),
-        (30_000, 30_000),
-        (60_000, 60_000),
-        (u64::MAX, 60_000),
-    ] {
-        let interval = interval_with(&graph, index, key);
-        assert!(rt; interval.is_some());
-        same(&rt, (key, interval), (key, graph.interval(index, place)));
-    }
-    let rec = graph.add_record(file, &[30_000])?;
-    let parent = graph.parents(rec).get(1).copied();
-    same(&rt, parent, graph.interval(index, 30_000));
-    Ok(())
-}
-
-#[test]
-fn a_file_has_at_most_seven_indexes(rt: HostRuntime) -> Result<(), Fail> {
-    let (mut graph, db, file, _) = small(rt.alloc(), &[])?;
-    for _ in 0..6 {
-        graph.add_index(&[db], file, &[])?;
-    }
-    assert!(rt; is_refused(graph.add_index(&[db], file, &[]), Refusal::BadParents)?);
-    Ok(())
-}
-
-#[test]
-fn a_node_has_at_most_eight_parents(rt: HostRuntime) -> Result<(), Fail> {
-    let mut graph = Graph::new(rt.alloc());
-    let mut nine = Vec::new(rt.alloc());
-    for _ in 0..9 {
-        nine.push(graph.add_inner(&[])?)?;
-    }
-    assert!(rt; is_refused(graph.add_inner(&nine), Refusal::BadParents)?);
-    nine.truncate(8);
-    let child = graph.add_inner(&nine)?;
-    same(&rt, graph.parents(child).len(), 8);
-    Ok(())
-}
-
-#[test]
-fn a_file_with_records_gets_no_index(rt: HostRuntime) -> Result<(), Fail> {
-    let mut graph = Graph::new(rt.alloc());
-    let db = graph.add_inner(&[])?;
-    let file = graph.add_file(&[db])?;
-    same(&rt, graph.parents(file).len(), 1);
-    graph.add_record(file, &[])?;
-    assert!(rt; is_refused(graph.add_index(&[db], file, &[]), Refusal::FileInUse)?);
-    Ok(())
-}
-
-#[test]
-fn no_node_past_the_limit(rt: HostRuntime) -> Result<(), Fail> {
-    let mut graph = Graph::new(rt.alloc());
-    for _ in 0..65_536 {
-        graph.add_inner(&[])?;
-    }
-    assert!(rt; is_refused(graph.add_inner(&[]), Refusal::TooManyNodes)?);
-    same(&rt, graph.len(), 65_536);
-    assert!(rt; !graph.worn());
-    Ok(())
-}
-
-#[test]
-fn a_chosen_limit_is_met_and_passed_by_none(rt: HostRuntime) -> Result<(), Fail> {
-    let mut graph = Graph::with_most(rt.alloc(), 3);
-    let db = graph.add_inner(&[])?;
-    let file = graph.add_file(&[db])?;
-    let rec = graph.add_record(file, &[])?;
-    assert!(rt; is_refused(graph.add_record(file, &[]), Refusal::TooManyNodes)?);
-    remove(&mut graph, rec);
-    graph.add_record(file, &[])?;
-    assert!(rt; is_refused(graph.add_inner(&[]), Refusal::TooManyNodes)?);
-    same(&rt, graph.most(), 3);
-    Ok(())
-}
-
-#[test]
-fn a_limit_above_the_usual_one(rt: HostRuntime) -> Result<(), Fail> {
-    let mut graph = Graph::with_most(rt.alloc(), 70_000);
-    for _ in 0..70_000 {
-        graph.add_inner(&[])?;
-    }
-    assert!(rt; is_refused(graph.add_inner(&[]), Refusal::TooManyNodes)?);
-    same(&rt, graph.len(), 70_000);
-    Ok(())
-}
-
-#[test]
-fn the_next_key_is_that_of_the_next_node(rt: HostRuntime) -> Result<(), Fail> {
-    let (mut graph, _, file, _) = small(rt.alloc(), &[])?;
-    let key = graph.next_key();
-    let rec = graph.add_record(file, &[7])?;
-    same(&rt, rec.key, key);
-    remove(&mut graph, rec);
-    same(&rt, graph.next_key(), key);
-    Ok(())
-}
-
-#[test]
-fn many_records_come_and_go(rt: HostRuntime) -> Result<(), Fail> {
-    let (mut graph, _, file, _) = small(rt.alloc(), &[])?;
-    let mut records = Vec::new(rt.alloc());
-    for _ in 0..65_532 {
-        records.push(graph.add_record(file, &[7])?)?;
+/// Makes records, and removes them in the order in which they were made.
+fn come_and_go(graph: &mut Graph, alloc: Global, file: NodeId, count: u32) -> Result<(), Refusal> {
+    let mut records = Vec::new(alloc);
+    for _ in 0..count {
+        let Ok(()) = records.push(graph.add_record(file, &[7])?) else {
+            return Err(Refusal::NoMemory);
+        };
     }
     for rec in &records {
-        remove(&mut graph, *rec);
+        remove(graph, *rec);
     }
-    same(&rt, records.len(), 65_532);
-    same(&rt, graph.len(), 4);
     Ok(())
 }
 
-#[test]
-fn a_stale_name_names_nothing(rt: HostRuntime) -> Result<(), Fail> {
-    let (mut graph, _, file, _) = small(rt.alloc(), &[100])?;
-    let old = graph.add_record(file, &[50])?;
-    same(&rt, graph.keys(old), [50].as_slice());
-    remove(&mut graph, old);
-    let new = graph.add_record(file, &[200])?;
+fn lies(graph: &Graph, index: NodeId, key: u64) -> Option<NodeId> {
+    match graph.kind(index) {
+        Some(Kind::Index) => Some(graph.interval_of(index, key)),
+        _ => None,
+    }
+}
+
+/// Whether a file has records, and how many indexes.
+fn file_of(graph: &Graph, file: NodeId) -> Option<(bool, usize)> {
+    match graph.kind(file) {
+        Some(Kind::File) => Some((graph.has_records(file), graph.indexes(file).len())),
+        _ => None,
+    }
+}
+
+/// Takes a step that changes something.
+fn take(rt: &impl Abort, alloc: Global, graph: &mut Graph, place: usize, step: Step) {
+    match step {
+        Step::Makes(make, wanted) => {
+            let came = made(graph, alloc, make);
+            same(rt, (place, came), (place, wanted));
+        }
+        Step::Many(count, make) => {
+            for _ in 0..count {
+                same(rt, made(graph, alloc, make).is_ok(), true);
+            }
+        }
+        Step::Removes(rec) => remove(graph, rec),
+        Step::ComeAndGo(count, file) => {
+            same(rt, come_and_go(graph, alloc, file, count), Ok(()));
+        }
+        Step::Moves(node, parent, wanted) => {
+            let came = move_under(graph, node, parent);
+            same(rt, (place, came), (place, wanted));
+        }
+        _ => look(rt, graph, place, step),
+    }
+}
+
+/// Looks at what is asked, in a place of a story.
+fn look(rt: &impl Abort, graph: &Graph, place: usize, step: Step) {
+    match step {
+        Step::Len(len) => same(rt, (place, graph.len()), (place, len)),
+        Step::Most(most) => same(rt, (place, graph.most()), (place, most)),
+        Step::MostBounds(most) => same(rt, (place, graph.most_bounds()), (place, most)),
+        Step::NextKey(key) => same(rt, (place, graph.next_key()), (place, key)),
+        Step::IsWorn(worn) => same(rt, (place, graph.worn()), (place, worn)),
+        Step::Kind(node, kind) => same(rt, (place, graph.kind(node)), (place, kind)),
+        Step::Keys(node, keys) => same(rt, (place, graph.keys(node)), (place, keys)),
+        Step::Parents(node, parents) => same(rt, (place, graph.parents(node)), (place, parents)),
+        Step::Interval(index, at, interval) => {
+            same(rt, (place, graph.interval(index, at)), (place, interval))
+        }
+        Step::Lies(index, key, interval) => {
+            same(
+                rt,
+                (place, lies(graph, index, key)),
+                (place, Some(interval)),
+            )
+        }
+        Step::File(file, has_records, indexes) => {
+            let wanted = Some((has_records, indexes));
+            same(rt, (place, file_of(graph, file)), (place, wanted));
+        }
+        _ => same(rt, (place, false), (place, true)),
+    }
+}
+
+/// Plays a story, in parts, over a graph.
+fn play(rt: &impl Abort, alloc: Global, graph: Graph, parts: &[&[Step]]) {
+    let mut graph = graph;
+    for steps in parts {
+        for (place, step) in steps.iter().enumerate() {
+            take(rt, alloc, &mut graph, place, *step);
+        }
+    }
     graph.law();
-    if let Some(Kind::File) = graph.kind(file) {
-        assert!(rt; graph.has_records(file));
-        same(&rt, graph.indexes(file).len(), 1);
-    }
-    same(&rt, new.key, old.key);
-    same(&rt, graph.kind(old), None);
-    same(&rt, graph.kind(new), Some(Kind::Rec));
-    Ok(())
+}
+
+const DB: NodeId = N1;
+
+const FILE: NodeId = N2;
+
+const INDEX: NodeId = N3;
+
+/// A root, and a file under it.
+const FILED: &[Step] = &[
+    Step::Makes(Make::Inner(&[]), Ok(DB)),
+    Step::Makes(Make::File(DB), Ok(FILE)),
+];
+
+/// An index of the file with one bound, and one without.
+const BOUND: &[Step] = &[Step::Makes(Make::Index(DB, FILE, &[100]), Ok(INDEX))];
+
+const UNBOUND: &[Step] = &[Step::Makes(Make::Index(DB, FILE, &[]), Ok(INDEX))];
+
+#[test]
+fn a_key_lies_below_a_bound_or_from_it_on(rt: HostRuntime) {
+    const LIES: &[Step] = &[
+        Step::Interval(INDEX, 0, Some(N4)),
+        Step::Interval(INDEX, 1, Some(N5)),
+        Step::Lies(INDEX, 0, N4),
+        Step::Lies(INDEX, 99, N4),
+        Step::Lies(INDEX, 100, N5),
+        Step::Lies(INDEX, u64::MAX, N5),
+    ];
+    let graph = Graph::new(rt.alloc());
+    play(&rt, rt.alloc(), graph, &[FILED, BOUND, LIES]);
 }
 
 #[test]
-fn no_path_closes(rt: HostRuntime) -> Result<(), Fail> {
-    let mut graph = Graph::new(rt.alloc());
-    let db = graph.add_inner(&[])?;
-    let x = graph.add_inner(&[db])?;
-    let y = graph.add_inner(&[x])?;
-    match move_under(&mut graph, db, y) {
-        Err(Refusal::NoMemory) => return Ok(()),
-        answer => same(&rt, answer, Err(Refusal::Cycle { node: y })),
-    }
-    move_under(&mut graph, y, db)?;
-    same(&rt, graph.parents(y), [db].as_slice());
+fn one_bound_makes_two_intervals(rt: HostRuntime) {
+    const TWO: &[Step] = &[
+        Step::Interval(INDEX, 1, Some(N5)),
+        Step::Interval(INDEX, 2, None),
+    ];
+    let graph = Graph::new(rt.alloc());
+    play(&rt, rt.alloc(), graph, &[FILED, BOUND, TWO]);
+}
+
+#[test]
+fn without_bounds_all_keys_lie_together(rt: HostRuntime) {
+    const TOGETHER: &[Step] = &[
+        Step::Interval(INDEX, 0, Some(N4)),
+        Step::Lies(INDEX, 0, N4),
+        Step::Lies(INDEX, 99, N4),
+        Step::Lies(INDEX, 100, N4),
+        Step::Lies(INDEX, u64::MAX, N4),
+    ];
+    let graph = Graph::new(rt.alloc());
+    play(&rt, rt.alloc(), graph, &[FILED, UNBOUND, TOGETHER]);
+}
+
+#[test]
+fn an_index_has_at_most_256_bounds(rt: HostRuntime) {
+    const BOUNDS: &[Step] = &[
+        Step::Many(1, Make::Wide(DB, FILE, 256)),
+        Step::Makes(Make::Wide(DB, FILE, 257), Err(Refusal::BadKeys)),
+        Step::MostBounds(256),
+    ];
+    let graph = Graph::new(rt.alloc());
+    play(&rt, rt.alloc(), graph, &[FILED, UNBOUND, BOUNDS]);
+}
+
+#[test]
+fn an_index_has_no_more_bounds_than_nodes_may_live(rt: HostRuntime) {
+    const BOUNDS: &[Step] = &[
+        Step::MostBounds(70_000),
+        Step::Makes(Make::Wide(DB, FILE, 69_997), Err(Refusal::TooManyNodes)),
+    ];
+    let graph = Graph::with_most(rt.alloc(), 70_000);
+    play(&rt, rt.alloc(), graph, &[FILED, BOUNDS]);
+}
+
+#[test]
+fn a_chosen_limit_of_nodes_is_the_limit_of_bounds(rt: HostRuntime) {
+    const SECOND: NodeId = N5;
+    const MIDDLE: NodeId = NodeId {
+        key: 30_003,
+        birth: 30_004,
+    };
+    const LAST: NodeId = NodeId {
+        key: 60_003,
+        birth: 60_004,
+    };
+    const REC: NodeId = NodeId {
+        key: 60_004,
+        birth: 60_005,
+    };
+    const LIES: &[Step] = &[
+        Step::Makes(Make::Wide(DB, FILE, 60_000), Ok(INDEX)),
+        Step::Lies(INDEX, 0, N4),
+        Step::Interval(INDEX, 0, Some(N4)),
+        Step::Lies(INDEX, 1, SECOND),
+        Step::Interval(INDEX, 1, Some(SECOND)),
+        Step::Lies(INDEX, 30_000, MIDDLE),
+        Step::Interval(INDEX, 30_000, Some(MIDDLE)),
+        Step::Lies(INDEX, 60_000, LAST),
+        Step::Lies(INDEX, u64::MAX, LAST),
+        Step::Interval(INDEX, 60_000, Some(LAST)),
+        Step::Makes(Make::Record(FILE, &[30_000]), Ok(REC)),
+        Step::Parents(REC, &[FILE, MIDDLE]),
+    ];
+    let graph = Graph::with_most(rt.alloc(), 70_000);
+    play(&rt, rt.alloc(), graph, &[FILED, LIES]);
+}
+
+#[test]
+fn a_file_has_at_most_seven_indexes(rt: HostRuntime) {
+    const SEVEN: &[Step] = &[
+        Step::Many(6, Make::Index(DB, FILE, &[])),
+        Step::Makes(Make::Index(DB, FILE, &[]), Err(Refusal::BadParents)),
+    ];
+    let graph = Graph::new(rt.alloc());
+    play(&rt, rt.alloc(), graph, &[FILED, UNBOUND, SEVEN]);
+}
+
+#[test]
+fn a_node_has_at_most_eight_parents(rt: HostRuntime) {
+    const EIGHT: &[NodeId] = &[N1, N2, N3, N4, N5, N6, N7, N8];
+    const NINE: &[NodeId] = &[N1, N2, N3, N4, N5, N6, N7, N8, N9];
+    const PARENTS: &[Step] = &[
+        Step::Many(9, Make::Inner(&[])),
+        Step::Makes(Make::Inner(NINE), Err(Refusal::BadParents)),
+        Step::Makes(Make::Inner(EIGHT), Ok(N10)),
+        Step::Parents(N10, EIGHT),
+    ];
+    let graph = Graph::new(rt.alloc());
+    play(&rt, rt.alloc(), graph, &[PARENTS]);
+}
+
+#[test]
+fn a_file_with_records_gets_no_index(rt: HostRuntime) {
+    const IN_USE: &[Step] = &[
+        Step::Parents(FILE, &[DB]),
+        Step::Makes(Make::Record(FILE, &[]), Ok(N3)),
+        Step::Makes(Make::Index(DB, FILE, &[]), Err(Refusal::FileInUse)),
+    ];
+    let graph = Graph::new(rt.alloc());
+    play(&rt, rt.alloc(), graph, &[FILED, IN_USE]);
+}
+
+#[test]
+fn no_node_past_the_limit(rt: HostRuntime) {
+    const FULL: &[Step] = &[
+        Step::Many(65_536, Make::Inner(&[])),
+        Step::Makes(Make::Inner(&[]), Err(Refusal::TooManyNodes)),
+        Step::Len(65_536),
+        Step::IsWorn(false),
+    ];
+    let graph = Graph::new(rt.alloc());
+    play(&rt, rt.alloc(), graph, &[FULL]);
+}
+
+#[test]
+fn a_chosen_limit_is_met_and_passed_by_none(rt: HostRuntime) {
+    const AGAIN: NodeId = NodeId { key: 2, birth: 4 };
+    const FULL: &[Step] = &[
+        Step::Makes(Make::Record(FILE, &[]), Ok(N3)),
+        Step::Makes(Make::Record(FILE, &[]), Err(Refusal::TooManyNodes)),
+        Step::Removes(N3),
+        Step::Makes(Make::Record(FILE, &[]), Ok(AGAIN)),
+        Step::Makes(Make::Inner(&[]), Err(Refusal::TooManyNodes)),
+        Step::Most(3),
+    ];
+    let graph = Graph::with_most(rt.alloc(), 3);
+    play(&rt, rt.alloc(), graph, &[FILED, FULL]);
+}
+
+#[test]
+fn a_limit_above_the_usual_one(rt: HostRuntime) {
+    const FULL: &[Step] = &[
+        Step::Many(70_000, Make::Inner(&[])),
+        Step::Makes(Make::Inner(&[]), Err(Refusal::TooManyNodes)),
+        Step::Len(70_000),
+    ];
+    let graph = Graph::with_most(rt.alloc(), 70_000);
+    play(&rt, rt.alloc(), graph, &[FULL]);
+}
+
+#[test]
+fn the_next_key_is_that_of_the_next_node(rt: HostRuntime) {
+    const NEXT: &[Step] = &[
+        Step::NextKey(4),
+        Step::Makes(Make::Record(FILE, &[7]), Ok(N5)),
+        Step::Removes(N5),
+        Step::NextKey(4),
+    ];
+    let graph = Graph::new(rt.alloc());
+    play(&rt, rt.alloc(), graph, &[FILED, UNBOUND, NEXT]);
+}
+
+#[test]
+fn many_records_come_and_go(rt: HostRuntime) {
+    const MANY: &[Step] = &[Step::ComeAndGo(65_532, FILE), Step::Len(4)];
+    let graph = Graph::new(rt.alloc());
+    play(&rt, rt.alloc(), graph, &[FILED, UNBOUND, MANY]);
+}
+
+#[test]
+fn a_stale_name_names_nothing(rt: HostRuntime) {
+    const OLD: NodeId = N6;
+    const NEW: NodeId = NodeId { key: 5, birth: 7 };
+    const STALE: &[Step] = &[
+        Step::Makes(Make::Record(FILE, &[50]), Ok(OLD)),
+        Step::Keys(OLD, &[50]),
+        Step::Removes(OLD),
+        Step::Makes(Make::Record(FILE, &[200]), Ok(NEW)),
+        Step::File(FILE, true, 1),
+        Step::Kind(OLD, None),
+        Step::Kind(NEW, Some(Kind::Rec)),
+    ];
+    let graph = Graph::new(rt.alloc());
+    play(&rt, rt.alloc(), graph, &[FILED, BOUND, STALE]);
+}
+
+#[test]
+fn no_path_closes(rt: HostRuntime) {
+    const CLOSES: &[Step] = &[
+        Step::Makes(Make::Inner(&[]), Ok(N1)),
+        Step::Makes(Make::Inner(&[N1]), Ok(N2)),
+        Step::Makes(Make::Inner(&[N2]), Ok(N3)),
+        Step::Moves(N1, N3, Err(Refusal::Cycle { node: N3 })),
+        Step::Moves(N3, N1, Ok(())),
+        Step::Parents(N3, &[N1]),
+    ];
+    let graph = Graph::new(rt.alloc());
+    play(&rt, rt.alloc(), graph, &[CLOSES]);
     root_path_laws();
-    Ok(())
 }

@@ -3,7 +3,8 @@
 ghost use Rattle.std.specs.Prelude.{◌≤◌};
 
 use crate::scene::Scene;
-use crate::store::Store;
+use crate::step::Play;
+use crate::store::{Deed, Store};
 use gl_table::Detect;
 use std::alloc::Global;
 
@@ -35,45 +36,41 @@ impl<'a> Bill<'a> {
         }
     }
 
-    /// Opens a scene, and tells how a play went in it.
-    pub(crate) fn scene<F: FnOnce(&mut Scene)>(&mut self, play: &str, acts: F)
-        requires { F.IsAlwaysCallable acts }
-    {
-        self.scene_with(play, Detect::AtBlock, 64, acts);
-    }
-
-    /// The same, with this way of detection, for at most so many transactions.
-    pub(crate) fn scene_with<F: FnOnce(&mut Scene)>(
-        &mut self,
-        play: &str,
-        detect: Detect,
-        most: usize,
-        acts: F,
-    )
-        requires some { 1 ≤ most }
-        requires few { most ≤ 128 }
-        requires callable { F.IsAlwaysCallable acts }
-    {
-        match Scene::open(self.alloc(), detect, most) {
-            Some(mut scene) => {
-                acts(&mut scene);
-                self.tell(play, scene.differs());
-            }
-            None => self.tell(play, Some(0)),
+    /// Opens a scene for each of these, and tells how the play went in it.
+    pub(crate) fn scenes(&mut self, plays: &[Play]) {
+        for play in plays {
+            self.scene(*play, Detect::AtBlock, 64);
         }
     }
 
-    /// Opens a store, and tells how a play went in it. At its end no row may be named.
-    pub(crate) fn store<F: FnOnce(&mut Store)>(&mut self, play: &str, acts: F)
-        requires { F.IsAlwaysCallable acts }
+    /// Opens a scene with this way of detection, for at most so many transactions, and tells how a play
+    /// went in it.
+    pub(crate) fn scene(&mut self, play: Play, detect: Detect, most: usize)
+        requires some { 1 ≤ most }
+        requires few { most ≤ 128 }
     {
-        match Store::open(self.alloc()) {
-            Some(mut store) => {
-                acts(&mut store);
-                store.names(0);
-                self.tell(play, store.watch.differs());
+        let (name, parts) = play;
+        match Scene::open(self.alloc(), detect, most) {
+            Some(mut scene) => {
+                scene.play(parts);
+                self.tell(name, scene.differs());
             }
-            None => self.tell(play, Some(0)),
+            None => self.tell(name, Some(0)),
+        }
+    }
+
+    /// Opens a store for each of these, and tells how the play went in it. At its end no row may be
+    /// named.
+    pub(crate) fn stores(&mut self, plays: &[(&str, &[Deed])]) {
+        for (name, deeds) in plays {
+            match Store::open(self.alloc()) {
+                Some(mut store) => {
+                    store.play(deeds);
+                    store.names(0);
+                    self.tell(name, store.watch.differs());
+                }
+                None => self.tell(name, Some(0)),
+            }
         }
     }
 

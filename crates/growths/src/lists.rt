@@ -1,113 +1,119 @@
 //! Waits by commands, and whole lists of them.
 
-use crate::bill::Bill;
-use crate::scene::{Scene, answered, done, granted, mode, refused, tells, waits};
-use gl_catalog::{Answer, Command};
-use gl_modes::{Mode, Refusal};
-use gl_table::{Detect, Notice, TxnId};
+use crate::step::{Ask, N1, Play, Row, Step};
+use gl_catalog::Answer;
+use gl_modes::Mode::{IS, IX, NL, S, SIX, X};
+use gl_modes::{NodeId, Refusal};
+use gl_table::{Notice, TxnId};
 
-pub(crate) fn play(bill: &mut Bill<'_>) {
-    bill.scene("manager: a commit grants", grants_on_commit);
-    bill.scene("manager: a held lock is raised", raises_a_member);
-    bill.scene("manager: a victim ends a deadlock", settles);
-    bill.scene("manager: a refused list applies nothing", applies_a_list);
-    bill.scene_with(
-        "manager: a list is answered in order",
-        Detect::ByWatcher,
-        2,
-        answers_in_order,
-    );
-}
+pub(crate) const PLAYS: &[Play] = &[
+    ("manager: a commit grants", &[GRANTS_ON_COMMIT]),
+    ("manager: a held lock is raised", &[RAISES_A_MEMBER]),
+    ("manager: a victim ends a deadlock", &[SETTLES]),
+    ("manager: a refused list applies nothing", &[APPLIES_A_LIST]),
+];
 
-fn grants_on_commit(scene: &mut Scene) {
-    let db = scene.inner(&[]);
-    let (a, b) = (scene.begin(), scene.begin());
-    scene.lock(a, Mode::S, db, granted(Mode::S));
-    scene.lock(b, Mode::IX, db, waits());
-    scene.waiting(b, Some((db, Mode::IX)));
-    scene.waiting(a, None);
-    scene.commit(b, refused(Refusal::TxnWaiting));
-    scene.commit(a, tells(b, Notice::Granted(db, Mode::IX)));
-    scene.group(db, Mode::IX);
-    scene.try_lock(b, Mode::S, db, granted(Mode::SIX));
-    scene.accepted(7);
-}
+/// The play of a table for two transactions, by a watcher.
+pub(crate) const BY_WATCHER: Play = ("manager: a list is answered in order", &[ANSWERS_IN_ORDER]);
+
+const A: TxnId = TxnId { slot: 0, age: 1 };
+
+const B: TxnId = TxnId { slot: 1, age: 2 };
+
+const C: TxnId = TxnId { slot: 2, age: 3 };
+
+const D: TxnId = TxnId { slot: 3, age: 4 };
+
+/// A root.
+const DB: NodeId = N1;
+
+const GRANTS_ON_COMMIT: &[Step] = &[
+    Step::Ask(Ask::Inner(&[]), Answer::Node(DB)),
+    Step::Ask(Ask::Begin, Answer::Begun(A)),
+    Step::Ask(Ask::Begin, Answer::Begun(B)),
+    Step::Ask(Ask::Lock(A, S, DB), Answer::Granted(S)),
+    Step::Ask(Ask::Lock(B, IX, DB), Answer::Waiting),
+    Step::Waiting(B, Some((DB, IX))),
+    Step::Waiting(A, None),
+    Step::Ask(Ask::Commit(B), Answer::Refused(Refusal::TxnWaiting)),
+    Step::Tells(Ask::Commit(A), B, Notice::Granted(DB, IX)),
+    Step::Ask(Ask::Group(DB), Answer::Mode(IX)),
+    Step::Ask(Ask::Try(B, S, DB), Answer::Granted(SIX)),
+    Step::Accepted(7),
+];
 
 /// Four members fill the room that a header begins with, so that one more would want memory. A raise may
 /// not.
-fn raises_a_member(scene: &mut Scene) {
-    let db = scene.inner(&[]);
-    let (a, b, c) = (scene.begin(), scene.begin(), scene.begin());
-    let d = scene.begin();
-    scene.lock_all(a, Mode::IS, &[db]);
-    scene.lock_all(b, Mode::IS, &[db]);
-    scene.lock_all(c, Mode::IS, &[db]);
-    scene.lock_all(d, Mode::IS, &[db]);
-    scene.lock(a, Mode::IX, db, granted(Mode::IX));
-    scene.try_lock(b, Mode::IX, db, granted(Mode::IX));
-    scene.try_lock(c, Mode::S, db, refused(Refusal::WouldBlock));
-    scene.lock(a, Mode::IS, db, granted(Mode::IX));
-    scene.unlock(b, db, done());
-    scene.lock(a, Mode::S, db, granted(Mode::SIX));
-    scene.commit(c, done());
-    scene.abort(d, done());
-    scene.try_lock(a, Mode::X, db, granted(Mode::X));
-    scene.group(db, Mode::X);
-}
+const RAISES_A_MEMBER: &[Step] = &[
+    Step::Ask(Ask::Inner(&[]), Answer::Node(DB)),
+    Step::Ask(Ask::Begin, Answer::Begun(A)),
+    Step::Ask(Ask::Begin, Answer::Begun(B)),
+    Step::Ask(Ask::Begin, Answer::Begun(C)),
+    Step::Ask(Ask::Begin, Answer::Begun(D)),
+    Step::Takes(A, IS, &[DB]),
+    Step::Takes(B, IS, &[DB]),
+    Step::Takes(C, IS, &[DB]),
+    Step::Takes(D, IS, &[DB]),
+    Step::Ask(Ask::Lock(A, IX, DB), Answer::Granted(IX)),
+    Step::Ask(Ask::Try(B, IX, DB), Answer::Granted(IX)),
+    Step::Ask(Ask::Try(C, S, DB), Answer::Refused(Refusal::WouldBlock)),
+    Step::Ask(Ask::Lock(A, IS, DB), Answer::Granted(IX)),
+    Step::Ask(Ask::Unlock(B, DB), Answer::Done),
+    Step::Ask(Ask::Lock(A, S, DB), Answer::Granted(SIX)),
+    Step::Ask(Ask::Commit(C), Answer::Done),
+    Step::Ask(Ask::Abort(D), Answer::Done),
+    Step::Ask(Ask::Try(A, X, DB), Answer::Granted(X)),
+    Step::Ask(Ask::Group(DB), Answer::Mode(X)),
+];
 
-fn settles(scene: &mut Scene) {
-    let db = scene.inner(&[]);
-    let (a, b) = (scene.begin(), scene.begin());
-    scene.lock_all(a, Mode::S, &[db]);
-    scene.lock_all(b, Mode::S, &[db]);
-    scene.lock(a, Mode::X, db, waits());
-    scene.lock(b, Mode::X, db, answered(Answer::Victim));
-    scene.settle(a, done());
-    scene.cancel(a, done());
-    scene.cancel(b, refused(Refusal::TxnCondemned));
-    scene.lock(a, Mode::X, db, waits());
-    scene.abort(b, tells(a, Notice::Granted(db, Mode::X)));
-}
+const SETTLES: &[Step] = &[
+    Step::Ask(Ask::Inner(&[]), Answer::Node(DB)),
+    Step::Ask(Ask::Begin, Answer::Begun(A)),
+    Step::Ask(Ask::Begin, Answer::Begun(B)),
+    Step::Takes(A, S, &[DB]),
+    Step::Takes(B, S, &[DB]),
+    Step::Ask(Ask::Lock(A, X, DB), Answer::Waiting),
+    Step::Ask(Ask::Lock(B, X, DB), Answer::Victim),
+    Step::Ask(Ask::Settle(A), Answer::Done),
+    Step::Ask(Ask::Cancel(A), Answer::Done),
+    Step::Ask(Ask::Cancel(B), Answer::Refused(Refusal::TxnCondemned)),
+    Step::Ask(Ask::Lock(A, X, DB), Answer::Waiting),
+    Step::Tells(Ask::Abort(B), A, Notice::Granted(DB, X)),
+];
 
-fn answers_in_order(scene: &mut Scene) {
-    let db = scene.inner(&[]);
-    let list = [
-        Command::Begin,
-        Command::Begin,
-        Command::Begin,
-        Command::Group { node: db },
-    ];
-    let wanted = [
-        answered(Answer::Begun(TxnId { slot: 0, age: 1 })),
-        answered(Answer::Begun(TxnId { slot: 1, age: 2 })),
-        refused(Refusal::TooManyTxns),
-        mode(Mode::NL),
-    ];
-    scene.ask_list(&list, &wanted);
-    scene.accepted(3);
-    scene.age(1, 2);
-}
+const FOUR: &[Row] = &[
+    (Ask::Begin, Answer::Begun(A), None),
+    (Ask::Begin, Answer::Begun(B), None),
+    (Ask::Begin, Answer::Refused(Refusal::TooManyTxns), None),
+    (Ask::Group(DB), Answer::Mode(NL), None),
+];
+
+const ANSWERS_IN_ORDER: &[Step] = &[
+    Step::Ask(Ask::Inner(&[]), Answer::Node(DB)),
+    Step::List(FOUR),
+    Step::Accepted(3),
+    Step::Age(1, 2),
+];
+
+const FIVE: &[Row] = &[
+    (Ask::Begin, Answer::Begun(C), None),
+    (Ask::Group(DB), Answer::Mode(S), None),
+    (Ask::Commit(B), Answer::Refused(Refusal::TxnWaiting), None),
+    (
+        Ask::Commit(A),
+        Answer::Done,
+        Some((B, Notice::Granted(DB, IX))),
+    ),
+    (Ask::Held(B, DB), Answer::Mode(IX), None),
+];
 
 /// No command of the list wants memory: all that can be refused its room is the list.
-fn applies_a_list(scene: &mut Scene) {
-    let db = scene.inner(&[]);
-    let (a, b) = (scene.begin(), scene.begin());
-    scene.lock_all(a, Mode::S, &[db]);
-    scene.lock(b, Mode::IX, db, waits());
-    let list = [
-        Command::Begin,
-        Command::Group { node: db },
-        Command::Commit { txn: b },
-        Command::Commit { txn: a },
-        Command::Held { txn: b, node: db },
-    ];
-    let wanted = [
-        answered(Answer::Begun(TxnId { slot: 2, age: 3 })),
-        mode(Mode::S),
-        refused(Refusal::TxnWaiting),
-        tells(b, Notice::Granted(db, Mode::IX)),
-        mode(Mode::IX),
-    ];
-    scene.ask_list(&list, &wanted);
-    scene.accepted(7);
-}
+const APPLIES_A_LIST: &[Step] = &[
+    Step::Ask(Ask::Inner(&[]), Answer::Node(DB)),
+    Step::Ask(Ask::Begin, Answer::Begun(A)),
+    Step::Ask(Ask::Begin, Answer::Begun(B)),
+    Step::Takes(A, S, &[DB]),
+    Step::Ask(Ask::Lock(B, IX, DB), Answer::Waiting),
+    Step::List(FIVE),
+    Step::Accepted(7),
+];

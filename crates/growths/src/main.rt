@@ -14,12 +14,14 @@ mod rows;
 mod scene;
 mod scripts;
 mod shares;
+mod step;
 mod store;
 mod tables;
 mod view;
 mod watch;
 
 use crate::bill::Bill;
+use gl_table::Detect;
 use std::process::ExitCode;
 
 fn main(rt: HostRuntime) -> ExitCode {
@@ -27,10 +29,11 @@ fn main(rt: HostRuntime) -> ExitCode {
     graphs::play(&mut bill);
     headers::play(&mut bill);
     tables::play(&mut bill);
-    lists::play(&mut bill);
-    moves::play(&mut bill);
-    records::play(&mut bill);
-    rows::play(&mut bill);
+    bill.scenes(lists::PLAYS);
+    bill.scene(lists::BY_WATCHER, Detect::ByWatcher, 2);
+    bill.scenes(moves::PLAYS);
+    bill.scenes(records::PLAYS);
+    bill.stores(rows::PLAYS);
     scripts::play(&mut bill);
     shares::play(&rt, &mut bill);
     ExitCode::from(bill.status())

@@ -1,88 +1,127 @@
 //! Inner nodes and files move.
 
-use crate::bill::Bill;
-use crate::scene::{Scene, done, granted, mode, need, refused, tells, waits};
-use gl_modes::{Mode, NodeId, Refusal};
-use gl_table::{Effect, Notice};
+use crate::step::{Ask, N1, N2, N3, N4, Play, Step};
+use gl_catalog::Answer;
+use gl_modes::Mode::{IS, IX, NL, S, X};
+use gl_modes::{NodeId, Refusal};
+use gl_table::{Effect, Notice, TxnId};
 
-pub(crate) fn play(bill: &mut Bill<'_>) {
-    bill.scene("manager: a file moves", moves_a_file);
-    bill.scene("manager: no path closes", closes_no_path);
-    bill.scene("manager: the new parent is needed", needs_the_new_parent);
-    bill.scene("manager: X on the parents moves", moves_by_the_parents);
-}
+pub(crate) const PLAYS: &[Play] = &[
+    ("manager: a file moves", &[TREE, MOVES_A_FILE]),
+    ("manager: no path closes", &[CLOSES_NO_PATH]),
+    (
+        "manager: the new parent is needed",
+        &[TREE, NEEDS_THE_NEW_PARENT],
+    ),
+    (
+        "manager: X on the parents moves",
+        &[TREE, MOVES_BY_THE_PARENTS],
+    ),
+];
+
+const A: TxnId = TxnId { slot: 0, age: 1 };
+
+const B: TxnId = TxnId { slot: 1, age: 2 };
+
+const C: TxnId = TxnId { slot: 2, age: 3 };
+
+const DB: NodeId = N1;
+
+const LEFT: NodeId = N2;
+
+const RIGHT: NodeId = N3;
+
+const FILE: NodeId = N4;
 
 /// A root with two inner nodes under it, and a file under the first of them.
-#[derive(Clone, Copy)]
-struct Tree {
-    db: NodeId,
-    x: NodeId,
-    y: NodeId,
-    file: NodeId,
-}
+const TREE: &[Step] = &[
+    Step::Ask(Ask::Inner(&[]), Answer::Node(DB)),
+    Step::Ask(Ask::Inner(&[DB]), Answer::Node(LEFT)),
+    Step::Ask(Ask::Inner(&[DB]), Answer::Node(RIGHT)),
+    Step::Ask(Ask::File(&[LEFT]), Answer::Node(FILE)),
+];
 
-fn make_tree(scene: &mut Scene) -> Tree {
-    let db = scene.inner(&[]);
-    let x = scene.inner(&[db]);
-    let y = scene.inner(&[db]);
-    let file = scene.file(&[x]);
-    Tree { db, x, y, file }
-}
+const MOVES_A_FILE: &[Step] = &[
+    Step::Ask(Ask::Begin, Answer::Begun(A)),
+    Step::Ask(Ask::Begin, Answer::Begun(B)),
+    Step::Ask(Ask::Begin, Answer::Begun(C)),
+    Step::Takes(A, IX, &[DB, LEFT, RIGHT]),
+    Step::Takes(A, X, &[FILE]),
+    Step::Takes(B, IX, &[DB, LEFT]),
+    Step::Ask(Ask::Lock(B, X, FILE), Answer::Waiting),
+    Step::Takes(C, IS, &[DB, LEFT, RIGHT]),
+    Step::Ask(Ask::Lock(C, S, FILE), Answer::Waiting),
+    Step::Tells(Ask::Move(A, FILE, &[RIGHT]), B, Notice::Moved),
+    Step::Ask(Ask::Unlock(A, LEFT), Answer::Done),
+    Step::Ask(
+        Ask::Unlock(A, RIGHT),
+        Answer::Refused(Refusal::HeldChild { node: FILE }),
+    ),
+    Step::Tells(Ask::Commit(A), C, Notice::Granted(FILE, S)),
+];
 
-fn moves_a_file(scene: &mut Scene) {
-    let Tree { db, x, y, file } = make_tree(scene);
-    let (a, b, c) = (scene.begin(), scene.begin(), scene.begin());
-    scene.lock_all(a, Mode::IX, &[db, x, y]);
-    scene.lock_all(a, Mode::X, &[file]);
-    scene.lock_all(b, Mode::IX, &[db, x]);
-    scene.lock(b, Mode::X, file, waits());
-    scene.lock_all(c, Mode::IS, &[db, x, y]);
-    scene.lock(c, Mode::S, file, waits());
-    scene.relocate(a, file, &[y], tells(b, Notice::Moved));
-    scene.unlock(a, x, done());
-    scene.unlock(a, y, refused(Refusal::HeldChild { node: file }));
-    scene.commit(a, tells(c, Notice::Granted(file, Mode::S)));
-}
+const CLOSES_NO_PATH: &[Step] = &[
+    Step::Ask(Ask::Inner(&[]), Answer::Node(DB)),
+    Step::Ask(Ask::Inner(&[DB]), Answer::Node(LEFT)),
+    Step::Ask(Ask::Inner(&[LEFT]), Answer::Node(RIGHT)),
+    Step::Ask(Ask::Begin, Answer::Begun(A)),
+    Step::Takes(A, X, &[DB]),
+    Step::Ask(
+        Ask::Move(A, LEFT, &[RIGHT]),
+        Answer::Refused(Refusal::NeedExclusive),
+    ),
+    Step::Takes(A, X, &[LEFT]),
+    Step::Ask(
+        Ask::Move(A, LEFT, &[RIGHT]),
+        Answer::Refused(Refusal::NeedParents { node: RIGHT }),
+    ),
+    Step::Takes(A, IX, &[RIGHT]),
+    Step::Ask(
+        Ask::Move(A, LEFT, &[RIGHT]),
+        Answer::Refused(Refusal::Cycle { node: RIGHT }),
+    ),
+    Step::Ask(
+        Ask::Move(A, LEFT, &[LEFT]),
+        Answer::Refused(Refusal::Cycle { node: LEFT }),
+    ),
+    Step::Ask(Ask::Move(A, LEFT, &[]), Answer::Done),
+    Step::Ask(Ask::Unlock(A, DB), Answer::Done),
+    Step::Ask(
+        Ask::Unlock(A, LEFT),
+        Answer::Refused(Refusal::HeldChild { node: RIGHT }),
+    ),
+];
 
-fn closes_no_path(scene: &mut Scene) {
-    let db = scene.inner(&[]);
-    let x = scene.inner(&[db]);
-    let y = scene.inner(&[x]);
-    let a = scene.begin();
-    scene.lock_all(a, Mode::X, &[db]);
-    scene.relocate(a, x, &[y], refused(Refusal::NeedExclusive));
-    scene.lock_all(a, Mode::X, &[x]);
-    scene.relocate(a, x, &[y], need(y));
-    scene.lock_all(a, Mode::IX, &[y]);
-    scene.relocate(a, x, &[y], refused(Refusal::Cycle { node: y }));
-    scene.relocate(a, x, &[x], refused(Refusal::Cycle { node: x }));
-    scene.relocate(a, x, &[], done());
-    scene.unlock(a, db, done());
-    scene.unlock(a, x, refused(Refusal::HeldChild { node: y }));
-}
+const NEEDS_THE_NEW_PARENT: &[Step] = &[
+    Step::Ask(Ask::Begin, Answer::Begun(A)),
+    Step::Ask(Ask::Begin, Answer::Begun(B)),
+    Step::Takes(A, IX, &[DB, LEFT]),
+    Step::Takes(A, X, &[FILE]),
+    Step::Ask(Ask::Lock(B, IS, DB), Answer::Granted(IS)),
+    Step::Takes(B, S, &[RIGHT]),
+    Step::Ask(
+        Ask::Move(A, FILE, &[RIGHT]),
+        Answer::Refused(Refusal::NeedParents { node: RIGHT }),
+    ),
+    Step::Ask(Ask::Lock(A, IX, RIGHT), Answer::Waiting),
+];
 
-fn needs_the_new_parent(scene: &mut Scene) {
-    let Tree { db, x, y, file } = make_tree(scene);
-    let (a, b) = (scene.begin(), scene.begin());
-    scene.lock_all(a, Mode::IX, &[db, x]);
-    scene.lock_all(a, Mode::X, &[file]);
-    scene.lock(b, Mode::IS, db, granted(Mode::IS));
-    scene.lock_all(b, Mode::S, &[y]);
-    scene.relocate(a, file, &[y], need(y));
-    scene.lock(a, Mode::IX, y, waits());
-}
-
-fn moves_by_the_parents(scene: &mut Scene) {
-    let Tree { db, x, y, file } = make_tree(scene);
-    let a = scene.begin();
-    scene.lock_all(a, Mode::IX, &[db]);
-    scene.lock_all(a, Mode::X, &[x]);
-    scene.relocate(a, file, &[y], refused(Refusal::NeedExclusive));
-    scene.lock_all(a, Mode::X, &[y]);
-    scene.relocate(a, file, &[y], done());
-    scene.effective(a, file, Effect::X);
-    scene.held(a, file, mode(Mode::NL));
-    scene.relocate(a, file, &[], refused(Refusal::BadParents));
-    scene.relocate(a, y, &[], done());
-    scene.held(a, y, mode(Mode::X));
-}
+const MOVES_BY_THE_PARENTS: &[Step] = &[
+    Step::Ask(Ask::Begin, Answer::Begun(A)),
+    Step::Takes(A, IX, &[DB]),
+    Step::Takes(A, X, &[LEFT]),
+    Step::Ask(
+        Ask::Move(A, FILE, &[RIGHT]),
+        Answer::Refused(Refusal::NeedExclusive),
+    ),
+    Step::Takes(A, X, &[RIGHT]),
+    Step::Ask(Ask::Move(A, FILE, &[RIGHT]), Answer::Done),
+    Step::Ask(Ask::Effective(A, FILE), Answer::Effect(Effect::X)),
+    Step::Ask(Ask::Held(A, FILE), Answer::Mode(NL)),
+    Step::Ask(
+        Ask::Move(A, FILE, &[]),
+        Answer::Refused(Refusal::BadParents),
+    ),
+    Step::Ask(Ask::Move(A, RIGHT, &[]), Answer::Done),
+    Step::Ask(Ask::Held(A, RIGHT), Answer::Mode(X)),
+];

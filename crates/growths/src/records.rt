@@ -1,222 +1,246 @@
 //! Records come, go and move between intervals; escalation; what locks on several nodes do together.
 
-use crate::bill::Bill;
-use crate::scene::{Scene, answered, done, granted, mode, need, refused, tells, waits};
+use crate::step::{Ask, N1, N2, N3, N4, N5, N6, N7, N8, Play, Step};
 use gl_catalog::{Answer, Escalated};
-use gl_modes::{Mode, NodeId, Refusal};
+use gl_modes::Mode::{IS, IX, NL, S, X};
+use gl_modes::{NodeId, Refusal};
 use gl_table::{Effect, Notice, TxnId};
 
-pub(crate) fn play(bill: &mut Bill<'_>) {
-    bill.scene("manager: the rule is kept", keeps_the_rule);
-    bill.scene("manager: effects are kept", keeps_effects);
-    bill.scene("manager: a grant lets a record move", lets_a_record_move);
-    bill.scene("manager: a record moves its waiters", moves_waiters);
-    bill.scene("manager: a record moves under X", moves_under_parents);
-    bill.scene("manager: records are escalated", escalates);
-    bill.scene("manager: what readers hold is counted", counts_readers);
-    bill.scene("manager: a record goes", deletes);
-    bill.scene("manager: nothing is inserted", inserts_nothing);
-    bill.scene("manager: kinds are kept", keeps_the_kinds);
-    bill.scene("manager: a row is adopted and forgotten", adopts);
-}
+pub(crate) const PLAYS: &[Play] = &[
+    ("manager: the rule is kept", &[SHOP, KEEPS_THE_RULE]),
+    ("manager: effects are kept", &[SHOP, KEEPS_EFFECTS]),
+    (
+        "manager: a grant lets a record move",
+        &[SHOP, LETS_A_RECORD_MOVE],
+    ),
+    (
+        "manager: a record moves its waiters",
+        &[SHOP, MOVES_WAITERS],
+    ),
+    (
+        "manager: a record moves under X",
+        &[SHOP, MOVES_UNDER_PARENTS],
+    ),
+    ("manager: records are escalated", &[SHOP, WRITER, ESCALATES]),
+    (
+        "manager: what readers hold is counted",
+        &[SHOP, COUNTS_READERS],
+    ),
+    ("manager: a record goes", &[SHOP, DELETES]),
+    ("manager: nothing is inserted", &[SHOP, INSERTS_NOTHING]),
+    ("manager: kinds are kept", &[SHOP, KEEPS_THE_KINDS]),
+    ("manager: a row is adopted and forgotten", &[SHOP, ADOPTS]),
+];
+
+/// The transaction that makes the records, and those that begin when it has ended.
+const Z: TxnId = TxnId { slot: 0, age: 1 };
+
+const A: TxnId = TxnId { slot: 0, age: 2 };
+
+const B: TxnId = TxnId { slot: 1, age: 3 };
+
+const C: TxnId = TxnId { slot: 2, age: 4 };
+
+const DB: NodeId = N1;
+
+const FILE: NodeId = N2;
+
+const INDEX: NodeId = N3;
+
+const LOW: NodeId = N4;
+
+const HIGH: NodeId = N5;
+
+const FIRST: NodeId = N6;
+
+const SECOND: NodeId = N7;
+
+const ROW: NodeId = N8;
+
+const NEED_LOW: Answer = Answer::Refused(Refusal::NeedParents { node: LOW });
+
+const NEED_HIGH: Answer = Answer::Refused(Refusal::NeedParents { node: HIGH });
+
+const BAD: Answer = Answer::Refused(Refusal::BadParents);
 
 /// A root, a file and its index with one bound and so two intervals, and a record in each.
-#[derive(Clone, Copy)]
-struct Shop {
-    db: NodeId,
-    file: NodeId,
-    index: NodeId,
-    low: NodeId,
-    high: NodeId,
-    first: NodeId,
-    second: NodeId,
-}
+const SHOP: &[Step] = &[
+    Step::Ask(Ask::Inner(&[]), Answer::Node(DB)),
+    Step::Ask(Ask::File(&[DB]), Answer::Node(FILE)),
+    Step::Ask(Ask::Index(&[DB], FILE, &[100]), Answer::Node(INDEX)),
+    Step::Ask(Ask::Begin, Answer::Begun(Z)),
+    Step::Takes(Z, IX, &[DB, FILE, INDEX, LOW, HIGH]),
+    Step::Ask(Ask::Insert(Z, FILE, &[50]), Answer::Node(FIRST)),
+    Step::Ask(Ask::Insert(Z, FILE, &[200]), Answer::Node(SECOND)),
+    Step::Ask(Ask::Commit(Z), Answer::Done),
+];
 
-fn make_shop(scene: &mut Scene) -> Shop {
-    let db = scene.inner(&[]);
-    let file = scene.file(&[db]);
-    let index = scene.index(&[db], file, &[100]);
-    let (low, high) = (scene.interval(index, 0), scene.interval(index, 1));
-    let z = scene.begin();
-    scene.lock_all(z, Mode::IX, &[db, file, index, low, high]);
-    let first = scene.insert(z, file, &[50]);
-    let second = scene.insert(z, file, &[200]);
-    scene.commit(z, done());
-    Shop {
-        db,
-        file,
-        index,
-        low,
-        high,
-        first,
-        second,
-    }
-}
+const KEEPS_THE_RULE: &[Step] = &[
+    Step::Ask(Ask::Begin, Answer::Begun(A)),
+    Step::Takes(A, IX, &[DB, FILE]),
+    Step::Ask(Ask::Lock(A, X, FIRST), NEED_LOW),
+    Step::Ask(Ask::Lock(A, S, FIRST), Answer::Granted(S)),
+    Step::Ask(Ask::Lock(A, IX, FIRST), Answer::Refused(Refusal::BadMode)),
+    Step::Ask(
+        Ask::Unlock(A, FILE),
+        Answer::Refused(Refusal::HeldChild { node: FIRST }),
+    ),
+    Step::Ask(Ask::Unlock(A, FIRST), Answer::Done),
+    Step::Ask(Ask::Unlock(A, FILE), Answer::Done),
+    Step::Ask(Ask::Unlock(A, FILE), Answer::Refused(Refusal::NotHeld)),
+];
 
-fn keeps_the_rule(scene: &mut Scene) {
-    let s = make_shop(scene);
-    let a = scene.begin();
-    scene.lock_all(a, Mode::IX, &[s.db, s.file]);
-    scene.lock(a, Mode::X, s.first, need(s.low));
-    scene.lock(a, Mode::S, s.first, granted(Mode::S));
-    scene.lock(a, Mode::IX, s.first, refused(Refusal::BadMode));
-    scene.unlock(a, s.file, refused(Refusal::HeldChild { node: s.first }));
-    scene.unlock(a, s.first, done());
-    scene.unlock(a, s.file, done());
-    scene.unlock(a, s.file, refused(Refusal::NotHeld));
-}
+const KEEPS_EFFECTS: &[Step] = &[
+    Step::Ask(Ask::Begin, Answer::Begun(A)),
+    Step::Ask(Ask::Begin, Answer::Begun(B)),
+    Step::Takes(A, IX, &[DB]),
+    Step::Takes(A, X, &[FILE]),
+    Step::Takes(B, IS, &[DB, INDEX, LOW]),
+    Step::Ask(Ask::Lock(B, S, FIRST), Answer::Granted(S)),
+    Step::Ask(Ask::Effective(A, FIRST), Answer::Effect(Effect::S)),
+    Step::Ask(Ask::Effective(A, FILE), Answer::Effect(Effect::X)),
+];
 
-fn keeps_effects(scene: &mut Scene) {
-    let s = make_shop(scene);
-    let (a, b) = (scene.begin(), scene.begin());
-    scene.lock_all(a, Mode::IX, &[s.db]);
-    scene.lock_all(a, Mode::X, &[s.file]);
-    scene.lock_all(b, Mode::IS, &[s.db, s.index, s.low]);
-    scene.lock(b, Mode::S, s.first, granted(Mode::S));
-    scene.effective(a, s.first, Effect::S);
-    scene.effective(a, s.file, Effect::X);
-}
-
-fn lets_a_record_move(scene: &mut Scene) {
-    let s = make_shop(scene);
-    let (a, b) = (scene.begin(), scene.begin());
-    scene.lock_all(a, Mode::IX, &[s.db, s.file, s.index, s.low]);
-    scene.lock_all(a, Mode::X, &[s.first]);
-    scene.lock_all(b, Mode::IS, &[s.db, s.index]);
-    scene.lock_all(b, Mode::S, &[s.high]);
-    scene.rekey(a, s.first, s.index, 150, need(s.high));
-    scene.lock(a, Mode::IX, s.high, waits());
-    scene.commit(b, tells(a, Notice::Granted(s.high, Mode::IX)));
-    scene.rekey(a, s.first, s.index, 150, done());
-}
+const LETS_A_RECORD_MOVE: &[Step] = &[
+    Step::Ask(Ask::Begin, Answer::Begun(A)),
+    Step::Ask(Ask::Begin, Answer::Begun(B)),
+    Step::Takes(A, IX, &[DB, FILE, INDEX, LOW]),
+    Step::Takes(A, X, &[FIRST]),
+    Step::Takes(B, IS, &[DB, INDEX]),
+    Step::Takes(B, S, &[HIGH]),
+    Step::Ask(Ask::Rekey(A, FIRST, INDEX, 150), NEED_HIGH),
+    Step::Ask(Ask::Lock(A, IX, HIGH), Answer::Waiting),
+    Step::Tells(Ask::Commit(B), A, Notice::Granted(HIGH, IX)),
+    Step::Ask(Ask::Rekey(A, FIRST, INDEX, 150), Answer::Done),
+];
 
 /// Of those who wait for the record the reader stays and the writer goes.
-fn moves_waiters(scene: &mut Scene) {
-    let s = make_shop(scene);
-    let (a, b, c) = (scene.begin(), scene.begin(), scene.begin());
-    scene.lock_all(a, Mode::IX, &[s.db, s.file, s.index, s.low]);
-    scene.lock_all(a, Mode::X, &[s.first]);
-    scene.lock_all(a, Mode::IX, &[s.high]);
-    scene.lock_all(b, Mode::IX, &[s.db, s.file, s.index, s.low]);
-    scene.lock(b, Mode::X, s.first, waits());
-    scene.lock_all(c, Mode::IS, &[s.db, s.file]);
-    scene.lock(c, Mode::S, s.first, waits());
-    scene.rekey(a, s.first, s.index, 150, tells(b, Notice::Moved));
-    scene.held(b, s.first, mode(Mode::NL));
-    scene.unlock(a, s.low, done());
-    scene.unlock(a, s.high, refused(Refusal::HeldChild { node: s.first }));
-    scene.commit(a, tells(c, Notice::Granted(s.first, Mode::S)));
-}
+const MOVES_WAITERS: &[Step] = &[
+    Step::Ask(Ask::Begin, Answer::Begun(A)),
+    Step::Ask(Ask::Begin, Answer::Begun(B)),
+    Step::Ask(Ask::Begin, Answer::Begun(C)),
+    Step::Takes(A, IX, &[DB, FILE, INDEX, LOW]),
+    Step::Takes(A, X, &[FIRST]),
+    Step::Takes(A, IX, &[HIGH]),
+    Step::Takes(B, IX, &[DB, FILE, INDEX, LOW]),
+    Step::Ask(Ask::Lock(B, X, FIRST), Answer::Waiting),
+    Step::Takes(C, IS, &[DB, FILE]),
+    Step::Ask(Ask::Lock(C, S, FIRST), Answer::Waiting),
+    Step::Tells(Ask::Rekey(A, FIRST, INDEX, 150), B, Notice::Moved),
+    Step::Ask(Ask::Held(B, FIRST), Answer::Mode(NL)),
+    Step::Ask(Ask::Unlock(A, LOW), Answer::Done),
+    Step::Ask(
+        Ask::Unlock(A, HIGH),
+        Answer::Refused(Refusal::HeldChild { node: FIRST }),
+    ),
+    Step::Tells(Ask::Commit(A), C, Notice::Granted(FIRST, S)),
+];
 
-fn moves_under_parents(scene: &mut Scene) {
-    let s = make_shop(scene);
-    let a = scene.begin();
-    scene.lock_all(a, Mode::IX, &[s.db]);
-    scene.lock_all(a, Mode::X, &[s.file]);
-    scene.lock_all(a, Mode::IX, &[s.index]);
-    scene.lock_all(a, Mode::X, &[s.low]);
-    scene.rekey(a, s.first, s.index, 60, done());
-    scene.rekey(a, s.first, s.index, 150, refused(Refusal::NeedExclusive));
-    scene.lock_all(a, Mode::X, &[s.high]);
-    scene.rekey(a, s.first, s.index, 150, done());
-    scene.effective(a, s.first, Effect::X);
-}
+const MOVES_UNDER_PARENTS: &[Step] = &[
+    Step::Ask(Ask::Begin, Answer::Begun(A)),
+    Step::Takes(A, IX, &[DB]),
+    Step::Takes(A, X, &[FILE]),
+    Step::Takes(A, IX, &[INDEX]),
+    Step::Takes(A, X, &[LOW]),
+    Step::Ask(Ask::Rekey(A, FIRST, INDEX, 60), Answer::Done),
+    Step::Ask(
+        Ask::Rekey(A, FIRST, INDEX, 150),
+        Answer::Refused(Refusal::NeedExclusive),
+    ),
+    Step::Takes(A, X, &[HIGH]),
+    Step::Ask(Ask::Rekey(A, FIRST, INDEX, 150), Answer::Done),
+    Step::Ask(Ask::Effective(A, FIRST), Answer::Effect(Effect::X)),
+];
 
 /// One who holds both records in X, the first of them also by all its parents.
-fn writer(scene: &mut Scene, s: Shop) -> TxnId {
-    let a = scene.begin();
-    scene.lock_all(a, Mode::IX, &[s.db, s.file, s.index]);
-    scene.lock_all(a, Mode::X, &[s.low]);
-    scene.lock_all(a, Mode::IX, &[s.high]);
-    scene.lock_all(a, Mode::X, &[s.first, s.second]);
-    a
-}
+const WRITER: &[Step] = &[
+    Step::Ask(Ask::Begin, Answer::Begun(A)),
+    Step::Takes(A, IX, &[DB, FILE, INDEX]),
+    Step::Takes(A, X, &[LOW]),
+    Step::Takes(A, IX, &[HIGH]),
+    Step::Takes(A, X, &[FIRST, SECOND]),
+];
 
-fn escalates(scene: &mut Scene) {
-    let s = make_shop(scene);
-    let a = writer(scene, s);
-    for (node, count) in [
-        (s.db, 2),
-        (s.file, 2),
-        (s.index, 2),
-        (s.low, 1),
-        (s.high, 1),
-    ] {
-        scene.children(a, node, Some(count));
-    }
-    scene.children(a, s.first, Some(0));
-    let rose = Escalated {
-        mode: Mode::X,
-        released: 1,
-        kept: 1,
-    };
-    scene.escalate(a, s.file, answered(Answer::Escalated(rose)));
-    scene.held(a, s.first, mode(Mode::NL));
-    scene.effective(a, s.first, Effect::X);
-    scene.held(a, s.second, mode(Mode::X));
-    scene.children(a, s.file, Some(1));
-    scene.children(a, s.low, Some(0));
-    scene.children(a, s.first, None);
-    scene.rekey(a, s.second, s.index, 60, done());
-    scene.children(a, s.low, Some(1));
-    scene.unlock(a, s.high, done());
-}
+/// The file is held in X, which implies one of the records.
+const ROSE: Escalated = Escalated {
+    mode: X,
+    released: 1,
+    kept: 1,
+};
 
-fn counts_readers(scene: &mut Scene) {
-    let s = make_shop(scene);
-    let b = scene.begin();
-    scene.lock_all(b, Mode::IS, &[s.db, s.file]);
-    scene.lock(b, Mode::S, s.first, granted(Mode::S));
-    scene.lock_all(b, Mode::IS, &[s.index, s.low]);
-    scene.children(b, s.low, Some(1));
-    scene.children(b, s.file, Some(1));
-}
+const ESCALATES: &[Step] = &[
+    Step::Children(A, DB, Some(2)),
+    Step::Children(A, FILE, Some(2)),
+    Step::Children(A, INDEX, Some(2)),
+    Step::Children(A, LOW, Some(1)),
+    Step::Children(A, HIGH, Some(1)),
+    Step::Children(A, FIRST, Some(0)),
+    Step::Ask(Ask::Escalate(A, FILE), Answer::Escalated(ROSE)),
+    Step::Ask(Ask::Held(A, FIRST), Answer::Mode(NL)),
+    Step::Ask(Ask::Effective(A, FIRST), Answer::Effect(Effect::X)),
+    Step::Ask(Ask::Held(A, SECOND), Answer::Mode(X)),
+    Step::Children(A, FILE, Some(1)),
+    Step::Children(A, LOW, Some(0)),
+    Step::Children(A, FIRST, None),
+    Step::Ask(Ask::Rekey(A, SECOND, INDEX, 60), Answer::Done),
+    Step::Children(A, LOW, Some(1)),
+    Step::Ask(Ask::Unlock(A, HIGH), Answer::Done),
+];
 
-fn deletes(scene: &mut Scene) {
-    let s = make_shop(scene);
-    let (a, b) = (scene.begin(), scene.begin());
-    scene.lock_all(a, Mode::IX, &[s.db, s.file, s.index, s.low]);
-    scene.lock_all(a, Mode::X, &[s.first]);
-    scene.lock_all(b, Mode::IS, &[s.db, s.file]);
-    scene.lock(b, Mode::S, s.first, waits());
-    scene.delete(a, s.first, tells(b, Notice::Gone));
-    scene.held(b, s.first, refused(Refusal::NoSuchNode));
-    scene.held(b, s.file, mode(Mode::IS));
-}
+const COUNTS_READERS: &[Step] = &[
+    Step::Ask(Ask::Begin, Answer::Begun(A)),
+    Step::Takes(A, IS, &[DB, FILE]),
+    Step::Ask(Ask::Lock(A, S, FIRST), Answer::Granted(S)),
+    Step::Takes(A, IS, &[INDEX, LOW]),
+    Step::Children(A, LOW, Some(1)),
+    Step::Children(A, FILE, Some(1)),
+];
 
-fn inserts_nothing(scene: &mut Scene) {
-    let s = make_shop(scene);
-    let a = scene.begin();
-    scene.lock_all(a, Mode::IX, &[s.db, s.file]);
-    for (key, parent) in [(0, s.low), (99, s.low), (100, s.high), (u64::MAX, s.high)] {
-        scene.insert_refused(a, s.file, &[key], need(parent));
-    }
-    scene.insert_refused(a, s.file, &[], refused(Refusal::BadKeys));
-}
+const DELETES: &[Step] = &[
+    Step::Ask(Ask::Begin, Answer::Begun(A)),
+    Step::Ask(Ask::Begin, Answer::Begun(B)),
+    Step::Takes(A, IX, &[DB, FILE, INDEX, LOW]),
+    Step::Takes(A, X, &[FIRST]),
+    Step::Takes(B, IS, &[DB, FILE]),
+    Step::Ask(Ask::Lock(B, S, FIRST), Answer::Waiting),
+    Step::Tells(Ask::Delete(A, FIRST), B, Notice::Gone),
+    Step::Ask(Ask::Held(B, FIRST), Answer::Refused(Refusal::NoSuchNode)),
+    Step::Ask(Ask::Held(B, FILE), Answer::Mode(IS)),
+];
 
-fn keeps_the_kinds(scene: &mut Scene) {
-    let s = make_shop(scene);
-    let a = scene.begin();
-    let bad = refused(Refusal::BadParents);
-    scene.delete(a, s.file, bad);
-    scene.delete(a, s.first, refused(Refusal::NeedExclusive));
-    scene.rekey(a, s.first, s.file, 5, bad);
-    scene.escalate(a, s.first, bad);
-    scene.escalate(a, s.file, refused(Refusal::NotHeld));
-    scene.relocate(a, s.low, &[s.db], bad);
-    scene.relocate(a, s.first, &[s.db], bad);
-    scene.relocate(a, s.file, &[s.file], bad);
-}
+const INSERTS_NOTHING: &[Step] = &[
+    Step::Ask(Ask::Begin, Answer::Begun(A)),
+    Step::Takes(A, IX, &[DB, FILE]),
+    Step::Ask(Ask::Insert(A, FILE, &[0]), NEED_LOW),
+    Step::Ask(Ask::Insert(A, FILE, &[99]), NEED_LOW),
+    Step::Ask(Ask::Insert(A, FILE, &[100]), NEED_HIGH),
+    Step::Ask(Ask::Insert(A, FILE, &[u64::MAX]), NEED_HIGH),
+    Step::Ask(Ask::Insert(A, FILE, &[]), Answer::Refused(Refusal::BadKeys)),
+];
 
-fn adopts(scene: &mut Scene) {
-    let s = make_shop(scene);
-    let a = scene.begin();
-    let row = scene.adopt(s.file, &[150]);
-    scene.lock_all(a, Mode::IX, &[s.db, s.file, s.index, s.high]);
-    scene.lock_all(a, Mode::X, &[row]);
-    scene.forget(row, refused(Refusal::RecordInUse));
-    scene.commit(a, done());
-    scene.forget(row, done());
-    scene.forget(row, refused(Refusal::NoSuchNode));
-    scene.forget(s.low, refused(Refusal::BadParents));
-}
+const KEEPS_THE_KINDS: &[Step] = &[
+    Step::Ask(Ask::Begin, Answer::Begun(A)),
+    Step::Ask(Ask::Delete(A, FILE), BAD),
+    Step::Ask(
+        Ask::Delete(A, FIRST),
+        Answer::Refused(Refusal::NeedExclusive),
+    ),
+    Step::Ask(Ask::Rekey(A, FIRST, FILE, 5), BAD),
+    Step::Ask(Ask::Escalate(A, FIRST), BAD),
+    Step::Ask(Ask::Escalate(A, FILE), Answer::Refused(Refusal::NotHeld)),
+    Step::Ask(Ask::Move(A, LOW, &[DB]), BAD),
+    Step::Ask(Ask::Move(A, FIRST, &[DB]), BAD),
+    Step::Ask(Ask::Move(A, FILE, &[FILE]), BAD),
+];
+
+const ADOPTS: &[Step] = &[
+    Step::Ask(Ask::Begin, Answer::Begun(A)),
+    Step::Ask(Ask::Adopt(FILE, &[150]), Answer::Node(ROW)),
+    Step::Takes(A, IX, &[DB, FILE, INDEX, HIGH]),
+    Step::Takes(A, X, &[ROW]),
+    Step::Ask(Ask::Forget(ROW), Answer::Refused(Refusal::RecordInUse)),
+    Step::Ask(Ask::Commit(A), Answer::Done),
+    Step::Ask(Ask::Forget(ROW), Answer::Done),
+    Step::Ask(Ask::Forget(ROW), Answer::Refused(Refusal::NoSuchNode)),
+    Step::Ask(Ask::Forget(LOW), Answer::Refused(Refusal::BadParents)),
+];

@@ -1,26 +1,39 @@
 //! Rows by the engine's own numbers are locked, come, go and move: each has a node for as long as it is
 //! held or waited for.
 
-use crate::bill::Bill;
-use crate::scene::{answered, done, granted, need, refused, tells, waits};
-use crate::store::{Line, ROWS, Store};
+use crate::step::{N2, N4, N5, N6};
+use crate::store::{Call, Deed, Line, ROWS};
 use gl_catalog::{Answer, Escalated};
-use gl_modes::{Mode, Refusal};
-use gl_table::Notice;
+use gl_modes::Mode::{IX, S, X};
+use gl_modes::{NodeId, Refusal};
+use gl_table::TxnId;
 
-/// Tells how each play of a registry went.
-pub(crate) fn play(bill: &mut Bill<'_>) {
-    bill.store("registry: a row is named while it is locked", names_a_row);
-    bill.store("registry: many rows are named", names_many);
-    bill.store("registry: a row is locked by other keys", takes_other_keys);
-    bill.store("registry: a row comes and goes", comes_and_goes);
-    bill.store("registry: a row moves", rekeys);
-    bill.store("registry: a row moves from its waiter", moves_a_waiter);
-    bill.store("registry: rows are escalated", escalates);
-    bill.store("registry: a wait is taken back", cancels);
-    bill.store("registry: a victim ends a deadlock", fells);
-    bill.store("registry: a refused lock leaves no node", names_nothing);
-}
+/// The plays of a registry.
+pub(crate) const PLAYS: &[(&str, &[Deed])] = &[
+    ("registry: a row is named while it is locked", NAMES_A_ROW),
+    ("registry: many rows are named", NAMES_MANY),
+    ("registry: a row is locked by other keys", TAKES_OTHER_KEYS),
+    ("registry: a row comes and goes", COMES_AND_GOES),
+    ("registry: a row moves", REKEYS),
+    ("registry: a row moves from its waiter", MOVES_A_WAITER),
+    ("registry: rows are escalated", ESCALATES),
+    ("registry: a wait is taken back", CANCELS),
+    ("registry: a victim ends a deadlock", FELLS),
+    ("registry: a refused lock leaves no node", NAMES_NOTHING),
+];
+
+const A: TxnId = TxnId { slot: 0, age: 1 };
+
+const B: TxnId = TxnId { slot: 1, age: 2 };
+
+/// The file of rows, and the intervals of its index.
+const FILE: NodeId = N2;
+
+const FIRST: NodeId = N4;
+
+const SECOND: NodeId = N5;
+
+const THIRD: NodeId = N6;
 
 /// A row of the first interval, of the second and of the third.
 const LOW: Line = Line { number: 0, key: 50 };
@@ -41,183 +54,198 @@ const RISEN: Line = Line {
     key: 150,
 };
 
-/// The row keeps its node for who waits for it.
-fn names_a_row(store: &mut Store) {
-    let (a, b) = store.writers();
-    store.lock(a, Mode::X, LOW, granted(Mode::X));
-    store.lock(a, Mode::S, LOW, granted(Mode::X));
-    store.lock(b, Mode::S, LOW, waits());
-    store.names(1);
-    let node = store.node(LOW);
-    store.commit(a, tells(b, Notice::Granted(node, Mode::S)));
-    store.names(1);
-    store.commit(b, done());
-}
+/// The last row that a play may lock.
+const LAST: Line = Line {
+    number: 11,
+    key: 11,
+};
 
-/// A row whose number is its key.
-fn numbered(number: u64) -> Line {
-    Line {
-        number,
-        key: number,
-    }
-}
+/// The row keeps its node for who waits for it.
+const NAMES_A_ROW: &[Deed] = &[
+    Deed::MayWrite(A, 3),
+    Deed::MayWrite(B, 3),
+    Deed::Ask(Call::Lock(A, X, LOW), Answer::Granted(X)),
+    Deed::Ask(Call::Lock(A, S, LOW), Answer::Granted(X)),
+    Deed::Ask(Call::Lock(B, S, LOW), Answer::Waiting),
+    Deed::Names(1),
+    Deed::Grants(Call::Commit(A), B, LOW, S),
+    Deed::Names(1),
+    Deed::Ask(Call::Commit(B), Answer::Done),
+];
 
 /// One reads as many rows as a play may lock, and another waits to write the last.
-fn names_many(store: &mut Store) {
-    let (a, b) = store.writers();
-    for number in 0..ROWS {
-        let line = numbered(number as u64);
-        store.lock(a, Mode::S, line, granted(Mode::S));
-    }
-    store.names(ROWS);
-    let last = numbered(11);
-    store.lock(b, Mode::X, last, waits());
-    let node = store.node(last);
-    store.commit(a, tells(b, Notice::Granted(node, Mode::X)));
-    store.names(1);
-    store.abort(b, done());
-}
+const NAMES_MANY: &[Deed] = &[
+    Deed::MayWrite(A, 3),
+    Deed::MayWrite(B, 3),
+    Deed::Reads(A),
+    Deed::Names(ROWS),
+    Deed::Ask(Call::Lock(B, X, LAST), Answer::Waiting),
+    Deed::Grants(Call::Commit(A), B, LAST, X),
+    Deed::Names(1),
+    Deed::Ask(Call::Abort(B), Answer::Done),
+];
 
 /// A row that is held is locked by its node, whatever keys are said; else by those that are said.
-fn takes_other_keys(store: &mut Store) {
-    let (a, b) = store.writers();
-    store.lock(a, Mode::S, LOW, granted(Mode::S));
-    store.lock_elsewhere(b, Mode::S, RISEN, granted(Mode::S));
-    store.lock(b, Mode::S, LOW, granted(Mode::S));
-    store.lock_elsewhere(b, Mode::X, RISEN, waits());
-    let node = store.node(LOW);
-    store.unlock(a, LOW, tells(b, Notice::Granted(node, Mode::X)));
-    store.names(1);
-    store.unlock(b, LOW, done());
-    store.names(0);
-    store.unlock(b, LOW, refused(Refusal::NoSuchNode));
-    store.lock(b, Mode::X, RISEN, granted(Mode::X));
-    store.lock_elsewhere(a, Mode::S, LOW, waits());
-    let node = store.node(RISEN);
-    store.commit(b, tells(a, Notice::Granted(node, Mode::S)));
-    store.commit(a, done());
-}
+const TAKES_OTHER_KEYS: &[Deed] = &[
+    Deed::MayWrite(A, 3),
+    Deed::MayWrite(B, 3),
+    Deed::Ask(Call::Lock(A, S, LOW), Answer::Granted(S)),
+    Deed::AskBy(Call::Lock(B, S, RISEN), Answer::Granted(S)),
+    Deed::Ask(Call::Lock(B, S, LOW), Answer::Granted(S)),
+    Deed::AskBy(Call::Lock(B, X, RISEN), Answer::Waiting),
+    Deed::Grants(Call::Unlock(A, LOW), B, LOW, X),
+    Deed::Names(1),
+    Deed::Ask(Call::Unlock(B, LOW), Answer::Done),
+    Deed::Names(0),
+    Deed::Ask(Call::Unlock(B, LOW), Answer::Refused(Refusal::NoSuchNode)),
+    Deed::Ask(Call::Lock(B, X, RISEN), Answer::Granted(X)),
+    Deed::AskBy(Call::Lock(A, S, LOW), Answer::Waiting),
+    Deed::Grants(Call::Commit(B), A, RISEN, S),
+    Deed::Ask(Call::Commit(A), Answer::Done),
+];
 
 /// A row that comes or goes is written by its number, which stays until the end.
-fn comes_and_goes(store: &mut Store) {
-    let (a, b) = store.writers();
-    store.lock(a, Mode::X, LOW, granted(Mode::X));
-    store.lock(b, Mode::X, LOW, waits());
-    store.lock(b, Mode::X, MIDDLE, refused(Refusal::TxnWaiting));
-    store.names(1);
-    let node = store.node(LOW);
-    store.commit(a, tells(b, Notice::Granted(node, Mode::X)));
-    store.lock(b, Mode::X, MIDDLE, granted(Mode::X));
-    store.names(2);
-    store.abort(b, done());
-}
+const COMES_AND_GOES: &[Deed] = &[
+    Deed::MayWrite(A, 3),
+    Deed::MayWrite(B, 3),
+    Deed::Ask(Call::Lock(A, X, LOW), Answer::Granted(X)),
+    Deed::Ask(Call::Lock(B, X, LOW), Answer::Waiting),
+    Deed::Ask(
+        Call::Lock(B, X, MIDDLE),
+        Answer::Refused(Refusal::TxnWaiting),
+    ),
+    Deed::Names(1),
+    Deed::Grants(Call::Commit(A), B, LOW, X),
+    Deed::Ask(Call::Lock(B, X, MIDDLE), Answer::Granted(X)),
+    Deed::Names(2),
+    Deed::Ask(Call::Abort(B), Answer::Done),
+];
 
 /// A reader waits on for a row that moves.
-fn rekeys(store: &mut Store) {
-    let (a, b) = store.writers();
-    store.lock(a, Mode::S, LOW, granted(Mode::S));
-    store.rekey(a, LOW, 150, refused(Refusal::NeedExclusive));
-    store.rekey(a, HIGH, 150, refused(Refusal::NoSuchNode));
-    store.lock(a, Mode::X, LOW, granted(Mode::X));
-    store.lock(b, Mode::S, LOW, waits());
-    store.rekey(a, LOW, 150, done());
-    store.lock_elsewhere(a, Mode::X, LOW, granted(Mode::X));
-    store.lock(a, Mode::X, RISEN, granted(Mode::X));
-    store.names(1);
-    let node = store.node(RISEN);
-    store.commit(a, tells(b, Notice::Granted(node, Mode::S)));
-    store.unlock(b, RISEN, done());
-    store.names(0);
-    store.commit(b, done());
-}
+const REKEYS: &[Deed] = &[
+    Deed::MayWrite(A, 3),
+    Deed::MayWrite(B, 3),
+    Deed::Ask(Call::Lock(A, S, LOW), Answer::Granted(S)),
+    Deed::Ask(
+        Call::Rekey(A, LOW, 150),
+        Answer::Refused(Refusal::NeedExclusive),
+    ),
+    Deed::Ask(
+        Call::Rekey(A, HIGH, 150),
+        Answer::Refused(Refusal::NoSuchNode),
+    ),
+    Deed::Ask(Call::Lock(A, X, LOW), Answer::Granted(X)),
+    Deed::Ask(Call::Lock(B, S, LOW), Answer::Waiting),
+    Deed::Ask(Call::Rekey(A, LOW, 150), Answer::Done),
+    Deed::AskBy(Call::Lock(A, X, LOW), Answer::Granted(X)),
+    Deed::Ask(Call::Lock(A, X, RISEN), Answer::Granted(X)),
+    Deed::Names(1),
+    Deed::Grants(Call::Commit(A), B, RISEN, S),
+    Deed::Ask(Call::Unlock(B, RISEN), Answer::Done),
+    Deed::Names(0),
+    Deed::Ask(Call::Commit(B), Answer::Done),
+];
 
 /// A writer who holds nothing on the new interval does not wait on.
-fn moves_a_waiter(store: &mut Store) {
-    let [a, b] = store.txns;
-    store.may_write(a, 2);
-    store.may_write(b, 1);
-    store.lock(a, Mode::X, LOW, granted(Mode::X));
-    store.lock(b, Mode::X, LOW, waits());
-    let third = store.interval(2);
-    store.rekey(a, LOW, 250, need(third));
-    store.rekey(a, LOW, 150, tells(b, Notice::Moved));
-    let second = store.interval(1);
-    store.lock(b, Mode::X, RISEN, need(second));
-    store.commit(b, done());
-    store.names(1);
-    store.abort(a, done());
-}
+const MOVES_A_WAITER: &[Deed] = &[
+    Deed::MayWrite(A, 2),
+    Deed::MayWrite(B, 1),
+    Deed::Ask(Call::Lock(A, X, LOW), Answer::Granted(X)),
+    Deed::Ask(Call::Lock(B, X, LOW), Answer::Waiting),
+    Deed::Ask(
+        Call::Rekey(A, LOW, 250),
+        Answer::Refused(Refusal::NeedParents { node: THIRD }),
+    ),
+    Deed::Moves(Call::Rekey(A, LOW, 150), B),
+    Deed::Ask(
+        Call::Lock(B, X, RISEN),
+        Answer::Refused(Refusal::NeedParents { node: SECOND }),
+    ),
+    Deed::Ask(Call::Commit(B), Answer::Done),
+    Deed::Names(1),
+    Deed::Ask(Call::Abort(A), Answer::Done),
+];
+
+/// The file is held in X, which implies two of the rows.
+const ROSE: Escalated = Escalated {
+    mode: X,
+    released: 2,
+    kept: 1,
+};
 
 /// What is read is released under the file, and what is written kept where its interval is not held in
 /// X.
-fn escalates(store: &mut Store) {
-    let [a, b] = store.txns;
-    let file = store.file;
-    store.escalate(a, file, refused(Refusal::NotHeld));
-    store.may_write(a, 3);
-    store.lock(a, Mode::S, LOW, granted(Mode::S));
-    store.lock(a, Mode::X, MIDDLE, granted(Mode::X));
-    store.lock(a, Mode::X, HIGH, granted(Mode::X));
-    let third = store.interval(2);
-    store.take_nodes(a, Mode::X, &[third]);
-    let rose = Escalated {
-        mode: Mode::X,
-        released: 2,
-        kept: 1,
-    };
-    store.escalate(a, file, answered(Answer::Escalated(rose)));
-    store.names(1);
-    store.unlock(a, HIGH, refused(Refusal::NoSuchNode));
-    store.commit(a, done());
-    store.commit(b, done());
-}
+const ESCALATES: &[Deed] = &[
+    Deed::Ask(Call::Escalate(A, FILE), Answer::Refused(Refusal::NotHeld)),
+    Deed::MayWrite(A, 3),
+    Deed::Ask(Call::Lock(A, S, LOW), Answer::Granted(S)),
+    Deed::Ask(Call::Lock(A, X, MIDDLE), Answer::Granted(X)),
+    Deed::Ask(Call::Lock(A, X, HIGH), Answer::Granted(X)),
+    Deed::Takes(A, X, THIRD),
+    Deed::Ask(Call::Escalate(A, FILE), Answer::Escalated(ROSE)),
+    Deed::Names(1),
+    Deed::Ask(Call::Unlock(A, HIGH), Answer::Refused(Refusal::NoSuchNode)),
+    Deed::Ask(Call::Commit(A), Answer::Done),
+    Deed::Ask(Call::Commit(B), Answer::Done),
+];
 
 /// A wait that is taken back, or ended, leaves the row to its holder.
-fn cancels(store: &mut Store) {
-    let (a, b) = store.writers();
-    store.cancel(b, refused(Refusal::NotWaiting));
-    store.lock(a, Mode::X, LOW, granted(Mode::X));
-    store.lock(b, Mode::X, LOW, waits());
-    store.cancel(b, done());
-    store.names(1);
-    store.lock(b, Mode::S, LOW, waits());
-    store.commit(b, refused(Refusal::TxnWaiting));
-    store.abort(b, done());
-    store.names(1);
-    store.unlock(a, LOW, done());
-    store.names(0);
-    store.commit(a, done());
-}
+const CANCELS: &[Deed] = &[
+    Deed::MayWrite(A, 3),
+    Deed::MayWrite(B, 3),
+    Deed::Ask(Call::Cancel(B), Answer::Refused(Refusal::NotWaiting)),
+    Deed::Ask(Call::Lock(A, X, LOW), Answer::Granted(X)),
+    Deed::Ask(Call::Lock(B, X, LOW), Answer::Waiting),
+    Deed::Ask(Call::Cancel(B), Answer::Done),
+    Deed::Names(1),
+    Deed::Ask(Call::Lock(B, S, LOW), Answer::Waiting),
+    Deed::Ask(Call::Commit(B), Answer::Refused(Refusal::TxnWaiting)),
+    Deed::Ask(Call::Abort(B), Answer::Done),
+    Deed::Names(1),
+    Deed::Ask(Call::Unlock(A, LOW), Answer::Done),
+    Deed::Names(0),
+    Deed::Ask(Call::Commit(A), Answer::Done),
+];
 
 /// Each holds a row for which the other waits: the younger falls.
-fn fells(store: &mut Store) {
-    let (a, b) = store.writers();
-    store.lock(a, Mode::X, LOW, granted(Mode::X));
-    store.lock(b, Mode::X, HIGH, granted(Mode::X));
-    store.lock(a, Mode::S, HIGH, waits());
-    store.lock(b, Mode::S, LOW, answered(Answer::Victim));
-    store.lock(b, Mode::S, MIDDLE, refused(Refusal::TxnCondemned));
-    store.commit(b, refused(Refusal::TxnCondemned));
-    store.names(2);
-    let node = store.node(HIGH);
-    store.abort(b, tells(a, Notice::Granted(node, Mode::S)));
-    store.names(2);
-    store.commit(a, done());
-}
+const FELLS: &[Deed] = &[
+    Deed::MayWrite(A, 3),
+    Deed::MayWrite(B, 3),
+    Deed::Ask(Call::Lock(A, X, LOW), Answer::Granted(X)),
+    Deed::Ask(Call::Lock(B, X, HIGH), Answer::Granted(X)),
+    Deed::Ask(Call::Lock(A, S, HIGH), Answer::Waiting),
+    Deed::Ask(Call::Lock(B, S, LOW), Answer::Victim),
+    Deed::Ask(
+        Call::Lock(B, S, MIDDLE),
+        Answer::Refused(Refusal::TxnCondemned),
+    ),
+    Deed::Ask(Call::Commit(B), Answer::Refused(Refusal::TxnCondemned)),
+    Deed::Names(2),
+    Deed::Grants(Call::Abort(B), A, HIGH, S),
+    Deed::Names(2),
+    Deed::Ask(Call::Commit(A), Answer::Done),
+];
 
 /// A lock that is refused gives no row a node, and takes none.
-fn names_nothing(store: &mut Store) {
-    let [a, b] = store.txns;
-    let (file, first) = (store.file, store.interval(0));
-    store.lock(a, Mode::X, LOW, need(file));
-    store.may_write(a, 0);
-    store.lock(a, Mode::X, LOW, need(first));
-    store.lock(a, Mode::IX, LOW, refused(Refusal::BadMode));
-    store.names(0);
-    store.lock(a, Mode::S, LOW, granted(Mode::S));
-    store.lock(a, Mode::X, LOW, need(first));
-    store.names(1);
-    store.abort(a, done());
-    store.lock(a, Mode::S, LOW, refused(Refusal::NoSuchTxn));
-    store.abort(b, done());
-}
+const NAMES_NOTHING: &[Deed] = &[
+    Deed::Ask(
+        Call::Lock(A, X, LOW),
+        Answer::Refused(Refusal::NeedParents { node: FILE }),
+    ),
+    Deed::MayWrite(A, 0),
+    Deed::Ask(
+        Call::Lock(A, X, LOW),
+        Answer::Refused(Refusal::NeedParents { node: FIRST }),
+    ),
+    Deed::Ask(Call::Lock(A, IX, LOW), Answer::Refused(Refusal::BadMode)),
+    Deed::Names(0),
+    Deed::Ask(Call::Lock(A, S, LOW), Answer::Granted(S)),
+    Deed::Ask(
+        Call::Lock(A, X, LOW),
+        Answer::Refused(Refusal::NeedParents { node: FIRST }),
+    ),
+    Deed::Names(1),
+    Deed::Ask(Call::Abort(A), Answer::Done),
+    Deed::Ask(Call::Lock(A, S, LOW), Answer::Refused(Refusal::NoSuchTxn)),
+    Deed::Ask(Call::Abort(B), Answer::Done),
+];

@@ -1,14 +1,18 @@
-//! A manager with all that was made in it, and commands in few words, each with what is wanted of it.
+//! A manager with all that was made in it, in which steps are taken.
 
 ghost use Rattle.std.specs.Prelude.{◌≤◌};
 
+use crate::step::{Row, Step, command_of};
 use crate::view::View;
 use crate::watch::Watch;
 use arrayvec::ArrayVec;
 use gl_catalog::{Answer, Command, Manager, Reply, run_commands};
 use gl_modes::{Mode, NodeId, Refusal};
-use gl_table::{Detect, Effect, Notice, TxnId};
+use gl_table::{Detect, Notice, TxnId};
 use std::alloc::Global;
+
+/// How many commands a list may have.
+const MOST_ROWS: usize = 8;
 
 /// An answer, how many are told, and what the first of them is told.
 #[derive(Clone, Copy, PartialEq)]
@@ -34,21 +38,6 @@ pub(crate) fn answered(answer: Answer) -> Said {
     }
 }
 
-/// A mode is granted, and nobody is told.
-pub(crate) fn granted(mode: Mode) -> Said {
-    answered(Answer::Granted(mode))
-}
-
-/// The lock is waited for, and nobody is told.
-pub(crate) fn waits() -> Said {
-    answered(Answer::Waiting)
-}
-
-/// It is done, and nobody is told.
-pub(crate) fn done() -> Said {
-    answered(Answer::Done)
-}
-
 /// It is done, and one transaction is told.
 pub(crate) fn tells(txn: TxnId, notice: Notice) -> Said {
     Said {
@@ -61,21 +50,6 @@ pub(crate) fn tells(txn: TxnId, notice: Notice) -> Said {
 /// It is refused.
 pub(crate) fn refused(refusal: Refusal) -> Said {
     answered(Answer::Refused(refusal))
-}
-
-/// It is refused, since a lock above is missing on this node.
-pub(crate) fn need(node: NodeId) -> Said {
-    refused(Refusal::NeedParents { node })
-}
-
-/// A mode that is asked after.
-pub(crate) fn mode(mode: Mode) -> Said {
-    answered(Answer::Mode(mode))
-}
-
-/// An effective mode that is asked after.
-pub(crate) fn effect(effect: Effect) -> Said {
-    answered(Answer::Effect(effect))
 }
 
 /// What a reply says.
@@ -121,8 +95,75 @@ impl Scene {
         self.watch.differs()
     }
 
+    /// Plays a play, in parts.
+    pub(crate) fn play(&mut self, parts: &[&[Step]]) {
+        for steps in parts {
+            for step in *steps {
+                self.take(*step);
+            }
+        }
+    }
+
+    /// Takes one step.
+    fn take(&mut self, step: Step) {
+        match step {
+            Step::Ask(ask, answer) => self.ask(command_of(ask), answered(answer)),
+            Step::Tells(ask, txn, notice) => self.ask(command_of(ask), tells(txn, notice)),
+            Step::List(rows) => self.ask_rows(rows),
+            Step::Takes(txn, mode, nodes) => self.lock_all(txn, mode, nodes),
+            Step::Children(txn, node, wanted) => {
+                self.watch.step();
+                self.watch.same(self.manager.children(txn, node), wanted);
+            }
+            Step::Waiting(txn, wanted) => {
+                self.watch.step();
+                self.watch.same(self.manager.waiting(txn), wanted);
+            }
+            Step::Accepted(wanted) => {
+                self.watch.step();
+                self.watch.same(self.manager.accepted(), wanted);
+            }
+            Step::Age(slot, wanted) => self.age(slot, wanted),
+        }
+    }
+
+    /// Locks each of these in one mode, which must be granted.
+    fn lock_all(&mut self, txn: TxnId, mode: Mode, nodes: &[NodeId]) {
+        for node in nodes {
+            let node = *node;
+            let lock = Command::Lock { txn, node, mode };
+            self.ask(lock, answered(Answer::Granted(mode)));
+        }
+    }
+
+    /// The transaction of a slot must have this age.
+    fn age(&mut self, slot: u8, wanted: u64) {
+        self.watch.step();
+        let ages = self.manager.board().ages;
+        self.watch
+            .same(ages.get(usize::from(slot)).copied(), Some(wanted));
+    }
+
+    /// Runs a list, each of whose commands must be answered so.
+    fn ask_rows(&mut self, rows: &[Row]) {
+        let mut commands = [Command::Begin; MOST_ROWS];
+        let mut wanted = [answered(Answer::Done); MOST_ROWS];
+        let count = rows.len().min(MOST_ROWS);
+        for place in 0..count {
+            let (ask, answer, first) = rows[place];
+            commands[place] = command_of(ask);
+            wanted[place] = Said {
+                answer,
+                count: usize::from(first.is_some()),
+                first,
+            };
+        }
+        self.watch.same(count, rows.len());
+        self.ask_list(&commands[..count], &wanted[..count]);
+    }
+
     /// Applies a command, which must be answered so.
-    pub(crate) fn ask(&mut self, command: Command<'_>, wanted: Said) {
+    fn ask(&mut self, command: Command<'_>, wanted: Said) {
         self.watch.step();
         let said = if self.may_grow(command, wanted.answer) {
             self.ask_growing(command)
@@ -139,6 +180,7 @@ impl Scene {
         match (command, wanted) {
             (Command::Move { .. }, Answer::Refused(Refusal::Cycle { .. })) => true,
             (_, Answer::Refused(_)) => false,
+            (_, Answer::Node(_)) => true,
             (
                 Command::Lock { txn, node, .. } | Command::Try { txn, node, .. },
                 Answer::Granted(_),
@@ -162,7 +204,7 @@ impl Scene {
 
     /// Runs a list of commands that want no memory, which must be answered so. Where the room for the
     /// replies was refused nothing may have changed, and it is run again.
-    pub(crate) fn ask_list(&mut self, commands: &[Command<'_>], wanted: &[Said]) {
+    fn ask_list(&mut self, commands: &[Command<'_>], wanted: &[Said]) {
         self.watch.step();
         let before = self.view();
         let replies = match run_commands(self.alloc, &mut self.manager, commands) {
@@ -209,7 +251,7 @@ impl Scene {
     }
 
     /// All that can be asked.
-    pub(crate) fn view(&mut self) -> View {
+    fn view(&mut self) -> View {
         View::of(
             &mut self.manager,
             self.nodes.as_slice(),
@@ -221,175 +263,5 @@ impl Scene {
     fn must_be(&mut self, before: &View) {
         let after = self.view();
         self.watch.holds(after.is_as(before));
-    }
-}
-
-/// What can be asked besides by commands.
-impl Scene {
-    /// The interval of an index that has this place.
-    pub(crate) fn interval(&self, index: NodeId, place: usize) -> NodeId {
-        self.manager
-            .graph()
-            .interval(index, place)
-            .unwrap_or(NodeId::NONE)
-    }
-
-    /// So many children of the node must be held.
-    pub(crate) fn children(&mut self, txn: TxnId, node: NodeId, wanted: Option<u32>) {
-        self.watch.step();
-        self.watch.same(self.manager.children(txn, node), wanted);
-    }
-
-    /// The transaction must wait so.
-    pub(crate) fn waiting(&mut self, txn: TxnId, wanted: Option<(NodeId, Mode)>) {
-        self.watch.step();
-        self.watch.same(self.manager.waiting(txn), wanted);
-    }
-
-    /// So many commands must have been accepted.
-    pub(crate) fn accepted(&mut self, wanted: u64) {
-        self.watch.step();
-        self.watch.same(self.manager.accepted(), wanted);
-    }
-
-    /// The transaction of a slot must have this age.
-    pub(crate) fn age(&mut self, slot: u8, wanted: u64) {
-        self.watch.step();
-        let ages = self.manager.board().ages;
-        self.watch
-            .same(ages.get(usize::from(slot)).copied(), Some(wanted));
-    }
-}
-
-/// Commands that make something.
-impl Scene {
-    pub(crate) fn inner(&mut self, parents: &[NodeId]) -> NodeId {
-        self.made(Command::Inner { parents })
-    }
-
-    pub(crate) fn file(&mut self, parents: &[NodeId]) -> NodeId {
-        self.made(Command::File { parents })
-    }
-
-    pub(crate) fn index(&mut self, parents: &[NodeId], file: NodeId, bounds: &[u64]) -> NodeId {
-        self.made(Command::Index {
-            parents,
-            file,
-            bounds,
-        })
-    }
-
-    pub(crate) fn insert(&mut self, txn: TxnId, file: NodeId, keys: &[u64]) -> NodeId {
-        self.made(Command::Insert { txn, file, keys })
-    }
-
-    pub(crate) fn adopt(&mut self, file: NodeId, keys: &[u64]) -> NodeId {
-        self.made(Command::Adopt { file, keys })
-    }
-
-    /// The node that a command makes.
-    fn made(&mut self, command: Command<'_>) -> NodeId {
-        self.watch.step();
-        let said = self.ask_growing(command);
-        match said.answer {
-            Answer::Node(node) => node,
-            _ => {
-                self.watch.holds(false);
-                NodeId::NONE
-            }
-        }
-    }
-
-    /// A new transaction, which takes no memory.
-    pub(crate) fn begin(&mut self) -> TxnId {
-        self.watch.step();
-        match self.apply(Command::Begin).answer {
-            Answer::Begun(txn) => txn,
-            _ => {
-                self.watch.holds(false);
-                TxnId::NONE
-            }
-        }
-    }
-}
-
-/// Commands in the order of their words, each with what is wanted of it.
-impl Scene {
-    pub(crate) fn lock(&mut self, txn: TxnId, mode: Mode, node: NodeId, wanted: Said) {
-        self.ask(Command::Lock { txn, node, mode }, wanted);
-    }
-
-    /// Locks each of these in one mode, which must be granted.
-    pub(crate) fn lock_all(&mut self, txn: TxnId, mode: Mode, nodes: &[NodeId]) {
-        for node in nodes {
-            self.lock(txn, mode, *node, granted(mode));
-        }
-    }
-
-    pub(crate) fn try_lock(&mut self, txn: TxnId, mode: Mode, node: NodeId, wanted: Said) {
-        self.ask(Command::Try { txn, node, mode }, wanted);
-    }
-
-    pub(crate) fn unlock(&mut self, txn: TxnId, node: NodeId, wanted: Said) {
-        self.ask(Command::Unlock { txn, node }, wanted);
-    }
-
-    pub(crate) fn cancel(&mut self, txn: TxnId, wanted: Said) {
-        self.ask(Command::Cancel { txn }, wanted);
-    }
-
-    pub(crate) fn commit(&mut self, txn: TxnId, wanted: Said) {
-        self.ask(Command::Commit { txn }, wanted);
-    }
-
-    pub(crate) fn abort(&mut self, txn: TxnId, wanted: Said) {
-        self.ask(Command::Abort { txn }, wanted);
-    }
-
-    pub(crate) fn settle(&mut self, txn: TxnId, wanted: Said) {
-        self.ask(Command::Settle { txn }, wanted);
-    }
-
-    pub(crate) fn escalate(&mut self, txn: TxnId, node: NodeId, wanted: Said) {
-        self.ask(Command::Escalate { txn, node }, wanted);
-    }
-
-    /// An insert that must be refused.
-    pub(crate) fn insert_refused(&mut self, txn: TxnId, file: NodeId, keys: &[u64], wanted: Said) {
-        self.ask(Command::Insert { txn, file, keys }, wanted);
-    }
-
-    pub(crate) fn delete(&mut self, txn: TxnId, rec: NodeId, wanted: Said) {
-        self.ask(Command::Delete { txn, rec }, wanted);
-    }
-
-    pub(crate) fn forget(&mut self, rec: NodeId, wanted: Said) {
-        self.ask(Command::Forget { rec }, wanted);
-    }
-
-    pub(crate) fn rekey(&mut self, txn: TxnId, rec: NodeId, index: NodeId, key: u64, wanted: Said) {
-        let rekey = Command::Rekey {
-            txn,
-            rec,
-            index,
-            key,
-        };
-        self.ask(rekey, wanted);
-    }
-
-    pub(crate) fn relocate(&mut self, txn: TxnId, node: NodeId, parents: &[NodeId], wanted: Said) {
-        self.ask(Command::Move { txn, node, parents }, wanted);
-    }
-
-    pub(crate) fn group(&mut self, node: NodeId, wanted: Mode) {
-        self.ask(Command::Group { node }, mode(wanted));
-    }
-
-    pub(crate) fn held(&mut self, txn: TxnId, node: NodeId, wanted: Said) {
-        self.ask(Command::Held { txn, node }, wanted);
-    }
-
-    pub(crate) fn effective(&mut self, txn: TxnId, node: NodeId, wanted: Effect) {
-        self.ask(Command::Effective { txn, node }, effect(wanted));
     }
 }

@@ -1,12 +1,12 @@
-//! A registry that owns its manager, and calls about rows in few words, each with what is wanted of it.
+//! A registry that owns its manager, in which calls about rows are made, each with what is wanted of it.
 
-use crate::scene::{Said, refused, said_in};
+use crate::scene::{Said, answered, refused, said_in, tells};
 use crate::view::View;
 use crate::watch::Watch;
 use gl_catalog::{Answer, Command, Manager, Reply};
 use gl_modes::{Mode, NodeId, Refusal};
 use gl_registry::{Registry, Row, RowAnswer, RowCall, RowLocked};
-use gl_table::{Detect, Locked, Status, Told, TxnId};
+use gl_table::{Detect, Locked, Notice, Status, Told, TxnId};
 use std::alloc::Global;
 
 /// How many rows a play may lock: their numbers are below it.
@@ -37,11 +37,11 @@ pub(crate) struct Store {
     registry: Registry,
     pub(crate) watch: Watch,
     db: NodeId,
-    pub(crate) file: NodeId,
+    file: NodeId,
     index: NodeId,
     /// How many nodes there are where no row is named.
     standing: usize,
-    pub(crate) txns: [TxnId; 2],
+    txns: [TxnId; 2],
 }
 
 /// A new registry, asked for again where it is refused.
@@ -155,7 +155,7 @@ impl Store {
     }
 
     /// The interval of the index that has this place.
-    pub(crate) fn interval(&self, place: usize) -> NodeId {
+    fn interval(&self, place: usize) -> NodeId {
         let graph = self.registry.manager().graph();
         graph.interval(self.index, place).unwrap_or(NodeId::NONE)
     }
@@ -169,7 +169,7 @@ impl Store {
     }
 
     /// The node by which a row is named; none where it is not.
-    pub(crate) fn node(&self, line: Line) -> NodeId {
+    fn node(&self, line: Line) -> NodeId {
         let node = self.registry.node(self.row(line.number));
         node.unwrap_or(NodeId::NONE)
     }
@@ -184,7 +184,7 @@ impl Store {
     }
 
     /// A transaction locks nodes that stand, which nobody keeps from it.
-    pub(crate) fn take_nodes(&mut self, txn: TxnId, mode: Mode, nodes: &[NodeId]) {
+    fn take_nodes(&mut self, txn: TxnId, mode: Mode, nodes: &[NodeId]) {
         for node in nodes {
             self.watch.step();
             let node = *node;
@@ -198,21 +198,13 @@ impl Store {
     }
 
     /// A transaction may write in the intervals before this place.
-    pub(crate) fn may_write(&mut self, txn: TxnId, intervals: usize) {
+    fn may_write(&mut self, txn: TxnId, intervals: usize) {
         let above = [self.db, self.file, self.index];
         self.take_nodes(txn, Mode::IX, &above);
         for place in 0..intervals {
             let interval = [self.interval(place)];
             self.take_nodes(txn, Mode::IX, &interval);
         }
-    }
-
-    /// Both transactions, which from now on may write in all intervals.
-    pub(crate) fn writers(&mut self) -> (TxnId, TxnId) {
-        let [a, b] = self.txns;
-        self.may_write(a, 3);
-        self.may_write(b, 3);
-        (a, b)
     }
 }
 
@@ -282,11 +274,6 @@ impl Store {
         self.apply(call)
     }
 
-    /// Makes a call, which must be answered so, by keys that are the row's own.
-    fn ask(&mut self, call: RowCall<'_>, wanted: Said) {
-        self.asks_by(call, wanted, true);
-    }
-
     /// Makes a call, which must be answered so, and whether the keys are the row's own.
     fn asks_by(&mut self, call: RowCall<'_>, wanted: Said, own: bool) {
         self.watch.step();
@@ -296,10 +283,95 @@ impl Store {
     }
 }
 
-/// Calls in the order of their words, each with what is wanted of it.
+/// A call about the file's rows. Rows stand in it with the key that is said.
+#[derive(Clone, Copy)]
+pub(crate) enum Call {
+    Lock(TxnId, Mode, Line),
+    Unlock(TxnId, Line),
+    Rekey(TxnId, Line, u64),
+    Commit(TxnId),
+    Abort(TxnId),
+    Cancel(TxnId),
+    Escalate(TxnId, NodeId),
+}
+
+/// A step of a play, and what is wanted of it.
+#[derive(Clone, Copy)]
+pub(crate) enum Deed {
+    /// A call is answered so, by keys that are the row's own, and nobody is told.
+    Ask(Call, Answer),
+    /// The same by keys that are not the row's own.
+    AskBy(Call, Answer),
+    /// A call is done, and one transaction is told that it holds this row in this mode.
+    Grants(Call, TxnId, Line, Mode),
+    /// A call is done, and one transaction is told that the row which it waits for has moved.
+    Moves(Call, TxnId),
+    /// A transaction may write in the intervals before this place.
+    MayWrite(TxnId, usize),
+    /// A transaction locks a node that stands, which nobody keeps from it.
+    Takes(TxnId, Mode, NodeId),
+    /// A transaction locks each row that a play may lock in S. The key of each is its number.
+    Reads(TxnId),
+    /// So many rows must be named, and no other record stand.
+    Names(usize),
+}
+
+/// Plays are played.
 impl Store {
-    /// A lock of a row that has this key.
-    pub(crate) fn lock(&mut self, txn: TxnId, mode: Mode, line: Line, wanted: Said) {
+    /// Plays a play.
+    pub(crate) fn play(&mut self, deeds: &[Deed]) {
+        for deed in deeds {
+            self.do_one(*deed);
+        }
+    }
+
+    /// Takes one step.
+    fn do_one(&mut self, deed: Deed) {
+        match deed {
+            Deed::Ask(call, answer) => self.ask(call, answered(answer), true),
+            Deed::AskBy(call, answer) => self.ask(call, answered(answer), false),
+            Deed::Grants(call, txn, line, mode) => {
+                let notice = Notice::Granted(self.node(line), mode);
+                self.ask(call, tells(txn, notice), true);
+            }
+            Deed::Moves(call, txn) => self.ask(call, tells(txn, Notice::Moved), true),
+            Deed::MayWrite(txn, intervals) => self.may_write(txn, intervals),
+            Deed::Takes(txn, mode, node) => self.take_nodes(txn, mode, &[node]),
+            Deed::Reads(txn) => self.read_all(txn),
+            Deed::Names(wanted) => self.names(wanted),
+        }
+    }
+
+    /// Makes a call, which must be answered so, and whether the keys are the row's own.
+    fn ask(&mut self, call: Call, wanted: Said, own: bool) {
+        match call {
+            Call::Lock(txn, mode, line) => self.lock(txn, mode, line, wanted, own),
+            Call::Rekey(txn, line, key) => self.rekey(txn, line, key, wanted),
+            Call::Unlock(txn, line) => {
+                let row = self.row(line.number);
+                self.asks_by(RowCall::Unlock { txn, row }, wanted, own);
+            }
+            Call::Commit(txn) => self.asks_by(RowCall::Commit { txn }, wanted, own),
+            Call::Abort(txn) => self.asks_by(RowCall::Abort { txn }, wanted, own),
+            Call::Cancel(txn) => self.asks_by(RowCall::Cancel { txn }, wanted, own),
+            Call::Escalate(txn, node) => {
+                self.asks_by(RowCall::Escalate { txn, node }, wanted, own)
+            }
+        }
+    }
+
+    fn read_all(&mut self, txn: TxnId) {
+        for number in 0..ROWS as u64 {
+            let line = Line {
+                number,
+                key: number,
+            };
+            let wanted = answered(Answer::Granted(Mode::S));
+            self.lock(txn, Mode::S, line, wanted, true);
+        }
+    }
+
+    fn lock(&mut self, txn: TxnId, mode: Mode, line: Line, wanted: Said, own: bool) {
         let row = self.row(line.number);
         let keys = [line.key];
         let lock = RowCall::Lock {
@@ -308,30 +380,10 @@ impl Store {
             keys: &keys,
             mode,
         };
-        self.ask(lock, wanted);
+        self.asks_by(lock, wanted, own);
     }
 
-    /// A lock of a row that has another key.
-    pub(crate) fn lock_elsewhere(&mut self, txn: TxnId, mode: Mode, line: Line, wanted: Said) {
-        let row = self.row(line.number);
-        let keys = [line.key];
-        let lock = RowCall::Lock {
-            txn,
-            row,
-            keys: &keys,
-            mode,
-        };
-        self.asks_by(lock, wanted, false);
-    }
-
-    /// A release of a row.
-    pub(crate) fn unlock(&mut self, txn: TxnId, line: Line, wanted: Said) {
-        let row = self.row(line.number);
-        self.ask(RowCall::Unlock { txn, row }, wanted);
-    }
-
-    /// Another key for a row.
-    pub(crate) fn rekey(&mut self, txn: TxnId, line: Line, key: u64, wanted: Said) {
+    fn rekey(&mut self, txn: TxnId, line: Line, key: u64, wanted: Said) {
         let row = self.row(line.number);
         let index = self.index;
         let rekey = RowCall::Rekey {
@@ -340,26 +392,6 @@ impl Store {
             index,
             key,
         };
-        self.ask(rekey, wanted);
-    }
-
-    /// An end that releases everything.
-    pub(crate) fn commit(&mut self, txn: TxnId, wanted: Said) {
-        self.ask(RowCall::Commit { txn }, wanted);
-    }
-
-    /// The same, whatever the transaction is doing.
-    pub(crate) fn abort(&mut self, txn: TxnId, wanted: Said) {
-        self.ask(RowCall::Abort { txn }, wanted);
-    }
-
-    /// A wait that is taken back.
-    pub(crate) fn cancel(&mut self, txn: TxnId, wanted: Said) {
-        self.ask(RowCall::Cancel { txn }, wanted);
-    }
-
-    /// A lock of a node in place of locks on rows.
-    pub(crate) fn escalate(&mut self, txn: TxnId, node: NodeId, wanted: Said) {
-        self.ask(RowCall::Escalate { txn, node }, wanted);
+        self.asks_by(rekey, wanted, true);
     }
 }

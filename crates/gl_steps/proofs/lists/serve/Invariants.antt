@@ -1,6 +1,6 @@
 use Rattle.gl_table.specs.Table.{board_of}
 use Rattle.gl_catalog.specs.Manager.{state_of}
-use Rattle.gl_sleepers.proofs.lists.serve.Given as goal
+use Rattle.gl_steps.proofs.lists.serve.Given as goal
 
 -- the name that the parts get
 abbrev pub ghosts-serve_lists-N-Naming : goal.ghosts-serve_lists-N-Naming
