@@ -217,7 +217,13 @@ impl Ledger {
 
     /// Those whose waits on a node were granted hold it, are active, and are told.
     #[inline]
-    fn wake_granted(&mut self, graph: &Graph, node: NodeId, granted: &[(Slot, Mode)], told: &mut Told)
+    fn wake_granted(
+        &mut self,
+        graph: &Graph,
+        node: NodeId,
+        granted: &[(Slot, Mode)],
+        told: &mut Told,
+    )
         requires can { CanEnd (books_of self.old.seats self.old.lists.items told.old.items) granted.now }
         requires hold { (u : ℕ) → is_among_waiters u granted.now ≡ true → CanHold self.old.lists.items u node (parents_of (graph_of graph.now) node) }
         ensures headers { self.new.headers.entries ≡ self.old.headers.entries }

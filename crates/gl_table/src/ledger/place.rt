@@ -77,7 +77,12 @@ impl Ledger {
     /// Makes room for a node with this key that a slot comes to hold, and for the counts of its parents.
     /// Answers the node's header, with the slot's grant of this mode in it. The only refusal is
     /// `NoMemory`, and all locks stay as they are.
-    pub(crate) fn prepare(&mut self, slot: Slot, key: usize, mode: Mode) -> Result<Prepared, Refusal>
+    pub(crate) fn prepare(
+        &mut self,
+        slot: Slot,
+        key: usize,
+        mode: Mode,
+    ) -> Result<Prepared, Refusal>
         requires slot { slot < length self.old.lists.items }
         requires below { slot < most_slots }
         requires lock { mode ≢ NL }
