@@ -118,7 +118,8 @@ fn who_waits_for_a_removed_record_is_told(rt: HostRuntime) {
         (Ask::Status(B), Came::Status(Some(Status::Active))),
         (Ask::Held(A, REC), Came::Refused(Refusal::NoSuchNode)),
     ];
-    tell(&rt, rt.alloc(), Detect::AtBlock, 2, &[OPEN, GOES]);
+    const PARTS: &[Part] = &[OPEN, GOES];
+    tell(&rt, rt.alloc(), Detect::AtBlock, 2, PARTS);
 }
 
 /// Two inner nodes under the root, and one under the first of these.
@@ -154,7 +155,8 @@ fn who_waits_for_a_moved_node_is_told(rt: HostRuntime) {
         ),
         (Ask::MoveUnder(B, LEFT, RIGHT), Came::Unasked),
     ];
-    tell(&rt, rt.alloc(), Detect::AtBlock, 2, &[OPEN, TREE, MOVES]);
+    const PARTS: &[Part] = &[OPEN, TREE, MOVES];
+    tell(&rt, rt.alloc(), Detect::AtBlock, 2, PARTS);
 }
 
 #[test]
@@ -190,7 +192,8 @@ fn who_waits_for_a_record_that_moves_is_told(rt: HostRuntime) {
         (Ask::Children(A, LOW), Came::Children(Some(0))),
         (Ask::Children(A, HIGH), Came::Children(Some(1))),
     ];
-    tell(&rt, rt.alloc(), Detect::AtBlock, 2, &[OPEN, KEYED, MOVES]);
+    const PARTS: &[Part] = &[OPEN, KEYED, MOVES];
+    tell(&rt, rt.alloc(), Detect::AtBlock, 2, PARTS);
 }
 
 #[test]
@@ -203,7 +206,8 @@ fn a_move_that_closes_a_path_is_refused(rt: HostRuntime) {
         ),
         (Ask::Unlock(A, BELOW), Came::Done),
     ];
-    tell(&rt, rt.alloc(), Detect::AtBlock, 2, &[OPEN, TREE, CLOSES]);
+    const PARTS: &[Part] = &[OPEN, TREE, CLOSES];
+    tell(&rt, rt.alloc(), Detect::AtBlock, 2, PARTS);
 }
 
 #[test]
@@ -224,5 +228,6 @@ fn who_waits_for_a_shed_child_is_granted(rt: HostRuntime) {
         (Ask::Held(A, CHILD), Came::Mode(NL)),
         (Ask::Shed(A, DB), Came::Shed(0, 0, None)),
     ];
-    tell(&rt, rt.alloc(), Detect::AtBlock, 2, &[OPEN, SHEDS]);
+    const PARTS: &[Part] = &[OPEN, SHEDS];
+    tell(&rt, rt.alloc(), Detect::AtBlock, 2, PARTS);
 }

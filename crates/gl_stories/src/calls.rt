@@ -1,6 +1,6 @@
 //! Transactions that try and release locks, and what they are answered.
 
-use crate::story::{A, Ask, B, Came, N1, N2, N3, Part, allowed, asks, same, tell};
+use crate::story::{A, Ask, B, Came, N1, N2, N3, Part, allowed, asks, same, tell, told};
 use gl_modes::Mode::{IS, IX, NL, S, SIX, X};
 use gl_modes::{NodeId, Refusal};
 use gl_table::{Detect, Effect, Table, TxnId};
@@ -32,7 +32,8 @@ fn children_are_released_first(rt: HostRuntime) {
         (Ask::Children(A, DB), Came::Children(None)),
         (Ask::Unlock(A, DB), Came::Refused(Refusal::NotHeld)),
     ];
-    tell(&rt, rt.alloc(), Detect::AtBlock, 4, &[SMALL, RELEASES]);
+    const PARTS: &[Part] = &[SMALL, RELEASES];
+    tell(&rt, rt.alloc(), Detect::AtBlock, 4, PARTS);
 }
 
 #[test]
@@ -45,7 +46,8 @@ fn a_conversion_raises_to_the_supremum(rt: HostRuntime) {
         (Ask::Group(DB), Came::Mode(NL)),
         (Ask::Commit(A), Came::Refused(Refusal::NoSuchTxn)),
     ];
-    tell(&rt, rt.alloc(), Detect::AtBlock, 4, &[SMALL, RAISES]);
+    const PARTS: &[Part] = &[SMALL, RAISES];
+    tell(&rt, rt.alloc(), Detect::AtBlock, 4, PARTS);
 }
 
 #[test]
@@ -70,7 +72,8 @@ fn a_try_that_would_wait_is_refused(rt: HostRuntime) {
             Came::Refused(Refusal::NoSuchTxn),
         ),
     ];
-    tell(&rt, rt.alloc(), Detect::AtBlock, 4, &[SMALL, REFUSED]);
+    const PARTS: &[Part] = &[SMALL, REFUSED];
+    tell(&rt, rt.alloc(), Detect::AtBlock, 4, PARTS);
 }
 
 const G: NodeId = N1;
@@ -102,7 +105,8 @@ fn locks_further_up_imply_locks(rt: HostRuntime) {
             Came::Refused(Refusal::HeldChild { node: K }),
         ),
     ];
-    tell(&rt, rt.alloc(), Detect::AtBlock, 1, &[TWO_ROOTS, IMPLIES]);
+    const PARTS: &[Part] = &[TWO_ROOTS, IMPLIES];
+    tell(&rt, rt.alloc(), Detect::AtBlock, 1, PARTS);
 }
 
 #[test]
@@ -120,13 +124,8 @@ fn a_child_may_be_held_before_its_second_parent(rt: HostRuntime) {
         (Ask::Unlock(A, K), Came::Done),
         (Ask::Children(A, H), Came::Children(Some(0))),
     ];
-    tell(
-        &rt,
-        rt.alloc(),
-        Detect::ByWatcher,
-        1,
-        &[TWO_ROOTS, HELD_FIRST],
-    );
+    const PARTS: &[Part] = &[TWO_ROOTS, HELD_FIRST];
+    tell(&rt, rt.alloc(), Detect::ByWatcher, 1, PARTS);
 }
 
 #[test]
@@ -158,7 +157,7 @@ fn a_board_shows_who_lives(rt: HostRuntime) {
         (Ask::Begin, Came::Txn(B)),
         (Ask::Commit(A), Came::Done),
     ];
-    let table = tell(&rt, rt.alloc(), Detect::AtBlock, 2, &[LIVES]);
+    let table = told(&rt, rt.alloc(), Detect::AtBlock, 2, &[LIVES]);
     let board = table.board(7);
     same(&rt, board.epoch, 7);
     let ages = (board.ages[0], board.ages[1], board.ages[2]);

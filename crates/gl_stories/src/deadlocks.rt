@@ -63,18 +63,14 @@ fn a_ring_of_three_is_kept(rt: HostRuntime) {
         (Ask::Stuck(2), Came::Stuck(Some((C, F, IX, 0b0001)))),
         (Ask::Stuck(3), Came::Stuck(None)),
     ];
-    tell(&rt, rt.alloc(), Detect::AtBlock, 4, &[RING]);
+    const PARTS: &[Part] = &[RING];
+    tell(&rt, rt.alloc(), Detect::AtBlock, 4, PARTS);
 }
 
 #[test]
 fn an_abort_and_a_commit_leave_the_deadlock(rt: HostRuntime) {
-    tell(
-        &rt,
-        rt.alloc(),
-        Detect::AtBlock,
-        2,
-        &[ROOT, PAIR, FALLS, KEPT],
-    );
+    const PARTS: &[Part] = &[ROOT, PAIR, FALLS, KEPT];
+    tell(&rt, rt.alloc(), Detect::AtBlock, 2, PARTS);
 }
 
 #[test]
@@ -98,13 +94,8 @@ fn a_second_deadlock_replaces_the_first(rt: HostRuntime) {
         (Ask::Stuck(1), Came::Stuck(Some((YOUNGER, DB, X, 0b01)))),
         (Ask::Stuck(2), Came::Stuck(None)),
     ];
-    tell(
-        &rt,
-        rt.alloc(),
-        Detect::AtBlock,
-        2,
-        &[ROOT, PAIR, FALLS, AGAIN],
-    );
+    const PARTS: &[Part] = &[ROOT, PAIR, FALLS, AGAIN];
+    tell(&rt, rt.alloc(), Detect::AtBlock, 2, PARTS);
 }
 
 #[test]
@@ -115,11 +106,6 @@ fn a_watcher_keeps_the_deadlock(rt: HostRuntime) {
         (Ask::Victim, Came::Fell(None)),
         (Ask::Settle(A), Came::Tells(B, Notice::Victim)),
     ];
-    tell(
-        &rt,
-        rt.alloc(),
-        Detect::ByWatcher,
-        2,
-        &[ROOT, PAIR, SETTLES, KEPT],
-    );
+    const PARTS: &[Part] = &[ROOT, PAIR, SETTLES, KEPT];
+    tell(&rt, rt.alloc(), Detect::ByWatcher, 2, PARTS);
 }

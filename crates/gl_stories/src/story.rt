@@ -231,8 +231,8 @@ pub fn asks(rt: &impl Abort, table: &mut Table, place: usize, step: (Ask, Came))
     same(rt, (place, answer(table, asked)), (place, wanted));
 }
 
-/// Tells a story, in parts, of a new table.
-pub fn tell(rt: &impl Abort, alloc: Global, detect: Detect, most: usize, parts: &[Part]) -> Table
+/// A table of which a story was told, in parts.
+pub fn told(rt: &impl Abort, alloc: Global, detect: Detect, most: usize, parts: &[Part]) -> Table
     requires some { 1 ≤ most }
     requires few { most ≤ 128 }
 {
@@ -243,4 +243,12 @@ pub fn tell(rt: &impl Abort, alloc: Global, detect: Detect, most: usize, parts: 
         }
     }
     table
+}
+
+/// Tells a story, in parts, of a new table.
+pub fn tell(rt: &impl Abort, alloc: Global, detect: Detect, most: usize, parts: &[Part])
+    requires some { 1 ≤ most }
+    requires few { most ≤ 128 }
+{
+    told(rt, alloc, detect, most, parts);
 }

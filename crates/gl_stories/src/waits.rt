@@ -34,7 +34,8 @@ fn a_commit_grants_who_waits(rt: HostRuntime) {
         (Ask::Group(DB), Came::Mode(IX)),
         (Ask::Status(B), Came::Status(Some(Status::Active))),
     ];
-    tell(&rt, rt.alloc(), Detect::AtBlock, 4, &[ROOT, GRANTS]);
+    const PARTS: &[Part] = &[ROOT, GRANTS];
+    tell(&rt, rt.alloc(), Detect::AtBlock, 4, PARTS);
 }
 
 #[test]
@@ -47,7 +48,8 @@ fn a_newcomer_waits_behind_the_queue(rt: HostRuntime) {
         (Ask::Commit(A), Came::Tells(B, Notice::Granted(DB, X))),
         (Ask::Commit(B), Came::Tells(C, Notice::Granted(DB, S))),
     ];
-    tell(&rt, rt.alloc(), Detect::AtBlock, 4, &[ROOT, QUEUES]);
+    const PARTS: &[Part] = &[ROOT, QUEUES];
+    tell(&rt, rt.alloc(), Detect::AtBlock, 4, PARTS);
 }
 
 #[test]
@@ -59,13 +61,8 @@ fn a_conversion_goes_ahead(rt: HostRuntime) {
         (Ask::Commit(B), Came::Tells(A, Notice::Granted(DB, X))),
         (Ask::Held(C, DB), Came::Mode(NL)),
     ];
-    tell(
-        &rt,
-        rt.alloc(),
-        Detect::AtBlock,
-        4,
-        &[ROOT, SHARED, GOES_AHEAD],
-    );
+    const PARTS: &[Part] = &[ROOT, SHARED, GOES_AHEAD];
+    tell(&rt, rt.alloc(), Detect::AtBlock, 4, PARTS);
 }
 
 #[test]
@@ -76,7 +73,8 @@ fn the_asker_is_the_victim(rt: HostRuntime) {
         (Ask::Commit(B), Came::Refused(Refusal::TxnCondemned)),
         (Ask::Abort(B), Came::Tells(A, Notice::Granted(DB, X))),
     ];
-    tell(&rt, rt.alloc(), Detect::AtBlock, 4, &[ROOT, SHARED, FALLS]);
+    const PARTS: &[Part] = &[ROOT, SHARED, FALLS];
+    tell(&rt, rt.alloc(), Detect::AtBlock, 4, PARTS);
 }
 
 #[test]
@@ -86,7 +84,8 @@ fn another_is_the_victim(rt: HostRuntime) {
         (Ask::Lock(A, X, DB), Came::WaitsTelling(B, Notice::Victim)),
         (Ask::Abort(B), Came::Tells(A, Notice::Granted(DB, X))),
     ];
-    tell(&rt, rt.alloc(), Detect::AtBlock, 4, &[ROOT, SHARED, FALLS]);
+    const PARTS: &[Part] = &[ROOT, SHARED, FALLS];
+    tell(&rt, rt.alloc(), Detect::AtBlock, 4, PARTS);
 }
 
 #[test]
@@ -105,7 +104,8 @@ fn a_cycle_goes_through_a_waiter_ahead(rt: HostRuntime) {
         ),
         (Ask::Abort(C), Came::Tells(A, Notice::Granted(OTHER, S))),
     ];
-    tell(&rt, rt.alloc(), Detect::AtBlock, 3, &[ROOT, CLOSES]);
+    const PARTS: &[Part] = &[ROOT, CLOSES];
+    tell(&rt, rt.alloc(), Detect::AtBlock, 3, PARTS);
 }
 
 #[test]
@@ -120,7 +120,8 @@ fn a_wait_is_taken_back(rt: HostRuntime) {
         (Ask::Cancel(B), Came::Done),
         (Ask::Commit(B), Came::Done),
     ];
-    tell(&rt, rt.alloc(), Detect::AtBlock, 2, &[ROOT, TAKES_BACK]);
+    const PARTS: &[Part] = &[ROOT, TAKES_BACK];
+    tell(&rt, rt.alloc(), Detect::AtBlock, 2, PARTS);
 }
 
 #[test]
@@ -133,11 +134,6 @@ fn a_watcher_asks_for_a_victim(rt: HostRuntime) {
         (Ask::Settle(A), Came::Tells(B, Notice::Victim)),
         (Ask::Abort(B), Came::Tells(A, Notice::Granted(DB, X))),
     ];
-    tell(
-        &rt,
-        rt.alloc(),
-        Detect::ByWatcher,
-        4,
-        &[ROOT, SHARED, SETTLES],
-    );
+    const PARTS: &[Part] = &[ROOT, SHARED, SETTLES];
+    tell(&rt, rt.alloc(), Detect::ByWatcher, 4, PARTS);
 }
