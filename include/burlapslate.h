@@ -14,11 +14,12 @@
  *
  * WHAT YOU KEEP. Beside what a call says:
  *   - a bs_manager is BS_NO_MANAGER_HERE, which is all zero, before the first call with it; from then on
- *     it is neither copied, moved, read nor written by you, until bs_end; the same of a bs_watcher, which
- *     is BS_NO_WATCHER_HERE, until bs_watch_end;
- *   - a pointer is null or points to what its type says, which was given some value before, and a list to
- *     as many as its count says; what a call writes (its manager, watcher, notices or board) overlaps with nothing
- *     else that it is given, and nobody else uses it during the call;
+ *     it is neither copied, moved, read nor written by you, until bs_end;
+ *   - the same holds of a bs_watcher, which is BS_NO_WATCHER_HERE, until bs_watch_end;
+ *   - a pointer is null or points to what its type says, which was given some value before; a list points to as
+ *     many as its count says;
+ *   - what a call writes (its manager, watcher, notices or board) overlaps with nothing else that it is given;
+ *     nobody else uses it during the call;
  *   - malloc, realloc and free are one allocator's, and align as the C standard asks.
  * Null pointers are refused with BS_NULL_POINTER and never read; a list of count 0 may be null. Names may be
  * any values at all: the name of a node that is gone, of a transaction that has ended, or one made up,
@@ -123,9 +124,9 @@ enum bs_modes { BS_NL = 0, BS_IS = 1, BS_IX = 2, BS_S = 3, BS_SIX = 4, BS_X = 5 
 /* How deadlocks are found: when a transaction begins to wait, or by a watcher that reads boards. */
 enum bs_detects { BS_AT_BLOCK = 0, BS_BY_WATCHER = 1 };
 
-/* Whom a deadlock takes: the youngest of those on a cycle of waits with the transaction that closed it,
- * again and again until it is on none; or the youngest of those that alone take it off all its cycles,
- * so that one is always enough. */
+/* Whom a deadlock takes. BS_YOUNGEST: the youngest of those on a cycle of waits with the transaction that closed
+ * it, again and again until that is on none. BS_FEWEST: the youngest of those that alone take it off all its
+ * cycles, so that one is always enough. */
 enum bs_choices { BS_YOUNGEST = 0, BS_FEWEST = 1 };
 
 /* What a node is. */
@@ -249,8 +250,8 @@ typedef struct bs_counts {
 } bs_counts;
 
 /* ------------------------------------------------------------------------------------------------
- * The calls of the library. Use the functions below them: each of those tests its pointers for null,
- * and then makes the call of its name.
+ * The calls of the library. Use the functions below them: each tests its pointers for null, and then makes the calls
+ * that stand in it.
  */
 bs_reply bs_call_make(bs_manager *manager, uint32_t detect, uint32_t most);
 bs_reply bs_call_make_choosing(bs_manager *manager, uint32_t detect, uint32_t victims, uint32_t most);
@@ -442,9 +443,10 @@ static inline bs_reply bs_add_row_file(bs_manager *manager, const bs_node *paren
 }
 
 /* A new index of a file that has no records, and of which no row ever had a node by bs_adopt or bs_lock_row. It lies
- * under 1 to 8 different inner nodes, and has up to 256 bounds, or, where the manager was made by bs_make_with for
- * another number of nodes than 65,536, up to as many bounds as nodes may live. They rise from above 0: interval 0 has
- * the keys below the first bound, interval i those from bound i - 1 on. Each interval is a node. Refused with
+ * under 1 to 8 different inner nodes. It has up to 256 bounds in a manager for 65,536 nodes, whether that number was
+ * chosen by bs_make_with or is the usual one. In a manager for any other number of nodes, more or fewer, it has up to
+ * as many bounds as nodes may live. Bounds rise from above 0: interval 0 has the keys below the first bound, interval i
+ * those from bound i - 1 on. Each interval is a node. Refused with
  * BS_NO_SUCH_NODE, BS_BAD_PARENTS (also where the file has 7 indexes), BS_FILE_IN_USE, BS_BAD_KEYS, BS_TOO_MANY_NODES;
  * with BS_BAD_NUMBER, first of all, where there are more than 8 parents. Costs a step for each bound. */
 static inline bs_reply bs_add_index(bs_manager *manager, const bs_node *parents, size_t count, bs_node file,
@@ -464,11 +466,11 @@ static inline bs_reply bs_begin(bs_manager *manager) {
 
 /* Asks for a mode on a node: to read (BS_IS, BS_S) intentions to read or more are needed on one parent, to
  * write (BS_IX, BS_SIX, BS_X) intentions to write or more on all parents. What is held and what is asked
- * join to what is wanted. It is granted at once where it goes with what others hold, and where the
- * transaction holds the node already or nobody waits for it: a newcomer passes no queue, and one that holds
+ * join to what is wanted. It is granted at once where two things hold: it goes with what others hold; and the
+ * transaction holds the node already, or nobody waits for it. So a newcomer passes no queue, and one that holds
  * the node waits ahead of all newcomers. BS_DONE: `mode` is the mode now held. BS_WAITING: the transaction
- * waits, what it held stays held, and it does nothing else until a notice tells it the end, or it cancels or
- * aborts. BS_VICTIM: its wait closed a cycle of waits, and it is one to give way: its wait is over, its
+ * waits, and what it held stays held. It does nothing else until a notice tells it the end, or it cancels or
+ * aborts. BS_VICTIM: its wait closed a cycle of waits, and it is one to give way. Its wait is over, its
  * locks stay, and all that it can do is abort.
  * Where a cycle was closed others may fall too, also beside BS_VICTIM, and are told BS_TOLD_VICTIM; who
  * stood behind a victim may be told BS_TOLD_GRANTED.
@@ -480,14 +482,14 @@ static inline bs_reply bs_lock(bs_manager *manager, bs_txn txn, bs_node node, bs
   return bs_lacks(manager, told) ? bs_null() : bs_call_lock(manager, txn, node, mode, told);
 }
 
-/* Locks a node with what has to be held above it: intentions, root first, on all parents to write, and to read on
- * the first, where none is held already; then the node in its mode. Each is a lock as bs_lock asks for it, and a
- * command. What is held already is not asked for. It ends at the first lock that waits or whose asker falls; what was
- * locked before that stays locked. BS_DONE: `mode` is the mode in which the node is held. BS_WAITING and BS_VICTIM:
- * `node` is the one for which it waits or fell, which is the node itself or one above it; once that is granted the
- * call is made again. BS_ON_THE_WAY: `node`, one above, was granted by the fall of others; make the call again, when
- * all in `told` have heard. Refused as bs_lock, but never with BS_NEED_PARENTS: nothing was locked then, but that
- * BS_NO_MEMORY and BS_WORN_OUT may come behind some of the locks, which stay. Costs its locks, and a look at each node
+/* Locks a node with what has to be held above it. That is intentions, root first: to write on all parents, to read
+ * on the first, where none is held already. Then it locks the node in its mode. Each is a lock as bs_lock asks for it,
+ * and a command. What is held already is not asked for. It ends at the first lock that waits or whose asker falls; what
+ * was locked before that stays locked. BS_DONE: `mode` is the mode in which the node is held. BS_WAITING and BS_VICTIM:
+ * `node` is the one for which it waits or fell, which is the node itself or one above it. Once that is granted the
+ * call is made again. BS_ON_THE_WAY: `node`, one above, was granted by the fall of others. Make the call again, when
+ * all in `told` have heard. Refused as bs_lock, but never with BS_NEED_PARENTS. Nothing was locked then, except where
+ * BS_NO_MEMORY or BS_WORN_OUT comes behind some of the locks: these stay. Costs its locks, and a look at each node
  * above for each of them. */
 static inline bs_reply bs_lock_path(bs_manager *manager, bs_txn txn, bs_node node, bs_mode mode, bs_notices *told) {
   return bs_lacks(manager, told) ? bs_null() : bs_call_lock_path(manager, txn, node, mode, told);
@@ -525,17 +527,17 @@ static inline bs_reply bs_abort(bs_manager *manager, bs_txn txn, bs_notices *tol
   return bs_lacks(manager, told) ? bs_null() : bs_call_abort(manager, txn, told);
 }
 
-/* Condemns who is to fall for the transaction, by the choice of victims, until it is on no cycle of waits;
- * whoever is condemned is told BS_TOLD_VICTIM, its wait is over and its locks stay until it aborts; who
+/* Condemns who is to fall for the transaction, by the choice of victims, until it is on no cycle of waits.
+ * Whoever is condemned is told BS_TOLD_VICTIM: its wait is over, and its locks stay until it aborts. Who
  * stood behind it may be told BS_TOLD_GRANTED. It is how a watcher ends deadlocks. Refused with
  * BS_NO_SUCH_TXN. */
 static inline bs_reply bs_settle(bs_manager *manager, bs_txn txn, bs_notices *told) {
   return bs_lacks(manager, told) ? bs_null() : bs_call_settle(manager, txn, told);
 }
 
-/* Raises the lock of a node, joining it with BS_X where the transaction holds a child to write (BS_IX,
- * BS_SIX, BS_X), else with BS_S, so that BS_IX becomes BS_SIX; and releases the children whose locks that
- * implies and of which it holds no children: `mode` is what is now held, `released` and `kept` how many held
+/* Raises the lock of a node. Where the transaction holds a child to write (BS_IX, BS_SIX, BS_X) the lock is
+ * joined with BS_X, else with BS_S, so that BS_IX becomes BS_SIX. Then it releases the children whose locks that
+ * implies and of which it holds no children. `mode` is what is now held, `released` and `kept` how many held
  * children went and stayed. Whoever has locks further down escalates there first. It never waits, and passes
  * whoever does. Refused with BS_NO_SUCH_TXN, BS_TXN_WAITING, BS_TXN_CONDEMNED, BS_NO_SUCH_NODE,
  * BS_BAD_PARENTS (a record), BS_NOT_HELD, BS_WOULD_BLOCK. Costs a step for each lock of the transaction. */
@@ -579,9 +581,9 @@ static inline bs_reply bs_forget(bs_manager *manager, bs_node record) {
   return manager == NULL ? bs_null() : bs_call_forget(manager, record);
 }
 
-/* Gives a record another key for one index, and so another interval. Lawful with X on the record and IX or
- * more on the new parents, or with X on all old and new parents, which are the file and an interval of each
- * of its indexes; each by a lock on that node itself. Refused with BS_NO_SUCH_TXN, BS_TXN_WAITING,
+/* Gives a record another key for one index, and so another interval. Its parents are the file and an interval of
+ * each of the file's indexes. Lawful with X on the record and IX or more on the new parents, or with X on all old
+ * and new parents; each by a lock on that node itself. Refused with BS_NO_SUCH_TXN, BS_TXN_WAITING,
  * BS_TXN_CONDEMNED, BS_NO_SUCH_NODE, BS_BAD_PARENTS (no record, or no index of its file), BS_NEED_EXCLUSIVE,
  * BS_NEED_PARENTS. */
 static inline bs_reply bs_rekey(bs_manager *manager, bs_txn txn, bs_node record, bs_node index, uint64_t key,
@@ -630,11 +632,12 @@ static inline bs_reply bs_move(bs_manager *manager, bs_txn txn, bs_node node, co
  * said are the node's own. BS_OTHER_KEYS: the row is held in `mode` as well, but the node's keys are others.
  * BS_WAITING: the transaction waits, as of bs_lock. Behind the grant the same call is made again: it waits for nothing
  * then, and says whether the keys are the node's own. BS_VICTIM: as of bs_lock.
- * A row that keeps its node is refused as the lock of that node. One that gets a node is refused with BS_WORN_OUT where
- * fewer than two commands can be counted any more, or three where another node goes for it; BS_NO_SUCH_TXN,
- * BS_TXN_WAITING, BS_TXN_CONDEMNED, BS_BAD_KEYS, BS_TOO_MANY_NODES, also where another node would go for it,
- * BS_BAD_MODE, BS_NEED_PARENTS. Refused with BS_BAD_NUMBER, first of all, where the mode is no number of enum bs_modes.
- * BS_NO_MEMORY may come before all refusals but BS_BAD_NUMBER and BS_NO_MANAGER. Takes memory. */
+ * A row that keeps its node is refused as the lock of that node. One that gets a node is refused with BS_WORN_OUT,
+ * BS_NO_SUCH_TXN, BS_TXN_WAITING, BS_TXN_CONDEMNED, BS_BAD_KEYS, BS_TOO_MANY_NODES, BS_BAD_MODE, BS_NEED_PARENTS.
+ * BS_WORN_OUT comes where fewer than two commands can be counted any more, or three where another node goes for it.
+ * BS_TOO_MANY_NODES comes also where another node would go for it. Refused with BS_BAD_NUMBER, first of all, where the
+ * mode is no number of enum bs_modes. BS_NO_MEMORY may come before all refusals but BS_BAD_NUMBER and BS_NO_MANAGER.
+ * Takes memory. */
 static inline bs_reply bs_lock_row(bs_manager *manager, bs_txn txn, bs_node file, uint64_t number, const uint64_t *keys,
                                    size_t count, bs_mode mode, bs_notices *told) {
   if (bs_lacks(manager, told) || (keys == NULL && count != 0)) return bs_null();
@@ -702,7 +705,7 @@ static inline bs_found bs_ended(bs_manager *manager) {
 
 /* ------------------------------------------------------------------------------------------------
  * Watchers: who waits for whom, without the mutex of the manager. A manager that has watchers shows them its
- * board behind each accepted command, as long as somebody waits or waited when it was last shown; so a board
+ * board behind each accepted command, as long as somebody waits or waited when it was last shown. So a board
  * that shows no wait is older than the last command only where nobody waits. To show a board takes memory, some
  * three kilobytes; where that is refused the command is done all the same, and the next one shows the board.
  */
@@ -875,9 +878,9 @@ static inline bs_reply bs_lock_count(bs_manager *manager, bs_txn txn) {
   return manager == NULL ? bs_null() : bs_call_lock_count(manager, txn);
 }
 
-/* A node that a transaction holds or waits for, by its place from 0 on: `node`, the mode in which it is held in
- * `mode`, BS_NL where it is only waited for, the wanted mode in `wanted`, BS_NL where it is not waited for, and
- * how many of its children are held in `count`. Each such node has one place; a command may change the places.
+/* A node that a transaction holds or waits for, by its place from 0 on, in `node`. In `mode` is the mode in which it
+ * is held, BS_NL where it is only waited for. In `wanted` is the wanted mode, BS_NL where it is not waited for. In
+ * `count` is how many of its children are held. Each such node has one place; a command may change the places.
  * Refused with BS_NO_PLACE where there are fewer, or the transaction does not live. */
 static inline bs_reply bs_lock_at(bs_manager *manager, bs_txn txn, size_t place) {
   return manager == NULL ? bs_null() : bs_call_lock_at(manager, txn, place);

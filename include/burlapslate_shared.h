@@ -24,7 +24,7 @@
  *
  * WHAT A CALL ANSWERS. What the call of burlapslate.h answers that has its name without `table_`, with one more
  * status, BS_TIMED_OUT; and BS_NOT_MADE of a command in a list that was not made. What stands there of refusals,
- * memory and costs holds here too. A call is one hold of the latch, with nobody's steps between its own; where it
+ * memory and costs holds here too. A call is one hold of the latch, with nobody's steps between its own. Where it
  * sleeps, others use the table meanwhile. A table that was never made or was ended answers BS_NO_MANAGER. A call with
  * `told` fills it where it is not null; those who sleep are woken, whether it is null or not.
  *
