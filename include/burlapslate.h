@@ -689,9 +689,9 @@ static inline bs_reply bs_row_node(bs_manager *manager, bs_node file, uint64_t n
 
 /* What became of a lock that was left waiting for this node. BS_WAITING: the wait goes on. BS_DONE: it was
  * granted; `mode` is the mode now held, which covers the asked one. BS_VICTIM, BS_MOVED, BS_GONE: it was not,
- * and the wait is over. Refused with BS_NO_SUCH_TXN, with BS_NOT_WAITING where it does not wait for the node
- * and no notice tells why, as after a cancel, and with BS_BAD_NUMBER, first of all, where the mode is no number
- * of enum bs_modes. */
+ * and the wait is over. Refused with BS_NO_SUCH_TXN, and with BS_NOT_WAITING where it does not wait for the
+ * node and no notice tells why, as after a cancel. Refused with BS_BAD_NUMBER, first of all, where the mode is no
+ * number of enum bs_modes. */
 static inline bs_reply bs_verdict(bs_manager *manager, bs_txn txn, bs_node node, bs_mode mode) {
   return manager == NULL ? bs_null() : bs_call_verdict(manager, txn, node, mode);
 }

@@ -151,9 +151,9 @@ static inline void bs_table_wake_half(bs_table_inside *in, uint64_t half, size_t
   }
 }
 
-/* Behind a command that was answered so: wakes those whose wait it may have ended; where a wait began by it, who
- * watches is woken too. Who that is says bs_ended: it is not asked where there is nobody, since the command was
- * refused, or told nobody and is none that ends a wait by name, as a cancel and an abort are. */
+/* Behind a command that was answered so: wakes those whose wait it may have ended. Where a wait began by it, who
+ * watches is woken too. bs_ended says whose wait that is. It is not asked where there is nobody: where the command was
+ * refused, or told nobody and ends no wait by name. A cancel and an abort end one by name. */
 static inline void bs_table_wake(bs_table_inside *in, bs_status status, const bs_notices *told, bool by_name) {
   bool is_accepted = status == BS_DONE || status == BS_WAITING || status == BS_VICTIM || status == BS_ON_THE_WAY ||
                      status == BS_OTHER_KEYS;
@@ -252,8 +252,8 @@ static inline void bs_table_leave_line(bs_table_inside *in, bs_turn *turn) {
 }
 
 /* Behind what may have ended a transaction: begins for those who sleep for a slot, in their order, while one is free.
- * So no hold of the latch leaves a slot free while somebody sleeps for one, and there is no turn that could be lost:
- * one whose time is over has begun by then, or stands in the line still. */
+ * So no hold of the latch leaves a slot free while somebody sleeps for one. And no turn can be lost: one whose time is
+ * over has begun by then, or stands in the line still. */
 static inline void bs_table_hand_on(bs_table_inside *in) {
   while (in->first != NULL) {
     bs_turn *turn = in->first;
@@ -1445,8 +1445,8 @@ static inline bs_reply bs_dump_of(bs_manager *held, bs_table *table, FILE *out) 
 }
 
 /* Writes all that there is to a file, as text in columns: counters, transactions, the locks of each, queues and the
- * last deadlock. The counters, the transactions and the deadlock are of one moment, and so is each queue, and each part
- * of 256 locks of a transaction: between these the latch is given up, and nothing is written with it. So a lock may be
+ * last deadlock. The counters, the transactions and the deadlock are of one moment. So is each queue, and so is each part
+ * of 256 locks of a transaction. Between these the latch is given up, and nothing is written with it. So a lock may be
  * missed, or stand twice, where its transaction changes its locks meanwhile. Refused with BS_NULL_POINTER,
  * BS_NO_MANAGER, also where the table is ended meanwhile, BS_NO_MEMORY; what the file says of faults, ferror tells.
  * Takes memory, some fifty kilobytes however much there is. */
