@@ -1446,8 +1446,8 @@ static inline bs_reply bs_dump_of(bs_manager *held, bs_table *table, FILE *out) 
 
 /* Writes all that there is to a file, as text in columns: counters, transactions, the locks of each, queues and the
  * last deadlock. The counters, the transactions and the deadlock are of one moment. So is each queue, and so is each
- * part of 256 locks of a transaction. Between these the latch is given up, and nothing is written with it. So a lock may
- * be missed, or stand twice, where its transaction changes its locks meanwhile. Refused with BS_NULL_POINTER,
+ * part of 256 locks of a transaction. Between these the latch is given up, and nothing is written with it. So a lock
+ * may be missed, or stand twice, where its transaction changes its locks meanwhile. Refused with BS_NULL_POINTER,
  * BS_NO_MANAGER, also where the table is ended meanwhile, BS_NO_MEMORY; what the file says of faults, ferror tells.
  * Takes memory, some fifty kilobytes however much there is. */
 static inline bs_reply bs_table_dump(bs_table *table, FILE *file) {
