@@ -55,6 +55,7 @@ fi
 if is_old; then
   sum=$("$top/tools/sources.sh" crates) || exit 1
   (build_over_kept) >&2 || (cd "$top/crates/gl_c" && rt lib) >&2 || exit 1
-  echo "$sum" >"$top/crates/gl_c/out/built_from" || exit 1
+  # What tools/package.sh says of it.
+  echo "crates $sum library $(sha256sum <"$library" | cut -d ' ' -f 1)" >"${library%/*}/built_from" || exit 1
 fi
 printf '%s\n%s\n' "$library" "$kit/c/liblibc_c.a"

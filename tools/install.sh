@@ -46,12 +46,14 @@ elif [ "${1#/}" = "$1" ]; then
   exit 2
 fi
 to=${DESTDIR:-}$prefix
+# (as sed takes it in the place of a name)
+said=$(printf '%s' "$prefix" | sed 's/[&,\\]/\\&/g')
 
 # fill NAME FOLDER: writes the file of this name in packaging/, with what it leaves open, to the folder.
 fill() {
   local up
   up=$(realpath -sm --relative-to="/$libdir" /) || return
-  mkdir -p "$2" && sed -e "s,@PREFIX@,$prefix,g; s,@LIBDIR@,$libdir,g; s,@UP@,$up,g; s,@VERSION@,$version,g" \
+  mkdir -p "$2" && sed -e "s,@PREFIX@,$said,g; s,@LIBDIR@,$libdir,g; s,@UP@,$up,g; s,@VERSION@,$version,g" \
     -e "s,@MAJOR@,$major,g; s,@MINOR@,$minor,g; s,@SONAME@,$soname,g; s,@NODE@,$node,g" \
     "$top/packaging/$1.in" >"$2/$1"
 }

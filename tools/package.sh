@@ -7,7 +7,7 @@
 # SOURCE_DATE_EPOCH is the time that the files bear, which is else that of the last commit.
 set -uo pipefail
 top=$(cd "$(dirname "$0")/.." && pwd) || exit 2
-[ $# -le 1 ] || { sed -n '2,7s/^# //p' "$0" >&2; exit 2; }
+[ $# -le 1 ] || { sed -n '2,8s/^# //p' "$0" >&2; exit 2; }
 out=${1:-$top/out}
 mkdir -p "$out" && out=$(cd "$out" && pwd) || exit 1
 work=$(mktemp -d) || exit 2
@@ -21,9 +21,10 @@ mapfile -t crates < <(sed -n 's/^gl_c staticlib: *//p' "$top/crates.txt" | tr ' 
 crates+=(gl_c)
 kept=$top/crates/gl_c/out/verdicts
 
-# said_of_building: whether the library is known to be compiled from the crates of this sum.
+# said_of_building SUM: whether the library is known to be compiled from the crates of this sum.
 said_of_building() {
-  if [ "$(cat "$top/crates/gl_c/out/built_from" 2>/dev/null)" = "$1" ]; then
+  local library=$top/crates/gl_c/out/libgl_c.a
+  if [ "$(cat "${library%/*}/built_from" 2>/dev/null)" = "crates $1 library $(sha256sum <"$library" | cut -d ' ' -f 1)" ]; then
     echo "When the library was compiled, the sum of the crates was this one."
   else
     echo "No such sum was noted when the library was compiled, or another. What was seen is that by its date no source"
@@ -35,11 +36,11 @@ said_of_building() {
 said_of_verdicts() {
   local crate line
   if [ "$(sed -n '1,2p' "$kept" 2>/dev/null)" != "crates $1"$'\n'"toolchain $2" ]; then
-    echo "No verdict is at hand: no whole test run (./check) of these crates by this toolchain was kept. Nothing was"
+    echo "No verdict is at hand: no test run (./check) of these crates by this toolchain has left one here. Nothing was"
     echo "proved anew for this package."
     return
   fi
-  echo "The last whole test run (./check) proved these crates by this toolchain, and printed of each:"
+  echo "In the last test run (./check) rt ci passed over these crates by this toolchain, and printed of each:"
   echo
   for crate in "${crates[@]}"; do
     line=$(sed -n "s/^proved $crate //p" "$kept")

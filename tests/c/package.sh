@@ -37,6 +37,23 @@ shows() {
   grep -qF "soname: [libburlapslate.so.0]" "$work/log" || fails "the shared library has another soname"
 }
 
+# refuses: the loader does not start a program that was linked with another second number.
+refuses() {
+  mkdir -p "$work/other" && echo 'BURLAPSLATE_0.0 { global: *; };' >"$work/other/map"
+  echo 'int bs_call_len(void) { return 0; }' >"$work/other/library.c"
+  echo 'int bs_call_len(void); int main(void) { return bs_call_len(); }' >"$work/other/program.c"
+  # shellcheck disable=SC2086 # CC may have words behind the name.
+  ${CC:-cc} -shared -fPIC -Wl,-soname,libburlapslate.so.0 -Wl,--version-script="$work/other/map" \
+    -o "$work/other/libburlapslate.so.0" "$work/other/library.c" 2>"$work/log" || fails "no other library is made"
+  # shellcheck disable=SC2086 # The same.
+  ${CC:-cc} -o "$work/other/program" "$work/other/program.c" "$work/other/libburlapslate.so.0" 2>"$work/log" ||
+    fails "no program over another library is made"
+  LD_LIBRARY_PATH=$work/other "$work/other/program" 2>"$work/log" || fails "a program does not start with its own library"
+  if LD_LIBRARY_PATH=$libdir "$work/other/program" 2>"$work/log" || ! grep -q "version .BURLAPSLATE_0.0. not found" "$work/log"; then
+    fails "a program of another version is not refused by the loader"
+  fi
+}
+
 # holds: what no program is compiled with is there, PROOF has the sums of these libraries, and nothing names this machine.
 holds() {
   local file
@@ -155,17 +172,17 @@ name=archive root=$work/archive
 mkdir "$root" && tar -C "$root" -xzf "$work/packed/burlapslate-$version-linux-x86_64.tar.gz" || exit 1
 prefix=$root/burlapslate-$version-linux-x86_64
 libdir=$prefix/lib
-shows && holds
+shows && refuses && holds
 by_pkg_config
 by_cmake
 by_cargo BURLAPSLATE_DIR="$prefix" PKG_CONFIG=false
-! command -v pkg-config >/dev/null || by_cargo PKG_CONFIG_PATH="$libdir/pkgconfig"
+! { command -v pkg-config && command -v cargo; } >/dev/null || by_cargo PKG_CONFIG_PATH="$libdir/pkgconfig"
 
 name=debian root=$work/debian
 if has "as Debian packages" dpkg-deb && has "as Debian packages" dpkg; then
   for package in "$work/packed"/*.deb; do dpkg -x "$package" "$root" || exit 1; done
   prefix=$root/usr libdir=$root/usr/lib/x86_64-linux-gnu
-  shows && holds
+  shows && refuses && holds
   by_pkg_config "--define-variable=prefix=$prefix"
   by_cmake
   by_cargo BURLAPSLATE_LIBS="$libdir/libburlapslate.a" PKG_CONFIG=false
