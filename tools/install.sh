@@ -21,7 +21,7 @@ work=$(mktemp -d) || exit 2
 trap 'rm -rf "$work"' EXIT
 
 if ! "$top/tools/c_library.sh" --look 2>"$work/log" && [ ! -s "$work/log" ]; then
-  echo "install.sh: the library is proved first; where nothing is proved yet, that takes about half an hour on four processors" >&2
+  echo "install.sh: the library is proved first: about half an hour on four processors, where nothing is proved yet" >&2
 fi
 mapfile -t libraries < <("$top/tools/c_library.sh" 2>"$work/log")
 [ "${#libraries[@]}" -eq 2 ] || { cat "$work/log" >&2; exit 1; }

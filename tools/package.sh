@@ -24,11 +24,13 @@ kept=$top/crates/gl_c/out/verdicts
 # said_of_building SUM: whether the library is known to be compiled from the crates of this sum.
 said_of_building() {
   local library=$top/crates/gl_c/out/libgl_c.a
-  if [ "$(cat "${library%/*}/built_from" 2>/dev/null)" = "crates $1 library $(sha256sum <"$library" | cut -d ' ' -f 1)" ]; then
+  local noted
+  noted="crates $1 library $(sha256sum <"$library" | cut -d ' ' -f 1)"
+  if [ "$(cat "${library%/*}/built_from" 2>/dev/null)" = "$noted" ]; then
     echo "When the library was compiled, the sum of the crates was this one."
   else
-    echo "No such sum was noted when the library was compiled, or another. What was seen is that by its date no source"
-    echo "of Rattle in the crates of the library is newer than the library."
+    echo "No such sum was noted when the library was compiled, or another. What was seen is that by its date no"
+    echo "source of Rattle in the crates of the library is newer than the library."
   fi
 }
 

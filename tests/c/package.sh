@@ -10,7 +10,10 @@ top=$(cd "$(dirname "$0")/../.." && pwd) || exit 2
 work=$(mktemp -d) || exit 2
 trap 'rm -rf "$work"' EXIT
 unset BURLAPSLATE_LIBS BURLAPSLATE_DIR LD_LIBRARY_PATH PKG_CONFIG_PATH PKG_CONFIG_SYSROOT_DIR DESTDIR LIBDIR
+export LC_ALL=C
 status=0
+name=packing
+: >"$work/log"
 
 # has WHAT TOOL: whether there is the tool; else what was not tried is said.
 has() {
@@ -31,7 +34,8 @@ fails() {
 shows() {
   nm -D --defined-only "$libdir/libburlapslate.so" >"$work/names" || fails "the shared library is not read"
   nm -g --defined-only "$libdir/libburlapslate.a" >>"$work/names" || fails "the archive is not read"
-  ! awk 'NF == 3 && $2 != "A" && $3 !~ /^(bs|burlapslate)_/' "$work/names" | grep . >"$work/log" || fails "it shows other names"
+  awk 'NF == 3 && $2 != "A" && $3 !~ /^(bs|burlapslate)_/' "$work/names" >"$work/log"
+  [ ! -s "$work/log" ] || fails "it shows other names"
   [ "$(grep -c ' T bs_call_lock' "$work/names")" -ge 2 ] || fails "it does not show its own names"
   readelf -d "$libdir/libburlapslate.so" >"$work/log"
   grep -qF "soname: [libburlapslate.so.0]" "$work/log" || fails "the shared library has another soname"
@@ -54,9 +58,9 @@ refuses() {
   fi
 }
 
-# holds: what no program is compiled with is there, PROOF has the sums of these libraries, and nothing names this machine.
+# holds: the suppressions are there, PROOF has the sums of these libraries, and no path of this machine is named.
 holds() {
-  local file
+  local file kind
   [ -s "$prefix/share/burlapslate/races.supp" ] || fails "the suppressions are not there"
   file=$(find "$root" -name PROOF | head -n 1)
   for kind in Archive:a Shared:so; do
@@ -125,10 +129,9 @@ by_cargo() {
   echo "the_package_by_cargo: $name, ${1%%=*}"
 }
 
-# away: the programs, with no checkout beside them.
+# away, away_for_cargo: the programs, with no checkout beside them.
 away() {
-  mkdir -p "$work/away/program/src" && cp "$top/tests/c/answers.c" "$work/away/" || exit 1
-  cp -r "$top/rust/burlapslate" "$work/away/" && rm -rf "$work/away/burlapslate/target" || exit 1
+  mkdir "$work/away" && cp "$top/tests/c/answers.c" "$work/away/" || exit 1
   awk '$0 == "```c" { inside = 1; next } inside && $0 == "```" { exit } inside' "$top/README.md" >"$work/away/first.c"
   [ -s "$work/away/first.c" ] || { echo "tests/c: no program in README.md" >&2; exit 1; }
   cat >"$work/away/CMakeLists.txt" <<END_OF_FILE
@@ -144,8 +147,18 @@ foreach(program first answers)
   target_link_libraries(\${program}_archive burlapslate::static)
 endforeach()
 END_OF_FILE
-  printf '[package]\nname = "program"\nversion = "0.0.0"\nedition = "2021"\n\n[dependencies]\nburlapslate = { path = "../burlapslate" }\n' \
-    >"$work/away/program/Cargo.toml"
+}
+away_for_cargo() {
+  mkdir -p "$work/away/program/src" && cp -r "$top/rust/burlapslate" "$work/away/" || exit 1
+  cat >"$work/away/program/Cargo.toml" <<'END_OF_FILE'
+[package]
+name = "program"
+version = "0.0.0"
+edition = "2021"
+
+[dependencies]
+burlapslate = { path = "../burlapslate" }
+END_OF_FILE
   cat >"$work/away/program/src/main.rs" <<'END_OF_FILE'
 use burlapslate::{Detect, Mode, Stop, Table, SLOTS};
 
@@ -161,11 +174,11 @@ END_OF_FILE
 }
 
 "$top/tools/package.sh" "$work/packed" >"$work/log" 2>&1 || status=$?
-name=packing
 [ "$status" -eq 0 ] || [ "$status" -eq 77 ] || fails "package.sh ends with status $status"
 cat "$work/packed"/*.tar.gz >/dev/null 2>"$work/log" || fails "there is no archive"
 version=$(basename "$work/packed"/*.tar.gz | cut -d - -f 2)
 away
+away_for_cargo
 has "as C++" "${CXX:-c++}" || true
 
 name=archive root=$work/archive
