@@ -1,0 +1,25 @@
+/*
+ * work.h: what the coordinator has its clients do.
+ */
+#ifndef WORK_H
+#define WORK_H
+
+#include "remote.h"
+
+struct office {
+  struct decisions decisions;
+  pthread_mutex_t mutex;
+  FILE *acknowledged; /* a line for each transaction that is known to be committed: its number, and of how many shards */
+  uint64_t transfers, audits, again, unknown;
+};
+
+void office_acknowledge(struct office *o, const struct txn *t);
+
+/* stories.c: led step by step. The second needs somebody who starts a shard again that was killed. */
+void story_of_a_cycle(struct office *o);
+void stories_of_doubt(struct office *o);
+
+/* crowd.c: client threads that move money, and read all accounts. */
+void crowd(struct office *o, uint64_t seed);
+
+#endif
