@@ -70,7 +70,8 @@ int main(int count, char **word) {
   if (office.acknowledged == NULL) fail("acknowledged does not open");
   gather_start(&gatherer);
   story_of_a_cycle(&office);
-  if (kills) stories_of_doubt(&office);
+  stories_of_one_who_goes(&office);
+  if (kills) stories_of_kills(&office);
   puts("the crowd begins");
   crowd(&office, strtoull(word[2], NULL, 10));
   gather_stop(&gatherer);

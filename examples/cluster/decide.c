@@ -81,7 +81,7 @@ static char *etcd_command(const struct decisions *d, const struct wish *wishes) 
   }
   fprintf(out, "\\n");
   for (w = wishes; w != NULL; w = w->next) fprintf(out, "get decision/%" PRIu64 "\\n", w->number);
-  fprintf(out, "\\n' | ETCDCTL_API=3 etcdctl --endpoints=%s --command-timeout=2s txn 2>/dev/null", d->endpoints);
+  fprintf(out, "\\n' | ETCDCTL_API=3 timeout -s KILL 3 etcdctl --endpoints=%s txn 2>/dev/null", d->endpoints);
   fclose(out);
   return text;
 }

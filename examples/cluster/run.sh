@@ -22,7 +22,11 @@ keepers=() members=() coordinator=
 
 # stop_members: their data is thrown away, so they need not end well.
 stop_members() {
-  [ "${#members[@]}" -eq 0 ] || kill -9 "${members[@]}" 2>/dev/null
+  local pid
+  for pid in "${members[@]}"; do
+    kill -9 "$pid" 2>/dev/null
+    while kill -0 "$pid" 2>/dev/null; do sleep 0.01; done
+  done
   members=()
 }
 
@@ -87,13 +91,13 @@ echo "the checker refuses eight histories that are wrong"
 # ----------------------------------------------------------------------------------------------------------------------
 # Shards, and a run of them.
 
-# keep SHARD DECISIONS: runs a shard, and starts it again where it was killed.
+# keep SHARD DECISIONS: runs a shard in a session of its own, and starts it again where it was killed. Where the keeper
+# is ended it ends the shard, with what that has started.
 keep() {
   local status=137
-  # shellcheck disable=SC2046 # Each is a number.
-  trap 'kill -9 $(jobs -p) 2>/dev/null; wait; exit 1' TERM
+  trap 'for pid in $(jobs -p); do kill -9 -- "$pid" "-$pid" 2>/dev/null; done; wait 2>/dev/null; exit 1' TERM
   while [ "$status" -eq 137 ]; do
-    "$work/shard" "$1" "$2" >>shards 2>&1 &
+    setsid "$work/shard" "$1" "$2" >>said 2>&1 &
     echo $! >"shard-$1.pid"
     wait $! 2>/dev/null
     status=$?
@@ -111,6 +115,15 @@ kill_some() {
     kill -0 "$coordinator" 2>/dev/null || return
     kill -9 "$(<"shard-$shard.pid")" && echo "shard $shard was killed in the crowd" >>said
   done
+  kill_member
+}
+
+# kill_member: kills one member of etcd where there are three; two are enough.
+kill_member() {
+  local which=$((RANDOM % 3))
+  [ "${#members[@]}" -eq 3 ] && kill -0 "$coordinator" 2>/dev/null || return
+  kill -9 "${members[which]}" && echo "member $which of etcd was killed in the crowd" >>said
+  unset "members[which]"
 }
 
 # play NAME DECISIONS [--kills]: runs shards and coordinator in a folder of their own, and has the shards end well.
@@ -129,9 +142,9 @@ play() {
   status=$?
   coordinator=
   [ "$status" -eq 0 ] || wrong "the coordinator ended with status $status"
-  for pid in "${keepers[@]}"; do wait "$pid" || wrong "a shard did not end well: $(cat shards)"; done
+  for pid in "${keepers[@]}"; do wait "$pid" || wrong "a shard did not end well"; done
   keepers=()
-  cat said shards
+  cat said
 }
 
 # checked: the history of the run in this folder.
@@ -178,6 +191,7 @@ start_members() {
       --listen-peer-urls "$at:${ports[i + 3]}" --initial-advertise-peer-urls "$at:${ports[i + 3]}" \
       >>etcd.said 2>&1 &
     members+=($!)
+    disown $! # Else its end is announced.
   done
 }
 

@@ -19,12 +19,6 @@ static int64_t milliseconds(void) {
   return (int64_t)now.tv_sec * 1000 + now.tv_nsec / 1000000;
 }
 
-/* Moves money from the one account to the other, which the transaction has both taken. */
-static void move(struct txn *t, int64_t left, int64_t right, int64_t amount) {
-  txn_write(t, LEFT, left - amount);
-  txn_write(t, RIGHT, right + amount);
-}
-
 /* ------------------------------------------------------------------------------------------------
  * Two transactions each hold an account of one shard, and wait for that of the other.
  */
@@ -75,30 +69,23 @@ void story_of_a_cycle(struct office *o) {
 }
 
 /* ------------------------------------------------------------------------------------------------
- * A shard is killed between the two phases.
+ * Between the two phases the coordinator goes, or a shard is killed.
  */
 
-static void kill_shard(struct client *c, unsigned shard) {
-  char reply[LINE];
-  long pid;
-  if (!ask(c, shard, reply, "pid") || sscanf(reply, "%ld", &pid) != 1) fail("shard %u has no number", shard);
-  if (kill((pid_t)pid, SIGKILL) != 0) fail("shard %u is not killed", shard);
-  while (ask(c, shard, reply, "pid") && strtol(reply, NULL, 10) == pid) continue;
-}
-
-/* A transaction that both have voted for, and the shard of the right account killed behind that. The word is written
- * before the kill, or not at all. What each account had is in `left` and `right`. */
-static struct txn leave_in_doubt(struct office *o, struct client *c, bool is_decided, int64_t *left, int64_t *right) {
+/* A transaction that both shards have voted for, and that moves seven from the left account to the right. The word is
+ * written, or not. What the right account had is in `before`. */
+static struct txn leave_in_doubt(struct office *o, struct client *c, bool is_decided, int64_t *before) {
   struct txn t = txn_begin(c);
-  if (!txn_take(&t, LEFT, left) || !txn_take(&t, RIGHT, right)) fail("accounts that are free are not granted");
-  move(&t, *left, *right, 7);
+  int64_t left;
+  if (!txn_take(&t, LEFT, &left) || !txn_take(&t, RIGHT, before)) fail("accounts that are free are not granted");
+  txn_write(&t, LEFT, left - 7);
+  txn_write(&t, RIGHT, *before + 7);
   if (!txn_prepare(&t)) fail("a vote is refused");
   if (is_decided && !decide(&o->decisions, t.number, true)) fail("another word stands");
-  kill_shard(c, shard_of(RIGHT));
   return t;
 }
 
-/* Another transaction reads the account: it waits for the locks that are held in doubt. */
+/* Another transaction reads the right account: it waits for the locks that are held in doubt. */
 static int64_t read_behind(struct office *o, struct client *c) {
   struct txn t = txn_begin(c);
   int64_t balance;
@@ -108,11 +95,41 @@ static int64_t read_behind(struct office *o, struct client *c) {
   return balance;
 }
 
+/* Both shards hear the connection end, and ask for the word. */
+static void the_coordinator_goes(struct office *o, struct client *c, bool is_decided) {
+  struct client gone;
+  struct txn t;
+  int64_t before;
+  client_make(&gone, UNTIL_IT_IS_THERE);
+  t = leave_in_doubt(o, &gone, is_decided, &before);
+  client_end(&gone);
+  if (read_behind(o, c) != before + (is_decided ? 7 : 0)) fail("the shards did not go by the word");
+  if (is_decided) office_acknowledge(o, &t);
+}
+
+void stories_of_one_who_goes(struct office *o) {
+  struct client c;
+  client_make(&c, UNTIL_IT_IS_THERE);
+  the_coordinator_goes(o, &c, true);
+  the_coordinator_goes(o, &c, false);
+  client_end(&c);
+  puts("a coordinator that went: what was decided is committed, and what was not is aborted");
+}
+
+static void kill_shard(struct client *c, unsigned shard) {
+  char reply[LINE];
+  long pid;
+  if (!ask(c, shard, reply, "pid") || sscanf(reply, "%ld", &pid) != 1) fail("shard %u has no number", shard);
+  if (kill((pid_t)pid, SIGKILL) != 0) fail("shard %u is not killed", shard);
+  while (ask(c, shard, reply, "pid") && strtol(reply, NULL, 10) == pid) continue;
+}
+
 /* The shard that comes back finds the word, and commits with nobody telling it. */
 static void decided_before_the_kill(struct office *o, struct client *c) {
-  int64_t left, right;
-  struct txn t = leave_in_doubt(o, c, true, &left, &right);
-  if (read_behind(o, c) != right + 7) fail("what was decided is lost");
+  int64_t before;
+  struct txn t = leave_in_doubt(o, c, true, &before);
+  kill_shard(c, shard_of(RIGHT));
+  if (read_behind(o, c) != before + 7) fail("what was decided is lost");
   txn_carry_out(&t, true);
   office_acknowledge(o, &t);
   puts("decided before the kill: committed by the shard that came back");
@@ -120,18 +137,31 @@ static void decided_before_the_kill(struct office *o, struct client *c) {
 
 /* The shard that comes back finds none, and writes abort; the coordinator comes too late with its own. */
 static void undecided_at_the_kill(struct office *o, struct client *c) {
-  int64_t left, right;
-  struct txn t = leave_in_doubt(o, c, false, &left, &right);
-  if (read_behind(o, c) != right) fail("what was not decided is done");
+  int64_t before;
+  struct txn t = leave_in_doubt(o, c, false, &before);
+  kill_shard(c, shard_of(RIGHT));
+  if (read_behind(o, c) != before) fail("what was not decided is done");
   if (decide(&o->decisions, t.number, true)) fail("both words were written");
   txn_carry_out(&t, false);
   puts("undecided at the kill: aborted by the shard that came back, and the coordinator heard so");
 }
 
-void stories_of_doubt(struct office *o) {
+/* A reader whose shard was killed has lost its lock there: the account may be another's since. */
+static void a_reader_at_the_kill(struct office *o, struct client *c) {
+  struct txn t = txn_begin(c);
+  int64_t balance;
+  if (!txn_read(&t, RIGHT, &balance)) fail("an account is not read");
+  kill_shard(c, shard_of(RIGHT));
+  if (!txn_read(&t, LEFT, &balance)) fail("an account is not read");
+  if (txn_end(&t, &o->decisions) != ABORTED) fail("a reader is committed without its lock");
+  puts("a reader at the kill: its vote is refused");
+}
+
+void stories_of_kills(struct office *o) {
   struct client c;
   client_make(&c, UNTIL_IT_IS_THERE);
   decided_before_the_kill(o, &c);
   undecided_at_the_kill(o, &c);
+  a_reader_at_the_kill(o, &c);
   client_end(&c);
 }

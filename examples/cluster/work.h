@@ -15,9 +15,10 @@ struct office {
 
 void office_acknowledge(struct office *o, const struct txn *t);
 
-/* stories.c: led step by step. The second needs somebody who starts a shard again that was killed. */
+/* stories.c: led step by step. The last need somebody who starts a shard again that was killed. */
 void story_of_a_cycle(struct office *o);
-void stories_of_doubt(struct office *o);
+void stories_of_one_who_goes(struct office *o);
+void stories_of_kills(struct office *o);
 
 /* crowd.c: client threads that move money, and read all accounts. */
 void crowd(struct office *o, uint64_t seed);
