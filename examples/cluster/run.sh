@@ -1,14 +1,16 @@
 #!/usr/bin/env bash
-# run.sh: compiles the shards, their coordinator and the checker of histories over the C library, and runs them: once
-# with the log of decisions in a file and nobody killed, and once with it in three members of etcd and shards killed at
-# random, which are started again. Before that the checker must refuse histories that are wrong. Ends with status 1
-# where something is not as wanted. Where there is no etcd, or no etcdctl, shards are killed with the log in a file; it
-# says that etcd was not tried, and ends with status 77, as it does where there is no C compiler. All that it makes is
-# in a temporary folder, and it ends what it has started. SEED names another run than one at random; CC another
-# compiler than cc.
+# run.sh: looks whether each piece of C that docs/CLUSTERS.md shows stands here; compiles the shards, their coordinator
+# and the checker of histories over the C library, and runs them: once with the log of decisions in a file and nobody
+# killed, and once with it in three members of etcd, where shards are killed at random and started again. Before that
+# the checker must refuse histories that are wrong. Ends with status 1 where something is not as wanted. Where there is
+# no etcd, or no etcdctl, shards are killed with the log in a file; it says that etcd was not tried, and ends with status
+# 77, as it does where there is no C compiler. All that it makes is in a temporary folder, and it ends what it has
+# started. SEED chooses the crowd and the kills, which are else at random; CC names another compiler than cc.
 set -uo pipefail
 here=$(cd "$(dirname "$0")" && pwd) || exit 2
 top=$here/../..
+"$top/tools/pieces.sh" "$top/docs/CLUSTERS.md" "$here"/*.[ch] || exit 1
+
 compiler=${CC:-cc}
 if ! command -v "${compiler%% *}" >/dev/null; then
   echo "examples/cluster: not tried: there is no C compiler $compiler"
