@@ -69,7 +69,7 @@ int main(int count, char **word) {
   office.acknowledged = fopen("acknowledged", "w");
   if (office.acknowledged == NULL) fail("acknowledged does not open");
   gather_start(&gatherer);
-  story_of_a_cycle(&office);
+  story_of_cycles(&office);
   stories_of_one_who_goes(&office);
   if (kills) stories_of_kills(&office);
   puts("the crowd begins");

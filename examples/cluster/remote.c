@@ -114,7 +114,7 @@ bool txn_prepare(struct txn *t) {
 
 /* A commit is said until it is heard. An abort is said once: a shard that has gone has nothing of the transaction, or
  * is in doubt when it starts again, and asks. */
-void txn_carry_out(struct txn *t, bool commits) {
+static void carry_out(struct txn *t, bool commits) {
   unsigned shard;
   for (shard = 0; shard < SHARDS; shard++) {
     bool is_heard = !t->is_part[shard];
@@ -134,10 +134,13 @@ static enum ending finish(struct txn *t) {
   return strcmp(reply, "ok") == 0 ? COMMITTED : ABORTED;
 }
 
-enum ending txn_end(struct txn *t, struct decisions *d) {
-  bool commits;
-  if (!t->has_failed && txn_parts(t) == 1) return finish(t);
-  commits = txn_prepare(t) && decide(d, t->number, true);
-  txn_carry_out(t, commits);
+enum ending txn_second_phase(struct txn *t, struct decisions *d, bool has_votes) {
+  bool commits = has_votes && decide(d, t->number, true);
+  carry_out(t, commits);
   return commits ? COMMITTED : ABORTED;
+}
+
+enum ending txn_end(struct txn *t, struct decisions *d) {
+  if (!t->has_failed && txn_parts(t) == 1) return finish(t);
+  return txn_second_phase(t, d, txn_prepare(t));
 }

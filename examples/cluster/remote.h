@@ -43,12 +43,12 @@ void txn_write(struct txn *t, unsigned account, int64_t balance);
 
 unsigned txn_parts(const struct txn *t);
 
-/* The two phases: whether all vote for it; and what becomes of all, where this word stands. */
+/* The two phases. Whether all vote for it: the word is written where they do, and the one that stands is carried out. */
 bool txn_prepare(struct txn *t);
-void txn_carry_out(struct txn *t, bool commits);
+enum ending txn_second_phase(struct txn *t, struct decisions *d, bool has_votes);
 
-/* Ends it, with the word in the log of decisions between the phases. Of one over a single shard the answer may be
- * UNKNOWN: the shard was killed, and nobody heard whether it had committed by then. */
+/* Ends it. Of one over a single shard the answer may be UNKNOWN: the shard was killed, and nobody heard whether it had
+ * committed by then. */
 enum ending txn_end(struct txn *t, struct decisions *d);
 
 #endif

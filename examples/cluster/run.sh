@@ -25,10 +25,8 @@ keepers=() members=() coordinator=
 # stop_members: their data is thrown away, so they need not end well.
 stop_members() {
   local pid
-  for pid in "${members[@]}"; do
-    kill -9 "$pid" 2>/dev/null
-    while kill -0 "$pid" 2>/dev/null; do sleep 0.01; done
-  done
+  [ "${#members[@]}" -eq 0 ] || kill -9 "${members[@]}" 2>/dev/null
+  for pid in "${members[@]}"; do timeout 5 tail --pid="$pid" -f /dev/null; done
   members=()
 }
 

@@ -51,11 +51,11 @@ static void take_first(struct party *p, struct office *o, unsigned has, unsigned
   if (!txn_take(&p->txn, has, &balance)) fail("an account that is free is not granted");
 }
 
-void story_of_a_cycle(struct office *o) {
+static void close_cycle(struct office *o, unsigned left, unsigned right) {
   struct party older, younger;
   int64_t begun;
-  take_first(&older, o, LEFT, RIGHT);
-  take_first(&younger, o, RIGHT, LEFT);
+  take_first(&older, o, left, right);
+  take_first(&younger, o, right, left);
   begun = milliseconds();
   if (pthread_create(&older.thread, NULL, want, &older) != 0) fail("no thread");
   if (pthread_create(&younger.thread, NULL, want, &younger) != 0) fail("no thread");
@@ -66,6 +66,12 @@ void story_of_a_cycle(struct office *o) {
   if (!older.is_granted || younger.is_granted) fail("of two on a cycle the younger is to fall");
   if (older.ended - begun > SOON) fail("a cycle stood for %" PRId64 " ms", older.ended - begun);
   printf("a cycle over two shards stood for %" PRId64 " ms\n", older.ended - begun);
+}
+
+/* Either way round, so that the younger does not fall for its place. */
+void story_of_cycles(struct office *o) {
+  close_cycle(o, LEFT, RIGHT);
+  close_cycle(o, RIGHT, LEFT);
 }
 
 /* ------------------------------------------------------------------------------------------------
@@ -130,7 +136,7 @@ static void decided_before_the_kill(struct office *o, struct client *c) {
   struct txn t = leave_in_doubt(o, c, true, &before);
   kill_shard(c, shard_of(RIGHT));
   if (read_behind(o, c) != before + 7) fail("what was decided is lost");
-  txn_carry_out(&t, true);
+  if (txn_second_phase(&t, &o->decisions, true) != COMMITTED) fail("another word stands");
   office_acknowledge(o, &t);
   puts("decided before the kill: committed by the shard that came back");
 }
@@ -141,8 +147,7 @@ static void undecided_at_the_kill(struct office *o, struct client *c) {
   struct txn t = leave_in_doubt(o, c, false, &before);
   kill_shard(c, shard_of(RIGHT));
   if (read_behind(o, c) != before) fail("what was not decided is done");
-  if (decide(&o->decisions, t.number, true)) fail("both words were written");
-  txn_carry_out(&t, false);
+  if (txn_second_phase(&t, &o->decisions, true) != ABORTED) fail("both words stand");
   puts("undecided at the kill: aborted by the shard that came back, and the coordinator heard so");
 }
 

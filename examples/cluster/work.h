@@ -16,7 +16,7 @@ struct office {
 void office_acknowledge(struct office *o, const struct txn *t);
 
 /* stories.c: led step by step. The last need somebody who starts a shard again that was killed. */
-void story_of_a_cycle(struct office *o);
+void story_of_cycles(struct office *o);
 void stories_of_one_who_goes(struct office *o);
 void stories_of_kills(struct office *o);
 
