@@ -73,7 +73,7 @@ static char *etcd_command(const struct decisions *d, const struct wish *wishes) 
   size_t size;
   FILE *out = open_memstream(&text, &size);
   if (out == NULL) fail("no memory for a command");
-  fprintf(out, "printf '");
+  fprintf(out, "exec 2>/dev/null; printf '");
   for (w = wishes; w != NULL; w = w->next) fprintf(out, "version(\"decision/%" PRIu64 "\") = \"0\"\\n", w->number);
   fprintf(out, "\\n");
   for (w = wishes; w != NULL; w = w->next) {
@@ -81,7 +81,7 @@ static char *etcd_command(const struct decisions *d, const struct wish *wishes) 
   }
   fprintf(out, "\\n");
   for (w = wishes; w != NULL; w = w->next) fprintf(out, "get decision/%" PRIu64 "\\n", w->number);
-  fprintf(out, "\\n' | ETCDCTL_API=3 timeout -s KILL 3 etcdctl --endpoints=%s txn 2>/dev/null", d->endpoints);
+  fprintf(out, "\\n' | ETCDCTL_API=3 timeout -s KILL 3 etcdctl --endpoints=%s txn", d->endpoints);
   fclose(out);
   return text;
 }
