@@ -68,6 +68,7 @@ int main(int count, char **word) {
   decisions_open(&office.decisions, word[1]);
   office.acknowledged = fopen("acknowledged", "w");
   if (office.acknowledged == NULL) fail("acknowledged does not open");
+  stories_of_phantoms(&office);
   gather_start(&gatherer);
   story_of_cycles(&office);
   stories_of_one_who_goes(&office);

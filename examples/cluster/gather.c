@@ -24,19 +24,18 @@ static void add_wait(struct gatherer *g, uint64_t waiter, uint64_t holder) {
   else g->board.rows[from].high |= UINT64_C(1) << (to - 64);
 }
 
-/* A shard that is not there shows no waits. */
-static void gather(struct gatherer *g) {
-  unsigned shard;
+void gather_begin(struct gatherer *g) {
   memset(&g->board, 0, sizeof g->board);
   g->count = 0;
-  for (shard = 0; shard < SHARDS; shard++) {
-    char line[LINE], *rest = NULL, *word;
-    if (!ask(&g->client, shard, line, "board")) continue;
-    for (word = strtok_r(line, " ", &rest); word != NULL; word = strtok_r(NULL, " ", &rest)) {
-      uint64_t waiter, holder;
-      if (sscanf(word, "%" SCNu64 ">%" SCNu64, &waiter, &holder) != 2) fail("a board that is none: %s", word);
-      add_wait(g, waiter, holder);
-    }
+}
+
+void gather_shard(struct gatherer *g, unsigned shard) {
+  char line[LINE], *rest = NULL, *word;
+  if (!ask(&g->client, shard, line, "board")) return;
+  for (word = strtok_r(line, " ", &rest); word != NULL; word = strtok_r(NULL, " ", &rest)) {
+    uint64_t waiter, holder;
+    if (sscanf(word, "%" SCNu64 ">%" SCNu64, &waiter, &holder) != 2) fail("a board that is none: %s", word);
+    add_wait(g, waiter, holder);
   }
 }
 
@@ -54,8 +53,8 @@ static void condemn(struct gatherer *g, uint32_t slot) {
   g->board.rows[slot] = none;
 }
 
-/* The youngest of each cycle falls. Whoever is told waits no more, so what is left shows the cycles that stand. */
-static void end_cycles(struct gatherer *g) {
+/* Whoever is told waits no more, so what is left shows the cycles that stand. */
+void gather_end_cycles(struct gatherer *g) {
   for (;;) {
     bs_slots suspects = bs_suspects(&g->board).slots;
     uint32_t slot = 0;
@@ -77,8 +76,10 @@ static void *run(void *arg) {
   const struct timespec rest = { 0, REST };
   struct gatherer *g = arg;
   while (!is_ending(g)) {
-    gather(g);
-    end_cycles(g);
+    unsigned shard;
+    gather_begin(g);
+    for (shard = 0; shard < SHARDS; shard++) gather_shard(g, shard);
+    gather_end_cycles(g);
     nanosleep(&rest, NULL);
   }
   return NULL;

@@ -18,6 +18,12 @@ struct gatherer {
   pthread_t thread;
 };
 
+/* The parts of a look: nothing is on the board; the board of a shard is added to it, and one that is not there shows no
+ * waits; of each cycle that it shows by then the youngest falls. */
+void gather_begin(struct gatherer *g);
+void gather_shard(struct gatherer *g, unsigned shard);
+void gather_end_cycles(struct gatherer *g);
+
 void gather_start(struct gatherer *g);
 void gather_stop(struct gatherer *g);
 

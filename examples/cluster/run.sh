@@ -9,7 +9,7 @@
 set -uo pipefail
 here=$(cd "$(dirname "$0")" && pwd) || exit 2
 top=$here/../..
-"$top/tools/pieces.sh" "$top/docs/CLUSTERS.md" "$here"/*.[ch] || exit 1
+(cd "$top" && tools/pieces.sh docs/CLUSTERS.md examples/cluster/*.[ch]) || exit 1
 
 compiler=${CC:-cc}
 if ! command -v "${compiler%% *}" >/dev/null; then
@@ -61,7 +61,7 @@ mapfile -t libraries < <("$top/tools/c_library.sh" 2>"$work/log")
 [ "${#libraries[@]}" -eq 2 ] || { cat "$work/log" >&2; exit 1; }
 cd "$here" || exit 2
 compile shard shard.c store.c redo.c decide.c wire.c fail.c
-compile coordinator coordinator.c stories.c crowd.c remote.c gather.c decide.c wire.c fail.c
+compile coordinator coordinator.c stories.c phantom.c crowd.c remote.c gather.c decide.c wire.c fail.c
 compile history history.c redo.c fail.c
 
 # refuses WORD LINES0 LINES1 ACKNOWLEDGED: the checker must refuse a history of two shards with this word.

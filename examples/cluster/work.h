@@ -20,6 +20,9 @@ void story_of_cycles(struct office *o);
 void stories_of_one_who_goes(struct office *o);
 void stories_of_kills(struct office *o);
 
+/* phantom.c: a cycle that a gathered board shows, and that never was. Nobody else gathers meanwhile. */
+void stories_of_phantoms(struct office *o);
+
 /* crowd.c: client threads that move money, and read all accounts. */
 void crowd(struct office *o, uint64_t seed);
 
