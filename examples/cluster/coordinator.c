@@ -23,12 +23,11 @@ void office_acknowledge(struct office *o, const struct txn *t) {
   pthread_mutex_unlock(&o->mutex);
 }
 
-/* A shard that is killed before it has said ok is started again, and asked again. */
-static void end_shard(struct client *c, unsigned shard) {
-  char reply[LINE];
+/* Asks a shard, and again where it was killed before it had answered. */
+static void insist(struct client *c, unsigned shard, char *reply, const char *word) {
   unsigned tries = 0;
-  while (!ask(c, shard, reply, "end")) {
-    if (++tries == 3) fail("shard %u does not end", shard);
+  while (!ask(c, shard, reply, "%s", word)) {
+    if (++tries == 3) fail("shard %u does not answer: %s", shard, word);
   }
 }
 
@@ -41,9 +40,9 @@ static void close_shards(void) {
   if (balances == NULL) fail("balances does not open");
   client_make(&c, UNTIL_IT_IS_THERE);
   for (shard = 0; shard < SHARDS; shard++) {
-    if (!ask(&c, shard, reply, "list")) fail("shard %u does not say what it has", shard);
+    insist(&c, shard, reply, "list");
     fprintf(balances, "%s\n", reply);
-    end_shard(&c, shard);
+    insist(&c, shard, reply, "end");
   }
   client_end(&c);
   fclose(balances);

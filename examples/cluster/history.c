@@ -61,7 +61,8 @@ static void add_items(struct deed *d, unsigned shard, const struct work *w) {
   size_t i;
   for (i = 0; i < w->count; i++) {
     const struct item *item = &w->items[i];
-    if (item->account >= ACCOUNTS || shard_of(item->account) != shard) fail("account %u in shard %u", item->account, shard);
+    if (item->account >= ACCOUNTS) fail("no account %u", item->account);
+    if (shard_of(item->account) != shard) fail("account %u in shard %u", item->account, shard);
     if (item->version + 1 >= MOST_VERSIONS) fail("too many versions");
     if (d->count == MOST_ITEMS) fail("%" PRIu64 " has too many items", d->number);
     d->items[d->count++] = *item;
@@ -186,7 +187,7 @@ static void check_balances(void) {
   for (account = 0; account < ACCOUNTS; account++, sum += balance) {
     if (fscanf(in, "%" SCNd64 " %" SCNu64, &balance, &version) != 2) fail("balances ends early");
     if (version != last_version[account] || balance != balances[account][version]) {
-      fail("account %u has %" PRId64 " in version %" PRIu64 ", and its log comes to another", account, balance, version);
+      fail("account %u has %" PRId64 " in version %" PRIu64 ", and not by its log", account, balance, version);
     }
   }
   fclose(in);
@@ -240,6 +241,7 @@ int main(void) {
     committed++;
   }
   check_balances();
-  printf("history: %zu transactions are committed, %zu of them acknowledged, and in one order\n", committed, acknowledged);
+  printf("history: %zu transactions are committed, %zu of them acknowledged, and in one order\n", committed,
+         acknowledged);
   return 0;
 }

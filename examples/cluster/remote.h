@@ -43,7 +43,8 @@ void txn_write(struct txn *t, unsigned account, int64_t balance);
 
 unsigned txn_parts(const struct txn *t);
 
-/* The two phases. Whether all vote for it: the word is written where they do, and the one that stands is carried out. */
+/* The two phases: whether all vote for it; and then the word is written where they do, and the one that stands is
+ * carried out. */
 bool txn_prepare(struct txn *t);
 enum ending txn_second_phase(struct txn *t, struct decisions *d, bool has_votes);
 

@@ -3,9 +3,9 @@
 # and the checker of histories over the C library, and runs them: once with the log of decisions in a file and nobody
 # killed, and once with it in three members of etcd, where shards are killed at random and started again. Before that
 # the checker must refuse histories that are wrong. Ends with status 1 where something is not as wanted. Where there is
-# no etcd, or no etcdctl, shards are killed with the log in a file; it says that etcd was not tried, and ends with status
-# 77, as it does where there is no C compiler. All that it makes is in a temporary folder, and it ends what it has
-# started. SEED chooses the crowd and the kills, which are else at random; CC names another compiler than cc.
+# no etcd, or no etcdctl, shards are killed with the log in a file; it says that etcd was not tried, and ends with
+# status 77, as it does where there is no C compiler. All that it makes is in a temporary folder, and it ends what it
+# has started. SEED chooses the crowd and the kills, which are else at random; CC names another compiler than cc.
 set -uo pipefail
 here=$(cd "$(dirname "$0")" && pwd) || exit 2
 top=$here/../..

@@ -9,7 +9,7 @@
 struct office {
   struct decisions decisions;
   pthread_mutex_t mutex;
-  FILE *acknowledged; /* a line for each transaction that is known to be committed: its number, and of how many shards */
+  FILE *acknowledged; /* by line a transaction that a client was told is committed, and of how many shards it was */
   uint64_t transfers, audits, again, unknown;
 };
 
