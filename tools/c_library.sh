@@ -1,8 +1,13 @@
 #!/usr/bin/env bash
-# c_library.sh: builds the library for C where it is not there or older than its sources, and prints what
+# c_library.sh [--look]: builds the library for C where it is not there or older than its sources, and prints what
 # a program over include/burlapslate.h is linked with: the library, and the toolchain's calls for memory.
-# `rt` is to be found by PATH.
+# `rt` is to be found by PATH. With --look it builds nothing, and ends with status 1 where there is something to build.
 set -uo pipefail
+looks=
+if [ "${1:-}" = --look ]; then
+  looks=yes
+  shift
+fi
 top=$(cd "$(dirname "$0")/.." && pwd) || exit 2
 library=$top/crates/gl_c/out/libgl_c.a
 rt=$(command -v rt) || { echo "c_library.sh: rt is not found" >&2; exit 2; }
@@ -38,7 +43,19 @@ build_over_kept() {
     --links gl_c= --incremental out/incremental --toolchain "$kit/toolchain" --backend llvm --jobs 2 -o "$library"
 }
 
-if [ ! -e "$library" ] || is_newer "$library" gl_c "${named[@]}"; then
+# is_old: whether there is no library, or a source is newer than it.
+is_old() {
+  [ ! -e "$library" ] || is_newer "$library" gl_c "${named[@]}"
+}
+
+if [ "$looks" ]; then
+  ! is_old
+  exit
+fi
+if is_old; then
+  sum=$("$top/tools/sources.sh" crates) || exit 1
   (build_over_kept) >&2 || (cd "$top/crates/gl_c" && rt lib) >&2 || exit 1
+  # What tools/package.sh says of it.
+  echo "crates $sum library $(sha256sum <"$library" | cut -d ' ' -f 1)" >"${library%/*}/built_from" || exit 1
 fi
 printf '%s\n%s\n' "$library" "$kit/c/liblibc_c.a"

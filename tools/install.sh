@@ -1,13 +1,28 @@
 #!/usr/bin/env bash
-# install.sh PREFIX: puts the library for C below a folder: PREFIX/include has the headers, PREFIX/lib one archive with
-# all that a program is linked with, and PREFIX/lib/pkgconfig what `pkg-config --cflags --libs burlapslate` reads.
-# It builds the library first where it is missing or old (tools/c_library.sh). AR names another archiver than ar.
+# install.sh [--shared] PREFIX: puts the library for C below a folder: PREFIX/include has the headers, PREFIX/lib one
+# archive with all that a program is linked with, what `pkg-config --cflags --libs burlapslate` reads, and what
+# `find_package(burlapslate)` of CMake reads; PREFIX/share/burlapslate has the suppressions for race detectors.
+# With --shared the shared library stands beside the archive, and a linker then takes it first. It builds the library
+# first where it is missing or old (tools/c_library.sh). DESTDIR is put before PREFIX for the copies, and left out of
+# what they say; LIBDIR names another folder below PREFIX than lib. AR, LD, OBJCOPY and CC name other tools than ar, ld,
+# objcopy and cc.
 set -uo pipefail
 top=$(cd "$(dirname "$0")/.." && pwd) || exit 2
-[ $# -eq 1 ] || { sed -n '2,4s/^# //p' "$0" >&2; exit 2; }
+shared=
+if [ "${1:-}" = --shared ]; then
+  shared=yes
+  shift
+fi
+if [ $# -ne 1 ] || [ -z "$1" ] || [ "${1#-}" != "$1" ]; then
+  sed -n '2,8s/^# //p' "$0" >&2
+  exit 2
+fi
 work=$(mktemp -d) || exit 2
 trap 'rm -rf "$work"' EXIT
 
+if ! "$top/tools/c_library.sh" --look 2>"$work/log" && [ ! -s "$work/log" ]; then
+  echo "install.sh: the library is proved first: about half an hour on four processors, where nothing is proved yet" >&2
+fi
 mapfile -t libraries < <("$top/tools/c_library.sh" 2>"$work/log")
 [ "${#libraries[@]}" -eq 2 ] || { cat "$work/log" >&2; exit 1; }
 
@@ -15,25 +30,62 @@ mapfile -t libraries < <("$top/tools/c_library.sh" 2>"$work/log")
 number() {
   sed -n "s/^#define BS_VERSION_$1 //p" "$top/include/burlapslate.h"
 }
+major=$(number MAJOR) minor=$(number MINOR)
+version=$major.$minor.$(number PATCH)
+soname=libburlapslate.so.$major
+# While the first number is 0, the second says whether a program fits.
+node=BURLAPSLATE_$major
+[ "$major" -gt 0 ] || node+=.$minor
+libdir=${LIBDIR:-lib}
 
-mkdir -p "$1/include" "$1/lib/pkgconfig" || exit 1
-prefix=$(cd "$1" && pwd) || exit 1
-cp "$top"/include/*.h "$prefix/include/" || exit 1
+prefix=$1
+if [ -z "${DESTDIR:-}" ]; then
+  mkdir -p "$1" && prefix=$(cd "$1" && pwd) || exit 1
+elif [ "${1#/}" = "$1" ]; then
+  echo "install.sh: with DESTDIR, PREFIX is to begin with /" >&2
+  exit 2
+fi
+to=${DESTDIR:-}$prefix
+# (as sed takes it in the place of a name)
+said=$(printf '%s' "$prefix" | sed 's/[&,\\]/\\&/g')
 
-# The script of ar knows no spaces in names.
-cp "${libraries[0]}" "$work/first.a" && cp "${libraries[1]}" "$work/second.a" || exit 1
-(cd "$work" && printf 'create whole.a\naddlib first.a\naddlib second.a\nsave\nend\n' | ${AR:-ar} -M) || exit 1
-cp "$work/whole.a" "$prefix/lib/libburlapslate.a" || exit 1
+# fill NAME FOLDER: writes the file of this name in packaging/, with what it leaves open, to the folder.
+fill() {
+  local up
+  up=$(realpath -sm --relative-to="/$libdir" /) || return
+  mkdir -p "$2" && sed -e "s,@PREFIX@,$said,g; s,@LIBDIR@,$libdir,g; s,@UP@,$up,g; s,@VERSION@,$version,g" \
+    -e "s,@MAJOR@,$major,g; s,@MINOR@,$minor,g; s,@SONAME@,$soname,g; s,@NODE@,$node,g" \
+    "$top/packaging/$1.in" >"$2/$1"
+}
 
-# _DEFAULT_SOURCE adds POSIX where a compiler keeps to ISO C, and takes nothing from others, as _POSIX_C_SOURCE would.
-cat >"$prefix/lib/pkgconfig/burlapslate.pc" <<END_OF_FILE || exit 1
-prefix=$prefix
-includedir=\${prefix}/include
-libdir=\${prefix}/lib
+# join: makes one object of the library and the toolchain's calls for memory, in which the names of C alone are global,
+# so that it can stand beside another library of this toolchain.
+join() {
+  ${LD:-ld} -r -o "$work/joined.o" --whole-archive "${libraries[@]}" &&
+    ${OBJCOPY:-objcopy} --wildcard --keep-global-symbol='bs_*' --remove-section=.llvm_addrsig \
+      "$work/joined.o" "$work/burlapslate.o"
+}
 
-Name: burlapslate
-Description: A lock manager of granular locks
-Version: $(number MAJOR).$(number MINOR).$(number PATCH)
-Cflags: -I\${includedir} -D_DEFAULT_SOURCE -pthread
-Libs: -L\${libdir} -lburlapslate -pthread
-END_OF_FILE
+# archive, share: write the archive and the shared library.
+archive() {
+  (cd "$work" && ${AR:-ar} rcsD libburlapslate.a burlapslate.o) && cp "$work/libburlapslate.a" "$to/$libdir/"
+}
+share() {
+  fill burlapslate.map "$work" &&
+    ${CC:-cc} -shared -Wl,-soname,"$soname" -Wl,--version-script="$work/burlapslate.map" -Wl,-z,defs -Wl,-z,text \
+      -o "$work/shared.so" "$work/burlapslate.o" &&
+    cp "$work/shared.so" "$to/$libdir/libburlapslate.so.$version" &&
+    ln -sf "libburlapslate.so.$version" "$to/$libdir/$soname" && ln -sf "$soname" "$to/$libdir/libburlapslate.so"
+}
+
+mkdir -p "$to/include" "$to/$libdir" "$to/share/burlapslate" || exit 1
+cp "$top"/include/*.h "$to/include/" && cp "$top/tests/c/races.supp" "$to/share/burlapslate/" || exit 1
+join && archive || exit 1
+if [ "$shared" ]; then
+  share || exit 1
+elif [ -e "$to/$libdir/libburlapslate.so" ]; then
+  echo "install.sh: a shared library of an earlier installation stands in $to/$libdir: a linker takes it first" >&2
+fi
+fill burlapslate.pc "$to/$libdir/pkgconfig" || exit 1
+fill burlapslateConfig.cmake "$to/$libdir/cmake/burlapslate" || exit 1
+fill burlapslateConfigVersion.cmake "$to/$libdir/cmake/burlapslate" || exit 1

@@ -122,6 +122,11 @@ both_pass o p a b = ap₂ (λ x y. first_refusal (x ∷ y ∷ [])) a b
 pub passed : {A : Type 0} (b : Bool) (o : Option A) (x : A) → Some x ≡ (if b then o else None) → b ≡ true
 passed b o x h1 = grind (arith, nat_tests)
 
+-- what is not refused is not refused by a call that answers something else
+pub accepts_as : {A B : Type 0} (o : Option Refusal) (x : A) (y : B) → Refuses {T = A} o (Ok x) → Refuses {T = B} o (Ok y)
+accepts_as None x y h = tt
+accepts_as (Some r) x y h = absurd (cc h)
+
 -- a refusal is handed on by a call that answers something else
 module _ (A : Type 0) {B : Type 0} (o : Option Refusal) (r : Refusal) (result : Result B Refusal) (is : result ≡ Err r) where
   pub refuses_as : Refuses {T = A} o (Err r) → Refuses {T = B} o result

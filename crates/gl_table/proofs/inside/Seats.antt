@@ -41,6 +41,16 @@ pub txns-set : (seats : List (Option Seat)) (t : ℕ) (seat : Option Seat) → t
     → txns_of (slice_set seats t seat) u ≡ (if u == t then txn_in (Some seat) else txns_of seats u)
 txns-set seats t seat lt u = grind (arith, nat_tests, gets, elements)
 
+-- and who is free then
+pub free-set : (seats : List (Option Seat)) (t : ℕ) (seat : Option Seat) → t < length seats → (u : ℕ)
+    → is_free_at (slice_set seats t seat) u ≡ (if u == t then is_free seat else is_free_at seats u)
+free-set seats t seat lt u = grind (arith, nat_tests, gets, elements)
+
+-- the same slots are free, whatever one who lives is doing
+pub free-kept : (seats : List (Option Seat)) (t : ℕ) (x : Seat) → t < length seats → lives_at seats t ≡ true → (u : ℕ)
+    → is_free_at (slice_set seats t (Some x)) u ≡ is_free_at seats u
+free-kept seats t x lt lives u = free-set seats t (Some x) lt u ∙ grind (arith, nat_tests, gets, elements)
+
 -- and who waits then
 pub waits-set : (seats : List (Option Seat)) (t : ℕ) (seat : Option Seat) → t < length seats → (u : ℕ)
     → waits_at (slice_set seats t seat) u ≡ (if u == t then is_wait (status_in (txn_in (Some seat))) else waits_at seats u)

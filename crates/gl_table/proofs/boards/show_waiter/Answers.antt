@@ -1,6 +1,6 @@
-use Rattle.gl_slots.specs.Slots.{Bits, bits_of, has_slot, no_bits}
-use Rattle.gl_slots.proofs.SlotLemmas.{bits_of-same}
-use Rattle.gl_table.proofs.Words.{◌&&◌, ◌<◌, ◌==◌, ◌∙◌, ◌≡◌, ap, arith, blocks, Entries, get_or, get_or-set_same, inl, length, List, Mode, NodeId, not, Option, refl, Seat}
+use Rattle.gl_slots.specs.Slots.{Bits, bits_of, has_bit, has_slot, no_bits}
+use Rattle.gl_slots.proofs.SlotLemmas.{bits_of-same, no_bits-none}
+use Rattle.gl_table.proofs.Words.{⊎_elim, ◌&&◌, ◌<◌, ◌==◌, ◌∙◌, ◌≡◌, ap, arith, blocks, Entries, false, get_or, get_or-set_same, inl, length, List, Mode, NodeId, not, Option, refl, Seat}
 use Rattle.gl_table.proofs.Words.{shown, Slots, Some, status_in, subst, sym, txns_of, Waiting, waits_for, ℕ}
 use Rattle.gl_table.proofs.inside.Boards.{AreRowsShown, rows-idle, rows-shown}
 use Rattle.gl_table.proofs.boards.show_waiter.Goals as goal
@@ -28,3 +28,14 @@ pub returns-then-is_unwritten-clause-own : goal.returns-then-is_unwritten-clause
 returns-then-is_unwritten-clause-own c =
     get_or-set_same c.show_queue.new.rows c.args.slot c.bits.result no_bits (omega (arith, c.requires.below, c.show_queue.ensures.len, c.told-rows))
     ∙ own-row c.args.headers.now.entries c.args.seats.now.items c.args.slot _ _ c.row.result c.bits.result c.in-Some.ensures c.row.ensures c.bits.ensures.is
+
+-- a row that is not empty by now was written, and is right
+pub returns-else-is_unwritten-clause-own : goal.returns-else-is_unwritten-clause-own
+returns-else-is_unwritten-clause-own c = ⊎_elim
+    (λ same. absurd (cc (c.is_unwritten.ensures.1 (λ u. subst (λ (b : Bits). has_bit b u ≡ false) (sym (same ∙ c.requires.none)) (no_bits-none u)), c.if-is_unwritten.false)))
+    (λ right. right)
+    (shown-rows c.args.slot)
+  where
+    shown-rows : AreRowsShown (waits_for (shown c.args.headers.now.entries c.args.seats.now.items 0)) c.args.rows.now c.show_queue.new.rows
+    shown-rows = subst (λ (xs : List (Option Seat)). AreRowsShown (waits_for (shown c.args.headers.now.entries xs 0)) c.args.rows.now c.show_queue.new.rows)
+        c.as_slice.ensures c.show_queue.ensures.rows

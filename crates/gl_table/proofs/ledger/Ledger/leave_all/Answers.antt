@@ -4,7 +4,7 @@ use Rattle.gl_table.proofs.Words.{status_in, subst, sym, true, ℕ}
 use Rattle.gl_table.proofs.inside.Departures.{holds_after, IsLeaving, leaving_begins, leaving_fewer, leaving_one, leaving_out, left_released}
 use Rattle.gl_table.proofs.inside.Slots.{agrees-set, by_list-at, counts-set, popped-listed}
 use Rattle.gl_listed.proofs.Children.{nl_is}
-use Rattle.gl_model.proofs.telling.Fronts.{in_no_queue, stands_other}
+use Rattle.gl_model.proofs.telling.Fronts.{in_no_queue, stands_other, waits_there}
 use Rattle.gl_table.proofs.ledger.Ledger.leave_all.Goals.{After-index_mut}
 use Rattle.gl_table.proofs.ledger.Ledger.leave_all.Goals as goal
 
@@ -62,6 +62,12 @@ drop_and_wake-requires-clause-agree c = let p = (goal.at.drop_and_wake-requires-
 pub drop_and_wake-requires-clause-count : goal.drop_and_wake-requires-clause-count
 drop_and_wake-requires-clause-count c = let p = (goal.at.drop_and_wake-requires-clause-count c).After-index_mut in
     λ u h. others_count p c.pop.new.self u (another p u c.in-Some.node h)
+
+pub drop_and_wake-requires-clause-tell : goal.drop_and_wake-requires-clause-tell
+drop_and_wake-requires-clause-tell c = let is = c.loop-node.invariant.leaving in record {
+  by_slot = is.by_slot;
+  untold = λ u h. is.untold u (ap is_wait (waits_there (now (goal.at.drop_and_wake-requires-clause-tell c).After-index_mut) is.orderly u c.in-Some.node h).1);
+}
 
 pub loop-node-smaller : goal.loop-node-smaller
 loop-node-smaller c = let p = (goal.at.loop-node-smaller c).After-index_mut in

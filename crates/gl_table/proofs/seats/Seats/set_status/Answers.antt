@@ -1,7 +1,7 @@
 use Rattle.gl_table.proofs.Words.{◌<◌, ◌==◌, ◌∙◌, ◌≡◌, ap, ap₂, arith, common_steps, elements, gets, if◌then◌else◌, is_wait, length, nat_tests, restatus}
 use Rattle.gl_table.proofs.Words.{SeatList, Some, sym, true, txns_of}
 use Rattle.gl_table.specs.inside.Seats.{lives_at}
-use Rattle.gl_table.proofs.inside.Seats.{lives-kept, txns-set, waits-set}
+use Rattle.gl_table.proofs.inside.Seats.{free-kept, lives-kept, txns-set, waits-set}
 use Rattle.gl_table.proofs.seats.Seats.set_status.Goals as goal
 
 pub invariant_of-self : goal.invariant_of-self
@@ -11,7 +11,8 @@ invariant_of-self c =
     grind (arith, common_steps, nat_tests, gets, elements, c.in-Some.is, c.in-Some.seat-is, c.index_mut-seat.ensures.value, c.requires, c.self.view_is) in
     record {
       few = grind (arith, common_steps, gets, nat_tests, c.self.invariant.few);
-      free = λ u. grind (arith, common_steps, gets, nat_tests, c.self.invariant.free u, c.requires, c.in-Some.is);
+      free = λ u. c.self.invariant.free u
+          ∙ sym (free-kept c.self.inside.list.items c.args.slot (record { age = c.in-Some.seat.age; status = c.args.status }) lt lives u);
       living = λ u. c.self.invariant.living u
           ∙ sym (lives-kept c.self.inside.list.items c.args.slot (record { age = c.in-Some.seat.age; status = c.args.status }) lt lives u);
       waiting = λ u. c.note.ensures u ∙ ap (λ b. if u == c.args.slot then is_wait (Some c.args.status) else b) (c.self.invariant.waiting u)

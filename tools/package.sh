@@ -1,0 +1,139 @@
+#!/usr/bin/env bash
+# package.sh [OUT]: packs the library for C as it is built, into the folder OUT, which is out/ of the repository where
+# none is named: burlapslate-VERSION-linux-x86_64.tar.gz, which may be unpacked anywhere, and two Debian packages of the
+# same, libburlapslate0 with the shared library and libburlapslate-dev with the rest. Each has a file PROOF, which says
+# what was seen of the proof. Prints the path of each package. It builds the library first where it is missing or old
+# (tools/c_library.sh). Where there is no dpkg-deb it says so, and ends with status 77: the archive alone is made.
+# SOURCE_DATE_EPOCH is the time that the files bear, which is else that of the last commit.
+set -uo pipefail
+top=$(cd "$(dirname "$0")/.." && pwd) || exit 2
+[ $# -le 1 ] || { sed -n '2,8s/^# //p' "$0" >&2; exit 2; }
+out=${1:-$top/out}
+mkdir -p "$out" && out=$(cd "$out" && pwd) || exit 1
+work=$(mktemp -d) || exit 2
+trap 'rm -rf "$work"' EXIT
+export SOURCE_DATE_EPOCH=${SOURCE_DATE_EPOCH:-$(git -C "$top" log -1 --format=%ct 2>/dev/null || date +%s)}
+umask 022
+
+# The crates of this repository in the library, and the file of what the last test run said of them.
+mapfile -t crates < <(sed -n 's/^gl_c staticlib: *//p' "$top/crates.txt" | tr ' ' '\n' |
+  while read -r crate; do [ ! -d "$top/crates/$crate" ] || echo "$crate"; done)
+crates+=(gl_c)
+kept=$top/crates/gl_c/out/verdicts
+
+# said_of_building SUM: whether the library is known to be compiled from the crates of this sum.
+said_of_building() {
+  local library=$top/crates/gl_c/out/libgl_c.a
+  local noted
+  noted="crates $1 library $(sha256sum <"$library" | cut -d ' ' -f 1)"
+  if [ "$(cat "${library%/*}/built_from" 2>/dev/null)" = "$noted" ]; then
+    echo "When the library was compiled, the sum of the crates was this one."
+  else
+    echo "No such sum was noted when the library was compiled, or another. What was seen is that by its date no"
+    echo "source of Rattle in the crates of the library is newer than the library."
+  fi
+}
+
+# said_of_verdicts SUM TOOLCHAIN: the verdict of each crate, where a test run of these sources has left it.
+said_of_verdicts() {
+  local crate line
+  if [ "$(sed -n '1,2p' "$kept" 2>/dev/null)" != "crates $1"$'\n'"toolchain $2" ]; then
+    echo "No verdict is at hand: no test run (./check) of these crates by this toolchain has left one here. Nothing was"
+    echo "proved anew for this package."
+    return
+  fi
+  echo "In the last test run (./check) rt ci passed over these crates by this toolchain, and printed of each:"
+  echo
+  for crate in "${crates[@]}"; do
+    line=$(sed -n "s/^proved $crate //p" "$kept")
+    echo "$crate: ${line:-no verdict is at hand}"
+  done
+}
+
+# proof FOLDER: what was seen of the proof of the library that is installed in the folder.
+proof() {
+  local sum included toolchain logic
+  sum=$("$top/tools/sources.sh" crates) && included=$("$top/tools/sources.sh" include) || return
+  toolchain=$(rt version) || return
+  logic=$(readelf -p .comment "$1/lib/libburlapslate.a" | sed -n 's/.*rattle logic=//p') || return
+  cat <<END_OF_FILE
+What was seen of the proof of Burlapslate $version when it was packed. All sums are by sha256.
+
+Toolchain: $toolchain
+Crates:    $sum
+Headers:   $included
+Archive:   $(sha256sum <"$1/lib/libburlapslate.a" | cut -d ' ' -f 1)
+Shared:    $(sha256sum <"$1/lib/libburlapslate.so" | cut -d ' ' -f 1)
+
+The sums of crates and headers are those of the folders crates and include, as tools/sources.sh prints them.
+$(said_of_building "$sum")
+
+The toolchain compiles a library only where it is proved, and writes into it by which logic. The archive names
+${logic:-none}
+
+$(said_of_verdicts "$sum" "$toolchain")
+
+What is proved and what is trusted stands in README.md.
+END_OF_FILE
+}
+
+# papers FOLDER: the documents, and the examples in C, without the scripts that run them in the repository alone.
+papers() {
+  mkdir -p "$1" && cp "$top/README.md" "$top/CHANGELOG.md" "$work/PROOF" "$1/" && cp -r "$top/docs" "$1/" || return
+  (cd "$top" && tar --exclude=out --exclude=run.sh -cf - examples/*/) | tar -C "$1" -xf -
+}
+
+# pack_archive: the archive of what stands below $work/$name. What pkg-config reads finds its folder by itself.
+pack_archive() {
+  # shellcheck disable=SC2016 # pkg-config reads the dollar.
+  sed -i 's,^prefix=.*,prefix=${pcfiledir}/../..,' "$work/$name/lib/pkgconfig/burlapslate.pc" &&
+    papers "$work/$name" &&
+    tar -C "$work" --sort=name --owner=0 --group=0 --numeric-owner --mtime="@$SOURCE_DATE_EPOCH" --mode=u=rwX,go=rX \
+      -cf - "$name" | gzip -n >"$out/$name.tar.gz" && echo "$out/$name.tar.gz"
+}
+
+# debian NAME CONTROL: the Debian package of what stands below $work/NAME.
+debian() {
+  local size libc
+  size=$(du -sk "$work/$1" | cut -f 1)
+  # The newest version of the C library that the shared library asks for.
+  libc=$(objdump -T "$work/$name/lib/libburlapslate.so" | sed -n 's/.*[( ]GLIBC_\([0-9.]*\).*/\1/p' | sort -V | tail -n 1)
+  mkdir -p "$work/$1/DEBIAN" && chmod -R u=rwX,go=rX "$work/$1" || return
+  sed "s,@VERSION@,$version,; s,@MAJOR@,$major,; s,@SIZE@,$size,; s,@LIBC@,${libc:?}," \
+    "$top/packaging/$2.control.in" >"$work/$1/DEBIAN/control" || return
+  if ! dpkg-deb --root-owner-group --build "$work/$1" "$out/$1_${version}_amd64.deb" >"$work/log" 2>&1; then
+    cat "$work/log" >&2
+    return 1
+  fi
+  echo "$out/$1_${version}_amd64.deb"
+}
+
+# pack_debian: both Debian packages.
+pack_debian() {
+  local dev=$work/libburlapslate-dev/usr shared=$work/libburlapslate$major libdir=lib/x86_64-linux-gnu
+  DESTDIR=$work/libburlapslate-dev LIBDIR=$libdir "$top/tools/install.sh" --shared /usr || return
+  mkdir -p "$shared/usr/$libdir" "$shared/usr/share/doc/libburlapslate$major" "$shared/DEBIAN" &&
+    mv "$dev/$libdir"/libburlapslate.so.* "$shared/usr/$libdir/" &&
+    cmp "$shared/usr/$libdir/libburlapslate.so.$major" "$work/$name/lib/libburlapslate.so" &&
+    cmp "$dev/$libdir/libburlapslate.a" "$work/$name/lib/libburlapslate.a" &&
+    cp "$work/PROOF" "$shared/usr/share/doc/libburlapslate$major/" &&
+    papers "$dev/share/doc/libburlapslate-dev" || return
+  # Programs of another second number are not to run with it while the first is 0.
+  echo "libburlapslate $major libburlapslate$major (>= $fits), libburlapslate$major (<< $other)" >"$shared/DEBIAN/shlibs"
+  echo "activate-noawait ldconfig" >"$shared/DEBIAN/triggers"
+  debian "libburlapslate$major" libburlapslate && debian libburlapslate-dev libburlapslate-dev
+}
+
+[ "$(uname -sm)" = "Linux x86_64" ] || { echo "package.sh: it packs for Linux on x86_64 alone" >&2; exit 2; }
+"$top/tools/install.sh" --shared "$work/there" || exit 1
+version=$(sed -n 's/^Version: //p' "$work/there/lib/pkgconfig/burlapslate.pc")
+IFS=. read -r major minor _ <<<"$version"
+fits=$major.$minor other=$major.$((minor + 1))
+[ "$major" -eq 0 ] || other=$((major + 1))
+name=burlapslate-$version-linux-x86_64
+mv "$work/there" "$work/$name" && proof "$work/$name" >"$work/PROOF" && pack_archive || exit 1
+if ! command -v dpkg-deb >/dev/null; then
+  echo "package.sh: the Debian packages are not made: dpkg-deb is not found" >&2
+  exit 77
+fi
+pack_debian
