@@ -10,10 +10,13 @@ shift
 here=$(cd "$(dirname "$0")/.." && pwd) || exit 1
 out=$here/crates/$name/out
 
-# build_behind: has the program built behind this answer.
+# build_behind: has the program built behind this answer, in a session of its own, whose number stands in building.sid
+# for as long as it lasts.
 build_behind() {
   mkdir -p "$out" || return
-  setsid -f nice "$here/tools/build.sh" "$name" </dev/null >/dev/null 2>"$out/building.log"
+  # shellcheck disable=SC2016 # The words are those of the shell that is started.
+  setsid -f bash -c 'echo $$ >"$3"; nice "$1" "$2"; rm -f "$3"' - "$here/tools/build.sh" "$name" "$out/building.sid" \
+    </dev/null >/dev/null 2>"$out/building.log"
 }
 
 # answer_unproved WORD..: what the program before any proof answers is in $work/answer, what it says of faults in
