@@ -1,10 +1,10 @@
 #!/usr/bin/env bash
 # package.sh: packs the library (tools/package.sh), unpacks the archive and the Debian packages, each into a folder of
 # its own, and compiles programs with what stands there alone: the first program of README.md and answers.c, as C and as
-# C++, by what pkg-config says and by CMake, over the shared library and over the archive; and the crate for Rust. Looks
-# at the names that both libraries show, and for paths of this machine. Ends with status 1 where something is not as
-# wanted; where a tool is missing it says what was not tried, tries all else, and ends with status 77. CC and CXX name
-# other compilers than cc and c++.
+# C++, by what pkg-config says and by CMake, over the shared library and over the archive; the small engine of the
+# examples; and the crate for Rust. Looks at the names that both libraries show, and for paths of this machine. Ends with
+# status 1 where something is not as wanted; where a tool is missing it says what was not tried, tries all else, and ends
+# with status 77. CC and CXX name other compilers than cc and c++.
 set -uo pipefail
 top=$(cd "$(dirname "$0")/../.." && pwd) || exit 2
 work=$(mktemp -d) || exit 2
@@ -129,6 +129,15 @@ by_cargo() {
   echo "the_package_by_cargo: $name, ${1%%=*}"
 }
 
+# engine FOLDER: the small engine, from the examples that came with the package into the folder, compiles and ends well.
+engine() {
+  # shellcheck disable=SC2086 # CC may have words behind the name.
+  ${CC:-cc} -std=c99 -D_POSIX_C_SOURCE=200809L -pthread -Wall -Wextra -Werror -O1 -I"$prefix/include" -o "$work/engine" \
+    "$1"/examples/engine/*.c "$libdir/libburlapslate.so" 2>"$work/log" || fails "the engine is not compiled"
+  runs shared "$work/engine"
+  echo "the_package_has_an_engine: $name"
+}
+
 # away, away_for_cargo: the programs, with no checkout beside them.
 away() {
   mkdir "$work/away" && cp "$top/tests/c/answers.c" "$work/away/" || exit 1
@@ -186,6 +195,7 @@ mkdir "$root" && tar -C "$root" -xzf "$work/packed/burlapslate-$version-linux-x8
 prefix=$root/burlapslate-$version-linux-x86_64
 libdir=$prefix/lib
 shows && refuses && holds
+engine "$prefix"
 by_pkg_config
 by_cmake
 by_cargo BURLAPSLATE_DIR="$prefix" PKG_CONFIG=false
@@ -196,6 +206,7 @@ if has "as Debian packages" dpkg-deb && has "as Debian packages" dpkg; then
   for package in "$work/packed"/*.deb; do dpkg -x "$package" "$root" || exit 1; done
   prefix=$root/usr libdir=$root/usr/lib/x86_64-linux-gnu
   shows && refuses && holds
+  engine "$prefix/share/doc/libburlapslate-dev"
   by_pkg_config "--define-variable=prefix=$prefix"
   by_cmake
   by_cargo BURLAPSLATE_LIBS="$libdir/libburlapslate.a" PKG_CONFIG=false
