@@ -12,29 +12,7 @@ work=$(mktemp -d) || exit 2
 trap 'rm -rf "$work"' EXIT
 "$top/tools/install.sh" "$work/there" || exit 1
 
-# The copy has no repository above it, and no rt to build with.
-mkdir -p "$work/away/program/src" && cp -r "$top/rust/burlapslate" "$work/away/" || exit 1
-cat >"$work/away/program/Cargo.toml" <<'END_OF_FILE' || exit 1
-[package]
-name = "program"
-version = "0.0.0"
-edition = "2021"
-
-[dependencies]
-burlapslate = { path = "../burlapslate" }
-END_OF_FILE
-cat >"$work/away/program/src/main.rs" <<'END_OF_FILE' || exit 1
-use burlapslate::{Detect, Mode, Stop, Table, SLOTS};
-
-fn main() -> Result<(), Stop> {
-    let table = Table::new(Detect::AtBlock, SLOTS)?;
-    let db = table.add_inner(&[])?;
-    let mut session = table.begin_in_turn()?;
-    session.lock(db, Mode::X)?;
-    session.commit()?;
-    Ok(())
-}
-END_OF_FILE
+"$top/rust/away.sh" "$work/away" || exit 1
 
 # builds NAME WORD..: whether the program is built and ends well, with these words in the environment.
 builds() {

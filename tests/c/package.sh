@@ -138,7 +138,7 @@ engine() {
   echo "the_package_has_an_engine: $name"
 }
 
-# away, away_for_cargo: the programs, with no checkout beside them.
+# away: the programs in C, with no checkout beside them.
 away() {
   mkdir "$work/away" && cp "$top/tests/c/answers.c" "$work/away/" || exit 1
   awk '$0 == "```c" { inside = 1; next } inside && $0 == "```" { exit } inside' "$top/README.md" >"$work/away/first.c"
@@ -157,37 +157,12 @@ foreach(program first answers)
 endforeach()
 END_OF_FILE
 }
-away_for_cargo() {
-  mkdir -p "$work/away/program/src" && cp -r "$top/rust/burlapslate" "$work/away/" || exit 1
-  cat >"$work/away/program/Cargo.toml" <<'END_OF_FILE'
-[package]
-name = "program"
-version = "0.0.0"
-edition = "2021"
-
-[dependencies]
-burlapslate = { path = "../burlapslate" }
-END_OF_FILE
-  cat >"$work/away/program/src/main.rs" <<'END_OF_FILE'
-use burlapslate::{Detect, Mode, Stop, Table, SLOTS};
-
-fn main() -> Result<(), Stop> {
-    let table = Table::new(Detect::AtBlock, SLOTS)?;
-    let db = table.add_inner(&[])?;
-    let mut session = table.begin_in_turn()?;
-    session.lock(db, Mode::X)?;
-    session.commit()?;
-    Ok(())
-}
-END_OF_FILE
-}
 
 "$top/tools/package.sh" "$work/packed" >"$work/log" 2>&1 || status=$?
 [ "$status" -eq 0 ] || [ "$status" -eq 77 ] || fails "package.sh ends with status $status"
 cat "$work/packed"/*.tar.gz >/dev/null 2>"$work/log" || fails "there is no archive"
 version=$(basename "$work/packed"/*.tar.gz | cut -d - -f 2)
-away
-away_for_cargo
+away && "$top/rust/away.sh" "$work/away" || exit 1
 has "as C++" "${CXX:-c++}" || true
 
 name=archive root=$work/archive
