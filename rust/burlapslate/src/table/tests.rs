@@ -34,6 +34,13 @@ fn age(session: &Session<'_>) -> u64 {
     session.txn().age()
 }
 
+/// A story told again, each time with twice the time, until this machine was fast enough for it.
+fn until_in_time(mut time: Duration, story: fn(Duration) -> bool) {
+    while !story(time) {
+        time *= 2;
+    }
+}
+
 #[test]
 fn each_end_hands_its_slot_on() {
     let (table, _) = table_of(1);
@@ -161,10 +168,7 @@ fn some_leave_the_line_in(time: Duration) -> bool {
 /// their order.
 #[test]
 fn some_leave_the_line() {
-    let mut time = Duration::from_millis(50);
-    while !some_leave_the_line_in(time) {
-        time *= 2;
-    }
+    until_in_time(Duration::from_millis(50), some_leave_the_line_in);
 }
 
 /// The time is over, and then, before the one who sleeps has the latch again, a slot is free. `false`:
@@ -197,10 +201,7 @@ fn begins_behind_the_time(time: Duration) -> bool {
 
 #[test]
 fn a_turn_behind_the_time() {
-    let mut time = Duration::from_millis(20);
-    while !begins_behind_the_time(time) {
-        time *= 2;
-    }
+    until_in_time(Duration::from_millis(20), begins_behind_the_time);
 }
 
 /// Times and turns at the same moment, again and again: one has begun, or its slot is free.
